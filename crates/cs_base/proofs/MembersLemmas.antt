@@ -1,0 +1,110 @@
+-- A list that strictly ascends in an order and has the members of a set is the set's listing.
+--
+--   members_are        the lemma itself
+--   sorted_members     what sorting and then dropping repeats leaves is the listing
+--   members-alike      lists with the same members have the same listing
+--   is_member-listed   a member of the listing is a member of the set
+--   listing-rises      a listing strictly ascends
+use Rattle.std.proofs.Common.{◌≡◌, Bool, true, false, ◌&&◌, ◌||◌, List, [], ◌∷◌, T, cond, refl, sym, ◌∙◌, ap, subst}
+use Rattle.std.specs.Prelude.{Option, Some, None, map}
+use Rattle.std.specs.Option.{is_some}
+use Rattle.std.specs.List.{list_any, AllByRecursion, dedup, dedup_from}
+use Rattle.std.specs.List.Retain.{IsFiltered, DiffersFromLast}
+use Rattle.std.specs.List.Sorted.{IsStrictlySortedBy, IsSorted, IsPermutation}
+use Rattle.std.specs.Ordering.{eq_by_cmp, is_lt}
+use Rattle.std.specs.declared.cmp.Ordering.{Ordering}
+use Rattle.std.specs.declared.cmp.Ordering.TheVariants.{Less}
+use Rattle.std.specs.Cmp.{IsTotalOrder, Equal-is}
+use Rattle.std.proofs.lemmas.List.Sorted.{list_any-IsPermutation}
+use Rattle.std.proofs.lemmas.List.Kept.{IsStrictlySortedBy-dedup}
+use Rattle.std.proofs.lemmas.List.Filters.{dedup_is}
+use Rattle.std.specs.FinMap.{find, is_sorted, keys, from_entries, from_sorted, IsAntisymmetric, same_map, get-from_entries, get-from_sorted, entries-from_sorted, contains_key-keys}
+use Rattle.std.specs.FinMap.Entries.{below_all}
+use Rattle.cs_base.specs.Members.{marked, members_in}
+
+abbrev mark_if : Bool → Option (Unit {0})
+mark_if b = cond b (Some tt) None
+
+some_mark_if : (b : Bool) → is_some (mark_if b) ≡ b
+some_mark_if true = refl
+some_mark_if false = refl
+
+module _ {X : Type 0} (R : X → X → Ordering) where
+  find_marked : (xs : List X) (q : X) → find R q (map marked xs) ≡ cond (list_any (eq_by_cmp R q) xs) (Some tt) None
+  find_marked [] q = refl
+  find_marked (x ∷ xs) q =
+      elim (eq_by_cmp R q x) as (λ b. cond b (Some tt) (find R q (map marked xs)) ≡ cond (b || list_any (eq_by_cmp R q) xs) (Some tt) None) [
+        | true ↦ refl
+        | false ↦ find_marked xs q
+      ]
+
+  keys_marked : (xs : List X) → map (λ e. e.0) (map marked xs) ≡ xs
+  keys_marked [] = refl
+  keys_marked (x ∷ xs) = ap (λ l. x ∷ l) (keys_marked xs)
+
+  both : (a b : Bool) → T a → T b → T (a && b)
+  both true b p q = q
+  both false b p q = p
+
+  below_marked : (x : X) (xs : List X) → AllByRecursion (λ y. R x y ≡ Less) xs → T (below_all R x (map marked xs))
+  below_marked x [] h = tt
+  below_marked x (y ∷ xs) h = both _ _ (subst (λ o. T (is_lt o)) (sym h.0) tt) (below_marked x xs h.1)
+
+  sorted_marked : (xs : List X) → IsStrictlySortedBy R xs → T (is_sorted R (map marked xs))
+  unfolding IsStrictlySortedBy
+  sorted_marked [] h = tt
+  sorted_marked (x ∷ xs) h = both _ _ (below_marked x xs h.0) (sorted_marked xs h.1)
+
+  -- the one lemma behind every sorted answer
+  pub members_are : IsTotalOrder R → IsAntisymmetric R → (xs ys : List X) → IsStrictlySortedBy R xs → ((q : X) → list_any (eq_by_cmp R q) xs ≡ list_any (eq_by_cmp R q) ys) → xs ≡ members_in R ys
+  members_are o exact xs ys up alike =
+      let rising = sorted_marked xs up in
+      let one : from_entries {R = R} (map marked ys) ≡ from_sorted (map marked xs) = same_map o exact _ _ (λ q.
+      get-from_entries o (map marked ys) q ∙ find_marked ys q ∙ ap (λ b. cond b (Some tt) None) (sym (alike q))
+      ∙ sym (get-from_sorted R (map marked xs) q rising ∙ find_marked xs q)) in
+      sym (ap keys one ∙ ap (map (λ e. e.0)) (entries-from_sorted R (map marked xs) rising) ∙ keys_marked xs)
+
+  -- a list that strictly ascends is its own listing
+  pub listed_itself : IsTotalOrder R → IsAntisymmetric R → (xs : List X) → IsStrictlySortedBy R xs → xs ≡ members_in R xs
+  listed_itself o exact xs up = members_are o exact xs xs up (λ q. refl)
+
+  -- lists with the same members have the same listing
+  pub members-alike : IsTotalOrder R → IsAntisymmetric R → (xs ys : List X) → ((q : X) → list_any (eq_by_cmp R q) xs ≡ list_any (eq_by_cmp R q) ys) → members_in R xs ≡ members_in R ys
+  members-alike o exact xs ys alike =
+      ap keys (same_map o exact (from_entries {R = R} (map marked xs)) (from_entries {R = R} (map marked ys)) (λ q.
+      get-from_entries o (map marked xs) q ∙ find_marked xs q ∙ ap (λ b. cond b (Some tt) None) (alike q)
+      ∙ sym (get-from_entries o (map marked ys) q ∙ find_marked ys q)))
+
+  -- the members of the listing are those of the list
+  pub is_member-listed : IsTotalOrder R → (xs : List X) (q : X) → list_any (eq_by_cmp R q) (members_in R xs) ≡ list_any (eq_by_cmp R q) xs
+  is_member-listed o xs q =
+      sym (contains_key-keys (from_entries {R = R} (map marked xs)) q)
+      ∙ ap is_some (get-from_entries o (map marked xs) q ∙ find_marked xs q) ∙ some_mark_if (list_any (eq_by_cmp R q) xs)
+
+again : (a b : Bool) → (a || b) ≡ (a || (a || b))
+again true b = refl
+again false b = refl
+
+module _ {X : Type 0} {R : X → X → Ordering} (o : IsTotalOrder R) (exact : IsAntisymmetric R) (E : X → X → Bool) (ties : (x y : X) → E x y ≡ eq_by_cmp R x y) where
+  one_of : (q k x : X) (b : Bool) → E x k ≡ true → (eq_by_cmp R q k || b) ≡ (eq_by_cmp R q k || (eq_by_cmp R q x || b))
+  one_of q k x b same =
+      let xk : x ≡ k = exact x k ((Equal-is (R x k)).0 (sym (ties x k) ∙ same)) in
+      subst (λ y. (eq_by_cmp R q k || b) ≡ (eq_by_cmp R q k || (eq_by_cmp R q y || b))) (sym xk) (again (eq_by_cmp R q k) b)
+
+  any_dedup_from : (q k : X) (xs : List X) → list_any (eq_by_cmp R q) (dedup_from E k xs) ≡ list_any (eq_by_cmp R q) (k ∷ xs)
+  any_dedup_from q k [] = refl
+  any_dedup_from q k (x ∷ xs) =
+      elim (E x k) as (λ b. E x k ≡ b → list_any (eq_by_cmp R q) (cond b (dedup_from E k xs) (k ∷ dedup_from E x xs)) ≡ list_any (eq_by_cmp R q) (k ∷ x ∷ xs)) [
+        | true ↦ λ same. any_dedup_from q k xs ∙ one_of q k x (list_any (eq_by_cmp R q) xs) same
+        | false ↦ λ _. ap (λ b. eq_by_cmp R q k || b) (any_dedup_from q x xs)
+      ] refl
+
+  any_dedup : (q : X) (xs : List X) → list_any (eq_by_cmp R q) (dedup E xs) ≡ list_any (eq_by_cmp R q) xs
+  any_dedup q [] = refl
+  any_dedup q (x ∷ xs) = any_dedup_from q x xs
+
+  -- what `sort` and then `dedup` leave
+  pub sorted_members : (xs ys zs : List X) → IsPermutation xs ys → IsSorted R ys → IsFiltered (DiffersFromLast E) [] ys zs → zs ≡ members_in R xs
+  sorted_members xs ys zs moved up kept =
+      dedup_is E ys zs kept
+      ∙ members_are R o exact (dedup E ys) xs (IsStrictlySortedBy-dedup o ties ys up) (λ q. any_dedup q ys ∙ sym (list_any-IsPermutation (eq_by_cmp R q) xs ys moved))

@@ -1,0 +1,32 @@
+-- The orders are total, and tie only at equals.
+use Rattle.std.proofs.Common.{ℕ, List, ap, sym}
+use Rattle.std.specs.Cmp.{IsTotalOrder}
+use Rattle.std.specs.Ordering.{nat_cmp, flip_args}
+use Rattle.std.specs.Cmp.Lexicographic.{slice_cmp}
+use Rattle.std.specs.FinMap.{IsAntisymmetric}
+use Rattle.std.proofs.lemmas.Cmp.{then_total, on_total, back_total, nat_cmp_total, nat_list_cmp_total}
+use Rattle.std.proofs.lemmas.Map.Lookups.{exact_pairs, exact_unsigned, exact_bytes}
+use Rattle.cs_base.specs.declared.doc.Row.{Row}
+use Rattle.cs_base.specs.declared.doc.Scored.{Scored}
+use Rattle.cs_base.specs.Orders.{by_row, by_place, by_rank}
+
+pub by_row_total : IsTotalOrder by_row
+by_row_total = then_total (on_total (λ r. r.doc) nat_cmp_total) (then_total (on_total (λ r. r.pos) nat_cmp_total) (then_total (on_total (λ r. r.word) nat_list_cmp_total) (on_total (λ r. r.score) nat_cmp_total)))
+
+pub by_row_exact : IsAntisymmetric by_row
+by_row_exact a b h =
+    let words = exact_pairs (slice_cmp nat_cmp) nat_cmp exact_bytes exact_unsigned in
+    let places = exact_pairs nat_cmp _ exact_unsigned words in
+    ap (λ (p : ℕ × (ℕ × (List ℕ × ℕ))). let r : Row = record { doc = p.0; pos = p.1.0; word = p.1.1.0; score = p.1.1.1 } in r)
+    (exact_pairs nat_cmp _ exact_unsigned places (a.doc, (a.pos, (a.word, a.score))) (b.doc, (b.pos, (b.word, b.score))) h)
+
+pub by_place_total : IsTotalOrder by_place
+by_place_total = then_total (on_total (λ p. p.doc) nat_cmp_total) (then_total (on_total (λ p. p.pos) nat_cmp_total) (on_total (λ p. p.word) nat_cmp_total))
+
+pub by_rank_total : IsTotalOrder by_rank
+by_rank_total = then_total (on_total (λ h. h.score) (back_total nat_cmp_total)) (on_total (λ h. h.doc) nat_cmp_total)
+
+pub by_rank_exact : IsAntisymmetric by_rank
+by_rank_exact a b h =
+    ap (λ (p : ℕ × ℕ). let s : Scored = record { doc = p.1; score = p.0 } in s)
+    (exact_pairs (flip_args nat_cmp) nat_cmp (λ x y e. sym (exact_unsigned y x e)) exact_unsigned (a.score, a.doc) (b.score, b.doc) h)

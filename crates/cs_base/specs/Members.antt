@@ -1,0 +1,14 @@
+-- A set listed in its order: every ordered answer of the product is one.
+--
+--   members_in R xs    the members of xs, each once, in the order R. Repeats in xs and the order of xs don't matter; of no members it is []
+use Rattle.std.specs.Prelude.{List, map}
+use Rattle.std.specs.declared.cmp.Ordering.{Ordering}
+use Rattle.std.specs.FinMap as map
+
+-- a member of a set: a key that holds nothing
+abbrev pub marked : {X : Type 0} → X → X × Unit {0}
+marked x = (x, tt)
+
+-- the keys of the finite map that holds nothing at each of xs
+abbrev pub members_in : {X : Type 0} → (X → X → Ordering) → List X → List X
+members_in R xs = map.keys (map.from_entries {R = R} (map marked xs))

@@ -1,0 +1,22 @@
+//! The types, limits and traits of the outside that every other crate speaks of.
+#![tactic(auto)]
+
+mod doc;
+mod limits;
+mod memory;
+mod query;
+mod seq;
+mod text;
+mod word;
+
+pub use doc::{Base, Doc, Post, Row, Scored};
+pub use limits::{
+    DEFAULT_COMPLETIONS, DEFAULT_HITS, MAX_COLLECTION_BYTES, MAX_DOC_WORDS, MAX_DOCS,
+    MAX_LINE_BYTES, MAX_NAME_BYTES, MAX_OFFSET, MAX_PLAIN_WORD_BYTES, MAX_POSITION, MAX_ROWS,
+    MAX_SHOWN, MAX_WORD_BYTES, MAX_WORDS,
+};
+pub use memory::Memory;
+pub use query::{Atom, Chain, Link, Linked, Part, Query};
+pub use seq::Seq;
+pub use text::Text;
+pub use word::Word;

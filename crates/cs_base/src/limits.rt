@@ -1,0 +1,43 @@
+//! The limits of collections, words, queries and requests.
+
+/// The most bytes of a collection.
+pub const MAX_COLLECTION_BYTES: usize = 1 << 28;
+
+/// The most bytes of a collection's line, without its ending.
+pub const MAX_LINE_BYTES: usize = 1 << 20;
+
+/// The most title and text words of one document together.
+pub const MAX_DOC_WORDS: usize = 100_000;
+
+/// The greatest position of a word in a document.
+pub const MAX_POSITION: u32 = 100_008;
+
+/// The most documents of a collection.
+pub const MAX_DOCS: usize = 1 << 20;
+
+/// The most rows of a collection.
+pub const MAX_ROWS: usize = 1 << 24;
+
+/// The most distinct words of a collection.
+pub const MAX_WORDS: usize = 1 << 22;
+
+/// The most bytes of a title or text word. A longer run of word characters is cut.
+pub const MAX_PLAIN_WORD_BYTES: usize = 120;
+
+/// The most bytes of a word, that of a facet with its name included.
+pub const MAX_WORD_BYTES: usize = 138;
+
+/// The most bytes of a facet's name.
+pub const MAX_NAME_BYTES: usize = 16;
+
+/// The most hits or completions that a request may ask to be shown.
+pub const MAX_SHOWN: u32 = 100;
+
+/// The most hits that a request may leave out in front.
+pub const MAX_OFFSET: u32 = 10_000;
+
+/// The hits that are shown where a request doesn't say.
+pub const DEFAULT_HITS: u32 = 10;
+
+/// The completions, and facet words of each table, that are shown where a request doesn't say.
+pub const DEFAULT_COMPLETIONS: u32 = 10;

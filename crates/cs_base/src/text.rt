@@ -1,0 +1,53 @@
+//! Owned text.
+ghost use Rattle.std.specs.Prelude.{◌≡◌, IfOk};
+ghost use Rattle.std.specs.String.{string_bytes};
+
+use crate::Memory;
+use std::alloc::Global;
+use std::marker::Model;
+
+/// A text, which contracts see as its bytes. They are UTF-8.
+#[derive(Debug, Drop)]
+pub struct Text {
+    held: String,
+}
+
+impl Model for Text {
+    ghost use Rattle.std.specs.Prelude.{List, ℕ};
+    ghost use Rattle.std.specs.String.{string_bytes};
+
+    ghost Value = { List ℕ };
+
+    ghost view = { λ t. string_bytes t.held };
+}
+
+impl Text {
+    /// The text of `s`, in memory of its own.
+    pub fn from_str(alloc: Global, s: &str) -> Result<Text, Memory>
+        ensures ok { IfOk result (λ t. t ≡ s.now) }
+    {
+        let held = String::from_str(alloc, s)?;
+        Ok(Text { held })
+    }
+
+    /// The same text, taken over without a copy.
+    pub fn from_string(held: String) -> Text
+        ensures { result ≡ string_bytes held }
+    {
+        Text { held }
+    }
+
+    /// The text itself.
+    pub fn as_str(&self) -> &str
+        ensures { result.now ≡ self.now }
+    {
+        self.held.as_str()
+    }
+
+    /// The same text once more.
+    pub fn copy(&self, alloc: Global) -> Result<Text, Memory>
+        ensures ok { IfOk result (λ t. t ≡ self.now) }
+    {
+        Text::from_str(alloc, self.as_str())
+    }
+}
