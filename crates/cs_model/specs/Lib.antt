@@ -1,3 +1,5 @@
 pub mod Ascii
+pub mod Faults
 pub mod KeyText
+pub mod Replies
 pub mod Words
