@@ -1,3 +1,10 @@
+pub mod Answers
 pub mod Ascii
+pub mod Collection
+pub mod Corpus
+pub mod Faults
 pub mod KeyText
+pub mod Outputs
+pub mod Replies
+pub mod Requests
 pub mod Words
