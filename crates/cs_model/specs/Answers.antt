@@ -8,8 +8,9 @@
 --   begins p w                the word w begins with p; every word begins with the empty text
 --   atom_rows k a             the rows of an atom: a filter of the corpus's rows
 --   chained x ls              the rows of a chain: those of its last atom that are linked, from the left, to all before
+--   union_of chains           the rows of some of the chains, each once, in order
+--   rows_of_atom, rows_of_linked, rows_of_chain, rows_of_part      the rows of these over a corpus
 --   parts_of k q              the parts of a query with their rows, in order; none for the empty query
---   part_rows k p             the rows of a part: those of its chains, each once
 --   hits_of k ps              the documents with a row of every positive part and no row of an excluded one, ascending;
 --                             all documents where there is no part
 --   last_rows ps              the rows of the last part; none where it is excluded or there is none
@@ -33,10 +34,14 @@ use Rattle.cs_base.specs.Orders.{by_row, by_rank}
 use Rattle.cs_base.specs.declared.doc.Row.{Row}
 use Rattle.cs_base.specs.declared.doc.Scored.{Scored}
 use Rattle.cs_base.specs.declared.query.Query.{Query}
+use Rattle.cs_base.specs.declared.query.Part.{Part}
+use Rattle.cs_base.specs.declared.query.Chain.{Chain}
+use Rattle.cs_base.specs.declared.query.Linked.{Linked}
+use Rattle.cs_base.specs.declared.query.Atom.{Atom}
 use Rattle.cs_base.specs.declared.query.Link.{Link}
 use Rattle.cs_base.specs.declared.query.Link.TheVariants.{Phrase, Near}
 use Rattle.cs_base.specs.declared.query.Atom.TheOpen.{Atom-F, Query-F, Part-F, Chain-F, Linked-F}
-use Rattle.cs_base.specs.declared.query.Atom.TheFolds.{fold-Query}
+use Rattle.cs_base.specs.declared.query.Atom.TheFolds.{fold-Query, fold-Part, fold-Chain, fold-Linked, fold-Atom}
 use Rattle.cs_model.specs.Collection.{named}
 use Rattle.cs_model.specs.Corpus.{Corpus}
 
@@ -103,6 +108,18 @@ part_rows p = record { excluded = p.excluded; rows = union_of p.chains }
 
 abbrev pub query_parts : Query-F (List Row) (List Row) LinkedRows PartRows (List PartRows) → List PartRows
 query_parts q = q.parts
+
+abbrev pub rows_of_atom : Corpus → Atom → List Row
+rows_of_atom k = fold-Atom (List Row) (List Row) LinkedRows PartRows (List PartRows) (atom_rows k) chain_rows linked_rows part_rows query_parts
+
+abbrev pub rows_of_linked : Corpus → Linked → LinkedRows
+rows_of_linked k = fold-Linked (List Row) (List Row) LinkedRows PartRows (List PartRows) (atom_rows k) chain_rows linked_rows part_rows query_parts
+
+abbrev pub rows_of_chain : Corpus → Chain → List Row
+rows_of_chain k = fold-Chain (List Row) (List Row) LinkedRows PartRows (List PartRows) (atom_rows k) chain_rows linked_rows part_rows query_parts
+
+abbrev pub rows_of_part : Corpus → Part → PartRows
+rows_of_part k = fold-Part (List Row) (List Row) LinkedRows PartRows (List PartRows) (atom_rows k) chain_rows linked_rows part_rows query_parts
 
 abbrev pub parts_of : Corpus → Query → List PartRows
 parts_of k = fold-Query (List Row) (List Row) LinkedRows PartRows (List PartRows) (atom_rows k) chain_rows linked_rows part_rows query_parts
