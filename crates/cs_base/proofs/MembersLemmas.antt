@@ -4,21 +4,22 @@
 --   sorted_members     what sorting and then dropping repeats leaves is the listing
 --   members-alike      lists with the same members have the same listing
 --   is_member-listed   a member of the listing is a member of the set
---   listing-rises      a listing strictly ascends
+--   listing-rises      a listing strictly ascends, as the keys of each finite map do (keys-rise)
+--   filter_listed      some members of a listing, picked by a test, are a listing
 use Rattle.std.proofs.Common.{◌≡◌, Bool, true, false, ◌&&◌, ◌||◌, List, [], ◌∷◌, T, cond, refl, sym, ◌∙◌, ap, subst}
 use Rattle.std.specs.Prelude.{Option, Some, None, map}
 use Rattle.std.specs.Option.{is_some}
-use Rattle.std.specs.List.{list_any, AllByRecursion, dedup, dedup_from}
+use Rattle.std.specs.List.{list_any, filter, AllByRecursion, dedup, dedup_from}
 use Rattle.std.specs.List.Retain.{IsFiltered, DiffersFromLast}
 use Rattle.std.specs.List.Sorted.{IsStrictlySortedBy, IsSorted, IsPermutation}
 use Rattle.std.specs.Ordering.{eq_by_cmp, is_lt}
 use Rattle.std.specs.declared.cmp.Ordering.{Ordering}
-use Rattle.std.specs.declared.cmp.Ordering.TheVariants.{Less}
+use Rattle.std.specs.declared.cmp.Ordering.TheVariants.{Less, Equal, Greater}
 use Rattle.std.specs.Cmp.{IsTotalOrder, Equal-is}
 use Rattle.std.proofs.lemmas.List.Sorted.{list_any-IsPermutation}
-use Rattle.std.proofs.lemmas.List.Kept.{IsStrictlySortedBy-dedup}
+use Rattle.std.proofs.lemmas.List.Kept.{IsStrictlySortedBy-dedup, IsStrictlySortedBy-filter}
 use Rattle.std.proofs.lemmas.List.Filters.{dedup_is}
-use Rattle.std.specs.FinMap.{find, is_sorted, keys, from_entries, from_sorted, IsAntisymmetric, same_map, get-from_entries, get-from_sorted, entries-from_sorted, contains_key-keys}
+use Rattle.std.specs.FinMap.{FinMap, entries, entries_sorted, find, is_sorted, keys, from_entries, from_sorted, IsAntisymmetric, same_map, get-from_entries, get-from_sorted, entries-from_sorted, contains_key-keys}
 use Rattle.std.specs.FinMap.Entries.{below_all}
 use Rattle.cs_base.specs.Members.{marked, members_in}
 
@@ -80,6 +81,40 @@ module _ {X : Type 0} (R : X → X → Ordering) where
   is_member-listed o xs q =
       sym (contains_key-keys (from_entries {R = R} (map marked xs)) q)
       ∙ ap is_some (get-from_entries o (map marked xs) q ∙ find_marked xs q) ∙ some_mark_if (list_any (eq_by_cmp R q) xs)
+
+  first_part : (a b : Bool) → T (a && b) → T a
+  first_part true b h = tt
+  first_part false b h = h
+
+  second_part : (a b : Bool) → T (a && b) → T b
+  second_part true b h = h
+  second_part false b h = absurd h
+
+  less_is : (r : Ordering) → T (is_lt r) → r ≡ Less
+  less_is Less h = refl
+  less_is Equal h = absurd h
+  less_is Greater h = absurd h
+
+  all_below : {Y : Type 0} (x : X) (es : List (X × Y)) → T (below_all R x es) → AllByRecursion (λ y. R x y ≡ Less) (map (λ e. e.0) es)
+  all_below x [] h = tt
+  all_below x (e ∷ es) h = (less_is (R x e.0) (first_part _ _ h), all_below x es (second_part _ _ h))
+
+  rising_keys : {Y : Type 0} (es : List (X × Y)) → T (is_sorted R es) → IsStrictlySortedBy R (map (λ e. e.0) es)
+  unfolding IsStrictlySortedBy
+  rising_keys [] h = tt
+  rising_keys (e ∷ es) h = (all_below e.0 es (first_part _ _ h), rising_keys es (second_part _ _ h))
+
+  -- the keys of a finite map strictly ascend
+  pub keys-rise : {Y : Type 0} (m : FinMap R Y) → IsStrictlySortedBy R (keys m)
+  keys-rise m = rising_keys (entries m) (entries_sorted m)
+
+  -- a listing strictly ascends
+  pub listing-rises : (xs : List X) → IsStrictlySortedBy R (members_in R xs)
+  listing-rises xs = keys-rise (from_entries {R = R} (map marked xs))
+
+  -- some of the members of a listing, picked by a test, are a listing
+  pub filter_listed : IsTotalOrder R → IsAntisymmetric R → (p : X → Bool) (xs : List X) → filter p (members_in R xs) ≡ members_in R (filter p (members_in R xs))
+  filter_listed o exact p xs = listed_itself o exact (filter p (members_in R xs)) (IsStrictlySortedBy-filter R p (members_in R xs) (listing-rises xs))
 
 again : (a b : Bool) → (a || b) ≡ (a || (a || b))
 again true b = refl

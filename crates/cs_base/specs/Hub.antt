@@ -3,10 +3,10 @@
 --   Listening            what every hub tells: port, room for connections, how many were opened, which are live, whether Over came
 --   Talk                 what a hub may tell: the events that came, what was sent on each connection, which are broken
 --   IsLive s c           the connection is live
---   sent_on t c          what was sent on a connection; nothing where it was never opened
+--   sent_on t c          the bytes sent on a connection
 --   listens port conns   as `listen` leaves it
 --   silent               nothing came, nothing was sent, none is broken
---   Happens s room e t   event e may come next into a buffer of so many bytes, and t stands after it
+--   Happens s size e t   event e may come next into a buffer of so many bytes, and t stands after it
 --   came_of, hears, sends, breaks       what an event, a send and a failed send add to the talk
 --   IsOrderly s talk     a live connection was opened; on one that wasn't, nothing came and nothing was sent, and it isn't broken
 use Rattle.std.specs.Prelude.{◌≡◌, ℕ, ◌+◌, ◌<◌, ◌≤◌, ◌≢◌, Bool, true, false, List, [], ◌∷◌, ◌++◌, take, All, Option}
@@ -56,12 +56,13 @@ listens port conns = record { port = port; conns = conns; opened = 0; live = set
 abbrev pub silent : Talk
 silent = record { came = []; sent = map.empty; broken = set.empty }
 
--- connections are opened in the order of their numbers, and below the room for them; a piece has at least one byte
+-- connections are opened in the order of their numbers, and below the room for them; a piece has at least one byte; behind
+-- Over nothing else comes
 abbrev pub Happens : Listening → ℕ → Event → Listening → Type 0
-Happens s room (Opened c) t = (c ≡ s.opened) × (c < s.conns) × (t ≡ record s { opened = s.opened + 1; live = set.insert s.live c })
-Happens s room (Piece c n) t = IsLive s c × (0 < n) × (n ≤ room) × (t ≡ s)
-Happens s room (Ended c) t = IsLive s c × (t ≡ record s { live = set.remove s.live c })
-Happens s room Over t = t ≡ record s { over = true }
+Happens s size (Opened c) t = (s.over ≡ false) × (c ≡ s.opened) × (c < s.conns) × (t ≡ record s { opened = s.opened + 1; live = set.insert s.live c })
+Happens s size (Piece c n) t = (s.over ≡ false) × IsLive s c × (0 < n) × (n ≤ size) × (t ≡ s)
+Happens s size (Ended c) t = (s.over ≡ false) × IsLive s c × (t ≡ record s { live = set.remove s.live c })
+Happens s size Over t = t ≡ record s { over = true }
 
 -- an event with the bytes that the buffer holds of it
 abbrev pub came_of : Event → List ℕ → Came
@@ -87,7 +88,7 @@ IsNotOf c (Piece d n) = d ≢ c
 IsNotOf c (Ended d) = d ≢ c
 IsNotOf c Over = Unit {0}
 
--- what holds of every hub at every moment
+-- what holds of every hub after each of its calls
 pub record IsOrderly (s : Listening) (talk : Option Talk) : Type 0 where
   pub live : (c : ℕ) → IsLive s c → c < s.opened
   pub fresh : ForSome talk (λ t. (c : ℕ) → s.opened ≤ c → All (λ e. IsNotOf c e.event) t.came × (sent_on t c ≡ []) × (set.contains t.broken c ≡ false))

@@ -1,6 +1,7 @@
 -- A set listed in its order: every ordered answer of the product is one.
 --
---   members_in R xs    the members of xs, each once, in the order R. Repeats in xs and the order of xs don't matter; of no members it is []
+--   members_in R xs    the members of xs, each once, in the order R; of no members it is []. Where R is total and ties only equals,
+--                      repeats in xs and the order of xs don't matter
 use Rattle.std.specs.Prelude.{List, map}
 use Rattle.std.specs.declared.cmp.Ordering.{Ordering}
 use Rattle.std.specs.FinMap as map

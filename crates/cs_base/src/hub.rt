@@ -64,7 +64,7 @@ pub trait Hub {
         ensures count { faults self.new ≡ faults self.old }
         ensures orderly { IsOrderly (state self.new) (talk self.new) };
 
-    /// Closes a connection: no event of it comes any more.
+    /// Closes a connection that was opened: no event of it comes any more.
     fn close(&mut self, conn: u32)
         ensures closed { state self.new ≡ record (state self.old) { live = set.remove (state self.old).live conn } }
         ensures same { talk self.new ≡ talk self.old }

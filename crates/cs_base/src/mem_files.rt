@@ -158,11 +158,9 @@ impl Files for MemFiles {
         match place_of(&self.files, name) {
             Some(i) => {
                 let file = &mut self.files[i];
+                file.finished = false;
                 match file.bytes.extend_from_slice(bytes) {
-                    Ok(()) => {
-                        file.finished = false;
-                        Ok(())
-                    }
+                    Ok(()) => Ok(()),
                     Err(_) => self.fail(),
                 }
             }

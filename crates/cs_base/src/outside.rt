@@ -52,12 +52,12 @@ pub trait Files {
         ensures err { OnErr result ((held self.new ≡ held self.old) ⊎ Sets (held self.old) name.now (λ _. empty_file) (held self.new)) }
         ensures counted { Counted (faults self.old) (faults self.new) result };
 
-    /// Adds bytes at the end of a held file. Where it fails, some first ones of them.
+    /// Adds bytes at the end of a held file, which isn't finished then. Where it fails, some first ones of them.
     fn append(&mut self, name: &str, bytes: &[u8]) -> Result<(), Failed>
         requires is_held { ForSome (held self.old) (λ h. IsHeld (map.get h name.now)) }
 
         ensures ok { OnOk result (Sets (held self.old) name.now (appended bytes.now) (held self.new)) }
-        ensures err { OnErr result ((held self.new ≡ held self.old) ⊎ ((k : ℕ) × Sets (held self.old) name.now (appended (take k bytes.now)) (held self.new))) }
+        ensures err { OnErr result ((k : ℕ) × Sets (held self.old) name.now (appended (take k bytes.now)) (held self.new)) }
         ensures counted { Counted (faults self.old) (faults self.new) result };
 
     /// Marks a held file as finished. Where it fails, nothing changed.

@@ -8,7 +8,7 @@
 use Rattle.std.specs.Prelude.{ℕ, List, codes}
 use Rattle.serde_json.specs.Data.{Data}
 use Rattle.serde_json.specs.Written.{compact_text}
-use Rattle.cs_model.specs.Faults.{plain_data, bad_data, limit_data, param_data, changed_data}
+use Rattle.cs_model.specs.Faults.{error_data, bad_data, limit_data, param_data, changed_data}
 use Rattle.cs_query.specs.declared.fault.Which.{Which}
 use Rattle.cs_query.specs.declared.fault.Which.TheVariants as limits
 use Rattle.cs_query.specs.declared.request.Param.{Param}
@@ -38,18 +38,18 @@ abbrev pub refusal_data : ReqFault → Data
 refusal_data (refusals.BadParam which) = param_data (param_name which)
 refusal_data (refusals.Bad at) = bad_data at
 refusal_data (refusals.Limit at which) = limit_data at (limit_word which)
-refusal_data refusals.Memory = plain_data (codes "memory")
+refusal_data refusals.Memory = error_data (codes "memory")
 
 -- a fault
 abbrev pub fault_data : Fault → Data
 fault_data (faults.Refused f) = refusal_data f
-fault_data faults.Read = plain_data (codes "read")
+fault_data faults.Read = error_data (codes "read")
 fault_data (faults.Changed rule at) = changed_data rule at
-fault_data faults.NotHead = plain_data (codes "head")
-fault_data faults.Body = plain_data (codes "body")
-fault_data faults.TooLong = plain_data (codes "head too long")
-fault_data faults.Path = plain_data (codes "path")
-fault_data faults.Method = plain_data (codes "method")
+fault_data faults.NotHead = error_data (codes "head")
+fault_data faults.Body = error_data (codes "body")
+fault_data faults.TooLong = error_data (codes "head too long")
+fault_data faults.Path = error_data (codes "path")
+fault_data faults.Method = error_data (codes "method")
 
 -- the text of a fault
 unfoldable pub fault_text : Fault → List ℕ

@@ -1,7 +1,7 @@
 //! The texts of faults.
 ghost use Rattle.std.specs.Prelude.{◌≡◌, IfOk, codes};
 ghost use Rattle.serde_json.specs.View.{view};
-ghost use Rattle.cs_model.specs.Faults.{plain_data, bad_data, limit_data, param_data, changed_data};
+ghost use Rattle.cs_model.specs.Faults.{error_data, bad_data, limit_data, param_data, changed_data};
 ghost use Rattle.cs_json.specs.FaultTexts.{fault_data, refusal_data, fault_text, limit_word, param_name};
 
 use cs_base::Memory;

@@ -5,30 +5,31 @@
 --   Columns, columns l        title, facets and text of a line, cut at its first two tabs; a missing column is empty
 --   facet_pieces column       the pieces of a facets column between `;`, without spaces at both ends, empty ones left out
 --   has_name_form n           a letter a to z, then letters a to z and digits, at most 16 bytes
---   piece_name, piece_value   the key text of what stands before the first `=`; what stands after it
+--   piece_name, piece_value   the key text of what stands before the first `=`, without spaces at its end; what stands after it
 --   facet_word p              the word `:name:slug` of a piece; None where its value has no word
 --   facet_words column        the facet words of a column
 --   Refusal                   why a collection isn't accepted, with the line where there is one
 --   line_refusal l            the first rule that the line breaks
---   docs_refusal c            too large, else the refusal of the least line that has one; None for the empty collection
+--   docs_refusal c            too large, else the refusal of the least line that breaks a rule; None where no line does
 --   documents c               the documents, in the order of their lines
---   IsPlain c                 short, and without tabs, quotes, backslashes and bytes beyond ASCII's printable ones
-use Rattle.std.specs.Prelude.{ℕ, ◌+◌, ◌^◌, ◌-◌, Bool, false, not, ◌&&◌, ◌||◌, ◌==◌, nat_lt, nat_le, nat_eq, if◌then◌else◌, List, [], ◌∷◌, ◌++◌, map, filter, length, take, drop, Option, Some, None}
+--   is_plain c                at most 65,536 bytes, each LF or printable ASCII other than the double quote and the backslash
+use Rattle.std.specs.Prelude.{ℕ, ◌+◌, ◌-◌, Bool, false, not, ◌&&◌, ◌||◌, ◌==◌, nat_lt, nat_le, nat_eq, if◌then◌else◌, List, [], ◌∷◌, ◌++◌, map, filter, length, take, drop, Option, Some, None}
 use Rattle.std.specs.Option.{option_map}
 use Rattle.std.specs.List.{list_any, list_all, filter_map, enumerate_from, slice_split, before_first, after_first, starts_with, prefix_len, suffix_len}
 use Rattle.std.specs.Int.{is_in_range}
 use Rattle.std.specs.Str.{is_utf8}
 use Rattle.std.specs.Str.Lines.{lines}
 use Rattle.cs_base.specs.declared.doc.Doc.{Doc}
+use Rattle.cs_base.specs.declared.limits.TheConstants.{MAX_COLLECTION_BYTES, MAX_LINE_BYTES, MAX_DOC_WORDS, MAX_DOCS, MAX_NAME_BYTES}
 use Rattle.cs_model.specs.KeyText.{norm}
 use Rattle.cs_model.specs.Words.{words, slug}
 
--- EF BB BF in front is skipped once. LF ends a line, with one CR directly before it; the last line needs no ending, and
--- a CR at its end belongs to it
+-- EF BB BF in front is skipped once
 abbrev pub without_mark : List ℕ → List ℕ
 without_mark c = if starts_with nat_eq c (239 ∷ 187 ∷ 191 ∷ []) then drop 3 c else c
 
--- numbered from 1; the empty collection has none
+-- LF ends a line, with one CR directly before it; the last line needs no ending, and a CR at its end belongs to it. The
+-- empty collection has no line
 abbrev pub collection_lines : List ℕ → List (ℕ × List ℕ)
 collection_lines c = enumerate_from 1 (lines (without_mark c))
 
@@ -92,7 +93,7 @@ begins_with_letter [] = false
 begins_with_letter (b ∷ bs) = is_small_letter b
 
 abbrev pub has_name_form : List ℕ → Bool
-has_name_form n = begins_with_letter n && (list_all is_name_byte n && nat_le (length n) 16)
+has_name_form n = begins_with_letter n && (list_all is_name_byte n && nat_le (length n) MAX_NAME_BYTES)
 
 abbrev pub piece_name : List ℕ → List ℕ
 piece_name p = norm (without_spaces_behind (before_first is_equals p))
@@ -143,14 +144,14 @@ word_count cs = length (words cs.title) + length (words cs.text)
 abbrev pub line_refusal : DocLine → Option Refusal
 line_refusal l = first_of (
     unless (is_utf8 l.bytes) (not_utf8 l.line)
-    ∷ unless (nat_le (length l.bytes) (2 ^ 20)) (line_too_long l.line)
-    ∷ unless (nat_le (word_count (columns l.bytes)) 100000) (words_too_many l.line)
+    ∷ unless (nat_le (length l.bytes) MAX_LINE_BYTES) (line_too_long l.line)
+    ∷ unless (nat_le (word_count (columns l.bytes)) MAX_DOC_WORDS) (words_too_many l.line)
     ∷ first_of (map (piece_refusal l.line) (facet_pieces (columns l.bytes).facets))
-    ∷ unless (nat_lt l.doc (2 ^ 20)) (too_many_docs l.line)
+    ∷ unless (nat_lt l.doc MAX_DOCS) (too_many_docs l.line)
     ∷ [])
 
 abbrev pub docs_refusal : List ℕ → Option Refusal
-docs_refusal c = first_of (unless (nat_le (length c) (2 ^ 28)) too_large ∷ map line_refusal (doc_lines c))
+docs_refusal c = first_of (unless (nat_le (length c) MAX_COLLECTION_BYTES) too_large ∷ map line_refusal (doc_lines c))
 
 -- ---- documents
 abbrev pub document : DocLine → Doc
@@ -160,7 +161,7 @@ abbrev pub documents : List ℕ → List Doc
 documents c = map document (doc_lines c)
 
 -- ---- plain collections, the ones that are read so far
--- LF, or from space to tilde other than the quote and the backslash
+-- LF, or from space to tilde other than the double quote and the backslash
 abbrev pub is_plain_byte : ℕ → Bool
 is_plain_byte b = (b == 10) || (is_in_range 32 126 b && (not (b == 34) && not (b == 92)))
 

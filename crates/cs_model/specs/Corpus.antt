@@ -2,7 +2,7 @@
 --
 --   Corpus               the titles by document number, and the set of rows, listed by document, position and word
 --   title_rows, text_rows, facet_rows     the rows of a document's columns
---   doc_rows d doc       the rows of the document of number d
+--   doc_rows (d, doc)    the rows of the document of number d
 --   rows_of docs         the rows of a list of documents, numbered from 0; each (doc, pos, word) names one
 --   corpus_of docs       their corpus; of no documents it has no title and no row
 --   distinct_words rows  the words of rows, each once, by bytes
@@ -12,7 +12,7 @@
 -- A title word has its place in the title as position, from 1, and the score 4. Text words go on 9 positions behind the last
 -- title word, with the score 1, so no phrase and no nearness reaches from one to the other. A facet word has the
 -- position 0 and the score 2.
-use Rattle.std.specs.Prelude.{ℕ, ◌+◌, ◌^◌, nat_le, List, [], ◌∷◌, ◌++◌, map, length, Option}
+use Rattle.std.specs.Prelude.{ℕ, ◌+◌, nat_le, List, [], ◌∷◌, ◌++◌, map, length, Option}
 use Rattle.std.specs.List.{flat_map, enumerate_from}
 use Rattle.std.specs.Ordering.{nat_cmp}
 use Rattle.std.specs.Cmp.Lexicographic.{slice_cmp}
@@ -21,6 +21,7 @@ use Rattle.cs_base.specs.Members.{members_in}
 use Rattle.cs_base.specs.Orders.{by_row}
 use Rattle.cs_base.specs.declared.doc.Doc.{Doc}
 use Rattle.cs_base.specs.declared.doc.Row.{Row}
+use Rattle.cs_base.specs.declared.limits.TheConstants.{MAX_ROWS, MAX_WORDS}
 use Rattle.cs_model.specs.Collection.{Refusal, too_many_rows, too_many_words, unless, first_of, docs_refusal, documents, facet_words}
 use Rattle.cs_model.specs.Words.{words}
 
@@ -62,7 +63,7 @@ distinct_words rows = members_in (slice_cmp nat_cmp) (map (λ r. r.word) rows)
 
 -- too many rows, then too many words
 abbrev pub rows_refusal : List Row → Option Refusal
-rows_refusal rows = first_of (unless (nat_le (length rows) (2 ^ 24)) too_many_rows ∷ unless (nat_le (length (distinct_words rows)) (2 ^ 22)) too_many_words ∷ [])
+rows_refusal rows = first_of (unless (nat_le (length rows) MAX_ROWS) too_many_rows ∷ unless (nat_le (length (distinct_words rows)) MAX_WORDS) too_many_words ∷ [])
 
 abbrev pub refusal : List ℕ → Option Refusal
 refusal c = first_of (docs_refusal c ∷ rows_refusal (rows_of (documents c)) ∷ [])

@@ -1,11 +1,11 @@
 -- The texts of faults: compact JSON (RFC 8259), keys in byte order.
 --
---   plain_data error       {"error":E}
+--   error_data error       {"error":E}
 --   bad_data at            {"at":P,"error":"bad"}: the query is refused at the byte P
 --   limit_data at which    {"at":P,"error":"limit","which":W}: a limit refuses it there
 --   param_data name        {"error":"param","param":X}: the parameter X is refused
 --   changed_data rule at   {"at":P,"error":"changed","rule":R}: the index file breaks the rule R at the byte P
---   plain_text, bad_text, limit_text, param_text, changed_text: the texts of these
+--   error_text, bad_text, limit_text, param_text, changed_text: the texts of these
 --
 -- The words that stand for E are memory, read, head, body, head too long, path and method.
 use Rattle.std.specs.Prelude.{ℕ, List, codes}
@@ -13,8 +13,8 @@ use Rattle.serde_json.specs.Data.{Data, object, string, number, unsigned, no_mem
 use Rattle.serde_json.specs.Written.{compact_text}
 
 -- a fault of which nothing more is said
-abbrev pub plain_data : List ℕ → Data
-plain_data error = object (member (codes "error") (string error) no_members)
+abbrev pub error_data : List ℕ → Data
+error_data error = object (member (codes "error") (string error) no_members)
 
 -- the query isn't of the grammar: the number of bytes before the first refused character
 abbrev pub bad_data : ℕ → Data
@@ -39,8 +39,8 @@ changed_data rule at =
     (member (codes "rule") (number (unsigned rule)) no_members)))
 
 -- the text of a fault of which nothing more is said
-unfoldable pub plain_text : List ℕ → List ℕ
-plain_text error = compact_text (plain_data error)
+unfoldable pub error_text : List ℕ → List ℕ
+error_text error = compact_text (error_data error)
 
 -- the text of a query that the grammar refuses
 unfoldable pub bad_text : ℕ → List ℕ

@@ -1,14 +1,15 @@
 -- What a request asks, and the reply that a corpus gives to it.
 --
---   Request              the query, how many hits and completions are shown, how many hits are left out in front, the facets asked
+--   Request              the query; how many hits are shown; how many completions, and words of each facet table, are shown; how
+--                        many hits are left out in front; the names of the facets asked
 --   prefix_query p       the query of one positive part that asks the words beginning with p
 --   is_plain_line l      `q=` and 1 to 120 letters a to z
 --   plain_request l      what such a line asks; all else is at its default
 --   shown_word w         a word as it is shown: that of a facet without its leading colon
---   reply_of k r         the reply to a request over a corpus: each list is ordered whole, counted, and then cut
+--   reply_to k ps r      the reply to a request whose parts have these rows: each list is ordered whole, counted, and then cut
+--   reply_of k r         the reply to a request over a corpus
 use Rattle.std.specs.Prelude.{ℕ, Bool, false, ◌&&◌, ◌==◌, nat_lt, nat_le, nat_eq, if◌then◌else◌, List, [], ◌∷◌, map, length, take, drop}
 use Rattle.std.specs.List.{list_all, starts_with}
-use Rattle.std.specs.Int.{is_in_range}
 use Rattle.std.specs.Option.{unwrap_or}
 use Rattle.std.specs.FinMap as map
 use Rattle.cs_base.specs.declared.query.Query.{Query, roll-Query}
@@ -16,8 +17,9 @@ use Rattle.cs_base.specs.declared.query.Part.{roll-Part}
 use Rattle.cs_base.specs.declared.query.Chain.{roll-Chain}
 use Rattle.cs_base.specs.declared.query.Atom.{Prefix}
 use Rattle.cs_base.specs.declared.doc.Scored.{Scored}
+use Rattle.cs_model.specs.Collection.{is_small_letter}
 use Rattle.cs_model.specs.Corpus.{Corpus}
-use Rattle.cs_model.specs.Answers.{Completion, PartRows, parts_of, hits_of, pairs_of, ranked, table_of, facet_table}
+use Rattle.cs_model.specs.Answers.{Completion, PartRows, parts_of, hits, ranked, table, facet_table}
 use Rattle.cs_model.specs.Replies.{Reply, Shown, HitShown, FacetShown}
 
 pub record Request : Type 0 where
@@ -30,9 +32,6 @@ pub record Request : Type 0 where
 -- ---- plain requests
 abbrev pub prefix_query : List ℕ → Query
 prefix_query p = roll-Query (record { parts = roll-Part (record { excluded = false; chains = roll-Chain (record { first = Prefix p; rest = [] }) ∷ [] }) ∷ [] })
-
-abbrev pub is_small_letter : ℕ → Bool
-is_small_letter b = is_in_range 97 122 b
 
 abbrev pub is_plain_line : List ℕ → Bool
 is_plain_line l = starts_with nat_eq l (113 ∷ 61 ∷ []) && (nat_lt 2 (length l) && (nat_le (length l) 122 && list_all is_small_letter (drop 2 l)))
@@ -57,11 +56,11 @@ facet_shown k ps cut n = record { name = n; table = map shown_of (take cut (face
 
 abbrev pub reply_to : Corpus → List PartRows → Request → Reply
 reply_to k ps r = record {
-  completions = map shown_of (take r.completions (table_of (pairs_of k ps)));
+  completions = map shown_of (take r.completions (table k ps));
   facets = map (facet_shown k ps r.completions) r.facets;
   hits = map (hit_shown k) (take r.hits (drop r.offset (ranked k ps)));
-  total_completions = length (table_of (pairs_of k ps));
-  total_hits = length (hits_of k ps);
+  total_completions = length (table k ps);
+  total_hits = length (hits k ps);
 }
 
 unfoldable pub reply_of : Corpus → Request → Reply
