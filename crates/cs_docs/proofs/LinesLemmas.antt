@@ -1,0 +1,58 @@
+-- Lines, one after another, and the documents that they are.
+use Rattle.std.proofs.Common.{◌≡◌, ℕ, ◌+◌, ◌<◌, Bool, true, false, List, [], ◌∷◌, ◌++◌, length, take, drop, get_or, refl, ap, ◌∙◌, arith, eqb}
+use Rattle.std.specs.List.{slice_split, position_or_len}
+use Rattle.memchr.specs.Find.{IsFirstByte, is_byte}
+use Rattle.std.specs.Prelude.{Some, None}
+use Rattle.std.specs.Str.Lines.{lines, lines_of_parts, strip_carriage_return}
+use Rattle.std.proofs.lemmas.Bool.Decides.{nat_tests}
+use Rattle.std.proofs.lemmas.List.Elements.{All-from_get_or}
+use Rattle.std.proofs.lemmas.List.Splits.{slice_split_first, slice_split_none, length-slice_split}
+use Rattle.std.proofs.lemmas.List.Sums.{position_or_len_is}
+use Rattle.cs_model.specs.Collection.{has_bytes}
+use Rattle.cs_docs.specs.Reading.{documents_from}
+
+-- behind the first part there are further ones
+more_parts : (x : List ℕ) (ps : List (List ℕ)) → 0 < length ps → lines_of_parts (x ∷ ps) ≡ strip_carriage_return x ∷ lines_of_parts ps
+more_parts x [] h = absurd (omega arith)
+more_parts x (p ∷ ps) h = refl
+
+-- the first line ends at the first LF
+pub line_at : (bs : List ℕ) (i : ℕ) → i < length bs → ((k : ℕ) → k < i → eqb (get_or bs k 0) 10 ≡ false) → eqb (get_or bs i 0) 10 ≡ true
+    → lines bs ≡ strip_carriage_return (take i bs) ∷ lines (drop (i + 1) bs)
+line_at bs i l before here =
+    let at : position_or_len (λ b. eqb b 10) bs ≡ i = position_or_len_is (λ b. eqb b 10) bs i 0 (omega arith) before (λ _. here) in
+    let first : slice_split (λ b. eqb b 10) bs ≡ take i bs ∷ slice_split (λ b. eqb b 10) (drop (i + 1) bs) =
+    slice_split_first (λ b. eqb b 10) bs 0 (omega (arith, at)) ∙ ap (λ n. take n bs ∷ slice_split (λ b. eqb b 10) (drop (n + 1) bs)) at in
+    ap lines_of_parts first
+    ∙ more_parts (take i bs) (slice_split (λ b. eqb b 10) (drop (i + 1) bs)) (omega (arith, length-slice_split (λ b. eqb b 10) (drop (i + 1) bs)))
+
+false_from : (b : Bool) → (b ≡ true → ⊥) → b ≡ false
+false_from true h = absurd (h refl)
+false_from false h = refl
+
+-- the first LF as `memchr` finds it
+pub line_ends_at : (bs : List ℕ) (i : ℕ) → IsFirstByte (is_byte 10) bs (Some i) → lines bs ≡ strip_carriage_return (take i bs) ∷ lines (drop (i + 1) bs)
+line_ends_at bs i h = line_at bs i h.0.high (λ k l. false_from _ (h.0.before k (omega arith) l)) h.1
+
+some_line : (bs : List ℕ) → 0 < length bs → lines_of_parts (bs ∷ []) ≡ bs ∷ []
+some_line [] h = absurd (omega arith)
+some_line (b ∷ bs) h = let some : eqb (length (b ∷ bs)) 0 ≡ false = grind (arith, nat_tests) in rw some refl
+
+-- without LF the rest is the last line
+pub last_line : (bs : List ℕ) → 0 < length bs → IsFirstByte (is_byte 10) bs None → lines bs ≡ bs ∷ []
+last_line bs some h =
+    ap lines_of_parts (slice_split_none (λ b. eqb b 10) bs (All-from_get_or (λ b. eqb b 10 ≡ false) bs 0 (λ k l. false_from _ (h k (omega arith) l))))
+    ∙ some_line bs some
+
+-- ---- documents
+
+module _ (d n : ℕ) where
+  -- a line without bytes is no document
+  documents_at : (b : Bool) (l : List ℕ) (ls : List (List ℕ)) → has_bytes l ≡ b → documents_from d n (l ∷ ls) ≡ documents_from d n (l ∷ []) ++ documents_from (d + length (documents_from d n (l ∷ []))) (n + 1) ls
+  documents_at true l ls h =
+      let one : d + 1 ≡ d + length (documents_from d n (l ∷ [])) = rw h refl in
+      rw h refl
+  documents_at false l ls h = rw h (ap (λ m. documents_from m (n + 1) ls) (omega arith))
+
+  pub documents_next : (l : List ℕ) (ls : List (List ℕ)) → documents_from d n (l ∷ ls) ≡ documents_from d n (l ∷ []) ++ documents_from (d + length (documents_from d n (l ∷ []))) (n + 1) ls
+  documents_next l ls = documents_at (has_bytes l) l ls refl

@@ -1,0 +1,237 @@
+-- Rows that are listed document by document are in their order, and are the rows of the documents.
+use Rattle.std.proofs.Common.{◌≡◌, ℕ, ◌+◌, ◌<◌, ◌≤◌, Bool, true, false, ◌&&◌, ◌||◌, List, [], ◌∷◌, ◌++◌, length, map, drop, get_or, refl, sym, ap, ◌∙◌, arith, append-nil, add-one, drop-cons}
+use Rattle.std.specs.List.{AllByRecursion, list_any, flat_map, enumerate_from}
+use Rattle.std.specs.List.Sorted.{IsStrictlySortedBy}
+use Rattle.std.specs.Ordering.{nat_cmp, ordering_then, eq_by_cmp, is_eq}
+use Rattle.std.specs.Cmp.{nat_cmp_is}
+use Rattle.std.specs.Cmp.Lexicographic.{slice_cmp}
+use Rattle.std.specs.declared.cmp.Ordering.{Ordering}
+use Rattle.std.specs.declared.cmp.Ordering.TheVariants.{Less, Equal, Greater}
+use Rattle.std.proofs.lemmas.Cmp.{nat_list_cmp_total}
+use Rattle.std.proofs.lemmas.List.Folds.{list_any-append}
+use Rattle.std.proofs.lemmas.Map.Lookups.{exact_bytes}
+use Rattle.std.proofs.lemmas.Str.Ascii.{IsAscii-nil}
+use Rattle.cs_base.specs.Orders.{by_row}
+use Rattle.cs_base.specs.declared.doc.Doc.{Doc}
+use Rattle.cs_base.specs.declared.doc.Row.{Row}
+use Rattle.cs_base.proofs.MembersLemmas.{members_are, is_member-listed, listing-rises}
+use Rattle.cs_base.proofs.OrdersLemmas.{by_row_total, by_row_exact}
+use Rattle.cs_model.specs.Collection.{facet_words}
+use Rattle.cs_model.specs.Corpus.{placed, title_rows, text_rows, facet_rows, doc_rows, rows_of}
+use Rattle.cs_model.specs.Words.{words}
+use Rattle.cs_model.proofs.AsciiLemmas.{words-ascii}
+use Rattle.cs_docs.specs.Listing.{listed_facets, listed_doc, listed_rows}
+
+-- ---- lists
+
+all-append : {X : Type 0} (P : X → Type 0) (xs ys : List X) → AllByRecursion P xs → AllByRecursion P ys → AllByRecursion P (xs ++ ys)
+all-append P [] ys h k = k
+all-append P (x ∷ xs) ys h k = (h.0, all-append P xs ys h.1 k)
+
+all-weaker : {X : Type 0} (P Q : X → Type 0) → ((x : X) → P x → Q x) → (xs : List X) → AllByRecursion P xs → AllByRecursion Q xs
+all-weaker P Q w [] h = tt
+all-weaker P Q w (x ∷ xs) h = (w x h.0, all-weaker P Q w xs h.1)
+
+-- each of xs is below each of ys
+abbrev AreBelow : {X : Type 0} → (X → X → Ordering) → List X → List X → Type 0
+AreBelow R xs ys = AllByRecursion (λ x. AllByRecursion (λ y. R x y ≡ Less) ys) xs
+
+below-from : {X : Type 0} (R : X → X → Ordering) (P Q : X → Type 0) → ((x y : X) → P x → Q y → R x y ≡ Less) → (xs ys : List X) → AllByRecursion P xs → AllByRecursion Q ys → AreBelow R xs ys
+below-from R P Q less [] ys h k = tt
+below-from R P Q less (x ∷ xs) ys h k = (all-weaker Q (λ y. R x y ≡ Less) (λ y q. less x y h.0 q) ys k, below-from R P Q less xs ys h.1 k)
+
+sorted-append : {X : Type 0} (R : X → X → Ordering) (xs ys : List X) → IsStrictlySortedBy R xs → IsStrictlySortedBy R ys → AreBelow R xs ys → IsStrictlySortedBy R (xs ++ ys)
+unfolding IsStrictlySortedBy
+sorted-append R [] ys h k b = k
+sorted-append R (x ∷ xs) ys h k b = (all-append (λ y. R x y ≡ Less) xs ys h.0 b.0, sorted-append R xs ys h.1 k b.1)
+
+-- ---- rows in their order
+
+equal_cmp : (x y : ℕ) → x ≡ y → nat_cmp x y ≡ Equal
+equal_cmp x y h = sym (nat_cmp_is x y Equal h)
+
+less_cmp : (x y : ℕ) → x < y → nat_cmp x y ≡ Less
+less_cmp x y h = sym (nat_cmp_is x y Less h)
+
+earlier_doc : (r s : Row) → r.doc < s.doc → by_row r s ≡ Less
+earlier_doc r s h = rw (less_cmp r.doc s.doc h) refl
+
+earlier_pos : (r s : Row) → r.doc ≡ s.doc → r.pos < s.pos → by_row r s ≡ Less
+earlier_pos r s e h = rw (equal_cmp r.doc s.doc e, less_cmp r.pos s.pos h) refl
+
+earlier_facet : (d : ℕ) (v w : List ℕ) → slice_cmp nat_cmp v w ≡ Less → by_row (placed d 2 (0, v)) (placed d 2 (0, w)) ≡ Less
+earlier_facet d v w h = rw (equal_cmp d d refl, h) refl
+
+-- a row of document d, at a position from lo on and before hi
+record IsWithin (d lo hi : ℕ) (r : Row) : Type 0 where
+  doc : r.doc ≡ d
+  from : lo ≤ r.pos
+  before : r.pos < hi
+
+within_below : (d lo mid hi : ℕ) (xs ys : List Row) → AllByRecursion (IsWithin d lo mid) xs → AllByRecursion (IsWithin d mid hi) ys → AreBelow by_row xs ys
+within_below d lo mid hi xs ys h k = below-from by_row (IsWithin d lo mid) (IsWithin d mid hi) (λ r s p q. earlier_pos r s (p.doc ∙ sym q.doc) (omega (arith, p.before, q.from))) xs ys h k
+
+wider : (d lo hi a b : ℕ) (xs : List Row) → a ≤ lo → hi ≤ b → AllByRecursion (IsWithin d lo hi) xs → AllByRecursion (IsWithin d a b) xs
+wider d lo hi a b xs l k h = all-weaker (IsWithin d lo hi) (IsWithin d a b) (λ r p. record { doc = p.doc; from = omega (arith, p.from); before = omega (arith, p.before) }) xs h
+
+within-placed : (d score n : ℕ) (ws : List (List ℕ)) → AllByRecursion (IsWithin d n (n + length ws)) (map (placed d score) (enumerate_from n ws))
+within-placed d score n [] = tt
+within-placed d score n (w ∷ ws) = (
+  record { doc = refl; from = omega arith; before = omega arith },
+  wider d (n + 1) (n + 1 + length ws) n (n + length (w ∷ ws)) (map (placed d score) (enumerate_from (n + 1) ws)) (omega arith) (omega arith) (within-placed d score (n + 1) ws),
+)
+
+sorted-placed : (d score n : ℕ) (ws : List (List ℕ)) → IsStrictlySortedBy by_row (map (placed d score) (enumerate_from n ws))
+unfolding IsStrictlySortedBy
+sorted-placed d score n [] = tt
+sorted-placed d score n (w ∷ ws) = (
+  all-weaker (IsWithin d (n + 1) (n + 1 + length ws)) (λ s. by_row (placed d score (n, w)) s ≡ Less) (λ s q. earlier_pos (placed d score (n, w)) s (sym q.doc) (omega (arith, q.from)))
+      (map (placed d score) (enumerate_from (n + 1) ws)) (within-placed d score (n + 1) ws),
+  sorted-placed d score (n + 1) ws,
+)
+
+within-facets : (d : ℕ) (ws : List (List ℕ)) → AllByRecursion (IsWithin d 0 1) (map (λ w. placed d 2 (0, w)) ws)
+within-facets d [] = tt
+within-facets d (w ∷ ws) = (record { doc = refl; from = omega arith; before = omega arith }, within-facets d ws)
+
+later_facets : (d : ℕ) (v : List ℕ) (ws : List (List ℕ)) → AllByRecursion (λ w. slice_cmp nat_cmp v w ≡ Less) ws → AllByRecursion (λ s. by_row (placed d 2 (0, v)) s ≡ Less) (map (λ w. placed d 2 (0, w)) ws)
+later_facets d v [] h = tt
+later_facets d v (w ∷ ws) h = (earlier_facet d v w h.0, later_facets d v ws h.1)
+
+sorted-facets : (d : ℕ) (ws : List (List ℕ)) → IsStrictlySortedBy (slice_cmp nat_cmp) ws → IsStrictlySortedBy by_row (map (λ w. placed d 2 (0, w)) ws)
+unfolding IsStrictlySortedBy
+sorted-facets d [] h = tt
+sorted-facets d (w ∷ ws) h = (later_facets d w ws h.0, sorted-facets d ws h.1)
+
+-- ---- one document
+
+module _ (d : ℕ) (doc : Doc) where
+  abbrev facets : List Row
+  facets = map (λ w. placed d 2 (0, w)) (listed_facets doc.facets)
+
+  abbrev titles : ℕ
+  titles = length (words doc.title)
+
+  abbrev texts : ℕ
+  texts = length (words doc.text)
+
+  within_titles : AllByRecursion (IsWithin d 1 (titles + 1)) (title_rows d doc)
+  within_titles = wider d 1 (1 + titles) 1 (titles + 1) (title_rows d doc) (omega arith) (omega arith) (within-placed d 4 1 (words doc.title))
+
+  within_texts : AllByRecursion (IsWithin d (titles + 1) (titles + 9 + texts)) (text_rows d doc)
+  within_texts = wider d (titles + 9) (titles + 9 + texts) (titles + 1) (titles + 9 + texts) (text_rows d doc) (omega arith) (omega arith) (within-placed d 1 (titles + 9) (words doc.text))
+
+  within_front : AllByRecursion (IsWithin d 0 (titles + 1)) (facets ++ title_rows d doc)
+  within_front = all-append (IsWithin d 0 (titles + 1)) facets (title_rows d doc) (wider d 0 1 0 (titles + 1) facets (omega arith) (omega arith) (within-facets d (listed_facets doc.facets)))
+      (wider d 1 (titles + 1) 0 (titles + 1) (title_rows d doc) (omega arith) (omega arith) within_titles)
+
+  sorted_front : IsStrictlySortedBy by_row (facets ++ title_rows d doc)
+  sorted_front = sorted-append by_row facets (title_rows d doc) (sorted-facets d (listed_facets doc.facets) (listing-rises (slice_cmp nat_cmp) (facet_words doc.facets)))
+      (sorted-placed d 4 1 (words doc.title)) (within_below d 0 1 (titles + 1) facets (title_rows d doc) (within-facets d (listed_facets doc.facets)) within_titles)
+
+  pub sorted-doc : IsStrictlySortedBy by_row (listed_doc (d, doc))
+  sorted-doc = sorted-append by_row (facets ++ title_rows d doc) (text_rows d doc) sorted_front (sorted-placed d 1 (titles + 9) (words doc.text))
+      (within_below d 0 (titles + 1) (titles + 9 + texts) (facets ++ title_rows d doc) (text_rows d doc) within_front within_texts)
+
+  of_doc : AllByRecursion (λ r. r.doc ≡ d) (listed_doc (d, doc))
+  of_doc = all-append (λ r. r.doc ≡ d) (facets ++ title_rows d doc) (text_rows d doc)
+      (all-weaker (IsWithin d 0 (titles + 1)) (λ r. r.doc ≡ d) (λ r p. p.doc) (facets ++ title_rows d doc) within_front)
+      (all-weaker (IsWithin d (titles + 1) (titles + 9 + texts)) (λ r. r.doc ≡ d) (λ r p. p.doc) (text_rows d doc) within_texts)
+
+-- ---- all documents
+
+from_docs : (d : ℕ) (docs : List Doc) → AllByRecursion (λ r. d ≤ r.doc) (listed_rows d docs)
+from_docs d [] = tt
+from_docs d (doc ∷ docs) =
+    all-append (λ r. d ≤ r.doc) (listed_doc (d, doc)) (listed_rows (d + 1) docs)
+    (all-weaker (λ r. r.doc ≡ d) (λ r. d ≤ r.doc) (λ r p. omega (arith, p)) (listed_doc (d, doc)) (of_doc d doc))
+    (all-weaker (λ r. d + 1 ≤ r.doc) (λ r. d ≤ r.doc) (λ r p. omega (arith, p)) (listed_rows (d + 1) docs) (from_docs (d + 1) docs))
+
+pub sorted-rows : (d : ℕ) (docs : List Doc) → IsStrictlySortedBy by_row (listed_rows d docs)
+unfolding IsStrictlySortedBy
+sorted-rows d [] = tt
+sorted-rows d (doc ∷ docs) =
+    sorted-append by_row (listed_doc (d, doc)) (listed_rows (d + 1) docs) (sorted-doc d doc) (sorted-rows (d + 1) docs)
+    (below-from by_row (λ r. r.doc ≡ d) (λ s. d + 1 ≤ s.doc) (λ r s p q. earlier_doc r s (omega (arith, p, q))) (listed_doc (d, doc)) (listed_rows (d + 1) docs) (of_doc d doc) (from_docs (d + 1) docs))
+
+-- ---- the same rows
+
+never : (a b o : Ordering) → is_eq o ≡ false → is_eq (ordering_then a (ordering_then b o)) ≡ false
+never Less b o h = refl
+never Greater b o h = refl
+never Equal Less o h = refl
+never Equal Greater o h = refl
+never Equal Equal o h = h
+
+gate : (a b o e : Ordering) → is_eq (ordering_then a (ordering_then b (ordering_then o e))) ≡ (is_eq o && is_eq (ordering_then a (ordering_then b e)))
+gate a b Less e = never a b Less refl
+gate a b Greater e = never a b Greater refl
+gate a b Equal e = refl
+
+or_gated : (a b k : Bool) → ((a && k) || (b && k)) ≡ ((a || b) && k)
+or_gated true b true = refl
+or_gated true true false = refl
+or_gated true false false = refl
+or_gated false b k = refl
+
+-- whether q is the row of a facet word in document d, its word aside
+abbrev is_facet_row : Row → ℕ → Bool
+is_facet_row q d = is_eq (ordering_then (nat_cmp q.doc d) (ordering_then (nat_cmp q.pos 0) (nat_cmp q.score 2)))
+
+any_facet : (q : Row) (d : ℕ) (ws : List (List ℕ)) → list_any (eq_by_cmp by_row q) (map (λ w. placed d 2 (0, w)) ws) ≡ (list_any (eq_by_cmp (slice_cmp nat_cmp) q.word) ws && is_facet_row q d)
+any_facet q d [] = refl
+any_facet q d (w ∷ ws) =
+    ap (λ b. b || list_any (eq_by_cmp by_row q) (map (λ v. placed d 2 (0, v)) ws)) (gate (nat_cmp q.doc d) (nat_cmp q.pos 0) (slice_cmp nat_cmp q.word w) (nat_cmp q.score 2))
+    ∙ ap (λ b. (eq_by_cmp (slice_cmp nat_cmp) q.word w && is_facet_row q d) || b) (any_facet q d ws)
+    ∙ or_gated (eq_by_cmp (slice_cmp nat_cmp) q.word w) (list_any (eq_by_cmp (slice_cmp nat_cmp) q.word) ws) (is_facet_row q d)
+
+any_listed : (q : Row) (d : ℕ) (doc : Doc) → list_any (eq_by_cmp by_row q) (facets d doc) ≡ list_any (eq_by_cmp by_row q) (facet_rows d doc)
+any_listed q d doc =
+    any_facet q d (listed_facets doc.facets)
+    ∙ ap (λ b. b && is_facet_row q d) (is_member-listed (slice_cmp nat_cmp) nat_list_cmp_total (facet_words doc.facets) q.word)
+    ∙ sym (any_facet q d (facet_words doc.facets))
+
+any_doc : (q : Row) (d : ℕ) (doc : Doc) → list_any (eq_by_cmp by_row q) (listed_doc (d, doc)) ≡ list_any (eq_by_cmp by_row q) (doc_rows (d, doc))
+any_doc q d doc =
+    let front : list_any (eq_by_cmp by_row q) (facets d doc ++ title_rows d doc) ≡ list_any (eq_by_cmp by_row q) (facet_rows d doc ++ title_rows d doc) =
+    list_any-append (eq_by_cmp by_row q) (facets d doc) (title_rows d doc)
+    ∙ ap (λ b. b || list_any (eq_by_cmp by_row q) (title_rows d doc)) (any_listed q d doc)
+    ∙ sym (list_any-append (eq_by_cmp by_row q) (facet_rows d doc) (title_rows d doc)) in
+    list_any-append (eq_by_cmp by_row q) (facets d doc ++ title_rows d doc) (text_rows d doc)
+    ∙ ap (λ b. b || list_any (eq_by_cmp by_row q) (text_rows d doc)) front
+    ∙ sym (list_any-append (eq_by_cmp by_row q) (facet_rows d doc ++ title_rows d doc) (text_rows d doc))
+
+any_row : (q : Row) (d : ℕ) (docs : List Doc) → list_any (eq_by_cmp by_row q) (listed_rows d docs) ≡ list_any (eq_by_cmp by_row q) (flat_map doc_rows (enumerate_from d docs))
+any_row q d [] = refl
+any_row q d (doc ∷ docs) =
+    list_any-append (eq_by_cmp by_row q) (listed_doc (d, doc)) (listed_rows (d + 1) docs)
+    ∙ ap (λ b. b || list_any (eq_by_cmp by_row q) (listed_rows (d + 1) docs)) (any_doc q d doc)
+    ∙ ap (λ b. list_any (eq_by_cmp by_row q) (doc_rows (d, doc)) || b) (any_row q (d + 1) docs)
+    ∙ sym (list_any-append (eq_by_cmp by_row q) (doc_rows (d, doc)) (flat_map doc_rows (enumerate_from (d + 1) docs)))
+
+-- the rows of documents are their listing
+pub rows_listed : (docs : List Doc) → listed_rows 0 docs ≡ rows_of docs
+rows_listed docs = members_are by_row by_row_total by_row_exact (listed_rows 0 docs) (flat_map doc_rows (enumerate_from 0 docs)) (sorted-rows 0 docs) (λ q. any_row q 0 docs)
+
+-- ---- document after document
+
+pub listed_next : (docs : List Doc) (i : ℕ) (doc : Doc) → i < length docs → doc ≡ get_or docs i doc → listed_rows i (drop i docs) ≡ listed_doc (i, doc) ++ listed_rows (i + 1) (drop (i + 1) docs)
+listed_next docs i doc l e =
+    ap (listed_rows i) (drop-cons docs i doc l ∙ ap (λ n. get_or docs i doc ∷ drop n docs) (sym (add-one i)) ∙ ap (λ x. x ∷ drop (i + 1) docs) (sym e))
+
+nothing_sorted : {X : Type 0} (R : X → X → Ordering) → IsStrictlySortedBy R []
+unfolding IsStrictlySortedBy
+nothing_sorted R = tt
+
+no_facets : listed_facets [] ≡ []
+no_facets = sym (members_are (slice_cmp nat_cmp) nat_list_cmp_total exact_bytes [] [] (nothing_sorted (slice_cmp nat_cmp)) (λ q. refl))
+
+no_words : words [] ≡ []
+no_words = words-ascii [] IsAscii-nil
+
+-- a document that has a title alone
+pub listed_title : (d : ℕ) (doc : Doc) → doc.facets ≡ [] → doc.text ≡ [] → listed_doc (d, doc) ≡ map (placed d 4) (enumerate_from 1 (words doc.title))
+listed_title d doc f t =
+    ap (λ ws. map (λ w. placed d 2 (0, w)) ws ++ title_rows d doc ++ text_rows d doc) (ap listed_facets f ∙ no_facets)
+    ∙ ap (λ ws. title_rows d doc ++ map (placed d 1) (enumerate_from (length (words doc.title) + 9) ws)) (ap words t ∙ no_words)
+    ∙ append-nil (title_rows d doc)

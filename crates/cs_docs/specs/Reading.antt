@@ -1,0 +1,20 @@
+-- A collection that is read line by line.
+--
+--   doc_lines_from d n ls     the documents of lines that begin at line n, where d documents stand before them
+--   documents_from d n ls     the same as documents
+--   doc_of n l                the document of the line l, which is line n
+use Rattle.std.specs.Prelude.{ℕ, List, map, filter}
+use Rattle.std.specs.List.{enumerate_from}
+use Rattle.cs_base.specs.declared.doc.Doc.{Doc}
+use Rattle.cs_model.specs.Collection.{DocLine, doc_line, has_bytes, document}
+
+-- none where no line has bytes
+abbrev pub doc_lines_from : ℕ → ℕ → List (List ℕ) → List DocLine
+doc_lines_from d n ls = map doc_line (enumerate_from d (filter (λ l. has_bytes l.1) (enumerate_from n ls)))
+
+abbrev pub documents_from : ℕ → ℕ → List (List ℕ) → List Doc
+documents_from d n ls = map document (doc_lines_from d n ls)
+
+-- one whose columns are empty where the line is
+abbrev pub doc_of : ℕ → List ℕ → Doc
+doc_of n l = document (record { doc = 0; line = n; bytes = l })
