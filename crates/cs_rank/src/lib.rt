@@ -1,0 +1,9 @@
+//! Scores of documents, and the best of them.
+//!
+//! The order of hits is `by_rank` of `cs_base`; what is kept of a longer list stands in `specs/`.
+#![tactic(auto)]
+
+mod best;
+mod hits;
+
+pub use hits::top;
