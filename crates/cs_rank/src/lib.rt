@@ -5,5 +5,7 @@
 
 mod best;
 mod hits;
+mod scores;
 
 pub use hits::top;
+pub use scores::score;
