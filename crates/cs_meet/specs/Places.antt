@@ -1,0 +1,27 @@
+-- What a pass over sorted posts knows on its way.
+--
+--   is_before x d p          x stands in an earlier document than d, or in d before position p
+--   AllBefore posts n d p    the first n posts are before position p of document d
+--   Splits posts n d p       n is the first place that isn't before position p of document d
+--   near_at posts n r        there is a post at n, and it stands near r
+use Rattle.std.specs.Prelude.{◌≡◌, ℕ, ◌<◌, ◌≤◌, Bool, true, false, ◌&&◌, ◌||◌, ◌==◌, nat_lt, List, length, slice_index_or}
+use Rattle.cs_base.specs.declared.doc.Post.{Post}
+use Rattle.cs_meet.specs.Filters.{is_near}
+
+-- x stands in an earlier document than d, or in d before position p
+abbrev pub is_before : Post → ℕ → ℕ → Bool
+is_before x d p = nat_lt x.doc d || ((x.doc == d) && nat_lt x.pos p)
+
+-- the first n posts are before position p of document d
+abbrev pub AllBefore : List Post → ℕ → ℕ → ℕ → Type 0
+AllBefore posts n d p = (k : ℕ) (e : Post) → k < n → is_before (slice_index_or posts k e) d p ≡ true
+
+-- n is the first place that isn't before position p of document d, or the end
+pub record Splits (posts : List Post) (n d p : ℕ) : Type 0 where
+  pub within : n ≤ length posts
+  pub before : AllBefore posts n d p
+  pub stop : (e : Post) → n < length posts → is_before (slice_index_or posts n e) d p ≡ false
+
+-- there is a post at n, and it stands near r
+abbrev pub near_at : List Post → ℕ → Post → Bool
+near_at posts n r = nat_lt n (length posts) && is_near r (slice_index_or posts n r)
