@@ -1,3 +1,4 @@
 pub mod Passes
 pub mod Judged
 pub mod Ascent
+pub mod Listed

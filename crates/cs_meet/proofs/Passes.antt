@@ -11,8 +11,9 @@ use Rattle.std.proofs.lemmas.List.Elements.{All-from_get_or}
 use Rattle.std.proofs.lemmas.Map.Keys.{Less-from_sorted}
 use Rattle.std.proofs.lemmas.Bool.Decides.{nat_tests}
 use Rattle.cs_base.specs.declared.doc.Post.{Post}
+use Rattle.cs_base.specs.declared.doc.Scored.{Scored}
 use Rattle.cs_base.specs.Orders.{by_place}
-use Rattle.cs_meet.specs.Filters.{AreSorted}
+use Rattle.cs_meet.specs.Filters.{AreSorted, by_doc}
 use Rattle.cs_meet.specs.Places.{is_before, AllBefore, Splits}
 
 -- one place that passes is enough
@@ -59,6 +60,10 @@ rises_window x y h = grind (arith, nat_tests)
 
 pub rises_past : (x y : Post) → by_place x y ≡ Less → IsUpTo x.doc (x.pos + 1) y.doc (y.pos + 1)
 rises_past x y h = grind (arith, nat_tests)
+
+-- and so does the start of a document
+pub rises_by_doc : (x y : Scored) → by_doc x y ≡ Less → IsUpTo x.doc 0 y.doc 0
+rises_by_doc x y h = grind (arith, nat_tests)
 
 -- the posts of a before i stand before the place that each entry of b from j on asks for
 pub record Ahead {B : Type 0} (doc pos : B → ℕ) (a : List Post) (b : List B) (i j : ℕ) : Type 0 where

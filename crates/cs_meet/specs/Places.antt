@@ -3,8 +3,10 @@
 --   is_before x d p          x stands in an earlier document than d, or in d before position p
 --   AllBefore posts n d p    the first n posts are before position p of document d
 --   Splits posts n d p       n is the first place that isn't before position p of document d
+--   AllBelow docs n d        the first n documents are less than d
+--   SplitsDocs docs n d      n is the first place whose document isn't less than d
 --   near_at posts n r        there is a post at n, and it stands near r
-use Rattle.std.specs.Prelude.{◌≡◌, ℕ, ◌<◌, ◌≤◌, Bool, true, false, ◌&&◌, ◌||◌, ◌==◌, nat_lt, List, length, slice_index_or}
+use Rattle.std.specs.Prelude.{◌≡◌, ℕ, ◌<◌, ◌≤◌, Bool, true, false, ◌&&◌, ◌||◌, ◌==◌, nat_lt, List, length, slice_index_or, slice_index}
 use Rattle.cs_base.specs.declared.doc.Post.{Post}
 use Rattle.cs_meet.specs.Filters.{is_near}
 
@@ -25,3 +27,13 @@ pub record Splits (posts : List Post) (n d p : ℕ) : Type 0 where
 -- there is a post at n, and it stands near r
 abbrev pub near_at : List Post → ℕ → Post → Bool
 near_at posts n r = nat_lt n (length posts) && is_near r (slice_index_or posts n r)
+
+-- the first n documents are less than d
+abbrev pub AllBelow : List ℕ → ℕ → ℕ → Type 0
+AllBelow docs n d = (k : ℕ) → k < n → slice_index docs k < d
+
+-- n is the first place whose document isn't less than d, or the end
+pub record SplitsDocs (docs : List ℕ) (n d : ℕ) : Type 0 where
+  pub within : n ≤ length docs
+  pub below : AllBelow docs n d
+  pub stop : n < length docs → d ≤ slice_index docs n

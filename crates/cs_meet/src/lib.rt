@@ -8,5 +8,5 @@ mod documents;
 mod links;
 mod skip;
 
-pub use documents::docs_of;
+pub use documents::{docs_of, drop_docs, keep_docs};
 pub use links::{follow, near};
