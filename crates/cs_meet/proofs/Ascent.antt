@@ -1,5 +1,5 @@
 -- The documents of sorted posts.
-use Rattle.std.proofs.Common.{◌≡◌, ℕ, ◌+◌, ◌<◌, ◌≤◌, Bool, false, List, length, get_or, ◌∙◌, arith, sym}
+use Rattle.std.proofs.Common.{◌≡◌, ℕ, ◌+◌, false, List, get_or, arith}
 use Rattle.std.specs.Prelude.{map, nat_eq}
 use Rattle.std.specs.Ordering.{nat_cmp, eq_by_cmp, is_lt}
 use Rattle.std.specs.List.Sorted.{IsSorted}

@@ -2,7 +2,6 @@
 use Rattle.std.proofs.Common.{◌≡◌, ℕ, ◌+◌, ◌-◌, ◌<◌, ◌≤◌, ◌||◌, Bool, true, false, List, length, get_or, refl, sym, ◌∙◌, ap, subst, arith}
 use Rattle.std.specs.Prelude.{nat_lt, max}
 use Rattle.std.specs.List.{list_any}
-use Rattle.std.proofs.lemmas.List.{get_or_default}
 use Rattle.std.proofs.lemmas.Map.Keys.{Less-from_sorted}
 use Rattle.std.proofs.lemmas.Bool.Decides.{nat_tests}
 use Rattle.cs_base.specs.declared.doc.Post.{Post}
@@ -23,19 +22,19 @@ in_turn a n k e up from below =
     ] refl
 
 module _ (test : Post → Bool) (d p : ℕ)
-  (early : (x : Post) → is_before x d p ≡ true → test x ≡ false)
-  (late : (x y : Post) → IsUpTo x.doc x.pos y.doc y.pos → is_before x d p ≡ false → test x ≡ false → test y ≡ false)
-  (a : List Post) (n : ℕ) (split : Splits a n d p) where
+    (early : (x : Post) → is_before x d p ≡ true → test x ≡ false)
+    (late : (x y : Post) → IsUpTo x.doc x.pos y.doc y.pos → is_before x d p ≡ false → test x ≡ false → test y ≡ false)
+    (a : List Post) (n : ℕ) (split : Splits a n d p) where
   -- at the end no post passes
   pub judged_past : length a ≤ n → (e : Post) → list_any test a ≡ false
   judged_past past e = none_at test a e (λ k below. early (get_or a k e) (split.before k e (omega arith)))
 
   judged_no : AreSorted a → n < length a → (e : Post) → test (get_or a n e) ≡ false → list_any test a ≡ false
   judged_no up within e other = none_at test a e (λ k below.
-    elim (nat_lt k n) as (λ t. nat_lt k n ≡ t → test (get_or a k e) ≡ false) [
-      | true ↦ λ t. early (get_or a k e) (split.before k e (grind (arith, nat_tests)))
-      | false ↦ λ t. late (get_or a n e) (get_or a k e) (in_turn a n k e up (grind (arith, nat_tests)) below) (split.stop e within) other
-    ] refl)
+      elim (nat_lt k n) as (λ t. nat_lt k n ≡ t → test (get_or a k e) ≡ false) [
+        | true ↦ λ t. early (get_or a k e) (split.before k e (grind (arith, nat_tests)))
+        | false ↦ λ t. late (get_or a n e) (get_or a k e) (in_turn a n k e up (grind (arith, nat_tests)) below) (split.stop e within) other
+      ] refl)
 
   -- within the list the post there decides
   pub judged_at : AreSorted a → n < length a → (x : Post) → x ≡ get_or a n x → test x ≡ list_any test a
@@ -72,17 +71,17 @@ behind_isnt_near r x y up stop other = grind (arith, nat_tests)
 module _ (a : List Post) (r : Post) (lo hi : ℕ) (up : AreSorted a) (first : Splits a lo r.doc (max (r.pos - 8) 1)) (behind : Splits a hi r.doc (r.pos + 1)) where
   near_none : near_at a lo r ≡ false → near_at a hi r ≡ false → list_any (is_near r) a ≡ false
   near_none other neither = none_at (is_near r) a r (λ k below.
-    elim (nat_lt k lo) as (λ t. nat_lt k lo ≡ t → is_near r (get_or a k r) ≡ false) [
-      | true ↦ λ t. early_isnt_near r (get_or a k r) (first.before k r (grind (arith, nat_tests)))
-      | false ↦ λ t. elim (nat_lt k hi) as (λ u. nat_lt k hi ≡ u → is_near r (get_or a k r) ≡ false) [
-        | true ↦ λ u.
-            let from : lo ≤ k = grind (arith, nat_tests) in
-            between_isnt_near r (get_or a lo r) (get_or a k r) (in_turn a lo k r up from below) (first.stop r (omega arith)) (grind (arith, nat_tests)) (behind.before k r (grind (arith, nat_tests)))
-        | false ↦ λ u.
-            let from : hi ≤ k = grind (arith, nat_tests) in
-            behind_isnt_near r (get_or a hi r) (get_or a k r) (in_turn a hi k r up from below) (behind.stop r (omega arith)) (grind (arith, nat_tests))
-      ] refl
-    ] refl)
+      elim (nat_lt k lo) as (λ t. nat_lt k lo ≡ t → is_near r (get_or a k r) ≡ false) [
+        | true ↦ λ t. early_isnt_near r (get_or a k r) (first.before k r (grind (arith, nat_tests)))
+        | false ↦ λ t. elim (nat_lt k hi) as (λ u. nat_lt k hi ≡ u → is_near r (get_or a k r) ≡ false) [
+          | true ↦ λ u.
+              let from : lo ≤ k = grind (arith, nat_tests) in
+              between_isnt_near r (get_or a lo r) (get_or a k r) (in_turn a lo k r up from below) (first.stop r (omega arith)) (grind (arith, nat_tests)) (behind.before k r (grind (arith, nat_tests)))
+          | false ↦ λ u.
+              let from : hi ≤ k = grind (arith, nat_tests) in
+              behind_isnt_near r (get_or a hi r) (get_or a k r) (in_turn a hi k r up from below) (behind.stop r (omega arith)) (grind (arith, nat_tests))
+        ] refl
+      ] refl)
 
   near_some : (i : ℕ) → near_at a i r ≡ true → list_any (is_near r) a ≡ true
   near_some i here = any_at (is_near r) a i r (grind (arith, nat_tests)) (grind (arith, nat_tests))

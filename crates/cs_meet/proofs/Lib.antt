@@ -2,3 +2,5 @@ pub mod Passes
 pub mod Judged
 pub mod Ascent
 pub mod Listed
+pub mod Ordered
+pub mod United

@@ -1,6 +1,6 @@
 -- How far a pass over two sorted lists has come.
 use Rattle.std.proofs.Common.{◌≡◌, ℕ, zero, suc, ◌+◌, ◌-◌, ◌<◌, ◌≤◌, ◌||◌, Bool, true, false, List, [], ◌∷◌, ◌++◌, length, drop, get_or, cond, append_assoc, append-nil, refl, sym, ◌∙◌, ap, subst, arith}
-use Rattle.std.specs.Prelude.{◌⊎◌, nat_lt, max}
+use Rattle.std.specs.Prelude.{◌⊎◌, max}
 use Rattle.std.specs.declared.cmp.Ordering.{Ordering}
 use Rattle.std.specs.declared.cmp.Ordering.TheVariants.{Less}
 use Rattle.std.specs.List.{list_any, filter}
@@ -13,7 +13,7 @@ use Rattle.std.proofs.lemmas.Bool.Decides.{nat_tests}
 use Rattle.cs_base.specs.declared.doc.Post.{Post}
 use Rattle.cs_base.specs.declared.doc.Scored.{Scored}
 use Rattle.cs_base.specs.Orders.{by_place}
-use Rattle.cs_meet.specs.Filters.{AreSorted, by_doc}
+use Rattle.cs_meet.specs.Filters.{by_doc}
 use Rattle.cs_meet.specs.Places.{is_before, AllBefore, Splits}
 
 -- one place that passes is enough
@@ -81,7 +81,7 @@ module _ {B : Type 0} (R : B → B → Ordering) (doc pos : B → ℕ) (rises : 
   ahead_more n j x up l is split = record {
     within = split.within;
     before = λ m e from below k d h.
-      let later : IsUpTo (doc x) (pos x) (doc (get_or b m e)) (pos (get_or b m e)) =
+        let later : IsUpTo (doc x) (pos x) (doc (get_or b m e)) (pos (get_or b m e)) =
         subst (λ y. IsUpTo (doc y) (pos y) (doc (get_or b m e)) (pos (get_or b m e))) (sym (is ∙ get_or_default b j x e l)) (rises _ _ (Less-from_sorted R b j m e up (omega arith) below)) in
-      before_stays (get_or a k d) (doc x) (pos x) (doc (get_or b m e)) (pos (get_or b m e)) later (split.before k d h);
+        before_stays (get_or a k d) (doc x) (pos x) (doc (get_or b m e)) (pos (get_or b m e)) later (split.before k d h);
   }

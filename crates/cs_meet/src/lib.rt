@@ -7,6 +7,8 @@
 mod documents;
 mod links;
 mod skip;
+mod union;
 
 pub use documents::{docs_of, drop_docs, keep_docs};
 pub use links::{follow, near};
+pub use union::unite;

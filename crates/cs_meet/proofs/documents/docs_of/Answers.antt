@@ -1,8 +1,5 @@
-use Rattle.std.proofs.Common.{◌≡◌, ℕ, ◌∙◌, arith, subst, sym}
-use Rattle.std.specs.List.{dedup}
+use Rattle.std.proofs.Common.{◌∙◌, sym}
 use Rattle.std.specs.Prelude.{nat_eq}
-use Rattle.std.specs.Ordering.{nat_cmp}
-use Rattle.std.specs.List.Sorted.{IsStrictlySortedBy}
 use Rattle.std.proofs.lemmas.List.Kept.{IsStrictlySortedBy-dedup}
 use Rattle.std.proofs.lemmas.List.Filters.{dedup_is}
 use Rattle.std.proofs.lemmas.List.Sorted.{IsPermutation-refl}

@@ -1,4 +1,4 @@
-use Rattle.std.proofs.Common.{◌≡◌, ◌∙◌, arith, not, get_or, ap}
+use Rattle.std.proofs.Common.{◌≡◌, arith, not, get_or, ap}
 use Rattle.std.specs.List.{list_any}
 use Rattle.std.proofs.lemmas.List.{get_or_default}
 use Rattle.std.proofs.lemmas.List.Kept.{IsStrictlySortedBy-filter}
@@ -19,7 +19,7 @@ loop-scored-preserved c =
     let is : h ≡ get_or base j h = get_or_default base j blank h c.loop-scored-test.true in
     record {
       told = rw c.keep_where.ensures.items
-        (filter_more (λ x. not (list_any (is_of x) rows)) _ c.loop-scored.kept.items base j h (not c.has_row.result) c.loop-scored.invariant.told c.loop-scored-test.true is (ap not c.has_row.ensures));
+          (filter_more (λ x. not (list_any (is_of x) rows)) _ c.loop-scored.kept.items base j h (not c.has_row.result) c.loop-scored.invariant.told c.loop-scored-test.true is (ap not c.has_row.ensures));
       ahead = ahead_more by_doc (λ x. x.doc) (λ x. 0) rises_by_doc rows base c.skip_to-i.result j h c.requires.base_sorted c.loop-scored-test.true is c.skip_to-i.ensures;
       few = omega arith;
       room = omega arith;

@@ -1,4 +1,4 @@
-use Rattle.std.proofs.Common.{◌≡◌, ◌+◌, ◌≤◌, ◌++◌, length, drop}
+use Rattle.std.proofs.Common.{◌≡◌, ◌≤◌, ◌++◌, length, drop}
 use Rattle.std.specs.Vec.{vec_len, vec_capacity}
 use Rattle.cs_base.specs.declared.doc.Scored.{Scored}
 use Rattle.cs_meet.specs.Filters.{drop_docs}

@@ -1,4 +1,4 @@
-use Rattle.std.proofs.Common.{◌∙◌, sym, arith}
+use Rattle.std.proofs.Common.{◌∙◌, arith}
 use Rattle.std.proofs.lemmas.Bool.Decides.{nat_tests}
 use Rattle.cs_meet.specs.Filters.{is_of}
 use Rattle.cs_meet.proofs.Judged.{judged_at, judged_past, before_isnt_of, later_isnt_of}

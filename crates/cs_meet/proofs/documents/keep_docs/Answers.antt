@@ -14,7 +14,7 @@ loop-j-preserved c =
     let row = c.get-row.result in
     record {
       told = rw c.add_where.ensures.posts
-        (filter_more (λ r. list_any (in_doc r) docs) _ c.loop-j.found.posts rows c.loop-j.j row c.is_listed.result c.loop-j.invariant.told (omega arith) c.get-row.ensures c.is_listed.ensures);
+          (filter_more (λ r. list_any (in_doc r) docs) _ c.loop-j.found.posts rows c.loop-j.j row c.is_listed.result c.loop-j.invariant.told (omega arith) c.get-row.ensures c.is_listed.ensures);
       ahead = listed_more docs rows c.skip_docs-i.result c.loop-j.j row c.requires.rows_sorted (omega arith) c.get-row.ensures c.skip_docs-i.ensures;
       room = omega arith;
     }

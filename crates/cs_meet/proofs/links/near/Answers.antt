@@ -2,7 +2,6 @@ use Rattle.std.proofs.Common.{◌≡◌, ◌+◌, ◌-◌, arith, subst}
 use Rattle.std.specs.Prelude.{max}
 use Rattle.std.specs.List.{list_any}
 use Rattle.std.proofs.lemmas.List.Kept.{IsStrictlySortedBy-filter}
-use Rattle.cs_base.specs.declared.doc.Post.{Post}
 use Rattle.cs_base.specs.Orders.{by_place}
 use Rattle.cs_meet.specs.Filters.{is_near}
 use Rattle.cs_meet.specs.Places.{Splits}
@@ -20,7 +19,7 @@ loop-j-preserved c =
     let past = subst (λ p. Splits a c.skip_to-hi.result row.doc p) behind c.skip_to-hi.ensures in
     record {
       told = rw c.add_where.ensures.posts
-        (filter_more (λ r. list_any (is_near r) a) _ c.loop-j.found.posts b c.loop-j.j row c.has_neighbour.result c.loop-j.invariant.told (omega arith) c.get-row.ensures c.has_neighbour.ensures);
+          (filter_more (λ r. list_any (is_near r) a) _ c.loop-j.found.posts b c.loop-j.j row c.has_neighbour.result c.loop-j.invariant.told (omega arith) c.get-row.ensures c.has_neighbour.ensures);
       first = ahead_more by_place (λ r. r.doc) (λ r. max (r.pos - 8) 1) rises_window a b c.skip_to-lo.result c.loop-j.j row c.requires.b_sorted (omega arith) c.get-row.ensures window;
       behind = ahead_more by_place (λ r. r.doc) (λ r. r.pos + 1) rises_past a b c.skip_to-hi.result c.loop-j.j row c.requires.b_sorted (omega arith) c.get-row.ensures past;
       room = omega arith;
