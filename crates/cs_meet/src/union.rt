@@ -66,7 +66,7 @@ fn take_rest(found: &mut Cols, posts: &Cols, from: usize)
 }
 
 #[inline]
-fn precedes(post: Post, row: Post) -> bool
+pub(crate) fn precedes(post: Post, row: Post) -> bool
     ensures { result ≡ is_lt (by_place post row) }
 {
     post.doc < row.doc
