@@ -1,2 +1,8 @@
 //! What a collection, a query and a reply are: definitions, and laws about them. It has no running code.
 #![tactic(auto)]
+
+mod kinds;
+mod laws;
+
+pub use kinds::{Class, Level, Spot, Tie};
+pub use laws::prefixes_are_accepted;
