@@ -6,12 +6,16 @@
 --   Follows rest r         the reader r stands behind the tokens of its tail and `rest`
 --   FollowsAll ts r        it stands behind the tokens ts
 --   Judges ts result       behind the tokens ts: the reader that follows them, or their fault
+--   Answers cs result      the answer to the characters cs of a key text
 use Rattle.std.specs.Prelude.{◌≡◌, ℕ, ◌+◌, ◌≤◌, List, [], ◌∷◌, false, reverse, length, Some, Result, Ok, Err}
 use Rattle.cs_base.specs.declared.query.Which.{Which}
 use Rattle.cs_model.specs.declared.kinds.Tie.{Tie}
 use Rattle.cs_model.specs.Tokens.{Token, Word, Value, Run, Gap, Dollar, Bar, Colon, Open, Close, size}
-use Rattle.cs_model.specs.Grammar.{spot, tie, steps, reading}
-use Rattle.cs_model.specs.Refusals.{refused, verdict, parts_in, atoms_in, depth, newest, Bad, Limit}
+use Rattle.cs_model.specs.Grammar.{spot, tie, steps, reading, query_of}
+use Rattle.cs_model.specs.Refusals.{refused, verdict, parts_in, atoms_in, depth, newest, Bad, Limit, IsAccepted, IsRefused}
+use Rattle.cs_base.specs.declared.query.Query.{Query}
+use Rattle.cs_query.specs.declared.fault.QueryFault.{QueryFault}
+use Rattle.cs_query.specs.declared.fault.QueryFault.TheVariants as faults
 use Rattle.cs_query.specs.declared.fault.Stop.{Stop}
 use Rattle.cs_query.specs.declared.fault.Stop.TheVariants as stops
 use Rattle.cs_query.specs.declared.reader.Tail.{Tail}
@@ -71,3 +75,16 @@ Judges ts (Ok r) = FollowsAll ts r
 Judges ts (Err stops.Bad) = verdict ts ≡ Some Bad
 Judges ts (Err (stops.Limit which)) = verdict ts ≡ Some (Limit which)
 Judges ts (Err stops.Memory) = Unit {0}
+
+-- the fault of a text whose character at the byte `at` stops the reader
+abbrev pub fault_at : ℕ → Stop → QueryFault
+fault_at at stops.Bad = faults.Bad at
+fault_at at (stops.Limit which) = faults.Limit at which
+fault_at at stops.Memory = faults.Memory
+
+-- The answer to the characters of a key text: its query exactly where it is accepted, or its first refused character, unless memory runs out.
+abbrev pub Answers : List ℕ → Result Query QueryFault → Type 0
+Answers cs (Ok q) = IsAccepted cs × (q ≡ query_of cs)
+Answers cs (Err (faults.Bad at)) = IsRefused cs at Bad
+Answers cs (Err (faults.Limit at which)) = IsRefused cs at (Limit which)
+Answers cs (Err faults.Memory) = Unit {0}
