@@ -1,2 +1,5 @@
+pub mod HubLemmas
 pub mod MembersLemmas
+pub mod NameMaps
 pub mod OrdersLemmas
+pub mod Places

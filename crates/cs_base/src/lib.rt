@@ -2,21 +2,31 @@
 #![tactic(auto)]
 
 mod doc;
+mod hub;
 mod limits;
+mod mem_files;
+mod mem_sink;
 mod memory;
+mod outside;
 mod query;
+mod script_hub;
 mod seq;
 mod text;
 mod word;
 
 pub use doc::{Base, Doc, Post, Row, Scored};
+pub use hub::{Event, Hub};
 pub use limits::{
     DEFAULT_COMPLETIONS, DEFAULT_HITS, MAX_ATOMS, MAX_COLLECTION_BYTES, MAX_DEPTH, MAX_DOC_WORDS,
     MAX_DOCS, MAX_LINE_BYTES, MAX_NAME_BYTES, MAX_OFFSET, MAX_PARTS, MAX_PLAIN_WORD_BYTES,
     MAX_POSITION, MAX_QUERY_BYTES, MAX_ROWS, MAX_SHOWN, MAX_WORD_BYTES, MAX_WORDS,
 };
+pub use mem_files::MemFiles;
+pub use mem_sink::MemSink;
 pub use memory::Memory;
+pub use outside::{Failed, Files, Sink};
 pub use query::{Atom, Chain, Link, Linked, Part, Query, Which};
+pub use script_hub::{ScriptHub, Scripted};
 pub use seq::Seq;
 pub use text::Text;
 pub use word::Word;

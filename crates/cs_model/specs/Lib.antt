@@ -1,4 +1,13 @@
-pub mod Words
-pub mod Tokens
+pub mod Answers
+pub mod Ascii
+pub mod Collection
+pub mod Corpus
+pub mod Faults
 pub mod Grammar
+pub mod KeyText
+pub mod Outputs
 pub mod Refusals
+pub mod Replies
+pub mod Requests
+pub mod Tokens
+pub mod Words

@@ -1,6 +1,70 @@
--- stub until cs_text's stands
-use Rattle.std.specs.Prelude.{ℕ, Bool, nat_lt, ◌&&◌}
-use Rattle.std.specs.Char.{is_ascii_alphanumeric}
+-- The words of a text, and the slug that a facet's value is written by.
+--
+-- Source: General_Category is that of Unicode Standard Annex 44, in the tables that the cited crates carry.
+--
+--   is_word_char c    whether the character c is part of a word
+--   is_gap c          whether it is not
+--   is_some_run cs    whether the characters are a run at all, which has one or more
+--   runs cs           the maximal runs of word characters among the characters cs, in order
+--   fitting room cs   the longest prefix of cs whose characters take at most `room` bytes together
+--   cut cs            the bytes of the longest prefix of cs that takes at most 120 of them
+--   words_of cs       the words that the characters cs have: their runs, each cut
+--   words s           the words of the text s, by its key text; none where no character is part of a word
+--   slug s            the words of s with `_` between each two, cut; None exactly where s has no word
+--
+-- A run that is cut is one word, as every other run is. A word has no `_` and no `:`.
+use Rattle.std.specs.Prelude.{ℕ, ◌-◌, Bool, ◌||◌, not, nat_lt, nat_le, if◌then◌else◌, List, [], ◌∷◌, map, filter, length, chars, encode_utf8_all, Option, Some, None}
+use Rattle.std.specs.Char.{is_ascii_alphanumeric, len_utf8}
+use Rattle.std.specs.List.{slice_split, join_with_byte}
+use Rattle.unicode.specs.GeneralCategory.{general_category}
+use Rattle.unicode.specs.GeneralCategoryGroup.{in_group}
+use Rattle.ucd_category.specs.declared.GeneralCategory.{GeneralCategory}
+use Rattle.ucd_category.specs.declared.GeneralCategoryGroup.TheVariants.{Letter, Mark, Number}
+use Rattle.cs_model.specs.KeyText.{norm}
 
-abbrev pub is_word_char : ℕ → Bool
-is_word_char x = is_ascii_alphanumeric x
+-- the category is in one of the groups L, M and N
+abbrev pub is_word_category : GeneralCategory → Bool
+is_word_category k = in_group Letter k || in_group Mark k || in_group Number k
+
+-- below U+0080 the ASCII letters and digits alone, above it the characters of the groups L, M and N
+unfoldable pub is_word_char : ℕ → Bool
+is_word_char c = if nat_lt c 128 then is_ascii_alphanumeric c else is_word_category (general_category c)
+
+-- the other characters
+abbrev pub is_gap : ℕ → Bool
+is_gap c = not (is_word_char c)
+
+-- between two gaps that stand side by side there is no run
+abbrev pub is_some_run : {X : Type 0} → List X → Bool
+is_some_run cs = nat_lt 0 (length cs)
+
+-- the pieces between the other characters that are not empty, so none where each character is another
+abbrev pub runs : List ℕ → List (List ℕ)
+runs cs = filter is_some_run (slice_split is_gap cs)
+
+-- the longest prefix of whole characters that takes at most `room` bytes: all of cs where it fits, and none of it where
+-- its first character doesn't
+abbrev pub fitting : ℕ → List ℕ → List ℕ
+fitting room [] = []
+fitting room (c ∷ cs) = if nat_le (len_utf8 c) room then c ∷ fitting (room - len_utf8 c) cs else []
+
+-- its bytes, where there is room for 120
+unfoldable pub cut : List ℕ → List ℕ
+cut cs = encode_utf8_all (fitting 120 cs)
+
+-- one word for each run
+abbrev pub words_of : List ℕ → List (List ℕ)
+words_of cs = map cut (runs cs)
+
+-- the words of a text are those of its key text's characters
+unfoldable pub words : List ℕ → List (List ℕ)
+words s = words_of (chars (norm s))
+
+-- words joined by `_`, and cut as a word is; None where there is no word
+abbrev pub slug_of : List (List ℕ) → Option (List ℕ)
+slug_of [] = None
+slug_of (w ∷ ws) = Some (cut (chars (join_with_byte 95 (w ∷ ws))))
+
+-- the slug of a text
+abbrev pub slug : List ℕ → Option (List ℕ)
+slug s = slug_of (words s)

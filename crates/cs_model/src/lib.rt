@@ -2,7 +2,6 @@
 #![tactic(auto)]
 
 mod kinds;
-mod laws;
+pub mod laws;
 
 pub use kinds::{Class, Level, Spot, Tie};
-pub use laws::prefixes_are_accepted;

@@ -2,8 +2,8 @@
 ghost use Rattle.std.specs.Prelude.{◌≡◌};
 ghost use Rattle.cs_model.specs.Tokens.{class_of};
 
-use crate::words::is_word_char;
 use cs_model::Class;
+use cs_text::is_word_char;
 
 /// What a character of a key text is to the grammar.
 pub fn class_of(c: char) -> Class

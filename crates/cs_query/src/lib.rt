@@ -1,7 +1,8 @@
-//! Queries: reads a query's text, and says which text stands for a query.
+//! Queries, requests and replies: reads a query's text, and has the types that requests and replies are handed on in.
 //!
 //! What a text means, and which character of it is refused, stands in `cs_model`'s `specs/Grammar.antt`
-//! and `specs/Refusals.antt`. Nothing here knows a collection.
+//! and `specs/Refusals.antt`. Contracts see a reply as the record of that name in `cs_model`, whose text
+//! is defined there. Nothing here knows a collection.
 #![tactic(auto)]
 
 mod attaching;
@@ -11,10 +12,13 @@ mod fault;
 mod names;
 mod parsing;
 mod reader;
+mod reply;
+mod request;
 mod steps;
 mod tails;
-mod words;
 
 pub use cs_base::Which;
 pub use fault::QueryFault;
-
+pub use parsing::parse;
+pub use reply::{FacetShown, HitShown, Reply, Shown};
+pub use request::{Param, ReqFault, Request};

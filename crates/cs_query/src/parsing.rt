@@ -1,8 +1,11 @@
 //! Reads a query's text from left to right.
-ghost use Rattle.std.specs.Prelude.{◌≡◌, ℕ, List, [], IfOk, reverse};
+ghost use Rattle.std.specs.Prelude.{◌≡◌, ℕ, List, [], Err, IfOk, reverse};
 ghost use Rattle.std.specs.Str.{chars};
 ghost use Rattle.cs_model.specs.Tokens.{Token};
-ghost use Rattle.cs_model.specs.Grammar.{all_closed, query_of_tokens};
+ghost use Rattle.cs_base.specs.declared.query.Which.{Which as WhichValue};
+ghost use Rattle.cs_model.specs.Grammar.{all_closed, query_of, query_of_tokens};
+ghost use Rattle.cs_model.specs.KeyText.{norm};
+ghost use Rattle.cs_model.specs.Refusals.{Bad, Limit, IsAccepted, IsOfGrammar, IsRefused};
 ghost use Rattle.cs_query.specs.Following.{Answers, Follows, FollowsAll, fault_at, held};
 
 use crate::attaching::close_level;
@@ -12,10 +15,29 @@ use crate::steps::step;
 use crate::tails::settle;
 use cs_base::{MAX_QUERY_BYTES, Memory, Part, Query, Seq};
 use cs_model::{Level, Tie};
+use cs_text::norm;
 use std::alloc::Global;
 
+/// The query of a text, read from the text's key text. Places count bytes of the key text.
+///
+/// The grammar, its refusals and its limits are described in `docs/QUERY.md`.
+pub fn parse(alloc: Global, s: &str) -> Result<Query, QueryFault>
+    ensures ok { IfOk result (λ q. IsAccepted (chars (norm s.now)) × (q ≡ query_of (chars (norm s.now)))) }
+    ensures grammar { IfOk result IsOfGrammar }
+
+    // The first refused character, and why.
+    ensures bad { (at : ℕ) → result ≡ Err (QueryFault.Bad at) → IsRefused (chars (norm s.now)) at Bad }
+    ensures limit { (at : ℕ) (which : WhichValue) → result ≡ Err (QueryFault.Limit at which) → IsRefused (chars (norm s.now)) at (Limit which) }
+{
+    let key = match norm(alloc, s) {
+        Ok(key) => key,
+        Err(_) => return Err(QueryFault::Memory),
+    };
+    read(alloc, key.as_str())
+}
+
 /// The query of a key text, or its first refused character.
-pub fn read(alloc: Global, key: &str) -> Result<Query, QueryFault>
+fn read(alloc: Global, key: &str) -> Result<Query, QueryFault>
     ensures { Answers (chars key.now) result }
 {
     let mut reader = start(alloc);

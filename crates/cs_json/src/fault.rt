@@ -1,0 +1,98 @@
+//! The texts of faults.
+ghost use Rattle.std.specs.Prelude.{◌≡◌, IfOk, codes};
+ghost use Rattle.serde_json.specs.View.{view};
+ghost use Rattle.cs_model.specs.Faults.{plain_data, bad_data, limit_data, param_data, changed_data};
+ghost use Rattle.cs_json.specs.FaultTexts.{fault_data, refusal_data, fault_text, limit_word, param_name};
+
+use cs_base::Memory;
+use cs_query::{Param, ReqFault, Which};
+use serde_json::{Value, json};
+use std::alloc::{AllocError, Global};
+
+/// Why a request has no reply.
+#[derive(Clone, Copy, Debug, PartialEq, Eq)]
+pub enum Fault {
+    /// The parameters are no request, or there was no memory to read or to answer them.
+    Refused(ReqFault),
+    /// The index file couldn't be read.
+    Read,
+    /// The index file isn't what it was when it was opened.
+    Changed {
+        /// The number of the first broken rule of the index file.
+        rule: u8,
+        /// Its place in the file, in bytes.
+        at: u64,
+    },
+    /// The bytes are no request head.
+    NotHead,
+    /// The head announces a body.
+    Body,
+    /// The head is too long.
+    TooLong,
+    /// The target's path isn't the search.
+    Path,
+    /// The method isn't GET.
+    Method,
+}
+
+/// The fault as compact JSON, keys in byte order.
+pub fn fault_bytes(alloc: Global, f: &Fault) -> Result<Vec<u8>, Memory>
+    ensures ok { IfOk result (λ v. v.items ≡ fault_text f.now) }
+{
+    let value = fault_value(alloc, f)?;
+    let bytes = value.to_vec(alloc)?;
+    Ok(bytes)
+}
+
+fn fault_value(alloc: Global, fault: &Fault) -> Result<Value, AllocError>
+    ensures { IfOk result (λ v. view v ≡ fault_data fault.now) }
+{
+    match fault {
+        Fault::Refused(refusal) => refusal_value(alloc, refusal),
+        Fault::Changed { rule, at } =>
+            json!(in alloc; {"at": (*at), "error": "changed", "rule": (*rule)}),
+        Fault::Read => json!(in alloc; {"error": "read"}),
+        Fault::NotHead => json!(in alloc; {"error": "head"}),
+        Fault::Body => json!(in alloc; {"error": "body"}),
+        Fault::TooLong => json!(in alloc; {"error": "head too long"}),
+        Fault::Path => json!(in alloc; {"error": "path"}),
+        Fault::Method => json!(in alloc; {"error": "method"}),
+    }
+}
+
+fn refusal_value(alloc: Global, refusal: &ReqFault) -> Result<Value, AllocError>
+    ensures { IfOk result (λ v. view v ≡ refusal_data refusal.now) }
+{
+    match refusal {
+        ReqFault::BadParam { which } =>
+            json!(in alloc; {"error": "param", "param": (name_of(*which))}),
+        ReqFault::Bad { at } => json!(in alloc; {"at": (*at), "error": "bad"}),
+        ReqFault::Limit { at, which } => {
+            json!(in alloc; {"at": (*at), "error": "limit", "which": (word_of(*which))})
+        }
+        ReqFault::Memory => json!(in alloc; {"error": "memory"}),
+    }
+}
+
+fn word_of(which: Which) -> &'static str
+    ensures { result.now ≡ limit_word which }
+{
+    match which {
+        Which::Query => "query",
+        Which::Word => "word",
+        Which::Parts => "parts",
+        Which::Atoms => "atoms",
+        Which::Depth => "depth",
+    }
+}
+
+fn name_of(which: Param) -> &'static str
+    ensures { result.now ≡ param_name which }
+{
+    match which {
+        Param::H => "h",
+        Param::C => "c",
+        Param::O => "o",
+        Param::F => "f",
+    }
+}

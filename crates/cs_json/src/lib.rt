@@ -1,0 +1,11 @@
+//! Replies and faults as compact JSON.
+//!
+//! The texts are those of `Replies` and `Faults` in `cs_model`, byte for byte. They are written through the
+//! value of `serde_json`, whose objects hold their keys in byte order.
+#![tactic(auto)]
+
+mod fault;
+mod reply;
+
+pub use fault::{Fault, fault_bytes};
+pub use reply::reply_bytes;

@@ -1,0 +1,20 @@
+-- Key texts and words of plain ASCII text.
+--
+--   ascii_norm s      the text s with its capital letters lower-cased
+--   ascii_words s     the maximal runs of letters and digits of ascii_norm s, each cut to its first 120 bytes
+use Rattle.std.specs.Prelude.{ℕ, Bool, not, List, map, filter, take}
+use Rattle.std.specs.Char.{is_ascii_alphanumeric, to_ascii_lowercase}
+use Rattle.std.specs.List.{slice_split}
+use Rattle.cs_model.specs.Words.{is_some_run}
+
+-- the key text of an ASCII text
+abbrev pub ascii_norm : List ℕ → List ℕ
+ascii_norm s = map to_ascii_lowercase s
+
+-- a byte that is no letter and no digit
+abbrev pub is_ascii_gap : ℕ → Bool
+is_ascii_gap b = not (is_ascii_alphanumeric b)
+
+-- the words of an ASCII text
+abbrev pub ascii_words : List ℕ → List (List ℕ)
+ascii_words s = map (take 120) (filter is_some_run (slice_split is_ascii_gap (ascii_norm s)))

@@ -1,0 +1,80 @@
+-- What a reply says, and its text: compact JSON (RFC 8259), keys in byte order.
+--
+--   Shown            a completion, or a facet's word without its leading colon, with the number of its documents
+--   HitShown         a hit with its score and its title
+--   FacetShown       a facet's name with its table
+--   Reply            the completions, facet tables and hits that are shown, and how many there are before any cut
+--   reply_data r     the JSON value of r
+--   reply_text r     its text
+--
+-- The text of a reply is
+--   {"completions":C,"facets":F,"hits":H,"total":{"completions":n,"hits":m}}
+-- where C lists {"docs":n,"word":w}, F has a list like C under each name, and H lists {"doc":d,"score":s,"title":t}.
+use Rattle.std.specs.Prelude.{ℕ, List, map, fold, codes}
+use Rattle.serde_json.specs.Data.{Data, array, object, string, number, unsigned, Members, no_members, member, put}
+use Rattle.serde_json.specs.View.{items_of}
+use Rattle.serde_json.specs.Written.{compact_text}
+
+-- a word as it is shown, with the number of documents that have it
+pub record Shown : Type 0 where
+  pub docs : ℕ
+  pub word : List ℕ
+
+-- a hit: the document's number from 0, its score, and its title as it stands in the collection
+pub record HitShown : Type 0 where
+  pub doc : ℕ
+  pub score : ℕ
+  pub title : List ℕ
+
+-- the table of a facet that was asked
+pub record FacetShown : Type 0 where
+  pub name : List ℕ
+  pub table : List Shown
+
+-- what is shown, and the numbers of completions and of hits before any cut
+pub record Reply : Type 0 where
+  pub completions : List Shown
+  pub facets : List FacetShown
+  pub hits : List HitShown
+  pub total_completions : ℕ
+  pub total_hits : ℕ
+
+-- a word and the number of its documents
+abbrev pub shown_data : Shown → Data
+shown_data s = object (member (codes "docs") (number (unsigned s.docs)) (member (codes "word") (string s.word) no_members))
+
+-- a table as the list of its words; without words it is the empty list
+abbrev pub table_data : List Shown → Data
+table_data shown = array (items_of (map shown_data shown))
+
+-- a hit
+abbrev pub hit_data : HitShown → Data
+hit_data h =
+    object (member (codes "doc") (number (unsigned h.doc))
+    (member (codes "score") (number (unsigned h.score))
+    (member (codes "title") (string h.title) no_members)))
+
+-- the hits as a list
+abbrev pub hits_data : List HitShown → Data
+hits_data hits = array (items_of (map hit_data hits))
+
+-- each table under its name, in byte order of the names; of two with one name the last stands
+abbrev pub facet_members : List FacetShown → Members
+facet_members facets = fold (λ members f. put f.name (table_data f.table) members) no_members facets
+
+-- the numbers before any cut
+abbrev pub total_data : ℕ → ℕ → Data
+total_data completions hits =
+    object (member (codes "completions") (number (unsigned completions)) (member (codes "hits") (number (unsigned hits)) no_members))
+
+-- a reply
+abbrev pub reply_data : Reply → Data
+reply_data r =
+    object (member (codes "completions") (table_data r.completions)
+    (member (codes "facets") (object (facet_members r.facets))
+    (member (codes "hits") (hits_data r.hits)
+    (member (codes "total") (total_data r.total_completions r.total_hits) no_members))))
+
+-- the text of a reply
+unfoldable pub reply_text : Reply → List ℕ
+reply_text r = compact_text (reply_data r)

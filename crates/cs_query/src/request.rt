@@ -1,0 +1,55 @@
+//! Requests, as the reader of parameters gives them, and why one is refused.
+use crate::Which;
+use cs_base::{Query, Seq, Text};
+
+/// Why a string of parameters is no request.
+#[derive(Clone, Copy, Debug, PartialEq, Eq)]
+pub enum ReqFault {
+    /// A parameter's value isn't accepted.
+    BadParam {
+        /// Which one.
+        which: Param,
+    },
+    /// The query isn't of the grammar.
+    Bad {
+        /// The bytes of its key text before the first refused character.
+        at: u32,
+    },
+    /// The query is refused by a limit alone.
+    Limit {
+        /// The bytes of its key text before the first refused character.
+        at: u32,
+        /// The first limit that stands against that character.
+        which: Which,
+    },
+    /// Memory ran out.
+    Memory,
+}
+
+/// A parameter that may be refused by its own form.
+#[derive(Clone, Copy, Debug, PartialEq, Eq)]
+pub enum Param {
+    /// `h`, how many hits are shown.
+    H,
+    /// `c`, how many completions are shown, and facet words of each table.
+    C,
+    /// `o`, how many hits are left out in front.
+    O,
+    /// `f`, the facets' names.
+    F,
+}
+
+/// What is asked.
+#[derive(Drop)]
+pub struct Request {
+    /// The query.
+    pub query: Query,
+    /// How many hits are shown.
+    pub hits: u32,
+    /// How many completions are shown, and facet words of each table.
+    pub completions: u32,
+    /// How many hits are left out in front.
+    pub offset: u32,
+    /// The names of the facets asked, each once, in byte order.
+    pub facets: Seq<Text>,
+}

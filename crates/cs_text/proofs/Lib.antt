@@ -1,0 +1,4 @@
+pub mod CutLemmas
+pub mod PiecesLemmas
+pub mod SlugLemmas
+pub mod SplitLemmas

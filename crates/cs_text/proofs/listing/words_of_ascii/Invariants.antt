@@ -1,0 +1,6 @@
+use Rattle.std.proofs.Common.{◌≡◌, map}
+use Rattle.cs_text.specs.Pieces.{ascii_words_in}
+use Rattle.cs_text.proofs.listing.words_of_ascii.Given as goal
+
+abbrev pub invariant-loop-piece : goal.invariant-loop-piece
+invariant-loop-piece l = l.found ≡ ascii_words_in (map (λ x. x.now) l.yielded)

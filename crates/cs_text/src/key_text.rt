@@ -1,0 +1,42 @@
+//! Key texts.
+ghost use Rattle.std.specs.Prelude.{◌≡◌, IfOk, chars, encode_utf8_all, string_bytes};
+ghost use Rattle.caseless.specs.Caseless.{default_case_fold};
+ghost use Rattle.unicode_normalization.specs.Forms.{nfd};
+ghost use Rattle.cs_model.specs.KeyText.{norm};
+
+use caseless::default_case_fold_str;
+use cs_base::{Memory, Text};
+use std::alloc::Global;
+use unicode_normalization::to_nfd;
+
+/// The key text of `s`, by which texts are compared: its canonical decomposition (Unicode Standard
+/// Annex 15), with full case folding, decomposed again. Two texts have one key text where they match
+/// canonically and caseless (The Unicode Standard, D145).
+pub fn norm(alloc: Global, s: &str) -> Result<Text, Memory>
+    ensures ok { IfOk result (λ t. t ≡ norm s.now) }
+{
+    let key = key_of(alloc, s)?;
+    Ok(Text::from_string(key))
+}
+
+/// The key text as a string.
+pub(crate) fn key_of(alloc: Global, s: &str) -> Result<String, Memory>
+    ensures ok { IfOk result (λ t. string_bytes t ≡ norm s.now) }
+{
+    if s.is_ascii() {
+        let lower = s.to_ascii_lowercase(alloc)?;
+        return Ok(lower);
+    }
+    let folded = folded_of(alloc, s)?;
+    let key = to_nfd(alloc, folded.as_str())?;
+    Ok(key)
+}
+
+// The decomposed text with case folded.
+fn folded_of(alloc: Global, s: &str) -> Result<String, Memory>
+    ensures ok { IfOk result (λ t. string_bytes t ≡ encode_utf8_all (default_case_fold (nfd (chars s.now)))) }
+{
+    let decomposed = to_nfd(alloc, s)?;
+    let folded = default_case_fold_str(alloc, decomposed.as_str())?;
+    Ok(folded)
+}

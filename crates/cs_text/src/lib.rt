@@ -1,0 +1,17 @@
+//! Unicode text: the key text that texts are compared by, its words, and the slug of a facet's value.
+//!
+//! Callers see texts and words as bytes of UTF-8. What the calls mean stands in `specs/KeyText.antt`
+//! and `specs/Words.antt` of `cs_model`. Tables of Unicode are those of `unicode_normalization`,
+//! `caseless` and `unicode`; ASCII text needs none of them.
+#![tactic(auto)]
+
+mod character;
+mod key_text;
+mod listing;
+mod piece;
+mod value;
+
+pub use character::is_word_char;
+pub use key_text::norm;
+pub use listing::words;
+pub use value::slug;

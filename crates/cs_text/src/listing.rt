@@ -1,0 +1,47 @@
+//! The words of a text.
+ghost use Rattle.std.specs.Prelude.{◌≡◌, IfOk, IsAscii, chars};
+ghost use Rattle.cs_model.specs.Words.{words, words_of};
+
+use crate::character::is_gap;
+use crate::key_text::key_of;
+use crate::piece::{push_ascii_word, push_word};
+use cs_base::{Memory, Seq, Word};
+use std::alloc::Global;
+
+/// The words of `s`, in order: the maximal runs of word characters of its key text, each cut to the
+/// longest prefix of whole characters of at most `MAX_PLAIN_WORD_BYTES` bytes.
+pub fn words(alloc: Global, s: &str) -> Result<Seq<Word>, Memory>
+    ensures ok { IfOk result (λ v. v ≡ words s.now) }
+{
+    let key = key_of(alloc, s)?;
+    let found = words_of(alloc, key.as_str())?;
+    Ok(found)
+}
+
+// The words of a key text.
+fn words_of(alloc: Global, key: &str) -> Result<Seq<Word>, Memory>
+    ensures ok { IfOk result (λ v. v ≡ words_of (chars key.now)) }
+{
+    if key.is_ascii() {
+        let found = words_of_ascii(alloc, key.as_bytes())?;
+        return Ok(found);
+    }
+    let mut found = Seq::new(alloc);
+    for piece in key.split(is_gap) {
+        push_word(alloc, &mut found, piece)?;
+    }
+    Ok(found)
+}
+
+// The same of ASCII text, by bytes.
+fn words_of_ascii(alloc: Global, key: &[u8]) -> Result<Seq<Word>, Memory>
+    requires { IsAscii key.now }
+
+    ensures ok { IfOk result (λ v. v ≡ words_of (chars key.now)) }
+{
+    let mut found = Seq::new(alloc);
+    for piece in key.split(|b| !b.is_ascii_alphanumeric()) {
+        push_ascii_word(alloc, &mut found, piece)?;
+    }
+    Ok(found)
+}

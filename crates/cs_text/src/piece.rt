@@ -1,0 +1,48 @@
+//! Pieces of a text between gaps, and what becomes of them.
+ghost use Rattle.std.specs.Prelude.{◌≡◌, ◌≤◌, ◌++◌, [], ◌∷◌, OnOk, OnErr, chars, length};
+ghost use Rattle.cs_model.specs.Words.{cut};
+ghost use Rattle.cs_text.specs.Pieces.{words_in, ascii_words_in};
+
+use cs_base::{MAX_PLAIN_WORD_BYTES, Memory, Seq, Word};
+use std::alloc::Global;
+
+/// The longest prefix of whole characters that a word has room for.
+pub(crate) fn cut(text: &str) -> &str
+    ensures value { result.now ≡ cut (chars text.now) }
+    ensures few { length result.now ≤ 120 }
+    ensures some { 1 ≤ length text.now → 1 ≤ length result.now }
+{
+    let end = text.floor_char_boundary(MAX_PLAIN_WORD_BYTES);
+    &text[..end]
+}
+
+/// Adds the word of a piece, if the piece has characters.
+pub(crate) fn push_word(alloc: Global, words: &mut Seq<Word>, piece: &str) -> Result<(), Memory>
+    ensures ok { OnOk result (words.new ≡ words.old ++ words_in (chars piece.now ∷ [])) }
+    ensures err { OnErr result (words.new ≡ words.old) }
+{
+    if piece.is_empty() {
+        return Ok(());
+    }
+    let word = Word::new(alloc, cut(piece).as_bytes())?;
+    words.push(word)?;
+    Ok(())
+}
+
+/// Adds the word of a piece of ASCII text, if the piece has bytes.
+pub(crate) fn push_ascii_word(
+    alloc: Global,
+    words: &mut Seq<Word>,
+    piece: &[u8],
+) -> Result<(), Memory>
+    ensures ok { OnOk result (words.new ≡ words.old ++ ascii_words_in (piece.now ∷ [])) }
+    ensures err { OnErr result (words.new ≡ words.old) }
+{
+    if piece.is_empty() {
+        return Ok(());
+    }
+    let end = piece.len().min(MAX_PLAIN_WORD_BYTES);
+    let word = Word::new(alloc, &piece[..end])?;
+    words.push(word)?;
+    Ok(())
+}
