@@ -36,7 +36,7 @@ class_fits x =
     fits_if (is_word_char x) _ _ (encode_utf8 x) (λ _. tt)
     (fits_if (x == 46) _ _ (encode_utf8 x) (ascii x 46 refl)
     (fits_if ((x == 45) || ((x == 95) || (x == 39))) _ _ (encode_utf8 x)
-      (ascii_or (x == 45) _ (encode_utf8 x) (ascii x 45 refl) (ascii_or (x == 95) _ (encode_utf8 x) (ascii x 95 refl) (ascii x 39 refl)))
+    (ascii_or (x == 45) _ (encode_utf8 x) (ascii x 45 refl) (ascii_or (x == 95) _ (encode_utf8 x) (ascii x 95 refl) (ascii x 39 refl)))
     (fits_if (x == 36) _ _ (encode_utf8 x) (ascii x 36 refl)
     (fits_if (x == 124) _ _ (encode_utf8 x) (ascii x 124 refl)
     (fits_if (x == 58) _ _ (encode_utf8 x) (ascii x 58 refl)

@@ -16,6 +16,8 @@ mod reply;
 mod request;
 mod steps;
 mod tails;
+#[cfg(test)]
+mod tests;
 
 pub use cs_base::Which;
 pub use fault::QueryFault;

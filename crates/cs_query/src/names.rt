@@ -13,9 +13,7 @@ pub fn is_name(word: &[u8]) -> bool
     match word {
         [] => false,
         [first, ..] => {
-            (*first).is_ascii_lowercase()
-                && has_name_chars(word)
-                && word.len() <= MAX_NAME_BYTES
+            (*first).is_ascii_lowercase() && has_name_chars(word) && word.len() <= MAX_NAME_BYTES
         }
     }
 }
