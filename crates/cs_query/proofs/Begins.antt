@@ -1,6 +1,7 @@
 -- A token that begins behind a tail to which its character doesn't belong.
 --
---   dot_begins, joiner_begins, gap_begins     the tokens with the new one
+--   dot_begins, gap_begins                    the tokens with the new one
+--   joiner_as_dot                             a dash, a low line or an apostrophe lengthens or begins a run as a dot does
 --   run_fine, gap_fine                        it isn't refused, but behind a bar
 --   front                                     a word that begins at the start, behind a gap or behind an opening bracket
 use Rattle.std.proofs.Common.{◌≡◌, ◌⊎◌, ℕ, List, ◌∷◌, length, refl, sym, subst, false, inl, inr}
@@ -26,17 +27,17 @@ dot_begins tails.Bar x rest h = refl
 dot_begins tails.Open x rest h = refl
 dot_begins tails.Close x rest h = refl
 
-pub joiner_begins : (t : Tail) (x : List ℕ) (rest : List Token) → ((s : Spot) (r : Text) → t ≡ tails.Run s r → ⊥) → ((n v : Text) → t ≡ tails.Value n v → ⊥)
-    → grown c.Joiner x (held t rest) ≡ Run x ∷ held t rest
-joiner_begins tails.Start x rest h k = refl
-joiner_begins (tails.Gap n) x rest h k = refl
-joiner_begins (tails.Run s r) x rest h k = absurd (h s r refl)
-joiner_begins (tails.Word w) x rest h k = refl
-joiner_begins (tails.Value n v) x rest h k = absurd (k n v refl)
-joiner_begins tails.Dollar x rest h k = refl
-joiner_begins tails.Bar x rest h k = refl
-joiner_begins tails.Open x rest h k = refl
-joiner_begins tails.Close x rest h k = refl
+-- but behind a value, a dash, a low line and an apostrophe go as a dot
+pub joiner_as_dot : (t : Tail) (x : List ℕ) (rest : List Token) → ((n v : Text) → t ≡ tails.Value n v → ⊥) → grown c.Joiner x (held t rest) ≡ grown c.Dot x (held t rest)
+joiner_as_dot tails.Start x rest h = refl
+joiner_as_dot (tails.Gap n) x rest h = refl
+joiner_as_dot (tails.Run s r) x rest h = refl
+joiner_as_dot (tails.Word w) x rest h = refl
+joiner_as_dot (tails.Value n v) x rest h = absurd (h n v refl)
+joiner_as_dot tails.Dollar x rest h = refl
+joiner_as_dot tails.Bar x rest h = refl
+joiner_as_dot tails.Open x rest h = refl
+joiner_as_dot tails.Close x rest h = refl
 
 pub gap_begins : (t : Tail) (x : List ℕ) (rest : List Token) → ((n : ℕ) → t ≡ tails.Gap n → ⊥) → grown c.Other x (held t rest) ≡ Gap (length x) ∷ held t rest
 gap_begins tails.Start x rest h = refl

@@ -14,6 +14,8 @@ mod parsing;
 mod reader;
 mod reply;
 mod request;
+mod runs;
+mod signs;
 mod steps;
 mod tails;
 #[cfg(test)]

@@ -49,7 +49,8 @@ fn read(alloc: Global, key: &str) -> Result<Query, QueryFault>
         };
         at += c.len_utf8() as u32;
     }
-    match finish(alloc, reader) {
+    let ended = finish(alloc, reader);
+    match ended {
         Ok(query) => Ok(query),
         Err(_) => Err(QueryFault::Memory),
     }

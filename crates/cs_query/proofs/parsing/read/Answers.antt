@@ -28,7 +28,7 @@ loop-c-preserved c =
     one_more cs n c.loop-c.at c.in-Some.c c.loop-c.reader c.in-Ok.next h t.0 same (c.in-Ok.ensures h.follows.0 h.follows.2) in
     rw (length_push c.loop-c.yielded c.in-Some.c, c.len_utf8.ensures.len) next
 
-pub returns-in-Ok-finish : goal.returns-in-Ok-finish
-returns-in-Ok-finish c =
+pub returns-in-Ok-ended : goal.returns-in-Ok-ended
+returns-in-Ok-ended c =
     let t = YieldsList-end (YieldsList-from_chars c.args.key.now c.utf8.key cc) c.loop-c.yielded _ c.loop-c.yielded_by _ _ c.in-None.is c.next.ensures.steps in
-    at_end (chars c.args.key.now) (length c.loop-c.yielded) c.loop-c.at c.loop-c.reader c.in-Ok-finish.query (omega (arith, t.1)) c.loop-c.invariant c.in-Ok-finish.ensures
+    at_end (chars c.args.key.now) (length c.loop-c.yielded) c.loop-c.at c.loop-c.reader c.in-Ok-ended.query (omega (arith, t.1)) c.loop-c.invariant c.in-Ok-ended.ensures
