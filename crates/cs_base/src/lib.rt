@@ -17,15 +17,15 @@ mod word;
 pub use doc::{Base, Doc, Post, Row, Scored};
 pub use hub::{Event, Hub};
 pub use limits::{
-    DEFAULT_COMPLETIONS, DEFAULT_HITS, MAX_COLLECTION_BYTES, MAX_DOC_WORDS, MAX_DOCS,
-    MAX_LINE_BYTES, MAX_NAME_BYTES, MAX_OFFSET, MAX_PLAIN_WORD_BYTES, MAX_POSITION, MAX_ROWS,
-    MAX_SHOWN, MAX_WORD_BYTES, MAX_WORDS,
+    DEFAULT_COMPLETIONS, DEFAULT_HITS, MAX_ATOMS, MAX_COLLECTION_BYTES, MAX_DEPTH, MAX_DOC_WORDS,
+    MAX_DOCS, MAX_LINE_BYTES, MAX_NAME_BYTES, MAX_OFFSET, MAX_PARTS, MAX_PLAIN_WORD_BYTES,
+    MAX_POSITION, MAX_QUERY_BYTES, MAX_ROWS, MAX_SHOWN, MAX_WORD_BYTES, MAX_WORDS,
 };
 pub use mem_files::MemFiles;
 pub use mem_sink::MemSink;
 pub use memory::Memory;
 pub use outside::{Failed, Files, Sink};
-pub use query::{Atom, Chain, Link, Linked, Part, Query};
+pub use query::{Atom, Chain, Link, Linked, Part, Query, Which};
 pub use script_hub::{ScriptHub, Scripted};
 pub use seq::Seq;
 pub use text::Text;

@@ -41,3 +41,15 @@ pub const DEFAULT_HITS: u32 = 10;
 
 /// The completions, and facet words of each table, that are shown where a request doesn't say.
 pub const DEFAULT_COMPLETIONS: u32 = 10;
+
+/// The most bytes of a query's key text, where each bracket that is open counts as one byte more.
+pub const MAX_QUERY_BYTES: usize = 1024;
+
+/// The most parts of a query, over all its brackets.
+pub const MAX_PARTS: usize = 16;
+
+/// The most atoms of a query, joins included.
+pub const MAX_ATOMS: usize = 32;
+
+/// The most brackets that are open at one place of a query.
+pub const MAX_DEPTH: usize = 3;

@@ -10,6 +10,21 @@ pub enum Link {
     Near,
 }
 
+/// The limits of a query's text, in the order in which they are named.
+#[derive(Clone, Copy, Debug, PartialEq, Eq, Drop)]
+pub enum Which {
+    /// The bytes of the text, each open bracket counted as one more.
+    Query,
+    /// The bytes of one word or value.
+    Word,
+    /// The parts, over all brackets.
+    Parts,
+    /// The atoms, joins included.
+    Atoms,
+    /// The brackets that are open at one place.
+    Depth,
+}
+
 /// A query. A document is a hit where it has a row of every positive part and none of an excluded one.
 #[cycle(query)]
 #[derive(Drop)]

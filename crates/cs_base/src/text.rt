@@ -1,5 +1,5 @@
 //! Owned text.
-ghost use Rattle.std.specs.Prelude.{◌≡◌, IfOk};
+ghost use Rattle.std.specs.Prelude.{◌≡◌, [], ◌++◌, length, encode_utf8, IfOk, OnOk, OnErr};
 ghost use Rattle.std.specs.String.{string_bytes};
 
 use crate::Memory;
@@ -22,6 +22,15 @@ impl Model for Text {
 }
 
 impl Text {
+    /// The empty text. It takes no memory, and keeps the allocator for later calls.
+    pub fn new(alloc: Global) -> Text
+        ensures { result ≡ [] }
+    {
+        Text {
+            held: String::new(alloc),
+        }
+    }
+
     /// The text of `s`, in memory of its own.
     pub fn from_str(alloc: Global, s: &str) -> Result<Text, Memory>
         ensures ok { IfOk result (λ t. t ≡ s.now) }
@@ -49,5 +58,30 @@ impl Text {
         ensures ok { IfOk result (λ t. t ≡ self.now) }
     {
         Text::from_str(alloc, self.as_str())
+    }
+
+    /// How many bytes it has.
+    pub fn len(&self) -> usize
+        ensures { result ≡ length self.now }
+    {
+        self.held.as_str().len()
+    }
+
+    /// Adds a character at the end.
+    pub fn push(&mut self, c: char) -> Result<(), Memory>
+        ensures ok { OnOk result (self.new ≡ self.old ++ encode_utf8 c) }
+        ensures err { OnErr result (self.new ≡ self.old) }
+    {
+        self.held.push(c)?;
+        Ok(())
+    }
+
+    /// Adds a text at the end.
+    pub fn push_str(&mut self, s: &str) -> Result<(), Memory>
+        ensures ok { OnOk result (self.new ≡ self.old ++ s.now) }
+        ensures err { OnErr result (self.new ≡ self.old) }
+    {
+        self.held.push_str(s)?;
+        Ok(())
     }
 }

@@ -9,8 +9,8 @@ use Rattle.std.specs.Prelude.{ℕ, List, codes}
 use Rattle.serde_json.specs.Data.{Data}
 use Rattle.serde_json.specs.Written.{compact_text}
 use Rattle.cs_model.specs.Faults.{error_data, bad_data, limit_data, param_data, changed_data}
-use Rattle.cs_query.specs.declared.fault.Which.{Which}
-use Rattle.cs_query.specs.declared.fault.Which.TheVariants as limits
+use Rattle.cs_base.specs.declared.query.Which.{Which}
+use Rattle.cs_base.specs.declared.query.Which.TheVariants as limits
 use Rattle.cs_query.specs.declared.request.Param.{Param}
 use Rattle.cs_query.specs.declared.request.Param.TheVariants as params
 use Rattle.cs_query.specs.declared.request.ReqFault.{ReqFault}

@@ -1,2 +1,3 @@
-pub mod AsciiLemmas
 pub mod AnswersLemmas
+pub mod AsciiLemmas
+pub mod QueryExamples

@@ -3,8 +3,11 @@ pub mod Ascii
 pub mod Collection
 pub mod Corpus
 pub mod Faults
+pub mod Grammar
 pub mod KeyText
 pub mod Outputs
+pub mod Refusals
 pub mod Replies
 pub mod Requests
+pub mod Tokens
 pub mod Words

@@ -1,12 +1,28 @@
-//! The types of requests and replies.
+//! Queries, requests and replies: reads a query's text, and has the types that requests and replies are handed on in.
 //!
-//! Contracts see a reply as the record of that name in `cs_model`, whose text is defined there.
+//! What a text means, and which character of it is refused, stands in `cs_model`'s `specs/Grammar.antt`
+//! and `specs/Refusals.antt`. Contracts see a reply as the record of that name in `cs_model`, whose text
+//! is defined there. Nothing here knows a collection.
 #![tactic(auto)]
 
+mod attaching;
+mod beginnings;
+mod classes;
 mod fault;
+mod names;
+mod parsing;
+mod reader;
 mod reply;
 mod request;
+mod runs;
+mod signs;
+mod steps;
+mod tails;
+#[cfg(test)]
+mod tests;
 
-pub use fault::Which;
+pub use cs_base::Which;
+pub use fault::QueryFault;
+pub use parsing::parse;
 pub use reply::{FacetShown, HitShown, Reply, Shown};
 pub use request::{Param, ReqFault, Request};

@@ -9,6 +9,8 @@ mod character;
 mod key_text;
 mod listing;
 mod piece;
+#[cfg(test)]
+mod tests;
 mod value;
 
 pub use character::is_word_char;

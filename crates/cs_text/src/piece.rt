@@ -42,7 +42,7 @@ pub(crate) fn push_ascii_word(
         return Ok(());
     }
     let end = piece.len().min(MAX_PLAIN_WORD_BYTES);
-    let word = Word::new(alloc, &piece[..end])?;
-    words.push(word)?;
+    let cut = Word::new(alloc, &piece[..end])?;
+    words.push(cut)?;
     Ok(())
 }

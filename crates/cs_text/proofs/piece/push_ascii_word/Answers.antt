@@ -4,6 +4,6 @@ use Rattle.cs_text.proofs.piece.push_ascii_word.Goals as goal
 
 pub returns-clause-ok : goal.returns-clause-ok
 returns-clause-ok c =
-    let word = c.in_ok-word.ensures.ok ∙ ap (λ n. take n c.args.piece.now) c.min-end.ensures ∙ take-min 120 c.args.piece.now in
+    let word = c.in_ok-cut.ensures.ok ∙ ap (λ n. take n c.args.piece.now) c.min-end.ensures ∙ take-min 120 c.args.piece.now in
     c.in_ok-push.ensures.ok ∙ ap (λ w. c.args.words.now ++ w ∷ []) word
     ∙ ap (λ ws. c.args.words.now ++ ws) (sym (ascii_words_in-some c.args.piece.now (sym c.if-is_empty.ensures)))

@@ -1,0 +1,11 @@
+//! Columns of posts: a list of posts that keeps each of its four numbers in a column of its own.
+//!
+//! Callers see `Cols` as the list of its posts and, beside it, its spare room: how many posts it
+//! can still take without asking for memory. How the columns lie in memory is in no clause.
+#![tactic(auto)]
+
+mod cols;
+#[cfg(test)]
+mod tests;
+
+pub use cols::Cols;

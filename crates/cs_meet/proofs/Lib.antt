@@ -1,0 +1,6 @@
+pub mod Passes
+pub mod Judged
+pub mod Ascent
+pub mod Listed
+pub mod Ordered
+pub mod United

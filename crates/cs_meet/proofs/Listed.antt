@@ -1,0 +1,60 @@
+-- A pass over rows beside listed documents.
+use Rattle.std.proofs.Common.{◌≡◌, ℕ, ◌+◌, ◌<◌, ◌≤◌, true, false, List, length, get_or, refl, sym, ◌∙◌, subst, arith}
+use Rattle.std.specs.Prelude.{◌==◌, nat_lt}
+use Rattle.std.specs.List.{list_any}
+use Rattle.std.proofs.lemmas.List.{get_or_default}
+use Rattle.std.proofs.lemmas.Map.Keys.{Less-from_sorted, below_from_sorted}
+use Rattle.std.proofs.lemmas.Bool.Decides.{nat_tests}
+use Rattle.cs_base.specs.declared.doc.Post.{Post}
+use Rattle.cs_base.specs.Orders.{by_place}
+use Rattle.cs_meet.specs.Filters.{AreSorted, AreDocs, in_doc}
+use Rattle.cs_meet.specs.Places.{AllBelow, SplitsDocs}
+use Rattle.cs_meet.proofs.Passes.{any_at, none_at, IsUpTo, up_to}
+
+module _ (docs : List ℕ) (n : ℕ) (r : Post) (split : SplitsDocs docs n r.doc) where
+  -- at the end the document isn't listed
+  pub listed_past : length docs ≤ n → list_any (in_doc r) docs ≡ false
+  listed_past past = none_at (in_doc r) docs 0 (λ k below.
+      let less = split.below k (omega arith) in
+      grind (arith, nat_tests, less))
+
+  listed_other : AreDocs docs → n < length docs → in_doc r (get_or docs n 0) ≡ false → list_any (in_doc r) docs ≡ false
+  listed_other up within other = none_at (in_doc r) docs 0 (λ k below.
+      elim (nat_lt k n) as (λ t. nat_lt k n ≡ t → in_doc r (get_or docs k 0) ≡ false) [
+        | true ↦ λ t.
+            let less = split.below k (grind (arith, nat_tests)) in
+            grind (arith, nat_tests, less)
+        | false ↦ λ t. elim (nat_lt n k) as (λ u. nat_lt n k ≡ u → in_doc r (get_or docs k 0) ≡ false) [
+          | true ↦ λ u.
+              let more = below_from_sorted docs n k 0 up (grind (arith, nat_tests)) below in
+              let stop = split.stop within in
+              grind (arith, nat_tests, more, stop)
+          | false ↦ λ u.
+              let same : n ≡ k = grind (arith, nat_tests) in
+              subst (λ m. in_doc r (get_or docs m 0) ≡ false) same other
+        ] refl
+      ] refl)
+
+  -- within the list the document there decides
+  pub listed_at : AreDocs docs → n < length docs → (get_or docs n 0 == r.doc) ≡ list_any (in_doc r) docs
+  listed_at up within =
+      elim (in_doc r (get_or docs n 0)) as (λ v. in_doc r (get_or docs n 0) ≡ v → v ≡ list_any (in_doc r) docs) [
+        | true ↦ λ here. sym (any_at (in_doc r) docs n 0 within here)
+        | false ↦ λ other. sym (listed_other up within other)
+      ] refl
+
+-- the documents before i are less than those of the rows from j on
+pub record AheadOfRows (docs : List ℕ) (rows : List Post) (i j : ℕ) : Type 0 where
+  pub within : i ≤ length docs
+  pub below : (m : ℕ) (e : Post) → j ≤ m → m < length rows → AllBelow docs i (get_or rows m e).doc
+
+module _ (docs : List ℕ) (rows : List Post) where
+  pub listed_more : (n j : ℕ) (r : Post) → AreSorted rows → j < length rows → r ≡ get_or rows j r → SplitsDocs docs n r.doc → AheadOfRows docs rows n (j + 1)
+  listed_more n j r up l is split = record {
+    within = split.within;
+    below = λ m e from in_rows k h.
+        let later : IsUpTo r.doc r.pos (get_or rows m e).doc (get_or rows m e).pos =
+        subst (λ y. IsUpTo y.doc y.pos (get_or rows m e).doc (get_or rows m e).pos) (sym (is ∙ get_or_default rows j r e l)) (up_to (get_or rows j e) (get_or rows m e) (Less-from_sorted by_place rows j m e up (omega arith) in_rows)) in
+        let less = split.below k h in
+        grind (arith, later, less);
+  }

@@ -1,0 +1,87 @@
+-- How far a pass over two sorted lists has come.
+use Rattle.std.proofs.Common.{◌≡◌, ℕ, zero, suc, ◌+◌, ◌-◌, ◌<◌, ◌≤◌, ◌||◌, Bool, true, false, List, [], ◌∷◌, ◌++◌, length, drop, get_or, cond, append_assoc, append-nil, refl, sym, ◌∙◌, ap, subst, arith}
+use Rattle.std.specs.Prelude.{◌⊎◌, max}
+use Rattle.std.specs.declared.cmp.Ordering.{Ordering}
+use Rattle.std.specs.declared.cmp.Ordering.TheVariants.{Less}
+use Rattle.std.specs.List.{list_any, filter}
+use Rattle.std.specs.List.Sorted.{IsStrictlySortedBy}
+use Rattle.std.proofs.lemmas.List.{drop_more, get_or_default, drop_all}
+use Rattle.std.proofs.lemmas.List.Folds.{list_any_none}
+use Rattle.std.proofs.lemmas.List.Elements.{All-from_get_or}
+use Rattle.std.proofs.lemmas.Map.Keys.{Less-from_sorted}
+use Rattle.std.proofs.lemmas.Bool.Decides.{nat_tests}
+use Rattle.cs_base.specs.declared.doc.Post.{Post}
+use Rattle.cs_base.specs.declared.doc.Scored.{Scored}
+use Rattle.cs_base.specs.Orders.{by_place}
+use Rattle.cs_meet.specs.Filters.{by_doc}
+use Rattle.cs_meet.specs.Places.{is_before, AllBefore, Splits}
+
+-- one place that passes is enough
+pub any_at : {X : Type 0} (p : X → Bool) (xs : List X) (i : ℕ) (d : X) → i < length xs → p (get_or xs i d) ≡ true → list_any p xs ≡ true
+any_at p [] i d l h = absurd (omega arith)
+any_at p (x ∷ xs) zero d l h = ap (λ b. b || list_any p xs) h
+any_at p (x ∷ xs) (suc i) d l h = grind (arith, any_at p xs i d (omega arith) h)
+
+-- no place passes
+pub none_at : {X : Type 0} (p : X → Bool) (xs : List X) (d : X) → ((k : ℕ) → k < length xs → p (get_or xs k d) ≡ false) → list_any p xs ≡ false
+none_at p xs d none = list_any_none p xs (All-from_get_or (λ x. p x ≡ false) xs d none)
+
+settle : {X : Type 0} (t : Bool) (done rest : List X) (x : X) → done ++ cond t (x ∷ rest) rest ≡ cond t (done ++ x ∷ []) done ++ rest
+settle true done rest x = sym (append_assoc done (x ∷ []) rest)
+settle false done rest x = refl
+
+-- one more entry is judged
+pub filter_more : {X : Type 0} (p : X → Bool) (whole done b : List X) (j : ℕ) (x : X) (t : Bool) → whole ≡ done ++ filter p (drop j b) → j < length b → x ≡ get_or b j x → t ≡ p x → whole ≡ cond t (done ++ x ∷ []) done ++ filter p (drop (j + 1) b)
+filter_more p whole done b j x t told l is same =
+    let rest : filter p (drop j b) ≡ cond (p x) (x ∷ filter p (drop (j + 1) b)) (filter p (drop (j + 1) b)) = ap (filter p) (drop_more b j x l ∙ ap (λ r. r ∷ drop (j + 1) b) (sym is)) in
+    told ∙ ap (λ r. done ++ r) (rest ∙ ap (λ u. cond u (x ∷ filter p (drop (j + 1) b)) (filter p (drop (j + 1) b))) (sym same))
+    ∙ settle t done (filter p (drop (j + 1) b)) x
+
+-- all are judged
+pub filter_all : {X : Type 0} (p : X → Bool) (whole done b : List X) (j : ℕ) → whole ≡ done ++ filter p (drop j b) → length b ≤ j → done ≡ whole
+filter_all p whole done b j told l = sym (told ∙ ap (λ r. done ++ filter p r) (drop_all j b l) ∙ append-nil done)
+
+-- x asks for an earlier place than y, or the same
+abbrev pub IsUpTo : ℕ → ℕ → ℕ → ℕ → Type 0
+IsUpTo d p e q = (d < e) ⊎ ((d ≡ e) × (p ≤ q))
+
+pub before_stays : (x : Post) (d p e q : ℕ) → IsUpTo d p e q → is_before x d p ≡ true → is_before x e q ≡ true
+before_stays x d p e q up h = grind (arith, nat_tests)
+
+pub up_to : (x y : Post) → by_place x y ≡ Less → IsUpTo x.doc x.pos y.doc y.pos
+up_to x y h = grind (arith, nat_tests)
+
+-- what rows ask for rises with them: the place before a row, the first of its window, the place behind it
+pub rises_behind : (x y : Post) → by_place x y ≡ Less → IsUpTo x.doc (x.pos - 1) y.doc (y.pos - 1)
+rises_behind x y h = grind (arith, nat_tests)
+
+pub rises_window : (x y : Post) → by_place x y ≡ Less → IsUpTo x.doc (max (x.pos - 8) 1) y.doc (max (y.pos - 8) 1)
+rises_window x y h = grind (arith, nat_tests)
+
+pub rises_past : (x y : Post) → by_place x y ≡ Less → IsUpTo x.doc (x.pos + 1) y.doc (y.pos + 1)
+rises_past x y h = grind (arith, nat_tests)
+
+-- and so does the start of a document
+pub rises_by_doc : (x y : Scored) → by_doc x y ≡ Less → IsUpTo x.doc 0 y.doc 0
+rises_by_doc x y h = grind (arith, nat_tests)
+
+-- the posts of a before i stand before the place that each entry of b from j on asks for
+pub record Ahead {B : Type 0} (doc pos : B → ℕ) (a : List Post) (b : List B) (i j : ℕ) : Type 0 where
+  pub within : i ≤ length a
+  pub before : (m : ℕ) (e : B) → j ≤ m → m < length b → AllBefore a i (doc (get_or b m e)) (pos (get_or b m e))
+
+module _ {B : Type 0} (R : B → B → Ordering) (doc pos : B → ℕ) (rises : (x y : B) → R x y ≡ Less → IsUpTo (doc x) (pos x) (doc y) (pos y)) (a : List Post) (b : List B) where
+  pub ahead_first : Ahead doc pos a b 0 0
+  ahead_first = record { within = omega arith; before = λ m e _ _ k d h. absurd (omega arith) }
+
+  pub ahead_here : (i j : ℕ) (x : B) → Ahead doc pos a b i j → j < length b → x ≡ get_or b j x → AllBefore a i (doc x) (pos x)
+  ahead_here i j x h l is = subst (λ y. AllBefore a i (doc y) (pos y)) (sym is) (h.before j x (omega arith) l)
+
+  pub ahead_more : (n j : ℕ) (x : B) → IsStrictlySortedBy R b → j < length b → x ≡ get_or b j x → Splits a n (doc x) (pos x) → Ahead doc pos a b n (j + 1)
+  ahead_more n j x up l is split = record {
+    within = split.within;
+    before = λ m e from below k d h.
+        let later : IsUpTo (doc x) (pos x) (doc (get_or b m e)) (pos (get_or b m e)) =
+        subst (λ y. IsUpTo (doc y) (pos y) (doc (get_or b m e)) (pos (get_or b m e))) (sym (is ∙ get_or_default b j x e l)) (rises _ _ (Less-from_sorted R b j m e up (omega arith) below)) in
+        before_stays (get_or a k d) (doc x) (pos x) (doc (get_or b m e)) (pos (get_or b m e)) later (split.before k d h);
+  }

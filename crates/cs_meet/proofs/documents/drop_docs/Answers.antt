@@ -1,0 +1,33 @@
+use Rattle.std.proofs.Common.{◌≡◌, arith, not, get_or, ap}
+use Rattle.std.specs.List.{list_any}
+use Rattle.std.proofs.lemmas.List.{get_or_default}
+use Rattle.std.proofs.lemmas.List.Kept.{IsStrictlySortedBy-filter}
+use Rattle.cs_base.specs.declared.doc.Scored.{Scored}
+use Rattle.cs_meet.specs.Filters.{by_doc, is_of}
+use Rattle.cs_meet.proofs.Passes.{filter_more, filter_all, ahead_more, rises_by_doc}
+use Rattle.cs_meet.proofs.documents.drop_docs.Goals as goal
+
+abbrev blank : Scored
+blank = record { doc = 0; score = 0 }
+
+pub loop-scored-preserved : goal.loop-scored-preserved
+loop-scored-preserved c =
+    let base = c.args.base.now in
+    let rows = c.args.rows.now.posts in
+    let j = c.loop-scored.scored-index in
+    let h = get_or base j blank in
+    let is : h ≡ get_or base j h = get_or_default base j blank h c.loop-scored-test.true in
+    record {
+      told = rw c.keep_where.ensures.items
+          (filter_more (λ x. not (list_any (is_of x) rows)) _ c.loop-scored.kept.items base j h (not c.has_row.result) c.loop-scored.invariant.told c.loop-scored-test.true is (ap not c.has_row.ensures));
+      ahead = ahead_more by_doc (λ x. x.doc) (λ x. 0) rises_by_doc rows base c.skip_to-i.result j h c.requires.base_sorted c.loop-scored-test.true is c.skip_to-i.ensures;
+      few = omega arith;
+      room = omega arith;
+    }
+
+pub returns-clause-sorted : goal.returns-clause-sorted
+returns-clause-sorted c =
+    let base = c.args.base.now in
+    let rows = c.args.rows.now.posts in
+    let all = filter_all (λ x. not (list_any (is_of x) rows)) _ c.loop-scored.kept.items base c.loop-scored.scored-index c.loop-scored.invariant.told (omega arith) in
+    rw (c.from_vec.ensures, all) (IsStrictlySortedBy-filter by_doc (λ x. not (list_any (is_of x) rows)) base c.requires.base_sorted)

@@ -1,0 +1,27 @@
+use Rattle.std.proofs.Common.{arith}
+use Rattle.std.specs.List.{list_any}
+use Rattle.std.proofs.lemmas.List.Kept.{IsStrictlySortedBy-filter}
+use Rattle.cs_base.specs.Orders.{by_place}
+use Rattle.cs_meet.specs.Filters.{in_doc}
+use Rattle.cs_meet.proofs.Passes.{filter_more, filter_all}
+use Rattle.cs_meet.proofs.Listed.{listed_more}
+use Rattle.cs_meet.proofs.documents.keep_docs.Goals as goal
+
+pub loop-j-preserved : goal.loop-j-preserved
+loop-j-preserved c =
+    let docs = c.args.docs.now in
+    let rows = c.args.rows.now.posts in
+    let row = c.get-row.result in
+    record {
+      told = rw c.add_where.ensures.posts
+          (filter_more (λ r. list_any (in_doc r) docs) _ c.loop-j.found.posts rows c.loop-j.j row c.is_listed.result c.loop-j.invariant.told (omega arith) c.get-row.ensures c.is_listed.ensures);
+      ahead = listed_more docs rows c.skip_docs-i.result c.loop-j.j row c.requires.rows_sorted (omega arith) c.get-row.ensures c.skip_docs-i.ensures;
+      room = omega arith;
+    }
+
+pub returns-clause-sorted : goal.returns-clause-sorted
+returns-clause-sorted c =
+    let docs = c.args.docs.now in
+    let rows = c.args.rows.now.posts in
+    let all = filter_all (λ r. list_any (in_doc r) docs) _ c.loop-j.found.posts rows c.loop-j.j c.loop-j.invariant.told (omega arith) in
+    rw all (IsStrictlySortedBy-filter by_place (λ r. list_any (in_doc r) docs) rows c.requires.rows_sorted)

@@ -1,0 +1,12 @@
+use Rattle.std.proofs.Common.{◌≡◌, ◌+◌, ◌-◌, ◌≤◌, ◌++◌, length, drop}
+use Rattle.cs_base.specs.declared.doc.Post.{Post}
+use Rattle.cs_meet.specs.Filters.{follow}
+use Rattle.cs_meet.proofs.Passes.{Ahead}
+use Rattle.cs_meet.proofs.links.follow.Given as goal
+
+abbrev pub invariant-loop-j : goal.invariant-loop-j
+invariant-loop-j l = record {
+  told : follow l.a.posts l.b.posts ≡ l.found.posts ++ follow l.a.posts (drop l.j l.b.posts);
+  ahead : Ahead (λ (r : Post). r.doc) (λ (r : Post). r.pos - 1) l.a.posts l.b.posts l.i l.j;
+  room : length l.b.posts ≤ l.found.room + l.j;
+}

@@ -1,0 +1,33 @@
+use Rattle.std.proofs.Common.{◌≡◌, ◌+◌, ◌-◌, arith, subst}
+use Rattle.std.specs.Prelude.{max}
+use Rattle.std.specs.List.{list_any}
+use Rattle.std.proofs.lemmas.List.Kept.{IsStrictlySortedBy-filter}
+use Rattle.cs_base.specs.Orders.{by_place}
+use Rattle.cs_meet.specs.Filters.{is_near}
+use Rattle.cs_meet.specs.Places.{Splits}
+use Rattle.cs_meet.proofs.Passes.{filter_more, filter_all, ahead_more, rises_window, rises_past}
+use Rattle.cs_meet.proofs.links.near.Goals as goal
+
+pub loop-j-preserved : goal.loop-j-preserved
+loop-j-preserved c =
+    let a = c.args.a.now.posts in
+    let b = c.args.b.now.posts in
+    let row = c.get-row.result in
+    let first : c.max.result ≡ max (row.pos - 8) 1 = omega arith in
+    let behind : c.from-pos.result + 1 ≡ row.pos + 1 = omega arith in
+    let window = subst (λ p. Splits a c.skip_to-lo.result row.doc p) first c.skip_to-lo.ensures in
+    let past = subst (λ p. Splits a c.skip_to-hi.result row.doc p) behind c.skip_to-hi.ensures in
+    record {
+      told = rw c.add_where.ensures.posts
+          (filter_more (λ r. list_any (is_near r) a) _ c.loop-j.found.posts b c.loop-j.j row c.has_neighbour.result c.loop-j.invariant.told (omega arith) c.get-row.ensures c.has_neighbour.ensures);
+      first = ahead_more by_place (λ r. r.doc) (λ r. max (r.pos - 8) 1) rises_window a b c.skip_to-lo.result c.loop-j.j row c.requires.b_sorted (omega arith) c.get-row.ensures window;
+      behind = ahead_more by_place (λ r. r.doc) (λ r. r.pos + 1) rises_past a b c.skip_to-hi.result c.loop-j.j row c.requires.b_sorted (omega arith) c.get-row.ensures past;
+      room = omega arith;
+    }
+
+pub returns-clause-sorted : goal.returns-clause-sorted
+returns-clause-sorted c =
+    let a = c.args.a.now.posts in
+    let b = c.args.b.now.posts in
+    let all = filter_all (λ r. list_any (is_near r) a) _ c.loop-j.found.posts b c.loop-j.j c.loop-j.invariant.told (omega arith) in
+    rw all (IsStrictlySortedBy-filter by_place (λ r. list_any (is_near r) a) b c.requires.b_sorted)

@@ -1,0 +1,17 @@
+use Rattle.std.proofs.Common.{◌≡◌, ◌+◌, ◌-◌, ◌≤◌, ◌∷◌, ◌++◌, List, length, drop}
+use Rattle.cs_base.specs.declared.doc.Post.{Post}
+use Rattle.cs_meet.specs.Filters.{AreSorted}
+use Rattle.cs_meet.specs.Places.{AllLess}
+use Rattle.cs_meet.proofs.union.take_until.Given as goal
+
+abbrev pub invariant-loop-at : goal.invariant-loop-at
+invariant-loop-at l = record {
+  within : l.at ≤ length l.posts.posts;
+  less : AllLess l.posts.posts l.at l.row;
+  moved : l.found.posts ++ drop l.at l.posts.posts ≡ l.initial.found.posts ++ drop l.from l.posts.posts;
+  order : (rest : List Post) → AreSorted (l.initial.found.posts ++ drop l.from l.posts.posts) → AreSorted (l.initial.found.posts ++ l.row ∷ rest) → AreSorted (l.found.posts ++ l.row ∷ rest);
+  room : l.initial.found.room + l.from ≤ l.found.room + l.at;
+}
+
+abbrev pub decreases-loop-at : goal.decreases-loop-at
+decreases-loop-at l = length l.posts.posts - l.at

@@ -1,0 +1,54 @@
+-- What a pass over sorted posts knows on its way.
+--
+--   is_before x d p          x stands in an earlier document than d, or in d before position p
+--   AllBefore posts n d p    the first n posts are before position p of document d
+--   Splits posts n d p       n is the first place that isn't before position p of document d
+--   AllBelow docs n d        the first n documents are less than d
+--   SplitsDocs docs n d      n is the first place whose document isn't less than d
+--   AllLess posts n r        the first n posts come before r, by document, position and word
+--   Parts posts n r          n is the first place that doesn't come before r
+--   near_at posts n r        there is a post at n, and it stands near r
+use Rattle.std.specs.Prelude.{◌≡◌, ℕ, ◌<◌, ◌≤◌, Bool, true, false, ◌&&◌, ◌||◌, ◌==◌, nat_lt, List, length, slice_index_or, slice_index}
+use Rattle.std.specs.Ordering.{is_lt}
+use Rattle.std.specs.declared.cmp.Ordering.TheVariants.{Less}
+use Rattle.cs_base.specs.declared.doc.Post.{Post}
+use Rattle.cs_base.specs.Orders.{by_place}
+use Rattle.cs_meet.specs.Filters.{is_near}
+
+-- x stands in an earlier document than d, or in d before position p
+abbrev pub is_before : Post → ℕ → ℕ → Bool
+is_before x d p = nat_lt x.doc d || ((x.doc == d) && nat_lt x.pos p)
+
+-- the first n posts are before position p of document d
+abbrev pub AllBefore : List Post → ℕ → ℕ → ℕ → Type 0
+AllBefore posts n d p = (k : ℕ) (e : Post) → k < n → is_before (slice_index_or posts k e) d p ≡ true
+
+-- n is the first place that isn't before position p of document d, or the end
+pub record Splits (posts : List Post) (n d p : ℕ) : Type 0 where
+  pub within : n ≤ length posts
+  pub before : AllBefore posts n d p
+  pub stop : (e : Post) → n < length posts → is_before (slice_index_or posts n e) d p ≡ false
+
+-- there is a post at n, and it stands near r
+abbrev pub near_at : List Post → ℕ → Post → Bool
+near_at posts n r = nat_lt n (length posts) && is_near r (slice_index_or posts n r)
+
+-- the first n documents are less than d
+abbrev pub AllBelow : List ℕ → ℕ → ℕ → Type 0
+AllBelow docs n d = (k : ℕ) → k < n → slice_index docs k < d
+
+-- n is the first place whose document isn't less than d, or the end
+pub record SplitsDocs (docs : List ℕ) (n d : ℕ) : Type 0 where
+  pub within : n ≤ length docs
+  pub below : AllBelow docs n d
+  pub stop : n < length docs → d ≤ slice_index docs n
+
+-- the first n posts come before r
+abbrev pub AllLess : List Post → ℕ → Post → Type 0
+AllLess posts n r = (k : ℕ) (e : Post) → k < n → by_place (slice_index_or posts k e) r ≡ Less
+
+-- n is the first place that doesn't come before r, or the end
+pub record Parts (posts : List Post) (n : ℕ) (r : Post) : Type 0 where
+  pub within : n ≤ length posts
+  pub less : AllLess posts n r
+  pub stop : (e : Post) → n < length posts → is_lt (by_place (slice_index_or posts n e) r) ≡ false

@@ -1,0 +1,117 @@
+//! Rows by their documents, and documents by their rows.
+ghost use Rattle.std.specs.Prelude.{◌≡◌, ◌+◌, ◌≤◌, ◌<◌, [], ◌∷◌, ◌++◌, length, if◌then◌else◌, IfOk};
+ghost use Rattle.std.specs.List.{list_any};
+ghost use Rattle.std.specs.Vec.{vec_len, vec_capacity};
+ghost use Rattle.cs_meet.specs.Filters.{AreSorted, AreDocs, AreByDoc, keep_docs, docs_of, drop_docs, in_doc, is_of};
+ghost use Rattle.cs_meet.specs.Places.{Splits, AllBelow, SplitsDocs};
+
+use crate::skip::{add_where, skip_to};
+use cs_base::{Memory, Post, Scored, Seq};
+use cs_cols::Cols;
+use std::alloc::Global;
+
+/// The rows whose document is one of `docs`.
+pub fn keep_docs(alloc: Global, rows: &Cols, docs: &[u32]) -> Result<Cols, Memory>
+    requires rows_sorted { AreSorted rows.now.posts }
+    requires docs_sorted { AreDocs docs.now }
+
+    ensures ok { IfOk result (λ c. c.posts ≡ keep_docs rows.now.posts docs.now) }
+    ensures sorted { IfOk result (λ c. AreSorted c.posts) }
+{
+    let mut found = Cols::new(alloc);
+    found.reserve(rows.len())?;
+    let mut i = 0;
+    for j in 0..rows.len() {
+        let row = rows.get(j);
+        i = skip_docs(docs, i, row.doc);
+        add_where(&mut found, is_listed(docs, i, row), row);
+    }
+    Ok(found)
+}
+
+/// The documents of the rows, ascending, each once.
+pub fn docs_of(alloc: Global, rows: &Cols) -> Result<Vec<u32>, Memory>
+    requires { AreSorted rows.now.posts }
+
+    ensures ok { IfOk result (λ docs. docs.items ≡ docs_of rows.now.posts) }
+    ensures sorted { IfOk result (λ docs. AreDocs docs.items) }
+{
+    let mut docs = Vec::from_slice(alloc, rows.docs())?;
+    docs.dedup();
+    Ok(docs)
+}
+
+/// Those of `base` whose document has none of the rows.
+pub fn drop_docs(alloc: Global, base: &[Scored], rows: &Cols) -> Result<Seq<Scored>, Memory>
+    requires base_sorted { AreByDoc base.now }
+    requires rows_sorted { AreSorted rows.now.posts }
+
+    ensures ok { IfOk result (λ kept. kept ≡ drop_docs base.now rows.now.posts) }
+    ensures sorted { IfOk result (λ kept. AreByDoc kept) }
+{
+    let mut kept = Vec::with_capacity(alloc, base.len())?;
+    let mut i = 0;
+    for scored in base {
+        i = skip_to(rows, i, scored.doc, 0);
+        keep_where(&mut kept, !has_row(rows, i, *scored), *scored);
+    }
+    Ok(Seq::from_vec(kept))
+}
+
+// The first place from `from` on whose document isn't less than `doc`.
+fn skip_docs(docs: &[u32], from: usize, doc: u32) -> usize
+    requires sorted { AreDocs docs.now }
+    requires within { from ≤ length docs.now }
+    requires below { AllBelow docs.now from doc }
+
+    ensures { SplitsDocs docs.now result doc }
+{
+    let mut at = from;
+    while at < docs.len() && docs[at] < doc {
+        at += 1;
+    }
+    at
+}
+
+// Whether the row's document is listed, where `i` is the first place that isn't less than it.
+#[inline]
+fn is_listed(docs: &[u32], i: usize, row: Post) -> bool
+    requires sorted { AreDocs docs.now }
+    requires splits { SplitsDocs docs.now i row.doc }
+
+    ensures { result ≡ list_any (in_doc row) docs.now }
+{
+    i < docs.len() && docs[i] == row.doc
+}
+
+// Whether a document has a row, where `i` is the first place that isn't before the document.
+#[inline]
+fn has_row(rows: &Cols, i: usize, scored: Scored) -> bool
+    requires sorted { AreSorted rows.now.posts }
+    requires splits { Splits rows.now.posts i scored.doc 0 }
+
+    ensures { result ≡ list_any (is_of scored) rows.now.posts }
+{
+    i < rows.len() && is_row_of(scored, rows.get(i))
+}
+
+#[inline]
+fn is_row_of(scored: Scored, row: Post) -> bool
+    ensures { result ≡ is_of scored row }
+{
+    row.doc == scored.doc
+}
+
+// Adds a scored document at the end, in the room that there is, where the test held.
+#[inline]
+fn keep_where(kept: &mut Vec<Scored>, holds: bool, scored: Scored)
+    requires { vec_len kept.old < vec_capacity kept.old }
+
+    ensures items { kept.new.items ≡ (if holds then kept.old.items ++ scored ∷ [] else kept.old.items) }
+    ensures len { vec_len kept.new ≤ vec_len kept.old + 1 }
+    ensures capacity { vec_capacity kept.new ≡ vec_capacity kept.old }
+{
+    if holds {
+        kept.push_reserved(scored);
+    }
+}

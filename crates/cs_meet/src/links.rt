@@ -1,0 +1,100 @@
+//! Rows that stand behind, or near, a row of another list.
+ghost use Rattle.std.specs.Prelude.{◌≡◌, ◌+◌, ◌-◌, length, max, IfOk};
+ghost use Rattle.std.specs.List.{list_any};
+ghost use Rattle.cs_meet.specs.Filters.{AreSorted, follow, near, stands_behind, is_near};
+ghost use Rattle.cs_meet.specs.Places.{Splits, near_at};
+
+use crate::skip::{add_where, skip_to};
+use cs_base::{Memory, Post};
+use cs_cols::Cols;
+use std::alloc::Global;
+
+/// The rows of b that stand one position behind a row of a, as in a phrase.
+pub fn follow(alloc: Global, a: &Cols, b: &Cols) -> Result<Cols, Memory>
+    requires a_sorted { AreSorted a.now.posts }
+    requires b_sorted { AreSorted b.now.posts }
+
+    ensures ok { IfOk result (λ c. c.posts ≡ follow a.now.posts b.now.posts) }
+    ensures sorted { IfOk result (λ c. AreSorted c.posts) }
+{
+    let mut found = Cols::new(alloc);
+    found.reserve(b.len())?;
+    let mut i = 0;
+    for j in 0..b.len() {
+        let row = b.get(j);
+        i = skip_to(a, i, row.doc, u64::from(row.pos).saturating_sub(1));
+        add_where(&mut found, is_followed(a, i, row), row);
+    }
+    Ok(found)
+}
+
+/// The rows of b that stand from 1 to 8 positions before or behind a row of a.
+pub fn near(alloc: Global, a: &Cols, b: &Cols) -> Result<Cols, Memory>
+    requires a_sorted { AreSorted a.now.posts }
+    requires b_sorted { AreSorted b.now.posts }
+
+    ensures ok { IfOk result (λ c. c.posts ≡ near a.now.posts b.now.posts) }
+    ensures sorted { IfOk result (λ c. AreSorted c.posts) }
+{
+    let mut found = Cols::new(alloc);
+    found.reserve(b.len())?;
+    let mut lo = 0;
+    let mut hi = 0;
+    for j in 0..b.len() {
+        let row = b.get(j);
+        let pos = u64::from(row.pos);
+        lo = skip_to(a, lo, row.doc, pos.saturating_sub(8).max(1));
+        hi = skip_to(a, hi, row.doc, pos + 1);
+        add_where(&mut found, has_neighbour(a, lo, hi, row), row);
+    }
+    Ok(found)
+}
+
+// Whether the row stands one position behind a post, where `i` is the first place from its predecessor's on.
+#[inline]
+fn is_followed(posts: &Cols, i: usize, row: Post) -> bool
+    requires sorted { AreSorted posts.now.posts }
+    requires splits { Splits posts.now.posts i row.doc (row.pos - 1) }
+
+    ensures { result ≡ list_any (stands_behind row) posts.now.posts }
+{
+    i < posts.len() && is_behind(row, posts.get(i))
+}
+
+#[inline]
+fn is_behind(row: Post, post: Post) -> bool
+    ensures { result ≡ stands_behind row post }
+{
+    post.doc == row.doc && post.pos > 0 && u64::from(post.pos) + 1 == u64::from(row.pos)
+}
+
+// Whether a post stands near the row, where `lo` is the first place from 8 positions before the row on,
+// and `hi` the first place behind it.
+#[inline]
+fn has_neighbour(posts: &Cols, lo: usize, hi: usize, row: Post) -> bool
+    requires sorted { AreSorted posts.now.posts }
+    requires lo { Splits posts.now.posts lo row.doc (max (row.pos - 8) 1) }
+    requires hi { Splits posts.now.posts hi row.doc (row.pos + 1) }
+
+    ensures { result ≡ list_any (is_near row) posts.now.posts }
+{
+    is_near_at(posts, lo, row) || is_near_at(posts, hi, row)
+}
+
+#[inline]
+fn is_near_at(posts: &Cols, i: usize, row: Post) -> bool
+    ensures { result ≡ near_at posts.now.posts i row }
+{
+    i < posts.len() && stands_near(row, posts.get(i))
+}
+
+#[inline]
+fn stands_near(row: Post, post: Post) -> bool
+    ensures { result ≡ is_near row post }
+{
+    post.doc == row.doc
+        && post.pos > 0
+        && row.pos > 0
+        && post.pos != row.pos
+        && post.pos.abs_diff(row.pos) <= 8
+}

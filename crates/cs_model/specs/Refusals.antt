@@ -1,0 +1,128 @@
+-- Which characters of a key text are refused, and which key texts are accepted. Each character is judged by the tokens of the text up to and including it.
+--
+--   refused ts             the grammar refuses the newest character
+--   verdict ts             the fault of the newest character, the grammar before the limits, and these in their order; None where there is none
+--   place_of cs k          the number of bytes before the k-th character
+--   IsAccepted cs          no character of cs is refused
+--   IsRefused cs at f      the first refused character of cs stands at the byte at, and its fault is f
+--   IsOfGrammar q          q is the query of some accepted text
+--   PrefixesAreAccepted    the law that each prefix of an accepted text is accepted
+use Rattle.std.specs.Prelude.{◌≡◌, ℕ, ◌+◌, ◌<◌, ◌≤◌, List, [], ◌∷◌, Bool, true, false, not, nat_lt, length, take, Option, Some, None, if◌then◌else◌, encode_utf8_all}
+use Rattle.std.specs.Str.{chars, IsUtf8}
+use Rattle.cs_base.specs.declared.query.Query.{Query}
+use Rattle.cs_base.specs.declared.query.Which.{Which}
+use Rattle.cs_base.specs.declared.query.Which.TheVariants as limits
+use Rattle.cs_model.specs.declared.kinds.Tie.{Tie}
+use Rattle.cs_model.specs.declared.kinds.Tie.TheVariants.{Begins}
+use Rattle.cs_model.specs.Tokens.{Token, Word, Value, Run, Gap, Dollar, Bar, Colon, Open, Close, tokens, size}
+use Rattle.cs_model.specs.Grammar.{Step, Leaf, Enter, Leave, steps, reading, is_name, query_of}
+
+-- ---- the grammar
+-- a dollar may stand directly behind a word, or a value that isn't empty
+abbrev pub takes_dollar : List Token → Bool
+takes_dollar (Word w ∷ ts) = true
+takes_dollar (Value (x ∷ v) ∷ ts) = true
+takes_dollar _ = false
+
+-- a bar may stand directly behind a word, a value, a dollar or a closing bracket
+abbrev pub takes_bar : List Token → Bool
+takes_bar (Word w ∷ ts) = true
+takes_bar (Value v ∷ ts) = true
+takes_bar (Dollar ∷ ts) = true
+takes_bar (Close ∷ ts) = true
+takes_bar _ = false
+
+-- a colon and an opening bracket may stand directly behind a word that is a name
+abbrev pub ends_name : List Token → Bool
+ends_name (Word w ∷ ts) = is_name w
+ends_name _ = false
+
+-- how many brackets are open behind these tokens
+abbrev pub depth : List Token → ℕ
+depth ts = length (reading (steps ts)).open_now
+
+-- the newest character, which belongs to the newest token, is against the grammar: a sign where it may not stand,
+-- a closing bracket where none is open, a gap or a run directly behind a bar, a word directly behind a dollar or a closing bracket
+abbrev pub refused : List Token → Bool
+refused (Dollar ∷ ts) = not (takes_dollar ts)
+refused (Bar ∷ ts) = not (takes_bar ts)
+refused (Value v ∷ Colon ∷ ts) = not (ends_name ts)
+refused (Open ∷ ts) = not (ends_name ts)
+refused (Close ∷ ts) = not (nat_lt 0 (depth ts))
+refused (Gap n ∷ Bar ∷ ts) = true
+refused (Run r ∷ Bar ∷ ts) = true
+refused (Word w ∷ Dollar ∷ ts) = true
+refused (Word w ∷ Close ∷ ts) = true
+refused _ = false
+
+-- ---- the limits
+-- the bytes of the newest word or value; 0 where the newest token is neither
+abbrev pub newest : List Token → ℕ
+newest (Word w ∷ ts) = length w
+newest (Value v ∷ ts) = length v
+newest _ = 0
+
+-- 1 where an atom so tied begins a part
+abbrev pub begins_part : Tie → ℕ
+begins_part (Begins excluded) = 1
+begins_part _ = 0
+
+-- how many parts begin, over all brackets
+abbrev pub parts_in : List Step → ℕ
+parts_in [] = 0
+parts_in (Leaf t a ∷ ss) = parts_in ss + begins_part t
+parts_in (Enter t n ∷ ss) = parts_in ss + begins_part t
+parts_in (Leave ∷ ss) = parts_in ss
+
+-- how many atoms there are, over all brackets, joins included
+abbrev pub atoms_in : List Step → ℕ
+atoms_in [] = 0
+atoms_in (Leaf t a ∷ ss) = atoms_in ss + 1
+atoms_in (Enter t n ∷ ss) = atoms_in ss + 1
+atoms_in (Leave ∷ ss) = atoms_in ss
+
+-- ---- the verdict
+-- why a character is refused: by the grammar, or by this limit alone
+pub data Fault : Type 0 where
+  Bad : Fault
+  Limit : Which → Fault
+
+-- the fault of the newest character
+abbrev pub verdict : List Token → Option Fault
+verdict ts =
+    if refused ts then Some Bad
+    else if nat_lt 1024 (size ts + depth ts) then Some (Limit limits.Query)
+    else if nat_lt 120 (newest ts) then Some (Limit limits.Word)
+    else if nat_lt 16 (parts_in (steps ts)) then Some (Limit limits.Parts)
+    else if nat_lt 32 (atoms_in (steps ts)) then Some (Limit limits.Atoms)
+    else if nat_lt 3 (depth ts) then Some (Limit limits.Depth)
+    else None
+
+-- ---- accepted texts
+-- the place of the k-th character: the number of bytes before it
+abbrev pub place_of : List ℕ → ℕ → ℕ
+place_of cs k = length (encode_utf8_all (take k cs))
+
+-- No character is refused, each judged by the tokens of the text up to it.
+abbrev pub IsAccepted : List ℕ → Type 0
+IsAccepted cs = (k : ℕ) → k ≤ length cs → verdict (tokens (take k cs)) ≡ None
+
+-- the longest accepted prefix ends at the byte `at`, and the next character is refused
+pub record IsRefused (cs : List ℕ) (at : ℕ) (fault : Fault) : Type 0 where
+  pub count : ℕ
+  pub within : count < length cs
+  pub place : at ≡ place_of cs count
+  pub before : IsAccepted (take count cs)
+  pub here : verdict (tokens (take (count + 1) cs)) ≡ Some fault
+
+-- a query that the grammar gives for some text
+pub record IsOfGrammar (q : Query) : Type 0 where
+  pub text : List ℕ
+  pub utf8 : IsUtf8 text
+  pub accepted : IsAccepted (chars text)
+  pub read : q ≡ query_of (chars text)
+
+-- ---- laws
+-- each prefix, by whole characters, of an accepted text is accepted
+abbrev pub PrefixesAreAccepted : Type 0
+PrefixesAreAccepted = (cs : List ℕ) (n : ℕ) → IsAccepted cs → IsAccepted (take n cs)

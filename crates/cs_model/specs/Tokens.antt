@@ -1,0 +1,90 @@
+-- The tokens of a key text. A key text is given by the list of its characters, and tokens hold the bytes of theirs.
+-- The signs are this project's own; which characters are word characters follows Unicode's general categories (Words).
+--
+--   class_of x            what a character is to the grammar
+--   Token                 Word, Value, Run, Gap and the signs
+--   with_next x ts        the tokens with one character more
+--   tokens cs             the tokens of the characters cs, the newest first; of none []
+--   size ts               the bytes of the text that has these tokens
+use Rattle.std.specs.Prelude.{ℕ, List, [], ◌∷◌, ◌++◌, ◌+◌, ◌||◌, ◌==◌, length, if◌then◌else◌}
+use Rattle.std.specs.Char.{encode_utf8}
+use Rattle.cs_model.specs.declared.kinds.Class.{Class}
+use Rattle.cs_model.specs.declared.kinds.Class.TheVariants as c
+use Rattle.cs_model.specs.Words.{is_word_char}
+
+-- what a character is to the grammar: a word character, one of the signs . - _ ' $ | : [ ], or any other
+abbrev pub class_of : ℕ → Class
+class_of x =
+    if is_word_char x then c.Letter
+    else if x == 46 then c.Dot
+    else if (x == 45) || ((x == 95) || (x == 39)) then c.Joiner
+    else if x == 36 then c.Dollar
+    else if x == 124 then c.Bar
+    else if x == 58 then c.Colon
+    else if x == 91 then c.Open
+    else if x == 93 then c.Close
+    else c.Other
+
+-- A Word is a maximal run of word characters, a Run one of the characters . - _ ' and a Gap one of all other characters.
+-- A Value is what stands directly behind a colon: the maximal, perhaps empty run of word characters and - _ ' of which the last three each mean _.
+-- Of a gap only its number of bytes is kept.
+pub data Token : Type 0 where
+  Word : List ℕ → Token
+  Value : List ℕ → Token
+  Run : List ℕ → Token
+  Gap : ℕ → Token
+  Dollar : Token
+  Bar : Token
+  Colon : Token
+  Open : Token
+  Close : Token
+
+-- Lists of tokens have the newest first.
+
+-- A character of class k, with the bytes x, begins a token. With a colon comes the value behind it, which is empty at first.
+abbrev pub begun : Class → List ℕ → List Token → List Token
+begun c.Letter x ts = Word x ∷ ts
+begun c.Dot x ts = Run x ∷ ts
+begun c.Joiner x ts = Run x ∷ ts
+begun c.Dollar x ts = Dollar ∷ ts
+begun c.Bar x ts = Bar ∷ ts
+begun c.Colon x ts = Value [] ∷ Colon ∷ ts
+begun c.Open x ts = Open ∷ ts
+begun c.Close x ts = Close ∷ ts
+begun c.Other x ts = Gap (length x) ∷ ts
+
+-- One character more, of class k and with the bytes x: it lengthens the newest token where it belongs to it, and else begins one.
+abbrev pub grown : Class → List ℕ → List Token → List Token
+grown c.Letter x (Word w ∷ ts) = Word (w ++ x) ∷ ts
+grown c.Letter x (Value v ∷ ts) = Value (v ++ x) ∷ ts
+grown c.Dot x (Run r ∷ ts) = Run (r ++ x) ∷ ts
+grown c.Joiner x (Value v ∷ ts) = Value (v ++ 95 ∷ []) ∷ ts
+grown c.Joiner x (Run r ∷ ts) = Run (r ++ x) ∷ ts
+grown c.Other x (Gap n ∷ ts) = Gap (n + length x) ∷ ts
+grown k x ts = begun k x ts
+
+-- the tokens with the character x behind them
+abbrev pub with_next : ℕ → List Token → List Token
+with_next x ts = grown (class_of x) (encode_utf8 x) ts
+
+-- the tokens ts with characters behind them; with none ts
+abbrev pub tokens_after : List Token → List ℕ → List Token
+tokens_after ts [] = ts
+tokens_after ts (x ∷ xs) = tokens_after (with_next x ts) xs
+
+-- the tokens of a text, the newest first; of no text none
+abbrev pub tokens : List ℕ → List Token
+tokens cs = tokens_after [] cs
+
+-- the bytes of a token; a sign has one
+abbrev pub token_size : Token → ℕ
+token_size (Word w) = length w
+token_size (Value v) = length v
+token_size (Run r) = length r
+token_size (Gap n) = n
+token_size _ = 1
+
+-- the bytes of the text that has these tokens; of none 0
+abbrev pub size : List Token → ℕ
+size [] = 0
+size (t ∷ ts) = size ts + token_size t

@@ -1,0 +1,90 @@
+-- What a reader knows of a text, by its tokens.
+--
+--   held tail rest         the tokens of a tail, and those before it
+--   settled tail rest      the tokens whose atoms are among the gathered parts
+--   Stands done all g      g has the parts of the tokens `done` and the counts of the tokens `all`
+--   Follows rest r         the reader r stands behind the tokens of its tail and `rest`
+--   FollowsAll ts r        it stands behind the tokens ts
+--   Judges ts result       behind the tokens ts: the reader that follows them, or their fault
+--   Answers cs result      the answer to the characters cs of a key text
+use Rattle.std.specs.Prelude.{◌≡◌, ℕ, ◌+◌, ◌≤◌, List, [], ◌∷◌, false, reverse, length, Some, Result, Ok, Err}
+use Rattle.cs_base.specs.declared.query.Which.{Which}
+use Rattle.cs_model.specs.declared.kinds.Tie.{Tie}
+use Rattle.cs_model.specs.Tokens.{Token, Word, Value, Run, Gap, Dollar, Bar, Colon, Open, Close, size}
+use Rattle.cs_model.specs.Grammar.{spot, tie, steps, reading, query_of}
+use Rattle.cs_model.specs.Refusals.{refused, verdict, parts_in, atoms_in, depth, newest, Bad, Limit, IsAccepted, IsRefused}
+use Rattle.cs_base.specs.declared.query.Query.{Query}
+use Rattle.cs_query.specs.declared.fault.QueryFault.{QueryFault}
+use Rattle.cs_query.specs.declared.fault.QueryFault.TheVariants as faults
+use Rattle.cs_query.specs.declared.fault.Stop.{Stop}
+use Rattle.cs_query.specs.declared.fault.Stop.TheVariants as stops
+use Rattle.cs_query.specs.declared.reader.Tail.{Tail}
+use Rattle.cs_query.specs.declared.reader.Tail.TheVariants as tails
+use Rattle.cs_query.specs.declared.reader.Gathered.{Gathered}
+use Rattle.cs_query.specs.declared.reader.Reader.{Reader}
+
+-- the tokens of a tail, and those before it
+abbrev pub held : Tail → List Token → List Token
+held tails.Start rest = []
+held (tails.Gap n) rest = Gap n ∷ rest
+held (tails.Run s r) rest = Run r ∷ rest
+held (tails.Word w) rest = Word w ∷ rest
+held (tails.Value n v) rest = Value v ∷ Colon ∷ Word n ∷ rest
+held tails.Dollar rest = Dollar ∷ rest
+held tails.Bar rest = Bar ∷ rest
+held tails.Open rest = Open ∷ rest
+held tails.Close rest = Close ∷ rest
+
+-- the tokens whose atoms are in the parts: all but those of a word or a value, which may go on
+abbrev pub settled : Tail → List Token → List Token
+settled (tails.Word w) rest = rest
+settled (tails.Value n v) rest = rest
+settled t rest = held t rest
+
+-- what is known of the tokens before the tail, where they tie it
+abbrev pub Agrees : Tail → Tie → List Token → Type 0
+Agrees (tails.Run s r) t rest = s ≡ spot rest
+Agrees (tails.Word w) t rest = t ≡ tie rest
+Agrees (tails.Value n v) t rest = t ≡ tie rest
+Agrees _ t rest = Unit {0}
+
+-- The parts and brackets are those of the tokens `done`, and the counts are those of the tokens `all`.
+pub record Stands (done all : List Token) (g : Gathered) : Type 0 where
+  pub built : reading (steps done) ≡ record { parts = g.parts; open_now = reverse g.open_now }
+  pub begun : parts_in (steps all) ≡ g.begun
+  pub atoms : atoms_in (steps all) ≡ g.atoms
+  pub few : g.begun ≤ 16
+  pub some : g.atoms ≤ 32
+  pub shallow : length g.open_now ≤ 3
+  pub left : size all + depth all + g.room ≡ 1024
+
+-- The reader stands behind the tokens of its tail and `rest`, and none of them is refused.
+pub record Follows (rest : List Token) (r : Reader) : Type 0 where
+  pub agrees : Agrees r.tail r.tie rest
+  pub fine : refused (held r.tail rest) ≡ false
+  pub short : newest (held r.tail rest) ≤ 120
+  pub stands : Stands (settled r.tail rest) (held r.tail rest) r.gathered
+
+-- The reader stands behind these tokens.
+abbrev pub FollowsAll : List Token → Reader → Type 0
+FollowsAll ts r = (rest : List Token) × (ts ≡ held r.tail rest) × Follows rest r
+
+-- These are the tokens with the new character: the reader follows them, or it names their fault.
+abbrev pub Judges : List Token → Result Reader Stop → Type 0
+Judges ts (Ok r) = FollowsAll ts r
+Judges ts (Err stops.Bad) = verdict ts ≡ Some Bad
+Judges ts (Err (stops.Limit which)) = verdict ts ≡ Some (Limit which)
+Judges ts (Err stops.Memory) = Unit {0}
+
+-- the fault of a text whose character at the byte `at` stops the reader
+abbrev pub fault_at : ℕ → Stop → QueryFault
+fault_at at stops.Bad = faults.Bad at
+fault_at at (stops.Limit which) = faults.Limit at which
+fault_at at stops.Memory = faults.Memory
+
+-- The answer to the characters of a key text: its query exactly where it is accepted, or its first refused character, unless memory runs out.
+abbrev pub Answers : List ℕ → Result Query QueryFault → Type 0
+Answers cs (Ok q) = IsAccepted cs × (q ≡ query_of cs)
+Answers cs (Err (faults.Bad at)) = IsRefused cs at Bad
+Answers cs (Err (faults.Limit at which)) = IsRefused cs at (Limit which)
+Answers cs (Err faults.Memory) = Unit {0}

@@ -1,0 +1,127 @@
+//! The reader with one character more.
+ghost use Rattle.std.specs.Prelude.{◌≡◌, List, encode_utf8};
+ghost use Rattle.cs_model.specs.Tokens.{Token, grown, with_next};
+ghost use Rattle.cs_query.specs.Following.{Follows, Judges, held};
+
+use crate::beginnings::{begin_gap, begin_word};
+use crate::classes::class_of;
+use crate::fault::Stop;
+use crate::reader::{Reader, Tail};
+use crate::runs::{dot, joiner};
+use crate::signs::{bar, close, colon, dollar, open};
+use crate::tails::run_tie;
+use cs_base::{MAX_PLAIN_WORD_BYTES, Which};
+use cs_model::{Class, Tie};
+use std::alloc::Global;
+
+/// The reader after one character more.
+pub fn step(alloc: Global, reader: Reader, c: char) -> Result<Reader, Stop>
+    ensures { (rest : List Token) → Follows rest reader → Judges (with_next c (held reader.tail rest)) result }
+{
+    match class_of(c) {
+        Class::Letter => letter(alloc, reader, c),
+        Class::Dot => dot(alloc, reader, c),
+        Class::Joiner => joiner(alloc, reader, c),
+        Class::Dollar => dollar(alloc, reader, c),
+        Class::Bar => bar(alloc, reader, c),
+        Class::Colon => colon(alloc, reader, c),
+        Class::Open => open(alloc, reader, c),
+        Class::Close => close(alloc, reader, c),
+        Class::Other => gap(alloc, reader, c),
+    }
+}
+
+/// After a word character.
+#[tactic(auto, using(crate::proofs::Verdicts::over_query, crate::proofs::Verdicts::over_word))]
+fn letter(alloc: Global, reader: Reader, c: char) -> Result<Reader, Stop>
+    ensures { (rest : List Token) → Follows rest reader → Judges (grown Class.Letter (encode_utf8 c) (held reader.tail rest)) result }
+{
+    let Reader {
+        tail,
+        tie,
+        mut gathered,
+    } = reader;
+    match tail {
+        Tail::Word(mut word) => {
+            let size = c.len_utf8();
+            if gathered.room < size {
+                return Err(Stop::Limit(Which::Query));
+            }
+            if word.len() > MAX_PLAIN_WORD_BYTES - size {
+                return Err(Stop::Limit(Which::Word));
+            }
+            word.push(c)?;
+            gathered.room -= size;
+            let tail = Tail::Word(word);
+            Ok(Reader {
+                tail,
+                tie,
+                gathered,
+            })
+        }
+        Tail::Value { name, mut text } => {
+            let size = c.len_utf8();
+            if gathered.room < size {
+                return Err(Stop::Limit(Which::Query));
+            }
+            if text.len() > MAX_PLAIN_WORD_BYTES - size {
+                return Err(Stop::Limit(Which::Word));
+            }
+            text.push(c)?;
+            gathered.room -= size;
+            let tail = Tail::Value { name, text };
+            Ok(Reader {
+                tail,
+                tie,
+                gathered,
+            })
+        }
+        Tail::Dollar | Tail::Close => Err(Stop::Bad),
+        Tail::Bar => {
+            let next = begin_word(alloc, c, Tie::Alternative, gathered)?;
+            Ok(next)
+        }
+        Tail::Run { spot, text } => {
+            let tie = run_tie(spot, text.as_str().as_bytes());
+            let next = begin_word(alloc, c, tie, gathered)?;
+            Ok(next)
+        }
+        Tail::Start | Tail::Gap(_) | Tail::Open => {
+            let tie = Tie::Begins { excluded: false };
+            let next = begin_word(alloc, c, tie, gathered)?;
+            Ok(next)
+        }
+    }
+}
+
+/// After a character of a gap.
+#[tactic(auto, using(crate::proofs::Verdicts::over_query))]
+fn gap(alloc: Global, reader: Reader, c: char) -> Result<Reader, Stop>
+    ensures { (rest : List Token) → Follows rest reader → Judges (grown Class.Other (encode_utf8 c) (held reader.tail rest)) result }
+{
+    let Reader {
+        tail,
+        tie,
+        mut gathered,
+    } = reader;
+    match tail {
+        Tail::Gap(bytes) => {
+            let size = c.len_utf8();
+            if gathered.room < size {
+                return Err(Stop::Limit(Which::Query));
+            }
+            gathered.room -= size;
+            let tail = Tail::Gap(bytes.saturating_add(size));
+            Ok(Reader {
+                tail,
+                tie,
+                gathered,
+            })
+        }
+        Tail::Bar => Err(Stop::Bad),
+        tail => {
+            let next = begin_gap(alloc, c, tail, tie, gathered)?;
+            Ok(next)
+        }
+    }
+}

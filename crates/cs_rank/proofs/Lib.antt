@@ -1,0 +1,5 @@
+pub mod Climbs
+pub mod GroupsLemmas
+pub mod KeptLemmas
+pub mod Lookups
+pub mod Places

@@ -1,0 +1,58 @@
+-- The score of a document, from its rows and from what the earlier parts of the query gave it.
+--
+--   greatest ns           the greatest of some numbers
+--   of_doc d rows         the rows of document d
+--   docs_of rows          the documents of the rows, ascending, each once
+--   best_row rows d       document d with the greatest score of its rows
+--   base_score base d     what the earlier parts gave document d
+--   with_base base h      h, with what the earlier parts gave it added
+--   scores base rows      each document of the rows with its score, ascending
+--   IsBase base           what a base keeps: its documents ascend, and no score is above 2^20
+--   PassedBelow hs n d    the first n of hs are of documents below d
+use Rattle.std.specs.Prelude.{ℕ, ◌+◌, ◌≤◌, ◌^◌, ◌<◌, max, length, slice_index_or, List, [], ◌∷◌, map, All, filter, find, option_map, unwrap_or, ◌==◌}
+use Rattle.std.specs.List.Sorted.{IsStrictlySortedBy}
+use Rattle.std.specs.Ordering.{nat_cmp, on}
+use Rattle.cs_base.specs.Members.{members_in}
+use Rattle.cs_base.specs.declared.doc.Base.{Base}
+use Rattle.cs_base.specs.declared.doc.Base.TheVariants as base
+use Rattle.cs_base.specs.declared.doc.Post.{Post}
+use Rattle.cs_base.specs.declared.doc.Scored.{Scored}
+
+-- the greatest of some numbers; of none it is 0
+abbrev pub greatest : List ℕ → ℕ
+greatest [] = 0
+greatest (n ∷ ns) = max n (greatest ns)
+
+-- the rows of document d, in their order
+abbrev pub of_doc : ℕ → List Post → List Post
+of_doc d rows = filter (λ p. p.doc == d) rows
+
+-- the documents of the rows in ascending order, each once; none where there is no row
+abbrev pub docs_of : List Post → List ℕ
+docs_of rows = members_in nat_cmp (map (λ p. p.doc) rows)
+
+-- what the earlier parts gave document d: 0 where there is no earlier part, and for a document that isn't listed
+abbrev pub base_score : Base → ℕ → ℕ
+base_score base.All d = 0
+base_score (base.Listed listed) d = unwrap_or (option_map (λ h. h.score) (find (λ h. h.doc == d) listed)) 0
+
+-- document d with the greatest score of its rows
+abbrev pub best_row : List Post → ℕ → Scored
+best_row rows d = record { doc = d; score = greatest (map (λ p. p.score) (of_doc d rows)) }
+
+-- h, with what the earlier parts gave its document added
+abbrev pub with_base : Base → Scored → Scored
+with_base base h = record { doc = h.doc; score = base_score base h.doc + h.score }
+
+-- each document of the rows with its score, by document ascending
+abbrev pub scores : Base → List Post → List Scored
+scores base rows = map (λ d. with_base base (best_row rows d)) (docs_of rows)
+
+-- the listed documents strictly ascend, and none has a score above 2^20
+abbrev pub IsBase : Base → Type 0
+IsBase base.All = Unit {0}
+IsBase (base.Listed listed) = IsStrictlySortedBy (on (λ h. h.doc) nat_cmp) listed × All (λ h. h.score ≤ 2 ^ 20) listed
+
+-- the first n listed documents are there, and each of them is below d
+abbrev pub PassedBelow : List Scored → ℕ → ℕ → Type 0
+PassedBelow listed n d = (n ≤ length listed) × ((k : ℕ) (h : Scored) → k < n → (slice_index_or listed k h).doc < d)

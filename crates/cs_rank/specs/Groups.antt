@@ -1,0 +1,22 @@
+-- Groups of neighbours of one document.
+--
+--   scored_row p       a row's document and score
+--   group h hs         h with the greatest score of those of its document directly behind it, and then the groups behind these
+--   groups hs          all groups
+use Rattle.std.specs.Prelude.{max, List, [], ◌∷◌, ◌==◌, if◌then◌else◌}
+use Rattle.cs_base.specs.declared.doc.Post.{Post}
+use Rattle.cs_base.specs.declared.doc.Scored.{Scored}
+
+-- a row's document and score
+abbrev pub scored_row : Post → Scored
+scored_row p = record { doc = p.doc; score = p.score }
+
+-- h with the greatest score of its neighbours, and the groups behind
+abbrev pub group : Scored → List Scored → List Scored
+group h [] = h ∷ []
+group h (x ∷ xs) = if x.doc == h.doc then group (record { doc = h.doc; score = max h.score x.score }) xs else h ∷ group x xs
+
+-- all groups; of nothing there is none
+abbrev pub groups : List Scored → List Scored
+groups [] = []
+groups (x ∷ xs) = group x xs

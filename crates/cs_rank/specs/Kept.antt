@@ -1,0 +1,32 @@
+-- When a bounded list stands for the best of all that was offered to it.
+--
+--   IsUpTo w xs                           none of xs comes behind w in the order of hits
+--   IsFull room w xs                      the first `room` of xs are there, and none of them comes behind w
+--   is_behind s worst                     whether s comes behind `worst`, or is it
+--   HasBest seen room kept worst          kept has the first `room` of seen, and `worst`, where it is told, comes before none of these
+use Rattle.std.specs.Prelude.{◌≡◌, ℕ, ◌≤◌, List, length, take, Bool, false, not, Option, None, Some, MatchOption}
+use Rattle.std.specs.List.{AllByRecursion}
+use Rattle.std.specs.Ordering.{is_gt, is_lt}
+use Rattle.std.specs.declared.cmp.Ordering.{Ordering}
+use Rattle.cs_base.specs.Members.{members_in}
+use Rattle.cs_base.specs.Orders.{by_rank}
+use Rattle.cs_base.specs.declared.doc.Scored.{Scored}
+
+-- none of xs comes behind w
+abbrev pub IsUpTo : {X : Type 0} → (X → X → Ordering) → X → List X → Type 0
+IsUpTo R w xs = AllByRecursion (λ x. is_gt (R x w) ≡ false) xs
+
+-- there are `room` entries, and none of the first `room` comes behind w
+pub record IsFull {X : Type 0} (R : X → X → Ordering) (room : ℕ) (w : X) (xs : List X) : Type 0 where
+  pub enough : room ≤ length xs
+  pub upto : IsUpTo R w (take room xs)
+
+-- the first `room` of all that was seen are the first `room` of what is kept
+pub record HasBest (seen : List Scored) (room : ℕ) (kept : List Scored) (worst : Option Scored) : Type 0 where
+  pub same : take room (members_in by_rank seen) ≡ take room (members_in by_rank kept)
+  pub full : MatchOption worst (Unit {0}) (λ w. IsFull by_rank room w (members_in by_rank kept))
+
+-- whether s isn't before the last of so many better ones; while none is known, it may be
+abbrev pub is_behind : Scored → Option Scored → Bool
+is_behind s None = false
+is_behind s (Some w) = not (is_lt (by_rank s w))

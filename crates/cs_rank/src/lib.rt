@@ -1,0 +1,11 @@
+//! Scores of documents, and the best of them.
+//!
+//! The order of hits is `by_rank` of `cs_base`; what is kept of a longer list stands in `specs/`.
+#![tactic(auto)]
+
+mod best;
+mod hits;
+mod scores;
+
+pub use hits::top;
+pub use scores::score;
