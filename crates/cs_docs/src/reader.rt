@@ -40,8 +40,9 @@ pub fn read_docs(alloc: Global, bytes: &[u8]) -> Result<Seq<Doc>, DocFault>
     Ok(docs)
 }
 
-// The first line of a text that has bytes, without its ending, and what stands behind that.
-fn first_line(text: &[u8]) -> (&[u8], &[u8])
+/// The first line of a text that has bytes, without its ending, and what stands behind that. LF ends
+/// a line, with one CR directly before it; the last line needs no ending.
+pub fn first_line(text: &[u8]) -> (&[u8], &[u8])
     requires { 0 < length text.now }
 
     ensures lines { lines text.now ≡ result.0.now ∷ lines result.1.now }

@@ -1,0 +1,5 @@
+pub mod Asking
+pub mod CommandView
+pub mod Commands
+pub mod EndedView
+pub mod Endings
