@@ -3,3 +3,5 @@ pub mod CommandView
 pub mod Commands
 pub mod EndedView
 pub mod Endings
+pub mod Runs
+pub mod Steps
