@@ -1,3 +1,5 @@
 pub mod Digits
 pub mod GrewLemmas
 pub mod SaysLemmas
+pub mod OnePartLemmas
+pub mod TitlesLemmas

@@ -3,3 +3,4 @@ pub mod CommandView
 pub mod Commands
 pub mod EndedView
 pub mod Endings
+pub mod OnePart

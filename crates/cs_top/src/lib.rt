@@ -2,4 +2,5 @@
 #![tactic(auto)]
 
 mod ending;
+mod reply;
 mod words;
