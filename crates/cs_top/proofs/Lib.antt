@@ -1,3 +1,4 @@
+pub mod ColonLemmas
 pub mod Digits
 pub mod GrewLemmas
 pub mod SaysLemmas

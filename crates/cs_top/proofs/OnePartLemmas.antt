@@ -1,13 +1,14 @@
 -- The reply to a query of one prefix, by the rows that it finds.
-use Rattle.std.proofs.Common.{◌≡◌, ◌<◌, ◌≤◌, ◌+◌, ◌-◌, ◌==◌, ◌∷◌, ◌++◌, ℕ, suc, Bool, true, false, ◌&&◌, ◌||◌, List, [], T, cond, refl, sym, ◌∙◌, ap, subst, arith, length, drop, take, map, get_or}
+use Rattle.std.proofs.Common.{◌≡◌, ◌<◌, ◌≤◌, ◌+◌, ◌-◌, ◌==◌, ◌∷◌, ◌++◌, ℕ, suc, Bool, true, false, ◌&&◌, ◌||◌, List, [], T, cond, refl, sym, ◌∙◌, ap, subst, arith, length, drop, take, map, get_or, length-drop}
 use Rattle.std.specs.Prelude.{filter, nat_lt}
 use Rattle.std.specs.List.{list_any, list_all, range_with_len, enumerate_from, flat_map}
 use Rattle.std.specs.Ordering.{nat_cmp, eq_by_cmp, flip_args}
-use Rattle.std.specs.Cmp.{IsTotalOrder, Equal-is}
+use Rattle.std.specs.Cmp.{IsTotalOrder, Equal-is, tied_itself}
 use Rattle.std.specs.Cmp.Lexicographic.{slice_cmp}
 use Rattle.std.specs.FinMap.{IsAntisymmetric}
 use Rattle.std.proofs.lemmas.Bool.Decides.{nat_tests}
 use Rattle.std.proofs.lemmas.Cmp.{then_total, on_total, back_total, nat_cmp_total, nat_list_cmp_total}
+use Rattle.std.proofs.lemmas.List.{take_all, length-map}
 use Rattle.std.proofs.lemmas.List.Folds.{list_all-append, list_any_at}
 use Rattle.std.proofs.lemmas.List.FromFn.{get_or-range_with_len, length-range_with_len}
 use Rattle.std.proofs.lemmas.Map.Lookups.{exact_pairs, exact_unsigned, exact_bytes}
@@ -16,12 +17,13 @@ use Rattle.cs_base.specs.Members.{members_in}
 use Rattle.cs_base.specs.Orders.{by_row, by_rank}
 use Rattle.cs_base.specs.declared.doc.Doc.{Doc}
 use Rattle.cs_base.specs.declared.doc.Row.{Row}
+use Rattle.cs_base.specs.declared.doc.Scored.{Scored}
 use Rattle.cs_base.proofs.MembersLemmas.{is_member-listed}
 use Rattle.cs_base.proofs.OrdersLemmas.{by_row_total, by_row_exact}
 use Rattle.cs_model.specs.Answers.{Completion, PartRows, by_count, begins, in_doc, is_listed, hits, pairs, ranked, scored, table_of}
 use Rattle.cs_model.specs.Corpus.{Corpus, placed, title_rows, text_rows, facet_rows, doc_rows, rows_of, titles_of, corpus_of}
 use Rattle.cs_model.specs.Collection.{facet_words}
-use Rattle.cs_model.specs.Replies.{Reply}
+use Rattle.cs_model.specs.Replies.{Reply, Shown, HitShown, FacetShown}
 use Rattle.cs_model.specs.Requests.{prefix_query, plain_request, reply_of, reply_to, shown_of, hit_shown}
 use Rattle.cs_model.specs.Words.{words}
 use Rattle.cs_model.proofs.AnswersLemmas.{prefix_parts}
@@ -77,7 +79,7 @@ module _ (p : Row → Bool) where
   all_from : (xs : List Row) → ((q : Row) → list_any (is_row q) xs ≡ true → p q ≡ true) → list_all p xs ≡ true
   all_from [] h = refl
   all_from (x ∷ xs) h =
-      let here : is_row x x ≡ true = (Equal-is (by_row x x)).1 (by_row_total.refl x) in
+      let here : is_row x x ≡ true = (Equal-is (by_row x x)).1 (tied_itself by_row_total x) in
       both_true (p x) (list_all p xs) (h x (ap (λ b. b || list_any (is_row x) xs) here)) (all_from xs (λ q m. h q (or_true (is_row q x) (list_any (is_row q) xs) m)))
 
   all_kept : (t : Row → Bool) (xs : List Row) → list_all p xs ≡ true → list_all p (filter t xs) ≡ true
@@ -113,15 +115,12 @@ own_doc (x ∷ xs) q m =
     ] refl m
 
 -- ---- the rows of documents are in documents
-is_below : ℕ → Row → Bool
-is_below n r = nat_lt r.doc n
-
 doc_below : (n d : ℕ) (doc : Doc) → nat_lt d n ≡ true → list_all (λ r. nat_lt r.doc n) (doc_rows (d, doc)) ≡ true
 doc_below n d doc h =
     let p : Row → Bool = λ r. nat_lt r.doc n in
-    all_both p (facet_rows d doc) (title_rows d doc ++ text_rows d doc) (all_made p (λ w. placed d 2 (0, w)) (λ _. h) (facet_words doc.facets))
-    (all_both p (title_rows d doc) (text_rows d doc) (all_made p (placed d 4) (λ _. h) (enumerate_from 1 (words doc.title)))
-    (all_made p (placed d 1) (λ _. h) (enumerate_from (length (words doc.title) + 9) (words doc.text))))
+    all_both p (facet_rows d doc ++ title_rows d doc) (text_rows d doc)
+    (all_both p (facet_rows d doc) (title_rows d doc) (all_made p (λ w. placed d 2 (0, w)) (λ _. h) (facet_words doc.facets)) (all_made p (placed d 4) (λ _. h) (enumerate_from 1 (words doc.title))))
+    (all_made p (placed d 1) (λ _. h) (enumerate_from (length (words doc.title) + 9) (words doc.text)))
 
 all_below : (n a : ℕ) (docs : List Doc) → a + length docs ≤ n → list_all (λ r. nat_lt r.doc n) (flat_map doc_rows (enumerate_from a docs)) ≡ true
 all_below n a [] h = refl
@@ -139,7 +138,7 @@ rows_below docs =
 listed_below : (t : ℕ → Bool) (n d : ℕ) → nat_lt d n ≡ true → t d ≡ true → is_listed (filter t (range_with_len 0 n)) d ≡ true
 listed_below t n d h td =
     let less : d < n = grind (arith, nat_tests) in
-    let place : get_or (range_with_len 0 n) d 0 ≡ d = get_or-range_with_len 0 n d 0 less in
+    let place : get_or (range_with_len 0 n) d 0 ≡ d = omega (arith, get_or-range_with_len 0 n d 0 less) in
     let itself : (get_or (range_with_len 0 n) d 0 == d) ≡ true = grind (arith, nat_tests) in
     let whole : list_any (λ e. e == d) (range_with_len 0 n) ≡ true = list_any_at (λ e. e == d) (range_with_len 0 n) d 0 (omega (arith, length-range_with_len 0 n)) itself in
     any-filter_same (λ e. e == d) t true (λ e same. let one : e ≡ d = grind (arith, nat_tests) in ap t one ∙ td) (range_with_len 0 n) ∙ whole
@@ -190,3 +189,23 @@ module _ (docs : List Doc) (prefix : List ℕ) where
   reply_by_rows =
       sym reply-one
       ∙ ap (λ ps. reply_to k ps (record { query = prefix_query prefix; hits = 10; completions = 10; offset = 0; facets = [] })) (sym (prefix_parts k prefix (flat_map doc_rows (enumerate_from 0 docs)) refl))
+
+abbrev pub shown_hits_of : List Doc → List Row → List HitShown
+shown_hits_of docs found = map (hit_shown (corpus_of docs)) (take 10 (members_in by_rank (map (scored (one_part found)) (hits_among (length docs) found))))
+
+-- the reply whose parts are those that the rows found give
+pub reply_is : (docs : List Doc) (line : List ℕ) (rows found : List Row) (c : List Shown) (f : List FacetShown) (h : List HitShown) (tc th : ℕ)
+  → rows ≡ rows_of docs → found ≡ filter (λ r. begins (take (length line - 2) (drop 2 line)) r.word) rows
+  → c ≡ map shown_of (take 10 (table_of found)) → f ≡ [] → h ≡ shown_hits_of docs found → tc ≡ length (table_of found) → th ≡ length (map (scored (one_part found)) (hits_among (length docs) found))
+  → ◌≡◌ {A = Reply} (record { completions = c; facets = f; hits = h; total_completions = tc; total_hits = th }) (reply_of (corpus_of docs) (plain_request line))
+reply_is docs line rows found c f h tc th rows-is found-is c-is f-is h-is tc-is th-is =
+    let by : List Shown → List FacetShown → List HitShown → ℕ → ℕ → Reply = λ c f h tc th. record { completions = c; facets = f; hits = h; total_completions = tc; total_hits = th } in
+    let whole : List Row → Reply = λ rows. by (map shown_of (take 10 (table_of rows))) [] (shown_hits_of docs rows) (length (table_of rows)) (length (hits_among (length docs) rows)) in
+    let many_hits : length (map (scored (one_part found)) (hits_among (length docs) found)) ≡ length (hits_among (length docs) found) = length-map _ _ in
+    let rest : take (length line - 2) (drop 2 line) ≡ drop 2 line = take_all (length line - 2) (drop 2 line) (omega (arith, length-drop 2 line)) in
+    let rows-found : found ≡ filter (λ r. begins (drop 2 line) r.word) (rows_of docs) =
+    found-is ∙ ap (filter (λ r. begins (take (length line - 2) (drop 2 line)) r.word)) rows-is ∙ ap (λ p. filter (λ r. begins p r.word) (rows_of docs)) rest in
+    ap (λ x. by x f h tc th) c-is ∙ ap (λ x. by (map shown_of (take 10 (table_of found))) x h tc th) f-is
+    ∙ ap (λ x. by (map shown_of (take 10 (table_of found))) [] x tc th) h-is ∙ ap (λ x. by (map shown_of (take 10 (table_of found))) [] (shown_hits_of docs found) x th) tc-is
+    ∙ ap (by (map shown_of (take 10 (table_of found))) [] (shown_hits_of docs found) (length (table_of found))) (th-is ∙ many_hits)
+    ∙ ap whole rows-found ∙ reply_by_rows docs (drop 2 line)

@@ -52,7 +52,7 @@ module _ {X : Type 0} where
       ∙ found_at (a + 1) xs i q (omega arith)
 
 title_at : (docs : List Doc) (d : ℕ) → get (titles_of docs) d ≡ option_map title_of (slice_get docs d)
-title_at docs d = get-from_entries nat_cmp_total (enumerate_from 0 (map title_of docs)) d ∙ found_at 0 (map title_of docs) d d refl ∙ slice_get-map title_of docs d
+title_at docs d = get-from_entries nat_cmp_total (enumerate_from 0 (map title_of docs)) d ∙ found_at 0 (map title_of docs) d d (omega arith) ∙ slice_get-map title_of docs d
 
 -- the title of a document that there is
 pub titled : (docs : List Doc) (d : ℕ) (blank : Doc) → d < length docs → unwrap_or (get (titles_of docs) d) [] ≡ (get_or docs d blank).title

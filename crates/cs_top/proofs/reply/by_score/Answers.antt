@@ -5,5 +5,7 @@ use Rattle.cs_top.proofs.reply.by_score.Goals as goal
 
 pub returns : goal.returns
 returns c =
-    sorted_members by_rank_total by_rank_exact _ matches_eq-law c.args.hits.items c.sort.new.self.items c.dedup.new.self.items
-    c.in_ok-sort.ensures.permutation c.in_ok-sort.ensures.sorted c.dedup.ensures.filtered
+    record {
+      ok = sorted_members by_rank_total by_rank_exact _ matches_eq-law c.args.hits.items c.sort.new.self.items c.dedup.new.self.items
+      c.in_ok-sort.ensures.permutation c.in_ok-sort.ensures.sorted c.dedup.ensures.filtered;
+    }
