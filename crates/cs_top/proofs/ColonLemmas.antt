@@ -1,5 +1,5 @@
 -- Words without their leading colon.
-use Rattle.std.proofs.Common.{◌≡◌, ◌<◌, ◌-◌, ◌==◌, ◌&&◌, ℕ, Bool, true, false, List, [], ◌∷◌, T, refl, sym, ◌∙◌, ap, subst, cond, arith, length, drop, take, length-drop}
+use Rattle.std.proofs.Common.{◌≡◌, ◌<◌, ◌-◌, ◌==◌, ◌&&◌, ℕ, Bool, true, false, List, [], ◌∷◌, T, refl, sym, ◌∙◌, ap, subst, cond, arith, length, drop, take}
 use Rattle.std.specs.Prelude.{nat_eq}
 use Rattle.std.specs.List.{starts_with}
 use Rattle.std.specs.Str.{IsUtf8}

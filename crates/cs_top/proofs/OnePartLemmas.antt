@@ -17,11 +17,10 @@ use Rattle.cs_base.specs.Members.{members_in}
 use Rattle.cs_base.specs.Orders.{by_row, by_rank}
 use Rattle.cs_base.specs.declared.doc.Doc.{Doc}
 use Rattle.cs_base.specs.declared.doc.Row.{Row}
-use Rattle.cs_base.specs.declared.doc.Scored.{Scored}
 use Rattle.cs_base.proofs.MembersLemmas.{is_member-listed}
 use Rattle.cs_base.proofs.OrdersLemmas.{by_row_total, by_row_exact}
-use Rattle.cs_model.specs.Answers.{Completion, PartRows, by_count, begins, in_doc, is_listed, hits, pairs, ranked, scored, table_of}
-use Rattle.cs_model.specs.Corpus.{Corpus, placed, title_rows, text_rows, facet_rows, doc_rows, rows_of, titles_of, corpus_of}
+use Rattle.cs_model.specs.Answers.{Completion, by_count, begins, in_doc, is_listed, hits, pairs, scored, table_of}
+use Rattle.cs_model.specs.Corpus.{Corpus, placed, title_rows, text_rows, facet_rows, doc_rows, rows_of, corpus_of}
 use Rattle.cs_model.specs.Collection.{facet_words}
 use Rattle.cs_model.specs.Replies.{Reply, Shown, HitShown, FacetShown}
 use Rattle.cs_model.specs.Requests.{prefix_query, plain_request, reply_of, reply_to, shown_of, hit_shown}
@@ -195,9 +194,9 @@ shown_hits_of docs found = map (hit_shown (corpus_of docs)) (take 10 (members_in
 
 -- the reply whose parts are those that the rows found give
 pub reply_is : (docs : List Doc) (line : List ℕ) (rows found : List Row) (c : List Shown) (f : List FacetShown) (h : List HitShown) (tc th : ℕ)
-  → rows ≡ rows_of docs → found ≡ filter (λ r. begins (take (length line - 2) (drop 2 line)) r.word) rows
-  → c ≡ map shown_of (take 10 (table_of found)) → f ≡ [] → h ≡ shown_hits_of docs found → tc ≡ length (table_of found) → th ≡ length (map (scored (one_part found)) (hits_among (length docs) found))
-  → ◌≡◌ {A = Reply} (record { completions = c; facets = f; hits = h; total_completions = tc; total_hits = th }) (reply_of (corpus_of docs) (plain_request line))
+    → rows ≡ rows_of docs → found ≡ filter (λ r. begins (take (length line - 2) (drop 2 line)) r.word) rows
+    → c ≡ map shown_of (take 10 (table_of found)) → f ≡ [] → h ≡ shown_hits_of docs found → tc ≡ length (table_of found) → th ≡ length (map (scored (one_part found)) (hits_among (length docs) found))
+    → ◌≡◌ {A = Reply} (record { completions = c; facets = f; hits = h; total_completions = tc; total_hits = th }) (reply_of (corpus_of docs) (plain_request line))
 reply_is docs line rows found c f h tc th rows-is found-is c-is f-is h-is tc-is th-is =
     let by : List Shown → List FacetShown → List HitShown → ℕ → ℕ → Reply = λ c f h tc th. record { completions = c; facets = f; hits = h; total_completions = tc; total_hits = th } in
     let whole : List Row → Reply = λ rows. by (map shown_of (take 10 (table_of rows))) [] (shown_hits_of docs rows) (length (table_of rows)) (length (hits_among (length docs) rows)) in

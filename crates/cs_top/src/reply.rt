@@ -286,6 +286,9 @@ impl Ord for Completion {
 
     fn cmp(&self, other: &Completion) -> Ordering {
         let bytes = self.word.as_str().as_bytes();
-        other.docs.cmp(&self.docs).then(bytes.cmp(other.word.as_str().as_bytes()))
+        other
+            .docs
+            .cmp(&self.docs)
+            .then(bytes.cmp(other.word.as_str().as_bytes()))
     }
 }

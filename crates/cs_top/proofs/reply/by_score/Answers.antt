@@ -7,5 +7,5 @@ pub returns : goal.returns
 returns c =
     record {
       ok = sorted_members by_rank_total by_rank_exact _ matches_eq-law c.args.hits.items c.sort.new.self.items c.dedup.new.self.items
-      c.in_ok-sort.ensures.permutation c.in_ok-sort.ensures.sorted c.dedup.ensures.filtered;
+          c.in_ok-sort.ensures.permutation c.in_ok-sort.ensures.sorted c.dedup.ensures.filtered;
     }

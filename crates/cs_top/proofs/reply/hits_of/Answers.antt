@@ -1,4 +1,4 @@
-use Rattle.std.proofs.Common.{◌≡◌, ◌+◌, ◌-◌, ◌∷◌, ◌++◌, [], List, ℕ, Bool, cond, append_assoc, length-append, length, map, sym, ◌∙◌, ap, arith}
+use Rattle.std.proofs.Common.{◌≡◌, ◌+◌, ◌-◌, ◌∷◌, ◌++◌, [], List, ℕ, Bool, cond, append_assoc, length-append, map, sym, ◌∙◌, ap, arith}
 use Rattle.std.specs.Prelude.{filter}
 use Rattle.std.specs.List.{list_any, range_with_len}
 use Rattle.cs_base.specs.declared.doc.Scored.{Scored}
@@ -22,7 +22,7 @@ loop-doc-preserved c =
           let last : Scored = record { doc = doc; score = w.best-score.result } in
           rw (w.hits-is, w.in_ok-push.ensures.items) (record {
             told = before ∙ ap (λ b. old ++ map f (cond b (doc ∷ rest) rest)) (sym c.has_row.ensures ∙ w.if-has_row.true)
-            ∙ ap (λ n. let s : Scored = record { doc = doc; score = n } in old ++ s ∷ map f rest) this ∙ sym (append_assoc old (last ∷ []) (map f rest));
+                ∙ ap (λ n. let s : Scored = record { doc = doc; score = n } in old ++ s ∷ map f rest) this ∙ sym (append_assoc old (last ∷ []) (map f rest));
             few = omega (arith, c.loop-doc.invariant.few, length-append old (last ∷ []));
           })
       | else-has_row w ↦

@@ -24,9 +24,9 @@ returns c =
     let hits-many : c.len-total_hits.result ≡ length (map (scored (one_part c.in_ok-found.found.items)) (hits_among (length docs) c.in_ok-found.found.items)) = omega (arith, c.len-total_hits.ensures, c.in_ok-hits.hits.ok, ap length hits-is) in
     record {
       ok = reply_is docs c.args.line.now c.args.rows.now c.in_ok-found.found.items c.in_ok-completions.completions c.new.result c.in_ok-shown.shown c.len.result c.len-total_hits.result
-      c.requires.rows c.in_ok-found.ensures.ok
-      (c.in_ok-completions.ensures.ok ∙ ap (map shown_of) (c.cut.ensures ∙ ap (take 10) (c.deref-3.ensures.value ∙ table-is)))
-      c.new.ensures
-      (c.in_ok-shown.ensures.ok ∙ ap (map (hit_shown (corpus_of docs))) (c.cut-2.ensures ∙ ap (take 10) (c.deref-4.ensures.value ∙ c.in_ok-hits-2.ensures.ok ∙ ap (members_in by_rank) hits-is)))
-      completions-many hits-many;
+          c.requires.rows c.in_ok-found.ensures.ok
+          (c.in_ok-completions.ensures.ok ∙ ap (map shown_of) (c.cut.ensures ∙ ap (take 10) (c.deref-3.ensures.value ∙ table-is)))
+          c.new.ensures
+          (c.in_ok-shown.ensures.ok ∙ ap (map (hit_shown (corpus_of docs))) (c.cut-2.ensures ∙ ap (take 10) (c.deref-4.ensures.value ∙ c.in_ok-hits-2.ensures.ok ∙ ap (members_in by_rank) hits-is)))
+          completions-many hits-many;
     }
