@@ -101,6 +101,9 @@ module _ (h : Held) (c s : List ℕ) (w v : Option (List ℕ)) where
   asked_put_failed read put = record { expected = tt; put = subst (λ b. PutSome (corpus (held_bytes h c)) (cond b (first_plain (script_lines (held_bytes h s))) []) w v) (sym read) put }
 
 -- which collections and scripts are read
+pub size_held : (h : Held) (name : List ℕ) (n : ℕ) → IsFile h name n → length (held_bytes h name) ≡ n
+size_held h name n f = ap (λ x. length (bytes_of x)) f.held ∙ f.size
+
 too_long : (n : ℕ) → 65536 < n → nat_le n 65536 ≡ false
 too_long n h = grind (arith, nat_tests)
 

@@ -1,7 +1,10 @@
 pub mod AnsweredLemmas
 pub mod AskLemmas
+pub mod ColonLemmas
 pub mod Digits
 pub mod GrewLemmas
 pub mod MemoryText
+pub mod OnePartLemmas
 pub mod SaysLemmas
+pub mod TitlesLemmas
 pub mod WordsLemmas

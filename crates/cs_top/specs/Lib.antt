@@ -3,5 +3,6 @@ pub mod CommandView
 pub mod Commands
 pub mod EndedView
 pub mod Endings
+pub mod OnePart
 pub mod Runs
 pub mod Steps
