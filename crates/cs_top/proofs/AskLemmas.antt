@@ -5,8 +5,9 @@ use Rattle.std.specs.List.{list_all, prefix_len}
 use Rattle.std.specs.FinMap as map
 use Rattle.std.proofs.lemmas.Bool.Decides.{nat_tests}
 use Rattle.cs_base.specs.Outside.{Held, File, Grew, size_of, bytes_of}
-use Rattle.cs_model.specs.Collection.{is_plain, is_plain_byte}
-use Rattle.cs_model.specs.Corpus.{Corpus, corpus}
+use Rattle.cs_base.specs.declared.doc.Doc.{Doc}
+use Rattle.cs_model.specs.Collection.{is_plain, is_plain_byte, documents}
+use Rattle.cs_model.specs.Corpus.{Corpus, corpus, corpus_of}
 use Rattle.cs_model.specs.Requests.{is_plain_line}
 use Rattle.cs_model.specs.Outputs.{IsAnswer, IsAllowed, IsBegun, PutAll, PutSome, memory_text, script_lines, first_plain, behind_plain}
 use Rattle.cs_top.specs.Endings.{Ending, done, not_built, absent, failed, no_memory}
@@ -125,3 +126,36 @@ unread_script c s h = ap (λ b. is_plain c && b) (too_long (length s) h) ∙ and
 
 pub read_both : (c s : List ℕ) → is_plain c ≡ true → length s ≤ 65536 → is_read c s ≡ true
 read_both c s h l = ap (λ b. b && is_short_script s) h ∙ short_enough (length s) l
+
+-- both files were read: what was read of them, and the documents of the collection
+pub record HasRead (h : Held) (c s cb sb : List ℕ) (docs : List Doc) : Type 0 where
+  pub n : ℕ
+  pub m : ℕ
+  pub collection : IsFile h c n
+  pub script : IsFile h s m
+  pub short : m ≤ 65536
+  pub bytes : cb ≡ held_bytes h c
+  pub lines : sb ≡ held_bytes h s
+  pub plain : is_plain cb ≡ true
+  pub documents : docs ≡ documents cb
+
+module _ {h : Held} {c s cb sb : List ℕ} {docs : List Doc} (r : HasRead h c s cb sb docs) where
+  over_corpus : corpus_of docs ≡ corpus (held_bytes h c)
+  over_corpus = ap corpus_of r.documents ∙ ap corpus r.bytes
+
+  reads : is_read (held_bytes h c) (held_bytes h s) ≡ true
+  reads = read_both (held_bytes h c) (held_bytes h s) (sym (ap is_plain r.bytes) ∙ r.plain) (omega (arith, size_held h s r.m r.script, r.short))
+
+  put_all : (w v : Option (List ℕ)) → PutAll (corpus_of docs) (first_plain (script_lines sb)) w v → PutAll (corpus (held_bytes h c)) (first_plain (script_lines (held_bytes h s))) w v
+  put_all w v put = subst (λ b. PutAll (corpus (held_bytes h c)) (first_plain (script_lines b)) w v) r.lines (subst (λ k. PutAll k (first_plain (script_lines sb)) w v) over_corpus put)
+
+  pub finish_all : (w v : Option (List ℕ)) → behind_plain (script_lines sb) ≡ [] → PutAll (corpus_of docs) (first_plain (script_lines sb)) w v → AskEnds done h c s w v
+  finish_all w v none put = asked_all h c s w v r.n r.m r.collection r.script reads (sym (ap (λ b. behind_plain (script_lines b)) r.lines) ∙ none) (put_all w v put)
+
+  pub finish_not_plain : (w v : Option (List ℕ)) → behind_plain (script_lines sb) ≢ [] → PutAll (corpus_of docs) (first_plain (script_lines sb)) w v → AskEnds not_built h c s w v
+  finish_not_plain w v some put = asked_not_plain h c s w v r.n r.m r.collection r.script reads (λ e. some (ap (λ b. behind_plain (script_lines b)) r.lines ∙ e)) (put_all w v put)
+
+  pub finish_failed : (w v : Option (List ℕ)) → PutSome (corpus_of docs) (first_plain (script_lines sb)) w v → AskEnds failed h c s w v
+  finish_failed w v put =
+      asked_put_failed h c s w v reads
+      (subst (λ b. PutSome (corpus (held_bytes h c)) (first_plain (script_lines b)) w v) r.lines (subst (λ k. PutSome k (first_plain (script_lines sb)) w v) over_corpus put))

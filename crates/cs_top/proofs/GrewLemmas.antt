@@ -18,9 +18,9 @@ grew_twice (Some w) a b v u h k = k ∙ ap (option_map (λ l. l ++ b)) h ∙ ap 
 pub begun : (w : Option (List ℕ)) (a b : List ℕ) (v : Option (List ℕ)) → GrewByPrefix w a v → GrewByPrefix w (a ++ b) v
 begun w a b v h =
     let start : take (length (take h.0 a)) (a ++ b) ≡ take h.0 a =
-        ap (λ x. take (length (take h.0 a)) (x ++ b)) (sym (take-append-drop h.0 a))
-        ∙ ap (take (length (take h.0 a))) (append_assoc (take h.0 a) (drop h.0 a) b)
-        ∙ take-append_seam (take h.0 a) (drop h.0 a ++ b) in
+    ap (λ x. take (length (take h.0 a)) (x ++ b)) (sym (take-append-drop h.0 a))
+    ∙ ap (take (length (take h.0 a))) (append_assoc (take h.0 a) (drop h.0 a) b)
+    ∙ take-append_seam (take h.0 a) (drop h.0 a ++ b) in
     (length (take h.0 a), h.1 ∙ ap (λ x. option_map (λ l. l ++ x) w) (sym start))
 
 -- what was put before goes in front

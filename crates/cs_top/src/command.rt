@@ -106,7 +106,13 @@ fn ask<'a, F: Files, O: Sink>(
         Err(ReadFault::Failed) => return Ended::Failed,
         Err(ReadFault::Memory) => return Ended::Memory,
     };
-    match answer_all(alloc, corpus.docs.as_slice(), corpus.rows.as_slice(), &lines, out) {
+    match answer_all(
+        alloc,
+        corpus.docs.as_slice(),
+        corpus.rows.as_slice(),
+        &lines,
+        out,
+    ) {
         Ok(Answered::All) => Ended::Done,
         Ok(Answered::NotPlain) => Ended::NotBuilt,
         Err(_) => Ended::Failed,

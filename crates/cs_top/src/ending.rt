@@ -9,7 +9,8 @@ use cs_base::{Failed, Sink};
 
 const NOT_BUILT: &[u8] = b"not built\n";
 
-const USAGE: &[u8] = b"usage: complete build COLLECTION INDEX | ask COLLECTION SCRIPT | replay INDEX SCRIPT | serve INDEX PORT CONNS | trial N\n";
+const USAGE: &[u8] =
+    b"usage: complete build COLLECTION INDEX | ask COLLECTION SCRIPT | replay INDEX SCRIPT | serve INDEX PORT CONNS | trial N\n";
 
 const ABSENT: &[u8] = b"absent: ";
 

@@ -84,12 +84,7 @@ fn two_words<'a>(command: &str, first: &'a str, second: &'a str) -> Option<Comma
     }
 }
 
-fn serve<'a>(
-    command: &str,
-    index: &'a str,
-    port: &'a str,
-    conns: &'a str,
-) -> Option<Command<'a>>
+fn serve<'a>(command: &str, index: &'a str, port: &'a str, conns: &'a str) -> Option<Command<'a>>
     ensures { option_map seen result ≡ serve_words command.now index.now port.now conns.now }
 {
     if command == "serve" && is_number(port, 5, 65_535) && is_number(conns, 7, 1_000_000) {
