@@ -3,6 +3,7 @@
 --   is_before x d p          x stands in an earlier document than d, or in d before position p
 --   AllBefore posts n d p    the first n posts are before position p of document d
 --   Splits posts n d p       n is the first place that isn't before position p of document d
+--   Ahead doc pos a b i j    the first i posts of a are before the place that each entry of b from j on asks for
 --   AllBelow docs n d        the first n documents are less than d
 --   SplitsDocs docs n d      n is the first place whose document isn't less than d
 --   AllLess posts n r        the first n posts come before r, by document, position and word
@@ -28,6 +29,11 @@ pub record Splits (posts : List Post) (n d p : ℕ) : Type 0 where
   pub within : n ≤ length posts
   pub before : AllBefore posts n d p
   pub stop : (e : Post) → n < length posts → is_before (slice_index_or posts n e) d p ≡ false
+
+-- the first i posts of a are before the place, by doc and pos, that each entry of b from j on asks for
+pub record Ahead {B : Type 0} (doc pos : B → ℕ) (a : List Post) (b : List B) (i j : ℕ) : Type 0 where
+  pub within : i ≤ length a
+  pub before : (m : ℕ) (e : B) → j ≤ m → m < length b → AllBefore a i (doc (slice_index_or b m e)) (pos (slice_index_or b m e))
 
 -- there is a post at n, and it stands near r
 abbrev pub near_at : List Post → ℕ → Post → Bool
