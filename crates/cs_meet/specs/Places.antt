@@ -5,6 +5,7 @@
 --   Splits posts n d p       n is the first place that isn't before position p of document d
 --   Ahead doc pos a b i j    the first i posts of a are before the place that each entry of b from j on asks for
 --   AllBelow docs n d        the first n documents are less than d
+--   AheadOfRows docs rows i j    the first i documents are less than those of the rows from j on
 --   SplitsDocs docs n d      n is the first place whose document isn't less than d
 --   AllLess posts n r        the first n posts come before r, by document, position and word
 --   Parts posts n r          n is the first place that doesn't come before r
@@ -58,3 +59,8 @@ pub record Parts (posts : List Post) (n : ℕ) (r : Post) : Type 0 where
   pub within : n ≤ length posts
   pub less : AllLess posts n r
   pub stop : (e : Post) → n < length posts → is_lt (by_place (slice_index_or posts n e) r) ≡ false
+
+-- the first i documents are less than those of the rows from j on
+pub record AheadOfRows (docs : List ℕ) (rows : List Post) (i j : ℕ) : Type 0 where
+  pub within : i ≤ length docs
+  pub below : (m : ℕ) (e : Post) → j ≤ m → m < length rows → AllBelow docs i (slice_index_or rows m e).doc

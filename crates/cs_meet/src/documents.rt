@@ -1,11 +1,12 @@
 //! Rows by their documents, and documents by their rows.
-ghost use Rattle.std.specs.Prelude.{◌≡◌, ◌+◌, ◌≤◌, ◌<◌, [], ◌∷◌, ◌++◌, length, if◌then◌else◌, IfOk};
+ghost use Rattle.std.specs.Prelude.{◌≡◌, ℕ, false, slice_index_or, ◌+◌, ◌≤◌, ◌<◌, [], ◌∷◌, ◌++◌, length, if◌then◌else◌, IfOk};
 ghost use Rattle.std.specs.List.{list_any};
 ghost use Rattle.std.specs.Vec.{vec_len, vec_capacity};
+ghost use Rattle.cs_base.specs.declared.doc.Post.{Post};
 ghost use Rattle.cs_meet.specs.Filters.{AreSorted, AreDocs, AreByDoc, keep_docs, docs_of, drop_docs, in_doc, is_of};
-ghost use Rattle.cs_meet.specs.Places.{Splits, AllBelow, SplitsDocs};
+ghost use Rattle.cs_meet.specs.Places.{Splits, AllBelow, SplitsDocs, AheadOfRows};
 
-use crate::skip::{add_where, skip_to};
+use crate::skip::{add_where, pass_over, skip_to};
 use cs_base::{Memory, Post, Scored, Seq};
 use cs_cols::Cols;
 use std::alloc::Global;
@@ -21,10 +22,12 @@ pub fn keep_docs(alloc: Global, rows: &Cols, docs: &[u32]) -> Result<Cols, Memor
     let mut found = Cols::new(alloc);
     found.reserve(rows.len())?;
     let mut i = 0;
-    for j in 0..rows.len() {
+    let mut j = 0;
+    while j < rows.len() {
         let row = rows.get(j);
         i = skip_docs(docs, i, row.doc);
         add_where(&mut found, is_listed(docs, i, row), row);
+        j = next_listed(docs, i, rows, j + 1);
     }
     Ok(found)
 }
@@ -71,6 +74,25 @@ fn skip_docs(docs: &[u32], from: usize, doc: u32) -> usize
         at += 1;
     }
     at
+}
+
+// The first row from `from` on whose document may be listed at `i` or behind.
+#[inline]
+fn next_listed(docs: &[u32], i: usize, rows: &Cols, from: usize) -> usize
+    requires docs_sorted { AreDocs docs.now }
+    requires rows_sorted { AreSorted rows.now.posts }
+    requires within { from ≤ length rows.now.posts }
+    requires ahead { AheadOfRows docs.now rows.now.posts i from }
+
+    ensures onward { from ≤ result }
+    ensures within { result ≤ length rows.now.posts }
+    ensures none { (k : ℕ) (e : Post) → from ≤ k → k < result → list_any (in_doc (slice_index_or rows.now.posts k e)) docs.now ≡ false }
+{
+    if i < docs.len() {
+        pass_over(rows, from, docs[i], 0)
+    } else {
+        rows.len()
+    }
 }
 
 // Whether the row's document is listed, where `i` is the first place that isn't less than it.
