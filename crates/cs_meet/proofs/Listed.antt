@@ -11,6 +11,18 @@ use Rattle.cs_meet.specs.Filters.{AreSorted, AreDocs, in_doc}
 use Rattle.cs_meet.specs.Places.{AllBelow, SplitsDocs, AheadOfRows, is_before}
 use Rattle.cs_meet.proofs.Passes.{any_at, none_at, IsUpTo, up_to}
 
+-- where the document at n is less than d, the first n + 1 are
+pub below_through : (docs : List ℕ) (n d : ℕ) → AreDocs docs → n < length docs → get_or docs n 0 < d → (m : ℕ) → m ≡ n + 1 → AllBelow docs m d
+below_through docs n d up within less m is k below =
+    elim (nat_lt k n) as (λ t. nat_lt k n ≡ t → get_or docs k 0 < d) [
+      | true ↦ λ t.
+          let more = below_from_sorted docs k n 0 up (grind (arith, nat_tests)) within in
+          omega (arith, more, less)
+      | false ↦ λ t.
+          let same : n ≡ k = grind (arith, nat_tests) in
+          subst (λ q. get_or docs q 0 < d) same less
+    ] refl
+
 module _ (docs : List ℕ) (n : ℕ) (r : Post) (split : SplitsDocs docs n r.doc) where
   -- at the end the document isn't listed
   pub listed_past : length docs ≤ n → list_any (in_doc r) docs ≡ false

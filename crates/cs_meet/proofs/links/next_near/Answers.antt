@@ -1,4 +1,4 @@
-use Rattle.std.proofs.Common.{◌≡◌, ◌+◌, ◌-◌, arith, subst, ℕ, ◌≤◌, ◌<◌, true, get_or}
+use Rattle.std.proofs.Common.{◌≡◌, ◌-◌, arith, subst, ℕ, ◌≤◌, ◌<◌, true, get_or}
 use Rattle.std.specs.Prelude.{max}
 use Rattle.cs_base.specs.declared.doc.Post.{Post}
 use Rattle.cs_meet.specs.Filters.{is_near}

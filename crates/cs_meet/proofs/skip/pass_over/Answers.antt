@@ -1,4 +1,4 @@
-use Rattle.std.proofs.Common.{◌≡◌, ◌+◌, ◌<◌, ◌∙◌, length, true, arith, sym}
+use Rattle.std.proofs.Common.{◌+◌, ◌<◌, ◌∙◌, length, true, arith, sym}
 use Rattle.cs_meet.proofs.Halving.{all_through, at_any}
 use Rattle.cs_meet.proofs.skip.pass_over.Goals as goal
 

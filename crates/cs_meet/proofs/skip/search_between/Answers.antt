@@ -1,4 +1,4 @@
-use Rattle.std.proofs.Common.{◌≡◌, ◌+◌, ◌-◌, ◌*◌, ◌/◌, ◌<◌, ◌∙◌, length, true, arith, sym}
+use Rattle.std.proofs.Common.{◌+◌, ◌-◌, ◌/◌, ◌<◌, ◌∙◌, length, true, arith, sym}
 use Rattle.cs_meet.proofs.Halving.{all_through, at_any}
 use Rattle.cs_meet.proofs.skip.search_between.Goals as goal
 

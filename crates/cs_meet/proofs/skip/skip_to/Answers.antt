@@ -1,4 +1,4 @@
-use Rattle.std.proofs.Common.{◌≤◌, ◌+◌, ◌-◌, ◌<◌, length, arith}
+use Rattle.std.proofs.Common.{◌+◌, ◌-◌, arith}
 use Rattle.cs_meet.proofs.Halving.{all_through}
 use Rattle.cs_meet.proofs.skip.skip_to.Goals as goal
 
