@@ -2,7 +2,7 @@
 --
 --   HasRead cs i r      the reader r stands behind i characters of cs, and none of them is refused
 --   at_start, one_more, at_stop, at_end     the steps of the loop
-use Rattle.std.proofs.Common.{◌≡◌, ℕ, zero, suc, ◌<◌, ◌≤◌, ◌+◌, List, [], ◌∷◌, ◌++◌, length, take, get_or, refl, ap, ◌∙◌, sym, false, arith, Some, None, Err}
+use Rattle.std.proofs.Common.{◌≡◌, ℕ, ◌<◌, ◌≤◌, ◌+◌, List, [], ◌∷◌, ◌++◌, length, take, get_or, refl, ap, ◌∙◌, sym, arith, Some, None, Err}
 use Rattle.std.proofs.lemmas.List.{take_more, take_all, length-take, length-reverse}
 use borrow.Author.Count.{below_more}
 use Rattle.cs_base.specs.declared.query.Query.{Query}
