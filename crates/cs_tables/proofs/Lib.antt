@@ -1,0 +1,3 @@
+pub mod MarksLemmas
+pub mod WordsLemmas
+pub mod TablesLemmas
