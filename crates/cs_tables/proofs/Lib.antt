@@ -1,3 +1,4 @@
 pub mod MarksLemmas
-pub mod WordsLemmas
+pub mod Samples
 pub mod TablesLemmas
+pub mod WordsLemmas

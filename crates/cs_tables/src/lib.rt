@@ -8,3 +8,6 @@ mod counts;
 mod tables;
 
 pub use tables::{Completion, Table, completions};
+
+#[cfg(test)]
+mod tests;
