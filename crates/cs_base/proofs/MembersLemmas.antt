@@ -134,7 +134,7 @@ module _ {X : Type 0} {R : X → X → Ordering} (o : IsTotalOrder R) (exact : I
         | false ↦ λ _. ap (λ b. eq_by_cmp R q k || b) (any_dedup_from q x xs)
       ] refl
 
-  any_dedup : (q : X) (xs : List X) → list_any (eq_by_cmp R q) (dedup E xs) ≡ list_any (eq_by_cmp R q) xs
+  pub any_dedup : (q : X) (xs : List X) → list_any (eq_by_cmp R q) (dedup E xs) ≡ list_any (eq_by_cmp R q) xs
   any_dedup q [] = refl
   any_dedup q (x ∷ xs) = any_dedup_from q x xs
 

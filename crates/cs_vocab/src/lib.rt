@@ -1,0 +1,9 @@
+//! The vocabulary: the distinct words of a collection in byte order, each known by its number.
+//!
+//! Callers see `Vocab` as the list of its words, strictly ascending. What a prefix's range is stands
+//! in `specs/Ranges.antt`. No call but `Vocab::of` takes memory.
+#![tactic(auto)]
+
+mod vocab;
+
+pub use vocab::Vocab;

@@ -1,0 +1,128 @@
+//! Words in order.
+ghost use Rattle.std.specs.Prelude.{◌≡◌, ◌≤◌, ◌<◌, ◌^◌, false, [], length, IfOk, IfSome, IfNone, MatchOption, slice_index_or};
+ghost use Rattle.std.specs.List.{list_any};
+ghost use Rattle.std.specs.List.Sorted.{IsStrictlySortedBy};
+ghost use Rattle.std.specs.Ordering.{nat_cmp, is_lt};
+ghost use Rattle.std.specs.Cmp.Lexicographic.{slice_cmp};
+ghost use Rattle.std.specs.Str.{bytes_eq};
+ghost use Rattle.cs_model.specs.Answers.{begins};
+ghost use Rattle.cs_model.specs.Corpus.{distinct_words};
+ghost use Rattle.cs_vocab.specs.Ranges.{IsVocab, IsWordAt, IsRange, IsSplitBefore};
+
+use cs_base::{Memory, Row, Seq, Word};
+use std::alloc::Global;
+use std::marker::Model;
+
+/// Words that strictly ascend by bytes, which contracts see as their list. There are at most
+/// `MAX_ROWS` of them, and each has its place in the list as number.
+#[derive(Debug, Drop)]
+pub struct Vocab {
+    words: Seq<Word>,
+}
+
+impl Model for Vocab {
+    ghost use Rattle.std.specs.Prelude.{List, ℕ};
+    ghost use Rattle.cs_vocab.specs.Ranges.{IsVocab};
+
+    ghost Value = { List (List ℕ) };
+
+    ghost view = { λ v. v.words };
+
+    ghost invariant = { λ v. IsVocab v.words };
+}
+
+impl Vocab {
+    /// The distinct words of rows.
+    pub fn of(alloc: Global, rows: &Seq<Row>) -> Result<Vocab, Memory>
+        requires few { length rows.now ≤ 2 ^ 24 }
+
+        ensures ok { IfOk result (λ v. v ≡ distinct_words rows.now) }
+    {
+        let mut met = Vec::with_capacity(alloc, rows.len())?;
+        for row in rows.as_slice() {
+            met.push(&row.word)?;
+        }
+        met.sort()?;
+        met.dedup();
+        let mut words = Vec::with_capacity(alloc, met.len())?;
+        for word in &met {
+            words.push(word.copy(alloc)?)?;
+        }
+        Ok(Vocab {
+            words: Seq::from_vec(words),
+        })
+    }
+
+    /// The vocabulary of words that ascend already.
+    pub fn from_words(words: Seq<Word>) -> Vocab
+        requires ascending { IsStrictlySortedBy (slice_cmp nat_cmp) words }
+        requires few { length words ≤ 2 ^ 24 }
+
+        ensures { result ≡ words }
+    {
+        Vocab { words }
+    }
+
+    /// How many words it has.
+    pub fn len(&self) -> u32
+        ensures value { result ≡ length self.now }
+        ensures few { length self.now ≤ 2 ^ 24 }
+        ensures sorted { IsStrictlySortedBy (slice_cmp nat_cmp) self.now }
+    {
+        self.words.len() as u32
+    }
+
+    /// The bytes of word `n`.
+    pub fn word(&self, n: u32) -> &[u8]
+        requires in_range { n < length self.now }
+
+        ensures { IsWordAt self.now n result.now }
+    {
+        self.words.as_slice()[n as usize].bytes()
+    }
+
+    /// The number of the word `w`, if it is one of these.
+    pub fn find(&self, w: &[u8]) -> Option<u32>
+        ensures found { IfSome result (λ n. IsWordAt self.now n w.now) }
+        ensures absent { IfNone result (list_any (bytes_eq w.now) self.now ≡ false) }
+    {
+        let words = self.words.as_slice();
+        let n = first_from(words, w);
+        match words.get(n) {
+            Some(word) if word.bytes() == w => Some(n as u32),
+            _ => None,
+        }
+    }
+
+    /// The words that begin with `p`: from the first number up to the second, which is left out.
+    pub fn range(&self, p: &[u8]) -> (u32, u32)
+        ensures { IsRange self.now p.now result.0 result.1 }
+    {
+        let words = self.words.as_slice();
+        let lo = first_from(words, p);
+        let count = words[lo..].partition_point(|word| begins_with(word, p));
+        (lo as u32, (lo + count) as u32)
+    }
+}
+
+// How many of the words stand before `p`.
+fn first_from(words: &[Word], p: &[u8]) -> usize
+    requires { IsStrictlySortedBy (slice_cmp nat_cmp) words.now }
+
+    ensures bound { result ≤ length words.now }
+    ensures split { IsSplitBefore words.now p.now result }
+{
+    words.partition_point(|word| is_below(word, p))
+}
+
+fn is_below(word: &Word, p: &[u8]) -> bool
+    ensures { result ≡ is_lt (slice_cmp nat_cmp word.now p.now) }
+{
+    word.bytes().cmp(p).is_lt()
+}
+
+fn begins_with(word: &Word, p: &[u8]) -> bool
+    ensures { result ≡ begins p.now word.now }
+{
+    word.bytes().starts_with(p)
+}
