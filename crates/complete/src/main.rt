@@ -7,6 +7,8 @@
 mod disk;
 mod faults;
 mod standard;
+#[cfg(test)]
+mod tests;
 
 use crate::disk::DiskFiles;
 use crate::standard::Standard;
