@@ -1,4 +1,6 @@
 //! The system's files as the files that the program meets.
+ghost use Rattle.std.specs.Prelude.{◌≡◌};
+
 use crate::faults::Faults;
 use cs_base::{Failed, Files};
 use std::alloc::Global;
@@ -18,7 +20,9 @@ pub struct DiskFiles<'a, R: rt::Files + Drop> {
 
 impl<'a, R: rt::Files + Drop> DiskFiles<'a, R> {
     /// The files of this runtime, with no failure yet.
-    pub fn new(alloc: Global, rt: &'a R) -> DiskFiles<'a, R> {
+    pub fn new(alloc: Global, rt: &'a R) -> DiskFiles<'a, R>
+        ensures { result.faults.count ≡ 0 }
+    {
         DiskFiles {
             disk: Disk {
                 rt,
