@@ -12,3 +12,6 @@ mod reply;
 mod words;
 
 pub use command::run;
+
+#[cfg(test)]
+mod tests;
