@@ -2,6 +2,7 @@ pub mod AnsweredLemmas
 pub mod AskLemmas
 pub mod ColonLemmas
 pub mod Digits
+pub mod Examples
 pub mod GrewLemmas
 pub mod MemoryText
 pub mod OnePartLemmas

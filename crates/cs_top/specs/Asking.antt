@@ -3,8 +3,9 @@
 --   is_short_script s          a script of at most 65,536 bytes; longer ones aren't read yet
 --   answered c s               the lines of a script that are answered over a collection: those before the first that isn't
 --                              plain; none where the collection isn't plain or the script is too long
---   ending_of files c s        how it ends where no call fails and memory is there
---   missing files c s          the first of the two names that isn't held
+--   ending_over c s            how it ends over the bytes of both files: done where all is read and each line is plain
+--   ending_of h c s            how it ends over these files where no call fails and memory is there: the first of the two names
+--                              that isn't held is said to be absent
 use Rattle.std.specs.Prelude.{ℕ, Bool, true, false, ◌&&◌, nat_le, if◌then◌else◌, List, [], ◌∷◌, length, Option, Some, None}
 use Rattle.std.specs.List.{prefix_len, list_all}
 use Rattle.std.specs.FinMap as map
