@@ -1,6 +1,7 @@
 pub mod AnsweredLemmas
 pub mod AskLemmas
 pub mod ColonLemmas
+pub mod CompleteLemmas
 pub mod Digits
 pub mod Examples
 pub mod GrewLemmas

@@ -6,6 +6,7 @@
 --   PutBy e k ls old new         what out grew by: the answers to all these lines, some of them where a call failed, else nothing
 --   Caused e ..                  a run ends by a failure only where a count of files or of out rose; else both stay as they were
 --   Ran e command ..             a whole run
+--   Completes command held ..    where files tell, the whole script can be answered and no count rose, the status is 0 or 7
 use Rattle.std.specs.Prelude.{◌≡◌, ◌≢◌, ◌⊎◌, ◌≤◌, ℕ, List, Option, Some, None}
 use Rattle.std.specs.Option.{ForSome}
 use Rattle.std.specs.FinMap as map
@@ -64,3 +65,8 @@ pub record Ran (e : Ending) (command : Option Command) (held : Option Held) (old
   pub asked : OfAsk command (λ c s. ForSome held (λ h. AskEnds e h c s old new))
   pub nothing : PutsNothing e old new
   pub caused : Caused e files_before files_now out_before out_now
+
+-- No run gives up by itself: what can be answered is answered, or memory ran out.
+abbrev pub Completes : Option Command → Option Held → ℕ → ℕ → ℕ → ℕ → ℕ → Type 0
+Completes command held result files_before files_now out_before out_now =
+    OfAsk command (λ c s. ForSome held (λ h. ending_of h c s ≡ done → ¬ Rose files_before files_now → ¬ Rose out_before out_now → (result ≡ 0) ⊎ (result ≡ 7)))

@@ -5,7 +5,7 @@ ghost use Rattle.std.specs.String.{string_bytes};
 ghost use Rattle.cs_top.specs.Commands.{command_of};
 ghost use Rattle.cs_top.specs.Endings.{Ending, usage, status, line_of, Says};
 ghost use Rattle.cs_top.specs.EndedView.{ending};
-ghost use Rattle.cs_top.specs.Runs.{AskEnds, Caused, PutsNothing, Ran};
+ghost use Rattle.cs_top.specs.Runs.{AskEnds, Caused, Completes, PutsNothing, Ran};
 
 use crate::answers::{Answered, answer_all};
 use crate::corpus::{CorpusFault, read_corpus};
@@ -34,6 +34,9 @@ pub fn run<F: Files, H: Hub, O: Sink, E: Sink>(
     ensures ran { (e : Ending) × (result ≡ status e)
         × Ran e (command_of (map string_bytes words.now.items)) (F.held files.old) (O.written out.old) (O.written out.new) (F.faults files.old) (F.faults files.new) (O.faults out.old) (O.faults out.new)
         × Says (E.written err.old) (E.written err.new) (E.faults err.old) (E.faults err.new) (line_of e) }
+
+    // Where the whole script can be answered and no count rose, it is, or memory ran out.
+    ensures complete { Completes (command_of (map string_bytes words.now.items)) (F.held files.old) result (F.faults files.old) (F.faults files.new) (O.faults out.old) (O.faults out.new) }
 
     // No command that is built changes files or touches the hub.
     ensures files { F.held files.new ≡ F.held files.old }
