@@ -1,3 +1,6 @@
+pub mod AcceptedLemmas
 pub mod LinesLemmas
-pub mod PlainLemmas
 pub mod ListingLemmas
+pub mod PiecesLemmas
+pub mod PlainLemmas
+pub mod SlugLemmas

@@ -172,6 +172,10 @@ length_lines_of (l ∷ []) = at (length l == 0)
     at false = omega arith
 length_lines_of (l ∷ m ∷ ls) = omega (arith, length_lines_of (m ∷ ls))
 
+pub length_documents_of_lines : (c : List ℕ) → length (documents_from 0 1 (lines c)) ≤ length c + 1
+length_documents_of_lines c =
+    omega (arith, length_documents 0 1 (lines c), length_lines_of (slice_split (λ b. b == 10) c), length-slice_split (λ b. b == 10) c, count_by-le-length (λ b. b == 10) c)
+
 pub length_plain : (c : List ℕ) → is_plain c ≡ true → length (documents_from 0 1 (lines c)) ≤ 65537
 length_plain c h =
     omega (arith, length_documents 0 1 (lines c), length_lines_of (slice_split (λ b. b == 10) c), length-slice_split (λ b. b == 10) c, count_by-le-length (λ b. b == 10) c, plain_length c h)

@@ -5,7 +5,9 @@
 #![tactic(auto)]
 
 mod document;
+mod facet;
 mod fault;
+mod pieces;
 mod reader;
 mod row_list;
 
