@@ -3,6 +3,7 @@
 
 mod doc;
 mod hub;
+mod key;
 mod limits;
 mod mem_files;
 mod mem_sink;
@@ -16,6 +17,7 @@ mod word;
 
 pub use doc::{Base, Doc, Post, Row, Scored};
 pub use hub::{Event, Hub};
+pub use key::{Key, Keys, Narrower};
 pub use limits::{
     DEFAULT_COMPLETIONS, DEFAULT_HITS, MAX_ATOMS, MAX_COLLECTION_BYTES, MAX_DEPTH, MAX_DOC_WORDS,
     MAX_DOCS, MAX_LINE_BYTES, MAX_NAME_BYTES, MAX_OFFSET, MAX_PARTS, MAX_PLAIN_WORD_BYTES,

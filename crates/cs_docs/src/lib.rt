@@ -12,5 +12,5 @@ mod reader;
 mod row_list;
 
 pub use fault::{DocFault, RowsFault};
-pub use reader::read_docs;
+pub use reader::{first_line, read_docs};
 pub use row_list::rows_of;

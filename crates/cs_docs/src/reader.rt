@@ -67,8 +67,9 @@ fn without_mark(bytes: &[u8]) -> &[u8]
     bytes.strip_prefix(MARK).unwrap_or(bytes)
 }
 
-// The first line of a text that has bytes, without its ending, and what stands behind that.
-fn first_line(text: &[u8]) -> (&[u8], &[u8])
+/// The first line of a text that has bytes, without its ending, and what stands behind that. LF ends
+/// a line, with one CR directly before it; the last line needs no ending.
+pub fn first_line(text: &[u8]) -> (&[u8], &[u8])
     requires { 0 < length text.now }
 
     ensures lines { lines text.now ≡ result.0.now ∷ lines result.1.now }

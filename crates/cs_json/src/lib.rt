@@ -9,3 +9,6 @@ mod reply;
 
 pub use fault::{Fault, fault_bytes};
 pub use reply::reply_bytes;
+
+#[cfg(test)]
+mod tests;

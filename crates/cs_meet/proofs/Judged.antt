@@ -8,7 +8,7 @@ use Rattle.cs_base.specs.declared.doc.Post.{Post}
 use Rattle.cs_base.specs.declared.doc.Scored.{Scored}
 use Rattle.cs_base.specs.Orders.{by_place}
 use Rattle.cs_meet.specs.Filters.{AreSorted, stands_behind, is_near, is_of}
-use Rattle.cs_meet.specs.Places.{is_before, Splits, near_at}
+use Rattle.cs_meet.specs.Places.{is_before, Splits, Ahead, near_at}
 use Rattle.cs_meet.proofs.Passes.{any_at, none_at, IsUpTo, up_to}
 
 -- where k is at least n, the post at k is at the place of the post at n or behind it
@@ -44,6 +44,24 @@ module _ (test : Post → Bool) (d p : ℕ)
         | false ↦ λ other. sym (judged_no up within x (ap test (sym is) ∙ other))
       ] refl
 
+-- where the pass over b goes next: rows that stand before what the post at i wants pass no test
+module _ (test : Post → Post → Bool) (doc pos want : Post → ℕ)
+    (early : (r x : Post) → is_before x (doc r) (pos r) ≡ true → test r x ≡ false)
+    (far : (r x y : Post) → IsUpTo x.doc x.pos y.doc y.pos → is_before r x.doc (want x) ≡ true → test r y ≡ false)
+    (a b : List Post) (i j : ℕ) (ahead : Ahead doc pos a b i j) where
+  pub none_until : AreSorted a → i < length a → (x : Post) → x ≡ get_or a i x → (n : ℕ) → n ≤ length b → ((k : ℕ) (e : Post) → j ≤ k → k < n → is_before (get_or b k e) x.doc (want x) ≡ true)
+      → (k : ℕ) (e : Post) → j ≤ k → k < n → list_any (test (get_or b k e)) a ≡ false
+  none_until up within x is n small passed k e from below = none_at (test (get_or b k e)) a x (λ m in_a.
+      elim (nat_lt m i) as (λ t. nat_lt m i ≡ t → test (get_or b k e) (get_or a m x) ≡ false) [
+        | true ↦ λ t. early (get_or b k e) (get_or a m x) (ahead.before k e from (omega arith) m x (grind (arith, nat_tests)))
+        | false ↦ λ t. far (get_or b k e) x (get_or a m x)
+            (subst (λ y. IsUpTo y.doc y.pos (get_or a m x).doc (get_or a m x).pos) (sym is) (in_turn a i m x up (grind (arith, nat_tests)) in_a))
+            (passed k e from below)
+      ] refl)
+
+  pub none_left : length a ≤ i → (k : ℕ) (e : Post) → j ≤ k → k < length b → list_any (test (get_or b k e)) a ≡ false
+  none_left past k e from below = none_at (test (get_or b k e)) a e (λ m in_a. early (get_or b k e) (get_or a m e) (ahead.before k e from below m e (omega arith)))
+
 pub before_isnt_behind : (r x : Post) → is_before x r.doc (r.pos - 1) ≡ true → stands_behind r x ≡ false
 before_isnt_behind r x h = grind (arith, nat_tests)
 
@@ -56,8 +74,16 @@ before_isnt_of h x b = grind (arith, nat_tests)
 pub later_isnt_of : (h : Scored) (x y : Post) → IsUpTo x.doc x.pos y.doc y.pos → is_before x h.doc 0 ≡ false → is_of h x ≡ false → is_of h y ≡ false
 later_isnt_of h x y up stop other = grind (arith, nat_tests)
 
+-- r stands before the place behind x, y comes later
+pub far_isnt_behind : (r x y : Post) → IsUpTo x.doc x.pos y.doc y.pos → is_before r x.doc (x.pos + 1) ≡ true → stands_behind r y ≡ false
+far_isnt_behind r x y up h = grind (arith, nat_tests)
+
+-- r stands more than 8 positions before x, y comes later
+pub far_isnt_near : (r x y : Post) → IsUpTo x.doc x.pos y.doc y.pos → is_before r x.doc (x.pos - 8) ≡ true → is_near r y ≡ false
+far_isnt_near r x y up h = grind (arith, nat_tests)
+
 -- what is before the window of r isn't near it
-early_isnt_near : (r x : Post) → is_before x r.doc (max (r.pos - 8) 1) ≡ true → is_near r x ≡ false
+pub early_isnt_near : (r x : Post) → is_before x r.doc (max (r.pos - 8) 1) ≡ true → is_near r x ≡ false
 early_isnt_near r x h = grind (arith, nat_tests)
 
 -- x is the first of the window, y comes later but not behind r

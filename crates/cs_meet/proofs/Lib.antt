@@ -4,3 +4,4 @@ pub mod Ascent
 pub mod Listed
 pub mod Ordered
 pub mod United
+pub mod Halving

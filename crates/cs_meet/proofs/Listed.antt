@@ -8,8 +8,20 @@ use Rattle.std.proofs.lemmas.Bool.Decides.{nat_tests}
 use Rattle.cs_base.specs.declared.doc.Post.{Post}
 use Rattle.cs_base.specs.Orders.{by_place}
 use Rattle.cs_meet.specs.Filters.{AreSorted, AreDocs, in_doc}
-use Rattle.cs_meet.specs.Places.{AllBelow, SplitsDocs}
+use Rattle.cs_meet.specs.Places.{AllBelow, SplitsDocs, AheadOfRows, is_before}
 use Rattle.cs_meet.proofs.Passes.{any_at, none_at, IsUpTo, up_to}
+
+-- where the document at n is less than d, the first n + 1 are
+pub below_through : (docs : List ℕ) (n d : ℕ) → AreDocs docs → n < length docs → get_or docs n 0 < d → (m : ℕ) → m ≡ n + 1 → AllBelow docs m d
+below_through docs n d up within less m is k below =
+    elim (nat_lt k n) as (λ t. nat_lt k n ≡ t → get_or docs k 0 < d) [
+      | true ↦ λ t.
+          let more = below_from_sorted docs k n 0 up (grind (arith, nat_tests)) within in
+          omega (arith, more, less)
+      | false ↦ λ t.
+          let same : n ≡ k = grind (arith, nat_tests) in
+          subst (λ q. get_or docs q 0 < d) same less
+    ] refl
 
 module _ (docs : List ℕ) (n : ℕ) (r : Post) (split : SplitsDocs docs n r.doc) where
   -- at the end the document isn't listed
@@ -43,10 +55,14 @@ module _ (docs : List ℕ) (n : ℕ) (r : Post) (split : SplitsDocs docs n r.doc
         | false ↦ λ other. sym (listed_other up within other)
       ] refl
 
--- the documents before i are less than those of the rows from j on
-pub record AheadOfRows (docs : List ℕ) (rows : List Post) (i j : ℕ) : Type 0 where
-  pub within : i ≤ length docs
-  pub below : (m : ℕ) (e : Post) → j ≤ m → m < length rows → AllBelow docs i (get_or rows m e).doc
+less_isnt_listed : (r : Post) (d : ℕ) → d < r.doc → in_doc r d ≡ false
+less_isnt_listed r d h = grind (arith, nat_tests)
+
+before_isnt_here : (r : Post) (d : ℕ) → is_before r d 0 ≡ true → in_doc r d ≡ false
+before_isnt_here r d h = grind (arith, nat_tests)
+
+before_isnt_listed : (r : Post) (d e : ℕ) → is_before r d 0 ≡ true → d < e → in_doc r e ≡ false
+before_isnt_listed r d e h more = grind (arith, nat_tests)
 
 module _ (docs : List ℕ) (rows : List Post) where
   pub listed_more : (n j : ℕ) (r : Post) → AreSorted rows → j < length rows → r ≡ get_or rows j r → SplitsDocs docs n r.doc → AheadOfRows docs rows n (j + 1)
@@ -58,3 +74,25 @@ module _ (docs : List ℕ) (rows : List Post) where
         let less = split.below k h in
         grind (arith, later, less);
   }
+
+  pub listed_on : (i j n : ℕ) → j ≤ n → AheadOfRows docs rows i j → AheadOfRows docs rows i n
+  listed_on i j n on h = record { within = h.within; below = λ m e from in_rows. h.below m e (omega arith) in_rows }
+
+  module _ (i j : ℕ) (ahead : AheadOfRows docs rows i j) where
+    -- rows before the document at i have no listed one
+    pub none_listed : AreDocs docs → i < length docs → (n : ℕ) → n ≤ length rows → ((k : ℕ) (e : Post) → j ≤ k → k < n → is_before (get_or rows k e) (get_or docs i 0) 0 ≡ true)
+        → (k : ℕ) (e : Post) → j ≤ k → k < n → list_any (in_doc (get_or rows k e)) docs ≡ false
+    none_listed up within n small passed k e from below = none_at (in_doc (get_or rows k e)) docs 0 (λ m in_docs.
+        elim (nat_lt m i) as (λ t. nat_lt m i ≡ t → in_doc (get_or rows k e) (get_or docs m 0) ≡ false) [
+          | true ↦ λ t. less_isnt_listed (get_or rows k e) (get_or docs m 0) (ahead.below k e from (omega arith) m (grind (arith, nat_tests)))
+          | false ↦ λ t. elim (nat_lt i m) as (λ u. nat_lt i m ≡ u → in_doc (get_or rows k e) (get_or docs m 0) ≡ false) [
+            | true ↦ λ u. before_isnt_listed (get_or rows k e) (get_or docs i 0) (get_or docs m 0) (passed k e from below) (below_from_sorted docs i m 0 up (grind (arith, nat_tests)) in_docs)
+            | false ↦ λ u.
+                let same : i ≡ m = grind (arith, nat_tests) in
+                subst (λ q. in_doc (get_or rows k e) (get_or docs q 0) ≡ false) same (before_isnt_here (get_or rows k e) (get_or docs i 0) (passed k e from below))
+          ] refl
+        ] refl)
+
+    -- behind the last document no row has a listed one
+    pub none_listed_past : length docs ≤ i → (k : ℕ) (e : Post) → j ≤ k → k < length rows → list_any (in_doc (get_or rows k e)) docs ≡ false
+    none_listed_past past k e from below = none_at (in_doc (get_or rows k e)) docs 0 (λ m in_docs. less_isnt_listed (get_or rows k e) (get_or docs m 0) (ahead.below k e from below m (omega arith)))

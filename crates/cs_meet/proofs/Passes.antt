@@ -14,7 +14,7 @@ use Rattle.cs_base.specs.declared.doc.Post.{Post}
 use Rattle.cs_base.specs.declared.doc.Scored.{Scored}
 use Rattle.cs_base.specs.Orders.{by_place}
 use Rattle.cs_meet.specs.Filters.{by_doc}
-use Rattle.cs_meet.specs.Places.{is_before, AllBefore, Splits}
+use Rattle.cs_meet.specs.Places.{is_before, AllBefore, Splits, Ahead}
 
 -- one place that passes is enough
 pub any_at : {X : Type 0} (p : X → Bool) (xs : List X) (i : ℕ) (d : X) → i < length xs → p (get_or xs i d) ≡ true → list_any p xs ≡ true
@@ -36,6 +36,27 @@ filter_more p whole done b j x t told l is same =
     let rest : filter p (drop j b) ≡ cond (p x) (x ∷ filter p (drop (j + 1) b)) (filter p (drop (j + 1) b)) = ap (filter p) (drop_more b j x l ∙ ap (λ r. r ∷ drop (j + 1) b) (sym is)) in
     told ∙ ap (λ r. done ++ r) (rest ∙ ap (λ u. cond u (x ∷ filter p (drop (j + 1) b)) (filter p (drop (j + 1) b))) (sym same))
     ∙ settle t done (filter p (drop (j + 1) b)) x
+
+-- an entry that doesn't pass is stepped over
+with_first : {X : Type 0} (p : X → Bool) (x : X) (rest : List X) → p x ≡ false → filter p (x ∷ rest) ≡ filter p rest
+with_first p x rest other = ap (λ t. cond t (x ∷ filter p rest) (filter p rest)) other
+
+skip_one : {X : Type 0} (p : X → Bool) (b : List X) (j : ℕ) → j < length b → ((e : X) → p (get_or b j e) ≡ false) → filter p (drop j b) ≡ filter p (drop (j + 1) b)
+skip_one p [] j within none = absurd (omega arith)
+skip_one p (x ∷ b) j within none = ap (filter p) (drop_more (x ∷ b) j x within) ∙ with_first p (get_or (x ∷ b) j x) (drop (j + 1) (x ∷ b)) (none x)
+
+-- entries that don't pass are stepped over
+skip_some : {X : Type 0} (p : X → Bool) (b : List X) (j g : ℕ) → j + g ≤ length b → ((k : ℕ) (e : X) → j ≤ k → k < j + g → p (get_or b k e) ≡ false) → filter p (drop j b) ≡ filter p (drop (j + g) b)
+skip_some p b j zero within none = ap (λ m. filter p (drop m b)) (omega arith)
+skip_some {X} p b j (suc g) within none =
+    let before = skip_some p b j g (omega arith) (λ k e from below. none k e from (omega arith)) in
+    let next : j + g + 1 ≡ j + suc g = omega arith in
+    before ∙ skip_one p b (j + g) (omega arith) (λ e. none (j + g) e (omega arith) (omega arith)) ∙ ap (λ m. filter p (drop m b)) next
+
+pub filter_skip : {X : Type 0} (p : X → Bool) (whole done b : List X) (j n : ℕ) → whole ≡ done ++ filter p (drop j b) → j ≤ n → n ≤ length b → ((k : ℕ) (e : X) → j ≤ k → k < n → p (get_or b k e) ≡ false) → whole ≡ done ++ filter p (drop n b)
+filter_skip p whole done b j n told on within none =
+    let gap : j + (n - j) ≡ n = omega arith in
+    told ∙ ap (λ r. done ++ r) (skip_some p b j (n - j) (omega arith) (λ k e from below. none k e from (omega arith)) ∙ ap (λ m. filter p (drop m b)) gap)
 
 -- all are judged
 pub filter_all : {X : Type 0} (p : X → Bool) (whole done b : List X) (j : ℕ) → whole ≡ done ++ filter p (drop j b) → length b ≤ j → done ≡ whole
@@ -65,11 +86,6 @@ rises_past x y h = grind (arith, nat_tests)
 pub rises_by_doc : (x y : Scored) → by_doc x y ≡ Less → IsUpTo x.doc 0 y.doc 0
 rises_by_doc x y h = grind (arith, nat_tests)
 
--- the posts of a before i stand before the place that each entry of b from j on asks for
-pub record Ahead {B : Type 0} (doc pos : B → ℕ) (a : List Post) (b : List B) (i j : ℕ) : Type 0 where
-  pub within : i ≤ length a
-  pub before : (m : ℕ) (e : B) → j ≤ m → m < length b → AllBefore a i (doc (get_or b m e)) (pos (get_or b m e))
-
 module _ {B : Type 0} (R : B → B → Ordering) (doc pos : B → ℕ) (rises : (x y : B) → R x y ≡ Less → IsUpTo (doc x) (pos x) (doc y) (pos y)) (a : List Post) (b : List B) where
   pub ahead_first : Ahead doc pos a b 0 0
   ahead_first = record { within = omega arith; before = λ m e _ _ k d h. absurd (omega arith) }
@@ -85,3 +101,7 @@ module _ {B : Type 0} (R : B → B → Ordering) (doc pos : B → ℕ) (rises : 
         subst (λ y. IsUpTo (doc y) (pos y) (doc (get_or b m e)) (pos (get_or b m e))) (sym (is ∙ get_or_default b j x e l)) (rises _ _ (Less-from_sorted R b j m e up (omega arith) below)) in
         before_stays (get_or a k d) (doc x) (pos x) (doc (get_or b m e)) (pos (get_or b m e)) later (split.before k d h);
   }
+
+  -- what holds from j on holds from a later place on
+  pub ahead_on : (i j n : ℕ) → j ≤ n → Ahead doc pos a b i j → Ahead doc pos a b i n
+  ahead_on i j n on h = record { within = h.within; before = λ m e from below. h.before m e (omega arith) below }

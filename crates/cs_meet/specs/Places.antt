@@ -3,7 +3,9 @@
 --   is_before x d p          x stands in an earlier document than d, or in d before position p
 --   AllBefore posts n d p    the first n posts are before position p of document d
 --   Splits posts n d p       n is the first place that isn't before position p of document d
+--   Ahead doc pos a b i j    the first i posts of a are before the place that each entry of b from j on asks for
 --   AllBelow docs n d        the first n documents are less than d
+--   AheadOfRows docs rows i j    the first i documents are less than those of the rows from j on
 --   SplitsDocs docs n d      n is the first place whose document isn't less than d
 --   AllLess posts n r        the first n posts come before r, by document, position and word
 --   Parts posts n r          n is the first place that doesn't come before r
@@ -29,6 +31,11 @@ pub record Splits (posts : List Post) (n d p : ℕ) : Type 0 where
   pub before : AllBefore posts n d p
   pub stop : (e : Post) → n < length posts → is_before (slice_index_or posts n e) d p ≡ false
 
+-- the first i posts of a are before the place, by doc and pos, that each entry of b from j on asks for
+pub record Ahead {B : Type 0} (doc pos : B → ℕ) (a : List Post) (b : List B) (i j : ℕ) : Type 0 where
+  pub within : i ≤ length a
+  pub before : (m : ℕ) (e : B) → j ≤ m → m < length b → AllBefore a i (doc (slice_index_or b m e)) (pos (slice_index_or b m e))
+
 -- there is a post at n, and it stands near r
 abbrev pub near_at : List Post → ℕ → Post → Bool
 near_at posts n r = nat_lt n (length posts) && is_near r (slice_index_or posts n r)
@@ -52,3 +59,8 @@ pub record Parts (posts : List Post) (n : ℕ) (r : Post) : Type 0 where
   pub within : n ≤ length posts
   pub less : AllLess posts n r
   pub stop : (e : Post) → n < length posts → is_lt (by_place (slice_index_or posts n e) r) ≡ false
+
+-- the first i documents are less than those of the rows from j on
+pub record AheadOfRows (docs : List ℕ) (rows : List Post) (i j : ℕ) : Type 0 where
+  pub within : i ≤ length docs
+  pub below : (m : ℕ) (e : Post) → j ≤ m → m < length rows → AllBelow docs i (slice_index_or rows m e).doc

@@ -1,11 +1,12 @@
 //! Rows by their documents, and documents by their rows.
-ghost use Rattle.std.specs.Prelude.{◌≡◌, ◌+◌, ◌≤◌, ◌<◌, [], ◌∷◌, ◌++◌, length, if◌then◌else◌, IfOk};
+ghost use Rattle.std.specs.Prelude.{◌≡◌, ℕ, true, false, slice_index, slice_index_or, ◌+◌, ◌-◌, ◌^◌, ◌≤◌, ◌<◌, [], ◌∷◌, ◌++◌, length, if◌then◌else◌, IfOk};
 ghost use Rattle.std.specs.List.{list_any};
 ghost use Rattle.std.specs.Vec.{vec_len, vec_capacity};
+ghost use Rattle.cs_base.specs.declared.doc.Post.{Post};
 ghost use Rattle.cs_meet.specs.Filters.{AreSorted, AreDocs, AreByDoc, keep_docs, docs_of, drop_docs, in_doc, is_of};
-ghost use Rattle.cs_meet.specs.Places.{Splits, AllBelow, SplitsDocs};
+ghost use Rattle.cs_meet.specs.Places.{Splits, AllBelow, SplitsDocs, AheadOfRows};
 
-use crate::skip::{add_where, skip_to};
+use crate::skip::{add_where, pass_over, skip_to};
 use cs_base::{Memory, Post, Scored, Seq};
 use cs_cols::Cols;
 use std::alloc::Global;
@@ -21,10 +22,12 @@ pub fn keep_docs(alloc: Global, rows: &Cols, docs: &[u32]) -> Result<Cols, Memor
     let mut found = Cols::new(alloc);
     found.reserve(rows.len())?;
     let mut i = 0;
-    for j in 0..rows.len() {
+    let mut j = 0;
+    while j < rows.len() {
         let row = rows.get(j);
         i = skip_docs(docs, i, row.doc);
         add_where(&mut found, is_listed(docs, i, row), row);
+        j = next_listed(docs, i, rows, j + 1);
     }
     Ok(found)
 }
@@ -58,7 +61,8 @@ pub fn drop_docs(alloc: Global, base: &[Scored], rows: &Cols) -> Result<Seq<Scor
     Ok(Seq::from_vec(kept))
 }
 
-// The first place from `from` on whose document isn't less than `doc`.
+// The first place from `from` on whose document isn't less than `doc`, by doubling and then halving.
+#[inline]
 fn skip_docs(docs: &[u32], from: usize, doc: u32) -> usize
     requires sorted { AreDocs docs.now }
     requires within { from ≤ length docs.now }
@@ -66,11 +70,70 @@ fn skip_docs(docs: &[u32], from: usize, doc: u32) -> usize
 
     ensures { SplitsDocs docs.now result doc }
 {
-    let mut at = from;
-    while at < docs.len() && docs[at] < doc {
-        at += 1;
+    let mut lo = from;
+    let mut step = 1;
+    while reaches_below(docs, lo, step, doc) {
+        lo += step;
+        step *= 2;
     }
-    at
+    let hi = lo + (step - 1).min(docs.len() - lo);
+    search_docs(docs, lo, hi, doc)
+}
+
+// Whether the last of the next `step` documents is there, and less than `doc`.
+#[inline]
+fn reaches_below(docs: &[u32], from: usize, step: usize, doc: u32) -> bool
+    requires within { from ≤ length docs.now }
+    requires some { 1 ≤ step }
+
+    ensures small { length docs.now < 2 ^ 63 }
+    ensures there { result ≡ true → step ≤ length docs.now - from }
+    ensures yes { result ≡ true → slice_index docs.now (from + (step - 1)) < doc }
+    ensures no { result ≡ false → step ≤ length docs.now - from → doc ≤ slice_index docs.now (from + (step - 1)) }
+{
+    step <= docs.len() - from && docs[from + (step - 1)] < doc
+}
+
+// The first place from `from` on whose document isn't less than `doc`, at most `end`, by halving.
+fn search_docs(docs: &[u32], from: usize, end: usize, doc: u32) -> usize
+    requires sorted { AreDocs docs.now }
+    requires order { from ≤ end }
+    requires within { end ≤ length docs.now }
+    requires below { AllBelow docs.now from doc }
+    requires stop { end < length docs.now → doc ≤ slice_index docs.now end }
+
+    ensures { SplitsDocs docs.now result doc }
+{
+    let mut lo = from;
+    let mut hi = end;
+    while lo < hi {
+        let middle = lo + (hi - lo) / 2;
+        if docs[middle] < doc {
+            lo = middle + 1;
+        } else {
+            hi = middle;
+        }
+    }
+    lo
+}
+
+// The first row from `from` on whose document may be listed at `i` or behind.
+#[inline]
+fn next_listed(docs: &[u32], i: usize, rows: &Cols, from: usize) -> usize
+    requires docs_sorted { AreDocs docs.now }
+    requires rows_sorted { AreSorted rows.now.posts }
+    requires within { from ≤ length rows.now.posts }
+    requires ahead { AheadOfRows docs.now rows.now.posts i from }
+
+    ensures onward { from ≤ result }
+    ensures within { result ≤ length rows.now.posts }
+    ensures none { (k : ℕ) (e : Post) → from ≤ k → k < result → list_any (in_doc (slice_index_or rows.now.posts k e)) docs.now ≡ false }
+{
+    if i < docs.len() {
+        pass_over(rows, from, docs[i], 0)
+    } else {
+        rows.len()
+    }
 }
 
 // Whether the row's document is listed, where `i` is the first place that isn't less than it.

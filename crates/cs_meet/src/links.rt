@@ -1,10 +1,11 @@
 //! Rows that stand behind, or near, a row of another list.
-ghost use Rattle.std.specs.Prelude.{◌≡◌, ◌+◌, ◌-◌, length, max, IfOk};
+ghost use Rattle.std.specs.Prelude.{◌≡◌, ℕ, ◌+◌, ◌-◌, ◌<◌, ◌≤◌, false, length, max, slice_index_or, IfOk};
 ghost use Rattle.std.specs.List.{list_any};
 ghost use Rattle.cs_meet.specs.Filters.{AreSorted, follow, near, stands_behind, is_near};
-ghost use Rattle.cs_meet.specs.Places.{Splits, near_at};
+ghost use Rattle.cs_meet.specs.Places.{Ahead, Splits, near_at};
+ghost use Rattle.cs_base.specs.declared.doc.Post.{Post};
 
-use crate::skip::{add_where, skip_to};
+use crate::skip::{add_where, pass_over, skip_to};
 use cs_base::{Memory, Post};
 use cs_cols::Cols;
 use std::alloc::Global;
@@ -20,10 +21,12 @@ pub fn follow(alloc: Global, a: &Cols, b: &Cols) -> Result<Cols, Memory>
     let mut found = Cols::new(alloc);
     found.reserve(b.len())?;
     let mut i = 0;
-    for j in 0..b.len() {
+    let mut j = 0;
+    while j < b.len() {
         let row = b.get(j);
         i = skip_to(a, i, row.doc, u64::from(row.pos).saturating_sub(1));
         add_where(&mut found, is_followed(a, i, row), row);
+        j = next_behind(a, i, b, j + 1);
     }
     Ok(found)
 }
@@ -40,14 +43,56 @@ pub fn near(alloc: Global, a: &Cols, b: &Cols) -> Result<Cols, Memory>
     found.reserve(b.len())?;
     let mut lo = 0;
     let mut hi = 0;
-    for j in 0..b.len() {
+    let mut j = 0;
+    while j < b.len() {
         let row = b.get(j);
         let pos = u64::from(row.pos);
         lo = skip_to(a, lo, row.doc, pos.saturating_sub(8).max(1));
         hi = skip_to(a, hi, row.doc, pos + 1);
         add_where(&mut found, has_neighbour(a, lo, hi, row), row);
+        j = next_near(a, lo, b, j + 1);
     }
     Ok(found)
+}
+
+// The first row of b from `from` on that may stand behind a post of a from `i` on.
+#[inline]
+fn next_behind(a: &Cols, i: usize, b: &Cols, from: usize) -> usize
+    requires a_sorted { AreSorted a.now.posts }
+    requires b_sorted { AreSorted b.now.posts }
+    requires within { from ≤ length b.now.posts }
+    requires ahead { Ahead (λ r. r.doc) (λ r. r.pos - 1) a.now.posts b.now.posts i from }
+
+    ensures onward { from ≤ result }
+    ensures within { result ≤ length b.now.posts }
+    ensures none { (k : ℕ) (e : Post) → from ≤ k → k < result → list_any (stands_behind (slice_index_or b.now.posts k e)) a.now.posts ≡ false }
+{
+    if i < a.len() {
+        let post = a.get(i);
+        pass_over(b, from, post.doc, u64::from(post.pos) + 1)
+    } else {
+        b.len()
+    }
+}
+
+// The first row of b from `from` on that may stand near a post of a from `lo` on.
+#[inline]
+fn next_near(a: &Cols, lo: usize, b: &Cols, from: usize) -> usize
+    requires a_sorted { AreSorted a.now.posts }
+    requires b_sorted { AreSorted b.now.posts }
+    requires within { from ≤ length b.now.posts }
+    requires ahead { Ahead (λ r. r.doc) (λ r. max (r.pos - 8) 1) a.now.posts b.now.posts lo from }
+
+    ensures onward { from ≤ result }
+    ensures within { result ≤ length b.now.posts }
+    ensures none { (k : ℕ) (e : Post) → from ≤ k → k < result → list_any (is_near (slice_index_or b.now.posts k e)) a.now.posts ≡ false }
+{
+    if lo < a.len() {
+        let post = a.get(lo);
+        pass_over(b, from, post.doc, u64::from(post.pos).saturating_sub(8))
+    } else {
+        b.len()
+    }
 }
 
 // Whether the row stands one position behind a post, where `i` is the first place from its predecessor's on.

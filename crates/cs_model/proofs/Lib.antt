@@ -1,3 +1,6 @@
 pub mod AnswersLemmas
 pub mod AsciiLemmas
+pub mod FittingLemmas
 pub mod QueryExamples
+pub mod RefusalLemmas
+pub mod WordsExamples

@@ -3,6 +3,7 @@ pub mod Ascii
 pub mod Collection
 pub mod Corpus
 pub mod Faults
+pub mod FirstRefusal
 pub mod Grammar
 pub mod KeyText
 pub mod Outputs

@@ -1,9 +1,10 @@
 //! Laws about the definitions. Each is the contract of a function that does nothing.
-ghost use Rattle.std.specs.Prelude.{◌≡◌, ℕ, List, IsAscii};
+ghost use Rattle.std.specs.Prelude.{◌≡◌, ◌≤◌, ℕ, List, length, take, IsAscii, encode_utf8_all};
 ghost use Rattle.cs_model.specs.Ascii.{ascii_norm, ascii_words};
+ghost use Rattle.cs_model.specs.FirstRefusal.{AcceptedHaveNone, RefusedHaveOne};
 ghost use Rattle.cs_model.specs.KeyText.{norm};
 ghost use Rattle.cs_model.specs.Refusals.{PrefixesAreAccepted};
-ghost use Rattle.cs_model.specs.Words.{words};
+ghost use Rattle.cs_model.specs.Words.{fitting, words};
 
 /// On ASCII text the key text is the text in lower case, and the words are its runs of letters and digits.
 pub fn ascii_text()
@@ -14,4 +15,17 @@ pub fn ascii_text()
 /// Each prefix, by whole characters, of an accepted key text is accepted.
 pub fn prefixes_are_accepted()
     ensures { PrefixesAreAccepted }
+{}
+
+/// Where text is cut, what is kept is the longest prefix of whole characters that has at most so many bytes.
+pub fn whole_characters()
+    ensures fits { (room : ℕ) (cs : List ℕ) → length (encode_utf8_all (fitting room cs)) ≤ room }
+    ensures prefix { (room : ℕ) (cs : List ℕ) → fitting room cs ≡ take (length (fitting room cs)) cs }
+    ensures longest { (room : ℕ) (cs : List ℕ) (n : ℕ) → length (encode_utf8_all (take n cs)) ≤ room → length (take n cs) ≤ length (fitting room cs) }
+{}
+
+/// A key text is accepted, or it is refused at one place alone and for one reason: its first refusal.
+pub fn first_refusals()
+    ensures accepted { AcceptedHaveNone }
+    ensures refused { RefusedHaveOne }
 {}

@@ -2,10 +2,11 @@
 --
 --   HasRead cs i r      the reader r stands behind i characters of cs, and none of them is refused
 --   at_start, one_more, at_stop, at_end     the steps of the loop
-use Rattle.std.proofs.Common.{◌≡◌, ℕ, zero, suc, ◌<◌, ◌≤◌, ◌+◌, List, [], ◌∷◌, ◌++◌, length, take, get_or, refl, ap, ◌∙◌, sym, false, arith, Some, None, Err}
+use Rattle.std.proofs.Common.{◌≡◌, ℕ, ◌<◌, ◌≤◌, ◌+◌, List, [], ◌∷◌, ◌++◌, length, take, get_or, refl, ap, ◌∙◌, sym, arith, Some, None, Err}
 use Rattle.std.proofs.lemmas.List.{take_more, take_all, length-take, length-reverse}
 use borrow.Author.Count.{below_more}
 use Rattle.cs_base.specs.declared.query.Query.{Query}
+use Rattle.cs_model.proofs.RefusalLemmas.{take_take}
 use Rattle.cs_model.specs.Tokens.{Token, with_next, tokens_after, tokens, size}
 use Rattle.cs_model.specs.Grammar.{reading, steps, query_of, query_of_tokens}
 use Rattle.cs_model.specs.Refusals.{verdict, depth, place_of, Fault, Bad, Limit, IsAccepted, IsRefused}
@@ -49,12 +50,6 @@ followed_all : (ts : List Token) (r : Reader) → FollowsAll ts r → verdict ts
 followed_all ts r f = ap verdict f.1 ∙ followed f.0 r f.2
 
 -- ---- prefixes
-take_take : (k n : ℕ) (s : List ℕ) → k ≤ n → take k (take n s) ≡ take k s
-take_take zero n s h = refl
-take_take (suc k) zero s h = absurd (omega arith)
-take_take (suc k) (suc n) [] h = refl
-take_take (suc k) (suc n) (x ∷ s) h = ap (λ l. x ∷ l) (take_take k n s (omega arith))
-
 -- each prefix of at most i characters is accepted
 abbrev AcceptedTo : List ℕ → ℕ → Type 0
 AcceptedTo cs i = (k : ℕ) → k ≤ i → verdict (tokens (take k cs)) ≡ None

@@ -2,15 +2,15 @@
 --
 --   size_next       one character more adds its bytes
 --   size_prefix     the size of the tokens of a prefix is the place behind it
-use Rattle.std.proofs.Common.{◌≡◌, ℕ, suc, zero, ◌+◌, ◌<◌, ◌≤◌, Bool, true, false, List, [], ◌∷◌, ◌++◌, length, take, get_or, refl, ap, ◌∙◌, sym, append_assoc, length-append, arith, cond}
+use Rattle.std.proofs.Common.{◌≡◌, ℕ, ◌+◌, ◌<◌, Bool, true, false, List, [], ◌∷◌, ◌++◌, length, take, get_or, refl, ap, ◌∙◌, sym, append_assoc, length-append, arith}
 use Rattle.std.specs.Prelude.{encode_utf8_all, ◌||◌, ◌==◌, if◌then◌else◌}
 use Rattle.std.specs.Char.{encode_utf8}
 use Rattle.std.proofs.lemmas.Bool.{eqb-true}
-use Rattle.std.proofs.lemmas.List.{take_more, get_or_default}
+use Rattle.std.proofs.lemmas.List.{take_more}
 use Rattle.cs_model.specs.declared.kinds.Class.{Class}
 use Rattle.cs_model.specs.declared.kinds.Class.TheVariants as c
 use Rattle.cs_model.specs.Words.{is_word_char}
-use Rattle.cs_model.specs.Tokens.{Token, Word, Value, Run, Gap, Colon, class_of, begun, grown, with_next, tokens_after, tokens, size}
+use Rattle.cs_model.specs.Tokens.{Token, Word, Value, Run, Gap, class_of, begun, grown, with_next, size}
 use Rattle.cs_model.specs.Refusals.{place_of}
 
 -- each sign, and each character of a run, is one byte

@@ -1,5 +1,5 @@
 -- The verdict on the newest character, limit by limit.
-use Rattle.std.proofs.Common.{◌≡◌, ℕ, ◌+◌, ◌<◌, ◌≤◌, List, refl, false, Some, None}
+use Rattle.std.proofs.Common.{◌≡◌, ◌+◌, ◌<◌, ◌≤◌, List, refl, false, Some, None}
 use Rattle.std.proofs.lemmas.Bool.{lt-ltb, le-ltb}
 use Rattle.cs_base.specs.declared.query.Which.TheVariants as limits
 use Rattle.cs_model.specs.Tokens.{Token, size}

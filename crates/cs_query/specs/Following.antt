@@ -8,7 +8,6 @@
 --   Judges ts result       behind the tokens ts: the reader that follows them, or their fault
 --   Answers cs result      the answer to the characters cs of a key text
 use Rattle.std.specs.Prelude.{◌≡◌, ℕ, ◌+◌, ◌≤◌, List, [], ◌∷◌, false, reverse, length, Some, Result, Ok, Err}
-use Rattle.cs_base.specs.declared.query.Which.{Which}
 use Rattle.cs_model.specs.declared.kinds.Tie.{Tie}
 use Rattle.cs_model.specs.Tokens.{Token, Word, Value, Run, Gap, Dollar, Bar, Colon, Open, Close, size}
 use Rattle.cs_model.specs.Grammar.{spot, tie, steps, reading, query_of}

@@ -9,6 +9,7 @@ mod attaching;
 mod beginnings;
 mod classes;
 mod fault;
+mod growing;
 mod names;
 mod parsing;
 mod reader;

@@ -6,11 +6,12 @@ ghost use Rattle.cs_query.specs.Following.{Follows, Judges, held};
 use crate::beginnings::{begin_gap, begin_word};
 use crate::classes::class_of;
 use crate::fault::Stop;
+use crate::growing::{grow_value, grow_word};
 use crate::reader::{Reader, Tail};
 use crate::runs::{dot, joiner};
 use crate::signs::{bar, close, colon, dollar, open};
 use crate::tails::run_tie;
-use cs_base::{MAX_PLAIN_WORD_BYTES, Which};
+use cs_base::Which;
 use cs_model::{Class, Tie};
 use std::alloc::Global;
 
@@ -32,49 +33,22 @@ pub fn step(alloc: Global, reader: Reader, c: char) -> Result<Reader, Stop>
 }
 
 /// After a word character.
-#[tactic(auto, using(crate::proofs::Verdicts::over_query, crate::proofs::Verdicts::over_word))]
 fn letter(alloc: Global, reader: Reader, c: char) -> Result<Reader, Stop>
     ensures { (rest : List Token) → Follows rest reader → Judges (grown Class.Letter (encode_utf8 c) (held reader.tail rest)) result }
 {
     let Reader {
         tail,
         tie,
-        mut gathered,
+        gathered,
     } = reader;
     match tail {
-        Tail::Word(mut word) => {
-            let size = c.len_utf8();
-            if gathered.room < size {
-                return Err(Stop::Limit(Which::Query));
-            }
-            if word.len() > MAX_PLAIN_WORD_BYTES - size {
-                return Err(Stop::Limit(Which::Word));
-            }
-            word.push(c)?;
-            gathered.room -= size;
-            let tail = Tail::Word(word);
-            Ok(Reader {
-                tail,
-                tie,
-                gathered,
-            })
+        Tail::Word(word) => {
+            let next = grow_word(c, word, tie, gathered)?;
+            Ok(next)
         }
-        Tail::Value { name, mut text } => {
-            let size = c.len_utf8();
-            if gathered.room < size {
-                return Err(Stop::Limit(Which::Query));
-            }
-            if text.len() > MAX_PLAIN_WORD_BYTES - size {
-                return Err(Stop::Limit(Which::Word));
-            }
-            text.push(c)?;
-            gathered.room -= size;
-            let tail = Tail::Value { name, text };
-            Ok(Reader {
-                tail,
-                tie,
-                gathered,
-            })
+        Tail::Value { name, text } => {
+            let next = grow_value(c, name, text, tie, gathered)?;
+            Ok(next)
         }
         Tail::Dollar | Tail::Close => Err(Stop::Bad),
         Tail::Bar => {

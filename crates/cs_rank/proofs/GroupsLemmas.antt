@@ -147,7 +147,7 @@ none_rise : IsStrictlySortedBy nat_cmp []
 unfolding IsStrictlySortedBy
 none_rise = tt
 
-nothing_listed : [] ≡ members_in nat_cmp []
+pub nothing_listed : [] ≡ members_in nat_cmp []
 nothing_listed = members_are nat_cmp nat_cmp_total nat_cmp-IsAntisymmetric [] [] none_rise (λ q. refl)
 
 pub groups-are : (rows : List Post) → IsStrictlySortedBy by_place rows → groups (map scored_row rows) ≡ map (best_row rows) (docs_of rows)

@@ -9,3 +9,6 @@ mod scores;
 
 pub use hits::top;
 pub use scores::score;
+
+#[cfg(test)]
+mod tests;

@@ -20,7 +20,7 @@ loop-scored-preserved c =
     record {
       told = rw c.keep_where.ensures.items
           (filter_more (λ x. not (list_any (is_of x) rows)) _ c.loop-scored.kept.items base j h (not c.has_row.result) c.loop-scored.invariant.told c.loop-scored-test.true is (ap not c.has_row.ensures));
-      ahead = ahead_more by_doc (λ x. x.doc) (λ x. 0) rises_by_doc rows base c.skip_to-i.result j h c.requires.base_sorted c.loop-scored-test.true is c.skip_to-i.ensures;
+      ahead = ahead_more by_doc (λ x. x.doc) (λ x. 0) rises_by_doc rows base c.skip_to-i.result j h c.requires.base_sorted c.loop-scored-test.true is c.skip_to-i.ensures.splits;
       few = omega arith;
       room = omega arith;
     }

@@ -1,6 +1,6 @@
-use Rattle.std.proofs.Common.{◌≡◌, ◌+◌, ◌≤◌, ◌++◌, length, drop}
+use Rattle.std.proofs.Common.{◌≡◌, ◌+◌, ◌-◌, ◌≤◌, ◌++◌, length, drop}
 use Rattle.cs_meet.specs.Filters.{keep_docs}
-use Rattle.cs_meet.proofs.Listed.{AheadOfRows}
+use Rattle.cs_meet.specs.Places.{AheadOfRows}
 use Rattle.cs_meet.proofs.documents.keep_docs.Given as goal
 
 abbrev pub invariant-loop-j : goal.invariant-loop-j
@@ -9,3 +9,6 @@ invariant-loop-j l = record {
   ahead : AheadOfRows l.docs l.rows.posts l.i l.j;
   room : length l.rows.posts ≤ l.found.room + l.j;
 }
+
+abbrev pub decreases-loop-j : goal.decreases-loop-j
+decreases-loop-j l = length l.rows.posts - l.j

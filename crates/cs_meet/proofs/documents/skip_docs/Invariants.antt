@@ -2,11 +2,12 @@ use Rattle.std.proofs.Common.{◌≤◌, ◌-◌, length}
 use Rattle.cs_meet.specs.Places.{AllBelow}
 use Rattle.cs_meet.proofs.documents.skip_docs.Given as goal
 
-abbrev pub invariant-loop-at : goal.invariant-loop-at
-invariant-loop-at l = record {
-  within : l.at ≤ length l.docs;
-  below : AllBelow l.docs l.at l.doc;
+abbrev pub invariant-loop-lo : goal.invariant-loop-lo
+invariant-loop-lo l = record {
+  within : l.lo ≤ length l.docs;
+  some : 1 ≤ l.step;
+  below : AllBelow l.docs l.lo l.doc;
 }
 
-abbrev pub decreases-loop-at : goal.decreases-loop-at
-decreases-loop-at l = length l.docs - l.at
+abbrev pub decreases-loop-lo : goal.decreases-loop-lo
+decreases-loop-lo l = length l.docs - l.lo

@@ -2,7 +2,7 @@ use Rattle.std.proofs.Common.{◌≡◌, ◌+◌, ◌-◌, ◌≤◌, ◌++◌, 
 use Rattle.std.specs.Prelude.{max}
 use Rattle.cs_base.specs.declared.doc.Post.{Post}
 use Rattle.cs_meet.specs.Filters.{near}
-use Rattle.cs_meet.proofs.Passes.{Ahead}
+use Rattle.cs_meet.specs.Places.{Ahead}
 use Rattle.cs_meet.proofs.links.near.Given as goal
 
 abbrev pub invariant-loop-j : goal.invariant-loop-j
@@ -12,3 +12,6 @@ invariant-loop-j l = record {
   behind : Ahead (λ (r : Post). r.doc) (λ (r : Post). r.pos + 1) l.a.posts l.b.posts l.hi l.j;
   room : length l.b.posts ≤ l.found.room + l.j;
 }
+
+abbrev pub decreases-loop-j : goal.decreases-loop-j
+decreases-loop-j l = length l.b.posts - l.j

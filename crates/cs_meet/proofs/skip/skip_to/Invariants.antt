@@ -2,11 +2,13 @@ use Rattle.std.proofs.Common.{◌≤◌, ◌-◌, length}
 use Rattle.cs_meet.specs.Places.{AllBefore}
 use Rattle.cs_meet.proofs.skip.skip_to.Given as goal
 
-abbrev pub invariant-loop-at : goal.invariant-loop-at
-invariant-loop-at l = record {
-  within : l.at ≤ length l.posts.posts;
-  before : AllBefore l.posts.posts l.at l.doc l.pos;
+abbrev pub invariant-loop-lo : goal.invariant-loop-lo
+invariant-loop-lo l = record {
+  onward : l.from ≤ l.lo;
+  within : l.lo ≤ length l.posts.posts;
+  some : 1 ≤ l.step;
+  before : AllBefore l.posts.posts l.lo l.doc l.pos;
 }
 
-abbrev pub decreases-loop-at : goal.decreases-loop-at
-decreases-loop-at l = length l.posts.posts - l.at
+abbrev pub decreases-loop-lo : goal.decreases-loop-lo
+decreases-loop-lo l = length l.posts.posts - l.lo

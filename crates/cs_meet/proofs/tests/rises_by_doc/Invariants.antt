@@ -1,4 +1,4 @@
-use Rattle.std.proofs.Common.{◌≡◌, ℕ, ◌+◌, ◌<◌, get_or}
+use Rattle.std.proofs.Common.{ℕ, ◌+◌, ◌<◌, get_or}
 use Rattle.cs_base.specs.declared.doc.Scored.{Scored}
 use Rattle.cs_meet.proofs.tests.rises_by_doc.Given as goal
 

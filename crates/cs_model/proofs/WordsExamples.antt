@@ -1,0 +1,34 @@
+-- Key texts and words of texts that are written out.
+use Rattle.std.proofs.Common.{◌≡◌, [], ◌∷◌, ◌++◌, refl, codes}
+use Rattle.std.specs.Str.{chars}
+use Rattle.std.specs.Prelude.{Some, None}
+use Rattle.caseless.proofs.Computing.{caseless}
+use Rattle.ucd_category.proofs.Computing.{ucd_category}
+use Rattle.unicode.specs.GeneralCategory.{general_category}
+use Rattle.cs_model.specs.KeyText.{norm}
+use Rattle.cs_model.specs.Words.{is_word_char, cut, words, slug}
+use lib.Utf8
+
+-- a letter with its accent and one that carries it have one key text: `École`, and E, U+0301, `cole`
+key_of-composed : norm (195 ∷ 137 ∷ codes "cole") ≡ 101 ∷ 204 ∷ 129 ∷ codes "cole"
+unfolding norm chars caseless lib.Utf8.encode
+key_of-composed = refl
+
+-- `Straße` has the key text of `STRASSE`
+key_of-sharp_s : norm (codes "Stra" ++ 195 ∷ 159 ∷ codes "e") ≡ norm (codes "STRASSE")
+unfolding norm chars caseless lib.Utf8.encode
+key_of-sharp_s = refl
+
+-- `café_École`: an underscore stands between words
+words_of-cafe : words (codes "caf" ++ 195 ∷ 169 ∷ codes "_A") ≡ (codes "cafe" ++ 204 ∷ 129 ∷ []) ∷ codes "a" ∷ []
+unfolding words norm chars cut caseless is_word_char general_category ucd_category lib.Utf8.encode
+words_of-cafe = refl
+
+-- a value without a word has no slug
+slug_of-dashes : slug (codes "--") ≡ None
+unfolding words norm chars cut caseless is_word_char general_category ucd_category lib.Utf8.encode
+slug_of-dashes = refl
+
+slug_of-two : slug (codes "A b") ≡ Some (codes "a_b")
+unfolding words norm chars cut caseless is_word_char general_category ucd_category lib.Utf8.encode
+slug_of-two = refl

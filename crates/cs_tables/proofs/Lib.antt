@@ -1,0 +1,4 @@
+pub mod MarksLemmas
+pub mod Samples
+pub mod TablesLemmas
+pub mod WordsLemmas

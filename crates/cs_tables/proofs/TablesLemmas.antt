@@ -1,0 +1,142 @@
+-- The table of rows is the listing of their counted words in the order of hits.
+--
+--   table-is        the table, by the counted words
+--   table_total     how many words it has
+use Rattle.std.proofs.Common.{◌≡◌, ℕ, ◌+◌, Bool, true, false, ◌||◌, cond, List, [], ◌∷◌, map, length, refl, sym, ◌∙◌, ap, arith, true≢false}
+use Rattle.std.specs.List.{AllByRecursion, list_any}
+use Rattle.std.specs.List.Sorted.{IsStrictlySortedBy}
+use Rattle.std.specs.Ordering.{nat_cmp, eq_by_cmp, flip_args, is_eq, ordering_then}
+use Rattle.std.specs.declared.cmp.Ordering.{Ordering}
+use Rattle.std.specs.declared.cmp.Ordering.TheVariants.{Less, Equal, Greater}
+use Rattle.std.specs.FinMap.{FinMap, IsAntisymmetric, len, entries, insert, from_entries, contains_key, len-insert, len-entries, contains_key-keys}
+use Rattle.std.specs.Cmp.{IsTotalOrder, nat_cmp_total, both_ways}
+use Rattle.std.proofs.lemmas.Cmp.{then_total, on_total, back_total}
+use Rattle.std.proofs.lemmas.Map.Lookups.{exact_pairs, exact_unsigned}
+use Rattle.std.proofs.lemmas.Bool.Decides.{nat_tests}
+use Rattle.std.proofs.lemmas.List.{length-map}
+use Rattle.cs_base.specs.Members.{marked, members_in}
+use Rattle.cs_base.specs.Orders.{by_rank}
+use Rattle.cs_base.specs.declared.doc.Post.{Post}
+use Rattle.cs_base.specs.declared.doc.Scored.{Scored}
+use Rattle.cs_base.proofs.MembersLemmas.{members_are, is_member-listed}
+use Rattle.cs_base.proofs.OrdersLemmas.{by_rank_total, by_rank_exact}
+use Rattle.cs_rank.proofs.Places.{rises}
+use Rattle.cs_tables.specs.declared.tables.Completion.{Completion}
+use Rattle.cs_tables.specs.Listings.{by_docs, table, completion, completion_of}
+use Rattle.cs_tables.specs.Marks.{counted_word, words_of}
+
+by_docs_total : IsTotalOrder by_docs
+by_docs_total = then_total (on_total (λ c. c.docs) (back_total nat_cmp_total)) (on_total (λ c. c.word) nat_cmp_total)
+
+by_docs_exact : IsAntisymmetric by_docs
+by_docs_exact a b h =
+    ap (λ (p : ℕ × ℕ). let c : Completion = record { word = p.1; docs = p.0 } in c)
+    (exact_pairs (flip_args nat_cmp) nat_cmp (λ x y e. sym (exact_unsigned y x e)) exact_unsigned (a.docs, a.word) (b.docs, b.word) h)
+
+abbrev scored_of : Completion → Scored
+scored_of c = record { doc = c.word; score = c.docs }
+
+abbrev counted : List Post → List Scored
+counted rows = map (counted_word rows) (words_of rows)
+
+-- entries that are in order stay so as completions
+below_as : (h : Scored) (hs : List Scored) → AllByRecursion (λ y. by_rank h y ≡ Less) hs → AllByRecursion (λ y. by_docs (completion h) y ≡ Less) (map completion hs)
+below_as h [] up = tt
+below_as h (x ∷ hs) up = (up.0, below_as h hs up.1)
+
+rise_as : (hs : List Scored) → IsStrictlySortedBy by_rank hs → IsStrictlySortedBy by_docs (map completion hs)
+unfolding IsStrictlySortedBy
+rise_as [] up = tt
+rise_as (h ∷ hs) up = (below_as h hs up.0, rise_as hs up.1)
+
+any_as : (q : Completion) (hs : List Scored) → list_any (eq_by_cmp by_docs q) (map completion hs) ≡ list_any (eq_by_cmp by_rank (scored_of q)) hs
+any_as q [] = refl
+any_as q (h ∷ hs) = ap (λ b. eq_by_cmp by_rank (scored_of q) h || b) (any_as q hs)
+
+eq_is : (q x : ℕ) → eq_by_cmp nat_cmp q x ≡ true → q ≡ x
+eq_is q x e = grind (arith, nat_tests)
+
+eq_itself : (x : ℕ) → eq_by_cmp nat_cmp x x ≡ true
+eq_itself x = grind (arith, nat_tests)
+
+or_second : (a b : Bool) → b ≡ true → (a || b) ≡ true
+or_second true b e = refl
+or_second false b e = e
+
+-- a test that one member passes
+any_at : (t : ℕ → Bool) (x : ℕ) (ys : List ℕ) → t x ≡ true → list_any (eq_by_cmp nat_cmp x) ys ≡ true → list_any t ys ≡ true
+any_at t x [] e h = absurd (true≢false (sym h))
+any_at t x (y ∷ ys) e h =
+    elim (eq_by_cmp nat_cmp x y) as (λ s. eq_by_cmp nat_cmp x y ≡ s → (s || list_any (eq_by_cmp nat_cmp x) ys) ≡ true → (t y || list_any t ys) ≡ true) [
+      | true ↦ λ s _. ap (λ z. t z || list_any t ys) (sym (eq_is x y s)) ∙ ap (λ b. b || list_any t ys) e
+      | false ↦ λ s r. or_second (t y) _ (any_at t x ys e r)
+    ] refl h
+
+any_through : (t : ℕ → Bool) (xs ys : List ℕ) → ((q : ℕ) → list_any (eq_by_cmp nat_cmp q) xs ≡ true → list_any (eq_by_cmp nat_cmp q) ys ≡ true) → list_any t xs ≡ true → list_any t ys ≡ true
+any_through t [] ys h e = absurd (true≢false (sym e))
+any_through t (x ∷ xs) ys h e =
+    elim (t x) as (λ s. t x ≡ s → (s || list_any t xs) ≡ true → list_any t ys ≡ true) [
+      | true ↦ λ s _. any_at t x ys s (h x (ap (λ b. b || list_any (eq_by_cmp nat_cmp x) xs) (eq_itself x)))
+      | false ↦ λ s r. any_through t xs ys (λ q m. h q (or_second (eq_by_cmp nat_cmp q x) _ m)) r
+    ] refl e
+
+-- a test holds of a member of the listing where it holds of one of the list
+any_listed : (t : ℕ → Bool) (xs : List ℕ) → list_any t (members_in nat_cmp xs) ≡ list_any t xs
+any_listed t xs =
+    both_ways _ _
+    (any_through t (members_in nat_cmp xs) xs (λ q m. sym (is_member-listed nat_cmp nat_cmp_total xs q) ∙ m))
+    (any_through t xs (members_in nat_cmp xs) (λ q m. is_member-listed nat_cmp nat_cmp_total xs q ∙ m))
+
+any_map : (t : Scored → Bool) (f : ℕ → Scored) (xs : List ℕ) → list_any t (map f xs) ≡ list_any (λ x. t (f x)) xs
+any_map t f [] = refl
+any_map t f (x ∷ xs) = ap (λ b. t (f x) || b) (any_map t f xs)
+
+any_rows : (all : List Post) (q : Completion) (rows : List Post) → list_any (λ x. eq_by_cmp by_rank (scored_of q) (counted_word all x)) (map (λ p. p.word) rows) ≡ list_any (eq_by_cmp by_docs q) (map (λ p. completion_of all p.word) rows)
+any_rows all q [] = refl
+any_rows all q (p ∷ rows) = ap (λ b. eq_by_cmp by_docs q (completion_of all p.word) || b) (any_rows all q rows)
+
+pub table-is : (rows : List Post) → map completion (members_in by_rank (counted rows)) ≡ table rows
+table-is rows =
+    members_are by_docs by_docs_total by_docs_exact (map completion (members_in by_rank (counted rows))) (map (λ p. completion_of rows p.word) rows)
+    (rise_as _ (rises by_rank (counted rows)))
+    (λ q. any_as q (members_in by_rank (counted rows))
+    ∙ is_member-listed by_rank by_rank_total (counted rows) (scored_of q)
+    ∙ any_map (eq_by_cmp by_rank (scored_of q)) (counted_word rows) (words_of rows)
+    ∙ any_listed (λ x. eq_by_cmp by_rank (scored_of q) (counted_word rows x)) (map (λ p. p.word) rows)
+    ∙ any_rows rows q rows)
+
+never : (o : Ordering) → is_eq (ordering_then o Less) ≡ false
+never Less = refl
+never Equal = refl
+never Greater = refl
+
+-- a counted word isn't among those behind it
+not_among : (rows : List Post) (w : ℕ) (ws : List ℕ) → AllByRecursion (λ y. nat_cmp w y ≡ Less) ws → list_any (eq_by_cmp by_rank (counted_word rows w)) (map (counted_word rows) ws) ≡ false
+not_among rows w [] up = refl
+not_among rows w (y ∷ ws) up =
+    let o = nat_cmp (counted_word rows y).score (counted_word rows w).score in
+    let apart : eq_by_cmp by_rank (counted_word rows w) (counted_word rows y) ≡ false = ap (λ r. is_eq (ordering_then o r)) up.0 ∙ never o in
+    ap (λ b. b || list_any (eq_by_cmp by_rank (counted_word rows w)) (map (counted_word rows) ws)) apart ∙ not_among rows w ws up.1
+
+none_rise : IsStrictlySortedBy by_rank []
+unfolding IsStrictlySortedBy
+none_rise = tt
+
+none_ranked : [] ≡ members_in by_rank []
+none_ranked = members_are by_rank by_rank_total by_rank_exact [] [] none_rise (λ q. refl)
+
+ranked_long : (rows : List Post) (ws : List ℕ) → IsStrictlySortedBy nat_cmp ws → length (members_in by_rank (map (counted_word rows) ws)) ≡ length ws
+unfolding IsStrictlySortedBy
+ranked_long rows [] up = ap length (sym none_ranked)
+ranked_long rows (w ∷ ws) up =
+    let m : FinMap by_rank (Unit {0}) = from_entries (map marked (map (counted_word rows) ws)) in
+    let s = counted_word rows w in
+    let new : contains_key m s ≡ false = contains_key-keys m s ∙ is_member-listed by_rank by_rank_total (map (counted_word rows) ws) s ∙ not_among rows w ws up.0 in
+    let short : len m ≡ length ws = len-entries m ∙ sym (length-map (entries m) (λ (e : Scored × Unit {0}). e.0)) ∙ ranked_long rows ws up.1 in
+    length-map (entries (insert m s tt)) (λ (e : Scored × Unit {0}). e.0) ∙ sym (len-entries (insert m s tt)) ∙ len-insert by_rank_total m s tt
+    ∙ ap (λ b. cond b (len m) (len m + 1)) new ∙ (let long : len m + 1 ≡ length (w ∷ ws) = omega arith in long)
+
+pub table_total : (rows : List Post) → length (counted rows) ≡ length (table rows)
+table_total rows =
+    length-map (words_of rows) (counted_word rows) ∙ sym (ranked_long rows (words_of rows) (rises nat_cmp (map (λ p. p.word) rows)))
+    ∙ sym (length-map (members_in by_rank (counted rows)) completion) ∙ ap length (table-is rows)

@@ -1,0 +1,105 @@
+//! How many documents have each word.
+//!
+//! A counted word is a `Scored`: its number stands for the document and the number of documents for the score.
+ghost use Rattle.std.specs.Prelude.{◌≡◌, ◌<◌, ◌≤◌, ◌^◌, ◌+◌, ◌++◌, ◌-◌, map, IfOk, OnOk, All, length, slice_index, EachIndex};
+ghost use Rattle.std.specs.List.Sorted.{IsStrictlySortedBy};
+ghost use Rattle.cs_base.specs.Orders.{by_place};
+ghost use Rattle.cs_tables.specs.Marks.{saw, kept, collected, counted_word, words_of};
+
+use cs_base::{MAX_WORDS, Memory, Scored};
+use cs_cols::Cols;
+use std::alloc::Global;
+
+/// The number that no document has.
+const NO_DOC: u32 = u32::MAX;
+
+/// What was seen of a word on a pass over rows by document.
+#[derive(Clone, Copy)]
+struct Mark {
+    /// The documents that have it so far.
+    docs: u32,
+    /// The last of them, or `NO_DOC`.
+    last: u32,
+}
+
+impl Mark {
+    #[inline]
+    fn see(&mut self, doc: u32)
+        requires { self.old.docs < 2 ^ 32 - 1 }
+
+        ensures { self.new ≡ saw self.old doc }
+    {
+        if self.last != doc {
+            self.last = doc;
+            self.docs += 1;
+        }
+    }
+}
+
+/// Each word of the rows with its number of documents, by the word's number.
+pub(crate) fn counts(alloc: Global, rows: &Cols) -> Result<Vec<Scored>, Memory>
+    requires sorted { IsStrictlySortedBy by_place rows.now.posts }
+    requires docs { All (λ p. p.doc < 2 ^ 20) rows.now.posts }
+    requires words { All (λ p. p.word < 2 ^ 22) rows.now.posts }
+
+    ensures ok { IfOk result (λ v. v.items ≡ map (counted_word rows.now.posts) (words_of rows.now.posts)) }
+    ensures few { IfOk result (λ v. length v.items ≤ 2 ^ 22) }
+{
+    let docs = rows.docs();
+    let words = rows.words();
+    let (low, many) = word_range(words);
+    let blank = Mark {
+        docs: 0,
+        last: NO_DOC,
+    };
+    let mut marks = vec![in alloc; blank; many]?;
+    for i in 0..docs.len() {
+        let word = (words[i] - low) as usize;
+        marks[word].see(docs[i]);
+    }
+    let counted = collect(alloc, low, marks.as_slice())?;
+    Ok(counted)
+}
+
+// The least number that occurs, and how many there are from it up to the greatest.
+fn word_range(words: &[u32]) -> (u32, usize)
+    requires { All (λ w. w < 2 ^ 22) words.now }
+
+    ensures within { EachIndex words.now (λ k. (result.0 ≤ slice_index words.now k) × (slice_index words.now k < result.0 + result.1)) }
+    ensures few { result.0 + result.1 ≤ 2 ^ 22 }
+{
+    let mut low = MAX_WORDS as u32;
+    let mut end = 0;
+    for word in words {
+        low = low.min(*word);
+        end = end.max(*word + 1);
+    }
+    (low, end.saturating_sub(low) as usize)
+}
+
+// The words that have a document, with their numbers from `low` on.
+fn collect(alloc: Global, low: u32, marks: &[Mark]) -> Result<Vec<Scored>, Memory>
+    requires { low + length marks.now ≤ 2 ^ 22 }
+
+    ensures ok { IfOk result (λ v. v.items ≡ collected low marks.now) }
+    ensures few { IfOk result (λ v. length v.items ≤ length marks.now) }
+{
+    let mut counted = Vec::new(alloc);
+    for (i, mark) in marks.iter().enumerate() {
+        add_counted(&mut counted, low + i as u32, mark.docs)?;
+    }
+    Ok(counted)
+}
+
+fn add_counted(counted: &mut Vec<Scored>, word: u32, docs: u32) -> Result<(), Memory>
+    ensures ok { OnOk result (counted.new.items ≡ counted.old.items ++ kept word docs) }
+    ensures few { length counted.new.items ≤ length counted.old.items + 1 }
+{
+    if docs > 0 {
+        counted.push(Scored {
+            doc: word,
+            score: docs,
+        })?;
+    }
+    Ok(())
+}

@@ -1,0 +1,63 @@
+//! Tables and the call that makes one.
+ghost use Rattle.std.specs.Prelude.{◌≡◌, ◌<◌, ◌^◌, IfOk, All, length, take, map};
+ghost use Rattle.std.specs.List.Sorted.{IsStrictlySortedBy};
+ghost use Rattle.cs_base.specs.Orders.{by_place};
+ghost use Rattle.cs_tables.specs.Listings.{table, completion};
+
+use crate::counts::counts;
+use cs_base::{Memory, Scored, Seq};
+use cs_cols::Cols;
+use cs_rank::top;
+use std::alloc::Global;
+
+/// A word with the number of documents that have it.
+#[derive(Clone, Copy, Debug, PartialEq, Eq)]
+pub struct Completion {
+    /// The word's number in the vocabulary.
+    pub word: u32,
+    /// How many documents have it in the rows.
+    pub docs: u32,
+}
+
+/// The first completions of some rows.
+#[derive(Debug, Drop)]
+pub struct Table {
+    /// How many words the rows have.
+    pub total: u32,
+    /// The first of them, by the number of documents descending, then by the word's number.
+    pub first: Seq<Completion>,
+}
+
+/// The words of the rows by their number of documents descending, then by number, cut to the first `cut`, and
+/// how many there are before the cut.
+///
+/// The time is linear in the rows and in the range of word numbers that occurs.
+pub fn completions(alloc: Global, rows: &Cols, cut: u32) -> Result<Table, Memory>
+    requires sorted { IsStrictlySortedBy by_place rows.now.posts }
+    requires docs { All (λ p. p.doc < 2 ^ 20) rows.now.posts }
+    requires words { All (λ p. p.word < 2 ^ 22) rows.now.posts }
+
+    ensures total { IfOk result (λ t. t.total ≡ length (table rows.now.posts)) }
+    ensures first { IfOk result (λ t. t.first ≡ take cut (table rows.now.posts)) }
+{
+    let counted = counts(alloc, rows)?;
+    let best = top(alloc, counted.as_slice(), 0, cut)?;
+    let first = completions_of(alloc, best.as_slice())?;
+    Ok(Table {
+        total: counted.len() as u32,
+        first: Seq::from_vec(first),
+    })
+}
+
+fn completions_of(alloc: Global, best: &[Scored]) -> Result<Vec<Completion>, Memory>
+    ensures { IfOk result (λ v. v.items ≡ map completion best.now) }
+{
+    let mut first = Vec::with_capacity(alloc, best.len())?;
+    for counted in best {
+        first.push(Completion {
+            word: counted.doc,
+            docs: counted.score,
+        })?;
+    }
+    Ok(first)
+}

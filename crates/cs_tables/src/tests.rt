@@ -1,0 +1,55 @@
+//! Tables, scores and hits of a few rows, against numbers that were counted by hand.
+ghost use Rattle.std.specs.Prelude.{◌≡◌, IfOk};
+ghost use Rattle.cs_tables.specs.Sample.{sample};
+
+use crate::completions;
+use cs_base::{Base, Memory, Post, Scored, Seq};
+use cs_cols::Cols;
+use cs_rank::score;
+use std::alloc::Global;
+use std::test::Fail;
+
+fn post(doc: u32, word: u32, pos: u32, score: u8) -> Post
+    ensures { result ≡ record { doc = doc; word = word; pos = pos; score = score } }
+{
+    Post {
+        doc,
+        word,
+        pos,
+        score,
+    }
+}
+
+fn rows(alloc: Global) -> Result<Cols, Memory>
+    ensures { IfOk result (λ c. c.posts ≡ sample) }
+{
+    let mut rows = Cols::new(alloc);
+    rows.reserve(5)?;
+    rows.push_reserved(post(0, 24, 1, 4));
+    rows.push_reserved(post(0, 20, 14, 1));
+    rows.push_reserved(post(1, 24, 12, 1));
+    rows.push_reserved(post(1, 20, 14, 1));
+    rows.push_reserved(post(1, 20, 17, 1));
+    Ok(rows)
+}
+
+#[test]
+fn a_word_counts_once_in_a_document(rt: HostRuntime) -> Result<(), Fail> {
+    let rows = rows(rt.alloc())?;
+    let table = completions(rt.alloc(), &rows, 1)?;
+    assert_eq!(rt; table.total, 2);
+    assert_eq!(rt; table.first.as_slice().len(), 1);
+    assert_eq!(rt; table.first.as_slice()[0].word, 20);
+    assert_eq!(rt; table.first.as_slice()[0].docs, 2);
+    Ok(())
+}
+
+#[test]
+fn a_document_has_its_greatest_score(rt: HostRuntime) -> Result<(), Fail> {
+    let rows = rows(rt.alloc())?;
+    let base = Base::Listed(Seq::new(rt.alloc()));
+    let scored = score(rt.alloc(), &base, &rows)?;
+    let want = [Scored { doc: 0, score: 4 }, Scored { doc: 1, score: 1 }];
+    assert_eq!(rt; scored.as_slice(), want.as_slice());
+    Ok(())
+}

@@ -1,0 +1,42 @@
+-- What several puts of one sink add up to.
+use Rattle.std.proofs.Common.{◌≡◌, ℕ, ◌+◌, ◌<◌, ◌≤◌, List, [], ◌∷◌, ◌++◌, length, take, append_assoc, append-nil, drop, refl, sym, ◌∙◌, ap}
+use Rattle.std.specs.Prelude.{Option, Some, None, Result, Ok, Err, OnOk, OnErr}
+use Rattle.std.specs.Option.{option_map}
+use Rattle.std.proofs.Math.Seq.{take-append_seam, take-append-add}
+use Rattle.std.proofs.lemmas.List.{take-append-drop}
+use Rattle.cs_base.specs.Outside.{Grew, GrewByPrefix}
+
+pub grew_none : (w : Option (List ℕ)) → Grew w [] w
+grew_none None = refl
+grew_none (Some w) = ap (λ l. Some l) (sym (append-nil w))
+
+pub grew_twice : (w : Option (List ℕ)) (a b : List ℕ) (v u : Option (List ℕ)) → Grew w a v → Grew v b u → Grew w (a ++ b) u
+grew_twice None a b v u h k = k ∙ ap (option_map (λ l. l ++ b)) h
+grew_twice (Some w) a b v u h k = k ∙ ap (option_map (λ l. l ++ b)) h ∙ ap (λ l. Some l) (append_assoc w a b)
+
+-- a put that fails leaves some first bytes of what was to come
+pub begun : (w : Option (List ℕ)) (a b : List ℕ) (v : Option (List ℕ)) → GrewByPrefix w a v → GrewByPrefix w (a ++ b) v
+begun w a b v h =
+    let start : take (length (take h.0 a)) (a ++ b) ≡ take h.0 a =
+    ap (λ x. take (length (take h.0 a)) (x ++ b)) (sym (take-append-drop h.0 a))
+    ∙ ap (take (length (take h.0 a))) (append_assoc (take h.0 a) (drop h.0 a) b)
+    ∙ take-append_seam (take h.0 a) (drop h.0 a ++ b) in
+    (length (take h.0 a), h.1 ∙ ap (λ x. option_map (λ l. l ++ x) w) (sym start))
+
+-- what was put before goes in front
+pub grew_then_begun : (w : Option (List ℕ)) (a b : List ℕ) (v u : Option (List ℕ)) → Grew w a v → GrewByPrefix v b u → GrewByPrefix w (a ++ b) u
+grew_then_begun w a b v u h k =
+    (length a + k.0, grew_twice w a (take k.0 b) v u h k.1 ∙ ap (λ x. option_map (λ l. l ++ x) w) (sym (take-append-add a b k.0)))
+
+pub on_err : {T E : Type 0} (r : Result T E) (P : Type 0) → P → OnErr r P
+on_err (Ok x) P p = tt
+on_err (Err e) P p = p
+
+-- what holds of an outcome may be weakened
+pub on_ok_to : {T E : Type 0} (r : Result T E) (P Q : Type 0) → (P → Q) → OnOk r P → OnOk r Q
+on_ok_to (Ok x) P Q f p = f p
+on_ok_to (Err e) P Q f p = tt
+
+pub on_err_to : {T E : Type 0} (r : Result T E) (P Q : Type 0) → (P → Q) → OnErr r P → OnErr r Q
+on_err_to (Ok x) P Q f p = tt
+on_err_to (Err e) P Q f p = f p

@@ -1,0 +1,11 @@
+pub mod AnsweredLemmas
+pub mod AskLemmas
+pub mod ColonLemmas
+pub mod Digits
+pub mod Examples
+pub mod GrewLemmas
+pub mod MemoryText
+pub mod OnePartLemmas
+pub mod SaysLemmas
+pub mod TitlesLemmas
+pub mod WordsLemmas

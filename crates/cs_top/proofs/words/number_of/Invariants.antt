@@ -1,0 +1,10 @@
+use Rattle.std.proofs.Common.{◌≡◌, ◌<◌, take}
+use Rattle.cs_top.specs.Commands.{number_of}
+use Rattle.cs_top.proofs.Digits.{tens}
+use Rattle.cs_top.proofs.words.number_of.Given as goal
+
+abbrev pub invariant-loop-byte : goal.invariant-loop-byte
+invariant-loop-byte l = record {
+  told : l.number ≡ number_of (take l.byte-index l.bytes);
+  small : l.number < tens l.byte-index;
+}

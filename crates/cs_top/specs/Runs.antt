@@ -1,0 +1,66 @@
+-- What a run of the program does, by how it ended.
+--
+--   EndsBy e command             usage exactly where the words aren't in the table; not built for a command that isn't known yet
+--   OfAsk command P              what holds of the two names of an `ask`; nothing is said of other commands
+--   IsExpected e x               the run ended as x, or a call failed, or memory ran out
+--   PutBy e k ls old new         what out grew by: the answers to all these lines, some of them where a call failed, else nothing
+--   Caused e ..                  a run ends by a failure only where a count of files or of out rose; else both stay as they were
+--   Ran e command ..             a whole run
+use Rattle.std.specs.Prelude.{◌≡◌, ◌≢◌, ◌⊎◌, ◌≤◌, ℕ, List, Option, Some, None}
+use Rattle.std.specs.Option.{ForSome}
+use Rattle.std.specs.FinMap as map
+use Rattle.cs_base.specs.Causes.{Rose}
+use Rattle.cs_base.specs.Outside.{Held, bytes_of}
+use Rattle.cs_model.specs.Corpus.{Corpus, corpus}
+use Rattle.cs_model.specs.Outputs.{PutAll, PutSome}
+use Rattle.cs_top.specs.Commands.{Command, build, ask, replay, serve, trial}
+use Rattle.cs_top.specs.Endings.{Ending, done, not_built, usage, absent, failed, no_memory}
+use Rattle.cs_top.specs.Asking.{answered, ending_of}
+
+abbrev pub EndsBy : Ending → Option Command → Type 0
+EndsBy e None = e ≡ usage
+EndsBy e (Some (ask c s)) = e ≢ usage
+EndsBy e (Some (build c i)) = e ≡ not_built
+EndsBy e (Some (replay i s)) = e ≡ not_built
+EndsBy e (Some (serve i p n)) = e ≡ not_built
+EndsBy e (Some (trial n)) = e ≡ not_built
+
+abbrev pub OfAsk : Option Command → (List ℕ → List ℕ → Type 0) → Type 0
+OfAsk (Some (ask c s)) P = P c s
+OfAsk _ P = Unit {0}
+
+abbrev pub IsExpected : Ending → Ending → Type 0
+IsExpected failed x = Unit {0}
+IsExpected no_memory x = Unit {0}
+IsExpected e x = e ≡ x
+
+abbrev pub PutBy : Ending → Corpus → List (List ℕ) → Option (List ℕ) → Option (List ℕ) → Type 0
+PutBy done k ls old new = PutAll k ls old new
+PutBy not_built k ls old new = PutAll k ls old new
+PutBy failed k ls old new = PutSome k ls old new
+PutBy e k ls old new = new ≡ old
+
+-- nothing is put where the words, a file or memory is missing
+abbrev pub PutsNothing : Ending → Option (List ℕ) → Option (List ℕ) → Type 0
+PutsNothing usage old new = new ≡ old
+PutsNothing (absent name) old new = new ≡ old
+PutsNothing no_memory old new = new ≡ old
+PutsNothing e old new = Unit {0}
+
+abbrev pub Caused : Ending → ℕ → ℕ → ℕ → ℕ → Type 0
+Caused failed files_before files_now out_before out_now = (Rose files_before files_now ⊎ Rose out_before out_now) × (files_before ≤ files_now) × (out_before ≤ out_now)
+Caused e files_before files_now out_before out_now = (files_now ≡ files_before) × (out_now ≡ out_before)
+
+-- what a file holds, over files that tell
+abbrev pub held_bytes : Held → List ℕ → List ℕ
+held_bytes h name = bytes_of (map.get h name)
+
+pub record AskEnds (e : Ending) (h : Held) (c s : List ℕ) (old new : Option (List ℕ)) : Type 0 where
+  pub expected : IsExpected e (ending_of h c s)
+  pub put : PutBy e (corpus (held_bytes h c)) (answered (held_bytes h c) (held_bytes h s)) old new
+
+pub record Ran (e : Ending) (command : Option Command) (held : Option Held) (old new : Option (List ℕ)) (files_before files_now out_before out_now : ℕ) : Type 0 where
+  pub ends : EndsBy e command
+  pub asked : OfAsk command (λ c s. ForSome held (λ h. AskEnds e h c s old new))
+  pub nothing : PutsNothing e old new
+  pub caused : Caused e files_before files_now out_before out_now

@@ -1,0 +1,17 @@
+//! The commands of the program: all that it does, over the outside that it is handed.
+//!
+//! `run` is the one call. What it does stands in `specs/Runs.antt`, over the definitions of `cs_model`.
+#![tactic(auto)]
+
+mod answers;
+mod command;
+mod corpus;
+mod ending;
+mod read;
+mod reply;
+mod words;
+
+pub use command::run;
+
+#[cfg(test)]
+mod tests;

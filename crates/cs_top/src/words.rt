@@ -1,0 +1,153 @@
+//! The command line's words, read by a table.
+ghost use Rattle.std.specs.Prelude.{◌≡◌, ◌≤◌, map, length, ◌&&◌, nat_lt, nat_le, IsTrue};
+ghost use Rattle.std.specs.Option.{option_map};
+ghost use Rattle.std.specs.String.{string_bytes};
+ghost use Rattle.std.specs.List.{list_all};
+ghost use Rattle.std.specs.Char.{is_ascii_digit};
+ghost use Rattle.cs_top.specs.Commands.{command_of, two_words, serve_words, trial_words, has_digits, is_number, number_of};
+ghost use Rattle.cs_top.specs.CommandView.{seen};
+
+/// What the words ask for.
+#[derive(Clone, Copy, Debug, PartialEq, Eq)]
+pub(crate) enum Command<'a> {
+    /// `build COLLECTION INDEX`.
+    Build {
+        /// The collection's name.
+        collection: &'a str,
+        /// The index file's name.
+        index: &'a str,
+    },
+    /// `ask COLLECTION SCRIPT`.
+    Ask {
+        /// The collection's name.
+        collection: &'a str,
+        /// The script's name.
+        script: &'a str,
+    },
+    /// `replay INDEX SCRIPT`.
+    Replay {
+        /// The index file's name.
+        index: &'a str,
+        /// The script's name.
+        script: &'a str,
+    },
+    /// `serve INDEX PORT CONNS`.
+    Serve {
+        /// The index file's name.
+        index: &'a str,
+        /// The port's digits.
+        port: &'a str,
+        /// The digits of the number of connections.
+        conns: &'a str,
+    },
+    /// `trial N`.
+    Trial {
+        /// The number's digits.
+        number: &'a str,
+    },
+}
+
+/// The command; None where the words aren't in the table.
+pub(crate) fn command_of(words: &[String]) -> Option<Command<'_>>
+    ensures { option_map seen result ≡ command_of (map string_bytes words.now) }
+{
+    match words {
+        [command, number] => trial(command.as_str(), number.as_str()),
+        [command, first, second] => two_words(command.as_str(), first.as_str(), second.as_str()),
+        [command, index, port, conns] => serve(
+            command.as_str(),
+            index.as_str(),
+            port.as_str(),
+            conns.as_str(),
+        ),
+        _ => None,
+    }
+}
+
+fn two_words<'a>(command: &str, first: &'a str, second: &'a str) -> Option<Command<'a>>
+    ensures { option_map seen result ≡ two_words command.now first.now second.now }
+{
+    match command {
+        "build" => Some(Command::Build {
+            collection: first,
+            index: second,
+        }),
+        "ask" => Some(Command::Ask {
+            collection: first,
+            script: second,
+        }),
+        "replay" => Some(Command::Replay {
+            index: first,
+            script: second,
+        }),
+        _ => None,
+    }
+}
+
+fn serve<'a>(command: &str, index: &'a str, port: &'a str, conns: &'a str) -> Option<Command<'a>>
+    ensures { option_map seen result ≡ serve_words command.now index.now port.now conns.now }
+{
+    if command == "serve" && is_number(port, 5, 65_535) && is_number(conns, 7, 1_000_000) {
+        Some(Command::Serve { index, port, conns })
+    } else {
+        None
+    }
+}
+
+fn trial<'a>(command: &str, number: &'a str) -> Option<Command<'a>>
+    ensures { option_map seen result ≡ trial_words command.now number.now }
+{
+    if command == "trial" && is_number(number, 4, 1_000) {
+        Some(Command::Trial { number })
+    } else {
+        None
+    }
+}
+
+// Whether a word is 1 to so many digits, and their number from 1 to `greatest`.
+fn is_number(word: &str, digits: usize, greatest: u32) -> bool
+    requires { digits ≤ 7 }
+
+    ensures { result ≡ is_number digits greatest word.now }
+{
+    let bytes = word.as_bytes();
+    if !has_digits(bytes, digits) {
+        return false;
+    }
+    is_in_range(number_of(bytes), greatest)
+}
+
+fn has_digits(bytes: &[u8], digits: usize) -> bool
+    ensures { result ≡ has_digits digits bytes.now }
+{
+    if bytes.is_empty() || bytes.len() > digits {
+        return false;
+    }
+    all_digits(bytes)
+}
+
+fn all_digits(bytes: &[u8]) -> bool
+    ensures { result ≡ list_all is_ascii_digit bytes.now }
+{
+    bytes.iter().all(|b| b.is_ascii_digit())
+}
+
+fn is_in_range(number: u32, greatest: u32) -> bool
+    ensures { result ≡ (nat_lt 0 number && nat_le number greatest) }
+{
+    0 < number && number <= greatest
+}
+
+// The number that digits spell.
+fn number_of(bytes: &[u8]) -> u32
+    requires short { length bytes.now ≤ 7 }
+    requires digits { IsTrue (list_all is_ascii_digit bytes.now) }
+
+    ensures { result ≡ number_of bytes.now }
+{
+    let mut number = 0;
+    for byte in bytes {
+        number = number * 10 + u32::from(*byte - b'0');
+    }
+    number
+}
