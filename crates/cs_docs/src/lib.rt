@@ -7,6 +7,7 @@
 mod document;
 mod facet;
 mod fault;
+pub mod laws;
 mod pieces;
 mod reader;
 mod row_list;
@@ -14,3 +15,6 @@ mod row_list;
 pub use fault::{DocFault, RowsFault};
 pub use reader::{first_line, read_docs};
 pub use row_list::rows_of;
+
+#[cfg(test)]
+mod tests;
