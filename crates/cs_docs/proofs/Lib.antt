@@ -1,3 +1,7 @@
+pub mod AcceptedLemmas
 pub mod LinesLemmas
-pub mod PlainLemmas
 pub mod ListingLemmas
+pub mod PiecesLemmas
+pub mod PlainLaws
+pub mod PlainLemmas
+pub mod SlugLemmas

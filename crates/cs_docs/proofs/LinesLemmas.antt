@@ -1,15 +1,19 @@
 -- Lines, one after another, and the documents that they are.
-use Rattle.std.proofs.Common.{◌≡◌, ℕ, ◌+◌, ◌<◌, Bool, true, false, List, [], ◌∷◌, ◌++◌, length, take, drop, get_or, refl, ap, ◌∙◌, arith, eqb}
+use Rattle.std.proofs.Common.{◌≡◌, ℕ, ◌+◌, ◌<◌, Bool, true, false, List, [], ◌∷◌, ◌++◌, length, map, take, drop, get_or, refl, ap, ◌∙◌, arith, eqb}
 use Rattle.std.specs.List.{slice_split, position_or_len}
 use Rattle.memchr.specs.Find.{IsFirstByte, is_byte}
-use Rattle.std.specs.Prelude.{Some, None}
+use Rattle.std.specs.Prelude.{Option, Some, None, MatchOption}
 use Rattle.std.specs.Str.Lines.{lines, lines_of_parts, strip_carriage_return}
 use Rattle.std.proofs.lemmas.Bool.Decides.{nat_tests}
+use Rattle.std.proofs.lemmas.List.{map-append}
 use Rattle.std.proofs.lemmas.List.Elements.{All-from_get_or}
 use Rattle.std.proofs.lemmas.List.Splits.{slice_split_first, slice_split_none, length-slice_split}
 use Rattle.std.proofs.lemmas.List.Sums.{position_or_len_is}
-use Rattle.cs_model.specs.Collection.{has_bytes}
-use Rattle.cs_docs.specs.Reading.{documents_from}
+use Rattle.cs_model.specs.Collection.{has_bytes, Refusal, first_of, line_refusal}
+use Rattle.cs_docs.specs.declared.fault.DocFault.{DocFault}
+use Rattle.cs_docs.specs.Refusals.{refusal_of, IsCauseOf, refusal_from}
+use Rattle.cs_docs.proofs.PiecesLemmas.{first-append, first-append_some}
+use Rattle.cs_docs.specs.Reading.{doc_lines_from, documents_from}
 
 -- behind the first part there are further ones
 more_parts : (x : List ℕ) (ps : List (List ℕ)) → 0 < length ps → lines_of_parts (x ∷ ps) ≡ strip_carriage_return x ∷ lines_of_parts ps
@@ -56,3 +60,30 @@ module _ (d n : ℕ) where
 
   pub documents_next : (l : List ℕ) (ls : List (List ℕ)) → documents_from d n (l ∷ ls) ≡ documents_from d n (l ∷ []) ++ documents_from (d + length (documents_from d n (l ∷ []))) (n + 1) ls
   documents_next l ls = documents_at (has_bytes l) l ls refl
+
+-- ---- refusals
+
+module _ (d n : ℕ) where
+  doc_lines_at : (b : Bool) (l : List ℕ) (ls : List (List ℕ)) → has_bytes l ≡ b → doc_lines_from d n (l ∷ ls) ≡ doc_lines_from d n (l ∷ []) ++ doc_lines_from (d + length (documents_from d n (l ∷ []))) (n + 1) ls
+  doc_lines_at true l ls h =
+      let one : d + 1 ≡ d + length (documents_from d n (l ∷ [])) = rw h refl in
+      rw h refl
+  doc_lines_at false l ls h = rw h (ap (λ m. doc_lines_from m (n + 1) ls) (omega arith))
+
+  refusals_next : (l : List ℕ) (ls : List (List ℕ)) → refusal_from d n (l ∷ ls) ≡ first_of (map line_refusal (doc_lines_from d n (l ∷ [])) ++ map line_refusal (doc_lines_from (d + length (documents_from d n (l ∷ []))) (n + 1) ls))
+  refusals_next l ls = ap (λ ks. first_of (map line_refusal ks)) (doc_lines_at (has_bytes l) l ls refl) ∙ ap first_of (map-append line_refusal (doc_lines_from d n (l ∷ [])) (doc_lines_from (d + length (documents_from d n (l ∷ []))) (n + 1) ls))
+
+  -- where a line isn't refused, a further one may be
+  pub accepted_next : (l : List ℕ) (ls : List (List ℕ)) → refusal_from d n (l ∷ []) ≡ None → refusal_from d n (l ∷ ls) ≡ refusal_from (d + length (documents_from d n (l ∷ []))) (n + 1) ls
+  accepted_next l ls h = refusals_next l ls ∙ first-append (map line_refusal (doc_lines_from d n (l ∷ []))) (map line_refusal (doc_lines_from (d + length (documents_from d n (l ∷ []))) (n + 1) ls)) h
+
+  refused_next : (l : List ℕ) (ls : List (List ℕ)) (r : Refusal) → refusal_from d n (l ∷ []) ≡ Some r → refusal_from d n (l ∷ ls) ≡ Some r
+  refused_next l ls r h = refusals_next l ls ∙ first-append_some (map line_refusal (doc_lines_from d n (l ∷ []))) (map line_refusal (doc_lines_from (d + length (documents_from d n (l ∷ []))) (n + 1) ls)) r h
+
+  cause_at : (o : Option Refusal) (l : List ℕ) (ls : List (List ℕ)) → MatchOption o (Unit {0}) (λ x. refusal_from d n (l ∷ []) ≡ Some x) → MatchOption o (Unit {0}) (λ x. refusal_from d n (l ∷ ls) ≡ Some x)
+  cause_at None l ls h = tt
+  cause_at (Some r) l ls h = refused_next l ls r h
+
+  -- the cause of a line's fault is that of the lines from it on
+  pub cause_next : (l : List ℕ) (ls : List (List ℕ)) (e : DocFault) → IsCauseOf (refusal_from d n (l ∷ [])) e → IsCauseOf (refusal_from d n (l ∷ ls)) e
+  cause_next l ls e h = cause_at (refusal_of e) l ls h

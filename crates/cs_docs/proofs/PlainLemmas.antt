@@ -10,7 +10,7 @@ use Rattle.std.proofs.lemmas.List.{take_all, drop_all, length-map}
 use Rattle.std.proofs.lemmas.List.Elements.{All-from_recursion}
 use Rattle.std.proofs.lemmas.List.Sums.{count_by-le-length}
 use Rattle.std.proofs.lemmas.List.Splits.{length-slice_split}
-use Rattle.std.proofs.lemmas.Str.Ascii.{IsAscii-from_all}
+use Rattle.std.proofs.lemmas.Str.Ascii.{IsAscii-from_all, IsAscii-nil}
 use Rattle.cs_base.specs.declared.doc.Doc.{Doc}
 use Rattle.cs_model.specs.Ascii.{is_ascii_gap, ascii_norm}
 use Rattle.cs_model.specs.Collection.{is_plain, is_plain_byte, without_mark, is_tab, document, documents, doc_line, DocLine, has_bytes}
@@ -130,7 +130,7 @@ whole_before l h = ap (λ n. take n l) h ∙ take_all (length l) l (omega arith)
 nothing_after : (l : List ℕ) → position_or_len is_tab l ≡ length l → after_first is_tab l ≡ []
 nothing_after l h = ap (λ n. drop (n + 1) l) h ∙ drop_all (length l + 1) l (omega arith)
 
-IsTitleOnly-line : (l : DocLine) → IsPart is_plain_byte 65536 l.bytes → IsTitleOnly (document l)
+pub IsTitleOnly-line : (l : DocLine) → IsPart is_plain_byte 65536 l.bytes → IsTitleOnly (document l)
 IsTitleOnly-line l h =
     let at = tab_nowhere l.bytes h.passes in
     let title : before_first is_tab l.bytes ≡ l.bytes = whole_before l.bytes at in
@@ -140,6 +140,9 @@ IsTitleOnly-line l h =
       no_facets = ap (λ r. before_first is_tab r) (nothing_after l.bytes at);
       no_text = ap (λ r. after_first is_tab r) (nothing_after l.bytes at);
     }
+
+pub title_of-line : (l : DocLine) → IsPart is_plain_byte 65536 l.bytes → (document l).title ≡ l.bytes
+title_of-line l h = whole_before l.bytes (tab_nowhere l.bytes h.passes)
 
 -- the documents of the lines from one on, where b says whether it has bytes
 abbrev documents_at : Bool → ℕ → ℕ → List ℕ → List (List ℕ) → List Doc
@@ -171,6 +174,12 @@ length_lines_of (l ∷ []) = at (length l == 0)
     at true = omega arith
     at false = omega arith
 length_lines_of (l ∷ m ∷ ls) = omega (arith, length_lines_of (m ∷ ls))
+
+pub length_of_lines : (c : List ℕ) → length (lines c) ≤ length c + 1
+length_of_lines c = omega (arith, length_lines_of (slice_split (λ b. b == 10) c), length-slice_split (λ b. b == 10) c, count_by-le-length (λ b. b == 10) c)
+
+pub length_documents_of_lines : (c : List ℕ) → length (documents_from 0 1 (lines c)) ≤ length c + 1
+length_documents_of_lines c = omega (arith, length_documents 0 1 (lines c), length_of_lines c)
 
 pub length_plain : (c : List ℕ) → is_plain c ≡ true → length (documents_from 0 1 (lines c)) ≤ 65537
 length_plain c h =
@@ -218,3 +227,6 @@ titles_of_plain c docs h e = subst (All IsTitleOnly) (sym (e ∙ plain_documents
 
 pub length_of_plain : (c : List ℕ) (docs : List Doc) → is_plain c ≡ true → docs ≡ documents c → length docs ≤ 65537
 length_of_plain c docs h e = omega (arith, ap length (e ∙ plain_documents c h), length_plain c h)
+
+pub no_words : words [] ≡ []
+no_words = words-ascii [] IsAscii-nil

@@ -1,2 +1,4 @@
-pub mod Reading
 pub mod Listing
+pub mod Pieces
+pub mod Reading
+pub mod Refusals

@@ -2,8 +2,10 @@
 --
 --   doc_lines_from d n ls     the documents of lines that begin at line n, where d documents stand before them
 --   documents_from d n ls     the same as documents
+--   line_of d n l             the line l, which is line n, as document d
+--   title_only l              the line l as a title, without facets and text
 --   doc_of n l                the document of the line l, which is line n
-use Rattle.std.specs.Prelude.{ℕ, List, map, filter}
+use Rattle.std.specs.Prelude.{ℕ, List, [], map, filter}
 use Rattle.std.specs.List.{enumerate_from}
 use Rattle.cs_base.specs.declared.doc.Doc.{Doc}
 use Rattle.cs_model.specs.Collection.{DocLine, doc_line, has_bytes, document}
@@ -15,6 +17,14 @@ doc_lines_from d n ls = map doc_line (enumerate_from d (filter (λ l. has_bytes 
 abbrev pub documents_from : ℕ → ℕ → List (List ℕ) → List Doc
 documents_from d n ls = map document (doc_lines_from d n ls)
 
+-- the number of the document that the line would be
+abbrev pub line_of : ℕ → ℕ → List ℕ → DocLine
+line_of d n l = record { doc = d; line = n; bytes = l }
+
 -- one whose columns are empty where the line is
 abbrev pub doc_of : ℕ → List ℕ → Doc
-doc_of n l = document (record { doc = 0; line = n; bytes = l })
+doc_of n l = document (line_of 0 n l)
+
+-- the line as a title, without facets and text
+abbrev pub title_only : DocLine → Doc
+title_only l = record { title = l.bytes; facets = []; text = []; line = l.line }

@@ -1,41 +1,109 @@
-//! One line as a document.
-ghost use Rattle.std.specs.Prelude.{◌≡◌, IfOk, OnOk, [], ◌∷◌, ◌++◌, length};
+//! One line as a document, or why it is refused.
+ghost use Rattle.std.specs.Prelude.{◌≡◌, None, IfOk, OnOk, IfErr, [], ◌∷◌, ◌++◌, length, ◌+◌, ◌*◌, ◌≤◌, ◌^◌, nat_le, true};
 ghost use Rattle.std.specs.List.{before_first, after_first};
-ghost use Rattle.cs_model.specs.Collection.{is_tab};
-ghost use Rattle.cs_docs.specs.Reading.{doc_of, documents_from};
+ghost use Rattle.std.specs.Str.{is_utf8};
+ghost use Rattle.cs_model.specs.Collection.{is_tab, unless, not_utf8, line_too_long, words_too_many, line_refusal, first_of};
+ghost use Rattle.cs_model.specs.Words.{words};
+ghost use Rattle.cs_docs.specs.Reading.{doc_of, line_of, documents_from};
+ghost use Rattle.cs_docs.specs.Refusals.{IsCauseOf, refusal_from};
 
-use cs_base::{Doc, Memory, Seq, Text};
+use crate::fault::DocFault;
+use crate::pieces::check_facets;
+use cs_base::{Doc, MAX_DOC_WORDS, MAX_DOCS, MAX_LINE_BYTES, Memory, Seq, Text};
+use cs_text::words;
 use std::alloc::Global;
+use std::str;
 
 /// Adds the document of a line, if the line has bytes.
 pub(crate) fn push_document(
     alloc: Global,
     docs: &mut Seq<Doc>,
-    line: &str,
+    line: &[u8],
     number: u32,
-) -> Result<(), Memory>
+) -> Result<(), DocFault>
     ensures ok { OnOk result (docs.new ≡ docs.old ++ documents_from (length docs.old) number (line.now ∷ [])) }
+    ensures accepted { OnOk result (refusal_from (length docs.old) number (line.now ∷ []) ≡ None) }
+    ensures err { IfErr result (λ e. IsCauseOf (refusal_from (length docs.old) number (line.now ∷ [])) e) }
 {
     if line.is_empty() {
         return Ok(());
     }
-    let doc = document_of(alloc, line, number)?;
+    let doc = document_of(alloc, line, docs.len(), number)?;
     docs.push(doc)?;
     Ok(())
 }
 
 // The columns of a line, each in memory of its own.
-fn document_of(alloc: Global, line: &str, number: u32) -> Result<Doc, Memory>
-    ensures ok { IfOk result (λ doc. doc ≡ doc_of number line.now) }
+fn document_of(alloc: Global, line: &[u8], doc: usize, number: u32) -> Result<Doc, DocFault>
+    ensures ok { IfOk result (λ d. d ≡ doc_of number line.now) }
+    ensures accepted { OnOk result (line_refusal (line_of doc number line.now) ≡ None) }
+    ensures err { IfErr result (λ e. IsCauseOf (line_refusal (line_of doc number line.now)) e) }
 {
-    let (title, rest) = cut_at_tab(line);
+    let text = text_of(line, number)?;
+    let (title, rest) = cut_at_tab(text);
     let (facets, text) = cut_at_tab(rest);
+    check_words(alloc, title, text, number)?;
+    check_facets(alloc, facets, number)?;
+    if doc >= MAX_DOCS {
+        return Err(DocFault::TooManyDocs { line: number });
+    }
+    let doc = copy_columns(alloc, title, facets, text, number)?;
+    Ok(doc)
+}
+
+fn copy_columns(
+    alloc: Global,
+    title: &str,
+    facets: &str,
+    text: &str,
+    line: u32,
+) -> Result<Doc, Memory>
+    ensures ok { IfOk result (λ d. (d.title ≡ title.now) × (d.facets ≡ facets.now) × (d.text ≡ text.now) × (d.line ≡ line)) }
+{
     Ok(Doc {
         title: Text::from_str(alloc, title)?,
         facets: Text::from_str(alloc, facets)?,
         text: Text::from_str(alloc, text)?,
-        line: number,
+        line,
     })
+}
+
+// The line as text, if it is one and not too long.
+fn text_of(line: &[u8], number: u32) -> Result<&str, DocFault>
+    ensures ok { IfOk result (λ s. s.now ≡ line.now) }
+    ensures accepted { OnOk result ((is_utf8 line.now ≡ true) × (nat_le (length line.now) (2 ^ 20) ≡ true)) }
+    ensures err { IfErr result (λ e. IsCauseOf (first_of (unless (is_utf8 line.now) (not_utf8 number) ∷ unless (nat_le (length line.now) (2 ^ 20)) (line_too_long number) ∷ [])) e) }
+{
+    let Ok(text) = str::from_utf8(line) else {
+        return Err(DocFault::NotUtf8 { line: number });
+    };
+    if line.len() > MAX_LINE_BYTES {
+        return Err(DocFault::LineTooLong { line: number });
+    }
+    Ok(text)
+}
+
+// Refuses more than the most words of a document.
+fn check_words(alloc: Global, title: &str, text: &str, number: u32) -> Result<(), DocFault>
+    ensures ok { OnOk result (nat_le (length (words title.now) + length (words text.now)) 100000 ≡ true) }
+    ensures err { IfErr result (λ e. IsCauseOf (unless (nat_le (length (words title.now) + length (words text.now)) 100000) (words_too_many number)) e) }
+{
+    if has_few_words(title) && has_few_words(text) {
+        return Ok(());
+    }
+    let titles = words(alloc, title)?.len();
+    let texts = words(alloc, text)?.len();
+    if titles > MAX_DOC_WORDS || texts > MAX_DOC_WORDS - titles {
+        return Err(DocFault::WordsTooMany { line: number });
+    }
+    Ok(())
+}
+
+// Whether a column is ASCII text that is too short for half of the most words of a document.
+fn has_few_words(column: &str) -> bool
+    ensures { result ≡ true → 2 * length (words column.now) ≤ 100000 }
+{
+    column.len() < MAX_DOC_WORDS && column.is_ascii()
 }
 
 // What stands before the first tab, and what stands behind it; all and nothing where there is no tab.

@@ -5,10 +5,16 @@
 #![tactic(auto)]
 
 mod document;
+mod facet;
 mod fault;
+pub mod laws;
+mod pieces;
 mod reader;
 mod row_list;
 
 pub use fault::{DocFault, RowsFault};
 pub use reader::{first_line, read_docs};
 pub use row_list::rows_of;
+
+#[cfg(test)]
+mod tests;

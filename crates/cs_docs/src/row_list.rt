@@ -1,32 +1,39 @@
 //! The rows of documents.
-ghost use Rattle.std.specs.Prelude.{◌≡◌, ℕ, ◌+◌, ◌≤◌, ◌<◌, ◌^◌, ◌++◌, IfOk, OnOk, IsErrOf, List, length, map, true};
+ghost use Rattle.std.specs.Prelude.{◌≡◌, ℕ, ◌+◌, ◌≤◌, ◌<◌, ◌^◌, ◌++◌, None, IfOk, OnOk, IsErrOf, List, length, map};
 ghost use Rattle.std.specs.List.{enumerate_from};
-ghost use Rattle.cs_model.specs.Collection.{documents, is_plain};
+ghost use Rattle.cs_model.specs.Collection.{documents, docs_refusal, facet_pieces};
 ghost use Rattle.cs_model.specs.Corpus.{rows_of, placed};
 ghost use Rattle.cs_model.specs.Words.{words};
-ghost use Rattle.cs_docs.specs.Listing.{listed_rows};
+ghost use Rattle.cs_docs.specs.Listing.{listed_doc, listed_facets};
+ghost use Rattle.cs_docs.specs.Pieces.{AreNamed, IsAccepted};
 
+use crate::facet::facet_words;
 use crate::fault::RowsFault;
-use cs_base::{Doc, MAX_ROWS, Memory, Row, Seq, Word};
+use cs_base::{Doc, MAX_ROWS, Memory, Row, Seq};
 use cs_text::words;
 use std::alloc::Global;
+
+/// How far behind the last title word the first text word lies, less one: no phrase and no nearness
+/// reaches from one to the other.
+const BETWEEN: u32 = 8;
 
 /// The rows of documents that `read_docs` gave, by document, position and word.
 ///
 /// A title word has its place in the title as position, from 1, and the score 4. Text words go on 9
-/// positions behind the last title word, with the score 1.
+/// positions behind the last title word, with the score 1. A facet word has the position 0 and the
+/// score 2, and counts once in a document.
 ///
 /// `TooManyRows` comes where there are more than `MAX_ROWS` of them.
 pub fn rows_of(alloc: Global, docs: &Seq<Doc>) -> Result<Seq<Row>, RowsFault>
-    requires read { (c : List ℕ) × (is_plain c ≡ true) × (docs.now ≡ documents c) }
+    requires read { (c : List ℕ) × (docs_refusal c ≡ None) × (docs.now ≡ documents c) }
 
     ensures ok { IfOk result (λ rows. rows ≡ rows_of docs.now) }
     ensures few { OnOk result (length (rows_of docs.now) ≤ 2 ^ 24) }
     ensures too_many { IsErrOf result RowsFault.TooManyRows → 2 ^ 24 < length (rows_of docs.now) }
 {
     let mut rows = Seq::new(alloc);
-    for (doc, columns) in docs.as_slice().iter().enumerate() {
-        push_words(alloc, &mut rows, doc as u32, columns.title.as_str(), 1, 4)?;
+    for (number, doc) in docs.as_slice().iter().enumerate() {
+        push_doc(alloc, &mut rows, number as u32, doc)?;
         if rows.len() > MAX_ROWS {
             return Err(RowsFault::TooManyRows);
         }
@@ -34,7 +41,39 @@ pub fn rows_of(alloc: Global, docs: &Seq<Doc>) -> Result<Seq<Row>, RowsFault>
     Ok(rows)
 }
 
-// Adds a row for each word of a column, at positions from `pos` on.
+// Adds the rows of one document.
+fn push_doc(alloc: Global, rows: &mut Seq<Row>, number: u32, doc: &Doc) -> Result<(), Memory>
+    requires { IsAccepted doc.now }
+
+    ensures ok { OnOk result (rows.new ≡ rows.old ++ listed_doc (number, doc.now)) }
+{
+    push_facets(alloc, rows, number, doc.facets.as_str())?;
+    let end = push_words(alloc, rows, number, doc.title.as_str(), 1, 4)?;
+    push_words(alloc, rows, number, doc.text.as_str(), end + BETWEEN, 1)?;
+    Ok(())
+}
+
+// Adds a row for each facet word of a column, each once, by bytes.
+fn push_facets(alloc: Global, rows: &mut Seq<Row>, doc: u32, column: &str) -> Result<(), Memory>
+    requires { AreNamed (facet_pieces column.now) }
+
+    ensures ok { OnOk result (rows.new ≡ rows.old ++ map (λ w. placed doc 2 (0, w)) (listed_facets column.now)) }
+{
+    let mut found = facet_words(alloc, column)?;
+    found.sort()?;
+    found.dedup();
+    for word in found {
+        rows.push(Row {
+            doc,
+            word,
+            pos: 0,
+            score: 2,
+        })?;
+    }
+    Ok(())
+}
+
+// Adds a row for each word of a column, at positions from `pos` on, and gives the position behind.
 fn push_words(
     alloc: Global,
     rows: &mut Seq<Row>,
@@ -42,10 +81,11 @@ fn push_words(
     column: &str,
     pos: u32,
     score: u8,
-) -> Result<(), Memory>
+) -> Result<u32, Memory>
     requires { pos + length (words column.now) < 2 ^ 32 }
 
     ensures ok { OnOk result (rows.new ≡ rows.old ++ map (placed doc score) (enumerate_from pos (words column.now))) }
+    ensures end { IfOk result (λ n. n ≡ pos + length (words column.now)) }
 {
     let mut at = pos;
     for word in words(alloc, column)?.into_vec() {
@@ -57,5 +97,5 @@ fn push_words(
         })?;
         at += 1;
     }
-    Ok(())
+    Ok(at)
 }

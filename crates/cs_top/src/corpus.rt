@@ -1,13 +1,16 @@
 //! A collection, read into the documents and rows that are searched.
 ghost use Rattle.std.specs.Prelude.{◌≡◌, ◌≤◌, ◌^◌, ◌↔◌, true, false, All, IfOk, OnOk, IsErrOf, length};
 ghost use Rattle.std.specs.Str.{IsUtf8};
-ghost use Rattle.cs_model.specs.Collection.{documents, is_plain};
+ghost use Rattle.cs_model.specs.Collection.{documents, is_plain, is_plain_byte};
 ghost use Rattle.cs_model.specs.Corpus.{rows_of};
 ghost use Rattle.cs_top.specs.declared.corpus.CorpusFault.TheVariants.{NotPlain, Memory};
 
 use cs_base::{Doc, Row, Seq};
-use cs_docs::{DocFault, RowsFault, read_docs, rows_of};
+use cs_docs::{RowsFault, read_docs, rows_of};
 use std::alloc::Global;
+
+/// The most bytes of a plain collection.
+const MAX_PLAIN_BYTES: usize = 65536;
 
 /// The documents of a collection with their rows.
 #[derive(Debug, Drop)]
@@ -36,14 +39,28 @@ pub(crate) fn read_corpus(alloc: Global, bytes: &[u8]) -> Result<Corpus, CorpusF
     ensures plain { OnOk result (is_plain bytes.now ≡ true) }
     ensures not_plain { IsErrOf result CorpusFault.NotPlain → is_plain bytes.now ≡ false }
 {
-    let docs = match read_docs(alloc, bytes) {
-        Ok(docs) => docs,
-        Err(DocFault::NotPlain) => return Err(CorpusFault::NotPlain),
-        Err(DocFault::Memory) => return Err(CorpusFault::Memory),
+    if !is_plain(bytes) {
+        return Err(CorpusFault::NotPlain);
+    }
+    // No line of a plain collection is refused.
+    let Ok(docs) = read_docs(alloc, bytes) else {
+        return Err(CorpusFault::Memory);
     };
     match rows_of(alloc, &docs) {
         Ok(rows) => Ok(Corpus { docs, rows }),
         // A plain collection has fewer words than rows may be.
         Err(RowsFault::TooManyRows | RowsFault::Memory) => Err(CorpusFault::Memory),
     }
+}
+
+fn is_plain(bytes: &[u8]) -> bool
+    ensures { result ≡ is_plain bytes.now }
+{
+    bytes.len() <= MAX_PLAIN_BYTES && bytes.iter().all(|b| is_plain_byte(*b))
+}
+
+fn is_plain_byte(b: u8) -> bool
+    ensures { result ≡ is_plain_byte b }
+{
+    b == b'\n' || ((b' '..=b'~').contains(&b) && b != b'"' && b != b'\\')
 }

@@ -1,15 +1,15 @@
 use Rattle.std.proofs.Common.{◌≡◌, ◌+◌, ◌≤◌, ◌++◌, length}
 use Rattle.std.specs.Str.Lines.{lines}
-use Rattle.cs_model.specs.Collection.{documents, is_plain_byte}
+use Rattle.cs_model.specs.Collection.{documents, docs_refusal}
 use Rattle.cs_docs.specs.Reading.{documents_from}
-use Rattle.cs_docs.proofs.PlainLemmas.{AreParts}
-use Rattle.cs_docs.proofs.reader.read_docs.Given as goal
+use Rattle.cs_docs.specs.Refusals.{refusal_from}
+use Rattle.cs_docs.proofs.reader.read_lines.Given as goal
 
 abbrev pub invariant-loop-rest : goal.invariant-loop-rest
 invariant-loop-rest l = record {
   told : documents l.bytes ≡ l.docs ++ documents_from (length l.docs) (l.number + 1) (lines l.rest);
-  plain : AreParts is_plain_byte 65536 (lines l.rest);
-  within : l.number + length l.rest ≤ 65536;
+  refused : docs_refusal l.bytes ≡ refusal_from (length l.docs) (l.number + 1) (lines l.rest);
+  within : l.number + length l.rest ≤ 268435456;
 }
 
 abbrev pub decreases-loop-rest : goal.decreases-loop-rest

@@ -5,7 +5,7 @@ use Rattle.std.proofs.lemmas.Bool.Decides.{nat_tests}
 use Rattle.std.proofs.lemmas.Iterator.{YieldsList-from_slice}
 use Rattle.std.proofs.lemmas.Iterator.Search.{all_from_yields_List}
 use Rattle.cs_model.specs.Collection.{is_plain_byte}
-use Rattle.cs_docs.proofs.reader.is_plain.Goals as goal
+use Rattle.cs_top.proofs.corpus.is_plain.Goals as goal
 
 pub returns-then-bytes-le-MAX_PLAIN_BYTES : goal.returns-then-bytes-le-MAX_PLAIN_BYTES
 returns-then-bytes-le-MAX_PLAIN_BYTES c =

@@ -1,0 +1,60 @@
+//! The facet words of a column.
+ghost use Rattle.std.specs.Prelude.{◌≡◌, ◌≤◌, ◌∷◌, ◌++◌, [], IfOk, OnOk, length, filter};
+ghost use Rattle.std.specs.List.{filter_map};
+ghost use Rattle.cs_model.specs.Collection.{facet_pieces, facet_words, facet_word, has_bytes, named};
+ghost use Rattle.cs_docs.specs.Pieces.{AreNamed};
+
+use crate::pieces::{cut_at_equals, cut_piece};
+use cs_base::{Memory, Word};
+use cs_text::{norm, slug};
+use std::alloc::Global;
+
+/// The facet words of a column, in the order of its pieces. A piece whose value has no word has none.
+pub(crate) fn facet_words(alloc: Global, column: &str) -> Result<Vec<Word>, Memory>
+    requires { AreNamed (facet_pieces column.now) }
+
+    ensures ok { IfOk result (λ v. v.items ≡ facet_words column.now) }
+{
+    let mut found = Vec::new(alloc);
+    let mut rest = column;
+    while !rest.is_empty() {
+        let (piece, after) = cut_piece(rest);
+        push_facet(alloc, &mut found, piece)?;
+        rest = after;
+    }
+    Ok(found)
+}
+
+// Adds the facet word of a piece; an empty one is none.
+fn push_facet(alloc: Global, found: &mut Vec<Word>, piece: &str) -> Result<(), Memory>
+    requires { AreNamed (filter has_bytes (piece.now ∷ [])) }
+
+    ensures ok { OnOk result (found.new.items ≡ found.old.items ++ filter_map facet_word (filter has_bytes (piece.now ∷ []))) }
+{
+    let Some((name, value)) = cut_at_equals(piece) else {
+        return Ok(());
+    };
+    let Some(slug) = slug(alloc, value)? else {
+        return Ok(());
+    };
+    let name = norm(alloc, name)?;
+    let word = word_of(alloc, name.as_str(), slug.as_str())?;
+    found.push(word)?;
+    Ok(())
+}
+
+// The word `:name:slug`.
+fn word_of(alloc: Global, name: &str, slug: &str) -> Result<Word, Memory>
+    requires name { length name.now ≤ 16 }
+    requires slug { length slug.now ≤ 120 }
+
+    ensures ok { IfOk result (λ w. w ≡ named name.now slug.now) }
+{
+    let mut bytes = Vec::with_capacity(alloc, name.len() + slug.len() + 2)?;
+    bytes.push(b':')?;
+    bytes.extend_from_slice(name.as_bytes())?;
+    bytes.push(b':')?;
+    bytes.extend_from_slice(slug.as_bytes())?;
+    let word = Word::new(alloc, bytes.as_slice())?;
+    Ok(word)
+}
