@@ -68,10 +68,6 @@ listed_texts d (doc ∷ docs) h =
 pub row_texts : (docs : List Doc) → AllByRecursion IsTitleOnly docs → All HasText (rows_of docs)
 row_texts docs h = All-from_recursion HasText (rows_of docs) (subst (AllByRecursion HasText) (rows_listed docs) (listed_texts 0 docs h))
 
-pub plain_from : (b : Bool) → (b ≡ false → ⊥) → b ≡ true
-plain_from true h = refl
-plain_from false h = absurd (h refl)
-
 -- each row of a plain collection
 pub plain_texts : (c : List ℕ) → is_plain c ≡ true → All HasText (rows_of (documents c))
 plain_texts c h = row_texts (documents c) (subst (AllByRecursion IsTitleOnly) (sym (plain_documents c h)) (titles_only 0 1 (lines c) (plain_lines c h)))
