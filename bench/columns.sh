@@ -179,11 +179,14 @@ static size_t completions(const Cols &rows, size_t cut, vector<Scored> &first) {
 }
 static vector<Scored> score(const Cols &rows) {
     vector<Scored> scored;
-    for (size_t i = 0; i < rows.size(); i++) {
-        const u32 s = rows.scores[i];
-        if (!scored.empty() && scored.back().doc == rows.docs[i]) scored.back().score = std::max(scored.back().score, s);
-        else scored.push_back({rows.docs[i], s});
+    if (rows.size() == 0) return scored;
+    Scored now{rows.docs[0], rows.scores[0]};
+    for (size_t i = 1; i < rows.size(); i++) {
+        const u32 doc = rows.docs[i], s = rows.scores[i];
+        if (doc == now.doc) now.score = std::max(now.score, s);
+        else { scored.push_back(now); now = {doc, s}; }
     }
+    scored.push_back(now);
     return scored;
 }
 static vector<Scored> score_over(const vector<Scored> &base, const Cols &rows) {

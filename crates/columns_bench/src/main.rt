@@ -22,7 +22,7 @@ fn main(rt: HostRuntime) -> io::Result<()> {
     let times = number(given.next());
     match sum(rt.alloc(), name.as_str(), rows, other, times) {
         Ok(Some(sum)) => println!(rt; "{sum}"),
-        Ok(None) => println!(rt; "no such call"),
+        Ok(None) => println!(rt; "nothing was run"),
         Err(Memory) => Err(AllocError.into()),
     }
 }
@@ -35,7 +35,7 @@ fn number(word: Option<String>) -> u32 {
     }
 }
 
-// The sum of what so many passes tell, if there is such a call.
+// The sum of what so many passes tell, if there is such a call and the posts are fit for it.
 fn sum(
     alloc: Global,
     name: &str,
