@@ -1,6 +1,7 @@
 //! The types, limits and traits of the outside that every other crate speaks of.
 #![tactic(auto)]
 
+mod block;
 mod doc;
 mod hub;
 mod key;
@@ -15,13 +16,15 @@ mod seq;
 mod text;
 mod word;
 
+pub use block::BlockHead;
 pub use doc::{Base, Doc, Post, Row, Scored};
 pub use hub::{Event, Hub};
 pub use key::{Key, Keys, Narrower};
 pub use limits::{
     DEFAULT_COMPLETIONS, DEFAULT_HITS, MAX_ATOMS, MAX_COLLECTION_BYTES, MAX_DEPTH, MAX_DOC_WORDS,
-    MAX_DOCS, MAX_LINE_BYTES, MAX_NAME_BYTES, MAX_OFFSET, MAX_PARTS, MAX_PLAIN_WORD_BYTES,
-    MAX_POSITION, MAX_QUERY_BYTES, MAX_ROWS, MAX_SHOWN, MAX_WORD_BYTES, MAX_WORDS,
+    MAX_DOCS, MAX_FACETS, MAX_LINE_BYTES, MAX_NAME_BYTES, MAX_OFFSET, MAX_PARTS,
+    MAX_PLAIN_WORD_BYTES, MAX_POSITION, MAX_QUERY_BYTES, MAX_ROWS, MAX_SHOWN, MAX_WORD_BYTES,
+    MAX_WORDS,
 };
 pub use mem_files::MemFiles;
 pub use mem_sink::MemSink;

@@ -1,8 +1,9 @@
 //! The texts of faults.
 ghost use Rattle.std.specs.Prelude.{◌≡◌, IfOk, codes};
 ghost use Rattle.serde_json.specs.View.{view};
-ghost use Rattle.cs_model.specs.Faults.{error_data, bad_data, limit_data, param_data, changed_data};
-ghost use Rattle.cs_json.specs.FaultTexts.{fault_data, refusal_data, fault_text, limit_word, param_name};
+ghost use Rattle.cs_model.specs.Faults.{error_data, bad_data, limit_data, param_data, changed_data, limit_word};
+ghost use Rattle.cs_query.specs.ParamNames.{param_name};
+ghost use Rattle.cs_json.specs.FaultTexts.{fault_data, refusal_data, fault_text};
 
 use cs_base::Memory;
 use cs_query::{Param, ReqFault, Which};

@@ -2,6 +2,7 @@
 --
 --   error_data error       {"error":E}
 --   bad_data at            {"at":P,"error":"bad"}: the query is refused at the byte P
+--   limit_word which       the word of a limit
 --   limit_data at which    {"at":P,"error":"limit","which":W}: a limit refuses it there
 --   param_data name        {"error":"param","param":X}: the parameter X is refused
 --   changed_data rule at   {"at":P,"error":"changed","rule":R}: the index file breaks the rule R at the byte P
@@ -9,12 +10,22 @@
 --
 -- The words that stand for E are memory, read, head, body, head too long, path and method.
 use Rattle.std.specs.Prelude.{ℕ, List, codes}
+use Rattle.cs_base.specs.declared.query.Which.{Which}
+use Rattle.cs_base.specs.declared.query.Which.TheVariants as limits
 use Rattle.serde_json.specs.Data.{Data, object, string, number, unsigned, no_members, member}
 use Rattle.serde_json.specs.Written.{compact_text}
 
 -- a fault of which nothing more is said
 abbrev pub error_data : List ℕ → Data
 error_data error = object (member (codes "error") (string error) no_members)
+
+-- a limit's word
+abbrev pub limit_word : Which → List ℕ
+limit_word limits.Query = codes "query"
+limit_word limits.Word = codes "word"
+limit_word limits.Parts = codes "parts"
+limit_word limits.Atoms = codes "atoms"
+limit_word limits.Depth = codes "depth"
 
 -- the query isn't of the grammar: the number of bytes before the first refused character
 abbrev pub bad_data : ℕ → Data

@@ -7,6 +7,7 @@ pub mod FirstRefusal
 pub mod Grammar
 pub mod KeyText
 pub mod Outputs
+pub mod Parameters
 pub mod Refusals
 pub mod Replies
 pub mod Requests
