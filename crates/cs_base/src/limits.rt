@@ -36,6 +36,9 @@ pub const MAX_SHOWN: u32 = 100;
 /// The most hits that a request may leave out in front.
 pub const MAX_OFFSET: u32 = 10_000;
 
+/// The most bytes of a script's line, without its ending.
+pub const MAX_SCRIPT_LINE_BYTES: usize = 4096;
+
 /// The most facet names that a request may ask.
 pub const MAX_FACETS: usize = 8;
 

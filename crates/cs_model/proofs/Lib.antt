@@ -1,4 +1,3 @@
-pub mod AnswersLemmas
 pub mod AsciiLemmas
 pub mod FittingLemmas
 pub mod QueryExamples

@@ -1,39 +1,57 @@
 -- What a run may put for the lines of a script.
 --
---   script_lines s             the lines of a script that have bytes
---   first_plain, behind_plain  those before the first line that isn't plain; that line and those behind it
---   text k l                   the reply's text for a plain line over a corpus; of other lines it says nothing
+--   script_lines s             the lines of a script that have bytes, each with its number from 1 among all lines
+--   ScriptFault                why a line isn't read
+--   line_fault l               too long, else not UTF-8; None where the line is read
+--   text k p                   the text that answers the parameters p over the corpus k: the reply, or the fault of the first
+--                              refusal
 --   memory_text                the text in its place where memory ran out
 --   IsAnswer k l t             t may be put for the line: its text or the memory text, and LF
 --   IsAllowed k ls o           o is one answer for each of the lines, in order; nothing for no lines
 --   PutAll k ls old new        where a sink tells, it grew by an allowed output for all these lines
 --   IsBegun k left b           b is some first bytes of an answer to the first line that is left
 --   PutSome k ls old new       it grew by an allowed output for some first lines, and some first bytes of an answer to the next
-use Rattle.std.specs.Prelude.{◌≡◌, ◌⊎◌, ℕ, List, [], ◌∷◌, ◌++◌, filter, take, drop, Option, codes}
-use Rattle.std.specs.List.{take_while, prefix_len}
-use Rattle.std.specs.Str.Lines.{lines}
+--
+-- A script begins and ends its lines as a collection does: EF BB BF in front is skipped once, LF ends a line with one CR
+-- before it, and the last line needs no ending.
+use Rattle.std.specs.Prelude.{◌≡◌, ◌⊎◌, ℕ, nat_le, if◌then◌else◌, List, [], ◌∷◌, ◌++◌, filter, length, take, Option, Some, None, codes}
+use Rattle.std.specs.Option.{option_or}
+use Rattle.std.specs.Str.{is_utf8}
 use Rattle.cs_base.specs.Outside.{Grew}
-use Rattle.cs_model.specs.Collection.{has_bytes}
+use Rattle.cs_base.specs.declared.limits.TheConstants.{MAX_SCRIPT_LINE_BYTES}
+use Rattle.cs_model.specs.Collection.{collection_lines, has_bytes}
 use Rattle.cs_model.specs.Corpus.{Corpus}
 use Rattle.cs_model.specs.Faults.{error_text}
+use Rattle.cs_model.specs.Parameters.{Refused, request_of, request_refusal, refusal_text}
 use Rattle.cs_model.specs.Replies.{reply_text}
-use Rattle.cs_model.specs.Requests.{is_plain_line, plain_request, reply_of}
+use Rattle.cs_model.specs.Requests.{reply_of}
 
-abbrev pub script_lines : List ℕ → List (List ℕ)
-script_lines s = filter has_bytes (lines s)
+-- ---- lines
+abbrev pub script_lines : List ℕ → List (ℕ × List ℕ)
+script_lines s = filter (λ l. has_bytes l.1) (collection_lines s)
 
-abbrev pub first_plain : List (List ℕ) → List (List ℕ)
-first_plain ls = take_while is_plain_line ls
+-- the number of the line among all lines, those without bytes included
+pub data ScriptFault : Type 0 where
+  script_line_too_long : ℕ → ScriptFault
+  script_line_not_utf8 : ℕ → ScriptFault
 
-abbrev pub behind_plain : List (List ℕ) → List (List ℕ)
-behind_plain ls = drop (prefix_len is_plain_line ls) ls
+-- a line is measured without its ending
+abbrev pub line_fault : ℕ × List ℕ → Option ScriptFault
+line_fault l = option_or (if nat_le (length l.1) MAX_SCRIPT_LINE_BYTES then None else Some (script_line_too_long l.0))
+    (if is_utf8 l.1 then None else Some (script_line_not_utf8 l.0))
+
+-- ---- texts
+abbrev pub text_by : Corpus → List ℕ → Option Refused → List ℕ
+text_by k p None = reply_text (reply_of k (request_of p))
+text_by k p (Some r) = refusal_text r
 
 unfoldable pub text : Corpus → List ℕ → List ℕ
-text k l = reply_text (reply_of k (plain_request l))
+text k p = text_by k p (request_refusal p)
 
 abbrev pub memory_text : List ℕ
 memory_text = error_text (codes "memory")
 
+-- ---- outputs
 abbrev pub IsAnswer : Corpus → List ℕ → List ℕ → Type 0
 IsAnswer k l t = (t ≡ text k l ++ 10 ∷ []) ⊎ (t ≡ memory_text ++ 10 ∷ [])
 

@@ -2,22 +2,14 @@
 --
 --   Request              the query; how many hits are shown; how many completions, and words of each facet table, are shown; how
 --                        many hits are left out in front; the names of the facets asked
---   prefix_query p       the query of one positive part that asks the words beginning with p
---   is_plain_line l      `q=` and 1 to 120 letters a to z
---   plain_request l      what such a line asks; all else is at its default
 --   shown_word w         a word as it is shown: that of a facet without its leading colon
 --   reply_to k ps r      the reply to a request whose parts have these rows: each list is ordered whole, counted, and then cut
 --   reply_of k r         the reply to a request over a corpus
-use Rattle.std.specs.Prelude.{ℕ, Bool, false, ◌&&◌, ◌==◌, nat_lt, nat_le, nat_eq, if◌then◌else◌, List, [], ◌∷◌, map, length, take, drop}
-use Rattle.std.specs.List.{list_all, starts_with}
+use Rattle.std.specs.Prelude.{ℕ, ◌==◌, if◌then◌else◌, List, [], ◌∷◌, map, length, take, drop}
 use Rattle.std.specs.Option.{unwrap_or}
 use Rattle.std.specs.FinMap as map
-use Rattle.cs_base.specs.declared.query.Query.{Query, roll-Query}
-use Rattle.cs_base.specs.declared.query.Part.{roll-Part}
-use Rattle.cs_base.specs.declared.query.Chain.{roll-Chain}
-use Rattle.cs_base.specs.declared.query.Atom.{Prefix}
+use Rattle.cs_base.specs.declared.query.Query.{Query}
 use Rattle.cs_base.specs.declared.doc.Scored.{Scored}
-use Rattle.cs_model.specs.Collection.{is_small_letter}
 use Rattle.cs_model.specs.Corpus.{Corpus}
 use Rattle.cs_model.specs.Answers.{Completion, PartRows, parts_of, hits, ranked, table, facet_table}
 use Rattle.cs_model.specs.Replies.{Reply, Shown, HitShown, FacetShown}
@@ -28,16 +20,6 @@ pub record Request : Type 0 where
   pub completions : ℕ
   pub offset : ℕ
   pub facets : List (List ℕ)
-
--- ---- plain requests
-abbrev pub prefix_query : List ℕ → Query
-prefix_query p = roll-Query (record { parts = roll-Part (record { excluded = false; chains = roll-Chain (record { first = Prefix p; rest = [] }) ∷ [] }) ∷ [] })
-
-abbrev pub is_plain_line : List ℕ → Bool
-is_plain_line l = starts_with nat_eq l (113 ∷ 61 ∷ []) && (nat_lt 2 (length l) && (nat_le (length l) 122 && list_all is_small_letter (drop 2 l)))
-
-abbrev pub plain_request : List ℕ → Request
-plain_request l = record { query = prefix_query (drop 2 l); hits = 10; completions = 10; offset = 0; facets = [] }
 
 -- ---- replies
 abbrev pub shown_word : List ℕ → List ℕ

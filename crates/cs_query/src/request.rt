@@ -1,7 +1,6 @@
 //! Requests, as the reader of parameters gives them, and why one is refused.
 use crate::Which;
 use cs_base::{Query, Seq, Text};
-use std::marker::Model;
 
 /// Why a string of parameters is no request.
 #[derive(Clone, Copy, Debug, PartialEq, Eq)]
@@ -53,12 +52,4 @@ pub struct Request {
     pub offset: u32,
     /// The names of the facets asked, each once, in byte order.
     pub facets: Seq<Text>,
-}
-
-impl Model for Request {
-    ghost use Rattle.cs_model.specs.Requests.{Request};
-
-    ghost Value = { Request };
-
-    ghost view = { λ r. record { query = r.query; hits = r.hits; completions = r.completions; offset = r.offset; facets = r.facets } };
 }

@@ -1,32 +1,65 @@
 -- What `ask COLLECTION SCRIPT` does over files that tell what they hold.
 --
---   is_short_script s          a script of at most 65,536 bytes; longer ones aren't read yet
---   answered c s               the lines of a script that are answered over a collection: those before the first that isn't
---                              plain; none where the collection isn't plain or the script is too long
---   ending_over c s            how it ends over the bytes of both files: done where all is read and each line is plain
---   ending_of h c s            how it ends over these files where no call fails and memory is there: the first of the two names
---                              that isn't held is said to be absent
-use Rattle.std.specs.Prelude.{ℕ, Bool, true, false, ◌&&◌, nat_le, if◌then◌else◌, List, [], ◌∷◌, length, Option, Some, None}
-use Rattle.std.specs.List.{prefix_len, list_all}
+--   asks_join p           the parameters are a request, and its query has a join, which isn't answered yet
+--   line_ending l         how a script ends at the line l: it is too long or not UTF-8, or it asks a join; None where it is answered
+--   answered_lines ls     the lines before the first at which the script ends
+--   ending_of_lines ls    how the lines end: done where each is answered
+--   answered c s          the lines of a script that are answered over a collection; none where the collection is refused
+--   ending_over c s       how it ends over the bytes of both files
+--   ending_of h c s       how it ends over these files where no call fails and memory is there: the first of the two names
+--                         that isn't held is said to be absent
+use Rattle.std.specs.Prelude.{ℕ, Bool, false, if◌then◌else◌, List, [], ◌∷◌, Option, Some, None}
+use Rattle.std.specs.Option.{option_map, option_or}
 use Rattle.std.specs.FinMap as map
 use Rattle.cs_base.specs.Outside.{Held, File}
-use Rattle.cs_model.specs.Collection.{is_plain}
-use Rattle.cs_model.specs.Requests.{is_plain_line}
-use Rattle.cs_model.specs.Outputs.{script_lines, first_plain}
-use Rattle.cs_top.specs.Endings.{Ending, done, not_built, absent}
+use Rattle.cs_model.specs.Collection.{Refusal}
+use Rattle.cs_model.specs.Corpus.{refusal}
+use Rattle.cs_model.specs.Parameters.{Refused, request_of, request_refusal}
+use Rattle.cs_model.specs.Outputs.{script_lines, line_fault}
+use Rattle.cs_engine.specs.Searching.{has_join}
+use Rattle.cs_top.specs.Endings.{Ending, done, not_built, refused, absent, script_refused}
 
-abbrev pub is_short_script : List ℕ → Bool
-is_short_script s = nat_le (length s) 65536
+abbrev pub asks_join_by : List ℕ → Option Refused → Bool
+asks_join_by p None = has_join (request_of p).query
+asks_join_by p (Some r) = false
 
-abbrev pub is_read : List ℕ → List ℕ → Bool
-is_read c s = is_plain c && is_short_script s
+abbrev pub asks_join : List ℕ → Bool
+asks_join p = asks_join_by p (request_refusal p)
+
+abbrev pub line_ending : ℕ × List ℕ → Option Ending
+line_ending l = option_or (option_map script_refused (line_fault l)) (if asks_join l.1 then Some not_built else None)
+
+-- one line in front of others, by how the script ends there
+abbrev pub answered_before : List ℕ → Option Ending → List (List ℕ) → List (List ℕ)
+answered_before l None ls = l ∷ ls
+answered_before l (Some e) ls = []
+
+abbrev pub ending_before : Option Ending → Ending → Ending
+ending_before None e = e
+ending_before (Some first) e = first
+
+unfoldable pub answered_lines : List (ℕ × List ℕ) → List (List ℕ)
+answered_lines [] = []
+answered_lines (l ∷ ls) = answered_before l.1 (line_ending l) (answered_lines ls)
+
+unfoldable pub ending_of_lines : List (ℕ × List ℕ) → Ending
+ending_of_lines [] = done
+ending_of_lines (l ∷ ls) = ending_before (line_ending l) (ending_of_lines ls)
+
+-- ---- both files
+abbrev pub answered_by : Option Refusal → List ℕ → List (List ℕ)
+answered_by None s = answered_lines (script_lines s)
+answered_by (Some r) s = []
 
 abbrev pub answered : List ℕ → List ℕ → List (List ℕ)
-answered c s = if is_read c s then first_plain (script_lines s) else []
+answered c s = answered_by (refusal c) s
 
--- all its lines are plain
+abbrev pub ending_by : Option Refusal → List ℕ → Ending
+ending_by None s = ending_of_lines (script_lines s)
+ending_by (Some r) s = refused r
+
 abbrev pub ending_over : List ℕ → List ℕ → Ending
-ending_over c s = if is_read c s && list_all is_plain_line (script_lines s) then done else not_built
+ending_over c s = ending_by (refusal c) s
 
 abbrev pub ending_of_files : List ℕ → List ℕ → Option File → Option File → Ending
 ending_of_files c s None f = absent c

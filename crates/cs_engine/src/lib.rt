@@ -1,0 +1,11 @@
+//! The engine: the reply that a collection in memory gives to a request.
+//!
+//! Callers see `Corpus` as its titles and rows. What a reply says stands in `Answers` and `Requests` of `cs_model`.
+//! Nothing here reads a file.
+#![tactic(auto)]
+
+mod corpus;
+mod joins;
+
+pub use corpus::{Corpus, CorpusFault};
+pub use joins::has_join;

@@ -1,0 +1,9 @@
+//! What clients send: strings of parameters as requests.
+//!
+//! What a string of parameters asks, and when it is refused, stands in `Parameters` of `cs_model`. Nothing here reads
+//! or writes a socket.
+#![tactic(auto)]
+
+mod parameters;
+
+pub use parameters::request;
