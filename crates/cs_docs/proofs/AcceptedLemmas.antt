@@ -1,13 +1,15 @@
 -- Documents of a collection that isn't refused: few words, named pieces, few documents.
-use Rattle.std.proofs.Common.{◌≡◌, ℕ, ◌^◌, ◌≤◌, Bool, true, false, cond, nat_le, nat_lt, nat_eq, List, [], ◌∷◌, length, map, drop, refl, sym, ap, subst, arith, length-drop}
+use Rattle.std.proofs.Common.{◌≡◌, ℕ, ◌+◌, ◌^◌, ◌≤◌, Bool, true, false, cond, nat_le, nat_lt, nat_eq, List, [], ◌∷◌, length, map, filter, drop, refl, sym, ap, subst, arith, length-drop}
 use Rattle.std.specs.Prelude.{Option, Some, None}
-use Rattle.std.specs.List.{All, AllByRecursion, list_any, starts_with}
+use Rattle.std.specs.List.{All, AllByRecursion, list_any, starts_with, enumerate_from}
 use Rattle.std.specs.Str.{is_utf8}
 use Rattle.std.specs.Str.Lines.{lines}
 use Rattle.std.proofs.lemmas.Bool.Decides.{nat_tests}
+use Rattle.std.proofs.lemmas.List.{length-map}
+use Rattle.std.proofs.lemmas.List.FromFn.{length-enumerate_from}
 use Rattle.std.proofs.lemmas.List.Elements.{All-from_recursion}
 use Rattle.cs_base.specs.declared.doc.Doc.{Doc}
-use Rattle.cs_model.specs.Collection.{Refusal, unless, first_of, piece_refusal, line_refusal, docs_refusal, documents, document, DocLine, has_name_form, piece_name, is_equals, facet_pieces, columns, word_count, bad_facet, bad_name, without_mark, not_utf8, line_too_long, words_too_many, too_many_docs, too_large}
+use Rattle.cs_model.specs.Collection.{Refusal, unless, first_of, piece_refusal, line_refusal, docs_refusal, documents, document, DocLine, doc_line, doc_lines, collection_lines, has_bytes, has_name_form, piece_name, is_equals, facet_pieces, columns, word_count, bad_facet, bad_name, without_mark, not_utf8, line_too_long, words_too_many, too_many_docs, too_large}
 use Rattle.cs_docs.specs.Pieces.{IsNamed, AreNamed, IsAccepted}
 use Rattle.cs_docs.specs.Reading.{doc_lines_from}
 use Rattle.cs_docs.proofs.PlainLemmas.{length_documents_of_lines}
@@ -71,3 +73,31 @@ few_docs c docs h e =
     let small : nat_le (length c) 268435456 ≡ true = passed (nat_le (length c) 268435456) too_large (none_first _ _ h) in
     let bound : length c ≤ 268435456 = grind (arith, nat_tests) in
     omega (arith, ap length e, length_documents_of_lines (without_mark c), unmarked_length (starts_with nat_eq c (239 ∷ 187 ∷ 191 ∷ [])) c, bound)
+
+-- ---- there are few of them
+
+few_line : (l : DocLine) → line_refusal l ≡ None → l.doc + 1 ≤ 2 ^ 20
+few_line l h =
+    let utf8 = unless (is_utf8 l.bytes) (not_utf8 l.line) in
+    let long = unless (nat_le (length l.bytes) (2 ^ 20)) (line_too_long l.line) in
+    let many = unless (nat_le (word_count (columns l.bytes)) 100000) (words_too_many l.line) in
+    let pieces = first_of (map (piece_refusal l.line) (facet_pieces (columns l.bytes).facets)) in
+    let docs = unless (nat_lt l.doc (2 ^ 20)) (too_many_docs l.line) in
+    let behind : first_of (many ∷ pieces ∷ docs ∷ []) ≡ None = none_rest long (many ∷ pieces ∷ docs ∷ []) (none_rest utf8 (long ∷ many ∷ pieces ∷ docs ∷ []) h) in
+    let last : first_of (docs ∷ []) ≡ None = none_rest pieces (docs ∷ []) (none_rest many (pieces ∷ docs ∷ []) behind) in
+    below l.doc (passed (nat_lt l.doc (2 ^ 20)) (too_many_docs l.line) (none_first docs [] last))
+  where
+    below : (n : ℕ) → nat_lt n (2 ^ 20) ≡ true → n + 1 ≤ 2 ^ 20
+    below n h = grind (arith, nat_tests)
+
+few_lines : (d : ℕ) (ls : List (ℕ × List ℕ)) → d ≤ 2 ^ 20 → first_of (map line_refusal (map doc_line (enumerate_from d ls))) ≡ None → d + length ls ≤ 2 ^ 20
+few_lines d [] le h = omega (arith, le)
+few_lines d (l ∷ ls) le h =
+    let next = few_line (doc_line (d, l)) (none_first (line_refusal (doc_line (d, l))) _ h) in
+    omega (arith, few_lines (d + 1) ls next (none_rest (line_refusal (doc_line (d, l))) _ h))
+
+pub few_documents : (c : List ℕ) → docs_refusal c ≡ None → length (documents c) ≤ 2 ^ 20
+few_documents c h =
+    let ls = filter (λ l. has_bytes l.1) (collection_lines c) in
+    let few = few_lines 0 ls (omega arith) (none_rest (unless (nat_le (length c) (2 ^ 28)) too_large) _ h) in
+    omega (arith, few, length-map (doc_lines c) document, length-map (enumerate_from 0 ls) doc_line, length-enumerate_from 0 ls)

@@ -5,3 +5,4 @@ pub mod PiecesLemmas
 pub mod PlainLaws
 pub mod PlainLemmas
 pub mod SlugLemmas
+pub mod TextLemmas

@@ -2,9 +2,11 @@
 --
 --   listed_facets column     the facet words of a column, each once, by bytes
 --   listed_doc p             the rows of a document of number p.0, in their order
+--   HasText r               the row's word is UTF-8
 --   listed_rows d docs       the rows of documents that are numbered from d, in their order
 use Rattle.std.specs.Prelude.{ℕ, ◌++◌, List, map}
 use Rattle.std.specs.List.{flat_map, enumerate_from}
+use Rattle.std.specs.Str.{IsUtf8}
 use Rattle.std.specs.Ordering.{nat_cmp}
 use Rattle.std.specs.Cmp.Lexicographic.{slice_cmp}
 use Rattle.cs_base.specs.Members.{members_in}
@@ -23,3 +25,6 @@ listed_doc p = map (λ w. placed p.0 2 (0, w)) (listed_facets p.1.facets) ++ tit
 
 abbrev pub listed_rows : ℕ → List Doc → List Row
 listed_rows d docs = flat_map listed_doc (enumerate_from d docs)
+
+abbrev pub HasText : Row → Type 0
+HasText r = IsUtf8 r.word

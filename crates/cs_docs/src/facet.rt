@@ -1,6 +1,7 @@
 //! The facet words of a column.
 ghost use Rattle.std.specs.Prelude.{◌≡◌, ◌≤◌, ◌∷◌, ◌++◌, [], IfOk, OnOk, length, filter};
-ghost use Rattle.std.specs.List.{filter_map};
+ghost use Rattle.std.specs.List.{All, filter_map};
+ghost use Rattle.std.specs.Str.{IsUtf8};
 ghost use Rattle.cs_model.specs.Collection.{facet_pieces, facet_words, facet_word, has_bytes, named};
 ghost use Rattle.cs_docs.specs.Pieces.{AreNamed};
 
@@ -14,6 +15,7 @@ pub(crate) fn facet_words(alloc: Global, column: &str) -> Result<Vec<Word>, Memo
     requires { AreNamed (facet_pieces column.now) }
 
     ensures ok { IfOk result (λ v. v.items ≡ facet_words column.now) }
+    ensures utf8 { IfOk result (λ v. All IsUtf8 v.items) }
 {
     let mut found = Vec::new(alloc);
     let mut rest = column;
@@ -30,6 +32,7 @@ fn push_facet(alloc: Global, found: &mut Vec<Word>, piece: &str) -> Result<(), M
     requires { AreNamed (filter has_bytes (piece.now ∷ [])) }
 
     ensures ok { OnOk result (found.new.items ≡ found.old.items ++ filter_map facet_word (filter has_bytes (piece.now ∷ []))) }
+    ensures utf8 { OnOk result (All IsUtf8 found.old.items → All IsUtf8 found.new.items) }
 {
     let Some((name, value)) = cut_at_equals(piece) else {
         return Ok(());

@@ -1,5 +1,5 @@
 //! A collection, read line by line.
-ghost use Rattle.std.specs.Prelude.{◌≡◌, ℕ, Some, None, IfOk, IfErr, OnOk, IsErrOf, ◌<◌, ◌∷◌, length};
+ghost use Rattle.std.specs.Prelude.{◌≡◌, ℕ, Some, None, IfOk, IfErr, OnOk, IsErrOf, ◌<◌, ◌≤◌, ◌^◌, ◌∷◌, length};
 ghost use Rattle.std.specs.Str.Lines.{lines, strip_carriage_return};
 ghost use Rattle.cs_model.specs.Collection.{documents, docs_refusal, without_mark, too_large, not_utf8, line_too_long, words_too_many, bad_facet, bad_name, too_many_docs};
 ghost use Rattle.cs_docs.specs.Refusals.{IsCauseOf};
@@ -25,6 +25,7 @@ const MARK: &[u8] = b"\xEF\xBB\xBF";
 pub fn read_docs(alloc: Global, bytes: &[u8]) -> Result<Seq<Doc>, DocFault>
     ensures ok { IfOk result (λ docs. docs ≡ documents bytes.now) }
     ensures accepted { OnOk result (docs_refusal bytes.now ≡ None) }
+    ensures few { OnOk result (length (documents bytes.now) ≤ 2 ^ 20) }
 
     // Each fault but want of memory is the first refusal.
     ensures too_large { IsErrOf result DocFault.TooLarge → docs_refusal bytes.now ≡ Some too_large }

@@ -1,10 +1,11 @@
 //! The rows of documents.
 ghost use Rattle.std.specs.Prelude.{◌≡◌, ℕ, ◌+◌, ◌≤◌, ◌<◌, ◌^◌, ◌++◌, None, IfOk, OnOk, IsErrOf, List, length, map};
-ghost use Rattle.std.specs.List.{enumerate_from};
-ghost use Rattle.cs_model.specs.Collection.{documents, docs_refusal, facet_pieces};
+ghost use Rattle.std.specs.List.{All, enumerate_from};
+ghost use Rattle.std.specs.Str.{IsUtf8};
+ghost use Rattle.cs_model.specs.Collection.{documents, docs_refusal, facet_pieces, facet_words};
 ghost use Rattle.cs_model.specs.Corpus.{rows_of, placed};
 ghost use Rattle.cs_model.specs.Words.{words};
-ghost use Rattle.cs_docs.specs.Listing.{listed_doc, listed_facets};
+ghost use Rattle.cs_docs.specs.Listing.{listed_doc, listed_facets, HasText};
 ghost use Rattle.cs_docs.specs.Pieces.{AreNamed, IsAccepted};
 
 use crate::facet::facet_words;
@@ -29,6 +30,7 @@ pub fn rows_of(alloc: Global, docs: &Seq<Doc>) -> Result<Seq<Row>, RowsFault>
 
     ensures ok { IfOk result (λ rows. rows ≡ rows_of docs.now) }
     ensures few { OnOk result (length (rows_of docs.now) ≤ 2 ^ 24) }
+    ensures utf8 { IfOk result (λ rows. All (λ r. IsUtf8 r.word) rows) }
     ensures too_many { IsErrOf result RowsFault.TooManyRows → 2 ^ 24 < length (rows_of docs.now) }
 {
     let mut rows = Seq::new(alloc);
@@ -46,6 +48,7 @@ fn push_doc(alloc: Global, rows: &mut Seq<Row>, number: u32, doc: &Doc) -> Resul
     requires { IsAccepted doc.now }
 
     ensures ok { OnOk result (rows.new ≡ rows.old ++ listed_doc (number, doc.now)) }
+    ensures utf8 { OnOk result (All HasText (listed_doc (number, doc.now))) }
 {
     push_facets(alloc, rows, number, doc.facets.as_str())?;
     let end = push_words(alloc, rows, number, doc.title.as_str(), 1, 4)?;
@@ -58,6 +61,7 @@ fn push_facets(alloc: Global, rows: &mut Seq<Row>, doc: u32, column: &str) -> Re
     requires { AreNamed (facet_pieces column.now) }
 
     ensures ok { OnOk result (rows.new ≡ rows.old ++ map (λ w. placed doc 2 (0, w)) (listed_facets column.now)) }
+    ensures utf8 { OnOk result (All IsUtf8 (facet_words column.now)) }
 {
     let mut found = facet_words(alloc, column)?;
     found.sort()?;
@@ -85,6 +89,7 @@ fn push_words(
     requires { pos + length (words column.now) < 2 ^ 32 }
 
     ensures ok { OnOk result (rows.new ≡ rows.old ++ map (placed doc score) (enumerate_from pos (words column.now))) }
+    ensures utf8 { OnOk result (All IsUtf8 (words column.now)) }
     ensures end { IfOk result (λ n. n ≡ pos + length (words column.now)) }
 {
     let mut at = pos;

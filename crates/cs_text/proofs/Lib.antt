@@ -2,3 +2,4 @@ pub mod CutLemmas
 pub mod PiecesLemmas
 pub mod SlugLemmas
 pub mod SplitLemmas
+pub mod Utf8Lemmas

@@ -1,5 +1,7 @@
 //! The words of a text.
 ghost use Rattle.std.specs.Prelude.{◌≡◌, IfOk, IsAscii, chars};
+ghost use Rattle.std.specs.List.{All};
+ghost use Rattle.std.specs.Str.{IsUtf8};
 ghost use Rattle.cs_model.specs.Words.{words, words_of};
 
 use crate::character::is_gap;
@@ -12,6 +14,7 @@ use std::alloc::Global;
 /// longest prefix of whole characters of at most `MAX_PLAIN_WORD_BYTES` bytes.
 pub fn words(alloc: Global, s: &str) -> Result<Seq<Word>, Memory>
     ensures ok { IfOk result (λ v. v ≡ words s.now) }
+    ensures utf8 { IfOk result (λ v. All IsUtf8 v) }
 {
     let key = key_of(alloc, s)?;
     let found = words_of(alloc, key.as_str())?;

@@ -1,4 +1,5 @@
 use Rattle.std.proofs.Common.{◌≡◌, ◌++◌, length}
+use Rattle.std.specs.List.{All}
 use Rattle.std.specs.Str.{IsUtf8}
 use Rattle.cs_model.specs.Collection.{facet_words, facet_pieces}
 use Rattle.cs_docs.specs.Pieces.{AreNamed}
@@ -9,6 +10,7 @@ invariant-loop-rest l = record {
   told : facet_words l.column ≡ l.found.items ++ facet_words l.rest;
   named : AreNamed (facet_pieces l.rest);
   utf8 : IsUtf8 l.rest;
+  text : All IsUtf8 l.found.items;
 }
 
 abbrev pub decreases-loop-rest : goal.decreases-loop-rest

@@ -1,4 +1,4 @@
-use Rattle.std.proofs.Common.{◌≡◌, ◌++◌, map, length, ap, ◌∙◌, arith}
+use Rattle.std.proofs.Common.{◌≡◌, ◌++◌, map, length, ap, subst, ◌∙◌, arith}
 use Rattle.std.specs.Ordering.{nat_cmp}
 use Rattle.std.specs.Cmp.Lexicographic.{slice_cmp}
 use Rattle.std.specs.Str.{bytes_eq}
@@ -9,6 +9,8 @@ use Rattle.cs_base.specs.contracts.word.WordOrd.TheImpl.Laws.{matches_eq-law}
 use Rattle.cs_base.proofs.MembersLemmas.{sorted_members}
 use Rattle.cs_model.specs.Corpus.{placed}
 use Rattle.cs_docs.specs.Listing.{listed_facets}
+use Rattle.std.specs.List.{All}
+use Rattle.std.specs.Str.{IsUtf8}
 use Rattle.cs_docs.proofs.row_list.push_facets.Goals as goal
 
 pub loop-word-init : goal.loop-word-init
@@ -21,3 +23,6 @@ loop-word-init c =
       told = ap (λ ws. c.args.rows.now ++ map (λ w. placed c.args.doc 2 (0, w)) ws) (c.into_iter-word-iterator.ensures.into_iter_gives.0 ∙ listed);
       left = omega (arith, c.into_iter-word-iterator.ensures.into_iter_gives.1, ap length c.into_iter-word-iterator.ensures.into_iter_gives.0, c.dedup.new.self.ok);
     }
+
+pub returns-clause-utf8 : goal.returns-clause-utf8
+returns-clause-utf8 c = subst (All IsUtf8) c.in_ok-found.ensures.ok c.in_ok-found.ensures.utf8

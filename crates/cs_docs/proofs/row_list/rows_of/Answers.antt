@@ -1,14 +1,18 @@
 use Rattle.std.proofs.Common.{◌≡◌, ℕ, ◌+◌, ◌<◌, ◌≤◌, ◌++◌, List, length, drop, get_or, sym, ap, subst, ◌∙◌, arith, append_assoc, append-nil, length-append}
 use Rattle.std.proofs.lemmas.List.{drop_all}
-use Rattle.std.proofs.lemmas.List.Elements.{All-get_or}
+use Rattle.std.specs.List.{All}
+use Rattle.std.proofs.lemmas.List.Elements.{All-get_or, All-append}
 use Rattle.cs_base.specs.declared.doc.Doc.{Doc}
 use Rattle.cs_base.specs.declared.doc.Row.{Row}
 use Rattle.cs_model.specs.Corpus.{rows_of}
-use Rattle.cs_docs.specs.Listing.{listed_doc, listed_rows}
+use Rattle.cs_docs.specs.Listing.{listed_doc, listed_rows, HasText}
 use Rattle.cs_docs.specs.Pieces.{IsAccepted}
 use Rattle.cs_docs.proofs.AcceptedLemmas.{accepted_docs, few_docs}
 use Rattle.cs_docs.proofs.ListingLemmas.{listed_next, rows_listed}
 use Rattle.cs_docs.proofs.row_list.rows_of.Goals as goal
+
+text_more : (rows new doc : List Row) → All HasText rows → All HasText doc → new ≡ rows ++ doc → All HasText new
+text_more rows new doc h g e = subst (All HasText) (sym e) (All-append HasText rows doc h g)
 
 -- one more document
 next_rows : (docs : List Doc) (i : ℕ) (doc : Doc) (rows new : List Row) → i < length docs → doc ≡ get_or docs i doc → new ≡ rows ++ listed_doc (i, doc) → listed_rows 0 docs ≡ rows ++ listed_rows i (drop i docs)
@@ -48,7 +52,7 @@ loop-number-preserved c =
     let doc = c.doc-item.result in
     let l : c.loop-number.number < length docs = omega (arith, ap length c.as_slice-doc-items.ensures) in
     let e : doc ≡ get_or docs c.loop-number.number doc = c.doc-item.is ∙ ap (λ ds. get_or ds c.loop-number.number doc) c.as_slice-doc-items.ensures in
-    record { told = next_rows docs c.loop-number.number doc c.loop-number.rows c.push_doc.new.rows l e c.in_ok-push_doc.ensures.ok c.loop-number.invariant.told; few = omega arith }
+    record { told = next_rows docs c.loop-number.number doc c.loop-number.rows c.push_doc.new.rows l e c.in_ok-push_doc.ensures.ok c.loop-number.invariant.told; few = omega arith; text = text_more c.loop-number.rows c.push_doc.new.rows _ c.loop-number.invariant.text c.in_ok-push_doc.ensures.utf8 c.in_ok-push_doc.ensures.ok }
 
 pub returns-clause-ok : goal.returns-clause-ok
 returns-clause-ok c = last_rows c.args.docs.now c.loop-number.number c.loop-number.rows (omega (arith, ap length c.as_slice-doc-items.ensures)) c.loop-number.invariant.told
