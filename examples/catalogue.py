@@ -3,16 +3,28 @@
 
     examples/catalogue.py [FILE ..] > packages.txt
 
-A FILE is a list of stanzas, as /var/lib/dpkg/status or one of /var/lib/apt/lists/*_Packages;
-the first is read where none is given. A package is a line: its name and short description as
-title; section, maintainer, priority and source as facets; its long description as text.
+A FILE is a list of stanzas, as /var/lib/dpkg/status or what `apt-cache dumpavail` prints; the first
+is read where none is given. A package is a line, the first time that it is met: its name and short
+description as title; section, maintainer, priority and source as facets; its long description as
+text. A FILE of apt's translations, as /var/lib/apt/lists/*_Translation-en, gives long descriptions
+to packages of the other files that have none. A FILE that ends in .lz4 is read through `lz4`.
 """
+import io
+import subprocess
 import sys
+
+
+def opened(path):
+    """The text of a file."""
+    if path.endswith(".lz4"):
+        unpacked = subprocess.run(["lz4", "-dc", path], capture_output=True, check=True).stdout
+        return io.TextIOWrapper(io.BytesIO(unpacked), encoding="utf-8", errors="replace")
+    return open(path, encoding="utf-8", errors="replace")
 
 
 def stanzas(path):
     """The stanzas of a file, each a map from field names to their lines."""
-    with open(path, encoding="utf-8", errors="replace") as file:
+    with opened(path) as file:
         fields, name = {}, None
         for line in file:
             line = line.rstrip("\n")
@@ -39,7 +51,7 @@ def facet(name, value):
     return f"{name}={clean(value).replace(';', ',')}"
 
 
-def line_of(fields):
+def line_of(fields, translations):
     """The line of a package."""
     package = fields["Package"][0]
     short, *long = fields.get("Description", [""])
@@ -49,14 +61,20 @@ def line_of(fields):
         if field in fields
     ]
     facets.append(facet("source", fields.get("Source", [package])[0].partition(" ")[0]))
-    return "\t".join((clean(f"{package} {short}"), ";".join(facets), clean(" ".join(long))))
+    return "\t".join((clean(f"{package} {short}"), ";".join(facets), clean(" ".join(long or translations.get(package, [])))))
 
 
 def main():
+    packages, translations = {}, {}
     for path in sys.argv[1:] or ["/var/lib/dpkg/status"]:
         for fields in stanzas(path):
-            if "Package" in fields:
-                print(line_of(fields))
+            package = fields.get("Package", [""])[0]
+            if "Description-en" in fields:
+                translations.setdefault(package, fields["Description-en"][1:])
+            elif package:
+                packages.setdefault(package, fields)
+    for fields in packages.values():
+        print(line_of(fields, translations))
 
 
 if __name__ == "__main__":

@@ -1,6 +1,6 @@
 //! Tables, scores and hits of a few rows, against numbers that were counted by hand.
 ghost use Rattle.std.specs.Prelude.{◌≡◌, IfOk};
-ghost use Rattle.cs_tables.specs.Sample.{sample};
+ghost use Rattle.cs_tables.specs.Sample.{sample, sample_base};
 
 use crate::completions;
 use cs_base::{Base, Memory, Post, Scored, Seq};
@@ -33,6 +33,15 @@ fn rows(alloc: Global) -> Result<Cols, Memory>
     Ok(rows)
 }
 
+fn base(alloc: Global) -> Result<Seq<Scored>, Memory>
+    ensures { IfOk result (λ s. s ≡ sample_base) }
+{
+    let mut base = Seq::new(alloc);
+    base.push(Scored { doc: 0, score: 1 })?;
+    base.push(Scored { doc: 1, score: 1 })?;
+    Ok(base)
+}
+
 #[test]
 fn a_word_counts_once_in_a_document(rt: HostRuntime) -> Result<(), Fail> {
     let rows = rows(rt.alloc())?;
@@ -45,11 +54,11 @@ fn a_word_counts_once_in_a_document(rt: HostRuntime) -> Result<(), Fail> {
 }
 
 #[test]
-fn a_document_has_its_greatest_score(rt: HostRuntime) -> Result<(), Fail> {
+fn a_document_has_its_greatest_score_and_that_of_its_base(rt: HostRuntime) -> Result<(), Fail> {
     let rows = rows(rt.alloc())?;
-    let base = Base::Listed(Seq::new(rt.alloc()));
+    let base = Base::Listed(base(rt.alloc())?);
     let scored = score(rt.alloc(), &base, &rows)?;
-    let want = [Scored { doc: 0, score: 4 }, Scored { doc: 1, score: 1 }];
+    let want = [Scored { doc: 0, score: 5 }, Scored { doc: 1, score: 2 }];
     assert_eq!(rt; scored.as_slice(), want.as_slice());
     Ok(())
 }

@@ -7,3 +7,6 @@
 mod vocab;
 
 pub use vocab::Vocab;
+
+#[cfg(test)]
+mod tests;
