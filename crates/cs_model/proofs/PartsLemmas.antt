@@ -2,7 +2,7 @@
 --
 --   parts_within     the parts within the innermost bracket, and those that the open brackets will leave, are among the parts that begin
 --   few_parts        a query of the grammar has at most so many parts
-use Rattle.std.proofs.Common.{◌≡◌, ℕ, zero, suc, ◌<◌, ◌≤◌, ◌+◌, List, [], ◌∷◌, ◌++◌, Bool, true, false, cond, length, take, refl, ap, ◌∙◌, sym, subst, arith, length-append, Option, Some, None}
+use Rattle.std.proofs.Common.{◌≡◌, ℕ, suc, ◌≤◌, ◌+◌, List, [], ◌∷◌, Bool, true, false, cond, length, refl, ap, ◌∙◌, sym, arith, length-append, Option, Some, None}
 use Rattle.std.specs.Prelude.{nat_lt}
 use Rattle.std.specs.Str.{chars}
 use Rattle.std.proofs.lemmas.List.{take_all}
@@ -16,8 +16,8 @@ use Rattle.cs_model.specs.declared.kinds.Level.{Level}
 use Rattle.cs_model.specs.declared.kinds.Tie.{Tie}
 use Rattle.cs_model.specs.declared.kinds.Tie.TheVariants.{Begins, Alternative, Linked}
 use Rattle.cs_model.specs.Tokens.{Token, tokens, size}
-use Rattle.cs_model.specs.Grammar.{Step, Leaf, Enter, Leave, steps, Reading, reading, on_last, attached, join, closed, leave, all_closed, query_of}
-use Rattle.cs_model.specs.Refusals.{Fault, Bad, Limit, refused, depth, newest, begins_part, parts_in, atoms_in, verdict, IsOfGrammar}
+use Rattle.cs_model.specs.Grammar.{Step, Leaf, Enter, Leave, steps, reading, on_last, attached, join, closed, leave, all_closed}
+use Rattle.cs_model.specs.Refusals.{Fault, Bad, Limit, refused, depth, newest, begins_part, parts_in, verdict, IsOfGrammar}
 
 on_last-length : {X : Type 0} (f : X → X) (xs : List X) → length (on_last f xs) ≡ length xs
 on_last-length f [] = refl

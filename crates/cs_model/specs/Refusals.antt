@@ -16,8 +16,9 @@ use Rattle.cs_base.specs.declared.query.Which.{Which}
 use Rattle.cs_base.specs.declared.query.Which.TheVariants as limits
 use Rattle.cs_model.specs.declared.kinds.Tie.{Tie}
 use Rattle.cs_model.specs.declared.kinds.Tie.TheVariants.{Begins}
+use Rattle.cs_model.specs.Collection.{has_name_form}
 use Rattle.cs_model.specs.Tokens.{Token, Word, Value, Run, Gap, Dollar, Bar, Colon, Open, Close, tokens, size}
-use Rattle.cs_model.specs.Grammar.{Step, Leaf, Enter, Leave, steps, reading, is_name, query_of}
+use Rattle.cs_model.specs.Grammar.{Step, Leaf, Enter, Leave, steps, reading, query_of}
 
 -- ---- the grammar
 -- a dollar may stand directly behind a word, or a value that isn't empty
@@ -36,7 +37,7 @@ takes_bar _ = false
 
 -- a colon and an opening bracket may stand directly behind a word that is a name
 abbrev pub ends_name : List Token → Bool
-ends_name (Word w ∷ ts) = is_name w
+ends_name (Word w ∷ ts) = has_name_form w
 ends_name _ = false
 
 -- how many brackets are open behind these tokens
