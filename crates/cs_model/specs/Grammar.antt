@@ -22,6 +22,7 @@ use Rattle.cs_model.specs.declared.kinds.Spot.{Spot}
 use Rattle.cs_model.specs.declared.kinds.Spot.TheVariants.{Front, BehindAtom, Elsewhere}
 use Rattle.cs_model.specs.Tokens.{Token, Word, Value, Run, Gap, Dollar, Bar, Colon, Open, Close, tokens}
 
+-- ---- facets
 -- the word of a facet, its value perhaps empty
 abbrev pub facet : List ℕ → List ℕ → List ℕ
 facet name v = 58 ∷ name ++ 58 ∷ v
