@@ -1,13 +1,12 @@
-//! The facets column: its pieces, and the form of their names.
+//! The pieces of a facets column.
 ghost use Rattle.std.specs.Prelude.{◌≡◌, ◌∷◌, [], ◌<◌, None, OnOk, IfErr, MatchOption, true, false, length, drop, map, filter};
-ghost use Rattle.std.specs.List.{prefix_len, before_first, after_first, list_all, list_any};
-ghost use Rattle.cs_model.specs.Collection.{first_of, piece_refusal, facet_pieces, is_space, is_equals, piece_value, without_spaces_behind, has_bytes, has_name_form, begins_with_letter, is_name_byte};
+ghost use Rattle.std.specs.List.{prefix_len, before_first, after_first, list_any};
+ghost use Rattle.cs_model.specs.Collection.{first_of, piece_refusal, facet_pieces, is_space, is_equals, piece_value, without_spaces_behind, has_bytes};
 ghost use Rattle.cs_docs.specs.Pieces.{is_semicolon, one_piece};
 ghost use Rattle.cs_docs.specs.Refusals.{IsCauseOf};
 
 use crate::fault::DocFault;
-use cs_base::MAX_NAME_BYTES;
-use cs_text::norm;
+use cs_text::{has_name_form, norm};
 use std::alloc::Global;
 
 /// Refuses the first bad piece of a facets column.
@@ -93,31 +92,4 @@ pub(crate) fn without_spaces_behind(text: &str) -> &str
         rest = before;
     }
     rest
-}
-
-fn has_name_form(name: &[u8]) -> bool
-    ensures { result ≡ has_name_form name.now }
-{
-    begins_with_letter(name) && (has_name_bytes(name) && name.len() <= MAX_NAME_BYTES)
-}
-
-fn begins_with_letter(name: &[u8]) -> bool
-    ensures { result ≡ begins_with_letter name.now }
-{
-    match name.first() {
-        Some(b) => b.is_ascii_lowercase(),
-        None => false,
-    }
-}
-
-fn has_name_bytes(name: &[u8]) -> bool
-    ensures { result ≡ list_all is_name_byte name.now }
-{
-    name.iter().all(|b| is_name_byte(*b))
-}
-
-fn is_name_byte(b: u8) -> bool
-    ensures { result ≡ is_name_byte b }
-{
-    b.is_ascii_lowercase() || b.is_ascii_digit()
 }

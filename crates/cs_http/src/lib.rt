@@ -4,6 +4,11 @@
 //! or writes a socket.
 #![tactic(auto)]
 
+mod counts;
+mod facets;
+mod first;
 mod parameters;
+#[cfg(test)]
+mod tests;
 
 pub use parameters::request;

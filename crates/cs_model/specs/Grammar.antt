@@ -1,15 +1,12 @@
 -- What the tokens of a key text mean. Lists of tokens and of steps have the newest first, so "the last tokens" are the first of the list.
 --
---   is_name w         w has the form of a name: a letter a to z, then letters a to z and digits, at most 16 bytes
 --   facet n v         the word of the facet n with the value v, that is :n:v
 --   spot ts           where a run directly behind the tokens ts stands
 --   tie ts            how an atom that begins directly behind the tokens ts is tied to what stands before
 --   steps ts          the atoms of the tokens, each with its tie, and the brackets that open and close
 --   reading ss        the parts within the brackets that are open behind these steps, and these brackets
 --   query_of cs       the query of the characters cs, each open bracket closed at the end; of none the empty query
-use Rattle.std.specs.Prelude.{ℕ, List, [], ◌∷◌, ◌++◌, Bool, false, ◌&&◌, ◌||◌, ◌==◌, nat_le, length, if◌then◌else◌}
-use Rattle.std.specs.List.{list_all}
-use Rattle.std.specs.Int.{is_in_range}
+use Rattle.std.specs.Prelude.{ℕ, List, [], ◌∷◌, ◌++◌, Bool, false, ◌&&◌, ◌==◌, if◌then◌else◌}
 use Rattle.cs_base.specs.declared.query.Link.{Link}
 use Rattle.cs_base.specs.declared.query.Link.TheVariants.{Phrase, Near}
 use Rattle.cs_base.specs.declared.query.Query.{Query, roll-Query}
@@ -25,20 +22,7 @@ use Rattle.cs_model.specs.declared.kinds.Spot.{Spot}
 use Rattle.cs_model.specs.declared.kinds.Spot.TheVariants.{Front, BehindAtom, Elsewhere}
 use Rattle.cs_model.specs.Tokens.{Token, Word, Value, Run, Gap, Dollar, Bar, Colon, Open, Close, tokens}
 
--- ---- names
--- a letter a to z or a digit
-abbrev pub is_name_char : ℕ → Bool
-is_name_char x = is_in_range 97 122 x || is_in_range 48 57 x
-
--- begins with a letter a to z; the empty word doesn't
-abbrev pub begins_name : List ℕ → Bool
-begins_name [] = false
-begins_name (x ∷ w) = is_in_range 97 122 x
-
--- a word that names a facet
-abbrev pub is_name : List ℕ → Bool
-is_name w = begins_name w && (list_all is_name_char w && nat_le (length w) 16)
-
+-- ---- facets
 -- the word of a facet, its value perhaps empty
 abbrev pub facet : List ℕ → List ℕ → List ℕ
 facet name v = 58 ∷ name ++ 58 ∷ v

@@ -3,7 +3,8 @@
 -- Source: URL Standard, section 5 (application/x-www-form-urlencoded), for pieces, names, values and escapes; the
 -- parameters are this engine's own.
 --
---   decoded bytes           the text of a name or a value; bytes that are no UTF-8 are read as U+FFFD
+--   decoded bytes           the text of a name or a value; bytes that are no UTF-8 are read as U+FFFD, one for each maximal subpart
+--   first_value name pairs  the value of the first pair of that name; None where there is none
 --   parameter name p        the value of the first parameter of that name; None where there is none
 --   number_of w             the number that digits spell, leading zeros read; 0 for no digits
 --   has_digits n w          w is 1 to n digits
@@ -43,15 +44,19 @@ use Rattle.cs_model.specs.Requests.{Request}
 abbrev pub decoded : List ℕ → List ℕ
 decoded bytes = utf8_lossy (decode bytes)
 
+-- the value of the first of these pairs that has the name; None where none has it
+abbrev pub first_value : List ℕ → List (List ℕ × List ℕ) → Option (List ℕ)
+first_value name pairs = option_map (λ pair. decoded pair.1) (find (λ pair. bytes_eq (decoded pair.0) name) pairs)
+
 -- pieces stand between the signs &, an empty piece is none; a name ends before the first =, and without one the value is empty
 unfoldable pub parameter : List ℕ → List ℕ → Option (List ℕ)
-parameter name p = option_map (λ pair. decoded pair.1) (find (λ pair. bytes_eq (decoded pair.0) name) (raw_pairs p))
+parameter name p = first_value name (raw_pairs p)
 
 -- ---- counts
 abbrev pub number_of : List ℕ → ℕ
 number_of w = fold (λ n c. n * 10 + (c - 48)) 0 w
 
--- no word of no digit
+-- the empty word has none
 abbrev pub has_digits : ℕ → List ℕ → Bool
 has_digits n w = nat_lt 0 (length w) && (nat_le (length w) n && list_all is_ascii_digit w)
 

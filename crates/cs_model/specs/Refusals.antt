@@ -7,15 +7,18 @@
 --   IsRefused cs at f      the first refused character of cs stands at the byte at, and its fault is f
 --   IsOfGrammar q          q is the query of some accepted text
 --   PrefixesAreAccepted    the law that each prefix of an accepted text is accepted
+--   QueriesHaveFewParts    the law that a query has no more parts at its top than may begin in its text
 use Rattle.std.specs.Prelude.{◌≡◌, ℕ, ◌+◌, ◌<◌, ◌≤◌, List, [], ◌∷◌, Bool, true, false, not, nat_lt, length, take, Option, Some, None, if◌then◌else◌, encode_utf8_all}
 use Rattle.std.specs.Str.{chars, IsUtf8}
-use Rattle.cs_base.specs.declared.query.Query.{Query}
+use Rattle.cs_base.specs.declared.limits.TheConstants.{MAX_PARTS}
+use Rattle.cs_base.specs.declared.query.Query.{Query, out-Query}
 use Rattle.cs_base.specs.declared.query.Which.{Which}
 use Rattle.cs_base.specs.declared.query.Which.TheVariants as limits
 use Rattle.cs_model.specs.declared.kinds.Tie.{Tie}
 use Rattle.cs_model.specs.declared.kinds.Tie.TheVariants.{Begins}
+use Rattle.cs_model.specs.Collection.{has_name_form}
 use Rattle.cs_model.specs.Tokens.{Token, Word, Value, Run, Gap, Dollar, Bar, Colon, Open, Close, tokens, size}
-use Rattle.cs_model.specs.Grammar.{Step, Leaf, Enter, Leave, steps, reading, is_name, query_of}
+use Rattle.cs_model.specs.Grammar.{Step, Leaf, Enter, Leave, steps, reading, query_of}
 
 -- ---- the grammar
 -- a dollar may stand directly behind a word, or a value that isn't empty
@@ -34,7 +37,7 @@ takes_bar _ = false
 
 -- a colon and an opening bracket may stand directly behind a word that is a name
 abbrev pub ends_name : List Token → Bool
-ends_name (Word w ∷ ts) = is_name w
+ends_name (Word w ∷ ts) = has_name_form w
 ends_name _ = false
 
 -- how many brackets are open behind these tokens
@@ -126,3 +129,7 @@ pub record IsOfGrammar (q : Query) : Type 0 where
 -- each prefix, by whole characters, of an accepted text is accepted
 abbrev pub PrefixesAreAccepted : Type 0
 PrefixesAreAccepted = (cs : List ℕ) (n : ℕ) → IsAccepted cs → IsAccepted (take n cs)
+
+-- a query of the grammar has at most as many parts, those within its brackets not counted, as may begin in a text
+abbrev pub QueriesHaveFewParts : Type 0
+QueriesHaveFewParts = (q : Query) → IsOfGrammar q → length (out-Query q).parts ≤ MAX_PARTS

@@ -3,7 +3,7 @@ ghost use Rattle.std.specs.Prelude.{◌≡◌, ◌≤◌, ℕ, List, length, tak
 ghost use Rattle.cs_model.specs.Ascii.{ascii_norm, ascii_words};
 ghost use Rattle.cs_model.specs.FirstRefusal.{AcceptedHaveNone, RefusedHaveOne};
 ghost use Rattle.cs_model.specs.KeyText.{norm};
-ghost use Rattle.cs_model.specs.Refusals.{PrefixesAreAccepted};
+ghost use Rattle.cs_model.specs.Refusals.{PrefixesAreAccepted, QueriesHaveFewParts};
 ghost use Rattle.cs_model.specs.Words.{fitting, words};
 
 /// On ASCII text the key text is the text in lower case, and the words are its runs of letters and digits.
@@ -15,6 +15,11 @@ pub fn ascii_text()
 /// Each prefix, by whole characters, of an accepted key text is accepted.
 pub fn prefixes_are_accepted()
     ensures { PrefixesAreAccepted }
+{}
+
+/// A query of the grammar has at most `MAX_PARTS` parts at its top.
+pub fn queries_have_few_parts()
+    ensures { QueriesHaveFewParts }
 {}
 
 /// Where text is cut, what is kept is the longest prefix of whole characters that has at most so many bytes.

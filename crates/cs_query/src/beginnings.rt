@@ -1,7 +1,8 @@
 //! Tokens that begin.
 ghost use Rattle.std.specs.Prelude.{◌≡◌, List, ◌∷◌, encode_utf8, length, true, false};
 ghost use Rattle.cs_model.specs.Tokens.{Token, Word, Run, Gap, Open};
-ghost use Rattle.cs_model.specs.Grammar.{is_name, tie as tie_of};
+ghost use Rattle.cs_model.specs.Grammar.{tie as tie_of};
+ghost use Rattle.cs_model.specs.Collection.{has_name_form};
 ghost use Rattle.cs_model.specs.Refusals.{refused};
 ghost use Rattle.cs_query.specs.Following.{Agrees, Stands, Judges, held, settled};
 
@@ -116,7 +117,7 @@ pub fn begin_gap(
 /// A bracket opens behind a name.
 #[tactic(auto, using(crate::proofs::Lasts::reverse_push, crate::proofs::Verdicts::over_query, crate::proofs::Verdicts::over_depth))]
 pub fn enter(alloc: Global, name: Text, tie: Tie, gathered: Gathered) -> Result<Reader, Stop>
-    ensures { (rest : List Token) → Agrees (Tail.Word name) tie rest → is_name name ≡ true
+    ensures { (rest : List Token) → Agrees (Tail.Word name) tie rest → has_name_form name ≡ true
         → Stands rest (Word name ∷ rest) gathered → Judges (Open ∷ Word name ∷ rest) result }
 {
     let Gathered {

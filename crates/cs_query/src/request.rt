@@ -1,6 +1,6 @@
 //! Requests, as the reader of parameters gives them, and why one is refused.
 use crate::Which;
-use cs_base::{Query, Seq, Text};
+use cs_base::{Memory, Query, Seq, Text};
 
 /// Why a string of parameters is no request.
 #[derive(Clone, Copy, Debug, PartialEq, Eq)]
@@ -24,6 +24,17 @@ pub enum ReqFault {
     },
     /// Memory ran out.
     Memory,
+}
+
+impl From<Memory> for ReqFault {
+    ghost use Rattle.std.specs.Prelude.{◌≡◌};
+    ghost use Rattle.cs_query.specs.declared.request.ReqFault.TheVariants.{Memory as NoMemory};
+
+    ghost from_gives = { λ _ e. e ≡ NoMemory };
+
+    fn from(_: Memory) -> Self {
+        ReqFault::Memory
+    }
 }
 
 /// A parameter that may be refused by its own form.

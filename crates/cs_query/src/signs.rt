@@ -8,11 +8,12 @@ ghost use Rattle.cs_query.specs.Following.{Follows, Judges, Stands, held};
 use crate::attaching::close_level;
 use crate::beginnings::enter;
 use crate::fault::Stop;
-use crate::names::{facet, is_name};
+use crate::names::facet;
 use crate::reader::{Gathered, Reader, Tail};
 use crate::tails::{add, settle, takes_bar};
 use cs_base::{Atom, Text, Which};
 use cs_model::{Class, Tie};
+use cs_text::has_name_form;
 use std::alloc::Global;
 
 /// After a dollar.
@@ -86,7 +87,7 @@ pub fn colon(alloc: Global, reader: Reader, c: char) -> Result<Reader, Stop>
     } = reader;
     match tail {
         Tail::Word(name) => {
-            if !is_name(name.as_str().as_bytes()) {
+            if !has_name_form(name.as_str().as_bytes()) {
                 return Err(Stop::Bad);
             }
             if gathered.room < 1 {
@@ -123,7 +124,7 @@ pub fn open(alloc: Global, reader: Reader, c: char) -> Result<Reader, Stop>
     } = reader;
     match tail {
         Tail::Word(word) => {
-            if !is_name(word.as_str().as_bytes()) {
+            if !has_name_form(word.as_str().as_bytes()) {
                 return Err(Stop::Bad);
             }
             let next = enter(alloc, word, tie, gathered)?;

@@ -8,6 +8,7 @@
 mod character;
 mod key_text;
 mod listing;
+mod name;
 mod piece;
 #[cfg(test)]
 mod tests;
@@ -16,4 +17,5 @@ mod value;
 pub use character::is_word_char;
 pub use key_text::norm;
 pub use listing::words;
+pub use name::has_name_form;
 pub use value::slug;

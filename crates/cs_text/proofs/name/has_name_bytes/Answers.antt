@@ -3,7 +3,7 @@ use borrow.Author.Tests.{tests}
 use Rattle.std.proofs.lemmas.Iterator.{YieldsList-from_slice}
 use Rattle.std.proofs.lemmas.Iterator.Search.{all_from_yields_List}
 use Rattle.cs_model.specs.Collection.{is_name_byte}
-use Rattle.cs_docs.proofs.pieces.has_name_bytes.Goals as goal
+use Rattle.cs_text.proofs.name.has_name_bytes.Goals as goal
 
 pub returns : goal.returns
 returns c = all_from_yields_List is_name_byte _ _ _ c.all.ensures.ran (YieldsList-from_slice c.args.name.now c.iter.ensures.rest) (λ x b q k. search (rules, tests))

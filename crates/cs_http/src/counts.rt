@@ -1,0 +1,86 @@
+//! Counts among the parameters, as in `h=20`.
+ghost use Rattle.std.specs.Prelude.{◌≡◌, true, false, Some, IfOk, IfErr, IfSome, IfNone};
+ghost use Rattle.std.specs.List.{list_all};
+ghost use Rattle.std.specs.Char.{is_ascii_digit};
+ghost use Rattle.cs_model.specs.Parameters.{parameter, is_count, count_of, has_digits, number_of};
+ghost use Rattle.cs_query.specs.ParamNames.{param_name};
+ghost use Rattle.cs_http.specs.Refusing.{IsRefusedBy};
+
+use crate::first::first_of;
+use cs_query::{Param, ReqFault};
+use std::alloc::Global;
+
+/// The most digits of a count.
+const MAX_DIGITS: usize = 5;
+
+/// The count that a parameter asks, at most `most`, or the default where there is no such parameter.
+pub(crate) fn count(
+    alloc: Global,
+    params: &[u8],
+    which: Param,
+    default: u32,
+    most: u32,
+) -> Result<u32, ReqFault>
+    ensures accepted { IfOk result (λ n. is_count most (parameter (param_name which) params.now) ≡ true) }
+    ensures ok { IfOk result (λ n. n ≡ count_of default (parameter (param_name which) params.now)) }
+    ensures err { IfErr result (λ e. IsRefusedBy which (is_count most (parameter (param_name which) params.now)) e) }
+{
+    let value = first_of(alloc, params, name_of(which))?;
+    let Some(value) = value else {
+        return Ok(default);
+    };
+    match read_count(value.as_str().as_bytes(), most) {
+        Some(count) => Ok(count),
+        None => Err(ReqFault::BadParam { which }),
+    }
+}
+
+fn name_of(which: Param) -> &'static str
+    ensures { result.now ≡ param_name which }
+{
+    match which {
+        Param::H => "h",
+        Param::C => "c",
+        Param::O => "o",
+        Param::F => "f",
+    }
+}
+
+// The number that at most `MAX_DIGITS` digits spell, where it is at most `most`.
+fn read_count(text: &[u8], most: u32) -> Option<u32>
+    ensures some { IfSome result (λ n. (is_count most (Some text.now) ≡ true) × (n ≡ number_of text.now)) }
+    ensures none { IfNone result (is_count most (Some text.now) ≡ false) }
+{
+    if !has_digits(text) {
+        return None;
+    }
+    let number = number_of(text);
+    if number > most {
+        return None;
+    }
+    Some(number)
+}
+
+fn has_digits(text: &[u8]) -> bool
+    ensures { result ≡ has_digits 5 text.now }
+{
+    !text.is_empty() && (text.len() <= MAX_DIGITS && are_digits(text))
+}
+
+fn are_digits(text: &[u8]) -> bool
+    ensures { result ≡ list_all is_ascii_digit text.now }
+{
+    text.iter().all(|b| b.is_ascii_digit())
+}
+
+fn number_of(digits: &[u8]) -> u32
+    requires { has_digits 5 digits.now ≡ true }
+
+    ensures { result ≡ number_of digits.now }
+{
+    let mut number = 0;
+    for digit in digits {
+        number = number * 10 + u32::from(*digit - b'0');
+    }
+    number
+}

@@ -1,0 +1,78 @@
+-- How many parts stand at the top of a query.
+--
+--   parts_within     the parts within the innermost bracket, and those that the open brackets will leave, are among the parts that begin
+--   few_parts        a query of the grammar has at most so many parts
+use Rattle.std.proofs.Common.{◌≡◌, ℕ, suc, ◌≤◌, ◌+◌, List, [], ◌∷◌, Bool, true, false, cond, length, refl, ap, ◌∙◌, sym, arith, length-append, Option, Some, None}
+use Rattle.std.specs.Prelude.{nat_lt}
+use Rattle.std.specs.Str.{chars}
+use Rattle.std.proofs.lemmas.List.{take_all}
+use Rattle.std.proofs.lemmas.Bool.Decides.{nat_tests}
+use Rattle.cs_base.specs.declared.query.Query.{Query, out-Query, out-roll-Query}
+use Rattle.cs_base.specs.declared.query.Part.{Part}
+use Rattle.cs_base.specs.declared.query.Atom.{Atom}
+use Rattle.cs_base.specs.declared.query.Which.TheVariants as limits
+use Rattle.cs_base.specs.declared.limits.TheConstants.{MAX_PARTS}
+use Rattle.cs_model.specs.declared.kinds.Level.{Level}
+use Rattle.cs_model.specs.declared.kinds.Tie.{Tie}
+use Rattle.cs_model.specs.declared.kinds.Tie.TheVariants.{Begins, Alternative, Linked}
+use Rattle.cs_model.specs.Tokens.{Token, tokens, size}
+use Rattle.cs_model.specs.Grammar.{Step, Leaf, Enter, Leave, steps, reading, on_last, attached, join, closed, leave, all_closed}
+use Rattle.cs_model.specs.Refusals.{Fault, Bad, Limit, refused, depth, newest, begins_part, parts_in, verdict, IsOfGrammar}
+
+on_last-length : {X : Type 0} (f : X → X) (xs : List X) → length (on_last f xs) ≡ length xs
+on_last-length f [] = refl
+on_last-length f (x ∷ []) = refl
+on_last-length f (x ∷ y ∷ ys) = ap (λ n. suc n) (on_last-length f (y ∷ ys))
+
+-- an atom adds a part where its tie begins one
+attached-length : (t : Tie) (a : Atom) (ps : List Part) → length (attached t a ps) ≡ length ps + begins_part t
+attached-length (Begins excluded) a ps = length-append ps _
+attached-length Alternative a ps = on_last-length _ ps ∙ omega arith
+attached-length (Linked l) a ps = on_last-length _ ps ∙ omega arith
+
+-- the parts that stand before open brackets, and those that their joins begin
+left_by : List Level → ℕ
+left_by [] = 0
+left_by (l ∷ ls) = length l.before + begins_part l.tie + left_by ls
+
+leave-length : (ps : List Part) (ls : List Level) → length (leave ps ls).parts + left_by (leave ps ls).open_now ≤ length ps + left_by ls
+unfolding left_by
+leave-length ps [] = omega arith
+leave-length ps (l ∷ ls) = omega (arith, attached-length l.tie (join l.name ps) l.before)
+
+parts_within : (ss : List Step) → length (reading ss).parts + left_by (reading ss).open_now ≤ parts_in ss
+unfolding left_by
+parts_within [] = omega arith
+parts_within (Leaf t a ∷ ss) = omega (arith, parts_within ss, attached-length t a (reading ss).parts)
+parts_within (Enter t n ∷ ss) = omega (arith, parts_within ss)
+parts_within (Leave ∷ ss) = omega (arith, parts_within ss, leave-length (reading ss).parts (reading ss).open_now)
+
+all_closed-length : (ps : List Part) (ls : List Level) → length (all_closed ps ls) ≤ length ps + left_by ls
+unfolding left_by
+all_closed-length ps [] = omega arith
+all_closed-length ps (l ∷ ls) = omega (arith, all_closed-length (closed ps l) ls, attached-length l.tie (join l.name ps) l.before)
+
+-- a test that refuses nothing isn't met, and the rest refuses nothing
+not_met : (b : Bool) (f : Fault) (o : Option Fault) → cond b (Some f) o ≡ None → (b ≡ false) × (o ≡ None)
+not_met true f o h = cc
+not_met false f o h = (refl, h)
+
+-- where the newest character isn't refused, few parts have begun
+verdict_parts : (ts : List Token) → verdict ts ≡ None → parts_in (steps ts) ≤ 16
+verdict_parts ts h =
+    let grammar = not_met (refused ts) Bad _ h in
+    let size_kept = not_met (nat_lt 1024 (size ts + depth ts)) (Limit limits.Query) _ grammar.1 in
+    let word_kept = not_met (nat_lt 120 (newest ts)) (Limit limits.Word) _ size_kept.1 in
+    let parts_kept = not_met (nat_lt 16 (parts_in (steps ts))) (Limit limits.Parts) _ word_kept.1 in
+    let kept : nat_lt 16 (parts_in (steps ts)) ≡ false = parts_kept.0 in
+    grind (arith, nat_tests)
+
+pub few_parts : (q : Query) → IsOfGrammar q → length (out-Query q).parts ≤ MAX_PARTS
+few_parts q g =
+    let cs = chars g.text in
+    let ss = steps (tokens cs) in
+    let r = reading ss in
+    let last : verdict (tokens cs) ≡ None = ap (λ l. verdict (tokens l)) (sym (take_all (length cs) cs (omega arith))) ∙ g.accepted (length cs) (omega arith) in
+    let few : length (all_closed r.parts r.open_now) ≤ 16 = omega (arith, all_closed-length r.parts r.open_now, parts_within ss, verdict_parts (tokens cs) last) in
+    let same : (out-Query q).parts ≡ all_closed r.parts r.open_now = ap (λ x. (out-Query x).parts) g.read ∙ ap (λ x. x.parts) (out-roll-Query (record { parts = all_closed r.parts r.open_now })) in
+    omega (arith, few, ap length same)
