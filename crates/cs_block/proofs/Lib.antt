@@ -1,0 +1,5 @@
+pub mod ColumnsLemmas
+pub mod LawsLemmas
+pub mod PassLemmas
+pub mod PutLemmas
+pub mod RowsLemmas
