@@ -1,4 +1,5 @@
 pub mod ColumnsLemmas
+pub mod Examples
 pub mod LawsLemmas
 pub mod PassLemmas
 pub mod PutLemmas
