@@ -1,4 +1,4 @@
-//! What the directory of an index file says of one block.
+//! What the directory of an index file says of one block, and what may be wrong with a block.
 
 /// The head of a block: which words it holds, and how large it is.
 #[derive(Clone, Copy, Debug, PartialEq, Eq)]
@@ -13,4 +13,13 @@ pub struct BlockHead {
     pub len: u32,
     /// Whether its words are facet words.
     pub facet: bool,
+}
+
+/// A broken rule of an index file's form.
+#[derive(Clone, Copy, Debug, PartialEq, Eq)]
+pub struct Broken {
+    /// The rule's number, one of those in `docs/INDEX_FILE.md`.
+    pub n: u8,
+    /// The place at which it is broken, in bytes.
+    pub at: u32,
 }

@@ -16,7 +16,7 @@ mod seq;
 mod text;
 mod word;
 
-pub use block::BlockHead;
+pub use block::{BlockHead, Broken};
 pub use doc::{Base, Doc, Post, Row, Scored};
 pub use hub::{Event, Hub};
 pub use key::{Key, Keys, Narrower};

@@ -1,5 +1,7 @@
 pub mod Answers
 pub mod Ascii
+pub mod BlockRules
+pub mod Blocks
 pub mod Collection
 pub mod Corpus
 pub mod Faults

@@ -1,0 +1,6 @@
+pub mod ColumnsLemmas
+pub mod Examples
+pub mod LawsLemmas
+pub mod PassLemmas
+pub mod PutLemmas
+pub mod RowsLemmas

@@ -1,0 +1,32 @@
+-- What the functions of this crate say of a block that is read.
+--
+--   GapHere gaps at n next   the code of n stands at a place of the gap column, and next is the place behind it
+--   HasColumns head c        columns as long as a block's are
+--   Decodes result broken    the answer where this is the first broken rule, if there is one
+use Rattle.std.specs.Prelude.{◌≡◌, ℕ, ◌+◌, ◌*◌, ◌^◌, ◌<◌, ◌≤◌, List, length, drop, Option, Some, None, Result, Ok, Err}
+use Rattle.cs_base.specs.GapCode.{code, first_code}
+use Rattle.cs_base.specs.declared.block.BlockHead.{BlockHead}
+use Rattle.cs_base.specs.declared.block.Broken.{Broken}
+use Rattle.cs_model.specs.BlockRules.{Columns, gap_bytes}
+use Rattle.cs_block.specs.declared.fault.BlockFault.{BlockFault}
+use Rattle.cs_block.specs.declared.fault.BlockFault.TheVariants as faults
+
+-- a gap code within the column
+pub record GapHere (gaps : List ℕ) (at n next : ℕ) : Type 0 where
+  pub is : first_code (drop at gaps) ≡ Some n
+  pub behind : next ≡ at + length (code n)
+  pub within : next ≤ length gaps
+  pub below : n < 2 ^ 32
+
+-- the lengths of the four columns
+pub record HasColumns (head : BlockHead) (c : Columns) : Type 0 where
+  pub gaps_len : length c.gaps ≡ gap_bytes head
+  pub words_len : length c.words ≡ 2 * head.rows
+  pub places_len : length c.places ≡ 4 * head.rows
+  pub scores_len : length c.scores ≡ head.rows
+
+-- Ok where no rule is broken; memory may always run out
+abbrev pub Decodes : Result (Unit {0}) BlockFault → Option Broken → Type 0
+Decodes (Ok u) broken = broken ≡ None
+Decodes (Err (faults.Rule n at)) broken = broken ≡ Some (record { n = n; at = at })
+Decodes (Err faults.Memory) broken = Unit {0}

@@ -1,0 +1,15 @@
+//! Why a block isn't read.
+
+/// What `decode` answers where it adds no rows.
+#[derive(Clone, Copy, Debug, PartialEq, Eq, Drop)]
+pub enum BlockFault {
+    /// The bytes break a rule of a block's form.
+    Rule {
+        /// The first broken rule, from 13 to 17.
+        n: u8,
+        /// The place at which it is broken, in bytes from the block's first.
+        at: u32,
+    },
+    /// Memory ran out.
+    Memory,
+}

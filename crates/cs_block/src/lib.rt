@@ -1,0 +1,18 @@
+//! Blocks of an index file: sorted rows of some words in four columns of bytes, written and read.
+//!
+//! What the bytes of a block are stands in `specs/Blocks.antt` of `cs_model`, the rules that they
+//! keep in `specs/BlockRules.antt` there, and both in words in `docs/INDEX_FILE.md`. Places are
+//! counted from the block's first byte.
+#![tactic(auto)]
+
+mod decoding;
+mod encoding;
+mod fault;
+mod judging;
+mod reading;
+#[cfg(test)]
+mod tests;
+
+pub use decoding::decode;
+pub use encoding::encode;
+pub use fault::BlockFault;

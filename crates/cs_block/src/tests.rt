@@ -1,0 +1,107 @@
+//! A worked block, written and read, and the rule and the place of each damage to it.
+ghost use Rattle.std.specs.Prelude.{◌≡◌, true};
+ghost use Rattle.cs_model.specs.Blocks.{AreWritable};
+
+use crate::{BlockFault, decode, encode};
+use cs_base::{BlockHead, Memory, Post};
+use cs_cols::Cols;
+use std::alloc::Global;
+use std::test::Fail;
+
+// The head of a block of three plain words, 1 to 3, with a row each in document 0.
+const HEAD: BlockHead = BlockHead {
+    lo: 1,
+    words: 3,
+    rows: 3,
+    len: 24,
+    facet: false,
+};
+
+const BLOCK: [u8; 24] = [
+    0, 0, 0, 0, 1, 0, 2, 0, 0, 0, 0, 0, 1, 0, 0, 0, 10, 0, 0, 0, 11, 4, 1, 1,
+];
+
+// The same with up to two bytes changed, each given as place and value.
+fn damaged(changes: [(usize, u8); 2]) -> [u8; 24] {
+    let mut bytes = BLOCK;
+    for (at, value) in changes {
+        if at < 24 {
+            bytes[at] = value;
+        }
+    }
+    bytes
+}
+
+#[test]
+fn the_worked_block_is_decoded_and_encoded(rt: HostRuntime) -> Result<(), Fail> {
+    let mut rows = Cols::new(rt.alloc());
+    if let Err(_) = decode(&BLOCK, &HEAD, 1, &mut rows) {
+        panic!(rt; "refused");
+    }
+    assert_eq!(rt; rows.docs(), [0, 0, 0].as_slice());
+    assert_eq!(rt; rows.words(), [2, 3, 1].as_slice());
+    assert_eq!(rt; rows.places(), [1, 10, 11].as_slice());
+    assert_eq!(rt; rows.scores(), [4, 1, 1].as_slice());
+    let mut out = Vec::new(rt.alloc());
+    out.push(7)?;
+    encode(&rows, 1, &mut out)?;
+    assert_eq!(rt; out.len(), 25);
+    assert_eq!(rt; &out[1..], BLOCK.as_slice());
+    Ok(())
+}
+
+#[test]
+fn damage_is_named_by_rule_and_place(rt: HostRuntime) {
+    let none = (24, 0);
+    for (changes, n, at) in [
+        // a needless zero, a code that is cut
+        ([(0, 0x80), none], 13, 0),
+        ([(2, 0x80), none], 13, 2),
+        // a document that isn't there, a word of another block
+        ([(2, 1), none], 14, 2),
+        ([(4, 3), none], 15, 3),
+        // no score, the position of a facet, a position past the last
+        ([(23, 3), none], 16, 17),
+        ([(12, 0), none], 16, 9),
+        ([(14, 1), (15, 0x87)], 16, 13),
+        // a row twice
+        ([(20, 10), (8, 2)], 17, 2),
+        // of two rules the first
+        ([(0, 0x80), (23, 3)], 13, 0),
+        ([(2, 1), (4, 3)], 14, 2),
+        ([(4, 3), (23, 3)], 15, 3),
+        // of two places the first
+        ([(22, 3), (23, 3)], 16, 13),
+    ] {
+        let mut rows = Cols::new(rt.alloc());
+        let answer = decode(&damaged(changes), &HEAD, 1, &mut rows);
+        assert_eq!(rt; answer, Err(BlockFault::Rule { n, at }), "{n} at {at}");
+        assert_eq!(rt; rows.len(), 0);
+    }
+}
+
+#[test]
+fn a_facet_block_is_told_from_a_plain_one(rt: HostRuntime) {
+    let head = BlockHead {
+        lo: 0,
+        words: 1,
+        rows: 1,
+        len: 8,
+        facet: true,
+    };
+    let bytes = [0, 0, 0, 0, 0, 0, 0, 2];
+    let mut rows = Cols::new(rt.alloc());
+    assert_eq!(rt; decode(&bytes, &head, 1, &mut rows), Ok(()));
+    assert_eq!(rt; rows.len(), 1);
+    let plain = BlockHead {
+        facet: false,
+        ..head
+    };
+    let answer = decode(&bytes, &plain, 1, &mut rows);
+    assert_eq!(rt; answer, Err(BlockFault::Rule { n: 16, at: 3 }));
+    let longer = BlockHead { len: 9, ..head };
+    let left_over = [0, 0, 0, 0, 0, 0, 0, 0, 2];
+    let answer = decode(&left_over, &longer, 1, &mut rows);
+    assert_eq!(rt; answer, Err(BlockFault::Rule { n: 13, at: 1 }));
+    assert_eq!(rt; rows.len(), 1);
+}

@@ -1,0 +1,3 @@
+pub mod CodesLemmas
+pub mod Examples
+pub mod PassLemmas

@@ -1,0 +1,185 @@
+-- The rules that the bytes of a block keep, and the first one that some bytes break.
+--
+-- Bytes are read whatever they are, as rows: a gap code that isn't there counts as 0, a byte that isn't there as 0. The first rule
+-- says that the codes are there; each other one is a test of a row and the row before it. The rules have numbers, since these are
+-- printed: 13 is the first, and a rule is tried where those of lower numbers hold. `docs/INDEX_FILE.md` lists them.
+--
+--   codes_break k at gaps    where k gap codes and no more ought to stand, the first place where that fails; None where it holds
+--   Item                     a row that was read, the row before it, its number and the place of its gap code
+--   items_of head c          the items of four columns
+--   Rule, rules head docs    a rule: its number, its test, and the place where an item breaks it; rules 14 to 17
+--   breaks rule items        the place of the first item that breaks a rule; None where none does
+--   judged head docs bytes   the first broken rule of the bytes of a block, and its place in them; None where all rules hold
+--   rows_of head bytes       the rows that were read
+--   IsBlock head docs rs bytes    bytes are those of so many rows as the head says, which a block can hold and which meet rules 14 to 17
+use Rattle.std.specs.Prelude.{◌≡◌, ℕ, zero, suc, ◌+◌, ◌-◌, ◌*◌, Bool, true, ◌&&◌, ◌||◌, nat_lt, nat_le, ◌==◌, List, [], ◌∷◌, length, map, take, drop, get_or, Option, Some, None, if◌then◌else◌}
+use Rattle.std.specs.Int.{w16, w32, from_be_bytes}
+use Rattle.std.specs.Option.{is_some, unwrap_or}
+use Rattle.std.specs.Ordering.{is_lt}
+use Rattle.cs_base.specs.GapCode.{code, first_code}
+use Rattle.cs_base.specs.Orders.{by_place}
+use Rattle.cs_base.specs.declared.block.BlockHead.{BlockHead}
+use Rattle.cs_base.specs.declared.block.Broken.{Broken}
+use Rattle.cs_base.specs.declared.doc.Post.{Post}
+use Rattle.cs_base.specs.declared.limits.TheConstants.{MAX_POSITION}
+use Rattle.cs_model.specs.Blocks.{AreWritable, block_bytes}
+
+-- ---- gap codes whole and shortest
+
+-- the number whose code stands at the front; 0 where none does
+abbrev pub gap_of : List ℕ → ℕ
+gap_of gaps = unwrap_or (first_code gaps) 0
+
+-- the bytes of that code
+abbrev pub gap_len : List ℕ → ℕ
+gap_len gaps = length (code (gap_of gaps))
+
+-- behind the last code no byte is left; where no byte is left for a code, the place is the column's end
+unfoldable pub codes_break : ℕ → ℕ → List ℕ → Option ℕ
+codes_break zero at [] = None
+codes_break zero at (b ∷ gaps) = Some at
+codes_break (suc k) at gaps = if is_some (first_code gaps) then codes_break k (at + gap_len gaps) (drop (gap_len gaps) gaps) else Some at
+
+-- ---- the rows that are read
+
+-- the first row has none before it
+pub record Item : Type 0 where
+  pub row : Post
+  pub last : Option Post
+  pub index : ℕ
+  pub gap_place : ℕ
+
+-- 0 before the first row
+abbrev pub doc_before : Option Post → ℕ
+doc_before None = 0
+doc_before (Some r) = r.doc
+
+-- the row of a document and of what stands at the front of the other columns
+abbrev pub row_at : ℕ → ℕ → List ℕ → List ℕ → List ℕ → Post
+row_at lo doc words places scores = record {
+  doc = doc;
+  word = lo + from_be_bytes w16 (take 2 words);
+  pos = from_be_bytes w32 (take 4 places);
+  score = get_or scores 0 0;
+}
+
+-- the next k items, where the one after `last` has this index, and its gap code this place
+unfoldable pub items_in : ℕ → ℕ → Option Post → ℕ → ℕ → List ℕ → List ℕ → List ℕ → List ℕ → List Item
+items_in lo zero last index at gaps words places scores = []
+items_in lo (suc k) last index at gaps words places scores =
+    let row = row_at lo (doc_before last + gap_of gaps) words places scores in
+    record { row = row; last = last; index = index; gap_place = at }
+    ∷ items_in lo k (Some row) (index + 1) (at + gap_len gaps) (drop (gap_len gaps) gaps) (drop 2 words) (drop 4 places) (drop 1 scores)
+
+-- the four columns of a block
+pub record Columns : Type 0 where
+  pub gaps : List ℕ
+  pub words : List ℕ
+  pub places : List ℕ
+  pub scores : List ℕ
+
+-- what the other three columns leave: a row has seven bytes in them
+abbrev pub gap_bytes : BlockHead → ℕ
+gap_bytes head = head.len - 7 * head.rows
+
+abbrev pub columns_behind : BlockHead → List ℕ → List ℕ → Columns
+columns_behind head gaps rest = record {
+  gaps = gaps;
+  words = take (2 * head.rows) rest;
+  places = take (4 * head.rows) (drop (2 * head.rows) rest);
+  scores = drop (4 * head.rows) (drop (2 * head.rows) rest);
+}
+
+-- bytes cut into the columns
+abbrev pub columns : BlockHead → List ℕ → Columns
+columns head bytes = columns_behind head (take (gap_bytes head) bytes) (drop (gap_bytes head) bytes)
+
+abbrev pub items_of : BlockHead → Columns → List Item
+items_of head c = items_in head.lo head.rows None 0 0 c.gaps c.words c.places c.scores
+
+abbrev pub item_row : Item → Post
+item_row i = i.row
+
+-- the rows that were read, of any bytes as many as the head says
+unfoldable pub rows_of : BlockHead → List ℕ → List Post
+rows_of head bytes = map item_row (items_of head (columns head bytes))
+
+-- ---- the rules on rows
+
+-- a rule's number, whether a row behind another keeps it, and where an item breaks it
+pub record Rule : Type 0 where
+  pub number : ℕ
+  pub holds : Option Post → Post → Bool
+  pub place : Item → ℕ
+
+-- documents in range; the place is the row's gap code
+abbrev pub in_docs : ℕ → Rule
+in_docs docs = record { number = 14; holds = λ last r. nat_lt r.doc docs; place = λ i. i.gap_place }
+
+-- words in range; the place is the row's local number
+abbrev pub in_words : BlockHead → Rule
+in_words head = record { number = 15; holds = λ last r. nat_lt r.word (head.lo + head.words); place = λ i. gap_bytes head + 2 * i.index }
+
+-- a facet word stands at 0 with the score 2; any other from 1 on with the score of a title or of a text word
+abbrev pub is_scored : Bool → Post → Bool
+is_scored facet r = if facet then r.pos == 0 && r.score == 2 else (nat_le 1 r.pos && nat_le r.pos MAX_POSITION && (r.score == 4 || r.score == 1))
+
+-- positions and scores by kind; the place is the row's position
+abbrev pub scored : BlockHead → Rule
+scored head = record { number = 16; holds = λ last r. is_scored head.facet r; place = λ i. gap_bytes head + 2 * head.rows + 4 * i.index }
+
+-- the first row is behind no other
+abbrev pub is_after : Option Post → Post → Bool
+is_after None r = true
+is_after (Some p) r = is_lt (by_place p r)
+
+-- ascending; the place is the row's gap code
+abbrev pub in_order : Rule
+in_order = record { number = 17; holds = is_after; place = λ i. i.gap_place }
+
+-- in the order in which they are tried
+abbrev pub rules : BlockHead → ℕ → List Rule
+rules head docs = in_docs docs ∷ in_words head ∷ scored head ∷ in_order ∷ []
+
+-- ---- the first broken rule
+
+-- of no items None
+unfoldable pub breaks : Rule → List Item → Option ℕ
+breaks rule [] = None
+breaks rule (i ∷ is) = if rule.holds i.last i.row then breaks rule is else Some (rule.place i)
+
+-- a place where a rule is broken goes before what later rules say
+abbrev pub or_broken : ℕ → Option ℕ → Option Broken → Option Broken
+or_broken n None other = other
+or_broken n (Some at) other = Some (record { n = n; at = at })
+
+-- the rules in turn
+abbrev pub first_broken : List Rule → List Item → Option Broken
+first_broken [] items = None
+first_broken (rule ∷ rest) items = or_broken rule.number (breaks rule items) (first_broken rest items)
+
+abbrev pub judged_columns : BlockHead → ℕ → Columns → Option Broken
+judged_columns head docs c = or_broken 13 (codes_break head.rows 0 c.gaps) (first_broken (rules head docs) (items_of head c))
+
+-- the codes first, then the rules on rows
+unfoldable pub judged : BlockHead → ℕ → List ℕ → Option Broken
+judged head docs bytes = judged_columns head docs (columns head bytes)
+
+-- ---- the other side: rows and their bytes
+
+-- each row, behind the row before it, keeps a rule; so do no rows
+unfoldable pub keeps : (Option Post → Post → Bool) → Option Post → List Post → Bool
+keeps holds last [] = true
+keeps holds last (r ∷ rs) = holds last r && keeps holds (Some r) rs
+
+-- rows keep each of some rules
+abbrev pub MeetAll : List Rule → List Post → Type 0
+MeetAll [] rs = Unit {0}
+MeetAll (rule ∷ rest) rs = (keeps rule.holds None rs ≡ true) × MeetAll rest rs
+
+-- the bytes of as many rows as the head says, which a block can hold and which meet the rules
+pub record IsBlock (head : BlockHead) (docs : ℕ) (rs : List Post) (bytes : List ℕ) : Type 0 where
+  pub count : length rs ≡ head.rows
+  pub written : bytes ≡ block_bytes rs head.lo
+  pub writable : AreWritable head.lo rs
+  pub meets : MeetAll (rules head docs) rs
