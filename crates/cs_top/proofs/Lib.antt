@@ -5,6 +5,7 @@ pub mod CompleteLemmas
 pub mod Digits
 pub mod Examples
 pub mod GrewLemmas
+pub mod LineTexts
 pub mod MemoryText
 pub mod OnePartLemmas
 pub mod SaysLemmas
