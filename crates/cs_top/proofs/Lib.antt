@@ -9,5 +9,7 @@ pub mod LineTexts
 pub mod MemoryText
 pub mod OnePartLemmas
 pub mod SaysLemmas
+pub mod StepLemmas
 pub mod TitlesLemmas
+pub mod WindowLemmas
 pub mod WordsLemmas

@@ -1,6 +1,6 @@
 -- What the readers of a line say of it, in the words that define its answer.
-use Rattle.std.proofs.Common.{◌≡◌, ◌≢◌, ◌<◌, ◌≤◌, ◌++◌, ◌∷◌, [], ℕ, Bool, true, false, List, length, nat_le, refl, sym, ◌∙◌, ap, subst, arith}
-use Rattle.std.specs.Prelude.{Option, Some, None, if◌then◌else◌}
+use Rattle.std.proofs.Common.{◌≡◌, ◌≢◌, ◌<◌, ◌≤◌, ℕ, Bool, true, false, List, length, nat_le, refl, sym, ◌∙◌, ap, arith}
+use Rattle.std.specs.Prelude.{Some, None}
 use Rattle.std.specs.Str.{is_utf8, IsUtf8}
 use Rattle.std.proofs.lemmas.Bool.Decides.{nat_tests}
 use Rattle.std.proofs.lemmas.Str.{IsUtf8-from_is_utf8, is_utf8-from_IsUtf8}
@@ -10,8 +10,8 @@ use Rattle.cs_json.specs.FaultTexts.{fault_text}
 use Rattle.cs_json.specs.declared.fault.Fault.TheVariants as faults
 use Rattle.cs_model.specs.Corpus.{Corpus}
 use Rattle.cs_model.specs.Faults.{bad_text, limit_text, param_text}
-use Rattle.cs_model.specs.Outputs.{ScriptFault, script_line_too_long, script_line_not_utf8, line_fault, text, text_by}
-use Rattle.cs_model.specs.Parameters.{Refused, request_of, request_refusal}
+use Rattle.cs_model.specs.Outputs.{script_line_too_long, script_line_not_utf8, line_fault, text, text_by}
+use Rattle.cs_model.specs.Parameters.{request_of, request_refusal}
 use Rattle.cs_model.specs.Replies.{reply_text}
 use Rattle.cs_model.specs.Requests.{Request, reply_of}
 use Rattle.cs_query.specs.declared.request.ReqFault.{ReqFault}

@@ -1,7 +1,7 @@
 use Rattle.std.proofs.Common.{sym, ◌∙◌, ap, List, ℕ, ◌++◌, ◌∷◌, []}
 use Rattle.cs_engine.specs.Searching.{corpus_searched}
 use Rattle.cs_query.specs.RequestView.{asked}
-use Rattle.cs_top.proofs.LineTexts.{refused_text, request_text, request_joins}
+use Rattle.cs_top.proofs.LineTexts.{refused_text, request_text}
 use Rattle.cs_top.proofs.answers.answer_bytes.Goals as goal
 
 pub returns-in-Err : goal.returns-in-Err

@@ -1,5 +1,5 @@
-use Rattle.std.proofs.Common.{◌≡◌, ◌≢◌, ◌==◌, Bool, true, false, List, [], ◌∷◌, ◌++◌, ℕ, length, refl, sym, ◌∙◌, inr}
-use Rattle.std.specs.Prelude.{Option, Some, None, codes, Result, Ok, Err, OnOk, OnErr, IfErr}
+use Rattle.std.proofs.Common.{◌≡◌, ◌≢◌, ◌==◌, false, List, [], ◌∷◌, ℕ, length, sym, inr}
+use Rattle.std.specs.Prelude.{Option, None, codes, Result, Ok, Err, OnOk, OnErr, IfErr}
 use Rattle.cs_base.specs.Outside.{Grew, GrewByPrefix}
 use Rattle.cs_engine.specs.Searching.{corpus_searched}
 use Rattle.cs_model.specs.Corpus.{Corpus}

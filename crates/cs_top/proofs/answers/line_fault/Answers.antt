@@ -1,4 +1,4 @@
-use Rattle.std.proofs.Common.{sym, ap, arith}
+use Rattle.std.proofs.Common.{sym, arith}
 use Rattle.cs_top.proofs.LineTexts.{fault-none, fault-not_utf8}
 use Rattle.cs_top.proofs.answers.line_fault.Goals as goal
 
