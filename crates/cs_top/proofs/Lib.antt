@@ -5,8 +5,11 @@ pub mod CompleteLemmas
 pub mod Digits
 pub mod Examples
 pub mod GrewLemmas
+pub mod LineTexts
 pub mod MemoryText
 pub mod OnePartLemmas
 pub mod SaysLemmas
+pub mod StepLemmas
 pub mod TitlesLemmas
+pub mod WindowLemmas
 pub mod WordsLemmas

@@ -1,10 +1,11 @@
 -- What `ask COLLECTION SCRIPT` does over files that tell what they hold.
 --
 --   asks_join p           the parameters are a request, and its query has a join, which isn't answered yet
---   line_ending l         how a script ends at the line l: it is too long or not UTF-8, or it asks a join; None where it is answered
---   answered_lines ls     the lines before the first at which the script ends
---   ending_of_lines ls    how the lines end: done where each is answered
---   answered c s          the lines of a script that are answered over a collection; none where the collection is refused
+--   first_fault ls        the first fault of a line: too long or not UTF-8; None where each line is read
+--   readable_lines ls     the lines before the first that has a fault; all where none has one
+--   line_ending l         how a script ends at the line l: its fault, or it asks a join; None where it is answered
+--   ending_of_lines ls    how the lines end where memory is there: done where each is answered
+--   answered c s          the lines of a script that are asked of a collection; none where the collection is refused
 --   ending_over c s       how it ends over the bytes of both files
 --   ending_of h c s       how it ends over these files where no call fails and memory is there: the first of the two names
 --                         that isn't held is said to be absent
@@ -15,7 +16,7 @@ use Rattle.cs_base.specs.Outside.{Held, File}
 use Rattle.cs_model.specs.Collection.{Refusal}
 use Rattle.cs_model.specs.Corpus.{refusal}
 use Rattle.cs_model.specs.Parameters.{Refused, request_of, request_refusal}
-use Rattle.cs_model.specs.Outputs.{script_lines, line_fault}
+use Rattle.cs_model.specs.Outputs.{ScriptFault, script_lines, line_fault}
 use Rattle.cs_engine.specs.Searching.{has_join}
 use Rattle.cs_top.specs.Endings.{Ending, done, not_built, refused, absent, script_refused}
 
@@ -26,32 +27,37 @@ asks_join_by p (Some r) = false
 abbrev pub asks_join : List ℕ → Bool
 asks_join p = asks_join_by p (request_refusal p)
 
+-- ---- lines
+unfoldable pub first_fault : List (ℕ × List ℕ) → Option ScriptFault
+first_fault [] = None
+first_fault (l ∷ ls) = option_or (line_fault l) (first_fault ls)
+
+-- a line in front of others, by its fault
+abbrev pub readable_before : List ℕ → Option ScriptFault → List (List ℕ) → List (List ℕ)
+readable_before l None ls = l ∷ ls
+readable_before l (Some f) ls = []
+
+unfoldable pub readable_lines : List (ℕ × List ℕ) → List (List ℕ)
+readable_lines [] = []
+readable_lines (l ∷ ls) = readable_before l.1 (line_fault l) (readable_lines ls)
+
 abbrev pub line_ending : ℕ × List ℕ → Option Ending
 line_ending l = option_or (option_map script_refused (line_fault l)) (if asks_join l.1 then Some not_built else None)
-
--- one line in front of others, by how the script ends there
-abbrev pub answered_before : List ℕ → Option Ending → List (List ℕ) → List (List ℕ)
-answered_before l None ls = l ∷ ls
-answered_before l (Some e) ls = []
 
 abbrev pub ending_before : Option Ending → Ending → Ending
 ending_before None e = e
 ending_before (Some first) e = first
-
-unfoldable pub answered_lines : List (ℕ × List ℕ) → List (List ℕ)
-answered_lines [] = []
-answered_lines (l ∷ ls) = answered_before l.1 (line_ending l) (answered_lines ls)
 
 unfoldable pub ending_of_lines : List (ℕ × List ℕ) → Ending
 ending_of_lines [] = done
 ending_of_lines (l ∷ ls) = ending_before (line_ending l) (ending_of_lines ls)
 
 -- ---- both files
-abbrev pub answered_by : Option Refusal → List ℕ → List (List ℕ)
-answered_by None s = answered_lines (script_lines s)
+abbrev pub answered_by : Option Refusal → List ℕ → List (ℕ × List ℕ)
+answered_by None s = script_lines s
 answered_by (Some r) s = []
 
-abbrev pub answered : List ℕ → List ℕ → List (List ℕ)
+abbrev pub answered : List ℕ → List ℕ → List (ℕ × List ℕ)
 answered c s = answered_by (refusal c) s
 
 abbrev pub ending_by : Option Refusal → List ℕ → Ending

@@ -3,6 +3,8 @@ pub mod CommandView
 pub mod Commands
 pub mod EndedView
 pub mod Endings
+pub mod LineSteps
 pub mod OnePart
 pub mod Runs
-pub mod Steps
+pub mod ScriptView
+pub mod Windows

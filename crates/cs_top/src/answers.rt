@@ -1,152 +1,143 @@
-//! A script, answered line by line.
-ghost use Rattle.std.specs.Prelude.{◌≡◌, ◌≤◌, ◌<◌, ◌^◌, ◌++◌, ◌∷◌, ◌↔◌, [], ◌&&◌, true, false, All, IfOk, OnOk, OnErr, MatchOption, length, nat_lt, nat_le, nat_eq, List, ℕ};
-ghost use Rattle.std.specs.List.{list_all, starts_with};
-ghost use Rattle.std.specs.Str.{IsUtf8};
-ghost use Rattle.std.specs.Str.Lines.{lines};
-ghost use Rattle.cs_base.specs.Causes.{Counted};
+//! One line of a script, answered.
+ghost use Rattle.std.specs.Prelude.{◌≡◌, ◌≢◌, ◌++◌, ◌∷◌, [], true, false, IfOk, IfErr, OnOk, OnErr, IsErrOf, ℕ, List};
+ghost use Rattle.std.specs.Option.{option_map};
+ghost use Rattle.cs_base.specs.Causes.{Rose, Counted};
 ghost use Rattle.cs_base.specs.Outside.{Grew, GrewByPrefix};
-ghost use Rattle.cs_model.specs.Collection.{is_small_letter};
-ghost use Rattle.cs_model.specs.Corpus.{rows_of, corpus_of};
-ghost use Rattle.cs_model.specs.Requests.{is_plain_line};
-ghost use Rattle.cs_model.specs.Outputs.{text, IsAnswer, PutAll, PutSome, script_lines, first_plain, behind_plain};
-ghost use Rattle.cs_top.specs.Steps.{AnsweredAs, Stepped, StepFailed};
+ghost use Rattle.cs_engine.specs.Searching.{corpus_searched, has_join};
+ghost use Rattle.cs_json.specs.FaultTexts.{fault_text};
+ghost use Rattle.cs_json.specs.declared.fault.Fault.TheVariants as faults;
+ghost use Rattle.cs_model.specs.Outputs.{line_fault, text};
+ghost use Rattle.cs_model.specs.Parameters.{HoldsLimits};
+ghost use Rattle.cs_model.specs.Replies.{reply_text};
+ghost use Rattle.cs_model.specs.Requests.{reply_of};
+ghost use Rattle.cs_query.specs.RequestView.{asked};
+ghost use Rattle.cs_query.specs.declared.request.ReqFault.{ReqFault};
+ghost use Rattle.cs_top.specs.Asking.{asks_join};
+ghost use Rattle.cs_top.specs.LineSteps.{Passes, Stops, OutCaused};
+ghost use Rattle.cs_top.specs.ScriptView.{fault_seen, script_ending};
 
-use crate::reply::plain_reply;
-use cs_base::{Doc, Failed, Memory, Row, Sink};
-use cs_docs::first_line;
-use cs_json::reply_bytes;
+use crate::script::{ScriptEnd, ScriptFault};
+use cs_base::{Failed, MAX_SCRIPT_LINE_BYTES, Memory, Sink};
+use cs_engine::{Corpus, has_join};
+use cs_http::request;
+use cs_json::{Fault, fault_bytes, reply_bytes};
+use cs_query::{ReqFault, Request};
 use std::alloc::Global;
+use std::str;
 
 /// The memory fault's text with its line ending.
 const MEMORY_LINE: &[u8] = b"{\"error\":\"memory\"}\n";
 
-/// How far a script was answered.
+/// Why a line that is read has no answer of its own.
 #[derive(Clone, Copy, Debug, PartialEq, Eq)]
-pub(crate) enum Answered {
-    /// Each line that has bytes was answered.
-    All,
-    /// A line isn't plain; those before it were answered.
-    NotPlain,
+enum Unanswered {
+    /// It asks a join, and joins aren't answered yet.
+    Join,
+    /// Memory ran out.
+    Memory,
 }
 
-/// What became of one line.
-#[derive(Clone, Copy, Debug, PartialEq, Eq)]
-pub(crate) enum Step {
-    /// It has no bytes.
-    Skipped,
-    /// It was answered.
-    Put,
-    /// It isn't plain.
-    Refused,
-}
+impl From<Memory> for Unanswered {
+    ghost use Rattle.std.specs.Prelude.{◌≡◌};
+    ghost use Rattle.cs_top.specs.declared.answers.Unanswered.{Unanswered};
 
-/// Answers the lines of a script that have bytes, in order, up to the first that isn't plain.
-pub(crate) fn answer_all<O: Sink>(
-    alloc: Global,
-    docs: &[Doc],
-    rows: &[Row],
-    script: &[u8],
-    out: &mut O,
-) -> Result<Answered, Failed>
-    requires rows { rows.now ≡ rows_of docs.now }
-    requires few_rows { length rows.now ≤ 2 ^ 24 }
-    requires few_docs { length docs.now ≤ 2 ^ 20 }
-    requires utf8 { All (λ r. IsUtf8 r.word) rows.now }
+    ghost from_gives = { λ _ e. e ≡ Unanswered.Memory };
 
-    ensures ok { OnOk result (PutAll (corpus_of docs.now) (first_plain (script_lines script.now)) (O.written out.old) (O.written out.new)) }
-    ensures all { IfOk result (λ a. AnsweredAs a (script_lines script.now)) }
-    ensures err { OnErr result (PutSome (corpus_of docs.now) (first_plain (script_lines script.now)) (O.written out.old) (O.written out.new)) }
-    ensures counted { Counted (O.faults out.old) (O.faults out.new) result }
-{
-    let mut left = script;
-    while !left.is_empty() {
-        let (line, rest) = first_line(left);
-        if let Step::Refused = answer_line(alloc, docs, rows, line, out)? {
-            return Ok(Answered::NotPlain);
-        }
-        left = rest;
+    fn from(_: Memory) -> Unanswered {
+        Unanswered::Memory
     }
-    Ok(Answered::All)
 }
 
-// Answers one line, if it has bytes and is plain.
-fn answer_line<O: Sink>(
+/// Answers a line of a script, if it has bytes. An error says how the script ends there.
+pub(crate) fn answer_line<O: Sink>(
     alloc: Global,
-    docs: &[Doc],
-    rows: &[Row],
+    corpus: &Corpus,
     line: &[u8],
+    number: u64,
     out: &mut O,
-) -> Result<Step, Failed>
-    requires rows { rows.now ≡ rows_of docs.now }
-    requires few_rows { length rows.now ≤ 2 ^ 24 }
-    requires few_docs { length docs.now ≤ 2 ^ 20 }
-    requires utf8 { All (λ r. IsUtf8 r.word) rows.now }
-
-    ensures ok { IfOk result (λ s. Stepped s (corpus_of docs.now) line.now (O.written out.old) (O.written out.new)) }
-    ensures err { OnErr result (StepFailed (corpus_of docs.now) line.now (O.written out.old) (O.written out.new)) }
-    ensures counted { Counted (O.faults out.old) (O.faults out.new) result }
+) -> Result<(), ScriptEnd>
+    ensures ok { OnOk result (Passes (corpus_searched corpus.now) (number, line.now) (O.written out.old) (O.written out.new)) }
+    ensures err { IfErr result (λ e. Stops (script_ending e) (corpus_searched corpus.now) (number, line.now) (O.written out.old) (O.written out.new)) }
+    ensures quiet { OnOk result (O.faults out.new ≡ O.faults out.old) }
+    ensures caused { IfErr result (λ e. OutCaused (script_ending e) (O.faults out.old) (O.faults out.new)) }
 {
     if line.is_empty() {
-        return Ok(Step::Skipped);
+        return Ok(());
     }
-    if !is_plain(line) {
-        return Ok(Step::Refused);
+    if let Some(fault) = line_fault(line, number) {
+        return Err(ScriptEnd::Refused(fault));
     }
-    put_answer(alloc, docs, rows, line, out)?;
-    Ok(Step::Put)
+    match answer_bytes(alloc, corpus, line) {
+        Ok(bytes) => put(out, &bytes),
+        Err(Unanswered::Memory) => put(out, MEMORY_LINE),
+        Err(Unanswered::Join) => Err(ScriptEnd::NotBuilt),
+    }
 }
 
-// Puts the answer to a plain line.
-fn put_answer<O: Sink>(
-    alloc: Global,
-    docs: &[Doc],
-    rows: &[Row],
-    line: &[u8],
-    out: &mut O,
-) -> Result<(), Failed>
-    requires plain { is_plain_line line.now ≡ true }
-    requires rows { rows.now ≡ rows_of docs.now }
-    requires few_rows { length rows.now ≤ 2 ^ 24 }
-    requires few_docs { length docs.now ≤ 2 ^ 20 }
-    requires utf8 { All (λ r. IsUtf8 r.word) rows.now }
-
-    ensures ok { OnOk result ((t : List ℕ) × IsAnswer (corpus_of docs.now) line.now t × Grew (O.written out.old) t (O.written out.new)) }
-    ensures err { OnErr result ((t : List ℕ) × IsAnswer (corpus_of docs.now) line.now t × GrewByPrefix (O.written out.old) t (O.written out.new)) }
+// Puts a whole answer, or the script ends by the failure.
+fn put<O: Sink>(out: &mut O, bytes: &[u8]) -> Result<(), ScriptEnd>
+    ensures ok { OnOk result (Grew (O.written out.old) bytes.now (O.written out.new)) }
+    ensures err { OnErr result (GrewByPrefix (O.written out.old) bytes.now (O.written out.new)) }
+    ensures failed { IfErr result (λ e. e ≡ ScriptEnd.Failed) }
     ensures counted { Counted (O.faults out.old) (O.faults out.new) result }
 {
-    match answer_bytes(alloc, docs, rows, line) {
-        Ok(bytes) => out.put(&bytes),
-        Err(Memory) => out.put(MEMORY_LINE),
+    match out.put(bytes) {
+        Ok(()) => Ok(()),
+        Err(Failed) => Err(ScriptEnd::Failed),
     }
 }
 
-// The reply's text and its line ending.
-fn answer_bytes(alloc: Global, docs: &[Doc], rows: &[Row], line: &[u8]) -> Result<Vec<u8>, Memory>
-    requires plain { is_plain_line line.now ≡ true }
-    requires rows { rows.now ≡ rows_of docs.now }
-    requires few_rows { length rows.now ≤ 2 ^ 24 }
-    requires few_docs { length docs.now ≤ 2 ^ 20 }
-    requires utf8 { All (λ r. IsUtf8 r.word) rows.now }
-
-    ensures ok { IfOk result (λ b. b.items ≡ text (corpus_of docs.now) line.now ++ 10 ∷ []) }
+// Why a line isn't read, if it isn't.
+fn line_fault(line: &[u8], number: u64) -> Option<ScriptFault>
+    ensures { option_map fault_seen result ≡ line_fault (number, line.now) }
 {
-    let reply = plain_reply(alloc, docs, rows, line)?;
+    if line.len() > MAX_SCRIPT_LINE_BYTES {
+        return Some(ScriptFault::TooLong { line: number });
+    }
+    match str::from_utf8(line) {
+        Ok(_) => None,
+        Err(_) => Some(ScriptFault::NotUtf8 { line: number }),
+    }
+}
+
+// The text that answers a line, and its line ending.
+fn answer_bytes(alloc: Global, corpus: &Corpus, line: &[u8]) -> Result<Vec<u8>, Unanswered>
+    ensures ok { IfOk result (λ b. b.items ≡ text (corpus_searched corpus.now) line.now ++ 10 ∷ []) }
+    ensures join { IsErrOf result Unanswered.Join → asks_join line.now ≡ true }
+{
+    let wanted = match request(alloc, line) {
+        Ok(wanted) => wanted,
+        Err(fault) => return Ok(refusal_line(alloc, fault)?),
+    };
+    if has_join(&wanted.query) {
+        return Err(Unanswered::Join);
+    }
+    let bytes = reply_line(alloc, corpus, &wanted)?;
+    Ok(bytes)
+}
+
+// The text of a reply, and its line ending.
+fn reply_line(alloc: Global, corpus: &Corpus, wanted: &Request) -> Result<Vec<u8>, Memory>
+    requires limits { HoldsLimits (asked wanted.now) }
+    requires no_join { has_join wanted.now.query ≡ false }
+
+    ensures { IfOk result (λ b. b.items ≡ reply_text (reply_of (corpus_searched corpus.now) (asked wanted.now)) ++ 10 ∷ []) }
+{
+    let reply = corpus.ask(alloc, wanted)?;
     let mut bytes = reply_bytes(alloc, &reply)?;
     bytes.push(b'\n')?;
     Ok(bytes)
 }
 
-fn is_plain(line: &[u8]) -> bool
-    ensures { result ≡ is_plain_line line.now }
+// The text of a refusal, and its line ending. Want of memory isn't one.
+fn refusal_line(alloc: Global, fault: ReqFault) -> Result<Vec<u8>, Memory>
+    ensures text { IfOk result (λ b. b.items ≡ fault_text (faults.Refused fault) ++ 10 ∷ []) }
+    ensures refused { OnOk result (fault ≢ ReqFault.Memory) }
 {
-    if !line.starts_with(b"q=") || line.len() > 122 || line.len() == 2 {
-        return false;
+    if let ReqFault::Memory = fault {
+        return Err(Memory);
     }
-    are_small_letters(&line[2..])
-}
-
-fn are_small_letters(bytes: &[u8]) -> bool
-    ensures { result ≡ list_all is_small_letter bytes.now }
-{
-    bytes.iter().all(|b| b.is_ascii_lowercase())
+    let mut bytes = fault_bytes(alloc, &Fault::Refused(fault))?;
+    bytes.push(b'\n')?;
+    Ok(bytes)
 }

@@ -7,8 +7,10 @@ mod answers;
 mod command;
 mod corpus;
 mod ending;
+mod lines;
 mod read;
 mod reply;
+mod script;
 mod words;
 
 pub use command::run;

@@ -1,0 +1,56 @@
+-- What the readers of a line say of it, in the words that define its answer.
+use Rattle.std.proofs.Common.{◌≡◌, ◌≢◌, ◌<◌, ◌≤◌, ℕ, Bool, true, false, List, length, nat_le, refl, sym, ◌∙◌, ap, arith}
+use Rattle.std.specs.Prelude.{Some, None}
+use Rattle.std.specs.Str.{is_utf8, IsUtf8}
+use Rattle.std.proofs.lemmas.Bool.Decides.{nat_tests}
+use Rattle.std.proofs.lemmas.Str.{IsUtf8-from_is_utf8, is_utf8-from_IsUtf8}
+use Rattle.cs_engine.specs.Searching.{has_join}
+use Rattle.cs_http.specs.Refusing.{IsCause}
+use Rattle.cs_json.specs.FaultTexts.{fault_text}
+use Rattle.cs_json.specs.declared.fault.Fault.TheVariants as faults
+use Rattle.cs_model.specs.Corpus.{Corpus}
+use Rattle.cs_model.specs.Faults.{bad_text, limit_text, param_text}
+use Rattle.cs_model.specs.Outputs.{script_line_too_long, script_line_not_utf8, line_fault, text, text_by}
+use Rattle.cs_model.specs.Parameters.{request_of, request_refusal}
+use Rattle.cs_model.specs.Replies.{reply_text}
+use Rattle.cs_model.specs.Requests.{Request, reply_of}
+use Rattle.cs_query.specs.declared.request.ReqFault.{ReqFault}
+use Rattle.cs_query.specs.declared.request.ReqFault.TheVariants as causes
+use Rattle.cs_top.specs.Asking.{asks_join, asks_join_by}
+
+-- the text of a refused line
+pub refused_text : (k : Corpus) (p : List ℕ) (e : ReqFault) → IsCause p e → e ≢ causes.Memory → text k p ≡ fault_text (faults.Refused e)
+unfolding text fault_text bad_text limit_text param_text
+refused_text k p (causes.BadParam which) h other = ap (text_by k p) h
+refused_text k p (causes.Bad at) h other = ap (text_by k p) h
+refused_text k p (causes.Limit at which) h other = ap (text_by k p) h
+refused_text k p causes.Memory h other = absurd (other refl)
+
+-- the text of a line that is a request
+pub request_text : (k : Corpus) (p : List ℕ) (r : Request) → request_refusal p ≡ None → r ≡ request_of p → text k p ≡ reply_text (reply_of k r)
+unfolding text
+request_text k p r accepted is = ap (text_by k p) accepted ∙ ap (λ x. reply_text (reply_of k x)) (sym is)
+
+pub request_joins : (p : List ℕ) (r : Request) → request_refusal p ≡ None → r ≡ request_of p → asks_join p ≡ has_join r.query
+request_joins p r accepted is = ap (asks_join_by p) accepted ∙ ap (λ x. has_join x.query) (sym is)
+
+not_true : (b : Bool) → (b ≡ true → ⊥) → b ≡ false
+not_true true h = absurd (h refl)
+not_true false h = refl
+
+pub fault-none : (n : ℕ) (l : List ℕ) → length l ≤ 4096 → IsUtf8 l → line_fault (n, l) ≡ None
+fault-none n l short utf8 =
+    let fits : nat_le (length l) 4096 ≡ true = grind (arith, nat_tests) in
+    let good : is_utf8 l ≡ true = is_utf8-from_IsUtf8 l utf8 in
+    rw (fits, good) refl
+
+pub fault-too_long : (n : ℕ) (l : List ℕ) → 4096 < length l → line_fault (n, l) ≡ Some (script_line_too_long n)
+fault-too_long n l long =
+    let over : nat_le (length l) 4096 ≡ false = grind (arith, nat_tests) in
+    rw over refl
+
+pub fault-not_utf8 : (n : ℕ) (l : List ℕ) → length l ≤ 4096 → ¬ IsUtf8 l → line_fault (n, l) ≡ Some (script_line_not_utf8 n)
+fault-not_utf8 n l short other =
+    let fits : nat_le (length l) 4096 ≡ true = grind (arith, nat_tests) in
+    let bad : is_utf8 l ≡ false = not_true _ (λ t. other (IsUtf8-from_is_utf8 l t)) in
+    rw (fits, bad) refl
