@@ -1,12 +1,5 @@
-pub mod AnsweredLemmas
 pub mod AskLemmas
-pub mod ColonLemmas
 pub mod CompleteLemmas
 pub mod Digits
-pub mod Examples
 pub mod GrewLemmas
-pub mod MemoryText
-pub mod OnePartLemmas
 pub mod SaysLemmas
-pub mod TitlesLemmas
-pub mod WordsLemmas

@@ -3,6 +3,9 @@ pub mod CommandView
 pub mod Commands
 pub mod EndedView
 pub mod Endings
-pub mod OnePart
+pub mod FaultView
+pub mod RefusalView
 pub mod Runs
-pub mod Steps
+pub mod SaidView
+pub mod ScriptView
+pub mod Stops

@@ -3,12 +3,13 @@
 //! `run` is the one call. What it does stands in `specs/Runs.antt`, over the definitions of `cs_model`.
 #![tactic(auto)]
 
-mod answers;
 mod command;
 mod corpus;
 mod ending;
 mod read;
-mod reply;
+mod refusal;
+mod said;
+mod script;
 mod words;
 
 pub use command::run;
