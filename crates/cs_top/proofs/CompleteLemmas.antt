@@ -5,7 +5,7 @@ use Rattle.std.specs.FinMap as map
 use Rattle.cs_base.specs.Causes.{Rose}
 use Rattle.cs_base.specs.Outside.{Held}
 use Rattle.cs_top.specs.Commands.{Command, build, ask, replay, serve, trial}
-use Rattle.cs_top.specs.Endings.{Ending, done, not_built, usage, absent, failed, no_memory, status}
+use Rattle.cs_top.specs.Endings.{Ending, done, not_built, usage, refused, absent, failed, no_memory, script_refused, status}
 use Rattle.cs_top.specs.Asking.{ending_of}
 use Rattle.cs_top.specs.Runs.{IsExpected, Caused, Completes, Ran}
 
@@ -14,6 +14,8 @@ ended done x fb fn ob on is cause all files out = inl refl
 ended not_built x fb fn ob on is cause all files out = let e : not_built ≡ done = is ∙ all in cc
 ended usage x fb fn ob on is cause all files out = let e : usage ≡ done = is ∙ all in cc
 ended (absent name) x fb fn ob on is cause all files out = let e : absent name ≡ done = is ∙ all in cc
+ended (refused r) x fb fn ob on is cause all files out = let e : refused r ≡ done = is ∙ all in cc
+ended (script_refused f) x fb fn ob on is cause all files out = let e : script_refused f ≡ done = is ∙ all in cc
 ended failed x fb fn ob on is cause all files out = elim cause.0 [ inl r ↦ absurd (files r) | inr r ↦ absurd (out r) ]
 ended no_memory x fb fn ob on is cause all files out = inr refl
 

@@ -1,5 +1,7 @@
 -- What several puts of one sink add up to.
-use Rattle.std.proofs.Common.{◌≡◌, ℕ, ◌+◌, ◌<◌, ◌≤◌, List, [], ◌∷◌, ◌++◌, length, take, append_assoc, append-nil, drop, refl, sym, ◌∙◌, ap}
+use Rattle.std.proofs.Common.{◌≡◌, ℕ, suc, ◌+◌, ◌<◌, ◌≤◌, List, [], ◌∷◌, ◌++◌, length, take, append_assoc, append-nil, drop, drop-cons, get_or, refl, sym, ◌∙◌, ap, subst}
+use Rattle.std.specs.List.{flat_map}
+use Rattle.std.proofs.lemmas.Grind.{flat_map-append}
 use Rattle.std.specs.Prelude.{Option, Some, None, Result, Ok, Err, OnOk, OnErr}
 use Rattle.std.specs.Option.{option_map}
 use Rattle.std.proofs.Math.Seq.{take-append_seam, take-append-add}
@@ -40,3 +42,11 @@ on_ok_to (Err e) P Q f p = tt
 pub on_err_to : {T E : Type 0} (r : Result T E) (P Q : Type 0) → (P → Q) → OnErr r P → OnErr r Q
 on_err_to (Ok x) P Q f p = tt
 on_err_to (Err e) P Q f p = f p
+
+-- pieces that are put one after another, where the put of one fails
+pub pieces_begun : {X : Type 0} (f : X → List ℕ) (ps : List X) (i : ℕ) (d : X) (w v u : Option (List ℕ)) → i < length ps → Grew w (flat_map f (take i ps)) v → GrewByPrefix v (f (get_or ps i d)) u → GrewByPrefix w (flat_map f ps) u
+pieces_begun f ps i d w v u l h k =
+    let whole : flat_map f (take i ps) ++ (f (get_or ps i d) ++ flat_map f (drop (suc i) ps)) ≡ flat_map f ps =
+    ap (λ x. flat_map f (take i ps) ++ flat_map f x) (sym (drop-cons ps i d l)) ∙ sym (flat_map-append f (take i ps) (drop i ps)) ∙ ap (flat_map f) (take-append-drop i ps) in
+    subst (λ b. GrewByPrefix w b u) whole
+    (grew_then_begun w (flat_map f (take i ps)) (f (get_or ps i d) ++ flat_map f (drop (suc i) ps)) v u h (begun v (f (get_or ps i d)) (flat_map f (drop (suc i) ps)) u k))

@@ -1,15 +1,10 @@
 pub mod AnsweredLemmas
 pub mod AskLemmas
-pub mod ColonLemmas
 pub mod CompleteLemmas
 pub mod Digits
-pub mod Examples
 pub mod GrewLemmas
 pub mod LineTexts
 pub mod MemoryText
-pub mod OnePartLemmas
 pub mod SaysLemmas
 pub mod StepLemmas
-pub mod TitlesLemmas
 pub mod WindowLemmas
-pub mod WordsLemmas

@@ -3,8 +3,11 @@ pub mod CommandView
 pub mod Commands
 pub mod EndedView
 pub mod Endings
+pub mod FaultView
 pub mod LineSteps
-pub mod OnePart
+pub mod RefusalView
 pub mod Runs
+pub mod SaidView
 pub mod ScriptView
+pub mod Stops
 pub mod Windows

@@ -1,28 +1,34 @@
 //! The top call: all that the program does.
-ghost use Rattle.std.specs.Prelude.{◌≡◌, ◌≢◌, map};
-ghost use Rattle.std.specs.Option.{ForSome, is_some};
+ghost use Rattle.std.specs.Prelude.{◌≡◌, ◌≢◌, Some, None, map, IfOk, IfErr, OnOk};
+ghost use Rattle.std.specs.Option.{ForSome};
+ghost use Rattle.std.specs.FinMap as fin;
 ghost use Rattle.std.specs.String.{string_bytes};
+ghost use Rattle.cs_base.specs.Outside.{size_of};
+ghost use Rattle.cs_model.specs.Corpus.{corpus, refusal};
+ghost use Rattle.cs_engine.specs.Searching.{corpus_searched};
+ghost use Rattle.cs_top.specs.Asking.{ending_of};
 ghost use Rattle.cs_top.specs.Commands.{command_of};
 ghost use Rattle.cs_top.specs.Endings.{Ending, usage, status, line_of, Says};
-ghost use Rattle.cs_top.specs.EndedView.{ending};
-ghost use Rattle.cs_top.specs.Runs.{AskEnds, Caused, Completes, PutsNothing, Ran};
+ghost use Rattle.cs_top.specs.EndedView.{ending, stop_ending};
+ghost use Rattle.cs_top.specs.Runs.{AskEnds, Caused, Completes, IsExpected, PutsNothing, Ran, held_bytes};
+ghost use Rattle.cs_top.specs.Stops.{IsMissing, IsReady, IsRefused, StopCaused};
 
-use crate::answers::{Answered, answer_all};
-use crate::corpus::{CorpusFault, read_corpus};
-use crate::ending::{Ended, tell};
-use crate::read::{ReadFault, read_all};
+use crate::corpus::corpus_of;
+use crate::ending::{Ended, Stop, tell};
+use crate::read::read_all;
+use crate::refusal::Refusal;
+use crate::script::answer_script;
 use crate::words::{Command, command_of};
-use cs_base::{Files, Hub, Sink};
+use cs_base::{Files, Hub, MAX_COLLECTION_BYTES, Sink};
+use cs_engine::Corpus;
 use std::alloc::Global;
-
-/// The most bytes of a collection or a script that is read so far.
-const MAX_PLAIN_BYTES: u64 = 65_536;
 
 /// Does what the words ask for, and answers the exit status.
 ///
 /// `words` are the command line's words without the program's name. 0: all was done. 1: a form was met
-/// that isn't built yet. 2: the words aren't in the table. 5: a file to be read isn't held. 6: a call of
-/// `files` or `out` failed. 7: memory ran out before the first line.
+/// that isn't built yet. 2: the words aren't in the table. 3: the collection isn't accepted. 5: a file to be
+/// read isn't held. 6: a call of `files` or `out` failed. 7: memory ran out before the script's first line.
+/// 8: a line of the script is too long or isn't UTF-8; the lines before it were answered.
 pub fn run<F: Files, H: Hub, O: Sink, E: Sink>(
     alloc: Global,
     words: &Vec<String>,
@@ -78,46 +84,68 @@ fn ask<'a, F: Files, O: Sink>(
     ensures caused { Caused (ending result) (F.faults files.old) (F.faults files.new) (O.faults out.old) (O.faults out.new) }
     ensures files { F.held files.new ≡ F.held files.old }
 {
-    let collection_size = match files.size(collection) {
-        Ok(Some(size)) => size,
-        Ok(None) => return Ended::Absent(collection),
-        Err(_) => return Ended::Failed,
-    };
-    let script_size = match files.size(script) {
-        Ok(Some(size)) => size,
-        Ok(None) => return Ended::Absent(script),
-        Err(_) => return Ended::Failed,
-    };
-    if collection_size > MAX_PLAIN_BYTES {
-        return Ended::NotBuilt;
+    match prepare(alloc, collection, script, files) {
+        Ok((corpus, size)) => {
+            Ended::Answered(answer_script(alloc, &corpus, files, script, size, out))
+        }
+        Err(stop) => Ended::Stopped(stop),
     }
-    let bytes = match read_all(alloc, files, collection, collection_size) {
-        Ok(bytes) => bytes,
-        Err(ReadFault::Failed) => return Ended::Failed,
-        Err(ReadFault::Memory) => return Ended::Memory,
-    };
-    let corpus = match read_corpus(alloc, &bytes) {
-        Ok(corpus) => corpus,
-        Err(CorpusFault::NotPlain) => return Ended::NotBuilt,
-        Err(CorpusFault::Memory) => return Ended::Memory,
-    };
-    if script_size > MAX_PLAIN_BYTES {
-        return Ended::NotBuilt;
+}
+
+// The corpus of the collection, and the script's size.
+fn prepare<'a, F: Files>(
+    alloc: Global,
+    collection: &'a str,
+    script: &'a str,
+    files: &mut F,
+) -> Result<(Corpus, u64), Stop<'a>>
+    ensures ready { ForSome (F.held files.old) (λ h. IfOk result (λ p. IsReady h collection.now script.now p.0 p.1)) }
+    ensures stop { ForSome (F.held files.old) (λ h. IfErr result (λ s. IsExpected (stop_ending s) (ending_of h collection.now script.now))) }
+    ensures quiet { OnOk result (F.faults files.new ≡ F.faults files.old) }
+    ensures caused { IfErr result (λ s. StopCaused s (F.faults files.old) (F.faults files.new)) }
+    ensures files { F.held files.new ≡ F.held files.old }
+{
+    let collection_size = size_of(files, collection)?;
+    let script_size = size_of(files, script)?;
+    let corpus = read_corpus(alloc, files, collection, collection_size)?;
+    Ok((corpus, script_size))
+}
+
+// The size of a file that is held.
+fn size_of<'a, F: Files>(files: &mut F, name: &'a str) -> Result<u64, Stop<'a>>
+    ensures ok { ForSome (F.held files.old) (λ h. IfOk result (λ n. size_of (fin.get h name.now) ≡ Some n)) }
+    ensures stop { ForSome (F.held files.old) (λ h. IfErr result (λ s. IsMissing s name.now (fin.get h name.now))) }
+    ensures quiet { OnOk result (F.faults files.new ≡ F.faults files.old) }
+    ensures caused { IfErr result (λ s. StopCaused s (F.faults files.old) (F.faults files.new)) }
+    ensures files { F.held files.new ≡ F.held files.old }
+{
+    match files.size(name) {
+        Ok(Some(size)) => Ok(size),
+        Ok(None) => Err(Stop::Absent(name)),
+        Err(_) => Err(Stop::Failed),
     }
-    let lines = match read_all(alloc, files, script, script_size) {
-        Ok(bytes) => bytes,
-        Err(ReadFault::Failed) => return Ended::Failed,
-        Err(ReadFault::Memory) => return Ended::Memory,
-    };
-    match answer_all(
-        alloc,
-        corpus.docs.as_slice(),
-        corpus.rows.as_slice(),
-        &lines,
-        out,
-    ) {
-        Ok(Answered::All) => Ended::Done,
-        Ok(Answered::NotPlain) => Ended::NotBuilt,
-        Err(_) => Ended::Failed,
+}
+
+// The corpus of a collection of this size.
+fn read_corpus<'a, F: Files>(
+    alloc: Global,
+    files: &mut F,
+    name: &'a str,
+    size: u64,
+) -> Result<Corpus, Stop<'a>>
+    requires size { ForSome (F.held files.old) (λ h. size_of (fin.get h name.now) ≡ Some size) }
+
+    ensures ok { ForSome (F.held files.old) (λ h. IfOk result (λ k. corpus_searched k ≡ corpus (held_bytes h name.now))) }
+    ensures accepted { ForSome (F.held files.old) (λ h. OnOk result (refusal (held_bytes h name.now) ≡ None)) }
+    ensures stop { ForSome (F.held files.old) (λ h. IfErr result (λ s. IsRefused s (refusal (held_bytes h name.now)))) }
+    ensures quiet { OnOk result (F.faults files.new ≡ F.faults files.old) }
+    ensures caused { IfErr result (λ s. StopCaused s (F.faults files.old) (F.faults files.new)) }
+    ensures files { F.held files.new ≡ F.held files.old }
+{
+    if size > MAX_COLLECTION_BYTES as u64 {
+        return Err(Stop::Refused(Refusal::TooLarge));
     }
+    let bytes = read_all(alloc, files, name, size)?;
+    let corpus = corpus_of(alloc, &bytes)?;
+    Ok(corpus)
 }

@@ -9,7 +9,8 @@ mod corpus;
 mod ending;
 mod lines;
 mod read;
-mod reply;
+mod refusal;
+mod said;
 mod script;
 mod words;
 

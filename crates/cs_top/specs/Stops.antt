@@ -1,0 +1,38 @@
+-- What a command knows where it stops before its script.
+--
+--   IsReady h c s k n        the two files are held, the collection is accepted, its corpus is that of k, and the script has n bytes
+--   IsMissing s name f       the stop of a file that should be held: a call failed, or the name is said and not held
+--   IsRefused s r            the stop of a collection: its refusal, unless a call failed or memory ran out
+--   StopCaused s before now  a stop by failure comes only where the files' count rose; else the count stays as it was
+use Rattle.std.specs.Prelude.{◌≡◌, ◌≤◌, ℕ, List, Option, Some, None}
+use Rattle.cs_base.specs.Causes.{Rose}
+use Rattle.std.specs.FinMap as map
+use Rattle.cs_base.specs.Outside.{File, Held, size_of}
+use Rattle.cs_model.specs.Collection.{Refusal}
+use Rattle.cs_model.specs.Corpus.{corpus, refusal}
+use Rattle.cs_engine.specs.Searching.{Searched, corpus_searched}
+use Rattle.cs_top.specs.Asking.{ending_of, ending_over}
+use Rattle.cs_top.specs.RefusalView.{refused}
+use Rattle.cs_top.specs.Runs.{held_bytes}
+use Rattle.cs_top.specs.declared.ending.Stop.TheVariants as stop
+use Rattle.cs_top.specs.declared.ending.Stop.{Stop}
+
+pub record IsReady (h : Held) (c s : List ℕ) (k : Searched) (n : ℕ) : Type 0 where
+  pub accepted : refusal (held_bytes h c) ≡ None
+  pub corpus : corpus_searched k ≡ corpus (held_bytes h c)
+  pub ending : ending_of h c s ≡ ending_over (held_bytes h c) (held_bytes h s)
+  pub size : size_of (map.get h s) ≡ Some n
+
+abbrev pub IsMissing : Stop → List ℕ → Option File → Type 0
+IsMissing (stop.Absent said) name f = (said.now ≡ name) × (f ≡ None)
+IsMissing stop.Failed name f = Unit {0}
+IsMissing s name f = ⊥
+
+abbrev pub IsRefused : Stop → Option Refusal → Type 0
+IsRefused (stop.Refused told) r = r ≡ Some (refused told)
+IsRefused (stop.Absent name) r = ⊥
+IsRefused s r = Unit {0}
+
+abbrev pub StopCaused : Stop → ℕ → ℕ → Type 0
+StopCaused stop.Failed before now = Rose before now × (before ≤ now)
+StopCaused s before now = now ≡ before
