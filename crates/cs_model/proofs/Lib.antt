@@ -1,5 +1,9 @@
 pub mod AsciiLemmas
+pub mod CanonicalLemmas
 pub mod FittingLemmas
+pub mod PieceTokens
+pub mod Pieces
 pub mod QueryExamples
 pub mod RefusalLemmas
+pub mod SizeLemmas
 pub mod WordsExamples

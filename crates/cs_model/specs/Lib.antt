@@ -1,5 +1,6 @@
 pub mod Answers
 pub mod Ascii
+pub mod Canonical
 pub mod Collection
 pub mod Corpus
 pub mod Faults
