@@ -1,6 +1,9 @@
 pub mod AsciiLemmas
+pub mod AttachedText
 pub mod CanonicalLemmas
 pub mod FittingLemmas
+pub mod LastEntries
+pub mod PieceText
 pub mod PieceTokens
 pub mod Pieces
 pub mod QueryExamples
