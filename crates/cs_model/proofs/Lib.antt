@@ -3,6 +3,7 @@ pub mod AttachedText
 pub mod CanonicalLemmas
 pub mod FittingLemmas
 pub mod LastEntries
+pub mod PassedTokens
 pub mod PieceText
 pub mod PieceTokens
 pub mod Pieces
