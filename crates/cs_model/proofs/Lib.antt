@@ -1,7 +1,9 @@
 pub mod AsciiLemmas
 pub mod AttachedText
 pub mod CanonicalLemmas
+pub mod FineTokens
 pub mod FittingLemmas
+pub mod KeptPieces
 pub mod LastEntries
 pub mod PassedTokens
 pub mod PieceText

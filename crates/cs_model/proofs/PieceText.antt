@@ -50,11 +50,11 @@ word_shown [] h = refl
 word_shown (x ∷ w) h = shown_at (x == 58) x w refl h
 
 -- ---- bytes
-dollar_alone : encode_utf8 36 ≡ 36 ∷ []
+pub dollar_alone : encode_utf8 36 ≡ 36 ∷ []
 unfolding encode_utf8
 dollar_alone = refl
 
-open_alone : encode_utf8 91 ≡ 91 ∷ []
+pub open_alone : encode_utf8 91 ≡ 91 ∷ []
 unfolding encode_utf8
 open_alone = refl
 
