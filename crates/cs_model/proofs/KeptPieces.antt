@@ -128,7 +128,7 @@ exact_value_pieced v n ts h hv some o p = record {
 
 -- ---- brackets
 -- the brackets that are open behind tokens and behind their pieces
-deep_same : (ts : List Token) (p : Pieced ts) → depth ts ≡ open_in p.pieces
+pub deep_same : (ts : List Token) (p : Pieced ts) → depth ts ≡ open_in p.pieces
 deep_same ts p = ap (λ ss. length (reading ss).open_now) (sym p.same) ∙ (printed p.pieces p.well).deep
 
 open_cost : (n : List ℕ) → IsWord n → encode_utf8_all (chars n ++ 91 ∷ []) ≡ n ++ 91 ∷ []

@@ -1,6 +1,7 @@
 pub mod AsciiLemmas
 pub mod AttachedText
 pub mod CanonicalLemmas
+pub mod CanonicalReading
 pub mod FineTokens
 pub mod FittingLemmas
 pub mod KeptPieces

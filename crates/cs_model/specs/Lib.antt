@@ -1,6 +1,7 @@
 pub mod Answers
 pub mod Ascii
 pub mod Canonical
+pub mod CanonicalLaws
 pub mod Collection
 pub mod Corpus
 pub mod Faults
