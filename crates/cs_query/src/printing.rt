@@ -18,7 +18,6 @@ pub fn print(alloc: Global, query: &Query) -> Result<Text, Memory>
 }
 
 #[cycle(print)]
-#[tactic(auto, using(crate::proofs::Joined::spaced))]
 fn put_query(out: &mut Text, query: &Query) -> Result<(), Memory>
     ensures { OnOk result (out.new ≡ out.old ++ canonical query.now) }
 {
@@ -30,7 +29,6 @@ fn put_query(out: &mut Text, query: &Query) -> Result<(), Memory>
 }
 
 #[cycle(print)]
-#[tactic(auto, using(crate::proofs::Joined::barred))]
 fn put_part(out: &mut Text, part: &Part) -> Result<(), Memory>
     ensures { OnOk result (out.new ≡ out.old ++ canonical_part part.now) }
 {
