@@ -1,6 +1,17 @@
 pub mod AsciiLemmas
+pub mod AttachedText
+pub mod CanonicalLemmas
+pub mod CanonicalReading
+pub mod FineTokens
 pub mod FittingLemmas
+pub mod KeptPieces
+pub mod LastEntries
 pub mod PartsLemmas
+pub mod PassedTokens
+pub mod PieceText
+pub mod PieceTokens
+pub mod Pieces
 pub mod QueryExamples
 pub mod RefusalLemmas
+pub mod SizeLemmas
 pub mod WordsExamples

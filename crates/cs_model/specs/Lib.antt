@@ -2,6 +2,8 @@ pub mod Answers
 pub mod Ascii
 pub mod BlockRules
 pub mod Blocks
+pub mod Canonical
+pub mod CanonicalLaws
 pub mod Collection
 pub mod Corpus
 pub mod Faults

@@ -1,6 +1,7 @@
 //! Laws about the definitions. Each is the contract of a function that does nothing.
 ghost use Rattle.std.specs.Prelude.{◌≡◌, ◌≤◌, ℕ, List, length, take, IsAscii, encode_utf8_all};
 ghost use Rattle.cs_model.specs.Ascii.{ascii_norm, ascii_words};
+ghost use Rattle.cs_model.specs.CanonicalLaws.{AreReadAgain, AreDifferent, AreNoLonger, KeepCounts};
 ghost use Rattle.cs_model.specs.FirstRefusal.{AcceptedHaveNone, RefusedHaveOne};
 ghost use Rattle.cs_model.specs.KeyText.{norm};
 ghost use Rattle.cs_model.specs.Refusals.{PrefixesAreAccepted, QueriesHaveFewParts};
@@ -33,4 +34,14 @@ pub fn whole_characters()
 pub fn first_refusals()
     ensures accepted { AcceptedHaveNone }
     ensures refused { RefusedHaveOne }
+{}
+
+/// The canonical text of a query of the grammar, read as a key text, is accepted and means that query. So different queries have
+/// different canonical texts. It is within each limit that a text of the query is within: no longer than that text, each bracket that
+/// is open at its end counted as one byte more, with as many parts and atoms.
+pub fn canonical_texts()
+    ensures read_again { AreReadAgain }
+    ensures different { AreDifferent }
+    ensures no_longer { AreNoLonger }
+    ensures counts { KeepCounts }
 {}

@@ -1,5 +1,5 @@
 pub mod Begins
+pub mod Joined
 pub mod Lasts
 pub mod Prefixes
-pub mod Sizes
 pub mod Verdicts

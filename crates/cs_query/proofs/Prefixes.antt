@@ -17,7 +17,7 @@ use Rattle.cs_query.specs.declared.reader.Tail.TheVariants as tails
 use Rattle.cs_query.specs.declared.reader.Reader.{Reader}
 use Rattle.cs_query.specs.Following.{Follows, FollowsAll, Judges, Answers, fault_at, held, settled}
 use Rattle.cs_query.proofs.Verdicts.{within_all}
-use Rattle.cs_query.proofs.Sizes.{size_next, place_more}
+use Rattle.cs_model.proofs.SizeLemmas.{size_next, place_more}
 use Rattle.std.specs.Char.{encode_utf8}
 
 -- ---- tokens

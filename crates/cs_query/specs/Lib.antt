@@ -1,3 +1,4 @@
 pub mod Following
 pub mod ParamNames
+pub mod Printing
 pub mod RequestView

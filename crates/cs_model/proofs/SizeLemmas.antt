@@ -14,7 +14,7 @@ use Rattle.cs_model.specs.Tokens.{Token, Word, Value, Run, Gap, class_of, begun,
 use Rattle.cs_model.specs.Refusals.{place_of}
 
 -- each sign, and each character of a run, is one byte
-abbrev Fits : Class → List ℕ → Type 0
+abbrev pub Fits : Class → List ℕ → Type 0
 Fits c.Letter x = Unit {0}
 Fits c.Other x = Unit {0}
 Fits k x = length x ≡ 1
@@ -30,7 +30,7 @@ ascii_or : (a b : Bool) (x : List ℕ) → (a ≡ true → length x ≡ 1) → (
 ascii_or true b x h k e = h refl
 ascii_or false b x h k e = k e
 
-class_fits : (x : ℕ) → Fits (class_of x) (encode_utf8 x)
+pub class_fits : (x : ℕ) → Fits (class_of x) (encode_utf8 x)
 unfolding encode_utf8
 class_fits x =
     fits_if (is_word_char x) _ _ (encode_utf8 x) (λ _. tt)
@@ -66,7 +66,7 @@ size_grown k x ts h = size_begun k x ts h
 pub size_next : (x : ℕ) (ts : List Token) → size (with_next x ts) ≡ size ts + length (encode_utf8 x)
 size_next x ts = size_grown (class_of x) (encode_utf8 x) ts (class_fits x)
 
-encodes-append : (xs ys : List ℕ) → encode_utf8_all (xs ++ ys) ≡ encode_utf8_all xs ++ encode_utf8_all ys
+pub encodes-append : (xs ys : List ℕ) → encode_utf8_all (xs ++ ys) ≡ encode_utf8_all xs ++ encode_utf8_all ys
 encodes-append [] ys = refl
 encodes-append (x ∷ xs) ys = ap (λ l. encode_utf8 x ++ l) (encodes-append xs ys) ∙ sym (append_assoc (encode_utf8 x) (encode_utf8_all xs) (encode_utf8_all ys))
 

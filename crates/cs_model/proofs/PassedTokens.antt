@@ -1,0 +1,189 @@
+-- Tokens whose newest character passes, and token lists that grew from passed characters alone.
+--
+--   Passes ts            each condition of the verdict
+--   passes, passed       a verdict of no fault is that of tokens that pass
+--   Kept ts              no token is refused, and each has the characters of its kind
+--   kept_tokens          the tokens of an accepted text are such
+use Rattle.std.proofs.Common.{◌≡◌, ℕ, zero, suc, ◌+◌, ◌≤◌, List, [], ◌∷◌, ◌++◌, length, take, refl, ap, ◌∙◌, sym, Bool, true, false, arith, length-append, Option, Some, None}
+use Rattle.std.specs.Prelude.{◌&&◌, ◌||◌, ◌==◌, if◌then◌else◌, encode_utf8_all}
+use Rattle.std.specs.Char.{encode_utf8, IsScalar}
+use Rattle.std.specs.List.{list_all}
+use Rattle.std.specs.Str.{chars, IsUtf8, all_scalars}
+use Rattle.std.proofs.lemmas.Bool.{ltb-false, le-ltb}
+use Rattle.std.proofs.lemmas.List.{append-nil}
+use Rattle.std.proofs.lemmas.List.Folds.{list_all-append}
+use Rattle.std.proofs.lemmas.Str.{chars-append, chars_past_char, chars-nil, IsUtf8-append, IsUtf8-encode, IsUtf8-nil, length-le-encodes}
+use Rattle.cs_base.specs.declared.query.Which.TheVariants as limits
+use Rattle.cs_model.specs.declared.kinds.Class.{Class}
+use Rattle.cs_model.specs.declared.kinds.Class.TheVariants as c
+use Rattle.cs_model.specs.Words.{is_word_char}
+use Rattle.cs_model.specs.Tokens.{Token, Word, Value, Run, Gap, Dollar, Bar, Colon, Open, Close, class_of, grown, with_next, tokens_after, tokens, size}
+use Rattle.cs_model.specs.Grammar.{steps}
+use Rattle.cs_model.specs.Refusals.{refused, verdict, parts_in, atoms_in, depth, newest, Fault, Bad, Limit, IsAccepted}
+use Rattle.cs_model.proofs.SizeLemmas.{Fits, class_fits}
+use Rattle.cs_model.proofs.Pieces.{IsWord, IsValue, is_value_char}
+use Rattle.cs_model.proofs.PieceTokens.{opens, both_first, both_second}
+
+-- ---- verdicts
+pub record Passes (ts : List Token) : Type 0 where
+  pub fine : refused ts ≡ false
+  pub small : size ts + depth ts ≤ 1024
+  pub short : newest ts ≤ 120
+  pub parts : parts_in (steps ts) ≤ 16
+  pub atoms : atoms_in (steps ts) ≤ 32
+  pub shallow : depth ts ≤ 3
+
+if_none : {X : Type 0} (b : Bool) (x : X) (o : Option X) → (if b then Some x else o) ≡ None → b ≡ false
+if_none true x o h = cc
+if_none false x o h = refl
+
+else_none : {X : Type 0} (b : Bool) (x : X) (o : Option X) → (if b then Some x else o) ≡ None → o ≡ None
+else_none true x o h = cc
+else_none false x o h = h
+
+pub passes : (ts : List Token) → verdict ts ≡ None → Passes ts
+passes ts h =
+    let h1 = else_none (refused ts) _ _ h in
+    let h2 = else_none _ _ _ h1 in
+    let h3 = else_none _ _ _ h2 in
+    let h4 = else_none _ _ _ h3 in
+    let h5 = else_none _ _ _ h4 in
+    record {
+      fine = if_none (refused ts) _ _ h;
+      small = ltb-false 1024 (size ts + depth ts) (if_none _ _ _ h1);
+      short = ltb-false 120 (newest ts) (if_none _ _ _ h2);
+      parts = ltb-false 16 (parts_in (steps ts)) (if_none _ _ _ h3);
+      atoms = ltb-false 32 (atoms_in (steps ts)) (if_none _ _ _ h4);
+      shallow = ltb-false 3 (depth ts) (if_none _ _ _ h5);
+    }
+
+pub passed : (ts : List Token) → Passes ts → verdict ts ≡ None
+passed ts p = rw (p.fine, le-ltb 1024 (size ts + depth ts) p.small, le-ltb 120 (newest ts) p.short, le-ltb 16 (parts_in (steps ts)) p.parts, le-ltb 32 (atoms_in (steps ts)) p.atoms, le-ltb 3 (depth ts) p.shallow) refl
+
+-- ---- words and values with one character more
+one_char : (x : ℕ) → IsScalar x → chars (encode_utf8 x) ≡ x ∷ []
+one_char x s = chars_past_char (encode_utf8 x) [] x (IsUtf8-encode x s) (sym (append-nil (encode_utf8 x))) ∙ ap (λ l. x ∷ l) chars-nil
+
+chars_more : (w : List ℕ) (x : ℕ) → IsUtf8 w → IsScalar x → chars (w ++ encode_utf8 x) ≡ chars w ++ x ∷ []
+chars_more w x u s = chars-append w (encode_utf8 x) u ∙ ap (λ l. chars w ++ l) (one_char x s)
+
+and_true : (a b : Bool) → a ≡ true → b ≡ true → (a && b) ≡ true
+and_true true b h k = k
+and_true false b h k = h
+
+all_more : (p : ℕ → Bool) (w : List ℕ) (x : ℕ) → IsUtf8 w → IsScalar x → list_all p (chars w) ≡ true → p x ≡ true → list_all p (chars (w ++ encode_utf8 x)) ≡ true
+all_more p w x u s h k =
+    ap (list_all p) (chars_more w x u s) ∙ list_all-append p (chars w) (x ∷ [])
+    ∙ and_true (list_all p (chars w)) (list_all p (x ∷ [])) h (and_true (p x) true k refl)
+
+some_bytes : (x : ℕ) → 1 ≤ length (encode_utf8 x)
+some_bytes x = omega (arith, length-le-encodes (x ∷ []), length-append (encode_utf8 x) [])
+
+word_more : (w : List ℕ) (x : ℕ) → IsWord w → IsScalar x → is_word_char x ≡ true → length (w ++ encode_utf8 x) ≤ 120 → IsWord (w ++ encode_utf8 x)
+word_more w x h s k short = record {
+  utf8 = IsUtf8-append w (encode_utf8 x) h.utf8 (IsUtf8-encode x s);
+  letters = all_more is_word_char w x h.utf8 s h.letters k;
+  some = omega (arith, h.some, length-append w (encode_utf8 x));
+  short = short;
+}
+
+word_new : (x : ℕ) → IsScalar x → is_word_char x ≡ true → length (encode_utf8 x) ≤ 120 → IsWord (encode_utf8 x)
+word_new x s k short = record {
+  utf8 = IsUtf8-encode x s;
+  letters = ap (list_all is_word_char) (one_char x s) ∙ and_true (is_word_char x) true k refl;
+  some = some_bytes x;
+  short = short;
+}
+
+value_more : (v : List ℕ) (x : ℕ) → IsValue v → IsScalar x → is_value_char x ≡ true → length (v ++ encode_utf8 x) ≤ 120 → IsValue (v ++ encode_utf8 x)
+value_more v x h s k short = record {
+  utf8 = IsUtf8-append v (encode_utf8 x) h.utf8 (IsUtf8-encode x s);
+  letters = all_more is_value_char v x h.utf8 s h.letters k;
+  short = short;
+}
+
+value_none : IsValue []
+value_none = record { utf8 = IsUtf8-nil; letters = ap (list_all is_value_char) chars-nil; short = omega arith }
+
+or_first : (a b : Bool) → a ≡ true → (a || b) ≡ true
+or_first true b h = refl
+or_first false b h = cc
+
+low_line : (v : List ℕ) → IsValue v → length (v ++ 95 ∷ []) ≤ 120 → IsValue (v ++ 95 ∷ [])
+unfolding is_word_char encode_utf8
+low_line v h short = value_more v 95 h refl refl short
+
+-- ---- token lists
+abbrev pub is_colon : List Token → Bool
+is_colon (Colon ∷ ts) = true
+is_colon _ = false
+
+abbrev pub Right : Token → List Token → Type 0
+Right (Word w) ts = IsWord w × (opens ts ≡ true)
+Right (Value v) ts = IsValue v × (is_colon ts ≡ true)
+Right (Run r) ts = 1 ≤ length r
+Right (Gap n) ts = 1 ≤ n
+Right _ ts = Unit {0}
+
+abbrev pub Kept : List Token → Type 0
+Kept [] = Unit {0}
+Kept (t ∷ ts) = (refused (t ∷ ts) ≡ false) × (depth (t ∷ ts) ≤ 3) × Right t ts × Kept ts
+
+kept_depth : (ts : List Token) → Kept ts → depth ts ≤ 3
+kept_depth [] h = omega arith
+kept_depth (t ∷ ts) h = h.1
+
+-- what is known of a character of this class
+abbrev Spells : Class → ℕ → Type 0
+Spells c.Letter x = is_word_char x ≡ true
+Spells _ x = Unit {0}
+
+spells_if : (b : Bool) (k l : Class) (x : ℕ) → (b ≡ true → Spells k x) → Spells l x → Spells (if b then k else l) x
+spells_if true k l x h j = h refl
+spells_if false k l x h j = j
+
+class_spells : (x : ℕ) → Spells (class_of x) x
+class_spells x =
+    spells_if (is_word_char x) c.Letter _ x (λ e. e)
+    (spells_if (x == 46) c.Dot _ x (λ e. tt)
+    (spells_if ((x == 45) || ((x == 95) || (x == 39))) c.Joiner _ x (λ e. tt)
+    (spells_if (x == 36) c.Dollar _ x (λ e. tt)
+    (spells_if (x == 124) c.Bar _ x (λ e. tt)
+    (spells_if (x == 58) c.Colon _ x (λ e. tt)
+    (spells_if (x == 91) c.Open _ x (λ e. tt)
+    (spells_if (x == 93) c.Close c.Other x (λ e. tt) tt)))))))
+
+kept_grown : (k : Class) (x : ℕ) (ts : List Token) → Spells k x → Fits k (encode_utf8 x) → IsScalar x → Kept ts → Passes (grown k (encode_utf8 x) ts) → Kept (grown k (encode_utf8 x) ts)
+kept_grown c.Letter x (Word w ∷ ts) l f s h p = (p.fine, p.shallow, (word_more w x h.2.0 s l p.short, h.2.1), h.3)
+kept_grown c.Letter x (Value v ∷ ts) l f s h p = (p.fine, p.shallow, (value_more v x h.2.0 s (or_first (is_word_char x) (x == 95) l) p.short, h.2.1), h.3)
+kept_grown c.Letter x [] l f s h p = (p.fine, p.shallow, (word_new x s l p.short, refl), h)
+kept_grown c.Letter x (Run r ∷ ts) l f s h p = (p.fine, p.shallow, (word_new x s l p.short, refl), h)
+kept_grown c.Letter x (Gap n ∷ ts) l f s h p = (p.fine, p.shallow, (word_new x s l p.short, refl), h)
+kept_grown c.Letter x (Dollar ∷ ts) l f s h p = absurd (let no : true ≡ false = p.fine in cc)
+kept_grown c.Letter x (Bar ∷ ts) l f s h p = (p.fine, p.shallow, (word_new x s l p.short, refl), h)
+kept_grown c.Letter x (Colon ∷ ts) l f s h p = (p.fine, p.shallow, (word_new x s l p.short, refl), h)
+kept_grown c.Letter x (Open ∷ ts) l f s h p = (p.fine, p.shallow, (word_new x s l p.short, refl), h)
+kept_grown c.Letter x (Close ∷ ts) l f s h p = absurd (let no : true ≡ false = p.fine in cc)
+kept_grown c.Dot x (Run r ∷ ts) l f s h p = (p.fine, p.shallow, omega (arith, h.2, length-append r (encode_utf8 x)), h.3)
+kept_grown c.Dot x ts l f s h p = (p.fine, p.shallow, some_bytes x, h)
+kept_grown c.Joiner x (Value v ∷ ts) l f s h p = (p.fine, p.shallow, (low_line v h.2.0 p.short, h.2.1), h.3)
+kept_grown c.Joiner x (Run r ∷ ts) l f s h p = (p.fine, p.shallow, omega (arith, h.2, length-append r (encode_utf8 x)), h.3)
+kept_grown c.Joiner x ts l f s h p = (p.fine, p.shallow, some_bytes x, h)
+kept_grown c.Dollar x ts l f s h p = (p.fine, p.shallow, tt, h)
+kept_grown c.Bar x ts l f s h p = (p.fine, p.shallow, tt, h)
+kept_grown c.Colon x ts l f s h p = (p.fine, p.shallow, (value_none, refl), (refl, kept_depth ts h, tt, h))
+kept_grown c.Open x ts l f s h p = (p.fine, p.shallow, tt, h)
+kept_grown c.Close x ts l f s h p = (p.fine, p.shallow, tt, h)
+kept_grown c.Other x (Gap n ∷ ts) l f s h p = (p.fine, p.shallow, omega (arith, h.2), h.3)
+kept_grown c.Other x ts l f s h p = (p.fine, p.shallow, some_bytes x, h)
+
+kept_after : (cs : List ℕ) (ts : List Token) → all_scalars cs ≡ true → Kept ts → ((k : ℕ) → k ≤ length cs → verdict (tokens_after ts (take k cs)) ≡ None) → Kept (tokens_after ts cs)
+kept_after [] ts s h a = h
+kept_after (x ∷ cs) ts s h a =
+    let one : verdict (with_next x ts) ≡ None = a 1 (omega arith) in
+    kept_after cs (with_next x ts) (both_second _ _ s)
+    (kept_grown (class_of x) x ts (class_spells x) (class_fits x) (both_first _ _ s) h (passes (with_next x ts) one))
+    (λ k le. a (suc k) (omega arith))
+
+pub kept_tokens : (cs : List ℕ) → all_scalars cs ≡ true → IsAccepted cs → Kept (tokens cs)
+kept_tokens cs s a = kept_after cs [] s tt a
