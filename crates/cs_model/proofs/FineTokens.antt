@@ -12,7 +12,8 @@ use Rattle.cs_model.specs.declared.kinds.Class.TheVariants as c
 use Rattle.cs_model.specs.declared.kinds.Tie.{Tie}
 use Rattle.cs_model.specs.declared.kinds.Tie.TheVariants.{Begins, Alternative, Linked as LinkedBy}
 use Rattle.cs_model.specs.Tokens.{Token, Word, Value, Run, Gap, Dollar, Bar, Colon, Open, Close, class_of, grown, with_next, tokens_after, tokens, size}
-use Rattle.cs_model.specs.Grammar.{Leaf, Enter, facet, is_name, steps, tie, reading}
+use Rattle.cs_model.specs.Collection.{has_name_form}
+use Rattle.cs_model.specs.Grammar.{Leaf, Enter, facet, steps, tie, reading}
 use Rattle.cs_model.specs.Refusals.{refused, verdict, takes_bar, parts_in, atoms_in, depth, newest, begins_part}
 use Rattle.cs_model.specs.Canonical.{link_text}
 use Rattle.cs_model.proofs.Pieces.{Piece, Plain, Whole, Valued, WholeValued, Opens, Closes, step_of, IsWord, IsValue, IsNameWord, fresh, linkable, TieFits, open_in, Well, between, before, spelled, told, space_toks, minus_toks, between_toks, toks}
@@ -148,7 +149,7 @@ fine_word t w ps n hw k h few s fine = (
       between_fine t ps (fresh ps) h k (few_before (Plain t w) ps few) (omega (arith, s, size_between t (fresh ps) (toks ps), size_toks ps h)) fine,
     )
 
-value_fine : (n v : List ℕ) (ts : List Token) → is_name n ≡ true → refused (Value v ∷ Colon ∷ Word n ∷ ts) ≡ false
+value_fine : (n v : List ℕ) (ts : List Token) → has_name_form n ≡ true → refused (Value v ∷ Colon ∷ Word n ∷ ts) ≡ false
 value_fine n v ts h = ap not h
 
 -- a value behind its name

@@ -14,7 +14,8 @@ use Rattle.cs_model.specs.declared.kinds.Spot.TheVariants.{Front, BehindAtom, El
 use Rattle.cs_model.specs.declared.kinds.Tie.{Tie}
 use Rattle.cs_model.specs.declared.kinds.Tie.TheVariants.{Begins, Alternative, Linked as LinkedBy}
 use Rattle.cs_model.specs.Tokens.{Token, Word, Value, Run, Gap, Dollar, Bar, Colon, Open, Close, size}
-use Rattle.cs_model.specs.Grammar.{Leaf, Enter, Leave, facet, is_name, spot, tie, run_tie, front_tie, link_tie, steps, reading}
+use Rattle.cs_model.specs.Collection.{has_name_form}
+use Rattle.cs_model.specs.Grammar.{Leaf, Enter, Leave, facet, spot, tie, run_tie, front_tie, link_tie, steps, reading}
 use Rattle.cs_model.specs.Refusals.{takes_bar, depth}
 use Rattle.cs_model.proofs.Pieces.{Piece, Plain, Whole, Valued, WholeValued, Opens, Closes, step_of, IsWord, IsValue, IsNameWord, fresh, linkable, TieFits, open_in, Well, space, between, told}
 use Rattle.cs_model.proofs.PieceTokens.{opens}
@@ -271,10 +272,10 @@ pieced [] h = record {
 pieced (Word w ∷ ts) h = word_pieced w ts h.2.0 h.2.1 (pieced ts h.3)
 pieced (Dollar ∷ Word w ∷ ts) h = exact_pieced w ts h.3.2.0 h.3.2.1 (pieced ts h.3.3)
 pieced (Value v ∷ Colon ∷ Word n ∷ ts) h =
-    value_pieced v n ts (record { word = h.3.3.2.0; form = not_false (is_name n) h.0 }) h.2.0 h.3.3.2.1 (pieced ts h.3.3.3)
+    value_pieced v n ts (record { word = h.3.3.2.0; form = not_false (has_name_form n) h.0 }) h.2.0 h.3.3.2.1 (pieced ts h.3.3.3)
 pieced (Dollar ∷ Value (x ∷ v) ∷ Colon ∷ Word n ∷ ts) h =
-    exact_value_pieced (x ∷ v) n ts (record { word = h.3.3.3.2.0; form = not_false (is_name n) h.3.0 }) h.3.2.0 (some_value x v) h.3.3.3.2.1 (pieced ts h.3.3.3.3)
-pieced (Open ∷ Word n ∷ ts) h = open_pieced n ts (record { word = h.3.2.0; form = not_false (is_name n) h.0 }) h.1 h.3.2.1 (pieced ts h.3.3)
+    exact_value_pieced (x ∷ v) n ts (record { word = h.3.3.3.2.0; form = not_false (has_name_form n) h.3.0 }) h.3.2.0 (some_value x v) h.3.3.3.2.1 (pieced ts h.3.3.3.3)
+pieced (Open ∷ Word n ∷ ts) h = open_pieced n ts (record { word = h.3.2.0; form = not_false (has_name_form n) h.0 }) h.1 h.3.2.1 (pieced ts h.3.3)
 pieced (Close ∷ ts) h = close_pieced ts (depth_open ts h.0) (pieced ts h.3)
 pieced (Gap n ∷ ts) h = gap_pieced n ts h.2 (pieced ts h.3)
 pieced (Run r ∷ ts) h = run_pieced r ts h.2 (pieced ts h.3)

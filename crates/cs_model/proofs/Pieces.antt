@@ -16,7 +16,8 @@ use Rattle.cs_model.specs.declared.kinds.Tie.{Tie}
 use Rattle.cs_model.specs.declared.kinds.Tie.TheVariants.{Begins, Alternative, Linked as LinkedBy}
 use Rattle.cs_model.specs.Words.{is_word_char}
 use Rattle.cs_model.specs.Tokens.{Token, Word, Value, Run, Gap, Dollar, Bar, Colon, Open, Close}
-use Rattle.cs_model.specs.Grammar.{Step, Leaf, Enter, Leave, facet, is_name}
+use Rattle.cs_model.specs.Collection.{has_name_form}
+use Rattle.cs_model.specs.Grammar.{Step, Leaf, Enter, Leave, facet}
 use Rattle.cs_model.specs.Canonical.{link_text}
 
 pub data Piece : Type 0 where
@@ -87,7 +88,7 @@ open_in (Closes ∷ ps) = open_in ps - 1
 -- a name, as a word and in its form
 pub record IsNameWord (n : List ℕ) : Type 0 where
   pub word : IsWord n
-  pub form : is_name n ≡ true
+  pub form : has_name_form n ≡ true
 
 -- a piece behind others
 abbrev pub Fits : Piece → List Piece → Type 0
