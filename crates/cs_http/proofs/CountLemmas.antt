@@ -1,10 +1,12 @@
 -- The number that digits spell, read from the left.
 --
+--   nines i               the greatest number of i digits
 --   IsReading all n i     n is the number of the first i digits of all, and digits are left
+--   at_start              no digit is read
 --   reads_next            one digit more
---   digit_at              the digit at i is one
---   has_room              the number with one digit more is small
-use Rattle.std.proofs.Common.{◌≡◌, ℕ, zero, suc, ◌+◌, ◌-◌, ◌*◌, ◌<◌, ◌≤◌, Bool, true, false, ◌&&◌, List, [], ◌∷◌, length, drop, get_or, refl, sym, ap, ◌∙◌, subst, arith, drop-cons, nat_le}
+--   digit_at              the byte at i is a digit
+--   has_room              where a digit is left, the number so far is small
+use Rattle.std.proofs.Common.{◌≡◌, ℕ, zero, suc, ◌+◌, ◌-◌, ◌*◌, ◌<◌, ◌≤◌, Bool, true, false, ◌&&◌, List, ◌∷◌, length, drop, get_or, refl, sym, ap, ◌∙◌, arith, drop-cons, nat_le, nat_lt}
 use Rattle.std.specs.Prelude.{fold}
 use Rattle.std.specs.List.{list_all}
 use Rattle.std.specs.Char.{is_ascii_digit}
@@ -49,7 +51,7 @@ digit_at all n i d r lt e =
 pub at_start : (all : List ℕ) → has_digits 5 all ≡ true → IsReading all 0 0
 unfolding nines
 at_start all h =
-    let rest = second_true _ _ h in
+    let rest : (nat_le (length all) 5 && list_all is_ascii_digit all) ≡ true = second_true (nat_lt 0 (length all)) _ h in
     let short : nat_le (length all) 5 ≡ true = first_true _ _ rest in
     record { told = refl; digits = second_true _ _ rest; small = omega arith; short = grind (arith, nat_tests) }
 

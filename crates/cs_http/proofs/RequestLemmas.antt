@@ -2,33 +2,32 @@
 --
 --   refused-h, refused-c, refused-o, refused-f    the first refusal, where those before it are accepted
 --   refused-q                                     the refusal where the query's alone is left
+--   handed_on                                     what holds of an error, where it is handed on
 --   cause_by, cause_query                         a fault of one parameter as the first refusal
+--   nothing_refused                               there is no refusal, where each is accepted
 --   request_is                                    the request, field by field
 --   holds                                         what an accepted request keeps
-use Rattle.std.proofs.Common.{◌≡◌, ℕ, ◌+◌, ◌<◌, ◌≤◌, ◌-◌, ◌*◌, Bool, true, false, ◌&&◌, List, [], ◌∷◌, length, refl, sym, ap, ◌∙◌, subst, arith}
+use Rattle.std.proofs.Common.{◌≡◌, ℕ, ◌≤◌, Bool, true, false, List, length, refl, sym, ap, ◌∙◌, subst, arith}
 use Rattle.std.specs.Prelude.{Option, None, Some, codes, nat_le, ◌==◌, filter, Result, Ok, Err, IfErr}
 use Rattle.std.specs.Result.{IsErrAnd}
-use Rattle.std.specs.Option.{option_map, option_or}
+use Rattle.std.specs.Option.{option_map}
 use Rattle.std.specs.List.{list_all, slice_split}
 use Rattle.std.specs.List.Sorted.{IsStrictlySortedBy}
 use Rattle.std.specs.Ordering.{nat_cmp}
 use Rattle.std.specs.Cmp.Lexicographic.{slice_cmp}
 use Rattle.std.specs.Str.{chars}
 use Rattle.std.proofs.lemmas.Bool.Decides.{nat_tests}
-use Rattle.cs_base.specs.Members.{members_in}
 use Rattle.cs_base.specs.declared.query.Query.{Query}
 use Rattle.cs_base.specs.declared.limits.TheConstants.{MAX_SHOWN, MAX_OFFSET, MAX_FACETS, DEFAULT_HITS, DEFAULT_COMPLETIONS}
 use Rattle.cs_base.proofs.MembersLemmas.{listing-rises}
 use Rattle.cs_model.specs.Collection.{has_bytes, has_name_form}
 use Rattle.cs_model.specs.FirstRefusal.{first_refusal}
 use Rattle.cs_model.specs.Grammar.{query_of}
-use Rattle.cs_model.specs.Parameters.{parameter, is_count, count_of, are_facets, facet_names, has_digits, number_of, bad_param, bad_query, refused_at, Refused, query_text, request_refusal, request_of, HoldsLimits}
+use Rattle.cs_model.specs.Parameters.{parameter, is_count, count_of, are_facets, facet_names, has_digits, number_of, bad_param, refused_at, query_text, request_refusal, request_of, HoldsLimits}
 use Rattle.cs_model.specs.Refusals.{Fault, IsOfGrammar}
-use Rattle.cs_model.specs.Requests.{Request}
 use Rattle.cs_model.proofs.PartsLemmas.{few_parts}
 use Rattle.cs_query.specs.ParamNames.{param_name}
 use Rattle.cs_query.specs.declared.request.Param.{Param}
-use Rattle.cs_query.specs.declared.request.Param.TheVariants as params
 use Rattle.cs_query.specs.declared.request.ReqFault.{ReqFault}
 use Rattle.cs_query.specs.declared.request.ReqFault.TheVariants as faults
 use Rattle.cs_http.proofs.CountLemmas.{second_true}
@@ -97,7 +96,7 @@ module _ (p : List ℕ) where
 count-within : (default most : ℕ) (v : Option (List ℕ)) → default ≤ most → is_count most v ≡ true → count_of default v ≤ most
 count-within default most None d h = d
 count-within default most (Some v) d h =
-    let few : nat_le (number_of v) most ≡ true = second_true _ _ h in
+    let few : nat_le (number_of v) most ≡ true = second_true (has_digits 5 v) (nat_le (number_of v) most) h in
     grind (arith, nat_tests)
 
 facets-rise : (v : Option (List ℕ)) → IsStrictlySortedBy (slice_cmp nat_cmp) (facet_names v)
@@ -107,7 +106,7 @@ facets-rise (Some v) = listing-rises (slice_cmp nat_cmp) (filter has_bytes (slic
 
 facets-few : (v : Option (List ℕ)) → are_facets v ≡ true → length (facet_names v) ≤ MAX_FACETS
 facets-few v h =
-    let few : nat_le (length (facet_names v)) MAX_FACETS ≡ true = second_true _ _ h in
+    let few : nat_le (length (facet_names v)) MAX_FACETS ≡ true = second_true (list_all has_name_form (facet_names v)) (nat_le (length (facet_names v)) MAX_FACETS) h in
     grind (arith, nat_tests)
 
 -- what an accepted request keeps

@@ -1,5 +1,5 @@
 //! Counts among the parameters, as in `h=20`.
-ghost use Rattle.std.specs.Prelude.{◌≡◌, true, false, Some, IfOk, IfErr, IfSome, IfNone};
+ghost use Rattle.std.specs.Prelude.{◌≡◌, true, false, Some, IfOk, OnOk, IfErr, IfSome, IfNone};
 ghost use Rattle.std.specs.List.{list_all};
 ghost use Rattle.std.specs.Char.{is_ascii_digit};
 ghost use Rattle.cs_model.specs.Parameters.{parameter, is_count, count_of, has_digits, number_of};
@@ -21,7 +21,7 @@ pub(crate) fn count(
     default: u32,
     most: u32,
 ) -> Result<u32, ReqFault>
-    ensures accepted { IfOk result (λ n. is_count most (parameter (param_name which) params.now) ≡ true) }
+    ensures accepted { OnOk result (is_count most (parameter (param_name which) params.now) ≡ true) }
     ensures ok { IfOk result (λ n. n ≡ count_of default (parameter (param_name which) params.now)) }
     ensures err { IfErr result (λ e. IsRefusedBy which (is_count most (parameter (param_name which) params.now)) e) }
 {

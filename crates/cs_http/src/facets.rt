@@ -15,7 +15,7 @@ use std::alloc::Global;
 
 /// The names of the facets that are asked, each once, in byte order.
 pub(crate) fn facets(alloc: Global, params: &[u8]) -> Result<Seq<Text>, ReqFault>
-    ensures accepted { IfOk result (λ names. are_facets (parameter (codes "f") params.now) ≡ true) }
+    ensures accepted { OnOk result (are_facets (parameter (codes "f") params.now) ≡ true) }
     ensures ok { IfOk result (λ names. names ≡ facet_names (parameter (codes "f") params.now)) }
     ensures err { IfErr result (λ e. IsRefusedBy which.F (are_facets (parameter (codes "f") params.now)) e) }
 {

@@ -1,4 +1,4 @@
-use Rattle.std.proofs.Common.{◌≡◌, ◌-◌, ◌*◌, ◌+◌, get_or, refl, subst, sym, arith}
+use Rattle.std.proofs.Common.{◌*◌, ◌+◌, get_or, refl, subst, sym, arith}
 use Rattle.cs_http.proofs.CountLemmas.{IsReading, digit_at, reads_next, has_room}
 use Rattle.cs_http.proofs.counts.number_of.Goals as goal
 
