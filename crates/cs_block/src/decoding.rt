@@ -25,9 +25,7 @@ pub fn decode(bytes: &[u8], head: &BlockHead, docs: u32, into: &mut Cols) -> Res
     ensures err { OnErr result (into.new.posts ≡ into.old.posts) }
 {
     let len = into.len();
-    if let Err(_) = into.reserve(head.rows as usize) {
-        return Err(BlockFault::Memory);
-    }
+    into.reserve(head.rows as usize)?;
     if !push_block(bytes, head, docs, into) {
         if let Some(broken) = judge(bytes, head, docs) {
             into.truncate(len);
