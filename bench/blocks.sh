@@ -176,7 +176,7 @@ def each(program, rows, stride, n):
     return out, more, (many - one) / n
 
 print(f'{"rows":>8} {"stride":>8} {"bytes":>8} {"ours ns":>9} {"C++ ns":>9} {"unchecked":>9} {"times":>6} {"times":>6}')
-for rows, stride, n in ((8192, 1, 20000), (8192, 100, 20000), (8192, 170, 20000), (64, 1, 2000000)):
+for rows, stride, n in ((8192, 1, 8000), (8192, 100, 8000), (8192, 170, 8000), (64, 1, 800000)):
     programs = ([ours], [plain, 'checked'], [plain, 'unchecked'])
     times = ([], [], [])
     for _ in range(9):

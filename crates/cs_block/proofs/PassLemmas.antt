@@ -347,17 +347,11 @@ pub columns_cut : (head : BlockHead) (bytes gaps rest words rest2 places scores 
     → let c : Columns = record { gaps = gaps; words = words; places = places; scores = scores } in c ≡ columns head bytes
 columns_cut head bytes gaps rest words rest2 places scores a b d e f g = rw (f, g, e, d, b, a) refl
 
-pub judged_by : (head : BlockHead) (docs : ℕ) (bytes : List ℕ) (c : Columns) (r : Option Broken) → c ≡ columns head bytes → codes_break head.rows 0 c.gaps ≡ None → r ≡ first_broken (rules head docs) (items_of head c) → r ≡ judged head docs bytes
-unfolding judged
-judged_by head docs bytes c r e codes is =
-    let all : judged_columns head docs c ≡ r = rw codes (sym is) in
-    sym all ∙ ap (judged_columns head docs) e
+pub judged_at_row : (head : BlockHead) (docs : ℕ) (c : Columns) (r : Option Broken) → codes_break head.rows 0 c.gaps ≡ None → r ≡ first_broken (rules head docs) (items_of head c) → r ≡ judged_columns head docs c
+judged_at_row head docs c r codes is = is ∙ rw codes refl
 
-pub judged_gap : (head : BlockHead) (docs : ℕ) (bytes gaps : List ℕ) (at : ℕ) → gaps ≡ take (gap_bytes head) bytes → Some at ≡ codes_break head.rows 0 gaps → Some (record { n = 13; at = at }) ≡ judged head docs bytes
-unfolding judged
-judged_gap head docs bytes gaps at e bad =
-    let found : codes_break head.rows 0 (take (gap_bytes head) bytes) ≡ Some at = ap (codes_break head.rows 0) (sym e) ∙ sym bad in
-    rw found refl
+pub judged_at_code : (head : BlockHead) (docs : ℕ) (c : Columns) (at : ℕ) → Some at ≡ codes_break head.rows 0 c.gaps → Some (record { n = 13; at = at }) ≡ judged_columns head docs c
+judged_at_code head docs c at bad = rw (← bad) refl
 
 pub judged_cut : (head : BlockHead) (docs : ℕ) (bytes : List ℕ) (c : Columns) → c ≡ columns head bytes → judged_columns head docs c ≡ judged head docs bytes
 unfolding judged

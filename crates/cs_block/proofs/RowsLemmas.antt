@@ -19,7 +19,7 @@ use Rattle.cs_base.specs.declared.doc.Post.{Post}
 use Rattle.cs_base.proofs.OrdersLemmas.{by_place_total}
 use Rattle.cs_model.specs.Blocks.{AreWritable}
 use Rattle.cs_model.specs.BlockRules.{doc_before, is_after, is_scored, keeps, in_docs, scored}
-use Rattle.cs_block.specs.Columns.{HasSpelling, IsAscending, HasWords}
+use Rattle.cs_block.specs.Spelling.{HasSpelling, IsAscending, HasWords}
 
 abbrev Comes : Post → Post → Type 0
 Comes x y = (x.doc < y.doc) ⊎ ((x.doc ≡ y.doc) × ((x.pos < y.pos) ⊎ ((x.pos ≡ y.pos) × (x.word < y.word))))

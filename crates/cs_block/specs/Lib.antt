@@ -1,2 +1,3 @@
-pub mod Columns
+pub mod ColumnsView
 pub mod Reading
+pub mod Spelling

@@ -1,7 +1,7 @@
 -- What the functions of this crate say of a block that is read.
 --
 --   GapHere gaps at n next   the code of n stands at a place of the gap column, and next is the place behind it
---   HasColumns head c        columns as long as a block's are
+--   HasColumns head c        columns as long as a block's are, in fewer than 2^32 bytes
 --   Decodes result broken    the answer where this is the first broken rule, if there is one
 use Rattle.std.specs.Prelude.{◌≡◌, ℕ, ◌+◌, ◌*◌, ◌^◌, ◌<◌, ◌≤◌, List, length, drop, Option, Some, None, Result, Ok, Err}
 use Rattle.cs_base.specs.GapCode.{code, first_code}
@@ -18,12 +18,13 @@ pub record GapHere (gaps : List ℕ) (at n next : ℕ) : Type 0 where
   pub within : next ≤ length gaps
   pub below : n < 2 ^ 32
 
--- the lengths of the four columns
+-- the lengths of the four columns; places in them have 32 bits
 pub record HasColumns (head : BlockHead) (c : Columns) : Type 0 where
   pub gaps_len : length c.gaps ≡ gap_bytes head
   pub words_len : length c.words ≡ 2 * head.rows
   pub places_len : length c.places ≡ 4 * head.rows
   pub scores_len : length c.scores ≡ head.rows
+  pub small : head.len < 2 ^ 32
 
 -- Ok where no rule is broken; memory may always run out
 abbrev pub Decodes : Result (Unit {0}) BlockFault → Option Broken → Type 0

@@ -1,14 +1,16 @@
 //! Reading a block.
-ghost use Rattle.std.specs.Prelude.{◌≡◌, ℕ, ◌+◌, ◌*◌, ◌^◌, ◌≤◌, ◌++◌, ◌&&◌, nat_lt, true, List, length, map, take, OnOk, OnErr, None};
+ghost use Rattle.std.specs.Prelude.{◌≡◌, ℕ, ◌≤◌, ◌++◌, true, List, length, map, take, OnOk, OnErr, None};
 ghost use Rattle.std.specs.Option.{is_none};
 ghost use Rattle.cs_base.specs.declared.doc.Post.{Post};
 ghost use Rattle.cs_model.specs.Blocks.{IsShaped};
-ghost use Rattle.cs_model.specs.BlockRules.{IsBlock, item_row, items_of, is_after, is_scored, judged, judged_columns, rows_of};
+ghost use Rattle.cs_model.specs.BlockRules.{IsBlock, item_row, items_of, judged, judged_columns};
 ghost use Rattle.cs_block.specs.Reading.{Decodes, HasColumns};
+ghost use Rattle.cs_block.specs.ColumnsView.{seen};
 
+use crate::columns::{Columns, cut, gap_here, row_of};
 use crate::fault::BlockFault;
 use crate::judging::judge;
-use crate::reading::{gap_here, is_after, is_in_words, is_scored, row_of};
+use crate::rules::keeps_rules;
 use cs_base::{BlockHead, Post};
 use cs_cols::Cols;
 
@@ -25,11 +27,10 @@ pub fn decode(bytes: &[u8], head: &BlockHead, docs: u32, into: &mut Cols) -> Res
     ensures err { OnErr result (into.new.posts ≡ into.old.posts) }
 {
     let len = into.len();
-    if let Err(_) = into.reserve(head.rows as usize) {
-        return Err(BlockFault::Memory);
-    }
-    if !push_block(bytes, head, docs, into) {
-        if let Some(broken) = judge(bytes, head, docs) {
+    into.reserve(head.rows as usize)?;
+    let columns = cut(bytes, head);
+    if !push_rows(&columns, head, docs, into) {
+        if let Some(broken) = judge(&columns, head, docs) {
             into.truncate(len);
             return Err(BlockFault::Rule {
                 n: broken.n,
@@ -41,51 +42,27 @@ pub fn decode(bytes: &[u8], head: &BlockHead, docs: u32, into: &mut Cols) -> Res
 }
 
 // Adds rows up to the first that breaks a rule, and says whether there is none.
-fn push_block(bytes: &[u8], head: &BlockHead, docs: u32, into: &mut Cols) -> bool
-    requires shaped { IsShaped head.now (length bytes.now) }
-    requires room { head.now.rows ≤ into.old.room }
-
-    ensures told { result ≡ is_none (judged head.now docs bytes.now) }
-    ensures posts { result ≡ true → into.new.posts ≡ into.old.posts ++ rows_of head.now bytes.now }
-    ensures kept { take (length into.old.posts) into.new.posts ≡ into.old.posts }
-{
-    let (gaps, rest) = bytes.split_at((head.len - 7 * head.rows) as usize);
-    let (words, rest) = rest.split_at(2 * head.rows as usize);
-    let (places, scores) = rest.split_at(4 * head.rows as usize);
-    let whole = push_rows(head, docs, gaps, words, places, scores, into);
-    whole
-}
-
-// The same over the four columns.
-fn push_rows(
-    head: &BlockHead,
-    docs: u32,
-    gaps: &[u8],
-    words: &[u8],
-    places: &[u8],
-    scores: &[u8],
-    into: &mut Cols,
-) -> bool
+fn push_rows(columns: &Columns<'_>, head: &BlockHead, docs: u32, into: &mut Cols) -> bool
     requires shaped { IsShaped head.now head.now.len }
-    requires columns { HasColumns head.now (record { gaps = gaps.now; words = words.now; places = places.now; scores = scores.now }) }
+    requires sized { HasColumns head.now (seen columns.now) }
     requires room { head.now.rows ≤ into.old.room }
 
-    ensures told { result ≡ is_none (judged_columns head.now docs (record { gaps = gaps.now; words = words.now; places = places.now; scores = scores.now })) }
-    ensures posts { result ≡ true → into.new.posts ≡ into.old.posts ++ map item_row (items_of head.now (record { gaps = gaps.now; words = words.now; places = places.now; scores = scores.now })) }
+    ensures told { result ≡ is_none (judged_columns head.now docs (seen columns.now)) }
+    ensures posts { result ≡ true → into.new.posts ≡ into.old.posts ++ map item_row (items_of head.now (seen columns.now)) }
     ensures kept { take (length into.old.posts) into.new.posts ≡ into.old.posts }
 {
     let mut last: Option<Post> = None;
     let mut before: u32 = 0;
     let mut at = 0;
     for i in 0..head.rows {
-        let Some((n, next)) = gap_here(gaps, at) else {
+        let Some((n, next)) = gap_here(columns.gaps, at) else {
             return false;
         };
         let doc = u64::from(before) + u64::from(n);
         if doc >= u64::from(docs) {
             return false;
         }
-        let row = row_of(head.lo, doc as u32, words, places, scores, i as usize);
+        let row = row_of(columns, head.lo, doc as u32, i as usize);
         if !keeps_rules(head, last, row) {
             return false;
         }
@@ -94,15 +71,5 @@ fn push_rows(
         before = row.doc;
         at = next;
     }
-    at == gaps.len()
-}
-
-// Whether a row keeps the rules other than that on documents.
-#[inline]
-fn keeps_rules(head: &BlockHead, last: Option<Post>, row: Post) -> bool
-    requires { head.now.lo + head.now.words ≤ 2 ^ 22 }
-
-    ensures { result ≡ (nat_lt row.word (head.now.lo + head.now.words) && (is_scored head.now.facet row && is_after last row)) }
-{
-    is_in_words(head, row) && is_scored(head.facet, row) && is_after(last, row)
+    at == columns.gaps.len()
 }

@@ -1,7 +1,7 @@
 //! Writing a block.
 ghost use Rattle.std.specs.Prelude.{◌≡◌, ℕ, ◌+◌, ◌<◌, ◌≤◌, ◌^◌, ◌++◌, length, OnOk, OnErr, take};
 ghost use Rattle.cs_model.specs.Blocks.{AreWritable, block_bytes, gap_column, place_column, score_column, word_column};
-ghost use Rattle.cs_block.specs.Columns.{HasWords, IsAscending};
+ghost use Rattle.cs_block.specs.Spelling.{HasWords, IsAscending};
 
 use cs_base::Memory;
 use cs_cols::Cols;

@@ -1,4 +1,5 @@
 //! Why a block isn't read.
+use cs_base::Memory;
 
 /// What `decode` answers where it adds no rows.
 #[derive(Clone, Copy, Debug, PartialEq, Eq, Drop)]
@@ -12,4 +13,15 @@ pub enum BlockFault {
     },
     /// Memory ran out.
     Memory,
+}
+
+impl From<Memory> for BlockFault {
+    ghost use Rattle.std.specs.Prelude.{◌≡◌};
+    ghost use Rattle.cs_block.specs.declared.fault.BlockFault.{BlockFault};
+
+    ghost from_gives = { λ _ e. e ≡ BlockFault.Memory };
+
+    fn from(_: Memory) -> BlockFault {
+        BlockFault::Memory
+    }
 }

@@ -2,29 +2,28 @@
 ghost use Rattle.std.specs.Prelude.{◌≡◌, ℕ, ◌+◌, ◌*◌, ◌≤◌, length, None, Some, cond, IfSome};
 ghost use Rattle.std.specs.Option.{option_or};
 ghost use Rattle.cs_model.specs.Blocks.{IsShaped};
-ghost use Rattle.cs_model.specs.BlockRules.{codes_break, first_broken, items_of, judged, or_broken, rules};
+ghost use Rattle.cs_model.specs.BlockRules.{codes_break, first_broken, items_of, judged_columns, or_broken, rules};
 ghost use Rattle.cs_block.specs.Reading.{HasColumns};
+ghost use Rattle.cs_block.specs.ColumnsView.{seen};
 
-use crate::reading::{gap_here, is_after, is_in_words, is_scored, row_of};
+use crate::columns::{Columns, gap_here, row_of};
+use crate::rules::{is_after, is_in_words, is_scored};
 use cs_base::{BlockHead, Broken, Post};
 
 /// The first broken rule, if one is broken.
-pub fn judge(bytes: &[u8], head: &BlockHead, docs: u32) -> Option<Broken>
-    requires { IsShaped head.now (length bytes.now) }
+pub fn judge(columns: &Columns<'_>, head: &BlockHead, docs: u32) -> Option<Broken>
+    requires shaped { IsShaped head.now head.now.len }
+    requires sized { HasColumns head.now (seen columns.now) }
 
-    ensures { result ≡ judged head.now docs bytes.now }
+    ensures { result ≡ judged_columns head.now docs (seen columns.now) }
 {
-    let (gaps, rest) = bytes.split_at((head.len - 7 * head.rows) as usize);
-    if let Some(at) = bad_code(gaps, head.rows) {
+    if let Some(at) = bad_code(columns.gaps, head.rows) {
         return Some(Broken {
             n: 13,
             at: at as u32,
         });
     }
-    let (words, rest) = rest.split_at(2 * head.rows as usize);
-    let (places, scores) = rest.split_at(4 * head.rows as usize);
-    let broken = broken_row(head, docs, gaps, words, places, scores);
-    broken
+    broken_row(columns, head, docs)
 }
 
 // The first place of the gap column where a code should stand and doesn't, or a byte is left over.
@@ -46,19 +45,12 @@ fn bad_code(gaps: &[u8], rows: u32) -> Option<usize>
 }
 
 // The first broken rule on rows, over a gap column that holds.
-fn broken_row(
-    head: &BlockHead,
-    docs: u32,
-    gaps: &[u8],
-    words: &[u8],
-    places: &[u8],
-    scores: &[u8],
-) -> Option<Broken>
+fn broken_row(columns: &Columns<'_>, head: &BlockHead, docs: u32) -> Option<Broken>
     requires shaped { IsShaped head.now head.now.len }
-    requires columns { HasColumns head.now (record { gaps = gaps.now; words = words.now; places = places.now; scores = scores.now }) }
-    requires codes { codes_break head.now.rows 0 gaps.now ≡ None }
+    requires sized { HasColumns head.now (seen columns.now) }
+    requires codes { codes_break head.now.rows 0 columns.now.gaps.now ≡ None }
 
-    ensures { result ≡ first_broken (rules head.now docs) (items_of head.now (record { gaps = gaps.now; words = words.now; places = places.now; scores = scores.now })) }
+    ensures { result ≡ first_broken (rules head.now docs) (items_of head.now (seen columns.now)) }
 {
     let words_at = head.len - 7 * head.rows;
     let places_at = words_at + 2 * head.rows;
@@ -69,7 +61,7 @@ fn broken_row(
     let mut before: u32 = 0;
     let mut at = 0;
     for i in 0..head.rows {
-        let Some((n, next)) = gap_here(gaps, at) else {
+        let Some((n, next)) = gap_here(columns.gaps, at) else {
             return None;
         };
         let doc = u64::from(before) + u64::from(n);
@@ -79,7 +71,7 @@ fn broken_row(
                 at: at as u32,
             });
         }
-        let row = row_of(head.lo, doc as u32, words, places, scores, i as usize);
+        let row = row_of(columns, head.lo, doc as u32, i as usize);
         bad_word = keep(bad_word, is_in_words(head, row), words_at + 2 * i);
         bad_score = keep(bad_score, is_scored(head.facet, row), places_at + 4 * i);
         bad_order = keep(bad_order, is_after(last, row), at as u32);

@@ -5,11 +5,12 @@
 //! counted from the block's first byte.
 #![tactic(auto)]
 
+mod columns;
 mod decoding;
 mod encoding;
 mod fault;
 mod judging;
-mod reading;
+mod rules;
 #[cfg(test)]
 mod tests;
 

@@ -1,11 +1,7 @@
 //! A worked block, written and read, and the rule and the place of each damage to it.
-ghost use Rattle.std.specs.Prelude.{◌≡◌, true};
-ghost use Rattle.cs_model.specs.Blocks.{AreWritable};
-
 use crate::{BlockFault, decode, encode};
-use cs_base::{BlockHead, Memory, Post};
+use cs_base::BlockHead;
 use cs_cols::Cols;
-use std::alloc::Global;
 use std::test::Fail;
 
 // The head of a block of three plain words, 1 to 3, with a row each in document 0.

@@ -1,6 +1,6 @@
 use Rattle.std.proofs.Common.{◌++◌, drop}
 use Rattle.cs_model.specs.Blocks.{word_column}
-use Rattle.cs_block.specs.Columns.{HasWords}
+use Rattle.cs_block.specs.Spelling.{HasWords}
 use Rattle.cs_block.proofs.PutLemmas.{IsPutting}
 use Rattle.cs_block.proofs.encoding.put_words.Given as goal
 

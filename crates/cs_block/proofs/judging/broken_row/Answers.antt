@@ -6,7 +6,7 @@ pub loop-i-init : goal.loop-i-init
 loop-i-init c = judging c.args.head.now c.args.docs _
 
 pub returns-in_default : goal.returns-in_default
-returns-in_default c = absurd (stuck c.args.head.now.rows c.loop-i.i c.loop-i.at c.args.gaps.now c.loop-i-test.true c.in_default.ensures (c.loop-i.invariant.codes ∙ c.requires.codes))
+returns-in_default c = absurd (stuck c.args.head.now.rows c.loop-i.i c.loop-i.at c.args.columns.now.gaps.now c.loop-i-test.true c.in_default.ensures (c.loop-i.invariant.codes ∙ c.requires.codes))
 
 pub overflow_add-doc : goal.overflow_add-doc
 overflow_add-doc c = let g = c.in-Some.ensures in let b = g.below in let d = c.loop-i.invariant.before_below in omega arith

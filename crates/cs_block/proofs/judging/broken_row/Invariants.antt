@@ -1,5 +1,6 @@
+use Rattle.cs_block.specs.ColumnsView.{seen}
 use Rattle.cs_block.proofs.PassLemmas.{HasJudged}
 use Rattle.cs_block.proofs.judging.broken_row.Given as goal
 
 abbrev pub invariant-loop-i : goal.invariant-loop-i
-invariant-loop-i l = HasJudged l.head l.docs (record { gaps = l.gaps; words = l.words; places = l.places; scores = l.scores }) l.i l.at l.last l.before l.bad_word l.bad_score l.bad_order
+invariant-loop-i l = HasJudged l.head l.docs (seen l.columns) l.i l.at l.last l.before l.bad_word l.bad_score l.bad_order

@@ -1,5 +1,5 @@
 use Rattle.cs_block.proofs.PassLemmas.{here_from, none_from}
-use Rattle.cs_block.proofs.reading.gap_here.Goals as goal
+use Rattle.cs_block.proofs.columns.gap_here.Goals as goal
 
 pub returns : goal.returns
 returns c = here_from c.args.gaps.now c.args.at c.in-Is.n c.in-Is.next (c.next_gap.ensures.found c.in-Is.n c.in-Is.next c.in-Is.is)
