@@ -116,7 +116,7 @@ none_more q p rest ns h e = sym (h.told ∙ ap (λ l. ns ++ map (narrower q) (ma
 
 none_of : (w : List ℕ) → (length w == 0) ≡ true → w ≡ []
 none_of [] h = refl
-none_of (x ∷ w) h = absurd (let no : false ≡ true = h in cc)
+none_of (x ∷ w) h = let zero : length (x ∷ w) ≡ 0 = eqb-true (length (x ∷ w)) 0 h in absurd (omega (arith, zero))
 
 stop_at : (b : Bool) (q : Query) (p rest next : List ℕ) (c : ℕ) (ns : List Narrower) (h : Narrowing q p rest ns) → chars rest ≡ chars next ++ c ∷ [] → (c == 58) ≡ b
     → true ≡ (b || (length next == 0)) → filter (is_left (chars p)) (shorter (chars rest)) ≡ []
