@@ -102,10 +102,16 @@ fn keys_are_those_of_queries_on_the_way(rt: HostRuntime) -> Result<(), Fail> {
         let query = parse(rt.alloc(), text)?;
         let keys = keys(rt.alloc(), &query)?;
         let printed = print(rt.alloc(), &query)?;
-        assert!(rt; keys.same.bytes() == printed.as_str().as_bytes(), "of {text}");
+        assert!(rt;
+            keys.same.bytes() == printed.as_str().as_bytes(),
+            "of {text}"
+        );
         let found = found(rt.alloc(), keys.narrow.as_slice())?;
         assert_eq!(rt; found.as_str(), narrow, "of {text}");
-        assert!(rt; is_key(&keys.extend, extend), "of {text}, without its last part");
+        assert!(rt;
+            is_key(&keys.extend, extend),
+            "of {text}, without its last part"
+        );
     }
     Ok(())
 }
