@@ -31,13 +31,13 @@ dash_minus : (e : Bool) → dash e ≡ minus e
 dash_minus true = refl
 dash_minus false = refl
 
-rolled_part : (e : Bool) (cs : List Chain) → canonical_part (roll-Part (record { excluded = e; chains = cs })) ≡ dash e ++ join_with_byte 124 (map canonical_chain cs)
+pub rolled_part : (e : Bool) (cs : List Chain) → canonical_part (roll-Part (record { excluded = e; chains = cs })) ≡ dash e ++ join_with_byte 124 (map canonical_chain cs)
 rolled_part e cs = fold-roll-Part Bytes Bytes Bytes Bytes Bytes atom_text chain_text linked_text part_text query_text (record { excluded = e; chains = cs })
 
-rolled_chain : (a : Atom) (ls : List Linked) → canonical_chain (roll-Chain (record { first = a; rest = ls })) ≡ canonical_atom a ++ concat (map canonical_linked ls)
+pub rolled_chain : (a : Atom) (ls : List Linked) → canonical_chain (roll-Chain (record { first = a; rest = ls })) ≡ canonical_atom a ++ concat (map canonical_linked ls)
 rolled_chain a ls = fold-roll-Chain Bytes Bytes Bytes Bytes Bytes atom_text chain_text linked_text part_text query_text (record { first = a; rest = ls })
 
-rolled_linked : (l : Link) (a : Atom) → canonical_linked (roll-Linked (record { link = l; atom = a })) ≡ link_text l ++ canonical_atom a
+pub rolled_linked : (l : Link) (a : Atom) → canonical_linked (roll-Linked (record { link = l; atom = a })) ≡ link_text l ++ canonical_atom a
 rolled_linked l a = fold-roll-Linked Bytes Bytes Bytes Bytes Bytes atom_text chain_text linked_text part_text query_text (record { link = l; atom = a })
 
 pub rolled_query : (ps : List Part) → canonical (roll-Query (record { parts = ps })) ≡ canonical_parts ps
@@ -47,7 +47,7 @@ pub join_text : (n : List ℕ) (ps : List Part) → canonical_atom (join n ps) �
 join_text n ps = join_shape n (roll-Query (record { parts = ps })) ∙ ap (λ t. n ++ codes "[" ++ t ++ codes "]") (rolled_query ps)
 
 -- ---- one atom more
-one_chain : (a : Atom) → canonical_chain (chain_of a) ≡ canonical_atom a
+pub one_chain : (a : Atom) → canonical_chain (chain_of a) ≡ canonical_atom a
 one_chain a = rolled_chain a [] ∙ append-nil (canonical_atom a)
 
 one_part : (e : Bool) (a : Atom) → canonical_part (part_of e a) ≡ minus e ++ canonical_atom a

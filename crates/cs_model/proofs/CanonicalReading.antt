@@ -2,7 +2,7 @@
 --
 --   Closed ps           pieces, and all brackets closed behind them
 --   Canon bs            what is shown of an accepted text bs and of the canonical text of its query
---   read_again, different, no_longer, keep_counts     the laws
+--   read_again, different, short, no_longer, keep_counts     the laws
 use Rattle.std.proofs.Common.{◌≡◌, ℕ, zero, suc, ◌+◌, ◌-◌, ◌≤◌, List, [], ◌∷◌, ◌++◌, map, length, refl, ap, ◌∙◌, sym, subst, Bool, true, false, arith, length-append}
 use Rattle.std.specs.Prelude.{◌&&◌, encode_utf8_all}
 use Rattle.std.specs.Char.{encode_utf8}
@@ -19,7 +19,7 @@ use Rattle.cs_model.specs.Tokens.{tokens, size}
 use Rattle.cs_model.specs.Grammar.{Reading, reading, steps, leave, closed, all_closed, query_of}
 use Rattle.cs_model.specs.Refusals.{IsAccepted, IsOfGrammar, verdict, depth, parts_in, atoms_in}
 use Rattle.cs_model.specs.Canonical.{link_text, canonical, canonical_parts}
-use Rattle.cs_model.specs.CanonicalLaws.{AreReadAgain, AreDifferent, AreNoLonger, KeepCounts}
+use Rattle.cs_model.specs.CanonicalLaws.{AreReadAgain, AreDifferent, AreShort, AreNoLonger, KeepCounts}
 use Rattle.cs_model.proofs.Pieces.{Piece, Plain, Whole, Valued, WholeValued, Opens, Closes, step_of, IsWord, IsValue, fresh, open_in, Well, between, before, spelled, told, toks}
 use Rattle.cs_model.proofs.PieceTokens.{both_first, both_second, tokens_told, steps_toks}
 use Rattle.cs_model.proofs.PieceText.{sign_behind, close_alone, levels_text, Printed, printed}
@@ -176,3 +176,10 @@ no_longer bs u a = (canon bs u a).bytes
 
 pub keep_counts : KeepCounts
 keep_counts bs u a = let c = canon bs u a in (c.parts, c.atoms)
+
+pub short : AreShort
+short q g =
+    let cs : List ℕ = chars g.text in
+    let c = canon g.text g.utf8 g.accepted in
+    let whole = whole_passes cs g.accepted in
+    omega (arith, c.bytes, whole.small, size_after cs [], ap length (encodes-chars g.text g.utf8), ap (λ r. length (canonical r)) g.read)

@@ -5,6 +5,7 @@ pub mod CanonicalReading
 pub mod FineTokens
 pub mod FittingLemmas
 pub mod KeptPieces
+pub mod KeyLemmas
 pub mod LastEntries
 pub mod PartsLemmas
 pub mod PassedTokens

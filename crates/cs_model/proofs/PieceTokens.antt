@@ -80,7 +80,7 @@ letters_put (x ∷ w) ts h some o =
     ∙ grows w (encode_utf8 x) ts (both_second (is_word_char x) (list_all is_word_char w) h)
 
 -- bytes that aren't none have a character
-chars_some : (cs : List ℕ) → 1 ≤ length (encode_utf8_all cs) → 1 ≤ length cs
+pub chars_some : (cs : List ℕ) → 1 ≤ length (encode_utf8_all cs) → 1 ≤ length cs
 chars_some [] h = absurd (omega (arith, h))
 chars_some (x ∷ cs) h = omega arith
 

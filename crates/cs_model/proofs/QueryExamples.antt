@@ -2,6 +2,7 @@
 use Rattle.std.proofs.Common.{◌≡◌, [], ◌∷◌, refl, true, false, Some, None}
 use Rattle.std.specs.Prelude.{codes}
 use Rattle.std.specs.Char.{encode_utf8}
+use Rattle.std.specs.Str.{chars}
 use Rattle.cs_base.specs.declared.query.Link.TheVariants.{Phrase, Near}
 use Rattle.cs_base.specs.declared.query.Query.{roll-Query}
 use Rattle.cs_base.specs.declared.query.Part.{roll-Part}
@@ -10,6 +11,7 @@ use Rattle.cs_base.specs.declared.query.Atom.{Prefix, Exact}
 use Rattle.cs_base.specs.declared.query.Which.TheVariants as limits
 use Rattle.cs_model.specs.declared.kinds.Tie.TheVariants.{Begins, Alternative, Linked as LinkedBy}
 use Rattle.cs_model.specs.Words.{is_word_char}
+use Rattle.cs_model.specs.Keys.{shorter_words}
 use Rattle.cs_model.specs.Tokens.{tokens}
 use Rattle.cs_model.specs.Grammar.{Leaf, Enter, Leave, steps, join, query_of}
 use Rattle.cs_model.specs.Refusals.{Bad, Limit, verdict}
@@ -155,3 +157,19 @@ not_many = refl
 many : verdict (tokens (codes "a a a a a a a a a a a a a a a a -a")) ≡ Some (Limit limits.Parts)
 unfolding is_word_char encode_utf8
 many = refl
+
+-- ---- shorter words
+-- a word keeps a character
+shorter_word : shorter_words (codes "typ") ≡ codes "ty" ∷ codes "t" ∷ []
+unfolding chars encode_utf8
+shorter_word = refl
+
+-- a facet's word keeps its name, and its value may be empty
+shorter_value : shorter_words (codes ":k:ab") ≡ codes ":k:a" ∷ codes ":k:" ∷ []
+unfolding chars encode_utf8
+shorter_value = refl
+
+-- and then there is no shorter one
+shortest_value : shorter_words (codes ":k:") ≡ []
+unfolding chars encode_utf8
+shortest_value = refl

@@ -2,6 +2,7 @@
 --
 --   AreReadAgain      the canonical text is accepted, and read as the query again
 --   AreDifferent      different queries have different canonical texts
+--   AreShort          it has at most 1,024 bytes
 --   AreNoLonger       it is no longer than any text of the query, where each bracket that is open at the end counts as one byte more
 --   KeepCounts        it has as many parts and atoms as any text of the query
 use Rattle.std.specs.Prelude.{◌≡◌, ℕ, ◌+◌, ◌≤◌, List, length}
@@ -19,6 +20,10 @@ AreReadAgain = (q : Query) → IsOfGrammar q → IsUtf8 (canonical q) × IsAccep
 -- so no two queries share one
 abbrev pub AreDifferent : Type 0
 AreDifferent = (q r : Query) → IsOfGrammar q → IsOfGrammar r → canonical q ≡ canonical r → q ≡ r
+
+-- the limit on the bytes of a key text, which has no open bracket at its end
+abbrev pub AreShort : Type 0
+AreShort = (q : Query) → IsOfGrammar q → length (canonical q) ≤ 1024
 
 -- so it meets the limit on bytes wherever the text does
 abbrev pub AreNoLonger : Type 0

@@ -10,6 +10,7 @@ pub mod Faults
 pub mod FirstRefusal
 pub mod Grammar
 pub mod KeyText
+pub mod Keys
 pub mod Outputs
 pub mod Parameters
 pub mod Refusals

@@ -1,7 +1,7 @@
 //! Laws about the definitions. Each is the contract of a function that does nothing.
 ghost use Rattle.std.specs.Prelude.{◌≡◌, ◌≤◌, ℕ, List, length, take, IsAscii, encode_utf8_all};
 ghost use Rattle.cs_model.specs.Ascii.{ascii_norm, ascii_words};
-ghost use Rattle.cs_model.specs.CanonicalLaws.{AreReadAgain, AreDifferent, AreNoLonger, KeepCounts};
+ghost use Rattle.cs_model.specs.CanonicalLaws.{AreReadAgain, AreDifferent, AreShort, AreNoLonger, KeepCounts};
 ghost use Rattle.cs_model.specs.FirstRefusal.{AcceptedHaveNone, RefusedHaveOne};
 ghost use Rattle.cs_model.specs.KeyText.{norm};
 ghost use Rattle.cs_model.specs.Refusals.{PrefixesAreAccepted, QueriesHaveFewParts};
@@ -42,6 +42,7 @@ pub fn first_refusals()
 pub fn canonical_texts()
     ensures read_again { AreReadAgain }
     ensures different { AreDifferent }
+    ensures short { AreShort }
     ensures no_longer { AreNoLonger }
     ensures counts { KeepCounts }
 {}

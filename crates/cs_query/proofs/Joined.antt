@@ -1,18 +1,17 @@
 -- Entries joined by a sign, one after the other.
 --
 --   spaced, barred               the first entry, and each other one behind its sign
---   query_starts, part_starts    what is still to be put where a query's text begins, and behind the minus of a part
+--   parts_start, part_starts     what is still to be put where the text of parts begins, and behind the minus of a part
 use Rattle.std.proofs.Common.{◌≡◌, ℕ, ◌+◌, ◌<◌, List, [], ◌∷◌, ◌++◌, refl, ap, ◌∙◌, sym, append_assoc, map, drop, arith}
 use Rattle.std.specs.Prelude.{if◌then◌else◌, codes}
 use Rattle.std.proofs.lemmas.Bool.{lt-ltb}
 use Rattle.std.proofs.lemmas.List.{append-nil}
 use Rattle.std.specs.Char.{encode_utf8}
 use Rattle.std.specs.List.{join_with_byte}
-use Rattle.cs_base.specs.declared.query.Query.{Query, out-Query}
 use Rattle.cs_base.specs.declared.query.Part.{Part, out-Part}
 use Rattle.cs_base.specs.declared.query.Chain.{Chain}
-use Rattle.cs_model.specs.Canonical.{canonical, canonical_part, canonical_chain}
-use Rattle.cs_model.proofs.CanonicalLemmas.{query_shape, part_shape}
+use Rattle.cs_model.specs.Canonical.{canonical_parts, canonical_part, canonical_chain}
+use Rattle.cs_model.proofs.CanonicalLemmas.{part_shape}
 use Rattle.cs_query.specs.Printing.{separator, following}
 
 behind_first : (c i : ℕ) → encode_utf8 c ≡ c ∷ [] → 0 < i → separator c i ≡ c ∷ []
@@ -34,10 +33,9 @@ pub barred : (xs : List (List ℕ)) → join_with_byte 124 xs ≡ following 124 
 unfolding encode_utf8
 barred xs = from_first 124 xs refl
 
--- what is still to be put at the start of a query and of a part
-pub query_starts : (q : Query) (out : List ℕ) (items : List Part) → items ≡ (out-Query q).parts → out ++ canonical q ≡ out ++ following 32 0 (map canonical_part (drop 0 items))
-query_starts q out items e =
-    ap (λ t. out ++ t) (query_shape q ∙ spaced (map canonical_part (out-Query q).parts)) ∙ ap (λ ps. out ++ following 32 0 (map canonical_part (drop 0 ps))) (sym e)
+-- what is still to be put at the start of parts, and behind the minus of a part
+pub parts_start : (ps : List Part) (out : List ℕ) → out ++ canonical_parts ps ≡ out ++ following 32 0 (map canonical_part (drop 0 ps))
+parts_start ps out = ap (λ t. out ++ t) (spaced (map canonical_part ps))
 
 pub part_starts : (p : Part) (out next : List ℕ) (items : List Chain) → items ≡ (out-Part p).chains → next ≡ out ++ (if (out-Part p).excluded then codes "-" else [])
     → out ++ canonical_part p ≡ next ++ following 124 0 (map canonical_chain (drop 0 items))

@@ -1,5 +1,6 @@
 pub mod Begins
 pub mod Joined
 pub mod Lasts
+pub mod Narrowing
 pub mod Prefixes
 pub mod Verdicts

@@ -10,6 +10,7 @@ mod beginnings;
 mod classes;
 mod fault;
 mod growing;
+mod keying;
 mod names;
 mod parsing;
 mod printing;
@@ -25,6 +26,7 @@ mod tests;
 
 pub use cs_base::Which;
 pub use fault::QueryFault;
+pub use keying::keys;
 pub use parsing::parse;
 pub use printing::print;
 pub use reply::{FacetShown, HitShown, Reply, Shown};

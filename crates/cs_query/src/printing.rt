@@ -1,6 +1,6 @@
 //! The canonical text of a query.
 ghost use Rattle.std.specs.Prelude.{◌≡◌, [], ◌++◌, IfOk, OnOk, codes, if◌then◌else◌};
-ghost use Rattle.cs_model.specs.Canonical.{canonical, canonical_atom, canonical_chain, canonical_linked, canonical_part, link_text};
+ghost use Rattle.cs_model.specs.Canonical.{canonical, canonical_atom, canonical_chain, canonical_linked, canonical_part, canonical_parts, link_text};
 ghost use Rattle.cs_model.specs.Requests.{shown_word};
 ghost use Rattle.cs_query.specs.Printing.{separator};
 
@@ -21,7 +21,16 @@ pub fn print(alloc: Global, query: &Query) -> Result<Text, Memory>
 fn put_query(out: &mut Text, query: &Query) -> Result<(), Memory>
     ensures { OnOk result (out.new ≡ out.old ++ canonical query.now) }
 {
-    for (i, part) in query.parts.as_slice().iter().enumerate() {
+    put_parts(out, query.parts.as_slice())?;
+    Ok(())
+}
+
+/// Puts the parts of a query, or some of them.
+#[cycle(print)]
+pub fn put_parts(out: &mut Text, parts: &[Part]) -> Result<(), Memory>
+    ensures { OnOk result (out.new ≡ out.old ++ canonical_parts parts.now) }
+{
+    for (i, part) in parts.iter().enumerate() {
         separate(out, i, ' ')?;
         put_part(out, part)?;
     }

@@ -1,7 +1,7 @@
 //! What no clause says: that `parse` gives queries where there is memory, and that the definitions
 //! mean what the language's description says of its examples.
-use crate::{QueryFault, Which, parse};
-use cs_base::{Atom, Chain, Link, Memory, Query, Text};
+use crate::{QueryFault, Which, keys, parse, print};
+use cs_base::{Atom, Chain, Key, Link, Memory, Narrower, Query, Text};
 use std::alloc::{AllocError, Global};
 use std::test::Fail;
 
@@ -35,6 +35,83 @@ fn texts_have_the_queries_of_the_description(rt: HostRuntime) -> Result<(), Fail
         let query = parse(rt.alloc(), text)?;
         let found = told(rt.alloc(), &query)?;
         assert_eq!(rt; found.as_str(), want, "of {text}");
+    }
+    Ok(())
+}
+
+// A text, and the canonical text of its query, which is that of its own query too.
+#[test]
+fn queries_are_printed_as_the_description_says(rt: HostRuntime) -> Result<(), Fail> {
+    let rows = [
+        ("", ""),
+        ("typ se", "typ se"),
+        ("  typ ,se  ", "typ se"),
+        ("a- b", "a b"),
+        ("a--b", "a b"),
+        ("a .b", "a b"),
+        ("a -b", "a -b"),
+        ("-a|b", "-a|b"),
+        ("-", ""),
+        ("a.b|c$", "a.b|c$"),
+        ("a|", "a"),
+        ("type.ahead", "type.ahead"),
+        ("type-ahead", "type.ahead"),
+        ("type..ahead", "type..ahead"),
+        ("author:Bast.x", "author:bast x"),
+        ("author:hans-pe", "author:hans_pe"),
+        ("author:bast$", "author:bast$"),
+        ("http://x", "http: x"),
+        ("a.k:b", "a.k:b"),
+        ("k:b|k:", "k:b|k:"),
+        ("author[]", "author[]"),
+        ("author[a b", "author[a b]"),
+        ("-k[a|]-b", "-k[a].b"),
+        ("a[b[c[d", "a[b[c[d]]]"),
+        ("10", "10"),
+        ("\u{C9}cole|STRASSE", "e\u{301}cole|strasse"),
+    ];
+    for (text, want) in rows {
+        let printed = print(rt.alloc(), &parse(rt.alloc(), text)?)?;
+        assert_eq!(rt; printed.as_str(), want, "of {text}");
+        let again = print(rt.alloc(), &parse(rt.alloc(), printed.as_str())?)?;
+        assert_eq!(rt; again.as_str(), want, "of {text}, printed twice");
+    }
+    Ok(())
+}
+
+// A text, its narrower keys as `found` writes them, and the key without its last part.
+#[test]
+fn keys_are_those_of_queries_on_the_way(rt: HostRuntime) -> Result<(), Fail> {
+    let rows = [
+        ("", "", None),
+        ("typ", "2=ty 1=t ", None),
+        ("search typ", "2=search ty 1=search t ", Some("search")),
+        ("typ search -x", "", Some("typ search")),
+        ("type$", "", None),
+        ("a b|cd", "", Some("a")),
+        ("ab.cd", "1=ab.c ", None),
+        ("ab..cd$", "", None),
+        ("k:ab", "4=k:a 3=k: ", None),
+        ("x k:", "", Some("x")),
+        ("k[ab]", "", None),
+        ("k[ab] cd", "1=k[ab] c ", Some("k[ab]")),
+        ("\u{E9}b", "3=e\u{301} 1=e ", None),
+        ("k:\u{E9}", "4=k:e 3=k: ", None),
+    ];
+    for (text, narrow, extend) in rows {
+        let query = parse(rt.alloc(), text)?;
+        let keys = keys(rt.alloc(), &query)?;
+        let printed = print(rt.alloc(), &query)?;
+        assert!(rt;
+            keys.same.bytes() == printed.as_str().as_bytes(),
+            "of {text}"
+        );
+        let found = found(rt.alloc(), keys.narrow.as_slice())?;
+        assert_eq!(rt; found.as_str(), narrow, "of {text}");
+        assert!(rt;
+            is_key(&keys.extend, extend),
+            "of {text}, without its last part"
+        );
     }
     Ok(())
 }
@@ -117,6 +194,25 @@ fn fault_of(alloc: Global, text: &str) -> Option<QueryFault> {
     match parse(alloc, text) {
         Ok(_) => None,
         Err(fault) => Some(fault),
+    }
+}
+
+// Each with its cut, and a space behind it.
+fn found(alloc: Global, narrow: &[Narrower]) -> Result<Text, Memory> {
+    let mut out = Text::new(alloc);
+    for narrower in narrow {
+        let key = str::from_utf8(narrower.key.bytes()).unwrap_or("");
+        let shown = format!(in alloc; "{}={key} ", narrower.cut)?;
+        out.push_str(shown.as_str())?;
+    }
+    Ok(out)
+}
+
+fn is_key(key: &Option<Key>, want: Option<&str>) -> bool {
+    match (key, want) {
+        (None, None) => true,
+        (Some(key), Some(want)) => key.bytes() == want.as_bytes(),
+        _ => false,
     }
 }
 
