@@ -9,6 +9,7 @@ pub mod LineTexts
 pub mod MemoryText
 pub mod OnePartLemmas
 pub mod SaysLemmas
+pub mod ScriptExamples
 pub mod StepLemmas
 pub mod TitlesLemmas
 pub mod WindowLemmas

@@ -17,3 +17,5 @@ pub use command::run;
 
 #[cfg(test)]
 mod tests;
+#[cfg(test)]
+mod script_tests;
