@@ -6,9 +6,9 @@ use Rattle.std.specs.Option.{option_map, option_or}
 use Rattle.std.specs.Str.Lines.{lines}
 use Rattle.std.proofs.lemmas.List.{drop_all}
 use Rattle.cs_base.specs.Outside.{Grew}
-use Rattle.cs_model.specs.Collection.{has_bytes, without_mark}
+use Rattle.cs_model.specs.Collection.{has_bytes}
 use Rattle.cs_model.specs.Corpus.{Corpus}
-use Rattle.cs_model.specs.Outputs.{ScriptFault, IsAnswer, IsAllowed, IsBegun, PutAll, script_lines, line_fault, memory_text}
+use Rattle.cs_model.specs.Outputs.{ScriptFault, IsAnswer, IsAllowed, IsBegun, PutAll, line_fault, memory_text}
 use Rattle.cs_top.specs.Asking.{asks_join, first_fault, readable_before, readable_lines, ending_before, ending_of_lines}
 use Rattle.cs_top.specs.Endings.{Ending, done, not_built, usage, refused, absent, failed, no_memory, script_refused}
 use Rattle.cs_top.specs.LineSteps.{Stops, Reaches, EndsAt}
@@ -37,10 +37,7 @@ kept_some n l ls some = ap (λ b. cond b ((n, l) ∷ kept (enumerate_from (n + 1
 kept_none : (n : ℕ) (l : List ℕ) (ls : List (List ℕ)) → l ≡ [] → kept (enumerate_from n (l ∷ ls)) ≡ kept (enumerate_from (n + 1) ls)
 kept_none n l ls none = ap (λ x. kept (enumerate_from n (x ∷ ls))) none
 
-pub lines_at-start : (s : List ℕ) (at : ℕ) → without_mark s ≡ drop at s → script_lines s ≡ lines_at s (record { at = at; number = 0 })
-lines_at-start s at h = ap (λ x. kept (enumerate_from 1 (lines x))) h
-
-pub lines_at-end : (s : List ℕ) (p : Place) → length s ≤ p.at → lines_at s p ≡ []
+lines_at-end : (s : List ℕ) (p : Place) → length s ≤ p.at → lines_at s p ≡ []
 lines_at-end s p h = ap (λ x. kept (enumerate_from (p.number + 1) (lines x))) (drop_all p.at s h)
 
 -- ---- lines that are read, and the first that isn't

@@ -4,7 +4,6 @@ use Rattle.std.specs.Prelude.{Some, None}
 use Rattle.std.specs.Str.{is_utf8, IsUtf8}
 use Rattle.std.proofs.lemmas.Bool.Decides.{nat_tests}
 use Rattle.std.proofs.lemmas.Str.{IsUtf8-from_is_utf8, is_utf8-from_IsUtf8}
-use Rattle.cs_engine.specs.Searching.{has_join}
 use Rattle.cs_http.specs.Refusing.{IsCause}
 use Rattle.cs_json.specs.FaultTexts.{fault_text}
 use Rattle.cs_json.specs.declared.fault.Fault.TheVariants as faults
@@ -16,7 +15,6 @@ use Rattle.cs_model.specs.Replies.{reply_text}
 use Rattle.cs_model.specs.Requests.{Request, reply_of}
 use Rattle.cs_query.specs.declared.request.ReqFault.{ReqFault}
 use Rattle.cs_query.specs.declared.request.ReqFault.TheVariants as causes
-use Rattle.cs_top.specs.Asking.{asks_join, asks_join_by}
 
 -- the text of a refused line
 pub refused_text : (k : Corpus) (p : List ℕ) (e : ReqFault) → IsCause p e → e ≢ causes.Memory → text k p ≡ fault_text (faults.Refused e)
@@ -30,9 +28,6 @@ refused_text k p causes.Memory h other = absurd (other refl)
 pub request_text : (k : Corpus) (p : List ℕ) (r : Request) → request_refusal p ≡ None → r ≡ request_of p → text k p ≡ reply_text (reply_of k r)
 unfolding text
 request_text k p r accepted is = ap (text_by k p) accepted ∙ ap (λ x. reply_text (reply_of k x)) (sym is)
-
-pub request_joins : (p : List ℕ) (r : Request) → request_refusal p ≡ None → r ≡ request_of p → asks_join p ≡ has_join r.query
-request_joins p r accepted is = ap (asks_join_by p) accepted ∙ ap (λ x. has_join x.query) (sym is)
 
 not_true : (b : Bool) → (b ≡ true → ⊥) → b ≡ false
 not_true true h = absurd (h refl)

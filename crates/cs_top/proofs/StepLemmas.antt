@@ -1,11 +1,11 @@
 -- What a line that was read says of the line at its place in the script.
-use Rattle.std.proofs.Common.{◌≡◌, ◌≢◌, ℕ, ◌+◌, ◌<◌, List, [], ◌∷◌, length, drop, inl, inr, refl, sym, ◌∙◌, arith}
+use Rattle.std.proofs.Common.{◌≡◌, ◌≢◌, ℕ, ◌+◌, ◌<◌, List, [], ◌∷◌, length, drop, inl, inr, sym, ◌∙◌, arith}
 use Rattle.std.specs.Prelude.{Option, Some, None}
 use Rattle.std.specs.Str.Lines.{lines}
 use Rattle.cs_model.specs.Corpus.{Corpus}
 use Rattle.cs_model.specs.Outputs.{line_fault, script_line_too_long}
 use Rattle.cs_top.specs.Endings.{Ending, done, not_built, usage, refused, absent, failed, no_memory, script_refused}
-use Rattle.cs_top.specs.LineSteps.{Passes, Stops, IsFirstLine, Reaches, EndsAt}
+use Rattle.cs_top.specs.LineSteps.{Stops, IsFirstLine, EndsAt}
 use Rattle.cs_top.specs.declared.lines.Place.{Place}
 use Rattle.cs_top.proofs.LineTexts.{fault-too_long}
 
@@ -17,11 +17,6 @@ unread : (n : ℕ) (l : List ℕ) → 4096 < length l → line_fault (n, l) ≡ 
 unread n l long none = let some : Some (script_line_too_long n) ≡ None = sym (fault-too_long n l long) ∙ none in absurd cc
 
 module _ (k : Corpus) (s l : List ℕ) (p : Place) (at : ℕ) (old new : Option (List ℕ)) where
-  pub reaches : IsFirstLine (drop p.at s) l (drop at s) → Passes k (p.number + 1, l) old new → Reaches k s p (record { at = at; number = p.number + 1 }) old new
-  reaches (inl e) h = (l, e, refl, h)
-  reaches (inr (long, more)) (inl (none, same)) = absurd (long_some l long none)
-  reaches (inr (long, more)) (inr (some, read, put)) = absurd (unread (p.number + 1) l long read)
-
   pub ends_at : (e : Ending) → IsFirstLine (drop p.at s) l (drop at s) → Stops e k (p.number + 1, l) old new → EndsAt e k s p old new
   ends_at e (inl is) h = inr (l, lines (drop at s), is, h)
   ends_at not_built (inr (long, more)) h = absurd (unread (p.number + 1) l long h.1)

@@ -1,7 +1,7 @@
 //! One line of a script, answered.
-ghost use Rattle.std.specs.Prelude.{◌≡◌, ◌≢◌, ◌++◌, ◌∷◌, [], true, false, IfOk, IfErr, OnOk, OnErr, IsErrOf, ℕ, List};
+ghost use Rattle.std.specs.Prelude.{◌≡◌, ◌≢◌, ◌++◌, ◌∷◌, [], true, false, IfOk, IfErr, OnOk, OnErr, IsErrOf};
 ghost use Rattle.std.specs.Option.{option_map};
-ghost use Rattle.cs_base.specs.Causes.{Rose, Counted};
+ghost use Rattle.cs_base.specs.Causes.{Counted};
 ghost use Rattle.cs_base.specs.Outside.{Grew, GrewByPrefix};
 ghost use Rattle.cs_engine.specs.Searching.{corpus_searched, has_join};
 ghost use Rattle.cs_json.specs.FaultTexts.{fault_text};

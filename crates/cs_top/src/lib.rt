@@ -18,3 +18,5 @@ pub use command::run;
 
 #[cfg(test)]
 mod tests;
+#[cfg(test)]
+mod script_tests;

@@ -46,7 +46,7 @@ pub(crate) fn first_place<F: Files>(files: &mut F, name: &str, size: u64) -> Res
 }
 
 /// Reads the line at a place before a file's end into the front of the buffer, and answers its length and the place
-/// behind it. Of a line above `MAX_SCRIPT_LINE_BYTES` there may be only more than so many first bytes.
+/// behind it. A line of more than `MAX_SCRIPT_LINE_BYTES` may be cut, but never to so few.
 pub(crate) fn read_line<F: Files>(
     files: &mut F,
     name: &str,
