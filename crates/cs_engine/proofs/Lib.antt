@@ -1,0 +1,4 @@
+pub mod AtomsLemmas
+pub mod FoldsLemmas
+pub mod UnionLemmas
+pub mod VocabLemmas

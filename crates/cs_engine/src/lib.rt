@@ -4,8 +4,11 @@
 //! Nothing here reads a file.
 #![tactic(auto)]
 
+mod atoms;
 mod corpus;
 mod joins;
+mod parts;
+mod stock;
 
 pub use corpus::{Corpus, CorpusFault};
 pub use joins::has_join;

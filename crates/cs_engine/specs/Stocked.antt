@@ -1,0 +1,102 @@
+-- How a corpus is kept in memory: titles, vocabulary, and posts, whose words are numbers in the vocabulary.
+--
+--   word_at ws n           word n; the empty text where there are fewer words
+--   row_of ws p            the row that a post stands for
+--   rows_at ws posts       the rows that posts stand for
+--   searched_in s          the titles and rows of a stock
+--   corpus_in s            the corpus of a stock
+--   IsKnown s p            the post's document and word are there
+--   IsStocked s            what a stock keeps
+--   IsPicked s posts       posts are some of the stock's, in order
+--   IsSpan ws test lo hi   the words that pass a test are those from number lo up to hi, hi left out
+--   is_between lo hi p     the post's word is one of these
+--   atom_test a w          the word w is one that an atom without a join asks for
+--   linked_posts link a b  the posts of b that are linked to a post of a
+--   every n                the documents from 0 up to n, each with the score 0
+--   listed n base          the documents that a base lists, of n documents
+--   scored_hits k ps       the hits with their scores, by document
+use Rattle.std.specs.Prelude.{ℕ, ◌≡◌, ◌≤◌, ◌<◌, ◌^◌, ◌&&◌, Bool, false, nat_le, nat_lt, List, [], map, length, slice_index_or}
+use Rattle.std.specs.List.{All, Contains, range_with_len}
+use Rattle.std.specs.List.Sorted.{IsStrictlySortedBy}
+use Rattle.std.specs.Ordering.{nat_cmp}
+use Rattle.std.specs.Cmp.Lexicographic.{slice_cmp}
+use Rattle.std.specs.Str.{IsUtf8, bytes_eq}
+use Rattle.cs_base.specs.declared.doc.Base.{Base}
+use Rattle.cs_base.specs.declared.doc.Base.TheVariants as base
+use Rattle.cs_base.specs.declared.doc.Post.{Post}
+use Rattle.cs_base.specs.declared.doc.Row.{Row}
+use Rattle.cs_base.specs.declared.doc.Scored.{Scored}
+use Rattle.cs_base.specs.declared.query.Atom.{Atom}
+use Rattle.cs_base.specs.declared.query.Atom.TheVariants as atom
+use Rattle.cs_base.specs.declared.query.Link.{Link}
+use Rattle.cs_base.specs.declared.query.Link.TheVariants.{Phrase, Near}
+use Rattle.cs_meet.specs.Filters.{AreSorted, follow, near}
+use Rattle.cs_model.specs.Answers.{PartRows, begins, hits, scored}
+use Rattle.cs_model.specs.Corpus.{Corpus}
+use Rattle.cs_engine.specs.Searching.{Searched, corpus_searched}
+use Rattle.cs_engine.specs.declared.stock.Stock.{Stock}
+
+-- ---- rows by their posts
+abbrev pub word_at : List (List ℕ) → ℕ → List ℕ
+word_at ws n = slice_index_or ws n []
+
+abbrev pub row_of : List (List ℕ) → Post → Row
+row_of ws p = record { doc = p.doc; word = word_at ws p.word; pos = p.pos; score = p.score }
+
+abbrev pub rows_at : List (List ℕ) → List Post → List Row
+rows_at ws posts = map (row_of ws) posts
+
+abbrev pub searched_in : Stock → Searched
+searched_in s = record { titles = s.titles; rows = rows_at s.words s.posts.posts }
+
+abbrev pub corpus_in : Stock → Corpus
+corpus_in s = corpus_searched (searched_in s)
+
+-- ---- what is kept
+pub record IsKnown (s : Stock) (p : Post) : Type 0 where
+  pub doc : p.doc < length s.titles
+  pub word : p.word < length s.words
+  pub score : p.score ≤ 255
+
+-- words ascend and are texts, posts ascend and are known, and there aren't too many
+pub record IsStocked (s : Stock) : Type 0 where
+  pub words : IsStrictlySortedBy (slice_cmp nat_cmp) s.words
+  pub few_words : length s.words ≤ 2 ^ 22
+  pub texts : All IsUtf8 s.words
+  pub few_docs : length s.titles ≤ 2 ^ 20
+  pub sorted : AreSorted s.posts.posts
+  pub known : All (IsKnown s) s.posts.posts
+
+pub record IsPicked (s : Stock) (posts : List Post) : Type 0 where
+  pub sorted : AreSorted posts
+  pub among : All (Contains s.posts.posts) posts
+
+-- ---- atoms
+abbrev pub is_between : ℕ → ℕ → Post → Bool
+is_between lo hi p = nat_le lo p.word && nat_lt p.word hi
+
+-- where no word passes, lo is hi or more
+abbrev pub IsSpan : List (List ℕ) → (List ℕ → Bool) → ℕ → ℕ → Type 0
+IsSpan ws test lo hi = (n : ℕ) → n < length ws → test (word_at ws n) ≡ (nat_le lo n && nat_lt n hi)
+
+-- a join asks for no word
+abbrev pub atom_test : Atom → List ℕ → Bool
+atom_test (atom.Prefix p) w = begins p w
+atom_test (atom.Exact e) w = bytes_eq w e
+atom_test (atom.Join name inner) w = false
+
+-- ---- links
+abbrev pub linked_posts : Link → List Post → List Post → List Post
+linked_posts Phrase a b = follow a b
+linked_posts Near a b = near a b
+
+-- ---- hits
+abbrev pub every : ℕ → List Scored
+every n = map (λ d. record { doc = d; score = 0 }) (range_with_len 0 n)
+
+abbrev pub listed : ℕ → Base → List Scored
+listed n base.All = every n
+listed n (base.Listed hs) = hs
+
+abbrev pub scored_hits : Corpus → List PartRows → List Scored
+scored_hits k ps = map (scored ps) (hits k ps)
