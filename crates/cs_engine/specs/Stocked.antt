@@ -6,6 +6,7 @@
 --   searched_in s          the titles and rows of a stock
 --   corpus_in s            the corpus of a stock
 --   IsKnown s p            the post's document and word are there
+--   IsNumbered ws p        the post's word is there, and its score fits a byte
 --   IsStocked s            what a stock keeps
 --   IsPicked s posts       posts are some of the stock's, in order
 --   IsSpan ws test lo hi   the words that pass a test are those from number lo up to hi, hi left out
@@ -14,8 +15,10 @@
 --   linked_posts link a b  the posts of b that are linked to a post of a
 --   every n                the documents from 0 up to n, each with the score 0
 --   listed n base          the documents that a base lists, of n documents
+--   docs_in n base         their numbers
 --   scored_hits k ps       the hits with their scores, by document
-use Rattle.std.specs.Prelude.{ℕ, ◌≡◌, ◌≤◌, ◌<◌, ◌^◌, ◌&&◌, Bool, false, nat_le, nat_lt, List, [], map, length, slice_index_or}
+--   IsFound s ps base pairs      a base lists the hits of parts with their scores, and pairs are theirs
+use Rattle.std.specs.Prelude.{ℕ, ◌*◌, ◌≡◌, ◌≤◌, ◌<◌, ◌^◌, ◌&&◌, Bool, false, nat_le, nat_lt, List, [], map, length, slice_index_or}
 use Rattle.std.specs.List.{All, Contains, range_with_len}
 use Rattle.std.specs.List.Sorted.{IsStrictlySortedBy}
 use Rattle.std.specs.Ordering.{nat_cmp}
@@ -31,7 +34,7 @@ use Rattle.cs_base.specs.declared.query.Atom.TheVariants as atom
 use Rattle.cs_base.specs.declared.query.Link.{Link}
 use Rattle.cs_base.specs.declared.query.Link.TheVariants.{Phrase, Near}
 use Rattle.cs_meet.specs.Filters.{AreSorted, follow, near}
-use Rattle.cs_model.specs.Answers.{PartRows, begins, hits, scored}
+use Rattle.cs_model.specs.Answers.{PartRows, begins, hits, pairs, scored}
 use Rattle.cs_model.specs.Corpus.{Corpus}
 use Rattle.cs_engine.specs.Searching.{Searched, corpus_searched}
 use Rattle.cs_engine.specs.declared.stock.Stock.{Stock}
@@ -56,6 +59,10 @@ corpus_in s = corpus_searched (searched_in s)
 pub record IsKnown (s : Stock) (p : Post) : Type 0 where
   pub doc : p.doc < length s.titles
   pub word : p.word < length s.words
+  pub score : p.score ≤ 255
+
+pub record IsNumbered (ws : List (List ℕ)) (p : Post) : Type 0 where
+  pub word : p.word < length ws
   pub score : p.score ≤ 255
 
 -- words ascend and are texts, posts ascend and are known, and there aren't too many
@@ -91,6 +98,7 @@ linked_posts Phrase a b = follow a b
 linked_posts Near a b = near a b
 
 -- ---- hits
+-- in order
 abbrev pub every : ℕ → List Scored
 every n = map (λ d. record { doc = d; score = 0 }) (range_with_len 0 n)
 
@@ -100,3 +108,13 @@ listed n (base.Listed hs) = hs
 
 abbrev pub scored_hits : Corpus → List PartRows → List Scored
 scored_hits k ps = map (scored ps) (hits k ps)
+
+abbrev pub docs_in : ℕ → Base → List ℕ
+docs_in n b = map (λ h. h.doc) (listed n b)
+
+-- of no part every document is a hit, with the score 0
+pub record IsFound (s : Stock) (ps : List PartRows) (b : Base) (posts : List Post) : Type 0 where
+  pub hits : listed (length s.titles) b ≡ scored_hits (corpus_in s) ps
+  pub small : All (λ h. h.score ≤ 255 * length ps) (listed (length s.titles) b)
+  pub pairs : rows_at s.words posts ≡ pairs (corpus_in s) ps
+  pub picked : IsPicked s posts

@@ -5,7 +5,9 @@
 #![tactic(auto)]
 
 mod atoms;
+mod building;
 mod corpus;
+mod hits;
 mod joins;
 mod parts;
 mod stock;
