@@ -151,15 +151,18 @@ module _ (ws : List (List ℕ)) (posts : List Post) where
       any_same q [] = refl
       any_same q (p ∷ ps) = ap (λ b. b || list_any (λ p. p.doc == q) ps) (sym (number_tie q p.doc)) ∙ ap (λ b. eq_by_cmp nat_cmp q p.doc || b) (any_same q ps)
 
+-- hits ascend
+pub ds_rise : (s : Stock) (done : List PartRows) → AreDocs (hits (corpus_in s) done)
+ds_rise s done =
+    let ks = keys (corpus_in s).titles in
+    IsStrictlySortedBy-filter nat_cmp (λ d. list_all (agrees d) done) ks (subst (IsStrictlySortedBy nat_cmp) (sym (keys_numbered s.titles)) (range_rises 0 (length s.titles)))
+
 module _ (s : Stock) (done : List PartRows) (p : PartRows) (posts : List Post) (is : rows_at s.words posts ≡ p.rows) where
   abbrev k : Corpus
   k = corpus_in s
 
   abbrev ds : List ℕ
   ds = hits k done
-
-  ds_rise : AreDocs ds
-  ds_rise = IsStrictlySortedBy-filter nat_cmp (λ d. list_all (agrees d) done) (keys k.titles) (subst (IsStrictlySortedBy nat_cmp) (sym (keys_numbered s.titles)) (range_rises 0 (length s.titles)))
 
   hits_positive : p.excluded ≡ false → hits k (done ++ p ∷ []) ≡ filter (λ d. list_any (in_doc d) (rows_at s.words posts)) ds
   hits_positive e =
@@ -187,11 +190,11 @@ module _ (s : Stock) (done : List PartRows) (p : PartRows) (posts : List Post) (
       ∙ filter_through (row_of s.words) (λ r. is_listed now r.doc) posts
       ∙ ap (filter (λ r. is_listed now r.doc)) (is ∙ sym (last_more done p ∙ ap (λ b. if b then [] else p.rows) e))
 
-  no_pairs : p.excluded ≡ true → [] ≡ pairs k (done ++ p ∷ [])
+  pub no_pairs : p.excluded ≡ true → [] ≡ pairs k (done ++ p ∷ [])
   no_pairs e = sym (ap (filter (λ r. is_listed (hits k (done ++ p ∷ [])) r.doc)) (last_more done p ∙ ap (λ b. if b then [] else p.rows) e))
 
   module _ (b : Base) (lists : listed (length s.titles) b ≡ scored_hits k done) where
-    listed_docs : docs_in (length s.titles) b ≡ ds
+    pub listed_docs : docs_in (length s.titles) b ≡ ds
     listed_docs = ap (map (λ h. h.doc)) lists ∙ own_docs (scored done) (λ d. refl) ds
 
     score_so_far : (d : ℕ) → list_any (λ e. e == d) ds ≡ true → base_score b d ≡ score done d
@@ -213,7 +216,7 @@ module _ (s : Stock) (done : List PartRows) (p : PartRows) (posts : List Post) (
         let members : AllByRecursion (λ d. list_any (λ e. e == d) ds ≡ true) (filter t ds) =
         recursion_from_All (λ d. list_any (λ e. e == d) ds ≡ true) (filter t ds) (All-filter t (λ d. list_any (λ e. e == d) ds ≡ true) ds (own_members ds)) in
         ap (λ xs. scores b (keep_docs posts xs)) listed_docs
-        ∙ ap (map (λ d. with_base b (best_row kept d))) (kept_docs s.words posts ds ds_rise)
+        ∙ ap (map (λ d. with_base b (best_row kept d))) (kept_docs s.words posts ds (ds_rise s done))
         ∙ map_alike (λ d. with_base b (best_row kept d)) (scored (done ++ p ∷ [])) (filter t ds) (all_then (λ d. list_any (λ e. e == d) ds ≡ true) (λ d. with_base b (best_row kept d) ≡ scored (done ++ p ∷ []) d) one (filter t ds) members)
         ∙ ap (map (scored (done ++ p ∷ []))) (sym (hits_positive e))
 

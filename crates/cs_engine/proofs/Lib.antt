@@ -1,7 +1,9 @@
 pub mod AtomsLemmas
 pub mod BuildingLemmas
 pub mod FoldsLemmas
+pub mod FoundLemmas
 pub mod HitsLemmas
 pub mod ListsLemmas
+pub mod TableLemmas
 pub mod UnionLemmas
 pub mod VocabLemmas

@@ -17,8 +17,12 @@
 --   listed n base          the documents that a base lists, of n documents
 --   docs_in n base         their numbers
 --   scored_hits k ps       the hits with their scores, by document
+--   named_at ws c          a completion with its word in place of the word's number
+--   shown_at ws c          it as it is shown
+--   facet_rows s base n    the rows of the facet words of a name in the documents of a base
+--   facet_at s base cut n  their table as it is shown
 --   IsFound s ps base pairs      a base lists the hits of parts with their scores, and pairs are theirs
-use Rattle.std.specs.Prelude.{ℕ, ◌*◌, ◌≡◌, ◌≤◌, ◌<◌, ◌^◌, ◌&&◌, Bool, false, nat_le, nat_lt, List, [], map, length, slice_index_or}
+use Rattle.std.specs.Prelude.{ℕ, ◌*◌, ◌≡◌, ◌≤◌, ◌<◌, ◌^◌, ◌&&◌, Bool, false, nat_le, nat_lt, List, [], map, filter, take, length, slice_index_or}
 use Rattle.std.specs.List.{All, Contains, range_with_len}
 use Rattle.std.specs.List.Sorted.{IsStrictlySortedBy}
 use Rattle.std.specs.Ordering.{nat_cmp}
@@ -34,7 +38,11 @@ use Rattle.cs_base.specs.declared.query.Atom.TheVariants as atom
 use Rattle.cs_base.specs.declared.query.Link.{Link}
 use Rattle.cs_base.specs.declared.query.Link.TheVariants.{Phrase, Near}
 use Rattle.cs_meet.specs.Filters.{AreSorted, follow, near}
-use Rattle.cs_model.specs.Answers.{PartRows, begins, hits, pairs, scored}
+use Rattle.cs_model.specs.Answers.{PartRows, Completion, begins, is_listed, hits, pairs, scored, table_of}
+use Rattle.cs_model.specs.Collection.{named}
+use Rattle.cs_model.specs.Replies.{Shown, FacetShown}
+use Rattle.cs_model.specs.Requests.{shown_of}
+use Rattle.cs_tables.specs.declared.tables.Completion.{Completion as Numbered}
 use Rattle.cs_model.specs.Corpus.{Corpus}
 use Rattle.cs_engine.specs.Searching.{Searched, corpus_searched}
 use Rattle.cs_engine.specs.declared.stock.Stock.{Stock}
@@ -112,6 +120,20 @@ scored_hits k ps = map (scored ps) (hits k ps)
 abbrev pub docs_in : ℕ → Base → List ℕ
 docs_in n b = map (λ h. h.doc) (listed n b)
 
+-- ---- tables
+abbrev pub named_at : List (List ℕ) → Numbered → Completion
+named_at ws c = record { docs = c.docs; word = word_at ws c.word }
+
+abbrev pub shown_at : List (List ℕ) → Numbered → Shown
+shown_at ws c = shown_of (named_at ws c)
+
+abbrev pub facet_rows : Stock → Base → List ℕ → List Row
+facet_rows s b n = filter (λ r. is_listed (docs_in (length s.titles) b) r.doc) (filter (λ r. begins (named n []) r.word) (rows_at s.words s.posts.posts))
+
+abbrev pub facet_at : Stock → Base → ℕ → List ℕ → FacetShown
+facet_at s b cut n = record { name = n; table = map shown_of (take cut (table_of (facet_rows s b n))) }
+
+-- ---- what is found
 -- of no part every document is a hit, with the score 0
 pub record IsFound (s : Stock) (ps : List PartRows) (b : Base) (posts : List Post) : Type 0 where
   pub hits : listed (length s.titles) b ≡ scored_hits (corpus_in s) ps
