@@ -3,7 +3,8 @@
 --   atom_rows-is      the rows of an atom without a join are those that pass its test
 --   linked_rows-is, chain_rows-is, part_rows-is, parts-are      the rows of these, by those of what they hold
 --   linked_plain, chain_plain_first, chain_plain_rest, part_plain, query_plain      what they hold has no join where they have none
-use Rattle.std.proofs.Common.{◌≡◌, ℕ, ◌<◌, ◌||◌, Bool, true, false, true≢false, List, [], ◌∷◌, length, map, get_or, refl, sym, ◌∙◌, ap, subst}
+use Rattle.std.proofs.Common.{◌≡◌, ℕ, ◌<◌, ◌≤◌, ◌||◌, Bool, true, false, true≢false, List, [], ◌∷◌, length, map, get_or, refl, sym, ◌∙◌, ap, subst, arith}
+use Rattle.std.proofs.lemmas.List.{length-map}
 use Rattle.std.specs.Prelude.{filter}
 use Rattle.std.specs.List.{All, AllByRecursion, list_any}
 use Rattle.std.proofs.lemmas.List.Elements.{All-from_recursion}
@@ -76,3 +77,6 @@ query_plain q h =
 -- what holds of all holds of the one at a place
 pub at_place : {X : Type 0} (P : X → Type 0) (all items : List X) (i : ℕ) (x : X) → All P all → items ≡ all → i < length items → x ≡ get_or items i x → P x
 at_place P all items i x h is l at = subst P (sym (at ∙ ap (λ xs. get_or xs i x) is)) (h i x (subst (λ n. i < n) (ap length is) l))
+
+pub parts-few : (k : Corpus) (q : Query) → length (out-Query q).parts ≤ 16 → length (parts_of k q) ≤ 16
+parts-few k q few = omega (arith, ap length (parts-are k q), length-map (out-Query q).parts (rows_of_part k), few)

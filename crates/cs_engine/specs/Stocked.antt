@@ -19,11 +19,14 @@
 --   scored_hits k ps       the hits with their scores, by document
 --   named_at ws c          a completion with its word in place of the word's number
 --   shown_at ws c          it as it is shown
+--   title_at titles d      the title of document d; the empty text where there are fewer
 --   facet_rows s base n    the rows of the facet words of a name in the documents of a base
 --   facet_at s base cut n  their table as it is shown
 --   IsFound s ps base pairs      a base lists the hits of parts with their scores, and pairs are theirs
 use Rattle.std.specs.Prelude.{ℕ, ◌*◌, ◌≡◌, ◌≤◌, ◌<◌, ◌^◌, ◌&&◌, Bool, false, nat_le, nat_lt, List, [], map, filter, take, length, slice_index_or}
-use Rattle.std.specs.List.{All, Contains, range_with_len}
+use Rattle.std.specs.List.{All, Contains, range_with_len, enumerate_from}
+use Rattle.std.specs.Option.{unwrap_or}
+use Rattle.std.specs.FinMap as map
 use Rattle.std.specs.List.Sorted.{IsStrictlySortedBy}
 use Rattle.std.specs.Ordering.{nat_cmp}
 use Rattle.std.specs.Cmp.Lexicographic.{slice_cmp}
@@ -126,6 +129,9 @@ named_at ws c = record { docs = c.docs; word = word_at ws c.word }
 
 abbrev pub shown_at : List (List ℕ) → Numbered → Shown
 shown_at ws c = shown_of (named_at ws c)
+
+abbrev pub title_at : List (List ℕ) → ℕ → List ℕ
+title_at titles d = unwrap_or (map.get (map.from_entries {R = nat_cmp} (enumerate_from 0 titles)) d) []
 
 abbrev pub facet_rows : Stock → Base → List ℕ → List Row
 facet_rows s b n = filter (λ r. is_listed (docs_in (length s.titles) b) r.doc) (filter (λ r. begins (named n []) r.word) (rows_at s.words s.posts.posts))

@@ -1,15 +1,16 @@
 //! The rows of an atom.
-ghost use Rattle.std.specs.Prelude.{◌≡◌, ◌≤◌, ◌&&◌, ◌^◌, false, nat_le, nat_lt, filter, length, IfOk};
+ghost use Rattle.std.specs.Prelude.{◌≡◌, ◌≤◌, ◌&&◌, ◌^◌, false, [], nat_le, nat_lt, filter, length, IfOk};
 ghost use Rattle.std.specs.List.Sorted.{IsStrictlySortedBy};
 ghost use Rattle.std.specs.Ordering.{nat_cmp};
 ghost use Rattle.std.specs.Cmp.Lexicographic.{slice_cmp};
 ghost use Rattle.std.specs.Str.{bytes_eq};
-ghost use Rattle.cs_model.specs.Answers.{rows_of_atom};
+ghost use Rattle.cs_model.specs.Answers.{begins, rows_of_atom};
+ghost use Rattle.cs_model.specs.Collection.{named};
 ghost use Rattle.cs_engine.specs.Searching.{atom_has_join};
 ghost use Rattle.cs_engine.specs.Stocked.{rows_at, corpus_in, IsStocked, IsPicked, IsSpan, is_between, atom_test};
 
 use crate::stock::Stock;
-use cs_base::{Atom, Memory};
+use cs_base::{Atom, Memory, Text};
 use cs_cols::Cols;
 use cs_vocab::Vocab;
 use std::alloc::Global;
@@ -23,6 +24,22 @@ pub(crate) fn rows_of_atom(alloc: Global, stock: &Stock, atom: &Atom) -> Result<
     ensures picked { IfOk result (λ c. IsPicked stock.now c.posts) }
 {
     let (lo, hi) = span(&stock.words, atom);
+    let found = posts_between(alloc, &stock.posts, lo, hi)?;
+    Ok(found)
+}
+
+/// The rows of the facet words of a name.
+pub(crate) fn rows_of_facet(alloc: Global, stock: &Stock, name: &Text) -> Result<Cols, Memory>
+    requires { IsStocked stock.now }
+
+    ensures ok { IfOk result (λ c. rows_at stock.now.words c.posts ≡ filter (λ r. begins (named name.now []) r.word) (rows_at stock.now.words stock.now.posts.posts)) }
+    ensures picked { IfOk result (λ c. IsPicked stock.now c.posts) }
+{
+    let mut prefix = Text::new(alloc);
+    prefix.push_str(":")?;
+    prefix.push_str(name.as_str())?;
+    prefix.push_str(":")?;
+    let (lo, hi) = stock.words.range(prefix.as_str().as_bytes());
     let found = posts_between(alloc, &stock.posts, lo, hi)?;
     Ok(found)
 }

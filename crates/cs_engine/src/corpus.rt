@@ -9,6 +9,7 @@ ghost use Rattle.cs_query.specs.RequestView.{asked};
 ghost use Rattle.cs_engine.specs.Searching.{searched, corpus_searched, has_join};
 
 use crate::building::{posts_of, titles_of};
+use crate::replies::reply_to;
 use crate::stock::Stock;
 use cs_base::{Doc, MAX_WORDS, Memory, Row, Seq};
 use cs_query::{Reply, Request};
@@ -77,9 +78,8 @@ impl Corpus {
 
         ensures ok { IfOk result (λ r. r ≡ reply_of (corpus_searched self.now) (asked request.now)) }
     {
-        let _ = alloc;
-        let _ = request;
-        Err(Memory)
+        let reply = reply_to(alloc, &self.stock, request)?;
+        Ok(reply)
     }
 }
 

@@ -10,6 +10,7 @@ mod corpus;
 mod hits;
 mod joins;
 mod parts;
+mod replies;
 mod stock;
 
 pub use corpus::{Corpus, CorpusFault};
