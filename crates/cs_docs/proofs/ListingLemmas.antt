@@ -1,8 +1,8 @@
 -- Rows that are listed document by document are in their order, and are the rows of the documents.
-use Rattle.std.proofs.Common.{◌≡◌, ℕ, ◌+◌, ◌<◌, ◌≤◌, Bool, true, false, ◌&&◌, ◌||◌, List, [], ◌∷◌, ◌++◌, length, map, drop, get_or, refl, sym, ap, ◌∙◌, arith, append-nil, add-one, drop-cons}
+use Rattle.std.proofs.Common.{◌≡◌, ℕ, ◌+◌, ◌<◌, ◌≤◌, Bool, true, false, ◌&&◌, ◌||◌, List, [], ◌∷◌, ◌++◌, length, map, drop, get_or, refl, sym, ap, ◌∙◌, arith, append-nil, add-one, drop-cons, subst, true≢false}
 use Rattle.std.specs.List.{AllByRecursion, list_any, flat_map, enumerate_from}
 use Rattle.std.specs.List.Sorted.{IsStrictlySortedBy}
-use Rattle.std.specs.Ordering.{nat_cmp, ordering_then, eq_by_cmp, is_eq}
+use Rattle.std.specs.Ordering.{nat_cmp, ordering_then, then_cmp, on, eq_by_cmp, is_eq}
 use Rattle.std.specs.Cmp.{nat_cmp_is}
 use Rattle.std.specs.Cmp.Lexicographic.{slice_cmp}
 use Rattle.std.specs.declared.cmp.Ordering.{Ordering}
@@ -47,19 +47,23 @@ sorted-append R (x ∷ xs) ys h k b = (all-append (λ y. R x y ≡ Less) xs ys h
 
 -- ---- rows in their order
 
+-- by document, position and word, which name a row
+abbrev pub by_spot : Row → Row → Ordering
+by_spot = then_cmp (on (λ r. r.doc) nat_cmp) (then_cmp (on (λ r. r.pos) nat_cmp) (on (λ r. r.word) (slice_cmp nat_cmp)))
+
 equal_cmp : (x y : ℕ) → x ≡ y → nat_cmp x y ≡ Equal
 equal_cmp x y h = sym (nat_cmp_is x y Equal h)
 
 less_cmp : (x y : ℕ) → x < y → nat_cmp x y ≡ Less
 less_cmp x y h = sym (nat_cmp_is x y Less h)
 
-earlier_doc : (r s : Row) → r.doc < s.doc → by_row r s ≡ Less
+earlier_doc : (r s : Row) → r.doc < s.doc → by_spot r s ≡ Less
 earlier_doc r s h = rw (less_cmp r.doc s.doc h) refl
 
-earlier_pos : (r s : Row) → r.doc ≡ s.doc → r.pos < s.pos → by_row r s ≡ Less
+earlier_pos : (r s : Row) → r.doc ≡ s.doc → r.pos < s.pos → by_spot r s ≡ Less
 earlier_pos r s e h = rw (equal_cmp r.doc s.doc e, less_cmp r.pos s.pos h) refl
 
-earlier_facet : (d : ℕ) (v w : List ℕ) → slice_cmp nat_cmp v w ≡ Less → by_row (placed d 2 (0, v)) (placed d 2 (0, w)) ≡ Less
+earlier_facet : (d : ℕ) (v w : List ℕ) → slice_cmp nat_cmp v w ≡ Less → by_spot (placed d 2 (0, v)) (placed d 2 (0, w)) ≡ Less
 earlier_facet d v w h = rw (equal_cmp d d refl, h) refl
 
 -- a row of document d, at a position from lo on and before hi
@@ -68,8 +72,8 @@ record IsWithin (d lo hi : ℕ) (r : Row) : Type 0 where
   from : lo ≤ r.pos
   before : r.pos < hi
 
-within_below : (d lo mid hi : ℕ) (xs ys : List Row) → AllByRecursion (IsWithin d lo mid) xs → AllByRecursion (IsWithin d mid hi) ys → AreBelow by_row xs ys
-within_below d lo mid hi xs ys h k = below-from by_row (IsWithin d lo mid) (IsWithin d mid hi) (λ r s p q. earlier_pos r s (p.doc ∙ sym q.doc) (omega (arith, p.before, q.from))) xs ys h k
+within_below : (d lo mid hi : ℕ) (xs ys : List Row) → AllByRecursion (IsWithin d lo mid) xs → AllByRecursion (IsWithin d mid hi) ys → AreBelow by_spot xs ys
+within_below d lo mid hi xs ys h k = below-from by_spot (IsWithin d lo mid) (IsWithin d mid hi) (λ r s p q. earlier_pos r s (p.doc ∙ sym q.doc) (omega (arith, p.before, q.from))) xs ys h k
 
 wider : (d lo hi a b : ℕ) (xs : List Row) → a ≤ lo → hi ≤ b → AllByRecursion (IsWithin d lo hi) xs → AllByRecursion (IsWithin d a b) xs
 wider d lo hi a b xs l k h = all-weaker (IsWithin d lo hi) (IsWithin d a b) (λ r p. record { doc = p.doc; from = omega (arith, p.from); before = omega (arith, p.before) }) xs h
@@ -81,11 +85,11 @@ within-placed d score n (w ∷ ws) = (
   wider d (n + 1) (n + 1 + length ws) n (n + length (w ∷ ws)) (map (placed d score) (enumerate_from (n + 1) ws)) (omega arith) (omega arith) (within-placed d score (n + 1) ws),
 )
 
-sorted-placed : (d score n : ℕ) (ws : List (List ℕ)) → IsStrictlySortedBy by_row (map (placed d score) (enumerate_from n ws))
+sorted-placed : (d score n : ℕ) (ws : List (List ℕ)) → IsStrictlySortedBy by_spot (map (placed d score) (enumerate_from n ws))
 unfolding IsStrictlySortedBy
 sorted-placed d score n [] = tt
 sorted-placed d score n (w ∷ ws) = (
-  all-weaker (IsWithin d (n + 1) (n + 1 + length ws)) (λ s. by_row (placed d score (n, w)) s ≡ Less) (λ s q. earlier_pos (placed d score (n, w)) s (sym q.doc) (omega (arith, q.from)))
+  all-weaker (IsWithin d (n + 1) (n + 1 + length ws)) (λ s. by_spot (placed d score (n, w)) s ≡ Less) (λ s q. earlier_pos (placed d score (n, w)) s (sym q.doc) (omega (arith, q.from)))
       (map (placed d score) (enumerate_from (n + 1) ws)) (within-placed d score (n + 1) ws),
   sorted-placed d score (n + 1) ws,
 )
@@ -94,11 +98,11 @@ within-facets : (d : ℕ) (ws : List (List ℕ)) → AllByRecursion (IsWithin d 
 within-facets d [] = tt
 within-facets d (w ∷ ws) = (record { doc = refl; from = omega arith; before = omega arith }, within-facets d ws)
 
-later_facets : (d : ℕ) (v : List ℕ) (ws : List (List ℕ)) → AllByRecursion (λ w. slice_cmp nat_cmp v w ≡ Less) ws → AllByRecursion (λ s. by_row (placed d 2 (0, v)) s ≡ Less) (map (λ w. placed d 2 (0, w)) ws)
+later_facets : (d : ℕ) (v : List ℕ) (ws : List (List ℕ)) → AllByRecursion (λ w. slice_cmp nat_cmp v w ≡ Less) ws → AllByRecursion (λ s. by_spot (placed d 2 (0, v)) s ≡ Less) (map (λ w. placed d 2 (0, w)) ws)
 later_facets d v [] h = tt
 later_facets d v (w ∷ ws) h = (earlier_facet d v w h.0, later_facets d v ws h.1)
 
-sorted-facets : (d : ℕ) (ws : List (List ℕ)) → IsStrictlySortedBy (slice_cmp nat_cmp) ws → IsStrictlySortedBy by_row (map (λ w. placed d 2 (0, w)) ws)
+sorted-facets : (d : ℕ) (ws : List (List ℕ)) → IsStrictlySortedBy (slice_cmp nat_cmp) ws → IsStrictlySortedBy by_spot (map (λ w. placed d 2 (0, w)) ws)
 unfolding IsStrictlySortedBy
 sorted-facets d [] h = tt
 sorted-facets d (w ∷ ws) h = (later_facets d w ws h.0, sorted-facets d ws h.1)
@@ -125,12 +129,12 @@ module _ (d : ℕ) (doc : Doc) where
   within_front = all-append (IsWithin d 0 (titles + 1)) facets (title_rows d doc) (wider d 0 1 0 (titles + 1) facets (omega arith) (omega arith) (within-facets d (listed_facets doc.facets)))
       (wider d 1 (titles + 1) 0 (titles + 1) (title_rows d doc) (omega arith) (omega arith) within_titles)
 
-  sorted_front : IsStrictlySortedBy by_row (facets ++ title_rows d doc)
-  sorted_front = sorted-append by_row facets (title_rows d doc) (sorted-facets d (listed_facets doc.facets) (listing-rises (slice_cmp nat_cmp) (facet_words doc.facets)))
+  sorted_front : IsStrictlySortedBy by_spot (facets ++ title_rows d doc)
+  sorted_front = sorted-append by_spot facets (title_rows d doc) (sorted-facets d (listed_facets doc.facets) (listing-rises (slice_cmp nat_cmp) (facet_words doc.facets)))
       (sorted-placed d 4 1 (words doc.title)) (within_below d 0 1 (titles + 1) facets (title_rows d doc) (within-facets d (listed_facets doc.facets)) within_titles)
 
-  pub sorted-doc : IsStrictlySortedBy by_row (listed_doc (d, doc))
-  sorted-doc = sorted-append by_row (facets ++ title_rows d doc) (text_rows d doc) sorted_front (sorted-placed d 1 (titles + 9) (words doc.text))
+  sorted-doc : IsStrictlySortedBy by_spot (listed_doc (d, doc))
+  sorted-doc = sorted-append by_spot (facets ++ title_rows d doc) (text_rows d doc) sorted_front (sorted-placed d 1 (titles + 9) (words doc.text))
       (within_below d 0 (titles + 1) (titles + 9 + texts) (facets ++ title_rows d doc) (text_rows d doc) within_front within_texts)
 
   of_doc : AllByRecursion (λ r. r.doc ≡ d) (listed_doc (d, doc))
@@ -147,12 +151,32 @@ from_docs d (doc ∷ docs) =
     (all-weaker (λ r. r.doc ≡ d) (λ r. d ≤ r.doc) (λ r p. omega (arith, p)) (listed_doc (d, doc)) (of_doc d doc))
     (all-weaker (λ r. d + 1 ≤ r.doc) (λ r. d ≤ r.doc) (λ r p. omega (arith, p)) (listed_rows (d + 1) docs) (from_docs (d + 1) docs))
 
-pub sorted-rows : (d : ℕ) (docs : List Doc) → IsStrictlySortedBy by_row (listed_rows d docs)
+pub sorted-spots : (d : ℕ) (docs : List Doc) → IsStrictlySortedBy by_spot (listed_rows d docs)
 unfolding IsStrictlySortedBy
-sorted-rows d [] = tt
-sorted-rows d (doc ∷ docs) =
-    sorted-append by_row (listed_doc (d, doc)) (listed_rows (d + 1) docs) (sorted-doc d doc) (sorted-rows (d + 1) docs)
-    (below-from by_row (λ r. r.doc ≡ d) (λ s. d + 1 ≤ s.doc) (λ r s p q. earlier_doc r s (omega (arith, p, q))) (listed_doc (d, doc)) (listed_rows (d + 1) docs) (of_doc d doc) (from_docs (d + 1) docs))
+sorted-spots d [] = tt
+sorted-spots d (doc ∷ docs) =
+    sorted-append by_spot (listed_doc (d, doc)) (listed_rows (d + 1) docs) (sorted-doc d doc) (sorted-spots (d + 1) docs)
+    (below-from by_spot (λ r. r.doc ≡ d) (λ s. d + 1 ≤ s.doc) (λ r s p q. earlier_doc r s (omega (arith, p, q))) (listed_doc (d, doc)) (listed_rows (d + 1) docs) (of_doc d doc) (from_docs (d + 1) docs))
+
+before : (a b o e : Ordering) → ordering_then a (ordering_then b o) ≡ Less → ordering_then a (ordering_then b (ordering_then o e)) ≡ Less
+before Less b o e h = refl
+before Greater b o e h = h
+before Equal Less o e h = refl
+before Equal Greater o e h = h
+before Equal Equal Less e h = refl
+before Equal Equal Greater e h = h
+before Equal Equal Equal e h = absurd (true≢false (ap is_eq h))
+
+spot-row : (r s : Row) → by_spot r s ≡ Less → by_row r s ≡ Less
+spot-row r s h = before (nat_cmp r.doc s.doc) (nat_cmp r.pos s.pos) (slice_cmp nat_cmp r.word s.word) (nat_cmp r.score s.score) h
+
+rise_as_rows : (rows : List Row) → IsStrictlySortedBy by_spot rows → IsStrictlySortedBy by_row rows
+unfolding IsStrictlySortedBy
+rise_as_rows [] h = tt
+rise_as_rows (r ∷ rows) h = (all-weaker (λ s. by_spot r s ≡ Less) (λ s. by_row r s ≡ Less) (spot-row r) rows h.0, rise_as_rows rows h.1)
+
+sorted-rows : (d : ℕ) (docs : List Doc) → IsStrictlySortedBy by_row (listed_rows d docs)
+sorted-rows d docs = rise_as_rows (listed_rows d docs) (sorted-spots d docs)
 
 -- ---- the same rows
 
@@ -212,6 +236,21 @@ any_row q d (doc ∷ docs) =
 -- the rows of documents are their listing
 pub rows_listed : (docs : List Doc) → listed_rows 0 docs ≡ rows_of docs
 rows_listed docs = members_are by_row by_row_total by_row_exact (listed_rows 0 docs) (flat_map doc_rows (enumerate_from 0 docs)) (sorted-rows 0 docs) (λ q. any_row q 0 docs)
+
+-- no two rows of documents have one document, position and word
+pub spots-rise : (docs : List Doc) → IsStrictlySortedBy by_spot (rows_of docs)
+spots-rise docs = subst (IsStrictlySortedBy by_spot) (rows_listed docs) (sorted-spots 0 docs)
+
+below_docs : (d n : ℕ) (docs : List Doc) → d + length docs ≤ n → AllByRecursion (λ r. r.doc < n) (listed_rows d docs)
+below_docs d n [] h = tt
+below_docs d n (doc ∷ docs) h =
+    all-append (λ r. r.doc < n) (listed_doc (d, doc)) (listed_rows (d + 1) docs)
+    (all-weaker (λ r. r.doc ≡ d) (λ r. r.doc < n) (λ r p. omega (arith, p)) (listed_doc (d, doc)) (of_doc d doc))
+    (below_docs (d + 1) n docs (omega arith))
+
+-- the rows of documents are in documents
+pub docs-below : (docs : List Doc) → AllByRecursion (λ r. r.doc < length docs) (rows_of docs)
+docs-below docs = subst (AllByRecursion (λ r. r.doc < length docs)) (rows_listed docs) (below_docs 0 (length docs) docs (omega arith))
 
 -- ---- document after document
 

@@ -1,0 +1,11 @@
+pub mod AtomsLemmas
+pub mod BuildingLemmas
+pub mod ColonLemmas
+pub mod FoldsLemmas
+pub mod FoundLemmas
+pub mod HitsLemmas
+pub mod ListsLemmas
+pub mod ReplyLemmas
+pub mod TableLemmas
+pub mod UnionLemmas
+pub mod VocabLemmas

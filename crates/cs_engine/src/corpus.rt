@@ -8,8 +8,10 @@ ghost use Rattle.cs_model.specs.Requests.{reply_of};
 ghost use Rattle.cs_query.specs.RequestView.{asked};
 ghost use Rattle.cs_engine.specs.Searching.{searched, corpus_searched, has_join};
 
-use cs_base::{Doc, Memory, Row, Seq, Text};
-use cs_cols::Cols;
+use crate::building::{posts_of, titles_of};
+use crate::replies::reply_to;
+use crate::stock::Stock;
+use cs_base::{Doc, MAX_WORDS, Memory, Row, Seq};
 use cs_query::{Reply, Request};
 use cs_vocab::Vocab;
 use std::alloc::Global;
@@ -24,21 +26,22 @@ pub enum CorpusFault {
     Memory,
 }
 
-/// The titles of documents, and the rows of their words with each word as its number in the vocabulary.
+/// The titles of documents and the rows of their words, which contracts see as such.
 #[derive(Drop)]
 pub struct Corpus {
-    titles: Seq<Text>,
-    words: Vocab,
-    posts: Cols,
+    stock: Stock,
 }
 
 impl Model for Corpus {
-    ghost use Rattle.std.specs.Prelude.{[], map};
     ghost use Rattle.cs_engine.specs.Searching.{Searched};
 
     ghost Value = { Searched };
 
-    ghost view = { λ c. record { titles = c.titles; rows = [] } };
+    ghost use Rattle.cs_engine.specs.Stocked.{searched_in, IsStocked};
+
+    ghost view = { λ c. searched_in c.stock };
+
+    ghost invariant = { λ c. IsStocked c.stock };
 }
 
 impl Corpus {
@@ -53,10 +56,19 @@ impl Corpus {
         ensures few_words { OnOk result (length (distinct_words rows) ≤ 2 ^ 22) }
         ensures too_many_words { IsErrOf result CorpusFault.TooManyWords → 2 ^ 22 < length (distinct_words rows) }
     {
-        let _ = alloc;
-        let _ = docs;
-        let _ = rows;
-        Err(CorpusFault::Memory)
+        let words = Vocab::of(alloc, &rows)?;
+        if words.len() as usize > MAX_WORDS {
+            return Err(CorpusFault::TooManyWords);
+        }
+        let posts = posts_of(alloc, &words, &rows)?;
+        let titles = titles_of(alloc, docs)?;
+        Ok(Corpus {
+            stock: Stock {
+                titles,
+                words,
+                posts,
+            },
+        })
     }
 
     /// The reply to a request.
@@ -66,8 +78,18 @@ impl Corpus {
 
         ensures ok { IfOk result (λ r. r ≡ reply_of (corpus_searched self.now) (asked request.now)) }
     {
-        let _ = alloc;
-        let _ = request;
-        Err(Memory)
+        let reply = reply_to(alloc, &self.stock, request)?;
+        Ok(reply)
+    }
+}
+
+impl From<Memory> for CorpusFault {
+    ghost use Rattle.std.specs.Prelude.{◌≡◌};
+    ghost use Rattle.cs_engine.specs.declared.corpus.CorpusFault.{CorpusFault};
+
+    ghost from_gives = { λ _ e. e ≡ CorpusFault.Memory };
+
+    fn from(_: Memory) -> Self {
+        CorpusFault::Memory
     }
 }

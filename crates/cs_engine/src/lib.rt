@@ -4,8 +4,14 @@
 //! Nothing here reads a file.
 #![tactic(auto)]
 
+mod atoms;
+mod building;
 mod corpus;
+mod hits;
 mod joins;
+mod parts;
+mod replies;
+mod stock;
 
 pub use corpus::{Corpus, CorpusFault};
 pub use joins::has_join;

@@ -1,0 +1,123 @@
+-- Lists: filters, maps, members and numbers.
+--
+--   all_of               what holds of each value holds of all of a list
+--   map_alike            functions that agree on a list map it alike
+--   filter_twice         two filters are one
+--   and_turned           both tests, in either order
+--   own_members          each number of a list is a member of it
+--   keys_numbered        the keys of a numbered list are its numbers
+--   get_numbered         what is held at a number
+--   range_rises          numbers in turn ascend
+use Rattle.std.proofs.Common.{◌≡◌, ℕ, zero, suc, ◌+◌, ◌<◌, ◌≤◌, ◌==◌, ◌&&◌, ◌||◌, Bool, true, false, true≢false, List, [], ◌∷◌, T, cond, length, map, get_or, refl, sym, ◌∙◌, ap, subst, arith}
+use Rattle.std.specs.Prelude.{Some, filter}
+use Rattle.std.specs.List.{All, AllByRecursion, list_any, enumerate_from, range_with_len, slice_get}
+use Rattle.std.specs.List.Sorted.{IsStrictlySortedBy}
+use Rattle.std.specs.Ordering.{nat_cmp, is_lt, eq_by_cmp}
+use Rattle.std.specs.Cmp.{nat_cmp_total, unsigned_tied}
+use Rattle.std.specs.declared.cmp.Ordering.TheVariants.{Less}
+use Rattle.std.specs.FinMap.{get, keys, find, is_sorted, from_entries, from_sorted, same_map, get-from_entries, get-from_sorted, entries-from_sorted, nat_cmp-IsAntisymmetric}
+use Rattle.std.specs.FinMap.Entries.{below_all}
+use Rattle.std.proofs.lemmas.Bool.Decides.{nat_tests}
+use Rattle.std.proofs.lemmas.List.Folds.{list_any_at}
+
+pub all_of : {X : Type 0} (P : X → Type 0) → ((x : X) → P x) → (xs : List X) → AllByRecursion P xs
+all_of P h [] = tt
+all_of P h (x ∷ xs) = (h x, all_of P h xs)
+
+pub map_alike : {X Y : Type 0} (f g : X → Y) (xs : List X) → AllByRecursion (λ x. f x ≡ g x) xs → map f xs ≡ map g xs
+map_alike f g [] h = refl
+map_alike f g (x ∷ xs) h = ap (λ y. y ∷ map f xs) h.0 ∙ ap (λ ys. g x ∷ ys) (map_alike f g xs h.1)
+
+pub filter_twice : {X : Type 0} (p q : X → Bool) (xs : List X) → filter (λ x. p x && q x) xs ≡ filter q (filter p xs)
+filter_twice p q [] = refl
+filter_twice p q (x ∷ xs) =
+    elim (p x) as (λ b. cond (b && q x) (x ∷ filter (λ x. p x && q x) xs) (filter (λ x. p x && q x) xs) ≡ filter q (cond b (x ∷ filter p xs) (filter p xs))) [
+      | true ↦ ap (λ l. cond (q x) (x ∷ l) l) (filter_twice p q xs)
+      | false ↦ filter_twice p q xs
+    ]
+
+pub and_turned : (a b : Bool) → (a && b) ≡ (b && a)
+and_turned true true = refl
+and_turned true false = refl
+and_turned false true = refl
+and_turned false false = refl
+
+pub same_number : (x y : ℕ) → (x == y) ≡ true → x ≡ y
+same_number x y h = grind (arith, nat_tests)
+
+pub itself : (x : ℕ) → (x == x) ≡ true
+itself x = grind (arith, nat_tests)
+
+pub number_tie : (q x : ℕ) → eq_by_cmp nat_cmp q x ≡ (x == q)
+number_tie q x = grind (arith, nat_tests)
+
+pub own_members : (ds : List ℕ) → All (λ d. list_any (λ e. e == d) ds ≡ true) ds
+own_members ds k d l = list_any_at (λ e. e == get_or ds k d) ds k d l (itself (get_or ds k d))
+
+pub any_tie : (q : ℕ) (ds : List ℕ) → list_any (eq_by_cmp nat_cmp q) ds ≡ list_any (λ e. e == q) ds
+any_tie q [] = refl
+any_tie q (d ∷ ds) = ap (λ b. b || list_any (eq_by_cmp nat_cmp q) ds) (number_tie q d) ∙ ap (λ b. (d == q) || b) (any_tie q ds)
+
+-- ---- numbered lists
+
+both : (a b : Bool) → T a → T b → T (a && b)
+both true b p q = q
+both false b p q = p
+
+below : (a b : ℕ) → a < b → T (is_lt (nat_cmp a b))
+below a b h = grind (arith, nat_tests)
+
+module _ {X : Type 0} where
+  later : (a b : ℕ) (xs : List X) → a < b → T (below_all nat_cmp a (enumerate_from b xs))
+  later a b [] h = tt
+  later a b (x ∷ xs) h = both _ _ (below a b h) (later a (b + 1) xs (omega arith))
+
+  numbered : (a : ℕ) (xs : List X) → T (is_sorted nat_cmp (enumerate_from a xs))
+  numbered a [] = tt
+  numbered a (x ∷ xs) = both _ _ (later a (a + 1) xs (omega arith)) (numbered (a + 1) xs)
+
+  places : (a : ℕ) (xs : List X) → map (λ e. e.0) (enumerate_from a xs) ≡ range_with_len a (length xs)
+  places a [] = refl
+  places a (x ∷ xs) = ap (λ l. a ∷ l) (places (a + 1) xs)
+
+  pub keys_numbered : (xs : List X) → keys (from_entries {R = nat_cmp} (enumerate_from 0 xs)) ≡ range_with_len 0 (length xs)
+  keys_numbered xs =
+      let es = enumerate_from 0 xs in
+      let rising = numbered 0 xs in
+      let one : from_entries {R = nat_cmp} es ≡ from_sorted es = same_map nat_cmp_total nat_cmp-IsAntisymmetric _ _ (λ q.
+      get-from_entries nat_cmp_total es q ∙ sym (get-from_sorted nat_cmp es q rising)) in
+      ap keys one ∙ ap (map (λ e. e.0)) (entries-from_sorted nat_cmp es rising) ∙ places 0 xs
+
+  found_at : (a : ℕ) (xs : List X) (i q : ℕ) → a + i ≡ q → find nat_cmp q (enumerate_from a xs) ≡ slice_get xs i
+  found_at a [] i q e = refl
+  found_at a (x ∷ xs) zero q e =
+      let same : (q == a) ≡ true = grind (arith, nat_tests) in
+      ap (λ b. cond b (Some x) (find nat_cmp q (enumerate_from (a + 1) xs))) (unsigned_tied q a ∙ same)
+  found_at a (x ∷ xs) (suc i) q e =
+      let other : (q == a) ≡ false = grind (arith, nat_tests) in
+      ap (λ b. cond b (Some x) (find nat_cmp q (enumerate_from (a + 1) xs))) (unsigned_tied q a ∙ other)
+      ∙ found_at (a + 1) xs i q (omega arith)
+
+  pub get_numbered : (xs : List X) (d : ℕ) → get (from_entries {R = nat_cmp} (enumerate_from 0 xs)) d ≡ slice_get xs d
+  get_numbered xs d = get-from_entries nat_cmp_total (enumerate_from 0 xs) d ∙ found_at 0 xs d d (omega arith)
+
+less_number : (x y : ℕ) → x < y → nat_cmp x y ≡ Less
+less_number x y h = grind (arith, nat_tests)
+
+range_above : (a b n : ℕ) → a < b → AllByRecursion (λ d. nat_cmp a d ≡ Less) (range_with_len b n)
+range_above a b zero h = tt
+range_above a b (suc n) h = (less_number a b h, range_above a (b + 1) n (omega arith))
+
+pub range_rises : (a n : ℕ) → IsStrictlySortedBy nat_cmp (range_with_len a n)
+unfolding IsStrictlySortedBy
+range_rises a zero = tt
+range_rises a (suc n) = (range_above a (a + 1) n (omega arith), range_rises (a + 1) n)
+
+-- a number below the end is in the range
+pub in_range : (a n d : ℕ) → a ≤ d → d < a + n → list_any (λ e. e == d) (range_with_len a n) ≡ true
+in_range a zero d low high = absurd (omega arith)
+in_range a (suc n) d low high =
+    elim (a == d) as (λ b. a == d ≡ b → (b || list_any (λ e. e == d) (range_with_len (a + 1) n)) ≡ true) [
+      | true ↦ λ e. refl
+      | false ↦ λ e. in_range (a + 1) n d (grind (arith, nat_tests)) (omega arith)
+    ] refl

@@ -1,0 +1,166 @@
+-- The lists of a reply.
+--
+--   titled, untitled     the title of a document that there is, and of one that there isn't
+--   facet_shown-at       the table of a facet, by the documents of a base
+use Rattle.std.proofs.Common.{◌≡◌, ℕ, zero, suc, ◌+◌, ◌<◌, ◌≤◌, ◌^◌, Bool, true, false, List, [], ◌∷◌, ◌++◌, length, map, take, drop, get_or, cond, refl, sym, ◌∙◌, ap, subst, arith, append-nil}
+use Rattle.std.specs.Prelude.{filter}
+use Rattle.std.specs.Option.{unwrap_or}
+use Rattle.std.specs.List.{All, AllByRecursion, enumerate_from, list_any, list_all, take-map, range_with_len}
+use Rattle.std.specs.List.Sorted.{IsStrictlySortedBy}
+use Rattle.std.specs.Ordering.{nat_cmp}
+use Rattle.std.specs.FinMap.{get, from_entries, keys}
+use Rattle.std.proofs.lemmas.List.{length-map}
+use Rattle.std.proofs.lemmas.List.Elements.{All-from_recursion, recursion_from_All}
+use Rattle.std.proofs.lemmas.List.FromFn.{length-range_with_len}
+use Rattle.std.proofs.lemmas.List.Kept.{IsStrictlySortedBy-filter}
+use Rattle.std.proofs.lemmas.Option.{slice_get_past, slice_get-get_or}
+use Rattle.cs_base.specs.Members.{members_in}
+use Rattle.cs_base.specs.Orders.{by_row, by_rank}
+use Rattle.cs_base.specs.declared.doc.Base.{Base}
+use Rattle.cs_base.specs.declared.doc.Post.{Post}
+use Rattle.cs_base.specs.declared.doc.Row.{Row}
+use Rattle.cs_base.specs.declared.doc.Scored.{Scored}
+use Rattle.cs_base.proofs.MembersLemmas.{listed_itself}
+use Rattle.cs_base.proofs.OrdersLemmas.{by_row_total, by_row_exact}
+use Rattle.cs_meet.specs.Filters.{AreSorted, keep_docs}
+use Rattle.cs_meet.specs.Filters as meet
+use Rattle.cs_model.specs.Answers.{PartRows, begins, is_listed, hits, pairs, ranked, table_of, facet_part, facet_table}
+use Rattle.cs_model.specs.Answers as answers
+use Rattle.cs_model.specs.Collection.{named}
+use Rattle.cs_model.specs.Corpus.{Corpus}
+use Rattle.cs_model.specs.Replies.{Reply, Shown, HitShown, FacetShown}
+use Rattle.cs_model.specs.Requests.{Request, reply_of, reply_to, shown_of, hit_shown, facet_shown}
+use Rattle.cs_tables.specs.declared.tables.Completion.{Completion as Numbered}
+use Rattle.cs_tables.specs.Listings.{table}
+use Rattle.cs_engine.specs.Stocked.{word_at, row_of, rows_at, corpus_in, listed, docs_in, scored_hits, named_at, shown_at, facet_rows, facet_at, title_at, IsKnown, IsStocked, IsPicked, IsFound}
+use Rattle.cs_engine.specs.declared.stock.Stock.{Stock}
+use Rattle.cs_engine.proofs.VocabLemmas.{filter_through, rows_rise, all_then}
+use Rattle.cs_engine.proofs.ListsLemmas.{get_numbered, all_of, map_alike, keys_numbered}
+use Rattle.cs_engine.proofs.UnionLemmas.{picked_known, picked_words}
+use Rattle.cs_engine.proofs.HitsLemmas.{kept_pairs, listed_docs}
+use Rattle.cs_engine.proofs.AtomsLemmas.{words_known}
+use Rattle.cs_engine.proofs.TableLemmas.{table_through, table_known}
+
+-- ---- titles
+
+pub titled : (titles : List (List ℕ)) (d : ℕ) (blank : List ℕ) → d < length titles → title_at titles d ≡ get_or titles d blank
+titled titles d blank h = ap (λ o. unwrap_or o []) (get_numbered titles d ∙ slice_get-get_or titles d blank h)
+
+pub untitled : (titles : List (List ℕ)) (d : ℕ) → length titles ≤ d → title_at titles d ≡ []
+untitled titles d h = ap (λ o. unwrap_or o []) (get_numbered titles d ∙ slice_get_past titles d h)
+
+take_all_of : {X : Type 0} (P : X → Type 0) (n : ℕ) (xs : List X) → AllByRecursion P xs → AllByRecursion P (take n xs)
+take_all_of P zero xs h = tt
+take_all_of P (suc n) [] h = tt
+take_all_of P (suc n) (x ∷ xs) h = (h.0, take_all_of P n xs h.1)
+
+module _ (s : Stock) (kept : IsStocked s) where
+  -- the first words of a table are there
+  pub first_known : (posts : List Post) (cut : ℕ) (first : List Numbered) → IsPicked s posts → first ≡ take cut (table posts) → All (λ c. c.word < length s.words) first
+  first_known posts cut first picked is =
+      subst (All (λ c. c.word < length s.words)) (sym is)
+      (All-from_recursion (λ c. c.word < length s.words) (take cut (table posts)) (take_all_of (λ c. c.word < length s.words) cut (table posts) (table_known s.words kept.words posts (picked_words s posts kept picked.among))))
+
+  pub few_docs : (posts : List Post) → IsPicked s posts → All (λ p. p.doc < 2 ^ 20) posts
+  few_docs posts picked =
+      All-from_recursion (λ p. p.doc < 2 ^ 20) posts (all_then (IsKnown s) (λ p. p.doc < 2 ^ 20) (λ p h. omega (arith, h.doc, kept.few_docs)) posts (picked_known s posts kept picked.among))
+
+  pub below_end : (posts : List Post) (n : ℕ) → IsPicked s posts → n ≡ length s.titles → All (λ p. p.doc < n) posts
+  below_end posts n picked is =
+      All-from_recursion (λ p. p.doc < n) posts (all_then (IsKnown s) (λ p. p.doc < n) (λ p h. subst (λ m. p.doc < m) (sym is) h.doc) posts (picked_known s posts kept picked.among))
+
+  pub few_words : (posts : List Post) → IsPicked s posts → All (λ p. p.word < 2 ^ 22) posts
+  few_words posts picked =
+      All-from_recursion (λ p. p.word < 2 ^ 22) posts (all_then (IsKnown s) (λ p. p.word < 2 ^ 22) (λ p h. omega (arith, h.word, kept.few_words)) posts (picked_known s posts kept picked.among))
+
+  -- the first words of a table, as they are shown
+  pub words_shown : (posts : List Post) (cut : ℕ) (first : List Numbered) → IsPicked s posts → first ≡ take cut (table posts) → map (shown_at s.words) first ≡ map shown_of (take cut (table_of (rows_at s.words posts)))
+  words_shown posts cut first picked is =
+      ap (map (shown_at s.words)) is
+      ∙ sym (through (take cut (table posts)))
+      ∙ ap (map shown_of) (sym (take-map (named_at s.words) cut (table posts)) ∙ ap (take cut) (table_through s.words kept.words posts (picked_words s posts kept picked.among)))
+    where
+      through : (cs : List Numbered) → map shown_of (map (named_at s.words) cs) ≡ map (shown_at s.words) cs
+      through [] = refl
+      through (c ∷ cs) = ap (λ l. shown_at s.words c ∷ l) (through cs)
+
+  pub table_total : (posts : List Post) → IsPicked s posts → length (table posts) ≡ length (table_of (rows_at s.words posts))
+  table_total posts picked = sym (length-map (table posts) (named_at s.words)) ∙ ap length (table_through s.words kept.words posts (picked_words s posts kept picked.among))
+
+  -- the rows of a facet in the documents of a base
+  pub facet_kept : (b : Base) (name : List ℕ) (posts found : List Post) → rows_at s.words posts ≡ filter (λ r. begins (named name []) r.word) (rows_at s.words s.posts.posts) → found ≡ keep_docs posts (docs_in (length s.titles) b) → rows_at s.words found ≡ facet_rows s b name
+  facet_kept b name posts found is kept_is =
+      ap (rows_at s.words) kept_is ∙ filter_through (row_of s.words) (λ r. is_listed (docs_in (length s.titles) b) r.doc) posts ∙ ap (filter (λ r. is_listed (docs_in (length s.titles) b) r.doc)) is
+
+filter_few : {X : Type 0} (p : X → Bool) (xs : List X) → length (filter p xs) ≤ length xs
+filter_few p [] = omega arith
+filter_few p (x ∷ xs) =
+    let rest = filter_few p xs in
+    elim (p x) as (λ b. length (cond b (x ∷ filter p xs) (filter p xs)) ≤ length (x ∷ xs)) [
+      | true ↦ omega (arith, rest)
+      | false ↦ omega (arith, rest)
+    ]
+
+module _ (s : Stock) (kept : IsStocked s) (ps : List PartRows) (b : Base) (posts : List Post) (found : IsFound s ps b posts) where
+  abbrev k : Corpus
+  k = corpus_in s
+
+  -- there are at most as many hits as documents
+  pub hits_few : length (listed (length s.titles) b) ≤ length s.titles
+  hits_few =
+      omega (
+        arith,
+        ap length found.hits,
+        length-map (hits k ps) (answers.scored ps),
+        filter_few (λ d. list_all (answers.agrees d) ps) (keys k.titles),
+        ap length (keys_numbered s.titles),
+        length-range_with_len 0 (length s.titles),
+      )
+
+  module _ (name : List ℕ) where
+    abbrev asked_posts : List Post
+    asked_posts = filter (λ p. begins (named name []) (word_at s.words p.word)) s.posts.posts
+
+    abbrev asked_rows : List Row
+    asked_rows = filter (λ r. begins (named name []) r.word) (rows_at s.words s.posts.posts)
+
+    asked_is : rows_at s.words asked_posts ≡ asked_rows
+    asked_is = filter_through (row_of s.words) (λ r. begins (named name []) r.word) s.posts.posts
+
+    facet_is : rows_at s.words asked_posts ≡ (facet_part k name).rows
+    facet_is =
+        asked_is
+        ∙ listed_itself by_row by_row_total by_row_exact asked_rows (IsStrictlySortedBy-filter by_row (λ r. begins (named name []) r.word) (rows_at s.words s.posts.posts) (rows_rise s.words kept.words s.posts.posts (words_known s s.posts.posts kept.known) kept.sorted))
+        ∙ ap (members_in by_row) (sym (append-nil asked_rows))
+
+    facet_pairs : facet_rows s b name ≡ pairs k (ps ++ facet_part k name ∷ [])
+    facet_pairs =
+        sym (facet_kept s kept b name asked_posts (keep_docs asked_posts (docs_in (length s.titles) b)) asked_is refl)
+        ∙ ap (λ ds. rows_at s.words (keep_docs asked_posts ds)) (listed_docs s ps (facet_part k name) asked_posts facet_is b found.hits)
+        ∙ kept_pairs s ps (facet_part k name) asked_posts facet_is refl
+
+  facets_are : (cut : ℕ) (names : List (List ℕ)) → map (facet_at s b cut) names ≡ map (facet_shown k ps cut) names
+  facets_are cut names =
+      map_alike (facet_at s b cut) (facet_shown k ps cut) names (all_of (λ name. facet_at s b cut name ≡ facet_shown k ps cut name) (λ name.
+      ap (λ (rows : List Row). let f : FacetShown = record { name = name; table = map shown_of (take cut (table_of rows)) } in f) (facet_pairs name)) names)
+
+  pub reply_made : (r : Request) → ps ≡ answers.parts_of k r.query → (c : List Shown) (f : List FacetShown) (h : List HitShown) (tc th : ℕ)
+      → c ≡ map shown_of (take r.completions (table_of (rows_at s.words posts)))
+      → f ≡ map (facet_at s b r.completions) r.facets
+      → h ≡ map (hit_shown k) (take r.hits (drop r.offset (members_in by_rank (listed (length s.titles) b))))
+      → tc ≡ length (table_of (rows_at s.words posts))
+      → th ≡ length (listed (length s.titles) b)
+      → ◌≡◌ {A = Reply} (record { completions = c; facets = f; hits = h; total_completions = tc; total_hits = th }) (reply_of k r)
+  unfolding reply_of
+  reply_made r parts c f h tc th c_is f_is h_is tc_is th_is =
+      let by : List Shown → List FacetShown → List HitShown → ℕ → ℕ → Reply = λ c f h tc th. record { completions = c; facets = f; hits = h; total_completions = tc; total_hits = th } in
+      let c2 : c ≡ map shown_of (take r.completions (answers.table k ps)) = c_is ∙ ap (λ rows. map shown_of (take r.completions (table_of rows))) found.pairs in
+      let f2 : f ≡ map (facet_shown k ps r.completions) r.facets = f_is ∙ facets_are r.completions r.facets in
+      let h2 : h ≡ map (hit_shown k) (take r.hits (drop r.offset (ranked k ps))) = h_is ∙ ap (λ hs. map (hit_shown k) (take r.hits (drop r.offset (members_in by_rank hs)))) found.hits in
+      let tc2 : tc ≡ length (answers.table k ps) = tc_is ∙ ap (λ rows. length (table_of rows)) found.pairs in
+      let th2 : th ≡ length (hits k ps) = th_is ∙ ap length found.hits ∙ length-map (hits k ps) (answers.scored ps) in
+      ap (λ x. by x f h tc th) c2 ∙ ap (λ x. by (map shown_of (take r.completions (answers.table k ps))) x h tc th) f2
+      ∙ ap (λ x. by (map shown_of (take r.completions (answers.table k ps))) (map (facet_shown k ps r.completions) r.facets) x tc th) h2
+      ∙ ap (λ x. by (map shown_of (take r.completions (answers.table k ps))) (map (facet_shown k ps r.completions) r.facets) (map (hit_shown k) (take r.hits (drop r.offset (ranked k ps)))) x th) tc2
+      ∙ ap (λ x. by (map shown_of (take r.completions (answers.table k ps))) (map (facet_shown k ps r.completions) r.facets) (map (hit_shown k) (take r.hits (drop r.offset (ranked k ps)))) (length (answers.table k ps)) x) th2
+      ∙ ap (λ qs. reply_to k qs r) parts

@@ -1,0 +1,245 @@
+-- Alternatives, and chains of linked atoms, by the posts that stand for their rows.
+--
+--   one_post         of sorted posts one alone has a document, position and word
+--   united           what unites two lists of picked posts stands for the listing of their rows
+--   united_more      one more list goes into a listing
+--   linked_phrase, linked_near    links of rows are links of posts
+use Rattle.std.proofs.Common.{◌≡◌, ℕ, ◌+◌, ◌-◌, ◌<◌, ◌==◌, ◌&&◌, ◌||◌, Bool, true, false, true≢false, not, List, [], ◌∷◌, ◌++◌, length, map, take, drop, drop-cons, add-one, get_or, cond, refl, sym, ◌∙◌, ap, subst, arith}
+use Rattle.std.specs.Prelude.{filter, nat_lt, nat_le}
+use Rattle.std.specs.List.{All, AllByRecursion, Contains, list_any, flat_map}
+use Rattle.std.specs.List.Sorted.{IsPermutation, IsStrictlySortedBy}
+use Rattle.std.specs.Ordering.{nat_cmp, eq_by_cmp, ordering_then, is_lt}
+use Rattle.std.specs.declared.cmp.Ordering.{Ordering}
+use Rattle.std.specs.declared.cmp.Ordering.TheVariants.{Less, Equal}
+use Rattle.std.proofs.lemmas.Bool.Decides.{nat_tests}
+use Rattle.std.proofs.lemmas.Grind.{flat_map-append}
+use Rattle.std.proofs.lemmas.List.{map-append, get_or_default, take_more}
+use Rattle.std.proofs.lemmas.List.Elements.{All-filter, All-append, recursion_from_All, All-nil}
+use Rattle.std.proofs.lemmas.List.Folds.{list_any-append}
+use Rattle.std.proofs.lemmas.List.Sorted.{list_any-IsPermutation, All-permutation, IsPermutation-refl}
+use Rattle.std.proofs.lemmas.Map.Keys.{Less-from_sorted}
+use Rattle.cs_base.specs.Members.{members_in}
+use Rattle.cs_base.specs.Orders.{by_row, by_place}
+use Rattle.cs_base.specs.declared.doc.Post.{Post}
+use Rattle.cs_base.specs.declared.doc.Row.{Row}
+use Rattle.cs_base.specs.declared.query.Chain.{Chain}
+use Rattle.cs_base.specs.declared.query.Linked.{Linked, out-Linked}
+use Rattle.cs_base.specs.declared.query.Link.{Link}
+use Rattle.cs_base.specs.declared.query.Link.TheVariants.{Phrase, Near}
+use Rattle.cs_base.proofs.MembersLemmas.{members_are, members-alike, is_member-listed, listed_itself}
+use Rattle.cs_base.proofs.OrdersLemmas.{by_row_total, by_row_exact}
+use Rattle.cs_meet.specs.Filters.{AreSorted, IsUnion, shares_place, missing, follow, near, stands_behind, is_near}
+use Rattle.cs_model.specs.Answers.{LinkedRows, is_linked, linked_to, union_of, chained, rows_of_chain, rows_of_linked, rows_of_atom}
+use Rattle.cs_engine.specs.Stocked.{row_of, rows_at, corpus_in, linked_posts, IsKnown, IsStocked, IsPicked}
+use Rattle.cs_engine.proofs.AtomsLemmas.{picked_again}
+use Rattle.cs_engine.proofs.FoldsLemmas.{linked_rows-is}
+use Rattle.cs_engine.specs.declared.stock.Stock.{Stock}
+use Rattle.cs_engine.proofs.VocabLemmas.{filter_through, filter_alike, any_through, all_then, three_ways, rows_rise}
+
+-- ---- one post at a place
+
+tie_numbers : (x y : ℕ) → (x == y) ≡ true → nat_cmp x y ≡ Equal
+tie_numbers x y h = grind (arith, nat_tests)
+
+tie_back : (x y : ℕ) → (x == y) ≡ true → nat_cmp y x ≡ Equal
+tie_back x y h = grind (arith, nat_tests)
+
+and_first : (a b : Bool) → (a && b) ≡ true → a ≡ true
+and_first true b h = refl
+and_first false b h = h
+
+and_second : (a b : Bool) → (a && b) ≡ true → b ≡ true
+and_second true b h = h
+and_second false b h = absurd (true≢false (sym h))
+
+tied : (a b c : Ordering) → a ≡ Equal → b ≡ Equal → c ≡ Equal → ordering_then a (ordering_then b c) ≡ Equal
+tied a b c p q r = ap (λ o. ordering_then o (ordering_then b c)) p ∙ ap (λ o. ordering_then o c) q ∙ r
+
+module _ (x y : Post) (same : shares_place x y ≡ true) where
+  doc_same : (y.doc == x.doc) ≡ true
+  doc_same = and_first _ _ same
+
+  pos_same : (y.pos == x.pos) ≡ true
+  pos_same = and_first _ _ (and_second (y.doc == x.doc) _ same)
+
+  word_same : (y.word == x.word) ≡ true
+  word_same = and_second (y.pos == x.pos) _ (and_second (y.doc == x.doc) _ same)
+
+  tied_on : by_place y x ≡ Equal
+  tied_on = tied (nat_cmp y.doc x.doc) (nat_cmp y.pos x.pos) (nat_cmp y.word x.word) (tie_numbers _ _ doc_same) (tie_numbers _ _ pos_same) (tie_numbers _ _ word_same)
+
+  tied_over : by_place x y ≡ Equal
+  tied_over = tied (nat_cmp x.doc y.doc) (nat_cmp x.pos y.pos) (nat_cmp x.word y.word) (tie_back _ _ doc_same) (tie_back _ _ pos_same) (tie_back _ _ word_same)
+
+not_both : (o : Ordering) → o ≡ Less → o ≡ Equal → true ≡ false
+not_both o l e = sym (ap is_lt l) ∙ ap is_lt e
+
+pub one_post : (posts : List Post) → AreSorted posts → (x y : Post) → Contains posts x → Contains posts y → shares_place x y ≡ true → x ≡ y
+one_post posts up x y (i, i_in, at_x) (j, j_in, at_y) same =
+    let at_y' : get_or posts j x ≡ y = get_or_default posts j x y j_in ∙ at_y in
+    three_ways i j
+    (λ h. absurd (true≢false (not_both (by_place x y) (ap (λ p. by_place p y) (sym at_x) ∙ ap (by_place (get_or posts i x)) (sym at_y') ∙ Less-from_sorted by_place posts i j x up h j_in) (tied_over x y same))))
+    (λ h. sym at_x ∙ ap (λ k. get_or posts k x) h ∙ at_y')
+    (λ h. absurd (true≢false (not_both (by_place y x) (ap (λ p. by_place p x) (sym at_y') ∙ ap (by_place (get_or posts j x)) (sym at_x) ∙ Less-from_sorted by_place posts j i x up h i_in) (tied_on x y same))))
+
+-- ---- unions
+
+module _ (posts : List Post) (up : AreSorted posts) (test : Post → Bool) where
+  untested : (x : Post) (a : List Post) → Contains posts x → AllByRecursion (Contains posts) a → list_any (shares_place x) a ≡ true → list_any test a ≡ false → test x ≡ false
+  untested x [] inside all shared none = absurd (true≢false (sym shared))
+  untested x (y ∷ a) inside all shared none =
+      elim (test y) as (λ t. test y ≡ t → (t || list_any test a) ≡ false → test x ≡ false) [
+        | true ↦ λ e n. absurd (true≢false n)
+        | false ↦ λ e n. elim (shares_place x y) as (λ s. shares_place x y ≡ s → (s || list_any (shares_place x) a) ≡ true → test x ≡ false) [
+          | true ↦ λ same r. ap test (one_post posts up x y inside all.0 same) ∙ e
+          | false ↦ λ same r. untested x a inside all.1 r n
+        ] refl shared
+      ] refl none
+
+  any_missing : (a b : List Post) → AllByRecursion (Contains posts) a → AllByRecursion (Contains posts) b → list_any test a ≡ false → list_any test (missing a b) ≡ list_any test b
+  any_missing a [] all_a all_b none = refl
+  any_missing a (x ∷ b) all_a all_b none =
+      elim (list_any (shares_place x) a) as (λ s. list_any (shares_place x) a ≡ s → list_any test (cond (not s) (x ∷ missing a b) (missing a b)) ≡ (test x || list_any test b)) [
+        | true ↦ λ s. any_missing a b all_a all_b.1 none ∙ sym (ap (λ t. t || list_any test b) (untested x a all_b.0 all_a s none))
+        | false ↦ λ s. ap (λ t. test x || t) (any_missing a b all_a all_b.1 none)
+      ] refl
+
+  any_united : (a b : List Post) → AllByRecursion (Contains posts) a → AllByRecursion (Contains posts) b → list_any test (a ++ missing a b) ≡ list_any test (a ++ b)
+  any_united a b all_a all_b =
+      list_any-append test a (missing a b)
+      ∙ elim (list_any test a) as (λ t. list_any test a ≡ t → (t || list_any test (missing a b)) ≡ (t || list_any test b)) [
+        | true ↦ λ e. refl
+        | false ↦ λ e. any_missing a b all_a all_b e
+      ] refl
+      ∙ sym (list_any-append test a b)
+
+pub known_at : (s : Stock) (all : List Post) (p : Post) → Contains all p → All (IsKnown s) all → IsKnown s p
+known_at s all p (k, l, e) h = subst (IsKnown s) e (h k p l)
+
+pub picked_known : (s : Stock) (posts : List Post) → IsStocked s → All (Contains s.posts.posts) posts → AllByRecursion (IsKnown s) posts
+picked_known s posts kept among =
+    all_then (Contains s.posts.posts) (IsKnown s) (λ p h. known_at s s.posts.posts p h kept.known) posts (recursion_from_All (Contains s.posts.posts) posts among)
+
+pub picked_words : (s : Stock) (posts : List Post) → IsStocked s → All (Contains s.posts.posts) posts → AllByRecursion (λ p. p.word < length s.words) posts
+picked_words s posts kept among =
+    all_then (IsKnown s) (λ p. p.word < length s.words) (λ p h. h.word) posts (picked_known s posts kept among)
+
+pub united : (s : Stock) (a b c : List Post) → IsStocked s → IsPicked s a → IsPicked s b → IsUnion a b c → AreSorted c → (rows_at s.words c ≡ members_in by_row (rows_at s.words a ++ rows_at s.words b)) × IsPicked s c
+united s a b c kept in_a in_b union up =
+    let posts = s.posts.posts in
+    let among : All (Contains posts) c = All-permutation (Contains posts) (a ++ missing a b) c union (All-append (Contains posts) a (missing a b) in_a.among (All-filter _ (Contains posts) b in_b.among)) in
+    let all_a = recursion_from_All (Contains posts) a in_a.among in
+    let all_b = recursion_from_All (Contains posts) b in_b.among in
+    (
+      members_are by_row by_row_total by_row_exact (rows_at s.words c) (rows_at s.words a ++ rows_at s.words b)
+      (rows_rise s.words kept.words c (picked_words s c kept among) up)
+      (λ q.
+      any_through (row_of s.words) (eq_by_cmp by_row q) c
+      ∙ sym (list_any-IsPermutation (λ p. eq_by_cmp by_row q (row_of s.words p)) (a ++ missing a b) c union)
+      ∙ any_united posts kept.sorted (λ p. eq_by_cmp by_row q (row_of s.words p)) a b all_a all_b
+      ∙ sym (any_through (row_of s.words) (eq_by_cmp by_row q) (a ++ b))
+      ∙ ap (list_any (eq_by_cmp by_row q)) (map-append (row_of s.words) a b)),
+      record { sorted = up; among = among },
+    )
+
+-- one more list of rows
+pub united_more : (found next : List Row) (chains : List (List Row)) → found ≡ union_of chains → members_in by_row (found ++ next) ≡ union_of (chains ++ next ∷ [])
+united_more found next chains is =
+    members-alike by_row by_row_total by_row_exact (found ++ next) (flat_map (λ rows. rows) (chains ++ next ∷ [])) (λ q.
+    list_any-append (eq_by_cmp by_row q) found next
+    ∙ ap (λ b. b || list_any (eq_by_cmp by_row q) next) (ap (list_any (eq_by_cmp by_row q)) is ∙ is_member-listed by_row by_row_total (flat_map (λ rows. rows) chains) q)
+    ∙ sym (list_any-append (eq_by_cmp by_row q) (flat_map (λ rows. rows) chains) next)
+    ∙ ap (list_any (eq_by_cmp by_row q)) (sym (last_piece chains)))
+  where
+    none_behind : (rows : List Row) → rows ++ [] ≡ rows
+    none_behind [] = refl
+    none_behind (r ∷ rows) = ap (λ l. r ∷ l) (none_behind rows)
+    last_piece : (chains : List (List Row)) → flat_map (λ rows. rows) (chains ++ next ∷ []) ≡ flat_map (λ rows. rows) chains ++ next
+    last_piece chains = flat_map-append (λ rows. rows) chains (next ∷ []) ∙ ap (λ l. flat_map (λ rows. rows) chains ++ l) (none_behind next)
+
+-- ---- links
+
+pub linked_phrase : (ws : List (List ℕ)) (a b : List Post) → rows_at ws (follow a b) ≡ linked_to Phrase (rows_at ws a) (rows_at ws b)
+linked_phrase ws a b =
+    ap (rows_at ws) (filter_alike (λ r. list_any (stands_behind r) a) (λ r. list_any (is_linked Phrase (row_of ws r)) (rows_at ws a)) b (each b))
+    ∙ filter_through (row_of ws) (λ r. list_any (is_linked Phrase r) (rows_at ws a)) b
+  where
+    each : (b : List Post) → AllByRecursion (λ r. list_any (stands_behind r) a ≡ list_any (is_linked Phrase (row_of ws r)) (rows_at ws a)) b
+    each [] = tt
+    each (r ∷ b) = (sym (any_through (row_of ws) (is_linked Phrase (row_of ws r)) a), each b)
+
+near_is : (d e p q : ℕ) → ((e == d) && (nat_lt 0 q && (nat_lt 0 p && (nat_lt 0 ((q - p) + (p - q)) && nat_le ((q - p) + (p - q)) 8)))) ≡ ((e == d) && ((nat_lt 0 q && nat_lt 0 p) && (not (q == p) && (nat_le q (p + 8) && nat_le p (q + 8)))))
+near_is d e p q = grind (arith, nat_tests)
+
+pub linked_near : (ws : List (List ℕ)) (a b : List Post) → rows_at ws (near a b) ≡ linked_to Near (rows_at ws a) (rows_at ws b)
+linked_near ws a b =
+    ap (rows_at ws) (filter_alike (λ r. list_any (is_near r) a) (λ r. list_any (is_linked Near (row_of ws r)) (rows_at ws a)) b (each b))
+    ∙ filter_through (row_of ws) (λ r. list_any (is_linked Near r) (rows_at ws a)) b
+  where
+    each_post : (r : Post) (a : List Post) → list_any (is_near r) a ≡ list_any (λ x. is_linked Near (row_of ws r) (row_of ws x)) a
+    each_post r [] = refl
+    each_post r (x ∷ a) = ap (λ t. t || list_any (is_near r) a) (near_is r.doc x.doc r.pos x.pos) ∙ ap (λ t. is_linked Near (row_of ws r) (row_of ws x) || t) (each_post r a)
+    each : (b : List Post) → AllByRecursion (λ r. list_any (is_near r) a ≡ list_any (is_linked Near (row_of ws r)) (rows_at ws a)) b
+    each [] = tt
+    each (r ∷ b) = (each_post r a ∙ sym (any_through (row_of ws) (is_linked Near (row_of ws r)) a), each b)
+
+pub linked : (s : Stock) (link : Link) (a b c : List Post) → IsPicked s b → c ≡ linked_posts link a b → (rows_at s.words c ≡ linked_to link (rows_at s.words a) (rows_at s.words b)) × IsPicked s c
+linked s Phrase a b c picked is = (ap (rows_at s.words) is ∙ linked_phrase s.words a b, picked_again s _ b c picked is)
+linked s Near a b c picked is = (ap (rows_at s.words) is ∙ linked_near s.words a b, picked_again s _ b c picked is)
+
+-- ---- the steps of the loops
+
+none_missing : (b : List Post) → missing [] b ≡ b
+none_missing [] = refl
+none_missing (x ∷ b) = ap (λ l. x ∷ l) (none_missing b)
+
+pub with_nothing : (a b : List Post) → length a ≡ 0 → IsUnion a b b
+with_nothing [] b h = subst (λ xs. IsPermutation xs b) (sym (none_missing b)) (IsPermutation-refl b)
+with_nothing (x ∷ a) b h = absurd (omega (arith, h))
+
+nothing_sorted : AreSorted []
+unfolding IsStrictlySortedBy
+nothing_sorted = tt
+
+none_rise : IsStrictlySortedBy by_row []
+unfolding IsStrictlySortedBy
+none_rise = tt
+
+nothing_listed : [] ≡ members_in by_row []
+nothing_listed = listed_itself by_row by_row_total by_row_exact [] none_rise
+
+pub no_chains : (s : Stock) (found : List Post) → found ≡ [] → (rows_at s.words found ≡ union_of []) × IsPicked s found
+no_chains s found is = (ap (rows_at s.words) is ∙ nothing_listed, subst (IsPicked s) (sym is) (record { sorted = nothing_sorted; among = All-nil _ }))
+
+pub one_more_chain : (s : Stock) (chains : List Chain) (i : ℕ) (x : Chain) (found next now : List Post) → IsStocked s → i < length chains → x ≡ get_or chains i x
+    → rows_at s.words found ≡ union_of (map (rows_of_chain (corpus_in s)) (take i chains)) → IsPicked s found
+    → rows_at s.words next ≡ rows_of_chain (corpus_in s) x → IsPicked s next
+    → IsUnion found next now → AreSorted now
+    → (rows_at s.words now ≡ union_of (map (rows_of_chain (corpus_in s)) (take (i + 1) chains))) × IsPicked s now
+one_more_chain s chains i x found next now kept l at is picked next_is next_picked union up =
+    let all = united s found next now kept picked next_picked union up in
+    let f : Chain → List Row = rows_of_chain (corpus_in s) in
+    let more : map f (take (i + 1) chains) ≡ map f (take i chains) ++ f x ∷ [] =
+    ap (map f) (take_more chains i x l) ∙ map-append f (take i chains) (get_or chains i x ∷ []) ∙ ap (λ y. map f (take i chains) ++ f y ∷ []) (sym at) in
+    (
+      all.0 ∙ ap (λ rows. members_in by_row (rows_at s.words found ++ rows)) next_is ∙ united_more (rows_at s.words found) (f x) (map f (take i chains)) is ∙ ap union_of (sym more),
+      all.1,
+    )
+
+pub one_more_link : (s : Stock) (links : List Linked) (i : ℕ) (x : Linked) (whole : List Row) (found next now : List Post) → i < length links → x ≡ get_or links i x
+    → whole ≡ chained (rows_at s.words found) (map (rows_of_linked (corpus_in s)) (drop i links))
+    → rows_at s.words next ≡ rows_of_atom (corpus_in s) (out-Linked x).atom → IsPicked s next
+    → now ≡ linked_posts (out-Linked x).link found next
+    → (whole ≡ chained (rows_at s.words now) (map (rows_of_linked (corpus_in s)) (drop (i + 1) links))) × IsPicked s now
+one_more_link s links i x whole found next now l at is next_is next_picked now_is =
+    let f : Linked → LinkedRows = rows_of_linked (corpus_in s) in
+    let link = (out-Linked x).link in
+    let last = linked s link found next now next_picked now_is in
+    let here : f x ≡ record { link = link; rows = rows_at s.words next } = linked_rows-is (corpus_in s) x ∙ ap (λ (rows : List Row). let r : LinkedRows = record { link = link; rows = rows } in r) (sym next_is) in
+    let rest : drop i links ≡ x ∷ drop (i + 1) links = drop-cons links i x l ∙ ap (λ n. get_or links i x ∷ drop n links) (sym (add-one i)) ∙ ap (λ y. y ∷ drop (i + 1) links) (sym at) in
+    (
+      is ∙ ap (λ xs. chained (rows_at s.words found) (map f xs)) rest
+      ∙ ap (λ y. chained (linked_to y.link (rows_at s.words found) y.rows) (map f (drop (i + 1) links))) here
+      ∙ ap (λ rows. chained rows (map f (drop (i + 1) links))) (sym last.0),
+      last.1,
+    )

@@ -1,0 +1,113 @@
+-- Lists and orders through the vocabulary: a post stands for a row, and numbers of words ascend as their bytes do.
+--
+--   filter_through       a filter of rows is one of posts
+--   filter_alike         tests that agree on a list filter it alike
+--   any_through          a test of rows is one of posts
+--   less_word            numbers of words ascend as the words do
+--   rows_rise            sorted posts stand for rows in order
+--   posts_rise           posts that stand for rows in order are sorted
+use Rattle.std.proofs.Common.{◌≡◌, ℕ, ◌<◌, ◌≤◌, Bool, true, false, true≢false, ◌||◌, cond, List, [], ◌∷◌, length, map, get_or, refl, sym, ◌∙◌, ap, subst, arith}
+use Rattle.std.specs.Prelude.{filter, nat_lt}
+use Rattle.std.specs.List.{AllByRecursion, list_any}
+use Rattle.std.specs.List.Sorted.{IsStrictlySortedBy}
+use Rattle.std.specs.Ordering.{nat_cmp, ordering_then, is_eq, is_lt}
+use Rattle.std.specs.Cmp.{tied_itself}
+use Rattle.std.specs.Cmp.Lexicographic.{slice_cmp}
+use Rattle.std.specs.declared.cmp.Ordering.{Ordering}
+use Rattle.std.specs.declared.cmp.Ordering.TheVariants.{Less, Equal, Greater}
+use Rattle.std.proofs.lemmas.Bool.Decides.{nat_tests}
+use Rattle.std.proofs.lemmas.Cmp.{nat_list_cmp_total}
+use Rattle.std.proofs.lemmas.Map.Keys.{Less-from_sorted}
+use Rattle.cs_base.specs.Orders.{by_row, by_place}
+use Rattle.cs_base.specs.declared.doc.Post.{Post}
+use Rattle.cs_meet.specs.Filters.{AreSorted}
+use Rattle.cs_docs.proofs.ListingLemmas.{by_spot}
+use Rattle.cs_engine.specs.Stocked.{word_at, row_of, rows_at}
+
+module _ {X Y : Type 0} (f : X → Y) where
+  pub filter_through : (p : Y → Bool) (xs : List X) → map f (filter (λ x. p (f x)) xs) ≡ filter p (map f xs)
+  filter_through p [] = refl
+  filter_through p (x ∷ xs) =
+      elim (p (f x)) as (λ b. map f (cond b (x ∷ filter (λ x. p (f x)) xs) (filter (λ x. p (f x)) xs)) ≡ cond b (f x ∷ filter p (map f xs)) (filter p (map f xs))) [
+        | true ↦ ap (λ l. f x ∷ l) (filter_through p xs)
+        | false ↦ filter_through p xs
+      ]
+
+  pub any_through : (p : Y → Bool) (xs : List X) → list_any p (map f xs) ≡ list_any (λ x. p (f x)) xs
+  any_through p [] = refl
+  any_through p (x ∷ xs) = ap (λ b. p (f x) || b) (any_through p xs)
+
+pub filter_alike : {X : Type 0} (p q : X → Bool) (xs : List X) → AllByRecursion (λ x. p x ≡ q x) xs → filter p xs ≡ filter q xs
+filter_alike p q [] h = refl
+filter_alike p q (x ∷ xs) h = ap (λ b. cond b (x ∷ filter p xs) (filter p xs)) h.0 ∙ ap (λ l. cond (q x) (x ∷ l) l) (filter_alike p q xs h.1)
+
+pub all_then : {X : Type 0} (P Q : X → Type 0) → ((x : X) → P x → Q x) → (xs : List X) → AllByRecursion P xs → AllByRecursion Q xs
+all_then P Q f [] h = tt
+all_then P Q f (x ∷ xs) h = (f x h.0, all_then P Q f xs h.1)
+
+is_less : (x y : ℕ) → nat_cmp x y ≡ Less → x < y
+is_less x y h = grind (arith, nat_tests)
+
+pub three_ways : {G : Type 0} (k n : ℕ) → (k < n → G) → (k ≡ n → G) → (n < k → G) → G
+three_ways {G} k n f g h =
+    elim (nat_lt k n) as (λ b. nat_lt k n ≡ b → G) [
+      | true ↦ λ t. f (grind (arith, nat_tests))
+      | false ↦ λ t. elim (nat_lt n k) as (λ b. nat_lt n k ≡ b → G) [
+        | true ↦ λ u. h (grind (arith, nat_tests))
+        | false ↦ λ u. g (grind (arith, nat_tests))
+      ] refl
+    ] refl
+
+less_number : (x y : ℕ) → x < y → nat_cmp x y ≡ Less
+less_number x y h = grind (arith, nat_tests)
+
+module _ (ws : List (List ℕ)) (up : IsStrictlySortedBy (slice_cmp nat_cmp) ws) where
+  pub less_word : (m n : ℕ) → m < n → n < length ws → slice_cmp nat_cmp (word_at ws m) (word_at ws n) ≡ Less
+  less_word m n h l = Less-from_sorted (slice_cmp nat_cmp) ws m n [] up h l
+
+  not_less : (m n : ℕ) → n ≤ m → m < length ws → slice_cmp nat_cmp (word_at ws m) (word_at ws n) ≡ Less → m < n
+  not_less m n h l less = three_ways m n (λ t. t)
+      (λ t. absurd (true≢false (sym (ap is_lt (ap (λ k. slice_cmp nat_cmp (word_at ws m) (word_at ws k)) t ∙ less)) ∙ ap is_lt (tied_itself nat_list_cmp_total (word_at ws m)))))
+      (λ t. absurd (true≢false (sym (ap is_lt (nat_list_cmp_total.trans (word_at ws n) (word_at ws m) (word_at ws n) (less_word n m t l) less)) ∙ ap is_lt (tied_itself nat_list_cmp_total (word_at ws n)))))
+
+  -- words that ascend have numbers that do
+  pub less_back : (m n : ℕ) → m < length ws → n < length ws → slice_cmp nat_cmp (word_at ws m) (word_at ws n) ≡ Less → m < n
+  less_back m n k l less = three_ways m n (λ t. t) (λ t. not_less m n (omega (arith, t)) k less) (λ t. not_less m n (omega (arith, t)) k less)
+
+  through : (a b e : Ordering) (m n : ℕ) → n < length ws → ordering_then a (ordering_then b (nat_cmp m n)) ≡ Less → ordering_then a (ordering_then b (ordering_then (slice_cmp nat_cmp (word_at ws m) (word_at ws n)) e)) ≡ Less
+  through Less b e m n l h = refl
+  through Greater b e m n l h = h
+  through Equal Less e m n l h = refl
+  through Equal Greater e m n l h = h
+  through Equal Equal e m n l h = ap (λ o. ordering_then o e) (less_word m n (is_less m n h) l)
+
+  pub row_less : (p q : Post) → q.word < length ws → by_place p q ≡ Less → by_row (row_of ws p) (row_of ws q) ≡ Less
+  row_less p q l h = through (nat_cmp p.doc q.doc) (nat_cmp p.pos q.pos) (nat_cmp p.score q.score) p.word q.word l h
+
+  back : (a b : Ordering) (m n : ℕ) → m < length ws → n < length ws → ordering_then a (ordering_then b (slice_cmp nat_cmp (word_at ws m) (word_at ws n))) ≡ Less → ordering_then a (ordering_then b (nat_cmp m n)) ≡ Less
+  back Less b m n k l h = refl
+  back Greater b m n k l h = h
+  back Equal Less m n k l h = refl
+  back Equal Greater m n k l h = h
+  back Equal Equal m n k l h = less_number m n (less_back m n k l h)
+
+  abbrev pub HasWord : Post → Type 0
+  HasWord p = p.word < length ws
+
+  rest_rise : (p : Post) (ps : List Post) → AllByRecursion HasWord ps → AllByRecursion (λ q. by_place p q ≡ Less) ps → AllByRecursion (λ r. by_row (row_of ws p) r ≡ Less) (rows_at ws ps)
+  rest_rise p [] l h = tt
+  rest_rise p (q ∷ ps) l h = (row_less p q l.0 h.0, rest_rise p ps l.1 h.1)
+
+  pub rows_rise : (ps : List Post) → AllByRecursion HasWord ps → AreSorted ps → IsStrictlySortedBy by_row (rows_at ws ps)
+  unfolding IsStrictlySortedBy
+  rows_rise [] l h = tt
+  rows_rise (p ∷ ps) l h = (rest_rise p ps l.1 h.0, rows_rise ps l.1 h.1)
+
+  rest_back : (p : Post) (ps : List Post) → HasWord p → AllByRecursion HasWord ps → AllByRecursion (λ r. by_spot (row_of ws p) r ≡ Less) (rows_at ws ps) → AllByRecursion (λ q. by_place p q ≡ Less) ps
+  rest_back p [] k l h = tt
+  rest_back p (q ∷ ps) k l h = (back (nat_cmp p.doc q.doc) (nat_cmp p.pos q.pos) p.word q.word k l.0 h.0, rest_back p ps k l.1 h.1)
+
+  pub posts_rise : (ps : List Post) → AllByRecursion HasWord ps → IsStrictlySortedBy by_spot (rows_at ws ps) → AreSorted ps
+  unfolding IsStrictlySortedBy
+  posts_rise [] l h = tt
+  posts_rise (p ∷ ps) l h = (rest_back p ps l.0 l.1 h.0, posts_rise ps l.1 h.1)

@@ -1,0 +1,11 @@
+use Rattle.std.proofs.Common.{◌≡◌, ◌∙◌, ap, sym, subst, arith}
+use Rattle.std.specs.List.{All}
+use Rattle.cs_model.specs.Corpus.{distinct_words}
+use Rattle.cs_engine.specs.Stocked.{IsNumbered, rows_at}
+use Rattle.cs_engine.proofs.BuildingLemmas.{stocked_new}
+use Rattle.cs_engine.proofs.corpus.Corpus.new.Goals as goal
+
+pub invariant_of-result : goal.invariant_of-result
+invariant_of-result c =
+    stocked_new _ c.args.docs c.args.rows c.requires.rows c.requires.few_docs c.requires.utf8 c.in_ok-titles.ensures.ok c.in_ok-words.ensures.ok
+    (omega (arith, c.len.ensures.value, c.if-len-gt-MAX_WORDS.false)) c.in_ok-posts.ensures.ok c.in_ok-posts.ensures.numbered

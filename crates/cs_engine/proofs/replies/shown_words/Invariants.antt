@@ -1,0 +1,6 @@
+use Rattle.std.proofs.Common.{◌≡◌, ◌++◌, drop, map}
+use Rattle.cs_engine.specs.Stocked.{shown_at}
+use Rattle.cs_engine.proofs.replies.shown_words.Given as goal
+
+abbrev pub invariant-loop-completion : goal.invariant-loop-completion
+invariant-loop-completion l = map (shown_at l.words) l.first ≡ l.shown ++ map (shown_at l.words) (drop l.completion-index l.first)

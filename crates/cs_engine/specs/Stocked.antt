@@ -1,0 +1,148 @@
+-- How a corpus is kept in memory: titles, vocabulary, and posts, whose words are numbers in the vocabulary.
+--
+--   word_at ws n           word n; the empty text where there are fewer words
+--   row_of ws p            the row that a post stands for
+--   rows_at ws posts       the rows that posts stand for
+--   searched_in s          the titles and rows of a stock
+--   corpus_in s            the corpus of a stock
+--   IsKnown s p            the post's document and word are there
+--   IsNumbered ws p        the post's word is there, and its score fits a byte
+--   IsStocked s            what a stock keeps
+--   IsPicked s posts       posts are some of the stock's, in order
+--   IsSpan ws test lo hi   the words that pass a test are those from number lo up to hi, hi left out
+--   is_between lo hi p     the post's word is one of these
+--   atom_test a w          the word w is one that an atom without a join asks for
+--   linked_posts link a b  the posts of b that are linked to a post of a
+--   every n                the documents from 0 up to n, each with the score 0
+--   listed n base          the documents that a base lists, of n documents
+--   docs_in n base         their numbers
+--   scored_hits k ps       the hits with their scores, by document
+--   named_at ws c          a completion with its word in place of the word's number
+--   shown_at ws c          it as it is shown
+--   title_at titles d      the title of document d; the empty text where there are fewer
+--   facet_rows s base n    the rows of the facet words of a name in the documents of a base
+--   facet_at s base cut n  their table as it is shown
+--   IsFound s ps base pairs      a base lists the hits of parts with their scores, and pairs are theirs
+use Rattle.std.specs.Prelude.{ℕ, ◌*◌, ◌≡◌, ◌≤◌, ◌<◌, ◌^◌, ◌&&◌, Bool, false, nat_le, nat_lt, List, [], map, filter, take, length, slice_index_or}
+use Rattle.std.specs.List.{All, Contains, range_with_len, enumerate_from}
+use Rattle.std.specs.Option.{unwrap_or}
+use Rattle.std.specs.FinMap as map
+use Rattle.std.specs.List.Sorted.{IsStrictlySortedBy}
+use Rattle.std.specs.Ordering.{nat_cmp}
+use Rattle.std.specs.Cmp.Lexicographic.{slice_cmp}
+use Rattle.std.specs.Str.{IsUtf8, bytes_eq}
+use Rattle.cs_base.specs.declared.doc.Base.{Base}
+use Rattle.cs_base.specs.declared.doc.Base.TheVariants as base
+use Rattle.cs_base.specs.declared.doc.Post.{Post}
+use Rattle.cs_base.specs.declared.doc.Row.{Row}
+use Rattle.cs_base.specs.declared.doc.Scored.{Scored}
+use Rattle.cs_base.specs.declared.query.Atom.{Atom}
+use Rattle.cs_base.specs.declared.query.Atom.TheVariants as atom
+use Rattle.cs_base.specs.declared.query.Link.{Link}
+use Rattle.cs_base.specs.declared.query.Link.TheVariants.{Phrase, Near}
+use Rattle.cs_meet.specs.Filters.{AreSorted, follow, near}
+use Rattle.cs_model.specs.Answers.{PartRows, Completion, begins, is_listed, hits, pairs, scored, table_of}
+use Rattle.cs_model.specs.Collection.{named}
+use Rattle.cs_model.specs.Replies.{Shown, FacetShown}
+use Rattle.cs_model.specs.Requests.{shown_of}
+use Rattle.cs_tables.specs.declared.tables.Completion.{Completion as Numbered}
+use Rattle.cs_model.specs.Corpus.{Corpus}
+use Rattle.cs_engine.specs.Searching.{Searched, corpus_searched}
+use Rattle.cs_engine.specs.declared.stock.Stock.{Stock}
+
+-- ---- rows by their posts
+abbrev pub word_at : List (List ℕ) → ℕ → List ℕ
+word_at ws n = slice_index_or ws n []
+
+abbrev pub row_of : List (List ℕ) → Post → Row
+row_of ws p = record { doc = p.doc; word = word_at ws p.word; pos = p.pos; score = p.score }
+
+abbrev pub rows_at : List (List ℕ) → List Post → List Row
+rows_at ws posts = map (row_of ws) posts
+
+abbrev pub searched_in : Stock → Searched
+searched_in s = record { titles = s.titles; rows = rows_at s.words s.posts.posts }
+
+abbrev pub corpus_in : Stock → Corpus
+corpus_in s = corpus_searched (searched_in s)
+
+-- ---- what is kept
+pub record IsKnown (s : Stock) (p : Post) : Type 0 where
+  pub doc : p.doc < length s.titles
+  pub word : p.word < length s.words
+  pub score : p.score ≤ 255
+
+pub record IsNumbered (ws : List (List ℕ)) (p : Post) : Type 0 where
+  pub word : p.word < length ws
+  pub score : p.score ≤ 255
+
+-- words ascend and are texts, posts ascend and are known, and there aren't too many
+pub record IsStocked (s : Stock) : Type 0 where
+  pub words : IsStrictlySortedBy (slice_cmp nat_cmp) s.words
+  pub few_words : length s.words ≤ 2 ^ 22
+  pub texts : All IsUtf8 s.words
+  pub few_docs : length s.titles ≤ 2 ^ 20
+  pub sorted : AreSorted s.posts.posts
+  pub known : All (IsKnown s) s.posts.posts
+
+pub record IsPicked (s : Stock) (posts : List Post) : Type 0 where
+  pub sorted : AreSorted posts
+  pub among : All (Contains s.posts.posts) posts
+
+-- ---- atoms
+abbrev pub is_between : ℕ → ℕ → Post → Bool
+is_between lo hi p = nat_le lo p.word && nat_lt p.word hi
+
+-- where no word passes, lo is hi or more
+abbrev pub IsSpan : List (List ℕ) → (List ℕ → Bool) → ℕ → ℕ → Type 0
+IsSpan ws test lo hi = (n : ℕ) → n < length ws → test (word_at ws n) ≡ (nat_le lo n && nat_lt n hi)
+
+-- a join asks for no word
+abbrev pub atom_test : Atom → List ℕ → Bool
+atom_test (atom.Prefix p) w = begins p w
+atom_test (atom.Exact e) w = bytes_eq w e
+atom_test (atom.Join name inner) w = false
+
+-- ---- links
+abbrev pub linked_posts : Link → List Post → List Post → List Post
+linked_posts Phrase a b = follow a b
+linked_posts Near a b = near a b
+
+-- ---- hits
+-- in order
+abbrev pub every : ℕ → List Scored
+every n = map (λ d. record { doc = d; score = 0 }) (range_with_len 0 n)
+
+abbrev pub listed : ℕ → Base → List Scored
+listed n base.All = every n
+listed n (base.Listed hs) = hs
+
+abbrev pub scored_hits : Corpus → List PartRows → List Scored
+scored_hits k ps = map (scored ps) (hits k ps)
+
+abbrev pub docs_in : ℕ → Base → List ℕ
+docs_in n b = map (λ h. h.doc) (listed n b)
+
+-- ---- tables
+abbrev pub named_at : List (List ℕ) → Numbered → Completion
+named_at ws c = record { docs = c.docs; word = word_at ws c.word }
+
+abbrev pub shown_at : List (List ℕ) → Numbered → Shown
+shown_at ws c = shown_of (named_at ws c)
+
+abbrev pub title_at : List (List ℕ) → ℕ → List ℕ
+title_at titles d = unwrap_or (map.get (map.from_entries {R = nat_cmp} (enumerate_from 0 titles)) d) []
+
+abbrev pub facet_rows : Stock → Base → List ℕ → List Row
+facet_rows s b n = filter (λ r. is_listed (docs_in (length s.titles) b) r.doc) (filter (λ r. begins (named n []) r.word) (rows_at s.words s.posts.posts))
+
+abbrev pub facet_at : Stock → Base → ℕ → List ℕ → FacetShown
+facet_at s b cut n = record { name = n; table = map shown_of (take cut (table_of (facet_rows s b n))) }
+
+-- ---- what is found
+-- of no part every document is a hit, with the score 0
+pub record IsFound (s : Stock) (ps : List PartRows) (b : Base) (posts : List Post) : Type 0 where
+  pub hits : listed (length s.titles) b ≡ scored_hits (corpus_in s) ps
+  pub small : All (λ h. h.score ≤ 255 * length ps) (listed (length s.titles) b)
+  pub pairs : rows_at s.words posts ≡ pairs (corpus_in s) ps
+  pub picked : IsPicked s posts
