@@ -1,5 +1,5 @@
 -- A run that could do all and met no fault did all, or found no memory.
-use Rattle.std.proofs.Common.{◌≡◌, ◌⊎◌, ℕ, List, inl, inr, refl, sym, ◌∙◌}
+use Rattle.std.proofs.Common.{◌≡◌, ◌⊎◌, ℕ, List, inl, inr, refl, sym, subst, ◌∙◌}
 use Rattle.std.specs.Prelude.{Option, Some, None}
 use Rattle.std.specs.FinMap as map
 use Rattle.cs_base.specs.Causes.{Rose}
@@ -15,7 +15,7 @@ ended not_built x fb fn ob on is cause all files out = let e : not_built ≡ don
 ended usage x fb fn ob on is cause all files out = let e : usage ≡ done = is ∙ all in cc
 ended (absent name) x fb fn ob on is cause all files out = let e : absent name ≡ done = is ∙ all in cc
 ended (refused r) x fb fn ob on is cause all files out = let e : refused r ≡ done = is ∙ all in cc
-ended (script_refused f) x fb fn ob on is cause all files out = let e : script_refused f ≡ done = is ∙ all in cc
+ended (script_refused f) x fb fn ob on is cause all files out = let e : script_refused f ≡ done = subst (IsExpected (script_refused f)) all is in cc
 ended failed x fb fn ob on is cause all files out = elim cause.0 [ inl r ↦ absurd (files r) | inr r ↦ absurd (out r) ]
 ended no_memory x fb fn ob on is cause all files out = inr refl
 

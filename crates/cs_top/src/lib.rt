@@ -17,6 +17,6 @@ mod words;
 pub use command::run;
 
 #[cfg(test)]
-mod tests;
-#[cfg(test)]
 mod script_tests;
+#[cfg(test)]
+mod tests;
