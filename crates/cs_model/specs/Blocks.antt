@@ -16,6 +16,7 @@ use Rattle.cs_base.specs.GapCode.{code}
 use Rattle.cs_base.specs.Orders.{by_place}
 use Rattle.cs_base.specs.declared.block.BlockHead.{BlockHead}
 use Rattle.cs_base.specs.declared.doc.Post.{Post}
+use Rattle.cs_base.specs.declared.limits.TheConstants.{MAX_WORDS}
 
 -- 0 in the same document as the row before
 unfoldable pub gap_column : ℕ → List Post → List ℕ
@@ -52,4 +53,4 @@ pub record IsShaped (head : BlockHead) (size : ℕ) : Type 0 where
   pub rows : head.words ≤ head.rows
   pub least : 8 * head.rows ≤ head.len
   pub most : head.len ≤ 12 * head.rows
-  pub words : head.lo + head.words ≤ 2 ^ 22
+  pub words : head.lo + head.words ≤ MAX_WORDS
