@@ -10,7 +10,7 @@
 --   canonical q          the canonical text of a query, as bytes; the empty text for the query without parts
 --   canonical_part, canonical_chain, canonical_linked, canonical_atom     those of its parts
 --   canonical_parts ps   the canonical text of the query with the parts ps
-use Rattle.std.specs.Prelude.{ℕ, if◌then◌else◌, List, [], ◌∷◌, ◌++◌, map, codes}
+use Rattle.std.specs.Prelude.{ℕ, if◌then◌else◌, List, [], ◌++◌, map, codes}
 use Rattle.std.specs.List.{concat, join_with_byte}
 use Rattle.cs_base.specs.declared.query.Link.{Link}
 use Rattle.cs_base.specs.declared.query.Link.TheVariants.{Phrase, Near}
