@@ -9,7 +9,7 @@ use Rattle.std.specs.Prelude.{if◌then◌else◌, codes}
 use Rattle.std.specs.List.{concat, join_with_byte}
 use Rattle.std.proofs.lemmas.List.{append-nil, map-append}
 use Rattle.cs_base.specs.declared.query.Link.{Link}
-use Rattle.cs_base.specs.declared.query.Query.{Query, roll-Query}
+use Rattle.cs_base.specs.declared.query.Query.{roll-Query}
 use Rattle.cs_base.specs.declared.query.Part.{Part, roll-Part, out-Part, out-roll-Part}
 use Rattle.cs_base.specs.declared.query.Chain.{Chain, roll-Chain, out-Chain}
 use Rattle.cs_base.specs.declared.query.Linked.{Linked, roll-Linked}

@@ -2,14 +2,14 @@
 --
 --   query_shape, part_shape, chain_shape, linked_shape     the text of each by the texts of what it has
 --   prefix_shape, exact_shape, join_shape                  the text of each atom
-use Rattle.std.proofs.Common.{◌≡◌, ℕ, List, [], ◌++◌, map, refl, ap, ◌∙◌, sym}
+use Rattle.std.proofs.Common.{◌≡◌, ℕ, List, [], ◌++◌, map, ap, ◌∙◌, sym}
 use Rattle.std.specs.Prelude.{if◌then◌else◌, codes}
 use Rattle.std.specs.List.{concat, join_with_byte}
-use Rattle.cs_base.specs.declared.query.Query.{Query, roll-Query, out-Query, roll-out-Query}
-use Rattle.cs_base.specs.declared.query.Part.{Part, roll-Part, out-Part, roll-out-Part}
-use Rattle.cs_base.specs.declared.query.Chain.{Chain, roll-Chain, out-Chain, roll-out-Chain}
-use Rattle.cs_base.specs.declared.query.Linked.{Linked, roll-Linked, out-Linked, roll-out-Linked}
-use Rattle.cs_base.specs.declared.query.Atom.{Atom, Prefix, Exact, roll-Atom}
+use Rattle.cs_base.specs.declared.query.Query.{Query, out-Query, roll-out-Query}
+use Rattle.cs_base.specs.declared.query.Part.{Part, out-Part, roll-out-Part}
+use Rattle.cs_base.specs.declared.query.Chain.{Chain, out-Chain, roll-out-Chain}
+use Rattle.cs_base.specs.declared.query.Linked.{Linked, out-Linked, roll-out-Linked}
+use Rattle.cs_base.specs.declared.query.Atom.{Prefix, Exact, roll-Atom}
 use Rattle.cs_base.specs.declared.query.Atom.TheVariants.{rolls-Prefix, rolls-Exact}
 use Rattle.cs_base.specs.declared.query.Atom.TheOpen.{Atom-F}
 use Rattle.cs_base.specs.declared.query.Atom.TheFolds.{fold-roll-Query, fold-roll-Part, fold-roll-Chain, fold-roll-Linked, fold-roll-Atom}

@@ -3,29 +3,28 @@
 --   Closed ps           pieces, and all brackets closed behind them
 --   Canon bs            what is shown of an accepted text bs and of the canonical text of its query
 --   read_again, different, short, no_longer, keep_counts     the laws
-use Rattle.std.proofs.Common.{◌≡◌, ℕ, zero, suc, ◌+◌, ◌-◌, ◌≤◌, List, [], ◌∷◌, ◌++◌, map, length, refl, ap, ◌∙◌, sym, subst, Bool, true, false, arith, length-append}
+use Rattle.std.proofs.Common.{◌≡◌, ℕ, zero, suc, ◌+◌, ◌≤◌, List, [], ◌∷◌, ◌++◌, map, length, refl, ap, ◌∙◌, sym, subst, Bool, true, false, arith, length-append}
 use Rattle.std.specs.Prelude.{◌&&◌, encode_utf8_all}
-use Rattle.std.specs.Char.{encode_utf8}
 use Rattle.std.specs.Str.{chars, IsUtf8, all_scalars}
 use Rattle.std.proofs.lemmas.List.{take_all}
 use Rattle.std.proofs.lemmas.Str.{chars-encodes, encodes-chars, scalars-chars}
 use Rattle.cs_base.specs.declared.query.Link.TheVariants.{Phrase, Near}
 use Rattle.cs_base.specs.declared.query.Part.{Part}
-use Rattle.cs_base.specs.declared.query.Query.{Query, roll-Query}
+use Rattle.cs_base.specs.declared.query.Query.{roll-Query}
 use Rattle.cs_model.specs.declared.kinds.Level.{Level}
 use Rattle.cs_model.specs.declared.kinds.Tie.{Tie}
 use Rattle.cs_model.specs.declared.kinds.Tie.TheVariants.{Begins, Alternative, Linked as LinkedBy}
 use Rattle.cs_model.specs.Tokens.{tokens, size}
-use Rattle.cs_model.specs.Grammar.{Reading, reading, steps, leave, closed, all_closed, query_of}
-use Rattle.cs_model.specs.Refusals.{IsAccepted, IsOfGrammar, verdict, depth, parts_in, atoms_in}
-use Rattle.cs_model.specs.Canonical.{link_text, canonical, canonical_parts}
+use Rattle.cs_model.specs.Grammar.{Reading, reading, steps, leave, all_closed, query_of}
+use Rattle.cs_model.specs.Refusals.{IsAccepted, verdict, depth, parts_in, atoms_in}
+use Rattle.cs_model.specs.Canonical.{canonical, canonical_parts}
 use Rattle.cs_model.specs.CanonicalLaws.{AreReadAgain, AreDifferent, AreShort, AreNoLonger, KeepCounts}
-use Rattle.cs_model.proofs.Pieces.{Piece, Plain, Whole, Valued, WholeValued, Opens, Closes, step_of, IsWord, IsValue, fresh, open_in, Well, between, before, spelled, told, toks}
+use Rattle.cs_model.proofs.Pieces.{Piece, Plain, Whole, Valued, WholeValued, Opens, Closes, step_of, IsWord, IsValue, fresh, open_in, Well, between, told, toks}
 use Rattle.cs_model.proofs.PieceTokens.{both_first, both_second, tokens_told, steps_toks}
 use Rattle.cs_model.proofs.PieceText.{sign_behind, close_alone, levels_text, Printed, printed}
 use Rattle.cs_model.proofs.AttachedText.{rolled_query}
 use Rattle.cs_model.proofs.PassedTokens.{Passes, passes, kept_tokens}
-use Rattle.cs_model.proofs.KeptPieces.{cost, Pieced, pieced, deep_same}
+use Rattle.cs_model.proofs.KeptPieces.{cost, pieced, deep_same}
 use Rattle.cs_model.proofs.FineTokens.{size_after, Fine, Few, fine_toks, fronts}
 
 -- ---- brackets closed at the end
@@ -49,27 +48,32 @@ close_cost : (ps : List Piece) → cost (Closes ∷ ps) ≡ cost ps + 1
 close_cost ps = omega (arith, ap length (sign_behind (told ps) 93 close_alone), length-append (encode_utf8_all (told ps)) (93 ∷ []))
 
 all_shut : (d : ℕ) (ps : List Piece) → Well ps → open_in ps ≡ d → (all : List Piece) × Closed ps all
-all_shut zero ps h e = (ps, record {
-  well = h;
-  shut = e;
-  bytes = omega (arith, e);
-  parts = refl;
-  atoms = refl;
-  read = none_open (reading (map step_of ps)).parts (reading (map step_of ps)).open_now ((printed ps h).deep ∙ e);
-})
+all_shut zero ps h e = (
+  ps,
+  record {
+    well = h;
+    shut = e;
+    bytes = omega (arith, e);
+    parts = refl;
+    atoms = refl;
+    read = none_open (reading (map step_of ps)).parts (reading (map step_of ps)).open_now ((printed ps h).deep ∙ e);
+  },
+)
 all_shut (suc d) ps h e =
     let some : 1 ≤ open_in ps = omega (arith, e) in
     let r = all_shut d (Closes ∷ ps) (some, h) (omega (arith, e)) in
     let c = r.1 in
-    let deep : 1 ≤ length (reading (map step_of ps)).open_now = omega (arith, some, (printed ps h).deep) in
-    (r.0, record {
-      well = c.well;
-      shut = c.shut;
-      bytes = omega (arith, c.bytes, close_cost ps, some);
-      parts = c.parts;
-      atoms = c.atoms;
-      read = c.read ∙ ap (λ l. record { parts = l; open_now = [] }) (one_closed (reading (map step_of ps)).parts (reading (map step_of ps)).open_now deep);
-    })
+    let deep : 1 ≤ length (reading (map step_of ps)).open_now = omega (arith, some, (printed ps h).deep) in (
+      r.0,
+      record {
+        well = c.well;
+        shut = c.shut;
+        bytes = omega (arith, c.bytes, close_cost ps, some);
+        parts = c.parts;
+        atoms = c.atoms;
+        read = c.read ∙ ap (λ l. record { parts = l; open_now = [] }) (one_closed (reading (map step_of ps)).parts (reading (map step_of ps)).open_now deep);
+      },
+    )
 
 -- ---- characters
 and_true : (a b : Bool) → a ≡ true → b ≡ true → (a && b) ≡ true

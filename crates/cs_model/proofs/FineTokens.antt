@@ -3,7 +3,7 @@
 --   Fine ts            the newest character of each of the token lists passes
 --   fine_toks          the tokens of well formed pieces are such, where these are within the limits
 --   fronts             then each prefix of the text passes
-use Rattle.std.proofs.Common.{◌≡◌, ℕ, zero, suc, ◌+◌, ◌-◌, ◌≤◌, List, [], ◌∷◌, ◌++◌, map, length, take, refl, ap, ◌∙◌, sym, Bool, true, false, not, arith, length-append, None}
+use Rattle.std.proofs.Common.{◌≡◌, ℕ, zero, suc, ◌+◌, ◌≤◌, List, [], ◌∷◌, ◌++◌, map, length, take, refl, ap, ◌∙◌, sym, Bool, true, false, not, arith, length-append, None}
 use Rattle.std.specs.Prelude.{encode_utf8_all}
 use Rattle.std.specs.Char.{encode_utf8}
 use Rattle.std.proofs.lemmas.Bool.{lt-ltb}
@@ -11,17 +11,17 @@ use Rattle.cs_model.specs.declared.kinds.Class.{Class}
 use Rattle.cs_model.specs.declared.kinds.Class.TheVariants as c
 use Rattle.cs_model.specs.declared.kinds.Tie.{Tie}
 use Rattle.cs_model.specs.declared.kinds.Tie.TheVariants.{Begins, Alternative, Linked as LinkedBy}
-use Rattle.cs_model.specs.Tokens.{Token, Word, Value, Run, Gap, Dollar, Bar, Colon, Open, Close, class_of, grown, with_next, tokens_after, tokens, size}
 use Rattle.cs_model.specs.Collection.{has_name_form}
-use Rattle.cs_model.specs.Grammar.{Leaf, Enter, facet, steps, tie, reading}
-use Rattle.cs_model.specs.Refusals.{refused, verdict, takes_bar, parts_in, atoms_in, depth, newest, begins_part}
+use Rattle.cs_model.specs.Tokens.{Token, Word, Value, Run, Gap, Dollar, Bar, Colon, Open, Close, class_of, grown, with_next, tokens_after, size}
+use Rattle.cs_model.specs.Grammar.{steps, reading}
+use Rattle.cs_model.specs.Refusals.{refused, verdict, parts_in, atoms_in, depth, newest}
 use Rattle.cs_model.specs.Canonical.{link_text}
-use Rattle.cs_model.proofs.Pieces.{Piece, Plain, Whole, Valued, WholeValued, Opens, Closes, step_of, IsWord, IsValue, IsNameWord, fresh, linkable, TieFits, open_in, Well, between, before, spelled, told, space_toks, minus_toks, between_toks, toks}
+use Rattle.cs_model.proofs.Pieces.{Piece, Plain, Whole, Valued, WholeValued, Opens, Closes, step_of, IsWord, IsValue, IsNameWord, fresh, TieFits, open_in, Well, between, told, space_toks, between_toks, toks}
 use Rattle.cs_model.proofs.PieceTokens.{opens, between_opens, between_steps, steps_toks, tokens_told}
 use Rattle.cs_model.proofs.PieceText.{printed}
 use Rattle.cs_model.proofs.PassedTokens.{Passes, passed}
 use Rattle.cs_model.proofs.KeptPieces.{cost}
-use Rattle.cs_model.proofs.SizeLemmas.{size_next, encodes-append}
+use Rattle.cs_model.proofs.SizeLemmas.{size_next}
 
 abbrev pub Fine : List Token → Type 0
 Fine [] = Unit {0}
@@ -121,9 +121,11 @@ less_room false = omega arith
 
 between_fine : (t : Tie) (ps : List Piece) (f : Bool) → Well ps → TieFits t ps → Few ps → cost ps + length (between t f) + open_in ps ≤ 1024 → Fine (toks ps) → Fine (between_toks t f (toks ps))
 between_fine (Begins false) ps f h k few s t = space_passes f ps h few s t
-between_fine (Begins true) ps f h k few s t =
-    (passes_as (Run (45 ∷ []) ∷ space_toks f (toks ps)) ps (between_steps (Begins true) f (toks ps) ∙ steps_toks ps h) h few (minus_fine f ps) (omega arith)
-    (omega (arith, s, size_toks ps h, size_between (Begins true) f (toks ps))), space_passes f ps h few (omega (arith, s, less_room f)) t)
+between_fine (Begins true) ps f h k few s t = (
+  passes_as (Run (45 ∷ []) ∷ space_toks f (toks ps)) ps (between_steps (Begins true) f (toks ps) ∙ steps_toks ps h) h few (minus_fine f ps) (omega arith)
+      (omega (arith, s, size_toks ps h, size_between (Begins true) f (toks ps))),
+  space_passes f ps h few (omega (arith, s, less_room f)) t,
+)
 between_fine Alternative ps f h k few s t = (passes_as (Bar ∷ toks ps) ps (steps_toks ps h) h few (bar_fine ps k) (omega arith) (omega (arith, s, size_toks ps h)), t)
 between_fine (LinkedBy l) ps f h k few s t = (passes_as (Run (link_text l) ∷ toks ps) ps (steps_toks ps h) h few (run_fine (link_text l) ps) (omega arith) (omega (arith, s, size_toks ps h)), t)
 
@@ -144,10 +146,10 @@ word_fine w (Close ∷ ts) h = cc
 fine_word : (t : Tie) (w : List ℕ) (ps : List Piece) (n : ℕ) → IsWord w → TieFits t ps → Well ps → Few (Plain t w ∷ ps) → size (Word w ∷ between_toks t (fresh ps) (toks ps)) + n + open_in ps ≤ 1024
     → Fine (toks ps) → Fine (Word w ∷ between_toks t (fresh ps) (toks ps))
 fine_word t w ps n hw k h few s fine = (
-      passes_as (Word w ∷ between_toks t (fresh ps) (toks ps)) (Plain t w ∷ ps) (steps_toks (Plain t w ∷ ps) ((k, hw), h)) ((k, hw), h) few
+  passes_as (Word w ∷ between_toks t (fresh ps) (toks ps)) (Plain t w ∷ ps) (steps_toks (Plain t w ∷ ps) ((k, hw), h)) ((k, hw), h) few
       (word_fine w (between_toks t (fresh ps) (toks ps)) (between_opens t ps)) hw.short (omega (arith, s)),
-      between_fine t ps (fresh ps) h k (few_before (Plain t w) ps few) (omega (arith, s, size_between t (fresh ps) (toks ps), size_toks ps h)) fine,
-    )
+  between_fine t ps (fresh ps) h k (few_before (Plain t w) ps few) (omega (arith, s, size_between t (fresh ps) (toks ps), size_toks ps h)) fine,
+)
 
 value_fine : (n v : List ℕ) (ts : List Token) → has_name_form n ≡ true → refused (Value v ∷ Colon ∷ Word n ∷ ts) ≡ false
 value_fine n v ts h = ap not h
@@ -195,7 +197,7 @@ fine_toks (Valued t n v ∷ ps) h few s =
 fine_toks (WholeValued t n v ∷ ps) h few s =
     let plain : Few (Valued t n v ∷ ps) = record { parts = few.parts; atoms = few.atoms } in (
       passes_as (toks (WholeValued t n v ∷ ps)) (WholeValued t n v ∷ ps) (steps_toks (WholeValued t n v ∷ ps) h) h few
-      (some_takes_dollar v (Colon ∷ Word n ∷ between_toks t (fresh ps) (toks ps)) h.0.3) (omega arith) s,
+          (some_takes_dollar v (Colon ∷ Word n ∷ between_toks t (fresh ps) (toks ps)) h.0.3) (omega arith) s,
       fine_value t n v ps 1 h.0.1 h.0.2 h.0.0 h.1 plain (omega (arith, s)) (fine_toks ps h.1 (few_before (WholeValued t n v) ps few) (omega (arith, s, before_size t ps))),
     )
 fine_toks (Opens t n ∷ ps) h few s =
@@ -204,9 +206,9 @@ fine_toks (Opens t n ∷ ps) h few s =
       fine_word t n ps 1 h.0.1.word h.0.0 h.1 plain (omega (arith, s)) (fine_toks ps h.1 (few_before (Opens t n) ps few) (omega (arith, s, before_size t ps))),
     )
 fine_toks (Closes ∷ ps) h few s = (
-      passes_as (toks (Closes ∷ ps)) (Closes ∷ ps) (steps_toks (Closes ∷ ps) h) h few (close_fine ps h.1 h.0) (omega arith) s,
-      fine_toks ps h.1 (few_before Closes ps few) (omega (arith, s, h.0)),
-    )
+  passes_as (toks (Closes ∷ ps)) (Closes ∷ ps) (steps_toks (Closes ∷ ps) h) h few (close_fine ps h.1 h.0) (omega arith) s,
+  fine_toks ps h.1 (few_before Closes ps few) (omega (arith, s, h.0)),
+)
 
 -- ---- prefixes
 -- the newest token shorter

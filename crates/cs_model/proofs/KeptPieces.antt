@@ -7,12 +7,12 @@ use Rattle.std.specs.Prelude.{◌&&◌, ◌==◌, nat_lt, if◌then◌else◌, e
 use Rattle.std.specs.Str.{chars}
 use Rattle.std.proofs.lemmas.Bool.{ltb-true}
 use Rattle.std.proofs.lemmas.Str.{encodes-chars}
-use Rattle.cs_base.specs.declared.query.Link.TheVariants.{Phrase, Near}
+use Rattle.cs_base.specs.declared.query.Link.TheVariants.{Near}
 use Rattle.cs_base.specs.declared.query.Atom.{Prefix, Exact}
 use Rattle.cs_model.specs.declared.kinds.Spot.{Spot}
 use Rattle.cs_model.specs.declared.kinds.Spot.TheVariants.{Front, BehindAtom, Elsewhere}
 use Rattle.cs_model.specs.declared.kinds.Tie.{Tie}
-use Rattle.cs_model.specs.declared.kinds.Tie.TheVariants.{Begins, Alternative, Linked as LinkedBy}
+use Rattle.cs_model.specs.declared.kinds.Tie.TheVariants.{Begins, Linked as LinkedBy}
 use Rattle.cs_model.specs.Tokens.{Token, Word, Value, Run, Gap, Dollar, Bar, Colon, Open, Close, size}
 use Rattle.cs_model.specs.Collection.{has_name_form}
 use Rattle.cs_model.specs.Grammar.{Leaf, Enter, Leave, facet, spot, tie, run_tie, front_tie, link_tie, steps, reading}
@@ -64,9 +64,17 @@ excluded_cost false = omega arith
 more_cost : (t : Tie) (ps : List Piece) (xs bytes : List ℕ) (n m : ℕ) → cost ps + length (between t (fresh ps)) ≤ n → encode_utf8_all xs ≡ bytes → length bytes ≤ m
     → length (encode_utf8_all (told ps ++ (between t (fresh ps) ++ xs))) ≤ n + m
 more_cost t ps xs bytes n m h e le =
-    omega (arith, h, ap length e, le,
-    ap length (encodes-append (told ps) (between t (fresh ps) ++ xs)), length-append (encode_utf8_all (told ps)) (encode_utf8_all (between t (fresh ps) ++ xs)),
-    ap length (encodes-append (between t (fresh ps)) xs), length-append (encode_utf8_all (between t (fresh ps))) (encode_utf8_all xs), ap length (between_bytes t (fresh ps)))
+    omega (
+      arith,
+      h,
+      ap length e,
+      le,
+      ap length (encodes-append (told ps) (between t (fresh ps) ++ xs)),
+      length-append (encode_utf8_all (told ps)) (encode_utf8_all (between t (fresh ps) ++ xs)),
+      ap length (encodes-append (between t (fresh ps)) xs),
+      length-append (encode_utf8_all (between t (fresh ps))) (encode_utf8_all xs),
+      ap length (between_bytes t (fresh ps)),
+    )
 
 word_pieced : (w : List ℕ) (ts : List Token) → IsWord w → opens ts ≡ true → Pieced ts → Pieced (Word w ∷ ts)
 word_pieced w ts h o p = record {

@@ -5,29 +5,29 @@
 --   shorter_key         the text of the query with that prefix cut is the query's text, cut
 --   shorter_push        the shorter prefixes of one character more
 --   left_more, left_stop, left_empty     those of them that are words
-use Rattle.std.proofs.Common.{◌≡◌, ℕ, suc, ◌+◌, ◌-◌, ◌≤◌, List, [], ◌∷◌, ◌++◌, map, filter, length, take, drop, refl, ap, ◌∙◌, sym, subst, append_assoc, length-append, Bool, true, false, not, cond, arith, Option, Some, None}
-use Rattle.std.specs.Prelude.{◌&&◌, ◌||◌, ◌==◌, nat_lt, if◌then◌else◌, codes, encode_utf8_all}
+use Rattle.std.proofs.Common.{◌≡◌, ℕ, ◌+◌, ◌-◌, ◌≤◌, List, [], ◌∷◌, ◌++◌, map, filter, length, take, drop, refl, ap, ◌∙◌, sym, subst, append_assoc, length-append, Bool, true, false, not, cond, arith, Option, Some, None}
+use Rattle.std.specs.Prelude.{◌&&◌, ◌||◌, ◌==◌, nat_lt, if◌then◌else◌, codes}
 use Rattle.std.specs.List.{concat, join_with_byte, list_any}
-use Rattle.std.specs.Str.{chars, IsUtf8, IsCharBoundary, all_scalars}
+use Rattle.std.specs.Str.{IsUtf8, IsCharBoundary}
 use Rattle.std.proofs.Math.Seq.{take-append_seam, drop-append_seam}
 use Rattle.std.proofs.lemmas.Bool.{lt-ltb}
 use Rattle.std.proofs.lemmas.List.{append-nil, map-append}
 use Rattle.std.proofs.lemmas.List.Elements.{filter-append}
 use Rattle.std.proofs.lemmas.List.Folds.{list_any-append}
 use Rattle.std.proofs.lemmas.Str.{IsCharBoundary-at_seam}
-use Rattle.cs_base.specs.declared.query.Query.{Query, roll-Query, out-Query}
-use Rattle.cs_base.specs.declared.query.Part.{Part, roll-Part, out-Part}
+use Rattle.cs_base.specs.declared.query.Query.{Query, out-Query}
+use Rattle.cs_base.specs.declared.query.Part.{Part, out-Part}
 use Rattle.cs_base.specs.declared.query.Chain.{Chain, roll-Chain, out-Chain}
-use Rattle.cs_base.specs.declared.query.Linked.{Linked, roll-Linked, out-Linked}
+use Rattle.cs_base.specs.declared.query.Linked.{Linked, out-Linked}
 use Rattle.cs_base.specs.declared.query.Atom.{Atom, Prefix, roll-Atom, out-Atom, roll-out-Atom}
 use Rattle.cs_base.specs.declared.query.Atom.TheVariants.{rolls-Prefix}
 use Rattle.cs_base.specs.declared.query.Atom.TheOpen.{Atom-F}
-use Rattle.cs_model.specs.Grammar.{on_last, chain_of, with_chains}
+use Rattle.cs_model.specs.Grammar.{on_last, with_chains}
 use Rattle.cs_model.specs.Requests.{shown_word}
 use Rattle.cs_model.specs.Canonical.{link_text, canonical, canonical_parts, canonical_part, canonical_chain, canonical_linked, canonical_atom}
 use Rattle.cs_model.specs.Keys.{last_of, prefix_in, last_atom, chain_prefix, chains_prefix, part_prefix, last_prefix, relinked, ended_by, with_prefix, shorter, is_left}
 use Rattle.cs_model.proofs.CanonicalLemmas.{query_shape, part_shape, chain_shape, linked_shape, prefix_shape}
-use Rattle.cs_model.proofs.LastEntries.{is_none, none_map, sign_before, join_push, concat_push}
+use Rattle.cs_model.proofs.LastEntries.{is_none, sign_before, join_push, concat_push}
 use Rattle.cs_model.proofs.AttachedText.{rolled_part, rolled_chain, rolled_linked, rolled_query, one_chain}
 
 -- ---- last entries
@@ -201,6 +201,7 @@ prefix_short q p h = let e = query_ends q p h in omega (arith, ap length e.whole
     shown_at : (b : Bool) (x : ℕ) (w : List ℕ) → length (x ∷ w) ≤ length (if b then w else (x ∷ w)) + 1
     shown_at true x w = omega arith
     shown_at false x w = omega arith
+
     shown_short : (w : List ℕ) → length w ≤ length (shown_word w) + 1
     shown_short [] = omega arith
     shown_short (x ∷ w) = shown_at (x == 58) x w

@@ -4,8 +4,8 @@
 --   passes, passed       a verdict of no fault is that of tokens that pass
 --   Kept ts              no token is refused, and each has the characters of its kind
 --   kept_tokens          the tokens of an accepted text are such
-use Rattle.std.proofs.Common.{◌≡◌, ℕ, zero, suc, ◌+◌, ◌≤◌, List, [], ◌∷◌, ◌++◌, length, take, refl, ap, ◌∙◌, sym, Bool, true, false, arith, length-append, Option, Some, None}
-use Rattle.std.specs.Prelude.{◌&&◌, ◌||◌, ◌==◌, if◌then◌else◌, encode_utf8_all}
+use Rattle.std.proofs.Common.{◌≡◌, ℕ, suc, ◌+◌, ◌≤◌, List, [], ◌∷◌, ◌++◌, length, take, refl, ap, ◌∙◌, sym, Bool, true, false, arith, length-append, Option, Some, None}
+use Rattle.std.specs.Prelude.{◌&&◌, ◌||◌, ◌==◌, if◌then◌else◌}
 use Rattle.std.specs.Char.{encode_utf8, IsScalar}
 use Rattle.std.specs.List.{list_all}
 use Rattle.std.specs.Str.{chars, IsUtf8, all_scalars}
@@ -13,13 +13,12 @@ use Rattle.std.proofs.lemmas.Bool.{ltb-false, le-ltb}
 use Rattle.std.proofs.lemmas.List.{append-nil}
 use Rattle.std.proofs.lemmas.List.Folds.{list_all-append}
 use Rattle.std.proofs.lemmas.Str.{chars-append, chars_past_char, chars-nil, IsUtf8-append, IsUtf8-encode, IsUtf8-nil, length-le-encodes}
-use Rattle.cs_base.specs.declared.query.Which.TheVariants as limits
 use Rattle.cs_model.specs.declared.kinds.Class.{Class}
 use Rattle.cs_model.specs.declared.kinds.Class.TheVariants as c
 use Rattle.cs_model.specs.Words.{is_word_char}
 use Rattle.cs_model.specs.Tokens.{Token, Word, Value, Run, Gap, Dollar, Bar, Colon, Open, Close, class_of, grown, with_next, tokens_after, tokens, size}
 use Rattle.cs_model.specs.Grammar.{steps}
-use Rattle.cs_model.specs.Refusals.{refused, verdict, parts_in, atoms_in, depth, newest, Fault, Bad, Limit, IsAccepted}
+use Rattle.cs_model.specs.Refusals.{refused, verdict, parts_in, atoms_in, depth, newest, IsAccepted}
 use Rattle.cs_model.proofs.SizeLemmas.{Fits, class_fits}
 use Rattle.cs_model.proofs.Pieces.{IsWord, IsValue, is_value_char}
 use Rattle.cs_model.proofs.PieceTokens.{opens, both_first, both_second}

@@ -4,7 +4,7 @@
 --   spelled_bytes        the bytes of a piece's atom
 --   Printed ps r         the reading r has the text of the pieces ps
 --   printed              so has that of their steps
-use Rattle.std.proofs.Common.{◌≡◌, ℕ, ◌+◌, ◌-◌, ◌≤◌, List, [], ◌∷◌, ◌++◌, map, length, refl, ap, ◌∙◌, sym, append_assoc, Bool, true, false, arith}
+use Rattle.std.proofs.Common.{◌≡◌, ℕ, ◌≤◌, List, [], ◌∷◌, ◌++◌, map, length, refl, ap, ◌∙◌, sym, append_assoc, Bool, true, false, arith}
 use Rattle.std.specs.Prelude.{◌==◌, if◌then◌else◌, encode_utf8_all, codes}
 use Rattle.std.specs.Char.{encode_utf8}
 use Rattle.std.specs.List.{list_all}
@@ -19,13 +19,13 @@ use Rattle.cs_model.specs.declared.kinds.Level.{Level}
 use Rattle.cs_model.specs.declared.kinds.Tie.{Tie}
 use Rattle.cs_model.specs.declared.kinds.Tie.TheVariants.{Begins, Alternative, Linked as LinkedBy}
 use Rattle.cs_model.specs.Words.{is_word_char}
-use Rattle.cs_model.specs.Grammar.{Step, Leaf, Enter, Leave, facet, Reading, reading, taken, leave, attached, join}
+use Rattle.cs_model.specs.Grammar.{Enter, facet, Reading, reading, taken, leave, attached, join}
 use Rattle.cs_model.specs.Requests.{shown_word}
-use Rattle.cs_model.specs.Canonical.{link_text, canonical_parts, canonical_atom}
+use Rattle.cs_model.specs.Canonical.{canonical_parts, canonical_atom}
 use Rattle.cs_model.proofs.CanonicalLemmas.{prefix_shape, exact_shape}
 use Rattle.cs_model.proofs.LastEntries.{is_none, Last, last_some}
 use Rattle.cs_model.proofs.AttachedText.{HasChain, Takes, attached_text, attached_ready, join_text}
-use Rattle.cs_model.proofs.Pieces.{Piece, Plain, Whole, Valued, WholeValued, Opens, Closes, step_of, IsWord, IsValue, IsNameWord, fresh, linkable, TieFits, open_in, Well, minus, space, between, before, spelled, told}
+use Rattle.cs_model.proofs.Pieces.{Piece, Plain, Whole, Valued, WholeValued, Opens, Closes, step_of, IsWord, IsValue, fresh, linkable, TieFits, open_in, Well, between, told}
 use Rattle.cs_model.proofs.PieceTokens.{both_first}
 use Rattle.cs_model.proofs.SizeLemmas.{encodes-append}
 

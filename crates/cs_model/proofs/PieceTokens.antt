@@ -3,7 +3,7 @@
 --   after-append        characters behind characters
 --   tokens_told         the tokens of the text of pieces
 --   steps_toks          their steps
-use Rattle.std.proofs.Common.{◌≡◌, ℕ, ◌+◌, ◌-◌, ◌≤◌, List, [], ◌∷◌, ◌++◌, map, length, refl, ap, ◌∙◌, sym, subst, append_assoc, Bool, true, false, arith}
+use Rattle.std.proofs.Common.{◌≡◌, ℕ, ◌≤◌, List, [], ◌∷◌, ◌++◌, map, length, refl, ap, ◌∙◌, sym, subst, append_assoc, Bool, true, false, arith}
 use Rattle.std.specs.Prelude.{◌&&◌, ◌||◌, ◌==◌, encode_utf8_all}
 use Rattle.std.proofs.lemmas.Bool.{eqb-true}
 use Rattle.std.specs.Char.{encode_utf8}
@@ -13,15 +13,12 @@ use Rattle.std.proofs.lemmas.List.{append-nil}
 use Rattle.std.proofs.lemmas.Str.{encodes-chars}
 use Rattle.cs_base.specs.declared.query.Link.TheVariants.{Phrase, Near}
 use Rattle.cs_model.specs.declared.kinds.Class.TheVariants as c
-use Rattle.cs_model.specs.declared.kinds.Spot.TheVariants.{Front, BehindAtom}
 use Rattle.cs_model.specs.declared.kinds.Tie.{Tie}
 use Rattle.cs_model.specs.declared.kinds.Tie.TheVariants.{Begins, Alternative, Linked as LinkedBy}
-use Rattle.cs_model.specs.declared.kinds.Level.{Level}
 use Rattle.cs_model.specs.Words.{is_word_char}
 use Rattle.cs_model.specs.Tokens.{Token, Word, Value, Run, Gap, Dollar, Bar, Colon, Open, Close, class_of, grown, with_next, tokens_after, tokens}
-use Rattle.cs_model.specs.Grammar.{Step, Leaf, steps, tie, spot, reading, leave}
-use Rattle.cs_model.specs.Canonical.{link_text}
-use Rattle.cs_model.proofs.Pieces.{Piece, Plain, Whole, Valued, WholeValued, Opens, Closes, step_of, IsWord, IsValue, IsNameWord, is_value_char, fresh, linkable, TieFits, open_in, Well, between, before, spelled, told, between_toks, toks}
+use Rattle.cs_model.specs.Grammar.{Step, steps, tie}
+use Rattle.cs_model.proofs.Pieces.{Piece, Plain, Whole, Valued, WholeValued, Opens, Closes, step_of, IsWord, IsValue, is_value_char, fresh, TieFits, Well, between, told, between_toks, toks}
 
 -- ---- lists of characters
 pub after-append : (ts : List Token) (xs ys : List ℕ) → tokens_after ts (xs ++ ys) ≡ tokens_after (tokens_after ts xs) ys

@@ -10,7 +10,7 @@
 --   canonical q          the canonical text of a query, as bytes; the empty text for the query without parts
 --   canonical_part, canonical_chain, canonical_linked, canonical_atom     those of its parts
 --   canonical_parts ps   the canonical text of the query with the parts ps
-use Rattle.std.specs.Prelude.{ℕ, if◌then◌else◌, List, [], ◌∷◌, ◌++◌, map, codes}
+use Rattle.std.specs.Prelude.{ℕ, if◌then◌else◌, List, [], ◌++◌, map, codes}
 use Rattle.std.specs.List.{concat, join_with_byte}
 use Rattle.cs_base.specs.declared.query.Link.{Link}
 use Rattle.cs_base.specs.declared.query.Link.TheVariants.{Phrase, Near}
@@ -23,10 +23,12 @@ use Rattle.cs_base.specs.declared.query.Atom.TheOpen.{Atom-F, Query-F, Part-F, C
 use Rattle.cs_base.specs.declared.query.Atom.TheFolds.{fold-Query, fold-Part, fold-Chain, fold-Linked, fold-Atom}
 use Rattle.cs_model.specs.Requests.{shown_word}
 
+-- a text as its bytes
 abbrev pub Bytes : Type 0
 Bytes = List ℕ
 
 -- ---- level by level
+-- one dot for a phrase, two for nearness
 abbrev pub link_text : Link → Bytes
 link_text Phrase = codes "."
 link_text Near = codes ".."
@@ -37,21 +39,24 @@ atom_text (Atom-F.Prefix w) = shown_word w
 atom_text (Atom-F.Exact w) = shown_word w ++ codes "$"
 atom_text (Atom-F.Join name inner) = name ++ codes "[" ++ inner ++ codes "]"
 
+-- an atom behind the sign of its link
 abbrev pub linked_text : Linked-F Bytes Bytes Bytes Bytes Bytes → Bytes
 linked_text l = link_text l.link ++ l.atom
 
+-- a chain of one atom is told by that atom alone
 abbrev pub chain_text : Chain-F Bytes Bytes Bytes Bytes Bytes → Bytes
 chain_text c = c.first ++ concat c.rest
 
--- 124 is |
+-- with | between each two alternatives, which is 124; of one alternative that one alone
 abbrev pub part_text : Part-F Bytes Bytes Bytes Bytes Bytes → Bytes
 part_text p = (if p.excluded then codes "-" else []) ++ join_with_byte 124 p.chains
 
--- 32 is a space
+-- with one space between each two parts, which is 32; of no part nothing
 abbrev pub query_text : Query-F Bytes Bytes Bytes Bytes Bytes → Bytes
 query_text q = join_with_byte 32 q.parts
 
 -- ---- the texts
+-- of an atom, and so on up to a query
 abbrev pub canonical_atom : Atom → Bytes
 canonical_atom = fold-Atom Bytes Bytes Bytes Bytes Bytes atom_text chain_text linked_text part_text query_text
 
@@ -64,9 +69,10 @@ canonical_chain = fold-Chain Bytes Bytes Bytes Bytes Bytes atom_text chain_text 
 abbrev pub canonical_part : Part → Bytes
 canonical_part = fold-Part Bytes Bytes Bytes Bytes Bytes atom_text chain_text linked_text part_text query_text
 
--- of the query without parts it is empty
+-- of the query without parts it is empty, and of no other query of the grammar
 abbrev pub canonical : Query → Bytes
 canonical = fold-Query Bytes Bytes Bytes Bytes Bytes atom_text chain_text linked_text part_text query_text
 
+-- of some parts, as a query has them; of no part it is empty
 abbrev pub canonical_parts : List Part → Bytes
 canonical_parts ps = join_with_byte 32 (map canonical_part ps)

@@ -4,8 +4,8 @@
 --   Narrowing q p rest ns     ns are the narrower keys of those words that are longer than rest, or as long
 --   at_start, one_less, at_stop, at_end     the steps of the loop
 --   continues, some_left      rest is the beginning of the prefix, and is a word
-use Rattle.std.proofs.Common.{◌≡◌, ℕ, suc, ◌+◌, ◌-◌, ◌≤◌, List, [], ◌∷◌, ◌++◌, map, filter, length, refl, ap, ◌∙◌, sym, append_assoc, Bool, true, false, arith, Option, Some, None}
-use Rattle.std.specs.Prelude.{◌&&◌, ◌||◌, ◌==◌, encode_utf8_all}
+use Rattle.std.proofs.Common.{◌≡◌, ℕ, suc, ◌-◌, ◌≤◌, List, [], ◌∷◌, ◌++◌, map, filter, length, refl, ap, ◌∙◌, sym, append_assoc, Bool, true, false, arith, Some}
+use Rattle.std.specs.Prelude.{◌||◌, ◌==◌, encode_utf8_all}
 use Rattle.std.specs.Char.{encode_utf8}
 use Rattle.std.specs.List.{list_any, slice_get}
 use Rattle.std.specs.Str.{chars, IsUtf8, all_scalars}

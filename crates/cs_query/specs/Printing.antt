@@ -1,8 +1,8 @@
--- What stands between the entries of a canonical text.
+-- Words of the calls that print a query and cut its last prefix.
 --
 --   separator sign i         the sign in front of the i-th entry, counted from 0; in front of the first one nothing
---   Continues w p            the text p begins with w, and goes on with whole characters
 --   following sign i xs      the entries xs, of which the first is the i-th, each with what stands in front of it
+--   Continues w p            the text p begins with w, and goes on with whole characters
 use Rattle.std.specs.Str.{IsUtf8}
 use Rattle.std.specs.Prelude.{◌≡◌, ℕ, ◌+◌, nat_lt, if◌then◌else◌, List, [], ◌∷◌, ◌++◌, encode_utf8}
 

@@ -3,7 +3,7 @@ use Rattle.std.specs.Str.{IsCharBoundary}
 use Rattle.cs_base.specs.declared.key.Narrower.{Narrower}
 use Rattle.cs_base.specs.declared.query.Query.{Query}
 use Rattle.cs_model.specs.Canonical.{canonical}
-use Rattle.cs_model.specs.Keys.{last_prefix, with_prefix}
+use Rattle.cs_model.specs.Keys.{last_prefix}
 use Rattle.cs_model.proofs.KeyLemmas.{Shortened, shortened, prefix_short}
 use Rattle.cs_query.specs.Printing.{Continues}
 use Rattle.cs_query.proofs.keying.narrower.Goals as goal
