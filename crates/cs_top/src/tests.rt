@@ -59,6 +59,7 @@ fn ask(alloc: Global, collection: &[u8], script: &[u8]) -> Result<Left, Fail> {
 
 #[test]
 fn lines_have_these_replies(rt: HostRuntime) -> Result<(), Fail> {
+    let alloc = rt.alloc();
     for (collection, script, reply) in [
         (S, "q=typ", TYP),
         (
@@ -148,16 +149,19 @@ fn lines_have_these_replies(rt: HostRuntime) -> Result<(), Fail> {
             r#"{"completions":[],"facets":{},"hits":[{"doc":0,"score":0,"title":"a"},{"doc":1,"score":0,"title":"b"}],"total":{"completions":0,"hits":2}}"#,
         ),
     ] {
-        let left = ask(rt.alloc(), collection.as_bytes(), script.as_bytes())?;
+        let left = ask(alloc, collection.as_bytes(), script.as_bytes())?;
         assert_eq!(rt; left.status, 0, "of {script}");
         assert_eq!(rt; left.err.as_slice(), b"".as_slice(), "of {script}");
-        assert_eq!(rt;
-            left.out.as_slice().strip_suffix(b"\n".as_slice()),
-            Some(reply.as_bytes()),
-            "of {script}"
-        );
+        let want = line_of(alloc, reply)?;
+        assert_eq!(rt; left.out.as_slice(), want.as_slice(), "of {script}");
     }
     Ok(())
+}
+
+fn line_of(alloc: Global, reply: &str) -> Result<Vec<u8>, Memory> {
+    let mut line = Vec::from_slice(alloc, reply.as_bytes())?;
+    line.push(b'\n')?;
+    Ok(line)
 }
 
 // A collection and a script, the status, the number of lines like the first worked reply, and what is said.
