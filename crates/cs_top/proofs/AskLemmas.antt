@@ -1,5 +1,5 @@
 -- How `ask` may end over files that tell.
-use Rattle.std.proofs.Common.{◌≡◌, ℕ, List, [], ◌∷◌, ◌++◌, inr, refl, sym, ◌∙◌, ap, subst}
+use Rattle.std.proofs.Common.{ℕ, List, [], ◌∷◌, ◌++◌, inr, refl, sym, ◌∙◌, ap, subst}
 use Rattle.std.specs.Prelude.{Option}
 use Rattle.cs_base.specs.Outside.{Held}
 use Rattle.cs_model.specs.Corpus.{Corpus, corpus}

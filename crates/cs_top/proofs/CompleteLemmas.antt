@@ -1,7 +1,6 @@
 -- A run that could do all and met no fault did all, or found no memory.
-use Rattle.std.proofs.Common.{◌≡◌, ◌⊎◌, ℕ, List, inl, inr, refl, sym, subst, ◌∙◌}
+use Rattle.std.proofs.Common.{◌≡◌, ◌⊎◌, ℕ, List, inl, inr, refl, subst, ◌∙◌}
 use Rattle.std.specs.Prelude.{Option, Some, None}
-use Rattle.std.specs.FinMap as map
 use Rattle.cs_base.specs.Causes.{Rose}
 use Rattle.cs_base.specs.Outside.{Held}
 use Rattle.cs_top.specs.Commands.{Command, build, ask, replay, serve, trial}

@@ -1,5 +1,5 @@
 -- A line that one call puts on standard error.
-use Rattle.std.proofs.Common.{◌≡◌, ℕ, List, length, take, sym, ◌∙◌, ap, arith}
+use Rattle.std.proofs.Common.{ℕ, List, length, sym, ◌∙◌, ap, arith}
 use Rattle.std.specs.Prelude.{Option, Result, Ok, Err, OnOk, OnErr}
 use Rattle.std.specs.Option.{option_map}
 use Rattle.std.proofs.Math.Seq.{take-length}

@@ -8,7 +8,7 @@
 --   fault_words f      why a line of a script is refused
 --   line_of e          the line on standard error; nothing where all was done
 --   Says old new before now line     standard error grew by the line where its count didn't rise, else by a prefix of it
-use Rattle.std.specs.Prelude.{◌≡◌, ℕ, ◌+◌, ◌-◌, ◌^◌, ◌<◌, min, List, [], ◌∷◌, ◌++◌, Option, codes}
+use Rattle.std.specs.Prelude.{ℕ, ◌+◌, ◌-◌, ◌^◌, ◌<◌, min, List, [], ◌∷◌, ◌++◌, Option, codes}
 use Rattle.std.specs.Fmt.{decimal}
 use Rattle.cs_base.specs.Outside.{Grew, GrewByPrefix}
 use Rattle.cs_model.specs.Collection.{Refusal, too_large, not_utf8, line_too_long, words_too_many, bad_facet, bad_name, too_many_docs, too_many_rows, too_many_words}

@@ -2,7 +2,7 @@
 --
 --   refused r      the refusal of a collection
 --   IsCause c e    e names the refusal of the collection c; nothing is said of want of memory
-use Rattle.std.specs.Prelude.{◌≡◌, ℕ, List, Option, Some, None}
+use Rattle.std.specs.Prelude.{◌≡◌, ℕ, List, Some}
 use Rattle.cs_model.specs.Collection as model
 use Rattle.cs_model.specs.Corpus.{refusal}
 use Rattle.cs_top.specs.declared.refusal.Refusal.{Refusal}

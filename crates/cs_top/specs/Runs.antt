@@ -5,6 +5,7 @@
 --   IsExpected e x               the run ended as x, or a call failed, or memory ran out
 --   PutBy e k ls old new         what out grew by: the answers to the lines up to where the run ended, some of them where a call
 --                                failed, else nothing
+--   PutsByAsk command old new    no command but `ask` puts anything yet
 --   Caused e ..                  a run ends by a failure only where a count of files or of out rose; else both stay as they were
 --   Ran e command ..             a whole run
 --   Completes command held ..    where files tell, the whole script can be answered and no count rose, the status is 0 or 7
@@ -60,6 +61,11 @@ PutsNothing (absent name) old new = new ≡ old
 PutsNothing no_memory old new = new ≡ old
 PutsNothing e old new = Unit {0}
 
+-- no other command puts anything yet; nor does a run whose words aren't in the table
+abbrev pub PutsByAsk : Option Command → Option (List ℕ) → Option (List ℕ) → Type 0
+PutsByAsk (Some (ask c s)) old new = Unit {0}
+PutsByAsk command old new = new ≡ old
+
 abbrev pub Caused : Ending → ℕ → ℕ → ℕ → ℕ → Type 0
 Caused failed files_before files_now out_before out_now = (Rose files_before files_now ⊎ Rose out_before out_now) × (files_before ≤ files_now) × (out_before ≤ out_now)
 Caused e files_before files_now out_before out_now = (files_now ≡ files_before) × (out_now ≡ out_before)
@@ -76,6 +82,7 @@ pub record Ran (e : Ending) (command : Option Command) (held : Option Held) (old
   pub ends : EndsBy e command
   pub asked : OfAsk command (λ c s. ForSome held (λ h. AskEnds e h c s old new))
   pub nothing : PutsNothing e old new
+  pub others : PutsByAsk command old new
   pub caused : Caused e files_before files_now out_before out_now
 
 -- No run gives up by itself: what can be answered is answered, or memory ran out.

@@ -1,19 +1,20 @@
-//! What no clause says: that with memory at hand the worked scripts are answered, and how the lines read.
+//! What no clause says: that with memory at hand worked scripts have these replies, and how the lines read.
 use crate::run;
-use cs_base::{Files, MemFiles, MemSink, ScriptHub, Seq, Sink};
+use cs_base::{Files, MemFiles, MemSink, Memory, ScriptHub, Seq, Sink};
 use std::alloc::Global;
 use std::test::Fail;
 
-const TYPES: &[u8] = b"Type less\nTyped lambda\n";
+const S: &str =
+    "Type less find more\tauthor=Bast;author=Weber;year=2006\tautocompletion search with a succinct index\nThe CompleteSearch engine\tauthor=Bast;year=2007\ttype ahead search and faceted search\nTyped lambda calculi\tauthor=Church;year=1940\ttypes\n";
 
-const TYP: &[u8] =
-    b"{\"completions\":[{\"docs\":1,\"word\":\"type\"},{\"docs\":1,\"word\":\"typed\"}],\"facets\":{},\"hits\":[{\"doc\":0,\"score\":4,\"title\":\"Type less\"},{\"doc\":1,\"score\":4,\"title\":\"Typed lambda\"}],\"total\":{\"completions\":2,\"hits\":2}}\n";
+const TYP: &str =
+    r#"{"completions":[{"docs":2,"word":"type"},{"docs":1,"word":"typed"},{"docs":1,"word":"types"}],"facets":{},"hits":[{"doc":0,"score":4,"title":"Type less find more"},{"doc":2,"score":4,"title":"Typed lambda calculi"},{"doc":1,"score":1,"title":"The CompleteSearch engine"}],"total":{"completions":3,"hits":3}}"#;
 
-const AB: &[u8] =
-    b"{\"completions\":[{\"docs\":2,\"word\":\"ab\"}],\"facets\":{},\"hits\":[{\"doc\":0,\"score\":4,\"title\":\"ab\"},{\"doc\":1,\"score\":4,\"title\":\"ab ac\"}],\"total\":{\"completions\":1,\"hits\":2}}\n";
+const GUIDE: &str =
+    "Müller's \"Über-Guide\": 2nd ed.\tpublisher=O'Reilly & Co.; lang=de\tThe handbook.";
 
-const USAGE: &[u8] =
-    b"usage: complete build COLLECTION INDEX | ask COLLECTION SCRIPT | replay INDEX SCRIPT | serve INDEX PORT CONNS | trial N\n";
+const USAGE: &str =
+    "usage: complete build COLLECTION INDEX | ask COLLECTION SCRIPT | replay INDEX SCRIPT | serve INDEX PORT CONNS | trial N\n";
 
 /// What a run leaves.
 #[derive(Debug, Drop)]
@@ -51,45 +52,228 @@ fn run_with(
     })
 }
 
+fn ask(alloc: Global, collection: &[u8], script: &[u8]) -> Result<Left, Fail> {
+    let words: [&str; 3] = ["ask", "C", "Q"];
+    run_with(alloc, &words, Some(collection), Some(script))
+}
+
 #[test]
-fn plain_scripts_are_answered_up_to_the_first_other_line(rt: HostRuntime) -> Result<(), Fail> {
-    let none: &[u8] = b"";
-    for (collection, script, status, out, err) in [
-        (TYPES, b"q=typ\n".as_slice(), 0, TYP, none),
-        (TYPES, b"q=typ&h=1\n", 1, none, b"not built\n"),
-        (TYPES, b"q=typ\r\nq=T\n", 1, TYP, b"not built\n"),
-        (TYPES, b"", 0, none, none),
-        (b"caf\xC3\xA9\n", b"q=c\n", 1, none, b"not built\n"),
-        (b"\n\nab\n\nab ac", b"\nq=ab", 0, AB, none),
+fn lines_have_these_replies(rt: HostRuntime) -> Result<(), Fail> {
+    let alloc = rt.alloc();
+    for (collection, script, reply) in [
+        (S, "q=typ", TYP),
+        (
+            S,
+            "q=search+typ",
+            r#"{"completions":[{"docs":2,"word":"type"}],"facets":{},"hits":[{"doc":0,"score":5,"title":"Type less find more"},{"doc":1,"score":2,"title":"The CompleteSearch engine"}],"total":{"completions":1,"hits":2}}"#,
+        ),
+        (
+            S,
+            "q=type$",
+            r#"{"completions":[{"docs":2,"word":"type"}],"facets":{},"hits":[{"doc":0,"score":4,"title":"Type less find more"},{"doc":1,"score":1,"title":"The CompleteSearch engine"}],"total":{"completions":1,"hits":2}}"#,
+        ),
+        (
+            S,
+            "q=type-ahead",
+            r#"{"completions":[{"docs":1,"word":"ahead"}],"facets":{},"hits":[{"doc":1,"score":1,"title":"The CompleteSearch engine"}],"total":{"completions":1,"hits":1}}"#,
+        ),
+        (
+            S,
+            "q=lambda..typ",
+            r#"{"completions":[{"docs":1,"word":"typed"}],"facets":{},"hits":[{"doc":2,"score":4,"title":"Typed lambda calculi"}],"total":{"completions":1,"hits":1}}"#,
+        ),
+        (
+            S,
+            "q=typ+-search",
+            r#"{"completions":[],"facets":{},"hits":[{"doc":2,"score":4,"title":"Typed lambda calculi"}],"total":{"completions":0,"hits":1}}"#,
+        ),
+        (
+            S,
+            "q=year:",
+            r#"{"completions":[{"docs":1,"word":"year:1940"},{"docs":1,"word":"year:2006"},{"docs":1,"word":"year:2007"}],"facets":{},"hits":[{"doc":0,"score":2,"title":"Type less find more"},{"doc":1,"score":2,"title":"The CompleteSearch engine"},{"doc":2,"score":2,"title":"Typed lambda calculi"}],"total":{"completions":3,"hits":3}}"#,
+        ),
+        (
+            S,
+            "q=",
+            r#"{"completions":[],"facets":{},"hits":[{"doc":0,"score":0,"title":"Type less find more"},{"doc":1,"score":0,"title":"The CompleteSearch engine"},{"doc":2,"score":0,"title":"Typed lambda calculi"}],"total":{"completions":0,"hits":3}}"#,
+        ),
+        (
+            S,
+            "q=&h=1&o=1",
+            r#"{"completions":[],"facets":{},"hits":[{"doc":1,"score":0,"title":"The CompleteSearch engine"}],"total":{"completions":0,"hits":3}}"#,
+        ),
+        (
+            S,
+            "q=a|",
+            r#"{"completions":[{"docs":1,"word":"a"},{"docs":1,"word":"ahead"},{"docs":1,"word":"and"},{"docs":1,"word":"autocompletion"}],"facets":{},"hits":[{"doc":0,"score":1,"title":"Type less find more"},{"doc":1,"score":1,"title":"The CompleteSearch engine"}],"total":{"completions":4,"hits":2}}"#,
+        ),
+        (
+            S,
+            "q=search&f=author,zzz",
+            r#"{"completions":[{"docs":2,"word":"search"}],"facets":{"author":[{"docs":2,"word":"author:bast"},{"docs":1,"word":"author:weber"}],"zzz":[]},"hits":[{"doc":0,"score":1,"title":"Type less find more"},{"doc":1,"score":1,"title":"The CompleteSearch engine"}],"total":{"completions":1,"hits":2}}"#,
+        ),
+        (S, "q=a||b", r#"{"at":2,"error":"bad"}"#),
+        (S, "q=typ&h=101", r#"{"error":"param","param":"h"}"#),
+        (S, "q=typ&h=", r#"{"error":"param","param":"h"}"#),
+        (S, "q=a||b&o=x", r#"{"error":"param","param":"o"}"#),
+        (
+            "",
+            "q=typ",
+            r#"{"completions":[],"facets":{},"hits":[],"total":{"completions":0,"hits":0}}"#,
+        ),
+        // the key text is decomposed and folded, the title stays
+        (
+            "café École",
+            "q=É",
+            "{\"completions\":[{\"docs\":1,\"word\":\"e\u{301}cole\"}],\"facets\":{},\"hits\":[{\"doc\":0,\"score\":4,\"title\":\"café École\"}],\"total\":{\"completions\":1,\"hits\":1}}",
+        ),
+        (
+            "café École",
+            "q=e",
+            "{\"completions\":[{\"docs\":1,\"word\":\"e\u{301}cole\"}],\"facets\":{},\"hits\":[{\"doc\":0,\"score\":4,\"title\":\"café École\"}],\"total\":{\"completions\":1,\"hits\":1}}",
+        ),
+        (
+            GUIDE,
+            "q=über-gui",
+            r#"{"completions":[{"docs":1,"word":"guide"}],"facets":{},"hits":[{"doc":0,"score":4,"title":"Müller's \"Über-Guide\": 2nd ed."}],"total":{"completions":1,"hits":1}}"#,
+        ),
+        (
+            GUIDE,
+            "q=publisher:o'r",
+            r#"{"completions":[{"docs":1,"word":"publisher:o_reilly_co"}],"facets":{},"hits":[{"doc":0,"score":2,"title":"Müller's \"Über-Guide\": 2nd ed."}],"total":{"completions":1,"hits":1}}"#,
+        ),
+        // in both files the mark, CR before LF, and lines without bytes
+        (
+            "\u{FEFF}a\r\n\nb",
+            "\u{FEFF}\r\nq=\r\n\n",
+            r#"{"completions":[],"facets":{},"hits":[{"doc":0,"score":0,"title":"a"},{"doc":1,"score":0,"title":"b"}],"total":{"completions":0,"hits":2}}"#,
+        ),
     ] {
-        let words: [&str; 3] = ["ask", "C", "Q"];
-        let left = run_with(rt.alloc(), &words, Some(collection), Some(script))?;
-        assert_eq!(rt; left.status, status);
-        assert_eq!(rt; left.out.as_slice(), out);
-        assert_eq!(rt; left.err.as_slice(), err);
+        let left = ask(alloc, collection.as_bytes(), script.as_bytes())?;
+        assert_eq!(rt; left.status, 0, "of {script}");
+        assert_eq!(rt; left.err.as_slice(), b"".as_slice(), "of {script}");
+        let want = line_of(alloc, reply)?;
+        assert_eq!(rt; left.out.as_slice(), want.as_slice(), "of {script}");
     }
+    Ok(())
+}
+
+fn line_of(alloc: Global, reply: &str) -> Result<Vec<u8>, Memory> {
+    let mut line = Vec::from_slice(alloc, reply.as_bytes())?;
+    line.push(b'\n')?;
+    Ok(line)
+}
+
+// A collection and a script, the status, the number of lines like the first worked reply, and what is said.
+#[test]
+fn what_is_refused_is_named_after_the_lines_before_it(rt: HostRuntime) -> Result<(), Fail> {
+    let alloc = rt.alloc();
+    let full = script_with(alloc, 4_096)?;
+    let longer = script_with(alloc, 4_097)?;
+    let s = S.as_bytes();
+    let typ: &[u8] = b"q=typ\n";
+    for (collection, script, status, lines, err) in [
+        (s, typ, 0, 1, ""),
+        (s, b"", 0, 0, ""),
+        (
+            s,
+            b"q=typ\nq=typ\nq=author[search]+typ\nq=typ",
+            1,
+            2,
+            "not built\n",
+        ),
+        (b"a\tb\tc", typ, 3, 0, "collection: line 1: bad facet\n"),
+        (
+            b"x\t1a=b",
+            typ,
+            3,
+            0,
+            "collection: line 1: bad facet name\n",
+        ),
+        (
+            b"a\n\xFF\nx\ty",
+            typ,
+            3,
+            0,
+            "collection: line 2: not UTF-8\n",
+        ),
+        (s, full.as_slice(), 0, 2, ""),
+        (s, longer.as_slice(), 8, 1, "script: line 2: too long\n"),
+        (
+            s,
+            b"\nq=typ\n\nq=\xFF\nq=typ",
+            8,
+            1,
+            "script: line 4: not UTF-8\n",
+        ),
+    ] {
+        let left = ask(alloc, collection, script)?;
+        assert_eq!(rt; left.err.as_slice(), err.as_bytes());
+        assert_eq!(rt; left.status, status, "with {err}");
+        let mut want = Vec::new(alloc);
+        for _ in 0..lines {
+            want.extend_from_slice(TYP.as_bytes())?;
+            want.push(b'\n')?;
+        }
+        assert_eq!(rt; left.out.as_slice(), want.as_slice(), "with {err}");
+    }
+    Ok(())
+}
+
+// Two lines that ask the same; the second has so many bytes.
+fn script_with(alloc: Global, bytes: usize) -> Result<Vec<u8>, Memory> {
+    let mut script = Vec::from_slice(alloc, b"q=typ\nq=typ&x=")?;
+    for _ in 8..bytes {
+        script.push(b'a')?;
+    }
+    Ok(script)
+}
+
+#[test]
+fn a_word_is_cut_at_120_bytes_and_a_query_is_refused_there(rt: HostRuntime) -> Result<(), Fail> {
+    let alloc = rt.alloc();
+    let letters = String::from_str(
+        alloc,
+        "aaaaaaaaaaaaaaaaaaaaaaaaaaaaaaaaaaaaaaaaaaaaaaaaaaaaaaaaaaaaaaaaaaaaaaaaaaaaaaaaaaaaaaaaaaaaaaaaaaaaaaaaaaaaaaaaaaaaaaaa",
+    )?;
+    let letters = letters.as_str();
+    let collection = format!(in alloc; "\tk={letters}a\t{letters}a")?;
+    let script = format!(in alloc; "q=k:\nq={letters}\nq={letters}a\n")?;
+    let want = format!(in alloc;
+        "{{\"completions\":[{{\"docs\":1,\"word\":\"k:{letters}\"}}],\"facets\":{{}},\"hits\":[{{\"doc\":0,\"score\":2,\"title\":\"\"}}],\"total\":{{\"completions\":1,\"hits\":1}}}}\n{{\"completions\":[{{\"docs\":1,\"word\":\"{letters}\"}}],\"facets\":{{}},\"hits\":[{{\"doc\":0,\"score\":1,\"title\":\"\"}}],\"total\":{{\"completions\":1,\"hits\":1}}}}\n{}\n",
+        "{\"at\":120,\"error\":\"limit\",\"which\":\"word\"}"
+    )?;
+    let left = ask(
+        alloc,
+        collection.as_str().as_bytes(),
+        script.as_str().as_bytes(),
+    )?;
+    assert_eq!(rt; left.status, 0);
+    assert_eq!(rt; left.out.as_slice(), want.as_str().as_bytes());
     Ok(())
 }
 
 #[test]
 fn what_is_missing_is_named(rt: HostRuntime) -> Result<(), Fail> {
     let ask: [&str; 3] = ["ask", "C", "Q"];
-    let left = run_with(rt.alloc(), &ask, None, Some(b"q=a\n"))?;
-    assert_eq!(rt; left.status, 5);
-    assert_eq!(rt; left.err.as_slice(), b"absent: C\n".as_slice());
-    let left = run_with(rt.alloc(), &ask, Some(TYPES), None)?;
-    assert_eq!(rt; left.status, 5);
-    assert_eq!(rt; left.err.as_slice(), b"absent: Q\n".as_slice());
     let few: [&str; 2] = ["ask", "C"];
-    let left = run_with(rt.alloc(), &few, Some(TYPES), None)?;
-    assert_eq!(rt; left.status, 2);
-    assert_eq!(rt; left.err.as_slice(), USAGE);
     let later: [&str; 2] = ["trial", "1000"];
-    let left = run_with(rt.alloc(), &later, None, None)?;
-    assert_eq!(rt; left.status, 1);
     let beyond: [&str; 2] = ["trial", "1001"];
-    let left = run_with(rt.alloc(), &beyond, None, None)?;
-    assert_eq!(rt; left.status, 2);
+    let script: &[u8] = b"q=a\n";
+    let refused: &[u8] = b"\xFF";
+    for (words, collection, script, status, err) in [
+        (ask.as_slice(), None, Some(script), 5, "absent: C\n"),
+        (ask.as_slice(), None, None, 5, "absent: C\n"),
+        (ask.as_slice(), Some(refused), None, 5, "absent: Q\n"),
+        (few.as_slice(), None, None, 2, USAGE),
+        (later.as_slice(), None, None, 1, "not built\n"),
+        (beyond.as_slice(), None, None, 2, USAGE),
+    ] {
+        let left = run_with(rt.alloc(), words, collection, script)?;
+        assert_eq!(rt; left.status, status, "with {err}");
+        assert_eq!(rt; left.out.as_slice(), b"".as_slice(), "with {err}");
+        assert_eq!(rt; left.err.as_slice(), err.as_bytes());
+    }
     Ok(())
 }
 

@@ -1,4 +1,4 @@
-use Rattle.cs_top.proofs.AskLemmas.{asked_stopped, asked_script}
+use Rattle.cs_top.proofs.AskLemmas.{asked_stopped}
 use Rattle.cs_top.proofs.command.ask.Goals as goal
 
 pub returns-in-Err-clause-asked : goal.returns-in-Err-clause-asked

@@ -1,4 +1,3 @@
-use Rattle.std.proofs.Common.{arith}
 use Rattle.cs_top.proofs.GrewLemmas.{pieces_begun, on_err}
 use Rattle.cs_top.proofs.said.put_all.Goals as goal
 

@@ -1,4 +1,4 @@
-use Rattle.std.proofs.Common.{◌<◌, ◌≤◌, arith}
+use Rattle.std.proofs.Common.{◌≤◌, arith}
 use Rattle.cs_top.proofs.Digits.{tens, tens_small}
 use Rattle.cs_top.proofs.words.number_of.Goals as goal
 
