@@ -13,9 +13,11 @@ use cs_query::{Reply, Request, Shown, parse};
 use std::alloc::Global;
 use std::test::Fail;
 
-const LINES: &str = "Type less find more\tauthor=Bast;author=Weber;year=2006\tautocompletion search with a succinct index\nThe CompleteSearch engine\tauthor=Bast;year=2007\ttype ahead search and faceted search\nTyped lambda calculi\tauthor=Church;year=1940\ttypes\n";
+const LINES: &str =
+    "Type less find more\tauthor=Bast;author=Weber;year=2006\tautocompletion search with a succinct index\nThe CompleteSearch engine\tauthor=Bast;year=2007\ttype ahead search and faceted search\nTyped lambda calculi\tauthor=Church;year=1940\ttypes\n";
 
-const GUIDE: &str = "M\u{FC}ller's \"\u{DC}ber-Guide\": 2nd ed.\tpublisher=O'Reilly & Co.; lang=de\tThe handbook.";
+const GUIDE: &str =
+    "M\u{FC}ller's \"\u{DC}ber-Guide\": 2nd ed.\tpublisher=O'Reilly & Co.; lang=de\tThe handbook.";
 
 // A query, a facet, and the reply as hits, completions, the facet's table and both totals.
 #[test]
@@ -34,7 +36,11 @@ fn replies_over_three_lines_are_these(rt: HostRuntime) -> Result<(), Fail> {
             "0:2 1:2 2:2 |year:1940 1,year:2006 1,year:2007 1,||3 3",
         ),
         ("", "", "0:0 1:0 2:0 |||0 3"),
-        ("a|", "", "0:1 1:1 |a 1,ahead 1,and 1,autocompletion 1,||4 2"),
+        (
+            "a|",
+            "",
+            "0:1 1:1 |a 1,ahead 1,and 1,autocompletion 1,||4 2",
+        ),
         (
             "search",
             "author",
