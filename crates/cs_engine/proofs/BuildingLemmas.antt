@@ -53,6 +53,7 @@ all_listed P (w ∷ ws) words h members =
     later : (a b : Bool) → b ≡ true → (a || b) ≡ true
     later true b e = refl
     later false b e = e
+
     one : (w : List ℕ) (words : List (List ℕ)) → AllByRecursion P words → list_any (bytes_eq w) words ≡ true → P w
     one w [] h m = absurd (true≢false (sym m))
     one w (v ∷ words) h m =

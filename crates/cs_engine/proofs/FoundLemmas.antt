@@ -113,6 +113,7 @@ module _ (s : Stock) where
       all_stay : (ds : List ℕ) → filter (λ d. true) ds ≡ ds
       all_stay [] = refl
       all_stay (d ∷ ds) = ap (λ l. d ∷ l) (all_stay ds)
+
       none_scored : (ds : List ℕ) → AllByRecursion (λ h. h.score ≤ 255 * 0) (map unscored ds)
       none_scored [] = tt
       none_scored (d ∷ ds) = (omega arith, none_scored ds)

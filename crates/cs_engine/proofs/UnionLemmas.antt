@@ -129,16 +129,15 @@ united s a b c kept in_a in_b union up =
     let posts = s.posts.posts in
     let among : All (Contains posts) c = All-permutation (Contains posts) (a ++ missing a b) c union (All-append (Contains posts) a (missing a b) in_a.among (All-filter _ (Contains posts) b in_b.among)) in
     let all_a = recursion_from_All (Contains posts) a in_a.among in
-    let all_b = recursion_from_All (Contains posts) b in_b.among in
-    (
+    let all_b = recursion_from_All (Contains posts) b in_b.among in (
       members_are by_row by_row_total by_row_exact (rows_at s.words c) (rows_at s.words a ++ rows_at s.words b)
-      (rows_rise s.words kept.words c (picked_words s c kept among) up)
-      (λ q.
-      any_through (row_of s.words) (eq_by_cmp by_row q) c
-      ∙ sym (list_any-IsPermutation (λ p. eq_by_cmp by_row q (row_of s.words p)) (a ++ missing a b) c union)
-      ∙ any_united posts kept.sorted (λ p. eq_by_cmp by_row q (row_of s.words p)) a b all_a all_b
-      ∙ sym (any_through (row_of s.words) (eq_by_cmp by_row q) (a ++ b))
-      ∙ ap (list_any (eq_by_cmp by_row q)) (map-append (row_of s.words) a b)),
+          (rows_rise s.words kept.words c (picked_words s c kept among) up)
+          (λ q.
+          any_through (row_of s.words) (eq_by_cmp by_row q) c
+          ∙ sym (list_any-IsPermutation (λ p. eq_by_cmp by_row q (row_of s.words p)) (a ++ missing a b) c union)
+          ∙ any_united posts kept.sorted (λ p. eq_by_cmp by_row q (row_of s.words p)) a b all_a all_b
+          ∙ sym (any_through (row_of s.words) (eq_by_cmp by_row q) (a ++ b))
+          ∙ ap (list_any (eq_by_cmp by_row q)) (map-append (row_of s.words) a b)),
       record { sorted = up; among = among },
     )
 
@@ -154,6 +153,7 @@ united_more found next chains is =
     none_behind : (rows : List Row) → rows ++ [] ≡ rows
     none_behind [] = refl
     none_behind (r ∷ rows) = ap (λ l. r ∷ l) (none_behind rows)
+
     last_piece : (chains : List (List Row)) → flat_map (λ rows. rows) (chains ++ next ∷ []) ≡ flat_map (λ rows. rows) chains ++ next
     last_piece chains = flat_map-append (λ rows. rows) chains (next ∷ []) ∙ ap (λ l. flat_map (λ rows. rows) chains ++ l) (none_behind next)
 
@@ -179,6 +179,7 @@ linked_near ws a b =
     each_post : (r : Post) (a : List Post) → list_any (is_near r) a ≡ list_any (λ x. is_linked Near (row_of ws r) (row_of ws x)) a
     each_post r [] = refl
     each_post r (x ∷ a) = ap (λ t. t || list_any (is_near r) a) (near_is r.doc x.doc r.pos x.pos) ∙ ap (λ t. is_linked Near (row_of ws r) (row_of ws x) || t) (each_post r a)
+
     each : (b : List Post) → AllByRecursion (λ r. list_any (is_near r) a ≡ list_any (is_linked Near (row_of ws r)) (rows_at ws a)) b
     each [] = tt
     each (r ∷ b) = (each_post r a ∙ sym (any_through (row_of ws) (is_linked Near (row_of ws r)) a), each b)
@@ -220,8 +221,7 @@ one_more_chain s chains i x found next now kept l at is picked next_is next_pick
     let all = united s found next now kept picked next_picked union up in
     let f : Chain → List Row = rows_of_chain (corpus_in s) in
     let more : map f (take (i + 1) chains) ≡ map f (take i chains) ++ f x ∷ [] =
-    ap (map f) (take_more chains i x l) ∙ map-append f (take i chains) (get_or chains i x ∷ []) ∙ ap (λ y. map f (take i chains) ++ f y ∷ []) (sym at) in
-    (
+    ap (map f) (take_more chains i x l) ∙ map-append f (take i chains) (get_or chains i x ∷ []) ∙ ap (λ y. map f (take i chains) ++ f y ∷ []) (sym at) in (
       all.0 ∙ ap (λ rows. members_in by_row (rows_at s.words found ++ rows)) next_is ∙ united_more (rows_at s.words found) (f x) (map f (take i chains)) is ∙ ap union_of (sym more),
       all.1,
     )
@@ -236,10 +236,9 @@ one_more_link s links i x whole found next now l at is next_is next_picked now_i
     let link = (out-Linked x).link in
     let last = linked s link found next now next_picked now_is in
     let here : f x ≡ record { link = link; rows = rows_at s.words next } = linked_rows-is (corpus_in s) x ∙ ap (λ (rows : List Row). let r : LinkedRows = record { link = link; rows = rows } in r) (sym next_is) in
-    let rest : drop i links ≡ x ∷ drop (i + 1) links = drop-cons links i x l ∙ ap (λ n. get_or links i x ∷ drop n links) (sym (add-one i)) ∙ ap (λ y. y ∷ drop (i + 1) links) (sym at) in
-    (
+    let rest : drop i links ≡ x ∷ drop (i + 1) links = drop-cons links i x l ∙ ap (λ n. get_or links i x ∷ drop n links) (sym (add-one i)) ∙ ap (λ y. y ∷ drop (i + 1) links) (sym at) in (
       is ∙ ap (λ xs. chained (rows_at s.words found) (map f xs)) rest
-      ∙ ap (λ y. chained (linked_to y.link (rows_at s.words found) y.rows) (map f (drop (i + 1) links))) here
-      ∙ ap (λ rows. chained rows (map f (drop (i + 1) links))) (sym last.0),
+          ∙ ap (λ y. chained (linked_to y.link (rows_at s.words found) y.rows) (map f (drop (i + 1) links))) here
+          ∙ ap (λ rows. chained rows (map f (drop (i + 1) links))) (sym last.0),
       last.1,
     )

@@ -12,6 +12,8 @@ mod joins;
 mod parts;
 mod replies;
 mod stock;
+#[cfg(test)]
+mod tests;
 
 pub use corpus::{Corpus, CorpusFault};
 pub use joins::has_join;
