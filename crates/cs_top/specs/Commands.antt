@@ -1,16 +1,13 @@
 -- The command line's words.
 --
 --   Command              what the words ask for
---   number_of w          the number that digits spell, leading zeros read; 0 for no digits
---   has_digits n w       w is 1 to n digits
 --   is_number n g w      w is 1 to n digits whose number is from 1 to g
 --   command_of words     the command; None where the words aren't in the table
 --
 -- The table: build COLLECTION INDEX, ask COLLECTION SCRIPT, replay INDEX SCRIPT, serve INDEX PORT CONNS, trial N.
-use Rattle.std.specs.Prelude.{ℕ, ◌+◌, ◌-◌, ◌*◌, Bool, ◌&&◌, nat_le, nat_lt, if◌then◌else◌, List, [], ◌∷◌, length, fold, Option, Some, None, codes}
+use Rattle.std.specs.Prelude.{ℕ, Bool, ◌&&◌, nat_le, nat_lt, if◌then◌else◌, List, [], ◌∷◌, Option, Some, None, codes}
 use Rattle.std.specs.Str.{bytes_eq}
-use Rattle.std.specs.List.{list_all}
-use Rattle.std.specs.Char.{is_ascii_digit}
+use Rattle.cs_model.specs.Parameters.{number_of, has_digits}
 
 pub data Command : Type 0 where
   build : List ℕ → List ℕ → Command
@@ -18,13 +15,6 @@ pub data Command : Type 0 where
   replay : List ℕ → List ℕ → Command
   serve : List ℕ → List ℕ → List ℕ → Command
   trial : List ℕ → Command
-
-abbrev pub number_of : List ℕ → ℕ
-number_of w = fold (λ n c. n * 10 + (c - 48)) 0 w
-
--- 1 to n digits
-abbrev pub has_digits : ℕ → List ℕ → Bool
-has_digits n w = nat_lt 0 (length w) && (nat_le (length w) n && list_all is_ascii_digit w)
 
 abbrev pub is_number : ℕ → ℕ → List ℕ → Bool
 is_number n g w = has_digits n w && (nat_lt 0 (number_of w) && nat_le (number_of w) g)

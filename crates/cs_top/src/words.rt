@@ -4,7 +4,8 @@ ghost use Rattle.std.specs.Option.{option_map};
 ghost use Rattle.std.specs.String.{string_bytes};
 ghost use Rattle.std.specs.List.{list_all};
 ghost use Rattle.std.specs.Char.{is_ascii_digit};
-ghost use Rattle.cs_top.specs.Commands.{command_of, two_words, serve_words, trial_words, has_digits, is_number, number_of};
+ghost use Rattle.cs_top.specs.Commands.{command_of, two_words, serve_words, trial_words, is_number};
+ghost use Rattle.cs_model.specs.Parameters.{has_digits, number_of};
 ghost use Rattle.cs_top.specs.CommandView.{seen};
 
 /// What the words ask for.

@@ -1,5 +1,5 @@
 use Rattle.std.proofs.Common.{◌≡◌, ◌<◌, take}
-use Rattle.cs_top.specs.Commands.{number_of}
+use Rattle.cs_model.specs.Parameters.{number_of}
 use Rattle.cs_top.proofs.Digits.{tens}
 use Rattle.cs_top.proofs.words.number_of.Given as goal
 
