@@ -160,7 +160,7 @@ document l = record { title = (columns l.bytes).title; facets = (columns l.bytes
 abbrev pub documents : List ℕ → List Doc
 documents c = map document (doc_lines c)
 
--- ---- plain collections, the ones that are read so far
+-- ---- plain collections: titles in printable ASCII, of which one law speaks
 -- LF, or from space to tilde other than the double quote and the backslash
 abbrev pub is_plain_byte : ℕ → Bool
 is_plain_byte b = (b == 10) || (is_in_range 32 126 b && (not (b == 34) && not (b == 92)))

@@ -7,10 +7,10 @@
 --                              refusal
 --   memory_text                the text in its place where memory ran out
 --   IsAnswer k l t             t may be put for the line: its text or the memory text, and LF
---   IsAllowed k ls o           o is one answer for each of the lines, in order; nothing for no lines
---   PutAll k ls old new        where a sink tells, it grew by an allowed output for all these lines
---   IsBegun k left b           b is some first bytes of an answer to the first line that is left
---   PutSome k ls old new       it grew by an allowed output for some first lines, and some first bytes of an answer to the next
+--   IsAllowed A ls o           o is one answer by A for each of the lines, in order; nothing for no lines
+--   PutAll A ls old new        where a sink tells, it grew by an allowed output for all these lines
+--   IsBegun A left b           b is some first bytes of an answer to the first line that is left
+--   PutSome A ls old new       it grew by an allowed output for some first lines, and some first bytes of an answer to the next
 --
 -- A script begins and ends its lines as a collection does: EF BB BF in front is skipped once, LF ends a line with one CR
 -- before it, and the last line needs no ending.
@@ -51,23 +51,26 @@ text k p = text_by k p (request_refusal p)
 abbrev pub memory_text : List ℕ
 memory_text = error_text (codes "memory")
 
--- ---- outputs
 abbrev pub IsAnswer : Corpus → List ℕ → List ℕ → Type 0
 IsAnswer k l t = (t ≡ text k l ++ 10 ∷ []) ⊎ (t ≡ memory_text ++ 10 ∷ [])
 
-abbrev pub IsAllowed : Corpus → List (List ℕ) → List ℕ → Type 0
-IsAllowed k [] o = o ≡ []
-IsAllowed k (l ∷ ls) o = (t : List ℕ) × (rest : List ℕ) × IsAnswer k l t × IsAllowed k ls rest × (o ≡ t ++ rest)
+-- ---- outputs, by what may be put for a line
+abbrev pub Answers : Type 1
+Answers = List ℕ → List ℕ → Type 0
 
-abbrev pub PutAll : Corpus → List (List ℕ) → Option (List ℕ) → Option (List ℕ) → Type 0
-PutAll k ls old new = (o : List ℕ) × IsAllowed k ls o × Grew old o new
+abbrev pub IsAllowed : Answers → List (List ℕ) → List ℕ → Type 0
+IsAllowed A [] o = o ≡ []
+IsAllowed A (l ∷ ls) o = (t : List ℕ) × (rest : List ℕ) × A l t × IsAllowed A ls rest × (o ≡ t ++ rest)
+
+abbrev pub PutAll : Answers → List (List ℕ) → Option (List ℕ) → Option (List ℕ) → Type 0
+PutAll A ls old new = (o : List ℕ) × IsAllowed A ls o × Grew old o new
 
 -- some first bytes of an answer to the next line; nothing where no line is left
-abbrev pub IsBegun : Corpus → List (List ℕ) → List ℕ → Type 0
-IsBegun k [] b = b ≡ []
-IsBegun k (l ∷ ls) b = (t : List ℕ) × (n : ℕ) × IsAnswer k l t × (b ≡ take n t)
+abbrev pub IsBegun : Answers → List (List ℕ) → List ℕ → Type 0
+IsBegun A [] b = b ≡ []
+IsBegun A (l ∷ ls) b = (t : List ℕ) × (n : ℕ) × A l t × (b ≡ take n t)
 
-abbrev pub PutSome : Corpus → List (List ℕ) → Option (List ℕ) → Option (List ℕ) → Type 0
-PutSome k ls old new =
+abbrev pub PutSome : Answers → List (List ℕ) → Option (List ℕ) → Option (List ℕ) → Type 0
+PutSome A ls old new =
     (done : List (List ℕ)) × (left : List (List ℕ)) × (o : List ℕ) × (b : List ℕ)
-    × (ls ≡ done ++ left) × IsAllowed k done o × IsBegun k left b × Grew old (o ++ b) new
+    × (ls ≡ done ++ left) × IsAllowed A done o × IsBegun A left b × Grew old (o ++ b) new

@@ -8,11 +8,11 @@ use Rattle.std.proofs.lemmas.List.{drop_all}
 use Rattle.cs_base.specs.Outside.{Grew}
 use Rattle.cs_model.specs.Collection.{has_bytes}
 use Rattle.cs_model.specs.Corpus.{Corpus}
-use Rattle.cs_model.specs.Outputs.{ScriptFault, IsAnswer, IsAllowed, IsBegun, PutAll, line_fault, memory_text}
+use Rattle.cs_model.specs.Outputs.{ScriptFault, IsAllowed, IsBegun, PutAll, line_fault, memory_text}
 use Rattle.cs_top.specs.Asking.{asks_join, first_fault, readable_before, readable_lines, ending_before, ending_of_lines}
 use Rattle.cs_top.specs.Endings.{Ending, done, not_built, usage, refused, absent, failed, no_memory, script_refused}
 use Rattle.cs_top.specs.LineSteps.{Stops, Reaches, EndsAt}
-use Rattle.cs_top.specs.Runs.{IsExpected, PutBy}
+use Rattle.cs_top.specs.Runs.{IsAnswerNow, IsExpected, PutBy}
 use Rattle.cs_top.specs.ScriptView.{fault_seen, script_ending}
 use Rattle.cs_top.specs.declared.lines.Place.{Place}
 use Rattle.cs_top.specs.declared.script.ScriptEnd.{ScriptEnd}
@@ -85,14 +85,14 @@ unfolding ending_of_lines
 ending-nil = refl
 
 -- ---- what is put so far
-allowed_push : (k : Corpus) (ls : List (List ℕ)) (l o t : List ℕ) → IsAllowed k ls o → IsAnswer k l t → IsAllowed k (ls ++ l ∷ []) (o ++ t)
+allowed_push : (k : Corpus) (ls : List (List ℕ)) (l o t : List ℕ) → IsAllowed (IsAnswerNow k) ls o → IsAnswerNow k l t → IsAllowed (IsAnswerNow k) (ls ++ l ∷ []) (o ++ t)
 allowed_push k [] l o t h a = (t, [], a, refl, ap (λ x. x ++ t) h ∙ sym (append-nil t))
 allowed_push k (m ∷ ls) l o t h a =
     (h.0, h.1 ++ t, h.2, allowed_push k ls l h.1 t h.3 a, ap (λ x. x ++ t) h.4 ∙ append_assoc h.0 h.1 t)
 
-begun_none : (k : Corpus) (ls : List (List ℕ)) → IsBegun k ls []
+begun_none : (k : Corpus) (ls : List (List ℕ)) → IsBegun (IsAnswerNow k) ls []
 begun_none k [] = refl
-begun_none k (l ∷ ls) = (memory_text ++ 10 ∷ [], 0, inr refl, refl)
+begun_none k (l ∷ ls) = (memory_text ++ 10 ∷ [], 0, (inr refl, λ _. refl), refl)
 
 -- some lines were answered; what is left decides the rest
 pub record HasAnswered (k : Corpus) (all left : List (ℕ × List ℕ)) (old now : Option (List ℕ)) : Type 0 where
@@ -100,7 +100,7 @@ pub record HasAnswered (k : Corpus) (all left : List (ℕ × List ℕ)) (old now
   pub output : List ℕ
   pub so_far : readable_lines all ≡ done ++ readable_lines left
   pub fault : first_fault all ≡ first_fault left
-  pub allowed : IsAllowed k done output
+  pub allowed : IsAllowed (IsAnswerNow k) done output
   pub grew : Grew old output now
 
 pub at_start : (k : Corpus) (all left : List (ℕ × List ℕ)) (w : Option (List ℕ)) → all ≡ left → HasAnswered k all left w w
@@ -108,7 +108,7 @@ at_start k all left w e = record { done = []; output = []; so_far = ap readable_
 
 module _ {k : Corpus} {all left : List (ℕ × List ℕ)} {old now : Option (List ℕ)} (h : HasAnswered k all left old now) where
   -- a line was answered
-  answers : (l : ℕ × List ℕ) (ls : List (ℕ × List ℕ)) (t : List ℕ) (new : Option (List ℕ)) → left ≡ l ∷ ls → line_fault l ≡ None → IsAnswer k l.1 t → Grew now t new → HasAnswered k all ls old new
+  answers : (l : ℕ × List ℕ) (ls : List (ℕ × List ℕ)) (t : List ℕ) (new : Option (List ℕ)) → left ≡ l ∷ ls → line_fault l ≡ None → IsAnswerNow k l.1 t → Grew now t new → HasAnswered k all ls old new
   answers l ls t new is read a g = record {
     done = h.done ++ l.1 ∷ [];
     output = h.output ++ t;
@@ -121,17 +121,17 @@ module _ {k : Corpus} {all left : List (ℕ × List ℕ)} {old now : Option (Lis
   so_far-read : (l : ℕ × List ℕ) (ls : List (ℕ × List ℕ)) → left ≡ l ∷ ls → line_fault l ≡ None → readable_lines all ≡ h.done ++ l.1 ∷ readable_lines ls
   so_far-read l ls is read = h.so_far ∙ ap (λ x. h.done ++ readable_lines x) is ∙ ap (λ x. h.done ++ x) (readable-read l ls read)
 
-  all_put : readable_lines left ≡ [] → PutAll k (readable_lines all) old now
+  all_put : readable_lines left ≡ [] → PutAll (IsAnswerNow k) (readable_lines all) old now
   all_put none =
       let same : readable_lines all ≡ h.done = h.so_far ∙ ap (λ x. h.done ++ x) none ∙ append-nil h.done in
-      (h.output, subst (λ ls. IsAllowed k ls h.output) (sym same) h.allowed, h.grew)
+      (h.output, subst (λ ls. IsAllowed (IsAnswerNow k) ls h.output) (sym same) h.allowed, h.grew)
 
   -- the script ended at a line
   pub stops : (e : Ending) (l : ℕ × List ℕ) (ls : List (ℕ × List ℕ)) (new : Option (List ℕ)) → left ≡ l ∷ ls → Stops e k l now new → PutBy e k all old new
   stops not_built l ls new is st = (h.done, l.1, readable_lines ls, so_far-read l ls is st.1, st.2, (h.output, h.allowed, st.3 ∙ h.grew))
   stops (script_refused f) l ls new is st = (
     h.fault ∙ ap first_fault is ∙ fault-here l ls f st.1,
-    subst (λ w. PutAll k (readable_lines all) old w) (sym st.2) (all_put (ap readable_lines is ∙ readable-fault l ls f st.1)),
+    subst (λ w. PutAll (IsAnswerNow k) (readable_lines all) old w) (sym st.2) (all_put (ap readable_lines is ∙ readable-fault l ls f st.1)),
   )
   stops failed l ls new is st =
       (h.done, l.1 ∷ readable_lines ls, h.output, take st.2.2.0 st.2.0, so_far-read l ls is st.1, h.allowed, (st.2.0, st.2.2.0, st.2.1, refl), grew_twice old h.output (take st.2.2.0 st.2.0) now new h.grew st.2.2.1)

@@ -13,6 +13,8 @@ use Rattle.cs_model.specs.Outputs.{script_line_too_long, script_line_not_utf8, l
 use Rattle.cs_model.specs.Parameters.{request_of, request_refusal}
 use Rattle.cs_model.specs.Replies.{reply_text}
 use Rattle.cs_model.specs.Requests.{Request, reply_of}
+use Rattle.cs_engine.specs.Searching.{has_join}
+use Rattle.cs_top.specs.Asking.{asks_join, asks_join_by}
 use Rattle.cs_query.specs.declared.request.ReqFault.{ReqFault}
 use Rattle.cs_query.specs.declared.request.ReqFault.TheVariants as causes
 
@@ -23,6 +25,17 @@ refused_text k p (causes.BadParam which) h other = ap (text_by k p) h
 refused_text k p (causes.Bad at) h other = ap (text_by k p) h
 refused_text k p (causes.Limit at which) h other = ap (text_by k p) h
 refused_text k p causes.Memory h other = absurd (other refl)
+
+-- a refused line asks no join
+pub refused_join : (p : List ℕ) (e : ReqFault) → IsCause p e → e ≢ causes.Memory → asks_join p ≡ false
+refused_join p (causes.BadParam which) h other = ap (asks_join_by p) h
+refused_join p (causes.Bad at) h other = ap (asks_join_by p) h
+refused_join p (causes.Limit at which) h other = ap (asks_join_by p) h
+refused_join p causes.Memory h other = absurd (other refl)
+
+-- a request asks a join where its query has one
+pub request_join : (p : List ℕ) (r : Request) (b : Bool) → request_refusal p ≡ None → r ≡ request_of p → b ≡ has_join r.query → asks_join p ≡ b
+request_join p r b accepted is told = ap (asks_join_by p) accepted ∙ ap (λ (x : Request). has_join x.query) (sym is) ∙ sym told
 
 -- the text of a line that is a request
 pub request_text : (k : Corpus) (p : List ℕ) (r : Request) → request_refusal p ≡ None → r ≡ request_of p → text k p ≡ reply_text (reply_of k r)

@@ -6,6 +6,7 @@
 --   line_ending l         how a script ends at the line l: its fault, or it asks a join; None where it is answered
 --   ending_of_lines ls    how the lines end where memory is there: done where each is answered
 --   answered c s          the lines of a script that are asked of a collection; none where the collection is refused
+--   answered_of h c s     the same over these files; none where one of the two isn't held
 --   ending_over c s       how it ends over the bytes of both files
 --   ending_of h c s       how it ends over these files where no call fails and memory is there: the first of the two names
 --                         that isn't held is said to be absent
@@ -59,6 +60,14 @@ answered_by (Some r) s = []
 
 abbrev pub answered : List ℕ → List ℕ → List (ℕ × List ℕ)
 answered c s = answered_by (refusal c) s
+
+abbrev pub answered_of_files : Option File → Option File → List (ℕ × List ℕ)
+answered_of_files None g = []
+answered_of_files (Some f) None = []
+answered_of_files (Some f) (Some g) = answered f.bytes g.bytes
+
+abbrev pub answered_of : Held → List ℕ → List ℕ → List (ℕ × List ℕ)
+answered_of h c s = answered_of_files (map.get h c) (map.get h s)
 
 abbrev pub ending_by : Option Refusal → List ℕ → Ending
 ending_by None s = ending_of_lines (script_lines s)

@@ -12,19 +12,20 @@ use Rattle.cs_base.specs.Causes.{Rose}
 use Rattle.cs_base.specs.Outside.{Grew, GrewByPrefix}
 use Rattle.cs_base.specs.declared.limits.TheConstants.{MAX_SCRIPT_LINE_BYTES}
 use Rattle.cs_model.specs.Corpus.{Corpus}
-use Rattle.cs_model.specs.Outputs.{IsAnswer, line_fault}
+use Rattle.cs_model.specs.Outputs.{line_fault}
 use Rattle.cs_top.specs.Endings.{Ending, not_built, failed, script_refused}
 use Rattle.cs_top.specs.Asking.{asks_join}
+use Rattle.cs_top.specs.Runs.{IsAnswerNow}
 use Rattle.cs_top.specs.declared.lines.Place.{Place}
 
 abbrev pub Passes : Corpus → ℕ × List ℕ → Option (List ℕ) → Option (List ℕ) → Type 0
-Passes k l old new = ((l.1 ≡ []) × (new ≡ old)) ⊎ ((l.1 ≢ []) × (line_fault l ≡ None) × ((t : List ℕ) × IsAnswer k l.1 t × Grew old t new))
+Passes k l old new = ((l.1 ≡ []) × (new ≡ old)) ⊎ ((l.1 ≢ []) × (line_fault l ≡ None) × ((t : List ℕ) × IsAnswerNow k l.1 t × Grew old t new))
 
 -- a script ends at no line in another way
 abbrev pub Stops : Ending → Corpus → ℕ × List ℕ → Option (List ℕ) → Option (List ℕ) → Type 0
 Stops not_built k l old new = (l.1 ≢ []) × (line_fault l ≡ None) × (asks_join l.1 ≡ true) × (new ≡ old)
 Stops (script_refused f) k l old new = (l.1 ≢ []) × (line_fault l ≡ Some f) × (new ≡ old)
-Stops failed k l old new = (l.1 ≢ []) × (line_fault l ≡ None) × ((t : List ℕ) × IsAnswer k l.1 t × GrewByPrefix old t new)
+Stops failed k l old new = (l.1 ≢ []) × (line_fault l ≡ None) × ((t : List ℕ) × IsAnswerNow k l.1 t × GrewByPrefix old t new)
 Stops e k l old new = ⊥
 
 abbrev pub OutCaused : Ending → ℕ → ℕ → Type 0

@@ -3,22 +3,23 @@
 --   EndsBy e command             usage exactly where the words aren't in the table; not built for a command that isn't known yet
 --   OfAsk command P              what holds of the two names of an `ask`; nothing is said of other commands
 --   IsExpected e x               the run ended as x, or a call failed, or memory ran out
+--   IsAnswerNow k l t            t may be put for the line, as far as joins aren't answered yet
 --   PutBy e k ls old new         what out grew by: the answers to the lines up to where the run ended, some of them where a call
 --                                failed, else nothing
 --   PutsByAsk command old new    no command but `ask` puts anything yet
 --   Caused e ..                  a run ends by a failure only where a count of files or of out rose; else both stay as they were
 --   Ran e command ..             a whole run
 --   Completes command held ..    where files tell, the whole script can be answered and no count rose, the status is 0 or 7
-use Rattle.std.specs.Prelude.{◌≡◌, ◌≢◌, ◌⊎◌, ◌≤◌, ℕ, true, List, ◌∷◌, ◌++◌, Option, Some, None}
+use Rattle.std.specs.Prelude.{◌≡◌, ◌≢◌, ◌⊎◌, ◌≤◌, ℕ, true, List, [], ◌∷◌, ◌++◌, Option, Some, None}
 use Rattle.std.specs.Option.{ForSome}
 use Rattle.std.specs.FinMap as map
 use Rattle.cs_base.specs.Causes.{Rose}
 use Rattle.cs_base.specs.Outside.{Held, bytes_of}
 use Rattle.cs_model.specs.Corpus.{Corpus, corpus}
-use Rattle.cs_model.specs.Outputs.{PutAll, PutSome}
+use Rattle.cs_model.specs.Outputs.{IsAnswer, PutAll, PutSome, memory_text}
 use Rattle.cs_top.specs.Commands.{Command, build, ask, replay, serve, trial}
 use Rattle.cs_top.specs.Endings.{Ending, done, not_built, usage, refused, absent, failed, no_memory, script_refused}
-use Rattle.cs_top.specs.Asking.{asks_join, first_fault, readable_lines, answered, ending_of}
+use Rattle.cs_top.specs.Asking.{asks_join, first_fault, readable_lines, answered_of, ending_of}
 
 abbrev pub EndsBy : Ending → Option Command → Type 0
 EndsBy e None = e ≡ usage
@@ -40,17 +41,21 @@ IsExpected done not_built = Unit {0}
 IsExpected (script_refused f) not_built = Unit {0}
 IsExpected e x = e ≡ x
 
+-- a join isn't answered yet: a line that asks one may have the memory text alone
+abbrev pub IsAnswerNow : Corpus → List ℕ → List ℕ → Type 0
+IsAnswerNow k l t = IsAnswer k l t × (asks_join l ≡ true → t ≡ memory_text ++ 10 ∷ [])
+
 -- some first lines were answered, and the next one asks a join
 abbrev pub PutBeforeJoin : Corpus → List (List ℕ) → Option (List ℕ) → Option (List ℕ) → Type 0
 PutBeforeJoin k ls old new =
-    (before : List (List ℕ)) × (l : List ℕ) × (left : List (List ℕ)) × (ls ≡ before ++ l ∷ left) × (asks_join l ≡ true) × PutAll k before old new
+    (before : List (List ℕ)) × (l : List ℕ) × (left : List (List ℕ)) × (ls ≡ before ++ l ∷ left) × (asks_join l ≡ true) × PutAll (IsAnswerNow k) before old new
 
 -- Done: each line is read, and answered. A refused line: it is the first with a fault, and those before it were answered.
 abbrev pub PutBy : Ending → Corpus → List (ℕ × List ℕ) → Option (List ℕ) → Option (List ℕ) → Type 0
-PutBy done k ls old new = (first_fault ls ≡ None) × PutAll k (readable_lines ls) old new
+PutBy done k ls old new = (first_fault ls ≡ None) × PutAll (IsAnswerNow k) (readable_lines ls) old new
 PutBy not_built k ls old new = PutBeforeJoin k (readable_lines ls) old new
-PutBy (script_refused f) k ls old new = (first_fault ls ≡ Some f) × PutAll k (readable_lines ls) old new
-PutBy failed k ls old new = PutSome k (readable_lines ls) old new
+PutBy (script_refused f) k ls old new = (first_fault ls ≡ Some f) × PutAll (IsAnswerNow k) (readable_lines ls) old new
+PutBy failed k ls old new = PutSome (IsAnswerNow k) (readable_lines ls) old new
 PutBy e k ls old new = new ≡ old
 
 -- nothing is put where the words, a file or memory is missing, or the collection is refused
@@ -76,7 +81,7 @@ held_bytes h name = bytes_of (map.get h name)
 
 pub record AskEnds (e : Ending) (h : Held) (c s : List ℕ) (old new : Option (List ℕ)) : Type 0 where
   pub expected : IsExpected e (ending_of h c s)
-  pub put : PutBy e (corpus (held_bytes h c)) (answered (held_bytes h c) (held_bytes h s)) old new
+  pub put : PutBy e (corpus (held_bytes h c)) (answered_of h c s) old new
 
 pub record Ran (e : Ending) (command : Option Command) (held : Option Held) (old new : Option (List ℕ)) (files_before files_now out_before out_now : ℕ) : Type 0 where
   pub ends : EndsBy e command

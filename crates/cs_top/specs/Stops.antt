@@ -11,7 +11,7 @@ use Rattle.cs_base.specs.Outside.{File, Held, size_of}
 use Rattle.cs_model.specs.Collection.{Refusal}
 use Rattle.cs_model.specs.Corpus.{corpus, refusal}
 use Rattle.cs_engine.specs.Searching.{Searched, corpus_searched}
-use Rattle.cs_top.specs.Asking.{ending_of, ending_over}
+use Rattle.cs_top.specs.Asking.{answered, answered_of, ending_of, ending_over}
 use Rattle.cs_top.specs.RefusalView.{refused}
 use Rattle.cs_top.specs.Runs.{held_bytes}
 use Rattle.cs_top.specs.declared.ending.Stop.TheVariants as stop
@@ -21,6 +21,7 @@ pub record IsReady (h : Held) (c s : List ℕ) (k : Searched) (n : ℕ) : Type 0
   pub accepted : refusal (held_bytes h c) ≡ None
   pub corpus : corpus_searched k ≡ corpus (held_bytes h c)
   pub ending : ending_of h c s ≡ ending_over (held_bytes h c) (held_bytes h s)
+  pub asked : answered_of h c s ≡ answered (held_bytes h c) (held_bytes h s)
   pub size : size_of (map.get h s) ≡ Some n
 
 abbrev pub IsMissing : Stop → List ℕ → Option File → Type 0

@@ -104,6 +104,7 @@ fn line_fault(line: &[u8], number: u64) -> Option<ScriptFault>
 fn answer_bytes(alloc: Global, corpus: &Corpus, line: &[u8]) -> Result<Vec<u8>, Unanswered>
     ensures ok { IfOk result (λ b. b.items ≡ text (corpus_searched corpus.now) line.now ++ 10 ∷ []) }
     ensures join { IsErrOf result Unanswered.Join → asks_join line.now ≡ true }
+    ensures built { OnOk result (asks_join line.now ≡ false) }
 {
     let wanted = match request(alloc, line) {
         Ok(wanted) => wanted,
