@@ -1,5 +1,6 @@
 -- What a run of the program does, by how it ended.
 --
+--   NamesOne e c s               a name that the ending says to be absent is c or s
 --   EndsBy e command             usage exactly where the words aren't in the table; not built for a command that isn't known yet
 --   OfAsk command P              what holds of the two names of an `ask`; nothing is said of other commands
 --   IsExpected e x               the run ended as x, or a call failed, or memory ran out
@@ -21,9 +22,14 @@ use Rattle.cs_top.specs.Commands.{Command, build, ask, replay, serve, trial}
 use Rattle.cs_top.specs.Endings.{Ending, done, not_built, usage, refused, absent, failed, no_memory, script_refused}
 use Rattle.cs_top.specs.Asking.{asks_join, first_fault, readable_lines, answered_of, ending_of}
 
+-- a name that is said to be absent is one of the two
+abbrev pub NamesOne : Ending → List ℕ → List ℕ → Type 0
+NamesOne (absent n) c s = (n ≡ c) ⊎ (n ≡ s)
+NamesOne e c s = Unit {0}
+
 abbrev pub EndsBy : Ending → Option Command → Type 0
 EndsBy e None = e ≡ usage
-EndsBy e (Some (ask c s)) = e ≢ usage
+EndsBy e (Some (ask c s)) = (e ≢ usage) × NamesOne e c s
 EndsBy e (Some (build c i)) = e ≡ not_built
 EndsBy e (Some (replay i s)) = e ≡ not_built
 EndsBy e (Some (serve i p n)) = e ≡ not_built

@@ -3,8 +3,11 @@
 --   IsReady h c s k n        the two files are held, the collection is accepted, its corpus is that of k, and the script has n bytes
 --   IsMissing s name f       the stop of a file that should be held: a call failed, or the name is said and not held
 --   IsRefused s r            the stop of a collection: its refusal, unless a call failed or memory ran out
+--   IsAbsenceOf s name       a stop says no other name to be absent
+--   IsAbsenceOfOne s c d     a stop says no name but these two to be absent
+--   IsNoAbsence s            a stop says no name to be absent
 --   StopCaused s before now  a stop by failure comes only where the files' count rose; else the count stays as it was
-use Rattle.std.specs.Prelude.{◌≡◌, ◌≤◌, ℕ, List, Option, Some, None}
+use Rattle.std.specs.Prelude.{◌≡◌, ◌⊎◌, ◌≤◌, ℕ, List, Option, Some, None}
 use Rattle.cs_base.specs.Causes.{Rose}
 use Rattle.std.specs.FinMap as map
 use Rattle.cs_base.specs.Outside.{File, Held, size_of}
@@ -37,3 +40,15 @@ IsRefused s r = Unit {0}
 abbrev pub StopCaused : Stop → ℕ → ℕ → Type 0
 StopCaused stop.Failed before now = Rose before now × (before ≤ now)
 StopCaused s before now = now ≡ before
+
+abbrev pub IsAbsenceOf : Stop → List ℕ → Type 0
+IsAbsenceOf (stop.Absent said) name = said.now ≡ name
+IsAbsenceOf s name = Unit {0}
+
+abbrev pub IsAbsenceOfOne : Stop → List ℕ → List ℕ → Type 0
+IsAbsenceOfOne (stop.Absent said) c d = (said.now ≡ c) ⊎ (said.now ≡ d)
+IsAbsenceOfOne s c d = Unit {0}
+
+abbrev pub IsNoAbsence : Stop → Type 0
+IsNoAbsence (stop.Absent said) = ⊥
+IsNoAbsence s = Unit {0}

@@ -10,8 +10,8 @@ ghost use Rattle.cs_top.specs.Asking.{ending_of};
 ghost use Rattle.cs_top.specs.Commands.{command_of};
 ghost use Rattle.cs_top.specs.Endings.{Ending, usage, status, line_of, Says};
 ghost use Rattle.cs_top.specs.EndedView.{ending, stop_ending};
-ghost use Rattle.cs_top.specs.Runs.{AskEnds, Caused, Completes, IsExpected, PutsNothing, Ran, held_bytes};
-ghost use Rattle.cs_top.specs.Stops.{IsMissing, IsReady, IsRefused, StopCaused};
+ghost use Rattle.cs_top.specs.Runs.{AskEnds, Caused, Completes, IsExpected, NamesOne, PutsNothing, Ran, held_bytes};
+ghost use Rattle.cs_top.specs.Stops.{IsAbsenceOf, IsAbsenceOfOne, IsMissing, IsNoAbsence, IsReady, IsRefused, StopCaused};
 
 use crate::corpus::corpus_of;
 use crate::ending::{Ended, Stop, tell};
@@ -80,6 +80,7 @@ fn ask<'a, F: Files, O: Sink>(
 ) -> Ended<'a>
     ensures asked { ForSome (F.held files.old) (λ h. AskEnds (ending result) h collection.now script.now (O.written out.old) (O.written out.new)) }
     ensures ends { ending result ≢ usage }
+    ensures names { NamesOne (ending result) collection.now script.now }
     ensures nothing { PutsNothing (ending result) (O.written out.old) (O.written out.new) }
     ensures caused { Caused (ending result) (F.faults files.old) (F.faults files.new) (O.faults out.old) (O.faults out.new) }
     ensures files { F.held files.new ≡ F.held files.old }
@@ -101,6 +102,7 @@ fn prepare<'a, F: Files>(
 ) -> Result<(Corpus, u64), Stop<'a>>
     ensures ready { ForSome (F.held files.old) (λ h. IfOk result (λ p. IsReady h collection.now script.now p.0 p.1)) }
     ensures stop { ForSome (F.held files.old) (λ h. IfErr result (λ s. IsExpected (stop_ending s) (ending_of h collection.now script.now))) }
+    ensures names { IfErr result (λ s. IsAbsenceOfOne s collection.now script.now) }
     ensures quiet { OnOk result (F.faults files.new ≡ F.faults files.old) }
     ensures caused { IfErr result (λ s. StopCaused s (F.faults files.old) (F.faults files.new)) }
     ensures files { F.held files.new ≡ F.held files.old }
@@ -115,6 +117,7 @@ fn prepare<'a, F: Files>(
 fn size_of<'a, F: Files>(files: &mut F, name: &'a str) -> Result<u64, Stop<'a>>
     ensures ok { ForSome (F.held files.old) (λ h. IfOk result (λ n. size_of (fin.get h name.now) ≡ Some n)) }
     ensures stop { ForSome (F.held files.old) (λ h. IfErr result (λ s. IsMissing s name.now (fin.get h name.now))) }
+    ensures names { IfErr result (λ s. IsAbsenceOf s name.now) }
     ensures quiet { OnOk result (F.faults files.new ≡ F.faults files.old) }
     ensures caused { IfErr result (λ s. StopCaused s (F.faults files.old) (F.faults files.new)) }
     ensures files { F.held files.new ≡ F.held files.old }
@@ -138,6 +141,7 @@ fn read_corpus<'a, F: Files>(
     ensures ok { ForSome (F.held files.old) (λ h. IfOk result (λ k. corpus_searched k ≡ corpus (held_bytes h name.now))) }
     ensures accepted { ForSome (F.held files.old) (λ h. OnOk result (refusal (held_bytes h name.now) ≡ None)) }
     ensures stop { ForSome (F.held files.old) (λ h. IfErr result (λ s. IsRefused s (refusal (held_bytes h name.now)))) }
+    ensures names { IfErr result IsNoAbsence }
     ensures quiet { OnOk result (F.faults files.new ≡ F.faults files.old) }
     ensures caused { IfErr result (λ s. StopCaused s (F.faults files.old) (F.faults files.new)) }
     ensures files { F.held files.new ≡ F.held files.old }
