@@ -2,7 +2,7 @@
 --
 --   IsFit inputs    posts, documents and scored documents ascend, and numbers are in the limits
 use Rattle.std.specs.Prelude.{◌<◌, ◌^◌, All}
-use Rattle.cs_meet.specs.Filters.{AreSorted, AreDocs, AreByDoc}
+use Rattle.cs_base.specs.Orders.{AreDocs, AreByDoc, AreSorted}
 use Rattle.cs_rank.specs.DocScores.{IsBase}
 use Rattle.columns_bench.specs.declared.input.Inputs.{Inputs}
 

@@ -1,8 +1,7 @@
 //! What the calls are run on, and the test that they may be.
 ghost use Rattle.std.specs.Prelude.{◌≡◌, ◌≤◌, ◌<◌, ◌^◌, true, All, IfOk, IfSome};
 ghost use Rattle.std.specs.Ordering.{is_lt};
-ghost use Rattle.cs_base.specs.Orders.{by_place};
-ghost use Rattle.cs_meet.specs.Filters.{AreSorted, AreDocs, AreByDoc};
+ghost use Rattle.cs_base.specs.Orders.{by_place, AreSorted, AreByDoc, AreDocs};
 ghost use Rattle.cs_rank.specs.DocScores.{IsBase};
 ghost use Rattle.columns_bench.specs.Fit.{IsFit};
 

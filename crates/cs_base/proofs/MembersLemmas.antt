@@ -5,6 +5,7 @@
 --   members-alike      lists with the same members have the same listing
 --   is_member-listed   a member of the listing is a member of the set
 --   listing-rises      a listing strictly ascends, as the keys of each finite map do (keys-rise)
+--   all_then           what follows for one follows for each of a list
 --   filter_listed      some members of a listing, picked by a test, are a listing
 use Rattle.std.proofs.Common.{◌≡◌, Bool, true, false, ◌&&◌, ◌||◌, List, [], ◌∷◌, T, cond, refl, sym, ◌∙◌, ap, subst}
 use Rattle.std.specs.Prelude.{Option, Some, None, map}
@@ -22,6 +23,10 @@ use Rattle.std.proofs.lemmas.List.Filters.{dedup_is}
 use Rattle.std.specs.FinMap.{FinMap, entries, entries_sorted, find, is_sorted, keys, from_entries, from_sorted, IsAntisymmetric, same_map, get-from_entries, get-from_sorted, entries-from_sorted, contains_key-keys}
 use Rattle.std.specs.FinMap.Entries.{below_all}
 use Rattle.cs_base.specs.Members.{marked, members_in}
+
+pub all_then : {X : Type 0} (P Q : X → Type 0) → ((x : X) → P x → Q x) → (xs : List X) → AllByRecursion P xs → AllByRecursion Q xs
+all_then P Q f [] h = tt
+all_then P Q f (x ∷ xs) h = (f x h.0, all_then P Q f xs h.1)
 
 abbrev mark_if : Bool → Option (Unit {0})
 mark_if b = cond b (Some tt) None

@@ -1,11 +1,15 @@
--- The orders are total, and tie only at equals.
-use Rattle.std.proofs.Common.{ℕ, List, ap, sym}
+-- The orders are total, and tie only at equals; the order of posts, field by field.
+use Rattle.std.proofs.Common.{◌≡◌, ℕ, ◌<◌, true, List, ap, sym, arith}
+use Rattle.std.specs.Prelude.{◌⊎◌}
+use Rattle.std.proofs.lemmas.Bool.Decides.{nat_tests}
+use Rattle.std.specs.declared.cmp.Ordering.TheVariants.{Less}
 use Rattle.std.specs.Cmp.{IsTotalOrder}
-use Rattle.std.specs.Ordering.{nat_cmp, flip_args}
+use Rattle.std.specs.Ordering.{nat_cmp, flip_args, is_lt}
 use Rattle.std.specs.Cmp.Lexicographic.{slice_cmp}
 use Rattle.std.specs.FinMap.{IsAntisymmetric}
 use Rattle.std.proofs.lemmas.Cmp.{then_total, on_total, back_total, nat_cmp_total, nat_list_cmp_total}
 use Rattle.std.proofs.lemmas.Map.Lookups.{exact_pairs, exact_unsigned, exact_bytes}
+use Rattle.cs_base.specs.declared.doc.Post.{Post}
 use Rattle.cs_base.specs.declared.doc.Row.{Row}
 use Rattle.cs_base.specs.declared.doc.Scored.{Scored}
 use Rattle.cs_base.specs.Orders.{by_row, by_place, by_rank}
@@ -30,3 +34,21 @@ pub by_rank_exact : IsAntisymmetric by_rank
 by_rank_exact a b h =
     ap (λ (p : ℕ × ℕ). let s : Scored = record { doc = p.1; score = p.0 } in s)
     (exact_pairs (flip_args nat_cmp) nat_cmp (λ x y e. sym (exact_unsigned y x e)) exact_unsigned (a.score, a.doc) (b.score, b.doc) h)
+
+-- ---- posts, field by field
+
+-- x comes before y
+abbrev pub Comes : Post → Post → Type 0
+Comes x y = (x.doc < y.doc) ⊎ ((x.doc ≡ y.doc) × ((x.pos < y.pos) ⊎ ((x.pos ≡ y.pos) × (x.word < y.word))))
+
+pub comes_first : (x y : Post) → by_place x y ≡ Less → Comes x y
+comes_first x y h = grind (arith, nat_tests)
+
+pub less-from_comes : (x y : Post) → Comes x y → by_place x y ≡ Less
+less-from_comes x y h = grind (arith, nat_tests)
+
+pub comes-from_lt : (x y : Post) → is_lt (by_place x y) ≡ true → Comes x y
+comes-from_lt x y h = grind (arith, nat_tests)
+
+pub less-from_test : (x y : Post) → is_lt (by_place x y) ≡ true → by_place x y ≡ Less
+less-from_test x y h = less-from_comes x y (comes-from_lt x y h)

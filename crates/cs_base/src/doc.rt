@@ -1,9 +1,10 @@
 //! Documents and their rows.
 ghost use Rattle.std.proofs.Common.{rules};
-ghost use Rattle.std.specs.Ordering.{as_partial_cmp};
+ghost use Rattle.std.specs.Prelude.{◌≡◌};
+ghost use Rattle.std.specs.Ordering.{as_partial_cmp, is_lt};
 ghost use Rattle.std.specs.Cmp.{partial_order_from_own_ties};
 ghost use Rattle.std.specs.Cmp.Rules.{comparing};
-ghost use Rattle.cs_base.specs.Orders.{by_rank};
+ghost use Rattle.cs_base.specs.Orders.{by_rank, by_place};
 
 use crate::{Seq, Text, Word};
 use std::cmp::Ordering;
@@ -45,6 +46,18 @@ pub struct Post {
     pub pos: u32,
     /// 4 in the title, 2 for a facet, 1 in the text.
     pub score: u8,
+}
+
+impl Post {
+    /// Whether this post comes before another: by document, position and word.
+    #[inline]
+    pub fn is_before(self, other: Post) -> bool
+        ensures { result ≡ is_lt (by_place self other) }
+    {
+        self.doc < other.doc
+            || (self.doc == other.doc
+                && (self.pos < other.pos || (self.pos == other.pos && self.word < other.word)))
+    }
 }
 
 /// A document with its score.

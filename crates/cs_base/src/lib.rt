@@ -5,12 +5,14 @@ mod block;
 mod doc;
 mod hub;
 mod key;
+pub mod laws;
 mod limits;
 mod mem_files;
 mod mem_sink;
 mod memory;
 mod outside;
 mod query;
+mod scores;
 mod script_hub;
 mod seq;
 mod text;
@@ -21,8 +23,8 @@ pub use doc::{Base, Doc, Post, Row, Scored};
 pub use hub::{Event, Hub};
 pub use key::{Key, Keys, Narrower};
 pub use limits::{
-    DEFAULT_COMPLETIONS, DEFAULT_HITS, MAX_ATOMS, MAX_COLLECTION_BYTES, MAX_DEPTH, MAX_DOC_WORDS,
-    MAX_DOCS, MAX_FACETS, MAX_LINE_BYTES, MAX_NAME_BYTES, MAX_OFFSET, MAX_PARTS,
+    DEFAULT_COMPLETIONS, DEFAULT_HITS, MAX_ATOMS, MAX_COLLECTION_BYTES, MAX_COUNT_DIGITS,
+    MAX_DEPTH, MAX_DISTANCE, MAX_DOC_WORDS, MAX_DOCS, MAX_FACETS, MAX_LINE_BYTES, MAX_NAME_BYTES, MAX_OFFSET, MAX_PARTS,
     MAX_PLAIN_WORD_BYTES, MAX_POSITION, MAX_QUERY_BYTES, MAX_ROWS, MAX_SCRIPT_LINE_BYTES,
     MAX_SHOWN, MAX_WORD_BYTES, MAX_WORDS,
 };
@@ -31,6 +33,7 @@ pub use mem_sink::MemSink;
 pub use memory::Memory;
 pub use outside::{Failed, Files, Sink};
 pub use query::{Atom, Chain, Link, Linked, Part, Query, Which};
+pub use scores::{BEHIND_TITLE, FACET_SCORE, TEXT_SCORE, TITLE_SCORE};
 pub use script_hub::{ScriptHub, Scripted};
 pub use seq::Seq;
 pub use text::Text;

@@ -48,6 +48,9 @@ pub const DEFAULT_HITS: u32 = 10;
 /// The completions, and facet words of each table, that are shown where a request doesn't say.
 pub const DEFAULT_COMPLETIONS: u32 = 10;
 
+/// The most digits of a count among the parameters, leading zeros included.
+pub const MAX_COUNT_DIGITS: usize = 5;
+
 /// The most bytes of a query's key text, where each bracket that is open counts as one byte more.
 pub const MAX_QUERY_BYTES: usize = 1024;
 
@@ -59,3 +62,6 @@ pub const MAX_ATOMS: usize = 32;
 
 /// The most brackets that are open at one place of a query.
 pub const MAX_DEPTH: usize = 3;
+
+/// How many positions two words may be apart to be near each other.
+pub const MAX_DISTANCE: u32 = 8;

@@ -1,5 +1,5 @@
 //! Files in memory.
-ghost use Rattle.std.specs.Prelude.{◌≡◌, ◌+◌, ◌<◌, ◌≤◌, ◌^◌, MatchOption, IfOk, OnOk, OnErr, IsErr, Some, None, length, true};
+ghost use Rattle.std.specs.Prelude.{◌≡◌, ◌+◌, ◌<◌, ◌≤◌, ◌^◌, [], MatchOption, IfOk, OnOk, OnErr, IsErr, Ok, Some, None, length, true};
 ghost use Rattle.std.specs.Option.{option_map, option_copied};
 ghost use Rattle.std.specs.FinMap as map;
 ghost use Rattle.cs_base.specs.HeldFiles.{held_in, IsPlaceOf};
@@ -38,7 +38,7 @@ impl Model for MemFiles {
 
 impl MemFiles {
     ghost use Rattle.cs_base.specs.Outside.{empty_file};
-    ghost use Rattle.cs_base.specs.Causes.{Rose};
+    ghost use Rattle.cs_base.specs.Causes.{Counted, one_more};
 
     /// Files of which none is held.
     pub fn new(alloc: Global) -> MemFiles
@@ -106,9 +106,8 @@ impl MemFiles {
     // Counts a fault.
     fn fail(&mut self) -> Result<(), Failed>
         ensures failed { IsErr result }
-        ensures held { self.new.held ≡ self.old.held }
-        ensures rose { Rose self.old.faults self.new.faults }
-        ensures later { self.old.faults ≤ self.new.faults }
+        ensures one { self.new ≡ record self.old { faults = one_more self.old.faults } }
+        ensures counted { Counted self.old.faults self.new.faults result }
     {
         self.faults = self.faults.saturating_add(1);
         Err(Failed)
@@ -116,18 +115,32 @@ impl MemFiles {
 }
 
 impl Files for MemFiles {
+    ghost use Rattle.cs_base.specs.Causes.{Counted, one_more};
+    ghost use Rattle.cs_base.specs.Outside.{empty_file, appended, finished, size_of, bytes_of, part, Covers, IsHeld};
+
     ghost held = { λ f. Some f.held };
 
     ghost faults = { λ f. f.faults };
 
-    fn size(&mut self, name: &str) -> Result<Option<u64>, Failed> {
+    /// It never fails.
+    fn size(&mut self, name: &str) -> Result<Option<u64>, Failed>
+        ensures value { result ≡ Ok (size_of (map.get self.old.held name.now)) }
+        ensures same { self.new ≡ self.old }
+    {
         match place_of(&self.files, name) {
             Some(i) => Ok(Some(self.files[i].bytes.len() as u64)),
             None => Ok(None),
         }
     }
 
-    fn read_at(&mut self, name: &str, at: u64, out: &mut [u8]) -> Result<(), Failed> {
+    /// It never fails.
+    fn read_at(&mut self, name: &str, at: u64, out: &mut [u8]) -> Result<(), Failed>
+        requires within { Covers (map.get self.old.held name.now) (at + length out.old) }
+
+        ensures value { result ≡ Ok tt }
+        ensures read { out.new ≡ part (bytes_of (map.get self.old.held name.now)) at (length out.old) }
+        ensures same { self.new ≡ self.old }
+    {
         match place_of(&self.files, name) {
             Some(i) => {
                 let start = at as usize;
@@ -139,7 +152,13 @@ impl Files for MemFiles {
         }
     }
 
-    fn create(&mut self, name: &str) -> Result<(), Failed> {
+    /// It fails only where a new name finds no memory; nothing changed then but the count.
+    fn create(&mut self, name: &str) -> Result<(), Failed>
+        ensures ok { OnOk result (self.new ≡ record self.old { held = map.insert self.old.held name.now empty_file }) }
+        ensures err { OnErr result (self.new ≡ record self.old { faults = one_more self.old.faults }) }
+        ensures failed { OnErr result (map.get self.old.held name.now ≡ None) }
+        ensures counted { Counted self.old.faults self.new.faults result }
+    {
         match place_of(&self.files, name) {
             Some(i) => {
                 let file = &mut self.files[i];
@@ -154,7 +173,14 @@ impl Files for MemFiles {
         }
     }
 
-    fn append(&mut self, name: &str, bytes: &[u8]) -> Result<(), Failed> {
+    /// It fails only where the bytes find no memory; none of them was added then.
+    fn append(&mut self, name: &str, bytes: &[u8]) -> Result<(), Failed>
+        requires is_held { IsHeld (map.get self.old.held name.now) }
+
+        ensures ok { OnOk result (self.new ≡ record self.old { held = map.insert self.old.held name.now (appended bytes.now (map.get self.old.held name.now)) }) }
+        ensures err { OnErr result (self.new ≡ record { held = map.insert self.old.held name.now (appended [] (map.get self.old.held name.now)); faults = one_more self.old.faults }) }
+        ensures counted { Counted self.old.faults self.new.faults result }
+    {
         match place_of(&self.files, name) {
             Some(i) => {
                 let file = &mut self.files[i];
@@ -168,7 +194,13 @@ impl Files for MemFiles {
         }
     }
 
-    fn finish(&mut self, name: &str) -> Result<(), Failed> {
+    /// It never fails.
+    fn finish(&mut self, name: &str) -> Result<(), Failed>
+        requires is_held { IsHeld (map.get self.old.held name.now) }
+
+        ensures value { result ≡ Ok tt }
+        ensures finished { self.new ≡ record self.old { held = map.insert self.old.held name.now (finished (map.get self.old.held name.now)) } }
+    {
         match place_of(&self.files, name) {
             Some(i) => {
                 let file = &mut self.files[i];

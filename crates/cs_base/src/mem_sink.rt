@@ -49,13 +49,19 @@ impl MemSink {
 }
 
 impl Sink for MemSink {
-    ghost use Rattle.std.specs.Prelude.{Some};
+    ghost use Rattle.std.specs.Prelude.{Some, OnOk, OnErr, ◌++◌};
+    ghost use Rattle.cs_base.specs.Causes.{Counted, one_more};
 
     ghost written = { λ s. Some s.bytes };
 
     ghost faults = { λ s. s.faults };
 
-    fn put(&mut self, bytes: &[u8]) -> Result<(), Failed> {
+    /// It fails only where the bytes find no memory; none of them was written then.
+    fn put(&mut self, bytes: &[u8]) -> Result<(), Failed>
+        ensures ok { OnOk result (self.new ≡ record self.old { bytes = self.old.bytes ++ bytes.now }) }
+        ensures err { OnErr result (self.new ≡ record self.old { faults = one_more self.old.faults }) }
+        ensures counted { Counted self.old.faults self.new.faults result }
+    {
         match self.held.extend_from_slice(bytes) {
             Ok(()) => Ok(()),
             Err(_) => {

@@ -64,7 +64,9 @@ impl ScriptHub {
 }
 
 impl Hub for ScriptHub {
-    ghost use Rattle.std.specs.Prelude.{Some};
+    ghost use Rattle.std.specs.Prelude.{Some, Ok, IfOk, OnErr, IsErr, length, ◌+◌, ◌-◌, ◌<◌, ◌^◌};
+    ghost use Rattle.cs_base.specs.Causes.{Counted, one_more};
+    ghost use Rattle.cs_base.specs.Hub.{IsOrderly, Happens, came_of, hears};
     ghost use Rattle.cs_base.specs.InMemory.{listening, told};
 
     ghost state = { listening };
@@ -75,14 +77,28 @@ impl Hub for ScriptHub {
 
     ghost send_faults = { λ _. 0 };
 
-    fn listen(&mut self, port: u16, conns: u32) -> Result<(), Failed> {
+    /// It never fails.
+    fn listen(&mut self, port: u16, conns: u32) -> Result<(), Failed>
+        ensures value { result ≡ Ok tt }
+        ensures listens { self.new ≡ record self.old { port = port; conns = conns; overs = 0 } }
+        ensures orderly { IsOrderly (listening self.new) (Some (told self.new)) }
+    {
         self.port = port;
         self.conns = conns;
         self.overs = 0;
         Ok(())
     }
 
-    fn next(&mut self, _into: &mut [u8]) -> Result<Event, Failed> {
+    /// Over, until it can't be counted any more.
+    fn next(&mut self, _into: &mut [u8]) -> Result<Event, Failed>
+        ensures over { self.old.overs < 2 ^ 64 - 1 → (result ≡ Ok Event.Over) × (self.new ≡ record self.old { overs = self.old.overs + 1 }) }
+        ensures event { IfOk result (λ e. Happens (listening self.old) (length _into.old) e (listening self.new)) }
+        ensures came { IfOk result (λ e. told self.new ≡ hears (came_of e _into.new) (told self.old)) }
+        ensures err { OnErr result ((listening self.new ≡ listening self.old) × (told self.new ≡ told self.old)) }
+        ensures counted { Counted self.old.faults self.new.faults result }
+        ensures orderly { IsOrderly (listening self.new) (Some (told self.new)) }
+        ensures failed { self.old.overs ≡ 2 ^ 64 - 1 → IsErr result × (self.new ≡ record self.old { faults = one_more self.old.faults }) }
+    {
         if self.overs == u64::MAX {
             self.faults = self.faults.saturating_add(1);
             return Err(Failed);

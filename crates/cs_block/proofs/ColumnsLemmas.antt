@@ -16,9 +16,7 @@ use Rattle.cs_gaps.proofs.CodesLemmas.{IsBytes, first_found, found_first}
 use Rattle.cs_model.specs.Blocks.{gap_column, word_column, place_column, score_column}
 use Rattle.cs_model.specs.BlockRules.{gap_of, gap_len, codes_break, item_row, doc_before, row_at, items_in}
 use Rattle.cs_block.specs.Spelling.{HasSpelling}
-
-pub IsBytes-drop : (n : ℕ) (bytes : List ℕ) → IsBytes bytes → IsBytes (drop n bytes)
-IsBytes-drop n bytes h i = rw get_or-drop (h (n + i))
+use Rattle.cs_gaps.proofs.CodesLemmas.{IsBytes-drop}
 
 pub IsBytes-take : (n : ℕ) (bytes : List ℕ) → IsBytes bytes → IsBytes (take n bytes)
 IsBytes-take n bytes h i =

@@ -4,7 +4,7 @@ use Rattle.cs_base.specs.GapCode.{code_in, code, looked_at, value_of, first_code
 use Rattle.cs_base.specs.declared.block.BlockHead.{BlockHead}
 use Rattle.cs_base.specs.declared.doc.Post.{Post}
 use Rattle.cs_model.specs.Blocks.{gap_column, word_column, place_column, score_column, block_bytes}
-use Rattle.cs_model.specs.BlockRules.{codes_break, items_in, breaks, judged, rows_of}
+use Rattle.cs_model.specs.BlockRules.{codes_break, items_in, breaks, judged, rows_read}
 
 abbrev rows : List Post
 rows =
@@ -24,9 +24,9 @@ block_bytes-worked : block_bytes rows 1 ≡ bytes_with 0 1
 unfolding block_bytes gap_column word_column place_column score_column code code_in
 block_bytes-worked = refl
 
-rows_of-worked : rows_of head (bytes_with 0 1) ≡ rows
-unfolding rows_of items_in first_code looked_at value_of code code_in
-rows_of-worked = refl
+rows_read-worked : rows_read head (bytes_with 0 1) ≡ rows
+unfolding rows_read items_in first_code looked_at value_of code code_in
+rows_read-worked = refl
 
 judged-worked : judged head 1 (bytes_with 0 1) ≡ None
 unfolding judged codes_break items_in breaks first_code looked_at value_of code code_in

@@ -11,8 +11,9 @@ use Rattle.cs_base.specs.declared.block.Broken.{Broken}
 use Rattle.cs_base.specs.declared.doc.Post.{Post}
 use Rattle.cs_gaps.proofs.CodesLemmas.{IsBytes}
 use Rattle.cs_model.specs.Blocks.{gap_column, word_column, place_column, score_column, block_bytes, IsShaped}
-use Rattle.cs_model.specs.BlockRules.{gap_of, gap_len, codes_break, item_row, doc_before, row_at, items_in, gap_bytes, Rule, rules, breaks, or_broken, first_broken, Columns, columns, columns_behind, items_of, judged_columns, judged, rows_of, keeps, MeetAll, IsBlock}
-use Rattle.cs_block.proofs.ColumnsLemmas.{IsBytes-drop, IsBytes-take, AreSized, reads, again}
+use Rattle.cs_model.specs.BlockRules.{gap_of, gap_len, codes_break, item_row, doc_before, row_at, items_in, gap_bytes, Rule, rules, breaks, or_broken, first_broken, BlockColumns, block_columns, columns_behind, items_of, judged_columns, judged, rows_read, keeps, MeetAll, IsBlock}
+use Rattle.cs_gaps.proofs.CodesLemmas.{IsBytes-drop}
+use Rattle.cs_block.proofs.ColumnsLemmas.{IsBytes-take, AreSized, reads, again}
 use Rattle.cs_block.proofs.RowsLemmas.{writable_from, spelling_from}
 
 -- ---- a rule over items is a rule over rows
@@ -50,20 +51,20 @@ none_of n (Some at) other e = absurd cc
 none_from : (n : ℕ) (o : Option ℕ) (other : Option Broken) → o ≡ None → other ≡ None → or_broken n o other ≡ None
 none_from n o other p q = rw (p, q) refl
 
-all_met : (rs : List Rule) (head : BlockHead) (c : Columns) → first_broken rs (items_of head c) ≡ None → MeetAll rs (map item_row (items_of head c))
+all_met : (rs : List Rule) (head : BlockHead) (c : BlockColumns) → first_broken rs (items_of head c) ≡ None → MeetAll rs (map item_row (items_of head c))
 all_met [] head c e = tt
 all_met (rule ∷ rest) head c e =
     let p = none_of rule.number (breaks rule (items_of head c)) (first_broken rest (items_of head c)) e in
     (holds_on rule head.rows head.lo None 0 0 c.gaps c.words c.places c.scores p.0, all_met rest head c p.1)
 
-none_broken : (rs : List Rule) (head : BlockHead) (c : Columns) → MeetAll rs (map item_row (items_of head c)) → first_broken rs (items_of head c) ≡ None
+none_broken : (rs : List Rule) (head : BlockHead) (c : BlockColumns) → MeetAll rs (map item_row (items_of head c)) → first_broken rs (items_of head c) ≡ None
 none_broken [] head c m = refl
 none_broken (rule ∷ rest) head c m = none_from rule.number _ _ (unbroken rule head.rows head.lo None 0 0 c.gaps c.words c.places c.scores m.0) (none_broken rest head c m.1)
 
 -- ---- the whole block
 
 pub sized : (head : BlockHead) (bytes : List ℕ) → IsBytes bytes → IsShaped head (length bytes)
-    → let c = columns head bytes in AreSized head.rows c.gaps c.words c.places c.scores
+    → let c = block_columns head bytes in AreSized head.rows c.gaps c.words c.places c.scores
 sized head bytes fits shaped =
     let g = gap_bytes head in
     let rest = drop g bytes in
@@ -83,7 +84,7 @@ sized head bytes fits shaped =
       scores_fit = IsBytes-drop (4 * head.rows) (drop (2 * head.rows) rest) (IsBytes-drop (2 * head.rows) rest (IsBytes-drop g bytes fits));
     }
 
-joined : (head : BlockHead) (bytes : List ℕ) → let c = columns head bytes in bytes ≡ c.gaps ++ (c.words ++ (c.places ++ c.scores))
+joined : (head : BlockHead) (bytes : List ℕ) → let c = block_columns head bytes in bytes ≡ c.gaps ++ (c.words ++ (c.places ++ c.scores))
 joined head bytes =
     let g = gap_bytes head in
     let rest = drop g bytes in
@@ -94,10 +95,10 @@ joined head bytes =
 four : (a b c d p q r s : List ℕ) → a ≡ p → b ≡ q → c ≡ r → d ≡ s → a ++ (b ++ (c ++ d)) ≡ p ++ (q ++ (r ++ s))
 four a b c d p q r s e f g h = rw (e, f, g, h) refl
 
-pub accepted : (head : BlockHead) (docs : ℕ) (bytes : List ℕ) → IsBytes bytes → IsShaped head (length bytes) → judged head docs bytes ≡ None → IsBlock head docs (rows_of head bytes) bytes
-unfolding judged rows_of block_bytes
+pub accepted : (head : BlockHead) (docs : ℕ) (bytes : List ℕ) → IsBytes bytes → IsShaped head (length bytes) → judged head docs bytes ≡ None → IsBlock head docs (rows_read head bytes) bytes
+unfolding judged rows_read block_bytes
 accepted head docs bytes fits shaped e =
-    let c = columns head bytes in
+    let c = block_columns head bytes in
     let p = none_of 13 (codes_break head.rows 0 c.gaps) (first_broken (rules head docs) (items_of head c)) e in
     let back = reads head.rows head.lo None 0 0 c.gaps c.words c.places c.scores (sized head bytes fits shaped) p.0 in
     let met = all_met (rules head docs) head c p.1 in
@@ -125,7 +126,7 @@ unfolding score_column
 score_len [] = refl
 score_len (r ∷ rs) = ap suc (score_len rs)
 
-abbrev spelled_columns : ℕ → List Post → Columns
+abbrev spelled_columns : ℕ → List Post → BlockColumns
 spelled_columns lo rs = record { gaps = gap_column 0 rs; words = word_column lo rs; places = place_column rs; scores = score_column rs }
 
 cut_behind : (head : BlockHead) (gaps words places scores : List ℕ) → length words ≡ 2 * head.rows → length places ≡ 4 * head.rows
@@ -133,7 +134,7 @@ cut_behind : (head : BlockHead) (gaps words places scores : List ℕ) → length
 cut_behind head gaps words places scores w p =
     rw (take_at words (places ++ scores) (2 * head.rows) w, drop_at words (places ++ scores) (2 * head.rows) w, take_at places scores (4 * head.rows) p, drop_at places scores (4 * head.rows) p) refl
 
-columns_of : (head : BlockHead) (docs : ℕ) (rs : List Post) (bytes : List ℕ) → IsShaped head (length bytes) → IsBlock head docs rs bytes → columns head bytes ≡ spelled_columns head.lo rs
+columns_of : (head : BlockHead) (docs : ℕ) (rs : List Post) (bytes : List ℕ) → IsShaped head (length bytes) → IsBlock head docs rs bytes → block_columns head bytes ≡ spelled_columns head.lo rs
 unfolding block_bytes
 columns_of head docs rs bytes shaped b =
     let behind = word_column head.lo rs ++ (place_column rs ++ score_column rs) in
@@ -145,12 +146,12 @@ columns_of head docs rs bytes shaped b =
     let sl = score_len rs in
     let total = ap length spelled in
     let gaps_len : length (gap_column 0 rs) ≡ gap_bytes head = omega (arith, length-append (gap_column 0 rs) behind, length-append (word_column head.lo rs) (place_column rs ++ score_column rs), length-append (place_column rs) (score_column rs)) in
-    ap (columns head) spelled
+    ap (block_columns head) spelled
     ∙ rw (take_at (gap_column 0 rs) behind (gap_bytes head) gaps_len, drop_at (gap_column 0 rs) behind (gap_bytes head) gaps_len)
     (cut_behind head (gap_column 0 rs) (word_column head.lo rs) (place_column rs) (score_column rs) (omega arith) (omega arith))
 
-pub unique : (head : BlockHead) (docs : ℕ) (rs : List Post) (bytes : List ℕ) → docs < 2 ^ 32 → IsShaped head (length bytes) → IsBlock head docs rs bytes → (judged head docs bytes ≡ None) × (rows_of head bytes ≡ rs)
-unfolding judged rows_of
+pub unique : (head : BlockHead) (docs : ℕ) (rs : List Post) (bytes : List ℕ) → docs < 2 ^ 32 → IsShaped head (length bytes) → IsBlock head docs rs bytes → (judged head docs bytes ≡ None) × (rows_read head bytes ≡ rs)
+unfolding judged rows_read
 unique head docs rs bytes few shaped b =
     let s = spelled_columns head.lo rs in
     let a = again head.lo None 0 0 rs (spelling_from head docs rs few b.writable.words b.meets.0 b.meets.1.1.0 b.meets.1.1.1.0) in
@@ -159,5 +160,5 @@ unique head docs rs bytes few shaped b =
     let same : map item_row (items_of head s) ≡ rs = ap (λ (n : ℕ). map item_row (items_in head.lo n None 0 0 s.gaps s.words s.places s.scores)) (sym b.count) ∙ a.1 in
     let met : MeetAll (rules head docs) (map item_row (items_of head s)) = subst (MeetAll (rules head docs)) (sym same) b.meets in (
       ap (judged_columns head docs) cols ∙ none_from 13 _ _ no_gap (none_broken (rules head docs) head s met),
-      ap (λ (c : Columns). map item_row (items_of head c)) cols ∙ same,
+      ap (λ (c : BlockColumns). map item_row (items_of head c)) cols ∙ same,
     )

@@ -19,7 +19,7 @@ use Rattle.cs_gaps.specs.declared.gap.Gap.{Gap}
 use Rattle.cs_gaps.specs.declared.gap.Gap.TheVariants.{Is}
 use Rattle.cs_gaps.specs.Reading.{StandsAt}
 use Rattle.cs_gaps.proofs.CodesLemmas.{first_found, found_first}
-use Rattle.cs_model.specs.BlockRules.{codes_break, Item, item_row, doc_before, row_at, items_in, gap_bytes, Rule, rules, in_docs, in_words, scored, in_order, is_scored, is_after, breaks, or_broken, first_broken, Columns, items_of, columns, judged_columns, judged, rows_of}
+use Rattle.cs_model.specs.BlockRules.{codes_break, Item, item_row, doc_before, row_at, items_in, gap_bytes, Rule, rules, in_docs, in_words, in_kind, in_order, is_scored, is_after, breaks, or_broken, first_broken, BlockColumns, items_of, block_columns, judged_columns, judged, rows_read}
 use Rattle.cs_block.specs.Reading.{GapHere}
 use Rattle.cs_block.proofs.ColumnsLemmas.{items_step, codes_step}
 
@@ -67,10 +67,10 @@ bad_done rows i at gaps le lt =
 
 -- ---- the items from a place on
 
-pub items_from : BlockHead → Columns → ℕ → ℕ → Option Post → List Item
+pub items_from : BlockHead → BlockColumns → ℕ → ℕ → Option Post → List Item
 items_from head c i at last = items_in head.lo (head.rows - i) last i at (drop at c.gaps) (drop (2 * i) c.words) (drop (4 * i) c.places) (drop i c.scores)
 
-pub items_on : (head : BlockHead) (c : Columns) (i at n next : ℕ) (last : Option Post) (row : Post) → i < head.rows → GapHere c.gaps at n next
+pub items_on : (head : BlockHead) (c : BlockColumns) (i at n next : ℕ) (last : Option Post) (row : Post) → i < head.rows → GapHere c.gaps at n next
     → row ≡ row_at head.lo (doc_before last + n) (drop (2 * i) c.words) (drop (4 * i) c.places) (drop i c.scores)
     → items_from head c i at last ≡ record { row = row; last = last; index = i; gap_place = at } ∷ items_from head c (i + 1) next (Some row)
 unfolding items_from
@@ -84,13 +84,13 @@ items_on head c i at n next last row lt h is =
     ∙ items_step head.lo rest last i at n (drop at c.gaps) (drop next c.gaps) (drop (2 * i) c.words) (drop (4 * i) c.places) (drop i c.scores) row h.is (left_from c.gaps at n next h) (sym is)
     ∙ rw (w, p, s, h.behind) refl
 
-pub items_end : (head : BlockHead) (c : Columns) (i at : ℕ) (last : Option Post) → head.rows ≤ i → items_from head c i at last ≡ []
+pub items_end : (head : BlockHead) (c : BlockColumns) (i at : ℕ) (last : Option Post) → head.rows ≤ i → items_from head c i at last ≡ []
 unfolding items_from items_in
 items_end head c i at last le =
     let k : head.rows - i ≡ 0 = omega arith in
     rw k refl
 
-pub items_start : (head : BlockHead) (c : Columns) → items_from head c 0 0 None ≡ items_of head c
+pub items_start : (head : BlockHead) (c : BlockColumns) → items_from head c 0 0 None ≡ items_of head c
 unfolding items_from
 items_start head c = ap (λ (x : ℕ). items_in head.lo x None 0 0 c.gaps c.words c.places c.scores) (omega arith)
 
@@ -135,17 +135,17 @@ keeps_found rule all item here rest e broken h = sym h ∙ ap (breaks rule) e �
 
 -- ---- the loop over the rows
 
-pub record HasJudged (head : BlockHead) (docs : ℕ) (c : Columns) (i at : ℕ) (last : Option Post) (before : ℕ) (word score order : Option ℕ) : Type 0 where
+pub record HasJudged (head : BlockHead) (docs : ℕ) (c : BlockColumns) (i at : ℕ) (last : Option Post) (before : ℕ) (word score order : Option ℕ) : Type 0 where
   pub codes : codes_break (head.rows - i) at (drop at c.gaps) ≡ codes_break head.rows 0 c.gaps
   pub within : at ≤ length c.gaps
   pub before_is : before ≡ doc_before last
   pub before_below : before ≤ docs
   pub docs_kept : Keeps (in_docs docs) (items_of head c) None (items_from head c i at last)
   pub words_kept : Keeps (in_words head) (items_of head c) word (items_from head c i at last)
-  pub scores_kept : Keeps (scored head) (items_of head c) score (items_from head c i at last)
+  pub scores_kept : Keeps (in_kind head) (items_of head c) score (items_from head c i at last)
   pub order_kept : Keeps in_order (items_of head c) order (items_from head c i at last)
 
-pub judging : (head : BlockHead) (docs : ℕ) (c : Columns) → HasJudged head docs c 0 0 None 0 None None None
+pub judging : (head : BlockHead) (docs : ℕ) (c : BlockColumns) → HasJudged head docs c 0 0 None 0 None None None
 judging head docs c = let all = items_start head c in record {
   codes = ap (λ (x : ℕ). codes_break x 0 c.gaps) (omega arith);
   within = omega arith;
@@ -158,13 +158,13 @@ judging head docs c = let all = items_start head c in record {
 }
 
 -- what a call of row_of gives, at the document before
-pub is_row : (head : BlockHead) (docs : ℕ) (c : Columns) (i at n : ℕ) (last : Option Post) (before : ℕ) (word score order : Option ℕ) (row : Post)
+pub is_row : (head : BlockHead) (docs : ℕ) (c : BlockColumns) (i at n : ℕ) (last : Option Post) (before : ℕ) (word score order : Option ℕ) (row : Post)
     → HasJudged head docs c i at last before word score order
     → row ≡ row_at head.lo (before + n) (drop (2 * i) c.words) (drop (4 * i) c.places) (drop i c.scores)
     → row ≡ row_at head.lo (doc_before last + n) (drop (2 * i) c.words) (drop (4 * i) c.places) (drop i c.scores)
 is_row head docs c i at n last before word score order row h is = is ∙ ap (λ (x : ℕ). row_at head.lo (x + n) (drop (2 * i) c.words) (drop (4 * i) c.places) (drop i c.scores)) h.before_is
 
-pub judges_on : (head : BlockHead) (docs : ℕ) (c : Columns) (i at n next : ℕ) (last : Option Post) (before doc : ℕ) (word score order word' score' order' : Option ℕ) (worded held after : Bool) (row : Post)
+pub judges_on : (head : BlockHead) (docs : ℕ) (c : BlockColumns) (i at n next : ℕ) (last : Option Post) (before doc : ℕ) (word score order word' score' order' : Option ℕ) (worded held after : Bool) (row : Post)
     → i < head.rows → GapHere c.gaps at n next → doc ≡ before + n → doc < docs
     → row ≡ row_at head.lo doc (drop (2 * i) c.words) (drop (4 * i) c.places) (drop i c.scores)
     → worded ≡ ltb row.word (head.lo + head.words) → word' ≡ option_or word (cond worded None (Some (gap_bytes head + 2 * i)))
@@ -188,11 +188,11 @@ judges_on head docs c i at n next last before doc word score order word' score' 
       before_below = omega arith;
       docs_kept = keeps_on (in_docs docs) all None None item here rest split none h.docs_kept;
       words_kept = keeps_on (in_words head) all word word' item here rest split (w ∙ ap (λ (b : Bool). option_or word (cond b None (Some (gap_bytes head + 2 * i)))) hw) h.words_kept;
-      scores_kept = keeps_on (scored head) all score score' item here rest split (s ∙ ap (λ (b : Bool). option_or score (cond b None (Some (gap_bytes head + 2 * head.rows + 4 * i)))) hs) h.scores_kept;
+      scores_kept = keeps_on (in_kind head) all score score' item here rest split (s ∙ ap (λ (b : Bool). option_or score (cond b None (Some (gap_bytes head + 2 * head.rows + 4 * i)))) hs) h.scores_kept;
       order_kept = keeps_on in_order all order order' item here rest split (o ∙ ap (λ (b : Bool). option_or order (cond b None (Some at))) ho) h.order_kept;
     }
 
-pub too_late : (head : BlockHead) (docs : ℕ) (c : Columns) (i at n next : ℕ) (last : Option Post) (before : ℕ) (word score order : Option ℕ)
+pub too_late : (head : BlockHead) (docs : ℕ) (c : BlockColumns) (i at n next : ℕ) (last : Option Post) (before : ℕ) (word score order : Option ℕ)
     → i < head.rows → GapHere c.gaps at n next → docs ≤ before + n → HasJudged head docs c i at last before word score order
     → first_broken (rules head docs) (items_of head c) ≡ Some (record { n = 14; at = at })
 too_late head docs c i at n next last before word score order lt gap late h =
@@ -200,9 +200,9 @@ too_late head docs c i at n next last before word score order lt gap late h =
     let item : Item = record { row = row; last = last; index = i; gap_place = at } in
     let split = items_on head c i at n next last row lt gap (is_row head docs c i at n last before word score order row h refl) in
     let broken = keeps_found (in_docs docs) (items_of head c) item _ _ split (le-ltb (before + n) docs late) h.docs_kept in
-    ap (λ (x : Option ℕ). or_broken 14 x (first_broken (in_words head ∷ scored head ∷ in_order ∷ []) (items_of head c))) broken
+    ap (λ (x : Option ℕ). or_broken 14 x (first_broken (in_words head ∷ in_kind head ∷ in_order ∷ []) (items_of head c))) broken
 
-pub judged_all : (head : BlockHead) (docs : ℕ) (c : Columns) (i at : ℕ) (last : Option Post) (before : ℕ) (word score order : Option ℕ) (r17 r16 r15 : Option Broken)
+pub judged_all : (head : BlockHead) (docs : ℕ) (c : BlockColumns) (i at : ℕ) (last : Option Post) (before : ℕ) (word score order : Option ℕ) (r17 r16 r15 : Option Broken)
     → head.rows ≤ i → HasJudged head docs c i at last before word score order
     → r17 ≡ or_broken 17 order None → r16 ≡ or_broken 16 score r17 → r15 ≡ or_broken 15 word r16
     → r15 ≡ first_broken (rules head docs) (items_of head c)
@@ -210,7 +210,7 @@ judged_all head docs c i at last before word score order r17 r16 r15 le h a b d 
     let all = items_of head c in
     let done = items_end head c i at last le in
     let w = keeps_end (in_words head) all word _ done h.words_kept in
-    let s = keeps_end (scored head) all score _ done h.scores_kept in
+    let s = keeps_end (in_kind head) all score _ done h.scores_kept in
     let o = keeps_end in_order all order _ done h.order_kept in
     let e = keeps_end (in_docs docs) all None _ done h.docs_kept in
     d ∙ ap (or_broken 15 word) (b ∙ ap (or_broken 16 score) a) ∙ rw (← e, ← w, ← s, ← o) refl
@@ -224,13 +224,13 @@ stuck rows i at gaps lt none h = some_none at (sym (bad_here rows i at gaps lt n
 -- ---- the loop that adds the rows
 
 -- so far each row keeps the rules; what was added and what is left make all rows
-pub record HasPushed (head : BlockHead) (docs : ℕ) (c : Columns) (i at : ℕ) (last : Option Post) (before : ℕ) (first now : List Post) (room : ℕ) : Type 0 where
+pub record HasPushed (head : BlockHead) (docs : ℕ) (c : BlockColumns) (i at : ℕ) (last : Option Post) (before : ℕ) (first now : List Post) (room : ℕ) : Type 0 where
   pub judged : HasJudged head docs c i at last before None None None
   pub told : first ++ map item_row (items_of head c) ≡ now ++ map item_row (items_from head c i at last)
   pub kept : take (length first) now ≡ first
   pub room_left : head.rows - i ≤ room
 
-pub pushing : (head : BlockHead) (docs : ℕ) (c : Columns) (first : List Post) (room : ℕ) → head.rows ≤ room → HasPushed head docs c 0 0 None 0 first first room
+pub pushing : (head : BlockHead) (docs : ℕ) (c : BlockColumns) (first : List Post) (room : ℕ) → head.rows ≤ room → HasPushed head docs c 0 0 None 0 first first room
 pushing head docs c first room le = record {
   judged = judging head docs c;
   told = ap (λ (x : List Item). first ++ map item_row x) (sym (items_start head c));
@@ -242,7 +242,7 @@ pushing head docs c first room le = record {
 abbrev pub Tests : BlockHead → Option Post → Post → Bool
 Tests head last row = ltb row.word (head.lo + head.words) && (is_scored head.facet row && is_after last row)
 
-pub pushes_on : (head : BlockHead) (docs : ℕ) (c : Columns) (i at n next : ℕ) (last : Option Post) (before doc : ℕ) (row : Post) (first now then : List Post) (room left : ℕ)
+pub pushes_on : (head : BlockHead) (docs : ℕ) (c : BlockColumns) (i at n next : ℕ) (last : Option Post) (before doc : ℕ) (row : Post) (first now then : List Post) (room left : ℕ)
     → i < head.rows → GapHere c.gaps at n next → doc ≡ before + n → doc < docs
     → row ≡ row_at head.lo doc (drop (2 * i) c.words) (drop (4 * i) c.places) (drop i c.scores)
     → Tests head last row ≡ true → then ≡ now ++ row ∷ [] → room ≤ left + 1
@@ -278,12 +278,12 @@ or_broken_late n (Some at) other e = refl
 or_broken_here : (n at : ℕ) (o : Option ℕ) (other : Option Broken) → o ≡ Some at → is_none (or_broken n o other) ≡ false
 or_broken_here n at o other e = rw e refl
 
-pub stops_at_code : (head : BlockHead) (docs : ℕ) (c : Columns) (i at : ℕ) (last : Option Post) (before : ℕ) (word score order : Option ℕ) → i < head.rows → first_code (drop at c.gaps) ≡ None
+pub stops_at_code : (head : BlockHead) (docs : ℕ) (c : BlockColumns) (i at : ℕ) (last : Option Post) (before : ℕ) (word score order : Option ℕ) → i < head.rows → first_code (drop at c.gaps) ≡ None
     → HasJudged head docs c i at last before word score order → is_none (judged_columns head docs c) ≡ false
 stops_at_code head docs c i at last before word score order lt none h =
     or_broken_here 13 at (codes_break head.rows 0 c.gaps) (first_broken (rules head docs) (items_of head c)) (sym h.codes ∙ bad_here head.rows i at c.gaps lt none)
 
-pub stops_at_doc : (head : BlockHead) (docs : ℕ) (c : Columns) (i at n next : ℕ) (last : Option Post) (before : ℕ) (word score order : Option ℕ)
+pub stops_at_doc : (head : BlockHead) (docs : ℕ) (c : BlockColumns) (i at n next : ℕ) (last : Option Post) (before : ℕ) (word score order : Option ℕ)
     → i < head.rows → GapHere c.gaps at n next → docs ≤ before + n → HasJudged head docs c i at last before word score order → is_none (judged_columns head docs c) ≡ false
 stops_at_doc head docs c i at n next last before word score order lt gap late h =
     or_broken_late 13 (codes_break head.rows 0 c.gaps) (first_broken (rules head docs) (items_of head c)) (none_false _ _ (too_late head docs c i at n next last before word score order lt gap late h))
@@ -292,7 +292,7 @@ and_false : (a b : Bool) → (a && b) ≡ false → (a ≡ false) ⊎ (b ≡ fal
 and_false true b e = inr e
 and_false false b e = inl refl
 
-pub stops_at_row : (head : BlockHead) (docs : ℕ) (c : Columns) (i at n next : ℕ) (last : Option Post) (before doc : ℕ) (row : Post)
+pub stops_at_row : (head : BlockHead) (docs : ℕ) (c : BlockColumns) (i at n next : ℕ) (last : Option Post) (before doc : ℕ) (row : Post)
     → i < head.rows → GapHere c.gaps at n next → doc ≡ before + n
     → row ≡ row_at head.lo doc (drop (2 * i) c.words) (drop (4 * i) c.places) (drop i c.scores)
     → Tests head last row ≡ false → HasJudged head docs c i at last before None None None → is_none (judged_columns head docs c) ≡ false
@@ -303,30 +303,30 @@ stops_at_row head docs c i at n next last before doc row lt gap sum is failed h 
     let rest = items_from head c (i + 1) next (Some row) in
     let split : items_from head c i at last ≡ item ∷ rest = items_on head c i at n next last row lt gap (is_row head docs c i at n last before None None None row h is') in
     let behind_codes = or_broken_late 13 (codes_break head.rows 0 c.gaps) (first_broken (rules head docs) all) in
-    let behind_docs = or_broken_late 14 (breaks (in_docs docs) all) (first_broken (in_words head ∷ scored head ∷ in_order ∷ []) all) in
-    let behind_words = or_broken_late 15 (breaks (in_words head) all) (first_broken (scored head ∷ in_order ∷ []) all) in
-    let behind_scores = or_broken_late 16 (breaks (scored head) all) (first_broken (in_order ∷ []) all) in
+    let behind_docs = or_broken_late 14 (breaks (in_docs docs) all) (first_broken (in_words head ∷ in_kind head ∷ in_order ∷ []) all) in
+    let behind_words = or_broken_late 15 (breaks (in_words head) all) (first_broken (in_kind head ∷ in_order ∷ []) all) in
+    let behind_scores = or_broken_late 16 (breaks (in_kind head) all) (first_broken (in_order ∷ []) all) in
     behind_codes (behind_docs (elim (and_false (ltb row.word (head.lo + head.words)) (is_scored head.facet row && is_after last row) failed) [
-      | inl word ↦ or_broken_here 15 _ _ (first_broken (scored head ∷ in_order ∷ []) all) (keeps_found (in_words head) all item _ rest split word h.words_kept)
+      | inl word ↦ or_broken_here 15 _ _ (first_broken (in_kind head ∷ in_order ∷ []) all) (keeps_found (in_words head) all item _ rest split word h.words_kept)
       | inr more ↦ behind_words (elim (and_false (is_scored head.facet row) (is_after last row) more) [
-        | inl score ↦ or_broken_here 16 _ _ (first_broken (in_order ∷ []) all) (keeps_found (scored head) all item _ rest split score h.scores_kept)
+        | inl score ↦ or_broken_here 16 _ _ (first_broken (in_order ∷ []) all) (keeps_found (in_kind head) all item _ rest split score h.scores_kept)
         | inr order ↦ behind_scores (or_broken_here 17 _ _ None (keeps_found in_order all item _ rest split order h.order_kept))
       ])
     ]))
 
-pub ends_whole : (head : BlockHead) (docs : ℕ) (c : Columns) (i at : ℕ) (last : Option Post) (before : ℕ) → head.rows ≤ i → at ≡ length c.gaps → HasJudged head docs c i at last before None None None → is_none (judged_columns head docs c) ≡ true
+pub ends_whole : (head : BlockHead) (docs : ℕ) (c : BlockColumns) (i at : ℕ) (last : Option Post) (before : ℕ) → head.rows ≤ i → at ≡ length c.gaps → HasJudged head docs c i at last before None None None → is_none (judged_columns head docs c) ≡ true
 ends_whole head docs c i at last before le end h =
     let codes : codes_break head.rows 0 c.gaps ≡ None = sym h.codes ∙ bad_done head.rows i at c.gaps le (omega arith) in
     rw codes (ap is_none (sym (judged_all head docs c i at last before None None None None None None le h refl refl refl)))
 
-pub ends_early : (head : BlockHead) (docs : ℕ) (c : Columns) (i at : ℕ) (last : Option Post) (before : ℕ) → head.rows ≤ i → at < length c.gaps → HasJudged head docs c i at last before None None None → is_none (judged_columns head docs c) ≡ false
+pub ends_early : (head : BlockHead) (docs : ℕ) (c : BlockColumns) (i at : ℕ) (last : Option Post) (before : ℕ) → head.rows ≤ i → at < length c.gaps → HasJudged head docs c i at last before None None None → is_none (judged_columns head docs c) ≡ false
 ends_early head docs c i at last before le lt h =
     or_broken_here 13 at (codes_break head.rows 0 c.gaps) (first_broken (rules head docs) (items_of head c)) (sym h.codes ∙ bad_over head.rows i at c.gaps le lt)
 
 eqb_same : (n : ℕ) → eqb n n ≡ true
 eqb_same n = grind (arith, nat_tests)
 
-pub ends : (head : BlockHead) (docs : ℕ) (c : Columns) (i at : ℕ) (last : Option Post) (before : ℕ) → head.rows ≤ i → HasJudged head docs c i at last before None None None → eqb at (length c.gaps) ≡ is_none (judged_columns head docs c)
+pub ends : (head : BlockHead) (docs : ℕ) (c : BlockColumns) (i at : ℕ) (last : Option Post) (before : ℕ) → head.rows ≤ i → HasJudged head docs c i at last before None None None → eqb at (length c.gaps) ≡ is_none (judged_columns head docs c)
 ends head docs c i at last before le h =
     let within = h.within in
     elim (cases_lt at (length c.gaps)) [
@@ -336,7 +336,7 @@ ends head docs c i at last before le h =
           rw end (eqb_same (length c.gaps)) ∙ sym (ends_whole head docs c i at last before le end h)
     ]
 
-pub pushed_all : (head : BlockHead) (docs : ℕ) (c : Columns) (i at : ℕ) (last : Option Post) (before : ℕ) (first now : List Post) (room : ℕ) → head.rows ≤ i → HasPushed head docs c i at last before first now room
+pub pushed_all : (head : BlockHead) (docs : ℕ) (c : BlockColumns) (i at : ℕ) (last : Option Post) (before : ℕ) (first now : List Post) (room : ℕ) → head.rows ≤ i → HasPushed head docs c i at last before first now room
     → now ≡ first ++ map item_row (items_of head c)
 pushed_all head docs c i at last before first now room le h = sym (h.told ∙ ap (λ (x : List Item). now ++ map item_row x) (items_end head c i at last le) ∙ append-nil now)
 
@@ -344,22 +344,22 @@ pushed_all head docs c i at last before first now room le h = sym (h.told ∙ ap
 
 pub columns_cut : (head : BlockHead) (bytes gaps rest words rest2 places scores : List ℕ) → gaps ≡ take (gap_bytes head) bytes → rest ≡ drop (gap_bytes head) bytes
     → words ≡ take (2 * head.rows) rest → rest2 ≡ drop (2 * head.rows) rest → places ≡ take (4 * head.rows) rest2 → scores ≡ drop (4 * head.rows) rest2
-    → let c : Columns = record { gaps = gaps; words = words; places = places; scores = scores } in c ≡ columns head bytes
+    → let c : BlockColumns = record { gaps = gaps; words = words; places = places; scores = scores } in c ≡ block_columns head bytes
 columns_cut head bytes gaps rest words rest2 places scores a b d e f g = rw (f, g, e, d, b, a) refl
 
-pub judged_at_row : (head : BlockHead) (docs : ℕ) (c : Columns) (r : Option Broken) → codes_break head.rows 0 c.gaps ≡ None → r ≡ first_broken (rules head docs) (items_of head c) → r ≡ judged_columns head docs c
+pub judged_at_row : (head : BlockHead) (docs : ℕ) (c : BlockColumns) (r : Option Broken) → codes_break head.rows 0 c.gaps ≡ None → r ≡ first_broken (rules head docs) (items_of head c) → r ≡ judged_columns head docs c
 judged_at_row head docs c r codes is = is ∙ rw codes refl
 
-pub judged_at_code : (head : BlockHead) (docs : ℕ) (c : Columns) (at : ℕ) → Some at ≡ codes_break head.rows 0 c.gaps → Some (record { n = 13; at = at }) ≡ judged_columns head docs c
+pub judged_at_code : (head : BlockHead) (docs : ℕ) (c : BlockColumns) (at : ℕ) → Some at ≡ codes_break head.rows 0 c.gaps → Some (record { n = 13; at = at }) ≡ judged_columns head docs c
 judged_at_code head docs c at bad = rw (← bad) refl
 
-pub judged_cut : (head : BlockHead) (docs : ℕ) (bytes : List ℕ) (c : Columns) → c ≡ columns head bytes → judged_columns head docs c ≡ judged head docs bytes
+pub judged_cut : (head : BlockHead) (docs : ℕ) (bytes : List ℕ) (c : BlockColumns) → c ≡ block_columns head bytes → judged_columns head docs c ≡ judged head docs bytes
 unfolding judged
 judged_cut head docs bytes c e = ap (judged_columns head docs) e
 
-pub rows_cut : (head : BlockHead) (bytes : List ℕ) (c : Columns) → c ≡ columns head bytes → map item_row (items_of head c) ≡ rows_of head bytes
-unfolding rows_of
-rows_cut head bytes c e = ap (λ (x : Columns). map item_row (items_of head x)) e
+pub rows_cut : (head : BlockHead) (bytes : List ℕ) (c : BlockColumns) → c ≡ block_columns head bytes → map item_row (items_of head c) ≡ rows_read head bytes
+unfolding rows_read
+rows_cut head bytes c e = ap (λ (x : BlockColumns). map item_row (items_of head x)) e
 
 pub none-from_test : (o : Option Broken) → is_none o ≡ true → o ≡ None
 none-from_test None e = refl

@@ -16,31 +16,13 @@ use Rattle.std.proofs.lemmas.List.Elements.{All-from_recursion, recursion_from_A
 use Rattle.cs_base.specs.Orders.{by_place}
 use Rattle.cs_base.specs.declared.block.BlockHead.{BlockHead}
 use Rattle.cs_base.specs.declared.doc.Post.{Post}
-use Rattle.cs_base.proofs.OrdersLemmas.{by_place_total}
+use Rattle.cs_base.proofs.OrdersLemmas.{by_place_total, Comes, comes-from_lt, comes_first, less-from_test}
+use Rattle.cs_base.proofs.MembersLemmas.{all_then}
 use Rattle.cs_model.specs.Blocks.{AreWritable}
-use Rattle.cs_model.specs.BlockRules.{doc_before, is_after, is_scored, keeps, in_docs, scored}
+use Rattle.cs_model.specs.BlockRules.{doc_before, is_after, is_scored, keeps, in_docs, in_kind}
 use Rattle.cs_block.specs.Spelling.{HasSpelling, IsAscending, HasWords}
 
-abbrev Comes : Post → Post → Type 0
-Comes x y = (x.doc < y.doc) ⊎ ((x.doc ≡ y.doc) × ((x.pos < y.pos) ⊎ ((x.pos ≡ y.pos) × (x.word < y.word))))
-
-comes-from_lt : (x y : Post) → is_lt (by_place x y) ≡ true → Comes x y
-comes-from_lt x y h = grind (arith, nat_tests)
-
-less-from_comes : (x y : Post) → Comes x y → by_place x y ≡ Less
-less-from_comes x y h = grind (arith, nat_tests)
-
-less-from_test : (x y : Post) → is_lt (by_place x y) ≡ true → by_place x y ≡ Less
-less-from_test x y h = less-from_comes x y (comes-from_lt x y h)
-
-comes_first : (x y : Post) → by_place x y ≡ Less → Comes x y
-comes_first x y h = grind (arith, nat_tests)
-
 -- ---- rows in order
-
-all_then : (P Q : Post → Type 0) → ((x : Post) → P x → Q x) → (xs : List Post) → AllByRecursion P xs → AllByRecursion Q xs
-all_then P Q f [] h = tt
-all_then P Q f (x ∷ xs) h = (f x h.0, all_then P Q f xs h.1)
 
 sorted_behind : (p : Post) (rs : List Post) → keeps is_after (Some p) rs ≡ true → AllByRecursion (λ y. by_place p y ≡ Less) rs × IsStrictlySortedBy by_place rs
 unfolding keeps IsStrictlySortedBy
@@ -78,19 +60,19 @@ onward None r h = omega arith
 onward (Some p) r h = onward_by p r (comes-from_lt p r h)
 
 spelling_by : (head : BlockHead) (docs : ℕ) (last : Option Post) (rs : List Post) → docs < 2 ^ 32 → AllByRecursion (λ r. (head.lo ≤ r.word) × (r.word < head.lo + 2 ^ 16)) rs
-    → keeps (in_docs docs).holds last rs ≡ true → keeps (scored head).holds last rs ≡ true → keeps is_after last rs ≡ true → HasSpelling head.lo (doc_before last) rs
+    → keeps (in_docs docs).holds last rs ≡ true → keeps (in_kind head).holds last rs ≡ true → keeps is_after last rs ≡ true → HasSpelling head.lo (doc_before last) rs
 unfolding keeps HasSpelling
 spelling_by head docs last [] few w d s o = tt
 spelling_by head docs last (r ∷ rs) few w d s o =
     let dp = and_parts (ltb r.doc docs) (keeps (in_docs docs).holds (Some r) rs) d in
-    let sp = and_parts (is_scored head.facet r) (keeps (scored head).holds (Some r) rs) s in
+    let sp = and_parts (is_scored head.facet r) (keeps (in_kind head).holds (Some r) rs) s in
     let op = and_parts (is_after last r) (keeps is_after (Some r) rs) o in
     let below : r.doc < docs = ltb-true r.doc docs dp.0 in
     let small = scored_small head.facet r sp.0 in
     (record { onward = onward last r op.0; gap = omega arith; word_from = w.0.0; word_below = w.0.1; pos = small.0; score = small.1 }, spelling_by head docs (Some r) rs few w.1 dp.1 sp.1 op.1)
 
 pub spelling_from : (head : BlockHead) (docs : ℕ) (rs : List Post) → docs < 2 ^ 32 → All (λ r. (head.lo ≤ r.word) × (r.word < head.lo + 2 ^ 16)) rs
-    → keeps (in_docs docs).holds None rs ≡ true → keeps (scored head).holds None rs ≡ true → keeps is_after None rs ≡ true → HasSpelling head.lo 0 rs
+    → keeps (in_docs docs).holds None rs ≡ true → keeps (in_kind head).holds None rs ≡ true → keeps is_after None rs ≡ true → HasSpelling head.lo 0 rs
 spelling_from head docs rs few w d s o = spelling_by head docs None rs few (recursion_from_All _ rs w) d s o
 
 -- ---- what writing asks

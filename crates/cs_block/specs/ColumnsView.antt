@@ -1,9 +1,9 @@
 -- The columns that the code passes on, as the columns that the rules speak of.
 --
 --   seen c    the bytes of each column
-use Rattle.cs_model.specs.BlockRules.{Columns}
+use Rattle.cs_model.specs.BlockRules.{BlockColumns}
 use Rattle.cs_block.specs.declared.columns.Columns.{Columns as Cut}
 
 -- column by column
-abbrev pub seen : Cut → Columns
+abbrev pub seen : Cut → BlockColumns
 seen c = record { gaps = c.gaps.now; words = c.words.now; places = c.places.now; scores = c.scores.now }

@@ -7,7 +7,7 @@ use Rattle.std.specs.Prelude.{◌≡◌, ℕ, ◌+◌, ◌*◌, ◌^◌, ◌<◌
 use Rattle.cs_base.specs.GapCode.{code, first_code}
 use Rattle.cs_base.specs.declared.block.BlockHead.{BlockHead}
 use Rattle.cs_base.specs.declared.block.Broken.{Broken}
-use Rattle.cs_model.specs.BlockRules.{Columns, gap_bytes}
+use Rattle.cs_model.specs.BlockRules.{BlockColumns, gap_bytes}
 use Rattle.cs_block.specs.declared.fault.BlockFault.{BlockFault}
 use Rattle.cs_block.specs.declared.fault.BlockFault.TheVariants as faults
 
@@ -19,7 +19,7 @@ pub record GapHere (gaps : List ℕ) (at n next : ℕ) : Type 0 where
   pub below : n < 2 ^ 32
 
 -- the lengths of the four columns; places in them have 32 bits
-pub record HasColumns (head : BlockHead) (c : Columns) : Type 0 where
+pub record HasColumns (head : BlockHead) (c : BlockColumns) : Type 0 where
   pub gaps_len : length c.gaps ≡ gap_bytes head
   pub words_len : length c.words ≡ 2 * head.rows
   pub places_len : length c.places ≡ 4 * head.rows

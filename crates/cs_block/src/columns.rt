@@ -3,7 +3,7 @@ ghost use Rattle.std.specs.Prelude.{◌≡◌, ◌+◌, ◌*◌, ◌<◌, ◌≤
 ghost use Rattle.std.specs.Int.{w16, w32, from_be_bytes};
 ghost use Rattle.cs_base.specs.GapCode.{first_code};
 ghost use Rattle.cs_model.specs.Blocks.{IsShaped};
-ghost use Rattle.cs_model.specs.BlockRules.{columns, row_at};
+ghost use Rattle.cs_model.specs.BlockRules.{block_columns, row_at};
 ghost use Rattle.cs_block.specs.Reading.{GapHere, HasColumns};
 ghost use Rattle.cs_block.specs.ColumnsView.{seen};
 
@@ -27,7 +27,7 @@ pub struct Columns<'a> {
 pub fn cut<'a>(bytes: &'a [u8], head: &BlockHead) -> Columns<'a>
     requires { IsShaped head.now (length bytes.now) }
 
-    ensures value { seen result ≡ columns head.now bytes.now }
+    ensures value { seen result ≡ block_columns head.now bytes.now }
     ensures sized { HasColumns head.now (seen result) }
 {
     let (gaps, rest) = bytes.split_at((head.len - 7 * head.rows) as usize);

@@ -9,32 +9,23 @@ use Rattle.std.proofs.lemmas.List.{length-map}
 use Rattle.std.proofs.lemmas.List.FromFn.{length-enumerate_from}
 use Rattle.std.proofs.lemmas.List.Elements.{All-from_recursion}
 use Rattle.cs_base.specs.declared.doc.Doc.{Doc}
-use Rattle.cs_model.specs.Collection.{Refusal, unless, first_of, piece_refusal, line_refusal, docs_refusal, documents, document, DocLine, doc_line, doc_lines, collection_lines, has_bytes, has_name_form, piece_name, is_equals, facet_pieces, columns, word_count, bad_facet, bad_name, without_mark, not_utf8, line_too_long, words_too_many, too_many_docs, too_large}
+use Rattle.cs_model.specs.Collection.{CollectionRefusal, piece_refusal, line_refusal, docs_refusal, documents, document, DocLine, doc_line, doc_lines, collection_lines, has_name_form, piece_name, is_equals, facet_pieces, columns, word_count, bad_facet, bad_name, without_mark, not_utf8, line_too_long, words_too_many, too_many_docs, too_large}
+use Rattle.cs_model.specs.Words.{is_filled}
+use Rattle.cs_model.specs.First.{unless, first_reason}
+use Rattle.cs_model.proofs.FirstLemmas.{none_first, none_rest, unless_none}
 use Rattle.cs_docs.specs.Pieces.{IsNamed, AreNamed, IsAccepted}
 use Rattle.cs_docs.specs.Reading.{doc_lines_from}
 use Rattle.cs_docs.proofs.PlainLemmas.{length_documents_of_lines}
 
 -- ---- nothing is refused
 
-none_first : (o : Option Refusal) (rs : List (Option Refusal)) → first_of (o ∷ rs) ≡ None → o ≡ None
-none_first None rs h = refl
-none_first (Some r) rs h = absurd (cc)
-
-none_rest : (o : Option Refusal) (rs : List (Option Refusal)) → first_of (o ∷ rs) ≡ None → first_of rs ≡ None
-none_rest None rs h = h
-none_rest (Some r) rs h = absurd (cc)
-
-passed : (b : Bool) (r : Refusal) → unless b r ≡ None → b ≡ true
-passed true r h = refl
-passed false r h = absurd (cc)
-
 named_piece : (n : ℕ) (p : List ℕ) → piece_refusal n p ≡ None → IsNamed p
 named_piece n p h = record {
-  cut = passed (list_any is_equals p) (bad_facet n) (none_first _ _ h);
-  name = passed (has_name_form (piece_name p)) (bad_name n) (none_first _ _ (none_rest (unless (list_any is_equals p) (bad_facet n)) _ h));
+  cut = unless_none (list_any is_equals p) (bad_facet n) (none_first _ _ h);
+  name = unless_none (has_name_form (piece_name p)) (bad_name n) (none_first _ _ (none_rest (unless (list_any is_equals p) (bad_facet n)) _ h));
 }
 
-pub named_pieces : (n : ℕ) (ps : List (List ℕ)) → first_of (map (piece_refusal n) ps) ≡ None → AreNamed ps
+pub named_pieces : (n : ℕ) (ps : List (List ℕ)) → first_reason (map (piece_refusal n) ps) ≡ None → AreNamed ps
 named_pieces n [] h = tt
 named_pieces n (p ∷ ps) h = (named_piece n p (none_first (piece_refusal n p) (map (piece_refusal n) ps) h), named_pieces n ps (none_rest (piece_refusal n p) (map (piece_refusal n) ps) h))
 
@@ -43,10 +34,10 @@ accepted_line l h =
     let utf8 = unless (is_utf8 l.bytes) (not_utf8 l.line) in
     let long = unless (nat_le (length l.bytes) (2 ^ 20)) (line_too_long l.line) in
     let many = unless (nat_le (word_count (columns l.bytes)) 100000) (words_too_many l.line) in
-    let pieces = first_of (map (piece_refusal l.line) (facet_pieces (columns l.bytes).facets)) in
+    let pieces = first_reason (map (piece_refusal l.line) (facet_pieces (columns l.bytes).facets)) in
     let docs = unless (nat_lt l.doc (2 ^ 20)) (too_many_docs l.line) in
-    let behind : first_of (many ∷ pieces ∷ docs ∷ []) ≡ None = none_rest long (many ∷ pieces ∷ docs ∷ []) (none_rest utf8 (long ∷ many ∷ pieces ∷ docs ∷ []) h) in
-    let few : nat_le (word_count (columns l.bytes)) 100000 ≡ true = passed _ (words_too_many l.line) (none_first many (pieces ∷ docs ∷ []) behind) in
+    let behind : first_reason (many ∷ pieces ∷ docs ∷ []) ≡ None = none_rest long (many ∷ pieces ∷ docs ∷ []) (none_rest utf8 (long ∷ many ∷ pieces ∷ docs ∷ []) h) in
+    let few : nat_le (word_count (columns l.bytes)) 100000 ≡ true = unless_none _ (words_too_many l.line) (none_first many (pieces ∷ docs ∷ []) behind) in
     record {
       pieces = named_pieces l.line (facet_pieces (columns l.bytes).facets) (none_first pieces (docs ∷ []) (none_rest many (pieces ∷ docs ∷ []) behind));
       few = few_from _ few;
@@ -55,7 +46,7 @@ accepted_line l h =
     few_from : (n : ℕ) → nat_le n 100000 ≡ true → n ≤ 100000
     few_from n h = grind (arith, nat_tests)
 
-accepted_lines : (ks : List DocLine) → first_of (map line_refusal ks) ≡ None → AllByRecursion IsAccepted (map document ks)
+accepted_lines : (ks : List DocLine) → first_reason (map line_refusal ks) ≡ None → AllByRecursion IsAccepted (map document ks)
 accepted_lines [] h = tt
 accepted_lines (k ∷ ks) h = (accepted_line k (none_first (line_refusal k) (map line_refusal ks) h), accepted_lines ks (none_rest (line_refusal k) (map line_refusal ks) h))
 
@@ -70,7 +61,7 @@ unmarked_length false c = omega arith
 
 pub few_docs : (c : List ℕ) (docs : List Doc) → docs_refusal c ≡ None → docs ≡ documents c → length docs ≤ 268435457
 few_docs c docs h e =
-    let small : nat_le (length c) 268435456 ≡ true = passed (nat_le (length c) 268435456) too_large (none_first _ _ h) in
+    let small : nat_le (length c) 268435456 ≡ true = unless_none (nat_le (length c) 268435456) too_large (none_first _ _ h) in
     let bound : length c ≤ 268435456 = grind (arith, nat_tests) in
     omega (arith, ap length e, length_documents_of_lines (without_mark c), unmarked_length (starts_with nat_eq c (239 ∷ 187 ∷ 191 ∷ [])) c, bound)
 
@@ -81,16 +72,16 @@ few_line l h =
     let utf8 = unless (is_utf8 l.bytes) (not_utf8 l.line) in
     let long = unless (nat_le (length l.bytes) (2 ^ 20)) (line_too_long l.line) in
     let many = unless (nat_le (word_count (columns l.bytes)) 100000) (words_too_many l.line) in
-    let pieces = first_of (map (piece_refusal l.line) (facet_pieces (columns l.bytes).facets)) in
+    let pieces = first_reason (map (piece_refusal l.line) (facet_pieces (columns l.bytes).facets)) in
     let docs = unless (nat_lt l.doc (2 ^ 20)) (too_many_docs l.line) in
-    let behind : first_of (many ∷ pieces ∷ docs ∷ []) ≡ None = none_rest long (many ∷ pieces ∷ docs ∷ []) (none_rest utf8 (long ∷ many ∷ pieces ∷ docs ∷ []) h) in
-    let last : first_of (docs ∷ []) ≡ None = none_rest pieces (docs ∷ []) (none_rest many (pieces ∷ docs ∷ []) behind) in
-    below l.doc (passed (nat_lt l.doc (2 ^ 20)) (too_many_docs l.line) (none_first docs [] last))
+    let behind : first_reason (many ∷ pieces ∷ docs ∷ []) ≡ None = none_rest long (many ∷ pieces ∷ docs ∷ []) (none_rest utf8 (long ∷ many ∷ pieces ∷ docs ∷ []) h) in
+    let last : first_reason (docs ∷ []) ≡ None = none_rest pieces (docs ∷ []) (none_rest many (pieces ∷ docs ∷ []) behind) in
+    below l.doc (unless_none (nat_lt l.doc (2 ^ 20)) (too_many_docs l.line) (none_first docs [] last))
   where
     below : (n : ℕ) → nat_lt n (2 ^ 20) ≡ true → n + 1 ≤ 2 ^ 20
     below n h = grind (arith, nat_tests)
 
-few_lines : (d : ℕ) (ls : List (ℕ × List ℕ)) → d ≤ 2 ^ 20 → first_of (map line_refusal (map doc_line (enumerate_from d ls))) ≡ None → d + length ls ≤ 2 ^ 20
+few_lines : (d : ℕ) (ls : List (ℕ × List ℕ)) → d ≤ 2 ^ 20 → first_reason (map line_refusal (map doc_line (enumerate_from d ls))) ≡ None → d + length ls ≤ 2 ^ 20
 few_lines d [] le h = omega (arith, le)
 few_lines d (l ∷ ls) le h =
     let next = few_line (doc_line (d, l)) (none_first (line_refusal (doc_line (d, l))) _ h) in
@@ -98,6 +89,6 @@ few_lines d (l ∷ ls) le h =
 
 pub few_documents : (c : List ℕ) → docs_refusal c ≡ None → length (documents c) ≤ 2 ^ 20
 few_documents c h =
-    let ls = filter (λ l. has_bytes l.1) (collection_lines c) in
+    let ls = filter (λ l. is_filled l.1) (collection_lines c) in
     let few = few_lines 0 ls (omega arith) (none_rest (unless (nat_le (length c) (2 ^ 28)) too_large) _ h) in
     omega (arith, few, length-map (doc_lines c) document, length-map (enumerate_from 0 ls) doc_line, length-enumerate_from 0 ls)

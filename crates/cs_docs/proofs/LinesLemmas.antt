@@ -9,10 +9,12 @@ use Rattle.std.proofs.lemmas.List.{map-append}
 use Rattle.std.proofs.lemmas.List.Elements.{All-from_get_or}
 use Rattle.std.proofs.lemmas.List.Splits.{slice_split_first, slice_split_none, length-slice_split}
 use Rattle.std.proofs.lemmas.List.Sums.{position_or_len_is}
-use Rattle.cs_model.specs.Collection.{has_bytes, Refusal, first_of, line_refusal}
+use Rattle.cs_model.specs.Collection.{CollectionRefusal, line_refusal}
+use Rattle.cs_model.specs.Words.{is_filled}
+use Rattle.cs_model.specs.First.{first_reason}
 use Rattle.cs_docs.specs.declared.fault.DocFault.{DocFault}
 use Rattle.cs_docs.specs.Refusals.{refusal_of, IsCauseOf, refusal_from}
-use Rattle.cs_docs.proofs.PiecesLemmas.{first-append, first-append_some}
+use Rattle.cs_model.proofs.FirstLemmas.{first-append, first-append_some}
 use Rattle.cs_docs.specs.Reading.{doc_lines_from, documents_from}
 
 -- behind the first part there are further ones
@@ -52,35 +54,35 @@ last_line bs some h =
 
 module _ (d n : ℕ) where
   -- a line without bytes is no document
-  documents_at : (b : Bool) (l : List ℕ) (ls : List (List ℕ)) → has_bytes l ≡ b → documents_from d n (l ∷ ls) ≡ documents_from d n (l ∷ []) ++ documents_from (d + length (documents_from d n (l ∷ []))) (n + 1) ls
+  documents_at : (b : Bool) (l : List ℕ) (ls : List (List ℕ)) → is_filled l ≡ b → documents_from d n (l ∷ ls) ≡ documents_from d n (l ∷ []) ++ documents_from (d + length (documents_from d n (l ∷ []))) (n + 1) ls
   documents_at true l ls h =
       let one : d + 1 ≡ d + length (documents_from d n (l ∷ [])) = rw h refl in
       rw h refl
   documents_at false l ls h = rw h (ap (λ m. documents_from m (n + 1) ls) (omega arith))
 
   pub documents_next : (l : List ℕ) (ls : List (List ℕ)) → documents_from d n (l ∷ ls) ≡ documents_from d n (l ∷ []) ++ documents_from (d + length (documents_from d n (l ∷ []))) (n + 1) ls
-  documents_next l ls = documents_at (has_bytes l) l ls refl
+  documents_next l ls = documents_at (is_filled l) l ls refl
 
 -- ---- refusals
 
 module _ (d n : ℕ) where
-  doc_lines_at : (b : Bool) (l : List ℕ) (ls : List (List ℕ)) → has_bytes l ≡ b → doc_lines_from d n (l ∷ ls) ≡ doc_lines_from d n (l ∷ []) ++ doc_lines_from (d + length (documents_from d n (l ∷ []))) (n + 1) ls
+  doc_lines_at : (b : Bool) (l : List ℕ) (ls : List (List ℕ)) → is_filled l ≡ b → doc_lines_from d n (l ∷ ls) ≡ doc_lines_from d n (l ∷ []) ++ doc_lines_from (d + length (documents_from d n (l ∷ []))) (n + 1) ls
   doc_lines_at true l ls h =
       let one : d + 1 ≡ d + length (documents_from d n (l ∷ [])) = rw h refl in
       rw h refl
   doc_lines_at false l ls h = rw h (ap (λ m. doc_lines_from m (n + 1) ls) (omega arith))
 
-  refusals_next : (l : List ℕ) (ls : List (List ℕ)) → refusal_from d n (l ∷ ls) ≡ first_of (map line_refusal (doc_lines_from d n (l ∷ [])) ++ map line_refusal (doc_lines_from (d + length (documents_from d n (l ∷ []))) (n + 1) ls))
-  refusals_next l ls = ap (λ ks. first_of (map line_refusal ks)) (doc_lines_at (has_bytes l) l ls refl) ∙ ap first_of (map-append line_refusal (doc_lines_from d n (l ∷ [])) (doc_lines_from (d + length (documents_from d n (l ∷ []))) (n + 1) ls))
+  refusals_next : (l : List ℕ) (ls : List (List ℕ)) → refusal_from d n (l ∷ ls) ≡ first_reason (map line_refusal (doc_lines_from d n (l ∷ [])) ++ map line_refusal (doc_lines_from (d + length (documents_from d n (l ∷ []))) (n + 1) ls))
+  refusals_next l ls = ap (λ ks. first_reason (map line_refusal ks)) (doc_lines_at (is_filled l) l ls refl) ∙ ap first_reason (map-append line_refusal (doc_lines_from d n (l ∷ [])) (doc_lines_from (d + length (documents_from d n (l ∷ []))) (n + 1) ls))
 
   -- where a line isn't refused, a further one may be
   pub accepted_next : (l : List ℕ) (ls : List (List ℕ)) → refusal_from d n (l ∷ []) ≡ None → refusal_from d n (l ∷ ls) ≡ refusal_from (d + length (documents_from d n (l ∷ []))) (n + 1) ls
   accepted_next l ls h = refusals_next l ls ∙ first-append (map line_refusal (doc_lines_from d n (l ∷ []))) (map line_refusal (doc_lines_from (d + length (documents_from d n (l ∷ []))) (n + 1) ls)) h
 
-  refused_next : (l : List ℕ) (ls : List (List ℕ)) (r : Refusal) → refusal_from d n (l ∷ []) ≡ Some r → refusal_from d n (l ∷ ls) ≡ Some r
+  refused_next : (l : List ℕ) (ls : List (List ℕ)) (r : CollectionRefusal) → refusal_from d n (l ∷ []) ≡ Some r → refusal_from d n (l ∷ ls) ≡ Some r
   refused_next l ls r h = refusals_next l ls ∙ first-append_some (map line_refusal (doc_lines_from d n (l ∷ []))) (map line_refusal (doc_lines_from (d + length (documents_from d n (l ∷ []))) (n + 1) ls)) r h
 
-  cause_at : (o : Option Refusal) (l : List ℕ) (ls : List (List ℕ)) → MatchOption o (Unit {0}) (λ x. refusal_from d n (l ∷ []) ≡ Some x) → MatchOption o (Unit {0}) (λ x. refusal_from d n (l ∷ ls) ≡ Some x)
+  cause_at : (o : Option CollectionRefusal) (l : List ℕ) (ls : List (List ℕ)) → MatchOption o (Unit {0}) (λ x. refusal_from d n (l ∷ []) ≡ Some x) → MatchOption o (Unit {0}) (λ x. refusal_from d n (l ∷ ls) ≡ Some x)
   cause_at None l ls h = tt
   cause_at (Some r) l ls h = refused_next l ls r h
 

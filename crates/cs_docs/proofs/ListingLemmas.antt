@@ -14,7 +14,7 @@ use Rattle.std.proofs.lemmas.Str.Ascii.{IsAscii-nil}
 use Rattle.cs_base.specs.Orders.{by_row}
 use Rattle.cs_base.specs.declared.doc.Doc.{Doc}
 use Rattle.cs_base.specs.declared.doc.Row.{Row}
-use Rattle.cs_base.proofs.MembersLemmas.{members_are, is_member-listed, listing-rises}
+use Rattle.cs_base.proofs.MembersLemmas.{all_then, members_are, is_member-listed, listing-rises}
 use Rattle.cs_base.proofs.OrdersLemmas.{by_row_total, by_row_exact}
 use Rattle.cs_model.specs.Collection.{facet_words}
 use Rattle.cs_model.specs.Corpus.{placed, title_rows, text_rows, facet_rows, doc_rows, rows_of}
@@ -28,17 +28,13 @@ all-append : {X : Type 0} (P : X → Type 0) (xs ys : List X) → AllByRecursion
 all-append P [] ys h k = k
 all-append P (x ∷ xs) ys h k = (h.0, all-append P xs ys h.1 k)
 
-all-weaker : {X : Type 0} (P Q : X → Type 0) → ((x : X) → P x → Q x) → (xs : List X) → AllByRecursion P xs → AllByRecursion Q xs
-all-weaker P Q w [] h = tt
-all-weaker P Q w (x ∷ xs) h = (w x h.0, all-weaker P Q w xs h.1)
-
 -- each of xs is below each of ys
 abbrev AreBelow : {X : Type 0} → (X → X → Ordering) → List X → List X → Type 0
 AreBelow R xs ys = AllByRecursion (λ x. AllByRecursion (λ y. R x y ≡ Less) ys) xs
 
 below-from : {X : Type 0} (R : X → X → Ordering) (P Q : X → Type 0) → ((x y : X) → P x → Q y → R x y ≡ Less) → (xs ys : List X) → AllByRecursion P xs → AllByRecursion Q ys → AreBelow R xs ys
 below-from R P Q less [] ys h k = tt
-below-from R P Q less (x ∷ xs) ys h k = (all-weaker Q (λ y. R x y ≡ Less) (λ y q. less x y h.0 q) ys k, below-from R P Q less xs ys h.1 k)
+below-from R P Q less (x ∷ xs) ys h k = (all_then Q (λ y. R x y ≡ Less) (λ y q. less x y h.0 q) ys k, below-from R P Q less xs ys h.1 k)
 
 sorted-append : {X : Type 0} (R : X → X → Ordering) (xs ys : List X) → IsStrictlySortedBy R xs → IsStrictlySortedBy R ys → AreBelow R xs ys → IsStrictlySortedBy R (xs ++ ys)
 unfolding IsStrictlySortedBy
@@ -76,7 +72,7 @@ within_below : (d lo mid hi : ℕ) (xs ys : List Row) → AllByRecursion (IsWith
 within_below d lo mid hi xs ys h k = below-from by_spot (IsWithin d lo mid) (IsWithin d mid hi) (λ r s p q. earlier_pos r s (p.doc ∙ sym q.doc) (omega (arith, p.before, q.from))) xs ys h k
 
 wider : (d lo hi a b : ℕ) (xs : List Row) → a ≤ lo → hi ≤ b → AllByRecursion (IsWithin d lo hi) xs → AllByRecursion (IsWithin d a b) xs
-wider d lo hi a b xs l k h = all-weaker (IsWithin d lo hi) (IsWithin d a b) (λ r p. record { doc = p.doc; from = omega (arith, p.from); before = omega (arith, p.before) }) xs h
+wider d lo hi a b xs l k h = all_then (IsWithin d lo hi) (IsWithin d a b) (λ r p. record { doc = p.doc; from = omega (arith, p.from); before = omega (arith, p.before) }) xs h
 
 within-placed : (d score n : ℕ) (ws : List (List ℕ)) → AllByRecursion (IsWithin d n (n + length ws)) (map (placed d score) (enumerate_from n ws))
 within-placed d score n [] = tt
@@ -89,7 +85,7 @@ sorted-placed : (d score n : ℕ) (ws : List (List ℕ)) → IsStrictlySortedBy 
 unfolding IsStrictlySortedBy
 sorted-placed d score n [] = tt
 sorted-placed d score n (w ∷ ws) = (
-  all-weaker (IsWithin d (n + 1) (n + 1 + length ws)) (λ s. by_spot (placed d score (n, w)) s ≡ Less) (λ s q. earlier_pos (placed d score (n, w)) s (sym q.doc) (omega (arith, q.from)))
+  all_then (IsWithin d (n + 1) (n + 1 + length ws)) (λ s. by_spot (placed d score (n, w)) s ≡ Less) (λ s q. earlier_pos (placed d score (n, w)) s (sym q.doc) (omega (arith, q.from)))
       (map (placed d score) (enumerate_from (n + 1) ws)) (within-placed d score (n + 1) ws),
   sorted-placed d score (n + 1) ws,
 )
@@ -139,8 +135,8 @@ module _ (d : ℕ) (doc : Doc) where
 
   of_doc : AllByRecursion (λ r. r.doc ≡ d) (listed_doc (d, doc))
   of_doc = all-append (λ r. r.doc ≡ d) (facets ++ title_rows d doc) (text_rows d doc)
-      (all-weaker (IsWithin d 0 (titles + 1)) (λ r. r.doc ≡ d) (λ r p. p.doc) (facets ++ title_rows d doc) within_front)
-      (all-weaker (IsWithin d (titles + 1) (titles + 9 + texts)) (λ r. r.doc ≡ d) (λ r p. p.doc) (text_rows d doc) within_texts)
+      (all_then (IsWithin d 0 (titles + 1)) (λ r. r.doc ≡ d) (λ r p. p.doc) (facets ++ title_rows d doc) within_front)
+      (all_then (IsWithin d (titles + 1) (titles + 9 + texts)) (λ r. r.doc ≡ d) (λ r p. p.doc) (text_rows d doc) within_texts)
 
 -- ---- all documents
 
@@ -148,8 +144,8 @@ from_docs : (d : ℕ) (docs : List Doc) → AllByRecursion (λ r. d ≤ r.doc) (
 from_docs d [] = tt
 from_docs d (doc ∷ docs) =
     all-append (λ r. d ≤ r.doc) (listed_doc (d, doc)) (listed_rows (d + 1) docs)
-    (all-weaker (λ r. r.doc ≡ d) (λ r. d ≤ r.doc) (λ r p. omega (arith, p)) (listed_doc (d, doc)) (of_doc d doc))
-    (all-weaker (λ r. d + 1 ≤ r.doc) (λ r. d ≤ r.doc) (λ r p. omega (arith, p)) (listed_rows (d + 1) docs) (from_docs (d + 1) docs))
+    (all_then (λ r. r.doc ≡ d) (λ r. d ≤ r.doc) (λ r p. omega (arith, p)) (listed_doc (d, doc)) (of_doc d doc))
+    (all_then (λ r. d + 1 ≤ r.doc) (λ r. d ≤ r.doc) (λ r p. omega (arith, p)) (listed_rows (d + 1) docs) (from_docs (d + 1) docs))
 
 pub sorted-spots : (d : ℕ) (docs : List Doc) → IsStrictlySortedBy by_spot (listed_rows d docs)
 unfolding IsStrictlySortedBy
@@ -173,7 +169,7 @@ spot-row r s h = before (nat_cmp r.doc s.doc) (nat_cmp r.pos s.pos) (slice_cmp n
 rise_as_rows : (rows : List Row) → IsStrictlySortedBy by_spot rows → IsStrictlySortedBy by_row rows
 unfolding IsStrictlySortedBy
 rise_as_rows [] h = tt
-rise_as_rows (r ∷ rows) h = (all-weaker (λ s. by_spot r s ≡ Less) (λ s. by_row r s ≡ Less) (spot-row r) rows h.0, rise_as_rows rows h.1)
+rise_as_rows (r ∷ rows) h = (all_then (λ s. by_spot r s ≡ Less) (λ s. by_row r s ≡ Less) (spot-row r) rows h.0, rise_as_rows rows h.1)
 
 sorted-rows : (d : ℕ) (docs : List Doc) → IsStrictlySortedBy by_row (listed_rows d docs)
 sorted-rows d docs = rise_as_rows (listed_rows d docs) (sorted-spots d docs)
@@ -245,7 +241,7 @@ below_docs : (d n : ℕ) (docs : List Doc) → d + length docs ≤ n → AllByRe
 below_docs d n [] h = tt
 below_docs d n (doc ∷ docs) h =
     all-append (λ r. r.doc < n) (listed_doc (d, doc)) (listed_rows (d + 1) docs)
-    (all-weaker (λ r. r.doc ≡ d) (λ r. r.doc < n) (λ r p. omega (arith, p)) (listed_doc (d, doc)) (of_doc d doc))
+    (all_then (λ r. r.doc ≡ d) (λ r. r.doc < n) (λ r p. omega (arith, p)) (listed_doc (d, doc)) (of_doc d doc))
     (below_docs (d + 1) n docs (omega arith))
 
 -- the rows of documents are in documents

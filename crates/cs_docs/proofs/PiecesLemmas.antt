@@ -8,7 +8,9 @@ use Rattle.std.proofs.lemmas.List.Elements.{All-from_get_or, filter-append}
 use Rattle.std.proofs.lemmas.List.Folds.{list_any_none}
 use Rattle.std.proofs.lemmas.List.Splits.{slice_split_first, slice_split_none}
 use Rattle.std.proofs.lemmas.List.Sums.{fails_before_first}
-use Rattle.cs_model.specs.Collection.{is_space, without_spaces, without_spaces_behind, facet_pieces, has_bytes, Refusal, first_of}
+use Rattle.cs_model.specs.Collection.{is_space, without_spaces, without_spaces_behind, facet_pieces, CollectionRefusal}
+use Rattle.cs_model.specs.Words.{is_filled}
+use Rattle.cs_model.specs.First.{first_reason}
 use Rattle.cs_docs.specs.Pieces.{one_piece, is_semicolon}
 
 -- ---- spaces
@@ -49,27 +51,15 @@ pieces_next bs some = at (nat_lt (position_or_len is_semicolon bs) (length bs)) 
   where
     at : (b : Bool) → nat_lt (position_or_len is_semicolon bs) (length bs) ≡ b → facet_pieces bs ≡ one_piece (without_spaces (before_first is_semicolon bs)) (after_first is_semicolon bs)
     at true h =
-        ap (λ ps. filter has_bytes (map without_spaces ps)) (slice_split_first is_semicolon bs 0 (grind (arith, nat_tests)))
-        ∙ filter-append has_bytes (without_spaces (before_first is_semicolon bs) ∷ []) (map without_spaces (slice_split is_semicolon (after_first is_semicolon bs)))
+        ap (λ ps. filter is_filled (map without_spaces ps)) (slice_split_first is_semicolon bs 0 (grind (arith, nat_tests)))
+        ∙ filter-append is_filled (without_spaces (before_first is_semicolon bs) ∷ []) (map without_spaces (slice_split is_semicolon (after_first is_semicolon bs)))
     at false h =
         let past : length bs ≤ position_or_len is_semicolon bs = grind (arith, nat_tests) in
         let whole : slice_split is_semicolon bs ≡ bs ∷ [] = slice_split_none is_semicolon bs (All-from_get_or (λ b. is_semicolon b ≡ false) bs 0 (λ k l. fails_before_first is_semicolon bs k 0 (omega (arith, past, l)))) in
-        ap (λ ps. filter has_bytes (map without_spaces ps)) whole
-        ∙ sym (append-nil (filter has_bytes (without_spaces bs ∷ [])))
-        ∙ ap (λ p. filter has_bytes (without_spaces p ∷ []) ++ facet_pieces []) (sym (take_all (position_or_len is_semicolon bs) bs past))
+        ap (λ ps. filter is_filled (map without_spaces ps)) whole
+        ∙ sym (append-nil (filter is_filled (without_spaces bs ∷ [])))
+        ∙ ap (λ p. filter is_filled (without_spaces p ∷ []) ++ facet_pieces []) (sym (take_all (position_or_len is_semicolon bs) bs past))
         ∙ ap (one_piece (without_spaces (before_first is_semicolon bs))) (sym (drop_all (position_or_len is_semicolon bs + 1) bs (omega (arith, past))))
-
--- ---- the first refusal
-
-pub first-append : (rs qs : List (Option Refusal)) → first_of rs ≡ None → first_of (rs ++ qs) ≡ first_of qs
-first-append [] qs h = refl
-first-append (None ∷ rs) qs h = first-append rs qs h
-first-append (Some r ∷ rs) qs h = absurd (cc)
-
-pub first-append_some : (rs qs : List (Option Refusal)) (r : Refusal) → first_of rs ≡ Some r → first_of (rs ++ qs) ≡ Some r
-first-append_some [] qs r h = absurd (cc)
-first-append_some (None ∷ rs) qs r h = first-append_some rs qs r h
-first-append_some (Some s ∷ rs) qs r h = h
 
 -- ---- a test that no element passes
 

@@ -6,8 +6,9 @@ use Rattle.std.specs.Str.{is_utf8}
 use Rattle.std.specs.Str.Lines.{lines}
 use Rattle.std.proofs.lemmas.Bool.Decides.{nat_tests}
 use Rattle.std.proofs.lemmas.Str.{IsUtf8-from_ascii, is_utf8-from_IsUtf8}
-use Rattle.cs_model.specs.Collection.{is_plain, is_plain_byte, documents, document, doc_lines, doc_line, docs_refusal, line_refusal, first_of, piece_refusal, facet_pieces, columns, word_count, DocLine, has_bytes}
-use Rattle.cs_model.specs.Words.{words}
+use Rattle.cs_model.specs.Collection.{is_plain, is_plain_byte, documents, document, doc_lines, doc_line, docs_refusal, line_refusal, piece_refusal, facet_pieces, columns, word_count, DocLine}
+use Rattle.cs_model.specs.Words.{is_filled, words}
+use Rattle.cs_model.specs.First.{first_reason}
 use Rattle.cs_docs.specs.Reading.{doc_lines_from, documents_from, title_only}
 use Rattle.cs_docs.specs.Refusals.{refusal_from}
 use Rattle.cs_docs.proofs.PlainLemmas.{IsPart, AreParts, IsTitleOnly, IsTitleOnly-line, IsAscii-plain, title_of-line, few_words, no_words, plain_lines, plain_length, plain_parts, unmarked, length_of_lines}
@@ -22,22 +23,22 @@ accepted_line l h below =
     let short : nat_le (length l.bytes) 1048576 ≡ true = at_most (length l.bytes) 1048576 (omega (arith, h.short)) in
     let texts : length (words (columns l.bytes).text) ≡ 0 = ap (λ t. length (words t)) only.no_text ∙ ap length no_words in
     let few : nat_le (word_count (columns l.bytes)) 100000 ≡ true = at_most (word_count (columns l.bytes)) 100000 (omega (arith, texts, few_words (columns l.bytes).title only.ascii, only.short)) in
-    let pieces : first_of (map (piece_refusal l.line) (facet_pieces (columns l.bytes).facets)) ≡ None = ap (λ f. first_of (map (piece_refusal l.line) (facet_pieces f))) only.no_facets in
+    let pieces : first_reason (map (piece_refusal l.line) (facet_pieces (columns l.bytes).facets)) ≡ None = ap (λ f. first_reason (map (piece_refusal l.line) (facet_pieces f))) only.no_facets in
     let last : nat_lt l.doc 1048576 ≡ true = grind (arith, nat_tests) in
     rw (utf8, short, few, pieces, last) refl
 
 -- the lines from one on, where b says whether it has bytes
 abbrev lines_at : Bool → ℕ → ℕ → List ℕ → List (List ℕ) → List DocLine
-lines_at b d n l ls = map doc_line (enumerate_from d (cond b ((n, l) ∷ filter (λ k. has_bytes k.1) (enumerate_from (n + 1) ls)) (filter (λ k. has_bytes k.1) (enumerate_from (n + 1) ls))))
+lines_at b d n l ls = map doc_line (enumerate_from d (cond b ((n, l) ∷ filter (λ k. is_filled k.1) (enumerate_from (n + 1) ls)) (filter (λ k. is_filled k.1) (enumerate_from (n + 1) ls))))
 
-accepted_at : (b : Bool) (d n : ℕ) (l : List ℕ) (ls : List (List ℕ)) → IsPart is_plain_byte 65536 l → d < 2 ^ 20 → refusal_from (d + 1) (n + 1) ls ≡ None → refusal_from d (n + 1) ls ≡ None → first_of (map line_refusal (lines_at b d n l ls)) ≡ None
+accepted_at : (b : Bool) (d n : ℕ) (l : List ℕ) (ls : List (List ℕ)) → IsPart is_plain_byte 65536 l → d < 2 ^ 20 → refusal_from (d + 1) (n + 1) ls ≡ None → refusal_from d (n + 1) ls ≡ None → first_reason (map line_refusal (lines_at b d n l ls)) ≡ None
 accepted_at true d n l ls h below one same = rw (accepted_line (doc_line (d, (n, l))) h below) one
 accepted_at false d n l ls h below one same = same
 
 accepted_lines : (d n : ℕ) (ls : List (List ℕ)) → AreParts is_plain_byte 65536 ls → d + length ls ≤ 2 ^ 20 → refusal_from d n ls ≡ None
 accepted_lines d n [] h few = refl
 accepted_lines d n (l ∷ ls) h few =
-    accepted_at (has_bytes l) d n l ls h.0 (omega (arith, few)) (accepted_lines (d + 1) (n + 1) ls h.1 (omega (arith, few))) (accepted_lines d (n + 1) ls h.1 (omega (arith, few)))
+    accepted_at (is_filled l) d n l ls h.0 (omega (arith, few)) (accepted_lines (d + 1) (n + 1) ls h.1 (omega (arith, few))) (accepted_lines d (n + 1) ls h.1 (omega (arith, few)))
 
 title_line : (l : DocLine) → IsPart is_plain_byte 65536 l.bytes → document l ≡ title_only l
 title_line l h =
@@ -50,7 +51,7 @@ titles_at false d n l ls h k = k d
 
 titles : (d n : ℕ) (ls : List (List ℕ)) → AreParts is_plain_byte 65536 ls → documents_from d n ls ≡ map title_only (doc_lines_from d n ls)
 titles d n [] h = refl
-titles d n (l ∷ ls) h = titles_at (has_bytes l) d n l ls h.0 (λ e. titles e (n + 1) ls h.1)
+titles d n (l ∷ ls) h = titles_at (is_filled l) d n l ls h.0 (λ e. titles e (n + 1) ls h.1)
 
 pub plain_accepted : (c : List ℕ) → is_plain c ≡ true → docs_refusal c ≡ None
 plain_accepted c h =

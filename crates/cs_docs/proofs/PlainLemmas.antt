@@ -13,8 +13,8 @@ use Rattle.std.proofs.lemmas.List.Splits.{length-slice_split}
 use Rattle.std.proofs.lemmas.Str.Ascii.{IsAscii-from_all, IsAscii-nil}
 use Rattle.cs_base.specs.declared.doc.Doc.{Doc}
 use Rattle.cs_model.specs.Ascii.{is_ascii_gap, ascii_norm}
-use Rattle.cs_model.specs.Collection.{is_plain, is_plain_byte, without_mark, is_tab, document, documents, doc_line, DocLine, has_bytes}
-use Rattle.cs_model.specs.Words.{words, is_some_run}
+use Rattle.cs_model.specs.Collection.{is_plain, is_plain_byte, without_mark, is_tab, document, documents, doc_line, DocLine}
+use Rattle.cs_model.specs.Words.{is_filled, words}
 use Rattle.cs_model.proofs.AsciiLemmas.{words-ascii}
 use Rattle.cs_docs.specs.Reading.{documents_from}
 
@@ -146,7 +146,7 @@ title_of-line l h = whole_before l.bytes (tab_nowhere l.bytes h.passes)
 
 -- the documents of the lines from one on, where b says whether it has bytes
 abbrev documents_at : Bool → ℕ → ℕ → List ℕ → List (List ℕ) → List Doc
-documents_at b d n l ls = map document (map doc_line (enumerate_from d (cond b ((n, l) ∷ filter (λ k. has_bytes k.1) (enumerate_from (n + 1) ls)) (filter (λ k. has_bytes k.1) (enumerate_from (n + 1) ls)))))
+documents_at b d n l ls = map document (map doc_line (enumerate_from d (cond b ((n, l) ∷ filter (λ k. is_filled k.1) (enumerate_from (n + 1) ls)) (filter (λ k. is_filled k.1) (enumerate_from (n + 1) ls)))))
 
 titles_only_at : (b : Bool) (d n : ℕ) (l : List ℕ) (ls : List (List ℕ)) → IsPart is_plain_byte 65536 l → ((e : ℕ) → AllByRecursion IsTitleOnly (documents_from e (n + 1) ls)) → AllByRecursion IsTitleOnly (documents_at b d n l ls)
 titles_only_at true d n l ls h k = (IsTitleOnly-line (doc_line (d, (n, l))) h, k (d + 1))
@@ -154,7 +154,7 @@ titles_only_at false d n l ls h k = k d
 
 pub titles_only : (d n : ℕ) (ls : List (List ℕ)) → AreParts is_plain_byte 65536 ls → AllByRecursion IsTitleOnly (documents_from d n ls)
 titles_only d n [] h = tt
-titles_only d n (l ∷ ls) h = titles_only_at (has_bytes l) d n l ls h.0 (λ e. titles_only e (n + 1) ls h.1)
+titles_only d n (l ∷ ls) h = titles_only_at (is_filled l) d n l ls h.0 (λ e. titles_only e (n + 1) ls h.1)
 
 -- ---- how many
 
@@ -164,7 +164,7 @@ length_documents_at false d n l ls k = omega (arith, k d)
 
 length_documents : (d n : ℕ) (ls : List (List ℕ)) → length (documents_from d n ls) ≤ length ls
 length_documents d n [] = omega arith
-length_documents d n (l ∷ ls) = omega (arith, length_documents_at (has_bytes l) d n l ls (λ e. length_documents e (n + 1) ls))
+length_documents d n (l ∷ ls) = omega (arith, length_documents_at (is_filled l) d n l ls (λ e. length_documents e (n + 1) ls))
 
 length_lines_of : (ls : List (List ℕ)) → length (lines_of_parts ls) ≤ length ls
 length_lines_of [] = omega arith
@@ -194,16 +194,16 @@ abbrev first_piece : List (List ℕ) → List ℕ
 first_piece [] = []
 first_piece (p ∷ ps) = p
 
-some_run : (x : ℕ) (p : List ℕ) → is_some_run (x ∷ p) ≡ true
+some_run : (x : ℕ) (p : List ℕ) → is_filled (x ∷ p) ≡ true
 some_run x p = grind (arith, nat_tests)
 
-length_some : (x : ℕ) (p : List ℕ) (ps : List (List ℕ)) → length (filter is_some_run ((x ∷ p) ∷ ps)) ≡ 1 + length (filter is_some_run ps)
-length_some x p ps = ap (λ b. length (cond b ((x ∷ p) ∷ filter is_some_run ps) (filter is_some_run ps))) (some_run x p) ∙ omega arith
+length_some : (x : ℕ) (p : List ℕ) (ps : List (List ℕ)) → length (filter is_filled ((x ∷ p) ∷ ps)) ≡ 1 + length (filter is_filled ps)
+length_some x p ps = ap (λ b. length (cond b ((x ∷ p) ∷ filter is_filled ps) (filter is_filled ps))) (some_run x p) ∙ omega arith
 
 -- the pieces that have characters, and whether the first of the pieces has
 record HasFew (ps : List (List ℕ)) (n : ℕ) : Type 0 where
-  few : 2 * length (filter is_some_run ps) ≤ n + 1
-  fewer : length (first_piece ps) ≡ 0 → 2 * length (filter is_some_run ps) ≤ n
+  few : 2 * length (filter is_filled ps) ≤ n + 1
+  fewer : length (first_piece ps) ≡ 0 → 2 * length (filter is_filled ps) ≤ n
 
 few_at : (b : Bool) (x : ℕ) (ps : List (List ℕ)) (n : ℕ) → HasFew ps n → HasFew (cond b ([] ∷ ps) (onto_first x ps)) (n + 1)
 few_at true x ps n h = record { few = omega (arith, h.few); fewer = λ _. h.few }
@@ -218,7 +218,7 @@ few_runs p (x ∷ xs) = let more = few_at (p x) x (slice_split p xs) (length xs)
 pub few_words : (s : List ℕ) → IsAscii s → 2 * length (words s) ≤ length s + 1
 few_words s h =
     let runs = few_runs is_ascii_gap (ascii_norm s) in
-    omega (arith, ap length (words-ascii s h), length-map (filter is_some_run (slice_split is_ascii_gap (ascii_norm s))) (take 120), length-map s to_ascii_lowercase, runs.few)
+    omega (arith, ap length (words-ascii s h), length-map (filter is_filled (slice_split is_ascii_gap (ascii_norm s))) (take 120), length-map s to_ascii_lowercase, runs.few)
 
 -- ---- the documents of a plain collection
 

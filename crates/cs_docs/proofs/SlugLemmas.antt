@@ -6,22 +6,12 @@ use Rattle.std.specs.List.{join_with_byte}
 use Rattle.std.specs.Str.{chars}
 use Rattle.std.proofs.lemmas.Bool.Decides.{nat_tests}
 use Rattle.std.proofs.lemmas.Str.{length-encode}
+use Rattle.cs_model.proofs.FittingLemmas.{fitting-fits}
 use Rattle.cs_model.specs.Words.{fitting, cut, slug, slug_of, words}
-
-fitting_at : (b : Bool) (room c : ℕ) (cs : List ℕ) → nat_le (len_utf8 c) room ≡ b → length (encode_utf8_all (fitting (room - len_utf8 c) cs)) ≤ room - len_utf8 c
-    → length (encode_utf8_all (cond b (c ∷ fitting (room - len_utf8 c) cs) [])) ≤ room
-fitting_at true room c cs h k =
-    let fits : len_utf8 c ≤ room = grind (arith, nat_tests) in
-    omega (arith, fits, length-append (encode_utf8 c) (encode_utf8_all (fitting (room - len_utf8 c) cs)), length-encode c, k)
-fitting_at false room c cs h k = omega arith
-
-short_fitting : (room : ℕ) (cs : List ℕ) → length (encode_utf8_all (fitting room cs)) ≤ room
-short_fitting room [] = omega arith
-short_fitting room (c ∷ cs) = fitting_at (nat_le (len_utf8 c) room) room c cs refl (short_fitting (room - len_utf8 c) cs)
 
 short_cut : (cs : List ℕ) → length (cut cs) ≤ 120
 unfolding cut
-short_cut cs = short_fitting 120 cs
+short_cut cs = fitting-fits 120 cs
 
 short_slug_of : (ws : List (List ℕ)) (s : List ℕ) → slug_of ws ≡ Some s → length s ≤ 120
 short_slug_of [] s h = absurd (cc)

@@ -7,14 +7,14 @@
 use Rattle.std.specs.Prelude.{◌≡◌, ℕ, ◌+◌, ◌≤◌, Bool, true, ◌==◌, List, [], ◌∷◌, ◌++◌, length, filter}
 use Rattle.std.specs.List.{AllByRecursion, list_any}
 use Rattle.cs_base.specs.declared.doc.Doc.{Doc}
-use Rattle.cs_model.specs.Collection.{has_bytes, is_equals, has_name_form, piece_name, facet_pieces}
-use Rattle.cs_model.specs.Words.{words}
+use Rattle.cs_model.specs.Collection.{is_equals, has_name_form, piece_name, facet_pieces}
+use Rattle.cs_model.specs.Words.{is_filled, words}
 
 abbrev pub is_semicolon : ℕ → Bool
 is_semicolon b = b == 59
 
 abbrev pub one_piece : List ℕ → List ℕ → List (List ℕ)
-one_piece p rest = filter has_bytes (p ∷ []) ++ facet_pieces rest
+one_piece p rest = filter is_filled (p ∷ []) ++ facet_pieces rest
 
 -- a piece that isn't refused: it has an `=`, and before it a name
 pub record IsNamed (p : List ℕ) : Type 0 where

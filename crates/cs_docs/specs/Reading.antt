@@ -8,11 +8,12 @@
 use Rattle.std.specs.Prelude.{ℕ, List, [], map, filter}
 use Rattle.std.specs.List.{enumerate_from}
 use Rattle.cs_base.specs.declared.doc.Doc.{Doc}
-use Rattle.cs_model.specs.Collection.{DocLine, doc_line, has_bytes, document}
+use Rattle.cs_model.specs.Collection.{DocLine, doc_line, document}
+use Rattle.cs_model.specs.Words.{is_filled}
 
 -- none where no line has bytes
 abbrev pub doc_lines_from : ℕ → ℕ → List (List ℕ) → List DocLine
-doc_lines_from d n ls = map doc_line (enumerate_from d (filter (λ l. has_bytes l.1) (enumerate_from n ls)))
+doc_lines_from d n ls = map doc_line (enumerate_from d (filter (λ l. is_filled l.1) (enumerate_from n ls)))
 
 abbrev pub documents_from : ℕ → ℕ → List (List ℕ) → List Doc
 documents_from d n ls = map document (doc_lines_from d n ls)

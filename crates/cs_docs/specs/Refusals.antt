@@ -4,12 +4,13 @@
 --   IsCauseOf r e        the refusal r, if there is one, is the one that e names; want of memory has no cause
 --   refusal_from d n ls  the first refusal of lines that begin at line n, where d documents stand before them
 use Rattle.std.specs.Prelude.{◌≡◌, ℕ, List, Option, Some, None, map, MatchOption}
-use Rattle.cs_model.specs.Collection.{Refusal, too_large, not_utf8, line_too_long, words_too_many, bad_facet, bad_name, too_many_docs, first_of, line_refusal}
+use Rattle.cs_model.specs.Collection.{CollectionRefusal, too_large, not_utf8, line_too_long, words_too_many, bad_facet, bad_name, too_many_docs, line_refusal}
+use Rattle.cs_model.specs.First.{first_reason}
 use Rattle.cs_docs.specs.declared.fault.DocFault.{DocFault}
 use Rattle.cs_docs.specs.declared.fault.DocFault.TheVariants.{TooLarge, NotUtf8, LineTooLong, WordsTooMany, BadFacet, BadName, TooManyDocs, Memory}
 use Rattle.cs_docs.specs.Reading.{doc_lines_from}
 
-abbrev pub refusal_of : DocFault → Option Refusal
+abbrev pub refusal_of : DocFault → Option CollectionRefusal
 refusal_of TooLarge = Some too_large
 refusal_of (NotUtf8 n) = Some (not_utf8 n)
 refusal_of (LineTooLong n) = Some (line_too_long n)
@@ -20,9 +21,9 @@ refusal_of (TooManyDocs n) = Some (too_many_docs n)
 refusal_of Memory = None
 
 -- where e is no want of memory, r is there
-abbrev pub IsCauseOf : Option Refusal → DocFault → Type 0
+abbrev pub IsCauseOf : Option CollectionRefusal → DocFault → Type 0
 IsCauseOf r e = MatchOption (refusal_of e) (Unit {0}) (λ x. r ≡ Some x)
 
 -- None where no line is refused
-abbrev pub refusal_from : ℕ → ℕ → List (List ℕ) → Option Refusal
-refusal_from d n ls = first_of (map line_refusal (doc_lines_from d n ls))
+abbrev pub refusal_from : ℕ → ℕ → List (List ℕ) → Option CollectionRefusal
+refusal_from d n ls = first_reason (map line_refusal (doc_lines_from d n ls))

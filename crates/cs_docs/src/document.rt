@@ -2,7 +2,8 @@
 ghost use Rattle.std.specs.Prelude.{◌≡◌, None, IfOk, OnOk, IfErr, [], ◌∷◌, ◌++◌, length, ◌+◌, ◌*◌, ◌≤◌, ◌^◌, nat_le, true};
 ghost use Rattle.std.specs.List.{before_first, after_first};
 ghost use Rattle.std.specs.Str.{is_utf8};
-ghost use Rattle.cs_model.specs.Collection.{is_tab, unless, not_utf8, line_too_long, words_too_many, line_refusal, first_of};
+ghost use Rattle.cs_model.specs.Collection.{is_tab, not_utf8, line_too_long, words_too_many, line_refusal};
+ghost use Rattle.cs_model.specs.First.{unless, first_reason};
 ghost use Rattle.cs_model.specs.Words.{words};
 ghost use Rattle.cs_docs.specs.Reading.{doc_of, line_of, documents_from};
 ghost use Rattle.cs_docs.specs.Refusals.{IsCauseOf, refusal_from};
@@ -72,7 +73,7 @@ fn copy_columns(
 fn text_of(line: &[u8], number: u32) -> Result<&str, DocFault>
     ensures ok { IfOk result (λ s. s.now ≡ line.now) }
     ensures accepted { OnOk result ((is_utf8 line.now ≡ true) × (nat_le (length line.now) (2 ^ 20) ≡ true)) }
-    ensures err { IfErr result (λ e. IsCauseOf (first_of (unless (is_utf8 line.now) (not_utf8 number) ∷ unless (nat_le (length line.now) (2 ^ 20)) (line_too_long number) ∷ [])) e) }
+    ensures err { IfErr result (λ e. IsCauseOf (first_reason (unless (is_utf8 line.now) (not_utf8 number) ∷ unless (nat_le (length line.now) (2 ^ 20)) (line_too_long number) ∷ [])) e) }
 {
     let Ok(text) = str::from_utf8(line) else {
         return Err(DocFault::NotUtf8 { line: number });

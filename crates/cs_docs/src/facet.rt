@@ -2,7 +2,8 @@
 ghost use Rattle.std.specs.Prelude.{◌≡◌, ◌≤◌, ◌∷◌, ◌++◌, [], IfOk, OnOk, length, filter};
 ghost use Rattle.std.specs.List.{All, filter_map};
 ghost use Rattle.std.specs.Str.{IsUtf8};
-ghost use Rattle.cs_model.specs.Collection.{facet_pieces, facet_words, facet_word, has_bytes, named};
+ghost use Rattle.cs_model.specs.Collection.{facet_pieces, facet_words, facet_word, named};
+ghost use Rattle.cs_model.specs.Words.{is_filled};
 ghost use Rattle.cs_docs.specs.Pieces.{AreNamed};
 
 use crate::pieces::{cut_at_equals, cut_piece};
@@ -29,9 +30,9 @@ pub(crate) fn facet_words(alloc: Global, column: &str) -> Result<Vec<Word>, Memo
 
 // Adds the facet word of a piece; an empty one is none.
 fn push_facet(alloc: Global, found: &mut Vec<Word>, piece: &str) -> Result<(), Memory>
-    requires { AreNamed (filter has_bytes (piece.now ∷ [])) }
+    requires { AreNamed (filter is_filled (piece.now ∷ [])) }
 
-    ensures ok { OnOk result (found.new.items ≡ found.old.items ++ filter_map facet_word (filter has_bytes (piece.now ∷ []))) }
+    ensures ok { OnOk result (found.new.items ≡ found.old.items ++ filter_map facet_word (filter is_filled (piece.now ∷ []))) }
     ensures utf8 { OnOk result (All IsUtf8 found.old.items → All IsUtf8 found.new.items) }
 {
     let Some((name, value)) = cut_at_equals(piece) else {

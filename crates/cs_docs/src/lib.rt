@@ -13,7 +13,7 @@ mod reader;
 mod row_list;
 
 pub use fault::{DocFault, RowsFault};
-pub use reader::{first_line, read_docs};
+pub use reader::{read_docs, without_return};
 pub use row_list::rows_of;
 
 #[cfg(test)]

@@ -1,7 +1,9 @@
 //! The pieces of a facets column.
 ghost use Rattle.std.specs.Prelude.{◌≡◌, ◌∷◌, [], ◌<◌, None, OnOk, IfErr, MatchOption, true, false, length, drop, map, filter};
 ghost use Rattle.std.specs.List.{prefix_len, before_first, after_first, list_any};
-ghost use Rattle.cs_model.specs.Collection.{first_of, piece_refusal, facet_pieces, is_space, is_equals, piece_value, without_spaces_behind, has_bytes};
+ghost use Rattle.cs_model.specs.Collection.{piece_refusal, facet_pieces, is_space, is_equals, piece_value, without_spaces_behind};
+ghost use Rattle.cs_model.specs.Words.{is_filled};
+ghost use Rattle.cs_model.specs.First.{first_reason};
 ghost use Rattle.cs_docs.specs.Pieces.{is_semicolon, one_piece};
 ghost use Rattle.cs_docs.specs.Refusals.{IsCauseOf};
 
@@ -11,8 +13,8 @@ use std::alloc::Global;
 
 /// Refuses the first bad piece of a facets column.
 pub(crate) fn check_facets(alloc: Global, column: &str, line: u32) -> Result<(), DocFault>
-    ensures ok { OnOk result (first_of (map (piece_refusal line) (facet_pieces column.now)) ≡ None) }
-    ensures err { IfErr result (λ e. IsCauseOf (first_of (map (piece_refusal line) (facet_pieces column.now))) e) }
+    ensures ok { OnOk result (first_reason (map (piece_refusal line) (facet_pieces column.now)) ≡ None) }
+    ensures err { IfErr result (λ e. IsCauseOf (first_reason (map (piece_refusal line) (facet_pieces column.now))) e) }
 {
     let mut rest = column;
     while !rest.is_empty() {
@@ -25,8 +27,8 @@ pub(crate) fn check_facets(alloc: Global, column: &str, line: u32) -> Result<(),
 
 // Refuses a bad piece; an empty one is none.
 fn check_piece(alloc: Global, piece: &str, line: u32) -> Result<(), DocFault>
-    ensures ok { OnOk result (first_of (map (piece_refusal line) (filter has_bytes (piece.now ∷ []))) ≡ None) }
-    ensures err { IfErr result (λ e. IsCauseOf (first_of (map (piece_refusal line) (filter has_bytes (piece.now ∷ [])))) e) }
+    ensures ok { OnOk result (first_reason (map (piece_refusal line) (filter is_filled (piece.now ∷ []))) ≡ None) }
+    ensures err { IfErr result (λ e. IsCauseOf (first_reason (map (piece_refusal line) (filter is_filled (piece.now ∷ [])))) e) }
 {
     if piece.is_empty() {
         return Ok(());

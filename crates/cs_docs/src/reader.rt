@@ -68,9 +68,9 @@ fn without_mark(bytes: &[u8]) -> &[u8]
     bytes.strip_prefix(MARK).unwrap_or(bytes)
 }
 
-/// The first line of a text that has bytes, without its ending, and what stands behind that. LF ends
-/// a line, with one CR directly before it; the last line needs no ending.
-pub fn first_line(text: &[u8]) -> (&[u8], &[u8])
+// The first line of a text that has bytes, without its ending, and what stands behind that. LF ends
+// a line, with one CR directly before it; the last line needs no ending.
+fn first_line(text: &[u8]) -> (&[u8], &[u8])
     requires { 0 < length text.now }
 
     ensures lines { lines text.now ≡ result.0.now ∷ lines result.1.now }
@@ -82,8 +82,8 @@ pub fn first_line(text: &[u8]) -> (&[u8], &[u8])
     }
 }
 
-// The line without the one carriage return at its end, if it has one.
-fn without_return(line: &[u8]) -> &[u8]
+/// The line without the one carriage return at its end, if it has one: CR directly before LF belongs to a line's ending.
+pub fn without_return(line: &[u8]) -> &[u8]
     ensures { result.now ≡ strip_carriage_return line.now }
 {
     match line.last() {

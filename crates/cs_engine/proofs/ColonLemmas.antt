@@ -6,7 +6,7 @@ use Rattle.std.specs.Str.{IsUtf8}
 use Rattle.std.proofs.lemmas.Bool.Decides.{nat_tests}
 use Rattle.std.proofs.lemmas.List.{take_all}
 use Rattle.std.proofs.lemmas.Str.{IsUtf8-drop, IsCharBoundary-after_ascii}
-use Rattle.cs_model.specs.Requests.{shown_word}
+use Rattle.cs_model.specs.Collection.{shown_word}
 
 both_hold : (a : Bool) → (a && true) ≡ a
 both_hold true = refl

@@ -21,18 +21,18 @@ use Rattle.std.proofs.lemmas.List.Folds.{list_any_at, list_all-append}
 use Rattle.std.proofs.lemmas.List.Kept.{IsStrictlySortedBy-filter}
 use Rattle.std.proofs.lemmas.Map.Views.{any-filter_same}
 use Rattle.cs_base.specs.Members.{members_in}
-use Rattle.cs_base.specs.Orders.{by_row}
+use Rattle.cs_base.specs.Orders.{by_row, AreSorted, AreDocs, docs_of}
 use Rattle.cs_base.specs.declared.doc.Base.{Base}
 use Rattle.cs_base.specs.declared.doc.Base.TheVariants as base
 use Rattle.cs_base.specs.declared.doc.Post.{Post}
 use Rattle.cs_base.specs.declared.doc.Row.{Row}
 use Rattle.cs_base.specs.declared.doc.Scored.{Scored}
 use Rattle.cs_base.proofs.MembersLemmas.{members_are}
-use Rattle.cs_meet.specs.Filters.{AreSorted, AreDocs, keep_docs, drop_docs, is_of}
+use Rattle.cs_meet.specs.Filters.{keep_docs, drop_docs, is_of}
 use Rattle.cs_meet.specs.Filters as meet
 use Rattle.cs_model.specs.Answers.{PartRows, in_doc, is_listed, agrees, hits, pairs, last_rows, greatest_score, score, scored}
 use Rattle.cs_model.specs.Corpus.{Corpus}
-use Rattle.cs_rank.specs.DocScores.{greatest, of_doc, docs_of, best_row, base_score, with_base, scores, IsBase}
+use Rattle.cs_rank.specs.DocScores.{greatest, of_doc, best_row, base_score, with_base, scores, IsBase}
 use Rattle.cs_engine.specs.Stocked.{row_of, rows_at, corpus_in, every, listed, docs_in, scored_hits, IsKnown, IsStocked, IsPicked, IsFound}
 use Rattle.cs_engine.specs.declared.stock.Stock.{Stock}
 use Rattle.cs_engine.proofs.VocabLemmas.{filter_through, filter_alike, any_through, all_then}

@@ -15,14 +15,14 @@ use Rattle.std.proofs.lemmas.List.FromFn.{length-range_with_len}
 use Rattle.std.proofs.lemmas.List.Kept.{IsStrictlySortedBy-filter}
 use Rattle.std.proofs.lemmas.Option.{slice_get_past, slice_get-get_or}
 use Rattle.cs_base.specs.Members.{members_in}
-use Rattle.cs_base.specs.Orders.{by_row, by_rank}
+use Rattle.cs_base.specs.Orders.{by_row, by_rank, AreSorted}
 use Rattle.cs_base.specs.declared.doc.Base.{Base}
 use Rattle.cs_base.specs.declared.doc.Post.{Post}
 use Rattle.cs_base.specs.declared.doc.Row.{Row}
 use Rattle.cs_base.specs.declared.doc.Scored.{Scored}
 use Rattle.cs_base.proofs.MembersLemmas.{listed_itself}
 use Rattle.cs_base.proofs.OrdersLemmas.{by_row_total, by_row_exact}
-use Rattle.cs_meet.specs.Filters.{AreSorted, keep_docs}
+use Rattle.cs_meet.specs.Filters.{keep_docs}
 use Rattle.cs_meet.specs.Filters as meet
 use Rattle.cs_model.specs.Answers.{PartRows, begins, is_listed, hits, pairs, ranked, table_of, facet_part, facet_table}
 use Rattle.cs_model.specs.Answers as answers

@@ -19,7 +19,7 @@ use Rattle.std.proofs.lemmas.List.Folds.{list_any-append}
 use Rattle.std.proofs.lemmas.List.Sorted.{list_any-IsPermutation, All-permutation, IsPermutation-refl}
 use Rattle.std.proofs.lemmas.Map.Keys.{Less-from_sorted}
 use Rattle.cs_base.specs.Members.{members_in}
-use Rattle.cs_base.specs.Orders.{by_row, by_place}
+use Rattle.cs_base.specs.Orders.{by_row, by_place, AreSorted}
 use Rattle.cs_base.specs.declared.doc.Post.{Post}
 use Rattle.cs_base.specs.declared.doc.Row.{Row}
 use Rattle.cs_base.specs.declared.query.Chain.{Chain}
@@ -28,7 +28,7 @@ use Rattle.cs_base.specs.declared.query.Link.{Link}
 use Rattle.cs_base.specs.declared.query.Link.TheVariants.{Phrase, Near}
 use Rattle.cs_base.proofs.MembersLemmas.{members_are, members-alike, is_member-listed, listed_itself}
 use Rattle.cs_base.proofs.OrdersLemmas.{by_row_total, by_row_exact}
-use Rattle.cs_meet.specs.Filters.{AreSorted, IsUnion, shares_place, missing, follow, near, stands_behind, is_near}
+use Rattle.cs_meet.specs.Filters.{IsUnion, shares_place, missing, follow, near, stands_behind, is_near}
 use Rattle.cs_model.specs.Answers.{LinkedRows, is_linked, linked_to, union_of, chained, rows_of_chain, rows_of_linked, rows_of_atom}
 use Rattle.cs_engine.specs.Stocked.{row_of, rows_at, corpus_in, linked_posts, IsKnown, IsStocked, IsPicked}
 use Rattle.cs_engine.proofs.AtomsLemmas.{picked_again}

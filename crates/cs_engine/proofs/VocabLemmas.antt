@@ -18,9 +18,10 @@ use Rattle.std.specs.declared.cmp.Ordering.TheVariants.{Less, Equal, Greater}
 use Rattle.std.proofs.lemmas.Bool.Decides.{nat_tests}
 use Rattle.std.proofs.lemmas.Cmp.{nat_list_cmp_total}
 use Rattle.std.proofs.lemmas.Map.Keys.{Less-from_sorted}
-use Rattle.cs_base.specs.Orders.{by_row, by_place}
+use Rattle.cs_base.specs.Orders.{by_row, by_place, AreSorted}
 use Rattle.cs_base.specs.declared.doc.Post.{Post}
-use Rattle.cs_meet.specs.Filters.{AreSorted}
+use Rattle.cs_base.proofs.MembersLemmas.{all_then}
+use Rattle.cs_vocab.proofs.RangesLemmas.{three_ways}
 use Rattle.cs_docs.proofs.ListingLemmas.{by_spot}
 use Rattle.cs_engine.specs.Stocked.{word_at, row_of, rows_at}
 
@@ -41,22 +42,8 @@ pub filter_alike : {X : Type 0} (p q : X → Bool) (xs : List X) → AllByRecurs
 filter_alike p q [] h = refl
 filter_alike p q (x ∷ xs) h = ap (λ b. cond b (x ∷ filter p xs) (filter p xs)) h.0 ∙ ap (λ l. cond (q x) (x ∷ l) l) (filter_alike p q xs h.1)
 
-pub all_then : {X : Type 0} (P Q : X → Type 0) → ((x : X) → P x → Q x) → (xs : List X) → AllByRecursion P xs → AllByRecursion Q xs
-all_then P Q f [] h = tt
-all_then P Q f (x ∷ xs) h = (f x h.0, all_then P Q f xs h.1)
-
 is_less : (x y : ℕ) → nat_cmp x y ≡ Less → x < y
 is_less x y h = grind (arith, nat_tests)
-
-pub three_ways : {G : Type 0} (k n : ℕ) → (k < n → G) → (k ≡ n → G) → (n < k → G) → G
-three_ways {G} k n f g h =
-    elim (nat_lt k n) as (λ b. nat_lt k n ≡ b → G) [
-      | true ↦ λ t. f (grind (arith, nat_tests))
-      | false ↦ λ t. elim (nat_lt n k) as (λ b. nat_lt n k ≡ b → G) [
-        | true ↦ λ u. h (grind (arith, nat_tests))
-        | false ↦ λ u. g (grind (arith, nat_tests))
-      ] refl
-    ] refl
 
 less_number : (x y : ℕ) → x < y → nat_cmp x y ≡ Less
 less_number x y h = grind (arith, nat_tests)

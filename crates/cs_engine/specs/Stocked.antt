@@ -40,7 +40,8 @@ use Rattle.cs_base.specs.declared.query.Atom.{Atom}
 use Rattle.cs_base.specs.declared.query.Atom.TheVariants as atom
 use Rattle.cs_base.specs.declared.query.Link.{Link}
 use Rattle.cs_base.specs.declared.query.Link.TheVariants.{Phrase, Near}
-use Rattle.cs_meet.specs.Filters.{AreSorted, follow, near}
+use Rattle.cs_meet.specs.Filters.{follow, near}
+use Rattle.cs_base.specs.Orders.{AreSorted}
 use Rattle.cs_model.specs.Answers.{PartRows, Completion, begins, is_listed, hits, pairs, scored, table_of}
 use Rattle.cs_model.specs.Collection.{named}
 use Rattle.cs_model.specs.Replies.{Shown, FacetShown}

@@ -2,7 +2,8 @@
 ghost use Rattle.std.specs.Prelude.{◌≡◌, ◌≤◌, ◌<◌, ◌^◌, ◌++◌, ◌∷◌, [], false, if◌then◌else◌, IfOk, length, map};
 ghost use Rattle.std.specs.List.{All};
 ghost use Rattle.cs_base.specs.declared.query.Query.{out-Query};
-ghost use Rattle.cs_meet.specs.Filters.{AreSorted, AreByDoc, keep_docs, drop_docs};
+ghost use Rattle.cs_meet.specs.Filters.{keep_docs, drop_docs};
+ghost use Rattle.cs_base.specs.Orders.{AreByDoc, AreSorted};
 ghost use Rattle.cs_model.specs.Answers.{parts_of};
 ghost use Rattle.cs_rank.specs.DocScores.{IsBase, scores};
 ghost use Rattle.cs_engine.specs.Searching.{has_join};

@@ -268,7 +268,7 @@ unmoved at n next Cut e = absurd cc
 unmoved at n next Long e = absurd cc
 unmoved at n next Big e = absurd cc
 
-IsBytes-drop : (n : ℕ) (bytes : List ℕ) → IsBytes bytes → IsBytes (drop n bytes)
+pub IsBytes-drop : (n : ℕ) (bytes : List ℕ) → IsBytes bytes → IsBytes (drop n bytes)
 IsBytes-drop n bytes h i = rw get_or-drop (h (n + i))
 
 code_in_length : (k n : ℕ) → 1 ≤ length (code_in k n)

@@ -20,17 +20,19 @@ use Rattle.std.proofs.lemmas.Bool.Decides.{nat_tests}
 use Rattle.cs_base.specs.declared.query.Query.{Query}
 use Rattle.cs_base.specs.declared.limits.TheConstants.{MAX_SHOWN, MAX_OFFSET, MAX_FACETS, DEFAULT_HITS, DEFAULT_COMPLETIONS}
 use Rattle.cs_base.proofs.MembersLemmas.{listing-rises}
-use Rattle.cs_model.specs.Collection.{has_bytes, has_name_form}
+use Rattle.cs_model.specs.Collection.{has_name_form}
+use Rattle.cs_model.specs.Words.{is_filled}
 use Rattle.cs_model.specs.FirstRefusal.{first_refusal}
 use Rattle.cs_model.specs.Grammar.{query_of}
-use Rattle.cs_model.specs.Parameters.{parameter, is_count, count_of, are_facets, facet_names, has_digits, number_of, bad_param, refused_at, query_text, request_refusal, request_of, HoldsLimits}
-use Rattle.cs_model.specs.Refusals.{Fault, IsOfGrammar}
+use Rattle.cs_model.specs.Parameters.{parameter, is_count, count_of, are_facets, facet_names, has_digits, number_of, bad_param, refused_at, asked_text, request_refusal, request_of, HoldsLimits}
+use Rattle.cs_model.specs.Refusals.{QueryRefusal, IsOfGrammar}
+use Rattle.cs_model.proofs.FirstLemmas.{first-one}
 use Rattle.cs_model.proofs.PartsLemmas.{few_parts}
+use Rattle.cs_model.proofs.PieceTokens.{both_second}
 use Rattle.cs_query.specs.ParamNames.{param_name}
 use Rattle.cs_query.specs.declared.request.Param.{Param}
 use Rattle.cs_query.specs.declared.request.ReqFault.{ReqFault}
 use Rattle.cs_query.specs.declared.request.ReqFault.TheVariants as faults
-use Rattle.cs_http.proofs.CountLemmas.{second_true}
 use Rattle.cs_http.specs.Refusing.{IsCause, IsRefusedBy, IsQueryCause}
 
 -- what holds of an error holds of it where it is handed on
@@ -67,9 +69,9 @@ module _ (p : List ℕ) where
   unfolding request_refusal
   refused-f h c o f = rw (h, c, o, f) refl
 
-  pub refused-q : HitsTaken → CompletionsTaken → OffsetTaken → FacetsTaken → request_refusal p ≡ option_map refused_at (first_refusal (chars (query_text p)))
+  pub refused-q : HitsTaken → CompletionsTaken → OffsetTaken → FacetsTaken → request_refusal p ≡ option_map refused_at (first_refusal (chars (asked_text p)))
   unfolding request_refusal
-  refused-q h c o f = rw (h, c, o, f) refl
+  refused-q h c o f = rw (h, c, o, f) (first-one (option_map refused_at (first_refusal (chars (asked_text p)))))
 
   pub cause_by : (which : Param) (b : Bool) (e : ReqFault) → IsRefusedBy which b e → (b ≡ false → request_refusal p ≡ Some (bad_param (param_name which))) → IsCause p e
   cause_by which b (faults.BadParam other) r h = h r.1 ∙ ap (λ w. Some (bad_param (param_name w))) (sym r.0)
@@ -77,16 +79,16 @@ module _ (p : List ℕ) where
   cause_by which b (faults.Limit at l) r h = absurd r
   cause_by which b faults.Memory r h = tt
 
-  pub cause_query : (r : Option (ℕ × Fault)) (e : ReqFault) → IsQueryCause r e → request_refusal p ≡ option_map refused_at r → IsCause p e
+  pub cause_query : (r : Option (ℕ × QueryRefusal)) (e : ReqFault) → IsQueryCause r e → request_refusal p ≡ option_map refused_at r → IsCause p e
   cause_query r (faults.BadParam which) q h = absurd q
   cause_query r (faults.Bad at) q h = h ∙ ap (option_map refused_at) q
   cause_query r (faults.Limit at which) q h = h ∙ ap (option_map refused_at) q
   cause_query r faults.Memory q h = tt
 
-  pub nothing_refused : HitsTaken → CompletionsTaken → OffsetTaken → FacetsTaken → first_refusal (chars (query_text p)) ≡ None → request_refusal p ≡ None
+  pub nothing_refused : HitsTaken → CompletionsTaken → OffsetTaken → FacetsTaken → first_refusal (chars (asked_text p)) ≡ None → request_refusal p ≡ None
   nothing_refused h c o f q = refused-q h c o f ∙ ap (option_map refused_at) q
 
-  pub request_is : (q : Query) (h c o : ℕ) (f : List (List ℕ)) → q ≡ query_of (chars (query_text p)) → h ≡ count_of DEFAULT_HITS (parameter (codes "h") p)
+  pub request_is : (q : Query) (h c o : ℕ) (f : List (List ℕ)) → q ≡ query_of (chars (asked_text p)) → h ≡ count_of DEFAULT_HITS (parameter (codes "h") p)
       → c ≡ count_of DEFAULT_COMPLETIONS (parameter (codes "c") p) → o ≡ count_of 0 (parameter (codes "o") p) → f ≡ facet_names (parameter (codes "f") p)
       → record { query = q; hits = h; completions = c; offset = o; facets = f } ≡ request_of p
   unfolding request_of
@@ -96,17 +98,17 @@ module _ (p : List ℕ) where
 count-within : (default most : ℕ) (v : Option (List ℕ)) → default ≤ most → is_count most v ≡ true → count_of default v ≤ most
 count-within default most None d h = d
 count-within default most (Some v) d h =
-    let few : nat_le (number_of v) most ≡ true = second_true (has_digits 5 v) (nat_le (number_of v) most) h in
+    let few : nat_le (number_of v) most ≡ true = both_second (has_digits 5 v) (nat_le (number_of v) most) h in
     grind (arith, nat_tests)
 
 facets-rise : (v : Option (List ℕ)) → IsStrictlySortedBy (slice_cmp nat_cmp) (facet_names v)
 unfolding IsStrictlySortedBy
 facets-rise None = tt
-facets-rise (Some v) = listing-rises (slice_cmp nat_cmp) (filter has_bytes (slice_split (λ b. b == 44) v))
+facets-rise (Some v) = listing-rises (slice_cmp nat_cmp) (filter is_filled (slice_split (λ b. b == 44) v))
 
 facets-few : (v : Option (List ℕ)) → are_facets v ≡ true → length (facet_names v) ≤ MAX_FACETS
 facets-few v h =
-    let few : nat_le (length (facet_names v)) MAX_FACETS ≡ true = second_true (list_all has_name_form (facet_names v)) (nat_le (length (facet_names v)) MAX_FACETS) h in
+    let few : nat_le (length (facet_names v)) MAX_FACETS ≡ true = both_second (list_all has_name_form (facet_names v)) (nat_le (length (facet_names v)) MAX_FACETS) h in
     grind (arith, nat_tests)
 
 -- what an accepted request keeps

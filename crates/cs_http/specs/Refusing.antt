@@ -5,7 +5,7 @@
 --   IsQueryCause r e         e is the refusal r of a query
 use Rattle.std.specs.Prelude.{◌≡◌, ℕ, Bool, false, List, Option, Some}
 use Rattle.cs_model.specs.Parameters.{request_refusal, bad_param, bad_query}
-use Rattle.cs_model.specs.Refusals.{Fault, Bad, Limit}
+use Rattle.cs_model.specs.Refusals.{QueryRefusal, Bad, Limit}
 use Rattle.cs_query.specs.ParamNames.{param_name}
 use Rattle.cs_query.specs.declared.request.Param.{Param}
 use Rattle.cs_query.specs.declared.request.ReqFault.{ReqFault}
@@ -25,7 +25,7 @@ IsRefusedBy which accepted faults.Memory = Unit {0}
 IsRefusedBy which accepted e = ⊥
 
 -- a query's fault isn't that of a parameter's own form
-abbrev pub IsQueryCause : Option (ℕ × Fault) → ReqFault → Type 0
+abbrev pub IsQueryCause : Option (ℕ × QueryRefusal) → ReqFault → Type 0
 IsQueryCause r (faults.BadParam which) = ⊥
 IsQueryCause r (faults.Bad at) = r ≡ Some (at, Bad)
 IsQueryCause r (faults.Limit at which) = r ≡ Some (at, Limit which)

@@ -1,13 +1,12 @@
 //! Counts among the parameters, as in `h=20`.
 ghost use Rattle.std.specs.Prelude.{◌≡◌, true, false, Some, IfOk, OnOk, IfErr, IfSome, IfNone};
-ghost use Rattle.std.specs.List.{list_all};
-ghost use Rattle.std.specs.Char.{is_ascii_digit};
-ghost use Rattle.cs_model.specs.Parameters.{parameter, is_count, count_of, has_digits, number_of};
+ghost use Rattle.cs_model.specs.Parameters.{parameter, is_count, count_of, number_of};
 ghost use Rattle.cs_query.specs.ParamNames.{param_name};
 ghost use Rattle.cs_http.specs.Refusing.{IsRefusedBy};
 
 use crate::first::first_of;
 use cs_query::{Param, ReqFault};
+use cs_text::{has_digits, number_of};
 use std::alloc::Global;
 
 /// The most digits of a count.
@@ -51,7 +50,7 @@ fn read_count(text: &[u8], most: u32) -> Option<u32>
     ensures some { IfSome result (λ n. (is_count most (Some text.now) ≡ true) × (n ≡ number_of text.now)) }
     ensures none { IfNone result (is_count most (Some text.now) ≡ false) }
 {
-    if !has_digits(text) {
+    if !has_digits(text, MAX_DIGITS) {
         return None;
     }
     let number = number_of(text);
@@ -59,28 +58,4 @@ fn read_count(text: &[u8], most: u32) -> Option<u32>
         return None;
     }
     Some(number)
-}
-
-fn has_digits(text: &[u8]) -> bool
-    ensures { result ≡ has_digits 5 text.now }
-{
-    !text.is_empty() && (text.len() <= MAX_DIGITS && are_digits(text))
-}
-
-fn are_digits(text: &[u8]) -> bool
-    ensures { result ≡ list_all is_ascii_digit text.now }
-{
-    text.iter().all(|b| b.is_ascii_digit())
-}
-
-fn number_of(digits: &[u8]) -> u32
-    requires { has_digits 5 digits.now ≡ true }
-
-    ensures { result ≡ number_of digits.now }
-{
-    let mut number = 0;
-    for digit in digits {
-        number = number * 10 + u32::from(*digit - b'0');
-    }
-    number
 }

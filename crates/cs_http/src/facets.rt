@@ -2,7 +2,8 @@
 ghost use Rattle.std.specs.Prelude.{◌≡◌, ◌&&◌, ◌∷◌, [], ◌++◌, true, Some, nat_le, length, filter, codes, IfOk, IfErr, OnOk};
 ghost use Rattle.std.specs.List.{list_all};
 ghost use Rattle.cs_base.specs.declared.limits.TheConstants.{MAX_FACETS as MOST};
-ghost use Rattle.cs_model.specs.Collection.{has_bytes, has_name_form};
+ghost use Rattle.cs_model.specs.Collection.{has_name_form};
+ghost use Rattle.cs_model.specs.Words.{is_filled};
 ghost use Rattle.cs_model.specs.Parameters.{parameter, are_facets, facet_names};
 ghost use Rattle.cs_query.specs.declared.request.Param.TheVariants as which;
 ghost use Rattle.cs_http.specs.Refusing.{IsRefusedBy};
@@ -45,7 +46,7 @@ fn listed(alloc: Global, value: &str) -> Result<Vec<Text>, Memory>
 
 // Adds the name that a piece is.
 fn push_name(alloc: Global, names: &mut Vec<Text>, piece: &str) -> Result<(), Memory>
-    ensures ok { OnOk result (names.new.items ≡ names.old.items ++ filter has_bytes (piece.now ∷ [])) }
+    ensures ok { OnOk result (names.new.items ≡ names.old.items ++ filter is_filled (piece.now ∷ [])) }
 {
     if piece.is_empty() {
         return Ok(());

@@ -3,7 +3,7 @@ ghost use Rattle.std.specs.Prelude.{◌≡◌, None, IfOk, IfErr, OnOk};
 ghost use Rattle.std.specs.Str.{chars};
 ghost use Rattle.cs_model.specs.FirstRefusal.{first_refusal};
 ghost use Rattle.cs_model.specs.Grammar.{query_of};
-ghost use Rattle.cs_model.specs.Parameters.{query_text, request_of, request_refusal, HoldsLimits};
+ghost use Rattle.cs_model.specs.Parameters.{asked_text, request_of, request_refusal, HoldsLimits};
 ghost use Rattle.cs_model.specs.Refusals.{IsOfGrammar};
 ghost use Rattle.cs_query.specs.RequestView.{asked};
 ghost use Rattle.cs_http.specs.Refusing.{IsCause, IsQueryCause};
@@ -43,10 +43,10 @@ pub fn request(alloc: Global, params: &[u8]) -> Result<Request, ReqFault>
 
 // The query of the parameter `q`.
 fn query(alloc: Global, params: &[u8]) -> Result<Query, ReqFault>
-    ensures ok { IfOk result (λ q. q ≡ query_of (chars (query_text params.now))) }
-    ensures accepted { OnOk result (first_refusal (chars (query_text params.now)) ≡ None) }
+    ensures ok { IfOk result (λ q. q ≡ query_of (chars (asked_text params.now))) }
+    ensures accepted { OnOk result (first_refusal (chars (asked_text params.now)) ≡ None) }
     ensures grammar { IfOk result IsOfGrammar }
-    ensures err { IfErr result (λ e. IsQueryCause (first_refusal (chars (query_text params.now))) e) }
+    ensures err { IfErr result (λ e. IsQueryCause (first_refusal (chars (asked_text params.now))) e) }
 {
     let text = first_of(alloc, params, "q")?;
     let text = text.unwrap_or(String::new(alloc));

@@ -6,8 +6,8 @@ use Rattle.std.proofs.lemmas.Map.Keys.{Less-from_sorted}
 use Rattle.std.proofs.lemmas.Bool.Decides.{nat_tests}
 use Rattle.cs_base.specs.declared.doc.Post.{Post}
 use Rattle.cs_base.specs.declared.doc.Scored.{Scored}
-use Rattle.cs_base.specs.Orders.{by_place}
-use Rattle.cs_meet.specs.Filters.{AreSorted, stands_behind, is_near, is_of}
+use Rattle.cs_base.specs.Orders.{by_place, AreSorted}
+use Rattle.cs_meet.specs.Filters.{stands_behind, is_near, is_of}
 use Rattle.cs_meet.specs.Places.{is_before, Splits, Ahead, near_at}
 use Rattle.cs_meet.proofs.Passes.{any_at, none_at, IsUpTo, up_to}
 

@@ -5,6 +5,7 @@ use Rattle.std.specs.declared.cmp.Ordering.TheVariants.{Less}
 use Rattle.std.specs.List.{AllByRecursion}
 use Rattle.std.specs.List.Sorted.{IsStrictlySortedBy}
 use Rattle.std.specs.Cmp.{IsTotalOrder}
+use Rattle.cs_base.proofs.MembersLemmas.{all_then}
 
 module _ {X : Type 0} (P : X → Type 0) where
   all_append : (xs ys : List X) → AllByRecursion P xs → AllByRecursion P ys → AllByRecursion P (xs ++ ys)
@@ -18,10 +19,6 @@ module _ {X : Type 0} (P : X → Type 0) where
   all_back : (xs ys : List X) → AllByRecursion P (xs ++ ys) → AllByRecursion P ys
   all_back [] ys h = h
   all_back (x ∷ xs) ys h = all_back xs ys h.1
-
-all_then : {X : Type 0} (P Q : X → Type 0) → ((x : X) → P x → Q x) → (xs : List X) → AllByRecursion P xs → AllByRecursion Q xs
-all_then P Q f [] h = tt
-all_then P Q f (x ∷ xs) h = (f x h.0, all_then P Q f xs h.1)
 
 module _ {X : Type 0} (c : X → X → Ordering) where
   pub sorted_back : (xs ys : List X) → IsStrictlySortedBy c (xs ++ ys) → IsStrictlySortedBy c ys

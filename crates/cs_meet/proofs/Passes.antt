@@ -12,8 +12,7 @@ use Rattle.std.proofs.lemmas.Map.Keys.{Less-from_sorted}
 use Rattle.std.proofs.lemmas.Bool.Decides.{nat_tests}
 use Rattle.cs_base.specs.declared.doc.Post.{Post}
 use Rattle.cs_base.specs.declared.doc.Scored.{Scored}
-use Rattle.cs_base.specs.Orders.{by_place}
-use Rattle.cs_meet.specs.Filters.{by_doc}
+use Rattle.cs_base.specs.Orders.{by_place, by_doc}
 use Rattle.cs_meet.specs.Places.{is_before, AllBefore, Splits, Ahead}
 
 -- one place that passes is enough

@@ -10,31 +10,15 @@ use Rattle.std.proofs.lemmas.List.Sorted.{IsPermutation-refl, IsPermutation-tran
 use Rattle.std.proofs.lemmas.Map.Keys.{Less-from_sorted}
 use Rattle.std.proofs.lemmas.Bool.Decides.{nat_tests}
 use Rattle.cs_base.specs.declared.doc.Post.{Post}
-use Rattle.cs_base.specs.Orders.{by_place}
-use Rattle.cs_base.proofs.OrdersLemmas.{by_place_total}
-use Rattle.cs_meet.specs.Filters.{AreSorted, shares_place, missing, IsUnion}
+use Rattle.cs_base.specs.Orders.{by_place, AreSorted}
+use Rattle.cs_base.proofs.OrdersLemmas.{by_place_total, Comes, comes_first, less-from_comes}
+use Rattle.cs_meet.specs.Filters.{shares_place, missing, IsUnion}
 use Rattle.cs_meet.specs.Places.{AllLess, Parts}
 use Rattle.cs_meet.proofs.Passes.{any_at, none_at}
 use Rattle.cs_meet.proofs.Ordered.{sorted_back, sorted_insert, sorted_remove, below_first, nothing_below}
 
--- x comes before y
-abbrev Comes : Post → Post → Type 0
-Comes x y = (x.doc < y.doc) ⊎ ((x.doc ≡ y.doc) × ((x.pos < y.pos) ⊎ ((x.pos ≡ y.pos) × (x.word < y.word))))
-
-comes_first : (x y : Post) → by_place x y ≡ Less → Comes x y
-comes_first x y h = grind (arith, nat_tests)
-
-less-from_comes : (x y : Post) → Comes x y → by_place x y ≡ Less
-less-from_comes x y h = grind (arith, nat_tests)
-
-comes-from_lt : (x y : Post) → is_lt (by_place x y) ≡ true → Comes x y
-comes-from_lt x y h = grind (arith, nat_tests)
-
 not_first : (x y : Post) → is_lt (by_place x y) ≡ false → Comes x y → ⊥
 not_first x y h first = grind (arith, nat_tests)
-
-pub less-from_test : (x y : Post) → is_lt (by_place x y) ≡ true → by_place x y ≡ Less
-less-from_test x y h = less-from_comes x y (comes-from_lt x y h)
 
 comes_elsewhere : (x r : Post) → Comes x r → shares_place r x ≡ false
 comes_elsewhere x r h = grind (arith, nat_tests)

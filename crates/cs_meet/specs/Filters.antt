@@ -1,41 +1,17 @@
 -- Filters and merges of posts, as filters and unions of lists. Phrases and nearness are those of Bast and
 -- Weber (SIGIR 2006): they ask for positions of title and text words, which begin at 1; facets stand at 0.
 --
---   AreSorted posts          posts strictly ascend by document, position and word
---   AreDocs docs             document numbers strictly ascend
---   AreByDoc scored          scored documents strictly ascend by document
 --   keep_docs rows docs      the rows in a listed document
 --   follow a b               the rows of b one position behind a row of a
 --   near a b                 the rows of b from 1 to 8 positions before or behind a row of a
 --   missing a b              the rows of b whose document, position and word no row of a has
 --   IsUnion a b rows         rows are those of a and the missing ones of b
---   docs_of rows             the documents of the rows, ascending, each once
 --   drop_docs base rows      the scored documents that have no row
-use Rattle.std.specs.Prelude.{ℕ, ◌+◌, ◌-◌, Bool, ◌&&◌, not, ◌==◌, nat_lt, nat_le, List, ◌++◌, map}
-use Rattle.std.specs.declared.cmp.Ordering.{Ordering}
+use Rattle.std.specs.Prelude.{ℕ, ◌+◌, ◌-◌, Bool, ◌&&◌, not, ◌==◌, nat_lt, nat_le, List, ◌++◌}
 use Rattle.std.specs.List.{filter, list_any}
-use Rattle.std.specs.List.Sorted.{IsStrictlySortedBy, IsPermutation}
-use Rattle.std.specs.Ordering.{nat_cmp, on}
+use Rattle.std.specs.List.Sorted.{IsPermutation}
 use Rattle.cs_base.specs.declared.doc.Post.{Post}
 use Rattle.cs_base.specs.declared.doc.Scored.{Scored}
-use Rattle.cs_base.specs.Members.{members_in}
-use Rattle.cs_base.specs.Orders.{by_place}
-
--- each post's document, position and word are less than the next one's; also of no posts
-abbrev pub AreSorted : List Post → Type 0
-AreSorted posts = IsStrictlySortedBy by_place posts
-
--- each document's number is less than the next one's; also of none
-abbrev pub AreDocs : List ℕ → Type 0
-AreDocs docs = IsStrictlySortedBy nat_cmp docs
-
--- by document alone
-abbrev pub by_doc : Scored → Scored → Ordering
-by_doc = on (λ h. h.doc) nat_cmp
-
--- each scored document's number is less than the next one's; also of none
-abbrev pub AreByDoc : List Scored → Type 0
-AreByDoc scored = IsStrictlySortedBy by_doc scored
 
 -- the row is in document d
 abbrev pub in_doc : Post → ℕ → Bool
@@ -76,10 +52,6 @@ missing a b = filter (λ r. not (list_any (shares_place r) a)) b
 -- rows are, in some order, those of a and the missing ones of b
 abbrev pub IsUnion : List Post → List Post → List Post → Type 0
 IsUnion a b rows = IsPermutation (a ++ missing a b) rows
-
--- the documents of the rows in ascending order, each once; none where there is no row
-abbrev pub docs_of : List Post → List ℕ
-docs_of rows = members_in nat_cmp (map (λ r. r.doc) rows)
 
 -- the row is in the scored document
 abbrev pub is_of : Scored → Post → Bool

@@ -1,7 +1,8 @@
 //! Rows that stand behind, or near, a row of another list.
 ghost use Rattle.std.specs.Prelude.{◌≡◌, ℕ, ◌+◌, ◌-◌, ◌<◌, ◌≤◌, false, length, max, slice_index_or, IfOk};
 ghost use Rattle.std.specs.List.{list_any};
-ghost use Rattle.cs_meet.specs.Filters.{AreSorted, follow, near, stands_behind, is_near};
+ghost use Rattle.cs_meet.specs.Filters.{follow, near, stands_behind, is_near};
+ghost use Rattle.cs_base.specs.Orders.{AreSorted};
 ghost use Rattle.cs_meet.specs.Places.{Ahead, Splits, near_at};
 ghost use Rattle.cs_base.specs.declared.doc.Post.{Post};
 

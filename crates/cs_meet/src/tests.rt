@@ -1,6 +1,6 @@
 //! Filters and merges on worked rows.
 ghost use Rattle.std.specs.Prelude.{◌≡◌, true};
-ghost use Rattle.cs_meet.specs.Filters.{AreSorted, AreByDoc};
+ghost use Rattle.cs_base.specs.Orders.{AreByDoc, AreSorted};
 
 use crate::union::precedes;
 use crate::{docs_of, drop_docs, follow, keep_docs, near, unite};

@@ -3,8 +3,8 @@ ghost use Rattle.std.specs.Prelude.{◌≡◌, ◌+◌, ◌≤◌, ◌∷◌, �
 ghost use Rattle.std.specs.List.{list_any};
 ghost use Rattle.std.specs.Ordering.{is_lt};
 ghost use Rattle.cs_base.specs.declared.doc.Post.{Post};
-ghost use Rattle.cs_base.specs.Orders.{by_place};
-ghost use Rattle.cs_meet.specs.Filters.{AreSorted, IsUnion, shares_place};
+ghost use Rattle.cs_base.specs.Orders.{by_place, AreSorted};
+ghost use Rattle.cs_meet.specs.Filters.{IsUnion, shares_place};
 ghost use Rattle.cs_meet.specs.Places.{AllLess, Parts};
 
 use crate::skip::add_where;

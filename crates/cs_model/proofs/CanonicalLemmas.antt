@@ -13,7 +13,7 @@ use Rattle.cs_base.specs.declared.query.Atom.{Prefix, Exact, roll-Atom}
 use Rattle.cs_base.specs.declared.query.Atom.TheVariants.{rolls-Prefix, rolls-Exact}
 use Rattle.cs_base.specs.declared.query.Atom.TheOpen.{Atom-F}
 use Rattle.cs_base.specs.declared.query.Atom.TheFolds.{fold-roll-Query, fold-roll-Part, fold-roll-Chain, fold-roll-Linked, fold-roll-Atom}
-use Rattle.cs_model.specs.Requests.{shown_word}
+use Rattle.cs_model.specs.Collection.{shown_word}
 use Rattle.cs_model.specs.Canonical.{Bytes, atom_text, chain_text, linked_text, part_text, query_text, link_text, canonical, canonical_parts, canonical_part, canonical_chain, canonical_linked, canonical_atom}
 
 pub query_shape : (q : Query) → canonical q ≡ canonical_parts (out-Query q).parts

@@ -23,7 +23,7 @@ use Rattle.cs_model.proofs.Pieces.{Piece, Plain, Whole, Valued, WholeValued, Ope
 use Rattle.cs_model.proofs.PieceTokens.{both_first, both_second, tokens_told, steps_toks}
 use Rattle.cs_model.proofs.PieceText.{sign_behind, close_alone, levels_text, Printed, printed}
 use Rattle.cs_model.proofs.AttachedText.{rolled_query}
-use Rattle.cs_model.proofs.PassedTokens.{Passes, passes, kept_tokens}
+use Rattle.cs_model.proofs.PassedTokens.{Passes, passes, kept_tokens, and_true}
 use Rattle.cs_model.proofs.KeptPieces.{cost, pieced, deep_same}
 use Rattle.cs_model.proofs.FineTokens.{size_after, Fine, Few, fine_toks, fronts}
 
@@ -76,10 +76,6 @@ all_shut (suc d) ps h e =
     )
 
 -- ---- characters
-and_true : (a b : Bool) → a ≡ true → b ≡ true → (a && b) ≡ true
-and_true true b h k = k
-and_true false b h k = h
-
 scalars_append : (xs ys : List ℕ) → all_scalars xs ≡ true → all_scalars ys ≡ true → all_scalars (xs ++ ys) ≡ true
 scalars_append [] ys h k = k
 scalars_append (x ∷ xs) ys h k =

@@ -14,8 +14,8 @@ use Rattle.cs_model.specs.declared.kinds.Spot.TheVariants.{Front, BehindAtom, El
 use Rattle.cs_model.specs.declared.kinds.Tie.{Tie}
 use Rattle.cs_model.specs.declared.kinds.Tie.TheVariants.{Begins, Linked as LinkedBy}
 use Rattle.cs_model.specs.Tokens.{Token, Word, Value, Run, Gap, Dollar, Bar, Colon, Open, Close, size}
-use Rattle.cs_model.specs.Collection.{has_name_form}
-use Rattle.cs_model.specs.Grammar.{Leaf, Enter, Leave, facet, spot, tie, run_tie, front_tie, link_tie, steps, reading}
+use Rattle.cs_model.specs.Collection.{has_name_form, named}
+use Rattle.cs_model.specs.Grammar.{Leaf, Enter, Leave, spot, tie, run_tie, front_tie, link_tie, steps, reading}
 use Rattle.cs_model.specs.Refusals.{takes_bar, depth}
 use Rattle.cs_model.proofs.Pieces.{Piece, Plain, Whole, Valued, WholeValued, Opens, Closes, step_of, IsWord, IsValue, IsNameWord, fresh, linkable, TieFits, open_in, Well, space, between, told}
 use Rattle.cs_model.proofs.PieceTokens.{opens}
@@ -108,7 +108,7 @@ exact_pieced w ts h o p = record {
 value_pieced : (v n : List ℕ) (ts : List Token) → IsNameWord n → IsValue v → opens ts ≡ true → Pieced ts → Pieced (Value v ∷ Colon ∷ Word n ∷ ts)
 value_pieced v n ts h hv o p = record {
   pieces = Valued (tie ts) n v ∷ p.pieces;
-  same = ap (λ ss. Leaf (tie ts) (Prefix (facet n v)) ∷ ss) p.same;
+  same = ap (λ ss. Leaf (tie ts) (Prefix (named n v)) ∷ ss) p.same;
   well = ((p.fits o, h, hv), p.well);
   small = let le = more_cost (tie ts) p.pieces (chars n ++ 58 ∷ chars v) (n ++ 58 ∷ v) (size ts) (length n + 1 + length v) (p.tied o) (facet_bytes n v h.word hv) (omega (arith, length-append n (58 ∷ v))) in omega (arith, le);
   linked = λ e. absurd (let no : Elsewhere ≡ BehindAtom = e in cc);
@@ -124,7 +124,7 @@ exact_value_cost n v h hv = sign_behind (chars n ++ 58 ∷ chars v) 36 dollar_al
 exact_value_pieced : (v n : List ℕ) (ts : List Token) → IsNameWord n → IsValue v → 1 ≤ length v → opens ts ≡ true → Pieced ts → Pieced (Dollar ∷ Value v ∷ Colon ∷ Word n ∷ ts)
 exact_value_pieced v n ts h hv some o p = record {
   pieces = WholeValued (tie ts) n v ∷ p.pieces;
-  same = ap (λ ss. Leaf (tie ts) (Exact (facet n v)) ∷ ss) p.same;
+  same = ap (λ ss. Leaf (tie ts) (Exact (named n v)) ∷ ss) p.same;
   well = ((p.fits o, h, hv, some), p.well);
   small = let le = more_cost (tie ts) p.pieces ((chars n ++ 58 ∷ chars v) ++ 36 ∷ []) ((n ++ 58 ∷ v) ++ 36 ∷ []) (size ts) (length n + 1 + length v + 1) (p.tied o) (exact_value_cost n v h.word hv)
       (omega (arith, length-append (n ++ 58 ∷ v) (36 ∷ []), length-append n (58 ∷ v))) in omega (arith, le);

@@ -23,7 +23,7 @@ use Rattle.cs_base.specs.declared.query.Atom.{Atom, Prefix, roll-Atom, out-Atom,
 use Rattle.cs_base.specs.declared.query.Atom.TheVariants.{rolls-Prefix}
 use Rattle.cs_base.specs.declared.query.Atom.TheOpen.{Atom-F}
 use Rattle.cs_model.specs.Grammar.{on_last, with_chains}
-use Rattle.cs_model.specs.Requests.{shown_word}
+use Rattle.cs_model.specs.Collection.{shown_word}
 use Rattle.cs_model.specs.Canonical.{link_text, canonical, canonical_parts, canonical_part, canonical_chain, canonical_linked, canonical_atom}
 use Rattle.cs_model.specs.Keys.{last_of, prefix_in, last_atom, chain_prefix, chains_prefix, part_prefix, last_prefix, relinked, ended_by, with_prefix, shorter, is_left}
 use Rattle.cs_model.proofs.CanonicalLemmas.{query_shape, part_shape, chain_shape, linked_shape, prefix_shape}
@@ -31,7 +31,7 @@ use Rattle.cs_model.proofs.LastEntries.{is_none, sign_before, join_push, concat_
 use Rattle.cs_model.proofs.AttachedText.{rolled_part, rolled_chain, rolled_linked, rolled_query, one_chain}
 
 -- ---- last entries
-on_last-append : {X : Type 0} (f : X → X) (xs : List X) (x : X) → on_last f (xs ++ x ∷ []) ≡ xs ++ f x ∷ []
+pub on_last-append : {X : Type 0} (f : X → X) (xs : List X) (x : X) → on_last f (xs ++ x ∷ []) ≡ xs ++ f x ∷ []
 on_last-append f [] x = refl
 on_last-append f (y ∷ []) x = refl
 on_last-append f (y ∷ z ∷ xs) x = ap (λ l. y ∷ l) (on_last-append f (z ∷ xs) x)

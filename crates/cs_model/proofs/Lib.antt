@@ -3,6 +3,7 @@ pub mod AttachedText
 pub mod CanonicalLemmas
 pub mod CanonicalReading
 pub mod FineTokens
+pub mod FirstLemmas
 pub mod FittingLemmas
 pub mod KeptPieces
 pub mod KeyLemmas

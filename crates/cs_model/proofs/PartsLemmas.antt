@@ -17,7 +17,8 @@ use Rattle.cs_model.specs.declared.kinds.Tie.{Tie}
 use Rattle.cs_model.specs.declared.kinds.Tie.TheVariants.{Begins, Alternative, Linked}
 use Rattle.cs_model.specs.Tokens.{Token, tokens, size}
 use Rattle.cs_model.specs.Grammar.{Step, Leaf, Enter, Leave, steps, reading, on_last, attached, join, closed, leave, all_closed}
-use Rattle.cs_model.specs.Refusals.{Fault, Bad, Limit, refused, depth, newest, begins_part, parts_in, verdict, IsOfGrammar}
+use Rattle.cs_model.proofs.PassedTokens.{passes}
+use Rattle.cs_model.specs.Refusals.{QueryRefusal, Bad, Limit, refused, depth, newest, begins_part, parts_in, verdict, IsOfGrammar}
 
 on_last-length : {X : Type 0} (f : X → X) (xs : List X) → length (on_last f xs) ≡ length xs
 on_last-length f [] = refl
@@ -52,20 +53,9 @@ unfolding left_by
 all_closed-length ps [] = omega arith
 all_closed-length ps (l ∷ ls) = omega (arith, all_closed-length (closed ps l) ls, attached-length l.tie (join l.name ps) l.before)
 
--- a test that refuses nothing isn't met, and the rest refuses nothing
-not_met : (b : Bool) (f : Fault) (o : Option Fault) → cond b (Some f) o ≡ None → (b ≡ false) × (o ≡ None)
-not_met true f o h = cc
-not_met false f o h = (refl, h)
-
 -- where the newest character isn't refused, few parts have begun
 verdict_parts : (ts : List Token) → verdict ts ≡ None → parts_in (steps ts) ≤ 16
-verdict_parts ts h =
-    let grammar = not_met (refused ts) Bad _ h in
-    let size_kept = not_met (nat_lt 1024 (size ts + depth ts)) (Limit limits.Query) _ grammar.1 in
-    let word_kept = not_met (nat_lt 120 (newest ts)) (Limit limits.Word) _ size_kept.1 in
-    let parts_kept = not_met (nat_lt 16 (parts_in (steps ts))) (Limit limits.Parts) _ word_kept.1 in
-    let kept : nat_lt 16 (parts_in (steps ts)) ≡ false = parts_kept.0 in
-    grind (arith, nat_tests)
+verdict_parts ts h = (passes ts h).parts
 
 pub few_parts : (q : Query) → IsOfGrammar q → length (out-Query q).parts ≤ MAX_PARTS
 few_parts q g =

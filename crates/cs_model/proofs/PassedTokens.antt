@@ -5,11 +5,11 @@
 --   Kept ts              no token is refused, and each has the characters of its kind
 --   kept_tokens          the tokens of an accepted text are such
 use Rattle.std.proofs.Common.{◌≡◌, ℕ, suc, ◌+◌, ◌≤◌, List, [], ◌∷◌, ◌++◌, length, take, refl, ap, ◌∙◌, sym, Bool, true, false, arith, length-append, Option, Some, None}
-use Rattle.std.specs.Prelude.{◌&&◌, ◌||◌, ◌==◌, if◌then◌else◌}
+use Rattle.std.specs.Prelude.{◌&&◌, ◌||◌, ◌==◌, not, nat_le, if◌then◌else◌}
 use Rattle.std.specs.Char.{encode_utf8, IsScalar}
 use Rattle.std.specs.List.{list_all}
 use Rattle.std.specs.Str.{chars, IsUtf8, all_scalars}
-use Rattle.std.proofs.lemmas.Bool.{ltb-false, le-ltb}
+use Rattle.std.proofs.lemmas.Bool.{leb-true, le-leb}
 use Rattle.std.proofs.lemmas.List.{append-nil}
 use Rattle.std.proofs.lemmas.List.Folds.{list_all-append}
 use Rattle.std.proofs.lemmas.Str.{chars-append, chars_past_char, chars-nil, IsUtf8-append, IsUtf8-encode, IsUtf8-nil, length-le-encodes}
@@ -18,7 +18,11 @@ use Rattle.cs_model.specs.declared.kinds.Class.TheVariants as c
 use Rattle.cs_model.specs.Words.{is_word_char}
 use Rattle.cs_model.specs.Tokens.{Token, Word, Value, Run, Gap, Dollar, Bar, Colon, Open, Close, class_of, grown, with_next, tokens_after, tokens, size}
 use Rattle.cs_model.specs.Grammar.{steps}
-use Rattle.cs_model.specs.Refusals.{refused, verdict, parts_in, atoms_in, depth, newest, IsAccepted}
+use Rattle.cs_model.specs.First.{unless, first_reason}
+use Rattle.cs_model.specs.Refusals.{QueryRefusal, Bad, Limit, refused, verdict, parts_in, atoms_in, depth, newest, IsAccepted}
+use Rattle.cs_base.specs.declared.limits.TheConstants.{MAX_QUERY_BYTES, MAX_PLAIN_WORD_BYTES, MAX_PARTS, MAX_ATOMS, MAX_DEPTH}
+use Rattle.cs_base.specs.declared.query.Which.TheVariants as limits
+use Rattle.cs_model.proofs.FirstLemmas.{none_first, none_rest, unless_none}
 use Rattle.cs_model.proofs.SizeLemmas.{Fits, class_fits}
 use Rattle.cs_model.proofs.Pieces.{IsWord, IsValue, is_value_char}
 use Rattle.cs_model.proofs.PieceTokens.{opens, both_first, both_second}
@@ -32,32 +36,33 @@ pub record Passes (ts : List Token) : Type 0 where
   pub atoms : atoms_in (steps ts) ≤ 32
   pub shallow : depth ts ≤ 3
 
-if_none : {X : Type 0} (b : Bool) (x : X) (o : Option X) → (if b then Some x else o) ≡ None → b ≡ false
-if_none true x o h = cc
-if_none false x o h = refl
-
-else_none : {X : Type 0} (b : Bool) (x : X) (o : Option X) → (if b then Some x else o) ≡ None → o ≡ None
-else_none true x o h = cc
-else_none false x o h = h
+not_refused : (b : Bool) → not b ≡ true → b ≡ false
+not_refused true h = cc
+not_refused false h = refl
 
 pub passes : (ts : List Token) → verdict ts ≡ None → Passes ts
 passes ts h =
-    let h1 = else_none (refused ts) _ _ h in
-    let h2 = else_none _ _ _ h1 in
-    let h3 = else_none _ _ _ h2 in
-    let h4 = else_none _ _ _ h3 in
-    let h5 = else_none _ _ _ h4 in
+    let bytes = unless (nat_le (size ts + depth ts) MAX_QUERY_BYTES) (Limit limits.Query) in
+    let word = unless (nat_le (newest ts) MAX_PLAIN_WORD_BYTES) (Limit limits.Word) in
+    let parts = unless (nat_le (parts_in (steps ts)) MAX_PARTS) (Limit limits.Parts) in
+    let atoms = unless (nat_le (atoms_in (steps ts)) MAX_ATOMS) (Limit limits.Atoms) in
+    let levels = unless (nat_le (depth ts) MAX_DEPTH) (Limit limits.Depth) in
+    let h1 : first_reason (bytes ∷ word ∷ parts ∷ atoms ∷ levels ∷ []) ≡ None = none_rest (unless (not (refused ts)) Bad) (bytes ∷ word ∷ parts ∷ atoms ∷ levels ∷ []) h in
+    let h2 : first_reason (word ∷ parts ∷ atoms ∷ levels ∷ []) ≡ None = none_rest bytes (word ∷ parts ∷ atoms ∷ levels ∷ []) h1 in
+    let h3 : first_reason (parts ∷ atoms ∷ levels ∷ []) ≡ None = none_rest word (parts ∷ atoms ∷ levels ∷ []) h2 in
+    let h4 : first_reason (atoms ∷ levels ∷ []) ≡ None = none_rest parts (atoms ∷ levels ∷ []) h3 in
+    let h5 : first_reason (levels ∷ []) ≡ None = none_rest atoms (levels ∷ []) h4 in
     record {
-      fine = if_none (refused ts) _ _ h;
-      small = ltb-false 1024 (size ts + depth ts) (if_none _ _ _ h1);
-      short = ltb-false 120 (newest ts) (if_none _ _ _ h2);
-      parts = ltb-false 16 (parts_in (steps ts)) (if_none _ _ _ h3);
-      atoms = ltb-false 32 (atoms_in (steps ts)) (if_none _ _ _ h4);
-      shallow = ltb-false 3 (depth ts) (if_none _ _ _ h5);
+      fine = not_refused (refused ts) (unless_none _ Bad (none_first (unless (not (refused ts)) Bad) (bytes ∷ word ∷ parts ∷ atoms ∷ levels ∷ []) h));
+      small = leb-true (size ts + depth ts) 1024 (unless_none _ (Limit limits.Query) (none_first bytes (word ∷ parts ∷ atoms ∷ levels ∷ []) h1));
+      short = leb-true (newest ts) 120 (unless_none _ (Limit limits.Word) (none_first word (parts ∷ atoms ∷ levels ∷ []) h2));
+      parts = leb-true (parts_in (steps ts)) 16 (unless_none _ (Limit limits.Parts) (none_first parts (atoms ∷ levels ∷ []) h3));
+      atoms = leb-true (atoms_in (steps ts)) 32 (unless_none _ (Limit limits.Atoms) (none_first atoms (levels ∷ []) h4));
+      shallow = leb-true (depth ts) 3 (unless_none _ (Limit limits.Depth) (none_first levels [] h5));
     }
 
 pub passed : (ts : List Token) → Passes ts → verdict ts ≡ None
-passed ts p = rw (p.fine, le-ltb 1024 (size ts + depth ts) p.small, le-ltb 120 (newest ts) p.short, le-ltb 16 (parts_in (steps ts)) p.parts, le-ltb 32 (atoms_in (steps ts)) p.atoms, le-ltb 3 (depth ts) p.shallow) refl
+passed ts p = rw (p.fine, le-leb (size ts + depth ts) 1024 p.small, le-leb (newest ts) 120 p.short, le-leb (parts_in (steps ts)) 16 p.parts, le-leb (atoms_in (steps ts)) 32 p.atoms, le-leb (depth ts) 3 p.shallow) refl
 
 -- ---- words and values with one character more
 one_char : (x : ℕ) → IsScalar x → chars (encode_utf8 x) ≡ x ∷ []
@@ -66,7 +71,7 @@ one_char x s = chars_past_char (encode_utf8 x) [] x (IsUtf8-encode x s) (sym (ap
 chars_more : (w : List ℕ) (x : ℕ) → IsUtf8 w → IsScalar x → chars (w ++ encode_utf8 x) ≡ chars w ++ x ∷ []
 chars_more w x u s = chars-append w (encode_utf8 x) u ∙ ap (λ l. chars w ++ l) (one_char x s)
 
-and_true : (a b : Bool) → a ≡ true → b ≡ true → (a && b) ≡ true
+pub and_true : (a b : Bool) → a ≡ true → b ≡ true → (a && b) ≡ true
 and_true true b h k = k
 and_true false b h k = h
 

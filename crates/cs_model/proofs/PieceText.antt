@@ -19,8 +19,8 @@ use Rattle.cs_model.specs.declared.kinds.Level.{Level}
 use Rattle.cs_model.specs.declared.kinds.Tie.{Tie}
 use Rattle.cs_model.specs.declared.kinds.Tie.TheVariants.{Begins, Alternative, Linked as LinkedBy}
 use Rattle.cs_model.specs.Words.{is_word_char}
-use Rattle.cs_model.specs.Grammar.{Enter, facet, Reading, reading, taken, leave, attached, join}
-use Rattle.cs_model.specs.Requests.{shown_word}
+use Rattle.cs_model.specs.Collection.{named, shown_word}
+use Rattle.cs_model.specs.Grammar.{Enter, Reading, reading, taken, leave, attached, join}
 use Rattle.cs_model.specs.Canonical.{canonical_parts, canonical_atom}
 use Rattle.cs_model.proofs.CanonicalLemmas.{prefix_shape, exact_shape}
 use Rattle.cs_model.proofs.LastEntries.{is_none, Last, last_some}
@@ -88,11 +88,11 @@ prefix_bytes w h = prefix_shape w ∙ word_shown w h ∙ sym (encodes-chars w h.
 exact_bytes : (w : List ℕ) → IsWord w → canonical_atom (Exact w) ≡ encode_utf8_all (chars w ++ 36 ∷ [])
 exact_bytes w h = exact_shape w ∙ ap (λ t. t ++ 36 ∷ []) (word_shown w h ∙ sym (encodes-chars w h.utf8)) ∙ sym (sign_behind (chars w) 36 dollar_alone)
 
-value_bytes : (n v : List ℕ) → IsWord n → IsValue v → canonical_atom (Prefix (facet n v)) ≡ encode_utf8_all (chars n ++ 58 ∷ chars v)
-value_bytes n v hn hv = prefix_shape (facet n v) ∙ sym (facet_bytes n v hn hv)
+value_bytes : (n v : List ℕ) → IsWord n → IsValue v → canonical_atom (Prefix (named n v)) ≡ encode_utf8_all (chars n ++ 58 ∷ chars v)
+value_bytes n v hn hv = prefix_shape (named n v) ∙ sym (facet_bytes n v hn hv)
 
-exact_value_bytes : (n v : List ℕ) → IsWord n → IsValue v → canonical_atom (Exact (facet n v)) ≡ encode_utf8_all ((chars n ++ 58 ∷ chars v) ++ 36 ∷ [])
-exact_value_bytes n v hn hv = exact_shape (facet n v) ∙ ap (λ t. t ++ 36 ∷ []) (sym (facet_bytes n v hn hv)) ∙ sym (sign_behind (chars n ++ 58 ∷ chars v) 36 dollar_alone)
+exact_value_bytes : (n v : List ℕ) → IsWord n → IsValue v → canonical_atom (Exact (named n v)) ≡ encode_utf8_all ((chars n ++ 58 ∷ chars v) ++ 36 ∷ [])
+exact_value_bytes n v hn hv = exact_shape (named n v) ∙ ap (λ t. t ++ 36 ∷ []) (sym (facet_bytes n v hn hv)) ∙ sym (sign_behind (chars n ++ 58 ∷ chars v) 36 dollar_alone)
 
 -- ---- readings
 -- the text of what stands before the brackets that are open, with these brackets
@@ -209,11 +209,11 @@ printed (Whole t w ∷ ps) h =
     record { same = l.same; none = l.none; ready = λ u. l.ready; levels = p.levels; deep = p.deep }
 printed (Valued t n v ∷ ps) h =
     let p = printed ps h.1 in
-    let l = leaf_printed t (Prefix (facet n v)) ps (reading (map step_of ps)) (chars n ++ 58 ∷ chars v) p h.0.0 (value_bytes n v h.0.1.word h.0.2) in
+    let l = leaf_printed t (Prefix (named n v)) ps (reading (map step_of ps)) (chars n ++ 58 ∷ chars v) p h.0.0 (value_bytes n v h.0.1.word h.0.2) in
     record { same = l.same; none = l.none; ready = λ u. l.ready; levels = p.levels; deep = p.deep }
 printed (WholeValued t n v ∷ ps) h =
     let p = printed ps h.1 in
-    let l = leaf_printed t (Exact (facet n v)) ps (reading (map step_of ps)) ((chars n ++ 58 ∷ chars v) ++ 36 ∷ []) p h.0.0 (exact_value_bytes n v h.0.1.word h.0.2) in
+    let l = leaf_printed t (Exact (named n v)) ps (reading (map step_of ps)) ((chars n ++ 58 ∷ chars v) ++ 36 ∷ []) p h.0.0 (exact_value_bytes n v h.0.1.word h.0.2) in
     record { same = l.same; none = l.none; ready = λ u. l.ready; levels = p.levels; deep = p.deep }
 printed (Opens t n ∷ ps) h = open_printed t n ps (reading (map step_of ps)) (printed ps h.1) h.0.0 h.0.1.word
 printed (Closes ∷ ps) h = close_printed ps (reading (map step_of ps)).parts (reading (map step_of ps)).open_now (printed ps h.1) h.0

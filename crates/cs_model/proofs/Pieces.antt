@@ -16,8 +16,8 @@ use Rattle.cs_model.specs.declared.kinds.Tie.{Tie}
 use Rattle.cs_model.specs.declared.kinds.Tie.TheVariants.{Begins, Alternative, Linked as LinkedBy}
 use Rattle.cs_model.specs.Words.{is_word_char}
 use Rattle.cs_model.specs.Tokens.{Token, Word, Value, Run, Gap, Dollar, Bar, Colon, Open, Close}
-use Rattle.cs_model.specs.Collection.{has_name_form}
-use Rattle.cs_model.specs.Grammar.{Step, Leaf, Enter, Leave, facet}
+use Rattle.cs_model.specs.Collection.{has_name_form, named}
+use Rattle.cs_model.specs.Grammar.{Step, Leaf, Enter, Leave}
 use Rattle.cs_model.specs.Canonical.{link_text}
 
 pub data Piece : Type 0 where
@@ -31,8 +31,8 @@ pub data Piece : Type 0 where
 abbrev pub step_of : Piece → Step
 step_of (Plain t w) = Leaf t (Prefix w)
 step_of (Whole t w) = Leaf t (Exact w)
-step_of (Valued t n v) = Leaf t (Prefix (facet n v))
-step_of (WholeValued t n v) = Leaf t (Exact (facet n v))
+step_of (Valued t n v) = Leaf t (Prefix (named n v))
+step_of (WholeValued t n v) = Leaf t (Exact (named n v))
 step_of (Opens t n) = Enter t n
 step_of Closes = Leave
 

@@ -14,7 +14,7 @@
 --   atom_rows k a             the rows of an atom: a filter of the corpus's rows
 --   linked_to link x rows     those of rows that are linked to a row of x
 --   chained x ls              link by link from the left, the rows of each atom that are linked to a row kept so far
---   union_of chains           the rows of some of the chains, each once, in order
+--   union_of chains           the rows that some of the chains has, each once, in order
 --   rows_of_atom, rows_of_linked, rows_of_chain, rows_of_part      the rows of these over a corpus
 --   parts_of k q              the parts of a query with their rows, in order; none for the empty query
 --   last_rows ps              the rows of the last part; none where it is excluded or there is none
@@ -25,7 +25,7 @@
 --   table_of rows             each word of rows with the number of documents that have it, in that order
 --   table k ps                the completions: the table of the pairs
 --   facet_table k ps n        the table of the query followed by one more positive part, which asks the facet words of the name n
-use Rattle.std.specs.Prelude.{ℕ, ◌+◌, Bool, false, not, if◌then◌else◌, ◌&&◌, ◌==◌, nat_lt, nat_le, nat_eq, max, List, [], ◌∷◌, ◌++◌, map, filter, sum, length}
+use Rattle.std.specs.Prelude.{ℕ, ◌+◌, Bool, false, not, if◌then◌else◌, ◌&&◌, ◌==◌, nat_lt, nat_le, nat_eq, max, List, [], ◌∷◌, ◌++◌, map, filter, fold, sum, length}
 use Rattle.std.specs.List.{list_any, list_all, flat_map, starts_with}
 use Rattle.std.specs.Str.{bytes_eq}
 use Rattle.std.specs.Ordering.{nat_cmp, then_cmp, on, flip_args}
@@ -35,6 +35,7 @@ use Rattle.std.specs.FinMap as map
 use Rattle.cs_base.specs.Members.{members_in}
 use Rattle.cs_base.specs.Orders.{by_row, by_rank}
 use Rattle.cs_base.specs.declared.doc.Row.{Row}
+use Rattle.cs_base.specs.declared.limits.TheConstants.{MAX_DISTANCE}
 use Rattle.cs_base.specs.declared.doc.Scored.{Scored}
 use Rattle.cs_base.specs.declared.query.Query.{Query}
 use Rattle.cs_base.specs.declared.query.Part.{Part}
@@ -104,17 +105,16 @@ atom_rows k (Atom-F.Prefix p) = filter (λ r. begins p r.word) k.rows
 atom_rows k (Atom-F.Exact w) = of_word w k.rows
 atom_rows k (Atom-F.Join name inner) = filter (λ r. begins (named name []) r.word && is_shared k inner r) k.rows
 
--- both in one document at positions of 1 or more; x exactly one before r, or 1 to 8 away on either side
+-- both in one document at positions of 1 or more; x exactly one before r, or at most `MAX_DISTANCE` away on either side
 abbrev pub is_linked : Link → Row → Row → Bool
 is_linked Phrase r x = (x.doc == r.doc) && (nat_lt 0 x.pos && (x.pos + 1 == r.pos))
-is_linked Near r x = (x.doc == r.doc) && ((nat_lt 0 x.pos && nat_lt 0 r.pos) && (not (x.pos == r.pos) && (nat_le x.pos (r.pos + 8) && nat_le r.pos (x.pos + 8))))
+is_linked Near r x = (x.doc == r.doc) && ((nat_lt 0 x.pos && nat_lt 0 r.pos) && (not (x.pos == r.pos) && (nat_le x.pos (r.pos + MAX_DISTANCE) && nat_le r.pos (x.pos + MAX_DISTANCE))))
 
 abbrev pub linked_to : Link → List Row → List Row → List Row
 linked_to link x rows = filter (λ r. list_any (is_linked link r) x) rows
 
 abbrev pub chained : List Row → List LinkedRows → List Row
-chained x [] = x
-chained x (l ∷ ls) = chained (linked_to l.link x l.rows) ls
+chained x ls = fold (λ kept l. linked_to l.link kept l.rows) x ls
 
 abbrev pub linked_rows : LinkedLevel → LinkedRows
 linked_rows l = record { link = l.link; rows = l.atom }

@@ -5,7 +5,8 @@
 use Rattle.std.specs.Prelude.{ℕ, Bool, not, List, map, filter, take}
 use Rattle.std.specs.Char.{is_ascii_alphanumeric, to_ascii_lowercase}
 use Rattle.std.specs.List.{slice_split}
-use Rattle.cs_model.specs.Words.{is_some_run}
+use Rattle.cs_base.specs.declared.limits.TheConstants.{MAX_PLAIN_WORD_BYTES}
+use Rattle.cs_model.specs.Words.{is_filled}
 
 -- the key text of an ASCII text
 abbrev pub ascii_norm : List ℕ → List ℕ
@@ -17,4 +18,4 @@ is_ascii_gap b = not (is_ascii_alphanumeric b)
 
 -- the words of an ASCII text
 abbrev pub ascii_words : List ℕ → List (List ℕ)
-ascii_words s = map (take 120) (filter is_some_run (slice_split is_ascii_gap (ascii_norm s)))
+ascii_words s = map (take MAX_PLAIN_WORD_BYTES) (filter is_filled (slice_split is_ascii_gap (ascii_norm s)))

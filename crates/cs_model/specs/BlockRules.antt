@@ -10,7 +10,7 @@
 --   Rule, rules head docs    a rule: its number, its test, and the place where an item breaks it; rules 14 to 17
 --   breaks rule items        the place of the first item that breaks a rule; None where none does
 --   judged head docs bytes   the first broken rule of the bytes of a block, and its place in them; None where all rules hold
---   rows_of head bytes       the rows that were read
+--   rows_read head bytes     the rows that were read
 --   IsBlock head docs rs bytes    bytes are those of so many rows as the head says, which a block can hold and which meet rules 14 to 17
 use Rattle.std.specs.Prelude.{◌≡◌, ℕ, zero, suc, ◌+◌, ◌-◌, ◌*◌, Bool, true, ◌&&◌, ◌||◌, nat_lt, nat_le, ◌==◌, List, [], ◌∷◌, length, map, take, drop, get_or, Option, Some, None, if◌then◌else◌}
 use Rattle.std.specs.Int.{w16, w32, from_be_bytes}
@@ -22,6 +22,7 @@ use Rattle.cs_base.specs.declared.block.BlockHead.{BlockHead}
 use Rattle.cs_base.specs.declared.block.Broken.{Broken}
 use Rattle.cs_base.specs.declared.doc.Post.{Post}
 use Rattle.cs_base.specs.declared.limits.TheConstants.{MAX_POSITION}
+use Rattle.cs_base.specs.declared.scores.TheConstants.{TITLE_SCORE, FACET_SCORE, TEXT_SCORE}
 use Rattle.cs_model.specs.Blocks.{AreWritable, block_bytes}
 
 -- ---- gap codes whole and shortest
@@ -72,7 +73,7 @@ items_in lo (suc k) last index at gaps words places scores =
     ∷ items_in lo k (Some row) (index + 1) (at + gap_len gaps) (drop (gap_len gaps) gaps) (drop 2 words) (drop 4 places) (drop 1 scores)
 
 -- the four columns of a block
-pub record Columns : Type 0 where
+pub record BlockColumns : Type 0 where
   pub gaps : List ℕ
   pub words : List ℕ
   pub places : List ℕ
@@ -82,7 +83,7 @@ pub record Columns : Type 0 where
 abbrev pub gap_bytes : BlockHead → ℕ
 gap_bytes head = head.len - 7 * head.rows
 
-abbrev pub columns_behind : BlockHead → List ℕ → List ℕ → Columns
+abbrev pub columns_behind : BlockHead → List ℕ → List ℕ → BlockColumns
 columns_behind head gaps rest = record {
   gaps = gaps;
   words = take (2 * head.rows) rest;
@@ -91,18 +92,18 @@ columns_behind head gaps rest = record {
 }
 
 -- bytes cut into the columns
-abbrev pub columns : BlockHead → List ℕ → Columns
-columns head bytes = columns_behind head (take (gap_bytes head) bytes) (drop (gap_bytes head) bytes)
+abbrev pub block_columns : BlockHead → List ℕ → BlockColumns
+block_columns head bytes = columns_behind head (take (gap_bytes head) bytes) (drop (gap_bytes head) bytes)
 
-abbrev pub items_of : BlockHead → Columns → List Item
+abbrev pub items_of : BlockHead → BlockColumns → List Item
 items_of head c = items_in head.lo head.rows None 0 0 c.gaps c.words c.places c.scores
 
 abbrev pub item_row : Item → Post
 item_row i = i.row
 
 -- the rows that were read, of any bytes as many as the head says
-unfoldable pub rows_of : BlockHead → List ℕ → List Post
-rows_of head bytes = map item_row (items_of head (columns head bytes))
+unfoldable pub rows_read : BlockHead → List ℕ → List Post
+rows_read head bytes = map item_row (items_of head (block_columns head bytes))
 
 -- ---- the rules on rows
 
@@ -122,11 +123,11 @@ in_words head = record { number = 15; holds = λ last r. nat_lt r.word (head.lo 
 
 -- a facet word stands at 0 with the score 2; any other from 1 on with the score of a title or of a text word
 abbrev pub is_scored : Bool → Post → Bool
-is_scored facet r = if facet then r.pos == 0 && r.score == 2 else (nat_le 1 r.pos && nat_le r.pos MAX_POSITION && (r.score == 4 || r.score == 1))
+is_scored facet r = if facet then r.pos == 0 && r.score == FACET_SCORE else (nat_le 1 r.pos && nat_le r.pos MAX_POSITION && (r.score == TITLE_SCORE || r.score == TEXT_SCORE))
 
 -- positions and scores by kind; the place is the row's position
-abbrev pub scored : BlockHead → Rule
-scored head = record { number = 16; holds = λ last r. is_scored head.facet r; place = λ i. gap_bytes head + 2 * head.rows + 4 * i.index }
+abbrev pub in_kind : BlockHead → Rule
+in_kind head = record { number = 16; holds = λ last r. is_scored head.facet r; place = λ i. gap_bytes head + 2 * head.rows + 4 * i.index }
 
 -- the first row is behind no other
 abbrev pub is_after : Option Post → Post → Bool
@@ -139,7 +140,7 @@ in_order = record { number = 17; holds = is_after; place = λ i. i.gap_place }
 
 -- in the order in which they are tried
 abbrev pub rules : BlockHead → ℕ → List Rule
-rules head docs = in_docs docs ∷ in_words head ∷ scored head ∷ in_order ∷ []
+rules head docs = in_docs docs ∷ in_words head ∷ in_kind head ∷ in_order ∷ []
 
 -- ---- the first broken rule
 
@@ -158,12 +159,12 @@ abbrev pub first_broken : List Rule → List Item → Option Broken
 first_broken [] items = None
 first_broken (rule ∷ rest) items = or_broken rule.number (breaks rule items) (first_broken rest items)
 
-abbrev pub judged_columns : BlockHead → ℕ → Columns → Option Broken
+abbrev pub judged_columns : BlockHead → ℕ → BlockColumns → Option Broken
 judged_columns head docs c = or_broken 13 (codes_break head.rows 0 c.gaps) (first_broken (rules head docs) (items_of head c))
 
 -- the codes first, then the rules on rows
 unfoldable pub judged : BlockHead → ℕ → List ℕ → Option Broken
-judged head docs bytes = judged_columns head docs (columns head bytes)
+judged head docs bytes = judged_columns head docs (block_columns head bytes)
 
 -- ---- the other side: rows and their bytes
 

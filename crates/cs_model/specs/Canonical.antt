@@ -21,7 +21,7 @@ use Rattle.cs_base.specs.declared.query.Linked.{Linked}
 use Rattle.cs_base.specs.declared.query.Atom.{Atom}
 use Rattle.cs_base.specs.declared.query.Atom.TheOpen.{Atom-F, Query-F, Part-F, Chain-F, Linked-F}
 use Rattle.cs_base.specs.declared.query.Atom.TheFolds.{fold-Query, fold-Part, fold-Chain, fold-Linked, fold-Atom}
-use Rattle.cs_model.specs.Requests.{shown_word}
+use Rattle.cs_model.specs.Collection.{shown_word}
 
 -- a text as its bytes
 abbrev pub Bytes : Type 0

@@ -2,11 +2,12 @@
 --
 --   AreReadAgain      the canonical text is accepted, and read as the query again
 --   AreDifferent      different queries have different canonical texts
---   AreShort          it has at most 1,024 bytes
+--   AreShort          it has at most `MAX_QUERY_BYTES` bytes
 --   AreNoLonger       it is no longer than any text of the query, where each bracket that is open at the end counts as one byte more
 --   KeepCounts        it has as many parts and atoms as any text of the query
 use Rattle.std.specs.Prelude.{◌≡◌, ℕ, ◌+◌, ◌≤◌, List, length}
 use Rattle.std.specs.Str.{chars, IsUtf8}
+use Rattle.cs_base.specs.declared.limits.TheConstants.{MAX_QUERY_BYTES}
 use Rattle.cs_base.specs.declared.query.Query.{Query}
 use Rattle.cs_model.specs.Tokens.{tokens}
 use Rattle.cs_model.specs.Grammar.{steps, query_of}
@@ -23,7 +24,7 @@ AreDifferent = (q r : Query) → IsOfGrammar q → IsOfGrammar r → canonical q
 
 -- the limit on the bytes of a key text, which has no open bracket at its end
 abbrev pub AreShort : Type 0
-AreShort = (q : Query) → IsOfGrammar q → length (canonical q) ≤ 1024
+AreShort = (q : Query) → IsOfGrammar q → length (canonical q) ≤ MAX_QUERY_BYTES
 
 -- so it meets the limit on bytes wherever the text does
 abbrev pub AreNoLonger : Type 0

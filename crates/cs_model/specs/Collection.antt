@@ -6,9 +6,10 @@
 --   facet_pieces column       the pieces of a facets column between `;`, without spaces at both ends, empty ones left out
 --   has_name_form n           a letter a to z, then letters a to z and digits, at most 16 bytes
 --   piece_name, piece_value   the key text of what stands before the first `=`, without spaces at its end; what stands after it
+--   named n v, shown_word w   the word `:n:v` of a facet; a word as it is shown, that of a facet without its leading colon
 --   facet_word p              the word `:name:slug` of a piece; None where its value has no word
 --   facet_words column        the facet words of a column
---   Refusal                   why a collection isn't accepted, with the line where there is one
+--   CollectionRefusal                   why a collection isn't accepted, with the line where there is one
 --   line_refusal l            the first rule that the line breaks
 --   docs_refusal c            too large, else the refusal of the least line that breaks a rule; None where no line does
 --   documents c               the documents, in the order of their lines
@@ -21,8 +22,9 @@ use Rattle.std.specs.Str.{is_utf8}
 use Rattle.std.specs.Str.Lines.{lines}
 use Rattle.cs_base.specs.declared.doc.Doc.{Doc}
 use Rattle.cs_base.specs.declared.limits.TheConstants.{MAX_COLLECTION_BYTES, MAX_LINE_BYTES, MAX_DOC_WORDS, MAX_DOCS, MAX_NAME_BYTES}
+use Rattle.cs_model.specs.First.{unless, first_reason}
 use Rattle.cs_model.specs.KeyText.{norm}
-use Rattle.cs_model.specs.Words.{words, slug}
+use Rattle.cs_model.specs.Words.{is_filled, words, slug}
 
 -- EF BB BF in front is skipped once
 abbrev pub without_mark : List ℕ → List ℕ
@@ -43,11 +45,8 @@ abbrev pub doc_line : ℕ × (ℕ × List ℕ) → DocLine
 doc_line p = record { doc = p.0; line = p.1.0; bytes = p.1.1 }
 
 -- a line without bytes is no document
-abbrev pub has_bytes : List ℕ → Bool
-has_bytes l = nat_lt 0 (length l)
-
 abbrev pub doc_lines : List ℕ → List DocLine
-doc_lines c = map doc_line (enumerate_from 0 (filter (λ l. has_bytes l.1) (collection_lines c)))
+doc_lines c = map doc_line (enumerate_from 0 (filter (λ l. is_filled l.1) (collection_lines c)))
 
 -- ---- columns
 abbrev pub is_tab : ℕ → Bool
@@ -80,7 +79,7 @@ abbrev pub without_spaces : List ℕ → List ℕ
 without_spaces bs = without_spaces_behind (drop (prefix_len is_space bs) bs)
 
 abbrev pub facet_pieces : List ℕ → List (List ℕ)
-facet_pieces column = filter has_bytes (map without_spaces (slice_split (λ b. b == 59) column))
+facet_pieces column = filter is_filled (map without_spaces (slice_split (λ b. b == 59) column))
 
 abbrev pub is_small_letter : ℕ → Bool
 is_small_letter b = is_in_range 97 122 b
@@ -101,8 +100,14 @@ piece_name p = norm (without_spaces_behind (before_first is_equals p))
 abbrev pub piece_value : List ℕ → List ℕ
 piece_value p = after_first is_equals p
 
+-- the word of the facet `name` with this value, which may be empty: `:name:value`
 abbrev pub named : List ℕ → List ℕ → List ℕ
 named name value = 58 ∷ name ++ 58 ∷ value
+
+-- a word as it is shown: that of a facet without its leading colon, any other as it is
+abbrev pub shown_word : List ℕ → List ℕ
+shown_word [] = []
+shown_word (b ∷ bs) = if b == 58 then bs else b ∷ bs
 
 abbrev pub facet_word : List ℕ → Option (List ℕ)
 facet_word p = option_map (named (piece_name p)) (slug (piece_value p))
@@ -112,46 +117,37 @@ abbrev pub facet_words : List ℕ → List (List ℕ)
 facet_words column = filter_map facet_word (facet_pieces column)
 
 -- ---- refusals
-pub data Refusal : Type 0 where
-  too_large : Refusal
-  not_utf8 : ℕ → Refusal
-  line_too_long : ℕ → Refusal
-  words_too_many : ℕ → Refusal
-  bad_facet : ℕ → Refusal
-  bad_name : ℕ → Refusal
-  too_many_docs : ℕ → Refusal
-  too_many_rows : Refusal
-  too_many_words : Refusal
-
-abbrev pub unless : Bool → Refusal → Option Refusal
-unless b r = if b then None else Some r
-
--- the first refusal that is there
-abbrev pub first_of : List (Option Refusal) → Option Refusal
-first_of [] = None
-first_of (None ∷ rs) = first_of rs
-first_of (Some r ∷ rs) = Some r
+pub data CollectionRefusal : Type 0 where
+  too_large : CollectionRefusal
+  not_utf8 : ℕ → CollectionRefusal
+  line_too_long : ℕ → CollectionRefusal
+  words_too_many : ℕ → CollectionRefusal
+  bad_facet : ℕ → CollectionRefusal
+  bad_name : ℕ → CollectionRefusal
+  too_many_docs : ℕ → CollectionRefusal
+  too_many_rows : CollectionRefusal
+  too_many_words : CollectionRefusal
 
 -- a piece needs an `=`, and before it a name
-abbrev pub piece_refusal : ℕ → List ℕ → Option Refusal
-piece_refusal n p = first_of (unless (list_any is_equals p) (bad_facet n) ∷ unless (has_name_form (piece_name p)) (bad_name n) ∷ [])
+abbrev pub piece_refusal : ℕ → List ℕ → Option CollectionRefusal
+piece_refusal n p = first_reason (unless (list_any is_equals p) (bad_facet n) ∷ unless (has_name_form (piece_name p)) (bad_name n) ∷ [])
 
 -- title and text words together
 abbrev pub word_count : Columns → ℕ
 word_count cs = length (words cs.title) + length (words cs.text)
 
 -- the rules in their order; the pieces of its facets go from left to right
-abbrev pub line_refusal : DocLine → Option Refusal
-line_refusal l = first_of (
+abbrev pub line_refusal : DocLine → Option CollectionRefusal
+line_refusal l = first_reason (
     unless (is_utf8 l.bytes) (not_utf8 l.line)
     ∷ unless (nat_le (length l.bytes) MAX_LINE_BYTES) (line_too_long l.line)
     ∷ unless (nat_le (word_count (columns l.bytes)) MAX_DOC_WORDS) (words_too_many l.line)
-    ∷ first_of (map (piece_refusal l.line) (facet_pieces (columns l.bytes).facets))
+    ∷ first_reason (map (piece_refusal l.line) (facet_pieces (columns l.bytes).facets))
     ∷ unless (nat_lt l.doc MAX_DOCS) (too_many_docs l.line)
     ∷ [])
 
-abbrev pub docs_refusal : List ℕ → Option Refusal
-docs_refusal c = first_of (unless (nat_le (length c) MAX_COLLECTION_BYTES) too_large ∷ map line_refusal (doc_lines c))
+abbrev pub docs_refusal : List ℕ → Option CollectionRefusal
+docs_refusal c = first_reason (unless (nat_le (length c) MAX_COLLECTION_BYTES) too_large ∷ map line_refusal (doc_lines c))
 
 -- ---- documents
 abbrev pub document : DocLine → Doc

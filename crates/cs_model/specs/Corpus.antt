@@ -22,7 +22,9 @@ use Rattle.cs_base.specs.Orders.{by_row}
 use Rattle.cs_base.specs.declared.doc.Doc.{Doc}
 use Rattle.cs_base.specs.declared.doc.Row.{Row}
 use Rattle.cs_base.specs.declared.limits.TheConstants.{MAX_ROWS, MAX_WORDS}
-use Rattle.cs_model.specs.Collection.{Refusal, too_many_rows, too_many_words, unless, first_of, docs_refusal, documents, facet_words}
+use Rattle.cs_base.specs.declared.scores.TheConstants.{TITLE_SCORE, FACET_SCORE, TEXT_SCORE, BEHIND_TITLE}
+use Rattle.cs_model.specs.Collection.{CollectionRefusal, too_many_rows, too_many_words, docs_refusal, documents, facet_words}
+use Rattle.cs_model.specs.First.{unless, first_reason}
 use Rattle.cs_model.specs.Words.{words}
 
 pub record Corpus : Type 0 where
@@ -34,13 +36,13 @@ abbrev pub placed : ℕ → ℕ → ℕ × List ℕ → Row
 placed d score p = record { doc = d; word = p.1; pos = p.0; score = score }
 
 abbrev pub title_rows : ℕ → Doc → List Row
-title_rows d doc = map (placed d 4) (enumerate_from 1 (words doc.title))
+title_rows d doc = map (placed d TITLE_SCORE) (enumerate_from 1 (words doc.title))
 
 abbrev pub text_rows : ℕ → Doc → List Row
-text_rows d doc = map (placed d 1) (enumerate_from (length (words doc.title) + 9) (words doc.text))
+text_rows d doc = map (placed d TEXT_SCORE) (enumerate_from (length (words doc.title) + BEHIND_TITLE) (words doc.text))
 
 abbrev pub facet_rows : ℕ → Doc → List Row
-facet_rows d doc = map (λ w. placed d 2 (0, w)) (facet_words doc.facets)
+facet_rows d doc = map (λ w. placed d FACET_SCORE (0, w)) (facet_words doc.facets)
 
 abbrev pub doc_rows : ℕ × Doc → List Row
 doc_rows p = facet_rows p.0 p.1 ++ title_rows p.0 p.1 ++ text_rows p.0 p.1
@@ -62,11 +64,11 @@ abbrev pub distinct_words : List Row → List (List ℕ)
 distinct_words rows = members_in (slice_cmp nat_cmp) (map (λ r. r.word) rows)
 
 -- too many rows, then too many words
-abbrev pub rows_refusal : List Row → Option Refusal
-rows_refusal rows = first_of (unless (nat_le (length rows) MAX_ROWS) too_many_rows ∷ unless (nat_le (length (distinct_words rows)) MAX_WORDS) too_many_words ∷ [])
+abbrev pub rows_refusal : List Row → Option CollectionRefusal
+rows_refusal rows = first_reason (unless (nat_le (length rows) MAX_ROWS) too_many_rows ∷ unless (nat_le (length (distinct_words rows)) MAX_WORDS) too_many_words ∷ [])
 
-abbrev pub refusal : List ℕ → Option Refusal
-refusal c = first_of (docs_refusal c ∷ rows_refusal (rows_of (documents c)) ∷ [])
+abbrev pub refusal : List ℕ → Option CollectionRefusal
+refusal c = first_reason (docs_refusal c ∷ rows_refusal (rows_of (documents c)) ∷ [])
 
 abbrev pub corpus : List ℕ → Corpus
 corpus c = corpus_of (documents c)

@@ -1,12 +1,11 @@
 -- What the tokens of a key text mean. Lists of tokens and of steps have the newest first, so "the last tokens" are the first of the list.
 --
---   facet n v         the word of the facet n with the value v, that is :n:v
 --   spot ts           where a run directly behind the tokens ts stands
 --   tie ts            how an atom that begins directly behind the tokens ts is tied to what stands before
 --   steps ts          the atoms of the tokens, each with its tie, and the brackets that open and close
 --   reading ss        the parts within the brackets that are open behind these steps, and these brackets
 --   query_of cs       the query of the characters cs, each open bracket closed at the end; of none the empty query
-use Rattle.std.specs.Prelude.{ℕ, List, [], ◌∷◌, ◌++◌, Bool, false, ◌&&◌, ◌==◌, if◌then◌else◌}
+use Rattle.std.specs.Prelude.{ℕ, List, [], ◌∷◌, ◌++◌, Bool, false, ◌&&◌, ◌==◌, fold, if◌then◌else◌}
 use Rattle.cs_base.specs.declared.query.Link.{Link}
 use Rattle.cs_base.specs.declared.query.Link.TheVariants.{Phrase, Near}
 use Rattle.cs_base.specs.declared.query.Query.{Query, roll-Query}
@@ -20,12 +19,8 @@ use Rattle.cs_model.specs.declared.kinds.Tie.{Tie}
 use Rattle.cs_model.specs.declared.kinds.Tie.TheVariants.{Begins, Alternative, Linked as LinkedBy}
 use Rattle.cs_model.specs.declared.kinds.Spot.{Spot}
 use Rattle.cs_model.specs.declared.kinds.Spot.TheVariants.{Front, BehindAtom, Elsewhere}
+use Rattle.cs_model.specs.Collection.{named}
 use Rattle.cs_model.specs.Tokens.{Token, Word, Value, Run, Gap, Dollar, Bar, Colon, Open, Close, tokens}
-
--- ---- facets
--- the word of a facet, its value perhaps empty
-abbrev pub facet : List ℕ → List ℕ → List ℕ
-facet name v = 58 ∷ name ++ 58 ∷ v
 
 -- ---- how an atom is tied to what stands before it
 -- where a run behind these tokens stands; at the start of the text it stands at the front
@@ -72,8 +67,8 @@ pub data Step : Type 0 where
 abbrev pub steps : List Token → List Step
 steps (Word w ∷ ts) = Leaf (tie ts) (Prefix w) ∷ steps ts
 steps (Dollar ∷ Word w ∷ ts) = Leaf (tie ts) (Exact w) ∷ steps ts
-steps (Value v ∷ Colon ∷ Word n ∷ ts) = Leaf (tie ts) (Prefix (facet n v)) ∷ steps ts
-steps (Dollar ∷ Value v ∷ Colon ∷ Word n ∷ ts) = Leaf (tie ts) (Exact (facet n v)) ∷ steps ts
+steps (Value v ∷ Colon ∷ Word n ∷ ts) = Leaf (tie ts) (Prefix (named n v)) ∷ steps ts
+steps (Dollar ∷ Value v ∷ Colon ∷ Word n ∷ ts) = Leaf (tie ts) (Exact (named n v)) ∷ steps ts
 steps (Open ∷ Word n ∷ ts) = Enter (tie ts) n ∷ steps ts
 steps (Close ∷ ts) = Leave ∷ steps ts
 steps (t ∷ ts) = steps ts
@@ -139,8 +134,7 @@ reading (s ∷ ss) = taken s (reading ss)
 
 -- At the end each bracket that is open is closed.
 abbrev pub all_closed : List Part → List Level → List Part
-all_closed ps [] = ps
-all_closed ps (l ∷ ls) = all_closed (closed ps l) ls
+all_closed ps ls = fold closed ps ls
 
 -- the query of a token list
 abbrev pub query_of_tokens : List Token → Query

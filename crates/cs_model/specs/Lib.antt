@@ -7,6 +7,7 @@ pub mod CanonicalLaws
 pub mod Collection
 pub mod Corpus
 pub mod Faults
+pub mod First
 pub mod FirstRefusal
 pub mod Grammar
 pub mod KeyText

@@ -14,21 +14,22 @@
 --
 -- A script begins and ends its lines as a collection does: EF BB BF in front is skipped once, LF ends a line with one CR
 -- before it, and the last line needs no ending.
-use Rattle.std.specs.Prelude.{◌≡◌, ◌⊎◌, ℕ, nat_le, if◌then◌else◌, List, [], ◌∷◌, ◌++◌, filter, length, take, Option, Some, None, codes}
-use Rattle.std.specs.Option.{option_or}
+use Rattle.std.specs.Prelude.{◌≡◌, ◌⊎◌, ℕ, nat_le, List, [], ◌∷◌, ◌++◌, filter, length, take, Option, Some, None, codes}
 use Rattle.std.specs.Str.{is_utf8}
 use Rattle.cs_base.specs.Outside.{Grew}
 use Rattle.cs_base.specs.declared.limits.TheConstants.{MAX_SCRIPT_LINE_BYTES}
-use Rattle.cs_model.specs.Collection.{collection_lines, has_bytes}
+use Rattle.cs_model.specs.Collection.{collection_lines}
+use Rattle.cs_model.specs.Words.{is_filled}
 use Rattle.cs_model.specs.Corpus.{Corpus}
 use Rattle.cs_model.specs.Faults.{error_text}
-use Rattle.cs_model.specs.Parameters.{Refused, request_of, request_refusal, refusal_text}
+use Rattle.cs_model.specs.First.{unless, first_reason}
+use Rattle.cs_model.specs.Parameters.{RequestRefusal, request_of, request_refusal, refusal_text}
 use Rattle.cs_model.specs.Replies.{reply_text}
 use Rattle.cs_model.specs.Requests.{reply_of}
 
 -- ---- lines
 abbrev pub script_lines : List ℕ → List (ℕ × List ℕ)
-script_lines s = filter (λ l. has_bytes l.1) (collection_lines s)
+script_lines s = filter (λ l. is_filled l.1) (collection_lines s)
 
 -- the number of the line among all lines, those without bytes included
 pub data ScriptFault : Type 0 where
@@ -37,11 +38,13 @@ pub data ScriptFault : Type 0 where
 
 -- a line is measured without its ending
 abbrev pub line_fault : ℕ × List ℕ → Option ScriptFault
-line_fault l = option_or (if nat_le (length l.1) MAX_SCRIPT_LINE_BYTES then None else Some (script_line_too_long l.0))
-    (if is_utf8 l.1 then None else Some (script_line_not_utf8 l.0))
+line_fault l = first_reason (
+    unless (nat_le (length l.1) MAX_SCRIPT_LINE_BYTES) (script_line_too_long l.0)
+    ∷ unless (is_utf8 l.1) (script_line_not_utf8 l.0)
+    ∷ [])
 
 -- ---- texts
-abbrev pub text_by : Corpus → List ℕ → Option Refused → List ℕ
+abbrev pub text_by : Corpus → List ℕ → Option RequestRefusal → List ℕ
 text_by k p None = reply_text (reply_of k (request_of p))
 text_by k p (Some r) = refusal_text r
 
@@ -55,22 +58,22 @@ abbrev pub IsAnswer : Corpus → List ℕ → List ℕ → Type 0
 IsAnswer k l t = (t ≡ text k l ++ 10 ∷ []) ⊎ (t ≡ memory_text ++ 10 ∷ [])
 
 -- ---- outputs, by what may be put for a line
-abbrev pub Answers : Type 1
-Answers = List ℕ → List ℕ → Type 0
+abbrev pub MayPut : Type 1
+MayPut = List ℕ → List ℕ → Type 0
 
-abbrev pub IsAllowed : Answers → List (List ℕ) → List ℕ → Type 0
+abbrev pub IsAllowed : MayPut → List (List ℕ) → List ℕ → Type 0
 IsAllowed A [] o = o ≡ []
 IsAllowed A (l ∷ ls) o = (t : List ℕ) × (rest : List ℕ) × A l t × IsAllowed A ls rest × (o ≡ t ++ rest)
 
-abbrev pub PutAll : Answers → List (List ℕ) → Option (List ℕ) → Option (List ℕ) → Type 0
+abbrev pub PutAll : MayPut → List (List ℕ) → Option (List ℕ) → Option (List ℕ) → Type 0
 PutAll A ls old new = (o : List ℕ) × IsAllowed A ls o × Grew old o new
 
 -- some first bytes of an answer to the next line; nothing where no line is left
-abbrev pub IsBegun : Answers → List (List ℕ) → List ℕ → Type 0
+abbrev pub IsBegun : MayPut → List (List ℕ) → List ℕ → Type 0
 IsBegun A [] b = b ≡ []
 IsBegun A (l ∷ ls) b = (t : List ℕ) × (n : ℕ) × A l t × (b ≡ take n t)
 
-abbrev pub PutSome : Answers → List (List ℕ) → Option (List ℕ) → Option (List ℕ) → Type 0
+abbrev pub PutSome : MayPut → List (List ℕ) → Option (List ℕ) → Option (List ℕ) → Type 0
 PutSome A ls old new =
     (done : List (List ℕ)) × (left : List (List ℕ)) × (o : List ℕ) × (b : List ℕ)
     × (ls ≡ done ++ left) × IsAllowed A done o × IsBegun A left b × Grew old (o ++ b) new

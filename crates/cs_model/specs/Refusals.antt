@@ -1,6 +1,6 @@
 -- Which characters of a key text are refused, and which key texts are accepted. Each character is judged by the tokens of the text up to and including it.
 --
---   refused ts             the grammar refuses the newest character
+--   refused ts             the grammar refuses the newest token
 --   verdict ts             the fault of the newest character, the grammar before the limits, and these in their order; None where there is none
 --   place_of cs k          the number of bytes before the k-th character
 --   IsAccepted cs          no character of cs is refused
@@ -8,15 +8,16 @@
 --   IsOfGrammar q          q is the query of some accepted text
 --   PrefixesAreAccepted    the law that each prefix of an accepted text is accepted
 --   QueriesHaveFewParts    the law that a query has no more parts at its top than may begin in its text
-use Rattle.std.specs.Prelude.{◌≡◌, ℕ, ◌+◌, ◌<◌, ◌≤◌, List, [], ◌∷◌, Bool, true, false, not, nat_lt, length, take, Option, Some, None, if◌then◌else◌, encode_utf8_all}
+use Rattle.std.specs.Prelude.{◌≡◌, ℕ, ◌+◌, ◌<◌, ◌≤◌, List, [], ◌∷◌, Bool, true, false, not, nat_lt, nat_le, length, take, Option, None, Some, encode_utf8_all}
 use Rattle.std.specs.Str.{chars, IsUtf8}
-use Rattle.cs_base.specs.declared.limits.TheConstants.{MAX_PARTS}
+use Rattle.cs_base.specs.declared.limits.TheConstants.{MAX_PLAIN_WORD_BYTES, MAX_QUERY_BYTES, MAX_PARTS, MAX_ATOMS, MAX_DEPTH}
 use Rattle.cs_base.specs.declared.query.Query.{Query, out-Query}
 use Rattle.cs_base.specs.declared.query.Which.{Which}
 use Rattle.cs_base.specs.declared.query.Which.TheVariants as limits
 use Rattle.cs_model.specs.declared.kinds.Tie.{Tie}
 use Rattle.cs_model.specs.declared.kinds.Tie.TheVariants.{Begins}
 use Rattle.cs_model.specs.Collection.{has_name_form}
+use Rattle.cs_model.specs.First.{unless, first_reason}
 use Rattle.cs_model.specs.Tokens.{Token, Word, Value, Run, Gap, Dollar, Bar, Colon, Open, Close, tokens, size}
 use Rattle.cs_model.specs.Grammar.{Step, Leaf, Enter, Leave, steps, reading, query_of}
 
@@ -44,7 +45,7 @@ ends_name _ = false
 abbrev pub depth : List Token → ℕ
 depth ts = length (reading (steps ts)).open_now
 
--- the newest character, which belongs to the newest token, is against the grammar: a sign where it may not stand,
+-- the newest token is against the grammar, and of its characters the first one is refused: a sign where it may not stand,
 -- a closing bracket where none is open, a gap or a run directly behind a bar, a word directly behind a dollar or a closing bracket
 abbrev pub refused : List Token → Bool
 refused (Dollar ∷ ts) = not (takes_dollar ts)
@@ -86,20 +87,20 @@ atoms_in (Leave ∷ ss) = atoms_in ss
 
 -- ---- the verdict
 -- why a character is refused: by the grammar, or by this limit alone
-pub data Fault : Type 0 where
-  Bad : Fault
-  Limit : Which → Fault
+pub data QueryRefusal : Type 0 where
+  Bad : QueryRefusal
+  Limit : Which → QueryRefusal
 
 -- the fault of the newest character
-abbrev pub verdict : List Token → Option Fault
-verdict ts =
-    if refused ts then Some Bad
-    else if nat_lt 1024 (size ts + depth ts) then Some (Limit limits.Query)
-    else if nat_lt 120 (newest ts) then Some (Limit limits.Word)
-    else if nat_lt 16 (parts_in (steps ts)) then Some (Limit limits.Parts)
-    else if nat_lt 32 (atoms_in (steps ts)) then Some (Limit limits.Atoms)
-    else if nat_lt 3 (depth ts) then Some (Limit limits.Depth)
-    else None
+abbrev pub verdict : List Token → Option QueryRefusal
+verdict ts = first_reason (
+    unless (not (refused ts)) Bad
+    ∷ unless (nat_le (size ts + depth ts) MAX_QUERY_BYTES) (Limit limits.Query)
+    ∷ unless (nat_le (newest ts) MAX_PLAIN_WORD_BYTES) (Limit limits.Word)
+    ∷ unless (nat_le (parts_in (steps ts)) MAX_PARTS) (Limit limits.Parts)
+    ∷ unless (nat_le (atoms_in (steps ts)) MAX_ATOMS) (Limit limits.Atoms)
+    ∷ unless (nat_le (depth ts) MAX_DEPTH) (Limit limits.Depth)
+    ∷ [])
 
 -- ---- accepted texts
 -- the place of the k-th character: the number of bytes before it
@@ -111,7 +112,7 @@ abbrev pub IsAccepted : List ℕ → Type 0
 IsAccepted cs = (k : ℕ) → k ≤ length cs → verdict (tokens (take k cs)) ≡ None
 
 -- the longest accepted prefix ends at the byte `at`, and the next character is refused
-pub record IsRefused (cs : List ℕ) (at : ℕ) (fault : Fault) : Type 0 where
+pub record IsRefused (cs : List ℕ) (at : ℕ) (fault : QueryRefusal) : Type 0 where
   pub count : ℕ
   pub within : count < length cs
   pub place : at ≡ place_of cs count

@@ -2,14 +2,14 @@
 --
 --   Request              the query; how many hits are shown; how many completions, and words of each facet table, are shown; how
 --                        many hits are left out in front; the names of the facets asked
---   shown_word w         a word as it is shown: that of a facet without its leading colon
 --   reply_to k ps r      the reply to a request whose parts have these rows: each list is ordered whole, counted, and then cut
 --   reply_of k r         the reply to a request over a corpus
-use Rattle.std.specs.Prelude.{ℕ, ◌==◌, if◌then◌else◌, List, [], ◌∷◌, map, length, take, drop}
+use Rattle.std.specs.Prelude.{ℕ, List, [], map, length, take, drop}
 use Rattle.std.specs.Option.{unwrap_or}
 use Rattle.std.specs.FinMap as map
 use Rattle.cs_base.specs.declared.query.Query.{Query}
 use Rattle.cs_base.specs.declared.doc.Scored.{Scored}
+use Rattle.cs_model.specs.Collection.{shown_word}
 use Rattle.cs_model.specs.Corpus.{Corpus}
 use Rattle.cs_model.specs.Answers.{Completion, PartRows, parts_of, hits, ranked, table, facet_table}
 use Rattle.cs_model.specs.Replies.{Reply, Shown, HitShown, FacetShown}
@@ -22,10 +22,6 @@ pub record Request : Type 0 where
   pub facets : List (List ℕ)
 
 -- ---- replies
-abbrev pub shown_word : List ℕ → List ℕ
-shown_word [] = []
-shown_word (b ∷ bs) = if b == 58 then bs else b ∷ bs
-
 abbrev pub shown_of : Completion → Shown
 shown_of c = record { docs = c.docs; word = shown_word c.word }
 

@@ -6,7 +6,7 @@
 --   with_next x ts        the tokens with one character more
 --   tokens cs             the tokens of the characters cs, the newest first; of none []
 --   size ts               the bytes of the text that has these tokens
-use Rattle.std.specs.Prelude.{ℕ, List, [], ◌∷◌, ◌++◌, ◌+◌, ◌||◌, ◌==◌, length, if◌then◌else◌}
+use Rattle.std.specs.Prelude.{ℕ, List, [], ◌∷◌, ◌++◌, ◌+◌, ◌||◌, ◌==◌, length, fold, if◌then◌else◌}
 use Rattle.std.specs.Char.{encode_utf8}
 use Rattle.cs_model.specs.declared.kinds.Class.{Class}
 use Rattle.cs_model.specs.declared.kinds.Class.TheVariants as c
@@ -69,8 +69,7 @@ with_next x ts = grown (class_of x) (encode_utf8 x) ts
 
 -- the tokens ts with characters behind them; with none ts
 abbrev pub tokens_after : List Token → List ℕ → List Token
-tokens_after ts [] = ts
-tokens_after ts (x ∷ xs) = tokens_after (with_next x ts) xs
+tokens_after ts xs = fold (λ us x. with_next x us) ts xs
 
 -- the tokens of a text, the newest first; of no text none
 abbrev pub tokens : List ℕ → List Token

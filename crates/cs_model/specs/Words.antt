@@ -4,7 +4,7 @@
 --
 --   is_word_char c    whether the character c is part of a word
 --   is_gap c          whether it is not
---   is_some_run cs    whether the characters are a run at all, which has one or more
+--   is_filled xs      whether the list has an entry, as a run or a line has
 --   runs cs           the maximal runs of word characters among the characters cs, in order
 --   fitting room cs   the longest prefix of cs whose characters take at most `room` bytes together
 --   cut cs            the bytes of the longest prefix of cs that takes at most 120 of them
@@ -20,6 +20,7 @@ use Rattle.unicode.specs.GeneralCategory.{general_category}
 use Rattle.unicode.specs.GeneralCategoryGroup.{in_group}
 use Rattle.ucd_category.specs.declared.GeneralCategory.{GeneralCategory}
 use Rattle.ucd_category.specs.declared.GeneralCategoryGroup.TheVariants.{Letter, Mark, Number}
+use Rattle.cs_base.specs.declared.limits.TheConstants.{MAX_PLAIN_WORD_BYTES}
 use Rattle.cs_model.specs.KeyText.{norm}
 
 -- the category is in one of the groups L, M and N
@@ -34,13 +35,13 @@ is_word_char c = if nat_lt c 128 then is_ascii_alphanumeric c else is_word_categ
 abbrev pub is_gap : ℕ → Bool
 is_gap c = not (is_word_char c)
 
--- between two gaps that stand side by side there is no run
-abbrev pub is_some_run : {X : Type 0} → List X → Bool
-is_some_run cs = nat_lt 0 (length cs)
+-- it has one entry or more
+abbrev pub is_filled : {X : Type 0} → List X → Bool
+is_filled xs = nat_lt 0 (length xs)
 
--- the pieces between the other characters that are not empty, so none where each character is another
+-- the pieces between the gaps that are not empty, so none where each character is a gap
 abbrev pub runs : List ℕ → List (List ℕ)
-runs cs = filter is_some_run (slice_split is_gap cs)
+runs cs = filter is_filled (slice_split is_gap cs)
 
 -- the longest prefix of whole characters that takes at most `room` bytes: all of cs where it fits, and none of it where
 -- its first character doesn't
@@ -50,7 +51,7 @@ fitting room (c ∷ cs) = if nat_le (len_utf8 c) room then c ∷ fitting (room -
 
 -- its bytes, where there is room for 120
 unfoldable pub cut : List ℕ → List ℕ
-cut cs = encode_utf8_all (fitting 120 cs)
+cut cs = encode_utf8_all (fitting MAX_PLAIN_WORD_BYTES cs)
 
 -- one word for each run
 abbrev pub words_of : List ℕ → List (List ℕ)

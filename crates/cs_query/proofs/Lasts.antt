@@ -5,11 +5,7 @@
 use Rattle.std.proofs.Common.{◌≡◌, List, [], ◌∷◌, ◌++◌, reverse, refl, ap, ◌∙◌, sym}
 use Rattle.std.proofs.lemmas.List.{reverse-append}
 use Rattle.cs_model.specs.Grammar.{on_last}
-
-on_last-append : {X : Type 0} (f : X → X) (xs : List X) (x : X) → on_last f (xs ++ x ∷ []) ≡ xs ++ f x ∷ []
-on_last-append f [] x = refl
-on_last-append f (y ∷ []) x = refl
-on_last-append f (y ∷ z ∷ xs) x = ap (λ l. y ∷ l) (on_last-append f (z ∷ xs) x)
+use Rattle.cs_model.proofs.KeyLemmas.{on_last-append}
 
 -- in the form in which the search finds its arguments
 pub on_last_at : {X : Type 0} (f : X → X) (ys xs zs : List X) (x : X) → ys ≡ xs ++ x ∷ [] → zs ≡ xs ++ f x ∷ [] → zs ≡ on_last f ys

@@ -22,6 +22,7 @@ use Rattle.cs_model.specs.Keys.{last_of, prefix_in, last_atom, chain_prefix, par
 use Rattle.cs_model.proofs.PieceTokens.{both_second, chars_some}
 use Rattle.cs_model.proofs.SizeLemmas.{encodes-append}
 use Rattle.cs_model.proofs.KeyLemmas.{is_colon, left_more, left_stop, left_empty}
+use Rattle.cs_text.proofs.SplitLemmas.{scalars_back}
 use Rattle.cs_query.specs.Printing.{Continues}
 
 -- ---- last entries
@@ -61,16 +62,12 @@ chars_less rest next c e u v =
 split_less : (q : Query) (p rest next : List ℕ) (c : ℕ) (ns : List Narrower) (h : Narrowing q p rest ns) → chars rest ≡ chars next ++ c ∷ [] → chars p ≡ chars next ++ (c ∷ h.cut)
 split_less q p rest next c ns h e = h.split ∙ ap (λ l. l ++ h.cut) e ∙ append_assoc (chars next) (c ∷ []) h.cut
 
-scalars_behind : (xs ys : List ℕ) → all_scalars (xs ++ ys) ≡ true → all_scalars ys ≡ true
-scalars_behind [] ys h = h
-scalars_behind (x ∷ xs) ys h = scalars_behind xs ys (both_second _ (all_scalars (xs ++ ys)) h)
-
 pub continues : (q : Query) (p rest next : List ℕ) (c : ℕ) (ns : List Narrower) → Narrowing q p rest ns → rest ≡ next ++ encode_utf8 c → IsUtf8 p → IsUtf8 rest → IsUtf8 next → Continues next p
 continues q p rest next c ns h e u ur un =
     let split : chars p ≡ chars next ++ (c ∷ h.cut) = split_less q p rest next c ns h (chars_less rest next c e ur un) in
     record {
       more = encode_utf8_all (c ∷ h.cut);
-      utf8 = (c ∷ h.cut, (scalars_behind (chars next) (c ∷ h.cut) (ap all_scalars (sym split) ∙ scalars-chars p u), refl));
+      utf8 = (c ∷ h.cut, (scalars_back (chars next) (c ∷ h.cut) (ap all_scalars (sym split) ∙ scalars-chars p u), refl));
       same = sym (encodes-chars p u) ∙ ap encode_utf8_all split ∙ encodes-append (chars next) (c ∷ h.cut) ∙ ap (λ l. l ++ encode_utf8_all (c ∷ h.cut)) (encodes-chars next un);
     }
 

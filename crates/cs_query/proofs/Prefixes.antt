@@ -9,7 +9,7 @@ use Rattle.cs_base.specs.declared.query.Query.{Query}
 use Rattle.cs_model.proofs.RefusalLemmas.{take_take}
 use Rattle.cs_model.specs.Tokens.{Token, with_next, tokens_after, tokens, size}
 use Rattle.cs_model.specs.Grammar.{reading, steps, query_of, query_of_tokens}
-use Rattle.cs_model.specs.Refusals.{verdict, depth, place_of, Fault, Bad, Limit, IsAccepted, IsRefused}
+use Rattle.cs_model.specs.Refusals.{verdict, depth, place_of, QueryRefusal, Bad, Limit, IsAccepted, IsRefused}
 use Rattle.cs_query.specs.declared.fault.Stop.{Stop}
 use Rattle.cs_query.specs.declared.fault.Stop.TheVariants as stops
 use Rattle.cs_query.specs.declared.reader.Tail.{Tail}
@@ -102,7 +102,7 @@ one_more cs i at x r next h within same f =
       bytes = ap size (tokens_more cs i within) ∙ size_next (get_or cs i 0) (tokens (take i cs)) ∙ omega (arith, h.bytes, long);
     }
 
-at_fault : (cs : List ℕ) (i at x : ℕ) (r : Reader) (fault : Fault) (h : HasRead cs i at r) → i < length cs → x ≡ get_or cs i 0
+at_fault : (cs : List ℕ) (i at x : ℕ) (r : Reader) (fault : QueryRefusal) (h : HasRead cs i at r) → i < length cs → x ≡ get_or cs i 0
     → verdict (with_next x (held r.tail h.follows.0)) ≡ Some fault → IsRefused cs at fault
 at_fault cs i at x r fault h within same v = record {
   count = i;

@@ -1,13 +1,13 @@
 //! The words of facets.
 ghost use Rattle.std.specs.Prelude.{◌≡◌, IfOk};
-ghost use Rattle.cs_model.specs.Grammar.{facet};
+ghost use Rattle.cs_model.specs.Collection.{named};
 
 use cs_base::{Memory, Text};
 use std::alloc::Global;
 
 /// The word of a facet.
 pub fn facet(alloc: Global, name: &str, value: &str) -> Result<Text, Memory>
-    ensures { IfOk result (λ t. t ≡ facet name.now value.now) }
+    ensures { IfOk result (λ t. t ≡ named name.now value.now) }
 {
     let mut word = Text::new(alloc);
     word.push(':')?;

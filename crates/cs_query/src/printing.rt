@@ -1,7 +1,7 @@
 //! The canonical text of a query.
 ghost use Rattle.std.specs.Prelude.{◌≡◌, [], ◌++◌, IfOk, OnOk, codes, if◌then◌else◌};
 ghost use Rattle.cs_model.specs.Canonical.{canonical, canonical_atom, canonical_chain, canonical_linked, canonical_part, canonical_parts, link_text};
-ghost use Rattle.cs_model.specs.Requests.{shown_word};
+ghost use Rattle.cs_model.specs.Collection.{shown_word};
 ghost use Rattle.cs_query.specs.Printing.{separator};
 
 use cs_base::{Atom, Chain, Link, Linked, Memory, Part, Query, Text};

@@ -13,7 +13,7 @@ use Rattle.std.specs.declared.cmp.Ordering.TheVariants.{Less}
 use Rattle.std.proofs.lemmas.List.{length-map, drop_all, map-append, take_more}
 use Rattle.std.proofs.lemmas.Bool.Decides.{nat_tests}
 use Rattle.cs_base.specs.Members.{members_in}
-use Rattle.cs_base.specs.Orders.{by_place}
+use Rattle.cs_base.specs.Orders.{by_place, docs_of}
 use Rattle.cs_base.specs.declared.doc.Base.{Base}
 use Rattle.cs_base.specs.declared.doc.Base.TheVariants.{All}
 use Rattle.cs_base.specs.declared.doc.Post.{Post}
@@ -22,7 +22,7 @@ use Rattle.std.specs.FinMap.{nat_cmp-IsAntisymmetric}
 use Rattle.std.specs.Cmp.{nat_cmp_total}
 use Rattle.cs_base.proofs.MembersLemmas.{members_are}
 use Rattle.cs_rank.specs.Groups.{scored_row, group, groups}
-use Rattle.cs_rank.specs.DocScores.{greatest, of_doc, docs_of, best_row, with_base}
+use Rattle.cs_rank.specs.DocScores.{greatest, of_doc, best_row, with_base}
 use Rattle.cs_rank.proofs.Places.{rises}
 use Rattle.cs_rank.proofs.Climbs.{Climbs, fresh, fresh-rises, fresh-listed, docs_climb}
 

@@ -2,7 +2,6 @@
 --
 --   greatest ns           the greatest of some numbers
 --   of_doc d rows         the rows of document d
---   docs_of rows          the documents of the rows, ascending, each once
 --   best_row rows d       document d with the greatest score of its rows
 --   base_score base d     what the earlier parts gave document d
 --   with_base base h      h, with what the earlier parts gave it added
@@ -10,9 +9,7 @@
 --   IsBase base           what a base keeps: its documents ascend, and no score is above 2^20
 --   PassedBelow hs n d    the first n of hs are of documents below d
 use Rattle.std.specs.Prelude.{ℕ, ◌+◌, ◌≤◌, ◌^◌, ◌<◌, max, length, slice_index_or, List, [], ◌∷◌, map, All, filter, find, option_map, unwrap_or, ◌==◌}
-use Rattle.std.specs.List.Sorted.{IsStrictlySortedBy}
-use Rattle.std.specs.Ordering.{nat_cmp, on}
-use Rattle.cs_base.specs.Members.{members_in}
+use Rattle.cs_base.specs.Orders.{AreByDoc, docs_of}
 use Rattle.cs_base.specs.declared.doc.Base.{Base}
 use Rattle.cs_base.specs.declared.doc.Base.TheVariants as base
 use Rattle.cs_base.specs.declared.doc.Post.{Post}
@@ -26,10 +23,6 @@ greatest (n ∷ ns) = max n (greatest ns)
 -- the rows of document d, in their order
 abbrev pub of_doc : ℕ → List Post → List Post
 of_doc d rows = filter (λ p. p.doc == d) rows
-
--- the documents of the rows in ascending order, each once; none where there is no row
-abbrev pub docs_of : List Post → List ℕ
-docs_of rows = members_in nat_cmp (map (λ p. p.doc) rows)
 
 -- what the earlier parts gave document d: 0 where there is no earlier part, and for a document that isn't listed
 abbrev pub base_score : Base → ℕ → ℕ
@@ -51,7 +44,7 @@ scores base rows = map (λ d. with_base base (best_row rows d)) (docs_of rows)
 -- the listed documents strictly ascend, and none has a score above 2^20
 abbrev pub IsBase : Base → Type 0
 IsBase base.All = Unit {0}
-IsBase (base.Listed listed) = IsStrictlySortedBy (on (λ h. h.doc) nat_cmp) listed × All (λ h. h.score ≤ 2 ^ 20) listed
+IsBase (base.Listed listed) = AreByDoc listed × All (λ h. h.score ≤ 2 ^ 20) listed
 
 -- the first n listed documents are there, and each of them is below d
 abbrev pub PassedBelow : List Scored → ℕ → ℕ → Type 0

@@ -2,11 +2,11 @@
 ghost use Rattle.std.specs.Prelude.{◌≡◌, ◌≤◌, ◌<◌, ◌^◌, ℕ, List, ◌∷◌, ◌++◌, map, length, IfOk, All, slice_index_or};
 ghost use Rattle.std.specs.List.Sorted.{IsStrictlySortedBy};
 ghost use Rattle.std.specs.Ordering.{nat_cmp, on};
-ghost use Rattle.cs_base.specs.Orders.{by_place};
+ghost use Rattle.cs_base.specs.Orders.{by_place, docs_of};
 ghost use Rattle.cs_base.specs.declared.doc.Scored.{Scored};
 ghost use Rattle.cs_base.specs.declared.doc.Base.TheVariants.{Listed};
 ghost use Rattle.cs_rank.specs.Groups.{group, groups, scored_row};
-ghost use Rattle.cs_rank.specs.DocScores.{best_row, docs_of, base_score, with_base, scores, IsBase, PassedBelow};
+ghost use Rattle.cs_rank.specs.DocScores.{best_row, base_score, with_base, scores, IsBase, PassedBelow};
 
 use cs_base::{Base, Memory, Scored, Seq};
 use cs_cols::Cols;

@@ -23,6 +23,7 @@ use Rattle.cs_base.proofs.OrdersLemmas.{by_rank_total, by_rank_exact}
 use Rattle.cs_rank.proofs.Places.{rises}
 use Rattle.cs_tables.specs.declared.tables.Completion.{Completion}
 use Rattle.cs_tables.specs.Listings.{by_docs, table, completion, completion_of}
+use Rattle.cs_tables.proofs.WordsLemmas.{eq_is}
 use Rattle.cs_tables.specs.Marks.{counted_word, words_of}
 
 by_docs_total : IsTotalOrder by_docs
@@ -52,9 +53,6 @@ rise_as (h ∷ hs) up = (below_as h hs up.0, rise_as hs up.1)
 any_as : (q : Completion) (hs : List Scored) → list_any (eq_by_cmp by_docs q) (map completion hs) ≡ list_any (eq_by_cmp by_rank (scored_of q)) hs
 any_as q [] = refl
 any_as q (h ∷ hs) = ap (λ b. eq_by_cmp by_rank (scored_of q) h || b) (any_as q hs)
-
-eq_is : (q x : ℕ) → eq_by_cmp nat_cmp q x ≡ true → q ≡ x
-eq_is q x e = grind (arith, nat_tests)
 
 eq_itself : (x : ℕ) → eq_by_cmp nat_cmp x x ≡ true
 eq_itself x = grind (arith, nat_tests)

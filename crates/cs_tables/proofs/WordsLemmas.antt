@@ -66,7 +66,7 @@ numbers_rise count lo (suc n) =
       | false ↦ numbers_rise count (lo + 1) n
     ]
 
-eq_is : (q x : ℕ) → eq_by_cmp nat_cmp q x ≡ true → q ≡ x
+pub eq_is : (q x : ℕ) → eq_by_cmp nat_cmp q x ≡ true → q ≡ x
 eq_is q x e = grind (arith, nat_tests)
 
 eq_of : (q x : ℕ) → q ≡ x → eq_by_cmp nat_cmp q x ≡ true

@@ -7,7 +7,7 @@ use Rattle.std.proofs.lemmas.Bool.{cases_lt}
 use Rattle.std.proofs.lemmas.Bool.Decides.{nat_tests}
 use Rattle.std.proofs.lemmas.List.{get_or-append-add, length-take-le}
 use Rattle.std.proofs.lemmas.Str.{encode_same, encodes-chars, length-encode, len_utf8_bounds, scalars-chars, IsUtf8-take, IsCharBoundary-at_seam}
-use Rattle.cs_model.specs.Words.{fitting, cut, is_some_run}
+use Rattle.cs_model.specs.Words.{fitting, cut, is_filled}
 use Rattle.cs_text.proofs.SplitLemmas.{second_from}
 
 -- ---- a place behind a prefix
@@ -93,7 +93,7 @@ cut-last_place bs k u w p l =
 
 -- ---- a run has a word
 
-pub cut-some : (cs : List ℕ) → is_some_run cs ≡ true → 1 ≤ length (cut cs)
+pub cut-some : (cs : List ℕ) → is_filled cs ≡ true → 1 ≤ length (cut cs)
 unfolding cut
 cut-some [] h = (cc)
 cut-some (c ∷ cs) h =
@@ -104,10 +104,10 @@ cut-some (c ∷ cs) h =
     length-append (encode_utf8 c) _ ∙ ap (λ n. n + length (encode_utf8_all (fitting (120 - len_utf8 c) cs))) (length-encode c) in
     omega (arith, ap (λ ds. length (encode_utf8_all ds)) left, long, bounds)
 
-some_from_bytes : (cs : List ℕ) → 1 ≤ length (encode_utf8_all cs) → is_some_run cs ≡ true
+some_from_bytes : (cs : List ℕ) → 1 ≤ length (encode_utf8_all cs) → is_filled cs ≡ true
 some_from_bytes [] h = absurd (omega (arith, h))
 some_from_bytes (c ∷ cs) h = grind (arith, nat_tests)
 
 -- the characters of a text that has bytes are some, and of one that has none, none
-pub some_chars : (bs : List ℕ) → IsUtf8 bs → 1 ≤ length bs → is_some_run (chars bs) ≡ true
+pub some_chars : (bs : List ℕ) → IsUtf8 bs → 1 ≤ length bs → is_filled (chars bs) ≡ true
 some_chars bs u h = some_from_bytes (chars bs) (subst (λ v. 1 ≤ length v) (sym (encodes-chars bs u)) h)

@@ -1,4 +1,5 @@
 pub mod CutLemmas
+pub mod Digits
 pub mod PiecesLemmas
 pub mod SlugLemmas
 pub mod SplitLemmas

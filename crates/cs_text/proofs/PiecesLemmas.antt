@@ -8,7 +8,7 @@ use Rattle.std.proofs.lemmas.Bool.Decides.{nat_tests}
 use Rattle.std.proofs.lemmas.List.{map-append, take_all}
 use Rattle.std.proofs.lemmas.List.Elements.{filter-append}
 use Rattle.std.proofs.lemmas.Str.{chars-nil}
-use Rattle.cs_model.specs.Words.{is_some_run, cut}
+use Rattle.cs_model.specs.Words.{is_filled, cut}
 use Rattle.cs_text.specs.Pieces.{words_in, ascii_words_in}
 use Rattle.cs_text.proofs.CutLemmas.{cut-some}
 
@@ -27,7 +27,7 @@ nil_from_test (b ∷ bs) h = absurd (omega (arith, none_length (length (b ∷ bs
 pub words_in-empty : (bs : List ℕ) → (length bs == 0) ≡ true → words_in (chars bs ∷ []) ≡ []
 words_in-empty bs h = ap (λ cs. words_in (cs ∷ [])) (ap chars (nil_from_test bs h) ∙ chars-nil)
 
-pub words_in-some : (cs : List ℕ) → is_some_run cs ≡ true → words_in (cs ∷ []) ≡ cut cs ∷ []
+pub words_in-some : (cs : List ℕ) → is_filled cs ≡ true → words_in (cs ∷ []) ≡ cut cs ∷ []
 words_in-some cs h = rw h
 
 pub ascii_words_in-some : (bs : List ℕ) → (length bs == 0) ≡ false → ascii_words_in (bs ∷ []) ≡ take 120 bs ∷ []
@@ -42,16 +42,16 @@ take-min n bs = ⊎_elim
 -- ---- pieces and one more
 
 pub words_in-append : (ps qs : List (List ℕ)) → words_in (ps ++ qs) ≡ words_in ps ++ words_in qs
-words_in-append ps qs = ap (map cut) (filter-append is_some_run ps qs) ∙ map-append cut (filter is_some_run ps) (filter is_some_run qs)
+words_in-append ps qs = ap (map cut) (filter-append is_filled ps qs) ∙ map-append cut (filter is_filled ps) (filter is_filled qs)
 
 -- each of them has bytes
 abbrev pub AllSome : List (List ℕ) → Type 0
 AllSome = AllByRecursion (λ w. 1 ≤ length w)
 
-all_some_at : (b : Bool) (p : List ℕ) (ps : List (List ℕ)) → is_some_run p ≡ b → AllSome (words_in ps) → AllSome (map cut (cond b (p ∷ filter is_some_run ps) (filter is_some_run ps)))
+all_some_at : (b : Bool) (p : List ℕ) (ps : List (List ℕ)) → is_filled p ≡ b → AllSome (words_in ps) → AllSome (map cut (cond b (p ∷ filter is_filled ps) (filter is_filled ps)))
 all_some_at true p ps is h = (cut-some p is, h)
 all_some_at false p ps is h = h
 
 pub AllSome-words_in : (ps : List (List ℕ)) → AllSome (words_in ps)
 AllSome-words_in [] = tt
-AllSome-words_in (p ∷ ps) = all_some_at (is_some_run p) p ps refl (AllSome-words_in ps)
+AllSome-words_in (p ∷ ps) = all_some_at (is_filled p) p ps refl (AllSome-words_in ps)

@@ -4,7 +4,7 @@ use Rattle.std.specs.Bool.{◌==◌}
 use Rattle.std.specs.List.{join_with_byte}
 use Rattle.std.specs.Prelude.{Some, None}
 use Rattle.std.specs.Str.{chars}
-use Rattle.cs_model.specs.Words.{is_some_run, cut, slug_of}
+use Rattle.cs_model.specs.Words.{is_filled, cut, slug_of}
 use Rattle.cs_text.specs.Pieces.{words_in, joined_with}
 use Rattle.cs_text.proofs.PiecesLemmas.{AllSome, AllSome-words_in, words_in-append, words_in-some, none_length}
 
@@ -27,7 +27,7 @@ joined_with-word ([] ∷ ws) w h = absurd (omega (arith, h.0))
 joined_with-word ((b ∷ v) ∷ []) w h = refl
 joined_with-word ((b ∷ v) ∷ u ∷ ws) w h = join-more (b ∷ v) (u ∷ ws) w
 
-joined_with-words_at : (b : Bool) (ws : List (List ℕ)) (p : List ℕ) → is_some_run p ≡ b → AllSome ws → joined_with (join_with_byte 95 ws) (words_in (p ∷ [])) ≡ join_with_byte 95 (ws ++ words_in (p ∷ []))
+joined_with-words_at : (b : Bool) (ws : List (List ℕ)) (p : List ℕ) → is_filled p ≡ b → AllSome ws → joined_with (join_with_byte 95 ws) (words_in (p ∷ [])) ≡ join_with_byte 95 (ws ++ words_in (p ∷ []))
 joined_with-words_at true ws p is h = ap (joined_with (join_with_byte 95 ws)) (words_in-some p is) ∙ joined_with-word ws (cut p) h ∙ ap (λ vs. join_with_byte 95 (ws ++ vs)) (sym (words_in-some p is))
 joined_with-words_at false ws p is h =
     let none : words_in (p ∷ []) ≡ [] = rw is in
@@ -35,7 +35,7 @@ joined_with-words_at false ws p is h =
 
 -- one piece more
 pub joined_with-piece : (ps : List (List ℕ)) (p : List ℕ) → joined_with (join_with_byte 95 (words_in ps)) (words_in (p ∷ [])) ≡ join_with_byte 95 (words_in (ps ++ p ∷ []))
-joined_with-piece ps p = joined_with-words_at (is_some_run p) (words_in ps) p refl (AllSome-words_in ps) ∙ ap (join_with_byte 95) (sym (words_in-append ps (p ∷ [])))
+joined_with-piece ps p = joined_with-words_at (is_filled p) (words_in ps) p refl (AllSome-words_in ps) ∙ ap (join_with_byte 95) (sym (words_in-append ps (p ∷ [])))
 
 -- ---- whether there is a word
 

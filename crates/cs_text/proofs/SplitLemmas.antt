@@ -42,7 +42,7 @@ scalars_front : (xs ys : List ℕ) → all_scalars (xs ++ ys) ≡ true → all_s
 scalars_front [] ys h = refl
 scalars_front (x ∷ xs) ys h = both_from _ (all_scalars (xs ++ ys)) (all_scalars xs) h (scalars_front xs ys)
 
-scalars_back : (xs ys : List ℕ) → all_scalars (xs ++ ys) ≡ true → all_scalars ys ≡ true
+pub scalars_back : (xs ys : List ℕ) → all_scalars (xs ++ ys) ≡ true → all_scalars ys ≡ true
 scalars_back [] ys h = h
 scalars_back (x ∷ xs) ys h = scalars_back xs ys (second_from _ (all_scalars (xs ++ ys)) h)
 

@@ -7,7 +7,7 @@ use Rattle.std.proofs.lemmas.List.Elements.{All-from_recursion}
 use Rattle.std.specs.Str.{IsUtf8}
 use Rattle.std.specs.Char.{len_utf8}
 use Rattle.std.proofs.Math.Utf8.{scalar, scalars}
-use Rattle.cs_model.specs.Words.{is_some_run, fitting, cut, words_of, is_gap}
+use Rattle.cs_model.specs.Words.{is_filled, fitting, cut, words_of, is_gap}
 
 -- these characters are characters that text may have
 abbrev AreScalars : List ℕ → Type 0
@@ -58,9 +58,9 @@ kept : (b : Bool) (p : List ℕ) (ps : List (List ℕ)) → AreScalars p → All
 kept true p ps h g = (cut_utf8 p h, g)
 kept false p ps h g = g
 
-each : (ps : List (List ℕ)) → AllByRecursion AreScalars ps → AllByRecursion IsUtf8 (map cut (filter is_some_run ps))
+each : (ps : List (List ℕ)) → AllByRecursion AreScalars ps → AllByRecursion IsUtf8 (map cut (filter is_filled ps))
 each [] h = tt
-each (p ∷ ps) h = kept (is_some_run p) p (filter is_some_run ps) h.0 (each ps h.1)
+each (p ∷ ps) h = kept (is_filled p) p (filter is_filled ps) h.0 (each ps h.1)
 
 pub words_of-utf8 : (cs : List ℕ) → AreScalars cs → All IsUtf8 (words_of cs)
 words_of-utf8 cs h = All-from_recursion IsUtf8 (words_of cs) (each (slice_split is_gap cs) (pieces cs h))

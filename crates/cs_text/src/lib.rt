@@ -9,6 +9,7 @@ mod character;
 mod key_text;
 mod listing;
 mod name;
+mod number;
 mod piece;
 #[cfg(test)]
 mod tests;
@@ -18,4 +19,5 @@ pub use character::is_word_char;
 pub use key_text::norm;
 pub use listing::words;
 pub use name::has_name_form;
+pub use number::{has_digits, number_of};
 pub use value::slug;

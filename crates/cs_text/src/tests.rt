@@ -5,9 +5,24 @@ use cs_base::Word;
 use std::alloc::{AllocError, Global};
 use std::test::Fail;
 
-// A text, its key text, and its words with `_` between each two, which are its slug too.
+// Each row: a text, its key text, and its words with `_` between each two, which are its slug too.
+fn check(rt: &impl Abort, alloc: Global, rows: &[(&str, &str, &str)]) -> Result<(), Fail> {
+    for (text, key, joined) in rows {
+        let found = words(alloc, text)?;
+        let listed = listed(alloc, found.as_slice())?;
+        let given = slug(alloc, text)?;
+        assert_eq!(rt; norm(alloc, text)?.as_str(), *key);
+        assert_eq!(rt; listed.as_slice(), joined.as_bytes(), "words of {text}");
+        assert_eq!(rt; given.is_none(), joined.is_empty(), "slug of {text}");
+        if let Some(slug) = given {
+            assert_eq!(rt; slug.as_str(), *joined, "slug of {text}");
+        }
+    }
+    Ok(())
+}
+
 #[test]
-fn texts_have_the_keys_words_and_slugs_of_other_tables(rt: HostRuntime) -> Result<(), Fail> {
+fn texts_of_latin_letters_are_as_in_other_tables(rt: HostRuntime) -> Result<(), Fail> {
     let rows = [
         // the empty text
         ("", "", ""),
@@ -29,6 +44,17 @@ fn texts_have_the_keys_words_and_slugs_of_other_tables(rt: HostRuntime) -> Resul
         ("\u{130}stanbul", "i\u{307}stanbul", "i\u{307}stanbul"),
         // dotless i
         ("\u{131}\u{130}iI", "\u{131}i\u{307}ii", "\u{131}i\u{307}ii"),
+        // ligatures
+        ("\u{FB01}ne \u{FB03}", "fine ffi", "fine_ffi"),
+        // signs that are letters by their key
+        ("\u{212A} \u{212B}", "k a\u{30A}", "k_a\u{30A}"),
+    ];
+    check(&rt, rt.alloc(), &rows)
+}
+
+#[test]
+fn texts_of_other_scripts_are_as_in_other_tables(rt: HostRuntime) -> Result<(), Fail> {
+    let rows = [
         // final sigma
         (
             "\u{3A3}\u{399}\u{3A3}\u{3A5}\u{3A6}\u{39F}\u{3A3} \u{3C2}",
@@ -47,16 +73,6 @@ fn texts_have_the_keys_words_and_slugs_of_other_tables(rt: HostRuntime) -> Resul
             "\u{663}\u{664} \u{969} \u{2177}\u{2460}",
             "\u{663}\u{664}_\u{969}_\u{2177}\u{2460}",
         ),
-        // a mark in front
-        ("\u{301}abc", "\u{301}abc", "\u{301}abc"),
-        // a mark alone
-        ("a \u{301} b", "a \u{301} b", "a_\u{301}_b"),
-        // ligatures
-        ("\u{FB01}ne \u{FB03}", "fine ffi", "fine_ffi"),
-        // a sign that decomposes to a mark
-        ("a\u{2260}b", "a=\u{338}b", "a_\u{338}b"),
-        // signs that are letters by their key
-        ("\u{212A} \u{212B}", "k a\u{30A}", "k_a\u{30A}"),
         // iota below
         ("\u{391}\u{345}", "\u{3B1}\u{3B9}", "\u{3B1}\u{3B9}"),
         // ideographs
@@ -65,8 +81,6 @@ fn texts_have_the_keys_words_and_slugs_of_other_tables(rt: HostRuntime) -> Resul
             "\u{4E2D}\u{6587}\u{3001}\u{65E5}\u{672C}",
             "\u{4E2D}\u{6587}_\u{65E5}\u{672C}",
         ),
-        // punctuation and a format character
-        ("a\u{B7}b c\u{AD}d", "a\u{B7}b c\u{AD}d", "a_b_c_d"),
         // Cyrillic
         (
             "\u{414}\u{43E}\u{43C} \u{439}",
@@ -74,18 +88,22 @@ fn texts_have_the_keys_words_and_slugs_of_other_tables(rt: HostRuntime) -> Resul
             "\u{434}\u{43E}\u{43C}_\u{438}\u{306}",
         ),
     ];
-    for (text, key, joined) in rows {
-        let found = words(rt.alloc(), text)?;
-        let listed = listed(rt.alloc(), found.as_slice())?;
-        let given = slug(rt.alloc(), text)?;
-        assert_eq!(rt; norm(rt.alloc(), text)?.as_str(), key);
-        assert_eq!(rt; listed.as_slice(), joined.as_bytes(), "words of {text}");
-        assert_eq!(rt; given.is_none(), joined.is_empty(), "slug of {text}");
-        if let Some(slug) = given {
-            assert_eq!(rt; slug.as_str(), joined, "slug of {text}");
-        }
-    }
-    Ok(())
+    check(&rt, rt.alloc(), &rows)
+}
+
+#[test]
+fn texts_with_marks_and_signs_are_as_in_other_tables(rt: HostRuntime) -> Result<(), Fail> {
+    let rows = [
+        // a mark in front
+        ("\u{301}abc", "\u{301}abc", "\u{301}abc"),
+        // a mark alone
+        ("a \u{301} b", "a \u{301} b", "a_\u{301}_b"),
+        // a sign that decomposes to a mark
+        ("a\u{2260}b", "a=\u{338}b", "a_\u{338}b"),
+        // punctuation and a format character
+        ("a\u{B7}b c\u{AD}d", "a\u{B7}b c\u{AD}d", "a_b_c_d"),
+    ];
+    check(&rt, rt.alloc(), &rows)
 }
 
 // A word of `count` letters and what follows them, and what is kept of both.

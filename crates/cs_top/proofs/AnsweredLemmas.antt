@@ -1,15 +1,16 @@
 -- How far a script has been answered.
 use Rattle.std.proofs.Common.{◌≡◌, ◌≢◌, ◌⊎◌, ℕ, ◌+◌, ◌≤◌, Bool, true, false, List, [], ◌∷◌, ◌++◌, length, take, drop, cond, append_assoc, append-nil, inl, inr, refl, sym, ◌∙◌, ap, subst, arith}
-use Rattle.std.specs.Prelude.{Option, Some, None, filter}
-use Rattle.std.specs.List.{enumerate_from}
-use Rattle.std.specs.Option.{option_map, option_or}
+use Rattle.std.specs.Prelude.{Option, Some, None, filter, map, not}
+use Rattle.std.specs.List.{enumerate_from, prefix_len}
+use Rattle.std.specs.Option.{option_map, is_none, unwrap_or}
 use Rattle.std.specs.Str.Lines.{lines}
 use Rattle.std.proofs.lemmas.List.{drop_all}
 use Rattle.cs_base.specs.Outside.{Grew}
-use Rattle.cs_model.specs.Collection.{has_bytes}
+use Rattle.cs_model.specs.Words.{is_filled}
 use Rattle.cs_model.specs.Corpus.{Corpus}
+use Rattle.cs_model.specs.First.{unless, first_reason}
 use Rattle.cs_model.specs.Outputs.{ScriptFault, IsAllowed, IsBegun, PutAll, line_fault, memory_text}
-use Rattle.cs_top.specs.Asking.{asks_join, first_fault, readable_before, readable_lines, ending_before, ending_of_lines}
+use Rattle.cs_top.specs.Asking.{asks_join, first_fault, is_readable, readable_lines, line_ending, ending_of_lines}
 use Rattle.cs_top.specs.Endings.{Ending, done, not_built, usage, refused, absent, failed, no_memory, script_refused}
 use Rattle.cs_top.specs.LineSteps.{Stops, Reaches, EndsAt}
 use Rattle.cs_top.specs.Runs.{IsAnswerNow, IsExpected, PutBy}
@@ -21,13 +22,13 @@ use Rattle.cs_top.proofs.GrewLemmas.{grew_none, grew_twice}
 
 -- ---- the lines from a place on
 abbrev kept : List (ℕ × List ℕ) → List (ℕ × List ℕ)
-kept ls = filter (λ l. has_bytes l.1) ls
+kept ls = filter (λ l. is_filled l.1) ls
 
 -- those that have bytes, each with its number
 abbrev pub lines_at : List ℕ → Place → List (ℕ × List ℕ)
 lines_at s p = kept (enumerate_from (p.number + 1) (lines (drop p.at s)))
 
-some_bytes : (l : List ℕ) → l ≢ [] → has_bytes l ≡ true
+some_bytes : (l : List ℕ) → l ≢ [] → is_filled l ≡ true
 some_bytes [] h = absurd (h refl)
 some_bytes (b ∷ l) h = grind arith
 
@@ -42,42 +43,43 @@ lines_at-end s p h = ap (λ x. kept (enumerate_from (p.number + 1) (lines x))) (
 
 -- ---- lines that are read, and the first that isn't
 module _ (l : ℕ × List ℕ) (ls : List (ℕ × List ℕ)) where
+  abbrev readable_by : Option ScriptFault → List (List ℕ)
+  readable_by f = map (λ m. m.1) (take (cond (is_none f) (1 + prefix_len is_readable ls) 0) (l ∷ ls))
+
+  abbrev ending_by : Option ScriptFault → Bool → Ending
+  ending_by f join = unwrap_or (first_reason (first_reason (option_map script_refused f ∷ unless (not join) not_built ∷ []) ∷ map line_ending ls)) done
+
   readable-read : line_fault l ≡ None → readable_lines (l ∷ ls) ≡ l.1 ∷ readable_lines ls
   unfolding readable_lines
-  readable-read h = ap (λ f. readable_before l.1 f (readable_lines ls)) h
+  readable-read h = ap readable_by h
 
   readable-fault : (f : ScriptFault) → line_fault l ≡ Some f → readable_lines (l ∷ ls) ≡ []
   unfolding readable_lines
-  readable-fault f h = ap (λ x. readable_before l.1 x (readable_lines ls)) h
+  readable-fault f h = ap readable_by h
 
   fault-read : line_fault l ≡ None → first_fault (l ∷ ls) ≡ first_fault ls
-  unfolding first_fault
-  fault-read h = ap (λ x. option_or x (first_fault ls)) h
+  fault-read h = ap (λ x. first_reason (x ∷ map line_fault ls)) h
 
   fault-here : (f : ScriptFault) → line_fault l ≡ Some f → first_fault (l ∷ ls) ≡ Some f
-  unfolding first_fault
-  fault-here f h = ap (λ x. option_or x (first_fault ls)) h
+  fault-here f h = ap (λ x. first_reason (x ∷ map line_fault ls)) h
 
   ending-fault : (f : ScriptFault) → line_fault l ≡ Some f → ending_of_lines (l ∷ ls) ≡ script_refused f
   unfolding ending_of_lines
-  ending-fault f h = ap (λ x. ending_before (option_or (option_map script_refused x) (cond (asks_join l.1) (Some not_built) None)) (ending_of_lines ls)) h
+  ending-fault f h = ap (λ x. ending_by x (asks_join l.1)) h
 
   ending-join : line_fault l ≡ None → asks_join l.1 ≡ true → ending_of_lines (l ∷ ls) ≡ not_built
   unfolding ending_of_lines
-  ending-join h j = ap (λ x. ending_before (option_or (option_map script_refused x) (cond (asks_join l.1) (Some not_built) None)) (ending_of_lines ls)) h
-      ∙ ap (λ b. ending_before (cond b (Some not_built) None) (ending_of_lines ls)) j
+  ending-join h j = ap (λ x. ending_by x (asks_join l.1)) h ∙ ap (ending_by None) j
 
   ending-next : line_fault l ≡ None → asks_join l.1 ≡ false → ending_of_lines (l ∷ ls) ≡ ending_of_lines ls
   unfolding ending_of_lines
-  ending-next h j = ap (λ x. ending_before (option_or (option_map script_refused x) (cond (asks_join l.1) (Some not_built) None)) (ending_of_lines ls)) h
-      ∙ ap (λ b. ending_before (cond b (Some not_built) None) (ending_of_lines ls)) j
+  ending-next h j = ap (λ x. ending_by x (asks_join l.1)) h ∙ ap (ending_by None) j
 
 readable-nil : readable_lines [] ≡ []
 unfolding readable_lines
 readable-nil = refl
 
 fault-nil : first_fault [] ≡ None
-unfolding first_fault
 fault-nil = refl
 
 ending-nil : ending_of_lines [] ≡ done

@@ -1,9 +1,9 @@
 -- The definitions on worked texts.
 use Rattle.std.proofs.Common.{◌≡◌, true, false, [], ◌∷◌, refl}
 use Rattle.std.specs.Prelude.{Some, None, codes}
-use Rattle.cs_model.specs.Collection.{collection_lines, columns, facet_pieces, has_name_form, first_of, too_large, bad_facet, too_many_words}
+use Rattle.cs_model.specs.Collection.{collection_lines, columns, facet_pieces, has_name_form, too_large, bad_facet, too_many_words, shown_word}
+use Rattle.cs_model.specs.First.{first_reason}
 use Rattle.cs_model.specs.Outputs.{script_lines}
-use Rattle.cs_model.specs.Requests.{shown_word}
 use Rattle.cs_model.specs.Answers.{begins, greatest_score}
 use Rattle.cs_top.specs.Asking.{ending_of_files, ending_of_lines}
 use Rattle.cs_top.specs.Commands.{command_of, ask, serve, trial}
@@ -35,7 +35,7 @@ names-digit : has_name_form (codes "1a") ≡ false
 names-digit = refl
 
 -- the first refusal that is there
-first-refusal : first_of (None ∷ Some (bad_facet 1) ∷ Some too_large ∷ []) ≡ Some (bad_facet 1)
+first-refusal : first_reason (None ∷ Some (bad_facet 1) ∷ Some too_large ∷ []) ≡ Some (bad_facet 1)
 first-refusal = refl
 
 -- a facet word is shown without its leading colon

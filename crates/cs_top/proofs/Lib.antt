@@ -1,7 +1,6 @@
 pub mod AnsweredLemmas
 pub mod AskLemmas
 pub mod CompleteLemmas
-pub mod Digits
 pub mod Examples
 pub mod GrewLemmas
 pub mod LineTexts

@@ -14,7 +14,6 @@ lines-last_return = refl
 
 -- a line above 4,096 bytes is too long, and no line from it on is read
 fault-long : first_fault ((3, replicate 4097 97) ∷ (4, 98 ∷ []) ∷ []) ≡ Some (script_line_too_long 3)
-unfolding first_fault
 fault-long = refl
 
 readable-long : readable_lines ((3, replicate 4097 97) ∷ (4, 98 ∷ []) ∷ []) ≡ []

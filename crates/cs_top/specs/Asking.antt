@@ -10,18 +10,20 @@
 --   ending_over c s       how it ends over the bytes of both files
 --   ending_of h c s       how it ends over these files where no call fails and memory is there: the first of the two names
 --                         that isn't held is said to be absent
-use Rattle.std.specs.Prelude.{ℕ, Bool, false, if◌then◌else◌, List, [], ◌∷◌, Option, Some, None}
-use Rattle.std.specs.Option.{option_map, option_or}
+use Rattle.std.specs.Prelude.{ℕ, Bool, false, not, List, [], ◌∷◌, map, take, Option, Some, None}
+use Rattle.std.specs.List.{prefix_len}
+use Rattle.std.specs.Option.{option_map, is_none, unwrap_or}
 use Rattle.std.specs.FinMap as map
 use Rattle.cs_base.specs.Outside.{Held, File}
-use Rattle.cs_model.specs.Collection.{Refusal}
+use Rattle.cs_model.specs.Collection.{CollectionRefusal}
 use Rattle.cs_model.specs.Corpus.{refusal}
-use Rattle.cs_model.specs.Parameters.{Refused, request_of, request_refusal}
+use Rattle.cs_model.specs.First.{unless, first_reason}
+use Rattle.cs_model.specs.Parameters.{RequestRefusal, request_of, request_refusal}
 use Rattle.cs_model.specs.Outputs.{ScriptFault, script_lines, line_fault}
 use Rattle.cs_engine.specs.Searching.{has_join}
 use Rattle.cs_top.specs.Endings.{Ending, done, not_built, refused, absent, script_refused}
 
-abbrev pub asks_join_by : List ℕ → Option Refused → Bool
+abbrev pub asks_join_by : List ℕ → Option RequestRefusal → Bool
 asks_join_by p None = has_join (request_of p).query
 asks_join_by p (Some r) = false
 
@@ -29,32 +31,26 @@ abbrev pub asks_join : List ℕ → Bool
 asks_join p = asks_join_by p (request_refusal p)
 
 -- ---- lines
-unfoldable pub first_fault : List (ℕ × List ℕ) → Option ScriptFault
-first_fault [] = None
-first_fault (l ∷ ls) = option_or (line_fault l) (first_fault ls)
+-- of no lines None
+abbrev pub first_fault : List (ℕ × List ℕ) → Option ScriptFault
+first_fault ls = first_reason (map line_fault ls)
 
--- a line in front of others, by its fault
-abbrev pub readable_before : List ℕ → Option ScriptFault → List (List ℕ) → List (List ℕ)
-readable_before l None ls = l ∷ ls
-readable_before l (Some f) ls = []
+abbrev pub is_readable : ℕ × List ℕ → Bool
+is_readable l = is_none (line_fault l)
 
+-- without their numbers
 unfoldable pub readable_lines : List (ℕ × List ℕ) → List (List ℕ)
-readable_lines [] = []
-readable_lines (l ∷ ls) = readable_before l.1 (line_fault l) (readable_lines ls)
+readable_lines ls = map (λ l. l.1) (take (prefix_len is_readable ls) ls)
 
+-- a fault goes before what the line asks
 abbrev pub line_ending : ℕ × List ℕ → Option Ending
-line_ending l = option_or (option_map script_refused (line_fault l)) (if asks_join l.1 then Some not_built else None)
-
-abbrev pub ending_before : Option Ending → Ending → Ending
-ending_before None e = e
-ending_before (Some first) e = first
+line_ending l = first_reason (option_map script_refused (line_fault l) ∷ unless (not (asks_join l.1)) not_built ∷ [])
 
 unfoldable pub ending_of_lines : List (ℕ × List ℕ) → Ending
-ending_of_lines [] = done
-ending_of_lines (l ∷ ls) = ending_before (line_ending l) (ending_of_lines ls)
+ending_of_lines ls = unwrap_or (first_reason (map line_ending ls)) done
 
 -- ---- both files
-abbrev pub answered_by : Option Refusal → List ℕ → List (ℕ × List ℕ)
+abbrev pub answered_by : Option CollectionRefusal → List ℕ → List (ℕ × List ℕ)
 answered_by None s = script_lines s
 answered_by (Some r) s = []
 
@@ -69,7 +65,7 @@ answered_of_files (Some f) (Some g) = answered f.bytes g.bytes
 abbrev pub answered_of : Held → List ℕ → List ℕ → List (ℕ × List ℕ)
 answered_of h c s = answered_of_files (map.get h c) (map.get h s)
 
-abbrev pub ending_by : Option Refusal → List ℕ → Ending
+abbrev pub ending_by : Option CollectionRefusal → List ℕ → Ending
 ending_by None s = ending_of_lines (script_lines s)
 ending_by (Some r) s = refused r
 

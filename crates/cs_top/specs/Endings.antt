@@ -11,14 +11,14 @@
 use Rattle.std.specs.Prelude.{ℕ, ◌+◌, ◌-◌, ◌^◌, ◌<◌, min, List, [], ◌∷◌, ◌++◌, Option, codes}
 use Rattle.std.specs.Fmt.{decimal}
 use Rattle.cs_base.specs.Outside.{Grew, GrewByPrefix}
-use Rattle.cs_model.specs.Collection.{Refusal, too_large, not_utf8, line_too_long, words_too_many, bad_facet, bad_name, too_many_docs, too_many_rows, too_many_words}
+use Rattle.cs_model.specs.Collection.{CollectionRefusal, too_large, not_utf8, line_too_long, words_too_many, bad_facet, bad_name, too_many_docs, too_many_rows, too_many_words}
 use Rattle.cs_model.specs.Outputs.{ScriptFault, script_line_too_long, script_line_not_utf8}
 
 pub data Ending : Type 0 where
   done : Ending
   not_built : Ending
   usage : Ending
-  refused : Refusal → Ending
+  refused : CollectionRefusal → Ending
   absent : List ℕ → Ending
   failed : Ending
   no_memory : Ending
@@ -38,7 +38,7 @@ status (script_refused f) = 8
 abbrev pub in_line : ℕ → List ℕ → List ℕ
 in_line n words = codes "line " ++ (decimal n ++ (codes ": " ++ words))
 
-abbrev pub refusal_words : Refusal → List ℕ
+abbrev pub refusal_words : CollectionRefusal → List ℕ
 refusal_words too_large = codes "too large"
 refusal_words (not_utf8 n) = in_line n (codes "not UTF-8")
 refusal_words (line_too_long n) = in_line n (codes "line too long")

@@ -11,7 +11,7 @@ use Rattle.std.specs.Prelude.{◌≡◌, ◌⊎◌, ◌≤◌, ℕ, List, Option
 use Rattle.cs_base.specs.Causes.{Rose}
 use Rattle.std.specs.FinMap as map
 use Rattle.cs_base.specs.Outside.{File, Held, size_of}
-use Rattle.cs_model.specs.Collection.{Refusal}
+use Rattle.cs_model.specs.Collection.{CollectionRefusal}
 use Rattle.cs_model.specs.Corpus.{corpus, refusal}
 use Rattle.cs_engine.specs.Searching.{Searched, corpus_searched}
 use Rattle.cs_top.specs.Asking.{answered, answered_of, ending_of, ending_over}
@@ -32,7 +32,7 @@ IsMissing (stop.Absent said) name f = (said.now ≡ name) × (f ≡ None)
 IsMissing stop.Failed name f = Unit {0}
 IsMissing s name f = ⊥
 
-abbrev pub IsRefused : Stop → Option Refusal → Type 0
+abbrev pub IsRefused : Stop → Option CollectionRefusal → Type 0
 IsRefused (stop.Refused told) r = r ≡ Some (refused told)
 IsRefused (stop.Absent name) r = ⊥
 IsRefused s r = Unit {0}

@@ -2,7 +2,6 @@
 ghost use Rattle.std.specs.Prelude.{◌≡◌, ◌<◌, ◌≤◌, ◌+◌, Some, IfOk, length, take, drop};
 ghost use Rattle.std.specs.Option.{ForSome};
 ghost use Rattle.std.specs.FinMap as map;
-ghost use Rattle.std.specs.Str.Lines.{strip_carriage_return};
 ghost use Rattle.cs_base.specs.Causes.{Counted};
 ghost use Rattle.cs_base.specs.Outside.{size_of};
 ghost use Rattle.cs_model.specs.Collection.{without_mark};
@@ -11,6 +10,7 @@ ghost use Rattle.cs_top.specs.LineSteps.{IsFirstLine};
 ghost use Rattle.cs_top.specs.Windows.{Shows};
 
 use cs_base::{Failed, Files, MAX_SCRIPT_LINE_BYTES};
+use cs_docs::without_return;
 use memchr::memchr;
 
 /// The most bytes of a line with CR and LF behind it.
@@ -83,15 +83,5 @@ fn first_of(window: &[u8]) -> (usize, usize)
     match memchr(b'\n', window) {
         Some(end) => (without_return(&window[..end]).len(), end + 1),
         None => (window.len(), window.len()),
-    }
-}
-
-// The line without the one carriage return at its end, if it has one.
-fn without_return(line: &[u8]) -> &[u8]
-    ensures { result.now ≡ strip_carriage_return line.now }
-{
-    match line.last() {
-        Some(b'\r') => &line[..line.len() - 1],
-        _ => line,
     }
 }

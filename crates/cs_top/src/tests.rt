@@ -13,6 +13,63 @@ const TYP: &str =
 const GUIDE: &str =
     "Müller's \"Über-Guide\": 2nd ed.\tpublisher=O'Reilly & Co.; lang=de\tThe handbook.";
 
+// A keystroke a line: prefixes, two words, an exact word, a phrase, nearness, exclusion, facets, parameters, refusals.
+const KEYSTROKES: &str = r#"q=typ
+q=search+typ
+q=type$
+q=type-ahead
+q=lambda..typ
+q=typ+-search
+q=year:
+q=
+q=&h=1&o=1
+q=a|
+q=search&f=author,zzz
+q=a||b
+q=typ&h=101
+q=typ&h=
+q=a||b&o=x
+"#;
+
+// The replies to these over the three documents.
+const REPLIES: &str =
+    r#"{"completions":[{"docs":2,"word":"type"},{"docs":1,"word":"typed"},{"docs":1,"word":"types"}],"facets":{},"hits":[{"doc":0,"score":4,"title":"Type less find more"},{"doc":2,"score":4,"title":"Typed lambda calculi"},{"doc":1,"score":1,"title":"The CompleteSearch engine"}],"total":{"completions":3,"hits":3}}
+{"completions":[{"docs":2,"word":"type"}],"facets":{},"hits":[{"doc":0,"score":5,"title":"Type less find more"},{"doc":1,"score":2,"title":"The CompleteSearch engine"}],"total":{"completions":1,"hits":2}}
+{"completions":[{"docs":2,"word":"type"}],"facets":{},"hits":[{"doc":0,"score":4,"title":"Type less find more"},{"doc":1,"score":1,"title":"The CompleteSearch engine"}],"total":{"completions":1,"hits":2}}
+{"completions":[{"docs":1,"word":"ahead"}],"facets":{},"hits":[{"doc":1,"score":1,"title":"The CompleteSearch engine"}],"total":{"completions":1,"hits":1}}
+{"completions":[{"docs":1,"word":"typed"}],"facets":{},"hits":[{"doc":2,"score":4,"title":"Typed lambda calculi"}],"total":{"completions":1,"hits":1}}
+{"completions":[],"facets":{},"hits":[{"doc":2,"score":4,"title":"Typed lambda calculi"}],"total":{"completions":0,"hits":1}}
+{"completions":[{"docs":1,"word":"year:1940"},{"docs":1,"word":"year:2006"},{"docs":1,"word":"year:2007"}],"facets":{},"hits":[{"doc":0,"score":2,"title":"Type less find more"},{"doc":1,"score":2,"title":"The CompleteSearch engine"},{"doc":2,"score":2,"title":"Typed lambda calculi"}],"total":{"completions":3,"hits":3}}
+{"completions":[],"facets":{},"hits":[{"doc":0,"score":0,"title":"Type less find more"},{"doc":1,"score":0,"title":"The CompleteSearch engine"},{"doc":2,"score":0,"title":"Typed lambda calculi"}],"total":{"completions":0,"hits":3}}
+{"completions":[],"facets":{},"hits":[{"doc":1,"score":0,"title":"The CompleteSearch engine"}],"total":{"completions":0,"hits":3}}
+{"completions":[{"docs":1,"word":"a"},{"docs":1,"word":"ahead"},{"docs":1,"word":"and"},{"docs":1,"word":"autocompletion"}],"facets":{},"hits":[{"doc":0,"score":1,"title":"Type less find more"},{"doc":1,"score":1,"title":"The CompleteSearch engine"}],"total":{"completions":4,"hits":2}}
+{"completions":[{"docs":2,"word":"search"}],"facets":{"author":[{"docs":2,"word":"author:bast"},{"docs":1,"word":"author:weber"}],"zzz":[]},"hits":[{"doc":0,"score":1,"title":"Type less find more"},{"doc":1,"score":1,"title":"The CompleteSearch engine"}],"total":{"completions":1,"hits":2}}
+{"at":2,"error":"bad"}
+{"error":"param","param":"h"}
+{"error":"param","param":"h"}
+{"error":"param","param":"o"}
+"#;
+
+// The key text is decomposed and folded, the title stays.
+const CAFE_REPLIES: &str =
+    r#"{"completions":[{"docs":1,"word":"école"}],"facets":{},"hits":[{"doc":0,"score":4,"title":"café École"}],"total":{"completions":1,"hits":1}}
+{"completions":[{"docs":1,"word":"école"}],"facets":{},"hits":[{"doc":0,"score":4,"title":"café École"}],"total":{"completions":1,"hits":1}}
+"#;
+
+// Quotes are escaped, and a slug joins its words.
+const GUIDE_REPLIES: &str =
+    r#"{"completions":[{"docs":1,"word":"guide"}],"facets":{},"hits":[{"doc":0,"score":4,"title":"Müller's \"Über-Guide\": 2nd ed."}],"total":{"completions":1,"hits":1}}
+{"completions":[{"docs":1,"word":"publisher:o_reilly_co"}],"facets":{},"hits":[{"doc":0,"score":2,"title":"Müller's \"Über-Guide\": 2nd ed."}],"total":{"completions":1,"hits":1}}
+"#;
+
+// Marks, carriage returns and lines without bytes.
+const MARKED_REPLY: &str =
+    r#"{"completions":[],"facets":{},"hits":[{"doc":0,"score":0,"title":"a"},{"doc":1,"score":0,"title":"b"}],"total":{"completions":0,"hits":2}}
+"#;
+
+const NOTHING: &str = r#"{"completions":[],"facets":{},"hits":[],"total":{"completions":0,"hits":0}}
+"#;
+
 const USAGE: &str =
     "usage: complete build COLLECTION INDEX | ask COLLECTION SCRIPT | replay INDEX SCRIPT | serve INDEX PORT CONNS | trial N\n";
 
@@ -59,165 +116,73 @@ fn ask(alloc: Global, collection: &[u8], script: &[u8]) -> Result<Left, Fail> {
 
 #[test]
 fn lines_have_these_replies(rt: HostRuntime) -> Result<(), Fail> {
-    let alloc = rt.alloc();
-    for (collection, script, reply) in [
-        (S, "q=typ", TYP),
-        (
-            S,
-            "q=search+typ",
-            r#"{"completions":[{"docs":2,"word":"type"}],"facets":{},"hits":[{"doc":0,"score":5,"title":"Type less find more"},{"doc":1,"score":2,"title":"The CompleteSearch engine"}],"total":{"completions":1,"hits":2}}"#,
-        ),
-        (
-            S,
-            "q=type$",
-            r#"{"completions":[{"docs":2,"word":"type"}],"facets":{},"hits":[{"doc":0,"score":4,"title":"Type less find more"},{"doc":1,"score":1,"title":"The CompleteSearch engine"}],"total":{"completions":1,"hits":2}}"#,
-        ),
-        (
-            S,
-            "q=type-ahead",
-            r#"{"completions":[{"docs":1,"word":"ahead"}],"facets":{},"hits":[{"doc":1,"score":1,"title":"The CompleteSearch engine"}],"total":{"completions":1,"hits":1}}"#,
-        ),
-        (
-            S,
-            "q=lambda..typ",
-            r#"{"completions":[{"docs":1,"word":"typed"}],"facets":{},"hits":[{"doc":2,"score":4,"title":"Typed lambda calculi"}],"total":{"completions":1,"hits":1}}"#,
-        ),
-        (
-            S,
-            "q=typ+-search",
-            r#"{"completions":[],"facets":{},"hits":[{"doc":2,"score":4,"title":"Typed lambda calculi"}],"total":{"completions":0,"hits":1}}"#,
-        ),
-        (
-            S,
-            "q=year:",
-            r#"{"completions":[{"docs":1,"word":"year:1940"},{"docs":1,"word":"year:2006"},{"docs":1,"word":"year:2007"}],"facets":{},"hits":[{"doc":0,"score":2,"title":"Type less find more"},{"doc":1,"score":2,"title":"The CompleteSearch engine"},{"doc":2,"score":2,"title":"Typed lambda calculi"}],"total":{"completions":3,"hits":3}}"#,
-        ),
-        (
-            S,
-            "q=",
-            r#"{"completions":[],"facets":{},"hits":[{"doc":0,"score":0,"title":"Type less find more"},{"doc":1,"score":0,"title":"The CompleteSearch engine"},{"doc":2,"score":0,"title":"Typed lambda calculi"}],"total":{"completions":0,"hits":3}}"#,
-        ),
-        (
-            S,
-            "q=&h=1&o=1",
-            r#"{"completions":[],"facets":{},"hits":[{"doc":1,"score":0,"title":"The CompleteSearch engine"}],"total":{"completions":0,"hits":3}}"#,
-        ),
-        (
-            S,
-            "q=a|",
-            r#"{"completions":[{"docs":1,"word":"a"},{"docs":1,"word":"ahead"},{"docs":1,"word":"and"},{"docs":1,"word":"autocompletion"}],"facets":{},"hits":[{"doc":0,"score":1,"title":"Type less find more"},{"doc":1,"score":1,"title":"The CompleteSearch engine"}],"total":{"completions":4,"hits":2}}"#,
-        ),
-        (
-            S,
-            "q=search&f=author,zzz",
-            r#"{"completions":[{"docs":2,"word":"search"}],"facets":{"author":[{"docs":2,"word":"author:bast"},{"docs":1,"word":"author:weber"}],"zzz":[]},"hits":[{"doc":0,"score":1,"title":"Type less find more"},{"doc":1,"score":1,"title":"The CompleteSearch engine"}],"total":{"completions":1,"hits":2}}"#,
-        ),
-        (S, "q=a||b", r#"{"at":2,"error":"bad"}"#),
-        (S, "q=typ&h=101", r#"{"error":"param","param":"h"}"#),
-        (S, "q=typ&h=", r#"{"error":"param","param":"h"}"#),
-        (S, "q=a||b&o=x", r#"{"error":"param","param":"o"}"#),
-        (
-            "",
-            "q=typ",
-            r#"{"completions":[],"facets":{},"hits":[],"total":{"completions":0,"hits":0}}"#,
-        ),
-        // the key text is decomposed and folded, the title stays
-        (
-            "café École",
-            "q=É",
-            "{\"completions\":[{\"docs\":1,\"word\":\"e\u{301}cole\"}],\"facets\":{},\"hits\":[{\"doc\":0,\"score\":4,\"title\":\"café École\"}],\"total\":{\"completions\":1,\"hits\":1}}",
-        ),
-        (
-            "café École",
-            "q=e",
-            "{\"completions\":[{\"docs\":1,\"word\":\"e\u{301}cole\"}],\"facets\":{},\"hits\":[{\"doc\":0,\"score\":4,\"title\":\"café École\"}],\"total\":{\"completions\":1,\"hits\":1}}",
-        ),
-        (
-            GUIDE,
-            "q=über-gui",
-            r#"{"completions":[{"docs":1,"word":"guide"}],"facets":{},"hits":[{"doc":0,"score":4,"title":"Müller's \"Über-Guide\": 2nd ed."}],"total":{"completions":1,"hits":1}}"#,
-        ),
-        (
-            GUIDE,
-            "q=publisher:o'r",
-            r#"{"completions":[{"docs":1,"word":"publisher:o_reilly_co"}],"facets":{},"hits":[{"doc":0,"score":2,"title":"Müller's \"Über-Guide\": 2nd ed."}],"total":{"completions":1,"hits":1}}"#,
-        ),
-        // in both files the mark, CR before LF, and lines without bytes
-        (
-            "\u{FEFF}a\r\n\nb",
-            "\u{FEFF}\r\nq=\r\n\n",
-            r#"{"completions":[],"facets":{},"hits":[{"doc":0,"score":0,"title":"a"},{"doc":1,"score":0,"title":"b"}],"total":{"completions":0,"hits":2}}"#,
-        ),
+    for (collection, script, replies) in [
+        (S, KEYSTROKES, REPLIES),
+        ("", "q=typ", NOTHING),
+        ("café École", "q=É\nq=e", CAFE_REPLIES),
+        (GUIDE, "q=über-gui\nq=publisher:o'r", GUIDE_REPLIES),
+        ("\u{FEFF}a\r\n\nb", "\u{FEFF}\r\nq=\r\n\n", MARKED_REPLY),
     ] {
-        let left = ask(alloc, collection.as_bytes(), script.as_bytes())?;
+        let left = ask(rt.alloc(), collection.as_bytes(), script.as_bytes())?;
         assert_eq!(rt; left.status, 0, "of {script}");
         assert_eq!(rt; left.err.as_slice(), b"".as_slice(), "of {script}");
-        let want = line_of(alloc, reply)?;
-        assert_eq!(rt; left.out.as_slice(), want.as_slice(), "of {script}");
+        assert_eq!(rt; left.out.as_slice(), replies.as_bytes(), "of {script}");
     }
     Ok(())
 }
 
-fn line_of(alloc: Global, reply: &str) -> Result<Vec<u8>, Memory> {
-    let mut line = Vec::from_slice(alloc, reply.as_bytes())?;
-    line.push(b'\n')?;
-    Ok(line)
+// A collection, and what is said of it.
+#[test]
+fn refused_collections_are_named(rt: HostRuntime) -> Result<(), Fail> {
+    for (collection, err) in [
+        (b"a\tb\tc".as_slice(), "collection: line 1: bad facet\n"),
+        (b"x\t1a=b", "collection: line 1: bad facet name\n"),
+        (b"a\n\xFF\nx\ty", "collection: line 2: not UTF-8\n"),
+    ] {
+        let left = ask(rt.alloc(), collection, b"q=typ\n")?;
+        assert_eq!(rt; left.err.as_slice(), err.as_bytes());
+        assert_eq!(rt; left.status, 3, "with {err}");
+        assert_eq!(rt; left.out.as_slice(), b"".as_slice(), "with {err}");
+    }
+    Ok(())
 }
 
-// A collection and a script, the status, the number of lines like the first worked reply, and what is said.
+// A script over the three documents, the status, how often `q=typ` was answered, and what is said.
 #[test]
-fn what_is_refused_is_named_after_the_lines_before_it(rt: HostRuntime) -> Result<(), Fail> {
-    let alloc = rt.alloc();
-    let full = script_with(alloc, 4_096)?;
-    let longer = script_with(alloc, 4_097)?;
-    let s = S.as_bytes();
-    let typ: &[u8] = b"q=typ\n";
-    for (collection, script, status, lines, err) in [
-        (s, typ, 0, 1, ""),
-        (s, b"", 0, 0, ""),
+fn what_ends_a_script_is_named_after_the_lines_before_it(rt: HostRuntime) -> Result<(), Fail> {
+    let full = script_with(rt.alloc(), 4_096)?;
+    let longer = script_with(rt.alloc(), 4_097)?;
+    let joined = b"q=typ\nq=typ\nq=author[search]+typ\nq=typ".as_slice();
+    for (script, status, lines, err) in [
+        (b"q=typ\n".as_slice(), 0, 1, ""),
+        (b"", 0, 0, ""),
+        (joined, 1, 2, "not built\n"),
+        (full.as_slice(), 0, 2, ""),
+        (longer.as_slice(), 8, 1, "script: line 2: too long\n"),
         (
-            s,
-            b"q=typ\nq=typ\nq=author[search]+typ\nq=typ",
-            1,
-            2,
-            "not built\n",
-        ),
-        (b"a\tb\tc", typ, 3, 0, "collection: line 1: bad facet\n"),
-        (
-            b"x\t1a=b",
-            typ,
-            3,
-            0,
-            "collection: line 1: bad facet name\n",
-        ),
-        (
-            b"a\n\xFF\nx\ty",
-            typ,
-            3,
-            0,
-            "collection: line 2: not UTF-8\n",
-        ),
-        (s, full.as_slice(), 0, 2, ""),
-        (s, longer.as_slice(), 8, 1, "script: line 2: too long\n"),
-        (
-            s,
             b"\nq=typ\n\nq=\xFF\nq=typ",
             8,
             1,
             "script: line 4: not UTF-8\n",
         ),
     ] {
-        let left = ask(alloc, collection, script)?;
+        let left = ask(rt.alloc(), S.as_bytes(), script)?;
         assert_eq!(rt; left.err.as_slice(), err.as_bytes());
         assert_eq!(rt; left.status, status, "with {err}");
-        let mut want = Vec::new(alloc);
-        for _ in 0..lines {
-            want.extend_from_slice(TYP.as_bytes())?;
-            want.push(b'\n')?;
-        }
+        let want = answered(rt.alloc(), lines)?;
         assert_eq!(rt; left.out.as_slice(), want.as_slice(), "with {err}");
     }
     Ok(())
+}
+
+// So many replies to `q=typ`.
+fn answered(alloc: Global, lines: u32) -> Result<Vec<u8>, Memory> {
+    let mut replies = Vec::new(alloc);
+    for _ in 0..lines {
+        replies.extend_from_slice(TYP.as_bytes())?;
+        replies.push(b'\n')?;
+    }
+    Ok(replies)
 }
 
 // Two lines that ask the same; the second has so many bytes.

@@ -1,12 +1,11 @@
 //! The command line's words, read by a table.
-ghost use Rattle.std.specs.Prelude.{◌≡◌, ◌≤◌, map, length, ◌&&◌, nat_lt, nat_le, IsTrue};
+ghost use Rattle.std.specs.Prelude.{◌≡◌, ◌≤◌, map, ◌&&◌, nat_lt, nat_le};
 ghost use Rattle.std.specs.Option.{option_map};
 ghost use Rattle.std.specs.String.{string_bytes};
-ghost use Rattle.std.specs.List.{list_all};
-ghost use Rattle.std.specs.Char.{is_ascii_digit};
 ghost use Rattle.cs_top.specs.Commands.{command_of, two_words, serve_words, trial_words, is_number};
-ghost use Rattle.cs_model.specs.Parameters.{has_digits, number_of};
 ghost use Rattle.cs_top.specs.CommandView.{seen};
+
+use cs_text::{has_digits, number_of};
 
 /// What the words ask for.
 #[derive(Clone, Copy, Debug, PartialEq, Eq)]
@@ -118,37 +117,8 @@ fn is_number(word: &str, digits: usize, greatest: u32) -> bool
     is_in_range(number_of(bytes), greatest)
 }
 
-fn has_digits(bytes: &[u8], digits: usize) -> bool
-    ensures { result ≡ has_digits digits bytes.now }
-{
-    if bytes.is_empty() || bytes.len() > digits {
-        return false;
-    }
-    all_digits(bytes)
-}
-
-fn all_digits(bytes: &[u8]) -> bool
-    ensures { result ≡ list_all is_ascii_digit bytes.now }
-{
-    bytes.iter().all(|b| b.is_ascii_digit())
-}
-
 fn is_in_range(number: u32, greatest: u32) -> bool
     ensures { result ≡ (nat_lt 0 number && nat_le number greatest) }
 {
     0 < number && number <= greatest
-}
-
-// The number that digits spell.
-fn number_of(bytes: &[u8]) -> u32
-    requires short { length bytes.now ≤ 7 }
-    requires digits { IsTrue (list_all is_ascii_digit bytes.now) }
-
-    ensures { result ≡ number_of bytes.now }
-{
-    let mut number = 0;
-    for byte in bytes {
-        number = number * 10 + u32::from(*byte - b'0');
-    }
-    number
 }

@@ -110,7 +110,7 @@ not_true : (b : Bool) → (b ≡ true → ⊥) → b ≡ false
 not_true true h = absurd (h refl)
 not_true false h = refl
 
-three_ways : {G : Type 0} (k n : ℕ) → (k < n → G) → (k ≡ n → G) → (n < k → G) → G
+pub three_ways : {G : Type 0} (k n : ℕ) → (k < n → G) → (k ≡ n → G) → (n < k → G) → G
 three_ways {G} k n f g h =
     elim (nat_lt k n) as (λ b. nat_lt k n ≡ b → G) [
       | true ↦ λ t. f (grind (arith, nat_tests))

@@ -1,6 +1,6 @@
 use Rattle.std.proofs.Common.{sym, ◌∙◌, ap, arith, ◌++◌, List}
 use Rattle.cs_base.specs.declared.doc.Post.{Post}
-use Rattle.cs_model.specs.BlockRules.{rows_of}
+use Rattle.cs_model.specs.BlockRules.{rows_read}
 use Rattle.cs_block.proofs.LawsLemmas.{accepted, unique}
 use Rattle.cs_block.proofs.PassLemmas.{judged_cut, rows_cut, none-from_test}
 use Rattle.cs_block.proofs.decoding.decode.Goals as goal
@@ -16,7 +16,7 @@ returns-else-not-push_rows-clause-exact c = sym (judged_cut c.args.head.now c.ar
 
 pub returns-else-not-push_rows-clause-ok : goal.returns-else-not-push_rows-clause-ok
 returns-else-not-push_rows-clause-ok c = (
-  rows_of c.args.head.now c.args.bytes.now,
+  rows_read c.args.head.now c.args.bytes.now,
   accepted c.args.head.now c.args.docs c.args.bytes.now (λ i. omega (arith, c.type_inv.bytes i)) c.requires (returns-else-not-push_rows-clause-exact c),
-  c.push_rows.ensures.posts c.if-not-push_rows.false ∙ ap (λ (x : List Post). c.reserve.new.self.posts ++ x) (rows_cut c.args.head.now c.args.bytes.now _ c.cut-columns.ensures.value) ∙ ap (λ (x : List Post). x ++ rows_of c.args.head.now c.args.bytes.now) c.reserve.ensures.posts,
+  c.push_rows.ensures.posts c.if-not-push_rows.false ∙ ap (λ (x : List Post). c.reserve.new.self.posts ++ x) (rows_cut c.args.head.now c.args.bytes.now _ c.cut-columns.ensures.value) ∙ ap (λ (x : List Post). x ++ rows_read c.args.head.now c.args.bytes.now) c.reserve.ensures.posts,
 )

@@ -8,7 +8,7 @@ use Rattle.std.proofs.lemmas.Map.Lookups.{exact_bytes}
 use Rattle.cs_base.specs.Members.{members_in}
 use Rattle.cs_base.specs.contracts.text.TextOrd.TheImpl.Laws.{matches_eq-law}
 use Rattle.cs_base.proofs.MembersLemmas.{sorted_members}
-use Rattle.cs_model.specs.Collection.{has_bytes}
+use Rattle.cs_model.specs.Words.{is_filled}
 use Rattle.cs_http.proofs.facets.listed.Goals as goal
 
 pub returns : goal.returns
@@ -19,5 +19,5 @@ returns c =
       ok =
           sorted_members nat_list_cmp_total exact_bytes bytes_eq matches_eq-law c.loop-piece.names.items c.sort.new.self.items c.dedup.new.self.items
           c.in_ok-sort.ensures.permutation c.in_ok-sort.ensures.sorted c.dedup.ensures.filtered
-          ∙ ap (members_in (slice_cmp nat_cmp)) (c.loop-piece.invariant ∙ ap (filter has_bytes) all.0);
+          ∙ ap (members_in (slice_cmp nat_cmp)) (c.loop-piece.invariant ∙ ap (filter is_filled) all.0);
     }

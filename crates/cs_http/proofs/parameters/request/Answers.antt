@@ -2,7 +2,7 @@ use Rattle.std.specs.Prelude.{codes}
 use Rattle.std.specs.Str.{chars}
 use Rattle.cs_base.specs.declared.limits.TheConstants.{MAX_SHOWN, MAX_OFFSET}
 use Rattle.cs_model.specs.FirstRefusal.{first_refusal}
-use Rattle.cs_model.specs.Parameters.{parameter, is_count, are_facets, query_text}
+use Rattle.cs_model.specs.Parameters.{parameter, is_count, are_facets, asked_text}
 use Rattle.cs_query.specs.declared.request.Param.TheVariants as params
 use Rattle.cs_http.specs.Refusing.{IsCause}
 use Rattle.cs_http.proofs.RequestLemmas.{handed_on, cause_by, cause_query, refused-h, refused-c, refused-o, refused-f, refused-q, nothing_refused, request_is, holds}
@@ -38,7 +38,7 @@ pub returns-in_err-query-clause-err : goal.returns-in_err-query-clause-err
 returns-in_err-query-clause-err c =
     let p = c.args.params.now in
     handed_on c.from_residual-in_err-query.result c.in_err-query.field-0.0 (IsCause p) c.from_residual-in_err-query.ensures.1
-    (cause_query p (first_refusal (chars (query_text p))) c.in_err-query.field-0.0 c.in_err-query.ensures.err
+    (cause_query p (first_refusal (chars (asked_text p))) c.in_err-query.field-0.0 c.in_err-query.ensures.err
     (refused-q p c.in_ok-hits.ensures.accepted c.in_ok-completions.ensures.accepted c.in_ok-offset.ensures.accepted c.in_ok-facets.ensures.accepted))
 
 pub returns-clause-ok : goal.returns-clause-ok

@@ -7,7 +7,7 @@ use Rattle.std.proofs.lemmas.Map.Keys.{sorted_from_all_adjacent}
 use Rattle.cs_base.specs.declared.doc.Post.{Post}
 use Rattle.cs_base.specs.Orders.{by_place}
 use Rattle.cs_base.proofs.OrdersLemmas.{by_place_total}
-use Rattle.cs_meet.proofs.United.{less-from_test}
+use Rattle.cs_base.proofs.OrdersLemmas.{less-from_test}
 use Rattle.cs_meet.proofs.tests.rises.Goals as goal
 
 abbrev blank : Post

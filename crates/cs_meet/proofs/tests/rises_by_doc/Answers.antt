@@ -4,7 +4,7 @@ use Rattle.std.proofs.lemmas.Bool.Decides.{nat_tests}
 use Rattle.std.proofs.lemmas.Cmp.{on_total, nat_cmp_total}
 use Rattle.std.proofs.lemmas.Map.Keys.{sorted_from_all_adjacent}
 use Rattle.cs_base.specs.declared.doc.Scored.{Scored}
-use Rattle.cs_meet.specs.Filters.{by_doc}
+use Rattle.cs_base.specs.Orders.{by_doc}
 use Rattle.cs_meet.proofs.tests.rises_by_doc.Goals as goal
 
 abbrev blank : Scored

@@ -1,6 +1,6 @@
 use Rattle.std.proofs.Common.{◌≡◌, ◌+◌, ◌-◌, ◌≤◌, ◌∷◌, ◌++◌, List, length, drop}
 use Rattle.cs_base.specs.declared.doc.Post.{Post}
-use Rattle.cs_meet.specs.Filters.{AreSorted}
+use Rattle.cs_base.specs.Orders.{AreSorted}
 use Rattle.cs_meet.specs.Places.{AllLess}
 use Rattle.cs_meet.proofs.union.take_until.Given as goal
 

@@ -2,7 +2,7 @@ use Rattle.std.proofs.Common.{◌≡◌, ℕ, List, [], ◌∷◌, refl, ap, sym
 use Rattle.std.proofs.lemmas.Bool.{eqb-true}
 use Rattle.std.proofs.lemmas.Str.Pattern.{strip_prefix_char}
 use Rattle.std.specs.Prelude.{if◌then◌else◌, ◌==◌}
-use Rattle.cs_model.specs.Requests.{shown_word}
+use Rattle.cs_model.specs.Collection.{shown_word}
 use Rattle.cs_query.proofs.printing.shown.Goals as goal
 
 no_colon_at : (b : Bool) (x : ℕ) (w : List ℕ) → (x == 58) ≡ b → ((rest : List ℕ) → x ∷ w ≡ 58 ∷ rest → ⊥) → (if b then w else x ∷ w) ≡ x ∷ w

@@ -3,7 +3,8 @@ use Rattle.std.specs.List.Sorted.{IsStrictlySortedBy}
 use Rattle.std.specs.Ordering.{nat_cmp, on}
 use Rattle.cs_base.specs.declared.doc.Scored.{Scored}
 use Rattle.cs_base.specs.declared.doc.Base.TheVariants.{Listed}
-use Rattle.cs_rank.specs.DocScores.{docs_of, with_base, scores}
+use Rattle.cs_rank.specs.DocScores.{with_base, scores}
+use Rattle.cs_base.specs.Orders.{docs_of}
 use Rattle.cs_rank.proofs.GroupsLemmas.{best_rise, base_each}
 use Rattle.cs_rank.proofs.scores.score.Goals as goal
 

@@ -1,7 +1,7 @@
 use Rattle.std.proofs.Common.{◌≡◌, ◌<◌, take}
 use Rattle.cs_model.specs.Parameters.{number_of}
-use Rattle.cs_top.proofs.Digits.{tens}
-use Rattle.cs_top.proofs.words.number_of.Given as goal
+use Rattle.cs_text.proofs.Digits.{tens}
+use Rattle.cs_text.proofs.number.number_of.Given as goal
 
 abbrev pub invariant-loop-byte : goal.invariant-loop-byte
 invariant-loop-byte l = record {

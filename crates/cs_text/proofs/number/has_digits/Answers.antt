@@ -1,7 +1,7 @@
 use Rattle.std.proofs.Common.{arith}
 use Rattle.std.proofs.lemmas.Grind.{common_steps}
 use Rattle.std.proofs.lemmas.Bool.Decides.{nat_tests}
-use Rattle.cs_top.proofs.words.has_digits.Goals as goal
+use Rattle.cs_text.proofs.number.has_digits.Goals as goal
 
 pub returns : goal.returns
 returns c = grind (arith, nat_tests, common_steps)
