@@ -10,26 +10,26 @@
 use Rattle.std.specs.Prelude.{ℕ, zero, suc, ◌+◌, ◌*◌, ◌/◌, ◌%◌, ◌^◌, cond, nat_lt, nat_eq, ◌&&◌, List, [], ◌∷◌, Option, Some, None, if◌then◌else◌}
 use Rattle.std.specs.List.{starts_with}
 
--- seven bits a byte; what is left goes into the bytes behind
+-- the code of n in at most k + 1 bytes, seven bits a byte; where they don't suffice, the last one is 128 or more
 unfoldable pub code_in : ℕ → ℕ → List ℕ
 code_in zero n = n ∷ []
 code_in (suc k) n = cond (nat_lt n 128) (n ∷ []) ((n % 128 + 128) ∷ code_in k (n / 128))
 
--- the shortest spelling, of at most five bytes
+-- the code of a number, its shortest form, of at most five bytes; that of 0 is one zero byte
 unfoldable pub code : ℕ → List ℕ
 code n = code_in 4 n
 
--- the bytes that may belong to one code; of no bytes none
+-- the bytes at the front that may belong to one code, at most k of them; of no bytes none
 unfoldable pub looked_at : ℕ → List ℕ → List ℕ
 looked_at zero bytes = []
 looked_at (suc k) [] = []
 looked_at (suc k) (b ∷ bytes) = b ∷ cond (nat_lt b 128) [] (looked_at k bytes)
 
--- the low digit stands first; of no bytes 0
+-- the number that the bytes spell, the low seven bits first; of no bytes 0
 unfoldable pub value_of : List ℕ → ℕ
 value_of [] = 0
 value_of (b ∷ bytes) = b % 128 + 128 * value_of bytes
 
--- the number whose code the bytes begin with; no bytes begin with a code
+-- the number whose code the bytes begin with; None where they begin with none, as no bytes do
 unfoldable pub first_code : List ℕ → Option ℕ
 first_code bytes = let n = value_of (looked_at 5 bytes) in if nat_lt n (2 ^ 32) && starts_with nat_eq bytes (code n) then Some n else None

@@ -1,13 +1,16 @@
 -- The orders in which rows and hits are listed, and the lists that keep them.
 --
---   by_row      rows: document, position, word, each ascending; the score last, which these three determine in a collection
---   by_place    posts: document, position, number of the word, each ascending
---   by_rank     hits: score descending, then document ascending
---   by_doc      scored documents: document ascending
---   AreSorted posts          posts strictly ascend by document, position and word
---   AreDocs docs             document numbers strictly ascend
---   AreByDoc scored          scored documents strictly ascend by document
---   docs_of posts            the documents of posts, ascending, each once
+-- Source: this engine's own.
+--
+--   by_row            rows: document, position, word, each ascending; the score last, which these three determine in a
+--                     collection
+--   by_place          posts: document, position, number of the word, each ascending
+--   by_rank           hits: score descending, then document ascending
+--   by_doc            scored documents: document ascending
+--   AreSorted posts   posts strictly ascend by document, position and word; no posts and one do
+--   AreDocs docs      document numbers strictly ascend; none and one do
+--   AreByDoc scored   scored documents strictly ascend by document; none and one do
+--   docs_of posts     the documents of posts, ascending, each once; of no posts none
 use Rattle.std.specs.Prelude.{ℕ, List, map}
 use Rattle.std.specs.List.Sorted.{IsStrictlySortedBy}
 use Rattle.std.specs.declared.cmp.Ordering.{Ordering}
@@ -18,11 +21,11 @@ use Rattle.cs_base.specs.declared.doc.Post.{Post}
 use Rattle.cs_base.specs.declared.doc.Scored.{Scored}
 use Rattle.cs_base.specs.Members.{members_in}
 
--- by document, position, word and score
+-- rows by document, position, word by bytes, and score; equal are those with all four the same
 abbrev pub by_row : Row → Row → Ordering
 by_row = then_cmp (on (λ r. r.doc) nat_cmp) (then_cmp (on (λ r. r.pos) nat_cmp) (then_cmp (on (λ r. r.word) (slice_cmp nat_cmp)) (on (λ r. r.score) nat_cmp)))
 
--- by document, position and word, which name a post
+-- posts by document, position and word, which name a post; the score isn't compared
 abbrev pub by_place : Post → Post → Ordering
 by_place = then_cmp (on (λ p. p.doc) nat_cmp) (then_cmp (on (λ p. p.pos) nat_cmp) (on (λ p. p.word) nat_cmp))
 
@@ -30,11 +33,11 @@ by_place = then_cmp (on (λ p. p.doc) nat_cmp) (then_cmp (on (λ p. p.pos) nat_c
 abbrev pub by_rank : Scored → Scored → Ordering
 by_rank = then_cmp (on (λ h. h.score) (flip_args nat_cmp)) (on (λ h. h.doc) nat_cmp)
 
--- by document alone
+-- scored documents by document alone
 abbrev pub by_doc : Scored → Scored → Ordering
 by_doc = on (λ h. h.doc) nat_cmp
 
--- each post's document, position and word are less than the next one's; also of no posts
+-- each post comes before the next one by document, position and word; also of no posts
 abbrev pub AreSorted : List Post → Type 0
 AreSorted posts = IsStrictlySortedBy by_place posts
 

@@ -1,15 +1,21 @@
 -- The canonical text of a query: one text for each query of the grammar, which is read as that query again.
 --
+-- Source: none; it is written in the signs of the grammar (Tokens, Grammar).
+--
 -- It is built from the atoms up: each atom becomes its text, each chain the texts of its atoms with their links, and so on.
 --
---   link_text l          the sign of a link: . or ..
---   atom_text            a word as it is shown, with $ behind it where it is exact; of a join name[query]
---   chain_text           the atoms of a chain, each but the first behind the sign of its link
---   part_text            the alternatives with | between each two, behind a - where the part is excluded
---   query_text           the parts with a space between each two
---   canonical q          the canonical text of a query, as bytes; the empty text for the query without parts
---   canonical_part, canonical_chain, canonical_linked, canonical_atom     those of its parts
---   canonical_parts ps   the canonical text of the query with the parts ps
+--   Bytes                                  texts as lists of bytes
+--   link_text l                            the sign of a link: . or ..
+--   atom_text                              a word as it is shown, with $ behind it where it is exact; of a join name[query]
+--   linked_text                            an atom behind the sign of its link
+--   chain_text                             the atoms of a chain, each but the first behind the sign of its link
+--   part_text                              the alternatives with | between each two, behind a - where the part is excluded
+--   query_text                             the parts with a space between each two; of no part the empty text
+--   canonical q                            the canonical text of a query, as bytes; the empty text for the query without
+--                                          parts
+--   canonical_part p, canonical_chain c    the same of a part and of a chain
+--   canonical_linked l, canonical_atom a   and of a linked atom and an atom
+--   canonical_parts ps                     the canonical text of the query with the parts ps; of no part the empty text
 use Rattle.std.specs.Prelude.{ℕ, if◌then◌else◌, List, [], ◌++◌, map, codes}
 use Rattle.std.specs.List.{concat, join_with_byte}
 use Rattle.cs_base.specs.declared.query.Link.{Link}
@@ -33,7 +39,7 @@ abbrev pub link_text : Link → Bytes
 link_text Phrase = codes "."
 link_text Near = codes ".."
 
--- a facet's word is shown without its leading colon, as name:value
+-- the text of an atom, a facet's word without its leading colon, as name:value; of a join whose query is empty name[]
 abbrev pub atom_text : Atom-F Bytes Bytes Bytes Bytes Bytes → Bytes
 atom_text (Atom-F.Prefix w) = shown_word w
 atom_text (Atom-F.Exact w) = shown_word w ++ codes "$"
@@ -43,36 +49,39 @@ atom_text (Atom-F.Join name inner) = name ++ codes "[" ++ inner ++ codes "]"
 abbrev pub linked_text : Linked-F Bytes Bytes Bytes Bytes Bytes → Bytes
 linked_text l = link_text l.link ++ l.atom
 
--- a chain of one atom is told by that atom alone
+-- the text of a chain; a chain of one atom is told by that atom alone
 abbrev pub chain_text : Chain-F Bytes Bytes Bytes Bytes Bytes → Bytes
 chain_text c = c.first ++ concat c.rest
 
--- with | between each two alternatives, which is 124; of one alternative that one alone
+-- the text of a part, with |, which is 124, between each two alternatives; of one alternative that one alone
 abbrev pub part_text : Part-F Bytes Bytes Bytes Bytes Bytes → Bytes
 part_text p = (if p.excluded then codes "-" else []) ++ join_with_byte 124 p.chains
 
--- with one space between each two parts, which is 32; of no part nothing
+-- the text of a query, with one space, which is 32, between each two parts; of no part nothing
 abbrev pub query_text : Query-F Bytes Bytes Bytes Bytes Bytes → Bytes
 query_text q = join_with_byte 32 q.parts
 
 -- ---- the texts
--- of an atom, and so on up to a query
+-- the canonical text of an atom, which is never empty in a query of the grammar
 abbrev pub canonical_atom : Atom → Bytes
 canonical_atom = fold-Atom Bytes Bytes Bytes Bytes Bytes atom_text chain_text linked_text part_text query_text
 
+-- the canonical text of a linked atom, which begins with the sign of its link
 abbrev pub canonical_linked : Linked → Bytes
 canonical_linked = fold-Linked Bytes Bytes Bytes Bytes Bytes atom_text chain_text linked_text part_text query_text
 
+-- the canonical text of a chain; of one atom it is the atom's
 abbrev pub canonical_chain : Chain → Bytes
 canonical_chain = fold-Chain Bytes Bytes Bytes Bytes Bytes atom_text chain_text linked_text part_text query_text
 
+-- the canonical text of a part; of a positive part with one chain it is the chain's
 abbrev pub canonical_part : Part → Bytes
 canonical_part = fold-Part Bytes Bytes Bytes Bytes Bytes atom_text chain_text linked_text part_text query_text
 
--- of the query without parts it is empty, and of no other query of the grammar
+-- the canonical text of a query; that of the query without parts is empty, and of no other query of the grammar
 abbrev pub canonical : Query → Bytes
 canonical = fold-Query Bytes Bytes Bytes Bytes Bytes atom_text chain_text linked_text part_text query_text
 
--- of some parts, as a query has them; of no part it is empty
+-- the canonical text of some parts, as a query has them; of no part it is empty
 abbrev pub canonical_parts : List Part → Bytes
 canonical_parts ps = join_with_byte 32 (map canonical_part ps)

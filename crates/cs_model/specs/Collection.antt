@@ -1,19 +1,42 @@
 -- What a collection is: its lines, their columns, the documents, and the first refusal.
 --
---   collection_lines c        the lines of a collection, each with its number from 1
---   DocLine, doc_lines c      the lines that have bytes, each with its number as a line and as a document from 0
---   Columns, columns l        title, facets and text of a line, cut at its first two tabs; a missing column is empty
---   facet_pieces column       the pieces of a facets column between `;`, without spaces at both ends, empty ones left out
---   has_name_form n           a letter a to z, then letters a to z and digits, at most 16 bytes
---   piece_name, piece_value   the key text of what stands before the first `=`, without spaces at its end; what stands after it
---   named n v, shown_word w   the word `:n:v` of a facet; a word as it is shown, that of a facet without its leading colon
---   facet_word p              the word `:name:slug` of a piece; None where its value has no word
---   facet_words column        the facet words of a column
---   CollectionRefusal                   why a collection isn't accepted, with the line where there is one
---   line_refusal l            the first rule that the line breaks
---   docs_refusal c            too large, else the refusal of the least line that breaks a rule; None where no line does
---   documents c               the documents, in the order of their lines
---   is_plain c                at most 65,536 bytes, each LF or printable ASCII other than the double quote and the backslash
+-- Source: the form is this engine's own. UTF-8 is that of RFC 3629.
+--
+--   without_mark c             the bytes c without EF BB BF in front, which are skipped once
+--   collection_lines c         the lines of a collection, each with its number from 1; the empty collection has none
+--   DocLine, doc_line p        a line that is a document: its number as a document from 0, its number as a line from 1, its
+--                              bytes
+--   doc_lines c                the lines that have bytes, so numbered; none where no line has any
+--   is_tab b, is_space b       whether the byte is a tab, a space
+--   is_equals b                whether it is the sign `=`
+--   Columns, columns l         title, facets and text of a line, cut at its first two tabs; a missing column is empty
+--   without_spaces_behind bs   the bytes bs without the spaces at their end
+--   without_spaces bs          the bytes bs without the spaces at both ends; nothing where there are spaces alone
+--   facet_pieces column        the pieces of a facets column between `;`, without spaces at both ends, empty ones left out
+--   is_small_letter b          whether the byte is a letter a to z
+--   is_name_byte b             whether it is such a letter or a digit
+--   begins_with_letter bs      whether the first byte is a letter a to z; of no bytes it isn't
+--   has_name_form n            a letter a to z, then letters a to z and digits, at most 16 bytes; the empty text isn't a name
+--   piece_name p               the key text of what stands before the first `=`, without spaces at its end
+--   piece_value p              what stands behind the first `=`; nothing where there is none
+--   named n v                  the word `:n:v` of a facet
+--   shown_word w               a word as it is shown: that of a facet without its leading colon
+--   facet_word p               the word `:name:slug` of a piece; None where its value has no word
+--   facet_words column         the facet words of a column; none for the empty column
+--   CollectionRefusal          why a collection isn't accepted: too_large, not_utf8, line_too_long, words_too_many,
+--                              bad_facet, bad_name, too_many_docs, too_many_rows, too_many_words
+--   piece_refusal n p          a piece of line n without `=`, else one without a name; None where it has both
+--   word_count cs              the number of title and text words together; 0 where there is none
+--   line_refusal l             the first rule that the line breaks; None where it breaks none
+--   docs_refusal c             too large, else the refusal of the least line that breaks a rule; None where no line does
+--   document l                 the document of a line
+--   documents c                the documents of a collection, in the order of their lines; they count only where docs_refusal
+--                              c is None
+--   is_plain_byte b            whether the byte is LF or printable ASCII other than the double quote and the backslash
+--   is_plain c                 at most 65,536 bytes, each of them such; the empty collection is plain
+--
+-- LF ends a line, with one CR directly before it. The last line needs no ending, and a CR at its end then belongs to it. A
+-- tab behind the second one of a line belongs to its text. A name is read by its key text, a value by its slug.
 use Rattle.std.specs.Prelude.{ℕ, ◌+◌, ◌-◌, Bool, false, not, ◌&&◌, ◌||◌, ◌==◌, nat_lt, nat_le, nat_eq, if◌then◌else◌, List, [], ◌∷◌, ◌++◌, map, filter, length, take, drop, Option, Some, None}
 use Rattle.std.specs.Option.{option_map}
 use Rattle.std.specs.List.{list_any, list_all, filter_map, enumerate_from, slice_split, before_first, after_first, starts_with, prefix_len, suffix_len}
@@ -26,12 +49,11 @@ use Rattle.cs_model.specs.First.{unless, first_reason}
 use Rattle.cs_model.specs.KeyText.{norm}
 use Rattle.cs_model.specs.Words.{is_filled, words, slug}
 
--- EF BB BF in front is skipped once
+-- a collection without the mark EF BB BF, which is skipped once and in front alone; without a mark it stays as it is
 abbrev pub without_mark : List ℕ → List ℕ
 without_mark c = if starts_with nat_eq c (239 ∷ 187 ∷ 191 ∷ []) then drop 3 c else c
 
--- LF ends a line, with one CR directly before it; the last line needs no ending, and a CR at its end belongs to it. The
--- empty collection has no line
+-- the lines of a collection without their endings, numbered from 1; the empty collection has none
 abbrev pub collection_lines : List ℕ → List (ℕ × List ℕ)
 collection_lines c = enumerate_from 1 (lines (without_mark c))
 
@@ -41,23 +63,26 @@ pub record DocLine : Type 0 where
   pub line : ℕ
   pub bytes : List ℕ
 
+-- such a line from its number as a document, and its number as a line with its bytes
 abbrev pub doc_line : ℕ × (ℕ × List ℕ) → DocLine
 doc_line p = record { doc = p.0; line = p.1.0; bytes = p.1.1 }
 
--- a line without bytes is no document
+-- the lines that are documents, in order; a line without bytes is none
 abbrev pub doc_lines : List ℕ → List DocLine
 doc_lines c = map doc_line (enumerate_from 0 (filter (λ l. is_filled l.1) (collection_lines c)))
 
 -- ---- columns
+-- the byte is a tab
 abbrev pub is_tab : ℕ → Bool
 is_tab b = b == 9
 
+-- the three columns of a line, of which each may be empty
 pub record Columns : Type 0 where
   pub title : List ℕ
   pub facets : List ℕ
   pub text : List ℕ
 
--- further tabs belong to the text
+-- the columns of a line, further tabs belonging to the text; a missing one is empty
 abbrev pub columns : List ℕ → Columns
 columns l = record {
   title = before_first is_tab l;
@@ -66,57 +91,70 @@ columns l = record {
 }
 
 -- ---- facets
+-- the byte is a space, U+0020 and no other
 abbrev pub is_space : ℕ → Bool
 is_space b = b == 32
 
+-- the byte is the sign `=`
 abbrev pub is_equals : ℕ → Bool
 is_equals b = b == 61
 
+-- bytes without the spaces at their end; of spaces alone nothing is left
 abbrev pub without_spaces_behind : List ℕ → List ℕ
 without_spaces_behind bs = take (length bs - suffix_len is_space bs) bs
 
+-- bytes without the spaces at both ends; of spaces alone nothing is left
 abbrev pub without_spaces : List ℕ → List ℕ
 without_spaces bs = without_spaces_behind (drop (prefix_len is_space bs) bs)
 
+-- the pieces between the semicolons of a facets column that aren't spaces alone; none for the empty column
 abbrev pub facet_pieces : List ℕ → List (List ℕ)
 facet_pieces column = filter is_filled (map without_spaces (slice_split (λ b. b == 59) column))
 
+-- the byte is a letter a to z
 abbrev pub is_small_letter : ℕ → Bool
 is_small_letter b = is_in_range 97 122 b
 
+-- the byte is a letter a to z or a digit
 abbrev pub is_name_byte : ℕ → Bool
 is_name_byte b = is_small_letter b || is_in_range 48 57 b
 
+-- the first byte is a letter a to z; the empty text has no first byte
 abbrev pub begins_with_letter : List ℕ → Bool
 begins_with_letter [] = false
 begins_with_letter (b ∷ bs) = is_small_letter b
 
+-- the form of a facet's name, of 1 to 16 bytes; the empty text hasn't this form
 abbrev pub has_name_form : List ℕ → Bool
 has_name_form n = begins_with_letter n && (list_all is_name_byte n && nat_le (length n) MAX_NAME_BYTES)
 
+-- the name in a piece, by its key text; where there is no `=`, it is that of the whole piece
 abbrev pub piece_name : List ℕ → List ℕ
 piece_name p = norm (without_spaces_behind (before_first is_equals p))
 
+-- the value in a piece; where there is no `=`, it is empty
 abbrev pub piece_value : List ℕ → List ℕ
 piece_value p = after_first is_equals p
 
--- the word of the facet `name` with this value, which may be empty: `:name:value`
+-- the word of the facet `name` with this value, which may be empty
 abbrev pub named : List ℕ → List ℕ → List ℕ
 named name value = 58 ∷ name ++ 58 ∷ value
 
--- a word as it is shown: that of a facet without its leading colon, any other as it is
+-- a word as it is shown, that of a facet without its leading colon; the empty text stays empty
 abbrev pub shown_word : List ℕ → List ℕ
 shown_word [] = []
 shown_word (b ∷ bs) = if b == 58 then bs else b ∷ bs
 
+-- the facet word that a piece gives; None where its value has no word
 abbrev pub facet_word : List ℕ → Option (List ℕ)
 facet_word p = option_map (named (piece_name p)) (slug (piece_value p))
 
--- a word that stands twice in the column is listed twice here; rows count it once
+-- the facet words of a column, from the left, one that stands twice listed twice; none where no piece gives one
 abbrev pub facet_words : List ℕ → List (List ℕ)
 facet_words column = filter_map facet_word (facet_pieces column)
 
 -- ---- refusals
+-- why a collection isn't accepted, with the refused line's number among all lines, from 1, where it is one line's fault
 pub data CollectionRefusal : Type 0 where
   too_large : CollectionRefusal
   not_utf8 : ℕ → CollectionRefusal
@@ -128,15 +166,15 @@ pub data CollectionRefusal : Type 0 where
   too_many_rows : CollectionRefusal
   too_many_words : CollectionRefusal
 
--- a piece needs an `=`, and before it a name
+-- the refusal of a piece of facets on the line of number n; None where a name stands before an `=`
 abbrev pub piece_refusal : ℕ → List ℕ → Option CollectionRefusal
 piece_refusal n p = first_reason (unless (list_any is_equals p) (bad_facet n) ∷ unless (has_name_form (piece_name p)) (bad_name n) ∷ [])
 
--- title and text words together
+-- how many words title and text have together, those of facets not counted; 0 where neither has one
 abbrev pub word_count : Columns → ℕ
 word_count cs = length (words cs.title) + length (words cs.text)
 
--- the rules in their order; the pieces of its facets go from left to right
+-- the refusal of a line, with its pieces of facets from the left; None where it breaks no rule
 abbrev pub line_refusal : DocLine → Option CollectionRefusal
 line_refusal l = first_reason (
     unless (is_utf8 l.bytes) (not_utf8 l.line)
@@ -146,13 +184,17 @@ line_refusal l = first_reason (
     ∷ unless (nat_lt l.doc MAX_DOCS) (too_many_docs l.line)
     ∷ [])
 
+-- the first refusal of a collection by its size and its lines, rows not counted; None where there is none, as in the empty
+-- one
 abbrev pub docs_refusal : List ℕ → Option CollectionRefusal
 docs_refusal c = first_reason (unless (nat_le (length c) MAX_COLLECTION_BYTES) too_large ∷ map line_refusal (doc_lines c))
 
 -- ---- documents
+-- the document of a line, which keeps the line's number
 abbrev pub document : DocLine → Doc
 document l = record { title = (columns l.bytes).title; facets = (columns l.bytes).facets; text = (columns l.bytes).text; line = l.line }
 
+-- the documents of a collection, which count only where its `docs_refusal` is None; the empty collection has none
 abbrev pub documents : List ℕ → List Doc
 documents c = map document (doc_lines c)
 
@@ -161,5 +203,6 @@ documents c = map document (doc_lines c)
 abbrev pub is_plain_byte : ℕ → Bool
 is_plain_byte b = (b == 10) || (is_in_range 32 126 b && (not (b == 34) && not (b == 92)))
 
+-- a collection of at most 65,536 such bytes; the empty collection is one
 abbrev pub is_plain : List ℕ → Bool
 is_plain c = nat_le (length c) 65536 && list_all is_plain_byte c

@@ -1,17 +1,25 @@
 -- What is searched: the rows of a collection's documents, and the corpus that they make.
 --
---   Corpus               the titles by document number, and the set of rows, listed by document, position and word
---   title_rows, text_rows, facet_rows     the rows of a document's columns
---   doc_rows (d, doc)    the rows of the document of number d
---   rows_of docs         the rows of a list of documents, numbered from 0; each (doc, pos, word) names one
---   corpus_of docs       their corpus; of no documents it has no title and no row
---   distinct_words rows  the words of rows, each once, by bytes
---   refusal c            the first refusal of a collection, rows and distinct words counted; None where it is accepted
---   corpus c             the corpus of an accepted collection
+-- Source: rows, their positions and their scores are this engine's own.
+--
+--   Corpus                         the titles by document number, and the set of rows, listed by document, position and word
+--   placed d score (pos, w)        the row of the word w at a position of document d
+--   title_rows d doc               the rows of title words; none where the title has no word
+--   text_rows d doc                the rows of text words; none where the text has no word
+--   facet_rows d doc               the rows of facet words; none where the facets have none
+--   doc_rows (d, doc)              the rows of the document of number d; none where it has no word
+--   rows_of docs                   the rows of a list of documents, numbered from 0; each (doc, pos, word) names one; of no
+--                                  documents none
+--   title_of doc, titles_of docs   a document's title; the titles of documents by number from 0, the empty map for none
+--   corpus_of docs                 the corpus of a list of documents; of no documents it has no title and no row
+--   distinct_words rows            the words of rows, each once, by bytes; of no rows none
+--   rows_refusal rows              too many rows, else too many distinct words; None where there is neither
+--   refusal c                      the first refusal of a collection, rows and distinct words counted; None where it is
+--                                  accepted
+--   corpus c                       the corpus of an accepted collection; it counts only where refusal c is None
 --
 -- A title word has its place in the title as position, from 1, and the score 4. Text words go on 9 positions behind the last
--- title word, with the score 1, so no phrase and no nearness reaches from one to the other. A facet word has the
--- position 0 and the score 2.
+-- title word, with the score 1, which is too far for a link between the two. A facet word has the position 0 and the score 2.
 use Rattle.std.specs.Prelude.{ℕ, ◌+◌, nat_le, List, [], ◌∷◌, ◌++◌, map, length, Option}
 use Rattle.std.specs.List.{flat_map, enumerate_from}
 use Rattle.std.specs.Ordering.{nat_cmp}
@@ -27,48 +35,61 @@ use Rattle.cs_model.specs.Collection.{CollectionRefusal, too_many_rows, too_many
 use Rattle.cs_model.specs.First.{unless, first_reason}
 use Rattle.cs_model.specs.Words.{words}
 
+-- what is searched: titles by document number, and rows by document, position and word; of both there may be none
 pub record Corpus : Type 0 where
   pub titles : map.FinMap nat_cmp (List ℕ)
   pub rows : List Row
 
--- the words at positions from some place on
+-- the row of a word that stands at this position of document d, with this score
 abbrev pub placed : ℕ → ℕ → ℕ × List ℕ → Row
 placed d score p = record { doc = d; word = p.1; pos = p.0; score = score }
 
+-- the rows of the title's words, the first of which stands at 1; none where it has no word
 abbrev pub title_rows : ℕ → Doc → List Row
 title_rows d doc = map (placed d TITLE_SCORE) (enumerate_from 1 (words doc.title))
 
+-- the rows of the text's words, the first of which stands 9 behind the last title word, so at 9 where the title has none
 abbrev pub text_rows : ℕ → Doc → List Row
 text_rows d doc = map (placed d TEXT_SCORE) (enumerate_from (length (words doc.title) + BEHIND_TITLE) (words doc.text))
 
+-- the rows of the facet words, at position 0, as often as the column lists them; none where it lists none
 abbrev pub facet_rows : ℕ → Doc → List Row
 facet_rows d doc = map (λ w. placed d FACET_SCORE (0, w)) (facet_words doc.facets)
 
+-- the rows of a document given with its number, column by column; none where no column has a word
 abbrev pub doc_rows : ℕ × Doc → List Row
 doc_rows p = facet_rows p.0 p.1 ++ title_rows p.0 p.1 ++ text_rows p.0 p.1
 
--- a facet word that stands twice in a document gives one row
+-- the rows of documents that are numbered from 0, each once, by document, position and word; of no documents none
 abbrev pub rows_of : List Doc → List Row
 rows_of docs = members_in by_row (flat_map doc_rows (enumerate_from 0 docs))
 
+-- the title of a document as it stands in the collection, which may be empty
 abbrev pub title_of : Doc → List ℕ
 title_of doc = doc.title
 
+-- the titles of documents by number from 0; the empty map where there is no document
 abbrev pub titles_of : List Doc → map.FinMap nat_cmp (List ℕ)
 titles_of docs = map.from_entries (enumerate_from 0 (map title_of docs))
 
+-- the corpus of documents that are numbered from 0; of no documents it has no title and no row
 abbrev pub corpus_of : List Doc → Corpus
 corpus_of docs = record { titles = titles_of docs; rows = rows_of docs }
 
+-- the words that rows have, each once, by bytes; none where there is no row
 abbrev pub distinct_words : List Row → List (List ℕ)
 distinct_words rows = members_in (slice_cmp nat_cmp) (map (λ r. r.word) rows)
 
--- too many rows, then too many words
+-- the refusal of rows by their number, else by that of their distinct words; None for no rows
 abbrev pub rows_refusal : List Row → Option CollectionRefusal
 rows_refusal rows = first_reason (unless (nat_le (length rows) MAX_ROWS) too_many_rows ∷ unless (nat_le (length (distinct_words rows)) MAX_WORDS) too_many_words ∷ [])
 
+-- the first refusal of a collection, that of its documents before that of its rows; None where it is accepted, as the empty
+-- one is
 abbrev pub refusal : List ℕ → Option CollectionRefusal
 refusal c = first_reason (docs_refusal c ∷ rows_refusal (rows_of (documents c)) ∷ [])
 
+-- the corpus of a collection, which counts only where its `refusal` is None; that of the empty collection has no title and no
+-- row
 abbrev pub corpus : List ℕ → Corpus
 corpus c = corpus_of (documents c)

@@ -1,25 +1,31 @@
--- The texts of faults: compact JSON (RFC 8259), keys in byte order.
+-- The texts of faults: compact JSON, keys in byte order.
+--
+-- Source: RFC 8259 for JSON; keys and words are this engine's own.
 --
 --   error_data error       {"error":E}
+--   limit_word which       the word of a limit: query, word, parts, atoms or depth
 --   bad_data at            {"at":P,"error":"bad"}: the query is refused at the byte P
---   limit_word which       the word of a limit
 --   limit_data at which    {"at":P,"error":"limit","which":W}: a limit refuses it there
 --   param_data name        {"error":"param","param":X}: the parameter X is refused
 --   changed_data rule at   {"at":P,"error":"changed","rule":R}: the index file breaks the rule R at the byte P
---   error_text, bad_text, limit_text, param_text, changed_text: the texts of these
+--   error_text error       the text of error_data
+--   bad_text at            that of bad_data
+--   limit_text at which    that of limit_data
+--   param_text name        that of param_data
+--   changed_text rule at   that of changed_data
 --
--- The words that stand for E are memory, read, head, body, head too long, path and method.
+-- The words that stand for E are memory, read, head, body, head too long, path and method. A place is 0 at the first byte.
 use Rattle.std.specs.Prelude.{ℕ, List, codes}
 use Rattle.cs_base.specs.declared.query.Which.{Which}
 use Rattle.cs_base.specs.declared.query.Which.TheVariants as limits
 use Rattle.serde_json.specs.Data.{Data, object, string, number, unsigned, no_members, member}
 use Rattle.serde_json.specs.Written.{compact_text}
 
--- a fault of which nothing more is said
+-- a fault of which nothing but its word is said
 abbrev pub error_data : List ℕ → Data
 error_data error = object (member (codes "error") (string error) no_members)
 
--- a limit's word
+-- the word of a limit, of each another one
 abbrev pub limit_word : Which → List ℕ
 limit_word limits.Query = codes "query"
 limit_word limits.Word = codes "word"
@@ -27,7 +33,7 @@ limit_word limits.Parts = codes "parts"
 limit_word limits.Atoms = codes "atoms"
 limit_word limits.Depth = codes "depth"
 
--- the query isn't of the grammar: the number of bytes before the first refused character
+-- the query isn't of the grammar: how many bytes stand before the refused character, before the first one 0
 abbrev pub bad_data : ℕ → Data
 bad_data at = object (member (codes "at") (number (unsigned at)) (member (codes "error") (string (codes "bad")) no_members))
 
@@ -49,7 +55,7 @@ changed_data rule at =
     (member (codes "error") (string (codes "changed"))
     (member (codes "rule") (number (unsigned rule)) no_members)))
 
--- the text of a fault of which nothing more is said
+-- the text of a fault of which nothing but its word is said
 unfoldable pub error_text : List ℕ → List ℕ
 error_text error = compact_text (error_data error)
 

@@ -1,8 +1,12 @@
 -- The first refusal of a key text as a value: where the text is refused, and why.
 --
---   refusal_at cs k        the refusal of the character behind the first k, with its place; None where it isn't refused
---   first_refusal cs       the first refusal of the text; None exactly where it is accepted
---   AcceptedHaveNone, RefusedHaveOne     the laws that tie it to IsAccepted and IsRefused
+-- Source: none of its own; Refusals says the same as a relation.
+--
+--   with_place cs k f   the fault f with the place of the character behind the first k
+--   refusal_at cs k     the refusal of the character behind the first k, with its place; None where it isn't refused
+--   first_refusal cs    the first refusal of the text; None exactly where it is accepted, as the empty text is
+--   AcceptedHaveNone    the law that ties it to IsAccepted
+--   RefusedHaveOne      the law that ties it to IsRefused
 use Rattle.std.specs.Prelude.{◌≡◌, ◌↔◌, ℕ, ◌+◌, List, length, map, take, Option, Some, None}
 use Rattle.std.specs.List.{range_with_len}
 use Rattle.std.specs.Option.{option_map}
@@ -10,7 +14,7 @@ use Rattle.cs_model.specs.First.{first_reason}
 use Rattle.cs_model.specs.Tokens.{tokens}
 use Rattle.cs_model.specs.Refusals.{QueryRefusal, verdict, place_of, IsAccepted, IsRefused}
 
--- a fault with the place of the character behind the first k
+-- a fault with the place of the character behind the first k, which is 0 for the first character
 abbrev pub with_place : List ℕ → ℕ → QueryRefusal → ℕ × QueryRefusal
 with_place cs k f = (place_of cs k, f)
 
@@ -18,7 +22,7 @@ with_place cs k f = (place_of cs k, f)
 abbrev pub refusal_at : List ℕ → ℕ → Option (ℕ × QueryRefusal)
 refusal_at cs k = option_map (with_place cs k) (verdict (tokens (take (k + 1) cs)))
 
--- the first refusal of its characters, from the left; None where the text is accepted
+-- the first refusal of a text's characters, from the left; None for the empty text
 abbrev pub first_refusal : List ℕ → Option (ℕ × QueryRefusal)
 first_refusal cs = first_reason (map (refusal_at cs) (range_with_len 0 (length cs)))
 

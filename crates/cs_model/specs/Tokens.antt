@@ -1,11 +1,20 @@
 -- The tokens of a key text. A key text is given by the list of its characters, and tokens hold the bytes of theirs.
--- The signs are this project's own; which characters are word characters follows Unicode's general categories (Words).
 --
---   class_of x            what a character is to the grammar
---   Token                 Word, Value, Run, Gap and the signs
---   with_next x ts        the tokens with one character more
---   tokens cs             the tokens of the characters cs, the newest first; of none []
---   size ts               the bytes of the text that has these tokens
+-- Source: the signs are this engine's own; which characters are word characters follows Unicode's general categories (Words).
+--
+--   class_of x           what the character x is to the grammar
+--   Token                Word, Value, Run, Gap and the signs Dollar, Bar, Colon, Open and Close
+--   begun k x ts         the tokens ts, and behind them a token that a character of class k with the bytes x begins
+--   grown k x ts         the tokens ts with that character behind them, in the newest token where it belongs to it
+--   with_next x ts       the tokens ts with the character x behind them
+--   tokens_after ts xs   the tokens ts with the characters xs behind them; with none ts
+--   tokens cs            the tokens of the characters cs, the newest first; of none []
+--   token_size t         the bytes of the token t, of an empty value 0
+--   size ts              the bytes of the text that has these tokens; of no tokens 0
+--
+-- A Word is a maximal run of word characters, a Run one of the characters . - _ ' and a Gap one of all other characters.
+-- A Value holds what follows a colon at once, as long as word characters and - _ ' come, perhaps nothing; the last three each
+-- become _ in it.
 use Rattle.std.specs.Prelude.{ℕ, List, [], ◌∷◌, ◌++◌, ◌+◌, ◌||◌, ◌==◌, length, fold, if◌then◌else◌}
 use Rattle.std.specs.Char.{encode_utf8}
 use Rattle.cs_model.specs.declared.kinds.Class.{Class}
@@ -25,9 +34,7 @@ class_of x =
     else if x == 93 then c.Close
     else c.Other
 
--- A Word is a maximal run of word characters, a Run one of the characters . - _ ' and a Gap one of all other characters.
--- A Value is what stands directly behind a colon: the maximal, perhaps empty run of word characters and - _ ' of which the last three each mean _.
--- Of a gap only its number of bytes is kept.
+-- a token with the bytes of its characters, of a gap their number alone; a value may have none
 pub data Token : Type 0 where
   Word : List ℕ → Token
   Value : List ℕ → Token
@@ -41,7 +48,7 @@ pub data Token : Type 0 where
 
 -- Lists of tokens have the newest first.
 
--- A character of class k, with the bytes x, begins a token. With a colon comes the value behind it, which is empty at first.
+-- a character of class k, with the bytes x, begins a token; behind a colon stands a value at once, which is empty
 abbrev pub begun : Class → List ℕ → List Token → List Token
 begun c.Letter x ts = Word x ∷ ts
 begun c.Dot x ts = Run x ∷ ts
@@ -53,7 +60,8 @@ begun c.Open x ts = Open ∷ ts
 begun c.Close x ts = Close ∷ ts
 begun c.Other x ts = Gap (length x) ∷ ts
 
--- One character more, of class k and with the bytes x: it lengthens the newest token where it belongs to it, and else begins one.
+-- a character of class k, with the bytes x, lengthens the newest token where it belongs to it, and else begins one, as behind
+-- no token
 abbrev pub grown : Class → List ℕ → List Token → List Token
 grown c.Letter x (Word w ∷ ts) = Word (w ++ x) ∷ ts
 grown c.Letter x (Value v ∷ ts) = Value (v ++ x) ∷ ts
@@ -63,19 +71,19 @@ grown c.Joiner x (Run r ∷ ts) = Run (r ++ x) ∷ ts
 grown c.Other x (Gap n ∷ ts) = Gap (n + length x) ∷ ts
 grown k x ts = begun k x ts
 
--- the tokens with the character x behind them
+-- the tokens of a text that is longer by the character x, which behind no token makes one, or two where it is a colon
 abbrev pub with_next : ℕ → List Token → List Token
 with_next x ts = grown (class_of x) (encode_utf8 x) ts
 
--- the tokens ts with characters behind them; with none ts
+-- the tokens of a text that is longer by these characters; by none the same
 abbrev pub tokens_after : List Token → List ℕ → List Token
 tokens_after ts xs = fold (λ us x. with_next x us) ts xs
 
--- the tokens of a text, the newest first; of no text none
+-- the tokens of a text, the newest first; of the empty text none
 abbrev pub tokens : List ℕ → List Token
 tokens cs = tokens_after [] cs
 
--- the bytes of a token; a sign has one
+-- the bytes of a token; a sign has one, an empty value none
 abbrev pub token_size : Token → ℕ
 token_size (Word w) = length w
 token_size (Value v) = length v

@@ -1,16 +1,19 @@
 -- The words of a text, and the slug that a facet's value is written by.
 --
--- Source: General_Category is that of Unicode Standard Annex 44, in the tables that the cited crates carry.
+-- Source: General_Category is that of Unicode Standard Annex 44, in the tables that the cited crates carry. What is a word,
+-- and where it is cut, is this engine's own.
 --
---   is_word_char c    whether the character c is part of a word
---   is_gap c          whether it is not
---   is_filled xs      whether the list has an entry, as a run or a line has
---   runs cs           the maximal runs of word characters among the characters cs, in order
---   fitting room cs   the longest prefix of cs whose characters take at most `room` bytes together
---   cut cs            the bytes of the longest prefix of cs that takes at most 120 of them
---   words_of cs       the words that the characters cs have: their runs, each cut
---   words s           the words of the text s, by its key text; none where no character is part of a word
---   slug s            the words of s with `_` between each two, cut; None exactly where s has no word
+--   is_word_category k   whether the category k is in one of the groups L, M and N
+--   is_word_char c       whether the character c is part of a word
+--   is_gap c             whether it is not
+--   is_filled xs         whether the list xs has an entry, as a run or a line has; the empty list hasn't
+--   runs cs              the maximal runs of word characters among the characters cs, in order; none where each is a gap
+--   fitting room cs      the longest prefix of cs whose characters take at most `room` bytes together; none of no characters
+--   cut cs               the bytes of the longest prefix of cs that takes at most 120 of them
+--   words_of cs          the words that the characters cs have: their runs, each cut
+--   words s              the words of the text s, by its key text; none where no character is part of a word
+--   slug_of ws           the words ws with `_` between each two, cut; None where there is no word
+--   slug s               the slug of the text s; None exactly where s has no word
 --
 -- A run that is cut is one word, as every other run is. A word has no `_` and no `:`.
 use Rattle.std.specs.Prelude.{ℕ, ◌-◌, Bool, ◌||◌, not, nat_lt, nat_le, if◌then◌else◌, List, [], ◌∷◌, map, filter, length, chars, encode_utf8_all, Option, Some, None}
@@ -23,41 +26,41 @@ use Rattle.ucd_category.specs.declared.GeneralCategoryGroup.TheVariants.{Letter,
 use Rattle.cs_base.specs.declared.limits.TheConstants.{MAX_PLAIN_WORD_BYTES}
 use Rattle.cs_model.specs.KeyText.{norm}
 
--- the category is in one of the groups L, M and N
+-- a category of letters, marks or numbers; all others, as those of signs, aren't
 abbrev pub is_word_category : GeneralCategory → Bool
 is_word_category k = in_group Letter k || in_group Mark k || in_group Number k
 
--- below U+0080 the ASCII letters and digits alone, above it the characters of the groups L, M and N
+-- a letter, a mark or a number; below U+0080 the ASCII letters and digits alone, so `_` is none
 unfoldable pub is_word_char : ℕ → Bool
 is_word_char c = if nat_lt c 128 then is_ascii_alphanumeric c else is_word_category (general_category c)
 
--- the other characters
+-- a character that is no part of a word, as the space, `_` and `:` are
 abbrev pub is_gap : ℕ → Bool
 is_gap c = not (is_word_char c)
 
--- it has one entry or more
+-- a list that has an entry; the empty list hasn't
 abbrev pub is_filled : {X : Type 0} → List X → Bool
 is_filled xs = nat_lt 0 (length xs)
 
--- the pieces between the gaps that are not empty, so none where each character is a gap
+-- the maximal runs of word characters, from the left; none where each character is a gap
 abbrev pub runs : List ℕ → List (List ℕ)
 runs cs = filter is_filled (slice_split is_gap cs)
 
--- the longest prefix of whole characters that takes at most `room` bytes: all of cs where it fits, and none of it where
--- its first character doesn't
+-- as many whole characters from the front as there is room for, in bytes; all where they fit, none where the first one
+-- doesn't
 abbrev pub fitting : ℕ → List ℕ → List ℕ
 fitting room [] = []
 fitting room (c ∷ cs) = if nat_le (len_utf8 c) room then c ∷ fitting (room - len_utf8 c) cs else []
 
--- its bytes, where there is room for 120
+-- the bytes of characters, cut to 120 by whole characters; where they take no more, all of them
 unfoldable pub cut : List ℕ → List ℕ
 cut cs = encode_utf8_all (fitting MAX_PLAIN_WORD_BYTES cs)
 
--- one word for each run
+-- the words among characters, one for each run; none where there is no run
 abbrev pub words_of : List ℕ → List (List ℕ)
 words_of cs = map cut (runs cs)
 
--- the words of a text are those of its key text's characters
+-- the words of a text, those of its key text; none for the empty text
 unfoldable pub words : List ℕ → List (List ℕ)
 words s = words_of (chars (norm s))
 
@@ -66,6 +69,6 @@ abbrev pub slug_of : List (List ℕ) → Option (List ℕ)
 slug_of [] = None
 slug_of (w ∷ ws) = Some (cut (chars (join_with_byte 95 (w ∷ ws))))
 
--- the slug of a text
+-- the slug of a text; None where the text has no word
 abbrev pub slug : List ℕ → Option (List ℕ)
 slug s = slug_of (words s)
