@@ -3,11 +3,11 @@
 --   worked            the corpus: its rows and titles are those of the collection text `worked_text`
 --   asks text         the request of a query's key text, with the defaults
 use Rattle.std.proofs.Common.{◌≡◌, ℕ, List, [], ◌∷◌, ◌++◌, refl, ap, ◌∙◌, Bool, true, false, codes}
-use Rattle.std.specs.Prelude.{Some, None}
+use Rattle.std.specs.List.{flat_map, enumerate_from}
 use Rattle.std.specs.Char.{encode_utf8}
 use Rattle.std.specs.Str.{chars}
 use Rattle.std.specs.Ordering.{nat_cmp}
-use Rattle.std.specs.FinMap.{FinMap, entries, get, from_entries, get-from_entries}
+use Rattle.std.specs.FinMap.{FinMap, entries, find, get, from_entries, get-from_entries}
 use Rattle.std.proofs.lemmas.Cmp.{nat_cmp_total}
 use Rattle.caseless.proofs.Computing.{caseless}
 use Rattle.ucd_category.proofs.Computing.{ucd_category}
@@ -24,9 +24,9 @@ use Rattle.cs_model.specs.Corpus.{Corpus, titles_of, doc_rows, rows_of, corpus}
 use Rattle.cs_model.specs.Grammar.{query_of}
 use Rattle.cs_model.specs.Answers.{PartRows, begins, greatest_score, parts_of}
 use Rattle.cs_model.specs.Replies.{Reply, Shown, HitShown}
-use Rattle.cs_model.specs.Requests.{Request, reply_to, reply_of}
+use Rattle.cs_model.specs.Requests.{Request, reply_of}
 use Rattle.cs_model.proofs.ListedMembers.{entries-sorted, members-listed}
-use Rattle.cs_model.proofs.AnswersLemmas.{query_rolled, part_listed, chain_rolled, linked_rolled, prefix_rows, exact_rows, join_rows, reply-listed}
+use Rattle.cs_model.proofs.AnswersLemmas.{query_rolled, part_listed, chain_rolled, linked_rolled, prefix_rows, exact_rows, join_rows, listed_reply, reply-listed}
 use lib.Utf8
 
 -- ---- tests and scores
@@ -60,8 +60,11 @@ worked_text =
     ++ codes "The CompleteSearch engine\tauthor=Bast;year=2007\ttype ahead search and faceted search\n"
     ++ codes "Typed lambda calculi\tauthor=Church;year=1940\ttypes\n"
 
+abbrev worked_entries : List (ℕ × List ℕ)
+worked_entries = (0, codes "Type less find more") ∷ (1, codes "The CompleteSearch engine") ∷ (2, codes "Typed lambda calculi") ∷ []
+
 worked_titles : FinMap nat_cmp (List ℕ)
-worked_titles = from_entries ((0, codes "Type less find more") ∷ (1, codes "The CompleteSearch engine") ∷ (2, codes "Typed lambda calculi") ∷ [])
+worked_titles = from_entries worked_entries
 
 abbrev worked_rows : List Row
 worked_rows =
@@ -103,7 +106,7 @@ worked = record { titles = worked_titles; rows = worked_rows }
 -- a facet word stands in front of its document with the score 2, text words stand nine positions behind the title
 rows-worked : rows_of (documents worked_text) ≡ worked_rows
 unfolding words norm chars cut caseless is_word_char general_category ucd_category lib.Utf8.encode
-rows-worked = members-listed by_row by_row_total _
+rows-worked = members-listed by_row by_row_total (flat_map doc_rows (enumerate_from 0 (documents worked_text)))
 
 titles-worked : titles_of (documents worked_text) ≡ worked_titles
 unfolding worked_titles
@@ -113,21 +116,13 @@ titles-worked = refl
 corpus-worked : corpus worked_text ≡ worked
 corpus-worked = ap (λ rows. record { titles = titles_of (documents worked_text); rows = rows }) rows-worked ∙ ap (λ ts. record { titles = ts; rows = worked_rows }) titles-worked
 
-titles-are : entries worked_titles ≡ (0, codes "Type less find more") ∷ (1, codes "The CompleteSearch engine") ∷ (2, codes "Typed lambda calculi") ∷ []
+titles-are : entries worked_titles ≡ worked_entries
 unfolding worked_titles
-titles-are = entries-sorted nat_cmp nat_cmp_total ((0, codes "Type less find more") ∷ (1, codes "The CompleteSearch engine") ∷ (2, codes "Typed lambda calculi") ∷ [])
+titles-are = entries-sorted nat_cmp nat_cmp_total worked_entries
 
-title-0 : get worked_titles 0 ≡ Some (codes "Type less find more")
+titles-found : (d : ℕ) → get worked_titles d ≡ find nat_cmp d worked_entries
 unfolding worked_titles
-title-0 = get-from_entries nat_cmp_total _ 0
-
-title-1 : get worked_titles 1 ≡ Some (codes "The CompleteSearch engine")
-unfolding worked_titles
-title-1 = get-from_entries nat_cmp_total _ 1
-
-title-2 : get worked_titles 2 ≡ Some (codes "Typed lambda calculi")
-unfolding worked_titles
-title-2 = get-from_entries nat_cmp_total _ 2
+titles-found d = get-from_entries nat_cmp_total worked_entries d
 
 -- ---- rows of queries
 abbrev positive : List Row → PartRows
@@ -148,6 +143,11 @@ shown docs word = record { docs = docs; word = word }
 abbrev hit : ℕ → ℕ → List ℕ → HitShown
 hit doc score title = record { doc = doc; score = score; title = title }
 
+answered : (r : Request) → reply_of worked r ≡ listed_reply worked (parts_of worked r.query) r
+unfolding reply_of
+answered r = reply-listed worked (parts_of worked r.query) r
+
+-- completions by documents, hits by scores
 reply-prefix : reply_of worked (asks (codes "typ")) ≡ record {
   completions = shown 2 (codes "type") ∷ shown 1 (codes "typed") ∷ shown 1 (codes "types") ∷ [];
   facets = [];
@@ -155,8 +155,16 @@ reply-prefix : reply_of worked (asks (codes "typ")) ≡ record {
   total_completions = 3;
   total_hits = 3;
 }
-unfolding reply_of is_word_char encode_utf8
-reply-prefix =
-    ap (λ ps. reply_to worked ps (asks (codes "typ"))) parts-prefix
-    ∙ reply-listed worked _ (asks (codes "typ"))
-    ∙ simp (titles-are, title-0, title-1, title-2) refl
+unfolding is_word_char encode_utf8
+reply-prefix = answered (asks (codes "typ")) ∙ simp (query_rolled, part_listed, chain_rolled, prefix_rows, titles-are, titles-found) refl
+
+-- a hit has a row of each part
+reply-two : reply_of worked (asks (codes "search typ")) ≡ record {
+  completions = shown 2 (codes "type") ∷ [];
+  facets = [];
+  hits = hit 0 5 (codes "Type less find more") ∷ hit 1 2 (codes "The CompleteSearch engine") ∷ [];
+  total_completions = 1;
+  total_hits = 2;
+}
+unfolding is_word_char encode_utf8
+reply-two = answered (asks (codes "search typ")) ∙ simp (query_rolled, part_listed, chain_rolled, prefix_rows, titles-are, titles-found) refl
