@@ -128,8 +128,15 @@ titles-found d = get-from_entries nat_cmp_total worked_entries d
 abbrev positive : List Row → PartRows
 positive rows = record { excluded = false; rows = rows }
 
+abbrev typ_rows : List Row
+typ_rows = row 0 1 4 (codes "type") ∷ row 1 12 1 (codes "type") ∷ row 2 1 4 (codes "typed") ∷ row 2 12 1 (codes "types") ∷ []
+
+-- two authors in the first document, one of them in the second too
+abbrev bast_and_weber : List Row
+bast_and_weber = row 0 0 2 (codes ":author:bast") ∷ row 0 0 2 (codes ":author:weber") ∷ row 1 0 2 (codes ":author:bast") ∷ []
+
 -- words that begin with `typ`
-parts-prefix : parts_of worked (query_of (codes "typ")) ≡ positive (row 0 1 4 (codes "type") ∷ row 1 12 1 (codes "type") ∷ row 2 1 4 (codes "typed") ∷ row 2 12 1 (codes "types") ∷ []) ∷ []
+parts-prefix : parts_of worked (query_of (codes "typ")) ≡ positive typ_rows ∷ []
 unfolding is_word_char encode_utf8
 parts-prefix = simp (query_rolled, part_listed, chain_rolled, prefix_rows) refl
 
@@ -168,3 +175,185 @@ reply-two : reply_of worked (asks (codes "search typ")) ≡ record {
 }
 unfolding is_word_char encode_utf8
 reply-two = answered (asks (codes "search typ")) ∙ simp (query_rolled, part_listed, chain_rolled, prefix_rows, titles-are, titles-found) refl
+
+-- with one letter more the best row of a document may be gone
+reply-longer : reply_of worked (asks (codes "types")) ≡ record {
+  completions = shown 1 (codes "types") ∷ [];
+  facets = [];
+  hits = hit 2 1 (codes "Typed lambda calculi") ∷ [];
+  total_completions = 1;
+  total_hits = 1;
+}
+unfolding is_word_char encode_utf8
+reply-longer = answered (asks (codes "types")) ∙ simp (query_rolled, part_listed, chain_rolled, prefix_rows, titles-are, titles-found) refl
+
+-- an exact word has itself alone
+reply-exact : reply_of worked (asks (codes "type$")) ≡ record {
+  completions = shown 2 (codes "type") ∷ [];
+  facets = [];
+  hits = hit 0 4 (codes "Type less find more") ∷ hit 1 1 (codes "The CompleteSearch engine") ∷ [];
+  total_completions = 1;
+  total_hits = 2;
+}
+unfolding is_word_char encode_utf8
+reply-exact = answered (asks (codes "type$")) ∙ simp (query_rolled, part_listed, chain_rolled, exact_rows, titles-are, titles-found) refl
+
+-- a phrase has the second word directly behind the first
+reply-phrase : reply_of worked (asks (codes "type-ahead")) ≡ record {
+  completions = shown 1 (codes "ahead") ∷ [];
+  facets = [];
+  hits = hit 1 1 (codes "The CompleteSearch engine") ∷ [];
+  total_completions = 1;
+  total_hits = 1;
+}
+unfolding is_word_char encode_utf8
+reply-phrase = answered (asks (codes "type-ahead")) ∙ simp (query_rolled, part_listed, chain_rolled, linked_rolled, out-roll-Part, out-roll-Chain, prefix_rows, titles-are, titles-found) refl
+
+-- nearness reaches eight positions, and `types` stands ten away
+reply-near : reply_of worked (asks (codes "lambda..typ")) ≡ record {
+  completions = shown 1 (codes "typed") ∷ [];
+  facets = [];
+  hits = hit 2 4 (codes "Typed lambda calculi") ∷ [];
+  total_completions = 1;
+  total_hits = 1;
+}
+unfolding is_word_char encode_utf8
+reply-near = answered (asks (codes "lambda..typ")) ∙ simp (query_rolled, part_listed, chain_rolled, linked_rolled, out-roll-Part, out-roll-Chain, prefix_rows, titles-are, titles-found) refl
+
+-- an excluded part takes its documents away, and as the last one has no completion
+reply-excluded : reply_of worked (asks (codes "typ -search")) ≡ record {
+  completions = [];
+  facets = [];
+  hits = hit 2 4 (codes "Typed lambda calculi") ∷ [];
+  total_completions = 0;
+  total_hits = 1;
+}
+unfolding is_word_char encode_utf8
+reply-excluded = answered (asks (codes "typ -search")) ∙ simp (query_rolled, part_listed, chain_rolled, prefix_rows, titles-are, titles-found) refl
+
+-- of excluded parts alone a hit has the score 0
+reply-only_excluded : reply_of worked (asks (codes "-search")) ≡ record {
+  completions = [];
+  facets = [];
+  hits = hit 2 0 (codes "Typed lambda calculi") ∷ [];
+  total_completions = 0;
+  total_hits = 1;
+}
+unfolding is_word_char encode_utf8
+reply-only_excluded = answered (asks (codes "-search")) ∙ simp (query_rolled, part_listed, chain_rolled, prefix_rows, titles-are, titles-found) refl
+
+-- behind an excluded part
+reply-behind_excluded : reply_of worked (asks (codes "-search typ")) ≡ record {
+  completions = shown 1 (codes "typed") ∷ shown 1 (codes "types") ∷ [];
+  facets = [];
+  hits = hit 2 4 (codes "Typed lambda calculi") ∷ [];
+  total_completions = 2;
+  total_hits = 1;
+}
+unfolding is_word_char encode_utf8
+reply-behind_excluded = answered (asks (codes "-search typ")) ∙ simp (query_rolled, part_listed, chain_rolled, prefix_rows, titles-are, titles-found) refl
+
+-- of two alternatives one is enough, and both are completed
+reply-alternatives : reply_of worked (asks (codes "typed|ahead")) ≡ record {
+  completions = shown 1 (codes "ahead") ∷ shown 1 (codes "typed") ∷ [];
+  facets = [];
+  hits = hit 2 4 (codes "Typed lambda calculi") ∷ hit 1 1 (codes "The CompleteSearch engine") ∷ [];
+  total_completions = 2;
+  total_hits = 2;
+}
+unfolding is_word_char encode_utf8
+reply-alternatives = answered (asks (codes "typed|ahead")) ∙ simp (query_rolled, part_listed, chain_rolled, prefix_rows, titles-are, titles-found, out-roll-Part) refl
+
+-- a bar at the end is dropped
+reply-bar : reply_of worked (asks (codes "a|")) ≡ record {
+  completions = shown 1 (codes "a") ∷ shown 1 (codes "ahead") ∷ shown 1 (codes "and") ∷ shown 1 (codes "autocompletion") ∷ [];
+  facets = [];
+  hits = hit 0 1 (codes "Type less find more") ∷ hit 1 1 (codes "The CompleteSearch engine") ∷ [];
+  total_completions = 4;
+  total_hits = 2;
+}
+unfolding is_word_char encode_utf8
+reply-bar = answered (asks (codes "a|")) ∙ simp (query_rolled, part_listed, chain_rolled, prefix_rows, titles-are, titles-found) refl
+
+parts-join : parts_of worked (query_of (codes "author[search] typ")) ≡ positive bast_and_weber ∷ positive typ_rows ∷ []
+unfolding is_word_char encode_utf8
+parts-join = simp (query_rolled, part_listed, chain_rolled, prefix_rows, join_rows, titles-are) refl
+
+-- a join keeps the words of its facet that the hits of its query have
+reply-join : reply_of worked (asks (codes "author[search] typ")) ≡ record {
+  completions = shown 2 (codes "type") ∷ [];
+  facets = [];
+  hits = hit 0 6 (codes "Type less find more") ∷ hit 1 3 (codes "The CompleteSearch engine") ∷ [];
+  total_completions = 1;
+  total_hits = 2;
+}
+reply-join = answered (asks (codes "author[search] typ")) ∙ ap (λ ps. listed_reply worked ps (asks (codes "author[search] typ"))) parts-join ∙ simp (titles-are, titles-found) refl
+
+parts-shared : parts_of worked (query_of (codes "author[succinct] typ")) ≡ positive bast_and_weber ∷ positive typ_rows ∷ []
+unfolding is_word_char encode_utf8
+parts-shared = simp (query_rolled, part_listed, chain_rolled, prefix_rows, join_rows, titles-are) refl
+
+-- the second document is no hit of the inner query, and shares an author with one
+reply-shared : reply_of worked (asks (codes "author[succinct] typ")) ≡ record {
+  completions = shown 2 (codes "type") ∷ [];
+  facets = [];
+  hits = hit 0 6 (codes "Type less find more") ∷ hit 1 3 (codes "The CompleteSearch engine") ∷ [];
+  total_completions = 1;
+  total_hits = 2;
+}
+reply-shared = answered (asks (codes "author[succinct] typ")) ∙ ap (λ ps. listed_reply worked ps (asks (codes "author[succinct] typ"))) parts-shared ∙ simp (titles-are, titles-found) refl
+
+-- an open bracket without a query asks every author
+reply-open_join : reply_of worked (asks (codes "author[")) ≡ record {
+  completions = shown 2 (codes "author:bast") ∷ shown 1 (codes "author:church") ∷ shown 1 (codes "author:weber") ∷ [];
+  facets = [];
+  hits = hit 0 2 (codes "Type less find more") ∷ hit 1 2 (codes "The CompleteSearch engine") ∷ hit 2 2 (codes "Typed lambda calculi") ∷ [];
+  total_completions = 3;
+  total_hits = 3;
+}
+unfolding is_word_char encode_utf8
+reply-open_join = answered (asks (codes "author[")) ∙ simp (query_rolled, part_listed, chain_rolled, titles-are, titles-found, join_rows) refl
+
+-- a facet without a value has every value
+reply-facet : reply_of worked (asks (codes "year:")) ≡ record {
+  completions = shown 1 (codes "year:1940") ∷ shown 1 (codes "year:2006") ∷ shown 1 (codes "year:2007") ∷ [];
+  facets = [];
+  hits = hit 0 2 (codes "Type less find more") ∷ hit 1 2 (codes "The CompleteSearch engine") ∷ hit 2 2 (codes "Typed lambda calculi") ∷ [];
+  total_completions = 3;
+  total_hits = 3;
+}
+unfolding is_word_char encode_utf8
+reply-facet = answered (asks (codes "year:")) ∙ simp (query_rolled, part_listed, chain_rolled, prefix_rows, titles-are, titles-found) refl
+
+-- the empty query has every document and no completion
+reply-empty : reply_of worked (asks (codes "")) ≡ record {
+  completions = [];
+  facets = [];
+  hits = hit 0 0 (codes "Type less find more") ∷ hit 1 0 (codes "The CompleteSearch engine") ∷ hit 2 0 (codes "Typed lambda calculi") ∷ [];
+  total_completions = 0;
+  total_hits = 3;
+}
+unfolding is_word_char encode_utf8
+reply-empty = answered (asks (codes "")) ∙ simp (query_rolled, titles-are, titles-found) refl
+
+-- one hit behind the first, and the whole number of hits
+reply-window : reply_of worked (record { query = query_of []; hits = 1; completions = 10; offset = 1; facets = [] }) ≡ record {
+  completions = [];
+  facets = [];
+  hits = hit 1 0 (codes "The CompleteSearch engine") ∷ [];
+  total_completions = 0;
+  total_hits = 3;
+}
+unfolding is_word_char encode_utf8
+reply-window = answered (record { query = query_of []; hits = 1; completions = 10; offset = 1; facets = [] }) ∙ simp (query_rolled, titles-are, titles-found) refl
+
+-- a facet's words over the hits; of a name that no document has there is none
+reply-facets : reply_of worked (record { query = query_of (codes "search"); hits = 10; completions = 10; offset = 0; facets = codes "author" ∷ codes "zzz" ∷ [] }) ≡ record {
+  completions = shown 2 (codes "search") ∷ [];
+  facets = (record { name = codes "author"; table = shown 2 (codes "author:bast") ∷ shown 1 (codes "author:weber") ∷ [] }) ∷ (record { name = codes "zzz"; table = [] }) ∷ [];
+  hits = hit 0 1 (codes "Type less find more") ∷ hit 1 1 (codes "The CompleteSearch engine") ∷ [];
+  total_completions = 1;
+  total_hits = 2;
+}
+unfolding is_word_char encode_utf8
+reply-facets = answered (record { query = query_of (codes "search"); hits = 10; completions = 10; offset = 0; facets = codes "author" ∷ codes "zzz" ∷ [] }) ∙ simp (query_rolled, part_listed, chain_rolled, prefix_rows, titles-are, titles-found) refl
