@@ -5,7 +5,13 @@
 use Rattle.std.proofs.Common.{◌≡◌, ℕ, List, [], ◌∷◌, ◌++◌, refl, ap, ◌∙◌, Bool, true, false, codes}
 use Rattle.std.specs.List.{flat_map, enumerate_from}
 use Rattle.std.specs.Char.{encode_utf8}
-use Rattle.std.specs.Str.{chars}
+use Rattle.std.specs.Prelude.{Some, None}
+use Rattle.std.specs.Fmt.{digits}
+use Rattle.std.specs.Str.{chars, is_utf8}
+use Rattle.std.specs.Str.Lossy.{utf8_lossy, utf8_valid_len}
+use Rattle.form_urlencoded.specs.Form.{raw_pairs, split}
+use Rattle.percent_encoding.specs.Percent.{percent_decode}
+use Rattle.json.specs.Print.{escape_byte}
 use Rattle.std.specs.Ordering.{nat_cmp}
 use Rattle.std.specs.FinMap.{FinMap, entries, find, get, from_entries, get-from_entries}
 use Rattle.std.proofs.lemmas.Cmp.{nat_cmp_total}
@@ -23,8 +29,12 @@ use Rattle.cs_model.specs.Collection.{documents}
 use Rattle.cs_model.specs.Corpus.{Corpus, titles_of, doc_rows, rows_of, corpus}
 use Rattle.cs_model.specs.Grammar.{query_of}
 use Rattle.cs_model.specs.Answers.{PartRows, begins, greatest_score, parts_of}
-use Rattle.cs_model.specs.Replies.{Reply, Shown, HitShown}
+use Rattle.cs_model.specs.Replies.{Shown, HitShown, reply_text}
 use Rattle.cs_model.specs.Requests.{Request, reply_of}
+use Rattle.cs_model.specs.Faults.{bad_text}
+use Rattle.cs_model.specs.Refusals.{Bad}
+use Rattle.cs_model.specs.Parameters.{parameter, bad_query, request_refusal, request_of}
+use Rattle.cs_model.specs.Outputs.{text, text_by}
 use Rattle.cs_model.proofs.ListedMembers.{entries-sorted, members-listed}
 use Rattle.cs_model.proofs.AnswersLemmas.{query_rolled, part_listed, chain_rolled, linked_rolled, prefix_rows, exact_rows, join_rows, listed_reply, reply-listed}
 use lib.Utf8
@@ -357,3 +367,26 @@ reply-facets : reply_of worked (record { query = query_of (codes "search"); hits
 }
 unfolding is_word_char encode_utf8
 reply-facets = answered (record { query = query_of (codes "search"); hits = 10; completions = 10; offset = 0; facets = codes "author" ∷ codes "zzz" ∷ [] }) ∙ simp (query_rolled, part_listed, chain_rolled, prefix_rows, titles-are, titles-found) refl
+
+-- ---- texts
+asked-prefix : request_of (codes "q=typ") ≡ asks (codes "typ")
+unfolding request_of parameter raw_pairs split percent_decode utf8_lossy utf8_valid_len is_utf8 chars lib.Utf8.encode norm caseless
+asked-prefix = refl
+
+accepted-prefix : request_refusal (codes "q=typ") ≡ None
+unfolding request_refusal parameter raw_pairs split percent_decode utf8_lossy utf8_valid_len is_utf8 chars lib.Utf8.encode norm caseless is_word_char
+accepted-prefix = refl
+
+-- what answers the parameters `q=typ`, byte for byte
+text-prefix : text worked (codes "q=typ") ≡ codes "{\"completions\":[{\"docs\":2,\"word\":\"type\"},{\"docs\":1,\"word\":\"typed\"},{\"docs\":1,\"word\":\"types\"}],\"facets\":{},\"hits\":[{\"doc\":0,\"score\":4,\"title\":\"Type less find more\"},{\"doc\":2,\"score\":4,\"title\":\"Typed lambda calculi\"},{\"doc\":1,\"score\":1,\"title\":\"The CompleteSearch engine\"}],\"total\":{\"completions\":3,\"hits\":3}}"
+unfolding text reply_text escape_byte digits
+text-prefix = ap (text_by worked (codes "q=typ")) accepted-prefix ∙ ap (λ r. reply_text (reply_of worked r)) asked-prefix ∙ ap reply_text reply-prefix
+
+refused-bars : request_refusal (codes "q=a||b") ≡ Some (bad_query 2 Bad)
+unfolding request_refusal parameter raw_pairs split percent_decode utf8_lossy utf8_valid_len is_utf8 chars lib.Utf8.encode norm caseless is_word_char
+refused-bars = refl
+
+-- and a query with two bars side by side
+text-bars : text worked (codes "q=a||b") ≡ codes "{\"at\":2,\"error\":\"bad\"}"
+unfolding text bad_text escape_byte digits
+text-bars = ap (text_by worked (codes "q=a||b")) refused-bars

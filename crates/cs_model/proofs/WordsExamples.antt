@@ -53,3 +53,8 @@ cut-whole = refl
 words_of-long : words (replicate 121 97) ≡ replicate 120 97 ∷ []
 unfolding words norm chars cut caseless is_word_char general_category ucd_category lib.Utf8.encode
 words_of-long = refl
+
+-- so is the slug of such a value
+slug_of-long : slug (replicate 121 97) ≡ Some (replicate 120 97)
+unfolding words norm chars cut caseless is_word_char general_category ucd_category lib.Utf8.encode
+slug_of-long = refl
