@@ -7,15 +7,17 @@
 --   table_listed rows   the table of rows
 --   listed_reply        a reply whose lists are such listings
 --   reply-listed        it is the reply
+--   add_facet_parts, tables_of_queries     the laws of facets
 use Rattle.std.proofs.Common.{◌≡◌, ℕ, List, [], ◌∷◌, ◌++◌, map, length, take, drop, refl, ap, ◌∙◌, sym, Bool, false}
 use Rattle.std.specs.List.{flat_map}
 use Rattle.std.specs.Cmp.{IsTotalOrder}
 use Rattle.std.specs.Ordering.{nat_cmp}
 use Rattle.std.proofs.lemmas.Cmp.{then_total, on_total, back_total, nat_cmp_total, nat_list_cmp_total}
+use Rattle.std.proofs.lemmas.List.{map-append}
 use Rattle.cs_base.specs.Orders.{by_row, by_rank}
 use Rattle.cs_base.specs.declared.doc.Row.{Row}
 use Rattle.cs_base.specs.declared.query.Link.{Link}
-use Rattle.cs_base.specs.declared.query.Query.{Query, roll-Query}
+use Rattle.cs_base.specs.declared.query.Query.{Query, roll-Query, out-Query, roll-out-Query}
 use Rattle.cs_base.specs.declared.query.Part.{Part, roll-Part}
 use Rattle.cs_base.specs.declared.query.Chain.{Chain, roll-Chain}
 use Rattle.cs_base.specs.declared.query.Linked.{Linked, roll-Linked}
@@ -26,8 +28,9 @@ use Rattle.cs_base.specs.declared.query.Atom.TheFolds.{fold-roll-Query, fold-rol
 use Rattle.cs_base.proofs.OrdersLemmas.{by_row_total, by_rank_total}
 use Rattle.cs_model.specs.Collection.{named}
 use Rattle.cs_model.specs.Corpus.{Corpus}
-use Rattle.cs_model.specs.Grammar.{join}
+use Rattle.cs_model.specs.Grammar.{chain_of, part_of}
 use Rattle.cs_model.specs.Answers.{PartRows, LinkedRows, Completion, by_count, of_word, atom_rows, chained, chain_rows, linked_rows, part_rows, query_parts, union_of, rows_of_atom, rows_of_linked, rows_of_chain, rows_of_part, parts_of, hits, pairs, scored, ranked, completion_of, table_of, table, facet_part}
+use Rattle.cs_model.specs.AnswersLaws.{AddFacetParts, AreTablesOfQueries}
 use Rattle.cs_model.specs.Replies.{Reply, FacetShown}
 use Rattle.cs_model.specs.Requests.{Request, shown_of, hit_shown, facet_shown, reply_to}
 use Rattle.cs_model.proofs.ListedMembers.{listed, members-listed}
@@ -134,3 +137,20 @@ module _ (k : Corpus) (ps : List PartRows) where
         total_completions = length (table_listed (pairs k ps));
         total_hits = length (hits k ps);
       } in y)) (members-listed by_rank by_rank_total (map (scored ps) (hits k ps)))
+
+-- ---- facets
+-- the rows of the part that asks the facet words of a name
+facet_part_rows : (k : Corpus) (n : List ℕ) → rows_of_part k (part_of false (Prefix (named n []))) ≡ facet_part k n
+facet_part_rows k n =
+    part_rolled k false (chain_of (Prefix (named n [])) ∷ [])
+    ∙ ap (λ rows. record { excluded = false; rows = union_of (rows ∷ []) }) (chain_rolled k (Prefix (named n [])) [] ∙ prefix_rows k (named n []))
+
+pub add_facet_parts : AddFacetParts
+add_facet_parts k q n =
+    query_rolled k ((out-Query q).parts ++ part_of false (Prefix (named n [])) ∷ [])
+    ∙ map-append (rows_of_part k) (out-Query q).parts (part_of false (Prefix (named n [])) ∷ [])
+    ∙ ap (λ p. map (rows_of_part k) (out-Query q).parts ++ p ∷ []) (facet_part_rows k n)
+    ∙ ap (λ ps. ps ++ facet_part k n ∷ []) (sym (query_rolled k (out-Query q).parts) ∙ ap (parts_of k) (roll-out-Query q))
+
+pub tables_of_queries : AreTablesOfQueries
+tables_of_queries k q n = ap (table k) (sym (add_facet_parts k q n))

@@ -25,7 +25,8 @@ use Rattle.cs_model.proofs.PieceText.{sign_behind, close_alone, levels_text, Pri
 use Rattle.cs_model.proofs.AttachedText.{rolled_query}
 use Rattle.cs_model.proofs.PassedTokens.{Passes, passes, kept_tokens, and_true}
 use Rattle.cs_model.proofs.KeptPieces.{cost, pieced, deep_same}
-use Rattle.cs_model.proofs.FineTokens.{size_after, Fine, Few, fine_toks, fronts}
+use Rattle.cs_model.proofs.MaximalTokens.{size_after}
+use Rattle.cs_model.proofs.FineTokens.{Fine, Few, fine_toks, fronts}
 
 -- ---- brackets closed at the end
 record Closed (ps all : List Piece) : Type 0 where

@@ -21,17 +21,13 @@ use Rattle.cs_model.proofs.PieceTokens.{opens, between_opens, between_steps, ste
 use Rattle.cs_model.proofs.PieceText.{printed}
 use Rattle.cs_model.proofs.PassedTokens.{Passes, passed}
 use Rattle.cs_model.proofs.KeptPieces.{cost}
-use Rattle.cs_model.proofs.SizeLemmas.{size_next}
+use Rattle.cs_model.proofs.MaximalTokens.{size_after}
 
 abbrev pub Fine : List Token → Type 0
 Fine [] = Unit {0}
 Fine (t ∷ ts) = Passes (t ∷ ts) × Fine ts
 
 -- ---- sizes
-pub size_after : (cs : List ℕ) (ts : List Token) → size (tokens_after ts cs) ≡ size ts + length (encode_utf8_all cs)
-size_after [] ts = omega arith
-size_after (x ∷ cs) ts = omega (arith, size_after cs (with_next x ts), size_next x ts, length-append (encode_utf8 x) (encode_utf8_all cs))
-
 size_toks : (ps : List Piece) → Well ps → size (toks ps) ≡ cost ps
 size_toks ps h = ap size (sym (tokens_told ps h)) ∙ omega (arith, size_after (told ps) [])
 

@@ -5,6 +5,7 @@ pub mod AttachedText
 pub mod CanonicalExamples
 pub mod CanonicalLemmas
 pub mod CanonicalReading
+pub mod ClassLemmas
 pub mod CollectionExamples
 pub mod FineTokens
 pub mod FirstLemmas
@@ -14,6 +15,7 @@ pub mod KeptPieces
 pub mod KeyLemmas
 pub mod LastEntries
 pub mod ListedMembers
+pub mod MaximalTokens
 pub mod ParameterExamples
 pub mod PartsLemmas
 pub mod PassedTokens

@@ -5,7 +5,7 @@
 --   Kept ts              no token is refused, and each has the characters of its kind
 --   kept_tokens          the tokens of an accepted text are such
 use Rattle.std.proofs.Common.{◌≡◌, ℕ, suc, ◌+◌, ◌≤◌, List, [], ◌∷◌, ◌++◌, length, take, refl, ap, ◌∙◌, sym, Bool, true, false, arith, length-append, Option, Some, None}
-use Rattle.std.specs.Prelude.{◌&&◌, ◌||◌, ◌==◌, not, nat_le, if◌then◌else◌}
+use Rattle.std.specs.Prelude.{◌&&◌, ◌||◌, ◌==◌, not, nat_le}
 use Rattle.std.specs.Char.{encode_utf8, IsScalar}
 use Rattle.std.specs.List.{list_all}
 use Rattle.std.specs.Str.{chars, IsUtf8, all_scalars}
@@ -22,6 +22,7 @@ use Rattle.cs_model.specs.First.{unless, first_reason}
 use Rattle.cs_model.specs.Refusals.{QueryRefusal, Bad, Limit, refused, verdict, parts_in, atoms_in, depth, newest, IsAccepted}
 use Rattle.cs_base.specs.declared.limits.TheConstants.{MAX_QUERY_BYTES, MAX_PLAIN_WORD_BYTES, MAX_PARTS, MAX_ATOMS, MAX_DEPTH}
 use Rattle.cs_base.specs.declared.query.Which.TheVariants as limits
+use Rattle.cs_model.proofs.ClassLemmas.{class_cases}
 use Rattle.cs_model.proofs.FirstLemmas.{none_first, none_rest, unless_none}
 use Rattle.cs_model.proofs.SizeLemmas.{Fits, class_fits}
 use Rattle.cs_model.proofs.Pieces.{IsWord, IsValue, is_value_char}
@@ -138,26 +139,14 @@ kept_depth [] h = omega arith
 kept_depth (t ∷ ts) h = h.1
 
 -- what is known of a character of this class
-abbrev Spells : Class → ℕ → Type 0
-Spells c.Letter x = is_word_char x ≡ true
-Spells _ x = Unit {0}
+abbrev Spells : ℕ → Class → Type 0
+Spells x c.Letter = is_word_char x ≡ true
+Spells x k = Unit {0}
 
-spells_if : (b : Bool) (k l : Class) (x : ℕ) → (b ≡ true → Spells k x) → Spells l x → Spells (if b then k else l) x
-spells_if true k l x h j = h refl
-spells_if false k l x h j = j
+class_spells : (x : ℕ) → Spells x (class_of x)
+class_spells x = class_cases (Spells x) x (λ e. e) (λ e. tt) (λ e. tt) (λ e. tt) (λ e. tt) (λ e. tt) (λ e. tt) (λ e. tt) tt
 
-class_spells : (x : ℕ) → Spells (class_of x) x
-class_spells x =
-    spells_if (is_word_char x) c.Letter _ x (λ e. e)
-    (spells_if (x == 46) c.Dot _ x (λ e. tt)
-    (spells_if ((x == 45) || ((x == 95) || (x == 39))) c.Joiner _ x (λ e. tt)
-    (spells_if (x == 36) c.Dollar _ x (λ e. tt)
-    (spells_if (x == 124) c.Bar _ x (λ e. tt)
-    (spells_if (x == 58) c.Colon _ x (λ e. tt)
-    (spells_if (x == 91) c.Open _ x (λ e. tt)
-    (spells_if (x == 93) c.Close c.Other x (λ e. tt) tt)))))))
-
-kept_grown : (k : Class) (x : ℕ) (ts : List Token) → Spells k x → Fits k (encode_utf8 x) → IsScalar x → Kept ts → Passes (grown k (encode_utf8 x) ts) → Kept (grown k (encode_utf8 x) ts)
+kept_grown : (k : Class) (x : ℕ) (ts : List Token) → Spells x k → Fits (encode_utf8 x) k → IsScalar x → Kept ts → Passes (grown k (encode_utf8 x) ts) → Kept (grown k (encode_utf8 x) ts)
 kept_grown c.Letter x (Word w ∷ ts) l f s h p = (p.fine, p.shallow, (word_more w x h.2.0 s l p.short, h.2.1), h.3)
 kept_grown c.Letter x (Value v ∷ ts) l f s h p = (p.fine, p.shallow, (value_more v x h.2.0 s (or_first (is_word_char x) (x == 95) l) p.short, h.2.1), h.3)
 kept_grown c.Letter x [] l f s h p = (p.fine, p.shallow, (word_new x s l p.short, refl), h)

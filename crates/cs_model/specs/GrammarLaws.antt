@@ -1,0 +1,41 @@
+-- What holds of the tokens of a text, and of the parts of a query.
+--
+--   HaveAllBytes        the tokens of a text have its bytes
+--   belongs t ts        the token t, directly behind the tokens ts, would be part of the newest of them
+--   IsCut ts            no token of ts belongs to the one before it
+--   AreMaximal          so it is with the tokens of each text: each word, value, run and gap is as long as it can be
+--   PartsHaveChains     each part of a query of the grammar has an alternative
+use Rattle.std.specs.Prelude.{◌≡◌, ℕ, ◌≤◌, nat_eq, not, Bool, true, false, List, [], ◌∷◌, length, encode_utf8_all}
+use Rattle.std.specs.List.{AllByRecursion, starts_with}
+use Rattle.cs_base.specs.declared.query.Query.{Query, out-Query}
+use Rattle.cs_base.specs.declared.query.Part.{Part, out-Part}
+use Rattle.cs_model.specs.Tokens.{Token, Word, Value, Run, Gap, tokens, size}
+use Rattle.cs_model.specs.Refusals.{IsOfGrammar}
+
+-- ---- tokens
+-- so no character is lost, and none is counted twice
+abbrev pub HaveAllBytes : Type 0
+HaveAllBytes = (cs : List ℕ) → size (tokens cs) ≡ length (encode_utf8_all cs)
+
+-- of the characters of a run, which are . - _ and ', a value takes all but the dot
+abbrev pub belongs : Token → List Token → Bool
+belongs (Word w) (Word u ∷ ts) = true
+belongs (Word w) (Value v ∷ ts) = true
+belongs (Run r) (Value v ∷ ts) = not (starts_with nat_eq r (46 ∷ []))
+belongs (Run r) (Run s ∷ ts) = true
+belongs (Gap n) (Gap m ∷ ts) = true
+belongs t ts = false
+
+-- of no token it holds
+abbrev pub IsCut : List Token → Type 0
+IsCut [] = Unit {0}
+IsCut (t ∷ ts) = (belongs t ts ≡ false) × IsCut ts
+
+-- no token ends before its characters do
+abbrev pub AreMaximal : Type 0
+AreMaximal = (cs : List ℕ) → IsCut (tokens cs)
+
+-- ---- queries
+-- those within its brackets not asked
+abbrev pub PartsHaveChains : Type 0
+PartsHaveChains = (q : Query) → IsOfGrammar q → AllByRecursion (λ p. 1 ≤ length (out-Part p).chains) (out-Query q).parts
