@@ -4,8 +4,9 @@
 --   Canon bs            what is shown of an accepted text bs and of the canonical text of its query
 --   read_again, different, short, no_longer, keep_counts     the laws
 use Rattle.std.proofs.Common.{◌≡◌, ℕ, zero, suc, ◌+◌, ◌≤◌, List, [], ◌∷◌, ◌++◌, map, length, refl, ap, ◌∙◌, sym, subst, Bool, true, false, arith, length-append}
-use Rattle.std.specs.Prelude.{◌&&◌, encode_utf8_all}
+use Rattle.std.specs.Prelude.{encode_utf8_all}
 use Rattle.std.specs.Str.{chars, IsUtf8, all_scalars}
+use Rattle.std.proofs.lemmas.Bool.{and_from, and_parts}
 use Rattle.std.proofs.lemmas.List.{take_all}
 use Rattle.std.proofs.lemmas.Str.{chars-encodes, encodes-chars, scalars-chars}
 use Rattle.cs_base.specs.declared.query.Link.TheVariants.{Phrase, Near}
@@ -20,10 +21,10 @@ use Rattle.cs_model.specs.Refusals.{IsAccepted, verdict, depth, parts_in, atoms_
 use Rattle.cs_model.specs.Canonical.{canonical, canonical_parts}
 use Rattle.cs_model.specs.CanonicalLaws.{AreReadAgain, AreDifferent, AreShort, AreNoLonger, KeepCounts}
 use Rattle.cs_model.proofs.Pieces.{Piece, Plain, Whole, Valued, WholeValued, Opens, Closes, step_of, IsWord, IsValue, fresh, open_in, Well, between, told, toks}
-use Rattle.cs_model.proofs.PieceTokens.{both_first, both_second, tokens_told, steps_toks}
+use Rattle.cs_model.proofs.PieceTokens.{tokens_told, steps_toks}
 use Rattle.cs_model.proofs.PieceText.{sign_behind, close_alone, levels_text, Printed, printed}
 use Rattle.cs_model.proofs.AttachedText.{rolled_query}
-use Rattle.cs_model.proofs.PassedTokens.{Passes, passes, kept_tokens, and_true}
+use Rattle.cs_model.proofs.PassedTokens.{Passes, passes, kept_tokens}
 use Rattle.cs_model.proofs.KeptPieces.{cost, pieced, deep_same}
 use Rattle.cs_model.proofs.MaximalTokens.{size_after}
 use Rattle.cs_model.proofs.FineTokens.{Fine, Few, fine_toks, fronts}
@@ -80,7 +81,7 @@ all_shut (suc d) ps h e =
 scalars_append : (xs ys : List ℕ) → all_scalars xs ≡ true → all_scalars ys ≡ true → all_scalars (xs ++ ys) ≡ true
 scalars_append [] ys h k = k
 scalars_append (x ∷ xs) ys h k =
-    and_true _ _ (both_first _ (all_scalars xs) h) (scalars_append xs ys (both_second _ (all_scalars xs) h) k)
+    and_from _ _ ((and_parts _ (all_scalars xs) h).0) (scalars_append xs ys ((and_parts _ (all_scalars xs) h).1) k)
 
 between_scalars : (t : Tie) (f : Bool) → all_scalars (between t f) ≡ true
 between_scalars (Begins true) true = refl

@@ -4,7 +4,6 @@
 --   fine_toks          the tokens of well formed pieces are such, where these are within the limits
 --   fronts             then each prefix of the text passes
 use Rattle.std.proofs.Common.{◌≡◌, ℕ, zero, suc, ◌+◌, ◌≤◌, List, [], ◌∷◌, ◌++◌, map, length, take, refl, ap, ◌∙◌, sym, Bool, true, false, not, arith, length-append, None}
-use Rattle.std.specs.Prelude.{encode_utf8_all}
 use Rattle.std.specs.Char.{encode_utf8}
 use Rattle.std.proofs.lemmas.Bool.{lt-ltb}
 use Rattle.cs_model.specs.declared.kinds.Class.{Class}

@@ -7,7 +7,7 @@
 use Rattle.std.proofs.Common.{◌≡◌, List, [], ◌∷◌, map, length, refl, sym, ap, ◌∙◌, arith}
 use Rattle.std.specs.declared.cmp.Ordering.{Ordering}
 use Rattle.std.specs.Cmp.{IsTotalOrder}
-use Rattle.std.specs.FinMap.{FinMap, entries, from_entries, empty, len-empty, len-entries, entries-insert}
+use Rattle.std.specs.FinMap.{entries, from_entries, empty, len-empty, len-entries, entries-insert}
 use Rattle.std.specs.FinMap.Entries.{put}
 use Rattle.cs_base.specs.Members.{marked, members_in}
 

@@ -3,26 +3,23 @@
 --   parts_within     the parts within the innermost bracket, and those that the open brackets will leave, are among the parts that begin
 --   few_parts        a query of the grammar has at most so many parts
 --   have_chains      each of them has an alternative
-use Rattle.std.proofs.Common.{◌≡◌, ℕ, suc, ◌≤◌, ◌+◌, List, [], ◌∷◌, ◌++◌, Bool, true, false, cond, length, refl, ap, ◌∙◌, sym, subst, arith, length-append, Option, Some, None}
-use Rattle.std.specs.Prelude.{nat_lt}
+use Rattle.std.proofs.Common.{◌≡◌, ℕ, suc, ◌≤◌, ◌+◌, List, [], ◌∷◌, ◌++◌, Bool, length, refl, ap, ◌∙◌, sym, subst, arith, length-append, None}
 use Rattle.std.specs.List.{AllByRecursion}
 use Rattle.std.specs.Str.{chars}
 use Rattle.std.proofs.lemmas.List.{take_all}
-use Rattle.std.proofs.lemmas.Bool.Decides.{nat_tests}
 use Rattle.cs_base.specs.declared.query.Query.{Query, out-Query, out-roll-Query}
 use Rattle.cs_base.specs.declared.query.Part.{Part, out-Part, out-roll-Part}
 use Rattle.cs_base.specs.declared.query.Chain.{Chain}
 use Rattle.cs_base.specs.declared.query.Atom.{Atom}
-use Rattle.cs_base.specs.declared.query.Which.TheVariants as limits
 use Rattle.cs_base.specs.declared.limits.TheConstants.{MAX_PARTS}
 use Rattle.cs_model.specs.declared.kinds.Level.{Level}
 use Rattle.cs_model.specs.declared.kinds.Tie.{Tie}
 use Rattle.cs_model.specs.declared.kinds.Tie.TheVariants.{Begins, Alternative, Linked}
-use Rattle.cs_model.specs.Tokens.{Token, tokens, size}
+use Rattle.cs_model.specs.Tokens.{Token, tokens}
 use Rattle.cs_model.specs.Grammar.{Step, Leaf, Enter, Leave, steps, reading, on_last, chain_of, part_of, with_link, with_chains, attached, join, closed, leave, all_closed}
 use Rattle.cs_model.specs.GrammarLaws.{PartsHaveChains}
 use Rattle.cs_model.proofs.PassedTokens.{passes}
-use Rattle.cs_model.specs.Refusals.{QueryRefusal, Bad, Limit, refused, depth, newest, begins_part, parts_in, verdict, IsOfGrammar}
+use Rattle.cs_model.specs.Refusals.{begins_part, parts_in, verdict, IsOfGrammar}
 
 on_last-length : {X : Type 0} (f : X → X) (xs : List X) → length (on_last f xs) ≡ length xs
 on_last-length f [] = refl

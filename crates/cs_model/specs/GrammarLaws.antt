@@ -8,7 +8,7 @@
 use Rattle.std.specs.Prelude.{◌≡◌, ℕ, ◌≤◌, nat_eq, not, Bool, true, false, List, [], ◌∷◌, length, encode_utf8_all}
 use Rattle.std.specs.List.{AllByRecursion, starts_with}
 use Rattle.cs_base.specs.declared.query.Query.{Query, out-Query}
-use Rattle.cs_base.specs.declared.query.Part.{Part, out-Part}
+use Rattle.cs_base.specs.declared.query.Part.{out-Part}
 use Rattle.cs_model.specs.Tokens.{Token, Word, Value, Run, Gap, tokens, size}
 use Rattle.cs_model.specs.Refusals.{IsOfGrammar}
 

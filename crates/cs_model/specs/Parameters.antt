@@ -19,7 +19,7 @@
 --   request_of p            what is asked; it counts where nothing is refused
 --   refusal_text r          the text that answers a refused string
 --   HoldsLimits r           what each request that isn't refused keeps
-use Rattle.std.specs.Prelude.{◌≡◌, ℕ, ◌+◌, ◌-◌, ◌*◌, ◌≤◌, Bool, true, false, ◌&&◌, ◌==◌, nat_le, nat_lt, List, [], ◌∷◌, filter, length, fold, Option, Some, None, codes}
+use Rattle.std.specs.Prelude.{◌≡◌, ℕ, ◌+◌, ◌-◌, ◌*◌, ◌≤◌, Bool, true, ◌&&◌, ◌==◌, nat_le, nat_lt, List, [], ◌∷◌, filter, length, fold, Option, Some, None, codes}
 use Rattle.std.specs.Option.{option_map, unwrap_or}
 use Rattle.std.specs.List.{find, list_all, slice_split}
 use Rattle.std.specs.List.Sorted.{IsStrictlySortedBy}
