@@ -25,5 +25,6 @@ pub mod Pieces
 pub mod RefusalExamples
 pub mod RefusalLemmas
 pub mod SizeLemmas
+pub mod SpaceLemmas
 pub mod TextExamples
 pub mod WordsExamples

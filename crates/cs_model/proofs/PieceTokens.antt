@@ -39,7 +39,7 @@ opens (Colon ∷ ts) = true
 opens (Open ∷ ts) = true
 opens (Close ∷ ts) = false
 
-letter : (x : ℕ) → is_word_char x ≡ true → class_of x ≡ c.Letter
+pub letter : (x : ℕ) → is_word_char x ≡ true → class_of x ≡ c.Letter
 letter x h = rw h refl
 
 grows : (w u : List ℕ) (ts : List Token) → list_all is_word_char w ≡ true → tokens_after (Word u ∷ ts) w ≡ Word (u ++ encode_utf8_all w) ∷ ts

@@ -4,7 +4,7 @@ ghost use Rattle.cs_model.specs.AnswersLaws.{AddFacetParts, AreTablesOfQueries};
 ghost use Rattle.cs_model.specs.Ascii.{ascii_norm, ascii_words};
 ghost use Rattle.cs_model.specs.CanonicalLaws.{AreReadAgain, AreDifferent, AreShort, AreNoLonger, KeepCounts};
 ghost use Rattle.cs_model.specs.FirstRefusal.{AcceptedHaveNone, RefusedHaveOne};
-ghost use Rattle.cs_model.specs.GrammarLaws.{HaveAllBytes, AreMaximal, PartsHaveChains};
+ghost use Rattle.cs_model.specs.GrammarLaws.{HaveAllBytes, AreMaximal, PartsHaveChains, SpacesSeparate};
 ghost use Rattle.cs_model.specs.KeyText.{norm};
 ghost use Rattle.cs_model.specs.Refusals.{PrefixesAreAccepted, QueriesHaveFewParts};
 ghost use Rattle.cs_model.specs.Words.{fitting, words};
@@ -34,6 +34,11 @@ pub fn queries_have_few_parts()
 /// Each part of a query of the grammar has an alternative, at its top.
 pub fn parts_have_chains()
     ensures { PartsHaveChains }
+{}
+
+/// Where no bracket is open, a space ends what stands before it: what follows means what it means alone.
+pub fn spaces_separate()
+    ensures { SpacesSeparate }
 {}
 
 /// A facet's table is the table of a query: that with one more positive part behind it, which asks the words of the facet.
