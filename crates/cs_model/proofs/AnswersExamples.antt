@@ -1,8 +1,10 @@
 -- Answers over the corpus of three documents: the definitions computed.
 --
---   worked            the corpus: its rows and titles are those of the collection text `worked_text`
---   asks text         the request of a query's key text, with the defaults
-use Rattle.std.proofs.Common.{◌≡◌, ℕ, List, [], ◌∷◌, ◌++◌, refl, ap, ◌∙◌, true, false, codes}
+--   worked_text       a collection of three lines
+--   worked            its corpus
+--   reply-..          the replies to queries over it
+--   text-..           what answers a string of parameters, byte for byte
+use Rattle.std.proofs.Common.{◌≡◌, ℕ, List, [], ◌∷◌, ◌++◌, refl, ap, ◌∙◌, true, false, length, codes}
 use Rattle.std.specs.List.{flat_map, enumerate_from}
 use Rattle.std.specs.Char.{encode_utf8}
 use Rattle.std.specs.Prelude.{Some, None}
@@ -29,7 +31,7 @@ use Rattle.cs_model.specs.Collection.{documents}
 use Rattle.cs_model.specs.Corpus.{Corpus, titles_of, doc_rows, rows_of, corpus}
 use Rattle.cs_model.specs.Grammar.{query_of}
 use Rattle.cs_model.specs.Answers.{PartRows, begins, greatest_score, parts_of}
-use Rattle.cs_model.specs.Replies.{Shown, HitShown, reply_text}
+use Rattle.cs_model.specs.Replies.{Reply, Shown, HitShown, reply_text}
 use Rattle.cs_model.specs.Requests.{Request, reply_of}
 use Rattle.cs_model.specs.Faults.{bad_text}
 use Rattle.cs_model.specs.Refusals.{Bad}
@@ -141,232 +143,150 @@ positive rows = record { excluded = false; rows = rows }
 abbrev typ_rows : List Row
 typ_rows = row 0 1 4 (codes "type") ∷ row 1 12 1 (codes "type") ∷ row 2 1 4 (codes "typed") ∷ row 2 12 1 (codes "types") ∷ []
 
--- two authors in the first document, one of them in the second too
-abbrev bast_and_weber : List Row
-bast_and_weber = row 0 0 2 (codes ":author:bast") ∷ row 0 0 2 (codes ":author:weber") ∷ row 1 0 2 (codes ":author:bast") ∷ []
-
 -- words that begin with `typ`
 parts-prefix : parts_of worked (query_of (codes "typ")) ≡ positive typ_rows ∷ []
 unfolding is_word_char encode_utf8
 parts-prefix = simp (query_rolled, part_listed, chain_rolled, prefix_rows) refl
 
 -- ---- replies
+-- a query alone, with the defaults
 abbrev asks : List ℕ → Request
 asks text = record { query = query_of text; hits = 10; completions = 10; offset = 0; facets = [] }
 
 abbrev shown : ℕ → List ℕ → Shown
 shown docs word = record { docs = docs; word = word }
 
-abbrev hit : ℕ → ℕ → List ℕ → HitShown
-hit doc score title = record { doc = doc; score = score; title = title }
+-- the three documents as hits
+abbrev first : ℕ → HitShown
+first score = record { doc = 0; score = score; title = codes "Type less find more" }
+
+abbrev second : ℕ → HitShown
+second score = record { doc = 1; score = score; title = codes "The CompleteSearch engine" }
+
+abbrev third : ℕ → HitShown
+third score = record { doc = 2; score = score; title = codes "Typed lambda calculi" }
+
+-- a reply of which nothing is cut
+abbrev whole : List Shown → List HitShown → Reply
+whole completions hits = record { completions = completions; facets = []; hits = hits; total_completions = length completions; total_hits = length hits }
 
 answered : (r : Request) → reply_of worked r ≡ listed_reply worked (parts_of worked r.query) r
 unfolding reply_of
 answered r = reply-listed worked (parts_of worked r.query) r
 
--- completions by documents, hits by scores
-reply-prefix : reply_of worked (asks (codes "typ")) ≡ record {
-  completions = shown 2 (codes "type") ∷ shown 1 (codes "typed") ∷ shown 1 (codes "types") ∷ [];
-  facets = [];
-  hits = hit 0 4 (codes "Type less find more") ∷ hit 2 4 (codes "Typed lambda calculi") ∷ hit 1 1 (codes "The CompleteSearch engine") ∷ [];
-  total_completions = 3;
-  total_hits = 3;
-}
+-- completions with more documents first, hits with greater scores first
+reply-prefix : reply_of worked (asks (codes "typ")) ≡ whole (shown 2 (codes "type") ∷ shown 1 (codes "typed") ∷ shown 1 (codes "types") ∷ []) (first 4 ∷ third 4 ∷ second 1 ∷ [])
 unfolding is_word_char encode_utf8
 reply-prefix = answered (asks (codes "typ")) ∙ simp (query_rolled, part_listed, chain_rolled, prefix_rows, titles-are, titles-found) refl
 
 -- a hit has a row of each part
-reply-two : reply_of worked (asks (codes "search typ")) ≡ record {
-  completions = shown 2 (codes "type") ∷ [];
-  facets = [];
-  hits = hit 0 5 (codes "Type less find more") ∷ hit 1 2 (codes "The CompleteSearch engine") ∷ [];
-  total_completions = 1;
-  total_hits = 2;
-}
+reply-two : reply_of worked (asks (codes "search typ")) ≡ whole (shown 2 (codes "type") ∷ []) (first 5 ∷ second 2 ∷ [])
 unfolding is_word_char encode_utf8
 reply-two = answered (asks (codes "search typ")) ∙ simp (query_rolled, part_listed, chain_rolled, prefix_rows, titles-are, titles-found) refl
 
 -- with one letter more the best row of a document may be gone
-reply-longer : reply_of worked (asks (codes "types")) ≡ record {
-  completions = shown 1 (codes "types") ∷ [];
-  facets = [];
-  hits = hit 2 1 (codes "Typed lambda calculi") ∷ [];
-  total_completions = 1;
-  total_hits = 1;
-}
+reply-longer : reply_of worked (asks (codes "types")) ≡ whole (shown 1 (codes "types") ∷ []) (third 1 ∷ [])
 unfolding is_word_char encode_utf8
 reply-longer = answered (asks (codes "types")) ∙ simp (query_rolled, part_listed, chain_rolled, prefix_rows, titles-are, titles-found) refl
 
--- an exact word has itself alone
-reply-exact : reply_of worked (asks (codes "type$")) ≡ record {
-  completions = shown 2 (codes "type") ∷ [];
-  facets = [];
-  hits = hit 0 4 (codes "Type less find more") ∷ hit 1 1 (codes "The CompleteSearch engine") ∷ [];
-  total_completions = 1;
-  total_hits = 2;
-}
+-- an exact word is that word alone
+reply-exact : reply_of worked (asks (codes "type$")) ≡ whole (shown 2 (codes "type") ∷ []) (first 4 ∷ second 1 ∷ [])
 unfolding is_word_char encode_utf8
 reply-exact = answered (asks (codes "type$")) ∙ simp (query_rolled, part_listed, chain_rolled, exact_rows, titles-are, titles-found) refl
 
--- a phrase has the second word directly behind the first
-reply-phrase : reply_of worked (asks (codes "type-ahead")) ≡ record {
-  completions = shown 1 (codes "ahead") ∷ [];
-  facets = [];
-  hits = hit 1 1 (codes "The CompleteSearch engine") ∷ [];
-  total_completions = 1;
-  total_hits = 1;
-}
+-- in a phrase the second word stands directly behind the first
+reply-phrase : reply_of worked (asks (codes "type-ahead")) ≡ whole (shown 1 (codes "ahead") ∷ []) (second 1 ∷ [])
 unfolding is_word_char encode_utf8
 reply-phrase = answered (asks (codes "type-ahead")) ∙ simp (query_rolled, part_listed, chain_rolled, linked_rolled, out-roll-Part, out-roll-Chain, prefix_rows, titles-are, titles-found) refl
 
 -- nearness reaches eight positions, and `types` stands ten away
-reply-near : reply_of worked (asks (codes "lambda..typ")) ≡ record {
-  completions = shown 1 (codes "typed") ∷ [];
-  facets = [];
-  hits = hit 2 4 (codes "Typed lambda calculi") ∷ [];
-  total_completions = 1;
-  total_hits = 1;
-}
+reply-near : reply_of worked (asks (codes "lambda..typ")) ≡ whole (shown 1 (codes "typed") ∷ []) (third 4 ∷ [])
 unfolding is_word_char encode_utf8
 reply-near = answered (asks (codes "lambda..typ")) ∙ simp (query_rolled, part_listed, chain_rolled, linked_rolled, out-roll-Part, out-roll-Chain, prefix_rows, titles-are, titles-found) refl
 
--- an excluded part takes its documents away, and as the last one has no completion
-reply-excluded : reply_of worked (asks (codes "typ -search")) ≡ record {
-  completions = [];
-  facets = [];
-  hits = hit 2 4 (codes "Typed lambda calculi") ∷ [];
-  total_completions = 0;
-  total_hits = 1;
-}
+-- an excluded part takes its documents away, and as the last part it has no completion
+reply-excluded : reply_of worked (asks (codes "typ -search")) ≡ whole [] (third 4 ∷ [])
 unfolding is_word_char encode_utf8
 reply-excluded = answered (asks (codes "typ -search")) ∙ simp (query_rolled, part_listed, chain_rolled, prefix_rows, titles-are, titles-found) refl
 
--- of excluded parts alone a hit has the score 0
-reply-only_excluded : reply_of worked (asks (codes "-search")) ≡ record {
-  completions = [];
-  facets = [];
-  hits = hit 2 0 (codes "Typed lambda calculi") ∷ [];
-  total_completions = 0;
-  total_hits = 1;
-}
+-- with excluded parts alone a hit has the score 0
+reply-only_excluded : reply_of worked (asks (codes "-search")) ≡ whole [] (third 0 ∷ [])
 unfolding is_word_char encode_utf8
 reply-only_excluded = answered (asks (codes "-search")) ∙ simp (query_rolled, part_listed, chain_rolled, prefix_rows, titles-are, titles-found) refl
 
--- behind an excluded part
-reply-behind_excluded : reply_of worked (asks (codes "-search typ")) ≡ record {
-  completions = shown 1 (codes "typed") ∷ shown 1 (codes "types") ∷ [];
-  facets = [];
-  hits = hit 2 4 (codes "Typed lambda calculi") ∷ [];
-  total_completions = 2;
-  total_hits = 1;
-}
+-- the part behind an excluded one is completed
+reply-behind_excluded : reply_of worked (asks (codes "-search typ")) ≡ whole (shown 1 (codes "typed") ∷ shown 1 (codes "types") ∷ []) (third 4 ∷ [])
 unfolding is_word_char encode_utf8
 reply-behind_excluded = answered (asks (codes "-search typ")) ∙ simp (query_rolled, part_listed, chain_rolled, prefix_rows, titles-are, titles-found) refl
 
 -- of two alternatives one is enough, and both are completed
-reply-alternatives : reply_of worked (asks (codes "typed|ahead")) ≡ record {
-  completions = shown 1 (codes "ahead") ∷ shown 1 (codes "typed") ∷ [];
-  facets = [];
-  hits = hit 2 4 (codes "Typed lambda calculi") ∷ hit 1 1 (codes "The CompleteSearch engine") ∷ [];
-  total_completions = 2;
-  total_hits = 2;
-}
+reply-alternatives : reply_of worked (asks (codes "typed|ahead")) ≡ whole (shown 1 (codes "ahead") ∷ shown 1 (codes "typed") ∷ []) (third 4 ∷ second 1 ∷ [])
 unfolding is_word_char encode_utf8
 reply-alternatives = answered (asks (codes "typed|ahead")) ∙ simp (query_rolled, part_listed, chain_rolled, prefix_rows, titles-are, titles-found, out-roll-Part) refl
 
 -- a bar at the end is dropped
-reply-bar : reply_of worked (asks (codes "a|")) ≡ record {
-  completions = shown 1 (codes "a") ∷ shown 1 (codes "ahead") ∷ shown 1 (codes "and") ∷ shown 1 (codes "autocompletion") ∷ [];
-  facets = [];
-  hits = hit 0 1 (codes "Type less find more") ∷ hit 1 1 (codes "The CompleteSearch engine") ∷ [];
-  total_completions = 4;
-  total_hits = 2;
-}
+reply-bar : reply_of worked (asks (codes "a|")) ≡ whole (shown 1 (codes "a") ∷ shown 1 (codes "ahead") ∷ shown 1 (codes "and") ∷ shown 1 (codes "autocompletion") ∷ []) (first 1 ∷ second 1 ∷ [])
 unfolding is_word_char encode_utf8
 reply-bar = answered (asks (codes "a|")) ∙ simp (query_rolled, part_listed, chain_rolled, prefix_rows, titles-are, titles-found) refl
 
-parts-join : parts_of worked (query_of (codes "author[search] typ")) ≡ positive bast_and_weber ∷ positive typ_rows ∷ []
-unfolding is_word_char encode_utf8
-parts-join = simp (query_rolled, part_listed, chain_rolled, prefix_rows, join_rows, titles-are) refl
-
--- a join keeps the words of its facet that the hits of its query have
-reply-join : reply_of worked (asks (codes "author[search] typ")) ≡ record {
-  completions = shown 2 (codes "type") ∷ [];
-  facets = [];
-  hits = hit 0 6 (codes "Type less find more") ∷ hit 1 3 (codes "The CompleteSearch engine") ∷ [];
-  total_completions = 1;
-  total_hits = 2;
-}
-reply-join = answered (asks (codes "author[search] typ")) ∙ ap (λ ps. listed_reply worked ps (asks (codes "author[search] typ"))) parts-join ∙ simp (titles-are, titles-found) refl
-
-parts-shared : parts_of worked (query_of (codes "author[succinct] typ")) ≡ positive bast_and_weber ∷ positive typ_rows ∷ []
-unfolding is_word_char encode_utf8
-parts-shared = simp (query_rolled, part_listed, chain_rolled, prefix_rows, join_rows, titles-are) refl
-
--- the second document is no hit of the inner query, and shares an author with one
-reply-shared : reply_of worked (asks (codes "author[succinct] typ")) ≡ record {
-  completions = shown 2 (codes "type") ∷ [];
-  facets = [];
-  hits = hit 0 6 (codes "Type less find more") ∷ hit 1 3 (codes "The CompleteSearch engine") ∷ [];
-  total_completions = 1;
-  total_hits = 2;
-}
-reply-shared = answered (asks (codes "author[succinct] typ")) ∙ ap (λ ps. listed_reply worked ps (asks (codes "author[succinct] typ"))) parts-shared ∙ simp (titles-are, titles-found) refl
-
--- an open bracket without a query asks every author
-reply-open_join : reply_of worked (asks (codes "author[")) ≡ record {
-  completions = shown 2 (codes "author:bast") ∷ shown 1 (codes "author:church") ∷ shown 1 (codes "author:weber") ∷ [];
-  facets = [];
-  hits = hit 0 2 (codes "Type less find more") ∷ hit 1 2 (codes "The CompleteSearch engine") ∷ hit 2 2 (codes "Typed lambda calculi") ∷ [];
-  total_completions = 3;
-  total_hits = 3;
-}
-unfolding is_word_char encode_utf8
-reply-open_join = answered (asks (codes "author[")) ∙ simp (query_rolled, part_listed, chain_rolled, titles-are, titles-found, join_rows) refl
-
 -- a facet without a value has every value
-reply-facet : reply_of worked (asks (codes "year:")) ≡ record {
-  completions = shown 1 (codes "year:1940") ∷ shown 1 (codes "year:2006") ∷ shown 1 (codes "year:2007") ∷ [];
-  facets = [];
-  hits = hit 0 2 (codes "Type less find more") ∷ hit 1 2 (codes "The CompleteSearch engine") ∷ hit 2 2 (codes "Typed lambda calculi") ∷ [];
-  total_completions = 3;
-  total_hits = 3;
-}
+reply-facet : reply_of worked (asks (codes "year:")) ≡ whole (shown 1 (codes "year:1940") ∷ shown 1 (codes "year:2006") ∷ shown 1 (codes "year:2007") ∷ []) (first 2 ∷ second 2 ∷ third 2 ∷ [])
 unfolding is_word_char encode_utf8
 reply-facet = answered (asks (codes "year:")) ∙ simp (query_rolled, part_listed, chain_rolled, prefix_rows, titles-are, titles-found) refl
 
 -- the empty query has every document and no completion
-reply-empty : reply_of worked (asks (codes "")) ≡ record {
-  completions = [];
-  facets = [];
-  hits = hit 0 0 (codes "Type less find more") ∷ hit 1 0 (codes "The CompleteSearch engine") ∷ hit 2 0 (codes "Typed lambda calculi") ∷ [];
-  total_completions = 0;
-  total_hits = 3;
-}
+reply-empty : reply_of worked (asks []) ≡ whole [] (first 0 ∷ second 0 ∷ third 0 ∷ [])
 unfolding is_word_char encode_utf8
-reply-empty = answered (asks (codes "")) ∙ simp (query_rolled, titles-are, titles-found) refl
+reply-empty = answered (asks []) ∙ simp (query_rolled, titles-are, titles-found) refl
 
--- one hit behind the first, and the whole number of hits
-reply-window : reply_of worked (record { query = query_of []; hits = 1; completions = 10; offset = 1; facets = [] }) ≡ record {
-  completions = [];
-  facets = [];
-  hits = hit 1 0 (codes "The CompleteSearch engine") ∷ [];
-  total_completions = 0;
-  total_hits = 3;
-}
+-- ---- joins
+-- two authors of the first document, one of them of the second too
+abbrev bast_and_weber : List Row
+bast_and_weber = row 0 0 2 (codes ":author:bast") ∷ row 0 0 2 (codes ":author:weber") ∷ row 1 0 2 (codes ":author:bast") ∷ []
+
+-- what both of the next queries answer
+abbrev joined : Reply
+joined = whole (shown 2 (codes "type") ∷ []) (first 6 ∷ second 3 ∷ [])
+
+reply-joined : (text : List ℕ) → parts_of worked (query_of text) ≡ positive bast_and_weber ∷ positive typ_rows ∷ [] → reply_of worked (asks text) ≡ joined
+reply-joined text parts = answered (asks text) ∙ ap (λ ps. listed_reply worked ps (asks text)) parts ∙ simp (titles-are, titles-found) refl
+
+-- a join keeps the words of its facet that the hits of its query have
+reply-join : reply_of worked (asks (codes "author[search] typ")) ≡ joined
 unfolding is_word_char encode_utf8
-reply-window = answered (record { query = query_of []; hits = 1; completions = 10; offset = 1; facets = [] }) ∙ simp (query_rolled, titles-are, titles-found) refl
+reply-join = reply-joined (codes "author[search] typ") (simp (query_rolled, part_listed, chain_rolled, prefix_rows, join_rows, titles-are) refl)
+
+-- the second document is no hit of the inner query, and shares an author with one
+reply-shared : reply_of worked (asks (codes "author[succinct] typ")) ≡ joined
+unfolding is_word_char encode_utf8
+reply-shared = reply-joined (codes "author[succinct] typ") (simp (query_rolled, part_listed, chain_rolled, prefix_rows, join_rows, titles-are) refl)
+
+-- an open bracket without a query asks every author
+reply-open_join : reply_of worked (asks (codes "author[")) ≡ whole (shown 2 (codes "author:bast") ∷ shown 1 (codes "author:church") ∷ shown 1 (codes "author:weber") ∷ []) (first 2 ∷ second 2 ∷ third 2 ∷ [])
+unfolding is_word_char encode_utf8
+reply-open_join = answered (asks (codes "author[")) ∙ simp (query_rolled, part_listed, chain_rolled, titles-are, titles-found, join_rows) refl
+
+-- ---- cuts and facets
+abbrev one_behind : Request
+one_behind = record { query = query_of []; hits = 1; completions = 10; offset = 1; facets = [] }
+
+-- one hit behind the first is shown, and all are counted
+reply-window : reply_of worked one_behind ≡ record { completions = []; facets = []; hits = second 0 ∷ []; total_completions = 0; total_hits = 3 }
+reply-window = answered one_behind ∙ simp (query_rolled, titles-are, titles-found) refl
+
+abbrev with_facets : Request
+with_facets = record { query = query_of (codes "search"); hits = 10; completions = 10; offset = 0; facets = codes "author" ∷ codes "zzz" ∷ [] }
 
 -- a facet's words over the hits; of a name that no document has there is none
-reply-facets : reply_of worked (record { query = query_of (codes "search"); hits = 10; completions = 10; offset = 0; facets = codes "author" ∷ codes "zzz" ∷ [] }) ≡ record {
+reply-facets : reply_of worked with_facets ≡ record {
   completions = shown 2 (codes "search") ∷ [];
   facets = (record { name = codes "author"; table = shown 2 (codes "author:bast") ∷ shown 1 (codes "author:weber") ∷ [] }) ∷ (record { name = codes "zzz"; table = [] }) ∷ [];
-  hits = hit 0 1 (codes "Type less find more") ∷ hit 1 1 (codes "The CompleteSearch engine") ∷ [];
+  hits = first 1 ∷ second 1 ∷ [];
   total_completions = 1;
   total_hits = 2;
 }
 unfolding is_word_char encode_utf8
-reply-facets = answered (record { query = query_of (codes "search"); hits = 10; completions = 10; offset = 0; facets = codes "author" ∷ codes "zzz" ∷ [] }) ∙ simp (query_rolled, part_listed, chain_rolled, prefix_rows, titles-are, titles-found) refl
+reply-facets = answered with_facets ∙ simp (query_rolled, part_listed, chain_rolled, prefix_rows, titles-are, titles-found) refl
 
 -- ---- texts
 asked-prefix : request_of (codes "q=typ") ≡ asks (codes "typ")
@@ -377,8 +297,11 @@ accepted-prefix : request_refusal (codes "q=typ") ≡ None
 unfolding request_refusal parameter raw_pairs split percent_decode utf8_lossy utf8_valid_len is_utf8 chars lib.Utf8.encode norm caseless is_word_char
 accepted-prefix = refl
 
--- what answers the parameters `q=typ`, byte for byte
-text-prefix : text worked (codes "q=typ") ≡ codes "{\"completions\":[{\"docs\":2,\"word\":\"type\"},{\"docs\":1,\"word\":\"typed\"},{\"docs\":1,\"word\":\"types\"}],\"facets\":{},\"hits\":[{\"doc\":0,\"score\":4,\"title\":\"Type less find more\"},{\"doc\":2,\"score\":4,\"title\":\"Typed lambda calculi\"},{\"doc\":1,\"score\":1,\"title\":\"The CompleteSearch engine\"}],\"total\":{\"completions\":3,\"hits\":3}}"
+-- the text of a reply
+text-prefix : text worked (codes "q=typ") ≡
+    codes "{\"completions\":[{\"docs\":2,\"word\":\"type\"},{\"docs\":1,\"word\":\"typed\"},{\"docs\":1,\"word\":\"types\"}],\"facets\":{},"
+    ++ codes "\"hits\":[{\"doc\":0,\"score\":4,\"title\":\"Type less find more\"},{\"doc\":2,\"score\":4,\"title\":\"Typed lambda calculi\"},"
+    ++ codes "{\"doc\":1,\"score\":1,\"title\":\"The CompleteSearch engine\"}],\"total\":{\"completions\":3,\"hits\":3}}"
 unfolding text reply_text escape_byte digits
 text-prefix = ap (text_by worked (codes "q=typ")) accepted-prefix ∙ ap (λ r. reply_text (reply_of worked r)) asked-prefix ∙ ap reply_text reply-prefix
 
@@ -386,7 +309,7 @@ refused-bars : request_refusal (codes "q=a||b") ≡ Some (bad_query 2 Bad)
 unfolding request_refusal parameter raw_pairs split percent_decode utf8_lossy utf8_valid_len is_utf8 chars lib.Utf8.encode norm caseless is_word_char
 refused-bars = refl
 
--- and a query with two bars side by side
+-- the text of a refused query
 text-bars : text worked (codes "q=a||b") ≡ codes "{\"at\":2,\"error\":\"bad\"}"
 unfolding text bad_text escape_byte digits
 text-bars = ap (text_by worked (codes "q=a||b")) refused-bars
