@@ -5,6 +5,8 @@
 --   reply-..          the replies to queries over it
 --   text-..           what answers a string of parameters, byte for byte
 use Rattle.std.proofs.Common.{◌≡◌, ℕ, List, [], ◌∷◌, ◌++◌, refl, ap, ◌∙◌, true, false, length, codes}
+use Rattle.std.specs.Prelude.{filter}
+use Rattle.std.proofs.Math.Seq.{take-nil, drop-nil}
 use Rattle.std.specs.List.{flat_map, enumerate_from}
 use Rattle.std.specs.Char.{encode_utf8}
 use Rattle.std.specs.Prelude.{Some, None}
@@ -288,6 +290,25 @@ reply-facets : reply_of worked with_facets ≡ record {
 unfolding is_word_char encode_utf8
 reply-facets = answered with_facets ∙ simp (query_rolled, part_listed, chain_rolled, prefix_rows, titles-are, titles-found) refl
 
+-- ---- the empty collection
+abbrev nothing : Corpus
+nothing = record { titles = titles_of []; rows = [] }
+
+corpus-nothing : corpus [] ≡ nothing
+corpus-nothing = ap (λ rows. record { titles = titles_of []; rows = rows }) (members-listed by_row by_row_total [])
+
+titles-none : entries (titles_of []) ≡ []
+titles-none = entries-sorted nat_cmp nat_cmp_total []
+
+none_stay : (rows : List Row) → filter (λ r. false) rows ≡ []
+none_stay [] = refl
+none_stay (r ∷ rows) = none_stay rows
+
+-- every request that asks no facet is answered by nothing
+reply-nothing : (r : Request) → r.facets ≡ [] → reply_of nothing r ≡ whole [] []
+unfolding reply_of
+reply-nothing r h = reply-listed nothing (parts_of nothing r.query) r ∙ simp (titles-none, none_stay, take-nil, drop-nil, h) refl
+
 -- ---- texts
 asked-prefix : request_of (codes "q=typ") ≡ asks (codes "typ")
 unfolding request_of parameter raw_pairs split percent_decode utf8_lossy utf8_valid_len is_utf8 chars lib.Utf8.encode norm caseless
@@ -313,3 +334,11 @@ refused-bars = refl
 text-bars : text worked (codes "q=a||b") ≡ codes "{\"at\":2,\"error\":\"bad\"}"
 unfolding text bad_text escape_byte digits
 text-bars = ap (text_by worked (codes "q=a||b")) refused-bars
+
+-- the text of a request over the empty collection
+text-nothing : text (corpus []) (codes "q=typ") ≡ codes "{\"completions\":[],\"facets\":{},\"hits\":[],\"total\":{\"completions\":0,\"hits\":0}}"
+unfolding text reply_text escape_byte digits
+text-nothing =
+    ap (text_by (corpus []) (codes "q=typ")) accepted-prefix
+    ∙ ap (λ k. reply_text (reply_of k (request_of (codes "q=typ")))) corpus-nothing
+    ∙ ap reply_text (reply-nothing (request_of (codes "q=typ")) (ap (λ r. r.facets) asked-prefix))

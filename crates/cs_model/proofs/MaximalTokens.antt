@@ -1,7 +1,7 @@
 -- The tokens of a text have its bytes, and none ends before its characters do.
 --
 --   size_after       characters behind tokens add their bytes
---   cut_after        behind tokens that are cut the tokens are cut
+--   apart_after        behind tokens that are apart the tokens are apart
 --   all_bytes, maximal     the laws
 use Rattle.std.proofs.Common.{◌≡◌, ℕ, ◌+◌, List, [], ◌∷◌, ◌++◌, length, refl, ap, arith, length-append, false}
 use Rattle.std.specs.Prelude.{not, nat_eq, encode_utf8_all}
@@ -11,7 +11,7 @@ use Rattle.std.proofs.lemmas.Bool.{eqb-true}
 use Rattle.cs_model.specs.declared.kinds.Class.{Class}
 use Rattle.cs_model.specs.declared.kinds.Class.TheVariants as c
 use Rattle.cs_model.specs.Tokens.{Token, Word, Value, Run, Gap, class_of, grown, with_next, tokens_after, size}
-use Rattle.cs_model.specs.GrammarLaws.{HaveAllBytes, belongs, IsCut, AreMaximal}
+use Rattle.cs_model.specs.GrammarLaws.{HaveAllBytes, belongs, AreApart, AreMaximal}
 use Rattle.cs_model.proofs.ClassLemmas.{class_cases}
 use Rattle.cs_model.proofs.SizeLemmas.{size_next}
 
@@ -41,27 +41,27 @@ run_grows : (r x : List ℕ) (ts : List Token) → belongs (Run r) ts ≡ false 
 run_grows r x (Value v ∷ ts) h = dot_stays r x h
 run_grows r x ts h = h
 
-cut_grown : (k : Class) (x : List ℕ) (ts : List Token) → Dotted x k → IsCut ts → IsCut (grown k x ts)
-cut_grown c.Letter x (Word w ∷ ts) d h = h
-cut_grown c.Letter x (Value v ∷ ts) d h = h
-cut_grown c.Letter x ts d h = (refl, h)
-cut_grown c.Dot x (Run r ∷ ts) d h = (run_grows r x ts h.0, h.1)
-cut_grown c.Dot x (Value v ∷ ts) d h = (ap (λ r. belongs (Run r) (Value v ∷ ts)) d, h)
-cut_grown c.Dot x ts d h = (refl, h)
-cut_grown c.Joiner x (Value v ∷ ts) d h = h
-cut_grown c.Joiner x (Run r ∷ ts) d h = (run_grows r x ts h.0, h.1)
-cut_grown c.Joiner x ts d h = (refl, h)
-cut_grown c.Dollar x ts d h = (refl, h)
-cut_grown c.Bar x ts d h = (refl, h)
-cut_grown c.Colon x ts d h = (refl, (refl, h))
-cut_grown c.Open x ts d h = (refl, h)
-cut_grown c.Close x ts d h = (refl, h)
-cut_grown c.Other x (Gap n ∷ ts) d h = h
-cut_grown c.Other x ts d h = (refl, h)
+apart_grown : (k : Class) (x : List ℕ) (ts : List Token) → Dotted x k → AreApart ts → AreApart (grown k x ts)
+apart_grown c.Letter x (Word w ∷ ts) d h = h
+apart_grown c.Letter x (Value v ∷ ts) d h = h
+apart_grown c.Letter x ts d h = (refl, h)
+apart_grown c.Dot x (Run r ∷ ts) d h = (run_grows r x ts h.0, h.1)
+apart_grown c.Dot x (Value v ∷ ts) d h = (ap (λ r. belongs (Run r) (Value v ∷ ts)) d, h)
+apart_grown c.Dot x ts d h = (refl, h)
+apart_grown c.Joiner x (Value v ∷ ts) d h = h
+apart_grown c.Joiner x (Run r ∷ ts) d h = (run_grows r x ts h.0, h.1)
+apart_grown c.Joiner x ts d h = (refl, h)
+apart_grown c.Dollar x ts d h = (refl, h)
+apart_grown c.Bar x ts d h = (refl, h)
+apart_grown c.Colon x ts d h = (refl, (refl, h))
+apart_grown c.Open x ts d h = (refl, h)
+apart_grown c.Close x ts d h = (refl, h)
+apart_grown c.Other x (Gap n ∷ ts) d h = h
+apart_grown c.Other x ts d h = (refl, h)
 
-cut_after : (cs : List ℕ) (ts : List Token) → IsCut ts → IsCut (tokens_after ts cs)
-cut_after [] ts h = h
-cut_after (x ∷ cs) ts h = cut_after cs (with_next x ts) (cut_grown (class_of x) (encode_utf8 x) ts (class_dotted x) h)
+apart_after : (cs : List ℕ) (ts : List Token) → AreApart ts → AreApart (tokens_after ts cs)
+apart_after [] ts h = h
+apart_after (x ∷ cs) ts h = apart_after cs (with_next x ts) (apart_grown (class_of x) (encode_utf8 x) ts (class_dotted x) h)
 
 pub maximal : AreMaximal
-maximal cs = cut_after cs [] tt
+maximal cs = apart_after cs [] tt

@@ -2,7 +2,7 @@
 --
 --   HaveAllBytes        the tokens of a text have its bytes
 --   belongs t ts        the token t, directly behind the tokens ts, would be part of the newest of them
---   IsCut ts            no token of ts belongs to the one before it
+--   AreApart ts            no token of ts belongs to the one before it
 --   AreMaximal          so it is with the tokens of each text: each word, value, run and gap is as long as it can be
 --   PartsHaveChains     each part of a query of the grammar has an alternative
 --   SpacesSeparate      the parts of two texts with a space between them are those of the first and then those of the second
@@ -30,13 +30,13 @@ belongs (Gap n) (Gap m ∷ ts) = true
 belongs t ts = false
 
 -- of no token it holds
-abbrev pub IsCut : List Token → Type 0
-IsCut [] = Unit {0}
-IsCut (t ∷ ts) = (belongs t ts ≡ false) × IsCut ts
+abbrev pub AreApart : List Token → Type 0
+AreApart [] = Unit {0}
+AreApart (t ∷ ts) = (belongs t ts ≡ false) × AreApart ts
 
 -- no token ends before its characters do
 abbrev pub AreMaximal : Type 0
-AreMaximal = (cs : List ℕ) → IsCut (tokens cs)
+AreMaximal = (cs : List ℕ) → AreApart (tokens cs)
 
 -- ---- queries
 -- those within its brackets not asked
