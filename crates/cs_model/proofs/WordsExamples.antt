@@ -58,3 +58,10 @@ words_of-long = refl
 slug_of-long : slug (replicate 121 97) ≡ Some (replicate 120 97)
 unfolding words norm chars cut caseless is_word_char general_category ucd_category lib.Utf8.encode
 slug_of-long = refl
+
+-- `Müller's "Über-Guide": 2nd ed.`: signs, quotes and spaces stand between words, and a digit is part of one
+words_of-signs :
+    words (77 ∷ 195 ∷ 188 ∷ codes "ller's \"" ++ 195 ∷ 156 ∷ codes "ber-Guide\": 2nd ed.")
+    ≡ (109 ∷ 117 ∷ 204 ∷ 136 ∷ codes "ller") ∷ codes "s" ∷ (117 ∷ 204 ∷ 136 ∷ codes "ber") ∷ codes "guide" ∷ codes "2nd" ∷ codes "ed" ∷ []
+unfolding words norm chars cut caseless is_word_char general_category ucd_category lib.Utf8.encode
+words_of-signs = refl
