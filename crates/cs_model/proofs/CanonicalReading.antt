@@ -49,6 +49,11 @@ one_closed parts (l ∷ ls) h = refl
 close_cost : (ps : List Piece) → cost (Closes ∷ ps) ≡ cost ps + 1
 close_cost ps = omega (arith, ap length (sign_behind (told ps) 93 close_alone), length-append (encode_utf8_all (told ps)) (93 ∷ []))
 
+-- what is read where one bracket was closed first
+shut_read : (ps all : List Piece) → Closed (Closes ∷ ps) all → 1 ≤ length (reading (map step_of ps)).open_now
+    → reading (map step_of all) ≡ record { parts = all_closed (reading (map step_of ps)).parts (reading (map step_of ps)).open_now; open_now = [] }
+shut_read ps all c deep = c.read ∙ ap (λ l. record { parts = l; open_now = [] }) (one_closed (reading (map step_of ps)).parts (reading (map step_of ps)).open_now deep)
+
 all_shut : (d : ℕ) (ps : List Piece) → Well ps → open_in ps ≡ d → (all : List Piece) × Closed ps all
 all_shut zero ps h e = (
   ps,
@@ -73,7 +78,7 @@ all_shut (suc d) ps h e =
         bytes = omega (arith, c.bytes, close_cost ps, some);
         parts = c.parts;
         atoms = c.atoms;
-        read = c.read ∙ ap (λ l. record { parts = l; open_now = [] }) (one_closed (reading (map step_of ps)).parts (reading (map step_of ps)).open_now deep);
+        read = shut_read ps r.0 c deep;
       },
     )
 
