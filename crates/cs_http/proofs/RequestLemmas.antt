@@ -16,6 +16,7 @@ use Rattle.std.specs.List.Sorted.{IsStrictlySortedBy}
 use Rattle.std.specs.Ordering.{nat_cmp}
 use Rattle.std.specs.Cmp.Lexicographic.{slice_cmp}
 use Rattle.std.specs.Str.{chars}
+use Rattle.std.proofs.lemmas.Bool.{and_parts}
 use Rattle.std.proofs.lemmas.Bool.Decides.{nat_tests}
 use Rattle.cs_base.specs.declared.query.Query.{Query}
 use Rattle.cs_base.specs.declared.limits.TheConstants.{MAX_SHOWN, MAX_OFFSET, MAX_FACETS, DEFAULT_HITS, DEFAULT_COMPLETIONS}
@@ -28,7 +29,6 @@ use Rattle.cs_model.specs.Parameters.{parameter, is_count, count_of, are_facets,
 use Rattle.cs_model.specs.Refusals.{QueryRefusal, IsOfGrammar}
 use Rattle.cs_model.proofs.FirstLemmas.{first-one}
 use Rattle.cs_model.proofs.PartsLemmas.{few_parts}
-use Rattle.cs_model.proofs.PieceTokens.{both_second}
 use Rattle.cs_query.specs.ParamNames.{param_name}
 use Rattle.cs_query.specs.declared.request.Param.{Param}
 use Rattle.cs_query.specs.declared.request.ReqFault.{ReqFault}
@@ -98,7 +98,7 @@ module _ (p : List ℕ) where
 count-within : (default most : ℕ) (v : Option (List ℕ)) → default ≤ most → is_count most v ≡ true → count_of default v ≤ most
 count-within default most None d h = d
 count-within default most (Some v) d h =
-    let few : nat_le (number_of v) most ≡ true = both_second (has_digits 5 v) (nat_le (number_of v) most) h in
+    let few : nat_le (number_of v) most ≡ true = (and_parts (has_digits 5 v) (nat_le (number_of v) most) h).1 in
     grind (arith, nat_tests)
 
 facets-rise : (v : Option (List ℕ)) → IsStrictlySortedBy (slice_cmp nat_cmp) (facet_names v)
@@ -108,7 +108,7 @@ facets-rise (Some v) = listing-rises (slice_cmp nat_cmp) (filter is_filled (slic
 
 facets-few : (v : Option (List ℕ)) → are_facets v ≡ true → length (facet_names v) ≤ MAX_FACETS
 facets-few v h =
-    let few : nat_le (length (facet_names v)) MAX_FACETS ≡ true = both_second (list_all has_name_form (facet_names v)) (nat_le (length (facet_names v)) MAX_FACETS) h in
+    let few : nat_le (length (facet_names v)) MAX_FACETS ≡ true = (and_parts (list_all has_name_form (facet_names v)) (nat_le (length (facet_names v)) MAX_FACETS) h).1 in
     grind (arith, nat_tests)
 
 -- what an accepted request keeps

@@ -7,7 +7,7 @@ use Rattle.std.proofs.Math.Seq.{take-nil}
 use Rattle.std.proofs.lemmas.Bool.Decides.{nat_tests}
 use Rattle.std.proofs.lemmas.List.Elements.{All-from_recursion}
 use Rattle.std.proofs.lemmas.Str.{chars-IsAscii, encodes-IsAscii, len_utf8_ascii}
-use Rattle.std.proofs.lemmas.Str.Ascii.{IsAscii-from_all}
+use Rattle.std.proofs.lemmas.Str.Ascii.{IsAscii-from_all, lowercase_ascii}
 use Rattle.caseless.proofs.CaselessLemmas.{canonical_key-ascii, default_case_fold-ascii, All-chars}
 use Rattle.cs_model.specs.KeyText.{norm}
 use Rattle.cs_model.specs.Words.{is_word_char, is_gap, is_filled, fitting, cut, words, words_of}
@@ -24,12 +24,9 @@ AllAscii-from_IsAscii (b ∷ bs) h = (h 0, AllAscii-from_IsAscii bs (λ i. h (su
 pub IsAscii-from_AllAscii : (bs : List ℕ) → AllAscii bs → IsAscii bs
 IsAscii-from_AllAscii bs h = IsAscii-from_all bs (All-from_recursion (λ c. c < 128) bs h)
 
-lower_ascii : (c : ℕ) → c < 128 → to_ascii_lowercase c < 128
-lower_ascii c h = grind (arith, nat_tests)
-
 AllAscii-lower : (cs : List ℕ) → AllAscii cs → AllAscii (map to_ascii_lowercase cs)
 AllAscii-lower [] h = tt
-AllAscii-lower (c ∷ cs) h = (lower_ascii c h.0, AllAscii-lower cs h.1)
+AllAscii-lower (c ∷ cs) h = (lowercase_ascii c h.0, AllAscii-lower cs h.1)
 
 pub AllAscii-ascii_norm : (s : List ℕ) → IsAscii s → AllAscii (ascii_norm s)
 AllAscii-ascii_norm s h = AllAscii-lower s (AllAscii-from_IsAscii s h)

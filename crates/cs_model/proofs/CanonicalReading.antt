@@ -4,8 +4,9 @@
 --   Canon bs            what is shown of an accepted text bs and of the canonical text of its query
 --   read_again, different, short, no_longer, keep_counts     the laws
 use Rattle.std.proofs.Common.{◌≡◌, ℕ, zero, suc, ◌+◌, ◌≤◌, List, [], ◌∷◌, ◌++◌, map, length, refl, ap, ◌∙◌, sym, subst, Bool, true, false, arith, length-append}
-use Rattle.std.specs.Prelude.{◌&&◌, encode_utf8_all}
+use Rattle.std.specs.Prelude.{encode_utf8_all}
 use Rattle.std.specs.Str.{chars, IsUtf8, all_scalars}
+use Rattle.std.proofs.lemmas.Bool.{and_from, and_parts}
 use Rattle.std.proofs.lemmas.List.{take_all}
 use Rattle.std.proofs.lemmas.Str.{chars-encodes, encodes-chars, scalars-chars}
 use Rattle.cs_base.specs.declared.query.Link.TheVariants.{Phrase, Near}
@@ -20,12 +21,13 @@ use Rattle.cs_model.specs.Refusals.{IsAccepted, verdict, depth, parts_in, atoms_
 use Rattle.cs_model.specs.Canonical.{canonical, canonical_parts}
 use Rattle.cs_model.specs.CanonicalLaws.{AreReadAgain, AreDifferent, AreShort, AreNoLonger, KeepCounts}
 use Rattle.cs_model.proofs.Pieces.{Piece, Plain, Whole, Valued, WholeValued, Opens, Closes, step_of, IsWord, IsValue, fresh, open_in, Well, between, told, toks}
-use Rattle.cs_model.proofs.PieceTokens.{both_first, both_second, tokens_told, steps_toks}
+use Rattle.cs_model.proofs.PieceTokens.{tokens_told, steps_toks}
 use Rattle.cs_model.proofs.PieceText.{sign_behind, close_alone, levels_text, Printed, printed}
 use Rattle.cs_model.proofs.AttachedText.{rolled_query}
-use Rattle.cs_model.proofs.PassedTokens.{Passes, passes, kept_tokens, and_true}
+use Rattle.cs_model.proofs.PassedTokens.{Passes, passes, kept_tokens}
 use Rattle.cs_model.proofs.KeptPieces.{cost, pieced, deep_same}
-use Rattle.cs_model.proofs.FineTokens.{size_after, Fine, Few, fine_toks, fronts}
+use Rattle.cs_model.proofs.MaximalTokens.{size_after}
+use Rattle.cs_model.proofs.FineTokens.{Fine, Few, fine_toks, fronts}
 
 -- ---- brackets closed at the end
 record Closed (ps all : List Piece) : Type 0 where
@@ -46,6 +48,11 @@ one_closed parts (l ∷ ls) h = refl
 
 close_cost : (ps : List Piece) → cost (Closes ∷ ps) ≡ cost ps + 1
 close_cost ps = omega (arith, ap length (sign_behind (told ps) 93 close_alone), length-append (encode_utf8_all (told ps)) (93 ∷ []))
+
+-- what is read where one bracket was closed first
+shut_read : (ps all : List Piece) → Closed (Closes ∷ ps) all → 1 ≤ length (reading (map step_of ps)).open_now
+    → reading (map step_of all) ≡ record { parts = all_closed (reading (map step_of ps)).parts (reading (map step_of ps)).open_now; open_now = [] }
+shut_read ps all c deep = c.read ∙ ap (λ l. record { parts = l; open_now = [] }) (one_closed (reading (map step_of ps)).parts (reading (map step_of ps)).open_now deep)
 
 all_shut : (d : ℕ) (ps : List Piece) → Well ps → open_in ps ≡ d → (all : List Piece) × Closed ps all
 all_shut zero ps h e = (
@@ -71,7 +78,7 @@ all_shut (suc d) ps h e =
         bytes = omega (arith, c.bytes, close_cost ps, some);
         parts = c.parts;
         atoms = c.atoms;
-        read = c.read ∙ ap (λ l. record { parts = l; open_now = [] }) (one_closed (reading (map step_of ps)).parts (reading (map step_of ps)).open_now deep);
+        read = shut_read ps r.0 c deep;
       },
     )
 
@@ -79,7 +86,7 @@ all_shut (suc d) ps h e =
 scalars_append : (xs ys : List ℕ) → all_scalars xs ≡ true → all_scalars ys ≡ true → all_scalars (xs ++ ys) ≡ true
 scalars_append [] ys h k = k
 scalars_append (x ∷ xs) ys h k =
-    and_true _ _ (both_first _ (all_scalars xs) h) (scalars_append xs ys (both_second _ (all_scalars xs) h) k)
+    and_from _ _ ((and_parts _ (all_scalars xs) h).0) (scalars_append xs ys ((and_parts _ (all_scalars xs) h).1) k)
 
 between_scalars : (t : Tie) (f : Bool) → all_scalars (between t f) ≡ true
 between_scalars (Begins true) true = refl

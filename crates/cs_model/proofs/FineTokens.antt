@@ -4,7 +4,6 @@
 --   fine_toks          the tokens of well formed pieces are such, where these are within the limits
 --   fronts             then each prefix of the text passes
 use Rattle.std.proofs.Common.{◌≡◌, ℕ, zero, suc, ◌+◌, ◌≤◌, List, [], ◌∷◌, ◌++◌, map, length, take, refl, ap, ◌∙◌, sym, Bool, true, false, not, arith, length-append, None}
-use Rattle.std.specs.Prelude.{encode_utf8_all}
 use Rattle.std.specs.Char.{encode_utf8}
 use Rattle.std.proofs.lemmas.Bool.{lt-ltb}
 use Rattle.cs_model.specs.declared.kinds.Class.{Class}
@@ -21,17 +20,13 @@ use Rattle.cs_model.proofs.PieceTokens.{opens, between_opens, between_steps, ste
 use Rattle.cs_model.proofs.PieceText.{printed}
 use Rattle.cs_model.proofs.PassedTokens.{Passes, passed}
 use Rattle.cs_model.proofs.KeptPieces.{cost}
-use Rattle.cs_model.proofs.SizeLemmas.{size_next}
+use Rattle.cs_model.proofs.MaximalTokens.{size_after}
 
 abbrev pub Fine : List Token → Type 0
 Fine [] = Unit {0}
 Fine (t ∷ ts) = Passes (t ∷ ts) × Fine ts
 
 -- ---- sizes
-pub size_after : (cs : List ℕ) (ts : List Token) → size (tokens_after ts cs) ≡ size ts + length (encode_utf8_all cs)
-size_after [] ts = omega arith
-size_after (x ∷ cs) ts = omega (arith, size_after cs (with_next x ts), size_next x ts, length-append (encode_utf8 x) (encode_utf8_all cs))
-
 size_toks : (ps : List Piece) → Well ps → size (toks ps) ≡ cost ps
 size_toks ps h = ap size (sym (tokens_told ps h)) ∙ omega (arith, size_after (told ps) [])
 

@@ -1,18 +1,12 @@
 -- The longest prefix of whole characters that has at most so many bytes.
-use Rattle.std.proofs.Common.{◌≡◌, ℕ, zero, suc, ◌+◌, ◌-◌, ◌<◌, ◌≤◌, Bool, true, false, nat_le, List, [], ◌∷◌, length, take, refl, ap, sym, ◌∙◌, arith, encode_utf8_all, length-append}
+use Rattle.std.proofs.Common.{◌≡◌, ℕ, zero, suc, ◌+◌, ◌-◌, ◌≤◌, Bool, true, false, nat_le, List, [], ◌∷◌, length, take, refl, ap, sym, ◌∙◌, arith, encode_utf8_all, length-append}
 use Rattle.std.specs.Char.{encode_utf8, len_utf8}
-use Rattle.std.proofs.lemmas.Bool.Decides.{nat_tests}
+use Rattle.std.proofs.lemmas.Bool.{leb-true, leb-false}
 use Rattle.std.proofs.lemmas.Str.{length-encode}
 use Rattle.cs_model.specs.Words.{fitting}
 
 bytes-cons : (c : ℕ) (cs : List ℕ) → length (encode_utf8_all (c ∷ cs)) ≡ len_utf8 c + length (encode_utf8_all cs)
 bytes-cons c cs = length-append (encode_utf8 c) (encode_utf8_all cs) ∙ ap (λ n. n + length (encode_utf8_all cs)) (length-encode c)
-
-le_from_test : (n m : ℕ) → nat_le n m ≡ true → n ≤ m
-le_from_test n m h = grind (arith, nat_tests)
-
-lt_from_test : (n m : ℕ) → nat_le n m ≡ false → m < n
-lt_from_test n m h = grind (arith, nat_tests)
 
 fitting-on : (room c : ℕ) (cs : List ℕ) → nat_le (len_utf8 c) room ≡ true → fitting room (c ∷ cs) ≡ c ∷ fitting (room - len_utf8 c) cs
 fitting-on room c cs is = rw is
@@ -23,7 +17,7 @@ fitting-off room c cs is = rw is
 -- ---- it fits
 fits_at : (b : Bool) (room c : ℕ) (cs : List ℕ) → nat_le (len_utf8 c) room ≡ b → length (encode_utf8_all (fitting (room - len_utf8 c) cs)) ≤ room - len_utf8 c → length (encode_utf8_all (fitting room (c ∷ cs))) ≤ room
 fits_at true room c cs is h =
-    omega (arith, ap (λ ds. length (encode_utf8_all ds)) (fitting-on room c cs is), bytes-cons c (fitting (room - len_utf8 c) cs), le_from_test (len_utf8 c) room is)
+    omega (arith, ap (λ ds. length (encode_utf8_all ds)) (fitting-on room c cs is), bytes-cons c (fitting (room - len_utf8 c) cs), leb-true (len_utf8 c) room is)
 fits_at false room c cs is h = omega (arith, ap (λ ds. length (encode_utf8_all ds)) (fitting-off room c cs is))
 
 pub fitting-fits : (room : ℕ) (cs : List ℕ) → length (encode_utf8_all (fitting room cs)) ≤ room
@@ -45,7 +39,7 @@ longest_at : (b : Bool) (room c : ℕ) (cs : List ℕ) (n : ℕ) → nat_le (len
 longest_at true room c cs n is l h =
     let more = h (omega (arith, l, bytes-cons c (take n cs))) in
     omega (arith, more, ap length (fitting-on room c cs is))
-longest_at false room c cs n is l h = absurd (omega (arith, l, bytes-cons c (take n cs), lt_from_test (len_utf8 c) room is))
+longest_at false room c cs n is l h = absurd (omega (arith, l, bytes-cons c (take n cs), leb-false (len_utf8 c) room is))
 
 pub fitting-longest : (room : ℕ) (cs : List ℕ) (n : ℕ) → length (encode_utf8_all (take n cs)) ≤ room → length (take n cs) ≤ length (fitting room cs)
 fitting-longest room cs zero l = omega arith

@@ -5,7 +5,7 @@
 use Rattle.std.proofs.Common.{◌≡◌, ℕ, ◌+◌, ◌≤◌, ◌<◌, List, [], ◌∷◌, ◌++◌, map, length, refl, ap, ◌∙◌, sym, Bool, true, false, not, arith, length-append}
 use Rattle.std.specs.Prelude.{◌&&◌, ◌==◌, nat_lt, if◌then◌else◌, encode_utf8_all}
 use Rattle.std.specs.Str.{chars}
-use Rattle.std.proofs.lemmas.Bool.{ltb-true}
+use Rattle.std.proofs.lemmas.Bool.{not-false, ltb-true}
 use Rattle.std.proofs.lemmas.Str.{encodes-chars}
 use Rattle.cs_base.specs.declared.query.Link.TheVariants.{Near}
 use Rattle.cs_base.specs.declared.query.Atom.{Prefix, Exact}
@@ -43,10 +43,6 @@ no_true h = absurd (let no : true ≡ false = h in cc)
 
 no_false : {X : Type 0} → false ≡ true → X
 no_false h = absurd (let no : false ≡ true = h in cc)
-
-not_false : (b : Bool) → not b ≡ false → b ≡ true
-not_false true h = refl
-not_false false h = cc
 
 space_cost : (f : Bool) → length (space f) ≤ 1
 space_cost true = omega arith
@@ -263,7 +259,7 @@ some_value : (x : ℕ) (v : List ℕ) → 1 ≤ length (x ∷ v)
 some_value x v = omega arith
 
 depth_open : (ts : List Token) → not (nat_lt 0 (depth ts)) ≡ false → 0 < depth ts
-depth_open ts h = ltb-true 0 (depth ts) (not_false (nat_lt 0 (depth ts)) h)
+depth_open ts h = ltb-true 0 (depth ts) (not-false (nat_lt 0 (depth ts)) h)
 
 pub pieced : (ts : List Token) → Kept ts → Pieced ts
 pieced [] h = record {
@@ -280,14 +276,14 @@ pieced [] h = record {
 pieced (Word w ∷ ts) h = word_pieced w ts h.2.0 h.2.1 (pieced ts h.3)
 pieced (Dollar ∷ Word w ∷ ts) h = exact_pieced w ts h.3.2.0 h.3.2.1 (pieced ts h.3.3)
 pieced (Value v ∷ Colon ∷ Word n ∷ ts) h =
-    value_pieced v n ts (record { word = h.3.3.2.0; form = not_false (has_name_form n) h.0 }) h.2.0 h.3.3.2.1 (pieced ts h.3.3.3)
+    value_pieced v n ts (record { word = h.3.3.2.0; form = not-false (has_name_form n) h.0 }) h.2.0 h.3.3.2.1 (pieced ts h.3.3.3)
 pieced (Dollar ∷ Value (x ∷ v) ∷ Colon ∷ Word n ∷ ts) h =
-    exact_value_pieced (x ∷ v) n ts (record { word = h.3.3.3.2.0; form = not_false (has_name_form n) h.3.0 }) h.3.2.0 (some_value x v) h.3.3.3.2.1 (pieced ts h.3.3.3.3)
-pieced (Open ∷ Word n ∷ ts) h = open_pieced n ts (record { word = h.3.2.0; form = not_false (has_name_form n) h.0 }) h.1 h.3.2.1 (pieced ts h.3.3)
+    exact_value_pieced (x ∷ v) n ts (record { word = h.3.3.3.2.0; form = not-false (has_name_form n) h.3.0 }) h.3.2.0 (some_value x v) h.3.3.3.2.1 (pieced ts h.3.3.3.3)
+pieced (Open ∷ Word n ∷ ts) h = open_pieced n ts (record { word = h.3.2.0; form = not-false (has_name_form n) h.0 }) h.1 h.3.2.1 (pieced ts h.3.3)
 pieced (Close ∷ ts) h = close_pieced ts (depth_open ts h.0) (pieced ts h.3)
 pieced (Gap n ∷ ts) h = gap_pieced n ts h.2 (pieced ts h.3)
 pieced (Run r ∷ ts) h = run_pieced r ts h.2 (pieced ts h.3)
-pieced (Bar ∷ ts) h = bar_pieced ts (not_false (takes_bar ts) h.0) (pieced ts h.3)
+pieced (Bar ∷ ts) h = bar_pieced ts (not-false (takes_bar ts) h.0) (pieced ts h.3)
 pieced (Colon ∷ ts) h = colon_pieced ts (pieced ts h.3)
 pieced (Value v ∷ Colon ∷ ts) h = no_true h.0
 pieced (Value v ∷ ts) h = no_false h.2.1

@@ -1,16 +1,19 @@
 -- The canonical text of a query that ends in a prefix, with that prefix cut, and the shorter prefixes of a word.
 --
+--   on_last-append      the last entry of a longer list, changed
 --   last_split          a list with a last entry
---   prefix_front        the text of a query up to the prefix that is being typed
---   shorter_key         the text of the query with that prefix cut is the query's text, cut
+--   EndsIn              a text that ends in a word, and with other words in its place
+--   query_ends          so does the text of a query whose last prefix is being typed
+--   shortened           with that prefix cut, it is the query's text, cut
+--   prefix_short        the prefix has at most one byte more than the query's text
 --   shorter_push        the shorter prefixes of one character more
 --   left_more, left_stop, left_empty     those of them that are words
 use Rattle.std.proofs.Common.{◌≡◌, ℕ, ◌+◌, ◌-◌, ◌≤◌, List, [], ◌∷◌, ◌++◌, map, filter, length, take, drop, refl, ap, ◌∙◌, sym, subst, append_assoc, length-append, Bool, true, false, not, cond, arith, Option, Some, None}
-use Rattle.std.specs.Prelude.{◌&&◌, ◌||◌, ◌==◌, nat_lt, if◌then◌else◌, codes}
+use Rattle.std.specs.Prelude.{◌&&◌, ◌==◌, nat_lt, if◌then◌else◌, codes}
 use Rattle.std.specs.List.{concat, join_with_byte, list_any}
 use Rattle.std.specs.Str.{IsUtf8, IsCharBoundary}
 use Rattle.std.proofs.Math.Seq.{take-append_seam, drop-append_seam}
-use Rattle.std.proofs.lemmas.Bool.{lt-ltb}
+use Rattle.std.proofs.lemmas.Bool.{and_right, or_right, lt-ltb}
 use Rattle.std.proofs.lemmas.List.{append-nil, map-append}
 use Rattle.std.proofs.lemmas.List.Elements.{filter-append}
 use Rattle.std.proofs.lemmas.List.Folds.{list_any-append}
@@ -223,14 +226,10 @@ abbrev pub is_colon : ℕ → Bool
 is_colon c = c == 58
 
 any_behind : (xs ys : List ℕ) → list_any is_colon ys ≡ true → list_any is_colon (xs ++ ys) ≡ true
-any_behind xs ys h = list_any-append is_colon xs ys ∙ ap (λ b. list_any is_colon xs || b) h ∙ or_true (list_any is_colon xs)
-  where
-    or_true : (b : Bool) → (b || true) ≡ true
-    or_true true = refl
-    or_true false = refl
+any_behind xs ys h = list_any-append is_colon xs ys ∙ or_right (list_any is_colon xs) (list_any is_colon ys) h
 
-dropped : {X : Type 0} (t : X → Bool) (x : X) → t x ≡ false → filter t (x ∷ []) ≡ []
-dropped t x h = ap (λ b. cond b (x ∷ []) []) h
+dropped_first : {X : Type 0} (t : X → Bool) (x : X) (xs : List X) → t x ≡ false → filter t (x ∷ xs) ≡ filter t xs
+dropped_first t x xs h = ap (λ b. cond b (x ∷ filter t xs) (filter t xs)) h
 
 -- where a colon stands behind cs, none of its prefixes passes a test that wants none
 none_passes : (cs rest : List ℕ) (t : List ℕ → Bool) → list_any is_colon rest ≡ true
@@ -238,25 +237,18 @@ none_passes : (cs rest : List ℕ) (t : List ℕ → Bool) → list_any is_colon
 none_passes [] rest t h f = refl
 none_passes (x ∷ cs) rest t h f =
     filter-append t (map (λ w. x ∷ w) (shorter cs)) ([] ∷ [])
-    ∙ ap (λ l. filter t (map (λ w. x ∷ w) (shorter cs)) ++ l) (dropped t [] (f [] (any_behind (x ∷ cs) rest h)))
+    ∙ ap (λ l. filter t (map (λ w. x ∷ w) (shorter cs)) ++ l) (dropped_first t [] [] (f [] (any_behind (x ∷ cs) rest h)))
     ∙ append-nil (filter t (map (λ w. x ∷ w) (shorter cs)))
     ∙ filter_map (λ w. x ∷ w) t (shorter cs)
     ∙ ap (map (λ w. x ∷ w)) (none_passes cs rest (λ w. t (x ∷ w)) h (λ w g. f (x ∷ w) g))
 
-and_false : (b : Bool) → (b && false) ≡ false
-and_false true = refl
-and_false false = refl
-
 -- behind a colon that is cut off no word is left
 pub left_none : (all cs rest : List ℕ) → all ≡ cs ++ rest → list_any is_colon rest ≡ true → filter (is_left all) (shorter cs) ≡ []
 left_none all cs rest e h =
-    none_passes cs rest (is_left all) h (λ w g. ap (λ b. nat_lt 0 (length w) && not b) (ap (λ l. list_any is_colon (drop (length w) l)) e ∙ g) ∙ and_false (nat_lt 0 (length w)))
+    none_passes cs rest (is_left all) h (λ w g. and_right (nat_lt 0 (length w)) _ (ap not (ap (λ l. list_any is_colon (drop (length w) l)) e ∙ g)))
 
 kept_first : {X : Type 0} (t : X → Bool) (x : X) (xs : List X) → t x ≡ true → filter t (x ∷ xs) ≡ x ∷ filter t xs
 kept_first t x xs h = ap (λ b. cond b (x ∷ filter t xs) (filter t xs)) h
-
-dropped_first : {X : Type 0} (t : X → Bool) (x : X) (xs : List X) → t x ≡ false → filter t (x ∷ xs) ≡ filter t xs
-dropped_first t x xs h = ap (λ b. cond b (x ∷ filter t xs) (filter t xs)) h
 
 -- one character less: a word is left, where that is no colon and none was cut off
 pub left_more : (all cs rest : List ℕ) (c : ℕ) → all ≡ cs ++ rest → list_any is_colon rest ≡ false → 1 ≤ length cs
@@ -270,7 +262,7 @@ left_more all cs rest c e h some =
 pub left_stop : (all cs rest : List ℕ) (c : ℕ) → all ≡ cs ++ rest → list_any is_colon rest ≡ true → filter (is_left all) (shorter (cs ++ c ∷ [])) ≡ []
 left_stop all cs rest c e h =
     let behind : drop (length cs) all ≡ rest = ap (drop (length cs)) e ∙ drop-append_seam cs rest in
-    let gone : is_left all cs ≡ false = ap (λ l. nat_lt 0 (length cs) && not (list_any is_colon l)) behind ∙ ap (λ b. nat_lt 0 (length cs) && not b) h ∙ and_false (nat_lt 0 (length cs)) in
+    let gone : is_left all cs ≡ false = and_right (nat_lt 0 (length cs)) _ (ap not (ap (list_any is_colon) behind ∙ h)) in
     ap (filter (is_left all)) (shorter_push cs c) ∙ dropped_first (is_left all) cs (shorter cs) gone ∙ left_none all cs rest e h
 
 -- of one character no shorter word is left

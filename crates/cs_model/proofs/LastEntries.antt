@@ -37,10 +37,6 @@ pub none_map : {X Y : Type 0} (f : X → Y) (xs : List X) → is_none (map f xs)
 none_map f [] = refl
 none_map f (x ∷ xs) = refl
 
-pub none_push : {X : Type 0} (xs : List X) (x : X) → is_none (xs ++ x ∷ []) ≡ false
-none_push [] x = refl
-none_push (y ∷ xs) x = refl
-
 -- the sign before an entry, the first one or another
 abbrev pub sign_before : ℕ → Bool → List ℕ
 sign_before c true = []

@@ -4,12 +4,12 @@
 --   passes, passed       a verdict of no fault is that of tokens that pass
 --   Kept ts              no token is refused, and each has the characters of its kind
 --   kept_tokens          the tokens of an accepted text are such
-use Rattle.std.proofs.Common.{◌≡◌, ℕ, suc, ◌+◌, ◌≤◌, List, [], ◌∷◌, ◌++◌, length, take, refl, ap, ◌∙◌, sym, Bool, true, false, arith, length-append, Option, Some, None}
-use Rattle.std.specs.Prelude.{◌&&◌, ◌||◌, ◌==◌, not, nat_le, if◌then◌else◌}
+use Rattle.std.proofs.Common.{◌≡◌, ℕ, suc, ◌+◌, ◌≤◌, List, [], ◌∷◌, ◌++◌, length, take, refl, ap, ◌∙◌, sym, Bool, true, false, arith, length-append, None}
+use Rattle.std.specs.Prelude.{◌==◌, not, nat_le}
 use Rattle.std.specs.Char.{encode_utf8, IsScalar}
 use Rattle.std.specs.List.{list_all}
 use Rattle.std.specs.Str.{chars, IsUtf8, all_scalars}
-use Rattle.std.proofs.lemmas.Bool.{leb-true, le-leb}
+use Rattle.std.proofs.lemmas.Bool.{and_from, and_parts, or_left, not-true, leb-true, le-leb}
 use Rattle.std.proofs.lemmas.List.{append-nil}
 use Rattle.std.proofs.lemmas.List.Folds.{list_all-append}
 use Rattle.std.proofs.lemmas.Str.{chars-append, chars_past_char, chars-nil, IsUtf8-append, IsUtf8-encode, IsUtf8-nil, length-le-encodes}
@@ -19,13 +19,14 @@ use Rattle.cs_model.specs.Words.{is_word_char}
 use Rattle.cs_model.specs.Tokens.{Token, Word, Value, Run, Gap, Dollar, Bar, Colon, Open, Close, class_of, grown, with_next, tokens_after, tokens, size}
 use Rattle.cs_model.specs.Grammar.{steps}
 use Rattle.cs_model.specs.First.{unless, first_reason}
-use Rattle.cs_model.specs.Refusals.{QueryRefusal, Bad, Limit, refused, verdict, parts_in, atoms_in, depth, newest, IsAccepted}
+use Rattle.cs_model.specs.Refusals.{Bad, Limit, refused, verdict, parts_in, atoms_in, depth, newest, IsAccepted}
 use Rattle.cs_base.specs.declared.limits.TheConstants.{MAX_QUERY_BYTES, MAX_PLAIN_WORD_BYTES, MAX_PARTS, MAX_ATOMS, MAX_DEPTH}
 use Rattle.cs_base.specs.declared.query.Which.TheVariants as limits
+use Rattle.cs_model.proofs.ClassLemmas.{class_cases}
 use Rattle.cs_model.proofs.FirstLemmas.{none_first, none_rest, unless_none}
 use Rattle.cs_model.proofs.SizeLemmas.{Fits, class_fits}
 use Rattle.cs_model.proofs.Pieces.{IsWord, IsValue, is_value_char}
-use Rattle.cs_model.proofs.PieceTokens.{opens, both_first, both_second}
+use Rattle.cs_model.proofs.PieceTokens.{opens}
 
 -- ---- verdicts
 pub record Passes (ts : List Token) : Type 0 where
@@ -35,10 +36,6 @@ pub record Passes (ts : List Token) : Type 0 where
   pub parts : parts_in (steps ts) ≤ 16
   pub atoms : atoms_in (steps ts) ≤ 32
   pub shallow : depth ts ≤ 3
-
-not_refused : (b : Bool) → not b ≡ true → b ≡ false
-not_refused true h = cc
-not_refused false h = refl
 
 pub passes : (ts : List Token) → verdict ts ≡ None → Passes ts
 passes ts h =
@@ -53,7 +50,7 @@ passes ts h =
     let h4 : first_reason (atoms ∷ levels ∷ []) ≡ None = none_rest parts (atoms ∷ levels ∷ []) h3 in
     let h5 : first_reason (levels ∷ []) ≡ None = none_rest atoms (levels ∷ []) h4 in
     record {
-      fine = not_refused (refused ts) (unless_none _ Bad (none_first (unless (not (refused ts)) Bad) (bytes ∷ word ∷ parts ∷ atoms ∷ levels ∷ []) h));
+      fine = not-true (refused ts) (unless_none _ Bad (none_first (unless (not (refused ts)) Bad) (bytes ∷ word ∷ parts ∷ atoms ∷ levels ∷ []) h));
       small = leb-true (size ts + depth ts) 1024 (unless_none _ (Limit limits.Query) (none_first bytes (word ∷ parts ∷ atoms ∷ levels ∷ []) h1));
       short = leb-true (newest ts) 120 (unless_none _ (Limit limits.Word) (none_first word (parts ∷ atoms ∷ levels ∷ []) h2));
       parts = leb-true (parts_in (steps ts)) 16 (unless_none _ (Limit limits.Parts) (none_first parts (atoms ∷ levels ∷ []) h3));
@@ -71,14 +68,10 @@ one_char x s = chars_past_char (encode_utf8 x) [] x (IsUtf8-encode x s) (sym (ap
 chars_more : (w : List ℕ) (x : ℕ) → IsUtf8 w → IsScalar x → chars (w ++ encode_utf8 x) ≡ chars w ++ x ∷ []
 chars_more w x u s = chars-append w (encode_utf8 x) u ∙ ap (λ l. chars w ++ l) (one_char x s)
 
-pub and_true : (a b : Bool) → a ≡ true → b ≡ true → (a && b) ≡ true
-and_true true b h k = k
-and_true false b h k = h
-
 all_more : (p : ℕ → Bool) (w : List ℕ) (x : ℕ) → IsUtf8 w → IsScalar x → list_all p (chars w) ≡ true → p x ≡ true → list_all p (chars (w ++ encode_utf8 x)) ≡ true
 all_more p w x u s h k =
     ap (list_all p) (chars_more w x u s) ∙ list_all-append p (chars w) (x ∷ [])
-    ∙ and_true (list_all p (chars w)) (list_all p (x ∷ [])) h (and_true (p x) true k refl)
+    ∙ and_from (list_all p (chars w)) (list_all p (x ∷ [])) h (and_from (p x) true k refl)
 
 some_bytes : (x : ℕ) → 1 ≤ length (encode_utf8 x)
 some_bytes x = omega (arith, length-le-encodes (x ∷ []), length-append (encode_utf8 x) [])
@@ -94,7 +87,7 @@ word_more w x h s k short = record {
 word_new : (x : ℕ) → IsScalar x → is_word_char x ≡ true → length (encode_utf8 x) ≤ 120 → IsWord (encode_utf8 x)
 word_new x s k short = record {
   utf8 = IsUtf8-encode x s;
-  letters = ap (list_all is_word_char) (one_char x s) ∙ and_true (is_word_char x) true k refl;
+  letters = ap (list_all is_word_char) (one_char x s) ∙ and_from (is_word_char x) true k refl;
   some = some_bytes x;
   short = short;
 }
@@ -108,10 +101,6 @@ value_more v x h s k short = record {
 
 value_none : IsValue []
 value_none = record { utf8 = IsUtf8-nil; letters = ap (list_all is_value_char) chars-nil; short = omega arith }
-
-or_first : (a b : Bool) → a ≡ true → (a || b) ≡ true
-or_first true b h = refl
-or_first false b h = cc
 
 low_line : (v : List ℕ) → IsValue v → length (v ++ 95 ∷ []) ≤ 120 → IsValue (v ++ 95 ∷ [])
 unfolding is_word_char encode_utf8
@@ -138,28 +127,16 @@ kept_depth [] h = omega arith
 kept_depth (t ∷ ts) h = h.1
 
 -- what is known of a character of this class
-abbrev Spells : Class → ℕ → Type 0
-Spells c.Letter x = is_word_char x ≡ true
-Spells _ x = Unit {0}
+abbrev Spells : ℕ → Class → Type 0
+Spells x c.Letter = is_word_char x ≡ true
+Spells x k = Unit {0}
 
-spells_if : (b : Bool) (k l : Class) (x : ℕ) → (b ≡ true → Spells k x) → Spells l x → Spells (if b then k else l) x
-spells_if true k l x h j = h refl
-spells_if false k l x h j = j
+class_spells : (x : ℕ) → Spells x (class_of x)
+class_spells x = class_cases (Spells x) x (λ e. e) (λ e. tt) (λ e. tt) (λ e. tt) (λ e. tt) (λ e. tt) (λ e. tt) (λ e. tt) tt
 
-class_spells : (x : ℕ) → Spells (class_of x) x
-class_spells x =
-    spells_if (is_word_char x) c.Letter _ x (λ e. e)
-    (spells_if (x == 46) c.Dot _ x (λ e. tt)
-    (spells_if ((x == 45) || ((x == 95) || (x == 39))) c.Joiner _ x (λ e. tt)
-    (spells_if (x == 36) c.Dollar _ x (λ e. tt)
-    (spells_if (x == 124) c.Bar _ x (λ e. tt)
-    (spells_if (x == 58) c.Colon _ x (λ e. tt)
-    (spells_if (x == 91) c.Open _ x (λ e. tt)
-    (spells_if (x == 93) c.Close c.Other x (λ e. tt) tt)))))))
-
-kept_grown : (k : Class) (x : ℕ) (ts : List Token) → Spells k x → Fits k (encode_utf8 x) → IsScalar x → Kept ts → Passes (grown k (encode_utf8 x) ts) → Kept (grown k (encode_utf8 x) ts)
+kept_grown : (k : Class) (x : ℕ) (ts : List Token) → Spells x k → Fits (encode_utf8 x) k → IsScalar x → Kept ts → Passes (grown k (encode_utf8 x) ts) → Kept (grown k (encode_utf8 x) ts)
 kept_grown c.Letter x (Word w ∷ ts) l f s h p = (p.fine, p.shallow, (word_more w x h.2.0 s l p.short, h.2.1), h.3)
-kept_grown c.Letter x (Value v ∷ ts) l f s h p = (p.fine, p.shallow, (value_more v x h.2.0 s (or_first (is_word_char x) (x == 95) l) p.short, h.2.1), h.3)
+kept_grown c.Letter x (Value v ∷ ts) l f s h p = (p.fine, p.shallow, (value_more v x h.2.0 s (or_left (is_word_char x) (x == 95) l) p.short, h.2.1), h.3)
 kept_grown c.Letter x [] l f s h p = (p.fine, p.shallow, (word_new x s l p.short, refl), h)
 kept_grown c.Letter x (Run r ∷ ts) l f s h p = (p.fine, p.shallow, (word_new x s l p.short, refl), h)
 kept_grown c.Letter x (Gap n ∷ ts) l f s h p = (p.fine, p.shallow, (word_new x s l p.short, refl), h)
@@ -185,8 +162,8 @@ kept_after : (cs : List ℕ) (ts : List Token) → all_scalars cs ≡ true → K
 kept_after [] ts s h a = h
 kept_after (x ∷ cs) ts s h a =
     let one : verdict (with_next x ts) ≡ None = a 1 (omega arith) in
-    kept_after cs (with_next x ts) (both_second _ _ s)
-    (kept_grown (class_of x) x ts (class_spells x) (class_fits x) (both_first _ _ s) h (passes (with_next x ts) one))
+    kept_after cs (with_next x ts) ((and_parts _ _ s).1)
+    (kept_grown (class_of x) x ts (class_spells x) (class_fits x) ((and_parts _ _ s).0) h (passes (with_next x ts) one))
     (λ k le. a (suc k) (omega arith))
 
 pub kept_tokens : (cs : List ℕ) → all_scalars cs ≡ true → IsAccepted cs → Kept (tokens cs)

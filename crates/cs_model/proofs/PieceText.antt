@@ -1,7 +1,7 @@
 -- The canonical text of what pieces are read as is their text.
 --
 --   word_shown           a word is shown as it is
---   spelled_bytes        the bytes of a piece's atom
+--   facet_bytes          the bytes of a facet's name, the colon and its value
 --   Printed ps r         the reading r has the text of the pieces ps
 --   printed              so has that of their steps
 use Rattle.std.proofs.Common.{◌≡◌, ℕ, ◌≤◌, List, [], ◌∷◌, ◌++◌, map, length, refl, ap, ◌∙◌, sym, append_assoc, Bool, true, false, arith}
@@ -9,7 +9,7 @@ use Rattle.std.specs.Prelude.{◌==◌, if◌then◌else◌, encode_utf8_all, co
 use Rattle.std.specs.Char.{encode_utf8}
 use Rattle.std.specs.List.{list_all}
 use Rattle.std.specs.Str.{chars}
-use Rattle.std.proofs.lemmas.Bool.{eqb-true}
+use Rattle.std.proofs.lemmas.Bool.{and_parts, eqb-true}
 use Rattle.std.proofs.lemmas.List.{append-nil}
 use Rattle.std.proofs.lemmas.Str.{encodes-chars, chars_past_char}
 use Rattle.cs_base.specs.declared.query.Link.TheVariants.{Phrase, Near}
@@ -26,7 +26,6 @@ use Rattle.cs_model.proofs.CanonicalLemmas.{prefix_shape, exact_shape}
 use Rattle.cs_model.proofs.LastEntries.{is_none, Last, last_some}
 use Rattle.cs_model.proofs.AttachedText.{HasChain, Takes, attached_text, attached_ready, join_text}
 use Rattle.cs_model.proofs.Pieces.{Piece, Plain, Whole, Valued, WholeValued, Opens, Closes, step_of, IsWord, IsValue, fresh, linkable, TieFits, open_in, Well, between, told}
-use Rattle.cs_model.proofs.PieceTokens.{both_first}
 use Rattle.cs_model.proofs.SizeLemmas.{encodes-append}
 
 -- ---- words
@@ -43,7 +42,7 @@ shown_at false x w e h = refl
 shown_at true x w e h =
     let colon : x ≡ 58 = eqb-true x 58 e in
     let first : chars (x ∷ w) ≡ 58 ∷ chars w = chars_past_char (x ∷ w) w 58 h.utf8 (ap (λ y. y ∷ w) colon ∙ ap (λ l. l ++ w) (sym colon_alone)) in
-    absurd (colon_no_letter (both_first (is_word_char 58) (list_all is_word_char (chars w)) (ap (list_all is_word_char) (sym first) ∙ h.letters)))
+    absurd (colon_no_letter ((and_parts (is_word_char 58) (list_all is_word_char (chars w)) (ap (list_all is_word_char) (sym first) ∙ h.letters)).0))
 
 pub word_shown : (w : List ℕ) → IsWord w → shown_word w ≡ w
 word_shown [] h = refl

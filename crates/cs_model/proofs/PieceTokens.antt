@@ -4,8 +4,8 @@
 --   tokens_told         the tokens of the text of pieces
 --   steps_toks          their steps
 use Rattle.std.proofs.Common.{◌≡◌, ℕ, ◌≤◌, List, [], ◌∷◌, ◌++◌, map, length, refl, ap, ◌∙◌, sym, subst, append_assoc, Bool, true, false, arith}
-use Rattle.std.specs.Prelude.{◌&&◌, ◌||◌, ◌==◌, encode_utf8_all}
-use Rattle.std.proofs.lemmas.Bool.{eqb-true}
+use Rattle.std.specs.Prelude.{◌||◌, ◌==◌, encode_utf8_all}
+use Rattle.std.proofs.lemmas.Bool.{and_parts, eqb-true}
 use Rattle.std.specs.Char.{encode_utf8}
 use Rattle.std.specs.List.{list_all}
 use Rattle.std.specs.Str.{chars}
@@ -25,14 +25,6 @@ pub after-append : (ts : List Token) (xs ys : List ℕ) → tokens_after ts (xs 
 after-append ts [] ys = refl
 after-append ts (x ∷ xs) ys = after-append (with_next x ts) xs ys
 
-pub both_first : (a b : Bool) → (a && b) ≡ true → a ≡ true
-both_first true b h = refl
-both_first false b h = h
-
-pub both_second : (a b : Bool) → (a && b) ≡ true → b ≡ true
-both_second true b h = h
-both_second false b h = cc
-
 -- ---- words
 -- a word begins behind these tokens
 abbrev pub opens : List Token → Bool
@@ -47,14 +39,14 @@ opens (Colon ∷ ts) = true
 opens (Open ∷ ts) = true
 opens (Close ∷ ts) = false
 
-letter : (x : ℕ) → is_word_char x ≡ true → class_of x ≡ c.Letter
+pub letter : (x : ℕ) → is_word_char x ≡ true → class_of x ≡ c.Letter
 letter x h = rw h refl
 
 grows : (w u : List ℕ) (ts : List Token) → list_all is_word_char w ≡ true → tokens_after (Word u ∷ ts) w ≡ Word (u ++ encode_utf8_all w) ∷ ts
 grows [] u ts h = ap (λ v. Word v ∷ ts) (sym (append-nil u))
 grows (x ∷ w) u ts h =
-    ap (λ k. tokens_after (grown k (encode_utf8 x) (Word u ∷ ts)) w) (letter x (both_first (is_word_char x) (list_all is_word_char w) h))
-    ∙ grows w (u ++ encode_utf8 x) ts (both_second (is_word_char x) (list_all is_word_char w) h)
+    ap (λ k. tokens_after (grown k (encode_utf8 x) (Word u ∷ ts)) w) (letter x ((and_parts (is_word_char x) (list_all is_word_char w) h).0))
+    ∙ grows w (u ++ encode_utf8 x) ts ((and_parts (is_word_char x) (list_all is_word_char w) h).1)
     ∙ ap (λ v. Word v ∷ ts) (append_assoc u (encode_utf8 x) (encode_utf8_all w))
 
 pub first_letter : (x : List ℕ) (ts : List Token) → opens ts ≡ true → grown c.Letter x ts ≡ Word x ∷ ts
@@ -72,9 +64,9 @@ first_letter x (Close ∷ ts) h = cc
 letters_put : (cs : List ℕ) (ts : List Token) → list_all is_word_char cs ≡ true → 1 ≤ length cs → opens ts ≡ true → tokens_after ts cs ≡ Word (encode_utf8_all cs) ∷ ts
 letters_put [] ts h some o = absurd (omega (arith, some))
 letters_put (x ∷ w) ts h some o =
-    ap (λ k. tokens_after (grown k (encode_utf8 x) ts) w) (letter x (both_first (is_word_char x) (list_all is_word_char w) h))
+    ap (λ k. tokens_after (grown k (encode_utf8 x) ts) w) (letter x ((and_parts (is_word_char x) (list_all is_word_char w) h).0))
     ∙ ap (λ us. tokens_after us w) (first_letter (encode_utf8 x) ts o)
-    ∙ grows w (encode_utf8 x) ts (both_second (is_word_char x) (list_all is_word_char w) h)
+    ∙ grows w (encode_utf8 x) ts ((and_parts (is_word_char x) (list_all is_word_char w) h).1)
 
 -- bytes that aren't none have a character
 pub chars_some : (cs : List ℕ) → 1 ≤ length (encode_utf8_all cs) → 1 ≤ length cs
@@ -101,8 +93,8 @@ value_char x v ts h = value_cases (is_word_char x) x v ts refl h
 value_grows : (w v : List ℕ) (ts : List Token) → list_all is_value_char w ≡ true → tokens_after (Value v ∷ ts) w ≡ Value (v ++ encode_utf8_all w) ∷ ts
 value_grows [] v ts h = ap (λ u. Value u ∷ ts) (sym (append-nil v))
 value_grows (x ∷ w) v ts h =
-    ap (λ us. tokens_after us w) (value_char x v ts (both_first (is_value_char x) (list_all is_value_char w) h))
-    ∙ value_grows w (v ++ encode_utf8 x) ts (both_second (is_value_char x) (list_all is_value_char w) h)
+    ap (λ us. tokens_after us w) (value_char x v ts ((and_parts (is_value_char x) (list_all is_value_char w) h).0))
+    ∙ value_grows w (v ++ encode_utf8 x) ts ((and_parts (is_value_char x) (list_all is_value_char w) h).1)
     ∙ ap (λ u. Value u ∷ ts) (append_assoc v (encode_utf8 x) (encode_utf8_all w))
 
 pub value_put : (v : List ℕ) (ts : List Token) → IsValue v → tokens_after (Value [] ∷ ts) (chars v) ≡ Value v ∷ ts

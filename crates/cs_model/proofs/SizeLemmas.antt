@@ -1,27 +1,23 @@
 -- The tokens of a text have its bytes.
 --
 --   size_next       one character more adds its bytes
---   size_prefix     the size of the tokens of a prefix is the place behind it
+--   place_more      the place behind one character more
 use Rattle.std.proofs.Common.{◌≡◌, ℕ, ◌+◌, ◌<◌, Bool, true, false, List, [], ◌∷◌, ◌++◌, length, take, get_or, refl, ap, ◌∙◌, sym, append_assoc, length-append, arith}
-use Rattle.std.specs.Prelude.{encode_utf8_all, ◌||◌, ◌==◌, if◌then◌else◌}
+use Rattle.std.specs.Prelude.{encode_utf8_all, ◌||◌, ◌==◌}
 use Rattle.std.specs.Char.{encode_utf8}
 use Rattle.std.proofs.lemmas.Bool.{eqb-true}
 use Rattle.std.proofs.lemmas.List.{take_more}
 use Rattle.cs_model.specs.declared.kinds.Class.{Class}
 use Rattle.cs_model.specs.declared.kinds.Class.TheVariants as c
-use Rattle.cs_model.specs.Words.{is_word_char}
 use Rattle.cs_model.specs.Tokens.{Token, Word, Value, Run, Gap, class_of, begun, grown, with_next, size}
 use Rattle.cs_model.specs.Refusals.{place_of}
+use Rattle.cs_model.proofs.ClassLemmas.{class_cases}
 
 -- each sign, and each character of a run, is one byte
-abbrev pub Fits : Class → List ℕ → Type 0
-Fits c.Letter x = Unit {0}
-Fits c.Other x = Unit {0}
-Fits k x = length x ≡ 1
-
-fits_if : (b : Bool) (k l : Class) (x : List ℕ) → (b ≡ true → Fits k x) → Fits l x → Fits (if b then k else l) x
-fits_if true k l x h j = h refl
-fits_if false k l x h j = j
+abbrev pub Fits : List ℕ → Class → Type 0
+Fits x c.Letter = Unit {0}
+Fits x c.Other = Unit {0}
+Fits x k = length x ≡ 1
 
 ascii : (x y : ℕ) → length (encode_utf8 y) ≡ 1 → (x == y) ≡ true → length (encode_utf8 x) ≡ 1
 ascii x y one e = ap (λ z. length (encode_utf8 z)) (eqb-true x y e) ∙ one
@@ -30,20 +26,14 @@ ascii_or : (a b : Bool) (x : List ℕ) → (a ≡ true → length x ≡ 1) → (
 ascii_or true b x h k e = h refl
 ascii_or false b x h k e = k e
 
-pub class_fits : (x : ℕ) → Fits (class_of x) (encode_utf8 x)
+pub class_fits : (x : ℕ) → Fits (encode_utf8 x) (class_of x)
 unfolding encode_utf8
 class_fits x =
-    fits_if (is_word_char x) _ _ (encode_utf8 x) (λ _. tt)
-    (fits_if (x == 46) _ _ (encode_utf8 x) (ascii x 46 refl)
-    (fits_if ((x == 45) || ((x == 95) || (x == 39))) _ _ (encode_utf8 x)
+    class_cases (Fits (encode_utf8 x)) x (λ _. tt) (ascii x 46 refl)
     (ascii_or (x == 45) _ (encode_utf8 x) (ascii x 45 refl) (ascii_or (x == 95) _ (encode_utf8 x) (ascii x 95 refl) (ascii x 39 refl)))
-    (fits_if (x == 36) _ _ (encode_utf8 x) (ascii x 36 refl)
-    (fits_if (x == 124) _ _ (encode_utf8 x) (ascii x 124 refl)
-    (fits_if (x == 58) _ _ (encode_utf8 x) (ascii x 58 refl)
-    (fits_if (x == 91) _ _ (encode_utf8 x) (ascii x 91 refl)
-    (fits_if (x == 93) _ _ (encode_utf8 x) (ascii x 93 refl) tt)))))))
+    (ascii x 36 refl) (ascii x 124 refl) (ascii x 58 refl) (ascii x 91 refl) (ascii x 93 refl) tt
 
-size_begun : (k : Class) (x : List ℕ) (ts : List Token) → Fits k x → size (begun k x ts) ≡ size ts + length x
+size_begun : (k : Class) (x : List ℕ) (ts : List Token) → Fits x k → size (begun k x ts) ≡ size ts + length x
 size_begun c.Letter x ts h = refl
 size_begun c.Dot x ts h = refl
 size_begun c.Joiner x ts h = refl
@@ -54,7 +44,7 @@ size_begun c.Open x ts h = omega (arith, h)
 size_begun c.Close x ts h = omega (arith, h)
 size_begun c.Other x ts h = refl
 
-size_grown : (k : Class) (x : List ℕ) (ts : List Token) → Fits k x → size (grown k x ts) ≡ size ts + length x
+size_grown : (k : Class) (x : List ℕ) (ts : List Token) → Fits x k → size (grown k x ts) ≡ size ts + length x
 size_grown c.Letter x (Word w ∷ ts) h = omega (arith, length-append w x)
 size_grown c.Letter x (Value v ∷ ts) h = omega (arith, length-append v x)
 size_grown c.Dot x (Run r ∷ ts) h = omega (arith, length-append r x)

@@ -1,4 +1,5 @@
 pub mod Answers
+pub mod AnswersLaws
 pub mod Ascii
 pub mod BlockRules
 pub mod Blocks
@@ -10,6 +11,7 @@ pub mod Faults
 pub mod First
 pub mod FirstRefusal
 pub mod Grammar
+pub mod GrammarLaws
 pub mod KeyText
 pub mod Keys
 pub mod Outputs

@@ -26,7 +26,7 @@
 --
 -- Pieces stand between the signs &, and an empty piece is none. A name ends before the first = of its piece, and without one
 -- the value is empty. Other names than h, c, o, f and q ask nothing, and of two pieces with one name the first counts.
-use Rattle.std.specs.Prelude.{◌≡◌, ℕ, ◌+◌, ◌-◌, ◌*◌, ◌≤◌, Bool, true, false, ◌&&◌, ◌==◌, nat_le, nat_lt, List, [], ◌∷◌, filter, length, fold, Option, Some, None, codes}
+use Rattle.std.specs.Prelude.{◌≡◌, ℕ, ◌+◌, ◌-◌, ◌*◌, ◌≤◌, Bool, true, ◌&&◌, ◌==◌, nat_le, nat_lt, List, [], ◌∷◌, filter, length, fold, Option, Some, None, codes}
 use Rattle.std.specs.Option.{option_map, unwrap_or}
 use Rattle.std.specs.List.{find, list_all, slice_split}
 use Rattle.std.specs.List.Sorted.{IsStrictlySortedBy}

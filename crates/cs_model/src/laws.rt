@@ -1,8 +1,10 @@
 //! Laws about the definitions. Each is the contract of a function that does nothing.
 ghost use Rattle.std.specs.Prelude.{◌≡◌, ◌≤◌, ℕ, List, length, take, IsAscii, encode_utf8_all};
+ghost use Rattle.cs_model.specs.AnswersLaws.{AddFacetParts, AreTablesOfQueries};
 ghost use Rattle.cs_model.specs.Ascii.{ascii_norm, ascii_words};
 ghost use Rattle.cs_model.specs.CanonicalLaws.{AreReadAgain, AreDifferent, AreShort, AreNoLonger, KeepCounts};
 ghost use Rattle.cs_model.specs.FirstRefusal.{AcceptedHaveNone, RefusedHaveOne};
+ghost use Rattle.cs_model.specs.GrammarLaws.{HaveAllBytes, AreMaximal, PartsHaveChains, SpacesSeparate};
 ghost use Rattle.cs_model.specs.KeyText.{norm};
 ghost use Rattle.cs_model.specs.Refusals.{PrefixesAreAccepted, QueriesHaveFewParts};
 ghost use Rattle.cs_model.specs.Words.{fitting, words};
@@ -13,6 +15,12 @@ pub fn ascii_text()
     ensures words { (s : List ℕ) → IsAscii s → words s ≡ ascii_words s }
 {}
 
+/// The tokens of a text have its bytes, and each is as long as it can be.
+pub fn tokens_are_maximal()
+    ensures bytes { HaveAllBytes }
+    ensures maximal { AreMaximal }
+{}
+
 /// Each prefix, by whole characters, of an accepted key text is accepted.
 pub fn prefixes_are_accepted()
     ensures { PrefixesAreAccepted }
@@ -21,6 +29,22 @@ pub fn prefixes_are_accepted()
 /// A query of the grammar has at most `MAX_PARTS` parts at its top.
 pub fn queries_have_few_parts()
     ensures { QueriesHaveFewParts }
+{}
+
+/// Each part of a query of the grammar has an alternative, at its top.
+pub fn parts_have_chains()
+    ensures { PartsHaveChains }
+{}
+
+/// Where no bracket is open, a space ends what stands before it: what follows means what it means alone.
+pub fn spaces_separate()
+    ensures { SpacesSeparate }
+{}
+
+/// A facet's table is the table of a query: that with one more positive part behind it, which asks the words of the facet.
+pub fn facets_are_tables()
+    ensures parts { AddFacetParts }
+    ensures tables { AreTablesOfQueries }
 {}
 
 /// Where text is cut, what is kept is the longest prefix of whole characters that has at most so many bytes.

@@ -19,7 +19,7 @@ use Rattle.cs_base.specs.declared.query.Chain.{Chain, out-Chain}
 use Rattle.cs_base.specs.declared.query.Linked.{Linked, out-Linked}
 use Rattle.cs_base.specs.declared.query.Atom.{out-Atom}
 use Rattle.cs_model.specs.Keys.{last_of, prefix_in, last_atom, chain_prefix, part_prefix, last_prefix, narrower, shorter, is_left, shorter_words}
-use Rattle.cs_model.proofs.PieceTokens.{both_second, chars_some}
+use Rattle.cs_model.proofs.PieceTokens.{chars_some}
 use Rattle.cs_model.proofs.SizeLemmas.{encodes-append}
 use Rattle.cs_model.proofs.KeyLemmas.{is_colon, left_more, left_stop, left_empty}
 use Rattle.cs_text.proofs.SplitLemmas.{scalars_back}

@@ -1,22 +1,22 @@
 -- The grammar of queries on worked texts: the definitions computed. Steps have the newest first.
-use Rattle.std.proofs.Common.{◌≡◌, [], ◌∷◌, refl, true, false, Some, None}
-use Rattle.std.specs.Prelude.{codes}
+use Rattle.std.proofs.Common.{◌≡◌, List, [], ◌∷◌, refl, true, false, codes}
 use Rattle.std.specs.Char.{encode_utf8}
 use Rattle.std.specs.Str.{chars}
+use Rattle.caseless.proofs.Computing.{caseless}
 use Rattle.cs_base.specs.declared.query.Link.TheVariants.{Phrase, Near}
-use Rattle.cs_base.specs.declared.query.Query.{roll-Query}
-use Rattle.cs_base.specs.declared.query.Part.{roll-Part}
-use Rattle.cs_base.specs.declared.query.Chain.{roll-Chain}
+use Rattle.cs_base.specs.declared.query.Query.{Query, roll-Query}
+use Rattle.cs_base.specs.declared.query.Part.{Part, roll-Part, out-roll-Part}
+use Rattle.cs_base.specs.declared.query.Chain.{roll-Chain, out-roll-Chain}
+use Rattle.cs_base.specs.declared.query.Linked.{roll-Linked}
 use Rattle.cs_base.specs.declared.query.Atom.{Prefix, Exact}
-use Rattle.cs_base.specs.declared.query.Which.TheVariants as limits
 use Rattle.cs_model.specs.declared.kinds.Tie.TheVariants.{Begins, Alternative, Linked as LinkedBy}
+use Rattle.cs_model.specs.KeyText.{norm}
 use Rattle.cs_model.specs.Words.{is_word_char}
-use Rattle.cs_model.specs.Keys.{shorter_words}
 use Rattle.cs_model.specs.Tokens.{tokens}
-use Rattle.cs_model.specs.Grammar.{Leaf, Enter, Leave, steps, join, query_of}
-use Rattle.cs_model.specs.Refusals.{Bad, Limit, verdict}
+use Rattle.cs_model.specs.Grammar.{Leaf, Enter, Leave, steps, chain_of, part_of, join, query_of}
+use lib.Utf8
 
--- ---- meanings
+-- ---- the atoms of a text
 -- two words are two parts
 two_parts : steps (tokens (codes "typ se")) ≡ Leaf (Begins false) (Prefix (codes "se")) ∷ Leaf (Begins false) (Prefix (codes "typ")) ∷ []
 unfolding is_word_char encode_utf8
@@ -97,79 +97,34 @@ open_end : query_of (codes "a[b|") ≡ query_of (codes "a[b]")
 unfolding is_word_char encode_utf8
 open_end = refl
 
--- ---- verdicts
--- a colon behind a word that is no name
-bad_name : verdict (tokens (codes "10:")) ≡ Some Bad
+-- ---- queries
+-- the query of these parts
+abbrev of_parts : List Part → Query
+of_parts ps = roll-Query (record { parts = ps })
+
+-- of no character it is the empty query
+query_of-empty : query_of [] ≡ of_parts []
+query_of-empty = refl
+
+-- one part of two alternatives: a phrase, and an exact word
+query_of-alternatives : query_of (codes "a.b|c$") ≡ of_parts (roll-Part (record {
+  excluded = false;
+  chains = roll-Chain (record { first = Prefix (codes "a"); rest = roll-Linked (record { link = Phrase; atom = Prefix (codes "b") }) ∷ [] }) ∷ chain_of (Exact (codes "c")) ∷ [];
+}) ∷ [])
 unfolding is_word_char encode_utf8
-bad_name = refl
+query_of-alternatives = simp (out-roll-Part, out-roll-Chain) refl
 
--- a bar at the front
-bad_bar : verdict (tokens (codes "|")) ≡ Some Bad
+-- a positive part, and an excluded one
+query_of-excluded : query_of (codes "a -b") ≡ of_parts (part_of false (Prefix (codes "a")) ∷ part_of true (Prefix (codes "b")) ∷ [])
 unfolding is_word_char encode_utf8
-bad_bar = refl
+query_of-excluded = refl
 
--- a word behind a dollar
-bad_word : verdict (tokens (codes "a$b")) ≡ Some Bad
+-- a capital letter is lower-cased, and a dot ends a facet's value
+query_of-facet : query_of (chars (norm (codes "author:Bast.x"))) ≡ of_parts (part_of false (Prefix (codes ":author:bast")) ∷ part_of false (Prefix (codes "x")) ∷ [])
+unfolding norm chars caseless is_word_char lib.Utf8.encode
+query_of-facet = refl
+
+-- slashes end an empty value
+query_of-address : query_of (codes "http://x") ≡ of_parts (part_of false (Prefix (codes ":http:")) ∷ part_of false (Prefix (codes "x")) ∷ [])
 unfolding is_word_char encode_utf8
-bad_word = refl
-
--- a dollar behind a dollar
-bad_dollar : verdict (tokens (codes "a$$")) ≡ Some Bad
-unfolding is_word_char encode_utf8
-bad_dollar = refl
-
--- a gap behind a bar
-bad_gap : verdict (tokens (codes "a| ")) ≡ Some Bad
-unfolding is_word_char encode_utf8
-bad_gap = refl
-
--- a dollar behind an empty value
-bad_value : verdict (tokens (codes "author:$")) ≡ Some Bad
-unfolding is_word_char encode_utf8
-bad_value = refl
-
--- a bar at the end may go on
-open_bar : verdict (tokens (codes "graph|")) ≡ None
-unfolding is_word_char encode_utf8
-open_bar = refl
-
--- a bar behind an empty value
-value_bar : verdict (tokens (codes "k:|")) ≡ None
-unfolding is_word_char encode_utf8
-value_bar = refl
-
--- three brackets
-not_deep : verdict (tokens (codes "a[b[c[d")) ≡ None
-unfolding is_word_char encode_utf8
-not_deep = refl
-
--- a fourth bracket
-deep : verdict (tokens (codes "a[b[c[d[")) ≡ Some (Limit limits.Depth)
-unfolding is_word_char encode_utf8
-deep = refl
-
--- sixteen parts
-not_many : verdict (tokens (codes "a a a a a a a a a a a a a a a a -")) ≡ None
-unfolding is_word_char encode_utf8
-not_many = refl
-
--- a seventeenth, counted at its first atom
-many : verdict (tokens (codes "a a a a a a a a a a a a a a a a -a")) ≡ Some (Limit limits.Parts)
-unfolding is_word_char encode_utf8
-many = refl
-
--- ---- shorter words
--- a word keeps a character
-shorter_word : shorter_words (codes "typ") ≡ codes "ty" ∷ codes "t" ∷ []
-unfolding chars encode_utf8
-shorter_word = refl
-
--- a facet's word keeps its name, and its value may be empty
-shorter_value : shorter_words (codes ":k:ab") ≡ codes ":k:a" ∷ codes ":k:" ∷ []
-unfolding chars encode_utf8
-shorter_value = refl
-
--- and then there is no shorter one
-shortest_value : shorter_words (codes ":k:") ≡ []
-unfolding chars encode_utf8
-shortest_value = refl
+query_of-address = refl
