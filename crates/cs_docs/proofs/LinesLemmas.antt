@@ -4,6 +4,7 @@ use Rattle.std.specs.List.{slice_split, position_or_len}
 use Rattle.memchr.specs.Find.{IsFirstByte, is_byte}
 use Rattle.std.specs.Prelude.{Option, Some, None, MatchOption}
 use Rattle.std.specs.Str.Lines.{lines, lines_of_parts, strip_carriage_return}
+use Rattle.std.proofs.lemmas.Bool.{false_from_ne_true}
 use Rattle.std.proofs.lemmas.Bool.Decides.{nat_tests}
 use Rattle.std.proofs.lemmas.List.{map-append}
 use Rattle.std.proofs.lemmas.List.Elements.{All-from_get_or}
@@ -32,13 +33,9 @@ line_at bs i l before here =
     ap lines_of_parts first
     ∙ more_parts (take i bs) (slice_split (λ b. eqb b 10) (drop (i + 1) bs)) (omega (arith, length-slice_split (λ b. eqb b 10) (drop (i + 1) bs)))
 
-false_from : (b : Bool) → (b ≡ true → ⊥) → b ≡ false
-false_from true h = absurd (h refl)
-false_from false h = refl
-
 -- the first LF as `memchr` finds it
 pub line_ends_at : (bs : List ℕ) (i : ℕ) → IsFirstByte (is_byte 10) bs (Some i) → lines bs ≡ strip_carriage_return (take i bs) ∷ lines (drop (i + 1) bs)
-line_ends_at bs i h = line_at bs i h.0.high (λ k l. false_from _ (h.0.before k (omega arith) l)) h.1
+line_ends_at bs i h = line_at bs i h.0.high (λ k l. false_from_ne_true _ (h.0.before k (omega arith) l)) h.1
 
 some_line : (bs : List ℕ) → 0 < length bs → lines_of_parts (bs ∷ []) ≡ bs ∷ []
 some_line [] h = absurd (omega arith)
@@ -47,7 +44,7 @@ some_line (b ∷ bs) h = let some : eqb (length (b ∷ bs)) 0 ≡ false = grind 
 -- without LF the rest is the last line
 pub last_line : (bs : List ℕ) → 0 < length bs → IsFirstByte (is_byte 10) bs None → lines bs ≡ bs ∷ []
 last_line bs some h =
-    ap lines_of_parts (slice_split_none (λ b. eqb b 10) bs (All-from_get_or (λ b. eqb b 10 ≡ false) bs 0 (λ k l. false_from _ (h k (omega arith) l))))
+    ap lines_of_parts (slice_split_none (λ b. eqb b 10) bs (All-from_get_or (λ b. eqb b 10 ≡ false) bs 0 (λ k l. false_from_ne_true _ (h k (omega arith) l))))
     ∙ some_line bs some
 
 -- ---- documents
