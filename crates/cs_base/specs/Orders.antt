@@ -1,6 +1,7 @@
 -- The orders in which rows and hits are listed, and the lists that keep them.
 --
 --   by_row      rows: document, position, word, each ascending; the score last, which these three determine in a collection
+--   by_spot     rows: document, position, word, each ascending, which name a row of a collection
 --   by_place    posts: document, position, number of the word, each ascending
 --   by_rank     hits: score descending, then document ascending
 --   by_doc      scored documents: document ascending
@@ -21,6 +22,10 @@ use Rattle.cs_base.specs.Members.{members_in}
 -- by document, position, word and score
 abbrev pub by_row : Row → Row → Ordering
 by_row = then_cmp (on (λ r. r.doc) nat_cmp) (then_cmp (on (λ r. r.pos) nat_cmp) (then_cmp (on (λ r. r.word) (slice_cmp nat_cmp)) (on (λ r. r.score) nat_cmp)))
+
+-- rows by document, position and word by bytes, which name a row of a collection; the score isn't compared
+abbrev pub by_spot : Row → Row → Ordering
+by_spot = then_cmp (on (λ r. r.doc) nat_cmp) (then_cmp (on (λ r. r.pos) nat_cmp) (on (λ r. r.word) (slice_cmp nat_cmp)))
 
 -- by document, position and word, which name a post
 abbrev pub by_place : Post → Post → Ordering

@@ -2,7 +2,7 @@
 use Rattle.std.proofs.Common.{◌≡◌, ℕ, ◌+◌, ◌<◌, ◌≤◌, Bool, true, false, ◌&&◌, ◌||◌, List, [], ◌∷◌, ◌++◌, length, map, drop, get_or, refl, sym, ap, ◌∙◌, arith, append-nil, add-one, drop-cons, subst, true≢false}
 use Rattle.std.specs.List.{AllByRecursion, list_any, flat_map, enumerate_from}
 use Rattle.std.specs.List.Sorted.{IsStrictlySortedBy}
-use Rattle.std.specs.Ordering.{nat_cmp, ordering_then, then_cmp, on, eq_by_cmp, is_eq}
+use Rattle.std.specs.Ordering.{nat_cmp, ordering_then, eq_by_cmp, is_eq}
 use Rattle.std.specs.Cmp.{nat_cmp_is}
 use Rattle.std.specs.Cmp.Lexicographic.{slice_cmp}
 use Rattle.std.specs.declared.cmp.Ordering.{Ordering}
@@ -10,7 +10,7 @@ use Rattle.std.specs.declared.cmp.Ordering.TheVariants.{Less, Equal, Greater}
 use Rattle.std.proofs.lemmas.Cmp.{nat_list_cmp_total}
 use Rattle.std.proofs.lemmas.List.Folds.{list_any-append}
 use Rattle.std.proofs.lemmas.Map.Lookups.{exact_bytes}
-use Rattle.cs_base.specs.Orders.{by_row}
+use Rattle.cs_base.specs.Orders.{by_row, by_spot}
 use Rattle.cs_base.specs.declared.doc.Doc.{Doc}
 use Rattle.cs_base.specs.declared.doc.Row.{Row}
 use Rattle.cs_base.specs.declared.scores.TheConstants.{TITLE_SCORE, FACET_SCORE, TEXT_SCORE, BEHIND_TITLE}
@@ -43,14 +43,10 @@ sorted-append R (x ∷ xs) ys h k b = (all-append (λ y. R x y ≡ Less) xs ys h
 
 -- ---- rows in their order
 
--- by document, position and word, which name a row
-abbrev pub by_spot : Row → Row → Ordering
-by_spot = then_cmp (on (λ r. r.doc) nat_cmp) (then_cmp (on (λ r. r.pos) nat_cmp) (on (λ r. r.word) (slice_cmp nat_cmp)))
-
 equal_cmp : (x y : ℕ) → x ≡ y → nat_cmp x y ≡ Equal
 equal_cmp x y h = sym (nat_cmp_is x y Equal h)
 
-less_cmp : (x y : ℕ) → x < y → nat_cmp x y ≡ Less
+pub less_cmp : (x y : ℕ) → x < y → nat_cmp x y ≡ Less
 less_cmp x y h = sym (nat_cmp_is x y Less h)
 
 earlier_doc : (r s : Row) → r.doc < s.doc → by_spot r s ≡ Less
@@ -147,7 +143,7 @@ from_docs d (doc ∷ docs) =
     (all_then (λ r. r.doc ≡ d) (λ r. d ≤ r.doc) (λ r p. omega (arith, p)) (listed_doc (d, doc)) (of_doc d doc))
     (all_then (λ r. d + 1 ≤ r.doc) (λ r. d ≤ r.doc) (λ r p. omega (arith, p)) (listed_rows (d + 1) docs) (from_docs (d + 1) docs))
 
-pub sorted-spots : (d : ℕ) (docs : List Doc) → IsStrictlySortedBy by_spot (listed_rows d docs)
+sorted-spots : (d : ℕ) (docs : List Doc) → IsStrictlySortedBy by_spot (listed_rows d docs)
 unfolding IsStrictlySortedBy
 sorted-spots d [] = tt
 sorted-spots d (doc ∷ docs) =
@@ -262,7 +258,7 @@ no_facets : listed_facets [] ≡ []
 no_facets = sym (members_are (slice_cmp nat_cmp) nat_list_cmp_total exact_bytes [] [] (nothing_sorted (slice_cmp nat_cmp)) (λ q. refl))
 
 -- a document that has a title alone
-pub listed_title : (d : ℕ) (doc : Doc) → doc.facets ≡ [] → doc.text ≡ [] → listed_doc (d, doc) ≡ map (placed d TITLE_SCORE) (enumerate_from 1 (words doc.title))
+pub listed_title : (d : ℕ) (doc : Doc) → doc.facets ≡ [] → doc.text ≡ [] → listed_doc (d, doc) ≡ title_rows d doc
 listed_title d doc f t =
     ap (λ ws. map (λ w. placed d FACET_SCORE (0, w)) ws ++ title_rows d doc ++ text_rows d doc) (ap listed_facets f ∙ no_facets)
     ∙ ap (λ ws. title_rows d doc ++ map (placed d TEXT_SCORE) (enumerate_from (length (words doc.title) + BEHIND_TITLE) ws)) (ap words t ∙ no_words)

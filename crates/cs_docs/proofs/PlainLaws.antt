@@ -1,19 +1,23 @@
--- No line of a plain collection is refused, and each that has bytes is a title.
-use Rattle.std.proofs.Common.{◌≡◌, ℕ, ◌+◌, ◌<◌, ◌≤◌, Bool, true, false, cond, nat_le, nat_lt, List, [], ◌∷◌, length, map, filter, refl, sym, ap, ◌∙◌, arith}
+-- No line of a plain collection is refused, each that has bytes is a title, and the rows are those of titles.
+use Rattle.std.proofs.Common.{◌≡◌, ℕ, ◌+◌, ◌<◌, ◌≤◌, Bool, true, false, cond, nat_le, nat_lt, List, [], ◌∷◌, ◌++◌, length, map, filter, refl, sym, ap, ◌∙◌, arith}
 use Rattle.std.specs.Prelude.{None}
-use Rattle.std.specs.List.{enumerate_from}
+use Rattle.std.specs.List.{AllByRecursion, flat_map, enumerate_from}
 use Rattle.std.specs.Str.{is_utf8}
 use Rattle.std.specs.Str.Lines.{lines}
 use Rattle.std.proofs.lemmas.Bool.{le-leb}
 use Rattle.std.proofs.lemmas.Bool.Decides.{nat_tests}
 use Rattle.std.proofs.lemmas.Str.{IsUtf8-from_ascii, is_utf8-from_IsUtf8}
+use Rattle.cs_base.specs.declared.doc.Doc.{Doc}
 use Rattle.cs_base.specs.declared.limits.TheConstants.{MAX_COLLECTION_BYTES, MAX_LINE_BYTES, MAX_DOC_WORDS, MAX_DOCS}
 use Rattle.cs_model.specs.Collection.{is_plain, is_plain_byte, documents, document, doc_lines, doc_line, docs_refusal, line_refusal, piece_refusal, facet_pieces, columns, word_count, DocLine}
+use Rattle.cs_model.specs.Corpus.{rows_of, title_rows}
 use Rattle.cs_model.specs.Words.{is_filled, words}
 use Rattle.cs_model.specs.First.{first_reason}
+use Rattle.cs_docs.specs.Listing.{listed_rows}
 use Rattle.cs_docs.specs.Reading.{doc_lines_from, documents_from, title_only}
 use Rattle.cs_docs.specs.Refusals.{refusal_from}
-use Rattle.cs_docs.proofs.PlainLemmas.{IsPart, AreParts, IsTitleOnly, IsTitleOnly-line, IsAscii-plain, title_of-line, few_words, no_words, plain_lines, plain_length, plain_parts, unmarked, length_of_lines}
+use Rattle.cs_docs.proofs.ListingLemmas.{rows_listed, listed_title}
+use Rattle.cs_docs.proofs.PlainLemmas.{plain_documents, titles_of_plain, IsPart, AreParts, IsTitleOnly, IsTitleOnly-line, IsAscii-plain, title_of-line, few_words, no_words, plain_lines, plain_length, plain_parts, unmarked, length_of_lines}
 
 accepted_line : (l : DocLine) → IsPart is_plain_byte 65536 l.bytes → l.doc < MAX_DOCS → line_refusal l ≡ None
 accepted_line l h below =
@@ -58,5 +62,12 @@ plain_accepted c h =
     rw short (ap (λ b. refusal_from 0 1 (lines b)) (unmarked c (plain_parts c h)) ∙ accepted_lines 0 1 (lines c) (plain_lines c h) (omega (arith, length_of_lines c, plain_length c h)))
 
 pub plain_titles : (c : List ℕ) → is_plain c ≡ true → documents c ≡ map title_only (doc_lines c)
-plain_titles c h =
-    ap (λ b. documents_from 0 1 (lines b)) (unmarked c (plain_parts c h)) ∙ titles 0 1 (lines c) (plain_lines c h) ∙ ap (λ b. map title_only (doc_lines_from 0 1 (lines b))) (sym (unmarked c (plain_parts c h)))
+plain_titles c h = plain_documents c h ∙ titles 0 1 (lines c) (plain_lines c h) ∙ ap (λ b. map title_only (doc_lines_from 0 1 (lines b))) (sym (unmarked c (plain_parts c h)))
+
+title_rows_of : (d : ℕ) (docs : List Doc) → AllByRecursion IsTitleOnly docs → listed_rows d docs ≡ flat_map (λ p. title_rows p.0 p.1) (enumerate_from d docs)
+title_rows_of d [] h = refl
+title_rows_of d (doc ∷ docs) h =
+    ap (λ rows. rows ++ listed_rows (d + 1) docs) (listed_title d doc h.0.no_facets h.0.no_text) ∙ ap (λ rows. title_rows d doc ++ rows) (title_rows_of (d + 1) docs h.1)
+
+pub plain_rows : (c : List ℕ) → is_plain c ≡ true → rows_of (documents c) ≡ flat_map (λ p. title_rows p.0 p.1) (enumerate_from 0 (documents c))
+plain_rows c h = sym (rows_listed (documents c)) ∙ title_rows_of 0 (documents c) (titles_of_plain c h)

@@ -2,7 +2,7 @@
 use Rattle.std.proofs.Common.{◌≡◌, ℕ, zero, suc, ◌+◌, ◌<◌, ◌≤◌, ◌-◌, ◌*◌, Bool, true, false, cond, List, [], ◌∷◌, length, take, drop, map, filter, nat_le, refl, sym, ap, subst, ◌∙◌, arith, length-take}
 use Rattle.std.specs.Bool.{◌==◌}
 use Rattle.std.specs.Char.{to_ascii_lowercase}
-use Rattle.std.specs.List.{slice_split, onto_first, list_all, AllByRecursion, All, enumerate_from, position_or_len, before_first, after_first}
+use Rattle.std.specs.List.{slice_split, onto_first, list_all, AllByRecursion, enumerate_from, position_or_len, before_first, after_first}
 use Rattle.std.specs.Str.{IsAscii}
 use Rattle.std.specs.Str.Lines.{lines, lines_of_parts}
 use Rattle.std.proofs.lemmas.Bool.{and_parts, and_from}
@@ -208,8 +208,8 @@ few_words s h =
 
 -- ---- the documents of a plain collection
 
-pub titles_of_plain : (c : List ℕ) (docs : List Doc) → is_plain c ≡ true → docs ≡ documents c → All IsTitleOnly docs
-titles_of_plain c docs h e = subst (All IsTitleOnly) (sym (e ∙ plain_documents c h)) (All-from_recursion IsTitleOnly (documents_from 0 1 (lines c)) (titles_only 0 1 (lines c) (plain_lines c h)))
+pub titles_of_plain : (c : List ℕ) → is_plain c ≡ true → AllByRecursion IsTitleOnly (documents c)
+titles_of_plain c h = subst (AllByRecursion IsTitleOnly) (sym (plain_documents c h)) (titles_only 0 1 (lines c) (plain_lines c h))
 
 pub no_words : words [] ≡ []
 no_words = words-ascii [] IsAscii-nil

@@ -50,12 +50,11 @@ fn push_doc(alloc: Global, rows: &mut Seq<Row>, number: u32, doc: &Doc) -> Resul
 {
     push_facets(alloc, rows, number, doc.facets.as_str())?;
     let end = push_words(alloc, rows, number, doc.title.as_str(), 1, TITLE_SCORE)?;
-    let text = doc.text.as_str();
     push_words(
         alloc,
         rows,
         number,
-        text,
+        doc.text.as_str(),
         end - 1 + BEHIND_TITLE,
         TEXT_SCORE,
     )?;

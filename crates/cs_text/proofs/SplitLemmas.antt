@@ -83,7 +83,7 @@ first_piece p w x live rest (Some q) u f m =
 
 -- A text that is cut by a pattern, where M says which test a pattern matches by: the pieces are those of its characters.
 -- The last four facts are the text's own and the call's clauses `text`, `has_more` and `pattern`.
-pub YieldsList-from_str_split_by : {P : Type 0} {s : Split P} (M : P → (ℕ → Bool) → Type 0) (p : ℕ → Bool) (bs : List ℕ) → IsUtf8 bs → split_text s ≡ bs → split_has_more s ≡ true → M (split_pattern s) p
+YieldsList-from_str_split_by : {P : Type 0} {s : Split P} (M : P → (ℕ → Bool) → Type 0) (p : ℕ → Bool) (bs : List ℕ) → IsUtf8 bs → split_text s ≡ bs → split_has_more s ≡ true → M (split_pattern s) p
     → YieldsList (split_steps (λ a w r. (k : ℕ → Bool) → M a k → FindsBy k w r) (λ a b. (k : ℕ → Bool) → M a k → M b k)) (λ x. chars x.now) s (slice_split p (chars bs))
 YieldsList-from_str_split_by {P} {s} M p bs u text more matches =
     let parts = λ (w : List ℕ). slice_split p (chars w) in

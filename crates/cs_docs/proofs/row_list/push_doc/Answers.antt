@@ -10,4 +10,4 @@ pub returns-clause-utf8 : goal.returns-clause-utf8
 returns-clause-utf8 c = text_of_doc c.args.number c.args.doc.now
     (subst (All IsUtf8) (ap facet_words c.as_str.ensures) c.in_ok-push_facets.ensures.utf8)
     (subst (All IsUtf8) (ap words c.as_str-2.ensures) c.in_ok-end.ensures.utf8)
-    (subst (All IsUtf8) (ap words c.as_str-text.ensures) c.in_ok-push_words.ensures.utf8)
+    (subst (All IsUtf8) (ap words c.as_str-3.ensures) c.in_ok-push_words.ensures.utf8)
