@@ -4,6 +4,7 @@
 --
 --   by_row            rows: document, position, word, each ascending; the score last, which these three determine in a
 --                     collection
+--   by_spot           rows: document, position, word, each ascending, which name a row of a collection
 --   by_place          posts: document, position, number of the word, each ascending
 --   by_rank           hits: score descending, then document ascending
 --   by_doc            scored documents: document ascending
@@ -24,6 +25,10 @@ use Rattle.cs_base.specs.Members.{members_in}
 -- rows by document, position, word by bytes, and score; equal are those with all four the same
 abbrev pub by_row : Row → Row → Ordering
 by_row = then_cmp (on (λ r. r.doc) nat_cmp) (then_cmp (on (λ r. r.pos) nat_cmp) (then_cmp (on (λ r. r.word) (slice_cmp nat_cmp)) (on (λ r. r.score) nat_cmp)))
+
+-- rows by document, position and word by bytes, which name a row of a collection; the score isn't compared
+abbrev pub by_spot : Row → Row → Ordering
+by_spot = then_cmp (on (λ r. r.doc) nat_cmp) (then_cmp (on (λ r. r.pos) nat_cmp) (on (λ r. r.word) (slice_cmp nat_cmp)))
 
 -- posts by document, position and word, which name a post; the score isn't compared
 abbrev pub by_place : Post → Post → Ordering

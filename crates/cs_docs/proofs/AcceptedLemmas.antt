@@ -1,6 +1,6 @@
 -- Documents of a collection that isn't refused: few words, named pieces, few documents.
-use Rattle.std.proofs.Common.{◌≡◌, ℕ, ◌+◌, ◌^◌, ◌≤◌, Bool, true, false, cond, nat_le, nat_lt, nat_eq, List, [], ◌∷◌, length, map, filter, drop, refl, sym, ap, subst, arith, length-drop}
-use Rattle.std.specs.Prelude.{Option, Some, None}
+use Rattle.std.proofs.Common.{◌≡◌, ℕ, ◌+◌, ◌≤◌, Bool, true, false, cond, nat_le, nat_lt, nat_eq, List, [], ◌∷◌, length, map, filter, drop, sym, ap, subst, arith, length-drop}
+use Rattle.std.specs.Prelude.{None}
 use Rattle.std.specs.List.{All, AllByRecursion, list_any, starts_with, enumerate_from}
 use Rattle.std.specs.Str.{is_utf8}
 use Rattle.std.specs.Str.Lines.{lines}
@@ -9,7 +9,8 @@ use Rattle.std.proofs.lemmas.List.{length-map}
 use Rattle.std.proofs.lemmas.List.FromFn.{length-enumerate_from}
 use Rattle.std.proofs.lemmas.List.Elements.{All-from_recursion}
 use Rattle.cs_base.specs.declared.doc.Doc.{Doc}
-use Rattle.cs_model.specs.Collection.{CollectionRefusal, piece_refusal, line_refusal, docs_refusal, documents, document, DocLine, doc_line, doc_lines, collection_lines, has_name_form, piece_name, is_equals, facet_pieces, columns, word_count, bad_facet, bad_name, without_mark, not_utf8, line_too_long, words_too_many, too_many_docs, too_large}
+use Rattle.cs_base.specs.declared.limits.TheConstants.{MAX_COLLECTION_BYTES, MAX_LINE_BYTES, MAX_DOC_WORDS, MAX_DOCS}
+use Rattle.cs_model.specs.Collection.{piece_refusal, line_refusal, docs_refusal, documents, document, DocLine, doc_line, doc_lines, collection_lines, has_name_form, piece_name, is_equals, facet_pieces, columns, word_count, bad_facet, bad_name, without_mark, not_utf8, line_too_long, words_too_many, too_many_docs, too_large}
 use Rattle.cs_model.specs.Words.{is_filled}
 use Rattle.cs_model.specs.First.{unless, first_reason}
 use Rattle.cs_model.proofs.FirstLemmas.{none_first, none_rest, unless_none}
@@ -25,25 +26,25 @@ named_piece n p h = record {
   name = unless_none (has_name_form (piece_name p)) (bad_name n) (none_first _ _ (none_rest (unless (list_any is_equals p) (bad_facet n)) _ h));
 }
 
-pub named_pieces : (n : ℕ) (ps : List (List ℕ)) → first_reason (map (piece_refusal n) ps) ≡ None → AreNamed ps
+named_pieces : (n : ℕ) (ps : List (List ℕ)) → first_reason (map (piece_refusal n) ps) ≡ None → AreNamed ps
 named_pieces n [] h = tt
 named_pieces n (p ∷ ps) h = (named_piece n p (none_first (piece_refusal n p) (map (piece_refusal n) ps) h), named_pieces n ps (none_rest (piece_refusal n p) (map (piece_refusal n) ps) h))
 
 accepted_line : (l : DocLine) → line_refusal l ≡ None → IsAccepted (document l)
 accepted_line l h =
     let utf8 = unless (is_utf8 l.bytes) (not_utf8 l.line) in
-    let long = unless (nat_le (length l.bytes) (2 ^ 20)) (line_too_long l.line) in
-    let many = unless (nat_le (word_count (columns l.bytes)) 100000) (words_too_many l.line) in
+    let long = unless (nat_le (length l.bytes) MAX_LINE_BYTES) (line_too_long l.line) in
+    let many = unless (nat_le (word_count (columns l.bytes)) MAX_DOC_WORDS) (words_too_many l.line) in
     let pieces = first_reason (map (piece_refusal l.line) (facet_pieces (columns l.bytes).facets)) in
-    let docs = unless (nat_lt l.doc (2 ^ 20)) (too_many_docs l.line) in
+    let docs = unless (nat_lt l.doc MAX_DOCS) (too_many_docs l.line) in
     let behind : first_reason (many ∷ pieces ∷ docs ∷ []) ≡ None = none_rest long (many ∷ pieces ∷ docs ∷ []) (none_rest utf8 (long ∷ many ∷ pieces ∷ docs ∷ []) h) in
-    let few : nat_le (word_count (columns l.bytes)) 100000 ≡ true = unless_none _ (words_too_many l.line) (none_first many (pieces ∷ docs ∷ []) behind) in
+    let few : nat_le (word_count (columns l.bytes)) MAX_DOC_WORDS ≡ true = unless_none _ (words_too_many l.line) (none_first many (pieces ∷ docs ∷ []) behind) in
     record {
       pieces = named_pieces l.line (facet_pieces (columns l.bytes).facets) (none_first pieces (docs ∷ []) (none_rest many (pieces ∷ docs ∷ []) behind));
       few = few_from _ few;
     }
   where
-    few_from : (n : ℕ) → nat_le n 100000 ≡ true → n ≤ 100000
+    few_from : (n : ℕ) → nat_le n MAX_DOC_WORDS ≡ true → n ≤ MAX_DOC_WORDS
     few_from n h = grind (arith, nat_tests)
 
 accepted_lines : (ks : List DocLine) → first_reason (map line_refusal ks) ≡ None → AllByRecursion IsAccepted (map document ks)
@@ -53,42 +54,42 @@ accepted_lines (k ∷ ks) h = (accepted_line k (none_first (line_refusal k) (map
 -- ---- the documents of a collection that isn't refused
 
 pub accepted_docs : (c : List ℕ) (docs : List Doc) → docs_refusal c ≡ None → docs ≡ documents c → All IsAccepted docs
-accepted_docs c docs h e = subst (All IsAccepted) (sym e) (All-from_recursion IsAccepted (documents c) (accepted_lines (doc_lines_from 0 1 (lines (without_mark c))) (none_rest (unless (nat_le (length c) (2 ^ 28)) too_large) _ h)))
+accepted_docs c docs h e = subst (All IsAccepted) (sym e) (All-from_recursion IsAccepted (documents c) (accepted_lines (doc_lines_from 0 1 (lines (without_mark c))) (none_rest (unless (nat_le (length c) MAX_COLLECTION_BYTES) too_large) _ h)))
 
 unmarked_length : (b : Bool) (c : List ℕ) → length (cond b (drop 3 c) c) ≤ length c
 unmarked_length true c = omega (arith, length-drop 3 c)
 unmarked_length false c = omega arith
 
-pub few_docs : (c : List ℕ) (docs : List Doc) → docs_refusal c ≡ None → docs ≡ documents c → length docs ≤ 268435457
+pub few_docs : (c : List ℕ) (docs : List Doc) → docs_refusal c ≡ None → docs ≡ documents c → length docs ≤ MAX_COLLECTION_BYTES + 1
 few_docs c docs h e =
-    let small : nat_le (length c) 268435456 ≡ true = unless_none (nat_le (length c) 268435456) too_large (none_first _ _ h) in
-    let bound : length c ≤ 268435456 = grind (arith, nat_tests) in
+    let small : nat_le (length c) MAX_COLLECTION_BYTES ≡ true = unless_none (nat_le (length c) MAX_COLLECTION_BYTES) too_large (none_first _ _ h) in
+    let bound : length c ≤ MAX_COLLECTION_BYTES = grind (arith, nat_tests) in
     omega (arith, ap length e, length_documents_of_lines (without_mark c), unmarked_length (starts_with nat_eq c (239 ∷ 187 ∷ 191 ∷ [])) c, bound)
 
 -- ---- there are few of them
 
-few_line : (l : DocLine) → line_refusal l ≡ None → l.doc + 1 ≤ 2 ^ 20
+few_line : (l : DocLine) → line_refusal l ≡ None → l.doc + 1 ≤ MAX_DOCS
 few_line l h =
     let utf8 = unless (is_utf8 l.bytes) (not_utf8 l.line) in
-    let long = unless (nat_le (length l.bytes) (2 ^ 20)) (line_too_long l.line) in
-    let many = unless (nat_le (word_count (columns l.bytes)) 100000) (words_too_many l.line) in
+    let long = unless (nat_le (length l.bytes) MAX_LINE_BYTES) (line_too_long l.line) in
+    let many = unless (nat_le (word_count (columns l.bytes)) MAX_DOC_WORDS) (words_too_many l.line) in
     let pieces = first_reason (map (piece_refusal l.line) (facet_pieces (columns l.bytes).facets)) in
-    let docs = unless (nat_lt l.doc (2 ^ 20)) (too_many_docs l.line) in
+    let docs = unless (nat_lt l.doc MAX_DOCS) (too_many_docs l.line) in
     let behind : first_reason (many ∷ pieces ∷ docs ∷ []) ≡ None = none_rest long (many ∷ pieces ∷ docs ∷ []) (none_rest utf8 (long ∷ many ∷ pieces ∷ docs ∷ []) h) in
     let last : first_reason (docs ∷ []) ≡ None = none_rest pieces (docs ∷ []) (none_rest many (pieces ∷ docs ∷ []) behind) in
-    below l.doc (unless_none (nat_lt l.doc (2 ^ 20)) (too_many_docs l.line) (none_first docs [] last))
+    below l.doc (unless_none (nat_lt l.doc MAX_DOCS) (too_many_docs l.line) (none_first docs [] last))
   where
-    below : (n : ℕ) → nat_lt n (2 ^ 20) ≡ true → n + 1 ≤ 2 ^ 20
+    below : (n : ℕ) → nat_lt n MAX_DOCS ≡ true → n + 1 ≤ MAX_DOCS
     below n h = grind (arith, nat_tests)
 
-few_lines : (d : ℕ) (ls : List (ℕ × List ℕ)) → d ≤ 2 ^ 20 → first_reason (map line_refusal (map doc_line (enumerate_from d ls))) ≡ None → d + length ls ≤ 2 ^ 20
+few_lines : (d : ℕ) (ls : List (ℕ × List ℕ)) → d ≤ MAX_DOCS → first_reason (map line_refusal (map doc_line (enumerate_from d ls))) ≡ None → d + length ls ≤ MAX_DOCS
 few_lines d [] le h = omega (arith, le)
 few_lines d (l ∷ ls) le h =
     let next = few_line (doc_line (d, l)) (none_first (line_refusal (doc_line (d, l))) _ h) in
     omega (arith, few_lines (d + 1) ls next (none_rest (line_refusal (doc_line (d, l))) _ h))
 
-pub few_documents : (c : List ℕ) → docs_refusal c ≡ None → length (documents c) ≤ 2 ^ 20
+pub few_documents : (c : List ℕ) → docs_refusal c ≡ None → length (documents c) ≤ MAX_DOCS
 few_documents c h =
     let ls = filter (λ l. is_filled l.1) (collection_lines c) in
-    let few = few_lines 0 ls (omega arith) (none_rest (unless (nat_le (length c) (2 ^ 28)) too_large) _ h) in
+    let few = few_lines 0 ls (omega arith) (none_rest (unless (nat_le (length c) MAX_COLLECTION_BYTES) too_large) _ h) in
     omega (arith, few, length-map (doc_lines c) document, length-map (enumerate_from 0 ls) doc_line, length-enumerate_from 0 ls)

@@ -1,4 +1,5 @@
 pub mod AcceptedLemmas
+pub mod CorpusLaws
 pub mod LinesLemmas
 pub mod ListingLemmas
 pub mod PiecesLemmas

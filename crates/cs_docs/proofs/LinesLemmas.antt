@@ -1,9 +1,10 @@
--- Lines, one after another, and the documents that they are.
+-- Lines, one after another, and the first refusal among them.
 use Rattle.std.proofs.Common.{◌≡◌, ℕ, ◌+◌, ◌<◌, Bool, true, false, List, [], ◌∷◌, ◌++◌, length, map, take, drop, get_or, refl, ap, ◌∙◌, arith, eqb}
 use Rattle.std.specs.List.{slice_split, position_or_len}
 use Rattle.memchr.specs.Find.{IsFirstByte, is_byte}
 use Rattle.std.specs.Prelude.{Option, Some, None, MatchOption}
 use Rattle.std.specs.Str.Lines.{lines, lines_of_parts, strip_carriage_return}
+use Rattle.std.proofs.lemmas.Bool.{false_from_ne_true}
 use Rattle.std.proofs.lemmas.Bool.Decides.{nat_tests}
 use Rattle.std.proofs.lemmas.List.{map-append}
 use Rattle.std.proofs.lemmas.List.Elements.{All-from_get_or}
@@ -14,7 +15,7 @@ use Rattle.cs_model.specs.Words.{is_filled}
 use Rattle.cs_model.specs.First.{first_reason}
 use Rattle.cs_docs.specs.declared.fault.DocFault.{DocFault}
 use Rattle.cs_docs.specs.Refusals.{refusal_of, IsCauseOf, refusal_from}
-use Rattle.cs_model.proofs.FirstLemmas.{first-append, first-append_some}
+use Rattle.cs_model.proofs.FirstLemmas.{first-append_some}
 use Rattle.cs_docs.specs.Reading.{doc_lines_from, documents_from}
 
 -- behind the first part there are further ones
@@ -32,13 +33,9 @@ line_at bs i l before here =
     ap lines_of_parts first
     ∙ more_parts (take i bs) (slice_split (λ b. eqb b 10) (drop (i + 1) bs)) (omega (arith, length-slice_split (λ b. eqb b 10) (drop (i + 1) bs)))
 
-false_from : (b : Bool) → (b ≡ true → ⊥) → b ≡ false
-false_from true h = absurd (h refl)
-false_from false h = refl
-
 -- the first LF as `memchr` finds it
 pub line_ends_at : (bs : List ℕ) (i : ℕ) → IsFirstByte (is_byte 10) bs (Some i) → lines bs ≡ strip_carriage_return (take i bs) ∷ lines (drop (i + 1) bs)
-line_ends_at bs i h = line_at bs i h.0.high (λ k l. false_from _ (h.0.before k (omega arith) l)) h.1
+line_ends_at bs i h = line_at bs i h.0.high (λ k l. false_from_ne_true _ (h.0.before k (omega arith) l)) h.1
 
 some_line : (bs : List ℕ) → 0 < length bs → lines_of_parts (bs ∷ []) ≡ bs ∷ []
 some_line [] h = absurd (omega arith)
@@ -47,21 +44,8 @@ some_line (b ∷ bs) h = let some : eqb (length (b ∷ bs)) 0 ≡ false = grind 
 -- without LF the rest is the last line
 pub last_line : (bs : List ℕ) → 0 < length bs → IsFirstByte (is_byte 10) bs None → lines bs ≡ bs ∷ []
 last_line bs some h =
-    ap lines_of_parts (slice_split_none (λ b. eqb b 10) bs (All-from_get_or (λ b. eqb b 10 ≡ false) bs 0 (λ k l. false_from _ (h k (omega arith) l))))
+    ap lines_of_parts (slice_split_none (λ b. eqb b 10) bs (All-from_get_or (λ b. eqb b 10 ≡ false) bs 0 (λ k l. false_from_ne_true _ (h k (omega arith) l))))
     ∙ some_line bs some
-
--- ---- documents
-
-module _ (d n : ℕ) where
-  -- a line without bytes is no document
-  documents_at : (b : Bool) (l : List ℕ) (ls : List (List ℕ)) → is_filled l ≡ b → documents_from d n (l ∷ ls) ≡ documents_from d n (l ∷ []) ++ documents_from (d + length (documents_from d n (l ∷ []))) (n + 1) ls
-  documents_at true l ls h =
-      let one : d + 1 ≡ d + length (documents_from d n (l ∷ [])) = rw h refl in
-      rw h refl
-  documents_at false l ls h = rw h (ap (λ m. documents_from m (n + 1) ls) (omega arith))
-
-  pub documents_next : (l : List ℕ) (ls : List (List ℕ)) → documents_from d n (l ∷ ls) ≡ documents_from d n (l ∷ []) ++ documents_from (d + length (documents_from d n (l ∷ []))) (n + 1) ls
-  documents_next l ls = documents_at (is_filled l) l ls refl
 
 -- ---- refusals
 
@@ -74,10 +58,6 @@ module _ (d n : ℕ) where
 
   refusals_next : (l : List ℕ) (ls : List (List ℕ)) → refusal_from d n (l ∷ ls) ≡ first_reason (map line_refusal (doc_lines_from d n (l ∷ [])) ++ map line_refusal (doc_lines_from (d + length (documents_from d n (l ∷ []))) (n + 1) ls))
   refusals_next l ls = ap (λ ks. first_reason (map line_refusal ks)) (doc_lines_at (is_filled l) l ls refl) ∙ ap first_reason (map-append line_refusal (doc_lines_from d n (l ∷ [])) (doc_lines_from (d + length (documents_from d n (l ∷ []))) (n + 1) ls))
-
-  -- where a line isn't refused, a further one may be
-  pub accepted_next : (l : List ℕ) (ls : List (List ℕ)) → refusal_from d n (l ∷ []) ≡ None → refusal_from d n (l ∷ ls) ≡ refusal_from (d + length (documents_from d n (l ∷ []))) (n + 1) ls
-  accepted_next l ls h = refusals_next l ls ∙ first-append (map line_refusal (doc_lines_from d n (l ∷ []))) (map line_refusal (doc_lines_from (d + length (documents_from d n (l ∷ []))) (n + 1) ls)) h
 
   refused_next : (l : List ℕ) (ls : List (List ℕ)) (r : CollectionRefusal) → refusal_from d n (l ∷ []) ≡ Some r → refusal_from d n (l ∷ ls) ≡ Some r
   refused_next l ls r h = refusals_next l ls ∙ first-append_some (map line_refusal (doc_lines_from d n (l ∷ []))) (map line_refusal (doc_lines_from (d + length (documents_from d n (l ∷ []))) (n + 1) ls)) r h

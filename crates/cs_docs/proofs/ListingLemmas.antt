@@ -2,7 +2,7 @@
 use Rattle.std.proofs.Common.{◌≡◌, ℕ, ◌+◌, ◌<◌, ◌≤◌, Bool, true, false, ◌&&◌, ◌||◌, List, [], ◌∷◌, ◌++◌, length, map, drop, get_or, refl, sym, ap, ◌∙◌, arith, append-nil, add-one, drop-cons, subst, true≢false}
 use Rattle.std.specs.List.{AllByRecursion, list_any, flat_map, enumerate_from}
 use Rattle.std.specs.List.Sorted.{IsStrictlySortedBy}
-use Rattle.std.specs.Ordering.{nat_cmp, ordering_then, then_cmp, on, eq_by_cmp, is_eq}
+use Rattle.std.specs.Ordering.{nat_cmp, ordering_then, eq_by_cmp, is_eq}
 use Rattle.std.specs.Cmp.{nat_cmp_is}
 use Rattle.std.specs.Cmp.Lexicographic.{slice_cmp}
 use Rattle.std.specs.declared.cmp.Ordering.{Ordering}
@@ -10,17 +10,17 @@ use Rattle.std.specs.declared.cmp.Ordering.TheVariants.{Less, Equal, Greater}
 use Rattle.std.proofs.lemmas.Cmp.{nat_list_cmp_total}
 use Rattle.std.proofs.lemmas.List.Folds.{list_any-append}
 use Rattle.std.proofs.lemmas.Map.Lookups.{exact_bytes}
-use Rattle.std.proofs.lemmas.Str.Ascii.{IsAscii-nil}
-use Rattle.cs_base.specs.Orders.{by_row}
+use Rattle.cs_base.specs.Orders.{by_row, by_spot}
 use Rattle.cs_base.specs.declared.doc.Doc.{Doc}
 use Rattle.cs_base.specs.declared.doc.Row.{Row}
+use Rattle.cs_base.specs.declared.scores.TheConstants.{TITLE_SCORE, FACET_SCORE, TEXT_SCORE, BEHIND_TITLE}
 use Rattle.cs_base.proofs.MembersLemmas.{all_then, members_are, is_member-listed, listing-rises}
 use Rattle.cs_base.proofs.OrdersLemmas.{by_row_total, by_row_exact}
 use Rattle.cs_model.specs.Collection.{facet_words}
 use Rattle.cs_model.specs.Corpus.{placed, title_rows, text_rows, facet_rows, doc_rows, rows_of}
 use Rattle.cs_model.specs.Words.{words}
-use Rattle.cs_model.proofs.AsciiLemmas.{words-ascii}
 use Rattle.cs_docs.specs.Listing.{listed_facets, listed_doc, listed_rows}
+use Rattle.cs_docs.proofs.PlainLemmas.{no_words}
 
 -- ---- lists
 
@@ -43,14 +43,10 @@ sorted-append R (x ∷ xs) ys h k b = (all-append (λ y. R x y ≡ Less) xs ys h
 
 -- ---- rows in their order
 
--- by document, position and word, which name a row
-abbrev pub by_spot : Row → Row → Ordering
-by_spot = then_cmp (on (λ r. r.doc) nat_cmp) (then_cmp (on (λ r. r.pos) nat_cmp) (on (λ r. r.word) (slice_cmp nat_cmp)))
-
 equal_cmp : (x y : ℕ) → x ≡ y → nat_cmp x y ≡ Equal
 equal_cmp x y h = sym (nat_cmp_is x y Equal h)
 
-less_cmp : (x y : ℕ) → x < y → nat_cmp x y ≡ Less
+pub less_cmp : (x y : ℕ) → x < y → nat_cmp x y ≡ Less
 less_cmp x y h = sym (nat_cmp_is x y Less h)
 
 earlier_doc : (r s : Row) → r.doc < s.doc → by_spot r s ≡ Less
@@ -59,7 +55,7 @@ earlier_doc r s h = rw (less_cmp r.doc s.doc h) refl
 earlier_pos : (r s : Row) → r.doc ≡ s.doc → r.pos < s.pos → by_spot r s ≡ Less
 earlier_pos r s e h = rw (equal_cmp r.doc s.doc e, less_cmp r.pos s.pos h) refl
 
-earlier_facet : (d : ℕ) (v w : List ℕ) → slice_cmp nat_cmp v w ≡ Less → by_spot (placed d 2 (0, v)) (placed d 2 (0, w)) ≡ Less
+earlier_facet : (d : ℕ) (v w : List ℕ) → slice_cmp nat_cmp v w ≡ Less → by_spot (placed d FACET_SCORE (0, v)) (placed d FACET_SCORE (0, w)) ≡ Less
 earlier_facet d v w h = rw (equal_cmp d d refl, h) refl
 
 -- a row of document d, at a position from lo on and before hi
@@ -90,15 +86,15 @@ sorted-placed d score n (w ∷ ws) = (
   sorted-placed d score (n + 1) ws,
 )
 
-within-facets : (d : ℕ) (ws : List (List ℕ)) → AllByRecursion (IsWithin d 0 1) (map (λ w. placed d 2 (0, w)) ws)
+within-facets : (d : ℕ) (ws : List (List ℕ)) → AllByRecursion (IsWithin d 0 1) (map (λ w. placed d FACET_SCORE (0, w)) ws)
 within-facets d [] = tt
 within-facets d (w ∷ ws) = (record { doc = refl; from = omega arith; before = omega arith }, within-facets d ws)
 
-later_facets : (d : ℕ) (v : List ℕ) (ws : List (List ℕ)) → AllByRecursion (λ w. slice_cmp nat_cmp v w ≡ Less) ws → AllByRecursion (λ s. by_spot (placed d 2 (0, v)) s ≡ Less) (map (λ w. placed d 2 (0, w)) ws)
+later_facets : (d : ℕ) (v : List ℕ) (ws : List (List ℕ)) → AllByRecursion (λ w. slice_cmp nat_cmp v w ≡ Less) ws → AllByRecursion (λ s. by_spot (placed d FACET_SCORE (0, v)) s ≡ Less) (map (λ w. placed d FACET_SCORE (0, w)) ws)
 later_facets d v [] h = tt
 later_facets d v (w ∷ ws) h = (earlier_facet d v w h.0, later_facets d v ws h.1)
 
-sorted-facets : (d : ℕ) (ws : List (List ℕ)) → IsStrictlySortedBy (slice_cmp nat_cmp) ws → IsStrictlySortedBy by_spot (map (λ w. placed d 2 (0, w)) ws)
+sorted-facets : (d : ℕ) (ws : List (List ℕ)) → IsStrictlySortedBy (slice_cmp nat_cmp) ws → IsStrictlySortedBy by_spot (map (λ w. placed d FACET_SCORE (0, w)) ws)
 unfolding IsStrictlySortedBy
 sorted-facets d [] h = tt
 sorted-facets d (w ∷ ws) h = (later_facets d w ws h.0, sorted-facets d ws h.1)
@@ -107,7 +103,7 @@ sorted-facets d (w ∷ ws) h = (later_facets d w ws h.0, sorted-facets d ws h.1)
 
 module _ (d : ℕ) (doc : Doc) where
   abbrev facets : List Row
-  facets = map (λ w. placed d 2 (0, w)) (listed_facets doc.facets)
+  facets = map (λ w. placed d FACET_SCORE (0, w)) (listed_facets doc.facets)
 
   abbrev titles : ℕ
   titles = length (words doc.title)
@@ -116,10 +112,10 @@ module _ (d : ℕ) (doc : Doc) where
   texts = length (words doc.text)
 
   within_titles : AllByRecursion (IsWithin d 1 (titles + 1)) (title_rows d doc)
-  within_titles = wider d 1 (1 + titles) 1 (titles + 1) (title_rows d doc) (omega arith) (omega arith) (within-placed d 4 1 (words doc.title))
+  within_titles = wider d 1 (1 + titles) 1 (titles + 1) (title_rows d doc) (omega arith) (omega arith) (within-placed d TITLE_SCORE 1 (words doc.title))
 
-  within_texts : AllByRecursion (IsWithin d (titles + 1) (titles + 9 + texts)) (text_rows d doc)
-  within_texts = wider d (titles + 9) (titles + 9 + texts) (titles + 1) (titles + 9 + texts) (text_rows d doc) (omega arith) (omega arith) (within-placed d 1 (titles + 9) (words doc.text))
+  within_texts : AllByRecursion (IsWithin d (titles + 1) (titles + BEHIND_TITLE + texts)) (text_rows d doc)
+  within_texts = wider d (titles + BEHIND_TITLE) (titles + BEHIND_TITLE + texts) (titles + 1) (titles + BEHIND_TITLE + texts) (text_rows d doc) (omega arith) (omega arith) (within-placed d TEXT_SCORE (titles + BEHIND_TITLE) (words doc.text))
 
   within_front : AllByRecursion (IsWithin d 0 (titles + 1)) (facets ++ title_rows d doc)
   within_front = all-append (IsWithin d 0 (titles + 1)) facets (title_rows d doc) (wider d 0 1 0 (titles + 1) facets (omega arith) (omega arith) (within-facets d (listed_facets doc.facets)))
@@ -127,16 +123,16 @@ module _ (d : ℕ) (doc : Doc) where
 
   sorted_front : IsStrictlySortedBy by_spot (facets ++ title_rows d doc)
   sorted_front = sorted-append by_spot facets (title_rows d doc) (sorted-facets d (listed_facets doc.facets) (listing-rises (slice_cmp nat_cmp) (facet_words doc.facets)))
-      (sorted-placed d 4 1 (words doc.title)) (within_below d 0 1 (titles + 1) facets (title_rows d doc) (within-facets d (listed_facets doc.facets)) within_titles)
+      (sorted-placed d TITLE_SCORE 1 (words doc.title)) (within_below d 0 1 (titles + 1) facets (title_rows d doc) (within-facets d (listed_facets doc.facets)) within_titles)
 
   sorted-doc : IsStrictlySortedBy by_spot (listed_doc (d, doc))
-  sorted-doc = sorted-append by_spot (facets ++ title_rows d doc) (text_rows d doc) sorted_front (sorted-placed d 1 (titles + 9) (words doc.text))
-      (within_below d 0 (titles + 1) (titles + 9 + texts) (facets ++ title_rows d doc) (text_rows d doc) within_front within_texts)
+  sorted-doc = sorted-append by_spot (facets ++ title_rows d doc) (text_rows d doc) sorted_front (sorted-placed d TEXT_SCORE (titles + BEHIND_TITLE) (words doc.text))
+      (within_below d 0 (titles + 1) (titles + BEHIND_TITLE + texts) (facets ++ title_rows d doc) (text_rows d doc) within_front within_texts)
 
   of_doc : AllByRecursion (λ r. r.doc ≡ d) (listed_doc (d, doc))
   of_doc = all-append (λ r. r.doc ≡ d) (facets ++ title_rows d doc) (text_rows d doc)
       (all_then (IsWithin d 0 (titles + 1)) (λ r. r.doc ≡ d) (λ r p. p.doc) (facets ++ title_rows d doc) within_front)
-      (all_then (IsWithin d (titles + 1) (titles + 9 + texts)) (λ r. r.doc ≡ d) (λ r p. p.doc) (text_rows d doc) within_texts)
+      (all_then (IsWithin d (titles + 1) (titles + BEHIND_TITLE + texts)) (λ r. r.doc ≡ d) (λ r p. p.doc) (text_rows d doc) within_texts)
 
 -- ---- all documents
 
@@ -147,7 +143,7 @@ from_docs d (doc ∷ docs) =
     (all_then (λ r. r.doc ≡ d) (λ r. d ≤ r.doc) (λ r p. omega (arith, p)) (listed_doc (d, doc)) (of_doc d doc))
     (all_then (λ r. d + 1 ≤ r.doc) (λ r. d ≤ r.doc) (λ r p. omega (arith, p)) (listed_rows (d + 1) docs) (from_docs (d + 1) docs))
 
-pub sorted-spots : (d : ℕ) (docs : List Doc) → IsStrictlySortedBy by_spot (listed_rows d docs)
+sorted-spots : (d : ℕ) (docs : List Doc) → IsStrictlySortedBy by_spot (listed_rows d docs)
 unfolding IsStrictlySortedBy
 sorted-spots d [] = tt
 sorted-spots d (doc ∷ docs) =
@@ -196,12 +192,12 @@ or_gated false b k = refl
 
 -- whether q is the row of a facet word in document d, its word aside
 abbrev is_facet_row : Row → ℕ → Bool
-is_facet_row q d = is_eq (ordering_then (nat_cmp q.doc d) (ordering_then (nat_cmp q.pos 0) (nat_cmp q.score 2)))
+is_facet_row q d = is_eq (ordering_then (nat_cmp q.doc d) (ordering_then (nat_cmp q.pos 0) (nat_cmp q.score FACET_SCORE)))
 
-any_facet : (q : Row) (d : ℕ) (ws : List (List ℕ)) → list_any (eq_by_cmp by_row q) (map (λ w. placed d 2 (0, w)) ws) ≡ (list_any (eq_by_cmp (slice_cmp nat_cmp) q.word) ws && is_facet_row q d)
+any_facet : (q : Row) (d : ℕ) (ws : List (List ℕ)) → list_any (eq_by_cmp by_row q) (map (λ w. placed d FACET_SCORE (0, w)) ws) ≡ (list_any (eq_by_cmp (slice_cmp nat_cmp) q.word) ws && is_facet_row q d)
 any_facet q d [] = refl
 any_facet q d (w ∷ ws) =
-    ap (λ b. b || list_any (eq_by_cmp by_row q) (map (λ v. placed d 2 (0, v)) ws)) (gate (nat_cmp q.doc d) (nat_cmp q.pos 0) (slice_cmp nat_cmp q.word w) (nat_cmp q.score 2))
+    ap (λ b. b || list_any (eq_by_cmp by_row q) (map (λ v. placed d FACET_SCORE (0, v)) ws)) (gate (nat_cmp q.doc d) (nat_cmp q.pos 0) (slice_cmp nat_cmp q.word w) (nat_cmp q.score FACET_SCORE))
     ∙ ap (λ b. (eq_by_cmp (slice_cmp nat_cmp) q.word w && is_facet_row q d) || b) (any_facet q d ws)
     ∙ or_gated (eq_by_cmp (slice_cmp nat_cmp) q.word w) (list_any (eq_by_cmp (slice_cmp nat_cmp) q.word) ws) (is_facet_row q d)
 
@@ -261,12 +257,9 @@ nothing_sorted R = tt
 no_facets : listed_facets [] ≡ []
 no_facets = sym (members_are (slice_cmp nat_cmp) nat_list_cmp_total exact_bytes [] [] (nothing_sorted (slice_cmp nat_cmp)) (λ q. refl))
 
-no_words : words [] ≡ []
-no_words = words-ascii [] IsAscii-nil
-
 -- a document that has a title alone
-pub listed_title : (d : ℕ) (doc : Doc) → doc.facets ≡ [] → doc.text ≡ [] → listed_doc (d, doc) ≡ map (placed d 4) (enumerate_from 1 (words doc.title))
+pub listed_title : (d : ℕ) (doc : Doc) → doc.facets ≡ [] → doc.text ≡ [] → listed_doc (d, doc) ≡ title_rows d doc
 listed_title d doc f t =
-    ap (λ ws. map (λ w. placed d 2 (0, w)) ws ++ title_rows d doc ++ text_rows d doc) (ap listed_facets f ∙ no_facets)
-    ∙ ap (λ ws. title_rows d doc ++ map (placed d 1) (enumerate_from (length (words doc.title) + 9) ws)) (ap words t ∙ no_words)
+    ap (λ ws. map (λ w. placed d FACET_SCORE (0, w)) ws ++ title_rows d doc ++ text_rows d doc) (ap listed_facets f ∙ no_facets)
+    ∙ ap (λ ws. title_rows d doc ++ map (placed d TEXT_SCORE) (enumerate_from (length (words doc.title) + BEHIND_TITLE) ws)) (ap words t ∙ no_words)
     ∙ append-nil (title_rows d doc)

@@ -1,6 +1,5 @@
 -- Spaces at both ends, and the pieces of a facets column.
 use Rattle.std.proofs.Common.{◌≡◌, ℕ, suc, ◌+◌, ◌-◌, ◌<◌, ◌≤◌, Bool, true, false, cond, List, [], ◌∷◌, ◌++◌, length, take, drop, map, filter, reverse, refl, sym, ap, ◌∙◌, arith, length-append, nat_lt}
-use Rattle.std.specs.Prelude.{Option, Some, None}
 use Rattle.std.specs.List.{list_any, prefix_len, suffix_len, slice_split, before_first, after_first, position_or_len}
 use Rattle.std.proofs.lemmas.Bool.Decides.{nat_tests}
 use Rattle.std.proofs.lemmas.List.{take_all, drop_all, append-nil, take-append-le, reverse-append, reverse-reverse}
@@ -8,9 +7,8 @@ use Rattle.std.proofs.lemmas.List.Elements.{All-from_get_or, filter-append}
 use Rattle.std.proofs.lemmas.List.Folds.{list_any_none}
 use Rattle.std.proofs.lemmas.List.Splits.{slice_split_first, slice_split_none}
 use Rattle.std.proofs.lemmas.List.Sums.{fails_before_first}
-use Rattle.cs_model.specs.Collection.{is_space, without_spaces, without_spaces_behind, facet_pieces, CollectionRefusal}
+use Rattle.cs_model.specs.Collection.{is_space, without_spaces, without_spaces_behind, facet_pieces}
 use Rattle.cs_model.specs.Words.{is_filled}
-use Rattle.cs_model.specs.First.{first_reason}
 use Rattle.cs_docs.specs.Pieces.{one_piece, is_semicolon}
 
 -- ---- spaces
@@ -42,9 +40,6 @@ no_space_behind bs none =
     take_all (length bs - suffix_len is_space bs) bs (omega (arith, zero_behind))
 
 -- ---- pieces
-
-no_pieces : facet_pieces [] ≡ []
-no_pieces = refl
 
 pub pieces_next : (bs : List ℕ) → 0 < length bs → facet_pieces bs ≡ one_piece (without_spaces (before_first is_semicolon bs)) (after_first is_semicolon bs)
 pieces_next bs some = at (nat_lt (position_or_len is_semicolon bs) (length bs)) refl

@@ -1,41 +1,44 @@
--- No line of a plain collection is refused, and each that has bytes is a title.
-use Rattle.std.proofs.Common.{◌≡◌, ℕ, ◌+◌, ◌^◌, ◌<◌, ◌≤◌, Bool, true, false, cond, nat_le, nat_lt, List, [], ◌∷◌, length, map, filter, refl, sym, ap, ◌∙◌, arith}
+-- No line of a plain collection is refused, each that has bytes is a title, and the rows are those of titles.
+use Rattle.std.proofs.Common.{◌≡◌, ℕ, ◌+◌, ◌<◌, ◌≤◌, Bool, true, false, cond, nat_le, nat_lt, List, [], ◌∷◌, ◌++◌, length, map, filter, refl, sym, ap, ◌∙◌, arith}
 use Rattle.std.specs.Prelude.{None}
-use Rattle.std.specs.List.{enumerate_from}
+use Rattle.std.specs.List.{AllByRecursion, flat_map, enumerate_from}
 use Rattle.std.specs.Str.{is_utf8}
 use Rattle.std.specs.Str.Lines.{lines}
+use Rattle.std.proofs.lemmas.Bool.{le-leb}
 use Rattle.std.proofs.lemmas.Bool.Decides.{nat_tests}
 use Rattle.std.proofs.lemmas.Str.{IsUtf8-from_ascii, is_utf8-from_IsUtf8}
+use Rattle.cs_base.specs.declared.doc.Doc.{Doc}
+use Rattle.cs_base.specs.declared.limits.TheConstants.{MAX_COLLECTION_BYTES, MAX_LINE_BYTES, MAX_DOC_WORDS, MAX_DOCS}
 use Rattle.cs_model.specs.Collection.{is_plain, is_plain_byte, documents, document, doc_lines, doc_line, docs_refusal, line_refusal, piece_refusal, facet_pieces, columns, word_count, DocLine}
+use Rattle.cs_model.specs.Corpus.{rows_of, title_rows}
 use Rattle.cs_model.specs.Words.{is_filled, words}
 use Rattle.cs_model.specs.First.{first_reason}
+use Rattle.cs_docs.specs.Listing.{listed_rows}
 use Rattle.cs_docs.specs.Reading.{doc_lines_from, documents_from, title_only}
 use Rattle.cs_docs.specs.Refusals.{refusal_from}
-use Rattle.cs_docs.proofs.PlainLemmas.{IsPart, AreParts, IsTitleOnly, IsTitleOnly-line, IsAscii-plain, title_of-line, few_words, no_words, plain_lines, plain_length, plain_parts, unmarked, length_of_lines}
+use Rattle.cs_docs.proofs.ListingLemmas.{rows_listed, listed_title}
+use Rattle.cs_docs.proofs.PlainLemmas.{plain_documents, titles_of_plain, IsPart, AreParts, IsTitleOnly, IsTitleOnly-line, IsAscii-plain, title_of-line, few_words, no_words, plain_lines, plain_length, plain_parts, unmarked, length_of_lines}
 
-at_most : (m n : ℕ) → m ≤ n → nat_le m n ≡ true
-at_most m n k = grind (arith, nat_tests)
-
-accepted_line : (l : DocLine) → IsPart is_plain_byte 65536 l.bytes → l.doc < 2 ^ 20 → line_refusal l ≡ None
+accepted_line : (l : DocLine) → IsPart is_plain_byte 65536 l.bytes → l.doc < MAX_DOCS → line_refusal l ≡ None
 accepted_line l h below =
     let only : IsTitleOnly (document l) = IsTitleOnly-line l h in
     let utf8 : is_utf8 l.bytes ≡ true = is_utf8-from_IsUtf8 l.bytes (IsUtf8-from_ascii l.bytes (IsAscii-plain l.bytes h.passes)) in
-    let short : nat_le (length l.bytes) 1048576 ≡ true = at_most (length l.bytes) 1048576 (omega (arith, h.short)) in
+    let short : nat_le (length l.bytes) MAX_LINE_BYTES ≡ true = le-leb (length l.bytes) MAX_LINE_BYTES (omega (arith, h.short)) in
     let texts : length (words (columns l.bytes).text) ≡ 0 = ap (λ t. length (words t)) only.no_text ∙ ap length no_words in
-    let few : nat_le (word_count (columns l.bytes)) 100000 ≡ true = at_most (word_count (columns l.bytes)) 100000 (omega (arith, texts, few_words (columns l.bytes).title only.ascii, only.short)) in
+    let few : nat_le (word_count (columns l.bytes)) MAX_DOC_WORDS ≡ true = le-leb (word_count (columns l.bytes)) MAX_DOC_WORDS (omega (arith, texts, few_words (columns l.bytes).title only.ascii, only.short)) in
     let pieces : first_reason (map (piece_refusal l.line) (facet_pieces (columns l.bytes).facets)) ≡ None = ap (λ f. first_reason (map (piece_refusal l.line) (facet_pieces f))) only.no_facets in
-    let last : nat_lt l.doc 1048576 ≡ true = grind (arith, nat_tests) in
+    let last : nat_lt l.doc MAX_DOCS ≡ true = grind (arith, nat_tests) in
     rw (utf8, short, few, pieces, last) refl
 
 -- the lines from one on, where b says whether it has bytes
 abbrev lines_at : Bool → ℕ → ℕ → List ℕ → List (List ℕ) → List DocLine
 lines_at b d n l ls = map doc_line (enumerate_from d (cond b ((n, l) ∷ filter (λ k. is_filled k.1) (enumerate_from (n + 1) ls)) (filter (λ k. is_filled k.1) (enumerate_from (n + 1) ls))))
 
-accepted_at : (b : Bool) (d n : ℕ) (l : List ℕ) (ls : List (List ℕ)) → IsPart is_plain_byte 65536 l → d < 2 ^ 20 → refusal_from (d + 1) (n + 1) ls ≡ None → refusal_from d (n + 1) ls ≡ None → first_reason (map line_refusal (lines_at b d n l ls)) ≡ None
+accepted_at : (b : Bool) (d n : ℕ) (l : List ℕ) (ls : List (List ℕ)) → IsPart is_plain_byte 65536 l → d < MAX_DOCS → refusal_from (d + 1) (n + 1) ls ≡ None → refusal_from d (n + 1) ls ≡ None → first_reason (map line_refusal (lines_at b d n l ls)) ≡ None
 accepted_at true d n l ls h below one same = rw (accepted_line (doc_line (d, (n, l))) h below) one
 accepted_at false d n l ls h below one same = same
 
-accepted_lines : (d n : ℕ) (ls : List (List ℕ)) → AreParts is_plain_byte 65536 ls → d + length ls ≤ 2 ^ 20 → refusal_from d n ls ≡ None
+accepted_lines : (d n : ℕ) (ls : List (List ℕ)) → AreParts is_plain_byte 65536 ls → d + length ls ≤ MAX_DOCS → refusal_from d n ls ≡ None
 accepted_lines d n [] h few = refl
 accepted_lines d n (l ∷ ls) h few =
     accepted_at (is_filled l) d n l ls h.0 (omega (arith, few)) (accepted_lines (d + 1) (n + 1) ls h.1 (omega (arith, few))) (accepted_lines d (n + 1) ls h.1 (omega (arith, few)))
@@ -55,9 +58,16 @@ titles d n (l ∷ ls) h = titles_at (is_filled l) d n l ls h.0 (λ e. titles e (
 
 pub plain_accepted : (c : List ℕ) → is_plain c ≡ true → docs_refusal c ≡ None
 plain_accepted c h =
-    let short : nat_le (length c) 268435456 ≡ true = at_most (length c) 268435456 (omega (arith, plain_length c h)) in
+    let short : nat_le (length c) MAX_COLLECTION_BYTES ≡ true = le-leb (length c) MAX_COLLECTION_BYTES (omega (arith, plain_length c h)) in
     rw short (ap (λ b. refusal_from 0 1 (lines b)) (unmarked c (plain_parts c h)) ∙ accepted_lines 0 1 (lines c) (plain_lines c h) (omega (arith, length_of_lines c, plain_length c h)))
 
 pub plain_titles : (c : List ℕ) → is_plain c ≡ true → documents c ≡ map title_only (doc_lines c)
-plain_titles c h =
-    ap (λ b. documents_from 0 1 (lines b)) (unmarked c (plain_parts c h)) ∙ titles 0 1 (lines c) (plain_lines c h) ∙ ap (λ b. map title_only (doc_lines_from 0 1 (lines b))) (sym (unmarked c (plain_parts c h)))
+plain_titles c h = plain_documents c h ∙ titles 0 1 (lines c) (plain_lines c h) ∙ ap (λ b. map title_only (doc_lines_from 0 1 (lines b))) (sym (unmarked c (plain_parts c h)))
+
+title_rows_of : (d : ℕ) (docs : List Doc) → AllByRecursion IsTitleOnly docs → listed_rows d docs ≡ flat_map (λ p. title_rows p.0 p.1) (enumerate_from d docs)
+title_rows_of d [] h = refl
+title_rows_of d (doc ∷ docs) h =
+    ap (λ rows. rows ++ listed_rows (d + 1) docs) (listed_title d doc h.0.no_facets h.0.no_text) ∙ ap (λ rows. title_rows d doc ++ rows) (title_rows_of (d + 1) docs h.1)
+
+pub plain_rows : (c : List ℕ) → is_plain c ≡ true → rows_of (documents c) ≡ flat_map (λ p. title_rows p.0 p.1) (enumerate_from 0 (documents c))
+plain_rows c h = sym (rows_listed (documents c)) ∙ title_rows_of 0 (documents c) (titles_of_plain c h)

@@ -1,10 +1,11 @@
 -- Plain collections: each line is short printable ASCII without a tab, so a document is its title.
-use Rattle.std.proofs.Common.{◌≡◌, ℕ, zero, suc, ◌+◌, ◌<◌, ◌≤◌, ◌-◌, ◌*◌, Bool, true, false, true≢false, ◌&&◌, cond, List, [], ◌∷◌, length, take, drop, map, filter, nat_le, refl, sym, ap, subst, ◌∙◌, arith, length-take}
+use Rattle.std.proofs.Common.{◌≡◌, ℕ, zero, suc, ◌+◌, ◌<◌, ◌≤◌, ◌-◌, ◌*◌, Bool, true, false, cond, List, [], ◌∷◌, length, take, drop, map, filter, nat_le, refl, sym, ap, subst, ◌∙◌, arith, length-take}
 use Rattle.std.specs.Bool.{◌==◌}
 use Rattle.std.specs.Char.{to_ascii_lowercase}
-use Rattle.std.specs.List.{slice_split, onto_first, list_all, AllByRecursion, All, enumerate_from, position_or_len, before_first, after_first}
+use Rattle.std.specs.List.{slice_split, onto_first, list_all, AllByRecursion, enumerate_from, position_or_len, before_first, after_first}
 use Rattle.std.specs.Str.{IsAscii}
 use Rattle.std.specs.Str.Lines.{lines, lines_of_parts}
+use Rattle.std.proofs.lemmas.Bool.{and_parts, and_from}
 use Rattle.std.proofs.lemmas.Bool.Decides.{nat_tests}
 use Rattle.std.proofs.lemmas.List.{take_all, drop_all, length-map}
 use Rattle.std.proofs.lemmas.List.Elements.{All-from_recursion}
@@ -12,23 +13,12 @@ use Rattle.std.proofs.lemmas.List.Sums.{count_by-le-length}
 use Rattle.std.proofs.lemmas.List.Splits.{length-slice_split}
 use Rattle.std.proofs.lemmas.Str.Ascii.{IsAscii-from_all, IsAscii-nil}
 use Rattle.cs_base.specs.declared.doc.Doc.{Doc}
+use Rattle.cs_base.specs.declared.limits.TheConstants.{MAX_PLAIN_WORD_BYTES}
 use Rattle.cs_model.specs.Ascii.{is_ascii_gap, ascii_norm}
 use Rattle.cs_model.specs.Collection.{is_plain, is_plain_byte, without_mark, is_tab, document, documents, doc_line, DocLine}
 use Rattle.cs_model.specs.Words.{is_filled, words}
 use Rattle.cs_model.proofs.AsciiLemmas.{words-ascii}
 use Rattle.cs_docs.specs.Reading.{documents_from}
-
-and_first : (a b : Bool) → (a && b) ≡ true → a ≡ true
-and_first true b h = refl
-and_first false b h = absurd (true≢false (sym h))
-
-and_second : (a b : Bool) → (a && b) ≡ true → b ≡ true
-and_second true b h = h
-and_second false b h = absurd (true≢false (sym h))
-
-and_both : (a b : Bool) → a ≡ true → b ≡ true → (a && b) ≡ true
-and_both true b h k = k
-and_both false b h k = absurd (true≢false (sym h))
 
 -- ---- parts of a text: each byte passes what all of them pass, and none is longer than the whole
 
@@ -44,8 +34,8 @@ AreParts-more q n [] h = tt
 AreParts-more q n (l ∷ ls) h = (record { passes = h.0.passes; short = omega (arith, h.0.short) }, AreParts-more q n ls h.1)
 
 AreParts-onto : (q : ℕ → Bool) (n x : ℕ) (ls : List (List ℕ)) → q x ≡ true → AreParts q n ls → AreParts q (n + 1) (onto_first x ls)
-AreParts-onto q n x [] e h = (record { passes = and_both (q x) true e refl; short = omega arith }, tt)
-AreParts-onto q n x (l ∷ ls) e h = (record { passes = and_both (q x) (list_all q l) e h.0.passes; short = omega (arith, h.0.short) }, AreParts-more q n ls h.1)
+AreParts-onto q n x [] e h = (record { passes = and_from (q x) true e refl; short = omega arith }, tt)
+AreParts-onto q n x (l ∷ ls) e h = (record { passes = and_from (q x) (list_all q l) e h.0.passes; short = omega (arith, h.0.short) }, AreParts-more q n ls h.1)
 
 AreParts-split_at : (q : ℕ → Bool) (b : Bool) (x : ℕ) (xs : List ℕ) (ls : List (List ℕ)) → q x ≡ true → AreParts q (length xs) ls → AreParts q (length xs + 1) (cond b ([] ∷ ls) (onto_first x ls))
 AreParts-split_at q true x xs ls e h = (record { passes = refl; short = omega arith }, AreParts-more q (length xs) ls h)
@@ -55,7 +45,7 @@ AreParts-split : (p q : ℕ → Bool) (xs : List ℕ) → list_all q xs ≡ true
 AreParts-split p q [] h = (record { passes = refl; short = omega arith }, tt)
 AreParts-split p q (x ∷ xs) h =
     let all : AreParts q (length xs + 1) (slice_split p (x ∷ xs)) =
-    AreParts-split_at q (p x) x xs (slice_split p xs) (and_first (q x) (list_all q xs) h) (AreParts-split p q xs (and_second (q x) (list_all q xs) h)) in
+    AreParts-split_at q (p x) x xs (slice_split p xs) (and_parts (q x) (list_all q xs) h).0 (AreParts-split p q xs (and_parts (q x) (list_all q xs) h).1) in
     let same : length xs + 1 ≡ length (x ∷ xs) = omega arith in
     subst (λ n. AreParts q n (slice_split p (x ∷ xs))) same all
 
@@ -66,7 +56,7 @@ AreParts-within q m n (k ∷ ls) l h = (record { passes = h.0.passes; short = om
 IsPart-take : (q : ℕ → Bool) (n k : ℕ) (l : List ℕ) → list_all q l ≡ true → list_all q (take k l) ≡ true
 IsPart-take q n zero l h = refl
 IsPart-take q n (suc k) [] h = refl
-IsPart-take q n (suc k) (x ∷ l) h = and_both (q x) (list_all q (take k l)) (and_first (q x) (list_all q l) h) (IsPart-take q n k l (and_second (q x) (list_all q l) h))
+IsPart-take q n (suc k) (x ∷ l) h = and_from (q x) (list_all q (take k l)) (and_parts (q x) (list_all q l) h).0 (IsPart-take q n k l (and_parts (q x) (list_all q l) h).1)
 
 IsPart-stripped : (q : ℕ → Bool) (n : ℕ) (b : Bool) (l : List ℕ) → IsPart q n l → IsPart q n (cond b (take (length l - 1) l) l)
 IsPart-stripped q n true l h = record { passes = IsPart-take q n (length l - 1) l h.passes; short = omega (arith, length-take (length l - 1) l, h.short) }
@@ -97,21 +87,21 @@ IsAscii-plain l h = IsAscii-from_all l (All-from_recursion (λ b. b < 128) l (ea
   where
     each : (l : List ℕ) → list_all is_plain_byte l ≡ true → AllByRecursion (λ b. b < 128) l
     each [] h = tt
-    each (b ∷ l) h = (below_ascii b (and_first (is_plain_byte b) (list_all is_plain_byte l) h), each l (and_second (is_plain_byte b) (list_all is_plain_byte l) h))
+    each (b ∷ l) h = (below_ascii b (and_parts (is_plain_byte b) (list_all is_plain_byte l) h).0, each l (and_parts (is_plain_byte b) (list_all is_plain_byte l) h).1)
 
 pub unmarked : (c : List ℕ) → list_all is_plain_byte c ≡ true → without_mark c ≡ c
 unmarked [] h = refl
-unmarked (b ∷ c) h = rw (not_marked b (and_first (is_plain_byte b) (list_all is_plain_byte c) h)) refl
+unmarked (b ∷ c) h = rw (not_marked b (and_parts (is_plain_byte b) (list_all is_plain_byte c) h).0) refl
 
 tab_nowhere : (l : List ℕ) → list_all is_plain_byte l ≡ true → position_or_len is_tab l ≡ length l
 tab_nowhere [] h = refl
-tab_nowhere (b ∷ l) h = rw (no_tab b (and_first (is_plain_byte b) (list_all is_plain_byte l) h)) (omega (arith, tab_nowhere l (and_second (is_plain_byte b) (list_all is_plain_byte l) h)))
+tab_nowhere (b ∷ l) h = rw (no_tab b (and_parts (is_plain_byte b) (list_all is_plain_byte l) h).0) (omega (arith, tab_nowhere l (and_parts (is_plain_byte b) (list_all is_plain_byte l) h).1))
 
 pub plain_parts : (c : List ℕ) → is_plain c ≡ true → list_all is_plain_byte c ≡ true
-plain_parts c h = and_second (nat_le (length c) 65536) (list_all is_plain_byte c) h
+plain_parts c h = (and_parts (nat_le (length c) 65536) (list_all is_plain_byte c) h).1
 
 pub plain_length : (c : List ℕ) → is_plain c ≡ true → length c ≤ 65536
-plain_length c h = let few : nat_le (length c) 65536 ≡ true = and_first (nat_le (length c) 65536) (list_all is_plain_byte c) h in grind (arith, nat_tests)
+plain_length c h = let few : nat_le (length c) 65536 ≡ true = (and_parts (nat_le (length c) 65536) (list_all is_plain_byte c) h).0 in grind (arith, nat_tests)
 
 pub plain_lines : (c : List ℕ) → is_plain c ≡ true → AreParts is_plain_byte 65536 (lines c)
 plain_lines c h = AreParts-within is_plain_byte (length c) 65536 (lines c) (plain_length c h) (AreParts-lines_of is_plain_byte (length c) _ (AreParts-split (λ b. b == 10) is_plain_byte c (plain_parts c h)))
@@ -181,10 +171,6 @@ length_of_lines c = omega (arith, length_lines_of (slice_split (λ b. b == 10) c
 pub length_documents_of_lines : (c : List ℕ) → length (documents_from 0 1 (lines c)) ≤ length c + 1
 length_documents_of_lines c = omega (arith, length_documents 0 1 (lines c), length_of_lines c)
 
-pub length_plain : (c : List ℕ) → is_plain c ≡ true → length (documents_from 0 1 (lines c)) ≤ 65537
-length_plain c h =
-    omega (arith, length_documents 0 1 (lines c), length_lines_of (slice_split (λ b. b == 10) c), length-slice_split (λ b. b == 10) c, count_by-le-length (λ b. b == 10) c, plain_length c h)
-
 pub plain_documents : (c : List ℕ) → is_plain c ≡ true → documents c ≡ documents_from 0 1 (lines c)
 plain_documents c h = ap (λ b. documents_from 0 1 (lines b)) (unmarked c (plain_parts c h))
 
@@ -218,15 +204,12 @@ few_runs p (x ∷ xs) = let more = few_at (p x) x (slice_split p xs) (length xs)
 pub few_words : (s : List ℕ) → IsAscii s → 2 * length (words s) ≤ length s + 1
 few_words s h =
     let runs = few_runs is_ascii_gap (ascii_norm s) in
-    omega (arith, ap length (words-ascii s h), length-map (filter is_filled (slice_split is_ascii_gap (ascii_norm s))) (take 120), length-map s to_ascii_lowercase, runs.few)
+    omega (arith, ap length (words-ascii s h), length-map (filter is_filled (slice_split is_ascii_gap (ascii_norm s))) (take MAX_PLAIN_WORD_BYTES), length-map s to_ascii_lowercase, runs.few)
 
 -- ---- the documents of a plain collection
 
-pub titles_of_plain : (c : List ℕ) (docs : List Doc) → is_plain c ≡ true → docs ≡ documents c → All IsTitleOnly docs
-titles_of_plain c docs h e = subst (All IsTitleOnly) (sym (e ∙ plain_documents c h)) (All-from_recursion IsTitleOnly (documents_from 0 1 (lines c)) (titles_only 0 1 (lines c) (plain_lines c h)))
-
-pub length_of_plain : (c : List ℕ) (docs : List Doc) → is_plain c ≡ true → docs ≡ documents c → length docs ≤ 65537
-length_of_plain c docs h e = omega (arith, ap length (e ∙ plain_documents c h), length_plain c h)
+pub titles_of_plain : (c : List ℕ) → is_plain c ≡ true → AllByRecursion IsTitleOnly (documents c)
+titles_of_plain c h = subst (AllByRecursion IsTitleOnly) (sym (plain_documents c h)) (titles_only 0 1 (lines c) (plain_lines c h))
 
 pub no_words : words [] ≡ []
 no_words = words-ascii [] IsAscii-nil

@@ -5,78 +5,63 @@
 --   named_text             the word of a facet whose name and value are
 use Rattle.std.proofs.Common.{arith, ◌≡◌, ℕ, ◌+◌, Bool, true, false, ◌||◌, List, [], ◌∷◌, ◌++◌, map, refl, sym, subst, ◌∙◌, ap}
 use Rattle.std.specs.List.{All, AllByRecursion, list_any, enumerate_from}
-use Rattle.std.specs.Ordering.{eq_by_cmp, nat_cmp, ordering_reverse, is_eq}
+use Rattle.std.specs.Ordering.{eq_by_cmp, nat_cmp, is_eq}
 use Rattle.std.specs.declared.cmp.Ordering.{Ordering}
-use Rattle.std.specs.declared.cmp.Ordering.TheVariants.{Less, Equal, Greater}
-use Rattle.std.specs.Cmp.{IsTotalOrder}
+use Rattle.std.specs.Cmp.{IsTotalOrder, Equal-is}
 use Rattle.std.specs.Cmp.Lexicographic.{slice_cmp}
 use Rattle.std.specs.FinMap.{IsAntisymmetric}
 use Rattle.std.specs.Str.{IsUtf8}
 use Rattle.std.proofs.lemmas.List.Elements.{All-from_recursion, recursion_from_All, All-append}
 use Rattle.std.proofs.lemmas.Str.{IsUtf8-append, IsUtf8-encode, encode_ascii}
-use Rattle.std.proofs.lemmas.Cmp.{nat_list_cmp_total}
+use Rattle.std.proofs.lemmas.Bool.{or_left, or_right}
+use Rattle.std.proofs.lemmas.Cmp.{nat_list_cmp_total, tied_itself}
 use Rattle.std.proofs.lemmas.Map.Lookups.{exact_bytes}
 use Rattle.cs_base.specs.Members.{members_in}
 use Rattle.cs_base.specs.declared.doc.Doc.{Doc}
+use Rattle.cs_base.specs.declared.scores.TheConstants.{TITLE_SCORE, FACET_SCORE, TEXT_SCORE}
 use Rattle.cs_base.proofs.MembersLemmas.{is_member-listed}
 use Rattle.cs_model.specs.Collection.{facet_words, named}
 use Rattle.cs_model.specs.Corpus.{placed, title_rows, text_rows}
 use Rattle.cs_model.specs.Words.{words}
 use Rattle.cs_docs.specs.Listing.{listed_facets, listed_doc, HasText}
 
-ties_itself : (o : Ordering) → o ≡ ordering_reverse o → o ≡ Equal
-ties_itself Less h = absurd (cc)
-ties_itself Equal h = refl
-ties_itself Greater h = absurd (cc)
-
-equal_from : (o : Ordering) → is_eq o ≡ true → o ≡ Equal
-equal_from Less h = absurd (cc)
-equal_from Equal h = refl
-equal_from Greater h = absurd (cc)
-
-or_first : (a b : Bool) → a ≡ true → a || b ≡ true
-or_first a b h = ap (λ t. t || b) h
-
-or_second : (a b : Bool) → b ≡ true → a || b ≡ true
-or_second true b h = refl
-or_second false b h = h
+-- in a total order each thing ties with itself
+pub ties : {X : Type 0} (R : X → X → Ordering) → IsTotalOrder R → (x : X) → eq_by_cmp R x x ≡ true
+ties R o x = ap is_eq (tied_itself o x)
 
 module _ {X : Type 0} (R : X → X → Ordering) (o : IsTotalOrder R) (exact : IsAntisymmetric R) (P : X → Type 0) where
   here_or_there : (q x : X) (xs : List X) → P x → (list_any (eq_by_cmp R q) xs ≡ true → P q) → (b : Bool) → eq_by_cmp R q x ≡ b → b || list_any (eq_by_cmp R q) xs ≡ true → P q
-  here_or_there q x xs p there true e h = subst P (sym (exact q x (equal_from (R q x) e))) p
+  here_or_there q x xs p there true e h = subst P (sym (exact q x ((Equal-is (R q x)).0 e))) p
   here_or_there q x xs p there false e h = there h
 
   has : (xs : List X) → AllByRecursion P xs → (q : X) → list_any (eq_by_cmp R q) xs ≡ true → P q
   has [] h q e = absurd (cc)
   has (x ∷ xs) h q e = here_or_there q x xs h.0 (has xs h.1 q) (eq_by_cmp R q x) refl e
 
-  ties : (x : X) → eq_by_cmp R x x ≡ true
-  ties x = ap is_eq (ties_itself (R x x) (o.antisymm x x))
-
   each : (xs : List X) → ((q : X) → list_any (eq_by_cmp R q) xs ≡ true → P q) → AllByRecursion P xs
   each [] h = tt
-  each (x ∷ xs) h = (h x (or_first _ _ (ties x)), each xs (λ q e. h q (or_second (eq_by_cmp R q x) _ e)))
+  each (x ∷ xs) h = (h x (or_left _ _ (ties R o x)), each xs (λ q e. h q (or_right (eq_by_cmp R q x) _ e)))
 
-  pub All-members : (xs : List X) → All P xs → All P (members_in R xs)
+  All-members : (xs : List X) → All P xs → All P (members_in R xs)
   All-members xs h = All-from_recursion P (members_in R xs) (each (members_in R xs) (λ q e. has xs (recursion_from_All P xs h) q (sym (is_member-listed R o xs q) ∙ e)))
 
 placed_text : (d score : ℕ) (n : ℕ) (ws : List (List ℕ)) → AllByRecursion IsUtf8 ws → AllByRecursion HasText (map (placed d score) (enumerate_from n ws))
 placed_text d score n [] h = tt
 placed_text d score n (w ∷ ws) h = (h.0, placed_text d score (n + 1) ws h.1)
 
-facets_text : (d : ℕ) (ws : List (List ℕ)) → AllByRecursion IsUtf8 ws → AllByRecursion HasText (map (λ w. placed d 2 (0, w)) ws)
+facets_text : (d : ℕ) (ws : List (List ℕ)) → AllByRecursion IsUtf8 ws → AllByRecursion HasText (map (λ w. placed d FACET_SCORE (0, w)) ws)
 facets_text d [] h = tt
 facets_text d (w ∷ ws) h = (h.0, facets_text d ws h.1)
 
 pub text_of_doc : (d : ℕ) (doc : Doc) → All IsUtf8 (facet_words doc.facets) → All IsUtf8 (words doc.title) → All IsUtf8 (words doc.text) → All HasText (listed_doc (d, doc))
 text_of_doc d doc facets title text =
     let listed = All-members (slice_cmp nat_cmp) nat_list_cmp_total exact_bytes IsUtf8 (facet_words doc.facets) facets in
-    let facet_rows = map (λ w. placed d 2 (0, w)) (listed_facets doc.facets) in
+    let facet_rows = map (λ w. placed d FACET_SCORE (0, w)) (listed_facets doc.facets) in
     All-append HasText (facet_rows ++ title_rows d doc) (text_rows d doc)
     (All-append HasText facet_rows (title_rows d doc)
     (All-from_recursion HasText facet_rows (facets_text d (listed_facets doc.facets) (recursion_from_All IsUtf8 (listed_facets doc.facets) listed)))
-    (All-from_recursion HasText (title_rows d doc) (placed_text d 4 1 (words doc.title) (recursion_from_All IsUtf8 (words doc.title) title))))
-    (All-from_recursion HasText (text_rows d doc) (placed_text d 1 _ (words doc.text) (recursion_from_All IsUtf8 (words doc.text) text)))
+    (All-from_recursion HasText (title_rows d doc) (placed_text d TITLE_SCORE 1 (words doc.title) (recursion_from_All IsUtf8 (words doc.title) title))))
+    (All-from_recursion HasText (text_rows d doc) (placed_text d TEXT_SCORE _ (words doc.text) (recursion_from_All IsUtf8 (words doc.text) text)))
 
 pub named_text : (name value : List ℕ) → IsUtf8 name → IsUtf8 value → IsUtf8 (named name value)
 named_text name value n v =

@@ -2,7 +2,7 @@
 --
 --   listed_facets column     the facet words of a column, each once, by bytes
 --   listed_doc p             the rows of a document of number p.0, in their order
---   HasText r               the row's word is UTF-8
+--   HasText r                the row's word is UTF-8
 --   listed_rows d docs       the rows of documents that are numbered from d, in their order
 use Rattle.std.specs.Prelude.{ℕ, ◌++◌, List, map}
 use Rattle.std.specs.List.{flat_map, enumerate_from}
@@ -12,6 +12,7 @@ use Rattle.std.specs.Cmp.Lexicographic.{slice_cmp}
 use Rattle.cs_base.specs.Members.{members_in}
 use Rattle.cs_base.specs.declared.doc.Doc.{Doc}
 use Rattle.cs_base.specs.declared.doc.Row.{Row}
+use Rattle.cs_base.specs.declared.scores.TheConstants.{FACET_SCORE}
 use Rattle.cs_model.specs.Collection.{facet_words}
 use Rattle.cs_model.specs.Corpus.{placed, title_rows, text_rows}
 
@@ -21,7 +22,7 @@ listed_facets column = members_in (slice_cmp nat_cmp) (facet_words column)
 
 -- facet words first, at position 0
 abbrev pub listed_doc : ℕ × Doc → List Row
-listed_doc p = map (λ w. placed p.0 2 (0, w)) (listed_facets p.1.facets) ++ title_rows p.0 p.1 ++ text_rows p.0 p.1
+listed_doc p = map (λ w. placed p.0 FACET_SCORE (0, w)) (listed_facets p.1.facets) ++ title_rows p.0 p.1 ++ text_rows p.0 p.1
 
 abbrev pub listed_rows : ℕ → List Doc → List Row
 listed_rows d docs = flat_map listed_doc (enumerate_from d docs)

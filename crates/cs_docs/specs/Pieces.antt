@@ -7,6 +7,7 @@
 use Rattle.std.specs.Prelude.{◌≡◌, ℕ, ◌+◌, ◌≤◌, Bool, true, ◌==◌, List, [], ◌∷◌, ◌++◌, length, filter}
 use Rattle.std.specs.List.{AllByRecursion, list_any}
 use Rattle.cs_base.specs.declared.doc.Doc.{Doc}
+use Rattle.cs_base.specs.declared.limits.TheConstants.{MAX_DOC_WORDS}
 use Rattle.cs_model.specs.Collection.{is_equals, has_name_form, piece_name, facet_pieces}
 use Rattle.cs_model.specs.Words.{is_filled, words}
 
@@ -27,4 +28,4 @@ AreNamed ps = AllByRecursion IsNamed ps
 -- a document whose line isn't refused, as far as its rows ask
 pub record IsAccepted (doc : Doc) : Type 0 where
   pub pieces : AreNamed (facet_pieces doc.facets)
-  pub few : length (words doc.title) + length (words doc.text) ≤ 100000
+  pub few : length (words doc.title) + length (words doc.text) ≤ MAX_DOC_WORDS

@@ -1,5 +1,5 @@
 //! One line as a document, or why it is refused.
-ghost use Rattle.std.specs.Prelude.{◌≡◌, None, IfOk, OnOk, IfErr, [], ◌∷◌, ◌++◌, length, ◌+◌, ◌*◌, ◌≤◌, ◌^◌, nat_le, true};
+ghost use Rattle.std.specs.Prelude.{◌≡◌, None, IfOk, OnOk, IfErr, [], ◌∷◌, ◌++◌, length, ◌+◌, ◌*◌, ◌≤◌, nat_le, true};
 ghost use Rattle.std.specs.List.{before_first, after_first};
 ghost use Rattle.std.specs.Str.{is_utf8};
 ghost use Rattle.cs_model.specs.Collection.{is_tab, not_utf8, line_too_long, words_too_many, line_refusal};
@@ -72,8 +72,8 @@ fn copy_columns(
 // The line as text, if it is one and not too long.
 fn text_of(line: &[u8], number: u32) -> Result<&str, DocFault>
     ensures ok { IfOk result (λ s. s.now ≡ line.now) }
-    ensures accepted { OnOk result ((is_utf8 line.now ≡ true) × (nat_le (length line.now) (2 ^ 20) ≡ true)) }
-    ensures err { IfErr result (λ e. IsCauseOf (first_reason (unless (is_utf8 line.now) (not_utf8 number) ∷ unless (nat_le (length line.now) (2 ^ 20)) (line_too_long number) ∷ [])) e) }
+    ensures accepted { OnOk result ((is_utf8 line.now ≡ true) × (nat_le (length line.now) MAX_LINE_BYTES ≡ true)) }
+    ensures err { IfErr result (λ e. IsCauseOf (first_reason (unless (is_utf8 line.now) (not_utf8 number) ∷ unless (nat_le (length line.now) MAX_LINE_BYTES) (line_too_long number) ∷ [])) e) }
 {
     let Ok(text) = str::from_utf8(line) else {
         return Err(DocFault::NotUtf8 { line: number });
@@ -86,8 +86,8 @@ fn text_of(line: &[u8], number: u32) -> Result<&str, DocFault>
 
 // Refuses more than the most words of a document.
 fn check_words(alloc: Global, title: &str, text: &str, number: u32) -> Result<(), DocFault>
-    ensures ok { OnOk result (nat_le (length (words title.now) + length (words text.now)) 100000 ≡ true) }
-    ensures err { IfErr result (λ e. IsCauseOf (unless (nat_le (length (words title.now) + length (words text.now)) 100000) (words_too_many number)) e) }
+    ensures ok { OnOk result (nat_le (length (words title.now) + length (words text.now)) MAX_DOC_WORDS ≡ true) }
+    ensures err { IfErr result (λ e. IsCauseOf (unless (nat_le (length (words title.now) + length (words text.now)) MAX_DOC_WORDS) (words_too_many number)) e) }
 {
     if has_few_words(title) && has_few_words(text) {
         return Ok(());
@@ -102,7 +102,7 @@ fn check_words(alloc: Global, title: &str, text: &str, number: u32) -> Result<()
 
 // Whether a column is ASCII text that is too short for half of the most words of a document.
 fn has_few_words(column: &str) -> bool
-    ensures { result ≡ true → 2 * length (words column.now) ≤ 100000 }
+    ensures { result ≡ true → 2 * length (words column.now) ≤ MAX_DOC_WORDS }
 {
     column.len() < MAX_DOC_WORDS && column.is_ascii()
 }

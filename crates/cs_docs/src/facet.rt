@@ -7,7 +7,7 @@ ghost use Rattle.cs_model.specs.Words.{is_filled};
 ghost use Rattle.cs_docs.specs.Pieces.{AreNamed};
 
 use crate::pieces::{cut_at_equals, cut_piece};
-use cs_base::{Memory, Word};
+use cs_base::{MAX_NAME_BYTES, MAX_PLAIN_WORD_BYTES, Memory, Word};
 use cs_text::{norm, slug};
 use std::alloc::Global;
 
@@ -49,8 +49,8 @@ fn push_facet(alloc: Global, found: &mut Vec<Word>, piece: &str) -> Result<(), M
 
 // The word `:name:slug`.
 fn word_of(alloc: Global, name: &str, slug: &str) -> Result<Word, Memory>
-    requires name { length name.now ≤ 16 }
-    requires slug { length slug.now ≤ 120 }
+    requires name { length name.now ≤ MAX_NAME_BYTES }
+    requires slug { length slug.now ≤ MAX_PLAIN_WORD_BYTES }
 
     ensures ok { IfOk result (λ w. w ≡ named name.now slug.now) }
 {

@@ -13,7 +13,7 @@ mod reader;
 mod row_list;
 
 pub use fault::{DocFault, RowsFault};
-pub use reader::{read_docs, without_return};
+pub use reader::{BYTE_ORDER_MARK, read_docs, without_return};
 pub use row_list::rows_of;
 
 #[cfg(test)]

@@ -1,17 +1,17 @@
 //! A collection, read line by line.
-ghost use Rattle.std.specs.Prelude.{◌≡◌, ℕ, Some, None, IfOk, IfErr, OnOk, IsErrOf, ◌<◌, ◌≤◌, ◌^◌, ◌∷◌, length};
+ghost use Rattle.std.specs.Prelude.{◌≡◌, ℕ, Some, None, IfOk, IfErr, OnOk, IsErrOf, ◌<◌, ◌≤◌, ◌∷◌, length};
 ghost use Rattle.std.specs.Str.Lines.{lines, strip_carriage_return};
 ghost use Rattle.cs_model.specs.Collection.{documents, docs_refusal, without_mark, too_large, not_utf8, line_too_long, words_too_many, bad_facet, bad_name, too_many_docs};
 ghost use Rattle.cs_docs.specs.Refusals.{IsCauseOf};
 
 use crate::document::push_document;
 use crate::fault::DocFault;
-use cs_base::{Doc, MAX_COLLECTION_BYTES, Seq};
+use cs_base::{Doc, MAX_COLLECTION_BYTES, MAX_DOCS, Seq};
 use memchr::memchr;
 use std::alloc::Global;
 
-/// The mark of UTF-8, which may stand in front of a collection.
-const MARK: &[u8] = b"\xEF\xBB\xBF";
+/// The byte order mark of UTF-8, which may stand in front of a text.
+pub const BYTE_ORDER_MARK: &[u8] = b"\xEF\xBB\xBF";
 
 /// The documents of a collection, in the order of their lines.
 ///
@@ -25,7 +25,7 @@ const MARK: &[u8] = b"\xEF\xBB\xBF";
 pub fn read_docs(alloc: Global, bytes: &[u8]) -> Result<Seq<Doc>, DocFault>
     ensures ok { IfOk result (λ docs. docs ≡ documents bytes.now) }
     ensures accepted { OnOk result (docs_refusal bytes.now ≡ None) }
-    ensures few { OnOk result (length (documents bytes.now) ≤ 2 ^ 20) }
+    ensures few { OnOk result (length (documents bytes.now) ≤ MAX_DOCS) }
 
     // Each fault but want of memory is the first refusal.
     ensures too_large { IsErrOf result DocFault.TooLarge → docs_refusal bytes.now ≡ Some too_large }
@@ -65,7 +65,7 @@ fn read_lines(alloc: Global, bytes: &[u8]) -> Result<Seq<Doc>, DocFault>
 fn without_mark(bytes: &[u8]) -> &[u8]
     ensures { result.now ≡ without_mark bytes.now }
 {
-    bytes.strip_prefix(MARK).unwrap_or(bytes)
+    bytes.strip_prefix(BYTE_ORDER_MARK).unwrap_or(bytes)
 }
 
 // The first line of a text that has bytes, without its ending, and what stands behind that. LF ends

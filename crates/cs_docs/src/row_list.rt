@@ -10,28 +10,26 @@ ghost use Rattle.cs_docs.specs.Pieces.{AreNamed, IsAccepted};
 
 use crate::facet::facet_words;
 use crate::fault::RowsFault;
-use cs_base::{Doc, MAX_ROWS, Memory, Row, Seq};
+use cs_base::{
+    BEHIND_TITLE, Doc, FACET_SCORE, MAX_ROWS, Memory, Row, Seq, TEXT_SCORE, TITLE_SCORE,
+};
 use cs_text::words;
 use std::alloc::Global;
 
-/// How far behind the last title word the first text word lies, less one: no phrase and no nearness
-/// reaches from one to the other.
-const BETWEEN: u32 = 8;
-
 /// The rows of documents that `read_docs` gave, by document, position and word.
 ///
-/// A title word has its place in the title as position, from 1, and the score 4. Text words go on 9
-/// positions behind the last title word, with the score 1. A facet word has the position 0 and the
-/// score 2, and counts once in a document.
+/// A title word has its place in the title as position, from 1, and `TITLE_SCORE`. Text words go on
+/// `BEHIND_TITLE` positions behind the last title word, with `TEXT_SCORE`. A facet word has the
+/// position 0 and `FACET_SCORE`, and counts once in a document.
 ///
 /// `TooManyRows` comes where there are more than `MAX_ROWS` of them.
 pub fn rows_of(alloc: Global, docs: &Seq<Doc>) -> Result<Seq<Row>, RowsFault>
     requires read { (c : List ℕ) × (docs_refusal c ≡ None) × (docs.now ≡ documents c) }
 
     ensures ok { IfOk result (λ rows. rows ≡ rows_of docs.now) }
-    ensures few { OnOk result (length (rows_of docs.now) ≤ 2 ^ 24) }
+    ensures few { OnOk result (length (rows_of docs.now) ≤ MAX_ROWS) }
     ensures utf8 { IfOk result (λ rows. All (λ r. IsUtf8 r.word) rows) }
-    ensures too_many { IsErrOf result RowsFault.TooManyRows → 2 ^ 24 < length (rows_of docs.now) }
+    ensures too_many { IsErrOf result RowsFault.TooManyRows → MAX_ROWS < length (rows_of docs.now) }
 {
     let mut rows = Seq::new(alloc);
     for (number, doc) in docs.as_slice().iter().enumerate() {
@@ -51,8 +49,15 @@ fn push_doc(alloc: Global, rows: &mut Seq<Row>, number: u32, doc: &Doc) -> Resul
     ensures utf8 { OnOk result (All HasText (listed_doc (number, doc.now))) }
 {
     push_facets(alloc, rows, number, doc.facets.as_str())?;
-    let end = push_words(alloc, rows, number, doc.title.as_str(), 1, 4)?;
-    push_words(alloc, rows, number, doc.text.as_str(), end + BETWEEN, 1)?;
+    let end = push_words(alloc, rows, number, doc.title.as_str(), 1, TITLE_SCORE)?;
+    push_words(
+        alloc,
+        rows,
+        number,
+        doc.text.as_str(),
+        end - 1 + BEHIND_TITLE,
+        TEXT_SCORE,
+    )?;
     Ok(())
 }
 
@@ -60,7 +65,7 @@ fn push_doc(alloc: Global, rows: &mut Seq<Row>, number: u32, doc: &Doc) -> Resul
 fn push_facets(alloc: Global, rows: &mut Seq<Row>, doc: u32, column: &str) -> Result<(), Memory>
     requires { AreNamed (facet_pieces column.now) }
 
-    ensures ok { OnOk result (rows.new ≡ rows.old ++ map (λ w. placed doc 2 (0, w)) (listed_facets column.now)) }
+    ensures ok { OnOk result (rows.new ≡ rows.old ++ map (λ w. placed doc FACET_SCORE (0, w)) (listed_facets column.now)) }
     ensures utf8 { OnOk result (All IsUtf8 (facet_words column.now)) }
 {
     let mut found = facet_words(alloc, column)?;
@@ -71,7 +76,7 @@ fn push_facets(alloc: Global, rows: &mut Seq<Row>, doc: u32, column: &str) -> Re
             doc,
             word,
             pos: 0,
-            score: 2,
+            score: FACET_SCORE,
         })?;
     }
     Ok(())

@@ -77,7 +77,7 @@ fn collections_have_these_rows(rt: HostRuntime) -> Result<(), Fail> {
 
 // A collection, and its refusal.
 #[test]
-fn collections_are_refused_so(rt: HostRuntime) {
+fn collections_are_refused_by_their_first_broken_rule(rt: HostRuntime) {
     let rows: [(&[u8], DocFault); 12] = [
         (b"a\n\xFF", DocFault::NotUtf8 { line: 2 }),
         (b"\xEF\xBB", DocFault::NotUtf8 { line: 1 }),

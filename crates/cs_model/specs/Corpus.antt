@@ -17,16 +17,19 @@
 --   refusal c                      the first refusal of a collection, rows and distinct words counted; None where it is
 --                                  accepted
 --   corpus c                       the corpus of an accepted collection; it counts only where refusal c is None
+--   IsCorpus k                     document, position and word name a row and give its place, and its document has a title;
+--                                  the law `corpora` of cs_docs says that the corpus of each collection is one
 --
 -- A title word has its place in the title as position, from 1, and the score 4. Text words go on 9 positions behind the last
 -- title word, with the score 1, which is too far for a link between the two. A facet word has the position 0 and the score 2.
-use Rattle.std.specs.Prelude.{ℕ, ◌+◌, nat_le, List, [], ◌∷◌, ◌++◌, map, length, Option}
-use Rattle.std.specs.List.{flat_map, enumerate_from}
+use Rattle.std.specs.Prelude.{◌≡◌, ℕ, ◌+◌, true, nat_le, List, [], ◌∷◌, ◌++◌, map, length, Option}
+use Rattle.std.specs.List.{All, flat_map, enumerate_from}
+use Rattle.std.specs.List.Sorted.{IsStrictlySortedBy}
 use Rattle.std.specs.Ordering.{nat_cmp}
 use Rattle.std.specs.Cmp.Lexicographic.{slice_cmp}
 use Rattle.std.specs.FinMap as map
 use Rattle.cs_base.specs.Members.{members_in}
-use Rattle.cs_base.specs.Orders.{by_row}
+use Rattle.cs_base.specs.Orders.{by_row, by_spot}
 use Rattle.cs_base.specs.declared.doc.Doc.{Doc}
 use Rattle.cs_base.specs.declared.doc.Row.{Row}
 use Rattle.cs_base.specs.declared.limits.TheConstants.{MAX_ROWS, MAX_WORDS}
@@ -93,3 +96,9 @@ refusal c = first_reason (docs_refusal c ∷ rows_refusal (rows_of (documents c)
 -- row
 abbrev pub corpus : List ℕ → Corpus
 corpus c = corpus_of (documents c)
+
+-- what every corpus is: each row comes before the next one by document, position and word, and the document of each has a
+-- title; the corpus with no title and no row is one too
+pub record IsCorpus (k : Corpus) : Type 0 where
+  pub named : IsStrictlySortedBy by_spot k.rows
+  pub of_docs : All (λ r. map.contains_key k.titles r.doc ≡ true) k.rows

@@ -3,12 +3,12 @@ use Rattle.std.proofs.Common.{◌≡◌, ℕ, ◌+◌, ◌-◌, ◌<◌, ◌≤�
 use Rattle.std.specs.Char.{encode_utf8, len_utf8}
 use Rattle.std.specs.Str.{chars, IsUtf8, IsCharBoundary, all_scalars}
 use Rattle.std.proofs.Math.Seq.{take-nil, take-append-add}
-use Rattle.std.proofs.lemmas.Bool.{cases_lt}
+use Rattle.std.proofs.lemmas.Bool.{cases_lt, and_parts}
 use Rattle.std.proofs.lemmas.Bool.Decides.{nat_tests}
 use Rattle.std.proofs.lemmas.List.{get_or-append-add, length-take-le}
 use Rattle.std.proofs.lemmas.Str.{encode_same, encodes-chars, length-encode, len_utf8_bounds, scalars-chars, IsUtf8-take, IsCharBoundary-at_seam}
+use Rattle.cs_base.specs.declared.limits.TheConstants.{MAX_PLAIN_WORD_BYTES}
 use Rattle.cs_model.specs.Words.{fitting, cut, is_filled}
-use Rattle.cs_text.proofs.SplitLemmas.{second_from}
 
 -- ---- a place behind a prefix
 
@@ -71,25 +71,25 @@ past_at room c cs k is scalars h =
 turn : (b : Bool) (room c : ℕ) (cs : List ℕ) (k : ℕ) → nat_le (len_utf8 c) room ≡ b → all_scalars (c ∷ cs) ≡ true → IsLastCut room (c ∷ cs) k
     → ((j : ℕ) → IsLastCut (room - len_utf8 c) cs j → take j (encode_utf8_all cs) ≡ encode_utf8_all (fitting (room - len_utf8 c) cs))
     → take k (encode_utf8_all (c ∷ cs)) ≡ encode_utf8_all (fitting room (c ∷ cs))
-turn true room c cs k is scalars h more = fits_at room c cs k is (second_from _ (all_scalars cs) scalars) h more
+turn true room c cs k is scalars h more = fits_at room c cs k is (and_parts _ (all_scalars cs) scalars).1 h more
 turn false room c cs k is scalars h more = past_at room c cs k is scalars h
 
 fitting-last_cut : (room : ℕ) (cs : List ℕ) (k : ℕ) → all_scalars cs ≡ true → IsLastCut room cs k → take k (encode_utf8_all cs) ≡ encode_utf8_all (fitting room cs)
 fitting-last_cut room [] k scalars h = take-nil k
 fitting-last_cut room (c ∷ cs) k scalars h =
-    turn (nat_le (len_utf8 c) room) room c cs k refl scalars h (λ j m. fitting-last_cut (room - len_utf8 c) cs j (second_from _ (all_scalars cs) scalars) m)
+    turn (nat_le (len_utf8 c) room) room c cs k refl scalars h (λ j m. fitting-last_cut (room - len_utf8 c) cs j (and_parts _ (all_scalars cs) scalars).1 m)
 
--- a text up to its last place at most 120 bytes in
-pub cut-last_place : (bs : List ℕ) (k : ℕ) → IsUtf8 bs → k ≤ 120 → IsCharBoundary bs k → ((i : ℕ) → k < i → i ≤ 120 → IsCharBoundary bs i → ⊥) → take k bs ≡ cut (chars bs)
+-- a text up to its last place at most MAX_PLAIN_WORD_BYTES bytes in
+pub cut-last_place : (bs : List ℕ) (k : ℕ) → IsUtf8 bs → k ≤ MAX_PLAIN_WORD_BYTES → IsCharBoundary bs k → ((i : ℕ) → k < i → i ≤ MAX_PLAIN_WORD_BYTES → IsCharBoundary bs i → ⊥) → take k bs ≡ cut (chars bs)
 unfolding cut
 cut-last_place bs k u w p l =
     let same : encode_utf8_all (chars bs) ≡ bs = encodes-chars bs u in
-    let h : IsLastCut 120 (chars bs) k = record {
+    let h : IsLastCut MAX_PLAIN_WORD_BYTES (chars bs) k = record {
       within = w;
       place = subst (λ v. IsCharBoundary v k) (sym same) p;
       last = λ i a b d. l i a b (subst (λ v. IsCharBoundary v i) same d);
     } in
-    ap (take k) (sym same) ∙ fitting-last_cut 120 (chars bs) k (scalars-chars bs u) h
+    ap (take k) (sym same) ∙ fitting-last_cut MAX_PLAIN_WORD_BYTES (chars bs) k (scalars-chars bs u) h
 
 -- ---- a run has a word
 

@@ -8,6 +8,7 @@ use Rattle.std.proofs.lemmas.Bool.Decides.{nat_tests}
 use Rattle.std.proofs.lemmas.List.{map-append, take_all}
 use Rattle.std.proofs.lemmas.List.Elements.{filter-append}
 use Rattle.std.proofs.lemmas.Str.{chars-nil}
+use Rattle.cs_base.specs.declared.limits.TheConstants.{MAX_PLAIN_WORD_BYTES}
 use Rattle.cs_model.specs.Words.{is_filled, cut}
 use Rattle.cs_text.specs.Pieces.{words_in, ascii_words_in}
 use Rattle.cs_text.proofs.CutLemmas.{cut-some}
@@ -30,7 +31,7 @@ words_in-empty bs h = ap (λ cs. words_in (cs ∷ [])) (ap chars (nil_from_test 
 pub words_in-some : (cs : List ℕ) → is_filled cs ≡ true → words_in (cs ∷ []) ≡ cut cs ∷ []
 words_in-some cs h = rw h
 
-pub ascii_words_in-some : (bs : List ℕ) → (length bs == 0) ≡ false → ascii_words_in (bs ∷ []) ≡ take 120 bs ∷ []
+pub ascii_words_in-some : (bs : List ℕ) → (length bs == 0) ≡ false → ascii_words_in (bs ∷ []) ≡ take MAX_PLAIN_WORD_BYTES bs ∷ []
 ascii_words_in-some bs h = let some : nat_lt 0 (length bs) ≡ true = grind (arith, nat_tests) in rw some
 
 pub take-min : (n : ℕ) (bs : List ℕ) → take (min (length bs) n) bs ≡ take n bs

@@ -1,5 +1,5 @@
 -- The pieces of a text that is cut at each character that passes a test, as lists of characters.
-use Rattle.std.proofs.Common.{◌≡◌, ℕ, ◌<◌, Bool, true, false, true≢false, cond, ◌&&◌, List, [], ◌∷◌, ◌++◌, length, take, drop, refl, sym, ap, subst, ◌∙◌, arith, encode_utf8_all, append_assoc, take-append-drop}
+use Rattle.std.proofs.Common.{◌≡◌, ℕ, ◌<◌, Bool, true, false, true≢false, cond, List, [], ◌∷◌, ◌++◌, length, take, drop, refl, sym, ap, subst, ◌∙◌, arith, encode_utf8_all, append_assoc, take-append-drop}
 use Rattle.std.specs.Char.{encode_utf8}
 use Rattle.std.specs.Option.{MatchOption}
 use Rattle.std.specs.Prelude.{Option, Some, None}
@@ -11,6 +11,7 @@ use Rattle.std.specs.Fn.{AlwaysReturns, Called}
 use denote.Param.Members.{Mut}
 use Rattle.std.proofs.lemmas.Fn.{always_returns_same}
 use Rattle.std.specs.List.{slice_split, All}
+use Rattle.std.proofs.lemmas.Bool.{and_parts, and_from}
 use Rattle.std.proofs.lemmas.Str.{chars-encodes, chars_from_encodes, cons_from_encodes, len_utf8_bounds}
 use Rattle.std.proofs.lemmas.Iterator.{YieldsList}
 use Rattle.std.proofs.lemmas.Iterator.Splits.{YieldsList-from_shown_while}
@@ -30,21 +31,13 @@ ends_with (x ∷ cs) ds c rest e =
     let n = ends_with cs m.0 c rest m.2 in
     record { left = n.left; is = m.1 ∙ ap (λ es. x ∷ es) n.is; spelled = n.spelled }
 
-both_from : (a b d : Bool) → (a && b) ≡ true → (b ≡ true → d ≡ true) → (a && d) ≡ true
-both_from true b d h k = k h
-both_from false b d h k = h
-
-pub second_from : (a b : Bool) → (a && b) ≡ true → b ≡ true
-second_from true b h = h
-second_from false b h = (cc)
-
 scalars_front : (xs ys : List ℕ) → all_scalars (xs ++ ys) ≡ true → all_scalars xs ≡ true
 scalars_front [] ys h = refl
-scalars_front (x ∷ xs) ys h = both_from _ (all_scalars (xs ++ ys)) (all_scalars xs) h (scalars_front xs ys)
+scalars_front (x ∷ xs) ys h = let both = and_parts _ (all_scalars (xs ++ ys)) h in and_from _ (all_scalars xs) both.0 (scalars_front xs ys both.1)
 
 pub scalars_back : (xs ys : List ℕ) → all_scalars (xs ++ ys) ≡ true → all_scalars ys ≡ true
 scalars_back [] ys h = h
-scalars_back (x ∷ xs) ys h = scalars_back xs ys (second_from _ (all_scalars (xs ++ ys)) h)
+scalars_back (x ∷ xs) ys h = scalars_back xs ys (and_parts _ (all_scalars (xs ++ ys)) h).1
 
 All-from_NonePass : (p : ℕ → Bool) (cs : List ℕ) → NonePass p cs → All (λ c. p c ≡ false) cs
 All-from_NonePass p [] h = All-nil (λ c. p c ≡ false)
@@ -76,7 +69,7 @@ first_piece p w x live rest (Some q) u f m =
     u.1.1 ∙ sym (take-append-drop q.0 w) ∙ ap (λ v. v ++ drop q.0 w) (sym front) ∙ ap (λ v. encode_utf8_all cs ++ v) at.split in
     let e = ends_with cs u.0 c (drop q.1 w) whole in
     let all : all_scalars (cs ++ c ∷ e.left) ≡ true = subst (λ ds. all_scalars ds ≡ true) e.is u.1.0 in
-    let left : all_scalars e.left ≡ true = second_from _ (all_scalars e.left) (scalars_back cs (c ∷ e.left) all) in
+    let left : all_scalars e.left ≡ true = (and_parts _ (all_scalars e.left) (scalars_back cs (c ∷ e.left) all)).1 in
     let rest_is : encode_utf8_all e.left ≡ rest = e.spelled ∙ sym n.2 in
     let x_is : chars x ≡ cs = ap chars (n.0 ∙ sym front) ∙ chars-encodes cs (scalars_front cs (c ∷ e.left) all) in
     let w_is : chars w ≡ cs ++ c ∷ e.left = ap chars (sym u.1.1) ∙ chars-encodes u.0 u.1.0 ∙ e.is in
@@ -90,7 +83,7 @@ first_piece p w x live rest (Some q) u f m =
 
 -- A text that is cut by a pattern, where M says which test a pattern matches by: the pieces are those of its characters.
 -- The last four facts are the text's own and the call's clauses `text`, `has_more` and `pattern`.
-pub YieldsList-from_str_split_by : {P : Type 0} {s : Split P} (M : P → (ℕ → Bool) → Type 0) (p : ℕ → Bool) (bs : List ℕ) → IsUtf8 bs → split_text s ≡ bs → split_has_more s ≡ true → M (split_pattern s) p
+YieldsList-from_str_split_by : {P : Type 0} {s : Split P} (M : P → (ℕ → Bool) → Type 0) (p : ℕ → Bool) (bs : List ℕ) → IsUtf8 bs → split_text s ≡ bs → split_has_more s ≡ true → M (split_pattern s) p
     → YieldsList (split_steps (λ a w r. (k : ℕ → Bool) → M a k → FindsBy k w r) (λ a b. (k : ℕ → Bool) → M a k → M b k)) (λ x. chars x.now) s (slice_split p (chars bs))
 YieldsList-from_str_split_by {P} {s} M p bs u text more matches =
     let parts = λ (w : List ℕ). slice_split p (chars w) in

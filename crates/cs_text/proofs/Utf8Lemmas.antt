@@ -1,34 +1,28 @@
 -- Words are text: what a list of characters is cut into is UTF-8.
 --
 --   words_of-utf8          the words of characters are UTF-8
-use Rattle.std.proofs.Common.{◌≡◌, ℕ, ◌-◌, Bool, true, false, nat_le, List, [], ◌∷◌, ◌&&◌, cond, map, filter, refl, ap, ◌∙◌}
+use Rattle.std.proofs.Common.{◌≡◌, ℕ, ◌-◌, Bool, true, false, nat_le, List, [], ◌∷◌, cond, map, filter, refl}
 use Rattle.std.specs.List.{All, AllByRecursion, slice_split, onto_first}
 use Rattle.std.proofs.lemmas.List.Elements.{All-from_recursion}
+use Rattle.std.proofs.lemmas.Bool.{and_parts, and_from}
 use Rattle.std.specs.Str.{IsUtf8}
 use Rattle.std.specs.Char.{len_utf8}
 use Rattle.std.proofs.Math.Utf8.{scalar, scalars}
+use Rattle.cs_base.specs.declared.limits.TheConstants.{MAX_PLAIN_WORD_BYTES}
 use Rattle.cs_model.specs.Words.{is_filled, fitting, cut, words_of, is_gap}
 
 -- these characters are characters that text may have
 abbrev AreScalars : List ℕ → Type 0
 AreScalars cs = scalars cs ≡ true
 
-first_true : (a b : Bool) → a && b ≡ true → a ≡ true
-first_true true b h = refl
-first_true false b h = absurd (cc)
-
-second_true : (a b : Bool) → a && b ≡ true → b ≡ true
-second_true true b h = h
-second_true false b h = absurd (cc)
-
 first : (c : ℕ) (cs : List ℕ) → AreScalars (c ∷ cs) → scalar c ≡ true
-first c cs h = first_true (scalar c) (scalars cs) h
+first c cs h = (and_parts (scalar c) (scalars cs) h).0
 
 rest : (c : ℕ) (cs : List ℕ) → AreScalars (c ∷ cs) → AreScalars cs
-rest c cs h = second_true (scalar c) (scalars cs) h
+rest c cs h = (and_parts (scalar c) (scalars cs) h).1
 
 more : (c : ℕ) (cs : List ℕ) → scalar c ≡ true → AreScalars cs → AreScalars (c ∷ cs)
-more c cs h g = ap (λ b. b && scalars cs) h ∙ g
+more c cs h g = and_from (scalar c) (scalars cs) h g
 
 onto : (c : ℕ) (ps : List (List ℕ)) → scalar c ≡ true → AllByRecursion AreScalars ps → AllByRecursion AreScalars (onto_first c ps)
 onto c [] h g = (more c [] h refl, tt)
@@ -52,7 +46,7 @@ fits room (c ∷ cs) h = taken (nat_le (len_utf8 c) room) c (fitting (room - len
 
 cut_utf8 : (cs : List ℕ) → AreScalars cs → IsUtf8 (cut cs)
 unfolding cut
-cut_utf8 cs h = (fitting 120 cs, (fits 120 cs h, refl))
+cut_utf8 cs h = (fitting MAX_PLAIN_WORD_BYTES cs, (fits MAX_PLAIN_WORD_BYTES cs h, refl))
 
 kept : (b : Bool) (p : List ℕ) (ps : List (List ℕ)) → AreScalars p → AllByRecursion IsUtf8 (map cut ps) → AllByRecursion IsUtf8 (map cut (cond b (p ∷ ps) ps))
 kept true p ps h g = (cut_utf8 p h, g)

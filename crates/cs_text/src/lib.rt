@@ -1,4 +1,4 @@
-//! Unicode text: the key text that texts are compared by, its words, and the slug of a facet's value.
+//! Unicode text: the key text that texts are compared by, its words, the slug of a facet's value, and numbers by their digits.
 //!
 //! Callers see texts and words as bytes of UTF-8. What the calls mean stands in `specs/KeyText.antt`
 //! and `specs/Words.antt` of `cs_model`. Tables of Unicode are those of `unicode_normalization`,

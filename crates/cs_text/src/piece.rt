@@ -9,7 +9,7 @@ use std::alloc::Global;
 /// The longest prefix of whole characters that a word has room for.
 pub(crate) fn cut(text: &str) -> &str
     ensures value { result.now ≡ cut (chars text.now) }
-    ensures few { length result.now ≤ 120 }
+    ensures few { length result.now ≤ MAX_PLAIN_WORD_BYTES }
     ensures some { 1 ≤ length text.now → 1 ≤ length result.now }
 {
     let end = text.floor_char_boundary(MAX_PLAIN_WORD_BYTES);

@@ -3,6 +3,7 @@
 use crate::{norm, slug, words};
 use cs_base::Word;
 use std::alloc::{AllocError, Global};
+use std::process::Abort;
 use std::test::Fail;
 
 // Each row: a text, its key text, and its words with `_` between each two, which are its slug too.

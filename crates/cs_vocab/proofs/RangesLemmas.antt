@@ -7,6 +7,7 @@ use Rattle.std.specs.Cmp.Lexicographic.{slice_cmp}
 use Rattle.std.specs.List.{list_any}
 use Rattle.std.specs.List.Sorted.{IsStrictlySortedBy, IsPartitionedBy, IsPartitionPoint}
 use Rattle.std.specs.Str.{bytes_eq}
+use Rattle.std.proofs.lemmas.Bool.{false_from_ne_true}
 use Rattle.std.proofs.lemmas.Bool.Decides.{nat_tests}
 use Rattle.std.proofs.lemmas.Cmp.{same_from_slice_cmp}
 use Rattle.std.proofs.lemmas.List.Elements.{All-from_get_or}
@@ -17,7 +18,7 @@ use Rattle.cs_model.specs.Answers.{begins}
 use Rattle.cs_vocab.specs.Ranges.{IsRange}
 
 -- v stands before w by bytes: `slice_cmp`, by recursion on both
-pub before : List ℕ → List ℕ → Bool
+before : List ℕ → List ℕ → Bool
 before v [] = false
 before [] (y ∷ w) = true
 before (x ∷ v) (y ∷ w) = cond (x == y) (before v w) (nat_lt x y)
@@ -106,10 +107,6 @@ module _ (ws : List (List ℕ)) (up : IsStrictlySortedBy (slice_cmp nat_cmp) ws)
 
 -- ---- one word
 
-not_true : (b : Bool) → (b ≡ true → ⊥) → b ≡ false
-not_true true h = absurd (h refl)
-not_true false h = refl
-
 pub three_ways : {G : Type 0} (k n : ℕ) → (k < n → G) → (k ≡ n → G) → (n < k → G) → G
 three_ways {G} k n f g h =
     elim (nat_lt k n) as (λ b. nat_lt k n ≡ b → G) [
@@ -125,7 +122,7 @@ pub absent_from : (ws : List (List ℕ)) → IsStrictlySortedBy (slice_cmp nat_c
     → IsPartitionPoint (λ v. is_lt (slice_cmp nat_cmp v w) ≡ true) (λ v. is_lt (slice_cmp nat_cmp v w) ≡ false) ws n
     → (n < length ws → bytes_eq (get_or ws n []) w ≡ false) → list_any (bytes_eq w) ws ≡ false
 absent_from ws up w n parts other =
-    list_any_none (bytes_eq w) ws (All-from_get_or (λ v. bytes_eq w v ≡ false) ws [] (λ k l. not_true _ (λ t. at k l ((bytes_eq-Decides w (get_or ws k [])).0 t))))
+    list_any_none (bytes_eq w) ws (All-from_get_or (λ v. bytes_eq w v ≡ false) ws [] (λ k l. false_from_ne_true _ (λ t. at k l ((bytes_eq-Decides w (get_or ws k [])).0 t))))
   where
     at : (k : ℕ) → k < length ws → w ≡ get_or ws k [] → ⊥
     at k l e = three_ways k n

@@ -15,7 +15,7 @@ use Rattle.cs_base.specs.Members.{members_in}
 use Rattle.cs_base.proofs.MembersLemmas.{members_are, any_dedup}
 
 module _ {X Y : Type 0} (v : X → Y) where
-  any-map : (p : Y → Bool) (xs : List X) → list_any p (map v xs) ≡ list_any (λ x. p (v x)) xs
+  pub any-map : (p : Y → Bool) (xs : List X) → list_any p (map v xs) ≡ list_any (λ x. p (v x)) xs
   any-map p [] = refl
   any-map p (x ∷ xs) = ap (λ b. p (v x) || b) (any-map p xs)
 

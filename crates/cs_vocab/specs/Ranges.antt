@@ -4,15 +4,16 @@
 --   IsWordAt ws n w        word n is w
 --   IsSplitBefore ws p n   the words that stand before p are the first n
 --   IsRange ws p lo hi     the words that begin with p are those from number lo up to hi, hi left out
-use Rattle.std.specs.Prelude.{◌≡◌, ℕ, ◌<◌, ◌≤◌, ◌^◌, ◌&&◌, nat_le, nat_lt, true, false, List, [], length, slice_index_or}
+use Rattle.std.specs.Prelude.{◌≡◌, ℕ, ◌<◌, ◌≤◌, ◌&&◌, nat_le, nat_lt, true, false, List, [], length, slice_index_or}
 use Rattle.std.specs.List.Sorted.{IsStrictlySortedBy, IsPartitionPoint}
 use Rattle.std.specs.Ordering.{nat_cmp, is_lt}
 use Rattle.std.specs.Cmp.Lexicographic.{slice_cmp}
+use Rattle.cs_base.specs.declared.limits.TheConstants.{MAX_ROWS}
 use Rattle.cs_model.specs.Answers.{begins}
 
 -- no word stands twice
 abbrev pub IsVocab : List (List ℕ) → Type 0
-IsVocab ws = IsStrictlySortedBy (slice_cmp nat_cmp) ws × (length ws ≤ 2 ^ 24)
+IsVocab ws = IsStrictlySortedBy (slice_cmp nat_cmp) ws × (length ws ≤ MAX_ROWS)
 
 -- only where there are more than n words
 abbrev pub IsWordAt : List (List ℕ) → ℕ → List ℕ → Type 0

@@ -1,5 +1,5 @@
 //! Words in order.
-ghost use Rattle.std.specs.Prelude.{◌≡◌, ◌≤◌, ◌<◌, ◌^◌, false, [], length, IfOk, IfSome, IfNone, MatchOption, slice_index_or};
+ghost use Rattle.std.specs.Prelude.{◌≡◌, ◌≤◌, ◌<◌, false, length, IfOk, IfSome, IfNone};
 ghost use Rattle.std.specs.List.{list_any};
 ghost use Rattle.std.specs.List.Sorted.{IsStrictlySortedBy};
 ghost use Rattle.std.specs.Ordering.{nat_cmp, is_lt};
@@ -9,7 +9,7 @@ ghost use Rattle.cs_model.specs.Answers.{begins};
 ghost use Rattle.cs_model.specs.Corpus.{distinct_words};
 ghost use Rattle.cs_vocab.specs.Ranges.{IsVocab, IsWordAt, IsRange, IsSplitBefore};
 
-use cs_base::{Memory, Row, Seq, Word};
+use cs_base::{MAX_ROWS, Memory, Row, Seq, Word};
 use std::alloc::Global;
 use std::marker::Model;
 
@@ -34,7 +34,7 @@ impl Model for Vocab {
 impl Vocab {
     /// The distinct words of rows.
     pub fn of(alloc: Global, rows: &Seq<Row>) -> Result<Vocab, Memory>
-        requires few { length rows.now ≤ 2 ^ 24 }
+        requires few { length rows.now ≤ MAX_ROWS }
 
         ensures ok { IfOk result (λ v. v ≡ distinct_words rows.now) }
     {
@@ -56,7 +56,7 @@ impl Vocab {
     /// The vocabulary of words that ascend already.
     pub fn from_words(words: Seq<Word>) -> Vocab
         requires ascending { IsStrictlySortedBy (slice_cmp nat_cmp) words }
-        requires few { length words ≤ 2 ^ 24 }
+        requires few { length words ≤ MAX_ROWS }
 
         ensures { result ≡ words }
     {
@@ -66,7 +66,7 @@ impl Vocab {
     /// How many words it has.
     pub fn len(&self) -> u32
         ensures value { result ≡ length self.now }
-        ensures few { length self.now ≤ 2 ^ 24 }
+        ensures few { length self.now ≤ MAX_ROWS }
         ensures sorted { IsStrictlySortedBy (slice_cmp nat_cmp) self.now }
     {
         self.words.len() as u32

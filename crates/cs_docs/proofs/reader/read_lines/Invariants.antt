@@ -1,5 +1,6 @@
 use Rattle.std.proofs.Common.{◌≡◌, ◌+◌, ◌≤◌, ◌++◌, length}
 use Rattle.std.specs.Str.Lines.{lines}
+use Rattle.cs_base.specs.declared.limits.TheConstants.{MAX_COLLECTION_BYTES}
 use Rattle.cs_model.specs.Collection.{documents, docs_refusal}
 use Rattle.cs_docs.specs.Reading.{documents_from}
 use Rattle.cs_docs.specs.Refusals.{refusal_from}
@@ -9,7 +10,7 @@ abbrev pub invariant-loop-rest : goal.invariant-loop-rest
 invariant-loop-rest l = record {
   told : documents l.bytes ≡ l.docs ++ documents_from (length l.docs) (l.number + 1) (lines l.rest);
   refused : docs_refusal l.bytes ≡ refusal_from (length l.docs) (l.number + 1) (lines l.rest);
-  within : l.number + length l.rest ≤ 268435456;
+  within : l.number + length l.rest ≤ MAX_COLLECTION_BYTES;
 }
 
 abbrev pub decreases-loop-rest : goal.decreases-loop-rest

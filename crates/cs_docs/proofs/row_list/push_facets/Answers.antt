@@ -7,6 +7,7 @@ use Rattle.std.proofs.lemmas.Map.Lookups.{exact_bytes}
 use Rattle.cs_base.specs.Members.{members_in}
 use Rattle.cs_base.specs.contracts.word.WordOrd.TheImpl.Laws.{matches_eq-law}
 use Rattle.cs_base.proofs.MembersLemmas.{sorted_members}
+use Rattle.cs_base.specs.declared.scores.TheConstants.{FACET_SCORE}
 use Rattle.cs_model.specs.Corpus.{placed}
 use Rattle.cs_docs.specs.Listing.{listed_facets}
 use Rattle.std.specs.List.{All}
@@ -20,7 +21,7 @@ loop-word-init c =
     c.in_ok-sort.ensures.permutation c.in_ok-sort.ensures.sorted c.dedup.ensures.filtered
     ∙ ap (members_in (slice_cmp nat_cmp)) c.in_ok-found.ensures.ok in
     record {
-      told = ap (λ ws. c.args.rows.now ++ map (λ w. placed c.args.doc 2 (0, w)) ws) (c.into_iter-word-iterator.ensures.into_iter_gives.0 ∙ listed);
+      told = ap (λ ws. c.args.rows.now ++ map (λ w. placed c.args.doc FACET_SCORE (0, w)) ws) (c.into_iter-word-iterator.ensures.into_iter_gives.0 ∙ listed);
       left = omega (arith, c.into_iter-word-iterator.ensures.into_iter_gives.1, ap length c.into_iter-word-iterator.ensures.into_iter_gives.0, c.dedup.new.self.ok);
     }
 
