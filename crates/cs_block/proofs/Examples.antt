@@ -3,7 +3,7 @@ use Rattle.std.proofs.Common.{◌≡◌, List, ℕ, [], ◌∷◌, false, Some, 
 use Rattle.cs_base.specs.GapCode.{code_in, code, looked_at, value_of, first_code}
 use Rattle.cs_base.specs.declared.block.BlockHead.{BlockHead}
 use Rattle.cs_base.specs.declared.doc.Post.{Post}
-use Rattle.cs_model.specs.Blocks.{gap_column, word_column, place_column, score_column, block_bytes}
+use Rattle.cs_model.specs.Blocks.{gap_column, word_column, position_column, score_column, block_bytes}
 use Rattle.cs_model.specs.BlockRules.{codes_break, items_in, breaks, judged, rows_read}
 
 abbrev rows : List Post
@@ -21,7 +21,7 @@ abbrev bytes_with : ℕ → ℕ → List ℕ
 bytes_with first last = first ∷ 0 ∷ 0 ∷ 0 ∷ 1 ∷ 0 ∷ 2 ∷ 0 ∷ 0 ∷ 0 ∷ 0 ∷ 0 ∷ 1 ∷ 0 ∷ 0 ∷ 0 ∷ 10 ∷ 0 ∷ 0 ∷ 0 ∷ 11 ∷ 4 ∷ 1 ∷ last ∷ []
 
 block_bytes-worked : block_bytes rows 1 ≡ bytes_with 0 1
-unfolding block_bytes gap_column word_column place_column score_column code code_in
+unfolding block_bytes gap_column word_column position_column score_column code code_in
 block_bytes-worked = refl
 
 rows_read-worked : rows_read head (bytes_with 0 1) ≡ rows

@@ -18,7 +18,7 @@ pub struct Columns<'a> {
     /// Two bytes a row: its word, counted from the block's first.
     pub words: &'a [u8],
     /// Four bytes a row: its position.
-    pub places: &'a [u8],
+    pub positions: &'a [u8],
     /// One byte a row: its score.
     pub scores: &'a [u8],
 }
@@ -32,11 +32,11 @@ pub fn cut<'a>(bytes: &'a [u8], head: &BlockHead) -> Columns<'a>
 {
     let (gaps, rest) = bytes.split_at((head.len - 7 * head.rows) as usize);
     let (words, rest) = rest.split_at(2 * head.rows as usize);
-    let (places, scores) = rest.split_at(4 * head.rows as usize);
+    let (positions, scores) = rest.split_at(4 * head.rows as usize);
     Columns {
         gaps,
         words,
-        places,
+        positions,
         scores,
     }
 }
@@ -59,15 +59,15 @@ pub fn gap_here(gaps: &[u8], at: usize) -> Option<(u32, usize)>
 pub fn row_of(columns: &Columns<'_>, lo: u32, doc: u32, i: usize) -> Post
     requires lo { lo ≤ 2 ^ 22 }
     requires words { 2 * i + 2 ≤ length columns.now.words.now }
-    requires places { 4 * i + 4 ≤ length columns.now.places.now }
+    requires positions { 4 * i + 4 ≤ length columns.now.positions.now }
     requires scores { i < length columns.now.scores.now }
 
-    ensures { result ≡ row_at lo doc (drop (2 * i) columns.now.words.now) (drop (4 * i) columns.now.places.now) (drop i columns.now.scores.now) }
+    ensures { result ≡ row_at lo doc (drop (2 * i) columns.now.words.now) (drop (4 * i) columns.now.positions.now) (drop i columns.now.scores.now) }
 {
     Post {
         doc,
         word: lo + half_at(columns.words, 2 * i),
-        pos: number_at(columns.places, 4 * i),
+        pos: number_at(columns.positions, 4 * i),
         score: columns.scores[i],
     }
 }

@@ -3,7 +3,7 @@ ghost use Rattle.std.specs.Prelude.{◌≡◌, ℕ, ◌≤◌, ◌++◌, true, L
 ghost use Rattle.std.specs.Option.{is_none};
 ghost use Rattle.cs_base.specs.declared.doc.Post.{Post};
 ghost use Rattle.cs_model.specs.Blocks.{IsShaped};
-ghost use Rattle.cs_model.specs.BlockRules.{IsBlock, item_row, items_of, judged, judged_columns};
+ghost use Rattle.cs_model.specs.BlockRules.{IsBlock, item_row, block_items, judged, judged_columns};
 ghost use Rattle.cs_block.specs.Reading.{Decodes, HasColumns};
 ghost use Rattle.cs_block.specs.ColumnsView.{seen};
 
@@ -48,7 +48,7 @@ fn push_rows(columns: &Columns<'_>, head: &BlockHead, docs: u32, into: &mut Cols
     requires room { head.now.rows ≤ into.old.room }
 
     ensures told { result ≡ is_none (judged_columns head.now docs (seen columns.now)) }
-    ensures posts { result ≡ true → into.new.posts ≡ into.old.posts ++ map item_row (items_of head.now (seen columns.now)) }
+    ensures posts { result ≡ true → into.new.posts ≡ into.old.posts ++ map item_row (block_items head.now (seen columns.now)) }
     ensures kept { take (length into.old.posts) into.new.posts ≡ into.old.posts }
 {
     let mut last: Option<Post> = None;

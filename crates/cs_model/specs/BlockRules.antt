@@ -6,7 +6,7 @@
 --
 --   codes_break k at gaps    where k gap codes and no more ought to stand, the first place where that fails; None where it holds
 --   Item                     a row that was read, the row before it, its number and the place of its gap code
---   items_of head c          the items of four columns
+--   block_items head c          the items of four columns
 --   Rule, rules head docs    a rule: its number, its test, and the place where an item breaks it; rules 14 to 17
 --   breaks rule items        the place of the first item that breaks a rule; None where none does
 --   judged head docs bytes   the first broken rule of the bytes of a block, and its place in them; None where all rules hold
@@ -28,12 +28,12 @@ use Rattle.cs_model.specs.Blocks.{AreWritable, block_bytes}
 -- ---- gap codes whole and shortest
 
 -- the number whose code stands at the front; 0 where none does
-abbrev pub gap_of : List ℕ → ℕ
-gap_of gaps = unwrap_or (first_code gaps) 0
+abbrev pub gap_number : List ℕ → ℕ
+gap_number gaps = unwrap_or (first_code gaps) 0
 
 -- the bytes of that code
 abbrev pub gap_len : List ℕ → ℕ
-gap_len gaps = length (code (gap_of gaps))
+gap_len gaps = length (code (gap_number gaps))
 
 -- behind the last code no byte is left; where no byte is left for a code, the place is the column's end
 unfoldable pub codes_break : ℕ → ℕ → List ℕ → Option ℕ
@@ -48,7 +48,7 @@ pub record Item : Type 0 where
   pub row : Post
   pub last : Option Post
   pub index : ℕ
-  pub gap_place : ℕ
+  pub gap_at : ℕ
 
 -- 0 before the first row
 abbrev pub doc_before : Option Post → ℕ
@@ -57,26 +57,26 @@ doc_before (Some r) = r.doc
 
 -- the row of a document and of what stands at the front of the other columns
 abbrev pub row_at : ℕ → ℕ → List ℕ → List ℕ → List ℕ → Post
-row_at lo doc words places scores = record {
+row_at lo doc words positions scores = record {
   doc = doc;
   word = lo + from_be_bytes w16 (take 2 words);
-  pos = from_be_bytes w32 (take 4 places);
+  pos = from_be_bytes w32 (take 4 positions);
   score = get_or scores 0 0;
 }
 
 -- the next k items, where the one after `last` has this index, and its gap code this place
 unfoldable pub items_in : ℕ → ℕ → Option Post → ℕ → ℕ → List ℕ → List ℕ → List ℕ → List ℕ → List Item
-items_in lo zero last index at gaps words places scores = []
-items_in lo (suc k) last index at gaps words places scores =
-    let row = row_at lo (doc_before last + gap_of gaps) words places scores in
-    record { row = row; last = last; index = index; gap_place = at }
-    ∷ items_in lo k (Some row) (index + 1) (at + gap_len gaps) (drop (gap_len gaps) gaps) (drop 2 words) (drop 4 places) (drop 1 scores)
+items_in lo zero last index at gaps words positions scores = []
+items_in lo (suc k) last index at gaps words positions scores =
+    let row = row_at lo (doc_before last + gap_number gaps) words positions scores in
+    record { row = row; last = last; index = index; gap_at = at }
+    ∷ items_in lo k (Some row) (index + 1) (at + gap_len gaps) (drop (gap_len gaps) gaps) (drop 2 words) (drop 4 positions) (drop 1 scores)
 
 -- the four columns of a block
 pub record BlockColumns : Type 0 where
   pub gaps : List ℕ
   pub words : List ℕ
-  pub places : List ℕ
+  pub positions : List ℕ
   pub scores : List ℕ
 
 -- what the other three columns leave: a row has seven bytes in them
@@ -87,7 +87,7 @@ abbrev pub columns_behind : BlockHead → List ℕ → List ℕ → BlockColumns
 columns_behind head gaps rest = record {
   gaps = gaps;
   words = take (2 * head.rows) rest;
-  places = take (4 * head.rows) (drop (2 * head.rows) rest);
+  positions = take (4 * head.rows) (drop (2 * head.rows) rest);
   scores = drop (4 * head.rows) (drop (2 * head.rows) rest);
 }
 
@@ -95,15 +95,15 @@ columns_behind head gaps rest = record {
 abbrev pub block_columns : BlockHead → List ℕ → BlockColumns
 block_columns head bytes = columns_behind head (take (gap_bytes head) bytes) (drop (gap_bytes head) bytes)
 
-abbrev pub items_of : BlockHead → BlockColumns → List Item
-items_of head c = items_in head.lo head.rows None 0 0 c.gaps c.words c.places c.scores
+abbrev pub block_items : BlockHead → BlockColumns → List Item
+block_items head c = items_in head.lo head.rows None 0 0 c.gaps c.words c.positions c.scores
 
 abbrev pub item_row : Item → Post
 item_row i = i.row
 
 -- the rows that were read, of any bytes as many as the head says
 unfoldable pub rows_read : BlockHead → List ℕ → List Post
-rows_read head bytes = map item_row (items_of head (block_columns head bytes))
+rows_read head bytes = map item_row (block_items head (block_columns head bytes))
 
 -- ---- the rules on rows
 
@@ -111,15 +111,15 @@ rows_read head bytes = map item_row (items_of head (block_columns head bytes))
 pub record Rule : Type 0 where
   pub number : ℕ
   pub holds : Option Post → Post → Bool
-  pub place : Item → ℕ
+  pub at : Item → ℕ
 
 -- documents in range; the place is the row's gap code
 abbrev pub in_docs : ℕ → Rule
-in_docs docs = record { number = 14; holds = λ last r. nat_lt r.doc docs; place = λ i. i.gap_place }
+in_docs docs = record { number = 14; holds = λ last r. nat_lt r.doc docs; at = λ i. i.gap_at }
 
 -- words in range; the place is the row's local number
 abbrev pub in_words : BlockHead → Rule
-in_words head = record { number = 15; holds = λ last r. nat_lt r.word (head.lo + head.words); place = λ i. gap_bytes head + 2 * i.index }
+in_words head = record { number = 15; holds = λ last r. nat_lt r.word (head.lo + head.words); at = λ i. gap_bytes head + 2 * i.index }
 
 -- a facet word stands at 0 with the score 2; any other from 1 on with the score of a title or of a text word
 abbrev pub is_scored : Bool → Post → Bool
@@ -127,7 +127,7 @@ is_scored facet r = if facet then r.pos == 0 && r.score == FACET_SCORE else (nat
 
 -- positions and scores by kind; the place is the row's position
 abbrev pub in_kind : BlockHead → Rule
-in_kind head = record { number = 16; holds = λ last r. is_scored head.facet r; place = λ i. gap_bytes head + 2 * head.rows + 4 * i.index }
+in_kind head = record { number = 16; holds = λ last r. is_scored head.facet r; at = λ i. gap_bytes head + 2 * head.rows + 4 * i.index }
 
 -- the first row is behind no other
 abbrev pub is_after : Option Post → Post → Bool
@@ -136,7 +136,7 @@ is_after (Some p) r = is_lt (by_place p r)
 
 -- ascending; the place is the row's gap code
 abbrev pub in_order : Rule
-in_order = record { number = 17; holds = is_after; place = λ i. i.gap_place }
+in_order = record { number = 17; holds = is_after; at = λ i. i.gap_at }
 
 -- in the order in which they are tried
 abbrev pub rules : BlockHead → ℕ → List Rule
@@ -147,7 +147,7 @@ rules head docs = in_docs docs ∷ in_words head ∷ in_kind head ∷ in_order �
 -- of no items None
 unfoldable pub breaks : Rule → List Item → Option ℕ
 breaks rule [] = None
-breaks rule (i ∷ is) = if rule.holds i.last i.row then breaks rule is else Some (rule.place i)
+breaks rule (i ∷ is) = if rule.holds i.last i.row then breaks rule is else Some (rule.at i)
 
 -- a place where a rule is broken goes before what later rules say
 abbrev pub or_broken : ℕ → Option ℕ → Option Broken → Option Broken
@@ -160,7 +160,7 @@ first_broken [] items = None
 first_broken (rule ∷ rest) items = or_broken rule.number (breaks rule items) (first_broken rest items)
 
 abbrev pub judged_columns : BlockHead → ℕ → BlockColumns → Option Broken
-judged_columns head docs c = or_broken 13 (codes_break head.rows 0 c.gaps) (first_broken (rules head docs) (items_of head c))
+judged_columns head docs c = or_broken 13 (codes_break head.rows 0 c.gaps) (first_broken (rules head docs) (block_items head c))
 
 -- the codes first, then the rules on rows
 unfoldable pub judged : BlockHead → ℕ → List ℕ → Option Broken

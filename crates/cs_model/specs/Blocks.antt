@@ -2,7 +2,7 @@
 --
 --   gap_column before rs   for each row the gap code of its document less that of the row before, the first less `before`
 --   word_column lo rs      for each row two bytes: the number of its word less lo
---   place_column rs        for each row four bytes: its position
+--   position_column rs        for each row four bytes: its position
 --   score_column rs        for each row one byte: its score
 --   block_bytes rs lo      the columns of rows whose words are numbered from lo on; of no rows no bytes
 --   AreWritable lo rs      rows in order whose words have a number of two bytes from lo on, so that a block can hold them
@@ -29,9 +29,9 @@ word_column lo [] = []
 word_column lo (r ∷ rs) = to_be_bytes w16 (r.word - lo) ++ word_column lo rs
 
 -- 0 for a facet word
-unfoldable pub place_column : List Post → List ℕ
-place_column [] = []
-place_column (r ∷ rs) = to_be_bytes w32 r.pos ++ place_column rs
+unfoldable pub position_column : List Post → List ℕ
+position_column [] = []
+position_column (r ∷ rs) = to_be_bytes w32 r.pos ++ position_column rs
 
 -- as they are
 unfoldable pub score_column : List Post → List ℕ
@@ -40,7 +40,7 @@ score_column (r ∷ rs) = r.score ∷ score_column rs
 
 -- gaps, words, positions, scores; of no rows no bytes
 unfoldable pub block_bytes : List Post → ℕ → List ℕ
-block_bytes rs lo = gap_column 0 rs ++ (word_column lo rs ++ (place_column rs ++ score_column rs))
+block_bytes rs lo = gap_column 0 rs ++ (word_column lo rs ++ (position_column rs ++ score_column rs))
 
 -- rows that a block can hold; also no rows
 pub record AreWritable (lo : ℕ) (rs : List Post) : Type 0 where
