@@ -29,7 +29,7 @@ pub some_is : (o : Option ℕ) → is_some o ≡ true → o ≡ Some (unwrap_or 
 some_is None e = absurd cc
 some_is (Some n) e = refl
 
-guard_none : {A : Type 0} (b : Bool) (o : Option A) (x : A) → cond b o (Some x) ≡ None → (b ≡ true) × (o ≡ None)
+pub guard_none : {A : Type 0} (b : Bool) (o : Option A) (x : A) → cond b o (Some x) ≡ None → (b ≡ true) × (o ≡ None)
 guard_none true o x e = (refl, e)
 guard_none false o x e = absurd cc
 

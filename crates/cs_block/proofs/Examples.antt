@@ -4,7 +4,7 @@ use Rattle.cs_base.specs.GapCode.{code_in, code, looked_at, value_of, first_code
 use Rattle.cs_base.specs.declared.block.BlockHead.{BlockHead}
 use Rattle.cs_base.specs.declared.doc.Post.{Post}
 use Rattle.cs_model.specs.Blocks.{gap_column, word_column, position_column, score_column, block_bytes}
-use Rattle.cs_model.specs.BlockRules.{codes_break, items_in, breaks, judged, rows_read}
+use Rattle.cs_model.specs.BlockRules.{codes_break, items_in, first_break, judged, rows_read}
 
 abbrev rows : List Post
 rows =
@@ -29,18 +29,18 @@ unfolding rows_read items_in first_code looked_at value_of code code_in
 rows_read-worked = refl
 
 judged-worked : judged head 1 (bytes_with 0 1) ≡ None
-unfolding judged codes_break items_in breaks first_code looked_at value_of code code_in
+unfolding judged codes_break items_in first_break first_code looked_at value_of code code_in
 judged-worked = refl
 
 judged-needless_zero : judged head 1 (bytes_with 128 1) ≡ Some (record { n = 13; at = 0 })
-unfolding judged codes_break items_in breaks first_code looked_at value_of code code_in
+unfolding judged codes_break items_in first_break first_code looked_at value_of code code_in
 judged-needless_zero = refl
 
 judged-no_score : judged head 1 (bytes_with 0 3) ≡ Some (record { n = 16; at = 17 })
-unfolding judged codes_break items_in breaks first_code looked_at value_of code code_in
+unfolding judged codes_break items_in first_break first_code looked_at value_of code code_in
 judged-no_score = refl
 
 -- the document comes before the score
 judged-two_rules : judged head 0 (bytes_with 0 3) ≡ Some (record { n = 14; at = 0 })
-unfolding judged codes_break items_in breaks first_code looked_at value_of code code_in
+unfolding judged codes_break items_in first_break first_code looked_at value_of code code_in
 judged-two_rules = refl

@@ -11,38 +11,36 @@ use Rattle.cs_base.specs.declared.block.Broken.{Broken}
 use Rattle.cs_base.specs.declared.doc.Post.{Post}
 use Rattle.cs_gaps.proofs.CodesLemmas.{IsBytes}
 use Rattle.cs_model.specs.Blocks.{gap_column, word_column, position_column, score_column, block_bytes, IsShaped}
-use Rattle.cs_model.specs.BlockRules.{gap_number, gap_len, codes_break, item_row, doc_before, row_at, items_in, gap_bytes, Rule, rules, breaks, or_broken, first_broken, BlockColumns, block_columns, columns_behind, block_items, judged_columns, judged, rows_read, keeps, MeetAll, IsBlock}
+use Rattle.cs_model.specs.BlockRules.{gap_number, gap_len, codes_break, item_row, doc_before, row_at, items_in, gap_bytes, Item, Rule, rules, first_break, or_broken, first_broken, BlockColumns, block_columns, columns_behind, block_items, judged_columns, judged, rows_read, keeps, MeetAll, IsBlock}
 use Rattle.cs_gaps.proofs.CodesLemmas.{IsBytes-drop}
-use Rattle.cs_block.proofs.ColumnsLemmas.{IsBytes-take, AreSized, reads, again}
+use Rattle.cs_block.proofs.ColumnsLemmas.{IsBytes-take, guard_none, AreSized, reads, again}
+use Rattle.cs_block.proofs.PassLemmas.{break_cons}
 use Rattle.cs_block.proofs.RowsLemmas.{writable_from, spelling_from}
 
 -- ---- a rule over items is a rule over rows
 
-none_after : (b : Bool) (o : Option ℕ) (x : ℕ) → cond b o (Some x) ≡ None → (b ≡ true) × (o ≡ None)
-none_after true o x e = (refl, e)
-none_after false o x e = absurd cc
-
 holds_on : (rule : Rule) (k lo : ℕ) (last : Option Post) (index at : ℕ) (gaps words positions scores : List ℕ)
-    → breaks rule (items_in lo k last index at gaps words positions scores) ≡ None → keeps rule.holds last (map item_row (items_in lo k last index at gaps words positions scores)) ≡ true
-unfolding items_in breaks keeps
+    → first_break rule (items_in lo k last index at gaps words positions scores) ≡ None → keeps rule.holds last (map item_row (items_in lo k last index at gaps words positions scores)) ≡ true
+unfolding items_in keeps
 holds_on rule zero lo last index at gaps words positions scores e = refl
 holds_on rule (suc k) lo last index at gaps words positions scores e =
     let row = row_at lo (doc_before last + gap_number gaps) words positions scores in
     let len = gap_len gaps in
     let items = items_in lo k (Some row) (index + 1) (at + len) (drop len gaps) (drop 2 words) (drop 4 positions) (drop 1 scores) in
-    let p = none_after (rule.holds last row) (breaks rule items) (rule.at (record { row = row; last = last; index = index; gap_at = at })) e in
+    let item : Item = record { row = row; last = last; index = index; gap_at = at } in
+    let p = guard_none (rule.holds last row) (first_break rule items) (rule.at item) (sym (break_cons rule item items) ∙ e) in
     and_from (rule.holds last row) (keeps rule.holds (Some row) (map item_row items)) p.0 (holds_on rule k lo (Some row) (index + 1) (at + len) (drop len gaps) (drop 2 words) (drop 4 positions) (drop 1 scores) p.1)
 
 unbroken : (rule : Rule) (k lo : ℕ) (last : Option Post) (index at : ℕ) (gaps words positions scores : List ℕ)
-    → keeps rule.holds last (map item_row (items_in lo k last index at gaps words positions scores)) ≡ true → breaks rule (items_in lo k last index at gaps words positions scores) ≡ None
-unfolding items_in breaks keeps
+    → keeps rule.holds last (map item_row (items_in lo k last index at gaps words positions scores)) ≡ true → first_break rule (items_in lo k last index at gaps words positions scores) ≡ None
+unfolding items_in first_break keeps
 unbroken rule zero lo last index at gaps words positions scores e = refl
 unbroken rule (suc k) lo last index at gaps words positions scores e =
     let row = row_at lo (doc_before last + gap_number gaps) words positions scores in
     let len = gap_len gaps in
     let items = items_in lo k (Some row) (index + 1) (at + len) (drop len gaps) (drop 2 words) (drop 4 positions) (drop 1 scores) in
     let p = and_parts (rule.holds last row) (keeps rule.holds (Some row) (map item_row items)) e in
-    rw (p.0) (unbroken rule k lo (Some row) (index + 1) (at + len) (drop len gaps) (drop 2 words) (drop 4 positions) (drop 1 scores) p.1)
+    break_cons rule (record { row = row; last = last; index = index; gap_at = at }) items ∙ rw (p.0) (unbroken rule k lo (Some row) (index + 1) (at + len) (drop len gaps) (drop 2 words) (drop 4 positions) (drop 1 scores) p.1)
 
 pub none_of : (n : ℕ) (o : Option ℕ) (other : Option Broken) → or_broken n o other ≡ None → (o ≡ None) × (other ≡ None)
 none_of n None other e = (refl, e)
@@ -54,7 +52,7 @@ none_from n o other p q = rw (p, q) refl
 all_met : (rs : List Rule) (head : BlockHead) (c : BlockColumns) → first_broken rs (block_items head c) ≡ None → MeetAll rs (map item_row (block_items head c))
 all_met [] head c e = tt
 all_met (rule ∷ rest) head c e =
-    let p = none_of rule.number (breaks rule (block_items head c)) (first_broken rest (block_items head c)) e in
+    let p = none_of rule.number (first_break rule (block_items head c)) (first_broken rest (block_items head c)) e in
     (holds_on rule head.rows head.lo None 0 0 c.gaps c.words c.positions c.scores p.0, all_met rest head c p.1)
 
 none_broken : (rs : List Rule) (head : BlockHead) (c : BlockColumns) → MeetAll rs (map item_row (block_items head c)) → first_broken rs (block_items head c) ≡ None

@@ -6,8 +6,9 @@
 --   HasPushed       what the loop that adds the rows knows
 --   stops_at_code, stops_at_doc, stops_at_row    where it stops a rule is broken
 --   columns_cut     the columns as the code cuts them
-use Rattle.std.proofs.Common.{◌≡◌, ℕ, suc, ◌+◌, ◌-◌, ◌*◌, ◌^◌, ◌<◌, ◌≤◌, ◌⊎◌, Bool, true, false, ◌&&◌, cond, ltb, eqb, List, [], ◌∷◌, ◌++◌, length, map, take, drop, Option, Some, None, refl, sym, ap, ◌∙◌, append_assoc, arith, inl, inr}
-use Rattle.std.specs.Option.{option_or, is_none}
+use Rattle.std.proofs.Common.{◌≡◌, ℕ, suc, ◌+◌, ◌-◌, ◌*◌, ◌^◌, ◌<◌, ◌≤◌, ◌⊎◌, Bool, true, false, not, ◌&&◌, cond, ltb, eqb, List, [], ◌∷◌, ◌++◌, length, map, take, drop, Option, Some, None, refl, sym, ap, ◌∙◌, append_assoc, arith, inl, inr}
+use Rattle.std.specs.Option.{option_map, option_or, is_none}
+use Rattle.std.specs.List.{find}
 use Rattle.std.proofs.lemmas.Bool.{and_parts, cases_lt, lt-ltb, le-ltb, ne_eqb}
 use Rattle.std.proofs.lemmas.Bool.Decides.{nat_tests}
 use Rattle.std.proofs.lemmas.List.{drop-drop, drop_all, length-drop, length-take, append-nil, take_all, take-append-le}
@@ -19,7 +20,7 @@ use Rattle.cs_gaps.specs.declared.gap.Gap.{Gap}
 use Rattle.cs_gaps.specs.declared.gap.Gap.TheVariants.{Is}
 use Rattle.cs_gaps.specs.Reading.{StandsAt}
 use Rattle.cs_gaps.proofs.CodesLemmas.{first_found, found_first}
-use Rattle.cs_model.specs.BlockRules.{codes_break, Item, item_row, doc_before, row_at, items_in, gap_bytes, Rule, rules, in_docs, in_words, in_kind, in_order, is_scored, is_after, breaks, or_broken, first_broken, BlockColumns, block_items, block_columns, judged_columns, judged, rows_read}
+use Rattle.cs_model.specs.BlockRules.{codes_break, Item, item_row, doc_before, row_at, items_in, gap_bytes, Rule, rules, in_docs, in_words, in_kind, in_order, is_scored, is_after, first_break, or_broken, first_broken, BlockColumns, block_items, block_columns, judged_columns, judged, rows_read}
 use Rattle.cs_block.specs.Reading.{GapHere}
 use Rattle.cs_block.proofs.ColumnsLemmas.{items_step, codes_step}
 
@@ -97,10 +98,17 @@ items_start head c = ap (λ (x : ℕ). items_in head.lo x None 0 0 c.gaps c.word
 -- ---- one rule's first place, as far as the loop has come
 
 pub Keeps : Rule → List Item → Option ℕ → List Item → Type 0
-Keeps rule all found rest = option_or found (breaks rule rest) ≡ breaks rule all
+Keeps rule all found rest = option_or found (first_break rule rest) ≡ first_break rule all
 
-abbrev noted : Rule → Item → Option ℕ
-noted rule item = cond (rule.holds item.last item.row) None (Some (rule.at item))
+break_by : (rule : Rule) (item : Item) (rest : List Item) (holds : Bool) → option_map rule.at (cond (not holds) (Some item) (find (λ i. not (rule.holds i.last i.row)) rest)) ≡ cond holds (first_break rule rest) (Some (rule.at item))
+unfolding first_break
+break_by rule item rest true = refl
+break_by rule item rest false = refl
+
+-- the first item goes before the others
+pub break_cons : (rule : Rule) (item : Item) (rest : List Item) → first_break rule (item ∷ rest) ≡ cond (rule.holds item.last item.row) (first_break rule rest) (Some (rule.at item))
+unfolding first_break
+break_cons rule item rest = break_by rule item rest (rule.holds item.last item.row)
 
 keeps_by : (holds : Bool) (found : Option ℕ) (at : ℕ) (rest : Option ℕ) → option_or (option_or found (cond holds None (Some at))) rest ≡ option_or found (cond holds rest (Some at))
 keeps_by true None at rest = refl
@@ -110,28 +118,28 @@ keeps_by false (Some f) at rest = refl
 
 pub keeps_on : (rule : Rule) (all : List Item) (found now : Option ℕ) (item : Item) (here rest : List Item) → here ≡ item ∷ rest → now ≡ option_or found (cond (rule.holds item.last item.row) None (Some (rule.at item)))
     → Keeps rule all found here → Keeps rule all now rest
-unfolding Keeps breaks
+unfolding Keeps
 keeps_on rule all found now item here rest e is h =
-    ap (λ (x : Option ℕ). option_or x (breaks rule rest)) is
-    ∙ keeps_by (rule.holds item.last item.row) found (rule.at item) (breaks rule rest)
-    ∙ sym (ap (λ (x : List Item). option_or found (breaks rule x)) e) ∙ h
+    ap (λ (x : Option ℕ). option_or x (first_break rule rest)) is
+    ∙ keeps_by (rule.holds item.last item.row) found (rule.at item) (first_break rule rest)
+    ∙ ap (option_or found) (sym (ap (first_break rule) e ∙ break_cons rule item rest)) ∙ h
 
 or_none : (o : Option ℕ) → option_or o None ≡ o
 or_none None = refl
 or_none (Some x) = refl
 
-pub keeps_end : (rule : Rule) (all : List Item) (found : Option ℕ) (rest : List Item) → rest ≡ [] → Keeps rule all found rest → found ≡ breaks rule all
-unfolding Keeps breaks
-keeps_end rule all found rest e h = sym (or_none found) ∙ sym (ap (λ (x : List Item). option_or found (breaks rule x)) e) ∙ h
+pub keeps_end : (rule : Rule) (all : List Item) (found : Option ℕ) (rest : List Item) → rest ≡ [] → Keeps rule all found rest → found ≡ first_break rule all
+unfolding Keeps first_break
+keeps_end rule all found rest e h = sym (or_none found) ∙ sym (ap (λ (x : List Item). option_or found (first_break rule x)) e) ∙ h
 
 pub keeps_start : (rule : Rule) (all rest : List Item) → rest ≡ all → Keeps rule all None rest
 unfolding Keeps
-keeps_start rule all rest e = ap (breaks rule) e
+keeps_start rule all rest e = ap (first_break rule) e
 
 -- the first item that breaks a rule, where none before it does
-pub keeps_found : (rule : Rule) (all : List Item) (item : Item) (here rest : List Item) → here ≡ item ∷ rest → rule.holds item.last item.row ≡ false → Keeps rule all None here → breaks rule all ≡ Some (rule.at item)
-unfolding Keeps breaks
-keeps_found rule all item here rest e broken h = sym h ∙ ap (breaks rule) e ∙ rw broken refl
+pub keeps_found : (rule : Rule) (all : List Item) (item : Item) (here rest : List Item) → here ≡ item ∷ rest → rule.holds item.last item.row ≡ false → Keeps rule all None here → first_break rule all ≡ Some (rule.at item)
+unfolding Keeps
+keeps_found rule all item here rest e broken h = sym h ∙ ap (first_break rule) e ∙ break_cons rule item rest ∙ rw broken refl
 
 -- ---- the loop over the rows
 
@@ -303,9 +311,9 @@ stops_at_row head docs c i at n next last before doc row lt gap sum is failed h 
     let rest = items_from head c (i + 1) next (Some row) in
     let split : items_from head c i at last ≡ item ∷ rest = items_on head c i at n next last row lt gap (is_row head docs c i at n last before None None None row h is') in
     let behind_codes = or_broken_late 13 (codes_break head.rows 0 c.gaps) (first_broken (rules head docs) all) in
-    let behind_docs = or_broken_late 14 (breaks (in_docs docs) all) (first_broken (in_words head ∷ in_kind head ∷ in_order ∷ []) all) in
-    let behind_words = or_broken_late 15 (breaks (in_words head) all) (first_broken (in_kind head ∷ in_order ∷ []) all) in
-    let behind_scores = or_broken_late 16 (breaks (in_kind head) all) (first_broken (in_order ∷ []) all) in
+    let behind_docs = or_broken_late 14 (first_break (in_docs docs) all) (first_broken (in_words head ∷ in_kind head ∷ in_order ∷ []) all) in
+    let behind_words = or_broken_late 15 (first_break (in_words head) all) (first_broken (in_kind head ∷ in_order ∷ []) all) in
+    let behind_scores = or_broken_late 16 (first_break (in_kind head) all) (first_broken (in_order ∷ []) all) in
     behind_codes (behind_docs (elim (and_false (ltb row.word (head.lo + head.words)) (is_scored head.facet row && is_after last row) failed) [
       | inl word ↦ or_broken_here 15 _ _ (first_broken (in_kind head ∷ in_order ∷ []) all) (keeps_found (in_words head) all item _ rest split word h.words_kept)
       | inr more ↦ behind_words (elim (and_false (is_scored head.facet row) (is_after last row) more) [

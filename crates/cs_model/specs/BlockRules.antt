@@ -8,13 +8,13 @@
 --   Item                     a row that was read, the row before it, its number and the place of its gap code
 --   block_items head c          the items of four columns
 --   Rule, rules head docs    a rule: its number, its test, and the place where an item breaks it; rules 14 to 17
---   breaks rule items        the place of the first item that breaks a rule; None where none does
+--   first_break rule items   where the first item that breaks a rule breaks it; None where none does
 --   judged head docs bytes   the first broken rule of the bytes of a block, and its place in them; None where all rules hold
 --   rows_read head bytes     the rows that were read
 --   IsBlock head docs rs bytes    bytes are those of so many rows as the head says, which a block can hold and which meet rules 14 to 17
-use Rattle.std.specs.Prelude.{◌≡◌, ℕ, zero, suc, ◌+◌, ◌-◌, ◌*◌, Bool, true, ◌&&◌, ◌||◌, nat_lt, nat_le, ◌==◌, List, [], ◌∷◌, length, map, take, drop, get_or, Option, Some, None, if◌then◌else◌}
+use Rattle.std.specs.Prelude.{◌≡◌, ℕ, zero, suc, ◌+◌, ◌-◌, ◌*◌, Bool, true, ◌&&◌, ◌||◌, nat_lt, nat_le, ◌==◌, List, [], ◌∷◌, length, map, take, drop, get_or, find, not, Option, Some, None, if◌then◌else◌}
 use Rattle.std.specs.Int.{w16, w32, from_be_bytes}
-use Rattle.std.specs.Option.{is_some, unwrap_or}
+use Rattle.std.specs.Option.{is_some, option_map, unwrap_or}
 use Rattle.std.specs.Ordering.{is_lt}
 use Rattle.cs_base.specs.GapCode.{code, first_code}
 use Rattle.cs_base.specs.Orders.{by_place}
@@ -144,10 +144,9 @@ rules head docs = in_docs docs ∷ in_words head ∷ in_kind head ∷ in_order �
 
 -- ---- the first broken rule
 
--- of no items None
-unfoldable pub breaks : Rule → List Item → Option ℕ
-breaks rule [] = None
-breaks rule (i ∷ is) = if rule.holds i.last i.row then breaks rule is else Some (rule.at i)
+-- where the first item that breaks a rule breaks it; of no items None
+unfoldable pub first_break : Rule → List Item → Option ℕ
+first_break rule items = option_map rule.at (find (λ i. not (rule.holds i.last i.row)) items)
 
 -- a place where a rule is broken goes before what later rules say
 abbrev pub or_broken : ℕ → Option ℕ → Option Broken → Option Broken
@@ -157,7 +156,7 @@ or_broken n (Some at) other = Some (record { n = n; at = at })
 -- the rules in turn
 abbrev pub first_broken : List Rule → List Item → Option Broken
 first_broken [] items = None
-first_broken (rule ∷ rest) items = or_broken rule.number (breaks rule items) (first_broken rest items)
+first_broken (rule ∷ rest) items = or_broken rule.number (first_break rule items) (first_broken rest items)
 
 abbrev pub judged_columns : BlockHead → ℕ → BlockColumns → Option Broken
 judged_columns head docs c = or_broken 13 (codes_break head.rows 0 c.gaps) (first_broken (rules head docs) (block_items head c))
