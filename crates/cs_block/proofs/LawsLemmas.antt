@@ -11,10 +11,10 @@ use Rattle.cs_base.specs.declared.block.Broken.{Broken}
 use Rattle.cs_base.specs.declared.doc.Post.{Post}
 use Rattle.cs_gaps.proofs.CodesLemmas.{IsBytes}
 use Rattle.cs_model.specs.Blocks.{gap_column, word_column, position_column, score_column, block_bytes, IsShaped}
-use Rattle.cs_model.specs.BlockRules.{gap_number, gap_len, codes_break, item_row, doc_before, row_at, items_in, gap_bytes, Item, Rule, rules, first_break, or_broken, first_broken, BlockColumns, block_columns, columns_behind, block_items, judged_columns, judged, rows_read, keeps, MeetAll, IsBlock}
+use Rattle.cs_model.specs.BlockRules.{gap_number, gap_len, codes_break, item_row, doc_before, row_at, items_in, gap_bytes, Item, Rule, rules, first_break, first_broken, BlockColumns, block_columns, columns_behind, block_items, judged_columns, judged, rows_read, keeps, MeetAll, IsBlock}
 use Rattle.cs_gaps.proofs.CodesLemmas.{IsBytes-drop}
 use Rattle.cs_block.proofs.ColumnsLemmas.{IsBytes-take, guard_none, AreSized, reads, again}
-use Rattle.cs_block.proofs.PassLemmas.{break_cons}
+use Rattle.cs_block.proofs.PassLemmas.{break_cons, or_broken, in_front}
 use Rattle.cs_block.proofs.RowsLemmas.{writable_from, spelling_from}
 
 -- ---- a rule over items is a rule over rows
@@ -52,12 +52,13 @@ none_from n o other p q = rw (p, q) refl
 all_met : (rs : List Rule) (head : BlockHead) (c : BlockColumns) → first_broken rs (block_items head c) ≡ None → MeetAll rs (map item_row (block_items head c))
 all_met [] head c e = tt
 all_met (rule ∷ rest) head c e =
-    let p = none_of rule.number (first_break rule (block_items head c)) (first_broken rest (block_items head c)) e in
+    let items = block_items head c in
+    let p = none_of rule.number (first_break rule items) (first_broken rest items) (sym (in_front rule rest items) ∙ e) in
     (holds_on rule head.rows head.lo None 0 0 c.gaps c.words c.positions c.scores p.0, all_met rest head c p.1)
 
 none_broken : (rs : List Rule) (head : BlockHead) (c : BlockColumns) → MeetAll rs (map item_row (block_items head c)) → first_broken rs (block_items head c) ≡ None
 none_broken [] head c m = refl
-none_broken (rule ∷ rest) head c m = none_from rule.number _ _ (unbroken rule head.rows head.lo None 0 0 c.gaps c.words c.positions c.scores m.0) (none_broken rest head c m.1)
+none_broken (rule ∷ rest) head c m = in_front rule rest (block_items head c) ∙ none_from rule.number _ _ (unbroken rule head.rows head.lo None 0 0 c.gaps c.words c.positions c.scores m.0) (none_broken rest head c m.1)
 
 -- ---- the whole block
 

@@ -20,7 +20,8 @@ use Rattle.cs_gaps.specs.declared.gap.Gap.{Gap}
 use Rattle.cs_gaps.specs.declared.gap.Gap.TheVariants.{Is}
 use Rattle.cs_gaps.specs.Reading.{StandsAt}
 use Rattle.cs_gaps.proofs.CodesLemmas.{first_found, found_first}
-use Rattle.cs_model.specs.BlockRules.{codes_break, Item, item_row, doc_before, row_at, items_in, gap_bytes, Rule, rules, in_docs, in_words, in_kind, in_order, is_scored, is_after, first_break, or_broken, first_broken, BlockColumns, block_items, block_columns, judged_columns, judged, rows_read}
+use Rattle.cs_model.specs.BlockRules.{codes_break, Item, item_row, doc_before, row_at, items_in, gap_bytes, Rule, rules, in_docs, in_words, in_kind, in_order, is_scored, is_after, first_break, broken_at, first_broken, BlockColumns, block_items, block_columns, judged_columns, judged, rows_read}
+use Rattle.cs_model.specs.First.{first_reason}
 use Rattle.cs_block.specs.Reading.{GapHere}
 use Rattle.cs_block.proofs.ColumnsLemmas.{items_step, codes_step}
 
@@ -141,6 +142,28 @@ pub keeps_found : (rule : Rule) (all : List Item) (item : Item) (here rest : Lis
 unfolding Keeps
 keeps_found rule all item here rest e broken h = sym h ∙ ap (first_break rule) e ∙ break_cons rule item rest ∙ rw broken refl
 
+-- ---- the rules in turn
+
+-- a place where a rule is broken goes before what later rules say
+abbrev pub or_broken : ℕ → Option ℕ → Option Broken → Option Broken
+or_broken n o other = option_or (option_map (broken_at n) o) other
+
+first_or : (o : Option Broken) (os : List (Option Broken)) → first_reason (o ∷ os) ≡ option_or o (first_reason os)
+first_or None os = refl
+first_or (Some b) os = refl
+
+pub in_front : (rule : Rule) (rest : List Rule) (items : List Item) → first_broken (rule ∷ rest) items ≡ or_broken rule.number (first_break rule items) (first_broken rest items)
+in_front rule rest items = first_or (option_map (broken_at rule.number) (first_break rule items)) _
+
+pub in_turn : (head : BlockHead) (docs : ℕ) (items : List Item)
+    → first_broken (rules head docs) items
+    ≡ or_broken 14 (first_break (in_docs docs) items) (or_broken 15 (first_break (in_words head) items) (or_broken 16 (first_break (in_kind head) items) (or_broken 17 (first_break in_order items) None)))
+in_turn head docs items =
+    in_front (in_docs docs) (in_words head ∷ in_kind head ∷ in_order ∷ []) items
+    ∙ ap (or_broken 14 (first_break (in_docs docs) items)) (in_front (in_words head) (in_kind head ∷ in_order ∷ []) items
+    ∙ ap (or_broken 15 (first_break (in_words head) items)) (in_front (in_kind head) (in_order ∷ []) items
+    ∙ ap (or_broken 16 (first_break (in_kind head) items)) (in_front in_order [] items)))
+
 -- ---- the loop over the rows
 
 pub record HasJudged (head : BlockHead) (docs : ℕ) (c : BlockColumns) (i at : ℕ) (last : Option Post) (before : ℕ) (word score order : Option ℕ) : Type 0 where
@@ -208,7 +231,7 @@ too_late head docs c i at n next last before word score order lt gap late h =
     let item : Item = record { row = row; last = last; index = i; gap_at = at } in
     let split = items_on head c i at n next last row lt gap (is_row head docs c i at n last before word score order row h refl) in
     let broken = keeps_found (in_docs docs) (block_items head c) item _ _ split (le-ltb (before + n) docs late) h.docs_kept in
-    ap (λ (x : Option ℕ). or_broken 14 x (first_broken (in_words head ∷ in_kind head ∷ in_order ∷ []) (block_items head c))) broken
+    in_turn head docs (block_items head c) ∙ rw broken refl
 
 pub judged_all : (head : BlockHead) (docs : ℕ) (c : BlockColumns) (i at : ℕ) (last : Option Post) (before : ℕ) (word score order : Option ℕ) (r17 r16 r15 : Option Broken)
     → head.rows ≤ i → HasJudged head docs c i at last before word score order
@@ -221,7 +244,7 @@ judged_all head docs c i at last before word score order r17 r16 r15 le h a b d 
     let s = keeps_end (in_kind head) all score _ done h.scores_kept in
     let o = keeps_end in_order all order _ done h.order_kept in
     let e = keeps_end (in_docs docs) all None _ done h.docs_kept in
-    d ∙ ap (or_broken 15 word) (b ∙ ap (or_broken 16 score) a) ∙ rw (← e, ← w, ← s, ← o) refl
+    d ∙ ap (or_broken 15 word) (b ∙ ap (or_broken 16 score) a) ∙ rw (w, s, o) (ap (λ (x : Option ℕ). or_broken 14 x (or_broken 15 (first_break (in_words head) all) (or_broken 16 (first_break (in_kind head) all) (or_broken 17 (first_break in_order all) None)))) e) ∙ sym (in_turn head docs all)
 
 some_none : (at : ℕ) → Some at ≡ None → ⊥
 some_none at e = cc
@@ -310,17 +333,17 @@ stops_at_row head docs c i at n next last before doc row lt gap sum is failed h 
     let is' : row ≡ row_at head.lo (before + n) (drop (2 * i) c.words) (drop (4 * i) c.positions) (drop i c.scores) = is ∙ ap (λ (x : ℕ). row_at head.lo x (drop (2 * i) c.words) (drop (4 * i) c.positions) (drop i c.scores)) sum in
     let rest = items_from head c (i + 1) next (Some row) in
     let split : items_from head c i at last ≡ item ∷ rest = items_on head c i at n next last row lt gap (is_row head docs c i at n last before None None None row h is') in
-    let behind_codes = or_broken_late 13 (codes_break head.rows 0 c.gaps) (first_broken (rules head docs) all) in
-    let behind_docs = or_broken_late 14 (first_break (in_docs docs) all) (first_broken (in_words head ∷ in_kind head ∷ in_order ∷ []) all) in
-    let behind_words = or_broken_late 15 (first_break (in_words head) all) (first_broken (in_kind head ∷ in_order ∷ []) all) in
-    let behind_scores = or_broken_late 16 (first_break (in_kind head) all) (first_broken (in_order ∷ []) all) in
-    behind_codes (behind_docs (elim (and_false (ltb row.word (head.lo + head.words)) (is_scored head.facet row && is_after last row) failed) [
-      | inl word ↦ or_broken_here 15 _ _ (first_broken (in_kind head ∷ in_order ∷ []) all) (keeps_found (in_words head) all item _ rest split word h.words_kept)
-      | inr more ↦ behind_words (elim (and_false (is_scored head.facet row) (is_after last row) more) [
-        | inl score ↦ or_broken_here 16 _ _ (first_broken (in_order ∷ []) all) (keeps_found (in_kind head) all item _ rest split score h.scores_kept)
-        | inr order ↦ behind_scores (or_broken_here 17 _ _ None (keeps_found in_order all item _ rest split order h.order_kept))
+    let orders = or_broken 17 (first_break in_order all) None in
+    let scores = or_broken 16 (first_break (in_kind head) all) orders in
+    let words = or_broken 15 (first_break (in_words head) all) scores in
+    let broken : is_none words ≡ false = elim (and_false (ltb row.word (head.lo + head.words)) (is_scored head.facet row && is_after last row) failed) [
+      | inl word ↦ or_broken_here 15 _ _ scores (keeps_found (in_words head) all item _ rest split word h.words_kept)
+      | inr more ↦ or_broken_late 15 (first_break (in_words head) all) scores (elim (and_false (is_scored head.facet row) (is_after last row) more) [
+        | inl score ↦ or_broken_here 16 _ _ orders (keeps_found (in_kind head) all item _ rest split score h.scores_kept)
+        | inr order ↦ or_broken_late 16 (first_break (in_kind head) all) orders (or_broken_here 17 _ _ None (keeps_found in_order all item _ rest split order h.order_kept))
       ])
-    ]))
+    ] in
+    or_broken_late 13 (codes_break head.rows 0 c.gaps) (first_broken (rules head docs) all) (ap is_none (in_turn head docs all) ∙ or_broken_late 14 (first_break (in_docs docs) all) words broken)
 
 pub ends_whole : (head : BlockHead) (docs : ℕ) (c : BlockColumns) (i at : ℕ) (last : Option Post) (before : ℕ) → head.rows ≤ i → at ≡ length c.gaps → HasJudged head docs c i at last before None None None → is_none (judged_columns head docs c) ≡ true
 ends_whole head docs c i at last before le end h =

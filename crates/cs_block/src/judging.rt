@@ -1,8 +1,8 @@
 //! Which rule is the first that the bytes of a block break.
 ghost use Rattle.std.specs.Prelude.{◌≡◌, ℕ, ◌+◌, ◌*◌, ◌≤◌, length, None, Some, cond, IfSome};
-ghost use Rattle.std.specs.Option.{option_or};
+ghost use Rattle.std.specs.Option.{option_map, option_or};
 ghost use Rattle.cs_model.specs.Blocks.{IsShaped};
-ghost use Rattle.cs_model.specs.BlockRules.{codes_break, first_broken, block_items, judged_columns, or_broken, rules};
+ghost use Rattle.cs_model.specs.BlockRules.{block_items, broken_at, codes_break, first_broken, judged_columns, rules};
 ghost use Rattle.cs_block.specs.Reading.{HasColumns};
 ghost use Rattle.cs_block.specs.ColumnsView.{seen};
 
@@ -98,7 +98,7 @@ fn keep(found: Option<u32>, holds: bool, at: u32) -> Option<u32>
 
 // A rule that is broken at a place goes before the others.
 fn or_rule(n: u8, at: Option<u32>, other: Option<Broken>) -> Option<Broken>
-    ensures { result ≡ or_broken n at other }
+    ensures { result ≡ option_or (option_map (broken_at n) at) other }
 {
     match at {
         Some(at) => Some(Broken { n, at }),

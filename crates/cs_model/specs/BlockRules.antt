@@ -9,12 +9,13 @@
 --   block_items head c          the items of four columns
 --   Rule, rules head docs    a rule: its number, its test, and the place where an item breaks it; rules 14 to 17
 --   first_break rule items   where the first item that breaks a rule breaks it; None where none does
+--   first_broken rs items    the first rule of some that some item breaks, with its first place; None where all hold
 --   judged head docs bytes   the first broken rule of the bytes of a block, and its place in them; None where all rules hold
 --   rows_read head bytes     the rows that were read
 --   IsBlock head docs rs bytes    bytes are those of so many rows as the head says, which a block can hold and which meet rules 14 to 17
 use Rattle.std.specs.Prelude.{◌≡◌, ℕ, zero, suc, ◌+◌, ◌-◌, ◌*◌, Bool, true, ◌&&◌, ◌||◌, nat_lt, nat_le, ◌==◌, List, [], ◌∷◌, length, map, take, drop, get_or, find, not, Option, Some, None, if◌then◌else◌}
 use Rattle.std.specs.Int.{w16, w32, from_be_bytes}
-use Rattle.std.specs.Option.{is_some, option_map, unwrap_or}
+use Rattle.std.specs.Option.{is_some, option_map, option_or, unwrap_or}
 use Rattle.std.specs.Ordering.{is_lt}
 use Rattle.cs_base.specs.GapCode.{code, first_code}
 use Rattle.cs_base.specs.Orders.{by_place}
@@ -24,6 +25,7 @@ use Rattle.cs_base.specs.declared.doc.Post.{Post}
 use Rattle.cs_base.specs.declared.limits.TheConstants.{MAX_POSITION}
 use Rattle.cs_base.specs.declared.scores.TheConstants.{TITLE_SCORE, FACET_SCORE, TEXT_SCORE}
 use Rattle.cs_model.specs.Blocks.{AreWritable, block_bytes}
+use Rattle.cs_model.specs.First.{first_reason}
 
 -- ---- gap codes whole and shortest
 
@@ -148,18 +150,17 @@ rules head docs = in_docs docs ∷ in_words head ∷ in_kind head ∷ in_order �
 unfoldable pub first_break : Rule → List Item → Option ℕ
 first_break rule items = option_map rule.at (find (λ i. not (rule.holds i.last i.row)) items)
 
--- a place where a rule is broken goes before what later rules say
-abbrev pub or_broken : ℕ → Option ℕ → Option Broken → Option Broken
-or_broken n None other = other
-or_broken n (Some at) other = Some (record { n = n; at = at })
+-- the rule of a number, broken at a place
+abbrev pub broken_at : ℕ → ℕ → Broken
+broken_at n at = record { n = n; at = at }
 
--- the rules in turn
+-- the first rule of some that some item breaks, with its first place; of no rules None
 abbrev pub first_broken : List Rule → List Item → Option Broken
-first_broken [] items = None
-first_broken (rule ∷ rest) items = or_broken rule.number (first_break rule items) (first_broken rest items)
+first_broken rs items = first_reason (map (λ rule. option_map (broken_at rule.number) (first_break rule items)) rs)
 
+-- the codes go before the rules on rows
 abbrev pub judged_columns : BlockHead → ℕ → BlockColumns → Option Broken
-judged_columns head docs c = or_broken 13 (codes_break head.rows 0 c.gaps) (first_broken (rules head docs) (block_items head c))
+judged_columns head docs c = option_or (option_map (broken_at 13) (codes_break head.rows 0 c.gaps)) (first_broken (rules head docs) (block_items head c))
 
 -- the codes first, then the rules on rows
 unfoldable pub judged : BlockHead → ℕ → List ℕ → Option Broken
