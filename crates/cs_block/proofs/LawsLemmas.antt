@@ -2,10 +2,13 @@
 --
 --   holds_on, unbroken   a rule that no item breaks is kept by the rows, and the other way
 --   accepted, unique     the laws of whole blocks
-use Rattle.std.proofs.Common.{◌≡◌, ℕ, zero, suc, ◌+◌, ◌-◌, ◌*◌, ◌^◌, ◌<◌, Bool, true, false, cond, List, [], ◌∷◌, ◌++◌, length, map, take, drop, Option, Some, None, refl, sym, ap, subst, ◌∙◌, arith}
+--   accepted_are_blocks, one_reading    the same, as they are said of the crate
+use Rattle.std.proofs.Common.{◌≡◌, ℕ, zero, suc, ◌+◌, ◌-◌, ◌*◌, ◌^◌, ◌<◌, Bool, true, false, cond, List, [], ◌∷◌, ◌++◌, length, map, take, drop, Option, Some, None, refl, sym, ap, subst, ◌∙◌, arith, inl, inr}
+use Rattle.std.specs.Prelude.{◌↔◌, All}
 use Rattle.std.specs.Int.{w16, w32, to_be_bytes}
-use Rattle.std.proofs.lemmas.Bool.{and_parts, and_from}
-use Rattle.std.proofs.lemmas.List.{drop_at, take_at, take-append-drop, length-append, length-take, length-drop}
+use Rattle.std.proofs.lemmas.Bool.{and_parts, and_from, cases_lt}
+use Rattle.std.proofs.lemmas.List.{drop_at, take_at, take-append-drop, length-append, length-take, length-drop, get_or_past}
+use Rattle.std.proofs.lemmas.List.Elements.{All-get_or}
 use Rattle.cs_base.specs.declared.block.BlockHead.{BlockHead}
 use Rattle.cs_base.specs.declared.block.Broken.{Broken}
 use Rattle.cs_base.specs.declared.doc.Post.{Post}
@@ -161,3 +164,21 @@ unique head docs rs bytes few shaped b =
       ap (judged_columns head docs) cols ∙ none_from 13 _ _ no_gap (none_broken (rules head docs) head s met),
       ap (λ (c : BlockColumns). map item_row (block_items head c)) cols ∙ same,
     )
+
+-- ---- the law
+
+bytes_by : (bytes : List ℕ) → All (λ b. b < 256) bytes → IsBytes bytes
+bytes_by bytes h i =
+    elim (cases_lt i (length bytes)) [
+      | inl lt ↦ All-get_or (λ b. b < 256) bytes i 0 lt h
+      | inr le ↦ rw (get_or_past bytes i 0 le) (omega arith)
+    ]
+
+pub accepted_are_blocks : (head : BlockHead) (docs : ℕ) (bytes : List ℕ) → docs < 2 ^ 32 → All (λ b. b < 256) bytes → IsShaped head (length bytes) → (judged head docs bytes ≡ None) ↔ ((rs : List Post) × IsBlock head docs rs bytes)
+accepted_are_blocks head docs bytes few small shaped = (
+  λ e. (rows_read head bytes, accepted head docs bytes (bytes_by bytes small) shaped e),
+  λ b. (unique head docs b.0 bytes few shaped b.1).0,
+)
+
+pub one_reading : (head : BlockHead) (docs : ℕ) (rs : List Post) (bytes : List ℕ) → docs < 2 ^ 32 → IsShaped head (length bytes) → IsBlock head docs rs bytes → rows_read head bytes ≡ rs
+one_reading head docs rs bytes few shaped b = (unique head docs rs bytes few shaped b).1

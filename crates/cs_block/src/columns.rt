@@ -2,6 +2,7 @@
 ghost use Rattle.std.specs.Prelude.{◌≡◌, ◌+◌, ◌*◌, ◌<◌, ◌≤◌, ◌^◌, length, take, drop, MatchOption, None};
 ghost use Rattle.std.specs.Int.{w16, w32, from_be_bytes};
 ghost use Rattle.cs_base.specs.GapCode.{first_code};
+ghost use Rattle.cs_base.specs.declared.limits.TheConstants.{MAX_WORDS};
 ghost use Rattle.cs_model.specs.Blocks.{IsShaped};
 ghost use Rattle.cs_model.specs.BlockRules.{block_columns, row_at};
 ghost use Rattle.cs_block.specs.Reading.{GapHere, HasColumns};
@@ -57,7 +58,7 @@ pub fn gap_here(gaps: &[u8], at: usize) -> Option<(u32, usize)>
 /// The row of a document whose other numbers stand at index `i` of the columns.
 #[inline]
 pub fn row_of(columns: &Columns<'_>, lo: u32, doc: u32, i: usize) -> Post
-    requires lo { lo ≤ 2 ^ 22 }
+    requires lo { lo ≤ MAX_WORDS }
     requires words { 2 * i + 2 ≤ length columns.now.words.now }
     requires positions { 4 * i + 4 ≤ length columns.now.positions.now }
     requires scores { i < length columns.now.scores.now }

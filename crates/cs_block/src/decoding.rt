@@ -14,14 +14,16 @@ use crate::rules::keeps_rules;
 use cs_base::{BlockHead, Post};
 use cs_cols::Cols;
 
-/// Adds the rows of a block at the end. The documents of the collection are those below `docs`.
+/// Adds the rows of a block at the end, or the fault says which rule its bytes break first, or that
+/// memory ran out. `head` is what the index file's directory says of the block, and the documents of
+/// the collection are those below `docs`.
 pub fn decode(bytes: &[u8], head: &BlockHead, docs: u32, into: &mut Cols) -> Result<(), BlockFault>
-    requires { IsShaped head.now (length bytes.now) }
+    requires shaped { IsShaped head.now (length bytes.now) }
 
     // what is accepted is what `encode` writes of rows that meet the rules, and these are added
     ensures ok { OnOk result ((rows : List Post) × IsBlock head.now docs rows bytes.now × (into.new.posts ≡ into.old.posts ++ rows)) }
     // such bytes are accepted, unless memory runs out
-    ensures only { (rows : List Post) → IsBlock head.now docs rows bytes.now → Decodes result None }
+    ensures accepts { (rows : List Post) → IsBlock head.now docs rows bytes.now → Decodes result None }
     // which rule is the first broken one, and where
     ensures exact { Decodes result (judged head.now docs bytes.now) }
     ensures err { OnErr result (into.new.posts ≡ into.old.posts) }

@@ -1,5 +1,6 @@
 //! The tests that a row has to pass, other than that of its document.
-ghost use Rattle.std.specs.Prelude.{◌≡◌, ◌+◌, ◌≤◌, ◌^◌, ◌&&◌, nat_lt};
+ghost use Rattle.std.specs.Prelude.{◌≡◌, ◌+◌, ◌≤◌, ◌&&◌, nat_lt};
+ghost use Rattle.cs_base.specs.declared.limits.TheConstants.{MAX_WORDS};
 ghost use Rattle.cs_model.specs.BlockRules.{is_after, is_scored};
 
 use cs_base::{BlockHead, FACET_SCORE, MAX_POSITION, Post, TEXT_SCORE, TITLE_SCORE};
@@ -7,7 +8,7 @@ use cs_base::{BlockHead, FACET_SCORE, MAX_POSITION, Post, TEXT_SCORE, TITLE_SCOR
 /// Whether a row keeps all of them.
 #[inline]
 pub fn keeps_rules(head: &BlockHead, last: Option<Post>, row: Post) -> bool
-    requires { head.now.lo + head.now.words ≤ 2 ^ 22 }
+    requires words { head.now.lo + head.now.words ≤ MAX_WORDS }
 
     ensures { result ≡ (nat_lt row.word (head.now.lo + head.now.words) && (is_scored head.now.facet row && is_after last row)) }
 {
@@ -17,7 +18,7 @@ pub fn keeps_rules(head: &BlockHead, last: Option<Post>, row: Post) -> bool
 /// Whether the row's word is one of the block's, where it isn't before the first of them.
 #[inline]
 pub fn is_in_words(head: &BlockHead, row: Post) -> bool
-    requires { head.now.lo + head.now.words ≤ 2 ^ 22 }
+    requires words { head.now.lo + head.now.words ≤ MAX_WORDS }
 
     ensures { result ≡ nat_lt row.word (head.now.lo + head.now.words) }
 {
