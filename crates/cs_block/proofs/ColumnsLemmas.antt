@@ -8,7 +8,7 @@ use Rattle.std.proofs.Common.{◌≡◌, ℕ, zero, suc, ◌+◌, ◌-◌, ◌*�
 use Rattle.std.specs.Int.{w16, w32, to_be_bytes, from_be_bytes}
 use Rattle.std.specs.Option.{is_some, unwrap_or}
 use Rattle.std.proofs.lemmas.Bool.{cases_lt}
-use Rattle.std.proofs.lemmas.List.{drop_at, take-append-drop, length-take, length-drop, get_or-drop, get_or-take, get_or_past, nil_from_length}
+use Rattle.std.proofs.lemmas.List.{drop_at, take-append-drop, length-take, length-drop, get_or-take, get_or_past, nil_from_length}
 use Rattle.std.proofs.lemmas.Nat.{be_bytes_2, be_bytes_4, from_be_bytes-to_be_bytes_2, from_be_bytes-to_be_bytes_4}
 use Rattle.cs_base.specs.GapCode.{code, first_code}
 use Rattle.cs_base.specs.declared.doc.Post.{Post}

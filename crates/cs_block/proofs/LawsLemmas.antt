@@ -3,7 +3,7 @@
 --   holds_on, unbroken   a rule that no item breaks is kept by the rows, and the other way
 --   accepted, unique     the laws of whole blocks
 --   accepted_are_blocks, one_reading    the same, as they are said of the crate
-use Rattle.std.proofs.Common.{◌≡◌, ℕ, zero, suc, ◌+◌, ◌-◌, ◌*◌, ◌^◌, ◌<◌, Bool, true, false, cond, List, [], ◌∷◌, ◌++◌, length, map, take, drop, Option, Some, None, refl, sym, ap, subst, ◌∙◌, arith, inl, inr}
+use Rattle.std.proofs.Common.{◌≡◌, ℕ, zero, suc, ◌+◌, ◌-◌, ◌*◌, ◌^◌, ◌<◌, true, List, [], ◌∷◌, ◌++◌, length, map, take, drop, Option, Some, None, refl, sym, ap, subst, ◌∙◌, arith, inl, inr}
 use Rattle.std.specs.Prelude.{◌↔◌, All}
 use Rattle.std.specs.Int.{w16, w32, to_be_bytes}
 use Rattle.std.proofs.lemmas.Bool.{and_parts, and_from, cases_lt}
@@ -17,7 +17,7 @@ use Rattle.cs_model.specs.Blocks.{gap_column, word_column, position_column, scor
 use Rattle.cs_model.specs.BlockRules.{gap_number, gap_len, codes_break, item_row, doc_before, row_at, items_in, gap_bytes, Item, Rule, rules, first_break, first_broken, BlockColumns, block_columns, columns_behind, block_items, judged_columns, judged, rows_read, keeps, MeetAll, IsBlock}
 use Rattle.cs_gaps.proofs.CodesLemmas.{IsBytes-drop}
 use Rattle.cs_block.proofs.ColumnsLemmas.{IsBytes-take, guard_none, AreSized, reads, again}
-use Rattle.cs_block.proofs.PassLemmas.{break_cons, or_broken, in_front}
+use Rattle.cs_block.proofs.ItemsLemmas.{break_cons, or_broken, in_front}
 use Rattle.cs_block.proofs.RowsLemmas.{writable_from, spelling_from}
 
 -- ---- a rule over items is a rule over rows

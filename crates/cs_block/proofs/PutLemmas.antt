@@ -3,10 +3,10 @@
 --   IsPutting              what stands there and what is still to be put make all that is to stand there
 --   gaps_split and so on   the first row's piece of a column
 --   block_put              the four columns make the block
-use Rattle.std.proofs.Common.{◌≡◌, ℕ, ◌+◌, ◌-◌, ◌^◌, ◌<◌, ◌≤◌, List, [], ◌∷◌, ◌++◌, length, take, drop, refl, sym, ap, subst, ◌∙◌, append_assoc, arith}
+use Rattle.std.proofs.Common.{◌≡◌, ℕ, ◌+◌, ◌-◌, ◌^◌, ◌<◌, ◌≤◌, List, [], ◌∷◌, ◌++◌, length, take, drop, sym, ap, subst, ◌∙◌, append_assoc, arith}
 use Rattle.std.specs.Prelude.{slice_index_or}
 use Rattle.std.specs.Int.{w16, w32, to_be_bytes}
-use Rattle.std.proofs.lemmas.List.{append-nil, take-append-le, length-take, take_all, take-take, drop_more}
+use Rattle.std.proofs.lemmas.List.{append-nil, take-append-le, length-take, take-take, drop_more}
 use Rattle.cs_base.specs.GapCode.{code}
 use Rattle.cs_base.specs.declared.doc.Post.{Post}
 use Rattle.cs_model.specs.Blocks.{gap_column, word_column, position_column, score_column, block_bytes}
@@ -16,12 +16,6 @@ use Rattle.cs_block.specs.Spelling.{HasWords, IsAscending}
 pub record IsPutting (all first now rest : List ℕ) : Type 0 where
   pub told : all ≡ now ++ rest
   pub kept : take (length first) now ≡ first
-
-take_all_of : (xs : List ℕ) → take (length xs) xs ≡ xs
-take_all_of xs = take_all (length xs) xs (omega arith)
-
-pub putting : (first column : List ℕ) → IsPutting (first ++ column) first first column
-putting first column = record { told = refl; kept = take_all_of first }
 
 pub puts_on : (all first now piece rest left : List ℕ) → rest ≡ piece ++ left → IsPutting all first now rest → IsPutting all first (now ++ piece) left
 puts_on all first now piece rest left e h =

@@ -2,7 +2,8 @@ use Rattle.std.proofs.Common.{sym, ◌∙◌, ap, arith, ◌++◌, List}
 use Rattle.cs_base.specs.declared.doc.Post.{Post}
 use Rattle.cs_model.specs.BlockRules.{rows_read}
 use Rattle.cs_block.proofs.LawsLemmas.{accepted, unique}
-use Rattle.cs_block.proofs.PassLemmas.{judged_cut, rows_cut, none-from_test}
+use Rattle.cs_block.proofs.ItemsLemmas.{judged_cut, rows_cut}
+use Rattle.cs_block.proofs.PassLemmas.{none-from_test}
 use Rattle.cs_block.proofs.decoding.decode.Goals as goal
 
 pub returns-in-Some-clause-accepts : goal.returns-in-Some-clause-accepts
