@@ -1,46 +1,106 @@
--- The definitions on a worked block, of three plain words with a row each in document 0.
-use Rattle.std.proofs.Common.{◌≡◌, List, ℕ, [], ◌∷◌, false, Some, None, refl}
+-- The definitions on the two blocks of the worked index file: that of a facet word with one row, and that of three plain words with
+-- a row each. Both are in document 0.
+use Rattle.std.proofs.Common.{◌≡◌, List, ℕ, [], ◌∷◌, set, true, false, Some, None, refl}
 use Rattle.cs_base.specs.GapCode.{code_in, code, looked_at, value_of, first_code}
 use Rattle.cs_base.specs.declared.block.BlockHead.{BlockHead}
 use Rattle.cs_base.specs.declared.doc.Post.{Post}
-use Rattle.cs_model.specs.Blocks.{gap_column, word_column, place_column, score_column, block_bytes}
-use Rattle.cs_model.specs.BlockRules.{codes_break, items_in, breaks, judged, rows_read}
+use Rattle.cs_model.specs.Blocks.{gap_column, word_column, position_column, score_column, block_bytes}
+use Rattle.cs_model.specs.BlockRules.{codes_break, items_in, first_break, judged, rows_read}
 
-abbrev rows : List Post
-rows =
+-- ---- the block of the facet word
+
+abbrev facet_rows : List Post
+facet_rows = record { doc = 0; word = 0; pos = 0; score = 2 } ∷ []
+
+-- of so many rows and bytes
+abbrev facet_head : ℕ → ℕ → BlockHead
+facet_head rows len = record { lo = 0; words = 1; rows = rows; len = len; facet = true }
+
+abbrev facet_bytes : List ℕ
+facet_bytes = 0 ∷ 0 ∷ 0 ∷ 0 ∷ 0 ∷ 0 ∷ 0 ∷ 2 ∷ []
+
+block_bytes-facet : block_bytes facet_rows 0 ≡ facet_bytes
+unfolding block_bytes gap_column word_column position_column score_column code code_in
+block_bytes-facet = refl
+
+rows_read-facet : rows_read (facet_head 1 8) facet_bytes ≡ facet_rows
+unfolding rows_read items_in first_code looked_at value_of code code_in
+rows_read-facet = refl
+
+judged-facet : judged (facet_head 1 8) 1 facet_bytes ≡ None
+unfolding judged codes_break items_in first_break first_code looked_at value_of code code_in
+judged-facet = refl
+
+-- ---- the block of the plain words
+
+abbrev plain_rows : List Post
+plain_rows =
     record { doc = 0; word = 2; pos = 1; score = 4 }
     ∷ record { doc = 0; word = 3; pos = 10; score = 1 }
     ∷ record { doc = 0; word = 1; pos = 11; score = 1 }
     ∷ []
 
-abbrev head : BlockHead
-head = record { lo = 1; words = 3; rows = 3; len = 24; facet = false }
+abbrev plain_head : BlockHead
+plain_head = record { lo = 1; words = 3; rows = 3; len = 24; facet = false }
 
--- the block's bytes, with some first and some last byte
-abbrev bytes_with : ℕ → ℕ → List ℕ
-bytes_with first last = first ∷ 0 ∷ 0 ∷ 0 ∷ 1 ∷ 0 ∷ 2 ∷ 0 ∷ 0 ∷ 0 ∷ 0 ∷ 0 ∷ 1 ∷ 0 ∷ 0 ∷ 0 ∷ 10 ∷ 0 ∷ 0 ∷ 0 ∷ 11 ∷ 4 ∷ 1 ∷ last ∷ []
+abbrev plain_bytes : List ℕ
+plain_bytes = 0 ∷ 0 ∷ 0 ∷ 0 ∷ 1 ∷ 0 ∷ 2 ∷ 0 ∷ 0 ∷ 0 ∷ 0 ∷ 0 ∷ 1 ∷ 0 ∷ 0 ∷ 0 ∷ 10 ∷ 0 ∷ 0 ∷ 0 ∷ 11 ∷ 4 ∷ 1 ∷ 1 ∷ []
 
-block_bytes-worked : block_bytes rows 1 ≡ bytes_with 0 1
-unfolding block_bytes gap_column word_column place_column score_column code code_in
-block_bytes-worked = refl
+block_bytes-plain : block_bytes plain_rows 1 ≡ plain_bytes
+unfolding block_bytes gap_column word_column position_column score_column code code_in
+block_bytes-plain = refl
 
-rows_read-worked : rows_read head (bytes_with 0 1) ≡ rows
+rows_read-plain : rows_read plain_head plain_bytes ≡ plain_rows
 unfolding rows_read items_in first_code looked_at value_of code code_in
-rows_read-worked = refl
+rows_read-plain = refl
 
-judged-worked : judged head 1 (bytes_with 0 1) ≡ None
-unfolding judged codes_break items_in breaks first_code looked_at value_of code code_in
-judged-worked = refl
+judged-plain : judged plain_head 1 plain_bytes ≡ None
+unfolding judged codes_break items_in first_break first_code looked_at value_of code code_in
+judged-plain = refl
 
-judged-needless_zero : judged head 1 (bytes_with 128 1) ≡ Some (record { n = 13; at = 0 })
-unfolding judged codes_break items_in breaks first_code looked_at value_of code code_in
-judged-needless_zero = refl
+-- ---- each rule and its place
 
-judged-no_score : judged head 1 (bytes_with 0 3) ≡ Some (record { n = 16; at = 17 })
-unfolding judged codes_break items_in breaks first_code looked_at value_of code code_in
-judged-no_score = refl
+-- the last gap code is cut
+judged-cut : judged plain_head 1 (set plain_bytes 2 128) ≡ Some (record { n = 13; at = 2 })
+unfolding judged codes_break items_in first_break first_code looked_at value_of code code_in
+judged-cut = refl
 
--- the document comes before the score
-judged-two_rules : judged head 0 (bytes_with 0 3) ≡ Some (record { n = 14; at = 0 })
-unfolding judged codes_break items_in breaks first_code looked_at value_of code code_in
+-- 0 in two bytes
+judged-too_long : judged plain_head 1 (set plain_bytes 0 128) ≡ Some (record { n = 13; at = 0 })
+unfolding judged codes_break items_in first_break first_code looked_at value_of code code_in
+judged-too_long = refl
+
+-- a byte behind the last gap code
+judged-left_over : judged (facet_head 1 9) 1 (0 ∷ facet_bytes) ≡ Some (record { n = 13; at = 1 })
+unfolding judged codes_break items_in first_break first_code looked_at value_of code code_in
+judged-left_over = refl
+
+-- the first of two rows has both bytes of the gaps, so that the second finds the column's end
+judged-column_end : judged (facet_head 2 16) 129 (128 ∷ 1 ∷ 0 ∷ 0 ∷ 0 ∷ 0 ∷ 0 ∷ 0 ∷ 0 ∷ 0 ∷ 0 ∷ 0 ∷ 0 ∷ 0 ∷ 2 ∷ 2 ∷ []) ≡ Some (record { n = 13; at = 2 })
+unfolding judged codes_break items_in first_break first_code looked_at value_of code code_in
+judged-column_end = refl
+
+-- the last row is in document 1, of a collection of one document
+judged-document : judged plain_head 1 (set plain_bytes 2 1) ≡ Some (record { n = 14; at = 2 })
+unfolding judged codes_break items_in first_break first_code looked_at value_of code code_in
+judged-document = refl
+
+-- the first row has the word 4
+judged-word : judged plain_head 1 (set plain_bytes 4 3) ≡ Some (record { n = 15; at = 3 })
+unfolding judged codes_break items_in first_break first_code looked_at value_of code code_in
+judged-word = refl
+
+-- the last row has the score 3; the place is that of its position
+judged-score : judged plain_head 1 (set plain_bytes 23 3) ≡ Some (record { n = 16; at = 17 })
+unfolding judged codes_break items_in first_break first_code looked_at value_of code code_in
+judged-score = refl
+
+-- the last row stands before the one before it
+judged-order : judged plain_head 1 (set plain_bytes 20 9) ≡ Some (record { n = 17; at = 2 })
+unfolding judged codes_break items_in first_break first_code looked_at value_of code code_in
+judged-order = refl
+
+-- the rule of the lower number goes first, though its place is behind
+judged-two_rules : judged plain_head 1 (set (set plain_bytes 20 9) 23 3) ≡ Some (record { n = 16; at = 17 })
+unfolding judged codes_break items_in first_break first_code looked_at value_of code code_in
 judged-two_rules = refl

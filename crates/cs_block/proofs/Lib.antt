@@ -1,5 +1,6 @@
 pub mod ColumnsLemmas
 pub mod Examples
+pub mod ItemsLemmas
 pub mod LawsLemmas
 pub mod PassLemmas
 pub mod PutLemmas

@@ -1,137 +1,21 @@
--- The steps of the loops over a block's rows.
+-- What the loops over a block's rows know.
 --
---   items_from      the items from a place on
---   Keeps           one rule's first broken place, as far as the loop has come
 --   HasJudged       what the loop that looks for the first broken rule knows
 --   HasPushed       what the loop that adds the rows knows
 --   stops_at_code, stops_at_doc, stops_at_row    where it stops a rule is broken
---   columns_cut     the columns as the code cuts them
-use Rattle.std.proofs.Common.{◌≡◌, ℕ, suc, ◌+◌, ◌-◌, ◌*◌, ◌^◌, ◌<◌, ◌≤◌, ◌⊎◌, Bool, true, false, ◌&&◌, cond, ltb, eqb, List, [], ◌∷◌, ◌++◌, length, map, take, drop, Option, Some, None, refl, sym, ap, ◌∙◌, append_assoc, arith, inl, inr}
+--   ends, pushed_all    where it ends no rule on rows is broken, and all rows are added
+use Rattle.std.proofs.Common.{◌≡◌, ℕ, ◌+◌, ◌-◌, ◌*◌, ◌<◌, ◌≤◌, Bool, true, false, ◌&&◌, cond, ltb, eqb, List, [], ◌∷◌, ◌++◌, length, map, take, drop, Option, Some, None, refl, sym, ap, ◌∙◌, append_assoc, arith, inl, inr}
 use Rattle.std.specs.Option.{option_or, is_none}
-use Rattle.std.proofs.lemmas.Bool.{and_parts, cases_lt, lt-ltb, le-ltb, ne_eqb}
-use Rattle.std.proofs.lemmas.Bool.Decides.{nat_tests}
-use Rattle.std.proofs.lemmas.List.{drop-drop, drop_all, length-drop, length-take, append-nil, take_all, take-append-le}
-use Rattle.cs_base.specs.GapCode.{code, first_code}
+use Rattle.std.proofs.lemmas.Bool.{and_parts, and_cases, eq-eqb, cases_lt, lt-ltb, le-ltb, ne_eqb}
+use Rattle.std.proofs.lemmas.Option.{none-some}
+use Rattle.std.proofs.lemmas.List.{length-take, append-nil, take_all, take-append-le}
+use Rattle.cs_base.specs.GapCode.{first_code}
 use Rattle.cs_base.specs.declared.block.BlockHead.{BlockHead}
 use Rattle.cs_base.specs.declared.block.Broken.{Broken}
 use Rattle.cs_base.specs.declared.doc.Post.{Post}
-use Rattle.cs_gaps.specs.declared.gap.Gap.{Gap}
-use Rattle.cs_gaps.specs.declared.gap.Gap.TheVariants.{Is}
-use Rattle.cs_gaps.specs.Reading.{StandsAt}
-use Rattle.cs_gaps.proofs.CodesLemmas.{first_found, found_first}
-use Rattle.cs_model.specs.BlockRules.{codes_break, Item, item_row, doc_before, row_at, items_in, gap_bytes, Rule, rules, in_docs, in_words, in_kind, in_order, is_scored, is_after, breaks, or_broken, first_broken, BlockColumns, items_of, block_columns, judged_columns, judged, rows_read}
+use Rattle.cs_model.specs.BlockRules.{codes_break, Item, item_row, doc_before, row_at, gap_bytes, rules, in_docs, in_words, in_kind, in_order, is_scored, is_after, first_break, first_broken, BlockColumns, block_items, judged_columns}
 use Rattle.cs_block.specs.Reading.{GapHere}
-use Rattle.cs_block.proofs.ColumnsLemmas.{items_step, codes_step}
-
-pub left_from : (gaps : List ℕ) (at n next : ℕ) (h : GapHere gaps at n next) → drop (length (code n)) (drop at gaps) ≡ drop next gaps
-left_from gaps at n next h = drop-drop (length (code n)) at gaps ∙ ap (λ (x : ℕ). drop x gaps) (sym h.behind)
-
-pub here_from : (gaps : List ℕ) (at n next : ℕ) → StandsAt n at next gaps → GapHere gaps at n next
-here_from gaps at n next h = record { is = ap first_code h.parts ∙ first_found n h.rest h.below; behind = h.behind; within = h.within; below = h.below }
-
--- what else than a code is found shows that no code stands there
-pub none_from : (gaps : List ℕ) (at : ℕ) (g : Gap) → ((n : ℕ) (rest : List ℕ) → n < 2 ^ 32 → drop at gaps ≡ code n ++ rest → g ≡ Is n (at + length (code n))) → ((n next : ℕ) → g ≡ Is n next → ⊥) → first_code (drop at gaps) ≡ None
-none_from gaps at g only not = elim (first_code (drop at gaps)) as (λ o. first_code (drop at gaps) ≡ o → first_code (drop at gaps) ≡ None) [
-  | None ↦ λ e. e
-  | Some n ↦ λ e. absurd (let f = found_first n (drop at gaps) e in not n (at + length (code n)) (only n (drop (length (code n)) (drop at gaps)) f.0 f.1))
-] refl
-
--- ---- the gap column
-
-pub bad_on : (rows i at n next : ℕ) (gaps : List ℕ) → i < rows → GapHere gaps at n next → codes_break (rows - i) at (drop at gaps) ≡ codes_break (rows - (i + 1)) next (drop next gaps)
-bad_on rows i at n next gaps lt h =
-    let k : rows - i ≡ suc (rows - (i + 1)) = omega arith in
-    ap (λ (x : ℕ). codes_break x at (drop at gaps)) k ∙ codes_step (rows - (i + 1)) at n (drop at gaps) (drop next gaps) h.is (left_from gaps at n next h) ∙ ap (λ (x : ℕ). codes_break (rows - (i + 1)) x (drop next gaps)) (sym h.behind)
-
-pub bad_here : (rows i at : ℕ) (gaps : List ℕ) → i < rows → first_code (drop at gaps) ≡ None → codes_break (rows - i) at (drop at gaps) ≡ Some at
-unfolding codes_break
-bad_here rows i at gaps lt none =
-    let k : rows - i ≡ suc (rows - (i + 1)) = omega arith in
-    rw (k, none) refl
-
-left_over : (at : ℕ) (bytes : List ℕ) → 0 < length bytes → codes_break 0 at bytes ≡ Some at
-unfolding codes_break
-left_over at [] h = absurd (omega arith)
-left_over at (b ∷ bytes) h = refl
-
-pub bad_over : (rows i at : ℕ) (gaps : List ℕ) → rows ≤ i → at < length gaps → codes_break (rows - i) at (drop at gaps) ≡ Some at
-bad_over rows i at gaps le lt =
-    let k : rows - i ≡ 0 = omega arith in
-    rw k (left_over at (drop at gaps) (omega (arith, length-drop at gaps)))
-
-pub bad_done : (rows i at : ℕ) (gaps : List ℕ) → rows ≤ i → length gaps ≤ at → codes_break (rows - i) at (drop at gaps) ≡ None
-unfolding codes_break
-bad_done rows i at gaps le lt =
-    let k : rows - i ≡ 0 = omega arith in
-    rw (k, drop_all at gaps lt) refl
-
--- ---- the items from a place on
-
-pub items_from : BlockHead → BlockColumns → ℕ → ℕ → Option Post → List Item
-items_from head c i at last = items_in head.lo (head.rows - i) last i at (drop at c.gaps) (drop (2 * i) c.words) (drop (4 * i) c.places) (drop i c.scores)
-
-pub items_on : (head : BlockHead) (c : BlockColumns) (i at n next : ℕ) (last : Option Post) (row : Post) → i < head.rows → GapHere c.gaps at n next
-    → row ≡ row_at head.lo (doc_before last + n) (drop (2 * i) c.words) (drop (4 * i) c.places) (drop i c.scores)
-    → items_from head c i at last ≡ record { row = row; last = last; index = i; gap_place = at } ∷ items_from head c (i + 1) next (Some row)
-unfolding items_from
-items_on head c i at n next last row lt h is =
-    let rest = head.rows - (i + 1) in
-    let k : head.rows - i ≡ suc rest = omega arith in
-    let w : drop 2 (drop (2 * i) c.words) ≡ drop (2 * (i + 1)) c.words = drop-drop 2 (2 * i) c.words ∙ ap (λ (x : ℕ). drop x c.words) (omega arith) in
-    let p : drop 4 (drop (4 * i) c.places) ≡ drop (4 * (i + 1)) c.places = drop-drop 4 (4 * i) c.places ∙ ap (λ (x : ℕ). drop x c.places) (omega arith) in
-    let s : drop 1 (drop i c.scores) ≡ drop (i + 1) c.scores = drop-drop 1 i c.scores in
-    ap (λ (x : ℕ). items_in head.lo x last i at (drop at c.gaps) (drop (2 * i) c.words) (drop (4 * i) c.places) (drop i c.scores)) k
-    ∙ items_step head.lo rest last i at n (drop at c.gaps) (drop next c.gaps) (drop (2 * i) c.words) (drop (4 * i) c.places) (drop i c.scores) row h.is (left_from c.gaps at n next h) (sym is)
-    ∙ rw (w, p, s, h.behind) refl
-
-pub items_end : (head : BlockHead) (c : BlockColumns) (i at : ℕ) (last : Option Post) → head.rows ≤ i → items_from head c i at last ≡ []
-unfolding items_from items_in
-items_end head c i at last le =
-    let k : head.rows - i ≡ 0 = omega arith in
-    rw k refl
-
-pub items_start : (head : BlockHead) (c : BlockColumns) → items_from head c 0 0 None ≡ items_of head c
-unfolding items_from
-items_start head c = ap (λ (x : ℕ). items_in head.lo x None 0 0 c.gaps c.words c.places c.scores) (omega arith)
-
--- ---- one rule's first place, as far as the loop has come
-
-pub Keeps : Rule → List Item → Option ℕ → List Item → Type 0
-Keeps rule all found rest = option_or found (breaks rule rest) ≡ breaks rule all
-
-abbrev noted : Rule → Item → Option ℕ
-noted rule item = cond (rule.holds item.last item.row) None (Some (rule.place item))
-
-keeps_by : (holds : Bool) (found : Option ℕ) (at : ℕ) (rest : Option ℕ) → option_or (option_or found (cond holds None (Some at))) rest ≡ option_or found (cond holds rest (Some at))
-keeps_by true None at rest = refl
-keeps_by false None at rest = refl
-keeps_by true (Some f) at rest = refl
-keeps_by false (Some f) at rest = refl
-
-pub keeps_on : (rule : Rule) (all : List Item) (found now : Option ℕ) (item : Item) (here rest : List Item) → here ≡ item ∷ rest → now ≡ option_or found (cond (rule.holds item.last item.row) None (Some (rule.place item)))
-    → Keeps rule all found here → Keeps rule all now rest
-unfolding Keeps breaks
-keeps_on rule all found now item here rest e is h =
-    ap (λ (x : Option ℕ). option_or x (breaks rule rest)) is
-    ∙ keeps_by (rule.holds item.last item.row) found (rule.place item) (breaks rule rest)
-    ∙ sym (ap (λ (x : List Item). option_or found (breaks rule x)) e) ∙ h
-
-or_none : (o : Option ℕ) → option_or o None ≡ o
-or_none None = refl
-or_none (Some x) = refl
-
-pub keeps_end : (rule : Rule) (all : List Item) (found : Option ℕ) (rest : List Item) → rest ≡ [] → Keeps rule all found rest → found ≡ breaks rule all
-unfolding Keeps breaks
-keeps_end rule all found rest e h = sym (or_none found) ∙ sym (ap (λ (x : List Item). option_or found (breaks rule x)) e) ∙ h
-
-pub keeps_start : (rule : Rule) (all rest : List Item) → rest ≡ all → Keeps rule all None rest
-unfolding Keeps
-keeps_start rule all rest e = ap (breaks rule) e
-
--- the first item that breaks a rule, where none before it does
-pub keeps_found : (rule : Rule) (all : List Item) (item : Item) (here rest : List Item) → here ≡ item ∷ rest → rule.holds item.last item.row ≡ false → Keeps rule all None here → breaks rule all ≡ Some (rule.place item)
-unfolding Keeps breaks
-keeps_found rule all item here rest e broken h = sym h ∙ ap (breaks rule) e ∙ rw broken refl
+use Rattle.cs_block.proofs.ItemsLemmas.{bad_on, bad_here, bad_over, bad_done, items_from, items_on, items_end, items_start, Keeps, keeps_on, keeps_end, keeps_start, keeps_found, or_broken, in_turn}
 
 -- ---- the loop over the rows
 
@@ -140,10 +24,10 @@ pub record HasJudged (head : BlockHead) (docs : ℕ) (c : BlockColumns) (i at : 
   pub within : at ≤ length c.gaps
   pub before_is : before ≡ doc_before last
   pub before_below : before ≤ docs
-  pub docs_kept : Keeps (in_docs docs) (items_of head c) None (items_from head c i at last)
-  pub words_kept : Keeps (in_words head) (items_of head c) word (items_from head c i at last)
-  pub scores_kept : Keeps (in_kind head) (items_of head c) score (items_from head c i at last)
-  pub order_kept : Keeps in_order (items_of head c) order (items_from head c i at last)
+  pub docs_kept : Keeps (in_docs docs) (block_items head c) None (items_from head c i at last)
+  pub words_kept : Keeps (in_words head) (block_items head c) word (items_from head c i at last)
+  pub scores_kept : Keeps (in_kind head) (block_items head c) score (items_from head c i at last)
+  pub order_kept : Keeps in_order (block_items head c) order (items_from head c i at last)
 
 pub judging : (head : BlockHead) (docs : ℕ) (c : BlockColumns) → HasJudged head docs c 0 0 None 0 None None None
 judging head docs c = let all = items_start head c in record {
@@ -160,23 +44,23 @@ judging head docs c = let all = items_start head c in record {
 -- what a call of row_of gives, at the document before
 pub is_row : (head : BlockHead) (docs : ℕ) (c : BlockColumns) (i at n : ℕ) (last : Option Post) (before : ℕ) (word score order : Option ℕ) (row : Post)
     → HasJudged head docs c i at last before word score order
-    → row ≡ row_at head.lo (before + n) (drop (2 * i) c.words) (drop (4 * i) c.places) (drop i c.scores)
-    → row ≡ row_at head.lo (doc_before last + n) (drop (2 * i) c.words) (drop (4 * i) c.places) (drop i c.scores)
-is_row head docs c i at n last before word score order row h is = is ∙ ap (λ (x : ℕ). row_at head.lo (x + n) (drop (2 * i) c.words) (drop (4 * i) c.places) (drop i c.scores)) h.before_is
+    → row ≡ row_at head.lo (before + n) (drop (2 * i) c.words) (drop (4 * i) c.positions) (drop i c.scores)
+    → row ≡ row_at head.lo (doc_before last + n) (drop (2 * i) c.words) (drop (4 * i) c.positions) (drop i c.scores)
+is_row head docs c i at n last before word score order row h is = is ∙ ap (λ (x : ℕ). row_at head.lo (x + n) (drop (2 * i) c.words) (drop (4 * i) c.positions) (drop i c.scores)) h.before_is
 
 pub judges_on : (head : BlockHead) (docs : ℕ) (c : BlockColumns) (i at n next : ℕ) (last : Option Post) (before doc : ℕ) (word score order word' score' order' : Option ℕ) (worded held after : Bool) (row : Post)
     → i < head.rows → GapHere c.gaps at n next → doc ≡ before + n → doc < docs
-    → row ≡ row_at head.lo doc (drop (2 * i) c.words) (drop (4 * i) c.places) (drop i c.scores)
+    → row ≡ row_at head.lo doc (drop (2 * i) c.words) (drop (4 * i) c.positions) (drop i c.scores)
     → worded ≡ ltb row.word (head.lo + head.words) → word' ≡ option_or word (cond worded None (Some (gap_bytes head + 2 * i)))
     → held ≡ is_scored head.facet row → score' ≡ option_or score (cond held None (Some (gap_bytes head + 2 * head.rows + 4 * i)))
     → after ≡ is_after last row → order' ≡ option_or order (cond after None (Some at))
     → HasJudged head docs c i at last before word score order → HasJudged head docs c (i + 1) next (Some row) row.doc word' score' order'
 judges_on head docs c i at n next last before doc word score order word' score' order' worded held after row lt gap sum below is hw w hs s ho o h =
-    let item : Item = record { row = row; last = last; index = i; gap_place = at } in
-    let all = items_of head c in
+    let item : Item = record { row = row; last = last; index = i; gap_at = at } in
+    let all = block_items head c in
     let here = items_from head c i at last in
     let rest = items_from head c (i + 1) next (Some row) in
-    let is' : row ≡ row_at head.lo (before + n) (drop (2 * i) c.words) (drop (4 * i) c.places) (drop i c.scores) = is ∙ ap (λ (x : ℕ). row_at head.lo x (drop (2 * i) c.words) (drop (4 * i) c.places) (drop i c.scores)) sum in
+    let is' : row ≡ row_at head.lo (before + n) (drop (2 * i) c.words) (drop (4 * i) c.positions) (drop i c.scores) = is ∙ ap (λ (x : ℕ). row_at head.lo x (drop (2 * i) c.words) (drop (4 * i) c.positions) (drop i c.scores)) sum in
     let split : here ≡ item ∷ rest = items_on head c i at n next last row lt gap (is_row head docs c i at n last before word score order row h is') in
     let doc_is : row.doc ≡ doc = ap (λ (r : Post). r.doc) is in
     let in_time : ltb row.doc docs ≡ true = lt-ltb row.doc docs (omega arith) in
@@ -194,39 +78,36 @@ judges_on head docs c i at n next last before doc word score order word' score' 
 
 pub too_late : (head : BlockHead) (docs : ℕ) (c : BlockColumns) (i at n next : ℕ) (last : Option Post) (before : ℕ) (word score order : Option ℕ)
     → i < head.rows → GapHere c.gaps at n next → docs ≤ before + n → HasJudged head docs c i at last before word score order
-    → first_broken (rules head docs) (items_of head c) ≡ Some (record { n = 14; at = at })
+    → first_broken (rules head docs) (block_items head c) ≡ Some (record { n = 14; at = at })
 too_late head docs c i at n next last before word score order lt gap late h =
-    let row = row_at head.lo (before + n) (drop (2 * i) c.words) (drop (4 * i) c.places) (drop i c.scores) in
-    let item : Item = record { row = row; last = last; index = i; gap_place = at } in
+    let row = row_at head.lo (before + n) (drop (2 * i) c.words) (drop (4 * i) c.positions) (drop i c.scores) in
+    let item : Item = record { row = row; last = last; index = i; gap_at = at } in
     let split = items_on head c i at n next last row lt gap (is_row head docs c i at n last before word score order row h refl) in
-    let broken = keeps_found (in_docs docs) (items_of head c) item _ _ split (le-ltb (before + n) docs late) h.docs_kept in
-    ap (λ (x : Option ℕ). or_broken 14 x (first_broken (in_words head ∷ in_kind head ∷ in_order ∷ []) (items_of head c))) broken
+    let broken = keeps_found (in_docs docs) (block_items head c) item _ _ split (le-ltb (before + n) docs late) h.docs_kept in
+    in_turn head docs (block_items head c) ∙ rw broken refl
 
 pub judged_all : (head : BlockHead) (docs : ℕ) (c : BlockColumns) (i at : ℕ) (last : Option Post) (before : ℕ) (word score order : Option ℕ) (r17 r16 r15 : Option Broken)
     → head.rows ≤ i → HasJudged head docs c i at last before word score order
     → r17 ≡ or_broken 17 order None → r16 ≡ or_broken 16 score r17 → r15 ≡ or_broken 15 word r16
-    → r15 ≡ first_broken (rules head docs) (items_of head c)
+    → r15 ≡ first_broken (rules head docs) (block_items head c)
 judged_all head docs c i at last before word score order r17 r16 r15 le h a b d =
-    let all = items_of head c in
+    let all = block_items head c in
     let done = items_end head c i at last le in
     let w = keeps_end (in_words head) all word _ done h.words_kept in
     let s = keeps_end (in_kind head) all score _ done h.scores_kept in
     let o = keeps_end in_order all order _ done h.order_kept in
     let e = keeps_end (in_docs docs) all None _ done h.docs_kept in
-    d ∙ ap (or_broken 15 word) (b ∙ ap (or_broken 16 score) a) ∙ rw (← e, ← w, ← s, ← o) refl
-
-some_none : (at : ℕ) → Some at ≡ None → ⊥
-some_none at e = cc
+    d ∙ ap (or_broken 15 word) (b ∙ ap (or_broken 16 score) a) ∙ rw (w, s, o) (ap (λ (x : Option ℕ). or_broken 14 x (or_broken 15 (first_break (in_words head) all) (or_broken 16 (first_break (in_kind head) all) (or_broken 17 (first_break in_order all) None)))) e) ∙ sym (in_turn head docs all)
 
 pub stuck : (rows i at : ℕ) (gaps : List ℕ) → i < rows → first_code (drop at gaps) ≡ None → codes_break (rows - i) at (drop at gaps) ≡ None → ⊥
-stuck rows i at gaps lt none h = some_none at (sym (bad_here rows i at gaps lt none) ∙ h)
+stuck rows i at gaps lt none h = none-some at (sym h ∙ bad_here rows i at gaps lt none)
 
 -- ---- the loop that adds the rows
 
 -- so far each row keeps the rules; what was added and what is left make all rows
 pub record HasPushed (head : BlockHead) (docs : ℕ) (c : BlockColumns) (i at : ℕ) (last : Option Post) (before : ℕ) (first now : List Post) (room : ℕ) : Type 0 where
   pub judged : HasJudged head docs c i at last before None None None
-  pub told : first ++ map item_row (items_of head c) ≡ now ++ map item_row (items_from head c i at last)
+  pub told : first ++ map item_row (block_items head c) ≡ now ++ map item_row (items_from head c i at last)
   pub kept : take (length first) now ≡ first
   pub room_left : head.rows - i ≤ room
 
@@ -244,7 +125,7 @@ Tests head last row = ltb row.word (head.lo + head.words) && (is_scored head.fac
 
 pub pushes_on : (head : BlockHead) (docs : ℕ) (c : BlockColumns) (i at n next : ℕ) (last : Option Post) (before doc : ℕ) (row : Post) (first now then : List Post) (room left : ℕ)
     → i < head.rows → GapHere c.gaps at n next → doc ≡ before + n → doc < docs
-    → row ≡ row_at head.lo doc (drop (2 * i) c.words) (drop (4 * i) c.places) (drop i c.scores)
+    → row ≡ row_at head.lo doc (drop (2 * i) c.words) (drop (4 * i) c.positions) (drop i c.scores)
     → Tests head last row ≡ true → then ≡ now ++ row ∷ [] → room ≤ left + 1
     → HasPushed head docs c i at last before first now room → HasPushed head docs c (i + 1) next (Some row) row.doc first then left
 pushes_on head docs c i at n next last before doc row first now then room left lt gap sum below is met added less h =
@@ -253,8 +134,8 @@ pushes_on head docs c i at n next last before doc row first now then room left l
     let none_word : None ≡ option_or None (cond true None (Some (gap_bytes head + 2 * i))) = refl in
     let none_score : None ≡ option_or None (cond true None (Some (gap_bytes head + 2 * head.rows + 4 * i))) = refl in
     let none_order : None ≡ option_or None (cond true None (Some at)) = refl in
-    let item : Item = record { row = row; last = last; index = i; gap_place = at } in
-    let is' : row ≡ row_at head.lo (before + n) (drop (2 * i) c.words) (drop (4 * i) c.places) (drop i c.scores) = is ∙ ap (λ (x : ℕ). row_at head.lo x (drop (2 * i) c.words) (drop (4 * i) c.places) (drop i c.scores)) sum in
+    let item : Item = record { row = row; last = last; index = i; gap_at = at } in
+    let is' : row ≡ row_at head.lo (before + n) (drop (2 * i) c.words) (drop (4 * i) c.positions) (drop i c.scores) = is ∙ ap (λ (x : ℕ). row_at head.lo x (drop (2 * i) c.words) (drop (4 * i) c.positions) (drop i c.scores)) sum in
     let rest = items_from head c (i + 1) next (Some row) in
     let split : items_from head c i at last ≡ item ∷ rest = items_on head c i at n next last row lt gap (is_row head docs c i at n last before None None None row h.judged is') in
     let len : length first ≤ length now = omega (arith, ap length h.kept, length-take (length first) now) in
@@ -281,38 +162,34 @@ or_broken_here n at o other e = rw e refl
 pub stops_at_code : (head : BlockHead) (docs : ℕ) (c : BlockColumns) (i at : ℕ) (last : Option Post) (before : ℕ) (word score order : Option ℕ) → i < head.rows → first_code (drop at c.gaps) ≡ None
     → HasJudged head docs c i at last before word score order → is_none (judged_columns head docs c) ≡ false
 stops_at_code head docs c i at last before word score order lt none h =
-    or_broken_here 13 at (codes_break head.rows 0 c.gaps) (first_broken (rules head docs) (items_of head c)) (sym h.codes ∙ bad_here head.rows i at c.gaps lt none)
+    or_broken_here 13 at (codes_break head.rows 0 c.gaps) (first_broken (rules head docs) (block_items head c)) (sym h.codes ∙ bad_here head.rows i at c.gaps lt none)
 
 pub stops_at_doc : (head : BlockHead) (docs : ℕ) (c : BlockColumns) (i at n next : ℕ) (last : Option Post) (before : ℕ) (word score order : Option ℕ)
     → i < head.rows → GapHere c.gaps at n next → docs ≤ before + n → HasJudged head docs c i at last before word score order → is_none (judged_columns head docs c) ≡ false
 stops_at_doc head docs c i at n next last before word score order lt gap late h =
-    or_broken_late 13 (codes_break head.rows 0 c.gaps) (first_broken (rules head docs) (items_of head c)) (none_false _ _ (too_late head docs c i at n next last before word score order lt gap late h))
-
-and_false : (a b : Bool) → (a && b) ≡ false → (a ≡ false) ⊎ (b ≡ false)
-and_false true b e = inr e
-and_false false b e = inl refl
+    or_broken_late 13 (codes_break head.rows 0 c.gaps) (first_broken (rules head docs) (block_items head c)) (none_false _ _ (too_late head docs c i at n next last before word score order lt gap late h))
 
 pub stops_at_row : (head : BlockHead) (docs : ℕ) (c : BlockColumns) (i at n next : ℕ) (last : Option Post) (before doc : ℕ) (row : Post)
     → i < head.rows → GapHere c.gaps at n next → doc ≡ before + n
-    → row ≡ row_at head.lo doc (drop (2 * i) c.words) (drop (4 * i) c.places) (drop i c.scores)
+    → row ≡ row_at head.lo doc (drop (2 * i) c.words) (drop (4 * i) c.positions) (drop i c.scores)
     → Tests head last row ≡ false → HasJudged head docs c i at last before None None None → is_none (judged_columns head docs c) ≡ false
 stops_at_row head docs c i at n next last before doc row lt gap sum is failed h =
-    let all = items_of head c in
-    let item : Item = record { row = row; last = last; index = i; gap_place = at } in
-    let is' : row ≡ row_at head.lo (before + n) (drop (2 * i) c.words) (drop (4 * i) c.places) (drop i c.scores) = is ∙ ap (λ (x : ℕ). row_at head.lo x (drop (2 * i) c.words) (drop (4 * i) c.places) (drop i c.scores)) sum in
+    let all = block_items head c in
+    let item : Item = record { row = row; last = last; index = i; gap_at = at } in
+    let is' : row ≡ row_at head.lo (before + n) (drop (2 * i) c.words) (drop (4 * i) c.positions) (drop i c.scores) = is ∙ ap (λ (x : ℕ). row_at head.lo x (drop (2 * i) c.words) (drop (4 * i) c.positions) (drop i c.scores)) sum in
     let rest = items_from head c (i + 1) next (Some row) in
     let split : items_from head c i at last ≡ item ∷ rest = items_on head c i at n next last row lt gap (is_row head docs c i at n last before None None None row h is') in
-    let behind_codes = or_broken_late 13 (codes_break head.rows 0 c.gaps) (first_broken (rules head docs) all) in
-    let behind_docs = or_broken_late 14 (breaks (in_docs docs) all) (first_broken (in_words head ∷ in_kind head ∷ in_order ∷ []) all) in
-    let behind_words = or_broken_late 15 (breaks (in_words head) all) (first_broken (in_kind head ∷ in_order ∷ []) all) in
-    let behind_scores = or_broken_late 16 (breaks (in_kind head) all) (first_broken (in_order ∷ []) all) in
-    behind_codes (behind_docs (elim (and_false (ltb row.word (head.lo + head.words)) (is_scored head.facet row && is_after last row) failed) [
-      | inl word ↦ or_broken_here 15 _ _ (first_broken (in_kind head ∷ in_order ∷ []) all) (keeps_found (in_words head) all item _ rest split word h.words_kept)
-      | inr more ↦ behind_words (elim (and_false (is_scored head.facet row) (is_after last row) more) [
-        | inl score ↦ or_broken_here 16 _ _ (first_broken (in_order ∷ []) all) (keeps_found (in_kind head) all item _ rest split score h.scores_kept)
-        | inr order ↦ behind_scores (or_broken_here 17 _ _ None (keeps_found in_order all item _ rest split order h.order_kept))
+    let orders = or_broken 17 (first_break in_order all) None in
+    let scores = or_broken 16 (first_break (in_kind head) all) orders in
+    let words = or_broken 15 (first_break (in_words head) all) scores in
+    let broken : is_none words ≡ false = elim (and_cases (ltb row.word (head.lo + head.words)) (is_scored head.facet row && is_after last row) failed) [
+      | inl word ↦ or_broken_here 15 _ _ scores (keeps_found (in_words head) all item _ rest split word h.words_kept)
+      | inr more ↦ or_broken_late 15 (first_break (in_words head) all) scores (elim (and_cases (is_scored head.facet row) (is_after last row) more) [
+        | inl score ↦ or_broken_here 16 _ _ orders (keeps_found (in_kind head) all item _ rest split score h.scores_kept)
+        | inr order ↦ or_broken_late 16 (first_break (in_kind head) all) orders (or_broken_here 17 _ _ None (keeps_found in_order all item _ rest split order h.order_kept))
       ])
-    ]))
+    ] in
+    or_broken_late 13 (codes_break head.rows 0 c.gaps) (first_broken (rules head docs) all) (ap is_none (in_turn head docs all) ∙ or_broken_late 14 (first_break (in_docs docs) all) words broken)
 
 pub ends_whole : (head : BlockHead) (docs : ℕ) (c : BlockColumns) (i at : ℕ) (last : Option Post) (before : ℕ) → head.rows ≤ i → at ≡ length c.gaps → HasJudged head docs c i at last before None None None → is_none (judged_columns head docs c) ≡ true
 ends_whole head docs c i at last before le end h =
@@ -321,10 +198,7 @@ ends_whole head docs c i at last before le end h =
 
 pub ends_early : (head : BlockHead) (docs : ℕ) (c : BlockColumns) (i at : ℕ) (last : Option Post) (before : ℕ) → head.rows ≤ i → at < length c.gaps → HasJudged head docs c i at last before None None None → is_none (judged_columns head docs c) ≡ false
 ends_early head docs c i at last before le lt h =
-    or_broken_here 13 at (codes_break head.rows 0 c.gaps) (first_broken (rules head docs) (items_of head c)) (sym h.codes ∙ bad_over head.rows i at c.gaps le lt)
-
-eqb_same : (n : ℕ) → eqb n n ≡ true
-eqb_same n = grind (arith, nat_tests)
+    or_broken_here 13 at (codes_break head.rows 0 c.gaps) (first_broken (rules head docs) (block_items head c)) (sym h.codes ∙ bad_over head.rows i at c.gaps le lt)
 
 pub ends : (head : BlockHead) (docs : ℕ) (c : BlockColumns) (i at : ℕ) (last : Option Post) (before : ℕ) → head.rows ≤ i → HasJudged head docs c i at last before None None None → eqb at (length c.gaps) ≡ is_none (judged_columns head docs c)
 ends head docs c i at last before le h =
@@ -333,33 +207,12 @@ ends head docs c i at last before le h =
       | inl lt ↦ ne_eqb at (length c.gaps) (λ e. omega arith) ∙ sym (ends_early head docs c i at last before le lt h)
       | inr ge ↦
           let end : at ≡ length c.gaps = omega arith in
-          rw end (eqb_same (length c.gaps)) ∙ sym (ends_whole head docs c i at last before le end h)
+          eq-eqb at (length c.gaps) end ∙ sym (ends_whole head docs c i at last before le end h)
     ]
 
 pub pushed_all : (head : BlockHead) (docs : ℕ) (c : BlockColumns) (i at : ℕ) (last : Option Post) (before : ℕ) (first now : List Post) (room : ℕ) → head.rows ≤ i → HasPushed head docs c i at last before first now room
-    → now ≡ first ++ map item_row (items_of head c)
+    → now ≡ first ++ map item_row (block_items head c)
 pushed_all head docs c i at last before first now room le h = sym (h.told ∙ ap (λ (x : List Item). now ++ map item_row x) (items_end head c i at last le) ∙ append-nil now)
-
--- ---- the columns as the code cuts them
-
-pub columns_cut : (head : BlockHead) (bytes gaps rest words rest2 places scores : List ℕ) → gaps ≡ take (gap_bytes head) bytes → rest ≡ drop (gap_bytes head) bytes
-    → words ≡ take (2 * head.rows) rest → rest2 ≡ drop (2 * head.rows) rest → places ≡ take (4 * head.rows) rest2 → scores ≡ drop (4 * head.rows) rest2
-    → let c : BlockColumns = record { gaps = gaps; words = words; places = places; scores = scores } in c ≡ block_columns head bytes
-columns_cut head bytes gaps rest words rest2 places scores a b d e f g = rw (f, g, e, d, b, a) refl
-
-pub judged_at_row : (head : BlockHead) (docs : ℕ) (c : BlockColumns) (r : Option Broken) → codes_break head.rows 0 c.gaps ≡ None → r ≡ first_broken (rules head docs) (items_of head c) → r ≡ judged_columns head docs c
-judged_at_row head docs c r codes is = is ∙ rw codes refl
-
-pub judged_at_code : (head : BlockHead) (docs : ℕ) (c : BlockColumns) (at : ℕ) → Some at ≡ codes_break head.rows 0 c.gaps → Some (record { n = 13; at = at }) ≡ judged_columns head docs c
-judged_at_code head docs c at bad = rw (← bad) refl
-
-pub judged_cut : (head : BlockHead) (docs : ℕ) (bytes : List ℕ) (c : BlockColumns) → c ≡ block_columns head bytes → judged_columns head docs c ≡ judged head docs bytes
-unfolding judged
-judged_cut head docs bytes c e = ap (judged_columns head docs) e
-
-pub rows_cut : (head : BlockHead) (bytes : List ℕ) (c : BlockColumns) → c ≡ block_columns head bytes → map item_row (items_of head c) ≡ rows_read head bytes
-unfolding rows_read
-rows_cut head bytes c e = ap (λ (x : BlockColumns). map item_row (items_of head x)) e
 
 pub none-from_test : (o : Option Broken) → is_none o ≡ true → o ≡ None
 none-from_test None e = refl

@@ -3,25 +3,19 @@
 --   IsPutting              what stands there and what is still to be put make all that is to stand there
 --   gaps_split and so on   the first row's piece of a column
 --   block_put              the four columns make the block
-use Rattle.std.proofs.Common.{◌≡◌, ℕ, ◌+◌, ◌-◌, ◌^◌, ◌<◌, ◌≤◌, List, [], ◌∷◌, ◌++◌, length, take, drop, refl, sym, ap, subst, ◌∙◌, append_assoc, arith}
+use Rattle.std.proofs.Common.{◌≡◌, ℕ, ◌+◌, ◌-◌, ◌^◌, ◌<◌, ◌≤◌, List, [], ◌∷◌, ◌++◌, length, take, drop, sym, ap, subst, ◌∙◌, append_assoc, arith}
 use Rattle.std.specs.Prelude.{slice_index_or}
 use Rattle.std.specs.Int.{w16, w32, to_be_bytes}
-use Rattle.std.proofs.lemmas.List.{append-nil, take-append-le, length-take, take_all, take-take, drop_more}
+use Rattle.std.proofs.lemmas.List.{append-nil, take-append-le, length-take, take-take, drop_more}
 use Rattle.cs_base.specs.GapCode.{code}
 use Rattle.cs_base.specs.declared.doc.Post.{Post}
-use Rattle.cs_model.specs.Blocks.{gap_column, word_column, place_column, score_column, block_bytes}
+use Rattle.cs_model.specs.Blocks.{gap_column, word_column, position_column, score_column, block_bytes}
 use Rattle.cs_block.specs.Spelling.{HasWords, IsAscending}
 
 -- all that is to stand there is what stands there and a rest; and what stood there first still does
 pub record IsPutting (all first now rest : List ℕ) : Type 0 where
   pub told : all ≡ now ++ rest
   pub kept : take (length first) now ≡ first
-
-take_all_of : (xs : List ℕ) → take (length xs) xs ≡ xs
-take_all_of xs = take_all (length xs) xs (omega arith)
-
-pub putting : (first column : List ℕ) → IsPutting (first ++ column) first first column
-putting first column = record { told = refl; kept = take_all_of first }
 
 pub puts_on : (all first now piece rest left : List ℕ) → rest ≡ piece ++ left → IsPutting all first now rest → IsPutting all first (now ++ piece) left
 puts_on all first now piece rest left e h =
@@ -59,13 +53,13 @@ pub words_end : (lo : ℕ) (here : List Post) → here ≡ [] → word_column lo
 unfolding word_column
 words_end lo here e = ap (word_column lo) e
 
-pub places_split : (r : Post) (here left : List Post) → here ≡ r ∷ left → place_column here ≡ to_be_bytes w32 r.pos ++ place_column left
-unfolding place_column
-places_split r here left e = ap place_column e
+pub positions_split : (r : Post) (here left : List Post) → here ≡ r ∷ left → position_column here ≡ to_be_bytes w32 r.pos ++ position_column left
+unfolding position_column
+positions_split r here left e = ap position_column e
 
-pub places_end : (here : List Post) → here ≡ [] → place_column here ≡ []
-unfolding place_column
-places_end here e = ap place_column e
+pub positions_end : (here : List Post) → here ≡ [] → position_column here ≡ []
+unfolding position_column
+positions_end here e = ap position_column e
 
 pub scores_split : (r : Post) (here left : List Post) → here ≡ r ∷ left → score_column here ≡ (r.score ∷ []) ++ score_column left
 unfolding score_column
@@ -81,6 +75,6 @@ kept_twice a b c p q =
     let le : length a ≤ length b = omega (arith, ap length p, length-take (length a) b) in
     sym (take-take (length a) (length b) c le) ∙ ap (take (length a)) q ∙ p
 
-pub block_put : (first a b c d : List ℕ) (rs : List Post) (lo : ℕ) → a ≡ first ++ gap_column 0 rs → b ≡ a ++ word_column lo rs → c ≡ b ++ place_column rs → d ≡ c ++ score_column rs → d ≡ first ++ block_bytes rs lo
+pub block_put : (first a b c d : List ℕ) (rs : List Post) (lo : ℕ) → a ≡ first ++ gap_column 0 rs → b ≡ a ++ word_column lo rs → c ≡ b ++ position_column rs → d ≡ c ++ score_column rs → d ≡ first ++ block_bytes rs lo
 unfolding block_bytes
 block_put first a b c d rs lo p q r s = s ∙ rw (r, q, p) (simp append_assoc)

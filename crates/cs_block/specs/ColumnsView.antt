@@ -6,4 +6,4 @@ use Rattle.cs_block.specs.declared.columns.Columns.{Columns as Cut}
 
 -- column by column
 abbrev pub seen : Cut → BlockColumns
-seen c = record { gaps = c.gaps.now; words = c.words.now; places = c.places.now; scores = c.scores.now }
+seen c = record { gaps = c.gaps.now; words = c.words.now; positions = c.positions.now; scores = c.scores.now }

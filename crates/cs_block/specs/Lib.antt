@@ -1,3 +1,4 @@
 pub mod ColumnsView
 pub mod Reading
 pub mod Spelling
+pub mod Whole

@@ -22,7 +22,7 @@ pub record GapHere (gaps : List ℕ) (at n next : ℕ) : Type 0 where
 pub record HasColumns (head : BlockHead) (c : BlockColumns) : Type 0 where
   pub gaps_len : length c.gaps ≡ gap_bytes head
   pub words_len : length c.words ≡ 2 * head.rows
-  pub places_len : length c.places ≡ 4 * head.rows
+  pub positions_len : length c.positions ≡ 4 * head.rows
   pub scores_len : length c.scores ≡ head.rows
   pub small : head.len < 2 ^ 32
 

@@ -2,6 +2,7 @@
 ghost use Rattle.std.specs.Prelude.{◌≡◌, ◌+◌, ◌*◌, ◌<◌, ◌≤◌, ◌^◌, length, take, drop, MatchOption, None};
 ghost use Rattle.std.specs.Int.{w16, w32, from_be_bytes};
 ghost use Rattle.cs_base.specs.GapCode.{first_code};
+ghost use Rattle.cs_base.specs.declared.limits.TheConstants.{MAX_WORDS};
 ghost use Rattle.cs_model.specs.Blocks.{IsShaped};
 ghost use Rattle.cs_model.specs.BlockRules.{block_columns, row_at};
 ghost use Rattle.cs_block.specs.Reading.{GapHere, HasColumns};
@@ -18,7 +19,7 @@ pub struct Columns<'a> {
     /// Two bytes a row: its word, counted from the block's first.
     pub words: &'a [u8],
     /// Four bytes a row: its position.
-    pub places: &'a [u8],
+    pub positions: &'a [u8],
     /// One byte a row: its score.
     pub scores: &'a [u8],
 }
@@ -32,11 +33,11 @@ pub fn cut<'a>(bytes: &'a [u8], head: &BlockHead) -> Columns<'a>
 {
     let (gaps, rest) = bytes.split_at((head.len - 7 * head.rows) as usize);
     let (words, rest) = rest.split_at(2 * head.rows as usize);
-    let (places, scores) = rest.split_at(4 * head.rows as usize);
+    let (positions, scores) = rest.split_at(4 * head.rows as usize);
     Columns {
         gaps,
         words,
-        places,
+        positions,
         scores,
     }
 }
@@ -57,17 +58,17 @@ pub fn gap_here(gaps: &[u8], at: usize) -> Option<(u32, usize)>
 /// The row of a document whose other numbers stand at index `i` of the columns.
 #[inline]
 pub fn row_of(columns: &Columns<'_>, lo: u32, doc: u32, i: usize) -> Post
-    requires lo { lo ≤ 2 ^ 22 }
+    requires lo { lo ≤ MAX_WORDS }
     requires words { 2 * i + 2 ≤ length columns.now.words.now }
-    requires places { 4 * i + 4 ≤ length columns.now.places.now }
+    requires positions { 4 * i + 4 ≤ length columns.now.positions.now }
     requires scores { i < length columns.now.scores.now }
 
-    ensures { result ≡ row_at lo doc (drop (2 * i) columns.now.words.now) (drop (4 * i) columns.now.places.now) (drop i columns.now.scores.now) }
+    ensures { result ≡ row_at lo doc (drop (2 * i) columns.now.words.now) (drop (4 * i) columns.now.positions.now) (drop i columns.now.scores.now) }
 {
     Post {
         doc,
         word: lo + half_at(columns.words, 2 * i),
-        pos: number_at(columns.places, 4 * i),
+        pos: number_at(columns.positions, 4 * i),
         score: columns.scores[i],
     }
 }

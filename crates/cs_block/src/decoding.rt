@@ -3,7 +3,7 @@ ghost use Rattle.std.specs.Prelude.{◌≡◌, ℕ, ◌≤◌, ◌++◌, true, L
 ghost use Rattle.std.specs.Option.{is_none};
 ghost use Rattle.cs_base.specs.declared.doc.Post.{Post};
 ghost use Rattle.cs_model.specs.Blocks.{IsShaped};
-ghost use Rattle.cs_model.specs.BlockRules.{IsBlock, item_row, items_of, judged, judged_columns};
+ghost use Rattle.cs_model.specs.BlockRules.{IsBlock, item_row, block_items, judged, judged_columns};
 ghost use Rattle.cs_block.specs.Reading.{Decodes, HasColumns};
 ghost use Rattle.cs_block.specs.ColumnsView.{seen};
 
@@ -14,14 +14,16 @@ use crate::rules::keeps_rules;
 use cs_base::{BlockHead, Post};
 use cs_cols::Cols;
 
-/// Adds the rows of a block at the end. The documents of the collection are those below `docs`.
+/// Adds the rows of a block at the end, or the fault says which rule its bytes break first, or that
+/// memory ran out. `head` is what the index file's directory says of the block, and the documents of
+/// the collection are those below `docs`.
 pub fn decode(bytes: &[u8], head: &BlockHead, docs: u32, into: &mut Cols) -> Result<(), BlockFault>
-    requires { IsShaped head.now (length bytes.now) }
+    requires shaped { IsShaped head.now (length bytes.now) }
 
     // what is accepted is what `encode` writes of rows that meet the rules, and these are added
     ensures ok { OnOk result ((rows : List Post) × IsBlock head.now docs rows bytes.now × (into.new.posts ≡ into.old.posts ++ rows)) }
     // such bytes are accepted, unless memory runs out
-    ensures only { (rows : List Post) → IsBlock head.now docs rows bytes.now → Decodes result None }
+    ensures accepts { (rows : List Post) → IsBlock head.now docs rows bytes.now → Decodes result None }
     // which rule is the first broken one, and where
     ensures exact { Decodes result (judged head.now docs bytes.now) }
     ensures err { OnErr result (into.new.posts ≡ into.old.posts) }
@@ -48,7 +50,7 @@ fn push_rows(columns: &Columns<'_>, head: &BlockHead, docs: u32, into: &mut Cols
     requires room { head.now.rows ≤ into.old.room }
 
     ensures told { result ≡ is_none (judged_columns head.now docs (seen columns.now)) }
-    ensures posts { result ≡ true → into.new.posts ≡ into.old.posts ++ map item_row (items_of head.now (seen columns.now)) }
+    ensures posts { result ≡ true → into.new.posts ≡ into.old.posts ++ map item_row (block_items head.now (seen columns.now)) }
     ensures kept { take (length into.old.posts) into.new.posts ≡ into.old.posts }
 {
     let mut last: Option<Post> = None;

@@ -1,6 +1,6 @@
 //! Writing a block.
 ghost use Rattle.std.specs.Prelude.{◌≡◌, ℕ, ◌+◌, ◌<◌, ◌≤◌, ◌^◌, ◌++◌, length, OnOk, OnErr, take};
-ghost use Rattle.cs_model.specs.Blocks.{AreWritable, block_bytes, gap_column, place_column, score_column, word_column};
+ghost use Rattle.cs_model.specs.Blocks.{AreWritable, block_bytes, gap_column, position_column, score_column, word_column};
 ghost use Rattle.cs_block.specs.Spelling.{HasWords, IsAscending};
 
 use cs_base::Memory;
@@ -33,7 +33,7 @@ fn put_columns(rows: &Cols, lo: u32, out: &mut Vec<u8>) -> Result<(), Memory>
 {
     put_gaps(rows, out)?;
     put_words(rows, lo, out)?;
-    put_places(rows, out)?;
+    put_positions(rows, out)?;
     put_scores(rows, out)?;
     Ok(())
 }
@@ -66,8 +66,8 @@ fn put_words(rows: &Cols, lo: u32, out: &mut Vec<u8>) -> Result<(), Memory>
     Ok(())
 }
 
-fn put_places(rows: &Cols, out: &mut Vec<u8>) -> Result<(), Memory>
-    ensures ok { OnOk result (out.new.items ≡ out.old.items ++ place_column rows.now.posts) }
+fn put_positions(rows: &Cols, out: &mut Vec<u8>) -> Result<(), Memory>
+    ensures ok { OnOk result (out.new.items ≡ out.old.items ++ position_column rows.now.posts) }
     ensures kept { take (length out.old.items) out.new.items ≡ out.old.items }
 {
     for i in 0..rows.len() {

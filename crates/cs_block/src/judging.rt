@@ -1,8 +1,8 @@
 //! Which rule is the first that the bytes of a block break.
 ghost use Rattle.std.specs.Prelude.{◌≡◌, ℕ, ◌+◌, ◌*◌, ◌≤◌, length, None, Some, cond, IfSome};
-ghost use Rattle.std.specs.Option.{option_or};
+ghost use Rattle.std.specs.Option.{option_map, option_or};
 ghost use Rattle.cs_model.specs.Blocks.{IsShaped};
-ghost use Rattle.cs_model.specs.BlockRules.{codes_break, first_broken, items_of, judged_columns, or_broken, rules};
+ghost use Rattle.cs_model.specs.BlockRules.{block_items, broken_at, codes_break, first_broken, judged_columns, rules};
 ghost use Rattle.cs_block.specs.Reading.{HasColumns};
 ghost use Rattle.cs_block.specs.ColumnsView.{seen};
 
@@ -50,10 +50,10 @@ fn broken_row(columns: &Columns<'_>, head: &BlockHead, docs: u32) -> Option<Brok
     requires sized { HasColumns head.now (seen columns.now) }
     requires codes { codes_break head.now.rows 0 columns.now.gaps.now ≡ None }
 
-    ensures { result ≡ first_broken (rules head.now docs) (items_of head.now (seen columns.now)) }
+    ensures { result ≡ first_broken (rules head.now docs) (block_items head.now (seen columns.now)) }
 {
     let words_at = head.len - 7 * head.rows;
-    let places_at = words_at + 2 * head.rows;
+    let positions_at = words_at + 2 * head.rows;
     let mut bad_word = None;
     let mut bad_score = None;
     let mut bad_order = None;
@@ -73,7 +73,7 @@ fn broken_row(columns: &Columns<'_>, head: &BlockHead, docs: u32) -> Option<Brok
         }
         let row = row_of(columns, head.lo, doc as u32, i as usize);
         bad_word = keep(bad_word, is_in_words(head, row), words_at + 2 * i);
-        bad_score = keep(bad_score, is_scored(head.facet, row), places_at + 4 * i);
+        bad_score = keep(bad_score, is_scored(head.facet, row), positions_at + 4 * i);
         bad_order = keep(bad_order, is_after(last, row), at as u32);
         last = Some(row);
         before = row.doc;
@@ -98,7 +98,7 @@ fn keep(found: Option<u32>, holds: bool, at: u32) -> Option<u32>
 
 // A rule that is broken at a place goes before the others.
 fn or_rule(n: u8, at: Option<u32>, other: Option<Broken>) -> Option<Broken>
-    ensures { result ≡ or_broken n at other }
+    ensures { result ≡ option_or (option_map (broken_at n) at) other }
 {
     match at {
         Some(at) => Some(Broken { n, at }),

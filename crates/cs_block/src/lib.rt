@@ -2,7 +2,7 @@
 //!
 //! What the bytes of a block are stands in `specs/Blocks.antt` of `cs_model`, the rules that they
 //! keep in `specs/BlockRules.antt` there, and both in words in `docs/INDEX_FILE.md`. Places are
-//! counted from the block's first byte.
+//! counted from the block's first byte. `laws` has what holds of all blocks.
 #![tactic(auto)]
 
 mod columns;
@@ -10,6 +10,7 @@ mod decoding;
 mod encoding;
 mod fault;
 mod judging;
+pub mod laws;
 mod rules;
 #[cfg(test)]
 mod tests;

@@ -1,15 +1,14 @@
 //! The tests that a row has to pass, other than that of its document.
-ghost use Rattle.std.specs.Prelude.{◌≡◌, ◌+◌, ◌≤◌, ◌^◌, ◌&&◌, nat_lt};
-ghost use Rattle.std.specs.Ordering.{is_lt};
-ghost use Rattle.cs_base.specs.Orders.{by_place};
+ghost use Rattle.std.specs.Prelude.{◌≡◌, ◌+◌, ◌≤◌, ◌&&◌, nat_lt};
+ghost use Rattle.cs_base.specs.declared.limits.TheConstants.{MAX_WORDS};
 ghost use Rattle.cs_model.specs.BlockRules.{is_after, is_scored};
 
-use cs_base::{BlockHead, MAX_POSITION, Post};
+use cs_base::{BlockHead, FACET_SCORE, MAX_POSITION, Post, TEXT_SCORE, TITLE_SCORE};
 
 /// Whether a row keeps all of them.
 #[inline]
 pub fn keeps_rules(head: &BlockHead, last: Option<Post>, row: Post) -> bool
-    requires { head.now.lo + head.now.words ≤ 2 ^ 22 }
+    requires words { head.now.lo + head.now.words ≤ MAX_WORDS }
 
     ensures { result ≡ (nat_lt row.word (head.now.lo + head.now.words) && (is_scored head.now.facet row && is_after last row)) }
 {
@@ -19,7 +18,7 @@ pub fn keeps_rules(head: &BlockHead, last: Option<Post>, row: Post) -> bool
 /// Whether the row's word is one of the block's, where it isn't before the first of them.
 #[inline]
 pub fn is_in_words(head: &BlockHead, row: Post) -> bool
-    requires { head.now.lo + head.now.words ≤ 2 ^ 22 }
+    requires words { head.now.lo + head.now.words ≤ MAX_WORDS }
 
     ensures { result ≡ nat_lt row.word (head.now.lo + head.now.words) }
 {
@@ -32,9 +31,11 @@ pub fn is_scored(facet: bool, row: Post) -> bool
     ensures { result ≡ is_scored facet row }
 {
     if facet {
-        row.pos == 0 && row.score == 2
+        row.pos == 0 && row.score == FACET_SCORE
     } else {
-        1 <= row.pos && row.pos <= MAX_POSITION && (row.score == 4 || row.score == 1)
+        1 <= row.pos
+            && row.pos <= MAX_POSITION
+            && (row.score == TITLE_SCORE || row.score == TEXT_SCORE)
     }
 }
 
@@ -45,15 +46,6 @@ pub fn is_after(last: Option<Post>, row: Post) -> bool
 {
     match last {
         None => true,
-        Some(p) => precedes(p, row),
+        Some(p) => p.is_before(row),
     }
-}
-
-// Whether a row comes before another.
-#[inline]
-fn precedes(p: Post, row: Post) -> bool
-    ensures { result ≡ is_lt (by_place p row) }
-{
-    p.doc < row.doc
-        || (p.doc == row.doc && (p.pos < row.pos || (p.pos == row.pos && p.word < row.word)))
 }

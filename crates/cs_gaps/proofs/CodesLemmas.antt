@@ -1,7 +1,8 @@
 -- Codes and what is read of them, both ways.
 --
 --   read_in k first bytes   what is read in at most k bytes, one byte at a time; first says whether none stands before them
---   looked                  what stands at the front is what is read so
+--   read_looked, gap_read   what stands at the front is what is read so
+--   IsBytes                 numbers below 256
 --   gap_again, gap_takes    the code of a number is read as that number, and what is read as a number is its code
 --   first_found, found_first, one_spelling    the laws
 use Rattle.std.proofs.Common.{◌≡◌, ℕ, zero, suc, ◌+◌, ◌*◌, ◌/◌, ◌%◌, ◌^◌, ◌<◌, ◌≤◌, ◌⊎◌, Bool, true, false, not, ◌&&◌, ◌||◌, cond, eqb, ltb, List, [], ◌∷◌, ◌++◌, length, get_or, drop, Some, None, nat_eq, refl, sym, ap, subst, ◌∙◌, arith, inl, inr}
@@ -10,6 +11,7 @@ use Rattle.std.proofs.lemmas.List.{append_cancel_left, get_or-drop, length-appen
 use Rattle.std.proofs.lemmas.Nat.{div_below}
 use Rattle.std.specs.List.{starts_with}
 use Rattle.std.proofs.lemmas.Slice.Eq.{starts_is}
+use Rattle.std.proofs.Math.Bool.{or-true}
 use Rattle.std.proofs.Math.Nat.{pow-suc, one-le-pow}
 use Rattle.std.proofs.lemmas.Bool.Decides.{nat_tests, Decides-eqb}
 use Rattle.cs_base.specs.GapCode.{code_in, code, looked_at, value_of, first_code}
@@ -65,10 +67,6 @@ through b true false e v l = ap (λ (x : ℕ). Is (b % 128 + 128 * v) x) (omega 
 through b false z true v l = refl
 through b false z false v l = refl
 
-or_true : (t : Bool) → (t || true) ≡ true
-or_true true = refl
-or_true false = refl
-
 one_less : (a b : ℕ) → eqb (suc a) (suc b) ≡ eqb a b
 one_less a b = grind (arith, nat_tests)
 
@@ -78,7 +76,7 @@ as_more zero first b [] le = rw (le-ltb b 128 le) refl
 as_more (suc k) first b [] le = rw (le-ltb b 128 le, ne_eqb 1 (suc (suc k)) (λ e. omega arith), ne_eqb 0 (suc k) (λ e. omega arith)) refl
 as_more k first b (c ∷ looked) le =
     let more : ltb 1 (length (b ∷ c ∷ looked)) ≡ true = lt-ltb 1 (length (b ∷ c ∷ looked)) (omega arith) in
-    rw (more, or_true (not first), one_less (length (c ∷ looked)) k) (through b (ltb (last_byte (c ∷ looked)) 128) (eqb (last_byte (c ∷ looked)) 0 && true) (eqb (length (c ∷ looked)) k) (value_of (c ∷ looked)) (length (c ∷ looked)))
+    rw (more, or-true (not first), one_less (length (c ∷ looked)) k) (through b (ltb (last_byte (c ∷ looked)) 128) (eqb (last_byte (c ∷ looked)) 0 && true) (eqb (length (c ∷ looked)) k) (value_of (c ∷ looked)) (length (c ∷ looked)))
 
 pub read_looked : (k : ℕ) (first : Bool) (bytes : List ℕ) → read_in k first bytes ≡ looked_as k first (looked_at k bytes)
 unfolding read_in looked_at

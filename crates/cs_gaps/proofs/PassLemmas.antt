@@ -4,6 +4,7 @@ use Rattle.std.proofs.lemmas.Bool.{cases_lt, lt-ltb, le-ltb, ne_eqb}
 use Rattle.std.proofs.lemmas.Bool.Decides.{nat_tests}
 use Rattle.std.proofs.lemmas.List.{drop_more, drop_all, take_more_set, length-set, take_rest, get_or-drop}
 use Rattle.std.proofs.lemmas.Nat.{mul-le, div_below}
+use Rattle.std.proofs.Math.Bool.{and-false}
 use Rattle.std.proofs.Math.Nat.{pow-suc, pow-le-pow_right, mul_assoc, mul-add, mul_comm}
 use Rattle.cs_gaps.specs.declared.gap.Gap.{Gap}
 use Rattle.cs_gaps.specs.declared.gap.Gap.TheVariants.{Is, Cut, Long, Big}
@@ -104,10 +105,6 @@ cut rest n w i le h =
     let k : 5 - i ≡ suc (4 - i) = omega arith in
     rw (k, drop_all i rest le) at h.told
 
-and_false : (t : Bool) → (t && false) ≡ false
-and_false true = refl
-and_false false = refl
-
 both : (t u : Bool) (at n next : ℕ) → moved at (cond t Long (cond u (Is n next) Big)) ≡ cond t Long (cond u (Is n (at + next)) Big)
 both true u at n next = refl
 both false true at n next = refl
@@ -123,7 +120,7 @@ unfolding gap_at looked_at value_of
 one_byte bytes at b is lt small =
     let big : b < 2 ^ 32 = omega arith in
     let value : b % 128 + 128 * 0 ≡ b = omega arith in
-    rw (drop_more bytes at 0 lt, ← is, lt-ltb b 128 small, lt-ltb b 128 small, and_false (eqb b 0), value, lt-ltb b (2 ^ 32) big) refl
+    rw (drop_more bytes at 0 lt, ← is, lt-ltb b 128 small, lt-ltb b 128 small, and-false (eqb b 0), value, lt-ltb b (2 ^ 32) big) refl
 
 -- ---- writing
 

@@ -1,6 +1,7 @@
 -- What stands where a gap code is looked for.
 --
 --   last_byte bytes          the last byte; of no bytes 128, which ends no code
+--   gap_of looked            what the bytes make that were looked at
 --   gap_at bytes             what stands at the front of bytes; the place behind a code is counted from there
 --   moved at gap             the same, counted from another place
 --   ended last len n next    what a last byte makes of the number n, where it is the last of so many bytes

@@ -44,12 +44,12 @@ pub fn put_gap(out: &mut Vec<u8>, n: u32) -> Result<(), Memory>
 /// What stands at `at`, counted in bytes from 0.
 #[inline]
 pub fn next_gap(bytes: &[u8], at: usize) -> Gap
-    requires { at ≤ length bytes.now }
+    requires within { at ≤ length bytes.now }
 
     // the code of n stands there, and the next place is behind it
     ensures found { (n next : ℕ) → result ≡ Gap.Is n next → StandsAt n at next bytes.now }
     // where the code of a number stands, that number is found
-    ensures only { (n : ℕ) (rest : List ℕ) → n < 2 ^ 32 → drop at bytes.now ≡ code n ++ rest → result ≡ Gap.Is n (at + length (code n)) }
+    ensures accepts { (n : ℕ) (rest : List ℕ) → n < 2 ^ 32 → drop at bytes.now ≡ code n ++ rest → result ≡ Gap.Is n (at + length (code n)) }
     // which answer it is where no code stands
     ensures exact { result ≡ moved at (gap_at (drop at bytes.now)) }
 {

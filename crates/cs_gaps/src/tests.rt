@@ -26,9 +26,13 @@ fn numbers_are_put_and_found(rt: HostRuntime) -> Result<(), Fail> {
 
 #[test]
 fn no_code_stands_there(rt: HostRuntime) {
-    assert_eq!(rt; next_gap(&[], 0), Gap::Cut);
-    assert_eq!(rt; next_gap(&[0x80], 0), Gap::Cut);
-    assert_eq!(rt; next_gap(&[0x80, 0], 0), Gap::Long);
-    assert_eq!(rt; next_gap(&[0xFF, 0xFF, 0xFF, 0xFF, 0x10], 0), Gap::Big);
-    assert_eq!(rt; next_gap(&[0x80, 0x80, 0x80, 0x80, 0x80, 0], 0), Gap::Big);
+    for (bytes, want) in [
+        ([].as_slice(), Gap::Cut),
+        ([0x80].as_slice(), Gap::Cut),
+        ([0x80, 0].as_slice(), Gap::Long),
+        ([0xFF, 0xFF, 0xFF, 0xFF, 0x10].as_slice(), Gap::Big),
+        ([0x80, 0x80, 0x80, 0x80, 0x80, 0].as_slice(), Gap::Big),
+    ] {
+        assert_eq!(rt; next_gap(bytes, 0), want);
+    }
 }

@@ -1,27 +1,12 @@
--- The JSON of a reply, or of a fault, has no float, so that its text is determined.
-use Rattle.std.proofs.Common.{◌≡◌, ℕ, Bool, true, false, ◌||◌, List, [], ◌∷◌, map, fold, Ordering, Less, Equal, Greater, refl, nat_cmp}
+-- The JSON of a reply has no float, so that its text is determined.
+use Rattle.std.proofs.Common.{◌≡◌, ℕ, false, List, [], ◌∷◌, map, fold, Ordering, Less, Equal, Greater, refl, nat_cmp}
 use Rattle.std.specs.Cmp.Lexicographic.{slice_cmp}
 use Rattle.std.specs.Ordering.{match_ordering}
+use Rattle.std.proofs.lemmas.Bool.{or_parts, or_from}
 use Rattle.serde_json.specs.Data.{Data, Members, no_members, member, put}
 use Rattle.serde_json.specs.View.{items_of}
 use Rattle.serde_json.specs.Written.{has_float, items_have_float, members_have_float}
 use Rattle.cs_model.specs.Replies.{Shown, HitShown, FacetShown, Reply, shown_data, table_data, hit_data, reply_data}
-use Rattle.cs_query.specs.declared.request.ReqFault.{ReqFault}
-use Rattle.cs_query.specs.declared.request.ReqFault.TheVariants as refusals
-use Rattle.cs_json.specs.declared.fault.Fault.{Fault}
-use Rattle.cs_json.specs.declared.fault.Fault.TheVariants as faults
-use Rattle.cs_json.specs.FaultTexts.{refusal_data, fault_data}
-
-neither : (a b : Bool) → a ≡ false → b ≡ false → (a || b) ≡ false
-neither a b e f = rw (e, f)
-
-first_is : (a b : Bool) → (a || b) ≡ false → a ≡ false
-first_is true b e = (cc)
-first_is false b e = refl
-
-second_is : (a b : Bool) → (a || b) ≡ false → b ≡ false
-second_is true b e = (cc)
-second_is false b e = e
 
 -- whichever of three lists of members is taken
 placed : (o : Ordering) (a b c : Members) → members_have_float a ≡ false → members_have_float b ≡ false → members_have_float c ≡ false → members_have_float (match_ordering o a b c) ≡ false
@@ -31,11 +16,11 @@ placed Greater a b c e f g = g
 
 -- a member without a float, put among members without one
 put-no_float : (k : List ℕ) (d : Data) (ms : Members) → has_float d ≡ false → members_have_float ms ≡ false → members_have_float (put k d ms) ≡ false
-put-no_float k d no_members e f = neither _ _ e refl
+put-no_float k d no_members e f = or_from _ _ e refl
 put-no_float k d (member l x ms) e f =
-    let first = first_is _ _ f in
-    let rest = second_is _ _ f in
-    placed (slice_cmp nat_cmp k l) _ _ _ (neither _ _ e f) (neither _ _ e rest) (neither _ _ first (put-no_float k d ms e rest))
+    let first = (or_parts _ _ f).0 in
+    let rest = (or_parts _ _ f).1 in
+    placed (slice_cmp nat_cmp k l) _ _ _ (or_from _ _ e f) (or_from _ _ e rest) (or_from _ _ first (put-no_float k d ms e rest))
 
 table-no_float : (ss : List Shown) → items_have_float (items_of (map shown_data ss)) ≡ false
 table-no_float [] = refl
@@ -51,20 +36,4 @@ facets-no_float (f ∷ fs) ms e = facets-no_float fs (put f.name (table_data f.t
 
 pub reply-no_float : (r : Reply) → has_float (reply_data r) ≡ false
 reply-no_float r =
-    neither _ _ (table-no_float r.completions) (neither _ _ (facets-no_float r.facets no_members refl) (neither _ _ (hits-no_float r.hits) refl))
-
-refusal-no_float : (f : ReqFault) → has_float (refusal_data f) ≡ false
-refusal-no_float (refusals.BadParam which) = refl
-refusal-no_float (refusals.Bad at) = refl
-refusal-no_float (refusals.Limit at which) = refl
-refusal-no_float refusals.Memory = refl
-
-pub fault-no_float : (f : Fault) → has_float (fault_data f) ≡ false
-fault-no_float (faults.Refused f) = refusal-no_float f
-fault-no_float faults.Read = refl
-fault-no_float (faults.Changed rule at) = refl
-fault-no_float faults.NotHead = refl
-fault-no_float faults.Body = refl
-fault-no_float faults.TooLong = refl
-fault-no_float faults.Path = refl
-fault-no_float faults.Method = refl
+    or_from _ _ (table-no_float r.completions) (or_from _ _ (facets-no_float r.facets no_members refl) (or_from _ _ (hits-no_float r.hits) refl))

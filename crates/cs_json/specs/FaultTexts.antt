@@ -1,36 +1,29 @@
 -- Which text each fault has. The texts themselves stand in `Faults` of cs_model.
 --
---   refusal_data f      the JSON value of a refused request
---   fault_data f        that of any fault
---   fault_text f        its text
+--   refused_text f      the text of a refused request
+--   fault_text f        that of any fault
 use Rattle.std.specs.Prelude.{ℕ, List, codes}
-use Rattle.serde_json.specs.Data.{Data}
-use Rattle.serde_json.specs.Written.{compact_text}
-use Rattle.cs_model.specs.Faults.{error_data, bad_data, limit_data, param_data, changed_data, limit_word}
+use Rattle.cs_model.specs.Faults.{error_text, bad_text, limit_text, param_text, changed_text, limit_word}
 use Rattle.cs_query.specs.ParamNames.{param_name}
 use Rattle.cs_query.specs.declared.request.ReqFault.{ReqFault}
 use Rattle.cs_query.specs.declared.request.ReqFault.TheVariants as refusals
 use Rattle.cs_json.specs.declared.fault.Fault.{Fault}
 use Rattle.cs_json.specs.declared.fault.Fault.TheVariants as faults
 
--- a refused request
-abbrev pub refusal_data : ReqFault → Data
-refusal_data (refusals.BadParam which) = param_data (param_name which)
-refusal_data (refusals.Bad at) = bad_data at
-refusal_data (refusals.Limit at which) = limit_data at (limit_word which)
-refusal_data refusals.Memory = error_data (codes "memory")
+-- the parameter, the query's place, or no memory
+abbrev pub refused_text : ReqFault → List ℕ
+refused_text (refusals.BadParam which) = param_text (param_name which)
+refused_text (refusals.Bad at) = bad_text at
+refused_text (refusals.Limit at which) = limit_text at (limit_word which)
+refused_text refusals.Memory = error_text (codes "memory")
 
--- a fault
-abbrev pub fault_data : Fault → Data
-fault_data (faults.Refused f) = refusal_data f
-fault_data faults.Read = error_data (codes "read")
-fault_data (faults.Changed rule at) = changed_data rule at
-fault_data faults.NotHead = error_data (codes "head")
-fault_data faults.Body = error_data (codes "body")
-fault_data faults.TooLong = error_data (codes "head too long")
-fault_data faults.Path = error_data (codes "path")
-fault_data faults.Method = error_data (codes "method")
-
--- the text of a fault
+-- of a refused request and of a changed file more than a word
 unfoldable pub fault_text : Fault → List ℕ
-fault_text f = compact_text (fault_data f)
+fault_text (faults.Refused f) = refused_text f
+fault_text faults.Read = error_text (codes "read")
+fault_text (faults.Changed rule at) = changed_text rule at
+fault_text faults.NotHead = error_text (codes "head")
+fault_text faults.Body = error_text (codes "body")
+fault_text faults.TooLong = error_text (codes "head too long")
+fault_text faults.Path = error_text (codes "path")
+fault_text faults.Method = error_text (codes "method")

@@ -1,9 +1,10 @@
 //! The texts of faults.
-ghost use Rattle.std.specs.Prelude.{◌≡◌, IfOk, codes};
+ghost use Rattle.std.specs.Prelude.{◌≡◌, IfOk, false};
 ghost use Rattle.serde_json.specs.View.{view};
-ghost use Rattle.cs_model.specs.Faults.{error_data, bad_data, limit_data, param_data, changed_data, limit_word};
+ghost use Rattle.serde_json.specs.Written.{compact_text, has_float};
+ghost use Rattle.cs_model.specs.Faults.{limit_word};
 ghost use Rattle.cs_query.specs.ParamNames.{param_name};
-ghost use Rattle.cs_json.specs.FaultTexts.{fault_data, refusal_data, fault_text};
+ghost use Rattle.cs_json.specs.FaultTexts.{refused_text, fault_text};
 
 use cs_base::Memory;
 use cs_query::{Param, ReqFault, Which};
@@ -45,8 +46,10 @@ pub fn fault_bytes(alloc: Global, f: &Fault) -> Result<Vec<u8>, Memory>
     Ok(bytes)
 }
 
+#[tactic(auto, unfolding(crate::specs::FaultTexts::fault_text, cs_model::specs::Faults::error_text, cs_model::specs::Faults::changed_text))]
 fn fault_value(alloc: Global, fault: &Fault) -> Result<Value, AllocError>
-    ensures { IfOk result (λ v. view v ≡ fault_data fault.now) }
+    ensures text { IfOk result (λ v. compact_text (view v) ≡ fault_text fault.now) }
+    ensures no_float { IfOk result (λ v. has_float (view v) ≡ false) }
 {
     match fault {
         Fault::Refused(refusal) => refusal_value(alloc, refusal),
@@ -61,8 +64,10 @@ fn fault_value(alloc: Global, fault: &Fault) -> Result<Value, AllocError>
     }
 }
 
+#[tactic(auto, unfolding(cs_model::specs::Faults::error_text, cs_model::specs::Faults::bad_text, cs_model::specs::Faults::limit_text, cs_model::specs::Faults::param_text))]
 fn refusal_value(alloc: Global, refusal: &ReqFault) -> Result<Value, AllocError>
-    ensures { IfOk result (λ v. view v ≡ refusal_data refusal.now) }
+    ensures text { IfOk result (λ v. compact_text (view v) ≡ refused_text refusal.now) }
+    ensures no_float { IfOk result (λ v. has_float (view v) ≡ false) }
 {
     match refusal {
         ReqFault::BadParam { which } =>

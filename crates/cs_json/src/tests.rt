@@ -3,7 +3,6 @@ use crate::{Fault, fault_bytes, reply_bytes};
 use cs_base::{Seq, Text};
 use cs_query::{FacetShown, HitShown, Param, Reply, ReqFault, Shown, Which};
 use std::alloc::Global;
-use std::process::Abort;
 use std::test::Fail;
 
 fn table(alloc: Global, docs: u32, word: &str) -> Result<Seq<Shown>, Fail> {
@@ -54,55 +53,34 @@ fn a_reply_has_its_keys_in_byte_order(rt: HostRuntime) -> Result<(), Fail> {
     Ok(())
 }
 
-fn text_is(rt: &impl Abort, alloc: Global, fault: Fault, want: &str) -> Result<(), Fail> {
-    assert_eq!(rt;
-        fault_bytes(alloc, &fault)?.as_slice(),
-        want.as_bytes(),
-        "{want}"
-    );
-    Ok(())
-}
-
 #[test]
 fn faults_have_the_texts_of_the_format(rt: HostRuntime) -> Result<(), Fail> {
     let limit = ReqFault::Limit {
         at: 120,
         which: Which::Word,
     };
-    text_is(
-        &rt,
-        rt.alloc(),
-        Fault::Refused(ReqFault::Bad { at: 2 }),
-        "{\"at\":2,\"error\":\"bad\"}",
-    )?;
-    text_is(
-        &rt,
-        rt.alloc(),
-        Fault::Refused(limit),
-        "{\"at\":120,\"error\":\"limit\",\"which\":\"word\"}",
-    )?;
-    text_is(
-        &rt,
-        rt.alloc(),
-        Fault::Refused(ReqFault::BadParam { which: Param::H }),
-        "{\"error\":\"param\",\"param\":\"h\"}",
-    )?;
-    text_is(
-        &rt,
-        rt.alloc(),
-        Fault::Refused(ReqFault::Memory),
-        "{\"error\":\"memory\"}",
-    )?;
-    text_is(
-        &rt,
-        rt.alloc(),
-        Fault::Changed { rule: 13, at: 106 },
-        "{\"at\":106,\"error\":\"changed\",\"rule\":13}",
-    )?;
-    text_is(
-        &rt,
-        rt.alloc(),
-        Fault::TooLong,
-        "{\"error\":\"head too long\"}",
-    )
+    for (fault, want) in [
+        (
+            Fault::Refused(ReqFault::Bad { at: 2 }),
+            r#"{"at":2,"error":"bad"}"#,
+        ),
+        (
+            Fault::Refused(limit),
+            r#"{"at":120,"error":"limit","which":"word"}"#,
+        ),
+        (
+            Fault::Refused(ReqFault::BadParam { which: Param::H }),
+            r#"{"error":"param","param":"h"}"#,
+        ),
+        (Fault::Refused(ReqFault::Memory), r#"{"error":"memory"}"#),
+        (
+            Fault::Changed { rule: 13, at: 106 },
+            r#"{"at":106,"error":"changed","rule":13}"#,
+        ),
+        (Fault::TooLong, r#"{"error":"head too long"}"#),
+    ] {
+        let text = fault_bytes(rt.alloc(), &fault)?;
+        assert_eq!(rt; text.as_slice(), want.as_bytes(), "{want}");
+    }
+    Ok(())
 }

@@ -2,14 +2,14 @@
 --
 --   gap_column before rs   for each row the gap code of its document less that of the row before, the first less `before`
 --   word_column lo rs      for each row two bytes: the number of its word less lo
---   place_column rs        for each row four bytes: its position
+--   position_column rs     for each row four bytes: its position
 --   score_column rs        for each row one byte: its score
 --   block_bytes rs lo      the columns of rows whose words are numbered from lo on; of no rows no bytes
 --   AreWritable lo rs      rows in order whose words have a number of two bytes from lo on, so that a block can hold them
---   IsShaped head size     a block's head that goes with so many bytes, as each does that a directory's rules let pass
+--   IsShaped head size     a block's head that goes with so many bytes, as each does that the rules of the directory let pass
 --
 -- Numbers of more than one byte have their high byte first.
-use Rattle.std.specs.Prelude.{◌≡◌, ℕ, ◌+◌, ◌-◌, ◌*◌, ◌^◌, ◌<◌, ◌≤◌, List, [], ◌∷◌, ◌++◌, All}
+use Rattle.std.specs.Prelude.{◌≡◌, ℕ, ◌+◌, ◌-◌, ◌*◌, ◌^◌, ◌<◌, ◌≤◌, List, [], ◌∷◌, ◌++◌, map, flat_map, All}
 use Rattle.std.specs.Int.{w16, w32, to_be_bytes}
 use Rattle.std.specs.List.Sorted.{IsStrictlySortedBy}
 use Rattle.cs_base.specs.GapCode.{code}
@@ -18,36 +18,33 @@ use Rattle.cs_base.specs.declared.block.BlockHead.{BlockHead}
 use Rattle.cs_base.specs.declared.doc.Post.{Post}
 use Rattle.cs_base.specs.declared.limits.TheConstants.{MAX_WORDS}
 
--- 0 in the same document as the row before
+-- each gap by its code, 0 in the same document as the row before; of no rows no bytes
 unfoldable pub gap_column : ℕ → List Post → List ℕ
 gap_column before [] = []
 gap_column before (r ∷ rs) = code (r.doc - before) ++ gap_column r.doc rs
 
--- 0 for the word lo
+-- 0 for the word lo; of no rows no bytes
 unfoldable pub word_column : ℕ → List Post → List ℕ
-word_column lo [] = []
-word_column lo (r ∷ rs) = to_be_bytes w16 (r.word - lo) ++ word_column lo rs
+word_column lo rs = flat_map (λ r. to_be_bytes w16 (r.word - lo)) rs
 
--- 0 for a facet word
-unfoldable pub place_column : List Post → List ℕ
-place_column [] = []
-place_column (r ∷ rs) = to_be_bytes w32 r.pos ++ place_column rs
+-- 0 for a facet word; of no rows no bytes
+unfoldable pub position_column : List Post → List ℕ
+position_column rs = flat_map (λ r. to_be_bytes w32 r.pos) rs
 
--- as they are
+-- a score is a byte; of no rows no bytes
 unfoldable pub score_column : List Post → List ℕ
-score_column [] = []
-score_column (r ∷ rs) = r.score ∷ score_column rs
+score_column rs = map (λ r. r.score) rs
 
--- gaps, words, positions, scores; of no rows no bytes
+-- the four columns one behind the other; of no rows no bytes
 unfoldable pub block_bytes : List Post → ℕ → List ℕ
-block_bytes rs lo = gap_column 0 rs ++ (word_column lo rs ++ (place_column rs ++ score_column rs))
+block_bytes rs lo = gap_column 0 rs ++ (word_column lo rs ++ (position_column rs ++ score_column rs))
 
--- rows that a block can hold; also no rows
+-- rows in order, with words that two bytes tell apart; no rows are writable
 pub record AreWritable (lo : ℕ) (rs : List Post) : Type 0 where
   pub sorted : IsStrictlySortedBy by_place rs
   pub words : All (λ r. (lo ≤ r.word) × (r.word < lo + 2 ^ 16)) rs
 
--- every word has a row, every row has from 8 to 12 bytes, and words are in the limits
+-- every word has a row, every row has from 8 to 12 bytes, and words are in the limits; a head of no rows goes with no bytes
 pub record IsShaped (head : BlockHead) (size : ℕ) : Type 0 where
   pub size_is : size ≡ head.len
   pub rows : head.words ≤ head.rows

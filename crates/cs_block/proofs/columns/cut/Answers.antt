@@ -1,4 +1,4 @@
-use Rattle.cs_block.proofs.PassLemmas.{columns_cut}
+use Rattle.cs_block.proofs.ItemsLemmas.{columns_cut}
 use Rattle.cs_block.proofs.columns.cut.Goals as goal
 
 pub returns-clause-value : goal.returns-clause-value

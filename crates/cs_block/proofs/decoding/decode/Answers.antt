@@ -2,11 +2,12 @@ use Rattle.std.proofs.Common.{sym, ◌∙◌, ap, arith, ◌++◌, List}
 use Rattle.cs_base.specs.declared.doc.Post.{Post}
 use Rattle.cs_model.specs.BlockRules.{rows_read}
 use Rattle.cs_block.proofs.LawsLemmas.{accepted, unique}
-use Rattle.cs_block.proofs.PassLemmas.{judged_cut, rows_cut, none-from_test}
+use Rattle.cs_block.proofs.ItemsLemmas.{judged_cut, rows_cut}
+use Rattle.cs_block.proofs.PassLemmas.{none-from_test}
 use Rattle.cs_block.proofs.decoding.decode.Goals as goal
 
-pub returns-in-Some-clause-only : goal.returns-in-Some-clause-only
-returns-in-Some-clause-only c = λ rows block. sym (unique c.args.head.now c.args.docs rows c.args.bytes.now (omega arith) c.requires block).0 ∙ sym (judged_cut c.args.head.now c.args.docs c.args.bytes.now _ c.cut-columns.ensures.value) ∙ sym c.in-Some.ensures
+pub returns-in-Some-clause-accepts : goal.returns-in-Some-clause-accepts
+returns-in-Some-clause-accepts c = λ rows block. sym (unique c.args.head.now c.args.docs rows c.args.bytes.now (omega arith) c.requires.shaped block).0 ∙ sym (judged_cut c.args.head.now c.args.docs c.args.bytes.now _ c.cut-columns.ensures.value) ∙ sym c.in-Some.ensures
 
 pub returns-in-Some-clause-exact : goal.returns-in-Some-clause-exact
 returns-in-Some-clause-exact c = sym (judged_cut c.args.head.now c.args.docs c.args.bytes.now _ c.cut-columns.ensures.value) ∙ sym c.in-Some.ensures
@@ -17,6 +18,6 @@ returns-else-not-push_rows-clause-exact c = sym (judged_cut c.args.head.now c.ar
 pub returns-else-not-push_rows-clause-ok : goal.returns-else-not-push_rows-clause-ok
 returns-else-not-push_rows-clause-ok c = (
   rows_read c.args.head.now c.args.bytes.now,
-  accepted c.args.head.now c.args.docs c.args.bytes.now (λ i. omega (arith, c.type_inv.bytes i)) c.requires (returns-else-not-push_rows-clause-exact c),
+  accepted c.args.head.now c.args.docs c.args.bytes.now (λ i. omega (arith, c.type_inv.bytes i)) c.requires.shaped (returns-else-not-push_rows-clause-exact c),
   c.push_rows.ensures.posts c.if-not-push_rows.false ∙ ap (λ (x : List Post). c.reserve.new.self.posts ++ x) (rows_cut c.args.head.now c.args.bytes.now _ c.cut-columns.ensures.value) ∙ ap (λ (x : List Post). x ++ rows_read c.args.head.now c.args.bytes.now) c.reserve.ensures.posts,
 )

@@ -1,5 +1,5 @@
 use Rattle.std.proofs.Common.{sym, ◌∙◌}
-use Rattle.cs_block.proofs.PassLemmas.{bad_on, bad_here, bad_over, bad_done}
+use Rattle.cs_block.proofs.ItemsLemmas.{bad_on, bad_here, bad_over, bad_done}
 use Rattle.cs_block.proofs.judging.bad_code.Goals as goal
 
 pub returns-in_default-clause-value : goal.returns-in_default-clause-value

@@ -1,5 +1,5 @@
 use Rattle.std.proofs.Common.{sym, arith}
-use Rattle.cs_block.proofs.PassLemmas.{judged_at_row, judged_at_code}
+use Rattle.cs_block.proofs.ItemsLemmas.{judged_at_row, judged_at_code}
 use Rattle.cs_block.proofs.judging.judge.Goals as goal
 
 pub overflow_cast-result : goal.overflow_cast-result
