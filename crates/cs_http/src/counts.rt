@@ -4,7 +4,7 @@ ghost use Rattle.cs_model.specs.Parameters.{parameter, is_count, count_of, numbe
 ghost use Rattle.cs_query.specs.ParamNames.{param_name};
 ghost use Rattle.cs_http.specs.Refusing.{IsRefusedBy};
 
-use crate::first::first_of;
+use crate::first::first_value;
 use cs_base::MAX_COUNT_DIGITS;
 use cs_query::{Param, ReqFault};
 use cs_text::{has_digits, number_of};
@@ -22,24 +22,13 @@ pub(crate) fn count(
     ensures ok { IfOk result (λ n. n ≡ count_of default (parameter (param_name which) params.now)) }
     ensures err { IfErr result (λ e. IsRefusedBy which (is_count most (parameter (param_name which) params.now)) e) }
 {
-    let value = first_of(alloc, params, name_of(which))?;
+    let value = first_value(alloc, params, which.name())?;
     let Some(value) = value else {
         return Ok(default);
     };
     match read_count(value.as_str().as_bytes(), most) {
         Some(count) => Ok(count),
         None => Err(ReqFault::BadParam { which }),
-    }
-}
-
-fn name_of(which: Param) -> &'static str
-    ensures { result.now ≡ param_name which }
-{
-    match which {
-        Param::H => "h",
-        Param::C => "c",
-        Param::O => "o",
-        Param::F => "f",
     }
 }
 
