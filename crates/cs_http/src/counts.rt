@@ -4,13 +4,11 @@ ghost use Rattle.cs_model.specs.Parameters.{parameter, is_count, count_of, numbe
 ghost use Rattle.cs_query.specs.ParamNames.{param_name};
 ghost use Rattle.cs_http.specs.Refusing.{IsRefusedBy};
 
-use crate::first::first_of;
+use crate::first::first_value;
+use cs_base::MAX_COUNT_DIGITS;
 use cs_query::{Param, ReqFault};
 use cs_text::{has_digits, number_of};
 use std::alloc::Global;
-
-/// The most digits of a count.
-const MAX_DIGITS: usize = 5;
 
 /// The count that a parameter asks, at most `most`, or the default where there is no such parameter.
 pub(crate) fn count(
@@ -24,7 +22,7 @@ pub(crate) fn count(
     ensures ok { IfOk result (λ n. n ≡ count_of default (parameter (param_name which) params.now)) }
     ensures err { IfErr result (λ e. IsRefusedBy which (is_count most (parameter (param_name which) params.now)) e) }
 {
-    let value = first_of(alloc, params, name_of(which))?;
+    let value = first_value(alloc, params, which.name())?;
     let Some(value) = value else {
         return Ok(default);
     };
@@ -34,23 +32,12 @@ pub(crate) fn count(
     }
 }
 
-fn name_of(which: Param) -> &'static str
-    ensures { result.now ≡ param_name which }
-{
-    match which {
-        Param::H => "h",
-        Param::C => "c",
-        Param::O => "o",
-        Param::F => "f",
-    }
-}
-
-// The number that at most `MAX_DIGITS` digits spell, where it is at most `most`.
+// The number that at most `MAX_COUNT_DIGITS` digits spell, where it is at most `most`.
 fn read_count(text: &[u8], most: u32) -> Option<u32>
     ensures some { IfSome result (λ n. (is_count most (Some text.now) ≡ true) × (n ≡ number_of text.now)) }
     ensures none { IfNone result (is_count most (Some text.now) ≡ false) }
 {
-    if !has_digits(text, MAX_DIGITS) {
+    if !has_digits(text, MAX_COUNT_DIGITS) {
         return None;
     }
     let number = number_of(text);

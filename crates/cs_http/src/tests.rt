@@ -1,19 +1,15 @@
 //! What no clause says: that `request` gives requests where there is memory, and that the definitions mean what the
 //! description of the parameters says of its examples.
 use crate::request;
-use cs_base::{Atom, Memory, Text, Which};
-use cs_query::{Param, ReqFault, Request};
+use cs_base::{Atom, Memory, Text};
+use cs_query::{ReqFault, Request};
 use std::alloc::Global;
+use std::process::Abort;
 use std::test::Fail;
 
-// A string of parameters, and its request as `told` writes it.
 #[test]
-fn strings_ask_what_the_description_says(rt: HostRuntime) -> Result<(), Fail> {
+fn names_and_values_are_decoded_before_they_are_read(rt: HostRuntime) -> Result<(), Fail> {
     let rows = [
-        ("", "10 10 0;;"),
-        ("q=typ", "10 10 0;;typ"),
-        ("q=&h=1&o=1", "1 10 1;;"),
-        // names and values are decoded before they are compared and read
         ("%71=a", "10 10 0;;a"),
         ("%68=%31%30", "10 10 0;;"),
         ("q=a+b", "10 10 0;;a b"),
@@ -25,101 +21,115 @@ fn strings_ask_what_the_description_says(rt: HostRuntime) -> Result<(), Fail> {
         ("q=%C3%89cole", "10 10 0;;e\u{301}cole"),
         // what isn't an escape stands for itself
         ("q=a%zz", "10 10 0;;a zz"),
-        // the first of each name, other names, pieces without a value or without bytes
+        ("f=%61%2Cb", "10 10 0;a,b,;"),
+    ];
+    are_answered(&rt, rt.alloc(), &rows)
+}
+
+#[test]
+fn the_first_of_each_name_counts(rt: HostRuntime) -> Result<(), Fail> {
+    let rows = [
+        ("", "10 10 0;;"),
+        ("q=typ", "10 10 0;;typ"),
+        ("q=&h=1&o=1", "1 10 1;;"),
         ("q=a&q=b", "10 10 0;;a"),
         ("q&q=b", "10 10 0;;"),
         ("h=1&h=101", "1 10 0;;"),
+        ("h=x&h=1", "no h"),
         ("Q=a&x=1&&h=2&", "2 10 0;;"),
         ("q=a=b", "10 10 0;;a b"),
-        // counts
+    ];
+    are_answered(&rt, rt.alloc(), &rows)
+}
+
+#[test]
+fn counts_are_a_few_digits_within_their_limits(rt: HostRuntime) -> Result<(), Fail> {
+    let rows = [
         ("h=0&c=100&o=10000", "0 100 10000;;"),
         ("h=100&c=0&o=0", "100 0 0;;"),
         ("h=00010&c=00000&o=00001", "10 0 1;;"),
-        // facets
+        ("q=typ&h=101", "no h"),
+        ("q=typ&h=", "no h"),
+        ("h", "no h"),
+        ("h=000010", "no h"),
+        ("h=+1", "no h"),
+        ("h=%2B1", "no h"),
+        ("h=-1", "no h"),
+        ("h=1a", "no h"),
+        ("h=%D9%A3", "no h"),
+        ("c=101", "no c"),
+        ("c=1,0", "no c"),
+        ("o=10001", "no o"),
+        ("o=000000", "no o"),
+    ];
+    are_answered(&rt, rt.alloc(), &rows)
+}
+
+#[test]
+fn facets_are_asked_once_each_by_names_in_byte_order(rt: HostRuntime) -> Result<(), Fail> {
+    let rows = [
         ("f=author,zzz", "10 10 0;author,zzz,;"),
         ("f=zzz,author,zzz", "10 10 0;author,zzz,;"),
         ("f=b,a1,a", "10 10 0;a,a1,b,;"),
-        ("f=%61%2Cb", "10 10 0;a,b,;"),
         ("f=", "10 10 0;;"),
         ("f=,", "10 10 0;;"),
         ("f=,b,,a,", "10 10 0;a,b,;"),
         ("f=abcdefghijklmnop", "10 10 0;abcdefghijklmnop,;"),
         ("f=h,g,f,e,d,c,b,a,a", "10 10 0;a,b,c,d,e,f,g,h,;"),
+        ("f=Author", "no f"),
+        ("f=a+b", "no f"),
+        ("f=a,+b", "no f"),
+        ("f=1a", "no f"),
+        ("f=%C3%A9", "no f"),
+        ("f=abcdefghijklmnopq", "no f"),
+        ("f=a,b,c,d,e,f,g,h,i", "no f"),
     ];
+    are_answered(&rt, rt.alloc(), &rows)
+}
+
+#[test]
+fn the_query_is_judged_last_by_its_key_text(rt: HostRuntime) -> Result<(), Fail> {
+    let rows = [
+        ("q=||&f=A&o=x&c=x&h=x", "no h"),
+        ("q=||&f=A&o=x&c=x", "no c"),
+        ("q=||&f=A&o=x", "no o"),
+        ("q=||&f=A", "no f"),
+        ("q=a||b&o=x", "no o"),
+        ("q=a||b", "bad 2"),
+        ("q=%C3%89:", "bad 3"),
+        ("q=%C3:", "bad 3"),
+        ("q=a+a+a+a+a+a+a+a+a+a+a+a+a+a+a+a+a", "limit 32 Parts"),
+    ];
+    are_answered(&rt, rt.alloc(), &rows)
+}
+
+// Each row is a string of parameters, and its request or its first refusal as `told` writes it.
+fn are_answered(rt: &impl Abort, alloc: Global, rows: &[(&str, &str)]) -> Result<(), Fail> {
     for (params, want) in rows {
-        let found = told(rt.alloc(), params)?;
-        assert_eq!(rt; found.as_str(), want, "of {params}");
+        let found = told(alloc, params)?;
+        assert_eq!(rt; found.as_str(), *want, "of {params}");
     }
     Ok(())
 }
 
-// A string of parameters, and the first refusal.
-#[test]
-fn strings_are_refused_as_the_description_says(rt: HostRuntime) {
-    let hits = ReqFault::BadParam { which: Param::H };
-    let completions = ReqFault::BadParam { which: Param::C };
-    let offset = ReqFault::BadParam { which: Param::O };
-    let facets = ReqFault::BadParam { which: Param::F };
-    let rows = [
-        ("q=typ&h=101", hits),
-        ("q=typ&h=", hits),
-        ("h", hits),
-        ("h=000010", hits),
-        ("h=+1", hits),
-        ("h=%2B1", hits),
-        ("h=-1", hits),
-        ("h=1a", hits),
-        ("h=%D9%A3", hits),
-        ("h=x&h=1", hits),
-        ("c=101", completions),
-        ("c=1,0", completions),
-        ("o=10001", offset),
-        ("o=000000", offset),
-        ("f=Author", facets),
-        ("f=a+b", facets),
-        ("f=a,+b", facets),
-        ("f=1a", facets),
-        ("f=%C3%A9", facets),
-        ("f=abcdefghijklmnopq", facets),
-        ("f=a,b,c,d,e,f,g,h,i", facets),
-        // in the order h, c, o, f, q
-        ("q=||&f=A&o=x&c=x&h=x", hits),
-        ("q=||&f=A&o=x&c=x", completions),
-        ("q=||&f=A&o=x", offset),
-        ("q=||&f=A", facets),
-        ("q=a||b&o=x", offset),
-        ("q=a||b", ReqFault::Bad { at: 2 }),
-        // places count the bytes of the key text
-        ("q=%C3%89:", ReqFault::Bad { at: 3 }),
-        ("q=%C3:", ReqFault::Bad { at: 3 }),
-        (
-            "q=a+a+a+a+a+a+a+a+a+a+a+a+a+a+a+a+a",
-            ReqFault::Limit {
-                at: 32,
-                which: Which::Parts,
-            },
-        ),
-    ];
-    for (params, want) in rows {
-        assert_eq!(rt; fault_of(rt.alloc(), params), Some(want), "of {params}");
-    }
-}
-
-fn fault_of(alloc: Global, params: &str) -> Option<ReqFault> {
-    match request(alloc, params.as_bytes()) {
-        Ok(_) => None,
-        Err(fault) => Some(fault),
-    }
-}
-
-// The counts, the facets' names with a comma behind each, and the query; of a refused string the empty text.
 fn told(alloc: Global, params: &str) -> Result<Text, Memory> {
     match request(alloc, params.as_bytes()) {
         Ok(request) => tell(alloc, &request),
-        Err(_) => Ok(Text::new(alloc)),
+        Err(fault) => tell_fault(alloc, fault),
     }
 }
 
+fn tell_fault(alloc: Global, fault: ReqFault) -> Result<Text, Memory> {
+    let told = match fault {
+        ReqFault::BadParam { which } => format!(in alloc; "no {}", which.name())?,
+        ReqFault::Bad { at } => format!(in alloc; "bad {at}")?,
+        ReqFault::Limit { at, which } => format!(in alloc; "limit {at} {which:?}")?,
+        ReqFault::Memory => format!(in alloc; "no memory")?,
+    };
+    Ok(Text::from_string(told))
+}
+
+// The counts, the facets' names with a comma behind each, and the query.
 fn tell(alloc: Global, request: &Request) -> Result<Text, Memory> {
     let counts = format!(in alloc;
         "{} {} {};",

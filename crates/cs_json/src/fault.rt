@@ -3,11 +3,10 @@ ghost use Rattle.std.specs.Prelude.{◌≡◌, IfOk, false};
 ghost use Rattle.serde_json.specs.View.{view};
 ghost use Rattle.serde_json.specs.Written.{compact_text, has_float};
 ghost use Rattle.cs_model.specs.Faults.{limit_word};
-ghost use Rattle.cs_query.specs.ParamNames.{param_name};
 ghost use Rattle.cs_json.specs.FaultTexts.{refused_text, fault_text};
 
 use cs_base::Memory;
-use cs_query::{Param, ReqFault, Which};
+use cs_query::{ReqFault, Which};
 use serde_json::{Value, json};
 use std::alloc::{AllocError, Global};
 
@@ -71,7 +70,7 @@ fn refusal_value(alloc: Global, refusal: &ReqFault) -> Result<Value, AllocError>
 {
     match refusal {
         ReqFault::BadParam { which } =>
-            json!(in alloc; {"error": "param", "param": (name_of(*which))}),
+            json!(in alloc; {"error": "param", "param": (which.name())}),
         ReqFault::Bad { at } => json!(in alloc; {"at": (*at), "error": "bad"}),
         ReqFault::Limit { at, which } => {
             json!(in alloc; {"at": (*at), "error": "limit", "which": (word_of(*which))})
@@ -89,16 +88,5 @@ fn word_of(which: Which) -> &'static str
         Which::Parts => "parts",
         Which::Atoms => "atoms",
         Which::Depth => "depth",
-    }
-}
-
-fn name_of(which: Param) -> &'static str
-    ensures { result.now ≡ param_name which }
-{
-    match which {
-        Param::H => "h",
-        Param::C => "c",
-        Param::O => "o",
-        Param::F => "f",
     }
 }

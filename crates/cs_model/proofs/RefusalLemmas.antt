@@ -1,6 +1,7 @@
 -- The first refusal of a text, as a relation and as a value.
 --
 --   take_take              a prefix of a prefix
+--   AcceptedTo cs n        each prefix of at most n characters is accepted
 --   accepted_is_none       the accepted texts are those with no first refusal
 --   refused_is_first       a text is refused at its first refusal alone
 use Rattle.std.proofs.Common.{◌≡◌, ℕ, zero, suc, ◌<◌, ◌≤◌, ◌+◌, List, [], ◌∷◌, inl, inr, length, take, map, refl, ap, ◌∙◌, sym, arith, Option, Some, None}
@@ -23,7 +24,7 @@ take_take (suc k) (suc n) [] h = refl
 take_take (suc k) (suc n) (x ∷ s) h = ap (λ l. x ∷ l) (take_take k n s (omega arith))
 
 -- each prefix of at most n characters is accepted
-abbrev AcceptedTo : List ℕ → ℕ → Type 0
+abbrev pub AcceptedTo : List ℕ → ℕ → Type 0
 AcceptedTo cs n = (k : ℕ) → k ≤ n → verdict (tokens (take k cs)) ≡ None
 
 module _ {X : Type 0} where

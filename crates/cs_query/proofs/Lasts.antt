@@ -2,7 +2,7 @@
 --
 --   on_last_at       a list whose last entry was changed
 --   reverse_push     the reverse of a list with one entry more
-use Rattle.std.proofs.Common.{◌≡◌, List, [], ◌∷◌, ◌++◌, reverse, refl, ap, ◌∙◌, sym}
+use Rattle.std.proofs.Common.{◌≡◌, List, [], ◌∷◌, ◌++◌, reverse, ap, ◌∙◌, sym}
 use Rattle.std.proofs.lemmas.List.{reverse-append}
 use Rattle.cs_model.specs.Grammar.{on_last}
 use Rattle.cs_model.proofs.KeyLemmas.{on_last-append}

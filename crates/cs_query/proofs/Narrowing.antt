@@ -2,14 +2,14 @@
 --
 --   last_link, last_part      the prefix at the end of a chain, and of a query
 --   Narrowing q p rest ns     ns are the narrower keys of those words that are longer than rest, or as long
---   at_start, one_less, at_stop, at_end     the steps of the loop
---   continues, some_left      rest is the beginning of the prefix, and is a word
+--   one_less, at_stop, at_end     the steps of the loop
+--   continues                     rest is the beginning of the prefix, and is a word
 use Rattle.std.proofs.Common.{◌≡◌, ℕ, suc, ◌-◌, ◌≤◌, List, [], ◌∷◌, ◌++◌, map, filter, length, refl, ap, ◌∙◌, sym, append_assoc, Bool, true, false, arith, Some}
 use Rattle.std.specs.Prelude.{◌||◌, ◌==◌, encode_utf8_all}
 use Rattle.std.specs.Char.{encode_utf8}
 use Rattle.std.specs.List.{list_any, slice_get}
 use Rattle.std.specs.Str.{chars, IsUtf8, all_scalars}
-use Rattle.std.proofs.lemmas.Bool.{eqb-true}
+use Rattle.std.proofs.lemmas.Bool.{or_from, or_parts}
 use Rattle.std.proofs.lemmas.List.{append-nil}
 use Rattle.std.proofs.lemmas.Str.{encodes_same, encodes-chars, scalars-chars, chars-nil}
 use Rattle.cs_base.specs.declared.key.Narrower.{Narrower}
@@ -22,6 +22,7 @@ use Rattle.cs_model.specs.Keys.{last_of, prefix_in, last_atom, chain_prefix, par
 use Rattle.cs_model.proofs.PieceTokens.{chars_some}
 use Rattle.cs_model.proofs.SizeLemmas.{encodes-append}
 use Rattle.cs_model.proofs.KeyLemmas.{is_colon, left_more, left_stop, left_empty}
+use Rattle.cs_text.proofs.PiecesLemmas.{some_length, nil_from_test}
 use Rattle.cs_text.proofs.SplitLemmas.{scalars_back}
 use Rattle.cs_query.specs.Printing.{Continues}
 
@@ -44,14 +45,6 @@ pub record Narrowing (q : Query) (p rest : List ℕ) (ns : List Narrower) : Type
   pub plain : list_any is_colon cut ≡ false
   pub told : map (narrower q) (shorter_words p) ≡ ns ++ map (narrower q) (map encode_utf8_all (filter (is_left (chars p)) (shorter (chars rest))))
 
-pub at_start : (q : Query) (p rest : List ℕ) → rest ≡ p → Narrowing q p rest []
-at_start q p rest e = record {
-  cut = [];
-  split = ap chars (sym e) ∙ sym (append-nil (chars rest));
-  plain = refl;
-  told = ap (λ l. map (narrower q) (map encode_utf8_all (filter (is_left (chars p)) (shorter (chars l))))) (sym e);
-}
-
 -- rest is next with the character c behind it
 chars_less : (rest next : List ℕ) (c : ℕ) → rest ≡ next ++ encode_utf8 c → IsUtf8 rest → IsUtf8 next → chars rest ≡ chars next ++ c ∷ []
 chars_less rest next c e u v =
@@ -71,33 +64,15 @@ continues q p rest next c ns h e u ur un =
       same = sym (encodes-chars p u) ∙ ap encode_utf8_all split ∙ encodes-append (chars next) (c ∷ h.cut) ∙ ap (λ l. l ++ encode_utf8_all (c ∷ h.cut)) (encodes-chars next un);
     }
 
-or_no_first : (a b : Bool) → false ≡ (a || b) → a ≡ false
-or_no_first true b h = cc
-or_no_first false b h = refl
-
-or_no_second : (a b : Bool) → false ≡ (a || b) → b ≡ false
-or_no_second true b h = cc
-or_no_second false b h = sym h
-
-some_of : (w : List ℕ) → (length w == 0) ≡ false → 1 ≤ length w
-some_of [] h = absurd (let no : true ≡ false = h in cc)
-some_of (x ∷ w) h = omega arith
-
-pub some_left : (next : List ℕ) (c : ℕ) → false ≡ ((c == 58) || (length next == 0)) → 1 ≤ length next
-some_left next c h = some_of next (or_no_second (c == 58) (length next == 0) h)
-
-or_none : (a b : Bool) → a ≡ false → b ≡ false → (a || b) ≡ false
-or_none true b h k = cc
-or_none false b h k = k
-
 pub one_less : (q : Query) (p rest next : List ℕ) (c : ℕ) (ns : List Narrower) (n : Narrower) → Narrowing q p rest ns → rest ≡ next ++ encode_utf8 c → IsUtf8 rest → IsUtf8 next
     → false ≡ ((c == 58) || (length next == 0)) → n ≡ narrower q next → Narrowing q p next (ns ++ n ∷ [])
 one_less q p rest next c ns n h e ur un go is =
     let less : chars rest ≡ chars next ++ c ∷ [] = chars_less rest next c e ur un in
     let split : chars p ≡ chars next ++ (c ∷ h.cut) = split_less q p rest next c ns h less in
-    let plain : list_any is_colon (c ∷ h.cut) ≡ false = or_none (c == 58) (list_any is_colon h.cut) (or_no_first (c == 58) (length next == 0) go) h.plain in
+    let both = or_parts (c == 58) (length next == 0) (sym go) in
+    let plain : list_any is_colon (c ∷ h.cut) ≡ false = or_from (c == 58) (list_any is_colon h.cut) both.0 h.plain in
     let same : encode_utf8_all (chars next) ≡ next = encodes-chars next un in
-    let some : 1 ≤ length (chars next) = chars_some (chars next) (omega (arith, some_left next c go, ap length same)) in
+    let some : 1 ≤ length (chars next) = chars_some (chars next) (omega (arith, some_length (length next) both.1, ap length same)) in
     let behind : List Narrower = map (narrower q) (map encode_utf8_all (filter (is_left (chars p)) (shorter (chars next)))) in
     record {
       cut = c ∷ h.cut;
@@ -111,16 +86,12 @@ one_less q p rest next c ns n h e ur un go is =
 none_more : (q : Query) (p rest : List ℕ) (ns : List Narrower) → Narrowing q p rest ns → filter (is_left (chars p)) (shorter (chars rest)) ≡ [] → ns ≡ map (narrower q) (shorter_words p)
 none_more q p rest ns h e = sym (h.told ∙ ap (λ l. ns ++ map (narrower q) (map encode_utf8_all l)) e ∙ append-nil ns)
 
-none_of : (w : List ℕ) → (length w == 0) ≡ true → w ≡ []
-none_of [] h = refl
-none_of (x ∷ w) h = let zero : length (x ∷ w) ≡ 0 = eqb-true (length (x ∷ w)) 0 h in absurd (omega (arith, zero))
-
 stop_at : (b : Bool) (q : Query) (p rest next : List ℕ) (c : ℕ) (ns : List Narrower) (h : Narrowing q p rest ns) → chars rest ≡ chars next ++ c ∷ [] → (c == 58) ≡ b
     → true ≡ (b || (length next == 0)) → filter (is_left (chars p)) (shorter (chars rest)) ≡ []
 stop_at true q p rest next c ns h less is go =
     ap (λ l. filter (is_left (chars p)) (shorter l)) less ∙ left_stop (chars p) (chars next) (c ∷ h.cut) c (split_less q p rest next c ns h less) (ap (λ b. b || list_any is_colon h.cut) is)
 stop_at false q p rest next c ns h less is go =
-    ap (λ l. filter (is_left (chars p)) (shorter l)) (less ∙ ap (λ l. l ++ c ∷ []) (ap chars (none_of next (sym go)) ∙ chars-nil)) ∙ left_empty (chars p) c
+    ap (λ l. filter (is_left (chars p)) (shorter l)) (less ∙ ap (λ l. l ++ c ∷ []) (ap chars (nil_from_test next (sym go)) ∙ chars-nil)) ∙ left_empty (chars p) c
 
 pub at_stop : (q : Query) (p rest next : List ℕ) (c : ℕ) (ns : List Narrower) → Narrowing q p rest ns → rest ≡ next ++ encode_utf8 c → IsUtf8 rest → IsUtf8 next
     → true ≡ ((c == 58) || (length next == 0)) → ns ≡ map (narrower q) (shorter_words p)

@@ -1,13 +1,14 @@
 -- The prefixes of a text, read from the left.
 --
 --   HasRead cs i r      the reader r stands behind i characters of cs, and none of them is refused
---   at_start, one_more, at_stop, at_end     the steps of the loop
-use Rattle.std.proofs.Common.{◌≡◌, ℕ, ◌<◌, ◌≤◌, ◌+◌, List, [], ◌∷◌, ◌++◌, length, take, get_or, refl, ap, ◌∙◌, sym, arith, Some, None, Err}
+--   one_more, at_stop, at_end     the steps of the loop
+use Rattle.std.proofs.Common.{◌≡◌, ℕ, ◌<◌, ◌≤◌, ◌+◌, List, [], length, take, get_or, refl, ap, ◌∙◌, sym, arith, Some, None, Err}
 use Rattle.std.proofs.lemmas.List.{take_more, take_all, length-take, length-reverse}
+use Rattle.std.proofs.lemmas.List.Sums.{fold_push}
 use borrow.Author.Count.{below_more}
 use Rattle.cs_base.specs.declared.query.Query.{Query}
-use Rattle.cs_model.proofs.RefusalLemmas.{take_take}
-use Rattle.cs_model.specs.Tokens.{Token, with_next, tokens_after, tokens, size}
+use Rattle.cs_model.proofs.RefusalLemmas.{AcceptedTo, take_take}
+use Rattle.cs_model.specs.Tokens.{Token, with_next, tokens, size}
 use Rattle.cs_model.specs.Grammar.{reading, steps, query_of, query_of_tokens}
 use Rattle.cs_model.specs.Refusals.{verdict, depth, place_of, QueryRefusal, Bad, Limit, IsAccepted, IsRefused}
 use Rattle.cs_query.specs.declared.fault.Stop.{Stop}
@@ -21,12 +22,8 @@ use Rattle.cs_model.proofs.SizeLemmas.{size_next, place_more}
 use Rattle.std.specs.Char.{encode_utf8}
 
 -- ---- tokens
-tokens_push : (ts : List Token) (xs : List ℕ) (x : ℕ) → tokens_after ts (xs ++ x ∷ []) ≡ with_next x (tokens_after ts xs)
-tokens_push ts [] x = refl
-tokens_push ts (y ∷ xs) x = tokens_push (with_next y ts) xs x
-
 tokens_more : (cs : List ℕ) (i : ℕ) → i < length cs → tokens (take (i + 1) cs) ≡ with_next (get_or cs i 0) (tokens (take i cs))
-tokens_more cs i h = ap tokens (take_more cs i 0 h) ∙ tokens_push [] (take i cs) (get_or cs i 0)
+tokens_more cs i h = ap tokens (take_more cs i 0 h) ∙ fold_push (λ ts x. with_next x ts) [] (take i cs) (get_or cs i 0)
 
 -- ---- the verdict behind which a reader stands
 -- the tail's own atom opens no bracket
@@ -50,10 +47,6 @@ followed_all : (ts : List Token) (r : Reader) → FollowsAll ts r → verdict ts
 followed_all ts r f = ap verdict f.1 ∙ followed f.0 r f.2
 
 -- ---- prefixes
--- each prefix of at most i characters is accepted
-abbrev AcceptedTo : List ℕ → ℕ → Type 0
-AcceptedTo cs i = (k : ℕ) → k ≤ i → verdict (tokens (take k cs)) ≡ None
-
 accepted_front : (cs : List ℕ) (i : ℕ) → AcceptedTo cs i → IsAccepted (take i cs)
 accepted_front cs i h k within =
     let short : k ≤ i = omega (arith, length-take i cs) in
@@ -67,24 +60,9 @@ accepted_more cs i h e k within =
 -- the reader stands behind i characters of cs, at the byte `at`
 pub record HasRead (cs : List ℕ) (i at : ℕ) (r : Reader) : Type 0 where
   pub follows : FollowsAll (tokens (take i cs)) r
-  pub accepted : (k : ℕ) → k ≤ i → verdict (tokens (take k cs)) ≡ None
+  pub accepted : AcceptedTo cs i
   pub place : at ≡ place_of cs i
   pub bytes : size (tokens (take i cs)) ≡ at
-
-pub at_start : (cs : List ℕ) (r : Reader) → FollowsAll [] r → HasRead cs 0 0 r
-at_start cs r f = record {
-  follows = f;
-  accepted = λ k within. let none : k ≡ 0 = omega arith in rw none refl;
-  place = refl;
-  bytes = refl;
-}
-
--- a text behind which a reader stands has at most 1,024 bytes
-pub few_bytes : (cs : List ℕ) (i at : ℕ) (r : Reader) → HasRead cs i at r → at ≤ 1024
-few_bytes cs i at r h =
-    let f = h.follows in
-    let same : size (held r.tail f.0) ≡ at = ap size (sym f.1) ∙ h.bytes in
-    omega (arith, same, f.2.stands.left)
 
 -- x is the next character
 next_tokens : (cs : List ℕ) (i at x : ℕ) (r : Reader) (h : HasRead cs i at r) → i < length cs → x ≡ get_or cs i 0 → tokens (take (i + 1) cs) ≡ with_next x (held r.tail h.follows.0)

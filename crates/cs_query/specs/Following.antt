@@ -12,6 +12,7 @@ use Rattle.cs_model.specs.declared.kinds.Tie.{Tie}
 use Rattle.cs_model.specs.Tokens.{Token, Word, Value, Run, Gap, Dollar, Bar, Colon, Open, Close, size}
 use Rattle.cs_model.specs.Grammar.{spot, tie, steps, reading, query_of}
 use Rattle.cs_model.specs.Refusals.{refused, verdict, parts_in, atoms_in, depth, newest, Bad, Limit, IsAccepted, IsRefused}
+use Rattle.cs_base.specs.declared.limits.TheConstants.{MAX_PLAIN_WORD_BYTES, MAX_QUERY_BYTES, MAX_PARTS, MAX_ATOMS, MAX_DEPTH}
 use Rattle.cs_base.specs.declared.query.Query.{Query}
 use Rattle.cs_query.specs.declared.fault.QueryFault.{QueryFault}
 use Rattle.cs_query.specs.declared.fault.QueryFault.TheVariants as faults
@@ -52,16 +53,16 @@ pub record Stands (done all : List Token) (g : Gathered) : Type 0 where
   pub built : reading (steps done) ≡ record { parts = g.parts; open_now = reverse g.open_now }
   pub begun : parts_in (steps all) ≡ g.begun
   pub atoms : atoms_in (steps all) ≡ g.atoms
-  pub few : g.begun ≤ 16
-  pub some : g.atoms ≤ 32
-  pub shallow : length g.open_now ≤ 3
-  pub left : size all + depth all + g.room ≡ 1024
+  pub few : g.begun ≤ MAX_PARTS
+  pub some : g.atoms ≤ MAX_ATOMS
+  pub shallow : length g.open_now ≤ MAX_DEPTH
+  pub left : size all + depth all + g.room ≡ MAX_QUERY_BYTES
 
 -- The reader stands behind the tokens of its tail and `rest`, and none of them is refused.
 pub record Follows (rest : List Token) (r : Reader) : Type 0 where
   pub agrees : Agrees r.tail r.tie rest
   pub fine : refused (held r.tail rest) ≡ false
-  pub short : newest (held r.tail rest) ≤ 120
+  pub short : newest (held r.tail rest) ≤ MAX_PLAIN_WORD_BYTES
   pub stands : Stands (settled r.tail rest) (held r.tail rest) r.gathered
 
 -- The reader stands behind these tokens.

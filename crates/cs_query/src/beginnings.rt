@@ -1,9 +1,9 @@
 //! Tokens that begin.
-ghost use Rattle.std.specs.Prelude.{◌≡◌, List, ◌∷◌, encode_utf8, length, true, false};
+ghost use Rattle.std.specs.Prelude.{◌≡◌, ◌≤◌, List, ◌∷◌, encode_utf8, length, true, false};
 ghost use Rattle.cs_model.specs.Tokens.{Token, Word, Run, Gap, Open};
 ghost use Rattle.cs_model.specs.Grammar.{tie as tie_of};
 ghost use Rattle.cs_model.specs.Collection.{has_name_form};
-ghost use Rattle.cs_model.specs.Refusals.{refused};
+ghost use Rattle.cs_model.specs.Refusals.{begins_part, refused};
 ghost use Rattle.cs_query.specs.Following.{Agrees, Stands, Judges, held, settled};
 
 use crate::fault::Stop;
@@ -30,15 +30,10 @@ pub fn begin_word(alloc: Global, c: char, tie: Tie, gathered: Gathered) -> Resul
     if room < size {
         return Err(Stop::Limit(Which::Query));
     }
-    let begun = match tie {
-        Tie::Begins { excluded: _ } => {
-            if begun >= MAX_PARTS {
-                return Err(Stop::Limit(Which::Parts));
-            }
-            begun + 1
-        }
-        _ => begun,
-    };
+    let more = begins_part(tie);
+    if begun > MAX_PARTS - more {
+        return Err(Stop::Limit(Which::Parts));
+    }
     if atoms >= MAX_ATOMS {
         return Err(Stop::Limit(Which::Atoms));
     }
@@ -50,11 +45,22 @@ pub fn begin_word(alloc: Global, c: char, tie: Tie, gathered: Gathered) -> Resul
         gathered: Gathered {
             parts,
             open_now,
-            begun,
+            begun: begun + more,
             atoms: atoms + 1,
             room: room - size,
         },
     })
+}
+
+/// How many parts begin with an atom so tied.
+fn begins_part(tie: Tie) -> usize
+    ensures is { result ≡ begins_part tie }
+    ensures few { result ≤ 1 }
+{
+    match tie {
+        Tie::Begins { excluded: _ } => 1,
+        _ => 0,
+    }
 }
 
 /// A run begins.

@@ -1,6 +1,7 @@
 //! The keys under which a query's answer is looked for.
 ghost use Rattle.std.specs.Prelude.{◌≡◌, ◌≤◌, ◌==◌, ◌||◌, length, map, IfOk, Some};
 ghost use Rattle.std.specs.Option.{option_map};
+ghost use Rattle.cs_base.specs.declared.limits.TheConstants.{MAX_QUERY_BYTES};
 ghost use Rattle.cs_base.specs.declared.query.Atom.{out-Atom};
 ghost use Rattle.cs_model.specs.Canonical.{canonical};
 ghost use Rattle.cs_model.specs.Keys.{keys_of, last_prefix, part_prefix, chain_prefix, prefix_in, narrower, narrowers, shorter_words, extended};
@@ -32,7 +33,7 @@ pub fn keys(alloc: Global, query: &Query) -> Result<Keys, Memory>
 /// The keys of the query with its last prefix cut, the longest first.
 fn narrow(alloc: Global, query: &Query, text: &str) -> Result<Seq<Narrower>, Memory>
     requires text { text.now ≡ canonical query.now }
-    requires short { length text.now ≤ 1024 }
+    requires short { length text.now ≤ MAX_QUERY_BYTES }
 
     ensures { IfOk result (λ ns. ns ≡ narrowers query.now (last_prefix query.now)) }
 {
@@ -53,7 +54,7 @@ fn narrow_word(
 ) -> Result<Seq<Narrower>, Memory>
     requires prefix { last_prefix query.now ≡ Some word.now }
     requires text { text.now ≡ canonical query.now }
-    requires short { length text.now ≤ 1024 }
+    requires short { length text.now ≤ MAX_QUERY_BYTES }
 
     ensures { IfOk result (λ ns. ns ≡ map (narrower query.now) (shorter_words word.now)) }
 {
@@ -87,7 +88,7 @@ fn narrower(
 ) -> Result<Narrower, Memory>
     requires prefix { last_prefix query.now ≡ Some word.now }
     requires text { text.now ≡ canonical query.now }
-    requires short { length text.now ≤ 1024 }
+    requires short { length text.now ≤ MAX_QUERY_BYTES }
     requires begins { Continues rest.now word.now }
     requires some { 1 ≤ length rest.now }
 

@@ -1,8 +1,9 @@
 //! Queries, requests and replies: reads a query's text, prints it in one form, and has the types that requests and replies are handed on in.
 //!
 //! What a text means, and which character of it is refused, stands in `cs_model`'s `specs/Grammar.antt`
-//! and `specs/Refusals.antt`; the one form of a query and its keys in `specs/Canonical.antt` and `specs/Keys.antt`. Contracts see a reply as the record of that name in `cs_model`, whose text
-//! is defined there. Nothing here knows a collection.
+//! and `specs/Refusals.antt`; the one form of a query and its keys in `specs/Canonical.antt` and
+//! `specs/Keys.antt`. Contracts see a reply as the record of that name in `cs_model`, whose text is defined
+//! there. Nothing here knows a collection.
 #![tactic(auto)]
 
 mod attaching;
@@ -27,6 +28,7 @@ mod tests;
 pub use cs_base::Which;
 pub use fault::QueryFault;
 pub use keying::keys;
+pub use names::named_word;
 pub use parsing::parse;
 pub use printing::print;
 pub use reply::{FacetShown, HitShown, Reply, Shown};

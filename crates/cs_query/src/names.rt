@@ -5,8 +5,8 @@ ghost use Rattle.cs_model.specs.Collection.{named};
 use cs_base::{Memory, Text};
 use std::alloc::Global;
 
-/// The word of a facet.
-pub fn facet(alloc: Global, name: &str, value: &str) -> Result<Text, Memory>
+/// The word `:name:value` of a facet.
+pub fn named_word(alloc: Global, name: &str, value: &str) -> Result<Text, Memory>
     ensures { IfOk result (λ t. t ≡ named name.now value.now) }
 {
     let mut word = Text::new(alloc);

@@ -75,5 +75,11 @@ impl Model for Reply {
 
     ghost Value = { Reply };
 
-    ghost view = { λ r. record { completions = r.completions; facets = r.facets; hits = r.hits; total_completions = r.total_completions; total_hits = r.total_hits } };
+    ghost view = { λ r. record {
+      completions = r.completions;
+      facets = r.facets;
+      hits = r.hits;
+      total_completions = r.total_completions;
+      total_hits = r.total_hits;
+    } };
 }

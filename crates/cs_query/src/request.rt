@@ -1,4 +1,7 @@
 //! Requests, as the reader of parameters gives them, and why one is refused.
+ghost use Rattle.std.specs.Prelude.{◌≡◌};
+ghost use Rattle.cs_query.specs.ParamNames.{param_name};
+
 use crate::Which;
 use cs_base::{Memory, Query, Seq, Text};
 
@@ -48,6 +51,20 @@ pub enum Param {
     O,
     /// `f`, the facets' names.
     F,
+}
+
+impl Param {
+    /// The parameter's name.
+    pub fn name(self) -> &'static str
+        ensures { result.now ≡ param_name self }
+    {
+        match self {
+            Param::H => "h",
+            Param::C => "c",
+            Param::O => "o",
+            Param::F => "f",
+        }
+    }
 }
 
 /// What is asked.

@@ -1,5 +1,5 @@
 //! The reader after a character of runs: `.`, `-`, `_` or `'`.
-ghost use Rattle.std.specs.Prelude.{◌≡◌, List, encode_utf8};
+ghost use Rattle.std.specs.Prelude.{List, encode_utf8};
 ghost use Rattle.cs_model.specs.Tokens.{Token, grown};
 ghost use Rattle.cs_query.specs.Following.{Follows, Judges, held};
 
@@ -12,7 +12,7 @@ use std::alloc::Global;
 
 /// After a dot.
 #[tactic(auto, using(crate::proofs::Verdicts::over_query))]
-pub fn dot(alloc: Global, reader: Reader, c: char) -> Result<Reader, Stop>
+pub fn after_dot(alloc: Global, reader: Reader, c: char) -> Result<Reader, Stop>
     ensures { (rest : List Token) → Follows rest reader → Judges (grown Class.Dot (encode_utf8 c) (held reader.tail rest)) result }
 {
     let Reader {
@@ -45,7 +45,7 @@ pub fn dot(alloc: Global, reader: Reader, c: char) -> Result<Reader, Stop>
 
 /// After a dash, a low line or an apostrophe.
 #[tactic(auto, using(crate::proofs::Verdicts::over_query, crate::proofs::Verdicts::over_word))]
-pub fn joiner(alloc: Global, reader: Reader, c: char) -> Result<Reader, Stop>
+pub fn after_joiner(alloc: Global, reader: Reader, c: char) -> Result<Reader, Stop>
     ensures { (rest : List Token) → Follows rest reader → Judges (grown Class.Joiner (encode_utf8 c) (held reader.tail rest)) result }
 {
     let Reader {
@@ -76,7 +76,7 @@ pub fn joiner(alloc: Global, reader: Reader, c: char) -> Result<Reader, Stop>
                 tie,
                 gathered,
             };
-            let next = dot(alloc, reader, c)?;
+            let next = after_dot(alloc, reader, c)?;
             Ok(next)
         }
     }

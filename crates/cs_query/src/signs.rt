@@ -8,7 +8,7 @@ ghost use Rattle.cs_query.specs.Following.{Follows, Judges, Stands, held};
 use crate::attaching::close_level;
 use crate::beginnings::enter;
 use crate::fault::Stop;
-use crate::names::facet;
+use crate::names::named_word;
 use crate::reader::{Gathered, Reader, Tail};
 use crate::tails::{add, settle, takes_bar};
 use cs_base::{Atom, Text, Which};
@@ -18,7 +18,7 @@ use std::alloc::Global;
 
 /// After a dollar.
 #[tactic(auto, using(crate::proofs::Verdicts::over_query))]
-pub fn dollar(alloc: Global, reader: Reader, c: char) -> Result<Reader, Stop>
+pub fn after_dollar(alloc: Global, reader: Reader, c: char) -> Result<Reader, Stop>
     ensures { (rest : List Token) → Follows rest reader → Judges (grown Class.Dollar (encode_utf8 c) (held reader.tail rest)) result }
 {
     let Reader {
@@ -50,7 +50,7 @@ pub fn dollar(alloc: Global, reader: Reader, c: char) -> Result<Reader, Stop>
 
 /// After a bar.
 #[tactic(auto, using(crate::proofs::Verdicts::over_query))]
-pub fn bar(alloc: Global, reader: Reader, c: char) -> Result<Reader, Stop>
+pub fn after_bar(alloc: Global, reader: Reader, c: char) -> Result<Reader, Stop>
     ensures { (rest : List Token) → Follows rest reader → Judges (grown Class.Bar (encode_utf8 c) (held reader.tail rest)) result }
 {
     if !takes_bar(&reader.tail) {
@@ -77,7 +77,7 @@ pub fn bar(alloc: Global, reader: Reader, c: char) -> Result<Reader, Stop>
 
 /// After a colon.
 #[tactic(auto, using(crate::proofs::Verdicts::over_query))]
-pub fn colon(alloc: Global, reader: Reader, c: char) -> Result<Reader, Stop>
+pub fn after_colon(alloc: Global, reader: Reader, c: char) -> Result<Reader, Stop>
     ensures { (rest : List Token) → Follows rest reader → Judges (grown Class.Colon (encode_utf8 c) (held reader.tail rest)) result }
 {
     let Reader {
@@ -114,7 +114,7 @@ pub fn colon(alloc: Global, reader: Reader, c: char) -> Result<Reader, Stop>
 }
 
 /// After an opening bracket.
-pub fn open(alloc: Global, reader: Reader, c: char) -> Result<Reader, Stop>
+pub fn after_open(alloc: Global, reader: Reader, c: char) -> Result<Reader, Stop>
     ensures { (rest : List Token) → Follows rest reader → Judges (grown Class.Open (encode_utf8 c) (held reader.tail rest)) result }
 {
     let Reader {
@@ -143,7 +143,7 @@ pub fn open(alloc: Global, reader: Reader, c: char) -> Result<Reader, Stop>
 
 /// After a closing bracket.
 #[tactic(auto, using(crate::proofs::Lasts::reverse_push))]
-pub fn close(alloc: Global, reader: Reader, c: char) -> Result<Reader, Stop>
+pub fn after_close(alloc: Global, reader: Reader, c: char) -> Result<Reader, Stop>
     ensures { (rest : List Token) → Follows rest reader → Judges (grown Class.Close (encode_utf8 c) (held reader.tail rest)) result }
 {
     let Reader {
@@ -213,7 +213,7 @@ fn exact_facet(
         return Err(Stop::Limit(Which::Query));
     }
     let room = gathered.room - 1;
-    let word = facet(alloc, name.as_str(), value.as_str())?;
+    let word = named_word(alloc, name.as_str(), value.as_str())?;
     let mut gathered = add(alloc, tie, Atom::Exact(word), gathered)?;
     gathered.room = room;
     let tail = Tail::Dollar;

@@ -1,5 +1,5 @@
 //! The reader with one character more.
-ghost use Rattle.std.specs.Prelude.{◌≡◌, List, encode_utf8};
+ghost use Rattle.std.specs.Prelude.{List, encode_utf8};
 ghost use Rattle.cs_model.specs.Tokens.{Token, grown, with_next};
 ghost use Rattle.cs_query.specs.Following.{Follows, Judges, held};
 
@@ -8,8 +8,8 @@ use crate::classes::class_of;
 use crate::fault::Stop;
 use crate::growing::{grow_value, grow_word};
 use crate::reader::{Reader, Tail};
-use crate::runs::{dot, joiner};
-use crate::signs::{bar, close, colon, dollar, open};
+use crate::runs::{after_dot, after_joiner};
+use crate::signs::{after_bar, after_close, after_colon, after_dollar, after_open};
 use crate::tails::run_tie;
 use cs_base::Which;
 use cs_model::{Class, Tie};
@@ -20,20 +20,20 @@ pub fn step(alloc: Global, reader: Reader, c: char) -> Result<Reader, Stop>
     ensures { (rest : List Token) → Follows rest reader → Judges (with_next c (held reader.tail rest)) result }
 {
     match class_of(c) {
-        Class::Letter => letter(alloc, reader, c),
-        Class::Dot => dot(alloc, reader, c),
-        Class::Joiner => joiner(alloc, reader, c),
-        Class::Dollar => dollar(alloc, reader, c),
-        Class::Bar => bar(alloc, reader, c),
-        Class::Colon => colon(alloc, reader, c),
-        Class::Open => open(alloc, reader, c),
-        Class::Close => close(alloc, reader, c),
-        Class::Other => gap(alloc, reader, c),
+        Class::Letter => after_letter(alloc, reader, c),
+        Class::Dot => after_dot(alloc, reader, c),
+        Class::Joiner => after_joiner(alloc, reader, c),
+        Class::Dollar => after_dollar(alloc, reader, c),
+        Class::Bar => after_bar(alloc, reader, c),
+        Class::Colon => after_colon(alloc, reader, c),
+        Class::Open => after_open(alloc, reader, c),
+        Class::Close => after_close(alloc, reader, c),
+        Class::Other => after_other(alloc, reader, c),
     }
 }
 
 /// After a word character.
-fn letter(alloc: Global, reader: Reader, c: char) -> Result<Reader, Stop>
+fn after_letter(alloc: Global, reader: Reader, c: char) -> Result<Reader, Stop>
     ensures { (rest : List Token) → Follows rest reader → Judges (grown Class.Letter (encode_utf8 c) (held reader.tail rest)) result }
 {
     let Reader {
@@ -68,9 +68,9 @@ fn letter(alloc: Global, reader: Reader, c: char) -> Result<Reader, Stop>
     }
 }
 
-/// After a character of a gap.
+/// After a character of a gap, which is any other.
 #[tactic(auto, using(crate::proofs::Verdicts::over_query))]
-fn gap(alloc: Global, reader: Reader, c: char) -> Result<Reader, Stop>
+fn after_other(alloc: Global, reader: Reader, c: char) -> Result<Reader, Stop>
     ensures { (rest : List Token) → Follows rest reader → Judges (grown Class.Other (encode_utf8 c) (held reader.tail rest)) result }
 {
     let Reader {

@@ -1,12 +1,12 @@
 //! What a reader's tail means for what comes behind it.
-ghost use Rattle.std.specs.Prelude.{◌≡◌, ℕ, List, IfOk};
+ghost use Rattle.std.specs.Prelude.{◌≡◌, List, IfOk};
 ghost use Rattle.cs_model.specs.Tokens.{Token};
 ghost use Rattle.cs_model.specs.Grammar.{attached, run_tie, spot};
 ghost use Rattle.cs_model.specs.Refusals.{takes_bar};
 ghost use Rattle.cs_query.specs.Following.{Agrees, Stands, held, settled};
 
 use crate::attaching::attach;
-use crate::names::facet;
+use crate::names::named_word;
 use crate::reader::{Gathered, Tail};
 use cs_base::{Atom, Link, Memory};
 use cs_model::{Spot, Tie};
@@ -64,7 +64,7 @@ pub fn settle(alloc: Global, tail: Tail, tie: Tie, gathered: Gathered) -> Result
             Ok(gathered)
         }
         Tail::Value { name, text } => {
-            let word = facet(alloc, name.as_str(), text.as_str())?;
+            let word = named_word(alloc, name.as_str(), text.as_str())?;
             let gathered = add(alloc, tie, Atom::Prefix(word), gathered)?;
             Ok(gathered)
         }

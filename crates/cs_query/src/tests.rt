@@ -2,7 +2,8 @@
 //! mean what the language's description says of its examples.
 use crate::{QueryFault, Which, keys, parse, print};
 use cs_base::{Atom, Chain, Key, Link, Memory, Narrower, Query, Text};
-use std::alloc::{AllocError, Global};
+use std::alloc::Global;
+use std::process::Abort;
 use std::test::Fail;
 
 // A text, and its query as `told` writes it.
@@ -31,10 +32,14 @@ fn texts_have_the_queries_of_the_description(rt: HostRuntime) -> Result<(), Fail
         ("-k[a|]-b", "-k[#].b"),
         ("\u{C9}cole|STRASSE", "e\u{301}cole|strasse"),
     ];
+    are_read(&rt, rt.alloc(), &rows)
+}
+
+fn are_read(rt: &impl Abort, alloc: Global, rows: &[(&str, &str)]) -> Result<(), Fail> {
     for (text, want) in rows {
-        let query = parse(rt.alloc(), text)?;
-        let found = told(rt.alloc(), &query)?;
-        assert_eq!(rt; found.as_str(), want, "of {text}");
+        let query = parse(alloc, text)?;
+        let found = told(alloc, &query)?;
+        assert_eq!(rt; found.as_str(), *want, "of {text}");
     }
     Ok(())
 }
@@ -70,48 +75,51 @@ fn queries_are_printed_as_the_description_says(rt: HostRuntime) -> Result<(), Fa
         ("10", "10"),
         ("\u{C9}cole|STRASSE", "e\u{301}cole|strasse"),
     ];
+    are_printed(&rt, rt.alloc(), &rows)
+}
+
+fn are_printed(rt: &impl Abort, alloc: Global, rows: &[(&str, &str)]) -> Result<(), Fail> {
     for (text, want) in rows {
-        let printed = print(rt.alloc(), &parse(rt.alloc(), text)?)?;
-        assert_eq!(rt; printed.as_str(), want, "of {text}");
-        let again = print(rt.alloc(), &parse(rt.alloc(), printed.as_str())?)?;
-        assert_eq!(rt; again.as_str(), want, "of {text}, printed twice");
+        let once = printed(alloc, text)?;
+        assert_eq!(rt; once.as_str(), *want, "of {text}");
+        let again = printed(alloc, once.as_str())?;
+        assert_eq!(rt; again.as_str(), *want, "of {text}, printed twice");
     }
     Ok(())
 }
 
-// A text, its narrower keys as `found` writes them, and the key without its last part.
+fn printed(alloc: Global, text: &str) -> Result<Text, Fail> {
+    let query = parse(alloc, text)?;
+    let printed = print(alloc, &query)?;
+    Ok(printed)
+}
+
+// A text, and its keys as `told_keys` writes them.
 #[test]
 fn keys_are_those_of_queries_on_the_way(rt: HostRuntime) -> Result<(), Fail> {
     let rows = [
-        ("", "", None),
-        ("typ", "2=ty 1=t ", None),
-        ("search typ", "2=search ty 1=search t ", Some("search")),
-        ("typ search -x", "", Some("typ search")),
-        ("type$", "", None),
-        ("a b|cd", "", Some("a")),
-        ("ab.cd", "1=ab.c ", None),
-        ("ab..cd$", "", None),
-        ("k:ab", "4=k:a 3=k: ", None),
-        ("x k:", "", Some("x")),
-        ("k[ab]", "", None),
-        ("k[ab] cd", "1=k[ab] c ", Some("k[ab]")),
-        ("\u{E9}b", "3=e\u{301} 1=e ", None),
-        ("k:\u{E9}", "4=k:e 3=k: ", None),
+        ("", "; "),
+        ("typ", "typ; 2=ty 1=t "),
+        ("search typ", "search typ; 2=search ty 1=search t <search"),
+        ("typ search -x", "typ search -x; <typ search"),
+        ("type$", "type$; "),
+        ("a b|cd", "a b|cd; <a"),
+        ("ab.cd", "ab.cd; 1=ab.c "),
+        ("ab..cd$", "ab..cd$; "),
+        ("k:ab", "k:ab; 4=k:a 3=k: "),
+        ("x k:", "x k:; <x"),
+        ("k[ab]", "k[ab]; "),
+        ("k[ab] cd", "k[ab] cd; 1=k[ab] c <k[ab]"),
+        ("\u{E9}b", "e\u{301}b; 3=e\u{301} 1=e "),
+        ("k:\u{E9}", "k:e\u{301}; 4=k:e 3=k: "),
     ];
-    for (text, narrow, extend) in rows {
-        let query = parse(rt.alloc(), text)?;
-        let keys = keys(rt.alloc(), &query)?;
-        let printed = print(rt.alloc(), &query)?;
-        assert!(rt;
-            keys.same.bytes() == printed.as_str().as_bytes(),
-            "of {text}"
-        );
-        let found = found(rt.alloc(), keys.narrow.as_slice())?;
-        assert_eq!(rt; found.as_str(), narrow, "of {text}");
-        assert!(rt;
-            is_key(&keys.extend, extend),
-            "of {text}, without its last part"
-        );
+    have_keys(&rt, rt.alloc(), &rows)
+}
+
+fn have_keys(rt: &impl Abort, alloc: Global, rows: &[(&str, &str)]) -> Result<(), Fail> {
+    for (text, want) in rows {
+        let found = told_keys(alloc, text)?;
+        assert_eq!(rt; found.as_str(), *want, "of {text}");
     }
     Ok(())
 }
@@ -142,12 +150,13 @@ fn texts_are_refused_where_the_description_says(rt: HostRuntime) {
             Some(Which::Atoms),
         ),
     ];
+    are_refused(&rt, rt.alloc(), &rows);
+}
+
+fn are_refused(rt: &impl Abort, alloc: Global, rows: &[(&str, u32, Option<Which>)]) {
     for (text, at, which) in rows {
-        assert_eq!(rt;
-            fault_of(rt.alloc(), text),
-            Some(fault(at, which)),
-            "of {text}"
-        );
+        let want = fault(*at, *which);
+        assert_eq!(rt; fault_of(alloc, text), Some(want), "of {text}");
     }
 }
 
@@ -165,22 +174,32 @@ fn long_texts_are_refused_at_their_limit(rt: HostRuntime) -> Result<(), Fail> {
         ("a[", ' ', 1022, Some((1023, Which::Query))),
         ("a[]", ' ', 1021, None),
     ];
+    are_limited(&rt, rt.alloc(), &rows)
+}
+
+fn are_limited(
+    rt: &impl Abort,
+    alloc: Global,
+    rows: &[(&str, char, u32, Option<(u32, Which)>)],
+) -> Result<(), Fail> {
     for (start, c, count, want) in rows {
-        let mut text = Text::from_str(rt.alloc(), start)?;
-        for _ in 0..count {
-            text.push(c)?;
-        }
-        let want = match want {
-            None => None,
-            Some((at, which)) => Some(fault(at, Some(which))),
-        };
+        let text = lengthened(alloc, start, *c, *count)?;
+        let want = want.map(|(at, which)| fault(at, Some(which)));
         assert_eq!(rt;
-            fault_of(rt.alloc(), text.as_str()),
+            fault_of(alloc, text.as_str()),
             want,
             "of {count} behind {start}"
         );
     }
     Ok(())
+}
+
+fn lengthened(alloc: Global, start: &str, c: char, count: u32) -> Result<Text, Memory> {
+    let mut text = Text::from_str(alloc, start)?;
+    for _ in 0..count {
+        text.push(c)?;
+    }
+    Ok(text)
 }
 
 fn fault(at: u32, which: Option<Which>) -> QueryFault {
@@ -197,23 +216,31 @@ fn fault_of(alloc: Global, text: &str) -> Option<QueryFault> {
     }
 }
 
-// Each with its cut, and a space behind it.
-fn found(alloc: Global, narrow: &[Narrower]) -> Result<Text, Memory> {
-    let mut out = Text::new(alloc);
-    for narrower in narrow {
-        let key = str::from_utf8(narrower.key.bytes()).unwrap_or("");
-        let shown = format!(in alloc; "{}={key} ", narrower.cut)?;
-        out.push_str(shown.as_str())?;
+// The query's own key, the narrower ones, each with its cut and a space behind it, and that without the last part.
+fn told_keys(alloc: Global, text: &str) -> Result<Text, Fail> {
+    let query = parse(alloc, text)?;
+    let keys = keys(alloc, &query)?;
+    let same = shown(&keys.same);
+    let mut out = Text::from_string(format!(in alloc; "{same}; ")?);
+    tell_narrow(alloc, &mut out, keys.narrow.as_slice())?;
+    if let Some(key) = &keys.extend {
+        out.push('<')?;
+        out.push_str(shown(key))?;
     }
     Ok(out)
 }
 
-fn is_key(key: &Option<Key>, want: Option<&str>) -> bool {
-    match (key, want) {
-        (None, None) => true,
-        (Some(key), Some(want)) => key.bytes() == want.as_bytes(),
-        _ => false,
+fn tell_narrow(alloc: Global, out: &mut Text, narrow: &[Narrower]) -> Result<(), Memory> {
+    for narrower in narrow {
+        let key = shown(&narrower.key);
+        let told = format!(in alloc; "{}={key} ", narrower.cut)?;
+        out.push_str(told.as_str())?;
     }
+    Ok(())
+}
+
+fn shown(key: &Key) -> &str {
+    str::from_utf8(key.bytes()).unwrap_or("no text")
 }
 
 // The parts with a space between them, alternatives with a bar, links as signs; of a join a # for each of its parts.

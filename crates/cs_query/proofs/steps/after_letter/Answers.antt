@@ -1,7 +1,7 @@
 use Rattle.std.proofs.Common.{◌∙◌, encode_utf8, subst}
 use Rattle.cs_query.specs.Following.{Stands, held}
 use Rattle.cs_query.proofs.Begins.{front}
-use Rattle.cs_query.proofs.steps.letter.Goals as goal
+use Rattle.cs_query.proofs.steps.after_letter.Goals as goal
 
 pub returns-in_ok-next-in-Start : goal.returns-in_ok-next-in-Start
 returns-in_ok-next-in-Start c = λ rest f. let r = c.args.reader in

@@ -1,7 +1,7 @@
 use Rattle.std.proofs.Common.{◌≡◌}
 use Rattle.form_urlencoded.specs.Parse.{pairs_left}
 use Rattle.cs_model.specs.Parameters.{first_value, parameter}
-use Rattle.cs_http.proofs.first.first_of.Given as goal
+use Rattle.cs_http.proofs.first.first_value.Given as goal
 
 -- the parameter is the first of its name among the pairs that are left
 abbrev pub invariant-loop-pair : goal.invariant-loop-pair

@@ -1,6 +1,6 @@
 use Rattle.std.proofs.Common.{◌∙◌, encode_utf8, length}
 use Rattle.cs_query.proofs.Begins.{gap_begins, gap_fine}
-use Rattle.cs_query.proofs.steps.gap.Goals as goal
+use Rattle.cs_query.proofs.steps.after_other.Goals as goal
 
 pub returns-in_ok-next-in_default : goal.returns-in_ok-next-in_default
 returns-in_ok-next-in_default c = λ rest f. let r = c.args.reader in let x = encode_utf8 c.args.c in

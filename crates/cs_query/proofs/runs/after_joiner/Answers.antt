@@ -1,6 +1,6 @@
 use Rattle.std.proofs.Common.{◌∙◌, encode_utf8}
 use Rattle.cs_query.proofs.Begins.{joiner_as_dot}
-use Rattle.cs_query.proofs.runs.joiner.Goals as goal
+use Rattle.cs_query.proofs.runs.after_joiner.Goals as goal
 
 pub returns-in_ok-next-in_default : goal.returns-in_ok-next-in_default
 returns-in_ok-next-in_default c = λ rest f. let r = c.args.reader in
