@@ -1,8 +1,9 @@
 -- Inputs on which each of the timed calls may be run.
 --
 --   IsFit inputs    posts, documents and scored documents ascend, and numbers are in the limits
-use Rattle.std.specs.Prelude.{◌<◌, ◌^◌, All}
+use Rattle.std.specs.Prelude.{◌<◌, All}
 use Rattle.cs_base.specs.Orders.{AreDocs, AreByDoc, AreSorted}
+use Rattle.cs_base.specs.declared.limits.TheConstants.{MAX_DOCS, MAX_WORDS}
 use Rattle.cs_rank.specs.DocScores.{IsBase}
 use Rattle.columns_bench.specs.declared.input.Inputs.{Inputs}
 
@@ -13,5 +14,5 @@ pub record IsFit (i : Inputs) : Type 0 where
   pub docs : AreDocs i.docs.items
   pub listed : AreByDoc i.listed
   pub base : IsBase i.base
-  pub small_docs : All (λ p. p.doc < 2 ^ 20) i.rows.posts
-  pub small_words : All (λ p. p.word < 2 ^ 22) i.rows.posts
+  pub small_docs : All (λ p. p.doc < MAX_DOCS) i.rows.posts
+  pub small_words : All (λ p. p.word < MAX_WORDS) i.rows.posts

@@ -1,12 +1,12 @@
 //! What the calls are run on, and the test that they may be.
 ghost use Rattle.std.specs.Prelude.{◌≡◌, ◌≤◌, ◌<◌, ◌^◌, true, All, IfOk, IfSome};
-ghost use Rattle.std.specs.Ordering.{is_lt};
-ghost use Rattle.cs_base.specs.Orders.{by_place, AreSorted, AreByDoc, AreDocs};
+ghost use Rattle.cs_base.specs.Orders.{AreSorted, AreByDoc, AreDocs};
+ghost use Rattle.cs_base.specs.declared.limits.TheConstants.{MAX_DOCS, MAX_WORDS};
 ghost use Rattle.cs_rank.specs.DocScores.{IsBase};
 ghost use Rattle.columns_bench.specs.Fit.{IsFit};
 
 use crate::numbers::{posts, ranked};
-use cs_base::{Base, MAX_DOCS, MAX_WORDS, Memory, Post, Scored, Seq};
+use cs_base::{Base, MAX_DOCS, MAX_WORDS, Memory, Scored, Seq};
 use cs_cols::Cols;
 use cs_meet::docs_of;
 use cs_rank::score;
@@ -69,19 +69,11 @@ fn rises(posts: &Cols) -> bool
     ensures { result ≡ true → AreSorted posts.now.posts }
 {
     for j in 1..posts.len() {
-        if !precedes(posts.get(j - 1), posts.get(j)) {
+        if !posts.get(j - 1).is_before(posts.get(j)) {
             return false;
         }
     }
     true
-}
-
-fn precedes(post: Post, row: Post) -> bool
-    ensures { result ≡ is_lt (by_place post row) }
-{
-    post.doc < row.doc
-        || (post.doc == row.doc
-            && (post.pos < row.pos || (post.pos == row.pos && post.word < row.word)))
 }
 
 // Whether the documents strictly ascend.
@@ -127,8 +119,8 @@ fn are_low(listed: &[Scored]) -> bool
 
 // Whether the numbers of documents and words are in the limits.
 fn are_small(posts: &Cols) -> bool
-    ensures docs { result ≡ true → All (λ p. p.doc < 2 ^ 20) posts.now.posts }
-    ensures words { result ≡ true → All (λ p. p.word < 2 ^ 22) posts.now.posts }
+    ensures docs { result ≡ true → All (λ p. p.doc < MAX_DOCS) posts.now.posts }
+    ensures words { result ≡ true → All (λ p. p.word < MAX_WORDS) posts.now.posts }
 {
     for i in 0..posts.len() {
         let post = posts.get(i);

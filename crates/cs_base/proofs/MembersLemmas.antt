@@ -5,6 +5,7 @@
 --   members-alike      lists with the same members have the same listing
 --   is_member-listed   a member of the listing is a member of the set
 --   listing-rises      a listing strictly ascends, as the keys of each finite map do (keys-rise)
+--   none_listed        of no members the listing is empty
 --   all_then           what follows for one follows for each of a list
 --   filter_listed      some members of a listing, picked by a test, are a listing
 use Rattle.std.proofs.Common.{◌≡◌, Bool, true, false, ◌&&◌, ◌||◌, List, [], ◌∷◌, T, cond, refl, sym, ◌∙◌, ap, subst}
@@ -81,6 +82,14 @@ module _ {X : Type 0} (R : X → X → Ordering) where
       get-from_entries o (map marked xs) q ∙ find_marked xs q ∙ ap (λ b. cond b (Some tt) None) (alike q)
       ∙ sym (get-from_entries o (map marked ys) q ∙ find_marked ys q)))
 
+  none_rise : IsStrictlySortedBy R []
+  unfolding IsStrictlySortedBy
+  none_rise = tt
+
+  -- of no members the listing is empty
+  pub none_listed : IsTotalOrder R → IsAntisymmetric R → [] ≡ members_in R []
+  none_listed o exact = listed_itself o exact [] none_rise
+
   -- the members of the listing are those of the list
   pub is_member-listed : IsTotalOrder R → (xs : List X) (q : X) → list_any (eq_by_cmp R q) (members_in R xs) ≡ list_any (eq_by_cmp R q) xs
   is_member-listed o xs q =
@@ -121,7 +130,8 @@ module _ {X : Type 0} (R : X → X → Ordering) where
   pub filter_listed : IsTotalOrder R → IsAntisymmetric R → (p : X → Bool) (xs : List X) → filter p (members_in R xs) ≡ members_in R (filter p (members_in R xs))
   filter_listed o exact p xs = listed_itself o exact (filter p (members_in R xs)) (IsStrictlySortedBy-filter R p (members_in R xs) (listing-rises xs))
 
-again : (a b : Bool) → (a || b) ≡ (a || (a || b))
+-- a test that is made twice counts once
+pub again : (a b : Bool) → (a || b) ≡ (a || (a || b))
 again true b = refl
 again false b = refl
 

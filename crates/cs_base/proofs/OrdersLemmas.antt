@@ -1,13 +1,13 @@
--- The orders are total, and tie only at equals; the order of posts, field by field.
+-- The orders are total, and tie only at equals; the order of posts, field by field; the order of numbers.
 use Rattle.std.proofs.Common.{◌≡◌, ℕ, ◌<◌, true, List, ap, sym, arith}
 use Rattle.std.specs.Prelude.{◌⊎◌}
 use Rattle.std.proofs.lemmas.Bool.Decides.{nat_tests}
 use Rattle.std.specs.declared.cmp.Ordering.TheVariants.{Less}
-use Rattle.std.specs.Cmp.{IsTotalOrder}
+use Rattle.std.specs.Cmp.{IsTotalOrder, nat_cmp_is}
 use Rattle.std.specs.Ordering.{nat_cmp, flip_args, is_lt}
 use Rattle.std.specs.Cmp.Lexicographic.{slice_cmp}
 use Rattle.std.specs.FinMap.{IsAntisymmetric}
-use Rattle.std.proofs.lemmas.Cmp.{then_total, on_total, back_total, nat_cmp_total, nat_list_cmp_total}
+use Rattle.std.proofs.lemmas.Cmp.{then_total, on_total, back_total, nat_cmp_total, nat_list_cmp_total, ranked}
 use Rattle.std.proofs.lemmas.Map.Lookups.{exact_pairs, exact_unsigned, exact_bytes}
 use Rattle.cs_base.specs.declared.doc.Post.{Post}
 use Rattle.cs_base.specs.declared.doc.Row.{Row}
@@ -52,3 +52,11 @@ comes-from_lt x y h = grind (arith, nat_tests)
 
 pub less-from_test : (x y : Post) → is_lt (by_place x y) ≡ true → by_place x y ≡ Less
 less-from_test x y h = less-from_comes x y (comes-from_lt x y h)
+
+-- ---- numbers
+
+pub Less-from_lt : (x y : ℕ) → x < y → nat_cmp x y ≡ Less
+Less-from_lt x y h = sym (nat_cmp_is x y Less h)
+
+pub lt-from_Less : (x y : ℕ) → nat_cmp x y ≡ Less → x < y
+lt-from_Less x y h = ranked x y Less (sym h)

@@ -4,6 +4,7 @@
 --   posts_of ds ws ps ss   the posts whose documents, words, positions and scores these are; a column that is longer than another has no say behind its end
 --   AreEven ds ws ps ss    the four columns are equally long
 --   HasRoom v n            a vector has memory for n more entries
+--   AllHaveRoom ds ws ps ss n    each of four columns has
 use Rattle.std.specs.Prelude.{◌≡◌, ℕ, ◌+◌, ◌≤◌, List, [], ◌∷◌, length}
 use Rattle.std.specs.Vec.{vec_len, vec_capacity}
 use Rattle.std.specs.declared.vec.Vec.{Vec}
@@ -27,3 +28,7 @@ AreEven ds ws ps ss = (length ws ≡ length ds) × (length ps ≡ length ds) × 
 -- memory for n more entries
 abbrev pub HasRoom : Vec ℕ Global → ℕ → Type 0
 HasRoom v n = vec_len v + n ≤ vec_capacity v
+
+-- each of four columns has memory for n more entries
+abbrev pub AllHaveRoom : Vec ℕ Global → Vec ℕ Global → Vec ℕ Global → Vec ℕ Global → ℕ → Type 0
+AllHaveRoom ds ws ps ss n = HasRoom ds n × HasRoom ws n × HasRoom ps n × HasRoom ss n

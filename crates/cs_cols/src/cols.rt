@@ -17,13 +17,13 @@ pub struct Cols {
 }
 
 impl Model for Cols {
-    ghost use Rattle.cs_cols.specs.Held.{Held, posts_of, AreEven, HasRoom};
+    ghost use Rattle.cs_cols.specs.Held.{Held, posts_of, AreEven, AllHaveRoom};
 
     ghost Value = { Held };
 
     ghost view = { λ c. record { posts = posts_of c.docs.items c.words.items c.places.items c.scores.items; room = c.room } };
 
-    ghost invariant = { λ c. AreEven c.docs.items c.words.items c.places.items c.scores.items × (HasRoom c.docs c.room × HasRoom c.words c.room × HasRoom c.places c.room × HasRoom c.scores c.room) };
+    ghost invariant = { λ c. AreEven c.docs.items c.words.items c.places.items c.scores.items × AllHaveRoom c.docs c.words c.places c.scores c.room };
 }
 
 impl Cols {

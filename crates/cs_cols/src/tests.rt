@@ -1,11 +1,13 @@
 //! Columns against the list of posts that they hold.
 use crate::Cols;
-use cs_base::Post;
+use cs_base::{Memory, Post};
+use std::alloc::Global;
+use std::process::Abort;
 use std::test::Fail;
 
 // Post k of the tests' list.
 fn post(k: u8) -> Post {
-    let n = k as u32;
+    let n = u32::from(k);
     Post {
         doc: n / 2,
         word: 7 + n,
@@ -14,25 +16,44 @@ fn post(k: u8) -> Post {
     }
 }
 
+// The first five posts.
+fn five(alloc: Global) -> Result<Cols, Memory> {
+    let mut cols = Cols::new(alloc);
+    for k in 0..5 {
+        cols.reserve(1)?;
+        cols.push_reserved(post(k));
+    }
+    Ok(cols)
+}
+
+fn expect(
+    rt: &impl Abort,
+    cols: &Cols,
+    docs: &[u32],
+    words: &[u32],
+    places: &[u32],
+    scores: &[u8],
+) {
+    assert!(rt; cols.len() == docs.len());
+    assert!(rt; cols.docs() == docs && cols.words() == words);
+    assert!(rt; cols.places() == places && cols.scores() == scores);
+}
+
 #[test]
 fn columns_keep_their_posts(rt: HostRuntime) -> Result<(), Fail> {
-    let mut cols = Cols::new(rt.alloc());
-    assert_eq!(rt; cols.len(), 0);
-    cols.reserve(5)?;
-    cols.push_reserved(post(0));
-    cols.push_reserved(post(1));
-    cols.push_reserved(post(2));
-    cols.push_reserved(post(3));
-    cols.push_reserved(post(4));
-    assert_eq!(rt; cols.docs(), [0, 0, 1, 1, 2].as_slice());
-    assert_eq!(rt; cols.words(), [7, 8, 9, 10, 11].as_slice());
-    assert_eq!(rt; cols.places(), [100, 101, 102, 103, 104].as_slice());
-    assert_eq!(rt; cols.scores(), [0, 1, 2, 3, 4].as_slice());
-    assert_eq!(rt; cols.len(), 5);
+    assert!(rt; Cols::new(rt.alloc()).len() == 0);
+    let mut cols = five(rt.alloc())?;
     let copy = cols.copy(rt.alloc())?;
     cols.truncate(2);
-    assert_eq!(rt; cols.docs(), [0, 0].as_slice());
-    assert_eq!(rt; copy.len(), 5);
-    assert_eq!(rt; copy.get(4), post(4));
+    expect(&rt, &cols, &[0, 0], &[7, 8], &[100, 101], &[0, 1]);
+    expect(
+        &rt,
+        &copy,
+        &[0, 0, 1, 1, 2],
+        &[7, 8, 9, 10, 11],
+        &[100, 101, 102, 103, 104],
+        &[0, 1, 2, 3, 4],
+    );
+    assert!(rt; copy.len() == 5 && copy.get(4) == post(4));
     Ok(())
 }

@@ -4,12 +4,14 @@ use Rattle.std.specs.Prelude.{nat_lt, max}
 use Rattle.std.specs.List.{list_any}
 use Rattle.std.proofs.lemmas.Map.Keys.{Less-from_sorted}
 use Rattle.std.proofs.lemmas.Bool.Decides.{nat_tests}
+use Rattle.std.proofs.lemmas.List.Folds.{list_any_at}
 use Rattle.cs_base.specs.declared.doc.Post.{Post}
 use Rattle.cs_base.specs.declared.doc.Scored.{Scored}
 use Rattle.cs_base.specs.Orders.{by_place, AreSorted}
+use Rattle.cs_base.specs.declared.limits.TheConstants.{MAX_DISTANCE}
 use Rattle.cs_meet.specs.Filters.{stands_behind, is_near, is_of}
 use Rattle.cs_meet.specs.Places.{is_before, Splits, Ahead, near_at}
-use Rattle.cs_meet.proofs.Passes.{any_at, none_at, IsUpTo, up_to}
+use Rattle.cs_meet.proofs.Passes.{none_at, IsUpTo, up_to}
 
 -- where k is at least n, the post at k is at the place of the post at n or behind it
 pub in_turn : (a : List Post) (n k : ℕ) (e : Post) → AreSorted a → n ≤ k → k < length a → IsUpTo (get_or a n e).doc (get_or a n e).pos (get_or a k e).doc (get_or a k e).pos
@@ -40,7 +42,7 @@ module _ (test : Post → Bool) (d p : ℕ)
   pub judged_at : AreSorted a → n < length a → (x : Post) → x ≡ get_or a n x → test x ≡ list_any test a
   judged_at up within x is =
       elim (test x) as (λ v. test x ≡ v → v ≡ list_any test a) [
-        | true ↦ λ here. sym (any_at test a n x within (ap test (sym is) ∙ here))
+        | true ↦ λ here. sym (list_any_at test a n x within (ap test (sym is) ∙ here))
         | false ↦ λ other. sym (judged_no up within x (ap test (sym is) ∙ other))
       ] refl
 
@@ -78,23 +80,23 @@ later_isnt_of h x y up stop other = grind (arith, nat_tests)
 pub far_isnt_behind : (r x y : Post) → IsUpTo x.doc x.pos y.doc y.pos → is_before r x.doc (x.pos + 1) ≡ true → stands_behind r y ≡ false
 far_isnt_behind r x y up h = grind (arith, nat_tests)
 
--- r stands more than 8 positions before x, y comes later
-pub far_isnt_near : (r x y : Post) → IsUpTo x.doc x.pos y.doc y.pos → is_before r x.doc (x.pos - 8) ≡ true → is_near r y ≡ false
+-- r stands more than MAX_DISTANCE positions before x, y comes later
+pub far_isnt_near : (r x y : Post) → IsUpTo x.doc x.pos y.doc y.pos → is_before r x.doc (x.pos - MAX_DISTANCE) ≡ true → is_near r y ≡ false
 far_isnt_near r x y up h = grind (arith, nat_tests)
 
 -- what is before the window of r isn't near it
-pub early_isnt_near : (r x : Post) → is_before x r.doc (max (r.pos - 8) 1) ≡ true → is_near r x ≡ false
+pub early_isnt_near : (r x : Post) → is_before x r.doc (max (r.pos - MAX_DISTANCE) 1) ≡ true → is_near r x ≡ false
 early_isnt_near r x h = grind (arith, nat_tests)
 
 -- x is the first of the window, y comes later but not behind r
-between_isnt_near : (r x y : Post) → IsUpTo x.doc x.pos y.doc y.pos → is_before x r.doc (max (r.pos - 8) 1) ≡ false → is_near r x ≡ false → is_before y r.doc (r.pos + 1) ≡ true → is_near r y ≡ false
+between_isnt_near : (r x y : Post) → IsUpTo x.doc x.pos y.doc y.pos → is_before x r.doc (max (r.pos - MAX_DISTANCE) 1) ≡ false → is_near r x ≡ false → is_before y r.doc (r.pos + 1) ≡ true → is_near r y ≡ false
 between_isnt_near r x y up stop other h = grind (arith, nat_tests)
 
 -- x is the first behind r, y comes later
 behind_isnt_near : (r x y : Post) → IsUpTo x.doc x.pos y.doc y.pos → is_before x r.doc (r.pos + 1) ≡ false → is_near r x ≡ false → is_near r y ≡ false
 behind_isnt_near r x y up stop other = grind (arith, nat_tests)
 
-module _ (a : List Post) (r : Post) (lo hi : ℕ) (up : AreSorted a) (first : Splits a lo r.doc (max (r.pos - 8) 1)) (behind : Splits a hi r.doc (r.pos + 1)) where
+module _ (a : List Post) (r : Post) (lo hi : ℕ) (up : AreSorted a) (first : Splits a lo r.doc (max (r.pos - MAX_DISTANCE) 1)) (behind : Splits a hi r.doc (r.pos + 1)) where
   near_none : near_at a lo r ≡ false → near_at a hi r ≡ false → list_any (is_near r) a ≡ false
   near_none other neither = none_at (is_near r) a r (λ k below.
       elim (nat_lt k lo) as (λ t. nat_lt k lo ≡ t → is_near r (get_or a k r) ≡ false) [
@@ -110,7 +112,7 @@ module _ (a : List Post) (r : Post) (lo hi : ℕ) (up : AreSorted a) (first : Sp
       ] refl)
 
   near_some : (i : ℕ) → near_at a i r ≡ true → list_any (is_near r) a ≡ true
-  near_some i here = any_at (is_near r) a i r (grind (arith, nat_tests)) (grind (arith, nat_tests))
+  near_some i here = list_any_at (is_near r) a i r (grind (arith, nat_tests)) (grind (arith, nat_tests))
 
   -- the first post of the window and the first behind the row decide
   pub near_decided : near_at a lo r || near_at a hi r ≡ list_any (is_near r) a

@@ -5,11 +5,12 @@ use Rattle.std.specs.List.{list_any}
 use Rattle.std.proofs.lemmas.List.{get_or_default}
 use Rattle.std.proofs.lemmas.Map.Keys.{Less-from_sorted, below_from_sorted}
 use Rattle.std.proofs.lemmas.Bool.Decides.{nat_tests}
+use Rattle.std.proofs.lemmas.List.Folds.{list_any_at}
 use Rattle.cs_base.specs.declared.doc.Post.{Post}
 use Rattle.cs_base.specs.Orders.{by_place, AreSorted, AreDocs}
 use Rattle.cs_meet.specs.Filters.{in_doc}
 use Rattle.cs_meet.specs.Places.{AllBelow, SplitsDocs, AheadOfRows, is_before}
-use Rattle.cs_meet.proofs.Passes.{any_at, none_at, IsUpTo, up_to}
+use Rattle.cs_meet.proofs.Passes.{none_at, IsUpTo, up_to}
 
 -- where the document at n is less than d, the first n + 1 are
 pub below_through : (docs : List ℕ) (n d : ℕ) → AreDocs docs → n < length docs → get_or docs n 0 < d → (m : ℕ) → m ≡ n + 1 → AllBelow docs m d
@@ -51,7 +52,7 @@ module _ (docs : List ℕ) (n : ℕ) (r : Post) (split : SplitsDocs docs n r.doc
   pub listed_at : AreDocs docs → n < length docs → (get_or docs n 0 == r.doc) ≡ list_any (in_doc r) docs
   listed_at up within =
       elim (in_doc r (get_or docs n 0)) as (λ v. in_doc r (get_or docs n 0) ≡ v → v ≡ list_any (in_doc r) docs) [
-        | true ↦ λ here. sym (any_at (in_doc r) docs n 0 within here)
+        | true ↦ λ here. sym (list_any_at (in_doc r) docs n 0 within here)
         | false ↦ λ other. sym (listed_other up within other)
       ] refl
 

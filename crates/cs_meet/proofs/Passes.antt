@@ -1,5 +1,5 @@
 -- How far a pass over two sorted lists has come.
-use Rattle.std.proofs.Common.{◌≡◌, ℕ, zero, suc, ◌+◌, ◌-◌, ◌<◌, ◌≤◌, ◌||◌, Bool, true, false, List, [], ◌∷◌, ◌++◌, length, drop, get_or, cond, append_assoc, append-nil, refl, sym, ◌∙◌, ap, subst, arith}
+use Rattle.std.proofs.Common.{◌≡◌, ℕ, zero, suc, ◌+◌, ◌-◌, ◌<◌, ◌≤◌, Bool, true, false, List, [], ◌∷◌, ◌++◌, length, drop, get_or, cond, append_assoc, append-nil, refl, sym, ◌∙◌, ap, subst, arith}
 use Rattle.std.specs.Prelude.{◌⊎◌, max}
 use Rattle.std.specs.declared.cmp.Ordering.{Ordering}
 use Rattle.std.specs.declared.cmp.Ordering.TheVariants.{Less}
@@ -13,17 +13,16 @@ use Rattle.std.proofs.lemmas.Bool.Decides.{nat_tests}
 use Rattle.cs_base.specs.declared.doc.Post.{Post}
 use Rattle.cs_base.specs.declared.doc.Scored.{Scored}
 use Rattle.cs_base.specs.Orders.{by_place, by_doc}
-use Rattle.cs_meet.specs.Places.{is_before, AllBefore, Splits, Ahead}
-
--- one place that passes is enough
-pub any_at : {X : Type 0} (p : X → Bool) (xs : List X) (i : ℕ) (d : X) → i < length xs → p (get_or xs i d) ≡ true → list_any p xs ≡ true
-any_at p [] i d l h = absurd (omega arith)
-any_at p (x ∷ xs) zero d l h = ap (λ b. b || list_any p xs) h
-any_at p (x ∷ xs) (suc i) d l h = grind (arith, any_at p xs i d (omega arith) h)
+use Rattle.cs_base.specs.declared.limits.TheConstants.{MAX_DISTANCE}
+use Rattle.cs_meet.specs.Places.{is_before, Splits, Ahead}
 
 -- no place passes
 pub none_at : {X : Type 0} (p : X → Bool) (xs : List X) (d : X) → ((k : ℕ) → k < length xs → p (get_or xs k d) ≡ false) → list_any p xs ≡ false
 none_at p xs d none = list_any_none p xs (All-from_get_or (λ x. p x ≡ false) xs d none)
+
+-- the entry at a place is the next of the rest
+pub next_is : {X : Type 0} (b : List X) (j : ℕ) (x : X) → j < length b → x ≡ get_or b j x → drop j b ≡ x ∷ drop (j + 1) b
+next_is b j x within is = drop_more b j x within ∙ ap (λ y. y ∷ drop (j + 1) b) (sym is)
 
 settle : {X : Type 0} (t : Bool) (done rest : List X) (x : X) → done ++ cond t (x ∷ rest) rest ≡ cond t (done ++ x ∷ []) done ++ rest
 settle true done rest x = sym (append_assoc done (x ∷ []) rest)
@@ -32,7 +31,7 @@ settle false done rest x = refl
 -- one more entry is judged
 pub filter_more : {X : Type 0} (p : X → Bool) (whole done b : List X) (j : ℕ) (x : X) (t : Bool) → whole ≡ done ++ filter p (drop j b) → j < length b → x ≡ get_or b j x → t ≡ p x → whole ≡ cond t (done ++ x ∷ []) done ++ filter p (drop (j + 1) b)
 filter_more p whole done b j x t told l is same =
-    let rest : filter p (drop j b) ≡ cond (p x) (x ∷ filter p (drop (j + 1) b)) (filter p (drop (j + 1) b)) = ap (filter p) (drop_more b j x l ∙ ap (λ r. r ∷ drop (j + 1) b) (sym is)) in
+    let rest : filter p (drop j b) ≡ cond (p x) (x ∷ filter p (drop (j + 1) b)) (filter p (drop (j + 1) b)) = ap (filter p) (next_is b j x l is) in
     told ∙ ap (λ r. done ++ r) (rest ∙ ap (λ u. cond u (x ∷ filter p (drop (j + 1) b)) (filter p (drop (j + 1) b))) (sym same))
     ∙ settle t done (filter p (drop (j + 1) b)) x
 
@@ -75,7 +74,7 @@ up_to x y h = grind (arith, nat_tests)
 pub rises_behind : (x y : Post) → by_place x y ≡ Less → IsUpTo x.doc (x.pos - 1) y.doc (y.pos - 1)
 rises_behind x y h = grind (arith, nat_tests)
 
-pub rises_window : (x y : Post) → by_place x y ≡ Less → IsUpTo x.doc (max (x.pos - 8) 1) y.doc (max (y.pos - 8) 1)
+pub rises_window : (x y : Post) → by_place x y ≡ Less → IsUpTo x.doc (max (x.pos - MAX_DISTANCE) 1) y.doc (max (y.pos - MAX_DISTANCE) 1)
 rises_window x y h = grind (arith, nat_tests)
 
 pub rises_past : (x y : Post) → by_place x y ≡ Less → IsUpTo x.doc (x.pos + 1) y.doc (y.pos + 1)
@@ -86,12 +85,6 @@ pub rises_by_doc : (x y : Scored) → by_doc x y ≡ Less → IsUpTo x.doc 0 y.d
 rises_by_doc x y h = grind (arith, nat_tests)
 
 module _ {B : Type 0} (R : B → B → Ordering) (doc pos : B → ℕ) (rises : (x y : B) → R x y ≡ Less → IsUpTo (doc x) (pos x) (doc y) (pos y)) (a : List Post) (b : List B) where
-  pub ahead_first : Ahead doc pos a b 0 0
-  ahead_first = record { within = omega arith; before = λ m e _ _ k d h. absurd (omega arith) }
-
-  pub ahead_here : (i j : ℕ) (x : B) → Ahead doc pos a b i j → j < length b → x ≡ get_or b j x → AllBefore a i (doc x) (pos x)
-  ahead_here i j x h l is = subst (λ y. AllBefore a i (doc y) (pos y)) (sym is) (h.before j x (omega arith) l)
-
   pub ahead_more : (n j : ℕ) (x : B) → IsStrictlySortedBy R b → j < length b → x ≡ get_or b j x → Splits a n (doc x) (pos x) → Ahead doc pos a b n (j + 1)
   ahead_more n j x up l is split = record {
     within = split.within;

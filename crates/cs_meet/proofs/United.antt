@@ -1,20 +1,21 @@
 -- How far a union has come.
-use Rattle.std.proofs.Common.{◌≡◌, ℕ, ◌+◌, ◌<◌, ◌≤◌, Bool, true, false, not, List, [], ◌∷◌, ◌++◌, length, drop, get_or, cond, append_assoc, append-nil, refl, sym, ◌∙◌, ap, subst, arith}
-use Rattle.std.specs.Prelude.{◌⊎◌, nat_lt}
+use Rattle.std.proofs.Common.{◌≡◌, ℕ, ◌+◌, ◌<◌, ◌≤◌, Bool, true, false, not, List, [], ◌∷◌, ◌++◌, length, drop, get_or, cond, append_assoc, refl, sym, ◌∙◌, ap, subst, arith}
+use Rattle.std.specs.Prelude.{nat_lt}
 use Rattle.std.specs.declared.cmp.Ordering.TheVariants.{Less}
 use Rattle.std.specs.Ordering.{is_lt}
 use Rattle.std.specs.List.{list_any}
 use Rattle.std.specs.List.Sorted.{IsPermutation}
 use Rattle.std.proofs.lemmas.List.{drop_more, drop_all, get_or_default}
-use Rattle.std.proofs.lemmas.List.Sorted.{IsPermutation-refl, IsPermutation-trans, IsPermutation-append_right, IsPermutation-middle}
+use Rattle.std.proofs.lemmas.List.Sorted.{IsPermutation-trans, IsPermutation-append_right, IsPermutation-middle}
 use Rattle.std.proofs.lemmas.Map.Keys.{Less-from_sorted}
 use Rattle.std.proofs.lemmas.Bool.Decides.{nat_tests}
+use Rattle.std.proofs.lemmas.List.Folds.{list_any_at}
 use Rattle.cs_base.specs.declared.doc.Post.{Post}
 use Rattle.cs_base.specs.Orders.{by_place, AreSorted}
 use Rattle.cs_base.proofs.OrdersLemmas.{by_place_total, Comes, comes_first, less-from_comes}
-use Rattle.cs_meet.specs.Filters.{shares_place, missing, IsUnion}
-use Rattle.cs_meet.specs.Places.{AllLess, Parts}
-use Rattle.cs_meet.proofs.Passes.{any_at, none_at}
+use Rattle.cs_meet.specs.Filters.{shares_place, missing}
+use Rattle.cs_meet.specs.Places.{AllLess, SplitsBefore, KeepsOrder}
+use Rattle.cs_meet.proofs.Passes.{none_at, next_is}
 use Rattle.cs_meet.proofs.Ordered.{sorted_back, sorted_insert, sorted_remove, below_first, nothing_below}
 
 not_first : (x y : Post) → is_lt (by_place x y) ≡ false → Comes x y → ⊥
@@ -29,17 +30,17 @@ comes_behind x y r h stop = grind (arith, nat_tests)
 row_first : (x r : Post) → (Comes x r → ⊥) → shares_place r x ≡ false → Comes r x
 row_first x r stop other = grind (arith, nat_tests)
 
-module _ (a : List Post) (n : ℕ) (r : Post) (parts : Parts a n r) where
+module _ (a : List Post) (n : ℕ) (r : Post) (splits : SplitsBefore a n r) where
   -- at the end no post has the place
   pub placed_past : length a ≤ n → list_any (shares_place r) a ≡ false
-  placed_past past = none_at (shares_place r) a r (λ k below. comes_elsewhere (get_or a k r) r (comes_first (get_or a k r) r (parts.less k r (omega arith))))
+  placed_past past = none_at (shares_place r) a r (λ k below. comes_elsewhere (get_or a k r) r (comes_first (get_or a k r) r (splits.less k r (omega arith))))
 
   placed_other : AreSorted a → n < length a → (e : Post) → shares_place r (get_or a n e) ≡ false → list_any (shares_place r) a ≡ false
   placed_other up within e other = none_at (shares_place r) a e (λ k below.
       elim (nat_lt k n) as (λ t. nat_lt k n ≡ t → shares_place r (get_or a k e) ≡ false) [
-        | true ↦ λ t. comes_elsewhere (get_or a k e) r (comes_first (get_or a k e) r (parts.less k e (grind (arith, nat_tests))))
+        | true ↦ λ t. comes_elsewhere (get_or a k e) r (comes_first (get_or a k e) r (splits.less k e (grind (arith, nat_tests))))
         | false ↦ λ t. elim (nat_lt n k) as (λ u. nat_lt n k ≡ u → shares_place r (get_or a k e) ≡ false) [
-          | true ↦ λ u. comes_behind (get_or a n e) (get_or a k e) r (comes_first (get_or a n e) (get_or a k e) (Less-from_sorted by_place a n k e up (grind (arith, nat_tests)) below)) (not_first (get_or a n e) r (parts.stop e within))
+          | true ↦ λ u. comes_behind (get_or a n e) (get_or a k e) r (comes_first (get_or a n e) (get_or a k e) (Less-from_sorted by_place a n k e up (grind (arith, nat_tests)) below)) (not_first (get_or a n e) r (splits.stop e within))
           | false ↦ λ u.
               let same : n ≡ k = grind (arith, nat_tests) in
               subst (λ m. shares_place r (get_or a m e) ≡ false) same other
@@ -50,17 +51,14 @@ module _ (a : List Post) (n : ℕ) (r : Post) (parts : Parts a n r) where
   pub placed_at : AreSorted a → n < length a → (x : Post) → x ≡ get_or a n x → shares_place r x ≡ list_any (shares_place r) a
   placed_at up within x is =
       elim (shares_place r x) as (λ v. shares_place r x ≡ v → v ≡ list_any (shares_place r) a) [
-        | true ↦ λ here. sym (any_at (shares_place r) a n x within (ap (shares_place r) (sym is) ∙ here))
+        | true ↦ λ here. sym (list_any_at (shares_place r) a n x within (ap (shares_place r) (sym is) ∙ here))
         | false ↦ λ other. sym (placed_other up within x (ap (shares_place r) (sym is) ∙ other))
       ] refl
 
 -- ---- a post of a goes over to what is found
 module _ (a found : List Post) (at : ℕ) (within : at < length a) (x : Post) (is : x ≡ get_or a at x) where
-  next_is : drop at a ≡ x ∷ drop (at + 1) a
-  next_is = drop_more a at x within ∙ ap (λ y. y ∷ drop (at + 1) a) (sym is)
-
   pub moves_over : (found ++ x ∷ []) ++ drop (at + 1) a ≡ found ++ drop at a
-  moves_over = append_assoc found (x ∷ []) (drop (at + 1) a) ∙ ap (λ r. found ++ r) (sym next_is)
+  moves_over = append_assoc found (x ∷ []) (drop (at + 1) a) ∙ ap (λ r. found ++ r) (sym (next_is a at x within is))
 
   pub less_more : (row : Post) → AllLess a at row → by_place x row ≡ Less → AllLess a (at + 1) row
   less_more row less here k e h =
@@ -71,10 +69,10 @@ module _ (a found : List Post) (at : ℕ) (within : at < length a) (x : Post) (i
             subst (λ m. by_place (get_or a m e) row ≡ Less) same (subst (λ y. by_place y row ≡ Less) (is ∙ get_or_default a at x e within) here)
       ] refl
 
-  pub order_more : (row : Post) (rest : List Post) → by_place x row ≡ Less → AreSorted (found ++ drop at a) → AreSorted (found ++ row ∷ rest) → AreSorted ((found ++ x ∷ []) ++ row ∷ rest)
-  order_more row rest here over up =
+  pub order_more : (row : Post) → by_place x row ≡ Less → KeepsOrder found (drop at a) (found ++ x ∷ []) row
+  order_more row here rest over up =
       subst AreSorted (sym (append_assoc found (x ∷ []) (row ∷ rest)))
-      (sorted_insert by_place found x (drop (at + 1) a) (row ∷ rest) (subst (λ r. AreSorted (found ++ r)) next_is over) up
+      (sorted_insert by_place found x (drop (at + 1) a) (row ∷ rest) (subst (λ r. AreSorted (found ++ r)) (next_is a at x within is) over) up
       (below_first by_place by_place_total x row rest here (sorted_back by_place found (row ∷ rest) up)))
 
 -- ---- a row of b is judged
@@ -83,44 +81,32 @@ pub record AreLess (a b : List Post) (i j : ℕ) : Type 0 where
   pub within : i ≤ length a
   pub less : (m : ℕ) (e : Post) → j ≤ m → m < length b → AllLess a i (get_or b m e)
 
-pub less_first : (a b : List Post) → AreLess a b 0 0
-less_first a b = record { within = omega arith; less = λ m e _ _ k d h. absurd (omega arith) }
-
 -- of found, i rows of a and j rows of b the union is made
 pub record Joins (a b found : List Post) (i j : ℕ) : Type 0 where
   pub told : IsPermutation (a ++ missing a b) ((found ++ drop i a) ++ missing a (drop j b))
   pub over_a : AreSorted (found ++ drop i a)
   pub over_b : AreSorted (found ++ drop j b)
 
-pub joins_first : (a b : List Post) → AreSorted a → AreSorted b → Joins a b [] 0 0
-joins_first a b a_up b_up = record { told = IsPermutation-refl _; over_a = a_up; over_b = b_up }
-
 module _ (a b : List Post) (j : ℕ) (within : j < length b) (row : Post) (is : row ≡ get_or b j row) where
-  row_is : drop j b ≡ row ∷ drop (j + 1) b
-  row_is = drop_more b j row within ∙ ap (λ y. y ∷ drop (j + 1) b) (sym is)
-
-  pub less_here : (i : ℕ) → AreLess a b i j → AllLess a i row
-  less_here i h = subst (AllLess a i) (sym is) (h.less j row (omega arith) within)
-
-  pub less_on : (n : ℕ) → AreSorted b → Parts a n row → AreLess a b n (j + 1)
-  less_on n up parts = record {
-    within = parts.within;
-    less = λ m e from below k d h. by_place_total.trans (get_or a k d) row (get_or b m e) (parts.less k d h)
+  pub less_on : (n : ℕ) → AreSorted b → SplitsBefore a n row → AreLess a b n (j + 1)
+  less_on n up splits = record {
+    within = splits.within;
+    less = λ m e from below k d h. by_place_total.trans (get_or a k d) row (get_or b m e) (splits.less k d h)
         (subst (λ y. by_place y (get_or b m e) ≡ Less) (sym (is ∙ get_or_default b j row e within)) (Less-from_sorted by_place b j m e up (omega arith) below));
   }
 
   module _ (found done : List Post) (i n : ℕ) (h : Joins a b found i j) (moved : done ++ drop n a ≡ found ++ drop i a)
-      (order : (rest : List Post) → AreSorted (found ++ drop i a) → AreSorted (found ++ row ∷ rest) → AreSorted (done ++ row ∷ rest))
-      (parts : Parts a n row) (a_up : AreSorted a) where
+      (order : KeepsOrder found (drop i a) done row)
+      (splits : SplitsBefore a n row) (a_up : AreSorted a) where
     over_row : AreSorted (done ++ row ∷ drop (j + 1) b)
-    over_row = order (drop (j + 1) b) h.over_a (subst (λ r. AreSorted (found ++ r)) row_is h.over_b)
+    over_row = order (drop (j + 1) b) h.over_a (subst (λ r. AreSorted (found ++ r)) (next_is b j row within is) h.over_b)
 
     over_rest : AreSorted (done ++ drop n a)
     over_rest = subst AreSorted (sym moved) h.over_a
 
     told_row : IsPermutation (a ++ missing a b) ((done ++ drop n a) ++ missing a (row ∷ drop (j + 1) b))
     told_row = subst (λ r. IsPermutation (a ++ missing a b) (r ++ missing a (row ∷ drop (j + 1) b))) (sym moved)
-        (subst (λ r. IsPermutation (a ++ missing a b) ((found ++ drop i a) ++ missing a r)) row_is h.told)
+        (subst (λ r. IsPermutation (a ++ missing a b) ((found ++ drop i a) ++ missing a r)) (next_is b j row within is) h.told)
 
     abbrev rest_of : Bool → List Post
     rest_of t = cond (not t) (row ∷ missing a (drop (j + 1) b)) (missing a (drop (j + 1) b))
@@ -140,8 +126,8 @@ module _ (a b : List Post) (j : ℕ) (within : j < length b) (row : Post) (is : 
           | true ↦ λ t.
               let in_a : n < length a = grind (arith, nat_tests) in
               let x = get_or a n row in
-              let other : shares_place row x ≡ false = placed_at a n row parts a_up in_a x (get_or_default a n row x in_a) ∙ hasnt in
-              let first = less-from_comes row x (row_first x row (not_first x row (parts.stop row in_a)) other) in
+              let other : shares_place row x ≡ false = placed_at a n row splits a_up in_a x (get_or_default a n row x in_a) ∙ hasnt in
+              let first = less-from_comes row x (row_first x row (not_first x row (splits.stop row in_a)) other) in
               let more : drop n a ≡ x ∷ drop (n + 1) a = drop_more a n row in_a in
               let up = subst (λ r. AreSorted (done ++ r)) more over_rest in
               subst (λ r. AreSorted (done ++ row ∷ r)) (sym more)
@@ -171,9 +157,3 @@ module _ (a b : List Post) (j : ℕ) (within : j < length b) (row : Post) (is : 
     pub joins_more : (t : Bool) → t ≡ list_any (shares_place row) a → Joins a b (cond (not t) (done ++ row ∷ []) done) n (j + 1)
     joins_more true same = left_out (sym same)
     joins_more false same = put_in (sym same)
-
--- at the end what is left of a goes behind
-pub joins_all : (a b found : List Post) (i j : ℕ) → Joins a b found i j → length b ≤ j → IsUnion a b (found ++ drop i a)
-joins_all a b found i j h past =
-    subst (IsPermutation (a ++ missing a b)) (append-nil (found ++ drop i a))
-    (subst (λ r. IsPermutation (a ++ missing a b) ((found ++ drop i a) ++ missing a r)) (drop_all j b past) h.told)

@@ -3,13 +3,14 @@
 --
 --   keep_docs rows docs      the rows in a listed document
 --   follow a b               the rows of b one position behind a row of a
---   near a b                 the rows of b from 1 to 8 positions before or behind a row of a
+--   near a b                 the rows of b from 1 to MAX_DISTANCE positions before or behind a row of a
 --   missing a b              the rows of b whose document, position and word no row of a has
 --   IsUnion a b rows         rows are those of a and the missing ones of b
 --   drop_docs base rows      the scored documents that have no row
 use Rattle.std.specs.Prelude.{ℕ, ◌+◌, ◌-◌, Bool, ◌&&◌, not, ◌==◌, nat_lt, nat_le, List, ◌++◌}
 use Rattle.std.specs.List.{filter, list_any}
 use Rattle.std.specs.List.Sorted.{IsPermutation}
+use Rattle.cs_base.specs.declared.limits.TheConstants.{MAX_DISTANCE}
 use Rattle.cs_base.specs.declared.doc.Post.{Post}
 use Rattle.cs_base.specs.declared.doc.Scored.{Scored}
 
@@ -33,9 +34,9 @@ follow a b = filter (λ r. list_any (stands_behind r) a) b
 abbrev pub distance : ℕ → ℕ → ℕ
 distance p q = (p - q) + (q - p)
 
--- r and x stand from 1 to 8 positions apart in the same document, both at 1 or more
+-- r and x stand from 1 to MAX_DISTANCE positions apart in the same document, both at 1 or more
 abbrev pub is_near : Post → Post → Bool
-is_near r x = (x.doc == r.doc) && (nat_lt 0 x.pos && (nat_lt 0 r.pos && (nat_lt 0 (distance x.pos r.pos) && nat_le (distance x.pos r.pos) 8)))
+is_near r x = (x.doc == r.doc) && (nat_lt 0 x.pos && (nat_lt 0 r.pos && (nat_lt 0 (distance x.pos r.pos) && nat_le (distance x.pos r.pos) MAX_DISTANCE)))
 
 -- the rows of b near a row of a; none where a has none
 abbrev pub near : List Post → List Post → List Post

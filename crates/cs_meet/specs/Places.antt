@@ -2,19 +2,21 @@
 --
 --   is_before x d p          x stands in an earlier document than d, or in d before position p
 --   AllBefore posts n d p    the first n posts are before position p of document d
+--   StopsAt posts n d p      the post at n isn't before position p of document d, if there is one
 --   Splits posts n d p       n is the first place that isn't before position p of document d
 --   Ahead doc pos a b i j    the first i posts of a are before the place that each entry of b from j on asks for
 --   AllBelow docs n d        the first n documents are less than d
 --   AheadOfRows docs rows i j    the first i documents are less than those of the rows from j on
 --   SplitsDocs docs n d      n is the first place whose document isn't less than d
 --   AllLess posts n r        the first n posts come before r, by document, position and word
---   Parts posts n r          n is the first place that doesn't come before r
+--   SplitsBefore posts n r   n is the first place that doesn't come before r
+--   KeepsOrder old left new r    what may come behind old with r first may do so behind new, where left may come behind old
 --   near_at posts n r        there is a post at n, and it stands near r
-use Rattle.std.specs.Prelude.{◌≡◌, ℕ, ◌<◌, ◌≤◌, Bool, true, false, ◌&&◌, ◌||◌, ◌==◌, nat_lt, List, length, slice_index_or, slice_index}
+use Rattle.std.specs.Prelude.{◌≡◌, ℕ, ◌<◌, ◌≤◌, Bool, true, false, ◌&&◌, ◌||◌, ◌==◌, nat_lt, List, ◌∷◌, ◌++◌, length, slice_index_or, slice_index}
 use Rattle.std.specs.Ordering.{is_lt}
 use Rattle.std.specs.declared.cmp.Ordering.TheVariants.{Less}
 use Rattle.cs_base.specs.declared.doc.Post.{Post}
-use Rattle.cs_base.specs.Orders.{by_place}
+use Rattle.cs_base.specs.Orders.{by_place, AreSorted}
 use Rattle.cs_meet.specs.Filters.{is_near}
 
 -- x stands in an earlier document than d, or in d before position p
@@ -25,11 +27,15 @@ is_before x d p = nat_lt x.doc d || ((x.doc == d) && nat_lt x.pos p)
 abbrev pub AllBefore : List Post → ℕ → ℕ → ℕ → Type 0
 AllBefore posts n d p = (k : ℕ) (e : Post) → k < n → is_before (slice_index_or posts k e) d p ≡ true
 
+-- the post at n isn't before position p of document d; of the end nothing is said
+abbrev pub StopsAt : List Post → ℕ → ℕ → ℕ → Type 0
+StopsAt posts n d p = (e : Post) → n < length posts → is_before (slice_index_or posts n e) d p ≡ false
+
 -- n is the first place that isn't before position p of document d, or the end
 pub record Splits (posts : List Post) (n d p : ℕ) : Type 0 where
   pub within : n ≤ length posts
   pub before : AllBefore posts n d p
-  pub stop : (e : Post) → n < length posts → is_before (slice_index_or posts n e) d p ≡ false
+  pub stop : StopsAt posts n d p
 
 -- the first i posts of a are before the place, by doc and pos, that each entry of b from j on asks for
 pub record Ahead {B : Type 0} (doc pos : B → ℕ) (a : List Post) (b : List B) (i j : ℕ) : Type 0 where
@@ -55,10 +61,14 @@ abbrev pub AllLess : List Post → ℕ → Post → Type 0
 AllLess posts n r = (k : ℕ) (e : Post) → k < n → by_place (slice_index_or posts k e) r ≡ Less
 
 -- n is the first place that doesn't come before r, or the end
-pub record Parts (posts : List Post) (n : ℕ) (r : Post) : Type 0 where
+pub record SplitsBefore (posts : List Post) (n : ℕ) (r : Post) : Type 0 where
   pub within : n ≤ length posts
   pub less : AllLess posts n r
   pub stop : (e : Post) → n < length posts → is_lt (by_place (slice_index_or posts n e) r) ≡ false
+
+-- where left may come behind old, whatever may come behind old with r first may come behind new in the same way
+abbrev pub KeepsOrder : List Post → List Post → List Post → Post → Type 0
+KeepsOrder old left new r = (rest : List Post) → AreSorted (old ++ left) → AreSorted (old ++ r ∷ rest) → AreSorted (new ++ r ∷ rest)
 
 -- the first i documents are less than those of the rows from j on
 pub record AheadOfRows (docs : List ℕ) (rows : List Post) (i j : ℕ) : Type 0 where

@@ -5,11 +5,15 @@ ghost use Rattle.cs_meet.specs.Filters.{follow, near, stands_behind, is_near};
 ghost use Rattle.cs_base.specs.Orders.{AreSorted};
 ghost use Rattle.cs_meet.specs.Places.{Ahead, Splits, near_at};
 ghost use Rattle.cs_base.specs.declared.doc.Post.{Post};
+ghost use Rattle.cs_base.specs.declared.limits.TheConstants.{MAX_DISTANCE};
 
 use crate::skip::{add_where, pass_over, skip_to};
-use cs_base::{Memory, Post};
+use cs_base::{MAX_DISTANCE, Memory, Post};
 use cs_cols::Cols;
 use std::alloc::Global;
+
+// how far before a row a near row may stand
+const REACH: u64 = MAX_DISTANCE as u64;
 
 /// The rows of b that stand one position behind a row of a, as in a phrase.
 pub fn follow(alloc: Global, a: &Cols, b: &Cols) -> Result<Cols, Memory>
@@ -32,7 +36,7 @@ pub fn follow(alloc: Global, a: &Cols, b: &Cols) -> Result<Cols, Memory>
     Ok(found)
 }
 
-/// The rows of b that stand from 1 to 8 positions before or behind a row of a.
+/// The rows of b that stand from 1 to `MAX_DISTANCE` positions before or behind a row of a.
 pub fn near(alloc: Global, a: &Cols, b: &Cols) -> Result<Cols, Memory>
     requires a_sorted { AreSorted a.now.posts }
     requires b_sorted { AreSorted b.now.posts }
@@ -48,7 +52,7 @@ pub fn near(alloc: Global, a: &Cols, b: &Cols) -> Result<Cols, Memory>
     while j < b.len() {
         let row = b.get(j);
         let pos = u64::from(row.pos);
-        lo = skip_to(a, lo, row.doc, pos.saturating_sub(8).max(1));
+        lo = skip_to(a, lo, row.doc, pos.saturating_sub(REACH).max(1));
         hi = skip_to(a, hi, row.doc, pos + 1);
         add_where(&mut found, has_neighbour(a, lo, hi, row), row);
         j = next_near(a, lo, b, j + 1);
@@ -82,7 +86,7 @@ fn next_near(a: &Cols, lo: usize, b: &Cols, from: usize) -> usize
     requires a_sorted { AreSorted a.now.posts }
     requires b_sorted { AreSorted b.now.posts }
     requires within { from ≤ length b.now.posts }
-    requires ahead { Ahead (λ r. r.doc) (λ r. max (r.pos - 8) 1) a.now.posts b.now.posts lo from }
+    requires ahead { Ahead (λ r. r.doc) (λ r. max (r.pos - MAX_DISTANCE) 1) a.now.posts b.now.posts lo from }
 
     ensures onward { from ≤ result }
     ensures within { result ≤ length b.now.posts }
@@ -90,7 +94,7 @@ fn next_near(a: &Cols, lo: usize, b: &Cols, from: usize) -> usize
 {
     if lo < a.len() {
         let post = a.get(lo);
-        pass_over(b, from, post.doc, u64::from(post.pos).saturating_sub(8))
+        pass_over(b, from, post.doc, u64::from(post.pos).saturating_sub(REACH))
     } else {
         b.len()
     }
@@ -114,12 +118,12 @@ fn is_behind(row: Post, post: Post) -> bool
     post.doc == row.doc && post.pos > 0 && u64::from(post.pos) + 1 == u64::from(row.pos)
 }
 
-// Whether a post stands near the row, where `lo` is the first place from 8 positions before the row on,
+// Whether a post stands near the row, where `lo` is the first place from `MAX_DISTANCE` positions before the row on,
 // and `hi` the first place behind it.
 #[inline]
 fn has_neighbour(posts: &Cols, lo: usize, hi: usize, row: Post) -> bool
     requires sorted { AreSorted posts.now.posts }
-    requires lo { Splits posts.now.posts lo row.doc (max (row.pos - 8) 1) }
+    requires lo { Splits posts.now.posts lo row.doc (max (row.pos - MAX_DISTANCE) 1) }
     requires hi { Splits posts.now.posts hi row.doc (row.pos + 1) }
 
     ensures { result ≡ list_any (is_near row) posts.now.posts }
@@ -142,5 +146,5 @@ fn stands_near(row: Post, post: Post) -> bool
         && post.pos > 0
         && row.pos > 0
         && post.pos != row.pos
-        && post.pos.abs_diff(row.pos) <= 8
+        && post.pos.abs_diff(row.pos) <= MAX_DISTANCE
 }

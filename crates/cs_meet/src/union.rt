@@ -1,11 +1,9 @@
 //! The union of two lists of posts.
-ghost use Rattle.std.specs.Prelude.{◌≡◌, ◌+◌, ◌≤◌, ◌∷◌, ◌++◌, List, length, drop, IfOk};
+ghost use Rattle.std.specs.Prelude.{◌≡◌, ◌+◌, ◌≤◌, ◌++◌, length, drop, IfOk};
 ghost use Rattle.std.specs.List.{list_any};
-ghost use Rattle.std.specs.Ordering.{is_lt};
-ghost use Rattle.cs_base.specs.declared.doc.Post.{Post};
-ghost use Rattle.cs_base.specs.Orders.{by_place, AreSorted};
+ghost use Rattle.cs_base.specs.Orders.{AreSorted};
 ghost use Rattle.cs_meet.specs.Filters.{IsUnion, shares_place};
-ghost use Rattle.cs_meet.specs.Places.{AllLess, Parts};
+ghost use Rattle.cs_meet.specs.Places.{AllLess, SplitsBefore, KeepsOrder};
 
 use crate::skip::add_where;
 use cs_base::{Memory, Post};
@@ -40,13 +38,13 @@ fn take_until(found: &mut Cols, posts: &Cols, from: usize, row: Post) -> usize
     requires less { AllLess posts.now.posts from row }
     requires room { length posts.now.posts ≤ found.old.room + from }
 
-    ensures parts { Parts posts.now.posts result row }
+    ensures splits { SplitsBefore posts.now.posts result row }
     ensures moved { found.new.posts ++ drop result posts.now.posts ≡ found.old.posts ++ drop from posts.now.posts }
-    ensures order { (rest : List Post) → AreSorted (found.old.posts ++ drop from posts.now.posts) → AreSorted (found.old.posts ++ row ∷ rest) → AreSorted (found.new.posts ++ row ∷ rest) }
+    ensures order { KeepsOrder found.old.posts (drop from posts.now.posts) found.new.posts row }
     ensures room { found.old.room + from ≤ found.new.room + result }
 {
     let mut at = from;
-    while at < posts.len() && precedes(posts.get(at), row) {
+    while at < posts.len() && posts.get(at).is_before(row) {
         found.push_reserved(posts.get(at));
         at += 1;
     }
@@ -65,20 +63,11 @@ fn take_rest(found: &mut Cols, posts: &Cols, from: usize)
     }
 }
 
-#[inline]
-pub(crate) fn precedes(post: Post, row: Post) -> bool
-    ensures { result ≡ is_lt (by_place post row) }
-{
-    post.doc < row.doc
-        || (post.doc == row.doc
-            && (post.pos < row.pos || (post.pos == row.pos && post.word < row.word)))
-}
-
 // Whether a post has the row's place, where `i` is the first place that doesn't come before the row.
 #[inline]
 fn has_place(posts: &Cols, i: usize, row: Post) -> bool
     requires sorted { AreSorted posts.now.posts }
-    requires parts { Parts posts.now.posts i row }
+    requires splits { SplitsBefore posts.now.posts i row }
 
     ensures { result ≡ list_any (shares_place row) posts.now.posts }
 {

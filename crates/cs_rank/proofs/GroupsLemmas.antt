@@ -4,27 +4,27 @@
 --   groups-are       the groups are the documents, each with the greatest score of its rows
 --   next_is          the row at a place is the next of the rest
 --   best_rise        the documents with their greatest scores ascend
---   base_nothing, base_each    what a base adds
+--   base_each        what a base adds
 use Rattle.std.proofs.Common.{◌≡◌, ℕ, zero, suc, ◌+◌, ◌<◌, ◌≤◌, max, true, false, cond, List, [], ◌∷◌, map, filter, length, get_or, drop, take, ◌++◌, ◌==◌, refl, sym, ap₂, ◌∙◌, ap, subst, arith, if◌then◌else◌}
 use Rattle.std.specs.List.{AllByRecursion}
 use Rattle.std.specs.List.Sorted.{IsStrictlySortedBy}
-use Rattle.std.specs.Ordering.{nat_cmp, on}
+use Rattle.std.specs.Ordering.{nat_cmp}
 use Rattle.std.specs.declared.cmp.Ordering.TheVariants.{Less}
 use Rattle.std.proofs.lemmas.List.{length-map, drop_all, map-append, take_more}
+use Rattle.std.proofs.lemmas.Bool.{eqb-true, eq-eqb}
 use Rattle.std.proofs.lemmas.Bool.Decides.{nat_tests}
 use Rattle.cs_base.specs.Members.{members_in}
-use Rattle.cs_base.specs.Orders.{by_place, docs_of}
+use Rattle.cs_base.specs.Orders.{docs_of, AreSorted, AreByDoc, by_doc}
 use Rattle.cs_base.specs.declared.doc.Base.{Base}
-use Rattle.cs_base.specs.declared.doc.Base.TheVariants.{All}
 use Rattle.cs_base.specs.declared.doc.Post.{Post}
 use Rattle.cs_base.specs.declared.doc.Scored.{Scored}
 use Rattle.std.specs.FinMap.{nat_cmp-IsAntisymmetric}
 use Rattle.std.specs.Cmp.{nat_cmp_total}
-use Rattle.cs_base.proofs.MembersLemmas.{members_are}
+use Rattle.cs_base.proofs.MembersLemmas.{listing-rises, none_listed, all_then}
+use Rattle.cs_base.proofs.OrdersLemmas.{Less-from_lt}
 use Rattle.cs_rank.specs.Groups.{scored_row, group, groups}
 use Rattle.cs_rank.specs.DocScores.{greatest, of_doc, best_row, with_base}
-use Rattle.cs_rank.proofs.Places.{rises}
-use Rattle.cs_rank.proofs.Climbs.{Climbs, fresh, fresh-rises, fresh-listed, docs_climb}
+use Rattle.cs_rank.proofs.Climbs.{Climbs, fresh, further, fresh-rises, fresh-listed, docs_climb}
 
 abbrev docs : List Scored → List ℕ
 docs xs = map (λ h. h.doc) xs
@@ -42,12 +42,6 @@ best_cons d x xs =
       | true ↦ refl
       | false ↦ refl
     ]
-
-same_number : (x l : ℕ) → x == l ≡ true → x ≡ l
-same_number x l e = grind (arith, nat_tests)
-
-itself : (x : ℕ) → x == x ≡ true
-itself x = grind (arith, nat_tests)
 
 -- two neighbours of one document count as their group
 joined : (d a s t : ℕ) (xs : List Scored) → best_of d (record { doc = a; score = max s t } ∷ xs) ≡ best_of d (record { doc = a; score = s } ∷ record { doc = a; score = t } ∷ xs)
@@ -81,33 +75,19 @@ map_joined a s t xs (d ∷ ds) =
     ∙ ap (λ l. entry (record { doc = a; score = s } ∷ record { doc = a; score = t } ∷ xs) d ∷ l) (map_joined a s t xs ds)
 
 all_above : (a b : ℕ) (xs : List ℕ) → a < b → AllByRecursion (λ y. b ≤ y) xs → AllByRecursion (λ y. a < y) xs
-all_above a b [] lt h = tt
-all_above a b (x ∷ xs) lt h = (let le = h.0 in omega arith, all_above a b xs lt h.1)
-
-less_of : (l x : ℕ) → l < x → nat_cmp l x ≡ Less
-less_of l x lt = grind (arith, nat_tests)
-
-over_one : (l x y : ℕ) → l < x → nat_cmp x y ≡ Less → nat_cmp l y ≡ Less
-over_one l x y lt h = grind (arith, nat_tests)
-
-over : (l x : ℕ) (xs : List ℕ) → l < x → AllByRecursion (λ y. nat_cmp x y ≡ Less) xs → AllByRecursion (λ y. nat_cmp l y ≡ Less) xs
-over l x [] lt h = tt
-over l x (y ∷ xs) lt h = (over_one l x y lt h.0, over l x xs lt h.1)
+all_above a b xs lt h = all_then (λ y. b ≤ y) (λ y. a < y) (λ y le. omega arith) xs h
 
 -- all that is fresh behind x is above what is below x
 over_fresh : (l x : ℕ) (xs : List ℕ) → l < x → Climbs (x ∷ xs) → AllByRecursion (λ y. nat_cmp l y ≡ Less) (x ∷ fresh x xs)
 unfolding IsStrictlySortedBy
-over_fresh l x xs lt up = (less_of l x lt, over l x (fresh x xs) lt (fresh-rises x xs up).0)
+over_fresh l x xs lt up = (Less-from_lt l x lt, further l x (fresh x xs) lt (fresh-rises x xs up).0)
 
 up_to_doc : (a b : ℕ) → a ≤ b → b == a ≡ false → a < b
 up_to_doc a b le e = grind (arith, nat_tests)
 
-max_zero : (n : ℕ) → max n 0 ≡ n
-max_zero n = omega arith
-
 first_alone : (h : Scored) (xs : List Scored) → AllByRecursion (λ y. h.doc < y) (docs xs) → best_of h.doc (h ∷ xs) ≡ h.score
 first_alone h xs up =
-    best_cons h.doc h xs ∙ ap (λ b. cond b (max h.score (best_of h.doc xs)) (best_of h.doc xs)) (itself h.doc) ∙ ap (max h.score) (none_of h.doc xs up) ∙ max_zero h.score
+    best_cons h.doc h xs ∙ ap (λ b. cond b (max h.score (best_of h.doc xs)) (best_of h.doc xs)) (eq-eqb h.doc h.doc refl) ∙ ap (max h.score) (none_of h.doc xs up) ∙ (let alone : max h.score 0 ≡ h.score = omega arith in alone)
 
 pub group-is : (h : Scored) (xs : List Scored) → Climbs (h.doc ∷ docs xs) → group h xs ≡ map (entry (h ∷ xs)) (h.doc ∷ fresh h.doc (docs xs))
 group-is h [] up = ap (λ n. let e : Scored = record { doc = h.doc; score = n } in e ∷ []) (sym (first_alone h [] tt))
@@ -115,7 +95,7 @@ group-is h (x ∷ xs) up =
     elim (x.doc == h.doc) as (λ b. x.doc == h.doc ≡ b → (if b then group (record { doc = h.doc; score = max h.score x.score }) xs else h ∷ group x xs) ≡ map (entry (h ∷ x ∷ xs)) (h.doc ∷ (if b then fresh h.doc (docs xs) else x.doc ∷ fresh x.doc (docs xs)))) [
       | true ↦ λ e.
           let whole = group-is (record { doc = h.doc; score = max h.score x.score }) xs (up.0.1, up.1.1) in
-          let there : x ≡ record { doc = h.doc; score = x.score } = ap (λ d. let r : Scored = record { doc = d; score = x.score } in r) (same_number x.doc h.doc e) in
+          let there : x ≡ record { doc = h.doc; score = x.score } = ap (λ d. let r : Scored = record { doc = d; score = x.score } in r) (eqb-true x.doc h.doc e) in
           whole ∙ map_joined h.doc h.score x.score xs (h.doc ∷ fresh h.doc (docs xs))
           ∙ ap (λ y. map (entry (h ∷ y ∷ xs)) (h.doc ∷ fresh h.doc (docs xs))) (sym there)
       | false ↦ λ e.
@@ -143,14 +123,10 @@ docs_rows : (rows : List Post) → docs (map scored_row rows) ≡ map (λ p. p.d
 docs_rows [] = refl
 docs_rows (p ∷ rows) = ap (λ l. p.doc ∷ l) (docs_rows rows)
 
-none_rise : IsStrictlySortedBy nat_cmp []
-unfolding IsStrictlySortedBy
-none_rise = tt
-
 pub nothing_listed : [] ≡ members_in nat_cmp []
-nothing_listed = members_are nat_cmp nat_cmp_total nat_cmp-IsAntisymmetric [] [] none_rise (λ q. refl)
+nothing_listed = none_listed nat_cmp nat_cmp_total nat_cmp-IsAntisymmetric
 
-pub groups-are : (rows : List Post) → IsStrictlySortedBy by_place rows → groups (map scored_row rows) ≡ map (best_row rows) (docs_of rows)
+pub groups-are : (rows : List Post) → AreSorted rows → groups (map scored_row rows) ≡ map (best_row rows) (docs_of rows)
 groups-are [] up = ap (map (best_row [])) nothing_listed
 groups-are (p ∷ rows) up =
     let climbs = docs_climb (p ∷ rows) up in
@@ -165,26 +141,18 @@ next_is [] i s lt d e = absurd (omega arith)
 next_is (p ∷ rows) zero s lt d e = ap₂ (λ a b. let r : Scored = record { doc = a; score = b } in r ∷ map scored_row rows) (sym d) (sym e)
 next_is (p ∷ rows) (suc i) s lt d e = next_is rows i s (omega arith) d e
 
-map_above : (rows : List Post) (d : ℕ) (ds : List ℕ) → AllByRecursion (λ y. nat_cmp d y ≡ Less) ds → AllByRecursion (λ y. on (λ s. s.doc) nat_cmp (best_row rows d) y ≡ Less) (map (best_row rows) ds)
+map_above : (rows : List Post) (d : ℕ) (ds : List ℕ) → AllByRecursion (λ y. nat_cmp d y ≡ Less) ds → AllByRecursion (λ y. by_doc (best_row rows d) y ≡ Less) (map (best_row rows) ds)
 map_above rows d [] up = tt
 map_above rows d (e ∷ ds) up = (up.0, map_above rows d ds up.1)
 
-map_rises : (rows : List Post) (ds : List ℕ) → IsStrictlySortedBy nat_cmp ds → IsStrictlySortedBy (on (λ s. s.doc) nat_cmp) (map (best_row rows) ds)
+map_rises : (rows : List Post) (ds : List ℕ) → IsStrictlySortedBy nat_cmp ds → AreByDoc (map (best_row rows) ds)
 unfolding IsStrictlySortedBy
 map_rises rows [] up = tt
 map_rises rows (d ∷ ds) up = (map_above rows d ds up.0, map_rises rows ds up.1)
 
 -- the documents with their greatest scores ascend
-pub best_rise : (rows : List Post) → IsStrictlySortedBy (on (λ s. s.doc) nat_cmp) (map (best_row rows) (docs_of rows))
-best_rise rows = map_rises rows (docs_of rows) (rises nat_cmp (map (λ p. p.doc) rows))
-
-plus_zero : (d n : ℕ) → ◌≡◌ {A = Scored} (record { doc = d; score = n }) (record { doc = d; score = 0 + n })
-plus_zero d n = ap (λ m. let r : Scored = record { doc = d; score = m } in r) (let e : n ≡ 0 + n = omega arith in e)
-
--- under no base
-pub base_nothing : (rows : List Post) (ds : List ℕ) → map (best_row rows) ds ≡ map (λ d. with_base All (best_row rows d)) ds
-base_nothing rows [] = refl
-base_nothing rows (d ∷ ds) = ap (λ r. r ∷ map (best_row rows) ds) (plus_zero d _) ∙ ap (λ l. with_base All (best_row rows d) ∷ l) (base_nothing rows ds)
+pub best_rise : (rows : List Post) → AreByDoc (map (best_row rows) (docs_of rows))
+best_rise rows = map_rises rows (docs_of rows) (listing-rises nat_cmp (map (λ p. p.doc) rows))
 
 pub base_each : (base : Base) (rows : List Post) (ds : List ℕ) → map (with_base base) (map (best_row rows) ds) ≡ map (λ d. with_base base (best_row rows d)) ds
 base_each base rows [] = refl
@@ -207,7 +175,7 @@ went_on rows best now current next after i whole lt d e taken =
     ∙ ap (λ n. now ++ group after (drop n (map scored_row rows))) (let n : suc i ≡ i + 1 = omega arith in n)
 
 -- the last group ends with the rows
-pub ended : (rows : List Post) (best now : List Scored) (current : Scored) (i : ℕ) → IsStrictlySortedBy by_place rows → groups (map scored_row rows) ≡ best ++ group current (drop i (map scored_row rows)) → length (map (λ p. p.doc) rows) ≤ i → now ≡ best ++ current ∷ [] → now ≡ map (best_row rows) (docs_of rows)
+pub ended : (rows : List Post) (best now : List Scored) (current : Scored) (i : ℕ) → AreSorted rows → groups (map scored_row rows) ≡ best ++ group current (drop i (map scored_row rows)) → length (map (λ p. p.doc) rows) ≤ i → now ≡ best ++ current ∷ [] → now ≡ map (best_row rows) (docs_of rows)
 ended rows best now current i up whole all is =
     is ∙ ap (λ l. best ++ group current l) (sym (drop_all i (map scored_row rows) (omega (arith, length-map rows (λ (p : Post). p.doc), length-map rows scored_row)))) ∙ sym whole ∙ groups-are rows up
 

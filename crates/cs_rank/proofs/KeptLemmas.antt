@@ -1,13 +1,13 @@
 -- How the bounded list goes on standing for the best of all that was offered.
 --
---   begins            of nothing, with nothing kept
 --   let_go            one that isn't before the worst of enough better ones
---   kept_too     one more that is kept
+--   kept_too          one more that is kept
 --   pruned            what is cut to the room
 --   full_from_last    what is cut to the room knows its worst
 --   shown_of          what is shown in the end
-use Rattle.std.proofs.Common.{◌≡◌, ℕ, Bool, true, false, not, List, [], ◌∷◌, ◌++◌, ◌+◌, ◌-◌, ◌<◌, ◌≤◌, length, take, drop, take_all, get_or, refl, sym, ◌∙◌, ap, subst, true≢false}
+use Rattle.std.proofs.Common.{◌≡◌, ℕ, true, false, List, [], ◌∷◌, ◌++◌, ◌+◌, ◌-◌, ◌<◌, ◌≤◌, length, take, drop, take_all, get_or, refl, sym, ◌∙◌, ap, subst, true≢false}
 use Rattle.std.specs.Prelude.{Option, Some, None, MatchOption}
+use Rattle.std.proofs.lemmas.Bool.{not-true, not-false}
 use Rattle.std.proofs.lemmas.List.{drop-take}
 use Rattle.std.specs.List.Sorted.{IsStrictlySortedBy}
 use Rattle.std.specs.Ordering.{is_lt, is_gt}
@@ -17,15 +17,9 @@ use Rattle.cs_base.specs.Members.{members_in}
 use Rattle.cs_base.specs.Orders.{by_rank}
 use Rattle.cs_base.specs.declared.doc.Scored.{Scored}
 use Rattle.cs_base.proofs.OrdersLemmas.{by_rank_total, by_rank_exact}
-use Rattle.cs_base.proofs.MembersLemmas.{listed_itself}
+use Rattle.cs_base.proofs.MembersLemmas.{listed_itself, listing-rises}
 use Rattle.cs_rank.specs.Kept.{IsFull, HasBest, is_behind}
-use Rattle.cs_rank.proofs.Places.{place, pushed, take-placed, unmoved, still_full, rises, take_rises, take_again, full_at_last}
-
-listed : List Scored → List Scored
-listed xs = members_in by_rank xs
-
-pub begins : (room : ℕ) → HasBest [] room [] None
-begins room = record { same = refl; full = tt }
+use Rattle.cs_rank.proofs.Places.{place, pushed, take-placed, unmoved, still_full, take_rises, take_again, full_at_last}
 
 -- the first n of the listing with one more, by the first n of the listing
 more_alike : (room : ℕ) (s : Scored) (seen kept : List Scored) → take room (members_in by_rank seen) ≡ take room (members_in by_rank kept) → take room (members_in by_rank (seen ++ s ∷ [])) ≡ take room (place by_rank s (members_in by_rank kept))
@@ -35,14 +29,6 @@ more_alike room s seen kept e =
     ∙ ap (λ l. take room (place by_rank s l)) e
     ∙ sym (take-placed by_rank room s (members_in by_rank kept))
 
-not_less : (b : Bool) → not b ≡ true → b ≡ false
-not_less true e = sym e
-not_less false e = refl
-
-is_less : (b : Bool) → not b ≡ false → b ≡ true
-is_less true e = refl
-is_less false e = absurd (true≢false e)
-
 not_greater : (o : Ordering) → is_lt o ≡ true → is_gt o ≡ false
 not_greater Less e = refl
 not_greater Equal e = refl
@@ -51,14 +37,14 @@ not_greater Greater e = sym e
 pub let_go : (room : ℕ) (s : Scored) (seen kept : List Scored) (worst : Option Scored) → is_behind s worst ≡ true → HasBest seen room kept worst → HasBest (seen ++ s ∷ []) room kept worst
 let_go room s seen kept None e h = absurd (true≢false (sym e))
 let_go room s seen kept (Some w) e h = record {
-  same = more_alike room s seen kept h.same ∙ unmoved by_rank by_rank_total room s w (members_in by_rank kept) h.full (not_less _ e);
+  same = more_alike room s seen kept h.same ∙ unmoved by_rank by_rank_total room s w (members_in by_rank kept) h.full (not-true _ e);
   full = h.full;
 }
 
 full_too : (room : ℕ) (s : Scored) (kept : List Scored) (worst : Option Scored) → is_behind s worst ≡ false → MatchOption worst (Unit {0}) (λ w. IsFull by_rank room w (members_in by_rank kept)) → MatchOption worst (Unit {0}) (λ w. IsFull by_rank room w (members_in by_rank (kept ++ s ∷ [])))
 full_too room s kept None e h = tt
 full_too room s kept (Some w) e h =
-    subst (IsFull by_rank room w) (sym (pushed by_rank by_rank_total by_rank_exact kept s)) (still_full by_rank room s w (members_in by_rank kept) h (not_greater _ (is_less _ e)))
+    subst (IsFull by_rank room w) (sym (pushed by_rank by_rank_total by_rank_exact kept s)) (still_full by_rank room s w (members_in by_rank kept) h (not_greater _ (not-false _ e)))
 
 pub kept_too : (room : ℕ) (s : Scored) (seen kept : List Scored) (worst : Option Scored) → is_behind s worst ≡ false → HasBest seen room kept worst → HasBest (seen ++ s ∷ []) room (kept ++ s ∷ []) worst
 kept_too room s seen kept worst e h = record {
@@ -68,7 +54,7 @@ kept_too room s seen kept worst e h = record {
 
 -- the first so many of a listing are their own listing
 pub itself : (room : ℕ) (kept : List Scored) → take room (members_in by_rank kept) ≡ members_in by_rank (take room (members_in by_rank kept))
-itself room kept = listed_itself by_rank by_rank_total by_rank_exact _ (take_rises by_rank room _ (rises by_rank kept))
+itself room kept = listed_itself by_rank by_rank_total by_rank_exact _ (take_rises by_rank room _ (listing-rises by_rank kept))
 
 full_of : (room : ℕ) (now : List Scored) (worst : Option Scored) → now ≡ members_in by_rank now → MatchOption worst (Unit {0}) (λ w. IsFull by_rank room w now) → MatchOption worst (Unit {0}) (λ w. IsFull by_rank room w (members_in by_rank now))
 full_of room now None e h = tt
@@ -86,7 +72,7 @@ pruned room seen kept now was worst e full h =
 pub full_from_last : (room : ℕ) (kept now : List Scored) (last : Option Scored) → now ≡ take room (members_in by_rank kept) → MatchOption last (Unit {0}) (λ w. (length now ≡ room) × (0 < room) × (w ≡ get_or now (room - 1) w)) → MatchOption last (Unit {0}) (λ w. IsFull by_rank room w now)
 full_from_last room kept now None e h = tt
 full_from_last room kept now (Some w) e h =
-    full_at_last by_rank by_rank_total room now w (subst (IsStrictlySortedBy by_rank) (sym e) (take_rises by_rank room _ (rises by_rank kept))) h.0 h.1 h.2
+    full_at_last by_rank by_rank_total room now w (subst (IsStrictlySortedBy by_rank) (sym e) (take_rises by_rank room _ (listing-rises by_rank kept))) h.0 h.1 h.2
 
 -- after all was offered: the first o + h of what is kept, without the first o
 pub shown_of : (o h room index : ℕ) (scored kept : List Scored) (worst : Option Scored) → HasBest (take index scored) room kept worst → length scored ≤ index → room ≡ o + h → drop o (take room (members_in by_rank kept)) ≡ take h (drop o (members_in by_rank scored))

@@ -5,8 +5,8 @@
 --   take-placed        the first n of it depend on the first n of the listing alone
 --   unmoved            a member behind the first n leaves them as they are
 --   still_full         after a member that isn't behind w, none of the first n is
---   rises, take_rises  a listing strictly ascends, and so do its first n
-use Rattle.std.proofs.Common.{◌≡◌, ℕ, zero, suc, ◌≤◌, ◌<◌, ◌-◌, Bool, true, false, ◌&&◌, List, [], ◌∷◌, ◌++◌, T, cond, length, take, get_or, take_all, refl, sym, ◌∙◌, ap, subst, arith, true≢false}
+--   take_rises         the first n of a list that strictly ascends do so
+use Rattle.std.proofs.Common.{◌≡◌, ℕ, zero, suc, ◌≤◌, ◌<◌, ◌-◌, Bool, true, false, List, [], ◌∷◌, ◌++◌, cond, length, take, get_or, take_all, refl, sym, ◌∙◌, ap, subst, arith, true≢false}
 use Rattle.std.specs.Prelude.{Some, map}
 use Rattle.std.specs.List.{AllByRecursion}
 use Rattle.std.specs.List.Sorted.{IsStrictlySortedBy}
@@ -14,8 +14,8 @@ use Rattle.std.specs.Ordering.{eq_by_cmp, is_lt, is_gt}
 use Rattle.std.specs.declared.cmp.Ordering.{Ordering}
 use Rattle.std.specs.declared.cmp.Ordering.TheVariants.{Less, Equal, Greater}
 use Rattle.std.specs.Cmp.{IsTotalOrder, alike_right, tied_itself}
-use Rattle.std.specs.FinMap.{FinMap, find, put, is_sorted, keys, entries, entries_sorted, insert, from_entries, IsAntisymmetric, same_map, get-from_entries, get-insert, entries-insert}
-use Rattle.std.specs.FinMap.Entries.{below_all, by_order}
+use Rattle.std.specs.FinMap.{FinMap, find, put, keys, entries, insert, from_entries, IsAntisymmetric, same_map, get-from_entries, get-insert, entries-insert}
+use Rattle.std.specs.FinMap.Entries.{by_order}
 use Rattle.cs_base.specs.Members.{marked, members_in}
 use Rattle.cs_rank.specs.Kept.{IsUpTo, IsFull}
 
@@ -23,19 +23,6 @@ last_test : {A : Type 0} (a b : Bool) (x y : A) → cond a x (cond b x y) ≡ co
 last_test true true x y = refl
 last_test true false x y = refl
 last_test false b x y = refl
-
-front : (a b : Bool) → T (a && b) → T a
-front true b h = tt
-front false b h = h
-
-behind : (a b : Bool) → T (a && b) → T b
-behind true b h = h
-behind false b h = absurd h
-
-less : (o : Ordering) → T (is_lt o) → o ≡ Less
-less Less h = refl
-less Equal h = absurd h
-less Greater h = absurd h
 
 module _ {X : Type 0} (R : X → X → Ordering) where
   -- xs with s at its place; where an entry ties with s, it stands for s
@@ -63,18 +50,6 @@ module _ {X : Type 0} (R : X → X → Ordering) where
       get-from_entries o (map marked (xs ++ s ∷ [])) q ∙ find_push q xs s
       ∙ sym (get-insert o m s tt q ∙ ap (cond (eq_by_cmp R q s) (Some tt)) (get-from_entries o (map marked xs) q))))
       ∙ ap (map (λ e. e.0)) (entries-insert o m s tt) ∙ keys_put s (entries m)
-
-  below_all_is : (x : X) (es : List (X × Unit {0})) → T (below_all R x es) → AllByRecursion (λ y. R x y ≡ Less) (map (λ e. e.0) es)
-  below_all_is x [] h = tt
-  below_all_is x (e ∷ es) h = (less _ (front _ _ h), below_all_is x es (behind _ _ h))
-
-  keys_rise : (es : List (X × Unit {0})) → T (is_sorted R es) → IsStrictlySortedBy R (map (λ e. e.0) es)
-  unfolding IsStrictlySortedBy
-  keys_rise [] h = tt
-  keys_rise (e ∷ es) h = (below_all_is e.0 es (front _ _ h), keys_rise es (behind _ _ h))
-
-  pub rises : (xs : List X) → IsStrictlySortedBy R (members_in R xs)
-  rises xs = keys_rise _ (entries_sorted (from_entries {R = R} (map marked xs)))
 
   pub take_again : (n : ℕ) (xs : List X) → take n (take n xs) ≡ take n xs
   take_again zero xs = refl

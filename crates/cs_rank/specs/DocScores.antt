@@ -41,7 +41,8 @@ with_base base h = record { doc = h.doc; score = base_score base h.doc + h.score
 abbrev pub scores : Base → List Post → List Scored
 scores base rows = map (λ d. with_base base (best_row rows d)) (docs_of rows)
 
--- the listed documents strictly ascend, and none has a score above 2^20
+-- the listed documents strictly ascend, and none has a score above 2^20: no limit of a query comes near it, and below it adding a
+-- row's score to a base's never wraps
 abbrev pub IsBase : Base → Type 0
 IsBase base.All = Unit {0}
 IsBase (base.Listed listed) = AreByDoc listed × All (λ h. h.score ≤ 2 ^ 20) listed

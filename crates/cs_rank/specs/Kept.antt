@@ -2,15 +2,17 @@
 --
 --   IsUpTo w xs                           none of xs comes behind w in the order of hits
 --   IsFull room w xs                      the first `room` of xs are there, and none of them comes behind w
+--   Takes old s new                       what `old` held the best of, `new` holds the best of with s besides
 --   is_behind s worst                     whether s comes behind `worst`, or is it
 --   HasBest seen room kept worst          kept has the first `room` of seen, and `worst`, where it is told, comes before none of these
-use Rattle.std.specs.Prelude.{◌≡◌, ℕ, ◌≤◌, List, length, take, Bool, false, not, Option, None, Some, MatchOption}
+use Rattle.std.specs.Prelude.{◌≡◌, ℕ, ◌≤◌, List, [], ◌∷◌, ◌++◌, length, take, Bool, false, not, Option, None, Some, MatchOption}
 use Rattle.std.specs.List.{AllByRecursion}
 use Rattle.std.specs.Ordering.{is_gt, is_lt}
 use Rattle.std.specs.declared.cmp.Ordering.{Ordering}
 use Rattle.cs_base.specs.Members.{members_in}
 use Rattle.cs_base.specs.Orders.{by_rank}
 use Rattle.cs_base.specs.declared.doc.Scored.{Scored}
+use Rattle.cs_rank.specs.declared.best.Best.{Best}
 
 -- none of xs comes behind w
 abbrev pub IsUpTo : {X : Type 0} → (X → X → Ordering) → X → List X → Type 0
@@ -25,6 +27,10 @@ pub record IsFull {X : Type 0} (R : X → X → Ordering) (room : ℕ) (w : X) (
 pub record HasBest (seen : List Scored) (room : ℕ) (kept : List Scored) (worst : Option Scored) : Type 0 where
   pub same : take room (members_in by_rank seen) ≡ take room (members_in by_rank kept)
   pub full : MatchOption worst (Unit {0}) (λ w. IsFull by_rank room w (members_in by_rank kept))
+
+-- where `old` holds the best of what was seen, `new` holds the best of that and s
+abbrev pub Takes : Best → Scored → Best → Type 0
+Takes old s new = (seen : List Scored) → HasBest seen old.room old.kept.items old.worst → HasBest (seen ++ s ∷ []) new.room new.kept.items new.worst
 
 -- whether s isn't before the last of so many better ones; while none is known, it may be
 abbrev pub is_behind : Scored → Option Scored → Bool

@@ -1,8 +1,8 @@
 //! A bounded list of the best documents: what can't be among the first `room` is let go on the way.
-ghost use Rattle.std.specs.Prelude.{◌≡◌, ◌<◌, ◌-◌, [], ◌∷◌, ◌++◌, IfOk, OnOk, List, length, take, drop, MatchOption, slice_index_or};
+ghost use Rattle.std.specs.Prelude.{◌≡◌, ◌<◌, ◌-◌, [], IfOk, OnOk, length, take, drop, MatchOption, slice_index_or};
 ghost use Rattle.cs_base.specs.Members.{members_in};
 ghost use Rattle.cs_base.specs.Orders.{by_rank};
-ghost use Rattle.cs_rank.specs.Kept.{HasBest, IsFull, is_behind};
+ghost use Rattle.cs_rank.specs.Kept.{HasBest, IsFull, Takes, is_behind};
 
 use cs_base::{Memory, Scored};
 use std::alloc::Global;
@@ -32,7 +32,7 @@ impl Best {
 
     /// One more document.
     pub(crate) fn offer(&mut self, s: Scored) -> Result<(), Memory>
-        ensures ok { OnOk result ((seen : List Scored) → HasBest seen self.old.room self.old.kept.items self.old.worst → HasBest (seen ++ s ∷ []) self.new.room self.new.kept.items self.new.worst) }
+        ensures ok { OnOk result (Takes self.old s self.new) }
         ensures room { self.new.room ≡ self.old.room }
     {
         if self.is_beaten(&s) {

@@ -1,11 +1,9 @@
 //! The scores of documents.
-ghost use Rattle.std.specs.Prelude.{◌≡◌, ◌≤◌, ◌<◌, ◌^◌, ℕ, List, ◌∷◌, ◌++◌, map, length, IfOk, All, slice_index_or};
-ghost use Rattle.std.specs.List.Sorted.{IsStrictlySortedBy};
-ghost use Rattle.std.specs.Ordering.{nat_cmp, on};
-ghost use Rattle.cs_base.specs.Orders.{by_place, docs_of};
+ghost use Rattle.std.specs.Prelude.{◌≡◌, ◌≤◌, ◌<◌, ◌^◌, List, ◌∷◌, ◌++◌, map, length, IfOk, All, slice_index_or};
+ghost use Rattle.cs_base.specs.Orders.{docs_of, AreSorted, AreByDoc};
 ghost use Rattle.cs_base.specs.declared.doc.Scored.{Scored};
 ghost use Rattle.cs_base.specs.declared.doc.Base.TheVariants.{Listed};
-ghost use Rattle.cs_rank.specs.Groups.{group, groups, scored_row};
+ghost use Rattle.cs_rank.specs.Groups.{group};
 ghost use Rattle.cs_rank.specs.DocScores.{best_row, base_score, with_base, scores, IsBase, PassedBelow};
 
 use cs_base::{Base, Memory, Scored, Seq};
@@ -16,7 +14,7 @@ use std::alloc::Global;
 /// rows. A document that the base doesn't list counts there as 0.
 pub fn score(alloc: Global, base: &Base, rows: &Cols) -> Result<Seq<Scored>, Memory>
     requires base { IsBase base.now }
-    requires rows_sorted { IsStrictlySortedBy by_place rows.now.posts }
+    requires rows_sorted { AreSorted rows.now.posts }
 
     ensures ok { IfOk result (λ v. v ≡ scores base.now rows.now.posts) }
 {
@@ -32,7 +30,7 @@ pub fn score(alloc: Global, base: &Base, rows: &Cols) -> Result<Seq<Scored>, Mem
 
 // Each document with the greatest score of its rows.
 fn best_scores(alloc: Global, rows: &Cols) -> Result<Vec<Scored>, Memory>
-    requires { IsStrictlySortedBy by_place rows.now.posts }
+    requires { AreSorted rows.now.posts }
 
     ensures best { IfOk result (λ v. v.items ≡ map (best_row rows.now.posts) (docs_of rows.now.posts)) }
     ensures small { IfOk result (λ v. All (λ h. h.score ≤ 255) v.items) }
@@ -70,6 +68,7 @@ fn scored_at(docs: &[u32], scores: &[u8], i: usize) -> Scored
 // One more row: of the current document, or of the next, and then the current one is done.
 #[inline]
 fn absorb(best: &mut Vec<Scored>, current: Scored, next: Scored) -> Result<Scored, Memory>
+    // a row's score is at most the greatest u8
     requires current { current.score ≤ 255 }
     requires next { next.score ≤ 255 }
 
@@ -90,7 +89,7 @@ fn absorb(best: &mut Vec<Scored>, current: Scored, next: Scored) -> Result<Score
 // What the base gave is added to each document's score.
 fn add_base(alloc: Global, listed: &[Scored], best: &[Scored]) -> Result<Vec<Scored>, Memory>
     requires base { IsBase (Listed listed.now) }
-    requires best_sorted { IsStrictlySortedBy (on (λ h. h.doc) nat_cmp) best.now }
+    requires best_sorted { AreByDoc best.now }
     requires small { All (λ h. h.score ≤ 255) best.now }
 
     ensures { IfOk result (λ v. v.items ≡ map (with_base (Listed listed.now)) best.now) }

@@ -6,21 +6,23 @@
 --   in_range         a row's word has a mark
 --   seen_more        the marks after one more row
 --   each             a fact on each index as a fact on each entry
-use Rattle.std.proofs.Common.{◌≡◌, ◌≢◌, ℕ, zero, suc, ◌+◌, ◌-◌, ◌<◌, ◌≤◌, ◌^◌, true, false, List, [], ◌∷◌, ◌++◌, map, fold, length, take, get_or, set, ◌==◌, get_or-set_other, refl, sym, ◌∙◌, ap, ap₂, subst, arith, if◌then◌else◌}
+use Rattle.std.proofs.Common.{◌≡◌, ◌≢◌, ℕ, zero, suc, ◌+◌, ◌-◌, ◌<◌, ◌≤◌, true, false, List, [], ◌∷◌, ◌++◌, map, fold, length, take, get_or, set, ◌==◌, get_or-set_other, refl, sym, ◌∙◌, ap, ap₂, subst, arith, if◌then◌else◌}
 use Rattle.std.specs.List.{AllByRecursion}
-use Rattle.std.specs.List.Sorted.{IsStrictlySortedBy}
 use Rattle.std.specs.Ordering.{nat_cmp}
+use Rattle.std.proofs.lemmas.Bool.{eqb-true, eq-eqb, ne_eqb}
 use Rattle.std.proofs.lemmas.Bool.Decides.{nat_tests}
 use Rattle.std.proofs.lemmas.Grind.{get_or-set_at}
 use Rattle.std.proofs.lemmas.List.{length-map, take_more}
 use Rattle.std.proofs.lemmas.List.Kept.{IsStrictlySortedBy-filter}
 use Rattle.cs_base.specs.Members.{members_in}
-use Rattle.cs_base.specs.Orders.{by_place}
+use Rattle.cs_base.specs.Orders.{by_place, AreSorted}
 use Rattle.cs_base.specs.declared.doc.Post.{Post}
+use Rattle.cs_base.specs.declared.limits.TheConstants.{MAX_DOCS}
 use Rattle.cs_rank.proofs.Climbs.{Climbs, fresh, fresh-listed, docs_climb}
 use Rattle.cs_rank.proofs.GroupsLemmas.{nothing_listed}
 use Rattle.cs_rank.proofs.Places.{take_rises}
 use Rattle.cs_tables.specs.declared.counts.Mark.{Mark}
+use Rattle.cs_tables.specs.declared.counts.TheConstants.{NO_DOC}
 use Rattle.cs_tables.specs.Listings.{of_word, doc_count}
 use Rattle.cs_tables.specs.Marks.{saw, sees, marked}
 
@@ -32,9 +34,6 @@ fold_sees w m (p ∷ rows) =
       | true ↦ fold_sees w (saw m p.doc) rows
       | false ↦ fold_sees w m rows
     ]
-
-same_number : (x l : ℕ) → x == l ≡ true → x ≡ l
-same_number x l e = grind (arith, nat_tests)
 
 turned : (x l : ℕ) → (l == x) ≡ (x == l)
 turned x l = grind (arith, nat_tests)
@@ -59,36 +58,36 @@ fresh_few b l (d ∷ ds) up below =
     ] refl
 
 abbrev blank : Mark
-blank = record { docs = 0; last = 4294967295 }
+blank = record { docs = 0; last = NO_DOC }
 
-not_none : (d : ℕ) → d < 2 ^ 20 → d == 4294967295 ≡ false
+not_none : (d : ℕ) → d < MAX_DOCS → d == NO_DOC ≡ false
 not_none d lt = grind (arith, nat_tests)
 
-tally : (ds : List ℕ) → Climbs ds → AllByRecursion (λ d. d < 2 ^ 20) ds → (fold saw blank ds).docs ≡ length (members_in nat_cmp ds)
+tally : (ds : List ℕ) → Climbs ds → AllByRecursion (λ d. d < MAX_DOCS) ds → (fold saw blank ds).docs ≡ length (members_in nat_cmp ds)
 tally [] up below = ap length nothing_listed
 tally (d ∷ ds) up below =
-    fold_saw blank (d ∷ ds) ∙ ap (λ b. 0 + length (if b then fresh 4294967295 ds else d ∷ fresh d ds)) (not_none d below.0)
+    fold_saw blank (d ∷ ds) ∙ ap (λ b. 0 + length (if b then fresh NO_DOC ds else d ∷ fresh d ds)) (not_none d below.0)
     ∙ (let n : 0 + length (d ∷ fresh d ds) ≡ length (d ∷ fresh d ds) = omega arith in n) ∙ ap length (fresh-listed d ds up)
 
-few : (ds : List ℕ) → Climbs ds → AllByRecursion (λ d. d < 2 ^ 20) ds → length (members_in nat_cmp ds) ≤ 2 ^ 20
-few [] up below = subst (λ xs. length xs ≤ 2 ^ 20) nothing_listed (omega arith)
-few (d ∷ ds) up below = subst (λ xs. length xs ≤ 2 ^ 20) (fresh-listed d ds up) (let short = fresh_few (2 ^ 20) d ds up below in omega arith)
+few : (ds : List ℕ) → Climbs ds → AllByRecursion (λ d. d < MAX_DOCS) ds → length (members_in nat_cmp ds) ≤ MAX_DOCS
+few [] up below = subst (λ xs. length xs ≤ MAX_DOCS) nothing_listed (omega arith)
+few (d ∷ ds) up below = subst (λ xs. length xs ≤ MAX_DOCS) (fresh-listed d ds up) (let short = fresh_few MAX_DOCS d ds up below in omega arith)
 
-each_doc : (w : ℕ) (rows : List Post) → AllByRecursion (λ p. p.doc < 2 ^ 20) rows → AllByRecursion (λ d. d < 2 ^ 20) (map (λ p. p.doc) (of_word w rows))
+each_doc : (w : ℕ) (rows : List Post) → AllByRecursion (λ p. p.doc < MAX_DOCS) rows → AllByRecursion (λ d. d < MAX_DOCS) (map (λ p. p.doc) (of_word w rows))
 each_doc w [] h = tt
 each_doc w (p ∷ rows) h =
-    elim (p.word == w) as (λ b. AllByRecursion (λ d. d < 2 ^ 20) (map (λ p. p.doc) (if b then p ∷ of_word w rows else of_word w rows))) [
+    elim (p.word == w) as (λ b. AllByRecursion (λ d. d < MAX_DOCS) (map (λ p. p.doc) (if b then p ∷ of_word w rows else of_word w rows))) [
       | true ↦ (h.0, each_doc w rows h.1)
       | false ↦ each_doc w rows h.1
     ]
 
-climbs_of : (w : ℕ) (rows : List Post) → IsStrictlySortedBy by_place rows → Climbs (map (λ p. p.doc) (of_word w rows))
+climbs_of : (w : ℕ) (rows : List Post) → AreSorted rows → Climbs (map (λ p. p.doc) (of_word w rows))
 climbs_of w rows up = docs_climb (of_word w rows) (IsStrictlySortedBy-filter by_place (λ p. p.word == w) rows up)
 
-pub marked-is : (w : ℕ) (rows : List Post) → IsStrictlySortedBy by_place rows → AllByRecursion (λ p. p.doc < 2 ^ 20) rows → (marked w rows).docs ≡ doc_count (of_word w rows)
+pub marked-is : (w : ℕ) (rows : List Post) → AreSorted rows → AllByRecursion (λ p. p.doc < MAX_DOCS) rows → (marked w rows).docs ≡ doc_count (of_word w rows)
 marked-is w rows up below = ap (λ (m : Mark). m.docs) (fold_sees w blank rows) ∙ tally _ (climbs_of w rows up) (each_doc w rows below)
 
-pub docs_few : (w : ℕ) (rows : List Post) → IsStrictlySortedBy by_place rows → AllByRecursion (λ p. p.doc < 2 ^ 20) rows → doc_count (of_word w rows) ≤ 2 ^ 20
+pub docs_few : (w : ℕ) (rows : List Post) → AreSorted rows → AllByRecursion (λ p. p.doc < MAX_DOCS) rows → doc_count (of_word w rows) ≤ MAX_DOCS
 docs_few w rows up below = few _ (climbs_of w rows up) (each_doc w rows below)
 
 pub each : (P : Post → Type 0) (rows : List Post) → ((k : ℕ) (d : Post) → k < length rows → P (get_or rows k d)) → AllByRecursion P rows
@@ -101,10 +100,10 @@ all_take P (suc n) [] h = tt
 all_take P (suc n) (p ∷ rows) h = (h.0, all_take P n rows h.1)
 
 -- a mark has room for one more
-pub has_room : (w i : ℕ) (rows : List Post) (m : Mark) → IsStrictlySortedBy by_place rows → AllByRecursion (λ p. p.doc < 2 ^ 20) rows → m ≡ marked w (take i rows) → m.docs < 4294967295
+pub has_room : (w i : ℕ) (rows : List Post) (m : Mark) → AreSorted rows → AllByRecursion (λ p. p.doc < MAX_DOCS) rows → m ≡ marked w (take i rows) → m.docs < NO_DOC
 has_room w i rows m up below is =
     let up_i = take_rises by_place i rows up in
-    let below_i = all_take (λ p. p.doc < 2 ^ 20) i rows below in
+    let below_i = all_take (λ p. p.doc < MAX_DOCS) i rows below in
     let docs : m.docs ≡ doc_count (of_word w (take i rows)) = ap (λ (m : Mark). m.docs) is ∙ marked-is w (take i rows) up_i below_i in
     let least = docs_few w (take i rows) up_i below_i in
     omega arith
@@ -125,12 +124,6 @@ no_post = record { doc = 0; word = 0; pos = 0; score = 0 }
 marked_more : (w i : ℕ) (rows : List Post) → i < length rows → marked w (take (i + 1) rows) ≡ sees w (marked w (take i rows)) (get_or rows i no_post)
 marked_more w i rows lt = ap (fold (sees w) blank) (take_more rows i no_post lt) ∙ fold_push w blank (take i rows) (get_or rows i no_post)
 
-is_same : (x y : ℕ) → x ≡ y → x == y ≡ true
-is_same x y e = grind (arith, nat_tests)
-
-is_other : (x y : ℕ) → x ≢ y → x == y ≡ false
-is_other x y ne = grind (arith, nat_tests)
-
 -- a row's word is in the range
 pub in_range : (rows : List Post) (docs words : List ℕ) (i low many : ℕ) → docs ≡ map (λ p. p.doc) rows → words ≡ map (λ p. p.word) rows → ((k : ℕ) → k < length words → (low ≤ get_or words k 0) × (get_or words k 0 < low + many)) → i < length docs → get_or words i 0 - low < many
 in_range rows docs words i low many is_docs is_words within lt =
@@ -148,13 +141,13 @@ seen_more rows docs words i low many marks m now is_docs is_words range lt long 
     let j = get_or words i 0 - low in
     elim (j == k) as (λ b. j == k ≡ b → get_or (set marks j now) k d ≡ marked (low + k) (take (i + 1) rows)) [
       | true ↦ λ e.
-          let at : j ≡ k = same_number j k e in
+          let at : j ≡ k = eqb-true j k e in
           let there : p.word ≡ low + k = omega arith in
           get_or-set_at marks j k now d (sym at) (omega arith) ∙ saws ∙ ap₂ saw (is ∙ each_mark j m within ∙ ap (λ n. marked (low + n) (take i rows)) at) doc
-          ∙ sym (marked_more (low + k) i rows in_rows ∙ ap (λ b. if b then saw (marked (low + k) (take i rows)) p.doc else marked (low + k) (take i rows)) (is_same p.word (low + k) there))
+          ∙ sym (marked_more (low + k) i rows in_rows ∙ ap (λ b. if b then saw (marked (low + k) (take i rows)) p.doc else marked (low + k) (take i rows)) (eq-eqb p.word (low + k) there))
       | false ↦ λ e.
-          let apart : k ≢ j = (λ s. absurd (let t = is_same j k (sym s) in cc)) in
+          let apart : k ≢ j = (λ s. absurd (let t = eq-eqb j k (sym s) in cc)) in
           let elsewhere : p.word ≢ low + k = (λ s. apart (omega arith)) in
           get_or-set_other marks j k now d apart ∙ each_mark k d below
-          ∙ sym (marked_more (low + k) i rows in_rows ∙ ap (λ b. if b then saw (marked (low + k) (take i rows)) p.doc else marked (low + k) (take i rows)) (is_other p.word (low + k) elsewhere))
+          ∙ sym (marked_more (low + k) i rows in_rows ∙ ap (λ b. if b then saw (marked (low + k) (take i rows)) p.doc else marked (low + k) (take i rows)) (ne_eqb p.word (low + k) elsewhere))
     ] refl

@@ -10,17 +10,16 @@ use Rattle.std.specs.declared.cmp.Ordering.{Ordering}
 use Rattle.std.specs.declared.cmp.Ordering.TheVariants.{Less, Equal, Greater}
 use Rattle.std.specs.FinMap.{FinMap, IsAntisymmetric, len, entries, insert, from_entries, contains_key, len-insert, len-entries, contains_key-keys}
 use Rattle.std.specs.Cmp.{IsTotalOrder, nat_cmp_total, both_ways}
-use Rattle.std.proofs.lemmas.Cmp.{then_total, on_total, back_total}
+use Rattle.std.proofs.lemmas.Cmp.{then_total, on_total, back_total, tied_itself}
 use Rattle.std.proofs.lemmas.Map.Lookups.{exact_pairs, exact_unsigned}
-use Rattle.std.proofs.lemmas.Bool.Decides.{nat_tests}
+use Rattle.std.proofs.lemmas.Bool.{or_right}
 use Rattle.std.proofs.lemmas.List.{length-map}
 use Rattle.cs_base.specs.Members.{marked, members_in}
 use Rattle.cs_base.specs.Orders.{by_rank}
 use Rattle.cs_base.specs.declared.doc.Post.{Post}
 use Rattle.cs_base.specs.declared.doc.Scored.{Scored}
-use Rattle.cs_base.proofs.MembersLemmas.{members_are, is_member-listed}
+use Rattle.cs_base.proofs.MembersLemmas.{members_are, is_member-listed, listing-rises, none_listed}
 use Rattle.cs_base.proofs.OrdersLemmas.{by_rank_total, by_rank_exact}
-use Rattle.cs_rank.proofs.Places.{rises}
 use Rattle.cs_tables.specs.declared.tables.Completion.{Completion}
 use Rattle.cs_tables.specs.Listings.{by_docs, table, completion, completion_of}
 use Rattle.cs_tables.proofs.WordsLemmas.{eq_is}
@@ -54,28 +53,21 @@ any_as : (q : Completion) (hs : List Scored) → list_any (eq_by_cmp by_docs q) 
 any_as q [] = refl
 any_as q (h ∷ hs) = ap (λ b. eq_by_cmp by_rank (scored_of q) h || b) (any_as q hs)
 
-eq_itself : (x : ℕ) → eq_by_cmp nat_cmp x x ≡ true
-eq_itself x = grind (arith, nat_tests)
-
-or_second : (a b : Bool) → b ≡ true → (a || b) ≡ true
-or_second true b e = refl
-or_second false b e = e
-
 -- a test that one member passes
 any_at : (t : ℕ → Bool) (x : ℕ) (ys : List ℕ) → t x ≡ true → list_any (eq_by_cmp nat_cmp x) ys ≡ true → list_any t ys ≡ true
 any_at t x [] e h = absurd (true≢false (sym h))
 any_at t x (y ∷ ys) e h =
     elim (eq_by_cmp nat_cmp x y) as (λ s. eq_by_cmp nat_cmp x y ≡ s → (s || list_any (eq_by_cmp nat_cmp x) ys) ≡ true → (t y || list_any t ys) ≡ true) [
       | true ↦ λ s _. ap (λ z. t z || list_any t ys) (sym (eq_is x y s)) ∙ ap (λ b. b || list_any t ys) e
-      | false ↦ λ s r. or_second (t y) _ (any_at t x ys e r)
+      | false ↦ λ s r. or_right (t y) _ (any_at t x ys e r)
     ] refl h
 
 any_through : (t : ℕ → Bool) (xs ys : List ℕ) → ((q : ℕ) → list_any (eq_by_cmp nat_cmp q) xs ≡ true → list_any (eq_by_cmp nat_cmp q) ys ≡ true) → list_any t xs ≡ true → list_any t ys ≡ true
 any_through t [] ys h e = absurd (true≢false (sym e))
 any_through t (x ∷ xs) ys h e =
     elim (t x) as (λ s. t x ≡ s → (s || list_any t xs) ≡ true → list_any t ys ≡ true) [
-      | true ↦ λ s _. any_at t x ys s (h x (ap (λ b. b || list_any (eq_by_cmp nat_cmp x) xs) (eq_itself x)))
-      | false ↦ λ s r. any_through t xs ys (λ q m. h q (or_second (eq_by_cmp nat_cmp q x) _ m)) r
+      | true ↦ λ s _. any_at t x ys s (h x (ap (λ b. b || list_any (eq_by_cmp nat_cmp x) xs) ((ap is_eq (tied_itself nat_cmp_total x)))))
+      | false ↦ λ s r. any_through t xs ys (λ q m. h q (or_right (eq_by_cmp nat_cmp q x) _ m)) r
     ] refl e
 
 -- a test holds of a member of the listing where it holds of one of the list
@@ -96,7 +88,7 @@ any_rows all q (p ∷ rows) = ap (λ b. eq_by_cmp by_docs q (completion_of all p
 pub table-is : (rows : List Post) → map completion (members_in by_rank (counted rows)) ≡ table rows
 table-is rows =
     members_are by_docs by_docs_total by_docs_exact (map completion (members_in by_rank (counted rows))) (map (λ p. completion_of rows p.word) rows)
-    (rise_as _ (rises by_rank (counted rows)))
+    (rise_as _ (listing-rises by_rank (counted rows)))
     (λ q. any_as q (members_in by_rank (counted rows))
     ∙ is_member-listed by_rank by_rank_total (counted rows) (scored_of q)
     ∙ any_map (eq_by_cmp by_rank (scored_of q)) (counted_word rows) (words_of rows)
@@ -116,16 +108,9 @@ not_among rows w (y ∷ ws) up =
     let apart : eq_by_cmp by_rank (counted_word rows w) (counted_word rows y) ≡ false = ap (λ r. is_eq (ordering_then o r)) up.0 ∙ never o in
     ap (λ b. b || list_any (eq_by_cmp by_rank (counted_word rows w)) (map (counted_word rows) ws)) apart ∙ not_among rows w ws up.1
 
-none_rise : IsStrictlySortedBy by_rank []
-unfolding IsStrictlySortedBy
-none_rise = tt
-
-none_ranked : [] ≡ members_in by_rank []
-none_ranked = members_are by_rank by_rank_total by_rank_exact [] [] none_rise (λ q. refl)
-
 ranked_long : (rows : List Post) (ws : List ℕ) → IsStrictlySortedBy nat_cmp ws → length (members_in by_rank (map (counted_word rows) ws)) ≡ length ws
 unfolding IsStrictlySortedBy
-ranked_long rows [] up = ap length (sym none_ranked)
+ranked_long rows [] up = ap length (sym (none_listed by_rank by_rank_total by_rank_exact))
 ranked_long rows (w ∷ ws) up =
     let m : FinMap by_rank (Unit {0}) = from_entries (map marked (map (counted_word rows) ws)) in
     let s = counted_word rows w in
@@ -136,5 +121,5 @@ ranked_long rows (w ∷ ws) up =
 
 pub table_total : (rows : List Post) → length (counted rows) ≡ length (table rows)
 table_total rows =
-    length-map (words_of rows) (counted_word rows) ∙ sym (ranked_long rows (words_of rows) (rises nat_cmp (map (λ p. p.word) rows)))
+    length-map (words_of rows) (counted_word rows) ∙ sym (ranked_long rows (words_of rows) (listing-rises nat_cmp (map (λ p. p.word) rows)))
     ∙ sym (length-map (members_in by_rank (counted rows)) completion) ∙ ap length (table-is rows)

@@ -2,20 +2,23 @@
 --
 --   counts-are     the lemma itself
 --   words_within   the words that a range holds
-use Rattle.std.proofs.Common.{◌≡◌, ℕ, zero, suc, ◌+◌, ◌<◌, ◌≤◌, ◌^◌, Bool, true, false, ◌||◌, List, [], ◌∷◌, ◌++◌, map, length, take, take_all, get_or, ◌==◌, nat_lt, refl, sym, ◌∙◌, ap, subst, arith, true≢false, if◌then◌else◌}
+use Rattle.std.proofs.Common.{◌≡◌, ℕ, zero, suc, ◌+◌, ◌<◌, ◌≤◌, Bool, true, false, ◌||◌, List, [], ◌∷◌, ◌++◌, map, length, take, take_all, get_or, ◌==◌, nat_lt, refl, sym, ◌∙◌, ap, subst, arith, true≢false, if◌then◌else◌}
 use Rattle.std.specs.List.{AllByRecursion, list_any}
 use Rattle.std.specs.List.Sorted.{IsStrictlySortedBy}
 use Rattle.std.specs.Ordering.{nat_cmp, eq_by_cmp}
 use Rattle.std.specs.declared.cmp.Ordering.TheVariants.{Less}
 use Rattle.std.specs.FinMap.{nat_cmp-IsAntisymmetric}
-use Rattle.std.specs.Cmp.{nat_cmp_total, both_ways}
+use Rattle.std.specs.Cmp.{nat_cmp_total, both_ways, unsigned_ties}
+use Rattle.std.proofs.lemmas.Bool.{eqb-true, eq-eqb, or_left, or_right}
 use Rattle.std.proofs.lemmas.Bool.Decides.{nat_tests}
 use Rattle.std.proofs.lemmas.List.{length-map}
 use Rattle.cs_base.specs.Members.{members_in}
-use Rattle.cs_base.specs.Orders.{by_place}
+use Rattle.cs_base.specs.Orders.{AreSorted}
 use Rattle.cs_base.specs.declared.doc.Post.{Post}
 use Rattle.cs_base.specs.declared.doc.Scored.{Scored}
-use Rattle.cs_base.proofs.MembersLemmas.{members_are, is_member-listed}
+use Rattle.cs_base.proofs.MembersLemmas.{members_are, is_member-listed, all_then}
+use Rattle.cs_base.proofs.OrdersLemmas.{Less-from_lt}
+use Rattle.cs_base.specs.declared.limits.TheConstants.{MAX_DOCS}
 use Rattle.cs_rank.proofs.GroupsLemmas.{nothing_listed}
 use Rattle.cs_tables.specs.declared.counts.Mark.{Mark}
 use Rattle.cs_tables.specs.Listings.{of_word, doc_count}
@@ -50,12 +53,8 @@ numbers_from count a lo (suc n) le =
       | false ↦ rest
     ]
 
-less_of : (l y : ℕ) → l + 1 ≤ y → nat_cmp l y ≡ Less
-less_of l y le = (let lt : l < y = omega arith in grind (arith, nat_tests))
-
 all_less : (l : ℕ) (ys : List ℕ) → AllByRecursion (λ y. l + 1 ≤ y) ys → AllByRecursion (λ y. nat_cmp l y ≡ Less) ys
-all_less l [] h = tt
-all_less l (y ∷ ys) h = (less_of l y h.0, all_less l ys h.1)
+all_less l ys h = all_then (λ y. l + 1 ≤ y) (λ y. nat_cmp l y ≡ Less) (λ y le. Less-from_lt l y (omega arith)) ys h
 
 numbers_rise : (count : ℕ → ℕ) (lo n : ℕ) → IsStrictlySortedBy nat_cmp (numbers count lo n)
 unfolding IsStrictlySortedBy
@@ -67,13 +66,10 @@ numbers_rise count lo (suc n) =
     ]
 
 pub eq_is : (q x : ℕ) → eq_by_cmp nat_cmp q x ≡ true → q ≡ x
-eq_is q x e = grind (arith, nat_tests)
+eq_is q x e = eqb-true q x (unsigned_ties q x ∙ e)
 
 eq_of : (q x : ℕ) → q ≡ x → eq_by_cmp nat_cmp q x ≡ true
-eq_of q x e = grind (arith, nat_tests)
-
-same_number : (x l : ℕ) → x == l ≡ true → x ≡ l
-same_number x l e = grind (arith, nat_tests)
+eq_of q x e = sym (unsigned_ties q x) ∙ eq-eqb q x e
 
 later : (lo q : ℕ) → lo ≤ q → lo == q ≡ false → lo + 1 ≤ q
 later lo q le e = (let lt : lo < q = grind (arith, nat_tests) in omega arith)
@@ -90,26 +86,19 @@ numbers_only count q lo (suc n) e =
       | false ↦ λ t h. numbers_only count q (lo + 1) n h
     ] refl e
 
-or_first : (a b : Bool) → a ≡ true → (a || b) ≡ true
-or_first a b e = ap (λ t. t || b) e
-
-or_second : (a b : Bool) → b ≡ true → (a || b) ≡ true
-or_second true b e = refl
-or_second false b e = e
-
 -- a number in the range that counts something is there
 numbers_have : (count : ℕ → ℕ) (q lo n : ℕ) → lo ≤ q → q < lo + n → nat_lt 0 (count q) ≡ true → list_any (eq_by_cmp nat_cmp q) (numbers count lo n) ≡ true
 numbers_have count q lo zero le lt some = absurd (omega arith)
 numbers_have count q lo (suc n) le lt some =
     elim (lo == q) as (λ s. lo == q ≡ s → list_any (eq_by_cmp nat_cmp q) (numbers count lo (suc n)) ≡ true) [
       | true ↦ λ e.
-          let at : lo ≡ q = same_number lo q e in
+          let at : lo ≡ q = eqb-true lo q e in
           ap (λ b. list_any (eq_by_cmp nat_cmp q) (if b then lo ∷ numbers count (lo + 1) n else numbers count (lo + 1) n)) (ap (λ x. nat_lt 0 (count x)) at ∙ some)
-          ∙ or_first (eq_by_cmp nat_cmp q lo) _ (eq_of q lo (sym at))
+          ∙ or_left (eq_by_cmp nat_cmp q lo) _ (eq_of q lo (sym at))
       | false ↦ λ e.
           let there = numbers_have count q (lo + 1) n (later lo q le e) (omega arith) some in
           elim (nat_lt 0 (count lo)) as (λ b. list_any (eq_by_cmp nat_cmp q) (if b then lo ∷ numbers count (lo + 1) n else numbers count (lo + 1) n) ≡ true) [
-            | true ↦ or_second (eq_by_cmp nat_cmp q lo) _ there
+            | true ↦ or_right (eq_by_cmp nat_cmp q lo) _ there
             | false ↦ there
           ]
     ] refl
@@ -121,15 +110,12 @@ nonempty t (x ∷ xs) e = (let lt : 0 < suc (length xs) = omega arith in grind (
 counted_some : (rows : List Post) → nat_lt 0 (doc_count rows) ≡ nat_lt 0 (length rows)
 counted_some [] = ap (λ l. nat_lt 0 (length l)) (sym nothing_listed)
 counted_some (p ∷ rows) =
-    let there = is_member-listed nat_cmp nat_cmp_total (map (λ p. p.doc) (p ∷ rows)) p.doc ∙ or_first (eq_by_cmp nat_cmp p.doc p.doc) _ (eq_of p.doc p.doc refl) in
+    let there = is_member-listed nat_cmp nat_cmp_total (map (λ p. p.doc) (p ∷ rows)) p.doc ∙ or_left (eq_by_cmp nat_cmp p.doc p.doc) _ (eq_of p.doc p.doc refl) in
     nonempty (eq_by_cmp nat_cmp p.doc) (members_in nat_cmp (map (λ p. p.doc) (p ∷ rows))) there
     ∙ sym (let lt : 0 < suc (length rows) = omega arith in let t : nat_lt 0 (suc (length rows)) ≡ true = grind (arith, nat_tests) in t)
 
-is_same : (x q : ℕ) → x ≡ q → x == q ≡ true
-is_same x q e = grind (arith, nat_tests)
-
 turned : (q x : ℕ) → eq_by_cmp nat_cmp q x ≡ (x == q)
-turned q x = both_ways _ _ (λ e. let s = eq_is q x e in is_same x q (sym s)) (λ e. eq_of q x (sym (same_number x q e)))
+turned q x = both_ways _ _ (λ e. let s = eq_is q x e in eq-eqb x q (sym s)) (λ e. eq_of q x (sym (eqb-true x q e)))
 
 some_word : (q : ℕ) (rows : List Post) → nat_lt 0 (length (of_word q rows)) ≡ list_any (eq_by_cmp nat_cmp q) (map (λ p. p.word) rows)
 some_word q [] = refl
@@ -162,7 +148,7 @@ numbers-are rows lo n within =
     (λ e. sym (positive q rows) ∙ numbers_only (count_in rows) q lo n e)
     (λ e. let r = ranged lo n (map (λ p. p.word) rows) q within e in numbers_have (count_in rows) q lo n r.0 r.1 (positive q rows ∙ e)))
 
-pub counts-are : (rows : List Post) (lo n i : ℕ) (marks : List Mark) → IsStrictlySortedBy by_place rows → AllByRecursion (λ p. p.doc < 2 ^ 20) rows → length marks ≡ n → length (map (λ p. p.doc) rows) ≤ i → ((k : ℕ) (d : Mark) → k < n → get_or marks k d ≡ marked (lo + k) (take i rows)) → ((k : ℕ) → k < length (map (λ p. p.word) rows) → (lo ≤ get_or (map (λ p. p.word) rows) k 0) × (get_or (map (λ p. p.word) rows) k 0 < lo + n)) → collected lo marks ≡ map (counted_word rows) (words_of rows)
+pub counts-are : (rows : List Post) (lo n i : ℕ) (marks : List Mark) → AreSorted rows → AllByRecursion (λ p. p.doc < MAX_DOCS) rows → length marks ≡ n → length (map (λ p. p.doc) rows) ≤ i → ((k : ℕ) (d : Mark) → k < n → get_or marks k d ≡ marked (lo + k) (take i rows)) → ((k : ℕ) → k < length (map (λ p. p.word) rows) → (lo ≤ get_or (map (λ p. p.word) rows) k 0) × (get_or (map (λ p. p.word) rows) k 0 < lo + n)) → collected lo marks ≡ map (counted_word rows) (words_of rows)
 counts-are rows lo n i marks up below long all each_mark within =
     let whole : take i rows ≡ rows = take_all i rows (omega (arith, length-map rows (λ (p : Post). p.doc))) in
     collected-is (count_in rows) lo marks (λ k d lt. ap (λ (m : Mark). m.docs) (each_mark k d (omega arith) ∙ ap (marked (lo + k)) whole) ∙ marked-is (lo + k) rows up below)

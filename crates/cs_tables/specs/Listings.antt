@@ -10,6 +10,7 @@ use Rattle.std.specs.Prelude.{ℕ, List, map, length, filter, ◌==◌}
 use Rattle.std.specs.declared.cmp.Ordering.{Ordering}
 use Rattle.std.specs.Ordering.{nat_cmp, then_cmp, on, flip_args}
 use Rattle.cs_base.specs.Members.{members_in}
+use Rattle.cs_base.specs.Orders.{docs_of}
 use Rattle.cs_base.specs.declared.doc.Post.{Post}
 use Rattle.cs_base.specs.declared.doc.Scored.{Scored}
 use Rattle.cs_tables.specs.declared.tables.Completion.{Completion}
@@ -20,7 +21,7 @@ of_word w rows = filter (λ p. p.word == w) rows
 
 -- how many documents the rows have: 0 where there is no row
 abbrev pub doc_count : List Post → ℕ
-doc_count rows = length (members_in nat_cmp (map (λ p. p.doc) rows))
+doc_count rows = length (docs_of rows)
 
 -- a word with the number of documents that have it in the rows
 abbrev pub completion_of : List Post → ℕ → Completion

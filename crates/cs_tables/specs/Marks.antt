@@ -13,6 +13,7 @@ use Rattle.cs_base.specs.declared.doc.Post.{Post}
 use Rattle.cs_base.specs.declared.doc.Scored.{Scored}
 use Rattle.cs_tables.specs.Listings.{doc_count, of_word}
 use Rattle.cs_tables.specs.declared.counts.Mark.{Mark}
+use Rattle.cs_tables.specs.declared.counts.TheConstants.{NO_DOC}
 
 -- the words of the rows by their numbers, each once; of no rows there is none
 abbrev pub words_of : List Post → List ℕ
@@ -32,7 +33,7 @@ sees w m p = if p.word == w then saw m p.doc else m
 
 -- the mark of word w; before any row there is no document
 abbrev pub marked : ℕ → List Post → Mark
-marked w rows = fold (sees w) (record { docs = 0; last = 4294967295 }) rows
+marked w rows = fold (sees w) (record { docs = 0; last = NO_DOC }) rows
 
 -- a word with its number of documents, where there is one
 abbrev pub kept : ℕ → ℕ → List Scored

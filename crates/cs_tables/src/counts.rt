@@ -2,8 +2,8 @@
 //!
 //! A counted word is a `Scored`: its number stands for the document and the number of documents for the score.
 ghost use Rattle.std.specs.Prelude.{◌≡◌, ◌<◌, ◌≤◌, ◌^◌, ◌+◌, ◌++◌, ◌-◌, map, IfOk, OnOk, All, length, slice_index, EachIndex};
-ghost use Rattle.std.specs.List.Sorted.{IsStrictlySortedBy};
-ghost use Rattle.cs_base.specs.Orders.{by_place};
+ghost use Rattle.cs_base.specs.Orders.{AreSorted};
+ghost use Rattle.cs_base.specs.declared.limits.TheConstants.{MAX_DOCS, MAX_WORDS};
 ghost use Rattle.cs_tables.specs.Marks.{saw, kept, collected, counted_word, words_of};
 
 use cs_base::{MAX_WORDS, Memory, Scored};
@@ -38,12 +38,12 @@ impl Mark {
 
 /// Each word of the rows with its number of documents, by the word's number.
 pub(crate) fn counts(alloc: Global, rows: &Cols) -> Result<Vec<Scored>, Memory>
-    requires sorted { IsStrictlySortedBy by_place rows.now.posts }
-    requires docs { All (λ p. p.doc < 2 ^ 20) rows.now.posts }
-    requires words { All (λ p. p.word < 2 ^ 22) rows.now.posts }
+    requires sorted { AreSorted rows.now.posts }
+    requires docs { All (λ p. p.doc < MAX_DOCS) rows.now.posts }
+    requires words { All (λ p. p.word < MAX_WORDS) rows.now.posts }
 
     ensures ok { IfOk result (λ v. v.items ≡ map (counted_word rows.now.posts) (words_of rows.now.posts)) }
-    ensures few { IfOk result (λ v. length v.items ≤ 2 ^ 22) }
+    ensures few { IfOk result (λ v. length v.items ≤ MAX_WORDS) }
 {
     let docs = rows.docs();
     let words = rows.words();
@@ -63,10 +63,10 @@ pub(crate) fn counts(alloc: Global, rows: &Cols) -> Result<Vec<Scored>, Memory>
 
 // The least number that occurs, and how many there are from it up to the greatest.
 fn word_range(words: &[u32]) -> (u32, usize)
-    requires { All (λ w. w < 2 ^ 22) words.now }
+    requires { All (λ w. w < MAX_WORDS) words.now }
 
     ensures within { EachIndex words.now (λ k. (result.0 ≤ slice_index words.now k) × (slice_index words.now k < result.0 + result.1)) }
-    ensures few { result.0 + result.1 ≤ 2 ^ 22 }
+    ensures few { result.0 + result.1 ≤ MAX_WORDS }
 {
     let mut low = MAX_WORDS as u32;
     let mut end = 0;
@@ -79,7 +79,7 @@ fn word_range(words: &[u32]) -> (u32, usize)
 
 // The words that have a document, with their numbers from `low` on.
 fn collect(alloc: Global, low: u32, marks: &[Mark]) -> Result<Vec<Scored>, Memory>
-    requires { low + length marks.now ≤ 2 ^ 22 }
+    requires { low + length marks.now ≤ MAX_WORDS }
 
     ensures ok { IfOk result (λ v. v.items ≡ collected low marks.now) }
     ensures few { IfOk result (λ v. length v.items ≤ length marks.now) }

@@ -1,7 +1,7 @@
 //! Tables and the call that makes one.
-ghost use Rattle.std.specs.Prelude.{◌≡◌, ◌<◌, ◌^◌, IfOk, All, length, take, map};
-ghost use Rattle.std.specs.List.Sorted.{IsStrictlySortedBy};
-ghost use Rattle.cs_base.specs.Orders.{by_place};
+ghost use Rattle.std.specs.Prelude.{◌≡◌, ◌<◌, IfOk, All, length, take, map};
+ghost use Rattle.cs_base.specs.Orders.{AreSorted};
+ghost use Rattle.cs_base.specs.declared.limits.TheConstants.{MAX_DOCS, MAX_WORDS};
 ghost use Rattle.cs_tables.specs.Listings.{table, completion};
 
 use crate::counts::counts;
@@ -33,9 +33,9 @@ pub struct Table {
 ///
 /// The time is linear in the rows and in the range of word numbers that occurs.
 pub fn completions(alloc: Global, rows: &Cols, cut: u32) -> Result<Table, Memory>
-    requires sorted { IsStrictlySortedBy by_place rows.now.posts }
-    requires docs { All (λ p. p.doc < 2 ^ 20) rows.now.posts }
-    requires words { All (λ p. p.word < 2 ^ 22) rows.now.posts }
+    requires sorted { AreSorted rows.now.posts }
+    requires docs { All (λ p. p.doc < MAX_DOCS) rows.now.posts }
+    requires words { All (λ p. p.word < MAX_WORDS) rows.now.posts }
 
     ensures total { IfOk result (λ t. t.total ≡ length (table rows.now.posts)) }
     ensures first { IfOk result (λ t. t.first ≡ take cut (table rows.now.posts)) }

@@ -3,6 +3,7 @@ use Rattle.std.specs.Prelude.{max}
 use Rattle.std.specs.List.{list_any}
 use Rattle.std.proofs.lemmas.List.Kept.{IsStrictlySortedBy-filter}
 use Rattle.cs_base.specs.Orders.{by_place}
+use Rattle.cs_base.specs.declared.limits.TheConstants.{MAX_DISTANCE}
 use Rattle.cs_meet.specs.Filters.{is_near}
 use Rattle.cs_meet.specs.Places.{Splits}
 use Rattle.cs_meet.proofs.Passes.{filter_more, filter_skip, filter_all, ahead_more, ahead_on, rises_window, rises_past}
@@ -13,9 +14,9 @@ next_near-j-requires-clause-ahead c =
     let a = c.args.a.now.posts in
     let b = c.args.b.now.posts in
     let row = c.get-row.result in
-    let first : c.max.result ≡ max (row.pos - 8) 1 = omega arith in
+    let first : c.max.result ≡ max (row.pos - MAX_DISTANCE) 1 = omega arith in
     let window = subst (λ p. Splits a c.skip_to-lo.result row.doc p) first c.skip_to-lo.ensures.splits in
-    ahead_more by_place (λ r. r.doc) (λ r. max (r.pos - 8) 1) rises_window a b c.skip_to-lo.result c.loop-j.j row c.requires.b_sorted (omega arith) c.get-row.ensures window
+    ahead_more by_place (λ r. r.doc) (λ r. max (r.pos - MAX_DISTANCE) 1) rises_window a b c.skip_to-lo.result c.loop-j.j row c.requires.b_sorted (omega arith) c.get-row.ensures window
 
 pub loop-j-preserved : goal.loop-j-preserved
 loop-j-preserved c =
@@ -23,7 +24,7 @@ loop-j-preserved c =
     let b = c.args.b.now.posts in
     let row = c.get-row.result in
     let j = c.loop-j.j in
-    let first : c.max.result ≡ max (row.pos - 8) 1 = omega arith in
+    let first : c.max.result ≡ max (row.pos - MAX_DISTANCE) 1 = omega arith in
     let behind : c.from-pos.result + 1 ≡ row.pos + 1 = omega arith in
     let window = subst (λ p. Splits a c.skip_to-lo.result row.doc p) first c.skip_to-lo.ensures.splits in
     let past = subst (λ p. Splits a c.skip_to-hi.result row.doc p) behind c.skip_to-hi.ensures.splits in
@@ -32,8 +33,8 @@ loop-j-preserved c =
     record {
       told = rw c.add_where.ensures.posts
           (filter_skip (λ r. list_any (is_near r) a) _ _ b (j + 1) c.next_near-j.result more next.onward next.within next.none);
-      first = ahead_on by_place (λ r. r.doc) (λ r. max (r.pos - 8) 1) rises_window a b c.skip_to-lo.result (j + 1) c.next_near-j.result next.onward
-          (ahead_more by_place (λ r. r.doc) (λ r. max (r.pos - 8) 1) rises_window a b c.skip_to-lo.result j row c.requires.b_sorted (omega arith) c.get-row.ensures window);
+      first = ahead_on by_place (λ r. r.doc) (λ r. max (r.pos - MAX_DISTANCE) 1) rises_window a b c.skip_to-lo.result (j + 1) c.next_near-j.result next.onward
+          (ahead_more by_place (λ r. r.doc) (λ r. max (r.pos - MAX_DISTANCE) 1) rises_window a b c.skip_to-lo.result j row c.requires.b_sorted (omega arith) c.get-row.ensures window);
       behind = ahead_on by_place (λ r. r.doc) (λ r. r.pos + 1) rises_past a b c.skip_to-hi.result (j + 1) c.next_near-j.result next.onward
           (ahead_more by_place (λ r. r.doc) (λ r. r.pos + 1) rises_past a b c.skip_to-hi.result j row c.requires.b_sorted (omega arith) c.get-row.ensures past);
       room = omega arith;

@@ -6,8 +6,7 @@ use Rattle.std.proofs.lemmas.List.{get_or_default}
 use Rattle.std.proofs.lemmas.Map.Keys.{sorted_from_all_adjacent}
 use Rattle.cs_base.specs.declared.doc.Post.{Post}
 use Rattle.cs_base.specs.Orders.{by_place}
-use Rattle.cs_base.proofs.OrdersLemmas.{by_place_total}
-use Rattle.cs_base.proofs.OrdersLemmas.{less-from_test}
+use Rattle.cs_base.proofs.OrdersLemmas.{by_place_total, less-from_test}
 use Rattle.cs_meet.proofs.tests.rises.Goals as goal
 
 abbrev blank : Post
@@ -19,8 +18,8 @@ loop-j-preserved c k e h =
     let j = c.loop-j.j in
     let x = c.get.result in
     let y = c.get-in-loop-j.result in
-    let test : c.precedes.result ≡ true = grind arith in
-    let less : by_place x y ≡ Less = less-from_test x y (sym c.precedes.ensures ∙ test) in
+    let test : c.is_before.result ≡ true = grind arith in
+    let less : by_place x y ≡ Less = less-from_test x y (sym c.is_before.ensures ∙ test) in
     elim (nat_lt (k + 1) j) as (λ t. nat_lt (k + 1) j ≡ t → by_place (get_or posts k e) (get_or posts (k + 1) e) ≡ Less) [
       | true ↦ λ t. c.loop-j.invariant k e (grind (arith, nat_tests))
       | false ↦ λ t.

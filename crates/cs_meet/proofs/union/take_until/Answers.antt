@@ -16,12 +16,12 @@ loop-at-preserved c =
     let is = c.get-in-loop-at.ensures in
     let within : at < length a = omega arith in
     let tested : c.get.result ≡ x = c.get.ensures ∙ get_or_default a at c.get.result x within ∙ sym is in
-    let first : by_place x row ≡ Less = subst (λ y. by_place y row ≡ Less) tested (less-from_test c.get.result row (sym c.precedes.ensures ∙ c.if-precedes.true)) in
+    let first : by_place x row ≡ Less = subst (λ y. by_place y row ≡ Less) tested (less-from_test c.get.result row (sym c.is_before.ensures ∙ c.if-is_before.true)) in
     record {
       within = omega arith;
       less = less_more a found at within x is row c.loop-at.invariant.less first;
       moved = rw c.push_reserved.ensures.posts (moves_over a found at within x is ∙ c.loop-at.invariant.moved);
       order = λ rest over up. rw c.push_reserved.ensures.posts
-          (order_more a found at within x is row rest first (subst AreSorted (sym c.loop-at.invariant.moved) over) (c.loop-at.invariant.order rest over up));
+          (order_more a found at within x is row first rest (subst AreSorted (sym c.loop-at.invariant.moved) over) (c.loop-at.invariant.order rest over up));
       room = omega arith;
     }

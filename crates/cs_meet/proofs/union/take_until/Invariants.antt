@@ -1,7 +1,5 @@
-use Rattle.std.proofs.Common.{◌≡◌, ◌+◌, ◌-◌, ◌≤◌, ◌∷◌, ◌++◌, List, length, drop}
-use Rattle.cs_base.specs.declared.doc.Post.{Post}
-use Rattle.cs_base.specs.Orders.{AreSorted}
-use Rattle.cs_meet.specs.Places.{AllLess}
+use Rattle.std.proofs.Common.{◌≡◌, ◌+◌, ◌-◌, ◌≤◌, ◌++◌, length, drop}
+use Rattle.cs_meet.specs.Places.{AllLess, KeepsOrder}
 use Rattle.cs_meet.proofs.union.take_until.Given as goal
 
 abbrev pub invariant-loop-at : goal.invariant-loop-at
@@ -9,7 +7,7 @@ invariant-loop-at l = record {
   within : l.at ≤ length l.posts.posts;
   less : AllLess l.posts.posts l.at l.row;
   moved : l.found.posts ++ drop l.at l.posts.posts ≡ l.initial.found.posts ++ drop l.from l.posts.posts;
-  order : (rest : List Post) → AreSorted (l.initial.found.posts ++ drop l.from l.posts.posts) → AreSorted (l.initial.found.posts ++ l.row ∷ rest) → AreSorted (l.found.posts ++ l.row ∷ rest);
+  order : KeepsOrder l.initial.found.posts (drop l.from l.posts.posts) l.found.posts l.row;
   room : l.initial.found.room + l.from ≤ l.found.room + l.at;
 }
 

@@ -11,7 +11,7 @@ loop-j-preserved c =
     record {
       joins = rw c.add_where.ensures.posts
           (joins_more a b c.loop-j.j (omega arith) row c.get-row.ensures c.loop-j.found.posts c.take_until-i.new.found.posts c.loop-j.i c.take_until-i.result
-          c.loop-j.invariant.joins taken.moved taken.order taken.parts c.requires.a_sorted c.has_place.result c.has_place.ensures);
-      less = less_on a b c.loop-j.j (omega arith) row c.get-row.ensures c.take_until-i.result c.requires.b_sorted taken.parts;
+          c.loop-j.invariant.joins taken.moved taken.order taken.splits c.requires.a_sorted c.has_place.result c.has_place.ensures);
+      less = less_on a b c.loop-j.j (omega arith) row c.get-row.ensures c.take_until-i.result c.requires.b_sorted taken.splits;
       room = omega arith;
     }

@@ -1,16 +1,13 @@
 use Rattle.std.proofs.Common.{◌∙◌, ap, sym, subst, map}
-use Rattle.std.specs.List.Sorted.{IsStrictlySortedBy}
-use Rattle.std.specs.Ordering.{nat_cmp, on}
-use Rattle.cs_base.specs.declared.doc.Scored.{Scored}
 use Rattle.cs_base.specs.declared.doc.Base.TheVariants.{Listed}
 use Rattle.cs_rank.specs.DocScores.{with_base, scores}
-use Rattle.cs_base.specs.Orders.{docs_of}
+use Rattle.cs_base.specs.Orders.{docs_of, AreByDoc}
 use Rattle.cs_rank.proofs.GroupsLemmas.{best_rise, base_each}
 use Rattle.cs_rank.proofs.scores.score.Goals as goal
 
 pub add_base-requires-clause-best_sorted : goal.add_base-requires-clause-best_sorted
 add_base-requires-clause-best_sorted c =
-    subst (IsStrictlySortedBy (on (λ (h : Scored). h.doc) nat_cmp)) (sym (c.as_slice-in-Listed.ensures.value ∙ c.in_ok-best.ensures.best)) (best_rise c.args.rows.now.posts)
+    subst (AreByDoc) (sym (c.as_slice-in-Listed.ensures.value ∙ c.in_ok-best.ensures.best)) (best_rise c.args.rows.now.posts)
 
 pub returns-in_ok-scored-in-Listed : goal.returns-in_ok-scored-in-Listed
 returns-in_ok-scored-in-Listed c = record {

@@ -1,6 +1,6 @@
 use Rattle.std.proofs.Common.{sym, subst}
 use Rattle.std.specs.List.Sorted.{IsStrictlySortedBy}
-use Rattle.cs_base.specs.Orders.{by_place}
+use Rattle.cs_base.specs.Orders.{AreSorted}
 use Rattle.cs_base.specs.declared.doc.Base.TheVariants.{Listed}
 use Rattle.cs_rank.specs.DocScores.{IsBase}
 use Rattle.cs_tables.proofs.Samples.{sample-sorted, sample_base-is_base}
@@ -10,4 +10,4 @@ pub score-requires-clause-base : goal.score-requires-clause-base
 score-requires-clause-base g c = subst (λ s. IsBase (Listed s)) (sym c.in_ok-base.ensures) sample_base-is_base
 
 pub score-requires-clause-rows_sorted : goal.score-requires-clause-rows_sorted
-score-requires-clause-rows_sorted g c = subst (IsStrictlySortedBy by_place) (sym c.in_ok-rows.ensures) sample-sorted
+score-requires-clause-rows_sorted g c = subst (AreSorted) (sym c.in_ok-rows.ensures) sample-sorted

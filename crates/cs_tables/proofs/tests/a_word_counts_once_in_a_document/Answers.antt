@@ -1,8 +1,8 @@
 use Rattle.std.proofs.Common.{sym, subst}
 use Rattle.std.specs.List.Sorted.{IsStrictlySortedBy}
-use Rattle.cs_base.specs.Orders.{by_place}
+use Rattle.cs_base.specs.Orders.{AreSorted}
 use Rattle.cs_tables.proofs.Samples.{sample-sorted}
 use Rattle.cs_tables.proofs.tests.a_word_counts_once_in_a_document.Goals as goal
 
 pub completions-requires-clause-sorted : goal.completions-requires-clause-sorted
-completions-requires-clause-sorted g c = subst (IsStrictlySortedBy by_place) (sym c.in_ok-rows.ensures) sample-sorted
+completions-requires-clause-sorted g c = subst (AreSorted) (sym c.in_ok-rows.ensures) sample-sorted
