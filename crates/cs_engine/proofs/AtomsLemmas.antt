@@ -32,7 +32,9 @@ use Rattle.cs_engine.specs.Searching.{atom_has_join}
 use Rattle.cs_engine.specs.Stocked.{word_at, row_of, rows_at, corpus_in, IsKnown, IsStocked, IsPicked, IsSpan, is_between, atom_test}
 use Rattle.cs_engine.specs.declared.stock.Stock.{Stock}
 use Rattle.cs_engine.proofs.FoldsLemmas.{atom_rows-is}
-use Rattle.cs_engine.proofs.VocabLemmas.{filter_through, filter_alike, all_then, less_word, three_ways}
+use Rattle.cs_base.proofs.MembersLemmas.{all_then}
+use Rattle.cs_vocab.proofs.RangesLemmas.{three_ways}
+use Rattle.cs_engine.proofs.VocabLemmas.{filter_through, filter_alike, less_word}
 
 not_true : (b : Bool) → (b ≡ true → true ≡ false) → b ≡ false
 not_true true h = h refl

@@ -18,13 +18,13 @@ use Rattle.cs_base.specs.Members.{members_in}
 use Rattle.cs_base.specs.declared.doc.Doc.{Doc}
 use Rattle.cs_base.specs.declared.doc.Post.{Post}
 use Rattle.cs_base.specs.declared.doc.Row.{Row}
-use Rattle.cs_base.proofs.MembersLemmas.{is_member-listed, listing-rises}
+use Rattle.cs_base.proofs.MembersLemmas.{all_then, is_member-listed, listing-rises}
 use Rattle.cs_docs.proofs.ListingLemmas.{spots-rise, docs-below, by_spot}
 use Rattle.cs_model.specs.Corpus.{distinct_words, rows_of, title_of}
 use Rattle.cs_vocab.specs.Ranges.{IsWordAt}
 use Rattle.cs_engine.specs.Stocked.{row_of, rows_at, word_at, IsNumbered, IsKnown, IsStocked}
 use Rattle.cs_engine.specs.declared.stock.Stock.{Stock}
-use Rattle.cs_engine.proofs.VocabLemmas.{posts_rise, all_then}
+use Rattle.cs_engine.proofs.VocabLemmas.{posts_rise}
 
 any_alike : (p q : List ℕ → Bool) (xs : List (List ℕ)) → ((x : List ℕ) → p x ≡ q x) → list_any p xs ≡ list_any q xs
 any_alike p q [] h = refl

@@ -23,13 +23,13 @@ use Rattle.cs_base.specs.declared.doc.Row.{Row}
 use Rattle.cs_base.specs.declared.doc.Scored.{Scored}
 use Rattle.cs_base.specs.declared.query.Part.{Part, out-Part}
 use Rattle.cs_meet.specs.Filters.{keep_docs, drop_docs, is_of}
-use Rattle.cs_base.specs.Orders.{AreDocs, AreByDoc, AreSorted, docs_of}
+use Rattle.cs_base.specs.Orders.{by_doc, AreDocs, AreByDoc, docs_of}
 use Rattle.cs_meet.specs.Filters as meet
 use Rattle.cs_model.specs.Answers.{PartRows, hits, pairs, scored, rows_of_part}
 use Rattle.cs_rank.specs.DocScores.{greatest, of_doc, best_row, base_score, with_base, scores, IsBase}
 use Rattle.cs_engine.specs.Stocked.{rows_at, corpus_in, every, listed, docs_in, scored_hits, IsKnown, IsStocked, IsPicked, IsFound}
 use Rattle.cs_engine.specs.declared.stock.Stock.{Stock}
-use Rattle.cs_engine.proofs.VocabLemmas.{all_then}
+use Rattle.cs_base.proofs.MembersLemmas.{all_then}
 use Rattle.cs_engine.proofs.ListsLemmas.{all_of, keys_numbered, range_rises, in_range}
 use Rattle.cs_engine.proofs.AtomsLemmas.{picked_again}
 use Rattle.cs_engine.proofs.FoldsLemmas.{part_rows-is}
@@ -44,7 +44,7 @@ every_more n = map-range_with_len_more unscored 0 n n (omega arith)
 
 -- ---- documents in order
 
-later_docs : (h : Scored) (hs : List Scored) → AllByRecursion (λ x. meet.by_doc h x ≡ Less) hs → AllByRecursion (λ d. nat_cmp h.doc d ≡ Less) (map (λ h. h.doc) hs)
+later_docs : (h : Scored) (hs : List Scored) → AllByRecursion (λ x. by_doc h x ≡ Less) hs → AllByRecursion (λ d. nat_cmp h.doc d ≡ Less) (map (λ h. h.doc) hs)
 later_docs h [] up = tt
 later_docs h (x ∷ hs) up = (up.0, later_docs h hs up.1)
 
@@ -53,7 +53,7 @@ unfolding IsStrictlySortedBy
 docs_rise [] up = tt
 docs_rise (h ∷ hs) up = (later_docs h hs up.0, docs_rise hs up.1)
 
-later_scored : (f : ℕ → Scored) → ((d : ℕ) → (f d).doc ≡ d) → (d : ℕ) (ds : List ℕ) → AllByRecursion (λ e. nat_cmp d e ≡ Less) ds → AllByRecursion (λ x. meet.by_doc (f d) x ≡ Less) (map f ds)
+later_scored : (f : ℕ → Scored) → ((d : ℕ) → (f d).doc ≡ d) → (d : ℕ) (ds : List ℕ) → AllByRecursion (λ e. nat_cmp d e ≡ Less) ds → AllByRecursion (λ x. by_doc (f d) x ≡ Less) (map f ds)
 later_scored f h d [] up = tt
 later_scored f h d (e ∷ ds) up = (ap (λ x. nat_cmp x (f e).doc) (h d) ∙ ap (nat_cmp d) (h e) ∙ up.0, later_scored f h d ds up.1)
 

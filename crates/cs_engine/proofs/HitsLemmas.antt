@@ -27,7 +27,7 @@ use Rattle.cs_base.specs.declared.doc.Base.TheVariants as base
 use Rattle.cs_base.specs.declared.doc.Post.{Post}
 use Rattle.cs_base.specs.declared.doc.Row.{Row}
 use Rattle.cs_base.specs.declared.doc.Scored.{Scored}
-use Rattle.cs_base.proofs.MembersLemmas.{members_are}
+use Rattle.cs_base.proofs.MembersLemmas.{all_then, members_are}
 use Rattle.cs_meet.specs.Filters.{keep_docs, drop_docs, is_of}
 use Rattle.cs_meet.specs.Filters as meet
 use Rattle.cs_model.specs.Answers.{PartRows, in_doc, is_listed, agrees, hits, pairs, last_rows, greatest_score, score, scored}
@@ -35,7 +35,7 @@ use Rattle.cs_model.specs.Corpus.{Corpus}
 use Rattle.cs_rank.specs.DocScores.{greatest, of_doc, best_row, base_score, with_base, scores, IsBase}
 use Rattle.cs_engine.specs.Stocked.{row_of, rows_at, corpus_in, every, listed, docs_in, scored_hits, IsKnown, IsStocked, IsPicked, IsFound}
 use Rattle.cs_engine.specs.declared.stock.Stock.{Stock}
-use Rattle.cs_engine.proofs.VocabLemmas.{filter_through, filter_alike, any_through, all_then}
+use Rattle.cs_engine.proofs.VocabLemmas.{filter_through, filter_alike, any_through}
 use Rattle.cs_engine.proofs.ListsLemmas.{all_of, map_alike, filter_twice, and_turned, same_number, itself, number_tie, own_members, any_tie, keys_numbered, range_rises, in_range}
 use Rattle.cs_engine.proofs.UnionLemmas.{picked_known}
 

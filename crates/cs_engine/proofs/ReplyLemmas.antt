@@ -20,7 +20,7 @@ use Rattle.cs_base.specs.declared.doc.Base.{Base}
 use Rattle.cs_base.specs.declared.doc.Post.{Post}
 use Rattle.cs_base.specs.declared.doc.Row.{Row}
 use Rattle.cs_base.specs.declared.doc.Scored.{Scored}
-use Rattle.cs_base.proofs.MembersLemmas.{listed_itself}
+use Rattle.cs_base.proofs.MembersLemmas.{all_then, listed_itself}
 use Rattle.cs_base.proofs.OrdersLemmas.{by_row_total, by_row_exact}
 use Rattle.cs_meet.specs.Filters.{keep_docs}
 use Rattle.cs_meet.specs.Filters as meet
@@ -34,7 +34,7 @@ use Rattle.cs_tables.specs.declared.tables.Completion.{Completion as Numbered}
 use Rattle.cs_tables.specs.Listings.{table}
 use Rattle.cs_engine.specs.Stocked.{word_at, row_of, rows_at, corpus_in, listed, docs_in, scored_hits, named_at, shown_at, facet_rows, facet_at, title_at, IsKnown, IsStocked, IsPicked, IsFound}
 use Rattle.cs_engine.specs.declared.stock.Stock.{Stock}
-use Rattle.cs_engine.proofs.VocabLemmas.{filter_through, rows_rise, all_then}
+use Rattle.cs_engine.proofs.VocabLemmas.{filter_through, rows_rise}
 use Rattle.cs_engine.proofs.ListsLemmas.{get_numbered, all_of, map_alike, keys_numbered}
 use Rattle.cs_engine.proofs.UnionLemmas.{picked_known, picked_words}
 use Rattle.cs_engine.proofs.HitsLemmas.{kept_pairs, listed_docs}

@@ -22,13 +22,14 @@ use Rattle.std.proofs.lemmas.Slice.Eq.{bytes_eq-Decides}
 use Rattle.cs_base.specs.Members.{members_in}
 use Rattle.cs_base.specs.declared.doc.Post.{Post}
 use Rattle.cs_base.specs.declared.doc.Row.{Row}
-use Rattle.cs_base.proofs.MembersLemmas.{members_are, is_member-listed, listing-rises}
+use Rattle.cs_base.proofs.MembersLemmas.{all_then, members_are, is_member-listed, listing-rises}
 use Rattle.cs_model.specs.Answers.{by_count, table_of}
 use Rattle.cs_model.specs.Answers as rows
 use Rattle.cs_tables.specs.declared.tables.Completion.{Completion}
 use Rattle.cs_tables.specs.Listings.{by_docs, table, of_word, completion_of}
 use Rattle.cs_engine.specs.Stocked.{word_at, row_of, rows_at, named_at}
-use Rattle.cs_engine.proofs.VocabLemmas.{filter_through, filter_alike, any_through, all_then, less_word, three_ways}
+use Rattle.cs_vocab.proofs.RangesLemmas.{three_ways}
+use Rattle.cs_engine.proofs.VocabLemmas.{filter_through, filter_alike, any_through, less_word}
 
 -- ---- listings
 

@@ -26,7 +26,7 @@ use Rattle.cs_base.specs.declared.query.Chain.{Chain}
 use Rattle.cs_base.specs.declared.query.Linked.{Linked, out-Linked}
 use Rattle.cs_base.specs.declared.query.Link.{Link}
 use Rattle.cs_base.specs.declared.query.Link.TheVariants.{Phrase, Near}
-use Rattle.cs_base.proofs.MembersLemmas.{members_are, members-alike, is_member-listed, listed_itself}
+use Rattle.cs_base.proofs.MembersLemmas.{all_then, members_are, members-alike, is_member-listed, listed_itself}
 use Rattle.cs_base.proofs.OrdersLemmas.{by_row_total, by_row_exact}
 use Rattle.cs_meet.specs.Filters.{IsUnion, shares_place, missing, follow, near, stands_behind, is_near}
 use Rattle.cs_model.specs.Answers.{LinkedRows, is_linked, linked_to, union_of, chained, rows_of_chain, rows_of_linked, rows_of_atom}
@@ -34,7 +34,8 @@ use Rattle.cs_engine.specs.Stocked.{row_of, rows_at, corpus_in, linked_posts, Is
 use Rattle.cs_engine.proofs.AtomsLemmas.{picked_again}
 use Rattle.cs_engine.proofs.FoldsLemmas.{linked_rows-is}
 use Rattle.cs_engine.specs.declared.stock.Stock.{Stock}
-use Rattle.cs_engine.proofs.VocabLemmas.{filter_through, filter_alike, any_through, all_then, three_ways, rows_rise}
+use Rattle.cs_vocab.proofs.RangesLemmas.{three_ways}
+use Rattle.cs_engine.proofs.VocabLemmas.{filter_through, filter_alike, any_through, rows_rise}
 
 -- ---- one post at a place
 

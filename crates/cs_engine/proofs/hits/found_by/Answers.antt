@@ -11,7 +11,7 @@ use Rattle.cs_engine.specs.Searching.{part_has_join}
 use Rattle.cs_engine.specs.Stocked.{corpus_in, listed, docs_in, IsFound, IsKnown}
 use Rattle.cs_rank.specs.DocScores.{scores}
 use Rattle.cs_engine.proofs.FoldsLemmas.{query_plain, parts-are, at_place}
-use Rattle.cs_engine.proofs.VocabLemmas.{all_then}
+use Rattle.cs_base.proofs.MembersLemmas.{all_then}
 use Rattle.cs_engine.proofs.UnionLemmas.{picked_known}
 use Rattle.cs_engine.proofs.FoundLemmas.{found_none, found_base, found_more, read_more, read_few, is_excluded}
 use Rattle.cs_engine.proofs.hits.found_by.Goals as goal
