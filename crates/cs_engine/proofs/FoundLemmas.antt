@@ -27,7 +27,7 @@ use Rattle.cs_base.specs.Orders.{by_doc, AreDocs, AreByDoc, docs_of}
 use Rattle.cs_meet.specs.Filters as meet
 use Rattle.cs_model.specs.Answers.{PartRows, hits, pairs, scored, rows_of_part}
 use Rattle.cs_rank.specs.DocScores.{greatest, of_doc, best_row, base_score, with_base, scores, IsBase}
-use Rattle.cs_engine.specs.Stocked.{rows_at, corpus_in, every, listed, docs_in, scored_hits, IsKnown, IsStocked, IsPicked, IsFound}
+use Rattle.cs_engine.specs.Stocked.{rows_at, corpus_in, every, listed, docs_in, hits_after, pairs_after, scored_hits, IsKnown, IsStocked, IsPicked, IsFound}
 use Rattle.cs_engine.specs.declared.stock.Stock.{Stock}
 use Rattle.cs_base.proofs.MembersLemmas.{all_then}
 use Rattle.cs_engine.proofs.ListsLemmas.{all_of, keys_numbered, range_rises, in_range}
@@ -141,8 +141,7 @@ module _ (s : Stock) where
     excluded_small = All-filter (λ h. not (list_any (is_of h) posts)) (λ h. h.score ≤ 255 * length (done ++ p ∷ [])) (listed n b) (λ k d l. let at : (get_or (listed n b) k d).score ≤ 255 * length done = found.small k d l in omega (arith, at, one_longer))
 
     pub found_more : (now : Base) (after : List Post) → (excluded : Bool) → p.excluded ≡ excluded
-        → listed n now ≡ (if excluded then drop_docs (listed n b) posts else scores b (keep_docs posts (docs_in n b)))
-        → after ≡ (if excluded then [] else keep_docs posts (docs_in n b)) → IsFound s (done ++ p ∷ []) now after
+        → listed n now ≡ hits_after n b excluded posts → after ≡ pairs_after n b excluded posts → IsFound s (done ++ p ∷ []) now after
     found_more now after true e hits_are pairs_are = record {
       hits = hits_are ∙ excluded_hits s done p posts is b found.hits e;
       small = subst (All (λ h. h.score ≤ 255 * length (done ++ p ∷ []))) (sym hits_are) excluded_small;

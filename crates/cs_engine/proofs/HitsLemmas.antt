@@ -13,7 +13,7 @@ use Rattle.std.specs.Ordering.{nat_cmp, eq_by_cmp, on}
 use Rattle.std.specs.declared.cmp.Ordering.TheVariants.{Less}
 use Rattle.std.specs.Cmp.{nat_cmp_total}
 use Rattle.std.specs.FinMap.{nat_cmp-IsAntisymmetric, keys}
-use Rattle.std.proofs.lemmas.Bool.Decides.{nat_tests}
+use Rattle.std.proofs.Math.Bool.{and_comm}
 use Rattle.std.proofs.lemmas.List.{length-map, map-append}
 use Rattle.std.proofs.lemmas.List.Sums.{fold-append}
 use Rattle.std.proofs.lemmas.List.Elements.{All-filter, filter-append, All-from_recursion, recursion_from_All}
@@ -36,17 +36,13 @@ use Rattle.cs_rank.specs.DocScores.{greatest, of_doc, best_row, base_score, with
 use Rattle.cs_engine.specs.Stocked.{row_of, rows_at, corpus_in, every, listed, docs_in, scored_hits, IsKnown, IsStocked, IsPicked, IsFound}
 use Rattle.cs_engine.specs.declared.stock.Stock.{Stock}
 use Rattle.cs_engine.proofs.VocabLemmas.{filter_through, filter_alike, any_through}
-use Rattle.cs_engine.proofs.ListsLemmas.{all_of, map_alike, filter_twice, and_turned, same_number, itself, number_tie, own_members, any_tie, keys_numbered, range_rises, in_range}
+use Rattle.cs_engine.proofs.ListsLemmas.{all_of, map_alike, filter_twice, and_true, same_number, itself, number_tie, own_members, any_tie, keys_numbered, range_rises, in_range}
 use Rattle.cs_engine.proofs.UnionLemmas.{picked_known}
 
 -- ---- one more part
 
 all_one : (d : ℕ) (done : List PartRows) (p : PartRows) → list_all (agrees d) (done ++ p ∷ []) ≡ (list_all (agrees d) done && agrees d p)
-all_one d done p = list_all-append (agrees d) done (p ∷ []) ∙ ap (λ b. list_all (agrees d) done && b) (last_true (agrees d p))
-  where
-    last_true : (b : Bool) → (b && true) ≡ b
-    last_true true = refl
-    last_true false = refl
+all_one d done p = list_all-append (agrees d) done (p ∷ []) ∙ ap (λ b. list_all (agrees d) done && b) (and_true (agrees d p))
 
 pub hits_more : (k : Corpus) (done : List PartRows) (p : PartRows) → hits k (done ++ p ∷ []) ≡ filter (λ d. agrees d p) (hits k done)
 hits_more k done p =
@@ -142,7 +138,7 @@ module _ (ws : List (List ℕ)) (posts : List Post) where
       let in_q : (p : Post) → eq_by_cmp nat_cmp q p.doc ≡ true → list_any (meet.in_doc p) ds ≡ list_any (λ e. e == q) ds = λ p e. ap (λ x. list_any (λ y. y == x) ds) (same_number p.doc q (sym (number_tie q p.doc) ∙ e)) in
       any-filter_same (eq_by_cmp nat_cmp q) t (t q) is_q ds
       ∙ ap (λ b. t q && b) (any_tie q ds)
-      ∙ and_turned (t q) (list_any (λ e. e == q) ds)
+      ∙ and_comm (t q) (list_any (λ e. e == q) ds)
       ∙ ap (λ b. list_any (λ e. e == q) ds && b) (has_post q ∙ any_same q posts)
       ∙ sym (any-filter_same (λ p. eq_by_cmp nat_cmp q p.doc) (λ p. list_any (meet.in_doc p) ds) (list_any (λ e. e == q) ds) in_q posts)
       ∙ sym (any_through (λ p. p.doc) (eq_by_cmp nat_cmp q) kept)))

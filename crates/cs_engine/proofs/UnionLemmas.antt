@@ -4,13 +4,14 @@
 --   united           what unites two lists of picked posts stands for the listing of their rows
 --   united_more      one more list goes into a listing
 --   linked_phrase, linked_near    links of rows are links of posts
-use Rattle.std.proofs.Common.{◌≡◌, ℕ, ◌+◌, ◌-◌, ◌<◌, ◌==◌, ◌&&◌, ◌||◌, Bool, true, false, true≢false, not, List, [], ◌∷◌, ◌++◌, length, map, take, drop, drop-cons, add-one, get_or, cond, refl, sym, ◌∙◌, ap, subst, arith}
+use Rattle.std.proofs.Common.{◌≡◌, ℕ, ◌+◌, ◌-◌, ◌<◌, ◌==◌, ◌&&◌, ◌||◌, Bool, true, false, true≢false, not, List, [], ◌∷◌, ◌++◌, length, map, take, drop, drop-cons, add-one, get_or, cond, append-nil, refl, sym, ◌∙◌, ap, subst, arith}
 use Rattle.std.specs.Prelude.{filter, nat_lt, nat_le}
 use Rattle.std.specs.List.{All, AllByRecursion, Contains, list_any, flat_map}
 use Rattle.std.specs.List.Sorted.{IsPermutation, IsStrictlySortedBy}
 use Rattle.std.specs.Ordering.{nat_cmp, eq_by_cmp, ordering_then, is_lt}
 use Rattle.std.specs.declared.cmp.Ordering.{Ordering}
 use Rattle.std.specs.declared.cmp.Ordering.TheVariants.{Less, Equal}
+use Rattle.std.proofs.lemmas.Bool.{and_parts}
 use Rattle.std.proofs.lemmas.Bool.Decides.{nat_tests}
 use Rattle.std.proofs.lemmas.Grind.{flat_map-append}
 use Rattle.std.proofs.lemmas.List.{map-append, get_or_default, take_more}
@@ -45,26 +46,18 @@ tie_numbers x y h = grind (arith, nat_tests)
 tie_back : (x y : ℕ) → (x == y) ≡ true → nat_cmp y x ≡ Equal
 tie_back x y h = grind (arith, nat_tests)
 
-and_first : (a b : Bool) → (a && b) ≡ true → a ≡ true
-and_first true b h = refl
-and_first false b h = h
-
-and_second : (a b : Bool) → (a && b) ≡ true → b ≡ true
-and_second true b h = h
-and_second false b h = absurd (true≢false (sym h))
-
 tied : (a b c : Ordering) → a ≡ Equal → b ≡ Equal → c ≡ Equal → ordering_then a (ordering_then b c) ≡ Equal
 tied a b c p q r = ap (λ o. ordering_then o (ordering_then b c)) p ∙ ap (λ o. ordering_then o c) q ∙ r
 
 module _ (x y : Post) (same : shares_place x y ≡ true) where
   doc_same : (y.doc == x.doc) ≡ true
-  doc_same = and_first _ _ same
+  doc_same = (and_parts _ _ same).0
 
   pos_same : (y.pos == x.pos) ≡ true
-  pos_same = and_first _ _ (and_second (y.doc == x.doc) _ same)
+  pos_same = (and_parts _ _ (and_parts (y.doc == x.doc) _ same).1).0
 
   word_same : (y.word == x.word) ≡ true
-  word_same = and_second (y.pos == x.pos) _ (and_second (y.doc == x.doc) _ same)
+  word_same = (and_parts (y.pos == x.pos) _ (and_parts (y.doc == x.doc) _ same).1).1
 
   tied_on : by_place y x ≡ Equal
   tied_on = tied (nat_cmp y.doc x.doc) (nat_cmp y.pos x.pos) (nat_cmp y.word x.word) (tie_numbers _ _ doc_same) (tie_numbers _ _ pos_same) (tie_numbers _ _ word_same)
@@ -151,12 +144,8 @@ united_more found next chains is =
     ∙ sym (list_any-append (eq_by_cmp by_row q) (flat_map (λ rows. rows) chains) next)
     ∙ ap (list_any (eq_by_cmp by_row q)) (sym (last_piece chains)))
   where
-    none_behind : (rows : List Row) → rows ++ [] ≡ rows
-    none_behind [] = refl
-    none_behind (r ∷ rows) = ap (λ l. r ∷ l) (none_behind rows)
-
     last_piece : (chains : List (List Row)) → flat_map (λ rows. rows) (chains ++ next ∷ []) ≡ flat_map (λ rows. rows) chains ++ next
-    last_piece chains = flat_map-append (λ rows. rows) chains (next ∷ []) ∙ ap (λ l. flat_map (λ rows. rows) chains ++ l) (none_behind next)
+    last_piece chains = flat_map-append (λ rows. rows) chains (next ∷ []) ∙ ap (λ l. flat_map (λ rows. rows) chains ++ l) (append-nil next)
 
 -- ---- links
 
