@@ -1,7 +1,7 @@
 -- Words without their leading colon.
 --
 --   colon_rest      what follows the colon is text
-use Rattle.std.proofs.Common.{◌≡◌, ◌<◌, ◌-◌, ◌==◌, ◌&&◌, ℕ, Bool, true, false, List, [], ◌∷◌, T, refl, sym, ◌∙◌, ap, subst, cond, arith, length, drop, take}
+use Rattle.std.proofs.Common.{◌≡◌, ◌<◌, ◌-◌, ◌==◌, ℕ, Bool, true, List, [], ◌∷◌, T, sym, ◌∙◌, subst, arith, length, drop, take}
 use Rattle.std.specs.Prelude.{nat_eq}
 use Rattle.std.specs.List.{starts_with}
 use Rattle.std.specs.Str.{IsUtf8}

@@ -3,7 +3,7 @@
 --   atom_rows-is      the rows of an atom without a join are those that pass its test
 --   linked_rows-is, part_rows-is, parts-are      the rows of these, by those of what they hold
 --   linked_plain, chain_plain_rest, part_plain, query_plain      what they hold has no join where they have none
-use Rattle.std.proofs.Common.{◌≡◌, ℕ, ◌<◌, ◌≤◌, ◌||◌, Bool, true, false, true≢false, List, [], ◌∷◌, length, map, get_or, refl, sym, ◌∙◌, ap, subst, arith}
+use Rattle.std.proofs.Common.{◌≡◌, ℕ, ◌<◌, ◌≤◌, Bool, true, false, true≢false, List, [], ◌∷◌, length, map, get_or, sym, ◌∙◌, ap, subst, arith}
 use Rattle.std.proofs.lemmas.Bool.{or_parts}
 use Rattle.std.proofs.lemmas.List.{length-map}
 use Rattle.std.specs.Prelude.{filter}
@@ -18,7 +18,7 @@ use Rattle.cs_base.specs.declared.query.Linked.{Linked, out-Linked}
 use Rattle.cs_base.specs.declared.query.Chain.{Chain, out-Chain}
 use Rattle.cs_base.specs.declared.query.Part.{Part, out-Part}
 use Rattle.cs_base.specs.declared.query.Query.{Query, out-Query}
-use Rattle.cs_model.specs.Answers.{PartRows, LinkedRows, atom_rows, chain_rows, linked_rows, part_rows, query_parts, rows_of_atom, rows_of_linked, rows_of_chain, rows_of_part, parts_of, chained, union_of}
+use Rattle.cs_model.specs.Answers.{PartRows, LinkedRows, atom_rows, chain_rows, linked_rows, part_rows, query_parts, rows_of_atom, rows_of_linked, rows_of_chain, rows_of_part, parts_of, union_of}
 use Rattle.cs_model.specs.Corpus.{Corpus}
 use Rattle.cs_engine.specs.Searching.{is_join, chain_joins, linked_joins, part_joins, query_joins, atom_has_join, linked_has_join, chain_has_join, part_has_join, has_join}
 use Rattle.cs_engine.specs.Stocked.{atom_test}

@@ -8,7 +8,7 @@
 --   keys_numbered        the keys of a numbered list are its numbers
 --   get_numbered         what is held at a number
 --   range_rises          numbers in turn ascend
-use Rattle.std.proofs.Common.{◌≡◌, ℕ, zero, suc, ◌+◌, ◌<◌, ◌≤◌, ◌==◌, ◌&&◌, ◌||◌, Bool, true, false, true≢false, List, [], ◌∷◌, T, cond, length, map, get_or, refl, sym, ◌∙◌, ap, subst, arith}
+use Rattle.std.proofs.Common.{◌≡◌, ℕ, zero, suc, ◌+◌, ◌<◌, ◌≤◌, ◌==◌, ◌&&◌, ◌||◌, Bool, true, false, List, [], ◌∷◌, T, cond, length, map, get_or, refl, sym, ◌∙◌, ap, arith}
 use Rattle.std.specs.Prelude.{Some, filter}
 use Rattle.std.specs.List.{All, AllByRecursion, list_any, enumerate_from, range_with_len, slice_get}
 use Rattle.std.specs.List.Sorted.{IsStrictlySortedBy}
