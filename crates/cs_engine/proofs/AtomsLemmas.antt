@@ -1,52 +1,34 @@
 -- The rows of an atom are those whose words have numbers from one number up to another.
 --
---   span_prefix      the words that begin with a text
 --   span_word        one word
 --   span_none        no word
 --   span_rows        the posts between two numbers stand for the rows that pass the test
 --   picked_between   they are picked
-use Rattle.std.proofs.Common.{◌≡◌, ℕ, suc, zero, ◌+◌, ◌<◌, ◌&&◌, ◌||◌, Bool, true, false, true≢false, List, [], ◌∷◌, length, map, get_or, cond, refl, sym, ◌∙◌, ap, subst, arith}
+use Rattle.std.proofs.Common.{◌≡◌, ℕ, suc, zero, ◌+◌, ◌<◌, ◌&&◌, Bool, true, false, List, [], ◌∷◌, length, map, get_or, cond, refl, sym, ◌∙◌, ap, subst, arith}
 use Rattle.std.specs.Prelude.{filter, nat_lt, nat_le}
 use Rattle.std.specs.List.{All, AllByRecursion, Contains, list_any}
 use Rattle.std.specs.List.Sorted.{IsStrictlySortedBy}
-use Rattle.std.specs.Ordering.{nat_cmp, is_lt}
-use Rattle.std.specs.Cmp.{tied_itself}
+use Rattle.std.specs.Ordering.{nat_cmp}
 use Rattle.std.specs.Cmp.Lexicographic.{slice_cmp}
 use Rattle.std.specs.Str.{bytes_eq}
-use Rattle.std.specs.declared.cmp.Ordering.TheVariants.{Less, Equal}
+use Rattle.std.proofs.lemmas.Bool.{or_parts}
 use Rattle.std.proofs.lemmas.Bool.Decides.{nat_tests}
-use Rattle.std.proofs.lemmas.Cmp.{nat_list_cmp_total}
 use Rattle.std.proofs.lemmas.List.{get_or-map}
 use Rattle.std.proofs.lemmas.List.Elements.{All-filter, All-contains_itself, recursion_from_All}
 use Rattle.std.proofs.lemmas.List.Kept.{IsStrictlySortedBy-filter}
-use Rattle.std.proofs.lemmas.Slice.Eq.{bytes_eq-Decides}
 use Rattle.cs_base.specs.Orders.{by_place}
 use Rattle.cs_base.specs.declared.doc.Post.{Post}
-use Rattle.cs_base.specs.declared.doc.Row.{Row}
 use Rattle.cs_base.specs.declared.query.Atom.{Atom}
-use Rattle.cs_base.specs.declared.query.Atom.TheVariants.{Prefix, Exact, Join}
 use Rattle.cs_model.specs.Answers.{rows_of_atom}
-use Rattle.cs_model.specs.Corpus.{Corpus}
 use Rattle.cs_vocab.specs.Ranges.{IsWordAt}
 use Rattle.cs_engine.specs.Searching.{atom_has_join}
 use Rattle.cs_engine.specs.Stocked.{word_at, row_of, rows_at, corpus_in, IsKnown, IsStocked, IsPicked, IsSpan, is_between, atom_test}
 use Rattle.cs_engine.specs.declared.stock.Stock.{Stock}
 use Rattle.cs_engine.proofs.FoldsLemmas.{atom_rows-is}
-use Rattle.cs_engine.proofs.VocabLemmas.{filter_through, filter_alike, all_then, less_word, three_ways}
-
-not_true : (b : Bool) → (b ≡ true → true ≡ false) → b ≡ false
-not_true true h = h refl
-not_true false h = refl
-
-itself : (w : List ℕ) → bytes_eq w w ≡ true
-itself w = (bytes_eq-Decides w w).1 refl
-
-turned : (v w : List ℕ) → bytes_eq v w ≡ true → bytes_eq w v ≡ true
-turned v w h = (bytes_eq-Decides w v).1 (sym ((bytes_eq-Decides v w).0 h))
-
-apart : (v w : List ℕ) → slice_cmp nat_cmp v w ≡ Less → bytes_eq v w ≡ true → true ≡ false
-apart v w h e =
-    sym (ap is_lt h) ∙ ap (λ x. is_lt (slice_cmp nat_cmp v x)) (sym ((bytes_eq-Decides v w).0 e)) ∙ ap is_lt (tied_itself nat_list_cmp_total v)
+use Rattle.cs_base.proofs.MembersLemmas.{all_then}
+use Rattle.cs_base.proofs.NameMaps.{name_itself, name_sym}
+use Rattle.cs_vocab.proofs.RangesLemmas.{three_ways}
+use Rattle.cs_engine.proofs.VocabLemmas.{apart, filter_through, filter_alike, less_word}
 
 early : (n m : ℕ) → m < n → (nat_le n m && nat_lt m (n + 1)) ≡ false
 early n m h = grind (arith, nat_tests)
@@ -61,32 +43,21 @@ pub span_word : (ws : List (List ℕ)) → IsStrictlySortedBy (slice_cmp nat_cmp
 span_word ws up n w at m l =
     subst (λ x. bytes_eq (word_at ws m) x ≡ (nat_le n m && nat_lt m (n + 1))) at.1
     (three_ways m n
-    (λ h. not_true _ (apart (word_at ws m) (word_at ws n) (less_word ws up m n h at.0)) ∙ sym (early n m h))
-    (λ h. ap (λ x. bytes_eq (word_at ws m) (word_at ws x)) (sym h) ∙ itself (word_at ws m) ∙ sym (here n m h))
-    (λ h. not_true _ (λ e. apart (word_at ws n) (word_at ws m) (less_word ws up n m h l) (turned (word_at ws m) (word_at ws n) e)) ∙ sym (late n m h)))
+    (λ h. apart (word_at ws m) (word_at ws n) (less_word ws up m n h at.0) ∙ sym (early n m h))
+    (λ h. ap (λ x. bytes_eq (word_at ws m) (word_at ws x)) (sym h) ∙ name_itself (word_at ws m) ∙ sym (here n m h))
+    (λ h. name_sym (word_at ws m) (word_at ws n) ∙ apart (word_at ws n) (word_at ws m) (less_word ws up n m h l) ∙ sym (late n m h)))
 
 none_between : (m : ℕ) → (nat_le 0 m && nat_lt m 0) ≡ false
 none_between m = grind (arith, nat_tests)
 
-or_false_first : (a b : Bool) → (a || b) ≡ false → a ≡ false
-or_false_first true b h = h
-or_false_first false b h = refl
-
-or_false_second : (a b : Bool) → (a || b) ≡ false → b ≡ false
-or_false_second true b h = absurd (true≢false h)
-or_false_second false b h = h
-
 none_at : (ws : List (List ℕ)) (w : List ℕ) (m : ℕ) → list_any (bytes_eq w) ws ≡ false → m < length ws → bytes_eq w (word_at ws m) ≡ false
 none_at [] w m h l = absurd (omega arith)
-none_at (v ∷ ws) w zero h l = or_false_first (bytes_eq w v) (list_any (bytes_eq w) ws) h
-none_at (v ∷ ws) w (suc m) h l = none_at ws w m (or_false_second (bytes_eq w v) (list_any (bytes_eq w) ws) h) (omega arith)
+none_at (v ∷ ws) w zero h l = (or_parts (bytes_eq w v) (list_any (bytes_eq w) ws) h).0
+none_at (v ∷ ws) w (suc m) h l = none_at ws w m (or_parts (bytes_eq w v) (list_any (bytes_eq w) ws) h).1 (omega arith)
 
 pub span_none : (ws : List (List ℕ)) (w : List ℕ) → list_any (bytes_eq w) ws ≡ false → IsSpan ws (λ v. bytes_eq v w) 0 0
 span_none ws w h m l =
-    not_true _ (λ e. sym (turned (word_at ws m) w e) ∙ none_at ws w m h l) ∙ sym (none_between m)
-
-pub span_nothing : (ws : List (List ℕ)) → IsSpan ws (λ v. false) 0 0
-span_nothing ws m l = sym (none_between m)
+    name_sym (word_at ws m) w ∙ none_at ws w m h l ∙ sym (none_between m)
 
 pub span_rows : (ws : List (List ℕ)) (test : List ℕ → Bool) (lo hi : ℕ) (posts : List Post) → IsSpan ws test lo hi → AllByRecursion (λ p. p.word < length ws) posts → rows_at ws (filter (is_between lo hi) posts) ≡ filter (λ r. test r.word) (rows_at ws posts)
 span_rows ws test lo hi posts span known =
@@ -95,9 +66,6 @@ span_rows ws test lo hi posts span known =
 
 pub words_known : (s : Stock) (posts : List Post) → All (IsKnown s) posts → AllByRecursion (λ p. p.word < length s.words) posts
 words_known s posts h = all_then (IsKnown s) (λ p. p.word < length s.words) (λ p k. k.word) posts (recursion_from_All (IsKnown s) posts h)
-
-pub docs_known : (s : Stock) (posts : List Post) → All (IsKnown s) posts → AllByRecursion (λ p. p.doc < length s.titles) posts
-docs_known s posts h = all_then (IsKnown s) (λ p. p.doc < length s.titles) (λ p k. k.doc) posts (recursion_from_All (IsKnown s) posts h)
 
 pub atom_found : (s : Stock) (a : Atom) (lo hi : ℕ) (found : List Post) → IsStocked s → atom_has_join a ≡ false → IsSpan s.words (atom_test a) lo hi → found ≡ filter (is_between lo hi) s.posts.posts → rows_at s.words found ≡ rows_of_atom (corpus_in s) a
 atom_found s a lo hi found kept plain span is =

@@ -2,29 +2,31 @@
 --
 --   is_there         the word of a row is in the vocabulary of the rows
 --   stocked_new      a stock of documents' rows keeps what it should
-use Rattle.std.proofs.Common.{◌≡◌, ℕ, ◌+◌, ◌<◌, ◌≤◌, ◌^◌, ◌||◌, Bool, true, false, true≢false, List, [], ◌∷◌, ◌++◌, length, map, take, get_or, refl, sym, ◌∙◌, ap, subst, arith}
-use Rattle.std.specs.List.{All, AllByRecursion, list_any, Contains}
+use Rattle.std.proofs.Common.{◌≡◌, ℕ, ◌<◌, ◌≤◌, ◌||◌, Bool, true, List, [], ◌∷◌, length, map, get_or, refl, sym, ◌∙◌, ap, subst, arith}
+use Rattle.std.specs.List.{All, AllByRecursion, list_any}
 use Rattle.std.specs.List.Sorted.{IsStrictlySortedBy}
 use Rattle.std.specs.Ordering.{nat_cmp, eq_by_cmp}
 use Rattle.std.specs.Cmp.Lexicographic.{slice_cmp}
 use Rattle.std.specs.Str.{bytes_eq, IsUtf8}
 use Rattle.std.proofs.lemmas.Cmp.{nat_list_cmp_total}
-use Rattle.std.proofs.lemmas.List.{take_more, map-append, length-map, get_or-map}
+use Rattle.std.proofs.lemmas.List.{length-map, get_or-map}
 use Rattle.std.proofs.lemmas.List.Elements.{All-from_recursion, recursion_from_All, All-map}
 use Rattle.std.proofs.lemmas.List.Folds.{list_any_at}
+use Rattle.std.proofs.lemmas.Map.Lookups.{exact_bytes}
 use Rattle.std.proofs.lemmas.Slice.Eq.{bytes_eq-Decides}
 use Rattle.cs_base.specs.contracts.word.WordOrd.TheImpl.Laws.{matches_eq-law}
-use Rattle.cs_base.specs.Members.{members_in}
+use Rattle.cs_base.specs.declared.limits.TheConstants.{MAX_DOCS, MAX_WORDS}
 use Rattle.cs_base.specs.declared.doc.Doc.{Doc}
 use Rattle.cs_base.specs.declared.doc.Post.{Post}
 use Rattle.cs_base.specs.declared.doc.Row.{Row}
-use Rattle.cs_base.proofs.MembersLemmas.{is_member-listed, listing-rises}
+use Rattle.cs_base.proofs.MembersLemmas.{all_then, is_member-listed, listing-rises}
 use Rattle.cs_docs.proofs.ListingLemmas.{spots-rise, docs-below, by_spot}
+use Rattle.cs_docs.proofs.TextLemmas.{All-members}
 use Rattle.cs_model.specs.Corpus.{distinct_words, rows_of, title_of}
 use Rattle.cs_vocab.specs.Ranges.{IsWordAt}
-use Rattle.cs_engine.specs.Stocked.{row_of, rows_at, word_at, IsNumbered, IsKnown, IsStocked}
+use Rattle.cs_engine.specs.Stocked.{row_of, rows_at, IsNumbered, IsKnown, IsStocked}
 use Rattle.cs_engine.specs.declared.stock.Stock.{Stock}
-use Rattle.cs_engine.proofs.VocabLemmas.{posts_rise, all_then}
+use Rattle.cs_engine.proofs.VocabLemmas.{posts_rise}
 
 any_alike : (p q : List ℕ → Bool) (xs : List (List ℕ)) → ((x : List ℕ) → p x ≡ q x) → list_any p xs ≡ list_any q xs
 any_alike p q [] h = refl
@@ -44,37 +46,15 @@ is_there rows i r word ws is l at same =
 pub row_made : (ws : List (List ℕ)) (r : Row) (n : ℕ) → IsWordAt ws n r.word → row_of ws (record { doc = r.doc; word = n; pos = r.pos; score = r.score }) ≡ r
 row_made ws r n at = ap (λ (w : List ℕ). let x : Row = record { doc = r.doc; word = w; pos = r.pos; score = r.score } in x) at.1
 
--- members of a listing have what all of the list have
-all_listed : (P : List ℕ → Type 0) (ws words : List (List ℕ)) → AllByRecursion P words → ((q : List ℕ) → list_any (bytes_eq q) ws ≡ true → list_any (bytes_eq q) words ≡ true) → AllByRecursion P ws
-all_listed P [] words h members = tt
-all_listed P (w ∷ ws) words h members =
-    (one w words h (members w (ap (λ b. b || list_any (bytes_eq w) ws) ((bytes_eq-Decides w w).1 refl))), all_listed P ws words h (λ q m. members q (later (bytes_eq q w) _ m)))
-  where
-    later : (a b : Bool) → b ≡ true → (a || b) ≡ true
-    later true b e = refl
-    later false b e = e
-
-    one : (w : List ℕ) (words : List (List ℕ)) → AllByRecursion P words → list_any (bytes_eq w) words ≡ true → P w
-    one w [] h m = absurd (true≢false (sym m))
-    one w (v ∷ words) h m =
-        elim (bytes_eq w v) as (λ b. bytes_eq w v ≡ b → (b || list_any (bytes_eq w) words) ≡ true → P w) [
-          | true ↦ λ e r. subst P (sym ((bytes_eq-Decides w v).0 e)) h.0
-          | false ↦ λ e r. one w words h.1 r
-        ] refl m
-
 words_utf8 : (rows : List Row) → All (λ r. IsUtf8 r.word) rows → All IsUtf8 (distinct_words rows)
 words_utf8 rows h =
-    let words : List (List ℕ) = map (λ r. r.word) rows in
-    All-from_recursion IsUtf8 (distinct_words rows) (all_listed IsUtf8 (distinct_words rows) words (recursion_from_All IsUtf8 words (All-map IsUtf8 (λ r. r.word) rows h)) (λ q m.
-    any_alike (bytes_eq q) (eq_by_cmp (slice_cmp nat_cmp) q) words (matches_eq-law q)
-    ∙ sym (is_member-listed (slice_cmp nat_cmp) nat_list_cmp_total words q)
-    ∙ sym (any_alike (bytes_eq q) (eq_by_cmp (slice_cmp nat_cmp) q) (distinct_words rows) (matches_eq-law q)) ∙ m))
+    All-members (slice_cmp nat_cmp) nat_list_cmp_total exact_bytes IsUtf8 (map (λ r. r.word) rows) (All-map IsUtf8 (λ r. r.word) rows h)
 
 known_all : (s : Stock) (ps : List Post) → AllByRecursion (IsNumbered s.words) ps → AllByRecursion (λ r. r.doc < length s.titles) (rows_at s.words ps) → AllByRecursion (IsKnown s) ps
 known_all s [] n d = tt
 known_all s (p ∷ ps) n d = (record { doc = d.0; word = n.0.word; score = n.0.score }, known_all s ps n.1 d.1)
 
-pub stocked_new : (s : Stock) (docs : List Doc) (rows : List Row) → rows ≡ rows_of docs → length docs ≤ 2 ^ 20 → All (λ r. IsUtf8 r.word) rows → s.titles ≡ map title_of docs → s.words ≡ distinct_words rows → length s.words ≤ 2 ^ 22 → rows_at s.words s.posts.posts ≡ rows → All (IsNumbered s.words) s.posts.posts → IsStocked s
+pub stocked_new : (s : Stock) (docs : List Doc) (rows : List Row) → rows ≡ rows_of docs → length docs ≤ MAX_DOCS → All (λ r. IsUtf8 r.word) rows → s.titles ≡ map title_of docs → s.words ≡ distinct_words rows → length s.words ≤ MAX_WORDS → rows_at s.words s.posts.posts ≡ rows → All (IsNumbered s.words) s.posts.posts → IsStocked s
 stocked_new s docs rows of few utf8 titles words few_words posts numbered =
     let ps = s.posts.posts in
     let up : IsStrictlySortedBy (slice_cmp nat_cmp) s.words = subst (IsStrictlySortedBy (slice_cmp nat_cmp)) (sym words) (listing-rises (slice_cmp nat_cmp) (map (λ r. r.word) rows)) in

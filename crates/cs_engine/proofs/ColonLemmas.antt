@@ -1,35 +1,24 @@
 -- Words without their leading colon.
-use Rattle.std.proofs.Common.{◌≡◌, ◌<◌, ◌-◌, ◌==◌, ◌&&◌, ℕ, Bool, true, false, List, [], ◌∷◌, T, refl, sym, ◌∙◌, ap, subst, cond, arith, length, drop, take}
+--
+--   colon_rest      what follows the colon is text
+use Rattle.std.proofs.Common.{◌≡◌, ◌<◌, ◌-◌, ◌==◌, ℕ, Bool, true, List, [], ◌∷◌, T, sym, ◌∙◌, subst, arith, length, drop, take}
 use Rattle.std.specs.Prelude.{nat_eq}
 use Rattle.std.specs.List.{starts_with}
 use Rattle.std.specs.Str.{IsUtf8}
 use Rattle.std.proofs.lemmas.Bool.Decides.{nat_tests}
 use Rattle.std.proofs.lemmas.List.{take_all}
 use Rattle.std.proofs.lemmas.Str.{IsUtf8-drop, IsCharBoundary-after_ascii}
-use Rattle.cs_model.specs.Collection.{shown_word}
-
-both_hold : (a : Bool) → (a && true) ≡ a
-both_hold true = refl
-both_hold false = refl
+use Rattle.cs_engine.proofs.ListsLemmas.{and_true}
 
 is_colon : (b : ℕ) (bs : List ℕ) (r : Bool) → starts_with nat_eq (b ∷ bs) (58 ∷ []) ≡ r → (b == 58) ≡ r
-is_colon b bs r m = let turned : (b == 58) ≡ (58 == b) = grind (arith, nat_tests) in turned ∙ sym (both_hold (58 == b)) ∙ m
+is_colon b bs r m = let turned : (b == 58) ≡ (58 == b) = grind (arith, nat_tests) in turned ∙ sym (and_true (58 == b)) ∙ m
 
 without_first : (b : ℕ) (bs : List ℕ) → take (length (b ∷ bs) - 1) bs ≡ bs
 without_first b bs = take_all (length (b ∷ bs) - 1) bs (omega arith)
 
--- what follows the colon is text
 pub colon_rest : (bs : List ℕ) → IsUtf8 bs → starts_with nat_eq bs (58 ∷ []) ≡ true → IsUtf8 (take (length bs - 1) (drop 1 bs))
 colon_rest [] u m = absurd (subst T (sym m) tt)
 colon_rest (b ∷ bs) u m =
     let one = is_colon b bs true m in
     let low : b < 128 = grind (arith, nat_tests) in
     subst IsUtf8 (sym (without_first b bs)) (IsUtf8-drop (b ∷ bs) 1 u (IsCharBoundary-after_ascii (b ∷ bs) 0 u (omega arith) low))
-
-pub colon_dropped : (bs : List ℕ) → starts_with nat_eq bs (58 ∷ []) ≡ true → take (length bs - 1) (drop 1 bs) ≡ shown_word bs
-colon_dropped [] m = absurd (subst T (sym m) tt)
-colon_dropped (b ∷ bs) m = without_first b bs ∙ sym (ap (λ t. cond t bs (b ∷ bs)) (is_colon b bs true m))
-
-pub no_colon : (bs : List ℕ) → starts_with nat_eq bs (58 ∷ []) ≡ false → bs ≡ shown_word bs
-no_colon [] m = refl
-no_colon (b ∷ bs) m = sym (ap (λ t. cond t bs (b ∷ bs)) (is_colon b bs false m))

@@ -1,9 +1,10 @@
 -- What a query's levels mean, one step down, and where no join stands.
 --
 --   atom_rows-is      the rows of an atom without a join are those that pass its test
---   linked_rows-is, chain_rows-is, part_rows-is, parts-are      the rows of these, by those of what they hold
---   linked_plain, chain_plain_first, chain_plain_rest, part_plain, query_plain      what they hold has no join where they have none
-use Rattle.std.proofs.Common.{◌≡◌, ℕ, ◌<◌, ◌≤◌, ◌||◌, Bool, true, false, true≢false, List, [], ◌∷◌, length, map, get_or, refl, sym, ◌∙◌, ap, subst, arith}
+--   linked_rows-is, part_rows-is, parts-are      the rows of these, by those of what they hold
+--   linked_plain, chain_plain_rest, part_plain, query_plain      what they hold has no join where they have none
+use Rattle.std.proofs.Common.{◌≡◌, ℕ, ◌<◌, ◌≤◌, Bool, true, false, true≢false, List, [], ◌∷◌, length, map, get_or, sym, ◌∙◌, ap, subst, arith}
+use Rattle.std.proofs.lemmas.Bool.{or_parts}
 use Rattle.std.proofs.lemmas.List.{length-map}
 use Rattle.std.specs.Prelude.{filter}
 use Rattle.std.specs.List.{All, AllByRecursion, list_any}
@@ -17,7 +18,7 @@ use Rattle.cs_base.specs.declared.query.Linked.{Linked, out-Linked}
 use Rattle.cs_base.specs.declared.query.Chain.{Chain, out-Chain}
 use Rattle.cs_base.specs.declared.query.Part.{Part, out-Part}
 use Rattle.cs_base.specs.declared.query.Query.{Query, out-Query}
-use Rattle.cs_model.specs.Answers.{PartRows, LinkedRows, atom_rows, chain_rows, linked_rows, part_rows, query_parts, rows_of_atom, rows_of_linked, rows_of_chain, rows_of_part, parts_of, chained, union_of}
+use Rattle.cs_model.specs.Answers.{PartRows, LinkedRows, atom_rows, chain_rows, linked_rows, part_rows, query_parts, rows_of_atom, rows_of_linked, rows_of_chain, rows_of_part, parts_of, union_of}
 use Rattle.cs_model.specs.Corpus.{Corpus}
 use Rattle.cs_engine.specs.Searching.{is_join, chain_joins, linked_joins, part_joins, query_joins, atom_has_join, linked_has_join, chain_has_join, part_has_join, has_join}
 use Rattle.cs_engine.specs.Stocked.{atom_test}
@@ -32,37 +33,23 @@ module _ (k : Corpus) where
   pub linked_rows-is : (l : Linked) → rows_of_linked k l ≡ record { link = (out-Linked l).link; rows = rows_of_atom k (out-Linked l).atom }
   linked_rows-is l = fold_out-Linked (List Row) (List Row) LinkedRows PartRows (List PartRows) (atom_rows k) chain_rows linked_rows part_rows query_parts l
 
-  pub chain_rows-is : (c : Chain) → rows_of_chain k c ≡ chained (rows_of_atom k (out-Chain c).first) (map (rows_of_linked k) (out-Chain c).rest)
-  chain_rows-is c = fold_out-Chain (List Row) (List Row) LinkedRows PartRows (List PartRows) (atom_rows k) chain_rows linked_rows part_rows query_parts c
-
   pub part_rows-is : (p : Part) → rows_of_part k p ≡ record { excluded = (out-Part p).excluded; rows = union_of (map (rows_of_chain k) (out-Part p).chains) }
   part_rows-is p = fold_out-Part (List Row) (List Row) LinkedRows PartRows (List PartRows) (atom_rows k) chain_rows linked_rows part_rows query_parts p
 
   pub parts-are : (q : Query) → parts_of k q ≡ map (rows_of_part k) (out-Query q).parts
   parts-are q = fold_out-Query (List Row) (List Row) LinkedRows PartRows (List PartRows) (atom_rows k) chain_rows linked_rows part_rows query_parts q
 
-or_first : (a b : Bool) → (a || b) ≡ false → a ≡ false
-or_first true b h = h
-or_first false b h = refl
-
-or_second : (a b : Bool) → (a || b) ≡ false → b ≡ false
-or_second true b h = absurd (true≢false h)
-or_second false b h = h
-
 none_joins : {X : Type 0} (f : X → Bool) (xs : List X) → list_any (λ b. b) (map f xs) ≡ false → AllByRecursion (λ x. f x ≡ false) xs
 none_joins f [] h = tt
-none_joins f (x ∷ xs) h = (or_first (f x) (list_any (λ b. b) (map f xs)) h, none_joins f xs (or_second (f x) (list_any (λ b. b) (map f xs)) h))
+none_joins f (x ∷ xs) h = let both = or_parts (f x) (list_any (λ b. b) (map f xs)) h in (both.0, none_joins f xs both.1)
 
 pub linked_plain : (l : Linked) → linked_has_join l ≡ false → atom_has_join (out-Linked l).atom ≡ false
 linked_plain l h = sym (fold_out-Linked Bool Bool Bool Bool Bool is_join chain_joins linked_joins part_joins query_joins l) ∙ h
 
-pub chain_plain_first : (c : Chain) → chain_has_join c ≡ false → atom_has_join (out-Chain c).first ≡ false
-chain_plain_first c h = or_first _ (list_any (λ b. b) (map linked_has_join (out-Chain c).rest)) (sym (fold_out-Chain Bool Bool Bool Bool Bool is_join chain_joins linked_joins part_joins query_joins c) ∙ h)
-
 pub chain_plain_rest : (c : Chain) → chain_has_join c ≡ false → All (λ l. linked_has_join l ≡ false) (out-Chain c).rest
 chain_plain_rest c h =
     All-from_recursion _ (out-Chain c).rest (none_joins linked_has_join (out-Chain c).rest
-    (or_second (atom_has_join (out-Chain c).first) _ (sym (fold_out-Chain Bool Bool Bool Bool Bool is_join chain_joins linked_joins part_joins query_joins c) ∙ h)))
+    (or_parts (atom_has_join (out-Chain c).first) _ (sym (fold_out-Chain Bool Bool Bool Bool Bool is_join chain_joins linked_joins part_joins query_joins c) ∙ h)).1)
 
 pub part_plain : (p : Part) → part_has_join p ≡ false → All (λ c. chain_has_join c ≡ false) (out-Part p).chains
 part_plain p h =

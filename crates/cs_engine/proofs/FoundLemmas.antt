@@ -5,31 +5,30 @@
 --   found_base       what is found is a base for the next part's scores
 --   found_none       what no part finds
 --   found_more       what one more part leaves
-use Rattle.std.proofs.Common.{◌≡◌, ℕ, zero, suc, ◌+◌, ◌*◌, ◌<◌, ◌≤◌, ◌^◌, ◌==◌, max, Bool, true, false, not, List, [], ◌∷◌, ◌++◌, length, map, take, get_or, cond, refl, sym, ◌∙◌, ap, subst, arith, if◌then◌else◌, length-append, length-take}
-use Rattle.std.specs.Prelude.{Option, Some, None, filter, find}
+use Rattle.std.proofs.Common.{◌≡◌, ℕ, ◌+◌, ◌*◌, ◌<◌, ◌≤◌, ◌==◌, Bool, true, false, not, List, [], ◌∷◌, ◌++◌, length, map, take, get_or, cond, refl, sym, ◌∙◌, ap, subst, arith, length-append, length-take}
+use Rattle.std.specs.Prelude.{Some, filter, find}
 use Rattle.std.specs.Option.{option_map, unwrap_or}
-use Rattle.std.specs.List.{All, AllByRecursion, list_any, list_all, range_with_len}
+use Rattle.std.specs.List.{All, AllByRecursion, list_any, range_with_len}
 use Rattle.std.specs.List.Sorted.{IsStrictlySortedBy}
-use Rattle.std.specs.Ordering.{nat_cmp, on}
+use Rattle.std.specs.Ordering.{nat_cmp}
 use Rattle.std.specs.declared.cmp.Ordering.TheVariants.{Less}
 use Rattle.std.specs.FinMap.{keys}
 use Rattle.std.proofs.lemmas.List.{length-map, map-append, take_more}
-use Rattle.std.proofs.lemmas.List.Elements.{All-filter, All-from_recursion, recursion_from_All, All-map, All-nil}
+use Rattle.std.proofs.lemmas.List.Elements.{All-filter, All-from_recursion, recursion_from_All, All-map}
 use Rattle.std.proofs.lemmas.List.FromFn.{map-range_with_len_more}
 use Rattle.cs_base.specs.declared.doc.Base.{Base}
 use Rattle.cs_base.specs.declared.doc.Base.TheVariants as base
 use Rattle.cs_base.specs.declared.doc.Post.{Post}
-use Rattle.cs_base.specs.declared.doc.Row.{Row}
 use Rattle.cs_base.specs.declared.doc.Scored.{Scored}
 use Rattle.cs_base.specs.declared.query.Part.{Part, out-Part}
 use Rattle.cs_meet.specs.Filters.{keep_docs, drop_docs, is_of}
-use Rattle.cs_base.specs.Orders.{AreDocs, AreByDoc, AreSorted, docs_of}
+use Rattle.cs_base.specs.Orders.{by_doc, AreDocs, AreByDoc, docs_of}
 use Rattle.cs_meet.specs.Filters as meet
 use Rattle.cs_model.specs.Answers.{PartRows, hits, pairs, scored, rows_of_part}
 use Rattle.cs_rank.specs.DocScores.{greatest, of_doc, best_row, base_score, with_base, scores, IsBase}
-use Rattle.cs_engine.specs.Stocked.{rows_at, corpus_in, every, listed, docs_in, scored_hits, IsKnown, IsStocked, IsPicked, IsFound}
+use Rattle.cs_engine.specs.Stocked.{rows_at, corpus_in, every, listed, docs_in, hits_after, pairs_after, IsKnown, IsStocked, IsPicked, IsFound}
 use Rattle.cs_engine.specs.declared.stock.Stock.{Stock}
-use Rattle.cs_engine.proofs.VocabLemmas.{all_then}
+use Rattle.cs_base.proofs.MembersLemmas.{all_then}
 use Rattle.cs_engine.proofs.ListsLemmas.{all_of, keys_numbered, range_rises, in_range}
 use Rattle.cs_engine.proofs.AtomsLemmas.{picked_again}
 use Rattle.cs_engine.proofs.FoldsLemmas.{part_rows-is}
@@ -44,7 +43,7 @@ every_more n = map-range_with_len_more unscored 0 n n (omega arith)
 
 -- ---- documents in order
 
-later_docs : (h : Scored) (hs : List Scored) → AllByRecursion (λ x. meet.by_doc h x ≡ Less) hs → AllByRecursion (λ d. nat_cmp h.doc d ≡ Less) (map (λ h. h.doc) hs)
+later_docs : (h : Scored) (hs : List Scored) → AllByRecursion (λ x. by_doc h x ≡ Less) hs → AllByRecursion (λ d. nat_cmp h.doc d ≡ Less) (map (λ h. h.doc) hs)
 later_docs h [] up = tt
 later_docs h (x ∷ hs) up = (up.0, later_docs h hs up.1)
 
@@ -53,7 +52,7 @@ unfolding IsStrictlySortedBy
 docs_rise [] up = tt
 docs_rise (h ∷ hs) up = (later_docs h hs up.0, docs_rise hs up.1)
 
-later_scored : (f : ℕ → Scored) → ((d : ℕ) → (f d).doc ≡ d) → (d : ℕ) (ds : List ℕ) → AllByRecursion (λ e. nat_cmp d e ≡ Less) ds → AllByRecursion (λ x. meet.by_doc (f d) x ≡ Less) (map f ds)
+later_scored : (f : ℕ → Scored) → ((d : ℕ) → (f d).doc ≡ d) → (d : ℕ) (ds : List ℕ) → AllByRecursion (λ e. nat_cmp d e ≡ Less) ds → AllByRecursion (λ x. by_doc (f d) x ≡ Less) (map f ds)
 later_scored f h d [] up = tt
 later_scored f h d (e ∷ ds) up = (ap (λ x. nat_cmp x (f e).doc) (h d) ∙ ap (nat_cmp d) (h e) ∙ up.0, later_scored f h d ds up.1)
 
@@ -141,8 +140,7 @@ module _ (s : Stock) where
     excluded_small = All-filter (λ h. not (list_any (is_of h) posts)) (λ h. h.score ≤ 255 * length (done ++ p ∷ [])) (listed n b) (λ k d l. let at : (get_or (listed n b) k d).score ≤ 255 * length done = found.small k d l in omega (arith, at, one_longer))
 
     pub found_more : (now : Base) (after : List Post) → (excluded : Bool) → p.excluded ≡ excluded
-        → listed n now ≡ (if excluded then drop_docs (listed n b) posts else scores b (keep_docs posts (docs_in n b)))
-        → after ≡ (if excluded then [] else keep_docs posts (docs_in n b)) → IsFound s (done ++ p ∷ []) now after
+        → listed n now ≡ hits_after n b excluded posts → after ≡ pairs_after n b excluded posts → IsFound s (done ++ p ∷ []) now after
     found_more now after true e hits_are pairs_are = record {
       hits = hits_are ∙ excluded_hits s done p posts is b found.hits e;
       small = subst (All (λ h. h.score ≤ 255 * length (done ++ p ∷ []))) (sym hits_are) excluded_small;

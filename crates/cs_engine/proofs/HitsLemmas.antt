@@ -4,49 +4,41 @@
 --   kept_pairs        the rows of one more positive part in the hits so far are the pairs
 --   positive_hits     the hits of one more positive part with their scores
 --   excluded_hits     the hits that one more excluded part leaves
-use Rattle.std.proofs.Common.{◌≡◌, ℕ, zero, suc, ◌+◌, ◌*◌, ◌<◌, ◌≤◌, ◌^◌, ◌==◌, ◌&&◌, ◌||◌, max, Bool, true, false, true≢false, not, List, [], ◌∷◌, ◌++◌, length, map, get_or, cond, refl, sym, ◌∙◌, ap, subst, arith, if◌then◌else◌}
-use Rattle.std.specs.Prelude.{Option, Some, None, filter, sum, find, fold}
+use Rattle.std.proofs.Common.{◌≡◌, ℕ, ◌+◌, ◌==◌, ◌&&◌, ◌||◌, max, Bool, true, false, true≢false, not, List, [], ◌∷◌, ◌++◌, length, map, get_or, cond, refl, sym, ◌∙◌, ap, subst, if◌then◌else◌}
+use Rattle.std.specs.Prelude.{Some, filter, sum, find, fold}
 use Rattle.std.specs.Option.{option_map, unwrap_or}
 use Rattle.std.specs.List.{All, AllByRecursion, list_any, list_all, range_with_len}
 use Rattle.std.specs.List.Sorted.{IsStrictlySortedBy}
-use Rattle.std.specs.Ordering.{nat_cmp, eq_by_cmp, on}
-use Rattle.std.specs.declared.cmp.Ordering.TheVariants.{Less}
+use Rattle.std.specs.Ordering.{nat_cmp, eq_by_cmp}
 use Rattle.std.specs.Cmp.{nat_cmp_total}
 use Rattle.std.specs.FinMap.{nat_cmp-IsAntisymmetric, keys}
-use Rattle.std.proofs.lemmas.Bool.Decides.{nat_tests}
-use Rattle.std.proofs.lemmas.List.{length-map, map-append}
+use Rattle.std.proofs.Math.Bool.{and_comm}
+use Rattle.std.proofs.lemmas.List.{map-append}
 use Rattle.std.proofs.lemmas.List.Sums.{fold-append}
-use Rattle.std.proofs.lemmas.List.Elements.{All-filter, filter-append, All-from_recursion, recursion_from_All}
+use Rattle.std.proofs.lemmas.List.Elements.{All-filter, filter-append, recursion_from_All}
 use Rattle.std.proofs.lemmas.List.Folds.{list_any_at, list_all-append}
 use Rattle.std.proofs.lemmas.List.Kept.{IsStrictlySortedBy-filter}
 use Rattle.std.proofs.lemmas.Map.Views.{any-filter_same}
-use Rattle.cs_base.specs.Members.{members_in}
-use Rattle.cs_base.specs.Orders.{by_row, AreSorted, AreDocs, docs_of}
+use Rattle.cs_base.specs.Orders.{AreDocs, docs_of}
 use Rattle.cs_base.specs.declared.doc.Base.{Base}
 use Rattle.cs_base.specs.declared.doc.Base.TheVariants as base
 use Rattle.cs_base.specs.declared.doc.Post.{Post}
-use Rattle.cs_base.specs.declared.doc.Row.{Row}
 use Rattle.cs_base.specs.declared.doc.Scored.{Scored}
-use Rattle.cs_base.proofs.MembersLemmas.{members_are}
+use Rattle.cs_base.proofs.MembersLemmas.{all_then, members_are}
 use Rattle.cs_meet.specs.Filters.{keep_docs, drop_docs, is_of}
 use Rattle.cs_meet.specs.Filters as meet
 use Rattle.cs_model.specs.Answers.{PartRows, in_doc, is_listed, agrees, hits, pairs, last_rows, greatest_score, score, scored}
 use Rattle.cs_model.specs.Corpus.{Corpus}
-use Rattle.cs_rank.specs.DocScores.{greatest, of_doc, best_row, base_score, with_base, scores, IsBase}
-use Rattle.cs_engine.specs.Stocked.{row_of, rows_at, corpus_in, every, listed, docs_in, scored_hits, IsKnown, IsStocked, IsPicked, IsFound}
+use Rattle.cs_rank.specs.DocScores.{greatest, of_doc, best_row, base_score, with_base, scores}
+use Rattle.cs_engine.specs.Stocked.{row_of, rows_at, corpus_in, listed, docs_in, scored_hits}
 use Rattle.cs_engine.specs.declared.stock.Stock.{Stock}
-use Rattle.cs_engine.proofs.VocabLemmas.{filter_through, filter_alike, any_through, all_then}
-use Rattle.cs_engine.proofs.ListsLemmas.{all_of, map_alike, filter_twice, and_turned, same_number, itself, number_tie, own_members, any_tie, keys_numbered, range_rises, in_range}
-use Rattle.cs_engine.proofs.UnionLemmas.{picked_known}
+use Rattle.cs_engine.proofs.VocabLemmas.{filter_through, filter_alike, any_through}
+use Rattle.cs_engine.proofs.ListsLemmas.{all_of, map_alike, filter_twice, and_true, same_number, itself, number_tie, own_members, any_tie, keys_numbered, range_rises}
 
 -- ---- one more part
 
 all_one : (d : ℕ) (done : List PartRows) (p : PartRows) → list_all (agrees d) (done ++ p ∷ []) ≡ (list_all (agrees d) done && agrees d p)
-all_one d done p = list_all-append (agrees d) done (p ∷ []) ∙ ap (λ b. list_all (agrees d) done && b) (last_true (agrees d p))
-  where
-    last_true : (b : Bool) → (b && true) ≡ b
-    last_true true = refl
-    last_true false = refl
+all_one d done p = list_all-append (agrees d) done (p ∷ []) ∙ ap (λ b. list_all (agrees d) done && b) (and_true (agrees d p))
 
 pub hits_more : (k : Corpus) (done : List PartRows) (p : PartRows) → hits k (done ++ p ∷ []) ≡ filter (λ d. agrees d p) (hits k done)
 hits_more k done p =
@@ -142,7 +134,7 @@ module _ (ws : List (List ℕ)) (posts : List Post) where
       let in_q : (p : Post) → eq_by_cmp nat_cmp q p.doc ≡ true → list_any (meet.in_doc p) ds ≡ list_any (λ e. e == q) ds = λ p e. ap (λ x. list_any (λ y. y == x) ds) (same_number p.doc q (sym (number_tie q p.doc) ∙ e)) in
       any-filter_same (eq_by_cmp nat_cmp q) t (t q) is_q ds
       ∙ ap (λ b. t q && b) (any_tie q ds)
-      ∙ and_turned (t q) (list_any (λ e. e == q) ds)
+      ∙ and_comm (t q) (list_any (λ e. e == q) ds)
       ∙ ap (λ b. list_any (λ e. e == q) ds && b) (has_post q ∙ any_same q posts)
       ∙ sym (any-filter_same (λ p. eq_by_cmp nat_cmp q p.doc) (λ p. list_any (meet.in_doc p) ds) (list_any (λ e. e == q) ds) in_q posts)
       ∙ sym (any_through (λ p. p.doc) (eq_by_cmp nat_cmp q) kept)))

@@ -3,12 +3,12 @@
 --   all_of               what holds of each value holds of all of a list
 --   map_alike            functions that agree on a list map it alike
 --   filter_twice         two filters are one
---   and_turned           both tests, in either order
+--   and_true             a test and one that passes
 --   own_members          each number of a list is a member of it
 --   keys_numbered        the keys of a numbered list are its numbers
 --   get_numbered         what is held at a number
 --   range_rises          numbers in turn ascend
-use Rattle.std.proofs.Common.{◌≡◌, ℕ, zero, suc, ◌+◌, ◌<◌, ◌≤◌, ◌==◌, ◌&&◌, ◌||◌, Bool, true, false, true≢false, List, [], ◌∷◌, T, cond, length, map, get_or, refl, sym, ◌∙◌, ap, subst, arith}
+use Rattle.std.proofs.Common.{◌≡◌, ℕ, zero, suc, ◌+◌, ◌<◌, ◌≤◌, ◌==◌, ◌&&◌, ◌||◌, Bool, true, false, List, [], ◌∷◌, T, cond, length, map, get_or, refl, sym, ◌∙◌, ap, arith}
 use Rattle.std.specs.Prelude.{Some, filter}
 use Rattle.std.specs.List.{All, AllByRecursion, list_any, enumerate_from, range_with_len, slice_get}
 use Rattle.std.specs.List.Sorted.{IsStrictlySortedBy}
@@ -19,6 +19,7 @@ use Rattle.std.specs.FinMap.{get, keys, find, is_sorted, from_entries, from_sort
 use Rattle.std.specs.FinMap.Entries.{below_all}
 use Rattle.std.proofs.lemmas.Bool.Decides.{nat_tests}
 use Rattle.std.proofs.lemmas.List.Folds.{list_any_at}
+use Rattle.cs_engine.proofs.VocabLemmas.{less_number}
 
 pub all_of : {X : Type 0} (P : X → Type 0) → ((x : X) → P x) → (xs : List X) → AllByRecursion P xs
 all_of P h [] = tt
@@ -36,11 +37,9 @@ filter_twice p q (x ∷ xs) =
       | false ↦ filter_twice p q xs
     ]
 
-pub and_turned : (a b : Bool) → (a && b) ≡ (b && a)
-and_turned true true = refl
-and_turned true false = refl
-and_turned false true = refl
-and_turned false false = refl
+pub and_true : (b : Bool) → (b && true) ≡ b
+and_true true = refl
+and_true false = refl
 
 pub same_number : (x y : ℕ) → (x == y) ≡ true → x ≡ y
 same_number x y h = grind (arith, nat_tests)
@@ -100,9 +99,6 @@ module _ {X : Type 0} where
 
   pub get_numbered : (xs : List X) (d : ℕ) → get (from_entries {R = nat_cmp} (enumerate_from 0 xs)) d ≡ slice_get xs d
   get_numbered xs d = get-from_entries nat_cmp_total (enumerate_from 0 xs) d ∙ found_at 0 xs d d (omega arith)
-
-less_number : (x y : ℕ) → x < y → nat_cmp x y ≡ Less
-less_number x y h = grind (arith, nat_tests)
 
 range_above : (a b n : ℕ) → a < b → AllByRecursion (λ d. nat_cmp a d ≡ Less) (range_with_len b n)
 range_above a b zero h = tt

@@ -1,30 +1,29 @@
 -- The lists of a reply.
 --
 --   titled, untitled     the title of a document that there is, and of one that there isn't
---   facet_shown-at       the table of a facet, by the documents of a base
+--   first_known, words_shown      the first words of a table are there, and how they are shown
+--   facet_kept           the rows of a facet in the documents of a base
+--   hits_few             there are at most as many hits as documents
+--   reply_made           what answers a request is its reply
 use Rattle.std.proofs.Common.{◌≡◌, ℕ, zero, suc, ◌+◌, ◌<◌, ◌≤◌, ◌^◌, Bool, true, false, List, [], ◌∷◌, ◌++◌, length, map, take, drop, get_or, cond, refl, sym, ◌∙◌, ap, subst, arith, append-nil}
 use Rattle.std.specs.Prelude.{filter}
 use Rattle.std.specs.Option.{unwrap_or}
-use Rattle.std.specs.List.{All, AllByRecursion, enumerate_from, list_any, list_all, take-map, range_with_len}
-use Rattle.std.specs.List.Sorted.{IsStrictlySortedBy}
-use Rattle.std.specs.Ordering.{nat_cmp}
-use Rattle.std.specs.FinMap.{get, from_entries, keys}
+use Rattle.std.specs.List.{All, AllByRecursion, list_all, take-map}
+use Rattle.std.specs.FinMap.{keys}
 use Rattle.std.proofs.lemmas.List.{length-map}
-use Rattle.std.proofs.lemmas.List.Elements.{All-from_recursion, recursion_from_All}
+use Rattle.std.proofs.lemmas.List.Elements.{All-from_recursion}
 use Rattle.std.proofs.lemmas.List.FromFn.{length-range_with_len}
 use Rattle.std.proofs.lemmas.List.Kept.{IsStrictlySortedBy-filter}
 use Rattle.std.proofs.lemmas.Option.{slice_get_past, slice_get-get_or}
 use Rattle.cs_base.specs.Members.{members_in}
-use Rattle.cs_base.specs.Orders.{by_row, by_rank, AreSorted}
+use Rattle.cs_base.specs.Orders.{by_row, by_rank}
 use Rattle.cs_base.specs.declared.doc.Base.{Base}
 use Rattle.cs_base.specs.declared.doc.Post.{Post}
 use Rattle.cs_base.specs.declared.doc.Row.{Row}
-use Rattle.cs_base.specs.declared.doc.Scored.{Scored}
-use Rattle.cs_base.proofs.MembersLemmas.{listed_itself}
+use Rattle.cs_base.proofs.MembersLemmas.{all_then, listed_itself}
 use Rattle.cs_base.proofs.OrdersLemmas.{by_row_total, by_row_exact}
 use Rattle.cs_meet.specs.Filters.{keep_docs}
-use Rattle.cs_meet.specs.Filters as meet
-use Rattle.cs_model.specs.Answers.{PartRows, begins, is_listed, hits, pairs, ranked, table_of, facet_part, facet_table}
+use Rattle.cs_model.specs.Answers.{PartRows, begins, is_listed, hits, pairs, ranked, table_of, facet_part}
 use Rattle.cs_model.specs.Answers as answers
 use Rattle.cs_model.specs.Collection.{named}
 use Rattle.cs_model.specs.Corpus.{Corpus}
@@ -32,9 +31,9 @@ use Rattle.cs_model.specs.Replies.{Reply, Shown, HitShown, FacetShown}
 use Rattle.cs_model.specs.Requests.{Request, reply_of, reply_to, shown_of, hit_shown, facet_shown}
 use Rattle.cs_tables.specs.declared.tables.Completion.{Completion as Numbered}
 use Rattle.cs_tables.specs.Listings.{table}
-use Rattle.cs_engine.specs.Stocked.{word_at, row_of, rows_at, corpus_in, listed, docs_in, scored_hits, named_at, shown_at, facet_rows, facet_at, title_at, IsKnown, IsStocked, IsPicked, IsFound}
+use Rattle.cs_engine.specs.Stocked.{word_at, row_of, rows_at, corpus_in, listed, docs_in, named_at, shown_at, named_rows, facet_rows, facet_at, title_at, IsKnown, IsStocked, IsPicked, IsFound}
 use Rattle.cs_engine.specs.declared.stock.Stock.{Stock}
-use Rattle.cs_engine.proofs.VocabLemmas.{filter_through, rows_rise, all_then}
+use Rattle.cs_engine.proofs.VocabLemmas.{filter_through, rows_rise}
 use Rattle.cs_engine.proofs.ListsLemmas.{get_numbered, all_of, map_alike, keys_numbered}
 use Rattle.cs_engine.proofs.UnionLemmas.{picked_known, picked_words}
 use Rattle.cs_engine.proofs.HitsLemmas.{kept_pairs, listed_docs}
@@ -88,7 +87,7 @@ module _ (s : Stock) (kept : IsStocked s) where
   table_total posts picked = sym (length-map (table posts) (named_at s.words)) ∙ ap length (table_through s.words kept.words posts (picked_words s posts kept picked.among))
 
   -- the rows of a facet in the documents of a base
-  pub facet_kept : (b : Base) (name : List ℕ) (posts found : List Post) → rows_at s.words posts ≡ filter (λ r. begins (named name []) r.word) (rows_at s.words s.posts.posts) → found ≡ keep_docs posts (docs_in (length s.titles) b) → rows_at s.words found ≡ facet_rows s b name
+  pub facet_kept : (b : Base) (name : List ℕ) (posts found : List Post) → rows_at s.words posts ≡ named_rows s name → found ≡ keep_docs posts (docs_in (length s.titles) b) → rows_at s.words found ≡ facet_rows s b name
   facet_kept b name posts found is kept_is =
       ap (rows_at s.words) kept_is ∙ filter_through (row_of s.words) (λ r. is_listed (docs_in (length s.titles) b) r.doc) posts ∙ ap (filter (λ r. is_listed (docs_in (length s.titles) b) r.doc)) is
 
@@ -121,17 +120,14 @@ module _ (s : Stock) (kept : IsStocked s) (ps : List PartRows) (b : Base) (posts
     abbrev asked_posts : List Post
     asked_posts = filter (λ p. begins (named name []) (word_at s.words p.word)) s.posts.posts
 
-    abbrev asked_rows : List Row
-    asked_rows = filter (λ r. begins (named name []) r.word) (rows_at s.words s.posts.posts)
-
-    asked_is : rows_at s.words asked_posts ≡ asked_rows
+    asked_is : rows_at s.words asked_posts ≡ named_rows s name
     asked_is = filter_through (row_of s.words) (λ r. begins (named name []) r.word) s.posts.posts
 
     facet_is : rows_at s.words asked_posts ≡ (facet_part k name).rows
     facet_is =
         asked_is
-        ∙ listed_itself by_row by_row_total by_row_exact asked_rows (IsStrictlySortedBy-filter by_row (λ r. begins (named name []) r.word) (rows_at s.words s.posts.posts) (rows_rise s.words kept.words s.posts.posts (words_known s s.posts.posts kept.known) kept.sorted))
-        ∙ ap (members_in by_row) (sym (append-nil asked_rows))
+        ∙ listed_itself by_row by_row_total by_row_exact (named_rows s name) (IsStrictlySortedBy-filter by_row (λ r. begins (named name []) r.word) (rows_at s.words s.posts.posts) (rows_rise s.words kept.words s.posts.posts (words_known s s.posts.posts kept.known) kept.sorted))
+        ∙ ap (members_in by_row) (sym (append-nil (named_rows s name)))
 
     facet_pairs : facet_rows s b name ≡ pairs k (ps ++ facet_part k name ∷ [])
     facet_pairs =

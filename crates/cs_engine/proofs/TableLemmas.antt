@@ -1,40 +1,39 @@
 -- Tables through the vocabulary.
 --
 --   any_listed       a test passes on a listing where it does on the list
---   all_listed       what holds of all of a list holds of its listing
 --   table_through    the table of posts, each word in place of its number, is the table of their rows
 --   table_known      its words are there
-use Rattle.std.proofs.Common.{◌≡◌, ℕ, ◌+◌, ◌<◌, ◌==◌, ◌||◌, Bool, true, false, true≢false, List, [], ◌∷◌, length, map, cond, refl, sym, ◌∙◌, ap, subst, arith}
-use Rattle.std.specs.Prelude.{filter}
+use Rattle.std.proofs.Common.{◌≡◌, ℕ, ◌<◌, ◌==◌, ◌||◌, Bool, true, false, true≢false, List, [], ◌∷◌, length, map, refl, sym, ◌∙◌, ap, arith}
 use Rattle.std.specs.List.{AllByRecursion, list_any}
 use Rattle.std.specs.List.Sorted.{IsStrictlySortedBy}
-use Rattle.std.specs.Ordering.{nat_cmp, ordering_then, eq_by_cmp, flip_args, is_lt}
+use Rattle.std.specs.Ordering.{nat_cmp, ordering_then, eq_by_cmp, flip_args}
 use Rattle.std.specs.Cmp.{IsTotalOrder, Equal-is, tied_itself, both_ways}
 use Rattle.std.specs.Cmp.Lexicographic.{slice_cmp}
 use Rattle.std.specs.FinMap.{IsAntisymmetric}
 use Rattle.std.specs.Str.{bytes_eq}
 use Rattle.std.specs.declared.cmp.Ordering.{Ordering}
 use Rattle.std.specs.declared.cmp.Ordering.TheVariants.{Less, Equal, Greater}
+use Rattle.std.proofs.lemmas.Bool.{or_right}
 use Rattle.std.proofs.lemmas.Bool.Decides.{nat_tests}
 use Rattle.std.proofs.lemmas.Cmp.{then_total, on_total, back_total, nat_cmp_total, nat_list_cmp_total}
+use Rattle.std.proofs.lemmas.List.Elements.{All-from_recursion, recursion_from_All}
 use Rattle.std.proofs.lemmas.Map.Lookups.{exact_pairs, exact_unsigned, exact_bytes}
 use Rattle.std.proofs.lemmas.Slice.Eq.{bytes_eq-Decides}
 use Rattle.cs_base.specs.Members.{members_in}
 use Rattle.cs_base.specs.declared.doc.Post.{Post}
 use Rattle.cs_base.specs.declared.doc.Row.{Row}
-use Rattle.cs_base.proofs.MembersLemmas.{members_are, is_member-listed, listing-rises}
+use Rattle.cs_base.proofs.MembersLemmas.{all_then, members_are, is_member-listed, listing-rises}
+use Rattle.cs_base.proofs.NameMaps.{name_sym}
+use Rattle.cs_docs.proofs.TextLemmas.{All-members}
 use Rattle.cs_model.specs.Answers.{by_count, table_of}
 use Rattle.cs_model.specs.Answers as rows
 use Rattle.cs_tables.specs.declared.tables.Completion.{Completion}
 use Rattle.cs_tables.specs.Listings.{by_docs, table, of_word, completion_of}
 use Rattle.cs_engine.specs.Stocked.{word_at, row_of, rows_at, named_at}
-use Rattle.cs_engine.proofs.VocabLemmas.{filter_through, filter_alike, any_through, all_then, less_word, three_ways}
+use Rattle.cs_vocab.proofs.RangesLemmas.{three_ways}
+use Rattle.cs_engine.proofs.VocabLemmas.{filter_through, filter_alike, any_through, apart, is_less, less_word}
 
 -- ---- listings
-
-or_later : (a b : Bool) → b ≡ true → (a || b) ≡ true
-or_later true b e = refl
-or_later false b e = e
 
 module _ {X : Type 0} (R : X → X → Ordering) (o : IsTotalOrder R) (exact : IsAntisymmetric R) where
   same : (q x : X) → eq_by_cmp R q x ≡ true → q ≡ x
@@ -48,7 +47,7 @@ module _ {X : Type 0} (R : X → X → Ordering) (o : IsTotalOrder R) (exact : I
   any_at t x (y ∷ ys) e m =
       elim (eq_by_cmp R x y) as (λ s. eq_by_cmp R x y ≡ s → (s || list_any (eq_by_cmp R x) ys) ≡ true → (t y || list_any t ys) ≡ true) [
         | true ↦ λ s _. ap (λ z. t z || list_any t ys) (sym (same x y s)) ∙ ap (λ b. b || list_any t ys) e
-        | false ↦ λ s r. or_later (t y) _ (any_at t x ys e r)
+        | false ↦ λ s r. or_right (t y) _ (any_at t x ys e r)
       ] refl m
 
   any_among : (t : X → Bool) (xs ys : List X) → ((q : X) → list_any (eq_by_cmp R q) xs ≡ true → list_any (eq_by_cmp R q) ys ≡ true) → list_any t xs ≡ true → list_any t ys ≡ true
@@ -56,7 +55,7 @@ module _ {X : Type 0} (R : X → X → Ordering) (o : IsTotalOrder R) (exact : I
   any_among t (x ∷ xs) ys h e =
       elim (t x) as (λ s. t x ≡ s → (s || list_any t xs) ≡ true → list_any t ys ≡ true) [
         | true ↦ λ s _. any_at t x ys s (h x (ap (λ b. b || list_any (eq_by_cmp R x) xs) (own x)))
-        | false ↦ λ s r. any_among t xs ys (λ q m. h q (or_later (eq_by_cmp R q x) _ m)) r
+        | false ↦ λ s r. any_among t xs ys (λ q m. h q (or_right (eq_by_cmp R q x) _ m)) r
       ] refl e
 
   pub any_listed : (t : X → Bool) (xs : List X) → list_any t (members_in R xs) ≡ list_any t xs
@@ -64,22 +63,6 @@ module _ {X : Type 0} (R : X → X → Ordering) (o : IsTotalOrder R) (exact : I
       both_ways _ _
       (any_among t (members_in R xs) xs (λ q m. sym (is_member-listed R o xs q) ∙ m))
       (any_among t xs (members_in R xs) (λ q m. is_member-listed R o xs q ∙ m))
-
-  one_of : (P : X → Type 0) (x : X) (xs : List X) → AllByRecursion P xs → list_any (eq_by_cmp R x) xs ≡ true → P x
-  one_of P x [] h m = absurd (true≢false (sym m))
-  one_of P x (y ∷ xs) h m =
-      elim (eq_by_cmp R x y) as (λ b. eq_by_cmp R x y ≡ b → (b || list_any (eq_by_cmp R x) xs) ≡ true → P x) [
-        | true ↦ λ e r. subst P (sym (same x y e)) h.0
-        | false ↦ λ e r. one_of P x xs h.1 r
-      ] refl m
-
-  all_among : (P : X → Type 0) (ys xs : List X) → AllByRecursion P xs → ((q : X) → list_any (eq_by_cmp R q) ys ≡ true → list_any (eq_by_cmp R q) xs ≡ true) → AllByRecursion P ys
-  all_among P [] xs h members = tt
-  all_among P (y ∷ ys) xs h members =
-      (one_of P y xs h (members y (ap (λ b. b || list_any (eq_by_cmp R y) ys) (own y))), all_among P ys xs h (λ q m. members q (or_later (eq_by_cmp R q y) _ m)))
-
-  pub all_listed : (P : X → Type 0) (xs : List X) → AllByRecursion P xs → AllByRecursion P (members_in R xs)
-  all_listed P xs h = all_among P (members_in R xs) xs h (λ q m. sym (is_member-listed R o xs q) ∙ m)
 
 -- ---- orders
 
@@ -99,9 +82,6 @@ by_count_exact a b h =
     ap (λ (p : ℕ × List ℕ). let c : rows.Completion = record { docs = p.0; word = p.1 } in c)
     (exact_pairs (flip_args nat_cmp) (slice_cmp nat_cmp) (λ x y e. sym (exact_unsigned y x e)) exact_bytes (a.docs, a.word) (b.docs, b.word) h)
 
-is_less : (x y : ℕ) → nat_cmp x y ≡ Less → x < y
-is_less x y h = grind (arith, nat_tests)
-
 is_same : (m n : ℕ) → m ≡ n → (m == n) ≡ true
 is_same m n h = grind (arith, nat_tests)
 
@@ -111,24 +91,14 @@ is_under m n h = grind (arith, nat_tests)
 is_over : (m n : ℕ) → n < m → (m == n) ≡ false
 is_over m n h = grind (arith, nat_tests)
 
-differ : (v w : List ℕ) → slice_cmp nat_cmp v w ≡ Less → (v ≡ w → true ≡ false)
-differ v w h e = sym (ap is_lt h) ∙ ap (λ x. is_lt (slice_cmp nat_cmp v x)) (sym e) ∙ ap is_lt (tied_itself nat_list_cmp_total v)
-
-not_eq : (v w : List ℕ) → (v ≡ w → true ≡ false) → bytes_eq v w ≡ false
-not_eq v w h =
-    elim (bytes_eq v w) as (λ b. bytes_eq v w ≡ b → b ≡ false) [
-      | true ↦ λ e. h ((bytes_eq-Decides v w).0 e)
-      | false ↦ λ e. refl
-    ] refl
-
 -- ---- tables
 
 module _ (ws : List (List ℕ)) (up : IsStrictlySortedBy (slice_cmp nat_cmp) ws) where
   same_word : (m n : ℕ) → m < length ws → n < length ws → bytes_eq (word_at ws m) (word_at ws n) ≡ (m == n)
   same_word m n k l = three_ways m n
-      (λ h. not_eq (word_at ws m) (word_at ws n) (differ (word_at ws m) (word_at ws n) (less_word ws up m n h l)) ∙ sym (is_under m n h))
+      (λ h. apart (word_at ws m) (word_at ws n) (less_word ws up m n h l) ∙ sym (is_under m n h))
       (λ h. (bytes_eq-Decides (word_at ws m) (word_at ws n)).1 (ap (word_at ws) h) ∙ sym (is_same m n h))
-      (λ h. not_eq (word_at ws m) (word_at ws n) (λ e. differ (word_at ws n) (word_at ws m) (less_word ws up n m h k) (sym e)) ∙ sym (is_over m n h))
+      (λ h. name_sym (word_at ws m) (word_at ws n) ∙ apart (word_at ws n) (word_at ws m) (less_word ws up n m h k) ∙ sym (is_over m n h))
 
   below_named : (o : Ordering) (m n : ℕ) → n < length ws → ordering_then o (nat_cmp m n) ≡ Less → ordering_then o (slice_cmp nat_cmp (word_at ws m) (word_at ws n)) ≡ Less
   below_named Less m n l h = refl
@@ -171,7 +141,8 @@ module _ (ws : List (List ℕ)) (up : IsStrictlySortedBy (slice_cmp nat_cmp) ws)
 
     -- the words of the table are there
     pub table_known : AllByRecursion (λ c. c.word < length ws) (table ps)
-    table_known = all_listed by_docs by_docs_total by_docs_exact IsThere listed_words (there ps known)
+    table_known =
+        recursion_from_All IsThere (table ps) (All-members by_docs by_docs_total by_docs_exact IsThere listed_words (All-from_recursion IsThere listed_words (there ps known)))
 
     any_named : (q : rows.Completion) (qs : List Post) → AllByRecursion (λ p. p.word < length ws) qs
         → list_any (λ c. eq_by_cmp by_count q (named_at ws c)) (map (λ p. completion_of ps p.word) qs) ≡ list_any (eq_by_cmp by_count q) (map (λ r. rows.completion_of (rows_at ws ps) r.word) (rows_at ws qs))

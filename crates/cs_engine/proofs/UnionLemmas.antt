@@ -4,13 +4,14 @@
 --   united           what unites two lists of picked posts stands for the listing of their rows
 --   united_more      one more list goes into a listing
 --   linked_phrase, linked_near    links of rows are links of posts
-use Rattle.std.proofs.Common.{◌≡◌, ℕ, ◌+◌, ◌-◌, ◌<◌, ◌==◌, ◌&&◌, ◌||◌, Bool, true, false, true≢false, not, List, [], ◌∷◌, ◌++◌, length, map, take, drop, drop-cons, add-one, get_or, cond, refl, sym, ◌∙◌, ap, subst, arith}
-use Rattle.std.specs.Prelude.{filter, nat_lt, nat_le}
+use Rattle.std.proofs.Common.{◌≡◌, ℕ, ◌+◌, ◌-◌, ◌<◌, ◌==◌, ◌&&◌, ◌||◌, Bool, true, false, true≢false, not, List, [], ◌∷◌, ◌++◌, length, map, take, drop, drop-cons, add-one, get_or, cond, append-nil, refl, sym, ◌∙◌, ap, subst, arith}
+use Rattle.std.specs.Prelude.{nat_lt, nat_le}
 use Rattle.std.specs.List.{All, AllByRecursion, Contains, list_any, flat_map}
 use Rattle.std.specs.List.Sorted.{IsPermutation, IsStrictlySortedBy}
 use Rattle.std.specs.Ordering.{nat_cmp, eq_by_cmp, ordering_then, is_lt}
 use Rattle.std.specs.declared.cmp.Ordering.{Ordering}
 use Rattle.std.specs.declared.cmp.Ordering.TheVariants.{Less, Equal}
+use Rattle.std.proofs.lemmas.Bool.{and_parts}
 use Rattle.std.proofs.lemmas.Bool.Decides.{nat_tests}
 use Rattle.std.proofs.lemmas.Grind.{flat_map-append}
 use Rattle.std.proofs.lemmas.List.{map-append, get_or_default, take_more}
@@ -26,7 +27,7 @@ use Rattle.cs_base.specs.declared.query.Chain.{Chain}
 use Rattle.cs_base.specs.declared.query.Linked.{Linked, out-Linked}
 use Rattle.cs_base.specs.declared.query.Link.{Link}
 use Rattle.cs_base.specs.declared.query.Link.TheVariants.{Phrase, Near}
-use Rattle.cs_base.proofs.MembersLemmas.{members_are, members-alike, is_member-listed, listed_itself}
+use Rattle.cs_base.proofs.MembersLemmas.{all_then, members_are, members-alike, is_member-listed, listed_itself}
 use Rattle.cs_base.proofs.OrdersLemmas.{by_row_total, by_row_exact}
 use Rattle.cs_meet.specs.Filters.{IsUnion, shares_place, missing, follow, near, stands_behind, is_near}
 use Rattle.cs_model.specs.Answers.{LinkedRows, is_linked, linked_to, union_of, chained, rows_of_chain, rows_of_linked, rows_of_atom}
@@ -34,7 +35,8 @@ use Rattle.cs_engine.specs.Stocked.{row_of, rows_at, corpus_in, linked_posts, Is
 use Rattle.cs_engine.proofs.AtomsLemmas.{picked_again}
 use Rattle.cs_engine.proofs.FoldsLemmas.{linked_rows-is}
 use Rattle.cs_engine.specs.declared.stock.Stock.{Stock}
-use Rattle.cs_engine.proofs.VocabLemmas.{filter_through, filter_alike, any_through, all_then, three_ways, rows_rise}
+use Rattle.cs_vocab.proofs.RangesLemmas.{three_ways}
+use Rattle.cs_engine.proofs.VocabLemmas.{filter_through, filter_alike, any_through, rows_rise}
 
 -- ---- one post at a place
 
@@ -44,26 +46,18 @@ tie_numbers x y h = grind (arith, nat_tests)
 tie_back : (x y : ℕ) → (x == y) ≡ true → nat_cmp y x ≡ Equal
 tie_back x y h = grind (arith, nat_tests)
 
-and_first : (a b : Bool) → (a && b) ≡ true → a ≡ true
-and_first true b h = refl
-and_first false b h = h
-
-and_second : (a b : Bool) → (a && b) ≡ true → b ≡ true
-and_second true b h = h
-and_second false b h = absurd (true≢false (sym h))
-
 tied : (a b c : Ordering) → a ≡ Equal → b ≡ Equal → c ≡ Equal → ordering_then a (ordering_then b c) ≡ Equal
 tied a b c p q r = ap (λ o. ordering_then o (ordering_then b c)) p ∙ ap (λ o. ordering_then o c) q ∙ r
 
 module _ (x y : Post) (same : shares_place x y ≡ true) where
   doc_same : (y.doc == x.doc) ≡ true
-  doc_same = and_first _ _ same
+  doc_same = (and_parts _ _ same).0
 
   pos_same : (y.pos == x.pos) ≡ true
-  pos_same = and_first _ _ (and_second (y.doc == x.doc) _ same)
+  pos_same = (and_parts _ _ (and_parts (y.doc == x.doc) _ same).1).0
 
   word_same : (y.word == x.word) ≡ true
-  word_same = and_second (y.pos == x.pos) _ (and_second (y.doc == x.doc) _ same)
+  word_same = (and_parts (y.pos == x.pos) _ (and_parts (y.doc == x.doc) _ same).1).1
 
   tied_on : by_place y x ≡ Equal
   tied_on = tied (nat_cmp y.doc x.doc) (nat_cmp y.pos x.pos) (nat_cmp y.word x.word) (tie_numbers _ _ doc_same) (tie_numbers _ _ pos_same) (tie_numbers _ _ word_same)
@@ -150,12 +144,8 @@ united_more found next chains is =
     ∙ sym (list_any-append (eq_by_cmp by_row q) (flat_map (λ rows. rows) chains) next)
     ∙ ap (list_any (eq_by_cmp by_row q)) (sym (last_piece chains)))
   where
-    none_behind : (rows : List Row) → rows ++ [] ≡ rows
-    none_behind [] = refl
-    none_behind (r ∷ rows) = ap (λ l. r ∷ l) (none_behind rows)
-
     last_piece : (chains : List (List Row)) → flat_map (λ rows. rows) (chains ++ next ∷ []) ≡ flat_map (λ rows. rows) chains ++ next
-    last_piece chains = flat_map-append (λ rows. rows) chains (next ∷ []) ∙ ap (λ l. flat_map (λ rows. rows) chains ++ l) (none_behind next)
+    last_piece chains = flat_map-append (λ rows. rows) chains (next ∷ []) ∙ ap (λ l. flat_map (λ rows. rows) chains ++ l) (append-nil next)
 
 -- ---- links
 

@@ -3,24 +3,27 @@
 --   filter_through       a filter of rows is one of posts
 --   filter_alike         tests that agree on a list filter it alike
 --   any_through          a test of rows is one of posts
+--   apart                words in order differ
 --   less_word            numbers of words ascend as the words do
 --   rows_rise            sorted posts stand for rows in order
 --   posts_rise           posts that stand for rows in order are sorted
-use Rattle.std.proofs.Common.{◌≡◌, ℕ, ◌<◌, ◌≤◌, Bool, true, false, true≢false, ◌||◌, cond, List, [], ◌∷◌, length, map, get_or, refl, sym, ◌∙◌, ap, subst, arith}
-use Rattle.std.specs.Prelude.{filter, nat_lt}
+use Rattle.std.proofs.Common.{◌≡◌, ℕ, ◌<◌, ◌≤◌, Bool, true, false, true≢false, ◌||◌, cond, List, [], ◌∷◌, length, map, refl, sym, ◌∙◌, ap, arith}
+use Rattle.std.specs.Prelude.{filter}
 use Rattle.std.specs.List.{AllByRecursion, list_any}
 use Rattle.std.specs.List.Sorted.{IsStrictlySortedBy}
-use Rattle.std.specs.Ordering.{nat_cmp, ordering_then, is_eq, is_lt}
+use Rattle.std.specs.Ordering.{nat_cmp, ordering_then, is_lt}
 use Rattle.std.specs.Cmp.{tied_itself}
 use Rattle.std.specs.Cmp.Lexicographic.{slice_cmp}
 use Rattle.std.specs.declared.cmp.Ordering.{Ordering}
 use Rattle.std.specs.declared.cmp.Ordering.TheVariants.{Less, Equal, Greater}
+use Rattle.std.specs.Str.{bytes_eq}
+use Rattle.std.proofs.lemmas.Bool.{false_from_ne_true}
 use Rattle.std.proofs.lemmas.Bool.Decides.{nat_tests}
 use Rattle.std.proofs.lemmas.Cmp.{nat_list_cmp_total}
 use Rattle.std.proofs.lemmas.Map.Keys.{Less-from_sorted}
+use Rattle.std.proofs.lemmas.Slice.Eq.{bytes_eq-Decides}
 use Rattle.cs_base.specs.Orders.{by_row, by_place, AreSorted}
 use Rattle.cs_base.specs.declared.doc.Post.{Post}
-use Rattle.cs_base.proofs.MembersLemmas.{all_then}
 use Rattle.cs_vocab.proofs.RangesLemmas.{three_ways}
 use Rattle.cs_docs.proofs.ListingLemmas.{by_spot}
 use Rattle.cs_engine.specs.Stocked.{word_at, row_of, rows_at}
@@ -42,11 +45,16 @@ pub filter_alike : {X : Type 0} (p q : X → Bool) (xs : List X) → AllByRecurs
 filter_alike p q [] h = refl
 filter_alike p q (x ∷ xs) h = ap (λ b. cond b (x ∷ filter p xs) (filter p xs)) h.0 ∙ ap (λ l. cond (q x) (x ∷ l) l) (filter_alike p q xs h.1)
 
-is_less : (x y : ℕ) → nat_cmp x y ≡ Less → x < y
+pub is_less : (x y : ℕ) → nat_cmp x y ≡ Less → x < y
 is_less x y h = grind (arith, nat_tests)
 
-less_number : (x y : ℕ) → x < y → nat_cmp x y ≡ Less
+pub less_number : (x y : ℕ) → x < y → nat_cmp x y ≡ Less
 less_number x y h = grind (arith, nat_tests)
+
+-- a word is no other one that comes before it
+pub apart : (v w : List ℕ) → slice_cmp nat_cmp v w ≡ Less → bytes_eq v w ≡ false
+apart v w h =
+    false_from_ne_true _ (λ e. true≢false (sym (ap is_lt h) ∙ ap (λ x. is_lt (slice_cmp nat_cmp v x)) (sym ((bytes_eq-Decides v w).0 e)) ∙ ap is_lt (tied_itself nat_list_cmp_total v)))
 
 module _ (ws : List (List ℕ)) (up : IsStrictlySortedBy (slice_cmp nat_cmp) ws) where
   pub less_word : (m n : ℕ) → m < n → n < length ws → slice_cmp nat_cmp (word_at ws m) (word_at ws n) ≡ Less

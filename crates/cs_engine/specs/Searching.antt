@@ -1,12 +1,16 @@
 -- What callers see of a corpus in memory, and which queries it answers.
 --
---   Searched               titles by document number from 0, and rows by document, position and word
---   searched docs          those of a list of documents
---   corpus_searched s      the corpus that has them
+--   CorpusView             titles by document, and rows by document, position and word
+--   view_of docs           those of a list of documents
+--   by_number titles       each title at its number in the list
+--   corpus_of_view v       the corpus that has them
 --   has_join q             a join stands somewhere in the query
+--   atom_has_join, linked_has_join, chain_has_join, part_has_join      a join stands somewhere in these
+--   is_join, linked_joins, chain_joins, part_joins, query_joins        one level of a query, with whether its parts have a join in their places
 use Rattle.std.specs.Prelude.{ℕ, Bool, true, false, ◌||◌, List, map}
 use Rattle.std.specs.List.{list_any, enumerate_from}
 use Rattle.std.specs.FinMap as map
+use Rattle.std.specs.Ordering.{nat_cmp}
 use Rattle.cs_base.specs.declared.doc.Doc.{Doc}
 use Rattle.cs_base.specs.declared.doc.Row.{Row}
 use Rattle.cs_base.specs.declared.query.Query.{Query}
@@ -18,43 +22,59 @@ use Rattle.cs_base.specs.declared.query.Atom.{Atom}
 use Rattle.cs_base.specs.declared.query.Atom.TheFolds.{fold-Query, fold-Part, fold-Chain, fold-Linked, fold-Atom}
 use Rattle.cs_model.specs.Corpus.{Corpus, rows_of, title_of}
 
-pub record Searched : Type 0 where
+-- the title of document 0 comes first, and rows are in the order of a corpus
+pub record CorpusView : Type 0 where
   pub titles : List (List ℕ)
   pub rows : List Row
 
-abbrev pub searched : List Doc → Searched
-searched docs = record { titles = map title_of docs; rows = rows_of docs }
+-- of no documents it has no title and no row
+abbrev pub view_of : List Doc → CorpusView
+view_of docs = record { titles = map title_of docs; rows = rows_of docs }
 
-abbrev pub corpus_searched : Searched → Corpus
-corpus_searched s = record { titles = map.from_entries (enumerate_from 0 s.titles); rows = s.rows }
+-- the first title at 0; none from their count on
+abbrev pub by_number : List (List ℕ) → map.FinMap nat_cmp (List ℕ)
+by_number titles = map.from_entries (enumerate_from 0 titles)
+
+-- of the view of documents it is their corpus
+abbrev pub corpus_of_view : CorpusView → Corpus
+corpus_of_view v = record { titles = by_number v.titles; rows = v.rows }
 
 -- ---- joins, level by level
+-- the atom itself is a join
 abbrev pub is_join : Atom-F Bool Bool Bool Bool Bool → Bool
 is_join (Atom-F.Prefix p) = false
 is_join (Atom-F.Exact w) = false
 is_join (Atom-F.Join name inner) = true
 
+-- its atom is a join
 abbrev pub linked_joins : Linked-F Bool Bool Bool Bool Bool → Bool
 linked_joins l = l.atom
 
+-- its first atom is a join, or a linked one is
 abbrev pub chain_joins : Chain-F Bool Bool Bool Bool Bool → Bool
 chain_joins c = c.first || list_any (λ b. b) c.rest
 
+-- one of its chains has a join; none where it has no chain
 abbrev pub part_joins : Part-F Bool Bool Bool Bool Bool → Bool
 part_joins p = list_any (λ b. b) p.chains
 
+-- one of its parts has a join; none where it has no part
 abbrev pub query_joins : Query-F Bool Bool Bool Bool Bool → Bool
 query_joins q = list_any (λ b. b) q.parts
 
+-- a join has one, whatever stands in it
 abbrev pub atom_has_join : Atom → Bool
 atom_has_join = fold-Atom Bool Bool Bool Bool Bool is_join chain_joins linked_joins part_joins query_joins
 
+-- its atom is a join
 abbrev pub linked_has_join : Linked → Bool
 linked_has_join = fold-Linked Bool Bool Bool Bool Bool is_join chain_joins linked_joins part_joins query_joins
 
+-- one of its atoms is a join
 abbrev pub chain_has_join : Chain → Bool
 chain_has_join = fold-Chain Bool Bool Bool Bool Bool is_join chain_joins linked_joins part_joins query_joins
 
+-- one of the atoms of its chains is a join
 abbrev pub part_has_join : Part → Bool
 part_has_join = fold-Part Bool Bool Bool Bool Bool is_join chain_joins linked_joins part_joins query_joins
 

@@ -1,13 +1,13 @@
 //! The rows of an atom.
-ghost use Rattle.std.specs.Prelude.{◌≡◌, ◌≤◌, ◌&&◌, ◌^◌, false, [], nat_le, nat_lt, filter, length, IfOk};
+ghost use Rattle.std.specs.Prelude.{◌≡◌, ◌≤◌, ◌&&◌, false, nat_le, nat_lt, filter, length, IfOk};
 ghost use Rattle.std.specs.List.Sorted.{IsStrictlySortedBy};
 ghost use Rattle.std.specs.Ordering.{nat_cmp};
 ghost use Rattle.std.specs.Cmp.Lexicographic.{slice_cmp};
 ghost use Rattle.std.specs.Str.{bytes_eq};
-ghost use Rattle.cs_model.specs.Answers.{begins, rows_of_atom};
-ghost use Rattle.cs_model.specs.Collection.{named};
+ghost use Rattle.cs_base.specs.declared.limits.TheConstants.{MAX_WORDS};
+ghost use Rattle.cs_model.specs.Answers.{rows_of_atom};
 ghost use Rattle.cs_engine.specs.Searching.{atom_has_join};
-ghost use Rattle.cs_engine.specs.Stocked.{rows_at, corpus_in, IsStocked, IsPicked, IsSpan, is_between, atom_test};
+ghost use Rattle.cs_engine.specs.Stocked.{rows_at, corpus_in, IsStocked, IsPicked, IsSpan, is_between, atom_test, named_rows};
 
 use crate::stock::Stock;
 use cs_base::{Atom, Memory, Text};
@@ -32,7 +32,7 @@ pub(crate) fn rows_of_atom(alloc: Global, stock: &Stock, atom: &Atom) -> Result<
 pub(crate) fn rows_of_facet(alloc: Global, stock: &Stock, name: &Text) -> Result<Cols, Memory>
     requires { IsStocked stock.now }
 
-    ensures ok { IfOk result (λ c. rows_at stock.now.words c.posts ≡ filter (λ r. begins (named name.now []) r.word) (rows_at stock.now.words stock.now.posts.posts)) }
+    ensures ok { IfOk result (λ c. rows_at stock.now.words c.posts ≡ named_rows stock.now name.now) }
     ensures picked { IfOk result (λ c. IsPicked stock.now c.posts) }
 {
     let mut prefix = Text::new(alloc);
@@ -47,7 +47,7 @@ pub(crate) fn rows_of_facet(alloc: Global, stock: &Stock, name: &Text) -> Result
 // The numbers of the words that an atom asks for: from the first up to the second, which is left out.
 fn span(words: &Vocab, atom: &Atom) -> (u32, u32)
     requires ascending { IsStrictlySortedBy (slice_cmp nat_cmp) words.now }
-    requires few { length words.now ≤ 2 ^ 22 }
+    requires few { length words.now ≤ MAX_WORDS }
 
     ensures { IsSpan words.now (atom_test atom.now) result.0 result.1 }
 {
@@ -60,7 +60,7 @@ fn span(words: &Vocab, atom: &Atom) -> (u32, u32)
 
 fn span_of_word(words: &Vocab, word: &[u8]) -> (u32, u32)
     requires ascending { IsStrictlySortedBy (slice_cmp nat_cmp) words.now }
-    requires few { length words.now ≤ 2 ^ 22 }
+    requires few { length words.now ≤ MAX_WORDS }
 
     ensures { IsSpan words.now (λ v. bytes_eq v word.now) result.0 result.1 }
 {

@@ -1,12 +1,13 @@
 //! A corpus in memory, and its replies.
-ghost use Rattle.std.specs.Prelude.{◌≡◌, ◌≤◌, ◌<◌, ◌^◌, false, length, IfOk, OnOk, IsErrOf};
+ghost use Rattle.std.specs.Prelude.{◌≡◌, ◌≤◌, ◌<◌, false, length, IfOk, OnOk, IsErrOf};
 ghost use Rattle.std.specs.List.{All};
 ghost use Rattle.std.specs.Str.{IsUtf8};
+ghost use Rattle.cs_base.specs.declared.limits.TheConstants.{MAX_DOCS, MAX_ROWS, MAX_WORDS};
 ghost use Rattle.cs_model.specs.Corpus.{rows_of, distinct_words};
 ghost use Rattle.cs_model.specs.Parameters.{HoldsLimits};
 ghost use Rattle.cs_model.specs.Requests.{reply_of};
 ghost use Rattle.cs_query.specs.RequestView.{asked};
-ghost use Rattle.cs_engine.specs.Searching.{searched, corpus_searched, has_join};
+ghost use Rattle.cs_engine.specs.Searching.{view_of, corpus_of_view, has_join};
 
 use crate::building::{posts_of, titles_of};
 use crate::replies::reply_to;
@@ -33,13 +34,13 @@ pub struct Corpus {
 }
 
 impl Model for Corpus {
-    ghost use Rattle.cs_engine.specs.Searching.{Searched};
+    ghost use Rattle.cs_engine.specs.Searching.{CorpusView};
 
-    ghost Value = { Searched };
+    ghost Value = { CorpusView };
 
-    ghost use Rattle.cs_engine.specs.Stocked.{searched_in, IsStocked};
+    ghost use Rattle.cs_engine.specs.Stocked.{view_in, IsStocked};
 
-    ghost view = { λ c. searched_in c.stock };
+    ghost view = { λ c. view_in c.stock };
 
     ghost invariant = { λ c. IsStocked c.stock };
 }
@@ -48,13 +49,13 @@ impl Corpus {
     /// The corpus of a collection's documents and their rows.
     pub fn new(alloc: Global, docs: Seq<Doc>, rows: Seq<Row>) -> Result<Corpus, CorpusFault>
         requires rows { rows ≡ rows_of docs }
-        requires few { length rows ≤ 2 ^ 24 }
-        requires few_docs { length docs ≤ 2 ^ 20 }
+        requires few { length rows ≤ MAX_ROWS }
+        requires few_docs { length docs ≤ MAX_DOCS }
         requires utf8 { All (λ r. IsUtf8 r.word) rows }
 
-        ensures ok { IfOk result (λ c. c ≡ searched docs) }
-        ensures few_words { OnOk result (length (distinct_words rows) ≤ 2 ^ 22) }
-        ensures too_many_words { IsErrOf result CorpusFault.TooManyWords → 2 ^ 22 < length (distinct_words rows) }
+        ensures ok { IfOk result (λ c. c ≡ view_of docs) }
+        ensures few_words { OnOk result (length (distinct_words rows) ≤ MAX_WORDS) }
+        ensures too_many_words { IsErrOf result CorpusFault.TooManyWords → MAX_WORDS < length (distinct_words rows) }
     {
         let words = Vocab::of(alloc, &rows)?;
         if words.len() as usize > MAX_WORDS {
@@ -76,7 +77,7 @@ impl Corpus {
         requires limits { HoldsLimits (asked request.now) }
         requires no_join { has_join request.now.query ≡ false }
 
-        ensures ok { IfOk result (λ r. r ≡ reply_of (corpus_searched self.now) (asked request.now)) }
+        ensures ok { IfOk result (λ r. r ≡ reply_of (corpus_of_view self.now) (asked request.now)) }
     {
         let reply = reply_to(alloc, &self.stock, request)?;
         Ok(reply)

@@ -1,13 +1,14 @@
 //! Hits with their scores, part by part.
-ghost use Rattle.std.specs.Prelude.{◌≡◌, ◌≤◌, ◌<◌, ◌^◌, ◌++◌, ◌∷◌, [], false, if◌then◌else◌, IfOk, length, map};
+ghost use Rattle.std.specs.Prelude.{◌≡◌, ◌≤◌, ◌<◌, false, IfOk, length, map};
 ghost use Rattle.std.specs.List.{All};
 ghost use Rattle.cs_base.specs.declared.query.Query.{out-Query};
 ghost use Rattle.cs_meet.specs.Filters.{keep_docs, drop_docs};
 ghost use Rattle.cs_base.specs.Orders.{AreByDoc, AreSorted};
+ghost use Rattle.cs_base.specs.declared.limits.TheConstants.{MAX_PARTS};
 ghost use Rattle.cs_model.specs.Answers.{parts_of};
-ghost use Rattle.cs_rank.specs.DocScores.{IsBase, scores};
+ghost use Rattle.cs_rank.specs.DocScores.{IsBase};
 ghost use Rattle.cs_engine.specs.Searching.{has_join};
-ghost use Rattle.cs_engine.specs.Stocked.{corpus_in, IsStocked, IsFound, every, listed, docs_in};
+ghost use Rattle.cs_engine.specs.Stocked.{corpus_in, IsStocked, IsFound, every, listed, docs_in, hits_after, pairs_after};
 
 use crate::parts::rows_of_part;
 use crate::stock::Stock;
@@ -29,7 +30,7 @@ pub(crate) struct Found {
 /// The hits of a query without a join, and its pairs.
 pub(crate) fn found_by(alloc: Global, stock: &Stock, query: &Query) -> Result<Found, Memory>
     requires stocked { IsStocked stock.now }
-    requires few { length (out-Query query.now).parts ≤ 16 }
+    requires few { length (out-Query query.now).parts ≤ MAX_PARTS }
     requires no_join { has_join query.now ≡ false }
 
     ensures ok { IfOk result (λ f. IsFound stock.now (parts_of (corpus_in stock.now) query.now) f.base f.pairs.posts) }
@@ -58,8 +59,8 @@ fn narrowed(
     requires rows_sorted { AreSorted rows.posts }
     requires known { All (λ p. p.doc < docs) rows.posts }
 
-    ensures hits { IfOk result (λ f. listed docs f.base ≡ (if excluded then drop_docs (listed docs base.now) rows.posts else scores base.now (keep_docs rows.posts (docs_in docs base.now)))) }
-    ensures pairs { IfOk result (λ f. f.pairs.posts ≡ (if excluded then [] else keep_docs rows.posts (docs_in docs base.now))) }
+    ensures hits { IfOk result (λ f. listed docs f.base ≡ hits_after docs base.now excluded rows.posts) }
+    ensures pairs { IfOk result (λ f. f.pairs.posts ≡ pairs_after docs base.now excluded rows.posts) }
 {
     if excluded {
         let left = without(alloc, docs, base, &rows)?;

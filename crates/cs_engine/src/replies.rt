@@ -1,7 +1,6 @@
 //! Replies to requests.
-ghost use Rattle.std.specs.Prelude.{◌≡◌, ◌<◌, ◌≤◌, ◌^◌, false, [], IfOk, length, map, filter};
+ghost use Rattle.std.specs.Prelude.{◌≡◌, ◌<◌, false, IfOk, length, map};
 ghost use Rattle.std.specs.List.{All};
-ghost use Rattle.std.specs.List.Sorted.{IsStrictlySortedBy};
 ghost use Rattle.std.specs.Str.{IsUtf8};
 ghost use Rattle.cs_model.specs.Parameters.{HoldsLimits};
 ghost use Rattle.cs_model.specs.Requests.{reply_of, hit_shown};

@@ -4,7 +4,7 @@ use Rattle.std.specs.Prelude.{Option}
 use Rattle.cs_base.specs.Outside.{Held}
 use Rattle.cs_model.specs.Corpus.{Corpus, corpus}
 use Rattle.cs_model.specs.Outputs.{PutSome, memory_text, script_lines}
-use Rattle.cs_engine.specs.Searching.{Searched, corpus_searched}
+use Rattle.cs_engine.specs.Searching.{CorpusView, corpus_of_view}
 use Rattle.cs_top.specs.Asking.{answered_of, answered_by, readable_lines, ending_by, ending_of, ending_of_lines}
 use Rattle.cs_top.specs.Endings.{Ending}
 use Rattle.cs_top.specs.EndedView.{stop_ending}
@@ -30,8 +30,8 @@ pub asked_stopped : (h : Held) (c s : List ℕ) (st : Stop) (w : Option (List �
 asked_stopped h c s st w is = record { expected = is; put = put_stopped st (corpus (held_bytes h c)) (answered_of h c s) w }
 
 -- its script was answered, as far as it goes
-pub asked_script : (h : Held) (c s : List ℕ) (k : Searched) (n : ℕ) (e : Ending) (w v : Option (List ℕ)) → IsReady h c s k n → IsExpected e (ending_of_lines (script_lines (held_bytes h s)))
-    → PutBy e (corpus_searched k) (script_lines (held_bytes h s)) w v → AskEnds e h c s w v
+pub asked_script : (h : Held) (c s : List ℕ) (k : CorpusView) (n : ℕ) (e : Ending) (w v : Option (List ℕ)) → IsReady h c s k n → IsExpected e (ending_of_lines (script_lines (held_bytes h s)))
+    → PutBy e (corpus_of_view k) (script_lines (held_bytes h s)) w v → AskEnds e h c s w v
 asked_script h c s k n e w v r is put =
     record {
       expected = subst (IsExpected e) (sym (r.ending ∙ ap (λ x. ending_by x (held_bytes h s)) r.accepted)) is;

@@ -13,16 +13,16 @@ use Rattle.std.specs.FinMap as map
 use Rattle.cs_base.specs.Outside.{File, Held, size_of}
 use Rattle.cs_model.specs.Collection.{CollectionRefusal}
 use Rattle.cs_model.specs.Corpus.{corpus, refusal}
-use Rattle.cs_engine.specs.Searching.{Searched, corpus_searched}
+use Rattle.cs_engine.specs.Searching.{CorpusView, corpus_of_view}
 use Rattle.cs_top.specs.Asking.{answered, answered_of, ending_of, ending_over}
 use Rattle.cs_top.specs.RefusalView.{refused}
 use Rattle.cs_top.specs.Runs.{held_bytes}
 use Rattle.cs_top.specs.declared.ending.Stop.TheVariants as stop
 use Rattle.cs_top.specs.declared.ending.Stop.{Stop}
 
-pub record IsReady (h : Held) (c s : List ℕ) (k : Searched) (n : ℕ) : Type 0 where
+pub record IsReady (h : Held) (c s : List ℕ) (k : CorpusView) (n : ℕ) : Type 0 where
   pub accepted : refusal (held_bytes h c) ≡ None
-  pub corpus : corpus_searched k ≡ corpus (held_bytes h c)
+  pub corpus : corpus_of_view k ≡ corpus (held_bytes h c)
   pub ending : ending_of h c s ≡ ending_over (held_bytes h c) (held_bytes h s)
   pub asked : answered_of h c s ≡ answered (held_bytes h c) (held_bytes h s)
   pub size : size_of (map.get h s) ≡ Some n

@@ -3,7 +3,7 @@ ghost use Rattle.std.specs.Prelude.{◌≡◌, ◌≢◌, ◌++◌, ◌∷◌, [
 ghost use Rattle.std.specs.Option.{option_map};
 ghost use Rattle.cs_base.specs.Causes.{Counted};
 ghost use Rattle.cs_base.specs.Outside.{Grew, GrewByPrefix};
-ghost use Rattle.cs_engine.specs.Searching.{corpus_searched, has_join};
+ghost use Rattle.cs_engine.specs.Searching.{corpus_of_view, has_join};
 ghost use Rattle.cs_json.specs.FaultTexts.{fault_text};
 ghost use Rattle.cs_json.specs.declared.fault.Fault.TheVariants as faults;
 ghost use Rattle.cs_model.specs.Outputs.{line_fault, text};
@@ -56,8 +56,8 @@ pub(crate) fn answer_line<O: Sink>(
     number: u64,
     out: &mut O,
 ) -> Result<(), ScriptEnd>
-    ensures ok { OnOk result (Passes (corpus_searched corpus.now) (number, line.now) (O.written out.old) (O.written out.new)) }
-    ensures err { IfErr result (λ e. Stops (script_ending e) (corpus_searched corpus.now) (number, line.now) (O.written out.old) (O.written out.new)) }
+    ensures ok { OnOk result (Passes (corpus_of_view corpus.now) (number, line.now) (O.written out.old) (O.written out.new)) }
+    ensures err { IfErr result (λ e. Stops (script_ending e) (corpus_of_view corpus.now) (number, line.now) (O.written out.old) (O.written out.new)) }
     ensures quiet { OnOk result (O.faults out.new ≡ O.faults out.old) }
     ensures caused { IfErr result (λ e. OutCaused (script_ending e) (O.faults out.old) (O.faults out.new)) }
 {
@@ -102,7 +102,7 @@ fn line_fault(line: &[u8], number: u64) -> Option<ScriptFault>
 
 // The text that answers a line, and its line ending.
 fn answer_bytes(alloc: Global, corpus: &Corpus, line: &[u8]) -> Result<Vec<u8>, Unanswered>
-    ensures ok { IfOk result (λ b. b.items ≡ text (corpus_searched corpus.now) line.now ++ 10 ∷ []) }
+    ensures ok { IfOk result (λ b. b.items ≡ text (corpus_of_view corpus.now) line.now ++ 10 ∷ []) }
     ensures join { IsErrOf result Unanswered.Join → asks_join line.now ≡ true }
     ensures built { OnOk result (asks_join line.now ≡ false) }
 {
@@ -122,7 +122,7 @@ fn reply_line(alloc: Global, corpus: &Corpus, wanted: &Request) -> Result<Vec<u8
     requires limits { HoldsLimits (asked wanted.now) }
     requires no_join { has_join wanted.now.query ≡ false }
 
-    ensures { IfOk result (λ b. b.items ≡ reply_text (reply_of (corpus_searched corpus.now) (asked wanted.now)) ++ 10 ∷ []) }
+    ensures { IfOk result (λ b. b.items ≡ reply_text (reply_of (corpus_of_view corpus.now) (asked wanted.now)) ++ 10 ∷ []) }
 {
     let reply = corpus.ask(alloc, wanted)?;
     let mut bytes = reply_bytes(alloc, &reply)?;

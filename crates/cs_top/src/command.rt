@@ -5,7 +5,7 @@ ghost use Rattle.std.specs.FinMap as fin;
 ghost use Rattle.std.specs.String.{string_bytes};
 ghost use Rattle.cs_base.specs.Outside.{size_of};
 ghost use Rattle.cs_model.specs.Corpus.{corpus, refusal};
-ghost use Rattle.cs_engine.specs.Searching.{corpus_searched};
+ghost use Rattle.cs_engine.specs.Searching.{corpus_of_view};
 ghost use Rattle.cs_top.specs.Asking.{ending_of};
 ghost use Rattle.cs_top.specs.Commands.{command_of};
 ghost use Rattle.cs_top.specs.Endings.{Ending, usage, status, line_of, Says};
@@ -138,7 +138,7 @@ fn read_corpus<'a, F: Files>(
 ) -> Result<Corpus, Stop<'a>>
     requires size { ForSome (F.held files.old) (λ h. size_of (fin.get h name.now) ≡ Some size) }
 
-    ensures ok { ForSome (F.held files.old) (λ h. IfOk result (λ k. corpus_searched k ≡ corpus (held_bytes h name.now))) }
+    ensures ok { ForSome (F.held files.old) (λ h. IfOk result (λ k. corpus_of_view k ≡ corpus (held_bytes h name.now))) }
     ensures accepted { ForSome (F.held files.old) (λ h. OnOk result (refusal (held_bytes h name.now) ≡ None)) }
     ensures stop { ForSome (F.held files.old) (λ h. IfErr result (λ s. IsRefused s (refusal (held_bytes h name.now)))) }
     ensures names { IfErr result IsNoAbsence }

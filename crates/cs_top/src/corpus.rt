@@ -1,7 +1,7 @@
 //! A collection's bytes, made into the corpus that is searched.
 ghost use Rattle.std.specs.Prelude.{◌≡◌, None, IfOk, IfErr, OnOk};
 ghost use Rattle.cs_model.specs.Corpus.{corpus, refusal};
-ghost use Rattle.cs_engine.specs.Searching.{corpus_searched};
+ghost use Rattle.cs_engine.specs.Searching.{corpus_of_view};
 ghost use Rattle.cs_top.specs.RefusalView.{IsCause};
 
 use crate::refusal::CollectionFault;
@@ -11,7 +11,7 @@ use std::alloc::Global;
 
 /// The corpus of a collection that is accepted.
 pub(crate) fn corpus_of(alloc: Global, bytes: &[u8]) -> Result<Corpus, CollectionFault>
-    ensures ok { IfOk result (λ k. corpus_searched k ≡ corpus bytes.now) }
+    ensures ok { IfOk result (λ k. corpus_of_view k ≡ corpus bytes.now) }
     ensures accepted { OnOk result (refusal bytes.now ≡ None) }
 
     // Each fault but want of memory is the first refusal.

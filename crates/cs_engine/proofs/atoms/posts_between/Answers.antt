@@ -1,7 +1,7 @@
 use Rattle.cs_engine.proofs.atoms.posts_between.Goals as goal
 use Rattle.cs_engine.proofs.atoms.posts_between.Goals.{then-is_in, else-is_in}
 use Rattle.cs_cols.specs.Held.{Held}
-use Rattle.std.proofs.Common.{◌≡◌, ◌<◌, ◌&&◌, Bool, ◌++◌, ◌+◌, ◌∷◌, [], ◌∙◌, sym, ap, length, drop, map, get_or, arith, refl, true, false, cond, append-nil, subst, length-append}
+use Rattle.std.proofs.Common.{◌≡◌, ◌<◌, ◌&&◌, Bool, ◌++◌, ◌+◌, ◌∷◌, [], ◌∙◌, sym, ap, length, drop, get_or, arith, true, false, length-append}
 use Rattle.std.specs.Prelude.{filter, nat_le, nat_lt}
 use Rattle.std.proofs.lemmas.List.{length-map, get_or_default}
 use Rattle.cs_base.specs.declared.doc.Post.{Post}

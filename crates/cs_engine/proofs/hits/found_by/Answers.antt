@@ -1,17 +1,14 @@
-use Rattle.std.proofs.Common.{◌≡◌, ◌<◌, ◌≤◌, ◌∙◌, ap, map, length, take, get_or, sym, subst, false, arith, [], if◌then◌else◌}
+use Rattle.std.proofs.Common.{◌≡◌, ◌<◌, ◌∙◌, ap, map, take, sym, subst, false, arith}
 use Rattle.std.proofs.lemmas.List.{take_all}
 use Rattle.std.proofs.lemmas.List.Elements.{All-from_recursion}
-use Rattle.cs_base.specs.declared.doc.Base.{Base}
 use Rattle.cs_base.specs.declared.doc.Post.{Post}
 use Rattle.cs_base.specs.declared.query.Query.{out-Query}
 use Rattle.cs_base.specs.declared.query.Part.{out-Part}
-use Rattle.cs_meet.specs.Filters.{keep_docs, drop_docs}
-use Rattle.cs_model.specs.Answers.{PartRows, rows_of_part, parts_of}
+use Rattle.cs_model.specs.Answers.{rows_of_part}
 use Rattle.cs_engine.specs.Searching.{part_has_join}
-use Rattle.cs_engine.specs.Stocked.{corpus_in, listed, docs_in, IsFound, IsKnown}
-use Rattle.cs_rank.specs.DocScores.{scores}
+use Rattle.cs_engine.specs.Stocked.{corpus_in, listed, hits_after, pairs_after, IsFound, IsKnown}
 use Rattle.cs_engine.proofs.FoldsLemmas.{query_plain, parts-are, at_place}
-use Rattle.cs_engine.proofs.VocabLemmas.{all_then}
+use Rattle.cs_base.proofs.MembersLemmas.{all_then}
 use Rattle.cs_engine.proofs.UnionLemmas.{picked_known}
 use Rattle.cs_engine.proofs.FoundLemmas.{found_none, found_base, found_more, read_more, read_few, is_excluded}
 use Rattle.cs_engine.proofs.hits.found_by.Goals as goal
@@ -47,8 +44,8 @@ loop-part-preserved c =
     subst (λ ps. IsFound s ps now after) (sym (read_more s items i x c.loop-part-test.true c.part-item.is))
     (found_more s (map (rows_of_part (corpus_in s)) (take i items)) (rows_of_part (corpus_in s) x) was c.loop-part.found.pairs.posts posts c.requires.stocked c.loop-part.invariant c.in_ok-rows.ensures.picked c.in_ok-rows.ensures.ok
     now after excluded (is_excluded s x)
-    (subst (λ n. listed n now ≡ (if excluded then drop_docs (listed n was) posts else scores was (keep_docs posts (docs_in n was)))) c.len-docs.ensures c.in_ok-found.ensures.hits)
-    (subst (λ n. after ≡ (if excluded then [] else keep_docs posts (docs_in n was))) c.len-docs.ensures c.in_ok-found.ensures.pairs))
+    (subst (λ n. listed n now ≡ hits_after n was excluded posts) c.len-docs.ensures c.in_ok-found.ensures.hits)
+    (subst (λ n. after ≡ pairs_after n was excluded posts) c.len-docs.ensures c.in_ok-found.ensures.pairs))
 
 pub returns : goal.returns
 returns c =

@@ -1,7 +1,7 @@
 use Rattle.std.proofs.Common.{◌≡◌}
 use Rattle.std.specs.Prelude.{map, drop}
 use Rattle.std.specs.List.{list_any}
-use Rattle.cs_engine.specs.Searching.{has_join, part_has_join, chain_has_join, linked_has_join, atom_has_join}
+use Rattle.cs_engine.specs.Searching.{chain_has_join, linked_has_join}
 use Rattle.cs_engine.proofs.joins.chain_has_join.Given as goal
 
 abbrev pub invariant-loop-linked : goal.invariant-loop-linked

@@ -1,4 +1,4 @@
-use Rattle.std.proofs.Common.{◌≡◌, ◌≤◌, ◌∙◌, ap, map, length, take, sym, false, List, arith}
+use Rattle.std.proofs.Common.{◌≡◌, ◌∙◌, ap, map, take, sym, false, arith}
 use Rattle.std.proofs.lemmas.List.{take_all}
 use Rattle.cs_base.specs.declared.query.Part.{out-Part}
 use Rattle.cs_model.specs.Answers.{PartRows, rows_of_chain, union_of}

@@ -1,4 +1,4 @@
-use Rattle.std.proofs.Common.{◌≡◌, ◌≤◌, ◌<◌, ◌∙◌, ap, map, take, drop, sym, subst, length, refl, arith}
+use Rattle.std.proofs.Common.{◌≡◌, ◌<◌, ◌∙◌, ap, map, take, drop, sym, subst, length, refl, arith}
 use Rattle.std.specs.List.{All}
 use Rattle.cs_base.specs.Members.{members_in}
 use Rattle.cs_base.specs.Orders.{by_rank}

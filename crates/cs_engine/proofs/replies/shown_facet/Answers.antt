@@ -1,12 +1,10 @@
 use Rattle.std.proofs.Common.{◌≡◌, ◌<◌, ◌∙◌, ap, map, take, sym, subst, length, List}
 use Rattle.std.specs.List.{All}
-use Rattle.cs_base.specs.declared.doc.Post.{Post}
-use Rattle.cs_base.specs.declared.doc.Row.{Row}
 use Rattle.cs_meet.specs.Filters.{keep_docs}
 use Rattle.cs_model.specs.Answers.{table_of}
 use Rattle.cs_model.specs.Replies.{Shown, FacetShown}
 use Rattle.cs_model.specs.Requests.{shown_of}
-use Rattle.cs_engine.specs.Stocked.{IsPicked, docs_in, shown_at, rows_at}
+use Rattle.cs_engine.specs.Stocked.{docs_in, shown_at, rows_at}
 use Rattle.cs_engine.proofs.AtomsLemmas.{picked_again}
 use Rattle.cs_engine.proofs.ReplyLemmas.{below_end, few_docs, few_words, first_known, words_shown, facet_kept}
 use Rattle.cs_engine.proofs.replies.shown_facet.Goals as goal

@@ -1,7 +1,7 @@
 use Rattle.std.proofs.Common.{◌≡◌, ◌≢◌, ◌==◌, false, List, [], ◌∷◌, ℕ, true, length, sym, ◌++◌, ◌∙◌, inl, inr}
 use Rattle.std.specs.Prelude.{Option, None, codes, Result, Ok, Err, OnOk, OnErr, IfErr}
 use Rattle.cs_base.specs.Outside.{Grew, GrewByPrefix}
-use Rattle.cs_engine.specs.Searching.{corpus_searched}
+use Rattle.cs_engine.specs.Searching.{corpus_of_view}
 use Rattle.cs_model.specs.Corpus.{Corpus}
 use Rattle.cs_model.specs.Outputs.{line_fault, text}
 use Rattle.cs_top.specs.Asking.{asks_join}
@@ -31,12 +31,12 @@ some_bytes (b ∷ l) h e = absurd cc
 
 pub returns-in-Err-Memory-clause-ok : goal.returns-in-Err-Memory-clause-ok
 returns-in-Err-Memory-clause-ok g c =
-    passes (corpus_searched c.args.corpus.now) c.args.number c.args.line.now (codes "{\"error\":\"memory\"}\n") (g.O.Sink.written c.args.out.now) (g.O.Sink.written c.put-in-Err-Memory.new.out)
+    passes (corpus_of_view c.args.corpus.now) c.args.number c.args.line.now (codes "{\"error\":\"memory\"}\n") (g.O.Sink.written c.args.out.now) (g.O.Sink.written c.put-in-Err-Memory.new.out)
     (some_bytes c.args.line.now c.if-is_empty.ensures) (sym c.in_default.ensures) (inr memory_line, λ _. memory_line) c.put-in-Err-Memory.result c.put-in-Err-Memory.ensures.ok
 
 pub returns-in-Err-Memory-clause-err : goal.returns-in-Err-Memory-clause-err
 returns-in-Err-Memory-clause-err g c =
-    stops (corpus_searched c.args.corpus.now) c.args.number c.args.line.now (codes "{\"error\":\"memory\"}\n") (g.O.Sink.written c.args.out.now) (g.O.Sink.written c.put-in-Err-Memory.new.out)
+    stops (corpus_of_view c.args.corpus.now) c.args.number c.args.line.now (codes "{\"error\":\"memory\"}\n") (g.O.Sink.written c.args.out.now) (g.O.Sink.written c.put-in-Err-Memory.new.out)
     (some_bytes c.args.line.now c.if-is_empty.ensures) (sym c.in_default.ensures) (inr memory_line, λ _. memory_line) c.put-in-Err-Memory.result c.put-in-Err-Memory.ensures.err c.put-in-Err-Memory.ensures.failed
 
 -- a line that asks no join has its own text
@@ -45,12 +45,12 @@ own k l t is none = (inl is, λ join. let e : false ≡ true = sym none ∙ join
 
 pub returns-in-Ok-clause-ok : goal.returns-in-Ok-clause-ok
 returns-in-Ok-clause-ok g c =
-    passes (corpus_searched c.args.corpus.now) c.args.number c.args.line.now c.deref.result.now (g.O.Sink.written c.args.out.now) (g.O.Sink.written c.put.new.out)
+    passes (corpus_of_view c.args.corpus.now) c.args.number c.args.line.now c.deref.result.now (g.O.Sink.written c.args.out.now) (g.O.Sink.written c.put.new.out)
     (some_bytes c.args.line.now c.if-is_empty.ensures) (sym c.in_default.ensures)
-    (own (corpus_searched c.args.corpus.now) c.args.line.now c.deref.result.now (c.deref.ensures.value ∙ c.in-Ok.ensures.ok) c.in-Ok.ensures.built) c.put.result c.put.ensures.ok
+    (own (corpus_of_view c.args.corpus.now) c.args.line.now c.deref.result.now (c.deref.ensures.value ∙ c.in-Ok.ensures.ok) c.in-Ok.ensures.built) c.put.result c.put.ensures.ok
 
 pub returns-in-Ok-clause-err : goal.returns-in-Ok-clause-err
 returns-in-Ok-clause-err g c =
-    stops (corpus_searched c.args.corpus.now) c.args.number c.args.line.now c.deref.result.now (g.O.Sink.written c.args.out.now) (g.O.Sink.written c.put.new.out)
+    stops (corpus_of_view c.args.corpus.now) c.args.number c.args.line.now c.deref.result.now (g.O.Sink.written c.args.out.now) (g.O.Sink.written c.put.new.out)
     (some_bytes c.args.line.now c.if-is_empty.ensures) (sym c.in_default.ensures)
-    (own (corpus_searched c.args.corpus.now) c.args.line.now c.deref.result.now (c.deref.ensures.value ∙ c.in-Ok.ensures.ok) c.in-Ok.ensures.built) c.put.result c.put.ensures.err c.put.ensures.failed
+    (own (corpus_of_view c.args.corpus.now) c.args.line.now c.deref.result.now (c.deref.ensures.value ∙ c.in-Ok.ensures.ok) c.in-Ok.ensures.built) c.put.result c.put.ensures.err c.put.ensures.failed

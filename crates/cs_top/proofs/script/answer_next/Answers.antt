@@ -1,5 +1,5 @@
 use Rattle.std.proofs.Common.{rules, take}
-use Rattle.cs_engine.specs.Searching.{corpus_searched}
+use Rattle.cs_engine.specs.Searching.{corpus_of_view}
 use Rattle.cs_top.specs.LineSteps.{EndsAt}
 use Rattle.cs_top.specs.Runs.{held_bytes}
 use Rattle.cs_top.specs.ScriptView.{script_ending}
@@ -8,7 +8,7 @@ use Rattle.cs_top.proofs.script.answer_next.Goals as goal
 
 pub returns-in_err-answer_line-clause-err : goal.returns-in_err-answer_line-clause-err
 returns-in_err-answer_line-clause-err g c h held =
-    let k = corpus_searched c.args.corpus.now in
+    let k = corpus_of_view c.args.corpus.now in
     let s = held_bytes h c.args.script.now in
     let e = script_ending c.in_err-answer_line.field-0.0 in
     let old = g.O.Sink.written c.args.out.now in

@@ -1,6 +1,6 @@
 use Rattle.std.proofs.Common.{◌∙◌, arith, refl}
 use Rattle.std.specs.FinMap as map
-use Rattle.cs_engine.specs.Searching.{corpus_searched}
+use Rattle.cs_engine.specs.Searching.{corpus_of_view}
 use Rattle.cs_model.specs.Outputs.{script_lines}
 use Rattle.cs_top.specs.Runs.{held_bytes}
 use Rattle.cs_top.specs.ScriptView.{script_ending}
@@ -11,7 +11,7 @@ use Rattle.cs_top.proofs.script.answer_script.Goals as goal
 
 pub returns-in-Err-clause-put : goal.returns-in-Err-clause-put
 returns-in-Err-clause-put g c h held =
-    let k = corpus_searched c.args.corpus.now in
+    let k = corpus_of_view c.args.corpus.now in
     let ls = script_lines (held_bytes h c.args.script.now) in
     let w = g.O.Sink.written c.args.out.now in
     unread (at_start k ls ls w refl) w refl
@@ -23,7 +23,7 @@ returns-in-Err-answer_next-clause-put g c h held =
 
 pub returns-in-Err-answer_next-clause-expected : goal.returns-in-Err-answer_next-clause-expected
 returns-in-Err-answer_next-clause-expected g c h held =
-    expected c.in-Err-answer_next.end (corpus_searched c.args.corpus.now) (script_lines (held_bytes h c.args.script.now)) (g.O.Sink.written c.args.out.now) (g.O.Sink.written c.answer_next.new.out)
+    expected c.in-Err-answer_next.end (corpus_of_view c.args.corpus.now) (script_lines (held_bytes h c.args.script.now)) (g.O.Sink.written c.args.out.now) (g.O.Sink.written c.answer_next.new.out)
     (ends_here (held_bytes h c.args.script.now) c.loop-place.place (c.loop-place.invariant.so_far h held) (script_ending c.in-Err-answer_next.end) (g.O.Sink.written c.answer_next.new.out)
     (c.in-Err-answer_next.ensures.err h (c.loop-place.invariant.same ∙ held)))
 
@@ -45,5 +45,5 @@ returns-clause-put g c h held =
 pub returns-clause-expected : goal.returns-clause-expected
 returns-clause-expected g c h held =
     let size = held_size (map.get h c.args.script.now) c.args.size (c.requires.size h held) in
-    expected ends.Done (corpus_searched c.args.corpus.now) (script_lines (held_bytes h c.args.script.now)) (g.O.Sink.written c.args.out.now) (g.O.Sink.written c.loop-place.out)
+    expected ends.Done (corpus_of_view c.args.corpus.now) (script_lines (held_bytes h c.args.script.now)) (g.O.Sink.written c.args.out.now) (g.O.Sink.written c.loop-place.out)
     (ends_done (held_bytes h c.args.script.now) c.loop-place.place (c.loop-place.invariant.so_far h held) (omega (arith, size)))

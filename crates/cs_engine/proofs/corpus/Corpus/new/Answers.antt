@@ -1,7 +1,4 @@
-use Rattle.std.proofs.Common.{◌≡◌, ◌∙◌, ap, sym, subst, arith}
-use Rattle.std.specs.List.{All}
-use Rattle.cs_model.specs.Corpus.{distinct_words}
-use Rattle.cs_engine.specs.Stocked.{IsNumbered, rows_at}
+use Rattle.std.proofs.Common.{arith}
 use Rattle.cs_engine.proofs.BuildingLemmas.{stocked_new}
 use Rattle.cs_engine.proofs.corpus.Corpus.new.Goals as goal
 
