@@ -18,7 +18,7 @@ use Rattle.std.specs.Cmp.Lexicographic.{slice_cmp}
 use Rattle.std.specs.Str.{chars}
 use Rattle.std.proofs.lemmas.Bool.Decides.{nat_tests}
 use Rattle.cs_base.specs.declared.query.Query.{Query}
-use Rattle.cs_base.specs.declared.limits.TheConstants.{MAX_SHOWN, MAX_OFFSET, MAX_FACETS, DEFAULT_HITS, DEFAULT_COMPLETIONS}
+use Rattle.cs_base.specs.declared.limits.TheConstants.{MAX_COUNT_DIGITS, MAX_SHOWN, MAX_OFFSET, MAX_FACETS, DEFAULT_HITS, DEFAULT_COMPLETIONS}
 use Rattle.cs_base.proofs.MembersLemmas.{listing-rises}
 use Rattle.cs_model.specs.Collection.{has_name_form}
 use Rattle.cs_model.specs.Words.{is_filled}
@@ -28,7 +28,7 @@ use Rattle.cs_model.specs.Parameters.{parameter, is_count, count_of, are_facets,
 use Rattle.cs_model.specs.Refusals.{QueryRefusal, IsOfGrammar}
 use Rattle.cs_model.proofs.FirstLemmas.{first-one}
 use Rattle.cs_model.proofs.PartsLemmas.{few_parts}
-use Rattle.cs_model.proofs.PieceTokens.{both_second}
+use Rattle.cs_model.proofs.PieceTokens.{both_first, both_second}
 use Rattle.cs_query.specs.ParamNames.{param_name}
 use Rattle.cs_query.specs.declared.request.Param.{Param}
 use Rattle.cs_query.specs.declared.request.ReqFault.{ReqFault}
@@ -98,13 +98,16 @@ module _ (p : List ℕ) where
 count-within : (default most : ℕ) (v : Option (List ℕ)) → default ≤ most → is_count most v ≡ true → count_of default v ≤ most
 count-within default most None d h = d
 count-within default most (Some v) d h =
-    let few : nat_le (number_of v) most ≡ true = both_second (has_digits 5 v) (nat_le (number_of v) most) h in
+    let few : nat_le (number_of v) most ≡ true = both_second (has_digits MAX_COUNT_DIGITS v) (nat_le (number_of v) most) h in
     grind (arith, nat_tests)
 
 facets-rise : (v : Option (List ℕ)) → IsStrictlySortedBy (slice_cmp nat_cmp) (facet_names v)
 unfolding IsStrictlySortedBy
 facets-rise None = tt
 facets-rise (Some v) = listing-rises (slice_cmp nat_cmp) (filter is_filled (slice_split (λ b. b == 44) v))
+
+facets-named : (v : Option (List ℕ)) → are_facets v ≡ true → list_all has_name_form (facet_names v) ≡ true
+facets-named v h = both_first (list_all has_name_form (facet_names v)) (nat_le (length (facet_names v)) MAX_FACETS) h
 
 facets-few : (v : Option (List ℕ)) → are_facets v ≡ true → length (facet_names v) ≤ MAX_FACETS
 facets-few v h =
@@ -121,6 +124,7 @@ holds p q h c o f g th tc to tf eh ec eo ef = record {
   hits = omega (arith, eh, count-within DEFAULT_HITS MAX_SHOWN (parameter (codes "h") p) (omega arith) th);
   completions = omega (arith, ec, count-within DEFAULT_COMPLETIONS MAX_SHOWN (parameter (codes "c") p) (omega arith) tc);
   offset = omega (arith, eo, count-within 0 MAX_OFFSET (parameter (codes "o") p) (omega arith) to);
+  names = subst (λ x. list_all has_name_form x ≡ true) (sym ef) (facets-named (parameter (codes "f") p) tf);
   facets = subst (IsStrictlySortedBy (slice_cmp nat_cmp)) (sym ef) (facets-rise (parameter (codes "f") p));
   few = subst (λ x. length x ≤ MAX_FACETS) (sym ef) (facets-few (parameter (codes "f") p) tf);
 }

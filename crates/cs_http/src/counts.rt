@@ -5,12 +5,10 @@ ghost use Rattle.cs_query.specs.ParamNames.{param_name};
 ghost use Rattle.cs_http.specs.Refusing.{IsRefusedBy};
 
 use crate::first::first_of;
+use cs_base::MAX_COUNT_DIGITS;
 use cs_query::{Param, ReqFault};
 use cs_text::{has_digits, number_of};
 use std::alloc::Global;
-
-/// The most digits of a count.
-const MAX_DIGITS: usize = 5;
 
 /// The count that a parameter asks, at most `most`, or the default where there is no such parameter.
 pub(crate) fn count(
@@ -45,12 +43,12 @@ fn name_of(which: Param) -> &'static str
     }
 }
 
-// The number that at most `MAX_DIGITS` digits spell, where it is at most `most`.
+// The number that at most `MAX_COUNT_DIGITS` digits spell, where it is at most `most`.
 fn read_count(text: &[u8], most: u32) -> Option<u32>
     ensures some { IfSome result (λ n. (is_count most (Some text.now) ≡ true) × (n ≡ number_of text.now)) }
     ensures none { IfNone result (is_count most (Some text.now) ≡ false) }
 {
-    if !has_digits(text, MAX_DIGITS) {
+    if !has_digits(text, MAX_COUNT_DIGITS) {
         return None;
     }
     let number = number_of(text);
