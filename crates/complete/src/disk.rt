@@ -1,5 +1,6 @@
 //! The system's files as the files that the program meets.
-ghost use Rattle.std.specs.Prelude.{◌≡◌};
+ghost use Rattle.std.specs.Prelude.{◌≡◌, ◌⊎◌, ◌↔◌, IsTrue, IfOk};
+ghost use Rattle.std.specs.String.{string_bytes};
 
 use crate::faults::Faults;
 use cs_base::{Failed, Files};
@@ -121,7 +122,9 @@ impl<R: rt::Files + Drop> Disk<'_, R> {
     }
 
     // Takes the open file where it is this one, and opens it elsewhere.
-    fn open(&mut self, name: &str, access: Access) -> io::Result<Opened<R::File>> {
+    fn open(&mut self, name: &str, access: Access) -> io::Result<Opened<R::File>>
+        ensures { IfOk result (λ o. (o.access ≡ access) × (string_bytes o.name ≡ name.now)) }
+    {
         match self.opened.take() {
             Some(opened) if opened.access == access && opened.name.as_str() == name => Ok(opened),
             _ => {
@@ -139,6 +142,8 @@ impl<R: rt::Files + Drop> Disk<'_, R> {
 }
 
 // Whether the system says so of a name that no file has.
-fn is_absent(kind: ErrorKind) -> bool {
+fn is_absent(kind: ErrorKind) -> bool
+    ensures { IsTrue result ↔ ((kind ≡ ErrorKind.NotFound) ⊎ (kind ≡ ErrorKind.NotADirectory)) }
+{
     kind == ErrorKind::NotFound || kind == ErrorKind::NotADirectory
 }

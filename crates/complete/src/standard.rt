@@ -1,11 +1,11 @@
 //! Standard output and standard error as sinks.
-ghost use Rattle.std.specs.Prelude.{◌≡◌, OnOk};
+ghost use Rattle.std.specs.Prelude.{◌≡◌, ℕ, take, OnOk, OnErr};
 ghost use Rattle.std.specs.Io.KnownBytes.{Appends};
 ghost use Rattle.cs_base.specs.Causes.{Counted};
 
 use crate::faults::Faults;
 use cs_base::{Failed, Sink};
-use std::io::{self, Write};
+use std::io::{self, ErrorKind, Write};
 
 /// A writer of the system as a sink. It tells nothing of what was written.
 ///
@@ -36,9 +36,10 @@ impl<W: Write + Drop> Sink for Standard<W> {
 
     ghost faults = { λ s. s.faults.count };
 
-    /// Over a writer whose content is known, exactly these bytes came to it.
+    /// Over a writer whose content is known, exactly these bytes came to it; some first ones of them where it failed.
     fn put(&mut self, bytes: &[u8]) -> Result<(), Failed>
         ensures handed_on { OnOk result (Appends (W.contents self.old.writer) (W.contents self.new.writer) bytes.now) }
+        ensures begun { OnErr result ((k : ℕ) × Appends (W.contents self.old.writer) (W.contents self.new.writer) (take k bytes.now)) }
         ensures counted { Counted self.old.faults.count self.new.faults.count result }
     {
         let answer = hand_on(&mut self.writer, bytes);
@@ -48,8 +49,29 @@ impl<W: Write + Drop> Sink for Standard<W> {
 
 // Writes all bytes, and flushes.
 fn hand_on<W: Write>(writer: &mut W, bytes: &[u8]) -> io::Result<()>
-    ensures { OnOk result (Appends (W.contents writer.old) (W.contents writer.new) bytes.now) }
+    ensures ok { OnOk result (Appends (W.contents writer.old) (W.contents writer.new) bytes.now) }
+    ensures begun { OnErr result ((k : ℕ) × Appends (W.contents writer.old) (W.contents writer.new) (take k bytes.now)) }
 {
-    writer.write_all(bytes)?;
+    write_whole(writer, bytes)?;
     writer.flush()
+}
+
+// Writes all bytes. A call that the system interrupts is made again.
+fn write_whole<W: Write>(writer: &mut W, bytes: &[u8]) -> io::Result<()>
+    ensures ok { OnOk result (Appends (W.contents writer.old) (W.contents writer.new) bytes.now) }
+    ensures begun { OnErr result ((k : ℕ) × Appends (W.contents writer.old) (W.contents writer.new) (take k bytes.now)) }
+{
+    let mut at = 0;
+    for _ in 0..u64::MAX {
+        if at == bytes.len() {
+            return Ok(());
+        }
+        match writer.write(&bytes[at..]) {
+            Ok(0) => return Err(ErrorKind::WriteZero.into()),
+            Ok(count) => at += count,
+            Err(error) if error.kind() == ErrorKind::Interrupted => {}
+            Err(error) => return Err(error),
+        }
+    }
+    Err(ErrorKind::Interrupted.into())
 }

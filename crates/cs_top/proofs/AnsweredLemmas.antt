@@ -1,5 +1,5 @@
 -- How far a script has been answered.
-use Rattle.std.proofs.Common.{◌≡◌, ◌≢◌, ◌⊎◌, ℕ, ◌+◌, ◌≤◌, Bool, true, false, List, [], ◌∷◌, ◌++◌, length, take, drop, cond, append_assoc, append-nil, inl, inr, refl, sym, ◌∙◌, ap, subst, arith}
+use Rattle.std.proofs.Common.{◌≡◌, ◌≢◌, ◌⊎◌, ℕ, suc, ◌+◌, ◌≤◌, Bool, true, false, List, [], ◌∷◌, ◌++◌, length, take, drop, cond, append_assoc, append-nil, inl, inr, refl, sym, ◌∙◌, ap, subst, arith}
 use Rattle.std.specs.Prelude.{Option, Some, None, filter, map, not}
 use Rattle.std.specs.List.{enumerate_from, prefix_len}
 use Rattle.std.specs.Option.{option_map, is_none, unwrap_or}
@@ -13,7 +13,7 @@ use Rattle.cs_model.specs.Outputs.{ScriptFault, IsAllowed, IsBegun, PutAll, line
 use Rattle.cs_top.specs.Asking.{asks_join, first_fault, is_readable, readable_lines, line_ending, ending_of_lines}
 use Rattle.cs_top.specs.Endings.{Ending, done, not_built, usage, refused, absent, failed, no_memory, script_refused}
 use Rattle.cs_top.specs.LineSteps.{Stops, Reaches, EndsAt}
-use Rattle.cs_top.specs.Runs.{IsAnswerNow, IsExpected, PutBy}
+use Rattle.cs_top.specs.Runs.{IsAnswerNow, IsExpected, PutBy, PutFirst}
 use Rattle.cs_top.specs.ScriptView.{fault_seen, script_ending}
 use Rattle.cs_top.specs.declared.lines.Place.{Place}
 use Rattle.cs_top.specs.declared.script.ScriptEnd.{ScriptEnd}
@@ -51,7 +51,9 @@ module _ (l : ℕ × List ℕ) (ls : List (ℕ × List ℕ)) where
 
   readable-read : line_fault l ≡ None → readable_lines (l ∷ ls) ≡ l.1 ∷ readable_lines ls
   unfolding readable_lines
-  readable-read h = ap readable_by h
+  readable-read h =
+      let one : 1 + prefix_len is_readable ls ≡ suc (prefix_len is_readable ls) = omega arith in
+      ap readable_by h ∙ ap (λ n. map (λ m. m.1) (take n (l ∷ ls))) one
 
   readable-fault : (f : ScriptFault) → line_fault l ≡ Some f → readable_lines (l ∷ ls) ≡ []
   unfolding readable_lines
@@ -119,6 +121,10 @@ module _ {k : Corpus} {all left : List (ℕ × List ℕ)} {old now : Option (Lis
     allowed = allowed_push k h.done l.1 h.output t h.allowed a;
     grew = grew_twice old h.output t now new h.grew g;
   }
+
+  -- what was put so far are whole answers to some first lines
+  pub put_first : PutFirst (IsAnswerNow k) (readable_lines all) old now
+  put_first = (h.done, readable_lines left, h.so_far, (h.output, h.allowed, h.grew))
 
   so_far-read : (l : ℕ × List ℕ) (ls : List (ℕ × List ℕ)) → left ≡ l ∷ ls → line_fault l ≡ None → readable_lines all ≡ h.done ++ l.1 ∷ readable_lines ls
   so_far-read l ls is read = h.so_far ∙ ap (λ x. h.done ++ readable_lines x) is ∙ ap (λ x. h.done ++ x) (readable-read l ls read)
@@ -257,3 +263,17 @@ expected (ends.Refused f) k ls old new h = by_end (fault_or_join ls (fault_seen 
     by_end (inl e) = subst (λ x. IsExpected (script_refused (fault_seen f)) x) (sym e) refl
     by_end (inr e) = subst (λ x. IsExpected (script_refused (fault_seen f)) x) (sym e) tt
 expected ends.Failed k ls old new h = tt
+
+-- lines name no file that is absent
+module _ (l : ℕ × List ℕ) (ls : List (ℕ × List ℕ)) (rest : IsExpected no_memory (ending_of_lines ls)) where
+  absent_join : line_fault l ≡ None → (b : Bool) → asks_join l.1 ≡ b → IsExpected no_memory (ending_of_lines (l ∷ ls))
+  absent_join read true j = subst (λ x. IsExpected no_memory x) (sym (ending-join l ls read j)) tt
+  absent_join read false j = subst (λ x. IsExpected no_memory x) (sym (ending-next l ls read j)) rest
+
+  absent_at : (o : Option ScriptFault) → line_fault l ≡ o → IsExpected no_memory (ending_of_lines (l ∷ ls))
+  absent_at None read = absent_join read _ refl
+  absent_at (Some f) bad = subst (λ x. IsExpected no_memory x) (sym (ending-fault l ls f bad)) tt
+
+pub lines_absent : (ls : List (ℕ × List ℕ)) → IsExpected no_memory (ending_of_lines ls)
+lines_absent [] = subst (λ x. IsExpected no_memory x) (sym ending-nil) tt
+lines_absent (l ∷ ls) = absent_at l ls (lines_absent ls) _ refl

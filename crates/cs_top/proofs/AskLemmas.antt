@@ -1,17 +1,20 @@
 -- How `ask` may end over files that tell.
-use Rattle.std.proofs.Common.{ℕ, List, [], ◌∷◌, ◌++◌, inr, refl, sym, ◌∙◌, ap, subst}
-use Rattle.std.specs.Prelude.{Option}
-use Rattle.cs_base.specs.Outside.{Held}
-use Rattle.cs_model.specs.Corpus.{Corpus, corpus}
-use Rattle.cs_model.specs.Outputs.{PutSome, memory_text, script_lines}
-use Rattle.cs_engine.specs.Searching.{CorpusView, corpus_of_view}
-use Rattle.cs_top.specs.Asking.{answered_of, answered_by, readable_lines, ending_by, ending_of, ending_of_lines}
-use Rattle.cs_top.specs.Endings.{Ending}
+use Rattle.std.proofs.Common.{◌≡◌, ℕ, List, [], ◌∷◌, ◌++◌, inr, refl, sym, ap}
+use Rattle.std.specs.Prelude.{Option, Some, None}
+use Rattle.std.specs.Option.{option_map_or}
+use Rattle.std.specs.FinMap as map
+use Rattle.cs_base.specs.Outside.{Held, File, size_of, bytes_of}
+use Rattle.cs_model.specs.Collection.{CollectionRefusal}
+use Rattle.cs_model.specs.Corpus.{Corpus, corpus, refusal}
+use Rattle.cs_model.specs.Outputs.{MayPut, PutSome, memory_text, script_lines}
+use Rattle.cs_top.specs.Asking.{asked_lines_of, readable_lines, ending_of, ending_of_files, ending_of_lines, ending_over}
+use Rattle.cs_top.specs.Endings.{refused, no_memory}
 use Rattle.cs_top.specs.EndedView.{stop_ending}
-use Rattle.cs_top.specs.Runs.{AskEnds, IsAnswerNow, IsExpected, PutBy, held_bytes}
-use Rattle.cs_top.specs.Stops.{IsReady}
+use Rattle.cs_top.specs.Runs.{AskEnds, IsAnswerNow, IsExpected, PutBy, PutFirst, held_bytes}
+use Rattle.cs_top.specs.Stops.{IsRefused}
 use Rattle.cs_top.specs.declared.ending.Stop.{Stop}
 use Rattle.cs_top.specs.declared.ending.Stop.TheVariants as stop
+use Rattle.cs_top.proofs.AnsweredLemmas.{lines_absent}
 use Rattle.cs_top.proofs.GrewLemmas.{grew_none}
 
 -- nothing was put
@@ -27,15 +30,28 @@ put_stopped stop.Memory k ls w = refl
 
 -- it stopped before its script
 pub asked_stopped : (h : Held) (c s : List ℕ) (st : Stop) (w : Option (List ℕ)) → IsExpected (stop_ending st) (ending_of h c s) → AskEnds (stop_ending st) h c s w w
-asked_stopped h c s st w is = record { expected = is; put = put_stopped st (corpus (held_bytes h c)) (answered_of h c s) w }
+asked_stopped h c s st w is = record { expected = is; put = put_stopped st (corpus (held_bytes h c)) (asked_lines_of h c s) w }
 
--- its script was answered, as far as it goes
-pub asked_script : (h : Held) (c s : List ℕ) (k : CorpusView) (n : ℕ) (e : Ending) (w v : Option (List ℕ)) → IsReady h c s k n → IsExpected e (ending_of_lines (script_lines (held_bytes h s)))
-    → PutBy e (corpus_of_view k) (script_lines (held_bytes h s)) w v → AskEnds e h c s w v
-asked_script h c s k n e w v r is put =
-    record {
-      expected = subst (IsExpected e) (sym (r.ending ∙ ap (λ x. ending_by x (held_bytes h s)) r.accepted)) is;
-      put =
-          subst (λ ls. PutBy e (corpus (held_bytes h c)) ls w v) (sym (r.asked ∙ ap (λ x. answered_by x (held_bytes h s)) r.accepted))
-          (subst (λ k. PutBy e k (script_lines (held_bytes h s)) w v) r.corpus put);
-    }
+-- no line was answered
+pub first_none : (A : MayPut) (ls : List (List ℕ)) (w : Option (List ℕ)) → PutFirst A ls w w
+first_none A ls w = ([], ls, refl, ([], refl, grew_none w))
+
+-- ---- a collection that isn't read, or not accepted
+memory_over : (s : List ℕ) (o : Option CollectionRefusal) → IsExpected no_memory (option_map_or refused o (ending_of_lines (script_lines s)))
+memory_over s None = lines_absent (script_lines s)
+memory_over s (Some r) = tt
+
+stopped_over : (st : Stop) (c s : List ℕ) → IsRefused st (refusal c) → IsExpected (stop_ending st) (ending_over c s)
+stopped_over (stop.Refused told) c s h = sym (ap (λ x. option_map_or refused x (ending_of_lines (script_lines s))) h)
+stopped_over (stop.Absent name) c s h = absurd h
+stopped_over stop.Failed c s h = tt
+stopped_over stop.Memory c s h = memory_over s (refusal c)
+
+by_files : (st : Stop) (c s : List ℕ) (f g : Option File) (m n : ℕ) → size_of f ≡ Some m → size_of g ≡ Some n → IsRefused st (refusal (bytes_of f)) → IsExpected (stop_ending st) (ending_of_files c s f g)
+by_files st c s None g m n held there h = absurd cc
+by_files st c s (Some f) None m n held there h = absurd cc
+by_files st c s (Some f) (Some g) m n held there h = stopped_over st f.bytes g.bytes h
+
+-- it stopped at its collection, and both files are held
+pub stopped_at : (h : Held) (c s : List ℕ) (st : Stop) (m n : ℕ) → size_of (map.get h c) ≡ Some m → size_of (map.get h s) ≡ Some n → IsRefused st (refusal (held_bytes h c)) → IsExpected (stop_ending st) (ending_of h c s)
+stopped_at h c s st m n held there is = by_files st c s (map.get h c) (map.get h s) m n held there is

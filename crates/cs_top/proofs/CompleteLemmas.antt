@@ -1,12 +1,11 @@
 -- A run that could do all and met no fault did all, or found no memory.
-use Rattle.std.proofs.Common.{◌≡◌, ◌⊎◌, ℕ, List, inl, inr, refl, subst, ◌∙◌}
+use Rattle.std.proofs.Common.{◌≡◌, ◌⊎◌, ℕ, inl, inr, refl, subst, ◌∙◌}
 use Rattle.std.specs.Prelude.{Option, Some, None}
 use Rattle.cs_base.specs.Causes.{Rose}
-use Rattle.cs_base.specs.Outside.{Held}
 use Rattle.cs_top.specs.Commands.{Command, build, ask, replay, serve, trial}
 use Rattle.cs_top.specs.Endings.{Ending, done, not_built, usage, refused, absent, failed, no_memory, script_refused, status}
 use Rattle.cs_top.specs.Asking.{ending_of}
-use Rattle.cs_top.specs.Runs.{IsExpected, Caused, Completes, Ran}
+use Rattle.cs_top.specs.Runs.{Met, IsExpected, Caused, Completes, Ran}
 
 ended : (e x : Ending) (fb fn ob on : ℕ) → IsExpected e x → Caused e fb fn ob on → x ≡ done → (Rose fb fn → ⊥) → (Rose ob on → ⊥) → (status e ≡ 0) ⊎ (status e ≡ 7)
 ended done x fb fn ob on is cause all files out = inl refl
@@ -18,10 +17,10 @@ ended (script_refused f) x fb fn ob on is cause all files out = let e : script_r
 ended failed x fb fn ob on is cause all files out = elim cause.0 [ inl r ↦ absurd (files r) | inr r ↦ absurd (out r) ]
 ended no_memory x fb fn ob on is cause all files out = inr refl
 
-pub completes : (e : Ending) (command : Option Command) (held : Option Held) (old new : Option (List ℕ)) (fb fn ob on : ℕ) → Ran e command held old new fb fn ob on → Completes command held (status e) fb fn ob on
-completes e None held old new fb fn ob on r = tt
-completes e (Some (build c i)) held old new fb fn ob on r = tt
-completes e (Some (ask c s)) held old new fb fn ob on r = λ h told all files out. ended e (ending_of h c s) fb fn ob on (r.asked h told).expected r.caused all files out
-completes e (Some (replay i s)) held old new fb fn ob on r = tt
-completes e (Some (serve i p n)) held old new fb fn ob on r = tt
-completes e (Some (trial n)) held old new fb fn ob on r = tt
+pub completes : (e : Ending) (command : Option Command) (m : Met) → Ran e command m → Completes command m (status e)
+completes e None m r = tt
+completes e (Some (build c i)) m r = tt
+completes e (Some (ask c s)) m r = λ h told all files out. ended e (ending_of h c s) m.files_before m.files_now m.out_before m.out_now (r.asked h told).expected r.caused all files out
+completes e (Some (replay i s)) m r = tt
+completes e (Some (serve i p n)) m r = tt
+completes e (Some (trial n)) m r = tt

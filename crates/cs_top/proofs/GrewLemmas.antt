@@ -2,7 +2,7 @@
 use Rattle.std.proofs.Common.{◌≡◌, ℕ, suc, ◌+◌, ◌<◌, List, [], ◌++◌, length, take, append_assoc, append-nil, drop, drop-cons, get_or, refl, sym, ◌∙◌, ap, subst}
 use Rattle.std.specs.List.{flat_map}
 use Rattle.std.proofs.lemmas.Grind.{flat_map-append}
-use Rattle.std.specs.Prelude.{Option, Some, None, Result, Ok, Err, OnOk, OnErr}
+use Rattle.std.specs.Prelude.{Option, Some, None, Result, Ok, Err, OnErr}
 use Rattle.std.specs.Option.{option_map}
 use Rattle.std.proofs.Math.Seq.{take-append_seam, take-append-add}
 use Rattle.std.proofs.lemmas.List.{take-append-drop}
@@ -33,15 +33,6 @@ grew_then_begun w a b v u h k =
 pub on_err : {T E : Type 0} (r : Result T E) (P : Type 0) → P → OnErr r P
 on_err (Ok x) P p = tt
 on_err (Err e) P p = p
-
--- what holds of an outcome may be weakened
-pub on_ok_to : {T E : Type 0} (r : Result T E) (P Q : Type 0) → (P → Q) → OnOk r P → OnOk r Q
-on_ok_to (Ok x) P Q f p = f p
-on_ok_to (Err e) P Q f p = tt
-
-pub on_err_to : {T E : Type 0} (r : Result T E) (P Q : Type 0) → (P → Q) → OnErr r P → OnErr r Q
-on_err_to (Ok x) P Q f p = tt
-on_err_to (Err e) P Q f p = f p
 
 -- pieces that are put one after another, where the put of one fails
 pub pieces_begun : {X : Type 0} (f : X → List ℕ) (ps : List X) (i : ℕ) (d : X) (w v u : Option (List ℕ)) → i < length ps → Grew w (flat_map f (take i ps)) v → GrewByPrefix v (f (get_or ps i d)) u → GrewByPrefix w (flat_map f ps) u

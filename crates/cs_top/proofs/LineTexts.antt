@@ -1,7 +1,9 @@
 -- What the readers of a line say of it, in the words that define its answer.
-use Rattle.std.proofs.Common.{◌≡◌, ◌≢◌, ◌<◌, ◌≤◌, ℕ, Bool, true, false, List, length, nat_le, refl, sym, ◌∙◌, ap, arith}
+use Rattle.std.proofs.Common.{◌≡◌, ◌≢◌, ◌<◌, ◌≤◌, ℕ, Bool, true, false, ◌&&◌, List, length, nat_le, refl, sym, ◌∙◌, ap, arith}
 use Rattle.std.specs.Prelude.{Some, None}
+use Rattle.std.specs.Option.{is_none}
 use Rattle.std.specs.Str.{is_utf8, IsUtf8}
+use Rattle.std.proofs.lemmas.Bool.{false_from_ne_true}
 use Rattle.std.proofs.lemmas.Bool.Decides.{nat_tests}
 use Rattle.std.proofs.lemmas.Str.{IsUtf8-from_is_utf8, is_utf8-from_IsUtf8}
 use Rattle.cs_http.specs.Refusing.{IsCause}
@@ -14,7 +16,7 @@ use Rattle.cs_model.specs.Parameters.{request_of, request_refusal}
 use Rattle.cs_model.specs.Replies.{reply_text}
 use Rattle.cs_model.specs.Requests.{Request, reply_of}
 use Rattle.cs_engine.specs.Searching.{has_join}
-use Rattle.cs_top.specs.Asking.{asks_join, asks_join_by}
+use Rattle.cs_top.specs.Asking.{asks_join}
 use Rattle.cs_query.specs.declared.request.ReqFault.{ReqFault}
 use Rattle.cs_query.specs.declared.request.ReqFault.TheVariants as causes
 
@@ -28,23 +30,19 @@ refused_text k p causes.Memory h other = absurd (other refl)
 
 -- a refused line asks no join
 pub refused_join : (p : List ℕ) (e : ReqFault) → IsCause p e → e ≢ causes.Memory → asks_join p ≡ false
-refused_join p (causes.BadParam which) h other = ap (asks_join_by p) h
-refused_join p (causes.Bad at) h other = ap (asks_join_by p) h
-refused_join p (causes.Limit at which) h other = ap (asks_join_by p) h
+refused_join p (causes.BadParam which) h other = ap (λ x. is_none x && has_join (request_of p).query) h
+refused_join p (causes.Bad at) h other = ap (λ x. is_none x && has_join (request_of p).query) h
+refused_join p (causes.Limit at which) h other = ap (λ x. is_none x && has_join (request_of p).query) h
 refused_join p causes.Memory h other = absurd (other refl)
 
 -- a request asks a join where its query has one
 pub request_join : (p : List ℕ) (r : Request) (b : Bool) → request_refusal p ≡ None → r ≡ request_of p → b ≡ has_join r.query → asks_join p ≡ b
-request_join p r b accepted is told = ap (asks_join_by p) accepted ∙ ap (λ (x : Request). has_join x.query) (sym is) ∙ sym told
+request_join p r b accepted is told = ap (λ x. is_none x && has_join (request_of p).query) accepted ∙ ap (λ (x : Request). has_join x.query) (sym is) ∙ sym told
 
 -- the text of a line that is a request
 pub request_text : (k : Corpus) (p : List ℕ) (r : Request) → request_refusal p ≡ None → r ≡ request_of p → text k p ≡ reply_text (reply_of k r)
 unfolding text
 request_text k p r accepted is = ap (text_by k p) accepted ∙ ap (λ x. reply_text (reply_of k x)) (sym is)
-
-not_true : (b : Bool) → (b ≡ true → ⊥) → b ≡ false
-not_true true h = absurd (h refl)
-not_true false h = refl
 
 pub fault-none : (n : ℕ) (l : List ℕ) → length l ≤ 4096 → IsUtf8 l → line_fault (n, l) ≡ None
 fault-none n l short utf8 =
@@ -60,5 +58,5 @@ fault-too_long n l long =
 pub fault-not_utf8 : (n : ℕ) (l : List ℕ) → length l ≤ 4096 → ¬ IsUtf8 l → line_fault (n, l) ≡ Some (script_line_not_utf8 n)
 fault-not_utf8 n l short other =
     let fits : nat_le (length l) 4096 ≡ true = grind (arith, nat_tests) in
-    let bad : is_utf8 l ≡ false = not_true _ (λ t. other (IsUtf8-from_is_utf8 l t)) in
+    let bad : is_utf8 l ≡ false = false_from_ne_true _ (λ t. other (IsUtf8-from_is_utf8 l t)) in
     rw (fits, bad) refl

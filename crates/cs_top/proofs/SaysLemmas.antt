@@ -1,5 +1,5 @@
 -- A line that one call puts on standard error.
-use Rattle.std.proofs.Common.{ℕ, List, length, sym, ◌∙◌, ap, arith}
+use Rattle.std.proofs.Common.{ℕ, List, length, sym, ◌∙◌, ap}
 use Rattle.std.specs.Prelude.{Option, Result, Ok, Err, OnOk, OnErr}
 use Rattle.std.specs.Option.{option_map}
 use Rattle.std.proofs.Math.Seq.{take-length}
@@ -10,4 +10,4 @@ use Rattle.cs_top.specs.Endings.{Says}
 
 pub says : {T E : Type 0} (r : Result T E) (old new : Option (List ℕ)) (before now : ℕ) (line : List ℕ) → OnOk r (Grew old line new) → OnErr r (GrewByPrefix old line new) → Counted before now r → Says old new before now line
 says (Ok x) old new before now line ok err counted = record { whole = λ _. ok; some = (length line, ok ∙ ap (λ b. option_map (λ w. w ++ b) old) (sym (take-length line))) }
-says (Err e) old new before now line ok err counted = let rose : Rose before now = counted.failed in record { whole = λ low. absurd (omega arith); some = err }
+says (Err e) old new before now line ok err counted = let rose : Rose before now = counted.failed in record { whole = λ low. absurd (low rose); some = err }

@@ -3,6 +3,7 @@ use Rattle.std.proofs.Common.{◌≡◌, ℕ, ◌+◌, ◌-◌, ◌<◌, ◌≤�
 use Rattle.std.specs.Prelude.{Option, Some, None}
 use Rattle.std.specs.List.{position_or_len}
 use Rattle.std.specs.Str.Lines.{lines, strip_carriage_return}
+use Rattle.std.proofs.lemmas.Bool.{false_from_ne_true}
 use Rattle.std.proofs.lemmas.Bool.Decides.{nat_tests}
 use Rattle.std.proofs.lemmas.Grind.{common_steps}
 use Rattle.std.proofs.lemmas.List.{take_all, take-take, drop-drop, drop_all, get_or-take, take-append-le, length-take, length-drop}
@@ -20,10 +21,6 @@ stripped l false = grind (arith, common_steps)
 -- at most one byte is lost
 length-strip : (l : List ℕ) → length l ≤ length (strip_carriage_return l) + 1
 length-strip l = stripped l _
-
-false_from : (b : Bool) → (b ≡ true → ⊥) → b ≡ false
-false_from true h = absurd (h refl)
-false_from false h = refl
 
 differs : false ≡ true → ⊥
 differs h = cc
@@ -90,7 +87,7 @@ module _ (b w tail : List ℕ) (at size room len next : ℕ) (whole : length b �
   ends i n h l =
       let low : i < room = subst (λ m. i < m) length-w h.0.high in
       let front : take i w ≡ take i s = ap (take i) read ∙ take-take i room s (omega arith) in
-      line_at s i (omega (arith, length-s)) (λ k m. ap (λ x. eqb x 10) (same_byte k (omega arith)) ∙ false_from _ (h.0.before k (omega arith) m)) (ap (λ x. eqb x 10) (same_byte i low) ∙ h.1)
+      line_at s i (omega (arith, length-s)) (λ k m. ap (λ x. eqb x 10) (same_byte k (omega arith)) ∙ false_from_ne_true _ (h.0.before k (omega arith) m)) (ap (λ x. eqb x 10) (same_byte i low) ∙ h.1)
       ∙ ap (λ x. strip_carriage_return x ∷ lines (drop (i + 1) s)) (sym front)
       ∙ ap (λ x. x ∷ lines (drop (i + 1) s)) (sym l)
       ∙ ap (λ m. take len w ∷ lines (drop m s)) (sym n)
@@ -104,7 +101,7 @@ module _ (b w tail : List ℕ) (at size room len next : ℕ) (whole : length b �
       ∙ ap (λ x. take len w ∷ lines x) (sym nothing)
 
   too_long : IsFirstByte (is_byte 10) w None → room ≡ 4098 → IsLong s 4096
-  too_long h full = is_long s 4096 (omega (arith, length-s)) (λ k l. ap (λ x. eqb x 10) (same_byte k (omega arith)) ∙ false_from _ (h k (omega arith) (omega (arith, length-w))))
+  too_long h full = is_long s 4096 (omega (arith, length-s)) (λ k l. ap (λ x. eqb x 10) (same_byte k (omega arith)) ∙ false_from_ne_true _ (h k (omega arith) (omega (arith, length-w))))
 
   by_room : (t : Bool) → ltb (size - at) 4098 ≡ t → IsFirstByte (is_byte 10) w None → len ≡ length w → next ≡ length w → IsFirstLine s (take len w) (drop next s)
   by_room true t h l n = inl (unended h l n (grind (arith, nat_tests, length-s)))

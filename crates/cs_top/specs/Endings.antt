@@ -8,12 +8,14 @@
 --   fault_words f      why a line of a script is refused
 --   line_of e          the line on standard error; nothing where all was done
 --   Says old new before now line     standard error grew by the line where its count didn't rise, else by a prefix of it
-use Rattle.std.specs.Prelude.{ℕ, ◌+◌, ◌-◌, ◌^◌, ◌<◌, min, List, [], ◌∷◌, ◌++◌, Option, codes}
+use Rattle.std.specs.Prelude.{ℕ, List, [], ◌∷◌, ◌++◌, Option, codes}
 use Rattle.std.specs.Fmt.{decimal}
+use Rattle.cs_base.specs.Causes.{Rose}
 use Rattle.cs_base.specs.Outside.{Grew, GrewByPrefix}
 use Rattle.cs_model.specs.Collection.{CollectionRefusal, too_large, not_utf8, line_too_long, words_too_many, bad_facet, bad_name, too_many_docs, too_many_rows, too_many_words}
 use Rattle.cs_model.specs.Outputs.{ScriptFault, script_line_too_long, script_line_not_utf8}
 
+-- how a run may end; only a whole script is done
 pub data Ending : Type 0 where
   done : Ending
   not_built : Ending
@@ -24,6 +26,7 @@ pub data Ending : Type 0 where
   no_memory : Ending
   script_refused : ScriptFault → Ending
 
+-- the exit status; 0 where all was done
 abbrev pub status : Ending → ℕ
 status done = 0
 status not_built = 1
@@ -34,10 +37,11 @@ status failed = 6
 status no_memory = 7
 status (script_refused f) = 8
 
--- lines are numbered from 1
+-- what is said of a line; lines are numbered from 1
 abbrev pub in_line : ℕ → List ℕ → List ℕ
 in_line n words = codes "line " ++ (decimal n ++ (codes ": " ++ words))
 
+-- why a collection is refused, without an ending
 abbrev pub refusal_words : CollectionRefusal → List ℕ
 refusal_words too_large = codes "too large"
 refusal_words (not_utf8 n) = in_line n (codes "not UTF-8")
@@ -49,10 +53,12 @@ refusal_words (too_many_docs n) = in_line n (codes "too many documents")
 refusal_words too_many_rows = codes "too many rows"
 refusal_words too_many_words = codes "too many distinct words"
 
+-- why a line of a script is refused, without an ending
 abbrev pub fault_words : ScriptFault → List ℕ
 fault_words (script_line_too_long n) = in_line n (codes "too long")
 fault_words (script_line_not_utf8 n) = in_line n (codes "not UTF-8")
 
+-- the line on standard error, with its ending; no bytes where all was done
 abbrev pub line_of : Ending → List ℕ
 line_of done = []
 line_of not_built = codes "not built\n"
@@ -63,7 +69,7 @@ line_of failed = codes "device failed\n"
 line_of no_memory = codes "memory\n"
 line_of (script_refused f) = codes "script: " ++ (fault_words f ++ 10 ∷ [])
 
--- a count that stands at the last value of u64 counts as risen
+-- standard error grew by the line where its count didn't rise, else by some first bytes of it
 pub record Says (old new : Option (List ℕ)) (before now : ℕ) (line : List ℕ) : Type 0 where
-  pub whole : now < min (before + 1) (2 ^ 64 - 1) → Grew old line new
+  pub whole : ¬ Rose before now → Grew old line new
   pub some : GrewByPrefix old line new

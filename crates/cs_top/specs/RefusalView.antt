@@ -10,7 +10,7 @@ use Rattle.cs_top.specs.declared.refusal.Refusal.TheVariants as told
 use Rattle.cs_top.specs.declared.refusal.CollectionFault.{CollectionFault}
 use Rattle.cs_top.specs.declared.refusal.CollectionFault.TheVariants as fault
 
-abbrev pub refused : Refusal → model.Refusal
+abbrev pub refused : Refusal → model.CollectionRefusal
 refused told.TooLarge = model.too_large
 refused (told.NotUtf8 n) = model.not_utf8 n
 refused (told.LineTooLong n) = model.line_too_long n

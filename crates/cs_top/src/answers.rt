@@ -1,7 +1,7 @@
 //! One line of a script, answered.
 ghost use Rattle.std.specs.Prelude.{◌≡◌, ◌≢◌, ◌++◌, ◌∷◌, [], true, false, IfOk, IfErr, OnOk, OnErr, IsErrOf};
 ghost use Rattle.std.specs.Option.{option_map};
-ghost use Rattle.cs_base.specs.Causes.{Counted};
+ghost use Rattle.cs_base.specs.Causes.{Counted, Rose};
 ghost use Rattle.cs_base.specs.Outside.{Grew, GrewByPrefix};
 ghost use Rattle.cs_engine.specs.Searching.{corpus_of_view, has_join};
 ghost use Rattle.cs_json.specs.FaultTexts.{fault_text};
@@ -13,7 +13,8 @@ ghost use Rattle.cs_model.specs.Requests.{reply_of};
 ghost use Rattle.cs_query.specs.RequestView.{asked};
 ghost use Rattle.cs_query.specs.declared.request.ReqFault.{ReqFault};
 ghost use Rattle.cs_top.specs.Asking.{asks_join};
-ghost use Rattle.cs_top.specs.LineSteps.{Passes, Stops, OutCaused};
+ghost use Rattle.cs_top.specs.LineSteps.{Passes, Stops};
+ghost use Rattle.cs_top.specs.Runs.{CausedBy};
 ghost use Rattle.cs_top.specs.ScriptView.{fault_seen, script_ending};
 
 use crate::script::{ScriptEnd, ScriptFault};
@@ -59,7 +60,8 @@ pub(crate) fn answer_line<O: Sink>(
     ensures ok { OnOk result (Passes (corpus_of_view corpus.now) (number, line.now) (O.written out.old) (O.written out.new)) }
     ensures err { IfErr result (λ e. Stops (script_ending e) (corpus_of_view corpus.now) (number, line.now) (O.written out.old) (O.written out.new)) }
     ensures quiet { OnOk result (O.faults out.new ≡ O.faults out.old) }
-    ensures caused { IfErr result (λ e. OutCaused (script_ending e) (O.faults out.old) (O.faults out.new)) }
+    ensures whole { IfErr result (λ e. ¬ Rose (O.faults out.old) (O.faults out.new) → O.written out.new ≡ O.written out.old) }
+    ensures caused { IfErr result (λ e. CausedBy (script_ending e) (O.faults out.old) (O.faults out.new)) }
 {
     if line.is_empty() {
         return Ok(());

@@ -3,15 +3,17 @@ ghost use Rattle.std.specs.Prelude.{◌≡◌, ◌≢◌, Some, None, map, IfOk,
 ghost use Rattle.std.specs.Option.{ForSome};
 ghost use Rattle.std.specs.FinMap as fin;
 ghost use Rattle.std.specs.String.{string_bytes};
+ghost use Rattle.cs_base.specs.Causes.{Rose};
 ghost use Rattle.cs_base.specs.Outside.{size_of};
 ghost use Rattle.cs_model.specs.Corpus.{corpus, refusal};
 ghost use Rattle.cs_engine.specs.Searching.{corpus_of_view};
-ghost use Rattle.cs_top.specs.Asking.{ending_of};
+ghost use Rattle.cs_top.specs.Asking.{asked_lines_of, ending_of, readable_lines};
 ghost use Rattle.cs_top.specs.Commands.{command_of};
 ghost use Rattle.cs_top.specs.Endings.{Ending, usage, status, line_of, Says};
 ghost use Rattle.cs_top.specs.EndedView.{ending, stop_ending};
-ghost use Rattle.cs_top.specs.Runs.{AskEnds, Caused, Completes, IsExpected, NamesOne, PutsNothing, Ran, held_bytes};
-ghost use Rattle.cs_top.specs.Stops.{IsAbsenceOf, IsAbsenceOfOne, IsMissing, IsNoAbsence, IsReady, IsRefused, StopCaused};
+ghost use Rattle.cs_top.specs.Runs.{AskEnds, Completes, IsWhole, PutFirst, PutsNothing, Ran, met};
+ghost use Rattle.cs_top.specs.Runs.{Caused, CausedBy, IsAnswerNow, IsExpected, NamesOne, held_bytes};
+ghost use Rattle.cs_top.specs.Stops.{IsAbsenceOf, IsMissing, IsNoAbsence, IsReady, IsRefused};
 
 use crate::corpus::corpus_of;
 use crate::ending::{Ended, Stop, tell};
@@ -38,11 +40,16 @@ pub fn run<F: Files, H: Hub, O: Sink, E: Sink>(
     err: &mut E,
 ) -> u8
     ensures ran { (e : Ending) × (result ≡ status e)
-        × Ran e (command_of (map string_bytes words.now.items)) (F.held files.old) (O.written out.old) (O.written out.new) (F.faults files.old) (F.faults files.new) (O.faults out.old) (O.faults out.new)
+        × Ran e (command_of (map string_bytes words.now.items)) (met F.held F.faults O.written O.faults files.old files.new out.old out.new)
         × Says (E.written err.old) (E.written err.new) (E.faults err.old) (E.faults err.new) (line_of e) }
 
     // Where the whole script can be answered and no count rose, it is, or memory ran out.
-    ensures complete { Completes (command_of (map string_bytes words.now.items)) (F.held files.old) result (F.faults files.old) (F.faults files.new) (O.faults out.old) (O.faults out.new) }
+    ensures complete { Completes (command_of (map string_bytes words.now.items))
+        (met F.held F.faults O.written O.faults files.old files.new out.old out.new) result }
+
+    // Where no `put` failed, no answer was put in part.
+    ensures whole { IsWhole (command_of (map string_bytes words.now.items))
+        (met F.held F.faults O.written O.faults files.old files.new out.old out.new) }
 
     // No command that is built changes files or touches the hub.
     ensures files { F.held files.new ≡ F.held files.old }
@@ -60,7 +67,10 @@ fn carry_out<'a, F: Files, O: Sink>(
     files: &mut F,
     out: &mut O,
 ) -> Ended<'a>
-    ensures ran { Ran (ending result) (command_of (map string_bytes words.now.items)) (F.held files.old) (O.written out.old) (O.written out.new) (F.faults files.old) (F.faults files.new) (O.faults out.old) (O.faults out.new) }
+    ensures ran { Ran (ending result) (command_of (map string_bytes words.now.items))
+        (met F.held F.faults O.written O.faults files.old files.new out.old out.new) }
+    ensures whole { IsWhole (command_of (map string_bytes words.now.items))
+        (met F.held F.faults O.written O.faults files.old files.new out.old out.new) }
     ensures files { F.held files.new ≡ F.held files.old }
 {
     match command_of(words) {
@@ -79,6 +89,9 @@ fn ask<'a, F: Files, O: Sink>(
     out: &mut O,
 ) -> Ended<'a>
     ensures asked { ForSome (F.held files.old) (λ h. AskEnds (ending result) h collection.now script.now (O.written out.old) (O.written out.new)) }
+    ensures whole { ForSome (F.held files.old) (λ h. ¬ Rose (O.faults out.old) (O.faults out.new)
+        → PutFirst (IsAnswerNow (corpus (held_bytes h collection.now))) (readable_lines (asked_lines_of h collection.now script.now))
+            (O.written out.old) (O.written out.new)) }
     ensures ends { ending result ≢ usage }
     ensures names { NamesOne (ending result) collection.now script.now }
     ensures nothing { PutsNothing (ending result) (O.written out.old) (O.written out.new) }
@@ -102,9 +115,9 @@ fn prepare<'a, F: Files>(
 ) -> Result<(Corpus, u64), Stop<'a>>
     ensures ready { ForSome (F.held files.old) (λ h. IfOk result (λ p. IsReady h collection.now script.now p.0 p.1)) }
     ensures stop { ForSome (F.held files.old) (λ h. IfErr result (λ s. IsExpected (stop_ending s) (ending_of h collection.now script.now))) }
-    ensures names { IfErr result (λ s. IsAbsenceOfOne s collection.now script.now) }
+    ensures names { IfErr result (λ s. NamesOne (stop_ending s) collection.now script.now) }
     ensures quiet { OnOk result (F.faults files.new ≡ F.faults files.old) }
-    ensures caused { IfErr result (λ s. StopCaused s (F.faults files.old) (F.faults files.new)) }
+    ensures caused { IfErr result (λ s. CausedBy (stop_ending s) (F.faults files.old) (F.faults files.new)) }
     ensures files { F.held files.new ≡ F.held files.old }
 {
     let collection_size = size_of(files, collection)?;
@@ -119,7 +132,7 @@ fn size_of<'a, F: Files>(files: &mut F, name: &'a str) -> Result<u64, Stop<'a>>
     ensures stop { ForSome (F.held files.old) (λ h. IfErr result (λ s. IsMissing s name.now (fin.get h name.now))) }
     ensures names { IfErr result (λ s. IsAbsenceOf s name.now) }
     ensures quiet { OnOk result (F.faults files.new ≡ F.faults files.old) }
-    ensures caused { IfErr result (λ s. StopCaused s (F.faults files.old) (F.faults files.new)) }
+    ensures caused { IfErr result (λ s. CausedBy (stop_ending s) (F.faults files.old) (F.faults files.new)) }
     ensures files { F.held files.new ≡ F.held files.old }
 {
     match files.size(name) {
@@ -143,7 +156,7 @@ fn read_corpus<'a, F: Files>(
     ensures stop { ForSome (F.held files.old) (λ h. IfErr result (λ s. IsRefused s (refusal (held_bytes h name.now)))) }
     ensures names { IfErr result IsNoAbsence }
     ensures quiet { OnOk result (F.faults files.new ≡ F.faults files.old) }
-    ensures caused { IfErr result (λ s. StopCaused s (F.faults files.old) (F.faults files.new)) }
+    ensures caused { IfErr result (λ s. CausedBy (stop_ending s) (F.faults files.old) (F.faults files.new)) }
     ensures files { F.held files.new ≡ F.held files.old }
 {
     if size > MAX_COLLECTION_BYTES as u64 {

@@ -58,7 +58,8 @@ pub(crate) fn read_line<F: Files>(
     requires within { at < size }
     requires room { length buffer.old ≡ WINDOW_BYTES }
 
-    ensures line { ForSome (F.held files.old) (λ h. IfOk result (λ r. IsFirstLine (drop at (held_bytes h name.now)) (take r.0 buffer.new) (drop r.1 (held_bytes h name.now)))) }
+    ensures line { ForSome (F.held files.old) (λ h. IfOk result (λ r.
+        IsFirstLine (drop at (held_bytes h name.now)) (take r.0 buffer.new) (drop r.1 (held_bytes h name.now)))) }
     ensures len { IfOk result (λ r. r.0 ≤ WINDOW_BYTES) }
     ensures next { IfOk result (λ r. (at < r.1) × (r.1 ≤ size)) }
     ensures same { F.held files.new ≡ F.held files.old }

@@ -2,12 +2,13 @@
 ghost use Rattle.std.specs.Prelude.{◌≡◌, ◌<◌, ◌≤◌, Some, IfOk, IfErr, OnOk};
 ghost use Rattle.std.specs.Option.{ForSome};
 ghost use Rattle.std.specs.FinMap as map;
+ghost use Rattle.cs_base.specs.Causes.{Rose};
 ghost use Rattle.cs_base.specs.Outside.{size_of};
 ghost use Rattle.cs_engine.specs.Searching.{corpus_of_view};
 ghost use Rattle.cs_model.specs.Outputs.{script_lines};
-ghost use Rattle.cs_top.specs.Asking.{ending_of_lines};
+ghost use Rattle.cs_top.specs.Asking.{ending_of_lines, readable_lines};
 ghost use Rattle.cs_top.specs.LineSteps.{Reaches, EndsAt};
-ghost use Rattle.cs_top.specs.Runs.{Caused, IsExpected, PutBy, held_bytes};
+ghost use Rattle.cs_top.specs.Runs.{Caused, IsAnswerNow, IsExpected, PutBy, PutFirst, held_bytes};
 ghost use Rattle.cs_top.specs.ScriptView.{script_ending};
 
 use crate::answers::answer_line;
@@ -56,7 +57,10 @@ pub(crate) fn answer_script<F: Files, O: Sink>(
     requires size { ForSome (F.held files.old) (λ h. size_of (map.get h script.now) ≡ Some size) }
 
     ensures expected { ForSome (F.held files.old) (λ h. IsExpected (script_ending result) (ending_of_lines (script_lines (held_bytes h script.now)))) }
-    ensures put { ForSome (F.held files.old) (λ h. PutBy (script_ending result) (corpus_of_view corpus.now) (script_lines (held_bytes h script.now)) (O.written out.old) (O.written out.new)) }
+    ensures put { ForSome (F.held files.old) (λ h. PutBy (script_ending result) (corpus_of_view corpus.now)
+        (script_lines (held_bytes h script.now)) (O.written out.old) (O.written out.new)) }
+    ensures whole { ForSome (F.held files.old) (λ h. ¬ Rose (O.faults out.old) (O.faults out.new) → PutFirst (IsAnswerNow (corpus_of_view corpus.now))
+        (readable_lines (script_lines (held_bytes h script.now))) (O.written out.old) (O.written out.new)) }
     ensures files { F.held files.new ≡ F.held files.old }
     ensures caused { Caused (script_ending result) (F.faults files.old) (F.faults files.new) (O.faults out.old) (O.faults out.new) }
 {
@@ -87,8 +91,11 @@ fn answer_next<F: Files, O: Sink>(
     requires within { place.at < size }
     requires numbered { place.number ≤ place.at }
 
-    ensures ok { ForSome (F.held files.old) (λ h. IfOk result (λ next. Reaches (corpus_of_view corpus.now) (held_bytes h script.now) place next (O.written out.old) (O.written out.new))) }
-    ensures err { ForSome (F.held files.old) (λ h. IfErr result (λ e. EndsAt (script_ending e) (corpus_of_view corpus.now) (held_bytes h script.now) place (O.written out.old) (O.written out.new))) }
+    ensures ok { ForSome (F.held files.old) (λ h. IfOk result (λ next. Reaches (corpus_of_view corpus.now) (held_bytes h script.now)
+        place next (O.written out.old) (O.written out.new))) }
+    ensures err { ForSome (F.held files.old) (λ h. IfErr result (λ e. EndsAt (script_ending e) (corpus_of_view corpus.now) (held_bytes h script.now)
+        place (O.written out.old) (O.written out.new))) }
+    ensures whole { IfErr result (λ e. ¬ Rose (O.faults out.old) (O.faults out.new) → O.written out.new ≡ O.written out.old) }
     ensures further { IfOk result (λ next. (place.at < next.at) × (next.at ≤ size) × (next.number ≤ next.at)) }
     ensures files { F.held files.new ≡ F.held files.old }
     ensures quiet { OnOk result ((F.faults files.new ≡ F.faults files.old) × (O.faults out.new ≡ O.faults out.old)) }

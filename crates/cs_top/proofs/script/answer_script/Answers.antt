@@ -1,11 +1,13 @@
-use Rattle.std.proofs.Common.{◌∙◌, arith, refl}
+use Rattle.std.proofs.Common.{◌≡◌, ◌∙◌, sym, subst, arith, refl}
 use Rattle.std.specs.FinMap as map
+use Rattle.cs_base.specs.Causes.{Rose}
 use Rattle.cs_engine.specs.Searching.{corpus_of_view}
 use Rattle.cs_model.specs.Outputs.{script_lines}
-use Rattle.cs_top.specs.Runs.{held_bytes}
+use Rattle.cs_top.specs.Asking.{readable_lines}
+use Rattle.cs_top.specs.Runs.{IsAnswerNow, PutFirst, held_bytes}
 use Rattle.cs_top.specs.ScriptView.{script_ending}
 use Rattle.cs_top.specs.declared.script.ScriptEnd.TheVariants as ends
-use Rattle.cs_top.proofs.AnsweredLemmas.{at_start, unread, goes_on, ends_here, ends_done, expected}
+use Rattle.cs_top.proofs.AnsweredLemmas.{at_start, unread, put_first, goes_on, ends_here, ends_done, expected}
 use Rattle.cs_top.proofs.WindowLemmas.{held_size}
 use Rattle.cs_top.proofs.script.answer_script.Goals as goal
 
@@ -47,3 +49,18 @@ returns-clause-expected g c h held =
     let size = held_size (map.get h c.args.script.now) c.args.size (c.requires.size h held) in
     expected ends.Done (corpus_of_view c.args.corpus.now) (script_lines (held_bytes h c.args.script.now)) (g.O.Sink.written c.args.out.now) (g.O.Sink.written c.loop-place.out)
     (ends_done (held_bytes h c.args.script.now) c.loop-place.place (c.loop-place.invariant.so_far h held) (omega (arith, size)))
+
+pub returns-in-Err-clause-whole : goal.returns-in-Err-clause-whole
+returns-in-Err-clause-whole g c h held quiet =
+    let ls = script_lines (held_bytes h c.args.script.now) in
+    put_first (at_start (corpus_of_view c.args.corpus.now) ls ls (g.O.Sink.written c.args.out.now) refl)
+
+pub returns-in-Err-answer_next-clause-whole : goal.returns-in-Err-answer_next-clause-whole
+returns-in-Err-answer_next-clause-whole g c h held quiet =
+    let quiet_here = subst (λ n. ¬ Rose n (g.O.Sink.faults c.answer_next.new.out)) (sym c.loop-place.invariant.out) quiet in
+    let same : g.O.Sink.written c.answer_next.new.out ≡ g.O.Sink.written c.loop-place.out = c.in-Err-answer_next.ensures.whole quiet_here in
+    subst (λ w. PutFirst (IsAnswerNow (corpus_of_view c.args.corpus.now)) (readable_lines (script_lines (held_bytes h c.args.script.now))) (g.O.Sink.written c.args.out.now) w) (sym same)
+    (put_first (c.loop-place.invariant.so_far h held))
+
+pub returns-clause-whole : goal.returns-clause-whole
+returns-clause-whole g c h held quiet = put_first (c.loop-place.invariant.so_far h held)
