@@ -1,4 +1,4 @@
-//! A collection's bytes, made into the corpus that is view_of.
+//! A collection's bytes, made into the corpus that is searched.
 ghost use Rattle.std.specs.Prelude.{◌≡◌, None, IfOk, IfErr, OnOk};
 ghost use Rattle.cs_model.specs.Corpus.{corpus, refusal};
 ghost use Rattle.cs_engine.specs.Searching.{corpus_of_view};
