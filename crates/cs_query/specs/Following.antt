@@ -2,10 +2,12 @@
 --
 --   held tail rest         the tokens of a tail, and those before it
 --   settled tail rest      the tokens whose atoms are among the gathered parts
+--   Agrees tail tie rest   the tail and its tie are those that the tokens `rest` before it give
 --   Stands done all g      g has the parts of the tokens `done` and the counts of the tokens `all`
 --   Follows rest r         the reader r stands behind the tokens of its tail and `rest`
 --   FollowsAll ts r        it stands behind the tokens ts
 --   Judges ts result       behind the tokens ts: the reader that follows them, or their fault
+--   fault_at at stop       the fault of a text whose reader stops at the byte `at`
 --   Answers cs result      the answer to the characters cs of a key text
 use Rattle.std.specs.Prelude.{◌≡◌, ℕ, ◌+◌, ◌≤◌, List, [], ◌∷◌, false, reverse, length, Some, Result, Ok, Err}
 use Rattle.cs_model.specs.declared.kinds.Tie.{Tie}
