@@ -1,13 +1,14 @@
 //! Replies over three lines, against rows that were worked by hand.
 ghost use Rattle.std.specs.Prelude.{◌≡◌, ◌≤◌, true, false, IfOk, length};
-ghost use Rattle.std.specs.List.{All};
-ghost use Rattle.std.specs.Str.{IsUtf8};
+ghost use Rattle.std.specs.List.{list_all};
+ghost use Rattle.cs_base.specs.declared.limits.TheConstants.{MAX_PARTS};
 ghost use Rattle.cs_base.specs.declared.query.Query.{out-Query};
+ghost use Rattle.cs_model.specs.Collection.{has_name_form};
 ghost use Rattle.cs_model.specs.Refusals.{IsOfGrammar};
 ghost use Rattle.cs_engine.specs.Searching.{has_join};
 
 use crate::{Corpus, CorpusFault, has_join};
-use cs_base::{MAX_DOCS, MAX_PARTS, Memory, Query, Row, Seq, Text};
+use cs_base::{MAX_PARTS, Memory, Query, Seq, Text};
 use cs_docs::{read_docs, rows_of};
 use cs_query::{Reply, Request, Shown, parse};
 use std::alloc::Global;
@@ -90,30 +91,7 @@ fn corpus_of(alloc: Global, lines: &str) -> Result<Corpus, CorpusFault> {
     let Ok(rows) = rows_of(alloc, &docs) else {
         return Err(CorpusFault::Memory);
     };
-    if docs.len() > MAX_DOCS || !are_texts(rows.as_slice()) {
-        return Err(CorpusFault::Memory);
-    }
     Corpus::new(alloc, docs, rows)
-}
-
-fn are_texts(rows: &[Row]) -> bool
-    ensures { result ≡ true → All (λ r. IsUtf8 r.word) rows.now }
-{
-    for row in rows {
-        if !is_text(row.word.bytes()) {
-            return false;
-        }
-    }
-    true
-}
-
-fn is_text(bytes: &[u8]) -> bool
-    ensures { result ≡ true → IsUtf8 bytes.now }
-{
-    match str::from_utf8(bytes) {
-        Ok(_) => true,
-        Err(_) => false,
-    }
 }
 
 // No reply where the text is no query without a join.
@@ -144,9 +122,10 @@ fn answer(
     offset: u32,
 ) -> Result<Reply, Memory>
     requires grammar { IsOfGrammar query }
-    requires parts { length (out-Query query).parts ≤ 16 }
+    requires parts { length (out-Query query).parts ≤ MAX_PARTS }
     requires no_join { has_join query ≡ false }
     requires facets { length facets ≤ 1 }
+    requires names { list_all has_name_form facets ≡ true }
     requires hits { hits ≤ 100 }
     requires offset { offset ≤ 100 }
 {
@@ -160,13 +139,26 @@ fn answer(
     corpus.ask(alloc, &request)
 }
 
+// A facet that the rows ask; none for another text.
 fn facets_of(alloc: Global, name: &str) -> Result<Seq<Text>, Memory>
-    ensures { IfOk result (λ names. length names ≤ 1) }
+    ensures few { IfOk result (λ names. length names ≤ 1) }
+    ensures names { IfOk result (λ names. list_all has_name_form names ≡ true) }
+{
+    match name {
+        "author" => one_name(alloc, "author"),
+        "zzz" => one_name(alloc, "zzz"),
+        _ => Ok(Seq::new(alloc)),
+    }
+}
+
+fn one_name(alloc: Global, name: &str) -> Result<Seq<Text>, Memory>
+    requires { has_name_form name.now ≡ true }
+
+    ensures few { IfOk result (λ names. length names ≤ 1) }
+    ensures names { IfOk result (λ names. list_all has_name_form names ≡ true) }
 {
     let mut names = Seq::new(alloc);
-    if !name.is_empty() {
-        names.push(Text::from_str(alloc, name)?)?;
-    }
+    names.push(Text::from_str(alloc, name)?)?;
     Ok(names)
 }
 

@@ -1,4 +1,4 @@
-use Rattle.std.proofs.Common.{◌≡◌, ◌≤◌, ◌+◌, ℕ, suc, List, [], ◌∷◌, length, arith}
+use Rattle.std.proofs.Common.{◌≤◌, ℕ, List, [], ◌∷◌, length, arith}
 use Rattle.std.specs.List.Sorted.{IsStrictlySortedBy}
 use Rattle.std.specs.Ordering.{nat_cmp}
 use Rattle.std.specs.Cmp.Lexicographic.{slice_cmp}
@@ -17,6 +17,7 @@ ask-requires-clause-limits c = record {
   hits = c.requires.hits;
   completions = omega arith;
   offset = omega (arith, c.requires.offset);
+  names = c.requires.names;
   facets = short_sorted c.args.facets c.requires.facets;
   few = omega (arith, c.requires.facets);
 }
