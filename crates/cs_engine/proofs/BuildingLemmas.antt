@@ -20,7 +20,8 @@ use Rattle.cs_base.specs.declared.doc.Doc.{Doc}
 use Rattle.cs_base.specs.declared.doc.Post.{Post}
 use Rattle.cs_base.specs.declared.doc.Row.{Row}
 use Rattle.cs_base.proofs.MembersLemmas.{all_then, is_member-listed, listing-rises}
-use Rattle.cs_docs.proofs.ListingLemmas.{spots-rise, docs-below, by_spot}
+use Rattle.cs_docs.proofs.ListingLemmas.{spots-rise, docs-below}
+use Rattle.cs_base.specs.Orders.{by_spot}
 use Rattle.cs_docs.proofs.TextLemmas.{All-members}
 use Rattle.cs_model.specs.Corpus.{distinct_words, rows_of, title_of}
 use Rattle.cs_vocab.specs.Ranges.{IsWordAt}

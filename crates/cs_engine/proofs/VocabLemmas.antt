@@ -22,10 +22,9 @@ use Rattle.std.proofs.lemmas.Bool.Decides.{nat_tests}
 use Rattle.std.proofs.lemmas.Cmp.{nat_list_cmp_total}
 use Rattle.std.proofs.lemmas.Map.Keys.{Less-from_sorted}
 use Rattle.std.proofs.lemmas.Slice.Eq.{bytes_eq-Decides}
-use Rattle.cs_base.specs.Orders.{by_row, by_place, AreSorted}
+use Rattle.cs_base.specs.Orders.{by_row, by_place, AreSorted, by_spot}
 use Rattle.cs_base.specs.declared.doc.Post.{Post}
 use Rattle.cs_vocab.proofs.RangesLemmas.{three_ways}
-use Rattle.cs_docs.proofs.ListingLemmas.{by_spot}
 use Rattle.cs_engine.specs.Stocked.{word_at, row_of, rows_at}
 
 module _ {X Y : Type 0} (f : X → Y) where
