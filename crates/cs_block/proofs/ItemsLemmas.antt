@@ -19,6 +19,7 @@ use Rattle.cs_gaps.specs.declared.gap.Gap.TheVariants.{Is}
 use Rattle.cs_gaps.specs.Reading.{StandsAt}
 use Rattle.cs_gaps.proofs.CodesLemmas.{first_found, found_first}
 use Rattle.cs_model.specs.BlockRules.{codes_break, Item, item_row, doc_before, row_at, items_in, gap_bytes, Rule, rules, in_docs, in_words, in_kind, in_order, first_break, broken_at, first_broken, BlockColumns, block_items, block_columns, judged_columns, judged, rows_read}
+use Rattle.cs_model.proofs.FirstLemmas.{first-cons}
 use Rattle.cs_model.specs.First.{first_reason}
 use Rattle.cs_block.specs.Reading.{GapHere}
 use Rattle.cs_block.proofs.ColumnsLemmas.{items_step, codes_step}
@@ -146,12 +147,8 @@ keeps_found rule all item here rest e broken h = sym h ∙ ap (first_break rule)
 abbrev pub or_broken : ℕ → Option ℕ → Option Broken → Option Broken
 or_broken n o other = option_or (option_map (broken_at n) o) other
 
-first_or : (o : Option Broken) (os : List (Option Broken)) → first_reason (o ∷ os) ≡ option_or o (first_reason os)
-first_or None os = refl
-first_or (Some b) os = refl
-
 pub in_front : (rule : Rule) (rest : List Rule) (items : List Item) → first_broken (rule ∷ rest) items ≡ or_broken rule.number (first_break rule items) (first_broken rest items)
-in_front rule rest items = first_or (option_map (broken_at rule.number) (first_break rule items)) _
+in_front rule rest items = first-cons (option_map (broken_at rule.number) (first_break rule items)) _
 
 pub in_turn : (head : BlockHead) (docs : ℕ) (items : List Item)
     → first_broken (rules head docs) items

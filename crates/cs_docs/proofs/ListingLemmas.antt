@@ -15,7 +15,7 @@ use Rattle.cs_base.specs.declared.doc.Doc.{Doc}
 use Rattle.cs_base.specs.declared.doc.Row.{Row}
 use Rattle.cs_base.specs.declared.scores.TheConstants.{TITLE_SCORE, FACET_SCORE, TEXT_SCORE, BEHIND_TITLE}
 use Rattle.cs_base.proofs.MembersLemmas.{all_then, members_are, is_member-listed, listing-rises}
-use Rattle.cs_base.proofs.OrdersLemmas.{by_row_total, by_row_exact}
+use Rattle.cs_base.proofs.OrdersLemmas.{Less-from_lt, by_row_total, by_row_exact}
 use Rattle.cs_model.specs.Collection.{facet_words}
 use Rattle.cs_model.specs.Corpus.{placed, title_rows, text_rows, facet_rows, doc_rows, rows_of}
 use Rattle.cs_model.specs.Words.{words}
@@ -46,14 +46,11 @@ sorted-append R (x ∷ xs) ys h k b = (all-append (λ y. R x y ≡ Less) xs ys h
 equal_cmp : (x y : ℕ) → x ≡ y → nat_cmp x y ≡ Equal
 equal_cmp x y h = sym (nat_cmp_is x y Equal h)
 
-pub less_cmp : (x y : ℕ) → x < y → nat_cmp x y ≡ Less
-less_cmp x y h = sym (nat_cmp_is x y Less h)
-
 earlier_doc : (r s : Row) → r.doc < s.doc → by_spot r s ≡ Less
-earlier_doc r s h = rw (less_cmp r.doc s.doc h) refl
+earlier_doc r s h = rw (Less-from_lt r.doc s.doc h) refl
 
 earlier_pos : (r s : Row) → r.doc ≡ s.doc → r.pos < s.pos → by_spot r s ≡ Less
-earlier_pos r s e h = rw (equal_cmp r.doc s.doc e, less_cmp r.pos s.pos h) refl
+earlier_pos r s e h = rw (equal_cmp r.doc s.doc e, Less-from_lt r.pos s.pos h) refl
 
 earlier_facet : (d : ℕ) (v w : List ℕ) → slice_cmp nat_cmp v w ≡ Less → by_spot (placed d FACET_SCORE (0, v)) (placed d FACET_SCORE (0, w)) ≡ Less
 earlier_facet d v w h = rw (equal_cmp d d refl, h) refl

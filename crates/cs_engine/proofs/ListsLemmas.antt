@@ -19,7 +19,7 @@ use Rattle.std.specs.FinMap.{get, keys, find, is_sorted, from_entries, from_sort
 use Rattle.std.specs.FinMap.Entries.{below_all}
 use Rattle.std.proofs.lemmas.Bool.Decides.{nat_tests}
 use Rattle.std.proofs.lemmas.List.Folds.{list_any_at}
-use Rattle.cs_engine.proofs.VocabLemmas.{less_number}
+use Rattle.cs_base.proofs.OrdersLemmas.{Less-from_lt}
 
 pub all_of : {X : Type 0} (P : X → Type 0) → ((x : X) → P x) → (xs : List X) → AllByRecursion P xs
 all_of P h [] = tt
@@ -102,7 +102,7 @@ module _ {X : Type 0} where
 
 range_above : (a b n : ℕ) → a < b → AllByRecursion (λ d. nat_cmp a d ≡ Less) (range_with_len b n)
 range_above a b zero h = tt
-range_above a b (suc n) h = (less_number a b h, range_above a (b + 1) n (omega arith))
+range_above a b (suc n) h = (Less-from_lt a b h, range_above a (b + 1) n (omega arith))
 
 pub range_rises : (a n : ℕ) → IsStrictlySortedBy nat_cmp (range_with_len a n)
 unfolding IsStrictlySortedBy

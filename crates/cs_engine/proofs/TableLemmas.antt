@@ -31,6 +31,7 @@ use Rattle.cs_tables.specs.declared.tables.Completion.{Completion}
 use Rattle.cs_tables.specs.Listings.{by_docs, table, of_word, completion_of}
 use Rattle.cs_engine.specs.Stocked.{word_at, row_of, rows_at, named_at}
 use Rattle.cs_vocab.proofs.RangesLemmas.{three_ways}
+use Rattle.cs_tables.proofs.TablesLemmas.{by_docs_total, by_docs_exact}
 use Rattle.cs_engine.proofs.VocabLemmas.{filter_through, filter_alike, any_through, apart, is_less, less_word}
 
 -- ---- listings
@@ -65,14 +66,6 @@ module _ {X : Type 0} (R : X → X → Ordering) (o : IsTotalOrder R) (exact : I
       (any_among t xs (members_in R xs) (λ q m. is_member-listed R o xs q ∙ m))
 
 -- ---- orders
-
-by_docs_total : IsTotalOrder by_docs
-by_docs_total = then_total (on_total (λ c. c.docs) (back_total nat_cmp_total)) (on_total (λ c. c.word) nat_cmp_total)
-
-by_docs_exact : IsAntisymmetric by_docs
-by_docs_exact a b h =
-    ap (λ (p : ℕ × ℕ). let c : Completion = record { word = p.1; docs = p.0 } in c)
-    (exact_pairs (flip_args nat_cmp) nat_cmp (λ x y e. sym (exact_unsigned y x e)) exact_unsigned (a.docs, a.word) (b.docs, b.word) h)
 
 by_count_total : IsTotalOrder by_count
 by_count_total = then_total (on_total (λ c. c.docs) (back_total nat_cmp_total)) (on_total (λ c. c.word) nat_list_cmp_total)

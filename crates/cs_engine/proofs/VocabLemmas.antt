@@ -22,6 +22,7 @@ use Rattle.std.proofs.lemmas.Bool.Decides.{nat_tests}
 use Rattle.std.proofs.lemmas.Cmp.{nat_list_cmp_total}
 use Rattle.std.proofs.lemmas.Map.Keys.{Less-from_sorted}
 use Rattle.std.proofs.lemmas.Slice.Eq.{bytes_eq-Decides}
+use Rattle.cs_base.proofs.OrdersLemmas.{Less-from_lt}
 use Rattle.cs_base.specs.Orders.{by_row, by_place, AreSorted, by_spot}
 use Rattle.cs_base.specs.declared.doc.Post.{Post}
 use Rattle.cs_vocab.proofs.RangesLemmas.{three_ways}
@@ -46,9 +47,6 @@ filter_alike p q (x ∷ xs) h = ap (λ b. cond b (x ∷ filter p xs) (filter p x
 
 pub is_less : (x y : ℕ) → nat_cmp x y ≡ Less → x < y
 is_less x y h = grind (arith, nat_tests)
-
-pub less_number : (x y : ℕ) → x < y → nat_cmp x y ≡ Less
-less_number x y h = grind (arith, nat_tests)
 
 -- a word is no other one that comes before it
 pub apart : (v w : List ℕ) → slice_cmp nat_cmp v w ≡ Less → bytes_eq v w ≡ false
@@ -83,7 +81,7 @@ module _ (ws : List (List ℕ)) (up : IsStrictlySortedBy (slice_cmp nat_cmp) ws)
   back Greater b m n k l h = h
   back Equal Less m n k l h = refl
   back Equal Greater m n k l h = h
-  back Equal Equal m n k l h = less_number m n (less_back m n k l h)
+  back Equal Equal m n k l h = Less-from_lt m n (less_back m n k l h)
 
   abbrev pub HasWord : Post → Type 0
   HasWord p = p.word < length ws

@@ -2,15 +2,12 @@
 --
 --   CorpusView             titles by document, and rows by document, position and word
 --   view_of docs           those of a list of documents
---   by_number titles       each title at its number in the list
 --   corpus_of_view v       the corpus that has them
 --   has_join q             a join stands somewhere in the query
 --   atom_has_join, linked_has_join, chain_has_join, part_has_join      a join stands somewhere in these
 --   is_join, linked_joins, chain_joins, part_joins, query_joins        one level of a query, with whether its parts have a join in their places
 use Rattle.std.specs.Prelude.{ℕ, Bool, true, false, ◌||◌, List, map}
-use Rattle.std.specs.List.{list_any, enumerate_from}
-use Rattle.std.specs.FinMap as map
-use Rattle.std.specs.Ordering.{nat_cmp}
+use Rattle.std.specs.List.{list_any}
 use Rattle.cs_base.specs.declared.doc.Doc.{Doc}
 use Rattle.cs_base.specs.declared.doc.Row.{Row}
 use Rattle.cs_base.specs.declared.query.Query.{Query}
@@ -20,7 +17,7 @@ use Rattle.cs_base.specs.declared.query.Chain.{Chain}
 use Rattle.cs_base.specs.declared.query.Linked.{Linked}
 use Rattle.cs_base.specs.declared.query.Atom.{Atom}
 use Rattle.cs_base.specs.declared.query.Atom.TheFolds.{fold-Query, fold-Part, fold-Chain, fold-Linked, fold-Atom}
-use Rattle.cs_model.specs.Corpus.{Corpus, rows_of, title_of}
+use Rattle.cs_model.specs.Corpus.{Corpus, by_number, rows_of, title_of}
 
 -- the title of document 0 comes first, and rows are in the order of a corpus
 pub record CorpusView : Type 0 where
@@ -30,10 +27,6 @@ pub record CorpusView : Type 0 where
 -- of no documents it has no title and no row
 abbrev pub view_of : List Doc → CorpusView
 view_of docs = record { titles = map title_of docs; rows = rows_of docs }
-
--- the first title at 0; none from their count on
-abbrev pub by_number : List (List ℕ) → map.FinMap nat_cmp (List ℕ)
-by_number titles = map.from_entries (enumerate_from 0 titles)
 
 -- of the view of documents it is their corpus
 abbrev pub corpus_of_view : CorpusView → Corpus

@@ -52,8 +52,8 @@ use Rattle.cs_model.specs.Collection.{named}
 use Rattle.cs_model.specs.Replies.{Shown, FacetShown}
 use Rattle.cs_model.specs.Requests.{shown_of}
 use Rattle.cs_tables.specs.declared.tables.Completion.{Completion as Numbered}
-use Rattle.cs_model.specs.Corpus.{Corpus}
-use Rattle.cs_engine.specs.Searching.{CorpusView, by_number, corpus_of_view}
+use Rattle.cs_model.specs.Corpus.{Corpus, by_number}
+use Rattle.cs_engine.specs.Searching.{CorpusView, corpus_of_view}
 use Rattle.cs_engine.specs.declared.stock.Stock.{Stock}
 
 -- ---- rows by their posts

@@ -1,6 +1,7 @@
 -- The first of some reasons.
 --
 --   first-one            of one reason it is that reason
+--   first-cons           the first one where it stands, else the first of the others
 --   first-range          of those at some numbers it is that of the first ones, else that of the last
 --   first-append         where no reason of the first list stands, it is that of the second
 --   first-append_some    a reason of the first list goes before the second
@@ -17,7 +18,7 @@ module _ {R : Type 0} where
   first-one None = refl
   first-one (Some r) = refl
 
-  first-cons : (o : Option R) (rs : List (Option R)) → first_reason (o ∷ rs) ≡ option_or o (first_reason rs)
+  pub first-cons : (o : Option R) (rs : List (Option R)) → first_reason (o ∷ rs) ≡ option_or o (first_reason rs)
   first-cons None rs = refl
   first-cons (Some r) rs = refl
 

@@ -10,6 +10,7 @@
 --   doc_rows (d, doc)              the rows of the document of number d; none where it has no word
 --   rows_of docs                   the rows of a list of documents, numbered from 0; each (doc, pos, word) names one; of no
 --                                  documents none
+--   by_number titles               each title at its number in the list, the first at 0; of no titles the empty map
 --   title_of doc, titles_of docs   a document's title; the titles of documents by number from 0, the empty map for none
 --   corpus_of docs                 the corpus of a list of documents; of no documents it has no title and no row
 --   distinct_words rows            the words of rows, each once, by bytes; of no rows none
@@ -71,9 +72,13 @@ rows_of docs = members_in by_row (flat_map doc_rows (enumerate_from 0 docs))
 abbrev pub title_of : Doc → List ℕ
 title_of doc = doc.title
 
+-- each title at its number in the list, the first at 0; of no titles the empty map
+abbrev pub by_number : List (List ℕ) → map.FinMap nat_cmp (List ℕ)
+by_number titles = map.from_entries (enumerate_from 0 titles)
+
 -- the titles of documents by number from 0; the empty map where there is no document
 abbrev pub titles_of : List Doc → map.FinMap nat_cmp (List ℕ)
-titles_of docs = map.from_entries (enumerate_from 0 (map title_of docs))
+titles_of docs = by_number (map title_of docs)
 
 -- the corpus of documents that are numbered from 0; of no documents it has no title and no row
 abbrev pub corpus_of : List Doc → Corpus

@@ -25,10 +25,10 @@ use Rattle.cs_tables.specs.Listings.{by_docs, table, completion, completion_of}
 use Rattle.cs_tables.proofs.WordsLemmas.{eq_is}
 use Rattle.cs_tables.specs.Marks.{counted_word, words_of}
 
-by_docs_total : IsTotalOrder by_docs
+pub by_docs_total : IsTotalOrder by_docs
 by_docs_total = then_total (on_total (λ c. c.docs) (back_total nat_cmp_total)) (on_total (λ c. c.word) nat_cmp_total)
 
-by_docs_exact : IsAntisymmetric by_docs
+pub by_docs_exact : IsAntisymmetric by_docs
 by_docs_exact a b h =
     ap (λ (p : ℕ × ℕ). let c : Completion = record { word = p.1; docs = p.0 } in c)
     (exact_pairs (flip_args nat_cmp) nat_cmp (λ x y e. sym (exact_unsigned y x e)) exact_unsigned (a.docs, a.word) (b.docs, b.word) h)
