@@ -91,7 +91,7 @@ fn ask<'a, F: Files, O: Sink>(
     ensures asked { ForSome (F.held files.old) (λ h. AskEnds (ending result) h collection.now script.now (O.written out.old) (O.written out.new)) }
     ensures whole { ForSome (F.held files.old) (λ h. ¬ Rose (O.faults out.old) (O.faults out.new)
         → PutFirst (IsAnswerNow (corpus (held_bytes h collection.now))) (readable_lines (asked_lines_of h collection.now script.now))
-            (O.written out.old) (O.written out.new)) }
+        (O.written out.old) (O.written out.new)) }
     ensures ends { ending result ≢ usage }
     ensures names { NamesOne (ending result) collection.now script.now }
     ensures nothing { PutsNothing (ending result) (O.written out.old) (O.written out.new) }
