@@ -10,10 +10,16 @@ const BAD: &[u8] = b"{\"at\":2,\"error\":\"bad\"}\n";
 const BAD_TWICE: &[u8] = b"{\"at\":2,\"error\":\"bad\"}\n{\"at\":2,\"error\":\"bad\"}\n";
 
 /// How a script ended over the corpus of no documents, and what was put.
-#[derive(Debug, Drop)]
+#[derive(Drop)]
 struct Left {
     end: ScriptEnd,
     out: Vec<u8>,
+}
+
+impl Left {
+    fn is(&self, end: ScriptEnd, out: &[u8]) -> bool {
+        self.end == end && self.out.as_slice() == out
+    }
 }
 
 fn left_by(alloc: Global, script: &[u8]) -> Result<Left, Fail> {
@@ -63,8 +69,7 @@ fn lines_are_answered_up_to_the_first_that_cannot_be(rt: HostRuntime) -> Result<
         ),
     ] {
         let left = left_by(rt.alloc(), script)?;
-        assert!(rt; left.end == end);
-        assert_eq!(rt; left.out.as_slice(), out);
+        assert!(rt; left.is(end, out));
     }
     Ok(())
 }
@@ -84,8 +89,7 @@ fn a_line_has_at_most_4096_bytes_without_its_ending(rt: HostRuntime) -> Result<(
     ] {
         let script = long_line(rt.alloc(), len, ending)?;
         let left = left_by(rt.alloc(), &script)?;
-        assert!(rt; left.end == end, "of {len} bytes");
-        assert_eq!(rt; left.out.as_slice(), out, "of {len} bytes");
+        assert!(rt; left.is(end, out), "of {len} bytes");
     }
     Ok(())
 }
