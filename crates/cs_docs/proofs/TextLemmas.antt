@@ -42,7 +42,7 @@ module _ {X : Type 0} (R : X → X → Ordering) (o : IsTotalOrder R) (exact : I
   each [] h = tt
   each (x ∷ xs) h = (h x (or_left _ _ (ties R o x)), each xs (λ q e. h q (or_right (eq_by_cmp R q x) _ e)))
 
-  All-members : (xs : List X) → All P xs → All P (members_in R xs)
+  pub All-members : (xs : List X) → All P xs → All P (members_in R xs)
   All-members xs h = All-from_recursion P (members_in R xs) (each (members_in R xs) (λ q e. has xs (recursion_from_All P xs h) q (sym (is_member-listed R o xs q) ∙ e)))
 
 placed_text : (d score : ℕ) (n : ℕ) (ws : List (List ℕ)) → AllByRecursion IsUtf8 ws → AllByRecursion HasText (map (placed d score) (enumerate_from n ws))

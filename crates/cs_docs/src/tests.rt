@@ -1,5 +1,5 @@
-//! What no clause says: that the calls succeed where there is memory, and that the definitions mean
-//! what a reader of the format expects.
+//! What no clause says: that the calls succeed where there is memory, and that the definitions give what
+//! `docs/MEANING.md` says of them.
 use crate::{DocFault, read_docs, rows_of};
 use std::alloc::Global;
 use std::test::Fail;

@@ -12,6 +12,7 @@ ghost use Rattle.cs_engine.specs.Stocked.{rows_at, corpus_in, IsStocked, IsPicke
 use crate::stock::Stock;
 use cs_base::{Atom, Memory, Text};
 use cs_cols::Cols;
+use cs_query::named_word;
 use cs_vocab::Vocab;
 use std::alloc::Global;
 
@@ -35,10 +36,7 @@ pub(crate) fn rows_of_facet(alloc: Global, stock: &Stock, name: &Text) -> Result
     ensures ok { IfOk result (λ c. rows_at stock.now.words c.posts ≡ named_rows stock.now name.now) }
     ensures picked { IfOk result (λ c. IsPicked stock.now c.posts) }
 {
-    let mut prefix = Text::new(alloc);
-    prefix.push_str(":")?;
-    prefix.push_str(name.as_str())?;
-    prefix.push_str(":")?;
+    let prefix = named_word(alloc, name.as_str(), "")?;
     let (lo, hi) = stock.words.range(prefix.as_str().as_bytes());
     let found = posts_between(alloc, &stock.posts, lo, hi)?;
     Ok(found)

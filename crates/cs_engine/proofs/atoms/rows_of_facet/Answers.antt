@@ -9,8 +9,7 @@ pub returns-clause-ok : goal.returns-clause-ok
 returns-clause-ok c =
     let s = c.args.stock.now in
     let p : c.as_bytes.result.now ≡ named c.args.name.now [] =
-    c.as_bytes.ensures.value ∙ c.as_str-2.ensures ∙ c.in_ok-push_str-3.ensures.ok
-    ∙ ap (λ xs. xs ++ 58 ∷ []) (c.in_ok-push_str-2.ensures.ok ∙ ap (λ xs. xs ++ c.as_str.result.now) (c.in_ok-push_str.ensures.ok ∙ ap (λ xs. xs ++ 58 ∷ []) c.new-prefix.ensures) ∙ ap (λ xs. 58 ∷ xs) c.as_str.ensures) in
+    c.as_bytes.ensures.value ∙ c.as_str-2.ensures ∙ c.in_ok-prefix.ensures ∙ ap (λ n. named n []) c.as_str.ensures in
     ap (rows_at s.words) c.in_ok-found.ensures
     ∙ span_rows s.words (begins c.as_bytes.result.now) c.range-lo.result.0 c.range-lo.result.1 s.posts.posts c.range-lo.ensures.holds (words_known s s.posts.posts c.requires.known)
     ∙ ap (λ q. filter (λ r. begins q r.word) (rows_at s.words s.posts.posts)) p
