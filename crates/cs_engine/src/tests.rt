@@ -1,4 +1,5 @@
-//! Replies over three lines, against rows that were worked by hand.
+//! What no clause says: that a corpus is made, and answers, where there is memory. Whole replies are lemmas over the definitions
+//! (`proofs/AnswersExamples.antt` of `cs_model`), and scripts in the tests of `cs_top`.
 ghost use Rattle.std.specs.Prelude.{◌≡◌, ◌≤◌, true, false, IfOk, length};
 ghost use Rattle.std.specs.List.{list_all};
 ghost use Rattle.cs_base.specs.declared.limits.TheConstants.{MAX_PARTS};
@@ -10,78 +11,33 @@ ghost use Rattle.cs_engine.specs.Searching.{has_join};
 use crate::{Corpus, CorpusFault, has_join};
 use cs_base::{MAX_PARTS, Memory, Query, Seq, Text};
 use cs_docs::{read_docs, rows_of};
-use cs_query::{Reply, Request, Shown, parse};
+use cs_query::{Reply, Request, parse};
 use std::alloc::Global;
 use std::test::Fail;
 
-const LINES: &str =
-    "Type less find more\tauthor=Bast;author=Weber;year=2006\tautocompletion search with a succinct index\nThe CompleteSearch engine\tauthor=Bast;year=2007\ttype ahead search and faceted search\nTyped lambda calculi\tauthor=Church;year=1940\ttypes\n";
+const LINES: &str = "Type less\tauthor=Bast\nTyped lambda\tauthor=Church\ttype\n";
 
-const GUIDE: &str =
-    "M\u{FC}ller's \"\u{DC}ber-Guide\": 2nd ed.\tpublisher=O'Reilly & Co.; lang=de\tThe handbook.";
-
-// A query, a facet, and the reply as hits, completions, the facet's table and both totals.
 #[test]
-fn replies_over_three_lines_are_these(rt: HostRuntime) -> Result<(), Fail> {
-    let rows = [
-        ("typ", "", "0:4 2:4 1:1 |type 2,typed 1,types 1,||3 3"),
-        ("search typ", "", "0:5 1:2 |type 2,||1 2"),
-        ("type$", "", "0:4 1:1 |type 2,||1 2"),
-        ("type.ahead", "", "1:1 |ahead 1,||1 1"),
-        ("type-ahead", "", "1:1 |ahead 1,||1 1"),
-        ("lambda..typ", "", "2:4 |typed 1,||1 1"),
-        ("typ -search", "", "2:4 |||0 1"),
-        (
-            "year:",
-            "",
-            "0:2 1:2 2:2 |year:1940 1,year:2006 1,year:2007 1,||3 3",
-        ),
-        ("", "", "0:0 1:0 2:0 |||0 3"),
-        (
-            "a|",
-            "",
-            "0:1 1:1 |a 1,ahead 1,and 1,autocompletion 1,||4 2",
-        ),
-        (
-            "search",
-            "author",
-            "0:1 1:1 |search 2,|author:bast 2,author:weber 1,|1 2",
-        ),
-        ("search", "zzz", "0:1 1:1 |search 2,||1 2"),
-        ("typed|ahead", "", "2:4 1:1 |ahead 1,typed 1,||2 2"),
-        ("-search", "", "2:0 |||0 1"),
-        ("-search typ", "", "2:4 |typed 1,types 1,||2 1"),
-    ];
+fn a_corpus_is_made_and_answers(rt: HostRuntime) -> Result<(), Fail> {
     let corpus = corpus_of(rt.alloc(), LINES)?;
-    for (text, facet, want) in rows {
-        let found = told(rt.alloc(), &corpus, text, facet, 10, 0)?;
-        assert_eq!(rt; found.as_str(), want, "of {text}");
-    }
-    Ok(())
-}
-
-#[test]
-fn the_first_hits_are_left_out(rt: HostRuntime) -> Result<(), Fail> {
-    let corpus = corpus_of(rt.alloc(), LINES)?;
-    let found = told(rt.alloc(), &corpus, "", "", 1, 1)?;
-    assert_eq!(rt; found.as_str(), "1:0 |||0 3");
-    Ok(())
-}
-
-#[test]
-fn words_and_titles_are_shown_so(rt: HostRuntime) -> Result<(), Fail> {
-    let corpus = corpus_of(rt.alloc(), GUIDE)?;
-    let found = told(rt.alloc(), &corpus, "\u{FC}ber-gui", "", 10, 0)?;
-    assert_eq!(rt; found.as_str(), "0:4 |guide 1,||1 1");
-    let reply = reply_for(rt.alloc(), &corpus, "publisher:o'r", "", 10, 0)?;
-    assert_eq!(rt; reply.hits.as_slice().len(), 1);
+    let reply = reply_for(rt.alloc(), &corpus, "typ", 1, 1)?;
+    assert!(rt; reply.total_hits == 2 && reply.total_completions == 2);
     for hit in reply.hits.as_slice() {
-        assert_eq!(rt;
-            hit.title.as_str(),
-            "M\u{FC}ller's \"\u{DC}ber-Guide\": 2nd ed."
-        );
+        assert!(rt; hit.doc == 1 && hit.score == 4 && hit.title.as_str() == "Typed lambda");
     }
+    for facet in reply.facets.as_slice() {
+        assert!(rt; facet.name.as_str() == "author" && facet.table.as_slice().len() == 2);
+    }
+    assert!(rt; reply.hits.as_slice().len() == 1 && reply.facets.as_slice().len() == 1);
+    assert!(rt; asks_join(rt.alloc(), "author[a] b") && !asks_join(rt.alloc(), "author:a b"));
     Ok(())
+}
+
+fn asks_join(alloc: Global, text: &str) -> bool {
+    match parse(alloc, text) {
+        Ok(query) => has_join(&query),
+        Err(_) => false,
+    }
 }
 
 fn corpus_of(alloc: Global, lines: &str) -> Result<Corpus, CorpusFault> {
@@ -99,7 +55,6 @@ fn reply_for(
     alloc: Global,
     corpus: &Corpus,
     text: &str,
-    facet: &str,
     hits: u32,
     offset: u32,
 ) -> Result<Reply, Memory> {
@@ -109,7 +64,7 @@ fn reply_for(
     if has_join(&query) || query.parts.len() > MAX_PARTS || hits > 100 || offset > 100 {
         return Err(Memory);
     }
-    let facets = facets_of(alloc, facet)?;
+    let facets = one_name(alloc, "author")?;
     answer(alloc, corpus, query, facets, hits, offset)
 }
 
@@ -139,18 +94,7 @@ fn answer(
     corpus.ask(alloc, &request)
 }
 
-// A facet that the rows ask; none for another text.
-fn facets_of(alloc: Global, name: &str) -> Result<Seq<Text>, Memory>
-    ensures few { IfOk result (λ names. length names ≤ 1) }
-    ensures names { IfOk result (λ names. list_all has_name_form names ≡ true) }
-{
-    match name {
-        "author" => one_name(alloc, "author"),
-        "zzz" => one_name(alloc, "zzz"),
-        _ => Ok(Seq::new(alloc)),
-    }
-}
-
+// A list of one facet name.
 fn one_name(alloc: Global, name: &str) -> Result<Seq<Text>, Memory>
     requires { has_name_form name.now ≡ true }
 
@@ -160,35 +104,4 @@ fn one_name(alloc: Global, name: &str) -> Result<Seq<Text>, Memory>
     let mut names = Seq::new(alloc);
     names.push(Text::from_str(alloc, name)?)?;
     Ok(names)
-}
-
-fn told(
-    alloc: Global,
-    corpus: &Corpus,
-    text: &str,
-    facet: &str,
-    hits: u32,
-    offset: u32,
-) -> Result<String, Memory> {
-    let reply = reply_for(alloc, corpus, text, facet, hits, offset)?;
-    let mut out = String::new(alloc);
-    for hit in reply.hits.as_slice() {
-        out.push_str(format!(in alloc; "{}:{} ", hit.doc, hit.score)?.as_str())?;
-    }
-    out.push_str("|")?;
-    tell(alloc, &mut out, reply.completions.as_slice())?;
-    out.push_str("|")?;
-    for facet in reply.facets.as_slice() {
-        tell(alloc, &mut out, facet.table.as_slice())?;
-    }
-    let totals = format!(in alloc; "|{} {}", reply.total_completions, reply.total_hits)?;
-    out.push_str(totals.as_str())?;
-    Ok(out)
-}
-
-fn tell(alloc: Global, out: &mut String, words: &[Shown]) -> Result<(), Memory> {
-    for word in words {
-        out.push_str(format!(in alloc; "{} {},", word.word.as_str(), word.docs)?.as_str())?;
-    }
-    Ok(())
 }
