@@ -1,0 +1,3 @@
+//! What an engine keeps of answers that it gave, and which blocks it may read. Definitions, and laws about them; it has no
+//! running code.
+#![tactic(auto)]

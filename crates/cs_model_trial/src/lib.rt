@@ -1,0 +1,3 @@
+//! The collection that is made from a number, the queries that are typed over it, and their summary. Definitions, and laws
+//! about them; it has no running code.
+#![tactic(auto)]
