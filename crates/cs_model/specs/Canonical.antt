@@ -18,6 +18,7 @@
 --   canonical_parts ps                     the canonical text of the query with the parts ps; of no part the empty text
 use Rattle.std.specs.Prelude.{ℕ, if◌then◌else◌, List, [], ◌++◌, map, codes}
 use Rattle.std.specs.List.{concat, join_with_byte}
+use Rattle.cs_base.specs.Bytes.{space, bar}
 use Rattle.cs_base.specs.declared.query.Link.{Link}
 use Rattle.cs_base.specs.declared.query.Link.TheVariants.{Phrase, Near}
 use Rattle.cs_base.specs.declared.query.Query.{Query}
@@ -55,11 +56,11 @@ chain_text c = c.first ++ concat c.rest
 
 -- the text of a part, with |, which is 124, between each two alternatives; of one alternative that one alone
 abbrev pub part_text : Part-F Bytes Bytes Bytes Bytes Bytes → Bytes
-part_text p = (if p.excluded then codes "-" else []) ++ join_with_byte 124 p.chains
+part_text p = (if p.excluded then codes "-" else []) ++ join_with_byte bar p.chains
 
 -- the text of a query, with one space, which is 32, between each two parts; of no part nothing
 abbrev pub query_text : Query-F Bytes Bytes Bytes Bytes Bytes → Bytes
-query_text q = join_with_byte 32 q.parts
+query_text q = join_with_byte space q.parts
 
 -- ---- the texts
 -- the canonical text of an atom, which is never empty in a query of the grammar
@@ -84,4 +85,4 @@ canonical = fold-Query Bytes Bytes Bytes Bytes Bytes atom_text chain_text linked
 
 -- the canonical text of some parts, as a query has them; of no part it is empty
 abbrev pub canonical_parts : List Part → Bytes
-canonical_parts ps = join_with_byte 32 (map canonical_part ps)
+canonical_parts ps = join_with_byte space (map canonical_part ps)

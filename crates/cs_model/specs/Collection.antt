@@ -43,6 +43,7 @@ use Rattle.std.specs.List.{list_any, list_all, filter_map, enumerate_from, slice
 use Rattle.std.specs.Int.{is_in_range}
 use Rattle.std.specs.Str.{is_utf8}
 use Rattle.std.specs.Str.Lines.{lines}
+use Rattle.cs_base.specs.Bytes.{tab, line_feed, space, double_quote, digit_0, digit_9, colon, semicolon, equals_sign, backslash, letter_a, letter_z, tilde, byte_order_mark}
 use Rattle.cs_base.specs.declared.doc.Doc.{Doc}
 use Rattle.cs_base.specs.declared.limits.TheConstants.{MAX_COLLECTION_BYTES, MAX_LINE_BYTES, MAX_DOC_WORDS, MAX_DOCS, MAX_NAME_BYTES}
 use Rattle.cs_model.specs.First.{unless, first_reason}
@@ -51,7 +52,7 @@ use Rattle.cs_model.specs.Words.{is_filled, words, slug}
 
 -- a collection without the mark EF BB BF, which is skipped once and in front alone; without a mark it stays as it is
 abbrev pub without_mark : List ℕ → List ℕ
-without_mark c = if starts_with nat_eq c (239 ∷ 187 ∷ 191 ∷ []) then drop 3 c else c
+without_mark c = if starts_with nat_eq c byte_order_mark then drop (length byte_order_mark) c else c
 
 -- the lines of a collection without their endings, numbered from 1; the empty collection has none
 abbrev pub collection_lines : List ℕ → List (ℕ × List ℕ)
@@ -74,7 +75,7 @@ doc_lines c = map doc_line (enumerate_from 0 (filter (λ l. is_filled l.1) (coll
 -- ---- columns
 -- the byte is a tab
 abbrev pub is_tab : ℕ → Bool
-is_tab b = b == 9
+is_tab b = b == tab
 
 -- the three columns of a line, of which each may be empty
 pub record Columns : Type 0 where
@@ -93,11 +94,11 @@ columns l = record {
 -- ---- facets
 -- the byte is a space, U+0020 and no other
 abbrev pub is_space : ℕ → Bool
-is_space b = b == 32
+is_space b = b == space
 
 -- the byte is the sign `=`
 abbrev pub is_equals : ℕ → Bool
-is_equals b = b == 61
+is_equals b = b == equals_sign
 
 -- bytes without the spaces at their end; of spaces alone nothing is left
 abbrev pub without_spaces_behind : List ℕ → List ℕ
@@ -109,15 +110,15 @@ without_spaces bs = without_spaces_behind (drop (prefix_len is_space bs) bs)
 
 -- the pieces between the semicolons of a facets column that aren't spaces alone; none for the empty column
 abbrev pub facet_pieces : List ℕ → List (List ℕ)
-facet_pieces column = filter is_filled (map without_spaces (slice_split (λ b. b == 59) column))
+facet_pieces column = filter is_filled (map without_spaces (slice_split (λ b. b == semicolon) column))
 
 -- the byte is a letter a to z
 abbrev pub is_small_letter : ℕ → Bool
-is_small_letter b = is_in_range 97 122 b
+is_small_letter b = is_in_range letter_a letter_z b
 
 -- the byte is a letter a to z or a digit
 abbrev pub is_name_byte : ℕ → Bool
-is_name_byte b = is_small_letter b || is_in_range 48 57 b
+is_name_byte b = is_small_letter b || is_in_range digit_0 digit_9 b
 
 -- the first byte is a letter a to z; the empty text has no first byte
 abbrev pub begins_with_letter : List ℕ → Bool
@@ -138,12 +139,12 @@ piece_value p = after_first is_equals p
 
 -- the word of the facet `name` with this value, which may be empty
 abbrev pub named : List ℕ → List ℕ → List ℕ
-named name value = 58 ∷ name ++ 58 ∷ value
+named name value = colon ∷ name ++ colon ∷ value
 
 -- a word as it is shown, that of a facet without its leading colon; the empty text stays empty
 abbrev pub shown_word : List ℕ → List ℕ
 shown_word [] = []
-shown_word (b ∷ bs) = if b == 58 then bs else b ∷ bs
+shown_word (b ∷ bs) = if b == colon then bs else b ∷ bs
 
 -- the facet word that a piece gives; None where its value has no word
 abbrev pub facet_word : List ℕ → Option (List ℕ)
@@ -201,7 +202,7 @@ documents c = map document (doc_lines c)
 -- ---- plain collections: titles in printable ASCII, of which one law speaks
 -- LF, or from space to tilde other than the double quote and the backslash
 abbrev pub is_plain_byte : ℕ → Bool
-is_plain_byte b = (b == 10) || (is_in_range 32 126 b && (not (b == 34) && not (b == 92)))
+is_plain_byte b = (b == line_feed) || (is_in_range space tilde b && (not (b == double_quote) && not (b == backslash)))
 
 -- a collection of at most 65,536 such bytes; the empty collection is one
 abbrev pub is_plain : List ℕ → Bool

@@ -27,6 +27,7 @@
 --   query_of_tokens ts        the query of the tokens ts; of none the empty query
 --   query_of cs               the query of the characters cs, each open bracket closed at the end; of none the empty query
 use Rattle.std.specs.Prelude.{ℕ, List, [], ◌∷◌, ◌++◌, Bool, false, ◌&&◌, ◌==◌, fold, if◌then◌else◌}
+use Rattle.cs_base.specs.Bytes.{dash, dot}
 use Rattle.cs_base.specs.declared.query.Link.{Link}
 use Rattle.cs_base.specs.declared.query.Link.TheVariants.{Phrase, Near}
 use Rattle.cs_base.specs.declared.query.Query.{Query, roll-Query}
@@ -56,13 +57,13 @@ spot _ = Elsewhere
 
 -- at the front a run that is exactly - excludes, and any other means nothing
 abbrev pub front_tie : List ℕ → Tie
-front_tie (x ∷ []) = Begins (x == 45)
+front_tie (x ∷ []) = Begins (x == dash)
 front_tie _ = Begins false
 
 -- behind an atom one character is a phrase, two dots are nearness, and any other run separates
 abbrev pub link_tie : List ℕ → Tie
 link_tie (x ∷ []) = LinkedBy Phrase
-link_tie (x ∷ y ∷ []) = if (x == 46) && (y == 46) then LinkedBy Near else Begins false
+link_tie (x ∷ y ∷ []) = if (x == dot) && (y == dot) then LinkedBy Near else Begins false
 link_tie _ = Begins false
 
 -- the tie of an atom directly behind a run; where the run stands elsewhere, it separates

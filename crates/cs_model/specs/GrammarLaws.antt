@@ -8,6 +8,7 @@
 --   SpacesSeparate      the parts of two texts with a space between them are those of the first and then those of the second
 use Rattle.std.specs.Prelude.{◌≡◌, ℕ, ◌≤◌, nat_eq, not, Bool, true, false, List, [], ◌∷◌, ◌++◌, length, encode_utf8_all}
 use Rattle.std.specs.List.{AllByRecursion, starts_with}
+use Rattle.cs_base.specs.Bytes.{space, dot}
 use Rattle.cs_base.specs.declared.query.Query.{Query, out-Query}
 use Rattle.cs_base.specs.declared.query.Part.{out-Part}
 use Rattle.cs_model.specs.Words.{is_word_char}
@@ -24,7 +25,7 @@ HaveAllBytes = (cs : List ℕ) → size (tokens cs) ≡ length (encode_utf8_all 
 abbrev pub belongs : Token → List Token → Bool
 belongs (Word w) (Word u ∷ ts) = true
 belongs (Word w) (Value v ∷ ts) = true
-belongs (Run r) (Value v ∷ ts) = not (starts_with nat_eq r (46 ∷ []))
+belongs (Run r) (Value v ∷ ts) = not (starts_with nat_eq r (dot ∷ []))
 belongs (Run r) (Run s ∷ ts) = true
 belongs (Gap n) (Gap m ∷ ts) = true
 belongs t ts = false
@@ -46,4 +47,4 @@ PartsHaveChains = (q : Query) → IsOfGrammar q → AllByRecursion (λ p. 1 ≤ 
 -- behind a space a text goes on as a text of its own, where it begins with a word character and no bracket is open before it
 abbrev pub SpacesSeparate : Type 0
 SpacesSeparate = (cs ds : List ℕ) (x : ℕ) → depth (tokens cs) ≡ 0 → is_word_char x ≡ true
-    → (out-Query (query_of (cs ++ 32 ∷ x ∷ ds))).parts ≡ (out-Query (query_of cs)).parts ++ (out-Query (query_of (x ∷ ds))).parts
+    → (out-Query (query_of (cs ++ space ∷ x ∷ ds))).parts ≡ (out-Query (query_of cs)).parts ++ (out-Query (query_of (x ∷ ds))).parts

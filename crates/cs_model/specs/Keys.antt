@@ -23,6 +23,7 @@
 --   keys_of q          the keys of a query
 use Rattle.std.specs.Prelude.{ℕ, ◌-◌, Bool, ◌&&◌, ◌==◌, not, nat_lt, if◌then◌else◌, List, [], ◌∷◌, ◌++◌, map, filter, length, take, drop, Option, Some, None, chars, encode_utf8_all}
 use Rattle.std.specs.List.{list_any}
+use Rattle.cs_base.specs.Bytes.{colon}
 use Rattle.cs_base.specs.declared.key.Keys.{Keys}
 use Rattle.cs_base.specs.declared.key.Narrower.{Narrower}
 use Rattle.cs_base.specs.declared.query.Query.{Query, roll-Query, out-Query}
@@ -95,7 +96,7 @@ shorter (c ∷ cs) = map (λ w. c ∷ w) (shorter cs) ++ [] ∷ []
 -- what is left of a word is a word: of a facet's the name stays and the value may be empty, of any other word at least one
 -- character stays
 abbrev pub is_left : List ℕ → List ℕ → Bool
-is_left cs w = nat_lt 0 (length w) && not (list_any (λ c. c == 58) (drop (length w) cs))
+is_left cs w = nat_lt 0 (length w) && not (list_any (λ c. c == colon) (drop (length w) cs))
 
 -- what a word may have been before, cut by whole characters, the longest first; none for a word of one character
 abbrev pub shorter_words : List ℕ → List (List ℕ)

@@ -36,6 +36,7 @@ use Rattle.std.specs.Char.{is_ascii_digit}
 use Rattle.std.specs.Str.{bytes_eq, chars}
 use Rattle.std.specs.Str.Lossy.{utf8_lossy}
 use Rattle.form_urlencoded.specs.Form.{raw_pairs, decode}
+use Rattle.cs_base.specs.Bytes.{comma, digit_0}
 use Rattle.cs_base.specs.Members.{members_in}
 use Rattle.cs_base.specs.declared.query.Query.{out-Query}
 use Rattle.cs_base.specs.declared.limits.TheConstants.{MAX_COUNT_DIGITS, MAX_SHOWN, MAX_OFFSET, MAX_FACETS, DEFAULT_HITS, DEFAULT_COMPLETIONS, MAX_PARTS}
@@ -66,7 +67,7 @@ parameter name p = first_value name (raw_pairs p)
 -- ---- counts
 -- the number that digits spell, leading zeros read; 0 for no digits
 abbrev pub number_of : List ℕ → ℕ
-number_of w = fold (λ n c. n * 10 + (c - 48)) 0 w
+number_of w = fold (λ n c. n * 10 + (c - digit_0)) 0 w
 
 -- the text is 1 to n ASCII digits; the empty text isn't
 abbrev pub has_digits : ℕ → List ℕ → Bool
@@ -86,7 +87,7 @@ count_of default (Some v) = number_of v
 -- the names that are asked, each once, by bytes; none where there is no value, and none for an empty piece between commas
 abbrev pub facet_names : Option (List ℕ) → List (List ℕ)
 facet_names None = []
-facet_names (Some v) = members_in (slice_cmp nat_cmp) (filter is_filled (slice_split (λ b. b == 44) v))
+facet_names (Some v) = members_in (slice_cmp nat_cmp) (filter is_filled (slice_split (λ b. b == comma) v))
 
 -- the names that a value lists are accepted, at most `MAX_FACETS` of them and each of the form of a name; so is a missing
 -- value

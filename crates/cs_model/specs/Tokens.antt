@@ -20,18 +20,19 @@ use Rattle.std.specs.Char.{encode_utf8}
 use Rattle.cs_model.specs.declared.kinds.Class.{Class}
 use Rattle.cs_model.specs.declared.kinds.Class.TheVariants as c
 use Rattle.cs_model.specs.Words.{is_word_char}
+use Rattle.cs_base.specs.Bytes.{dollar, apostrophe, dash, dot, colon, open_bracket, close_bracket, low_line, bar}
 
 -- what a character is to the grammar: a word character, one of the signs . - _ ' $ | : [ ], or any other
 abbrev pub class_of : ℕ → Class
 class_of x =
     if is_word_char x then c.Letter
-    else if x == 46 then c.Dot
-    else if (x == 45) || ((x == 95) || (x == 39)) then c.Joiner
-    else if x == 36 then c.Dollar
-    else if x == 124 then c.Bar
-    else if x == 58 then c.Colon
-    else if x == 91 then c.Open
-    else if x == 93 then c.Close
+    else if x == dot then c.Dot
+    else if (x == dash) || ((x == low_line) || (x == apostrophe)) then c.Joiner
+    else if x == dollar then c.Dollar
+    else if x == bar then c.Bar
+    else if x == colon then c.Colon
+    else if x == open_bracket then c.Open
+    else if x == close_bracket then c.Close
     else c.Other
 
 -- a token with the bytes of its characters, of a gap their number alone; a value may have none
@@ -66,7 +67,7 @@ abbrev pub grown : Class → List ℕ → List Token → List Token
 grown c.Letter x (Word w ∷ ts) = Word (w ++ x) ∷ ts
 grown c.Letter x (Value v ∷ ts) = Value (v ++ x) ∷ ts
 grown c.Dot x (Run r ∷ ts) = Run (r ++ x) ∷ ts
-grown c.Joiner x (Value v ∷ ts) = Value (v ++ 95 ∷ []) ∷ ts
+grown c.Joiner x (Value v ∷ ts) = Value (v ++ low_line ∷ []) ∷ ts
 grown c.Joiner x (Run r ∷ ts) = Run (r ++ x) ∷ ts
 grown c.Other x (Gap n ∷ ts) = Gap (n + length x) ∷ ts
 grown k x ts = begun k x ts

@@ -23,6 +23,7 @@ use Rattle.unicode.specs.GeneralCategory.{general_category}
 use Rattle.unicode.specs.GeneralCategoryGroup.{in_group}
 use Rattle.ucd_category.specs.declared.GeneralCategory.{GeneralCategory}
 use Rattle.ucd_category.specs.declared.GeneralCategoryGroup.TheVariants.{Letter, Mark, Number}
+use Rattle.cs_base.specs.Bytes.{low_line, ascii_end}
 use Rattle.cs_base.specs.declared.limits.TheConstants.{MAX_PLAIN_WORD_BYTES}
 use Rattle.cs_model.specs.KeyText.{norm}
 
@@ -32,7 +33,7 @@ is_word_category k = in_group Letter k || in_group Mark k || in_group Number k
 
 -- a letter, a mark or a number; below U+0080 the ASCII letters and digits alone, so `_` is none
 unfoldable pub is_word_char : ℕ → Bool
-is_word_char c = if nat_lt c 128 then is_ascii_alphanumeric c else is_word_category (general_category c)
+is_word_char c = if nat_lt c ascii_end then is_ascii_alphanumeric c else is_word_category (general_category c)
 
 -- a character that is no part of a word, as the space, `_` and `:` are
 abbrev pub is_gap : ℕ → Bool
@@ -67,7 +68,7 @@ words s = words_of (chars (norm s))
 -- words joined by `_`, and cut as a word is; None where there is no word
 abbrev pub slug_of : List (List ℕ) → Option (List ℕ)
 slug_of [] = None
-slug_of (w ∷ ws) = Some (cut (chars (join_with_byte 95 (w ∷ ws))))
+slug_of (w ∷ ws) = Some (cut (chars (join_with_byte low_line (w ∷ ws))))
 
 -- the slug of a text; None where the text has no word
 abbrev pub slug : List ℕ → Option (List ℕ)
