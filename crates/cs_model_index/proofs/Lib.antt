@@ -1,1 +1,2 @@
+pub mod FileExamples
 pub mod NumberedLemmas

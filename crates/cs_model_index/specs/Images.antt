@@ -8,7 +8,7 @@
 --   block_of words rows run   the posts of the rows that have a word of a run, in the order of the rows
 --   head_of lo run block      what the directory says of a run whose first word has the number lo, and of its block
 --   heads_from lo runs        the same of runs with their blocks, one behind the other
---   image_by titles rows runs target    the image of titles and rows, by runs that are a partition of their words
+--   image_by titles rows runs target    the image of titles and rows, by the runs of their words
 --   IsImage k target i        i is the image of the corpus k, for a target; of the empty corpus it has no words and no blocks
 --   image_rows i              the rows that the posts of its blocks stand for
 --   image_corpus i            the corpus that an image holds
@@ -51,10 +51,10 @@ unfoldable pub heads_from : ℕ → List (List (List ℕ) × List Post) → List
 heads_from lo [] = []
 heads_from lo (p ∷ ps) = head_of lo p.0 p.1 ∷ heads_from (lo + length p.0) ps
 
--- with the distinct words of the rows in order, and a block for each run; of no runs it has no block
+-- with the words of the runs, and a block for each run; of no runs it has no word and no block
 abbrev pub image_by : List (List ℕ) → List Row → List (List (List ℕ)) → ℕ → Image
 image_by titles rows runs target =
-    let words = distinct_words rows in
+    let words = flat_map (λ run. run) runs in
     let blocks = map (block_of words rows) runs in
     record { titles = titles; words = words; heads = heads_from 0 (zip runs blocks); blocks = blocks; target = target }
 
