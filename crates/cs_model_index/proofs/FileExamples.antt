@@ -1,10 +1,10 @@
 -- The definitions on two worked index files: that of the empty collection, and that of one document with the title `Ab`, the facet
 -- `k=C` and the text `b a`.
-use Rattle.std.proofs.Common.{◌≡◌, List, ℕ, [], ◌∷◌, ◌++◌, set, take, true, false, Some, None, Option, refl, codes}
+use Rattle.std.proofs.Common.{◌≡◌, List, ℕ, [], ◌∷◌, ◌++◌, set, take, true, false, Some, None, Option, refl, sym, ◌∙◌, ap, subst, codes}
 use Rattle.std.specs.Char.{encode_utf8}
 use Rattle.std.specs.Str.{chars, is_utf8}
-use Rattle.std.specs.Prelude.{map}
-use Rattle.std.specs.List.{range_with_len}
+use Rattle.std.specs.Prelude.{map, flat_map}
+use Rattle.std.specs.List.{range_with_len, enumerate_from}
 use Rattle.std.specs.Ordering.{nat_cmp}
 use Rattle.std.specs.Cmp.Lexicographic.{slice_cmp}
 use Rattle.std.proofs.lemmas.Cmp.{nat_list_cmp_total}
@@ -13,12 +13,21 @@ use Rattle.cs_base.specs.declared.block.BlockHead.{BlockHead}
 use Rattle.cs_base.specs.declared.block.Broken.{Broken}
 use Rattle.cs_base.specs.declared.doc.Post.{Post}
 use Rattle.cs_base.specs.declared.doc.Row.{Row}
-use Rattle.cs_model.specs.Words.{is_word_char}
-use Rattle.cs_model.specs.Corpus.{distinct_words}
+use Rattle.caseless.proofs.Computing.{caseless}
+use Rattle.ucd_category.proofs.Computing.{ucd_category}
+use Rattle.unicode.specs.GeneralCategory.{general_category}
+use Rattle.cs_base.proofs.OrdersLemmas.{by_row_total}
+use Rattle.cs_base.specs.Orders.{by_row}
+use Rattle.cs_model.specs.KeyText.{norm}
+use Rattle.cs_model.specs.Words.{is_word_char, cut, words}
+use Rattle.cs_model.specs.Collection.{documents}
+use Rattle.cs_model.specs.Corpus.{Corpus, by_number, distinct_words, doc_rows, rows_of, corpus}
 use Rattle.cs_model.proofs.ListedMembers.{members-listed}
 use Rattle.cs_model_index.specs.Blocks.{gap_column, word_column, position_column, score_column, block_bytes}
 use Rattle.cs_model_index.specs.BlockRules.{codes_break, items_in, first_break, judged, rows_read}
-use Rattle.cs_model_index.specs.Images.{Image, image_by, heads_from}
+use Rattle.cs_model_index.specs.Images.{Image, image_by, count_in, heads_from, IsImage, image_rows, image_corpus}
+use Rattle.cs_model_index.specs.Partitions.{IsPartition}
+use Rattle.cs_model_index.specs.declared.limits.TheConstants.{TARGET}
 use Rattle.cs_model_index.specs.Layout.{header_bytes, vocabulary_bytes, offsets_from, offset_bytes, directory_bytes, blocks_bytes, file}
 use Rattle.cs_model_index.specs.Sections.{number_at, words_in, numbers_in, heads_in, blocks_in, image_of}
 use Rattle.cs_model_index.specs.FileRules.{laid, break_of, words_break, blocks_break, damage}
@@ -29,17 +38,35 @@ broken n at = Some (record { n = n; at = at })
 
 -- ---- the empty collection
 
+abbrev empty_image : Image
+empty_image = image_by [] [] [] TARGET
+
+parted-none : IsPartition TARGET (count_in []) (distinct_words []) []
+parted-none = record { joined = sym (members-listed (slice_cmp nat_cmp) nat_list_cmp_total []); each = refl; ended = refl }
+
+rows-none : rows_of (documents []) ≡ []
+rows-none = members-listed by_row by_row_total []
+
+-- it is the image of the empty collection
+image-none : IsImage (corpus []) TARGET empty_image
+image-none = record {
+  titles = refl;
+  runs = [];
+  parted = subst (λ rows. IsPartition TARGET (count_in rows) (distinct_words rows) []) (sym rows-none) parted-none;
+  made = ap (λ rows. image_by [] rows [] TARGET) (sym rows-none);
+}
+
 abbrev empty_bytes : List ℕ
 empty_bytes =
     72 ∷ 89 ∷ 66 ∷ 73 ∷ 68 ∷ 88 ∷ 49 ∷ 10 ∷ 0 ∷ 0 ∷ 0 ∷ 0 ∷ 0 ∷ 0 ∷ 0 ∷ 0 ∷ 0 ∷ 0 ∷ 0 ∷ 0
     ∷ 0 ∷ 0 ∷ 0 ∷ 0 ∷ 0 ∷ 0 ∷ 32 ∷ 0 ∷ 0 ∷ 0 ∷ 0 ∷ 0 ∷ 0 ∷ 0 ∷ 0 ∷ 0 ∷ 0 ∷ 0 ∷ 0 ∷ 0
     ∷ 0 ∷ 0 ∷ 0 ∷ 0 ∷ 0 ∷ 0 ∷ 0 ∷ 0 ∷ []
 
-file-empty : file (image_by [] [] [] 8192) ≡ empty_bytes
+file-empty : file (empty_image) ≡ empty_bytes
 unfolding file header_bytes vocabulary_bytes offset_bytes offsets_from directory_bytes blocks_bytes heads_from
 file-empty = refl
 
-image-empty : image_of empty_bytes ≡ image_by [] [] [] 8192
+image-empty : image_of empty_bytes ≡ empty_image
 unfolding image_of number_at words_in numbers_in heads_in blocks_in heads_from
 image-empty = refl
 
@@ -64,7 +91,31 @@ abbrev worked_runs : List (List (List ℕ))
 worked_runs = (codes ":k:c" ∷ []) ∷ (codes "a" ∷ codes "ab" ∷ codes "b" ∷ []) ∷ []
 
 abbrev worked_image : Image
-worked_image = image_by (codes "Ab" ∷ []) worked_rows worked_runs 8192
+worked_image = image_by (codes "Ab" ∷ []) worked_rows worked_runs TARGET
+
+-- the words are parted by their kinds
+parted-worked : IsPartition TARGET (count_in worked_rows) (distinct_words worked_rows) worked_runs
+parted-worked = record { joined = sym words-worked; each = refl; ended = refl }
+
+abbrev worked_text : List ℕ
+worked_text = codes "Ab\tk=C\tb a"
+
+rows-worked : rows_of (documents worked_text) ≡ worked_rows
+unfolding words norm chars cut caseless is_word_char general_category ucd_category lib.Utf8.encode
+rows-worked = members-listed by_row by_row_total (flat_map doc_rows (enumerate_from 0 (documents worked_text)))
+
+-- so it is the image of the collection
+image-is : IsImage (corpus worked_text) TARGET worked_image
+image-is = record {
+  titles = refl;
+  runs = worked_runs;
+  parted = subst (λ rows. IsPartition TARGET (count_in rows) (distinct_words rows) worked_runs) (sym rows-worked) parted-worked;
+  made = ap (λ rows. image_by (codes "Ab" ∷ []) rows worked_runs TARGET) (sym rows-worked);
+}
+
+-- and its corpus is that of the collection
+corpus-is : image_corpus worked_image ≡ corpus worked_text
+corpus-is = ap (λ rows. let k : Corpus = record { titles = by_number (codes "Ab" ∷ []); rows = rows } in k) (members-listed by_row by_row_total (image_rows worked_image) ∙ sym rows-worked)
 
 abbrev worked_bytes : List ℕ
 worked_bytes =

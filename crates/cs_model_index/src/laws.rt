@@ -1,5 +1,7 @@
 //! Laws about the definitions, and the numbers as they are promised. Each is the contract of a function that does nothing.
 ghost use Rattle.std.specs.Prelude.{◌≡◌, ◌^◌};
+ghost use Rattle.cs_model_index.specs.Images.{ImagesAreOne};
+ghost use Rattle.cs_model_index.specs.Partitions.{PartitionsAreOne};
 
 use crate::limits::*;
 
@@ -11,4 +13,10 @@ pub fn index_limits()
     ensures header { HEADER_BYTES ≡ 44 }
     ensures number { NUMBER_BYTES ≡ 4 }
     ensures entry { ENTRY_BYTES ≡ 16 }
+{}
+
+/// No words have two partitions, and no corpus has two images for one target.
+pub fn one_image()
+    ensures partitions { PartitionsAreOne }
+    ensures images { ImagesAreOne }
 {}
