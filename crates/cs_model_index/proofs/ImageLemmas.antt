@@ -10,7 +10,6 @@ use Rattle.std.specs.FinMap.{entries, from_entries, from_sorted, is_sorted, nat_
 use Rattle.std.specs.FinMap.Entries.{below_all}
 use Rattle.std.proofs.lemmas.Bool.Decides.{nat_tests}
 use Rattle.std.proofs.lemmas.Cmp.{nat_cmp_total}
-
 use Rattle.cs_model.specs.Corpus.{Corpus, by_number, distinct_words}
 use Rattle.cs_model_index.specs.Images.{Image, count_in, image_by, IsImage}
 use Rattle.cs_model_index.proofs.PartitionLemmas.{partitions_are_one}

@@ -3,9 +3,9 @@
 --   too_long       a run doesn't go on with a word for which the run that is its front has no room
 --   no_shorter     the first run of a partition isn't shorter than a run with which the same words begin
 --   runs_alike     partitions of the same words are one
-use Rattle.std.proofs.Common.{◌≡◌, ℕ, suc, ◌+◌, ◌<◌, ◌≤◌, ◌&&◌, ◌||◌, Bool, true, false, true≢false, not, List, [], ◌∷◌, ◌++◌, length, take, drop, refl, sym, ◌∙◌, ap, subst, inl, inr, arith, append_assoc, length-append, length-drop, take_at, take-append-drop}
+use Rattle.std.proofs.Common.{◌≡◌, ℕ, ◌+◌, ◌<◌, ◌≤◌, ◌&&◌, ◌||◌, Bool, true, true≢false, not, List, [], ◌∷◌, ◌++◌, length, take, drop, refl, sym, ◌∙◌, ap, subst, inl, inr, arith, append_assoc, length-append, length-drop, take_at, take-append-drop}
 use Rattle.std.specs.Prelude.{flat_map, nat_lt, nat_le}
-use Rattle.std.specs.List.{list_all, sum_by, zip}
+use Rattle.std.specs.List.{list_all, zip}
 use Rattle.std.proofs.lemmas.Bool.{and_parts, cases_lt}
 use Rattle.std.proofs.lemmas.Bool.Decides.{nat_tests}
 use Rattle.std.proofs.lemmas.List.{append_cancel_left, take-append-le}
@@ -36,7 +36,7 @@ module _ (target : ℕ) (count : Count) where
       let l = and_parts (nat_le (length s) MAX_BLOCK_WORDS) (is_light target (length s) (rows_of_run count s)) q.1 in
       let kinds = and_parts (list_all (is_alike w) a) (list_all (is_alike w) (x ∷ m)) (sym (list_all-append (is_alike w) a (x ∷ m)) ∙ q.0) in
       no_room (is_alike w x) MAX_BLOCK_WORDS (length a) (length m) (length s) target (rows_of_run count a) (count x) (rows_of_run count m) (rows_of_run count s)
-        (and_parts (is_alike w x) (list_all (is_alike w) m) kinds.1).0 ended l.0 l.1 (omega (arith, length-append a (x ∷ m))) (omega arith) (sum_by-append count a (x ∷ m) ∙ ap (λ n. rows_of_run count a + n) (sum_by-cons count x m))
+      (and_parts (is_alike w x) (list_all (is_alike w) m) kinds.1).0 ended l.0 l.1 (omega (arith, length-append a (x ∷ m))) (omega arith) (sum_by-append count a (x ∷ m) ∙ ap (λ n. rows_of_run count a + n) (sum_by-cons count x m))
 
   at_word : (w : List ℕ) (r : Run) (x : List ℕ) (t d rest : Run) → x ∷ t ≡ d ++ rest → 0 < length d → is_run target count ((w ∷ r) ++ d) ≡ true → (not (is_alike w x) || is_full target (length (w ∷ r)) (rows_of_run count (w ∷ r) + count x)) ≡ true → ⊥
   at_word w r x t [] rest e some run ended = omega (arith, some)
@@ -53,7 +53,7 @@ module _ (target : ℕ) (count : Count) where
       let whole : s ≡ a ++ drop n s = sym (take-append-drop n s) ∙ ap (λ l. l ++ drop n s) front in
       let tails : x ∷ q ++ joined rs ≡ drop n s ++ rest = append_cancel_left a (x ∷ q ++ joined rs) (drop n s ++ rest) (e ∙ ap (λ l. l ++ rest) whole ∙ append_assoc a (drop n s) rest) in
       at_word w r x (q ++ joined rs) (drop n s) rest tails (omega (arith, less, length-drop n s)) (subst (λ l. is_run target count l ≡ true) whole run)
-        (and_parts (is_ended target count (a, x ∷ q)) (list_all (is_ended target count) (zip ((x ∷ q) ∷ rs) rs)) ended).0
+      (and_parts (is_ended target count (a, x ∷ q)) (list_all (is_ended target count) (zip ((x ∷ q) ∷ rs) rs)) ended).0
 
   same_front : (r s a b : Run) → r ++ a ≡ s ++ b → length r ≡ length s → r ≡ s
   same_front r s a b e l = sym (take_at r a (length r) refl) ∙ ap (take (length r)) e ∙ take_at s b (length r) (sym l)

@@ -14,15 +14,16 @@
 --   field_break h                the place of the first number of the header that is out of its range
 --   words_break k at bytes       where k words and no more ought to stand, the first place where that fails; None where it holds
 --   is_word w                    a plain word or a facet word of the form that collections have
---   follows, is_onward           a word behind the one before it, an offset behind the one before it
---   starts, is_joined, last_end  a block that begins where the one before ends, and where the last one ends
---   is_of_one_kind, is_sized     a block's words are few and of one kind; its rows and bytes are as many as they may be
---   has_rows, is_parted          each word of a block has a row; a block has as many words as it may have
---   header_rules .. part_rules   the rules of each section, in their order
+--   follows last w, is_onward last o     a word and an offset behind the one before it
+--   words_end last, is_joined last h     where the words of the block before end, and a block that begins there
+--   is_of_one_kind words h       a block's words are few and of one kind
+--   is_sized h                   its rows and bytes are as many as they may be
+--   has_rows, is_closed, is_parted       each word of a block has a row, and the block has as many words as it may have
+--   header_rules .. parting_rules        the rules of each section, in their order
 --   blocks_break docs at heads bytes    the first rule of 13 to 17 that a block breaks, the blocks in their order
 --   damage b                     the first broken rule and its place; None where all rules hold
 --   IsIndexFile b                they all hold
-use Rattle.std.specs.Prelude.{◌≡◌, ℕ, zero, suc, ◌+◌, ◌-◌, ◌*◌, Bool, true, ◌&&◌, ◌||◌, not, ◌==◌, nat_lt, nat_le, List, [], ◌∷◌, ◌++◌, length, map, take, drop, find, chars, Option, Some, None, if◌then◌else◌}
+use Rattle.std.specs.Prelude.{◌≡◌, ℕ, zero, suc, ◌+◌, ◌-◌, ◌*◌, Bool, true, ◌&&◌, ◌||◌, not, ◌==◌, nat_le, List, [], ◌∷◌, ◌++◌, length, take, drop, find, chars, Option, Some, None, if◌then◌else◌}
 use Rattle.std.specs.List.{list_all, list_any, range_with_len, slice_get, sum_by, count_by, zip, before_first, after_first}
 use Rattle.std.specs.Option.{option_map, option_or, unwrap_or}
 use Rattle.std.specs.Ordering.{nat_cmp, is_lt}
@@ -199,27 +200,27 @@ blocks_break docs at [] bytes = None
 blocks_break docs at (h ∷ hs) bytes = option_or (option_map (moved at) (judged SCORES h docs (take h.len bytes))) (blocks_break docs (at + h.len) hs (drop h.len bytes))
 
 -- ---- rule 18: the parts of the words
--- a block by what the directory says of it and its posts
-abbrev pub Part : Type 0
-Part = BlockHead × List Post
+-- a block: what the directory says of it, and its posts
+abbrev pub Block : Type 0
+Block = BlockHead × List Post
 
 -- some post has each of the block's words
-abbrev pub has_rows : Part → Bool
+abbrev pub has_rows : Block → Bool
 has_rows p = list_all (λ n. list_any (λ post. post.word == n) p.1) (range_with_len p.0.lo p.0.words)
 
 -- a block that one of the same kind follows has no room for that one's first word; the last block may have room
-abbrev pub is_closed : ℕ → List (List ℕ) → Part → Option Part → Bool
+abbrev pub is_closed : ℕ → List (List ℕ) → Block → Option Block → Bool
 is_closed target words p None = true
 is_closed target words p (Some q) =
     not (is_alike (word_at words p.0.lo) (word_at words q.0.lo)) || is_full target p.0.words (length p.1 + count_by (λ post. post.word == q.0.lo) q.1)
 
 -- each word has a row, several words have few, and the block has as many words as it may have
-abbrev pub is_parted : ℕ → List (List ℕ) → Placed Part → Bool
+abbrev pub is_parted : ℕ → List (List ℕ) → Placed Block → Bool
 is_parted target words i = has_rows i.value && (is_light target i.value.0.words (length i.value.1) && is_closed target words i.value i.next)
 
 -- a place is that of an entry
-abbrev pub part_rules : Reading → List (Option Broken)
-part_rules r = tried 18 (break_of (is_parted r.header.target r.words) (laid (λ p. ENTRY_BYTES) (directory_at r.header) None (zip r.heads r.blocks))) ∷ []
+abbrev pub parting_rules : Reading → List (Option Broken)
+parting_rules r = tried 18 (break_of (is_parted r.header.target r.words) (laid (λ p. ENTRY_BYTES) (directory_at r.header) None (zip r.heads r.blocks))) ∷ []
 
 -- ---- the first broken rule
 -- of what is read of some bytes
@@ -230,7 +231,7 @@ damage_by b r = first_reason (
     ++ (title_rules r
     ++ (directory_rules r
     ++ (blocks_break r.header.docs (blocks_at r.header) r.heads r.bytes.blocks
-    ∷ part_rules r)))))
+    ∷ parting_rules r)))))
 
 -- the first rule that bytes break, with its place; None where they break none
 unfoldable pub damage : List ℕ → Option Broken

@@ -10,7 +10,8 @@
 --   heads_from lo runs        the same of runs with their blocks, one behind the other
 --   image_by titles rows runs target    the image of titles and rows, by the runs of their words
 --   IsImage k target i        i is the image of the corpus k, for a target; of the empty corpus it has no words and no blocks
---   image_rows i              the rows that the posts of its blocks stand for
+--   image_posts i             the posts of all blocks
+--   image_rows i              the rows that they stand for
 --   image_corpus i            the corpus that an image holds
 --   ImagesAreOne              the law that no corpus has two images for one target
 use Rattle.std.specs.Prelude.{◌≡◌, ℕ, ◌+◌, List, [], ◌∷◌, map, filter, length, flat_map}
@@ -66,8 +67,12 @@ pub record IsImage (k : Corpus) (target : ℕ) (i : Image) : Type 0 where
   pub made : i ≡ image_by i.titles k.rows runs target
 
 -- block by block; of an image with no block none
+abbrev pub image_posts : Image → List Post
+image_posts i = flat_map (λ block. block) i.blocks
+
+-- in the order of the posts; of an image with no block none
 abbrev pub image_rows : Image → List Row
-image_rows i = rows_at i.words (flat_map (λ block. block) i.blocks)
+image_rows i = rows_at i.words (image_posts i)
 
 -- its titles by document, and the rows of all blocks by document, position and word
 abbrev pub image_corpus : Image → Corpus

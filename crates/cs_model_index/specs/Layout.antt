@@ -17,7 +17,7 @@
 --   file i                    the bytes of an image
 --
 -- Numbers are unsigned, of four bytes with the high byte first.
-use Rattle.std.specs.Prelude.{ℕ, ◌+◌, List, [], ◌∷◌, ◌++◌, length, map, flat_map}
+use Rattle.std.specs.Prelude.{ℕ, ◌+◌, List, [], ◌∷◌, ◌++◌, length, flat_map}
 use Rattle.std.specs.Int.{w32, to_be_bytes}
 use Rattle.std.specs.List.{concat, sum_by, zip}
 use Rattle.cs_base.specs.declared.block.BlockHead.{BlockHead}

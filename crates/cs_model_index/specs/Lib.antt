@@ -1,5 +1,6 @@
 pub mod BlockRules
 pub mod Blocks
+pub mod FileLaws
 pub mod FileRules
 pub mod Images
 pub mod Layout

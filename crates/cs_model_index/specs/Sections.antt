@@ -18,7 +18,7 @@
 --   Reading, reading_of b       all that is read
 --   image_of b                  the image that is read
 --   file_corpus b               and its corpus
-use Rattle.std.specs.Prelude.{ℕ, zero, suc, ◌+◌, ◌-◌, ◌*◌, List, [], ◌∷◌, length, map, take, drop}
+use Rattle.std.specs.Prelude.{ℕ, zero, suc, ◌+◌, ◌-◌, ◌*◌, List, [], ◌∷◌, map, take, drop}
 use Rattle.std.specs.Int.{w32, from_be_bytes}
 use Rattle.std.specs.List.{zip}
 use Rattle.cs_base.specs.declared.block.BlockHead.{BlockHead}

@@ -5,6 +5,4 @@
 pub mod laws;
 mod limits;
 
-pub use limits::{
-    ENTRY_BYTES, HEADER_BYTES, MAX_BLOCK_WORDS, MAX_TARGET, NUMBER_BYTES, TARGET,
-};
+pub use limits::{ENTRY_BYTES, HEADER_BYTES, MAX_BLOCK_WORDS, MAX_TARGET, NUMBER_BYTES, TARGET};
