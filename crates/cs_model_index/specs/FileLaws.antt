@@ -1,0 +1,56 @@
+-- What ties images, their files and the rules together.
+--
+-- Source: this engine's own.
+--
+-- These statements aren't proved here, and no contract of this crate names them: they are proved where the file is written and opened,
+-- on the block's laws.
+--
+--   HasLimits i           an image whose numbers have room in a file, and whose titles, words and rows are those of a collection
+--   AcceptedAreFiles      an index file is the file of the image that is read of it
+--   FilesAreAccepted      the file of an image within the limits is an index file, of which this image is read
+--   ImagesKeepCorpora     the corpus of a corpus's image is that corpus
+--   AcceptedAreImages     what is read of an index file is the image of its corpus
+use Rattle.std.specs.Prelude.{◌≡◌, ℕ, ◌^◌, ◌<◌, ◌≤◌, true, List, length, All}
+use Rattle.std.specs.List.{sum_by}
+use Rattle.std.specs.Str.{IsUtf8}
+use Rattle.cs_base.specs.declared.limits.TheConstants.{MAX_DOCS, MAX_WORDS, MAX_ROWS, MAX_LINE_BYTES}
+use Rattle.cs_model.specs.Corpus.{Corpus, IsCorpus}
+use Rattle.cs_model.specs.Scores.{SCORES}
+use Rattle.cs_model_index.specs.BlockRules.{is_scored}
+use Rattle.cs_model_index.specs.FileRules.{is_word, IsIndexFile}
+use Rattle.cs_model_index.specs.Images.{Image, IsImage, image_posts, image_corpus}
+use Rattle.cs_model_index.specs.Layout.{title_bytes, file}
+use Rattle.cs_model_index.specs.Numbered.{word_at}
+use Rattle.cs_model_index.specs.Partitions.{is_facet}
+use Rattle.cs_model_index.specs.Sections.{image_of, file_corpus}
+use Rattle.cs_model_index.specs.declared.limits.TheConstants.{MAX_TARGET}
+
+-- within the limits of collections, with titles of fewer than 2^32 bytes together; the image of the empty corpus has them for each target
+pub record HasLimits (i : Image) : Type 0 where
+  pub few_docs : length i.titles ≤ MAX_DOCS
+  pub texts : All IsUtf8 i.titles
+  pub short : All (λ t. length t ≤ MAX_LINE_BYTES) i.titles
+  pub few_bytes : length (title_bytes i.titles) < 2 ^ 32
+  pub few_words : length i.words ≤ MAX_WORDS
+  pub words : All (λ w. is_word w ≡ true) i.words
+  pub few_rows : sum_by (λ block. length block) i.blocks ≤ MAX_ROWS
+  pub known : All (λ p. p.doc < length i.titles) (image_posts i)
+  pub scored : All (λ p. is_scored SCORES (is_facet (word_at i.words p.word)) p ≡ true) (image_posts i)
+  pub target_from : 1 ≤ i.target
+  pub target_to : i.target ≤ MAX_TARGET
+
+-- of bytes, each below 256
+abbrev pub AcceptedAreFiles : Type 0
+AcceptedAreFiles = (b : List ℕ) → All (λ x. x < 2 ^ 8) b → IsIndexFile b → file (image_of b) ≡ b
+
+-- and no other image is read of it
+abbrev pub FilesAreAccepted : Type 0
+FilesAreAccepted = (k : Corpus) (target : ℕ) (i : Image) → IsCorpus k → IsImage k target i → HasLimits i → IsIndexFile (file i) × (image_of (file i) ≡ i)
+
+-- no row is lost, and none is added
+abbrev pub ImagesKeepCorpora : Type 0
+ImagesKeepCorpora = (k : Corpus) (target : ℕ) (i : Image) → IsCorpus k → IsImage k target i → image_corpus i ≡ k
+
+-- so the rules accept the files of images alone
+abbrev pub AcceptedAreImages : Type 0
+AcceptedAreImages = (b : List ℕ) → All (λ x. x < 2 ^ 8) b → IsIndexFile b → IsImage (file_corpus b) (image_of b).target (image_of b)
