@@ -1,0 +1,5 @@
+pub mod Due
+pub mod Entries
+pub mod KeptList
+pub mod Kepts
+pub mod Plans

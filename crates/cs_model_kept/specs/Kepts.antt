@@ -1,0 +1,4 @@
+pub data KeptKind : Type 0 where
+  Had : KeptKind
+  Kept : KeptKind
+  TooLarge : KeptKind
