@@ -1,4 +1,5 @@
 pub mod Causes
+pub mod FailingCalls
 pub mod GapCode
 pub mod HeldFiles
 pub mod Hub
