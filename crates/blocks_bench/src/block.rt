@@ -1,6 +1,6 @@
 //! A linear generator, and the block that it makes.
 ghost use Rattle.std.specs.Prelude.{◌≡◌, true, length};
-ghost use Rattle.cs_model.specs.Blocks.{IsShaped};
+ghost use Rattle.cs_model_index.specs.Blocks.{IsShaped};
 
 use cs_base::{BlockHead, Memory};
 use cs_gaps::put_gap;

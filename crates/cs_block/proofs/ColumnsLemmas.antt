@@ -13,8 +13,8 @@ use Rattle.std.proofs.lemmas.Nat.{be_bytes_2, be_bytes_4, from_be_bytes-to_be_by
 use Rattle.cs_base.specs.GapCode.{code, first_code}
 use Rattle.cs_base.specs.declared.doc.Post.{Post}
 use Rattle.cs_gaps.proofs.CodesLemmas.{IsBytes, first_found, found_first}
-use Rattle.cs_model.specs.Blocks.{gap_column, word_column, position_column, score_column}
-use Rattle.cs_model.specs.BlockRules.{gap_number, gap_len, codes_break, item_row, doc_before, row_at, items_in}
+use Rattle.cs_model_index.specs.Blocks.{gap_column, word_column, position_column, score_column}
+use Rattle.cs_model_index.specs.BlockRules.{gap_number, gap_len, codes_break, item_row, doc_before, row_at, items_in}
 use Rattle.cs_block.specs.Spelling.{HasSpelling}
 use Rattle.cs_gaps.proofs.CodesLemmas.{IsBytes-drop}
 

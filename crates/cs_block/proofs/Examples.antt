@@ -4,8 +4,9 @@ use Rattle.std.proofs.Common.{◌≡◌, List, ℕ, [], ◌∷◌, set, true, fa
 use Rattle.cs_base.specs.GapCode.{code_in, code, looked_at, value_of, first_code}
 use Rattle.cs_base.specs.declared.block.BlockHead.{BlockHead}
 use Rattle.cs_base.specs.declared.doc.Post.{Post}
-use Rattle.cs_model.specs.Blocks.{gap_column, word_column, position_column, score_column, block_bytes}
-use Rattle.cs_model.specs.BlockRules.{codes_break, items_in, first_break, judged, rows_read}
+use Rattle.cs_model.specs.Scores.{SCORES}
+use Rattle.cs_model_index.specs.Blocks.{gap_column, word_column, position_column, score_column, block_bytes}
+use Rattle.cs_model_index.specs.BlockRules.{codes_break, items_in, first_break, judged, rows_read}
 
 -- ---- the block of the facet word
 
@@ -27,7 +28,7 @@ rows_read-facet : rows_read (facet_head 1 8) facet_bytes ≡ facet_rows
 unfolding rows_read items_in first_code looked_at value_of code code_in
 rows_read-facet = refl
 
-judged-facet : judged (facet_head 1 8) 1 facet_bytes ≡ None
+judged-facet : judged SCORES (facet_head 1 8) 1 facet_bytes ≡ None
 unfolding judged codes_break items_in first_break first_code looked_at value_of code code_in
 judged-facet = refl
 
@@ -54,53 +55,53 @@ rows_read-plain : rows_read plain_head plain_bytes ≡ plain_rows
 unfolding rows_read items_in first_code looked_at value_of code code_in
 rows_read-plain = refl
 
-judged-plain : judged plain_head 1 plain_bytes ≡ None
+judged-plain : judged SCORES plain_head 1 plain_bytes ≡ None
 unfolding judged codes_break items_in first_break first_code looked_at value_of code code_in
 judged-plain = refl
 
 -- ---- each rule and its place
 
 -- the last gap code is cut
-judged-cut : judged plain_head 1 (set plain_bytes 2 128) ≡ Some (record { n = 13; at = 2 })
+judged-cut : judged SCORES plain_head 1 (set plain_bytes 2 128) ≡ Some (record { n = 13; at = 2 })
 unfolding judged codes_break items_in first_break first_code looked_at value_of code code_in
 judged-cut = refl
 
 -- 0 in two bytes
-judged-too_long : judged plain_head 1 (set plain_bytes 0 128) ≡ Some (record { n = 13; at = 0 })
+judged-too_long : judged SCORES plain_head 1 (set plain_bytes 0 128) ≡ Some (record { n = 13; at = 0 })
 unfolding judged codes_break items_in first_break first_code looked_at value_of code code_in
 judged-too_long = refl
 
 -- a byte behind the last gap code
-judged-left_over : judged (facet_head 1 9) 1 (0 ∷ facet_bytes) ≡ Some (record { n = 13; at = 1 })
+judged-left_over : judged SCORES (facet_head 1 9) 1 (0 ∷ facet_bytes) ≡ Some (record { n = 13; at = 1 })
 unfolding judged codes_break items_in first_break first_code looked_at value_of code code_in
 judged-left_over = refl
 
 -- the first of two rows has both bytes of the gaps, so that the second finds the column's end
-judged-column_end : judged (facet_head 2 16) 129 (128 ∷ 1 ∷ 0 ∷ 0 ∷ 0 ∷ 0 ∷ 0 ∷ 0 ∷ 0 ∷ 0 ∷ 0 ∷ 0 ∷ 0 ∷ 0 ∷ 2 ∷ 2 ∷ []) ≡ Some (record { n = 13; at = 2 })
+judged-column_end : judged SCORES (facet_head 2 16) 129 (128 ∷ 1 ∷ 0 ∷ 0 ∷ 0 ∷ 0 ∷ 0 ∷ 0 ∷ 0 ∷ 0 ∷ 0 ∷ 0 ∷ 0 ∷ 0 ∷ 2 ∷ 2 ∷ []) ≡ Some (record { n = 13; at = 2 })
 unfolding judged codes_break items_in first_break first_code looked_at value_of code code_in
 judged-column_end = refl
 
 -- the last row is in document 1, of a collection of one document
-judged-document : judged plain_head 1 (set plain_bytes 2 1) ≡ Some (record { n = 14; at = 2 })
+judged-document : judged SCORES plain_head 1 (set plain_bytes 2 1) ≡ Some (record { n = 14; at = 2 })
 unfolding judged codes_break items_in first_break first_code looked_at value_of code code_in
 judged-document = refl
 
 -- the first row has the word 4
-judged-word : judged plain_head 1 (set plain_bytes 4 3) ≡ Some (record { n = 15; at = 3 })
+judged-word : judged SCORES plain_head 1 (set plain_bytes 4 3) ≡ Some (record { n = 15; at = 3 })
 unfolding judged codes_break items_in first_break first_code looked_at value_of code code_in
 judged-word = refl
 
 -- the last row has the score 3; the place is that of its position
-judged-score : judged plain_head 1 (set plain_bytes 23 3) ≡ Some (record { n = 16; at = 17 })
+judged-score : judged SCORES plain_head 1 (set plain_bytes 23 3) ≡ Some (record { n = 16; at = 17 })
 unfolding judged codes_break items_in first_break first_code looked_at value_of code code_in
 judged-score = refl
 
 -- the last row stands before the one before it
-judged-order : judged plain_head 1 (set plain_bytes 20 9) ≡ Some (record { n = 17; at = 2 })
+judged-order : judged SCORES plain_head 1 (set plain_bytes 20 9) ≡ Some (record { n = 17; at = 2 })
 unfolding judged codes_break items_in first_break first_code looked_at value_of code code_in
 judged-order = refl
 
 -- the rule of the lower number goes first, though its place is behind
-judged-two_rules : judged plain_head 1 (set (set plain_bytes 20 9) 23 3) ≡ Some (record { n = 16; at = 17 })
+judged-two_rules : judged SCORES plain_head 1 (set (set plain_bytes 20 9) 23 3) ≡ Some (record { n = 16; at = 17 })
 unfolding judged codes_break items_in first_break first_code looked_at value_of code code_in
 judged-two_rules = refl

@@ -13,8 +13,9 @@ use Rattle.cs_base.specs.declared.block.BlockHead.{BlockHead}
 use Rattle.cs_base.specs.declared.block.Broken.{Broken}
 use Rattle.cs_base.specs.declared.doc.Post.{Post}
 use Rattle.cs_gaps.proofs.CodesLemmas.{IsBytes}
-use Rattle.cs_model.specs.Blocks.{gap_column, word_column, position_column, score_column, block_bytes, IsShaped}
-use Rattle.cs_model.specs.BlockRules.{gap_number, gap_len, codes_break, item_row, doc_before, row_at, items_in, gap_bytes, Item, Rule, rules, first_break, first_broken, BlockColumns, block_columns, columns_behind, block_items, judged_columns, judged, rows_read, keeps, MeetAll, IsBlock}
+use Rattle.cs_model.specs.Scores.{SCORES}
+use Rattle.cs_model_index.specs.Blocks.{gap_column, word_column, position_column, score_column, block_bytes, IsShaped}
+use Rattle.cs_model_index.specs.BlockRules.{gap_number, gap_len, codes_break, item_row, doc_before, row_at, items_in, gap_bytes, Item, Rule, rules, first_break, first_broken, BlockColumns, block_columns, columns_behind, block_items, judged_columns, judged, rows_read, keeps, MeetAll, IsBlock}
 use Rattle.cs_gaps.proofs.CodesLemmas.{IsBytes-drop}
 use Rattle.cs_block.proofs.ColumnsLemmas.{IsBytes-take, guard_none, AreSized, reads, again}
 use Rattle.cs_block.proofs.ItemsLemmas.{break_cons, or_broken, in_front}
@@ -97,13 +98,13 @@ joined head bytes =
 four : (a b c d p q r s : List ℕ) → a ≡ p → b ≡ q → c ≡ r → d ≡ s → a ++ (b ++ (c ++ d)) ≡ p ++ (q ++ (r ++ s))
 four a b c d p q r s e f g h = rw (e, f, g, h) refl
 
-pub accepted : (head : BlockHead) (docs : ℕ) (bytes : List ℕ) → IsBytes bytes → IsShaped head (length bytes) → judged head docs bytes ≡ None → IsBlock head docs (rows_read head bytes) bytes
+pub accepted : (head : BlockHead) (docs : ℕ) (bytes : List ℕ) → IsBytes bytes → IsShaped head (length bytes) → judged SCORES head docs bytes ≡ None → IsBlock SCORES head docs (rows_read head bytes) bytes
 unfolding judged rows_read block_bytes
 accepted head docs bytes fits shaped e =
     let c = block_columns head bytes in
-    let p = none_of 13 (codes_break head.rows 0 c.gaps) (first_broken (rules head docs) (block_items head c)) e in
+    let p = none_of 13 (codes_break head.rows 0 c.gaps) (first_broken (rules SCORES head docs) (block_items head c)) e in
     let back = reads head.rows head.lo None 0 0 c.gaps c.words c.positions c.scores (sized head bytes fits shaped) p.0 in
-    let met = all_met (rules head docs) head c p.1 in
+    let met = all_met (rules SCORES head docs) head c p.1 in
     record {
       count = back.count;
       written = joined head bytes ∙ four _ _ _ _ _ _ _ _ back.gaps_are back.words_are back.positions_are back.scores_are;
@@ -136,7 +137,7 @@ cut_behind : (head : BlockHead) (gaps words positions scores : List ℕ) → len
 cut_behind head gaps words positions scores w p =
     rw (take_at words (positions ++ scores) (2 * head.rows) w, drop_at words (positions ++ scores) (2 * head.rows) w, take_at positions scores (4 * head.rows) p, drop_at positions scores (4 * head.rows) p) refl
 
-columns_of : (head : BlockHead) (docs : ℕ) (rs : List Post) (bytes : List ℕ) → IsShaped head (length bytes) → IsBlock head docs rs bytes → block_columns head bytes ≡ spelled_columns head.lo rs
+columns_of : (head : BlockHead) (docs : ℕ) (rs : List Post) (bytes : List ℕ) → IsShaped head (length bytes) → IsBlock SCORES head docs rs bytes → block_columns head bytes ≡ spelled_columns head.lo rs
 unfolding block_bytes
 columns_of head docs rs bytes shaped b =
     let behind = word_column head.lo rs ++ (position_column rs ++ score_column rs) in
@@ -152,7 +153,7 @@ columns_of head docs rs bytes shaped b =
     ∙ rw (take_at (gap_column 0 rs) behind (gap_bytes head) gaps_len, drop_at (gap_column 0 rs) behind (gap_bytes head) gaps_len)
     (cut_behind head (gap_column 0 rs) (word_column head.lo rs) (position_column rs) (score_column rs) (omega arith) (omega arith))
 
-pub unique : (head : BlockHead) (docs : ℕ) (rs : List Post) (bytes : List ℕ) → docs < 2 ^ 32 → IsShaped head (length bytes) → IsBlock head docs rs bytes → (judged head docs bytes ≡ None) × (rows_read head bytes ≡ rs)
+pub unique : (head : BlockHead) (docs : ℕ) (rs : List Post) (bytes : List ℕ) → docs < 2 ^ 32 → IsShaped head (length bytes) → IsBlock SCORES head docs rs bytes → (judged SCORES head docs bytes ≡ None) × (rows_read head bytes ≡ rs)
 unfolding judged rows_read
 unique head docs rs bytes few shaped b =
     let s = spelled_columns head.lo rs in
@@ -160,8 +161,8 @@ unique head docs rs bytes few shaped b =
     let cols = columns_of head docs rs bytes shaped b in
     let no_gap : codes_break head.rows 0 s.gaps ≡ None = ap (λ (n : ℕ). codes_break n 0 s.gaps) (sym b.count) ∙ a.0 in
     let same : map item_row (block_items head s) ≡ rs = ap (λ (n : ℕ). map item_row (items_in head.lo n None 0 0 s.gaps s.words s.positions s.scores)) (sym b.count) ∙ a.1 in
-    let met : MeetAll (rules head docs) (map item_row (block_items head s)) = subst (MeetAll (rules head docs)) (sym same) b.meets in (
-      ap (judged_columns head docs) cols ∙ none_from 13 _ _ no_gap (none_broken (rules head docs) head s met),
+    let met : MeetAll (rules SCORES head docs) (map item_row (block_items head s)) = subst (MeetAll (rules SCORES head docs)) (sym same) b.meets in (
+      ap (judged_columns SCORES head docs) cols ∙ none_from 13 _ _ no_gap (none_broken (rules SCORES head docs) head s met),
       ap (λ (c : BlockColumns). map item_row (block_items head c)) cols ∙ same,
     )
 
@@ -174,11 +175,11 @@ bytes_by bytes h i =
       | inr le ↦ rw (get_or_past bytes i 0 le) (omega arith)
     ]
 
-pub accepted_are_blocks : (head : BlockHead) (docs : ℕ) (bytes : List ℕ) → docs < 2 ^ 32 → All (λ b. b < 256) bytes → IsShaped head (length bytes) → (judged head docs bytes ≡ None) ↔ ((rs : List Post) × IsBlock head docs rs bytes)
+pub accepted_are_blocks : (head : BlockHead) (docs : ℕ) (bytes : List ℕ) → docs < 2 ^ 32 → All (λ b. b < 256) bytes → IsShaped head (length bytes) → (judged SCORES head docs bytes ≡ None) ↔ ((rs : List Post) × IsBlock SCORES head docs rs bytes)
 accepted_are_blocks head docs bytes few small shaped = (
   λ e. (rows_read head bytes, accepted head docs bytes (bytes_by bytes small) shaped e),
   λ b. (unique head docs b.0 bytes few shaped b.1).0,
 )
 
-pub one_reading : (head : BlockHead) (docs : ℕ) (rs : List Post) (bytes : List ℕ) → docs < 2 ^ 32 → IsShaped head (length bytes) → IsBlock head docs rs bytes → rows_read head bytes ≡ rs
+pub one_reading : (head : BlockHead) (docs : ℕ) (rs : List Post) (bytes : List ℕ) → docs < 2 ^ 32 → IsShaped head (length bytes) → IsBlock SCORES head docs rs bytes → rows_read head bytes ≡ rs
 one_reading head docs rs bytes few shaped b = (unique head docs rs bytes few shaped b).1

@@ -13,7 +13,8 @@ use Rattle.cs_base.specs.GapCode.{first_code}
 use Rattle.cs_base.specs.declared.block.BlockHead.{BlockHead}
 use Rattle.cs_base.specs.declared.block.Broken.{Broken}
 use Rattle.cs_base.specs.declared.doc.Post.{Post}
-use Rattle.cs_model.specs.BlockRules.{codes_break, Item, item_row, doc_before, row_at, gap_bytes, rules, in_docs, in_words, in_kind, in_order, is_scored, is_after, first_break, first_broken, BlockColumns, block_items, judged_columns}
+use Rattle.cs_model.specs.Scores.{SCORES}
+use Rattle.cs_model_index.specs.BlockRules.{codes_break, Item, item_row, doc_before, row_at, gap_bytes, rules, in_docs, in_words, in_kind, in_order, is_scored, is_after, first_break, first_broken, BlockColumns, block_items, judged_columns}
 use Rattle.cs_block.specs.Reading.{GapHere}
 use Rattle.cs_block.proofs.ItemsLemmas.{bad_on, bad_here, bad_over, bad_done, items_from, items_on, items_end, items_start, Keeps, keeps_on, keeps_end, keeps_start, keeps_found, or_broken, in_turn}
 
@@ -26,7 +27,7 @@ pub record HasJudged (head : BlockHead) (docs : ℕ) (c : BlockColumns) (i at : 
   pub before_below : before ≤ docs
   pub docs_kept : Keeps (in_docs docs) (block_items head c) None (items_from head c i at last)
   pub words_kept : Keeps (in_words head) (block_items head c) word (items_from head c i at last)
-  pub scores_kept : Keeps (in_kind head) (block_items head c) score (items_from head c i at last)
+  pub scores_kept : Keeps (in_kind SCORES head) (block_items head c) score (items_from head c i at last)
   pub order_kept : Keeps in_order (block_items head c) order (items_from head c i at last)
 
 pub judging : (head : BlockHead) (docs : ℕ) (c : BlockColumns) → HasJudged head docs c 0 0 None 0 None None None
@@ -52,7 +53,7 @@ pub judges_on : (head : BlockHead) (docs : ℕ) (c : BlockColumns) (i at n next 
     → i < head.rows → GapHere c.gaps at n next → doc ≡ before + n → doc < docs
     → row ≡ row_at head.lo doc (drop (2 * i) c.words) (drop (4 * i) c.positions) (drop i c.scores)
     → worded ≡ ltb row.word (head.lo + head.words) → word' ≡ option_or word (cond worded None (Some (gap_bytes head + 2 * i)))
-    → held ≡ is_scored head.facet row → score' ≡ option_or score (cond held None (Some (gap_bytes head + 2 * head.rows + 4 * i)))
+    → held ≡ is_scored SCORES head.facet row → score' ≡ option_or score (cond held None (Some (gap_bytes head + 2 * head.rows + 4 * i)))
     → after ≡ is_after last row → order' ≡ option_or order (cond after None (Some at))
     → HasJudged head docs c i at last before word score order → HasJudged head docs c (i + 1) next (Some row) row.doc word' score' order'
 judges_on head docs c i at n next last before doc word score order word' score' order' worded held after row lt gap sum below is hw w hs s ho o h =
@@ -72,13 +73,13 @@ judges_on head docs c i at n next last before doc word score order word' score' 
       before_below = omega arith;
       docs_kept = keeps_on (in_docs docs) all None None item here rest split none h.docs_kept;
       words_kept = keeps_on (in_words head) all word word' item here rest split (w ∙ ap (λ (b : Bool). option_or word (cond b None (Some (gap_bytes head + 2 * i)))) hw) h.words_kept;
-      scores_kept = keeps_on (in_kind head) all score score' item here rest split (s ∙ ap (λ (b : Bool). option_or score (cond b None (Some (gap_bytes head + 2 * head.rows + 4 * i)))) hs) h.scores_kept;
+      scores_kept = keeps_on (in_kind SCORES head) all score score' item here rest split (s ∙ ap (λ (b : Bool). option_or score (cond b None (Some (gap_bytes head + 2 * head.rows + 4 * i)))) hs) h.scores_kept;
       order_kept = keeps_on in_order all order order' item here rest split (o ∙ ap (λ (b : Bool). option_or order (cond b None (Some at))) ho) h.order_kept;
     }
 
 pub too_late : (head : BlockHead) (docs : ℕ) (c : BlockColumns) (i at n next : ℕ) (last : Option Post) (before : ℕ) (word score order : Option ℕ)
     → i < head.rows → GapHere c.gaps at n next → docs ≤ before + n → HasJudged head docs c i at last before word score order
-    → first_broken (rules head docs) (block_items head c) ≡ Some (record { n = 14; at = at })
+    → first_broken (rules SCORES head docs) (block_items head c) ≡ Some (record { n = 14; at = at })
 too_late head docs c i at n next last before word score order lt gap late h =
     let row = row_at head.lo (before + n) (drop (2 * i) c.words) (drop (4 * i) c.positions) (drop i c.scores) in
     let item : Item = record { row = row; last = last; index = i; gap_at = at } in
@@ -89,15 +90,15 @@ too_late head docs c i at n next last before word score order lt gap late h =
 pub judged_all : (head : BlockHead) (docs : ℕ) (c : BlockColumns) (i at : ℕ) (last : Option Post) (before : ℕ) (word score order : Option ℕ) (r17 r16 r15 : Option Broken)
     → head.rows ≤ i → HasJudged head docs c i at last before word score order
     → r17 ≡ or_broken 17 order None → r16 ≡ or_broken 16 score r17 → r15 ≡ or_broken 15 word r16
-    → r15 ≡ first_broken (rules head docs) (block_items head c)
+    → r15 ≡ first_broken (rules SCORES head docs) (block_items head c)
 judged_all head docs c i at last before word score order r17 r16 r15 le h a b d =
     let all = block_items head c in
     let done = items_end head c i at last le in
     let w = keeps_end (in_words head) all word _ done h.words_kept in
-    let s = keeps_end (in_kind head) all score _ done h.scores_kept in
+    let s = keeps_end (in_kind SCORES head) all score _ done h.scores_kept in
     let o = keeps_end in_order all order _ done h.order_kept in
     let e = keeps_end (in_docs docs) all None _ done h.docs_kept in
-    d ∙ ap (or_broken 15 word) (b ∙ ap (or_broken 16 score) a) ∙ rw (w, s, o) (ap (λ (x : Option ℕ). or_broken 14 x (or_broken 15 (first_break (in_words head) all) (or_broken 16 (first_break (in_kind head) all) (or_broken 17 (first_break in_order all) None)))) e) ∙ sym (in_turn head docs all)
+    d ∙ ap (or_broken 15 word) (b ∙ ap (or_broken 16 score) a) ∙ rw (w, s, o) (ap (λ (x : Option ℕ). or_broken 14 x (or_broken 15 (first_break (in_words head) all) (or_broken 16 (first_break (in_kind SCORES head) all) (or_broken 17 (first_break in_order all) None)))) e) ∙ sym (in_turn head docs all)
 
 pub stuck : (rows i at : ℕ) (gaps : List ℕ) → i < rows → first_code (drop at gaps) ≡ None → codes_break (rows - i) at (drop at gaps) ≡ None → ⊥
 stuck rows i at gaps lt none h = none-some at (sym h ∙ bad_here rows i at gaps lt none)
@@ -121,7 +122,7 @@ pushing head docs c first room le = record {
 
 -- the three tests that the code makes at once
 abbrev pub Tests : BlockHead → Option Post → Post → Bool
-Tests head last row = ltb row.word (head.lo + head.words) && (is_scored head.facet row && is_after last row)
+Tests head last row = ltb row.word (head.lo + head.words) && (is_scored SCORES head.facet row && is_after last row)
 
 pub pushes_on : (head : BlockHead) (docs : ℕ) (c : BlockColumns) (i at n next : ℕ) (last : Option Post) (before doc : ℕ) (row : Post) (first now then : List Post) (room left : ℕ)
     → i < head.rows → GapHere c.gaps at n next → doc ≡ before + n → doc < docs
@@ -129,8 +130,8 @@ pub pushes_on : (head : BlockHead) (docs : ℕ) (c : BlockColumns) (i at n next 
     → Tests head last row ≡ true → then ≡ now ++ row ∷ [] → room ≤ left + 1
     → HasPushed head docs c i at last before first now room → HasPushed head docs c (i + 1) next (Some row) row.doc first then left
 pushes_on head docs c i at n next last before doc row first now then room left lt gap sum below is met added less h =
-    let p = and_parts (ltb row.word (head.lo + head.words)) (is_scored head.facet row && is_after last row) met in
-    let q = and_parts (is_scored head.facet row) (is_after last row) p.1 in
+    let p = and_parts (ltb row.word (head.lo + head.words)) (is_scored SCORES head.facet row && is_after last row) met in
+    let q = and_parts (is_scored SCORES head.facet row) (is_after last row) p.1 in
     let none_word : None ≡ option_or None (cond true None (Some (gap_bytes head + 2 * i))) = refl in
     let none_score : None ≡ option_or None (cond true None (Some (gap_bytes head + 2 * head.rows + 4 * i))) = refl in
     let none_order : None ≡ option_or None (cond true None (Some at)) = refl in
@@ -160,19 +161,19 @@ or_broken_here : (n at : ℕ) (o : Option ℕ) (other : Option Broken) → o ≡
 or_broken_here n at o other e = rw e refl
 
 pub stops_at_code : (head : BlockHead) (docs : ℕ) (c : BlockColumns) (i at : ℕ) (last : Option Post) (before : ℕ) (word score order : Option ℕ) → i < head.rows → first_code (drop at c.gaps) ≡ None
-    → HasJudged head docs c i at last before word score order → is_none (judged_columns head docs c) ≡ false
+    → HasJudged head docs c i at last before word score order → is_none (judged_columns SCORES head docs c) ≡ false
 stops_at_code head docs c i at last before word score order lt none h =
-    or_broken_here 13 at (codes_break head.rows 0 c.gaps) (first_broken (rules head docs) (block_items head c)) (sym h.codes ∙ bad_here head.rows i at c.gaps lt none)
+    or_broken_here 13 at (codes_break head.rows 0 c.gaps) (first_broken (rules SCORES head docs) (block_items head c)) (sym h.codes ∙ bad_here head.rows i at c.gaps lt none)
 
 pub stops_at_doc : (head : BlockHead) (docs : ℕ) (c : BlockColumns) (i at n next : ℕ) (last : Option Post) (before : ℕ) (word score order : Option ℕ)
-    → i < head.rows → GapHere c.gaps at n next → docs ≤ before + n → HasJudged head docs c i at last before word score order → is_none (judged_columns head docs c) ≡ false
+    → i < head.rows → GapHere c.gaps at n next → docs ≤ before + n → HasJudged head docs c i at last before word score order → is_none (judged_columns SCORES head docs c) ≡ false
 stops_at_doc head docs c i at n next last before word score order lt gap late h =
-    or_broken_late 13 (codes_break head.rows 0 c.gaps) (first_broken (rules head docs) (block_items head c)) (none_false _ _ (too_late head docs c i at n next last before word score order lt gap late h))
+    or_broken_late 13 (codes_break head.rows 0 c.gaps) (first_broken (rules SCORES head docs) (block_items head c)) (none_false _ _ (too_late head docs c i at n next last before word score order lt gap late h))
 
 pub stops_at_row : (head : BlockHead) (docs : ℕ) (c : BlockColumns) (i at n next : ℕ) (last : Option Post) (before doc : ℕ) (row : Post)
     → i < head.rows → GapHere c.gaps at n next → doc ≡ before + n
     → row ≡ row_at head.lo doc (drop (2 * i) c.words) (drop (4 * i) c.positions) (drop i c.scores)
-    → Tests head last row ≡ false → HasJudged head docs c i at last before None None None → is_none (judged_columns head docs c) ≡ false
+    → Tests head last row ≡ false → HasJudged head docs c i at last before None None None → is_none (judged_columns SCORES head docs c) ≡ false
 stops_at_row head docs c i at n next last before doc row lt gap sum is failed h =
     let all = block_items head c in
     let item : Item = record { row = row; last = last; index = i; gap_at = at } in
@@ -180,27 +181,27 @@ stops_at_row head docs c i at n next last before doc row lt gap sum is failed h 
     let rest = items_from head c (i + 1) next (Some row) in
     let split : items_from head c i at last ≡ item ∷ rest = items_on head c i at n next last row lt gap (is_row head docs c i at n last before None None None row h is') in
     let orders = or_broken 17 (first_break in_order all) None in
-    let scores = or_broken 16 (first_break (in_kind head) all) orders in
+    let scores = or_broken 16 (first_break (in_kind SCORES head) all) orders in
     let words = or_broken 15 (first_break (in_words head) all) scores in
-    let broken : is_none words ≡ false = elim (and_cases (ltb row.word (head.lo + head.words)) (is_scored head.facet row && is_after last row) failed) [
+    let broken : is_none words ≡ false = elim (and_cases (ltb row.word (head.lo + head.words)) (is_scored SCORES head.facet row && is_after last row) failed) [
       | inl word ↦ or_broken_here 15 _ _ scores (keeps_found (in_words head) all item _ rest split word h.words_kept)
-      | inr more ↦ or_broken_late 15 (first_break (in_words head) all) scores (elim (and_cases (is_scored head.facet row) (is_after last row) more) [
-        | inl score ↦ or_broken_here 16 _ _ orders (keeps_found (in_kind head) all item _ rest split score h.scores_kept)
-        | inr order ↦ or_broken_late 16 (first_break (in_kind head) all) orders (or_broken_here 17 _ _ None (keeps_found in_order all item _ rest split order h.order_kept))
+      | inr more ↦ or_broken_late 15 (first_break (in_words head) all) scores (elim (and_cases (is_scored SCORES head.facet row) (is_after last row) more) [
+        | inl score ↦ or_broken_here 16 _ _ orders (keeps_found (in_kind SCORES head) all item _ rest split score h.scores_kept)
+        | inr order ↦ or_broken_late 16 (first_break (in_kind SCORES head) all) orders (or_broken_here 17 _ _ None (keeps_found in_order all item _ rest split order h.order_kept))
       ])
     ] in
-    or_broken_late 13 (codes_break head.rows 0 c.gaps) (first_broken (rules head docs) all) (ap is_none (in_turn head docs all) ∙ or_broken_late 14 (first_break (in_docs docs) all) words broken)
+    or_broken_late 13 (codes_break head.rows 0 c.gaps) (first_broken (rules SCORES head docs) all) (ap is_none (in_turn head docs all) ∙ or_broken_late 14 (first_break (in_docs docs) all) words broken)
 
-pub ends_whole : (head : BlockHead) (docs : ℕ) (c : BlockColumns) (i at : ℕ) (last : Option Post) (before : ℕ) → head.rows ≤ i → at ≡ length c.gaps → HasJudged head docs c i at last before None None None → is_none (judged_columns head docs c) ≡ true
+pub ends_whole : (head : BlockHead) (docs : ℕ) (c : BlockColumns) (i at : ℕ) (last : Option Post) (before : ℕ) → head.rows ≤ i → at ≡ length c.gaps → HasJudged head docs c i at last before None None None → is_none (judged_columns SCORES head docs c) ≡ true
 ends_whole head docs c i at last before le end h =
     let codes : codes_break head.rows 0 c.gaps ≡ None = sym h.codes ∙ bad_done head.rows i at c.gaps le (omega arith) in
     rw codes (ap is_none (sym (judged_all head docs c i at last before None None None None None None le h refl refl refl)))
 
-pub ends_early : (head : BlockHead) (docs : ℕ) (c : BlockColumns) (i at : ℕ) (last : Option Post) (before : ℕ) → head.rows ≤ i → at < length c.gaps → HasJudged head docs c i at last before None None None → is_none (judged_columns head docs c) ≡ false
+pub ends_early : (head : BlockHead) (docs : ℕ) (c : BlockColumns) (i at : ℕ) (last : Option Post) (before : ℕ) → head.rows ≤ i → at < length c.gaps → HasJudged head docs c i at last before None None None → is_none (judged_columns SCORES head docs c) ≡ false
 ends_early head docs c i at last before le lt h =
-    or_broken_here 13 at (codes_break head.rows 0 c.gaps) (first_broken (rules head docs) (block_items head c)) (sym h.codes ∙ bad_over head.rows i at c.gaps le lt)
+    or_broken_here 13 at (codes_break head.rows 0 c.gaps) (first_broken (rules SCORES head docs) (block_items head c)) (sym h.codes ∙ bad_over head.rows i at c.gaps le lt)
 
-pub ends : (head : BlockHead) (docs : ℕ) (c : BlockColumns) (i at : ℕ) (last : Option Post) (before : ℕ) → head.rows ≤ i → HasJudged head docs c i at last before None None None → eqb at (length c.gaps) ≡ is_none (judged_columns head docs c)
+pub ends : (head : BlockHead) (docs : ℕ) (c : BlockColumns) (i at : ℕ) (last : Option Post) (before : ℕ) → head.rows ≤ i → HasJudged head docs c i at last before None None None → eqb at (length c.gaps) ≡ is_none (judged_columns SCORES head docs c)
 ends head docs c i at last before le h =
     let within = h.within in
     elim (cases_lt at (length c.gaps)) [

@@ -9,7 +9,7 @@ use Rattle.std.specs.Int.{w16, w32, to_be_bytes}
 use Rattle.std.proofs.lemmas.List.{append-nil, take-append-le, length-take, take-take, drop_more}
 use Rattle.cs_base.specs.GapCode.{code}
 use Rattle.cs_base.specs.declared.doc.Post.{Post}
-use Rattle.cs_model.specs.Blocks.{gap_column, word_column, position_column, score_column, block_bytes}
+use Rattle.cs_model_index.specs.Blocks.{gap_column, word_column, position_column, score_column, block_bytes}
 use Rattle.cs_block.specs.Spelling.{HasWords, IsAscending}
 
 -- all that is to stand there is what stands there and a rest; and what stood there first still does

@@ -17,8 +17,9 @@ use Rattle.cs_base.specs.declared.block.BlockHead.{BlockHead}
 use Rattle.cs_base.specs.declared.doc.Post.{Post}
 use Rattle.cs_base.proofs.OrdersLemmas.{by_place_total, Comes, comes-from_lt, comes_first, less-from_test}
 use Rattle.cs_base.proofs.MembersLemmas.{all_then}
-use Rattle.cs_model.specs.Blocks.{AreWritable}
-use Rattle.cs_model.specs.BlockRules.{doc_before, is_after, is_scored, keeps, in_docs, in_kind}
+use Rattle.cs_model.specs.Scores.{SCORES}
+use Rattle.cs_model_index.specs.Blocks.{AreWritable}
+use Rattle.cs_model_index.specs.BlockRules.{doc_before, is_after, is_scored, keeps, in_docs, in_kind}
 use Rattle.cs_block.specs.Spelling.{HasSpelling, IsAscending, HasWords}
 
 -- ---- rows in order
@@ -47,7 +48,7 @@ words_of lo before (r ∷ rs) h = ((h.0.word_from, h.0.word_below), words_of lo 
 pub writable_from : (lo before : ℕ) (rs : List Post) → HasSpelling lo before rs → keeps is_after None rs ≡ true → AreWritable lo rs
 writable_from lo before rs h e = record { sorted = sorted_from rs e; words = All-from_recursion _ rs (words_of lo before rs h) }
 
-scored_small : (facet : Bool) (r : Post) → is_scored facet r ≡ true → (r.pos < 2 ^ 32) × (r.score < 256)
+scored_small : (facet : Bool) (r : Post) → is_scored SCORES facet r ≡ true → (r.pos < 2 ^ 32) × (r.score < 256)
 scored_small true r h = grind (arith, nat_tests)
 scored_small false r h = grind (arith, nat_tests)
 
@@ -59,19 +60,19 @@ onward None r h = omega arith
 onward (Some p) r h = onward_by p r (comes-from_lt p r h)
 
 spelling_by : (head : BlockHead) (docs : ℕ) (last : Option Post) (rs : List Post) → docs < 2 ^ 32 → AllByRecursion (λ r. (head.lo ≤ r.word) × (r.word < head.lo + 2 ^ 16)) rs
-    → keeps (in_docs docs).holds last rs ≡ true → keeps (in_kind head).holds last rs ≡ true → keeps is_after last rs ≡ true → HasSpelling head.lo (doc_before last) rs
+    → keeps (in_docs docs).holds last rs ≡ true → keeps (in_kind SCORES head).holds last rs ≡ true → keeps is_after last rs ≡ true → HasSpelling head.lo (doc_before last) rs
 unfolding keeps HasSpelling
 spelling_by head docs last [] few w d s o = tt
 spelling_by head docs last (r ∷ rs) few w d s o =
     let dp = and_parts (ltb r.doc docs) (keeps (in_docs docs).holds (Some r) rs) d in
-    let sp = and_parts (is_scored head.facet r) (keeps (in_kind head).holds (Some r) rs) s in
+    let sp = and_parts (is_scored SCORES head.facet r) (keeps (in_kind SCORES head).holds (Some r) rs) s in
     let op = and_parts (is_after last r) (keeps is_after (Some r) rs) o in
     let below : r.doc < docs = ltb-true r.doc docs dp.0 in
     let small = scored_small head.facet r sp.0 in
     (record { onward = onward last r op.0; gap = omega arith; word_from = w.0.0; word_below = w.0.1; pos = small.0; score = small.1 }, spelling_by head docs (Some r) rs few w.1 dp.1 sp.1 op.1)
 
 pub spelling_from : (head : BlockHead) (docs : ℕ) (rs : List Post) → docs < 2 ^ 32 → All (λ r. (head.lo ≤ r.word) × (r.word < head.lo + 2 ^ 16)) rs
-    → keeps (in_docs docs).holds None rs ≡ true → keeps (in_kind head).holds None rs ≡ true → keeps is_after None rs ≡ true → HasSpelling head.lo 0 rs
+    → keeps (in_docs docs).holds None rs ≡ true → keeps (in_kind SCORES head).holds None rs ≡ true → keeps is_after None rs ≡ true → HasSpelling head.lo 0 rs
 spelling_from head docs rs few w d s o = spelling_by head docs None rs few (recursion_from_All _ rs w) d s o
 
 -- ---- what writing asks

@@ -1,7 +1,7 @@
 -- The columns that the code passes on, as the columns that the rules speak of.
 --
 --   seen c    the bytes of each column
-use Rattle.cs_model.specs.BlockRules.{BlockColumns}
+use Rattle.cs_model_index.specs.BlockRules.{BlockColumns}
 use Rattle.cs_block.specs.declared.columns.Columns.{Columns as Cut}
 
 -- column by column

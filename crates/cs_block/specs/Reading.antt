@@ -7,7 +7,7 @@ use Rattle.std.specs.Prelude.{◌≡◌, ℕ, ◌+◌, ◌*◌, ◌^◌, ◌<◌
 use Rattle.cs_base.specs.GapCode.{code, first_code}
 use Rattle.cs_base.specs.declared.block.BlockHead.{BlockHead}
 use Rattle.cs_base.specs.declared.block.Broken.{Broken}
-use Rattle.cs_model.specs.BlockRules.{BlockColumns, gap_bytes}
+use Rattle.cs_model_index.specs.BlockRules.{BlockColumns, gap_bytes}
 use Rattle.cs_block.specs.declared.fault.BlockFault.{BlockFault}
 use Rattle.cs_block.specs.declared.fault.BlockFault.TheVariants as faults
 

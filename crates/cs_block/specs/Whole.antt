@@ -5,13 +5,14 @@
 use Rattle.std.specs.Prelude.{◌≡◌, ◌↔◌, ℕ, ◌<◌, ◌^◌, List, length, All, None}
 use Rattle.cs_base.specs.declared.block.BlockHead.{BlockHead}
 use Rattle.cs_base.specs.declared.doc.Post.{Post}
-use Rattle.cs_model.specs.Blocks.{IsShaped}
-use Rattle.cs_model.specs.BlockRules.{judged, rows_read, IsBlock}
+use Rattle.cs_model.specs.Scores.{SCORES}
+use Rattle.cs_model_index.specs.Blocks.{IsShaped}
+use Rattle.cs_model_index.specs.BlockRules.{judged, rows_read, IsBlock}
 
 -- of a head of no rows it is the block of no rows, which has no bytes
 abbrev pub AcceptedAreBlocks : Type 0
-AcceptedAreBlocks = (head : BlockHead) (docs : ℕ) (bytes : List ℕ) → docs < 2 ^ 32 → All (λ b. b < 256) bytes → IsShaped head (length bytes) → (judged head docs bytes ≡ None) ↔ ((rs : List Post) × IsBlock head docs rs bytes)
+AcceptedAreBlocks = (head : BlockHead) (docs : ℕ) (bytes : List ℕ) → docs < 2 ^ 32 → All (λ b. b < 256) bytes → IsShaped head (length bytes) → (judged SCORES head docs bytes ≡ None) ↔ ((rs : List Post) × IsBlock SCORES head docs rs bytes)
 
 -- no bytes are the block of two lists of rows
 abbrev pub OneReading : Type 0
-OneReading = (head : BlockHead) (docs : ℕ) (rs : List Post) (bytes : List ℕ) → docs < 2 ^ 32 → IsShaped head (length bytes) → IsBlock head docs rs bytes → rows_read head bytes ≡ rs
+OneReading = (head : BlockHead) (docs : ℕ) (rs : List Post) (bytes : List ℕ) → docs < 2 ^ 32 → IsShaped head (length bytes) → IsBlock SCORES head docs rs bytes → rows_read head bytes ≡ rs

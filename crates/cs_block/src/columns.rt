@@ -3,8 +3,8 @@ ghost use Rattle.std.specs.Prelude.{◌≡◌, ◌+◌, ◌*◌, ◌<◌, ◌≤
 ghost use Rattle.std.specs.Int.{w16, w32, from_be_bytes};
 ghost use Rattle.cs_base.specs.GapCode.{first_code};
 ghost use Rattle.cs_base.specs.declared.limits.TheConstants.{MAX_WORDS};
-ghost use Rattle.cs_model.specs.Blocks.{IsShaped};
-ghost use Rattle.cs_model.specs.BlockRules.{block_columns, row_at};
+ghost use Rattle.cs_model_index.specs.Blocks.{IsShaped};
+ghost use Rattle.cs_model_index.specs.BlockRules.{block_columns, row_at};
 ghost use Rattle.cs_block.specs.Reading.{GapHere, HasColumns};
 ghost use Rattle.cs_block.specs.ColumnsView.{seen};
 

@@ -2,8 +2,9 @@
 ghost use Rattle.std.specs.Prelude.{◌≡◌, ℕ, ◌≤◌, ◌++◌, true, List, length, map, take, OnOk, OnErr, None};
 ghost use Rattle.std.specs.Option.{is_none};
 ghost use Rattle.cs_base.specs.declared.doc.Post.{Post};
-ghost use Rattle.cs_model.specs.Blocks.{IsShaped};
-ghost use Rattle.cs_model.specs.BlockRules.{IsBlock, item_row, block_items, judged, judged_columns};
+ghost use Rattle.cs_model.specs.Scores.{SCORES};
+ghost use Rattle.cs_model_index.specs.Blocks.{IsShaped};
+ghost use Rattle.cs_model_index.specs.BlockRules.{IsBlock, item_row, block_items, judged, judged_columns};
 ghost use Rattle.cs_block.specs.Reading.{Decodes, HasColumns};
 ghost use Rattle.cs_block.specs.ColumnsView.{seen};
 
@@ -21,11 +22,11 @@ pub fn decode(bytes: &[u8], head: &BlockHead, docs: u32, into: &mut Cols) -> Res
     requires shaped { IsShaped head.now (length bytes.now) }
 
     // what is accepted is what `encode` writes of rows that meet the rules, and these are added
-    ensures ok { OnOk result ((rows : List Post) × IsBlock head.now docs rows bytes.now × (into.new.posts ≡ into.old.posts ++ rows)) }
+    ensures ok { OnOk result ((rows : List Post) × IsBlock SCORES head.now docs rows bytes.now × (into.new.posts ≡ into.old.posts ++ rows)) }
     // such bytes are accepted, unless memory runs out
-    ensures accepts { (rows : List Post) → IsBlock head.now docs rows bytes.now → Decodes result None }
+    ensures accepts { (rows : List Post) → IsBlock SCORES head.now docs rows bytes.now → Decodes result None }
     // which rule is the first broken one, and where
-    ensures exact { Decodes result (judged head.now docs bytes.now) }
+    ensures exact { Decodes result (judged SCORES head.now docs bytes.now) }
     ensures err { OnErr result (into.new.posts ≡ into.old.posts) }
 {
     let len = into.len();
@@ -49,7 +50,7 @@ fn push_rows(columns: &Columns<'_>, head: &BlockHead, docs: u32, into: &mut Cols
     requires sized { HasColumns head.now (seen columns.now) }
     requires room { head.now.rows ≤ into.old.room }
 
-    ensures told { result ≡ is_none (judged_columns head.now docs (seen columns.now)) }
+    ensures told { result ≡ is_none (judged_columns SCORES head.now docs (seen columns.now)) }
     ensures posts { result ≡ true → into.new.posts ≡ into.old.posts ++ map item_row (block_items head.now (seen columns.now)) }
     ensures kept { take (length into.old.posts) into.new.posts ≡ into.old.posts }
 {

@@ -1,8 +1,9 @@
 //! Which rule is the first that the bytes of a block break.
 ghost use Rattle.std.specs.Prelude.{◌≡◌, ℕ, ◌+◌, ◌*◌, ◌≤◌, length, None, Some, cond, IfSome};
 ghost use Rattle.std.specs.Option.{option_map, option_or};
-ghost use Rattle.cs_model.specs.Blocks.{IsShaped};
-ghost use Rattle.cs_model.specs.BlockRules.{block_items, broken_at, codes_break, first_broken, judged_columns, rules};
+ghost use Rattle.cs_model.specs.Scores.{SCORES};
+ghost use Rattle.cs_model_index.specs.Blocks.{IsShaped};
+ghost use Rattle.cs_model_index.specs.BlockRules.{block_items, broken_at, codes_break, first_broken, judged_columns, rules};
 ghost use Rattle.cs_block.specs.Reading.{HasColumns};
 ghost use Rattle.cs_block.specs.ColumnsView.{seen};
 
@@ -15,7 +16,7 @@ pub fn judge(columns: &Columns<'_>, head: &BlockHead, docs: u32) -> Option<Broke
     requires shaped { IsShaped head.now head.now.len }
     requires sized { HasColumns head.now (seen columns.now) }
 
-    ensures { result ≡ judged_columns head.now docs (seen columns.now) }
+    ensures { result ≡ judged_columns SCORES head.now docs (seen columns.now) }
 {
     if let Some(at) = bad_code(columns.gaps, head.rows) {
         return Some(Broken {
@@ -50,7 +51,7 @@ fn broken_row(columns: &Columns<'_>, head: &BlockHead, docs: u32) -> Option<Brok
     requires sized { HasColumns head.now (seen columns.now) }
     requires codes { codes_break head.now.rows 0 columns.now.gaps.now ≡ None }
 
-    ensures { result ≡ first_broken (rules head.now docs) (block_items head.now (seen columns.now)) }
+    ensures { result ≡ first_broken (rules SCORES head.now docs) (block_items head.now (seen columns.now)) }
 {
     let words_at = head.len - 7 * head.rows;
     let positions_at = words_at + 2 * head.rows;

@@ -1,6 +1,6 @@
 //! Blocks of an index file: sorted rows of some words in four columns of bytes, written and read.
 //!
-//! What the bytes of a block are stands in `specs/Blocks.antt` of `cs_model`, the rules that they
+//! What the bytes of a block are stands in `specs/Blocks.antt` of `cs_model_index`, the rules that they
 //! keep in `specs/BlockRules.antt` there, and both in words in `docs/INDEX_FILE.md`. Places are
 //! counted from the block's first byte. `laws` has what holds of all blocks.
 #![tactic(auto)]

@@ -1,7 +1,8 @@
 //! The tests that a row has to pass, other than that of its document.
 ghost use Rattle.std.specs.Prelude.{◌≡◌, ◌+◌, ◌≤◌, ◌&&◌, nat_lt};
 ghost use Rattle.cs_base.specs.declared.limits.TheConstants.{MAX_WORDS};
-ghost use Rattle.cs_model.specs.BlockRules.{is_after, is_scored};
+ghost use Rattle.cs_model.specs.Scores.{SCORES};
+ghost use Rattle.cs_model_index.specs.BlockRules.{is_after, is_scored};
 
 use cs_base::{BlockHead, FACET_SCORE, MAX_POSITION, Post, TEXT_SCORE, TITLE_SCORE};
 
@@ -10,7 +11,7 @@ use cs_base::{BlockHead, FACET_SCORE, MAX_POSITION, Post, TEXT_SCORE, TITLE_SCOR
 pub fn keeps_rules(head: &BlockHead, last: Option<Post>, row: Post) -> bool
     requires words { head.now.lo + head.now.words ≤ MAX_WORDS }
 
-    ensures { result ≡ (nat_lt row.word (head.now.lo + head.now.words) && (is_scored head.now.facet row && is_after last row)) }
+    ensures { result ≡ (nat_lt row.word (head.now.lo + head.now.words) && (is_scored SCORES head.now.facet row && is_after last row)) }
 {
     is_in_words(head, row) && is_scored(head.facet, row) && is_after(last, row)
 }
@@ -28,7 +29,7 @@ pub fn is_in_words(head: &BlockHead, row: Post) -> bool
 /// Whether the position and the score are those of a facet word, or of any other word.
 #[inline]
 pub fn is_scored(facet: bool, row: Post) -> bool
-    ensures { result ≡ is_scored facet row }
+    ensures { result ≡ is_scored SCORES facet row }
 {
     if facet {
         row.pos == 0 && row.score == FACET_SCORE

@@ -1,8 +1,6 @@
 pub mod Answers
 pub mod AnswersLaws
 pub mod Ascii
-pub mod BlockRules
-pub mod Blocks
 pub mod Canonical
 pub mod CanonicalLaws
 pub mod Collection
@@ -19,5 +17,6 @@ pub mod Parameters
 pub mod Refusals
 pub mod Replies
 pub mod Requests
+pub mod Scores
 pub mod Tokens
 pub mod Words

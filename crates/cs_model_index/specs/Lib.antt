@@ -1,1 +1,3 @@
+pub mod BlockRules
+pub mod Blocks
 pub mod Numbered

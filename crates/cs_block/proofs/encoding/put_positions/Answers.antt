@@ -1,6 +1,6 @@
 use Rattle.std.proofs.Common.{◌++◌, arith, sym, ap, ◌∙◌, List, ℕ, drop, ◌+◌}
 use Rattle.std.proofs.lemmas.List.{drop_all}
-use Rattle.cs_model.specs.Blocks.{position_column}
+use Rattle.cs_model_index.specs.Blocks.{position_column}
 use Rattle.cs_block.proofs.PutLemmas.{row_split, puts_on, put_all, positions_split, positions_end}
 use Rattle.cs_block.proofs.encoding.put_positions.Goals as goal
 

@@ -1,5 +1,5 @@
 use Rattle.std.proofs.Common.{◌++◌, arith, sym, ap, ◌∙◌, List, ℕ, drop, ◌+◌}
-use Rattle.cs_model.specs.Blocks.{word_column}
+use Rattle.cs_model_index.specs.Blocks.{word_column}
 use Rattle.std.proofs.lemmas.List.{drop_all}
 use Rattle.cs_block.proofs.PutLemmas.{row_split, puts_on, put_all, words_split, words_end}
 use Rattle.cs_block.proofs.encoding.put_words.Goals as goal

@@ -1,5 +1,5 @@
 use Rattle.std.proofs.Common.{◌++◌, drop}
-use Rattle.cs_model.specs.Blocks.{word_column}
+use Rattle.cs_model_index.specs.Blocks.{word_column}
 use Rattle.cs_block.specs.Spelling.{HasWords}
 use Rattle.cs_block.proofs.PutLemmas.{IsPutting}
 use Rattle.cs_block.proofs.encoding.put_words.Given as goal

@@ -1,5 +1,5 @@
 use Rattle.std.proofs.Common.{◌≡◌, ◌-◌, ◌≤◌, drop, length}
-use Rattle.cs_model.specs.BlockRules.{codes_break}
+use Rattle.cs_model_index.specs.BlockRules.{codes_break}
 use Rattle.cs_block.proofs.judging.bad_code.Given as goal
 
 abbrev pub invariant-loop : goal.invariant-loop
