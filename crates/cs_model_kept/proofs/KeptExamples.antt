@@ -21,9 +21,9 @@ use Rattle.cs_model.specs.Grammar.{query_of}
 use Rattle.cs_model.specs.Keys.{keys_of}
 use Rattle.cs_model.proofs.CanonicalLemmas.{prefix_shape, exact_shape}
 use Rattle.cs_model.proofs.AttachedText.{rolled_query, rolled_part, rolled_chain, rolled_linked}
-use Rattle.cs_model_kept.specs.Plans.{Same, Narrow, Extend, Fresh}
-use Rattle.cs_model_kept.specs.Kepts.{KeptKind as Kept}
-use Rattle.cs_model_kept.specs.Kepts as kept
+use Rattle.cs_base.specs.declared.plan.Plan.TheVariants.{Same, Narrow, Extend, Fresh}
+use Rattle.cs_base.specs.declared.plan.Kept.{Kept}
+use Rattle.cs_base.specs.declared.plan.Kept.TheVariants as kept
 use Rattle.cs_model_kept.specs.Entries.{Entry, entry_of}
 use Rattle.cs_model_kept.specs.KeptList.{KeptList, plan, plan_by, after, to_front, used_key, put_in_front}
 

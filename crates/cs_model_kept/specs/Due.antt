@@ -34,7 +34,8 @@ use Rattle.cs_model.specs.Answers.{begins}
 use Rattle.cs_model.specs.Collection.{named}
 use Rattle.cs_model.specs.Keys.{last_of}
 use Rattle.cs_model.specs.Requests.{Request}
-use Rattle.cs_model_kept.specs.Plans.{Plan, Same, Narrow, Extend, Fresh}
+use Rattle.cs_base.specs.declared.plan.Plan.{Plan}
+use Rattle.cs_base.specs.declared.plan.Plan.TheVariants.{Same, Narrow, Extend, Fresh}
 
 -- the words of an index in their order, and the blocks that they are divided into, each told by its head; of both there may be
 -- none

@@ -17,15 +17,18 @@
 --   after held room q kept k      the list after the query q, by what became of the query's own entry
 --   kept_fresh e          what becomes of an entry that wasn't had: too large, or kept
 --   kept_by plan e        what becomes of a query's own entry e
-use Rattle.std.specs.Prelude.{◌≡◌, ℕ, Bool, not, nat_lt, if◌then◌else◌, List, ◌∷◌, ◌++◌, ◌==◌, map, filter, find, take, Option, Some, None}
+--   after_own held room q k       the list after the query q, whose own entry is kept where its size allows
+--   plans k room held qs  the plans of the queries qs, asked one after the other from the list held on
+use Rattle.std.specs.Prelude.{◌≡◌, ℕ, Bool, not, nat_lt, if◌then◌else◌, List, [], ◌∷◌, ◌++◌, ◌==◌, map, filter, find, take, Option, Some, None}
 use Rattle.std.specs.List.{All, IsDistinct, list_any}
 use Rattle.std.specs.Option.{option_map}
 use Rattle.std.specs.Str.{bytes_eq}
 use Rattle.cs_base.specs.declared.key.Keys.{Keys}
 use Rattle.cs_base.specs.declared.key.Narrower.{Narrower}
-use Rattle.cs_model_kept.specs.Plans.{Plan, Same, Narrow, Extend, Fresh}
-use Rattle.cs_model_kept.specs.Kepts.{KeptKind as Kept}
-use Rattle.cs_model_kept.specs.Kepts as kept
+use Rattle.cs_base.specs.declared.plan.Plan.{Plan}
+use Rattle.cs_base.specs.declared.plan.Plan.TheVariants.{Same, Narrow, Extend, Fresh}
+use Rattle.cs_base.specs.declared.plan.Kept.{Kept}
+use Rattle.cs_base.specs.declared.plan.Kept.TheVariants as kept
 use Rattle.cs_base.specs.declared.query.Query.{Query}
 use Rattle.cs_model.specs.Canonical.{canonical}
 use Rattle.cs_model.specs.Corpus.{Corpus}
@@ -107,3 +110,12 @@ kept_by Same e = kept.Had
 kept_by (Narrow cut) e = kept_fresh e
 kept_by Extend e = kept_fresh e
 kept_by Fresh e = kept_fresh e
+
+-- the list after a query of which nothing is known but the corpus: its own entry is kept as its size allows
+abbrev pub after_own : KeptList → ℕ → Query → Corpus → KeptList
+after_own held room q k = after held room q (kept_by (plan held q) (entry_of k q)) k
+
+-- the plans of queries that are asked one after the other; of no queries none
+abbrev pub plans : Corpus → ℕ → KeptList → List Query → List Plan
+plans k room held [] = []
+plans k room held (q ∷ qs) = plan held q ∷ plans k room (after_own held room q k) qs

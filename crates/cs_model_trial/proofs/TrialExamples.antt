@@ -1,8 +1,10 @@
 -- A trial computed: its first line, and its first session.
-use Rattle.std.proofs.Common.{◌≡◌, ℕ, List, [], ◌∷◌, refl, codes}
-use Rattle.std.specs.Prelude.{◌++◌}
+use Rattle.std.proofs.Common.{◌≡◌, ℕ, [], ◌∷◌, refl, codes}
+use Rattle.std.specs.Prelude.{length}
+use Rattle.std.specs.Fmt.{digits}
 use Rattle.cs_model_trial.specs.Generator.{behind, draws, word, line_draws, line}
-use Rattle.cs_model_trial.specs.Sessions.{session_draws, session}
+use Rattle.cs_model_trial.specs.Sessions.{session_draws, session, texts}
+use Rattle.cs_model_trial.specs.Summary.{summary_line}
 
 -- word 0 is three times the first syllable
 word-first : word 0 ≡ codes "bababa"
@@ -31,3 +33,21 @@ session-first : session 1 0 ≡
     ∷ codes "tidabe" ∷ []
 unfolding session session_draws line_draws behind draws word
 session-first = refl
+
+-- its last session
+session-last : session 1 19 ≡
+    codes "b" ∷ codes "bo" ∷ codes "bok" ∷ codes "boka" ∷ codes "bokad" ∷ codes "bokade"
+    ∷ codes "bokade b" ∷ codes "bokade bo" ∷ codes "bokade bot" ∷ codes "bokade bota" ∷ codes "bokade botat" ∷ codes "bokade botata"
+    ∷ codes "bokade" ∷ []
+unfolding session session_draws line_draws behind draws word
+session-last = refl
+
+-- each trial asks 260 texts
+texts-count : (n : ℕ) → length (texts n) ≡ 260
+unfolding texts session
+texts-count n = refl
+
+-- a line of a summary
+line-replies : summary_line (codes "replies", 260) ≡ codes "replies 260\n"
+unfolding digits
+line-replies = refl

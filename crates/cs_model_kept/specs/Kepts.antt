@@ -1,4 +1,0 @@
-pub data KeptKind : Type 0 where
-  Had : KeptKind
-  Kept : KeptKind
-  TooLarge : KeptKind
