@@ -1,1 +1,3 @@
+pub mod EntryLemmas
 pub mod KeptExamples
+pub mod ListsLemmas

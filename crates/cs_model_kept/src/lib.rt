@@ -2,6 +2,7 @@
 //! running code.
 #![tactic(auto)]
 
+pub mod laws;
 mod limits;
 
 pub use limits::{MAX_ENTRIES, MAX_ENTRY_SIZE};

@@ -1,0 +1,16 @@
+//! Laws about what is kept. Each is the contract of a function that does nothing.
+ghost use Rattle.cs_model_kept.specs.KeptLaws.{HitsAreOver, BasesListHits, EntriesExtend, EntriesAreSteps};
+
+/// The hits of a query with their scores are told by its entry: they are those of the rows over the base where the last part is
+/// positive, and else the base.
+pub fn entries_have_hits()
+    ensures hits { HitsAreOver }
+    ensures listed { BasesListHits }
+{}
+
+/// The entry of a query and one part more comes from the query's hits and the rows of that part. So an entry is made by one step
+/// for each part, each from the entry before it.
+pub fn entries_extend()
+    ensures extend { EntriesExtend }
+    ensures steps { EntriesAreSteps }
+{}
