@@ -102,6 +102,7 @@ kept_of_doc ds d (r ∷ rows) m =
   where
     kept : List Row
     kept = filter (λ r. is_listed ds r.doc) rows
+
     passed : (b : Bool) → r.doc == d ≡ false → filter (in_doc d) (cond b (r ∷ kept) kept) ≡ filter (in_doc d) kept
     passed true e = ap (λ b. cond b (r ∷ filter (in_doc d) kept) (filter (in_doc d) kept)) e
     passed false e = refl
@@ -263,7 +264,7 @@ entries_are_steps k ps = (extended_is k ps, steps_from k [] ps)
 
 -- ---- queries
 module _ (k : Corpus) where
-  parts_read : (q : Query) → parts_of k q ≡ map (rows_of_part k) (out-Query q).parts
+  pub parts_read : (q : Query) → parts_of k q ≡ map (rows_of_part k) (out-Query q).parts
   parts_read q = ap (parts_of k) (sym (roll-out-Query q)) ∙ query_rolled k (out-Query q).parts
 
   parts_followed : (q : Query) (p : Part) → parts_of k (followed q p) ≡ parts_of k q ++ rows_of_part k p ∷ []

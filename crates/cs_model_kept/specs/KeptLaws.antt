@@ -9,6 +9,7 @@
 --   EntriesNarrow       the entry of a query out of that of a query with a shorter prefix
 use Rattle.std.specs.Prelude.{◌≡◌, ℕ, Bool, nat_lt, List, [], ◌∷◌, ◌++◌, filter, length, Some}
 use Rattle.std.specs.List.{Contains}
+use Rattle.std.specs.Str.{IsUtf8}
 use Rattle.cs_base.specs.declared.query.Query.{Query, roll-Query, out-Query}
 use Rattle.cs_base.specs.declared.query.Part.{Part}
 use Rattle.cs_model.specs.Answers.{PartRows, begins, parts_of, rows_of_part}
@@ -44,9 +45,9 @@ EntriesAreSteps = (k : Corpus) (ps : List PartRows)
     → ((p : PartRows) → entry k (ps ++ p ∷ []) ≡ extended k (ends_positive ps) (entry k ps) p)
     × (steps k ps ≡ (ends_positive ps, entry k ps))
 
--- where the prefix p is being typed, and w is a word that p may have been before, the entry of the query has those rows of the
--- entry with w in that place whose word begins with p, and the same base
+-- where the prefix p is being typed, which is a text, and w is a word that p may have been before, the entry of the query has those
+-- rows of the entry with w in that place whose word begins with p, and the same base
 abbrev pub EntriesNarrow : Type 0
-EntriesNarrow = (k : Corpus) (q : Query) (p w : List ℕ) → last_prefix q ≡ Some p → Contains (shorter_words p) w
+EntriesNarrow = (k : Corpus) (q : Query) (p w : List ℕ) → last_prefix q ≡ Some p → IsUtf8 p → Contains (shorter_words p) w
     → ((entry_of k q).rows ≡ filter (λ r. begins p r.word) (entry_of k (with_prefix w q)).rows)
     × ((entry_of k q).base ≡ (entry_of k (with_prefix w q)).base)

@@ -1,5 +1,5 @@
 //! Laws about what is kept. Each is the contract of a function that does nothing.
-ghost use Rattle.cs_model_kept.specs.KeptLaws.{HitsAreOver, BasesListHits, EntriesExtend, EntriesAreSteps};
+ghost use Rattle.cs_model_kept.specs.KeptLaws.{HitsAreOver, BasesListHits, EntriesExtend, EntriesAreSteps, EntriesNarrow};
 
 /// The hits of a query with their scores are told by its entry: they are those of the rows over the base where the last part is
 /// positive, and else the base.
@@ -13,4 +13,10 @@ pub fn entries_have_hits()
 pub fn entries_extend()
     ensures extend { EntriesExtend }
     ensures steps { EntriesAreSteps }
+{}
+
+/// Where a prefix is being typed, the query's entry is told by that of a query with a shorter prefix in its place: it has the rows
+/// whose word begins with the longer one, and the same base.
+pub fn entries_narrow()
+    ensures { EntriesNarrow }
 {}
