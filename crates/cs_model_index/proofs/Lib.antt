@@ -1,1 +1,4 @@
+pub mod FileExamples
+pub mod ImageLemmas
 pub mod NumberedLemmas
+pub mod PartitionLemmas

@@ -1,0 +1,194 @@
+-- The definitions on two worked index files: that of the empty collection, and that of one document with the title `Ab`, the facet
+-- `k=C` and the text `b a`.
+use Rattle.std.proofs.Common.{◌≡◌, List, ℕ, [], ◌∷◌, ◌++◌, set, take, true, false, Some, None, Option, refl, sym, ◌∙◌, ap, subst, codes}
+use Rattle.std.specs.Char.{encode_utf8}
+use Rattle.std.specs.Str.{chars, is_utf8}
+use Rattle.std.specs.Prelude.{map, flat_map}
+use Rattle.std.specs.List.{range_with_len, enumerate_from}
+use Rattle.std.specs.Ordering.{nat_cmp}
+use Rattle.std.specs.Cmp.Lexicographic.{slice_cmp}
+use Rattle.std.proofs.lemmas.Cmp.{nat_list_cmp_total}
+use Rattle.cs_base.specs.GapCode.{code_in, code, looked_at, value_of, first_code}
+use Rattle.cs_base.specs.declared.block.BlockHead.{BlockHead}
+use Rattle.cs_base.specs.declared.block.Broken.{Broken}
+use Rattle.cs_base.specs.declared.doc.Post.{Post}
+use Rattle.cs_base.specs.declared.doc.Row.{Row}
+use Rattle.caseless.proofs.Computing.{caseless}
+use Rattle.ucd_category.proofs.Computing.{ucd_category}
+use Rattle.unicode.specs.GeneralCategory.{general_category}
+use Rattle.cs_base.proofs.OrdersLemmas.{by_row_total}
+use Rattle.cs_base.specs.Orders.{by_row}
+use Rattle.cs_model.specs.KeyText.{norm}
+use Rattle.cs_model.specs.Words.{is_word_char, cut, words}
+use Rattle.cs_model.specs.Collection.{documents}
+use Rattle.cs_model.specs.Corpus.{Corpus, by_number, distinct_words, doc_rows, rows_of, corpus}
+use Rattle.cs_model.proofs.ListedMembers.{members-listed}
+use Rattle.cs_model_index.specs.Blocks.{gap_column, word_column, position_column, score_column, block_bytes}
+use Rattle.cs_model_index.specs.BlockRules.{codes_break, items_in, first_break, judged, rows_read}
+use Rattle.cs_model_index.specs.Images.{Image, image_by, count_in, heads_from, IsImage, image_rows, image_corpus}
+use Rattle.cs_model_index.specs.Partitions.{IsPartition}
+use Rattle.cs_model_index.specs.declared.limits.TheConstants.{TARGET}
+use Rattle.cs_model_index.specs.Layout.{header_bytes, vocabulary_bytes, offsets_from, offset_bytes, directory_bytes, blocks_bytes, file}
+use Rattle.cs_model_index.specs.Sections.{number_at, words_in, numbers_in, heads_in, blocks_in, image_of}
+use Rattle.cs_model_index.specs.FileRules.{laid, break_of, words_break, blocks_break, damage}
+use lib.Utf8
+
+abbrev broken : ℕ → ℕ → Option Broken
+broken n at = Some (record { n = n; at = at })
+
+-- ---- the empty collection
+
+abbrev empty_image : Image
+empty_image = image_by [] [] [] TARGET
+
+parted-none : IsPartition TARGET (count_in []) (distinct_words []) []
+parted-none = record { joined = sym (members-listed (slice_cmp nat_cmp) nat_list_cmp_total []); each = refl; ended = refl }
+
+rows-none : rows_of (documents []) ≡ []
+rows-none = members-listed by_row by_row_total []
+
+-- it is the image of the empty collection
+image-none : IsImage (corpus []) TARGET empty_image
+image-none = record {
+  titles = refl;
+  runs = [];
+  parted = subst (λ rows. IsPartition TARGET (count_in rows) (distinct_words rows) []) (sym rows-none) parted-none;
+  made = ap (λ rows. image_by [] rows [] TARGET) (sym rows-none);
+}
+
+abbrev empty_bytes : List ℕ
+empty_bytes =
+    72 ∷ 89 ∷ 66 ∷ 73 ∷ 68 ∷ 88 ∷ 49 ∷ 10 ∷ 0 ∷ 0 ∷ 0 ∷ 0 ∷ 0 ∷ 0 ∷ 0 ∷ 0 ∷ 0 ∷ 0 ∷ 0 ∷ 0
+    ∷ 0 ∷ 0 ∷ 0 ∷ 0 ∷ 0 ∷ 0 ∷ 32 ∷ 0 ∷ 0 ∷ 0 ∷ 0 ∷ 0 ∷ 0 ∷ 0 ∷ 0 ∷ 0 ∷ 0 ∷ 0 ∷ 0 ∷ 0
+    ∷ 0 ∷ 0 ∷ 0 ∷ 0 ∷ 0 ∷ 0 ∷ 0 ∷ 0 ∷ []
+
+file-empty : file (empty_image) ≡ empty_bytes
+unfolding file header_bytes vocabulary_bytes offset_bytes offsets_from directory_bytes blocks_bytes heads_from
+file-empty = refl
+
+image-empty : image_of empty_bytes ≡ empty_image
+unfolding image_of number_at words_in numbers_in heads_in blocks_in heads_from
+image-empty = refl
+
+damage-empty : damage empty_bytes ≡ None
+unfolding damage number_at words_in numbers_in heads_in blocks_in laid break_of words_break blocks_break
+damage-empty = refl
+
+-- ---- one document
+
+abbrev worked_rows : List Row
+worked_rows =
+    record { doc = 0; word = codes ":k:c"; pos = 0; score = 2 }
+    ∷ record { doc = 0; word = codes "ab"; pos = 1; score = 4 }
+    ∷ record { doc = 0; word = codes "b"; pos = 10; score = 1 }
+    ∷ record { doc = 0; word = codes "a"; pos = 11; score = 1 }
+    ∷ []
+
+words-worked : distinct_words worked_rows ≡ codes ":k:c" ∷ codes "a" ∷ codes "ab" ∷ codes "b" ∷ []
+words-worked = members-listed (slice_cmp nat_cmp) nat_list_cmp_total (map (λ r. r.word) worked_rows)
+
+abbrev worked_runs : List (List (List ℕ))
+worked_runs = (codes ":k:c" ∷ []) ∷ (codes "a" ∷ codes "ab" ∷ codes "b" ∷ []) ∷ []
+
+abbrev worked_image : Image
+worked_image = image_by (codes "Ab" ∷ []) worked_rows worked_runs TARGET
+
+-- the words are parted by their kinds
+parted-worked : IsPartition TARGET (count_in worked_rows) (distinct_words worked_rows) worked_runs
+parted-worked = record { joined = sym words-worked; each = refl; ended = refl }
+
+abbrev worked_text : List ℕ
+worked_text = codes "Ab\tk=C\tb a"
+
+rows-worked : rows_of (documents worked_text) ≡ worked_rows
+unfolding words norm chars cut caseless is_word_char general_category ucd_category lib.Utf8.encode
+rows-worked = members-listed by_row by_row_total (flat_map doc_rows (enumerate_from 0 (documents worked_text)))
+
+-- so it is the image of the collection
+image-is : IsImage (corpus worked_text) TARGET worked_image
+image-is = record {
+  titles = refl;
+  runs = worked_runs;
+  parted = subst (λ rows. IsPartition TARGET (count_in rows) (distinct_words rows) worked_runs) (sym rows-worked) parted-worked;
+  made = ap (λ rows. image_by (codes "Ab" ∷ []) rows worked_runs TARGET) (sym rows-worked);
+}
+
+-- and its corpus is that of the collection
+corpus-is : image_corpus worked_image ≡ corpus worked_text
+corpus-is = ap (λ rows. let k : Corpus = record { titles = by_number (codes "Ab" ∷ []); rows = rows } in k) (members-listed by_row by_row_total (image_rows worked_image) ∙ sym rows-worked)
+
+abbrev worked_bytes : List ℕ
+worked_bytes =
+    72 ∷ 89 ∷ 66 ∷ 73 ∷ 68 ∷ 88 ∷ 49 ∷ 10 ∷ 0 ∷ 0 ∷ 0 ∷ 1 ∷ 0 ∷ 0 ∷ 0 ∷ 4 ∷ 0 ∷ 0 ∷ 0 ∷ 4
+    ∷ 0 ∷ 0 ∷ 0 ∷ 2 ∷ 0 ∷ 0 ∷ 32 ∷ 0 ∷ 0 ∷ 0 ∷ 0 ∷ 12 ∷ 0 ∷ 0 ∷ 0 ∷ 2 ∷ 0 ∷ 0 ∷ 0 ∷ 32
+    ∷ 0 ∷ 0 ∷ 0 ∷ 0 ∷ 4 ∷ 58 ∷ 107 ∷ 58 ∷ 99 ∷ 1 ∷ 97 ∷ 2 ∷ 97 ∷ 98 ∷ 1 ∷ 98 ∷ 0 ∷ 0 ∷ 0 ∷ 0
+    ∷ 0 ∷ 0 ∷ 0 ∷ 2 ∷ 65 ∷ 98 ∷ 0 ∷ 0 ∷ 0 ∷ 0 ∷ 0 ∷ 0 ∷ 0 ∷ 1 ∷ 0 ∷ 0 ∷ 0 ∷ 1 ∷ 0 ∷ 0
+    ∷ 0 ∷ 8 ∷ 0 ∷ 0 ∷ 0 ∷ 1 ∷ 0 ∷ 0 ∷ 0 ∷ 3 ∷ 0 ∷ 0 ∷ 0 ∷ 3 ∷ 0 ∷ 0 ∷ 0 ∷ 24 ∷ 0 ∷ 0
+    ∷ 0 ∷ 0 ∷ 0 ∷ 0 ∷ 0 ∷ 2 ∷ 0 ∷ 0 ∷ 0 ∷ 0 ∷ 1 ∷ 0 ∷ 2 ∷ 0 ∷ 0 ∷ 0 ∷ 0 ∷ 0 ∷ 1 ∷ 0
+    ∷ 0 ∷ 0 ∷ 10 ∷ 0 ∷ 0 ∷ 0 ∷ 11 ∷ 4 ∷ 1 ∷ 1 ∷ []
+
+file-worked : file worked_image ≡ worked_bytes
+unfolding file header_bytes vocabulary_bytes offset_bytes offsets_from directory_bytes blocks_bytes heads_from block_bytes gap_column word_column position_column score_column code code_in
+file-worked = refl
+
+image-worked : image_of worked_bytes ≡ worked_image
+unfolding image_of number_at words_in numbers_in heads_in blocks_in heads_from block_bytes gap_column word_column position_column score_column rows_read items_in first_code looked_at value_of code code_in
+image-worked = refl
+
+damage-worked : damage worked_bytes ≡ None
+unfolding damage number_at words_in numbers_in heads_in blocks_in laid break_of words_break blocks_break judged rows_read codes_break items_in first_break first_code looked_at value_of code code_in chars is_utf8 is_word_char lib.Utf8.encode
+damage-worked = refl
+
+-- ---- damage
+
+-- cut within the header
+damage-cut_header : map (λ n. damage (take n worked_bytes)) (range_with_len 0 44) ≡ map (broken 1) (range_with_len 0 44)
+unfolding damage number_at words_in numbers_in heads_in blocks_in laid break_of words_break blocks_break judged rows_read codes_break items_in first_break first_code looked_at value_of code code_in chars is_utf8 is_word_char lib.Utf8.encode
+damage-cut_header = refl
+
+-- cut behind it
+damage-cut : map (λ n. damage (take n worked_bytes)) (range_with_len 44 86) ≡ map (broken 4) (range_with_len 44 86)
+unfolding damage number_at words_in numbers_in heads_in blocks_in laid break_of words_break blocks_break judged rows_read codes_break items_in first_break first_code looked_at value_of code code_in chars is_utf8 is_word_char lib.Utf8.encode
+damage-cut = refl
+
+-- with one byte more
+damage-longer : damage (worked_bytes ++ 0 ∷ []) ≡ broken 4 131
+unfolding damage number_at words_in numbers_in heads_in blocks_in laid break_of words_break blocks_break judged rows_read codes_break items_in first_break first_code looked_at value_of code code_in chars is_utf8 is_word_char lib.Utf8.encode
+damage-longer = refl
+
+-- one byte set to another value, and the first broken rule with its place
+abbrev set_bytes : List (ℕ × ℕ × Option Broken)
+set_bytes =
+    (0, 0, broken 2 0)
+    ∷ (26, 0, broken 3 24)
+    ∷ (43, 1, broken 3 40)
+    ∷ (15, 5, broken 5 56)
+    ∷ (15, 3, broken 5 54)
+    ∷ (44, 0, broken 5 44)
+    ∷ (50, 32, broken 6 49)
+    ∷ (50, 98, broken 7 51)
+    ∷ (50, 65, None)
+    ∷ (59, 1, broken 8 56)
+    ∷ (63, 1, broken 8 60)
+    ∷ (64, 255, broken 9 64)
+    ∷ (69, 1, broken 10 66)
+    ∷ (89, 2, broken 10 98)
+    ∷ (77, 2, broken 12 66)
+    ∷ (19, 5, broken 12 98)
+    ∷ (106, 128, broken 13 106)
+    ∷ (98, 1, broken 14 98)
+    ∷ (110, 3, broken 15 109)
+    ∷ (105, 1, broken 16 101)
+    ∷ (129, 3, broken 16 123)
+    ∷ (122, 12, broken 17 108)
+    ∷ (112, 1, broken 18 82)
+    ∷ []
+
+damage-set : map (λ e. damage (set worked_bytes e.0 e.1)) set_bytes ≡ map (λ e. e.2) set_bytes
+unfolding damage number_at words_in numbers_in heads_in blocks_in laid break_of words_break blocks_break judged rows_read codes_break items_in first_break first_code looked_at value_of code code_in chars is_utf8 is_word_char lib.Utf8.encode
+damage-set = refl
+
+-- the first block has two words, of two kinds
+damage-kinds : damage (set (set (set worked_bytes 73 2) 85 2) 89 2) ≡ broken 11 66
+unfolding damage number_at words_in numbers_in heads_in blocks_in laid break_of words_break blocks_break judged rows_read codes_break items_in first_break first_code looked_at value_of code code_in chars is_utf8 is_word_char lib.Utf8.encode
+damage-kinds = refl

@@ -1,0 +1,22 @@
+//! Laws about the definitions, and the numbers as they are promised. Each is the contract of a function that does nothing.
+ghost use Rattle.std.specs.Prelude.{◌≡◌, ◌^◌};
+ghost use Rattle.cs_model_index.specs.Images.{ImagesAreOne};
+ghost use Rattle.cs_model_index.specs.Partitions.{PartitionsAreOne};
+
+use crate::limits::*;
+
+/// The numbers of the index file.
+pub fn index_limits()
+    ensures block_words { MAX_BLOCK_WORDS ≡ 2 ^ 16 }
+    ensures most_target { MAX_TARGET ≡ 2 ^ 20 }
+    ensures target { TARGET ≡ 8192 }
+    ensures header { HEADER_BYTES ≡ 44 }
+    ensures number { NUMBER_BYTES ≡ 4 }
+    ensures entry { ENTRY_BYTES ≡ 16 }
+{}
+
+/// No words have two partitions, and no corpus has two images for one target.
+pub fn one_image()
+    ensures partitions { PartitionsAreOne }
+    ensures images { ImagesAreOne }
+{}
