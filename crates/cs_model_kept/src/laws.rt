@@ -1,5 +1,14 @@
-//! Laws about what is kept. Each is the contract of a function that does nothing.
+//! Laws about what is kept, and the limits as they are promised. Each is the contract of a function that does nothing.
+ghost use Rattle.std.specs.Prelude.{◌≡◌, ◌^◌};
 ghost use Rattle.cs_model_kept.specs.KeptLaws.{HitsAreOver, BasesListHits, EntriesExtend, EntriesAreSteps, EntriesNarrow};
+
+use crate::limits::*;
+
+/// The limits of what is kept.
+pub fn kept_limits()
+    ensures entries { MAX_ENTRIES ≡ 256 }
+    ensures entry_size { MAX_ENTRY_SIZE ≡ 2 ^ 16 }
+{}
 
 /// The hits of a query with their scores are told by its entry: they are those of the rows over the base where the last part is
 /// positive, and else the base.

@@ -43,7 +43,7 @@ unfolding session session_draws line_draws behind draws word
 session-last = refl
 
 -- each trial asks 260 texts
-texts-count : (n : ℕ) → length (texts n) ≡ 260
+pub texts-count : (n : ℕ) → length (texts n) ≡ 260
 unfolding texts session
 texts-count n = refl
 

@@ -11,7 +11,10 @@
 --   counts n k blocks      the lines of a summary, each a word and its number, by the trial, its corpus and how many blocks the
 --                          corpus is divided into
 --   summary n k blocks     their text
-use Rattle.std.specs.Prelude.{ℕ, Bool, true, false, List, [], ◌∷◌, ◌++◌, map, filter, length, sum, codes}
+--   IsSummary n text       the text is the summary of trial n, its blocks being those of an index of its corpus
+--   SummariesAreOne        the law that a trial has one summary
+--   PlansAreCounted        the law that each query has one of the four plans
+use Rattle.std.specs.Prelude.{◌≡◌, ℕ, ◌+◌, Bool, true, false, List, [], ◌∷◌, ◌++◌, map, filter, length, sum, codes}
 use Rattle.std.specs.Fmt.{decimal}
 use Rattle.std.specs.List.{flat_map}
 use Rattle.std.specs.FinMap as map
@@ -20,6 +23,8 @@ use Rattle.cs_base.specs.declared.plan.Plan.TheVariants.{Same, Narrow, Extend, F
 use Rattle.cs_base.specs.declared.query.Query.{Query}
 use Rattle.cs_model.specs.Answers.{hits, parts_of}
 use Rattle.cs_model.specs.Corpus.{Corpus, corpus}
+use Rattle.cs_model_index.specs.declared.limits.TheConstants.{TARGET}
+use Rattle.cs_model_index.specs.Images.{Image, IsImage}
 use Rattle.cs_model_kept.specs.declared.limits.TheConstants.{MAX_ENTRIES}
 use Rattle.cs_model_kept.specs.KeptList.{plans}
 use Rattle.cs_model_trial.specs.Generator.{collection}
@@ -84,3 +89,17 @@ counts n k blocks =
 -- the text of a summary, its lines one after the other
 unfoldable pub summary : ℕ → Corpus → ℕ → List ℕ
 summary n k blocks = flat_map summary_line (counts n k blocks)
+
+-- the text is the summary of trial n, whose index is the image of its corpus for the target that index files are built with
+pub record IsSummary (n : ℕ) (text : List ℕ) : Type 0 where
+  pub image : Image
+  pub indexed : IsImage (trial_corpus n) TARGET image
+  pub told : text ≡ summary n (trial_corpus n) (length image.heads)
+
+-- a trial has one summary, since a corpus has one image
+abbrev pub SummariesAreOne : Type 0
+SummariesAreOne = (n : ℕ) (s t : List ℕ) → IsSummary n s → IsSummary n t → s ≡ t
+
+-- the four counts of plans make up the number of queries, none of which has two plans
+abbrev pub PlansAreCounted : Type 0
+PlansAreCounted = (k : Corpus) (qs : List Query) → let ps = trial_plans k qs in counted is_same ps + counted is_narrow ps + counted is_extend ps + counted is_fresh ps ≡ length qs

@@ -2,6 +2,7 @@
 //! about them; it has no running code.
 #![tactic(auto)]
 
+pub mod laws;
 mod sizes;
 
 pub use sizes::{
