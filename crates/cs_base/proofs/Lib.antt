@@ -1,3 +1,4 @@
+pub mod FileLemmas
 pub mod HubLemmas
 pub mod MembersLemmas
 pub mod NameMaps

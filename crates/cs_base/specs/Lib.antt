@@ -1,5 +1,6 @@
 pub mod Bytes
 pub mod Causes
+pub mod FailingCalls
 pub mod GapCode
 pub mod HeldFiles
 pub mod Hub

@@ -1,0 +1,4 @@
+pub mod EntryLemmas
+pub mod KeptExamples
+pub mod ListsLemmas
+pub mod NarrowLemmas

@@ -1,0 +1,4 @@
+pub mod Due
+pub mod Entries
+pub mod KeptLaws
+pub mod KeptList

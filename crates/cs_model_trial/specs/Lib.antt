@@ -1,0 +1,3 @@
+pub mod Generator
+pub mod Sessions
+pub mod Summary

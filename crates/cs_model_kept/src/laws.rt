@@ -1,0 +1,31 @@
+//! Laws about what is kept, and the limits as they are promised. Each is the contract of a function that does nothing.
+ghost use Rattle.std.specs.Prelude.{◌≡◌, ◌^◌};
+ghost use Rattle.cs_model_kept.specs.KeptLaws.{HitsAreOver, BasesListHits, EntriesExtend, EntriesAreSteps, EntriesNarrow};
+
+use crate::limits::*;
+
+/// The limits of what is kept.
+pub fn kept_limits()
+    ensures entries { MAX_ENTRIES ≡ 256 }
+    ensures entry_size { MAX_ENTRY_SIZE ≡ 2 ^ 16 }
+{}
+
+/// The hits of a query with their scores are told by its entry: they are those of the rows over the base where the last part is
+/// positive, and else the base.
+pub fn entries_have_hits()
+    ensures hits { HitsAreOver }
+    ensures listed { BasesListHits }
+{}
+
+/// The entry of a query and one part more comes from the query's hits and the rows of that part. So an entry is made by one step
+/// for each part, each from the entry before it.
+pub fn entries_extend()
+    ensures extend { EntriesExtend }
+    ensures steps { EntriesAreSteps }
+{}
+
+/// Where a prefix is being typed, the query's entry is told by that of a query with a shorter prefix in its place: it has the rows
+/// whose word begins with the longer one, and the same base.
+pub fn entries_narrow()
+    ensures { EntriesNarrow }
+{}
