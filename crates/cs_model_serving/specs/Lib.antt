@@ -1,0 +1,5 @@
+pub mod Connections
+pub mod Framing
+pub mod HeadReader
+pub mod Heads
+pub mod Responses
