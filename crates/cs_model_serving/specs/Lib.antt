@@ -3,3 +3,4 @@ pub mod Framing
 pub mod HeadReader
 pub mod Heads
 pub mod Responses
+pub mod ServingLaws
