@@ -4,7 +4,7 @@
 --   frame-head, frame-too_long    a head that is found, or is too long, stays so
 --   frame-within      a head begins before its end, which lies within the bytes and the limit
 --   frame-few         where more is to come, there are fewer bytes than a head may have
-use Rattle.std.proofs.Common.{◌≡◌, ℕ, zero, suc, ◌+◌, ◌-◌, ◌<◌, ◌≤◌, ◌⊎◌, inl, inr, ⊎_elim, Bool, true, false, cond, nat_lt, List, [], ◌∷◌, ◌++◌, length, take, Option, Some, None, refl, sym, ap, subst, ◌∙◌, arith, length-append, length-take, append-nil}
+use Rattle.std.proofs.Common.{◌≡◌, ℕ, zero, suc, ◌+◌, ◌-◌, ◌<◌, ◌≤◌, ⊎_elim, Bool, true, false, cond, nat_lt, List, [], ◌∷◌, ◌++◌, length, take, Option, Some, None, refl, sym, ap, ◌∙◌, arith, length-append, length-take, append-nil}
 use Rattle.std.proofs.lemmas.Bool.{cases_Bool}
 use Rattle.std.proofs.lemmas.Bool.Decides.{nat_tests}
 use Rattle.std.proofs.lemmas.List.Sums.{sum_by-cons}
@@ -12,7 +12,7 @@ use Rattle.cs_base.specs.declared.limits.TheConstants.{MAX_HEAD_BYTES}
 use Rattle.cs_model_serving.specs.declared.framed.Framed.{Framed}
 use Rattle.cs_model_serving.specs.declared.framed.Framed.TheVariants.{Head, More, TooLong}
 use Rattle.cs_model_serving.specs.Framing.{ended_lines, is_empty_line, bytes_of, place_in, framed_by, frame}
-use Rattle.cs_model_serving.proofs.LineLemmas.{EndsMore, ended_more, ended_size, scan_text, scan_front, place-scan, place-more}
+use Rattle.cs_model_serving.proofs.LineLemmas.{ended_more, ended_size, scan_text, scan_front, place-scan, place-more}
 
 pub take_both : (n : ℕ) (x y : List ℕ) → take n (x ++ y) ≡ take n x ++ take (n - length x) y
 take_both zero x y = sym (ap (λ i. take i y) (let e : 0 - length x ≡ 0 = omega arith in e))
@@ -91,13 +91,13 @@ scan_text-within (l ∷ lines) skip n p less h =
     let more = sum_by-cons (λ l. length l + 1) l lines in
     ⊎_elim
     (λ e.
-      let is : Some (skip, n + (length l + 1)) ≡ Some p = (rw e at h) in
-      let first : skip ≡ p.0 = (cc) in
-      let second : n + (length l + 1) ≡ p.1 = (cc) in
-      (omega (arith, first, second, less), omega (arith, second, more)))
+    let is : Some (skip, n + (length l + 1)) ≡ Some p = (rw e at h) in
+    let first : skip ≡ p.0 = (cc) in
+    let second : n + (length l + 1) ≡ p.1 = (cc) in
+    (omega (arith, first, second, less), omega (arith, second, more)))
     (λ e.
-      let on = scan_text-within lines skip (n + (length l + 1)) p (omega (arith, less)) (rw e at h) in
-      (on.0, omega (arith, on.1, more)))
+    let on = scan_text-within lines skip (n + (length l + 1)) p (omega (arith, less)) (rw e at h) in
+    (on.0, omega (arith, on.1, more)))
     (cases_Bool (is_empty_line l))
 
 scan_front-within : (lines : List (List ℕ)) (n : ℕ) (p : ℕ × ℕ) → scan_front n lines ≡ Some p → (p.0 < p.1) × (p.1 ≤ n + bytes_of lines)

@@ -1,3 +1,5 @@
+pub mod CountLemmas
 pub mod FrameLemmas
 pub mod LineLemmas
+pub mod ReaderLemmas
 pub mod ServeLemmas

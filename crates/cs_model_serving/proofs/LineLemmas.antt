@@ -8,7 +8,7 @@
 --   place-scan        it is that of `place_in`
 --   scan-more         more lines behind a head leave its place
 --   scan-within       a head ends within its lines, and behind its front
-use Rattle.std.proofs.Common.{◌≡◌, ℕ, suc, ◌+◌, ◌<◌, ◌≤◌, ◌⊎◌, inl, inr, Bool, true, false, not, cond, ◌==◌, List, [], ◌∷◌, ◌++◌, length, take, drop, take_while, sum_by, count_by, All, Option, Some, None, refl, sym, ap, subst, ◌∙◌, arith, append_assoc, append-nil, length-append, ⊎_elim, ap₂, one-add}
+use Rattle.std.proofs.Common.{◌≡◌, ℕ, suc, ◌+◌, ◌≤◌, Bool, false, not, cond, List, [], ◌∷◌, ◌++◌, length, take, drop, take_while, count_by, All, Option, Some, None, refl, sym, ap, subst, ◌∙◌, arith, append_assoc, append-nil, length-append, ⊎_elim, ap₂, one-add}
 use Rattle.std.specs.List.{slice_split, prefix_len}
 use Rattle.std.proofs.lemmas.Bool.{cases_Bool}
 use Rattle.std.proofs.lemmas.Bool.{eqb-true}
@@ -65,8 +65,8 @@ more_at : (text bytes more : List ℕ) → HasNoFeed text → EndsMore bytes mor
 more_at text bytes more h on = record {
   lines = on.lines;
   is =
-    ap ended_lines (append_assoc text (10 ∷ bytes) more) ∙ ended_first text (bytes ++ more) h ∙ ap (λ ls. text ∷ ls) on.is
-    ∙ ap (λ ls. ls ++ on.lines) (sym (ended_first text bytes h));
+      ap ended_lines (append_assoc text (10 ∷ bytes) more) ∙ ended_first text (bytes ++ more) h ∙ ap (λ ls. text ∷ ls) on.is
+      ∙ ap (λ ls. ls ++ on.lines) (sym (ended_first text bytes h));
 }
 
 -- behind a text without LF
@@ -130,15 +130,15 @@ text_scan (l ∷ lines) skip n =
     ⊎_elim
     (λ e. rw e (ap (λ m. Some (skip, m)) (omega arith)))
     (λ e.
-      let first : take_while is_text_line (l ∷ lines) ≡ l ∷ take_while is_text_line lines = take_while-cons is_text_line l lines ∙ ap (λ t. cond (not t) (l ∷ take_while is_text_line lines) []) e in
-      let size : n + bytes_of (take_while is_text_line (l ∷ lines)) ≡ (n + (length l + 1)) + bytes_of (take_while is_text_line lines) =
-      omega (arith, ap bytes_of first, sum_by-cons (λ l. length l + 1) l (take_while is_text_line lines)) in
-      let behind : drop (prefix_len is_text_line (l ∷ lines)) (l ∷ lines) ≡ drop (prefix_len is_text_line lines) lines =
-      ap (λ t. drop (cond (not t) (1 + prefix_len is_text_line lines) 0) (l ∷ lines)) e ∙ drop-one (prefix_len is_text_line lines) l lines in
-      let scanned : scan_text skip (skip + n) (l ∷ lines) ≡ scan_text skip (skip + (n + (length l + 1))) lines =
-      ap (λ t. cond t (Some (skip, skip + n + (length l + 1))) (scan_text skip (skip + n + (length l + 1)) lines)) e
-      ∙ ap (λ m. scan_text skip m lines) (omega arith) in
-      ap₂ (place_by skip) size behind ∙ text_scan lines skip (n + (length l + 1)) ∙ sym scanned)
+    let first : take_while is_text_line (l ∷ lines) ≡ l ∷ take_while is_text_line lines = take_while-cons is_text_line l lines ∙ ap (λ t. cond (not t) (l ∷ take_while is_text_line lines) []) e in
+    let size : n + bytes_of (take_while is_text_line (l ∷ lines)) ≡ (n + (length l + 1)) + bytes_of (take_while is_text_line lines) =
+    omega (arith, ap bytes_of first, sum_by-cons (λ l. length l + 1) l (take_while is_text_line lines)) in
+    let behind : drop (prefix_len is_text_line (l ∷ lines)) (l ∷ lines) ≡ drop (prefix_len is_text_line lines) lines =
+    ap (λ t. drop (cond (not t) (1 + prefix_len is_text_line lines) 0) (l ∷ lines)) e ∙ drop-one (prefix_len is_text_line lines) l lines in
+    let scanned : scan_text skip (skip + n) (l ∷ lines) ≡ scan_text skip (skip + (n + (length l + 1))) lines =
+    ap (λ t. cond t (Some (skip, skip + n + (length l + 1))) (scan_text skip (skip + n + (length l + 1)) lines)) e
+    ∙ ap (λ m. scan_text skip m lines) (omega arith) in
+    ap₂ (place_by skip) size behind ∙ text_scan lines skip (n + (length l + 1)) ∙ sym scanned)
     (cases_Bool (is_empty_line l))
 
 -- behind n bytes of empty lines, in the words of `place_in`
@@ -154,20 +154,20 @@ front_scan [] n = refl
 front_scan (l ∷ lines) n =
     ⊎_elim
     (λ e.
-      let first : front_lines (l ∷ lines) ≡ l ∷ front_lines lines = take_while-cons is_empty_line l lines ∙ ap (λ t. cond t (l ∷ front_lines lines) []) e in
-      let later : later_lines (l ∷ lines) ≡ later_lines lines = ap (λ t. drop (cond t (1 + prefix_len is_empty_line lines) 0) (l ∷ lines)) e ∙ drop-one (prefix_len is_empty_line lines) l lines in
-      let size : n + bytes_of (l ∷ front_lines lines) ≡ (n + (length l + 1)) + bytes_of (front_lines lines) = omega (arith, sum_by-cons (λ l. length l + 1) l (front_lines lines)) in
-      let scanned : scan_front n (l ∷ lines) ≡ scan_front (n + (length l + 1)) lines = rw e in
-      ap₂ (parts_place n) first later ∙ ap (λ m. place_by m (bytes_of (text_lines lines)) (closing_lines lines)) size ∙ front_scan lines (n + (length l + 1)) ∙ sym scanned)
+    let first : front_lines (l ∷ lines) ≡ l ∷ front_lines lines = take_while-cons is_empty_line l lines ∙ ap (λ t. cond t (l ∷ front_lines lines) []) e in
+    let later : later_lines (l ∷ lines) ≡ later_lines lines = ap (λ t. drop (cond t (1 + prefix_len is_empty_line lines) 0) (l ∷ lines)) e ∙ drop-one (prefix_len is_empty_line lines) l lines in
+    let size : n + bytes_of (l ∷ front_lines lines) ≡ (n + (length l + 1)) + bytes_of (front_lines lines) = omega (arith, sum_by-cons (λ l. length l + 1) l (front_lines lines)) in
+    let scanned : scan_front n (l ∷ lines) ≡ scan_front (n + (length l + 1)) lines = rw e in
+    ap₂ (parts_place n) first later ∙ ap (λ m. place_by m (bytes_of (text_lines lines)) (closing_lines lines)) size ∙ front_scan lines (n + (length l + 1)) ∙ sym scanned)
     (λ e.
-      let first : front_lines (l ∷ lines) ≡ [] = take_while-cons is_empty_line l lines ∙ ap (λ t. cond t (l ∷ front_lines lines) []) e in
-      let later : later_lines (l ∷ lines) ≡ l ∷ lines = ap (λ t. drop (cond t (1 + prefix_len is_empty_line lines) 0) (l ∷ lines)) e in
-      let text : text_place n 0 (l ∷ lines) ≡ scan_text n (n + 0) (l ∷ lines) = text_scan (l ∷ lines) n 0 in
-      let scanned : scan_text n (n + 0) (l ∷ lines) ≡ scan_front n (l ∷ lines) =
-      ap (λ t. cond t (Some (n, n + 0 + (length l + 1))) (scan_text n (n + 0 + (length l + 1)) lines)) e
-      ∙ ap (λ m. scan_text n m lines) (omega arith)
-      ∙ sym (ap (λ t. cond t (scan_front (n + (length l + 1)) lines) (scan_text n (n + (length l + 1)) lines)) e) in
-      ap₂ (parts_place n) first later ∙ ap₂ (λ a b. place_by a b (drop (prefix_len is_text_line (l ∷ lines)) (l ∷ lines))) (omega arith) (omega arith) ∙ text ∙ scanned)
+    let first : front_lines (l ∷ lines) ≡ [] = take_while-cons is_empty_line l lines ∙ ap (λ t. cond t (l ∷ front_lines lines) []) e in
+    let later : later_lines (l ∷ lines) ≡ l ∷ lines = ap (λ t. drop (cond t (1 + prefix_len is_empty_line lines) 0) (l ∷ lines)) e in
+    let text : text_place n 0 (l ∷ lines) ≡ scan_text n (n + 0) (l ∷ lines) = text_scan (l ∷ lines) n 0 in
+    let scanned : scan_text n (n + 0) (l ∷ lines) ≡ scan_front n (l ∷ lines) =
+    ap (λ t. cond t (Some (n, n + 0 + (length l + 1))) (scan_text n (n + 0 + (length l + 1)) lines)) e
+    ∙ ap (λ m. scan_text n m lines) (omega arith)
+    ∙ sym (ap (λ t. cond t (scan_front (n + (length l + 1)) lines) (scan_text n (n + (length l + 1)) lines)) e) in
+    ap₂ (parts_place n) first later ∙ ap₂ (λ a b. place_by a b (drop (prefix_len is_text_line (l ∷ lines)) (l ∷ lines))) (omega arith) (omega arith) ∙ text ∙ scanned)
     (cases_Bool (is_empty_line l))
 
 pub place-scan : (lines : List (List ℕ)) → place_in lines ≡ scan_front 0 lines

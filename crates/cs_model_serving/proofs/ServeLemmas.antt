@@ -7,10 +7,10 @@
 --   serve-waits       while it goes on, no head ends in the bytes that aren't read
 --   serve-rest        the bytes that aren't read are the last ones
 --   answers-prefix    the answers to some first bytes are the first answers to all
-use Rattle.std.proofs.Common.{◌≡◌, ℕ, suc, ◌+◌, ◌-◌, ◌<◌, ◌≤◌, Bool, true, false, List, [], ◌∷◌, ◌++◌, length, take, drop, append_assoc, append-nil, refl, sym, ◌∙◌, ap, ap₂, subst, arith, length-drop, take-append-drop, slice_range}
+use Rattle.std.proofs.Common.{◌≡◌, ℕ, suc, ◌-◌, ◌<◌, ◌≤◌, Bool, true, false, List, [], ◌∷◌, ◌++◌, length, take, drop, append_assoc, append-nil, refl, sym, ◌∙◌, ap, ap₂, subst, arith, length-drop, take-append-drop, slice_range}
 use Prim.Native.Nat.{zero}
 use Rattle.std.proofs.lemmas.List.{take-append-le, drop-append-le}
-use Rattle.cs_base.specs.declared.limits.TheConstants.{MAX_CONNECTION_BYTES, MAX_HEAD_BYTES}
+use Rattle.cs_base.specs.declared.limits.TheConstants.{MAX_CONNECTION_BYTES}
 use Rattle.cs_model.specs.Corpus.{Corpus}
 use Rattle.cs_model_serving.specs.declared.framed.Framed.{Framed}
 use Rattle.cs_model_serving.specs.declared.framed.Framed.TheVariants.{Head, More, TooLong}

@@ -4,6 +4,7 @@
 -- relation. `AreHeads` of ServingLaws says that this function is that relation.
 --
 --   is_head bytes h     the bytes are, as a whole, the head h of at most 64 fields, by that grammar
+--   ends_in_return l    whether the line's last byte is CR
 --   line_text l         a line without the CR at its end, of which there may be none
 --   line_end l          how the line ends: CR LF or LF
 --   is_space b          whether the byte is a space
@@ -18,8 +19,8 @@
 --
 -- The function guesses the one head that the bytes can be, line by line, and tests the guess: its parts are of their classes,
 -- and it is printed as these bytes.
-use Rattle.std.specs.Prelude.{◌≡◌, ◌≤◌, ℕ, ◌-◌, Bool, true, false, not, ◌&&◌, ◌==◌, nat_lt, nat_le, if◌then◌else◌, List, [], ◌∷◌, map, length, drop, slice_index, Option, Some, None}
-use Rattle.std.specs.List.{list_all, before_first, after_first, slice_index_or}
+use Rattle.std.specs.Prelude.{◌≤◌, ℕ, ◌-◌, Bool, ◌&&◌, ◌==◌, nat_lt, nat_le, nat_eq, if◌then◌else◌, List, [], ◌∷◌, map, length, take, drop, slice_index, Option, Some, None}
+use Rattle.std.specs.List.{list_all, ends_with, before_first, after_first, slice_index_or}
 use Rattle.std.specs.Str.{bytes_eq, is_utf8}
 use Rattle.httparse.specs.Grammar.{LineEnd, crlf, lf, Field, RequestHead, ReadsRequest, print_request, is_token, is_uri_byte, is_value_byte}
 use Rattle.cs_base.specs.declared.limits.TheConstants.{MAX_HEAD_FIELDS}
@@ -31,25 +32,17 @@ abbrev pub IsHead : List ℕ → RequestHead → Type 0
 IsHead bytes h = ReadsRequest bytes h [] × (length h.fields ≤ MAX_HEAD_FIELDS)
 
 -- ---- lines
--- the text of a line that begins with b, without a CR at its end
-abbrev pub text_from : ℕ → List ℕ → List ℕ
-text_from b [] = if b == 13 then [] else b ∷ []
-text_from b (c ∷ cs) = b ∷ text_from c cs
+-- the last byte of the line is CR; the line without bytes has none
+abbrev pub ends_in_return : List ℕ → Bool
+ends_in_return l = ends_with nat_eq l (13 ∷ [])
 
--- a line without the CR at its end, if it has one; the empty line stays so
+-- a line without the CR at its end, of which one is left out where there are more; without such a CR it stays as it is
 unfoldable pub line_text : List ℕ → List ℕ
-line_text [] = []
-line_text (b ∷ bs) = text_from b bs
-
--- how a line that begins with b ends
-abbrev pub end_from : ℕ → List ℕ → LineEnd
-end_from b [] = if b == 13 then crlf else lf
-end_from b (c ∷ cs) = end_from c cs
+line_text l = if ends_in_return l then take (length l - 1) l else l
 
 -- how a line ends: in CR LF where its last byte is CR, else in LF alone, as the line without bytes
 unfoldable pub line_end : List ℕ → LineEnd
-line_end [] = lf
-line_end (b ∷ bs) = end_from b bs
+line_end l = if ends_in_return l then crlf else lf
 
 -- ---- the guess
 -- the byte is a space

@@ -20,7 +20,7 @@
 --   index_changed rule at c   that where the index isn't what it was at opening
 --   out_of_memory             the response where memory ran out
 --   memory_bytes              its bytes, which are constant
-use Rattle.std.specs.Prelude.{ℕ, Bool, true, false, ◌==◌, if◌then◌else◌, List, [], ◌∷◌, ◌++◌, length, Option, Some, None, codes}
+use Rattle.std.specs.Prelude.{ℕ, Bool, true, ◌==◌, if◌then◌else◌, List, [], ◌∷◌, ◌++◌, length, Option, Some, None, codes}
 use Rattle.std.specs.List.{flat_map, list_any}
 use Rattle.std.specs.Fmt.{decimal}
 use Rattle.cs_model.specs.Corpus.{Corpus}

@@ -8,15 +8,16 @@
 --   Stay                  bytes behind bytes that close the connection change nothing
 --   PrefixesAreAnswered   the answers to some first bytes are the first answers to all bytes
 --   MemoryIsConstant      the constant bytes of the memory response are those of that response
-use Rattle.std.specs.Prelude.{◌≡◌, ◌↔◌, ℕ, ◌<◌, ◌≤◌, true, false, List, ◌++◌, length, Some, None}
+--   FaultsAreCounted      a Read is counted as a Read, a Changed as a Changed, and a response to a head as neither
+use Rattle.std.specs.Prelude.{◌≡◌, ◌↔◌, ℕ, ◌<◌, ◌≤◌, Bool, true, false, List, ◌++◌, length, Some, None}
 use Rattle.httparse.specs.Grammar.{RequestHead}
 use Rattle.cs_base.specs.declared.limits.TheConstants.{MAX_HEAD_BYTES}
 use Rattle.cs_model.specs.Corpus.{Corpus}
 use Rattle.cs_model_serving.specs.declared.framed.Framed.TheVariants.{Head, TooLong}
 use Rattle.cs_model_serving.specs.Framing.{frame}
 use Rattle.cs_model_serving.specs.HeadReader.{IsHead, read_head}
-use Rattle.cs_model_serving.specs.Responses.{Response, response_bytes, out_of_memory, memory_bytes}
-use Rattle.cs_model_serving.specs.Connections.{Served, framed, serve, answers}
+use Rattle.cs_model_serving.specs.Responses.{Response, response_bytes, response_to, read_failed, index_changed, out_of_memory, memory_bytes}
+use Rattle.cs_model_serving.specs.Connections.{Served, framed, serve, answers, is_read, is_changed}
 
 -- the head that is read is the one that the bytes are, and where none is read they are none
 pub record AreHeads : Type 0 where
@@ -55,3 +56,9 @@ PrefixesAreAnswered = (k : Corpus) (x y : List ℕ) → (later : List Response) 
 -- the constant is the response that closes the connection for want of memory
 abbrev pub MemoryIsConstant : Type 0
 MemoryIsConstant = memory_bytes ≡ response_bytes out_of_memory
+
+-- each 500 is counted once, by its text; a response to a head is no 500
+pub record FaultsAreCounted : Type 0 where
+  pub read : (close : Bool) → (is_read (read_failed close) ≡ true) × (is_changed (read_failed close) ≡ false)
+  pub changed : (rule at : ℕ) (close : Bool) → (is_read (index_changed rule at close) ≡ false) × (is_changed (index_changed rule at close) ≡ true)
+  pub none : (k : Corpus) (bytes : List ℕ) → (is_read (response_to k bytes) ≡ false) × (is_changed (response_to k bytes) ≡ false)

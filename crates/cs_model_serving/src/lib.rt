@@ -2,5 +2,6 @@
 #![tactic(auto)]
 
 mod framed;
+pub mod laws;
 
 pub use framed::Framed;
