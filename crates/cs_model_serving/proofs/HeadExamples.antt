@@ -1,5 +1,5 @@
 -- Framing and heads on worked bytes: the definitions computed.
-use Rattle.std.proofs.Common.{◌≡◌, true, false, List, ℕ, [], ◌∷◌, ◌++◌, refl, codes, Some, None, replicate, flat_map}
+use Rattle.std.proofs.Common.{◌≡◌, true, false, List, ℕ, [], ◌∷◌, ◌++◌, refl, codes, replicate, flat_map}
 use Rattle.std.specs.Str.{chars, is_utf8}
 use Rattle.httparse.specs.Grammar.{is_token_byte, trim_ows, print_request}
 use Rattle.cs_model_serving.specs.declared.framed.Framed.TheVariants.{Head, More, TooLong}

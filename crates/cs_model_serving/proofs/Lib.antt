@@ -1,3 +1,4 @@
+pub mod ConnectionExamples
 pub mod CountLemmas
 pub mod FrameLemmas
 pub mod HeadExamples
