@@ -34,6 +34,13 @@ pub fn request_limits()
     ensures distance { MAX_DISTANCE ≡ 8 }
 {}
 
+/// The limits of request heads and connections.
+pub fn serving_limits()
+    ensures head_bytes { MAX_HEAD_BYTES ≡ 2 ^ 13 }
+    ensures head_fields { MAX_HEAD_FIELDS ≡ 64 }
+    ensures connection_bytes { MAX_CONNECTION_BYTES ≡ 2 ^ 20 }
+{}
+
 /// What rows count for, and where text words begin.
 pub fn scores()
     ensures title { TITLE_SCORE ≡ 4 }

@@ -65,3 +65,12 @@ pub const MAX_DEPTH: usize = 3;
 
 /// How many positions two words may be apart to be near each other.
 pub const MAX_DISTANCE: u32 = 8;
+
+/// The most bytes in which a request head must end, the empty lines in front of it included.
+pub const MAX_HEAD_BYTES: usize = 8192;
+
+/// The most fields of a request head.
+pub const MAX_HEAD_FIELDS: usize = 64;
+
+/// The bytes of a connection that count. Those behind them aren't answered.
+pub const MAX_CONNECTION_BYTES: usize = 1 << 20;
