@@ -19,6 +19,7 @@ use Rattle.cs_base.proofs.OrdersLemmas.{Less-from_lt, by_row_total, by_row_exact
 use Rattle.cs_model.specs.Collection.{facet_words}
 use Rattle.cs_model.specs.Corpus.{placed, title_rows, text_rows, facet_rows, doc_rows, rows_of}
 use Rattle.cs_model.specs.Words.{words}
+use Rattle.cs_model.specs.Scores.{SCORES}
 use Rattle.cs_docs.specs.Listing.{listed_facets, listed_doc, listed_rows}
 use Rattle.cs_docs.proofs.PlainLemmas.{no_words}
 
@@ -108,28 +109,28 @@ module _ (d : ℕ) (doc : Doc) where
   abbrev texts : ℕ
   texts = length (words doc.text)
 
-  within_titles : AllByRecursion (IsWithin d 1 (titles + 1)) (title_rows d doc)
-  within_titles = wider d 1 (1 + titles) 1 (titles + 1) (title_rows d doc) (omega arith) (omega arith) (within-placed d TITLE_SCORE 1 (words doc.title))
+  within_titles : AllByRecursion (IsWithin d 1 (titles + 1)) (title_rows SCORES d doc)
+  within_titles = wider d 1 (1 + titles) 1 (titles + 1) (title_rows SCORES d doc) (omega arith) (omega arith) (within-placed d TITLE_SCORE 1 (words doc.title))
 
-  within_texts : AllByRecursion (IsWithin d (titles + 1) (titles + BEHIND_TITLE + texts)) (text_rows d doc)
-  within_texts = wider d (titles + BEHIND_TITLE) (titles + BEHIND_TITLE + texts) (titles + 1) (titles + BEHIND_TITLE + texts) (text_rows d doc) (omega arith) (omega arith) (within-placed d TEXT_SCORE (titles + BEHIND_TITLE) (words doc.text))
+  within_texts : AllByRecursion (IsWithin d (titles + 1) (titles + BEHIND_TITLE + texts)) (text_rows SCORES d doc)
+  within_texts = wider d (titles + BEHIND_TITLE) (titles + BEHIND_TITLE + texts) (titles + 1) (titles + BEHIND_TITLE + texts) (text_rows SCORES d doc) (omega arith) (omega arith) (within-placed d TEXT_SCORE (titles + BEHIND_TITLE) (words doc.text))
 
-  within_front : AllByRecursion (IsWithin d 0 (titles + 1)) (facets ++ title_rows d doc)
-  within_front = all-append (IsWithin d 0 (titles + 1)) facets (title_rows d doc) (wider d 0 1 0 (titles + 1) facets (omega arith) (omega arith) (within-facets d (listed_facets doc.facets)))
-      (wider d 1 (titles + 1) 0 (titles + 1) (title_rows d doc) (omega arith) (omega arith) within_titles)
+  within_front : AllByRecursion (IsWithin d 0 (titles + 1)) (facets ++ title_rows SCORES d doc)
+  within_front = all-append (IsWithin d 0 (titles + 1)) facets (title_rows SCORES d doc) (wider d 0 1 0 (titles + 1) facets (omega arith) (omega arith) (within-facets d (listed_facets doc.facets)))
+      (wider d 1 (titles + 1) 0 (titles + 1) (title_rows SCORES d doc) (omega arith) (omega arith) within_titles)
 
-  sorted_front : IsStrictlySortedBy by_spot (facets ++ title_rows d doc)
-  sorted_front = sorted-append by_spot facets (title_rows d doc) (sorted-facets d (listed_facets doc.facets) (listing-rises (slice_cmp nat_cmp) (facet_words doc.facets)))
-      (sorted-placed d TITLE_SCORE 1 (words doc.title)) (within_below d 0 1 (titles + 1) facets (title_rows d doc) (within-facets d (listed_facets doc.facets)) within_titles)
+  sorted_front : IsStrictlySortedBy by_spot (facets ++ title_rows SCORES d doc)
+  sorted_front = sorted-append by_spot facets (title_rows SCORES d doc) (sorted-facets d (listed_facets doc.facets) (listing-rises (slice_cmp nat_cmp) (facet_words doc.facets)))
+      (sorted-placed d TITLE_SCORE 1 (words doc.title)) (within_below d 0 1 (titles + 1) facets (title_rows SCORES d doc) (within-facets d (listed_facets doc.facets)) within_titles)
 
   sorted-doc : IsStrictlySortedBy by_spot (listed_doc (d, doc))
-  sorted-doc = sorted-append by_spot (facets ++ title_rows d doc) (text_rows d doc) sorted_front (sorted-placed d TEXT_SCORE (titles + BEHIND_TITLE) (words doc.text))
-      (within_below d 0 (titles + 1) (titles + BEHIND_TITLE + texts) (facets ++ title_rows d doc) (text_rows d doc) within_front within_texts)
+  sorted-doc = sorted-append by_spot (facets ++ title_rows SCORES d doc) (text_rows SCORES d doc) sorted_front (sorted-placed d TEXT_SCORE (titles + BEHIND_TITLE) (words doc.text))
+      (within_below d 0 (titles + 1) (titles + BEHIND_TITLE + texts) (facets ++ title_rows SCORES d doc) (text_rows SCORES d doc) within_front within_texts)
 
   of_doc : AllByRecursion (λ r. r.doc ≡ d) (listed_doc (d, doc))
-  of_doc = all-append (λ r. r.doc ≡ d) (facets ++ title_rows d doc) (text_rows d doc)
-      (all_then (IsWithin d 0 (titles + 1)) (λ r. r.doc ≡ d) (λ r p. p.doc) (facets ++ title_rows d doc) within_front)
-      (all_then (IsWithin d (titles + 1) (titles + BEHIND_TITLE + texts)) (λ r. r.doc ≡ d) (λ r p. p.doc) (text_rows d doc) within_texts)
+  of_doc = all-append (λ r. r.doc ≡ d) (facets ++ title_rows SCORES d doc) (text_rows SCORES d doc)
+      (all_then (IsWithin d 0 (titles + 1)) (λ r. r.doc ≡ d) (λ r p. p.doc) (facets ++ title_rows SCORES d doc) within_front)
+      (all_then (IsWithin d (titles + 1) (titles + BEHIND_TITLE + texts)) (λ r. r.doc ≡ d) (λ r p. p.doc) (text_rows SCORES d doc) within_texts)
 
 -- ---- all documents
 
@@ -198,33 +199,33 @@ any_facet q d (w ∷ ws) =
     ∙ ap (λ b. (eq_by_cmp (slice_cmp nat_cmp) q.word w && is_facet_row q d) || b) (any_facet q d ws)
     ∙ or_gated (eq_by_cmp (slice_cmp nat_cmp) q.word w) (list_any (eq_by_cmp (slice_cmp nat_cmp) q.word) ws) (is_facet_row q d)
 
-any_listed : (q : Row) (d : ℕ) (doc : Doc) → list_any (eq_by_cmp by_row q) (facets d doc) ≡ list_any (eq_by_cmp by_row q) (facet_rows d doc)
+any_listed : (q : Row) (d : ℕ) (doc : Doc) → list_any (eq_by_cmp by_row q) (facets d doc) ≡ list_any (eq_by_cmp by_row q) (facet_rows SCORES d doc)
 any_listed q d doc =
     any_facet q d (listed_facets doc.facets)
     ∙ ap (λ b. b && is_facet_row q d) (is_member-listed (slice_cmp nat_cmp) nat_list_cmp_total (facet_words doc.facets) q.word)
     ∙ sym (any_facet q d (facet_words doc.facets))
 
-any_doc : (q : Row) (d : ℕ) (doc : Doc) → list_any (eq_by_cmp by_row q) (listed_doc (d, doc)) ≡ list_any (eq_by_cmp by_row q) (doc_rows (d, doc))
+any_doc : (q : Row) (d : ℕ) (doc : Doc) → list_any (eq_by_cmp by_row q) (listed_doc (d, doc)) ≡ list_any (eq_by_cmp by_row q) (doc_rows SCORES (d, doc))
 any_doc q d doc =
-    let front : list_any (eq_by_cmp by_row q) (facets d doc ++ title_rows d doc) ≡ list_any (eq_by_cmp by_row q) (facet_rows d doc ++ title_rows d doc) =
-    list_any-append (eq_by_cmp by_row q) (facets d doc) (title_rows d doc)
-    ∙ ap (λ b. b || list_any (eq_by_cmp by_row q) (title_rows d doc)) (any_listed q d doc)
-    ∙ sym (list_any-append (eq_by_cmp by_row q) (facet_rows d doc) (title_rows d doc)) in
-    list_any-append (eq_by_cmp by_row q) (facets d doc ++ title_rows d doc) (text_rows d doc)
-    ∙ ap (λ b. b || list_any (eq_by_cmp by_row q) (text_rows d doc)) front
-    ∙ sym (list_any-append (eq_by_cmp by_row q) (facet_rows d doc ++ title_rows d doc) (text_rows d doc))
+    let front : list_any (eq_by_cmp by_row q) (facets d doc ++ title_rows SCORES d doc) ≡ list_any (eq_by_cmp by_row q) (facet_rows SCORES d doc ++ title_rows SCORES d doc) =
+    list_any-append (eq_by_cmp by_row q) (facets d doc) (title_rows SCORES d doc)
+    ∙ ap (λ b. b || list_any (eq_by_cmp by_row q) (title_rows SCORES d doc)) (any_listed q d doc)
+    ∙ sym (list_any-append (eq_by_cmp by_row q) (facet_rows SCORES d doc) (title_rows SCORES d doc)) in
+    list_any-append (eq_by_cmp by_row q) (facets d doc ++ title_rows SCORES d doc) (text_rows SCORES d doc)
+    ∙ ap (λ b. b || list_any (eq_by_cmp by_row q) (text_rows SCORES d doc)) front
+    ∙ sym (list_any-append (eq_by_cmp by_row q) (facet_rows SCORES d doc ++ title_rows SCORES d doc) (text_rows SCORES d doc))
 
-any_row : (q : Row) (d : ℕ) (docs : List Doc) → list_any (eq_by_cmp by_row q) (listed_rows d docs) ≡ list_any (eq_by_cmp by_row q) (flat_map doc_rows (enumerate_from d docs))
+any_row : (q : Row) (d : ℕ) (docs : List Doc) → list_any (eq_by_cmp by_row q) (listed_rows d docs) ≡ list_any (eq_by_cmp by_row q) (flat_map (doc_rows SCORES) (enumerate_from d docs))
 any_row q d [] = refl
 any_row q d (doc ∷ docs) =
     list_any-append (eq_by_cmp by_row q) (listed_doc (d, doc)) (listed_rows (d + 1) docs)
     ∙ ap (λ b. b || list_any (eq_by_cmp by_row q) (listed_rows (d + 1) docs)) (any_doc q d doc)
-    ∙ ap (λ b. list_any (eq_by_cmp by_row q) (doc_rows (d, doc)) || b) (any_row q (d + 1) docs)
-    ∙ sym (list_any-append (eq_by_cmp by_row q) (doc_rows (d, doc)) (flat_map doc_rows (enumerate_from (d + 1) docs)))
+    ∙ ap (λ b. list_any (eq_by_cmp by_row q) (doc_rows SCORES (d, doc)) || b) (any_row q (d + 1) docs)
+    ∙ sym (list_any-append (eq_by_cmp by_row q) (doc_rows SCORES (d, doc)) (flat_map (doc_rows SCORES) (enumerate_from (d + 1) docs)))
 
 -- the rows of documents are their listing
 pub rows_listed : (docs : List Doc) → listed_rows 0 docs ≡ rows_of docs
-rows_listed docs = members_are by_row by_row_total by_row_exact (listed_rows 0 docs) (flat_map doc_rows (enumerate_from 0 docs)) (sorted-rows 0 docs) (λ q. any_row q 0 docs)
+rows_listed docs = members_are by_row by_row_total by_row_exact (listed_rows 0 docs) (flat_map (doc_rows SCORES) (enumerate_from 0 docs)) (sorted-rows 0 docs) (λ q. any_row q 0 docs)
 
 -- no two rows of documents have one document, position and word
 pub spots-rise : (docs : List Doc) → IsStrictlySortedBy by_spot (rows_of docs)
@@ -255,8 +256,8 @@ no_facets : listed_facets [] ≡ []
 no_facets = sym (members_are (slice_cmp nat_cmp) nat_list_cmp_total exact_bytes [] [] (nothing_sorted (slice_cmp nat_cmp)) (λ q. refl))
 
 -- a document that has a title alone
-pub listed_title : (d : ℕ) (doc : Doc) → doc.facets ≡ [] → doc.text ≡ [] → listed_doc (d, doc) ≡ title_rows d doc
+pub listed_title : (d : ℕ) (doc : Doc) → doc.facets ≡ [] → doc.text ≡ [] → listed_doc (d, doc) ≡ title_rows SCORES d doc
 listed_title d doc f t =
-    ap (λ ws. map (λ w. placed d FACET_SCORE (0, w)) ws ++ title_rows d doc ++ text_rows d doc) (ap listed_facets f ∙ no_facets)
-    ∙ ap (λ ws. title_rows d doc ++ map (placed d TEXT_SCORE) (enumerate_from (length (words doc.title) + BEHIND_TITLE) ws)) (ap words t ∙ no_words)
-    ∙ append-nil (title_rows d doc)
+    ap (λ ws. map (λ w. placed d FACET_SCORE (0, w)) ws ++ title_rows SCORES d doc ++ text_rows SCORES d doc) (ap listed_facets f ∙ no_facets)
+    ∙ ap (λ ws. title_rows SCORES d doc ++ map (placed d TEXT_SCORE) (enumerate_from (length (words doc.title) + BEHIND_TITLE) ws)) (ap words t ∙ no_words)
+    ∙ append-nil (title_rows SCORES d doc)

@@ -13,6 +13,7 @@ use Rattle.cs_model.specs.Collection.{is_plain, is_plain_byte, documents, docume
 use Rattle.cs_model.specs.Corpus.{rows_of, title_rows}
 use Rattle.cs_model.specs.Words.{is_filled, words}
 use Rattle.cs_model.specs.First.{first_reason}
+use Rattle.cs_model.specs.Scores.{SCORES}
 use Rattle.cs_docs.specs.Listing.{listed_rows}
 use Rattle.cs_docs.specs.Reading.{doc_lines_from, documents_from, title_only}
 use Rattle.cs_docs.specs.Refusals.{refusal_from}
@@ -64,10 +65,10 @@ plain_accepted c h =
 pub plain_titles : (c : List ℕ) → is_plain c ≡ true → documents c ≡ map title_only (doc_lines c)
 plain_titles c h = plain_documents c h ∙ titles 0 1 (lines c) (plain_lines c h) ∙ ap (λ b. map title_only (doc_lines_from 0 1 (lines b))) (sym (unmarked c (plain_parts c h)))
 
-title_rows_of : (d : ℕ) (docs : List Doc) → AllByRecursion IsTitleOnly docs → listed_rows d docs ≡ flat_map (λ p. title_rows p.0 p.1) (enumerate_from d docs)
+title_rows_of : (d : ℕ) (docs : List Doc) → AllByRecursion IsTitleOnly docs → listed_rows d docs ≡ flat_map (λ p. title_rows SCORES p.0 p.1) (enumerate_from d docs)
 title_rows_of d [] h = refl
 title_rows_of d (doc ∷ docs) h =
-    ap (λ rows. rows ++ listed_rows (d + 1) docs) (listed_title d doc h.0.no_facets h.0.no_text) ∙ ap (λ rows. title_rows d doc ++ rows) (title_rows_of (d + 1) docs h.1)
+    ap (λ rows. rows ++ listed_rows (d + 1) docs) (listed_title d doc h.0.no_facets h.0.no_text) ∙ ap (λ rows. title_rows SCORES d doc ++ rows) (title_rows_of (d + 1) docs h.1)
 
-pub plain_rows : (c : List ℕ) → is_plain c ≡ true → rows_of (documents c) ≡ flat_map (λ p. title_rows p.0 p.1) (enumerate_from 0 (documents c))
+pub plain_rows : (c : List ℕ) → is_plain c ≡ true → rows_of (documents c) ≡ flat_map (λ p. title_rows SCORES p.0 p.1) (enumerate_from 0 (documents c))
 plain_rows c h = sym (rows_listed (documents c)) ∙ title_rows_of 0 (documents c) (titles_of_plain c h)

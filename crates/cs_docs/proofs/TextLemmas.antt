@@ -23,6 +23,7 @@ use Rattle.cs_base.proofs.MembersLemmas.{is_member-listed}
 use Rattle.cs_model.specs.Collection.{facet_words, named}
 use Rattle.cs_model.specs.Corpus.{placed, title_rows, text_rows}
 use Rattle.cs_model.specs.Words.{words}
+use Rattle.cs_model.specs.Scores.{SCORES}
 use Rattle.cs_docs.specs.Listing.{listed_facets, listed_doc, HasText}
 
 -- in a total order each thing ties with itself
@@ -57,11 +58,11 @@ pub text_of_doc : (d : ℕ) (doc : Doc) → All IsUtf8 (facet_words doc.facets) 
 text_of_doc d doc facets title text =
     let listed = All-members (slice_cmp nat_cmp) nat_list_cmp_total exact_bytes IsUtf8 (facet_words doc.facets) facets in
     let facet_rows = map (λ w. placed d FACET_SCORE (0, w)) (listed_facets doc.facets) in
-    All-append HasText (facet_rows ++ title_rows d doc) (text_rows d doc)
-    (All-append HasText facet_rows (title_rows d doc)
+    All-append HasText (facet_rows ++ title_rows SCORES d doc) (text_rows SCORES d doc)
+    (All-append HasText facet_rows (title_rows SCORES d doc)
     (All-from_recursion HasText facet_rows (facets_text d (listed_facets doc.facets) (recursion_from_All IsUtf8 (listed_facets doc.facets) listed)))
-    (All-from_recursion HasText (title_rows d doc) (placed_text d TITLE_SCORE 1 (words doc.title) (recursion_from_All IsUtf8 (words doc.title) title))))
-    (All-from_recursion HasText (text_rows d doc) (placed_text d TEXT_SCORE _ (words doc.text) (recursion_from_All IsUtf8 (words doc.text) text)))
+    (All-from_recursion HasText (title_rows SCORES d doc) (placed_text d TITLE_SCORE 1 (words doc.title) (recursion_from_All IsUtf8 (words doc.title) title))))
+    (All-from_recursion HasText (text_rows SCORES d doc) (placed_text d TEXT_SCORE _ (words doc.text) (recursion_from_All IsUtf8 (words doc.text) text)))
 
 pub named_text : (name value : List ℕ) → IsUtf8 name → IsUtf8 value → IsUtf8 (named name value)
 named_text name value n v =

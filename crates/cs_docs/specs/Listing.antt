@@ -15,6 +15,7 @@ use Rattle.cs_base.specs.declared.doc.Row.{Row}
 use Rattle.cs_base.specs.declared.scores.TheConstants.{FACET_SCORE}
 use Rattle.cs_model.specs.Collection.{facet_words}
 use Rattle.cs_model.specs.Corpus.{placed, title_rows, text_rows}
+use Rattle.cs_model.specs.Scores.{SCORES}
 
 -- none where no piece has a word
 abbrev pub listed_facets : List ℕ → List (List ℕ)
@@ -22,7 +23,7 @@ listed_facets column = members_in (slice_cmp nat_cmp) (facet_words column)
 
 -- facet words first, at position 0
 abbrev pub listed_doc : ℕ × Doc → List Row
-listed_doc p = map (λ w. placed p.0 FACET_SCORE (0, w)) (listed_facets p.1.facets) ++ title_rows p.0 p.1 ++ text_rows p.0 p.1
+listed_doc p = map (λ w. placed p.0 FACET_SCORE (0, w)) (listed_facets p.1.facets) ++ title_rows SCORES p.0 p.1 ++ text_rows SCORES p.0 p.1
 
 abbrev pub listed_rows : ℕ → List Doc → List Row
 listed_rows d docs = flat_map listed_doc (enumerate_from d docs)

@@ -3,6 +3,7 @@ ghost use Rattle.std.specs.Prelude.{◌≡◌, ℕ, List, None, true, map};
 ghost use Rattle.std.specs.List.{flat_map, enumerate_from};
 ghost use Rattle.cs_model.specs.Collection.{is_plain, documents, doc_lines, docs_refusal};
 ghost use Rattle.cs_model.specs.Corpus.{rows_of, title_rows, corpus, IsCorpus};
+ghost use Rattle.cs_model.specs.Scores.{SCORES};
 ghost use Rattle.cs_docs.specs.Reading.{title_only};
 
 /// A plain collection is accepted as far as its documents go, each line that has bytes is the title
@@ -10,7 +11,7 @@ ghost use Rattle.cs_docs.specs.Reading.{title_only};
 pub fn plain_collections()
     ensures accepted { (c : List ℕ) → is_plain c ≡ true → docs_refusal c ≡ None }
     ensures titles { (c : List ℕ) → is_plain c ≡ true → documents c ≡ map title_only (doc_lines c) }
-    ensures rows { (c : List ℕ) → is_plain c ≡ true → rows_of (documents c) ≡ flat_map (λ p. title_rows p.0 p.1) (enumerate_from 0 (documents c)) }
+    ensures rows { (c : List ℕ) → is_plain c ≡ true → rows_of (documents c) ≡ flat_map (λ p. title_rows SCORES p.0 p.1) (enumerate_from 0 (documents c)) }
 {}
 
 /// In the corpus of a collection document, position and word name a row, rows are listed by these,

@@ -4,10 +4,10 @@
 --
 --   Corpus                         the titles by document number, and the set of rows, listed by document, position and word
 --   placed d score (pos, w)        the row of the word w at a position of document d
---   title_rows d doc               the rows of title words; none where the title has no word
---   text_rows d doc                the rows of text words; none where the text has no word
---   facet_rows d doc               the rows of facet words; none where the facets have none
---   doc_rows (d, doc)              the rows of the document of number d; none where it has no word
+--   title_rows scores d doc        the rows of title words; none where the title has no word
+--   text_rows scores d doc         the rows of text words; none where the text has no word
+--   facet_rows scores d doc        the rows of facet words; none where the facets have none
+--   doc_rows scores (d, doc)       the rows of the document of number d; none where it has no word
 --   rows_of docs                   the rows of a list of documents, numbered from 0; each (doc, pos, word) names one; of no
 --                                  documents none
 --   by_number titles               each title at its number in the list, the first at 0; of no titles the empty map
@@ -23,6 +23,7 @@
 --
 -- A title word has its place in the title as position, from 1, and the score 4. Text words go on 9 positions behind the last
 -- title word, with the score 1, which is too far for a link between the two. A facet word has the position 0 and the score 2.
+-- These are the scores of every collection (`SCORES`); the rows of a document take them as an argument.
 use Rattle.std.specs.Prelude.{◌≡◌, ℕ, ◌+◌, true, nat_le, List, [], ◌∷◌, ◌++◌, map, length, Option}
 use Rattle.std.specs.List.{All, flat_map, enumerate_from}
 use Rattle.std.specs.List.Sorted.{IsStrictlySortedBy}
@@ -34,9 +35,10 @@ use Rattle.cs_base.specs.Orders.{by_row, by_spot}
 use Rattle.cs_base.specs.declared.doc.Doc.{Doc}
 use Rattle.cs_base.specs.declared.doc.Row.{Row}
 use Rattle.cs_base.specs.declared.limits.TheConstants.{MAX_ROWS, MAX_WORDS}
-use Rattle.cs_base.specs.declared.scores.TheConstants.{TITLE_SCORE, FACET_SCORE, TEXT_SCORE, BEHIND_TITLE}
+use Rattle.cs_base.specs.declared.scores.TheConstants.{BEHIND_TITLE}
 use Rattle.cs_model.specs.Collection.{CollectionRefusal, too_many_rows, too_many_words, docs_refusal, documents, facet_words}
 use Rattle.cs_model.specs.First.{unless, first_reason}
+use Rattle.cs_model.specs.Scores.{Scores, SCORES}
 use Rattle.cs_model.specs.Words.{words}
 
 -- what is searched: titles by document number, and rows by document, position and word; of both there may be none
@@ -49,24 +51,24 @@ abbrev pub placed : ℕ → ℕ → ℕ × List ℕ → Row
 placed d score p = record { doc = d; word = p.1; pos = p.0; score = score }
 
 -- the rows of the title's words, the first of which stands at 1; none where it has no word
-abbrev pub title_rows : ℕ → Doc → List Row
-title_rows d doc = map (placed d TITLE_SCORE) (enumerate_from 1 (words doc.title))
+abbrev pub title_rows : Scores → ℕ → Doc → List Row
+title_rows scores d doc = map (placed d scores.title) (enumerate_from 1 (words doc.title))
 
 -- the rows of the text's words, the first of which stands 9 behind the last title word, so at 9 where the title has none
-abbrev pub text_rows : ℕ → Doc → List Row
-text_rows d doc = map (placed d TEXT_SCORE) (enumerate_from (length (words doc.title) + BEHIND_TITLE) (words doc.text))
+abbrev pub text_rows : Scores → ℕ → Doc → List Row
+text_rows scores d doc = map (placed d scores.text) (enumerate_from (length (words doc.title) + BEHIND_TITLE) (words doc.text))
 
 -- the rows of the facet words, at position 0, as often as the column lists them; none where it lists none
-abbrev pub facet_rows : ℕ → Doc → List Row
-facet_rows d doc = map (λ w. placed d FACET_SCORE (0, w)) (facet_words doc.facets)
+abbrev pub facet_rows : Scores → ℕ → Doc → List Row
+facet_rows scores d doc = map (λ w. placed d scores.facet (0, w)) (facet_words doc.facets)
 
 -- the rows of a document given with its number, column by column; none where no column has a word
-abbrev pub doc_rows : ℕ × Doc → List Row
-doc_rows p = facet_rows p.0 p.1 ++ title_rows p.0 p.1 ++ text_rows p.0 p.1
+abbrev pub doc_rows : Scores → ℕ × Doc → List Row
+doc_rows scores p = facet_rows scores p.0 p.1 ++ title_rows scores p.0 p.1 ++ text_rows scores p.0 p.1
 
 -- the rows of documents that are numbered from 0, each once, by document, position and word; of no documents none
 abbrev pub rows_of : List Doc → List Row
-rows_of docs = members_in by_row (flat_map doc_rows (enumerate_from 0 docs))
+rows_of docs = members_in by_row (flat_map (doc_rows SCORES) (enumerate_from 0 docs))
 
 -- the title of a document as it stands in the collection, which may be empty
 abbrev pub title_of : Doc → List ℕ

@@ -20,6 +20,7 @@ use Rattle.cs_model.specs.KeyText.{norm}
 use Rattle.cs_model.specs.Words.{is_word_char, cut, words}
 use Rattle.cs_model.specs.Collection.{documents}
 use Rattle.cs_model.specs.Corpus.{Corpus, by_number, distinct_words, doc_rows, rows_of, corpus}
+use Rattle.cs_model.specs.Scores.{SCORES}
 use Rattle.cs_model.proofs.ListedMembers.{members-listed}
 use Rattle.cs_model_index.specs.Blocks.{gap_column, word_column, position_column, score_column, block_bytes}
 use Rattle.cs_model_index.specs.BlockRules.{codes_break, items_in, first_break, judged, rows_read}
@@ -100,7 +101,7 @@ worked_text = codes "Ab\tk=C\tb a"
 
 rows-worked : rows_of (documents worked_text) ≡ worked_rows
 unfolding words norm chars cut caseless is_word_char general_category ucd_category lib.Utf8.encode
-rows-worked = members-listed by_row by_row_total (flat_map doc_rows (enumerate_from 0 (documents worked_text)))
+rows-worked = members-listed by_row by_row_total (flat_map (doc_rows SCORES) (enumerate_from 0 (documents worked_text)))
 
 -- so it is the image of the collection
 image-is : IsImage (corpus worked_text) TARGET worked_image
