@@ -3,8 +3,7 @@ ghost use Rattle.std.specs.Prelude.{◌≡◌};
 ghost use Rattle.std.specs.Option.{ForSome};
 ghost use Rattle.cs_base.specs.Outside.{HasSize};
 
-use crate::outside::{Failed, Files};
-use crate::store::Store;
+use crate::outside::{Failed, Files, Store};
 
 /// A held file of a known size, as a store. It tells where the files tell, and its faults are those of the files.
 #[derive(Drop)]

@@ -3,9 +3,11 @@
 
 mod block;
 mod doc;
+mod failed;
 mod failing;
 mod file_sink;
 mod file_store;
+mod files;
 mod hub;
 mod key;
 pub mod laws;
@@ -20,7 +22,10 @@ mod query;
 mod scores;
 mod script_hub;
 mod seq;
+mod sink;
 mod store;
+#[cfg(test)]
+mod tests;
 mod text;
 mod word;
 
@@ -40,12 +45,11 @@ pub use mem_files::MemFiles;
 pub use mem_sink::MemSink;
 pub use mem_store::{MemStore, TiredStore};
 pub use memory::Memory;
-pub use outside::{Failed, Files, Sink};
+pub use outside::{Failed, Files, Sink, Store};
 pub use plan::{Kept, Plan};
 pub use query::{Atom, Chain, Link, Linked, Part, Query, Which};
 pub use scores::{BEHIND_TITLE, FACET_SCORE, TEXT_SCORE, TITLE_SCORE};
 pub use script_hub::{ScriptHub, Scripted};
 pub use seq::Seq;
-pub use store::Store;
 pub use text::Text;
 pub use word::Word;

@@ -3,8 +3,7 @@ ghost use Rattle.std.specs.Prelude.{◌≡◌, ◌+◌, ◌-◌, ◌≤◌, leng
 ghost use Rattle.cs_base.specs.Causes.{Counted, ReadsWithin, one_more};
 ghost use Rattle.cs_base.specs.Outside.{part};
 
-use crate::outside::Failed;
-use crate::store::Store;
+use crate::outside::{Failed, Store};
 use std::marker::Model;
 
 /// Bytes in memory, as a store. It tells them, and never fails.
