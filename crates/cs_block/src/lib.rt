@@ -15,6 +15,7 @@ mod rules;
 #[cfg(test)]
 mod tests;
 
+pub use cs_base::BlockHead;
 pub use decoding::decode;
 pub use encoding::encode;
 pub use fault::BlockFault;

@@ -1,12 +1,12 @@
 -- Lines, one after another, and the first refusal among them.
-use Rattle.std.proofs.Common.{◌≡◌, ℕ, ◌+◌, ◌<◌, Bool, true, false, List, [], ◌∷◌, ◌++◌, length, map, take, drop, get_or, refl, ap, ◌∙◌, arith, eqb}
+use Rattle.std.proofs.Common.{◌≡◌, ℕ, ◌+◌, ◌<◌, Bool, true, false, List, [], ◌∷◌, ◌++◌, length, map, take, drop, get_or, inl, inr, refl, sym, ap, ◌∙◌, arith, eqb}
 use Rattle.std.specs.List.{slice_split, position_or_len}
 use Rattle.memchr.specs.Find.{IsFirstByte, is_byte}
 use Rattle.std.specs.Prelude.{Option, Some, None, MatchOption}
 use Rattle.std.specs.Str.Lines.{lines, lines_of_parts, strip_carriage_return}
 use Rattle.std.proofs.lemmas.Bool.{false_from_ne_true}
 use Rattle.std.proofs.lemmas.Bool.Decides.{nat_tests}
-use Rattle.std.proofs.lemmas.List.{map-append}
+use Rattle.std.proofs.lemmas.List.{map-append, take_all, drop_all}
 use Rattle.std.proofs.lemmas.List.Elements.{All-from_get_or}
 use Rattle.std.proofs.lemmas.List.Splits.{slice_split_first, slice_split_none, length-slice_split}
 use Rattle.std.proofs.lemmas.List.Sums.{position_or_len_is}
@@ -14,6 +14,7 @@ use Rattle.cs_model.specs.Collection.{CollectionRefusal, line_refusal}
 use Rattle.cs_model.specs.Words.{is_filled}
 use Rattle.cs_model.specs.First.{first_reason}
 use Rattle.cs_docs.specs.declared.fault.DocFault.{DocFault}
+use Rattle.cs_docs.specs.Lines.{Shows}
 use Rattle.cs_docs.specs.Refusals.{refusal_of, IsCauseOf, refusal_from}
 use Rattle.cs_model.proofs.FirstLemmas.{first-append_some}
 use Rattle.cs_docs.specs.Reading.{doc_lines_from, documents_from}
@@ -46,6 +47,13 @@ pub last_line : (bs : List ℕ) → 0 < length bs → IsFirstByte (is_byte 10) b
 last_line bs some h =
     ap lines_of_parts (slice_split_none (λ b. eqb b 10) bs (All-from_get_or (λ b. eqb b 10 ≡ false) bs 0 (λ k l. false_from_ne_true _ (h k (omega arith) l))))
     ∙ some_line bs some
+
+-- the first line by its length and the place behind it
+pub shown_line : (bs : List ℕ) (len next : ℕ) → 0 < length bs → Shows bs len next → lines bs ≡ take len bs ∷ lines (drop next bs)
+shown_line bs len next some (inl h) =
+    line_ends_at bs h.0 h.2 ∙ ap (λ l. l ∷ lines (drop (h.0 + 1) bs)) (sym h.3) ∙ ap (λ n. take len bs ∷ lines (drop n bs)) (sym h.1)
+shown_line bs len next some (inr h) =
+    last_line bs some h.0 ∙ ap (λ l. l ∷ []) (sym (take_all len bs (omega (arith, h.1)))) ∙ ap (λ l. take len bs ∷ lines l) (sym (drop_all next bs (omega (arith, h.2))))
 
 -- ---- refusals
 

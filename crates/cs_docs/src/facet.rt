@@ -8,7 +8,7 @@ ghost use Rattle.cs_docs.specs.Pieces.{AreNamed};
 
 use crate::pieces::{cut_at_equals, cut_piece};
 use cs_base::{MAX_NAME_BYTES, MAX_PLAIN_WORD_BYTES, Memory, Word};
-use cs_text::{norm, slug};
+use cs_text::{named_word, norm, slug};
 use std::alloc::Global;
 
 /// The facet words of a column, in the order of its pieces. A piece whose value has no word has none.
@@ -54,11 +54,7 @@ fn word_of(alloc: Global, name: &str, slug: &str) -> Result<Word, Memory>
 
     ensures ok { IfOk result (λ w. w ≡ named name.now slug.now) }
 {
-    let mut bytes = Vec::with_capacity(alloc, name.len() + slug.len() + 2)?;
-    bytes.push(b':')?;
-    bytes.extend_from_slice(name.as_bytes())?;
-    bytes.push(b':')?;
-    bytes.extend_from_slice(slug.as_bytes())?;
-    let word = Word::new(alloc, bytes.as_slice())?;
+    let text = named_word(alloc, name, slug)?;
+    let word = Word::new(alloc, text.as_str().as_bytes())?;
     Ok(word)
 }

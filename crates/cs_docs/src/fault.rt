@@ -1,4 +1,9 @@
 //! Why a collection is refused.
+ghost use Rattle.std.specs.Prelude.{◌≡◌};
+ghost use Rattle.std.specs.Option.{option_map};
+ghost use Rattle.cs_model.specs.Collection.{in_line, refusal_words};
+ghost use Rattle.cs_docs.specs.Refusals.{refusal_of, rows_refusal_of, reason_text};
+
 use cs_base::Memory;
 use thiserror::Error;
 
@@ -15,7 +20,7 @@ pub enum DocFault {
         line: u32,
     },
     /// The line has more than `MAX_LINE_BYTES` bytes.
-    #[error("line {line}: too long")]
+    #[error("line {line}: line too long")]
     LineTooLong {
         /// The line's number.
         line: u32,
@@ -58,6 +63,60 @@ pub enum RowsFault {
     /// Memory ran out.
     #[error("out of memory")]
     Memory,
+}
+
+/// Why something isn't accepted, in words.
+#[derive(Clone, Copy, Debug, PartialEq, Eq)]
+pub struct Reason<'a> {
+    /// The number of the line that it is said of, from 1; None where it is said of the whole.
+    pub line: Option<u64>,
+    /// What is said.
+    pub words: &'a [u8],
+}
+
+impl DocFault {
+    /// The words of a refusal; None where memory ran out.
+    pub fn reason(self) -> Option<Reason<'static>>
+        ensures { option_map reason_text result ≡ option_map refusal_words (refusal_of self) }
+    {
+        match self {
+            DocFault::TooLarge => Some(of_whole(b"too large")),
+            DocFault::NotUtf8 { line } => Some(of_line(line, b"not UTF-8")),
+            DocFault::LineTooLong { line } => Some(of_line(line, b"line too long")),
+            DocFault::WordsTooMany { line } => Some(of_line(line, b"too many words")),
+            DocFault::BadFacet { line } => Some(of_line(line, b"bad facet")),
+            DocFault::BadName { line } => Some(of_line(line, b"bad facet name")),
+            DocFault::TooManyDocs { line } => Some(of_line(line, b"too many documents")),
+            DocFault::Memory => None,
+        }
+    }
+}
+
+impl RowsFault {
+    /// The words of a refusal; None where memory ran out.
+    pub fn reason(self) -> Option<Reason<'static>>
+        ensures { option_map reason_text result ≡ option_map refusal_words (rows_refusal_of self) }
+    {
+        match self {
+            RowsFault::TooManyRows => Some(of_whole(b"too many rows")),
+            RowsFault::Memory => None,
+        }
+    }
+}
+
+fn of_whole(words: &'static [u8]) -> Reason<'static>
+    ensures { reason_text result ≡ words.now }
+{
+    Reason { line: None, words }
+}
+
+fn of_line(line: u32, words: &'static [u8]) -> Reason<'static>
+    ensures { reason_text result ≡ in_line line words.now }
+{
+    Reason {
+        line: Some(u64::from(line)),
+        words,
+    }
 }
 
 impl From<Memory> for DocFault {

@@ -8,12 +8,15 @@ mod document;
 mod facet;
 mod fault;
 pub mod laws;
+mod lines;
 mod pieces;
 mod reader;
 mod row_list;
 
-pub use fault::{DocFault, RowsFault};
-pub use reader::{BYTE_ORDER_MARK, read_docs, without_return};
+pub use cs_base::Doc;
+pub use fault::{DocFault, Reason, RowsFault};
+pub use lines::{BYTE_ORDER_MARK, first_end};
+pub use reader::read_docs;
 pub use row_list::rows_of;
 
 #[cfg(test)]

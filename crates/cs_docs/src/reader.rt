@@ -6,12 +6,9 @@ ghost use Rattle.cs_docs.specs.Refusals.{IsCauseOf};
 
 use crate::document::push_document;
 use crate::fault::DocFault;
+use crate::lines::{first_line, without_mark};
 use cs_base::{Doc, MAX_COLLECTION_BYTES, MAX_DOCS, Seq};
-use memchr::memchr;
 use std::alloc::Global;
-
-/// The byte order mark of UTF-8, which may stand in front of a text.
-pub const BYTE_ORDER_MARK: &[u8] = b"\xEF\xBB\xBF";
 
 /// The documents of a collection, in the order of their lines.
 ///
@@ -28,22 +25,6 @@ pub fn read_docs(alloc: Global, bytes: &[u8]) -> Result<Seq<Doc>, DocFault>
     ensures few { OnOk result (length (documents bytes.now) ≤ MAX_DOCS) }
 
     // Each fault but want of memory is the first refusal.
-    ensures too_large { IsErrOf result DocFault.TooLarge → docs_refusal bytes.now ≡ Some too_large }
-    ensures not_utf8 { (n : ℕ) → IsErrOf result (DocFault.NotUtf8 n) → docs_refusal bytes.now ≡ Some (not_utf8 n) }
-    ensures line_too_long { (n : ℕ) → IsErrOf result (DocFault.LineTooLong n) → docs_refusal bytes.now ≡ Some (line_too_long n) }
-    ensures words_too_many { (n : ℕ) → IsErrOf result (DocFault.WordsTooMany n) → docs_refusal bytes.now ≡ Some (words_too_many n) }
-    ensures bad_facet { (n : ℕ) → IsErrOf result (DocFault.BadFacet n) → docs_refusal bytes.now ≡ Some (bad_facet n) }
-    ensures bad_name { (n : ℕ) → IsErrOf result (DocFault.BadName n) → docs_refusal bytes.now ≡ Some (bad_name n) }
-    ensures too_many_docs { (n : ℕ) → IsErrOf result (DocFault.TooManyDocs n) → docs_refusal bytes.now ≡ Some (too_many_docs n) }
-{
-    let docs = read_lines(alloc, bytes)?;
-    Ok(docs)
-}
-
-// The same, with the cause of a fault in one clause.
-fn read_lines(alloc: Global, bytes: &[u8]) -> Result<Seq<Doc>, DocFault>
-    ensures ok { IfOk result (λ docs. docs ≡ documents bytes.now) }
-    ensures accepted { OnOk result (docs_refusal bytes.now ≡ None) }
     ensures err { IfErr result (λ e. IsCauseOf (docs_refusal bytes.now) e) }
 {
     if bytes.len() > MAX_COLLECTION_BYTES {
@@ -59,35 +40,4 @@ fn read_lines(alloc: Global, bytes: &[u8]) -> Result<Seq<Doc>, DocFault>
         rest = after;
     }
     Ok(docs)
-}
-
-// The bytes without the mark EF BB BF in front, if it is there.
-fn without_mark(bytes: &[u8]) -> &[u8]
-    ensures { result.now ≡ without_mark bytes.now }
-{
-    bytes.strip_prefix(BYTE_ORDER_MARK).unwrap_or(bytes)
-}
-
-// The first line of a text that has bytes, without its ending, and what stands behind that. LF ends
-// a line, with one CR directly before it; the last line needs no ending.
-fn first_line(text: &[u8]) -> (&[u8], &[u8])
-    requires { 0 < length text.now }
-
-    ensures lines { lines text.now ≡ result.0.now ∷ lines result.1.now }
-    ensures shorter { length result.1.now < length text.now }
-{
-    match memchr(b'\n', text) {
-        Some(at) => (without_return(&text[..at]), &text[at + 1..]),
-        None => (text, &[]),
-    }
-}
-
-/// The line without the one carriage return at its end, if it has one: CR directly before LF belongs to a line's ending.
-pub fn without_return(line: &[u8]) -> &[u8]
-    ensures { result.now ≡ strip_carriage_return line.now }
-{
-    match line.last() {
-        Some(b'\r') => &line[..line.len() - 1],
-        _ => line,
-    }
 }

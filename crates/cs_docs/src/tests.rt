@@ -1,6 +1,6 @@
 //! What no clause says: that the calls succeed where there is memory, and that the definitions give what
 //! `docs/MEANING.md` says of them.
-use crate::{DocFault, read_docs, rows_of};
+use crate::{DocFault, RowsFault, read_docs, rows_of};
 use std::alloc::Global;
 use std::test::Fail;
 
@@ -138,4 +138,33 @@ fn refusal(alloc: Global, bytes: &[u8]) -> Option<DocFault> {
         Ok(_) => None,
         Err(fault) => Some(fault),
     }
+}
+
+// A fault, and its text.
+#[test]
+fn faults_have_these_texts(rt: HostRuntime) -> Result<(), Fail> {
+    let of_documents = [
+        (DocFault::TooLarge, "too large"),
+        (DocFault::NotUtf8 { line: 1 }, "line 1: not UTF-8"),
+        (DocFault::LineTooLong { line: 2 }, "line 2: line too long"),
+        (DocFault::WordsTooMany { line: 3 }, "line 3: too many words"),
+        (DocFault::BadFacet { line: 4 }, "line 4: bad facet"),
+        (DocFault::BadName { line: 5 }, "line 5: bad facet name"),
+        (
+            DocFault::TooManyDocs { line: 1_048_577 },
+            "line 1048577: too many documents",
+        ),
+        (DocFault::Memory, "out of memory"),
+    ];
+    for (fault, want) in of_documents {
+        assert_eq!(rt; format!(in rt.alloc(); "{fault}")?.as_str(), want);
+    }
+    let of_rows = [
+        (RowsFault::TooManyRows, "too many rows"),
+        (RowsFault::Memory, "out of memory"),
+    ];
+    for (fault, want) in of_rows {
+        assert_eq!(rt; format!(in rt.alloc(); "{fault}")?.as_str(), want);
+    }
+    Ok(())
 }

@@ -3,10 +3,11 @@
 --   CorpusView             titles by document, and rows by document, position and word
 --   view_of docs           those of a list of documents
 --   corpus_of_view v       the corpus that has them
+--   corpus_refusal_of e    the refusal of a collection that the fault e names; None for want of memory
 --   has_join q             a join stands somewhere in the query
 --   atom_has_join, linked_has_join, chain_has_join, part_has_join      a join stands somewhere in these
 --   is_join, linked_joins, chain_joins, part_joins, query_joins        one level of a query, with whether its parts have a join in their places
-use Rattle.std.specs.Prelude.{ℕ, Bool, true, false, ◌||◌, List, map}
+use Rattle.std.specs.Prelude.{ℕ, Bool, true, false, ◌||◌, List, map, Option, Some, None}
 use Rattle.std.specs.List.{list_any}
 use Rattle.cs_base.specs.declared.doc.Doc.{Doc}
 use Rattle.cs_base.specs.declared.doc.Row.{Row}
@@ -17,7 +18,10 @@ use Rattle.cs_base.specs.declared.query.Chain.{Chain}
 use Rattle.cs_base.specs.declared.query.Linked.{Linked}
 use Rattle.cs_base.specs.declared.query.Atom.{Atom}
 use Rattle.cs_base.specs.declared.query.Atom.TheFolds.{fold-Query, fold-Part, fold-Chain, fold-Linked, fold-Atom}
+use Rattle.cs_model.specs.Collection.{CollectionRefusal, too_many_words}
 use Rattle.cs_model.specs.Corpus.{Corpus, by_number, rows_of, title_of}
+use Rattle.cs_engine.specs.declared.corpus.CorpusFault.{CorpusFault}
+use Rattle.cs_engine.specs.declared.corpus.CorpusFault.TheVariants.{TooManyWords, Memory}
 
 -- the title of document 0 comes first, and rows are in the order of a corpus
 pub record CorpusView : Type 0 where
@@ -31,6 +35,11 @@ view_of docs = record { titles = map title_of docs; rows = rows_of docs }
 -- of the view of documents it is their corpus
 abbrev pub corpus_of_view : CorpusView → Corpus
 corpus_of_view v = record { titles = by_number v.titles; rows = v.rows }
+
+-- want of memory names none
+abbrev pub corpus_refusal_of : CorpusFault → Option CollectionRefusal
+corpus_refusal_of TooManyWords = Some too_many_words
+corpus_refusal_of Memory = None
 
 -- ---- joins, level by level
 -- the atom itself is a join

@@ -12,7 +12,7 @@ ghost use Rattle.cs_engine.specs.Stocked.{rows_at, corpus_in, IsStocked, IsPicke
 use crate::stock::Stock;
 use cs_base::{Atom, Memory, Text};
 use cs_cols::Cols;
-use cs_query::named_word;
+use cs_text::named_word;
 use cs_vocab::Vocab;
 use std::alloc::Global;
 

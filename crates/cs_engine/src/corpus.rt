@@ -1,18 +1,22 @@
 //! A corpus in memory, and its replies.
 ghost use Rattle.std.specs.Prelude.{◌≡◌, ◌≤◌, ◌<◌, false, length, IfOk, OnOk, IsErrOf};
 ghost use Rattle.std.specs.List.{All};
+ghost use Rattle.std.specs.Option.{option_map};
 ghost use Rattle.std.specs.Str.{IsUtf8};
 ghost use Rattle.cs_base.specs.declared.limits.TheConstants.{MAX_DOCS, MAX_ROWS, MAX_WORDS};
+ghost use Rattle.cs_docs.specs.Refusals.{reason_text};
+ghost use Rattle.cs_model.specs.Collection.{refusal_words};
 ghost use Rattle.cs_model.specs.Corpus.{rows_of, distinct_words};
 ghost use Rattle.cs_model.specs.Parameters.{HoldsLimits};
 ghost use Rattle.cs_model.specs.Requests.{reply_of};
 ghost use Rattle.cs_query.specs.RequestView.{asked};
-ghost use Rattle.cs_engine.specs.Searching.{view_of, corpus_of_view, has_join};
+ghost use Rattle.cs_engine.specs.Searching.{view_of, corpus_of_view, corpus_refusal_of, has_join};
 
 use crate::building::{posts_of, titles_of};
 use crate::replies::reply_to;
 use crate::stock::Stock;
 use cs_base::{Doc, MAX_WORDS, Memory, Row, Seq};
+use cs_docs::Reason;
 use cs_query::{Reply, Request};
 use cs_vocab::Vocab;
 use std::alloc::Global;
@@ -81,6 +85,21 @@ impl Corpus {
     {
         let reply = reply_to(alloc, &self.stock, request)?;
         Ok(reply)
+    }
+}
+
+impl CorpusFault {
+    /// The words of a refusal; None where memory ran out.
+    pub fn reason(self) -> Option<Reason<'static>>
+        ensures { option_map reason_text result ≡ option_map refusal_words (corpus_refusal_of self) }
+    {
+        match self {
+            CorpusFault::TooManyWords => Some(Reason {
+                line: None,
+                words: b"too many distinct words",
+            }),
+            CorpusFault::Memory => None,
+        }
     }
 }
 

@@ -4,7 +4,7 @@ ghost use Rattle.std.specs.List.{All};
 ghost use Rattle.std.specs.Str.{IsUtf8};
 ghost use Rattle.cs_model.specs.Parameters.{HoldsLimits};
 ghost use Rattle.cs_model.specs.Requests.{reply_of, hit_shown};
-ghost use Rattle.cs_model.specs.Collection.{shown_word};
+ghost use Rattle.cs_model.specs.Replies.{shown_word};
 ghost use Rattle.cs_query.specs.RequestView.{asked};
 ghost use Rattle.cs_rank.specs.DocScores.{IsBase};
 ghost use Rattle.cs_engine.specs.Searching.{has_join};

@@ -11,4 +11,5 @@ mod parameters;
 #[cfg(test)]
 mod tests;
 
+pub use cs_query::{Param, ReqFault, Request};
 pub use parameters::request;

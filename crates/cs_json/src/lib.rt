@@ -7,6 +7,7 @@
 mod fault;
 mod reply;
 
+pub use cs_query::{FacetShown, HitShown, Param, Reply, ReqFault, Shown};
 pub use fault::{Fault, fault_bytes};
 pub use reply::reply_bytes;
 

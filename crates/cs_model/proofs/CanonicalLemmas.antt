@@ -13,8 +13,7 @@ use Rattle.cs_base.specs.declared.query.Atom.{Prefix, Exact, roll-Atom}
 use Rattle.cs_base.specs.declared.query.Atom.TheVariants.{rolls-Prefix, rolls-Exact}
 use Rattle.cs_base.specs.declared.query.Atom.TheOpen.{Atom-F}
 use Rattle.cs_base.specs.declared.query.Atom.TheFolds.{fold-roll-Query, fold-roll-Part, fold-roll-Chain, fold-roll-Linked, fold-roll-Atom}
-use Rattle.cs_model.specs.Collection.{shown_word}
-use Rattle.cs_model.specs.Canonical.{Bytes, atom_text, chain_text, linked_text, part_text, query_text, link_text, canonical, canonical_parts, canonical_part, canonical_chain, canonical_linked, canonical_atom}
+use Rattle.cs_model.specs.Canonical.{Bytes, atom_text, chain_text, linked_text, part_text, query_text, link_text, canonical, canonical_parts, canonical_part, canonical_chain, canonical_linked, canonical_atom, word_text}
 
 pub query_shape : (q : Query) → canonical q ≡ canonical_parts (out-Query q).parts
 query_shape q = ap canonical (sym (roll-out-Query q)) ∙ fold-roll-Query Bytes Bytes Bytes Bytes Bytes atom_text chain_text linked_text part_text query_text (out-Query q)
@@ -28,10 +27,10 @@ chain_shape c = ap canonical_chain (sym (roll-out-Chain c)) ∙ fold-roll-Chain 
 pub linked_shape : (l : Linked) → canonical_linked l ≡ link_text (out-Linked l).link ++ canonical_atom (out-Linked l).atom
 linked_shape l = ap canonical_linked (sym (roll-out-Linked l)) ∙ fold-roll-Linked Bytes Bytes Bytes Bytes Bytes atom_text chain_text linked_text part_text query_text (out-Linked l)
 
-pub prefix_shape : (w : List ℕ) → canonical_atom (Prefix w) ≡ shown_word w
+pub prefix_shape : (w : List ℕ) → canonical_atom (Prefix w) ≡ word_text w
 prefix_shape w = ap canonical_atom (sym (rolls-Prefix w)) ∙ fold-roll-Atom Bytes Bytes Bytes Bytes Bytes atom_text chain_text linked_text part_text query_text (Atom-F.Prefix w)
 
-pub exact_shape : (w : List ℕ) → canonical_atom (Exact w) ≡ shown_word w ++ codes "$"
+pub exact_shape : (w : List ℕ) → canonical_atom (Exact w) ≡ word_text w ++ codes "$"
 exact_shape w = ap canonical_atom (sym (rolls-Exact w)) ∙ fold-roll-Atom Bytes Bytes Bytes Bytes Bytes atom_text chain_text linked_text part_text query_text (Atom-F.Exact w)
 
 pub join_shape : (n : List ℕ) (q : Query) → canonical_atom (roll-Atom (Atom-F.Join n q)) ≡ n ++ codes "[" ++ canonical q ++ codes "]"

@@ -9,7 +9,8 @@ use Rattle.unicode.specs.GeneralCategory.{general_category}
 use Rattle.cs_model.specs.First.{first_reason}
 use Rattle.cs_model.specs.KeyText.{norm}
 use Rattle.cs_model.specs.Words.{is_word_char, cut, words}
-use Rattle.cs_model.specs.Collection.{collection_lines, doc_lines, columns, facet_pieces, facet_words, has_name_form, too_large, not_utf8, bad_facet, bad_name, docs_refusal, documents, shown_word}
+use Rattle.cs_model.specs.Collection.{collection_lines, doc_lines, columns, facet_pieces, facet_words, has_name_form, too_large, not_utf8, bad_facet, bad_name, docs_refusal, documents}
+use Rattle.cs_model.specs.Replies.{shown_word}
 use Rattle.cs_model.specs.Outputs.{script_lines}
 use lib.Utf8
 

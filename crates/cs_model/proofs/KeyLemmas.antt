@@ -26,8 +26,7 @@ use Rattle.cs_base.specs.declared.query.Atom.{Atom, Prefix, roll-Atom, out-Atom,
 use Rattle.cs_base.specs.declared.query.Atom.TheVariants.{rolls-Prefix}
 use Rattle.cs_base.specs.declared.query.Atom.TheOpen.{Atom-F}
 use Rattle.cs_model.specs.Grammar.{on_last, with_chains}
-use Rattle.cs_model.specs.Collection.{shown_word}
-use Rattle.cs_model.specs.Canonical.{link_text, canonical, canonical_parts, canonical_part, canonical_chain, canonical_linked, canonical_atom}
+use Rattle.cs_model.specs.Canonical.{link_text, word_text, canonical, canonical_parts, canonical_part, canonical_chain, canonical_linked, canonical_atom}
 use Rattle.cs_model.specs.Keys.{last_of, prefix_in, last_atom, chain_prefix, chains_prefix, part_prefix, last_prefix, relinked, ended_by, with_prefix, shorter, is_left}
 use Rattle.cs_model.proofs.CanonicalLemmas.{query_shape, part_shape, chain_shape, linked_shape, prefix_shape}
 use Rattle.cs_model.proofs.LastEntries.{is_none, sign_before, join_push, concat_push}
@@ -55,8 +54,8 @@ has_last x (y ∷ ys) = has_last y ys
 -- ---- a text that ends in a word, and with other words in its place
 record EndsIn (text : List ℕ) (other : List ℕ → List ℕ) (p : List ℕ) : Type 0 where
   front : List ℕ
-  whole : text ≡ front ++ shown_word p
-  changed : (w : List ℕ) → other w ≡ front ++ shown_word w
+  whole : text ≡ front ++ word_text p
+  changed : (w : List ℕ) → other w ≡ front ++ word_text w
 
 prefix_of : (z : Atom-F Atom Chain Linked Part Query) (p : List ℕ) → prefix_in z ≡ Some p → z ≡ Atom-F.Prefix p
 prefix_of (Atom-F.Prefix r) p h = ap Atom-F.Prefix (unsome r p h)
@@ -66,7 +65,7 @@ prefix_of (Atom-F.Prefix r) p h = ap Atom-F.Prefix (unsome r p h)
 prefix_of (Atom-F.Exact w) p h = absurd (let no : None ≡ Some p = h in cc)
 prefix_of (Atom-F.Join n q) p h = absurd (let no : None ≡ Some p = h in cc)
 
-atom_prefix : (a : Atom) (p : List ℕ) → prefix_in (out-Atom a) ≡ Some p → canonical_atom a ≡ shown_word p
+atom_prefix : (a : Atom) (p : List ℕ) → prefix_in (out-Atom a) ≡ Some p → canonical_atom a ≡ word_text p
 atom_prefix a p h = ap canonical_atom (sym (roll-out-Atom a) ∙ ap roll-Atom (prefix_of (out-Atom a) p h) ∙ rolls-Prefix p) ∙ prefix_shape p
 
 first_ends : (a : Atom) (p : List ℕ) → prefix_in (out-Atom a) ≡ Some p → EndsIn (canonical_atom a ++ concat (map canonical_linked [])) (λ w. canonical_chain (ended_by w a [])) p
@@ -86,11 +85,11 @@ linked_ends a ls ms m p e h =
     record {
       front = x ++ y ++ z;
       whole = ap (λ l. x ++ concat (map canonical_linked l)) e ∙ ap (λ t. x ++ t) (concat_push canonical_linked ms m)
-          ∙ ap (λ t. x ++ (y ++ t)) (linked_shape m) ∙ ap (λ t. x ++ (y ++ (z ++ t))) (atom_prefix (out-Linked m).atom p h) ∙ parts (shown_word p);
+          ∙ ap (λ t. x ++ (y ++ t)) (linked_shape m) ∙ ap (λ t. x ++ (y ++ (z ++ t))) (atom_prefix (out-Linked m).atom p h) ∙ parts (word_text p);
       changed = λ w. rolled_chain a (on_last (relinked w) ls)
           ∙ ap (λ l. x ++ concat (map canonical_linked l)) (ap (on_last (relinked w)) e ∙ on_last-append (relinked w) ms m)
           ∙ ap (λ t. x ++ t) (concat_push canonical_linked ms (relinked w m))
-          ∙ ap (λ t. x ++ (y ++ t)) (rolled_linked (out-Linked m).link (Prefix w)) ∙ ap (λ t. x ++ (y ++ (z ++ t))) (prefix_shape w) ∙ parts (shown_word w);
+          ∙ ap (λ t. x ++ (y ++ t)) (rolled_linked (out-Linked m).link (Prefix w)) ∙ ap (λ t. x ++ (y ++ (z ++ t))) (prefix_shape w) ∙ parts (word_text w);
     }
 
 atoms_end : (a : Atom) (ls : List Linked) (p : List ℕ) → prefix_in (out-Atom (last_atom a (last_of ls))) ≡ Some p
@@ -149,10 +148,10 @@ parts_end q ps x p is h =
     let group : (t : List ℕ) → a ++ (b ++ (e.front ++ t)) ≡ a ++ b ++ e.front ++ t = λ t. simp append_assoc refl in
     record {
       front = a ++ b ++ e.front;
-      whole = query_shape q ∙ ap canonical_parts is ∙ last_part_text ps x ∙ ap (λ t. a ++ (b ++ t)) e.whole ∙ group (shown_word p);
+      whole = query_shape q ∙ ap canonical_parts is ∙ last_part_text ps x ∙ ap (λ t. a ++ (b ++ t)) e.whole ∙ group (word_text p);
       changed = λ w. rolled_query (on_last (with_chains (on_last (ending w))) (out-Query q).parts)
           ∙ ap canonical_parts (ap (on_last (with_chains (on_last (ending w)))) is ∙ on_last-append (with_chains (on_last (ending w))) ps x)
-          ∙ last_part_text ps (with_chains (on_last (ending w)) x) ∙ ap (λ t. a ++ (b ++ t)) (e.changed w) ∙ group (shown_word w);
+          ∙ last_part_text ps (with_chains (on_last (ending w)) x) ∙ ap (λ t. a ++ (b ++ t)) (e.changed w) ∙ group (word_text w);
     }
 
 query_ends_at : (q : Query) (o : Option Part) (p : List ℕ) → last_of (out-Query q).parts ≡ o → part_prefix o ≡ Some p → EndsIn (canonical q) (λ w. canonical (with_prefix w q)) p
@@ -167,7 +166,7 @@ shown_more_at : (b : Bool) (x : ℕ) (w more : List ℕ) → (if b then (w ++ mo
 shown_more_at true x w more = refl
 shown_more_at false x w more = refl
 
-shown_more : (w more : List ℕ) → 1 ≤ length w → shown_word (w ++ more) ≡ shown_word w ++ more
+shown_more : (w more : List ℕ) → 1 ≤ length w → word_text (w ++ more) ≡ word_text w ++ more
 shown_more [] more h = absurd (omega (arith, h))
 shown_more (x ∷ w) more h = shown_more_at (x == 58) x w more
 
@@ -175,7 +174,7 @@ shown_more (x ∷ w) more h = shown_more_at (x == 58) x w more
 within : (q : Query) (w p more : List ℕ) → p ≡ w ++ more → last_prefix q ≡ Some p → 1 ≤ length w → canonical q ≡ canonical (with_prefix w q) ++ more
 within q w p more e h some =
     let i = query_ends q p h in
-    i.whole ∙ ap (λ l. i.front ++ l) (ap shown_word e ∙ shown_more w more some) ∙ sym (append_assoc i.front (shown_word w) more) ∙ ap (λ l. l ++ more) (sym (i.changed w))
+    i.whole ∙ ap (λ l. i.front ++ l) (ap word_text e ∙ shown_more w more some) ∙ sym (append_assoc i.front (word_text w) more) ∙ ap (λ l. l ++ more) (sym (i.changed w))
 
 -- it is the query's text without as many bytes as the prefix is cut
 pub record Shortened (q : Query) (w p : List ℕ) (n : ℕ) : Type 0 where
@@ -199,13 +198,13 @@ shortened q w p more n h is u some e =
 
 -- the prefix has at most one byte more than the query's text
 pub prefix_short : (q : Query) (p : List ℕ) → last_prefix q ≡ Some p → length p ≤ length (canonical q) + 1
-prefix_short q p h = let e = query_ends q p h in omega (arith, ap length e.whole, length-append e.front (shown_word p), shown_short p)
+prefix_short q p h = let e = query_ends q p h in omega (arith, ap length e.whole, length-append e.front (word_text p), shown_short p)
   where
     shown_at : (b : Bool) (x : ℕ) (w : List ℕ) → length (x ∷ w) ≤ length (if b then w else (x ∷ w)) + 1
     shown_at true x w = omega arith
     shown_at false x w = omega arith
 
-    shown_short : (w : List ℕ) → length w ≤ length (shown_word w) + 1
+    shown_short : (w : List ℕ) → length w ≤ length (word_text w) + 1
     shown_short [] = omega arith
     shown_short (x ∷ w) = shown_at (x == 58) x w
 

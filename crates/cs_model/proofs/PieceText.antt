@@ -1,6 +1,6 @@
 -- The canonical text of what pieces are read as is their text.
 --
---   word_shown           a word is shown as it is
+--   word_spelled           a word is shown as it is
 --   facet_bytes          the bytes of a facet's name, the colon and its value
 --   Printed ps r         the reading r has the text of the pieces ps
 --   printed              so has that of their steps
@@ -19,9 +19,9 @@ use Rattle.cs_model.specs.declared.kinds.Level.{Level}
 use Rattle.cs_model.specs.declared.kinds.Tie.{Tie}
 use Rattle.cs_model.specs.declared.kinds.Tie.TheVariants.{Begins, Alternative, Linked as LinkedBy}
 use Rattle.cs_model.specs.Words.{is_word_char}
-use Rattle.cs_model.specs.Collection.{named, shown_word}
+use Rattle.cs_model.specs.Collection.{named}
 use Rattle.cs_model.specs.Grammar.{Enter, Reading, reading, taken, leave, attached, join}
-use Rattle.cs_model.specs.Canonical.{canonical_parts, canonical_atom}
+use Rattle.cs_model.specs.Canonical.{canonical_parts, canonical_atom, word_text}
 use Rattle.cs_model.proofs.CanonicalLemmas.{prefix_shape, exact_shape}
 use Rattle.cs_model.proofs.LastEntries.{is_none, Last, last_some}
 use Rattle.cs_model.proofs.AttachedText.{HasChain, Takes, attached_text, attached_ready, join_text}
@@ -44,9 +44,9 @@ shown_at true x w e h =
     let first : chars (x ∷ w) ≡ 58 ∷ chars w = chars_past_char (x ∷ w) w 58 h.utf8 (ap (λ y. y ∷ w) colon ∙ ap (λ l. l ++ w) (sym colon_alone)) in
     absurd (colon_no_letter ((and_parts (is_word_char 58) (list_all is_word_char (chars w)) (ap (list_all is_word_char) (sym first) ∙ h.letters)).0))
 
-pub word_shown : (w : List ℕ) → IsWord w → shown_word w ≡ w
-word_shown [] h = refl
-word_shown (x ∷ w) h = shown_at (x == 58) x w refl h
+pub word_spelled : (w : List ℕ) → IsWord w → word_text w ≡ w
+word_spelled [] h = refl
+word_spelled (x ∷ w) h = shown_at (x == 58) x w refl h
 
 -- ---- bytes
 pub dollar_alone : encode_utf8 36 ≡ 36 ∷ []
@@ -82,10 +82,10 @@ facet_bytes n v hn hv =
     ∙ ap (λ t. n ++ (t ++ v)) colon_alone
 
 prefix_bytes : (w : List ℕ) → IsWord w → canonical_atom (Prefix w) ≡ encode_utf8_all (chars w)
-prefix_bytes w h = prefix_shape w ∙ word_shown w h ∙ sym (encodes-chars w h.utf8)
+prefix_bytes w h = prefix_shape w ∙ word_spelled w h ∙ sym (encodes-chars w h.utf8)
 
 exact_bytes : (w : List ℕ) → IsWord w → canonical_atom (Exact w) ≡ encode_utf8_all (chars w ++ 36 ∷ [])
-exact_bytes w h = exact_shape w ∙ ap (λ t. t ++ 36 ∷ []) (word_shown w h ∙ sym (encodes-chars w h.utf8)) ∙ sym (sign_behind (chars w) 36 dollar_alone)
+exact_bytes w h = exact_shape w ∙ ap (λ t. t ++ 36 ∷ []) (word_spelled w h ∙ sym (encodes-chars w h.utf8)) ∙ sym (sign_behind (chars w) 36 dollar_alone)
 
 value_bytes : (n v : List ℕ) → IsWord n → IsValue v → canonical_atom (Prefix (named n v)) ≡ encode_utf8_all (chars n ++ 58 ∷ chars v)
 value_bytes n v hn hv = prefix_shape (named n v) ∙ sym (facet_bytes n v hn hv)

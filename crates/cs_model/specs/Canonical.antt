@@ -5,8 +5,9 @@
 -- It is built from the atoms up: each atom becomes its text, each chain the texts of its atoms with their links, and so on.
 --
 --   Bytes                                  texts as lists of bytes
+--   word_text w                            a word, that of a facet as name:value
 --   link_text l                            the sign of a link: . or ..
---   atom_text                              a word as it is shown, with $ behind it where it is exact; of a join name[query]
+--   atom_text                              the text of a word, with $ behind it where it is exact; of a join name[query]
 --   linked_text                            an atom behind the sign of its link
 --   chain_text                             the atoms of a chain, each but the first behind the sign of its link
 --   part_text                              the alternatives with | between each two, behind a - where the part is excluded
@@ -16,9 +17,9 @@
 --   canonical_part p, canonical_chain c    the same of a part and of a chain
 --   canonical_linked l, canonical_atom a   and of a linked atom and an atom
 --   canonical_parts ps                     the canonical text of the query with the parts ps; of no part the empty text
-use Rattle.std.specs.Prelude.{ℕ, if◌then◌else◌, List, [], ◌++◌, map, codes}
+use Rattle.std.specs.Prelude.{ℕ, ◌==◌, if◌then◌else◌, List, [], ◌∷◌, ◌++◌, map, codes}
 use Rattle.std.specs.List.{concat, join_with_byte}
-use Rattle.cs_base.specs.Bytes.{space, bar}
+use Rattle.cs_base.specs.Bytes.{colon, space, bar}
 use Rattle.cs_base.specs.declared.query.Link.{Link}
 use Rattle.cs_base.specs.declared.query.Link.TheVariants.{Phrase, Near}
 use Rattle.cs_base.specs.declared.query.Query.{Query}
@@ -28,13 +29,17 @@ use Rattle.cs_base.specs.declared.query.Linked.{Linked}
 use Rattle.cs_base.specs.declared.query.Atom.{Atom}
 use Rattle.cs_base.specs.declared.query.Atom.TheOpen.{Atom-F, Query-F, Part-F, Chain-F, Linked-F}
 use Rattle.cs_base.specs.declared.query.Atom.TheFolds.{fold-Query, fold-Part, fold-Chain, fold-Linked, fold-Atom}
-use Rattle.cs_model.specs.Collection.{shown_word}
 
 -- a text as its bytes
 abbrev pub Bytes : Type 0
 Bytes = List ℕ
 
 -- ---- level by level
+-- a word in a query, that of a facet without its leading colon; the empty text stays empty
+abbrev pub word_text : Bytes → Bytes
+word_text [] = []
+word_text (b ∷ bs) = if b == colon then bs else b ∷ bs
+
 -- one dot for a phrase, two for nearness
 abbrev pub link_text : Link → Bytes
 link_text Phrase = codes "."
@@ -42,8 +47,8 @@ link_text Near = codes ".."
 
 -- the text of an atom, a facet's word without its leading colon, as name:value; of a join whose query is empty name[]
 abbrev pub atom_text : Atom-F Bytes Bytes Bytes Bytes Bytes → Bytes
-atom_text (Atom-F.Prefix w) = shown_word w
-atom_text (Atom-F.Exact w) = shown_word w ++ codes "$"
+atom_text (Atom-F.Prefix w) = word_text w
+atom_text (Atom-F.Exact w) = word_text w ++ codes "$"
 atom_text (Atom-F.Join name inner) = name ++ codes "[" ++ inner ++ codes "]"
 
 -- an atom behind the sign of its link

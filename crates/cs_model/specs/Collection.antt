@@ -20,11 +20,12 @@
 --   piece_name p               the key text of what stands before the first `=`, without spaces at its end
 --   piece_value p              what stands behind the first `=`; nothing where there is none
 --   named n v                  the word `:n:v` of a facet
---   shown_word w               a word as it is shown: that of a facet without its leading colon
 --   facet_word p               the word `:name:slug` of a piece; None where its value has no word
 --   facet_words column         the facet words of a column; none for the empty column
 --   CollectionRefusal          why a collection isn't accepted: too_large, not_utf8, line_too_long, words_too_many,
 --                              bad_facet, bad_name, too_many_docs, too_many_rows, too_many_words
+--   in_line n w                what is said of line n
+--   refusal_words r            why a collection isn't accepted, in words
 --   piece_refusal n p          a piece of line n without `=`, else one without a name; None where it has both
 --   word_count cs              the number of title and text words together; 0 where there is none
 --   line_refusal l             the first rule that the line breaks; None where it breaks none
@@ -37,7 +38,8 @@
 --
 -- LF ends a line, with one CR directly before it. The last line needs no ending, and a CR at its end then belongs to it. A
 -- tab behind the second one of a line belongs to its text. A name is read by its key text, a value by its slug.
-use Rattle.std.specs.Prelude.{ℕ, ◌+◌, ◌-◌, Bool, false, not, ◌&&◌, ◌||◌, ◌==◌, nat_lt, nat_le, nat_eq, if◌then◌else◌, List, [], ◌∷◌, ◌++◌, map, filter, length, take, drop, Option}
+use Rattle.std.specs.Prelude.{ℕ, ◌+◌, ◌-◌, Bool, false, not, ◌&&◌, ◌||◌, ◌==◌, nat_lt, nat_le, nat_eq, if◌then◌else◌, List, [], ◌∷◌, ◌++◌, map, filter, length, take, drop, Option, codes}
+use Rattle.std.specs.Fmt.{decimal}
 use Rattle.std.specs.Option.{option_map}
 use Rattle.std.specs.List.{list_any, list_all, filter_map, enumerate_from, slice_split, before_first, after_first, starts_with, prefix_len, suffix_len}
 use Rattle.std.specs.Int.{is_in_range}
@@ -141,11 +143,6 @@ piece_value p = after_first is_equals p
 abbrev pub named : List ℕ → List ℕ → List ℕ
 named name value = colon ∷ name ++ colon ∷ value
 
--- a word as it is shown, that of a facet without its leading colon; the empty text stays empty
-abbrev pub shown_word : List ℕ → List ℕ
-shown_word [] = []
-shown_word (b ∷ bs) = if b == colon then bs else b ∷ bs
-
 -- the facet word that a piece gives; None where its value has no word
 abbrev pub facet_word : List ℕ → Option (List ℕ)
 facet_word p = option_map (named (piece_name p)) (slug (piece_value p))
@@ -166,6 +163,22 @@ pub data CollectionRefusal : Type 0 where
   too_many_docs : ℕ → CollectionRefusal
   too_many_rows : CollectionRefusal
   too_many_words : CollectionRefusal
+
+-- what is said of a line; lines are numbered from 1
+abbrev pub in_line : ℕ → List ℕ → List ℕ
+in_line n words = codes "line " ++ (decimal n ++ (codes ": " ++ words))
+
+-- why a collection isn't accepted, in words without an ending
+abbrev pub refusal_words : CollectionRefusal → List ℕ
+refusal_words too_large = codes "too large"
+refusal_words (not_utf8 n) = in_line n (codes "not UTF-8")
+refusal_words (line_too_long n) = in_line n (codes "line too long")
+refusal_words (words_too_many n) = in_line n (codes "too many words")
+refusal_words (bad_facet n) = in_line n (codes "bad facet")
+refusal_words (bad_name n) = in_line n (codes "bad facet name")
+refusal_words (too_many_docs n) = in_line n (codes "too many documents")
+refusal_words too_many_rows = codes "too many rows"
+refusal_words too_many_words = codes "too many distinct words"
 
 -- the refusal of a piece of facets on the line of number n; None where a name stands before an `=`
 abbrev pub piece_refusal : ℕ → List ℕ → Option CollectionRefusal

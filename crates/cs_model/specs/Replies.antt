@@ -2,6 +2,7 @@
 --
 -- Source: RFC 8259 for JSON; the keys are this engine's own.
 --
+--   shown_word w                     a word as it is shown: that of a facet without its leading colon
 --   Shown                            a completion, or a facet's word without its leading colon, with the number of its
 --                                    documents
 --   HitShown                         a hit with its score and its title
@@ -18,10 +19,16 @@
 -- The text of a reply is
 --   {"completions":C,"facets":F,"hits":H,"total":{"completions":n,"hits":m}}
 -- where C lists {"docs":n,"word":w}, F has a list like C under each name, and H lists {"doc":d,"score":s,"title":t}.
-use Rattle.std.specs.Prelude.{ℕ, List, map, fold, codes}
+use Rattle.std.specs.Prelude.{ℕ, ◌==◌, if◌then◌else◌, List, [], ◌∷◌, map, fold, codes}
 use Rattle.serde_json.specs.Data.{Data, array, object, string, number, unsigned, Members, no_members, member, put}
 use Rattle.serde_json.specs.View.{items_of}
 use Rattle.serde_json.specs.Written.{compact_text}
+use Rattle.cs_base.specs.Bytes.{colon}
+
+-- a word as it is shown, that of a facet without its leading colon; the empty text stays empty
+abbrev pub shown_word : List ℕ → List ℕ
+shown_word [] = []
+shown_word (b ∷ bs) = if b == colon then bs else b ∷ bs
 
 -- a word as it is shown, with the number of documents that have it
 pub record Shown : Type 0 where

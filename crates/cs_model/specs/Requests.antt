@@ -16,10 +16,9 @@ use Rattle.std.specs.Option.{unwrap_or}
 use Rattle.std.specs.FinMap as map
 use Rattle.cs_base.specs.declared.query.Query.{Query}
 use Rattle.cs_base.specs.declared.doc.Scored.{Scored}
-use Rattle.cs_model.specs.Collection.{shown_word}
 use Rattle.cs_model.specs.Corpus.{Corpus}
 use Rattle.cs_model.specs.Answers.{Completion, PartRows, parts_of, hits, ranked, table, facet_table}
-use Rattle.cs_model.specs.Replies.{Reply, Shown, HitShown, FacetShown}
+use Rattle.cs_model.specs.Replies.{Reply, Shown, HitShown, FacetShown, shown_word}
 
 -- what is asked; the query may be the empty one, each number 0, and no facet need be named
 pub record Request : Type 0 where

@@ -12,7 +12,6 @@ mod classes;
 mod fault;
 mod growing;
 mod keying;
-mod names;
 mod parsing;
 mod printing;
 mod reader;
@@ -25,10 +24,9 @@ mod tails;
 #[cfg(test)]
 mod tests;
 
-pub use cs_base::Which;
+pub use cs_base::{Atom, Chain, Key, Keys, Link, Linked, Narrower, Part, Query, Which};
 pub use fault::QueryFault;
 pub use keying::keys;
-pub use names::named_word;
 pub use parsing::parse;
 pub use printing::print;
 pub use reply::{FacetShown, HitShown, Reply, Shown};

@@ -1,7 +1,6 @@
 //! The canonical text of a query.
 ghost use Rattle.std.specs.Prelude.{◌≡◌, [], ◌++◌, IfOk, OnOk, codes, if◌then◌else◌};
-ghost use Rattle.cs_model.specs.Canonical.{canonical, canonical_atom, canonical_chain, canonical_linked, canonical_part, canonical_parts, link_text};
-ghost use Rattle.cs_model.specs.Collection.{shown_word};
+ghost use Rattle.cs_model.specs.Canonical.{canonical, canonical_atom, canonical_chain, canonical_linked, canonical_part, canonical_parts, link_text, word_text};
 ghost use Rattle.cs_query.specs.Printing.{separator};
 
 use cs_base::{Atom, Chain, Link, Linked, Memory, Part, Query, Text};
@@ -74,9 +73,9 @@ fn put_atom(out: &mut Text, atom: &Atom) -> Result<(), Memory>
     ensures { OnOk result (out.new ≡ out.old ++ canonical_atom atom.now) }
 {
     match atom {
-        Atom::Prefix(word) => out.push_str(shown(word.as_str()))?,
+        Atom::Prefix(word) => out.push_str(word_text(word.as_str()))?,
         Atom::Exact(word) => {
-            out.push_str(shown(word.as_str()))?;
+            out.push_str(word_text(word.as_str()))?;
             out.push('$')?;
         }
         Atom::Join { name, inner } => {
@@ -118,9 +117,9 @@ fn separate(out: &mut Text, index: usize, sign: char) -> Result<(), Memory>
     Ok(())
 }
 
-/// A word as it is shown: that of a facet without its leading colon.
-fn shown(word: &str) -> &str
-    ensures { result.now ≡ shown_word word.now }
+/// A word in a query: that of a facet without its leading colon.
+fn word_text(word: &str) -> &str
+    ensures { result.now ≡ word_text word.now }
 {
     match word.strip_prefix(':') {
         Some(rest) => rest,

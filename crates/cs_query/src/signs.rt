@@ -8,12 +8,11 @@ ghost use Rattle.cs_query.specs.Following.{Follows, Judges, Stands, held};
 use crate::attaching::close_level;
 use crate::beginnings::enter;
 use crate::fault::Stop;
-use crate::names::named_word;
 use crate::reader::{Gathered, Reader, Tail};
 use crate::tails::{add, settle, takes_bar};
 use cs_base::{Atom, Text, Which};
 use cs_model::{Class, Tie};
-use cs_text::has_name_form;
+use cs_text::{has_name_form, named_word};
 use std::alloc::Global;
 
 /// After a dollar.

@@ -6,10 +6,10 @@ ghost use Rattle.cs_model.specs.Refusals.{takes_bar};
 ghost use Rattle.cs_query.specs.Following.{Agrees, Stands, held, settled};
 
 use crate::attaching::attach;
-use crate::names::named_word;
 use crate::reader::{Gathered, Tail};
 use cs_base::{Atom, Link, Memory};
 use cs_model::{Spot, Tie};
+use cs_text::named_word;
 use std::alloc::Global;
 
 /// The tie of an atom directly behind a run.

@@ -6,6 +6,7 @@
 #![tactic(auto)]
 
 mod character;
+mod facet_word;
 mod key_text;
 mod listing;
 mod name;
@@ -16,6 +17,7 @@ mod tests;
 mod value;
 
 pub use character::is_word_char;
+pub use facet_word::named_word;
 pub use key_text::norm;
 pub use listing::words;
 pub use name::has_name_form;

@@ -4,7 +4,7 @@ use Rattle.cs_base.specs.declared.limits.TheConstants.{MAX_COLLECTION_BYTES}
 use Rattle.cs_model.specs.Collection.{documents, docs_refusal}
 use Rattle.cs_docs.specs.Reading.{documents_from}
 use Rattle.cs_docs.specs.Refusals.{refusal_from}
-use Rattle.cs_docs.proofs.reader.read_lines.Given as goal
+use Rattle.cs_docs.proofs.reader.read_docs.Given as goal
 
 abbrev pub invariant-loop-rest : goal.invariant-loop-rest
 invariant-loop-rest l = record {
