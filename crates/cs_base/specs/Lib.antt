@@ -8,4 +8,5 @@ pub mod InMemory
 pub mod Members
 pub mod Orders
 pub mod Outside
+pub mod WordForms
 pub mod formers

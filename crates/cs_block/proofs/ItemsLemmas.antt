@@ -2,8 +2,8 @@
 --
 --   here_from, none_from      what a call of next_gap tells of a place
 --   bad_on, bad_here, bad_over, bad_done    the gap column behind a code, and where it breaks or ends
---   items_from                the items from a place on
---   Keeps                     one rule's first place, as far as the items are gone through
+--   items_on, items_end, items_start    the items from a place on
+--   keeps_on, keeps_end, keeps_start, keeps_found    one rule's first place, as far as the items are gone through
 --   or_broken, in_front, in_turn    a rule in front of others, and the four rules in turn
 --   columns_cut               the columns as the code cuts them
 use Rattle.std.proofs.Common.{◌≡◌, ℕ, suc, ◌+◌, ◌-◌, ◌*◌, ◌^◌, ◌<◌, ◌≤◌, Bool, true, false, not, cond, List, [], ◌∷◌, ◌++◌, length, map, take, drop, Option, Some, None, refl, sym, ap, ◌∙◌, arith}
@@ -21,6 +21,7 @@ use Rattle.cs_gaps.proofs.CodesLemmas.{first_found, found_first}
 use Rattle.cs_model.specs.Scores.{SCORES}
 use Rattle.cs_model_index.specs.BlockRules.{codes_break, Item, item_row, doc_before, row_at, items_in, gap_bytes, Rule, rules, in_docs, in_words, in_kind, in_order, first_break, broken_at, first_broken, BlockColumns, block_items, block_columns, judged_columns, judged, rows_read}
 use Rattle.cs_model.proofs.FirstLemmas.{first-cons}
+use Rattle.cs_block.specs.Pass.{items_from, Keeps}
 use Rattle.cs_block.specs.Reading.{GapHere}
 use Rattle.cs_block.proofs.ColumnsLemmas.{items_step, codes_step}
 
@@ -68,9 +69,6 @@ bad_done rows i at gaps le lt =
 
 -- ---- the items from a place on
 
-pub items_from : BlockHead → BlockColumns → ℕ → ℕ → Option Post → List Item
-items_from head c i at last = items_in head.lo (head.rows - i) last i at (drop at c.gaps) (drop (2 * i) c.words) (drop (4 * i) c.positions) (drop i c.scores)
-
 pub items_on : (head : BlockHead) (c : BlockColumns) (i at n next : ℕ) (last : Option Post) (row : Post) → i < head.rows → GapHere c.gaps at n next
     → row ≡ row_at head.lo (doc_before last + n) (drop (2 * i) c.words) (drop (4 * i) c.positions) (drop i c.scores)
     → items_from head c i at last ≡ record { row = row; last = last; index = i; gap_at = at } ∷ items_from head c (i + 1) next (Some row)
@@ -96,9 +94,6 @@ unfolding items_from
 items_start head c = ap (λ (x : ℕ). items_in head.lo x None 0 0 c.gaps c.words c.positions c.scores) (omega arith)
 
 -- ---- one rule's first place, as far as the loop has come
-
-pub Keeps : Rule → List Item → Option ℕ → List Item → Type 0
-Keeps rule all found rest = option_or found (first_break rule rest) ≡ first_break rule all
 
 break_by : (rule : Rule) (item : Item) (rest : List Item) (holds : Bool) → option_map rule.at (cond (not holds) (Some item) (find (λ i. not (rule.holds i.last i.row)) rest)) ≡ cond holds (first_break rule rest) (Some (rule.at item))
 unfolding first_break

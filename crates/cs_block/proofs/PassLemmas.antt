@@ -1,10 +1,10 @@
 -- What the loops over a block's rows know.
 --
---   HasJudged       what the loop that looks for the first broken rule knows
---   HasPushed       what the loop that adds the rows knows
+--   judging, judges_on, judged_all    the steps of the loop that looks for the first broken rule
+--   pushing, pushes_on    the steps of a loop that adds rows
 --   stops_at_code, stops_at_doc, stops_at_row    where it stops a rule is broken
 --   ends, pushed_all    where it ends no rule on rows is broken, and all rows are added
-use Rattle.std.proofs.Common.{◌≡◌, ℕ, ◌+◌, ◌-◌, ◌*◌, ◌<◌, ◌≤◌, Bool, true, false, ◌&&◌, cond, ltb, eqb, List, [], ◌∷◌, ◌++◌, length, map, take, drop, Option, Some, None, refl, sym, ap, ◌∙◌, append_assoc, arith, inl, inr}
+use Rattle.std.proofs.Common.{◌≡◌, ℕ, ◌+◌, ◌-◌, ◌*◌, ◌<◌, ◌≤◌, Bool, true, false, ◌&&◌, cond, ltb, eqb, List, [], ◌∷◌, ◌++◌, length, map, drop, Option, Some, None, refl, sym, ap, ◌∙◌, append_assoc, arith, inl, inr}
 use Rattle.std.specs.Option.{option_or, is_none}
 use Rattle.std.proofs.lemmas.Bool.{and_parts, and_cases, eq-eqb, cases_lt, lt-ltb, le-ltb, ne_eqb}
 use Rattle.std.proofs.lemmas.Option.{none-some}
@@ -16,19 +16,10 @@ use Rattle.cs_base.specs.declared.doc.Post.{Post}
 use Rattle.cs_model.specs.Scores.{SCORES}
 use Rattle.cs_model_index.specs.BlockRules.{codes_break, Item, item_row, doc_before, row_at, gap_bytes, rules, in_docs, in_words, in_kind, in_order, is_scored, is_after, first_break, first_broken, BlockColumns, block_items, judged_columns}
 use Rattle.cs_block.specs.Reading.{GapHere}
-use Rattle.cs_block.proofs.ItemsLemmas.{bad_on, bad_here, bad_over, bad_done, items_from, items_on, items_end, items_start, Keeps, keeps_on, keeps_end, keeps_start, keeps_found, or_broken, in_turn}
+use Rattle.cs_block.specs.Pass.{items_from, HasJudged, HasPushed}
+use Rattle.cs_block.proofs.ItemsLemmas.{bad_on, bad_here, bad_over, bad_done, items_on, items_end, items_start, keeps_on, keeps_end, keeps_start, keeps_found, or_broken, in_turn}
 
 -- ---- the loop over the rows
-
-pub record HasJudged (head : BlockHead) (docs : ℕ) (c : BlockColumns) (i at : ℕ) (last : Option Post) (before : ℕ) (word score order : Option ℕ) : Type 0 where
-  pub codes : codes_break (head.rows - i) at (drop at c.gaps) ≡ codes_break head.rows 0 c.gaps
-  pub within : at ≤ length c.gaps
-  pub before_is : before ≡ doc_before last
-  pub before_below : before ≤ docs
-  pub docs_kept : Keeps (in_docs docs) (block_items head c) None (items_from head c i at last)
-  pub words_kept : Keeps (in_words head) (block_items head c) word (items_from head c i at last)
-  pub scores_kept : Keeps (in_kind SCORES head) (block_items head c) score (items_from head c i at last)
-  pub order_kept : Keeps in_order (block_items head c) order (items_from head c i at last)
 
 pub judging : (head : BlockHead) (docs : ℕ) (c : BlockColumns) → HasJudged head docs c 0 0 None 0 None None None
 judging head docs c = let all = items_start head c in record {
@@ -104,13 +95,6 @@ pub stuck : (rows i at : ℕ) (gaps : List ℕ) → i < rows → first_code (dro
 stuck rows i at gaps lt none h = none-some at (sym h ∙ bad_here rows i at gaps lt none)
 
 -- ---- the loop that adds the rows
-
--- so far each row keeps the rules; what was added and what is left make all rows
-pub record HasPushed (head : BlockHead) (docs : ℕ) (c : BlockColumns) (i at : ℕ) (last : Option Post) (before : ℕ) (first now : List Post) (room : ℕ) : Type 0 where
-  pub judged : HasJudged head docs c i at last before None None None
-  pub told : first ++ map item_row (block_items head c) ≡ now ++ map item_row (items_from head c i at last)
-  pub kept : take (length first) now ≡ first
-  pub room_left : head.rows - i ≤ room
 
 pub pushing : (head : BlockHead) (docs : ℕ) (c : BlockColumns) (first : List Post) (room : ℕ) → head.rows ≤ room → HasPushed head docs c 0 0 None 0 first first room
 pushing head docs c first room le = record {

@@ -12,7 +12,8 @@ use crate::columns::{Columns, cut, gap_here, row_of};
 use crate::fault::BlockFault;
 use crate::judging::judge;
 use crate::rules::keeps_rules;
-use cs_base::{BlockHead, Post};
+use crate::runs::push_runs;
+use cs_base::BlockHead;
 use cs_cols::Cols;
 
 /// Adds the rows of a block at the end, or the fault says which rule its bytes break first, or that
@@ -44,7 +45,8 @@ pub fn decode(bytes: &[u8], head: &BlockHead, docs: u32, into: &mut Cols) -> Res
     Ok(())
 }
 
-// Adds rows up to the first that breaks a rule, and says whether there is none.
+// Adds rows up to the first that breaks a rule, and says whether there is none. Where no row does,
+// the runs are all rows; where one does, the rows of its run are gone over one by one.
 fn push_rows(columns: &Columns<'_>, head: &BlockHead, docs: u32, into: &mut Cols) -> bool
     requires shaped { IsShaped head.now head.now.len }
     requires sized { HasColumns head.now (seen columns.now) }
@@ -54,10 +56,11 @@ fn push_rows(columns: &Columns<'_>, head: &BlockHead, docs: u32, into: &mut Cols
     ensures posts { result ≡ true → into.new.posts ≡ into.old.posts ++ map item_row (block_items head.now (seen columns.now)) }
     ensures kept { take (length into.old.posts) into.new.posts ≡ into.old.posts }
 {
-    let mut last: Option<Post> = None;
-    let mut before: u32 = 0;
-    let mut at = 0;
-    for i in 0..head.rows {
+    let reached = push_runs(columns, head, docs, into);
+    let mut last = reached.last;
+    let mut before = reached.before;
+    let mut at = reached.at;
+    for i in reached.rows..head.rows {
         let Some((n, next)) = gap_here(columns.gaps, at) else {
             return false;
         };

@@ -12,6 +12,9 @@ mod fault;
 mod judging;
 pub mod laws;
 mod rules;
+mod run_columns;
+mod run_docs;
+mod runs;
 #[cfg(test)]
 mod tests;
 

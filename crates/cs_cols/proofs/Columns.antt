@@ -4,6 +4,7 @@
 --   columns        the posts' documents, words, positions and scores are the columns
 --   posts-length   there are as many posts as documents
 --   posts-at       the post at a place is made of the columns' entries there
+--   posts-append   more entries at the end of each column are posts at the end
 --   posts-push     an entry at the end of each column is a post at the end
 --   posts-take     the first entries of each column are the first posts
 use Rattle.std.proofs.Common.{◌≡◌, ℕ, zero, suc, ◌<◌, List, [], ◌∷◌, ◌++◌, length, get_or, take, refl, sym, ◌∙◌, ap, arith}
@@ -46,15 +47,18 @@ module _ (ds ws ps ss : List ℕ) (h : AreEven ds ws ps ss) (i : ℕ) (e : Post)
       ∙ ap (λ p. post (get_or (posts_of ds ws ps ss) i e).doc (get_or (posts_of ds ws ps ss) i e).word p (get_or ss i 0)) (at_column (λ p. p.pos) ps are.2)
       ∙ ap (λ s. post (get_or (posts_of ds ws ps ss) i e).doc (get_or (posts_of ds ws ps ss) i e).word (get_or (posts_of ds ws ps ss) i e).pos s) (at_column (λ p. p.score) ss are.3)
 
+pub posts-append : (ds ws ps ss ds' ws' ps' ss' : List ℕ) → AreEven ds ws ps ss → posts_of (ds ++ ds') (ws ++ ws') (ps ++ ps') (ss ++ ss') ≡ posts_of ds ws ps ss ++ posts_of ds' ws' ps' ss'
+posts-append [] [] [] [] ds' ws' ps' ss' h = refl
+posts-append [] (w ∷ ws) ps ss ds' ws' ps' ss' h = absurd (omega arith)
+posts-append [] [] (p ∷ ps) ss ds' ws' ps' ss' h = absurd (omega arith)
+posts-append [] [] [] (s ∷ ss) ds' ws' ps' ss' h = absurd (omega arith)
+posts-append (d ∷ ds) [] ps ss ds' ws' ps' ss' h = absurd (omega arith)
+posts-append (d ∷ ds) (w ∷ ws) [] ss ds' ws' ps' ss' h = absurd (omega arith)
+posts-append (d ∷ ds) (w ∷ ws) (p ∷ ps) [] ds' ws' ps' ss' h = absurd (omega arith)
+posts-append (d ∷ ds) (w ∷ ws) (p ∷ ps) (s ∷ ss) ds' ws' ps' ss' h = ap (λ l. post d w p s ∷ l) (posts-append ds ws ps ss ds' ws' ps' ss' (omega arith, omega arith, omega arith))
+
 pub posts-push : (ds ws ps ss : List ℕ) → AreEven ds ws ps ss → (p : Post) → posts_of (ds ++ p.doc ∷ []) (ws ++ p.word ∷ []) (ps ++ p.pos ∷ []) (ss ++ p.score ∷ []) ≡ posts_of ds ws ps ss ++ p ∷ []
-posts-push [] [] [] [] h q = refl
-posts-push [] (w ∷ ws) ps ss h q = absurd (omega arith)
-posts-push [] [] (p ∷ ps) ss h q = absurd (omega arith)
-posts-push [] [] [] (s ∷ ss) h q = absurd (omega arith)
-posts-push (d ∷ ds) [] ps ss h q = absurd (omega arith)
-posts-push (d ∷ ds) (w ∷ ws) [] ss h q = absurd (omega arith)
-posts-push (d ∷ ds) (w ∷ ws) (p ∷ ps) [] h q = absurd (omega arith)
-posts-push (d ∷ ds) (w ∷ ws) (p ∷ ps) (s ∷ ss) h q = ap (λ l. post d w p s ∷ l) (posts-push ds ws ps ss (omega arith, omega arith, omega arith) q)
+posts-push ds ws ps ss h p = posts-append ds ws ps ss (p.doc ∷ []) (p.word ∷ []) (p.pos ∷ []) (p.score ∷ []) h
 
 pub posts-take : (n : ℕ) (ds ws ps ss : List ℕ) → posts_of (take n ds) (take n ws) (take n ps) (take n ss) ≡ take n (posts_of ds ws ps ss)
 posts-take zero ds ws ps ss = refl

@@ -1,5 +1,6 @@
 //! The columns and their calls.
 ghost use Rattle.std.specs.Prelude.{◌≡◌, ◌+◌, ◌≤◌, ◌<◌, ◌^◌, [], ◌∷◌, ◌++◌, length, map, take, slice_index_or, IfOk, OnOk, OnErr};
+ghost use Rattle.std.specs.Vec.{vec_len, vec_capacity};
 
 use cs_base::{Memory, Post};
 use std::alloc::Global;
@@ -27,6 +28,8 @@ impl Model for Cols {
 }
 
 impl Cols {
+    ghost use Rattle.cs_cols.specs.Held.{AreEven, posts_of};
+
     /// No posts. It takes no memory, and keeps the allocator for later calls.
     pub fn new(alloc: Global) -> Cols
         ensures { result.posts ≡ [] }
@@ -142,6 +145,22 @@ impl Cols {
         self.room -= 1;
     }
 
+    /// Adds the posts whose columns these are at the end, in the room that there is. It takes no memory.
+    #[inline]
+    pub fn extend_reserved(&mut self, docs: &[u32], words: &[u32], places: &[u32], scores: &[u8])
+        requires even { AreEven docs.now words.now places.now scores.now }
+        requires room { length docs.now ≤ self.old.room }
+
+        ensures posts { self.new.posts ≡ self.old.posts ++ posts_of docs.now words.now places.now scores.now }
+        ensures room { self.old.room ≤ self.new.room + length docs.now }
+    {
+        extend_column(&mut self.docs, docs);
+        extend_column(&mut self.words, words);
+        extend_column(&mut self.places, places);
+        extend_column(&mut self.scores, scores);
+        self.room -= docs.len();
+    }
+
     /// Keeps the first `n` posts, all where there are fewer.
     pub fn truncate(&mut self, n: usize)
         ensures posts { self.new.posts ≡ take n self.old.posts }
@@ -151,5 +170,20 @@ impl Cols {
         self.words.truncate(n);
         self.places.truncate(n);
         self.scores.truncate(n);
+    }
+}
+
+// Adds entries at the end of a column that has memory for them.
+#[inline]
+fn extend_column<T: Copy>(column: &mut Vec<T>, more: &[T])
+    requires room { vec_len column.old + length more.now ≤ vec_capacity column.old }
+
+    ensures items { column.new.items ≡ column.old.items ++ more.now }
+    ensures len { vec_len column.new ≡ vec_len column.old + length more.now }
+    ensures capacity { vec_capacity column.old ≤ vec_capacity column.new }
+{
+    match column.extend_from_slice(more) {
+        Ok(()) => (),
+        Err(_) => unreachable!(),
     }
 }

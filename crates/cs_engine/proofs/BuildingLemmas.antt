@@ -1,47 +1,39 @@
 -- The posts of a collection's rows.
 --
---   is_there         the word of a row is in the vocabulary of the rows
+--   number_at        the number of a row's word
 --   stocked_new      a stock of documents' rows keeps what it should
-use Rattle.std.proofs.Common.{◌≡◌, ℕ, ◌<◌, ◌≤◌, ◌||◌, Bool, true, List, [], ◌∷◌, length, map, get_or, refl, sym, ◌∙◌, ap, subst, arith}
-use Rattle.std.specs.List.{All, AllByRecursion, list_any}
+use Rattle.std.proofs.Common.{◌≡◌, ℕ, ◌<◌, ◌≤◌, List, [], ◌∷◌, length, map, get_or, sym, ◌∙◌, ap, subst, arith}
+use Rattle.std.specs.List.{All, AllByRecursion}
 use Rattle.std.specs.List.Sorted.{IsStrictlySortedBy}
-use Rattle.std.specs.Ordering.{nat_cmp, eq_by_cmp}
+use Rattle.std.specs.Ordering.{nat_cmp}
 use Rattle.std.specs.Cmp.Lexicographic.{slice_cmp}
-use Rattle.std.specs.Str.{bytes_eq, IsUtf8}
+use Rattle.std.specs.Str.{IsUtf8}
 use Rattle.std.proofs.lemmas.Cmp.{nat_list_cmp_total}
 use Rattle.std.proofs.lemmas.List.{length-map, get_or-map}
-use Rattle.std.proofs.lemmas.List.Elements.{All-from_recursion, recursion_from_All, All-map}
-use Rattle.std.proofs.lemmas.List.Folds.{list_any_at}
+use Rattle.std.proofs.lemmas.List.Elements.{All-from_recursion, recursion_from_All, All-get_or, All-map}
 use Rattle.std.proofs.lemmas.Map.Lookups.{exact_bytes}
-use Rattle.std.proofs.lemmas.Slice.Eq.{bytes_eq-Decides}
-use Rattle.cs_base.specs.contracts.word.WordOrd.TheImpl.Laws.{matches_eq-law}
 use Rattle.cs_base.specs.declared.limits.TheConstants.{MAX_DOCS, MAX_WORDS}
 use Rattle.cs_base.specs.declared.doc.Doc.{Doc}
 use Rattle.cs_base.specs.declared.doc.Post.{Post}
 use Rattle.cs_base.specs.declared.doc.Row.{Row}
-use Rattle.cs_base.proofs.MembersLemmas.{all_then, is_member-listed, listing-rises}
+use Rattle.cs_base.proofs.MembersLemmas.{all_then, listing-rises}
 use Rattle.cs_docs.proofs.ListingLemmas.{spots-rise, docs-below}
 use Rattle.cs_base.specs.Orders.{by_spot}
 use Rattle.cs_docs.proofs.TextLemmas.{All-members}
 use Rattle.cs_model.specs.Corpus.{distinct_words, rows_of, title_of}
-use Rattle.cs_vocab.specs.Ranges.{IsWordAt}
-use Rattle.cs_engine.specs.Stocked.{row_of, rows_at, IsNumbered, IsKnown, IsStocked}
+use Rattle.cs_vocab.specs.Ranges.{IsBelow, IsWordAt, AreNumbers}
+use Rattle.cs_engine.specs.Stocked.{word_at, row_of, rows_at, IsNumbered, IsKnown, IsStocked}
 use Rattle.cs_engine.specs.declared.stock.Stock.{Stock}
 use Rattle.cs_engine.proofs.VocabLemmas.{posts_rise}
 
-any_alike : (p q : List ℕ → Bool) (xs : List (List ℕ)) → ((x : List ℕ) → p x ≡ q x) → list_any p xs ≡ list_any q xs
-any_alike p q [] h = refl
-any_alike p q (x ∷ xs) h = ap (λ b. b || list_any p xs) (h x) ∙ ap (λ b. q x || b) (any_alike p q xs h)
-
-pub is_there : (rows : List Row) (i : ℕ) (r : Row) (word : List ℕ) (ws : List (List ℕ)) → ws ≡ distinct_words rows → i < length rows → r ≡ get_or rows i r → word ≡ r.word → list_any (bytes_eq word) ws ≡ true
-is_there rows i r word ws is l at same =
-    let listed : List (List ℕ) = map (λ r. r.word) rows in
-    let here : get_or listed i word ≡ word = get_or-map (λ r. r.word) rows i r word l ∙ ap (λ (x : Row). x.word) (sym at) ∙ sym same in
-    any_alike (bytes_eq word) (eq_by_cmp (slice_cmp nat_cmp) word) ws (matches_eq-law word)
-    ∙ ap (list_any (eq_by_cmp (slice_cmp nat_cmp) word)) is
-    ∙ is_member-listed (slice_cmp nat_cmp) nat_list_cmp_total listed word
-    ∙ sym (any_alike (bytes_eq word) (eq_by_cmp (slice_cmp nat_cmp) word) listed (matches_eq-law word))
-    ∙ list_any_at (bytes_eq word) listed i word (omega (arith, l, length-map rows (λ (r : Row). r.word))) ((bytes_eq-Decides word (get_or listed i word)).1 (sym here))
+pub number_at : (ws : List (List ℕ)) (ns : List ℕ) (rows : List Row) (i n : ℕ) (r : Row) → AreNumbers ws ns (map (λ r. r.word) rows) → i < length rows → r ≡ get_or rows i r → n ≡ get_or ns i 0 → IsWordAt ws n r.word
+number_at ws ns rows i n r h l at is =
+    let many : length ns ≡ length rows = sym (length-map ns (word_at ws)) ∙ ap length h.told ∙ length-map rows (λ (r : Row). r.word) in
+    let inside : i < length ns = omega (arith, l, many) in (
+      subst (λ k. k < length ws) (sym is) (All-get_or (IsBelow (length ws)) ns i 0 inside h.below),
+      ap (word_at ws) is ∙ sym (get_or-map (word_at ws) ns i 0 [] inside) ∙ ap (λ v. get_or v i []) h.told
+          ∙ get_or-map (λ (r : Row). r.word) rows i r [] l ∙ ap (λ (x : Row). x.word) (sym at),
+    )
 
 -- one more row
 pub row_made : (ws : List (List ℕ)) (r : Row) (n : ℕ) → IsWordAt ws n r.word → row_of ws (record { doc = r.doc; word = n; pos = r.pos; score = r.score }) ≡ r

@@ -3,7 +3,7 @@
 --   atom_rows-is      the rows of an atom without a join are those that pass its test
 --   linked_rows-is, part_rows-is, parts-are      the rows of these, by those of what they hold
 --   linked_plain, chain_plain_rest, part_plain, query_plain      what they hold has no join where they have none
-use Rattle.std.proofs.Common.{◌≡◌, ℕ, ◌<◌, ◌≤◌, Bool, true, false, true≢false, List, [], ◌∷◌, length, map, get_or, sym, ◌∙◌, ap, subst, arith}
+use Rattle.std.proofs.Common.{◌≡◌, ℕ, ◌<◌, ◌≤◌, Bool, false, true≢false, List, [], ◌∷◌, length, map, get_or, sym, ◌∙◌, ap, subst, arith}
 use Rattle.std.proofs.lemmas.Bool.{or_parts}
 use Rattle.std.proofs.lemmas.List.{length-map}
 use Rattle.std.specs.Prelude.{filter}

@@ -24,7 +24,7 @@ use Rattle.cs_base.specs.declared.query.Part.{Part, out-Part}
 use Rattle.cs_meet.specs.Filters.{keep_docs, drop_docs, is_of}
 use Rattle.cs_base.specs.Orders.{by_doc, AreDocs, AreByDoc, docs_of}
 use Rattle.cs_meet.specs.Filters as meet
-use Rattle.cs_model.specs.Answers.{PartRows, hits, pairs, scored, rows_of_part}
+use Rattle.cs_model.specs.Answers.{PartRows, hits, scored, rows_of_part}
 use Rattle.cs_rank.specs.DocScores.{greatest, of_doc, best_row, base_score, with_base, scores, IsBase}
 use Rattle.cs_engine.specs.Stocked.{rows_at, corpus_in, every, listed, docs_in, hits_after, pairs_after, IsKnown, IsStocked, IsPicked, IsFound}
 use Rattle.cs_engine.specs.declared.stock.Stock.{Stock}

@@ -18,7 +18,7 @@ use crate::stock::Stock;
 use cs_base::{Doc, MAX_WORDS, Memory, Row, Seq};
 use cs_docs::Reason;
 use cs_query::{Reply, Request};
-use cs_vocab::Vocab;
+use cs_vocab::Numbered;
 use std::alloc::Global;
 use std::marker::Model;
 
@@ -61,12 +61,13 @@ impl Corpus {
         ensures few_words { OnOk result (length (distinct_words rows) ≤ MAX_WORDS) }
         ensures too_many_words { IsErrOf result CorpusFault.TooManyWords → MAX_WORDS < length (distinct_words rows) }
     {
-        let words = Vocab::of(alloc, &rows)?;
-        if words.len() as usize > MAX_WORDS {
+        let numbered = Numbered::of(alloc, &rows)?;
+        if numbered.words.len() as usize > MAX_WORDS {
             return Err(CorpusFault::TooManyWords);
         }
-        let posts = posts_of(alloc, &words, &rows)?;
+        let posts = posts_of(alloc, &numbered, &rows)?;
         let titles = titles_of(alloc, docs)?;
+        let Numbered { words, .. } = numbered;
         Ok(Corpus {
             stock: Stock {
                 titles,

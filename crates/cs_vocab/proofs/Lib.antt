@@ -1,2 +1,4 @@
+pub mod GatheringLemmas
+pub mod NumbersLemmas
 pub mod RangesLemmas
 pub mod SortedRefs

@@ -1,11 +1,14 @@
 //! The vocabulary: the distinct words of a collection in byte order, each known by its number.
 //!
 //! Callers see `Vocab` as the list of its words, strictly ascending. What a prefix's range is stands
-//! in `specs/Ranges.antt`. No call but `Vocab::of` takes memory.
+//! in `specs/Ranges.antt`. No call but `Vocab::of` and `Numbered::of` takes memory.
 #![tactic(auto)]
 
+mod gathering;
+mod numbered;
 mod vocab;
 
+pub use numbered::Numbered;
 pub use vocab::Vocab;
 
 #[cfg(test)]

@@ -5,10 +5,12 @@ ghost use Rattle.std.specs.List.Sorted.{IsStrictlySortedBy};
 ghost use Rattle.std.specs.Ordering.{nat_cmp, is_lt};
 ghost use Rattle.std.specs.Cmp.Lexicographic.{slice_cmp};
 ghost use Rattle.std.specs.Str.{bytes_eq};
+ghost use Rattle.cs_base.specs.Members.{members_in};
 ghost use Rattle.cs_model.specs.Answers.{begins};
 ghost use Rattle.cs_model.specs.Corpus.{distinct_words};
 ghost use Rattle.cs_vocab.specs.Ranges.{IsVocab, IsWordAt, IsRange, IsSplitBefore};
 
+use crate::gathering::gather;
 use cs_base::{MAX_ROWS, Memory, Row, Seq, Word};
 use std::alloc::Global;
 use std::marker::Model;
@@ -38,19 +40,9 @@ impl Vocab {
 
         ensures ok { IfOk result (λ v. v ≡ distinct_words rows.now) }
     {
-        let mut met = Vec::with_capacity(alloc, rows.len())?;
-        for row in rows.as_slice() {
-            met.push(&row.word)?;
-        }
-        met.sort()?;
-        met.dedup();
-        let mut words = Vec::with_capacity(alloc, met.len())?;
-        for word in &met {
-            words.push(word.copy(alloc)?)?;
-        }
-        Ok(Vocab {
-            words: Seq::from_vec(words),
-        })
+        let gathered = gather(alloc, rows.as_slice())?;
+        let words = listing(alloc, gathered.words.as_slice())?;
+        Ok(words)
     }
 
     /// The vocabulary of words that ascend already.
@@ -103,6 +95,27 @@ impl Vocab {
         let count = words[lo..].partition_point(|word| begins_with(word, p));
         (lo as u32, (lo + count) as u32)
     }
+}
+
+/// The vocabulary of words of which some may stand more than once.
+pub(crate) fn listing(alloc: Global, gathered: &[Word]) -> Result<Vocab, Memory>
+    requires few { length gathered.now ≤ MAX_ROWS }
+
+    ensures ok { IfOk result (λ v. v ≡ members_in (slice_cmp nat_cmp) gathered.now) }
+{
+    let mut sorted = Vec::with_capacity(alloc, gathered.len())?;
+    for word in gathered {
+        sorted.push(word)?;
+    }
+    sorted.sort()?;
+    sorted.dedup();
+    let mut words = Vec::with_capacity(alloc, sorted.len())?;
+    for word in &sorted {
+        words.push(word.copy(alloc)?)?;
+    }
+    Ok(Vocab {
+        words: Seq::from_vec(words),
+    })
 }
 
 // How many of the words stand before `p`.

@@ -1,4 +1,4 @@
-use Rattle.std.proofs.Common.{◌≡◌, ◌∙◌, ◌++◌, ◌∷◌, [], ap, filter}
+use Rattle.std.proofs.Common.{◌≡◌, ◌∙◌, [], ap, filter}
 use Rattle.cs_model.specs.Answers.{begins}
 use Rattle.cs_model.specs.Collection.{named}
 use Rattle.cs_engine.specs.Stocked.{is_between, rows_at}

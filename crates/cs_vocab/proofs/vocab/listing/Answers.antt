@@ -10,42 +10,40 @@ use Rattle.std.proofs.lemmas.Map.Lookups.{exact_bytes}
 use Rattle.cs_base.specs.contracts.word.WordOrd.TheImpl.Laws.{matches_eq-law}
 use Rattle.cs_base.specs.Members.{members_in}
 use Rattle.cs_base.proofs.MembersLemmas.{listing-rises}
-use Rattle.cs_model.specs.Corpus.{distinct_words}
 use Rattle.cs_vocab.proofs.SortedRefs.{listed_refs}
-use Rattle.cs_vocab.proofs.vocab.Vocab.of.Goals as goal
+use Rattle.cs_vocab.proofs.vocab.listing.Goals as goal
 
 pub invariant_of-result : goal.invariant_of-result
 invariant_of-result c =
-    let all : map (λ x. x.now) c.loop-row.met.items ≡ map (λ r. r.word) c.args.rows.now = grind (arith, common_steps) in
+    let all : map (λ x. x.now) c.loop-word.sorted.items ≡ c.args.gathered.now = grind (arith, common_steps) in
     let copied : c.from_vec.result ≡ map (λ x. x.now) c.dedup.new.self.items = grind (arith, common_steps) in
-    let listed : c.from_vec.result ≡ distinct_words c.args.rows.now = copied
-    ∙ listed_refs (λ x. x.now) nat_list_cmp_total exact_bytes bytes_eq matches_eq-law c.loop-row.met.items c.sort.new.self.items c.dedup.new.self.items
+    let listed : c.from_vec.result ≡ members_in (slice_cmp nat_cmp) c.args.gathered.now = copied
+    ∙ listed_refs (λ x. x.now) nat_list_cmp_total exact_bytes bytes_eq matches_eq-law c.loop-word.sorted.items c.sort.new.self.items c.dedup.new.self.items
     c.in_ok-sort.ensures.permutation c.in_ok-sort.ensures.sorted c.dedup.ensures.filtered
     ∙ ap (members_in (slice_cmp nat_cmp)) all in (
-      subst (IsStrictlySortedBy (slice_cmp nat_cmp)) (sym listed) (listing-rises (slice_cmp nat_cmp) (map (λ r. r.word) c.args.rows.now)),
+      subst (IsStrictlySortedBy (slice_cmp nat_cmp)) (sym listed) (listing-rises (slice_cmp nat_cmp) c.args.gathered.now),
       omega (
         arith,
         ap length copied,
         length-map c.dedup.new.self.items (λ x. x.now),
         ap length all,
-        length-map c.loop-row.met.items (λ x. x.now),
-        length-map c.args.rows.now (λ r. r.word),
+        length-map c.loop-word.sorted.items (λ x. x.now),
         c.in_ok-sort.ensures.len,
         c.dedup.ensures.bound,
         c.dedup.new.self.ok,
         c.sort.new.self.ok,
-        c.loop-row.met.ok,
+        c.loop-word.sorted.ok,
         c.requires.few,
       ),
     )
 
 pub returns : goal.returns
 returns c =
-    let all : map (λ x. x.now) c.loop-row.met.items ≡ map (λ r. r.word) c.args.rows.now = grind (arith, common_steps) in
+    let all : map (λ x. x.now) c.loop-word.sorted.items ≡ c.args.gathered.now = grind (arith, common_steps) in
     let copied : c.from_vec.result ≡ map (λ x. x.now) c.dedup.new.self.items = grind (arith, common_steps) in
     record {
       ok = copied
-          ∙ listed_refs (λ x. x.now) nat_list_cmp_total exact_bytes bytes_eq matches_eq-law c.loop-row.met.items c.sort.new.self.items c.dedup.new.self.items
+          ∙ listed_refs (λ x. x.now) nat_list_cmp_total exact_bytes bytes_eq matches_eq-law c.loop-word.sorted.items c.sort.new.self.items c.dedup.new.self.items
           c.in_ok-sort.ensures.permutation c.in_ok-sort.ensures.sorted c.dedup.ensures.filtered
           ∙ ap (members_in (slice_cmp nat_cmp)) all;
     }

@@ -1,0 +1,9 @@
+use Rattle.std.proofs.Common.{◌+◌, ◌*◌, ◌≤◌}
+use Rattle.cs_block.proofs.RunsLemmas.{DocsTo}
+use Rattle.cs_block.proofs.run_docs.short_docs.Given as goal
+
+abbrev pub invariant-loop-i : goal.invariant-loop-i
+invariant-loop-i l = record {
+  made : DocsTo l.gaps l.at l.before l.out l.i (l.at + l.i) l.doc;
+  small : l.doc ≤ l.before + 128 * l.i;
+}

@@ -1,0 +1,5 @@
+use Rattle.cs_block.proofs.PassLemmas.{pushing}
+use Rattle.cs_block.proofs.runs.push_runs.Goals as goal
+
+pub loop-reached-init : goal.loop-reached-init
+loop-reached-init c = pushing c.args.head.now c.args.docs _ c.args.into.now.posts c.args.into.now.room c.requires.room

@@ -1,0 +1,138 @@
+//! The documents of a run, from the gap column: in a loop without a jump where each code has one byte, or one or two.
+ghost use Rattle.std.specs.Prelude.{◌≡◌, ℕ, ◌+◌, ◌*◌, ◌^◌, ◌<◌, ◌≤◌, ◌&&◌, ◌||◌, true, nat_lt, length, IfSome, slice_index_or};
+ghost use Rattle.cs_block.specs.Runs.{HasDocs};
+ghost use Rattle.cs_block.specs.declared.runs.TheConstants.{RUN};
+
+use crate::columns::gap_here;
+
+// Behind a document below this one, the sums of a run whose codes have one byte or two stay below 2^32.
+const FAR: u32 = 1 << 31;
+
+/// The documents of as many rows as there is room for, and the place behind their gap codes, if the codes
+/// stand there and each document is below `docs`. `before` is the document of the row in front.
+pub fn docs_in(gaps: &[u8], at: usize, before: u32, docs: u32, out: &mut [u32]) -> Option<usize>
+    requires within { at ≤ length gaps.now }
+    requires few { length out.old ≤ RUN }
+
+    ensures { IfSome result (λ next. HasDocs gaps.now at before docs out.new next) }
+{
+    let rows = out.len();
+    let left = gaps.len() - at;
+    if before < FAR && rows <= left && are_short(gaps, at, rows) {
+        return short_docs(gaps, at, before, docs, out);
+    }
+    if before < FAR
+        && 2 * rows <= left
+        && let Some(next) = pair_docs(gaps, at, before, docs, out)
+    {
+        return Some(next);
+    }
+    long_docs(gaps, at, before, docs, out)
+}
+
+// Whether each of so many bytes is a code.
+fn are_short(gaps: &[u8], at: usize, rows: usize) -> bool
+    requires { at + rows ≤ length gaps.now }
+
+    ensures { result ≡ true → (j : ℕ) → j < rows → slice_index_or gaps.now (at + j) 0 < 128 }
+{
+    let mut most: u8 = 0;
+    for i in 0..rows {
+        most = most.max(gaps[at + i]);
+    }
+    most < 128
+}
+
+// The same where each code has one byte.
+fn short_docs(gaps: &[u8], at: usize, before: u32, docs: u32, out: &mut [u32]) -> Option<usize>
+    requires within { at + length out.old ≤ length gaps.now }
+    requires fits { before + 128 * length out.old < 2 ^ 32 }
+    requires short { (j : ℕ) → j < length out.old → slice_index_or gaps.now (at + j) 0 < 128 }
+
+    ensures { IfSome result (λ next. HasDocs gaps.now at before docs out.new next) }
+{
+    let mut doc = before;
+    for i in 0..out.len() {
+        doc += u32::from(gaps[at + i]);
+        out[i] = doc;
+    }
+    if doc >= docs {
+        return None;
+    }
+    Some(at + out.len())
+}
+
+// The same where each code has one byte or two.
+fn pair_docs(gaps: &[u8], at: usize, before: u32, docs: u32, out: &mut [u32]) -> Option<usize>
+    requires within { at + 2 * length out.old ≤ length gaps.now }
+    requires fits { before + 2 ^ 15 * length out.old < 2 ^ 32 }
+
+    ensures { IfSome result (λ next. HasDocs gaps.now at before docs out.new next) }
+{
+    let mut holds = true;
+    let mut doc = before;
+    let mut next = at;
+    for i in 0..out.len() {
+        let first = gaps[next];
+        let second = gaps[next + 1];
+        holds &= is_pair(first, second);
+        doc += pair_number(first, second);
+        out[i] = doc;
+        next += pair_len(first);
+    }
+    if !holds || doc >= docs {
+        return None;
+    }
+    Some(next)
+}
+
+// Whether a code of one byte or two begins with these two bytes.
+#[inline]
+fn is_pair(first: u8, second: u8) -> bool
+    ensures { result ≡ (nat_lt first 128 || (nat_lt 0 second && nat_lt second 128)) }
+{
+    (first < 128) | ((0 < second) & (second < 128))
+}
+
+// The number of that code.
+#[inline]
+fn pair_number(first: u8, second: u8) -> u32
+    ensures one { first < 128 → result ≡ first }
+    ensures two { 128 ≤ first → result + 128 ≡ first + 128 * second }
+    ensures few { result < 2 ^ 15 }
+{
+    u32::from(first % 128) + u32::from(first / 128) * (128 * u32::from(second))
+}
+
+// The bytes of that code.
+#[inline]
+fn pair_len(first: u8) -> usize
+    ensures one { first < 128 → result ≡ 1 }
+    ensures two { 128 ≤ first → result ≡ 2 }
+    ensures most { result ≤ 2 }
+{
+    1 + usize::from(first / 128)
+}
+
+// The same for all codes, one by one.
+fn long_docs(gaps: &[u8], at: usize, before: u32, docs: u32, out: &mut [u32]) -> Option<usize>
+    requires within { at ≤ length gaps.now }
+
+    ensures { IfSome result (λ next. HasDocs gaps.now at before docs out.new next) }
+{
+    let mut doc = before;
+    let mut next = at;
+    for i in 0..out.len() {
+        let Some((n, behind)) = gap_here(gaps, next) else {
+            return None;
+        };
+        let sum = u64::from(doc) + u64::from(n);
+        if sum >= u64::from(docs) {
+            return None;
+        }
+        doc = sum as u32;
+        out[i] = doc;
+        next = behind;
+    }
+    Some(next)
+}

@@ -1,0 +1,79 @@
+//! The words of rows as numbers.
+ghost use Rattle.std.specs.Prelude.{◌≡◌, ◌≤◌, true, IfOk, length, map, slice_index};
+ghost use Rattle.std.specs.List.{All, list_any};
+ghost use Rattle.std.specs.Ordering.{nat_cmp};
+ghost use Rattle.std.specs.Cmp.Lexicographic.{slice_cmp};
+ghost use Rattle.std.specs.Str.{bytes_eq};
+ghost use Rattle.cs_base.specs.Members.{members_in};
+ghost use Rattle.cs_model.specs.Corpus.{distinct_words};
+ghost use Rattle.cs_vocab.specs.Ranges.{IsBelow, IsWordAt, AreNumbers};
+
+use crate::gathering::gather;
+use crate::vocab::{Vocab, listing};
+use cs_base::{MAX_ROWS, Memory, Row, Seq, Word};
+use std::alloc::Global;
+
+/// The distinct words of rows, and row by row the number of its word.
+#[derive(Debug, Drop)]
+pub struct Numbered {
+    /// The words.
+    pub words: Vocab,
+    /// Their numbers by row.
+    pub numbers: Seq<u32>,
+}
+
+impl Numbered {
+    /// The distinct words of rows, and the number of each row's word among them.
+    pub fn of(alloc: Global, rows: &Seq<Row>) -> Result<Numbered, Memory>
+        requires few { length rows.now ≤ MAX_ROWS }
+
+        ensures words { IfOk result (λ n. n.words ≡ distinct_words rows.now) }
+        ensures numbers { IfOk result (λ n. AreNumbers n.words n.numbers (map (λ r. r.word) rows.now)) }
+    {
+        let gathered = gather(alloc, rows.as_slice())?;
+        let words = listing(alloc, gathered.words.as_slice())?;
+        let known = numbers_of(alloc, &words, gathered.words.as_slice())?;
+        let numbers = looked_up(alloc, known.as_slice(), gathered.indices.as_slice())?;
+        Ok(Numbered {
+            words,
+            numbers: Seq::from_vec(numbers),
+        })
+    }
+}
+
+// The numbers of words whose listing the vocabulary is.
+fn numbers_of(alloc: Global, words: &Vocab, gathered: &[Word]) -> Result<Vec<u32>, Memory>
+    requires { words.now ≡ members_in (slice_cmp nat_cmp) gathered.now }
+
+    ensures { IfOk result (λ v. AreNumbers words.now v.items gathered.now) }
+{
+    let mut numbers = Vec::with_capacity(alloc, gathered.len())?;
+    for word in gathered {
+        numbers.push(number_of(words, word))?;
+    }
+    Ok(numbers)
+}
+
+fn number_of(words: &Vocab, word: &Word) -> u32
+    requires { list_any (bytes_eq word.now) words.now ≡ true }
+
+    ensures { IsWordAt words.now result word.now }
+{
+    match words.find(word.bytes()) {
+        Some(n) => n,
+        None => unreachable!(),
+    }
+}
+
+// The numbers that stand at these indices.
+fn looked_up(alloc: Global, numbers: &[u32], indices: &[u32]) -> Result<Vec<u32>, Memory>
+    requires { All (IsBelow (length numbers.now)) indices.now }
+
+    ensures { IfOk result (λ v. v.items ≡ map (slice_index numbers.now) indices.now) }
+{
+    let mut found = Vec::with_capacity(alloc, indices.len())?;
+    for index in indices {
+        found.push(numbers[*index as usize])?;
+    }
+    Ok(found)
+}
