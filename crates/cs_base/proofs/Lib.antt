@@ -1,5 +1,8 @@
-pub mod HubLemmas
+pub mod Connected
+pub mod ConnectionLists
 pub mod MembersLemmas
 pub mod NameMaps
 pub mod OrdersLemmas
 pub mod Places
+pub mod Playing
+pub mod Scripts

@@ -1,4 +1,5 @@
 pub mod Causes
+pub mod FailingCalls
 pub mod GapCode
 pub mod HeldFiles
 pub mod Hub
@@ -6,4 +7,6 @@ pub mod InMemory
 pub mod Members
 pub mod Orders
 pub mod Outside
+pub mod ScriptParts
+pub mod ScriptedHub
 pub mod formers

@@ -2,7 +2,9 @@
 #![tactic(auto)]
 
 mod block;
+mod connections;
 mod doc;
+mod failing;
 mod hub;
 mod key;
 pub mod laws;
@@ -13,6 +15,7 @@ mod memory;
 mod outside;
 mod query;
 mod scores;
+mod script;
 mod script_hub;
 mod seq;
 mod text;
@@ -34,7 +37,8 @@ pub use memory::Memory;
 pub use outside::{Failed, Files, Sink};
 pub use query::{Atom, Chain, Link, Linked, Part, Query, Which};
 pub use scores::{BEHIND_TITLE, FACET_SCORE, TEXT_SCORE, TITLE_SCORE};
-pub use script_hub::{ScriptHub, Scripted};
+pub use script::Scripted;
+pub use script_hub::ScriptHub;
 pub use seq::Seq;
 pub use text::Text;
 pub use word::Word;
