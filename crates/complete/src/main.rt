@@ -31,7 +31,7 @@ fn main(rt: HostRuntime) -> ExitCode {
         return ExitCode::from(NO_MEMORY);
     };
     let mut files = DiskFiles::new(alloc, &rt);
-    let mut hub = ScriptHub::new(Seq::new(alloc));
+    let mut hub = ScriptHub::new(alloc, Seq::new(alloc));
     let status = run(alloc, &words, &mut files, &mut hub, &mut out, &mut err);
     ExitCode::from(status)
 }

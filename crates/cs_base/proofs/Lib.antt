@@ -1,6 +1,9 @@
+pub mod Connected
+pub mod ConnectionLists
 pub mod FileLemmas
-pub mod HubLemmas
 pub mod MembersLemmas
 pub mod NameMaps
 pub mod OrdersLemmas
 pub mod Places
+pub mod Playing
+pub mod Scripts

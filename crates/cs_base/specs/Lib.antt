@@ -8,5 +8,7 @@ pub mod InMemory
 pub mod Members
 pub mod Orders
 pub mod Outside
+pub mod ScriptParts
+pub mod ScriptedHub
 pub mod WordForms
 pub mod formers

@@ -2,6 +2,7 @@
 #![tactic(auto)]
 
 mod block;
+mod connections;
 mod doc;
 mod failed;
 mod failing;
@@ -20,6 +21,7 @@ mod outside;
 mod plan;
 mod query;
 mod scores;
+mod script;
 mod script_hub;
 mod seq;
 mod sink;
@@ -49,7 +51,8 @@ pub use outside::{Failed, Files, Sink, Store};
 pub use plan::{Kept, Plan};
 pub use query::{Atom, Chain, Link, Linked, Part, Query, Which};
 pub use scores::{BEHIND_TITLE, FACET_SCORE, TEXT_SCORE, TITLE_SCORE};
-pub use script_hub::{ScriptHub, Scripted};
+pub use script::Scripted;
+pub use script_hub::ScriptHub;
 pub use seq::Seq;
 pub use text::Text;
 pub use word::Word;

@@ -160,7 +160,7 @@ fn run_with(
     for word in words {
         given.push(String::from_str(alloc, word)?)?;
     }
-    let mut hub = ScriptHub::new(Seq::new(alloc));
+    let mut hub = ScriptHub::new(alloc, Seq::new(alloc));
     let mut out = MemSink::new(alloc);
     let mut err = MemSink::new(alloc);
     let status = run(alloc, &given, &mut files, &mut hub, &mut out, &mut err);

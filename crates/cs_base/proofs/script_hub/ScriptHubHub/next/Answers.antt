@@ -1,9 +1,30 @@
-use Rattle.std.proofs.Common.{◌+◌}
-use Rattle.cs_base.proofs.HubLemmas.{orderly}
+use Rattle.std.proofs.Common.{length, ◌≡◌, subst, sym, ap, ◌∙◌}
+use Rattle.cs_base.specs.Hub.{came_of, Happens}
+use Rattle.cs_base.specs.ScriptedHub.{comes, playable, played, next_called}
+use Rattle.cs_base.specs.ScriptParts.{connected, left_in}
+use Rattle.cs_base.proofs.Playing.{orderly, state_of, IsInOrder}
 use Rattle.cs_base.proofs.script_hub.ScriptHubHub.next.Goals as goal
 
-pub returns-then-self-clause-orderly : goal.returns-then-self-clause-orderly
-returns-then-self-clause-orderly c = orderly (record { port = c.self.inside.port; conns = c.self.inside.conns; overs = c.self.inside.overs; faults = c.saturating_add-self-inside.result })
+pub returns-then-count_call-clause-orderly : goal.returns-then-count_call-clause-orderly
+returns-then-count_call-clause-orderly c =
+    subst IsInOrder (sym c.miss.ensures)
+    (orderly c.self.inside.port c.self.inside.conns c.self.inside.over c.self.inside.connections.list.items (left_in c.self.inside.script) c.self.inside.came.items c.self.invariant)
 
-pub returns-clause-orderly : goal.returns-clause-orderly
-returns-clause-orderly c = orderly (record { port = c.self.inside.port; conns = c.self.inside.conns; overs = c.self.inside.overs + 1; faults = c.self.inside.faults })
+pub returns-in-Ok-clause-ok : goal.returns-in-Ok-clause-ok
+returns-in-Ok-clause-ok c =
+    c.in-Ok.ensures.ok
+    ∙ ap (λ n. played (length c.args.into.now) (state_of c.self.inside.port c.self.inside.conns c.self.inside.over (connected c.self.inside.connections) c.self.inside.came.items (left_in c.self.inside.script) n c.self.inside.send_calls.items c.self.inside.faults c.self.inside.send_faults)) c.count_call.ensures.left
+    ∙ ap (λ s. next_called (played (length c.args.into.now) s)) c.self.view_is
+
+pub returns-in-Ok-clause-event : goal.returns-in-Ok-clause-event
+returns-in-Ok-clause-event c =
+    subst (λ s. came_of c.in-Ok.event c.play.new.into ≡ comes s.hub (length c.args.into.now) (playable s.hub s.left)) c.self.view_is c.in-Ok.ensures.event
+
+pub returns-in-Ok-clause-happens : goal.returns-in-Ok-clause-happens
+returns-in-Ok-clause-happens c = subst (λ s. Happens s.hub (length c.args.into.now) c.in-Ok.event c.play.new.self.hub) c.self.view_is c.in-Ok.ensures.happens
+
+pub returns-in-Ok-clause-orderly : goal.returns-in-Ok-clause-orderly
+returns-in-Ok-clause-orderly c = c.play.ensures.orderly
+
+pub returns-in-Err-clause-orderly : goal.returns-in-Err-clause-orderly
+returns-in-Err-clause-orderly c = subst IsInOrder (sym c.miss-in-Err.ensures) c.play.ensures.orderly
