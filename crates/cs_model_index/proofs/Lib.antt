@@ -1,3 +1,4 @@
+pub mod CorpusLemmas
 pub mod FileExamples
 pub mod ImageLemmas
 pub mod NumberedLemmas
