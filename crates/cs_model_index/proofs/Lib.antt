@@ -1,3 +1,5 @@
+pub mod AcceptedLemmas
+pub mod AgainLemmas
 pub mod CorpusLemmas
 pub mod FileExamples
 pub mod ImageLemmas

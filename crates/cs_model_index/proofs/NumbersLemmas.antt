@@ -4,6 +4,7 @@
 --   number_back             where a number was read, its bytes stand
 --   numbers_written         as many numbers as there are bytes for, written again
 --   entries_written         the same of entries
+--   numbers_count, heads_count      how many are read
 use Rattle.std.proofs.Common.{◌≡◌, ℕ, zero, suc, ◌+◌, ◌*◌, ◌<◌, ◌≤◌, List, [], ◌∷◌, ◌++◌, length, get_or, take, drop, refl, sym, ap, ◌∙◌, inl, inr, arith, length-take, length-drop, take-append-drop, drop-drop, get_or-drop, get_or-take}
 use Rattle.std.specs.Prelude.{flat_map, All}
 use Rattle.std.specs.Int.{w32, to_be_bytes}
@@ -62,3 +63,13 @@ entries_written words (suc k) bytes fits len =
     let c = number_back bytes 8 12 (number_at bytes 8) _ fits (omega (arith, len)) refl refl d in
     let b = number_back bytes 4 8 (number_at bytes 4) _ fits (omega (arith, len)) refl refl c in
     sym (number_back bytes 0 4 (number_at bytes 0) _ fits (omega (arith, len)) refl refl b)
+
+pub numbers_count : (k : ℕ) (bytes : List ℕ) → length (numbers_in k bytes) ≡ k
+unfolding numbers_in
+numbers_count zero bytes = refl
+numbers_count (suc k) bytes = ap suc (numbers_count k (drop 4 bytes))
+
+pub heads_count : (words : List (List ℕ)) (k : ℕ) (bytes : List ℕ) → length (heads_in words k bytes) ≡ k
+unfolding heads_in
+heads_count words zero bytes = refl
+heads_count words (suc k) bytes = ap suc (heads_count words k (drop 16 bytes))

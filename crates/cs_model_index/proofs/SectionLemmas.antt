@@ -6,7 +6,7 @@
 --   shapes           the heads of blocks go with the blocks' bytes
 --   blocks_written   the blocks, by the law that an accepted block is that of the rows read
 use Rattle.std.proofs.Common.{◌≡◌, ℕ, zero, suc, ◌+◌, ◌-◌, ◌*◌, ◌<◌, ◌≤◌, ◌^◌, ◌&&◌, Bool, true, false, true≢false, not, cond, List, [], ◌∷◌, ◌++◌, length, map, take, drop, get_or, Option, Some, None, refl, sym, ap, subst, ◌∙◌, arith, length-take, length-drop, take-append-drop, drop-drop}
-use Rattle.std.specs.Prelude.{flat_map, All, find}
+use Rattle.std.specs.Prelude.{flat_map, All, find, nat_le}
 use Rattle.std.specs.List.{AllByRecursion, concat, sum_by, zip, slice_get}
 use Rattle.std.specs.Option.{option_map, option_or, unwrap_or}
 use Rattle.std.proofs.lemmas.Bool.{and_parts, leb-true, eqb-true}
@@ -15,7 +15,7 @@ use Rattle.std.proofs.lemmas.List.Sums.{sum_by-cons}
 use Rattle.cs_base.specs.declared.block.BlockHead.{BlockHead}
 use Rattle.cs_base.specs.declared.block.Broken.{Broken}
 use Rattle.cs_base.specs.declared.doc.Post.{Post}
-use Rattle.cs_base.specs.declared.limits.TheConstants.{MAX_WORDS}
+use Rattle.cs_base.specs.declared.limits.TheConstants.{MAX_WORDS, MAX_WORD_BYTES}
 use Rattle.cs_model.specs.Scores.{SCORES}
 use Rattle.cs_model_index.specs.Blocks.{block_bytes, IsShaped}
 use Rattle.cs_model_index.specs.BlockRules.{judged, rows_read, IsBlock}
@@ -56,9 +56,9 @@ words_written zero at (b ∷ bytes) e = absurd (some_none at e)
 words_written (suc k) at [] e = absurd (some_none at e)
 words_written (suc k) at (n ∷ bytes) e =
     let g = guard_none (is_length n bytes) (words_break k (at + 1 + n) (drop n bytes)) at e in
-    let p = and_parts _ _ g.0 in
-    let q = and_parts _ _ p.1 in
-    let within : n ≤ length bytes = leb-true _ _ q.1 in
+    let p = and_parts (nat_le 1 n) (nat_le n MAX_WORD_BYTES && nat_le n (length bytes)) g.0 in
+    let q = and_parts (nat_le n MAX_WORD_BYTES) (nat_le n (length bytes)) p.1 in
+    let within : n ≤ length bytes = leb-true n (length bytes) q.1 in
     let rest = words_written k (at + 1 + n) (drop n bytes) g.1 in
     let len : length (take n bytes) ≡ n = omega (arith, within, length-take n bytes) in
     record {
