@@ -1,6 +1,6 @@
 -- Where no rule is broken, the bytes are the file of the image that is read of them.
 --
---   RulesHold           what each rule says, in their order
+--   ValuesHold, RulesHold       what each rule says, of what is read and of the bytes
 --   rules_hold          they hold of an index file
 --   header_written      the numbers of the header, written again
 --   sections_joined     the sections are the bytes behind the header
@@ -37,12 +37,9 @@ pub record FieldsHold (h : Header) : Type 0 where
   pub target_to : h.target ≤ MAX_TARGET
   pub spare : h.spare ≡ 0
 
-pub record RulesHold (b : List ℕ) (r : Reading) : Type 0 where
-  pub long : 44 ≤ length b
-  pub first : take 8 b ≡ MAGIC
+-- what the rules say of what is read
+pub record ValuesHold (r : Reading) : Type 0 where
   pub fields : FieldsHold r.header
-  pub size : length b ≡ size_by r.header
-  pub words_stand : words_break r.header.words vocabulary_at r.bytes.vocabulary ≡ None
   pub words : AllByRecursion (λ i. is_word i.value ≡ true) (laid word_size vocabulary_at None r.words)
   pub ascend : AllByRecursion (λ i. follows i.last i.value ≡ true) (laid word_size vocabulary_at None r.words)
   pub onward : AllByRecursion (λ i. is_onward i.last i.value ≡ true) (laid (λ o. 4) (offsets_at r.header) None r.offsets)
@@ -54,8 +51,16 @@ pub record RulesHold (b : List ℕ) (r : Reading) : Type 0 where
   pub sized : AllByRecursion (λ i. is_sized i.value ≡ true) (laid (λ h. 16) (directory_at r.header) None r.heads)
   pub rows_sum : sum_by (λ h. h.rows) r.heads ≡ r.header.rows
   pub bytes_sum : sum_by (λ h. h.len) r.heads ≡ r.header.blocks_len
-  pub blocks : blocks_break r.header.docs (blocks_at r.header) r.heads r.bytes.blocks ≡ None
   pub parted : AllByRecursion (λ i. is_parted r.header.target r.words i ≡ true) (laid (λ p. 16) (directory_at r.header) None (zip r.heads r.blocks))
+
+-- and of the bytes
+pub record RulesHold (b : List ℕ) (r : Reading) : Type 0 where
+  pub long : 44 ≤ length b
+  pub first : take 8 b ≡ MAGIC
+  pub size : length b ≡ size_by r.header
+  pub words_stand : words_break r.header.words vocabulary_at r.bytes.vocabulary ≡ None
+  pub blocks : blocks_break r.header.docs (blocks_at r.header) r.heads r.bytes.blocks ≡ None
+  pub values : ValuesHold r
 
 tried_none : (n : ℕ) (o : Option ℕ) → tried n o ≡ None → o ≡ None
 tried_none n None e = refl
@@ -101,22 +106,24 @@ rules_hold b r e =
     record {
       long = leb-true _ _ (unless_none _ _ r1);
       first = (bytes_eq-Decides (take 8 b) MAGIC).0 (unless_none _ _ r2);
-      fields = fields_hold r.header r3;
       size = eqb-true _ _ (unless_none _ _ r4);
       words_stand = tried_none 5 _ g.0;
-      words = unbroken (λ i. is_word i.value) _ (tried_none 6 _ g.1.0);
-      ascend = unbroken (λ i. follows i.last i.value) _ (tried_none 7 _ g.1.1.0);
-      onward = unbroken (λ i. is_onward i.last i.value) _ r8.0;
-      last_offset = eqb-true _ _ (unless_none _ _ r8.1);
-      texts = unbroken (λ i. is_utf8 i.value) _ r9;
-      joined = unbroken (λ i. is_joined i.last i.value) _ r10.0;
-      end = eqb-true _ _ (unless_none _ _ r10.1);
-      kinds = unbroken (λ i. is_of_one_kind r.words i.value) _ r11;
-      sized = unbroken (λ i. is_sized i.value) _ r12.0;
-      rows_sum = eqb-true _ _ sums.0;
-      bytes_sum = eqb-true _ _ sums.1;
       blocks = d.1.1.1.0;
-      parted = unbroken (is_parted r.header.target r.words) _ (tried_none 18 _ d.1.1.1.1.0);
+      values = record {
+        fields = fields_hold r.header r3;
+        words = unbroken (λ i. is_word i.value) _ (tried_none 6 _ g.1.0);
+        ascend = unbroken (λ i. follows i.last i.value) _ (tried_none 7 _ g.1.1.0);
+        onward = unbroken (λ i. is_onward i.last i.value) _ r8.0;
+        last_offset = eqb-true _ _ (unless_none _ _ r8.1);
+        texts = unbroken (λ i. is_utf8 i.value) _ r9;
+        joined = unbroken (λ i. is_joined i.last i.value) _ r10.0;
+        end = eqb-true _ _ (unless_none _ _ r10.1);
+        kinds = unbroken (λ i. is_of_one_kind r.words i.value) _ r11;
+        sized = unbroken (λ i. is_sized i.value) _ r12.0;
+        rows_sum = eqb-true _ _ sums.0;
+        bytes_sum = eqb-true _ _ sums.1;
+        parted = unbroken (is_parted r.header.target r.words) _ (tried_none 18 _ d.1.1.1.1.0);
+      };
     }
 
 -- ---- the header and the sections
@@ -147,7 +154,7 @@ sections_joined h rest =
     ∙ ap (λ (x : List ℕ). take h.vocabulary_len rest ++ x) (take-append-drop (offsets_len h) a)
     ∙ take-append-drop h.vocabulary_len rest
 
-same_header : (h : Header) (a b c d e f g k z : ℕ) → a ≡ h.docs → b ≡ h.words → c ≡ h.rows → d ≡ h.blocks → e ≡ h.target → f ≡ h.vocabulary_len → g ≡ h.titles_len → k ≡ h.blocks_len → z ≡ h.spare
+pub same_header : (h : Header) (a b c d e f g k z : ℕ) → a ≡ h.docs → b ≡ h.words → c ≡ h.rows → d ≡ h.blocks → e ≡ h.target → f ≡ h.vocabulary_len → g ≡ h.titles_len → k ≡ h.blocks_len → z ≡ h.spare
     → let x : Header = record { docs = a; words = b; rows = c; blocks = d; target = e; vocabulary_len = f; titles_len = g; blocks_len = k; spare = z } in x ≡ h
 same_header h a b c d e f g k z p q r s t u v w y = rw (p, q, r, s, t, u, v, w, y) refl
 
@@ -190,7 +197,7 @@ accepted_are_files law b small e =
     let rest = drop 44 b in
     let s = sections h rest in
     let hold : RulesHold b r = rules_hold b r e in
-    let f = hold.fields in
+    let f = hold.values.fields in
     let sized = sections_sized h b hold.long hold.size in
     let behind : IsBytes rest = IsBytes-drop 44 b fits in
     let behind_words = IsBytes-drop h.vocabulary_len rest behind in
@@ -199,13 +206,13 @@ accepted_are_files law b small e =
     let words = words_written h.words vocabulary_at s.vocabulary hold.words_stand in
     let many : length r.offsets ≡ h.docs + 1 = numbers_count (h.docs + 1) s.offsets in
     let offsets = numbers_written (h.docs + 1) s.offsets (IsBytes-take (offsets_len h) (drop h.vocabulary_len rest) behind_words) sized.offsets in
-    let titles = titles_written (offsets_at h) r.offsets s.titles (omega (arith, many)) hold.onward (hold.last_offset ∙ sym sized.titles) in
+    let titles = titles_written (offsets_at h) r.offsets s.titles (omega (arith, many)) hold.values.onward (hold.values.last_offset ∙ sym sized.titles) in
     let heads = entries_written r.words h.blocks s.directory (IsBytes-take (directory_len h) (drop h.titles_len (drop (offsets_len h) (drop h.vocabulary_len rest))) behind_titles) sized.directory in
-    let end : end_from 0 r.heads ≡ h.words = sym (end_is r.heads) ∙ hold.end in
-    let shaped = shapes (directory_at h) None r.heads (length s.blocks) hold.joined hold.sized (omega (arith, end, f.words)) (hold.bytes_sum ∙ sym sized.blocks) in
+    let end : end_from 0 r.heads ≡ h.words = sym (end_is r.heads) ∙ hold.values.end in
+    let shaped = shapes (directory_at h) None r.heads (length s.blocks) hold.values.joined hold.values.sized (omega (arith, end, f.words)) (hold.values.bytes_sum ∙ sym sized.blocks) in
     let blocks = blocks_written law h.docs (blocks_at h) r.heads s.blocks (omega (arith, f.docs)) (IsBytes-drop (directory_len h) (drop h.titles_len (drop (offsets_len h) (drop h.vocabulary_len rest))) behind_titles) shaped hold.blocks in
     let header : header_of_image (image_of b) ≡ h = same_header h _ _ _ _ _ _ _ _ _
-      (omega (arith, titles.0, many)) words.count (blocks.2 ∙ hold.rows_sum) (blocks.0 ∙ heads_count r.words h.blocks s.directory) refl
+      (omega (arith, titles.0, many)) words.count (blocks.2 ∙ hold.values.rows_sum) (blocks.0 ∙ heads_count r.words h.blocks s.directory) refl
       (ap length words.written ∙ sized.vocabulary) (ap length titles.2 ∙ sized.titles) (ap length blocks.1 ∙ sized.blocks) (sym f.spare) in
     same_parts _ _ _ _ _ _ (header_bytes h) s.vocabulary s.offsets s.titles s.directory s.blocks
       (ap header_bytes header) words.written (ap (flat_map number_bytes) titles.1 ∙ offsets) titles.2 heads blocks.1

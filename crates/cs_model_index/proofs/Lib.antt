@@ -7,3 +7,4 @@ pub mod NumberedLemmas
 pub mod NumbersLemmas
 pub mod PartitionLemmas
 pub mod SectionLemmas
+pub mod WrittenLemmas
