@@ -5,24 +5,21 @@
 --   header_written      the numbers of the header, written again
 --   sections_joined     the sections are the bytes behind the header
 --   accepted_are_files  the law, by the law of blocks
-use Rattle.std.proofs.Common.{◌≡◌, ℕ, suc, ◌+◌, ◌-◌, ◌*◌, ◌<◌, ◌≤◌, ◌^◌, Bool, true, false, List, [], ◌∷◌, ◌++◌, length, take, drop, Option, Some, None, refl, sym, ap, subst, ◌∙◌, arith, length-take, length-drop, take-append-drop}
-use Rattle.std.specs.Prelude.{All, flat_map}
+use Rattle.std.proofs.Common.{◌≡◌, ℕ, ◌+◌, ◌-◌, ◌*◌, ◌≤◌, true, List, [], ◌∷◌, ◌++◌, length, take, drop, Option, Some, None, refl, sym, ap, ◌∙◌, arith, length-take, length-drop, take-append-drop}
+use Rattle.std.specs.Prelude.{flat_map}
 use Rattle.std.specs.List.{AllByRecursion, sum_by, zip}
-use Rattle.std.specs.Option.{option_or, option_map, unwrap_or}
+use Rattle.std.specs.Option.{option_or, unwrap_or}
 use Rattle.std.specs.Str.{is_utf8}
 use Rattle.std.proofs.lemmas.Bool.{and_parts, leb-true, eqb-true}
 use Rattle.std.proofs.lemmas.Slice.Eq.{bytes_eq-Decides}
-use Rattle.cs_base.specs.declared.block.BlockHead.{BlockHead}
-use Rattle.cs_base.specs.declared.block.Broken.{Broken}
 use Rattle.cs_base.specs.declared.limits.TheConstants.{MAX_DOCS, MAX_WORDS, MAX_ROWS}
 use Rattle.cs_model.proofs.FirstLemmas.{none_first, none_rest, unless_none}
 use Rattle.cs_model.specs.First.{first_reason}
-use Rattle.cs_model_index.specs.BlockRules.{broken_at}
-use Rattle.cs_model_index.specs.FileLaws.{BlocksAreRead, AcceptedAreFiles}
-use Rattle.cs_model_index.specs.FileRules.{laid, last_of, break_of, tried, field_breaks, words_break, is_word, follows, word_size, is_onward, last_offset_at, words_end, is_joined, is_of_one_kind, is_sized, blocks_break, is_parted, file_rules, damage, IsIndexFile}
-use Rattle.cs_model_index.specs.Images.{Image}
-use Rattle.cs_model_index.specs.Layout.{number_bytes, Header, MAGIC, header_bytes, vocabulary_bytes, offset_bytes, title_bytes, directory_bytes, blocks_bytes, header_of_image, file}
-use Rattle.cs_model_index.specs.Sections.{number_at, header_of, offsets_len, directory_len, vocabulary_at, offsets_at, titles_at, directory_at, blocks_at, size_by, Sections, sections, numbers_in, Reading, reading_of, image_of}
+use Rattle.cs_model_index.proofs.BlockUses.{BlocksAreRead, blocks_are_read}
+use Rattle.cs_model_index.specs.FileLaws.{AcceptedAreFiles, FilesFollowBlocks}
+use Rattle.cs_model_index.specs.FileRules.{laid, last_of, tried, field_breaks, words_break, is_word, follows, word_size, is_onward, words_end, is_joined, is_of_one_kind, is_sized, blocks_break, is_parted, file_rules, damage}
+use Rattle.cs_model_index.specs.Layout.{number_bytes, Header, MAGIC, header_bytes, offset_bytes, header_of_image, file}
+use Rattle.cs_model_index.specs.Sections.{number_at, header_of, offsets_len, directory_len, vocabulary_at, offsets_at, titles_at, directory_at, blocks_at, size_by, Sections, sections, Reading, reading_of, image_of}
 use Rattle.cs_model_index.specs.declared.limits.TheConstants.{MAX_TARGET}
 use Rattle.cs_model_index.proofs.NumbersLemmas.{IsBytes, bytes_from_all, IsBytes-take, IsBytes-drop, number_back, numbers_written, entries_written, numbers_count, heads_count}
 use Rattle.cs_model_index.proofs.SectionLemmas.{unbroken, words_written, titles_written, end_from, end_is, shapes, blocks_written}
@@ -212,9 +209,12 @@ accepted_are_files law b small e =
     let shaped = shapes (directory_at h) None r.heads (length s.blocks) hold.values.joined hold.values.sized (omega (arith, end, f.words)) (hold.values.bytes_sum ∙ sym sized.blocks) in
     let blocks = blocks_written law h.docs (blocks_at h) r.heads s.blocks (omega (arith, f.docs)) (IsBytes-drop (directory_len h) (drop h.titles_len (drop (offsets_len h) (drop h.vocabulary_len rest))) behind_titles) shaped hold.blocks in
     let header : header_of_image (image_of b) ≡ h = same_header h _ _ _ _ _ _ _ _ _
-      (omega (arith, titles.0, many)) words.count (blocks.2 ∙ hold.values.rows_sum) (blocks.0 ∙ heads_count r.words h.blocks s.directory) refl
-      (ap length words.written ∙ sized.vocabulary) (ap length titles.2 ∙ sized.titles) (ap length blocks.1 ∙ sized.blocks) (sym f.spare) in
+    (omega (arith, titles.0, many)) words.count (blocks.2 ∙ hold.values.rows_sum) (blocks.0 ∙ heads_count r.words h.blocks s.directory) refl
+    (ap length words.written ∙ sized.vocabulary) (ap length titles.2 ∙ sized.titles) (ap length blocks.1 ∙ sized.blocks) (sym f.spare) in
     same_parts _ _ _ _ _ _ (header_bytes h) s.vocabulary s.offsets s.titles s.directory s.blocks
-      (ap header_bytes header) words.written (ap (flat_map number_bytes) titles.1 ∙ offsets) titles.2 heads blocks.1
+    (ap header_bytes header) words.written (ap (flat_map number_bytes) titles.1 ∙ offsets) titles.2 heads blocks.1
     ∙ ap (λ (x : List ℕ). header_bytes h ++ x) (sections_joined h rest)
     ∙ header_written b fits hold.long hold.first
+
+pub files_follow_blocks : FilesFollowBlocks
+files_follow_blocks accepted one = accepted_are_files (blocks_are_read accepted one)

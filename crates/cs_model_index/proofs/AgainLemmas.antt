@@ -7,25 +7,24 @@
 --   heads_again      the directory
 --   blocks_again     the blocks, by the law that the block of posts breaks no rule
 --   sections_again   the sections
-use Rattle.std.proofs.Common.{◌≡◌, ℕ, zero, suc, ◌+◌, ◌-◌, ◌*◌, ◌<◌, ◌≤◌, ◌^◌, ◌&&◌, Bool, true, false, not, cond, List, [], ◌∷◌, ◌++◌, length, map, take, drop, Option, Some, None, refl, sym, ap, subst, ◌∙◌, arith, length-append, take_at, drop_at, drop-drop}
-use Rattle.std.specs.Prelude.{flat_map, find, nat_le}
-use Rattle.std.specs.List.{AllByRecursion, zip}
-use Rattle.std.specs.Option.{option_map, option_or}
+use Rattle.std.proofs.Common.{◌≡◌, ℕ, suc, ◌+◌, ◌-◌, ◌<◌, ◌≤◌, ◌^◌, Bool, true, not, cond, List, [], ◌∷◌, ◌++◌, length, take, drop, Option, Some, None, refl, sym, ap, ◌∙◌, arith, length-append, take_at, drop_at, drop-drop}
+use Rattle.std.specs.Prelude.{flat_map, find}
+use Rattle.std.specs.List.{AllByRecursion}
+use Rattle.std.specs.Option.{option_map}
 use Rattle.std.proofs.lemmas.Bool.{and_from, le-leb}
 use Rattle.std.proofs.lemmas.Nat.{from_be_bytes-to_be_bytes_4}
 use Rattle.cs_base.specs.declared.block.BlockHead.{BlockHead}
-use Rattle.cs_base.specs.declared.block.Broken.{Broken}
 use Rattle.cs_base.specs.declared.doc.Post.{Post}
 use Rattle.cs_base.specs.declared.limits.TheConstants.{MAX_WORD_BYTES}
 use Rattle.cs_model.specs.Scores.{SCORES}
+use Rattle.cs_model_index.specs.BlockLaws.{OneReading}
 use Rattle.cs_model_index.specs.Blocks.{block_bytes, IsShaped}
-use Rattle.cs_model_index.specs.BlockRules.{judged, rows_read, IsBlock}
-use Rattle.cs_model_index.specs.FileLaws.{BlocksAreWritten}
-use Rattle.cs_model_index.specs.FileRules.{Placed, laid, place_of_item, break_of, is_length, words_break, moved, blocks_break}
+use Rattle.cs_model_index.specs.BlockRules.{IsBlock}
+use Rattle.cs_model_index.specs.FileRules.{Placed, place_of_item, break_of, is_length, words_break, blocks_break}
 use Rattle.cs_model_index.specs.Layout.{number_bytes, Header, vocabulary_bytes, offsets_from, title_bytes, entry_bytes, directory_bytes, blocks_bytes}
 use Rattle.cs_model_index.specs.Numbered.{word_at}
 use Rattle.cs_model_index.specs.Partitions.{is_facet}
-use Rattle.cs_model_index.specs.Sections.{number_at, words_in, numbers_in, title_at, titles_in, head_in, heads_in, blocks_in, offsets_len, directory_len, Sections, sections}
+use Rattle.cs_model_index.specs.Sections.{number_at, words_in, numbers_in, title_at, titles_in, head_in, heads_in, blocks_in, offsets_len, directory_len, sections}
 
 -- ---- items
 found_not : {X : Type 0} (b : Bool) (i : Placed X) (o : Option (Placed X)) → b ≡ true → option_map place_of_item o ≡ None → option_map place_of_item (cond (not b) (Some i) o) ≡ None
@@ -103,7 +102,7 @@ unfolding number_at
 head_again words h rest fits =
     let lo = from_be_bytes-to_be_bytes_4 h.lo fits.lo in
     same_head h _ _ _ _ _ lo (from_be_bytes-to_be_bytes_4 h.words fits.words) (from_be_bytes-to_be_bytes_4 h.rows fits.rows) (from_be_bytes-to_be_bytes_4 h.len fits.len)
-      (ap (λ (n : ℕ). is_facet (word_at words n)) lo ∙ sym fits.facet)
+    (ap (λ (n : ℕ). is_facet (word_at words n)) lo ∙ sym fits.facet)
 
 pub heads_again : (words : List (List ℕ)) (hs : List BlockHead) → AllByRecursion (HeadFits words) hs → heads_in words (length hs) (directory_bytes hs) ≡ hs
 unfolding heads_in directory_bytes
@@ -119,7 +118,7 @@ AreBlocks docs [] (rs ∷ rss) = ⊥
 AreBlocks docs (h ∷ hs) [] = ⊥
 AreBlocks docs (h ∷ hs) (rs ∷ rss) = IsShaped h (length (block_bytes rs h.lo)) × IsBlock SCORES h docs rs (block_bytes rs h.lo) × AreBlocks docs hs rss
 
-pub blocks_again : BlocksAreWritten → (docs at : ℕ) (hs : List BlockHead) (rss : List (List Post)) → docs < 2 ^ 32 → AreBlocks docs hs rss
+pub blocks_again : OneReading → (docs at : ℕ) (hs : List BlockHead) (rss : List (List Post)) → docs < 2 ^ 32 → AreBlocks docs hs rss
     → (blocks_break docs at hs (blocks_bytes hs rss) ≡ None) × (blocks_in hs (blocks_bytes hs rss) ≡ rss)
 unfolding blocks_break blocks_in blocks_bytes AreBlocks
 blocks_again law docs at [] [] few b = (refl, refl)

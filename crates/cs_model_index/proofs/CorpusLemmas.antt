@@ -24,12 +24,11 @@ use Rattle.cs_base.proofs.MembersLemmas.{members_are, is_member-listed}
 use Rattle.cs_base.proofs.OrdersLemmas.{by_row_total, by_row_exact}
 use Rattle.cs_base.specs.Members.{members_in}
 use Rattle.cs_base.specs.Orders.{by_row, by_spot}
-use Rattle.cs_base.specs.declared.doc.Post.{Post}
 use Rattle.cs_base.specs.declared.doc.Row.{Row}
 use Rattle.cs_model.specs.Corpus.{Corpus, by_number, distinct_words, IsCorpus}
 use Rattle.cs_model_index.proofs.NumberedLemmas.{rows_of_numbered}
-use Rattle.cs_model_index.specs.Images.{Image, block_of, image_by, image_rows, image_corpus, IsImage}
-use Rattle.cs_model_index.specs.Numbered.{rows_at, numbered, HasWord}
+use Rattle.cs_model_index.specs.Images.{Image, block_of, image_rows, image_corpus, IsImage}
+use Rattle.cs_model_index.specs.Numbered.{rows_at, HasWord}
 
 -- ---- order
 spot_less : (a b c e : Ordering) → ordering_then a (ordering_then b c) ≡ Less → ordering_then a (ordering_then b (ordering_then c e)) ≡ Less

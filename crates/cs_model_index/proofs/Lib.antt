@@ -1,5 +1,6 @@
 pub mod AcceptedLemmas
 pub mod AgainLemmas
+pub mod BlockUses
 pub mod CorpusLemmas
 pub mod FileExamples
 pub mod ImageLemmas

@@ -5,7 +5,7 @@
 --   numbers_written         as many numbers as there are bytes for, written again
 --   entries_written         the same of entries
 --   numbers_count, heads_count      how many are read
-use Rattle.std.proofs.Common.{◌≡◌, ℕ, zero, suc, ◌+◌, ◌*◌, ◌<◌, ◌≤◌, List, [], ◌∷◌, ◌++◌, length, get_or, take, drop, refl, sym, ap, ◌∙◌, inl, inr, arith, length-take, length-drop, take-append-drop, drop-drop, get_or-drop, get_or-take}
+use Rattle.std.proofs.Common.{◌≡◌, ℕ, zero, suc, ◌+◌, ◌*◌, ◌<◌, ◌≤◌, List, ◌++◌, length, get_or, take, drop, refl, sym, ap, ◌∙◌, inl, inr, arith, length-take, length-drop, take-append-drop, drop-drop, get_or-drop, get_or-take}
 use Rattle.std.specs.Prelude.{flat_map, All}
 use Rattle.std.specs.Int.{w32, to_be_bytes}
 use Rattle.std.proofs.lemmas.Bool.{cases_lt}
@@ -13,7 +13,7 @@ use Rattle.std.proofs.lemmas.List.{get_or_past, nil_from_length}
 use Rattle.std.proofs.lemmas.List.Elements.{All-from_get_or}
 use Rattle.std.proofs.lemmas.Nat.{be_bytes_4}
 use Rattle.cs_model_index.specs.Layout.{number_bytes, entry_bytes, directory_bytes}
-use Rattle.cs_model_index.specs.Sections.{number_at, numbers_in, head_in, heads_in}
+use Rattle.cs_model_index.specs.Sections.{number_at, numbers_in, heads_in}
 
 abbrev pub IsBytes : List ℕ → Type 0
 IsBytes bytes = (i : ℕ) → get_or bytes i 0 < 256

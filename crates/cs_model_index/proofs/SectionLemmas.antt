@@ -5,9 +5,9 @@
 --   titles_written   offsets and titles
 --   shapes           the heads of blocks go with the blocks' bytes
 --   blocks_written   the blocks, by the law that an accepted block is that of the rows read
-use Rattle.std.proofs.Common.{◌≡◌, ℕ, zero, suc, ◌+◌, ◌-◌, ◌*◌, ◌<◌, ◌≤◌, ◌^◌, ◌&&◌, Bool, true, false, true≢false, not, cond, List, [], ◌∷◌, ◌++◌, length, map, take, drop, get_or, Option, Some, None, refl, sym, ap, subst, ◌∙◌, arith, length-take, length-drop, take-append-drop, drop-drop}
-use Rattle.std.specs.Prelude.{flat_map, All, find, nat_le}
-use Rattle.std.specs.List.{AllByRecursion, concat, sum_by, zip, slice_get}
+use Rattle.std.proofs.Common.{◌≡◌, ℕ, zero, suc, ◌+◌, ◌-◌, ◌*◌, ◌<◌, ◌≤◌, ◌^◌, ◌&&◌, Bool, true, false, not, cond, List, [], ◌∷◌, ◌++◌, length, take, drop, Option, Some, None, refl, sym, ap, subst, ◌∙◌, arith, length-take, length-drop, take-append-drop, drop-drop}
+use Rattle.std.specs.Prelude.{find, nat_le}
+use Rattle.std.specs.List.{AllByRecursion, sum_by, slice_get}
 use Rattle.std.specs.Option.{option_map, option_or, unwrap_or}
 use Rattle.std.proofs.lemmas.Bool.{and_parts, leb-true, eqb-true}
 use Rattle.std.proofs.lemmas.List.{nil_from_length}
@@ -17,12 +17,12 @@ use Rattle.cs_base.specs.declared.block.Broken.{Broken}
 use Rattle.cs_base.specs.declared.doc.Post.{Post}
 use Rattle.cs_base.specs.declared.limits.TheConstants.{MAX_WORDS, MAX_WORD_BYTES}
 use Rattle.cs_model.specs.Scores.{SCORES}
-use Rattle.cs_model_index.specs.Blocks.{block_bytes, IsShaped}
-use Rattle.cs_model_index.specs.BlockRules.{judged, rows_read, IsBlock}
-use Rattle.cs_model_index.specs.FileLaws.{BlocksAreRead}
+use Rattle.cs_model_index.proofs.BlockUses.{BlocksAreRead}
+use Rattle.cs_model_index.specs.Blocks.{IsShaped}
+use Rattle.cs_model_index.specs.BlockRules.{judged, rows_read}
 use Rattle.cs_model_index.specs.FileRules.{Placed, laid, last_of, place_of_item, break_of, is_length, words_break, is_onward, words_end, is_joined, is_sized, moved, blocks_break}
 use Rattle.cs_model_index.specs.Layout.{vocabulary_bytes, offsets_from, title_bytes, blocks_bytes}
-use Rattle.cs_model_index.specs.Sections.{words_in, title_at, titles_in, blocks_in}
+use Rattle.cs_model_index.specs.Sections.{words_in, titles_in, blocks_in}
 use Rattle.cs_model_index.proofs.NumbersLemmas.{IsBytes, IsBytes-take, IsBytes-drop, all_from_bytes}
 
 -- ---- items

@@ -5,21 +5,20 @@
 --   image_reading     what is to be read of an image's file
 --   IsWritable        an image whose numbers have room, and which keeps the rules
 --   file_again        the file's reading, its rules and its image
-use Rattle.std.proofs.Common.{◌≡◌, ℕ, ◌+◌, ◌*◌, ◌<◌, ◌≤◌, ◌^◌, Bool, true, List, [], ◌∷◌, ◌++◌, length, take, drop, Option, Some, None, refl, sym, ap, ◌∙◌, arith, length-append}
+use Rattle.std.proofs.Common.{◌≡◌, ℕ, ◌+◌, ◌*◌, ◌<◌, ◌^◌, Bool, true, List, [], ◌∷◌, ◌++◌, length, take, drop, Option, None, refl, sym, ap, ◌∙◌, arith, length-append}
 use Rattle.std.specs.Prelude.{flat_map}
-use Rattle.std.specs.List.{AllByRecursion, zip}
-use Rattle.std.specs.Option.{option_or, option_map}
+use Rattle.std.specs.List.{AllByRecursion}
+use Rattle.std.specs.Option.{option_or}
 use Rattle.std.specs.Str.{is_utf8}
 use Rattle.std.proofs.lemmas.Bool.{and_from, le-leb, eq-eqb}
 use Rattle.std.proofs.lemmas.Nat.{from_be_bytes-to_be_bytes_4}
 use Rattle.std.proofs.lemmas.Slice.Eq.{bytes_eq-Decides}
 use Rattle.cs_base.specs.declared.block.BlockHead.{BlockHead}
-use Rattle.cs_base.specs.declared.block.Broken.{Broken}
 use Rattle.cs_model.specs.First.{unless, first_reason}
-use Rattle.cs_model_index.specs.FileLaws.{BlocksAreWritten}
+use Rattle.cs_model_index.specs.BlockLaws.{OneReading}
 use Rattle.cs_model_index.specs.FileRules.{tried, field_breaks, is_word, follows, is_onward, is_joined, is_of_one_kind, is_sized, is_parted, file_rules, damage, IsIndexFile}
 use Rattle.cs_model_index.specs.Images.{Image}
-use Rattle.cs_model_index.specs.Layout.{number_bytes, Header, MAGIC, header_bytes, vocabulary_bytes, offsets_from, offset_bytes, title_bytes, entry_bytes, directory_bytes, blocks_bytes, header_of_image, file}
+use Rattle.cs_model_index.specs.Layout.{number_bytes, Header, MAGIC, header_bytes, vocabulary_bytes, offsets_from, offset_bytes, title_bytes, directory_bytes, blocks_bytes, header_of_image, file}
 use Rattle.cs_model_index.specs.Sections.{number_at, header_of, vocabulary_at, blocks_at, size_by, Sections, sections, words_in, numbers_in, titles_in, heads_in, blocks_in, Reading, reading_by, reading_of, image_of}
 use Rattle.cs_model_index.proofs.AcceptedLemmas.{FieldsHold, ValuesHold, RulesHold, same_header}
 use Rattle.cs_model_index.proofs.AgainLemmas.{break_none, HasLength, words_again, numbers_again, titles_again, offsets_count, HeadFits, heads_again, AreBlocks, blocks_again, sections_again}
@@ -65,32 +64,70 @@ none_all (o ∷ rs) h = ap (λ x. first_reason (x ∷ rs)) h.0 ∙ none_all rs h
 fields_kept : (h : Header) → FieldsHold h → first_reason (field_breaks h) ≡ None
 fields_kept h f = none_all (field_breaks h) (
   unless_holds _ _ (le-leb _ _ f.docs),
-  (unless_holds _ _ (le-leb _ _ f.words),
-  (unless_holds _ _ (le-leb _ _ f.rows),
-  (unless_holds _ _ (le-leb _ _ f.blocks),
-  (unless_holds _ _ (and_from _ _ (le-leb _ _ f.target_from) (le-leb _ _ f.target_to)),
-  (unless_holds _ _ (eq-eqb _ _ f.spare),
-  tt))))))
+  (
+    unless_holds _ _ (le-leb _ _ f.words),
+    (
+      unless_holds _ _ (le-leb _ _ f.rows),
+      (
+        unless_holds _ _ (le-leb _ _ f.blocks),
+        (
+          unless_holds _ _ (and_from _ _ (le-leb _ _ f.target_from) (le-leb _ _ f.target_to)),
+          (
+            unless_holds _ _ (eq-eqb _ _ f.spare),
+            tt,
+          ),
+        ),
+      ),
+    ),
+  ),
+)
 
 pub rules_kept : (b : List ℕ) (r : Reading) → RulesHold b r → first_reason (file_rules b r) ≡ None
 rules_kept b r h =
     let v = h.values in
     none_all (file_rules b r) (
       tried_holds 1 _ (unless_holds _ _ (le-leb _ _ h.long)),
-      (tried_holds 2 _ (unless_holds _ _ ((bytes_eq-Decides (take 8 b) MAGIC).1 h.first)),
-      (tried_holds 3 _ (fields_kept r.header v.fields),
-      (tried_holds 4 _ (unless_holds _ _ (eq-eqb _ _ h.size)),
-      (tried_holds 5 _ h.words_stand,
-      (tried_holds 6 _ (break_none (λ i. is_word i.value) _ v.words),
-      (tried_holds 7 _ (break_none (λ i. follows i.last i.value) _ v.ascend),
-      (tried_holds 8 _ (or_none _ _ (break_none (λ i. is_onward i.last i.value) _ v.onward) (unless_holds _ _ (eq-eqb _ _ v.last_offset))),
-      (tried_holds 9 _ (break_none (λ i. is_utf8 i.value) _ v.texts),
-      (tried_holds 10 _ (or_none _ _ (break_none (λ i. is_joined i.last i.value) _ v.joined) (unless_holds _ _ (eq-eqb _ _ v.end))),
-      (tried_holds 11 _ (break_none (λ i. is_of_one_kind r.words i.value) _ v.kinds),
-      (tried_holds 12 _ (or_none _ _ (break_none (λ i. is_sized i.value) _ v.sized) (unless_holds _ _ (and_from _ _ (eq-eqb _ _ v.rows_sum) (eq-eqb _ _ v.bytes_sum)))),
-      (h.blocks,
-      (tried_holds 18 _ (break_none (is_parted r.header.target r.words) _ v.parted),
-      tt))))))))))))))
+      (
+        tried_holds 2 _ (unless_holds _ _ ((bytes_eq-Decides (take 8 b) MAGIC).1 h.first)),
+        (
+          tried_holds 3 _ (fields_kept r.header v.fields),
+          (
+            tried_holds 4 _ (unless_holds _ _ (eq-eqb _ _ h.size)),
+            (
+              tried_holds 5 _ h.words_stand,
+              (
+                tried_holds 6 _ (break_none (λ i. is_word i.value) _ v.words),
+                (
+                  tried_holds 7 _ (break_none (λ i. follows i.last i.value) _ v.ascend),
+                  (
+                    tried_holds 8 _ (or_none _ _ (break_none (λ i. is_onward i.last i.value) _ v.onward) (unless_holds _ _ (eq-eqb _ _ v.last_offset))),
+                    (
+                      tried_holds 9 _ (break_none (λ i. is_utf8 i.value) _ v.texts),
+                      (
+                        tried_holds 10 _ (or_none _ _ (break_none (λ i. is_joined i.last i.value) _ v.joined) (unless_holds _ _ (eq-eqb _ _ v.end))),
+                        (
+                          tried_holds 11 _ (break_none (λ i. is_of_one_kind r.words i.value) _ v.kinds),
+                          (
+                            tried_holds 12 _ (or_none _ _ (break_none (λ i. is_sized i.value) _ v.sized) (unless_holds _ _ (and_from _ _ (eq-eqb _ _ v.rows_sum) (eq-eqb _ _ v.bytes_sum)))),
+                            (
+                              h.blocks,
+                              (
+                                tried_holds 18 _ (break_none (is_parted r.header.target r.words) _ v.parted),
+                                tt,
+                              ),
+                            ),
+                          ),
+                        ),
+                      ),
+                    ),
+                  ),
+                ),
+              ),
+            ),
+          ),
+        ),
+      ),
+    )
 
 -- ---- the file
 -- what is to be read of an image's file
@@ -128,7 +165,7 @@ same_reading : (h h' : Header) (s s' : Sections) (w w' : List (List ℕ)) (o o' 
     → let x : Reading = record { header = h; bytes = s; words = w; offsets = o; titles = t; heads = g; blocks = b } in let y : Reading = record { header = h'; bytes = s'; words = w'; offsets = o'; titles = t'; heads = g'; blocks = b' } in x ≡ y
 same_reading h h' s s' w w' o o' t t' g g' b b' p q r u v x y = rw (p, q, r, u, v, x, y) refl
 
-pub reading_again : BlocksAreWritten → (i : Image) → IsWritable i → reading_of (file i) ≡ image_reading i
+pub reading_again : OneReading → (i : Image) → IsWritable i → reading_of (file i) ≡ image_reading i
 unfolding file offset_bytes
 reading_again law i is =
     let h = header_of_image i in
@@ -148,7 +185,7 @@ reading_again law i is =
     let words : words_in (length i.words) v ≡ i.words = (words_again vocabulary_at i.words is.lengths).1 in
     let offsets : numbers_in (length i.titles + 1) o ≡ offsets_from 0 i.titles = ap (λ (n : ℕ). numbers_in n o) (sym many) ∙ numbers_again (offsets_from 0 i.titles) is.offsets in
     let heads : heads_in (words_in (length i.words) v) (length i.blocks) d ≡ i.heads =
-      ap (λ (ws : List (List ℕ)). heads_in ws (length i.blocks) d) words ∙ ap (λ (n : ℕ). heads_in i.words n d) (sym is.one_each) ∙ heads_again i.words i.heads is.heads in
+    ap (λ (ws : List (List ℕ)). heads_in ws (length i.blocks) d) words ∙ ap (λ (n : ℕ). heads_in i.words n d) (sym is.one_each) ∙ heads_again i.words i.heads is.heads in
     let f = is.values.fields in
     let few : length i.titles < 2 ^ 32 = omega (arith, f.docs) in
     let blocks = blocks_again law (length i.titles) (blocks_at h) i.heads i.blocks few is.blocks in
@@ -158,7 +195,7 @@ reading_again law i is =
     ∙ same_reading h h p p _ _ _ _ _ _ _ _ _ _ refl refl words offsets (ap (λ (os : List ℕ). titles_in os t) offsets ∙ titles_again i.titles) heads (ap (λ (hs : List BlockHead). blocks_in hs x) heads ∙ blocks.1)
 
 -- the law, for images that can be written
-pub file_again : BlocksAreWritten → (i : Image) → IsWritable i → IsIndexFile (file i) × (image_of (file i) ≡ i)
+pub file_again : OneReading → (i : Image) → IsWritable i → IsIndexFile (file i) × (image_of (file i) ≡ i)
 unfolding file offset_bytes damage image_of
 file_again law i is =
     let h = header_of_image i in

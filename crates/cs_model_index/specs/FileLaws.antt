@@ -2,25 +2,22 @@
 --
 -- Source: this engine's own.
 --
--- These statements stand without a contract here, so nothing in this crate promises them: they are proved where files are written and
--- opened. AcceptedAreFiles follows from BlocksAreRead.
+-- The law `files` says what of this follows from the laws of blocks. The others stand without a contract here, so nothing in this crate
+-- promises them: they are proved where files are written and opened.
 --
 --   HasLimits i           an image whose numbers have room in a file, and whose titles, words and rows are those of a collection
---   BlocksAreRead         a block that breaks no rule is that of the posts that are read of it
---   BlocksAreWritten      the block of posts that keep the rules breaks none, and these posts are read of it
 --   AcceptedAreFiles      an index file is the file of the image that is read of it
+--   FilesFollowBlocks     that follows from the laws of blocks
 --   FilesAreAccepted      the file of an image within the limits is an index file, of which this image is read
 --   AcceptedAreImages     what is read of an index file is the image of its corpus
-use Rattle.std.specs.Prelude.{◌≡◌, ℕ, ◌^◌, ◌<◌, ◌≤◌, true, List, length, All, None}
+use Rattle.std.specs.Prelude.{◌≡◌, ℕ, ◌^◌, ◌<◌, ◌≤◌, true, List, length, All}
 use Rattle.std.specs.List.{sum_by}
 use Rattle.std.specs.Str.{IsUtf8}
-use Rattle.cs_base.specs.declared.block.BlockHead.{BlockHead}
-use Rattle.cs_base.specs.declared.doc.Post.{Post}
 use Rattle.cs_base.specs.declared.limits.TheConstants.{MAX_DOCS, MAX_WORDS, MAX_ROWS, MAX_LINE_BYTES}
 use Rattle.cs_model.specs.Corpus.{Corpus, IsCorpus}
 use Rattle.cs_model.specs.Scores.{SCORES}
-use Rattle.cs_model_index.specs.Blocks.{IsShaped}
-use Rattle.cs_model_index.specs.BlockRules.{is_scored, judged, rows_read, IsBlock}
+use Rattle.cs_model_index.specs.BlockLaws.{AcceptedAreBlocks, OneReading}
+use Rattle.cs_model_index.specs.BlockRules.{is_scored}
 use Rattle.cs_model_index.specs.FileRules.{is_word, IsIndexFile}
 use Rattle.cs_model_index.specs.Images.{Image, IsImage, image_posts}
 use Rattle.cs_model_index.specs.Layout.{title_bytes, file}
@@ -43,17 +40,13 @@ pub record HasLimits (i : Image) : Type 0 where
   pub target_from : 1 ≤ i.target
   pub target_to : i.target ≤ MAX_TARGET
 
--- a block that breaks no rule is that of the posts that are read of it
-abbrev pub BlocksAreRead : Type 0
-BlocksAreRead = (head : BlockHead) (docs : ℕ) (bytes : List ℕ) → docs < 2 ^ 32 → All (λ x. x < 2 ^ 8) bytes → IsShaped head (length bytes) → judged SCORES head docs bytes ≡ None → IsBlock SCORES head docs (rows_read head bytes) bytes
-
--- and the block of posts that keep the rules breaks none, and these posts are read of it
-abbrev pub BlocksAreWritten : Type 0
-BlocksAreWritten = (head : BlockHead) (docs : ℕ) (rs : List Post) (bytes : List ℕ) → docs < 2 ^ 32 → IsShaped head (length bytes) → IsBlock SCORES head docs rs bytes → (judged SCORES head docs bytes ≡ None) × (rows_read head bytes ≡ rs)
-
 -- of bytes, each below 256
 abbrev pub AcceptedAreFiles : Type 0
 AcceptedAreFiles = (b : List ℕ) → All (λ x. x < 2 ^ 8) b → IsIndexFile b → file (image_of b) ≡ b
+
+-- it follows from the laws of blocks
+abbrev pub FilesFollowBlocks : Type 0
+FilesFollowBlocks = AcceptedAreBlocks → OneReading → AcceptedAreFiles
 
 -- and no other image is read of it
 abbrev pub FilesAreAccepted : Type 0
