@@ -2,7 +2,7 @@
 --
 --   holds_on, unbroken   a rule that no item breaks is kept by the rows, and the other way
 --   accepted, unique     the laws of whole blocks
---   accepted_are_blocks, one_reading    the same, as they are said of the crate
+--   accepted_are_blocks    the same, as it is said of the crate
 use Rattle.std.proofs.Common.{◌≡◌, ℕ, zero, suc, ◌+◌, ◌-◌, ◌*◌, ◌^◌, ◌<◌, true, List, [], ◌∷◌, ◌++◌, length, map, take, drop, Option, Some, None, refl, sym, ap, subst, ◌∙◌, arith, inl, inr}
 use Rattle.std.specs.Prelude.{◌↔◌, All}
 use Rattle.std.specs.Int.{w16, w32, to_be_bytes}
@@ -180,6 +180,3 @@ accepted_are_blocks head docs bytes few small shaped = (
   λ e. (rows_read head bytes, accepted head docs bytes (bytes_by bytes small) shaped e),
   λ b. (unique head docs b.0 bytes few shaped b.1).0,
 )
-
-pub one_reading : (head : BlockHead) (docs : ℕ) (rs : List Post) (bytes : List ℕ) → docs < 2 ^ 32 → IsShaped head (length bytes) → IsBlock SCORES head docs rs bytes → rows_read head bytes ≡ rs
-one_reading head docs rs bytes few shaped b = (unique head docs rs bytes few shaped b).1

@@ -1,4 +1,11 @@
+pub mod AcceptedLemmas
+pub mod AgainLemmas
+pub mod BlockUses
+pub mod CorpusLemmas
 pub mod FileExamples
 pub mod ImageLemmas
 pub mod NumberedLemmas
+pub mod NumbersLemmas
 pub mod PartitionLemmas
+pub mod SectionLemmas
+pub mod WrittenLemmas

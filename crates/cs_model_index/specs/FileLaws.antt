@@ -2,13 +2,13 @@
 --
 -- Source: this engine's own.
 --
--- These statements aren't proved here, and no contract of this crate names them: they are proved where the file is written and opened,
--- on the block's laws.
+-- The law `files` says what of this follows from the laws of blocks. The others stand without a contract here, so nothing in this crate
+-- promises them: they are proved where files are written and opened.
 --
 --   HasLimits i           an image whose numbers have room in a file, and whose titles, words and rows are those of a collection
 --   AcceptedAreFiles      an index file is the file of the image that is read of it
+--   FilesFollowBlocks     that follows from the laws of blocks
 --   FilesAreAccepted      the file of an image within the limits is an index file, of which this image is read
---   ImagesKeepCorpora     the corpus of a corpus's image is that corpus
 --   AcceptedAreImages     what is read of an index file is the image of its corpus
 use Rattle.std.specs.Prelude.{◌≡◌, ℕ, ◌^◌, ◌<◌, ◌≤◌, true, List, length, All}
 use Rattle.std.specs.List.{sum_by}
@@ -16,9 +16,10 @@ use Rattle.std.specs.Str.{IsUtf8}
 use Rattle.cs_base.specs.declared.limits.TheConstants.{MAX_DOCS, MAX_WORDS, MAX_ROWS, MAX_LINE_BYTES}
 use Rattle.cs_model.specs.Corpus.{Corpus, IsCorpus}
 use Rattle.cs_model.specs.Scores.{SCORES}
+use Rattle.cs_model_index.specs.BlockLaws.{AcceptedAreBlocks, OneReading}
 use Rattle.cs_model_index.specs.BlockRules.{is_scored}
 use Rattle.cs_model_index.specs.FileRules.{is_word, IsIndexFile}
-use Rattle.cs_model_index.specs.Images.{Image, IsImage, image_posts, image_corpus}
+use Rattle.cs_model_index.specs.Images.{Image, IsImage, image_posts}
 use Rattle.cs_model_index.specs.Layout.{title_bytes, file}
 use Rattle.cs_model_index.specs.Numbered.{word_at}
 use Rattle.cs_model_index.specs.Partitions.{is_facet}
@@ -43,13 +44,13 @@ pub record HasLimits (i : Image) : Type 0 where
 abbrev pub AcceptedAreFiles : Type 0
 AcceptedAreFiles = (b : List ℕ) → All (λ x. x < 2 ^ 8) b → IsIndexFile b → file (image_of b) ≡ b
 
+-- it follows from the laws of blocks
+abbrev pub FilesFollowBlocks : Type 0
+FilesFollowBlocks = AcceptedAreBlocks → OneReading → AcceptedAreFiles
+
 -- and no other image is read of it
 abbrev pub FilesAreAccepted : Type 0
 FilesAreAccepted = (k : Corpus) (target : ℕ) (i : Image) → IsCorpus k → IsImage k target i → HasLimits i → IsIndexFile (file i) × (image_of (file i) ≡ i)
-
--- no row is lost, and none is added
-abbrev pub ImagesKeepCorpora : Type 0
-ImagesKeepCorpora = (k : Corpus) (target : ℕ) (i : Image) → IsCorpus k → IsImage k target i → image_corpus i ≡ k
 
 -- so the rules accept the files of images alone
 abbrev pub AcceptedAreImages : Type 0

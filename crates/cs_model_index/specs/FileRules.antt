@@ -11,7 +11,7 @@
 --   last_of xs                   the last value of some
 --   break_of holds items         the place of the first item that breaks a rule; None where none does
 --   tried n place                the rule of a number, broken where there is a place
---   field_break h                the place of the first number of the header that is out of its range
+--   field_breaks h               the places of the header's numbers that are out of their range
 --   words_break k at bytes       where k words and no more ought to stand, the first place where that fails; None where it holds
 --   is_word w                    a plain word or a facet word of the form that collections have
 --   follows last w, is_onward last o     a word and an offset behind the one before it
@@ -21,6 +21,7 @@
 --   has_rows, is_closed, is_parted       each word of a block has a row, and the block has as many words as it may have
 --   header_rules .. parting_rules        the rules of each section, in their order
 --   blocks_break docs at heads bytes    the first rule of 13 to 17 that a block breaks, the blocks in their order
+--   file_rules b r               all rules, in the order in which they are tried
 --   damage b                     the first broken rule and its place; None where all rules hold
 --   IsIndexFile b                they all hold
 use Rattle.std.specs.Prelude.{◌≡◌, ℕ, zero, suc, ◌+◌, ◌-◌, ◌*◌, Bool, true, ◌&&◌, ◌||◌, not, ◌==◌, nat_le, List, [], ◌∷◌, ◌++◌, length, take, drop, find, chars, Option, Some, None, if◌then◌else◌}
@@ -75,22 +76,22 @@ tried n place = option_map (broken_at n) place
 
 -- ---- rules 1 to 4: the header
 -- documents, words and rows within their limits, at most as many blocks as words, a target within its range, and the last number 0
-abbrev pub field_break : Header → Option ℕ
-field_break h = first_reason (
+abbrev pub field_breaks : Header → List (Option ℕ)
+field_breaks h =
     unless (nat_le h.docs MAX_DOCS) 8
     ∷ unless (nat_le h.words MAX_WORDS) 12
     ∷ unless (nat_le h.rows MAX_ROWS) 16
     ∷ unless (nat_le h.blocks h.words) 20
     ∷ unless (nat_le 1 h.target && nat_le h.target MAX_TARGET) 24
     ∷ unless (h.spare == 0) 40
-    ∷ [])
+    ∷ []
 
 -- the header is whole, it begins with MAGIC, its numbers are in range, and the file is as long as they say
 abbrev pub header_rules : List ℕ → Header → List (Option Broken)
 header_rules b h =
     tried 1 (unless (nat_le HEADER_BYTES (length b)) (length b))
     ∷ tried 2 (unless (bytes_eq (take 8 b) MAGIC) 0)
-    ∷ tried 3 (field_break h)
+    ∷ tried 3 (first_reason (field_breaks h))
     ∷ tried 4 (unless (length b == size_by h) (length b))
     ∷ []
 
@@ -110,9 +111,9 @@ words_break (suc k) at (n ∷ bytes) = if is_length n bytes then words_break k (
 abbrev pub is_value_char : ℕ → Bool
 is_value_char c = is_word_char c || c == 95
 
--- word characters alone, in at most MAX_PLAIN_WORD_BYTES bytes; the empty text is never asked
+-- word characters alone, in at least one and at most MAX_PLAIN_WORD_BYTES bytes
 abbrev pub is_plain_word : List ℕ → Bool
-is_plain_word w = list_all is_word_char (chars w) && nat_le (length w) MAX_PLAIN_WORD_BYTES
+is_plain_word w = is_filled w && (nat_le (length w) MAX_PLAIN_WORD_BYTES && list_all is_word_char (chars w))
 
 -- what stands behind a facet word's first colon: a name, a colon, and at least one and at most MAX_PLAIN_WORD_BYTES bytes of a value
 abbrev pub is_named_value : List ℕ → Bool
@@ -223,19 +224,19 @@ abbrev pub parting_rules : Reading → List (Option Broken)
 parting_rules r = tried 18 (break_of (is_parted r.header.target r.words) (laid (λ p. ENTRY_BYTES) (directory_at r.header) None (zip r.heads r.blocks))) ∷ []
 
 -- ---- the first broken rule
--- of what is read of some bytes
-abbrev pub damage_by : List ℕ → Reading → Option Broken
-damage_by b r = first_reason (
+-- the rules in the order in which they are tried, each as it is broken
+abbrev pub file_rules : List ℕ → Reading → List (Option Broken)
+file_rules b r =
     header_rules b r.header
     ++ (vocabulary_rules r
     ++ (title_rules r
     ++ (directory_rules r
     ++ (blocks_break r.header.docs (blocks_at r.header) r.heads r.bytes.blocks
-    ∷ parting_rules r)))))
+    ∷ parting_rules r))))
 
 -- the first rule that bytes break, with its place; None where they break none
 unfoldable pub damage : List ℕ → Option Broken
-damage b = damage_by b (reading_of b)
+damage b = first_reason (file_rules b (reading_of b))
 
 -- bytes that break no rule; no bytes aren't an index file, since they have no header
 abbrev pub IsIndexFile : List ℕ → Type 0

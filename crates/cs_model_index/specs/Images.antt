@@ -14,6 +14,7 @@
 --   image_rows i              the rows that they stand for
 --   image_corpus i            the corpus that an image holds
 --   ImagesAreOne              the law that no corpus has two images for one target
+--   ImagesKeepCorpora         the law that the corpus of a corpus's image is that corpus
 use Rattle.std.specs.Prelude.{◌≡◌, ℕ, ◌+◌, List, [], ◌∷◌, map, filter, length, flat_map}
 use Rattle.std.specs.List.{list_any, zip}
 use Rattle.std.specs.Str.{bytes_eq}
@@ -22,7 +23,7 @@ use Rattle.cs_base.specs.Orders.{by_row}
 use Rattle.cs_base.specs.declared.block.BlockHead.{BlockHead}
 use Rattle.cs_base.specs.declared.doc.Post.{Post}
 use Rattle.cs_base.specs.declared.doc.Row.{Row}
-use Rattle.cs_model.specs.Corpus.{Corpus, by_number, distinct_words}
+use Rattle.cs_model.specs.Corpus.{Corpus, IsCorpus, by_number, distinct_words}
 use Rattle.cs_model_index.specs.Blocks.{block_bytes}
 use Rattle.cs_model_index.specs.Numbered.{word_at, numbered, rows_at}
 use Rattle.cs_model_index.specs.Partitions.{Count, is_facet, IsPartition}
@@ -81,3 +82,7 @@ image_corpus i = record { titles = by_number i.titles; rows = members_in by_row 
 -- a corpus and a target have one image
 abbrev pub ImagesAreOne : Type 0
 ImagesAreOne = (k : Corpus) (target : ℕ) (i j : Image) → IsImage k target i → IsImage k target j → i ≡ j
+
+-- and it keeps the corpus: no row is lost, and none is added
+abbrev pub ImagesKeepCorpora : Type 0
+ImagesKeepCorpora = (k : Corpus) (target : ℕ) (i : Image) → IsCorpus k → IsImage k target i → image_corpus i ≡ k

@@ -1,3 +1,4 @@
+pub mod BlockLaws
 pub mod BlockRules
 pub mod Blocks
 pub mod FileLaws

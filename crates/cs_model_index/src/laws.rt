@@ -1,6 +1,7 @@
 //! Laws about the definitions, and the numbers as they are promised. Each is the contract of a function that does nothing.
 ghost use Rattle.std.specs.Prelude.{◌≡◌, ◌^◌};
-ghost use Rattle.cs_model_index.specs.Images.{ImagesAreOne};
+ghost use Rattle.cs_model_index.specs.FileLaws.{FilesFollowBlocks};
+ghost use Rattle.cs_model_index.specs.Images.{ImagesAreOne, ImagesKeepCorpora};
 ghost use Rattle.cs_model_index.specs.Partitions.{PartitionsAreOne};
 
 use crate::limits::*;
@@ -15,8 +16,14 @@ pub fn index_limits()
     ensures entry { ENTRY_BYTES ≡ 16 }
 {}
 
-/// No words have two partitions, and no corpus has two images for one target.
+/// No words have two partitions, and no corpus has two images for one target. The image of a corpus holds that corpus.
 pub fn one_image()
     ensures partitions { PartitionsAreOne }
     ensures images { ImagesAreOne }
+    ensures corpora { ImagesKeepCorpora }
+{}
+
+/// Where the laws of blocks hold, an index file is the file of the image that is read of it.
+pub fn files()
+    ensures { FilesFollowBlocks }
 {}

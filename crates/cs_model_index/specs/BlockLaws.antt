@@ -1,7 +1,9 @@
 -- What holds of the bytes of all blocks, where they are as many as the head says.
 --
+-- Source: this engine's own. These statements are promised where blocks are written and read, by the contract of a law there.
+--
 --   AcceptedAreBlocks   no rule is broken exactly where the bytes are the block of some rows
---   OneReading          and these rows are those that are read
+--   OneReading          the block of rows breaks no rule, and these rows are read of it
 use Rattle.std.specs.Prelude.{◌≡◌, ◌↔◌, ℕ, ◌<◌, ◌^◌, List, length, All, None}
 use Rattle.cs_base.specs.declared.block.BlockHead.{BlockHead}
 use Rattle.cs_base.specs.declared.doc.Post.{Post}
@@ -13,6 +15,6 @@ use Rattle.cs_model_index.specs.BlockRules.{judged, rows_read, IsBlock}
 abbrev pub AcceptedAreBlocks : Type 0
 AcceptedAreBlocks = (head : BlockHead) (docs : ℕ) (bytes : List ℕ) → docs < 2 ^ 32 → All (λ b. b < 256) bytes → IsShaped head (length bytes) → (judged SCORES head docs bytes ≡ None) ↔ ((rs : List Post) × IsBlock SCORES head docs rs bytes)
 
--- no bytes are the block of two lists of rows
+-- so no bytes are the block of two lists of rows; each number of such rows has room in its bytes
 abbrev pub OneReading : Type 0
-OneReading = (head : BlockHead) (docs : ℕ) (rs : List Post) (bytes : List ℕ) → docs < 2 ^ 32 → IsShaped head (length bytes) → IsBlock SCORES head docs rs bytes → rows_read head bytes ≡ rs
+OneReading = (head : BlockHead) (docs : ℕ) (rs : List Post) (bytes : List ℕ) → docs < 2 ^ 32 → IsShaped head (length bytes) → IsBlock SCORES head docs rs bytes → (judged SCORES head docs bytes ≡ None) × (rows_read head bytes ≡ rs)

@@ -1,0 +1,220 @@
+-- Where no rule is broken, the bytes are the file of the image that is read of them.
+--
+--   ValuesHold, RulesHold       what each rule says, of what is read and of the bytes
+--   rules_hold          they hold of an index file
+--   header_written      the numbers of the header, written again
+--   sections_joined     the sections are the bytes behind the header
+--   accepted_are_files  the law, by the law of blocks
+use Rattle.std.proofs.Common.{◌≡◌, ℕ, ◌+◌, ◌-◌, ◌*◌, ◌≤◌, true, List, [], ◌∷◌, ◌++◌, length, take, drop, Option, Some, None, refl, sym, ap, ◌∙◌, arith, length-take, length-drop, take-append-drop}
+use Rattle.std.specs.Prelude.{flat_map}
+use Rattle.std.specs.List.{AllByRecursion, sum_by, zip}
+use Rattle.std.specs.Option.{option_or, unwrap_or}
+use Rattle.std.specs.Str.{is_utf8}
+use Rattle.std.proofs.lemmas.Bool.{and_parts, leb-true, eqb-true}
+use Rattle.std.proofs.lemmas.Slice.Eq.{bytes_eq-Decides}
+use Rattle.cs_base.specs.declared.limits.TheConstants.{MAX_DOCS, MAX_WORDS, MAX_ROWS}
+use Rattle.cs_model.proofs.FirstLemmas.{none_first, none_rest, unless_none}
+use Rattle.cs_model.specs.First.{first_reason}
+use Rattle.cs_model_index.proofs.BlockUses.{BlocksAreRead, blocks_are_read}
+use Rattle.cs_model_index.specs.FileLaws.{AcceptedAreFiles, FilesFollowBlocks}
+use Rattle.cs_model_index.specs.FileRules.{laid, last_of, tried, field_breaks, words_break, is_word, follows, word_size, is_onward, words_end, is_joined, is_of_one_kind, is_sized, blocks_break, is_parted, file_rules, damage}
+use Rattle.cs_model_index.specs.Layout.{number_bytes, Header, MAGIC, header_bytes, offset_bytes, header_of_image, file}
+use Rattle.cs_model_index.specs.Sections.{number_at, header_of, offsets_len, directory_len, vocabulary_at, offsets_at, titles_at, directory_at, blocks_at, size_by, Sections, sections, Reading, reading_of, image_of}
+use Rattle.cs_model_index.specs.declared.limits.TheConstants.{MAX_TARGET}
+use Rattle.cs_model_index.proofs.NumbersLemmas.{IsBytes, bytes_from_all, IsBytes-take, IsBytes-drop, number_back, numbers_written, entries_written, numbers_count, heads_count}
+use Rattle.cs_model_index.proofs.SectionLemmas.{unbroken, words_written, titles_written, end_from, end_is, shapes, blocks_written}
+
+-- ---- what the rules say
+pub record FieldsHold (h : Header) : Type 0 where
+  pub docs : h.docs ≤ MAX_DOCS
+  pub words : h.words ≤ MAX_WORDS
+  pub rows : h.rows ≤ MAX_ROWS
+  pub blocks : h.blocks ≤ h.words
+  pub target_from : 1 ≤ h.target
+  pub target_to : h.target ≤ MAX_TARGET
+  pub spare : h.spare ≡ 0
+
+-- what the rules say of what is read
+pub record ValuesHold (r : Reading) : Type 0 where
+  pub fields : FieldsHold r.header
+  pub words : AllByRecursion (λ i. is_word i.value ≡ true) (laid word_size vocabulary_at None r.words)
+  pub ascend : AllByRecursion (λ i. follows i.last i.value ≡ true) (laid word_size vocabulary_at None r.words)
+  pub onward : AllByRecursion (λ i. is_onward i.last i.value ≡ true) (laid (λ o. 4) (offsets_at r.header) None r.offsets)
+  pub last_offset : unwrap_or (last_of r.offsets) 0 ≡ r.header.titles_len
+  pub texts : AllByRecursion (λ i. is_utf8 i.value ≡ true) (laid (λ t. length t) (titles_at r.header) None r.titles)
+  pub joined : AllByRecursion (λ i. is_joined i.last i.value ≡ true) (laid (λ h. 16) (directory_at r.header) None r.heads)
+  pub end : words_end (last_of r.heads) ≡ r.header.words
+  pub kinds : AllByRecursion (λ i. is_of_one_kind r.words i.value ≡ true) (laid (λ h. 16) (directory_at r.header) None r.heads)
+  pub sized : AllByRecursion (λ i. is_sized i.value ≡ true) (laid (λ h. 16) (directory_at r.header) None r.heads)
+  pub rows_sum : sum_by (λ h. h.rows) r.heads ≡ r.header.rows
+  pub bytes_sum : sum_by (λ h. h.len) r.heads ≡ r.header.blocks_len
+  pub parted : AllByRecursion (λ i. is_parted r.header.target r.words i ≡ true) (laid (λ p. 16) (directory_at r.header) None (zip r.heads r.blocks))
+
+-- and of the bytes
+pub record RulesHold (b : List ℕ) (r : Reading) : Type 0 where
+  pub long : 44 ≤ length b
+  pub first : take 8 b ≡ MAGIC
+  pub size : length b ≡ size_by r.header
+  pub words_stand : words_break r.header.words vocabulary_at r.bytes.vocabulary ≡ None
+  pub blocks : blocks_break r.header.docs (blocks_at r.header) r.heads r.bytes.blocks ≡ None
+  pub values : ValuesHold r
+
+tried_none : (n : ℕ) (o : Option ℕ) → tried n o ≡ None → o ≡ None
+tried_none n None e = refl
+tried_none n (Some at) e = absurd cc
+
+or_parts : (o p : Option ℕ) → option_or o p ≡ None → (o ≡ None) × (p ≡ None)
+or_parts None p e = (refl, e)
+or_parts (Some x) p e = absurd cc
+
+all_none : {R : Type 0} (rs : List (Option R)) → first_reason rs ≡ None → AllByRecursion (λ o. o ≡ None) rs
+all_none [] e = tt
+all_none (o ∷ rs) e = (none_first o rs e, all_none rs (none_rest o rs e))
+
+fields_hold : (h : Header) → first_reason (field_breaks h) ≡ None → FieldsHold h
+fields_hold h e =
+    let f = all_none (field_breaks h) e in
+    let t = and_parts _ _ (unless_none _ _ f.1.1.1.1.0) in
+    record {
+      docs = leb-true _ _ (unless_none _ _ f.0);
+      words = leb-true _ _ (unless_none _ _ f.1.0);
+      rows = leb-true _ _ (unless_none _ _ f.1.1.0);
+      blocks = leb-true _ _ (unless_none _ _ f.1.1.1.0);
+      target_from = leb-true _ _ t.0;
+      target_to = leb-true _ _ t.1;
+      spare = eqb-true _ _ (unless_none _ _ f.1.1.1.1.1.0);
+    }
+
+pub rules_hold : (b : List ℕ) (r : Reading) → first_reason (file_rules b r) ≡ None → RulesHold b r
+rules_hold b r e =
+    let f = all_none (file_rules b r) e in
+    let r1 = tried_none 1 _ f.0 in
+    let r2 = tried_none 2 _ f.1.0 in
+    let r3 = tried_none 3 _ f.1.1.0 in
+    let r4 = tried_none 4 _ f.1.1.1.0 in
+    let g = f.1.1.1.1 in
+    let r8 = or_parts _ _ (tried_none 8 _ g.1.1.1.0) in
+    let r9 = tried_none 9 _ g.1.1.1.1.0 in
+    let d = g.1.1.1.1.1 in
+    let r10 = or_parts _ _ (tried_none 10 _ d.0) in
+    let r11 = tried_none 11 _ d.1.0 in
+    let r12 = or_parts _ _ (tried_none 12 _ d.1.1.0) in
+    let sums = and_parts _ _ (unless_none _ _ r12.1) in
+    record {
+      long = leb-true _ _ (unless_none _ _ r1);
+      first = (bytes_eq-Decides (take 8 b) MAGIC).0 (unless_none _ _ r2);
+      size = eqb-true _ _ (unless_none _ _ r4);
+      words_stand = tried_none 5 _ g.0;
+      blocks = d.1.1.1.0;
+      values = record {
+        fields = fields_hold r.header r3;
+        words = unbroken (λ i. is_word i.value) _ (tried_none 6 _ g.1.0);
+        ascend = unbroken (λ i. follows i.last i.value) _ (tried_none 7 _ g.1.1.0);
+        onward = unbroken (λ i. is_onward i.last i.value) _ r8.0;
+        last_offset = eqb-true _ _ (unless_none _ _ r8.1);
+        texts = unbroken (λ i. is_utf8 i.value) _ r9;
+        joined = unbroken (λ i. is_joined i.last i.value) _ r10.0;
+        end = eqb-true _ _ (unless_none _ _ r10.1);
+        kinds = unbroken (λ i. is_of_one_kind r.words i.value) _ r11;
+        sized = unbroken (λ i. is_sized i.value) _ r12.0;
+        rows_sum = eqb-true _ _ sums.0;
+        bytes_sum = eqb-true _ _ sums.1;
+        parted = unbroken (is_parted r.header.target r.words) _ (tried_none 18 _ d.1.1.1.1.0);
+      };
+    }
+
+-- ---- the header and the sections
+pub header_written : (b : List ℕ) → IsBytes b → 44 ≤ length b → take 8 b ≡ MAGIC → header_bytes (header_of b) ++ drop 44 b ≡ b
+unfolding header_bytes
+header_written b fits le first =
+    let z = number_back b 40 44 (number_at b 40) _ fits (omega (arith, le)) refl refl refl in
+    let e = number_back b 36 40 _ _ fits (omega (arith, le)) refl refl z in
+    let t = number_back b 32 36 _ _ fits (omega (arith, le)) refl refl e in
+    let v = number_back b 28 32 _ _ fits (omega (arith, le)) refl refl t in
+    let g = number_back b 24 28 _ _ fits (omega (arith, le)) refl refl v in
+    let k = number_back b 20 24 _ _ fits (omega (arith, le)) refl refl g in
+    let r = number_back b 16 20 _ _ fits (omega (arith, le)) refl refl k in
+    let w = number_back b 12 16 _ _ fits (omega (arith, le)) refl refl r in
+    let d = number_back b 8 12 _ _ fits (omega (arith, le)) refl refl w in
+    sym (sym (take-append-drop 8 b) ∙ ap (λ (x : List ℕ). x ++ drop 8 b) first ∙ ap (λ (x : List ℕ). MAGIC ++ x) d)
+
+abbrev joined_sections : Sections → List ℕ
+joined_sections s = s.vocabulary ++ (s.offsets ++ (s.titles ++ (s.directory ++ s.blocks)))
+
+pub sections_joined : (h : Header) (rest : List ℕ) → joined_sections (sections h rest) ≡ rest
+sections_joined h rest =
+    let a = drop h.vocabulary_len rest in
+    let b = drop (offsets_len h) a in
+    let c = drop h.titles_len b in
+    ap (λ (x : List ℕ). take h.vocabulary_len rest ++ (take (offsets_len h) a ++ (take h.titles_len b ++ x))) (take-append-drop (directory_len h) c)
+    ∙ ap (λ (x : List ℕ). take h.vocabulary_len rest ++ (take (offsets_len h) a ++ x)) (take-append-drop h.titles_len b)
+    ∙ ap (λ (x : List ℕ). take h.vocabulary_len rest ++ x) (take-append-drop (offsets_len h) a)
+    ∙ take-append-drop h.vocabulary_len rest
+
+pub same_header : (h : Header) (a b c d e f g k z : ℕ) → a ≡ h.docs → b ≡ h.words → c ≡ h.rows → d ≡ h.blocks → e ≡ h.target → f ≡ h.vocabulary_len → g ≡ h.titles_len → k ≡ h.blocks_len → z ≡ h.spare
+    → let x : Header = record { docs = a; words = b; rows = c; blocks = d; target = e; vocabulary_len = f; titles_len = g; blocks_len = k; spare = z } in x ≡ h
+same_header h a b c d e f g k z p q r s t u v w y = rw (p, q, r, s, t, u, v, w, y) refl
+
+same_parts : (a b c d e f a' b' c' d' e' f' : List ℕ) → a ≡ a' → b ≡ b' → c ≡ c' → d ≡ d' → e ≡ e' → f ≡ f' → a ++ (b ++ (c ++ (d ++ (e ++ f)))) ≡ a' ++ (b' ++ (c' ++ (d' ++ (e' ++ f'))))
+same_parts a b c d e f a' b' c' d' e' f' p q r s t u = rw (p, q, r, s, t, u) refl
+
+-- ---- how long the sections are
+pub record SectionsSized (h : Header) (s : Sections) : Type 0 where
+  pub vocabulary : length s.vocabulary ≡ h.vocabulary_len
+  pub offsets : length s.offsets ≡ 4 * (h.docs + 1)
+  pub titles : length s.titles ≡ h.titles_len
+  pub directory : length s.directory ≡ 16 * h.blocks
+  pub blocks : length s.blocks ≡ h.blocks_len
+
+pub sections_sized : (h : Header) (b : List ℕ) → 44 ≤ length b → length b ≡ size_by h → SectionsSized h (sections h (drop 44 b))
+sections_sized h b long size =
+    let rest = drop 44 b in
+    let v = drop h.vocabulary_len rest in
+    let o = drop (offsets_len h) v in
+    let t = drop h.titles_len o in
+    let l0 : length rest ≡ length b - 44 = length-drop 44 b in
+    let l1 : length v ≡ length rest - h.vocabulary_len = length-drop h.vocabulary_len rest in
+    let l2 : length o ≡ length v - 4 * (h.docs + 1) = length-drop (4 * (h.docs + 1)) v in
+    let l3 : length t ≡ length o - h.titles_len = length-drop h.titles_len o in
+    record {
+      vocabulary = omega (arith, l0, size, length-take h.vocabulary_len rest);
+      offsets = omega (arith, l0, l1, size, length-take (4 * (h.docs + 1)) v);
+      titles = omega (arith, l0, l1, l2, size, length-take h.titles_len o);
+      directory = omega (arith, l0, l1, l2, l3, size, length-take (16 * h.blocks) t);
+      blocks = omega (arith, l0, l1, l2, l3, size, length-drop (16 * h.blocks) t);
+    }
+
+-- ---- the law
+pub accepted_are_files : BlocksAreRead → AcceptedAreFiles
+unfolding file image_of damage offset_bytes
+accepted_are_files law b small e =
+    let fits = bytes_from_all b small in
+    let r = reading_of b in
+    let h = header_of b in
+    let rest = drop 44 b in
+    let s = sections h rest in
+    let hold : RulesHold b r = rules_hold b r e in
+    let f = hold.values.fields in
+    let sized = sections_sized h b hold.long hold.size in
+    let behind : IsBytes rest = IsBytes-drop 44 b fits in
+    let behind_words = IsBytes-drop h.vocabulary_len rest behind in
+    let behind_offsets = IsBytes-drop (offsets_len h) (drop h.vocabulary_len rest) behind_words in
+    let behind_titles = IsBytes-drop h.titles_len (drop (offsets_len h) (drop h.vocabulary_len rest)) behind_offsets in
+    let words = words_written h.words vocabulary_at s.vocabulary hold.words_stand in
+    let many : length r.offsets ≡ h.docs + 1 = numbers_count (h.docs + 1) s.offsets in
+    let offsets = numbers_written (h.docs + 1) s.offsets (IsBytes-take (offsets_len h) (drop h.vocabulary_len rest) behind_words) sized.offsets in
+    let titles = titles_written (offsets_at h) r.offsets s.titles (omega (arith, many)) hold.values.onward (hold.values.last_offset ∙ sym sized.titles) in
+    let heads = entries_written r.words h.blocks s.directory (IsBytes-take (directory_len h) (drop h.titles_len (drop (offsets_len h) (drop h.vocabulary_len rest))) behind_titles) sized.directory in
+    let end : end_from 0 r.heads ≡ h.words = sym (end_is r.heads) ∙ hold.values.end in
+    let shaped = shapes (directory_at h) None r.heads (length s.blocks) hold.values.joined hold.values.sized (omega (arith, end, f.words)) (hold.values.bytes_sum ∙ sym sized.blocks) in
+    let blocks = blocks_written law h.docs (blocks_at h) r.heads s.blocks (omega (arith, f.docs)) (IsBytes-drop (directory_len h) (drop h.titles_len (drop (offsets_len h) (drop h.vocabulary_len rest))) behind_titles) shaped hold.blocks in
+    let header : header_of_image (image_of b) ≡ h = same_header h _ _ _ _ _ _ _ _ _
+    (omega (arith, titles.0, many)) words.count (blocks.2 ∙ hold.values.rows_sum) (blocks.0 ∙ heads_count r.words h.blocks s.directory) refl
+    (ap length words.written ∙ sized.vocabulary) (ap length titles.2 ∙ sized.titles) (ap length blocks.1 ∙ sized.blocks) (sym f.spare) in
+    same_parts _ _ _ _ _ _ (header_bytes h) s.vocabulary s.offsets s.titles s.directory s.blocks
+    (ap header_bytes header) words.written (ap (flat_map number_bytes) titles.1 ∙ offsets) titles.2 heads blocks.1
+    ∙ ap (λ (x : List ℕ). header_bytes h ++ x) (sections_joined h rest)
+    ∙ header_written b fits hold.long hold.first
+
+pub files_follow_blocks : FilesFollowBlocks
+files_follow_blocks accepted one = accepted_are_files (blocks_are_read accepted one)

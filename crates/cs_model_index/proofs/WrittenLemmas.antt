@@ -1,0 +1,230 @@
+-- The file of an image that can be written is an index file, of which the image is read.
+--
+--   header_again      the numbers of a header
+--   rules_kept        where each rule holds, none is broken
+--   image_reading     what is to be read of an image's file
+--   IsWritable        an image whose numbers have room, and which keeps the rules
+--   file_again        the file's reading, its rules and its image
+use Rattle.std.proofs.Common.{◌≡◌, ℕ, ◌+◌, ◌*◌, ◌<◌, ◌^◌, Bool, true, List, [], ◌∷◌, ◌++◌, length, take, drop, Option, None, refl, sym, ap, ◌∙◌, arith, length-append}
+use Rattle.std.specs.Prelude.{flat_map}
+use Rattle.std.specs.List.{AllByRecursion}
+use Rattle.std.specs.Option.{option_or}
+use Rattle.std.specs.Str.{is_utf8}
+use Rattle.std.proofs.lemmas.Bool.{and_from, le-leb, eq-eqb}
+use Rattle.std.proofs.lemmas.Nat.{from_be_bytes-to_be_bytes_4}
+use Rattle.std.proofs.lemmas.Slice.Eq.{bytes_eq-Decides}
+use Rattle.cs_base.specs.declared.block.BlockHead.{BlockHead}
+use Rattle.cs_model.specs.First.{unless, first_reason}
+use Rattle.cs_model_index.specs.BlockLaws.{OneReading}
+use Rattle.cs_model_index.specs.FileRules.{tried, field_breaks, is_word, follows, is_onward, is_joined, is_of_one_kind, is_sized, is_parted, file_rules, damage, IsIndexFile}
+use Rattle.cs_model_index.specs.Images.{Image}
+use Rattle.cs_model_index.specs.Layout.{number_bytes, Header, MAGIC, header_bytes, vocabulary_bytes, offsets_from, offset_bytes, title_bytes, directory_bytes, blocks_bytes, header_of_image, file}
+use Rattle.cs_model_index.specs.Sections.{number_at, header_of, vocabulary_at, blocks_at, size_by, Sections, sections, words_in, numbers_in, titles_in, heads_in, blocks_in, Reading, reading_by, reading_of, image_of}
+use Rattle.cs_model_index.proofs.AcceptedLemmas.{FieldsHold, ValuesHold, RulesHold, same_header}
+use Rattle.cs_model_index.proofs.AgainLemmas.{break_none, HasLength, words_again, numbers_again, titles_again, offsets_count, HeadFits, heads_again, AreBlocks, blocks_again, sections_again}
+
+-- ---- the header
+pub record HasRoom (h : Header) : Type 0 where
+  pub vocabulary : h.vocabulary_len < 2 ^ 32
+  pub titles : h.titles_len < 2 ^ 32
+  pub blocks : h.blocks_len < 2 ^ 32
+
+pub header_again : (h : Header) (rest : List ℕ) → FieldsHold h → HasRoom h → header_of (header_bytes h ++ rest) ≡ h
+unfolding header_bytes number_at
+header_again h rest f room =
+    let d = f.docs in let w = f.words in let r = f.rows in let b = f.blocks in let t = f.target_to in
+    let spare : h.spare < 2 ^ 32 = omega (arith, f.spare) in
+    same_header h _ _ _ _ _ _ _ _ _
+    (from_be_bytes-to_be_bytes_4 h.docs (omega (arith, d))) (from_be_bytes-to_be_bytes_4 h.words (omega (arith, w))) (from_be_bytes-to_be_bytes_4 h.rows (omega (arith, r))) (from_be_bytes-to_be_bytes_4 h.blocks (omega (arith, w, b)))
+    (from_be_bytes-to_be_bytes_4 h.target (omega (arith, t))) (from_be_bytes-to_be_bytes_4 h.vocabulary_len room.vocabulary) (from_be_bytes-to_be_bytes_4 h.titles_len room.titles) (from_be_bytes-to_be_bytes_4 h.blocks_len room.blocks)
+    (from_be_bytes-to_be_bytes_4 h.spare spare)
+
+behind_header : (h : Header) (rest : List ℕ) → (drop 44 (header_bytes h ++ rest) ≡ rest) × (take 8 (header_bytes h ++ rest) ≡ MAGIC)
+unfolding header_bytes
+behind_header h rest = (refl, refl)
+
+header_long : (h : Header) (rest : List ℕ) → length (header_bytes h ++ rest) ≡ 44 + length rest
+unfolding header_bytes
+header_long h rest = omega arith
+
+-- ---- the rules
+unless_holds : (b : Bool) (at : ℕ) → b ≡ true → unless b at ≡ None
+unless_holds b at e = rw e refl
+
+tried_holds : (n : ℕ) (o : Option ℕ) → o ≡ None → tried n o ≡ None
+tried_holds n o e = rw e refl
+
+or_none : (o p : Option ℕ) → o ≡ None → p ≡ None → option_or o p ≡ None
+or_none o p a b = rw (a, b) refl
+
+none_all : {R : Type 0} (rs : List (Option R)) → AllByRecursion (λ o. o ≡ None) rs → first_reason rs ≡ None
+none_all [] h = refl
+none_all (o ∷ rs) h = ap (λ x. first_reason (x ∷ rs)) h.0 ∙ none_all rs h.1
+
+fields_kept : (h : Header) → FieldsHold h → first_reason (field_breaks h) ≡ None
+fields_kept h f = none_all (field_breaks h) (
+  unless_holds _ _ (le-leb _ _ f.docs),
+  (
+    unless_holds _ _ (le-leb _ _ f.words),
+    (
+      unless_holds _ _ (le-leb _ _ f.rows),
+      (
+        unless_holds _ _ (le-leb _ _ f.blocks),
+        (
+          unless_holds _ _ (and_from _ _ (le-leb _ _ f.target_from) (le-leb _ _ f.target_to)),
+          (
+            unless_holds _ _ (eq-eqb _ _ f.spare),
+            tt,
+          ),
+        ),
+      ),
+    ),
+  ),
+)
+
+pub rules_kept : (b : List ℕ) (r : Reading) → RulesHold b r → first_reason (file_rules b r) ≡ None
+rules_kept b r h =
+    let v = h.values in
+    none_all (file_rules b r) (
+      tried_holds 1 _ (unless_holds _ _ (le-leb _ _ h.long)),
+      (
+        tried_holds 2 _ (unless_holds _ _ ((bytes_eq-Decides (take 8 b) MAGIC).1 h.first)),
+        (
+          tried_holds 3 _ (fields_kept r.header v.fields),
+          (
+            tried_holds 4 _ (unless_holds _ _ (eq-eqb _ _ h.size)),
+            (
+              tried_holds 5 _ h.words_stand,
+              (
+                tried_holds 6 _ (break_none (λ i. is_word i.value) _ v.words),
+                (
+                  tried_holds 7 _ (break_none (λ i. follows i.last i.value) _ v.ascend),
+                  (
+                    tried_holds 8 _ (or_none _ _ (break_none (λ i. is_onward i.last i.value) _ v.onward) (unless_holds _ _ (eq-eqb _ _ v.last_offset))),
+                    (
+                      tried_holds 9 _ (break_none (λ i. is_utf8 i.value) _ v.texts),
+                      (
+                        tried_holds 10 _ (or_none _ _ (break_none (λ i. is_joined i.last i.value) _ v.joined) (unless_holds _ _ (eq-eqb _ _ v.end))),
+                        (
+                          tried_holds 11 _ (break_none (λ i. is_of_one_kind r.words i.value) _ v.kinds),
+                          (
+                            tried_holds 12 _ (or_none _ _ (break_none (λ i. is_sized i.value) _ v.sized) (unless_holds _ _ (and_from _ _ (eq-eqb _ _ v.rows_sum) (eq-eqb _ _ v.bytes_sum)))),
+                            (
+                              h.blocks,
+                              (
+                                tried_holds 18 _ (break_none (is_parted r.header.target r.words) _ v.parted),
+                                tt,
+                              ),
+                            ),
+                          ),
+                        ),
+                      ),
+                    ),
+                  ),
+                ),
+              ),
+            ),
+          ),
+        ),
+      ),
+    )
+
+-- ---- the file
+-- what is to be read of an image's file
+abbrev pub image_reading : Image → Reading
+image_reading i = record {
+  header = header_of_image i;
+  bytes = record { vocabulary = vocabulary_bytes i.words; offsets = offset_bytes i.titles; titles = title_bytes i.titles; directory = directory_bytes i.heads; blocks = blocks_bytes i.heads i.blocks };
+  words = i.words;
+  offsets = offsets_from 0 i.titles;
+  titles = i.titles;
+  heads = i.heads;
+  blocks = i.blocks;
+}
+
+-- what is asked of an image that is written
+pub record IsWritable (i : Image) : Type 0 where
+  pub room : HasRoom (header_of_image i)
+  pub lengths : AllByRecursion HasLength i.words
+  pub offsets : AllByRecursion (λ n. n < 2 ^ 32) (offsets_from 0 i.titles)
+  pub heads : AllByRecursion (HeadFits i.words) i.heads
+  pub one_each : length i.heads ≡ length i.blocks
+  pub blocks : AreBlocks (length i.titles) i.heads i.blocks
+  pub values : ValuesHold (image_reading i)
+
+numbers_len : (ns : List ℕ) → length (flat_map number_bytes ns) ≡ 4 * length ns
+numbers_len [] = refl
+numbers_len (n ∷ ns) = let rest = numbers_len ns in omega (arith, rest)
+
+entries_len : (heads : List _) → length (directory_bytes heads) ≡ 16 * length heads
+unfolding directory_bytes
+entries_len [] = refl
+entries_len (h ∷ hs) = let rest = entries_len hs in omega (arith, rest)
+
+same_reading : (h h' : Header) (s s' : Sections) (w w' : List (List ℕ)) (o o' : List ℕ) (t t' : List (List ℕ)) (g g' : List _) (b b' : List _) → h ≡ h' → s ≡ s' → w ≡ w' → o ≡ o' → t ≡ t' → g ≡ g' → b ≡ b'
+    → let x : Reading = record { header = h; bytes = s; words = w; offsets = o; titles = t; heads = g; blocks = b } in let y : Reading = record { header = h'; bytes = s'; words = w'; offsets = o'; titles = t'; heads = g'; blocks = b' } in x ≡ y
+same_reading h h' s s' w w' o o' t t' g g' b b' p q r u v x y = rw (p, q, r, u, v, x, y) refl
+
+pub reading_again : OneReading → (i : Image) → IsWritable i → reading_of (file i) ≡ image_reading i
+unfolding file offset_bytes
+reading_again law i is =
+    let h = header_of_image i in
+    let v = vocabulary_bytes i.words in
+    let o = flat_map number_bytes (offsets_from 0 i.titles) in
+    let t = title_bytes i.titles in
+    let d = directory_bytes i.heads in
+    let x = blocks_bytes i.heads i.blocks in
+    let rest = v ++ (o ++ (t ++ (d ++ x))) in
+    let b = header_bytes h ++ rest in
+    let p : Sections = record { vocabulary = v; offsets = o; titles = t; directory = d; blocks = x } in
+    let head : header_of b ≡ h = header_again h rest is.values.fields is.room in
+    let many : length (offsets_from 0 i.titles) ≡ length i.titles + 1 = offsets_count 0 i.titles in
+    let o_len : length o ≡ 4 * (length i.titles + 1) = numbers_len (offsets_from 0 i.titles) ∙ ap (λ (n : ℕ). 4 * n) many in
+    let d_len : length d ≡ 16 * length i.blocks = entries_len i.heads ∙ ap (λ (n : ℕ). 16 * n) is.one_each in
+    let cut : sections h rest ≡ p = sections_again h v o t d x refl o_len refl d_len in
+    let words : words_in (length i.words) v ≡ i.words = (words_again vocabulary_at i.words is.lengths).1 in
+    let offsets : numbers_in (length i.titles + 1) o ≡ offsets_from 0 i.titles = ap (λ (n : ℕ). numbers_in n o) (sym many) ∙ numbers_again (offsets_from 0 i.titles) is.offsets in
+    let heads : heads_in (words_in (length i.words) v) (length i.blocks) d ≡ i.heads =
+    ap (λ (ws : List (List ℕ)). heads_in ws (length i.blocks) d) words ∙ ap (λ (n : ℕ). heads_in i.words n d) (sym is.one_each) ∙ heads_again i.words i.heads is.heads in
+    let f = is.values.fields in
+    let few : length i.titles < 2 ^ 32 = omega (arith, f.docs) in
+    let blocks = blocks_again law (length i.titles) (blocks_at h) i.heads i.blocks few is.blocks in
+    ap (λ (y : List ℕ). reading_by (header_of b) (sections (header_of b) y)) (behind_header h rest).0
+    ∙ ap (λ (k : Header). reading_by k (sections k rest)) head
+    ∙ ap (reading_by h) cut
+    ∙ same_reading h h p p _ _ _ _ _ _ _ _ _ _ refl refl words offsets (ap (λ (os : List ℕ). titles_in os t) offsets ∙ titles_again i.titles) heads (ap (λ (hs : List BlockHead). blocks_in hs x) heads ∙ blocks.1)
+
+-- the law, for images that can be written
+pub file_again : OneReading → (i : Image) → IsWritable i → IsIndexFile (file i) × (image_of (file i) ≡ i)
+unfolding file offset_bytes damage image_of
+file_again law i is =
+    let h = header_of_image i in
+    let v = vocabulary_bytes i.words in
+    let o = flat_map number_bytes (offsets_from 0 i.titles) in
+    let t = title_bytes i.titles in
+    let d = directory_bytes i.heads in
+    let x = blocks_bytes i.heads i.blocks in
+    let rest = v ++ (o ++ (t ++ (d ++ x))) in
+    let b = header_bytes h ++ rest in
+    let reading : reading_of b ≡ image_reading i = reading_again law i is in
+    let f = is.values.fields in
+    let few : length i.titles < 2 ^ 32 = omega (arith, f.docs) in
+    let o_len : length o ≡ 4 * (length i.titles + 1) = numbers_len (offsets_from 0 i.titles) ∙ ap (λ (n : ℕ). 4 * n) (offsets_count 0 i.titles) in
+    let d_len : length d ≡ 16 * length i.blocks = entries_len i.heads ∙ ap (λ (n : ℕ). 16 * n) is.one_each in
+    let long : length b ≡ 44 + length rest = header_long h rest in
+    let l1 = length-append v (o ++ (t ++ (d ++ x))) in
+    let l2 = length-append o (t ++ (d ++ x)) in
+    let l3 = length-append t (d ++ x) in
+    let l4 = length-append d x in
+    let size : length b ≡ size_by h = omega (arith, o_len, d_len, long, l1, l2, l3, l4) in
+    let hold : RulesHold b (image_reading i) = record {
+      long = omega (arith, long);
+      first = (behind_header h rest).1;
+      size = size;
+      words_stand = (words_again vocabulary_at i.words is.lengths).0;
+      blocks = (blocks_again law (length i.titles) (blocks_at h) i.heads i.blocks few is.blocks).0;
+      values = is.values;
+    } in (
+      ap (λ (r : Reading). first_reason (file_rules b r)) reading ∙ rules_kept b (image_reading i) hold,
+      ap (λ (r : Reading). let j : Image = record { titles = r.titles; words = r.words; heads = r.heads; blocks = r.blocks; target = r.header.target } in j) reading,
+    )
