@@ -1,3 +1,6 @@
+pub mod DueExamples
+pub mod DueLemmas
+pub mod EntryExamples
 pub mod EntryLemmas
 pub mod KeptExamples
 pub mod ListsLemmas
