@@ -6,3 +6,5 @@ pub mod KeptExamples
 pub mod KeptListLemmas
 pub mod ListsLemmas
 pub mod NarrowLemmas
+pub mod ShutPieces
+pub mod TypedLemmas
