@@ -6,5 +6,6 @@ pub mod KeptExamples
 pub mod KeptListLemmas
 pub mod ListsLemmas
 pub mod NarrowLemmas
+pub mod ShorterQueries
 pub mod ShutPieces
 pub mod TypedLemmas

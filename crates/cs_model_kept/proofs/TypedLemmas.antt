@@ -36,7 +36,7 @@ on_last-twice f g h e (x ∷ []) = ap (λ y. y ∷ []) (e x)
 on_last-twice f g h e (x ∷ y ∷ []) = ap (λ z. x ∷ z ∷ []) (e y)
 on_last-twice f g h e (x ∷ y ∷ z ∷ zs) = ap (λ l. x ∷ l) (on_last-twice f g h e (y ∷ z ∷ zs))
 
-none_some : {X Y : Type 0} (x : X) → None ≡ Some x → Y
+pub none_some : {X Y : Type 0} (x : X) → None ≡ Some x → Y
 none_some x h = absurd (let no : None ≡ Some x = h in cc)
 
 -- ---- the atom at the end
