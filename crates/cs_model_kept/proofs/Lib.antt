@@ -2,6 +2,7 @@ pub mod DueExamples
 pub mod DueLemmas
 pub mod EntryExamples
 pub mod EntryLemmas
+pub mod FirstParts
 pub mod KeptExamples
 pub mod KeptListLemmas
 pub mod ListsLemmas
