@@ -57,7 +57,7 @@ begins-all = refl
 begins-longer : begins (codes "types") (codes "type") ≡ false
 begins-longer = refl
 
-abbrev row : ℕ → ℕ → ℕ → List ℕ → Row
+abbrev pub row : ℕ → ℕ → ℕ → List ℕ → Row
 row d p s w = record { doc = d; word = w; pos = p; score = s }
 
 -- of no row the greatest score is 0
@@ -75,13 +75,13 @@ worked_text =
     ++ codes "The CompleteSearch engine\tauthor=Bast;year=2007\ttype ahead search and faceted search\n"
     ++ codes "Typed lambda calculi\tauthor=Church;year=1940\ttypes\n"
 
-abbrev worked_entries : List (ℕ × List ℕ)
+abbrev pub worked_entries : List (ℕ × List ℕ)
 worked_entries = (0, codes "Type less find more") ∷ (1, codes "The CompleteSearch engine") ∷ (2, codes "Typed lambda calculi") ∷ []
 
-worked_titles : FinMap nat_cmp (List ℕ)
+pub worked_titles : FinMap nat_cmp (List ℕ)
 worked_titles = from_entries worked_entries
 
-abbrev worked_rows : List Row
+abbrev pub worked_rows : List Row
 worked_rows =
     row 0 0 2 (codes ":author:bast") ∷
     row 0 0 2 (codes ":author:weber") ∷
@@ -115,7 +115,7 @@ worked_rows =
     row 2 12 1 (codes "types") ∷
     []
 
-abbrev worked : Corpus
+abbrev pub worked : Corpus
 worked = record { titles = worked_titles; rows = worked_rows }
 
 -- a facet word stands in front of its document with the score 2, text words stand nine positions behind the title
@@ -131,19 +131,19 @@ titles-worked = refl
 corpus-worked : corpus worked_text ≡ worked
 corpus-worked = ap (λ rows. record { titles = titles_of (documents worked_text); rows = rows }) rows-worked ∙ ap (λ ts. record { titles = ts; rows = worked_rows }) titles-worked
 
-titles-are : entries worked_titles ≡ worked_entries
+pub titles-are : entries worked_titles ≡ worked_entries
 unfolding worked_titles
 titles-are = entries-sorted nat_cmp nat_cmp_total worked_entries
 
-titles-found : (d : ℕ) → get worked_titles d ≡ find nat_cmp d worked_entries
+pub titles-found : (d : ℕ) → get worked_titles d ≡ find nat_cmp d worked_entries
 unfolding worked_titles
 titles-found d = get-from_entries nat_cmp_total worked_entries d
 
 -- ---- rows of queries
-abbrev positive : List Row → PartRows
+abbrev pub positive : List Row → PartRows
 positive rows = record { excluded = false; rows = rows }
 
-abbrev typ_rows : List Row
+abbrev pub typ_rows : List Row
 typ_rows = row 0 1 4 (codes "type") ∷ row 1 12 1 (codes "type") ∷ row 2 1 4 (codes "typed") ∷ row 2 12 1 (codes "types") ∷ []
 
 -- words that begin with `typ`

@@ -30,13 +30,13 @@ use Rattle.cs_model.proofs.MaximalTokens.{size_after}
 use Rattle.cs_model.proofs.FineTokens.{Fine, Few, fine_toks, fronts}
 
 -- ---- brackets closed at the end
-record Closed (ps all : List Piece) : Type 0 where
-  well : Well all
-  shut : open_in all ≡ 0
-  bytes : cost all ≡ cost ps + open_in ps
-  parts : parts_in (map step_of all) ≡ parts_in (map step_of ps)
-  atoms : atoms_in (map step_of all) ≡ atoms_in (map step_of ps)
-  read : reading (map step_of all) ≡ record { parts = all_closed (reading (map step_of ps)).parts (reading (map step_of ps)).open_now; open_now = [] }
+pub record Closed (ps all : List Piece) : Type 0 where
+  pub well : Well all
+  pub shut : open_in all ≡ 0
+  pub bytes : cost all ≡ cost ps + open_in ps
+  pub parts : parts_in (map step_of all) ≡ parts_in (map step_of ps)
+  pub atoms : atoms_in (map step_of all) ≡ atoms_in (map step_of ps)
+  pub read : reading (map step_of all) ≡ record { parts = all_closed (reading (map step_of ps)).parts (reading (map step_of ps)).open_now; open_now = [] }
 
 none_open : (parts : List Part) (os : List Level) → length os ≡ 0 → record { parts = parts; open_now = os } ≡ (let r : Reading = record { parts = all_closed parts os; open_now = [] } in r)
 none_open parts [] h = refl
@@ -54,7 +54,7 @@ shut_read : (ps all : List Piece) → Closed (Closes ∷ ps) all → 1 ≤ lengt
     → reading (map step_of all) ≡ record { parts = all_closed (reading (map step_of ps)).parts (reading (map step_of ps)).open_now; open_now = [] }
 shut_read ps all c deep = c.read ∙ ap (λ l. record { parts = l; open_now = [] }) (one_closed (reading (map step_of ps)).parts (reading (map step_of ps)).open_now deep)
 
-all_shut : (d : ℕ) (ps : List Piece) → Well ps → open_in ps ≡ d → (all : List Piece) × Closed ps all
+pub all_shut : (d : ℕ) (ps : List Piece) → Well ps → open_in ps ≡ d → (all : List Piece) × Closed ps all
 all_shut zero ps h e = (
   ps,
   record {
@@ -106,7 +106,7 @@ facet_scalars n v h hv = scalars_append (chars n) (58 ∷ chars v) (word_scalars
 atom_scalars : (t : Tie) (ps : List Piece) (xs : List ℕ) → all_scalars (told ps) ≡ true → all_scalars xs ≡ true → all_scalars (told ps ++ (between t (fresh ps) ++ xs)) ≡ true
 atom_scalars t ps xs h k = scalars_append (told ps) (between t (fresh ps) ++ xs) h (scalars_append (between t (fresh ps)) xs (between_scalars t (fresh ps)) k)
 
-told_scalars : (ps : List Piece) → Well ps → all_scalars (told ps) ≡ true
+pub told_scalars : (ps : List Piece) → Well ps → all_scalars (told ps) ≡ true
 told_scalars [] h = refl
 told_scalars (Plain t w ∷ ps) h = atom_scalars t ps (chars w) (told_scalars ps h.1) (word_scalars w h.0.1)
 told_scalars (Whole t w ∷ ps) h = atom_scalars t ps (chars w ++ 36 ∷ []) (told_scalars ps h.1) (scalars_append (chars w) (36 ∷ []) (word_scalars w h.0.1) refl)
@@ -126,7 +126,7 @@ record Canon (bs : List ℕ) : Type 0 where
   atoms : atoms_in (steps (tokens (chars (canonical (query_of (chars bs)))))) ≡ atoms_in (steps (tokens (chars bs)))
 
 -- the whole of an accepted text passes
-whole_passes : (cs : List ℕ) → IsAccepted cs → Passes (tokens cs)
+pub whole_passes : (cs : List ℕ) → IsAccepted cs → Passes (tokens cs)
 whole_passes cs a = passes (tokens cs) (ap (λ l. verdict (tokens l)) (sym (take_all (length cs) cs (omega arith))) ∙ a (length cs) (omega arith))
 
 -- the text of a reading in which no bracket is open

@@ -44,7 +44,7 @@ pub record Few (ps : List Piece) : Type 0 where
   pub parts : parts_in (map step_of ps) ≤ 16
   pub atoms : atoms_in (map step_of ps) ≤ 32
 
-few_before : (p : Piece) (ps : List Piece) → Few (p ∷ ps) → Few ps
+pub few_before : (p : Piece) (ps : List Piece) → Few (p ∷ ps) → Few ps
 few_before (Plain t w) ps f = record { parts = omega (arith, f.parts); atoms = omega (arith, f.atoms) }
 few_before (Whole t w) ps f = record { parts = omega (arith, f.parts); atoms = omega (arith, f.atoms) }
 few_before (Valued t n v) ps f = record { parts = omega (arith, f.parts); atoms = omega (arith, f.atoms) }

@@ -119,7 +119,7 @@ linked_behind (WholeValued t n v ∷ ps) h = refl
 linked_behind (Opens t n ∷ ps) h = cc
 linked_behind (Closes ∷ ps) h = refl
 
-takes : (t : Tie) (ps : List Piece) (r : Reading) → Printed ps r → TieFits t ps → Takes t r.parts
+pub takes : (t : Tie) (ps : List Piece) (r : Reading) → Printed ps r → TieFits t ps → Takes t r.parts
 takes (Begins e) ps r p h = tt
 takes Alternative ps r p h = p.ready h
 takes (LinkedBy l) ps r p h = p.ready (linked_behind ps h)

@@ -1,4 +1,12 @@
+pub mod DueExamples
+pub mod DueLemmas
+pub mod EntryExamples
 pub mod EntryLemmas
+pub mod FirstParts
 pub mod KeptExamples
+pub mod KeptListLemmas
 pub mod ListsLemmas
 pub mod NarrowLemmas
+pub mod ShorterQueries
+pub mod ShutPieces
+pub mod TypedLemmas

@@ -2,3 +2,4 @@ pub mod Due
 pub mod Entries
 pub mod KeptLaws
 pub mod KeptList
+pub mod KeptListLaws

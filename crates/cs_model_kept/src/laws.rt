@@ -1,6 +1,7 @@
 //! Laws about what is kept, and the limits as they are promised. Each is the contract of a function that does nothing.
 ghost use Rattle.std.specs.Prelude.{◌≡◌, ◌^◌};
 ghost use Rattle.cs_model_kept.specs.KeptLaws.{HitsAreOver, BasesListHits, EntriesExtend, EntriesAreSteps, EntriesNarrow};
+ghost use Rattle.cs_model_kept.specs.KeptListLaws.{FrontsStayGood, ListsStayGood, HeldAreOwn};
 
 use crate::limits::*;
 
@@ -28,4 +29,12 @@ pub fn entries_extend()
 /// whose word begins with the longer one, and the same base.
 pub fn entries_narrow()
     ensures { EntriesNarrow }
+{}
+
+/// A list that is good for a corpus has each key with its query's own entry, and stays good: where one of its entries comes to the
+/// front, and after a query.
+pub fn lists_stay_good()
+    ensures own { HeldAreOwn }
+    ensures fronts { FrontsStayGood }
+    ensures after { ListsStayGood }
 {}
