@@ -1,1 +1,4 @@
+pub mod LookLemmas
+pub mod OpenLemmas
+pub mod PushedLines
 pub mod RequestLemmas

@@ -1,8 +1,8 @@
 //! Where a request head stands among bytes that aren't read yet, also where they come piece by piece.
-ghost use Rattle.std.specs.Prelude.{◌≡◌, ◌<◌, ◌++◌, ◌∷◌, [], ℕ, List};
+ghost use Rattle.std.specs.Prelude.{◌≡◌, ◌<◌, ◌++◌, ◌∷◌, [], ℕ, List, false};
 ghost use Rattle.cs_base.specs.declared.limits.TheConstants.{MAX_HEAD_BYTES as MOST};
-ghost use Rattle.cs_model_serving.specs.Framing.{frame};
-ghost use Rattle.cs_http.specs.Looking.{look_of, IsSeen, HasRoom, within_limit};
+ghost use Rattle.cs_model_serving.specs.Framing.{frame, is_line_feed};
+ghost use Rattle.cs_http.specs.Looking.{look_of, tail_of, IsSeen, HasRoom, within_limit};
 
 use cs_base::MAX_HEAD_BYTES;
 use cs_model_serving::Framed;
@@ -96,39 +96,66 @@ impl Seen {
         ensures found { (before : List ℕ) → IsSeen before self → result ≡ look_of (before ++ byte ∷ []) }
         ensures few { HasRoom result }
     {
-        let Seen {
-            count,
-            skip,
-            tail,
-            begun,
-        } = self;
-        let count = count + 1;
-        if byte != b'\n' {
-            let tail = match tail {
-                Tail::Empty if byte == b'\r' => Tail::Return,
-                _ => Tail::Text,
-            };
-            return within_limit(Seen {
-                count,
-                skip,
-                tail,
-                begun,
-            });
+        if byte == b'\n' {
+            self.end_line()
+        } else {
+            self.put(byte)
         }
-        match (tail, begun) {
+    }
+
+    // Looks at an LF, which ends a line.
+    fn end_line(self) -> Look
+        requires few { self.count < MOST }
+
+        ensures found { (before : List ℕ) → IsSeen before self → result ≡ look_of (before ++ 10 ∷ []) }
+        ensures few { HasRoom result }
+    {
+        let count = self.count + 1;
+        match (self.tail, self.begun) {
             (Tail::Text, _) => within_limit(Seen {
                 count,
-                skip,
+                skip: self.skip,
                 tail: Tail::Empty,
                 begun: true,
             }),
-            (_, true) => Look::Head { skip, end: count },
+            (_, true) => Look::Head {
+                skip: self.skip,
+                end: count,
+            },
             (_, false) => within_limit(Seen {
                 count,
                 skip: count,
                 tail: Tail::Empty,
                 begun: false,
             }),
+        }
+    }
+
+    // Looks at any other byte.
+    fn put(self, byte: u8) -> Look
+        requires few { self.count < MOST }
+        requires other { is_line_feed byte ≡ false }
+
+        ensures found { (before : List ℕ) → IsSeen before self → result ≡ look_of (before ++ byte ∷ []) }
+        ensures few { HasRoom result }
+    {
+        within_limit(Seen {
+            count: self.count + 1,
+            skip: self.skip,
+            tail: self.tail.with(byte),
+            begun: self.begun,
+        })
+    }
+}
+
+impl Tail {
+    // What stands in the line with one byte more.
+    fn with(self, byte: u8) -> Tail
+        ensures { (line : List ℕ) → self ≡ tail_of line → result ≡ tail_of (line ++ byte ∷ []) }
+    {
+        match self {
+            Tail::Empty if byte == b'\r' => Tail::Return,
+            _ => Tail::Text,
         }
     }
 }

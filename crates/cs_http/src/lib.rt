@@ -6,12 +6,17 @@
 
 mod counts;
 mod facets;
+mod fields;
 mod first;
 mod framing;
+mod heads;
 mod parameters;
+mod responses;
 #[cfg(test)]
 mod tests;
 
 pub use cs_model_serving::Framed;
 pub use framing::{Look, Seen, Tail, frame};
+pub use heads::{Asked, HeadFault, head};
 pub use parameters::request;
+pub use responses::{memory_response, wrap};

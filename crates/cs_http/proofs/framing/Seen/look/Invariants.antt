@@ -5,6 +5,6 @@ use Rattle.cs_http.proofs.framing.Seen.look.Given as goal
 
 abbrev pub invariant-loop-byte : goal.invariant-loop-byte
 invariant-loop-byte l = record {
-  seen : (before : List ℕ) → IsSeen before l.self → IsSeen (before ++ take l.byte-index l.more) l.seen;
+  seen : (before : List ℕ) → IsSeen before l.fn.self → IsSeen (before ++ take l.byte-index l.more) l.seen;
   few : l.seen.count < MAX_HEAD_BYTES;
 }
