@@ -1,10 +1,10 @@
 //! What a request head asks, or why it is refused.
-ghost use Rattle.std.specs.Prelude.{◌≡◌, ◌==◌, ◌||◌, Some, None, All, length, IfSome, IfNone, IfOk, IfErr};
+ghost use Rattle.std.specs.Prelude.{◌≡◌, ◌==◌, ◌||◌, All, length, IfSome, IfNone, IfOk, IfErr};
 ghost use Rattle.std.specs.List.{list_any};
 ghost use Rattle.httparse.specs.Grammar.{RequestHead};
 ghost use Rattle.httparse.specs.Spans.{IsRequestWithin, IsRequestAt, IsHeaderWithin, header_bytes};
 ghost use Rattle.cs_base.specs.declared.limits.TheConstants.{MAX_HEAD_FIELDS as MOST};
-ghost use Rattle.cs_model_serving.specs.HeadReader.{read_head};
+ghost use Rattle.cs_model_serving.specs.HeadReader.{IsHead, IsNoHead};
 ghost use Rattle.cs_model_serving.specs.Heads.{judge, asks, is_closing, path_of, params_of};
 ghost use Rattle.cs_http.specs.Judging.{IsHeadCause};
 
@@ -92,12 +92,17 @@ fn whole_head(bytes: &[u8], spans: &mut [HeaderSpan]) -> Option<RequestSpans>
     requires { length spans.old ≡ MOST }
 
     ensures within { IfSome result (IsRequestWithin bytes.now spans.new) }
-    ensures some { IfSome result (λ r. (h : RequestHead) × (read_head bytes.now ≡ Some h) × IsRequestAt bytes.now spans.new r h) }
-    ensures none { IfNone result (read_head bytes.now ≡ None) }
-    ensures len { length spans.new ≡ MOST }
+    ensures some { IfSome result (λ r. (h : RequestHead) × IsHead bytes.now h × IsRequestAt bytes.now spans.new r h) }
+    ensures none { IfNone result (IsNoHead bytes.now) }
 {
     match parse_request(bytes, spans) {
-        Ok(Status::Complete(head)) if head.len == bytes.len() => Some(head),
+        Ok(Status::Complete(head)) => {
+            if head.len == bytes.len() {
+                Some(head)
+            } else {
+                None
+            }
+        }
         _ => None,
     }
 }
