@@ -3,7 +3,8 @@
 -- Source: RFC 9112, sections 2 to 5, in the grammar of the library httparse under its default settings, which states it as a
 -- relation. `AreHeads` of ServingLaws says that this function is that relation.
 --
---   is_head bytes h     the bytes are, as a whole, the head h of at most 64 fields, by that grammar
+--   IsHead bytes h      the bytes are, as a whole, the head h of at most 64 fields, by that grammar
+--   IsNoHead bytes      they are no such head
 --   ends_in_return l    whether the line's last byte is CR
 --   line_text l         a line without the CR at its end, of which there may be none
 --   line_end l          how the line ends: CR LF or LF
@@ -12,9 +13,10 @@
 --   field_of l          the field that a line can be: the name before its first colon, the value behind it
 --   version_of text     the minor version that the bytes of a version end with
 --   head_by             the head that lines can be: empty lines in front, the start line, lines of fields, the closing line
---   head_of bytes       the only head that the bytes can be
+--   head_of lines       the only head that lines can be
 --   is_field f          the name is a token, and each byte of the value may stand in one
 --   is_valid h          each part of the head is of its class
+--   tested bytes h      the guess h, where it is valid, printed as the bytes and has few enough fields
 --   read_head bytes     the head that the bytes are; None where they are none, as no bytes are
 --
 -- The function guesses the one head that the bytes can be, line by line, and tests the guess: its parts are of their classes,
@@ -30,6 +32,10 @@ use Rattle.cs_model_serving.specs.Framing.{ended_lines, front_lines, text_lines,
 -- the bytes are this head, with no byte behind it and at most `MAX_HEAD_FIELDS` fields; no bytes aren't
 abbrev pub IsHead : List ℕ → RequestHead → Type 0
 IsHead bytes h = ReadsRequest bytes h [] × (length h.fields ≤ MAX_HEAD_FIELDS)
+
+-- the bytes are no such head, as no bytes are
+abbrev pub IsNoHead : List ℕ → Type 0
+IsNoHead bytes = (h : RequestHead) → ¬ (IsHead bytes h)
 
 -- ---- lines
 -- the last byte of the line is CR; the line without bytes has none

@@ -15,14 +15,14 @@ use Rattle.cs_base.specs.declared.limits.TheConstants.{MAX_HEAD_BYTES}
 use Rattle.cs_model.specs.Corpus.{Corpus}
 use Rattle.cs_model_serving.specs.declared.framed.Framed.TheVariants.{Head, TooLong}
 use Rattle.cs_model_serving.specs.Framing.{frame}
-use Rattle.cs_model_serving.specs.HeadReader.{IsHead, read_head}
+use Rattle.cs_model_serving.specs.HeadReader.{IsHead, IsNoHead, read_head}
 use Rattle.cs_model_serving.specs.Responses.{Response, response_bytes, response_to, read_failed, index_changed, out_of_memory, memory_bytes}
 use Rattle.cs_model_serving.specs.Connections.{Served, framed, serve, answers, is_read, is_changed}
 
 -- the head that is read is the one that the bytes are, and where none is read they are none
 pub record AreHeads : Type 0 where
   pub some : (bytes : List ℕ) (h : RequestHead) → (read_head bytes ≡ Some h) ↔ IsHead bytes h
-  pub none : (bytes : List ℕ) → (read_head bytes ≡ None) ↔ ((h : RequestHead) → ¬ (IsHead bytes h))
+  pub none : (bytes : List ℕ) → (read_head bytes ≡ None) ↔ IsNoHead bytes
 
 -- with more bytes behind them, bytes have the head that they had, or still have none within the limit
 pub record HeadsStay : Type 0 where
