@@ -5,16 +5,13 @@
 --   keys-..           the keys of queries
 --   planned           the plan of a query by its keys
 --   listed_after      the list after it by its keys
-use Rattle.std.proofs.Common.{◌≡◌, ℕ, List, [], ◌∷◌, refl, ap, sym, ◌∙◌, Some, None, codes}
+use Rattle.std.proofs.Common.{◌≡◌, ℕ, List, [], ◌∷◌, refl, ap, Some, None, codes}
 use Rattle.std.specs.Char.{encode_utf8}
 use Rattle.std.specs.Str.{chars}
 use Rattle.cs_base.specs.declared.key.Keys.{Keys}
 use Rattle.cs_base.specs.declared.query.Query.{Query, out-roll-Query}
 use Rattle.cs_base.specs.declared.query.Part.{out-roll-Part}
 use Rattle.cs_base.specs.declared.query.Chain.{out-roll-Chain}
-use Rattle.cs_base.specs.declared.query.Atom.{Prefix, Exact, out-Atom, out-roll-Atom}
-use Rattle.cs_base.specs.declared.query.Atom.TheVariants.{rolls-Prefix, rolls-Exact}
-use Rattle.cs_base.specs.declared.query.Atom.TheOpen.{Atom-F}
 use Rattle.cs_model.specs.Words.{is_word_char}
 use Rattle.cs_model.specs.Corpus.{Corpus}
 use Rattle.cs_model.specs.Grammar.{query_of}
@@ -24,18 +21,12 @@ use Rattle.cs_model.proofs.AttachedText.{rolled_query, rolled_part, rolled_chain
 use Rattle.cs_base.specs.declared.plan.Plan.TheVariants.{Same, Narrow, Extend, Fresh}
 use Rattle.cs_base.specs.declared.plan.Kept.{Kept}
 use Rattle.cs_base.specs.declared.plan.Kept.TheVariants as kept
+use Rattle.cs_model_kept.proofs.ShorterQueries.{out-prefix, out-exact}
 use Rattle.cs_model_kept.specs.Entries.{Entry, entry_of}
 use Rattle.cs_model_kept.specs.KeptList.{KeptList, plan, plan_by, after, to_front, used_key, put_in_front}
 
 abbrev asked : List ℕ → Query
 asked text = query_of text
-
--- what the atoms are, seen as one level
-out-prefix : (w : List ℕ) → out-Atom (Prefix w) ≡ Atom-F.Prefix w
-out-prefix w = ap out-Atom (sym (rolls-Prefix w)) ∙ out-roll-Atom (Atom-F.Prefix w)
-
-out-exact : (w : List ℕ) → out-Atom (Exact w) ≡ Atom-F.Exact w
-out-exact w = ap out-Atom (sym (rolls-Exact w)) ∙ out-roll-Atom (Atom-F.Exact w)
 
 -- ---- keys
 keys-t : keys_of (asked (codes "t")) ≡ record { same = codes "t"; narrow = []; extend = None }
