@@ -8,6 +8,7 @@ use Rattle.std.proofs.Common.{◌≡◌, ℕ, ◌≤◌, List, [], ◌∷◌, ma
 use Rattle.std.specs.Prelude.{encode_utf8_all}
 use Rattle.std.specs.Str.{chars}
 use Rattle.std.proofs.lemmas.Str.{chars-encodes, scalars-chars}
+use Rattle.cs_base.specs.declared.limits.TheConstants.{MAX_QUERY_BYTES}
 use Rattle.cs_base.specs.declared.query.Part.{Part}
 use Rattle.cs_base.specs.declared.query.Query.{Query, roll-Query}
 use Rattle.cs_model.specs.declared.kinds.Level.{Level}
@@ -27,7 +28,7 @@ pub record Shut (ps : List Piece) : Type 0 where
   pub well : Well ps
   pub shut : open_in ps ≡ 0
   pub few : Few ps
-  pub short : cost ps ≤ 1024
+  pub short : cost ps ≤ MAX_QUERY_BYTES
 
 abbrev pub read : List Piece → List Part
 read ps = (reading (map step_of ps)).parts

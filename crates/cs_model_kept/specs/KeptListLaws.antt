@@ -1,5 +1,7 @@
 -- What holds of lists of kept entries.
 --
+-- Source: none of its own; these are laws about KeptList.
+--
 --   found held key      the first entry of a list that has this key; None where none has
 --   FrontsStayGood      a list that is good stays so where one of its entries comes to the front
 --   ListsStayGood       and after a query of the grammar, whose own entry isn't put in a second time
