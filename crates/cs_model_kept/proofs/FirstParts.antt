@@ -6,7 +6,7 @@
 --   Stacked ps        pieces with their split, and those before each open bracket with theirs
 --   stacked           all that are well formed have such
 --   first_parts_stay  the law
-use Rattle.std.proofs.Common.{◌≡◌, ℕ, ◌+◌, ◌-◌, ◌≤◌, List, [], ◌∷◌, ◌++◌, map, take, length, refl, sym, ◌∙◌, ap, subst, arith, append_assoc, length-append}
+use Rattle.std.proofs.Common.{◌≡◌, ℕ, ◌-◌, ◌≤◌, List, [], ◌∷◌, ◌++◌, map, take, length, refl, sym, ◌∙◌, ap, subst, arith, append_assoc, length-append}
 use Rattle.std.specs.Prelude.{encode_utf8_all}
 use Rattle.cs_base.specs.declared.query.Part.{Part}
 use Rattle.cs_base.specs.declared.query.Query.{Query, roll-Query, out-Query, out-roll-Query}
@@ -15,7 +15,7 @@ use Rattle.cs_model.specs.declared.kinds.Level.{Level}
 use Rattle.cs_model.specs.declared.kinds.Tie.{Tie}
 use Rattle.cs_model.specs.declared.kinds.Tie.TheVariants.{Begins, Alternative, Linked as LinkedBy}
 use Rattle.cs_model.specs.Collection.{named}
-use Rattle.cs_model.specs.Grammar.{Reading, reading, leave, join, attached, on_last, part_of, chain_of, with_chains, with_link}
+use Rattle.cs_model.specs.Grammar.{reading, leave, join, attached, on_last, part_of, chain_of, with_chains, with_link}
 use Rattle.cs_model.specs.Refusals.{IsOfGrammar}
 use Rattle.cs_model.proofs.LastEntries.{Last}
 use Rattle.cs_model.proofs.AttachedText.{HasChain, Takes}

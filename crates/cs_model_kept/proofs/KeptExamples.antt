@@ -5,16 +5,13 @@
 --   keys-..           the keys of queries
 --   planned           the plan of a query by its keys
 --   listed_after      the list after it by its keys
-use Rattle.std.proofs.Common.{◌≡◌, ℕ, List, [], ◌∷◌, refl, ap, sym, ◌∙◌, Some, None, codes}
+use Rattle.std.proofs.Common.{◌≡◌, ℕ, List, [], ◌∷◌, refl, ap, Some, None, codes}
 use Rattle.std.specs.Char.{encode_utf8}
 use Rattle.std.specs.Str.{chars}
 use Rattle.cs_base.specs.declared.key.Keys.{Keys}
 use Rattle.cs_base.specs.declared.query.Query.{Query, out-roll-Query}
 use Rattle.cs_base.specs.declared.query.Part.{out-roll-Part}
 use Rattle.cs_base.specs.declared.query.Chain.{out-roll-Chain}
-use Rattle.cs_base.specs.declared.query.Atom.{Prefix, Exact, out-Atom, out-roll-Atom}
-use Rattle.cs_base.specs.declared.query.Atom.TheVariants.{rolls-Prefix, rolls-Exact}
-use Rattle.cs_base.specs.declared.query.Atom.TheOpen.{Atom-F}
 use Rattle.cs_model.specs.Words.{is_word_char}
 use Rattle.cs_model.specs.Corpus.{Corpus}
 use Rattle.cs_model.specs.Grammar.{query_of}
@@ -24,18 +21,13 @@ use Rattle.cs_model.proofs.AttachedText.{rolled_query, rolled_part, rolled_chain
 use Rattle.cs_base.specs.declared.plan.Plan.TheVariants.{Same, Narrow, Extend, Fresh}
 use Rattle.cs_base.specs.declared.plan.Kept.{Kept}
 use Rattle.cs_base.specs.declared.plan.Kept.TheVariants as kept
+use Rattle.cs_model_kept.proofs.ShorterQueries.{out-prefix, out-exact}
+use Rattle.cs_model_kept.specs.declared.limits.TheConstants.{MAX_ENTRIES}
 use Rattle.cs_model_kept.specs.Entries.{Entry, entry_of}
 use Rattle.cs_model_kept.specs.KeptList.{KeptList, plan, plan_by, after, to_front, used_key, put_in_front}
 
 abbrev asked : List ℕ → Query
 asked text = query_of text
-
--- what the atoms are, seen as one level
-out-prefix : (w : List ℕ) → out-Atom (Prefix w) ≡ Atom-F.Prefix w
-out-prefix w = ap out-Atom (sym (rolls-Prefix w)) ∙ out-roll-Atom (Atom-F.Prefix w)
-
-out-exact : (w : List ℕ) → out-Atom (Exact w) ≡ Atom-F.Exact w
-out-exact w = ap out-Atom (sym (rolls-Exact w)) ∙ out-roll-Atom (Atom-F.Exact w)
 
 -- ---- keys
 keys-t : keys_of (asked (codes "t")) ≡ record { same = codes "t"; narrow = []; extend = None }
@@ -114,53 +106,53 @@ module _ (k : Corpus) where
   unfolding own
   plan-t = planned [] (asked (codes "t")) _ keys-t
 
-  after-t : after [] 256 (asked (codes "t")) kept.Kept k ≡ own (codes "t") ∷ []
+  after-t : after [] MAX_ENTRIES (asked (codes "t")) kept.Kept k ≡ own (codes "t") ∷ []
   unfolding own
-  after-t = listed_after [] 256 (asked (codes "t")) kept.Kept _ keys-t
+  after-t = listed_after [] MAX_ENTRIES (asked (codes "t")) kept.Kept _ keys-t
 
   -- with one letter more, from what the first one gave
   plan-ty : plan (own (codes "t") ∷ []) (asked (codes "ty")) ≡ Narrow 1
   unfolding own
   plan-ty = planned (own (codes "t") ∷ []) (asked (codes "ty")) _ keys-ty
 
-  after-ty : after (own (codes "t") ∷ []) 256 (asked (codes "ty")) kept.Kept k ≡ own (codes "ty") ∷ own (codes "t") ∷ []
+  after-ty : after (own (codes "t") ∷ []) MAX_ENTRIES (asked (codes "ty")) kept.Kept k ≡ own (codes "ty") ∷ own (codes "t") ∷ []
   unfolding own
-  after-ty = listed_after (own (codes "t") ∷ []) 256 (asked (codes "ty")) kept.Kept _ keys-ty
+  after-ty = listed_after (own (codes "t") ∷ []) MAX_ENTRIES (asked (codes "ty")) kept.Kept _ keys-ty
 
   -- from the longest shorter prefix that is kept
   plan-typ : plan (own (codes "ty") ∷ own (codes "t") ∷ []) (asked (codes "typ")) ≡ Narrow 2
   unfolding own
   plan-typ = planned (own (codes "ty") ∷ own (codes "t") ∷ []) (asked (codes "typ")) _ keys-typ
 
-  after-typ : after (own (codes "ty") ∷ own (codes "t") ∷ []) 256 (asked (codes "typ")) kept.Kept k ≡ own (codes "typ") ∷ own (codes "ty") ∷ own (codes "t") ∷ []
+  after-typ : after (own (codes "ty") ∷ own (codes "t") ∷ []) MAX_ENTRIES (asked (codes "typ")) kept.Kept k ≡ own (codes "typ") ∷ own (codes "ty") ∷ own (codes "t") ∷ []
   unfolding own
-  after-typ = listed_after (own (codes "ty") ∷ own (codes "t") ∷ []) 256 (asked (codes "typ")) kept.Kept _ keys-typ
+  after-typ = listed_after (own (codes "ty") ∷ own (codes "t") ∷ []) MAX_ENTRIES (asked (codes "typ")) kept.Kept _ keys-typ
 
   -- a second part goes on from the first one, which comes to the front
   plan-typ_s : plan (own (codes "typ") ∷ own (codes "ty") ∷ own (codes "t") ∷ []) (asked (codes "typ s")) ≡ Extend
   unfolding own
   plan-typ_s = planned (own (codes "typ") ∷ own (codes "ty") ∷ own (codes "t") ∷ []) (asked (codes "typ s")) _ keys-typ_s
 
-  after-typ_s : after (own (codes "typ") ∷ own (codes "ty") ∷ own (codes "t") ∷ []) 256 (asked (codes "typ s")) kept.Kept k ≡ own (codes "typ s") ∷ own (codes "typ") ∷ own (codes "ty") ∷ own (codes "t") ∷ []
+  after-typ_s : after (own (codes "typ") ∷ own (codes "ty") ∷ own (codes "t") ∷ []) MAX_ENTRIES (asked (codes "typ s")) kept.Kept k ≡ own (codes "typ s") ∷ own (codes "typ") ∷ own (codes "ty") ∷ own (codes "t") ∷ []
   unfolding own
-  after-typ_s = listed_after (own (codes "typ") ∷ own (codes "ty") ∷ own (codes "t") ∷ []) 256 (asked (codes "typ s")) kept.Kept _ keys-typ_s
+  after-typ_s = listed_after (own (codes "typ") ∷ own (codes "ty") ∷ own (codes "t") ∷ []) MAX_ENTRIES (asked (codes "typ s")) kept.Kept _ keys-typ_s
 
   plan-typ_se : plan (own (codes "typ s") ∷ own (codes "typ") ∷ own (codes "ty") ∷ own (codes "t") ∷ []) (asked (codes "typ se")) ≡ Narrow 1
   unfolding own
   plan-typ_se = planned (own (codes "typ s") ∷ own (codes "typ") ∷ own (codes "ty") ∷ own (codes "t") ∷ []) (asked (codes "typ se")) _ keys-typ_se
 
-  after-typ_se : after (own (codes "typ s") ∷ own (codes "typ") ∷ own (codes "ty") ∷ own (codes "t") ∷ []) 256 (asked (codes "typ se")) kept.Kept k ≡ own (codes "typ se") ∷ own (codes "typ s") ∷ own (codes "typ") ∷ own (codes "ty") ∷ own (codes "t") ∷ []
+  after-typ_se : after (own (codes "typ s") ∷ own (codes "typ") ∷ own (codes "ty") ∷ own (codes "t") ∷ []) MAX_ENTRIES (asked (codes "typ se")) kept.Kept k ≡ own (codes "typ se") ∷ own (codes "typ s") ∷ own (codes "typ") ∷ own (codes "ty") ∷ own (codes "t") ∷ []
   unfolding own
-  after-typ_se = listed_after (own (codes "typ s") ∷ own (codes "typ") ∷ own (codes "ty") ∷ own (codes "t") ∷ []) 256 (asked (codes "typ se")) kept.Kept _ keys-typ_se
+  after-typ_se = listed_after (own (codes "typ s") ∷ own (codes "typ") ∷ own (codes "ty") ∷ own (codes "t") ∷ []) MAX_ENTRIES (asked (codes "typ se")) kept.Kept _ keys-typ_se
 
   -- the query itself is kept, so the entry comes to the front and none is put there
   plan-again : plan (own (codes "typ se") ∷ own (codes "typ s") ∷ own (codes "typ") ∷ own (codes "ty") ∷ own (codes "t") ∷ []) (asked (codes "typ")) ≡ Same
   unfolding own
   plan-again = planned (own (codes "typ se") ∷ own (codes "typ s") ∷ own (codes "typ") ∷ own (codes "ty") ∷ own (codes "t") ∷ []) (asked (codes "typ")) _ keys-typ
 
-  after-again : after (own (codes "typ se") ∷ own (codes "typ s") ∷ own (codes "typ") ∷ own (codes "ty") ∷ own (codes "t") ∷ []) 256 (asked (codes "typ")) kept.Had k ≡ own (codes "typ") ∷ own (codes "typ se") ∷ own (codes "typ s") ∷ own (codes "ty") ∷ own (codes "t") ∷ []
+  after-again : after (own (codes "typ se") ∷ own (codes "typ s") ∷ own (codes "typ") ∷ own (codes "ty") ∷ own (codes "t") ∷ []) MAX_ENTRIES (asked (codes "typ")) kept.Had k ≡ own (codes "typ") ∷ own (codes "typ se") ∷ own (codes "typ s") ∷ own (codes "ty") ∷ own (codes "t") ∷ []
   unfolding own
-  after-again = listed_after (own (codes "typ se") ∷ own (codes "typ s") ∷ own (codes "typ") ∷ own (codes "ty") ∷ own (codes "t") ∷ []) 256 (asked (codes "typ")) kept.Had _ keys-typ
+  after-again = listed_after (own (codes "typ se") ∷ own (codes "typ s") ∷ own (codes "typ") ∷ own (codes "ty") ∷ own (codes "t") ∷ []) MAX_ENTRIES (asked (codes "typ")) kept.Had _ keys-typ
 
   -- ---- the same with room for two
   plan-t-of_two : plan [] (asked (codes "t")) ≡ Fresh
@@ -219,9 +211,9 @@ module _ (k : Corpus) where
   plan-longer = planned (own (codes "typ") ∷ []) (asked (codes "types")) _ keys-types
 
   -- an entry that is too large isn't put in
-  after-too_large : after (own (codes "typ") ∷ []) 256 (asked (codes "types")) kept.TooLarge k ≡ own (codes "typ") ∷ []
+  after-too_large : after (own (codes "typ") ∷ []) MAX_ENTRIES (asked (codes "types")) kept.TooLarge k ≡ own (codes "typ") ∷ []
   unfolding own
-  after-too_large = listed_after (own (codes "typ") ∷ []) 256 (asked (codes "types")) kept.TooLarge _ keys-types
+  after-too_large = listed_after (own (codes "typ") ∷ []) MAX_ENTRIES (asked (codes "types")) kept.TooLarge _ keys-types
 
   -- an exact word goes on from no prefix
   plan-exact : plan (own (codes "typ") ∷ []) (asked (codes "type$")) ≡ Fresh
@@ -247,6 +239,6 @@ module _ (k : Corpus) where
   unfolding own
   plan-behind_excluded = planned (own (codes "-search") ∷ []) (asked (codes "-search typ")) _ keys-behind_excluded
 
-  after-behind_excluded : after (own (codes "-search") ∷ []) 256 (asked (codes "-search typ")) kept.Kept k ≡ own (codes "-search typ") ∷ own (codes "-search") ∷ []
+  after-behind_excluded : after (own (codes "-search") ∷ []) MAX_ENTRIES (asked (codes "-search typ")) kept.Kept k ≡ own (codes "-search typ") ∷ own (codes "-search") ∷ []
   unfolding own
-  after-behind_excluded = listed_after (own (codes "-search") ∷ []) 256 (asked (codes "-search typ")) kept.Kept _ keys-behind_excluded
+  after-behind_excluded = listed_after (own (codes "-search") ∷ []) MAX_ENTRIES (asked (codes "-search typ")) kept.Kept _ keys-behind_excluded

@@ -7,6 +7,7 @@ pub mod KeptExamples
 pub mod KeptListLemmas
 pub mod ListsLemmas
 pub mod NarrowLemmas
+pub mod PlanLemmas
 pub mod ShorterQueries
 pub mod ShutPieces
 pub mod TypedLemmas

@@ -2,6 +2,7 @@
 --
 --   filter_within, filter_swap     filters of filters
 --   members_filter     the listing of what a test keeps
+--   Begins, shorter_begin     a text begins with its shorter prefixes
 --   words_begin        a word begins with what it may have been before
 --   begins_shorter     what begins with a word begins with its beginnings
 --   Told               a chain's rows by those of the prefix at its end, whatever it is
@@ -90,17 +91,17 @@ members_filter p rows =
     ∙ sym (any-filter_same (eq_by_cmp by_row q) p (p q) (same q) rows)))
 
 -- ---- words
-abbrev Begins : List ℕ → List ℕ → Type 0
+abbrev pub Begins : List ℕ → List ℕ → Type 0
 Begins p w = (more : List ℕ) × (p ≡ w ++ more)
 
-shorter_begin : (cs : List ℕ) → All (Begins cs) (shorter cs)
+pub shorter_begin : (cs : List ℕ) → All (Begins cs) (shorter cs)
 shorter_begin [] = All-nil (Begins [])
 shorter_begin (c ∷ cs) =
     All-push (Begins (c ∷ cs)) (map (λ w. c ∷ w) (shorter cs)) []
     (All-map (Begins (c ∷ cs)) (λ w. c ∷ w) (shorter cs) (All-weaker (Begins cs) (λ w. Begins (c ∷ cs) (c ∷ w)) (λ w h. (h.0, ap (λ l. c ∷ l) h.1)) (shorter cs) (shorter_begin cs)))
     (c ∷ cs, refl)
 
-words_begin : (p : List ℕ) → IsUtf8 p → All (Begins p) (shorter_words p)
+pub words_begin : (p : List ℕ) → IsUtf8 p → All (Begins p) (shorter_words p)
 words_begin p u =
     let left = filter (is_left (chars p)) (shorter (chars p)) in
     All-map (Begins p) encode_utf8_all left

@@ -2,20 +2,21 @@
 --
 --   Left p w             w is spelled by the first characters of p, and no colon is cut off
 --   words_left           so is each shorter word
+--   out-prefix, out-exact     what atoms are, seen as one level
 --   shorter_stays        the law
-use Rattle.std.proofs.Common.{◌≡◌, ℕ, ◌≤◌, ◌&&◌, ◌||◌, ◌==◌, Bool, true, false, true≢false, not, List, [], ◌∷◌, ◌++◌, map, filter, drop, length, refl, sym, ◌∙◌, ap, subst, arith, append_assoc, length-append, Option, Some, None}
+use Rattle.std.proofs.Common.{◌≡◌, ℕ, ◌≤◌, ◌&&◌, ◌||◌, ◌==◌, Bool, true, false, true≢false, not, List, [], ◌∷◌, ◌++◌, map, filter, drop, length, refl, sym, ◌∙◌, ap, subst, arith, append_assoc, length-append, Some}
 use Rattle.std.specs.Prelude.{encode_utf8_all, nat_lt}
 use Rattle.std.specs.Char.{encode_utf8}
 use Rattle.std.specs.List.{All, Contains, list_any, list_all}
 use Rattle.std.specs.Str.{IsUtf8, chars, all_scalars}
 use Rattle.std.proofs.Math.Seq.{drop-append_seam}
 use Rattle.std.proofs.lemmas.Bool.{and_parts, or_right}
-use Rattle.std.proofs.lemmas.List.Elements.{All-nil, All-push, All-map, All-weaker, All-filter, All-contains, filter_passes}
+use Rattle.std.proofs.lemmas.List.Elements.{All-map, All-filter, All-contains, filter_passes}
 use Rattle.std.proofs.lemmas.List.Folds.{list_any-append, list_all-append}
 use Rattle.std.proofs.lemmas.Str.{chars-nil, chars-encodes, encodes-chars, scalars-chars}
 use Rattle.cs_base.specs.declared.query.Part.{Part}
 use Rattle.cs_base.specs.declared.query.Query.{Query, roll-Query, out-roll-Query}
-use Rattle.cs_base.specs.declared.query.Atom.{Atom, Prefix, Exact, out-Atom, roll-Atom, out-roll-Atom}
+use Rattle.cs_base.specs.declared.query.Atom.{Prefix, Exact, out-Atom, out-roll-Atom}
 use Rattle.cs_base.specs.declared.query.Atom.TheVariants.{rolls-Prefix, rolls-Exact}
 use Rattle.cs_base.specs.declared.query.Atom.TheOpen.{Atom-F}
 use Rattle.cs_model.specs.declared.kinds.Level.{Level}
@@ -25,10 +26,10 @@ use Rattle.cs_model.specs.Grammar.{Reading, reading, leave, join, attached}
 use Rattle.cs_model.specs.Keys.{last_of, prefix_in, part_prefix, last_prefix, with_prefix, shorter, is_left, shorter_words}
 use Rattle.cs_model.specs.Refusals.{IsOfGrammar}
 use Rattle.cs_model.specs.Words.{is_word_char}
-use Rattle.cs_model.proofs.Pieces.{Piece, Plain, Whole, Valued, WholeValued, Opens, Closes, step_of, IsWord, IsValue, is_value_char, IsNameWord, fresh, open_in, Well, between, told}
+use Rattle.cs_model.proofs.Pieces.{Piece, Plain, Whole, Valued, WholeValued, Opens, Closes, step_of, IsWord, IsValue, is_value_char, fresh, between, told}
 use Rattle.cs_model.proofs.PieceText.{printed, facet_bytes}
-use Rattle.cs_model.proofs.KeptPieces.{cost}
 use Rattle.cs_model.proofs.SizeLemmas.{encodes-append}
+use Rattle.cs_model_kept.proofs.NarrowLemmas.{Begins, shorter_begin}
 use Rattle.cs_model_kept.proofs.ShutPieces.{Shut, read, pieces_of, of_pieces}
 use Rattle.cs_model_kept.proofs.TypedLemmas.{none_some, typed_atom, typed_other}
 
@@ -43,16 +44,6 @@ record Left (cs : List ℕ) (w : List ℕ) : Type 0 where
   bytes : w ≡ encode_utf8_all spelled
   some : 1 ≤ length spelled
   plain : list_any is_colon more ≡ false
-
-abbrev Begins : List ℕ → List ℕ → Type 0
-Begins cs s = (more : List ℕ) × (cs ≡ s ++ more)
-
-shorter_begin : (cs : List ℕ) → All (Begins cs) (shorter cs)
-shorter_begin [] = All-nil (Begins [])
-shorter_begin (c ∷ cs) =
-    All-push (Begins (c ∷ cs)) (map (λ w. c ∷ w) (shorter cs)) []
-    (All-map (Begins (c ∷ cs)) (λ w. c ∷ w) (shorter cs) (All-weaker (Begins cs) (λ w. Begins (c ∷ cs) (c ∷ w)) (λ w h. (h.0, ap (λ l. c ∷ l) h.1)) (shorter cs) (shorter_begin cs)))
-    (c ∷ cs, refl)
 
 not_true : (b : Bool) → not b ≡ true → b ≡ false
 not_true true h = absurd (true≢false (sym h))
@@ -182,10 +173,10 @@ query_by ps = roll-Query (record { parts = ps })
 abbrev Stays : Query → List ℕ → List ℕ → Type 0
 Stays q p w = IsOfGrammar (with_prefix w q) × IsUtf8 p
 
-out-prefix : (w : List ℕ) → out-Atom (Prefix w) ≡ Atom-F.Prefix w
+pub out-prefix : (w : List ℕ) → out-Atom (Prefix w) ≡ Atom-F.Prefix w
 out-prefix w = ap out-Atom (sym (rolls-Prefix w)) ∙ out-roll-Atom (Atom-F.Prefix w)
 
-out-exact : (w : List ℕ) → out-Atom (Exact w) ≡ Atom-F.Exact w
+pub out-exact : (w : List ℕ) → out-Atom (Exact w) ≡ Atom-F.Exact w
 out-exact w = ap out-Atom (sym (rolls-Exact w)) ∙ out-roll-Atom (Atom-F.Exact w)
 
 prefix_is : (v p : List ℕ) → prefix_in (out-Atom (Prefix v)) ≡ Some p → v ≡ p
@@ -258,8 +249,7 @@ pieces_stay (Valued t n v ∷ ps) s p w h one =
       shut = s.shut;
       few = record { parts = s.few.parts; atoms = s.few.atoms };
       short = omega (arith, s.short, less_told ps t (chars n ++ 58 ∷ chars left.value) (chars n ++ 58 ∷ chars v) less);
-    } in
-    (
+    } in (
       subst IsOfGrammar (sym (typed_other w t (Prefix (named n v)) (read ps) ∙ ap (λ x. query_by (attached t (Prefix x) (read ps))) left.bytes)) (of_pieces (Valued t n left.value ∷ ps) other),
       subst IsUtf8 same (facet_chars n v s.well.0.1.word s.well.0.2).1,
     )

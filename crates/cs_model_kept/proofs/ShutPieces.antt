@@ -4,15 +4,16 @@
 --   read ps        the parts of the query that they are read as
 --   pieces_of      each query of the grammar is read from such
 --   of_pieces      such are read as a query of the grammar
-use Rattle.std.proofs.Common.{◌≡◌, ℕ, ◌+◌, ◌≤◌, List, [], ◌∷◌, ◌++◌, map, length, refl, ap, ◌∙◌, sym, subst, arith}
+use Rattle.std.proofs.Common.{◌≡◌, ℕ, ◌≤◌, List, [], ◌∷◌, map, length, refl, ap, ◌∙◌, sym, subst, arith}
 use Rattle.std.specs.Prelude.{encode_utf8_all}
 use Rattle.std.specs.Str.{chars}
 use Rattle.std.proofs.lemmas.Str.{chars-encodes, scalars-chars}
+use Rattle.cs_base.specs.declared.limits.TheConstants.{MAX_QUERY_BYTES}
 use Rattle.cs_base.specs.declared.query.Part.{Part}
 use Rattle.cs_base.specs.declared.query.Query.{Query, roll-Query}
 use Rattle.cs_model.specs.declared.kinds.Level.{Level}
 use Rattle.cs_model.specs.Tokens.{tokens, size}
-use Rattle.cs_model.specs.Grammar.{Reading, reading, steps, all_closed, query_of}
+use Rattle.cs_model.specs.Grammar.{Reading, reading, steps, all_closed}
 use Rattle.cs_model.specs.Refusals.{IsOfGrammar, parts_in, atoms_in}
 use Rattle.cs_model.proofs.Pieces.{Piece, step_of, open_in, Well, told, toks}
 use Rattle.cs_model.proofs.PieceTokens.{tokens_told, steps_toks}
@@ -27,7 +28,7 @@ pub record Shut (ps : List Piece) : Type 0 where
   pub well : Well ps
   pub shut : open_in ps ≡ 0
   pub few : Few ps
-  pub short : cost ps ≤ 1024
+  pub short : cost ps ≤ MAX_QUERY_BYTES
 
 abbrev pub read : List Piece → List Part
 read ps = (reading (map step_of ps)).parts
@@ -41,8 +42,7 @@ pieces_of q g =
     let p = pieced (tokens (chars g.text)) (kept_tokens (chars g.text) (scalars-chars g.text g.utf8) g.accepted) in
     let s = all_shut (open_in p.pieces) p.pieces p.well refl in
     let c = s.1 in
-    let whole = whole_passes (chars g.text) g.accepted in
-    (
+    let whole = whole_passes (chars g.text) g.accepted in (
       s.0,
       record {
         well = c.well;
@@ -51,8 +51,8 @@ pieces_of q g =
         short = omega (arith, c.bytes, p.small, deep_same (tokens (chars g.text)) p, whole.small);
       },
       ap (λ (r : Reading). roll-Query (record { parts = r.parts })) c.read
-      ∙ ap (λ (r : Reading). roll-Query (record { parts = all_closed r.parts r.open_now })) (ap reading p.same)
-      ∙ sym g.read,
+          ∙ ap (λ (r : Reading). roll-Query (record { parts = all_closed r.parts r.open_now })) (ap reading p.same)
+          ∙ sym g.read,
     )
 
 pub of_pieces : (ps : List Piece) → Shut ps → IsOfGrammar (roll-Query (record { parts = read ps }))

@@ -1,5 +1,7 @@
 -- What holds of entries, over each corpus.
 --
+-- Source: none of its own; these are laws about Entries.
+--
 --   followed q p        the query q with the part p behind its last one
 --   has_part q          the query has a part
 --   HitsAreOver         a query's entry has its hits: its rows over its base, or its base

@@ -1,7 +1,7 @@
 //! Laws about what is kept, and the limits as they are promised. Each is the contract of a function that does nothing.
 ghost use Rattle.std.specs.Prelude.{◌≡◌, ◌^◌};
 ghost use Rattle.cs_model_kept.specs.KeptLaws.{HitsAreOver, BasesListHits, EntriesExtend, EntriesAreSteps, EntriesNarrow};
-ghost use Rattle.cs_model_kept.specs.KeptListLaws.{FrontsStayGood, ListsStayGood, HeldAreOwn};
+ghost use Rattle.cs_model_kept.specs.KeptListLaws.{FirstPartsAreOfGrammar, FrontsStayGood, HeldAreOwn, ListsStayGood, PlansServe, ShorterAreOfGrammar};
 
 use crate::limits::*;
 
@@ -37,4 +37,15 @@ pub fn lists_stay_good()
     ensures own { HeldAreOwn }
     ensures fronts { FrontsStayGood }
     ensures after { ListsStayGood }
+{}
+
+/// The queries whose keys are looked for are queries of the grammar: those with a shorter prefix, and that without the last part.
+pub fn keys_are_of_queries()
+    ensures shorter { ShorterAreOfGrammar }
+    ensures first_parts { FirstPartsAreOfGrammar }
+{}
+
+/// Over a list that is good for a corpus, a plan goes on from the entry of the query that it speaks of.
+pub fn plans_serve()
+    ensures { PlansServe }
 {}

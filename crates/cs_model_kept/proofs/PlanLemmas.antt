@@ -1,0 +1,169 @@
+-- Each plan goes on from the entry of the query that it speaks of.
+--
+--   finds            a key of a query of the grammar that is held has that query's entry
+--   found_word       the shorter prefix that is found first
+--   plans_serve      the law
+use Rattle.std.proofs.Common.{◌≡◌, ℕ, ◌-◌, ◌<◌, ◌==◌, Bool, true, false, true≢false, List, [], ◌∷◌, ◌++◌, map, take, cond, length, refl, sym, ◌∙◌, ap, arith, Option, Some, None, if◌then◌else◌}
+use Rattle.std.specs.Prelude.{find, nat_lt}
+use Rattle.std.specs.Option.{option_map}
+use Rattle.std.specs.List.{Contains}
+use Rattle.std.proofs.Math.Seq.{take-append_seam}
+use Rattle.std.proofs.lemmas.Bool.Decides.{nat_tests}
+use Rattle.std.proofs.lemmas.List.Elements.{All-contains, Contains-append_left, Contains-append_right}
+use Rattle.cs_base.specs.declared.key.Narrower.{Narrower}
+use Rattle.cs_base.specs.declared.plan.Plan.{Plan}
+use Rattle.cs_base.specs.declared.plan.Plan.TheVariants.{Same, Narrow, Extend, Fresh}
+use Rattle.cs_base.specs.declared.query.Part.{Part}
+use Rattle.cs_base.specs.declared.query.Query.{Query, roll-Query, out-Query, out-roll-Query, roll-out-Query}
+use Rattle.cs_model.specs.Canonical.{canonical}
+use Rattle.cs_model.specs.Corpus.{Corpus}
+use Rattle.cs_model.specs.Keys.{keys_of, last_prefix, shorter_words, with_prefix, narrower, narrowers, extended}
+use Rattle.cs_model.specs.Refusals.{IsOfGrammar}
+use Rattle.cs_model.proofs.CanonicalReading.{different}
+use Rattle.cs_model_kept.specs.Entries.{entry_of}
+use Rattle.cs_model_kept.specs.KeptLaws.{followed}
+use Rattle.cs_model_kept.specs.KeptList.{KeptList, GoodFor, is_held, extend_or_fresh, narrow_or, plan, used_key}
+use Rattle.cs_model_kept.specs.KeptListLaws.{before_last, Finds, Serves, PlansServe, ShorterAreOfGrammar, FirstPartsAreOfGrammar}
+use Rattle.cs_model_kept.proofs.FirstParts.{first_parts_stay}
+use Rattle.cs_model_kept.proofs.KeptListLemmas.{held_are_own}
+use Rattle.cs_model_kept.proofs.ListsLemmas.{itself, last_entry, take_init}
+use Rattle.cs_model_kept.proofs.NarrowLemmas.{Begins, words_begin}
+use Rattle.cs_model_kept.proofs.ShorterQueries.{shorter_stays}
+use Rattle.cs_model_kept.proofs.TypedLemmas.{none_some}
+
+pub shorter_are_of_grammar : ShorterAreOfGrammar
+shorter_are_of_grammar q p w g h one = shorter_stays q p w g h one
+
+pub first_parts_are_of_grammar : FirstPartsAreOfGrammar
+first_parts_are_of_grammar q g = first_parts_stay q g
+
+-- what is found under the key of a query is that query's entry
+finds : (k : Corpus) (held : KeptList) (q : Query) (by_plan : Plan) (r : Query) → GoodFor k held → IsOfGrammar r → is_held held (canonical r) ≡ true
+    → used_key (keys_of q) by_plan ≡ Some (canonical r) → Finds k held q by_plan r
+finds k held q by_plan r good g h key =
+    let own = held_are_own k held (canonical r) good h in
+    let same : own.0 ≡ r = different own.0 r own.1 g (sym own.2) in
+    record { of_grammar = g; key = key; entry = own.3 ∙ ap (λ x. Some (canonical r, entry_of k x)) same }
+
+-- ---- shorter prefixes
+record FoundWord (q : Query) (t : Narrower → Bool) (ws : List (List ℕ)) (n : Narrower) : Type 0 where
+  word : List ℕ
+  among : Contains ws word
+  is : n ≡ narrower q word
+  passes : t n ≡ true
+
+found_word : (q : Query) (t : Narrower → Bool) (ws : List (List ℕ)) (n : Narrower) → find t (map (narrower q) ws) ≡ Some n → FoundWord q t ws n
+found_word q t [] n h = none_some n h
+found_word q t (w ∷ ws) n h =
+    elim (t (narrower q w)) as (λ b. t (narrower q w) ≡ b → cond b (Some (narrower q w)) (find t (map (narrower q) ws)) ≡ Some n → FoundWord q t (w ∷ ws) n) [
+      | true ↦ λ e one.
+          let is : narrower q w ≡ n = unsome (narrower q w) n one in
+          record { word = w; among = Contains-append_left (w ∷ []) ws w (0, omega arith, refl); is = sym is; passes = ap t (sym is) ∙ e }
+      | false ↦ λ e rest.
+          let r = found_word q t ws n rest in
+          record { word = r.word; among = Contains-append_right (w ∷ []) ws r.word r.among; is = r.is; passes = r.passes }
+    ] refl h
+  where
+    unsome : (a b : Narrower) → Some a ≡ Some b → a ≡ b
+    unsome a b e = cc
+
+-- a test that some entry passes finds one
+finds_one : (q : Query) (t : Narrower → Bool) (ws : List (List ℕ)) (s : Narrower → Bool) (n : Narrower) → find s (map (narrower q) ws) ≡ Some n → t n ≡ true
+    → (m : Narrower) × (find t (map (narrower q) ws) ≡ Some m)
+finds_one q t [] s n h e = none_some n h
+finds_one q t (w ∷ ws) s n h e =
+    elim (t (narrower q w)) as (λ b. t (narrower q w) ≡ b → (m : Narrower) × (cond b (Some (narrower q w)) (find t (map (narrower q) ws)) ≡ Some m)) [
+      | true ↦ λ _. (narrower q w, refl)
+      | false ↦ λ other. later (s (narrower q w)) (λ rest. finds_one q t ws s n rest e) other h
+    ] refl
+  where
+    unsome : (a b : Narrower) → Some a ≡ Some b → a ≡ b
+    unsome a b e = cc
+
+    later : (b : Bool) → (find s (map (narrower q) ws) ≡ Some n → (m : Narrower) × (find t (map (narrower q) ws) ≡ Some m))
+        → t (narrower q w) ≡ false → cond b (Some (narrower q w)) (find s (map (narrower q) ws)) ≡ Some n → (m : Narrower) × (find t (map (narrower q) ws) ≡ Some m)
+    later true go other one = absurd (true≢false (sym e ∙ ap t (sym (unsome (narrower q w) n one)) ∙ other))
+    later false go other rest = go rest
+
+-- beginnings of one length are the same
+same_beginning : (p v w : List ℕ) → Begins p v → Begins p w → length v ≡ length w → v ≡ w
+same_beginning p v w a b e =
+    sym (take-append_seam v a.0) ∙ ap (take (length v)) (sym a.1 ∙ b.1) ∙ ap (λ n. take n (w ++ b.0)) e ∙ take-append_seam w b.0
+
+equal_cuts : (a b : ℕ) → (a == b) ≡ true → a ≡ b
+equal_cuts a b h = grind (arith, nat_tests)
+
+module _ (k : Corpus) (held : KeptList) (q : Query) (good : GoodFor k held) (g : IsOfGrammar q) where
+  is_kept : Narrower → Bool
+  is_kept n = is_held held n.key
+
+  narrow_serves : (p : List ℕ) → last_prefix q ≡ Some p → (n : Narrower) → find (λ n. is_held held n.key) (map (narrower q) (shorter_words p)) ≡ Some n → Serves k held q (Narrow n.cut)
+  narrow_serves p h n e =
+      let ws = shorter_words p in
+      let f = found_word q (λ n. is_held held n.key) ws n e in
+      let w = f.word in
+      let stays = shorter_stays q p w g h f.among in
+      let begins = words_begin p stays.1 in
+      let by_cut = finds_one q (λ m. m.cut == n.cut) ws (λ n. is_held held n.key) n e (itself n.cut) in
+      let m = found_word q (λ m. m.cut == n.cut) ws by_cut.0 by_cut.1 in
+      let lengths : length m.word ≡ length w = ap (λ (x : Narrower). x.cut) (sym m.is) ∙ equal_cuts by_cut.0.cut n.cut m.passes ∙ ap (λ (x : Narrower). x.cut) f.is in
+      let same : m.word ≡ w = same_beginning p m.word w (All-contains (Begins p) ws m.word begins m.among) (All-contains (Begins p) ws w begins f.among) lengths in
+      let key : used_key (keys_of q) (Narrow n.cut) ≡ Some (canonical (with_prefix w q)) =
+      ap (λ o. option_map (λ (x : Narrower). x.key) (find (λ m. m.cut == n.cut) (narrowers q o))) h
+      ∙ ap (option_map (λ (x : Narrower). x.key)) by_cut.1
+      ∙ ap (λ (x : Narrower). Some x.key) m.is ∙ ap (λ v. Some (canonical (with_prefix v q))) same in
+      let is_there : is_held held (canonical (with_prefix w q)) ≡ true = ap (λ (x : Narrower). is_held held x.key) (sym f.is) ∙ f.passes in
+      (p, w, h, stays.1, f.among, ap (λ (x : Narrower). x.cut) (sym f.is), finds k held q (Narrow n.cut) (with_prefix w q) good stays.0 is_there key)
+
+  narrow_any : (o : Option (List ℕ)) → last_prefix q ≡ o → (n : Narrower) → find (λ n. is_held held n.key) (narrowers q o) ≡ Some n → Serves k held q (Narrow n.cut)
+  narrow_any None h n e = none_some n e
+  narrow_any (Some p) h n e = narrow_serves p h n e
+
+  -- ---- parts
+  several : (b : Bool) (key : List ℕ) → nat_lt 1 (length (out-Query q).parts) ≡ b → (if b then Some (canonical (before_last q)) else None) ≡ Some key
+      → (1 < length (out-Query q).parts) × (canonical (before_last q) ≡ key)
+  several true key h e = (grind (arith, nat_tests), unsome (canonical (before_last q)) key e)
+    where
+      unsome : (a b : List ℕ) → Some a ≡ Some b → a ≡ b
+      unsome a b e = cc
+  several false key h e = none_some key e
+
+  last_part : 1 < length (out-Query q).parts → (p : Part) × (q ≡ followed (before_last q) p)
+  last_part more = cases (out-Query q).parts refl more
+    where
+      cases : (ps : List Part) → (out-Query q).parts ≡ ps → 1 < length (out-Query q).parts → (p : Part) × (q ≡ followed (before_last q) p)
+      cases [] e more = absurd (omega (arith, more, ap length e))
+      cases (p ∷ ps) e more =
+          let r = last_entry p ps in
+          let whole : (out-Query q).parts ≡ r.0 ++ r.1 ∷ [] = e ∙ r.2 in
+          let first : take (length (out-Query q).parts - 1) (out-Query q).parts ≡ r.0 = ap (λ (l : List Part). take (length l - 1) l) whole ∙ take_init r.0 r.1 in (
+            r.1,
+            sym (roll-out-Query q) ∙ ap (λ (l : List Part). roll-Query (record { parts = l })) (whole ∙ ap (λ l. l ++ r.1 ∷ []) (sym first))
+                ∙ ap (λ x. roll-Query (record { parts = x.parts ++ r.1 ∷ [] })) (sym (out-roll-Query (record { parts = take (length (out-Query q).parts - 1) (out-Query q).parts }))),
+          )
+
+  extend_serves : (key : List ℕ) → extended (out-Query q).parts ≡ Some key → is_held held key ≡ true → Serves k held q Extend
+  extend_serves key e h =
+      let r = several (nat_lt 1 (length (out-Query q).parts)) key refl e in
+      let p = last_part r.0 in
+      (p.0, p.1, r.0, finds k held q Extend (before_last q) good (first_parts_stay q g) (ap (is_held held) r.1 ∙ h) (e ∙ ap Some (sym r.1)))
+
+  extend_any : (o : Option (List ℕ)) → extended (out-Query q).parts ≡ o → Serves k held q (extend_or_fresh held o)
+  extend_any None e = tt
+  extend_any (Some key) e = cases (is_held held key) refl
+    where
+      cases : (b : Bool) → is_held held key ≡ b → Serves k held q (if b then Extend else Fresh)
+      cases true h = extend_serves key e h
+      cases false h = tt
+
+  narrow_or_any : (o : Option Narrower) → find (λ n. is_held held n.key) (keys_of q).narrow ≡ o → Serves k held q (narrow_or held (keys_of q) o)
+  narrow_or_any None e = extend_any (extended (out-Query q).parts) refl
+  narrow_or_any (Some n) e = narrow_any (last_prefix q) refl n e
+
+  serves : (b : Bool) → is_held held (canonical q) ≡ b → Serves k held q (if b then Same else narrow_or held (keys_of q) (find (λ n. is_held held n.key) (keys_of q).narrow))
+  serves true h = finds k held q Same q good g h refl
+  serves false h = narrow_or_any (find (λ n. is_held held n.key) (keys_of q).narrow) refl
+
+pub plans_serve : PlansServe
+unfolding plan
+plans_serve k held q good g = serves k held q good g (is_held held (canonical q)) refl
