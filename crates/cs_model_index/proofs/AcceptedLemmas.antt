@@ -20,7 +20,7 @@ use Rattle.cs_model_index.specs.FileLaws.{AcceptedAreFiles, FilesFollowBlocks}
 use Rattle.cs_model_index.specs.FileRules.{laid, last_of, tried, field_breaks, words_break, is_word, follows, word_size, is_onward, words_end, is_joined, is_of_one_kind, is_sized, blocks_break, is_parted, file_rules, damage}
 use Rattle.cs_model_index.specs.Layout.{number_bytes, Header, MAGIC, header_bytes, offset_bytes, header_of_image, file}
 use Rattle.cs_model_index.specs.Sections.{number_at, header_of, offsets_len, directory_len, vocabulary_at, offsets_at, titles_at, directory_at, blocks_at, size_by, Sections, sections, Reading, reading_of, image_of}
-use Rattle.cs_model_index.specs.declared.limits.TheConstants.{MAX_TARGET}
+use Rattle.cs_model_index.specs.declared.limits.TheConstants.{HEADER_BYTES, NUMBER_BYTES, ENTRY_BYTES, MAX_TARGET}
 use Rattle.cs_model_index.proofs.NumbersLemmas.{IsBytes, bytes_from_all, IsBytes-take, IsBytes-drop, number_back, numbers_written, entries_written, numbers_count, heads_count}
 use Rattle.cs_model_index.proofs.SectionLemmas.{unbroken, words_written, titles_written, end_from, end_is, shapes, blocks_written}
 
@@ -39,20 +39,20 @@ pub record ValuesHold (r : Reading) : Type 0 where
   pub fields : FieldsHold r.header
   pub words : AllByRecursion (λ i. is_word i.value ≡ true) (laid word_size vocabulary_at None r.words)
   pub ascend : AllByRecursion (λ i. follows i.last i.value ≡ true) (laid word_size vocabulary_at None r.words)
-  pub onward : AllByRecursion (λ i. is_onward i.last i.value ≡ true) (laid (λ o. 4) (offsets_at r.header) None r.offsets)
+  pub onward : AllByRecursion (λ i. is_onward i.last i.value ≡ true) (laid (λ o. NUMBER_BYTES) (offsets_at r.header) None r.offsets)
   pub last_offset : unwrap_or (last_of r.offsets) 0 ≡ r.header.titles_len
   pub texts : AllByRecursion (λ i. is_utf8 i.value ≡ true) (laid (λ t. length t) (titles_at r.header) None r.titles)
-  pub joined : AllByRecursion (λ i. is_joined i.last i.value ≡ true) (laid (λ h. 16) (directory_at r.header) None r.heads)
+  pub joined : AllByRecursion (λ i. is_joined i.last i.value ≡ true) (laid (λ h. ENTRY_BYTES) (directory_at r.header) None r.heads)
   pub end : words_end (last_of r.heads) ≡ r.header.words
-  pub kinds : AllByRecursion (λ i. is_of_one_kind r.words i.value ≡ true) (laid (λ h. 16) (directory_at r.header) None r.heads)
-  pub sized : AllByRecursion (λ i. is_sized i.value ≡ true) (laid (λ h. 16) (directory_at r.header) None r.heads)
+  pub kinds : AllByRecursion (λ i. is_of_one_kind r.words i.value ≡ true) (laid (λ h. ENTRY_BYTES) (directory_at r.header) None r.heads)
+  pub sized : AllByRecursion (λ i. is_sized i.value ≡ true) (laid (λ h. ENTRY_BYTES) (directory_at r.header) None r.heads)
   pub rows_sum : sum_by (λ h. h.rows) r.heads ≡ r.header.rows
   pub bytes_sum : sum_by (λ h. h.len) r.heads ≡ r.header.blocks_len
-  pub parted : AllByRecursion (λ i. is_parted r.header.target r.words i ≡ true) (laid (λ p. 16) (directory_at r.header) None (zip r.heads r.blocks))
+  pub parted : AllByRecursion (λ i. is_parted r.header.target r.words i ≡ true) (laid (λ p. ENTRY_BYTES) (directory_at r.header) None (zip r.heads r.blocks))
 
 -- and of the bytes
 pub record RulesHold (b : List ℕ) (r : Reading) : Type 0 where
-  pub long : 44 ≤ length b
+  pub long : HEADER_BYTES ≤ length b
   pub first : take 8 b ≡ MAGIC
   pub size : length b ≡ size_by r.header
   pub words_stand : words_break r.header.words vocabulary_at r.bytes.vocabulary ≡ None
@@ -124,7 +124,7 @@ rules_hold b r e =
     }
 
 -- ---- the header and the sections
-pub header_written : (b : List ℕ) → IsBytes b → 44 ≤ length b → take 8 b ≡ MAGIC → header_bytes (header_of b) ++ drop 44 b ≡ b
+pub header_written : (b : List ℕ) → IsBytes b → HEADER_BYTES ≤ length b → take 8 b ≡ MAGIC → header_bytes (header_of b) ++ drop HEADER_BYTES b ≡ b
 unfolding header_bytes
 header_written b fits le first =
     let z = number_back b 40 44 (number_at b 40) _ fits (omega (arith, le)) refl refl refl in
@@ -166,13 +166,13 @@ pub record SectionsSized (h : Header) (s : Sections) : Type 0 where
   pub directory : length s.directory ≡ 16 * h.blocks
   pub blocks : length s.blocks ≡ h.blocks_len
 
-pub sections_sized : (h : Header) (b : List ℕ) → 44 ≤ length b → length b ≡ size_by h → SectionsSized h (sections h (drop 44 b))
+pub sections_sized : (h : Header) (b : List ℕ) → HEADER_BYTES ≤ length b → length b ≡ size_by h → SectionsSized h (sections h (drop HEADER_BYTES b))
 sections_sized h b long size =
-    let rest = drop 44 b in
+    let rest = drop HEADER_BYTES b in
     let v = drop h.vocabulary_len rest in
     let o = drop (offsets_len h) v in
     let t = drop h.titles_len o in
-    let l0 : length rest ≡ length b - 44 = length-drop 44 b in
+    let l0 : length rest ≡ length b - 44 = length-drop HEADER_BYTES b in
     let l1 : length v ≡ length rest - h.vocabulary_len = length-drop h.vocabulary_len rest in
     let l2 : length o ≡ length v - 4 * (h.docs + 1) = length-drop (4 * (h.docs + 1)) v in
     let l3 : length t ≡ length o - h.titles_len = length-drop h.titles_len o in
@@ -191,12 +191,12 @@ accepted_are_files law b small e =
     let fits = bytes_from_all b small in
     let r = reading_of b in
     let h = header_of b in
-    let rest = drop 44 b in
+    let rest = drop HEADER_BYTES b in
     let s = sections h rest in
     let hold : RulesHold b r = rules_hold b r e in
     let f = hold.values.fields in
     let sized = sections_sized h b hold.long hold.size in
-    let behind : IsBytes rest = IsBytes-drop 44 b fits in
+    let behind : IsBytes rest = IsBytes-drop HEADER_BYTES b fits in
     let behind_words = IsBytes-drop h.vocabulary_len rest behind in
     let behind_offsets = IsBytes-drop (offsets_len h) (drop h.vocabulary_len rest) behind_words in
     let behind_titles = IsBytes-drop h.titles_len (drop (offsets_len h) (drop h.vocabulary_len rest)) behind_offsets in

@@ -6,20 +6,26 @@
 --   post_of_row        the post of a post's row is that post
 --   rows_of_numbered   the same of lists of rows
 --   numbered_of_rows   the same of lists of posts
-use Rattle.std.proofs.Common.{◌≡◌, ℕ, ◌+◌, ◌<◌, ◌||◌, Bool, true, false, true≢false, not, cond, List, [], ◌∷◌, length, refl, sym, ◌∙◌, ap, arith}
+--   number_below       a word that is there has a number below that of the words
+--   less_number        words that ascend have numbers that do
+--   posts_ascend       the posts of rows in order are in order
+use Rattle.std.proofs.Common.{◌≡◌, ℕ, ◌+◌, ◌<◌, ◌||◌, Bool, true, false, true≢false, not, cond, List, [], ◌∷◌, length, refl, sym, ◌∙◌, ap, inl, inr, arith}
 use Rattle.std.specs.List.{AllByRecursion, list_any}
 use Rattle.std.specs.List.Sorted.{IsStrictlySortedBy}
-use Rattle.std.specs.Ordering.{nat_cmp, is_lt}
+use Rattle.std.specs.Ordering.{nat_cmp, is_lt, ordering_then}
 use Rattle.std.specs.Cmp.{tied_itself}
 use Rattle.std.specs.Cmp.Lexicographic.{slice_cmp}
-use Rattle.std.specs.declared.cmp.Ordering.TheVariants.{Less}
+use Rattle.std.specs.declared.cmp.Ordering.{Ordering}
+use Rattle.std.specs.declared.cmp.Ordering.TheVariants.{Less, Equal, Greater}
 use Rattle.std.specs.Str.{bytes_eq}
 use Rattle.std.proofs.Math.Numerals.{one-add}
-use Rattle.std.proofs.lemmas.Bool.{false_from_ne_true}
+use Rattle.std.proofs.lemmas.Bool.{false_from_ne_true, cases_lt}
 use Rattle.std.proofs.lemmas.Cmp.{nat_list_cmp_total}
 use Rattle.std.proofs.lemmas.List.Sums.{position_or_len_is}
 use Rattle.std.proofs.lemmas.Map.Keys.{Less-from_sorted}
 use Rattle.std.proofs.lemmas.Slice.Eq.{bytes_eq-Decides}
+use Rattle.cs_base.proofs.OrdersLemmas.{Less-from_lt}
+use Rattle.cs_base.specs.Orders.{by_place, by_spot}
 use Rattle.cs_base.specs.declared.doc.Post.{Post}
 use Rattle.cs_base.specs.declared.doc.Row.{Row}
 use Rattle.cs_model_index.specs.Numbered.{word_at, number_of, row_of, post_of, rows_at, numbered, HasWord}
@@ -61,3 +67,47 @@ pub numbered_of_rows : (ws : List (List ℕ)) (posts : List Post) → IsStrictly
 numbered_of_rows ws [] up h = refl
 numbered_of_rows ws (p ∷ posts) up h =
     ap (λ x. x ∷ numbered ws (rows_at ws posts)) (post_of_row ws p up h.0) ∙ ap (λ l. p ∷ l) (numbered_of_rows ws posts up h.1)
+
+-- ---- order
+below_step : (w v : List ℕ) (b : Bool) (vs : List (List ℕ)) → bytes_eq w v ≡ b → (list_any (bytes_eq w) vs ≡ true → number_of vs w < length vs) → (b || list_any (bytes_eq w) vs) ≡ true → cond (not b) (1 + number_of vs w) 0 < length (v ∷ vs)
+below_step w v true vs e rest h = omega arith
+below_step w v false vs e rest h = let l = rest h in omega (arith, l)
+
+pub number_below : (ws : List (List ℕ)) (w : List ℕ) → list_any (bytes_eq w) ws ≡ true → number_of ws w < length ws
+number_below [] w h = absurd (true≢false (sym h))
+number_below (v ∷ vs) w h = below_step w v (bytes_eq w v) vs refl (number_below vs w) h
+
+not_before : (v w : List ℕ) → slice_cmp nat_cmp v w ≡ Less → slice_cmp nat_cmp w v ≡ Less → ⊥
+not_before v w h k = true≢false (sym (ap is_lt (nat_list_cmp_total.trans v w v h k)) ∙ ap is_lt (tied_itself nat_list_cmp_total v))
+
+not_itself : (v w : List ℕ) → slice_cmp nat_cmp v w ≡ Less → v ≡ w → ⊥
+not_itself v w h same = true≢false (sym (ap is_lt h) ∙ ap (λ x. is_lt (slice_cmp nat_cmp v x)) (sym same) ∙ ap is_lt (tied_itself nat_list_cmp_total v))
+
+module _ (ws : List (List ℕ)) (up : IsStrictlySortedBy (slice_cmp nat_cmp) ws) where
+  pub less_number : (v w : List ℕ) → list_any (bytes_eq v) ws ≡ true → list_any (bytes_eq w) ws ≡ true → slice_cmp nat_cmp v w ≡ Less → number_of ws v < number_of ws w
+  less_number v w hv hw less =
+      elim (cases_lt (number_of ws v) (number_of ws w)) [
+        | inl lt ↦ lt
+        | inr ge ↦ elim (cases_lt (number_of ws w) (number_of ws v)) [
+          | inl gt ↦ absurd (not_before v w less (
+              ap (λ x. slice_cmp nat_cmp x v) (sym (word_of_number ws w hw)) ∙ ap (slice_cmp nat_cmp (word_at ws (number_of ws w))) (sym (word_of_number ws v hv))
+              ∙ Less-from_sorted (slice_cmp nat_cmp) ws (number_of ws w) (number_of ws v) [] up gt (number_below ws v hv)))
+          | inr le ↦ let same : number_of ws v ≡ number_of ws w = omega (arith, ge, le) in absurd (not_itself v w less (sym (word_of_number ws v hv) ∙ ap (word_at ws) same ∙ word_of_number ws w hw))
+        ]
+      ]
+
+  spot_place : (a b : Ordering) (v w : List ℕ) → list_any (bytes_eq v) ws ≡ true → list_any (bytes_eq w) ws ≡ true → ordering_then a (ordering_then b (slice_cmp nat_cmp v w)) ≡ Less → ordering_then a (ordering_then b (nat_cmp (number_of ws v) (number_of ws w))) ≡ Less
+  spot_place Less b v w hv hw h = refl
+  spot_place Greater b v w hv hw h = h
+  spot_place Equal Less v w hv hw h = refl
+  spot_place Equal Greater v w hv hw h = h
+  spot_place Equal Equal v w hv hw h = Less-from_lt (number_of ws v) (number_of ws w) (less_number v w hv hw h)
+
+  rest_ascend : (r : Row) (rows : List Row) → HasWord ws r → AllByRecursion (HasWord ws) rows → AllByRecursion (λ s. by_spot r s ≡ Less) rows → AllByRecursion (λ q. by_place (post_of ws r) q ≡ Less) (numbered ws rows)
+  rest_ascend r [] k l h = tt
+  rest_ascend r (s ∷ rows) k l h = (spot_place (nat_cmp r.doc s.doc) (nat_cmp r.pos s.pos) r.word s.word k l.0 h.0, rest_ascend r rows k l.1 h.1)
+
+  pub posts_ascend : (rows : List Row) → AllByRecursion (HasWord ws) rows → IsStrictlySortedBy by_spot rows → IsStrictlySortedBy by_place (numbered ws rows)
+  unfolding IsStrictlySortedBy
+  posts_ascend [] l h = tt
+  posts_ascend (r ∷ rows) l h = (rest_ascend r rows l.0 l.1 h.0, posts_ascend rows l.1 h.1)

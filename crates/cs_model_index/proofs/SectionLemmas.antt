@@ -23,6 +23,7 @@ use Rattle.cs_model_index.specs.BlockRules.{judged, rows_read}
 use Rattle.cs_model_index.specs.FileRules.{Placed, laid, last_of, place_of_item, break_of, is_length, words_break, is_onward, words_end, is_joined, is_sized, moved, blocks_break}
 use Rattle.cs_model_index.specs.Layout.{vocabulary_bytes, offsets_from, title_bytes, blocks_bytes}
 use Rattle.cs_model_index.specs.Sections.{words_in, titles_in, blocks_in}
+use Rattle.cs_model_index.specs.declared.limits.TheConstants.{NUMBER_BYTES, ENTRY_BYTES}
 use Rattle.cs_model_index.proofs.NumbersLemmas.{IsBytes, IsBytes-take, IsBytes-drop, all_from_bytes}
 
 -- ---- items
@@ -82,7 +83,7 @@ last_is o ps =
     ap (λ (n : ℕ). unwrap_or (slice_get (o ∷ ps) n) 0) less ∙ ap (λ (x : Option ℕ). unwrap_or x 0) (last_got o ps)
 
 abbrev Onward : ℕ → Option ℕ → List ℕ → Type 0
-Onward at last ps = AllByRecursion (λ i. is_onward i.last i.value ≡ true) (laid (λ o. 4) at last ps)
+Onward at last ps = AllByRecursion (λ i. is_onward i.last i.value ≡ true) (laid (λ o. NUMBER_BYTES) at last ps)
 
 not_past : (at o : ℕ) (ps : List ℕ) → Onward at (Some o) ps → o ≤ last_from o ps
 unfolding last_from laid
@@ -145,10 +146,10 @@ end_is (h ∷ hs) =
     ap (λ (n : ℕ). words_end (slice_get (h ∷ hs) n)) less ∙ end_got h hs
 
 abbrev Joined : ℕ → Option BlockHead → List BlockHead → Type 0
-Joined at last hs = AllByRecursion (λ i. is_joined i.last i.value ≡ true) (laid (λ h. 16) at last hs)
+Joined at last hs = AllByRecursion (λ i. is_joined i.last i.value ≡ true) (laid (λ h. ENTRY_BYTES) at last hs)
 
 abbrev Sized : ℕ → Option BlockHead → List BlockHead → Type 0
-Sized at last hs = AllByRecursion (λ i. is_sized i.value ≡ true) (laid (λ h. 16) at last hs)
+Sized at last hs = AllByRecursion (λ i. is_sized i.value ≡ true) (laid (λ h. ENTRY_BYTES) at last hs)
 
 ends_rise : (at : ℕ) (last : Option BlockHead) (hs : List BlockHead) → Joined at last hs → words_end last ≤ end_from (words_end last) hs
 unfolding end_from laid

@@ -20,6 +20,7 @@ use Rattle.cs_model_index.specs.FileRules.{tried, field_breaks, is_word, follows
 use Rattle.cs_model_index.specs.Images.{Image}
 use Rattle.cs_model_index.specs.Layout.{number_bytes, Header, MAGIC, header_bytes, vocabulary_bytes, offsets_from, offset_bytes, title_bytes, directory_bytes, blocks_bytes, header_of_image, file}
 use Rattle.cs_model_index.specs.Sections.{number_at, header_of, vocabulary_at, blocks_at, size_by, Sections, sections, words_in, numbers_in, titles_in, heads_in, blocks_in, Reading, reading_by, reading_of, image_of}
+use Rattle.cs_model_index.specs.declared.limits.TheConstants.{HEADER_BYTES}
 use Rattle.cs_model_index.proofs.AcceptedLemmas.{FieldsHold, ValuesHold, RulesHold, same_header}
 use Rattle.cs_model_index.proofs.AgainLemmas.{break_none, HasLength, words_again, numbers_again, titles_again, offsets_count, HeadFits, heads_again, AreBlocks, blocks_again, sections_again}
 
@@ -39,11 +40,11 @@ header_again h rest f room =
     (from_be_bytes-to_be_bytes_4 h.target (omega (arith, t))) (from_be_bytes-to_be_bytes_4 h.vocabulary_len room.vocabulary) (from_be_bytes-to_be_bytes_4 h.titles_len room.titles) (from_be_bytes-to_be_bytes_4 h.blocks_len room.blocks)
     (from_be_bytes-to_be_bytes_4 h.spare spare)
 
-behind_header : (h : Header) (rest : List ℕ) → (drop 44 (header_bytes h ++ rest) ≡ rest) × (take 8 (header_bytes h ++ rest) ≡ MAGIC)
+behind_header : (h : Header) (rest : List ℕ) → (drop HEADER_BYTES (header_bytes h ++ rest) ≡ rest) × (take 8 (header_bytes h ++ rest) ≡ MAGIC)
 unfolding header_bytes
 behind_header h rest = (refl, refl)
 
-header_long : (h : Header) (rest : List ℕ) → length (header_bytes h ++ rest) ≡ 44 + length rest
+header_long : (h : Header) (rest : List ℕ) → length (header_bytes h ++ rest) ≡ HEADER_BYTES + length rest
 unfolding header_bytes
 header_long h rest = omega arith
 
@@ -211,7 +212,7 @@ file_again law i is =
     let few : length i.titles < 2 ^ 32 = omega (arith, f.docs) in
     let o_len : length o ≡ 4 * (length i.titles + 1) = numbers_len (offsets_from 0 i.titles) ∙ ap (λ (n : ℕ). 4 * n) (offsets_count 0 i.titles) in
     let d_len : length d ≡ 16 * length i.blocks = entries_len i.heads ∙ ap (λ (n : ℕ). 16 * n) is.one_each in
-    let long : length b ≡ 44 + length rest = header_long h rest in
+    let long : length b ≡ HEADER_BYTES + length rest = header_long h rest in
     let l1 = length-append v (o ++ (t ++ (d ++ x))) in
     let l2 = length-append o (t ++ (d ++ x)) in
     let l3 = length-append t (d ++ x) in
