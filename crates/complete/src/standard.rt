@@ -36,6 +36,8 @@ impl<W: Write + Drop> Sink for Standard<W> {
 
     ghost faults = { λ s. s.faults.count };
 
+    ghost kept = { λ _. tt };
+
     /// Over a writer whose content is known, exactly these bytes came to it; some first ones of them where it failed.
     fn put(&mut self, bytes: &[u8]) -> Result<(), Failed>
         ensures handed_on { OnOk result (Appends (W.contents self.old.writer) (W.contents self.new.writer) bytes.now) }

@@ -1,5 +1,6 @@
 pub mod Connected
 pub mod ConnectionLists
+pub mod FileLemmas
 pub mod MembersLemmas
 pub mod NameMaps
 pub mod OrdersLemmas

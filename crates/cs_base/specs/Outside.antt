@@ -8,11 +8,15 @@
 --   File, Held               a file's bytes and whether it is finished; the files that are held, by name
 --   size_of f                the number of a file's bytes, None where it isn't held
 --   bytes_of f               a file's bytes, none where it isn't held
+--   file_bytes held name     the bytes of a name, where the files tell
+--   HasSize h name n         the name is held, with n bytes
 --   Covers f n               the file is held and has at least n bytes
 --   IsHeld f                 the file is held
 --   part bytes at n          n bytes from a place, fewer where the bytes end before
 --   Sets old name f new      what the name holds became f of what it held; all other names stay
+--   but_for name held        the files with one name emptied: two that are equal so differ at this name at most
 --   empty_file               what create makes of a file
+--   whole_file b             a finished file of these bytes
 --   appended b f             what append makes of it
 --   finished f               what finish makes of it
 --
@@ -53,6 +57,14 @@ abbrev pub bytes_of : Option File → List ℕ
 bytes_of None = []
 bytes_of (Some f) = f.bytes
 
+-- the bytes of a name, where the files tell; none where it isn't held
+abbrev pub file_bytes : Option Held → List ℕ → Option (List ℕ)
+file_bytes held name = option_map (λ h. bytes_of (map.get h name)) held
+
+-- the name is held, with exactly n bytes, which may be 0
+abbrev pub HasSize : Held → List ℕ → ℕ → Type 0
+HasSize h name n = size_of (map.get h name) ≡ Some n
+
 -- a held file of at least n bytes; a file that isn't held has not even 0
 abbrev pub Covers : Option File → ℕ → Type 0
 Covers None n = ⊥
@@ -73,6 +85,14 @@ Sets old name f new = new ≡ option_map (λ h. map.insert h name (f (map.get h 
 -- a file that was just made: no bytes, not finished
 abbrev pub empty_file : File
 empty_file = record { bytes = []; finished = false }
+
+-- a file of these bytes, finished; they may be none
+abbrev pub whole_file : List ℕ → File
+whole_file b = record { bytes = b; finished = true }
+
+-- the files with one name made to hold no bytes, which it need not have held: what is said of all names but this one
+abbrev pub but_for : List ℕ → Option Held → Option Held
+but_for name held = option_map (λ h. map.insert h name empty_file) held
 
 -- a file with b added at its end, no longer finished; b alone where it wasn't held
 abbrev pub appended : List ℕ → Option File → File

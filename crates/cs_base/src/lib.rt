@@ -4,25 +4,39 @@
 mod block;
 mod connections;
 mod doc;
+mod failed;
 mod failing;
+mod file_sink;
+mod file_store;
+mod files;
 mod hub;
+#[cfg(test)]
+mod hub_tests;
 mod key;
 pub mod laws;
 mod limits;
 mod mem_files;
 mod mem_sink;
+mod mem_store;
 mod memory;
 mod outside;
+mod plan;
 mod query;
 mod scores;
 mod script;
 mod script_hub;
 mod seq;
+mod sink;
+mod store;
+#[cfg(test)]
+mod tests;
 mod text;
 mod word;
 
 pub use block::{BlockHead, Broken};
 pub use doc::{Base, Doc, Post, Row, Scored};
+pub use file_sink::FileSink;
+pub use file_store::FileStore;
 pub use hub::{Event, Hub};
 pub use key::{Key, Keys, Narrower};
 pub use limits::{
@@ -33,8 +47,10 @@ pub use limits::{
 };
 pub use mem_files::MemFiles;
 pub use mem_sink::MemSink;
+pub use mem_store::{MemStore, TiredStore};
 pub use memory::Memory;
-pub use outside::{Failed, Files, Sink};
+pub use outside::{Failed, Files, Sink, Store};
+pub use plan::{Kept, Plan};
 pub use query::{Atom, Chain, Link, Linked, Part, Query, Which};
 pub use scores::{BEHIND_TITLE, FACET_SCORE, TEXT_SCORE, TITLE_SCORE};
 pub use script::Scripted;

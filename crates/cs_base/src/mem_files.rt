@@ -1,9 +1,10 @@
 //! Files in memory.
-ghost use Rattle.std.specs.Prelude.{◌≡◌, ◌+◌, ◌<◌, ◌≤◌, ◌^◌, [], MatchOption, IfOk, OnOk, OnErr, IsErr, Ok, Some, None, length, true};
+ghost use Rattle.std.specs.Prelude.{◌≡◌, ◌+◌, ◌<◌, ◌≤◌, ◌⊎◌, [], MatchOption, IfOk, OnOk, OnErr, IsErr, Some, None, length, true, is_err};
 ghost use Rattle.std.specs.Option.{option_map, option_copied};
 ghost use Rattle.std.specs.FinMap as map;
 ghost use Rattle.cs_base.specs.HeldFiles.{held_in, IsPlaceOf};
 
+use crate::failing::count_call;
 use crate::outside::{Failed, Files};
 use crate::{Memory, Text};
 use std::alloc::Global;
@@ -16,11 +17,13 @@ pub(crate) struct MemFile {
     pub finished: bool,
 }
 
-/// Files that are kept in memory. They tell what they hold. Want of memory is a fault of their own.
+/// Files that are kept in memory. They tell what they hold. Want of memory is a fault of their own, and so is a call that is to fail.
 #[derive(Debug, Drop)]
 pub struct MemFiles {
     files: Vec<MemFile>,
     faults: u64,
+    failing_reads: Vec<u64>,
+    failing_writes: Vec<u64>,
     alloc: Global,
 }
 
@@ -33,20 +36,22 @@ impl Model for MemFiles {
 
     ghost use Rattle.cs_base.specs.HeldFiles.{held_in};
 
-    ghost view = { λ f. record { held = held_in f.files.items; faults = f.faults } };
+    ghost view = { λ f. record { held = held_in f.files.items; faults = f.faults; failing_reads = f.failing_reads.items; failing_writes = f.failing_writes.items } };
 }
 
 impl MemFiles {
-    ghost use Rattle.cs_base.specs.Outside.{empty_file};
-    ghost use Rattle.cs_base.specs.Causes.{Counted, one_more};
+    ghost use Rattle.cs_base.specs.Outside.{empty_file, whole_file};
+    ghost use Rattle.cs_base.specs.Causes.{Rose, one_more};
 
     /// Files of which none is held.
     pub fn new(alloc: Global) -> MemFiles
-        ensures { result ≡ record { held = map.empty; faults = 0 } }
+        ensures { result ≡ record { held = map.empty; faults = 0; failing_reads = []; failing_writes = [] } }
     {
         MemFiles {
             files: Vec::new(alloc),
             faults: 0,
+            failing_reads: Vec::new(alloc),
+            failing_writes: Vec::new(alloc),
             alloc,
         }
     }
@@ -54,7 +59,7 @@ impl MemFiles {
     /// Makes the name hold these bytes, finished.
     #[tactic(auto, using(crate::proofs::Places::pushed))]
     pub fn hold(&mut self, name: &str, bytes: Vec<u8>) -> Result<(), Memory>
-        ensures ok { OnOk result (self.new ≡ record self.old { held = map.insert self.old.held name.now (record { bytes = bytes.items; finished = true }) }) }
+        ensures ok { OnOk result (self.new ≡ record self.old { held = map.insert self.old.held name.now (whole_file bytes.items) }) }
         ensures err { OnErr result (self.new ≡ self.old) }
     {
         match place_of(&self.files, name) {
@@ -103,44 +108,73 @@ impl MemFiles {
         Ok(())
     }
 
+    /// These calls of `size` and `read_at` together fail, counted from 1 from the next one. The list takes the place of an
+    /// earlier one.
+    pub fn fail_reads(&mut self, calls: Vec<u64>)
+        ensures { self.new ≡ record self.old { failing_reads = calls.items } }
+    {
+        self.failing_reads = calls;
+    }
+
+    /// These calls of `create`, `append` and `finish` together fail, counted from 1 from the next one. The list takes the place
+    /// of an earlier one.
+    pub fn fail_writes(&mut self, calls: Vec<u64>)
+        ensures { self.new ≡ record self.old { failing_writes = calls.items } }
+    {
+        self.failing_writes = calls;
+    }
+
     // Counts a fault.
-    fn fail(&mut self) -> Result<(), Failed>
-        ensures failed { IsErr result }
+    fn fault(&mut self) -> Failed
         ensures one { self.new ≡ record self.old { faults = one_more self.old.faults } }
-        ensures counted { Counted self.old.faults self.new.faults result }
+        ensures later { self.old.faults ≤ self.new.faults }
+        ensures rose { Rose self.old.faults self.new.faults }
     {
         self.faults = self.faults.saturating_add(1);
-        Err(Failed)
+        Failed
     }
 }
 
 impl Files for MemFiles {
     ghost use Rattle.cs_base.specs.Causes.{Counted, one_more};
+    ghost use Rattle.cs_base.specs.FailingCalls.{fails_next, after_call};
     ghost use Rattle.cs_base.specs.Outside.{empty_file, appended, finished, size_of, bytes_of, part, Covers, IsHeld};
 
     ghost held = { λ f. Some f.held };
 
     ghost faults = { λ f. f.faults };
 
-    /// It never fails.
+    /// It fails exactly where the call is to fail.
     fn size(&mut self, name: &str) -> Result<Option<u64>, Failed>
-        ensures value { result ≡ Ok (size_of (map.get self.old.held name.now)) }
-        ensures same { self.new ≡ self.old }
+        ensures fails { is_err result ≡ fails_next self.old.failing_reads }
+        ensures value { IfOk result (λ n. n ≡ size_of (map.get self.old.held name.now)) }
+        ensures ok { OnOk result (self.new ≡ record self.old { failing_reads = after_call self.old.failing_reads }) }
+        ensures err { OnErr result (self.new ≡ record self.old { faults = one_more self.old.faults; failing_reads = after_call self.old.failing_reads }) }
+        ensures counted { Counted self.old.faults self.new.faults result }
     {
+        if count_call(&mut self.failing_reads) {
+            return Err(self.fault());
+        }
         match place_of(&self.files, name) {
             Some(i) => Ok(Some(self.files[i].bytes.len() as u64)),
             None => Ok(None),
         }
     }
 
-    /// It never fails.
+    /// It fails exactly where the call is to fail. The buffer is as it was then.
     fn read_at(&mut self, name: &str, at: u64, out: &mut [u8]) -> Result<(), Failed>
         requires within { Covers (map.get self.old.held name.now) (at + length out.old) }
 
-        ensures value { result ≡ Ok tt }
-        ensures read { out.new ≡ part (bytes_of (map.get self.old.held name.now)) at (length out.old) }
-        ensures same { self.new ≡ self.old }
+        ensures fails { is_err result ≡ fails_next self.old.failing_reads }
+        ensures read { OnOk result (out.new ≡ part (bytes_of (map.get self.old.held name.now)) at (length out.old)) }
+        ensures ok { OnOk result (self.new ≡ record self.old { failing_reads = after_call self.old.failing_reads }) }
+        ensures err { OnErr result (self.new ≡ record self.old { faults = one_more self.old.faults; failing_reads = after_call self.old.failing_reads }) }
+        ensures unread { OnErr result (out.new ≡ out.old) }
+        ensures counted { Counted self.old.faults self.new.faults result }
     {
+        if count_call(&mut self.failing_reads) {
+            return Err(self.fault());
+        }
         match place_of(&self.files, name) {
             Some(i) => {
                 let start = at as usize;
@@ -152,13 +186,17 @@ impl Files for MemFiles {
         }
     }
 
-    /// It fails only where a new name finds no memory; nothing changed then but the count.
+    /// It fails where the call is to fail, and else only where a new name finds no memory. The files are as they were then.
     fn create(&mut self, name: &str) -> Result<(), Failed>
-        ensures ok { OnOk result (self.new ≡ record self.old { held = map.insert self.old.held name.now empty_file }) }
-        ensures err { OnErr result (self.new ≡ record self.old { faults = one_more self.old.faults }) }
-        ensures failed { OnErr result (map.get self.old.held name.now ≡ None) }
+        ensures ok { OnOk result (self.new ≡ record self.old { held = map.insert self.old.held name.now empty_file; failing_writes = after_call self.old.failing_writes }) }
+        ensures err { OnErr result (self.new ≡ record self.old { faults = one_more self.old.faults; failing_writes = after_call self.old.failing_writes }) }
+        ensures fails { fails_next self.old.failing_writes ≡ true → IsErr result }
+        ensures only { OnErr result ((fails_next self.old.failing_writes ≡ true) ⊎ (map.get self.old.held name.now ≡ None)) }
         ensures counted { Counted self.old.faults self.new.faults result }
     {
+        if count_call(&mut self.failing_writes) {
+            return Err(self.fault());
+        }
         match place_of(&self.files, name) {
             Some(i) => {
                 let file = &mut self.files[i];
@@ -168,39 +206,48 @@ impl Files for MemFiles {
             }
             None => match self.hold_empty(name) {
                 Ok(()) => Ok(()),
-                Err(Memory) => self.fail(),
+                Err(Memory) => Err(self.fault()),
             },
         }
     }
 
-    /// It fails only where the bytes find no memory; none of them was added then.
+    /// It fails where the call is to fail, and else only where there are bytes and they find no memory. None of them was added
+    /// then, and the file isn't finished.
     fn append(&mut self, name: &str, bytes: &[u8]) -> Result<(), Failed>
         requires is_held { IsHeld (map.get self.old.held name.now) }
 
-        ensures ok { OnOk result (self.new ≡ record self.old { held = map.insert self.old.held name.now (appended bytes.now (map.get self.old.held name.now)) }) }
-        ensures err { OnErr result (self.new ≡ record { held = map.insert self.old.held name.now (appended [] (map.get self.old.held name.now)); faults = one_more self.old.faults }) }
+        ensures ok { OnOk result (self.new ≡ record self.old { held = map.insert self.old.held name.now (appended bytes.now (map.get self.old.held name.now)); failing_writes = after_call self.old.failing_writes }) }
+        ensures err { OnErr result (self.new ≡ record self.old { held = map.insert self.old.held name.now (appended [] (map.get self.old.held name.now)); faults = one_more self.old.faults; failing_writes = after_call self.old.failing_writes }) }
+        ensures fails { fails_next self.old.failing_writes ≡ true → IsErr result }
+        ensures only { OnErr result ((fails_next self.old.failing_writes ≡ true) ⊎ (0 < length bytes.now)) }
         ensures counted { Counted self.old.faults self.new.faults result }
     {
+        let fails = count_call(&mut self.failing_writes);
         match place_of(&self.files, name) {
             Some(i) => {
                 let file = &mut self.files[i];
                 file.finished = false;
-                match file.bytes.extend_from_slice(bytes) {
-                    Ok(()) => Ok(()),
-                    Err(_) => self.fail(),
+                if !fails && file.bytes.extend_from_slice(bytes).is_ok() {
+                    return Ok(());
                 }
+                Err(self.fault())
             }
             None => unreachable!(),
         }
     }
 
-    /// It never fails.
+    /// It fails exactly where the call is to fail. The files are as they were then.
     fn finish(&mut self, name: &str) -> Result<(), Failed>
         requires is_held { IsHeld (map.get self.old.held name.now) }
 
-        ensures value { result ≡ Ok tt }
-        ensures finished { self.new ≡ record self.old { held = map.insert self.old.held name.now (finished (map.get self.old.held name.now)) } }
+        ensures fails { is_err result ≡ fails_next self.old.failing_writes }
+        ensures ok { OnOk result (self.new ≡ record self.old { held = map.insert self.old.held name.now (finished (map.get self.old.held name.now)); failing_writes = after_call self.old.failing_writes }) }
+        ensures err { OnErr result (self.new ≡ record self.old { faults = one_more self.old.faults; failing_writes = after_call self.old.failing_writes }) }
+        ensures counted { Counted self.old.faults self.new.faults result }
     {
+        if count_call(&mut self.failing_writes) {
+            return Err(self.fault());
+        }
         match place_of(&self.files, name) {
             Some(i) => {
                 let file = &mut self.files[i];
