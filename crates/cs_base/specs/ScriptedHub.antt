@@ -12,10 +12,10 @@
 --   played, listened, sent_all, cut_off, closed   such a hub behind what a call did
 --   next_called, send_called                      a call more of `listen` or `next`, or of `send`, was made
 --   next_missed                                   one of `listen` or `next` was made, and failed
---   conns_code, sent_code                         the codes of a set of connections and of what was sent on each
-use Rattle.std.specs.Prelude.{ℕ, ◌+◌, min, nat_lt, Bool, ◌&&◌, List, [], ◌∷◌, take, drop, length, true}
+--   listening_code, came_code, talk_code, script_code      these as pairs, from which they are read back
+use Rattle.std.specs.Prelude.{ℕ, ◌+◌, min, nat_lt, Bool, ◌&&◌, List, [], ◌∷◌, take, drop, length, true, refl}
 use Rattle.std.specs.List.{position_or_len}
-use Rattle.std.specs.Coded.{Coded, coded_list, coded_ℕ}
+use Rattle.std.specs.Coded.{Coded, code_by, coded×, coded_list, coded_ℕ, coded_bool}
 use Rattle.std.specs.Ordering.{nat_cmp}
 use Rattle.std.specs.FinMap as map
 use Rattle.std.specs.FinSet as set
@@ -38,13 +38,21 @@ pub record ScriptState : Type 0 where
   pub faults : ℕ
   pub send_faults : ℕ
 
--- a set of connections as the list of its members, from which it is read back
-abbrev pub conns_code : Coded Conns
-conns_code = set.code coded_ℕ
+-- what every hub tells as its five parts, from which it is read back
+abbrev pub listening_code : Coded Listening
+listening_code = code_by (ℕ × (ℕ × (ℕ × (Conns × Bool)))) (coded× coded_ℕ (coded× coded_ℕ (coded× coded_ℕ (coded× (set.code coded_ℕ) coded_bool)))) (λ s. (s.port, (s.conns, (s.opened, (s.live, s.over))))) (λ p. record { port = p.0; conns = p.1.0; opened = p.1.1.0; live = p.1.1.1.0; over = p.1.1.1.1 }) (λ _. refl)
 
--- what was sent on each connection as the list of its entries, from which it is read back
-abbrev pub sent_code : Coded (map.FinMap nat_cmp (List ℕ))
-sent_code = map.code coded_ℕ (coded_list coded_ℕ)
+-- an event that came as a pair, from which it is read back, by the code of its event
+abbrev pub came_code : Coded Event → Coded Came
+came_code e = code_by (Event × List ℕ) (coded× e (coded_list coded_ℕ)) (λ s. (s.event, s.bytes)) (λ p. record { event = p.0; bytes = p.1 }) (λ _. refl)
+
+-- a talk as its three parts, likewise
+abbrev pub talk_code : Coded Event → Coded Talk
+talk_code e = code_by (List Came × (map.FinMap nat_cmp (List ℕ) × Conns)) (coded× (coded_list (came_code e)) (coded× (map.code coded_ℕ (coded_list coded_ℕ)) (set.code coded_ℕ))) (λ t. (t.came, (t.sent, t.broken))) (λ p. record { came = p.0; sent = p.1.0; broken = p.1.1 }) (λ _. refl)
+
+-- the state of a script's hub as its seven parts, from which it is read back, by the codes of the two kinds of events
+abbrev pub script_code : Coded Event → Coded Scripted → Coded ScriptState
+script_code e f = code_by (Listening × (Talk × (List Scripted × (List ℕ × (List ℕ × (ℕ × ℕ)))))) (coded× listening_code (coded× (talk_code e) (coded× (coded_list f) (coded× (coded_list coded_ℕ) (coded× (coded_list coded_ℕ) (coded× coded_ℕ coded_ℕ)))))) (λ s. (s.hub, (s.talk, (s.left, (s.next_calls, (s.send_calls, (s.faults, s.send_faults))))))) (λ p. record { hub = p.0; talk = p.1.0; left = p.1.1.0; next_calls = p.1.1.1.0; send_calls = p.1.1.1.1.0; faults = p.1.1.1.1.1.0; send_faults = p.1.1.1.1.1.1 }) (λ _. refl)
 
 -- before its first call: the whole script is left, no call is to fail, and there is room for no connection
 abbrev pub script_begun : List Scripted → ScriptState

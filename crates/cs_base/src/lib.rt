@@ -10,6 +10,8 @@ mod file_sink;
 mod file_store;
 mod files;
 mod hub;
+#[cfg(test)]
+mod hub_tests;
 mod key;
 pub mod laws;
 mod limits;

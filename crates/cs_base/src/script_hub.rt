@@ -42,12 +42,13 @@ pub struct ScriptHub {
 }
 
 impl Model for ScriptHub {
-    ghost use Rattle.std.specs.Coded.{codes};
-    ghost use Rattle.cs_base.specs.ScriptedHub.{ScriptState, conns_code, sent_code};
+    ghost use Rattle.cs_base.specs.contracts.hub.Event as event;
+    ghost use Rattle.cs_base.specs.contracts.script.Scripted as scripted;
+    ghost use Rattle.cs_base.specs.ScriptedHub.{ScriptState, script_code};
 
     ghost Value = { ScriptState };
 
-    ghost coded = { Prim.hlevel (codes, conns_code, sent_code) };
+    ghost coded = { script_code event.the_row.coded scripted.the_row.coded };
 
     ghost use Rattle.cs_base.specs.ScriptParts.{connected, left_in, came_in, IsKept};
 
