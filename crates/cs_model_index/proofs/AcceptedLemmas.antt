@@ -17,9 +17,9 @@ use Rattle.cs_model.proofs.FirstLemmas.{none_first, none_rest, unless_none}
 use Rattle.cs_model.specs.First.{first_reason}
 use Rattle.cs_model_index.proofs.BlockUses.{BlocksAreRead, blocks_are_read}
 use Rattle.cs_model_index.specs.FileLaws.{AcceptedAreFiles, FilesFollowBlocks}
-use Rattle.cs_model_index.specs.FileRules.{laid, last_of, tried, field_breaks, words_break, is_word, follows, word_size, is_onward, words_end, is_joined, is_of_one_kind, is_sized, blocks_break, is_parted, file_rules, damage}
+use Rattle.cs_model_index.specs.FileRules.{laid, last_value, tried, field_breaks, words_break, is_word, follows, word_size, is_onward, words_end, is_joined, is_of_one_kind, is_sized, blocks_break, is_parted, file_rules, damage}
 use Rattle.cs_model_index.specs.Layout.{number_bytes, Header, MAGIC, header_bytes, offset_bytes, header_of_image, file}
-use Rattle.cs_model_index.specs.Sections.{number_at, header_of, offsets_len, directory_len, vocabulary_at, offsets_at, titles_at, directory_at, blocks_at, size_by, Sections, sections, Reading, reading_of, image_of}
+use Rattle.cs_model_index.specs.Sections.{number_at, header_of, offsets_len, directory_len, vocabulary_at, offsets_at, titles_at, directory_at, blocks_at, size_by, Sections, sections, Contents, contents_of, image_of}
 use Rattle.cs_model_index.specs.declared.limits.TheConstants.{HEADER_BYTES, NUMBER_BYTES, ENTRY_BYTES, MAX_TARGET}
 use Rattle.cs_model_index.proofs.NumbersLemmas.{IsBytes, bytes_from_all, IsBytes-take, IsBytes-drop, number_back, numbers_written, entries_written, numbers_count, heads_count}
 use Rattle.cs_model_index.proofs.SectionLemmas.{unbroken, words_written, titles_written, end_from, end_is, shapes, blocks_written}
@@ -35,15 +35,15 @@ pub record FieldsHold (h : Header) : Type 0 where
   pub spare : h.spare ≡ 0
 
 -- what the rules say of what is read
-pub record ValuesHold (r : Reading) : Type 0 where
+pub record ValuesHold (r : Contents) : Type 0 where
   pub fields : FieldsHold r.header
   pub words : AllByRecursion (λ i. is_word i.value ≡ true) (laid word_size vocabulary_at None r.words)
   pub ascend : AllByRecursion (λ i. follows i.last i.value ≡ true) (laid word_size vocabulary_at None r.words)
   pub onward : AllByRecursion (λ i. is_onward i.last i.value ≡ true) (laid (λ o. NUMBER_BYTES) (offsets_at r.header) None r.offsets)
-  pub last_offset : unwrap_or (last_of r.offsets) 0 ≡ r.header.titles_len
+  pub last_offset : unwrap_or (last_value r.offsets) 0 ≡ r.header.titles_len
   pub texts : AllByRecursion (λ i. is_utf8 i.value ≡ true) (laid (λ t. length t) (titles_at r.header) None r.titles)
   pub joined : AllByRecursion (λ i. is_joined i.last i.value ≡ true) (laid (λ h. ENTRY_BYTES) (directory_at r.header) None r.heads)
-  pub end : words_end (last_of r.heads) ≡ r.header.words
+  pub end : words_end (last_value r.heads) ≡ r.header.words
   pub kinds : AllByRecursion (λ i. is_of_one_kind r.words i.value ≡ true) (laid (λ h. ENTRY_BYTES) (directory_at r.header) None r.heads)
   pub sized : AllByRecursion (λ i. is_sized i.value ≡ true) (laid (λ h. ENTRY_BYTES) (directory_at r.header) None r.heads)
   pub rows_sum : sum_by (λ h. h.rows) r.heads ≡ r.header.rows
@@ -51,7 +51,7 @@ pub record ValuesHold (r : Reading) : Type 0 where
   pub parted : AllByRecursion (λ i. is_parted r.header.target r.words i ≡ true) (laid (λ p. ENTRY_BYTES) (directory_at r.header) None (zip r.heads r.blocks))
 
 -- and of the bytes
-pub record RulesHold (b : List ℕ) (r : Reading) : Type 0 where
+pub record RulesHold (b : List ℕ) (r : Contents) : Type 0 where
   pub long : HEADER_BYTES ≤ length b
   pub first : take 8 b ≡ MAGIC
   pub size : length b ≡ size_by r.header
@@ -85,7 +85,7 @@ fields_hold h e =
       spare = eqb-true _ _ (unless_none _ _ f.1.1.1.1.1.0);
     }
 
-pub rules_hold : (b : List ℕ) (r : Reading) → first_reason (file_rules b r) ≡ None → RulesHold b r
+pub rules_hold : (b : List ℕ) (r : Contents) → first_reason (file_rules b r) ≡ None → RulesHold b r
 rules_hold b r e =
     let f = all_none (file_rules b r) e in
     let r1 = tried_none 1 _ f.0 in
@@ -189,7 +189,7 @@ pub accepted_are_files : BlocksAreRead → AcceptedAreFiles
 unfolding file image_of damage offset_bytes
 accepted_are_files law b small e =
     let fits = bytes_from_all b small in
-    let r = reading_of b in
+    let r = contents_of b in
     let h = header_of b in
     let rest = drop HEADER_BYTES b in
     let s = sections h rest in

@@ -24,7 +24,7 @@ use Rattle.cs_model_index.specs.FileRules.{Placed, place_of_item, break_of, is_l
 use Rattle.cs_model_index.specs.Layout.{number_bytes, Header, vocabulary_bytes, offsets_from, title_bytes, entry_bytes, directory_bytes, blocks_bytes}
 use Rattle.cs_model_index.specs.Numbered.{word_at}
 use Rattle.cs_model_index.specs.Partitions.{is_facet}
-use Rattle.cs_model_index.specs.Sections.{number_at, words_in, numbers_in, title_at, titles_in, head_in, heads_in, blocks_in, offsets_len, directory_len, sections}
+use Rattle.cs_model_index.specs.Sections.{number_at, vocabulary_in, numbers_in, title_between, titles_in, head_in, heads_in, blocks_in, offsets_len, directory_len, sections}
 
 -- ---- items
 found_not : {X : Type 0} (b : Bool) (i : Placed X) (o : Option (Placed X)) → b ≡ true → option_map place_of_item o ≡ None → option_map place_of_item (cond (not b) (Some i) o) ≡ None
@@ -39,8 +39,8 @@ break_none holds (i ∷ items) h = found_not (holds i) i (find (λ i. not (holds
 abbrev pub HasLength : List ℕ → Type 0
 HasLength w = (1 ≤ length w) × (length w ≤ MAX_WORD_BYTES)
 
-pub words_again : (at : ℕ) (ws : List (List ℕ)) → AllByRecursion HasLength ws → (words_break (length ws) at (vocabulary_bytes ws) ≡ None) × (words_in (length ws) (vocabulary_bytes ws) ≡ ws)
-unfolding words_break words_in vocabulary_bytes
+pub words_again : (at : ℕ) (ws : List (List ℕ)) → AllByRecursion HasLength ws → (words_break (length ws) at (vocabulary_bytes ws) ≡ None) × (vocabulary_in (length ws) (vocabulary_bytes ws) ≡ ws)
+unfolding words_break vocabulary_in vocabulary_bytes
 words_again at [] h = (refl, refl)
 words_again at (w ∷ ws) h =
     let rest = vocabulary_bytes ws in
@@ -63,7 +63,7 @@ numbers_again (n ∷ ns) h =
     ap (λ (x : ℕ). x ∷ numbers_in (length ns) (flat_map number_bytes ns)) (number_again n (flat_map number_bytes ns) h.0) ∙ ap (λ (l : List ℕ). n ∷ l) (numbers_again ns h.1)
 
 -- ---- titles
-first_title : (o : ℕ) (t : List ℕ) (bytes rest : List ℕ) → drop o bytes ≡ t ++ rest → (title_at bytes (o, o + length t) ≡ t) × (drop (o + length t) bytes ≡ rest)
+first_title : (o : ℕ) (t : List ℕ) (bytes rest : List ℕ) → drop o bytes ≡ t ++ rest → (title_between bytes (o, o + length t) ≡ t) × (drop (o + length t) bytes ≡ rest)
 first_title o t bytes rest e =
     let less : o + length t - o ≡ length t = omega arith in (
       ap (λ (n : ℕ). take n (drop o bytes)) less ∙ ap (take (length t)) e ∙ take_at t rest (length t) refl,

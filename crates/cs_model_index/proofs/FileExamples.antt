@@ -28,7 +28,7 @@ use Rattle.cs_model_index.specs.Images.{Image, image_by, count_in, heads_from, I
 use Rattle.cs_model_index.specs.Partitions.{IsPartition}
 use Rattle.cs_model_index.specs.declared.limits.TheConstants.{TARGET}
 use Rattle.cs_model_index.specs.Layout.{header_bytes, vocabulary_bytes, offsets_from, offset_bytes, directory_bytes, blocks_bytes, file}
-use Rattle.cs_model_index.specs.Sections.{number_at, words_in, numbers_in, heads_in, blocks_in, image_of}
+use Rattle.cs_model_index.specs.Sections.{number_at, vocabulary_in, numbers_in, heads_in, blocks_in, image_of}
 use Rattle.cs_model_index.specs.FileRules.{laid, break_of, words_break, blocks_break, damage}
 use lib.Utf8
 
@@ -66,11 +66,11 @@ unfolding file header_bytes vocabulary_bytes offset_bytes offsets_from directory
 file-empty = refl
 
 image-empty : image_of empty_bytes ≡ empty_image
-unfolding image_of number_at words_in numbers_in heads_in blocks_in heads_from
+unfolding image_of number_at vocabulary_in numbers_in heads_in blocks_in heads_from
 image-empty = refl
 
 damage-empty : damage empty_bytes ≡ None
-unfolding damage number_at words_in numbers_in heads_in blocks_in laid break_of words_break blocks_break
+unfolding damage number_at vocabulary_in numbers_in heads_in blocks_in laid break_of words_break blocks_break
 damage-empty = refl
 
 -- ---- one document
@@ -131,28 +131,28 @@ unfolding file header_bytes vocabulary_bytes offset_bytes offsets_from directory
 file-worked = refl
 
 image-worked : image_of worked_bytes ≡ worked_image
-unfolding image_of number_at words_in numbers_in heads_in blocks_in heads_from block_bytes gap_column word_column position_column score_column rows_read items_in first_code looked_at value_of code code_in
+unfolding image_of number_at vocabulary_in numbers_in heads_in blocks_in heads_from block_bytes gap_column word_column position_column score_column rows_read items_in first_code looked_at value_of code code_in
 image-worked = refl
 
 damage-worked : damage worked_bytes ≡ None
-unfolding damage number_at words_in numbers_in heads_in blocks_in laid break_of words_break blocks_break judged rows_read codes_break items_in first_break first_code looked_at value_of code code_in chars is_utf8 is_word_char lib.Utf8.encode
+unfolding damage number_at vocabulary_in numbers_in heads_in blocks_in laid break_of words_break blocks_break judged rows_read codes_break items_in first_break first_code looked_at value_of code code_in chars is_utf8 is_word_char lib.Utf8.encode
 damage-worked = refl
 
 -- ---- damage
 
 -- cut within the header
 damage-cut_header : map (λ n. damage (take n worked_bytes)) (range_with_len 0 44) ≡ map (broken 1) (range_with_len 0 44)
-unfolding damage number_at words_in numbers_in heads_in blocks_in laid break_of words_break blocks_break judged rows_read codes_break items_in first_break first_code looked_at value_of code code_in chars is_utf8 is_word_char lib.Utf8.encode
+unfolding damage number_at vocabulary_in numbers_in heads_in blocks_in laid break_of words_break blocks_break judged rows_read codes_break items_in first_break first_code looked_at value_of code code_in chars is_utf8 is_word_char lib.Utf8.encode
 damage-cut_header = refl
 
 -- cut behind it
 damage-cut : map (λ n. damage (take n worked_bytes)) (range_with_len 44 86) ≡ map (broken 4) (range_with_len 44 86)
-unfolding damage number_at words_in numbers_in heads_in blocks_in laid break_of words_break blocks_break judged rows_read codes_break items_in first_break first_code looked_at value_of code code_in chars is_utf8 is_word_char lib.Utf8.encode
+unfolding damage number_at vocabulary_in numbers_in heads_in blocks_in laid break_of words_break blocks_break judged rows_read codes_break items_in first_break first_code looked_at value_of code code_in chars is_utf8 is_word_char lib.Utf8.encode
 damage-cut = refl
 
 -- with one byte more
 damage-longer : damage (worked_bytes ++ 0 ∷ []) ≡ broken 4 131
-unfolding damage number_at words_in numbers_in heads_in blocks_in laid break_of words_break blocks_break judged rows_read codes_break items_in first_break first_code looked_at value_of code code_in chars is_utf8 is_word_char lib.Utf8.encode
+unfolding damage number_at vocabulary_in numbers_in heads_in blocks_in laid break_of words_break blocks_break judged rows_read codes_break items_in first_break first_code looked_at value_of code code_in chars is_utf8 is_word_char lib.Utf8.encode
 damage-longer = refl
 
 -- one byte set to another value, and the first broken rule with its place
@@ -184,10 +184,10 @@ set_bytes =
     ∷ []
 
 damage-set : map (λ e. damage (set worked_bytes e.0 e.1)) set_bytes ≡ map (λ e. e.2) set_bytes
-unfolding damage number_at words_in numbers_in heads_in blocks_in laid break_of words_break blocks_break judged rows_read codes_break items_in first_break first_code looked_at value_of code code_in chars is_utf8 is_word_char lib.Utf8.encode
+unfolding damage number_at vocabulary_in numbers_in heads_in blocks_in laid break_of words_break blocks_break judged rows_read codes_break items_in first_break first_code looked_at value_of code code_in chars is_utf8 is_word_char lib.Utf8.encode
 damage-set = refl
 
 -- the first block has two words, of two kinds
 damage-kinds : damage (set (set (set worked_bytes 73 2) 85 2) 89 2) ≡ broken 11 66
-unfolding damage number_at words_in numbers_in heads_in blocks_in laid break_of words_break blocks_break judged rows_read codes_break items_in first_break first_code looked_at value_of code code_in chars is_utf8 is_word_char lib.Utf8.encode
+unfolding damage number_at vocabulary_in numbers_in heads_in blocks_in laid break_of words_break blocks_break judged rows_read codes_break items_in first_break first_code looked_at value_of code code_in chars is_utf8 is_word_char lib.Utf8.encode
 damage-kinds = refl

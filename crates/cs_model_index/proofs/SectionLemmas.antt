@@ -20,9 +20,9 @@ use Rattle.cs_model.specs.Scores.{SCORES}
 use Rattle.cs_model_index.proofs.BlockUses.{BlocksAreRead}
 use Rattle.cs_model_index.specs.Blocks.{IsShaped}
 use Rattle.cs_model_index.specs.BlockRules.{judged, rows_read}
-use Rattle.cs_model_index.specs.FileRules.{Placed, laid, last_of, place_of_item, break_of, is_length, words_break, is_onward, words_end, is_joined, is_sized, moved, blocks_break}
+use Rattle.cs_model_index.specs.FileRules.{Placed, laid, last_value, place_of_item, break_of, is_length, words_break, is_onward, words_end, is_joined, is_sized, in_file, blocks_break}
 use Rattle.cs_model_index.specs.Layout.{vocabulary_bytes, offsets_from, title_bytes, blocks_bytes}
-use Rattle.cs_model_index.specs.Sections.{words_in, titles_in, blocks_in}
+use Rattle.cs_model_index.specs.Sections.{vocabulary_in, titles_in, blocks_in}
 use Rattle.cs_model_index.specs.declared.limits.TheConstants.{NUMBER_BYTES, ENTRY_BYTES}
 use Rattle.cs_model_index.proofs.NumbersLemmas.{IsBytes, IsBytes-take, IsBytes-drop, all_from_bytes}
 
@@ -47,11 +47,11 @@ unbroken holds (i ∷ items) e =
 
 -- ---- the vocabulary
 pub record WordsRead (k : ℕ) (bytes : List ℕ) : Type 0 where
-  pub count : length (words_in k bytes) ≡ k
-  pub written : vocabulary_bytes (words_in k bytes) ≡ bytes
+  pub count : length (vocabulary_in k bytes) ≡ k
+  pub written : vocabulary_bytes (vocabulary_in k bytes) ≡ bytes
 
 pub words_written : (k at : ℕ) (bytes : List ℕ) → words_break k at bytes ≡ None → WordsRead k bytes
-unfolding words_break words_in vocabulary_bytes
+unfolding words_break vocabulary_in vocabulary_bytes
 words_written zero at [] e = record { count = refl; written = refl }
 words_written zero at (b ∷ bytes) e = absurd (some_none at e)
 words_written (suc k) at [] e = absurd (some_none at e)
@@ -64,7 +64,7 @@ words_written (suc k) at (n ∷ bytes) e =
     let len : length (take n bytes) ≡ n = omega (arith, within, length-take n bytes) in
     record {
       count = ap suc rest.count;
-      written = ap (λ (x : ℕ). x ∷ take n bytes ++ vocabulary_bytes (words_in k (drop n bytes))) len ∙ ap (λ (x : List ℕ). n ∷ take n bytes ++ x) rest.written ∙ ap (λ (x : List ℕ). n ∷ x) (take-append-drop n bytes);
+      written = ap (λ (x : ℕ). x ∷ take n bytes ++ vocabulary_bytes (vocabulary_in k (drop n bytes))) len ∙ ap (λ (x : List ℕ). n ∷ take n bytes ++ x) rest.written ∙ ap (λ (x : List ℕ). n ∷ x) (take-append-drop n bytes);
     }
 
 -- ---- offsets and titles
@@ -77,7 +77,7 @@ unfolding last_from
 last_got o [] = refl
 last_got o (p ∷ ps) = last_got p ps
 
-last_is : (o : ℕ) (ps : List ℕ) → unwrap_or (last_of (o ∷ ps)) 0 ≡ last_from o ps
+last_is : (o : ℕ) (ps : List ℕ) → unwrap_or (last_value (o ∷ ps)) 0 ≡ last_from o ps
 last_is o ps =
     let less : length (o ∷ ps) - 1 ≡ length ps = omega arith in
     ap (λ (n : ℕ). unwrap_or (slice_get (o ∷ ps) n) 0) less ∙ ap (λ (x : Option ℕ). unwrap_or x 0) (last_got o ps)
@@ -117,7 +117,7 @@ titles_from at o (p ∷ ps) bytes h end =
     }
 
 -- of all offsets, the first of which is 0
-pub titles_written : (at : ℕ) (os bytes : List ℕ) → 0 < length os → Onward at None os → unwrap_or (last_of os) 0 ≡ length bytes → (length (titles_in os bytes) + 1 ≡ length os) × (offsets_from 0 (titles_in os bytes) ≡ os) × (title_bytes (titles_in os bytes) ≡ bytes)
+pub titles_written : (at : ℕ) (os bytes : List ℕ) → 0 < length os → Onward at None os → unwrap_or (last_value os) 0 ≡ length bytes → (length (titles_in os bytes) + 1 ≡ length os) × (offsets_from 0 (titles_in os bytes) ≡ os) × (title_bytes (titles_in os bytes) ≡ bytes)
 unfolding laid
 titles_written at [] bytes some h end = absurd (omega (arith, some))
 titles_written at (o ∷ ps) bytes some h end =
@@ -138,7 +138,7 @@ unfolding end_from
 end_got h [] = refl
 end_got h (g ∷ hs) = end_got g hs
 
-pub end_is : (hs : List BlockHead) → words_end (last_of hs) ≡ end_from 0 hs
+pub end_is : (hs : List BlockHead) → words_end (last_value hs) ≡ end_from 0 hs
 unfolding end_from
 end_is [] = refl
 end_is (h ∷ hs) =
@@ -181,7 +181,7 @@ shapes at last (h ∷ hs) size j s end sum =
     )
 
 -- ---- the blocks
-block_none : (at : ℕ) (o : Option Broken) (p : Option Broken) → option_or (option_map (moved at) o) p ≡ None → (o ≡ None) × (p ≡ None)
+block_none : (at : ℕ) (o : Option Broken) (p : Option Broken) → option_or (option_map (in_file at) o) p ≡ None → (o ≡ None) × (p ≡ None)
 block_none at None p e = (refl, e)
 block_none at (Some b) p e = absurd cc
 

@@ -2,9 +2,9 @@
 --
 --   header_again      the numbers of a header
 --   rules_kept        where each rule holds, none is broken
---   image_reading     what is to be read of an image's file
+--   image_contents     what is to be read of an image's file
 --   IsWritable        an image whose numbers have room, and which keeps the rules
---   file_again        the file's reading, its rules and its image
+--   file_again        what is read of the file, its rules and its image
 use Rattle.std.proofs.Common.{◌≡◌, ℕ, ◌+◌, ◌*◌, ◌<◌, ◌^◌, Bool, true, List, [], ◌∷◌, ◌++◌, length, take, drop, Option, None, refl, sym, ap, ◌∙◌, arith, length-append}
 use Rattle.std.specs.Prelude.{flat_map}
 use Rattle.std.specs.List.{AllByRecursion}
@@ -19,7 +19,7 @@ use Rattle.cs_model_index.specs.BlockLaws.{OneReading}
 use Rattle.cs_model_index.specs.FileRules.{tried, field_breaks, is_word, follows, is_onward, is_joined, is_of_one_kind, is_sized, is_parted, file_rules, damage, IsIndexFile}
 use Rattle.cs_model_index.specs.Images.{Image}
 use Rattle.cs_model_index.specs.Layout.{number_bytes, Header, MAGIC, header_bytes, vocabulary_bytes, offsets_from, offset_bytes, title_bytes, directory_bytes, blocks_bytes, header_of_image, file}
-use Rattle.cs_model_index.specs.Sections.{number_at, header_of, vocabulary_at, blocks_at, size_by, Sections, sections, words_in, numbers_in, titles_in, heads_in, blocks_in, Reading, reading_by, reading_of, image_of}
+use Rattle.cs_model_index.specs.Sections.{number_at, header_of, vocabulary_at, blocks_at, size_by, Sections, sections, vocabulary_in, numbers_in, titles_in, heads_in, blocks_in, Contents, contents_by, contents_of, image_of}
 use Rattle.cs_model_index.specs.declared.limits.TheConstants.{HEADER_BYTES}
 use Rattle.cs_model_index.proofs.AcceptedLemmas.{FieldsHold, ValuesHold, RulesHold, same_header}
 use Rattle.cs_model_index.proofs.AgainLemmas.{break_none, HasLength, words_again, numbers_again, titles_again, offsets_count, HeadFits, heads_again, AreBlocks, blocks_again, sections_again}
@@ -83,7 +83,7 @@ fields_kept h f = none_all (field_breaks h) (
   ),
 )
 
-pub rules_kept : (b : List ℕ) (r : Reading) → RulesHold b r → first_reason (file_rules b r) ≡ None
+pub rules_kept : (b : List ℕ) (r : Contents) → RulesHold b r → first_reason (file_rules b r) ≡ None
 rules_kept b r h =
     let v = h.values in
     none_all (file_rules b r) (
@@ -132,8 +132,8 @@ rules_kept b r h =
 
 -- ---- the file
 -- what is to be read of an image's file
-abbrev pub image_reading : Image → Reading
-image_reading i = record {
+abbrev pub image_contents : Image → Contents
+image_contents i = record {
   header = header_of_image i;
   bytes = record { vocabulary = vocabulary_bytes i.words; offsets = offset_bytes i.titles; titles = title_bytes i.titles; directory = directory_bytes i.heads; blocks = blocks_bytes i.heads i.blocks };
   words = i.words;
@@ -151,7 +151,7 @@ pub record IsWritable (i : Image) : Type 0 where
   pub heads : AllByRecursion (HeadFits i.words) i.heads
   pub one_each : length i.heads ≡ length i.blocks
   pub blocks : AreBlocks (length i.titles) i.heads i.blocks
-  pub values : ValuesHold (image_reading i)
+  pub values : ValuesHold (image_contents i)
 
 numbers_len : (ns : List ℕ) → length (flat_map number_bytes ns) ≡ 4 * length ns
 numbers_len [] = refl
@@ -162,13 +162,13 @@ unfolding directory_bytes
 entries_len [] = refl
 entries_len (h ∷ hs) = let rest = entries_len hs in omega (arith, rest)
 
-same_reading : (h h' : Header) (s s' : Sections) (w w' : List (List ℕ)) (o o' : List ℕ) (t t' : List (List ℕ)) (g g' : List _) (b b' : List _) → h ≡ h' → s ≡ s' → w ≡ w' → o ≡ o' → t ≡ t' → g ≡ g' → b ≡ b'
-    → let x : Reading = record { header = h; bytes = s; words = w; offsets = o; titles = t; heads = g; blocks = b } in let y : Reading = record { header = h'; bytes = s'; words = w'; offsets = o'; titles = t'; heads = g'; blocks = b' } in x ≡ y
-same_reading h h' s s' w w' o o' t t' g g' b b' p q r u v x y = rw (p, q, r, u, v, x, y) refl
+same_contents : (h h' : Header) (s s' : Sections) (w w' : List (List ℕ)) (o o' : List ℕ) (t t' : List (List ℕ)) (g g' : List _) (b b' : List _) → h ≡ h' → s ≡ s' → w ≡ w' → o ≡ o' → t ≡ t' → g ≡ g' → b ≡ b'
+    → let x : Contents = record { header = h; bytes = s; words = w; offsets = o; titles = t; heads = g; blocks = b } in let y : Contents = record { header = h'; bytes = s'; words = w'; offsets = o'; titles = t'; heads = g'; blocks = b' } in x ≡ y
+same_contents h h' s s' w w' o o' t t' g g' b b' p q r u v x y = rw (p, q, r, u, v, x, y) refl
 
-pub reading_again : OneReading → (i : Image) → IsWritable i → reading_of (file i) ≡ image_reading i
+pub contents_again : OneReading → (i : Image) → IsWritable i → contents_of (file i) ≡ image_contents i
 unfolding file offset_bytes
-reading_again law i is =
+contents_again law i is =
     let h = header_of_image i in
     let v = vocabulary_bytes i.words in
     let o = flat_map number_bytes (offsets_from 0 i.titles) in
@@ -183,17 +183,17 @@ reading_again law i is =
     let o_len : length o ≡ 4 * (length i.titles + 1) = numbers_len (offsets_from 0 i.titles) ∙ ap (λ (n : ℕ). 4 * n) many in
     let d_len : length d ≡ 16 * length i.blocks = entries_len i.heads ∙ ap (λ (n : ℕ). 16 * n) is.one_each in
     let cut : sections h rest ≡ p = sections_again h v o t d x refl o_len refl d_len in
-    let words : words_in (length i.words) v ≡ i.words = (words_again vocabulary_at i.words is.lengths).1 in
+    let words : vocabulary_in (length i.words) v ≡ i.words = (words_again vocabulary_at i.words is.lengths).1 in
     let offsets : numbers_in (length i.titles + 1) o ≡ offsets_from 0 i.titles = ap (λ (n : ℕ). numbers_in n o) (sym many) ∙ numbers_again (offsets_from 0 i.titles) is.offsets in
-    let heads : heads_in (words_in (length i.words) v) (length i.blocks) d ≡ i.heads =
+    let heads : heads_in (vocabulary_in (length i.words) v) (length i.blocks) d ≡ i.heads =
     ap (λ (ws : List (List ℕ)). heads_in ws (length i.blocks) d) words ∙ ap (λ (n : ℕ). heads_in i.words n d) (sym is.one_each) ∙ heads_again i.words i.heads is.heads in
     let f = is.values.fields in
     let few : length i.titles < 2 ^ 32 = omega (arith, f.docs) in
     let blocks = blocks_again law (length i.titles) (blocks_at h) i.heads i.blocks few is.blocks in
-    ap (λ (y : List ℕ). reading_by (header_of b) (sections (header_of b) y)) (behind_header h rest).0
-    ∙ ap (λ (k : Header). reading_by k (sections k rest)) head
-    ∙ ap (reading_by h) cut
-    ∙ same_reading h h p p _ _ _ _ _ _ _ _ _ _ refl refl words offsets (ap (λ (os : List ℕ). titles_in os t) offsets ∙ titles_again i.titles) heads (ap (λ (hs : List BlockHead). blocks_in hs x) heads ∙ blocks.1)
+    ap (λ (y : List ℕ). contents_by (header_of b) (sections (header_of b) y)) (behind_header h rest).0
+    ∙ ap (λ (k : Header). contents_by k (sections k rest)) head
+    ∙ ap (contents_by h) cut
+    ∙ same_contents h h p p _ _ _ _ _ _ _ _ _ _ refl refl words offsets (ap (λ (os : List ℕ). titles_in os t) offsets ∙ titles_again i.titles) heads (ap (λ (hs : List BlockHead). blocks_in hs x) heads ∙ blocks.1)
 
 -- the law, for images that can be written
 pub file_again : OneReading → (i : Image) → IsWritable i → IsIndexFile (file i) × (image_of (file i) ≡ i)
@@ -207,7 +207,7 @@ file_again law i is =
     let x = blocks_bytes i.heads i.blocks in
     let rest = v ++ (o ++ (t ++ (d ++ x))) in
     let b = header_bytes h ++ rest in
-    let reading : reading_of b ≡ image_reading i = reading_again law i is in
+    let contents : contents_of b ≡ image_contents i = contents_again law i is in
     let f = is.values.fields in
     let few : length i.titles < 2 ^ 32 = omega (arith, f.docs) in
     let o_len : length o ≡ 4 * (length i.titles + 1) = numbers_len (offsets_from 0 i.titles) ∙ ap (λ (n : ℕ). 4 * n) (offsets_count 0 i.titles) in
@@ -218,7 +218,7 @@ file_again law i is =
     let l3 = length-append t (d ++ x) in
     let l4 = length-append d x in
     let size : length b ≡ size_by h = omega (arith, o_len, d_len, long, l1, l2, l3, l4) in
-    let hold : RulesHold b (image_reading i) = record {
+    let hold : RulesHold b (image_contents i) = record {
       long = omega (arith, long);
       first = (behind_header h rest).1;
       size = size;
@@ -226,6 +226,6 @@ file_again law i is =
       blocks = (blocks_again law (length i.titles) (blocks_at h) i.heads i.blocks few is.blocks).0;
       values = is.values;
     } in (
-      ap (λ (r : Reading). first_reason (file_rules b r)) reading ∙ rules_kept b (image_reading i) hold,
-      ap (λ (r : Reading). let j : Image = record { titles = r.titles; words = r.words; heads = r.heads; blocks = r.blocks; target = r.header.target } in j) reading,
+      ap (λ (r : Contents). first_reason (file_rules b r)) contents ∙ rules_kept b (image_contents i) hold,
+      ap (λ (r : Contents). let j : Image = record { titles = r.titles; words = r.words; heads = r.heads; blocks = r.blocks; target = r.header.target } in j) contents,
     )

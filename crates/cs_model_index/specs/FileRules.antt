@@ -8,7 +8,7 @@
 --
 --   Placed X                     a value of a section, the one before it, the one behind it, and its place
 --   laid size at last xs         values that lie one behind the other from a place on
---   last_of xs                   the last value of some
+--   last_value xs                   the last value of some
 --   break_of holds items         the place of the first item that breaks a rule; None where none does
 --   tried n place                the rule of a number, broken where there is a place
 --   field_breaks h               the places of the header's numbers that are out of their range
@@ -42,7 +42,7 @@ use Rattle.cs_model_index.specs.BlockRules.{broken_at, judged}
 use Rattle.cs_model_index.specs.Layout.{Header, MAGIC}
 use Rattle.cs_model_index.specs.Numbered.{word_at}
 use Rattle.cs_model_index.specs.Partitions.{is_colon, is_facet, is_alike, is_one_kind, is_light, is_full}
-use Rattle.cs_model_index.specs.Sections.{Reading, reading_of, size_by, vocabulary_at, offsets_at, titles_at, directory_at, blocks_at}
+use Rattle.cs_model_index.specs.Sections.{Contents, contents_of, size_by, vocabulary_at, offsets_at, titles_at, directory_at, blocks_at}
 use Rattle.cs_model_index.specs.declared.limits.TheConstants.{HEADER_BYTES, NUMBER_BYTES, ENTRY_BYTES, MAX_BLOCK_WORDS, MAX_TARGET}
 
 -- ---- items of a section
@@ -59,8 +59,8 @@ laid size at last [] = []
 laid size at last (x ∷ xs) = record { value = x; last = last; next = slice_get xs 0; at = at } ∷ laid size (at + size x) (Some x) xs
 
 -- the last value of some; of no values None
-abbrev pub last_of : {X : Type 0} → List X → Option X
-last_of xs = slice_get xs (length xs - 1)
+abbrev pub last_value : {X : Type 0} → List X → Option X
+last_value xs = slice_get xs (length xs - 1)
 
 -- the place of an item
 abbrev pub place_of_item : {X : Type 0} → Placed X → ℕ
@@ -135,7 +135,7 @@ abbrev pub word_size : List ℕ → ℕ
 word_size w = 1 + length w
 
 -- the words lie one behind the other, are words, and ascend; a place is that of a length byte
-abbrev pub vocabulary_rules : Reading → List (Option Broken)
+abbrev pub vocabulary_rules : Contents → List (Option Broken)
 vocabulary_rules r =
     let items = laid word_size vocabulary_at None r.words in
     tried 5 (words_break r.header.words vocabulary_at r.bytes.vocabulary)
@@ -155,9 +155,9 @@ last_offset_at h = offsets_at h + NUMBER_BYTES * h.docs
 
 -- the offsets go on, the last one is at the end of the titles, and titles are UTF-8; a place is that of an offset or of a title's first
 -- byte
-abbrev pub title_rules : Reading → List (Option Broken)
+abbrev pub title_rules : Contents → List (Option Broken)
 title_rules r =
-    tried 8 (option_or (break_of (λ i. is_onward i.last i.value) (laid (λ o. NUMBER_BYTES) (offsets_at r.header) None r.offsets)) (unless (unwrap_or (last_of r.offsets) 0 == r.header.titles_len) (last_offset_at r.header)))
+    tried 8 (option_or (break_of (λ i. is_onward i.last i.value) (laid (λ o. NUMBER_BYTES) (offsets_at r.header) None r.offsets)) (unless (unwrap_or (last_value r.offsets) 0 == r.header.titles_len) (last_offset_at r.header)))
     ∷ tried 9 (break_of (λ i. is_utf8 i.value) (laid (λ t. length t) (titles_at r.header) None r.titles))
     ∷ []
 
@@ -181,24 +181,24 @@ is_sized h = nat_le h.words h.rows && (nat_le (8 * h.rows) h.len && nat_le h.len
 
 -- the blocks have all words, one behind the other; each has few and of one kind; and rows and bytes are as many as they may be. A place
 -- is that of an entry, or the directory's end where an end or a sum is wrong
-abbrev pub directory_rules : Reading → List (Option Broken)
+abbrev pub directory_rules : Contents → List (Option Broken)
 directory_rules r =
     let items = laid (λ h. ENTRY_BYTES) (directory_at r.header) None r.heads in
     let end = blocks_at r.header in
-    tried 10 (option_or (break_of (λ i. is_joined i.last i.value) items) (unless (words_end (last_of r.heads) == r.header.words) end))
+    tried 10 (option_or (break_of (λ i. is_joined i.last i.value) items) (unless (words_end (last_value r.heads) == r.header.words) end))
     ∷ tried 11 (break_of (λ i. is_of_one_kind r.words i.value) items)
     ∷ tried 12 (option_or (break_of (λ i. is_sized i.value) items) (unless (sum_by (λ h. h.rows) r.heads == r.header.rows && sum_by (λ h. h.len) r.heads == r.header.blocks_len) end))
     ∷ []
 
 -- ---- rules 13 to 17: the blocks
 -- a place in a block as one in the file
-abbrev pub moved : ℕ → Broken → Broken
-moved at broken = record { n = broken.n; at = at + broken.at }
+abbrev pub in_file : ℕ → Broken → Broken
+in_file at broken = record { n = broken.n; at = at + broken.at }
 
 -- the first block of some that breaks a rule counts; of no blocks None
 unfoldable pub blocks_break : ℕ → ℕ → List BlockHead → List ℕ → Option Broken
 blocks_break docs at [] bytes = None
-blocks_break docs at (h ∷ hs) bytes = option_or (option_map (moved at) (judged SCORES h docs (take h.len bytes))) (blocks_break docs (at + h.len) hs (drop h.len bytes))
+blocks_break docs at (h ∷ hs) bytes = option_or (option_map (in_file at) (judged SCORES h docs (take h.len bytes))) (blocks_break docs (at + h.len) hs (drop h.len bytes))
 
 -- ---- rule 18: the parts of the words
 -- a block: what the directory says of it, and its posts
@@ -220,12 +220,12 @@ abbrev pub is_parted : ℕ → List (List ℕ) → Placed Block → Bool
 is_parted target words i = has_rows i.value && (is_light target i.value.0.words (length i.value.1) && is_closed target words i.value i.next)
 
 -- a place is that of an entry
-abbrev pub parting_rules : Reading → List (Option Broken)
+abbrev pub parting_rules : Contents → List (Option Broken)
 parting_rules r = tried 18 (break_of (is_parted r.header.target r.words) (laid (λ p. ENTRY_BYTES) (directory_at r.header) None (zip r.heads r.blocks))) ∷ []
 
 -- ---- the first broken rule
 -- the rules in the order in which they are tried, each as it is broken
-abbrev pub file_rules : List ℕ → Reading → List (Option Broken)
+abbrev pub file_rules : List ℕ → Contents → List (Option Broken)
 file_rules b r =
     header_rules b r.header
     ++ (vocabulary_rules r
@@ -236,7 +236,7 @@ file_rules b r =
 
 -- the first rule that bytes break, with its place; None where they break none
 unfoldable pub damage : List ℕ → Option Broken
-damage b = first_reason (file_rules b (reading_of b))
+damage b = first_reason (file_rules b (contents_of b))
 
 -- bytes that break no rule; no bytes aren't an index file, since they have no header
 abbrev pub IsIndexFile : List ℕ → Type 0

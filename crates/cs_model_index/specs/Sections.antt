@@ -9,13 +9,13 @@
 --   Sections, sections h rest   the bytes behind the header, and these cut by the header's numbers
 --   offsets_len h, directory_len h      how many bytes title offsets and directory have
 --   vocabulary_at, offsets_at h, titles_at h, directory_at h, blocks_at h, size_by h    where each section begins, and where the file ends
---   words_in k bytes            at most k words, each behind its length
+--   vocabulary_in k bytes            at most k words, each behind its length
 --   numbers_in k bytes          k numbers
---   title_at, titles_in offsets bytes   the titles between each two offsets
+--   title_between, titles_in offsets bytes   the titles between each two offsets
 --   head_in words entry         what an entry of the directory says of a block of these words
 --   heads_in words k bytes      the same of k entries
 --   blocks_in heads bytes       the posts of each block
---   Reading, reading_of b       all that is read
+--   Contents, contents_of b       all that is read
 --   image_of b                  the image that is read
 --   file_corpus b               and its corpus
 use Rattle.std.specs.Prelude.{ℕ, zero, suc, ◌+◌, ◌-◌, ◌*◌, List, [], ◌∷◌, map, take, drop}
@@ -107,10 +107,10 @@ sections h rest =
 
 -- ---- what stands in them
 -- the words behind the next k length bytes; fewer where the bytes end
-unfoldable pub words_in : ℕ → List ℕ → List (List ℕ)
-words_in zero bytes = []
-words_in (suc k) [] = []
-words_in (suc k) (n ∷ bytes) = take n bytes ∷ words_in k (drop n bytes)
+unfoldable pub vocabulary_in : ℕ → List ℕ → List (List ℕ)
+vocabulary_in zero bytes = []
+vocabulary_in (suc k) [] = []
+vocabulary_in (suc k) (n ∷ bytes) = take n bytes ∷ vocabulary_in k (drop n bytes)
 
 -- the next k numbers, as many even of no bytes
 unfoldable pub numbers_in : ℕ → List ℕ → List ℕ
@@ -118,12 +118,12 @@ numbers_in zero bytes = []
 numbers_in (suc k) bytes = number_at bytes 0 ∷ numbers_in k (drop NUMBER_BYTES bytes)
 
 -- from one place up to another among the titles' bytes; nothing where the second isn't behind the first
-abbrev pub title_at : List ℕ → ℕ × ℕ → List ℕ
-title_at bytes p = take (p.1 - p.0) (drop p.0 bytes)
+abbrev pub title_between : List ℕ → ℕ × ℕ → List ℕ
+title_between bytes p = take (p.1 - p.0) (drop p.0 bytes)
 
 -- the titles that lie between each two offsets; of one offset none
 abbrev pub titles_in : List ℕ → List ℕ → List (List ℕ)
-titles_in offsets bytes = map (title_at bytes) (zip offsets (drop 1 offsets))
+titles_in offsets bytes = map (title_between bytes) (zip offsets (drop 1 offsets))
 
 -- the four numbers of an entry; the kind is that of the block's first word
 abbrev pub head_in : List (List ℕ) → List ℕ → BlockHead
@@ -141,7 +141,7 @@ blocks_in (h ∷ hs) bytes = rows_read h (take h.len bytes) ∷ blocks_in hs (dr
 
 -- ---- all of it
 -- the header, the bytes of the sections, and what stands in them
-pub record Reading : Type 0 where
+pub record Contents : Type 0 where
   pub header : Header
   pub bytes : Sections
   pub words : List (List ℕ)
@@ -151,9 +151,9 @@ pub record Reading : Type 0 where
   pub blocks : List (List Post)
 
 -- what a header and the bytes behind it give
-abbrev pub reading_by : Header → Sections → Reading
-reading_by h s =
-    let words = words_in h.words s.vocabulary in
+abbrev pub contents_by : Header → Sections → Contents
+contents_by h s =
+    let words = vocabulary_in h.words s.vocabulary in
     let offsets = numbers_in (h.docs + 1) s.offsets in
     let heads = heads_in words h.blocks s.directory in
     record {
@@ -167,13 +167,13 @@ reading_by h s =
     }
 
 -- of no bytes a header of zeros, and no word, title or block
-abbrev pub reading_of : List ℕ → Reading
-reading_of b = reading_by (header_of b) (sections (header_of b) (drop HEADER_BYTES b))
+abbrev pub contents_of : List ℕ → Contents
+contents_of b = contents_by (header_of b) (sections (header_of b) (drop HEADER_BYTES b))
 
 -- the image that is read; it counts only where the bytes are an index file
 unfoldable pub image_of : List ℕ → Image
 image_of b =
-    let r = reading_of b in
+    let r = contents_of b in
     record { titles = r.titles; words = r.words; heads = r.heads; blocks = r.blocks; target = r.header.target }
 
 -- the corpus that is read; it counts only where the bytes are an index file
