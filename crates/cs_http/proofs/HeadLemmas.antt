@@ -7,14 +7,14 @@
 --   judged_asks       what is asked
 --   any_at            a test of fields at their places
 --   same_text, other_text    what `!=` of two texts says
-use Rattle.std.proofs.Common.{◌≡◌, ℕ, Bool, true, false, not, ◌||◌, ◌==◌, List, [], ◌∷◌, map, take, Some, None, refl, sym, ap, ◌∙◌, codes}
+use Rattle.std.proofs.Common.{◌≡◌, ℕ, Bool, true, false, not, ◌||◌, List, [], ◌∷◌, map, take, refl, sym, ap, ◌∙◌, codes}
 use Rattle.std.specs.List.{list_any}
 use Rattle.std.specs.Str.{bytes_eq}
 use Rattle.httparse.specs.Grammar.{RequestHead}
 use Rattle.httparse.specs.Spans.{header_bytes, AreFieldsAt}
 use Rattle.httparse.specs.declared.spans.HeaderSpan.{HeaderSpan}
-use Rattle.cs_model_serving.specs.HeadReader.{IsHead, IsNoHead, read_head}
-use Rattle.cs_model_serving.specs.Heads.{NameValue, fields_of, has_body, closes, announces, is_closing, path_of, params_of, HeadRefusal, not_head, with_body, other_path, other_method, head_refusal, Judgement, refused, asks, judged_by, judged, judge}
+use Rattle.cs_model_serving.specs.HeadReader.{IsHead, IsNoHead}
+use Rattle.cs_model_serving.specs.Heads.{NameValue, fields_of, has_body, closes, path_of, params_of, not_head, with_body, other_path, other_method, Judgement, refused, asks, judged_by, judged, judge}
 use Rattle.cs_model_serving.proofs.ReaderLemmas.{head_is_read, none_is_read}
 use Rattle.cs_model.specs.First.{unless, first_reason}
 

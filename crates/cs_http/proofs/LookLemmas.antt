@@ -8,7 +8,7 @@
 --   look_stays        a head that is found, or is too long, stays so where more bytes come
 --   look_more         at More, what is seen is seen of these bytes
 --   seen_nothing      what is seen of no bytes
-use Rattle.std.proofs.Common.{◌≡◌, ℕ, ◌+◌, ◌<◌, ◌≤◌, ◌⊎◌, ⊎_elim, Bool, true, false, cond, nat_lt, ◌==◌, List, [], ◌∷◌, ◌++◌, length, take, Option, Some, None, refl, sym, ap, ap₂, subst, ◌∙◌, arith, append_assoc, length-append, get_or, drop, suc, drop-cons, take-append-drop}
+use Rattle.std.proofs.Common.{◌≡◌, ℕ, ◌+◌, ◌<◌, ◌≤◌, ⊎_elim, Bool, true, false, cond, nat_lt, ◌==◌, List, [], ◌∷◌, ◌++◌, length, take, Option, Some, None, refl, sym, ap, ap₂, subst, ◌∙◌, arith, append_assoc, length-append, get_or, drop, suc, drop-cons, take-append-drop}
 use Rattle.std.proofs.lemmas.Bool.{cases_Bool}
 use Rattle.std.proofs.lemmas.List.{take_all}
 use Rattle.std.proofs.lemmas.List.Sums.{sum_by-append}
@@ -24,8 +24,8 @@ use Rattle.cs_http.specs.declared.framing.Seen.{Seen}
 use Rattle.cs_http.specs.declared.framing.Look.{Look}
 use Rattle.cs_http.specs.declared.framing.Look.TheVariants.{Head, More, TooLong}
 use Rattle.cs_http.specs.Looking.{open_line, tail_of, seen_of, IsSeen, look_by, look_of, within_limit}
-use Rattle.cs_http.proofs.OpenLemmas.{Feeds, feed_ends, Opens, byte_opens, size-open}
-use Rattle.cs_http.proofs.PushedLines.{PushesText, push_begun, PushesBlank, push_blank}
+use Rattle.cs_http.proofs.OpenLemmas.{feed_ends, byte_opens, size-open}
+use Rattle.cs_http.proofs.PushedLines.{push_begun, push_blank}
 
 -- ---- bytes within the limit
 frame-small : (b : List ℕ) → length b ≤ MAX_HEAD_BYTES → frame b ≡ framed_by (length b) (place_in (ended_lines b))

@@ -3,7 +3,7 @@
 --   feed_ends         an LF ends the line that is open
 --   byte_opens        any other byte stands in it
 --   size-open         the bytes of the lines and of the open one are all bytes
-use Rattle.std.proofs.Common.{◌≡◌, ℕ, ◌+◌, ◌≤◌, ◌⊎◌, ⊎_elim, Bool, true, false, List, [], ◌∷◌, ◌++◌, length, drop, sum_by, refl, sym, ap, ap₂, subst, ◌∙◌, arith, append_assoc, append-nil, length-append, length-drop}
+use Rattle.std.proofs.Common.{◌≡◌, ℕ, ◌+◌, ⊎_elim, false, List, [], ◌∷◌, ◌++◌, length, drop, sym, ap, ap₂, subst, ◌∙◌, arith, append_assoc, append-nil, length-append, length-drop}
 use Rattle.std.proofs.Math.Seq.{drop-append-add}
 use Rattle.std.proofs.lemmas.Bool.{cases_Bool, eqb-true}
 use Rattle.std.proofs.lemmas.List.Sums.{sum_by-cons}
@@ -34,8 +34,8 @@ record Puts (c : ℕ) (lines : List ℕ → List (List ℕ)) (left : List ℕ �
 put_at : (c : ℕ) (lines : List ℕ → List (List ℕ)) (left : List ℕ → List ℕ) (text bytes : List ℕ) → HasNoFeed text → Puts c lines left bytes → Puts c lines left (text ++ 10 ∷ bytes)
 put_at c lines left text bytes h on = record {
   ended =
-    ap ended_lines (append_assoc text (10 ∷ bytes) (c ∷ [])) ∙ ended_first text (bytes ++ c ∷ []) h ∙ ap (λ ls. text ∷ ls) on.ended
-    ∙ ap₂ (λ a l. a ++ lines l) (sym (ended_first text bytes h)) (sym (open_first text bytes h));
+      ap ended_lines (append_assoc text (10 ∷ bytes) (c ∷ [])) ∙ ended_first text (bytes ++ c ∷ []) h ∙ ap (λ ls. text ∷ ls) on.ended
+      ∙ ap₂ (λ a l. a ++ lines l) (sym (ended_first text bytes h)) (sym (open_first text bytes h));
   «open» = ap open_line (append_assoc text (10 ∷ bytes) (c ∷ [])) ∙ open_first text (bytes ++ c ∷ []) h ∙ on.«open» ∙ ap left (sym (open_first text bytes h));
 }
 

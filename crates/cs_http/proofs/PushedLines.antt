@@ -2,13 +2,13 @@
 --
 --   push_begun        behind text it goes on with the head, or ends it
 --   push_blank        behind empty lines alone it is a further one, or begins a head
-use Rattle.std.proofs.Common.{◌≡◌, ℕ, ◌+◌, ◌-◌, ◌<◌, ◌≤◌, ◌⊎◌, ⊎_elim, Bool, true, false, not, cond, nat_lt, suc, List, [], ◌∷◌, ◌++◌, length, take, drop, take_while, sum_by, Option, Some, None, refl, sym, ap, ap₂, subst, ◌∙◌, arith, append-nil, length-append, length-drop, take-append-drop, one-add}
+use Rattle.std.proofs.Common.{◌≡◌, ℕ, ◌+◌, ◌<◌, ◌≤◌, ⊎_elim, Bool, true, false, not, cond, nat_lt, suc, List, [], ◌∷◌, ◌++◌, length, take, drop, Option, Some, None, refl, sym, ap, ap₂, ◌∙◌, arith, append-nil, length-drop, take-append-drop}
 use Rattle.std.specs.List.{prefix_len}
 use Rattle.std.proofs.Math.Seq.{take-append-add, drop-append-add}
 use Rattle.std.proofs.lemmas.Bool.{cases_Bool}
 use Rattle.std.proofs.lemmas.Bool.Decides.{nat_tests}
-use Rattle.std.proofs.lemmas.List.{take-append-le, drop-append-le, take_all, drop_all}
-use Rattle.std.proofs.lemmas.List.Sums.{sum_by-append, prefix_len-le-length}
+use Rattle.std.proofs.lemmas.List.{take-append-le, drop-append-le, take_all}
+use Rattle.std.proofs.lemmas.List.Sums.{sum_by-append}
 use Rattle.cs_model.specs.Words.{is_filled}
 use Rattle.cs_model_serving.specs.Framing.{is_empty_line, bytes_of, front_lines, later_lines, text_lines, closing_lines, place_by, place_in}
 
@@ -24,8 +24,8 @@ prefix-stays p [] ys h = absurd (omega (arith, h))
 prefix-stays p (x ∷ xs) ys h =
     ⊎_elim
     (λ e.
-      let here = one_more p x xs e in
-      one_more p x (xs ++ ys) e ∙ ap (λ n. 1 + n) (prefix-stays p xs ys (omega (arith, h, here))) ∙ sym here)
+    let here = one_more p x xs e in
+    one_more p x (xs ++ ys) e ∙ ap (λ n. 1 + n) (prefix-stays p xs ys (omega (arith, h, here))) ∙ sym here)
     (λ e. none_more p x (xs ++ ys) e ∙ sym (none_more p x xs e))
     (cases_Bool (p x))
 
@@ -34,9 +34,9 @@ prefix-goes_on p [] ys h = omega arith
 prefix-goes_on p (x ∷ xs) ys h =
     ⊎_elim
     (λ e.
-      let here = one_more p x xs e in
-      let later = prefix-goes_on p xs ys (omega (arith, h, here)) in
-      one_more p x (xs ++ ys) e ∙ omega (arith, later))
+    let here = one_more p x xs e in
+    let later = prefix-goes_on p xs ys (omega (arith, h, here)) in
+    one_more p x (xs ++ ys) e ∙ omega (arith, later))
     (λ e. absurd (omega (arith, h, none_more p x xs e)))
     (cases_Bool (p x))
 
@@ -125,17 +125,17 @@ push_begun lines l h begun =
       front = parts.passed_are;
       begun = ap is_filled parts.left_are ∙ filled-snoc (later_lines lines) l;
       ends = λ e.
-        let n = none_more is_text_line l [] (ap not e) in
-        let one : passed is_text_line (l ∷ []) ≡ [] = ap (λ m. take m (l ∷ [])) n in
-        let rest : left is_text_line (l ∷ []) ≡ l ∷ [] = ap (λ m. drop m (l ∷ [])) n in
-        place
-        ∙ ap₂ (λ a b. place_by (bytes_of (front_lines lines)) (bytes_of (later_lines lines ++ a)) b) one rest
-        ∙ ap (λ ls. place_by (bytes_of (front_lines lines)) (bytes_of ls) (l ∷ [])) (append-nil (later_lines lines))
-        ∙ ap (λ m. Some (bytes_of (front_lines lines), m + (length l + 1))) (sym (size-parts lines));
+          let n = none_more is_text_line l [] (ap not e) in
+          let one : passed is_text_line (l ∷ []) ≡ [] = ap (λ m. take m (l ∷ [])) n in
+          let rest : left is_text_line (l ∷ []) ≡ l ∷ [] = ap (λ m. drop m (l ∷ [])) n in
+          place
+          ∙ ap₂ (λ a b. place_by (bytes_of (front_lines lines)) (bytes_of (later_lines lines ++ a)) b) one rest
+          ∙ ap (λ ls. place_by (bytes_of (front_lines lines)) (bytes_of ls) (l ∷ [])) (append-nil (later_lines lines))
+          ∙ ap (λ m. Some (bytes_of (front_lines lines), m + (length l + 1))) (sym (size-parts lines));
       none = λ e.
-        let n = one_more is_text_line l [] (ap not e) in
-        let rest : left is_text_line (l ∷ []) ≡ [] = ap (λ m. drop m (l ∷ [])) n in
-        place ∙ ap (place_by (bytes_of (front_lines lines)) (bytes_of (later_lines lines ++ passed is_text_line (l ∷ [])))) rest;
+          let n = one_more is_text_line l [] (ap not e) in
+          let rest : left is_text_line (l ∷ []) ≡ [] = ap (λ m. drop m (l ∷ [])) n in
+          place ∙ ap (place_by (bytes_of (front_lines lines)) (bytes_of (later_lines lines ++ passed is_text_line (l ∷ [])))) rest;
     }
 
 -- a line behind empty lines alone
@@ -152,19 +152,19 @@ push_blank lines l blank =
     let old : front_lines lines ≡ lines = take_all (prefix_len is_empty_line lines) lines all in
     let parts = goes_on is_empty_line lines (l ∷ []) all in
     let skips : is_empty_line l ≡ true → (front_lines (lines ++ l ∷ []) ≡ lines ++ l ∷ []) × (later_lines (lines ++ l ∷ []) ≡ []) = λ e.
-      let n = one_more is_empty_line l [] e in
-      (parts.passed_are ∙ ap (λ m. lines ++ take m (l ∷ [])) n, parts.left_are ∙ ap (λ m. drop m (l ∷ [])) n) in
+    let n = one_more is_empty_line l [] e in
+    (parts.passed_are ∙ ap (λ m. lines ++ take m (l ∷ [])) n, parts.left_are ∙ ap (λ m. drop m (l ∷ [])) n) in
     let begins : is_empty_line l ≡ false → (front_lines (lines ++ l ∷ []) ≡ lines ++ []) × (later_lines (lines ++ l ∷ []) ≡ l ∷ []) = λ e.
-      let n = none_more is_empty_line l [] e in
-      (parts.passed_are ∙ ap (λ m. lines ++ take m (l ∷ [])) n, parts.left_are ∙ ap (λ m. drop m (l ∷ [])) n) in
+    let n = none_more is_empty_line l [] e in
+    (parts.passed_are ∙ ap (λ m. lines ++ take m (l ∷ [])) n, parts.left_are ∙ ap (λ m. drop m (l ∷ [])) n) in
     record {
       none =
-        ⊎_elim
-        (λ e. ap (place_at (front_lines (lines ++ l ∷ []))) (skips e).1)
-        (λ e. let n = one_more is_text_line l [] (ap not e) in
+          ⊎_elim
+          (λ e. ap (place_at (front_lines (lines ++ l ∷ []))) (skips e).1)
+          (λ e. let n = one_more is_text_line l [] (ap not e) in
           ap (place_at (front_lines (lines ++ l ∷ []))) (begins e).1
           ∙ ap (place_by (bytes_of (front_lines (lines ++ l ∷ []))) (bytes_of (passed is_text_line (l ∷ [])))) (ap (λ m. drop m (l ∷ [])) n))
-        (cases_Bool (is_empty_line l));
+          (cases_Bool (is_empty_line l));
       old = old;
       skips = λ e. ((skips e).0, ap is_filled (skips e).1);
       begins = λ e. ((begins e).0 ∙ append-nil lines ∙ sym old, ap is_filled (begins e).1);

@@ -1,5 +1,5 @@
 -- The bytes of a response, from its pieces.
-use Rattle.std.proofs.Common.{◌≡◌, ℕ, Bool, List, [], ◌∷◌, ◌++◌, length, if◌then◌else◌, ◌==◌, codes, refl, sym, ap, ◌∙◌, append_assoc, decimal}
+use Rattle.std.proofs.Common.{◌≡◌, ℕ, Bool, List, [], ◌++◌, length, if◌then◌else◌, ◌==◌, codes, ap, ◌∙◌, append_assoc, decimal}
 use Rattle.cs_model_serving.specs.Responses.{reason, line, wrapped}
 
 regroup : (p d s r e a t l n c body : List ℕ) → (p ++ (d ++ (s ++ (r ++ (e ++ (a ++ ((t ++ (e ++ l)) ++ (n ++ (e ++ (c ++ e)))))))))) ++ body

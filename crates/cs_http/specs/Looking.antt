@@ -8,7 +8,7 @@
 --   within_limit s    what looking gives where no head ends and this is seen
 --   HasRoom l         where more bytes may come, there are fewer than a head may have
 --   look_of b         what looking at bytes gives: what framing finds, and at More what is seen
-use Rattle.std.specs.Prelude.{◌≡◌, ℕ, ◌<◌, ◌==◌, nat_lt, Bool, true, false, if◌then◌else◌, List, [], ◌∷◌, length, drop}
+use Rattle.std.specs.Prelude.{◌≡◌, ℕ, ◌<◌, ◌==◌, nat_lt, if◌then◌else◌, List, [], ◌∷◌, length, drop}
 use Rattle.cs_base.specs.declared.limits.TheConstants.{MAX_HEAD_BYTES}
 use Rattle.cs_model.specs.Words.{is_filled}
 use Rattle.cs_model_serving.specs.declared.framed.Framed.{Framed}

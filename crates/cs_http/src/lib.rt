@@ -13,6 +13,8 @@ mod heads;
 mod parameters;
 mod responses;
 #[cfg(test)]
+mod serving_tests;
+#[cfg(test)]
 mod tests;
 
 pub use cs_model_serving::Framed;

@@ -6,7 +6,8 @@ ghost use Rattle.cs_model_serving.specs.Responses.{reason as words_of};
 use cs_base::Memory;
 use std::alloc::Global;
 
-const MEMORY_RESPONSE: &[u8] = b"HTTP/1.1 503 Service Unavailable\r\nContent-Type: application/json\r\nContent-Length: 18\r\nConnection: close\r\n\r\n{\"error\":\"memory\"}";
+const MEMORY_RESPONSE: &[u8] =
+    b"HTTP/1.1 503 Service Unavailable\r\nContent-Type: application/json\r\nContent-Length: 18\r\nConnection: close\r\n\r\n{\"error\":\"memory\"}";
 
 /// The bytes of a response of this status, after which the connection is closed or not.
 pub fn wrap(alloc: Global, status: u16, close: bool, body: &[u8]) -> Result<Vec<u8>, Memory>
@@ -16,7 +17,10 @@ pub fn wrap(alloc: Global, status: u16, close: bool, body: &[u8]) -> Result<Vec<
 {
     let head = format!(in alloc;
         "HTTP/1.1 {status} {}\r\n{}Content-Type: application/json\r\nContent-Length: {}\r\n{}\r\n",
-        reason(status), allow(status), body.len(), closing(close)
+        reason(status),
+        allow(status),
+        body.len(),
+        closing(close)
     )?;
     let mut response = head.into_bytes();
     response.extend_from_slice(body)?;

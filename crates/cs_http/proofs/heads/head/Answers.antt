@@ -1,4 +1,4 @@
-use Rattle.std.proofs.Common.{◌≡◌, true, false, ◌||◌, ◌==◌, sym, ap, ◌∙◌, codes}
+use Rattle.std.proofs.Common.{◌≡◌, false, ◌||◌, ◌==◌, sym, ap, ◌∙◌}
 use Rattle.cs_model_serving.specs.Heads.{has_body, closes, announces, is_closing, path_of, params_of}
 use Rattle.cs_http.proofs.HeadLemmas.{judged_none, judged_body, judged_path, judged_method, judged_asks, any_at, same_text, other_text}
 use Rattle.cs_http.proofs.heads.head.Goals as goal

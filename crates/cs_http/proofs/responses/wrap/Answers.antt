@@ -1,4 +1,4 @@
-use Rattle.std.proofs.Common.{◌≡◌, ◌++◌, ap, ◌∙◌}
+use Rattle.std.proofs.Common.{◌++◌, ap, ◌∙◌}
 use Rattle.cs_http.proofs.WrapLemmas.{wrapped_by}
 use Rattle.cs_http.proofs.responses.wrap.Goals as goal
 

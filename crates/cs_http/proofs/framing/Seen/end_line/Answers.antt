@@ -1,4 +1,4 @@
-use Rattle.std.proofs.Common.{◌≡◌, ◌∙◌, sym}
+use Rattle.std.proofs.Common.{◌∙◌}
 use Rattle.cs_http.proofs.LookLemmas.{old_of, end_text, end_head, end_blank}
 use Rattle.cs_http.proofs.framing.Seen.end_line.Goals as goal
 
