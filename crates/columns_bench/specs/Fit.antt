@@ -2,8 +2,8 @@
 --
 --   IsFit inputs    posts, documents and scored documents ascend, and numbers are in the limits
 use Rattle.std.specs.Prelude.{◌<◌, All}
-use Rattle.cs_base.specs.Orders.{AreDocs, AreByDoc, AreSorted}
-use Rattle.cs_base.specs.declared.limits.TheConstants.{MAX_DOCS, MAX_WORDS}
+use Rattle.cs_base.specs.content.Orders.{AreDocs, AreByDoc, AreSorted}
+use Rattle.cs_base.specs.declared.content.limits.TheConstants.{MAX_DOCS, MAX_WORDS}
 use Rattle.cs_rank.specs.DocScores.{IsBase}
 use Rattle.columns_bench.specs.declared.input.Inputs.{Inputs}
 

@@ -1,7 +1,7 @@
 //! What the calls are run on, and the test that they may be.
 ghost use Rattle.std.specs.Prelude.{◌≡◌, ◌≤◌, ◌<◌, ◌^◌, true, All, IfOk, IfSome};
-ghost use Rattle.cs_base.specs.Orders.{AreSorted, AreByDoc, AreDocs};
-ghost use Rattle.cs_base.specs.declared.limits.TheConstants.{MAX_DOCS, MAX_WORDS};
+ghost use Rattle.cs_base.specs.content.Orders.{AreSorted, AreByDoc, AreDocs};
+ghost use Rattle.cs_base.specs.declared.content.limits.TheConstants.{MAX_DOCS, MAX_WORDS};
 ghost use Rattle.cs_rank.specs.DocScores.{IsBase};
 ghost use Rattle.columns_bench.specs.Fit.{IsFit};
 

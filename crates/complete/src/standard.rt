@@ -1,7 +1,7 @@
 //! Standard output and standard error as sinks.
 ghost use Rattle.std.specs.Prelude.{◌≡◌, ℕ, take, OnOk, OnErr};
 ghost use Rattle.std.specs.Io.KnownBytes.{Appends};
-ghost use Rattle.cs_base.specs.Causes.{Counted};
+ghost use Rattle.cs_base.specs.outside.Causes.{Counted};
 
 use crate::faults::Faults;
 use cs_base::{Failed, Sink};

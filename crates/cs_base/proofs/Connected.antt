@@ -6,9 +6,9 @@ use Rattle.std.specs.FinMap as fin
 use Rattle.std.specs.FinSet as set
 use Rattle.std.proofs.lemmas.List.{map-set, map-append, length-map, length-set, length-append, get_or-map, get_or_past}
 use Rattle.std.proofs.Math.Seq.{map-set_same}
-use Rattle.cs_base.specs.ScriptParts.{Connected, connected_of, changes, adds, breaks_off, bytes_on, sent_of, places_from, values_from}
-use Rattle.cs_base.specs.declared.hub.Event.TheVariants.{Opened, Ended}
-use Rattle.cs_base.specs.declared.connections.Connection.{Connection}
+use Rattle.cs_base.specs.outside.ScriptParts.{Connected, connected_of, changes, adds, breaks_off, bytes_on, sent_of, places_from, values_from}
+use Rattle.cs_base.specs.declared.outside.hub.Event.TheVariants.{Opened, Ended}
+use Rattle.cs_base.specs.declared.outside.connections.Connection.{Connection}
 use Rattle.cs_base.proofs.ConnectionLists.{contains-places, get-values, set_true, set_false, remove_behind, push_true, push_false, set_value, push_none}
 
 -- connections with the same parts are seen alike

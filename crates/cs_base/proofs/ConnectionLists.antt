@@ -9,8 +9,8 @@ use Rattle.std.proofs.lemmas.Cmp.{nat_cmp_total}
 use Rattle.std.proofs.lemmas.Bool.Decides.{nat_tests}
 use Rattle.std.proofs.Math.Seq.{get_or-append_seam}
 use Rattle.std.proofs.lemmas.List.{get_or-set_same, get_or-set_other, get_or_past}
-use Rattle.cs_base.specs.Hub.{Conns}
-use Rattle.cs_base.specs.ScriptParts.{places_from, values_from}
+use Rattle.cs_base.specs.outside.Hub.{Conns}
+use Rattle.cs_base.specs.outside.ScriptParts.{places_from, values_from}
 
 -- equality of numbers as a map tests it
 tied : (q n : ℕ) → eq_by_cmp nat_cmp q n ≡ nat_eq q n

@@ -4,7 +4,7 @@ use Rattle.std.specs.Prelude.{Option, Some, None, Result, Ok, Err, OnOk, OnErr, 
 use Rattle.std.specs.Option.{option_map, is_some, ForSome}
 use Rattle.std.specs.FinMap.{get, insert}
 use Rattle.std.proofs.lemmas.Option.{none-some, same_Some}
-use Rattle.cs_base.specs.Outside.{File, Held, Sets, Grew, bytes_of, file_bytes, appended, finished, empty_file, whole_file, but_for}
+use Rattle.cs_base.specs.outside.Outside.{File, Held, Sets, Grew, bytes_of, file_bytes, appended, finished, empty_file, whole_file, but_for}
 use Rattle.cs_base.proofs.NameMaps.{get_after, name_itself, overwritten}
 
 -- what a name holds behind a write of it

@@ -6,7 +6,7 @@ use Rattle.std.specs.FinMap.{get, insert, same_map, get-insert, slice_cmp-IsAnti
 use Rattle.std.proofs.lemmas.Cmp.{nat_list_cmp_total, nat_list_eq_equiv}
 use Rattle.std.proofs.lemmas.Map.Text.{is_eq-slice_cmp}
 use Rattle.std.proofs.lemmas.Slice.Eq.{bytes_eq-Decides}
-use Rattle.cs_base.specs.Outside.{NameMap}
+use Rattle.cs_base.specs.outside.Outside.{NameMap}
 
 -- names that the test joins are equal
 pub same_name : (a b : List ℕ) → bytes_eq a b ≡ true → a ≡ b

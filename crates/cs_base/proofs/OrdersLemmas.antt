@@ -9,10 +9,10 @@ use Rattle.std.specs.Cmp.Lexicographic.{slice_cmp}
 use Rattle.std.specs.FinMap.{IsAntisymmetric}
 use Rattle.std.proofs.lemmas.Cmp.{then_total, on_total, back_total, nat_cmp_total, nat_list_cmp_total, ranked}
 use Rattle.std.proofs.lemmas.Map.Lookups.{exact_pairs, exact_unsigned, exact_bytes}
-use Rattle.cs_base.specs.declared.doc.Post.{Post}
-use Rattle.cs_base.specs.declared.doc.Row.{Row}
-use Rattle.cs_base.specs.declared.doc.Scored.{Scored}
-use Rattle.cs_base.specs.Orders.{by_row, by_place, by_rank}
+use Rattle.cs_base.specs.declared.content.doc.Post.{Post}
+use Rattle.cs_base.specs.declared.content.doc.Row.{Row}
+use Rattle.cs_base.specs.declared.content.doc.Scored.{Scored}
+use Rattle.cs_base.specs.content.Orders.{by_row, by_place, by_rank}
 
 pub by_row_total : IsTotalOrder by_row
 by_row_total = then_total (on_total (λ r. r.doc) nat_cmp_total) (then_total (on_total (λ r. r.pos) nat_cmp_total) (then_total (on_total (λ r. r.word) nat_list_cmp_total) (on_total (λ r. r.score) nat_cmp_total)))

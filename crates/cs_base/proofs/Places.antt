@@ -7,8 +7,8 @@ use Rattle.std.specs.Str.{bytes_eq}
 use Rattle.std.specs.FinMap.{get, insert}
 use Rattle.std.specs.FinMap as fin
 use Rattle.std.proofs.lemmas.Cmp.{nat_list_cmp_total}
-use Rattle.cs_base.specs.HeldFiles.{entry, file_of, held_in, IsPlaceOf}
-use Rattle.cs_base.specs.declared.mem_files.MemFile.{MemFile}
+use Rattle.cs_base.specs.outside.HeldFiles.{entry, file_of, held_in, IsPlaceOf}
+use Rattle.cs_base.specs.declared.outside.mem_files.MemFile.{MemFile}
 use Rattle.cs_base.proofs.NameMaps.{get_after, overwritten, swapped, same_name, name_itself, name_sym}
 
 -- none before i has the name

@@ -8,15 +8,15 @@ use Rattle.std.proofs.lemmas.Bool.Decides.{nat_tests}
 use Rattle.std.proofs.lemmas.List.{map-append}
 use Rattle.std.proofs.Math.Seq.{take-append_seam}
 use Rattle.std.proofs.lemmas.List.Elements.{All-append, All-map}
-use Rattle.cs_base.specs.Hub.{Listening, Talk, IsOrderly, IsNotOf, Happens, came_of, sent_on}
-use Rattle.cs_base.specs.ScriptedHub.{ScriptState, is_lawful, playable, comes, left_behind, becomes, played}
-use Rattle.cs_base.specs.ScriptParts.{Connected, connected_of, changes, IsKept, HeadIs, came_as, came_in, is_over}
-use Rattle.cs_base.specs.declared.hub.Event.{Event}
-use Rattle.cs_base.specs.declared.hub.Event.TheVariants.{Opened, Piece, Ended, Over}
-use Rattle.cs_base.specs.declared.connections.Connection.{Connection}
-use Rattle.cs_base.specs.declared.script.Scripted.{Scripted}
-use Rattle.cs_base.specs.declared.script.Scripted.TheVariants.{Opened as Opens, Piece as Gives, Ended as Ends}
-use Rattle.cs_base.specs.declared.script_hub.Heard.{Heard}
+use Rattle.cs_base.specs.outside.Hub.{Listening, Talk, IsOrderly, IsNotOf, Happens, came_of, sent_on}
+use Rattle.cs_base.specs.outside.ScriptedHub.{ScriptState, is_lawful, playable, comes, left_behind, becomes, played}
+use Rattle.cs_base.specs.outside.ScriptParts.{Connected, connected_of, changes, IsKept, HeadIs, came_as, came_in, is_over}
+use Rattle.cs_base.specs.declared.outside.hub.Event.{Event}
+use Rattle.cs_base.specs.declared.outside.hub.Event.TheVariants.{Opened, Piece, Ended, Over}
+use Rattle.cs_base.specs.declared.outside.connections.Connection.{Connection}
+use Rattle.cs_base.specs.declared.outside.script.Scripted.{Scripted}
+use Rattle.cs_base.specs.declared.outside.script.Scripted.TheVariants.{Opened as Opens, Piece as Gives, Ended as Ends}
+use Rattle.cs_base.specs.declared.outside.script_hub.Heard.{Heard}
 use Rattle.cs_base.proofs.Connected.{isnt_live, isnt_broken, nothing_sent}
 use Rattle.cs_base.proofs.Scripts.{left_out}
 

@@ -2,10 +2,10 @@
 use Rattle.std.proofs.Common.{◌≡◌, ℕ, suc, ◌+◌, ◌<◌, ◌≤◌, Bool, false, not, List, [], ◌∷◌, length, drop, cond, refl, sym, ◌∙◌, ap, arith, drop-drop}
 use Rattle.std.specs.List.{position_or_len, prefix_len}
 use Rattle.std.proofs.lemmas.Bool.Decides.{nat_tests}
-use Rattle.cs_base.specs.ScriptParts.{cut, given_at, left_from, HeadIs}
-use Rattle.cs_base.specs.declared.script.Script.{Script}
-use Rattle.cs_base.specs.declared.script.Scripted.{Scripted}
-use Rattle.cs_base.specs.declared.script.Scripted.TheVariants.{Opened as Opens, Piece as Gives, Ended as Ends}
+use Rattle.cs_base.specs.outside.ScriptParts.{cut, given_at, left_from, HeadIs}
+use Rattle.cs_base.specs.declared.outside.script.Script.{Script}
+use Rattle.cs_base.specs.declared.outside.script.Scripted.{Scripted}
+use Rattle.cs_base.specs.declared.outside.script.Scripted.TheVariants.{Opened as Opens, Piece as Gives, Ended as Ends}
 
 -- the list from its first lawful event on, by a test p
 abbrev from_first : (Scripted → Bool) → List Scripted → List Scripted

@@ -1,14 +1,4 @@
-pub mod Bytes
-pub mod Causes
-pub mod FailingCalls
-pub mod GapCode
-pub mod HeldFiles
-pub mod Hub
-pub mod InMemory
-pub mod Members
-pub mod Orders
-pub mod Outside
-pub mod ScriptParts
-pub mod ScriptedHub
-pub mod WordForms
+pub mod content
+pub mod index
+pub mod outside
 pub mod formers

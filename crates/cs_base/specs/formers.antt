@@ -1,1 +1,1 @@
-pub mod seq
+pub mod content

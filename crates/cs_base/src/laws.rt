@@ -1,8 +1,8 @@
 //! The numbers of the product, each as it is promised. The functions do nothing: their contracts are what is said.
 ghost use Rattle.std.specs.Prelude.{◌≡◌, ◌^◌};
 
-use crate::limits::*;
-use crate::scores::*;
+use crate::content::limits::*;
+use crate::content::scores::*;
 
 /// The limits of collections, words and positions.
 pub fn collection_limits()

@@ -10,8 +10,8 @@ use Rattle.std.specs.Option.{is_some, unwrap_or}
 use Rattle.std.proofs.lemmas.Bool.{cases_lt}
 use Rattle.std.proofs.lemmas.List.{drop_at, take-append-drop, length-take, length-drop, get_or-take, get_or_past, nil_from_length}
 use Rattle.std.proofs.lemmas.Nat.{be_bytes_2, be_bytes_4, from_be_bytes-to_be_bytes_2, from_be_bytes-to_be_bytes_4}
-use Rattle.cs_base.specs.GapCode.{code, first_code}
-use Rattle.cs_base.specs.declared.doc.Post.{Post}
+use Rattle.cs_base.specs.index.GapCode.{code, first_code}
+use Rattle.cs_base.specs.declared.content.doc.Post.{Post}
 use Rattle.cs_gaps.proofs.CodesLemmas.{IsBytes, first_found, found_first}
 use Rattle.cs_model_index.specs.Blocks.{gap_column, word_column, position_column, score_column}
 use Rattle.cs_model_index.specs.BlockRules.{gap_number, gap_len, codes_break, item_row, doc_before, row_at, items_in}

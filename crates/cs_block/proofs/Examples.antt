@@ -1,9 +1,9 @@
 -- The definitions on the two blocks of the worked index file: that of a facet word with one row, and that of three plain words with
 -- a row each. Both are in document 0.
 use Rattle.std.proofs.Common.{◌≡◌, List, ℕ, [], ◌∷◌, set, true, false, Some, None, refl}
-use Rattle.cs_base.specs.GapCode.{code_in, code, looked_at, value_of, first_code}
-use Rattle.cs_base.specs.declared.block.BlockHead.{BlockHead}
-use Rattle.cs_base.specs.declared.doc.Post.{Post}
+use Rattle.cs_base.specs.index.GapCode.{code_in, code, looked_at, value_of, first_code}
+use Rattle.cs_base.specs.declared.index.block.BlockHead.{BlockHead}
+use Rattle.cs_base.specs.declared.content.doc.Post.{Post}
 use Rattle.cs_model.specs.Scores.{SCORES}
 use Rattle.cs_model_index.specs.Blocks.{gap_column, word_column, position_column, score_column, block_bytes}
 use Rattle.cs_model_index.specs.BlockRules.{codes_break, items_in, first_break, judged, rows_read}

@@ -9,9 +9,9 @@ use Rattle.std.specs.Int.{w16, w32, to_be_bytes}
 use Rattle.std.proofs.lemmas.Bool.{and_parts, and_from, cases_lt}
 use Rattle.std.proofs.lemmas.List.{drop_at, take_at, take-append-drop, length-append, length-take, length-drop, get_or_past}
 use Rattle.std.proofs.lemmas.List.Elements.{All-get_or}
-use Rattle.cs_base.specs.declared.block.BlockHead.{BlockHead}
-use Rattle.cs_base.specs.declared.block.Broken.{Broken}
-use Rattle.cs_base.specs.declared.doc.Post.{Post}
+use Rattle.cs_base.specs.declared.index.block.BlockHead.{BlockHead}
+use Rattle.cs_base.specs.declared.index.block.Broken.{Broken}
+use Rattle.cs_base.specs.declared.content.doc.Post.{Post}
 use Rattle.cs_gaps.proofs.CodesLemmas.{IsBytes}
 use Rattle.cs_model.specs.Scores.{SCORES}
 use Rattle.cs_model_index.specs.Blocks.{gap_column, word_column, position_column, score_column, block_bytes, IsShaped}

@@ -9,10 +9,10 @@ use Rattle.std.specs.Option.{option_or, is_none}
 use Rattle.std.proofs.lemmas.Bool.{and_parts, and_cases, eq-eqb, cases_lt, lt-ltb, le-ltb, ne_eqb}
 use Rattle.std.proofs.lemmas.Option.{none-some}
 use Rattle.std.proofs.lemmas.List.{length-take, append-nil, take_all, take-append-le}
-use Rattle.cs_base.specs.GapCode.{first_code}
-use Rattle.cs_base.specs.declared.block.BlockHead.{BlockHead}
-use Rattle.cs_base.specs.declared.block.Broken.{Broken}
-use Rattle.cs_base.specs.declared.doc.Post.{Post}
+use Rattle.cs_base.specs.index.GapCode.{first_code}
+use Rattle.cs_base.specs.declared.index.block.BlockHead.{BlockHead}
+use Rattle.cs_base.specs.declared.index.block.Broken.{Broken}
+use Rattle.cs_base.specs.declared.content.doc.Post.{Post}
 use Rattle.cs_model.specs.Scores.{SCORES}
 use Rattle.cs_model_index.specs.BlockRules.{codes_break, Item, item_row, doc_before, row_at, gap_bytes, rules, in_docs, in_words, in_kind, in_order, is_scored, is_after, first_break, first_broken, BlockColumns, block_items, judged_columns}
 use Rattle.cs_block.specs.Reading.{GapHere}

@@ -12,9 +12,9 @@ use Rattle.std.specs.declared.cmp.Ordering.TheVariants.{Less}
 use Rattle.std.proofs.lemmas.Bool.{and_parts, ltb-true}
 use Rattle.std.proofs.lemmas.Bool.Decides.{nat_tests}
 use Rattle.std.proofs.lemmas.List.Elements.{All-from_recursion, recursion_from_All}
-use Rattle.cs_base.specs.Orders.{by_place}
-use Rattle.cs_base.specs.declared.block.BlockHead.{BlockHead}
-use Rattle.cs_base.specs.declared.doc.Post.{Post}
+use Rattle.cs_base.specs.content.Orders.{by_place}
+use Rattle.cs_base.specs.declared.index.block.BlockHead.{BlockHead}
+use Rattle.cs_base.specs.declared.content.doc.Post.{Post}
 use Rattle.cs_base.proofs.OrdersLemmas.{by_place_total, Comes, comes-from_lt, comes_first, less-from_test}
 use Rattle.cs_base.proofs.MembersLemmas.{all_then}
 use Rattle.cs_model.specs.Scores.{SCORES}

@@ -11,9 +11,9 @@ use Rattle.std.specs.Int.{w16, w32, from_be_bytes}
 use Rattle.std.specs.Option.{unwrap_or}
 use Rattle.std.proofs.lemmas.Bool.{cases_eq, cases_lt, lt-ltb, le-ltb, ltb-true, and_parts, and_from, or_cases}
 use Rattle.std.proofs.lemmas.List.{get_or-set_same, get_or-set_other, drop_more, append-nil, take_more, take_all, get_or-take, get_or-drop}
-use Rattle.cs_base.specs.GapCode.{code, code_in, first_code}
-use Rattle.cs_base.specs.declared.block.BlockHead.{BlockHead}
-use Rattle.cs_base.specs.declared.doc.Post.{Post}
+use Rattle.cs_base.specs.index.GapCode.{code, code_in, first_code}
+use Rattle.cs_base.specs.declared.index.block.BlockHead.{BlockHead}
+use Rattle.cs_base.specs.declared.content.doc.Post.{Post}
 use Rattle.cs_cols.specs.Held.{posts_of, AreEven}
 use Rattle.cs_cols.proofs.Columns.{posts-length, posts-at}
 use Rattle.cs_gaps.proofs.CodesLemmas.{first_found}

@@ -6,8 +6,8 @@
 --   HasPushed       of the loops that add rows, run by run or one by one
 use Rattle.std.specs.Prelude.{◌≡◌, ℕ, ◌-◌, ◌*◌, ◌≤◌, List, ◌++◌, length, map, take, drop, Option, None}
 use Rattle.std.specs.Option.{option_or}
-use Rattle.cs_base.specs.declared.block.BlockHead.{BlockHead}
-use Rattle.cs_base.specs.declared.doc.Post.{Post}
+use Rattle.cs_base.specs.declared.index.block.BlockHead.{BlockHead}
+use Rattle.cs_base.specs.declared.content.doc.Post.{Post}
 use Rattle.cs_model.specs.Scores.{SCORES}
 use Rattle.cs_model_index.specs.BlockRules.{codes_break, Item, item_row, doc_before, items_in, Rule, in_docs, in_words, in_kind, in_order, first_break, BlockColumns, block_items}
 

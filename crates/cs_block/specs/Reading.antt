@@ -4,9 +4,9 @@
 --   HasColumns head c        columns as long as a block's are, in fewer than 2^32 bytes
 --   Decodes result broken    the answer where this is the first broken rule, if there is one
 use Rattle.std.specs.Prelude.{◌≡◌, ℕ, ◌+◌, ◌*◌, ◌^◌, ◌<◌, ◌≤◌, List, length, drop, Option, Some, None, Result, Ok, Err}
-use Rattle.cs_base.specs.GapCode.{code, first_code}
-use Rattle.cs_base.specs.declared.block.BlockHead.{BlockHead}
-use Rattle.cs_base.specs.declared.block.Broken.{Broken}
+use Rattle.cs_base.specs.index.GapCode.{code, first_code}
+use Rattle.cs_base.specs.declared.index.block.BlockHead.{BlockHead}
+use Rattle.cs_base.specs.declared.index.block.Broken.{Broken}
 use Rattle.cs_model_index.specs.BlockRules.{BlockColumns, gap_bytes}
 use Rattle.cs_block.specs.declared.fault.BlockFault.{BlockFault}
 use Rattle.cs_block.specs.declared.fault.BlockFault.TheVariants as faults

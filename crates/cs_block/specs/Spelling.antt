@@ -5,7 +5,7 @@
 --   IsAscending before rs      documents that don't descend, the first not below a document
 --   HasWords lo rs             words of two bytes from lo on
 use Rattle.std.specs.Prelude.{ℕ, ◌+◌, ◌-◌, ◌^◌, ◌<◌, ◌≤◌, List, [], ◌∷◌}
-use Rattle.cs_base.specs.declared.doc.Post.{Post}
+use Rattle.cs_base.specs.declared.content.doc.Post.{Post}
 
 -- each of a row's numbers has a spelling, where the row before is in the document `before`
 pub record HasFields (lo before : ℕ) (r : Post) : Type 0 where

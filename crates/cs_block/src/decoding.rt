@@ -1,7 +1,7 @@
 //! Reading a block.
 ghost use Rattle.std.specs.Prelude.{◌≡◌, ℕ, ◌≤◌, ◌++◌, true, List, length, map, take, OnOk, OnErr, None};
 ghost use Rattle.std.specs.Option.{is_none};
-ghost use Rattle.cs_base.specs.declared.doc.Post.{Post};
+ghost use Rattle.cs_base.specs.declared.content.doc.Post.{Post};
 ghost use Rattle.cs_model.specs.Scores.{SCORES};
 ghost use Rattle.cs_model_index.specs.Blocks.{IsShaped};
 ghost use Rattle.cs_model_index.specs.BlockRules.{IsBlock, item_row, block_items, judged, judged_columns};

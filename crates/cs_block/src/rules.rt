@@ -1,6 +1,6 @@
 //! The tests that a row has to pass, other than that of its document.
 ghost use Rattle.std.specs.Prelude.{◌≡◌, ◌+◌, ◌≤◌, ◌&&◌, nat_lt};
-ghost use Rattle.cs_base.specs.declared.limits.TheConstants.{MAX_WORDS};
+ghost use Rattle.cs_base.specs.declared.content.limits.TheConstants.{MAX_WORDS};
 ghost use Rattle.cs_model.specs.Scores.{SCORES};
 ghost use Rattle.cs_model_index.specs.BlockRules.{is_after, is_scored};
 

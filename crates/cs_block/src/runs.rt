@@ -1,6 +1,6 @@
 //! Reading the rows of a block run by run, each run column by column.
 ghost use Rattle.std.specs.Prelude.{◌≡◌, ◌+◌, ◌≤◌, ◌<◌, List, length, IfSome, IfNone};
-ghost use Rattle.cs_base.specs.declared.doc.Post.{Post};
+ghost use Rattle.cs_base.specs.declared.content.doc.Post.{Post};
 ghost use Rattle.cs_model_index.specs.Blocks.{IsShaped};
 ghost use Rattle.cs_block.specs.Reading.{HasColumns};
 ghost use Rattle.cs_block.specs.ColumnsView.{seen};

@@ -8,8 +8,8 @@ use Rattle.std.proofs.lemmas.Bool.Decides.{nat_tests}
 use Rattle.std.proofs.lemmas.List.{length-map}
 use Rattle.std.proofs.lemmas.List.FromFn.{length-enumerate_from}
 use Rattle.std.proofs.lemmas.List.Elements.{All-from_recursion}
-use Rattle.cs_base.specs.declared.doc.Doc.{Doc}
-use Rattle.cs_base.specs.declared.limits.TheConstants.{MAX_COLLECTION_BYTES, MAX_LINE_BYTES, MAX_DOC_WORDS, MAX_DOCS}
+use Rattle.cs_base.specs.declared.content.doc.Doc.{Doc}
+use Rattle.cs_base.specs.declared.content.limits.TheConstants.{MAX_COLLECTION_BYTES, MAX_LINE_BYTES, MAX_DOC_WORDS, MAX_DOCS}
 use Rattle.cs_model.specs.Collection.{piece_refusal, line_refusal, docs_refusal, documents, document, DocLine, doc_line, doc_lines, collection_lines, has_name_form, piece_name, is_equals, facet_pieces, columns, word_count, bad_facet, bad_name, without_mark, not_utf8, line_too_long, words_too_many, too_many_docs, too_large}
 use Rattle.cs_model.specs.Words.{is_filled}
 use Rattle.cs_model.specs.First.{unless, first_reason}

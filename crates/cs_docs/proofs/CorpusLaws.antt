@@ -9,7 +9,7 @@ use Rattle.std.proofs.lemmas.Bool.Decides.{nat_tests}
 use Rattle.std.proofs.lemmas.Cmp.{nat_cmp_total}
 use Rattle.std.proofs.lemmas.List.{length-map}
 use Rattle.std.proofs.lemmas.List.Elements.{All-from_recursion}
-use Rattle.cs_base.specs.declared.doc.Doc.{Doc}
+use Rattle.cs_base.specs.declared.content.doc.Doc.{Doc}
 use Rattle.cs_base.proofs.MembersLemmas.{all_then}
 use Rattle.cs_model.specs.Collection.{documents}
 use Rattle.cs_model.specs.Corpus.{corpus, rows_of, title_of, titles_of, IsCorpus}

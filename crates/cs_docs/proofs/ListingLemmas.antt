@@ -10,10 +10,10 @@ use Rattle.std.specs.declared.cmp.Ordering.TheVariants.{Less, Equal, Greater}
 use Rattle.std.proofs.lemmas.Cmp.{nat_list_cmp_total}
 use Rattle.std.proofs.lemmas.List.Folds.{list_any-append}
 use Rattle.std.proofs.lemmas.Map.Lookups.{exact_bytes}
-use Rattle.cs_base.specs.Orders.{by_row, by_spot}
-use Rattle.cs_base.specs.declared.doc.Doc.{Doc}
-use Rattle.cs_base.specs.declared.doc.Row.{Row}
-use Rattle.cs_base.specs.declared.scores.TheConstants.{TITLE_SCORE, FACET_SCORE, TEXT_SCORE, BEHIND_TITLE}
+use Rattle.cs_base.specs.content.Orders.{by_row, by_spot}
+use Rattle.cs_base.specs.declared.content.doc.Doc.{Doc}
+use Rattle.cs_base.specs.declared.content.doc.Row.{Row}
+use Rattle.cs_base.specs.declared.content.scores.TheConstants.{TITLE_SCORE, FACET_SCORE, TEXT_SCORE, BEHIND_TITLE}
 use Rattle.cs_base.proofs.MembersLemmas.{all_then, members_are, is_member-listed, listing-rises}
 use Rattle.cs_base.proofs.OrdersLemmas.{Less-from_lt, by_row_total, by_row_exact}
 use Rattle.cs_model.specs.Collection.{facet_words}

@@ -3,7 +3,7 @@ use Rattle.std.proofs.Common.{◌≡◌, ℕ, ◌≤◌, List, [], ◌∷◌, le
 use Rattle.std.specs.Prelude.{Some}
 use Rattle.std.specs.List.{join_with_byte}
 use Rattle.std.specs.Str.{chars}
-use Rattle.cs_base.specs.declared.limits.TheConstants.{MAX_PLAIN_WORD_BYTES}
+use Rattle.cs_base.specs.declared.content.limits.TheConstants.{MAX_PLAIN_WORD_BYTES}
 use Rattle.cs_model.proofs.FittingLemmas.{fitting-fits}
 use Rattle.cs_model.specs.Words.{cut, slug, slug_of, words}
 

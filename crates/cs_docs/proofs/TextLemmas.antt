@@ -16,9 +16,9 @@ use Rattle.std.proofs.lemmas.Str.{IsUtf8-append, IsUtf8-encode, encode_ascii}
 use Rattle.std.proofs.lemmas.Bool.{or_left, or_right}
 use Rattle.std.proofs.lemmas.Cmp.{nat_list_cmp_total, tied_itself}
 use Rattle.std.proofs.lemmas.Map.Lookups.{exact_bytes}
-use Rattle.cs_base.specs.Members.{members_in}
-use Rattle.cs_base.specs.declared.doc.Doc.{Doc}
-use Rattle.cs_base.specs.declared.scores.TheConstants.{TITLE_SCORE, FACET_SCORE, TEXT_SCORE}
+use Rattle.cs_base.specs.content.Members.{members_in}
+use Rattle.cs_base.specs.declared.content.doc.Doc.{Doc}
+use Rattle.cs_base.specs.declared.content.scores.TheConstants.{TITLE_SCORE, FACET_SCORE, TEXT_SCORE}
 use Rattle.cs_base.proofs.MembersLemmas.{is_member-listed}
 use Rattle.cs_model.specs.Collection.{facet_words, named}
 use Rattle.cs_model.specs.Corpus.{placed, title_rows, text_rows}

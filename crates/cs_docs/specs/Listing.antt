@@ -9,10 +9,10 @@ use Rattle.std.specs.List.{flat_map, enumerate_from}
 use Rattle.std.specs.Str.{IsUtf8}
 use Rattle.std.specs.Ordering.{nat_cmp}
 use Rattle.std.specs.Cmp.Lexicographic.{slice_cmp}
-use Rattle.cs_base.specs.Members.{members_in}
-use Rattle.cs_base.specs.declared.doc.Doc.{Doc}
-use Rattle.cs_base.specs.declared.doc.Row.{Row}
-use Rattle.cs_base.specs.declared.scores.TheConstants.{FACET_SCORE}
+use Rattle.cs_base.specs.content.Members.{members_in}
+use Rattle.cs_base.specs.declared.content.doc.Doc.{Doc}
+use Rattle.cs_base.specs.declared.content.doc.Row.{Row}
+use Rattle.cs_base.specs.declared.content.scores.TheConstants.{FACET_SCORE}
 use Rattle.cs_model.specs.Collection.{facet_words}
 use Rattle.cs_model.specs.Corpus.{placed, title_rows, text_rows}
 use Rattle.cs_model.specs.Scores.{SCORES}

@@ -6,8 +6,8 @@
 --   one_piece p rest    the pieces of a column whose first one is p, if p has bytes, and behind it those of rest
 use Rattle.std.specs.Prelude.{◌≡◌, ℕ, ◌+◌, ◌≤◌, Bool, true, ◌==◌, List, [], ◌∷◌, ◌++◌, length, filter}
 use Rattle.std.specs.List.{AllByRecursion, list_any}
-use Rattle.cs_base.specs.declared.doc.Doc.{Doc}
-use Rattle.cs_base.specs.declared.limits.TheConstants.{MAX_DOC_WORDS}
+use Rattle.cs_base.specs.declared.content.doc.Doc.{Doc}
+use Rattle.cs_base.specs.declared.content.limits.TheConstants.{MAX_DOC_WORDS}
 use Rattle.cs_model.specs.Collection.{is_equals, has_name_form, piece_name, facet_pieces}
 use Rattle.cs_model.specs.Words.{is_filled, words}
 

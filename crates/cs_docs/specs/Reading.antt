@@ -7,7 +7,7 @@
 --   doc_of n l                the document of the line l, which is line n
 use Rattle.std.specs.Prelude.{ℕ, List, [], map, filter}
 use Rattle.std.specs.List.{enumerate_from}
-use Rattle.cs_base.specs.declared.doc.Doc.{Doc}
+use Rattle.cs_base.specs.declared.content.doc.Doc.{Doc}
 use Rattle.cs_model.specs.Collection.{DocLine, doc_line, document}
 use Rattle.cs_model.specs.Words.{is_filled}
 

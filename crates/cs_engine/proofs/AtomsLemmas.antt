@@ -16,9 +16,9 @@ use Rattle.std.proofs.lemmas.Bool.Decides.{nat_tests}
 use Rattle.std.proofs.lemmas.List.{get_or-map}
 use Rattle.std.proofs.lemmas.List.Elements.{All-filter, All-contains_itself, recursion_from_All}
 use Rattle.std.proofs.lemmas.List.Kept.{IsStrictlySortedBy-filter}
-use Rattle.cs_base.specs.Orders.{by_place}
-use Rattle.cs_base.specs.declared.doc.Post.{Post}
-use Rattle.cs_base.specs.declared.query.Atom.{Atom}
+use Rattle.cs_base.specs.content.Orders.{by_place}
+use Rattle.cs_base.specs.declared.content.doc.Post.{Post}
+use Rattle.cs_base.specs.declared.content.query.Atom.{Atom}
 use Rattle.cs_model.specs.Answers.{rows_of_atom}
 use Rattle.cs_vocab.specs.Ranges.{IsWordAt}
 use Rattle.cs_engine.specs.Searching.{atom_has_join}

@@ -9,15 +9,15 @@ use Rattle.std.proofs.lemmas.List.{length-map}
 use Rattle.std.specs.Prelude.{filter}
 use Rattle.std.specs.List.{All, AllByRecursion, list_any}
 use Rattle.std.proofs.lemmas.List.Elements.{All-from_recursion}
-use Rattle.cs_base.specs.declared.doc.Row.{Row}
-use Rattle.cs_base.specs.declared.query.Atom.{Atom, roll-Atom}
-use Rattle.cs_base.specs.declared.query.Atom.TheVariants.{Prefix, Exact, Join}
-use Rattle.cs_base.specs.declared.query.Atom.TheOpen.{Atom-F}
-use Rattle.cs_base.specs.declared.query.Atom.TheFolds.{fold-roll-Atom, fold_out-Linked, fold_out-Chain, fold_out-Part, fold_out-Query}
-use Rattle.cs_base.specs.declared.query.Linked.{Linked, out-Linked}
-use Rattle.cs_base.specs.declared.query.Chain.{Chain, out-Chain}
-use Rattle.cs_base.specs.declared.query.Part.{Part, out-Part}
-use Rattle.cs_base.specs.declared.query.Query.{Query, out-Query}
+use Rattle.cs_base.specs.declared.content.doc.Row.{Row}
+use Rattle.cs_base.specs.declared.content.query.Atom.{Atom, roll-Atom}
+use Rattle.cs_base.specs.declared.content.query.Atom.TheVariants.{Prefix, Exact, Join}
+use Rattle.cs_base.specs.declared.content.query.Atom.TheOpen.{Atom-F}
+use Rattle.cs_base.specs.declared.content.query.Atom.TheFolds.{fold-roll-Atom, fold_out-Linked, fold_out-Chain, fold_out-Part, fold_out-Query}
+use Rattle.cs_base.specs.declared.content.query.Linked.{Linked, out-Linked}
+use Rattle.cs_base.specs.declared.content.query.Chain.{Chain, out-Chain}
+use Rattle.cs_base.specs.declared.content.query.Part.{Part, out-Part}
+use Rattle.cs_base.specs.declared.content.query.Query.{Query, out-Query}
 use Rattle.cs_model.specs.Answers.{PartRows, LinkedRows, atom_rows, chain_rows, linked_rows, part_rows, query_parts, rows_of_atom, rows_of_linked, rows_of_chain, rows_of_part, parts_of, union_of}
 use Rattle.cs_model.specs.Corpus.{Corpus}
 use Rattle.cs_engine.specs.Searching.{is_join, chain_joins, linked_joins, part_joins, query_joins, atom_has_join, linked_has_join, chain_has_join, part_has_join, has_join}

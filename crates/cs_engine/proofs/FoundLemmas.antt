@@ -16,13 +16,13 @@ use Rattle.std.specs.FinMap.{keys}
 use Rattle.std.proofs.lemmas.List.{length-map, map-append, take_more}
 use Rattle.std.proofs.lemmas.List.Elements.{All-filter, All-from_recursion, recursion_from_All, All-map}
 use Rattle.std.proofs.lemmas.List.FromFn.{map-range_with_len_more}
-use Rattle.cs_base.specs.declared.doc.Base.{Base}
-use Rattle.cs_base.specs.declared.doc.Base.TheVariants as base
-use Rattle.cs_base.specs.declared.doc.Post.{Post}
-use Rattle.cs_base.specs.declared.doc.Scored.{Scored}
-use Rattle.cs_base.specs.declared.query.Part.{Part, out-Part}
+use Rattle.cs_base.specs.declared.content.doc.Base.{Base}
+use Rattle.cs_base.specs.declared.content.doc.Base.TheVariants as base
+use Rattle.cs_base.specs.declared.content.doc.Post.{Post}
+use Rattle.cs_base.specs.declared.content.doc.Scored.{Scored}
+use Rattle.cs_base.specs.declared.content.query.Part.{Part, out-Part}
 use Rattle.cs_meet.specs.Filters.{keep_docs, drop_docs, is_of}
-use Rattle.cs_base.specs.Orders.{by_doc, AreDocs, AreByDoc, docs_of}
+use Rattle.cs_base.specs.content.Orders.{by_doc, AreDocs, AreByDoc, docs_of}
 use Rattle.cs_meet.specs.Filters as meet
 use Rattle.cs_model.specs.Answers.{PartRows, hits, scored, rows_of_part}
 use Rattle.cs_rank.specs.DocScores.{greatest, of_doc, best_row, base_score, with_base, scores, IsBase}

@@ -15,11 +15,11 @@ use Rattle.std.proofs.lemmas.List.Elements.{All-from_recursion}
 use Rattle.std.proofs.lemmas.List.FromFn.{length-range_with_len}
 use Rattle.std.proofs.lemmas.List.Kept.{IsStrictlySortedBy-filter}
 use Rattle.std.proofs.lemmas.Option.{slice_get_past, slice_get-get_or}
-use Rattle.cs_base.specs.Members.{members_in}
-use Rattle.cs_base.specs.Orders.{by_row, by_rank}
-use Rattle.cs_base.specs.declared.doc.Base.{Base}
-use Rattle.cs_base.specs.declared.doc.Post.{Post}
-use Rattle.cs_base.specs.declared.doc.Row.{Row}
+use Rattle.cs_base.specs.content.Members.{members_in}
+use Rattle.cs_base.specs.content.Orders.{by_row, by_rank}
+use Rattle.cs_base.specs.declared.content.doc.Base.{Base}
+use Rattle.cs_base.specs.declared.content.doc.Post.{Post}
+use Rattle.cs_base.specs.declared.content.doc.Row.{Row}
 use Rattle.cs_base.proofs.MembersLemmas.{all_then, listed_itself}
 use Rattle.cs_base.proofs.OrdersLemmas.{by_row_total, by_row_exact}
 use Rattle.cs_meet.specs.Filters.{keep_docs}

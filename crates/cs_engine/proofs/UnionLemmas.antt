@@ -19,14 +19,14 @@ use Rattle.std.proofs.lemmas.List.Elements.{All-filter, All-append, recursion_fr
 use Rattle.std.proofs.lemmas.List.Folds.{list_any-append}
 use Rattle.std.proofs.lemmas.List.Sorted.{list_any-IsPermutation, All-permutation, IsPermutation-refl}
 use Rattle.std.proofs.lemmas.Map.Keys.{Less-from_sorted}
-use Rattle.cs_base.specs.Members.{members_in}
-use Rattle.cs_base.specs.Orders.{by_row, by_place, AreSorted}
-use Rattle.cs_base.specs.declared.doc.Post.{Post}
-use Rattle.cs_base.specs.declared.doc.Row.{Row}
-use Rattle.cs_base.specs.declared.query.Chain.{Chain}
-use Rattle.cs_base.specs.declared.query.Linked.{Linked, out-Linked}
-use Rattle.cs_base.specs.declared.query.Link.{Link}
-use Rattle.cs_base.specs.declared.query.Link.TheVariants.{Phrase, Near}
+use Rattle.cs_base.specs.content.Members.{members_in}
+use Rattle.cs_base.specs.content.Orders.{by_row, by_place, AreSorted}
+use Rattle.cs_base.specs.declared.content.doc.Post.{Post}
+use Rattle.cs_base.specs.declared.content.doc.Row.{Row}
+use Rattle.cs_base.specs.declared.content.query.Chain.{Chain}
+use Rattle.cs_base.specs.declared.content.query.Linked.{Linked, out-Linked}
+use Rattle.cs_base.specs.declared.content.query.Link.{Link}
+use Rattle.cs_base.specs.declared.content.query.Link.TheVariants.{Phrase, Near}
 use Rattle.cs_base.proofs.MembersLemmas.{all_then, members_are, members-alike, is_member-listed, listed_itself}
 use Rattle.cs_base.proofs.OrdersLemmas.{by_row_total, by_row_exact}
 use Rattle.cs_meet.specs.Filters.{IsUnion, shares_place, missing, follow, near, stands_behind, is_near}

@@ -23,8 +23,8 @@ use Rattle.std.proofs.lemmas.Cmp.{nat_list_cmp_total}
 use Rattle.std.proofs.lemmas.Map.Keys.{Less-from_sorted}
 use Rattle.std.proofs.lemmas.Slice.Eq.{bytes_eq-Decides}
 use Rattle.cs_base.proofs.OrdersLemmas.{Less-from_lt}
-use Rattle.cs_base.specs.Orders.{by_row, by_place, AreSorted, by_spot}
-use Rattle.cs_base.specs.declared.doc.Post.{Post}
+use Rattle.cs_base.specs.content.Orders.{by_row, by_place, AreSorted, by_spot}
+use Rattle.cs_base.specs.declared.content.doc.Post.{Post}
 use Rattle.cs_vocab.proofs.RangesLemmas.{three_ways}
 use Rattle.cs_engine.specs.Stocked.{word_at, row_of, rows_at}
 

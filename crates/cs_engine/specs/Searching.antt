@@ -9,15 +9,15 @@
 --   is_join, linked_joins, chain_joins, part_joins, query_joins        one level of a query, with whether its parts have a join in their places
 use Rattle.std.specs.Prelude.{ℕ, Bool, true, false, ◌||◌, List, map, Option, Some, None}
 use Rattle.std.specs.List.{list_any}
-use Rattle.cs_base.specs.declared.doc.Doc.{Doc}
-use Rattle.cs_base.specs.declared.doc.Row.{Row}
-use Rattle.cs_base.specs.declared.query.Query.{Query}
-use Rattle.cs_base.specs.declared.query.Atom.TheOpen.{Atom-F, Query-F, Part-F, Chain-F, Linked-F}
-use Rattle.cs_base.specs.declared.query.Part.{Part}
-use Rattle.cs_base.specs.declared.query.Chain.{Chain}
-use Rattle.cs_base.specs.declared.query.Linked.{Linked}
-use Rattle.cs_base.specs.declared.query.Atom.{Atom}
-use Rattle.cs_base.specs.declared.query.Atom.TheFolds.{fold-Query, fold-Part, fold-Chain, fold-Linked, fold-Atom}
+use Rattle.cs_base.specs.declared.content.doc.Doc.{Doc}
+use Rattle.cs_base.specs.declared.content.doc.Row.{Row}
+use Rattle.cs_base.specs.declared.content.query.Query.{Query}
+use Rattle.cs_base.specs.declared.content.query.Atom.TheOpen.{Atom-F, Query-F, Part-F, Chain-F, Linked-F}
+use Rattle.cs_base.specs.declared.content.query.Part.{Part}
+use Rattle.cs_base.specs.declared.content.query.Chain.{Chain}
+use Rattle.cs_base.specs.declared.content.query.Linked.{Linked}
+use Rattle.cs_base.specs.declared.content.query.Atom.{Atom}
+use Rattle.cs_base.specs.declared.content.query.Atom.TheFolds.{fold-Query, fold-Part, fold-Chain, fold-Linked, fold-Atom}
 use Rattle.cs_model.specs.Collection.{CollectionRefusal, too_many_words}
 use Rattle.cs_model.specs.Corpus.{Corpus, by_number, rows_of, title_of}
 use Rattle.cs_engine.specs.declared.corpus.CorpusFault.{CorpusFault}

@@ -34,17 +34,17 @@ use Rattle.std.specs.List.Sorted.{IsStrictlySortedBy}
 use Rattle.std.specs.Ordering.{nat_cmp}
 use Rattle.std.specs.Cmp.Lexicographic.{slice_cmp}
 use Rattle.std.specs.Str.{IsUtf8, bytes_eq}
-use Rattle.cs_base.specs.declared.doc.Base.{Base}
-use Rattle.cs_base.specs.declared.doc.Base.TheVariants as base
-use Rattle.cs_base.specs.declared.doc.Post.{Post}
-use Rattle.cs_base.specs.declared.doc.Row.{Row}
-use Rattle.cs_base.specs.declared.doc.Scored.{Scored}
-use Rattle.cs_base.specs.declared.query.Atom.{Atom}
-use Rattle.cs_base.specs.declared.query.Atom.TheVariants as atom
-use Rattle.cs_base.specs.declared.query.Link.{Link}
-use Rattle.cs_base.specs.declared.query.Link.TheVariants.{Phrase, Near}
-use Rattle.cs_base.specs.Orders.{AreSorted}
-use Rattle.cs_base.specs.declared.limits.TheConstants.{MAX_DOCS, MAX_WORDS}
+use Rattle.cs_base.specs.declared.content.doc.Base.{Base}
+use Rattle.cs_base.specs.declared.content.doc.Base.TheVariants as base
+use Rattle.cs_base.specs.declared.content.doc.Post.{Post}
+use Rattle.cs_base.specs.declared.content.doc.Row.{Row}
+use Rattle.cs_base.specs.declared.content.doc.Scored.{Scored}
+use Rattle.cs_base.specs.declared.content.query.Atom.{Atom}
+use Rattle.cs_base.specs.declared.content.query.Atom.TheVariants as atom
+use Rattle.cs_base.specs.declared.content.query.Link.{Link}
+use Rattle.cs_base.specs.declared.content.query.Link.TheVariants.{Phrase, Near}
+use Rattle.cs_base.specs.content.Orders.{AreSorted}
+use Rattle.cs_base.specs.declared.content.limits.TheConstants.{MAX_DOCS, MAX_WORDS}
 use Rattle.cs_meet.specs.Filters.{follow, near, keep_docs, drop_docs}
 use Rattle.cs_rank.specs.DocScores.{scores}
 use Rattle.cs_model.specs.Answers.{PartRows, Completion, begins, is_listed, hits, pairs, scored, table_of}

@@ -4,7 +4,7 @@ ghost use Rattle.std.specs.List.Sorted.{IsStrictlySortedBy};
 ghost use Rattle.std.specs.Ordering.{nat_cmp};
 ghost use Rattle.std.specs.Cmp.Lexicographic.{slice_cmp};
 ghost use Rattle.std.specs.Str.{bytes_eq};
-ghost use Rattle.cs_base.specs.declared.limits.TheConstants.{MAX_WORDS};
+ghost use Rattle.cs_base.specs.declared.content.limits.TheConstants.{MAX_WORDS};
 ghost use Rattle.cs_model.specs.Answers.{rows_of_atom};
 ghost use Rattle.cs_engine.specs.Searching.{atom_has_join};
 ghost use Rattle.cs_engine.specs.Stocked.{rows_at, corpus_in, IsStocked, IsPicked, IsSpan, is_between, atom_test, named_rows};

@@ -3,7 +3,7 @@ ghost use Rattle.std.specs.Prelude.{◌≡◌, ◌≤◌, ◌<◌, false, length
 ghost use Rattle.std.specs.List.{All};
 ghost use Rattle.std.specs.Option.{option_map};
 ghost use Rattle.std.specs.Str.{IsUtf8};
-ghost use Rattle.cs_base.specs.declared.limits.TheConstants.{MAX_DOCS, MAX_ROWS, MAX_WORDS};
+ghost use Rattle.cs_base.specs.declared.content.limits.TheConstants.{MAX_DOCS, MAX_ROWS, MAX_WORDS};
 ghost use Rattle.cs_docs.specs.Refusals.{reason_text};
 ghost use Rattle.cs_model.specs.Collection.{refusal_words};
 ghost use Rattle.cs_model.specs.Corpus.{rows_of, distinct_words};

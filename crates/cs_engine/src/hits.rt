@@ -1,10 +1,10 @@
 //! Hits with their scores, part by part.
 ghost use Rattle.std.specs.Prelude.{◌≡◌, ◌≤◌, ◌<◌, false, IfOk, length, map};
 ghost use Rattle.std.specs.List.{All};
-ghost use Rattle.cs_base.specs.declared.query.Query.{out-Query};
+ghost use Rattle.cs_base.specs.declared.content.query.Query.{out-Query};
 ghost use Rattle.cs_meet.specs.Filters.{keep_docs, drop_docs};
-ghost use Rattle.cs_base.specs.Orders.{AreByDoc, AreSorted};
-ghost use Rattle.cs_base.specs.declared.limits.TheConstants.{MAX_PARTS};
+ghost use Rattle.cs_base.specs.content.Orders.{AreByDoc, AreSorted};
+ghost use Rattle.cs_base.specs.declared.content.limits.TheConstants.{MAX_PARTS};
 ghost use Rattle.cs_model.specs.Answers.{parts_of};
 ghost use Rattle.cs_rank.specs.DocScores.{IsBase};
 ghost use Rattle.cs_engine.specs.Searching.{has_join};

@@ -1,7 +1,7 @@
 //! The rows of chains and of parts.
 ghost use Rattle.std.specs.Prelude.{◌≡◌, false, IfOk};
 ghost use Rattle.cs_meet.specs.Filters.{IsUnion};
-ghost use Rattle.cs_base.specs.Orders.{AreSorted};
+ghost use Rattle.cs_base.specs.content.Orders.{AreSorted};
 ghost use Rattle.cs_model.specs.Answers.{rows_of_chain, rows_of_part};
 ghost use Rattle.cs_engine.specs.Searching.{chain_has_join, part_has_join};
 ghost use Rattle.cs_engine.specs.Stocked.{rows_at, corpus_in, IsStocked, IsPicked, linked_posts};

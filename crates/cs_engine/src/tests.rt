@@ -2,8 +2,8 @@
 //! (`proofs/AnswersExamples.antt` of `cs_model`), and scripts in the tests of `cs_top`.
 ghost use Rattle.std.specs.Prelude.{◌≡◌, ◌≤◌, true, false, IfOk, length};
 ghost use Rattle.std.specs.List.{list_all};
-ghost use Rattle.cs_base.specs.declared.limits.TheConstants.{MAX_PARTS};
-ghost use Rattle.cs_base.specs.declared.query.Query.{out-Query};
+ghost use Rattle.cs_base.specs.declared.content.limits.TheConstants.{MAX_PARTS};
+ghost use Rattle.cs_base.specs.declared.content.query.Query.{out-Query};
 ghost use Rattle.cs_model.specs.Collection.{has_name_form};
 ghost use Rattle.cs_model.specs.Refusals.{IsOfGrammar};
 ghost use Rattle.cs_engine.specs.Searching.{has_join};

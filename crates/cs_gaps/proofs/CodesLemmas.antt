@@ -14,7 +14,7 @@ use Rattle.std.proofs.lemmas.Slice.Eq.{starts_is}
 use Rattle.std.proofs.Math.Bool.{or-true}
 use Rattle.std.proofs.Math.Nat.{pow-suc, one-le-pow}
 use Rattle.std.proofs.lemmas.Bool.Decides.{nat_tests, Decides-eqb}
-use Rattle.cs_base.specs.GapCode.{code_in, code, looked_at, value_of, first_code}
+use Rattle.cs_base.specs.index.GapCode.{code_in, code, looked_at, value_of, first_code}
 use Rattle.cs_gaps.specs.declared.gap.Gap.{Gap}
 use Rattle.cs_gaps.specs.declared.gap.Gap.TheVariants.{Is, Cut, Long, Big}
 use Rattle.cs_gaps.specs.Reading.{gap_at, moved, last_byte, StandsAt}

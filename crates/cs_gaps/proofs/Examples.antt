@@ -1,6 +1,6 @@
 -- The definitions on worked numbers and bytes.
 use Rattle.std.proofs.Common.{◌≡◌, [], ◌∷◌, Some, None, refl}
-use Rattle.cs_base.specs.GapCode.{code_in, code, looked_at, value_of, first_code}
+use Rattle.cs_base.specs.index.GapCode.{code_in, code, looked_at, value_of, first_code}
 use Rattle.cs_gaps.specs.declared.gap.Gap.TheVariants.{Is, Cut, Long, Big}
 use Rattle.cs_gaps.specs.Reading.{gap_at}
 

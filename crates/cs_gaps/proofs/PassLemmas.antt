@@ -8,7 +8,7 @@ use Rattle.std.proofs.Math.Bool.{and-false}
 use Rattle.std.proofs.Math.Nat.{pow-suc, pow-le-pow_right, mul_assoc, mul-add, mul_comm}
 use Rattle.cs_gaps.specs.declared.gap.Gap.{Gap}
 use Rattle.cs_gaps.specs.declared.gap.Gap.TheVariants.{Is, Cut, Long, Big}
-use Rattle.cs_base.specs.GapCode.{code_in, code, looked_at, value_of}
+use Rattle.cs_base.specs.index.GapCode.{code_in, code, looked_at, value_of}
 use Rattle.cs_gaps.specs.Reading.{gap_at, moved, ended}
 use Rattle.cs_gaps.proofs.CodesLemmas.{onto, last, read_in, capped, gap_read}
 

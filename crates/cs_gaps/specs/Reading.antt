@@ -7,7 +7,7 @@
 --   ended last len n next    what a last byte makes of the number n, where it is the last of so many bytes
 --   StandsAt n at next bytes the code of n stands at a place, and next is the place behind it
 use Rattle.std.specs.Prelude.{◌≡◌, ℕ, ◌+◌, ◌^◌, ◌<◌, ◌≤◌, ◌&&◌, ◌==◌, nat_lt, List, [], ◌∷◌, ◌++◌, length, drop, if◌then◌else◌}
-use Rattle.cs_base.specs.GapCode.{code, looked_at, value_of}
+use Rattle.cs_base.specs.index.GapCode.{code, looked_at, value_of}
 use Rattle.cs_gaps.specs.declared.gap.Gap.{Gap}
 use Rattle.cs_gaps.specs.declared.gap.Gap.TheVariants.{Is, Cut, Long, Big}
 

@@ -4,7 +4,7 @@
 --   FirstIsFound   the first code of a code and more is that code
 --   FoundIsFirst   what has a first code begins with it
 use Rattle.std.specs.Prelude.{◌≡◌, ℕ, ◌<◌, ◌^◌, List, ◌++◌, length, drop, Some}
-use Rattle.cs_base.specs.GapCode.{code, first_code}
+use Rattle.cs_base.specs.index.GapCode.{code, first_code}
 
 -- no number has two codes, and no code begins another
 abbrev pub OneSpelling : Type 0

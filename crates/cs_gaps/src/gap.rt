@@ -1,6 +1,6 @@
 //! Writing a gap code, and reading the one at a place.
 ghost use Rattle.std.specs.Prelude.{◌≡◌, ℕ, ◌+◌, ◌<◌, ◌≤◌, ◌^◌, ◌++◌, List, length, drop, OnOk, OnErr};
-ghost use Rattle.cs_base.specs.GapCode.{code};
+ghost use Rattle.cs_base.specs.index.GapCode.{code};
 ghost use Rattle.cs_gaps.specs.Reading.{StandsAt, gap_at, ended, moved};
 
 use cs_base::Memory;

@@ -12,7 +12,7 @@ use Rattle.std.proofs.Common.{◌≡◌, ℕ, ◌+◌, ◌<◌, ◌≤◌, ⊎_e
 use Rattle.std.proofs.lemmas.Bool.{cases_Bool}
 use Rattle.std.proofs.lemmas.List.{take_all}
 use Rattle.std.proofs.lemmas.List.Sums.{sum_by-append}
-use Rattle.cs_base.specs.declared.limits.TheConstants.{MAX_HEAD_BYTES}
+use Rattle.cs_base.specs.declared.content.limits.TheConstants.{MAX_HEAD_BYTES}
 use Rattle.cs_model.specs.Words.{is_filled}
 use Rattle.cs_model_serving.specs.declared.framed.Framed.{Framed}
 use Rattle.cs_model_serving.specs.declared.framed.Framed.TheVariants as framed

@@ -18,8 +18,8 @@ use Rattle.std.specs.Cmp.Lexicographic.{slice_cmp}
 use Rattle.std.specs.Str.{chars}
 use Rattle.std.proofs.lemmas.Bool.{and_parts}
 use Rattle.std.proofs.lemmas.Bool.Decides.{nat_tests}
-use Rattle.cs_base.specs.declared.query.Query.{Query}
-use Rattle.cs_base.specs.declared.limits.TheConstants.{MAX_COUNT_DIGITS, MAX_SHOWN, MAX_OFFSET, MAX_FACETS, DEFAULT_HITS, DEFAULT_COMPLETIONS}
+use Rattle.cs_base.specs.declared.content.query.Query.{Query}
+use Rattle.cs_base.specs.declared.content.limits.TheConstants.{MAX_COUNT_DIGITS, MAX_SHOWN, MAX_OFFSET, MAX_FACETS, DEFAULT_HITS, DEFAULT_COMPLETIONS}
 use Rattle.cs_base.proofs.MembersLemmas.{listing-rises}
 use Rattle.cs_model.specs.Collection.{has_name_form}
 use Rattle.cs_model.specs.Words.{is_filled}

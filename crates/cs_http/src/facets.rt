@@ -1,7 +1,7 @@
 //! The names of the facets asked, as in `f=author,year`.
 ghost use Rattle.std.specs.Prelude.{◌≡◌, ◌&&◌, ◌∷◌, [], ◌++◌, true, Some, nat_le, length, filter, codes, IfOk, IfErr, OnOk};
 ghost use Rattle.std.specs.List.{list_all};
-ghost use Rattle.cs_base.specs.declared.limits.TheConstants.{MAX_FACETS as MOST};
+ghost use Rattle.cs_base.specs.declared.content.limits.TheConstants.{MAX_FACETS as MOST};
 ghost use Rattle.cs_model.specs.Collection.{has_name_form};
 ghost use Rattle.cs_model.specs.Words.{is_filled};
 ghost use Rattle.cs_model.specs.Parameters.{parameter, are_facets, facet_names};

@@ -1,6 +1,6 @@
 //! Where a request head stands among bytes that aren't read yet, also where they come piece by piece.
 ghost use Rattle.std.specs.Prelude.{◌≡◌, ◌<◌, ◌++◌, ◌∷◌, [], ℕ, List, false};
-ghost use Rattle.cs_base.specs.declared.limits.TheConstants.{MAX_HEAD_BYTES as MOST};
+ghost use Rattle.cs_base.specs.declared.content.limits.TheConstants.{MAX_HEAD_BYTES as MOST};
 ghost use Rattle.cs_model_serving.specs.Framing.{frame, is_line_feed};
 ghost use Rattle.cs_http.specs.Looking.{look_of, tail_of, IsSeen, HasRoom, within_limit};
 

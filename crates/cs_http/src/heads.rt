@@ -3,7 +3,7 @@ ghost use Rattle.std.specs.Prelude.{◌≡◌, ◌==◌, ◌||◌, All, length, 
 ghost use Rattle.std.specs.List.{list_any};
 ghost use Rattle.httparse.specs.Grammar.{RequestHead};
 ghost use Rattle.httparse.specs.Spans.{IsRequestWithin, IsRequestAt, IsHeaderWithin, header_bytes};
-ghost use Rattle.cs_base.specs.declared.limits.TheConstants.{MAX_HEAD_FIELDS as MOST};
+ghost use Rattle.cs_base.specs.declared.content.limits.TheConstants.{MAX_HEAD_FIELDS as MOST};
 ghost use Rattle.cs_model_serving.specs.HeadReader.{IsHead, IsNoHead};
 ghost use Rattle.cs_model_serving.specs.Heads.{judge, asks, is_closing, path_of, params_of};
 ghost use Rattle.cs_http.specs.Judging.{IsHeadCause};

@@ -5,10 +5,10 @@ use Rattle.std.specs.List.{list_any}
 use Rattle.std.proofs.lemmas.Map.Keys.{Less-from_sorted}
 use Rattle.std.proofs.lemmas.Bool.Decides.{nat_tests}
 use Rattle.std.proofs.lemmas.List.Folds.{list_any_at}
-use Rattle.cs_base.specs.declared.doc.Post.{Post}
-use Rattle.cs_base.specs.declared.doc.Scored.{Scored}
-use Rattle.cs_base.specs.Orders.{by_place, AreSorted}
-use Rattle.cs_base.specs.declared.limits.TheConstants.{MAX_DISTANCE}
+use Rattle.cs_base.specs.declared.content.doc.Post.{Post}
+use Rattle.cs_base.specs.declared.content.doc.Scored.{Scored}
+use Rattle.cs_base.specs.content.Orders.{by_place, AreSorted}
+use Rattle.cs_base.specs.declared.content.limits.TheConstants.{MAX_DISTANCE}
 use Rattle.cs_meet.specs.Filters.{stands_behind, is_near, is_of}
 use Rattle.cs_meet.specs.Places.{is_before, Splits, Ahead, near_at}
 use Rattle.cs_meet.proofs.Passes.{none_at, IsUpTo, up_to}

@@ -6,8 +6,8 @@ use Rattle.std.proofs.lemmas.List.{get_or_default}
 use Rattle.std.proofs.lemmas.Map.Keys.{Less-from_sorted, below_from_sorted}
 use Rattle.std.proofs.lemmas.Bool.Decides.{nat_tests}
 use Rattle.std.proofs.lemmas.List.Folds.{list_any_at}
-use Rattle.cs_base.specs.declared.doc.Post.{Post}
-use Rattle.cs_base.specs.Orders.{by_place, AreSorted, AreDocs}
+use Rattle.cs_base.specs.declared.content.doc.Post.{Post}
+use Rattle.cs_base.specs.content.Orders.{by_place, AreSorted, AreDocs}
 use Rattle.cs_meet.specs.Filters.{in_doc}
 use Rattle.cs_meet.specs.Places.{AllBelow, SplitsDocs, AheadOfRows, is_before}
 use Rattle.cs_meet.proofs.Passes.{none_at, IsUpTo, up_to}

@@ -10,8 +10,8 @@ use Rattle.std.proofs.lemmas.List.Sorted.{IsPermutation-trans, IsPermutation-app
 use Rattle.std.proofs.lemmas.Map.Keys.{Less-from_sorted}
 use Rattle.std.proofs.lemmas.Bool.Decides.{nat_tests}
 use Rattle.std.proofs.lemmas.List.Folds.{list_any_at}
-use Rattle.cs_base.specs.declared.doc.Post.{Post}
-use Rattle.cs_base.specs.Orders.{by_place, AreSorted}
+use Rattle.cs_base.specs.declared.content.doc.Post.{Post}
+use Rattle.cs_base.specs.content.Orders.{by_place, AreSorted}
 use Rattle.cs_base.proofs.OrdersLemmas.{by_place_total, Comes, comes_first, less-from_comes}
 use Rattle.cs_meet.specs.Filters.{shares_place, missing}
 use Rattle.cs_meet.specs.Places.{AllLess, SplitsBefore, KeepsOrder}

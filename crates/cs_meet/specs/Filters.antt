@@ -10,9 +10,9 @@
 use Rattle.std.specs.Prelude.{ℕ, ◌+◌, ◌-◌, Bool, ◌&&◌, not, ◌==◌, nat_lt, nat_le, List, ◌++◌}
 use Rattle.std.specs.List.{filter, list_any}
 use Rattle.std.specs.List.Sorted.{IsPermutation}
-use Rattle.cs_base.specs.declared.limits.TheConstants.{MAX_DISTANCE}
-use Rattle.cs_base.specs.declared.doc.Post.{Post}
-use Rattle.cs_base.specs.declared.doc.Scored.{Scored}
+use Rattle.cs_base.specs.declared.content.limits.TheConstants.{MAX_DISTANCE}
+use Rattle.cs_base.specs.declared.content.doc.Post.{Post}
+use Rattle.cs_base.specs.declared.content.doc.Scored.{Scored}
 
 -- the row is in document d
 abbrev pub in_doc : Post → ℕ → Bool

@@ -2,9 +2,9 @@
 ghost use Rattle.std.specs.Prelude.{◌≡◌, ℕ, true, false, slice_index, slice_index_or, ◌+◌, ◌-◌, ◌^◌, ◌≤◌, ◌<◌, [], ◌∷◌, ◌++◌, length, if◌then◌else◌, IfOk};
 ghost use Rattle.std.specs.List.{list_any};
 ghost use Rattle.std.specs.Vec.{vec_len, vec_capacity};
-ghost use Rattle.cs_base.specs.declared.doc.Post.{Post};
+ghost use Rattle.cs_base.specs.declared.content.doc.Post.{Post};
 ghost use Rattle.cs_meet.specs.Filters.{keep_docs, drop_docs, in_doc, is_of};
-ghost use Rattle.cs_base.specs.Orders.{AreDocs, AreByDoc, docs_of, AreSorted};
+ghost use Rattle.cs_base.specs.content.Orders.{AreDocs, AreByDoc, docs_of, AreSorted};
 ghost use Rattle.cs_meet.specs.Places.{Splits, AllBelow, SplitsDocs, AheadOfRows};
 
 use crate::skip::{add_where, pass_over, skip_to};

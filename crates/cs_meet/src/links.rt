@@ -2,10 +2,10 @@
 ghost use Rattle.std.specs.Prelude.{◌≡◌, ℕ, ◌+◌, ◌-◌, ◌<◌, ◌≤◌, false, length, max, slice_index_or, IfOk};
 ghost use Rattle.std.specs.List.{list_any};
 ghost use Rattle.cs_meet.specs.Filters.{follow, near, stands_behind, is_near};
-ghost use Rattle.cs_base.specs.Orders.{AreSorted};
+ghost use Rattle.cs_base.specs.content.Orders.{AreSorted};
 ghost use Rattle.cs_meet.specs.Places.{Ahead, Splits, near_at};
-ghost use Rattle.cs_base.specs.declared.doc.Post.{Post};
-ghost use Rattle.cs_base.specs.declared.limits.TheConstants.{MAX_DISTANCE};
+ghost use Rattle.cs_base.specs.declared.content.doc.Post.{Post};
+ghost use Rattle.cs_base.specs.declared.content.limits.TheConstants.{MAX_DISTANCE};
 
 use crate::skip::{add_where, pass_over, skip_to};
 use cs_base::{MAX_DISTANCE, Memory, Post};

@@ -1,7 +1,7 @@
 //! Steps that the passes share: a place in sorted posts goes up, and a post is added where a test held.
 ghost use Rattle.std.specs.Prelude.{◌≡◌, ℕ, ◌+◌, ◌-◌, ◌≤◌, ◌<◌, ◌^◌, [], ◌∷◌, ◌++◌, true, false, length, slice_index_or, if◌then◌else◌};
-ghost use Rattle.cs_base.specs.declared.doc.Post.{Post};
-ghost use Rattle.cs_base.specs.Orders.{AreSorted};
+ghost use Rattle.cs_base.specs.declared.content.doc.Post.{Post};
+ghost use Rattle.cs_base.specs.content.Orders.{AreSorted};
 ghost use Rattle.cs_meet.specs.Places.{AllBefore, Splits, StopsAt, is_before};
 
 use cs_base::Post;

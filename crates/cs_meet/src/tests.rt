@@ -1,6 +1,6 @@
 //! Filters and merges on worked rows.
 ghost use Rattle.std.specs.Prelude.{◌≡◌, true};
-ghost use Rattle.cs_base.specs.Orders.{AreByDoc, AreSorted};
+ghost use Rattle.cs_base.specs.content.Orders.{AreByDoc, AreSorted};
 
 use crate::{docs_of, drop_docs, follow, keep_docs, near, unite};
 use cs_base::{Memory, Post, Scored};

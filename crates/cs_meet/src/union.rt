@@ -1,7 +1,7 @@
 //! The union of two lists of posts.
 ghost use Rattle.std.specs.Prelude.{◌≡◌, ◌+◌, ◌≤◌, ◌++◌, length, drop, IfOk};
 ghost use Rattle.std.specs.List.{list_any};
-ghost use Rattle.cs_base.specs.Orders.{AreSorted};
+ghost use Rattle.cs_base.specs.content.Orders.{AreSorted};
 ghost use Rattle.cs_meet.specs.Filters.{IsUnion, shares_place};
 ghost use Rattle.cs_meet.specs.Places.{AllLess, SplitsBefore, KeepsOrder};
 

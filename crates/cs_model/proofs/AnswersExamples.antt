@@ -22,11 +22,11 @@ use Rattle.std.proofs.lemmas.Cmp.{nat_cmp_total}
 use Rattle.caseless.proofs.Computing.{caseless}
 use Rattle.ucd_category.proofs.Computing.{ucd_category}
 use Rattle.unicode.specs.GeneralCategory.{general_category}
-use Rattle.cs_base.specs.declared.doc.Row.{Row}
-use Rattle.cs_base.specs.declared.query.Part.{out-roll-Part}
-use Rattle.cs_base.specs.declared.query.Chain.{out-roll-Chain}
+use Rattle.cs_base.specs.declared.content.doc.Row.{Row}
+use Rattle.cs_base.specs.declared.content.query.Part.{out-roll-Part}
+use Rattle.cs_base.specs.declared.content.query.Chain.{out-roll-Chain}
 use Rattle.cs_base.proofs.OrdersLemmas.{by_row_total}
-use Rattle.cs_base.specs.Orders.{by_row}
+use Rattle.cs_base.specs.content.Orders.{by_row}
 use Rattle.cs_model.specs.KeyText.{norm}
 use Rattle.cs_model.specs.Words.{is_word_char, cut, words}
 use Rattle.cs_model.specs.Collection.{documents}

@@ -14,17 +14,17 @@ use Rattle.std.specs.Cmp.{IsTotalOrder}
 use Rattle.std.specs.Ordering.{nat_cmp}
 use Rattle.std.proofs.lemmas.Cmp.{then_total, on_total, back_total, nat_cmp_total, nat_list_cmp_total}
 use Rattle.std.proofs.lemmas.List.{map-append}
-use Rattle.cs_base.specs.Orders.{by_row, by_rank}
-use Rattle.cs_base.specs.declared.doc.Row.{Row}
-use Rattle.cs_base.specs.declared.query.Link.{Link}
-use Rattle.cs_base.specs.declared.query.Query.{Query, roll-Query, out-Query, roll-out-Query}
-use Rattle.cs_base.specs.declared.query.Part.{Part, roll-Part}
-use Rattle.cs_base.specs.declared.query.Chain.{Chain, roll-Chain}
-use Rattle.cs_base.specs.declared.query.Linked.{Linked, roll-Linked}
-use Rattle.cs_base.specs.declared.query.Atom.{Atom, Prefix, Exact, roll-Atom}
-use Rattle.cs_base.specs.declared.query.Atom.TheVariants.{rolls-Prefix, rolls-Exact}
-use Rattle.cs_base.specs.declared.query.Atom.TheOpen.{Atom-F}
-use Rattle.cs_base.specs.declared.query.Atom.TheFolds.{fold-roll-Query, fold-roll-Part, fold-roll-Chain, fold-roll-Linked, fold-roll-Atom}
+use Rattle.cs_base.specs.content.Orders.{by_row, by_rank}
+use Rattle.cs_base.specs.declared.content.doc.Row.{Row}
+use Rattle.cs_base.specs.declared.content.query.Link.{Link}
+use Rattle.cs_base.specs.declared.content.query.Query.{Query, roll-Query, out-Query, roll-out-Query}
+use Rattle.cs_base.specs.declared.content.query.Part.{Part, roll-Part}
+use Rattle.cs_base.specs.declared.content.query.Chain.{Chain, roll-Chain}
+use Rattle.cs_base.specs.declared.content.query.Linked.{Linked, roll-Linked}
+use Rattle.cs_base.specs.declared.content.query.Atom.{Atom, Prefix, Exact, roll-Atom}
+use Rattle.cs_base.specs.declared.content.query.Atom.TheVariants.{rolls-Prefix, rolls-Exact}
+use Rattle.cs_base.specs.declared.content.query.Atom.TheOpen.{Atom-F}
+use Rattle.cs_base.specs.declared.content.query.Atom.TheFolds.{fold-roll-Query, fold-roll-Part, fold-roll-Chain, fold-roll-Linked, fold-roll-Atom}
 use Rattle.cs_base.proofs.OrdersLemmas.{by_row_total, by_rank_total}
 use Rattle.cs_model.specs.Collection.{named}
 use Rattle.cs_model.specs.Corpus.{Corpus}

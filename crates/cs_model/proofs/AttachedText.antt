@@ -8,13 +8,13 @@ use Rattle.std.proofs.Common.{◌≡◌, ℕ, List, [], ◌∷◌, ◌++◌, map
 use Rattle.std.specs.Prelude.{if◌then◌else◌, codes}
 use Rattle.std.specs.List.{concat, join_with_byte}
 use Rattle.std.proofs.lemmas.List.{append-nil, map-append}
-use Rattle.cs_base.specs.declared.query.Link.{Link}
-use Rattle.cs_base.specs.declared.query.Query.{roll-Query}
-use Rattle.cs_base.specs.declared.query.Part.{Part, roll-Part, out-Part, out-roll-Part}
-use Rattle.cs_base.specs.declared.query.Chain.{Chain, roll-Chain, out-Chain}
-use Rattle.cs_base.specs.declared.query.Linked.{Linked, roll-Linked}
-use Rattle.cs_base.specs.declared.query.Atom.{Atom}
-use Rattle.cs_base.specs.declared.query.Atom.TheFolds.{fold-roll-Part, fold-roll-Chain, fold-roll-Linked, fold-roll-Query}
+use Rattle.cs_base.specs.declared.content.query.Link.{Link}
+use Rattle.cs_base.specs.declared.content.query.Query.{roll-Query}
+use Rattle.cs_base.specs.declared.content.query.Part.{Part, roll-Part, out-Part, out-roll-Part}
+use Rattle.cs_base.specs.declared.content.query.Chain.{Chain, roll-Chain, out-Chain}
+use Rattle.cs_base.specs.declared.content.query.Linked.{Linked, roll-Linked}
+use Rattle.cs_base.specs.declared.content.query.Atom.{Atom}
+use Rattle.cs_base.specs.declared.content.query.Atom.TheFolds.{fold-roll-Part, fold-roll-Chain, fold-roll-Linked, fold-roll-Query}
 use Rattle.cs_model.specs.declared.kinds.Tie.{Tie}
 use Rattle.cs_model.specs.declared.kinds.Tie.TheVariants.{Begins, Alternative, Linked as LinkedBy}
 use Rattle.cs_model.specs.Grammar.{on_last, chain_of, part_of, with_link, with_chains, attached, join}

@@ -2,12 +2,12 @@
 use Rattle.std.proofs.Common.{◌≡◌, ℕ, List, [], ◌∷◌, refl, ap, sym, ◌∙◌, Some, None, codes}
 use Rattle.std.specs.Char.{encode_utf8}
 use Rattle.std.specs.Str.{chars}
-use Rattle.cs_base.specs.declared.query.Query.{out-roll-Query}
-use Rattle.cs_base.specs.declared.query.Part.{out-roll-Part}
-use Rattle.cs_base.specs.declared.query.Chain.{out-roll-Chain}
-use Rattle.cs_base.specs.declared.query.Atom.{Prefix, Exact, out-Atom, out-roll-Atom}
-use Rattle.cs_base.specs.declared.query.Atom.TheVariants.{rolls-Prefix, rolls-Exact}
-use Rattle.cs_base.specs.declared.query.Atom.TheOpen.{Atom-F}
+use Rattle.cs_base.specs.declared.content.query.Query.{out-roll-Query}
+use Rattle.cs_base.specs.declared.content.query.Part.{out-roll-Part}
+use Rattle.cs_base.specs.declared.content.query.Chain.{out-roll-Chain}
+use Rattle.cs_base.specs.declared.content.query.Atom.{Prefix, Exact, out-Atom, out-roll-Atom}
+use Rattle.cs_base.specs.declared.content.query.Atom.TheVariants.{rolls-Prefix, rolls-Exact}
+use Rattle.cs_base.specs.declared.content.query.Atom.TheOpen.{Atom-F}
 use Rattle.cs_model.specs.Words.{is_word_char}
 use Rattle.cs_model.specs.Grammar.{query_of}
 use Rattle.cs_model.specs.Canonical.{canonical}

@@ -5,14 +5,14 @@
 use Rattle.std.proofs.Common.{◌≡◌, ℕ, List, [], ◌++◌, map, ap, ◌∙◌, sym}
 use Rattle.std.specs.Prelude.{if◌then◌else◌, codes}
 use Rattle.std.specs.List.{concat, join_with_byte}
-use Rattle.cs_base.specs.declared.query.Query.{Query, out-Query, roll-out-Query}
-use Rattle.cs_base.specs.declared.query.Part.{Part, out-Part, roll-out-Part}
-use Rattle.cs_base.specs.declared.query.Chain.{Chain, out-Chain, roll-out-Chain}
-use Rattle.cs_base.specs.declared.query.Linked.{Linked, out-Linked, roll-out-Linked}
-use Rattle.cs_base.specs.declared.query.Atom.{Prefix, Exact, roll-Atom}
-use Rattle.cs_base.specs.declared.query.Atom.TheVariants.{rolls-Prefix, rolls-Exact}
-use Rattle.cs_base.specs.declared.query.Atom.TheOpen.{Atom-F}
-use Rattle.cs_base.specs.declared.query.Atom.TheFolds.{fold-roll-Query, fold-roll-Part, fold-roll-Chain, fold-roll-Linked, fold-roll-Atom}
+use Rattle.cs_base.specs.declared.content.query.Query.{Query, out-Query, roll-out-Query}
+use Rattle.cs_base.specs.declared.content.query.Part.{Part, out-Part, roll-out-Part}
+use Rattle.cs_base.specs.declared.content.query.Chain.{Chain, out-Chain, roll-out-Chain}
+use Rattle.cs_base.specs.declared.content.query.Linked.{Linked, out-Linked, roll-out-Linked}
+use Rattle.cs_base.specs.declared.content.query.Atom.{Prefix, Exact, roll-Atom}
+use Rattle.cs_base.specs.declared.content.query.Atom.TheVariants.{rolls-Prefix, rolls-Exact}
+use Rattle.cs_base.specs.declared.content.query.Atom.TheOpen.{Atom-F}
+use Rattle.cs_base.specs.declared.content.query.Atom.TheFolds.{fold-roll-Query, fold-roll-Part, fold-roll-Chain, fold-roll-Linked, fold-roll-Atom}
 use Rattle.cs_model.specs.Canonical.{Bytes, atom_text, chain_text, linked_text, part_text, query_text, link_text, canonical, canonical_parts, canonical_part, canonical_chain, canonical_linked, canonical_atom, word_text}
 
 pub query_shape : (q : Query) → canonical q ≡ canonical_parts (out-Query q).parts

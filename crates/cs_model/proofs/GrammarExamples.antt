@@ -3,12 +3,12 @@ use Rattle.std.proofs.Common.{◌≡◌, List, [], ◌∷◌, refl, true, false,
 use Rattle.std.specs.Char.{encode_utf8}
 use Rattle.std.specs.Str.{chars}
 use Rattle.caseless.proofs.Computing.{caseless}
-use Rattle.cs_base.specs.declared.query.Link.TheVariants.{Phrase, Near}
-use Rattle.cs_base.specs.declared.query.Query.{Query, roll-Query}
-use Rattle.cs_base.specs.declared.query.Part.{Part, roll-Part, out-roll-Part}
-use Rattle.cs_base.specs.declared.query.Chain.{roll-Chain, out-roll-Chain}
-use Rattle.cs_base.specs.declared.query.Linked.{roll-Linked}
-use Rattle.cs_base.specs.declared.query.Atom.{Prefix, Exact}
+use Rattle.cs_base.specs.declared.content.query.Link.TheVariants.{Phrase, Near}
+use Rattle.cs_base.specs.declared.content.query.Query.{Query, roll-Query}
+use Rattle.cs_base.specs.declared.content.query.Part.{Part, roll-Part, out-roll-Part}
+use Rattle.cs_base.specs.declared.content.query.Chain.{roll-Chain, out-roll-Chain}
+use Rattle.cs_base.specs.declared.content.query.Linked.{roll-Linked}
+use Rattle.cs_base.specs.declared.content.query.Atom.{Prefix, Exact}
 use Rattle.cs_model.specs.declared.kinds.Tie.TheVariants.{Begins, Alternative, Linked as LinkedBy}
 use Rattle.cs_model.specs.KeyText.{norm}
 use Rattle.cs_model.specs.Words.{is_word_char}

@@ -7,8 +7,8 @@ use Rattle.std.specs.Prelude.{◌&&◌, ◌==◌, nat_lt, if◌then◌else◌, e
 use Rattle.std.specs.Str.{chars}
 use Rattle.std.proofs.lemmas.Bool.{not-false, ltb-true}
 use Rattle.std.proofs.lemmas.Str.{encodes-chars}
-use Rattle.cs_base.specs.declared.query.Link.TheVariants.{Near}
-use Rattle.cs_base.specs.declared.query.Atom.{Prefix, Exact}
+use Rattle.cs_base.specs.declared.content.query.Link.TheVariants.{Near}
+use Rattle.cs_base.specs.declared.content.query.Atom.{Prefix, Exact}
 use Rattle.cs_model.specs.declared.kinds.Spot.{Spot}
 use Rattle.cs_model.specs.declared.kinds.Spot.TheVariants.{Front, BehindAtom, Elsewhere}
 use Rattle.cs_model.specs.declared.kinds.Tie.{Tie}

@@ -18,13 +18,13 @@ use Rattle.std.proofs.lemmas.List.{append-nil, map-append}
 use Rattle.std.proofs.lemmas.List.Elements.{filter-append}
 use Rattle.std.proofs.lemmas.List.Folds.{list_any-append}
 use Rattle.std.proofs.lemmas.Str.{IsCharBoundary-at_seam}
-use Rattle.cs_base.specs.declared.query.Query.{Query, out-Query}
-use Rattle.cs_base.specs.declared.query.Part.{Part, out-Part}
-use Rattle.cs_base.specs.declared.query.Chain.{Chain, roll-Chain, out-Chain}
-use Rattle.cs_base.specs.declared.query.Linked.{Linked, out-Linked}
-use Rattle.cs_base.specs.declared.query.Atom.{Atom, Prefix, roll-Atom, out-Atom, roll-out-Atom}
-use Rattle.cs_base.specs.declared.query.Atom.TheVariants.{rolls-Prefix}
-use Rattle.cs_base.specs.declared.query.Atom.TheOpen.{Atom-F}
+use Rattle.cs_base.specs.declared.content.query.Query.{Query, out-Query}
+use Rattle.cs_base.specs.declared.content.query.Part.{Part, out-Part}
+use Rattle.cs_base.specs.declared.content.query.Chain.{Chain, roll-Chain, out-Chain}
+use Rattle.cs_base.specs.declared.content.query.Linked.{Linked, out-Linked}
+use Rattle.cs_base.specs.declared.content.query.Atom.{Atom, Prefix, roll-Atom, out-Atom, roll-out-Atom}
+use Rattle.cs_base.specs.declared.content.query.Atom.TheVariants.{rolls-Prefix}
+use Rattle.cs_base.specs.declared.content.query.Atom.TheOpen.{Atom-F}
 use Rattle.cs_model.specs.Grammar.{on_last, with_chains}
 use Rattle.cs_model.specs.Canonical.{link_text, word_text, canonical, canonical_parts, canonical_part, canonical_chain, canonical_linked, canonical_atom}
 use Rattle.cs_model.specs.Keys.{last_of, prefix_in, last_atom, chain_prefix, chains_prefix, part_prefix, last_prefix, relinked, ended_by, with_prefix, shorter, is_left}

@@ -9,7 +9,7 @@ use Rattle.std.specs.declared.cmp.Ordering.{Ordering}
 use Rattle.std.specs.Cmp.{IsTotalOrder}
 use Rattle.std.specs.FinMap.{entries, from_entries, empty, len-empty, len-entries, entries-insert}
 use Rattle.std.specs.FinMap.Entries.{put}
-use Rattle.cs_base.specs.Members.{marked, members_in}
+use Rattle.cs_base.specs.content.Members.{marked, members_in}
 
 none : {A : Type 0} (es : List A) → length es ≡ 0 → es ≡ []
 none [] e = refl

@@ -8,7 +8,7 @@ use Rattle.std.proofs.lemmas.Cmp.{nat_list_cmp_total}
 use Rattle.form_urlencoded.specs.Form.{raw_pairs, split}
 use Rattle.percent_encoding.specs.Percent.{percent_decode}
 use Rattle.caseless.proofs.Computing.{caseless}
-use Rattle.cs_base.specs.declared.query.Query.{roll-Query}
+use Rattle.cs_base.specs.declared.content.query.Query.{roll-Query}
 use Rattle.cs_model.specs.KeyText.{norm}
 use Rattle.cs_model.specs.Words.{is_word_char}
 use Rattle.cs_model.specs.Refusals.{Bad}

@@ -7,11 +7,11 @@ use Rattle.std.proofs.Common.{◌≡◌, ℕ, suc, ◌≤◌, ◌+◌, List, [],
 use Rattle.std.specs.List.{AllByRecursion}
 use Rattle.std.specs.Str.{chars}
 use Rattle.std.proofs.lemmas.List.{take_all}
-use Rattle.cs_base.specs.declared.query.Query.{Query, out-Query, out-roll-Query}
-use Rattle.cs_base.specs.declared.query.Part.{Part, out-Part, out-roll-Part}
-use Rattle.cs_base.specs.declared.query.Chain.{Chain}
-use Rattle.cs_base.specs.declared.query.Atom.{Atom}
-use Rattle.cs_base.specs.declared.limits.TheConstants.{MAX_PARTS}
+use Rattle.cs_base.specs.declared.content.query.Query.{Query, out-Query, out-roll-Query}
+use Rattle.cs_base.specs.declared.content.query.Part.{Part, out-Part, out-roll-Part}
+use Rattle.cs_base.specs.declared.content.query.Chain.{Chain}
+use Rattle.cs_base.specs.declared.content.query.Atom.{Atom}
+use Rattle.cs_base.specs.declared.content.limits.TheConstants.{MAX_PARTS}
 use Rattle.cs_model.specs.declared.kinds.Level.{Level}
 use Rattle.cs_model.specs.declared.kinds.Tie.{Tie}
 use Rattle.cs_model.specs.declared.kinds.Tie.TheVariants.{Begins, Alternative, Linked}

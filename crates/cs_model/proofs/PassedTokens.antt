@@ -20,8 +20,8 @@ use Rattle.cs_model.specs.Tokens.{Token, Word, Value, Run, Gap, Dollar, Bar, Col
 use Rattle.cs_model.specs.Grammar.{steps}
 use Rattle.cs_model.specs.First.{unless, first_reason}
 use Rattle.cs_model.specs.Refusals.{Bad, Limit, refused, verdict, parts_in, atoms_in, depth, newest, IsAccepted}
-use Rattle.cs_base.specs.declared.limits.TheConstants.{MAX_QUERY_BYTES, MAX_PLAIN_WORD_BYTES, MAX_PARTS, MAX_ATOMS, MAX_DEPTH}
-use Rattle.cs_base.specs.declared.query.Which.TheVariants as limits
+use Rattle.cs_base.specs.declared.content.limits.TheConstants.{MAX_QUERY_BYTES, MAX_PLAIN_WORD_BYTES, MAX_PARTS, MAX_ATOMS, MAX_DEPTH}
+use Rattle.cs_base.specs.declared.content.query.Which.TheVariants as limits
 use Rattle.cs_model.proofs.ClassLemmas.{class_cases}
 use Rattle.cs_model.proofs.FirstLemmas.{none_first, none_rest, unless_none}
 use Rattle.cs_model.proofs.SizeLemmas.{Fits, class_fits}

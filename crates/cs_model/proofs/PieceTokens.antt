@@ -11,7 +11,7 @@ use Rattle.std.specs.List.{list_all}
 use Rattle.std.specs.Str.{chars}
 use Rattle.std.proofs.lemmas.List.{append-nil}
 use Rattle.std.proofs.lemmas.Str.{encodes-chars}
-use Rattle.cs_base.specs.declared.query.Link.TheVariants.{Phrase, Near}
+use Rattle.cs_base.specs.declared.content.query.Link.TheVariants.{Phrase, Near}
 use Rattle.cs_model.specs.declared.kinds.Class.TheVariants as c
 use Rattle.cs_model.specs.declared.kinds.Tie.{Tie}
 use Rattle.cs_model.specs.declared.kinds.Tie.TheVariants.{Begins, Alternative, Linked as LinkedBy}

@@ -2,7 +2,7 @@
 use Rattle.std.proofs.Common.{◌≡◌, ◌<◌, ℕ, List, [], ◌∷◌, take, refl, arith, Some, None, codes}
 use Rattle.std.specs.Prelude.{replicate}
 use Rattle.std.specs.Char.{encode_utf8}
-use Rattle.cs_base.specs.declared.query.Which.TheVariants as limits
+use Rattle.cs_base.specs.declared.content.query.Which.TheVariants as limits
 use Rattle.cs_model.specs.Words.{is_word_char}
 use Rattle.cs_model.specs.Tokens.{Token, Word, Open, Gap}
 use Rattle.cs_model.specs.Refusals.{Bad, Limit, IsAccepted}

@@ -57,20 +57,20 @@ use Rattle.std.specs.Ordering.{nat_cmp, then_cmp, on, flip_args}
 use Rattle.std.specs.declared.cmp.Ordering.{Ordering}
 use Rattle.std.specs.Cmp.Lexicographic.{slice_cmp}
 use Rattle.std.specs.FinMap as map
-use Rattle.cs_base.specs.Members.{members_in}
-use Rattle.cs_base.specs.Orders.{by_row, by_rank}
-use Rattle.cs_base.specs.declared.doc.Row.{Row}
-use Rattle.cs_base.specs.declared.limits.TheConstants.{MAX_DISTANCE}
-use Rattle.cs_base.specs.declared.doc.Scored.{Scored}
-use Rattle.cs_base.specs.declared.query.Query.{Query}
-use Rattle.cs_base.specs.declared.query.Part.{Part}
-use Rattle.cs_base.specs.declared.query.Chain.{Chain}
-use Rattle.cs_base.specs.declared.query.Linked.{Linked}
-use Rattle.cs_base.specs.declared.query.Atom.{Atom}
-use Rattle.cs_base.specs.declared.query.Link.{Link}
-use Rattle.cs_base.specs.declared.query.Link.TheVariants.{Phrase, Near}
-use Rattle.cs_base.specs.declared.query.Atom.TheOpen.{Atom-F, Query-F, Part-F, Chain-F, Linked-F}
-use Rattle.cs_base.specs.declared.query.Atom.TheFolds.{fold-Query, fold-Part, fold-Chain, fold-Linked, fold-Atom}
+use Rattle.cs_base.specs.content.Members.{members_in}
+use Rattle.cs_base.specs.content.Orders.{by_row, by_rank}
+use Rattle.cs_base.specs.declared.content.doc.Row.{Row}
+use Rattle.cs_base.specs.declared.content.limits.TheConstants.{MAX_DISTANCE}
+use Rattle.cs_base.specs.declared.content.doc.Scored.{Scored}
+use Rattle.cs_base.specs.declared.content.query.Query.{Query}
+use Rattle.cs_base.specs.declared.content.query.Part.{Part}
+use Rattle.cs_base.specs.declared.content.query.Chain.{Chain}
+use Rattle.cs_base.specs.declared.content.query.Linked.{Linked}
+use Rattle.cs_base.specs.declared.content.query.Atom.{Atom}
+use Rattle.cs_base.specs.declared.content.query.Link.{Link}
+use Rattle.cs_base.specs.declared.content.query.Link.TheVariants.{Phrase, Near}
+use Rattle.cs_base.specs.declared.content.query.Atom.TheOpen.{Atom-F, Query-F, Part-F, Chain-F, Linked-F}
+use Rattle.cs_base.specs.declared.content.query.Atom.TheFolds.{fold-Query, fold-Part, fold-Chain, fold-Linked, fold-Atom}
 use Rattle.cs_model.specs.Collection.{named}
 use Rattle.cs_model.specs.Corpus.{Corpus}
 

@@ -4,8 +4,8 @@
 --   AddFacetParts       the parts of that query are those of q and the facet part of n
 --   AreTablesOfQueries  so the table of the facet n of q is the table of that query
 use Rattle.std.specs.Prelude.{◌≡◌, ℕ, false, List, [], ◌∷◌, ◌++◌}
-use Rattle.cs_base.specs.declared.query.Query.{Query, roll-Query, out-Query}
-use Rattle.cs_base.specs.declared.query.Atom.{Prefix}
+use Rattle.cs_base.specs.declared.content.query.Query.{Query, roll-Query, out-Query}
+use Rattle.cs_base.specs.declared.content.query.Atom.{Prefix}
 use Rattle.cs_model.specs.Collection.{named}
 use Rattle.cs_model.specs.Corpus.{Corpus}
 use Rattle.cs_model.specs.Grammar.{part_of}

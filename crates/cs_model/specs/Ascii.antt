@@ -10,7 +10,7 @@
 use Rattle.std.specs.Prelude.{ℕ, Bool, not, List, map, filter, take}
 use Rattle.std.specs.Char.{is_ascii_alphanumeric, to_ascii_lowercase}
 use Rattle.std.specs.List.{slice_split}
-use Rattle.cs_base.specs.declared.limits.TheConstants.{MAX_PLAIN_WORD_BYTES}
+use Rattle.cs_base.specs.declared.content.limits.TheConstants.{MAX_PLAIN_WORD_BYTES}
 use Rattle.cs_model.specs.Words.{is_filled}
 
 -- the key text of an ASCII text; the empty text is its own key text

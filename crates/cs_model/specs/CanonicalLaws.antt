@@ -10,8 +10,8 @@
 --   KeepCounts     it has as many parts and atoms as any text of the query
 use Rattle.std.specs.Prelude.{◌≡◌, ℕ, ◌+◌, ◌≤◌, List, length}
 use Rattle.std.specs.Str.{chars, IsUtf8}
-use Rattle.cs_base.specs.declared.limits.TheConstants.{MAX_QUERY_BYTES}
-use Rattle.cs_base.specs.declared.query.Query.{Query}
+use Rattle.cs_base.specs.declared.content.limits.TheConstants.{MAX_QUERY_BYTES}
+use Rattle.cs_base.specs.declared.content.query.Query.{Query}
 use Rattle.cs_model.specs.Tokens.{tokens}
 use Rattle.cs_model.specs.Grammar.{steps, query_of}
 use Rattle.cs_model.specs.Refusals.{IsAccepted, IsOfGrammar, depth, parts_in, atoms_in}

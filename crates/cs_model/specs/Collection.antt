@@ -45,9 +45,9 @@ use Rattle.std.specs.List.{list_any, list_all, filter_map, enumerate_from, slice
 use Rattle.std.specs.Int.{is_in_range}
 use Rattle.std.specs.Str.{is_utf8}
 use Rattle.std.specs.Str.Lines.{lines}
-use Rattle.cs_base.specs.Bytes.{tab, line_feed, space, double_quote, digit_0, digit_9, colon, semicolon, equals_sign, backslash, letter_a, letter_z, tilde, byte_order_mark}
-use Rattle.cs_base.specs.declared.doc.Doc.{Doc}
-use Rattle.cs_base.specs.declared.limits.TheConstants.{MAX_COLLECTION_BYTES, MAX_LINE_BYTES, MAX_DOC_WORDS, MAX_DOCS, MAX_NAME_BYTES}
+use Rattle.cs_base.specs.content.Bytes.{tab, line_feed, space, double_quote, digit_0, digit_9, colon, semicolon, equals_sign, backslash, letter_a, letter_z, tilde, byte_order_mark}
+use Rattle.cs_base.specs.declared.content.doc.Doc.{Doc}
+use Rattle.cs_base.specs.declared.content.limits.TheConstants.{MAX_COLLECTION_BYTES, MAX_LINE_BYTES, MAX_DOC_WORDS, MAX_DOCS, MAX_NAME_BYTES}
 use Rattle.cs_model.specs.First.{unless, first_reason}
 use Rattle.cs_model.specs.KeyText.{norm}
 use Rattle.cs_model.specs.Words.{is_filled, words, slug}

@@ -30,12 +30,12 @@ use Rattle.std.specs.List.Sorted.{IsStrictlySortedBy}
 use Rattle.std.specs.Ordering.{nat_cmp}
 use Rattle.std.specs.Cmp.Lexicographic.{slice_cmp}
 use Rattle.std.specs.FinMap as map
-use Rattle.cs_base.specs.Members.{members_in}
-use Rattle.cs_base.specs.Orders.{by_row, by_spot}
-use Rattle.cs_base.specs.declared.doc.Doc.{Doc}
-use Rattle.cs_base.specs.declared.doc.Row.{Row}
-use Rattle.cs_base.specs.declared.limits.TheConstants.{MAX_ROWS, MAX_WORDS}
-use Rattle.cs_base.specs.declared.scores.TheConstants.{BEHIND_TITLE}
+use Rattle.cs_base.specs.content.Members.{members_in}
+use Rattle.cs_base.specs.content.Orders.{by_row, by_spot}
+use Rattle.cs_base.specs.declared.content.doc.Doc.{Doc}
+use Rattle.cs_base.specs.declared.content.doc.Row.{Row}
+use Rattle.cs_base.specs.declared.content.limits.TheConstants.{MAX_ROWS, MAX_WORDS}
+use Rattle.cs_base.specs.declared.content.scores.TheConstants.{BEHIND_TITLE}
 use Rattle.cs_model.specs.Collection.{CollectionRefusal, too_many_rows, too_many_words, docs_refusal, documents, facet_words}
 use Rattle.cs_model.specs.First.{unless, first_reason}
 use Rattle.cs_model.specs.Scores.{Scores, SCORES}

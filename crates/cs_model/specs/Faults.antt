@@ -16,8 +16,8 @@
 --
 -- The words that stand for E are memory, read, head, body, head too long, path and method. A place is 0 at the first byte.
 use Rattle.std.specs.Prelude.{ℕ, List, codes}
-use Rattle.cs_base.specs.declared.query.Which.{Which}
-use Rattle.cs_base.specs.declared.query.Which.TheVariants as limits
+use Rattle.cs_base.specs.declared.content.query.Which.{Which}
+use Rattle.cs_base.specs.declared.content.query.Which.TheVariants as limits
 use Rattle.serde_json.specs.Data.{Data, object, string, number, unsigned, no_members, member}
 use Rattle.serde_json.specs.Written.{compact_text}
 

@@ -27,15 +27,15 @@
 --   query_of_tokens ts        the query of the tokens ts; of none the empty query
 --   query_of cs               the query of the characters cs, each open bracket closed at the end; of none the empty query
 use Rattle.std.specs.Prelude.{ℕ, List, [], ◌∷◌, ◌++◌, Bool, false, ◌&&◌, ◌==◌, fold, if◌then◌else◌}
-use Rattle.cs_base.specs.Bytes.{dash, dot}
-use Rattle.cs_base.specs.declared.query.Link.{Link}
-use Rattle.cs_base.specs.declared.query.Link.TheVariants.{Phrase, Near}
-use Rattle.cs_base.specs.declared.query.Query.{Query, roll-Query}
-use Rattle.cs_base.specs.declared.query.Part.{Part, roll-Part, out-Part}
-use Rattle.cs_base.specs.declared.query.Chain.{Chain, roll-Chain, out-Chain}
-use Rattle.cs_base.specs.declared.query.Linked.{roll-Linked}
-use Rattle.cs_base.specs.declared.query.Atom.{Atom, Prefix, Exact, roll-Atom}
-use Rattle.cs_base.specs.declared.query.Atom.TheOpen.{Atom-F}
+use Rattle.cs_base.specs.content.Bytes.{dash, dot}
+use Rattle.cs_base.specs.declared.content.query.Link.{Link}
+use Rattle.cs_base.specs.declared.content.query.Link.TheVariants.{Phrase, Near}
+use Rattle.cs_base.specs.declared.content.query.Query.{Query, roll-Query}
+use Rattle.cs_base.specs.declared.content.query.Part.{Part, roll-Part, out-Part}
+use Rattle.cs_base.specs.declared.content.query.Chain.{Chain, roll-Chain, out-Chain}
+use Rattle.cs_base.specs.declared.content.query.Linked.{roll-Linked}
+use Rattle.cs_base.specs.declared.content.query.Atom.{Atom, Prefix, Exact, roll-Atom}
+use Rattle.cs_base.specs.declared.content.query.Atom.TheOpen.{Atom-F}
 use Rattle.cs_model.specs.declared.kinds.Level.{Level}
 use Rattle.cs_model.specs.declared.kinds.Tie.{Tie}
 use Rattle.cs_model.specs.declared.kinds.Tie.TheVariants.{Begins, Alternative, Linked as LinkedBy}

@@ -8,9 +8,9 @@
 --   SpacesSeparate      the parts of two texts with a space between them are those of the first and then those of the second
 use Rattle.std.specs.Prelude.{◌≡◌, ℕ, ◌≤◌, nat_eq, not, Bool, true, false, List, [], ◌∷◌, ◌++◌, length, encode_utf8_all}
 use Rattle.std.specs.List.{AllByRecursion, starts_with}
-use Rattle.cs_base.specs.Bytes.{space, dot}
-use Rattle.cs_base.specs.declared.query.Query.{Query, out-Query}
-use Rattle.cs_base.specs.declared.query.Part.{out-Part}
+use Rattle.cs_base.specs.content.Bytes.{space, dot}
+use Rattle.cs_base.specs.declared.content.query.Query.{Query, out-Query}
+use Rattle.cs_base.specs.declared.content.query.Part.{out-Part}
 use Rattle.cs_model.specs.Words.{is_word_char}
 use Rattle.cs_model.specs.Tokens.{Token, Word, Value, Run, Gap, tokens, size}
 use Rattle.cs_model.specs.Grammar.{query_of}

@@ -23,15 +23,15 @@
 --   keys_of q          the keys of a query
 use Rattle.std.specs.Prelude.{ℕ, ◌-◌, Bool, ◌&&◌, ◌==◌, not, nat_lt, if◌then◌else◌, List, [], ◌∷◌, ◌++◌, map, filter, length, take, drop, Option, Some, None, chars, encode_utf8_all}
 use Rattle.std.specs.List.{list_any}
-use Rattle.cs_base.specs.Bytes.{colon}
-use Rattle.cs_base.specs.declared.key.Keys.{Keys}
-use Rattle.cs_base.specs.declared.key.Narrower.{Narrower}
-use Rattle.cs_base.specs.declared.query.Query.{Query, roll-Query, out-Query}
-use Rattle.cs_base.specs.declared.query.Part.{Part, out-Part}
-use Rattle.cs_base.specs.declared.query.Chain.{Chain, roll-Chain, out-Chain}
-use Rattle.cs_base.specs.declared.query.Linked.{Linked, roll-Linked, out-Linked}
-use Rattle.cs_base.specs.declared.query.Atom.{Atom, Prefix, out-Atom}
-use Rattle.cs_base.specs.declared.query.Atom.TheOpen.{Atom-F}
+use Rattle.cs_base.specs.content.Bytes.{colon}
+use Rattle.cs_base.specs.declared.content.key.Keys.{Keys}
+use Rattle.cs_base.specs.declared.content.key.Narrower.{Narrower}
+use Rattle.cs_base.specs.declared.content.query.Query.{Query, roll-Query, out-Query}
+use Rattle.cs_base.specs.declared.content.query.Part.{Part, out-Part}
+use Rattle.cs_base.specs.declared.content.query.Chain.{Chain, roll-Chain, out-Chain}
+use Rattle.cs_base.specs.declared.content.query.Linked.{Linked, roll-Linked, out-Linked}
+use Rattle.cs_base.specs.declared.content.query.Atom.{Atom, Prefix, out-Atom}
+use Rattle.cs_base.specs.declared.content.query.Atom.TheOpen.{Atom-F}
 use Rattle.cs_model.specs.Grammar.{on_last, chain_of, with_chains}
 use Rattle.cs_model.specs.Canonical.{canonical}
 

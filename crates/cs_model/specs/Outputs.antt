@@ -32,9 +32,9 @@ use Rattle.std.specs.Prelude.{◌≡◌, ◌⊎◌, ℕ, Bool, nat_le, List, [],
 use Rattle.std.specs.List.{flat_map, prefix_len}
 use Rattle.std.specs.Option.{is_none}
 use Rattle.std.specs.Str.{is_utf8, bytes_eq}
-use Rattle.cs_base.specs.Bytes.{line_feed}
-use Rattle.cs_base.specs.Outside.{Grew, GrewByPrefix}
-use Rattle.cs_base.specs.declared.limits.TheConstants.{MAX_SCRIPT_LINE_BYTES}
+use Rattle.cs_base.specs.content.Bytes.{line_feed}
+use Rattle.cs_base.specs.outside.Outside.{Grew, GrewByPrefix}
+use Rattle.cs_base.specs.declared.content.limits.TheConstants.{MAX_SCRIPT_LINE_BYTES}
 use Rattle.cs_model.specs.Collection.{collection_lines, in_line}
 use Rattle.cs_model.specs.Words.{is_filled}
 use Rattle.cs_model.specs.Corpus.{Corpus}

@@ -36,10 +36,10 @@ use Rattle.std.specs.Char.{is_ascii_digit}
 use Rattle.std.specs.Str.{bytes_eq, chars}
 use Rattle.std.specs.Str.Lossy.{utf8_lossy}
 use Rattle.form_urlencoded.specs.Form.{raw_pairs, decode}
-use Rattle.cs_base.specs.Bytes.{comma, digit_0}
-use Rattle.cs_base.specs.Members.{members_in}
-use Rattle.cs_base.specs.declared.query.Query.{out-Query}
-use Rattle.cs_base.specs.declared.limits.TheConstants.{MAX_COUNT_DIGITS, MAX_SHOWN, MAX_OFFSET, MAX_FACETS, DEFAULT_HITS, DEFAULT_COMPLETIONS, MAX_PARTS}
+use Rattle.cs_base.specs.content.Bytes.{comma, digit_0}
+use Rattle.cs_base.specs.content.Members.{members_in}
+use Rattle.cs_base.specs.declared.content.query.Query.{out-Query}
+use Rattle.cs_base.specs.declared.content.limits.TheConstants.{MAX_COUNT_DIGITS, MAX_SHOWN, MAX_OFFSET, MAX_FACETS, DEFAULT_HITS, DEFAULT_COMPLETIONS, MAX_PARTS}
 use Rattle.cs_model.specs.KeyText.{norm}
 use Rattle.cs_model.specs.Collection.{has_name_form}
 use Rattle.cs_model.specs.Words.{is_filled}

@@ -21,10 +21,10 @@
 --   QueriesHaveFewParts             the law that a query has at most `MAX_PARTS` parts at its top
 use Rattle.std.specs.Prelude.{◌≡◌, ℕ, ◌+◌, ◌<◌, ◌≤◌, List, [], ◌∷◌, Bool, true, false, not, nat_lt, nat_le, length, take, Option, None, Some, encode_utf8_all}
 use Rattle.std.specs.Str.{chars, IsUtf8}
-use Rattle.cs_base.specs.declared.limits.TheConstants.{MAX_PLAIN_WORD_BYTES, MAX_QUERY_BYTES, MAX_PARTS, MAX_ATOMS, MAX_DEPTH}
-use Rattle.cs_base.specs.declared.query.Query.{Query, out-Query}
-use Rattle.cs_base.specs.declared.query.Which.{Which}
-use Rattle.cs_base.specs.declared.query.Which.TheVariants as limits
+use Rattle.cs_base.specs.declared.content.limits.TheConstants.{MAX_PLAIN_WORD_BYTES, MAX_QUERY_BYTES, MAX_PARTS, MAX_ATOMS, MAX_DEPTH}
+use Rattle.cs_base.specs.declared.content.query.Query.{Query, out-Query}
+use Rattle.cs_base.specs.declared.content.query.Which.{Which}
+use Rattle.cs_base.specs.declared.content.query.Which.TheVariants as limits
 use Rattle.cs_model.specs.declared.kinds.Tie.{Tie}
 use Rattle.cs_model.specs.declared.kinds.Tie.TheVariants.{Begins}
 use Rattle.cs_model.specs.Collection.{has_name_form}

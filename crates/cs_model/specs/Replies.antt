@@ -23,7 +23,7 @@ use Rattle.std.specs.Prelude.{ℕ, ◌==◌, if◌then◌else◌, List, [], ◌�
 use Rattle.serde_json.specs.Data.{Data, array, object, string, number, unsigned, Members, no_members, member, put}
 use Rattle.serde_json.specs.View.{items_of}
 use Rattle.serde_json.specs.Written.{compact_text}
-use Rattle.cs_base.specs.Bytes.{colon}
+use Rattle.cs_base.specs.content.Bytes.{colon}
 
 -- a word as it is shown, that of a facet without its leading colon; the empty text stays empty
 abbrev pub shown_word : List ℕ → List ℕ

@@ -14,8 +14,8 @@
 use Rattle.std.specs.Prelude.{ℕ, List, [], map, length, take, drop}
 use Rattle.std.specs.Option.{unwrap_or}
 use Rattle.std.specs.FinMap as map
-use Rattle.cs_base.specs.declared.query.Query.{Query}
-use Rattle.cs_base.specs.declared.doc.Scored.{Scored}
+use Rattle.cs_base.specs.declared.content.query.Query.{Query}
+use Rattle.cs_base.specs.declared.content.doc.Scored.{Scored}
 use Rattle.cs_model.specs.Corpus.{Corpus}
 use Rattle.cs_model.specs.Answers.{Completion, PartRows, parts_of, hits, ranked, table, facet_table}
 use Rattle.cs_model.specs.Replies.{Reply, Shown, HitShown, FacetShown, shown_word}

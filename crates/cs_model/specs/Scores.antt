@@ -5,7 +5,7 @@
 --   Scores    the score of a title word's row, of a facet word's and of a text word's
 --   SCORES    those of every collection
 use Rattle.std.specs.Prelude.{ℕ}
-use Rattle.cs_base.specs.declared.scores.TheConstants.{TITLE_SCORE, FACET_SCORE, TEXT_SCORE}
+use Rattle.cs_base.specs.declared.content.scores.TheConstants.{TITLE_SCORE, FACET_SCORE, TEXT_SCORE}
 
 -- one score for each column
 pub record Scores : Type 0 where

@@ -20,7 +20,7 @@ use Rattle.std.specs.Char.{encode_utf8}
 use Rattle.cs_model.specs.declared.kinds.Class.{Class}
 use Rattle.cs_model.specs.declared.kinds.Class.TheVariants as c
 use Rattle.cs_model.specs.Words.{is_word_char}
-use Rattle.cs_base.specs.Bytes.{dollar, apostrophe, dash, dot, colon, open_bracket, close_bracket, low_line, bar}
+use Rattle.cs_base.specs.content.Bytes.{dollar, apostrophe, dash, dot, colon, open_bracket, close_bracket, low_line, bar}
 
 -- what a character is to the grammar: a word character, one of the signs . - _ ' $ | : [ ], or any other
 abbrev pub class_of : ℕ → Class

@@ -13,9 +13,9 @@ use Rattle.std.specs.List.{AllByRecursion}
 use Rattle.std.specs.Option.{option_map}
 use Rattle.std.proofs.lemmas.Bool.{and_from, le-leb}
 use Rattle.std.proofs.lemmas.Nat.{from_be_bytes-to_be_bytes_4}
-use Rattle.cs_base.specs.declared.block.BlockHead.{BlockHead}
-use Rattle.cs_base.specs.declared.doc.Post.{Post}
-use Rattle.cs_base.specs.declared.limits.TheConstants.{MAX_WORD_BYTES}
+use Rattle.cs_base.specs.declared.index.block.BlockHead.{BlockHead}
+use Rattle.cs_base.specs.declared.content.doc.Post.{Post}
+use Rattle.cs_base.specs.declared.content.limits.TheConstants.{MAX_WORD_BYTES}
 use Rattle.cs_model.specs.Scores.{SCORES}
 use Rattle.cs_model_index.specs.BlockLaws.{OneReading}
 use Rattle.cs_model_index.specs.Blocks.{block_bytes, IsShaped}

@@ -3,7 +3,7 @@
 --   BlocksAreRead, blocks_are_read     a block that breaks no rule is that of the posts that are read of it
 use Rattle.std.proofs.Common.{◌≡◌, ℕ, ◌<◌, ◌^◌, List, length, None, subst, sym}
 use Rattle.std.specs.Prelude.{All}
-use Rattle.cs_base.specs.declared.block.BlockHead.{BlockHead}
+use Rattle.cs_base.specs.declared.index.block.BlockHead.{BlockHead}
 use Rattle.cs_model.specs.Scores.{SCORES}
 use Rattle.cs_model_index.specs.BlockLaws.{AcceptedAreBlocks, OneReading}
 use Rattle.cs_model_index.specs.BlockRules.{judged, rows_read, IsBlock}

@@ -22,9 +22,9 @@ use Rattle.std.proofs.lemmas.Map.Text.{is_eq-slice_cmp}
 use Rattle.std.proofs.lemmas.Slice.Eq.{bytes_eq-Decides}
 use Rattle.cs_base.proofs.MembersLemmas.{members_are, is_member-listed}
 use Rattle.cs_base.proofs.OrdersLemmas.{by_row_total, by_row_exact}
-use Rattle.cs_base.specs.Members.{members_in}
-use Rattle.cs_base.specs.Orders.{by_row, by_spot}
-use Rattle.cs_base.specs.declared.doc.Row.{Row}
+use Rattle.cs_base.specs.content.Members.{members_in}
+use Rattle.cs_base.specs.content.Orders.{by_row, by_spot}
+use Rattle.cs_base.specs.declared.content.doc.Row.{Row}
 use Rattle.cs_model.specs.Corpus.{Corpus, by_number, distinct_words, IsCorpus}
 use Rattle.cs_model_index.proofs.NumberedLemmas.{rows_of_numbered}
 use Rattle.cs_model_index.specs.Images.{Image, block_of, image_rows, image_corpus, IsImage}

@@ -8,14 +8,14 @@ use Rattle.std.specs.List.{range_with_len, enumerate_from}
 use Rattle.std.specs.Ordering.{nat_cmp}
 use Rattle.std.specs.Cmp.Lexicographic.{slice_cmp}
 use Rattle.std.proofs.lemmas.Cmp.{nat_list_cmp_total}
-use Rattle.cs_base.specs.GapCode.{code_in, code, looked_at, value_of, first_code}
-use Rattle.cs_base.specs.declared.block.Broken.{Broken}
-use Rattle.cs_base.specs.declared.doc.Row.{Row}
+use Rattle.cs_base.specs.index.GapCode.{code_in, code, looked_at, value_of, first_code}
+use Rattle.cs_base.specs.declared.index.block.Broken.{Broken}
+use Rattle.cs_base.specs.declared.content.doc.Row.{Row}
 use Rattle.caseless.proofs.Computing.{caseless}
 use Rattle.ucd_category.proofs.Computing.{ucd_category}
 use Rattle.unicode.specs.GeneralCategory.{general_category}
 use Rattle.cs_base.proofs.OrdersLemmas.{by_row_total}
-use Rattle.cs_base.specs.Orders.{by_row}
+use Rattle.cs_base.specs.content.Orders.{by_row}
 use Rattle.cs_model.specs.KeyText.{norm}
 use Rattle.cs_model.specs.Words.{is_word_char, cut, words}
 use Rattle.cs_model.specs.Collection.{documents}

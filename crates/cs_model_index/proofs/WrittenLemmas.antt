@@ -13,7 +13,7 @@ use Rattle.std.specs.Str.{is_utf8}
 use Rattle.std.proofs.lemmas.Bool.{and_from, le-leb, eq-eqb}
 use Rattle.std.proofs.lemmas.Nat.{from_be_bytes-to_be_bytes_4}
 use Rattle.std.proofs.lemmas.Slice.Eq.{bytes_eq-Decides}
-use Rattle.cs_base.specs.declared.block.BlockHead.{BlockHead}
+use Rattle.cs_base.specs.declared.index.block.BlockHead.{BlockHead}
 use Rattle.cs_model.specs.First.{unless, first_reason}
 use Rattle.cs_model_index.specs.BlockLaws.{OneReading}
 use Rattle.cs_model_index.specs.FileRules.{tried, field_breaks, is_word, follows, is_onward, is_joined, is_of_one_kind, is_sized, is_parted, file_rules, damage, IsIndexFile}

@@ -5,8 +5,8 @@
 --   AcceptedAreBlocks   no rule is broken exactly where the bytes are the block of some rows
 --   OneReading          the block of rows breaks no rule, and these rows are read of it
 use Rattle.std.specs.Prelude.{◌≡◌, ◌↔◌, ℕ, ◌<◌, ◌^◌, List, length, All, None}
-use Rattle.cs_base.specs.declared.block.BlockHead.{BlockHead}
-use Rattle.cs_base.specs.declared.doc.Post.{Post}
+use Rattle.cs_base.specs.declared.index.block.BlockHead.{BlockHead}
+use Rattle.cs_base.specs.declared.content.doc.Post.{Post}
 use Rattle.cs_model.specs.Scores.{SCORES}
 use Rattle.cs_model_index.specs.Blocks.{IsShaped}
 use Rattle.cs_model_index.specs.BlockRules.{judged, rows_read, IsBlock}

@@ -26,12 +26,12 @@ use Rattle.std.specs.Prelude.{◌≡◌, ℕ, zero, suc, ◌+◌, ◌-◌, ◌*�
 use Rattle.std.specs.Int.{w16, w32, from_be_bytes}
 use Rattle.std.specs.Option.{is_some, option_map, option_or, unwrap_or}
 use Rattle.std.specs.Ordering.{is_lt}
-use Rattle.cs_base.specs.GapCode.{code, first_code}
-use Rattle.cs_base.specs.Orders.{by_place}
-use Rattle.cs_base.specs.declared.block.BlockHead.{BlockHead}
-use Rattle.cs_base.specs.declared.block.Broken.{Broken}
-use Rattle.cs_base.specs.declared.doc.Post.{Post}
-use Rattle.cs_base.specs.declared.limits.TheConstants.{MAX_POSITION}
+use Rattle.cs_base.specs.index.GapCode.{code, first_code}
+use Rattle.cs_base.specs.content.Orders.{by_place}
+use Rattle.cs_base.specs.declared.index.block.BlockHead.{BlockHead}
+use Rattle.cs_base.specs.declared.index.block.Broken.{Broken}
+use Rattle.cs_base.specs.declared.content.doc.Post.{Post}
+use Rattle.cs_base.specs.declared.content.limits.TheConstants.{MAX_POSITION}
 use Rattle.cs_model.specs.Scores.{Scores}
 use Rattle.cs_model_index.specs.Blocks.{AreWritable, block_bytes}
 use Rattle.cs_model.specs.First.{first_reason}

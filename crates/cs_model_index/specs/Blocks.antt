@@ -12,11 +12,11 @@
 use Rattle.std.specs.Prelude.{◌≡◌, ℕ, ◌+◌, ◌-◌, ◌*◌, ◌^◌, ◌<◌, ◌≤◌, List, [], ◌∷◌, ◌++◌, map, flat_map, All}
 use Rattle.std.specs.Int.{w16, w32, to_be_bytes}
 use Rattle.std.specs.List.Sorted.{IsStrictlySortedBy}
-use Rattle.cs_base.specs.GapCode.{code}
-use Rattle.cs_base.specs.Orders.{by_place}
-use Rattle.cs_base.specs.declared.block.BlockHead.{BlockHead}
-use Rattle.cs_base.specs.declared.doc.Post.{Post}
-use Rattle.cs_base.specs.declared.limits.TheConstants.{MAX_WORDS}
+use Rattle.cs_base.specs.index.GapCode.{code}
+use Rattle.cs_base.specs.content.Orders.{by_place}
+use Rattle.cs_base.specs.declared.index.block.BlockHead.{BlockHead}
+use Rattle.cs_base.specs.declared.content.doc.Post.{Post}
+use Rattle.cs_base.specs.declared.content.limits.TheConstants.{MAX_WORDS}
 
 -- each gap by its code, 0 in the same document as the row before; of no rows no bytes
 unfoldable pub gap_column : ℕ → List Post → List ℕ

@@ -30,10 +30,10 @@ use Rattle.std.specs.Option.{option_map, option_or, unwrap_or}
 use Rattle.std.specs.Ordering.{nat_cmp, is_lt}
 use Rattle.std.specs.Cmp.Lexicographic.{slice_cmp}
 use Rattle.std.specs.Str.{bytes_eq, is_utf8}
-use Rattle.cs_base.specs.declared.block.BlockHead.{BlockHead}
-use Rattle.cs_base.specs.declared.block.Broken.{Broken}
-use Rattle.cs_base.specs.declared.doc.Post.{Post}
-use Rattle.cs_base.specs.declared.limits.TheConstants.{MAX_DOCS, MAX_WORDS, MAX_ROWS, MAX_WORD_BYTES, MAX_PLAIN_WORD_BYTES, MAX_LINE_BYTES}
+use Rattle.cs_base.specs.declared.index.block.BlockHead.{BlockHead}
+use Rattle.cs_base.specs.declared.index.block.Broken.{Broken}
+use Rattle.cs_base.specs.declared.content.doc.Post.{Post}
+use Rattle.cs_base.specs.declared.content.limits.TheConstants.{MAX_DOCS, MAX_WORDS, MAX_ROWS, MAX_WORD_BYTES, MAX_PLAIN_WORD_BYTES, MAX_LINE_BYTES}
 use Rattle.cs_model.specs.Collection.{has_name_form}
 use Rattle.cs_model.specs.First.{unless, first_reason}
 use Rattle.cs_model.specs.Scores.{SCORES}

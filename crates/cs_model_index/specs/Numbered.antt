@@ -12,8 +12,8 @@
 use Rattle.std.specs.Prelude.{◌≡◌, ℕ, true, List, [], map, slice_index_or}
 use Rattle.std.specs.List.{list_any, position_or_len}
 use Rattle.std.specs.Str.{bytes_eq}
-use Rattle.cs_base.specs.declared.doc.Post.{Post}
-use Rattle.cs_base.specs.declared.doc.Row.{Row}
+use Rattle.cs_base.specs.declared.content.doc.Post.{Post}
+use Rattle.cs_base.specs.declared.content.doc.Row.{Row}
 
 -- the first word has the number 0; past the last word the empty text
 abbrev pub word_at : List (List ℕ) → ℕ → List ℕ

@@ -5,10 +5,10 @@
 --   due-..         how many blocks and titles may be read for a request
 use Rattle.std.proofs.Common.{◌≡◌, ℕ, List, [], ◌∷◌, refl, codes, true, false}
 use Rattle.std.specs.Char.{encode_utf8}
-use Rattle.cs_base.specs.declared.plan.Plan.TheVariants.{Same, Narrow, Extend, Fresh}
-use Rattle.cs_base.specs.declared.query.Query.{out-roll-Query}
-use Rattle.cs_base.specs.declared.query.Part.{out-roll-Part}
-use Rattle.cs_base.specs.declared.query.Chain.{out-roll-Chain}
+use Rattle.cs_base.specs.declared.index.plan.Plan.TheVariants.{Same, Narrow, Extend, Fresh}
+use Rattle.cs_base.specs.declared.content.query.Query.{out-roll-Query}
+use Rattle.cs_base.specs.declared.content.query.Part.{out-roll-Part}
+use Rattle.cs_base.specs.declared.content.query.Chain.{out-roll-Chain}
 use Rattle.cs_model.specs.Words.{is_word_char}
 use Rattle.cs_model.specs.Grammar.{query_of}
 use Rattle.cs_model.specs.Requests.{Request}

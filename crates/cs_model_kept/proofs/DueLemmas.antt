@@ -4,15 +4,15 @@
 --   met_prefix_atom, met_exact_atom, met_join_atom     those of each atom
 use Rattle.std.proofs.Common.{◌≡◌, ℕ, ◌+◌, List, [], map, sym, ap, ◌∙◌, Bool}
 use Rattle.std.specs.Prelude.{sum}
-use Rattle.cs_base.specs.declared.query.Link.{Link}
-use Rattle.cs_base.specs.declared.query.Query.{Query, roll-Query}
-use Rattle.cs_base.specs.declared.query.Part.{Part, roll-Part}
-use Rattle.cs_base.specs.declared.query.Chain.{Chain, roll-Chain}
-use Rattle.cs_base.specs.declared.query.Linked.{Linked, roll-Linked}
-use Rattle.cs_base.specs.declared.query.Atom.{Atom, Prefix, Exact, roll-Atom}
-use Rattle.cs_base.specs.declared.query.Atom.TheVariants.{rolls-Prefix, rolls-Exact}
-use Rattle.cs_base.specs.declared.query.Atom.TheOpen.{Atom-F}
-use Rattle.cs_base.specs.declared.query.Atom.TheFolds.{fold-roll-Query, fold-roll-Part, fold-roll-Chain, fold-roll-Linked, fold-roll-Atom}
+use Rattle.cs_base.specs.declared.content.query.Link.{Link}
+use Rattle.cs_base.specs.declared.content.query.Query.{Query, roll-Query}
+use Rattle.cs_base.specs.declared.content.query.Part.{Part, roll-Part}
+use Rattle.cs_base.specs.declared.content.query.Chain.{Chain, roll-Chain}
+use Rattle.cs_base.specs.declared.content.query.Linked.{Linked, roll-Linked}
+use Rattle.cs_base.specs.declared.content.query.Atom.{Atom, Prefix, Exact, roll-Atom}
+use Rattle.cs_base.specs.declared.content.query.Atom.TheVariants.{rolls-Prefix, rolls-Exact}
+use Rattle.cs_base.specs.declared.content.query.Atom.TheOpen.{Atom-F}
+use Rattle.cs_base.specs.declared.content.query.Atom.TheFolds.{fold-roll-Query, fold-roll-Part, fold-roll-Chain, fold-roll-Linked, fold-roll-Atom}
 use Rattle.cs_model.specs.Collection.{named}
 use Rattle.cs_model_kept.specs.Due.{Division, met_prefix, met_word, atom_met, chain_met, linked_met, part_met, query_met, met_of_atom, met_of_linked, met_of_chain, met_of_part, met_of_query}
 

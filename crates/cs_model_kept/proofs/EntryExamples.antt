@@ -5,10 +5,10 @@
 --   size-..           their sizes
 use Rattle.std.proofs.Common.{◌≡◌, ℕ, [], ◌∷◌, refl, ap, codes}
 use Rattle.std.specs.Char.{encode_utf8}
-use Rattle.cs_base.specs.declared.doc.Base.TheVariants as base
-use Rattle.cs_base.specs.declared.doc.Scored.{Scored}
-use Rattle.cs_base.specs.declared.plan.Kept.TheVariants as kept
-use Rattle.cs_base.specs.declared.plan.Plan.TheVariants.{Fresh}
+use Rattle.cs_base.specs.declared.content.doc.Base.TheVariants as base
+use Rattle.cs_base.specs.declared.content.doc.Scored.{Scored}
+use Rattle.cs_base.specs.declared.index.plan.Kept.TheVariants as kept
+use Rattle.cs_base.specs.declared.index.plan.Plan.TheVariants.{Fresh}
 use Rattle.cs_model.specs.Words.{is_word_char}
 use Rattle.cs_model.specs.Grammar.{query_of}
 use Rattle.cs_model.proofs.AnswersExamples.{row, worked, titles-are, typ_rows}

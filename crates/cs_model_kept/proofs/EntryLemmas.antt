@@ -21,12 +21,12 @@ use Rattle.std.proofs.lemmas.List.Elements.{filter-append, recursion_from_All}
 use Rattle.std.proofs.lemmas.List.Folds.{list_any_at, list_all-append}
 use Rattle.std.proofs.lemmas.List.Kept.{IsStrictlySortedBy-filter}
 use Rattle.std.proofs.lemmas.Map.Views.{any-filter_same}
-use Rattle.cs_base.specs.declared.doc.Base.{Base}
-use Rattle.cs_base.specs.declared.doc.Base.TheVariants as base
-use Rattle.cs_base.specs.declared.doc.Row.{Row}
-use Rattle.cs_base.specs.declared.doc.Scored.{Scored}
-use Rattle.cs_base.specs.declared.query.Query.{Query, out-Query, roll-out-Query}
-use Rattle.cs_base.specs.declared.query.Part.{Part}
+use Rattle.cs_base.specs.declared.content.doc.Base.{Base}
+use Rattle.cs_base.specs.declared.content.doc.Base.TheVariants as base
+use Rattle.cs_base.specs.declared.content.doc.Row.{Row}
+use Rattle.cs_base.specs.declared.content.doc.Scored.{Scored}
+use Rattle.cs_base.specs.declared.content.query.Query.{Query, out-Query, roll-out-Query}
+use Rattle.cs_base.specs.declared.content.query.Part.{Part}
 use Rattle.cs_base.proofs.MembersLemmas.{all_then, keys-rise, members_are}
 use Rattle.cs_model.specs.Answers.{PartRows, in_doc, is_listed, agrees, docs_of, hits, pairs, last_rows, greatest_score, parts_of, rows_of_part, score, scored}
 use Rattle.cs_model.specs.Corpus.{Corpus}

@@ -8,9 +8,9 @@
 --   first_parts_stay  the law
 use Rattle.std.proofs.Common.{◌≡◌, ℕ, ◌-◌, ◌≤◌, List, [], ◌∷◌, ◌++◌, map, take, length, refl, sym, ◌∙◌, ap, subst, arith, append_assoc, length-append}
 use Rattle.std.specs.Prelude.{encode_utf8_all}
-use Rattle.cs_base.specs.declared.query.Part.{Part}
-use Rattle.cs_base.specs.declared.query.Query.{Query, roll-Query, out-Query, out-roll-Query}
-use Rattle.cs_base.specs.declared.query.Atom.{Atom, Prefix, Exact}
+use Rattle.cs_base.specs.declared.content.query.Part.{Part}
+use Rattle.cs_base.specs.declared.content.query.Query.{Query, roll-Query, out-Query, out-roll-Query}
+use Rattle.cs_base.specs.declared.content.query.Atom.{Atom, Prefix, Exact}
 use Rattle.cs_model.specs.declared.kinds.Level.{Level}
 use Rattle.cs_model.specs.declared.kinds.Tie.{Tie}
 use Rattle.cs_model.specs.declared.kinds.Tie.TheVariants.{Begins, Alternative, Linked as LinkedBy}

@@ -8,19 +8,19 @@
 use Rattle.std.proofs.Common.{◌≡◌, ℕ, List, [], ◌∷◌, refl, ap, Some, None, codes}
 use Rattle.std.specs.Char.{encode_utf8}
 use Rattle.std.specs.Str.{chars}
-use Rattle.cs_base.specs.declared.key.Keys.{Keys}
-use Rattle.cs_base.specs.declared.query.Query.{Query, out-roll-Query}
-use Rattle.cs_base.specs.declared.query.Part.{out-roll-Part}
-use Rattle.cs_base.specs.declared.query.Chain.{out-roll-Chain}
+use Rattle.cs_base.specs.declared.content.key.Keys.{Keys}
+use Rattle.cs_base.specs.declared.content.query.Query.{Query, out-roll-Query}
+use Rattle.cs_base.specs.declared.content.query.Part.{out-roll-Part}
+use Rattle.cs_base.specs.declared.content.query.Chain.{out-roll-Chain}
 use Rattle.cs_model.specs.Words.{is_word_char}
 use Rattle.cs_model.specs.Corpus.{Corpus}
 use Rattle.cs_model.specs.Grammar.{query_of}
 use Rattle.cs_model.specs.Keys.{keys_of}
 use Rattle.cs_model.proofs.CanonicalLemmas.{prefix_shape, exact_shape}
 use Rattle.cs_model.proofs.AttachedText.{rolled_query, rolled_part, rolled_chain, rolled_linked}
-use Rattle.cs_base.specs.declared.plan.Plan.TheVariants.{Same, Narrow, Extend, Fresh}
-use Rattle.cs_base.specs.declared.plan.Kept.{Kept}
-use Rattle.cs_base.specs.declared.plan.Kept.TheVariants as kept
+use Rattle.cs_base.specs.declared.index.plan.Plan.TheVariants.{Same, Narrow, Extend, Fresh}
+use Rattle.cs_base.specs.declared.index.plan.Kept.{Kept}
+use Rattle.cs_base.specs.declared.index.plan.Kept.TheVariants as kept
 use Rattle.cs_model_kept.proofs.ShorterQueries.{out-prefix, out-exact}
 use Rattle.cs_model_kept.specs.declared.limits.TheConstants.{MAX_ENTRIES}
 use Rattle.cs_model_kept.specs.Entries.{Entry, entry_of}

@@ -21,20 +21,20 @@ use Rattle.std.proofs.lemmas.List.Elements.{All-nil, All-push, All-map, All-weak
 use Rattle.std.proofs.lemmas.List.Kept.{IsStrictlySortedBy-filter}
 use Rattle.std.proofs.lemmas.Map.Views.{any-filter_same}
 use Rattle.std.proofs.lemmas.Str.{encodes-chars}
-use Rattle.cs_base.specs.Members.{members_in}
-use Rattle.cs_base.specs.Orders.{by_row}
-use Rattle.cs_base.specs.declared.doc.Base.{Base}
-use Rattle.cs_base.specs.declared.doc.Base.TheVariants as base
-use Rattle.cs_base.specs.declared.doc.Row.{Row}
-use Rattle.cs_base.specs.declared.doc.Scored.{Scored}
-use Rattle.cs_base.specs.declared.query.Link.{Link}
-use Rattle.cs_base.specs.declared.query.Query.{Query, out-Query}
-use Rattle.cs_base.specs.declared.query.Part.{Part, out-Part, roll-out-Part}
-use Rattle.cs_base.specs.declared.query.Chain.{Chain, roll-Chain, out-Chain, roll-out-Chain}
-use Rattle.cs_base.specs.declared.query.Linked.{Linked, out-Linked, roll-out-Linked}
-use Rattle.cs_base.specs.declared.query.Atom.{Atom, Prefix, roll-Atom, out-Atom, roll-out-Atom}
-use Rattle.cs_base.specs.declared.query.Atom.TheVariants.{rolls-Prefix}
-use Rattle.cs_base.specs.declared.query.Atom.TheOpen.{Atom-F}
+use Rattle.cs_base.specs.content.Members.{members_in}
+use Rattle.cs_base.specs.content.Orders.{by_row}
+use Rattle.cs_base.specs.declared.content.doc.Base.{Base}
+use Rattle.cs_base.specs.declared.content.doc.Base.TheVariants as base
+use Rattle.cs_base.specs.declared.content.doc.Row.{Row}
+use Rattle.cs_base.specs.declared.content.doc.Scored.{Scored}
+use Rattle.cs_base.specs.declared.content.query.Link.{Link}
+use Rattle.cs_base.specs.declared.content.query.Query.{Query, out-Query}
+use Rattle.cs_base.specs.declared.content.query.Part.{Part, out-Part, roll-out-Part}
+use Rattle.cs_base.specs.declared.content.query.Chain.{Chain, roll-Chain, out-Chain, roll-out-Chain}
+use Rattle.cs_base.specs.declared.content.query.Linked.{Linked, out-Linked, roll-out-Linked}
+use Rattle.cs_base.specs.declared.content.query.Atom.{Atom, Prefix, roll-Atom, out-Atom, roll-out-Atom}
+use Rattle.cs_base.specs.declared.content.query.Atom.TheVariants.{rolls-Prefix}
+use Rattle.cs_base.specs.declared.content.query.Atom.TheOpen.{Atom-F}
 use Rattle.cs_base.proofs.MembersLemmas.{members_are, is_member-listed, listing-rises}
 use Rattle.cs_base.proofs.OrdersLemmas.{by_row_total, by_row_exact}
 use Rattle.cs_model.specs.Answers.{PartRows, LinkedRows, begins, chained, is_linked, linked_to, parts_of, rows_of_atom, rows_of_chain, rows_of_linked, rows_of_part, union_of}

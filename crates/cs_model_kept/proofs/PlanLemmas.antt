@@ -10,11 +10,11 @@ use Rattle.std.specs.List.{Contains}
 use Rattle.std.proofs.Math.Seq.{take-append_seam}
 use Rattle.std.proofs.lemmas.Bool.Decides.{nat_tests}
 use Rattle.std.proofs.lemmas.List.Elements.{All-contains, Contains-append_left, Contains-append_right}
-use Rattle.cs_base.specs.declared.key.Narrower.{Narrower}
-use Rattle.cs_base.specs.declared.plan.Plan.{Plan}
-use Rattle.cs_base.specs.declared.plan.Plan.TheVariants.{Same, Narrow, Extend, Fresh}
-use Rattle.cs_base.specs.declared.query.Part.{Part}
-use Rattle.cs_base.specs.declared.query.Query.{Query, roll-Query, out-Query, out-roll-Query, roll-out-Query}
+use Rattle.cs_base.specs.declared.content.key.Narrower.{Narrower}
+use Rattle.cs_base.specs.declared.index.plan.Plan.{Plan}
+use Rattle.cs_base.specs.declared.index.plan.Plan.TheVariants.{Same, Narrow, Extend, Fresh}
+use Rattle.cs_base.specs.declared.content.query.Part.{Part}
+use Rattle.cs_base.specs.declared.content.query.Query.{Query, roll-Query, out-Query, out-roll-Query, roll-out-Query}
 use Rattle.cs_model.specs.Canonical.{canonical}
 use Rattle.cs_model.specs.Corpus.{Corpus}
 use Rattle.cs_model.specs.Keys.{keys_of, last_prefix, shorter_words, with_prefix, narrower, narrowers, extended}

@@ -14,11 +14,11 @@ use Rattle.std.proofs.lemmas.Bool.{and_parts, or_right}
 use Rattle.std.proofs.lemmas.List.Elements.{All-map, All-filter, All-contains, filter_passes}
 use Rattle.std.proofs.lemmas.List.Folds.{list_any-append, list_all-append}
 use Rattle.std.proofs.lemmas.Str.{chars-nil, chars-encodes, encodes-chars, scalars-chars}
-use Rattle.cs_base.specs.declared.query.Part.{Part}
-use Rattle.cs_base.specs.declared.query.Query.{Query, roll-Query, out-roll-Query}
-use Rattle.cs_base.specs.declared.query.Atom.{Prefix, Exact, out-Atom, out-roll-Atom}
-use Rattle.cs_base.specs.declared.query.Atom.TheVariants.{rolls-Prefix, rolls-Exact}
-use Rattle.cs_base.specs.declared.query.Atom.TheOpen.{Atom-F}
+use Rattle.cs_base.specs.declared.content.query.Part.{Part}
+use Rattle.cs_base.specs.declared.content.query.Query.{Query, roll-Query, out-roll-Query}
+use Rattle.cs_base.specs.declared.content.query.Atom.{Prefix, Exact, out-Atom, out-roll-Atom}
+use Rattle.cs_base.specs.declared.content.query.Atom.TheVariants.{rolls-Prefix, rolls-Exact}
+use Rattle.cs_base.specs.declared.content.query.Atom.TheOpen.{Atom-F}
 use Rattle.cs_model.specs.declared.kinds.Level.{Level}
 use Rattle.cs_model.specs.declared.kinds.Tie.{Tie}
 use Rattle.cs_model.specs.Collection.{named}

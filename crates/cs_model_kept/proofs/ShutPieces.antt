@@ -8,9 +8,9 @@ use Rattle.std.proofs.Common.{◌≡◌, ℕ, ◌≤◌, List, [], ◌∷◌, ma
 use Rattle.std.specs.Prelude.{encode_utf8_all}
 use Rattle.std.specs.Str.{chars}
 use Rattle.std.proofs.lemmas.Str.{chars-encodes, scalars-chars}
-use Rattle.cs_base.specs.declared.limits.TheConstants.{MAX_QUERY_BYTES}
-use Rattle.cs_base.specs.declared.query.Part.{Part}
-use Rattle.cs_base.specs.declared.query.Query.{Query, roll-Query}
+use Rattle.cs_base.specs.declared.content.limits.TheConstants.{MAX_QUERY_BYTES}
+use Rattle.cs_base.specs.declared.content.query.Part.{Part}
+use Rattle.cs_base.specs.declared.content.query.Query.{Query, roll-Query}
 use Rattle.cs_model.specs.declared.kinds.Level.{Level}
 use Rattle.cs_model.specs.Tokens.{tokens, size}
 use Rattle.cs_model.specs.Grammar.{Reading, reading, steps, all_closed}

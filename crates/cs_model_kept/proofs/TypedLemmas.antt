@@ -4,13 +4,13 @@
 --   typed_other      with another prefix in its place, it is as if that had been attached
 use Rattle.std.proofs.Common.{◌≡◌, ℕ, Bool, true, false, List, [], ◌∷◌, ◌++◌, refl, sym, ◌∙◌, ap, Option, Some, None, if◌then◌else◌}
 use Rattle.std.specs.Option.{option_map}
-use Rattle.cs_base.specs.declared.query.Link.{Link}
-use Rattle.cs_base.specs.declared.query.Query.{Query, roll-Query, out-roll-Query}
-use Rattle.cs_base.specs.declared.query.Part.{Part, roll-Part, out-Part, out-roll-Part}
-use Rattle.cs_base.specs.declared.query.Chain.{Chain, roll-Chain, out-Chain, out-roll-Chain}
-use Rattle.cs_base.specs.declared.query.Linked.{Linked, roll-Linked, out-roll-Linked}
-use Rattle.cs_base.specs.declared.query.Atom.{Atom, Prefix, out-Atom}
-use Rattle.cs_base.specs.declared.query.Atom.TheOpen.{Part-F, Chain-F}
+use Rattle.cs_base.specs.declared.content.query.Link.{Link}
+use Rattle.cs_base.specs.declared.content.query.Query.{Query, roll-Query, out-roll-Query}
+use Rattle.cs_base.specs.declared.content.query.Part.{Part, roll-Part, out-Part, out-roll-Part}
+use Rattle.cs_base.specs.declared.content.query.Chain.{Chain, roll-Chain, out-Chain, out-roll-Chain}
+use Rattle.cs_base.specs.declared.content.query.Linked.{Linked, roll-Linked, out-roll-Linked}
+use Rattle.cs_base.specs.declared.content.query.Atom.{Atom, Prefix, out-Atom}
+use Rattle.cs_base.specs.declared.content.query.Atom.TheOpen.{Part-F, Chain-F}
 use Rattle.cs_model.specs.declared.kinds.Tie.{Tie}
 use Rattle.cs_model.specs.declared.kinds.Tie.TheVariants.{Begins, Alternative, Linked as LinkedBy}
 use Rattle.cs_model.specs.Grammar.{on_last, chain_of, part_of, with_link, with_chains, attached}

@@ -22,20 +22,20 @@
 use Rattle.std.specs.Prelude.{ℕ, ◌+◌, if◌then◌else◌, List, [], map, filter, take, drop, sum, length, Option, Some, None}
 use Rattle.std.specs.List.{list_any}
 use Rattle.std.specs.Str.{bytes_eq}
-use Rattle.cs_base.specs.declared.block.BlockHead.{BlockHead}
-use Rattle.cs_base.specs.declared.query.Query.{Query, out-Query}
-use Rattle.cs_base.specs.declared.query.Part.{Part}
-use Rattle.cs_base.specs.declared.query.Chain.{Chain}
-use Rattle.cs_base.specs.declared.query.Linked.{Linked}
-use Rattle.cs_base.specs.declared.query.Atom.{Atom}
-use Rattle.cs_base.specs.declared.query.Atom.TheOpen.{Atom-F, Query-F, Part-F, Chain-F, Linked-F}
-use Rattle.cs_base.specs.declared.query.Atom.TheFolds.{fold-Query, fold-Part, fold-Chain, fold-Linked, fold-Atom}
+use Rattle.cs_base.specs.declared.index.block.BlockHead.{BlockHead}
+use Rattle.cs_base.specs.declared.content.query.Query.{Query, out-Query}
+use Rattle.cs_base.specs.declared.content.query.Part.{Part}
+use Rattle.cs_base.specs.declared.content.query.Chain.{Chain}
+use Rattle.cs_base.specs.declared.content.query.Linked.{Linked}
+use Rattle.cs_base.specs.declared.content.query.Atom.{Atom}
+use Rattle.cs_base.specs.declared.content.query.Atom.TheOpen.{Atom-F, Query-F, Part-F, Chain-F, Linked-F}
+use Rattle.cs_base.specs.declared.content.query.Atom.TheFolds.{fold-Query, fold-Part, fold-Chain, fold-Linked, fold-Atom}
 use Rattle.cs_model.specs.Answers.{begins}
 use Rattle.cs_model.specs.Collection.{named}
 use Rattle.cs_model.specs.Keys.{last_of}
 use Rattle.cs_model.specs.Requests.{Request}
-use Rattle.cs_base.specs.declared.plan.Plan.{Plan}
-use Rattle.cs_base.specs.declared.plan.Plan.TheVariants.{Same, Narrow, Extend, Fresh}
+use Rattle.cs_base.specs.declared.index.plan.Plan.{Plan}
+use Rattle.cs_base.specs.declared.index.plan.Plan.TheVariants.{Same, Narrow, Extend, Fresh}
 
 -- the words of an index in their order, and the blocks that they are divided into, each told by its head; of both there may be
 -- none

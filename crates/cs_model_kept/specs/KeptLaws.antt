@@ -12,8 +12,8 @@
 use Rattle.std.specs.Prelude.{◌≡◌, ℕ, Bool, nat_lt, List, [], ◌∷◌, ◌++◌, filter, length, Some}
 use Rattle.std.specs.List.{Contains}
 use Rattle.std.specs.Str.{IsUtf8}
-use Rattle.cs_base.specs.declared.query.Query.{Query, roll-Query, out-Query}
-use Rattle.cs_base.specs.declared.query.Part.{Part}
+use Rattle.cs_base.specs.declared.content.query.Query.{Query, roll-Query, out-Query}
+use Rattle.cs_base.specs.declared.content.query.Part.{Part}
 use Rattle.cs_model.specs.Answers.{PartRows, begins, parts_of, rows_of_part}
 use Rattle.cs_model.specs.Corpus.{Corpus}
 use Rattle.cs_model.specs.Keys.{last_prefix, shorter_words, with_prefix}

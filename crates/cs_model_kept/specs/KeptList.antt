@@ -23,13 +23,13 @@ use Rattle.std.specs.Prelude.{◌≡◌, ℕ, Bool, not, nat_lt, if◌then◌els
 use Rattle.std.specs.List.{All, IsDistinct, list_any}
 use Rattle.std.specs.Option.{option_map}
 use Rattle.std.specs.Str.{bytes_eq}
-use Rattle.cs_base.specs.declared.key.Keys.{Keys}
-use Rattle.cs_base.specs.declared.key.Narrower.{Narrower}
-use Rattle.cs_base.specs.declared.plan.Plan.{Plan}
-use Rattle.cs_base.specs.declared.plan.Plan.TheVariants.{Same, Narrow, Extend, Fresh}
-use Rattle.cs_base.specs.declared.plan.Kept.{Kept}
-use Rattle.cs_base.specs.declared.plan.Kept.TheVariants as kept
-use Rattle.cs_base.specs.declared.query.Query.{Query}
+use Rattle.cs_base.specs.declared.content.key.Keys.{Keys}
+use Rattle.cs_base.specs.declared.content.key.Narrower.{Narrower}
+use Rattle.cs_base.specs.declared.index.plan.Plan.{Plan}
+use Rattle.cs_base.specs.declared.index.plan.Plan.TheVariants.{Same, Narrow, Extend, Fresh}
+use Rattle.cs_base.specs.declared.index.plan.Kept.{Kept}
+use Rattle.cs_base.specs.declared.index.plan.Kept.TheVariants as kept
+use Rattle.cs_base.specs.declared.content.query.Query.{Query}
 use Rattle.cs_model.specs.Canonical.{canonical}
 use Rattle.cs_model.specs.Corpus.{Corpus}
 use Rattle.cs_model.specs.Keys.{keys_of}

@@ -15,12 +15,12 @@
 use Rattle.std.specs.Prelude.{◌≡◌, ℕ, ◌-◌, ◌<◌, true, List, find, length, take, Option, Some}
 use Rattle.std.specs.List.{Contains}
 use Rattle.std.specs.Str.{IsUtf8, bytes_eq}
-use Rattle.cs_base.specs.declared.plan.Kept.{Kept}
-use Rattle.cs_base.specs.declared.plan.Kept.TheVariants as kept
-use Rattle.cs_base.specs.declared.plan.Plan.{Plan}
-use Rattle.cs_base.specs.declared.plan.Plan.TheVariants.{Same, Narrow, Extend, Fresh}
-use Rattle.cs_base.specs.declared.query.Query.{Query, roll-Query, out-Query}
-use Rattle.cs_base.specs.declared.query.Part.{Part}
+use Rattle.cs_base.specs.declared.index.plan.Kept.{Kept}
+use Rattle.cs_base.specs.declared.index.plan.Kept.TheVariants as kept
+use Rattle.cs_base.specs.declared.index.plan.Plan.{Plan}
+use Rattle.cs_base.specs.declared.index.plan.Plan.TheVariants.{Same, Narrow, Extend, Fresh}
+use Rattle.cs_base.specs.declared.content.query.Query.{Query, roll-Query, out-Query}
+use Rattle.cs_base.specs.declared.content.query.Part.{Part}
 use Rattle.cs_model.specs.Canonical.{canonical}
 use Rattle.cs_model.specs.Corpus.{Corpus}
 use Rattle.cs_model.specs.Keys.{keys_of, last_prefix, shorter_words, with_prefix}

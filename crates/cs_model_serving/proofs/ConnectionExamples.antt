@@ -13,7 +13,7 @@ use Rattle.json.specs.Print.{escape_byte}
 use Rattle.caseless.proofs.Computing.{caseless}
 use Rattle.httparse.specs.Grammar.{is_token_byte, trim_ows, print_request}
 use Rattle.cs_base.proofs.OrdersLemmas.{by_row_total}
-use Rattle.cs_base.specs.Orders.{by_row}
+use Rattle.cs_base.specs.content.Orders.{by_row}
 use Rattle.cs_model.specs.KeyText.{norm}
 use Rattle.cs_model.specs.Words.{is_word_char}
 use Rattle.cs_model.specs.Corpus.{Corpus, titles_of, corpus}

@@ -10,7 +10,7 @@
 use Rattle.std.proofs.Common.{◌≡◌, ℕ, suc, ◌-◌, ◌<◌, ◌≤◌, Bool, true, false, List, [], ◌∷◌, ◌++◌, length, take, drop, append_assoc, append-nil, refl, sym, ◌∙◌, ap, ap₂, subst, arith, length-drop, take-append-drop, slice_range}
 use Prim.Native.Nat.{zero}
 use Rattle.std.proofs.lemmas.List.{take-append-le, drop-append-le}
-use Rattle.cs_base.specs.declared.limits.TheConstants.{MAX_CONNECTION_BYTES}
+use Rattle.cs_base.specs.declared.content.limits.TheConstants.{MAX_CONNECTION_BYTES}
 use Rattle.cs_model.specs.Corpus.{Corpus}
 use Rattle.cs_model_serving.specs.declared.framed.Framed.{Framed}
 use Rattle.cs_model_serving.specs.declared.framed.Framed.TheVariants.{Head, More, TooLong}

@@ -27,7 +27,7 @@ use Rattle.std.specs.Prelude.{◌≡◌, ◌⊎◌, ℕ, suc, Bool, true, false,
 use Prim.Native.Nat.{zero}
 use Rattle.std.specs.List.{AllZip}
 use Rattle.std.specs.Str.{bytes_eq}
-use Rattle.cs_base.specs.declared.limits.TheConstants.{MAX_CONNECTION_BYTES}
+use Rattle.cs_base.specs.declared.content.limits.TheConstants.{MAX_CONNECTION_BYTES}
 use Rattle.cs_model.specs.Corpus.{Corpus}
 use Rattle.cs_model.specs.Faults.{error_text}
 use Rattle.cs_model_serving.specs.declared.framed.Framed.{Framed}

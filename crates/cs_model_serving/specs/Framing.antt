@@ -19,7 +19,7 @@
 -- Only the first `MAX_HEAD_BYTES` bytes are looked at, so a head whose last LF is a byte behind them is too long.
 use Rattle.std.specs.Prelude.{ℕ, ◌+◌, Bool, true, false, not, ◌==◌, nat_lt, if◌then◌else◌, List, [], ◌∷◌, length, take, drop, take_while, count_by, sum_by, Option, Some, None}
 use Rattle.std.specs.List.{slice_split, prefix_len}
-use Rattle.cs_base.specs.declared.limits.TheConstants.{MAX_HEAD_BYTES}
+use Rattle.cs_base.specs.declared.content.limits.TheConstants.{MAX_HEAD_BYTES}
 use Rattle.cs_model_serving.specs.declared.framed.Framed.{Framed}
 use Rattle.cs_model_serving.specs.declared.framed.Framed.TheVariants.{Head, More, TooLong}
 

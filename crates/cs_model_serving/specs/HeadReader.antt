@@ -25,7 +25,7 @@ use Rattle.std.specs.Prelude.{◌≤◌, ℕ, ◌-◌, Bool, ◌&&◌, ◌==◌,
 use Rattle.std.specs.List.{list_all, ends_with, before_first, after_first, slice_index_or}
 use Rattle.std.specs.Str.{bytes_eq, is_utf8}
 use Rattle.httparse.specs.Grammar.{LineEnd, crlf, lf, Field, RequestHead, ReadsRequest, print_request, is_token, is_uri_byte, is_value_byte}
-use Rattle.cs_base.specs.declared.limits.TheConstants.{MAX_HEAD_FIELDS}
+use Rattle.cs_base.specs.declared.content.limits.TheConstants.{MAX_HEAD_FIELDS}
 use Rattle.cs_model_serving.specs.Framing.{ended_lines, front_lines, text_lines, closing_lines}
 
 -- ---- the grammar

@@ -11,7 +11,7 @@
 --   FaultsAreCounted      a Read is counted as a Read, a Changed as a Changed, and a response to a head as neither
 use Rattle.std.specs.Prelude.{◌≡◌, ◌↔◌, ℕ, ◌<◌, ◌≤◌, Bool, true, false, List, ◌++◌, length, Some, None}
 use Rattle.httparse.specs.Grammar.{RequestHead}
-use Rattle.cs_base.specs.declared.limits.TheConstants.{MAX_HEAD_BYTES}
+use Rattle.cs_base.specs.declared.content.limits.TheConstants.{MAX_HEAD_BYTES}
 use Rattle.cs_model.specs.Corpus.{Corpus}
 use Rattle.cs_model_serving.specs.declared.framed.Framed.TheVariants.{Head, TooLong}
 use Rattle.cs_model_serving.specs.Framing.{frame}

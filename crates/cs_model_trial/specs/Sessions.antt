@@ -16,8 +16,8 @@
 use Rattle.std.specs.Prelude.{ℕ, ◌+◌, ◌*◌, ◌%◌, List, [], ◌∷◌, ◌++◌, map, take, length, slice_index_or}
 use Rattle.std.specs.List.{flat_map, range_with_len}
 use Rattle.std.specs.Str.{chars}
-use Rattle.cs_base.specs.declared.limits.TheConstants.{DEFAULT_HITS, DEFAULT_COMPLETIONS}
-use Rattle.cs_base.specs.declared.query.Query.{Query}
+use Rattle.cs_base.specs.declared.content.limits.TheConstants.{DEFAULT_HITS, DEFAULT_COMPLETIONS}
+use Rattle.cs_base.specs.declared.content.query.Query.{Query}
 use Rattle.cs_model.specs.Grammar.{query_of}
 use Rattle.cs_model.specs.KeyText.{norm}
 use Rattle.cs_model.specs.Requests.{Request}

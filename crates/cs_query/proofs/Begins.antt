@@ -5,7 +5,7 @@
 --   run_fine, gap_fine                        it isn't refused, but behind a bar
 --   front                                     a word that begins at the start, behind a gap or behind an opening bracket
 use Rattle.std.proofs.Common.{◌≡◌, ◌⊎◌, ℕ, List, ◌∷◌, length, refl, sym, subst, false, inl, inr}
-use Rattle.cs_base.specs.declared.text.Text.{Text}
+use Rattle.cs_base.specs.declared.content.text.Text.{Text}
 use Rattle.cs_model.specs.declared.kinds.Spot.{Spot}
 use Rattle.cs_model.specs.declared.kinds.Class.TheVariants as c
 use Rattle.cs_model.specs.Tokens.{Token, Word, Run, Gap, grown}

@@ -8,8 +8,8 @@ use Rattle.std.proofs.lemmas.Bool.{lt-ltb}
 use Rattle.std.proofs.lemmas.List.{append-nil}
 use Rattle.std.specs.Char.{encode_utf8}
 use Rattle.std.specs.List.{join_with_byte}
-use Rattle.cs_base.specs.declared.query.Part.{Part, out-Part}
-use Rattle.cs_base.specs.declared.query.Chain.{Chain}
+use Rattle.cs_base.specs.declared.content.query.Part.{Part, out-Part}
+use Rattle.cs_base.specs.declared.content.query.Chain.{Chain}
 use Rattle.cs_model.specs.Canonical.{canonical_parts, canonical_part, canonical_chain}
 use Rattle.cs_model.proofs.CanonicalLemmas.{part_shape}
 use Rattle.cs_query.specs.Printing.{separator, following}

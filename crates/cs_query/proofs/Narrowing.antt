@@ -12,12 +12,12 @@ use Rattle.std.specs.Str.{chars, IsUtf8, all_scalars}
 use Rattle.std.proofs.lemmas.Bool.{or_from, or_parts}
 use Rattle.std.proofs.lemmas.List.{append-nil}
 use Rattle.std.proofs.lemmas.Str.{encodes_same, encodes-chars, scalars-chars, chars-nil}
-use Rattle.cs_base.specs.declared.key.Narrower.{Narrower}
-use Rattle.cs_base.specs.declared.query.Query.{Query, out-Query}
-use Rattle.cs_base.specs.declared.query.Part.{Part}
-use Rattle.cs_base.specs.declared.query.Chain.{Chain, out-Chain}
-use Rattle.cs_base.specs.declared.query.Linked.{Linked, out-Linked}
-use Rattle.cs_base.specs.declared.query.Atom.{out-Atom}
+use Rattle.cs_base.specs.declared.content.key.Narrower.{Narrower}
+use Rattle.cs_base.specs.declared.content.query.Query.{Query, out-Query}
+use Rattle.cs_base.specs.declared.content.query.Part.{Part}
+use Rattle.cs_base.specs.declared.content.query.Chain.{Chain, out-Chain}
+use Rattle.cs_base.specs.declared.content.query.Linked.{Linked, out-Linked}
+use Rattle.cs_base.specs.declared.content.query.Atom.{out-Atom}
 use Rattle.cs_model.specs.Keys.{last_of, prefix_in, last_atom, chain_prefix, part_prefix, last_prefix, narrower, shorter, is_left, shorter_words}
 use Rattle.cs_model.proofs.PieceTokens.{chars_some}
 use Rattle.cs_model.proofs.SizeLemmas.{encodes-append}

@@ -6,7 +6,7 @@ use Rattle.std.proofs.Common.{◌≡◌, ℕ, ◌<◌, ◌≤◌, ◌+◌, List,
 use Rattle.std.proofs.lemmas.List.{take_more, take_all, length-take, length-reverse}
 use Rattle.std.proofs.lemmas.List.Sums.{fold_push}
 use borrow.Author.Count.{below_more}
-use Rattle.cs_base.specs.declared.query.Query.{Query}
+use Rattle.cs_base.specs.declared.content.query.Query.{Query}
 use Rattle.cs_model.proofs.RefusalLemmas.{AcceptedTo, take_take}
 use Rattle.cs_model.specs.Tokens.{Token, with_next, tokens, size}
 use Rattle.cs_model.specs.Grammar.{reading, steps, query_of, query_of_tokens}

@@ -1,8 +1,8 @@
 -- The verdict on the newest character, limit by limit.
 use Rattle.std.proofs.Common.{◌≡◌, ◌+◌, ◌<◌, ◌≤◌, List, refl, false, Some, None}
 use Rattle.std.proofs.lemmas.Bool.{lt-leb, le-leb}
-use Rattle.cs_base.specs.declared.limits.TheConstants.{MAX_PLAIN_WORD_BYTES, MAX_QUERY_BYTES, MAX_PARTS, MAX_ATOMS, MAX_DEPTH}
-use Rattle.cs_base.specs.declared.query.Which.TheVariants as limits
+use Rattle.cs_base.specs.declared.content.limits.TheConstants.{MAX_PLAIN_WORD_BYTES, MAX_QUERY_BYTES, MAX_PARTS, MAX_ATOMS, MAX_DEPTH}
+use Rattle.cs_base.specs.declared.content.query.Which.TheVariants as limits
 use Rattle.cs_model.specs.Tokens.{Token, size}
 use Rattle.cs_model.specs.Grammar.{steps}
 use Rattle.cs_model.specs.Refusals.{refused, verdict, parts_in, atoms_in, depth, newest, Limit}

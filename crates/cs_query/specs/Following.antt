@@ -14,8 +14,8 @@ use Rattle.cs_model.specs.declared.kinds.Tie.{Tie}
 use Rattle.cs_model.specs.Tokens.{Token, Word, Value, Run, Gap, Dollar, Bar, Colon, Open, Close, size}
 use Rattle.cs_model.specs.Grammar.{spot, tie, steps, reading, query_of}
 use Rattle.cs_model.specs.Refusals.{refused, verdict, parts_in, atoms_in, depth, newest, Bad, Limit, IsAccepted, IsRefused}
-use Rattle.cs_base.specs.declared.limits.TheConstants.{MAX_PLAIN_WORD_BYTES, MAX_QUERY_BYTES, MAX_PARTS, MAX_ATOMS, MAX_DEPTH}
-use Rattle.cs_base.specs.declared.query.Query.{Query}
+use Rattle.cs_base.specs.declared.content.limits.TheConstants.{MAX_PLAIN_WORD_BYTES, MAX_QUERY_BYTES, MAX_PARTS, MAX_ATOMS, MAX_DEPTH}
+use Rattle.cs_base.specs.declared.content.query.Query.{Query}
 use Rattle.cs_query.specs.declared.fault.QueryFault.{QueryFault}
 use Rattle.cs_query.specs.declared.fault.QueryFault.TheVariants as faults
 use Rattle.cs_query.specs.declared.fault.Stop.{Stop}

@@ -1,8 +1,8 @@
 //! The keys under which a query's answer is looked for.
 ghost use Rattle.std.specs.Prelude.{◌≡◌, ◌≤◌, ◌==◌, ◌||◌, length, map, IfOk, Some};
 ghost use Rattle.std.specs.Option.{option_map};
-ghost use Rattle.cs_base.specs.declared.limits.TheConstants.{MAX_QUERY_BYTES};
-ghost use Rattle.cs_base.specs.declared.query.Atom.{out-Atom};
+ghost use Rattle.cs_base.specs.declared.content.limits.TheConstants.{MAX_QUERY_BYTES};
+ghost use Rattle.cs_base.specs.declared.content.query.Atom.{out-Atom};
 ghost use Rattle.cs_model.specs.Canonical.{canonical};
 ghost use Rattle.cs_model.specs.Keys.{keys_of, last_prefix, part_prefix, chain_prefix, prefix_in, narrower, narrowers, shorter_words, extended};
 ghost use Rattle.cs_model.specs.Refusals.{IsOfGrammar};

@@ -2,7 +2,7 @@
 ghost use Rattle.std.specs.Prelude.{◌≡◌, ℕ, List, [], Err, IfOk, reverse};
 ghost use Rattle.std.specs.Str.{chars};
 ghost use Rattle.cs_model.specs.Tokens.{Token};
-ghost use Rattle.cs_base.specs.declared.query.Which.{Which as WhichValue};
+ghost use Rattle.cs_base.specs.declared.content.query.Which.{Which as WhichValue};
 ghost use Rattle.cs_model.specs.Grammar.{all_closed, query_of, query_of_tokens};
 ghost use Rattle.cs_model.specs.KeyText.{norm};
 ghost use Rattle.cs_model.specs.Refusals.{Bad, Limit, IsAccepted, IsOfGrammar, IsRefused};

@@ -13,9 +13,9 @@ use Rattle.std.specs.FinMap.{nat_cmp-IsAntisymmetric}
 use Rattle.std.specs.Cmp.{nat_cmp_total}
 use Rattle.std.proofs.lemmas.Bool.{eqb-true}
 use Rattle.std.proofs.lemmas.Bool.Decides.{nat_tests}
-use Rattle.cs_base.specs.Members.{members_in}
-use Rattle.cs_base.specs.Orders.{by_place, AreSorted}
-use Rattle.cs_base.specs.declared.doc.Post.{Post}
+use Rattle.cs_base.specs.content.Members.{members_in}
+use Rattle.cs_base.specs.content.Orders.{by_place, AreSorted}
+use Rattle.cs_base.specs.declared.content.doc.Post.{Post}
 use Rattle.cs_base.proofs.MembersLemmas.{members_are, all_then, again}
 use Rattle.cs_base.proofs.OrdersLemmas.{Less-from_lt}
 

@@ -11,8 +11,8 @@ use Rattle.std.specs.declared.cmp.Ordering.TheVariants.{Less}
 use Rattle.std.proofs.lemmas.List.{get_or_default}
 use Rattle.std.proofs.lemmas.Bool.Decides.{nat_tests}
 use Rattle.std.proofs.lemmas.Map.Keys.{Less-from_sorted}
-use Rattle.cs_base.specs.Orders.{AreByDoc, by_doc}
-use Rattle.cs_base.specs.declared.doc.Scored.{Scored}
+use Rattle.cs_base.specs.content.Orders.{AreByDoc, by_doc}
+use Rattle.cs_base.specs.declared.content.doc.Scored.{Scored}
 use Rattle.cs_base.proofs.OrdersLemmas.{lt-from_Less}
 use Rattle.cs_rank.specs.DocScores.{PassedBelow}
 

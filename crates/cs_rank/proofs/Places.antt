@@ -16,7 +16,7 @@ use Rattle.std.specs.declared.cmp.Ordering.TheVariants.{Less, Equal, Greater}
 use Rattle.std.specs.Cmp.{IsTotalOrder, alike_right, tied_itself}
 use Rattle.std.specs.FinMap.{FinMap, find, put, keys, entries, insert, from_entries, IsAntisymmetric, same_map, get-from_entries, get-insert, entries-insert}
 use Rattle.std.specs.FinMap.Entries.{by_order}
-use Rattle.cs_base.specs.Members.{marked, members_in}
+use Rattle.cs_base.specs.content.Members.{marked, members_in}
 use Rattle.cs_rank.specs.Kept.{IsUpTo, IsFull}
 
 last_test : {A : Type 0} (a b : Bool) (x y : A) → cond a x (cond b x y) ≡ cond b x (cond a x y)

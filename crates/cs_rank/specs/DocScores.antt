@@ -9,11 +9,11 @@
 --   IsBase base           what a base keeps: its documents ascend, and no score is above 2^20
 --   PassedBelow hs n d    the first n of hs are of documents below d
 use Rattle.std.specs.Prelude.{ℕ, ◌+◌, ◌≤◌, ◌^◌, ◌<◌, max, length, slice_index_or, List, [], ◌∷◌, map, All, filter, find, option_map, unwrap_or, ◌==◌}
-use Rattle.cs_base.specs.Orders.{AreByDoc, docs_of}
-use Rattle.cs_base.specs.declared.doc.Base.{Base}
-use Rattle.cs_base.specs.declared.doc.Base.TheVariants as base
-use Rattle.cs_base.specs.declared.doc.Post.{Post}
-use Rattle.cs_base.specs.declared.doc.Scored.{Scored}
+use Rattle.cs_base.specs.content.Orders.{AreByDoc, docs_of}
+use Rattle.cs_base.specs.declared.content.doc.Base.{Base}
+use Rattle.cs_base.specs.declared.content.doc.Base.TheVariants as base
+use Rattle.cs_base.specs.declared.content.doc.Post.{Post}
+use Rattle.cs_base.specs.declared.content.doc.Scored.{Scored}
 
 -- the greatest of some numbers; of none it is 0
 abbrev pub greatest : List ℕ → ℕ

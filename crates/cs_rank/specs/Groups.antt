@@ -4,8 +4,8 @@
 --   group h hs         h with the greatest score of those of its document directly behind it, and then the groups behind these
 --   groups hs          all groups
 use Rattle.std.specs.Prelude.{max, List, [], ◌∷◌, ◌==◌, if◌then◌else◌}
-use Rattle.cs_base.specs.declared.doc.Post.{Post}
-use Rattle.cs_base.specs.declared.doc.Scored.{Scored}
+use Rattle.cs_base.specs.declared.content.doc.Post.{Post}
+use Rattle.cs_base.specs.declared.content.doc.Scored.{Scored}
 
 -- a row's document and score
 abbrev pub scored_row : Post → Scored

@@ -9,9 +9,9 @@ use Rattle.std.specs.Prelude.{◌≡◌, ℕ, ◌≤◌, List, [], ◌∷◌, �
 use Rattle.std.specs.List.{AllByRecursion}
 use Rattle.std.specs.Ordering.{is_gt, is_lt}
 use Rattle.std.specs.declared.cmp.Ordering.{Ordering}
-use Rattle.cs_base.specs.Members.{members_in}
-use Rattle.cs_base.specs.Orders.{by_rank}
-use Rattle.cs_base.specs.declared.doc.Scored.{Scored}
+use Rattle.cs_base.specs.content.Members.{members_in}
+use Rattle.cs_base.specs.content.Orders.{by_rank}
+use Rattle.cs_base.specs.declared.content.doc.Scored.{Scored}
 use Rattle.cs_rank.specs.declared.best.Best.{Best}
 
 -- none of xs comes behind w

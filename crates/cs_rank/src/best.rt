@@ -1,7 +1,7 @@
 //! A bounded list of the best documents: what can't be among the first `room` is let go on the way.
 ghost use Rattle.std.specs.Prelude.{◌≡◌, ◌<◌, ◌-◌, [], IfOk, OnOk, length, take, drop, MatchOption, slice_index_or};
-ghost use Rattle.cs_base.specs.Members.{members_in};
-ghost use Rattle.cs_base.specs.Orders.{by_rank};
+ghost use Rattle.cs_base.specs.content.Members.{members_in};
+ghost use Rattle.cs_base.specs.content.Orders.{by_rank};
 ghost use Rattle.cs_rank.specs.Kept.{HasBest, IsFull, Takes, is_behind};
 
 use cs_base::{Memory, Scored};

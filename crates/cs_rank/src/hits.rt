@@ -1,7 +1,7 @@
 //! The hits that are shown.
 ghost use Rattle.std.specs.Prelude.{◌≡◌, IfOk, take, drop};
-ghost use Rattle.cs_base.specs.Members.{members_in};
-ghost use Rattle.cs_base.specs.Orders.{by_rank};
+ghost use Rattle.cs_base.specs.content.Members.{members_in};
+ghost use Rattle.cs_base.specs.content.Orders.{by_rank};
 
 use crate::best::Best;
 use cs_base::{Memory, Scored, Seq};

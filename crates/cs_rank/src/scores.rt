@@ -1,8 +1,8 @@
 //! The scores of documents.
 ghost use Rattle.std.specs.Prelude.{◌≡◌, ◌≤◌, ◌<◌, ◌^◌, List, ◌∷◌, ◌++◌, map, length, IfOk, All, slice_index_or};
-ghost use Rattle.cs_base.specs.Orders.{docs_of, AreSorted, AreByDoc};
-ghost use Rattle.cs_base.specs.declared.doc.Scored.{Scored};
-ghost use Rattle.cs_base.specs.declared.doc.Base.TheVariants.{Listed};
+ghost use Rattle.cs_base.specs.content.Orders.{docs_of, AreSorted, AreByDoc};
+ghost use Rattle.cs_base.specs.declared.content.doc.Scored.{Scored};
+ghost use Rattle.cs_base.specs.declared.content.doc.Base.TheVariants.{Listed};
 ghost use Rattle.cs_rank.specs.Groups.{group};
 ghost use Rattle.cs_rank.specs.DocScores.{best_row, base_score, with_base, scores, IsBase, PassedBelow};
 

@@ -1,10 +1,10 @@
 -- The sample is sorted.
 use Rattle.std.proofs.Common.{ℕ, zero, suc, ◌<◌, ◌≤◌, get_or, refl, arith}
 use Rattle.std.specs.List.Sorted.{IsStrictlySortedBy}
-use Rattle.cs_base.specs.Orders.{AreSorted}
-use Rattle.cs_base.specs.declared.doc.Scored.{Scored}
-use Rattle.cs_base.specs.declared.doc.Base.TheVariants.{Listed}
-use Rattle.cs_base.specs.declared.limits.TheConstants.{MAX_DOCS}
+use Rattle.cs_base.specs.content.Orders.{AreSorted}
+use Rattle.cs_base.specs.declared.content.doc.Scored.{Scored}
+use Rattle.cs_base.specs.declared.content.doc.Base.TheVariants.{Listed}
+use Rattle.cs_base.specs.declared.content.limits.TheConstants.{MAX_DOCS}
 use Rattle.cs_rank.specs.DocScores.{IsBase}
 use Rattle.cs_tables.specs.Sample.{sample, sample_base}
 

@@ -14,10 +14,10 @@ use Rattle.std.proofs.lemmas.Cmp.{then_total, on_total, back_total, tied_itself}
 use Rattle.std.proofs.lemmas.Map.Lookups.{exact_pairs, exact_unsigned}
 use Rattle.std.proofs.lemmas.Bool.{or_right}
 use Rattle.std.proofs.lemmas.List.{length-map}
-use Rattle.cs_base.specs.Members.{marked, members_in}
-use Rattle.cs_base.specs.Orders.{by_rank}
-use Rattle.cs_base.specs.declared.doc.Post.{Post}
-use Rattle.cs_base.specs.declared.doc.Scored.{Scored}
+use Rattle.cs_base.specs.content.Members.{marked, members_in}
+use Rattle.cs_base.specs.content.Orders.{by_rank}
+use Rattle.cs_base.specs.declared.content.doc.Post.{Post}
+use Rattle.cs_base.specs.declared.content.doc.Scored.{Scored}
 use Rattle.cs_base.proofs.MembersLemmas.{members_are, is_member-listed, listing-rises, none_listed}
 use Rattle.cs_base.proofs.OrdersLemmas.{by_rank_total, by_rank_exact}
 use Rattle.cs_tables.specs.declared.tables.Completion.{Completion}

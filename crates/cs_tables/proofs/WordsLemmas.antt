@@ -12,13 +12,13 @@ use Rattle.std.specs.Cmp.{nat_cmp_total, both_ways, unsigned_ties}
 use Rattle.std.proofs.lemmas.Bool.{eqb-true, eq-eqb, or_left, or_right}
 use Rattle.std.proofs.lemmas.Bool.Decides.{nat_tests}
 use Rattle.std.proofs.lemmas.List.{length-map}
-use Rattle.cs_base.specs.Members.{members_in}
-use Rattle.cs_base.specs.Orders.{AreSorted}
-use Rattle.cs_base.specs.declared.doc.Post.{Post}
-use Rattle.cs_base.specs.declared.doc.Scored.{Scored}
+use Rattle.cs_base.specs.content.Members.{members_in}
+use Rattle.cs_base.specs.content.Orders.{AreSorted}
+use Rattle.cs_base.specs.declared.content.doc.Post.{Post}
+use Rattle.cs_base.specs.declared.content.doc.Scored.{Scored}
 use Rattle.cs_base.proofs.MembersLemmas.{members_are, is_member-listed, all_then}
 use Rattle.cs_base.proofs.OrdersLemmas.{Less-from_lt}
-use Rattle.cs_base.specs.declared.limits.TheConstants.{MAX_DOCS}
+use Rattle.cs_base.specs.declared.content.limits.TheConstants.{MAX_DOCS}
 use Rattle.cs_rank.proofs.GroupsLemmas.{nothing_listed}
 use Rattle.cs_tables.specs.declared.counts.Mark.{Mark}
 use Rattle.cs_tables.specs.Listings.{of_word, doc_count}

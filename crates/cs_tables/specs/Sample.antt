@@ -3,8 +3,8 @@
 --   sample        the words 24 and 20 in document 0, and 24, 20 and 20 in document 1
 --   sample_base   what the word 20 gave both documents
 use Rattle.std.specs.Prelude.{List, [], ◌∷◌}
-use Rattle.cs_base.specs.declared.doc.Post.{Post}
-use Rattle.cs_base.specs.declared.doc.Scored.{Scored}
+use Rattle.cs_base.specs.declared.content.doc.Post.{Post}
+use Rattle.cs_base.specs.declared.content.doc.Scored.{Scored}
 
 -- by document, position and word
 abbrev pub sample : List Post

@@ -2,8 +2,8 @@
 //!
 //! A counted word is a `Scored`: its number stands for the document and the number of documents for the score.
 ghost use Rattle.std.specs.Prelude.{◌≡◌, ◌<◌, ◌≤◌, ◌^◌, ◌+◌, ◌++◌, ◌-◌, map, IfOk, OnOk, All, length, slice_index, EachIndex};
-ghost use Rattle.cs_base.specs.Orders.{AreSorted};
-ghost use Rattle.cs_base.specs.declared.limits.TheConstants.{MAX_DOCS, MAX_WORDS};
+ghost use Rattle.cs_base.specs.content.Orders.{AreSorted};
+ghost use Rattle.cs_base.specs.declared.content.limits.TheConstants.{MAX_DOCS, MAX_WORDS};
 ghost use Rattle.cs_tables.specs.Marks.{saw, kept, collected, counted_word, words_of};
 
 use cs_base::{MAX_WORDS, Memory, Scored};

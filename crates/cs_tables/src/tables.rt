@@ -1,7 +1,7 @@
 //! Tables and the call that makes one.
 ghost use Rattle.std.specs.Prelude.{◌≡◌, ◌<◌, IfOk, All, length, take, map};
-ghost use Rattle.cs_base.specs.Orders.{AreSorted};
-ghost use Rattle.cs_base.specs.declared.limits.TheConstants.{MAX_DOCS, MAX_WORDS};
+ghost use Rattle.cs_base.specs.content.Orders.{AreSorted};
+ghost use Rattle.cs_base.specs.declared.content.limits.TheConstants.{MAX_DOCS, MAX_WORDS};
 ghost use Rattle.cs_tables.specs.Listings.{table, completion};
 
 use crate::counts::counts;

@@ -7,7 +7,7 @@ use Rattle.std.proofs.lemmas.Bool.{cases_lt, and_parts}
 use Rattle.std.proofs.lemmas.Bool.Decides.{nat_tests}
 use Rattle.std.proofs.lemmas.List.{get_or-append-add, length-take-le}
 use Rattle.std.proofs.lemmas.Str.{encode_same, encodes-chars, length-encode, len_utf8_bounds, scalars-chars, IsUtf8-take, IsCharBoundary-at_seam}
-use Rattle.cs_base.specs.declared.limits.TheConstants.{MAX_PLAIN_WORD_BYTES}
+use Rattle.cs_base.specs.declared.content.limits.TheConstants.{MAX_PLAIN_WORD_BYTES}
 use Rattle.cs_model.specs.Words.{fitting, cut, is_filled}
 
 -- ---- a place behind a prefix

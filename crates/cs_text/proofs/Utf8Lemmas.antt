@@ -8,7 +8,7 @@ use Rattle.std.proofs.lemmas.Bool.{and_parts, and_from}
 use Rattle.std.specs.Str.{IsUtf8}
 use Rattle.std.specs.Char.{len_utf8}
 use Rattle.std.proofs.Math.Utf8.{scalar, scalars}
-use Rattle.cs_base.specs.declared.limits.TheConstants.{MAX_PLAIN_WORD_BYTES}
+use Rattle.cs_base.specs.declared.content.limits.TheConstants.{MAX_PLAIN_WORD_BYTES}
 use Rattle.cs_model.specs.Words.{is_filled, fitting, cut, words_of, is_gap}
 
 -- these characters are characters that text may have

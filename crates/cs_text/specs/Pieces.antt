@@ -4,7 +4,7 @@
 --   ascii_words_in pieces    the words of pieces of ASCII text, each by its bytes
 --   joined_with bytes ws     the bytes and then the first of ws, with `_` between the two where there are bytes
 use Rattle.std.specs.Prelude.{ℕ, List, [], ◌∷◌, ◌++◌, map, filter, take}
-use Rattle.cs_base.specs.declared.limits.TheConstants.{MAX_PLAIN_WORD_BYTES}
+use Rattle.cs_base.specs.declared.content.limits.TheConstants.{MAX_PLAIN_WORD_BYTES}
 use Rattle.cs_model.specs.Words.{is_filled, cut}
 
 -- a word for each piece that has characters

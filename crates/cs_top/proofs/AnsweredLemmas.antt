@@ -5,7 +5,7 @@ use Rattle.std.specs.List.{enumerate_from, prefix_len}
 use Rattle.std.specs.Option.{option_map, is_none, unwrap_or}
 use Rattle.std.specs.Str.Lines.{lines}
 use Rattle.std.proofs.lemmas.List.{drop_all}
-use Rattle.cs_base.specs.Outside.{Grew}
+use Rattle.cs_base.specs.outside.Outside.{Grew}
 use Rattle.cs_model.specs.Words.{is_filled}
 use Rattle.cs_model.specs.Corpus.{Corpus}
 use Rattle.cs_model.specs.First.{unless, first_reason}

@@ -3,7 +3,7 @@ use Rattle.std.proofs.Common.{◌≡◌, ℕ, List, [], ◌∷◌, ◌++◌, inr
 use Rattle.std.specs.Prelude.{Option, Some, None}
 use Rattle.std.specs.Option.{option_map_or}
 use Rattle.std.specs.FinMap as map
-use Rattle.cs_base.specs.Outside.{Held, File, size_of, bytes_of}
+use Rattle.cs_base.specs.outside.Outside.{Held, File, size_of, bytes_of}
 use Rattle.cs_model.specs.Collection.{CollectionRefusal}
 use Rattle.cs_model.specs.Corpus.{Corpus, corpus, refusal}
 use Rattle.cs_model.specs.Outputs.{MayPut, PutSome, memory_text, script_lines}

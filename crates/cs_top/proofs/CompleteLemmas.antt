@@ -1,7 +1,7 @@
 -- A run that could do all and met no fault did all, or found no memory.
 use Rattle.std.proofs.Common.{◌≡◌, ◌⊎◌, ℕ, inl, inr, refl, subst, ◌∙◌}
 use Rattle.std.specs.Prelude.{Option, Some, None}
-use Rattle.cs_base.specs.Causes.{Rose}
+use Rattle.cs_base.specs.outside.Causes.{Rose}
 use Rattle.cs_top.specs.Commands.{Command, build, ask, replay, serve, trial}
 use Rattle.cs_top.specs.Endings.{Ending, done, not_built, usage, refused, absent, failed, no_memory, script_refused, status}
 use Rattle.cs_top.specs.Asking.{ending_of}

@@ -6,7 +6,7 @@ use Rattle.std.specs.Prelude.{Option, Some, None, Result, Ok, Err, OnErr}
 use Rattle.std.specs.Option.{option_map}
 use Rattle.std.proofs.Math.Seq.{take-append_seam, take-append-add}
 use Rattle.std.proofs.lemmas.List.{take-append-drop}
-use Rattle.cs_base.specs.Outside.{Grew, GrewByPrefix}
+use Rattle.cs_base.specs.outside.Outside.{Grew, GrewByPrefix}
 
 pub grew_none : (w : Option (List ℕ)) → Grew w [] w
 grew_none None = refl

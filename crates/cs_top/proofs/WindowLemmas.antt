@@ -9,7 +9,7 @@ use Rattle.std.proofs.lemmas.Grind.{common_steps}
 use Rattle.std.proofs.lemmas.List.{take_all, take-take, drop-drop, drop_all, get_or-take, take-append-le, length-take, length-drop}
 use Rattle.std.proofs.lemmas.List.Sums.{fails_before_first, passes_at_first}
 use Rattle.memchr.specs.Find.{IsFirstByte, is_byte}
-use Rattle.cs_base.specs.Outside.{File, size_of, bytes_of}
+use Rattle.cs_base.specs.outside.Outside.{File, size_of, bytes_of}
 use Rattle.cs_docs.proofs.LinesLemmas.{line_at, last_line}
 use Rattle.cs_top.specs.LineSteps.{IsFirstLine}
 use Rattle.cs_top.specs.Windows.{Shows}

@@ -14,7 +14,7 @@ use Rattle.std.specs.Prelude.{ℕ, Bool, ◌&&◌, not, List, [], ◌∷◌, map
 use Rattle.std.specs.List.{prefix_len}
 use Rattle.std.specs.Option.{option_map, option_map_or, is_none, unwrap_or}
 use Rattle.std.specs.FinMap as map
-use Rattle.cs_base.specs.Outside.{Held, File}
+use Rattle.cs_base.specs.outside.Outside.{Held, File}
 use Rattle.cs_model.specs.Corpus.{refusal}
 use Rattle.cs_model.specs.First.{unless, first_reason}
 use Rattle.cs_model.specs.Parameters.{request_of, request_refusal}

@@ -10,8 +10,8 @@
 --   Says old new before now line     standard error grew by the line where its count didn't rise, else by a prefix of it
 use Rattle.std.specs.Prelude.{ℕ, List, [], ◌∷◌, ◌++◌, Option, codes}
 use Rattle.std.specs.Fmt.{decimal}
-use Rattle.cs_base.specs.Causes.{Rose}
-use Rattle.cs_base.specs.Outside.{Grew, GrewByPrefix}
+use Rattle.cs_base.specs.outside.Causes.{Rose}
+use Rattle.cs_base.specs.outside.Outside.{Grew, GrewByPrefix}
 use Rattle.cs_model.specs.Collection.{CollectionRefusal, too_large, not_utf8, line_too_long, words_too_many, bad_facet, bad_name, too_many_docs, too_many_rows, too_many_words}
 use Rattle.cs_model.specs.Outputs.{ScriptFault, script_line_too_long, script_line_not_utf8}
 

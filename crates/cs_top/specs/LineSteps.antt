@@ -7,8 +7,8 @@
 --   EndsAt e k s p old new      the script ends so at the line at that place
 use Rattle.std.specs.Prelude.{◌≡◌, ◌≢◌, ◌⊎◌, ◌<◌, ◌+◌, ℕ, true, List, [], ◌∷◌, length, drop, Option, Some, None}
 use Rattle.std.specs.Str.Lines.{lines}
-use Rattle.cs_base.specs.Outside.{Grew, GrewByPrefix}
-use Rattle.cs_base.specs.declared.limits.TheConstants.{MAX_SCRIPT_LINE_BYTES}
+use Rattle.cs_base.specs.outside.Outside.{Grew, GrewByPrefix}
+use Rattle.cs_base.specs.declared.content.limits.TheConstants.{MAX_SCRIPT_LINE_BYTES}
 use Rattle.cs_model.specs.Corpus.{Corpus}
 use Rattle.cs_model.specs.Outputs.{line_fault}
 use Rattle.cs_top.specs.Endings.{Ending, not_built, failed, script_refused}

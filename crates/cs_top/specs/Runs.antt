@@ -22,8 +22,8 @@
 use Rattle.std.specs.Prelude.{◌≡◌, ◌≢◌, ◌⊎◌, ◌≤◌, ℕ, true, List, [], ◌∷◌, ◌++◌, Option, Some, None}
 use Rattle.std.specs.Option.{ForSome}
 use Rattle.std.specs.FinMap as map
-use Rattle.cs_base.specs.Causes.{Rose}
-use Rattle.cs_base.specs.Outside.{Held, bytes_of}
+use Rattle.cs_base.specs.outside.Causes.{Rose}
+use Rattle.cs_base.specs.outside.Outside.{Held, bytes_of}
 use Rattle.cs_model.specs.Corpus.{Corpus, corpus}
 use Rattle.cs_model.specs.Outputs.{MayPut, IsAnswer, PutAll, PutSome, memory_text}
 use Rattle.cs_top.specs.Commands.{Command, build, ask, replay, serve, trial}

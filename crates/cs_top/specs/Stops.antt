@@ -7,7 +7,7 @@
 --   IsNoAbsence s            a stop says no name to be absent
 use Rattle.std.specs.Prelude.{◌≡◌, ℕ, List, Option, Some, None}
 use Rattle.std.specs.FinMap as map
-use Rattle.cs_base.specs.Outside.{File, Held, size_of}
+use Rattle.cs_base.specs.outside.Outside.{File, Held, size_of}
 use Rattle.cs_model.specs.Collection.{CollectionRefusal}
 use Rattle.cs_model.specs.Corpus.{corpus, refusal}
 use Rattle.cs_engine.specs.Searching.{CorpusView, corpus_of_view}

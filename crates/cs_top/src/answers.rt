@@ -1,8 +1,8 @@
 //! One line of a script, answered.
 ghost use Rattle.std.specs.Prelude.{◌≡◌, ◌≢◌, ◌++◌, ◌∷◌, [], true, false, IfOk, IfErr, OnOk, OnErr, IsErrOf};
 ghost use Rattle.std.specs.Option.{option_map};
-ghost use Rattle.cs_base.specs.Causes.{Counted, Rose};
-ghost use Rattle.cs_base.specs.Outside.{Grew, GrewByPrefix};
+ghost use Rattle.cs_base.specs.outside.Causes.{Counted, Rose};
+ghost use Rattle.cs_base.specs.outside.Outside.{Grew, GrewByPrefix};
 ghost use Rattle.cs_engine.specs.Searching.{corpus_of_view, has_join};
 ghost use Rattle.cs_json.specs.FaultTexts.{fault_text};
 ghost use Rattle.cs_json.specs.declared.fault.Fault.TheVariants as faults;

@@ -3,8 +3,8 @@ ghost use Rattle.std.specs.Prelude.{◌≡◌, ◌≢◌, Some, None, map, IfOk,
 ghost use Rattle.std.specs.Option.{ForSome};
 ghost use Rattle.std.specs.FinMap as fin;
 ghost use Rattle.std.specs.String.{string_bytes};
-ghost use Rattle.cs_base.specs.Causes.{Rose};
-ghost use Rattle.cs_base.specs.Outside.{size_of};
+ghost use Rattle.cs_base.specs.outside.Causes.{Rose};
+ghost use Rattle.cs_base.specs.outside.Outside.{size_of};
 ghost use Rattle.cs_model.specs.Corpus.{corpus, refusal};
 ghost use Rattle.cs_engine.specs.Searching.{corpus_of_view};
 ghost use Rattle.cs_top.specs.Asking.{asked_lines_of, ending_of, readable_lines};

@@ -2,8 +2,8 @@
 ghost use Rattle.std.specs.Prelude.{◌≡◌, ◌<◌, ◌≤◌, ◌+◌, Some, IfOk, length, take, drop};
 ghost use Rattle.std.specs.Option.{ForSome};
 ghost use Rattle.std.specs.FinMap as map;
-ghost use Rattle.cs_base.specs.Causes.{Counted};
-ghost use Rattle.cs_base.specs.Outside.{size_of};
+ghost use Rattle.cs_base.specs.outside.Causes.{Counted};
+ghost use Rattle.cs_base.specs.outside.Outside.{size_of};
 ghost use Rattle.cs_model.specs.Collection.{without_mark};
 ghost use Rattle.cs_top.specs.Runs.{held_bytes};
 ghost use Rattle.cs_top.specs.LineSteps.{IsFirstLine};

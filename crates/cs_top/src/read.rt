@@ -2,8 +2,8 @@
 ghost use Rattle.std.specs.Prelude.{◌≡◌, ◌≤◌, Some, IfOk, OnOk, IsErrOf};
 ghost use Rattle.std.specs.Option.{ForSome};
 ghost use Rattle.std.specs.FinMap as map;
-ghost use Rattle.cs_base.specs.Causes.{Rose};
-ghost use Rattle.cs_base.specs.Outside.{size_of, bytes_of};
+ghost use Rattle.cs_base.specs.outside.Causes.{Rose};
+ghost use Rattle.cs_base.specs.outside.Outside.{size_of, bytes_of};
 ghost use Rattle.cs_top.specs.declared.read.ReadFault.TheVariants.{Memory, Failed};
 
 use cs_base::Files;

@@ -1,8 +1,8 @@
 //! A line on standard error.
 ghost use Rattle.std.specs.Prelude.{◌≡◌, OnOk, OnErr};
 ghost use Rattle.std.specs.List.{flat_map};
-ghost use Rattle.cs_base.specs.Causes.{Counted};
-ghost use Rattle.cs_base.specs.Outside.{Grew, GrewByPrefix};
+ghost use Rattle.cs_base.specs.outside.Causes.{Counted};
+ghost use Rattle.cs_base.specs.outside.Outside.{Grew, GrewByPrefix};
 ghost use Rattle.cs_top.specs.SaidView.{said_text};
 
 use cs_base::{Failed, Sink};

@@ -2,8 +2,8 @@
 ghost use Rattle.std.specs.Prelude.{◌≡◌, ◌<◌, ◌≤◌, Some, IfOk, IfErr, OnOk};
 ghost use Rattle.std.specs.Option.{ForSome};
 ghost use Rattle.std.specs.FinMap as map;
-ghost use Rattle.cs_base.specs.Causes.{Rose};
-ghost use Rattle.cs_base.specs.Outside.{size_of};
+ghost use Rattle.cs_base.specs.outside.Causes.{Rose};
+ghost use Rattle.cs_base.specs.outside.Outside.{size_of};
 ghost use Rattle.cs_engine.specs.Searching.{corpus_of_view};
 ghost use Rattle.cs_model.specs.Outputs.{script_lines};
 ghost use Rattle.cs_top.specs.Asking.{ending_of_lines, readable_lines};

@@ -10,7 +10,7 @@ use Rattle.std.proofs.lemmas.Cmp.{nat_list_cmp_total}
 use Rattle.std.proofs.lemmas.List.{drop_more}
 use Rattle.std.proofs.lemmas.List.Folds.{list_any-append, list_any_at}
 use Rattle.std.proofs.lemmas.Map.Lookups.{exact_bytes}
-use Rattle.cs_base.specs.Members.{members_in}
+use Rattle.cs_base.specs.content.Members.{members_in}
 use Rattle.cs_base.proofs.MembersLemmas.{members-alike}
 use Rattle.cs_vocab.specs.Ranges.{IsWordAt, AreNumbers}
 use Rattle.cs_vocab.specs.Gathering.{HasTaken}

@@ -14,8 +14,8 @@ use Rattle.std.proofs.lemmas.List.{get_or-map, length-map, map-append, take_more
 use Rattle.std.proofs.lemmas.List.Elements.{All-append, All-from_recursion, recursion_from_All, All-get_or}
 use Rattle.std.proofs.lemmas.List.Folds.{list_any_at}
 use Rattle.std.proofs.lemmas.Slice.Eq.{bytes_eq-Decides}
-use Rattle.cs_base.specs.contracts.word.WordOrd.TheImpl.Laws.{matches_eq-law}
-use Rattle.cs_base.specs.Members.{members_in}
+use Rattle.cs_base.specs.contracts.content.word.WordOrd.TheImpl.Laws.{matches_eq-law}
+use Rattle.cs_base.specs.content.Members.{members_in}
 use Rattle.cs_base.proofs.MembersLemmas.{all_then, is_member-listed}
 use Rattle.cs_vocab.specs.Ranges.{IsBelow, IsWordAt, AreNumbers}
 

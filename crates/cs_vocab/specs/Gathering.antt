@@ -4,7 +4,7 @@
 use Rattle.std.specs.Prelude.{◌≡◌, ℕ, ◌+◌, ◌<◌, ◌≤◌, List, [], ◌∷◌, ◌++◌, length, slice_index_or}
 use Rattle.std.specs.Ordering.{nat_cmp}
 use Rattle.std.specs.Cmp.Lexicographic.{slice_cmp}
-use Rattle.cs_base.specs.Members.{members_in}
+use Rattle.cs_base.specs.content.Members.{members_in}
 
 -- whatever words are still to come, and also where w stood among the words already and nothing was added
 pub record HasTaken (ws xs : List (List ℕ)) (w : List ℕ) : Type 0 where

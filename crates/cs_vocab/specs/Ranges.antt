@@ -11,7 +11,7 @@ use Rattle.std.specs.List.{All}
 use Rattle.std.specs.List.Sorted.{IsStrictlySortedBy, IsPartitionPoint}
 use Rattle.std.specs.Ordering.{nat_cmp, is_lt}
 use Rattle.std.specs.Cmp.Lexicographic.{slice_cmp}
-use Rattle.cs_base.specs.declared.limits.TheConstants.{MAX_ROWS}
+use Rattle.cs_base.specs.declared.content.limits.TheConstants.{MAX_ROWS}
 use Rattle.cs_model.specs.Answers.{begins}
 
 -- no word stands twice

@@ -2,7 +2,7 @@
 ghost use Rattle.std.specs.Prelude.{◌≡◌, ◌≤◌, ◌<◌, ◌^◌, true, IfOk, OnOk, length, map};
 ghost use Rattle.std.specs.Ordering.{nat_cmp};
 ghost use Rattle.std.specs.Cmp.Lexicographic.{slice_cmp};
-ghost use Rattle.cs_base.specs.Members.{members_in};
+ghost use Rattle.cs_base.specs.content.Members.{members_in};
 ghost use Rattle.cs_model.specs.Corpus.{distinct_words};
 ghost use Rattle.cs_vocab.specs.Ranges.{IsWordAt, AreNumbers};
 ghost use Rattle.cs_vocab.specs.Gathering.{HasTaken};

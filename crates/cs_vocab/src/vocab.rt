@@ -5,7 +5,7 @@ ghost use Rattle.std.specs.List.Sorted.{IsStrictlySortedBy};
 ghost use Rattle.std.specs.Ordering.{nat_cmp, is_lt};
 ghost use Rattle.std.specs.Cmp.Lexicographic.{slice_cmp};
 ghost use Rattle.std.specs.Str.{bytes_eq};
-ghost use Rattle.cs_base.specs.Members.{members_in};
+ghost use Rattle.cs_base.specs.content.Members.{members_in};
 ghost use Rattle.cs_model.specs.Answers.{begins};
 ghost use Rattle.cs_model.specs.Corpus.{distinct_words};
 ghost use Rattle.cs_vocab.specs.Ranges.{IsVocab, IsWordAt, IsRange, IsSplitBefore};

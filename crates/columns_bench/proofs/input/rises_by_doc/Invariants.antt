@@ -1,5 +1,5 @@
 use Rattle.std.proofs.Common.{ℕ, ◌+◌, ◌<◌, get_or}
-use Rattle.cs_base.specs.declared.doc.Scored.{Scored}
+use Rattle.cs_base.specs.declared.content.doc.Scored.{Scored}
 use Rattle.columns_bench.proofs.input.rises_by_doc.Given as goal
 
 abbrev pub invariant-loop-j : goal.invariant-loop-j

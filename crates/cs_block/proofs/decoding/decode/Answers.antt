@@ -1,5 +1,5 @@
 use Rattle.std.proofs.Common.{sym, ◌∙◌, ap, arith, ◌++◌, List}
-use Rattle.cs_base.specs.declared.doc.Post.{Post}
+use Rattle.cs_base.specs.declared.content.doc.Post.{Post}
 use Rattle.cs_model_index.specs.BlockRules.{rows_read}
 use Rattle.cs_block.proofs.LawsLemmas.{accepted, unique}
 use Rattle.cs_block.proofs.ItemsLemmas.{judged_cut, rows_cut}

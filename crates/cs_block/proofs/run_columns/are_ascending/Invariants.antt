@@ -1,6 +1,6 @@
 use Rattle.std.proofs.Common.{◌≡◌, ℕ, suc, ◌<◌, true}
 use Rattle.std.specs.Ordering.{is_lt}
-use Rattle.cs_base.specs.Orders.{by_place}
+use Rattle.cs_base.specs.content.Orders.{by_place}
 use Rattle.cs_block.specs.Runs.{placed}
 use Rattle.cs_block.proofs.run_columns.are_ascending.Given as goal
 

@@ -3,7 +3,7 @@ use Rattle.std.specs.Str.{is_utf8}
 use Rattle.std.proofs.lemmas.Bool.{false_from_ne_true}
 use Rattle.std.proofs.lemmas.Bool.Decides.{nat_tests}
 use Rattle.std.proofs.lemmas.Str.{IsUtf8-from_is_utf8, is_utf8-from_IsUtf8}
-use Rattle.cs_base.specs.declared.limits.TheConstants.{MAX_LINE_BYTES}
+use Rattle.cs_base.specs.declared.content.limits.TheConstants.{MAX_LINE_BYTES}
 use Rattle.cs_docs.proofs.document.text_of.Goals as goal
 
 pub returns-in_default-clause-err : goal.returns-in_default-clause-err

@@ -4,10 +4,10 @@ use Rattle.std.specs.Cmp.Lexicographic.{slice_cmp}
 use Rattle.std.specs.Str.{bytes_eq}
 use Rattle.std.proofs.lemmas.Cmp.{nat_list_cmp_total}
 use Rattle.std.proofs.lemmas.Map.Lookups.{exact_bytes}
-use Rattle.cs_base.specs.Members.{members_in}
-use Rattle.cs_base.specs.contracts.word.WordOrd.TheImpl.Laws.{matches_eq-law}
+use Rattle.cs_base.specs.content.Members.{members_in}
+use Rattle.cs_base.specs.contracts.content.word.WordOrd.TheImpl.Laws.{matches_eq-law}
 use Rattle.cs_base.proofs.MembersLemmas.{sorted_members}
-use Rattle.cs_base.specs.declared.scores.TheConstants.{FACET_SCORE}
+use Rattle.cs_base.specs.declared.content.scores.TheConstants.{FACET_SCORE}
 use Rattle.cs_model.specs.Corpus.{placed}
 use Rattle.cs_docs.specs.Listing.{listed_facets}
 use Rattle.std.specs.List.{All}

@@ -1,6 +1,6 @@
 use Rattle.std.proofs.Common.{◌≡◌, ◌++◌, map, length}
 use Rattle.std.specs.Vec.Iter.{into_iter_items, into_iter_len}
-use Rattle.cs_base.specs.declared.scores.TheConstants.{FACET_SCORE}
+use Rattle.cs_base.specs.declared.content.scores.TheConstants.{FACET_SCORE}
 use Rattle.cs_model.specs.Corpus.{placed}
 use Rattle.cs_docs.specs.Listing.{listed_facets}
 use Rattle.cs_docs.proofs.row_list.push_facets.Given as goal

@@ -1,6 +1,6 @@
 use Rattle.std.proofs.Common.{◌≡◌, ◌≤◌, ◌++◌, length, drop}
 use Rattle.std.specs.List.{All}
-use Rattle.cs_base.specs.declared.limits.TheConstants.{MAX_ROWS}
+use Rattle.cs_base.specs.declared.content.limits.TheConstants.{MAX_ROWS}
 use Rattle.cs_docs.specs.Listing.{listed_rows, HasText}
 use Rattle.cs_docs.proofs.row_list.rows_of.Given as goal
 

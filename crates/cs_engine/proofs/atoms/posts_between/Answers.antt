@@ -4,7 +4,7 @@ use Rattle.cs_cols.specs.Held.{Held}
 use Rattle.std.proofs.Common.{◌≡◌, ◌<◌, ◌&&◌, Bool, ◌++◌, ◌+◌, ◌∷◌, [], ◌∙◌, sym, ap, length, drop, get_or, arith, true, false, length-append}
 use Rattle.std.specs.Prelude.{filter, nat_le, nat_lt}
 use Rattle.std.proofs.lemmas.List.{length-map, get_or_default}
-use Rattle.cs_base.specs.declared.doc.Post.{Post}
+use Rattle.cs_base.specs.declared.content.doc.Post.{Post}
 use Rattle.cs_meet.proofs.Passes.{filter_more}
 use Rattle.cs_engine.specs.Stocked.{is_between}
 use Rattle.cs_engine.proofs.AtomsLemmas.{counted_between, word_in}

@@ -1,9 +1,9 @@
 use Rattle.std.proofs.Common.{◌≡◌, ◌<◌, ◌∙◌, ap, map, take, sym, subst, false, arith}
 use Rattle.std.proofs.lemmas.List.{take_all}
 use Rattle.std.proofs.lemmas.List.Elements.{All-from_recursion}
-use Rattle.cs_base.specs.declared.doc.Post.{Post}
-use Rattle.cs_base.specs.declared.query.Query.{out-Query}
-use Rattle.cs_base.specs.declared.query.Part.{out-Part}
+use Rattle.cs_base.specs.declared.content.doc.Post.{Post}
+use Rattle.cs_base.specs.declared.content.query.Query.{out-Query}
+use Rattle.cs_base.specs.declared.content.query.Part.{out-Part}
 use Rattle.cs_model.specs.Answers.{rows_of_part}
 use Rattle.cs_engine.specs.Searching.{part_has_join}
 use Rattle.cs_engine.specs.Stocked.{corpus_in, listed, hits_after, pairs_after, IsFound, IsKnown}

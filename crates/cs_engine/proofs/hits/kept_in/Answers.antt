@@ -1,7 +1,7 @@
 use Rattle.std.proofs.Common.{◌∙◌, ap, map, sym, subst}
-use Rattle.cs_base.specs.declared.doc.Scored.{Scored}
+use Rattle.cs_base.specs.declared.content.doc.Scored.{Scored}
 use Rattle.cs_meet.specs.Filters.{keep_docs}
-use Rattle.cs_base.specs.Orders.{AreDocs}
+use Rattle.cs_base.specs.content.Orders.{AreDocs}
 use Rattle.cs_rank.specs.DocScores.{IsBase}
 use Rattle.cs_engine.specs.Stocked.{docs_in}
 use Rattle.cs_engine.proofs.FoundLemmas.{docs_rise, all_kept}

@@ -1,5 +1,5 @@
 use Rattle.std.proofs.Common.{◌∙◌, sym, subst}
-use Rattle.cs_base.specs.Orders.{AreByDoc}
+use Rattle.cs_base.specs.content.Orders.{AreByDoc}
 use Rattle.cs_engine.proofs.FoundLemmas.{every_rises}
 use Rattle.cs_engine.proofs.hits.without.Goals as goal
 

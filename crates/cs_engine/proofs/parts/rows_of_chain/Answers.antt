@@ -1,5 +1,5 @@
 use Rattle.std.proofs.Common.{◌≡◌, false}
-use Rattle.cs_base.specs.declared.query.Chain.{out-Chain}
+use Rattle.cs_base.specs.declared.content.query.Chain.{out-Chain}
 use Rattle.cs_engine.specs.Searching.{linked_has_join}
 use Rattle.cs_engine.proofs.FoldsLemmas.{chain_plain_rest, linked_plain, at_place}
 use Rattle.cs_engine.proofs.UnionLemmas.{one_more_link}

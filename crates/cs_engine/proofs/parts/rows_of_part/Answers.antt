@@ -1,6 +1,6 @@
 use Rattle.std.proofs.Common.{◌≡◌, ◌∙◌, ap, map, take, sym, false, arith}
 use Rattle.std.proofs.lemmas.List.{take_all}
-use Rattle.cs_base.specs.declared.query.Part.{out-Part}
+use Rattle.cs_base.specs.declared.content.query.Part.{out-Part}
 use Rattle.cs_model.specs.Answers.{PartRows, rows_of_chain, union_of}
 use Rattle.cs_engine.specs.Searching.{chain_has_join}
 use Rattle.cs_engine.specs.Stocked.{corpus_in}

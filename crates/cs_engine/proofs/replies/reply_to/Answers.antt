@@ -1,7 +1,7 @@
 use Rattle.std.proofs.Common.{◌≡◌, ◌<◌, ◌∙◌, ap, map, take, drop, sym, subst, length, refl, arith}
 use Rattle.std.specs.List.{All}
-use Rattle.cs_base.specs.Members.{members_in}
-use Rattle.cs_base.specs.Orders.{by_rank}
+use Rattle.cs_base.specs.content.Members.{members_in}
+use Rattle.cs_base.specs.content.Orders.{by_rank}
 use Rattle.cs_model.specs.Answers.{parts_of}
 use Rattle.cs_model.specs.Requests.{hit_shown}
 use Rattle.cs_query.specs.RequestView.{asked}

@@ -5,8 +5,8 @@ use Rattle.std.specs.Str.{bytes_eq}
 use Rattle.std.proofs.lemmas.Iterator.Consumers.{YieldsList-end, YieldsList-at}
 use Rattle.std.proofs.lemmas.Iterator.Splits.{YieldsList-from_str_split}
 use Rattle.std.proofs.lemmas.Map.Lookups.{exact_bytes}
-use Rattle.cs_base.specs.Members.{members_in}
-use Rattle.cs_base.specs.contracts.text.TextOrd.TheImpl.Laws.{matches_eq-law}
+use Rattle.cs_base.specs.content.Members.{members_in}
+use Rattle.cs_base.specs.contracts.content.text.TextOrd.TheImpl.Laws.{matches_eq-law}
 use Rattle.cs_base.proofs.MembersLemmas.{sorted_members}
 use Rattle.cs_model.specs.Words.{is_filled}
 use Rattle.cs_http.proofs.facets.listed.Goals as goal

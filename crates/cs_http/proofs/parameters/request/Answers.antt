@@ -1,6 +1,6 @@
 use Rattle.std.specs.Prelude.{codes}
 use Rattle.std.specs.Str.{chars}
-use Rattle.cs_base.specs.declared.limits.TheConstants.{MAX_SHOWN, MAX_OFFSET}
+use Rattle.cs_base.specs.declared.content.limits.TheConstants.{MAX_SHOWN, MAX_OFFSET}
 use Rattle.cs_model.specs.FirstRefusal.{first_refusal}
 use Rattle.cs_model.specs.Parameters.{parameter, is_count, are_facets, asked_text}
 use Rattle.cs_query.specs.declared.request.Param.TheVariants as params

@@ -2,9 +2,9 @@ use Rattle.std.proofs.Common.{◌≡◌, arith, not, get_or, ap}
 use Rattle.std.specs.List.{list_any}
 use Rattle.std.proofs.lemmas.List.{get_or_default}
 use Rattle.std.proofs.lemmas.List.Kept.{IsStrictlySortedBy-filter}
-use Rattle.cs_base.specs.declared.doc.Scored.{Scored}
+use Rattle.cs_base.specs.declared.content.doc.Scored.{Scored}
 use Rattle.cs_meet.specs.Filters.{is_of}
-use Rattle.cs_base.specs.Orders.{by_doc}
+use Rattle.cs_base.specs.content.Orders.{by_doc}
 use Rattle.cs_meet.proofs.Passes.{filter_more, filter_all, ahead_more, rises_by_doc}
 use Rattle.cs_meet.proofs.documents.drop_docs.Goals as goal
 

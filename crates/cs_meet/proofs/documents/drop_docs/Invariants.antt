@@ -1,6 +1,6 @@
 use Rattle.std.proofs.Common.{◌≡◌, ◌≤◌, ◌++◌, length, drop}
 use Rattle.std.specs.Vec.{vec_len, vec_capacity}
-use Rattle.cs_base.specs.declared.doc.Scored.{Scored}
+use Rattle.cs_base.specs.declared.content.doc.Scored.{Scored}
 use Rattle.cs_meet.specs.Filters.{drop_docs}
 use Rattle.cs_meet.specs.Places.{Ahead}
 use Rattle.cs_meet.proofs.documents.drop_docs.Given as goal

@@ -2,7 +2,7 @@ use Rattle.std.proofs.Common.{◌∙◌, arith}
 use Rattle.std.proofs.lemmas.Bool.Decides.{nat_tests}
 use Rattle.cs_meet.specs.Filters.{is_of}
 use Rattle.cs_meet.proofs.Judged.{judged_at, judged_past, before_isnt_of, later_isnt_of}
-use Rattle.cs_base.specs.declared.doc.Post.{Post}
+use Rattle.cs_base.specs.declared.content.doc.Post.{Post}
 use Rattle.cs_meet.proofs.documents.has_row.Goals as goal
 
 abbrev blank : Post

@@ -1,7 +1,7 @@
 use Rattle.std.proofs.Common.{◌+◌, arith}
 use Rattle.std.specs.List.{list_any}
 use Rattle.std.proofs.lemmas.List.Kept.{IsStrictlySortedBy-filter}
-use Rattle.cs_base.specs.Orders.{by_place}
+use Rattle.cs_base.specs.content.Orders.{by_place}
 use Rattle.cs_meet.specs.Filters.{in_doc}
 use Rattle.cs_meet.proofs.Passes.{filter_more, filter_skip, filter_all}
 use Rattle.cs_meet.proofs.Listed.{listed_more, listed_on}

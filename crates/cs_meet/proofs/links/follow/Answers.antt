@@ -1,7 +1,7 @@
 use Rattle.std.proofs.Common.{◌≡◌, ◌+◌, ◌-◌, arith, subst}
 use Rattle.std.specs.List.{list_any}
 use Rattle.std.proofs.lemmas.List.Kept.{IsStrictlySortedBy-filter}
-use Rattle.cs_base.specs.Orders.{by_place}
+use Rattle.cs_base.specs.content.Orders.{by_place}
 use Rattle.cs_meet.specs.Filters.{stands_behind}
 use Rattle.cs_meet.specs.Places.{Splits}
 use Rattle.cs_meet.proofs.Passes.{filter_more, filter_skip, filter_all, ahead_more, ahead_on, rises_behind}

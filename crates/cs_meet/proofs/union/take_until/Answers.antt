@@ -1,7 +1,7 @@
 use Rattle.std.proofs.Common.{◌≡◌, ◌∙◌, ◌<◌, length, arith, sym, subst}
 use Rattle.std.specs.declared.cmp.Ordering.TheVariants.{Less}
 use Rattle.std.proofs.lemmas.List.{get_or_default}
-use Rattle.cs_base.specs.Orders.{by_place, AreSorted}
+use Rattle.cs_base.specs.content.Orders.{by_place, AreSorted}
 use Rattle.cs_base.proofs.OrdersLemmas.{less-from_test}
 use Rattle.cs_meet.proofs.United.{moves_over, less_more, order_more}
 use Rattle.cs_meet.proofs.union.take_until.Goals as goal

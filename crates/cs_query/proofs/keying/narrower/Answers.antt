@@ -1,7 +1,7 @@
 use Rattle.std.proofs.Common.{◌≡◌, ℕ, List, ◌-◌, ◌≤◌, length, take, ap, sym, subst, ◌∙◌, arith, length-append, Some}
 use Rattle.std.specs.Str.{IsCharBoundary}
-use Rattle.cs_base.specs.declared.key.Narrower.{Narrower}
-use Rattle.cs_base.specs.declared.query.Query.{Query}
+use Rattle.cs_base.specs.declared.content.key.Narrower.{Narrower}
+use Rattle.cs_base.specs.declared.content.query.Query.{Query}
 use Rattle.cs_model.specs.Canonical.{canonical}
 use Rattle.cs_model.specs.Keys.{last_prefix}
 use Rattle.cs_model.proofs.KeyLemmas.{Shortened, shortened, prefix_short}

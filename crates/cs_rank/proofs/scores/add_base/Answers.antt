@@ -1,6 +1,6 @@
 use Rattle.std.proofs.Common.{◌+◌, ap, arith, get_or}
-use Rattle.cs_base.specs.declared.doc.Scored.{Scored}
-use Rattle.cs_base.specs.declared.doc.Base.TheVariants.{Listed}
+use Rattle.cs_base.specs.declared.content.doc.Scored.{Scored}
+use Rattle.cs_base.specs.declared.content.doc.Base.TheVariants.{Listed}
 use Rattle.cs_rank.proofs.GroupsLemmas.{added}
 use Rattle.cs_rank.proofs.Lookups.{passed_more}
 use Rattle.cs_rank.proofs.scores.add_base.Goals as goal

@@ -1,6 +1,6 @@
 use Rattle.std.proofs.Common.{◌≡◌, ◌≤◌, ◌<◌, ℕ, map, take, length, get_or}
-use Rattle.cs_base.specs.declared.doc.Scored.{Scored}
-use Rattle.cs_base.specs.declared.doc.Base.TheVariants.{Listed}
+use Rattle.cs_base.specs.declared.content.doc.Scored.{Scored}
+use Rattle.cs_base.specs.declared.content.doc.Base.TheVariants.{Listed}
 use Rattle.cs_rank.specs.DocScores.{with_base, PassedBelow}
 use Rattle.cs_rank.proofs.scores.add_base.Given as goal
 

@@ -1,7 +1,7 @@
 use Rattle.std.proofs.Common.{◌∙◌, ap, sym, subst, map}
-use Rattle.cs_base.specs.declared.doc.Base.TheVariants.{Listed}
+use Rattle.cs_base.specs.declared.content.doc.Base.TheVariants.{Listed}
 use Rattle.cs_rank.specs.DocScores.{with_base, scores}
-use Rattle.cs_base.specs.Orders.{docs_of, AreByDoc}
+use Rattle.cs_base.specs.content.Orders.{docs_of, AreByDoc}
 use Rattle.cs_rank.proofs.GroupsLemmas.{best_rise, base_each}
 use Rattle.cs_rank.proofs.scores.score.Goals as goal
 

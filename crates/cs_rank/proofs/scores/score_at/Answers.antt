@@ -1,7 +1,7 @@
 use Rattle.std.proofs.Common.{ap, sym, ◌<◌, get_or, length, arith}
 use Rattle.std.specs.Prelude.{option_map, unwrap_or}
 use Rattle.std.proofs.lemmas.Bool.Decides.{nat_tests}
-use Rattle.cs_base.specs.declared.doc.Scored.{Scored}
+use Rattle.cs_base.specs.declared.content.doc.Scored.{Scored}
 use Rattle.cs_rank.proofs.Lookups.{found_at, absent}
 use Rattle.cs_rank.proofs.scores.score_at.Goals as goal
 use Rattle.cs_rank.proofs.scores.score_at.Goals.{else-place-listed-via-then-place-listed+else-listed-place, else-place-listed-via-else-place-listed}

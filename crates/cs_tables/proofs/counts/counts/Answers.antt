@@ -1,7 +1,7 @@
 use Rattle.std.proofs.Common.{◌≤◌, ◌<◌, ◌+◌, ◌-◌, ◌∙◌, ℕ, List, length, get_or, length-set, ap, sym, subst, arith}
 use Rattle.std.proofs.lemmas.Grind.{common_steps}
-use Rattle.cs_base.specs.declared.doc.Post.{Post}
-use Rattle.cs_base.specs.declared.limits.TheConstants.{MAX_DOCS, MAX_WORDS}
+use Rattle.cs_base.specs.declared.content.doc.Post.{Post}
+use Rattle.cs_base.specs.declared.content.limits.TheConstants.{MAX_DOCS, MAX_WORDS}
 use Rattle.cs_tables.specs.Marks.{collected}
 use Rattle.cs_tables.proofs.MarksLemmas.{each, has_room, in_range, seen_more}
 use Rattle.cs_tables.proofs.WordsLemmas.{counts-are, words_within}

@@ -1,5 +1,5 @@
 use Rattle.std.proofs.Common.{◌≤◌, ◌<◌, ℕ, get_or}
-use Rattle.cs_base.specs.declared.limits.TheConstants.{MAX_WORDS}
+use Rattle.cs_base.specs.declared.content.limits.TheConstants.{MAX_WORDS}
 use Rattle.cs_tables.proofs.counts.word_range.Given as goal
 
 abbrev pub invariant-loop-word : goal.invariant-loop-word

@@ -1,7 +1,7 @@
 use Rattle.std.proofs.Common.{sym, subst}
 use Rattle.std.specs.List.Sorted.{IsStrictlySortedBy}
-use Rattle.cs_base.specs.Orders.{AreSorted}
-use Rattle.cs_base.specs.declared.doc.Base.TheVariants.{Listed}
+use Rattle.cs_base.specs.content.Orders.{AreSorted}
+use Rattle.cs_base.specs.declared.content.doc.Base.TheVariants.{Listed}
 use Rattle.cs_rank.specs.DocScores.{IsBase}
 use Rattle.cs_tables.proofs.Samples.{sample-sorted, sample_base-is_base}
 use Rattle.cs_tables.proofs.tests.a_document_has_its_greatest_score_and_that_of_its_base.Goals as goal

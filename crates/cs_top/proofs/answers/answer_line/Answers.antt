@@ -1,6 +1,6 @@
 use Rattle.std.proofs.Common.{◌≡◌, ◌≢◌, ◌==◌, false, List, [], ◌∷◌, ℕ, true, length, sym, ◌++◌, ◌∙◌, inl, inr}
 use Rattle.std.specs.Prelude.{Option, None, codes, Result, Ok, Err, OnOk, OnErr, IfErr}
-use Rattle.cs_base.specs.Outside.{Grew, GrewByPrefix}
+use Rattle.cs_base.specs.outside.Outside.{Grew, GrewByPrefix}
 use Rattle.cs_engine.specs.Searching.{corpus_of_view}
 use Rattle.cs_model.specs.Corpus.{Corpus}
 use Rattle.cs_model.specs.Outputs.{line_fault, text}

@@ -1,6 +1,6 @@
 use Rattle.std.proofs.Common.{◌≡◌, take}
 use Rattle.std.specs.List.{flat_map}
-use Rattle.cs_base.specs.Outside.{Grew}
+use Rattle.cs_base.specs.outside.Outside.{Grew}
 use Rattle.cs_top.proofs.said.put_all.Given as goal
 
 abbrev pub invariant-loop-piece : goal.invariant-loop-piece

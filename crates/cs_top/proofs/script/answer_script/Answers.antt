@@ -1,6 +1,6 @@
 use Rattle.std.proofs.Common.{◌≡◌, ◌∙◌, sym, subst, arith, refl}
 use Rattle.std.specs.FinMap as map
-use Rattle.cs_base.specs.Causes.{Rose}
+use Rattle.cs_base.specs.outside.Causes.{Rose}
 use Rattle.cs_engine.specs.Searching.{corpus_of_view}
 use Rattle.cs_model.specs.Outputs.{script_lines}
 use Rattle.cs_top.specs.Asking.{readable_lines}

@@ -1,6 +1,6 @@
 use Rattle.std.proofs.Common.{◌≡◌, [], sym, ap, ◌∙◌}
 use Rattle.std.specs.List.Sorted.{IsStrictlySortedBy}
-use Rattle.cs_base.specs.Orders.{by_row}
+use Rattle.cs_base.specs.content.Orders.{by_row}
 use Rattle.cs_base.proofs.MembersLemmas.{listed_itself}
 use Rattle.cs_base.proofs.OrdersLemmas.{by_row_total, by_row_exact}
 use Rattle.cs_model.specs.Corpus.{rows_of}

@@ -1,6 +1,6 @@
 use Rattle.std.proofs.Common.{◌≡◌, ◌+◌, ◌<◌, [], ℕ, List, length, map, get_or, sym, ap, subst, ◌∙◌, arith}
 use Rattle.std.proofs.lemmas.List.{length-map, get_or-map, length-set}
-use Rattle.cs_base.specs.declared.doc.Row.{Row}
+use Rattle.cs_base.specs.declared.content.doc.Row.{Row}
 use Rattle.cs_vocab.proofs.GatheringLemmas.{HasGathered, gathered_one}
 use Rattle.cs_vocab.proofs.gathering.gather.Goals as goal
 

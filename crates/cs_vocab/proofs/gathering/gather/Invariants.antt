@@ -1,5 +1,5 @@
 use Rattle.std.proofs.Common.{◌≡◌, length, map, min}
-use Rattle.cs_base.specs.declared.doc.Row.{Row}
+use Rattle.cs_base.specs.declared.content.doc.Row.{Row}
 use Rattle.cs_vocab.specs.declared.gathering.TheConstants.{MAX_SLOTS}
 use Rattle.cs_vocab.proofs.GatheringLemmas.{HasGathered}
 use Rattle.cs_vocab.proofs.gathering.gather.Given as goal

@@ -1,5 +1,5 @@
 use Rattle.std.proofs.Common.{ℕ, List, ◌++◌, ◌<◌, take}
-use Rattle.cs_base.specs.declared.limits.TheConstants.{MAX_HEAD_BYTES}
+use Rattle.cs_base.specs.declared.content.limits.TheConstants.{MAX_HEAD_BYTES}
 use Rattle.cs_http.specs.Looking.{IsSeen}
 use Rattle.cs_http.proofs.framing.Seen.look.Given as goal
 

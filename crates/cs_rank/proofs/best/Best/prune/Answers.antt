@@ -1,5 +1,5 @@
 use Rattle.std.proofs.Common.{ap, ◌∙◌, subst, take, MatchOption, length, ◌≡◌, ◌<◌, ◌-◌, get_or}
-use Rattle.cs_base.specs.contracts.doc.ScoredOrd.TheImpl.Laws.{matches_eq-law}
+use Rattle.cs_base.specs.contracts.content.doc.ScoredOrd.TheImpl.Laws.{matches_eq-law}
 use Rattle.cs_base.proofs.OrdersLemmas.{by_rank_total, by_rank_exact}
 use Rattle.cs_base.proofs.MembersLemmas.{sorted_members}
 use Rattle.cs_rank.proofs.KeptLemmas.{full_from_last}

@@ -1,0 +1,4 @@
+pub mod Bytes
+pub mod Members
+pub mod Orders
+pub mod WordForms

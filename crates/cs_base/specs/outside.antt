@@ -1,0 +1,8 @@
+pub mod Causes
+pub mod FailingCalls
+pub mod HeldFiles
+pub mod Hub
+pub mod InMemory
+pub mod Outside
+pub mod ScriptParts
+pub mod ScriptedHub
