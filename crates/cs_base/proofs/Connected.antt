@@ -6,7 +6,7 @@ use Rattle.std.specs.FinMap as fin
 use Rattle.std.specs.FinSet as set
 use Rattle.std.proofs.lemmas.List.{map-set, map-append, length-map, length-set, length-append, get_or-map, get_or_past}
 use Rattle.std.proofs.Math.Seq.{map-set_same}
-use Rattle.cs_base.specs.outside.ScriptParts.{Connected, connected_of, changes, adds, breaks_off, bytes_on, sent_of, places_from, values_from}
+use Rattle.cs_base.specs.outside.ScriptParts.{Connected, connected_of, behind_event, adds, breaks_off, bytes_on, sent_of, places_from, values_from}
 use Rattle.cs_base.specs.declared.outside.hub.Event.TheVariants.{Opened, Ended}
 use Rattle.cs_base.specs.declared.outside.connections.Connection.{Connection}
 use Rattle.cs_base.proofs.ConnectionLists.{contains-places, get-values, set_true, set_false, remove_behind, push_true, push_false, set_value, push_none}
@@ -39,7 +39,7 @@ sent_is xs c d h = sym (ap (λ o. unwrap_or o []) (get-values (map sent_of xs) c
 pub nothing_sent : (xs : List Connection) (c : ℕ) → length xs ≤ c → [] ≡ bytes_on (connected_of xs) c
 nothing_sent xs c h = sym (ap (λ o. unwrap_or o []) (get-values (map sent_of xs) c ∙ get_or_past (map sent_of xs) c None (omega (arith, length-map xs sent_of))))
 
-pub opened_next : (xs : List Connection) (y : Connection) → y.live ≡ true → y.broken ≡ false → sent_of y ≡ None → connected_of (xs ++ y ∷ []) ≡ changes (Opened (length xs)) (connected_of xs)
+pub opened_next : (xs : List Connection) (y : Connection) → y.live ≡ true → y.broken ≡ false → sent_of y ≡ None → connected_of (xs ++ y ∷ []) ≡ behind_event (Opened (length xs)) (connected_of xs)
 opened_next xs y l b s = alike _ _
     (length-append xs (y ∷ []))
     (ap (places_from 0) (map-append (λ x. x.live) xs (y ∷ []) ∙ ap (λ v. lives xs ++ v ∷ []) l) ∙ push_true (lives xs) ∙ ap (set.insert (places_from 0 (lives xs))) (length-map xs (λ (x : Connection). x.live)))
@@ -60,7 +60,7 @@ module _ (xs : List Connection) (c : ℕ) (x y : Connection) (h : c < length xs)
       let told : unwrap_or (sent_of x) [] ≡ bytes_on (connected_of xs) c = ap (λ z. unwrap_or (sent_of z) []) is ∙ sent_is xs c x h in
       ap (values_from 0) (map-set sent_of xs c y ∙ ap (slice_set (map sent_of xs) c) (s ∙ ap (λ v. Some (v ++ bytes)) told)) ∙ set_value (map sent_of xs) c _ (within sent_of xs c h)
 
-  pub ended : y.live ≡ false → y.broken ≡ x.broken → sent_of y ≡ sent_of x → connected_of (slice_set xs c y) ≡ changes (Ended c) (connected_of xs)
+  pub ended : y.live ≡ false → y.broken ≡ x.broken → sent_of y ≡ sent_of x → connected_of (slice_set xs c y) ≡ behind_event (Ended c) (connected_of xs)
   ended l b s = alike _ _
       (length-set xs c y)
       (ap (places_from 0) (map-set (λ x. x.live) xs c y ∙ ap (slice_set (lives xs) c) l) ∙ set_false (lives xs) c (within (λ x. x.live) xs c h))
@@ -77,7 +77,7 @@ module _ (xs : List Connection) (c : ℕ) (x y : Connection) (h : c < length xs)
       (more_sent [] s)
       (ap (places_from 0) (map-set (λ x. x.broken) xs c y ∙ ap (slice_set (breaks xs) c) b) ∙ set_true (breaks xs) c (within (λ x. x.broken) xs c h))
 
-pub ended_none : (xs : List Connection) (c : ℕ) → length xs ≤ c → connected_of xs ≡ changes (Ended c) (connected_of xs)
+pub ended_none : (xs : List Connection) (c : ℕ) → length xs ≤ c → connected_of xs ≡ behind_event (Ended c) (connected_of xs)
 ended_none xs c h = alike _ _ refl (remove_behind (lives xs) c (omega (arith, length-map xs (λ (x : Connection). x.live)))) refl refl
 
 -- what was sent is taken over, or begins with no bytes

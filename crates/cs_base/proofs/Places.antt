@@ -7,7 +7,7 @@ use Rattle.std.specs.Str.{bytes_eq}
 use Rattle.std.specs.FinMap.{get, insert}
 use Rattle.std.specs.FinMap as fin
 use Rattle.std.proofs.lemmas.Cmp.{nat_list_cmp_total}
-use Rattle.cs_base.specs.outside.HeldFiles.{entry, file_of, held_in, IsPlaceOf}
+use Rattle.cs_base.specs.outside.HeldFiles.{named_file, file_of, held_in, IsPlaceOf}
 use Rattle.cs_base.specs.declared.outside.mem_files.MemFile.{MemFile}
 use Rattle.cs_base.proofs.NameMaps.{get_after, overwritten, swapped, same_name, name_itself, name_sym}
 
@@ -44,13 +44,13 @@ no_place (f ∷ fs) n before =
     get_after (held_in fs) f.name (file_of f) n ∙ ap (λ b. cond b (Some (file_of f)) (get (held_in fs) n)) other'
     ∙ no_place fs n (λ k e h. before (suc k) e (omega (arith, h)))
 
-entries_push : (fs : List MemFile) (f : MemFile) → map entry (fs ++ f ∷ []) ≡ map entry fs ++ entry f ∷ []
+entries_push : (fs : List MemFile) (f : MemFile) → map named_file (fs ++ f ∷ []) ≡ map named_file fs ++ named_file f ∷ []
 entries_push [] f = refl
-entries_push (g ∷ fs) f = ap (λ es. entry g ∷ es) (entries_push fs f)
+entries_push (g ∷ fs) f = ap (λ es. named_file g ∷ es) (entries_push fs f)
 
 -- a file whose name is new goes to the end
 pub pushed : (fs : List MemFile) (f : MemFile) → get (held_in fs) f.name ≡ None → held_in (fs ++ f ∷ []) ≡ insert (held_in fs) f.name (file_of f)
 pushed fs f none =
     ap (λ es. fin.from_entries {R = slice_cmp nat_cmp} es) (entries_push fs f)
-    ∙ fin.from_entries_push nat_list_cmp_total (fin.slice_cmp-IsAntisymmetric fin.nat_cmp-IsAntisymmetric) (map entry fs) f.name (file_of f)
+    ∙ fin.from_entries_push nat_list_cmp_total (fin.slice_cmp-IsAntisymmetric fin.nat_cmp-IsAntisymmetric) (map named_file fs) f.name (file_of f)
     (sym (fin.get-from_entries nat_list_cmp_total _ _) ∙ none)

@@ -10,7 +10,7 @@ use Rattle.std.proofs.Math.Seq.{take-append_seam}
 use Rattle.std.proofs.lemmas.List.Elements.{All-append, All-map}
 use Rattle.cs_base.specs.outside.Hub.{Listening, Talk, IsOrderly, IsNotOf, Happens, came_of, sent_on}
 use Rattle.cs_base.specs.outside.ScriptedHub.{ScriptState, is_lawful, playable, comes, left_behind, becomes, played}
-use Rattle.cs_base.specs.outside.ScriptParts.{Connected, connected_of, changes, IsKept, HeadIs, came_as, came_in, is_over}
+use Rattle.cs_base.specs.outside.ScriptParts.{Connected, connected_of, behind_event, IsKept, HeadIs, came_as, came_in, is_over}
 use Rattle.cs_base.specs.declared.outside.hub.Event.{Event}
 use Rattle.cs_base.specs.declared.outside.hub.Event.TheVariants.{Opened, Piece, Ended, Over}
 use Rattle.cs_base.specs.declared.outside.connections.Connection.{Connection}
@@ -115,13 +115,13 @@ nothing_kept left opened came is = subst (IsKept false left opened) (sym is) (re
 none_playable : (s : Listening) (left : List Scripted) → left ≡ [] → playable s left ≡ []
 none_playable s left e = ap (playable s) e
 
-same_sent : (e : Event) (x : Connected) → (changes e x).sent ≡ x.sent
+same_sent : (e : Event) (x : Connected) → (behind_event e x).sent ≡ x.sent
 same_sent (Opened c) x = refl
 same_sent (Piece c n) x = refl
 same_sent (Ended c) x = refl
 same_sent Over x = refl
 
-same_broken : (e : Event) (x : Connected) → (changes e x).broken ≡ x.broken
+same_broken : (e : Event) (x : Connected) → (behind_event e x).broken ≡ x.broken
 same_broken (Opened c) x = refl
 same_broken (Piece c n) x = refl
 same_broken (Ended c) x = refl
@@ -132,17 +132,17 @@ module _ (port conns room : ℕ) (over : Bool) (xs : List Connection) where
   hub = hub_in port conns over (connected_of xs)
 
   seen_at : (es : List Scripted) → (over ≡ true → es ≡ [])
-      → hub_in port conns (is_over (comes hub room es).event) (changes (comes hub room es).event (connected_of xs)) ≡ becomes (comes hub room es).event hub
+      → hub_in port conns (is_over (comes hub room es).event) (behind_event (comes hub room es).event (connected_of xs)) ≡ becomes (comes hub room es).event hub
   seen_at [] done = refl
   seen_at (Opens ∷ es) done = ap (λ o. becomes (Opened (length xs)) (hub_in port conns o (connected_of xs))) (sym (not_over hub Opens es done))
   seen_at (Gives c bytes ∷ es) done = ap (λ o. hub_in port conns o (connected_of xs)) (sym (not_over hub (Gives c bytes) es done))
   seen_at (Ends c ∷ es) done = ap (λ o. becomes (Ended c) (hub_in port conns o (connected_of xs))) (sym (not_over hub (Ends c) es done))
 
   -- what every hub tells behind an event that comes
-  pub seen : (es : List Scripted) (e : Event) (x : Connected) → e ≡ (comes hub room es).event → (over ≡ true → es ≡ []) → x ≡ changes e (connected_of xs)
+  pub seen : (es : List Scripted) (e : Event) (x : Connected) → e ≡ (comes hub room es).event → (over ≡ true → es ≡ []) → x ≡ behind_event e (connected_of xs)
       → hub_in port conns (is_over e) x ≡ becomes (comes hub room es).event hub
   seen es e x so done is =
-      ap (hub_in port conns (is_over e)) is ∙ subst (λ v. hub_in port conns (is_over v) (changes v (connected_of xs)) ≡ becomes (comes hub room es).event hub) (sym so) (seen_at es done)
+      ap (hub_in port conns (is_over e)) is ∙ subst (λ v. hub_in port conns (is_over v) (behind_event v (connected_of xs)) ≡ becomes (comes hub room es).event hub) (sym so) (seen_at es done)
 
   none_at : (es : List Scripted) → is_over (comes hub room es).event ≡ true → left_behind room es ≡ []
   none_at [] h = refl
@@ -150,41 +150,41 @@ module _ (port conns room : ℕ) (over : Bool) (xs : List Connection) where
   none_at (Gives c bytes ∷ es) h = cc
   none_at (Ends c ∷ es) h = cc
 
-  not_of_at : (es : List Scripted) → HeadIs (λ e. is_lawful hub e ≡ true) es → (c : ℕ) → (changes (comes hub room es).event (connected_of xs)).opened ≤ c → IsNotOf c (comes hub room es).event
+  not_of_at : (es : List Scripted) → HeadIs (λ e. is_lawful hub e ≡ true) es → (c : ℕ) → (behind_event (comes hub room es).event (connected_of xs)).opened ≤ c → IsNotOf c (comes hub room es).event
   not_of_at [] h c past = tt
   not_of_at (Opens ∷ es) h c past = λ same. absurd (omega (arith, past, same))
   not_of_at (Gives d bytes ∷ es) h c past = apart xs c d (both_true (nat_lt 0 (length bytes)) (set.contains (connected_of xs).live d) h).1 past
   not_of_at (Ends d ∷ es) h c past = apart xs c d h past
 
-  opens_more : (e : Event) → length xs ≤ (changes e (connected_of xs)).opened
+  opens_more : (e : Event) → length xs ≤ (behind_event e (connected_of xs)).opened
   opens_more (Opened c) = omega arith
   opens_more (Piece c n) = omega arith
   opens_more (Ended c) = omega arith
   opens_more Over = omega arith
 
   kept_at : (es left : List Scripted) (e : Event) (came : List Heard) (h : Heard) → IsKept over left (length xs) came → HeadIs (λ e. is_lawful hub e ≡ true) es
-      → e ≡ (comes hub room es).event → h.event ≡ e → IsKept (is_over e) (left_behind room es) (changes e (connected_of xs)).opened (came ++ h ∷ [])
+      → e ≡ (comes hub room es).event → h.event ≡ e → IsKept (is_over e) (left_behind room es) (behind_event e (connected_of xs)).opened (came ++ h ∷ [])
   kept_at es left e came h was lawful so noted = record {
     done = λ at_end. none_at es (ap is_over (sym so) ∙ at_end);
     fresh = λ c past.
         All-append (λ (g : Heard). IsNotOf c g.event) came (h ∷ []) (was.fresh c (omega (arith, opens_more e, past)))
-        (one (λ (g : Heard). IsNotOf c g.event) h (subst (IsNotOf c) (sym (noted ∙ so)) (not_of_at es lawful c (subst (λ v. (changes v (connected_of xs)).opened ≤ c) so past))));
+        (one (λ (g : Heard). IsNotOf c g.event) h (subst (IsNotOf c) (sym (noted ∙ so)) (not_of_at es lawful c (subst (λ v. (behind_event v (connected_of xs)).opened ≤ c) so past))));
   }
 
   -- what is kept behind an event that comes
   pub kept : (left left' : List Scripted) (e : Event) (x : Connected) (came came' : List Heard) (h : Heard) (over' : Bool) → IsKept over left (length xs) came
-      → e ≡ (comes hub room (playable hub left)).event → x ≡ changes e (connected_of xs) → left' ≡ left_behind room (playable hub left) → h.event ≡ e → came' ≡ came ++ h ∷ [] → over' ≡ is_over e
+      → e ≡ (comes hub room (playable hub left)).event → x ≡ behind_event e (connected_of xs) → left' ≡ left_behind room (playable hub left) → h.event ≡ e → came' ≡ came ++ h ∷ [] → over' ≡ is_over e
       → IsKept over' left' x.opened came'
   kept left left' e x came came' h over' was so changed is noted pushed at_end =
       subst (λ o. IsKept o left' x.opened came') (sym at_end) (
       subst (λ l. IsKept (is_over e) l x.opened came') (sym is) (
       subst (λ y. IsKept (is_over e) (left_behind room (playable hub left)) y.opened came') (sym changed) (
-      subst (λ hs. IsKept (is_over e) (left_behind room (playable hub left)) (changes e (connected_of xs)).opened hs) (sym pushed)
+      subst (λ hs. IsKept (is_over e) (left_behind room (playable hub left)) (behind_event e (connected_of xs)).opened hs) (sym pushed)
       (kept_at (playable hub left) left e came h was (lawful_head (is_lawful hub) left) so noted))))
 
   -- such a hub behind an event that comes
   pub played_so : (left left' : List Scripted) (e : Event) (x : Connected) (came came' : List Heard) (h : Heard) (over' : Bool) (buffer nexts sends : List ℕ) (f sf : ℕ) → IsKept over left (length xs) came
-      → came_of e buffer ≡ comes hub room (playable hub left) → x ≡ changes e (connected_of xs) → left' ≡ left_behind room (playable hub left) → came_as h ≡ came_of e buffer → came' ≡ came ++ h ∷ [] → over' ≡ is_over e
+      → came_of e buffer ≡ comes hub room (playable hub left) → x ≡ behind_event e (connected_of xs) → left' ≡ left_behind room (playable hub left) → came_as h ≡ came_of e buffer → came' ≡ came ++ h ∷ [] → over' ≡ is_over e
       → state_of port conns over' x came' left' nexts sends f sf ≡ played room (state_of port conns over (connected_of xs) came left nexts sends f sf)
   played_so left left' e x came came' h over' buffer nexts sends f sf was so changed is noted pushed at_end =
       let event : e ≡ (comes hub room (playable hub left)).event = sym (event_of e buffer) ∙ ap (λ v. v.event) so in
@@ -205,7 +205,7 @@ module _ (port conns room : ℕ) (over : Bool) (xs : List Connection) where
 
   -- an event that comes happens
   pub came_happens : (left : List Scripted) (e : Event) (x : Connected) (came : List Heard) (over' : Bool) → 0 < room → IsKept over left (length xs) came
-      → e ≡ (comes hub room (playable hub left)).event → x ≡ changes e (connected_of xs) → over' ≡ is_over e → Happens hub room e (hub_in port conns over' x)
+      → e ≡ (comes hub room (playable hub left)).event → x ≡ behind_event e (connected_of xs) → over' ≡ is_over e → Happens hub room e (hub_in port conns over' x)
   came_happens left e x came over' some was so changed at_end =
       let done : over ≡ true → playable hub left ≡ [] = λ full. none_playable hub left (was.done full) in
       subst (λ t. Happens hub room e t) (sym (ap (λ o. hub_in port conns o x) at_end ∙ seen (playable hub left) e x so done changed))

@@ -21,7 +21,7 @@ use Rattle.cs_model.specs.Scores.{SCORES}
 use Rattle.cs_model_index.specs.BlockRules.{row_at, is_scored, is_after, BlockColumns}
 use Rattle.cs_block.specs.Reading.{GapHere}
 use Rattle.cs_block.specs.Pass.{HasPushed}
-use Rattle.cs_block.specs.Runs.{place_after, doc_after, HasGap, AreDocs, HasDocs, AreWords, ArePositions, is_position, AreScores, is_score, AreOnward, AreAscending, row_in}
+use Rattle.cs_block.specs.Runs.{place_after, doc_after, HasGap, HaveDocs, HasDocs, AreWords, ArePositions, is_position, AreScores, is_score, AreOnward, AreAscending, row_in}
 use Rattle.cs_block.proofs.PassLemmas.{pushes_on, Tests}
 
 -- ---- a column that is filled
@@ -81,7 +81,7 @@ docs_all gaps at before docs ds i next doc e below h = record {
   within = h.inside;
 }
 
-pub docs_onward : (gaps : List ℕ) (at before docs : ℕ) (ds : List ℕ) → AreDocs gaps at before docs ds → AreOnward ds
+pub docs_onward : (gaps : List ℕ) (at before docs : ℕ) (ds : List ℕ) → HaveDocs gaps at before docs ds → AreOnward ds
 docs_onward gaps at before docs ds h = λ j lt.
     (let here = (h j (omega arith)).0 in
     let more = (h (suc j) lt).0 in
@@ -253,7 +253,7 @@ score_at scores i n j lt =
 
 pub is_run : (head : BlockHead) (docs : ℕ) (c : BlockColumns) (i at before : ℕ) (last : Option Post) (ds ws ps ss : List ℕ) (n : ℕ)
     → length ds ≡ n → length ws ≡ n → length ps ≡ n → length ss ≡ n → i + n ≤ head.rows → ss ≡ take n (drop i c.scores)
-    → AreDocs c.gaps at before docs ds → AreWords head.lo head.words c.words i ws → ArePositions head.facet c.positions i ps → AreScores head.facet ss → AreAscending ds ws ps
+    → HaveDocs c.gaps at before docs ds → AreWords head.lo head.words c.words i ws → ArePositions head.facet c.positions i ps → AreScores head.facet ss → AreAscending ds ws ps
     → is_after last (row_in ds ws ps ss 0) ≡ true → IsRun head docs c i at before last ds ws ps ss
 is_run head docs c i at before last ds ws ps ss n ld lw lp ls within cut_out are_docs are_words are_positions are_scores ascending front = record {
   even = (omega arith, omega arith, omega arith);

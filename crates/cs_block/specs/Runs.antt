@@ -3,7 +3,7 @@
 --   place_after gaps at j          the place behind the first j codes of those that begin at a place of the gap column
 --   doc_after gaps at before j     the document of the row that has the last of them, where the row in front is in `before`
 --   HasGap gaps at before j d      the code of row j stands where it should, and d is the document that it makes
---   AreDocs gaps at before docs ds      the documents of as many rows, each below docs
+--   HaveDocs gaps at before docs ds     the documents of as many rows, each below docs
 --   HasDocs gaps at before docs ds next      they are, and next is the place behind their codes
 --   AreWords lo words bytes first ws    the words of the rows from `first` on, two bytes a row, each of the block
 --   is_position facet p            a position that a row of a facet word, or of any other word, may have
@@ -11,7 +11,7 @@
 --   is_score facet s               a score that it may have
 --   AreScores facet ss             scores of the block's kind
 --   row_in ds ws ps ss j           row j of four columns
---   placed ds ws ps j              its place among rows: it without its score, which has no say in the order
+--   unscored ds ws ps j            its place among rows: it without its score, which has no say in the order
 --   AreOnward ds                   no document below the one before it
 --   AreAscending ds ws ps          each row behind the one before it
 use Rattle.std.specs.Prelude.{◌≡◌, ℕ, zero, suc, ◌+◌, ◌*◌, ◌<◌, ◌≤◌, ◌&&◌, ◌||◌, ◌==◌, nat_le, true, Bool, List, length, take, drop, slice_index_or, if◌then◌else◌}
@@ -41,12 +41,12 @@ abbrev pub HasGap : List ℕ → ℕ → ℕ → ℕ → ℕ → Type 0
 HasGap gaps at before j d = (n : ℕ) × GapHere gaps (place_after gaps at j) n (place_after gaps at (suc j)) × (d ≡ doc_after gaps at before j + n)
 
 -- also of no documents
-abbrev pub AreDocs : List ℕ → ℕ → ℕ → ℕ → List ℕ → Type 0
-AreDocs gaps at before docs ds = (j : ℕ) → j < length ds → HasGap gaps at before j (slice_index_or ds j 0) × (slice_index_or ds j 0 < docs)
+abbrev pub HaveDocs : List ℕ → ℕ → ℕ → ℕ → List ℕ → Type 0
+HaveDocs gaps at before docs ds = (j : ℕ) → j < length ds → HasGap gaps at before j (slice_index_or ds j 0) × (slice_index_or ds j 0 < docs)
 
 -- of no documents the place itself
 pub record HasDocs (gaps : List ℕ) (at before docs : ℕ) (ds : List ℕ) (next : ℕ) : Type 0 where
-  pub are : AreDocs gaps at before docs ds
+  pub are : HaveDocs gaps at before docs ds
   pub next_is : next ≡ place_after gaps at (length ds)
   pub within : next ≤ length gaps
 
@@ -79,8 +79,8 @@ abbrev pub row_in : List ℕ → List ℕ → List ℕ → List ℕ → ℕ → 
 row_in ds ws ps ss j = record { doc = slice_index_or ds j 0; word = slice_index_or ws j 0; pos = slice_index_or ps j 0; score = slice_index_or ss j 0 }
 
 -- its score is 0
-abbrev pub placed : List ℕ → List ℕ → List ℕ → ℕ → Post
-placed ds ws ps j = record { doc = slice_index_or ds j 0; word = slice_index_or ws j 0; pos = slice_index_or ps j 0; score = 0 }
+abbrev pub unscored : List ℕ → List ℕ → List ℕ → ℕ → Post
+unscored ds ws ps j = record { doc = slice_index_or ds j 0; word = slice_index_or ws j 0; pos = slice_index_or ps j 0; score = 0 }
 
 -- also of no documents and of one
 abbrev pub AreOnward : List ℕ → Type 0
@@ -88,4 +88,4 @@ AreOnward ds = (j : ℕ) → suc j < length ds → slice_index_or ds j 0 ≤ sli
 
 -- also of no rows and of one
 abbrev pub AreAscending : List ℕ → List ℕ → List ℕ → Type 0
-AreAscending ds ws ps = (j : ℕ) → suc j < length ds → is_lt (by_place (placed ds ws ps j) (placed ds ws ps (suc j))) ≡ true
+AreAscending ds ws ps = (j : ℕ) → suc j < length ds → is_lt (by_place (unscored ds ws ps j) (unscored ds ws ps (suc j))) ≡ true

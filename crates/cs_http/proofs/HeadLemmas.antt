@@ -14,13 +14,13 @@ use Rattle.httparse.specs.Grammar.{RequestHead}
 use Rattle.httparse.specs.Spans.{header_bytes, AreFieldsAt}
 use Rattle.httparse.specs.declared.spans.HeaderSpan.{HeaderSpan}
 use Rattle.cs_model_serving.specs.HeadReader.{IsHead, IsNoHead}
-use Rattle.cs_model_serving.specs.Heads.{NameValue, fields_of, has_body, closes, path_of, params_of, not_head, with_body, other_path, other_method, Judgement, refused, asks, judged_by, judged, judge}
+use Rattle.cs_model_serving.specs.Heads.{NameValue, fields_of, has_body, closes, path_of, params_of, not_head, with_body, other_path, other_method, Judgement, refused, asks, judged_by, judged_head, judge}
 use Rattle.cs_model_serving.proofs.ReaderLemmas.{head_is_read, none_is_read}
 use Rattle.cs_model.specs.First.{unless, first_reason}
 
 pub judged_none : (bytes : List ℕ) → IsNoHead bytes → judge bytes ≡ refused not_head
 unfolding judge
-judged_none bytes none = ap judged (none_is_read bytes none)
+judged_none bytes none = ap judged_head (none_is_read bytes none)
 
 -- by three tests
 abbrev by_tests : RequestHead → Bool → Bool → Bool → Judgement
@@ -35,7 +35,7 @@ has_method h = bytes_eq h.method (codes "GET")
 
 judged_head : (bytes : List ℕ) (h : RequestHead) → IsHead bytes h → judge bytes ≡ by_tests h (has_body h) (has_path h) (has_method h)
 unfolding judge
-judged_head bytes h is = ap judged (head_is_read bytes h is)
+judged_head bytes h is = ap judged_head (head_is_read bytes h is)
 
 pub judged_body : (bytes : List ℕ) (h : RequestHead) → IsHead bytes h → has_body h ≡ true → judge bytes ≡ refused with_body
 judged_body bytes h is body = judged_head bytes h is ∙ ap (λ t. by_tests h t (has_path h) (has_method h)) body

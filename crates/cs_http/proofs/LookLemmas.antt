@@ -16,7 +16,7 @@ use Rattle.cs_base.specs.declared.content.limits.TheConstants.{MAX_HEAD_BYTES}
 use Rattle.cs_model.specs.Words.{is_filled}
 use Rattle.cs_model_serving.specs.declared.framed.Framed.{Framed}
 use Rattle.cs_model_serving.specs.declared.framed.Framed.TheVariants as framed
-use Rattle.cs_model_serving.specs.Framing.{is_line_feed, ended_lines, is_empty_line, bytes_of, front_lines, later_lines, place_in, framed_by, frame}
+use Rattle.cs_model_serving.specs.Framing.{is_line_feed, ended_lines, is_empty_line, lines_len, front_lines, later_lines, place_in, framed_by, frame}
 use Rattle.cs_model_serving.proofs.FrameLemmas.{frame-head, frame-too_long, frame-few, frame-nil}
 use Rattle.cs_http.specs.declared.framing.Tail.{Tail}
 use Rattle.cs_http.specs.declared.framing.Tail.TheVariants.{Empty, Return, Text}
@@ -51,7 +51,7 @@ look_head b skip end h some = ap (look_by b) (frame-small b h ∙ ap (framed_by 
 -- ---- what was seen
 pub record IsOld (b : List ℕ) (s : Seen) : Type 0 where
   pub count : s.count ≡ length b
-  pub skip : s.skip ≡ bytes_of (front_lines (ended_lines b))
+  pub skip : s.skip ≡ lines_len (front_lines (ended_lines b))
   pub tail : s.tail ≡ tail_of (open_line b)
   pub begun : s.begun ≡ is_filled (later_lines (ended_lines b))
   pub few : length b < MAX_HEAD_BYTES
@@ -75,7 +75,7 @@ old_of b s is =
     }
 
 -- what is seen of bytes, from its fields
-seen_by : (b : List ℕ) (count skip : ℕ) (tail : Tail) (begun : Bool) → count ≡ length b → skip ≡ bytes_of (front_lines (ended_lines b)) → tail ≡ tail_of (open_line b) → begun ≡ is_filled (later_lines (ended_lines b)) → record { count = count; skip = skip; tail = tail; begun = begun } ≡ seen_of b
+seen_by : (b : List ℕ) (count skip : ℕ) (tail : Tail) (begun : Bool) → count ≡ length b → skip ≡ lines_len (front_lines (ended_lines b)) → tail ≡ tail_of (open_line b) → begun ≡ is_filled (later_lines (ended_lines b)) → record { count = count; skip = skip; tail = tail; begun = begun } ≡ seen_of b
 unfolding seen_of
 seen_by b count skip tail begun e f g h = λ i. record { count = e i; skip = f i; tail = g i; begun = h i }
 
@@ -89,7 +89,7 @@ put_seen b s c tail old other is =
     let opens = byte_opens b c other in
     let size = longer b c in
     ap within_limit (seen_by (b ++ c ∷ []) (s.count + 1) s.skip tail s.begun (omega (arith, size, old.count))
-    (old.skip ∙ ap (λ ls. bytes_of (front_lines ls)) (sym opens.ended))
+    (old.skip ∙ ap (λ ls. lines_len (front_lines ls)) (sym opens.ended))
     (is ∙ ap tail_of (sym opens.«open»))
     (old.begun ∙ ap (λ ls. is_filled (later_lines ls)) (sym opens.ended)))
     ∙ sym (look_none (b ++ c ∷ []) (omega (arith, size, old.few)) (ap place_in opens.ended ∙ old.none))
@@ -117,13 +117,13 @@ empty_tail (b ∷ c ∷ l) h = absurd (h refl)
 abbrev pushed : List ℕ → List (List ℕ)
 pushed b = ended_lines b ++ open_line b ∷ []
 
-fed_seen : (b : List ℕ) (skip : ℕ) (begun : Bool) → length b < MAX_HEAD_BYTES → place_in (pushed b) ≡ None → skip ≡ bytes_of (front_lines (pushed b)) → begun ≡ is_filled (later_lines (pushed b))
+fed_seen : (b : List ℕ) (skip : ℕ) (begun : Bool) → length b < MAX_HEAD_BYTES → place_in (pushed b) ≡ None → skip ≡ lines_len (front_lines (pushed b)) → begun ≡ is_filled (later_lines (pushed b))
     → within_limit (record { count = length b + 1; skip = skip; tail = Empty; begun = begun }) ≡ look_of (b ++ 10 ∷ [])
 fed_seen b skip begun few none e f =
     let feeds = feed_ends b in
     let size = longer b 10 in
     ap within_limit (seen_by (b ++ 10 ∷ []) (length b + 1) skip Empty begun (sym size)
-    (e ∙ ap (λ ls. bytes_of (front_lines ls)) (sym feeds.ended))
+    (e ∙ ap (λ ls. lines_len (front_lines ls)) (sym feeds.ended))
     (ap tail_of (sym feeds.«open»))
     (f ∙ ap (λ ls. is_filled (later_lines ls)) (sym feeds.ended)))
     ∙ sym (look_none (b ++ 10 ∷ []) (omega (arith, size, few)) (ap place_in feeds.ended ∙ none))
@@ -136,8 +136,8 @@ end_text b s old is =
     let text : is_empty_line l ≡ false = text_tail l (sym old.tail ∙ is) in
     ap (λ n. within_limit (record { count = n + 1; skip = s.skip; tail = Empty; begun = true })) old.count
     ∙ ⊎_elim
-    (λ e. let p = push_begun lines l old.none e in fed_seen b s.skip true old.few (p.none text) (old.skip ∙ ap bytes_of (sym p.front)) (sym p.begun))
-    (λ e. let p = push_blank lines l e in fed_seen b s.skip true old.few p.none (old.skip ∙ ap bytes_of (sym (p.begins text).0)) (sym (p.begins text).1))
+    (λ e. let p = push_begun lines l old.none e in fed_seen b s.skip true old.few (p.none text) (old.skip ∙ ap lines_len (sym p.front)) (sym p.begun))
+    (λ e. let p = push_blank lines l e in fed_seen b s.skip true old.few p.none (old.skip ∙ ap lines_len (sym (p.begins text).0)) (sym (p.begins text).1))
     (cases_Bool (is_filled (later_lines lines)))
 
 pub end_head : (b : List ℕ) (s : Seen) → IsOld b s → (s.tail ≡ Text → ⊥) → s.begun ≡ true → Head s.skip (s.count + 1) ≡ look_of (b ++ 10 ∷ [])
@@ -147,9 +147,9 @@ end_head b s old other begun =
     let empty : is_empty_line l ≡ true = empty_tail l (λ e. other (old.tail ∙ e)) in
     let p = push_begun lines l old.none (sym old.begun ∙ begun) in
     let size = longer b 10 in
-    let end : s.count + 1 ≡ bytes_of lines + (length l + 1) = omega (arith, old.count, size-open b) in
+    let end : s.count + 1 ≡ lines_len lines + (length l + 1) = omega (arith, old.count, size-open b) in
     ap₂ Head old.skip end
-    ∙ sym (look_head (b ++ 10 ∷ []) (bytes_of (front_lines lines)) (bytes_of lines + (length l + 1)) (omega (arith, size, old.few)) (ap place_in (feed_ends b).ended ∙ p.ends empty))
+    ∙ sym (look_head (b ++ 10 ∷ []) (lines_len (front_lines lines)) (lines_len lines + (length l + 1)) (omega (arith, size, old.few)) (ap place_in (feed_ends b).ended ∙ p.ends empty))
 
 pub end_blank : (b : List ℕ) (s : Seen) → IsOld b s → (s.tail ≡ Text → ⊥) → s.begun ≡ false
     → within_limit (record { count = s.count + 1; skip = s.count + 1; tail = Empty; begun = false }) ≡ look_of (b ++ 10 ∷ [])
@@ -158,9 +158,9 @@ end_blank b s old other begun =
     let l = open_line b in
     let empty : is_empty_line l ≡ true = empty_tail l (λ e. other (old.tail ∙ e)) in
     let p = push_blank lines l (sym old.begun ∙ begun) in
-    let skip : length b + 1 ≡ bytes_of (pushed b) = omega (arith, size-open b, sum_by-append (λ l. length l + 1) lines (l ∷ [])) in
+    let skip : length b + 1 ≡ lines_len (pushed b) = omega (arith, size-open b, sum_by-append (λ l. length l + 1) lines (l ∷ [])) in
     ap (λ n. within_limit (record { count = n + 1; skip = n + 1; tail = Empty; begun = false })) old.count
-    ∙ fed_seen b (length b + 1) false old.few p.none (skip ∙ ap bytes_of (sym (p.skips empty).0)) (sym (p.skips empty).1)
+    ∙ fed_seen b (length b + 1) false old.few p.none (skip ∙ ap lines_len (sym (p.skips empty).0)) (sym (p.skips empty).1)
 
 -- ---- more bytes
 -- what is found, and no more is to come

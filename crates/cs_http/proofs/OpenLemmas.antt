@@ -7,20 +7,20 @@ use Rattle.std.proofs.Common.{◌≡◌, ℕ, ◌+◌, ⊎_elim, false, List, []
 use Rattle.std.proofs.Math.Seq.{drop-append-add}
 use Rattle.std.proofs.lemmas.Bool.{cases_Bool, eqb-true}
 use Rattle.std.proofs.lemmas.List.Sums.{sum_by-cons}
-use Rattle.cs_model_serving.specs.Framing.{is_line_feed, ended_lines, bytes_of}
+use Rattle.cs_model_serving.specs.Framing.{is_line_feed, ended_lines, lines_len}
 use Rattle.cs_model_serving.proofs.LineLemmas.{HasNoFeed, no_feed_nil, no_feed_push, ended_none, ended_first, ended_size}
 use Rattle.cs_http.specs.Looking.{open_line}
 
 open_none : (text : List ℕ) → HasNoFeed text → open_line text ≡ text
 unfolding open_line
-open_none text h = ap (λ ls. drop (bytes_of ls) text) (ended_none text h)
+open_none text h = ap (λ ls. drop (lines_len ls) text) (ended_none text h)
 
 open_first : (text bytes : List ℕ) → HasNoFeed text → open_line (text ++ 10 ∷ bytes) ≡ open_line bytes
 unfolding open_line
 open_first text bytes h =
-    let size : bytes_of (ended_lines (text ++ 10 ∷ bytes)) ≡ length (text ++ 10 ∷ []) + bytes_of (ended_lines bytes) =
-    omega (arith, ap bytes_of (ended_first text bytes h), sum_by-cons (λ l. length l + 1) text (ended_lines bytes), length-append text (10 ∷ [])) in
-    ap₂ drop size (sym (append_assoc text (10 ∷ []) bytes)) ∙ drop-append-add (text ++ 10 ∷ []) bytes (bytes_of (ended_lines bytes))
+    let size : lines_len (ended_lines (text ++ 10 ∷ bytes)) ≡ length (text ++ 10 ∷ []) + lines_len (ended_lines bytes) =
+    omega (arith, ap lines_len (ended_first text bytes h), sum_by-cons (λ l. length l + 1) text (ended_lines bytes), length-append text (10 ∷ [])) in
+    ap₂ drop size (sym (append_assoc text (10 ∷ []) bytes)) ∙ drop-append-add (text ++ 10 ∷ []) bytes (lines_len (ended_lines bytes))
 
 regroup : (text bytes : List ℕ) (b : ℕ) → text ++ b ∷ bytes ≡ (text ++ b ∷ []) ++ bytes
 regroup text bytes b = sym (append_assoc text (b ∷ []) bytes)
@@ -78,6 +78,6 @@ pub record Opens (b : List ℕ) (c : ℕ) : Type 0 where
 pub byte_opens : (b : List ℕ) (c : ℕ) → is_line_feed c ≡ false → Opens b c
 byte_opens b c e = let p = put_from c (λ l. []) (λ l. l ++ c ∷ []) (byte_text c e) b [] no_feed_nil in record { ended = p.ended ∙ append-nil (ended_lines b); «open» = p.«open» }
 
-pub size-open : (b : List ℕ) → length b ≡ bytes_of (ended_lines b) + length (open_line b)
+pub size-open : (b : List ℕ) → length b ≡ lines_len (ended_lines b) + length (open_line b)
 unfolding open_line
-size-open b = omega (arith, ended_size b, length-drop (bytes_of (ended_lines b)) b)
+size-open b = omega (arith, ended_size b, length-drop (lines_len (ended_lines b)) b)

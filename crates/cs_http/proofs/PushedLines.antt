@@ -10,7 +10,7 @@ use Rattle.std.proofs.lemmas.Bool.Decides.{nat_tests}
 use Rattle.std.proofs.lemmas.List.{take-append-le, drop-append-le, take_all}
 use Rattle.std.proofs.lemmas.List.Sums.{sum_by-append}
 use Rattle.cs_model.specs.Words.{is_filled}
-use Rattle.cs_model_serving.specs.Framing.{is_empty_line, bytes_of, front_lines, later_lines, text_lines, closing_lines, place_by, place_in}
+use Rattle.cs_model_serving.specs.Framing.{is_empty_line, lines_len, front_lines, later_lines, text_lines, closing_lines, place_by, place_in}
 
 -- ---- how many pass from the front on
 one_more : {X : Type 0} (p : X → Bool) (x : X) (xs : List X) → p x ≡ true → prefix_len p (x ∷ xs) ≡ 1 + prefix_len p xs
@@ -82,12 +82,12 @@ closed skip text (l ∷ lines) h = absurd (cc)
 -- each line from the first on that isn't empty has text
 all_text : (lines : List (List ℕ)) → place_in lines ≡ None → length (later_lines lines) ≤ prefix_len is_text_line (later_lines lines)
 all_text lines h =
-    let none : closing_lines lines ≡ [] = closed (bytes_of (front_lines lines)) (bytes_of (text_lines lines)) (closing_lines lines) h in
+    let none : closing_lines lines ≡ [] = closed (lines_len (front_lines lines)) (lines_len (text_lines lines)) (closing_lines lines) h in
     omega (arith, ap length none, length-drop (prefix_len is_text_line (later_lines lines)) (later_lines lines))
 
-size-parts : (lines : List (List ℕ)) → bytes_of lines ≡ bytes_of (front_lines lines) + bytes_of (later_lines lines)
+size-parts : (lines : List (List ℕ)) → lines_len lines ≡ lines_len (front_lines lines) + lines_len (later_lines lines)
 size-parts lines =
-    ap bytes_of (sym (take-append-drop (prefix_len is_empty_line lines) lines)) ∙ sum_by-append (λ l. length l + 1) (front_lines lines) (later_lines lines)
+    ap lines_len (sym (take-append-drop (prefix_len is_empty_line lines) lines)) ∙ sum_by-append (λ l. length l + 1) (front_lines lines) (later_lines lines)
 
 more_than_none : (n : ℕ) → nat_lt 0 n ≡ true → 0 < n
 more_than_none n h = grind (arith, nat_tests)
@@ -106,12 +106,12 @@ filled-snoc (x ∷ lines) l = some_more (length (lines ++ l ∷ []))
 pub record PushesText (lines : List (List ℕ)) (l : List ℕ) : Type 0 where
   pub front : front_lines (lines ++ l ∷ []) ≡ front_lines lines
   pub begun : is_filled (later_lines (lines ++ l ∷ [])) ≡ true
-  pub ends : is_empty_line l ≡ true → place_in (lines ++ l ∷ []) ≡ Some (bytes_of (front_lines lines), bytes_of lines + (length l + 1))
+  pub ends : is_empty_line l ≡ true → place_in (lines ++ l ∷ []) ≡ Some (lines_len (front_lines lines), lines_len lines + (length l + 1))
   pub none : is_empty_line l ≡ false → place_in (lines ++ l ∷ []) ≡ None
 
 -- by the parts
 abbrev place_at : List (List ℕ) → List (List ℕ) → Option (ℕ × ℕ)
-place_at front later = place_by (bytes_of front) (bytes_of (passed is_text_line later)) (left is_text_line later)
+place_at front later = place_by (lines_len front) (lines_len (passed is_text_line later)) (left is_text_line later)
 
 pub push_begun : (lines : List (List ℕ)) (l : List ℕ) → place_in lines ≡ None → is_filled (later_lines lines) ≡ true → PushesText lines l
 push_begun lines l h begun =
@@ -119,8 +119,8 @@ push_begun lines l h begun =
     let few : prefix_len is_empty_line lines < length lines = omega (arith, filled, length-drop (prefix_len is_empty_line lines) lines) in
     let parts = stays is_empty_line lines (l ∷ []) few in
     let text = goes_on is_text_line (later_lines lines) (l ∷ []) (all_text lines h) in
-    let place : place_in (lines ++ l ∷ []) ≡ place_by (bytes_of (front_lines lines)) (bytes_of (later_lines lines ++ passed is_text_line (l ∷ []))) (left is_text_line (l ∷ [])) =
-    ap₂ place_at parts.passed_are parts.left_are ∙ ap₂ (λ a b. place_by (bytes_of (front_lines lines)) (bytes_of a) b) text.passed_are text.left_are in
+    let place : place_in (lines ++ l ∷ []) ≡ place_by (lines_len (front_lines lines)) (lines_len (later_lines lines ++ passed is_text_line (l ∷ []))) (left is_text_line (l ∷ [])) =
+    ap₂ place_at parts.passed_are parts.left_are ∙ ap₂ (λ a b. place_by (lines_len (front_lines lines)) (lines_len a) b) text.passed_are text.left_are in
     record {
       front = parts.passed_are;
       begun = ap is_filled parts.left_are ∙ filled-snoc (later_lines lines) l;
@@ -129,13 +129,13 @@ push_begun lines l h begun =
           let one : passed is_text_line (l ∷ []) ≡ [] = ap (λ m. take m (l ∷ [])) n in
           let rest : left is_text_line (l ∷ []) ≡ l ∷ [] = ap (λ m. drop m (l ∷ [])) n in
           place
-          ∙ ap₂ (λ a b. place_by (bytes_of (front_lines lines)) (bytes_of (later_lines lines ++ a)) b) one rest
-          ∙ ap (λ ls. place_by (bytes_of (front_lines lines)) (bytes_of ls) (l ∷ [])) (append-nil (later_lines lines))
-          ∙ ap (λ m. Some (bytes_of (front_lines lines), m + (length l + 1))) (sym (size-parts lines));
+          ∙ ap₂ (λ a b. place_by (lines_len (front_lines lines)) (lines_len (later_lines lines ++ a)) b) one rest
+          ∙ ap (λ ls. place_by (lines_len (front_lines lines)) (lines_len ls) (l ∷ [])) (append-nil (later_lines lines))
+          ∙ ap (λ m. Some (lines_len (front_lines lines), m + (length l + 1))) (sym (size-parts lines));
       none = λ e.
           let n = one_more is_text_line l [] (ap not e) in
           let rest : left is_text_line (l ∷ []) ≡ [] = ap (λ m. drop m (l ∷ [])) n in
-          place ∙ ap (place_by (bytes_of (front_lines lines)) (bytes_of (later_lines lines ++ passed is_text_line (l ∷ [])))) rest;
+          place ∙ ap (place_by (lines_len (front_lines lines)) (lines_len (later_lines lines ++ passed is_text_line (l ∷ [])))) rest;
     }
 
 -- a line behind empty lines alone
@@ -163,7 +163,7 @@ push_blank lines l blank =
           (λ e. ap (place_at (front_lines (lines ++ l ∷ []))) (skips e).1)
           (λ e. let n = one_more is_text_line l [] (ap not e) in
           ap (place_at (front_lines (lines ++ l ∷ []))) (begins e).1
-          ∙ ap (place_by (bytes_of (front_lines (lines ++ l ∷ []))) (bytes_of (passed is_text_line (l ∷ [])))) (ap (λ m. drop m (l ∷ [])) n))
+          ∙ ap (place_by (lines_len (front_lines (lines ++ l ∷ []))) (lines_len (passed is_text_line (l ∷ [])))) (ap (λ m. drop m (l ∷ [])) n))
           (cases_Bool (is_empty_line l));
       old = old;
       skips = λ e. ((skips e).0, ap is_filled (skips e).1);

@@ -2,7 +2,7 @@
 ghost use Rattle.std.specs.Prelude.{◌≡◌, ◌<◌, ◌++◌, ◌∷◌, [], ℕ, List, false};
 ghost use Rattle.cs_base.specs.declared.content.limits.TheConstants.{MAX_HEAD_BYTES as MOST};
 ghost use Rattle.cs_model_serving.specs.Framing.{frame, is_line_feed};
-ghost use Rattle.cs_http.specs.Looking.{look_of, tail_of, IsSeen, HasRoom, within_limit};
+ghost use Rattle.cs_http.specs.Looking.{look_of, tail_of, IsSeen, IsBelowLimit, within_limit};
 
 use cs_base::MAX_HEAD_BYTES;
 use cs_model_serving::Framed;
@@ -77,7 +77,7 @@ impl Seen {
         requires few { self.count < MOST }
 
         ensures found { (before : List ℕ) → IsSeen before self → result ≡ look_of (before ++ more.now) }
-        ensures few { HasRoom result }
+        ensures few { IsBelowLimit result }
     {
         let mut seen = self;
         for byte in more {
@@ -94,7 +94,7 @@ impl Seen {
         requires few { self.count < MOST }
 
         ensures found { (before : List ℕ) → IsSeen before self → result ≡ look_of (before ++ byte ∷ []) }
-        ensures few { HasRoom result }
+        ensures few { IsBelowLimit result }
     {
         if byte == b'\n' {
             self.end_line()
@@ -108,7 +108,7 @@ impl Seen {
         requires few { self.count < MOST }
 
         ensures found { (before : List ℕ) → IsSeen before self → result ≡ look_of (before ++ 10 ∷ []) }
-        ensures few { HasRoom result }
+        ensures few { IsBelowLimit result }
     {
         let count = self.count + 1;
         match (self.tail, self.begun) {
@@ -137,7 +137,7 @@ impl Seen {
         requires other { is_line_feed byte ≡ false }
 
         ensures found { (before : List ℕ) → IsSeen before self → result ≡ look_of (before ++ byte ∷ []) }
-        ensures few { HasRoom result }
+        ensures few { IsBelowLimit result }
     {
         within_limit(Seen {
             count: self.count + 1,
@@ -163,7 +163,7 @@ impl Tail {
 // What looking gives where no head ends: more bytes may come while there are fewer than a head may have.
 fn within_limit(seen: Seen) -> Look
     ensures found { result ≡ within_limit seen }
-    ensures few { HasRoom result }
+    ensures few { IsBelowLimit result }
 {
     if seen.count < MAX_HEAD_BYTES {
         Look::More(seen)

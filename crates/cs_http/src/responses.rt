@@ -1,6 +1,6 @@
 //! The bytes of responses.
 ghost use Rattle.std.specs.Prelude.{◌≡◌, ◌==◌, true, if◌then◌else◌, [], codes, IfOk};
-ghost use Rattle.cs_model_serving.specs.Responses.{is_status, line, memory_bytes, wrapped};
+ghost use Rattle.cs_model_serving.specs.Responses.{is_status, head_line, memory_bytes, wrapped};
 ghost use Rattle.cs_model_serving.specs.Responses.{reason as words_of};
 
 use cs_base::Memory;
@@ -53,14 +53,14 @@ fn reason(status: u16) -> &'static str
 
 // The line that names the method, where another one was asked.
 fn allow(status: u16) -> &'static str
-    ensures { result.now ≡ (if status == 405 then line (codes "Allow: GET") else []) }
+    ensures { result.now ≡ (if status == 405 then head_line (codes "Allow: GET") else []) }
 {
     if status == 405 { "Allow: GET\r\n" } else { "" }
 }
 
 // The line that tells that the connection is closed.
 fn closing(close: bool) -> &'static str
-    ensures { result.now ≡ (if close then line (codes "Connection: close") else []) }
+    ensures { result.now ≡ (if close then head_line (codes "Connection: close") else []) }
 {
     if close { "Connection: close\r\n" } else { "" }
 }

@@ -19,7 +19,7 @@
 --   shorter_words p    the words that the word p may have been before, the longest first
 --   narrower q w       the key of the query q with w in that place, and how many bytes w has
 --   narrowers q p      those of all shorter words of the prefix p; none where there is no prefix
---   extended ps        the key of the parts ps without the last one; None where there are fewer than two
+--   key_before ps      the key of the parts ps without the last one; None where there are fewer than two
 --   keys_of q          the keys of a query
 use Rattle.std.specs.Prelude.{ℕ, ◌-◌, Bool, ◌&&◌, ◌==◌, not, nat_lt, if◌then◌else◌, List, [], ◌∷◌, ◌++◌, map, filter, length, take, drop, Option, Some, None, chars, encode_utf8_all}
 use Rattle.std.specs.List.{list_any}
@@ -113,9 +113,9 @@ narrowers q None = []
 narrowers q (Some p) = map (narrower q) (shorter_words p)
 
 -- the key of the query once its last part is dropped; None where it has fewer than two
-abbrev pub extended : List Part → Option (List ℕ)
-extended ps = if nat_lt 1 (length ps) then Some (canonical (roll-Query (record { parts = take (length ps - 1) ps }))) else None
+abbrev pub key_before : List Part → Option (List ℕ)
+key_before ps = if nat_lt 1 (length ps) then Some (canonical (roll-Query (record { parts = take (length ps - 1) ps }))) else None
 
 -- the keys of a query, its own being its canonical text; the query without parts has that one alone, the empty text
 abbrev pub keys_of : Query → Keys
-keys_of q = record { same = canonical q; narrow = narrowers q (last_prefix q); extend = extended (out-Query q).parts }
+keys_of q = record { same = canonical q; narrow = narrowers q (last_prefix q); extend = key_before (out-Query q).parts }

@@ -28,15 +28,15 @@ use Rattle.cs_base.proofs.OrdersLemmas.{Less-from_lt}
 use Rattle.cs_base.specs.content.Orders.{by_place, by_spot}
 use Rattle.cs_base.specs.declared.content.doc.Post.{Post}
 use Rattle.cs_base.specs.declared.content.doc.Row.{Row}
-use Rattle.cs_model_index.specs.Numbered.{word_at, number_of, row_of, post_of, rows_at, numbered, HasWord}
+use Rattle.cs_model_index.specs.Numbered.{word_at, word_number, row_of, post_of, rows_at, numbered, HasWord}
 
 -- ---- words
-found_step : (w v : List ℕ) (b : Bool) (vs : List (List ℕ)) → bytes_eq w v ≡ b → (list_any (bytes_eq w) vs ≡ true → word_at vs (number_of vs w) ≡ w) → b || list_any (bytes_eq w) vs ≡ true → word_at (v ∷ vs) (cond (not b) (1 + number_of vs w) 0) ≡ w
+found_step : (w v : List ℕ) (b : Bool) (vs : List (List ℕ)) → bytes_eq w v ≡ b → (list_any (bytes_eq w) vs ≡ true → word_at vs (word_number vs w) ≡ w) → b || list_any (bytes_eq w) vs ≡ true → word_at (v ∷ vs) (cond (not b) (1 + word_number vs w) 0) ≡ w
 found_step w v true vs e rest h = sym ((bytes_eq-Decides w v).0 e)
-found_step w v false vs e rest h = ap (λ k. word_at (v ∷ vs) k) (one-add (number_of vs w)) ∙ rest h
+found_step w v false vs e rest h = ap (λ k. word_at (v ∷ vs) k) (one-add (word_number vs w)) ∙ rest h
 
 -- a word that is there has its place
-pub word_of_number : (ws : List (List ℕ)) (w : List ℕ) → list_any (bytes_eq w) ws ≡ true → word_at ws (number_of ws w) ≡ w
+pub word_of_number : (ws : List (List ℕ)) (w : List ℕ) → list_any (bytes_eq w) ws ≡ true → word_at ws (word_number ws w) ≡ w
 word_of_number [] w h = absurd (true≢false (sym h))
 word_of_number (v ∷ vs) w h = found_step w v (bytes_eq w v) vs refl (word_of_number vs w) h
 
@@ -46,7 +46,7 @@ apart v w h =
     false_from_ne_true _ (λ e. true≢false (sym (ap is_lt h) ∙ ap (λ x. is_lt (slice_cmp nat_cmp v x)) ((bytes_eq-Decides w v).0 e) ∙ ap is_lt (tied_itself nat_list_cmp_total v)))
 
 -- words that ascend have each one number
-pub number_of_word : (ws : List (List ℕ)) (n : ℕ) → IsStrictlySortedBy (slice_cmp nat_cmp) ws → n < length ws → number_of ws (word_at ws n) ≡ n
+pub number_of_word : (ws : List (List ℕ)) (n : ℕ) → IsStrictlySortedBy (slice_cmp nat_cmp) ws → n < length ws → word_number ws (word_at ws n) ≡ n
 number_of_word ws n up h =
     position_or_len_is (bytes_eq (word_at ws n)) ws n [] (omega arith)
     (λ k below. apart (word_at ws k) (word_at ws n) (Less-from_sorted (slice_cmp nat_cmp) ws k n [] up below h))
@@ -69,11 +69,11 @@ numbered_of_rows ws (p ∷ posts) up h =
     ap (λ x. x ∷ numbered ws (rows_at ws posts)) (post_of_row ws p up h.0) ∙ ap (λ l. p ∷ l) (numbered_of_rows ws posts up h.1)
 
 -- ---- order
-below_step : (w v : List ℕ) (b : Bool) (vs : List (List ℕ)) → bytes_eq w v ≡ b → (list_any (bytes_eq w) vs ≡ true → number_of vs w < length vs) → (b || list_any (bytes_eq w) vs) ≡ true → cond (not b) (1 + number_of vs w) 0 < length (v ∷ vs)
+below_step : (w v : List ℕ) (b : Bool) (vs : List (List ℕ)) → bytes_eq w v ≡ b → (list_any (bytes_eq w) vs ≡ true → word_number vs w < length vs) → (b || list_any (bytes_eq w) vs) ≡ true → cond (not b) (1 + word_number vs w) 0 < length (v ∷ vs)
 below_step w v true vs e rest h = omega arith
 below_step w v false vs e rest h = let l = rest h in omega (arith, l)
 
-pub number_below : (ws : List (List ℕ)) (w : List ℕ) → list_any (bytes_eq w) ws ≡ true → number_of ws w < length ws
+pub number_below : (ws : List (List ℕ)) (w : List ℕ) → list_any (bytes_eq w) ws ≡ true → word_number ws w < length ws
 number_below [] w h = absurd (true≢false (sym h))
 number_below (v ∷ vs) w h = below_step w v (bytes_eq w v) vs refl (number_below vs w) h
 
@@ -84,24 +84,24 @@ not_itself : (v w : List ℕ) → slice_cmp nat_cmp v w ≡ Less → v ≡ w →
 not_itself v w h same = true≢false (sym (ap is_lt h) ∙ ap (λ x. is_lt (slice_cmp nat_cmp v x)) (sym same) ∙ ap is_lt (tied_itself nat_list_cmp_total v))
 
 module _ (ws : List (List ℕ)) (up : IsStrictlySortedBy (slice_cmp nat_cmp) ws) where
-  pub less_number : (v w : List ℕ) → list_any (bytes_eq v) ws ≡ true → list_any (bytes_eq w) ws ≡ true → slice_cmp nat_cmp v w ≡ Less → number_of ws v < number_of ws w
+  pub less_number : (v w : List ℕ) → list_any (bytes_eq v) ws ≡ true → list_any (bytes_eq w) ws ≡ true → slice_cmp nat_cmp v w ≡ Less → word_number ws v < word_number ws w
   less_number v w hv hw less =
-      elim (cases_lt (number_of ws v) (number_of ws w)) [
+      elim (cases_lt (word_number ws v) (word_number ws w)) [
         | inl lt ↦ lt
-        | inr ge ↦ elim (cases_lt (number_of ws w) (number_of ws v)) [
+        | inr ge ↦ elim (cases_lt (word_number ws w) (word_number ws v)) [
           | inl gt ↦ absurd (not_before v w less (
-              ap (λ x. slice_cmp nat_cmp x v) (sym (word_of_number ws w hw)) ∙ ap (slice_cmp nat_cmp (word_at ws (number_of ws w))) (sym (word_of_number ws v hv))
-              ∙ Less-from_sorted (slice_cmp nat_cmp) ws (number_of ws w) (number_of ws v) [] up gt (number_below ws v hv)))
-          | inr le ↦ let same : number_of ws v ≡ number_of ws w = omega (arith, ge, le) in absurd (not_itself v w less (sym (word_of_number ws v hv) ∙ ap (word_at ws) same ∙ word_of_number ws w hw))
+              ap (λ x. slice_cmp nat_cmp x v) (sym (word_of_number ws w hw)) ∙ ap (slice_cmp nat_cmp (word_at ws (word_number ws w))) (sym (word_of_number ws v hv))
+              ∙ Less-from_sorted (slice_cmp nat_cmp) ws (word_number ws w) (word_number ws v) [] up gt (number_below ws v hv)))
+          | inr le ↦ let same : word_number ws v ≡ word_number ws w = omega (arith, ge, le) in absurd (not_itself v w less (sym (word_of_number ws v hv) ∙ ap (word_at ws) same ∙ word_of_number ws w hw))
         ]
       ]
 
-  spot_place : (a b : Ordering) (v w : List ℕ) → list_any (bytes_eq v) ws ≡ true → list_any (bytes_eq w) ws ≡ true → ordering_then a (ordering_then b (slice_cmp nat_cmp v w)) ≡ Less → ordering_then a (ordering_then b (nat_cmp (number_of ws v) (number_of ws w))) ≡ Less
+  spot_place : (a b : Ordering) (v w : List ℕ) → list_any (bytes_eq v) ws ≡ true → list_any (bytes_eq w) ws ≡ true → ordering_then a (ordering_then b (slice_cmp nat_cmp v w)) ≡ Less → ordering_then a (ordering_then b (nat_cmp (word_number ws v) (word_number ws w))) ≡ Less
   spot_place Less b v w hv hw h = refl
   spot_place Greater b v w hv hw h = h
   spot_place Equal Less v w hv hw h = refl
   spot_place Equal Greater v w hv hw h = h
-  spot_place Equal Equal v w hv hw h = Less-from_lt (number_of ws v) (number_of ws w) (less_number v w hv hw h)
+  spot_place Equal Equal v w hv hw h = Less-from_lt (word_number ws v) (word_number ws w) (less_number v w hv hw h)
 
   rest_ascend : (r : Row) (rows : List Row) → HasWord ws r → AllByRecursion (HasWord ws) rows → AllByRecursion (λ s. by_spot r s ≡ Less) rows → AllByRecursion (λ q. by_place (post_of ws r) q ≡ Less) (numbered ws rows)
   rest_ascend r [] k l h = tt

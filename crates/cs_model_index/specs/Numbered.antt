@@ -3,7 +3,7 @@
 -- Source: this engine's own. A vocabulary is a list of words that strictly ascend by bytes.
 --
 --   word_at ws n         word n; the empty text where there are fewer words
---   number_of ws w       the place of a word in the vocabulary, from 0; the number of words where it isn't there
+--   word_number ws w     the place of a word in the vocabulary, from 0; the number of words where it isn't there
 --   row_of ws p          the row that a post stands for
 --   post_of ws r         the post that stands for a row
 --   rows_at ws posts     the rows that posts stand for; of no posts none
@@ -20,8 +20,8 @@ abbrev pub word_at : List (List ℕ) → ℕ → List ℕ
 word_at ws n = slice_index_or ws n []
 
 -- the first word has the number 0; a word that isn't there the number of words
-abbrev pub number_of : List (List ℕ) → List ℕ → ℕ
-number_of ws w = position_or_len (bytes_eq w) ws
+abbrev pub word_number : List (List ℕ) → List ℕ → ℕ
+word_number ws w = position_or_len (bytes_eq w) ws
 
 -- its word in place of the word's number, which is empty where there are fewer words
 abbrev pub row_of : List (List ℕ) → Post → Row
@@ -29,7 +29,7 @@ row_of ws p = record { doc = p.doc; word = word_at ws p.word; pos = p.pos; score
 
 -- the number in place of its word, which is the number of words where the word isn't there
 abbrev pub post_of : List (List ℕ) → Row → Post
-post_of ws r = record { doc = r.doc; word = number_of ws r.word; pos = r.pos; score = r.score }
+post_of ws r = record { doc = r.doc; word = word_number ws r.word; pos = r.pos; score = r.score }
 
 -- in the order of the posts; of no posts none
 abbrev pub rows_at : List (List ℕ) → List Post → List Row

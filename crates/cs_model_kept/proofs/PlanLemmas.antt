@@ -17,7 +17,7 @@ use Rattle.cs_base.specs.declared.content.query.Part.{Part}
 use Rattle.cs_base.specs.declared.content.query.Query.{Query, roll-Query, out-Query, out-roll-Query, roll-out-Query}
 use Rattle.cs_model.specs.Canonical.{canonical}
 use Rattle.cs_model.specs.Corpus.{Corpus}
-use Rattle.cs_model.specs.Keys.{keys_of, last_prefix, shorter_words, with_prefix, narrower, narrowers, extended}
+use Rattle.cs_model.specs.Keys.{keys_of, last_prefix, shorter_words, with_prefix, narrower, narrowers, key_before}
 use Rattle.cs_model.specs.Refusals.{IsOfGrammar}
 use Rattle.cs_model.proofs.CanonicalReading.{different}
 use Rattle.cs_model_kept.specs.Entries.{entry_of}
@@ -142,13 +142,13 @@ module _ (k : Corpus) (held : KeptList) (q : Query) (good : GoodFor k held) (g :
                 ∙ ap (λ x. roll-Query (record { parts = x.parts ++ r.1 ∷ [] })) (sym (out-roll-Query (record { parts = take (length (out-Query q).parts - 1) (out-Query q).parts }))),
           )
 
-  extend_serves : (key : List ℕ) → extended (out-Query q).parts ≡ Some key → is_held held key ≡ true → Serves k held q Extend
+  extend_serves : (key : List ℕ) → key_before (out-Query q).parts ≡ Some key → is_held held key ≡ true → Serves k held q Extend
   extend_serves key e h =
       let r = several (nat_lt 1 (length (out-Query q).parts)) key refl e in
       let p = last_part r.0 in
       (p.0, p.1, r.0, finds k held q Extend (before_last q) good (first_parts_stay q g) (ap (is_held held) r.1 ∙ h) (e ∙ ap Some (sym r.1)))
 
-  extend_any : (o : Option (List ℕ)) → extended (out-Query q).parts ≡ o → Serves k held q (extend_or_fresh held o)
+  extend_any : (o : Option (List ℕ)) → key_before (out-Query q).parts ≡ o → Serves k held q (extend_or_fresh held o)
   extend_any None e = tt
   extend_any (Some key) e = cases (is_held held key) refl
     where
@@ -157,7 +157,7 @@ module _ (k : Corpus) (held : KeptList) (q : Query) (good : GoodFor k held) (g :
       cases false h = tt
 
   narrow_or_any : (o : Option Narrower) → find (λ n. is_held held n.key) (keys_of q).narrow ≡ o → Serves k held q (narrow_or held (keys_of q) o)
-  narrow_or_any None e = extend_any (extended (out-Query q).parts) refl
+  narrow_or_any None e = extend_any (key_before (out-Query q).parts) refl
   narrow_or_any (Some n) e = narrow_any (last_prefix q) refl n e
 
   serves : (b : Bool) → is_held held (canonical q) ≡ b → Serves k held q (if b then Same else narrow_or held (keys_of q) (find (λ n. is_held held n.key) (keys_of q).narrow))

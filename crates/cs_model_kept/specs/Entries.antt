@@ -13,7 +13,7 @@
 --   entry k ps, entry_of k q  what is kept of parts, and of a query: the base of the parts before a positive last one, and the
 --                             pairs; of the empty query All and no rows
 --   listed_count b            how many documents a base lists; 0 for All
---   size e                    the rows and the listed documents of an entry, counted together
+--   entry_size e              the rows and the listed documents of an entry, counted together
 --   base_score b d            the score that a base gives to the document d; 0 for All, and where it doesn't list d
 --   over b rows               each document of rows, with its score in the base and the greatest score of its rows
 --   hits_of positive e        the hits of the query whose entry e is, as a base; positive says whether its last part is
@@ -24,7 +24,7 @@
 --   entry_after begun hs p    the entry of a query and one part more, by whether the query has a part, its hits, and that part
 --   nothing_kept              the entry of no part
 --   extended k positive e p   the entry of a query and one part more, by the query's own entry
---   steps k ps                the entry of parts, taken one after the other, with whether the last one is positive
+--   kept_steps k ps           the entry of parts, taken one after the other, with whether the last one is positive
 --   entry_at ws b posts       the entry whose rows are told by the numbers of their words
 use Rattle.std.specs.Prelude.{ℕ, ◌+◌, ◌-◌, ◌==◌, Bool, true, false, not, if◌then◌else◌, List, [], ◌∷◌, map, filter, fold, take, length, find}
 use Rattle.std.specs.List.{list_any}
@@ -82,8 +82,8 @@ listed_count base.All = 0
 listed_count (base.Listed hs) = length hs
 
 -- the rows of an entry and the documents that its base lists, counted together; 0 for All and no rows
-abbrev pub size : Entry → ℕ
-size e = length e.rows + listed_count e.base
+abbrev pub entry_size : Entry → ℕ
+entry_size e = length e.rows + listed_count e.base
 
 -- ---- hits out of an entry
 -- what a base gives to the document d; 0 where it is All, and where it doesn't list d
@@ -134,8 +134,8 @@ abbrev pub extended : Corpus → Bool → Entry → PartRows → Entry
 extended k positive e p = entry_after (is_begun (hits_of positive e)) (listed k (hits_of positive e)) p
 
 -- one part after the other, each with whether it is positive and the entry so far; of no part false and `nothing_kept`
-abbrev pub steps : Corpus → List PartRows → Bool × Entry
-steps k ps = fold (λ (so_far : Bool × Entry) p. (not p.excluded, extended k so_far.0 so_far.1 p)) (false, nothing_kept) ps
+abbrev pub kept_steps : Corpus → List PartRows → Bool × Entry
+kept_steps k ps = fold (λ (so_far : Bool × Entry) p. (not p.excluded, extended k so_far.0 so_far.1 p)) (false, nothing_kept) ps
 
 -- ---- entries by numbers of words
 -- an entry whose rows are told by the numbers of their words, its base told as it is; of no posts it has no rows

@@ -17,7 +17,7 @@ use Rattle.cs_base.specs.declared.content.query.Part.{Part}
 use Rattle.cs_model.specs.Answers.{PartRows, begins, parts_of, rows_of_part}
 use Rattle.cs_model.specs.Corpus.{Corpus}
 use Rattle.cs_model.specs.Keys.{last_prefix, shorter_words, with_prefix}
-use Rattle.cs_model_kept.specs.Entries.{base_of, ends_positive, entry, entry_after, entry_of, extended, hits_of, listed, scored_hits, steps}
+use Rattle.cs_model_kept.specs.Entries.{base_of, ends_positive, entry, entry_after, entry_of, extended, hits_of, listed, scored_hits, kept_steps}
 
 -- a query with one part more behind its last one; of the empty query the query of that part alone
 abbrev pub followed : Query → Part → Query
@@ -45,7 +45,7 @@ EntriesExtend = (k : Corpus) (q : Query) (p : Part) → entry_of k (followed q p
 abbrev pub EntriesAreSteps : Type 0
 EntriesAreSteps = (k : Corpus) (ps : List PartRows)
     → ((p : PartRows) → entry k (ps ++ p ∷ []) ≡ extended k (ends_positive ps) (entry k ps) p)
-    × (steps k ps ≡ (ends_positive ps, entry k ps))
+    × (kept_steps k ps ≡ (ends_positive ps, entry k ps))
 
 -- where the prefix p is being typed, which is a text, and w is a word that p may have been before, the entry of the query has those
 -- rows of the entry with w in that place whose word begins with p, and the same base

@@ -35,7 +35,7 @@ use Rattle.cs_model.specs.Corpus.{Corpus}
 use Rattle.cs_model.specs.Keys.{keys_of}
 use Rattle.cs_model.specs.Refusals.{IsOfGrammar}
 use Rattle.cs_model_kept.specs.declared.limits.TheConstants.{MAX_ENTRY_SIZE}
-use Rattle.cs_model_kept.specs.Entries.{Entry, entry_of, size}
+use Rattle.cs_model_kept.specs.Entries.{Entry, entry_of, entry_size}
 
 -- entries under the keys of their queries, the one used last in front; there may be none
 abbrev pub KeptList : Type 0
@@ -101,7 +101,7 @@ after held room q kept k = put_in_front room kept (canonical q, entry_of k q) (t
 
 -- an entry that wasn't had is kept, unless its size is above `MAX_ENTRY_SIZE`
 abbrev pub kept_fresh : Entry → Kept
-kept_fresh e = if nat_lt MAX_ENTRY_SIZE (size e) then kept.TooLarge else kept.Kept
+kept_fresh e = if nat_lt MAX_ENTRY_SIZE (entry_size e) then kept.TooLarge else kept.Kept
 
 -- what becomes of a query's own entry: it was had where the plan is Same, and else it is kept where its size is at most
 -- `MAX_ENTRY_SIZE`

@@ -11,7 +11,7 @@ use Rattle.std.proofs.lemmas.List.Sums.{sum_by-cons}
 use Rattle.cs_base.specs.declared.content.limits.TheConstants.{MAX_HEAD_BYTES}
 use Rattle.cs_model_serving.specs.declared.framed.Framed.{Framed}
 use Rattle.cs_model_serving.specs.declared.framed.Framed.TheVariants.{Head, More, TooLong}
-use Rattle.cs_model_serving.specs.Framing.{ended_lines, is_empty_line, bytes_of, place_in, framed_by, frame}
+use Rattle.cs_model_serving.specs.Framing.{ended_lines, is_empty_line, lines_len, place_in, framed_by, frame}
 use Rattle.cs_model_serving.proofs.LineLemmas.{ended_more, ended_size, scan_text, scan_front, place-scan, place-more}
 
 pub take_both : (n : ℕ) (x y : List ℕ) → take n (x ++ y) ≡ take n x ++ take (n - length x) y
@@ -85,7 +85,7 @@ pub record IsWithin (skip end size : ℕ) : Type 0 where
   pub text : skip < end
   pub within : end ≤ size
 
-scan_text-within : (lines : List (List ℕ)) (skip n : ℕ) (p : ℕ × ℕ) → skip ≤ n → scan_text skip n lines ≡ Some p → (p.0 < p.1) × (p.1 ≤ n + bytes_of lines)
+scan_text-within : (lines : List (List ℕ)) (skip n : ℕ) (p : ℕ × ℕ) → skip ≤ n → scan_text skip n lines ≡ Some p → (p.0 < p.1) × (p.1 ≤ n + lines_len lines)
 scan_text-within [] skip n p less h = absurd (cc)
 scan_text-within (l ∷ lines) skip n p less h =
     let more = sum_by-cons (λ l. length l + 1) l lines in
@@ -100,7 +100,7 @@ scan_text-within (l ∷ lines) skip n p less h =
     (on.0, omega (arith, on.1, more)))
     (cases_Bool (is_empty_line l))
 
-scan_front-within : (lines : List (List ℕ)) (n : ℕ) (p : ℕ × ℕ) → scan_front n lines ≡ Some p → (p.0 < p.1) × (p.1 ≤ n + bytes_of lines)
+scan_front-within : (lines : List (List ℕ)) (n : ℕ) (p : ℕ × ℕ) → scan_front n lines ≡ Some p → (p.0 < p.1) × (p.1 ≤ n + lines_len lines)
 scan_front-within [] n p h = absurd (cc)
 scan_front-within (l ∷ lines) n p h =
     let more = sum_by-cons (λ l. length l + 1) l lines in

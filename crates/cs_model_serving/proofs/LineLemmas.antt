@@ -15,7 +15,7 @@ use Rattle.std.proofs.lemmas.Bool.{eqb-true}
 use Rattle.std.proofs.lemmas.List.Elements.{All-append, All-nil, All-cons, All-head, All-tail}
 use Rattle.std.proofs.lemmas.List.Splits.{slice_split_at}
 use Rattle.std.proofs.lemmas.List.Sums.{sum_by-append, sum_by-cons, take_while-cons}
-use Rattle.cs_model_serving.specs.Framing.{is_line_feed, ended_lines, is_empty_line, bytes_of, front_lines, later_lines, text_lines, closing_lines, place_by, place_in}
+use Rattle.cs_model_serving.specs.Framing.{is_line_feed, ended_lines, is_empty_line, lines_len, front_lines, later_lines, text_lines, closing_lines, place_by, place_in}
 
 -- ---- lines
 pub record HasNoFeed (text : List ℕ) : Type 0 where
@@ -85,22 +85,22 @@ pub ended_more : (bytes more : List ℕ) → EndsMore bytes more
 ended_more bytes more = more_from bytes [] more no_feed_nil
 
 -- lines have no more bytes than what they were cut from
-size_at : (text bytes : List ℕ) → HasNoFeed text → bytes_of (ended_lines bytes) ≤ length bytes → bytes_of (ended_lines (text ++ 10 ∷ bytes)) ≤ length (text ++ 10 ∷ bytes)
+size_at : (text bytes : List ℕ) → HasNoFeed text → lines_len (ended_lines bytes) ≤ length bytes → lines_len (ended_lines (text ++ 10 ∷ bytes)) ≤ length (text ++ 10 ∷ bytes)
 size_at text bytes h on =
-    let first : bytes_of (ended_lines (text ++ 10 ∷ bytes)) ≡ bytes_of (text ∷ ended_lines bytes) = ap bytes_of (ended_first text bytes h) in
+    let first : lines_len (ended_lines (text ++ 10 ∷ bytes)) ≡ lines_len (text ∷ ended_lines bytes) = ap lines_len (ended_first text bytes h) in
     omega (arith, first, sum_by-cons (λ l. length l + 1) text (ended_lines bytes), length-append text (10 ∷ bytes), on)
 
-size_from : (bytes text : List ℕ) → HasNoFeed text → bytes_of (ended_lines (text ++ bytes)) ≤ length (text ++ bytes)
+size_from : (bytes text : List ℕ) → HasNoFeed text → lines_len (ended_lines (text ++ bytes)) ≤ length (text ++ bytes)
 size_from [] text h =
-    let none : bytes_of (ended_lines (text ++ [])) ≡ 0 = ap bytes_of (ap ended_lines (append-nil text) ∙ ended_none text h) in
+    let none : lines_len (ended_lines (text ++ [])) ≡ 0 = ap lines_len (ap ended_lines (append-nil text) ∙ ended_none text h) in
     omega (arith, none)
 size_from (b ∷ bytes) text h =
     ⊎_elim
-    (λ e. subst (λ c. bytes_of (ended_lines (text ++ c ∷ bytes)) ≤ length (text ++ c ∷ bytes)) (sym (eqb-true b 10 e)) (size_at text bytes h (size_from bytes [] no_feed_nil)))
-    (λ e. subst (λ l. bytes_of (ended_lines l) ≤ length l) (sym (regroup text bytes b)) (size_from bytes (text ++ b ∷ []) (no_feed_push text b h e)))
+    (λ e. subst (λ c. lines_len (ended_lines (text ++ c ∷ bytes)) ≤ length (text ++ c ∷ bytes)) (sym (eqb-true b 10 e)) (size_at text bytes h (size_from bytes [] no_feed_nil)))
+    (λ e. subst (λ l. lines_len (ended_lines l) ≤ length l) (sym (regroup text bytes b)) (size_from bytes (text ++ b ∷ []) (no_feed_push text b h e)))
     (cases_Bool (is_line_feed b))
 
-pub ended_size : (bytes : List ℕ) → bytes_of (ended_lines bytes) ≤ length bytes
+pub ended_size : (bytes : List ℕ) → lines_len (ended_lines bytes) ≤ length bytes
 ended_size bytes = size_from bytes [] no_feed_nil
 
 -- ---- places
@@ -119,7 +119,7 @@ is_text_line l = not (is_empty_line l)
 
 -- where the lines from the first on that isn't empty are these
 abbrev text_place : ℕ → ℕ → List (List ℕ) → Option (ℕ × ℕ)
-text_place skip n lines = place_by skip (n + bytes_of (take_while is_text_line lines)) (drop (prefix_len is_text_line lines) lines)
+text_place skip n lines = place_by skip (n + lines_len (take_while is_text_line lines)) (drop (prefix_len is_text_line lines) lines)
 
 drop-one : {X : Type 0} (n : ℕ) (x : X) (xs : List X) → drop (1 + n) (x ∷ xs) ≡ drop n xs
 drop-one n x xs = ap (λ m. drop m (x ∷ xs)) (one-add n)
@@ -131,8 +131,8 @@ text_scan (l ∷ lines) skip n =
     (λ e. rw e (ap (λ m. Some (skip, m)) (omega arith)))
     (λ e.
     let first : take_while is_text_line (l ∷ lines) ≡ l ∷ take_while is_text_line lines = take_while-cons is_text_line l lines ∙ ap (λ t. cond (not t) (l ∷ take_while is_text_line lines) []) e in
-    let size : n + bytes_of (take_while is_text_line (l ∷ lines)) ≡ (n + (length l + 1)) + bytes_of (take_while is_text_line lines) =
-    omega (arith, ap bytes_of first, sum_by-cons (λ l. length l + 1) l (take_while is_text_line lines)) in
+    let size : n + lines_len (take_while is_text_line (l ∷ lines)) ≡ (n + (length l + 1)) + lines_len (take_while is_text_line lines) =
+    omega (arith, ap lines_len first, sum_by-cons (λ l. length l + 1) l (take_while is_text_line lines)) in
     let behind : drop (prefix_len is_text_line (l ∷ lines)) (l ∷ lines) ≡ drop (prefix_len is_text_line lines) lines =
     ap (λ t. drop (cond (not t) (1 + prefix_len is_text_line lines) 0) (l ∷ lines)) e ∙ drop-one (prefix_len is_text_line lines) l lines in
     let scanned : scan_text skip (skip + n) (l ∷ lines) ≡ scan_text skip (skip + (n + (length l + 1))) lines =
@@ -143,11 +143,11 @@ text_scan (l ∷ lines) skip n =
 
 -- behind n bytes of empty lines, in the words of `place_in`
 abbrev front_place : ℕ → List (List ℕ) → Option (ℕ × ℕ)
-front_place n lines = place_by (n + bytes_of (front_lines lines)) (bytes_of (text_lines lines)) (closing_lines lines)
+front_place n lines = place_by (n + lines_len (front_lines lines)) (lines_len (text_lines lines)) (closing_lines lines)
 
 -- by the empty lines in front and those behind them
 abbrev parts_place : ℕ → List (List ℕ) → List (List ℕ) → Option (ℕ × ℕ)
-parts_place n front later = place_by (n + bytes_of front) (bytes_of (take_while is_text_line later)) (drop (prefix_len is_text_line later) later)
+parts_place n front later = place_by (n + lines_len front) (lines_len (take_while is_text_line later)) (drop (prefix_len is_text_line later) later)
 
 front_scan : (lines : List (List ℕ)) (n : ℕ) → front_place n lines ≡ scan_front n lines
 front_scan [] n = refl
@@ -156,9 +156,9 @@ front_scan (l ∷ lines) n =
     (λ e.
     let first : front_lines (l ∷ lines) ≡ l ∷ front_lines lines = take_while-cons is_empty_line l lines ∙ ap (λ t. cond t (l ∷ front_lines lines) []) e in
     let later : later_lines (l ∷ lines) ≡ later_lines lines = ap (λ t. drop (cond t (1 + prefix_len is_empty_line lines) 0) (l ∷ lines)) e ∙ drop-one (prefix_len is_empty_line lines) l lines in
-    let size : n + bytes_of (l ∷ front_lines lines) ≡ (n + (length l + 1)) + bytes_of (front_lines lines) = omega (arith, sum_by-cons (λ l. length l + 1) l (front_lines lines)) in
+    let size : n + lines_len (l ∷ front_lines lines) ≡ (n + (length l + 1)) + lines_len (front_lines lines) = omega (arith, sum_by-cons (λ l. length l + 1) l (front_lines lines)) in
     let scanned : scan_front n (l ∷ lines) ≡ scan_front (n + (length l + 1)) lines = rw e in
-    ap₂ (parts_place n) first later ∙ ap (λ m. place_by m (bytes_of (text_lines lines)) (closing_lines lines)) size ∙ front_scan lines (n + (length l + 1)) ∙ sym scanned)
+    ap₂ (parts_place n) first later ∙ ap (λ m. place_by m (lines_len (text_lines lines)) (closing_lines lines)) size ∙ front_scan lines (n + (length l + 1)) ∙ sym scanned)
     (λ e.
     let first : front_lines (l ∷ lines) ≡ [] = take_while-cons is_empty_line l lines ∙ ap (λ t. cond t (l ∷ front_lines lines) []) e in
     let later : later_lines (l ∷ lines) ≡ l ∷ lines = ap (λ t. drop (cond t (1 + prefix_len is_empty_line lines) 0) (l ∷ lines)) e in
@@ -171,7 +171,7 @@ front_scan (l ∷ lines) n =
     (cases_Bool (is_empty_line l))
 
 pub place-scan : (lines : List (List ℕ)) → place_in lines ≡ scan_front 0 lines
-place-scan lines = ap (λ m. place_by m (bytes_of (text_lines lines)) (closing_lines lines)) (omega arith) ∙ front_scan lines 0
+place-scan lines = ap (λ m. place_by m (lines_len (text_lines lines)) (closing_lines lines)) (omega arith) ∙ front_scan lines 0
 
 -- ---- more lines, and bounds
 scan_text-more : (lines more : List (List ℕ)) (skip n : ℕ) (p : ℕ × ℕ) → scan_text skip n lines ≡ Some p → scan_text skip n (lines ++ more) ≡ Some p

@@ -19,7 +19,7 @@ use Rattle.httparse.proofs.GrammarLemmas.{cons-append}
 use Rattle.httparse.specs.Grammar.{LineEnd, crlf, lf, print_end, print_blank, print_field, print_section, print_version, print_request, Field, IsField, RequestHead, IsRequestHead, ReadsRequest, is_token_byte, is_uri_byte, is_value_byte, is_token, AllPass}
 use Rattle.cs_base.specs.declared.content.limits.TheConstants.{MAX_HEAD_FIELDS}
 use Rattle.cs_model_serving.specs.Framing.{ended_lines, is_empty_line, front_lines, later_lines, text_lines, closing_lines}
-use Rattle.cs_model_serving.specs.HeadReader.{IsHead, ends_in_return, line_text, line_end, is_space, is_colon, field_of, version_of, head_by, head_of, is_field, is_valid, tested, read_head}
+use Rattle.cs_model_serving.specs.HeadReader.{IsHead, ends_in_return, line_text, line_end, is_space, is_colon, field_of, version_of, head_by, lines_head, is_field, is_valid, tested, read_head}
 use Rattle.cs_model_serving.proofs.LineLemmas.{HasNoFeed, ended_first, ended_none, no_feed_nil}
 
 -- ---- the first that passes
@@ -329,12 +329,12 @@ head_read h is =
 abbrev head_in : List (List ℕ) → List (List ℕ) → List (List ℕ) → RequestHead
 head_in front text closing = head_by front (slice_index_or text 0 []) (drop 1 text) (slice_index_or closing 0 [])
 
-pub head_is : (bytes : List ℕ) (h : RequestHead) → ReadsRequest bytes h [] → head_of (ended_lines bytes) ≡ h
+pub head_is : (bytes : List ℕ) (h : RequestHead) → ReadsRequest bytes h [] → lines_head (ended_lines bytes) ≡ h
 head_is bytes h reads =
     let is : bytes ≡ with_feeds (lines_of h) = reads.1 ∙ append-nil (print_request h) ∙ sym (printed h) in
     let lines : ended_lines bytes ≡ lines_of h = ap ended_lines is ∙ ended_all (lines_of h) (feedless h reads.0) in
     let parts = are_lines h reads.0 in
-    ap head_of lines
+    ap lines_head lines
     ∙ (λ i. head_in (parts.front i) (parts.text i) (parts.closing i))
     ∙ head_read h reads.0
 
@@ -421,7 +421,7 @@ is_printed bytes h = bytes_eq bytes (print_request h) && nat_le (length h.fields
 pub reads_head : (bytes : List ℕ) (h : RequestHead) → read_head bytes ≡ Some h → IsHead bytes h
 unfolding read_head
 reads_head bytes h e =
-    let g = head_of (ended_lines bytes) in
+    let g = lines_head (ended_lines bytes) in
     let found = gives (is_valid g && is_printed bytes g) g h e in
     let valid = left (is_valid g) (is_printed bytes g) found.0 in
     let printed = right (is_valid g) (is_printed bytes g) found.0 in

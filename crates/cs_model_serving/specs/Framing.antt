@@ -6,7 +6,7 @@
 --   is_line_feed b        whether the byte is LF
 --   ended_lines bytes     the bytes cut at each LF: each line without its LF; what stands behind the last LF is no line yet
 --   is_empty_line l       nothing stands before the LF, or one CR alone
---   bytes_of lines        the number of bytes of lines, each with its LF; 0 for no lines
+--   lines_len lines       the number of bytes of lines, each with its LF; 0 for no lines
 --   front_lines lines     the empty lines in front; none where the first line isn't empty
 --   later_lines lines     the lines behind these; none where each line is empty
 --   text_lines lines      of them those before the next empty line; none where no line has text
@@ -39,8 +39,8 @@ is_empty_line (b ∷ []) = b == 13
 is_empty_line (b ∷ c ∷ bs) = false
 
 -- how many bytes lines have, the LF of each included; 0 for no lines
-abbrev pub bytes_of : List (List ℕ) → ℕ
-bytes_of lines = sum_by (λ l. length l + 1) lines
+abbrev pub lines_len : List (List ℕ) → ℕ
+lines_len lines = sum_by (λ l. length l + 1) lines
 
 -- ---- heads
 -- the empty lines in front, which are skipped; none where the first line isn't empty
@@ -66,7 +66,7 @@ place_by skip text (closing ∷ lines) = Some (skip, skip + text + (length closi
 
 -- the bytes in front of the first head among the lines, and the bytes up to its end; None where no head ends among them
 abbrev pub place_in : List (List ℕ) → Option (ℕ × ℕ)
-place_in lines = place_by (bytes_of (front_lines lines)) (bytes_of (text_lines lines)) (closing_lines lines)
+place_in lines = place_by (lines_len (front_lines lines)) (lines_len (text_lines lines)) (closing_lines lines)
 
 -- what is found where this is the place of a head; where there is none, n bytes are too many from `MAX_HEAD_BYTES` on
 abbrev pub framed_by : ℕ → Option (ℕ × ℕ) → Framed

@@ -13,7 +13,7 @@
 --   field_of l          the field that a line can be: the name before its first colon, the value behind it
 --   version_of text     the minor version that the bytes of a version end with
 --   head_by             the head that lines can be: empty lines in front, the start line, lines of fields, the closing line
---   head_of lines       the only head that lines can be
+--   lines_head lines    the only head that lines can be
 --   is_field f          the name is a token, and each byte of the value may stand in one
 --   is_valid h          each part of the head is of its class
 --   tested bytes h      the guess h, where it is valid, printed as the bytes and has few enough fields
@@ -84,8 +84,8 @@ head_by front start fields closing = record {
 }
 
 -- the only head that lines can be; a line that is missing is taken for the line without bytes
-abbrev pub head_of : List (List ℕ) → RequestHead
-head_of lines = head_by (front_lines lines) (slice_index_or (text_lines lines) 0 []) (drop 1 (text_lines lines)) (slice_index_or (closing_lines lines) 0 [])
+abbrev pub lines_head : List (List ℕ) → RequestHead
+lines_head lines = head_by (front_lines lines) (slice_index_or (text_lines lines) 0 []) (drop 1 (text_lines lines)) (slice_index_or (closing_lines lines) 0 [])
 
 -- ---- the test
 -- the name is a token, and each byte of the value may stand in one
@@ -105,4 +105,4 @@ tested bytes h =
 
 -- the head that the bytes are as a whole; None where they are none, as no bytes are
 unfoldable pub read_head : List ℕ → Option RequestHead
-read_head bytes = tested bytes (head_of (ended_lines bytes))
+read_head bytes = tested bytes (lines_head (ended_lines bytes))

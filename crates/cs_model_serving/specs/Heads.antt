@@ -103,10 +103,10 @@ judged_by h None = asks (params_of h.target) (closes h)
 judged_by h (Some r) = refused r
 
 -- the judgement of what was read; where no head was read, not_head
-abbrev pub judged : Option RequestHead → Judgement
-judged None = refused not_head
-judged (Some h) = judged_by h (head_refusal h)
+abbrev pub judged_head : Option RequestHead → Judgement
+judged_head None = refused not_head
+judged_head (Some h) = judged_by h (head_refusal h)
 
 -- the judgement of the bytes that are to be a head as a whole; no bytes aren't
 unfoldable pub judge : List ℕ → Judgement
-judge bytes = judged (read_head bytes)
+judge bytes = judged_head (read_head bytes)

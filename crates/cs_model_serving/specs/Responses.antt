@@ -6,7 +6,7 @@
 --   Response                  a status, whether the connection is closed after it, and its body
 --   is_status n               the status is one of those that are sent
 --   reason status             the words of a status
---   line text                 a line of a head: the text, CR and LF
+--   head_line text            a line of a head: the text, CR and LF
 --   wrapped status c body     the bytes of a response; the connection is closed after it where c
 --   response_bytes r          those of r; a body without bytes has the length 0
 --   all_bytes rs              those of responses one after the other; of none nothing
@@ -52,19 +52,19 @@ reason status =
     else codes "Service Unavailable"
 
 -- a line of a head, with CR and LF at its end; without text it is those two alone
-abbrev pub line : List ℕ → List ℕ
-line text = text ++ 13 ∷ 10 ∷ []
+abbrev pub head_line : List ℕ → List ℕ
+head_line text = text ++ 13 ∷ 10 ∷ []
 
 -- the bytes of a response: the status line, Allow where the method isn't allowed, the body's type and its number of bytes,
 -- Connection where the connection is closed after it, an empty line and the body, which may be empty
 unfoldable pub wrapped : ℕ → Bool → List ℕ → List ℕ
 wrapped status close body =
-    line (codes "HTTP/1.1 " ++ decimal status ++ codes " " ++ reason status)
-    ++ (if status == 405 then line (codes "Allow: GET") else [])
-    ++ line (codes "Content-Type: application/json")
-    ++ line (codes "Content-Length: " ++ decimal (length body))
-    ++ (if close then line (codes "Connection: close") else [])
-    ++ line []
+    head_line (codes "HTTP/1.1 " ++ decimal status ++ codes " " ++ reason status)
+    ++ (if status == 405 then head_line (codes "Allow: GET") else [])
+    ++ head_line (codes "Content-Type: application/json")
+    ++ head_line (codes "Content-Length: " ++ decimal (length body))
+    ++ (if close then head_line (codes "Connection: close") else [])
+    ++ head_line []
     ++ body
 
 -- the bytes of a response
@@ -121,9 +121,9 @@ out_of_memory = record { status = 503; closes = true; body = error_text (codes "
 -- the bytes of this response, which are constant, so that they can be sent without memory; `MemoryIsConstant` says that they are
 unfoldable pub memory_bytes : List ℕ
 memory_bytes =
-    line (codes "HTTP/1.1 503 Service Unavailable")
-    ++ line (codes "Content-Type: application/json")
-    ++ line (codes "Content-Length: 18")
-    ++ line (codes "Connection: close")
-    ++ line []
+    head_line (codes "HTTP/1.1 503 Service Unavailable")
+    ++ head_line (codes "Content-Type: application/json")
+    ++ head_line (codes "Content-Length: 18")
+    ++ head_line (codes "Connection: close")
+    ++ head_line []
     ++ codes "{\"error\":\"memory\"}"

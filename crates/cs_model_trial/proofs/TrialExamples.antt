@@ -2,7 +2,7 @@
 use Rattle.std.proofs.Common.{◌≡◌, ℕ, [], ◌∷◌, refl, codes}
 use Rattle.std.specs.Prelude.{length}
 use Rattle.std.specs.Fmt.{digits}
-use Rattle.cs_model_trial.specs.Generator.{behind, draws, word, line_draws, line}
+use Rattle.cs_model_trial.specs.Generator.{behind, draws, word, line_draws, trial_line}
 use Rattle.cs_model_trial.specs.Sessions.{session_draws, session, texts}
 use Rattle.cs_model_trial.specs.Summary.{summary_line}
 
@@ -17,12 +17,12 @@ unfolding word
 word-last = refl
 
 -- the first line of trial 1
-line-first : line (line_draws 1 0) ≡ codes "dotedi bodeke batata\tkind=di\tkodeki batobo kikeki katodi debike kokoki betoko datobi tedota bobiba takoki babata\n"
+line-first : trial_line (line_draws 1 0) ≡ codes "dotedi bodeke batata\tkind=di\tkodeki batobo kikeki katodi debike kokoki betoko datobi tedota bobiba takoki babata\n"
 unfolding line_draws behind draws word
 line-first = refl
 
 -- its last line
-line-last : line (line_draws 1 99) ≡ codes "kibete batibi kekaki\tkind=de\tkitaki bobate tabiti botada kateda kitida tadita dotada bekibo kekido bokodi koketo\n"
+line-last : trial_line (line_draws 1 99) ≡ codes "kibete batibi kekaki\tkind=de\tkitaki bobate tabiti botada kateda kitida tadita dotada bekibo kekido bokodi koketo\n"
 unfolding line_draws behind draws word
 line-last = refl
 

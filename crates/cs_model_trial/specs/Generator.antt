@@ -10,9 +10,9 @@
 --   syllable n, word w   a syllable and a word by their numbers
 --   line_bounds          the bounds of a line's draws, in their order
 --   line_draws n i       the draws of line i of trial n, lines counted from 0
---   title_of, kind_of, text_of     the numbers of its title words, of its facet and of its text words among the draws of a line
+--   line_title, line_syllable, text_of  the numbers of its title words, of its facet and of its text words among the draws of a line
 --   spaced ws            words with a space between each two, by their numbers; of no words nothing
---   line ds              the line that draws give, with its LF
+--   trial_line ds        the line that draws give, with its LF
 --   line_count n         how many lines trial n has
 --   collection n         the collection of trial n
 use Rattle.std.specs.Prelude.{ℕ, zero, suc, ◌+◌, ◌*◌, ◌/◌, ◌%◌, ◌^◌, List, [], ◌∷◌, ◌++◌, map, take, drop, length, replicate, slice_index_or, codes}
@@ -61,12 +61,12 @@ unfoldable pub line_draws : ℕ → ℕ → List ℕ
 line_draws n i = draws line_bounds (behind (i * length line_bounds) n)
 
 -- the numbers of the title's words among a line's draws
-abbrev pub title_of : List ℕ → List ℕ
-title_of ds = take TITLE_WORDS ds
+abbrev pub line_title : List ℕ → List ℕ
+line_title ds = take TITLE_WORDS ds
 
 -- the number of the facet's syllable among a line's draws
-abbrev pub kind_of : List ℕ → ℕ
-kind_of ds = slice_index_or ds TITLE_WORDS 0
+abbrev pub line_syllable : List ℕ → ℕ
+line_syllable ds = slice_index_or ds TITLE_WORDS 0
 
 -- the numbers of the text's words among a line's draws
 abbrev pub text_of : List ℕ → List ℕ
@@ -77,8 +77,8 @@ abbrev pub spaced : List ℕ → List ℕ
 spaced ws = join_with_byte 32 (map word ws)
 
 -- the line of its draws: title, facet and text, a TAB, which is 9, between each two, and LF, which is 10, at the end
-abbrev pub line : List ℕ → List ℕ
-line ds = spaced (title_of ds) ++ 9 ∷ codes "kind=" ++ syllable (kind_of ds) ++ 9 ∷ spaced (text_of ds) ++ 10 ∷ []
+abbrev pub trial_line : List ℕ → List ℕ
+trial_line ds = spaced (line_title ds) ++ 9 ∷ codes "kind=" ++ syllable (line_syllable ds) ++ 9 ∷ spaced (text_of ds) ++ 10 ∷ []
 
 -- how many lines trial n has; trial 0 would have none
 abbrev pub line_count : ℕ → ℕ
@@ -86,4 +86,4 @@ line_count n = LINES * n
 
 -- the collection of trial n, line by line; of trial 0 it would be empty
 unfoldable pub collection : ℕ → List ℕ
-collection n = flat_map (λ i. line (line_draws n i)) (range_with_len 0 (line_count n))
+collection n = flat_map (λ i. trial_line (line_draws n i)) (range_with_len 0 (line_count n))

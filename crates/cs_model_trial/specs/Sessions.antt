@@ -11,7 +11,7 @@
 --   session_at n d j       the texts of the session over text word j of document d and the one behind it
 --   session n s            the texts of session s of trial n
 --   texts n                those of all sessions of trial n
---   asked text             what a text asks: its query, with the defaults and without facets
+--   plain_request text     what a text asks: its query, with the defaults and without facets
 --   queries n              the queries of trial n
 use Rattle.std.specs.Prelude.{ℕ, ◌+◌, ◌*◌, ◌%◌, List, [], ◌∷◌, ◌++◌, map, take, length, slice_index_or}
 use Rattle.std.specs.List.{flat_map, range_with_len}
@@ -57,9 +57,9 @@ unfoldable pub texts : ℕ → List (List ℕ)
 texts n = flat_map (session n) (range_with_len 0 SESSIONS)
 
 -- what a text asks: the query of its key text, with the defaults and without facets
-abbrev pub asked : List ℕ → Request
-asked text = record { query = query_of (chars (norm text)); hits = DEFAULT_HITS; completions = DEFAULT_COMPLETIONS; offset = 0; facets = [] }
+abbrev pub plain_request : List ℕ → Request
+plain_request text = record { query = query_of (chars (norm text)); hits = DEFAULT_HITS; completions = DEFAULT_COMPLETIONS; offset = 0; facets = [] }
 
 -- the queries of trial n, in the order in which they are asked
 abbrev pub queries : ℕ → List Query
-queries n = map (λ text. (asked text).query) (texts n)
+queries n = map (λ text. (plain_request text).query) (texts n)

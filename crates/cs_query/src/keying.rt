@@ -4,7 +4,7 @@ ghost use Rattle.std.specs.Option.{option_map};
 ghost use Rattle.cs_base.specs.declared.content.limits.TheConstants.{MAX_QUERY_BYTES};
 ghost use Rattle.cs_base.specs.declared.content.query.Atom.{out-Atom};
 ghost use Rattle.cs_model.specs.Canonical.{canonical};
-ghost use Rattle.cs_model.specs.Keys.{keys_of, last_prefix, part_prefix, chain_prefix, prefix_in, narrower, narrowers, shorter_words, extended};
+ghost use Rattle.cs_model.specs.Keys.{keys_of, last_prefix, part_prefix, chain_prefix, prefix_in, narrower, narrowers, shorter_words, key_before};
 ghost use Rattle.cs_model.specs.Refusals.{IsOfGrammar};
 ghost use Rattle.cs_query.specs.Printing.{Continues};
 
@@ -105,7 +105,7 @@ fn narrower(
 
 /// The key of the query without its last part, where it has at least two.
 fn extend(alloc: Global, parts: &[Part]) -> Result<Option<Key>, Memory>
-    ensures { IfOk result (λ k. k ≡ extended parts.now) }
+    ensures { IfOk result (λ k. k ≡ key_before parts.now) }
 {
     if parts.len() < 2 {
         return Ok(None);

@@ -3,7 +3,7 @@
 -- Source: this engine's own.
 --
 --   file_of f             the bytes of f, and whether it is finished
---   entry f               its name with that
+--   named_file f          its name with that
 --   held_in fs            the files of the list by name; of the empty list the empty map
 --   IsPlaceOf fs name i   the file of the name stands at place i of the list; there is none where the name isn't held
 use Rattle.std.specs.Prelude.{◌≡◌, ℕ, ◌<◌, List, map, length, Some, slice_set, slice_index_or}
@@ -16,12 +16,12 @@ abbrev pub file_of : MemFile → File
 file_of f = record { bytes = f.bytes.items; finished = f.finished }
 
 -- a file of the list with its name in front
-abbrev pub entry : MemFile → List ℕ × File
-entry f = (f.name, file_of f)
+abbrev pub named_file : MemFile → List ℕ × File
+named_file f = (f.name, file_of f)
 
 -- the files of a list by name, of two with one name the first; of the empty list the empty map
 abbrev pub held_in : List MemFile → Held
-held_in fs = fin.from_entries (map entry fs)
+held_in fs = fin.from_entries (map named_file fs)
 
 -- the place of a name in the list: its file is there, and a write there sets the name; no place where the name isn't held
 pub record IsPlaceOf (fs : List MemFile) (name : List ℕ) (i : ℕ) : Type 0 where

@@ -4,7 +4,7 @@
 --
 --   Connected          the connections that were opened: how many, which are live, what was sent on each, which are broken
 --   connected cs       the connections of a list, each at its number
---   bytes_on, adds, breaks_off, changes      what was sent on one, and what a send, a break and an event change
+--   bytes_on, adds, breaks_off, behind_event  what was sent on one, and what a send, a break and an event change
 --   hub_of n x         the connections as a hub with room for n
 --   HeadIs P es        P holds of the first event
 --   is_over e          the event is Over
@@ -79,11 +79,11 @@ abbrev pub breaks_off : ℕ → Connected → Connected
 breaks_off c x = record (adds c [] x) { broken = set.insert x.broken c }
 
 -- what an event changes: the next number opens, or one isn't live any more
-abbrev pub changes : Event → Connected → Connected
-changes (Opened c) x = record x { opened = x.opened + 1; live = set.insert x.live x.opened }
-changes (Piece c n) x = x
-changes (Ended c) x = record x { live = set.remove x.live c }
-changes Over x = x
+abbrev pub behind_event : Event → Connected → Connected
+behind_event (Opened c) x = record x { opened = x.opened + 1; live = set.insert x.live x.opened }
+behind_event (Piece c n) x = x
+behind_event (Ended c) x = record x { live = set.remove x.live c }
+behind_event Over x = x
 
 -- the connections as a hub with room for so many, which isn't over
 abbrev pub hub_of : ℕ → Connected → Listening
@@ -109,11 +109,11 @@ Fits room (Ended c) = Unit {0}
 Fits room Over = Unit {0}
 
 -- a list of events with the first bytes of its first piece taken off; all of the list where it doesn't begin with a piece
-abbrev pub cut : ℕ → List Scripted → List Scripted
-cut n [] = []
-cut n (Opens ∷ events) = Opens ∷ events
-cut n (Gives c bytes ∷ events) = Gives c (drop n bytes) ∷ events
-cut n (Ends c ∷ events) = Ends c ∷ events
+abbrev pub without_given : ℕ → List Scripted → List Scripted
+without_given n [] = []
+without_given n (Opens ∷ events) = Opens ∷ events
+without_given n (Gives c bytes ∷ events) = Gives c (drop n bytes) ∷ events
+without_given n (Ends c ∷ events) = Ends c ∷ events
 
 -- how many bytes of the event at a place were given; none where it isn't the first that is left
 abbrev pub given_at : Script → ℕ → ℕ
@@ -121,11 +121,11 @@ given_at s place = cond (place == s.place) s.given 0
 
 -- the events from a place on, without the bytes that were given
 abbrev pub left_from : Script → ℕ → List Scripted
-left_from s place = cut (given_at s place) (drop place s.events.items)
+left_from s place = without_given (given_at s place) (drop place s.events.items)
 
 -- the events that are left
 abbrev pub left_in : Script → List Scripted
-left_in s = cut s.given (drop s.place s.events.items)
+left_in s = without_given s.given (drop s.place s.events.items)
 
 -- an event that came, with the bytes of a piece
 abbrev pub came_as : Heard → Came

@@ -9,7 +9,7 @@
 --   comes s room es      the event, with its bytes, that the first event of a script is
 --   left_behind room es  what is left of the script behind it
 --   becomes e s          what every hub tells behind event e
---   played, listened, sent_all, cut_off, closed   such a hub behind what a call did
+--   played, listened, sent_all, cut_off, hung_up  such a hub behind what a call did
 --   next_called, send_called                      a call more of `listen` or `next`, or of `send`, was made
 --   next_missed                                   one of `listen` or `next` was made, and failed
 --   listening_code, came_code, talk_code, script_code      these as pairs, from which they are read back
@@ -110,8 +110,8 @@ abbrev pub cut_off : ℕ → ScriptState → ScriptState
 cut_off c s = record s { talk = breaks c (sends c [] s.talk); send_faults = one_more s.send_faults }
 
 -- behind a `close`: the connection, which may not have been live, isn't
-abbrev pub closed : ℕ → ScriptState → ScriptState
-closed c s = record s { hub = record s.hub { live = set.remove s.hub.live c } }
+abbrev pub hung_up : ℕ → ScriptState → ScriptState
+hung_up c s = record s { hub = record s.hub { live = set.remove s.hub.live c } }
 
 -- a call more of `listen` or `next` was made
 abbrev pub next_called : ScriptState → ScriptState

@@ -1,7 +1,7 @@
 //! The connections of a hub in memory.
 ghost use Rattle.std.specs.Prelude.{◌≡◌, ◌<◌, [], length, OnOk, OnErr, IsOk};
 ghost use Rattle.std.specs.FinSet as set;
-ghost use Rattle.cs_base.specs.outside.ScriptParts.{connected, connected_of, bytes_on, adds, breaks_off, changes};
+ghost use Rattle.cs_base.specs.outside.ScriptParts.{connected, connected_of, bytes_on, adds, breaks_off, behind_event};
 
 use crate::Memory;
 use crate::outside::hub::Event;
@@ -73,7 +73,7 @@ impl Connections {
 
     /// What an event changes. Where an opened connection finds no memory, nothing changed.
     pub fn hear(&mut self, event: Event) -> Result<(), Memory>
-        ensures ok { OnOk result (connected self.new ≡ changes event (connected self.old)) }
+        ensures ok { OnOk result (connected self.new ≡ behind_event event (connected self.old)) }
         ensures err { OnErr result (connected self.new ≡ connected self.old) }
     {
         match event {
@@ -89,7 +89,7 @@ impl Connections {
 
     // Opens the next connection.
     fn open(&mut self) -> Result<(), Memory>
-        ensures ok { OnOk result (connected self.new ≡ changes (Event.Opened (connected self.old).opened) (connected self.old)) }
+        ensures ok { OnOk result (connected self.new ≡ behind_event (Event.Opened (connected self.old).opened) (connected self.old)) }
         ensures err { OnErr result (connected self.new ≡ connected self.old) }
     {
         self.list.push(Connection {
@@ -102,7 +102,7 @@ impl Connections {
 
     /// A connection isn't live any more, if it was.
     pub fn end(&mut self, conn: u32)
-        ensures { connected self.new ≡ changes (Event.Ended conn) (connected self.old) }
+        ensures { connected self.new ≡ behind_event (Event.Ended conn) (connected self.old) }
     {
         if let Some(connection) = self.list.get_mut(conn as usize) {
             connection.live = false;

@@ -2,7 +2,7 @@
 ghost use Rattle.std.specs.Prelude.{◌≡◌, ◌<◌, [], MatchOption, drop, length, true};
 ghost use Rattle.cs_base.specs.outside.Hub.{came_of};
 ghost use Rattle.cs_base.specs.outside.ScriptedHub.{comes, is_lawful, left_behind, playable};
-ghost use Rattle.cs_base.specs.outside.ScriptParts.{connected, cut, given_at, hub_of, left_from, left_in, Fits, HeadIs};
+ghost use Rattle.cs_base.specs.outside.ScriptParts.{connected, without_given, given_at, hub_of, left_from, left_in, Fits, HeadIs};
 
 use crate::Seq;
 use crate::outside::connections::Connections;
@@ -49,7 +49,7 @@ impl Script {
     /// The next lawful event, with its bytes at the front of `into`; Over where none is left.
     pub fn turn(&self, connections: &Connections, conns: u32, into: &mut [u8]) -> Turn
         ensures came { came_of result.event into.new ≡ comes (hub_of conns (connected connections.now)) (length into.old) (playable (hub_of conns (connected connections.now)) (left_in self.now)) }
-        ensures left { cut result.given (drop result.place self.now.events.items) ≡ left_behind (length into.old) (playable (hub_of conns (connected connections.now)) (left_in self.now)) }
+        ensures left { without_given result.given (drop result.place self.now.events.items) ≡ left_behind (length into.old) (playable (hub_of conns (connected connections.now)) (left_in self.now)) }
         ensures fits { Fits (length into.old) result.event }
     {
         match self.lawful_place(connections, conns) {
@@ -95,7 +95,7 @@ impl Script {
         requires lawful { HeadIs (λ e. is_lawful (hub_of conns (connected connections.now)) e ≡ true) (left_from self.now place) }
 
         ensures came { came_of result.event into.new ≡ comes (hub_of conns (connected connections.now)) (length into.old) (left_from self.now place) }
-        ensures left { cut result.given (drop result.place self.now.events.items) ≡ left_behind (length into.old) (left_from self.now place) }
+        ensures left { without_given result.given (drop result.place self.now.events.items) ≡ left_behind (length into.old) (left_from self.now place) }
         ensures fits { Fits (length into.old) result.event }
     {
         let behind = place + 1;

@@ -155,7 +155,7 @@ impl Hub for ScriptHub {
     ghost use Rattle.cs_base.specs.outside.Causes.{Counted};
     ghost use Rattle.cs_base.specs.outside.FailingCalls.{fails_next};
     ghost use Rattle.cs_base.specs.outside.Hub.{IsLive};
-    ghost use Rattle.cs_base.specs.outside.ScriptedHub.{listened, closed, sent_all, next_called, next_missed};
+    ghost use Rattle.cs_base.specs.outside.ScriptedHub.{listened, hung_up, sent_all, next_called, next_missed};
 
     ghost state = { λ h. h.hub };
 
@@ -229,7 +229,7 @@ impl Hub for ScriptHub {
     }
 
     fn close(&mut self, conn: u32)
-        ensures closed { self.new ≡ closed conn self.old }
+        ensures hung_up { self.new ≡ hung_up conn self.old }
         ensures orderly { IsOrderly self.new.hub (Some self.new.talk) }
     {
         self.connections.end(conn);
