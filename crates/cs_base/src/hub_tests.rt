@@ -130,7 +130,9 @@ fn a_listed_send_fails(rt: HostRuntime) -> Result<(), Fail> {
     let mut buffer = [0; 16];
     hub.listen(8080, 2)?;
     hub.fail_send(vec![in rt.alloc(); 2]?);
-    let Ok(Event::Opened(conn)) = hub.next(&mut buffer) else {
+    comes(&mut hub, &mut buffer, Event::Opened(0), b"")?;
+    comes(&mut hub, &mut buffer, Event::Opened(1), b"")?;
+    let Ok(Event::Piece(conn, _)) = hub.next(&mut buffer) else {
         return Err(Fail::new("another event"));
     };
     hub.send(conn, b"ab")?;

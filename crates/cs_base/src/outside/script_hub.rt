@@ -215,6 +215,7 @@ impl Hub for ScriptHub {
         ensures empty { fails_next self.old.send_calls ≡ false → bytes.now ≡ [] → IsOk result }
         ensures ok { OnOk result (self.new ≡ send_called (sent_all conn bytes.now self.old)) }
         ensures err { OnErr result (self.new ≡ send_called (cut_off conn self.old)) }
+        ensures same { self.new.hub ≡ self.old.hub }
         ensures counted { Counted self.old.send_faults self.new.send_faults result }
         ensures orderly { IsOrderly self.new.hub (Some self.new.talk) }
     {
