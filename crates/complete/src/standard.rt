@@ -36,7 +36,7 @@ impl<W: Write + Drop> Sink for Standard<W> {
 
     ghost faults = { λ s. s.faults.count };
 
-    ghost kept = { λ _. tt };
+    ghost lent = { λ _. tt };
 
     /// Over a writer whose content is known, exactly these bytes came to it; some first ones of them where it failed.
     fn put(&mut self, bytes: &[u8]) -> Result<(), Failed>

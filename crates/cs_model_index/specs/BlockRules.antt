@@ -135,7 +135,7 @@ in_docs docs = record { number = 14; holds = λ last r. nat_lt r.doc docs; at = 
 abbrev pub in_words : BlockHead → Rule
 in_words head = record { number = 15; holds = λ last r. nat_lt r.word (head.lo + head.words); at = λ i. gap_bytes head + 2 * i.index }
 
--- a facet word stands at 0 with the score of a facet; any other from 1 on with the score of a title or of a text word
+-- a facet word stands at 0 with the score of a facet; any other from 1 to MAX_POSITION with the score of a title or of a text word
 abbrev pub is_scored : Scores → Bool → Post → Bool
 is_scored scores facet r = if facet then r.pos == 0 && r.score == scores.facet else (nat_le 1 r.pos && nat_le r.pos MAX_POSITION && (r.score == scores.title || r.score == scores.text))
 

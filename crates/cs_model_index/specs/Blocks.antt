@@ -44,7 +44,7 @@ pub record AreWritable (lo : ℕ) (rs : List Post) : Type 0 where
   pub sorted : IsStrictlySortedBy by_place rs
   pub words : All (λ r. (lo ≤ r.word) × (r.word < lo + 2 ^ 16)) rs
 
--- every word has a row, every row has from 8 to 12 bytes, and words are in the limits; a head of no rows goes with no bytes
+-- at least as many rows as words, from 8 to 12 bytes a row, and the words within the limit; a head of no rows goes with no bytes
 pub record IsShaped (head : BlockHead) (size : ℕ) : Type 0 where
   pub size_is : size ≡ head.len
   pub rows : head.words ≤ head.rows

@@ -2,8 +2,8 @@
 --
 -- Source: this engine's own.
 --
--- The law `files` says what of this follows from the laws of blocks. The others stand without a contract here, so nothing in this crate
--- promises them: they are proved where files are written and opened.
+-- The law `files` says what of this follows from the laws of blocks. The others are statements: no contract
+-- promises them.
 --
 --   HasLimits i           an image whose numbers have room in a file, and whose titles, words and rows are those of a collection
 --   AcceptedAreFiles      an index file is the file of the image that is read of it
@@ -26,7 +26,7 @@ use Rattle.cs_model_index.specs.Partitions.{is_facet}
 use Rattle.cs_model_index.specs.Sections.{image_of, file_corpus}
 use Rattle.cs_model_index.specs.declared.limits.TheConstants.{MAX_TARGET}
 
--- within the limits of collections, with titles of fewer than 2^32 bytes together; the image of the empty corpus has them for each target
+-- within the limits of collections, with titles of fewer than 2^32 bytes together; the image of the empty corpus has them for each target from 1 to MAX_TARGET
 pub record HasLimits (i : Image) : Type 0 where
   pub few_docs : length i.titles ≤ MAX_DOCS
   pub texts : All IsUtf8 i.titles

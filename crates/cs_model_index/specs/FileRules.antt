@@ -144,7 +144,7 @@ vocabulary_rules r =
     ∷ []
 
 -- ---- rules 8 and 9: the titles
--- the first offset is 0, and each other at most MAX_LINE_BYTES above the one before
+-- the first offset is 0, and each other from the one before up to MAX_LINE_BYTES above it
 abbrev pub is_onward : Option ℕ → ℕ → Bool
 is_onward None o = o == 0
 is_onward (Some p) o = nat_le p o && nat_le o (p + MAX_LINE_BYTES)
@@ -205,7 +205,7 @@ blocks_break docs at (h ∷ hs) bytes = option_or (option_map (in_file at) (judg
 abbrev pub Block : Type 0
 Block = BlockHead × List Post
 
--- some post has each of the block's words
+-- each of the block's words is that of some post
 abbrev pub has_rows : Block → Bool
 has_rows p = list_all (λ n. list_any (λ post. post.word == n) p.1) (range_with_len p.0.lo p.0.words)
 

@@ -79,7 +79,7 @@ image_rows i = rows_at i.words (image_posts i)
 abbrev pub image_corpus : Image → Corpus
 image_corpus i = record { titles = by_number i.titles; rows = members_in by_row (image_rows i) }
 
--- a corpus and a target have one image
+-- a corpus and a target have at most one image
 abbrev pub ImagesAreOne : Type 0
 ImagesAreOne = (k : Corpus) (target : ℕ) (i j : Image) → IsImage k target i → IsImage k target j → i ≡ j
 

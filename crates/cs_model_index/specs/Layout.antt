@@ -3,7 +3,7 @@
 -- Source: this engine's own.
 --
 --   number_bytes n            a number of four bytes
---   Header                    the numbers of the header; `spare` is 0
+--   Header                    the numbers of the header; `spare` is 0 in an index file
 --   MAGIC                     the eight bytes that each index file begins with
 --   header_bytes h            the header
 --   vocabulary_bytes words    for each word a byte with its length and its bytes; of no words no bytes

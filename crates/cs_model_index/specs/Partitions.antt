@@ -4,9 +4,9 @@
 --
 --   Count                     how many rows a word has
 --   is_facet w                whether a word is that of a facet, which begins with a colon
---   kind_of w                 the facet name that a word stands under; the empty text for a plain word, since a name has a letter
+--   kind_of w                 the facet name that a word stands under; with its leading colon; of a plain word the empty text
 --   is_alike v w              two words of one kind: both plain, or both under one facet name
---   is_one_kind run           each word is of the kind of the first; no words are of one kind
+--   is_one_kind run           each word is of the kind of the first; so is the empty run
 --   rows_of_run count run     how many rows the words of a run have; of no words 0
 --   is_light target n rows    a block of n words may have so many rows: one word any number, several at most the target
 --   is_run target count run   words that a block may have
@@ -35,16 +35,16 @@ abbrev pub is_facet : List ℕ → Bool
 is_facet [] = false
 is_facet (b ∷ w) = is_colon b
 
--- the name between the first two colons; for a word that doesn't begin with a colon the empty text
+-- a leading colon and what stands between it and the next one, or the end; of a word that doesn't begin with a colon the empty text
 abbrev pub kind_of : List ℕ → List ℕ
 kind_of [] = []
-kind_of (b ∷ w) = if is_colon b then before_first is_colon w else []
+kind_of (b ∷ w) = if is_colon b then b ∷ before_first is_colon w else []
 
 -- of one kind: both plain, or both under one facet name
 abbrev pub is_alike : List ℕ → List ℕ → Bool
 is_alike v w = bytes_eq (kind_of v) (kind_of w)
 
--- each of the kind of the first; so are no words
+-- each of the kind of the first; so is the empty run
 abbrev pub is_one_kind : List (List ℕ) → Bool
 is_one_kind run = list_all (is_alike (word_at run 0)) run
 
@@ -53,7 +53,7 @@ is_one_kind run = list_all (is_alike (word_at run 0)) run
 abbrev pub rows_of_run : Count → List (List ℕ) → ℕ
 rows_of_run count run = sum_by count run
 
--- one word may have any number of rows, and several at most the target; no word may have any number
+-- one word may have any number of rows, and several at most the target; of no words any number
 abbrev pub is_light : ℕ → ℕ → ℕ → Bool
 is_light target n rows = nat_le n 1 || nat_le rows target
 

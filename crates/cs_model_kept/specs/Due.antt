@@ -16,7 +16,7 @@
 --   met_of_linked v l, met_of_chain v c, met_of_part v p, met_of_query v q     the sum over the atoms of these; of the empty
 --                        query 0
 --   met_of_facets v ns   the sum over the names of facets; of none 0
---   met_of_last v q      the blocks of the last part's atoms; 0 where there is no part
+--   met_of_last v p      the blocks of the last part's atoms; 0 where there is no part
 --   met_by v q plan      the blocks that a plan leaves to read for the parts of a query
 --   due v r plan n       the blocks and titles that may be read for a request, where n titles are
 use Rattle.std.specs.Prelude.{ℕ, ◌+◌, if◌then◌else◌, List, [], map, filter, take, drop, sum, length, Option, Some, None}

@@ -40,7 +40,7 @@ use Rattle.cs_model.specs.Answers.{PartRows, in_doc, docs_of, greatest_score, hi
 use Rattle.cs_model.specs.Corpus.{Corpus}
 use Rattle.cs_model_index.specs.Numbered.{rows_at}
 
--- what is kept of a query: the hits from which its last part goes on, and the rows of that part in them; of both there may be
+-- what is kept of a query: the hits from which its last part goes on, or its own where that part is excluded, and the rows of that part in them; of both there may be
 -- none
 pub record Entry : Type 0 where
   pub base : Base

@@ -7,6 +7,7 @@
 --   waits b                 no head is answered
 --   ends r rest             the last response
 --   answers_on r s          a response before others
+--   answered_by             the same by whether the connection is closed
 --   answered r rest later   a response, and where the connection goes on what is served of the bytes behind its head
 --   framed k b f later      what is served by what framing found
 --   serve_heads k n b       what is served of unread bytes, by at most n heads
@@ -20,8 +21,10 @@
 --   IsStopped k b s sent    s is such responses for some first answers, none of which closed the connection, and then the
 --                           memory response
 --   IsFair k b s sent       one of these two
+--   IsPartFair k b s sent   s is some first bytes of what is
 --   Left                    what is kept of a live connection: how many bytes were taken, and those that aren't read
 --   StandsLive, StandsShut  a live connection stands right; one that isn't live does
+--   StandsBy                one of these by the responses in the places of the answers
 --   StandsRight             a connection stands right, by what came, what was sent, whether a send failed, what is kept
 use Rattle.std.specs.Prelude.{◌≡◌, ◌⊎◌, ℕ, suc, Bool, true, false, not, ◌&&◌, ◌||◌, ◌==◌, nat_le, List, [], ◌∷◌, ◌++◌, length, take, drop, slice_range, All, count_by, Option, Some, None, codes}
 use Prim.Native.Nat.{zero}

@@ -1,6 +1,6 @@
 -- Responses, and their bytes.
 --
--- Source: RFC 9110, section 15, for statuses and their reasons, 10.2.1 for Allow; RFC 9112, sections 4, 5 and 9.6, for the
+-- Source: RFC 9110, section 15, for statuses and their reasons, and RFC 6585, section 5, for 431; RFC 9110, 10.2.1, for Allow; RFC 9112, sections 4, 5 and 9.6, for the
 -- lines. Which status comes when, and the bodies, are this engine's own.
 --
 --   Response                  a status, whether the connection is closed after it, and its body

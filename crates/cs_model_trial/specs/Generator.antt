@@ -29,7 +29,7 @@ unfoldable pub behind : ℕ → ℕ → ℕ
 behind zero x = x
 behind (suc n) x = behind n (next_state x)
 
--- a draw below m from a state, by the bits of the next one from the 33rd on; below 1 it is 0
+-- a draw below m from a state, by the next one without its low 33 bits; below 1 it is 0
 abbrev pub drawn : ℕ → ℕ → ℕ
 drawn m x = next_state x / 2 ^ 33 % m
 

@@ -4,7 +4,7 @@
 --
 --   trial_corpus n         the corpus of the collection of trial n
 --   hits_found k qs        the numbers of hits of the queries qs, added up
---   trial_plans k qs       the plans of the queries, from an empty list of `MAX_ENTRIES` entries on
+--   trial_plans k qs       the plans of the queries, from an empty list with room for `MAX_ENTRIES` entries on
 --   is_same p, is_narrow p, is_extend p, is_fresh p      which plan p is
 --   counted test ps        how many of the plans ps pass
 --   summary_line w n       a line of a word and a number, with LF

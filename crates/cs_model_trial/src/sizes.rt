@@ -12,7 +12,7 @@ pub const SYLLABLES: u32 = 16;
 /// How many words there are: each is three syllables.
 pub const WORDS: u32 = 4096;
 
-/// How many lines the collection of trial 1 has; that of another has as many times more.
+/// How many lines the collection of trial 1 has; that of trial n has n times as many.
 pub const LINES: u32 = 100;
 
 /// How many words a title has.

@@ -1,4 +1,4 @@
--- What sinks and files may tell of themselves. Each meaning is optional: None where the object doesn't tell.
+-- What sinks, stores and files may tell of themselves. Each meaning is optional: None where the object doesn't tell.
 --
 -- Source: this engine's own.
 --

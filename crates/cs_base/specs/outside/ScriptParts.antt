@@ -3,7 +3,7 @@
 -- Source: this engine's own.
 --
 --   Connected          the connections that were opened: how many, which are live, what was sent on each, which are broken
---   connected cs       the connections of a list, each at its number
+--   connected_of xs, connected c    the connections of a list, each at its number; those that a hub keeps
 --   bytes_on, adds, breaks_off, behind_event  what was sent on one, and what a send, a break and an event change
 --   hub_of n x         the connections as a hub with room for n
 --   HeadIs P es        P holds of the first event
@@ -63,6 +63,7 @@ connected_of xs = record {
   broken = places_from 0 (map (λ x. x.broken) xs);
 }
 
+-- the connections that a hub keeps; at first none
 abbrev pub connected : Connections → Connected
 connected c = connected_of c.list.items
 

@@ -1,4 +1,4 @@
-//! The limits of collections, words, queries and requests.
+//! The limits of collections, words, queries, requests and connections.
 
 /// The most bytes of a collection.
 pub const MAX_COLLECTION_BYTES: usize = 1 << 28;

@@ -18,7 +18,7 @@ pub struct BlockHead {
 /// A broken rule of an index file's form.
 #[derive(Clone, Copy, Debug, PartialEq, Eq)]
 pub struct Broken {
-    /// The rule's number, one of those in `docs/INDEX_FILE.md`.
+    /// The rule's number, from 1 to 18.
     pub n: u8,
     /// The place at which it is broken, in bytes.
     pub at: u32,

@@ -36,9 +36,9 @@ impl<F: Files> Sink for FileSink<'_, F> {
 
     ghost faults = { λ s. F.faults s.files.now };
 
-    ghost Kept = { GName × (List ℕ × Option Held) };
+    ghost Lent = { GName × (List ℕ × Option Held) };
 
-    ghost kept = { λ s. (s.files.ghost_name, (s.name.now, but_for s.name.now (F.held s.files.now))) };
+    ghost lent = { λ s. (s.files.ghost_name, (s.name.now, but_for s.name.now (F.held s.files.now))) };
 
     fn put(&mut self, bytes: &[u8]) -> Result<(), Failed> {
         self.files.append(self.name, bytes)

@@ -48,9 +48,9 @@ impl<F: Files> Store for FileStore<'_, F> {
 
     ghost faults = { λ s. F.faults s.files.now };
 
-    ghost Kept = { GName × (Option Held × (List ℕ × ℕ)) };
+    ghost Lent = { GName × (Option Held × (List ℕ × ℕ)) };
 
-    ghost kept = { λ s. (s.files.ghost_name, (F.held s.files.now, (s.name.now, s.size))) };
+    ghost lent = { λ s. (s.files.ghost_name, (F.held s.files.now, (s.name.now, s.size))) };
 
     /// It never fails.
     fn size(&mut self) -> Result<u64, Failed>

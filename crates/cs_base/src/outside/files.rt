@@ -12,7 +12,7 @@ pub trait Files {
     /// The files that are held, where it tells them.
     ghost held: { Self → Option Held };
 
-    /// How often a call has failed, up to the last value of u64.
+    /// A count of failures, which never falls, up to the last value of u64.
     ghost faults: { Self → ℕ };
 
     /// The number of a file's bytes; None where no such name is held.

@@ -28,10 +28,10 @@ pub trait Hub {
     /// What came and was sent, where it tells that.
     ghost talk: { Self → Option Talk };
 
-    /// How often `listen` or `next` has failed, up to the last value of u64.
+    /// A count of failures of `listen` and `next`, which never falls, up to the last value of u64.
     ghost faults: { Self → ℕ };
 
-    /// How often `send` has failed, up to the last value of u64.
+    /// A count of failures of `send`, which never falls, up to the last value of u64.
     ghost send_faults: { Self → ℕ };
 
     /// Begins to listen, with room for `conns` connections over its life.

@@ -67,7 +67,7 @@ impl Sink for MemSink {
 
     ghost faults = { λ s. s.faults };
 
-    ghost kept = { λ _. tt };
+    ghost lent = { λ _. tt };
 
     /// It fails where the call is to fail, and else only where there are bytes and they find no memory; none of them was written then.
     fn put(&mut self, bytes: &[u8]) -> Result<(), Failed>

@@ -44,9 +44,9 @@ impl Store for MemStore {
 
     ghost faults = { λ _. 0 };
 
-    ghost Kept = { List ℕ };
+    ghost Lent = { List ℕ };
 
-    ghost kept = { λ s. s.bytes };
+    ghost lent = { λ s. s.bytes };
 
     /// It never fails.
     fn size(&mut self) -> Result<u64, Failed>
@@ -120,9 +120,9 @@ impl Store for TiredStore {
 
     ghost faults = { λ s. s.faults };
 
-    ghost Kept = { List ℕ };
+    ghost Lent = { List ℕ };
 
-    ghost kept = { λ s. s.bytes };
+    ghost lent = { λ s. s.bytes };
 
     /// It never fails.
     fn size(&mut self) -> Result<u64, Failed>

@@ -10,19 +10,19 @@ pub trait Sink {
     /// The bytes written so far, where it tells them.
     ghost written: { Self → Option (List ℕ) };
 
-    /// How often `put` has failed, up to the last value of u64.
+    /// A count of failures of `put`, which never falls, up to the last value of u64.
     ghost faults: { Self → ℕ };
 
     /// What no call changes beside that, as the files that are lent to it, but for its own.
-    ghost Kept: { Type 0 } = { Unit {0} };
+    ghost Lent: { Type 0 } = { Unit {0} };
 
     /// That of this sink.
-    ghost kept: { Self → Kept };
+    ghost lent: { Self → Lent };
 
     /// Writes the bytes at the end. Where it fails, some first ones of them.
     fn put(&mut self, bytes: &[u8]) -> Result<(), Failed>
         ensures ok { OnOk result (Grew (written self.old) bytes.now (written self.new)) }
         ensures err { OnErr result (GrewByPrefix (written self.old) bytes.now (written self.new)) }
-        ensures kept { kept self.new ≡ kept self.old }
+        ensures lent { lent self.new ≡ lent self.old }
         ensures counted { Counted (faults self.old) (faults self.new) result };
 }

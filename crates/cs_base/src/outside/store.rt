@@ -11,23 +11,23 @@ pub trait Store {
     /// Its bytes, where it tells them.
     ghost bytes: { Self → Option (List ℕ) };
 
-    /// How often `read_at` was called, up to the last value of u64.
+    /// A count of reads, which a call of `read_at` raises by at most one, up to the last value of u64.
     ghost reads: { Self → ℕ };
 
-    /// How often a call has failed, up to the last value of u64.
+    /// A count of failures, which never falls, up to the last value of u64.
     ghost faults: { Self → ℕ };
 
     /// What no call changes beside that, as the files that are lent to it.
-    ghost Kept: { Type 0 };
+    ghost Lent: { Type 0 };
 
     /// That of this store.
-    ghost kept: { Self → Kept };
+    ghost lent: { Self → Lent };
 
     /// The number of its bytes.
     fn size(&mut self) -> Result<u64, Failed>
         ensures ok { ForSome (bytes self.old) (λ b. IfOk result (λ n. n ≡ length b)) }
         ensures same { bytes self.new ≡ bytes self.old }
-        ensures kept { kept self.new ≡ kept self.old }
+        ensures lent { lent self.new ≡ lent self.old }
         ensures reads { reads self.new ≡ reads self.old }
         ensures counted { Counted (faults self.old) (faults self.new) result };
 
@@ -37,7 +37,7 @@ pub trait Store {
 
         ensures ok { ForSome (bytes self.old) (λ b. OnOk result (out.new ≡ part b at (length out.old))) }
         ensures same { bytes self.new ≡ bytes self.old }
-        ensures kept { kept self.new ≡ kept self.old }
+        ensures lent { lent self.new ≡ lent self.old }
         ensures reads { ReadsWithin 1 (reads self.old) (reads self.new) }
         ensures counted { Counted (faults self.old) (faults self.new) result };
 }

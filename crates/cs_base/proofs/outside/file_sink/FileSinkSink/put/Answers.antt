@@ -12,5 +12,5 @@ returns-clause-ok g c = on_ok_weaker c.append.result (grew _ _ _ _) c.append.ens
 pub returns-clause-err : goal.returns-clause-err
 returns-clause-err g c = on_err_weaker c.append.result (λ p. (p.0, grew _ _ _ _ p.1)) c.append.ensures.err
 
-pub returns-clause-kept : goal.returns-clause-kept
-returns-clause-kept g c = ap (λ r. (c.args.self.now.files.ghost_name, (c.args.self.now.name.now, r))) (others_appended _ _ _ _ c.append.result c.append.ensures.ok c.append.ensures.err)
+pub returns-clause-lent : goal.returns-clause-lent
+returns-clause-lent g c = ap (λ r. (c.args.self.now.files.ghost_name, (c.args.self.now.name.now, r))) (others_appended _ _ _ _ c.append.result c.append.ensures.ok c.append.ensures.err)
