@@ -16,6 +16,8 @@ pub mod KeyLemmas
 pub mod LastEntries
 pub mod ListedMembers
 pub mod MaximalTokens
+pub mod OutputExamples
+pub mod OutputLemmas
 pub mod ParameterExamples
 pub mod PartsLemmas
 pub mod PassedTokens
