@@ -1,57 +1,82 @@
--- How `ask` may end over files that tell.
-use Rattle.std.proofs.Common.{◌≡◌, ℕ, List, [], ◌∷◌, ◌++◌, inr, refl, sym, ap}
-use Rattle.std.specs.Prelude.{Option, Some, None}
-use Rattle.std.specs.Option.{option_map_or}
+-- How `ask` ends.
+use Rattle.std.proofs.Common.{◌≡◌, ◌⊎◌, ℕ, List, ◌∙◌, inl, inr, arith}
+use Rattle.std.specs.Prelude.{Option, Some, None, MatchOption}
 use Rattle.std.specs.FinMap as map
-use Rattle.cs_base.specs.outside.Outside.{Held, File, size_of, bytes_of}
+use Rattle.cs_base.specs.outside.Outside.{Held, File, IsHeld, size_of}
 use Rattle.cs_model.specs.Collection.{CollectionRefusal}
-use Rattle.cs_model.specs.Corpus.{Corpus, corpus, refusal}
-use Rattle.cs_model.specs.Outputs.{MayPut, PutSome, memory_text, script_lines}
-use Rattle.cs_top.specs.Asking.{asked_lines_of, readable_lines, ending_of, ending_of_files, ending_of_lines, ending_over}
-use Rattle.cs_top.specs.Endings.{refused, no_memory}
-use Rattle.cs_top.specs.EndedView.{stop_ending}
-use Rattle.cs_top.specs.Runs.{AskEnds, IsAnswerNow, IsExpected, PutBy, PutFirst, held_bytes}
-use Rattle.cs_top.specs.Stops.{IsRefused}
+use Rattle.cs_model.specs.Corpus.{Corpus, refusal}
+use Rattle.cs_top.specs.Ask.{AreHeld, AskEnds, AskStops}
+use Rattle.cs_top.specs.Endings.{Ending}
+use Rattle.cs_top.specs.Met.{Wrote, held_bytes}
+use Rattle.cs_top.specs.Views.{IsAbsence, IsCauseOf, IsMissing, IsOfCollection, collection_ending, collection_refusal_of, of_script, stop_ending}
 use Rattle.cs_top.specs.declared.ending.Stop.{Stop}
-use Rattle.cs_top.specs.declared.ending.Stop.TheVariants as stop
-use Rattle.cs_top.proofs.AnsweredLemmas.{lines_absent}
-use Rattle.cs_top.proofs.GrewLemmas.{grew_none}
+use Rattle.cs_top.specs.declared.ending.Stop.TheVariants as stops
+use Rattle.cs_top.specs.declared.lines.ScriptStop.{ScriptStop}
+use Rattle.cs_top.specs.declared.lines.ScriptStop.TheVariants as scripts
 
--- nothing was put
-put_none : (k : Corpus) (ls : List (List ℕ)) (w : Option (List ℕ)) → PutSome (IsAnswerNow k) ls w w
-put_none k [] w = ([], [], [], [], refl, refl, refl, grew_none w)
-put_none k (l ∷ ls) w = ([], l ∷ ls, [], [], refl, refl, (memory_text ++ 10 ∷ [], 0, (inr refl, λ _. refl), refl), grew_none w)
+pub is_held : (f : Option File) (n : ℕ) → size_of f ≡ Some n → IsHeld f
+is_held None n h = absurd cc
+is_held (Some f) n h = omega arith
 
-put_stopped : (s : Stop) (k : Corpus) (ls : List (ℕ × List ℕ)) (w : Option (List ℕ)) → PutBy (stop_ending s) k ls w w
-put_stopped (stop.Refused r) k ls w = refl
-put_stopped (stop.Absent name) k ls w = refl
-put_stopped stop.Failed k ls w = put_none k (readable_lines ls) w
-put_stopped stop.Memory k ls w = refl
+-- ---- a file that should be held
+module _ (h : Held) (c s : List ℕ) where
+  pub first_missing : (st : Stop) → IsAbsence st c → IsMissing st (map.get h c) → AskStops (stop_ending st) h c s
+  first_missing (stops.Absent said) name none = inl (name, none)
+  first_missing stops.Failed name none = tt
+  first_missing stops.Usage name none = absurd name
+  first_missing stops.NotBuilt name none = absurd name
+  first_missing (stops.Collection f) name none = absurd name
+  first_missing stops.Memory name none = absurd name
+  first_missing (stops.Script f) name none = absurd name
 
--- it stopped before its script
-pub asked_stopped : (h : Held) (c s : List ℕ) (st : Stop) (w : Option (List ℕ)) → IsExpected (stop_ending st) (ending_of h c s) → AskEnds (stop_ending st) h c s w w
-asked_stopped h c s st w is = record { expected = is; put = put_stopped st (corpus (held_bytes h c)) (asked_lines_of h c s) w }
+  pub second_missing : (st : Stop) → IsHeld (map.get h c) → IsAbsence st s → IsMissing st (map.get h s) → AskStops (stop_ending st) h c s
+  second_missing (stops.Absent said) held name none = inr (name, held, none)
+  second_missing stops.Failed held name none = tt
+  second_missing stops.Usage held name none = absurd name
+  second_missing stops.NotBuilt held name none = absurd name
+  second_missing (stops.Collection f) held name none = absurd name
+  second_missing stops.Memory held name none = absurd name
+  second_missing (stops.Script f) held name none = absurd name
 
--- no line was answered
-pub first_none : (A : MayPut) (ls : List (List ℕ)) (w : Option (List ℕ)) → PutFirst A ls w w
-first_none A ls w = ([], ls, refl, ([], refl, grew_none w))
+  refused_by : (o : Option CollectionRefusal) → AreHeld h c s → MatchOption o (Unit {0}) (λ r. refusal (held_bytes h c) ≡ Some r) → AskStops (collection_ending o) h c s
+  refused_by None held is = held
+  refused_by (Some r) held is = (held, is)
 
--- ---- a collection that isn't read, or not accepted
-memory_over : (s : List ℕ) (o : Option CollectionRefusal) → IsExpected no_memory (option_map_or refused o (ending_of_lines (script_lines s)))
-memory_over s None = lines_absent (script_lines s)
-memory_over s (Some r) = tt
+  pub collection_stops : (st : Stop) → AreHeld h c s → IsOfCollection st → IsCauseOf (held_bytes h c) st → AskStops (stop_ending st) h c s
+  collection_stops (stops.Collection f) held kind is = refused_by (collection_refusal_of f) held is
+  collection_stops stops.Failed held kind is = tt
+  collection_stops stops.Memory held kind is = held
+  collection_stops stops.Usage held kind is = absurd kind
+  collection_stops stops.NotBuilt held kind is = absurd kind
+  collection_stops (stops.Absent said) held kind is = absurd kind
+  collection_stops (stops.Script f) held kind is = absurd kind
 
-stopped_over : (st : Stop) (c s : List ℕ) → IsRefused st (refusal c) → IsExpected (stop_ending st) (ending_over c s)
-stopped_over (stop.Refused told) c s h = sym (ap (λ x. option_map_or refused x (ending_of_lines (script_lines s))) h)
-stopped_over (stop.Absent name) c s h = absurd h
-stopped_over stop.Failed c s h = tt
-stopped_over stop.Memory c s h = memory_over s (refusal c)
+-- ---- over any files
+module _ (c s : List ℕ) (w : Wrote) where
+  pub ends_missing : (st : Stop) (name : List ℕ) → (name ≡ c) ⊎ (name ≡ s) → IsAbsence st name → w.new ≡ w.old → AskEnds (stop_ending st) c s w
+  ends_missing (stops.Absent said) name (inl one) is same = (inl (is ∙ one), same)
+  ends_missing (stops.Absent said) name (inr one) is same = (inr (is ∙ one), same)
+  ends_missing stops.Failed name one is same = tt
+  ends_missing stops.Usage name one is same = absurd is
+  ends_missing stops.NotBuilt name one is same = absurd is
+  ends_missing (stops.Collection f) name one is same = absurd is
+  ends_missing stops.Memory name one is same = absurd is
+  ends_missing (stops.Script f) name one is same = absurd is
 
-by_files : (st : Stop) (c s : List ℕ) (f g : Option File) (m n : ℕ) → size_of f ≡ Some m → size_of g ≡ Some n → IsRefused st (refusal (bytes_of f)) → IsExpected (stop_ending st) (ending_of_files c s f g)
-by_files st c s None g m n held there h = absurd cc
-by_files st c s (Some f) None m n held there h = absurd cc
-by_files st c s (Some f) (Some g) m n held there h = stopped_over st f.bytes g.bytes h
+  refused_ends : (o : Option CollectionRefusal) → w.new ≡ w.old → AskEnds (collection_ending o) c s w
+  refused_ends None same = same
+  refused_ends (Some r) same = same
 
--- it stopped at its collection, and both files are held
-pub stopped_at : (h : Held) (c s : List ℕ) (st : Stop) (m n : ℕ) → size_of (map.get h c) ≡ Some m → size_of (map.get h s) ≡ Some n → IsRefused st (refusal (held_bytes h c)) → IsExpected (stop_ending st) (ending_of h c s)
-stopped_at h c s st m n held there is = by_files st c s (map.get h c) (map.get h s) m n held there is
+  pub collection_ends : (st : Stop) → IsOfCollection st → w.new ≡ w.old → AskEnds (stop_ending st) c s w
+  collection_ends (stops.Collection f) kind same = refused_ends (collection_refusal_of f) same
+  collection_ends stops.Failed kind same = tt
+  collection_ends stops.Memory kind same = same
+  collection_ends stops.Usage kind same = absurd kind
+  collection_ends stops.NotBuilt kind same = absurd kind
+  collection_ends (stops.Absent said) kind same = absurd kind
+  collection_ends (stops.Script f) kind same = absurd kind
+
+  pub script_ends : (st : ScriptStop) → AskEnds (stop_ending (of_script st)) c s w
+  script_ends scripts.NotBuilt = tt
+  script_ends (scripts.Unread f) = tt
+  script_ends scripts.Failed = tt

@@ -1,26 +1,70 @@
 -- A run that could do all and met no fault did all, or found no memory.
-use Rattle.std.proofs.Common.{◌≡◌, ◌⊎◌, ℕ, inl, inr, refl, subst, ◌∙◌}
+use Rattle.std.proofs.Common.{◌≡◌, ◌⊎◌, ℕ, Bool, true, false, suc, zero, List, [], ◌∷◌, drop, length, inl, inr, refl, sym, subst, ◌∙◌}
 use Rattle.std.specs.Prelude.{Option, Some, None}
+use Rattle.std.specs.List.{list_any}
+use Rattle.std.specs.FinMap as map
 use Rattle.cs_base.specs.outside.Causes.{Rose}
+use Rattle.cs_base.specs.outside.Outside.{Held, File, IsHeld}
+use Rattle.cs_model.specs.Outputs.{MayPut, first_fault, readable_lines, script_lines}
+use Rattle.cs_top.specs.Ask.{AskRan, AskStops, AskScript, AskTold, CanAsk, AskAnswer, asks_join}
 use Rattle.cs_top.specs.Commands.{Command, build, ask, replay, serve, trial}
-use Rattle.cs_top.specs.Endings.{Ending, done, not_built, usage, refused, absent, failed, no_memory, script_refused, status}
-use Rattle.cs_top.specs.Asking.{ending_of}
-use Rattle.cs_top.specs.Runs.{Met, IsExpected, Caused, Completes, Ran}
+use Rattle.cs_top.specs.Endings.{Ending, done, not_built, usage, refused, absent, failed, no_memory, script_refused, status, Caused}
+use Rattle.cs_top.specs.Met.{Met, Wrote, held_bytes}
+use Rattle.cs_top.specs.Runs.{Completes, Ran}
+use Rattle.cs_top.specs.Scripts.{ScriptEnds, IsAnswerable, StopsBefore}
 
-ended : (e x : Ending) (fb fn ob on : ℕ) → IsExpected e x → Caused e fb fn ob on → x ≡ done → (Rose fb fn → ⊥) → (Rose ob on → ⊥) → (status e ≡ 0) ⊎ (status e ≡ 7)
-ended done x fb fn ob on is cause all files out = inl refl
-ended not_built x fb fn ob on is cause all files out = let e : not_built ≡ done = is ∙ all in cc
-ended usage x fb fn ob on is cause all files out = let e : usage ≡ done = is ∙ all in cc
-ended (absent name) x fb fn ob on is cause all files out = let e : absent name ≡ done = is ∙ all in cc
-ended (refused r) x fb fn ob on is cause all files out = let e : refused r ≡ done = is ∙ all in cc
-ended (script_refused f) x fb fn ob on is cause all files out = let e : script_refused f ≡ done = subst (IsExpected (script_refused f)) all is in cc
-ended failed x fb fn ob on is cause all files out = elim cause.0 [ inl r ↦ absurd (files r) | inr r ↦ absurd (out r) ]
-ended no_memory x fb fn ob on is cause all files out = inr refl
+later_too : (p : List ℕ → Bool) (m : List ℕ) (ls : List (List ℕ)) → list_any p ls ≡ true → (b : Bool) → p m ≡ b → list_any p (m ∷ ls) ≡ true
+later_too p m ls rest true h = rw h refl
+later_too p m ls rest false h = rw (h, rest) refl
 
-pub completes : (e : Ending) (command : Option Command) (m : Met) → Ran e command m → Completes command m (status e)
-completes e None m r = tt
-completes e (Some (build c i)) m r = tt
-completes e (Some (ask c s)) m r = λ h told all files out. ended e (ending_of h c s) m.files_before m.files_now m.out_before m.out_now (r.asked h told).expected r.caused all files out
-completes e (Some (replay i s)) m r = tt
-completes e (Some (serve i p n)) m r = tt
-completes e (Some (trial n)) m r = tt
+-- a line that asks for what isn't built stands among the lines
+stands : (p : List ℕ → Bool) (ls : List (List ℕ)) (n : ℕ) (l : List ℕ) (left : List (List ℕ)) → drop n ls ≡ l ∷ left → p l ≡ true → list_any p ls ≡ true
+stands p [] zero l left is asks = absurd cc
+stands p [] (suc n) l left is asks = absurd cc
+stands p (m ∷ ls) zero l left is asks = let same : m ≡ l = cc in rw (same, asks) refl
+stands p (m ∷ ls) (suc n) l left is asks = later_too p m ls (stands p ls n l left is asks) _ refl
+
+missing : (f : Option File) → IsHeld f → f ≡ None → ⊥
+missing None held none = held
+missing (Some f) held none = absurd cc
+
+abbrev IsWell : Ending → Type 0
+IsWell e = (status e ≡ 0) ⊎ (status e ≡ 7)
+
+module _ (e : Ending) (fb fn ob on : ℕ) (cause : Caused e fb fn ob on) (files : Rose fb fn → ⊥) (out : Rose ob on → ⊥) where
+  no_failure : e ≡ failed → ⊥
+  no_failure is = elim (subst (λ x. Caused x fb fn ob on) is cause).0 [ inl r ↦ files r | inr r ↦ out r ]
+
+stopped : (e : Ending) (h : Held) (c s : List ℕ) → CanAsk h c s → AskStops e h c s → (e ≡ failed → ⊥) → IsWell e
+stopped (absent n) h c s can (inl a) calm = absurd (missing (map.get h c) can.0.0.0 a.1)
+stopped (absent n) h c s can (inr a) calm = absurd (missing (map.get h s) can.0.0.1 a.2)
+stopped (refused r) h c s can (held, is) calm = let e : Some r ≡ None = sym is ∙ can.0.1 in absurd cc
+stopped no_memory h c s can a calm = inr refl
+stopped failed h c s can a calm = absurd (calm refl)
+stopped done h c s can a calm = absurd a
+stopped not_built h c s can a calm = absurd a
+stopped usage h c s can a calm = absurd a
+stopped (script_refused f) h c s can a calm = absurd a
+
+scripted : (A : MayPut) (later : List ℕ → Bool) (e : Ending) (ls : List (ℕ × List ℕ)) (ts : List (List ℕ)) (w : Wrote) → IsAnswerable later ls → ScriptEnds A later e ls ts w → (e ≡ failed → ⊥) → IsWell e
+scripted A later done ls ts w can a calm = inl refl
+scripted A later not_built ls ts w can (at, first, grew) calm = let e : false ≡ true = sym can.1 ∙ stands later (readable_lines ls) (length ts) at.0 at.1 at.2 at.3 in absurd cc
+scripted A later (script_refused f) ls ts w can a calm = let e : Some f ≡ None = sym a.0 ∙ can.0 in absurd cc
+scripted A later failed ls ts w can a calm = absurd (calm refl)
+scripted A later usage ls ts w can a calm = absurd a
+scripted A later (refused r) ls ts w can a calm = absurd a
+scripted A later (absent n) ls ts w can a calm = absurd a
+scripted A later no_memory ls ts w can a calm = absurd a
+
+told : (e : Ending) (h : Held) (c s : List ℕ) (w : Wrote) → AskTold e h c s w → CanAsk h c s → (e ≡ failed → ⊥) → IsWell e
+told e h c s w (inl a) can calm = stopped e h c s can a.0 calm
+told e h c s w (inr a) can calm = scripted _ asks_join e (script_lines (held_bytes h s)) a.1.0 w can.1 a.1.1 calm
+
+pub completes : {H : Type 0} (e : Ending) (command : Option Command) (m : Met H) → Ran e command m → Completes command m (status e)
+completes e None m r = λ h held able. absurd able
+completes e (Some (build c i)) m r = λ h held able. absurd able
+completes e (Some (ask c s)) m r = λ h held able files out.
+    told e h c s m.out (r.told h held) able (no_failure e m.files_before m.files_now m.out.before m.out.now r.caused files out)
+completes e (Some (replay i s)) m r = λ h held able. absurd able
+completes e (Some (serve i p n)) m r = λ h held able. absurd able
+completes e (Some (trial n)) m r = λ h held able. absurd able

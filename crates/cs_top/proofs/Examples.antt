@@ -2,9 +2,8 @@
 use Rattle.std.proofs.Common.{◌≡◌, [], ◌∷◌, refl}
 use Rattle.std.specs.Prelude.{Some, None, codes}
 use Rattle.cs_model.specs.Collection.{too_many_words}
-use Rattle.cs_top.specs.Asking.{ending_of_files, ending_of_lines}
 use Rattle.cs_top.specs.Commands.{command_of, ask, serve, trial}
-use Rattle.cs_top.specs.Endings.{done, refused, absent, line_of}
+use Rattle.cs_top.specs.Endings.{refused, absent, line_of}
 
 -- the command line's table
 words-ask : command_of (codes "ask" ∷ codes "C" ∷ codes "Q" ∷ []) ≡ Some (ask (codes "C") (codes "Q"))
@@ -29,15 +28,6 @@ words-serve = refl
 -- there is no greater port
 words-port : command_of (codes "serve" ∷ codes "I" ∷ codes "65536" ∷ codes "1" ∷ []) ≡ None
 words-port = refl
-
--- a script of no lines is done
-script-empty : ending_of_lines [] ≡ done
-unfolding ending_of_lines
-script-empty = refl
-
--- the collection's absence is said before the script's
-ends-absent : ending_of_files (codes "C") (codes "Q") None None ≡ absent (codes "C")
-ends-absent = refl
 
 -- what is said
 says-words : line_of (refused too_many_words) ≡ codes "collection: too many distinct words\n"

@@ -4,7 +4,7 @@ use Rattle.std.specs.List.{flat_map}
 use Rattle.std.proofs.lemmas.Grind.{flat_map-append}
 use Rattle.std.specs.Prelude.{Option, Some, None, Result, Ok, Err, OnErr}
 use Rattle.std.specs.Option.{option_map}
-use Rattle.std.proofs.Math.Seq.{take-append_seam, take-append-add}
+use Rattle.std.proofs.Math.Seq.{take-append_seam, take-append-add, take-length}
 use Rattle.std.proofs.lemmas.List.{take-append-drop}
 use Rattle.cs_base.specs.outside.Outside.{Grew, GrewByPrefix}
 
@@ -15,6 +15,10 @@ grew_none (Some w) = ap (λ l. Some l) (sym (append-nil w))
 pub grew_twice : (w : Option (List ℕ)) (a b : List ℕ) (v u : Option (List ℕ)) → Grew w a v → Grew v b u → Grew w (a ++ b) u
 grew_twice None a b v u h k = k ∙ ap (option_map (λ l. l ++ b)) h
 grew_twice (Some w) a b v u h k = k ∙ ap (option_map (λ l. l ++ b)) h ∙ ap (λ l. Some l) (append_assoc w a b)
+
+-- what was added whole was added up to its end
+pub grew_begun : (w : Option (List ℕ)) (a : List ℕ) (v : Option (List ℕ)) → Grew w a v → GrewByPrefix w a v
+grew_begun w a v h = (length a, h ∙ ap (λ b. option_map (λ l. l ++ b) w) (sym (take-length a)))
 
 -- a put that fails leaves some first bytes of what was to come
 pub begun : (w : Option (List ℕ)) (a b : List ℕ) (v : Option (List ℕ)) → GrewByPrefix w a v → GrewByPrefix w (a ++ b) v

@@ -6,6 +6,5 @@ pub mod GrewLemmas
 pub mod LineTexts
 pub mod MemoryText
 pub mod SaysLemmas
-pub mod ScriptExamples
 pub mod StepLemmas
 pub mod WindowLemmas

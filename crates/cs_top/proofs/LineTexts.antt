@@ -6,6 +6,7 @@ use Rattle.std.specs.Str.{is_utf8, IsUtf8}
 use Rattle.std.proofs.lemmas.Bool.{false_from_ne_true}
 use Rattle.std.proofs.lemmas.Bool.Decides.{nat_tests}
 use Rattle.std.proofs.lemmas.Str.{IsUtf8-from_is_utf8, is_utf8-from_IsUtf8}
+use Rattle.cs_base.specs.declared.content.limits.TheConstants.{MAX_SCRIPT_LINE_BYTES}
 use Rattle.cs_http.specs.Refusing.{IsCause}
 use Rattle.cs_json.specs.FaultTexts.{fault_text}
 use Rattle.cs_json.specs.declared.fault.Fault.TheVariants as faults
@@ -16,7 +17,7 @@ use Rattle.cs_model.specs.Parameters.{request_of, request_refusal}
 use Rattle.cs_model.specs.Replies.{reply_text}
 use Rattle.cs_model.specs.Requests.{Request, reply_of}
 use Rattle.cs_engine.specs.Searching.{has_join}
-use Rattle.cs_top.specs.Asking.{asks_join}
+use Rattle.cs_top.specs.Ask.{asks_join}
 use Rattle.cs_query.specs.declared.request.ReqFault.{ReqFault}
 use Rattle.cs_query.specs.declared.request.ReqFault.TheVariants as causes
 
@@ -44,19 +45,19 @@ pub request_text : (k : Corpus) (p : List ℕ) (r : Request) → request_refusal
 unfolding text
 request_text k p r accepted is = ap (text_by k p) accepted ∙ ap (λ x. reply_text (reply_of k x)) (sym is)
 
-pub fault-none : (n : ℕ) (l : List ℕ) → length l ≤ 4096 → IsUtf8 l → line_fault (n, l) ≡ None
+pub fault-none : (n : ℕ) (l : List ℕ) → length l ≤ MAX_SCRIPT_LINE_BYTES → IsUtf8 l → line_fault (n, l) ≡ None
 fault-none n l short utf8 =
-    let fits : nat_le (length l) 4096 ≡ true = grind (arith, nat_tests) in
+    let fits : nat_le (length l) MAX_SCRIPT_LINE_BYTES ≡ true = grind (arith, nat_tests) in
     let good : is_utf8 l ≡ true = is_utf8-from_IsUtf8 l utf8 in
     rw (fits, good) refl
 
-pub fault-too_long : (n : ℕ) (l : List ℕ) → 4096 < length l → line_fault (n, l) ≡ Some (script_line_too_long n)
+pub fault-too_long : (n : ℕ) (l : List ℕ) → MAX_SCRIPT_LINE_BYTES < length l → line_fault (n, l) ≡ Some (script_line_too_long n)
 fault-too_long n l long =
-    let over : nat_le (length l) 4096 ≡ false = grind (arith, nat_tests) in
+    let over : nat_le (length l) MAX_SCRIPT_LINE_BYTES ≡ false = grind (arith, nat_tests) in
     rw over refl
 
-pub fault-not_utf8 : (n : ℕ) (l : List ℕ) → length l ≤ 4096 → ¬ IsUtf8 l → line_fault (n, l) ≡ Some (script_line_not_utf8 n)
+pub fault-not_utf8 : (n : ℕ) (l : List ℕ) → length l ≤ MAX_SCRIPT_LINE_BYTES → ¬ IsUtf8 l → line_fault (n, l) ≡ Some (script_line_not_utf8 n)
 fault-not_utf8 n l short other =
-    let fits : nat_le (length l) 4096 ≡ true = grind (arith, nat_tests) in
+    let fits : nat_le (length l) MAX_SCRIPT_LINE_BYTES ≡ true = grind (arith, nat_tests) in
     let bad : is_utf8 l ≡ false = false_from_ne_true _ (λ t. other (IsUtf8-from_is_utf8 l t)) in
     rw (fits, bad) refl

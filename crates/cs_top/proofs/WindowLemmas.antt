@@ -10,9 +10,9 @@ use Rattle.std.proofs.lemmas.List.{take_all, take-take, drop-drop, drop_all, get
 use Rattle.std.proofs.lemmas.List.Sums.{fails_before_first, passes_at_first}
 use Rattle.memchr.specs.Find.{IsFirstByte, is_byte}
 use Rattle.cs_base.specs.outside.Outside.{File, size_of, bytes_of}
+use Rattle.cs_docs.specs.Lines.{Shows}
 use Rattle.cs_docs.proofs.LinesLemmas.{line_at, last_line}
-use Rattle.cs_top.specs.LineSteps.{IsFirstLine}
-use Rattle.cs_top.specs.Windows.{Shows}
+use Rattle.cs_top.specs.Steps.{IsFirstLine}
 
 stripped : (l : List ℕ) (t : Bool) → length l ≤ length (cond t (take (length l - 1) l) l) + 1
 stripped l true = grind (arith, common_steps)

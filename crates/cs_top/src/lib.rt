@@ -3,20 +3,16 @@
 //! `run` is the one call. What it does stands in `specs/Runs.antt`, over the definitions of `cs_model`.
 #![tactic(auto)]
 
-mod answers;
+mod ask;
+mod collection;
 mod command;
-mod corpus;
 mod ending;
+mod files;
 mod lines;
-mod read;
-mod refusal;
 mod said;
-mod script;
 mod words;
 
 pub use command::run;
 
-#[cfg(test)]
-mod script_tests;
 #[cfg(test)]
 mod tests;

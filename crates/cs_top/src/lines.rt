@@ -1,23 +1,75 @@
-//! The lines of a file, read one after the other.
-ghost use Rattle.std.specs.Prelude.{◌≡◌, ◌<◌, ◌≤◌, ◌+◌, Some, IfOk, length, take, drop};
-ghost use Rattle.std.specs.Option.{ForSome};
-ghost use Rattle.std.specs.FinMap as map;
+//! The lines of a script, read one after the other.
+ghost use Rattle.std.specs.Prelude.{◌≡◌, ◌<◌, ◌≤◌, IfOk, length, take, drop};
+ghost use Rattle.std.specs.Option.{option_map};
 ghost use Rattle.cs_base.specs.outside.Causes.{Counted};
-ghost use Rattle.cs_base.specs.outside.Outside.{size_of};
+ghost use Rattle.cs_docs.specs.Refusals.{reason_text};
 ghost use Rattle.cs_model.specs.Collection.{without_mark};
-ghost use Rattle.cs_top.specs.Runs.{held_bytes};
-ghost use Rattle.cs_top.specs.LineSteps.{IsFirstLine};
-ghost use Rattle.cs_top.specs.Windows.{Shows};
+ghost use Rattle.cs_model.specs.Outputs.{fault_words, line_fault};
+ghost use Rattle.cs_top.specs.Met.{HasSize, OfBytes};
+ghost use Rattle.cs_top.specs.Steps.{IsFirstLine};
+ghost use Rattle.cs_top.specs.Views.{fault_seen};
 
 use cs_base::{Failed, Files, MAX_SCRIPT_LINE_BYTES};
-use cs_docs::without_return;
-use memchr::memchr;
+use cs_docs::{BYTE_ORDER_MARK, Reason, first_end};
+use std::str;
 
 /// The most bytes of a line with CR and LF behind it.
 pub(crate) const WINDOW_BYTES: usize = MAX_SCRIPT_LINE_BYTES + 2;
 
-/// The mark of UTF-8, which may stand in front of a script.
-const MARK: [u8; 3] = *b"\xEF\xBB\xBF";
+/// Why a script ends before its last line.
+#[derive(Clone, Copy, Debug, PartialEq, Eq)]
+pub(crate) enum ScriptStop {
+    /// A line asks what isn't built yet.
+    NotBuilt,
+    /// A line can't be read.
+    Unread(ScriptFault),
+    /// A call of files or of standard output failed.
+    Failed,
+}
+
+/// Why a line of a script can't be read.
+#[derive(Clone, Copy, Debug, PartialEq, Eq)]
+pub(crate) enum ScriptFault {
+    /// It has more than `MAX_SCRIPT_LINE_BYTES` without its ending.
+    TooLong {
+        /// Its number from 1 among all lines.
+        line: u64,
+    },
+    /// It isn't UTF-8.
+    NotUtf8 {
+        /// Its number from 1 among all lines.
+        line: u64,
+    },
+}
+
+impl ScriptFault {
+    /// What is said of it.
+    pub(crate) fn reason(self) -> Reason<'static>
+        ensures { reason_text result ≡ fault_words (fault_seen self) }
+    {
+        match self {
+            ScriptFault::TooLong { line } => Reason {
+                line: Some(line),
+                words: b"too long",
+            },
+            ScriptFault::NotUtf8 { line } => Reason {
+                line: Some(line),
+                words: b"not UTF-8",
+            },
+        }
+    }
+}
+
+impl From<Failed> for ScriptStop {
+    ghost use Rattle.std.specs.Prelude.{◌≡◌};
+    ghost use Rattle.cs_top.specs.declared.lines.ScriptStop.{ScriptStop};
+
+    ghost from_gives = { λ _ stop. stop ≡ ScriptStop.Failed };
+
+    fn from(_: Failed) -> ScriptStop {
+        ScriptStop::Failed
+    }
+}
 
 /// Where the next line of a file begins.
 #[derive(Clone, Copy, Debug, PartialEq, Eq)]
@@ -30,9 +82,9 @@ pub(crate) struct Place {
 
 /// The place of a file's first line: behind the mark EF BB BF, if it stands in front.
 pub(crate) fn first_place<F: Files>(files: &mut F, name: &str, size: u64) -> Result<u64, Failed>
-    requires size { ForSome (F.held files.old) (λ h. size_of (map.get h name.now) ≡ Some size) }
+    requires size { HasSize (F.held files.old) name.now size }
 
-    ensures mark { ForSome (F.held files.old) (λ h. IfOk result (λ at. without_mark (held_bytes h name.now) ≡ drop at (held_bytes h name.now))) }
+    ensures mark { OfBytes (F.held files.old) name.now (λ b. IfOk result (λ at. without_mark b ≡ drop at b)) }
     ensures within { IfOk result (λ at. at ≤ size) }
     ensures same { F.held files.new ≡ F.held files.old }
     ensures counted { Counted (F.faults files.old) (F.faults files.new) result }
@@ -42,7 +94,7 @@ pub(crate) fn first_place<F: Files>(files: &mut F, name: &str, size: u64) -> Res
     }
     let mut front = [0u8; 3];
     files.read_at(name, 0, &mut front)?;
-    Ok(if front == MARK { 3 } else { 0 })
+    Ok(if front == BYTE_ORDER_MARK { 3 } else { 0 })
 }
 
 /// Reads the line at a place before a file's end into the front of the buffer, and answers its length and the place
@@ -54,12 +106,11 @@ pub(crate) fn read_line<F: Files>(
     at: u64,
     buffer: &mut [u8],
 ) -> Result<(usize, u64), Failed>
-    requires size { ForSome (F.held files.old) (λ h. size_of (map.get h name.now) ≡ Some size) }
+    requires size { HasSize (F.held files.old) name.now size }
     requires within { at < size }
     requires room { length buffer.old ≡ WINDOW_BYTES }
 
-    ensures line { ForSome (F.held files.old) (λ h. IfOk result (λ r.
-        IsFirstLine (drop at (held_bytes h name.now)) (take r.0 buffer.new) (drop r.1 (held_bytes h name.now)))) }
+    ensures line { OfBytes (F.held files.old) name.now (λ b. IfOk result (λ r. IsFirstLine (drop at b) (take r.0 buffer.new) (drop r.1 b))) }
     ensures len { IfOk result (λ r. r.0 ≤ WINDOW_BYTES) }
     ensures next { IfOk result (λ r. (at < r.1) × (r.1 ≤ size)) }
     ensures same { F.held files.new ≡ F.held files.old }
@@ -68,21 +119,19 @@ pub(crate) fn read_line<F: Files>(
     let room = (size - at).min(WINDOW_BYTES as u64) as usize;
     let window = &mut buffer[..room];
     files.read_at(name, at, window)?;
-    let (len, next) = first_of(window);
+    let (len, next) = first_end(window);
     Ok((len, at + next as u64))
 }
 
-// The length of the first line of a window that has bytes, and the place behind its ending. Without LF all of the
-// window is that line.
-fn first_of(window: &[u8]) -> (usize, usize)
-    requires { 0 < length window.now }
-
-    ensures shows { Shows window.now result.0 result.1 }
-    ensures len { result.0 ≤ length window.now }
-    ensures next { (0 < result.1) × (result.1 ≤ length window.now) }
+/// Why a line isn't read, if it isn't.
+pub(crate) fn line_fault(line: &[u8], number: u64) -> Option<ScriptFault>
+    ensures { option_map fault_seen result ≡ line_fault (number, line.now) }
 {
-    match memchr(b'\n', window) {
-        Some(end) => (without_return(&window[..end]).len(), end + 1),
-        None => (window.len(), window.len()),
+    if line.len() > MAX_SCRIPT_LINE_BYTES {
+        return Some(ScriptFault::TooLong { line: number });
+    }
+    match str::from_utf8(line) {
+        Ok(_) => None,
+        Err(_) => Some(ScriptFault::NotUtf8 { line: number }),
     }
 }

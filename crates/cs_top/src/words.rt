@@ -3,7 +3,7 @@ ghost use Rattle.std.specs.Prelude.{◌≡◌, ◌≤◌, map, ◌&&◌, nat_lt,
 ghost use Rattle.std.specs.Option.{option_map};
 ghost use Rattle.std.specs.String.{string_bytes};
 ghost use Rattle.cs_top.specs.Commands.{command_of, two_words, serve_words, trial_words, is_number};
-ghost use Rattle.cs_top.specs.CommandView.{seen};
+ghost use Rattle.cs_top.specs.Views.{seen};
 
 use cs_text::{has_digits, number_of};
 

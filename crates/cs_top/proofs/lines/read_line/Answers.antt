@@ -1,7 +1,7 @@
 use Rattle.std.proofs.Common.{◌≡◌, ap, ◌∙◌, arith, length, take, drop}
 use Rattle.std.proofs.lemmas.List.{length-take}
 use Rattle.std.specs.FinMap as map
-use Rattle.cs_top.specs.Runs.{held_bytes}
+use Rattle.cs_top.specs.Met.{held_bytes}
 use Rattle.cs_top.proofs.WindowLemmas.{held_size, window_line}
 use Rattle.cs_top.proofs.lines.read_line.Goals as goal
 
@@ -10,6 +10,6 @@ returns-clause-line g c h held =
     let b = held_bytes h c.args.name.now in
     let room = c.min-room.result in
     let len : length (take room c.args.buffer.now) ≡ room = omega (arith, length-take room c.args.buffer.now) in
-    window_line b c.read_at.new.out (drop room c.args.buffer.now) c.args.at c.args.size room c.first_of-len.result.0 c.first_of-len.result.1
+    window_line b c.read_at.new.out (drop room c.args.buffer.now) c.args.at c.args.size room c.first_end-len.result.0 c.first_end-len.result.1
     (held_size (map.get h c.args.name.now) c.args.size (c.requires.size h held)) c.requires.within c.min-room.ensures
-    (c.in_ok-read_at.ensures.ok h held ∙ ap (λ n. take n (drop c.args.at b)) len) c.first_of-len.ensures.len c.first_of-len.ensures.shows
+    (c.in_ok-read_at.ensures.ok h held ∙ ap (λ n. take n (drop c.args.at b)) len) c.first_end-len.ensures.len c.first_end-len.ensures.shows

@@ -1,0 +1,65 @@
+-- What a run meets outside, before and after it. Each meaning is optional: None where the object doesn't tell.
+--
+--   Wrote, wrote           what a sink told before and after, and how often it had failed
+--   Met, met               the files that were held and are held, what was put, how often calls had failed, and the hub
+--   LeavesAll m            files, out and hub are as they were
+--   held_bytes h name      what a file holds; no bytes where it isn't held
+--   OfBytes held name P    over files that tell, P holds of what the file holds
+--   HasSize held name n    over files that tell, the file is held and has n bytes
+use Rattle.std.specs.Prelude.{◌≡◌, ℕ, List, Option, Some}
+use Rattle.std.specs.Option.{ForSome}
+use Rattle.std.specs.FinMap as map
+use Rattle.cs_base.specs.outside.Outside.{Held, bytes_of, size_of}
+
+-- what a sink tells, and its count of faults; a count never falls
+pub record Wrote : Type 0 where
+  pub old : Option (List ℕ)
+  pub new : Option (List ℕ)
+  pub before : ℕ
+  pub now : ℕ
+
+-- the same of a sink, from what it was to what it is
+abbrev pub wrote : {O : Type 0} → (O → Option (List ℕ)) → (O → ℕ) → O → O → Wrote
+wrote written faults old new = record { old = written old; new = written new; before = faults old; now = faults new }
+
+-- what a run meets; a hub is seen whole, whatever it tells
+pub record Met (H : Type 0) : Type 0 where
+  pub held : Option Held
+  pub held_now : Option Held
+  pub files_before : ℕ
+  pub files_now : ℕ
+  pub out : Wrote
+  pub hub : H
+  pub hub_now : H
+
+-- what files, out and hub tell of themselves, from what they were to what they are
+abbrev pub met : {F O H : Type 0} → (F → Option Held) → (F → ℕ) → (O → Option (List ℕ)) → (O → ℕ) → F → F → O → O → H → H → Met H
+met held files_faults written out_faults files_old files_new out_old out_new hub_old hub_new = record {
+  held = held files_old;
+  held_now = held files_new;
+  files_before = files_faults files_old;
+  files_now = files_faults files_new;
+  out = wrote written out_faults out_old out_new;
+  hub = hub_old;
+  hub_now = hub_new;
+}
+
+-- files, out and hub are as they were, and none of them failed
+pub record LeavesAll {H : Type 0} (m : Met H) : Type 0 where
+  pub put : m.out.new ≡ m.out.old
+  pub out_count : m.out.now ≡ m.out.before
+  pub files : m.held_now ≡ m.held
+  pub files_count : m.files_now ≡ m.files_before
+  pub hub : m.hub_now ≡ m.hub
+
+-- what a file holds, over files that tell; no bytes where it isn't held
+abbrev pub held_bytes : Held → List ℕ → List ℕ
+held_bytes h name = bytes_of (map.get h name)
+
+-- P holds of what the file holds; nothing is said over files that don't tell
+abbrev pub OfBytes : Option Held → List ℕ → (List ℕ → Type 0) → Type 0
+OfBytes held name P = ForSome held (λ h. P (held_bytes h name))
+
+-- the file is held and has n bytes, maybe none; nothing is said over files that don't tell
+abbrev pub HasSize : Option Held → List ℕ → ℕ → Type 0
+HasSize held name n = ForSome held (λ h. size_of (map.get h name) ≡ Some n)

@@ -1,0 +1,111 @@
+-- Types of the code as what they stand for.
+--
+--   seen                         a command of the code
+--   collection_refusal_of f      the refusal that a fault of a collection names; None for want of memory
+--   IsCause c f                  it names the refusal of the collection c; nothing is said of want of memory
+--   fault_seen f                 a refused line's fault
+--   collection_ending r          the ending of a run whose collection has the refusal r, or no memory
+--   of_script s                  the stop of a run whose script stops
+--   stop_ending s, ended r       the ending of a run that stops, and of any run
+--   script_ended r               the ending of a run by its script
+--   IsAbsence s name             a stop of a file that should be held: its name is said to be absent, or a call failed
+--   IsMissing s f                where a stop says a name to be absent, the file isn't held
+--   IsDevice s                   a call failed, or memory ran out
+--   IsOfCollection s             a stop of a collection: its fault, or a call failed, or memory ran out
+--   IsCauseOf c s                where it is a fault of the collection c, this has its cause there
+--   said_text s                  a line on standard error
+use Rattle.std.specs.Prelude.{◌≡◌, ℕ, List, [], ◌∷◌, ◌++◌, Option, Some, None, MatchOption, Result, Ok, Err}
+use Rattle.cs_base.specs.outside.Outside.{File}
+use Rattle.cs_model.specs.Collection.{CollectionRefusal}
+use Rattle.cs_model.specs.Corpus.{refusal}
+use Rattle.cs_model.specs.Outputs.{ScriptFault, script_line_too_long, script_line_not_utf8}
+use Rattle.cs_docs.specs.Refusals.{refusal_of, rows_refusal_of, words_said}
+use Rattle.cs_engine.specs.Searching.{corpus_refusal_of}
+use Rattle.cs_top.specs.Commands.{Command, build, ask, replay, serve, trial}
+use Rattle.cs_top.specs.Endings.{Ending, done, not_built, usage, refused, absent, failed, no_memory, script_refused}
+use Rattle.cs_top.specs.declared.collection.CollectionFault.{CollectionFault}
+use Rattle.cs_top.specs.declared.collection.CollectionFault.TheVariants as faults
+use Rattle.cs_top.specs.declared.ending.Stop.{Stop}
+use Rattle.cs_top.specs.declared.ending.Stop.TheVariants as stops
+use Rattle.cs_top.specs.declared.lines.ScriptFault.{ScriptFault as Unread}
+use Rattle.cs_top.specs.declared.lines.ScriptFault.TheVariants as unread
+use Rattle.cs_top.specs.declared.lines.ScriptStop.{ScriptStop}
+use Rattle.cs_top.specs.declared.lines.ScriptStop.TheVariants as scripts
+use Rattle.cs_top.specs.declared.said.Said.{Said}
+use Rattle.cs_top.specs.declared.words.Command.{Command as Read}
+use Rattle.cs_top.specs.declared.words.Command.TheVariants as read
+
+abbrev pub seen : Read → Command
+seen (read.Build c i) = build c.now i.now
+seen (read.Ask c s) = ask c.now s.now
+seen (read.Replay i s) = replay i.now s.now
+seen (read.Serve i p n) = serve i.now p.now n.now
+seen (read.Trial n) = trial n.now
+
+abbrev pub collection_refusal_of : CollectionFault → Option CollectionRefusal
+collection_refusal_of (faults.Documents f) = refusal_of f
+collection_refusal_of (faults.Rows f) = rows_refusal_of f
+collection_refusal_of (faults.Words f) = corpus_refusal_of f
+
+-- where it is no want of memory, it is the first refusal of the collection
+abbrev pub IsCause : List ℕ → CollectionFault → Type 0
+IsCause c f = MatchOption (collection_refusal_of f) (Unit {0}) (λ r. refusal c ≡ Some r)
+
+abbrev pub fault_seen : Unread → ScriptFault
+fault_seen (unread.TooLong n) = script_line_too_long n
+fault_seen (unread.NotUtf8 n) = script_line_not_utf8 n
+
+abbrev pub collection_ending : Option CollectionRefusal → Ending
+collection_ending None = no_memory
+collection_ending (Some r) = refused r
+
+abbrev pub stop_ending : Stop → Ending
+stop_ending stops.Usage = usage
+stop_ending stops.NotBuilt = not_built
+stop_ending (stops.Collection f) = collection_ending (collection_refusal_of f)
+stop_ending (stops.Absent name) = absent name.now
+stop_ending stops.Failed = failed
+stop_ending stops.Memory = no_memory
+stop_ending (stops.Script f) = script_refused (fault_seen f)
+
+-- a run that doesn't stop is done
+abbrev pub ended : Result (Unit {0}) Stop → Ending
+ended (Ok x) = done
+ended (Err s) = stop_ending s
+
+abbrev pub of_script : ScriptStop → Stop
+of_script scripts.NotBuilt = stops.NotBuilt
+of_script (scripts.Unread f) = stops.Script f
+of_script scripts.Failed = stops.Failed
+
+-- a script that doesn't stop is done
+abbrev pub script_ended : Result (Unit {0}) ScriptStop → Ending
+script_ended (Ok x) = done
+script_ended (Err s) = stop_ending (of_script s)
+
+abbrev pub IsAbsence : Stop → List ℕ → Type 0
+IsAbsence (stops.Absent said) name = said.now ≡ name
+IsAbsence stops.Failed name = Unit {0}
+IsAbsence s name = ⊥
+
+abbrev pub IsMissing : Stop → Option File → Type 0
+IsMissing (stops.Absent said) f = f ≡ None
+IsMissing s f = Unit {0}
+
+abbrev pub IsDevice : Stop → Type 0
+IsDevice stops.Failed = Unit {0}
+IsDevice stops.Memory = Unit {0}
+IsDevice s = ⊥
+
+abbrev pub IsOfCollection : Stop → Type 0
+IsOfCollection (stops.Collection f) = Unit {0}
+IsOfCollection stops.Failed = Unit {0}
+IsOfCollection stops.Memory = Unit {0}
+IsOfCollection s = ⊥
+
+abbrev pub IsCauseOf : List ℕ → Stop → Type 0
+IsCauseOf c (stops.Collection f) = IsCause c f
+IsCauseOf c s = Unit {0}
+
+abbrev pub said_text : Said → List ℕ
+said_text s = s.of.now ++ (words_said s.line s.words.now ++ 10 ∷ [])

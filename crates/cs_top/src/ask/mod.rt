@@ -1,0 +1,62 @@
+//! `ask COLLECTION SCRIPT`: a script that is answered over a collection in memory.
+ghost use Rattle.std.specs.Prelude.{◌≡◌, IfOk, IfErr, OnOk};
+ghost use Rattle.std.specs.Option.{ForSome};
+ghost use Rattle.cs_engine.specs.Searching.{corpus_of_view};
+ghost use Rattle.cs_model.specs.Corpus.{corpus};
+ghost use Rattle.cs_top.specs.Ask.{AskEnds, AskStops, AskTold, IsReady};
+ghost use Rattle.cs_top.specs.Endings.{Caused, CausedBy};
+ghost use Rattle.cs_top.specs.Met.{HasSize, OfBytes, Wrote, wrote};
+ghost use Rattle.cs_top.specs.Views.{ended, stop_ending};
+
+mod answers;
+mod script;
+#[cfg(test)]
+mod tests;
+
+use crate::collection::read_corpus;
+use crate::ending::Stop;
+use crate::files::size_of;
+use cs_base::{Files, Sink};
+use cs_engine::Corpus;
+use script::answer_script;
+use std::alloc::Global;
+
+/// Answers each line of a script over a collection.
+pub(crate) fn ask<'a, F: Files, O: Sink>(
+    alloc: Global,
+    collection: &'a str,
+    script: &'a str,
+    files: &mut F,
+    out: &mut O,
+) -> Result<(), Stop<'a>>
+    ensures ends { AskEnds (ended result) collection.now script.now (wrote O.written O.faults out.old out.new) }
+    ensures told { ForSome (F.held files.old) (λ h. AskTold (ended result) h collection.now script.now (wrote O.written O.faults out.old out.new)) }
+    ensures caused { Caused (ended result) (F.faults files.old) (F.faults files.new) (O.faults out.old) (O.faults out.new) }
+    ensures files { F.held files.new ≡ F.held files.old }
+{
+    let (corpus, size) = prepare(alloc, collection, script, files)?;
+    answer_script(alloc, &corpus, files, script, size, out)?;
+    Ok(())
+}
+
+// The corpus of the collection, and the script's size.
+fn prepare<'a, F: Files>(
+    alloc: Global,
+    collection: &'a str,
+    script: &'a str,
+    files: &mut F,
+) -> Result<(Corpus, u64), Stop<'a>>
+    ensures ready { ForSome (F.held files.old) (λ h. OnOk result (IsReady h collection.now script.now)) }
+    ensures corpus { OfBytes (F.held files.old) collection.now (λ b. IfOk result (λ p. corpus_of_view p.0 ≡ corpus b)) }
+    ensures size { IfOk result (λ p. HasSize (F.held files.old) script.now p.1) }
+    ensures stops { ForSome (F.held files.old) (λ h. IfErr result (λ s. AskStops (stop_ending s) h collection.now script.now)) }
+    ensures ends { IfErr result (λ s. (w : Wrote) → w.new ≡ w.old → AskEnds (stop_ending s) collection.now script.now w) }
+    ensures quiet { OnOk result (F.faults files.new ≡ F.faults files.old) }
+    ensures caused { IfErr result (λ s. CausedBy (stop_ending s) (F.faults files.old) (F.faults files.new)) }
+    ensures files { F.held files.new ≡ F.held files.old }
+{
+    let collection_size = size_of(files, collection)?;
+    let script_size = size_of(files, script)?;
+    let corpus = read_corpus(alloc, files, collection, collection_size)?;
+    Ok((corpus, script_size))
+}

@@ -1,0 +1,115 @@
+//! A collection that is read, and made into the corpus that is searched.
+ghost use Rattle.std.specs.Prelude.{◌≡◌, None, IfOk, IfErr, OnOk};
+ghost use Rattle.std.specs.Option.{option_map};
+ghost use Rattle.cs_docs.specs.Refusals.{reason_text};
+ghost use Rattle.cs_engine.specs.Searching.{corpus_of_view};
+ghost use Rattle.cs_model.specs.Collection.{refusal_words};
+ghost use Rattle.cs_model.specs.Corpus.{corpus, refusal};
+ghost use Rattle.cs_top.specs.Endings.{CausedBy};
+ghost use Rattle.cs_top.specs.Met.{HasSize, OfBytes};
+ghost use Rattle.cs_top.specs.Views.{IsCause, IsCauseOf, IsOfCollection, collection_refusal_of, stop_ending};
+
+use crate::ending::Stop;
+use crate::files::read_all;
+use cs_base::{Files, MAX_COLLECTION_BYTES};
+use cs_docs::{DocFault, Reason, RowsFault, read_docs, rows_of};
+use cs_engine::{Corpus, CorpusFault};
+use std::alloc::Global;
+
+/// Why a collection makes no corpus: what refused it, or what found no memory.
+#[derive(Clone, Copy, Debug, PartialEq, Eq)]
+pub(crate) enum CollectionFault {
+    /// Its documents.
+    Documents(DocFault),
+    /// Their rows.
+    Rows(RowsFault),
+    /// Their words.
+    Words(CorpusFault),
+}
+
+impl CollectionFault {
+    /// The words of a refusal; None where memory ran out.
+    pub(crate) fn reason(self) -> Option<Reason<'static>>
+        ensures { option_map reason_text result ≡ option_map refusal_words (collection_refusal_of self) }
+    {
+        match self {
+            CollectionFault::Documents(fault) => fault.reason(),
+            CollectionFault::Rows(fault) => fault.reason(),
+            CollectionFault::Words(fault) => fault.reason(),
+        }
+    }
+}
+
+/// The corpus of a collection of this size.
+pub(crate) fn read_corpus<'a, F: Files>(
+    alloc: Global,
+    files: &mut F,
+    name: &str,
+    size: u64,
+) -> Result<Corpus, Stop<'a>>
+    requires size { HasSize (F.held files.old) name.now size }
+
+    ensures ok { OfBytes (F.held files.old) name.now (λ b. IfOk result (λ k. corpus_of_view k ≡ corpus b)) }
+    ensures accepted { OfBytes (F.held files.old) name.now (λ b. OnOk result (refusal b ≡ None)) }
+    ensures cause { OfBytes (F.held files.old) name.now (λ b. IfErr result (λ s. IsCauseOf b s)) }
+    ensures kind { IfErr result IsOfCollection }
+    ensures quiet { OnOk result (F.faults files.new ≡ F.faults files.old) }
+    ensures caused { IfErr result (λ s. CausedBy (stop_ending s) (F.faults files.old) (F.faults files.new)) }
+    ensures files { F.held files.new ≡ F.held files.old }
+{
+    if size > MAX_COLLECTION_BYTES as u64 {
+        return Err(Stop::Collection(CollectionFault::Documents(DocFault::TooLarge)));
+    }
+    let bytes = read_all(alloc, files, name, size)?;
+    match corpus_of(alloc, &bytes) {
+        Ok(corpus) => Ok(corpus),
+        Err(fault) => Err(Stop::Collection(fault)),
+    }
+}
+
+// The corpus of a collection that is accepted.
+fn corpus_of(alloc: Global, bytes: &[u8]) -> Result<Corpus, CollectionFault>
+    ensures ok { IfOk result (λ k. corpus_of_view k ≡ corpus bytes.now) }
+    ensures accepted { OnOk result (refusal bytes.now ≡ None) }
+
+    // Each fault but want of memory is the first refusal.
+    ensures err { IfErr result (λ e. IsCause bytes.now e) }
+{
+    let docs = read_docs(alloc, bytes)?;
+    let rows = rows_of(alloc, &docs)?;
+    let corpus = Corpus::new(alloc, docs, rows)?;
+    Ok(corpus)
+}
+
+impl From<DocFault> for CollectionFault {
+    ghost use Rattle.std.specs.Prelude.{◌≡◌};
+    ghost use Rattle.cs_top.specs.declared.collection.CollectionFault.TheVariants.{Documents};
+
+    ghost from_gives = { λ fault result. result ≡ Documents fault };
+
+    fn from(fault: DocFault) -> CollectionFault {
+        CollectionFault::Documents(fault)
+    }
+}
+
+impl From<RowsFault> for CollectionFault {
+    ghost use Rattle.std.specs.Prelude.{◌≡◌};
+    ghost use Rattle.cs_top.specs.declared.collection.CollectionFault.TheVariants.{Rows};
+
+    ghost from_gives = { λ fault result. result ≡ Rows fault };
+
+    fn from(fault: RowsFault) -> CollectionFault {
+        CollectionFault::Rows(fault)
+    }
+}
+
+impl From<CorpusFault> for CollectionFault {
+    ghost use Rattle.std.specs.Prelude.{◌≡◌};
+    ghost use Rattle.cs_top.specs.declared.collection.CollectionFault.TheVariants.{Words};
+
+    ghost from_gives = { λ fault result. result ≡ Words fault };
+
+    fn from(fault: CorpusFault) -> CollectionFault {
+        CollectionFault::Words(fault)
+    }
+}
