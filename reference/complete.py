@@ -3,30 +3,28 @@
 
     complete.py build COLLECTION INDEX | ask COLLECTION SCRIPT | replay INDEX SCRIPT | serve INDEX PORT CONNS | trial N
 
-It runs as the program does, with the same bytes, words on standard error and statuses. `try.py` holds a program against
-it. No code is shared with the program, and nothing is made fast: a query is a filter of all rows, each prefix of a query is
-judged anew, and each piece that comes on a connection has the whole connection answered again. The sections stand in the
-order of `docs/MEANING.md`.
+It runs as the program does, with the same bytes, words on standard error and statuses; `try.py` holds a program against it.
+Nothing is made fast: a query filters all rows, each prefix of a query is judged anew, and each piece on a connection has the
+whole connection answered again. The sections stand in the order of `docs/MEANING.md`.
 
-Python has Unicode tables of its own, whose version is `unicodedata.unidata_version`; those of the program are others. A
-character that only one of them knows may be read differently, so random cases keep to characters that both know.
+Python's tables of Unicode (`unicodedata.unidata_version`) aren't the program's. A character that only one of them knows may
+be read differently, so random cases keep to characters that both know.
 """
+import contextlib
 import functools
+import itertools
 import json
 import re
 import socket
+import struct
 import sys
 import unicodedata
 from collections import namedtuple
 
-WORD_BYTES = 120                  # a word, a facet's slug, a word or value of a query
-NAME_BYTES = 16                   # a facet's name
-COLLECTION_BYTES = 2**28
-LINE_BYTES = 2**20                # a line of a collection, without its ending; so also a title
-DOCUMENT_WORDS = 100_000          # title and text together
-DOCUMENTS, ROWS, WORDS = 2**20, 2**24, 2**22
-GAP_OF_COLUMNS = 8                # the first text word lies this many positions, and one, behind the last title word
-REACH = 8                         # positions that nearness spans
+WORD_BYTES, NAME_BYTES = 120, 16  # a word, a slug, a word or value of a query; a facet's name
+COLLECTION_BYTES, LINE_BYTES = 2**28, 2**20    # a line without its ending, and so a title
+DOCUMENTS, DOCUMENT_WORDS, ROWS, WORDS = 2**20, 100_000, 2**24, 2**22
+GAP_OF_COLUMNS, REACH = 8, 8      # positions left free between title and text; those that nearness spans
 TITLE_SCORE, FACET_SCORE, TEXT_SCORE = 4, 2, 1
 QUERY_BYTES, PARTS, ATOMS, DEPTH = 1024, 16, 32, 3
 SHOWN, LEFT_OUT, FACETS_ASKED, SHOWN_UNASKED = 100, 10_000, 8, 10
@@ -34,24 +32,16 @@ SCRIPT_LINE_BYTES = 4096
 TARGET, TARGETS, BLOCK_WORDS = 8192, 2**20, 65_536
 HEADER_BYTES, ENTRY_BYTES, ROW_BYTES = 44, 16, 7
 KEPT, KEPT_SIZE = 256, 65_536     # answers that are kept, and the greatest of them
-HEAD_BYTES, CONNECTION_BYTES, FIELDS, PIECE_BYTES = 8192, 2**20, 64, 4096
-MARK = b"\xef\xbb\xbf"
+HEAD_BYTES, CONNECTION_BYTES, FIELDS, PIECE_BYTES, LINGER_SECONDS = 8192, 2**20, 64, 4096, 2
+MARK, MAGIC = b"\xef\xbb\xbf", b"HYBIDX1\n"
 
 
 class Ended(Exception):
-    """The run ends here, with this status and these words on standard error."""
-
-    def __init__(self, status, words):
-        super().__init__(words)
-        self.status, self.words = status, words
+    """The run ends here: the status, and the words on standard error."""
 
 
 class Refused(Exception):
-    """A request or a head is refused, with this text for its answer."""
-
-    def __init__(self, **text):
-        super().__init__(text)
-        self.text = compact(text)
+    """A request or a head is refused: the object that answers it."""
 
 
 def compact(value):
@@ -59,8 +49,15 @@ def compact(value):
     return json.dumps(value, ensure_ascii=False, separators=(",", ":"), sort_keys=True)
 
 
-# ---- Key text, words, slugs ----
+def text_or_none(data):
+    """The text that has these bytes in UTF-8."""
+    try:
+        return data.decode()
+    except UnicodeDecodeError:
+        return None
 
+
+# ---- Key text, words, slugs ----
 def norm(text):
     """The key text: canonical decomposition of the case folding of the canonical decomposition."""
     return unicodedata.normalize("NFD", unicodedata.normalize("NFD", text).casefold())
@@ -95,10 +92,6 @@ def is_name(text):
 
 
 # ---- Collections ----
-
-Document = namedtuple("Document", "title facets text")
-
-
 def lines_of(data):
     """The lines: LF ends one, with one CR before it; the last needs no ending, and a CR at its end is then its own."""
     *ended, last = data.removeprefix(MARK).split(b"\n")
@@ -108,34 +101,25 @@ def lines_of(data):
 def facet_words(facets):
     """The words `:name:slug` of a facets column; a piece that is no facet is refused."""
     words = []
-    for piece in facets.split(";"):
-        piece = piece.strip(" ")
-        if not piece:
-            continue
+    for piece in filter(None, (piece.strip(" ") for piece in facets.split(";"))):
         name, equals, value = piece.partition("=")
-        if not equals:
-            raise ValueError("bad facet")
         name = norm(name.rstrip(" "))
-        if not is_name(name):
-            raise ValueError("bad facet name")
-        if slug(value):
-            words.append(f":{name}:{slug(value)}")
+        if not equals or not is_name(name):
+            raise ValueError("bad facet name" if equals else "bad facet")
+        words += [f":{name}:{slug(value)}"] if slug(value) else []
     return words
 
 
 def document_of(line):
-    """The document of a line that has bytes; a line that breaks a rule is refused by the first that it breaks."""
-    try:
-        text = line.decode()
-    except UnicodeDecodeError:
-        raise ValueError("not UTF-8") from None
-    if len(line) > LINE_BYTES:
-        raise ValueError("line too long")
+    """Title, facets and text of a line that has bytes; a line that breaks a rule is refused by the first that it breaks."""
+    text = text_or_none(line)
+    if text is None or len(line) > LINE_BYTES:
+        raise ValueError("not UTF-8" if text is None else "line too long")
     title, facets, body = (text.split("\t", 2) + ["", ""])[:3]
     if len(words_of(title)) + len(words_of(body)) > DOCUMENT_WORDS:
         raise ValueError("too many words")
     facet_words(facets)
-    return Document(title, facets, body)
+    return title, facets, body
 
 
 def documents_of(data):
@@ -144,54 +128,51 @@ def documents_of(data):
         raise Ended(3, "collection: too large")
     documents = []
     for number, line in enumerate(lines_of(data), 1):
-        if line:
-            try:
-                documents.append(document_of(line))
-                if len(documents) > DOCUMENTS:
-                    raise ValueError("too many documents")
-            except ValueError as refusal:
-                raise Ended(3, f"collection: line {number}: {refusal}") from None
+        try:
+            documents += [document_of(line)] if line else []
+        except ValueError as refusal:
+            raise Ended(3, f"collection: line {number}: {refusal}") from None
+        if len(documents) > DOCUMENTS:
+            raise Ended(3, f"collection: line {number}: too many documents")
     return documents
 
 
 # ---- Rows and corpus ----
-
 Row = namedtuple("Row", "doc pos word score")    # in this order rows ascend; texts compare as their bytes in UTF-8 do
 Corpus = namedtuple("Corpus", "titles rows")     # titles by document number; the set of rows
 
 
-def rows_of(number, document):
+def rows_of(number, title, facets, text):
     """The rows of one document."""
-    title, text = words_of(document.title), words_of(document.text)
-    text_begins = len(title) + GAP_OF_COLUMNS + 1
-    yield from (Row(number, pos, word, TITLE_SCORE) for pos, word in enumerate(title, 1))
-    yield from (Row(number, pos, word, TEXT_SCORE) for pos, word in enumerate(text, text_begins))
-    yield from (Row(number, 0, word, FACET_SCORE) for word in facet_words(document.facets))
+    yield from (Row(number, pos, word, TITLE_SCORE) for pos, word in enumerate(words_of(title), 1))
+    yield from (Row(number, pos, word, TEXT_SCORE) for pos, word in enumerate(words_of(text), len(words_of(title)) + GAP_OF_COLUMNS + 1))
+    yield from (Row(number, 0, word, FACET_SCORE) for word in facet_words(facets))
 
 
 def corpus_of(data):
     """Titles and rows of a collection."""
     documents = documents_of(data)
-    rows = {row for number, document in enumerate(documents) for row in rows_of(number, document)}
-    if len(rows) > ROWS:
-        raise Ended(3, "collection: too many rows")
-    if len({row.word for row in rows}) > WORDS:
-        raise Ended(3, "collection: too many distinct words")
-    return Corpus([document.title for document in documents], rows)
+    rows = {row for number, document in enumerate(documents) for row in rows_of(number, *document)}
+    if len(rows) > ROWS or len({row.word for row in rows}) > WORDS:
+        raise Ended(3, "collection: too many " + ("rows" if len(rows) > ROWS else "distinct words"))
+    return Corpus([title for title, _, _ in documents], rows)
 
 
 # ---- Tokens ----
-
 Token = namedtuple("Token", "kind text")
 WORD, RUN, VALUE, GAP, START = "word", "run", "value", "gap", "start"    # each sign is a kind of its own
 SHAPES = re.compile(r"(?P<word>w+)|(?P<run>[-._']+)|(?P<gap> +)|(?P<sign>[$|\[\]])|:(?P<value>[-_'w]*)")
 
 
+@functools.cache
+def shape_of(character):
+    return "w" if is_word_character(character) else character if character in "$|:[].-_'" else " "
+
+
 def tokens_of(text):
     """The tokens of a key text. Behind each `:` stands a value, which may be empty."""
-    shape = "".join("w" if is_word_character(c) else c if c in "$|:[].-_'" else " " for c in text)
     tokens = []
-    for found in SHAPES.finditer(shape):
+    for found in SHAPES.finditer("".join(map(shape_of, text))):
         kind = found.lastgroup
         if kind == "value":
             tokens.append(Token(":", ":"))
@@ -201,9 +182,7 @@ def tokens_of(text):
 
 
 # ---- The grammar ----
-
-Prefix, Exact = namedtuple("Prefix", "word"), namedtuple("Exact", "word")
-Join = namedtuple("Join", "name query")
+Prefix, Exact, Join = namedtuple("Prefix", "word"), namedtuple("Exact", "word"), namedtuple("Join", "name query")
 Part = namedtuple("Part", "excluded chains")     # a query is a tuple of parts
 Linked = namedtuple("Linked", "link atom")       # a chain is a tuple of them, the first with no link
 NO_LINK, PHRASE, NEAR = "", ".", ".."
@@ -232,13 +211,10 @@ def read_atom(tokens, place):
     if behind == "[":
         query, place = read_query(tokens, place + 2)
         return Join(word, query), place + 1
-    place += 1
     if behind == ":":
-        word = f":{word}:{re.sub('[-_]', '_', tokens[place + 1].text.replace(chr(39), '_'))}"
         place += 2
-    if kind_at(tokens, place) == "$":
-        return Exact(word), place + 1
-    return Prefix(word), place
+        word = f":{word}:" + re.sub("[-']", "_", tokens[place].text)
+    return (Exact(word), place + 2) if kind_at(tokens, place + 1) == "$" else (Prefix(word), place + 1)
 
 
 def read_chain(tokens, place):
@@ -253,13 +229,10 @@ def read_chain(tokens, place):
 def read_part(tokens, place):
     """The alternatives from this word on. A bar with nothing behind it is dropped."""
     chain, place = read_chain(tokens, place)
-    chains = [chain]
-    while kind_at(tokens, place) == "|":
-        place += 1
-        if kind_at(tokens, place) == WORD:
-            chain, place = read_chain(tokens, place)
-            chains.append(chain)
-    return tuple(chains), place
+    if kind_at(tokens, place) == "|" and kind_at(tokens, place + 1) == WORD:
+        chains, place = read_part(tokens, place + 1)
+        return (chain, *chains), place
+    return (chain,), place + (kind_at(tokens, place) == "|")
 
 
 def read_query(tokens, place):
@@ -290,29 +263,20 @@ def atoms_of(query):
                     yield from atoms_of(linked.atom.query)
 
 
-def count_parts(query):
-    """All parts of a query, those within joins too."""
-    return len(query) + sum(len(atom.query) for atom in atoms_of(query) if isinstance(atom, Join))
-
-
 # ---- Refusals of a query ----
-
 def is_bad(tokens):
     """Whether the grammar refuses the last character, by the tokens of the text up to it."""
-    if tokens[-1] == Token(VALUE, ""):           # it is the colon that was just written
-        tokens = tokens[:-1]
-    last, before = tokens[-1], tokens[-2] if len(tokens) > 1 else Token(START, "")
+    *earlier, last = tokens[:-1] if tokens[-1] == Token(VALUE, "") else tokens    # an empty value was opened by the colon before it
+    before = earlier[-1] if earlier else Token(START, "")
     if last.kind == "$":
         return not (before.kind == WORD or before.kind == VALUE and before.text)
-    if last.kind == "|":
-        return before.kind not in (WORD, VALUE, "$", "]")
     if last.kind in (":", "["):
         return not (before.kind == WORD and is_name(before.text))
     if last.kind == "]":
-        return open_brackets(tokens[:-1]) == 0
-    if last.kind in (GAP, RUN):
-        return before.kind == "|"
-    return last.kind == WORD and before.kind in ("$", "]")
+        return open_brackets(earlier) == 0
+    if last.kind == "|":
+        return before.kind not in (WORD, VALUE, "$", "]")
+    return before.kind in {WORD: ("$", "]"), GAP: ("|",), RUN: ("|",), VALUE: ()}[last.kind]
 
 
 def open_brackets(tokens):
@@ -322,16 +286,12 @@ def open_brackets(tokens):
 
 def limit_passed(text, tokens):
     """The first limit that a text passes whose last character the grammar accepts."""
-    if len(text.encode()) + open_brackets(tokens) > QUERY_BYTES:
-        return "query"
-    if tokens[-1].kind in (WORD, VALUE) and len(tokens[-1].text.encode()) > WORD_BYTES:
-        return "word"
-    query = read_query(tokens, 0)[0]
-    if count_parts(query) > PARTS:
-        return "parts"
-    if sum(1 for _ in atoms_of(query)) > ATOMS:
-        return "atoms"
-    return "depth" if open_brackets(tokens) > DEPTH else None
+    query, word = read_query(tokens, 0)[0], tokens[-1].text if tokens[-1].kind in (WORD, VALUE) else ""
+    atoms = list(atoms_of(query))
+    parts = len(query) + sum(len(atom.query) for atom in atoms if isinstance(atom, Join))
+    counted = [("query", len(text.encode()) + open_brackets(tokens), QUERY_BYTES), ("word", len(word.encode()), WORD_BYTES),
+               ("parts", parts, PARTS), ("atoms", len(atoms), ATOMS), ("depth", open_brackets(tokens), DEPTH)]
+    return next((limit for limit, count, most in counted if count > most), None)
 
 
 def judge_query(text):
@@ -339,27 +299,26 @@ def judge_query(text):
     for end in range(1, len(text) + 1):
         tokens, place = tokens_of(text[:end]), len(text[:end - 1].encode())
         if is_bad(tokens):
-            raise Refused(at=place, error="bad")
+            raise Refused({"at": place, "error": "bad"})
         if limit := limit_passed(text[:end], tokens):
-            raise Refused(at=place, error="limit", which=limit)
+            raise Refused({"at": place, "error": "limit", "which": limit})
 
 
 # ---- Canonical texts and keys ----
-
-def canonical_atom(atom):
-    if isinstance(atom, Join):
-        return f"{atom.name}[{canonical(atom.query)}]"
-    return shown(atom.word) + ("$" if isinstance(atom, Exact) else "")
+Keys = namedtuple("Keys", "same narrow extend")
 
 
-def canonical_part(part):
-    chains = ("".join(linked.link + canonical_atom(linked.atom) for linked in chain) for chain in part.chains)
-    return ("-" if part.excluded else "") + "|".join(chains)
+def canonical_chain(chain):
+    text = ""
+    for link, atom in chain:
+        written = f"{atom.name}[{canonical(atom.query)}]" if isinstance(atom, Join) else shown(atom.word)
+        text += link + written + ("$" if isinstance(atom, Exact) else "")
+    return text
 
 
 def canonical(query):
     """The one text in which a query is written, which is its key."""
-    return " ".join(canonical_part(part) for part in query)
+    return " ".join(("-" if part.excluded else "") + "|".join(map(canonical_chain, part.chains)) for part in query)
 
 
 def shown(word):
@@ -367,29 +326,19 @@ def shown(word):
     return word.removeprefix(":")
 
 
-Keys = namedtuple("Keys", "same narrow extend")  # narrow: pairs of a prefix's bytes and a key, the longest first
-
-
-def with_last_prefix(query, word):
-    """The query with another word in the prefix that ends it."""
-    *parts, part = query
-    return (*parts, Part(False, ((*part.chains[0][:-1], Linked(part.chains[0][-1].link, Prefix(word))),)))
-
-
 def keys_of(query):
-    """The keys of a query, of those whose last prefix is shorter, and of that without the last part."""
-    narrow = []
-    if query and not query[-1].excluded and len(query[-1].chains) == 1:
-        last = query[-1].chains[0][-1].atom
-        if isinstance(last, Prefix):
-            least = last.word.index(":", 1) + 1 if last.word.startswith(":") else 1
-            shorter = [last.word[:length] for length in range(len(last.word) - 1, least - 1, -1)]
-            narrow = [(len(word.encode()), canonical(with_last_prefix(query, word))) for word in shorter]
-    return Keys(canonical(query), narrow, canonical(query[:-1]) if len(query) > 1 else None)
+    """The keys of a query, of those whose last prefix is shorter, the longest first, and of that without the last part.
+
+    A canonical text ends with its last prefix, so that with a shorter one is the same without its last characters.
+    """
+    same, last = canonical(query), query[-1].chains[-1][-1].atom if query else None
+    shorter = 0
+    if isinstance(last, Prefix) and not query[-1].excluded and len(query[-1].chains) == 1:
+        shorter = len(last.word.split(":")[2]) if last.word.startswith(":") else len(last.word) - 1
+    return Keys(same, [same[:-dropped] for dropped in range(1, shorter + 1)], canonical(query[:-1]) if len(query) > 1 else None)
 
 
 # ---- Answers ----
-
 def rows_of_atom(corpus, atom):
     if isinstance(atom, Prefix):
         return {row for row in corpus.rows if row.word.startswith(atom.word)}
@@ -407,15 +356,15 @@ def rows_of_link(before, link, rows):
     return {row for row in rows if row.pos >= 1 and any((row.doc, row.pos + step) in places for step in steps)}
 
 
-def rows_of_chain(corpus, chain):
-    rows = rows_of_atom(corpus, chain[0].atom)
-    for linked in chain[1:]:
-        rows = rows_of_link(rows, linked.link, rows_of_atom(corpus, linked.atom))
-    return rows
-
-
 def rows_of_part(corpus, part):
-    return set().union(*(rows_of_chain(corpus, chain) for chain in part.chains))
+    """The rows of the alternatives together; the links of each are read from the left."""
+    united = set()
+    for chain in part.chains:
+        rows = rows_of_atom(corpus, chain[0].atom)
+        for linked in chain[1:]:
+            rows = rows_of_link(rows, linked.link, rows_of_atom(corpus, linked.atom))
+        united |= rows
+    return united
 
 
 def hits(corpus, query):
@@ -434,10 +383,8 @@ def hits(corpus, query):
 
 def pairs(corpus, query):
     """The rows of the last part in hits; none where it is excluded, or where there is no part."""
-    if not query or query[-1].excluded:
-        return set()
     found = hits(corpus, query)
-    return {row for row in rows_of_part(corpus, query[-1]) if row.doc in found}
+    return {row for row in rows_of_part(corpus, query[-1]) if row.doc in found} if query and not query[-1].excluded else set()
 
 
 def ranked(corpus, query):
@@ -459,7 +406,6 @@ def facet_table(corpus, query, name):
 
 
 # ---- Parameters ----
-
 Request = namedtuple("Request", "query hits completions offset facets")
 
 
@@ -472,17 +418,16 @@ def decoded(text):
 def parameters_of(text):
     """The parameters by name. The first of a name counts, and nothing between two `&` is none."""
     parameters = {}
-    for piece in text.split(b"&"):
-        if piece:
-            name, _, value = piece.partition(b"=")
-            parameters.setdefault(decoded(name), decoded(value))
+    for name, _, value in (piece.partition(b"=") for piece in text.split(b"&") if piece):
+        parameters.setdefault(decoded(name), decoded(value))
     return parameters
 
 
 def number_of(parameters, name, default, greatest):
+    """The number that a parameter gives."""
     value = parameters.get(name, str(default))
     if not re.fullmatch("[0-9]{1,5}", value) or int(value) > greatest:
-        raise Refused(error="param", param=name)
+        raise Refused({"error": "param", "param": name})
     return int(value)
 
 
@@ -494,14 +439,13 @@ def request_of(text):
     offset = number_of(parameters, "o", 0, LEFT_OUT)
     facets = {name for name in parameters.get("f", "").split(",") if name}
     if not all(map(is_name, facets)) or len(facets) > FACETS_ASKED:
-        raise Refused(error="param", param="f")
+        raise Refused({"error": "param", "param": "f"})
     key_text = norm(parameters.get("q", ""))
     judge_query(key_text)
     return Request(query_of(key_text), shown_hits, completions, offset, sorted(facets))
 
 
 # ---- Replies ----
-
 def entries(words, request):
     """A table as it is shown."""
     return [{"docs": docs, "word": shown(word)} for word, docs in words[:request.completions]]
@@ -523,58 +467,37 @@ def text_of(corpus, parameters):
     try:
         return reply_text(corpus, request_of(parameters))
     except Refused as refusal:
-        return refusal.text
+        return compact(refusal.args[0])
 
 
 # ---- Scripts ----
-
 def script_lines(script):
     """The lines of a script that have bytes. One that can't be read ends the run where it is met."""
     for number, line in enumerate(lines_of(script), 1):
-        if len(line) > SCRIPT_LINE_BYTES:
-            raise Ended(8, f"script: line {number}: too long")
-        try:
-            line.decode()
-        except UnicodeDecodeError:
-            raise Ended(8, f"script: line {number}: not UTF-8") from None
+        if len(line) > SCRIPT_LINE_BYTES or text_or_none(line) is None:
+            raise Ended(8, f"script: line {number}: " + ("too long" if len(line) > SCRIPT_LINE_BYTES else "not UTF-8"))
         if line:
             yield line
 
 
-def answer_script(corpus, script, put):
-    for line in script_lines(script):
-        put(text_of(corpus, line).encode() + b"\n")
-
-
 # ---- Index files: image and bytes ----
-
-Block = namedtuple("Block", "first words rows")  # the first word's number, the number of words, the rows in order
-
-
 def kind_of(word):
     """The kind of a word: plain, or the name of its facet."""
     return word.split(":")[1] if word.startswith(":") else ""
 
 
-def vocabulary_of(corpus):
-    return sorted({row.word for row in corpus.rows})
-
-
 def blocks_of(corpus, target):
     """The words cut into runs, each as long as its kind, the target of rows and the greatest number of words let it be."""
-    rows = {}
+    rows, runs = {}, []
     for row in sorted(corpus.rows):
         rows.setdefault(row.word, []).append(row)
-    blocks, run = [], []
-    for number, word in enumerate(vocabulary_of(corpus)):
+    for word in sorted(rows):
+        run = runs[-1] if runs else []
         held = sum(len(rows[other]) for other in run)
-        if run and (kind_of(run[0]) != kind_of(word) or held + len(rows[word]) > target or len(run) == BLOCK_WORDS):
-            blocks.append(Block(number - len(run), len(run), sorted(row for other in run for row in rows[other])))
-            run = []
-        run.append(word)
-    if run:
-        blocks.append(Block(len(rows) - len(run), len(run), sorted(row for other in run for row in rows[other])))
-    return blocks
+        if not run or kind_of(run[0]) != kind_of(word) or held + len(rows[word]) > target or len(run) == BLOCK_WORDS:
+            runs.append([])
+        runs[-1].append(word)
+    return [(run, sorted(row for word in run for row in rows[word])) for run in runs]
 
 
 def gap_code(number):
@@ -582,93 +505,63 @@ def gap_code(number):
     return bytes([number]) if number < 128 else bytes([number % 128 + 128]) + gap_code(number // 128)
 
 
-def four(number):
-    return number.to_bytes(4, "big")
-
-
-def block_bytes(block, numbers):
+def block_bytes(words, rows):
     """The four columns of a block: gaps of documents, words, positions, scores."""
-    docs = [row.doc for row in block.rows]
+    docs = [row.doc for row in rows]
     return (b"".join(gap_code(doc - before) for before, doc in zip([0] + docs, docs))
-            + b"".join((numbers[row.word] - block.first).to_bytes(2, "big") for row in block.rows)
-            + b"".join(four(row.pos) for row in block.rows) + bytes(row.score for row in block.rows))
+            + b"".join(words.index(row.word).to_bytes(2, "big") for row in rows)
+            + b"".join(row.pos.to_bytes(4, "big") for row in rows) + bytes(row.score for row in rows))
 
 
 def index_bytes(corpus, target=TARGET):
     """The index file: header, vocabulary, offsets of titles, titles, directory, blocks."""
-    words, blocks = vocabulary_of(corpus), blocks_of(corpus, target)
-    numbers = {word: number for number, word in enumerate(words)}
-    titles = [title.encode() for title in corpus.titles]
-    offsets = [0]
-    for title in titles:
-        offsets.append(offsets[-1] + len(title))
+    words = sorted({row.word for row in corpus.rows})
+    blocks = [(run[0], len(run), len(rows), block_bytes(run, rows)) for run, rows in blocks_of(corpus, target)]
     vocabulary = b"".join(bytes([len(word.encode())]) + word.encode() for word in words)
-    bodies = [block_bytes(block, numbers) for block in blocks]
-    heads = [(block.first, block.words, len(block.rows), len(body)) for block, body in zip(blocks, bodies)]
-    header = [len(titles), len(words), len(corpus.rows), len(blocks), target, len(vocabulary), offsets[-1], sum(map(len, bodies)), 0]
-    return b"".join([b"HYBIDX1\n", *map(four, header), vocabulary, *map(four, offsets), *titles,
-                     *(four(number) for head in heads for number in head), *bodies])
+    titles = [title.encode() for title in corpus.titles]
+    offsets = [0, *itertools.accumulate(map(len, titles))]
+    directory = b"".join(struct.pack(">4I", words.index(first), count, rows, len(body)) for first, count, rows, body in blocks)
+    bodies = b"".join(body for *_, body in blocks)
+    counts = [len(titles), len(words), len(corpus.rows), len(blocks), target, len(vocabulary), offsets[-1], len(bodies), 0]
+    return b"".join([MAGIC, struct.pack(">9I", *counts), vocabulary, struct.pack(f">{len(offsets)}I", *offsets), *titles, directory, bodies])
 
 
 # ---- Index files: rules and places ----
-
-class Broken(Exception):
-    """A rule of index files is broken at a place."""
-
-    def __init__(self, rule, place):
-        super().__init__(f"rule {rule} at {place}")
+Head = namedtuple("Head", "entry first words rows size place")    # an entry of the directory, and the places of entry and block
+GAP_CODE = re.compile(rb"[\x80-\xff]{0,4}[\x00-\x7f]")
 
 
 def need(holds, rule, place):
     if not holds:
-        raise Broken(rule, place)
+        raise Ended(4, f"index: rule {rule} at {place}")
 
 
 class File:
-    """The bytes of a file that may be an index, and where its parts begin."""
+    """The bytes of a file that may be an index, and where its parts begin, by rules 1 to 4."""
 
     def __init__(self, data):
         self.data = data
         need(len(data) >= HEADER_BYTES, 1, len(data))
-        need(data.startswith(b"HYBIDX1\n"), 2, 0)
+        need(data.startswith(MAGIC), 2, 0)
         (self.documents, self.words, self.rows, self.blocks, self.target,
-         self.vocabulary_bytes, self.title_bytes, self.block_bytes, zero) = (self.number(at) for at in range(8, HEADER_BYTES, 4))
-        self.judge_header(zero)
-        self.offsets_at = HEADER_BYTES + self.vocabulary_bytes
+         vocabulary_bytes, self.title_bytes, self.block_bytes, zero) = struct.unpack_from(">9I", data, 8)
+        for number, least, greatest, place in [(self.documents, 0, DOCUMENTS, 8), (self.words, 0, WORDS, 12), (self.rows, 0, ROWS, 16),
+                                               (self.blocks, 0, self.words, 20), (self.target, 1, TARGETS, 24), (zero, 0, 0, 40)]:
+            need(least <= number <= greatest, 3, place)
+        self.offsets_at = HEADER_BYTES + vocabulary_bytes
         self.titles_at = self.offsets_at + 4 * (self.documents + 1)
         self.directory_at = self.titles_at + self.title_bytes
         self.blocks_at = self.directory_at + ENTRY_BYTES * self.blocks
         need(len(data) == self.blocks_at + self.block_bytes, 4, len(data))
 
-    def number(self, place, size=4):
-        return int.from_bytes(self.data[place:place + size], "big")
-
-    def judge_header(self, zero):
-        need(self.documents <= DOCUMENTS, 3, 8)
-        need(self.words <= WORDS, 3, 12)
-        need(self.rows <= ROWS, 3, 16)
-        need(self.blocks <= self.words, 3, 20)
-        need(1 <= self.target <= TARGETS, 3, 24)
-        need(zero == 0, 3, 40)
-
-
-def text_or_none(data):
-    try:
-        return data.decode()
-    except UnicodeDecodeError:
-        return None
-
 
 def is_indexed_word(data):
     """Whether these bytes have the form of a word that an index may hold."""
-    text = text_or_none(data)
-    if text is None:
-        return False
+    text = text_or_none(data) or ""
+    shape = "".join(map(shape_of, text))
     if not text.startswith(":"):
-        return len(data) <= WORD_BYTES and all(map(is_word_character, text))
-    name, colon, value = text[1:].partition(":")
-    return bool(colon and is_name(name) and 1 <= len(value.encode()) <= WORD_BYTES
-                and all(c == "_" or is_word_character(c) for c in value))
+        return len(data) <= WORD_BYTES and re.fullmatch("w+", shape) is not None
+    return re.fullmatch(":w+:[w_]+", shape) is not None and is_name(kind_of(text)) and len(text.split(":")[2].encode()) <= WORD_BYTES
 
 
 def read_vocabulary(file):
@@ -688,27 +581,21 @@ def read_vocabulary(file):
 
 def read_titles(file):
     """The titles, by rules 8 and 9."""
-    offsets = [file.number(file.offsets_at + 4 * number) for number in range(file.documents + 1)]
-    for number, offset in enumerate(offsets):
-        place = file.offsets_at + 4 * number
-        before = offsets[number - 1] if number else 0
-        need(before <= offset <= before + (LINE_BYTES if number else 0), 8, place)
-        need(number < file.documents or offset == file.title_bytes, 8, place)
-    titles = []
-    for begin, end in zip(offsets, offsets[1:]):
-        titles.append(text_or_none(file.data[file.titles_at + begin:file.titles_at + end]))
-        need(titles[-1] is not None, 9, file.titles_at + begin)
+    offsets = struct.unpack_from(f">{file.documents + 1}I", file.data, file.offsets_at)
+    for number, (before, offset) in enumerate(zip((0,) + offsets, offsets)):
+        follows = before <= offset <= before + LINE_BYTES if number else offset == 0
+        need(follows and (number < file.documents or offset == file.title_bytes), 8, file.offsets_at + 4 * number)
+    titles = [text_or_none(file.data[file.titles_at + begin:file.titles_at + end]) for begin, end in zip(offsets, offsets[1:])]
+    for begin, title in zip(offsets, titles):
+        need(title is not None, 9, file.titles_at + begin)
     return titles
-
-
-Head = namedtuple("Head", "entry first words rows size place")    # an entry of the directory, and the places of entry and block
 
 
 def read_directory(file, words):
     """The entries of the directory, by rules 10 to 12."""
     heads, place = [], file.blocks_at
     for entry in range(file.directory_at, file.blocks_at, ENTRY_BYTES):
-        heads.append(Head(entry, *(file.number(entry + at) for at in (0, 4, 8, 12)), place))
+        heads.append(Head(entry, *struct.unpack_from(">4I", file.data, entry), place))
         place += heads[-1].size
     word = 0
     for head in heads:
@@ -720,16 +607,15 @@ def read_directory(file, words):
         need(head.words <= BLOCK_WORDS and len(kinds) == 1, 11, head.entry)
     for head in heads:
         need(head.rows >= head.words and 8 * head.rows <= head.size <= 12 * head.rows, 12, head.entry)
-    sums = (sum(head.rows for head in heads), sum(head.size for head in heads))
-    need(sums == (file.rows, file.block_bytes), 12, file.blocks_at)
+    need(sum(head.rows for head in heads) == file.rows and sum(head.size for head in heads) == file.block_bytes, 12, file.blocks_at)
     return heads
 
 
 def read_gaps(column, count, at):
-    """So many gap codes, each with its place, by rule 13."""
+    """So many gap codes, each with its place in the file, by rule 13."""
     place, gaps = 0, []
     for _ in range(count):
-        code = re.match(rb"[\x80-\xff]{0,4}[\x00-\x7f]", column[place:])
+        code = GAP_CODE.match(column, place)
         need(code is not None, 13, at + place)
         number = sum((byte & 127) << 7 * digit for digit, byte in enumerate(code[0]))
         need(number < 2**32 and gap_code(number) == code[0], 13, at + place)
@@ -744,23 +630,21 @@ def read_block(file, head, words):
     words_at = head.place + head.size - ROW_BYTES * head.rows
     positions_at = words_at + 2 * head.rows
     scores_at = positions_at + 4 * head.rows
-    doc, docs = 0, []
-    for place, gap in read_gaps(file.data[head.place:words_at], head.rows, head.place):
-        doc += gap
-        docs.append((place, doc))
-    for place, doc in docs:
+    gaps = read_gaps(file.data[head.place:words_at], head.rows, head.place)
+    docs = list(itertools.accumulate(gap for _, gap in gaps))
+    for doc, (place, _) in zip(docs, gaps):
         need(doc < file.documents, 14, place)
-    numbers = [file.number(words_at + 2 * row, 2) for row in range(head.rows)]
+    numbers = struct.unpack_from(f">{head.rows}H", file.data, words_at)
     for row, number in enumerate(numbers):
         need(number < head.words, 15, words_at + 2 * row)
-    places = [file.number(positions_at + 4 * row) for row in range(head.rows)]
-    scores = list(file.data[scores_at:scores_at + head.rows])
+    places = struct.unpack_from(f">{head.rows}I", file.data, positions_at)
+    scores = file.data[scores_at:scores_at + head.rows]
     is_facet = words[head.first].startswith(":")
     for row, (pos, score) in enumerate(zip(places, scores)):
         plain = 1 <= pos <= DOCUMENT_WORDS + GAP_OF_COLUMNS and score in (TITLE_SCORE, TEXT_SCORE)
         need((pos == 0 and score == FACET_SCORE) if is_facet else plain, 16, positions_at + 4 * row)
-    rows = [Row(doc, pos, words[head.first + number], score) for (_, doc), pos, number, score in zip(docs, places, numbers, scores)]
-    for before, row, (place, _) in zip(rows, rows[1:], docs[1:]):
+    rows = [Row(doc, pos, words[head.first + number], score) for doc, pos, number, score in zip(docs, places, numbers, scores)]
+    for before, row, (place, _) in zip(rows, rows[1:], gaps[1:]):
         need(before[:3] < row[:3], 17, place)
     return rows
 
@@ -778,56 +662,42 @@ def judge_partition(file, heads, blocks, words):
 
 def open_index(data):
     """The corpus of an index file; the first broken rule ends the run."""
-    try:
-        file = File(data)
-        words = read_vocabulary(file)
-        titles = read_titles(file)
-        heads = read_directory(file, words)
-        blocks = [read_block(file, head, words) for head in heads]
-        judge_partition(file, heads, blocks, words)
-    except Broken as broken:
-        raise Ended(4, f"index: {broken}") from None
-    return Corpus(titles, {row for rows in blocks for row in rows})
+    file = File(data)
+    words, titles = read_vocabulary(file), read_titles(file)
+    heads = read_directory(file, words)
+    blocks = [read_block(file, head, words) for head in heads]
+    judge_partition(file, heads, blocks, words)
+    return Corpus(titles, set().union(*blocks))
 
 
 # ---- Kept answers ----
-
-Entry = namedtuple("Entry", "base rows")         # base: hits and scores, or None for all documents
 SAME, NARROW, EXTEND, FRESH = "same", "narrow", "extend", "fresh"
 
 
-def entry_of(corpus, query):
-    """What is kept of a query: its pairs, and the hits without its last part where that isn't excluded."""
+def fits(corpus, query):
+    """Whether the entry of a query may be kept: its pairs, and the hits without its last part where that isn't excluded."""
     base = query if query and query[-1].excluded else query[:-1]
-    return Entry(hits(corpus, base) if base else None, pairs(corpus, query))
-
-
-def size_of(entry):
-    return len(entry.rows) + len(entry.base or ())
+    return len(pairs(corpus, query)) + (len(hits(corpus, base)) if base else 0) <= KEPT_SIZE
 
 
 def plan_of(kept, keys):
-    """How a query is answered from the keys that are kept, and the key that it uses."""
-    if keys.same in kept:
-        return SAME, keys.same
-    for _, key in keys.narrow:
-        if key in kept:
-            return NARROW, key
-    return (EXTEND, keys.extend) if keys.extend in kept else (FRESH, None)
+    """How a query is answered from the keys that are kept, and the key of the answer that it uses."""
+    plans = [(SAME, keys.same), *((NARROW, key) for key in keys.narrow), (EXTEND, keys.extend)]
+    return next(((plan, key) for plan, key in plans if key in kept), (FRESH, None))
 
 
-def keys_after(kept, keys, plan, used, entry):
+def keys_after(kept, keys, used, keeps):
     """The keys that are kept afterwards, the last used first."""
-    if used is not None:
-        kept = [used] + [key for key in kept if key != used]
-    return ([keys.same] + kept)[:KEPT] if plan != SAME and size_of(entry) <= KEPT_SIZE else kept
+    kept = [key for key in kept if key == used] + [key for key in kept if key != used]
+    return ([keys.same] + kept)[:KEPT] if keeps and used != keys.same else kept
 
 
 # ---- Heads and connections ----
-
-HEAD = re.compile(rb"[!#$%&'*+.^_`|~0-9A-Za-z-]+ (?P<target>[\x21-\x7e\x80-\xff]+) HTTP/1\.(?P<minor>[01])\r?\n"
-                  rb"(?P<fields>(?:[!#$%&'*+.^_`|~0-9A-Za-z-]+:[\t\x20-\x7e\x80-\xff]*\r?\n)*)\r?\n")
+TOKEN = rb"[!#$%&'*+.^_`|~0-9A-Za-z-]+"
+HEAD = re.compile(TOKEN + rb" (?P<target>[\x21-\x7e\x80-\xff]+) HTTP/1\.(?P<minor>[01])\r?\n"
+                  rb"(?P<fields>(?:" + TOKEN + rb":[\t\x20-\x7e\x80-\xff]*\r?\n)*)\r?\n")
 REASONS = {200: "OK", 400: "Bad Request", 404: "Not Found", 405: "Method Not Allowed", 431: "Request Header Fields Too Large"}
+STATUSES = {'{"error":"path"}': 404, '{"error":"method"}': 405}    # of refusals; all others have 400
 MORE, TOO_LONG = "more", "too long"
 
 
@@ -840,46 +710,40 @@ def frame(unread):
     return MORE if len(front) < HEAD_BYTES else TOO_LONG
 
 
-def fields_of(found):
-    """Names, in small letters, and values of a head's fields."""
-    lines = found["fields"].replace(b"\r\n", b"\n").split(b"\n")[:-1]
-    return [(name.lower(), value.strip(b" \t")) for name, _, value in (line.partition(b":") for line in lines)]
-
-
-def response(status, closed, body):
+def response(closed, body, status):
+    """The bytes of a response; the connection is closed after it or isn't."""
     lines = [f"HTTP/1.1 {status} {REASONS[status]}", *["Allow: GET"] * (status == 405), "Content-Type: application/json",
              f"Content-Length: {len(body.encode())}", *["Connection: close"] * closed, "", body]
     return "\r\n".join(lines).encode()
 
 
 def judged_head(head):
-    """Target and fields of a head; what is no head, and what has a body, is refused."""
+    """The target of a head, and whether the connection is closed after it. What is no head, or has a body, is refused."""
     found = HEAD.fullmatch(head)
-    if not found or text_or_none(found["target"]) is None or len(fields_of(found)) > FIELDS:
-        raise Refused(error="head")
-    fields = fields_of(found)
+    fields = [(name.lower(), value.strip(b" \t")) for name, value in re.findall(rb"([^:\n]+):([^\r\n]*)", found["fields"] if found else b"")]
+    if not found or text_or_none(found["target"]) is None or len(fields) > FIELDS:
+        raise Refused({"error": "head"})
     for name, value in fields:
         if name == b"transfer-encoding" or name == b"content-length" and not re.fullmatch(b"0+", value):
-            raise Refused(error="body")
+            raise Refused({"error": "body"})
     pieces = [piece.strip(b" \t").lower() for name, value in fields if name == b"connection" for piece in value.split(b",")]
     return found["target"], found["minor"] == b"0" or b"close" in pieces
 
 
 def answer_head(corpus, head):
     """The response to a head, and whether the connection is closed after it."""
+    closed = True
     try:
         target, closed = judged_head(head)
+        path, _, parameters = target.partition(b"?")
+        if path != b"/search":
+            raise Refused({"error": "path"})
+        if not head.startswith(b"GET "):
+            raise Refused({"error": "method"})
+        return response(closed, reply_text(corpus, request_of(parameters)), 200), closed
     except Refused as refusal:
-        return response(400, True, refusal.text), True
-    path, _, parameters = target.partition(b"?")
-    if path != b"/search":
-        return response(404, closed, compact({"error": "path"})), closed
-    if not head.startswith(b"GET "):
-        return response(405, closed, compact({"error": "method"})), closed
-    try:
-        return response(200, closed, reply_text(corpus, request_of(parameters))), closed
-    except Refused as refusal:
-        return response(400, closed, refusal.text), closed
+        text = compact(refusal.args[0])
+        return response(closed, text, STATUSES.get(text, 400)), closed
 
 
 def answers(corpus, came):
@@ -890,7 +754,7 @@ def answers(corpus, came):
         if framed == MORE:
             return sent, len(came) >= CONNECTION_BYTES
         if framed == TOO_LONG:
-            return sent + response(431, True, compact({"error": "head too long"})), True
+            return sent + response(True, compact({"error": "head too long"}), 431), True
         begin, end = framed
         text, closed = answer_head(corpus, unread[begin:end])
         sent, unread = sent + text, unread[end:]
@@ -901,95 +765,77 @@ def answers(corpus, came):
 def serve_connection(corpus, connection):
     """Sends what the bytes so far ask, until the peer or the answers end it."""
     came, sent, closed = b"", b"", False
-    while not closed:
-        try:
-            piece = connection.recv(PIECE_BYTES)
-        except OSError:
-            return
-        if not piece:
-            return
-        came += piece
-        before = len(sent)
+    while not closed and (piece := connection.recv(PIECE_BYTES)):
+        came, before = came + piece, len(sent)
         sent, closed = answers(corpus, came)
-        try:
-            connection.sendall(sent[before:])
-        except OSError:
-            return
+        connection.sendall(sent[before:])
+    connection.shutdown(socket.SHUT_WR)
+    connection.settimeout(LINGER_SECONDS)
+    while connection.recv(PIECE_BYTES):
+        pass                                     # bytes left unread would make the system take back what was sent
 
 
 def serve(corpus, port, connections, put):
-    """Serves so many connections, one after the other, on the loopback."""
+    """Serves so many connections, one after the other, on the loopback; one that fails ends alone."""
     with socket.create_server(("127.0.0.1", int(port))) as listener:
         put(f"serving {port}\n".encode())
         for _ in range(int(connections)):
-            with listener.accept()[0] as connection:
+            with listener.accept()[0] as connection, contextlib.suppress(OSError):
                 serve_connection(corpus, connection)
 
 
 # ---- Trial ----
-
 SYLLABLES = "ba be bi bo da de di do ka ke ki ko ta te ti to".split()
-TRIAL_DOCUMENTS, TRIAL_WORDS, TRIAL_LETTERS = 100, 4096, 6
+SPELLED = ["".join(syllables) for syllables in itertools.product(SYLLABLES, repeat=3)]
+TRIAL_DOCUMENTS, SESSIONS, LETTERS = 100, 20, 6
 
 
-class Draws:
-    """The numbers that a trial draws."""
-
-    def __init__(self, seed):
-        self.state = seed
-
-    def below(self, bound):
-        self.state = (self.state * 6364136223846793005 + 1442695040888963407) % 2**64
-        return (self.state >> 33) % bound
-
-    def words(self, count):
-        return [self.below(TRIAL_WORDS) for _ in range(count)]
+def draws_of(seed):
+    """A function that draws the next number below a bound."""
+    def below(bound):
+        nonlocal seed
+        seed = (seed * 6364136223846793005 + 1442695040888963407) % 2**64
+        return (seed >> 33) % bound
+    return below
 
 
-def spelled(number):
-    return SYLLABLES[number // 256] + SYLLABLES[number // 16 % 16] + SYLLABLES[number % 16]
-
-
-def trial_collection(draws, size):
-    """The lines of a trial's collection, and the text words of each."""
-    lines, texts = [], []
+def trial_lines(below, size):
+    """The lines of a trial's collection: title words, a syllable, text words."""
     for _ in range(TRIAL_DOCUMENTS * size):
-        title, kind, text = draws.words(3), SYLLABLES[draws.below(16)], draws.words(12)
-        texts.append([spelled(number) for number in text])
-        lines.append(f"{' '.join(map(spelled, title))}\tkind={kind}\t{' '.join(texts[-1])}\n")
-    return "".join(lines).encode(), texts
+        title = [SPELLED[below(len(SPELLED))] for _ in range(3)]
+        kind = SYLLABLES[below(len(SYLLABLES))]
+        yield title, kind, [SPELLED[below(len(SPELLED))] for _ in range(12)]
 
 
-def trial_queries(draws, texts):
-    """Twenty sessions: two neighbouring words of a text, typed letter by letter, and the first again."""
-    for _ in range(20):
-        text, place = texts[draws.below(len(texts))], draws.below(12)
+def trial_queries(below, texts):
+    """The sessions: two neighbouring words of a text, typed letter by letter, and the first again."""
+    for _ in range(SESSIONS):
+        text, place = texts[below(len(texts))], below(12)
         first, second = text[place], text[(place + 1) % 12]
-        yield from (first[:letters] for letters in range(1, TRIAL_LETTERS + 1))
-        yield from (f"{first} {second[:letters]}" for letters in range(1, TRIAL_LETTERS + 1))
+        yield from (first[:letters] for letters in range(1, LETTERS + 1))
+        yield from (f"{first} {second[:letters]}" for letters in range(1, LETTERS + 1))
         yield first
 
 
 def trial(size, put):
-    """Makes collection and sessions, asks them on one list of kept answers, and puts what came of it."""
-    draws = Draws(size)
-    data, texts = trial_collection(draws, size)
-    corpus = corpus_of(data)
-    kept, found, plans = [], [], []
-    for text in trial_queries(draws, texts):
+    """Makes collection and sessions, asks them over one list of kept answers, and puts what came of it."""
+    below = draws_of(size)
+    lines = list(trial_lines(below, size))
+    corpus = corpus_of("".join(f"{' '.join(title)}\tkind={kind}\t{' '.join(text)}\n" for title, kind, text in lines).encode())
+    kept, found, plans = [], 0, []
+    for text in trial_queries(below, [text for _, _, text in lines]):
         query = query_of(norm(text))
         keys = keys_of(query)
         plan, used = plan_of(kept, keys)
-        kept = keys_after(kept, keys, plan, used, entry_of(corpus, query))
+        kept = keys_after(kept, keys, used, fits(corpus, query))
         plans.append(plan)
-        found.append(len(hits(corpus, query)))
+        found += len(hits(corpus, query))
     counts = {"documents": len(corpus.titles), "rows": len(corpus.rows), "blocks": len(blocks_of(corpus, TARGET)),
-              "replies": len(plans), "hits": sum(found), **{plan: plans.count(plan) for plan in (SAME, NARROW, EXTEND, FRESH)}}
+              "replies": len(plans), "hits": found, **{plan: plans.count(plan) for plan in (SAME, NARROW, EXTEND, FRESH)}}
     put("".join(f"{name} {number}\n" for name, number in counts.items()).encode())
 
 
 # ---- Commands and endings ----
-
 USAGE = "usage: complete build COLLECTION INDEX | ask COLLECTION SCRIPT | replay INDEX SCRIPT | serve INDEX PORT CONNS | trial N"
 
 
@@ -1030,29 +876,25 @@ def run_command(words, put):
     elif command == "serve":
         serve(corpus, *names[1:], put)
     else:
-        answer_script(corpus, script, put)
+        for line in script_lines(script):
+            put(text_of(corpus, line).encode() + b"\n")
 
 
 def run(words, put, say):
     """Runs a command. `put` takes standard output piece by piece, `say` standard error; the answer is the status."""
     try:
         run_command(words, put)
-    except Ended as end:
-        say(f"{end.words}\n".encode())
-        return end.status
-    except OSError:
-        say(b"device failed\n")
-        return 6
+    except (Ended, OSError) as end:
+        status, words = end.args if isinstance(end, Ended) else (6, "device failed")
+        say(f"{words}\n".encode())
+        return status
     return 0
 
 
-def main():
-    def put(data):
-        sys.stdout.buffer.write(data)
-        sys.stdout.buffer.flush()
-
-    return run(sys.argv[1:], put, sys.stderr.buffer.write)
+def put_out(data):
+    sys.stdout.buffer.write(data)
+    sys.stdout.buffer.flush()
 
 
 if __name__ == "__main__":
-    sys.exit(main())
+    sys.exit(run(sys.argv[1:], put_out, sys.stderr.buffer.write))
