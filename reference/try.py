@@ -2,17 +2,20 @@
 """Random cases for a program, held against the reference beside this file.
 
     try.py PROGRAM                       a few cases of each kind
-    try.py PROGRAM KIND [COUNT [SEED]]   so many cases of one kind; case N of seed S is case 0 of seed S + N
+    try.py PROGRAM KIND [COUNT [FIRST]]  so many cases of one kind, from number FIRST on; without COUNT as many as it should stand
 
 PROGRAM is crates/complete/out/complete. Bytes on standard output, words on standard error, the status and the files left
 behind are compared; of `serve`, what comes back on each connection. A case that differs is made smaller as long as it
-differs, and printed; the exit status is then 1. What a program says isn't built yet is skipped, and that is said.
+differs, and printed with its number; the exit status is then 1. What a program says isn't built yet is skipped, and that
+is said: a whole kind, or what a script has from its first join on.
 
-Random texts keep to characters that Unicode 3.2 has, and to some later ones by name: each table since then has them, and
-what folding and decomposition make of a character is never changed once it has a meaning. So a seed's cases are the same
-for each Python. The kind `characters` goes through all that this Python's table has.
+Random texts keep to characters that Unicode 3.2 has, and to some later ones by name. Each table since then has them, and
+folding and decomposition of a character that has a meaning are never changed. So a number is the same case whatever Python
+runs it. The kind `characters` goes through all that this Python's table has.
 """
+import contextlib
 import io
+import itertools
 import os
 import random
 import socket
@@ -26,8 +29,9 @@ import unicodedata
 import complete
 
 NOT_BUILT = b"not built\n"
-SECONDS = 120
-TRIES_TO_SHRINK = 3000
+SECONDS = 600
+NO_END = "no end"
+TRIES_TO_SHRINK = 1000
 
 # ---- Random texts ----
 
@@ -59,12 +63,16 @@ def word(dice):
     return "".join(map(dice.choice, letters))
 
 
+SPACED = [f"b{number}" for number in range(30)]     # words a known number of positions apart
+
+
 class World:
     """The words and names that a case is made of."""
 
     def __init__(self, dice):
-        self.words = [word(dice) for _ in range(dice.randint(1, 8))]
-        self.names = [dice.choice(["k", "kk", "author", "y2", "z" * 16, "a"]) for _ in range(2)]
+        self.spaced = 0.2 * (dice.random() < 0.15)
+        self.words = [word(dice) for _ in range(dice.choice([1, 2, 4, 8, 25]))]
+        self.names = [dice.choice(["k", "ks", "author", "y2", "z" * 16, "a"]) for _ in range(2)]
 
 
 # ---- Random collections ----
@@ -79,16 +87,19 @@ def column(dice, world, most):
 
 def facet(dice, world):
     name = dice.choice(world.names)
-    name = dice.choices([name, name.upper(), "\u212a", f" {name} ", "z" * 17, "1a", "", text(dice, 4)], [300, 20, 5, 20, 1, 1, 1, 2])[0]
+    folded = name.replace("k", "\u212a").replace("s", "\u017f")
+    name = dice.choices([name, name.upper(), folded, f" {name} ", "z" * 17, "1a", "", text(dice, 4)], [300, 20, 10, 20, 1, 1, 1, 2])[0]
     value = column(dice, world, 3) if dice.random() < 0.97 else dice.choice(["", "--", "=", "x" * 119 + "é", "a=b"])
     return f"{name}={value}" if dice.random() < 0.995 else name
 
 
 def collection_line(dice, world):
+    if dice.random() < world.spaced:
+        return "\t".join([" ".join(SPACED[:dice.randint(0, 3)]), "", " ".join(SPACED[dice.randint(3, 8):])]).encode()
     facets = ";".join(facet(dice, world).replace(";", "") for _ in range(dice.choice([0, 0, 1, 1, 2, 3])))
     if dice.random() < 0.1:
         facets = f" ;{facets} ; ;"
-    columns = [column(dice, world, 5), facets, column(dice, world, 8)]
+    columns = [column(dice, world, 5), facets, column(dice, world, dice.choice([8, 8, 30]))]
     line = "\t".join(columns[:dice.choices([1, 2, 3], [2, 2, 6])[0]])
     if dice.random() < 0.02:
         line += "\t" + text(dice, 5)
@@ -122,13 +133,22 @@ def atom(dice, world, joins):
     if shape == "word":
         made = prefix(dice, world)
     elif shape == "facet":
-        made = f"{dice.choice(world.names)}:{prefix(dice, world) if dice.random() < 0.7 else ''}"
+        value = dice.choice("-_'").join(prefix(dice, world) for _ in range(dice.choice([0, 1, 1, 2, 3])))
+        made = f"{dice.choice(world.names)}:{value}"
     else:
         return f"{dice.choice(world.names)}[{query(dice, world, joins - 1)}{dice.choice([']'] * 9 + [''])}"
     return made + "$" * (dice.random() < 0.2)
 
 
+def spaced_chain(dice):
+    first, apart = dice.randrange(30), dice.choice([1, 2, 7, 8, 9])
+    words = [SPACED[first], SPACED[(first + dice.choice([-1, 1]) * apart) % 30]]
+    return dice.choice(["$..", "$..", "$."]).join(words) + "$"
+
+
 def chain(dice, world, joins):
+    if dice.random() < world.spaced:
+        return spaced_chain(dice)
     made = atom(dice, world, joins)
     while dice.random() < 0.25:
         made += dice.choice([".", "-", "_", "'", "..", "..", "...", ".-"]) + atom(dice, world, joins)
@@ -240,7 +260,10 @@ def script(dice, world, joins=0):
     return lines(dice, made)
 
 
-# ---- Kinds of cases: words and files ----
+# ---- Kinds of cases: words and files; with a target, the file I is the index of the collection C ----
+
+TARGETS = [1, 2, 5, complete.TARGET, complete.TARGET]
+
 
 def ask_case(dice):
     world = World(dice)
@@ -248,49 +271,140 @@ def ask_case(dice):
 
 
 def build_case(dice):
+    """A random collection; at times one whose words have about as many rows together as a block may have."""
+    if dice.random() < 0.02:
+        words = [word for letter in dice.choice(["ab", "abc", "a1b"]) for word in [letter] * (complete.TARGET // 2 + dice.randint(-1, 1))]
+        return {"words": ["build", "C", "I"], "files": {"C": " ".join(words).encode()}}
     return {"words": ["build", "C", "I"], "files": {"C": collection(dice, World(dice), 20)}}
 
 
-def index(dice, world, most=10):
-    """The index of a random collection that is accepted, at times with a small target."""
+def accepted(dice, world, most=10):
+    """A random collection that isn't refused."""
     while True:
-        try:
-            return complete.index_bytes(complete.corpus_of(collection(dice, world, most)), dice.choice([1, 2, 5, 8192, 8192]))
-        except complete.Ended:
-            pass
+        data = collection(dice, world, most)
+        with contextlib.suppress(complete.Ended):
+            complete.corpus_of(data)
+            return data
 
 
 def replay_case(dice):
     world = World(dice)
-    return {"words": ["replay", "I", "Q"], "files": {"I": index(dice, world), "Q": script(dice, world, dice.choice([0, 0, 2, 3]))}}
+    files = {"C": accepted(dice, world), "Q": script(dice, world, dice.choice([0, 0, 2, 3]))}
+    return {"words": ["replay", "I", "Q"], "files": files, "target": dice.choice(TARGETS)}
+
+
+def with_number(data, place, number):
+    return data[:place] + (number % 2**32).to_bytes(4, "big") + data[place + 4:]
+
+
+def number_at(data, place):
+    return int.from_bytes(data[place:place + 4], "big")
+
+
+def damaged_header(dice, data, _file):
+    if dice.random() < 0.3:
+        return with_number(data, 24, dice.randint(1, 12))
+    place = 8 + 4 * dice.randrange(9)
+    numbers = [number_at(data, place) + dice.choice([-1, 1]), 0, *(2**power + more for power in (20, 22, 24) for more in (0, 1))]
+    return with_number(data, place, dice.choice(numbers))
+
+
+HOSTILE_WORDS = ["", "a", "A", "é", "a_b", "a b", ":", "::a", ":k:", ":k:_", ":k:a:b", ":K:a", ":1:a", "k:a", ":k:a-b", ":" + "z" * 17 + ":a", "a" * 120, "a" * 121,
+                 ":k:" + "a" * 120, ":k:" + "a" * 121, ":k:b", ":ks:a", "9"]
+
+
+def damaged_words(dice, data, file):
+    """A word in place of another, with all lengths put right."""
+    place, places = complete.HEADER_BYTES, []
+    while place < file.offsets_at:
+        places.append(place)
+        place += 1 + data[place]
+    place = dice.choice(places)
+    end = place + 1 + data[place]
+    other = dice.choice(places)
+    word = dice.choice([dice.choice(HOSTILE_WORDS).encode(), data[other + 1:other + 1 + data[other]], data[place + 1:end] + b"\xff", data[place + 2:end]])
+    return with_number(data[:place] + bytes([len(word) % 256]) + word + data[end:], 28, file.offsets_at - complete.HEADER_BYTES + len(word) + 1 - (end - place))
+
+
+def damaged_offsets(dice, data, file):
+    place = file.offsets_at + 4 * dice.randint(0, file.documents)
+    return with_number(data, place, number_at(data, place) + dice.choice([-2, -1, 1, 2, 2**20, 2**31]))
+
+
+def damaged_directory(dice, data, file):
+    """A number of an entry, or a boundary between two blocks, by one."""
+    entry = file.directory_at + complete.ENTRY_BYTES * dice.randrange(file.blocks)
+    step = dice.choice([-1, 1])
+    if dice.random() < 0.5:
+        place = entry + 4 * dice.randrange(4)
+        return with_number(data, place, dice.choice([number_at(data, place) + step, 0]))
+    following = entry + complete.ENTRY_BYTES
+    if following < file.blocks_at:
+        field = dice.choice([4, 8, 12])
+        data = with_number(with_number(data, entry + field, number_at(data, entry + field) + step), following + field, number_at(data, following + field) - step)
+        if field == 4:
+            data = with_number(data, following, number_at(data, following) + step)
+    return data
+
+
+HOSTILE_GAPS = [b"\x80\x01", b"\x80\x80\x00", b"\x01\x01", b"\x80", b"\xff\xff\xff\xff\x0f", b"\xff\xff\xff\xff\x10", b"\x80\x80\x80\x80\x00",
+                b"\x80\x80\x80\x80\x80", b"\x80\x80\x80\x80\x80\x01", b"\0" * 6]
+
+
+def damaged_block(dice, data, file):
+    """A value in one of the columns of a block, or a byte more among its gaps, with all sizes put right."""
+    entries = range(file.directory_at, file.blocks_at, complete.ENTRY_BYTES)
+    number = dice.randrange(file.blocks)
+    rows, size = number_at(data, entries[number] + 8), number_at(data, entries[number] + 12)
+    begin = file.blocks_at + sum(number_at(data, entry + 12) for entry in entries[:number])
+    words_at, row = begin + size - complete.ROW_BYTES * rows, dice.randrange(rows)
+    column = dice.choice(["gap", "longer", "word", "position", "score", "row"])
+    if column == "longer":
+        place = dice.randrange(begin, words_at)
+        code = dice.choice([bytes([data[place] | 128, 0]), *HOSTILE_GAPS])
+        data = data[:place] + code + data[place + 1:]
+        return with_number(with_number(data, entries[number] + 12, size + len(code) - 1), 36, file.block_bytes + len(code) - 1)
+    if column == "gap":
+        place = dice.randrange(begin, words_at)
+        return data[:place] + bytes([dice.choice([0, 1, data[place] + 1, 127, 128, 255]) % 256]) + data[place + 1:]
+    if column == "word":
+        place = words_at + 2 * row
+        return data[:place] + ((int.from_bytes(data[place:place + 2], "big") + dice.choice([-1, 1])) % 2**16).to_bytes(2, "big") + data[place + 2:]
+    if column == "position":
+        place = words_at + 2 * rows + 4 * row
+        return with_number(data, place, dice.choice([0, 1, 100_008, 100_009, number_at(data, place) + dice.choice([-1, 1])]))
+    if column == "score":
+        return data[:words_at + 6 * rows + row] + bytes([dice.choice([0, 1, 2, 3, 4, 5])]) + data[words_at + 6 * rows + row + 1:]
+    other = dice.randrange(rows)                 # word, position and score of another row
+    for at, width in ((words_at, 2), (words_at + 2 * rows, 4), (words_at + 6 * rows, 1)):
+        data = data[:at + width * row] + data[at + width * other:][:width] + data[at + width * (row + 1):]
+    return data
+
+
+def damaged_bytes(dice, data, _file):
+    """A byte changed, left out or added, or the end cut off."""
+    place = dice.randrange(len(data))
+    byte = bytes([dice.choice([0, 1, 4, 0x20, 0x3A, 0x7F, 0x80, 0xFF, dice.randrange(256), (data[place] + 1) % 256, (data[place] - 1) % 256])])
+    return dice.choices([data[:place] + byte + data[place + 1:], data[:place], data[:place] + data[place + 1:], data[:place] + byte + data[place:]], [12, 1, 1, 1])[0]
 
 
 def damaged(dice, data):
-    """An index file with bytes changed, cut, added or moved; bytes of small numbers are changed a little the most."""
-    for _ in range(dice.choice([1, 1, 1, 1, 2, 3])):
-        place = dice.randrange(len(data))
-        how = dice.choices(["byte", "near", "cut", "add", "drop", "move"], [30, 50, 4, 4, 6, 6])[0]
-        if how == "byte":
-            data = data[:place] + bytes([dice.choice([0, 1, 2, 4, 0x20, 0x3A, 0x7F, 0x80, 0xFF, dice.randrange(256)])]) + data[place + 1:]
-        elif how == "near":
-            data = data[:place] + bytes([(data[place] + dice.choice([-2, -1, 1, 2])) % 256]) + data[place + 1:]
-        elif how == "cut":
-            data = data[:place]
-        elif how == "add":
-            data += bytes(dice.randrange(256) for _ in range(dice.randint(1, 3)))
-        elif how == "drop":
-            data = data[:place] + data[place + 1:]
-        else:
-            other = dice.randrange(len(data))
-            data = data[:place] + data[other:other + 1] + data[place + 1:]
-        if not data:
+    """An index file damaged once, or a few times as long as its parts can be told."""
+    for _ in range(dice.choice([1, 1, 1, 2, 3])):
+        try:
+            file = complete.File(data)
+        except complete.Ended:
             return data
+        hows = [damaged_header, damaged_offsets, damaged_bytes, damaged_bytes] + [damaged_words, damaged_directory, damaged_block, damaged_block] * (file.blocks > 0)
+        with contextlib.suppress(IndexError, ValueError):    # the parts no longer tell where they lie
+            data = dice.choice(hows)(dice, data, file)
     return data
 
 
 def damage_case(dice):
     world = World(dice)
-    return {"words": ["replay", "I", "Q"], "files": {"I": damaged(dice, index(dice, world, 4)), "Q": script(dice, world)}}
+    whole = complete.index_bytes(complete.corpus_of(accepted(dice, world, 4)), dice.choice(TARGETS))
+    return {"words": ["replay", "I", "Q"], "files": {"I": damaged(dice, whole), "Q": script(dice, world)}}
 
 
 def words_case(dice):
@@ -309,37 +423,41 @@ def words_case(dice):
     return {"words": words, "files": {name: data for name, data in files.items() if dice.random() < 0.9}}
 
 
-def trial_cases(count):
-    return [{"words": ["trial", str(number + 1)], "files": {}} for number in range(count)]
+def trial_cases():
+    for size in itertools.count(1):
+        yield {"words": ["trial", str(size)], "files": {}}
 
 
-def character_cases(count):
-    """Each character of this Python's table within a word, and as a word of its own."""
-    known = [c for c in map(chr, range(0x110000)) if unicodedata.category(c) not in ("Cn", "Cs")]
-    for begin in range(0, len(known), 40)[:count]:
-        group = "".join(known[begin:begin + 40])
-        titles = [f"x{c}y {c}" for c in group if c not in "\t\n"]
-        asked_of = "".join(f"q=x{''.join(f'%{byte:02X}' for byte in c.encode())}y\n" for c in group)
-        yield {"words": ["ask", "C", "Q"], "files": {"C": "".join(f"{title}\n" for title in titles).encode(),
-                                                     "Q": f"q=x&c=100&h=100\n{asked_of}".encode()}}
+def character_cases():
+    """Each character of this Python's table within a word, and as a word of its own; of those for private use the first."""
+    known = [c for c in map(chr, range(0x110000)) if unicodedata.category(c) not in ("Cn", "Cs", "Co")] + ["\ue000"]
+    for begin in range(0, len(known), 40):
+        group = known[begin:begin + 40]
+        titles = "".join(f"x{c}y {c}\n" for c in group if c not in "\t\n")
+        queries = "".join(f"q=x{''.join(f'%{byte:02X}' for byte in c.encode())}y\n" for c in group)
+        yield {"words": ["ask", "C", "Q"], "files": {"C": titles.encode(), "Q": f"q=x&c=100&h=100\n{queries}".encode()}}
 
 
-def limit_cases(count):
+def limit_cases():
     """Collections at the limits of lines, words and documents."""
     line, many, documents = complete.LINE_BYTES, complete.DOCUMENT_WORDS, complete.DOCUMENTS
     collections = [
         b"a" * line + b"\nb", b"x\n" + b"a" * (line + 1), b"a" * line + b"\xff", b"\xff" * 3 + b"a" * line, b"a" * line + b"\r\n",
         b"a " * many, b"a " * many + b"b", b"a " * 50_000 + b"\t\t" + b"b " * 50_000, b"a " * 50_000 + b"\t\t" + b"b " * 50_001 + b"\t=",
-        b"a\t=b\n" + b"c " * (many + 1), b"a " * (many + 1) + b"\t=b", b"a\n" * documents, b"a\n" * documents + b"\n\nb\tc", b"a\n" * documents + b"\n\nb\r\n\xff",
-        b"\0" * (complete.COLLECTION_BYTES + 1),
+        b"a\t=b\n" + b"c " * (many + 1), b"a " * (many + 1) + b"\t=b", b"\0" * (complete.COLLECTION_BYTES + 1),
+        b"a\n" * documents + b"\n\nb\tc", b"a\n" * documents + b"\n\nb\r\n\xff", b"a\n" * documents,
     ]
-    for data in collections[:count]:
-        yield {"words": ["ask", "C", "Q"], "files": {"C": data, "Q": b"q=a&h=2\nq=b&o=10000\nq=a..b&h=1\n"}}
+    for data in collections:
+        yield {"words": ["ask", "C", "Q"], "files": {"C": data, "Q": b"q=a&h=2\nq=b$..a\n"}}
 
 
 # ---- Running both ----
 
-def fill(folder, files):
+def fill(folder, case):
+    files = dict(case["files"])
+    if "target" in case:
+        with contextlib.suppress(complete.Ended):
+            files["I"] = complete.index_bytes(complete.corpus_of(files["C"]), case["target"])
     for name, data in files.items():
         with open(os.path.join(folder, name), "wb") as file:
             file.write(data)
@@ -355,23 +473,21 @@ def files_in(folder):
 
 def outcome_of_program(program, case):
     with tempfile.TemporaryDirectory() as folder:
-        fill(folder, case["files"])
+        fill(folder, case)
         try:
             ran = subprocess.run([program, *case["words"]], cwd=folder, capture_output=True, timeout=SECONDS, check=False)
         except subprocess.TimeoutExpired:
-            return "no end", b"", b"", {}
+            return NO_END, b"", b"", {}
         return ran.returncode, ran.stdout, ran.stderr, files_in(folder)
 
 
-def first_join(lines_asked):
-    """How many lines are answered before the first that asks a join."""
-    for number, line in enumerate(lines_asked):
-        try:
-            query = complete.request_of(line).query
-        except complete.Refused:
-            continue
-        if any(isinstance(found, complete.Join) for found in complete.atoms_of(query)):
-            return number
+def first_join(script):
+    """How many lines of a script are answered before the first that asks a join."""
+    with contextlib.suppress(complete.Ended):
+        for number, line in enumerate(complete.script_lines(script)):
+            with contextlib.suppress(complete.Refused):
+                if any(isinstance(atom, complete.Join) for atom in complete.atoms_of(complete.request_of(line).query)):
+                    return number
     return None
 
 
@@ -379,7 +495,7 @@ def outcome_of_reference(case):
     put, said = [], io.BytesIO()
     here = os.getcwd()
     with tempfile.TemporaryDirectory() as folder:
-        fill(folder, case["files"])
+        fill(folder, case)
         os.chdir(folder)
         try:
             status = complete.run(case["words"], put.append, said.write)
@@ -395,22 +511,10 @@ def is_same(program, case, unbuilt):
     if got[0] == 1 and got[2] == NOT_BUILT and case["words"]:
         if case["words"][0] in unbuilt and status != 2:
             return got, (1, b"", NOT_BUILT, case["files"])
-        if case["words"][0] == "ask" and status in (0, 8):
-            try:
-                joined = first_join(list(complete.script_lines(case["files"]["Q"])))
-            except complete.Ended:
-                joined = first_join(list(readable(case["files"]["Q"])))
-            if joined is not None:
-                return got, (1, b"".join(put[:joined]), NOT_BUILT, left)
+        joined = first_join(case["files"]["Q"]) if case["words"][0] == "ask" and status in (0, 8) else None
+        if joined is not None:
+            return got, (1, b"".join(put[:joined]), NOT_BUILT, left)
     return got, want
-
-
-def readable(data):
-    """The lines of a script before one that can't be read."""
-    try:
-        yield from complete.script_lines(data)
-    except complete.Ended:
-        return
 
 
 # ---- Connections ----
@@ -455,7 +559,8 @@ def stream(dice, world):
 
 def serve_case(dice):
     world = World(dice)
-    return {"files": {"I": index(dice, world)}, "streams": [stream(dice, world) for _ in range(dice.randint(1, 6))]}
+    streams = [stream(dice, world) for _ in range(dice.randint(1, 6))]
+    return {"files": {"C": accepted(dice, world)}, "target": dice.choice(TARGETS), "streams": streams}
 
 
 def talk(port, pieces):
@@ -494,7 +599,7 @@ def free_port():
 def served(program, case):
     port = free_port()
     with tempfile.TemporaryDirectory() as folder:
-        fill(folder, case["files"])
+        fill(folder, case)
         words = [program, "serve", "I", str(port), str(max(1, len(case["streams"])))]
         pipes = {"stdin": subprocess.DEVNULL, "stdout": subprocess.PIPE, "stderr": subprocess.PIPE}
         with subprocess.Popen(words, cwd=folder, **pipes) as running:
@@ -505,16 +610,16 @@ def served(program, case):
                 out, said = running.communicate(timeout=SECONDS)
                 return running.returncode, line.replace(b"%d" % port, b"PORT") + out, said, sent
             except subprocess.TimeoutExpired:
-                return "no end", b"", b"", []
+                return NO_END, b"", b"", []
             finally:
                 running.kill()
 
 
 def is_same_served(program, case, _unbuilt):
     try:
-        corpus = complete.open_index(case["files"]["I"])
-    except complete.Ended as end:
-        return served(program, case), (end.args[0], b"", f"{end.args[1]}\n".encode(), [])
+        corpus = complete.corpus_of(case["files"]["C"])
+    except complete.Ended:
+        return None, None                       # no index can be made of it
     want = [complete.answers(corpus, b"".join(pieces))[0] for pieces in case["streams"] or [[]]]
     return served(program, case), (0, b"serving PORT\n", b"", want)
 
@@ -545,7 +650,7 @@ def smaller(case, both):
         got, want = both(other) if left[0] > 0 else (0, 0)
         return got != want
 
-    for name in case["files"]:
+    for name in case["files"].keys() - {"I"}:
         def with_file(data, name=name):
             return {**case, "files": {**case["files"], name: data}}
         rows = shortened(case["files"][name].split(b"\n"), lambda rows: differs(with_file(b"\n".join(rows))))
@@ -553,18 +658,25 @@ def smaller(case, both):
         case = with_file(shortened(case["files"][name], lambda data: differs(with_file(data))))
     if "streams" in case:
         case = {**case, "streams": shortened(case["streams"], lambda streams: differs({**case, "streams": streams}))}
-        case = {**case, "streams": [[b"".join(pieces)] for pieces in case["streams"]]} if differs(
-            {**case, "streams": [[b"".join(pieces)] for pieces in case["streams"]]}) else case
+        for number in range(len(case["streams"])):
+            def with_stream(pieces, number=number):
+                return {**case, "streams": [*case["streams"][:number], pieces, *case["streams"][number + 1:]]}
+            case = with_stream(shortened(case["streams"][number], lambda pieces: differs(with_stream(pieces))))
+            whole = b"".join(case["streams"][number])
+            if differs(with_stream([whole])):
+                case = with_stream([shortened(whole, lambda data: differs(with_stream([data])))])
     return case
 
 
-def show(kind, seed, case, got, want):
-    print(f"DIFFERS: {kind} 1 {seed}\n  words  {case.get('words', 'serve')}")
+def show(kind, number, case, got, want):
+    print(f"DIFFERS: {kind} 1 {number}\n  words  {case.get('words', 'serve')}, target {case.get('target')}")
     for name, data in case["files"].items():
         print(f"  file {name} {data[:2000]!r}{' ..' if len(data) > 2000 else ''}")
     for pieces in case.get("streams", []):
         print(f"  stream {pieces!r}")
-    print(f"  program   {str(got)[:3000]}\n  reference {str(want)[:3000]}")
+    for what, one, other in zip(("status", "out", "err", "left"), got, want):
+        if one != other:
+            print(f"  {what}: program   {str(one)[:3000]}\n  {what}: reference {str(other)[:3000]}")
 
 
 # ---- Kinds and counts ----
@@ -583,26 +695,28 @@ def unbuilt_commands(program):
     return {command for command, outcome in outcomes.items() if outcome[0] == 1 and outcome[2] == NOT_BUILT}
 
 
-def cases_of(kind, count, seed):
+def cases_of(kind, count, first):
     if kind in LISTED:
-        yield from enumerate(LISTED[kind](count))
+        yield from enumerate(itertools.islice(LISTED[kind](), first, first + count), first)
     else:
-        for number in range(seed, seed + count):
+        for number in range(first, first + count):
             yield number, MADE[kind](random.Random(f"{kind} {number}"))
 
 
-def try_kind(program, kind, count, seed, unbuilt):
+def try_kind(program, kind, count, first, unbuilt):
     """Runs so many cases of a kind; says whether all were the same."""
     if NEEDS.get(kind) in unbuilt:
         print(f"{kind}: skipped, the program says that {NEEDS[kind]} is not built")
         return True
     compare = is_same_served if kind == "serve" else is_same
     begun, done, partly = time.monotonic(), 0, 0
-    for number, case in cases_of(kind, count, seed):
+    for number, case in cases_of(kind, count, first):
         got, want = compare(program, case, unbuilt)
         if got != want:
-            case = smaller(case, lambda other: compare(program, other, unbuilt))
-            show(kind, number, case, *compare(program, case, unbuilt))
+            if got[0] != NO_END:
+                case = smaller(case, lambda other: compare(program, other, unbuilt))
+                got, want = compare(program, case, unbuilt)
+            show(kind, number, case, got, want)
             return False
         done += 1
         partly += got[2] == NOT_BUILT
@@ -620,8 +734,8 @@ def main():
         same = [try_kind(program, kind, FEW.get(kind, 200), 0, unbuilt) for kind in COUNTS]
     else:
         kind, *numbers = sys.argv[2:]
-        count, seed = [*map(int, numbers), *[COUNTS[kind], 0][len(numbers):]]
-        same = [try_kind(program, kind, count, seed, unbuilt)]
+        count, first = [*map(int, numbers), *[COUNTS[kind], 0][len(numbers):]]
+        same = [try_kind(program, kind, count, first, unbuilt)]
     return 0 if all(same) else 1
 
 
