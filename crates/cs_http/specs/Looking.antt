@@ -7,8 +7,9 @@
 --   look_by b f       what looking gives, by what framing finds
 --   within_limit s    what looking gives where no head ends and this is seen
 --   HasRoom l         where more bytes may come, there are fewer than a head may have
+--   IsPlaced n m l    looking at m bytes behind n finds the end of a head behind those n, and counts all
 --   look_of b         what looking at bytes gives: what framing finds, and at More what is seen
-use Rattle.std.specs.Prelude.{◌≡◌, ℕ, ◌<◌, ◌==◌, nat_lt, if◌then◌else◌, List, [], ◌∷◌, length, drop}
+use Rattle.std.specs.Prelude.{◌≡◌, ℕ, ◌+◌, ◌<◌, ◌≤◌, ◌==◌, nat_lt, if◌then◌else◌, List, [], ◌∷◌, length, drop}
 use Rattle.cs_base.specs.declared.limits.TheConstants.{MAX_HEAD_BYTES}
 use Rattle.cs_model.specs.Words.{is_filled}
 use Rattle.cs_model_serving.specs.declared.framed.Framed.{Framed}
@@ -64,3 +65,9 @@ abbrev pub HasRoom : Look → Type 0
 HasRoom (Head skip end) = Unit {0}
 HasRoom (More s) = s.count < MAX_HEAD_BYTES
 HasRoom TooLong = Unit {0}
+
+-- looking at m bytes behind n finds the end of a head behind those n, and counts all; of a head that is too long nothing is said
+abbrev pub IsPlaced : ℕ → ℕ → Look → Type 0
+IsPlaced n m (Head skip end) = (n < end) × (end ≤ n + m)
+IsPlaced n m (More s) = s.count ≡ n + m
+IsPlaced n m TooLong = Unit {0}
