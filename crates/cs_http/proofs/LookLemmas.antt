@@ -8,6 +8,7 @@
 --   look_stays        a head that is found, or is too long, stays so where more bytes come
 --   look_more         at More, what is seen is seen of these bytes
 --   seen_nothing      what is seen of no bytes
+--   placed_..         where a head ends, by how many bytes were seen
 use Rattle.std.proofs.Common.{◌≡◌, ℕ, ◌+◌, ◌<◌, ◌≤◌, ⊎_elim, Bool, true, false, cond, nat_lt, ◌==◌, List, [], ◌∷◌, ◌++◌, length, take, Option, Some, None, refl, sym, ap, ap₂, subst, ◌∙◌, arith, append_assoc, length-append, get_or, drop, suc, drop-cons, take-append-drop}
 use Rattle.std.proofs.lemmas.Bool.{cases_Bool}
 use Rattle.std.proofs.lemmas.List.{take_all}
@@ -23,7 +24,7 @@ use Rattle.cs_http.specs.declared.framing.Tail.TheVariants.{Empty, Return, Text}
 use Rattle.cs_http.specs.declared.framing.Seen.{Seen}
 use Rattle.cs_http.specs.declared.framing.Look.{Look}
 use Rattle.cs_http.specs.declared.framing.Look.TheVariants.{Head, More, TooLong}
-use Rattle.cs_http.specs.Looking.{open_line, tail_of, seen_of, IsSeen, look_by, look_of, within_limit}
+use Rattle.cs_http.specs.Looking.{open_line, tail_of, seen_of, IsSeen, look_by, look_of, within_limit, IsPlaced}
 use Rattle.cs_http.proofs.OpenLemmas.{feed_ends, byte_opens, size-open}
 use Rattle.cs_http.proofs.PushedLines.{push_begun, push_blank}
 
@@ -204,3 +205,14 @@ look_found before more i d l less is found =
     append_assoc (before ++ take i more) (get_or more i d ∷ []) (drop (suc i) more) ∙ append_assoc before (take i more) (get_or more i d ∷ drop (suc i) more)
     ∙ ap (λ bs. before ++ (take i more ++ bs)) (sym (drop-cons more i d less)) ∙ ap (λ bs. before ++ bs) (take-append-drop i more) in
     subst (λ b. l ≡ look_of b) all (look_stays ((before ++ take i more) ++ get_or more i d ∷ []) (drop (suc i) more) l is found)
+
+-- ---- places
+pub placed_next : (n : ℕ) (l : Look) → IsPlaced (n + 1) 0 l → IsPlaced n 1 l
+placed_next n (Head skip end) h = (omega (arith, h.0), omega (arith, h.1))
+placed_next n (More s) h = omega (arith, h)
+placed_next n TooLong h = tt
+
+pub placed_found : (n k i m : ℕ) (l : Look) → k ≡ n + i → i < m → IsFound l → IsPlaced k 1 l → IsPlaced n m l
+placed_found n k i m (Head skip end) e less found h = (omega (arith, e, h.0), omega (arith, e, less, h.1))
+placed_found n k i m (More s) e less found h = absurd found
+placed_found n k i m TooLong e less found h = tt

@@ -7,13 +7,14 @@
 --   look_by b f       what looking gives, by what framing finds
 --   within_limit s    what looking gives where no head ends and this is seen
 --   IsBelowLimit l    where more bytes may come, there are fewer than a head may have
+--   IsPlaced n m l    looking at m bytes behind n finds the end of a head behind those n, and counts all
 --   look_of b         what looking at bytes gives: what framing finds, and at More what is seen
-use Rattle.std.specs.Prelude.{◌≡◌, ℕ, ◌<◌, ◌==◌, nat_lt, if◌then◌else◌, List, [], ◌∷◌, length, drop}
+use Rattle.std.specs.Prelude.{◌≡◌, ℕ, ◌+◌, ◌<◌, ◌≤◌, ◌==◌, nat_lt, if◌then◌else◌, List, [], ◌∷◌, length, drop}
 use Rattle.cs_base.specs.declared.content.limits.TheConstants.{MAX_HEAD_BYTES}
 use Rattle.cs_model.specs.Words.{is_filled}
 use Rattle.cs_model_serving.specs.declared.framed.Framed.{Framed}
 use Rattle.cs_model_serving.specs.declared.framed.Framed.TheVariants as framed
-use Rattle.cs_model_serving.specs.Framing.{ended_lines, lines_len, front_lines, later_lines, frame}
+use Rattle.cs_model_serving.specs.Framing.{ended_lines, bytes_of, front_lines, later_lines, frame}
 use Rattle.cs_http.specs.declared.framing.Tail.{Tail}
 use Rattle.cs_http.specs.declared.framing.Tail.TheVariants.{Empty, Return, Text}
 use Rattle.cs_http.specs.declared.framing.Seen.{Seen}
@@ -22,7 +23,7 @@ use Rattle.cs_http.specs.declared.framing.Look.TheVariants.{Head, More, TooLong}
 
 -- the bytes behind the last LF; all bytes where there is none
 unfoldable pub open_line : List ℕ → List ℕ
-open_line b = drop (lines_len (ended_lines b)) b
+open_line b = drop (bytes_of (ended_lines b)) b
 
 -- what stands in such a line; two CRs are text
 abbrev pub tail_of : List ℕ → Tail
@@ -35,7 +36,7 @@ tail_of (b ∷ c ∷ bs) = Text
 unfoldable pub seen_of : List ℕ → Seen
 seen_of b = record {
   count = length b;
-  skip = lines_len (front_lines (ended_lines b));
+  skip = bytes_of (front_lines (ended_lines b));
   tail = tail_of (open_line b);
   begun = is_filled (later_lines (ended_lines b));
 }
@@ -64,3 +65,9 @@ abbrev pub IsBelowLimit : Look → Type 0
 IsBelowLimit (Head skip end) = Unit {0}
 IsBelowLimit (More s) = s.count < MAX_HEAD_BYTES
 IsBelowLimit TooLong = Unit {0}
+
+-- looking at m bytes behind n finds the end of a head behind those n, and counts all; of a head that is too long nothing is said
+abbrev pub IsPlaced : ℕ → ℕ → Look → Type 0
+IsPlaced n m (Head skip end) = (n < end) × (end ≤ n + m)
+IsPlaced n m (More s) = s.count ≡ n + m
+IsPlaced n m TooLong = Unit {0}

@@ -1,8 +1,8 @@
 //! Where a request head stands among bytes that aren't read yet, also where they come piece by piece.
-ghost use Rattle.std.specs.Prelude.{◌≡◌, ◌<◌, ◌++◌, ◌∷◌, [], ℕ, List, false};
+ghost use Rattle.std.specs.Prelude.{◌≡◌, ◌<◌, ◌++◌, ◌∷◌, [], ℕ, List, length, false};
 ghost use Rattle.cs_base.specs.declared.content.limits.TheConstants.{MAX_HEAD_BYTES as MOST};
 ghost use Rattle.cs_model_serving.specs.Framing.{frame, is_line_feed};
-ghost use Rattle.cs_http.specs.Looking.{look_of, tail_of, IsSeen, IsBelowLimit, within_limit};
+ghost use Rattle.cs_http.specs.Looking.{look_of, tail_of, IsSeen, IsBelowLimit, IsPlaced, within_limit};
 
 use cs_base::MAX_HEAD_BYTES;
 use cs_model_serving::Framed;
@@ -77,6 +77,7 @@ impl Seen {
         requires few { self.count < MOST }
 
         ensures found { (before : List ℕ) → IsSeen before self → result ≡ look_of (before ++ more.now) }
+        ensures placed { IsPlaced self.count (length more.now) result }
         ensures few { IsBelowLimit result }
     {
         let mut seen = self;
@@ -94,6 +95,7 @@ impl Seen {
         requires few { self.count < MOST }
 
         ensures found { (before : List ℕ) → IsSeen before self → result ≡ look_of (before ++ byte ∷ []) }
+        ensures placed { IsPlaced self.count 1 result }
         ensures few { IsBelowLimit result }
     {
         if byte == b'\n' {
@@ -108,6 +110,7 @@ impl Seen {
         requires few { self.count < MOST }
 
         ensures found { (before : List ℕ) → IsSeen before self → result ≡ look_of (before ++ 10 ∷ []) }
+        ensures placed { IsPlaced self.count 1 result }
         ensures few { IsBelowLimit result }
     {
         let count = self.count + 1;
@@ -137,6 +140,7 @@ impl Seen {
         requires other { is_line_feed byte ≡ false }
 
         ensures found { (before : List ℕ) → IsSeen before self → result ≡ look_of (before ++ byte ∷ []) }
+        ensures placed { IsPlaced self.count 1 result }
         ensures few { IsBelowLimit result }
     {
         within_limit(Seen {
@@ -163,6 +167,7 @@ impl Tail {
 // What looking gives where no head ends: more bytes may come while there are fewer than a head may have.
 fn within_limit(seen: Seen) -> Look
     ensures found { result ≡ within_limit seen }
+    ensures counted { IsPlaced seen.count 0 result }
     ensures few { IsBelowLimit result }
 {
     if seen.count < MAX_HEAD_BYTES {
