@@ -1,15 +1,15 @@
 #!/usr/bin/env bash
-# Times cs_block::decode against plain C++ on the same blocks. Run it by hand after `rt run` in crates/blocks_bench:
+# Times cs_block::decode against plain C++ on the same blocks. Run it by hand after `rt run` in crates/timed:
 #
 #     bench/blocks.sh [FOLDER]
 #
-# FOLDER (/tmp/blocks_bench) takes the C++ program. It needs python3 and g++. Both programs make their blocks from one
+# FOLDER (/tmp/timed_blocks) takes the C++ program. It needs python3 and g++. Both programs make their blocks from one
 # linear generator, and must print one number. A pass is the processor time of N + 1 passes without that of one, by N;
-# of nine such measurements the middle one is shown. The C++ is run in two forms: one that tests the five rules, and
-# one that tests nothing.
+# of nine such measurements the middle one is shown. The C++ is run in three forms: row by row with the five rules, row
+# by row with none, and column by column with none.
 set -eu
 here=$(cd "$(dirname "$0")/.." && pwd)
-dir=${1:-/tmp/blocks_bench}
+dir=${1:-/tmp/timed_blocks}
 mkdir -p "$dir"
 cd "$dir"
 
@@ -139,9 +139,34 @@ static void decode_unchecked(const vector<u8> &bytes, const Head &h, Cols &into)
     }
 }
 
+// ---- no rule, column by column
+static void decode_columns(const vector<u8> &bytes, const Head &h, Cols &into) {
+    const u8 *p = bytes.data(), *words = p + h.len - 7 * h.rows, *places = words + 2 * h.rows, *scores = places + 4 * h.rows;
+    const size_t first = into.size();
+    into.resize(first + h.rows);
+    u32 *docs = into.docs.data() + first, *numbers = into.words.data() + first, *positions = into.places.data() + first;
+    u32 doc = 0;
+    for (u32 i = 0; i < h.rows; i++) {
+        u32 n = *p++;
+        if (n >= 128) {
+            n -= 128;
+            for (int shift = 7;; shift += 7) {
+                const u32 b = *p++;
+                n |= b % 128 << shift;
+                if (b < 128) break;
+            }
+        }
+        doc += n;
+        docs[i] = doc;
+    }
+    for (u32 i = 0; i < h.rows; i++) numbers[i] = h.lo + be16(words + 2 * i);
+    for (u32 i = 0; i < h.rows; i++) positions[i] = be32(places + 4 * i);
+    std::copy(scores, scores + h.rows, into.scores.begin() + first);
+}
+
 int main(int, char **v) {
-    const bool checked = std::string(v[1]) == "checked";
-    const u32 rows = atoi(v[2]), stride = atoi(v[3]), times = atoi(v[4]);
+    const std::string form = v[1];
+    const u32 times = atoi(v[2]), rows = atoi(v[3]), stride = atoi(v[4]);
     Head head;
     u32 docs;
     const vector<u8> bytes = block(rows, stride, head, docs);
@@ -149,7 +174,8 @@ int main(int, char **v) {
     u64 sum = 0;
     for (u32 t = 0; t < times; t++) {
         into.resize(0);
-        if (checked) { if (decode(bytes, head, docs, into).n) return 1; }
+        if (form == "rules") { if (decode(bytes, head, docs, into).n) return 1; }
+        else if (form == "columns") decode_columns(bytes, head, into);
         else decode_unchecked(bytes, head, into);
         const size_t last = into.size() - 1;
         sum += into.size() + into.docs[last] + into.words[last] + into.places[last];
@@ -159,12 +185,12 @@ int main(int, char **v) {
 CPP
 g++ -O2 -std=c++17 -o blocks blocks.cpp
 
-python3 - "$here/crates/blocks_bench/out/blocks_bench" ./blocks <<'PY'
+python3 - "$here/crates/timed/out/timed" ./blocks <<'PY'
 import os, subprocess, sys
 ours, plain = sys.argv[1:]
 
 def run(program, rows, stride, times):
-    p = subprocess.Popen(program + [str(rows), str(stride), str(times)], stdout=subprocess.PIPE, text=True)
+    p = subprocess.Popen(program + [str(times), str(rows), str(stride)], stdout=subprocess.PIPE, text=True)
     out = p.stdout.read().split()
     _, status, used = os.wait4(p.pid, 0)
     assert status == 0, (program, rows, stride, status)
@@ -175,18 +201,19 @@ def each(program, rows, stride, n):
     more, many = run(program, rows, stride, n + 1)
     return out, more, (many - one) / n
 
-print(f'{"rows":>8} {"stride":>8} {"bytes":>8} {"ours ns":>9} {"C++ ns":>9} {"unchecked":>9} {"times":>6} {"times":>6}')
+print('nanoseconds a row; behind them how many times those of C++')
+print(f'{"rows":>8} {"stride":>8} {"bytes":>8} {"decode":>9} {"rules":>9} {"rows":>9} {"columns":>9} {"rules":>6} {"rows":>6} {"columns":>7}')
 for rows, stride, n in ((8192, 1, 8000), (8192, 100, 8000), (8192, 170, 8000), (64, 1, 800000)):
-    programs = ([ours], [plain, 'checked'], [plain, 'unchecked'])
-    times = ([], [], [])
+    programs = ([ours, 'decode'], [plain, 'rules'], [plain, 'rows'], [plain, 'columns'])
+    times = ([], [], [], [])
     for _ in range(9):
         outs = []
         for k, program in enumerate(programs):
             a, more, t = each(program, rows, stride, n)
             outs.append((a[0], more[0]))
             times[k].append(t)
-        assert outs[0] == outs[1] == outs[2], (rows, stride, outs)
-    bytes_ = run([plain, 'checked'], rows, stride, 1)[0][1]
-    mine, checked, unchecked = (sorted(t)[4] * 1e9 / rows for t in times)
-    print(f'{rows:8} {stride:8} {bytes_:>8} {mine:9.2f} {checked:9.2f} {unchecked:9.2f} {mine / checked:6.2f} {mine / unchecked:6.2f}', flush=True)
+        assert outs[0] == outs[1] == outs[2] == outs[3], (rows, stride, outs)
+    bytes_ = run([plain, 'rules'], rows, stride, 1)[0][1]
+    mine, *theirs = (sorted(t)[4] * 1e9 / rows for t in times)
+    print(f'{rows:8} {stride:8} {bytes_:>8} {mine:9.2f} ' + ' '.join(f'{t:9.2f}' for t in theirs) + ' ' + ' '.join(f'{mine / t:6.2f}' for t in theirs), flush=True)
 PY

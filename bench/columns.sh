@@ -1,15 +1,15 @@
 #!/usr/bin/env bash
 # Times the calls on columns of cs_meet, cs_rank and cs_tables against plain C++ on the same posts. Run it by hand
-# after `rt run` in crates/columns_bench:
+# after `rt run` in crates/timed:
 #
 #     bench/columns.sh [FOLDER]
 #
-# FOLDER (/tmp/columns_bench) takes the C++ program. It needs python3 and g++. Both programs make their posts from one
+# FOLDER (/tmp/timed_columns) takes the C++ program. It needs python3 and g++. Both programs make their posts from one
 # linear generator, and must print one number. A pass is the processor time of N + 1 passes without that of one, by N;
 # of five such measurements the middle one is shown. Where one list is much shorter, C++ too steps by doubling.
 set -eu
 here=$(cd "$(dirname "$0")/.." && pwd)
-dir=${1:-/tmp/columns_bench}
+dir=${1:-/tmp/timed_columns}
 mkdir -p "$dir"
 cd "$dir"
 
@@ -206,7 +206,7 @@ static u64 told(const vector<Scored> &v) { return v.empty() ? 0 : u64(v.size()) 
 
 int main(int, char **v) {
     const std::string call = v[1];
-    const u32 rows = atoi(v[2]), other = atoi(v[3]), times = atoi(v[4]);
+    const u32 times = atoi(v[2]), rows = atoi(v[3]), other = atoi(v[4]);
     const Cols a = posts(rows, 1), b = posts(other, 2);
     const vector<u32> docs = docs_of(b);
     const vector<Scored> base = score(b), all = ranked(rows, 3);
@@ -234,12 +234,12 @@ int main(int, char **v) {
 CPP
 g++ -O2 -std=c++17 -o columns columns.cpp
 
-python3 - "$here/crates/columns_bench/out/columns_bench" ./columns <<'PY'
+python3 - "$here/crates/timed/out/timed" ./columns <<'PY'
 import os, subprocess, sys
 ours, plain = sys.argv[1:]
 
 def run(program, call, rows, other, times):
-    p = subprocess.Popen([program, call, str(rows), str(other), str(times)], stdout=subprocess.PIPE, text=True)
+    p = subprocess.Popen([program, call, str(times), str(rows), str(other)], stdout=subprocess.PIPE, text=True)
     out = p.stdout.read().split()
     _, status, used = os.wait4(p.pid, 0)
     assert status == 0, (program, call, status)

@@ -1,16 +1,17 @@
 #!/usr/bin/env bash
-# Times reading a collection, its rows and its vocabulary against a plain C++ program. Run it by hand after `rt run` in
-# crates/reader_bench:
+# Times reading a collection, its rows, its vocabulary and the rows' numbers against a plain C++ program, which makes no
+# numbers. Run it by hand after `rt run` in crates/timed and in crates/complete:
 #
 #     bench/reader.sh COLLECTION [FOLDER]
 #
 # COLLECTION is what examples/catalogue.py wrote; it is timed as it is, and, beside C++, with all bytes beyond ASCII left
-# out, so that both programs find the same words. FOLDER (/tmp/reader_bench) takes inputs and programs. It needs g++,
-# python3 and /usr/bin/time. A pass is the processor time of three passes without that of one, halved; memory is the peak.
+# out, so that both programs find the same words. FOLDER (/tmp/timed_reader) takes inputs and programs. It needs g++ and
+# /usr/bin/time. A pass is the processor time of three passes without that of one, halved; memory is the peak of one.
+# `ask` is the whole process of `complete ask` over an empty script: it ends as soon as it is ready.
 set -eu
 here=$(cd "$(dirname "$0")/.." && pwd)
 collection=$(readlink -f "$1")
-dir=${2:-/tmp/reader_bench}
+dir=${2:-/tmp/timed_reader}
 mkdir -p "$dir"
 cd "$dir"
 LC_ALL=C tr -d '\200-\377' <"$collection" >ascii.txt
@@ -50,7 +51,7 @@ static string_view trim(string_view s) {
     return s;
 }
 int main(int, char **v) {
-    std::ifstream in(v[1], std::ios::binary);
+    std::ifstream in(v[3], std::ios::binary);
     std::stringstream all; all << in.rdbuf();
     const string bytes = all.str();
     all.str("");
@@ -110,19 +111,26 @@ int main(int, char **v) {
         for (auto w : met) vocabulary.push_back(*w);
         docs_n = docs.size(); rows_n = rows.size(); words_n = vocabulary.size();
     }
-    printf("%zu %zu %zu\n", docs_n, rows_n, words_n);
+    printf("%zu (%zu documents, %zu rows, %zu words)\n", docs_n + rows_n + words_n, docs_n, rows_n, words_n);
 }
 CPP
 g++ -O2 -std=c++17 -o plain plain.cpp
 
-reader="$here/crates/reader_bench/out/reader_bench"
+reader="$here/crates/timed/out/timed"
+ask="$here/crates/complete/out/complete"
+: >empty.txt
 # processor seconds of a run, and its peak memory in MiB
 run() { /usr/bin/time -f '%U %S %M' -o used "$@" >printed; awk '{printf "%.2f %.0f", $1 + $2, $3 / 1024}' used; }
-pass() {
-    one=$(run "$@" 1)
-    three=$(run "$@" 3)
-    echo "$(cat printed): $(awk "BEGIN{split(\"$one\",a,\" \");split(\"$three\",b,\" \");printf \"%.2f s a pass, peak %d MiB\", (b[1]-a[1])/2, a[2]}")"
+pass() { # PROGRAM FILE
+    one=$(run "$1" collection 1 "$2")
+    three=$(run "$1" collection 3 "$2")
+    echo "$(cat printed): $(awk "BEGIN{split(\"$one\",a,\" \");split(\"$three\",b,\" \");printf \"%.2f s a pass, whole process %.2f s, peak %d MiB\", (b[1]-a[1])/2, a[1], a[2]}")"
 }
-echo "ASCII, reader:  $(pass "$reader" ascii.txt)"
-echo "ASCII, C++:     $(pass ./plain ascii.txt)"
-echo "whole, reader:  $(pass "$reader" "$collection")"
+ready() { run "$ask" ask "$1" empty.txt | awk '{printf "whole process %.2f s, peak %d MiB\n", $1, $2}'; }
+for round in 1 2 3; do
+    echo "ASCII, C++:     $(pass ./plain ascii.txt)"
+    echo "ASCII, reader:  $(pass "$reader" ascii.txt)"
+    echo "ASCII, ask:     $(ready ascii.txt)"
+    echo "whole, reader:  $(pass "$reader" "$collection")"
+    echo "whole, ask:     $(ready "$collection")"
+done

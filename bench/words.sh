@@ -1,14 +1,14 @@
 #!/usr/bin/env bash
 # Times `words` of cs_text against independent programs, on 20 MB of ASCII prose and 20 MB of accented,
-# Greek and Cyrillic text. Run it by hand after `rt run` in crates/words_bench:
+# Greek and Cyrillic text. Run it by hand after `rt run` in crates/timed:
 #
 #     bench/words.sh [FOLDER]
 #
-# FOLDER (/tmp/words_bench) takes the inputs and the programs. It needs python3, g++, libicu-dev and /usr/bin/time.
+# FOLDER (/tmp/timed_words) takes the inputs and the programs. It needs python3, g++, libicu-dev and /usr/bin/time.
 # Each program is run for 1 and for 6 passes over the file; a pass is a fifth of the difference, in processor time.
 set -eu
 here=$(cd "$(dirname "$0")/.." && pwd)
-dir=${1:-/tmp/words_bench}
+dir=${1:-/tmp/timed_words}
 mkdir -p "$dir"
 cd "$dir"
 
@@ -49,12 +49,12 @@ cat > plain.cpp <<'CPP'
 #include <sstream>
 static bool part(unsigned char c) { return (c >= 'a' && c <= 'z') || (c >= '0' && c <= '9') || (c >= 'A' && c <= 'Z'); }
 struct Word { char *at; size_t len; };
-int main(int n, char **v) {
-    std::ifstream in(v[1], std::ios::binary);
+int main(int, char **v) {
+    std::ifstream in(v[3], std::ios::binary);
     std::stringstream all; all << in.rdbuf();
     const std::string text = all.str();
     all.str("");
-    const bool copy = n > 3 && !strcmp(v[3], "copy");
+    const bool copy = !strcmp(v[1], "copies");
     size_t count = 0;
     for (int t = atoi(v[2]); t > 0; t--) {
         std::string low(text);
@@ -96,7 +96,7 @@ static bool part(UChar32 c) {
     return (U_GET_GC_MASK(c) & (U_GC_L_MASK | U_GC_M_MASK | U_GC_N_MASK)) != 0;
 }
 int main(int, char **v) {
-    std::ifstream in(v[1], std::ios::binary);
+    std::ifstream in(v[3], std::ios::binary);
     std::stringstream all; all << in.rdbuf();
     const std::string text = all.str();
     all.str("");
@@ -136,13 +136,13 @@ int main(int, char **v) {
 CPP
 g++ -O2 -o plain plain.cpp
 g++ -O2 -o icu icu.cpp -licuuc
-ours=$here/crates/words_bench/out/words_bench
+ours=$here/crates/timed/out/timed
 
-timed() { # NAME FILE COMMAND..
+timed() { # NAME FILE PROGRAM WHAT
     local name=$1 file=$2; shift 2
-    /usr/bin/time -f '%U %S' -o one "$1" "$file" 1 "${@:2}" > count
-    /usr/bin/time -f '%U %S' -o six "$1" "$file" 6 "${@:2}" > /dev/null
-    /usr/bin/time -f '%M' -o peak "$1" "$file" 1 "${@:2}" > /dev/null
+    /usr/bin/time -f '%U %S' -o one "$@" 1 "$file" > count
+    /usr/bin/time -f '%U %S' -o six "$@" 6 "$file" > /dev/null
+    /usr/bin/time -f '%M' -o peak "$@" 1 "$file" > /dev/null
     python3 - "$name" "$file" "$(cat one)" "$(cat six)" "$(cat peak)" "$(cat count)" <<'PY'
 import os, sys
 name, file, one, six, peak, count = sys.argv[1:]
@@ -153,9 +153,9 @@ print(f'{file:10} {name:28} {int(count):9} words {each * 1000:8.0f} ms {size / e
 PY
 }
 for round in 1 2 3; do
-    timed 'words' ascii.txt "$ours"
-    timed 'C++, slices of one copy' ascii.txt ./plain
-    timed 'C++, each word copied' ascii.txt ./plain copy
-    timed 'words' other.txt "$ours"
-    timed 'ICU' other.txt ./icu
+    timed 'words' ascii.txt "$ours" words
+    timed 'C++, slices of one copy' ascii.txt ./plain slices
+    timed 'C++, each word copied' ascii.txt ./plain copies
+    timed 'words' other.txt "$ours" words
+    timed 'ICU' other.txt ./icu words
 done

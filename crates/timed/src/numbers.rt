@@ -12,12 +12,18 @@ const SCORES: u32 = 1_000;
 
 /// Numbers of 31 bits: the upper ones of a state x that becomes x * 6364136223846793005 + 1442695040888963407 modulo 2^64.
 #[derive(Drop)]
-struct Numbers {
+pub(crate) struct Numbers {
     state: u64,
 }
 
 impl Numbers {
-    fn next(&mut self) -> u32 {
+    /// Those behind this state.
+    pub(crate) fn from_seed(state: u64) -> Numbers {
+        Numbers { state }
+    }
+
+    /// The next one.
+    pub(crate) fn next(&mut self) -> u32 {
         self.state = self
             .state
             .wrapping_mul(6_364_136_223_846_793_005)
@@ -28,7 +34,7 @@ impl Numbers {
 
 /// So many posts, by document, position and word.
 pub(crate) fn posts(alloc: Global, count: u32, seed: u64) -> Result<Cols, Memory> {
-    let mut numbers = Numbers { state: seed };
+    let mut numbers = Numbers::from_seed(seed);
     let mut posts = Cols::new(alloc);
     let mut post = Post {
         doc: 0,
@@ -60,7 +66,7 @@ fn next_post(last: Post, number: u32, stride: u32) -> Post {
 
 /// So many documents, from 0 on, with scores.
 pub(crate) fn ranked(alloc: Global, count: u32, seed: u64) -> Result<Vec<Scored>, Memory> {
-    let mut numbers = Numbers { state: seed };
+    let mut numbers = Numbers::from_seed(seed);
     let mut ranked = Vec::with_capacity(alloc, count as usize)?;
     for doc in 0..count {
         ranked.push(Scored {

@@ -1,7 +1,7 @@
-//! The calls that are timed.
-ghost use Rattle.columns_bench.specs.Fit.{IsFit};
+//! The calls on columns.
+ghost use Rattle.timed.specs.Fit.{IsFit};
 
-use crate::input::Inputs;
+use crate::input::{Inputs, made_inputs};
 use cs_base::{Base, Memory, Scored, Seq};
 use cs_cols::Cols;
 use cs_meet::{docs_of, drop_docs, follow, keep_docs, near, unite};
@@ -14,33 +14,54 @@ const CUT: u32 = 10;
 /// How many hits are wanted at most, behind those that are left out.
 const SHOWN: u32 = 100;
 
-/// A call with its inputs.
+// A call with its inputs.
 #[derive(Clone, Copy)]
-pub(crate) enum Call {
-    /// The first posts in documents of the others.
+enum Call {
+    // The first posts in documents of the others.
     KeepDocs,
-    /// The other posts behind one of the first.
+    // The other posts behind one of the first.
     Follow,
-    /// The other posts near one of the first.
+    // The other posts near one of the first.
     Near,
-    /// All posts.
+    // All posts.
     Unite,
-    /// The documents of the first posts.
+    // The documents of the first posts.
     DocsOf,
-    /// The documents of the other posts without those of the first.
+    // The documents of the other posts without those of the first.
     DropDocs,
-    /// The words of the first posts.
+    // The words of the first posts.
     Completions,
-    /// The scores of the first posts' documents.
+    // The scores of the first posts' documents.
     Score,
-    /// The same, over those of the other posts.
+    // The same, over those of the other posts.
     ScoreOver,
-    /// The best of as many documents as there are first posts: as many as there are other posts, and the last 100 of these.
+    // The best of as many documents as there are first posts: as many as there are other posts, and the last 100 of these.
     Top,
 }
 
-/// The call of this name.
-pub(crate) fn call_named(name: &str) -> Option<Call> {
+/// Runs the call of this name so often on so many posts and others: the sum of what the passes tell, if there is such a
+/// call and the posts are fit for it.
+pub(crate) fn called(
+    alloc: Global,
+    name: &str,
+    rows: u32,
+    other: u32,
+    times: u32,
+) -> Result<Option<u64>, Memory> {
+    let Some(call) = call_named(name) else {
+        return Ok(None);
+    };
+    let Some(inputs) = made_inputs(alloc, rows, other)? else {
+        return Ok(None);
+    };
+    let mut sum: u64 = 0;
+    for _ in 0..times {
+        sum = sum.wrapping_add(pass(alloc, call, &inputs)?);
+    }
+    Ok(Some(sum))
+}
+
+fn call_named(name: &str) -> Option<Call> {
     match name {
         "keep_docs" => Some(Call::KeepDocs),
         "follow" => Some(Call::Follow),
@@ -56,8 +77,8 @@ pub(crate) fn call_named(name: &str) -> Option<Call> {
     }
 }
 
-/// Runs the call once: a number that depends on its answer.
-pub(crate) fn pass(alloc: Global, call: Call, inputs: &Inputs) -> Result<u64, Memory>
+// Runs the call once: a number that depends on its answer.
+fn pass(alloc: Global, call: Call, inputs: &Inputs) -> Result<u64, Memory>
     requires { IsFit inputs.now }
 {
     let a = &inputs.rows;

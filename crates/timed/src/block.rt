@@ -1,8 +1,11 @@
-//! A linear generator, and the block that it makes.
+//! A block that is decoded.
 ghost use Rattle.std.specs.Prelude.{◌≡◌, true, length};
 ghost use Rattle.cs_model_index.specs.Blocks.{IsShaped};
 
-use cs_base::{BlockHead, Memory};
+use crate::numbers::Numbers;
+use cs_base::{BlockHead, MAX_WORDS, Memory};
+use cs_block::{BlockFault, decode};
+use cs_cols::Cols;
 use cs_gaps::put_gap;
 use std::alloc::Global;
 
@@ -11,18 +14,40 @@ const WORDS: u32 = 200;
 
 /// The bytes of a block with its head, and how many documents its collection has.
 #[derive(Drop)]
-pub(crate) struct Block {
-    /// The bytes.
-    pub(crate) bytes: Vec<u8>,
-    /// The head.
-    pub(crate) head: BlockHead,
-    /// Documents have numbers below it.
-    pub(crate) docs: u32,
+struct Block {
+    bytes: Vec<u8>,
+    head: BlockHead,
+    docs: u32,
+}
+
+/// Decodes a plain block of so many rows, whose documents are 0, `stride` or twice `stride` apart, so often: a number
+/// that depends on the last row of each pass.
+pub(crate) fn decoded(
+    alloc: Global,
+    rows: u32,
+    stride: u32,
+    times: u32,
+) -> Result<Option<u64>, Memory> {
+    let block = made_block(alloc, rows, stride)?;
+    if !block.is_shaped() {
+        return Ok(None);
+    }
+    let mut into = Cols::new(alloc);
+    let mut sum: u64 = 0;
+    for _ in 0..times {
+        into.truncate(0);
+        match decode(block.bytes.as_slice(), &block.head, block.docs, &mut into) {
+            Ok(()) => sum = sum.wrapping_add(told(&into)),
+            Err(BlockFault::Rule { .. }) => return Ok(None),
+            Err(BlockFault::Memory) => return Err(Memory),
+        }
+    }
+    Ok(Some(sum))
 }
 
 impl Block {
-    /// Whether the head goes with the bytes.
-    pub(crate) fn is_shaped(&self) -> bool
+    // Whether the head goes with the bytes.
+    fn is_shaped(&self) -> bool
         ensures { result ≡ true → IsShaped self.now.head (length self.now.bytes.items) }
     {
         let head = self.head;
@@ -30,30 +55,13 @@ impl Block {
             && head.words <= head.rows
             && 8 * u64::from(head.rows) <= u64::from(head.len)
             && u64::from(head.len) <= 12 * u64::from(head.rows)
-            && u64::from(head.lo) + u64::from(head.words) <= 1 << 22
+            && head.lo as usize + head.words as usize <= MAX_WORDS
     }
 }
 
-/// Numbers of 31 bits: the upper ones of a state x that becomes x * 6364136223846793005 + 1442695040888963407 modulo 2^64.
-#[derive(Drop)]
-struct Numbers {
-    state: u64,
-}
-
-impl Numbers {
-    fn next(&mut self) -> u32 {
-        self.state = self
-            .state
-            .wrapping_mul(6_364_136_223_846_793_005)
-            .wrapping_add(1_442_695_040_888_963_407);
-        (self.state >> 33) as u32
-    }
-}
-
-/// A plain block of so many rows, whose documents are 0, `stride` or twice `stride` apart.
-pub(crate) fn made_block(alloc: Global, rows: u32, stride: u32) -> Result<Block, Memory> {
+fn made_block(alloc: Global, rows: u32, stride: u32) -> Result<Block, Memory> {
     let words = rows.clamp(1, WORDS);
-    let mut numbers = Numbers { state: 1 };
+    let mut numbers = Numbers::from_seed(1);
     let mut bytes = Vec::new(alloc);
     let mut locals = Vec::new(alloc);
     let mut places = Vec::new(alloc);
@@ -87,4 +95,16 @@ pub(crate) fn made_block(alloc: Global, rows: u32, stride: u32) -> Result<Block,
         head,
         docs: doc.saturating_add(1),
     })
+}
+
+// A number of how many posts there are and the last one.
+fn told(posts: &Cols) -> u64 {
+    if posts.len() == 0 {
+        return 0;
+    }
+    let last = posts.get(posts.len() - 1);
+    (posts.len() as u64)
+        .wrapping_add(u64::from(last.doc))
+        .wrapping_add(u64::from(last.word))
+        .wrapping_add(u64::from(last.pos))
 }

@@ -1,0 +1,86 @@
+//! What the calls on columns are run on, and the test that they may be.
+ghost use Rattle.std.specs.Prelude.{◌≡◌, true, IfOk, IfSome};
+ghost use Rattle.timed.specs.Fit.{IsFit, ArePosts, AreListed};
+
+use crate::numbers::{posts, ranked};
+use cs_base::{Base, MAX_DOCS, MAX_WORDS, Memory, Scored, Seq};
+use cs_cols::Cols;
+use cs_meet::docs_of;
+use cs_rank::score;
+use std::alloc::Global;
+
+/// What the calls are run on.
+#[derive(Drop)]
+pub(crate) struct Inputs {
+    /// The first posts.
+    pub(crate) rows: Cols,
+    /// The other posts.
+    pub(crate) other: Cols,
+    /// The documents of the other posts.
+    pub(crate) docs: Vec<u32>,
+    /// The same with their scores.
+    pub(crate) listed: Seq<Scored>,
+    /// The same as a base.
+    pub(crate) base: Base,
+    /// As many documents as there are first posts, with scores of their own.
+    pub(crate) ranked: Vec<Scored>,
+    /// How many other posts there are.
+    pub(crate) best: u32,
+}
+
+/// The inputs of so many posts.
+pub(crate) fn made_inputs(alloc: Global, rows: u32, other: u32) -> Result<Option<Inputs>, Memory>
+    ensures { IfOk result (λ found. IfSome found IsFit) }
+{
+    let a = posts(alloc, rows, 1)?;
+    let b = posts(alloc, other, 2)?;
+    if !are_posts(&a) || !are_posts(&b) {
+        return Ok(None);
+    }
+    let docs = docs_of(alloc, &b)?;
+    let listed = score(alloc, &Base::All, &b)?;
+    let base = score(alloc, &Base::All, &b)?;
+    if !are_listed(listed.as_slice()) || !are_listed(base.as_slice()) {
+        return Ok(None);
+    }
+    Ok(Some(Inputs {
+        rows: a,
+        other: b,
+        docs,
+        listed,
+        base: Base::Listed(base),
+        ranked: ranked(alloc, rows, 3)?,
+        best: other,
+    }))
+}
+
+// Whether the posts strictly ascend, and their documents and words are in the limits.
+fn are_posts(posts: &Cols) -> bool
+    ensures { result ≡ true → ArePosts posts.now.posts }
+{
+    for i in 0..posts.len() {
+        let post = posts.get(i);
+        if post.doc as usize >= MAX_DOCS || post.word as usize >= MAX_WORDS {
+            return false;
+        }
+        if i > 0 && !posts.get(i - 1).is_before(post) {
+            return false;
+        }
+    }
+    true
+}
+
+// Whether the scored documents strictly ascend, and no score is above what a base keeps.
+fn are_listed(listed: &[Scored]) -> bool
+    ensures { result ≡ true → AreListed listed.now }
+{
+    for i in 0..listed.len() {
+        if listed[i].score > 1 << 20 {
+            return false;
+        }
+        if i > 0 && listed[i - 1].doc >= listed[i].doc {
+            return false;
+        }
+    }
+    true
+}
