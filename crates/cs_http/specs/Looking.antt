@@ -14,7 +14,7 @@ use Rattle.cs_base.specs.declared.content.limits.TheConstants.{MAX_HEAD_BYTES}
 use Rattle.cs_model.specs.Words.{is_filled}
 use Rattle.cs_model_serving.specs.declared.framed.Framed.{Framed}
 use Rattle.cs_model_serving.specs.declared.framed.Framed.TheVariants as framed
-use Rattle.cs_model_serving.specs.Framing.{ended_lines, bytes_of, front_lines, later_lines, frame}
+use Rattle.cs_model_serving.specs.Framing.{ended_lines, lines_len, front_lines, later_lines, frame}
 use Rattle.cs_http.specs.declared.framing.Tail.{Tail}
 use Rattle.cs_http.specs.declared.framing.Tail.TheVariants.{Empty, Return, Text}
 use Rattle.cs_http.specs.declared.framing.Seen.{Seen}
@@ -23,7 +23,7 @@ use Rattle.cs_http.specs.declared.framing.Look.TheVariants.{Head, More, TooLong}
 
 -- the bytes behind the last LF; all bytes where there is none
 unfoldable pub open_line : List ℕ → List ℕ
-open_line b = drop (bytes_of (ended_lines b)) b
+open_line b = drop (lines_len (ended_lines b)) b
 
 -- what stands in such a line; two CRs are text
 abbrev pub tail_of : List ℕ → Tail
@@ -36,7 +36,7 @@ tail_of (b ∷ c ∷ bs) = Text
 unfoldable pub seen_of : List ℕ → Seen
 seen_of b = record {
   count = length b;
-  skip = bytes_of (front_lines (ended_lines b));
+  skip = lines_len (front_lines (ended_lines b));
   tail = tail_of (open_line b);
   begun = is_filled (later_lines (ended_lines b));
 }
