@@ -3,6 +3,9 @@ pub mod DueLemmas
 pub mod EntryExamples
 pub mod EntryLemmas
 pub mod FirstParts
+pub mod InnerExamples
+pub mod InnerLemmas
+pub mod InnerPieces
 pub mod KeptExamples
 pub mod KeptListLemmas
 pub mod ListsLemmas

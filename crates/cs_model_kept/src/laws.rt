@@ -1,5 +1,6 @@
 //! Laws about what is kept, and the limits as they are promised. Each is the contract of a function that does nothing.
 ghost use Rattle.std.specs.Prelude.{◌≡◌, ◌^◌};
+ghost use Rattle.cs_model_kept.specs.InnerQueries.{InnerQueriesAreOfGrammar};
 ghost use Rattle.cs_model_kept.specs.KeptLaws.{HitsAreOver, BasesListHits, EntriesExtend, EntriesAreSteps, EntriesNarrow};
 ghost use Rattle.cs_model_kept.specs.KeptListLaws.{FirstPartsAreOfGrammar, FrontsStayGood, HeldAreOwn, ListsStayGood, PlansServe, ShorterAreOfGrammar};
 
@@ -43,6 +44,11 @@ pub fn lists_stay_good()
 pub fn keys_are_of_queries()
     ensures shorter { ShorterAreOfGrammar }
     ensures first_parts { FirstPartsAreOfGrammar }
+{}
+
+/// A query that stands in a bracket of a query of the grammar is one itself: its text could be typed alone.
+pub fn inner_queries_are_of_grammar()
+    ensures { InnerQueriesAreOfGrammar }
 {}
 
 /// Over a list that is good for a corpus, a plan goes on from the entry of the query that it speaks of.
