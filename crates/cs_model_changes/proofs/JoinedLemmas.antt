@@ -1,0 +1,159 @@
+-- The corpus of documents and further ones is their two corpora joined.
+--
+--   any_listed          some member of a listing passes a test where some member of the set does
+--   numbered            documents and further ones, with their numbers
+--   rows_apart          the rows of documents and further ones, before they are listed
+--   joined_are_corpora  the law
+use Rattle.std.proofs.Common.{◌≡◌, ℕ, suc, ◌+◌, ◌||◌, Bool, true, false, true≢false, List, [], ◌∷◌, ◌++◌, map, length, refl, sym, ◌∙◌, ap, arith}
+use Rattle.std.specs.Prelude.{flat_map}
+use Rattle.std.specs.List.{list_any, enumerate_from}
+use Rattle.std.specs.Ordering.{nat_cmp, eq_by_cmp}
+use Rattle.std.specs.Cmp.{IsTotalOrder, Equal-is, tied_itself}
+use Rattle.std.specs.declared.cmp.Ordering.{Ordering}
+use Rattle.std.specs.FinMap.{IsAntisymmetric, entries, from_entries, len, len-entries}
+use Rattle.std.proofs.lemmas.List.{map-append, length-map}
+use Rattle.std.proofs.lemmas.List.Folds.{list_any-append}
+use Rattle.std.proofs.lemmas.List.FromFn.{length-enumerate_from}
+use Rattle.std.proofs.lemmas.Grind.{flat_map-append}
+use Rattle.cs_base.proofs.MembersLemmas.{members-alike, is_member-listed}
+use Rattle.cs_base.proofs.OrdersLemmas.{by_row_total, by_row_exact}
+use Rattle.cs_base.specs.content.Members.{members_in}
+use Rattle.cs_base.specs.content.Orders.{by_row}
+use Rattle.cs_base.specs.declared.content.doc.Doc.{Doc}
+use Rattle.cs_base.specs.declared.content.doc.Row.{Row}
+use Rattle.cs_base.specs.declared.content.scores.TheConstants.{BEHIND_TITLE}
+use Rattle.cs_model.specs.Collection.{facet_words}
+use Rattle.cs_model.specs.Corpus.{corpus_of, doc_rows, facet_rows, placed, rows_of, text_rows, title_of, title_rows, titles_of}
+use Rattle.cs_model.specs.Scores.{SCORES}
+use Rattle.cs_model.specs.Words.{words}
+use Rattle.cs_model_index.proofs.ImageLemmas.{titles_listed}
+use Rattle.cs_model_changes.specs.Joined.{joined, later_row, later_title}
+
+-- ---- listings
+or_right : (a b : Bool) → b ≡ true → (a || b) ≡ true
+or_right true b h = refl
+or_right false b h = h
+
+both_ways : (a b : Bool) → (a ≡ true → b ≡ true) → (b ≡ true → a ≡ true) → a ≡ b
+both_ways true b h k = sym (h refl)
+both_ways false true h k = k refl
+both_ways false false h k = refl
+
+pub any_through : {X Y : Type 0} (t : Y → Bool) (f : X → Y) (xs : List X) → list_any t (map f xs) ≡ list_any (λ x. t (f x)) xs
+any_through t f [] = refl
+any_through t f (x ∷ xs) = ap (λ b. t (f x) || b) (any_through t f xs)
+
+module _ {X : Type 0} (R : X → X → Ordering) (o : IsTotalOrder R) (exact : IsAntisymmetric R) where
+  any_at : (t : X → Bool) (x : X) (ys : List X) → t x ≡ true → list_any (eq_by_cmp R x) ys ≡ true → list_any t ys ≡ true
+  any_at t x [] e m = absurd (true≢false (sym m))
+  any_at t x (y ∷ ys) e m =
+      elim (eq_by_cmp R x y) as (λ s. eq_by_cmp R x y ≡ s → (s || list_any (eq_by_cmp R x) ys) ≡ true → (t y || list_any t ys) ≡ true) [
+        | true ↦ λ s _. ap (λ z. t z || list_any t ys) (sym (exact x y ((Equal-is (R x y)).0 s))) ∙ ap (λ b. b || list_any t ys) e
+        | false ↦ λ s r. or_right (t y) _ (any_at t x ys e r)
+      ] refl m
+
+  any_among : (t : X → Bool) (xs ys : List X) → ((q : X) → list_any (eq_by_cmp R q) xs ≡ true → list_any (eq_by_cmp R q) ys ≡ true) → list_any t xs ≡ true → list_any t ys ≡ true
+  any_among t [] ys h e = absurd (true≢false (sym e))
+  any_among t (x ∷ xs) ys h e =
+      elim (t x) as (λ s. t x ≡ s → (s || list_any t xs) ≡ true → list_any t ys ≡ true) [
+        | true ↦ λ s _. any_at t x ys s (h x (ap (λ b. b || list_any (eq_by_cmp R x) xs) ((Equal-is (R x x)).1 (tied_itself o x))))
+        | false ↦ λ s r. any_among t xs ys (λ q m. h q (or_right (eq_by_cmp R q x) _ m)) r
+      ] refl e
+
+  pub any_listed : (t : X → Bool) (xs : List X) → list_any t (members_in R xs) ≡ list_any t xs
+  any_listed t xs =
+      both_ways _ _
+      (any_among t (members_in R xs) xs (λ q m. sym (is_member-listed R o xs q) ∙ m))
+      (any_among t xs (members_in R xs) (λ q m. is_member-listed R o xs q ∙ m))
+
+-- ---- numbers
+pub numbered : {X : Type 0} (a : ℕ) (xs ys : List X) → enumerate_from a (xs ++ ys) ≡ enumerate_from a xs ++ enumerate_from (a + length xs) ys
+numbered a [] ys = ap (λ n. enumerate_from n ys) (let e : a ≡ a + 0 = omega arith in e)
+numbered a (x ∷ xs) ys =
+    ap (λ l. (a, x) ∷ l) (numbered (a + 1) xs ys
+    ∙ ap (λ n. enumerate_from (a + 1) xs ++ enumerate_from n ys) (let e : a + 1 + length xs ≡ a + suc (length xs) = omega arith in e))
+
+further : (a b n : ℕ) → b ≡ a + n → a + 1 + n ≡ b + 1
+further a b n h = omega (arith, h)
+
+later_titles : (a n : ℕ) (ts : List (List ℕ)) → map (later_title n) (enumerate_from a ts) ≡ enumerate_from (a + n) ts
+later_titles a n [] = refl
+later_titles a n (t ∷ ts) = ap (λ l. (a + n, t) ∷ l) (later_titles (a + 1) n ts ∙ ap (λ m. enumerate_from m ts) (further a (a + n) n refl))
+
+-- ---- rows
+later_placed : (n d score : ℕ) (ps : List (ℕ × List ℕ)) → map (later_row n) (map (placed d score) ps) ≡ map (placed (d + n) score) ps
+later_placed n d score [] = refl
+later_placed n d score (p ∷ ps) = ap (λ l. placed (d + n) score p ∷ l) (later_placed n d score ps)
+
+later_facets : (n d score : ℕ) (ws : List (List ℕ)) → map (later_row n) (map (λ w. placed d score (0, w)) ws) ≡ map (λ w. placed (d + n) score (0, w)) ws
+later_facets n d score [] = refl
+later_facets n d score (w ∷ ws) = ap (λ l. placed (d + n) score (0, w) ∷ l) (later_facets n d score ws)
+
+later_doc : (n d : ℕ) (doc : Doc) → map (later_row n) (doc_rows SCORES (d, doc)) ≡ doc_rows SCORES (d + n, doc)
+later_doc n d doc =
+    let facets = facet_rows SCORES d doc in
+    let titles = title_rows SCORES d doc in
+    let texts = text_rows SCORES d doc in
+    map-append (later_row n) (facets ++ titles) texts
+    ∙ ap (λ l. l ++ map (later_row n) texts)
+    (map-append (later_row n) facets titles
+    ∙ ap (λ l. l ++ map (later_row n) titles) (later_facets n d SCORES.facet (facet_words doc.facets))
+    ∙ ap (λ l. facet_rows SCORES (d + n) doc ++ l) (later_placed n d SCORES.title (enumerate_from 1 (words doc.title))))
+    ∙ ap (λ l. (facet_rows SCORES (d + n) doc ++ title_rows SCORES (d + n) doc) ++ l)
+    (later_placed n d SCORES.text (enumerate_from (length (words doc.title) + BEHIND_TITLE) (words doc.text)))
+
+abbrev pub all_rows : ℕ → List Doc → List Row
+all_rows a docs = flat_map (doc_rows SCORES) (enumerate_from a docs)
+
+later_rows : (a n : ℕ) (docs : List Doc) → map (later_row n) (all_rows a docs) ≡ all_rows (a + n) docs
+later_rows a n [] = refl
+later_rows a n (d ∷ ds) =
+    map-append (later_row n) (doc_rows SCORES (a, d)) (all_rows (a + 1) ds)
+    ∙ ap (λ l. l ++ map (later_row n) (all_rows (a + 1) ds)) (later_doc n a d)
+    ∙ ap (λ l. doc_rows SCORES (a + n, d) ++ l) (later_rows (a + 1) n ds ∙ ap (λ m. all_rows m ds) (further a (a + n) n refl))
+
+pub rows_apart : (ds es : List Doc) → all_rows 0 (ds ++ es) ≡ all_rows 0 ds ++ all_rows (length ds) es
+rows_apart ds es =
+    ap (flat_map (doc_rows SCORES)) (numbered 0 ds es)
+    ∙ flat_map-append (doc_rows SCORES) (enumerate_from 0 ds) (enumerate_from (0 + length ds) es)
+    ∙ ap (λ n. all_rows 0 ds ++ all_rows n es) (let e : 0 + length ds ≡ length ds = omega arith in e)
+
+-- ---- the law
+count_titles : (ds : List Doc) → len (titles_of ds) ≡ length ds
+count_titles ds =
+    len-entries (titles_of ds) ∙ ap length (titles_listed (map title_of ds)) ∙ length-enumerate_from 0 (map title_of ds) ∙ length-map ds title_of
+
+joined_titles : (ds es : List Doc) → titles_of (ds ++ es) ≡ (joined (corpus_of ds) (corpus_of es)).titles
+joined_titles ds es =
+    let ts = map title_of ds in
+    let us = map title_of es in
+    let n = len (titles_of ds) in
+    let number : 0 + length ts ≡ 0 + n = ap (λ m. 0 + m) (length-map ds title_of ∙ sym (count_titles ds)) in
+    ap (λ es. from_entries {R = nat_cmp} es)
+    (ap (enumerate_from 0) (map-append title_of ds es)
+    ∙ numbered 0 ts us
+    ∙ ap (λ l. l ++ enumerate_from (0 + length ts) us) (sym (titles_listed ts))
+    ∙ ap (λ l. entries (titles_of ds) ++ l)
+    (ap (λ m. enumerate_from m us) number ∙ sym (later_titles 0 n us) ∙ ap (map (later_title n)) (sym (titles_listed us))))
+
+joined_rows : (ds es : List Doc) → rows_of (ds ++ es) ≡ (joined (corpus_of ds) (corpus_of es)).rows
+joined_rows ds es =
+    let n = len (titles_of ds) in
+    let before : List Row = all_rows 0 ds in
+    let later : List Row = all_rows 0 es in
+    let behind : all_rows (length ds) es ≡ map (later_row n) later =
+    ap (λ m. all_rows m es) (let e : length ds ≡ 0 + n = omega (arith, count_titles ds) in e) ∙ sym (later_rows 0 n es) in
+    members-alike by_row by_row_total by_row_exact (all_rows 0 (ds ++ es)) (rows_of ds ++ map (later_row n) (rows_of es)) (λ q.
+    let is : Row → Bool = eq_by_cmp by_row q in
+    ap (list_any is) (rows_apart ds es)
+    ∙ list_any-append is before (all_rows (length ds) es)
+    ∙ ap (λ b. b || list_any is (all_rows (length ds) es)) (sym (is_member-listed by_row by_row_total before q))
+    ∙ ap (λ b. list_any is (rows_of ds) || b)
+    (ap (list_any is) behind
+    ∙ any_through is (later_row n) later
+    ∙ sym (any_listed by_row by_row_total by_row_exact (λ r. is (later_row n r)) later)
+    ∙ sym (any_through is (later_row n) (rows_of es)))
+    ∙ sym (list_any-append is (rows_of ds) (map (later_row n) (rows_of es))))
+
+pub joined_are_corpora : (ds es : List Doc) → corpus_of (ds ++ es) ≡ joined (corpus_of ds) (corpus_of es)
+joined_are_corpora ds es = λ i. record { titles = joined_titles ds es i; rows = joined_rows ds es i }
