@@ -3,6 +3,7 @@ pub mod DueLemmas
 pub mod EntryExamples
 pub mod EntryLemmas
 pub mod FirstParts
+pub mod HeldLemmas
 pub mod KeptExamples
 pub mod KeptListLemmas
 pub mod ListsLemmas

@@ -5,7 +5,8 @@
 --
 -- Parts are those of a query with their rows, as `parts_of k q` gives them.
 --
---   Entry                     a base, and rows within it
+--   EntryOf R                 a base, and rows within it, each told by an R
+--   Entry                     the same with the rows of a corpus
 --   scored_hits k ps          the hits of parts with their scores, by document; none where there is no hit
 --   base_of k ps              the same as a base, which is All where there is no part
 --   ends_positive ps          whether the last part is positive; not so without a part
@@ -25,7 +26,7 @@
 --   nothing_kept              the entry of no part
 --   extended k positive e p   the entry of a query and one part more, by the query's own entry
 --   steps k ps                the entry of parts, taken one after the other, with whether the last one is positive
---   entry_at ws b posts       the entry whose rows are told by the numbers of their words
+--   entry_at ws e             the entry whose rows the posts of e stand for
 use Rattle.std.specs.Prelude.{ℕ, ◌+◌, ◌-◌, ◌==◌, Bool, true, false, not, if◌then◌else◌, List, [], ◌∷◌, map, filter, fold, take, length, find}
 use Rattle.std.specs.List.{list_any}
 use Rattle.std.specs.Option.{option_map, unwrap_or}
@@ -40,11 +41,15 @@ use Rattle.cs_model.specs.Answers.{PartRows, in_doc, docs_of, greatest_score, hi
 use Rattle.cs_model.specs.Corpus.{Corpus}
 use Rattle.cs_model_index.specs.Numbered.{rows_at}
 
--- what is kept of a query: the hits from which its last part goes on, and the rows of that part in them; of both there may be
--- none
-pub record Entry : Type 0 where
+-- what is kept of a query: the hits from which its last part goes on, and the rows of that part in them, each told by an R; of
+-- both there may be none
+pub record EntryOf (R : Type 0) : Type 0 where
   pub base : Base
-  pub rows : List Row
+  pub rows : List R
+
+-- an entry with the rows of a corpus, of which there may be none
+abbrev pub Entry : Type 0
+Entry = EntryOf Row
 
 -- ---- the entry of a query
 -- the hits of parts with their scores, by document ascending; of no part each document with the score 0
@@ -82,7 +87,7 @@ listed_count base.All = 0
 listed_count (base.Listed hs) = length hs
 
 -- the rows of an entry and the documents that its base lists, counted together; 0 for All and no rows
-abbrev pub size : Entry → ℕ
+abbrev pub size : {R : Type 0} → EntryOf R → ℕ
 size e = length e.rows + listed_count e.base
 
 -- ---- hits out of an entry
@@ -139,5 +144,5 @@ steps k ps = fold (λ (so_far : Bool × Entry) p. (not p.excluded, extended k so
 
 -- ---- entries by numbers of words
 -- an entry whose rows are told by the numbers of their words, its base told as it is; of no posts it has no rows
-abbrev pub entry_at : List (List ℕ) → Base → List Post → Entry
-entry_at ws b posts = record { base = b; rows = rows_at ws posts }
+abbrev pub entry_at : List (List ℕ) → EntryOf Post → Entry
+entry_at ws e = record { base = e.base; rows = rows_at ws e.rows }
