@@ -2,6 +2,8 @@
 --
 --   fronts_stay_good     where an entry comes to the front
 --   lists_stay_good      after a query
+--   front_distinct, put_distinct      keys that differ stay so
+--   held_front           the same keys are held where an entry comes to the front
 --   held_are_own         each key has its own entry
 use Rattle.std.proofs.Common.{◌≡◌, ℕ, zero, suc, ◌||◌, Bool, true, false, true≢false, not, List, [], ◌∷◌, map, take, cond, refl, sym, ◌∙◌, ap, Option, Some, None, if◌then◌else◌}
 use Rattle.std.specs.Prelude.{find}
@@ -22,31 +24,35 @@ use Rattle.cs_model.specs.Corpus.{Corpus}
 use Rattle.cs_model.specs.Keys.{keys_of}
 use Rattle.cs_model.specs.Refusals.{IsOfGrammar}
 use Rattle.cs_model_kept.specs.Entries.{Entry, entry_of}
-use Rattle.cs_model_kept.specs.KeptList.{KeptList, IsOwn, GoodFor, is_held, narrow_or, plan, to_front, used_key, put_in_front, after}
-use Rattle.cs_model_kept.specs.KeptListLaws.{found, FrontsStayGood, ListsStayGood, HeldAreOwn}
+use Rattle.cs_model_kept.specs.KeptList.{KeptOf, KeptList, IsOwn, GoodFor, is_held, found, narrow_or, plan, to_front, used_key, put_in_front, after}
+use Rattle.cs_model_kept.specs.KeptListLaws.{FrontsStayGood, ListsStayGood, HeldAreOwn}
 
-abbrev keys : KeptList → List (List ℕ)
+abbrev pub keys : {E : Type 0} → KeptOf E → List (List ℕ)
 keys held = map (λ e. e.0) held
 
 flips : (x y : List ℕ) → bytes_eq x y ≡ bytes_eq y x
 flips x y = nat_list_eq_equiv.symm x y
 
-front_permutes : (held : KeptList) (key : List ℕ) → IsPermutation held (to_front held (Some key))
+front_permutes : {E : Type 0} (held : KeptOf E) (key : List ℕ) → IsPermutation held (to_front held (Some key))
 front_permutes held key = IsPermutation-filter_both (λ e. bytes_eq e.0 key) (λ e. not (bytes_eq e.0 key)) (λ e. refl) held
+
+pub front_distinct : {E : Type 0} (held : KeptOf E) (key : List ℕ) → IsDistinct bytes_eq (keys held) → IsDistinct bytes_eq (keys (to_front held (Some key)))
+front_distinct held key h =
+    IsDistinct-IsPermutation bytes_eq flips (keys held) (keys (to_front held (Some key))) (IsPermutation-map (λ e. e.0) held (to_front held (Some key)) (front_permutes held key)) h
 
 pub fronts_stay_good : FrontsStayGood
 fronts_stay_good k held None good = good
 fronts_stay_good k held (Some key) good = record {
-  different = IsDistinct-IsPermutation bytes_eq flips (keys held) (keys (to_front held (Some key))) (IsPermutation-map (λ e. e.0) held (to_front held (Some key)) (front_permutes held key)) good.different;
+  different = front_distinct held key good.different;
   own = All-permutation (IsOwn k) held (to_front held (Some key)) (front_permutes held key) good.own;
 }
 
-held_front : (held : KeptList) (o : Option (List ℕ)) (key : List ℕ) → is_held (to_front held o) key ≡ is_held held key
+pub held_front : {E : Type 0} (held : KeptOf E) (o : Option (List ℕ)) (key : List ℕ) → is_held (to_front held o) key ≡ is_held held key
 held_front held None key = refl
 held_front held (Some used) key = sym (list_any-IsPermutation (λ e. bytes_eq e.0 key) held (to_front held (Some used)) (front_permutes held used))
 
 -- ---- one entry more
-all_other : (key : List ℕ) (held : KeptList) → is_held held key ≡ false → AllByRecursion (λ y. bytes_eq key y ≡ false) (keys held)
+all_other : {E : Type 0} (key : List ℕ) (held : KeptOf E) → is_held held key ≡ false → AllByRecursion (λ y. bytes_eq key y ≡ false) (keys held)
 all_other key [] h = tt
 all_other key (e ∷ held) h =
     elim (bytes_eq e.0 key) as (λ b. bytes_eq e.0 key ≡ b → (b || is_held held key) ≡ false → AllByRecursion (λ y. bytes_eq key y ≡ false) (keys (e ∷ held))) [
@@ -54,23 +60,26 @@ all_other key (e ∷ held) h =
       | false ↦ λ other rest. (flips key e.0 ∙ other, all_other key held rest)
     ] refl h
 
-distinct_take : (n : ℕ) (held : KeptList) → IsDistinct bytes_eq (keys held) → IsDistinct bytes_eq (keys (take n held))
+all_take : {E : Type 0} (key : List ℕ) (n : ℕ) (held : KeptOf E) → AllByRecursion (λ y. bytes_eq key y ≡ false) (keys held) → AllByRecursion (λ y. bytes_eq key y ≡ false) (keys (take n held))
+all_take key zero held h = tt
+all_take key (suc n) [] h = tt
+all_take key (suc n) (f ∷ held) h = (h.0, all_take key n held h.1)
+
+distinct_take : {E : Type 0} (n : ℕ) (held : KeptOf E) → IsDistinct bytes_eq (keys held) → IsDistinct bytes_eq (keys (take n held))
 unfolding IsDistinct
 distinct_take zero held h = tt
 distinct_take (suc n) [] h = tt
-distinct_take (suc n) (e ∷ held) h = (all_take n held h.0, distinct_take n held h.1)
-  where
-    all_take : (n : ℕ) (held : KeptList) → AllByRecursion (λ y. bytes_eq e.0 y ≡ false) (keys held) → AllByRecursion (λ y. bytes_eq e.0 y ≡ false) (keys (take n held))
-    all_take zero held h = tt
-    all_take (suc n) [] h = tt
-    all_take (suc n) (f ∷ held) h = (h.0, all_take n held h.1)
+distinct_take (suc n) (e ∷ held) h = (all_take e.0 n held h.0, distinct_take n held h.1)
+
+pub put_distinct : {E : Type 0} (room : ℕ) (e : List ℕ × E) (held : KeptOf E) → is_held held e.0 ≡ false → IsDistinct bytes_eq (keys held) → IsDistinct bytes_eq (keys (take room (e ∷ held)))
+put_distinct room e held new h = distinct_take room (e ∷ held) (IsDistinct-cons bytes_eq e.0 (keys held) (all_other e.0 held new) h)
 
 put_good : (k : Corpus) (held : KeptList) (room : ℕ) (q : Query) → GoodFor k held → IsOfGrammar q → is_held held (canonical q) ≡ false
     → GoodFor k (take room ((canonical q, entry_of k q) ∷ held))
 put_good k held room q good of_grammar new =
     let e : List ℕ × Entry = (canonical q, entry_of k q) in
     record {
-      different = distinct_take room (e ∷ held) (IsDistinct-cons bytes_eq (canonical q) (keys held) (all_other (canonical q) held new) good.different);
+      different = put_distinct room e held new good.different;
       own = All-take (IsOwn k) room (e ∷ held) (All-cons (IsOwn k) e held (record { query = q; of_grammar = of_grammar; key = refl; entry = refl }) good.own);
     }
 

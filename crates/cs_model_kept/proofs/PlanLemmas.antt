@@ -2,10 +2,12 @@
 --
 --   finds            a key of a query of the grammar that is held has that query's entry
 --   found_word       the shorter prefix that is found first
+--   narrow_uses      what Narrow uses
 --   plans_serve      the law
-use Rattle.std.proofs.Common.{◌≡◌, ℕ, ◌-◌, ◌<◌, ◌==◌, Bool, true, false, true≢false, List, [], ◌∷◌, ◌++◌, map, take, cond, length, refl, sym, ◌∙◌, ap, arith, Option, Some, None, if◌then◌else◌}
+--   plans_are_held   each plan but Fresh uses an entry that is held
+use Rattle.std.proofs.Common.{◌≡◌, ℕ, ◌-◌, ◌<◌, ◌==◌, Bool, true, false, true≢false, List, [], ◌∷◌, ◌++◌, map, take, cond, length, refl, sym, subst, ◌∙◌, ap, arith, Option, Some, None, IsSome, if◌then◌else◌}
 use Rattle.std.specs.Prelude.{find, nat_lt}
-use Rattle.std.specs.Option.{option_map}
+use Rattle.std.specs.Option.{option_map, option_and_then}
 use Rattle.std.specs.List.{Contains}
 use Rattle.std.proofs.Math.Seq.{take-append_seam}
 use Rattle.std.proofs.lemmas.Bool.Decides.{nat_tests}
@@ -22,9 +24,10 @@ use Rattle.cs_model.specs.Refusals.{IsOfGrammar}
 use Rattle.cs_model.proofs.CanonicalReading.{different}
 use Rattle.cs_model_kept.specs.Entries.{entry_of}
 use Rattle.cs_model_kept.specs.KeptLaws.{followed}
-use Rattle.cs_model_kept.specs.KeptList.{KeptList, GoodFor, is_held, extend_or_fresh, narrow_or, plan, used_key}
-use Rattle.cs_model_kept.specs.KeptListLaws.{before_last, Finds, Serves, PlansServe, ShorterAreOfGrammar, FirstPartsAreOfGrammar}
+use Rattle.cs_model_kept.specs.KeptList.{KeptOf, KeptList, GoodFor, is_held, found, extend_or_fresh, narrow_or, plan, used_key, used_entry}
+use Rattle.cs_model_kept.specs.KeptListLaws.{before_last, Finds, Serves, PlansServe, PlansAreHeld, ShorterAreOfGrammar, FirstPartsAreOfGrammar}
 use Rattle.cs_model_kept.proofs.FirstParts.{first_parts_stay}
+use Rattle.cs_model_kept.proofs.HeldLemmas.{is_found}
 use Rattle.cs_model_kept.proofs.KeptListLemmas.{held_are_own}
 use Rattle.cs_model_kept.proofs.ListsLemmas.{itself, last_entry, take_init}
 use Rattle.cs_model_kept.proofs.NarrowLemmas.{Begins, words_begin}
@@ -93,27 +96,42 @@ same_beginning p v w a b e =
 equal_cuts : (a b : ℕ) → (a == b) ≡ true → a ≡ b
 equal_cuts a b h = grind (arith, nat_tests)
 
-module _ (k : Corpus) (held : KeptList) (q : Query) (good : GoodFor k held) (g : IsOfGrammar q) where
-  is_kept : Narrower → Bool
-  is_kept n = is_held held n.key
+-- what Narrow uses: the key of the query with a shorter word in the prefix's place, which is held
+record NarrowUses {E : Type 0} (held : KeptOf E) (q : Query) (p : List ℕ) (n : Narrower) : Type 0 where
+  word : List ℕ
+  among : Contains (shorter_words p) word
+  cut : length word ≡ n.cut
+  key : used_key (keys_of q) (Narrow n.cut) ≡ Some (canonical (with_prefix word q))
+  there : is_held held (canonical (with_prefix word q)) ≡ true
 
+narrow_uses : {E : Type 0} (held : KeptOf E) (q : Query) → IsOfGrammar q → (p : List ℕ) → last_prefix q ≡ Some p → (n : Narrower)
+    → find (λ n. is_held held n.key) (map (narrower q) (shorter_words p)) ≡ Some n → NarrowUses held q p n
+narrow_uses held q g p h n e =
+    let ws = shorter_words p in
+    let f = found_word q (λ n. is_held held n.key) ws n e in
+    let w = f.word in
+    let begins = words_begin p (shorter_stays q p w g h f.among).1 in
+    let by_cut = finds_one q (λ m. m.cut == n.cut) ws (λ n. is_held held n.key) n e (itself n.cut) in
+    let m = found_word q (λ m. m.cut == n.cut) ws by_cut.0 by_cut.1 in
+    let lengths : length m.word ≡ length w = ap (λ (x : Narrower). x.cut) (sym m.is) ∙ equal_cuts by_cut.0.cut n.cut m.passes ∙ ap (λ (x : Narrower). x.cut) f.is in
+    let same : m.word ≡ w = same_beginning p m.word w (All-contains (Begins p) ws m.word begins m.among) (All-contains (Begins p) ws w begins f.among) lengths in
+    record {
+      word = w;
+      among = f.among;
+      cut = ap (λ (x : Narrower). x.cut) (sym f.is);
+      key =
+          ap (λ o. option_map (λ (x : Narrower). x.key) (find (λ m. m.cut == n.cut) (narrowers q o))) h
+          ∙ ap (option_map (λ (x : Narrower). x.key)) by_cut.1
+          ∙ ap (λ (x : Narrower). Some x.key) m.is ∙ ap (λ v. Some (canonical (with_prefix v q))) same;
+      there = ap (λ (x : Narrower). is_held held x.key) (sym f.is) ∙ f.passes;
+    }
+
+module _ (k : Corpus) (held : KeptList) (q : Query) (good : GoodFor k held) (g : IsOfGrammar q) where
   narrow_serves : (p : List ℕ) → last_prefix q ≡ Some p → (n : Narrower) → find (λ n. is_held held n.key) (map (narrower q) (shorter_words p)) ≡ Some n → Serves k held q (Narrow n.cut)
   narrow_serves p h n e =
-      let ws = shorter_words p in
-      let f = found_word q (λ n. is_held held n.key) ws n e in
-      let w = f.word in
-      let stays = shorter_stays q p w g h f.among in
-      let begins = words_begin p stays.1 in
-      let by_cut = finds_one q (λ m. m.cut == n.cut) ws (λ n. is_held held n.key) n e (itself n.cut) in
-      let m = found_word q (λ m. m.cut == n.cut) ws by_cut.0 by_cut.1 in
-      let lengths : length m.word ≡ length w = ap (λ (x : Narrower). x.cut) (sym m.is) ∙ equal_cuts by_cut.0.cut n.cut m.passes ∙ ap (λ (x : Narrower). x.cut) f.is in
-      let same : m.word ≡ w = same_beginning p m.word w (All-contains (Begins p) ws m.word begins m.among) (All-contains (Begins p) ws w begins f.among) lengths in
-      let key : used_key (keys_of q) (Narrow n.cut) ≡ Some (canonical (with_prefix w q)) =
-      ap (λ o. option_map (λ (x : Narrower). x.key) (find (λ m. m.cut == n.cut) (narrowers q o))) h
-      ∙ ap (option_map (λ (x : Narrower). x.key)) by_cut.1
-      ∙ ap (λ (x : Narrower). Some x.key) m.is ∙ ap (λ v. Some (canonical (with_prefix v q))) same in
-      let is_there : is_held held (canonical (with_prefix w q)) ≡ true = ap (λ (x : Narrower). is_held held x.key) (sym f.is) ∙ f.passes in
-      (p, w, h, stays.1, f.among, ap (λ (x : Narrower). x.cut) (sym f.is), finds k held q (Narrow n.cut) (with_prefix w q) good stays.0 is_there key)
+      let uses = narrow_uses held q g p h n e in
+      let stays = shorter_stays q p uses.word g h uses.among in
+      (p, uses.word, h, stays.1, uses.among, uses.cut, finds k held q (Narrow n.cut) (with_prefix uses.word q) good stays.0 uses.there uses.key)
 
   narrow_any : (o : Option (List ℕ)) → last_prefix q ≡ o → (n : Narrower) → find (λ n. is_held held n.key) (narrowers q o) ≡ Some n → Serves k held q (Narrow n.cut)
   narrow_any None h n e = none_some n e
@@ -167,3 +185,35 @@ module _ (k : Corpus) (held : KeptList) (q : Query) (good : GoodFor k held) (g :
 pub plans_serve : PlansServe
 unfolding plan
 plans_serve k held q good g = serves k held q good g (is_held held (canonical q)) refl
+
+-- ---- a plan uses what is held
+module _ {E : Type 0} (held : KeptOf E) (q : Query) (g : IsOfGrammar q) where
+  abbrev pub Uses : Plan → Type 0
+  Uses by_plan = ¬ (by_plan ≡ Fresh) → IsSome (used_entry held (keys_of q) by_plan)
+
+  -- by the key that a plan uses
+  uses_key : (o : Option (List ℕ)) (key : List ℕ) → o ≡ Some key → is_held held key ≡ true → IsSome (option_and_then (found held) o)
+  uses_key o key e h = subst (λ x. IsSome (option_and_then (found held) x)) (sym e) (is_found held key h)
+
+  extend_uses : (o : Option (List ℕ)) → (keys_of q).extend ≡ o → Uses (extend_or_fresh held o)
+  extend_uses None e = λ other. absurd (other refl)
+  extend_uses (Some key) e = cases (is_held held key) refl
+    where
+      cases : (b : Bool) → is_held held key ≡ b → Uses (if b then Extend else Fresh)
+      cases true h = λ _. uses_key (keys_of q).extend key e h
+      cases false h = λ other. absurd (other refl)
+
+  narrow_or_uses : (o : Option Narrower) → find (λ n. is_held held n.key) (keys_of q).narrow ≡ o → Uses (narrow_or held (keys_of q) o)
+  narrow_or_uses None e = extend_uses (keys_of q).extend refl
+  narrow_or_uses (Some n) e = λ _. by_prefix (last_prefix q) refl e
+    where
+      by_prefix : (o : Option (List ℕ)) → last_prefix q ≡ o → find (λ n. is_held held n.key) (narrowers q o) ≡ Some n → IsSome (used_entry held (keys_of q) (Narrow n.cut))
+      by_prefix None h e = none_some n e
+      by_prefix (Some p) h e = let uses = narrow_uses held q g p h n e in uses_key (used_key (keys_of q) (Narrow n.cut)) (canonical (with_prefix uses.word q)) uses.key uses.there
+
+  pub plan_uses : (b : Bool) → is_held held (canonical q) ≡ b → Uses (if b then Same else narrow_or held (keys_of q) (find (λ n. is_held held n.key) (keys_of q).narrow))
+  plan_uses true h = λ _. uses_key (Some (canonical q)) (canonical q) refl h
+  plan_uses false h = narrow_or_uses (find (λ n. is_held held n.key) (keys_of q).narrow) refl
+
+pub plans_are_held : PlansAreHeld
+plans_are_held held q g = plan_uses held q g (is_held held (canonical q)) refl

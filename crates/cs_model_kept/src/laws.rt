@@ -2,7 +2,7 @@
 ghost use Rattle.std.specs.Prelude.{◌≡◌, ◌^◌};
 ghost use Rattle.cs_model_kept.specs.InnerQueries.{InnerQueriesAreOfGrammar};
 ghost use Rattle.cs_model_kept.specs.KeptLaws.{HitsAreOver, BasesListHits, EntriesExtend, EntriesAreSteps, EntriesNarrow};
-ghost use Rattle.cs_model_kept.specs.KeptListLaws.{FirstPartsAreOfGrammar, FrontsStayGood, HeldAreOwn, ListsStayGood, PlansServe, ShorterAreOfGrammar};
+ghost use Rattle.cs_model_kept.specs.KeptListLaws.{FirstPartsAreOfGrammar, FrontsStayGood, HeldAreOwn, ListsStayGood, PlansServe, ShorterAreOfGrammar, PlansAreHeld, FrontsPlanAlike, FrontsUseAlike, OthersAreNew, NumbersPlanAlike, NumbersUseAlike, NumbersFrontAlike, NumbersPutAlike, NumbersKeepAlike};
 
 use crate::limits::*;
 
@@ -54,4 +54,23 @@ pub fn inner_queries_are_of_grammar()
 /// Over a list that is good for a corpus, a plan goes on from the entry of the query that it speaks of.
 pub fn plans_serve()
     ensures { PlansServe }
+{}
+
+/// A plan by the keys of a query of the grammar uses an entry that is held, unless it is Fresh. Where an entry comes to the front,
+/// plans and what they use stay. Where a plan isn't Same, the query's own key is new.
+pub fn plans_use_entries()
+    ensures held { PlansAreHeld }
+    ensures fronts { FrontsPlanAlike }
+    ensures used { FrontsUseAlike }
+    ensures others { OthersAreNew }
+{}
+
+/// A list of entries that are told by the numbers of their words is one of entries of the corpus: each plan, what it uses, and what
+/// becomes of the list and of a new entry are the same.
+pub fn entries_are_numbered()
+    ensures plans { NumbersPlanAlike }
+    ensures used { NumbersUseAlike }
+    ensures fronts { NumbersFrontAlike }
+    ensures puts { NumbersPutAlike }
+    ensures kept { NumbersKeepAlike }
 {}

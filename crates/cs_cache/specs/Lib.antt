@@ -1,0 +1,2 @@
+pub mod AnswerList
+pub mod Slots
