@@ -15,11 +15,11 @@ use Rattle.std.specs.Str.{bytes_eq}
 use Rattle.std.proofs.lemmas.List.{map-append, length-map}
 use Rattle.std.proofs.lemmas.List.Folds.{find-append}
 use Rattle.std.proofs.lemmas.Slice.Eq.{bytes_eq-Decides}
-use Rattle.cs_base.specs.declared.doc.Post.{Post}
-use Rattle.cs_base.specs.declared.key.Keys.{Keys}
-use Rattle.cs_base.specs.declared.key.Narrower.{Narrower}
-use Rattle.cs_base.specs.declared.plan.Kept.TheVariants as kept
-use Rattle.cs_base.specs.declared.plan.Plan.TheVariants.{Same, Extend, Fresh}
+use Rattle.cs_base.specs.declared.content.doc.Post.{Post}
+use Rattle.cs_base.specs.declared.content.key.Keys.{Keys}
+use Rattle.cs_base.specs.declared.content.key.Narrower.{Narrower}
+use Rattle.cs_base.specs.declared.index.plan.Kept.TheVariants as kept
+use Rattle.cs_base.specs.declared.index.plan.Plan.TheVariants.{Same, Extend, Fresh}
 use Rattle.cs_model_index.specs.Numbered.{row_of}
 use Rattle.cs_model_kept.specs.declared.limits.TheConstants.{MAX_ENTRY_SIZE}
 use Rattle.cs_model_kept.specs.Entries.{Entry, EntryOf, entry_at, listed_count}

@@ -3,13 +3,10 @@ pub mod DueLemmas
 pub mod EntryExamples
 pub mod EntryLemmas
 pub mod FirstParts
-<<<<<<< HEAD
+pub mod HeldLemmas
 pub mod InnerExamples
 pub mod InnerLemmas
 pub mod InnerPieces
-=======
-pub mod HeldLemmas
->>>>>>> 4f6fdf5473d0bfcbda8ae3c18e8812fbb01221f1
 pub mod KeptExamples
 pub mod KeptListLemmas
 pub mod ListsLemmas

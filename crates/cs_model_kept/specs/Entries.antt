@@ -25,13 +25,8 @@
 --   entry_after begun hs p    the entry of a query and one part more, by whether the query has a part, its hits, and that part
 --   nothing_kept              the entry of no part
 --   extended k positive e p   the entry of a query and one part more, by the query's own entry
-<<<<<<< HEAD
 --   kept_steps k ps           the entry of parts, taken one after the other, with whether the last one is positive
---   entry_at ws b posts       the entry whose rows are told by the numbers of their words
-=======
---   steps k ps                the entry of parts, taken one after the other, with whether the last one is positive
 --   entry_at ws e             the entry whose rows the posts of e stand for
->>>>>>> 4f6fdf5473d0bfcbda8ae3c18e8812fbb01221f1
 use Rattle.std.specs.Prelude.{ℕ, ◌+◌, ◌-◌, ◌==◌, Bool, true, false, not, if◌then◌else◌, List, [], ◌∷◌, map, filter, fold, take, length, find}
 use Rattle.std.specs.List.{list_any}
 use Rattle.std.specs.Option.{option_map, unwrap_or}
@@ -46,15 +41,9 @@ use Rattle.cs_model.specs.Answers.{PartRows, in_doc, docs_of, greatest_score, hi
 use Rattle.cs_model.specs.Corpus.{Corpus}
 use Rattle.cs_model_index.specs.Numbered.{rows_at}
 
-<<<<<<< HEAD
--- what is kept of a query: the hits from which its last part goes on, or its own where that part is excluded, and the rows of that part in them; of both there may be
--- none
-pub record Entry : Type 0 where
-=======
--- what is kept of a query: the hits from which its last part goes on, and the rows of that part in them, each told by an R; of
--- both there may be none
+-- what is kept of a query: the hits from which its last part goes on, or its own where that part is excluded, and the rows of that
+-- part in them, each told by an R; of both there may be none
 pub record EntryOf (R : Type 0) : Type 0 where
->>>>>>> 4f6fdf5473d0bfcbda8ae3c18e8812fbb01221f1
   pub base : Base
   pub rows : List R
 
@@ -98,13 +87,8 @@ listed_count base.All = 0
 listed_count (base.Listed hs) = length hs
 
 -- the rows of an entry and the documents that its base lists, counted together; 0 for All and no rows
-<<<<<<< HEAD
-abbrev pub entry_size : Entry → ℕ
-entry_size e = length e.rows + listed_count e.base
-=======
 abbrev pub entry_size : {R : Type 0} → EntryOf R → ℕ
 entry_size e = length e.rows + listed_count e.base
->>>>>>> 4f6fdf5473d0bfcbda8ae3c18e8812fbb01221f1
 
 -- ---- hits out of an entry
 -- what a base gives to the document d; 0 where it is All, and where it doesn't list d

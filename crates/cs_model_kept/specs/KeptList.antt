@@ -27,7 +27,7 @@ use Rattle.std.specs.Prelude.{◌≡◌, ℕ, Bool, not, nat_lt, if◌then◌els
 use Rattle.std.specs.List.{All, IsDistinct, list_any}
 use Rattle.std.specs.Option.{option_map, option_and_then}
 use Rattle.std.specs.Str.{bytes_eq}
-<<<<<<< HEAD
+use Rattle.cs_base.specs.declared.content.doc.Post.{Post}
 use Rattle.cs_base.specs.declared.content.key.Keys.{Keys}
 use Rattle.cs_base.specs.declared.content.key.Narrower.{Narrower}
 use Rattle.cs_base.specs.declared.index.plan.Plan.{Plan}
@@ -35,26 +35,12 @@ use Rattle.cs_base.specs.declared.index.plan.Plan.TheVariants.{Same, Narrow, Ext
 use Rattle.cs_base.specs.declared.index.plan.Kept.{Kept}
 use Rattle.cs_base.specs.declared.index.plan.Kept.TheVariants as kept
 use Rattle.cs_base.specs.declared.content.query.Query.{Query}
-=======
-use Rattle.cs_base.specs.declared.doc.Post.{Post}
-use Rattle.cs_base.specs.declared.key.Keys.{Keys}
-use Rattle.cs_base.specs.declared.key.Narrower.{Narrower}
-use Rattle.cs_base.specs.declared.plan.Plan.{Plan}
-use Rattle.cs_base.specs.declared.plan.Plan.TheVariants.{Same, Narrow, Extend, Fresh}
-use Rattle.cs_base.specs.declared.plan.Kept.{Kept}
-use Rattle.cs_base.specs.declared.plan.Kept.TheVariants as kept
-use Rattle.cs_base.specs.declared.query.Query.{Query}
->>>>>>> 4f6fdf5473d0bfcbda8ae3c18e8812fbb01221f1
 use Rattle.cs_model.specs.Canonical.{canonical}
 use Rattle.cs_model.specs.Corpus.{Corpus}
 use Rattle.cs_model.specs.Keys.{keys_of}
 use Rattle.cs_model.specs.Refusals.{IsOfGrammar}
 use Rattle.cs_model_kept.specs.declared.limits.TheConstants.{MAX_ENTRY_SIZE}
-<<<<<<< HEAD
-use Rattle.cs_model_kept.specs.Entries.{Entry, entry_of, entry_size}
-=======
 use Rattle.cs_model_kept.specs.Entries.{Entry, EntryOf, entry_at, entry_of, entry_size}
->>>>>>> 4f6fdf5473d0bfcbda8ae3c18e8812fbb01221f1
 
 -- entries under the keys of their queries, each told by an E, the one used last in front; there may be none
 abbrev pub KeptOf : Type 0 → Type 0
@@ -137,13 +123,8 @@ unfoldable pub after : KeptList → ℕ → Query → Kept → Corpus → KeptLi
 after held room q kept k = put_in_front room kept (canonical q, entry_of k q) (to_front held (used_key (keys_of q) (plan held q)))
 
 -- an entry that wasn't had is kept, unless its size is above `MAX_ENTRY_SIZE`
-<<<<<<< HEAD
-abbrev pub kept_fresh : Entry → Kept
-kept_fresh e = if nat_lt MAX_ENTRY_SIZE (entry_size e) then kept.TooLarge else kept.Kept
-=======
 abbrev pub kept_fresh : {R : Type 0} → EntryOf R → Kept
 kept_fresh e = if nat_lt MAX_ENTRY_SIZE (entry_size e) then kept.TooLarge else kept.Kept
->>>>>>> 4f6fdf5473d0bfcbda8ae3c18e8812fbb01221f1
 
 -- what becomes of a query's own entry: it was had where the plan is Same, and else it is kept where its size is at most
 -- `MAX_ENTRY_SIZE`

@@ -20,26 +20,16 @@
 --                       an entry in front, the list with one entry more, and what becomes of that one
 use Rattle.std.specs.Prelude.{◌≡◌, ℕ, ◌-◌, ◌<◌, true, false, List, length, take, Option, Some, IsSome}
 use Rattle.std.specs.List.{Contains}
-<<<<<<< HEAD
-use Rattle.std.specs.Str.{IsUtf8, bytes_eq}
+use Rattle.std.specs.Option.{option_map}
+use Rattle.std.specs.Str.{IsUtf8}
+use Rattle.cs_base.specs.declared.content.doc.Post.{Post}
+use Rattle.cs_base.specs.declared.content.key.Keys.{Keys}
 use Rattle.cs_base.specs.declared.index.plan.Kept.{Kept}
 use Rattle.cs_base.specs.declared.index.plan.Kept.TheVariants as kept
 use Rattle.cs_base.specs.declared.index.plan.Plan.{Plan}
 use Rattle.cs_base.specs.declared.index.plan.Plan.TheVariants.{Same, Narrow, Extend, Fresh}
 use Rattle.cs_base.specs.declared.content.query.Query.{Query, roll-Query, out-Query}
 use Rattle.cs_base.specs.declared.content.query.Part.{Part}
-=======
-use Rattle.std.specs.Option.{option_map}
-use Rattle.std.specs.Str.{IsUtf8}
-use Rattle.cs_base.specs.declared.doc.Post.{Post}
-use Rattle.cs_base.specs.declared.key.Keys.{Keys}
-use Rattle.cs_base.specs.declared.plan.Kept.{Kept}
-use Rattle.cs_base.specs.declared.plan.Kept.TheVariants as kept
-use Rattle.cs_base.specs.declared.plan.Plan.{Plan}
-use Rattle.cs_base.specs.declared.plan.Plan.TheVariants.{Same, Narrow, Extend, Fresh}
-use Rattle.cs_base.specs.declared.query.Query.{Query, roll-Query, out-Query}
-use Rattle.cs_base.specs.declared.query.Part.{Part}
->>>>>>> 4f6fdf5473d0bfcbda8ae3c18e8812fbb01221f1
 use Rattle.cs_model.specs.Canonical.{canonical}
 use Rattle.cs_model.specs.Corpus.{Corpus}
 use Rattle.cs_model.specs.Keys.{keys_of, last_prefix, shorter_words, with_prefix}
