@@ -33,26 +33,26 @@ has_path h = bytes_eq (path_of h.target) (codes "/search")
 abbrev has_method : RequestHead → Bool
 has_method h = bytes_eq h.method (codes "GET")
 
-judged_head : (bytes : List ℕ) (h : RequestHead) → IsHead bytes h → judge bytes ≡ by_tests h (has_body h) (has_path h) (has_method h)
+judged_tests : (bytes : List ℕ) (h : RequestHead) → IsHead bytes h → judge bytes ≡ by_tests h (has_body h) (has_path h) (has_method h)
 unfolding judge
-judged_head bytes h is = ap judged_head (head_is_read bytes h is)
+judged_tests bytes h is = ap judged_head (head_is_read bytes h is)
 
 pub judged_body : (bytes : List ℕ) (h : RequestHead) → IsHead bytes h → has_body h ≡ true → judge bytes ≡ refused with_body
-judged_body bytes h is body = judged_head bytes h is ∙ ap (λ t. by_tests h t (has_path h) (has_method h)) body
+judged_body bytes h is body = judged_tests bytes h is ∙ ap (λ t. by_tests h t (has_path h) (has_method h)) body
 
 pub judged_path : (bytes : List ℕ) (h : RequestHead) (close : Bool) → IsHead bytes h → has_body h ≡ false → has_path h ≡ false → close ≡ closes h → judge bytes ≡ refused (other_path close)
 judged_path bytes h close is body path e =
-    judged_head bytes h is ∙ (λ i. by_tests h (body i) (path i) (has_method h)) ∙ ap (λ t. refused (other_path t)) (sym e)
+    judged_tests bytes h is ∙ (λ i. by_tests h (body i) (path i) (has_method h)) ∙ ap (λ t. refused (other_path t)) (sym e)
 
 pub judged_method : (bytes : List ℕ) (h : RequestHead) (close : Bool) → IsHead bytes h → has_body h ≡ false → has_path h ≡ true → has_method h ≡ false → close ≡ closes h
     → judge bytes ≡ refused (other_method close)
 judged_method bytes h close is body path method e =
-    judged_head bytes h is ∙ (λ i. by_tests h (body i) (path i) (method i)) ∙ ap (λ t. refused (other_method t)) (sym e)
+    judged_tests bytes h is ∙ (λ i. by_tests h (body i) (path i) (method i)) ∙ ap (λ t. refused (other_method t)) (sym e)
 
 pub judged_asks : (bytes : List ℕ) (h : RequestHead) (params : List ℕ) (close : Bool) → IsHead bytes h → has_body h ≡ false → has_path h ≡ true → has_method h ≡ true → close ≡ closes h
     → params ≡ params_of h.target → judge bytes ≡ asks params close
 judged_asks bytes h params close is body path method e f =
-    judged_head bytes h is ∙ (λ i. by_tests h (body i) (path i) (method i)) ∙ (λ i. asks (sym f i) (sym e i))
+    judged_tests bytes h is ∙ (λ i. by_tests h (body i) (path i) (method i)) ∙ (λ i. asks (sym f i) (sym e i))
 
 -- ---- fields
 any-map : {X Y : Type 0} (f : X → Y) (test : Y → Bool) (xs : List X) → list_any (λ x. test (f x)) xs ≡ list_any test (map f xs)
