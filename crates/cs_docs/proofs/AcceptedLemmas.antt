@@ -1,16 +1,15 @@
 -- Documents of a collection that isn't refused: few words, named pieces, few documents.
-use Rattle.std.proofs.Common.{◌≡◌, ℕ, ◌+◌, ◌≤◌, Bool, true, false, cond, nat_le, nat_lt, nat_eq, List, [], ◌∷◌, length, map, filter, drop, sym, ap, subst, arith, length-drop}
+use Rattle.std.proofs.Common.{◌≡◌, ℕ, ◌+◌, ◌≤◌, Bool, true, false, cond, nat_le, nat_eq, List, [], ◌∷◌, length, map, filter, drop, sym, ap, subst, arith, length-drop}
 use Rattle.std.specs.Prelude.{None}
-use Rattle.std.specs.List.{All, AllByRecursion, list_any, starts_with, enumerate_from}
-use Rattle.std.specs.Str.{is_utf8}
+use Rattle.std.specs.List.{All, AllByRecursion, starts_with, enumerate_from}
 use Rattle.std.specs.Str.Lines.{lines}
 use Rattle.std.proofs.lemmas.Bool.Decides.{nat_tests}
 use Rattle.std.proofs.lemmas.List.{length-map}
 use Rattle.std.proofs.lemmas.List.FromFn.{length-enumerate_from}
 use Rattle.std.proofs.lemmas.List.Elements.{All-from_recursion}
 use Rattle.cs_base.specs.declared.content.doc.Doc.{Doc}
-use Rattle.cs_base.specs.declared.content.limits.TheConstants.{MAX_COLLECTION_BYTES, MAX_LINE_BYTES, MAX_DOC_WORDS, MAX_DOCS}
-use Rattle.cs_model.specs.Collection.{piece_refusal, line_refusal, docs_refusal, documents, document, DocLine, doc_line, doc_lines, collection_lines, has_name_form, piece_name, is_equals, facet_pieces, columns, word_count, bad_facet, bad_name, without_mark, not_utf8, line_too_long, words_too_many, too_many_docs, too_large}
+use Rattle.cs_base.specs.declared.content.limits.TheConstants.{MAX_COLLECTION_BYTES, MAX_DOCS}
+use Rattle.cs_model.specs.Collection.{piece_refusal, line_refusal, docs_refusal, documents, document, DocLine, doc_line, doc_lines, collection_lines, facet_pieces, columns, without_mark, too_large}
 use Rattle.cs_model.specs.Words.{is_filled}
 use Rattle.cs_model.specs.First.{unless, first_reason}
 use Rattle.cs_model.proofs.FirstLemmas.{none_first, none_rest, unless_none}
@@ -22,30 +21,20 @@ use Rattle.cs_docs.proofs.PlainLemmas.{length_documents_of_lines}
 
 named_piece : (n : ℕ) (p : List ℕ) → piece_refusal n p ≡ None → IsNamed p
 named_piece n p h = record {
-  cut = unless_none (list_any is_equals p) (bad_facet n) (none_first _ _ h);
-  name = unless_none (has_name_form (piece_name p)) (bad_name n) (none_first _ _ (none_rest (unless (list_any is_equals p) (bad_facet n)) _ h));
+  cut = grind (arith, h);
+  name = grind (arith, h);
 }
 
 named_pieces : (n : ℕ) (ps : List (List ℕ)) → first_reason (map (piece_refusal n) ps) ≡ None → AreNamed ps
 named_pieces n [] h = tt
 named_pieces n (p ∷ ps) h = (named_piece n p (none_first (piece_refusal n p) (map (piece_refusal n) ps) h), named_pieces n ps (none_rest (piece_refusal n p) (map (piece_refusal n) ps) h))
 
+-- A line that isn't refused breaks no rule, whichever rules there are.
 accepted_line : (l : DocLine) → line_refusal l ≡ None → IsAccepted (document l)
-accepted_line l h =
-    let utf8 = unless (is_utf8 l.bytes) (not_utf8 l.line) in
-    let long = unless (nat_le (length l.bytes) MAX_LINE_BYTES) (line_too_long l.line) in
-    let many = unless (nat_le (word_count (columns l.bytes)) MAX_DOC_WORDS) (words_too_many l.line) in
-    let pieces = first_reason (map (piece_refusal l.line) (facet_pieces (columns l.bytes).facets)) in
-    let docs = unless (nat_lt l.doc MAX_DOCS) (too_many_docs l.line) in
-    let behind : first_reason (many ∷ pieces ∷ docs ∷ []) ≡ None = none_rest long (many ∷ pieces ∷ docs ∷ []) (none_rest utf8 (long ∷ many ∷ pieces ∷ docs ∷ []) h) in
-    let few : nat_le (word_count (columns l.bytes)) MAX_DOC_WORDS ≡ true = unless_none _ (words_too_many l.line) (none_first many (pieces ∷ docs ∷ []) behind) in
-    record {
-      pieces = named_pieces l.line (facet_pieces (columns l.bytes).facets) (none_first pieces (docs ∷ []) (none_rest many (pieces ∷ docs ∷ []) behind));
-      few = few_from _ few;
-    }
-  where
-    few_from : (n : ℕ) → nat_le n MAX_DOC_WORDS ≡ true → n ≤ MAX_DOC_WORDS
-    few_from n h = grind (arith, nat_tests)
+accepted_line l h = record {
+  pieces = named_pieces l.line (facet_pieces (columns l.bytes).facets) (grind (arith, h));
+  few = grind (arith, nat_tests, h);
+}
 
 accepted_lines : (ks : List DocLine) → first_reason (map line_refusal ks) ≡ None → AllByRecursion IsAccepted (map document ks)
 accepted_lines [] h = tt
@@ -69,18 +58,7 @@ few_docs c docs h e =
 -- ---- there are few of them
 
 few_line : (l : DocLine) → line_refusal l ≡ None → l.doc + 1 ≤ MAX_DOCS
-few_line l h =
-    let utf8 = unless (is_utf8 l.bytes) (not_utf8 l.line) in
-    let long = unless (nat_le (length l.bytes) MAX_LINE_BYTES) (line_too_long l.line) in
-    let many = unless (nat_le (word_count (columns l.bytes)) MAX_DOC_WORDS) (words_too_many l.line) in
-    let pieces = first_reason (map (piece_refusal l.line) (facet_pieces (columns l.bytes).facets)) in
-    let docs = unless (nat_lt l.doc MAX_DOCS) (too_many_docs l.line) in
-    let behind : first_reason (many ∷ pieces ∷ docs ∷ []) ≡ None = none_rest long (many ∷ pieces ∷ docs ∷ []) (none_rest utf8 (long ∷ many ∷ pieces ∷ docs ∷ []) h) in
-    let last : first_reason (docs ∷ []) ≡ None = none_rest pieces (docs ∷ []) (none_rest many (pieces ∷ docs ∷ []) behind) in
-    below l.doc (unless_none (nat_lt l.doc MAX_DOCS) (too_many_docs l.line) (none_first docs [] last))
-  where
-    below : (n : ℕ) → nat_lt n MAX_DOCS ≡ true → n + 1 ≤ MAX_DOCS
-    below n h = grind (arith, nat_tests)
+few_line l h = grind (arith, nat_tests, h)
 
 few_lines : (d : ℕ) (ls : List (ℕ × List ℕ)) → d ≤ MAX_DOCS → first_reason (map line_refusal (map doc_line (enumerate_from d ls))) ≡ None → d + length ls ≤ MAX_DOCS
 few_lines d [] le h = omega (arith, le)

@@ -9,6 +9,8 @@ mod facets;
 mod fields;
 mod first;
 mod framing;
+#[cfg(test)]
+mod head_table_tests;
 mod heads;
 mod parameters;
 mod responses;

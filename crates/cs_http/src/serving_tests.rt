@@ -54,7 +54,7 @@ fn responses_have_their_lines_and_their_body(rt: HostRuntime) -> Result<(), Fail
 }
 
 // What a head asks, or why it is refused, and whether the connection is closed.
-fn told(alloc: Global, bytes: &[u8]) -> Result<Text, Memory> {
+pub(crate) fn told(alloc: Global, bytes: &[u8]) -> Result<Text, Memory> {
     let told = match head(alloc, bytes) {
         Ok(asked) => {
             let params = String::from_utf8_lossy(alloc, asked.params.as_slice())?;

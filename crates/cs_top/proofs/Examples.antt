@@ -17,7 +17,7 @@ words-few = refl
 words-trial : command_of (codes "trial" ∷ codes "0010" ∷ []) ≡ Some (trial (codes "0010"))
 words-trial = refl
 
--- a trial has at most a thousand documents
+-- the number of a trial is at most a thousand
 words-beyond : command_of (codes "trial" ∷ codes "1001" ∷ []) ≡ None
 words-beyond = refl
 

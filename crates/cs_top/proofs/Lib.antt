@@ -1,5 +1,4 @@
 pub mod AnsweredLemmas
-pub mod AskLemmas
 pub mod CompleteLemmas
 pub mod Examples
 pub mod GrewLemmas

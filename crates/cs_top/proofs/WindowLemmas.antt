@@ -9,6 +9,7 @@ use Rattle.std.proofs.lemmas.Grind.{common_steps}
 use Rattle.std.proofs.lemmas.List.{take_all, take-take, drop-drop, drop_all, get_or-take, take-append-le, length-take, length-drop}
 use Rattle.std.proofs.lemmas.List.Sums.{fails_before_first, passes_at_first}
 use Rattle.memchr.specs.Find.{IsFirstByte, is_byte}
+use Rattle.cs_base.specs.declared.content.limits.TheConstants.{MAX_SCRIPT_LINE_BYTES}
 use Rattle.cs_base.specs.outside.Outside.{File, size_of, bytes_of}
 use Rattle.cs_docs.specs.Lines.{Shows}
 use Rattle.cs_docs.proofs.LinesLemmas.{line_at, last_line}
@@ -63,7 +64,7 @@ pub held_size : (f : Option File) (n : ℕ) → size_of f ≡ Some n → length 
 held_size None n h = absurd cc
 held_size (Some f) n h = cc
 
-module _ (b w tail : List ℕ) (at size room len next : ℕ) (whole : length b ≡ size) (before : at < size) (is_room : room ≡ min (size - at) 4098)
+module _ (b w tail : List ℕ) (at size room len next : ℕ) (whole : length b ≡ size) (before : at < size) (is_room : room ≡ min (size - at) (MAX_SCRIPT_LINE_BYTES + 2))
     (read : w ≡ take room (drop at b)) (within : len ≤ length w) where
   abbrev s : List ℕ
   s = drop at b
@@ -100,14 +101,14 @@ module _ (b w tail : List ℕ) (at size room len next : ℕ) (whole : length b �
       ∙ ap (λ x. x ∷ []) (sym same ∙ sym (take_all len w (omega arith)))
       ∙ ap (λ x. take len w ∷ lines x) (sym nothing)
 
-  too_long : IsFirstByte (is_byte 10) w None → room ≡ 4098 → IsLong s 4096
-  too_long h full = is_long s 4096 (omega (arith, length-s)) (λ k l. ap (λ x. eqb x 10) (same_byte k (omega arith)) ∙ false_from_ne_true _ (h k (omega arith) (omega (arith, length-w))))
+  too_long : IsFirstByte (is_byte 10) w None → room ≡ MAX_SCRIPT_LINE_BYTES + 2 → IsLong s MAX_SCRIPT_LINE_BYTES
+  too_long h full = is_long s MAX_SCRIPT_LINE_BYTES (omega (arith, length-s)) (λ k l. ap (λ x. eqb x 10) (same_byte k (omega arith)) ∙ false_from_ne_true _ (h k (omega arith) (omega (arith, length-w))))
 
-  by_room : (t : Bool) → ltb (size - at) 4098 ≡ t → IsFirstByte (is_byte 10) w None → len ≡ length w → next ≡ length w → IsFirstLine s (take len w) (drop next s)
+  by_room : (t : Bool) → ltb (size - at) (MAX_SCRIPT_LINE_BYTES + 2) ≡ t → IsFirstByte (is_byte 10) w None → len ≡ length w → next ≡ length w → IsFirstLine s (take len w) (drop next s)
   by_room true t h l n = inl (unended h l n (grind (arith, nat_tests, length-s)))
   by_room false t h l n =
-      let full : room ≡ 4098 = grind (arith, nat_tests) in
-      inr (subst (λ m. 4096 < m) (sym (length-take len w)) (omega (arith, length-w)), too_long h full)
+      let full : room ≡ MAX_SCRIPT_LINE_BYTES + 2 = grind (arith, nat_tests) in
+      inr (subst (λ m. MAX_SCRIPT_LINE_BYTES < m) (sym (length-take len w)) (omega (arith, length-w)), too_long h full)
 
   by_end : Shows w len next → IsFirstLine s (take len w) (drop next s)
   by_end (inl h) = inl (ends h.0 h.1 h.2 h.3)
