@@ -1,1 +1,3 @@
 pub mod AppendsLemmas
+pub mod TurnsLemmas
+pub mod WordsLemmas

@@ -1,12 +1,18 @@
 //! The system's files as the files that the program meets.
-ghost use Rattle.std.specs.Prelude.{◌≡◌, ◌⊎◌, ◌↔◌, IsTrue, IfOk};
+ghost use Rattle.std.specs.Prelude.{◌≡◌, ◌↔◌, IsTrue, IfOk, IfErr, IsErr, OnOk, Ok, Some, None};
+ghost use Rattle.std.specs.Option.{ForSome};
 ghost use Rattle.std.specs.String.{string_bytes};
+ghost use Rattle.std.specs.Fs.{metadata_len, file_type, IsFile};
+ghost use Rattle.std.specs.IoError.{error_kind};
+ghost use Rattle.std.specs.Io.KnownBytes.{Appends};
+ghost use Rattle.complete.specs.System.{SaysAbsent};
 
 use crate::faults::Faults;
+use crate::whole::write_whole;
 use cs_base::{Failed, Files};
 use std::alloc::Global;
-use std::fs::{File, OpenFile, OpenOptions};
-use std::io::{self, ErrorKind, Read, Seek, SeekFrom, Write};
+use std::fs::{File, Metadata, OpenFile, OpenOptions};
+use std::io::{self, ErrorKind, Read, Seek, SeekFrom};
 use std::{fs, rt};
 
 /// The system's files. A name is a path, and a file is a regular one: a folder or a pipe fails.
@@ -88,12 +94,7 @@ struct Disk<'a, R: rt::Files + Drop> {
 
 impl<R: rt::Files + Drop> Disk<'_, R> {
     fn size(&self, name: &str) -> io::Result<Option<u64>> {
-        match fs::metadata(self.rt, name) {
-            Ok(found) if found.is_file() => Ok(Some(found.len())),
-            Ok(_) => Err(ErrorKind::Unsupported.into()),
-            Err(error) if is_absent(error.kind()) => Ok(None),
-            Err(error) => Err(error),
-        }
+        size_of(fs::metadata(self.rt, name))
     }
 
     fn read_at(&mut self, name: &str, at: u64, out: &mut [u8]) -> io::Result<()> {
@@ -110,9 +111,13 @@ impl<R: rt::Files + Drop> Disk<'_, R> {
         Ok(())
     }
 
-    fn append(&mut self, name: &str, bytes: &[u8]) -> io::Result<()> {
+    // Over a file whose content is known, exactly these bytes came to it.
+    fn append(&mut self, name: &str, bytes: &[u8]) -> io::Result<()>
+        ensures { OnOk result (ForSome self.old.opened (λ o. o.access ≡ Access.Append → string_bytes o.name ≡ name.now
+            → ForSome self.new.opened (λ p. Appends (R.File.contents o.file) (R.File.contents p.file) bytes.now))) }
+    {
         let mut opened = self.open(name, Access::Append)?;
-        opened.file.write_all(bytes)?;
+        write_whole(&mut opened.file, bytes)?;
         self.opened = Some(opened);
         Ok(())
     }
@@ -123,7 +128,8 @@ impl<R: rt::Files + Drop> Disk<'_, R> {
 
     // Takes the open file where it is this one, and opens it elsewhere.
     fn open(&mut self, name: &str, access: Access) -> io::Result<Opened<R::File>>
-        ensures { IfOk result (λ o. (o.access ≡ access) × (string_bytes o.name ≡ name.now)) }
+        ensures right { IfOk result (λ o. (o.access ≡ access) × (string_bytes o.name ≡ name.now)) }
+        ensures kept { ForSome self.old.opened (λ o. o.access ≡ access → string_bytes o.name ≡ name.now → result ≡ Ok o) }
     {
         match self.opened.take() {
             Some(opened) if opened.access == access && opened.name.as_str() == name => Ok(opened),
@@ -141,9 +147,24 @@ impl<R: rt::Files + Drop> Disk<'_, R> {
     }
 }
 
+// The bytes of a file, by what the system says of its name; None where no file has the name.
+fn size_of(found: io::Result<Metadata>) -> io::Result<Option<u64>>
+    ensures file { IfOk found (λ m. IsFile (file_type m) → result ≡ Ok (Some (metadata_len m))) }
+    ensures other { IfOk found (λ m. ¬ IsFile (file_type m) → IsErr result) }
+    ensures absent { IfErr found (λ e. SaysAbsent (error_kind e) → result ≡ Ok None) }
+    ensures err { IfErr found (λ e. ¬ SaysAbsent (error_kind e) → IsErr result) }
+{
+    match found {
+        Ok(found) if found.is_file() => Ok(Some(found.len())),
+        Ok(_) => Err(ErrorKind::Unsupported.into()),
+        Err(error) if is_absent(error.kind()) => Ok(None),
+        Err(error) => Err(error),
+    }
+}
+
 // Whether the system says so of a name that no file has.
 fn is_absent(kind: ErrorKind) -> bool
-    ensures { IsTrue result ↔ ((kind ≡ ErrorKind.NotFound) ⊎ (kind ≡ ErrorKind.NotADirectory)) }
+    ensures { IsTrue result ↔ SaysAbsent kind }
 {
     kind == ErrorKind::NotFound || kind == ErrorKind::NotADirectory
 }

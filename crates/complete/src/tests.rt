@@ -1,9 +1,14 @@
-//! The adapters over real files: what the system does is in no clause.
+//! The adapters over real files: what the system does is in no clause. Command lines as a whole.
 use crate::disk::DiskFiles;
 use crate::standard::Standard;
-use cs_base::{Failed, Files, Sink};
+use crate::startup::start;
+use cs_base::{Failed, Files, MemSink, ScriptHub, Seq, Sink};
+use std::alloc::{AllocError, Global};
+use std::env::Args;
 use std::fs;
-use std::fs::{File, OpenOptions};
+use std::fs::{File, OpenFile, OpenOptions};
+use std::io::ErrorKind;
+use std::process::ExitCode;
 use std::test::Fail;
 
 #[test]
@@ -74,5 +79,67 @@ fn a_sink_hands_on_all_bytes_or_fails(rt: HostRuntime) -> Result<(), Fail> {
     let mut full = Standard::new(OpenOptions::new().write(true).open(&rt, "/dev/full")?);
     assert_eq!(rt; full.put(b"no room"), Err(Failed));
     fs::remove_dir_all(&rt, FOLDER)?;
+    Ok(())
+}
+
+#[test]
+fn a_file_of_more_than_32_bits_has_its_size(rt: HostRuntime) -> Result<(), Fail> {
+    const FOLDER: &str = "complete_large_test";
+    const NAME: &str = "complete_large_test/a";
+    const SIZE: u64 = (1 << 32) + 9;
+    let _ = fs::remove_dir_all(&rt, FOLDER);
+    fs::create_dir(&rt, FOLDER)?;
+    fs::write(&rt, NAME, "first")?;
+    OpenOptions::new()
+        .write(true)
+        .open(&rt, NAME)?
+        .set_len(SIZE)?;
+    let mut files = DiskFiles::new(rt.alloc(), &rt);
+    assert_eq!(rt; files.size(NAME), Ok(Some(SIZE)));
+    assert_eq!(rt; files.append(NAME, b"last"), Ok(()));
+    let mut piece = [0u8; 4];
+    assert_eq!(rt; files.read_at(NAME, SIZE, &mut piece), Ok(()));
+    assert_eq!(rt; piece, *b"last");
+    fs::remove_dir_all(&rt, FOLDER)?;
+    Ok(())
+}
+
+const USAGE: &str =
+    "usage: complete build COLLECTION INDEX | ask COLLECTION SCRIPT | replay INDEX SCRIPT | serve INDEX PORT CONNS | trial N\n";
+
+fn command_line(alloc: Global, words: &[&str]) -> Result<Args, AllocError> {
+    let mut args = Vec::new(alloc);
+    for word in words {
+        args.push(String::from_str(alloc, word)?)?;
+    }
+    Ok(args.into_iter())
+}
+
+#[test]
+fn a_command_line_ends_with_its_status(rt: HostRuntime) -> Result<(), Fail> {
+    let alloc = rt.alloc();
+    let lost = ["complete", "ask", "complete_no_folder/C", "Q"];
+    let more = ["complete", "ask", "complete_no_folder/C", "Q", "more"];
+    for (args, status, said) in [
+        (Ok(command_line(alloc, &[])?), 2, USAGE),
+        (Ok(command_line(alloc, &lost[..1])?), 2, USAGE),
+        (
+            Ok(command_line(alloc, &lost)?),
+            5,
+            "absent: complete_no_folder/C\n",
+        ),
+        (Ok(command_line(alloc, &more)?), 2, USAGE),
+        (Err(ErrorKind::InvalidData.into()), 2, USAGE),
+        (Err(ErrorKind::OutOfMemory.into()), 7, "memory\n"),
+    ] {
+        let mut files = DiskFiles::new(alloc, &rt);
+        let mut hub = ScriptHub::new(alloc, Seq::new(alloc));
+        let mut out = MemSink::new(alloc);
+        let mut err = MemSink::new(alloc);
+        let code = start(alloc, args, &mut files, &mut hub, &mut out, &mut err);
+        assert_eq!(rt; code, ExitCode::from(status), "{said}");
+        assert_eq!(rt; err.bytes(), said.as_bytes(), "status {status}");
+        assert!(rt; out.bytes().is_empty(), "status {status}");
+    }
     Ok(())
 }
