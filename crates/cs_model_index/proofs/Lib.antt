@@ -1,11 +1,16 @@
 pub mod AcceptedLemmas
 pub mod AgainLemmas
+pub mod BlockSizes
 pub mod BlockUses
 pub mod CorpusLemmas
 pub mod FileExamples
 pub mod ImageLemmas
+pub mod ImageLimits
 pub mod NumberedLemmas
 pub mod NumbersLemmas
 pub mod PartitionLemmas
+pub mod RunBlocks
+pub mod RunRows
 pub mod SectionLemmas
+pub mod TextLimits
 pub mod WrittenLemmas

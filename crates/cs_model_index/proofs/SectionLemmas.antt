@@ -129,7 +129,7 @@ titles_written at (o ∷ ps) bytes some h end =
     )
 
 -- ---- the heads
-pub end_from : ℕ → List BlockHead → ℕ
+unfoldable pub end_from : ℕ → List BlockHead → ℕ
 end_from e [] = e
 end_from e (h ∷ hs) = end_from (h.lo + h.words) hs
 

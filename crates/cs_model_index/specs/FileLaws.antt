@@ -2,13 +2,14 @@
 --
 -- Source: this engine's own.
 --
--- The law `files` says what of this follows from the laws of blocks. The others are statements: no contract
--- promises them.
+-- The laws `files` and `accepted_files` say what of this follows from the laws of blocks. `AcceptedAreImages` is a statement: no
+-- contract promises it.
 --
 --   HasLimits i           an image whose numbers have room in a file, and whose titles, words and rows are those of a collection
 --   AcceptedAreFiles      an index file is the file of the image that is read of it
 --   FilesFollowBlocks     that follows from the laws of blocks
 --   FilesAreAccepted      the file of an image within the limits is an index file, of which this image is read
+--   ImagesFollowBlocks    that follows from the law of blocks
 --   AcceptedAreImages     what is read of an index file is the image of its corpus
 use Rattle.std.specs.Prelude.{◌≡◌, ℕ, ◌^◌, ◌<◌, ◌≤◌, true, List, length, All}
 use Rattle.std.specs.List.{sum_by}
@@ -51,6 +52,10 @@ FilesFollowBlocks = AcceptedAreBlocks → OneReading → AcceptedAreFiles
 -- and no other image is read of it
 abbrev pub FilesAreAccepted : Type 0
 FilesAreAccepted = (k : Corpus) (target : ℕ) (i : Image) → IsCorpus k → IsImage k target i → HasLimits i → IsIndexFile (file i) × (image_of (file i) ≡ i)
+
+-- it follows from the law of blocks
+abbrev pub ImagesFollowBlocks : Type 0
+ImagesFollowBlocks = OneReading → FilesAreAccepted
 
 -- so the rules accept the files of images alone
 abbrev pub AcceptedAreImages : Type 0
