@@ -3,6 +3,7 @@ pub mod AgainLemmas
 pub mod BlockSizes
 pub mod BlockUses
 pub mod CorpusLemmas
+pub mod CorpusSizes
 pub mod FileExamples
 pub mod ImageLemmas
 pub mod ImageLimits

@@ -1,7 +1,10 @@
 -- The block of a run keeps the rules of blocks, and its head those of the directory.
 --
 --   RunFacts       what is asked of a run, its head and its block
---   run_facts      it holds of each run of a partition
+--   AreRows        what holds of the words and rows of a corpus
+--   block_size     a block has as many posts as the words of its run have rows
+--   run_writable   a block of few words can hold its posts
+--   run_facts      what is asked holds of each run of a partition
 --   run_closed     a run that another one follows is closed
 use Rattle.std.proofs.Common.{◌≡◌, ℕ, zero, suc, ◌+◌, ◌*◌, ◌<◌, ◌≤◌, ◌^◌, ◌&&◌, ◌||◌, Bool, true, false, true≢false, not, cond, List, [], ◌∷◌, ◌++◌, length, take, drop, refl, sym, ap, ◌∙◌, arith, take_at, drop_at}
 use Rattle.std.specs.Bool.{◌==◌}
@@ -24,7 +27,7 @@ use Rattle.cs_base.specs.declared.content.doc.Row.{Row}
 use Rattle.cs_base.specs.declared.content.limits.TheConstants.{MAX_ROWS, MAX_WORDS}
 use Rattle.cs_model.specs.Scores.{SCORES}
 use Rattle.cs_model.specs.Words.{is_filled}
-use Rattle.cs_model_index.specs.Blocks.{IsShaped, block_bytes}
+use Rattle.cs_model_index.specs.Blocks.{AreWritable, IsShaped, block_bytes}
 use Rattle.cs_model_index.specs.BlockRules.{is_scored, IsBlock}
 use Rattle.cs_model_index.specs.FileRules.{has_rows, is_closed, is_of_one_kind, is_sized}
 use Rattle.cs_model_index.specs.Images.{block_of, count_in, head_of}
@@ -73,6 +76,10 @@ some_counted p (r ∷ posts) h = some_counted_at (p r) (list_any p posts) (count
 both_then : (P Q S : Post → Type 0) → ((p : Post) → P p → Q p → S p) → (ps : List Post) → AllByRecursion P ps → AllByRecursion Q ps → AllByRecursion S ps
 both_then P Q S f [] h k = tt
 both_then P Q S f (p ∷ ps) h k = (f p h.0 k.0, both_then P Q S f ps h.1 k.1)
+
+wider : (P Q : Post → Type 0) → ((p : Post) → P p → Q p) → (ps : List Post) → AllByRecursion P ps → AllByRecursion Q ps
+wider P Q f [] h = tt
+wider P Q f (p ∷ ps) h = (f p h.0, wider P Q f ps h.1)
 
 each_counted : (count : List ℕ → ℕ) (run : Run) → ((w : List ℕ) → list_any (bytes_eq w) run ≡ true → 1 ≤ count w) → length run ≤ sum_by count run
 each_counted count [] one = omega arith
@@ -126,7 +133,7 @@ module _ (ws : Run) (rows : List Row) (are : AreRows ws rows) where
       ap (λ n. count_by (λ post. post.word == n) (block_of ws rows run)) (sym (number_at_place lo run is k l))
       ∙ count_word ws run (word_at run k) rows (run_known ws lo run is (word_at run k) there) there are.known
 
-  block_size : (lo : ℕ) (run : Run) → IsAt ws lo run → length (block_of ws rows run) ≡ rows_of_run (count_in rows) run
+  pub block_size : (lo : ℕ) (run : Run) → IsAt ws lo run → length (block_of ws rows run) ≡ rows_of_run (count_in rows) run
   block_size lo run is = length-map (filter (has run) rows) (post_of ws) ∙ count_run run (run_apart ws lo run is are.up) rows
 
   has_some : (lo : ℕ) (run : Run) → IsAt ws lo run → (w : List ℕ) → list_any (bytes_eq w) run ≡ true → 1 ≤ count_in rows w
@@ -156,6 +163,13 @@ module _ (ws : Run) (rows : List Row) (are : AreRows ws rows) where
       range_all (λ n. list_any (λ post. post.word == n) (block_of ws rows run)) lo (length run)
       (λ k l. some_counted (λ post. post.word == lo + k) (block_of ws rows run) (omega (arith, posts_of_word lo run is k l, has_some lo run is (word_at run k) (in_run run k l))))
 
+  -- a block of few words can hold its posts
+  pub run_writable : (lo : ℕ) (run : Run) → IsAt ws lo run → length run ≤ MAX_BLOCK_WORDS → AreWritable lo (block_of ws rows run)
+  run_writable lo run is short = record {
+    sorted = posts_ascend ws are.up (filter (has run) rows) (kept (HasWord ws) (has run) rows are.known) (IsStrictlySortedBy-filter by_spot (has run) rows are.spots);
+    words = All-from_recursion (λ p. (lo ≤ p.word) × (p.word < lo + 2 ^ 16)) (block_of ws rows run) (wider (λ p. (lo ≤ p.word) × (p.word < lo + length run)) (λ p. (lo ≤ p.word) × (p.word < lo + 2 ^ 16)) (λ p h. (h.0, omega (arith, h.1, short))) (block_of ws rows run) (words_in lo run is));
+  }
+
   pub run_facts : (docs target lo : ℕ) (run : Run) → IsAt ws lo run → is_run target (count_in rows) run ≡ true → length ws ≤ MAX_WORDS → length (block_of ws rows run) ≤ MAX_ROWS
       → AllByRecursion (λ p. p.doc < docs) (block_of ws rows run) → AllByRecursion (λ p. is_scored SCORES (is_facet (word_at ws p.word)) p ≡ true) (block_of ws rows run) → RunFacts ws rows docs target lo run
   run_facts docs target lo run is fit within few docs_in scored =
@@ -173,7 +187,7 @@ module _ (ws : Run) (rows : List Row) (are : AreRows ws rows) where
       let bytes = block_len posts lo in
       let end : lo + length run ≤ MAX_WORDS = omega (arith, run_within ws lo run is, within) in
       let words = words_in lo run is in
-      let up = posts_ascend ws are.up (filter (has run) rows) (kept (HasWord ws) (has run) rows are.known) (IsStrictlySortedBy-filter by_spot (has run) rows are.spots) in
+      let can : AreWritable lo posts = run_writable lo run is short in
       let facet : Bool = is_facet (word_at run 0) in
       record {
         some = some;
@@ -182,12 +196,9 @@ module _ (ws : Run) (rows : List Row) (are : AreRows ws rows) where
         block = record {
           count = refl;
           written = refl;
-          writable = record {
-            sorted = up;
-            words = All-from_recursion (λ p. (lo ≤ p.word) × (p.word < lo + 2 ^ 16)) posts (wider (λ p. (lo ≤ p.word) × (p.word < lo + length run)) (λ p. (lo ≤ p.word) × (p.word < lo + 2 ^ 16)) (λ p h. (h.0, omega (arith, h.1, short))) posts words);
-          };
+          writable = can;
           meets = meet_all (head_of lo run posts) docs posts docs_in (wider (λ p. (lo ≤ p.word) × (p.word < lo + length run)) (λ p. p.word < lo + length run) (λ p h. h.1) posts words)
-              (both_then (λ p. is_scored SCORES (is_facet (word_at ws p.word)) p ≡ true) (λ p. is_facet (word_at ws p.word) ≡ facet) (λ p. is_scored SCORES facet p ≡ true) (λ p s k. ap (λ f. is_scored SCORES f p) (sym k) ∙ s) posts scored (of_kind lo run is b.0)) up;
+              (both_then (λ p. is_scored SCORES (is_facet (word_at ws p.word)) p ≡ true) (λ p. is_facet (word_at ws p.word) ≡ facet) (λ p. is_scored SCORES facet p ≡ true) (λ p s k. ap (λ f. is_scored SCORES f p) (sym k) ∙ s) posts scored (of_kind lo run is b.0)) can.sorted;
         };
         kinds = and_from (nat_le (length run) MAX_BLOCK_WORDS) _ c.0 (ap is_one_kind (own_words lo run is) ∙ b.0);
         sized = and_from (nat_le (length run) n) _ (le-leb _ _ more) (and_from (nat_le (8 * n) len) (nat_le len (12 * n)) (le-leb _ _ bytes.0) (le-leb _ _ bytes.1));
@@ -197,10 +208,6 @@ module _ (ws : Run) (rows : List Row) (are : AreRows ws rows) where
     where
       filled : (n : ℕ) → nat_lt 0 n ≡ true → 1 ≤ n
       filled n h = grind (arith, nat_tests)
-
-      wider : (P Q : Post → Type 0) → ((p : Post) → P p → Q p) → (ps : List Post) → AllByRecursion P ps → AllByRecursion Q ps
-      wider P Q f [] h = tt
-      wider P Q f (p ∷ ps) h = (f p h.0, wider P Q f ps h.1)
 
   closed_same : (target n : ℕ) (v v' w w' : List ℕ) (x x' y y' : ℕ) → v' ≡ v → w' ≡ w → x' ≡ x → y' ≡ y → (not (is_alike v w) || is_full target n (x + y)) ≡ true → (not (is_alike v' w') || is_full target n (x' + y')) ≡ true
   closed_same target n v v' w w' x x' y y' p q r s h = rw (p, q, r, s) h
