@@ -4,27 +4,24 @@
 --   rows_fewer       and there are at most as many of them
 --   made_written     the image can be written
 --   made_limits      and is within the limits
-use Rattle.std.proofs.Common.{◌≡◌, ℕ, ◌+◌, ◌^◌, ◌<◌, ◌≤◌, Bool, true, false, ◌||◌, true≢false, cond, List, [], ◌∷◌, length, map, refl, sym, ap, subst, ◌∙◌, arith}
+use Rattle.std.proofs.Common.{◌≡◌, ℕ, ◌^◌, ◌<◌, ◌≤◌, Bool, true, ◌||◌, List, [], ◌∷◌, length, map, refl, sym, ap, subst, ◌∙◌, arith}
 use Rattle.std.specs.List.{All, AllByRecursion, list_any, sum_by, zip}
 use Rattle.std.specs.Ordering.{nat_cmp, eq_by_cmp}
-use Rattle.std.specs.declared.cmp.Ordering.{Ordering}
-use Rattle.std.specs.Cmp.{IsTotalOrder, Equal-is}
 use Rattle.std.specs.Cmp.Lexicographic.{slice_cmp}
-use Rattle.std.specs.FinMap.{FinMap, IsAntisymmetric, contains_key, entries, from_entries, len, len-empty, len-entries, len-insert}
+use Rattle.std.specs.FinMap.{contains_key}
 use Rattle.std.specs.Str.{IsUtf8}
-use Rattle.std.proofs.lemmas.Bool.{or_left, or_right}
 use Rattle.std.proofs.lemmas.Cmp.{nat_list_cmp_total}
 use Rattle.std.proofs.lemmas.List.{length-map}
 use Rattle.std.proofs.lemmas.List.Elements.{All-from_recursion, recursion_from_All, All-map}
 use Rattle.std.proofs.lemmas.Map.Lookups.{exact_bytes}
-use Rattle.cs_base.specs.content.Members.{marked, members_in}
+use Rattle.cs_base.specs.content.Members.{members_in}
 use Rattle.cs_base.specs.content.Orders.{by_row}
 use Rattle.cs_base.specs.declared.content.doc.Doc.{Doc}
 use Rattle.cs_base.specs.declared.content.doc.Row.{Row}
 use Rattle.cs_base.specs.declared.content.limits.TheConstants.{MAX_DOCS, MAX_LINE_BYTES, MAX_ROWS, MAX_WORDS, MAX_WORD_BYTES}
-use Rattle.cs_base.proofs.MembersLemmas.{is_member-listed, members-alike}
+use Rattle.cs_base.proofs.MembersLemmas.{members-alike}
 use Rattle.cs_base.proofs.OrdersLemmas.{by_row_total, by_row_exact}
-use Rattle.cs_docs.proofs.TextLemmas.{All-members, ties}
+use Rattle.cs_docs.proofs.TextLemmas.{All-members}
 use Rattle.cs_file.specs.Writable.{CanBeWritten}
 use Rattle.cs_model.specs.Corpus.{Corpus, distinct_words, title_of}
 use Rattle.cs_model.specs.Scores.{SCORES}
@@ -38,71 +35,10 @@ use Rattle.cs_model_index.specs.Numbered.{post_of, word_at}
 use Rattle.cs_model_index.specs.Partitions.{is_facet}
 use Rattle.cs_model_index.proofs.CorpusSizes.{words_are, posts_few, posts_from, blocks_hold, blocks_few, title_there}
 use Rattle.cs_model_index.proofs.ImageLemmas.{one_list}
+use Rattle.cs_model_index.proofs.Listings.{any_listed, listed_few}
 use Rattle.cs_model_index.proofs.NumberedLemmas.{word_of_number}
 use Rattle.cs_build.specs.Building.{corpus_from, KeepLimits}
 use Rattle.cs_build.specs.BuildLaws.{Made, ImagesAreWritable, ImagesHaveLimits}
-
--- ---- members
-module _ {X : Type 0} (R : X → X → Ordering) (o : IsTotalOrder R) (exact : IsAntisymmetric R) where
-  one_at : (P : X → Type 0) (q x : X) (b rest : Bool) → eq_by_cmp R q x ≡ b → P x → (b || rest) ≡ true → (rest ≡ true → P q) → P q
-  one_at P q x true rest e p h more = subst P (sym (exact q x ((Equal-is (R q x)).0 e))) p
-  one_at P q x false rest e p h more = more h
-
-  one_of : (P : X → Type 0) (xs : List X) → AllByRecursion P xs → (q : X) → list_any (eq_by_cmp R q) xs ≡ true → P q
-  one_of P [] h q e = absurd (true≢false (sym e))
-  one_of P (x ∷ xs) h q e = one_at P q x (eq_by_cmp R q x) (list_any (eq_by_cmp R q) xs) refl h.0 e (one_of P xs h.1 q)
-
-  each_of : (P : X → Type 0) (xs : List X) → ((q : X) → list_any (eq_by_cmp R q) xs ≡ true → P q) → AllByRecursion P xs
-  each_of P [] h = tt
-  each_of P (x ∷ xs) h = (h x (or_left _ _ (ties R o x)), each_of P xs (λ q e. h q (or_right (eq_by_cmp R q x) _ e)))
-
-  each_listed : (P : X → Type 0) (xs : List X) → AllByRecursion P (members_in R xs) → AllByRecursion P xs
-  each_listed P xs h = each_of P xs (λ q e. one_of P (members_in R xs) h q (is_member-listed R o xs q ∙ e))
-
-  listed_each : (P : X → Type 0) (xs : List X) → AllByRecursion P xs → AllByRecursion P (members_in R xs)
-  listed_each P xs h = each_of P (members_in R xs) (λ q e. one_of P xs h q (sym (is_member-listed R o xs q) ∙ e))
-
-  found_in : (p : X → Bool) (xs : List X) → AllByRecursion (λ x. p x ≡ true → list_any p xs ≡ true) xs
-  found_in p [] = tt
-  found_in p (x ∷ xs) = (λ e. or_left (p x) (list_any p xs) e, later xs (found_in p xs))
-    where
-      later : (ys : List X) → AllByRecursion (λ y. p y ≡ true → list_any p xs ≡ true) ys → AllByRecursion (λ y. p y ≡ true → (p x || list_any p xs) ≡ true) ys
-      later [] h = tt
-      later (y ∷ ys) h = (λ e. or_right (p x) (list_any p xs) (h.0 e), later ys h.1)
-
-  through_at : (t rest b : Bool) → (t ≡ true → b ≡ true) → (t || rest) ≡ true → (rest ≡ true → b ≡ true) → b ≡ true
-  through_at true rest b here e more = here refl
-  through_at false rest b here e more = more e
-
-  through : (p : X → Bool) (b : Bool) (xs : List X) → AllByRecursion (λ x. p x ≡ true → b ≡ true) xs → list_any p xs ≡ true → b ≡ true
-  through p b [] h e = absurd (true≢false (sym e))
-  through p b (x ∷ xs) h e = through_at (p x) (list_any p xs) b h.0 e (through p b xs h.1)
-
-  same_tests : (a b : Bool) → (a ≡ true → b ≡ true) → (b ≡ true → a ≡ true) → a ≡ b
-  same_tests true b h k = sym (h refl)
-  same_tests false true h k = k refl
-  same_tests false false h k = refl
-
-  any_listed : (p : X → Bool) (xs : List X) → list_any p (members_in R xs) ≡ list_any p xs
-  any_listed p xs =
-      same_tests (list_any p (members_in R xs)) (list_any p xs)
-      (through p (list_any p xs) (members_in R xs) (listed_each (λ x. p x ≡ true → list_any p xs ≡ true) xs (found_in p xs)))
-      (through p (list_any p (members_in R xs)) xs (each_listed (λ x. p x ≡ true → list_any p (members_in R xs) ≡ true) xs (found_in p (members_in R xs))))
-
-  one_more : (b : Bool) (n m : ℕ) → n ≤ m → cond b n (n + 1) ≤ m + 1
-  one_more true n m h = omega (arith, h)
-  one_more false n m h = omega (arith, h)
-
-  keys_few : (xs : List X) → len (from_entries {R = R} (map marked xs)) ≤ length xs
-  keys_few [] = omega (arith, len-empty R)
-  keys_few (x ∷ xs) =
-      let m : FinMap R (Unit {0}) = from_entries {R = R} (map marked xs) in
-      omega (arith, len-insert o m x tt, one_more (contains_key m x) (len m) (length xs) (keys_few xs))
-
-  listed_few : (xs : List X) → length (members_in R xs) ≤ length xs
-  listed_few xs =
-      let m : FinMap R (Unit {0}) = from_entries {R = R} (map marked xs) in
-      omega (arith, length-map (entries m) (λ e. e.0), len-entries m, keys_few xs)
 
 -- ---- rows
 any_map : (p : List ℕ → Bool) (rows : List Row) → list_any p (map (λ r. r.word) rows) ≡ list_any (λ r. p r.word) rows

@@ -53,7 +53,7 @@ module _ (ws : Run) (rows : List Row) (are : AreRows ws rows) where
   posts_sum front lo (run ∷ runs) split at =
       let is : IsAt ws lo run = record { front = front; rest = joined runs; split = split; at = at } in
       sum_by-cons (λ (block : List Post). length block) (block_of ws rows run) (blocks runs)
-      ∙ ap (λ n. n + sum_by (λ block. length block) (blocks runs)) (block_size ws rows are lo run is)
+      ∙ ap (λ n. n + sum_by (λ block. length block) (blocks runs)) (block_size ws rows are.up are.known lo run is)
       ∙ ap (λ n. rows_of_run (count_in rows) run + n) (posts_sum (front ++ run) (lo + length run) runs (split ∙ sym (append_assoc front run (joined runs))) (omega (arith, at, length-append front run)))
       ∙ sym (sum_by-append (count_in rows) run (joined runs))
 

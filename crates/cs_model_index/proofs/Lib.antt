@@ -7,9 +7,13 @@ pub mod CorpusSizes
 pub mod FileExamples
 pub mod ImageLemmas
 pub mod ImageLimits
+pub mod Listings
 pub mod NumberedLemmas
 pub mod NumbersLemmas
 pub mod PartitionLemmas
+pub mod ReadBlocks
+pub mod ReadImages
+pub mod ReadRows
 pub mod RunBlocks
 pub mod RunRows
 pub mod SectionLemmas

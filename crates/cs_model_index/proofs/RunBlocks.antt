@@ -1,7 +1,10 @@
 -- The block of a run keeps the rules of blocks, and its head those of the directory.
 --
 --   RunFacts       what is asked of a run, its head and its block
+--   in_run         each word of a run is among its words
 --   AreRows        what holds of the words and rows of a corpus
+--   first_word     the word with which a run begins
+--   posts_of_word  a block has as many posts of a word as the word has rows
 --   block_size     a block has as many posts as the words of its run have rows
 --   run_writable   a block of few words can hold its posts
 --   run_facts      what is asked holds of each run of a partition
@@ -41,10 +44,10 @@ use Rattle.cs_model_index.proofs.NumberedLemmas.{word_of_number, number_of_word,
 use Rattle.cs_model_index.proofs.RunRows.{Run, has, IsAt, count_word, count_run, count_some, each_post, run_word, run_known, run_number, run_apart, run_within}
 
 -- ---- lists
-itself : (w : List ℕ) → bytes_eq w w ≡ true
+pub itself : (w : List ℕ) → bytes_eq w w ≡ true
 itself w = (bytes_eq-Decides w w).1 refl
 
-in_run : (run : Run) (k : ℕ) → k < length run → list_any (bytes_eq (word_at run k)) run ≡ true
+pub in_run : (run : Run) (k : ℕ) → k < length run → list_any (bytes_eq (word_at run k)) run ≡ true
 in_run [] k l = absurd (omega (arith, l))
 in_run (w ∷ run) zero l = or_left (bytes_eq w w) (list_any (bytes_eq w) run) (itself w)
 in_run (w ∷ run) (suc k) l = or_right (bytes_eq (word_at run k) w) (list_any (bytes_eq (word_at run k)) run) (in_run run k (omega (arith, l)))
@@ -118,24 +121,25 @@ pub record AreRows (ws : Run) (rows : List Row) : Type 0 where
   pub spots : IsStrictlySortedBy by_spot rows
   pub present : (w : List ℕ) → list_any (bytes_eq w) ws ≡ true → list_any (λ r. bytes_eq w r.word) rows ≡ true
 
-module _ (ws : Run) (rows : List Row) (are : AreRows ws rows) where
-  first_word : (lo : ℕ) (run : Run) → IsAt ws lo run → 1 ≤ length run → word_at ws lo ≡ word_at run 0
+module _ (ws : Run) (rows : List Row) (up : IsStrictlySortedBy (slice_cmp nat_cmp) ws) (known : AllByRecursion (HasWord ws) rows) where
+  pub first_word : (lo : ℕ) (run : Run) → IsAt ws lo run → 1 ≤ length run → word_at ws lo ≡ word_at run 0
   first_word lo run is some = let here : lo + 0 ≡ lo = omega arith in ap (word_at ws) (sym here) ∙ run_word ws lo run is 0 (omega (arith, some))
 
   number_at_place : (lo : ℕ) (run : Run) → IsAt ws lo run → (k : ℕ) → k < length run → word_number ws (word_at run k) ≡ lo + k
   number_at_place lo run is k l =
-      ap (word_number ws) (sym (run_word ws lo run is k l)) ∙ number_of_word ws (lo + k) are.up (omega (arith, l, run_within ws lo run is))
+      ap (word_number ws) (sym (run_word ws lo run is k l)) ∙ number_of_word ws (lo + k) up (omega (arith, l, run_within ws lo run is))
 
   -- as many posts of a word as rows
-  posts_of_word : (lo : ℕ) (run : Run) → IsAt ws lo run → (k : ℕ) → k < length run → count_by (λ post. post.word == lo + k) (block_of ws rows run) ≡ count_in rows (word_at run k)
+  pub posts_of_word : (lo : ℕ) (run : Run) → IsAt ws lo run → (k : ℕ) → k < length run → count_by (λ post. post.word == lo + k) (block_of ws rows run) ≡ count_in rows (word_at run k)
   posts_of_word lo run is k l =
       let there : list_any (bytes_eq (word_at run k)) run ≡ true = in_run run k l in
       ap (λ n. count_by (λ post. post.word == n) (block_of ws rows run)) (sym (number_at_place lo run is k l))
-      ∙ count_word ws run (word_at run k) rows (run_known ws lo run is (word_at run k) there) there are.known
+      ∙ count_word ws run (word_at run k) rows (run_known ws lo run is (word_at run k) there) there known
 
   pub block_size : (lo : ℕ) (run : Run) → IsAt ws lo run → length (block_of ws rows run) ≡ rows_of_run (count_in rows) run
-  block_size lo run is = length-map (filter (has run) rows) (post_of ws) ∙ count_run run (run_apart ws lo run is are.up) rows
+  block_size lo run is = length-map (filter (has run) rows) (post_of ws) ∙ count_run run (run_apart ws lo run is up) rows
 
+module _ (ws : Run) (rows : List Row) (are : AreRows ws rows) where
   has_some : (lo : ℕ) (run : Run) → IsAt ws lo run → (w : List ℕ) → list_any (bytes_eq w) run ≡ true → 1 ≤ count_in rows w
   has_some lo run is w h = count_some w rows (are.present w (run_known ws lo run is w h))
 
@@ -161,7 +165,7 @@ module _ (ws : Run) (rows : List Row) (are : AreRows ws rows) where
   all_rows : (lo : ℕ) (run : Run) → IsAt ws lo run → has_rows (head_of lo run (block_of ws rows run), block_of ws rows run) ≡ true
   all_rows lo run is =
       range_all (λ n. list_any (λ post. post.word == n) (block_of ws rows run)) lo (length run)
-      (λ k l. some_counted (λ post. post.word == lo + k) (block_of ws rows run) (omega (arith, posts_of_word lo run is k l, has_some lo run is (word_at run k) (in_run run k l))))
+      (λ k l. some_counted (λ post. post.word == lo + k) (block_of ws rows run) (omega (arith, posts_of_word ws rows are.up are.known lo run is k l, has_some lo run is (word_at run k) (in_run run k l))))
 
   -- a block of few words can hold its posts
   pub run_writable : (lo : ℕ) (run : Run) → IsAt ws lo run → length run ≤ MAX_BLOCK_WORDS → AreWritable lo (block_of ws rows run)
@@ -182,7 +186,7 @@ module _ (ws : Run) (rows : List Row) (are : AreRows ws rows) where
       let c = and_parts (nat_le (length run) MAX_BLOCK_WORDS) (is_light target (length run) (rows_of_run count run)) b.1 in
       let some : 1 ≤ length run = filled (length run) a.0 in
       let short : length run ≤ MAX_BLOCK_WORDS = leb-true _ _ c.0 in
-      let size : n ≡ rows_of_run count run = block_size lo run is in
+      let size : n ≡ rows_of_run count run = block_size ws rows are.up are.known lo run is in
       let more : length run ≤ n = omega (arith, size, each_counted count run (has_some lo run is)) in
       let bytes = block_len posts lo in
       let end : lo + length run ≤ MAX_WORDS = omega (arith, run_within ws lo run is, within) in
@@ -191,7 +195,7 @@ module _ (ws : Run) (rows : List Row) (are : AreRows ws rows) where
       let facet : Bool = is_facet (word_at run 0) in
       record {
         some = some;
-        fits = record { lo = omega (arith, end); words = omega (arith, end); rows = omega (arith, few); len = omega (arith, few, bytes.1); facet = ap is_facet (sym (first_word lo run is some)) };
+        fits = record { lo = omega (arith, end); words = omega (arith, end); rows = omega (arith, few); len = omega (arith, few, bytes.1); facet = ap is_facet (sym (first_word ws rows are.up are.known lo run is some)) };
         shaped = record { size_is = refl; rows = more; least = bytes.0; most = bytes.1; words = end };
         block = record {
           count = refl;
@@ -217,5 +221,5 @@ module _ (ws : Run) (rows : List Row) (are : AreRows ws rows) where
   run_closed target lo to run next is then one more ended =
       let here : to + 0 ≡ to = omega arith in
       closed_same target (length run) (word_at run 0) (word_at ws lo) (word_at next 0) (word_at ws to) (rows_of_run (count_in rows) run) (length (block_of ws rows run)) (count_in rows (word_at next 0)) (count_by (λ post. post.word == to) (block_of ws rows next))
-      (first_word lo run is one) (first_word to next then more) (block_size lo run is)
-      (ap (λ m. count_by (λ post. post.word == m) (block_of ws rows next)) (sym here) ∙ posts_of_word to next then 0 (omega (arith, more))) ended
+      (first_word ws rows are.up are.known lo run is one) (first_word ws rows are.up are.known to next then more) (block_size ws rows are.up are.known lo run is)
+      (ap (λ m. count_by (λ post. post.word == m) (block_of ws rows next)) (sym here) ∙ posts_of_word ws rows are.up are.known to next then 0 (omega (arith, more))) ended

@@ -29,6 +29,7 @@ use Rattle.cs_base.specs.declared.content.doc.Post.{Post}
 use Rattle.cs_base.specs.declared.content.doc.Row.{Row}
 use Rattle.cs_model_index.specs.Images.{count_in}
 use Rattle.cs_model_index.specs.Numbered.{word_at, word_number, post_of, numbered, HasWord}
+use Rattle.cs_model_index.proofs.Listings.{same_tests}
 use Rattle.cs_model_index.proofs.NumberedLemmas.{word_of_number, number_of_word, number_below}
 
 abbrev pub Run : Type 0
@@ -39,11 +40,6 @@ abbrev pub has : Run → Row → Bool
 has run r = list_any (bytes_eq r.word) run
 
 -- ---- tests
-same_tests : (a b : Bool) → (a ≡ true → b ≡ true) → (b ≡ true → a ≡ true) → a ≡ b
-same_tests true b h k = sym (h refl)
-same_tests false true h k = k refl
-same_tests false false h k = refl
-
 pub turned : (v w : List ℕ) → bytes_eq v w ≡ bytes_eq w v
 turned v w = same_tests (bytes_eq v w) (bytes_eq w v) (λ e. (bytes_eq-Decides w v).1 (sym ((bytes_eq-Decides v w).0 e))) (λ e. (bytes_eq-Decides v w).1 (sym ((bytes_eq-Decides w v).0 e)))
 

@@ -2,8 +2,7 @@
 --
 -- Source: this engine's own.
 --
--- The laws `files` and `accepted_files` say what of this follows from the laws of blocks. `AcceptedAreImages` is a statement: no
--- contract promises it.
+-- The laws `files` and `accepted_files` say that all of this follows from the laws of blocks.
 --
 --   HasLimits i           an image whose numbers have room in a file, and whose titles, words and rows are those of a collection
 --   AcceptedAreFiles      an index file is the file of the image that is read of it
@@ -11,6 +10,7 @@
 --   FilesAreAccepted      the file of an image within the limits is an index file, of which this image is read
 --   ImagesFollowBlocks    that follows from the law of blocks
 --   AcceptedAreImages     what is read of an index file is the image of its corpus
+--   ReadingFollowsBlocks  that follows from the laws of blocks
 use Rattle.std.specs.Prelude.{◌≡◌, ℕ, ◌^◌, ◌<◌, ◌≤◌, true, List, length, All}
 use Rattle.std.specs.List.{sum_by}
 use Rattle.std.specs.Str.{IsUtf8}
@@ -60,3 +60,7 @@ ImagesFollowBlocks = OneReading → FilesAreAccepted
 -- so the rules accept the files of images alone
 abbrev pub AcceptedAreImages : Type 0
 AcceptedAreImages = (b : List ℕ) → All (λ x. x < 2 ^ 8) b → IsIndexFile b → IsImage (file_corpus b) (image_of b).target (image_of b)
+
+-- it follows from the laws of blocks
+abbrev pub ReadingFollowsBlocks : Type 0
+ReadingFollowsBlocks = AcceptedAreBlocks → OneReading → AcceptedAreImages

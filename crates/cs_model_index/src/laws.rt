@@ -1,6 +1,6 @@
 //! Laws about the definitions, and the numbers as they are promised. Each is the contract of a function that does nothing.
 ghost use Rattle.std.specs.Prelude.{◌≡◌, ◌^◌};
-ghost use Rattle.cs_model_index.specs.FileLaws.{FilesFollowBlocks, ImagesFollowBlocks};
+ghost use Rattle.cs_model_index.specs.FileLaws.{FilesFollowBlocks, ImagesFollowBlocks, ReadingFollowsBlocks};
 ghost use Rattle.cs_model_index.specs.Images.{ImagesAreOne, ImagesKeepCorpora};
 ghost use Rattle.cs_model_index.specs.Partitions.{PartitionsAreOne};
 
@@ -28,7 +28,9 @@ pub fn files()
     ensures { FilesFollowBlocks }
 {}
 
-/// Where the law of blocks holds, the file of an image within the limits is an index file, of which this image is read.
+/// Where the laws of blocks hold, the file of an image within the limits is an index file, of which this image is read;
+/// and what is read of an index file is the image of its corpus.
 pub fn accepted_files()
-    ensures { ImagesFollowBlocks }
+    ensures images { ImagesFollowBlocks }
+    ensures reading { ReadingFollowsBlocks }
 {}
