@@ -1,6 +1,6 @@
 //! Laws about collections, their images and files. Each is the contract of a function that does nothing.
 ghost use Rattle.cs_build.specs.BuildLaws.{TitlesAreParts, TitlesHaveFewBytes, CollectionsKeepLimits, ImagesAreWritable, ImagesHaveLimits, FilesOfCollections};
-ghost use Rattle.cs_model_index.specs.FileLaws.{AcceptedAreFiles, AcceptedAreImages, FilesAreAccepted};
+ghost use Rattle.cs_model_index.specs.FileLaws.{AcceptedAreFiles, AcceptedAreImages, FilesAreAccepted, ReadAreCorpora};
 
 /// The titles of a collection together have at most as many bytes as the collection, so those of a collection that
 /// isn't refused have fewer than 2^32.
@@ -27,5 +27,6 @@ pub fn files()
     ensures accepted { FilesAreAccepted }
     ensures same { AcceptedAreFiles }
     ensures images { AcceptedAreImages }
+    ensures corpora { ReadAreCorpora }
     ensures collections { FilesOfCollections }
 {}

@@ -28,6 +28,7 @@ use Rattle.cs_model_index.specs.declared.limits.TheConstants.{MAX_BLOCK_WORDS}
 use Rattle.cs_model_index.proofs.ImageLimits.{corpus_rows}
 use Rattle.cs_model_index.proofs.RunBlocks.{AreRows, block_size, run_writable}
 use Rattle.cs_model_index.proofs.RunRows.{Run, IsAt, apart_sorted, count_run, has}
+use Rattle.cs_model_index.proofs.Listings.{all_both}
 
 abbrev joined : List Run → Run
 joined runs = flat_map (λ run. run) runs
@@ -97,10 +98,6 @@ module _ (ws : Run) (rows : List Row) (are : AreRows ws rows) where
   block_posts : (Q : Row → Type 0) (P : Post → Type 0) → ((r : Row) → HasWord ws r → Q r → P (post_of ws r)) → (run : Run) (rs : List Row) → AllByRecursion (HasWord ws) rs → AllByRecursion Q rs → AllByRecursion P (numbered ws (filter (has run) rs))
   block_posts Q P one run [] w h = tt
   block_posts Q P one run (r ∷ rs) w h = post_at (has run r) P r (filter (has run) rs) (one r w.0 h.0) (block_posts Q P one run rs w.1 h.1)
-
-  all_both : (P : Post → Type 0) (xs ys : List Post) → AllByRecursion P xs → AllByRecursion P ys → AllByRecursion P (xs ++ ys)
-  all_both P [] ys h k = k
-  all_both P (x ∷ xs) ys h k = (h.0, all_both P xs ys h.1 k)
 
   posts_all : (Q : Row → Type 0) (P : Post → Type 0) → ((r : Row) → HasWord ws r → Q r → P (post_of ws r)) → (runs : List Run) → AllByRecursion Q rows → AllByRecursion P (flat_map (λ block. block) (blocks runs))
   posts_all Q P one [] h = tt

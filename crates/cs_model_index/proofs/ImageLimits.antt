@@ -15,7 +15,7 @@ use Rattle.std.proofs.lemmas.Bool.{and_parts, and_from, le-leb, eq-eqb}
 use Rattle.std.proofs.lemmas.List.Elements.{recursion_from_All}
 use Rattle.std.proofs.lemmas.List.Sums.{sum_by-cons}
 use Rattle.std.proofs.lemmas.Str.{is_utf8-from_IsUtf8}
-use Rattle.cs_base.proofs.MembersLemmas.{listing-rises}
+use Rattle.cs_base.proofs.MembersLemmas.{listing-rises, all_then}
 use Rattle.cs_base.specs.declared.content.doc.Post.{Post}
 use Rattle.cs_base.specs.declared.content.doc.Row.{Row}
 use Rattle.cs_base.specs.declared.content.limits.TheConstants.{MAX_LINE_BYTES, MAX_ROWS, MAX_WORDS}
@@ -48,10 +48,6 @@ all_parts P (x ∷ xs) ys h = let rest = all_parts P xs ys h.1 in ((h.0, rest.0)
 all_each : {X : Type 0} (P : X → Type 0) (bs : List (List X)) → AllByRecursion P (flat_map (λ b. b) bs) → AllByRecursion (AllByRecursion P) bs
 all_each P [] h = tt
 all_each P (b ∷ bs) h = let both = all_parts P b (flat_map (λ b. b) bs) h in (both.0, all_each P bs both.1)
-
-weaker : {X : Type 0} (P Q : X → Type 0) → ((x : X) → P x → Q x) → (xs : List X) → AllByRecursion P xs → AllByRecursion Q xs
-weaker P Q f [] h = tt
-weaker P Q f (x ∷ xs) h = (f x h.0, weaker P Q f xs h.1)
 
 -- ---- runs, one behind the other
 module _ (ws : Run) (rows : List Row) (docs target : ℕ) where
@@ -185,7 +181,7 @@ runs_writable ts rows runs target are each ended limits =
     let known = all_each (λ p. p.doc < docs) (blocks ws rows docs target runs) (recursion_from_All (λ p. p.doc < docs) _ limits.known) in
     let scored = all_each (λ p. is_scored SCORES (is_facet (word_at ws p.word)) p ≡ true) (blocks ws rows docs target runs) (recursion_from_All (λ p. is_scored SCORES (is_facet (word_at ws p.word)) p ≡ true) _ limits.scored) in
     let hold : AreRuns ws rows docs target 0 runs = are_runs ws rows docs target are limits.few_words [] 0 runs refl refl each limits.few_rows known scored in
-    let lengths : AllByRecursion HasLength ws = weaker (λ w. is_word w ≡ true) HasLength word_length ws (recursion_from_All (λ w. is_word w ≡ true) ws limits.words) in
+    let lengths : AllByRecursion HasLength ws = all_then (λ w. is_word w ≡ true) HasLength word_length ws (recursion_from_All (λ w. is_word w ≡ true) ws limits.words) in
     let titles : length (title_bytes ts) < 2 ^ 32 = limits.few_bytes in
     let sum = bytes_sum ws rows docs target 0 runs in
     let end : 0 + length ws ≡ length ws = omega arith in
@@ -196,7 +192,7 @@ runs_writable ts rows runs target are each ended limits =
         blocks = omega (arith, sum, bytes_few ws rows docs target 0 runs hold, limits.few_rows);
       };
       lengths = lengths;
-      offsets = weaker (λ n. n ≤ length (title_bytes ts)) (λ n. n < 2 ^ 32) (λ n l. omega (arith, l, titles)) _ (offsets_within (length (title_bytes ts)) 0 ts (omega arith));
+      offsets = all_then (λ n. n ≤ length (title_bytes ts)) (λ n. n < 2 ^ 32) (λ n l. omega (arith, l, titles)) _ (offsets_within (length (title_bytes ts)) 0 ts (omega arith));
       heads = heads_fit ws rows docs target 0 runs hold;
       one_each = one_each ws rows docs target 0 runs;
       blocks = are_blocks ws rows docs target 0 runs hold;
@@ -214,7 +210,7 @@ runs_writable ts rows runs target are each ended limits =
         ascend = words_follow word_size vocabulary_at ws are.up;
         onward = offsets_onward (offsets_at h) ts (recursion_from_All (λ t. length t ≤ MAX_LINE_BYTES) ts limits.short);
         last_offset = offsets_end ts;
-        texts = placed (λ t. is_utf8 t ≡ true) (λ t. length t) (titles_at h) None ts (weaker IsUtf8 (λ t. is_utf8 t ≡ true) is_utf8-from_IsUtf8 ts (recursion_from_All IsUtf8 ts limits.texts));
+        texts = placed (λ t. is_utf8 t ≡ true) (λ t. length t) (titles_at h) None ts (all_then IsUtf8 (λ t. is_utf8 t ≡ true) is_utf8-from_IsUtf8 ts (recursion_from_All IsUtf8 ts limits.texts));
         joined = heads_joined ws rows docs target (directory_at h) None 0 runs refl hold;
         end = end_is (heads ws rows docs target 0 runs) ∙ heads_end ws rows docs target 0 runs ∙ end;
         kinds = placed (λ h. is_of_one_kind ws h ≡ true) (λ h. ENTRY_BYTES) (directory_at h) None (heads ws rows docs target 0 runs) (heads_kinds ws rows docs target 0 runs hold);

@@ -12,6 +12,7 @@ pub mod NumberedLemmas
 pub mod NumbersLemmas
 pub mod PartitionLemmas
 pub mod ReadBlocks
+pub mod ReadCorpora
 pub mod ReadImages
 pub mod ReadRows
 pub mod RunBlocks

@@ -1,12 +1,14 @@
 -- A listing has the members of its list: what holds of the ones holds of the others.
 --
 --   same_tests      tests that follow from each other are one
+--   all_both        what holds of each of two lists holds of each of both
+--   both_all        what follows of two facts, for each of a list
 --   each_listed     what holds of each of a listing holds of each of the list
 --   listed_each     and the other way round
 --   any_listed      some of a listing passes a test exactly where some of the list does
 --   listed_few      a listing isn't longer than the list
 --   filter_members  those of a listing that pass a test are the listing of those of the list
-use Rattle.std.proofs.Common.{◌≡◌, ℕ, ◌+◌, ◌≤◌, Bool, true, false, ◌&&◌, ◌||◌, true≢false, cond, List, [], ◌∷◌, length, map, refl, sym, ap, subst, ◌∙◌, arith}
+use Rattle.std.proofs.Common.{◌≡◌, ℕ, ◌+◌, ◌≤◌, Bool, true, false, ◌&&◌, ◌||◌, true≢false, cond, List, [], ◌∷◌, ◌++◌, length, map, refl, sym, ap, subst, ◌∙◌, arith}
 use Rattle.std.specs.Prelude.{filter}
 use Rattle.std.specs.List.{AllByRecursion, list_any}
 use Rattle.std.specs.Ordering.{eq_by_cmp, is_eq}
@@ -24,6 +26,14 @@ pub same_tests : (a b : Bool) → (a ≡ true → b ≡ true) → (b ≡ true �
 same_tests true b h k = sym (h refl)
 same_tests false true h k = k refl
 same_tests false false h k = refl
+
+pub all_both : {X : Type 0} (P : X → Type 0) (xs ys : List X) → AllByRecursion P xs → AllByRecursion P ys → AllByRecursion P (xs ++ ys)
+all_both P [] ys h k = k
+all_both P (x ∷ xs) ys h k = (h.0, all_both P xs ys h.1 k)
+
+pub both_all : {X : Type 0} (P Q S : X → Type 0) → ((x : X) → P x → Q x → S x) → (xs : List X) → AllByRecursion P xs → AllByRecursion Q xs → AllByRecursion S xs
+both_all P Q S f [] h k = tt
+both_all P Q S f (x ∷ xs) h k = (f x h.0 k.0, both_all P Q S f xs h.1 k.1)
 
 filtered_at : {X : Type 0} (t : X → Bool) (b : Bool) (x : X) (f : List X) → list_any t (cond b (x ∷ f) f) ≡ ((b && t x) || list_any t f)
 filtered_at t true x f = refl

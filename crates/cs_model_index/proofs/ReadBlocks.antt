@@ -31,6 +31,7 @@ use Rattle.cs_model_index.proofs.BlockUses.{BlocksAreRead}
 use Rattle.cs_model_index.proofs.NumbersLemmas.{IsBytes, IsBytes-take, IsBytes-drop, all_from_bytes}
 use Rattle.cs_model_index.proofs.RunRows.{Run}
 use Rattle.cs_model_index.proofs.SectionLemmas.{AreShaped, block_none, end_from, ends_rise}
+use Rattle.cs_model_index.proofs.Listings.{both_all}
 
 -- ---- words
 behind_all : (v w : List ℕ) (ws : Run) → slice_cmp nat_cmp v w ≡ Less → AllByRecursion (λ x. slice_cmp nat_cmp w x ≡ Less) ws → AllByRecursion (λ x. slice_cmp nat_cmp v x ≡ Less) ws
@@ -75,10 +76,6 @@ keeps_all : (holds : Option Post → Post → Bool) (P : Post → Type 0) → ((
 unfolding keeps
 keeps_all holds P one last [] h = tt
 keeps_all holds P one last (r ∷ rs) h = let both = and_parts (holds last r) (keeps holds (Some r) rs) h in (one last r both.0, keeps_all holds P one (Some r) rs both.1)
-
-both_all : (P Q S : Post → Type 0) → ((p : Post) → P p → Q p → S p) → (ps : List Post) → AllByRecursion P ps → AllByRecursion Q ps → AllByRecursion S ps
-both_all P Q S f [] h k = tt
-both_all P Q S f (p ∷ ps) h k = (f p h.0 k.0, both_all P Q S f ps h.1 k.1)
 
 -- what the rules of a block leave
 block_words : (h : BlockHead) (docs : ℕ) (rs : List Post) (bytes : List ℕ) → IsBlock SCORES h docs rs bytes → AllByRecursion (λ p. (h.lo ≤ p.word) × (p.word < h.lo + h.words)) rs

@@ -3,7 +3,7 @@
 --   FileRead       what an index file is read as: its words ascend, its heads name them, and each head has its block
 --   file_read      so it is where no rule is broken
 --   images_read    the law, by the laws of blocks
-use Rattle.std.proofs.Common.{◌≡◌, ℕ, ◌<◌, ◌^◌, Bool, true, false, ◌||◌, true≢false, List, [], ◌∷◌, length, map, drop, None, refl, sym, ap, ◌∙◌, arith}
+use Rattle.std.proofs.Common.{◌≡◌, ℕ, ◌+◌, ◌<◌, ◌^◌, Bool, true, false, ◌||◌, true≢false, List, [], ◌∷◌, length, map, drop, None, refl, sym, ap, ◌∙◌, arith}
 use Rattle.std.specs.Prelude.{flat_map}
 use Rattle.std.specs.List.{All, AllByRecursion, list_any, zip}
 use Rattle.std.specs.List.Sorted.{IsStrictlySortedBy}
@@ -24,22 +24,23 @@ use Rattle.cs_model_index.specs.FileLaws.{AcceptedAreImages}
 use Rattle.cs_model_index.specs.FileRules.{damage, IsIndexFile, word_size}
 use Rattle.cs_model_index.specs.Images.{Image, block_of, heads_from, image_by}
 use Rattle.cs_model_index.specs.Numbered.{HasWord}
-use Rattle.cs_model_index.specs.Sections.{blocks_at, contents_of, directory_at, directory_len, header_of, image_of, offsets_len, sections, vocabulary_at}
+use Rattle.cs_model_index.specs.Sections.{blocks_at, contents_of, directory_at, directory_len, header_of, image_of, offsets_at, offsets_len, sections, vocabulary_at}
 use Rattle.cs_model_index.specs.declared.limits.TheConstants.{HEADER_BYTES}
 use Rattle.cs_model_index.proofs.AcceptedLemmas.{RulesHold, rules_hold, sections_sized}
 use Rattle.cs_model_index.proofs.BlockUses.{BlocksAreRead, blocks_are_read}
 use Rattle.cs_model_index.proofs.CorpusLemmas.{any_alike, any_through}
 use Rattle.cs_model_index.proofs.Listings.{same_tests}
-use Rattle.cs_model_index.proofs.NumbersLemmas.{IsBytes, IsBytes-drop, bytes_from_all}
+use Rattle.cs_model_index.proofs.NumbersLemmas.{IsBytes, IsBytes-drop, bytes_from_all, numbers_count}
 use Rattle.cs_model_index.proofs.ReadBlocks.{AreRead, blocks_read, heads_kinds, rising_words}
 use Rattle.cs_model_index.proofs.ReadRows.{runs_from, runs_joined, posts_below, rows, blocks_again, heads_again, rows_known, rows_present, runs_fit, runs_ended}
 use Rattle.cs_model_index.proofs.RunRows.{Run}
-use Rattle.cs_model_index.proofs.SectionLemmas.{end_from, end_is, shapes, words_written}
+use Rattle.cs_model_index.proofs.SectionLemmas.{end_from, end_is, shapes, titles_written, words_written}
 
 -- ---- a file
 pub record FileRead (i : Image) : Type 0 where
   pub up : IsStrictlySortedBy (slice_cmp nat_cmp) i.words
   pub docs : ℕ
+  pub titles : docs ≡ length i.titles
   pub read : AreRead i.words docs i.target 0 i.heads i.blocks
   pub end : end_from 0 i.heads ≡ length i.words
 
@@ -60,11 +61,14 @@ file_read law b small e =
     let behind_titles = IsBytes-drop h.titles_len (drop (offsets_len h) (drop h.vocabulary_len rest)) behind_offsets in
     let bytes = IsBytes-drop (directory_len h) (drop h.titles_len (drop (offsets_len h) (drop h.vocabulary_len rest))) behind_titles in
     let count : length r.words ≡ h.words = (words_written h.words vocabulary_at s.vocabulary hold.words_stand).count in
+    let many : length r.offsets ≡ h.docs + 1 = numbers_count (h.docs + 1) s.offsets in
+    let titles = titles_written (offsets_at h) r.offsets s.titles (omega (arith, many)) v.onward (v.last_offset ∙ sym sized.titles) in
     let last : end_from 0 r.heads ≡ h.words = sym (end_is r.heads) ∙ v.end in
     let shaped = shapes (directory_at h) None r.heads (length s.blocks) v.joined v.sized (omega (arith, last, v.fields.words)) (v.bytes_sum ∙ sym sized.blocks) in
     record {
       up = rising_words word_size vocabulary_at r.words v.ascend;
       docs = h.docs;
+      titles = omega (arith, titles.0, many);
       read = blocks_read r.words h.docs h.target law (omega (arith, v.fields.docs)) (directory_at h) (blocks_at h) None None r.heads s.blocks v.joined v.kinds (last ∙ sym count) (heads_kinds r.words h.blocks s.directory) bytes shaped hold.blocks v.parted;
       end = last ∙ sym count;
     }

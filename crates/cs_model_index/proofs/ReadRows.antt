@@ -24,7 +24,7 @@ use Rattle.std.proofs.lemmas.List.Elements.{filter-append}
 use Rattle.std.proofs.lemmas.List.Folds.{list_any-append}
 use Rattle.std.proofs.lemmas.Map.Keys.{Less-from_sorted}
 use Rattle.std.proofs.lemmas.Slice.Eq.{bytes_eq-Decides}
-use Rattle.cs_base.proofs.MembersLemmas.{listed_itself}
+use Rattle.cs_base.proofs.MembersLemmas.{listed_itself, all_then}
 use Rattle.cs_base.proofs.OrdersLemmas.{by_row_total, by_row_exact, lt-from_Less}
 use Rattle.cs_base.specs.content.Members.{members_in}
 use Rattle.cs_base.specs.content.Orders.{by_place, by_row, by_spot}
@@ -39,7 +39,7 @@ use Rattle.cs_model_index.specs.Numbered.{word_at, word_number, row_of, rows_at,
 use Rattle.cs_model_index.specs.Partitions.{is_alike, is_ended, is_facet, is_full, is_light, is_one_kind, is_run, rows_of_run}
 use Rattle.cs_model_index.specs.declared.limits.TheConstants.{MAX_BLOCK_WORDS}
 use Rattle.cs_model_index.proofs.CorpusLemmas.{rows_up}
-use Rattle.cs_model_index.proofs.Listings.{same_tests, listed_each, any_listed, filter_members}
+use Rattle.cs_model_index.proofs.Listings.{same_tests, listed_each, any_listed, filter_members, all_both}
 use Rattle.cs_model_index.proofs.NumberedLemmas.{word_of_number, number_of_word, number_below, numbered_of_rows}
 use Rattle.cs_model_index.proofs.ReadBlocks.{IsRead, AreRead}
 use Rattle.cs_model_index.proofs.RunBlocks.{in_run, first_word, posts_of_word, block_size}
@@ -54,14 +54,6 @@ no_filter p (x ∷ xs) h = ap (λ b. cond b (x ∷ filter p xs) (filter p xs)) h
 all_filter : {X : Type 0} (p : X → Bool) (xs : List X) → AllByRecursion (λ x. p x ≡ true) xs → filter p xs ≡ xs
 all_filter p [] h = refl
 all_filter p (x ∷ xs) h = ap (λ b. cond b (x ∷ filter p xs) (filter p xs)) h.0 ∙ ap (λ l. x ∷ l) (all_filter p xs h.1)
-
-weaker : {X : Type 0} (P Q : X → Type 0) → ((x : X) → P x → Q x) → (xs : List X) → AllByRecursion P xs → AllByRecursion Q xs
-weaker P Q f [] h = tt
-weaker P Q f (x ∷ xs) h = (f x h.0, weaker P Q f xs h.1)
-
-all_both : {X : Type 0} (P : X → Type 0) (xs ys : List X) → AllByRecursion P xs → AllByRecursion P ys → AllByRecursion P (xs ++ ys)
-all_both P [] ys h k = k
-all_both P (x ∷ xs) ys h k = (h.0, all_both P xs ys h.1 k)
 
 range_got : (p : ℕ → Bool) (a n m : ℕ) → list_all p (range_with_len a n) ≡ true → a ≤ m → m < a + n → p m ≡ true
 range_got p a zero m h l u = absurd (omega (arith, l, u))
@@ -109,8 +101,8 @@ module _ (ws : Run) (up : IsStrictlySortedBy (slice_cmp nat_cmp) ws) (docs targe
   posts_from lo [] (b ∷ bs) r = absurd r
   posts_from lo (h ∷ hs) [] r = absurd r
   posts_from lo (h ∷ hs) (b ∷ bs) r =
-      all_both (λ p. lo ≤ p.word) b (flat_map (λ b. b) bs) (weaker (λ p. (lo ≤ p.word) × (p.word < lo + h.words)) (λ p. lo ≤ p.word) (λ p k. k.0) b r.0.words)
-      (weaker (λ p. lo + h.words ≤ p.word) (λ p. lo ≤ p.word) (λ p k. omega (arith, k)) (flat_map (λ b. b) bs) (posts_from (lo + h.words) hs bs r.2))
+      all_both (λ p. lo ≤ p.word) b (flat_map (λ b. b) bs) (all_then (λ p. (lo ≤ p.word) × (p.word < lo + h.words)) (λ p. lo ≤ p.word) (λ p k. k.0) b r.0.words)
+      (all_then (λ p. lo + h.words ≤ p.word) (λ p. lo ≤ p.word) (λ p k. omega (arith, k)) (flat_map (λ b. b) bs) (posts_from (lo + h.words) hs bs r.2))
 
   pub posts_below : (lo : ℕ) (hs : List BlockHead) (bs : List (List Post)) → AreRead ws docs target lo hs bs → AllByRecursion (λ p. p.word < length ws) (flat_map (λ b. b) bs)
   unfolding AreRead
@@ -118,17 +110,17 @@ module _ (ws : Run) (up : IsStrictlySortedBy (slice_cmp nat_cmp) ws) (docs targe
   posts_below lo [] (b ∷ bs) r = absurd r
   posts_below lo (h ∷ hs) [] r = absurd r
   posts_below lo (h ∷ hs) (b ∷ bs) r =
-      all_both (λ p. p.word < length ws) b (flat_map (λ b. b) bs) (weaker (λ p. (lo ≤ p.word) × (p.word < lo + h.words)) (λ p. p.word < length ws) (λ p k. omega (arith, k.1, r.0.within)) b r.0.words) (posts_below (lo + h.words) hs bs r.2)
+      all_both (λ p. p.word < length ws) b (flat_map (λ b. b) bs) (all_then (λ p. (lo ≤ p.word) × (p.word < lo + h.words)) (λ p. p.word < length ws) (λ p k. omega (arith, k.1, r.0.within)) b r.0.words) (posts_below (lo + h.words) hs bs r.2)
 
   own_block : (lo n : ℕ) (earlier b later : List Post) → AllByRecursion (λ p. p.word < lo) earlier → AllByRecursion (λ p. (lo ≤ p.word) × (p.word < lo + n)) b → AllByRecursion (λ p. lo + n ≤ p.word) later
       → filter (in_range lo n) (earlier ++ (b ++ later)) ≡ b
   unfolding in_range
   own_block lo n earlier b later e h l =
       filter-append (in_range lo n) earlier (b ++ later)
-      ∙ ap (λ f. f ++ filter (in_range lo n) (b ++ later)) (no_filter (in_range lo n) earlier (weaker (λ p. p.word < lo) (λ p. in_range lo n p ≡ false) (λ p k. false_from_ne_true _ (λ t. omega (arith, k, leb-true lo p.word (and_parts (nat_le lo p.word) (nat_lt p.word (lo + n)) t).0))) earlier e))
+      ∙ ap (λ f. f ++ filter (in_range lo n) (b ++ later)) (no_filter (in_range lo n) earlier (all_then (λ p. p.word < lo) (λ p. in_range lo n p ≡ false) (λ p k. false_from_ne_true _ (λ t. omega (arith, k, leb-true lo p.word (and_parts (nat_le lo p.word) (nat_lt p.word (lo + n)) t).0))) earlier e))
       ∙ filter-append (in_range lo n) b later
-      ∙ ap (λ f. f ++ filter (in_range lo n) later) (all_filter (in_range lo n) b (weaker (λ p. (lo ≤ p.word) × (p.word < lo + n)) (λ p. in_range lo n p ≡ true) (λ p k. and_from (nat_le lo p.word) (nat_lt p.word (lo + n)) (le-leb lo p.word k.0) (lt-ltb p.word (lo + n) k.1)) b h))
-      ∙ ap (λ f. b ++ f) (no_filter (in_range lo n) later (weaker (λ p. lo + n ≤ p.word) (λ p. in_range lo n p ≡ false) (λ p k. false_from_ne_true _ (λ t. omega (arith, k, ltb-true p.word (lo + n) (and_parts (nat_le lo p.word) (nat_lt p.word (lo + n)) t).1))) later l))
+      ∙ ap (λ f. f ++ filter (in_range lo n) later) (all_filter (in_range lo n) b (all_then (λ p. (lo ≤ p.word) × (p.word < lo + n)) (λ p. in_range lo n p ≡ true) (λ p k. and_from (nat_le lo p.word) (nat_lt p.word (lo + n)) (le-leb lo p.word k.0) (lt-ltb p.word (lo + n) k.1)) b h))
+      ∙ ap (λ f. b ++ f) (no_filter (in_range lo n) later (all_then (λ p. lo + n ≤ p.word) (λ p. in_range lo n p ≡ false) (λ p k. false_from_ne_true _ (λ t. omega (arith, k, ltb-true p.word (lo + n) (and_parts (nat_le lo p.word) (nat_lt p.word (lo + n)) t).1))) later l))
       ∙ append-nil b
 
   -- ---- rows of posts
@@ -186,7 +178,7 @@ module _ (ws : Run) (up : IsStrictlySortedBy (slice_cmp nat_cmp) ws) (docs targe
     block_again lo h earlier b later split r e l =
         let run : Run = take h.words (drop lo ws) in
         let is : IsAt ws lo run = run_is lo h.words r.within in
-        let mine : AllByRecursion (λ p. p.word < length ws) b = weaker (λ p. (lo ≤ p.word) × (p.word < lo + h.words)) (λ p. p.word < length ws) (λ p k. omega (arith, k.1, r.within)) b r.words in
+        let mine : AllByRecursion (λ p. p.word < length ws) b = all_then (λ p. (lo ≤ p.word) × (p.word < lo + h.words)) (λ p. p.word < length ws) (λ p k. omega (arith, k.1, r.within)) b r.words in
         let picked : filter (has run) (rows_at ws all) ≡ rows_at ws b =
         filter_rows lo h.words run is (run_len lo h.words r.within) all below ∙ ap (λ ps. rows_at ws (filter (in_range lo h.words) ps)) split ∙ ap (rows_at ws) (own_block lo h.words earlier b later e r.words l) in
         let listed : members_in by_row (rows_at ws b) ≡ rows_at ws b = sym (listed_itself by_row by_row_total by_row_exact (rows_at ws b) (rows_up (rows_at ws b) (rows_rise b mine r.sorted))) in
@@ -201,7 +193,7 @@ module _ (ws : Run) (up : IsStrictlySortedBy (slice_cmp nat_cmp) ws) (docs targe
     blocks_again lo (h ∷ hs) (b ∷ bs) earlier r split e =
         ap (λ x. x ∷ map (block_of ws rows) (runs_from ws (lo + h.words) hs)) (block_again lo h earlier b (flat_map (λ b. b) bs) split r.0 e (posts_from (lo + h.words) hs bs r.2))
         ∙ ap (λ xs. b ∷ xs) (blocks_again (lo + h.words) hs bs (earlier ++ b) r.2 (split ∙ sym (append_assoc earlier b (flat_map (λ b. b) bs)))
-        (all_both (λ p. p.word < lo + h.words) earlier b (weaker (λ p. p.word < lo) (λ p. p.word < lo + h.words) (λ p k. omega (arith, k)) earlier e) (weaker (λ p. (lo ≤ p.word) × (p.word < lo + h.words)) (λ p. p.word < lo + h.words) (λ p k. k.1) b r.0.words)))
+        (all_both (λ p. p.word < lo + h.words) earlier b (all_then (λ p. p.word < lo) (λ p. p.word < lo + h.words) (λ p k. omega (arith, k)) earlier e) (all_then (λ p. (lo ≤ p.word) × (p.word < lo + h.words)) (λ p. p.word < lo + h.words) (λ p k. k.1) b r.0.words)))
 
     pub rows_known : AllByRecursion (HasWord ws) rows
     rows_known = listed_each by_row by_row_total by_row_exact (HasWord ws) (rows_at ws all) (each all below)

@@ -42,6 +42,8 @@ use Rattle.cs_model_index.proofs.BlockSizes.{block_len, meet_all}
 use Rattle.cs_model_index.proofs.CorpusLemmas.{kept}
 use Rattle.cs_model_index.proofs.NumberedLemmas.{word_of_number, number_of_word, number_below, posts_ascend}
 use Rattle.cs_model_index.proofs.RunRows.{Run, has, IsAt, count_word, count_run, count_some, each_post, run_word, run_known, run_number, run_apart, run_within}
+use Rattle.cs_base.proofs.MembersLemmas.{all_then}
+use Rattle.cs_model_index.proofs.Listings.{both_all}
 
 -- ---- lists
 pub itself : (w : List ℕ) → bytes_eq w w ≡ true
@@ -75,14 +77,6 @@ some_counted_at false rest n h more = more (omega (arith, h))
 some_counted : (p : Post → Bool) (posts : List Post) → 1 ≤ count_by p posts → list_any p posts ≡ true
 some_counted p [] h = absurd (omega (arith, h))
 some_counted p (r ∷ posts) h = some_counted_at (p r) (list_any p posts) (count_by p posts) (omega (arith, h, sum_by-cons (λ (q : Post). cond (p q) 1 0) r posts)) (some_counted p posts)
-
-both_then : (P Q S : Post → Type 0) → ((p : Post) → P p → Q p → S p) → (ps : List Post) → AllByRecursion P ps → AllByRecursion Q ps → AllByRecursion S ps
-both_then P Q S f [] h k = tt
-both_then P Q S f (p ∷ ps) h k = (f p h.0 k.0, both_then P Q S f ps h.1 k.1)
-
-wider : (P Q : Post → Type 0) → ((p : Post) → P p → Q p) → (ps : List Post) → AllByRecursion P ps → AllByRecursion Q ps
-wider P Q f [] h = tt
-wider P Q f (p ∷ ps) h = (f p h.0, wider P Q f ps h.1)
 
 each_counted : (count : List ℕ → ℕ) (run : Run) → ((w : List ℕ) → list_any (bytes_eq w) run ≡ true → 1 ≤ count w) → length run ≤ sum_by count run
 each_counted count [] one = omega arith
@@ -171,7 +165,7 @@ module _ (ws : Run) (rows : List Row) (are : AreRows ws rows) where
   pub run_writable : (lo : ℕ) (run : Run) → IsAt ws lo run → length run ≤ MAX_BLOCK_WORDS → AreWritable lo (block_of ws rows run)
   run_writable lo run is short = record {
     sorted = posts_ascend ws are.up (filter (has run) rows) (kept (HasWord ws) (has run) rows are.known) (IsStrictlySortedBy-filter by_spot (has run) rows are.spots);
-    words = All-from_recursion (λ p. (lo ≤ p.word) × (p.word < lo + 2 ^ 16)) (block_of ws rows run) (wider (λ p. (lo ≤ p.word) × (p.word < lo + length run)) (λ p. (lo ≤ p.word) × (p.word < lo + 2 ^ 16)) (λ p h. (h.0, omega (arith, h.1, short))) (block_of ws rows run) (words_in lo run is));
+    words = All-from_recursion (λ p. (lo ≤ p.word) × (p.word < lo + 2 ^ 16)) (block_of ws rows run) (all_then (λ p. (lo ≤ p.word) × (p.word < lo + length run)) (λ p. (lo ≤ p.word) × (p.word < lo + 2 ^ 16)) (λ p h. (h.0, omega (arith, h.1, short))) (block_of ws rows run) (words_in lo run is));
   }
 
   pub run_facts : (docs target lo : ℕ) (run : Run) → IsAt ws lo run → is_run target (count_in rows) run ≡ true → length ws ≤ MAX_WORDS → length (block_of ws rows run) ≤ MAX_ROWS
@@ -201,8 +195,8 @@ module _ (ws : Run) (rows : List Row) (are : AreRows ws rows) where
           count = refl;
           written = refl;
           writable = can;
-          meets = meet_all (head_of lo run posts) docs posts docs_in (wider (λ p. (lo ≤ p.word) × (p.word < lo + length run)) (λ p. p.word < lo + length run) (λ p h. h.1) posts words)
-              (both_then (λ p. is_scored SCORES (is_facet (word_at ws p.word)) p ≡ true) (λ p. is_facet (word_at ws p.word) ≡ facet) (λ p. is_scored SCORES facet p ≡ true) (λ p s k. ap (λ f. is_scored SCORES f p) (sym k) ∙ s) posts scored (of_kind lo run is b.0)) can.sorted;
+          meets = meet_all (head_of lo run posts) docs posts docs_in (all_then (λ p. (lo ≤ p.word) × (p.word < lo + length run)) (λ p. p.word < lo + length run) (λ p h. h.1) posts words)
+              (both_all (λ p. is_scored SCORES (is_facet (word_at ws p.word)) p ≡ true) (λ p. is_facet (word_at ws p.word) ≡ facet) (λ p. is_scored SCORES facet p ≡ true) (λ p s k. ap (λ f. is_scored SCORES f p) (sym k) ∙ s) posts scored (of_kind lo run is b.0)) can.sorted;
         };
         kinds = and_from (nat_le (length run) MAX_BLOCK_WORDS) _ c.0 (ap is_one_kind (own_words lo run is) ∙ b.0);
         sized = and_from (nat_le (length run) n) _ (le-leb _ _ more) (and_from (nat_le (8 * n) len) (nat_le len (12 * n)) (le-leb _ _ bytes.0) (le-leb _ _ bytes.1));

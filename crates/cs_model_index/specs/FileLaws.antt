@@ -11,6 +11,8 @@
 --   ImagesFollowBlocks    that follows from the law of blocks
 --   AcceptedAreImages     what is read of an index file is the image of its corpus
 --   ReadingFollowsBlocks  that follows from the laws of blocks
+--   ReadAreCorpora        the corpus that is read of an index file is a corpus
+--   ReadCorporaFollowBlocks  that follows from the laws of blocks
 use Rattle.std.specs.Prelude.{◌≡◌, ℕ, ◌^◌, ◌<◌, ◌≤◌, true, List, length, All}
 use Rattle.std.specs.List.{sum_by}
 use Rattle.std.specs.Str.{IsUtf8}
@@ -64,3 +66,11 @@ AcceptedAreImages = (b : List ℕ) → All (λ x. x < 2 ^ 8) b → IsIndexFile b
 -- it follows from the laws of blocks
 abbrev pub ReadingFollowsBlocks : Type 0
 ReadingFollowsBlocks = AcceptedAreBlocks → OneReading → AcceptedAreImages
+
+-- its rows are named by document, position and word, and each row's document has a title
+abbrev pub ReadAreCorpora : Type 0
+ReadAreCorpora = (b : List ℕ) → All (λ x. x < 2 ^ 8) b → IsIndexFile b → IsCorpus (file_corpus b)
+
+-- it follows from the laws of blocks
+abbrev pub ReadCorporaFollowBlocks : Type 0
+ReadCorporaFollowBlocks = AcceptedAreBlocks → OneReading → ReadAreCorpora
