@@ -2,14 +2,14 @@
 --
 --   shared_by_words     a row shares its word if that is a word of a row in a listed document
 --   shared_by_marks     so the marked rows are those that share their word
-use Rattle.std.proofs.Common.{◌≡◌, ℕ, ◌||◌, ◌&&◌, Bool, true, false, List, [], ◌∷◌, cond, refl, sym, ap, ◌∙◌, arith}
+use Rattle.std.proofs.Common.{◌≡◌, ℕ, ◌||◌, ◌&&◌, Bool, true, false, List, [], ◌∷◌, cond, refl, ◌∙◌, arith}
 use Rattle.std.specs.Prelude.{◌==◌, map, filter}
 use Rattle.std.specs.List.{list_any}
 use Rattle.std.proofs.lemmas.List.Elements.{filter_agree}
 use Rattle.std.proofs.lemmas.Bool.Decides.{nat_tests}
 use Rattle.cs_base.specs.declared.content.doc.Post.{Post}
 use Rattle.cs_meet.specs.Filters.{in_doc, keep_docs}
-use Rattle.cs_join.specs.Shared.{is_shared_by, is_shared, shared}
+use Rattle.cs_join.specs.Shared.{is_shared, shared}
 use Rattle.cs_join.specs.Marked.{AreMarked, has_mark}
 
 shared_by_words : (hits : List ℕ) (r : Post) (rows : List Post) → list_any (λ v. v == r.word) (map (λ p. p.word) (keep_docs rows hits)) ≡ is_shared hits rows r

@@ -5,6 +5,7 @@
 //! `specs/Shared.antt`, what the table holds in `specs/Marked.antt`.
 #![tactic(auto)]
 
+pub mod laws;
 mod marks;
 mod rows;
 #[cfg(test)]
