@@ -1,0 +1,4 @@
+pub mod DrawsLemmas
+pub mod WordsLemmas
+pub mod LinesLemmas
+pub mod TypingLemmas
