@@ -5,7 +5,7 @@
 --   draws_more       one more draw with the same bound
 --   length_draws     as many numbers as bounds
 --   drawn_at         the number that is drawn at a place
-use Rattle.std.proofs.Common.{◌≡◌, ℕ, zero, suc, ◌+◌, ◌<◌, List, [], ◌∷◌, ◌++◌, length, get_or, refl, sym, ap, ◌∙◌, add-one, arith}
+use Rattle.std.proofs.Common.{◌≡◌, ℕ, zero, suc, ◌+◌, ◌<◌, [], ◌∷◌, ◌++◌, length, get_or, refl, ap, ◌∙◌, add-one, arith}
 use Rattle.std.specs.Prelude.{replicate}
 use Rattle.cs_model_trial.specs.Generator.{next_state, behind, drawn, draws}
 

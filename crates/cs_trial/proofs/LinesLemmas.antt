@@ -6,7 +6,7 @@
 --   behind_line     a line takes sixteen draws
 --   flat_map_more   one more entry of numbers that count up
 --   lines_more      one more line
-use Rattle.std.proofs.Common.{◌≡◌, ℕ, zero, suc, ◌+◌, ◌*◌, ◌<◌, Bool, true, false, cond, List, [], ◌∷◌, ◌++◌, length, refl, sym, ap, ◌∙◌, append_assoc, append-nil, add-one, arith}
+use Rattle.std.proofs.Common.{◌≡◌, ℕ, zero, suc, ◌+◌, ◌*◌, cond, List, [], ◌∷◌, ◌++◌, refl, sym, ap, ◌∙◌, append_assoc, append-nil, add-one, arith}
 use Rattle.std.specs.Prelude.{◌==◌, replicate, codes}
 use Rattle.std.specs.List.{flat_map, range_with_len}
 use Rattle.cs_model_trial.specs.Generator.{next_state, behind, drawn, draws, word, spaced, syllable, line_bounds, line_draws, line_title, line_syllable, text_of, trial_line}

@@ -7,13 +7,13 @@
 --   session_typed     the texts of a session, as the calls leave them
 --   sessions_behind   a session takes two draws
 --   sessions_more     one more session
-use Rattle.std.proofs.Common.{◌≡◌, ℕ, zero, suc, ◌+◌, ◌*◌, ◌%◌, ◌<◌, List, [], ◌∷◌, ◌++◌, length, take, get_or, refl, sym, ap, ◌∙◌, append_assoc, add-one, arith}
-use Rattle.std.specs.Prelude.{map, replicate}
+use Rattle.std.proofs.Common.{◌≡◌, ℕ, ◌+◌, ◌*◌, ◌<◌, List, [], ◌∷◌, ◌++◌, length, take, get_or, sym, ap, ◌∙◌, append_assoc, arith}
+use Rattle.std.specs.Prelude.{map}
 use Rattle.std.specs.List.{flat_map, range_with_len}
 use Rattle.std.proofs.lemmas.List.{take_more}
 use Rattle.std.proofs.lemmas.List.FromFn.{map-range_with_len_more}
-use Rattle.cs_model_trial.specs.Generator.{next_state, behind, drawn, draws, word, line_bounds, line_draws, line_count, text_of}
-use Rattle.cs_model_trial.specs.Sessions.{session_bounds, session_draws, text_word, typed, typed_texts, session_at, session}
+use Rattle.cs_model_trial.specs.Generator.{next_state, behind, drawn, draws, word, line_draws, line_count}
+use Rattle.cs_model_trial.specs.Sessions.{session_draws, text_word, typed_texts, session_at, session}
 use Rattle.cs_model_trial.specs.declared.sizes.TheConstants.{WORDS}
 use Rattle.cs_trial.proofs.DrawsLemmas.{behind_more, behind_sum, drawn_at}
 use Rattle.cs_trial.proofs.LinesLemmas.{text_draws, flat_map_more}

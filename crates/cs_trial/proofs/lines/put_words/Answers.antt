@@ -1,4 +1,4 @@
-use Rattle.std.proofs.Common.{◌≡◌, ◌∙◌, ◌++◌, sym, ap, append-nil, refl}
+use Rattle.std.proofs.Common.{◌∙◌, ◌++◌, sym, ap, append-nil, refl}
 use Rattle.cs_model_trial.specs.Generator.{behind, draws, drawn, next_state, word}
 use Rattle.cs_model_trial.specs.declared.sizes.TheConstants.{WORDS}
 use Rattle.cs_trial.proofs.DrawsLemmas.{behind_more}

@@ -1,4 +1,4 @@
-use Rattle.std.proofs.Common.{◌≡◌, ◌∙◌, ◌++◌, ◌+◌, ◌%◌, ◌<◌, length, sym, ap, arith}
+use Rattle.std.proofs.Common.{◌∙◌, ◌++◌, ◌+◌, ◌%◌, length, sym, ap, arith}
 use Rattle.std.proofs.lemmas.Str.{encode_ascii}
 use Rattle.cs_model_trial.specs.Sessions.{text_word}
 use Rattle.cs_trial.proofs.TypingLemmas.{session_typed}

@@ -1,4 +1,4 @@
-use Rattle.std.proofs.Common.{◌≡◌, ◌∙◌, ◌++◌, sym, ap, subst, length}
+use Rattle.std.proofs.Common.{◌∙◌, ◌++◌, sym, ap, subst, length}
 use Rattle.std.specs.Str.{IsAscii}
 use Rattle.cs_model_trial.specs.Generator.{word, drawn}
 use Rattle.cs_model_trial.specs.declared.sizes.TheConstants.{WORDS}

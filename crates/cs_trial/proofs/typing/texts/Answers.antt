@@ -1,4 +1,4 @@
-use Rattle.std.proofs.Common.{◌≡◌, ◌∙◌, ◌++◌, sym, ap, arith}
+use Rattle.std.proofs.Common.{◌≡◌, ◌∙◌, ◌++◌, ap, arith}
 use Rattle.std.specs.List.{flat_map, range_with_len}
 use Rattle.cs_model_trial.specs.Generator.{next_state, drawn, line_count}
 use Rattle.cs_model_trial.specs.Sessions.{session, session_at, texts}

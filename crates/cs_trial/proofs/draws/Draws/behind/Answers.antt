@@ -1,4 +1,4 @@
-use Rattle.std.proofs.Common.{◌≡◌, ◌∙◌, sym, ap, rules}
+use Rattle.std.proofs.Common.{◌∙◌, sym, ap, rules}
 use Rattle.cs_model_trial.specs.Generator.{next_state, behind}
 use Rattle.cs_trial.proofs.DrawsLemmas.{behind_more}
 use Rattle.cs_trial.proofs.draws.Draws.behind.Goals as goal
