@@ -6,6 +6,7 @@
 --   session_is        the texts of a session, piece by piece
 --   session_typed     the texts of a session, as the calls leave them
 --   sessions_behind   a session takes two draws
+--   session_drawn     a session by its draws
 --   sessions_more     one more session
 use Rattle.std.proofs.Common.{◌≡◌, ℕ, ◌+◌, ◌*◌, ◌<◌, List, [], ◌∷◌, ◌++◌, length, take, get_or, sym, ap, ◌∙◌, append_assoc, arith}
 use Rattle.std.specs.Prelude.{map}
@@ -71,7 +72,7 @@ sessions_behind n s x is =
     let e : line_count n * 16 + s * 2 + 2 ≡ line_count n * 16 + (s + 1) * 2 = omega arith in
     ap (behind 2) is ∙ sym (behind_sum (line_count n * 16 + s * 2) 2 n) ∙ ap (λ k. behind k n) e
 
-session_drawn : (n s x : ℕ) → x ≡ behind (line_count n * 16 + s * 2) n → session_at n (drawn (line_count n) x) (drawn 12 (next_state x)) ≡ session n s
+pub session_drawn : (n s x : ℕ) → x ≡ behind (line_count n * 16 + s * 2) n → session_at n (drawn (line_count n) x) (drawn 12 (next_state x)) ≡ session n s
 unfolding session session_draws draws
 session_drawn n s x is = ap (λ y. session_at n (drawn (line_count n) y) (drawn 12 (next_state y))) is
 

@@ -1,6 +1,8 @@
 -- Words of three syllables, and words in a row.
 --
---   word_form      a word has six bytes, all ASCII
+--   letters_ascii  letters are ASCII
+--   word_form      a word has six letters
+--   word_ascii     so it is ASCII
 --   spaced_more    one more word behind some
 use Rattle.std.proofs.Common.{◌≡◌, ℕ, ◌/◌, ◌%◌, ◌<◌, true, false, cond, List, [], ◌∷◌, ◌++◌, length, refl, sym, ap, ◌∙◌, append_assoc, length-append, arith}
 use Rattle.std.specs.Prelude.{◌==◌, codes}
@@ -8,13 +10,13 @@ use Rattle.std.specs.List.{AllByRecursion}
 use Rattle.std.specs.Str.{IsAscii}
 use Rattle.std.proofs.lemmas.Bool.Decides.{nat_tests}
 use Rattle.std.proofs.lemmas.List.Elements.{All-get_or, All-from_recursion}
-use Rattle.std.proofs.lemmas.Str.{IsAscii-append}
 use Rattle.cs_model.proofs.AsciiLemmas.{AllAscii, IsAscii-from_AllAscii}
 use Rattle.cs_model_trial.specs.Generator.{syllable, word, spaced}
+use Rattle.cs_trial.specs.Typed.{IsLetter}
 
--- two bytes, both ASCII
+-- two letters
 IsPair : List ℕ → Type 0
-IsPair s = (length s ≡ 2) × AllAscii s
+IsPair s = (length s ≡ 2) × AllByRecursion IsLetter s
 
 abbrev table : List (List ℕ)
 table =
@@ -30,10 +32,18 @@ all_pairs = search (arith)
 pair_of : (n : ℕ) → n < 16 → IsPair (syllable n)
 pair_of n h = All-get_or IsPair table n [] h (All-from_recursion IsPair table all_pairs)
 
+pub all_append : {X : Type 0} (P : X → Type 0) (xs ys : List X) → AllByRecursion P xs → AllByRecursion P ys → AllByRecursion P (xs ++ ys)
+all_append P [] ys h k = k
+all_append P (x ∷ xs) ys h k = (h.0, all_append P xs ys h.1 k)
+
+pub letters_ascii : (w : List ℕ) → AllByRecursion IsLetter w → AllAscii w
+letters_ascii [] h = tt
+letters_ascii (x ∷ w) h = (omega (arith, h.0), letters_ascii w h.1)
+
 -- a word of the generator: six letters
 pub record HasWordForm (w : List ℕ) : Type 0 where
   pub long : length w ≡ 6
-  pub ascii : IsAscii w
+  pub letters : AllByRecursion IsLetter w
 
 pub word_form : (w : ℕ) → w < 4096 → HasWordForm (word w)
 unfolding word IsPair
@@ -43,10 +53,11 @@ word_form w h =
     let c = pair_of (w % 16) (omega arith) in
     record {
       long = simp length-append (omega arith);
-      ascii = IsAscii-append (syllable (w / 256) ++ syllable (w / 16 % 16)) (syllable (w % 16))
-          (IsAscii-append (syllable (w / 256)) (syllable (w / 16 % 16)) (IsAscii-from_AllAscii _ a.1) (IsAscii-from_AllAscii _ b.1))
-          (IsAscii-from_AllAscii _ c.1);
+      letters = all_append IsLetter (syllable (w / 256) ++ syllable (w / 16 % 16)) (syllable (w % 16)) (all_append IsLetter (syllable (w / 256)) (syllable (w / 16 % 16)) a.1 b.1) c.1;
     }
+
+pub word_ascii : (w : ℕ) → w < 4096 → IsAscii (word w)
+word_ascii w h = IsAscii-from_AllAscii (word w) (letters_ascii (word w) (word_form w h).letters)
 
 spaced_behind : (v : ℕ) (ws : List ℕ) (w : ℕ) → spaced (v ∷ ws ++ w ∷ []) ≡ spaced (v ∷ ws) ++ 32 ∷ word w
 spaced_behind v [] w = refl

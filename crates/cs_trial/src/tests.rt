@@ -1,5 +1,5 @@
 //! The first trial's first line and its texts, and a summary.
-use crate::{Counts, collection, summary_bytes, texts};
+use crate::{Counts, collection, requests, summary_bytes, texts};
 use std::test::Fail;
 
 #[test]
@@ -20,6 +20,18 @@ fn the_first_trial_begins_so(rt: HostRuntime) -> Result<(), Fail> {
         shown.as_str(),
         "t,ti,tid,tida,tidab,tidabe,tidabe d,tidabe de,tidabe deb,tidabe deba,tidabe debab,tidabe debabi,tidabe,"
     );
+    Ok(())
+}
+
+#[test]
+fn each_text_is_asked_with_the_defaults(rt: HostRuntime) -> Result<(), Fail> {
+    let asked = requests(rt.alloc(), 1)?;
+    assert_eq!(rt; asked.len(), 260);
+    for request in asked.as_slice() {
+        assert!(rt; request.hits == 10 && request.completions == 10 && request.offset == 0);
+        let parts = request.query.parts.len();
+        assert!(rt; 1 <= parts && parts <= 2);
+    }
     Ok(())
 }
 
