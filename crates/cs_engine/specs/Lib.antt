@@ -1,2 +1,3 @@
+pub mod Asking
 pub mod Searching
 pub mod Stocked

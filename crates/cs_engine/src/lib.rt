@@ -7,6 +7,8 @@
 mod atoms;
 mod building;
 mod corpus;
+mod engine;
+mod fault;
 mod hits;
 mod joins;
 mod parts;
@@ -15,5 +17,8 @@ mod stock;
 #[cfg(test)]
 mod tests;
 
+pub use cs_query::{Reply, Request};
 pub use corpus::{Corpus, CorpusFault};
+pub use engine::Engine;
+pub use fault::AskFault;
 pub use joins::has_join;
