@@ -5,6 +5,7 @@
 //! from the store when they are asked for.
 #![tactic(auto)]
 
+mod blocks;
 mod fault;
 mod fetching;
 mod image;

@@ -1,0 +1,2 @@
+pub mod HeadsLemmas
+pub mod StoodLemmas
