@@ -1,0 +1,209 @@
+//! A query over an index and its store, from its atoms up.
+ghost use Rattle.std.specs.Prelude.{◌≡◌, ℕ, ◌+◌, ◌*◌, false, not, length, IfOk};
+ghost use Rattle.cs_base.specs.content.Orders.{AreDocs};
+ghost use Rattle.cs_base.specs.outside.Causes.{ReadsWithin};
+ghost use Rattle.cs_base.specs.declared.content.limits.TheConstants.{MAX_PARTS};
+ghost use Rattle.cs_base.specs.declared.content.query.Query.{out-Query};
+ghost use Rattle.cs_base.specs.declared.content.query.Part.{out-Part};
+ghost use Rattle.cs_file.specs.Indexes.{Fits, CausedReads};
+ghost use Rattle.cs_model.specs.Answers.{hits, parts_of, rows_of_atom, rows_of_chain, rows_of_part};
+ghost use Rattle.cs_model.specs.Refusals.{IsOfGrammar};
+ghost use Rattle.cs_model_kept.specs.Due.{met_of_atom, met_of_chain, met_of_part, met_of_query};
+ghost use Rattle.cs_model_kept.specs.Entries.{entry_at, entry_of};
+ghost use Rattle.cs_engine.specs.Asking.{division, is_read, is_changed};
+ghost use Rattle.cs_engine.specs.Reading.{AreWithin, HasRows, WhereStood, stock_of, AtomIsOfGrammar, ChainIsOfGrammar, PartIsOfGrammar};
+ghost use Rattle.cs_engine.specs.Steps.{EntryFits, IsBaseOf, IsStep, ends_positive};
+ghost use Rattle.cs_engine.specs.Stocked.{corpus_in};
+
+use crate::entries::{docs_of_base, entry_after, hits_of, nothing_kept};
+use crate::fault::AskFault;
+use crate::parts::{joined, linked_rows};
+use crate::words::{rows_of_facet, rows_of_prefix, rows_of_word};
+use cs_base::{Atom, Base, Chain, Part, Query, Store};
+use cs_cache::Entry;
+use cs_cols::Cols;
+use cs_file::Index;
+use cs_join::shared;
+use std::alloc::Global;
+
+/// The entry of a query, one part after the other.
+#[cycle(evaluation)]
+pub(crate) fn entry_of<S: Store>(
+    alloc: Global,
+    index: &Index,
+    store: &mut S,
+    query: &Query,
+) -> Result<Entry, AskFault>
+    requires of_grammar { IsOfGrammar query.now }
+    requires fits { Fits (S.bytes store.old) index.now }
+
+    ensures told { WhereStood (S.bytes store.old) index.now (λ b. IfOk result (λ e. entry_at index.now.words e ≡ entry_of (corpus_in (stock_of b)) query.now)) }
+    ensures within { IfOk result (λ e. EntryFits index.now (ends_positive query.now) (length (out-Query query.now).parts) e) }
+    ensures unchanged { WhereStood (S.bytes store.old) index.now (λ b. is_changed result ≡ false) }
+    ensures bytes { S.bytes store.new ≡ S.bytes store.old }
+    ensures lent { S.lent store.new ≡ S.lent store.old }
+    ensures reads { ReadsWithin (met_of_query (division index.now) query.now) (S.reads store.old) (S.reads store.new) }
+    ensures caused { CausedReads (is_read result) (S.faults store.old) (S.faults store.new) }
+{
+    let mut entry = nothing_kept(alloc);
+    let mut positive = false;
+    for part in query.parts.as_slice() {
+        let hits = hits_of(alloc, positive, &entry.base, &entry.rows)?;
+        entry = extended(alloc, index, store, hits, part)?;
+        positive = !part.excluded;
+    }
+    Ok(entry)
+}
+
+/// The entry of a query and one part more, by the query's hits.
+#[cycle(evaluation)]
+pub(crate) fn extended<S: Store>(
+    alloc: Global,
+    index: &Index,
+    store: &mut S,
+    hits: Base,
+    part: &Part,
+) -> Result<Entry, AskFault>
+    requires of_grammar { PartIsOfGrammar part.now }
+    requires base { IsBaseOf index.now.docs (255 * MAX_PARTS) hits }
+    requires fits { Fits (S.bytes store.old) index.now }
+
+    ensures told { WhereStood (S.bytes store.old) index.now (λ b. IfOk result (IsStep (stock_of b) hits (rows_of_part (corpus_in (stock_of b)) part.now))) }
+    ensures within { IfOk result (λ e. (n : ℕ) → IsBaseOf index.now.docs (255 * n) hits → EntryFits index.now (not (out-Part part.now).excluded) (n + 1) e) }
+    ensures unchanged { WhereStood (S.bytes store.old) index.now (λ b. is_changed result ≡ false) }
+    ensures bytes { S.bytes store.new ≡ S.bytes store.old }
+    ensures lent { S.lent store.new ≡ S.lent store.old }
+    ensures reads { ReadsWithin (met_of_part (division index.now) part.now) (S.reads store.old) (S.reads store.new) }
+    ensures caused { CausedReads (is_read result) (S.faults store.old) (S.faults store.new) }
+{
+    let rows = rows_of_part(alloc, index, store, part)?;
+    let entry = entry_after(alloc, index.docs, hits, part.excluded, rows)?;
+    Ok(entry)
+}
+
+// The rows of a part: those of some of its chains, each once.
+#[cycle(evaluation)]
+fn rows_of_part<S: Store>(
+    alloc: Global,
+    index: &Index,
+    store: &mut S,
+    part: &Part,
+) -> Result<Cols, AskFault>
+    requires of_grammar { PartIsOfGrammar part.now }
+    requires fits { Fits (S.bytes store.old) index.now }
+
+    ensures told { WhereStood (S.bytes store.old) index.now (λ b. IfOk result (λ c. HasRows (stock_of b) (rows_of_part (corpus_in (stock_of b)) part.now).rows c.posts)) }
+    ensures within { IfOk result (λ c. AreWithin index.now c.posts) }
+    ensures unchanged { WhereStood (S.bytes store.old) index.now (λ b. is_changed result ≡ false) }
+    ensures bytes { S.bytes store.new ≡ S.bytes store.old }
+    ensures lent { S.lent store.new ≡ S.lent store.old }
+    ensures reads { ReadsWithin (met_of_part (division index.now) part.now) (S.reads store.old) (S.reads store.new) }
+    ensures caused { CausedReads (is_read result) (S.faults store.old) (S.faults store.new) }
+{
+    let mut found = Cols::new(alloc);
+    for chain in part.chains.as_slice() {
+        let next = rows_of_chain(alloc, index, store, chain)?;
+        found = joined(alloc, found, next)?;
+    }
+    Ok(found)
+}
+
+// Link by link from the left, the rows of each atom that are linked to a row kept so far.
+#[cycle(evaluation)]
+fn rows_of_chain<S: Store>(
+    alloc: Global,
+    index: &Index,
+    store: &mut S,
+    chain: &Chain,
+) -> Result<Cols, AskFault>
+    requires of_grammar { ChainIsOfGrammar chain.now }
+    requires fits { Fits (S.bytes store.old) index.now }
+
+    ensures told { WhereStood (S.bytes store.old) index.now (λ b. IfOk result (λ c. HasRows (stock_of b) (rows_of_chain (corpus_in (stock_of b)) chain.now) c.posts)) }
+    ensures within { IfOk result (λ c. AreWithin index.now c.posts) }
+    ensures unchanged { WhereStood (S.bytes store.old) index.now (λ b. is_changed result ≡ false) }
+    ensures bytes { S.bytes store.new ≡ S.bytes store.old }
+    ensures lent { S.lent store.new ≡ S.lent store.old }
+    ensures reads { ReadsWithin (met_of_chain (division index.now) chain.now) (S.reads store.old) (S.reads store.new) }
+    ensures caused { CausedReads (is_read result) (S.faults store.old) (S.faults store.new) }
+{
+    let mut found = rows_of_atom(alloc, index, store, &chain.first)?;
+    for linked in chain.rest.as_slice() {
+        let next = rows_of_atom(alloc, index, store, &linked.atom)?;
+        found = linked_rows(alloc, linked.link, &found, &next)?;
+    }
+    Ok(found)
+}
+
+// The rows of an atom. Those of a join share their word with a row in a hit of the query in its bracket.
+#[cycle(evaluation)]
+fn rows_of_atom<S: Store>(
+    alloc: Global,
+    index: &Index,
+    store: &mut S,
+    atom: &Atom,
+) -> Result<Cols, AskFault>
+    requires of_grammar { AtomIsOfGrammar atom.now }
+    requires fits { Fits (S.bytes store.old) index.now }
+
+    ensures told { WhereStood (S.bytes store.old) index.now (λ b. IfOk result (λ c. HasRows (stock_of b) (rows_of_atom (corpus_in (stock_of b)) atom.now) c.posts)) }
+    ensures within { IfOk result (λ c. AreWithin index.now c.posts) }
+    ensures unchanged { WhereStood (S.bytes store.old) index.now (λ b. is_changed result ≡ false) }
+    ensures bytes { S.bytes store.new ≡ S.bytes store.old }
+    ensures lent { S.lent store.new ≡ S.lent store.old }
+    ensures reads { ReadsWithin (met_of_atom (division index.now) atom.now) (S.reads store.old) (S.reads store.new) }
+    ensures caused { CausedReads (is_read result) (S.faults store.old) (S.faults store.new) }
+{
+    match atom {
+        Atom::Prefix(prefix) => {
+            let rows = rows_of_prefix(alloc, index, store, prefix.as_str().as_bytes())?;
+            Ok(rows)
+        }
+        Atom::Exact(word) => {
+            let rows = rows_of_word(alloc, index, store, word.as_str().as_bytes())?;
+            Ok(rows)
+        }
+        Atom::Join { name, inner } => {
+            let docs = docs_of_hits(alloc, index, store, inner)?;
+            let rows = rows_of_facet(alloc, index, store, name)?;
+            let kept = shared(alloc, &rows, docs.as_slice())?;
+            Ok(kept)
+        }
+    }
+}
+
+// The documents that are hits of a query.
+#[cycle(evaluation)]
+fn docs_of_hits<S: Store>(
+    alloc: Global,
+    index: &Index,
+    store: &mut S,
+    query: &Query,
+) -> Result<Vec<u32>, AskFault>
+    requires of_grammar { IsOfGrammar query.now }
+    requires fits { Fits (S.bytes store.old) index.now }
+
+    ensures told { WhereStood (S.bytes store.old) index.now (λ b. IfOk result (λ v. v.items ≡ hits (corpus_in (stock_of b)) (parts_of (corpus_in (stock_of b)) query.now))) }
+    ensures sorted { IfOk result (λ v. AreDocs v.items) }
+    ensures unchanged { WhereStood (S.bytes store.old) index.now (λ b. is_changed result ≡ false) }
+    ensures bytes { S.bytes store.new ≡ S.bytes store.old }
+    ensures lent { S.lent store.new ≡ S.lent store.old }
+    ensures reads { ReadsWithin (met_of_query (division index.now) query.now) (S.reads store.old) (S.reads store.new) }
+    ensures caused { CausedReads (is_read result) (S.faults store.old) (S.faults store.new) }
+{
+    let entry = entry_of(alloc, index, store, query)?;
+    let hits = hits_of(alloc, ends_positive(query), &entry.base, &entry.rows)?;
+    let docs = docs_of_base(alloc, index.docs, &hits)?;
+    Ok(docs)
+}
+
+/// Whether the last part of a query is positive; not so without a part.
+pub(crate) fn ends_positive(query: &Query) -> bool
+    ensures { result ≡ ends_positive query.now }
+{
+    let mut positive = false;
+    for part in query.parts.as_slice() {
+        positive = !part.excluded;
+    }
+    positive
+}
