@@ -1,2 +1,3 @@
 pub mod HeadsLemmas
+pub mod PostsLemmas
 pub mod StoodLemmas
