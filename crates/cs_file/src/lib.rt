@@ -11,6 +11,7 @@ mod fetching;
 mod image;
 mod index;
 mod opening;
+mod reading;
 mod writing;
 
 pub use cs_base::BlockHead;
