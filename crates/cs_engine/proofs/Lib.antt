@@ -9,3 +9,5 @@ pub mod ReplyLemmas
 pub mod TableLemmas
 pub mod UnionLemmas
 pub mod VocabLemmas
+pub mod ReadingLemmas
+pub mod StockLemmas

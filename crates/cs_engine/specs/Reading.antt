@@ -8,8 +8,9 @@
 --   IsWithin docs words p       the numbers of a post are in range
 --   AreWithin i posts           posts in order, in the range of an index
 --   HasRows s rows posts        posts of the stock that stand for these rows
---   run_of blocks first last    the posts of the blocks from number first up to last, one block behind the other
---   HasRun s blocks first last lo hi posts    posts of the stock are those of such a run whose words are from lo up to hi
+--   run_of blocks first last lo hi    the posts with a word from lo up to hi in the blocks from number first up to last, one block
+--                               behind the other
+--   HasRun s blocks first last lo hi posts    posts of the stock are those of such a run, in any order
 --   IsSpanOf ws test lo hi      the words that pass a test are those from lo up to hi, both within the vocabulary
 --   AtomIsOfGrammar a, ChainIsOfGrammar c, PartIsOfGrammar p    what stands in the brackets of these is a query of the grammar
 use Rattle.std.specs.Prelude.{◌≡◌, ℕ, ◌-◌, ◌≤◌, ◌<◌, Bool, List, length, take, drop, filter, flat_map, Option}
@@ -64,13 +65,13 @@ pub record HasRows (s : Stock) (rows : List Row) (posts : List Post) : Type 0 wh
 
 -- ---- runs of blocks
 -- none where first is last
-abbrev pub run_of : List (List Post) → ℕ → ℕ → List Post
-run_of blocks first last = flat_map (λ block. block) (take (last - first) (drop first blocks))
+abbrev pub run_of : List (List Post) → ℕ → ℕ → ℕ → ℕ → List Post
+run_of blocks first last lo hi = flat_map (filter (is_between lo hi)) (take (last - first) (drop first blocks))
 
 -- the same tests pass on both, so they are the same but for their order
 pub record HasRun (s : Stock) (blocks : List (List Post)) (first last lo hi : ℕ) (posts : List Post) : Type 0 where
   pub among : All (Contains s.posts.posts) posts
-  pub alike : (t : Post → Bool) → list_any t posts ≡ list_any t (filter (is_between lo hi) (run_of blocks first last))
+  pub alike : (t : Post → Bool) → list_any t posts ≡ list_any t (run_of blocks first last lo hi)
 
 -- where no word passes, lo is hi or more
 pub record IsSpanOf (ws : List (List ℕ)) (test : List ℕ → Bool) (lo hi : ℕ) : Type 0 where

@@ -5,7 +5,7 @@ ghost use Rattle.cs_base.specs.outside.Causes.{ReadsWithin};
 ghost use Rattle.cs_base.specs.declared.content.limits.TheConstants.{MAX_PARTS};
 ghost use Rattle.cs_base.specs.declared.content.query.Query.{out-Query};
 ghost use Rattle.cs_base.specs.declared.content.query.Part.{out-Part};
-ghost use Rattle.cs_file.specs.Indexes.{Fits, CausedReads};
+ghost use Rattle.cs_file.specs.Indexes.{IsIndex, Fits, CausedReads};
 ghost use Rattle.cs_model.specs.Answers.{hits, parts_of, rows_of_atom, rows_of_chain, rows_of_part};
 ghost use Rattle.cs_model.specs.Refusals.{IsOfGrammar};
 ghost use Rattle.cs_model_kept.specs.Due.{met_of_atom, met_of_chain, met_of_part, met_of_query};
@@ -35,6 +35,7 @@ pub(crate) fn entry_of<S: Store>(
     query: &Query,
 ) -> Result<Entry, AskFault>
     requires of_grammar { IsOfGrammar query.now }
+    requires index { IsIndex index.now }
     requires fits { Fits (S.bytes store.old) index.now }
 
     ensures told { WhereStood (S.bytes store.old) index.now (λ b. IfOk result (λ e. entry_at index.now.words e ≡ entry_of (corpus_in (stock_of b)) query.now)) }
@@ -66,6 +67,7 @@ pub(crate) fn extended<S: Store>(
 ) -> Result<Entry, AskFault>
     requires of_grammar { PartIsOfGrammar part.now }
     requires base { IsBaseOf index.now.docs (255 * MAX_PARTS) hits }
+    requires index { IsIndex index.now }
     requires fits { Fits (S.bytes store.old) index.now }
 
     ensures told { WhereStood (S.bytes store.old) index.now (λ b. IfOk result (IsStep (stock_of b) hits (rows_of_part (corpus_in (stock_of b)) part.now))) }
@@ -90,6 +92,7 @@ fn rows_of_part<S: Store>(
     part: &Part,
 ) -> Result<Cols, AskFault>
     requires of_grammar { PartIsOfGrammar part.now }
+    requires index { IsIndex index.now }
     requires fits { Fits (S.bytes store.old) index.now }
 
     ensures told { WhereStood (S.bytes store.old) index.now (λ b. IfOk result (λ c. HasRows (stock_of b) (rows_of_part (corpus_in (stock_of b)) part.now).rows c.posts)) }
@@ -117,6 +120,7 @@ fn rows_of_chain<S: Store>(
     chain: &Chain,
 ) -> Result<Cols, AskFault>
     requires of_grammar { ChainIsOfGrammar chain.now }
+    requires index { IsIndex index.now }
     requires fits { Fits (S.bytes store.old) index.now }
 
     ensures told { WhereStood (S.bytes store.old) index.now (λ b. IfOk result (λ c. HasRows (stock_of b) (rows_of_chain (corpus_in (stock_of b)) chain.now) c.posts)) }
@@ -144,6 +148,7 @@ fn rows_of_atom<S: Store>(
     atom: &Atom,
 ) -> Result<Cols, AskFault>
     requires of_grammar { AtomIsOfGrammar atom.now }
+    requires index { IsIndex index.now }
     requires fits { Fits (S.bytes store.old) index.now }
 
     ensures told { WhereStood (S.bytes store.old) index.now (λ b. IfOk result (λ c. HasRows (stock_of b) (rows_of_atom (corpus_in (stock_of b)) atom.now) c.posts)) }
@@ -181,6 +186,7 @@ fn docs_of_hits<S: Store>(
     query: &Query,
 ) -> Result<Vec<u32>, AskFault>
     requires of_grammar { IsOfGrammar query.now }
+    requires index { IsIndex index.now }
     requires fits { Fits (S.bytes store.old) index.now }
 
     ensures told { WhereStood (S.bytes store.old) index.now (λ b. IfOk result (λ v. v.items ≡ hits (corpus_in (stock_of b)) (parts_of (corpus_in (stock_of b)) query.now))) }

@@ -1,7 +1,7 @@
 //! The rows of a range of words, read from the blocks of an index.
 ghost use Rattle.std.specs.Prelude.{◌≡◌, ◌+◌, ◌-◌, ◌≤◌, ◌<◌, false, filter, length, IfOk};
 ghost use Rattle.cs_base.specs.outside.Causes.{ReadsWithin};
-ghost use Rattle.cs_file.specs.Indexes.{Fits, CausedReads, is_met};
+ghost use Rattle.cs_file.specs.Indexes.{IsIndex, Fits, CausedReads, is_met};
 ghost use Rattle.cs_model_index.specs.Sections.{image_of};
 ghost use Rattle.cs_engine.specs.Asking.{is_read, is_changed};
 ghost use Rattle.cs_engine.specs.Reading.{AreWithin, HasRun, WhereStood, stock_of};
@@ -25,6 +25,7 @@ pub(crate) fn rows_between<S: Store>(
 ) -> Result<Cols, AskFault>
     requires ordered { lo ≤ hi }
     requires in_range { hi ≤ length index.now.words }
+    requires index { IsIndex index.now }
     requires fits { Fits (S.bytes store.old) index.now }
 
     ensures told { WhereStood (S.bytes store.old) index.now (λ b. IfOk result (λ c. c.posts ≡ filter (is_between lo hi) (stock_of b).posts.posts)) }
@@ -53,6 +54,7 @@ fn gathered<S: Store>(
 ) -> Result<Cols, AskFault>
     requires some { blocks.0 < blocks.1 }
     requires in_range { blocks.1 ≤ length index.now.heads }
+    requires index { IsIndex index.now }
     requires fits { Fits (S.bytes store.old) index.now }
 
     ensures told { WhereStood (S.bytes store.old) index.now (λ b. IfOk result (λ c. HasRun (stock_of b) (image_of b).blocks blocks.0 blocks.1 words.0 words.1 c.posts)) }
@@ -84,6 +86,7 @@ fn cut<S: Store>(
     words: (u32, u32),
 ) -> Result<Cols, AskFault>
     requires in_range { k < length index.now.heads }
+    requires index { IsIndex index.now }
     requires fits { Fits (S.bytes store.old) index.now }
 
     ensures told { WhereStood (S.bytes store.old) index.now (λ b. IfOk result (λ c. HasRun (stock_of b) (image_of b).blocks k (k + 1) words.0 words.1 c.posts)) }

@@ -3,7 +3,7 @@ ghost use Rattle.std.specs.Prelude.{◌≡◌, ◌+◌, ◌≤◌, [], false, fi
 ghost use Rattle.std.specs.List.{list_any};
 ghost use Rattle.std.specs.Str.{bytes_eq};
 ghost use Rattle.cs_base.specs.outside.Causes.{ReadsWithin};
-ghost use Rattle.cs_file.specs.Indexes.{Fits, CausedReads};
+ghost use Rattle.cs_file.specs.Indexes.{IsIndex, Fits, CausedReads};
 ghost use Rattle.cs_model.specs.Answers.{begins, of_word};
 ghost use Rattle.cs_model.specs.Collection.{named};
 ghost use Rattle.cs_model_kept.specs.Due.{met_prefix, met_word};
@@ -26,6 +26,7 @@ pub(crate) fn rows_of_prefix<S: Store>(
     store: &mut S,
     prefix: &[u8],
 ) -> Result<Cols, AskFault>
+    requires index { IsIndex index.now }
     requires fits { Fits (S.bytes store.old) index.now }
 
     ensures told { WhereStood (S.bytes store.old) index.now (λ b. IfOk result (λ c. HasRows (stock_of b) (filter (λ r. begins prefix.now r.word) (corpus_in (stock_of b)).rows) c.posts)) }
@@ -48,6 +49,7 @@ pub(crate) fn rows_of_word<S: Store>(
     store: &mut S,
     word: &[u8],
 ) -> Result<Cols, AskFault>
+    requires index { IsIndex index.now }
     requires fits { Fits (S.bytes store.old) index.now }
 
     ensures told { WhereStood (S.bytes store.old) index.now (λ b. IfOk result (λ c. HasRows (stock_of b) (of_word word.now (corpus_in (stock_of b)).rows) c.posts)) }
@@ -70,6 +72,7 @@ pub(crate) fn rows_of_facet<S: Store>(
     store: &mut S,
     name: &Text,
 ) -> Result<Cols, AskFault>
+    requires index { IsIndex index.now }
     requires fits { Fits (S.bytes store.old) index.now }
 
     ensures told { WhereStood (S.bytes store.old) index.now (λ b. IfOk result (λ c. HasRows (stock_of b) (filter (λ r. begins (named name.now []) r.word) (corpus_in (stock_of b)).rows) c.posts)) }
@@ -87,6 +90,8 @@ pub(crate) fn rows_of_facet<S: Store>(
 
 // The number of a word and the next one, or an empty range.
 fn span_of_word(index: &Index, word: &[u8]) -> (u32, u32)
+    requires index { IsIndex index.now }
+
     ensures span { IsSpanOf index.now.words (λ v. bytes_eq v word.now) result.0 result.1 }
     ensures short { result.1 ≤ result.0 + 1 }
     ensures none { list_any (bytes_eq word.now) index.now.words ≡ false → result.0 ≡ result.1 }
