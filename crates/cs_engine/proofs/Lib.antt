@@ -11,3 +11,4 @@ pub mod UnionLemmas
 pub mod VocabLemmas
 pub mod ReadingLemmas
 pub mod StockLemmas
+pub mod WordsLemmas
