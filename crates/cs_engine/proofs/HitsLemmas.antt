@@ -94,7 +94,7 @@ base_listed : (n : ℕ) (b : Base) (d : ℕ) → base_score b d ≡ base_score (
 base_listed n base.All d = sym (zero_found (range_with_len 0 n) d)
 base_listed n (base.Listed hs) d = refl
 
-greatest_of : (ws : List (List ℕ)) (ps : List Post) → greatest (map (λ p. p.score) ps) ≡ greatest_score (rows_at ws ps)
+pub greatest_of : (ws : List (List ℕ)) (ps : List Post) → greatest (map (λ p. p.score) ps) ≡ greatest_score (rows_at ws ps)
 greatest_of ws [] = refl
 greatest_of ws (p ∷ ps) = ap (max p.score) (greatest_of ws ps)
 

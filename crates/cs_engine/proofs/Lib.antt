@@ -12,3 +12,5 @@ pub mod VocabLemmas
 pub mod ReadingLemmas
 pub mod StockLemmas
 pub mod WordsLemmas
+pub mod StepLemmas
+pub mod EvaluationLemmas

@@ -57,6 +57,7 @@ is_in_base (base.Listed hs) p = list_any (λ h. h.doc == p.doc) hs
 
 -- over each store: rows in order and in range, each in a document of the base, and a base in order and in range
 pub record EntryFits (i : IndexView) (positive : Bool) (n : ℕ) (e : EntryOf Post) : Type 0 where
+  pub parts : positive ≡ true → 1 ≤ n
   pub rows : AreWithin i e.rows
   pub base : IsBaseOf i.docs (most positive n) e.base
   pub in_base : All (λ p. is_in_base e.base p ≡ true) e.rows

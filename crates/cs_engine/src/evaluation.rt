@@ -38,7 +38,7 @@ pub(crate) fn entry_of<S: Store>(
     requires index { IsIndex index.now }
     requires fits { Fits (S.bytes store.old) index.now }
 
-    ensures told { WhereStood (S.bytes store.old) index.now (λ b. IfOk result (λ e. entry_at index.now.words e ≡ entry_of (corpus_in (stock_of b)) query.now)) }
+    ensures told { WhereStood (S.bytes store.old) index.now (λ b. IfOk result (λ e. entry_at (stock_of b).words e ≡ entry_of (corpus_in (stock_of b)) query.now)) }
     ensures within { IfOk result (λ e. EntryFits index.now (ends_positive query.now) (length (out-Query query.now).parts) e) }
     ensures unchanged { WhereStood (S.bytes store.old) index.now (λ b. is_changed result ≡ false) }
     ensures bytes { S.bytes store.new ≡ S.bytes store.old }
