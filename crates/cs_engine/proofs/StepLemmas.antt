@@ -6,7 +6,7 @@
 --   step_told              the entry behind a part is that of its rows
 --   step_within            and it is in range
 --   docs_told, docs_sorted     the documents of a base
-use Rattle.std.proofs.Common.{◌≡◌, ℕ, suc, ◌+◌, ◌-◌, ◌*◌, ◌<◌, ◌≤◌, ◌^◌, ◌==◌, Bool, true, false, not, max, List, [], ◌∷◌, length, map, get_or, refl, sym, ap, subst, ◌∙◌, arith, if◌then◌else◌}
+use Rattle.std.proofs.Common.{◌≡◌, ℕ, suc, ◌+◌, ◌-◌, ◌*◌, ◌<◌, ◌≤◌, ◌^◌, ◌==◌, Bool, true, false, true≢false, not, max, List, [], ◌∷◌, ◌++◌, length, map, get_or, refl, sym, ap, subst, ◌∙◌, arith, if◌then◌else◌}
 use Rattle.std.specs.Prelude.{All, filter, find}
 use Rattle.std.specs.Option.{option_map, unwrap_or}
 use Rattle.std.specs.List.{AllByRecursion, list_any, range_with_len}
@@ -28,21 +28,20 @@ use Rattle.cs_docs.proofs.TextLemmas.{All-members}
 use Rattle.cs_file.specs.Indexes.{IndexView}
 use Rattle.cs_meet.specs.Filters.{keep_docs, drop_docs, is_of}
 use Rattle.cs_meet.specs.Filters as meet
-use Rattle.cs_model.specs.Answers.{PartRows, in_doc, greatest_score}
+use Rattle.cs_model.specs.Answers.{PartRows, hits, in_doc, greatest_score}
 use Rattle.cs_model.specs.Answers as answers
 use Rattle.cs_model_kept.specs.Entries.{Entry, EntryOf, entry_at, entry_after, hits_of, is_begun, is_hit, over, without}
 use Rattle.cs_model_kept.specs.Entries as kept
 use Rattle.cs_rank.specs.DocScores.{IsBase, best_row, greatest, of_doc, scores, with_base}
 use Rattle.cs_rank.specs.DocScores as rank
 use Rattle.cs_engine.specs.Reading.{AreWithin, IsWithin, HasRows}
-use Rattle.cs_engine.specs.Steps.{posts_hits, posts_after, IsHitOf, IsBaseOf, EntryFits, IsStep, is_in_base, most}
+use Rattle.cs_engine.specs.Steps.{docs_after, posts_hits, posts_after, unscored, IsHitOf, IsBaseOf, EntryFits, IsStep, is_in_base, most}
 use Rattle.cs_engine.specs.Stocked.{row_of, rows_at, corpus_in, every, listed, docs_in}
 use Rattle.cs_engine.specs.declared.stock.Stock.{Stock}
 use Rattle.cs_engine.proofs.FoundLemmas.{docs_rise, every_rises, scored_rise, found_small, greatest_small}
-use Rattle.cs_engine.proofs.HitsLemmas.{greatest_of, own_docs}
+use Rattle.cs_engine.proofs.HitsLemmas.{ds_rise, greatest_of, hits_excluded, hits_positive, kept_docs, own_docs}
 use Rattle.cs_engine.proofs.ListsLemmas.{all_of, keys_numbered, map_alike, range_below}
 use Rattle.cs_engine.proofs.ReadingLemmas.{kept_within, none_within}
-use Rattle.cs_engine.proofs.TableLemmas.{docs_at}
 use Rattle.cs_engine.proofs.VocabLemmas.{any_through, filter_alike, filter_through}
 
 -- ---- in range
@@ -75,6 +74,13 @@ best_small : (i : IndexView) (posts : List Post) → AreWithin i posts → (d : 
 best_small i posts w d =
     greatest_small (of_doc d posts) (recursion_from_All (λ p. p.score ≤ 255) (of_doc d posts) (All-filter (λ p. p.doc == d) (λ p. p.score ≤ 255) posts (All-weaker (IsWithin i.docs (length i.words)) (λ p. p.score ≤ 255) (λ p h. h.score) posts w.within)))
 
+pub most_small : (positive : Bool) (n : ℕ) → n ≤ 16 → most positive n ≤ 2 ^ 20
+most_small true n l = omega (arith, l)
+most_small false n l = omega (arith, l)
+
+pub nothing_fits : (i : IndexView) (e : EntryOf Post) → e ≡ record { base = base.All; rows = [] } → EntryFits i false 0 e
+nothing_fits i e is = subst (EntryFits i false 0) (sym is) (record { parts = λ f. absurd (true≢false (sym f)); rows = none_within i; base = tt; in_base = All-nil _ })
+
 -- the hits of an entry in range
 pub hits_in : (i : IndexView) (positive : Bool) (n : ℕ) (e : EntryOf Post) → EntryFits i positive n e → IsBaseOf i.docs (255 * n) (posts_hits positive e.base e.rows)
 hits_in i false n e fits = fits.base
@@ -89,12 +95,16 @@ hits_in i true n e fits =
       record { doc = doc; score = omega (arith, low, best, some) }))
 
 -- ---- hits by posts and by rows
+rows_docs : (ws : List (List ℕ)) (ps : List Post) → map (λ r. r.doc) (rows_at ws ps) ≡ map (λ p. p.doc) ps
+rows_docs ws [] = refl
+rows_docs ws (p ∷ ps) = ap (λ l. p.doc ∷ l) (rows_docs ws ps)
+
 over_told : (ws : List (List ℕ)) (b : Base) (posts : List Post) → scores b posts ≡ over b (rows_at ws posts)
 over_told ws base.All posts =
-    ap (map (λ d. with_base base.All (best_row posts d))) (ap (members_in nat_cmp) (sym (docs_at ws posts)))
+    ap (map (λ d. with_base base.All (best_row posts d))) (ap (members_in nat_cmp) (sym (rows_docs ws posts)))
     ∙ map_alike _ _ (answers.docs_of (rows_at ws posts)) (all_of _ (λ d. ap (λ (n : ℕ). let h : Scored = record { doc = d; score = 0 + n } in h) (greatest_of ws (of_doc d posts) ∙ ap greatest_score (filter_through (row_of ws) (in_doc d) posts))) (answers.docs_of (rows_at ws posts)))
 over_told ws (base.Listed hs) posts =
-    ap (map (λ d. with_base (base.Listed hs) (best_row posts d))) (ap (members_in nat_cmp) (sym (docs_at ws posts)))
+    ap (map (λ d. with_base (base.Listed hs) (best_row posts d))) (ap (members_in nat_cmp) (sym (rows_docs ws posts)))
     ∙ map_alike _ _ (answers.docs_of (rows_at ws posts)) (all_of _ (λ d. ap (λ (n : ℕ). let h : Scored = record { doc = d; score = kept.base_score (base.Listed hs) d + n } in h) (greatest_of ws (of_doc d posts) ∙ ap greatest_score (filter_through (row_of ws) (in_doc d) posts))) (answers.docs_of (rows_at ws posts)))
 
 pub hits_told : (ws : List (List ℕ)) (positive : Bool) (e : EntryOf Post) → posts_hits positive e.base e.rows ≡ hits_of positive (entry_at ws e)
@@ -158,3 +168,38 @@ step_within i b false posts w n fits =
 
 pub known_docs : (i : IndexView) (posts : List Post) → AreWithin i posts → All (λ p. p.doc < i.docs) posts
 known_docs i posts w = All-weaker (IsWithin i.docs (length i.words)) (λ p. p.doc < i.docs) (λ p h. h.doc) posts w.within
+
+-- ---- hits without their scores
+module _ (s : Stock) (done : List PartRows) (p : PartRows) (posts : List Post) (is : rows_at s.words posts ≡ p.rows) (n : ℕ) (b : Base) (lists : docs_in n b ≡ hits (corpus_in s) done) where
+  dropped_docs : map (λ h. h.doc) (drop_docs (listed n b) posts) ≡ filter (λ d. not (list_any (in_doc d) (rows_at s.words posts))) (docs_in n b)
+  dropped_docs =
+      ap (map (λ (h : Scored). h.doc)) (filter_alike (λ h. not (list_any (is_of h) posts)) (λ h. not (list_any (in_doc h.doc) (rows_at s.words posts))) (listed n b) (all_of _ (λ h. ap not (sym (any_through (row_of s.words) (in_doc h.doc) posts))) (listed n b)))
+      ∙ filter_through (λ (h : Scored). h.doc) (λ d. not (list_any (in_doc d) (rows_at s.words posts))) (listed n b)
+
+  pub docs_more : (excluded : Bool) → p.excluded ≡ excluded → docs_after n b excluded posts ≡ hits (corpus_in s) (done ++ p ∷ [])
+  docs_more true e = dropped_docs ∙ ap (filter (λ d. not (list_any (in_doc d) (rows_at s.words posts)))) lists ∙ sym (hits_excluded s done p posts is e)
+  docs_more false e =
+      ap (λ ds. docs_of (keep_docs posts ds)) lists
+      ∙ kept_docs s.words posts (hits (corpus_in s) done) (ds_rise s done)
+      ∙ sym (hits_positive s done p posts is e)
+
+-- ---- bases without scores
+pub unscored_base : (ds : List ℕ) → AreDocs ds → IsBase (base.Listed (map unscored ds))
+unscored_base ds up = (scored_rise unscored (λ d. refl) ds up, All-map (λ h. h.score ≤ 2 ^ 20) unscored ds (λ k d l. omega arith))
+
+pub left_base : (n : ℕ) (b : Base) (posts : List Post) → IsBase b → IsBase (base.Listed (drop_docs (listed n b) posts))
+left_base n b posts h =
+    let keeps : Scored → Bool = λ h. not (list_any (is_of h) posts) in
+    let all = all_listed b h in
+    (IsStrictlySortedBy-filter by_doc keeps (listed n b) all.0, All-filter keeps (λ h. h.score ≤ 2 ^ 20) (listed n b) all.1)
+  where
+    all_listed : (b : Base) → IsBase b → AreByDoc (listed n b) × All (λ h. h.score ≤ 2 ^ 20) (listed n b)
+    all_listed base.All h = (every_rises n, All-map (λ h. h.score ≤ 2 ^ 20) unscored (range_with_len 0 n) (λ k d l. omega arith))
+    all_listed (base.Listed hs) h = h
+
+pub unscored_docs : (ds : List ℕ) → map (λ h. h.doc) (map unscored ds) ≡ ds
+unscored_docs ds = own_docs unscored (λ d. refl) ds
+
+pub base_sorted : (n : ℕ) (b : Base) → IsBase b → AreDocs (docs_in n b)
+base_sorted n base.All h = docs_rise (every n) (every_rises n)
+base_sorted n (base.Listed hs) h = docs_rise hs h.0

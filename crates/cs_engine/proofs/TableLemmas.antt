@@ -87,7 +87,7 @@ is_over m n h = grind (arith, nat_tests)
 -- ---- tables
 
 module _ (ws : List (List ℕ)) (up : IsStrictlySortedBy (slice_cmp nat_cmp) ws) where
-  pub same_word : (m n : ℕ) → m < length ws → n < length ws → bytes_eq (word_at ws m) (word_at ws n) ≡ (m == n)
+  same_word : (m n : ℕ) → m < length ws → n < length ws → bytes_eq (word_at ws m) (word_at ws n) ≡ (m == n)
   same_word m n k l = three_ways m n
       (λ h. apart (word_at ws m) (word_at ws n) (less_word ws up m n h l) ∙ sym (is_under m n h))
       (λ h. (bytes_eq-Decides (word_at ws m) (word_at ws n)).1 (ap (word_at ws) h) ∙ sym (is_same m n h))
@@ -110,7 +110,7 @@ module _ (ws : List (List ℕ)) (up : IsStrictlySortedBy (slice_cmp nat_cmp) ws)
   rise_named [] l h = tt
   rise_named (c ∷ cs) l h = (rest_named c cs l.1 h.0, rise_named cs l.1 h.1)
 
-  pub docs_at : (ps : List Post) → map (λ r. r.doc) (rows_at ws ps) ≡ map (λ p. p.doc) ps
+  docs_at : (ps : List Post) → map (λ r. r.doc) (rows_at ws ps) ≡ map (λ p. p.doc) ps
   docs_at [] = refl
   docs_at (p ∷ ps) = ap (λ l. p.doc ∷ l) (docs_at ps)
 

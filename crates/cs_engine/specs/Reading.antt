@@ -12,7 +12,6 @@
 --                               behind the other
 --   HasRun s blocks first last lo hi posts    posts of the stock are those of such a run, in any order
 --   IsSpanOf ws test lo hi      the words that pass a test are those from lo up to hi, both within the vocabulary
---   AtomIsOfGrammar a, ChainIsOfGrammar c, PartIsOfGrammar p    what stands in the brackets of these is a query of the grammar
 use Rattle.std.specs.Prelude.{◌≡◌, ℕ, ◌-◌, ◌≤◌, ◌<◌, Bool, List, length, take, drop, filter, flat_map, Option}
 use Rattle.std.specs.List.{All, Contains, list_any}
 use Rattle.std.specs.Option.{ForSome}
@@ -22,16 +21,9 @@ use Rattle.cs_base.specs.content.Members.{members_in}
 use Rattle.cs_base.specs.content.Orders.{AreSorted, by_place}
 use Rattle.cs_base.specs.declared.content.doc.Post.{Post}
 use Rattle.cs_base.specs.declared.content.doc.Row.{Row}
-use Rattle.cs_base.specs.declared.content.query.Query.{Query}
-use Rattle.cs_base.specs.declared.content.query.Part.{Part, out-Part}
-use Rattle.cs_base.specs.declared.content.query.Chain.{Chain}
-use Rattle.cs_base.specs.declared.content.query.Atom.{Atom, roll-Atom}
-use Rattle.cs_base.specs.declared.content.query.Atom.TheOpen.{Atom-F}
 use Rattle.cs_file.specs.Indexes.{IndexView, StandsFor}
-use Rattle.cs_model.specs.Refusals.{IsOfGrammar}
 use Rattle.cs_model_index.specs.Images.{image_posts}
 use Rattle.cs_model_index.specs.Sections.{image_of}
-use Rattle.cs_model_kept.specs.InnerQueries.{atoms_of}
 use Rattle.cs_engine.specs.Stocked.{rows_at, is_between, IsPicked, IsSpan}
 use Rattle.cs_engine.specs.declared.stock.Stock.{Stock}
 
@@ -78,16 +70,3 @@ pub record IsSpanOf (ws : List (List ℕ)) (test : List ℕ → Bool) (lo hi : �
   pub ordered : lo ≤ hi
   pub within : hi ≤ length ws
   pub holds : IsSpan ws test lo hi
-
--- ---- queries in brackets
--- an atom without a bracket is
-abbrev pub AtomIsOfGrammar : Atom → Type 0
-AtomIsOfGrammar a = (name : List ℕ) (inner : Query) → a ≡ roll-Atom (Atom-F.Join name inner) → IsOfGrammar inner
-
--- each of its atoms
-abbrev pub ChainIsOfGrammar : Chain → Type 0
-ChainIsOfGrammar c = All AtomIsOfGrammar (atoms_of c)
-
--- each of its alternatives
-abbrev pub PartIsOfGrammar : Part → Type 0
-PartIsOfGrammar p = All ChainIsOfGrammar (out-Part p).chains

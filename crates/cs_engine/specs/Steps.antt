@@ -4,14 +4,16 @@
 --
 --   posts_hits positive b posts     the hits of an entry of this base and these posts; positive says whether the last part is
 --   posts_after n hits excluded posts   the entry behind one part more, whose posts these are, over n documents
+--   unscored d                      the document d with the score 0
+--   docs_after n hits excluded posts    the documents of hits behind one part more, whose posts these are, over n documents
 --   IsBaseOf docs bound b           a base's documents ascend and are in range, and no score of it is above the bound
 --   most positive n                 the greatest score of a base of an entry of n parts
 --   EntryFits i positive n e        an entry of n parts is in the range of an index
 --   ends_positive q                 whether the last part of a query is positive
 --   IsStep s hits p e               e is the entry of a query of these hits and of the part p
-use Rattle.std.specs.Prelude.{◌≡◌, ℕ, ◌-◌, ◌*◌, ◌≤◌, ◌<◌, Bool, true, false, not, ◌==◌, List, [], fold, if◌then◌else◌}
+use Rattle.std.specs.Prelude.{◌≡◌, ℕ, ◌-◌, ◌*◌, ◌≤◌, ◌<◌, Bool, true, false, not, ◌==◌, List, [], map, fold, if◌then◌else◌}
 use Rattle.std.specs.List.{All, list_any}
-use Rattle.cs_base.specs.content.Orders.{AreByDoc}
+use Rattle.cs_base.specs.content.Orders.{AreByDoc, docs_of}
 use Rattle.cs_base.specs.declared.content.doc.Base.{Base}
 use Rattle.cs_base.specs.declared.content.doc.Base.TheVariants as base
 use Rattle.cs_base.specs.declared.content.doc.Post.{Post}
@@ -35,6 +37,14 @@ posts_hits positive b posts = if positive then base.Listed (scores b posts) else
 -- an excluded part takes hits away and leaves no posts, and a positive one leaves its posts in the hits
 abbrev pub posts_after : ℕ → Base → Bool → List Post → EntryOf Post
 posts_after n hits excluded posts = if excluded then record { base = base.Listed (drop_docs (listed n hits) posts); rows = [] } else record { base = hits; rows = keep_docs posts (docs_in n hits) }
+
+-- as of a query without a positive part
+abbrev pub unscored : ℕ → Scored
+unscored d = record { doc = d; score = 0 }
+
+-- those without a post where the part is excluded, and those with one where it isn't
+abbrev pub docs_after : ℕ → Base → Bool → List Post → List ℕ
+docs_after n hits excluded posts = if excluded then map (λ h. h.doc) (drop_docs (listed n hits) posts) else docs_of (keep_docs posts (docs_in n hits))
 
 -- the document is below docs, and the score at most the bound
 pub record IsHitOf (docs bound : ℕ) (h : Scored) : Type 0 where

@@ -1,16 +1,17 @@
 //! Entries: the hits from which a query's last part goes on, and the rows of that part in them.
-ghost use Rattle.std.specs.Prelude.{◌≡◌, ◌<◌, [], IfOk};
+ghost use Rattle.std.specs.Prelude.{◌≡◌, ◌<◌, [], map, IfOk};
 ghost use Rattle.std.specs.List.{All};
 ghost use Rattle.cs_base.specs.content.Orders.{AreSorted};
 ghost use Rattle.cs_base.specs.declared.content.doc.Base.TheVariants as base;
 ghost use Rattle.cs_rank.specs.DocScores.{IsBase};
-ghost use Rattle.cs_engine.specs.Steps.{posts_hits, posts_after};
+ghost use Rattle.cs_engine.specs.Steps.{posts_hits, posts_after, docs_after, unscored};
 ghost use Rattle.cs_engine.specs.Stocked.{docs_in};
 
 use crate::hits::{all_docs, kept_in, numbers_of, without};
-use cs_base::{Base, Memory, Seq};
+use cs_base::{Base, Memory, Scored, Seq};
 use cs_cache::Entry;
 use cs_cols::Cols;
+use cs_meet::docs_of;
 use cs_rank::score;
 use std::alloc::Global;
 
@@ -100,4 +101,43 @@ pub(crate) fn docs_of_base(alloc: Global, docs: u32, base: &Base) -> Result<Vec<
             Ok(numbers)
         }
     }
+}
+
+/// The hits that agree with one part more, whose rows these are, as a base. Their scores aren't counted.
+pub(crate) fn agreeing(
+    alloc: Global,
+    docs: u32,
+    hits: &Base,
+    excluded: bool,
+    rows: Cols,
+) -> Result<Base, Memory>
+    requires base { IsBase hits.now }
+    requires rows_sorted { AreSorted rows.posts }
+    requires known { All (λ p. p.doc < docs) rows.posts }
+
+    ensures docs { IfOk result (λ b. docs_in docs b ≡ docs_after docs hits.now excluded rows.posts) }
+    ensures base { IfOk result IsBase }
+{
+    if excluded {
+        let left = without(alloc, docs, hits, &rows)?;
+        return Ok(Base::Listed(left));
+    }
+    let kept = kept_in(alloc, docs, hits, rows)?;
+    let numbers = docs_of(alloc, &kept)?;
+    let listed = unscored(alloc, &numbers)?;
+    Ok(Base::Listed(listed))
+}
+
+// Each of the documents with the score 0.
+fn unscored(alloc: Global, numbers: &[u32]) -> Result<Seq<Scored>, Memory>
+    ensures { IfOk result (λ v. v ≡ map unscored numbers.now) }
+{
+    let mut listed = Vec::with_capacity(alloc, numbers.len())?;
+    for doc in numbers {
+        listed.push(Scored {
+            doc: *doc,
+            score: 0,
+        })?;
+    }
+    Ok(Seq::from_vec(listed))
 }

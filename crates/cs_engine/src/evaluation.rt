@@ -1,97 +1,32 @@
-//! A query over an index and its store, from its atoms up.
-ghost use Rattle.std.specs.Prelude.{◌≡◌, ℕ, ◌+◌, ◌*◌, false, not, length, IfOk};
+//! The rows of a part, read from its atoms up.
+ghost use Rattle.std.specs.Prelude.{◌≡◌, false, IfOk};
 ghost use Rattle.cs_base.specs.content.Orders.{AreDocs};
 ghost use Rattle.cs_base.specs.outside.Causes.{ReadsWithin};
-ghost use Rattle.cs_base.specs.declared.content.limits.TheConstants.{MAX_PARTS};
-ghost use Rattle.cs_base.specs.declared.content.query.Query.{out-Query};
-ghost use Rattle.cs_base.specs.declared.content.query.Part.{out-Part};
 ghost use Rattle.cs_file.specs.Indexes.{IsIndex, Fits, CausedReads};
 ghost use Rattle.cs_model.specs.Answers.{hits, parts_of, rows_of_atom, rows_of_chain, rows_of_part};
-ghost use Rattle.cs_model.specs.Refusals.{IsOfGrammar};
 ghost use Rattle.cs_model_kept.specs.Due.{met_of_atom, met_of_chain, met_of_part, met_of_query};
-ghost use Rattle.cs_model_kept.specs.Entries.{entry_at, entry_of};
 ghost use Rattle.cs_engine.specs.Asking.{division, is_read, is_changed};
-ghost use Rattle.cs_engine.specs.Reading.{AreWithin, HasRows, WhereStood, stock_of, AtomIsOfGrammar, ChainIsOfGrammar, PartIsOfGrammar};
-ghost use Rattle.cs_engine.specs.Steps.{EntryFits, IsBaseOf, IsStep, ends_positive};
+ghost use Rattle.cs_engine.specs.Reading.{AreWithin, HasRows, WhereStood, stock_of};
 ghost use Rattle.cs_engine.specs.Stocked.{corpus_in};
 
-use crate::entries::{docs_of_base, entry_after, hits_of, nothing_kept};
+use crate::entries::{agreeing, docs_of_base};
 use crate::fault::AskFault;
 use crate::parts::{joined, linked_rows};
 use crate::words::{rows_of_facet, rows_of_prefix, rows_of_word};
 use cs_base::{Atom, Base, Chain, Part, Query, Store};
-use cs_cache::Entry;
 use cs_cols::Cols;
 use cs_file::Index;
 use cs_join::shared;
 use std::alloc::Global;
 
-/// The entry of a query, one part after the other.
+/// The rows of a part: those of some of its chains, each once.
 #[cycle(evaluation)]
-pub(crate) fn entry_of<S: Store>(
-    alloc: Global,
-    index: &Index,
-    store: &mut S,
-    query: &Query,
-) -> Result<Entry, AskFault>
-    requires of_grammar { IsOfGrammar query.now }
-    requires index { IsIndex index.now }
-    requires fits { Fits (S.bytes store.old) index.now }
-
-    ensures told { WhereStood (S.bytes store.old) index.now (λ b. IfOk result (λ e. entry_at (stock_of b).words e ≡ entry_of (corpus_in (stock_of b)) query.now)) }
-    ensures within { IfOk result (λ e. EntryFits index.now (ends_positive query.now) (length (out-Query query.now).parts) e) }
-    ensures unchanged { WhereStood (S.bytes store.old) index.now (λ b. is_changed result ≡ false) }
-    ensures bytes { S.bytes store.new ≡ S.bytes store.old }
-    ensures lent { S.lent store.new ≡ S.lent store.old }
-    ensures reads { ReadsWithin (met_of_query (division index.now) query.now) (S.reads store.old) (S.reads store.new) }
-    ensures caused { CausedReads (is_read result) (S.faults store.old) (S.faults store.new) }
-{
-    let mut entry = nothing_kept(alloc);
-    let mut positive = false;
-    for part in query.parts.as_slice() {
-        let hits = hits_of(alloc, positive, &entry.base, &entry.rows)?;
-        entry = extended(alloc, index, store, hits, part)?;
-        positive = !part.excluded;
-    }
-    Ok(entry)
-}
-
-/// The entry of a query and one part more, by the query's hits.
-#[cycle(evaluation)]
-pub(crate) fn extended<S: Store>(
-    alloc: Global,
-    index: &Index,
-    store: &mut S,
-    hits: Base,
-    part: &Part,
-) -> Result<Entry, AskFault>
-    requires of_grammar { PartIsOfGrammar part.now }
-    requires base { IsBaseOf index.now.docs (255 * MAX_PARTS) hits }
-    requires index { IsIndex index.now }
-    requires fits { Fits (S.bytes store.old) index.now }
-
-    ensures told { WhereStood (S.bytes store.old) index.now (λ b. IfOk result (IsStep (stock_of b) hits (rows_of_part (corpus_in (stock_of b)) part.now))) }
-    ensures within { IfOk result (λ e. (n : ℕ) → IsBaseOf index.now.docs (255 * n) hits → EntryFits index.now (not (out-Part part.now).excluded) (n + 1) e) }
-    ensures unchanged { WhereStood (S.bytes store.old) index.now (λ b. is_changed result ≡ false) }
-    ensures bytes { S.bytes store.new ≡ S.bytes store.old }
-    ensures lent { S.lent store.new ≡ S.lent store.old }
-    ensures reads { ReadsWithin (met_of_part (division index.now) part.now) (S.reads store.old) (S.reads store.new) }
-    ensures caused { CausedReads (is_read result) (S.faults store.old) (S.faults store.new) }
-{
-    let rows = rows_of_part(alloc, index, store, part)?;
-    let entry = entry_after(alloc, index.docs, hits, part.excluded, rows)?;
-    Ok(entry)
-}
-
-// The rows of a part: those of some of its chains, each once.
-#[cycle(evaluation)]
-fn rows_of_part<S: Store>(
+pub(crate) fn rows_of_part<S: Store>(
     alloc: Global,
     index: &Index,
     store: &mut S,
     part: &Part,
 ) -> Result<Cols, AskFault>
-    requires of_grammar { PartIsOfGrammar part.now }
     requires index { IsIndex index.now }
     requires fits { Fits (S.bytes store.old) index.now }
 
@@ -119,7 +54,6 @@ fn rows_of_chain<S: Store>(
     store: &mut S,
     chain: &Chain,
 ) -> Result<Cols, AskFault>
-    requires of_grammar { ChainIsOfGrammar chain.now }
     requires index { IsIndex index.now }
     requires fits { Fits (S.bytes store.old) index.now }
 
@@ -147,7 +81,6 @@ fn rows_of_atom<S: Store>(
     store: &mut S,
     atom: &Atom,
 ) -> Result<Cols, AskFault>
-    requires of_grammar { AtomIsOfGrammar atom.now }
     requires index { IsIndex index.now }
     requires fits { Fits (S.bytes store.old) index.now }
 
@@ -185,7 +118,6 @@ fn docs_of_hits<S: Store>(
     store: &mut S,
     query: &Query,
 ) -> Result<Vec<u32>, AskFault>
-    requires of_grammar { IsOfGrammar query.now }
     requires index { IsIndex index.now }
     requires fits { Fits (S.bytes store.old) index.now }
 
@@ -197,19 +129,11 @@ fn docs_of_hits<S: Store>(
     ensures reads { ReadsWithin (met_of_query (division index.now) query.now) (S.reads store.old) (S.reads store.new) }
     ensures caused { CausedReads (is_read result) (S.faults store.old) (S.faults store.new) }
 {
-    let entry = entry_of(alloc, index, store, query)?;
-    let hits = hits_of(alloc, ends_positive(query), &entry.base, &entry.rows)?;
+    let mut hits = Base::All;
+    for part in query.parts.as_slice() {
+        let rows = rows_of_part(alloc, index, store, part)?;
+        hits = agreeing(alloc, index.docs, &hits, part.excluded, rows)?;
+    }
     let docs = docs_of_base(alloc, index.docs, &hits)?;
     Ok(docs)
-}
-
-/// Whether the last part of a query is positive; not so without a part.
-pub(crate) fn ends_positive(query: &Query) -> bool
-    ensures { result ≡ ends_positive query.now }
-{
-    let mut positive = false;
-    for part in query.parts.as_slice() {
-        positive = !part.excluded;
-    }
-    positive
 }

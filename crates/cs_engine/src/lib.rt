@@ -16,6 +16,7 @@ mod joins;
 mod parts;
 mod reading;
 mod replies;
+mod steps;
 mod stock;
 #[cfg(test)]
 mod tests;
