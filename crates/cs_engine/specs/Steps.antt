@@ -10,6 +10,7 @@
 --   most positive n                 the greatest score of a base of an entry of n parts
 --   EntryFits i positive n e        an entry of n parts is in the range of an index
 --   ends_positive q                 whether the last part of a query is positive
+--   AreFound s q hits posts         the hits of the query q, and posts that stand for its pairs
 --   IsStep s hits p e               e is the entry of a query of these hits and of the part p
 use Rattle.std.specs.Prelude.{◌≡◌, ℕ, ◌-◌, ◌*◌, ◌≤◌, ◌<◌, Bool, true, false, not, ◌==◌, List, [], map, fold, if◌then◌else◌}
 use Rattle.std.specs.List.{All, list_any}
@@ -22,12 +23,12 @@ use Rattle.cs_base.specs.declared.content.query.Query.{Query, out-Query}
 use Rattle.cs_base.specs.declared.content.query.Part.{out-Part}
 use Rattle.cs_file.specs.Indexes.{IndexView}
 use Rattle.cs_meet.specs.Filters.{keep_docs, drop_docs}
-use Rattle.cs_model.specs.Answers.{PartRows}
-use Rattle.cs_model_kept.specs.Entries.{EntryOf, entry_at, entry_after, is_begun}
+use Rattle.cs_model.specs.Answers.{PartRows, pairs, parts_of}
+use Rattle.cs_model_kept.specs.Entries.{EntryOf, base_of, entry_at, entry_after, is_begun}
 use Rattle.cs_model_kept.specs.Entries as kept
 use Rattle.cs_rank.specs.DocScores.{scores}
 use Rattle.cs_engine.specs.Reading.{AreWithin}
-use Rattle.cs_engine.specs.Stocked.{listed, docs_in, corpus_in}
+use Rattle.cs_engine.specs.Stocked.{listed, docs_in, corpus_in, rows_at}
 use Rattle.cs_engine.specs.declared.stock.Stock.{Stock}
 
 -- its posts over its base where the last part is positive, and else the base
@@ -79,3 +80,8 @@ ends_positive q = fold (λ before p. not (out-Part p).excluded) false (out-Query
 -- the posts of the entry stand for the rows that the part leaves
 abbrev pub IsStep : Stock → Base → PartRows → EntryOf Post → Type 0
 IsStep s hits p e = entry_at s.words e ≡ entry_after (is_begun hits) (kept.listed (corpus_in s) hits) p
+
+-- of a query without a part all documents are hits, and there are no posts
+pub record AreFound (s : Stock) (q : Query) (hits : Base) (posts : List Post) : Type 0 where
+  pub base : hits ≡ base_of (corpus_in s) (parts_of (corpus_in s) q)
+  pub rows : rows_at s.words posts ≡ pairs (corpus_in s) (parts_of (corpus_in s) q)

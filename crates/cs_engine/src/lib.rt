@@ -4,6 +4,7 @@
 //! Nothing here reads a file.
 #![tactic(auto)]
 
+mod answering;
 mod atoms;
 mod building;
 mod corpus;

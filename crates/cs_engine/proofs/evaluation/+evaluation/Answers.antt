@@ -1,5 +1,5 @@
 use Rattle.std.proofs.Common.{rules, ◌≡◌, ℕ, ◌+◌, ◌*◌, ◌<◌, ◌≤◌, Bool, not, List, length, map, take, drop, refl, sym, ap, subst, ◌∙◌, arith}
-use Rattle.std.specs.Prelude.{sum}
+use Rattle.std.specs.Prelude.{All, sum}
 use Rattle.cs_base.specs.content.Orders.{AreDocs}
 use Rattle.cs_base.specs.declared.content.doc.Base.{Base}
 use Rattle.cs_base.specs.declared.content.doc.Post.{Post}
@@ -44,7 +44,9 @@ docs_of_hits-loop-part-init g t c =
     }
 
 pub docs_of_hits-agreeing-requires-clause-known : goal.docs_of_hits-agreeing-requires-clause-known
-docs_of_hits-agreeing-requires-clause-known g t c = ?
+docs_of_hits-agreeing-requires-clause-known g t c =
+    let docs = ap (λ (x : IndexView). x.docs) c.index.view_is in
+    subst (λ m. All (λ (p : Post). p.doc < m) c.in_ok-rows.rows.posts) (sym docs) (known_docs c.args.index.now c.in_ok-rows.rows.posts c.in_ok-rows.ensures.within)
 
 pub docs_of_hits-returns-in_err-rows-clause-reads : goal.docs_of_hits-returns-in_err-rows-clause-reads
 docs_of_hits-returns-in_err-rows-clause-reads g t c =
@@ -104,7 +106,7 @@ pub rows_of_atom-returns-in_ok-kept-in-Join-clause-told : goal.rows_of_atom-retu
 rows_of_atom-returns-in_ok-kept-in-Join-clause-told g t c b is stands =
     let s = stock_of b in
     joined_rows s (stocked b c.args.index.now stands c.requires.index) c.args.atom.now c.in-Join.name c.in-Join.inner c.in-Join.is c.in_ok-rows-in-Join.rows.posts c.in_ok-kept-in-Join.kept.posts c.in_ok-docs-in-Join.docs.items
-    (c.in_ok-rows-in-Join.ensures.told b (c.docs_of_hits.ensures.bytes ∙ is) stands) (c.in_ok-docs-in-Join.ensures.told b is stands) (c.in_ok-kept-in-Join.ensures.ok ∙ ap (shared c.in_ok-rows-in-Join.rows.posts) c.as_slice.ensures)
+    (c.in_ok-rows-in-Join.ensures.told b (c.docs_of_hits.ensures.bytes ∙ is) stands) (c.in_ok-docs-in-Join.ensures.told b is stands) (c.in_ok-kept-in-Join.ensures.ok ∙ ap (shared c.in_ok-rows-in-Join.rows.posts) c.as_slice.ensures.value)
 
 pub rows_of_atom-returns-in_ok-kept-in-Join-clause-within : goal.rows_of_atom-returns-in_ok-kept-in-Join-clause-within
 rows_of_atom-returns-in_ok-kept-in-Join-clause-within g t c =
