@@ -14,3 +14,4 @@ pub mod StockLemmas
 pub mod WordsLemmas
 pub mod StepLemmas
 pub mod EvaluationLemmas
+pub mod AnsweringLemmas

@@ -56,7 +56,7 @@ base_weaker docs m n (base.Listed hs) l h = (h.0, λ k d e. let at = h.1 k d e i
 every_in : (docs bound : ℕ) → All (IsHitOf docs bound) (every docs)
 every_in docs bound = All-map (IsHitOf docs bound) (λ (d : ℕ). let h : Scored = record { doc = d; score = 0 } in h) (range_with_len 0 docs) (λ k d l. record { doc = range_below docs k d l; score = omega arith })
 
-listed_in : (docs bound : ℕ) (b : Base) → IsBaseOf docs bound b → AreByDoc (listed docs b) × All (IsHitOf docs bound) (listed docs b)
+pub listed_in : (docs bound : ℕ) (b : Base) → IsBaseOf docs bound b → AreByDoc (listed docs b) × All (IsHitOf docs bound) (listed docs b)
 listed_in docs bound base.All h = (every_rises docs, every_in docs bound)
 listed_in docs bound (base.Listed hs) h = h
 
