@@ -36,8 +36,14 @@ use Rattle.cs_meet.specs.Filters.{IsUnion, stands_behind, is_near}
 use Rattle.cs_model.specs.Answers.{PartRows, LinkedRows, atom_rows, begins, chain_rows, chained, hits, linked_rows, of_word, part_rows, parts_of, query_parts, rows_of_atom, rows_of_chain, rows_of_linked, rows_of_part, scored, union_of}
 use Rattle.cs_model.specs.Collection.{named}
 use Rattle.cs_model.specs.Corpus.{Corpus}
-use Rattle.cs_model.specs.Refusals.{IsOfGrammar}
-use Rattle.cs_model_kept.specs.Due.{Division, atom_met, chain_met, linked_met, part_met, query_met, met_of_atom, met_of_chain, met_of_linked, met_of_part, met_of_query, met_prefix, met_word}
+use Rattle.std.specs.Prelude.{Result, Ok, Err}
+use Rattle.std.specs.Result.{IsErr}
+use Rattle.cs_model.specs.Replies.{Reply}
+use Rattle.cs_model.specs.Requests.{Request}
+use Rattle.cs_engine.specs.Asking.{titles_read}
+use Rattle.cs_engine.specs.declared.fault.AskFault.{AskFault}
+use Rattle.cs_base.specs.declared.index.plan.Plan.TheVariants.{Fresh}
+use Rattle.cs_model_kept.specs.Due.{Division, due, met_of_facets, atom_met, chain_met, linked_met, part_met, query_met, met_of_atom, met_of_chain, met_of_linked, met_of_part, met_of_query, met_prefix, met_word}
 use Rattle.cs_model_kept.specs.Entries.{Entry, EntryOf, base_of, entry, entry_at, entry_of, scored_hits}
 use Rattle.cs_model_kept.specs.Entries as kept
 use Rattle.cs_model_kept.specs.InnerQueries.{HasInner, atoms_of}
@@ -240,3 +246,13 @@ module _ (s : Stock) (ps : List Part) where
 
   pub docs_end : (q : Query) (n i : ℕ) (b : Base) → ps ≡ (out-Query q).parts → length ps ≤ i → DocsSoFar n i b → docs_in n b ≡ hits kd (parts_of kd q)
   docs_end q n i b are l so_far = so_far ∙ ap (λ xs. hits kd (map (rows_of_part kd) xs)) (take_all i ps l ∙ are) ∙ ap (hits kd) (sym (parts_read kd q))
+
+-- ---- what may be read
+pub due_fresh : (v : Division) (r : Request) (n : ℕ) → due v r Fresh n ≡ n + met_of_facets v r.facets + met_of_query v r.query
+unfolding due
+due_fresh v r n = refl
+
+-- where there is no reply
+pub err_titles : (q : Request) (r : Result Reply AskFault) → IsErr r → titles_read q r ≡ q.hits
+err_titles q (Ok r) h = absurd cc
+err_titles q (Err e) h = refl
