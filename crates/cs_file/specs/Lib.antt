@@ -1,3 +1,4 @@
 pub mod Answers
+pub mod Fetching
 pub mod Indexes
 pub mod Writable
