@@ -1,7 +1,13 @@
+pub mod CutLemmas
 pub mod FetchLemmas
+pub mod HeaderLemmas
 pub mod HeadsLemmas
+pub mod LaidLemmas
 pub mod OffsetsLemmas
 pub mod PiecesLemmas
 pub mod PostsLemmas
+pub mod StagesLemmas
 pub mod StoodLemmas
 pub mod TitlesLemmas
+pub mod VocabularyLemmas
+pub mod WordLemmas

@@ -1,4 +1,6 @@
 pub mod Answers
 pub mod Fetching
+pub mod HeaderView
 pub mod Indexes
+pub mod Opening
 pub mod Writable

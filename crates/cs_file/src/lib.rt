@@ -8,10 +8,13 @@
 mod blocks;
 mod fault;
 mod fetching;
+mod header;
 mod image;
 mod index;
+mod judged;
 mod opening;
 mod reading;
+mod vocabulary;
 mod writing;
 
 pub use cs_base::BlockHead;
