@@ -8,6 +8,7 @@ pub mod PiecesLemmas
 pub mod PostsLemmas
 pub mod StagesLemmas
 pub mod StoodLemmas
+pub mod TitleStageLemmas
 pub mod TitlesLemmas
 pub mod VocabularyLemmas
 pub mod WordLemmas

@@ -1,13 +1,14 @@
 -- Offsets that go on, each from the one before, and the titles between them.
 --
 --   Onward at last os     offsets behind another one, or behind none, go on
+--   onward_zero           the first is 0
 --   onward_next           none is less than the one before
 --   onward_end            none is greater than the last
 --   title_at_index        a title lies between its offset and the next
 use Rattle.std.proofs.Common.{◌≡◌, ℕ, zero, suc, ◌+◌, ◌-◌, ◌<◌, ◌≤◌, true, List, [], ◌∷◌, length, get_or, take, drop, map, Option, Some, None, refl, sym, ap, subst, ◌∙◌, arith}
 use Rattle.std.specs.List.{list_all, slice_get, zip}
 use Rattle.std.specs.Option.{unwrap_or}
-use Rattle.std.proofs.lemmas.Bool.{and_parts, leb-true}
+use Rattle.std.proofs.lemmas.Bool.{and_parts, leb-true, eqb-true}
 use Rattle.std.proofs.lemmas.Option.{unwrap_or-slice_get}
 use Rattle.cs_model_index.specs.FileRules.{laid, last_value, is_onward}
 use Rattle.cs_model_index.specs.Sections.{title_between, titles_in}
@@ -26,6 +27,11 @@ unfolding laid
 onward_first at p o os h =
     let q = and_parts (is_onward (Some p) o) (list_all (λ p. is_onward p.last p.value) (laid (λ o. NUMBER_BYTES) (at + NUMBER_BYTES) (Some o) os)) h in
     leb-true _ _ (and_parts _ _ q.0).0
+
+pub onward_zero : (at : ℕ) (os : List ℕ) → Onward at None os → 0 < length os → get_or os 0 0 ≡ 0
+unfolding laid
+onward_zero at [] h lt = absurd (omega arith)
+onward_zero at (o ∷ os) h lt = eqb-true _ _ (and_parts (is_onward None o) (list_all (λ p. is_onward p.last p.value) (laid (λ o. NUMBER_BYTES) (at + NUMBER_BYTES) (Some o) os)) h).0
 
 pub onward_next : (at : ℕ) (last : Option ℕ) (os : List ℕ) (k : ℕ) → Onward at last os → suc k < length os → get_or os k 0 ≤ get_or os (suc k) 0
 onward_next at last [] k h lt = absurd (omega arith)

@@ -2,6 +2,8 @@
 --
 --   all_laid         what holds of each item's value holds of each value
 --   titles_start     the bytes of the titles are those from their place on
+--   within_part      some of the first bytes from a place on
+--   titles_count     there is one title less than there are offsets
 --   stood_title      title d, and that it is UTF-8
 use Rattle.std.proofs.Common.{◌≡◌, ℕ, zero, suc, ◌+◌, ◌-◌, ◌<◌, ◌≤◌, true, List, [], ◌∷◌, length, get_or, take, drop, Option, Some, None, refl, sym, ap, subst, ◌∙◌, arith, length-take, drop-drop}
 use Rattle.std.specs.List.{AllByRecursion}
@@ -34,10 +36,15 @@ unfolding image_of
 image_titles b = refl
 
 -- some bytes within the first of others
-within_part : (n from at len : ℕ) (b : List ℕ) → from + n ≤ len → take n (drop from (take len (drop at b))) ≡ part b (at + from) n
+pub within_part : (n from at len : ℕ) (b : List ℕ) → from + n ≤ len → take n (drop from (take len (drop at b))) ≡ part b (at + from) n
 within_part n from at len b le =
     let e : from + (len - from) ≡ len = omega arith in
     ap (λ (x : ℕ). take n (drop from (take x (drop at b)))) (sym e) ∙ ap (take n) (drop-take from (len - from) (drop at b)) ∙ take-take n (len - from) (drop from (drop at b)) (omega arith) ∙ ap (take n) (drop-drop from at b)
+
+pub titles_count : (os bytes : List ℕ) → length (titles_in os bytes) ≡ length os - 1
+titles_count [] bytes = refl
+titles_count (o ∷ []) bytes = refl
+titles_count (o ∷ p ∷ os) bytes = let rest = titles_count (p ∷ os) bytes in omega (arith, rest)
 
 pub record StoodTitle (b : List ℕ) (i : IndexView) (d : ℕ) : Type 0 where
   pub bytes : title_in b d ≡ part b (title_place i d) (title_len i d)
@@ -67,8 +74,3 @@ stood_title b i s is d lt =
       bytes = ap (λ (ts : List (List ℕ)). get_or ts d []) (image_titles b) ∙ there ∙ ap (λ (x : ℕ). part b (x + from) n) (sym st.titles_at);
       text = ap (λ (ts : List (List ℕ)). is_utf8 (get_or ts d [])) (image_titles b) ∙ all_laid (λ t. is_utf8 t ≡ true) (λ t. length t) (titles_at (header_of b)) None r.titles d [] st.hold.values.texts (omega (arith, count, lt'));
     }
-  where
-    titles_count : (os bytes : List ℕ) → length (titles_in os bytes) ≡ length os - 1
-    titles_count [] bytes = refl
-    titles_count (o ∷ []) bytes = refl
-    titles_count (o ∷ p ∷ os) bytes = let rest = titles_count (p ∷ os) bytes in omega (arith, rest)

@@ -12,26 +12,28 @@
 --   before xs i               the value before another one
 --   front_word bytes          where the word at the front of bytes ends
 --   HasVocabulary h ws        words by the rules, as the header says
+--   HasOffsets h os           offsets by the rules, as the header says
 --   words_judged ws           rules 6 and 7 of words
+--   bad_offset h os, bad_title b     where rules 8 and 9 are broken
 --   header_judged bytes size         rules 2 to 4 of the header's bytes
 --   words_of b, offsets_of b, titles_of b, heads_of b, blocks_of b       what is read of the bytes
 use Rattle.std.specs.Prelude.{◌≡◌, ℕ, zero, suc, ◌+◌, true, All, if◌then◌else◌, ◌<◌, ◌≤◌, ◌^◌, ◌==◌, List, [], ◌∷◌, length, take, Option, None, Some, Result, MatchResult}
-use Rattle.std.specs.List.{slice_get}
+use Rattle.std.specs.List.{list_all, slice_get}
 use Rattle.std.specs.List.Sorted.{IsStrictlySortedBy}
-use Rattle.std.specs.Option.{ForSome}
+use Rattle.std.specs.Option.{ForSome, option_or, unwrap_or}
 use Rattle.std.specs.Ordering.{nat_cmp}
 use Rattle.std.specs.Cmp.Lexicographic.{slice_cmp}
-use Rattle.std.specs.Str.{bytes_eq}
+use Rattle.std.specs.Str.{bytes_eq, is_utf8}
 use Rattle.cs_base.specs.declared.index.block.BlockHead.{BlockHead}
 use Rattle.cs_base.specs.declared.index.block.Broken.{Broken}
 use Rattle.cs_base.specs.declared.content.doc.Post.{Post}
 use Rattle.cs_base.specs.declared.content.limits.TheConstants.{MAX_DOCS, MAX_WORDS, MAX_ROWS}
 use Rattle.cs_model.specs.First.{unless, first_reason}
 use Rattle.cs_model_index.specs.BlockRules.{broken_at}
-use Rattle.cs_model_index.specs.FileRules.{laid, break_of, tried, field_breaks, is_length, is_word, word_size, follows, header_rules, vocabulary_rules, title_rules, directory_rules, blocks_break, parting_rules}
+use Rattle.cs_model_index.specs.FileRules.{laid, last_value, break_of, is_onward, last_offset_at, tried, field_breaks, is_length, is_word, word_size, follows, header_rules, vocabulary_rules, title_rules, directory_rules, blocks_break, parting_rules}
 use Rattle.cs_model_index.specs.Layout.{Header, MAGIC, vocabulary_bytes}
-use Rattle.cs_model_index.specs.Sections.{header_of, contents_of, vocabulary_at, blocks_at, size_by}
-use Rattle.cs_model_index.specs.declared.limits.TheConstants.{MAX_TARGET}
+use Rattle.cs_model_index.specs.Sections.{header_of, contents_of, vocabulary_at, offsets_at, titles_at, blocks_at, size_by}
+use Rattle.cs_model_index.specs.declared.limits.TheConstants.{NUMBER_BYTES, MAX_TARGET}
 use Rattle.cs_file.specs.declared.fault.OpenFault.{OpenFault}
 use Rattle.cs_file.specs.declared.fault.OpenFault.TheVariants as opens
 
@@ -107,6 +109,12 @@ pub record HasVocabulary (h : Header) (ws : List (List ℕ)) : Type 0 where
   pub words : All (λ w. is_word w ≡ true) ws
   pub ascending : IsStrictlySortedBy (slice_cmp nat_cmp) ws
 
+-- one offset more than there are documents, each from the one before on, up to the end of the titles
+pub record HasOffsets (h : Header) (os : List ℕ) : Type 0 where
+  pub count : length os ≡ h.docs + 1
+  pub onward : list_all (λ p. is_onward p.last p.value) (laid (λ o. NUMBER_BYTES) 0 None os) ≡ true
+  pub end : unwrap_or (last_value os) 0 ≡ h.titles_len
+
 -- ---- the stages
 -- rules 1 to 4
 unfoldable pub header_stage : List ℕ → Option Broken
@@ -130,6 +138,14 @@ words_judged ws =
 -- rules 8 and 9
 unfoldable pub titles_stage : List ℕ → Option Broken
 titles_stage b = first_reason (title_rules (contents_of b))
+
+-- where rule 8 is broken by some offsets
+unfoldable pub bad_offset : Header → List ℕ → Option ℕ
+bad_offset h os = option_or (break_of (λ i. is_onward i.last i.value) (laid (λ o. NUMBER_BYTES) (offsets_at h) None os)) (unless (unwrap_or (last_value os) 0 == h.titles_len) (last_offset_at h))
+
+-- where rule 9 is broken by the titles of bytes
+unfoldable pub bad_title : List ℕ → Option ℕ
+bad_title b = break_of (λ i. is_utf8 i.value) (laid (λ t. length t) (titles_at (header_of b)) None (titles_of b))
 
 -- rules 10 to 12
 unfoldable pub directory_stage : List ℕ → Option Broken

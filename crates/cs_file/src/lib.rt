@@ -14,6 +14,7 @@ mod index;
 mod judged;
 mod opening;
 mod reading;
+mod titles;
 mod vocabulary;
 mod writing;
 
