@@ -1,7 +1,9 @@
 pub mod CutLemmas
+pub mod DirectoryLemmas
 pub mod FetchLemmas
 pub mod HeaderLemmas
 pub mod HeadsLemmas
+pub mod KindsLemmas
 pub mod LaidLemmas
 pub mod OffsetsLemmas
 pub mod PiecesLemmas

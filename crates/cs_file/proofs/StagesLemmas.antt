@@ -5,7 +5,7 @@
 --   judged_along, caused_along   an answer that passes a fault on
 --   judges_by            a stage by another name
 --   if_ok_both           two facts of an Ok together
---   two_first, two_last     of two rules, the fault of the first, and the answer of the second
+--   two_first, two_last, three_first, three_second, three_last     of two or three rules, the fault of the first, and the answer of a later one
 use Rattle.std.proofs.Common.{◌≡◌, ℕ, true, false, true≢false, arith, List, [], ◌∷◌, Option, Some, None, Result, Ok, Err, refl, sym, ap, subst, ◌∙◌}
 use Rattle.std.specs.Result.{IsErrAnd, IfOk}
 use Rattle.cs_base.specs.declared.index.block.Broken.{Broken}
@@ -66,3 +66,13 @@ only (Some x) = refl
 
 pub two_last : {T : Type 0} (o p : Option Broken) (r : Result T OpenFault) → o ≡ None → Judges p r → Judges (first_reason (o ∷ p ∷ [])) r
 two_last o p r none h = judges_by (first_reason (o ∷ p ∷ [])) p r (first_none o (p ∷ []) none ∙ only p) h
+
+-- three rules, one tried behind the other
+pub three_first : {T : Type 0} (o p q : Option Broken) (e : OpenFault) (r : Result T OpenFault) → Refuses o e → IsErrAnd r (λ x. x ≡ e) → Judges (first_reason (o ∷ p ∷ q ∷ [])) r
+three_first o p q e r h is = judged_along (first_reason (o ∷ p ∷ q ∷ [])) e r (refuses_first o (p ∷ q ∷ []) e h) is
+
+pub three_second : {T : Type 0} (o p q : Option Broken) (e : OpenFault) (r : Result T OpenFault) → o ≡ None → Refuses p e → IsErrAnd r (λ x. x ≡ e) → Judges (first_reason (o ∷ p ∷ q ∷ [])) r
+three_second o p q e r none h is = judged_along (first_reason (o ∷ p ∷ q ∷ [])) e r (refuses_rest o (p ∷ q ∷ []) e none (refuses_first p (q ∷ []) e h)) is
+
+pub three_last : {T : Type 0} (o p q : Option Broken) (r : Result T OpenFault) → o ≡ None → p ≡ None → Judges q r → Judges (first_reason (o ∷ p ∷ q ∷ [])) r
+three_last o p q r none fine h = judges_by (first_reason (o ∷ p ∷ q ∷ [])) q r (first_none o (p ∷ q ∷ []) none ∙ first_none p (q ∷ []) fine ∙ only q) h

@@ -13,12 +13,14 @@
 --   front_word bytes          where the word at the front of bytes ends
 --   HasVocabulary h ws        words by the rules, as the header says
 --   HasOffsets h os           offsets by the rules, as the header says
+--   HasHeads h ws hs          heads by the rules, over words, as the header says
 --   words_judged ws           rules 6 and 7 of words
+--   bad_joint h hs, bad_size h hs, directory_judged h ws hs       rules 10 to 12 of heads
 --   bad_offset h os, bad_title b     where rules 8 and 9 are broken
 --   header_judged bytes size         rules 2 to 4 of the header's bytes
 --   words_of b, offsets_of b, titles_of b, heads_of b, blocks_of b       what is read of the bytes
-use Rattle.std.specs.Prelude.{◌≡◌, ℕ, zero, suc, ◌+◌, true, All, if◌then◌else◌, ◌<◌, ◌≤◌, ◌^◌, ◌==◌, List, [], ◌∷◌, length, take, Option, None, Some, Result, MatchResult}
-use Rattle.std.specs.List.{list_all, slice_get}
+use Rattle.std.specs.Prelude.{◌≡◌, ℕ, zero, suc, ◌+◌, true, All, if◌then◌else◌, ◌<◌, ◌≤◌, ◌^◌, ◌==◌, ◌&&◌, List, [], ◌∷◌, length, take, Option, None, Some, Result, MatchResult}
+use Rattle.std.specs.List.{list_all, slice_get, sum_by}
 use Rattle.std.specs.List.Sorted.{IsStrictlySortedBy}
 use Rattle.std.specs.Option.{ForSome, option_or, unwrap_or}
 use Rattle.std.specs.Ordering.{nat_cmp}
@@ -30,10 +32,12 @@ use Rattle.cs_base.specs.declared.content.doc.Post.{Post}
 use Rattle.cs_base.specs.declared.content.limits.TheConstants.{MAX_DOCS, MAX_WORDS, MAX_ROWS}
 use Rattle.cs_model.specs.First.{unless, first_reason}
 use Rattle.cs_model_index.specs.BlockRules.{broken_at}
-use Rattle.cs_model_index.specs.FileRules.{laid, last_value, break_of, is_onward, last_offset_at, tried, field_breaks, is_length, is_word, word_size, follows, header_rules, vocabulary_rules, title_rules, directory_rules, blocks_break, parting_rules}
+use Rattle.cs_model_index.specs.FileRules.{laid, last_value, words_end, is_joined, is_of_one_kind, is_sized, break_of, is_onward, last_offset_at, tried, field_breaks, is_length, is_word, word_size, follows, header_rules, vocabulary_rules, title_rules, directory_rules, blocks_break, parting_rules}
 use Rattle.cs_model_index.specs.Layout.{Header, MAGIC, vocabulary_bytes}
-use Rattle.cs_model_index.specs.Sections.{header_of, contents_of, vocabulary_at, offsets_at, titles_at, blocks_at, size_by}
-use Rattle.cs_model_index.specs.declared.limits.TheConstants.{NUMBER_BYTES, MAX_TARGET}
+use Rattle.cs_model_index.specs.Numbered.{word_at}
+use Rattle.cs_model_index.specs.Partitions.{is_facet}
+use Rattle.cs_model_index.specs.Sections.{header_of, contents_of, vocabulary_at, offsets_at, titles_at, directory_at, blocks_at, size_by}
+use Rattle.cs_model_index.specs.declared.limits.TheConstants.{NUMBER_BYTES, ENTRY_BYTES, MAX_TARGET}
 use Rattle.cs_file.specs.declared.fault.OpenFault.{OpenFault}
 use Rattle.cs_file.specs.declared.fault.OpenFault.TheVariants as opens
 
@@ -115,6 +119,17 @@ pub record HasOffsets (h : Header) (os : List ℕ) : Type 0 where
   pub onward : list_all (λ p. is_onward p.last p.value) (laid (λ o. NUMBER_BYTES) 0 None os) ≡ true
   pub end : unwrap_or (last_value os) 0 ≡ h.titles_len
 
+-- as many blocks as the header says, with all words, each with few words of one kind, and with as many rows and bytes as it says
+pub record HasHeads (h : Header) (ws : List (List ℕ)) (hs : List BlockHead) : Type 0 where
+  pub count : length hs ≡ h.blocks
+  pub joined : list_all (λ p. is_joined p.last p.value) (laid (λ h. ENTRY_BYTES) 0 None hs) ≡ true
+  pub end : words_end (last_value hs) ≡ h.words
+  pub kinds : list_all (is_of_one_kind ws) hs ≡ true
+  pub facets : All (λ h. h.facet ≡ is_facet (word_at ws h.lo)) hs
+  pub sized : list_all is_sized hs ≡ true
+  pub rows : sum_by (λ h. h.rows) hs ≡ h.rows
+  pub bytes : sum_by (λ h. h.len) hs ≡ h.blocks_len
+
 -- ---- the stages
 -- rules 1 to 4
 unfoldable pub header_stage : List ℕ → Option Broken
@@ -150,6 +165,18 @@ bad_title b = break_of (λ i. is_utf8 i.value) (laid (λ t. length t) (titles_at
 -- rules 10 to 12
 unfoldable pub directory_stage : List ℕ → Option Broken
 directory_stage b = first_reason (directory_rules (contents_of b))
+
+-- where rule 10 is broken by some heads
+unfoldable pub bad_joint : Header → List BlockHead → Option ℕ
+bad_joint h hs = option_or (break_of (λ i. is_joined i.last i.value) (laid (λ h. ENTRY_BYTES) (directory_at h) None hs)) (unless (words_end (last_value hs) == h.words) (blocks_at h))
+
+-- where rule 12 is broken by them
+unfoldable pub bad_size : Header → List BlockHead → Option ℕ
+bad_size h hs = option_or (break_of (λ i. is_sized i.value) (laid (λ h. ENTRY_BYTES) (directory_at h) None hs)) (unless (sum_by (λ h. h.rows) hs == h.rows && sum_by (λ h. h.len) hs == h.blocks_len) (blocks_at h))
+
+-- rules 10 to 12 of heads over some words
+unfoldable pub directory_judged : Header → List (List ℕ) → List BlockHead → Option Broken
+directory_judged h ws hs = first_reason (tried 10 (bad_joint h hs) ∷ tried 11 (break_of (λ i. is_of_one_kind ws i.value) (laid (λ h. ENTRY_BYTES) (directory_at h) None hs)) ∷ tried 12 (bad_size h hs) ∷ [])
 
 -- rules 13 to 17
 unfoldable pub blocks_stage : List ℕ → Option Broken

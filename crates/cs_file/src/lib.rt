@@ -6,12 +6,14 @@
 #![tactic(auto)]
 
 mod blocks;
+mod directory;
 mod fault;
 mod fetching;
 mod header;
 mod image;
 mod index;
 mod judged;
+mod kinds;
 mod opening;
 mod reading;
 mod titles;
