@@ -5,8 +5,11 @@ pub mod HeaderLemmas
 pub mod HeadsLemmas
 pub mod KindsLemmas
 pub mod LaidLemmas
+pub mod MarksLemmas
 pub mod OffsetsLemmas
+pub mod PartsLemmas
 pub mod PiecesLemmas
+pub mod PostingsLemmas
 pub mod PostsLemmas
 pub mod StagesLemmas
 pub mod StoodLemmas

@@ -3,4 +3,5 @@ pub mod Fetching
 pub mod HeaderView
 pub mod Indexes
 pub mod Opening
+pub mod Parting
 pub mod Writable

@@ -1,5 +1,5 @@
 //! Bytes of a store, read at once or in pieces.
-ghost use Rattle.std.specs.Prelude.{◌≡◌, ◌+◌, ◌<◌, ◌≤◌, ◌^◌, Option, length, IfOk, IfErr, OnOk};
+ghost use Rattle.std.specs.Prelude.{◌≡◌, ◌+◌, ◌<◌, ◌≤◌, ◌^◌, Option, length, IfOk, IfErr, OnOk, replicate};
 ghost use Rattle.std.specs.Option.{ForSome};
 ghost use Rattle.cs_base.specs.outside.Causes.{Counted, ReadsWithin};
 ghost use Rattle.cs_base.specs.outside.Outside.{part};
@@ -17,7 +17,8 @@ const PIECE: usize = 1 << 16;
 
 /// So many zeros, to be read over.
 pub(crate) fn zeros(alloc: Global, len: usize) -> Result<Vec<u8>, Memory>
-    ensures { IfOk result (λ v. length v.items ≡ len) }
+    ensures long { IfOk result (λ v. length v.items ≡ len) }
+    ensures zeros { IfOk result (λ v. v.items ≡ replicate len 0) }
 {
     let zeros = vec![in alloc; 0; len]?;
     Ok(zeros)
