@@ -1,3 +1,4 @@
+pub mod BytesLemmas
 pub mod CutLemmas
 pub mod DirectoryLemmas
 pub mod FetchLemmas
@@ -7,6 +8,7 @@ pub mod KindsLemmas
 pub mod LaidLemmas
 pub mod MarksLemmas
 pub mod OffsetsLemmas
+pub mod OpenLemmas
 pub mod PartsLemmas
 pub mod PiecesLemmas
 pub mod PostingsLemmas

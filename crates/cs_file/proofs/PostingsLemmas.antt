@@ -5,11 +5,12 @@
 --   BlocksRead           what is known behind the first blocks
 --   reading, reads_on, read_refused, read_all       its steps
 --   at_next, at_within   the place of a block
+--   block_bytes_on, block_bytes_all      the bytes of the blocks
 use Rattle.std.proofs.Common.{◌≡◌, ℕ, zero, suc, ◌+◌, ◌-◌, ◌<◌, ◌≤◌, ◌^◌, List, [], ◌∷◌, ◌++◌, length, get_or, take, drop, map, Option, Some, None, Result, refl, sym, ap, subst, ◌∙◌, arith, drop-drop}
 use Rattle.std.specs.Prelude.{All, count_by, ◌==◌}
 use Rattle.std.specs.List.{sum_by, list_all, list_any, range_with_len}
 use Rattle.std.specs.Option.{option_map, option_or}
-use Rattle.std.proofs.lemmas.List.{append-nil, append_assoc, length-map}
+use Rattle.std.proofs.lemmas.List.{append-nil, append_assoc, length-map, take_all}
 use Rattle.std.proofs.lemmas.List.Elements.{All-map}
 use Rattle.std.proofs.lemmas.List.Sums.{sum_by_more, sum_by_more_le}
 use Rattle.cs_base.specs.declared.index.block.BlockHead.{BlockHead}
@@ -25,8 +26,9 @@ use Rattle.cs_model_index.specs.Layout.{Header}
 use Rattle.cs_model_index.specs.Sections.{header_of, contents_of, blocks_in, blocks_at}
 use Rattle.cs_file.specs.declared.part.Part.{Part}
 use Rattle.cs_file.specs.declared.fault.OpenFault.{OpenFault}
-use Rattle.cs_file.specs.Opening.{Refuses, IsHeaderOf, blocks_of, blocks_stage, heads_of}
+use Rattle.cs_file.specs.Opening.{AreBytes, Refuses, IsHeaderOf, blocks_of, blocks_stage, heads_of}
 use Rattle.cs_file.specs.Parting.{part_by, parts_by}
+use Rattle.cs_file.proofs.BytesLemmas.{more_bytes, bytes_at}
 use Rattle.cs_file.proofs.FetchLemmas.{nothing}
 use Rattle.cs_file.proofs.MarksLemmas.{any_posts, count_posts}
 use Rattle.cs_file.proofs.PostsLemmas.{block_words}
@@ -162,3 +164,13 @@ at_next heads first i at lt is = let more = sum_by_more (λ (h : BlockHead). h.l
 
 pub at_within : (heads : List BlockHead) (first i at : ℕ) → i < length heads → at ≡ first + block_from heads i → at + (get_or heads i nothing).len ≤ first + sum_by (λ h. h.len) heads
 at_within heads first i at lt is = let more = sum_by_more_le (λ (h : BlockHead). h.len) heads i nothing lt in omega (arith, is, more)
+
+-- ---- the bytes of the blocks
+pub block_bytes_on : (b : List ℕ) (heads : List BlockHead) (first i at : ℕ) → i < length heads → at ≡ first + block_from heads i → AreBytes b first (block_from heads i) → AreBytes b at (get_or heads i nothing).len → AreBytes b first (block_from heads (i + 1))
+block_bytes_on b heads first i at lt is done here =
+    let more = sum_by_more (λ (h : BlockHead). h.len) heads i nothing lt in
+    bytes_at b first first (block_from heads i + (get_or heads i nothing).len) (block_from heads (i + 1)) refl (sym more)
+    (more_bytes b first (block_from heads i) (get_or heads i nothing).len done (bytes_at b at (first + block_from heads i) (get_or heads i nothing).len (get_or heads i nothing).len is refl here))
+
+pub block_bytes_all : (b : List ℕ) (heads : List BlockHead) (first i len : ℕ) → length heads ≤ i → sum_by (λ h. h.len) heads ≡ len → AreBytes b first (block_from heads i) → AreBytes b first len
+block_bytes_all b heads first i len le sum done = bytes_at b first first (block_from heads i) len refl (ap (sum_by (λ h. h.len)) (take_all i heads le) ∙ sum) done

@@ -4,10 +4,11 @@
 --   none_of_all                      where no stage finds one, none is broken
 --   judged_along, caused_along   an answer that passes a fault on
 --   judges_by            a stage by another name
+--   on_ok                what holds anyhow holds of an Ok
 --   if_ok_both           two facts of an Ok together
 --   two_first, two_last, three_first, three_second, three_last     of two or three rules, the fault of the first, and the answer of a later one
 use Rattle.std.proofs.Common.{◌≡◌, ℕ, true, false, true≢false, arith, List, [], ◌∷◌, Option, Some, None, Result, Ok, Err, refl, sym, ap, subst, ◌∙◌}
-use Rattle.std.specs.Result.{IsErrAnd, IfOk}
+use Rattle.std.specs.Result.{IsErrAnd, IfOk, OnOk}
 use Rattle.cs_base.specs.declared.index.block.Broken.{Broken}
 use Rattle.cs_model.specs.First.{first_reason}
 use Rattle.cs_model_index.specs.BlockRules.{broken_at}
@@ -55,6 +56,10 @@ caused_along {T} e (Err x) before now unread is same =
 pub if_ok_both : {T E : Type 0} (r : Result T E) (P Q R : T → Type 0) → ((x : T) → P x → Q x → R x) → IfOk r P → IfOk r Q → IfOk r R
 if_ok_both (Ok x) P Q R f p q = f x p q
 if_ok_both (Err e) P Q R f p q = tt
+
+pub on_ok : {T E : Type 0} (r : Result T E) (P : Type 0) → P → OnOk r P
+on_ok (Ok x) P p = p
+on_ok (Err e) P p = tt
 
 -- two rules, one tried behind the other
 pub two_first : {T : Type 0} (o p : Option Broken) (e : OpenFault) (r : Result T OpenFault) → Refuses o e → IsErrAnd r (λ x. x ≡ e) → Judges (first_reason (o ∷ p ∷ [])) r

@@ -5,12 +5,14 @@
 --   offsets_are            the offsets, by the section's bytes
 --   has_offsets            what rule 8 says of them
 --   TitleTold, title_told  a title of bytes whose header is known
---   titles_start, titles_on, title_refused, titles_end     the steps of reading the titles one by one
+--   titles_begun, titles_on, title_refused, titles_done    the steps of reading the titles one by one
+--   title_bytes_begun, title_bytes_on, title_bytes_all     and of their bytes
 use Rattle.std.proofs.Common.{◌≡◌, ℕ, zero, suc, ◌+◌, ◌-◌, ◌*◌, ◌<◌, ◌≤◌, Bool, true, false, true≢false, List, [], ◌∷◌, ◌++◌, length, get_or, take, drop, Option, Some, None, Result, refl, sym, ap, subst, ◌∙◌, arith, length-take, length-drop, drop-drop}
 use Rattle.std.specs.List.{list_all}
 use Rattle.std.specs.Option.{ForSome, option_or, unwrap_or}
 use Rattle.std.specs.Str.{is_utf8}
 use Rattle.std.proofs.lemmas.Bool.{eqb-true}
+use Rattle.std.proofs.lemmas.Option.{unwrap_or-slice_get}
 use Rattle.std.proofs.lemmas.List.{append-nil, append_assoc, get_or_default}
 use Rattle.cs_base.specs.declared.index.block.Broken.{Broken}
 use Rattle.cs_base.specs.outside.Outside.{part}
@@ -23,7 +25,8 @@ use Rattle.cs_model_index.specs.Sections.{number_at, numbers_in, header_of, cont
 use Rattle.cs_model_index.specs.declared.limits.TheConstants.{HEADER_BYTES, NUMBER_BYTES}
 use Rattle.cs_model_index.proofs.NumbersLemmas.{numbers_count}
 use Rattle.cs_file.specs.declared.fault.OpenFault.{OpenFault}
-use Rattle.cs_file.specs.Opening.{Refuses, IsHeaderOf, HasOffsets, bad_offset, bad_title, offsets_of, titles_of, titles_stage}
+use Rattle.cs_file.specs.Opening.{AreBytes, Refuses, IsHeaderOf, HasOffsets, bad_offset, bad_title, offsets_of, titles_of, titles_stage}
+use Rattle.cs_file.proofs.BytesLemmas.{no_bytes, more_bytes, bytes_at}
 use Rattle.cs_file.proofs.LaidLemmas.{Rest, rest_start, rest_on, rest_broken, rest_end, all_hold, held_anywhere}
 use Rattle.cs_file.proofs.OffsetsLemmas.{onward_zero, onward_next, onward_end, title_at_index}
 use Rattle.cs_file.proofs.StagesLemmas.{refuses_at}
@@ -182,3 +185,24 @@ titles_done b h os d is at ruled le rest =
     let count = ruled.count in
     let past : length (titles_of b) ≤ d = omega (arith, ap length own, titles_count os (contents_of b).bytes.titles, count) in
     ap (tried 9) (bad_is b h is ∙ sym (rest_end (λ i. is_utf8 i.value) (λ t. length t) (titles_at h) (titles_of b) d (titles_at h + get_or os d 0) past rest))
+
+-- ---- the bytes of the titles
+pub title_bytes_begun : (b : List ℕ) (h : Header) (os : List ℕ) → HasOffsets h os → AreBytes b (titles_at h) (get_or os 0 0)
+title_bytes_begun b h os ruled =
+    let count = ruled.count in
+    let none : get_or os 0 0 ≡ 0 = onward_zero 0 os ruled.onward (omega (arith, count)) in
+    bytes_at b (titles_at h) (titles_at h) 0 (get_or os 0 0) refl (sym none) (no_bytes b (titles_at h))
+
+pub title_bytes_on : (b : List ℕ) (h : Header) (os : List ℕ) (d at : ℕ) → TitleLies h os d → at ≡ titles_at h + get_or os d 0 → AreBytes b (titles_at h) (get_or os d 0) → AreBytes b at (get_or os (d + 1) 0 - get_or os d 0) → AreBytes b (titles_at h) (get_or os (d + 1) 0)
+title_bytes_on b h os d at lies is first rest =
+    let up = lies.onward in
+    let n = get_or os (d + 1) 0 - get_or os d 0 in
+    let sum : get_or os d 0 + n ≡ get_or os (d + 1) 0 = omega (arith, up) in
+    bytes_at b (titles_at h) (titles_at h) (get_or os d 0 + n) (get_or os (d + 1) 0) refl sum (more_bytes b (titles_at h) (get_or os d 0) n first (bytes_at b at (titles_at h + get_or os d 0) n n is refl rest))
+
+pub title_bytes_all : (b : List ℕ) (h : Header) (os : List ℕ) (d : ℕ) → HasOffsets h os → d ≡ h.docs → AreBytes b (titles_at h) (get_or os d 0) → AreBytes b (titles_at h) h.titles_len
+title_bytes_all b h os d ruled done small =
+    let count = ruled.count in
+    let last : length os - 1 ≡ d = omega (arith, count, done) in
+    let end : get_or os d 0 ≡ h.titles_len = ap (λ (n : ℕ). get_or os n 0) (sym last) ∙ sym (unwrap_or-slice_get os (length os - 1) 0) ∙ ruled.end in
+    bytes_at b (titles_at h) (titles_at h) (get_or os d 0) h.titles_len refl end small

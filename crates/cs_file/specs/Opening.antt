@@ -4,6 +4,7 @@
 --
 --   Refuses o e               the fault, if it is damage, is this broken rule with its place
 --   Judges o r                the answer of a stage whose first broken rule this is, if there is one
+--   AreBytes b at n           n of the bytes from a place on are bytes, as all are that were read
 --   IsHeader h                numbers of a header that are in their ranges
 --   IsHeaderOf b h            the bytes have this header and its size
 --   HasHeader told h          the same of the bytes that a store tells
@@ -29,6 +30,7 @@ use Rattle.std.specs.Str.{bytes_eq, is_utf8}
 use Rattle.cs_base.specs.declared.index.block.BlockHead.{BlockHead}
 use Rattle.cs_base.specs.declared.index.block.Broken.{Broken}
 use Rattle.cs_base.specs.declared.content.doc.Post.{Post}
+use Rattle.cs_base.specs.outside.Outside.{part}
 use Rattle.cs_base.specs.declared.content.limits.TheConstants.{MAX_DOCS, MAX_WORDS, MAX_ROWS}
 use Rattle.cs_model.specs.First.{unless, first_reason}
 use Rattle.cs_model_index.specs.BlockRules.{broken_at}
@@ -51,6 +53,10 @@ Refuses o opens.Memory = Unit {0}
 -- Ok where no rule is broken
 abbrev pub Judges : {T : Type 0} → Option Broken → Result T OpenFault → Type 0
 Judges o r = MatchResult r (λ _. o ≡ None) (Refuses o)
+
+-- these bytes are numbers below 256
+abbrev pub AreBytes : List ℕ → ℕ → ℕ → Type 0
+AreBytes b at n = All (λ x. x < 2 ^ 8) (part b at n)
 
 -- ---- the header
 -- those that count within their limits, and lengths of four bytes

@@ -1,15 +1,15 @@
 //! The directory of an index file: what it says of each block.
-ghost use Rattle.std.specs.Prelude.{◌≡◌, ◌+◌, ◌*◌, ◌≤◌, ◌<◌, ◌^◌, ◌==◌, ◌&&◌, false, length, drop, slice_index_or, IfOk, None};
+ghost use Rattle.std.specs.Prelude.{◌≡◌, ◌+◌, ◌*◌, ◌≤◌, ◌<◌, ◌^◌, ◌==◌, ◌&&◌, false, length, drop, slice_index_or, IfOk, OnOk, None};
 ghost use Rattle.std.specs.List.{sum_by};
 ghost use Rattle.std.specs.Option.{ForSome};
 ghost use Rattle.cs_base.specs.declared.content.limits.TheConstants.{MAX_WORDS};
 ghost use Rattle.cs_model_index.specs.FileRules.{break_of, is_joined, is_of_one_kind, is_sized, laid, last_value, tried, words_end};
-ghost use Rattle.cs_model_index.specs.Sections.{head_in, heads_in};
+ghost use Rattle.cs_model_index.specs.Sections.{directory_at, head_in, heads_in};
 ghost use Rattle.cs_model_index.specs.declared.limits.TheConstants.{ENTRY_BYTES};
 ghost use Rattle.cs_file.specs.Answers.{is_read_of_open};
 ghost use Rattle.cs_file.specs.HeaderView.{seen};
 ghost use Rattle.cs_file.specs.Indexes.{CausedReads};
-ghost use Rattle.cs_file.specs.Opening.{Judges, IsHeader, HasHeader, HasHeads, bad_joint, bad_size, before, directory_stage, directory_judged, heads_of, words_of};
+ghost use Rattle.cs_file.specs.Opening.{AreBytes, Judges, IsHeader, HasHeader, HasHeads, bad_joint, bad_size, before, directory_stage, directory_judged, heads_of, words_of};
 
 use crate::fault::OpenFault;
 use crate::header::Header;
@@ -35,6 +35,7 @@ pub(crate) fn read_directory<S: Store>(
     ensures exact { ForSome (S.bytes store.old) (λ b. Judges (directory_stage b) result) }
     ensures heads { ForSome (S.bytes store.old) (λ b. IfOk result (λ hs. hs ≡ heads_of b)) }
     ensures ruled { IfOk result (λ hs. HasHeads (seen header.now) words.now hs) }
+    ensures small { ForSome (S.bytes store.old) (λ b. OnOk result (AreBytes b (directory_at (seen header.now)) (ENTRY_BYTES * header.now.blocks))) }
     ensures bytes { S.bytes store.new ≡ S.bytes store.old }
     ensures lent { S.lent store.new ≡ S.lent store.old }
     ensures caused { CausedReads (is_read_of_open result) (S.faults store.old) (S.faults store.new) }

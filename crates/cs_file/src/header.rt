@@ -1,5 +1,5 @@
 //! The header of an index file.
-ghost use Rattle.std.specs.Prelude.{◌≡◌, ◌+◌, ◌<◌, ◌≤◌, ◌^◌, false, length, IfOk};
+ghost use Rattle.std.specs.Prelude.{◌≡◌, ◌+◌, ◌<◌, ◌≤◌, ◌^◌, false, length, IfOk, OnOk};
 ghost use Rattle.std.specs.Option.{ForSome};
 ghost use Rattle.cs_model.specs.First.{first_reason};
 ghost use Rattle.cs_model_index.specs.FileRules.{field_breaks};
@@ -8,7 +8,7 @@ ghost use Rattle.cs_model_index.specs.declared.limits.TheConstants.{HEADER_BYTES
 ghost use Rattle.cs_file.specs.Answers.{is_read_of_open};
 ghost use Rattle.cs_file.specs.HeaderView.{seen};
 ghost use Rattle.cs_file.specs.Indexes.{CausedReads};
-ghost use Rattle.cs_file.specs.Opening.{Judges, IsHeader, HasHeader, header_stage, header_judged};
+ghost use Rattle.cs_file.specs.Opening.{AreBytes, Judges, IsHeader, HasHeader, header_stage, header_judged};
 
 use crate::fault::OpenFault;
 use crate::judged::{number_at, tried, unless};
@@ -88,6 +88,7 @@ pub(crate) fn read_header<S: Store>(alloc: Global, store: &mut S) -> Result<Head
     ensures exact { ForSome (S.bytes store.old) (λ b. Judges (header_stage b) result) }
     ensures told { IfOk result (λ h. HasHeader (S.bytes store.old) (seen h)) }
     ensures ranges { IfOk result (λ h. IsHeader (seen h)) }
+    ensures small { ForSome (S.bytes store.old) (λ b. OnOk result (AreBytes b 0 HEADER_BYTES)) }
     ensures bytes { S.bytes store.new ≡ S.bytes store.old }
     ensures lent { S.lent store.new ≡ S.lent store.old }
     ensures caused { CausedReads (is_read_of_open result) (S.faults store.old) (S.faults store.new) }

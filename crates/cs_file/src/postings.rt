@@ -8,10 +8,11 @@ ghost use Rattle.cs_model.specs.Scores.{SCORES};
 ghost use Rattle.cs_model_index.specs.BlockRules.{judged, rows_read};
 ghost use Rattle.cs_model_index.specs.Blocks.{IsShaped};
 ghost use Rattle.cs_model_index.specs.FileRules.{in_file};
+ghost use Rattle.cs_model_index.specs.Sections.{blocks_at};
 ghost use Rattle.cs_file.specs.Answers.{is_read_of_open};
 ghost use Rattle.cs_file.specs.HeaderView.{seen};
 ghost use Rattle.cs_file.specs.Indexes.{CausedReads};
-ghost use Rattle.cs_file.specs.Opening.{Judges, IsHeader, HasHeader, blocks_of, blocks_stage, heads_of};
+ghost use Rattle.cs_file.specs.Opening.{AreBytes, Judges, IsHeader, HasHeader, blocks_of, blocks_stage, heads_of};
 ghost use Rattle.cs_file.specs.Parting.{part_by, parts_by};
 
 use crate::fault::OpenFault;
@@ -42,6 +43,7 @@ pub(crate) fn read_blocks<S: Store>(
     ensures exact { ForSome (S.bytes store.old) (λ b. Judges (blocks_stage b) result) }
     ensures parts { ForSome (S.bytes store.old) (λ b. IfOk result (λ v. v.items ≡ parts_by heads.now (blocks_of b))) }
     ensures count { IfOk result (λ v. length v.items ≡ length heads.now) }
+    ensures small { ForSome (S.bytes store.old) (λ b. OnOk result (AreBytes b (blocks_at (seen header.now)) header.now.blocks_len)) }
     ensures bytes { S.bytes store.new ≡ S.bytes store.old }
     ensures lent { S.lent store.new ≡ S.lent store.old }
     ensures caused { CausedReads (is_read_of_open result) (S.faults store.old) (S.faults store.new) }
@@ -85,6 +87,7 @@ fn read_block<S: Store>(
 
     ensures exact { ForSome (S.bytes store.old) (λ b. Judges (option_map (in_file at) (judged SCORES head.now docs (part b at head.now.len))) result) }
     ensures part { ForSome (S.bytes store.old) (λ b. IfOk result (λ p. p ≡ part_by head.now (rows_read head.now (part b at head.now.len)))) }
+    ensures small { ForSome (S.bytes store.old) (λ b. OnOk result (AreBytes b at head.now.len)) }
     ensures bytes { S.bytes store.new ≡ S.bytes store.old }
     ensures lent { S.lent store.new ≡ S.lent store.old }
     ensures caused { CausedReads (is_read_of_open result) (S.faults store.old) (S.faults store.new) }

@@ -1,12 +1,12 @@
 //! Bytes of a store, read at once or in pieces.
-ghost use Rattle.std.specs.Prelude.{◌≡◌, ◌+◌, ◌<◌, ◌≤◌, ◌^◌, Option, length, IfOk, IfErr, OnOk, replicate};
+ghost use Rattle.std.specs.Prelude.{◌≡◌, ◌+◌, ◌<◌, ◌≤◌, ◌^◌, Option, length, IfOk, IfErr, OnOk, All, replicate};
 ghost use Rattle.std.specs.Option.{ForSome};
 ghost use Rattle.cs_base.specs.outside.Causes.{Counted, ReadsWithin};
 ghost use Rattle.cs_base.specs.outside.Outside.{part};
 ghost use Rattle.cs_base.specs.declared.index.block.Broken.{Broken};
 ghost use Rattle.cs_file.specs.Answers.{is_read_of_open};
 ghost use Rattle.cs_file.specs.Indexes.{CausedReads};
-ghost use Rattle.cs_file.specs.Opening.{Refuses};
+ghost use Rattle.cs_file.specs.Opening.{AreBytes, Refuses};
 
 use crate::fault::OpenFault;
 use cs_base::{Failed, Memory, Store};
@@ -55,6 +55,7 @@ pub(crate) fn section<S: Store>(
 
     ensures ok { ForSome (S.bytes store.old) (λ b. IfOk result (λ v. v.items ≡ part b at len)) }
     ensures long { IfOk result (λ v. length v.items ≡ len) }
+    ensures small { ForSome (S.bytes store.old) (λ b. OnOk result (AreBytes b at len)) }
     // no damage is found
     ensures err { (o : Option Broken) → IfErr result (Refuses o) }
     ensures bytes { S.bytes store.new ≡ S.bytes store.old }
@@ -63,10 +64,18 @@ pub(crate) fn section<S: Store>(
 {
     let mut bytes = zeros(alloc, len)?;
     match read_in_pieces(store, at, &mut bytes) {
-        Ok(()) => Ok(bytes),
+        Ok(()) => {
+            are_bytes(&bytes);
+            Ok(bytes)
+        }
         Err(_) => Err(OpenFault::Read),
     }
 }
+
+// What is read into bytes is below 256, which a store needn't tell of what it holds.
+fn are_bytes(bytes: &[u8])
+    ensures { All (λ x. x < 2 ^ 8) bytes.now }
+{}
 
 // Fills a vector with the bytes from a place.
 fn read_in_pieces<S: Store>(

@@ -1,17 +1,17 @@
 //! The titles of an index file, and where they lie.
-ghost use Rattle.std.specs.Prelude.{◌≡◌, ◌+◌, ◌*◌, ◌≤◌, ◌<◌, ◌^◌, ◌==◌, false, length, slice_index_or, IfOk, None};
+ghost use Rattle.std.specs.Prelude.{◌≡◌, ◌+◌, ◌*◌, ◌≤◌, ◌<◌, ◌^◌, ◌==◌, false, length, slice_index_or, IfOk, OnOk, None};
 ghost use Rattle.std.specs.Option.{ForSome, option_or, unwrap_or};
 ghost use Rattle.std.specs.Str.{is_utf8};
 ghost use Rattle.cs_base.specs.outside.Outside.{part};
 ghost use Rattle.cs_base.specs.declared.content.limits.TheConstants.{MAX_DOCS};
 ghost use Rattle.cs_model.specs.First.{unless};
 ghost use Rattle.cs_model_index.specs.FileRules.{break_of, is_onward, laid, last_offset_at, last_value, tried};
-ghost use Rattle.cs_model_index.specs.Sections.{numbers_in, offsets_at};
+ghost use Rattle.cs_model_index.specs.Sections.{numbers_in, offsets_at, titles_at};
 ghost use Rattle.cs_model_index.specs.declared.limits.TheConstants.{NUMBER_BYTES};
 ghost use Rattle.cs_file.specs.Answers.{is_read_of_open};
 ghost use Rattle.cs_file.specs.HeaderView.{seen};
 ghost use Rattle.cs_file.specs.Indexes.{CausedReads};
-ghost use Rattle.cs_file.specs.Opening.{Judges, IsHeader, HasHeader, HasOffsets, before, bad_offset, bad_title, offsets_of, titles_stage};
+ghost use Rattle.cs_file.specs.Opening.{AreBytes, Judges, IsHeader, HasHeader, HasOffsets, before, bad_offset, bad_title, offsets_of, titles_stage};
 
 use crate::fault::OpenFault;
 use crate::header::Header;
@@ -33,6 +33,8 @@ pub(crate) fn read_titles<S: Store>(
     ensures exact { ForSome (S.bytes store.old) (λ b. Judges (titles_stage b) result) }
     ensures offsets { ForSome (S.bytes store.old) (λ b. IfOk result (λ os. os ≡ offsets_of b)) }
     ensures ruled { IfOk result (λ os. HasOffsets (seen header.now) os) }
+    ensures small { ForSome (S.bytes store.old) (λ b. OnOk result (AreBytes b (offsets_at (seen header.now)) (NUMBER_BYTES * (header.now.docs + 1)))) }
+    ensures texts { ForSome (S.bytes store.old) (λ b. OnOk result (AreBytes b (titles_at (seen header.now)) header.now.titles_len)) }
     ensures bytes { S.bytes store.new ≡ S.bytes store.old }
     ensures lent { S.lent store.new ≡ S.lent store.old }
     ensures caused { CausedReads (is_read_of_open result) (S.faults store.old) (S.faults store.new) }
@@ -128,6 +130,7 @@ fn judge_titles<S: Store>(
     requires offsets { ForSome (S.bytes store.old) (λ b. offsets.now ≡ offsets_of b) }
 
     ensures exact { ForSome (S.bytes store.old) (λ b. Judges (tried 9 (bad_title b)) result) }
+    ensures small { ForSome (S.bytes store.old) (λ b. OnOk result (AreBytes b (titles_at (seen header.now)) header.now.titles_len)) }
     ensures bytes { S.bytes store.new ≡ S.bytes store.old }
     ensures lent { S.lent store.new ≡ S.lent store.old }
     ensures caused { CausedReads (is_read_of_open result) (S.faults store.old) (S.faults store.new) }
@@ -151,6 +154,7 @@ fn judge_title<S: Store>(
     requires within { ForSome (S.bytes store.old) (λ b. at + len ≤ length b) }
 
     ensures exact { ForSome (S.bytes store.old) (λ b. Judges (tried 9 (unless (is_utf8 (part b at len)) at)) result) }
+    ensures small { ForSome (S.bytes store.old) (λ b. OnOk result (AreBytes b at len)) }
     ensures bytes { S.bytes store.new ≡ S.bytes store.old }
     ensures lent { S.lent store.new ≡ S.lent store.old }
     ensures caused { CausedReads (is_read_of_open result) (S.faults store.old) (S.faults store.new) }

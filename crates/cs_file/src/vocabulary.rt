@@ -10,7 +10,7 @@ ghost use Rattle.cs_file.specs.declared.fault.OpenFault.{OpenFault};
 ghost use Rattle.cs_file.specs.Answers.{is_read_of_open};
 ghost use Rattle.cs_file.specs.HeaderView.{seen};
 ghost use Rattle.cs_file.specs.Indexes.{CausedReads};
-ghost use Rattle.cs_file.specs.Opening.{Judges, IsHeader, HasHeader, HasVocabulary, before, front_word, vocabulary_stage, words_judged, words_of};
+ghost use Rattle.cs_file.specs.Opening.{AreBytes, Judges, IsHeader, HasHeader, HasVocabulary, before, front_word, vocabulary_stage, words_judged, words_of};
 
 use crate::fault::OpenFault;
 use crate::header::Header;
@@ -33,6 +33,7 @@ pub(crate) fn read_vocabulary<S: Store>(
     ensures exact { ForSome (S.bytes store.old) (λ b. Judges (vocabulary_stage b) result) }
     ensures words { ForSome (S.bytes store.old) (λ b. IfOk result (λ ws. ws ≡ words_of b)) }
     ensures ruled { IfOk result (λ ws. HasVocabulary (seen header.now) ws) }
+    ensures small { ForSome (S.bytes store.old) (λ b. OnOk result (AreBytes b vocabulary_at header.now.vocabulary_len)) }
     ensures bytes { S.bytes store.new ≡ S.bytes store.old }
     ensures lent { S.lent store.new ≡ S.lent store.old }
     ensures caused { CausedReads (is_read_of_open result) (S.faults store.old) (S.faults store.new) }

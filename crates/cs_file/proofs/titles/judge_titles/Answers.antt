@@ -7,11 +7,11 @@ use Rattle.cs_model_index.specs.Sections.{titles_at}
 use Rattle.cs_file.specs.HeaderView.{seen}
 use Rattle.cs_file.specs.Opening.{Refuses}
 use Rattle.cs_file.proofs.StagesLemmas.{judged_along}
-use Rattle.cs_file.proofs.TitleStageLemmas.{title_lies, title_told, titles_begun, titles_on, title_refused, titles_done}
+use Rattle.cs_file.proofs.TitleStageLemmas.{title_bytes_begun, title_bytes_on, title_bytes_all, title_lies, title_told, titles_begun, titles_on, title_refused, titles_done}
 use Rattle.cs_file.proofs.titles.judge_titles.Goals as goal
 
 pub loop-doc-init : goal.loop-doc-init
-loop-doc-init g c = record { told = λ b t. titles_begun b (seen c.args.header.now) c.args.offsets.now c.requires.ruled; same = refl; lent = refl; quiet = refl }
+loop-doc-init g c = record { told = λ b t. titles_begun b (seen c.args.header.now) c.args.offsets.now c.requires.ruled; small = λ b t. title_bytes_begun b (seen c.args.header.now) c.args.offsets.now c.requires.ruled; same = refl; lent = refl; quiet = refl }
 
 pub overflow_sub-len : goal.overflow_sub-len
 overflow_sub-len g c = (title_lies (seen c.args.header.now) c.args.offsets.now c.loop-doc.doc c.requires.ruled c.loop-doc-test.true).onward
@@ -47,6 +47,7 @@ loop-doc-preserved g c =
           let told = title_told b h os d (c.requires.told b t) (c.requires.offsets b t) c.requires.ruled c.loop-doc-test.true in
           let fine = ap (λ n. tried 9 (unless (is_utf8 (part b n len)) n)) (sym at) ∙ c.in_ok-judge_title.ensures.exact b (c.loop-doc.invariant.same ∙ t) in
           titles_on b h os d (titles_at h + slice_index_or os d 0) (title_lies h os d c.requires.ruled c.loop-doc-test.true) told fine (c.loop-doc.invariant.told b t);
+      small = λ b t. title_bytes_on b h os d _ (title_lies h os d c.requires.ruled c.loop-doc-test.true) at (c.loop-doc.invariant.small b t) (c.in_ok-judge_title.ensures.small b (c.loop-doc.invariant.same ∙ t));
       same = c.in_ok-judge_title.ensures.bytes ∙ c.loop-doc.invariant.same;
       lent = c.in_ok-judge_title.ensures.lent ∙ c.loop-doc.invariant.lent;
       quiet = c.in_ok-judge_title.ensures.caused.quiet refl ∙ c.loop-doc.invariant.quiet;
@@ -54,3 +55,6 @@ loop-doc-preserved g c =
 
 pub returns-clause-exact : goal.returns-clause-exact
 returns-clause-exact g c = λ b t. titles_done b (seen c.args.header.now) c.args.offsets.now c.loop-doc.doc (c.requires.told b t) (c.requires.offsets b t) c.requires.ruled c.loop-doc-test.false (c.loop-doc.invariant.told b t)
+
+pub returns-clause-small : goal.returns-clause-small
+returns-clause-small g c = λ b t. title_bytes_all b (seen c.args.header.now) c.args.offsets.now c.loop-doc.doc c.requires.ruled (omega arith) (c.loop-doc.invariant.small b t)

@@ -4,6 +4,7 @@ use Rattle.cs_model_index.specs.FileRules.{tried, words_break}
 use Rattle.cs_model_index.specs.Sections.{vocabulary_at, vocabulary_in}
 use Rattle.cs_file.specs.HeaderView.{seen}
 use Rattle.cs_file.specs.Opening.{Judges, Refuses, words_judged}
+use Rattle.cs_file.proofs.BytesLemmas.{bytes_at}
 use Rattle.cs_file.proofs.StagesLemmas.{judged_along, judges_by, none_of_all, two_first, two_last}
 use Rattle.cs_file.proofs.VocabularyLemmas.{vocabulary_is, words_are, words_count, has_vocabulary}
 use Rattle.cs_file.proofs.vocabulary.read_vocabulary.Goals as goal
@@ -55,3 +56,6 @@ pub returns-clause-ruled : goal.returns-clause-ruled
 returns-clause-ruled g c =
     has_vocabulary (seen c.args.header.now) c.in_ok-words.words c.deref.result.now (ap length c.deref.ensures.value ∙ c.in_ok-bytes.ensures.long) c.in_ok-words.ensures.exact c.in_ok-words.ensures.words
     (ap words_judged (sym c.as_slice.ensures) ∙ c.in_ok-judge_words.ensures.exact)
+
+pub returns-clause-small : goal.returns-clause-small
+returns-clause-small g c = λ b t. bytes_at b c.from.result vocabulary_at _ _ c.from.ensures refl (c.in_ok-bytes.ensures.small b t)
