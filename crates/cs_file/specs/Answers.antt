@@ -5,15 +5,18 @@
 --   IsDamageOf b e          the fault of opening, if it is damage, is the first broken rule of the bytes with its place
 --   is_read_of_open r, is_read_of_fetch r, is_sink r, is_changed r      the answer is a failed read, a failed sink, a change
 --   HasBlock i told k old new      posts were added that are those of block k, read of the bytes that the store tells
+--   BreaksBlock i told k rule at, IsChangeOfBlock i told k e     the first rule that the bytes of block k break, with its place in the file
+--   BreaksTitle i told d rule at, IsChangeOfTitle i told d e     the bytes of title d aren't text
 use Rattle.std.specs.Prelude.{◌≡◌, ℕ, Bool, true, false, List, ◌++◌, Option, Some, Result, Ok, Err, slice_index_or}
-use Rattle.std.specs.Option.{ForSome}
+use Rattle.std.specs.Option.{ForSome, option_map}
+use Rattle.std.specs.Str.{is_utf8}
 use Rattle.cs_base.specs.outside.Outside.{part}
 use Rattle.cs_base.specs.declared.index.block.BlockHead.{BlockHead}
 use Rattle.cs_base.specs.declared.content.doc.Post.{Post}
 use Rattle.cs_model.specs.Scores.{SCORES}
-use Rattle.cs_model_index.specs.BlockRules.{IsBlock, broken_at}
-use Rattle.cs_model_index.specs.FileRules.{damage}
-use Rattle.cs_file.specs.Indexes.{IndexView, block_place}
+use Rattle.cs_model_index.specs.BlockRules.{judged, IsBlock, broken_at}
+use Rattle.cs_model_index.specs.FileRules.{in_file, damage}
+use Rattle.cs_file.specs.Indexes.{IndexView, block_place, title_place, title_len}
 use Rattle.cs_file.specs.declared.fault.OpenFault.{OpenFault}
 use Rattle.cs_file.specs.declared.fault.OpenFault.TheVariants as opens
 use Rattle.cs_file.specs.declared.fault.FetchFault.{FetchFault}
@@ -54,3 +57,29 @@ pub record HasBlock (i : IndexView) (told : Option (List ℕ)) (k : ℕ) (old ne
   pub added : new ≡ old ++ rows
   pub block : (d : BlockHead) → IsBlock SCORES (slice_index_or i.heads k d) i.docs rows bytes
   pub read : (d : BlockHead) → ForSome told (λ b. bytes ≡ part b (block_place i k) (slice_index_or i.heads k d).len)
+
+-- some bytes break the rule, and no other of a block before it; of a store that tells, these are its bytes at the block's place
+pub record BreaksBlock (i : IndexView) (told : Option (List ℕ)) (k rule at : ℕ) : Type 0 where
+  pub bytes : List ℕ
+  pub broken : (d : BlockHead) → option_map (in_file (block_place i k)) (judged SCORES (slice_index_or i.heads k d) i.docs bytes) ≡ Some (broken_at rule at)
+  pub read : (d : BlockHead) → ForSome told (λ b. bytes ≡ part b (block_place i k) (slice_index_or i.heads k d).len)
+
+-- of a failed read and of want of memory nothing is said
+abbrev pub IsChangeOfBlock : IndexView → Option (List ℕ) → ℕ → FetchFault → Type 0
+IsChangeOfBlock i told k (fetches.Changed rule at) = BreaksBlock i told k rule at
+IsChangeOfBlock i told k fetches.Read = Unit {0}
+IsChangeOfBlock i told k fetches.Memory = Unit {0}
+
+-- some bytes that aren't UTF-8 break rule 9 at the title's place; of a store that tells, these are its bytes there
+pub record BreaksTitle (i : IndexView) (told : Option (List ℕ)) (d rule at : ℕ) : Type 0 where
+  pub bytes : List ℕ
+  pub broken : is_utf8 bytes ≡ false
+  pub rule_is : rule ≡ 9
+  pub place : at ≡ title_place i d
+  pub read : ForSome told (λ b. bytes ≡ part b (title_place i d) (title_len i d))
+
+-- of a failed read and of want of memory nothing is said
+abbrev pub IsChangeOfTitle : IndexView → Option (List ℕ) → ℕ → FetchFault → Type 0
+IsChangeOfTitle i told d (fetches.Changed rule at) = BreaksTitle i told d rule at
+IsChangeOfTitle i told d fetches.Read = Unit {0}
+IsChangeOfTitle i told d fetches.Memory = Unit {0}

@@ -4,14 +4,15 @@
 --
 --   IndexView               what an opened index holds: all of its file but titles and posts
 --   index_of b              what is kept of the bytes of an index file
+--   block_place i k         the place of block k; behind the last block the file's end
+--   title_place i d, title_len i d      where title d begins, and how many bytes it has
 --   IsIndex i               what an opened index keeps, whatever store it was read from
 --   StandsFor b i           the bytes are an index file, and the index is what is kept of it
---   block_place i k         the place of block k; behind the last block the file's end
 --   Fits told i             the store tells nothing, or has all blocks
 --   AreMet heads lo hi first last    the blocks from `first` up to `last` are those that hold a word from lo up to hi
 --   block_posts b k, title_in b d    the posts of block k and the title of document d that are read of the bytes
 --   CausedReads read before now      a count of failures rose exactly where the answer is a failed read
-use Rattle.std.specs.Prelude.{◌≡◌, ℕ, ◌+◌, ◌*◌, ◌≤◌, ◌<◌, ◌^◌, Bool, true, false, ◌&&◌, nat_lt, nat_le, List, [], length, take, slice_index_or, All, Option, None}
+use Rattle.std.specs.Prelude.{◌≡◌, ℕ, ◌+◌, ◌-◌, ◌*◌, ◌≤◌, ◌<◌, ◌^◌, Bool, true, false, ◌&&◌, nat_lt, nat_le, List, [], length, take, slice_index_or, All, Option, None}
 use Rattle.std.specs.List.{list_all, sum_by}
 use Rattle.std.specs.List.Sorted.{IsStrictlySortedBy}
 use Rattle.std.specs.Option.{ForSome, unwrap_or}
@@ -49,8 +50,20 @@ index_of b =
 abbrev pub titles_end : IndexView → ℕ
 titles_end i = unwrap_or (last_value i.offsets) 0
 
+-- the blocks lie one behind the other; that of the first is the place of the blocks
+abbrev pub block_place : IndexView → ℕ → ℕ
+block_place i k = i.blocks_at + sum_by (λ h. h.len) (take k i.heads)
+
+-- where a title begins, counted from the file's first byte; the place of the first title where there is no such offset
+abbrev pub title_place : IndexView → ℕ → ℕ
+title_place i d = i.titles_at + slice_index_or i.offsets d 0
+
+-- how many bytes a title has; none behind the last one
+abbrev pub title_len : IndexView → ℕ → ℕ
+title_len i d = slice_index_or i.offsets (d + 1) 0 - slice_index_or i.offsets d 0
+
 -- the numbers are within their limits, the words are words in order, the offsets go on, and the blocks have all words, each few
--- and of one kind, and as many rows and bytes as they may have; the places are those of the file's layout
+-- and of one kind, and as many rows and bytes as they may have; the places are those of the file's layout, and have numbers of 64 bits
 pub record IsIndex (i : IndexView) : Type 0 where
   pub few_docs : i.docs ≤ MAX_DOCS
   pub few_words : length i.words ≤ MAX_WORDS
@@ -68,16 +81,13 @@ pub record IsIndex (i : IndexView) : Type 0 where
   pub few_rows : sum_by (λ h. h.rows) i.heads ≤ MAX_ROWS
   pub titles_place : i.titles_at ≡ HEADER_BYTES + length (vocabulary_bytes i.words) + NUMBER_BYTES * (i.docs + 1)
   pub blocks_place : i.blocks_at ≡ i.titles_at + titles_end i + ENTRY_BYTES * length i.heads
+  pub small : block_place i (length i.heads) < 2 ^ 63
 
 -- the bytes are an index file, and the index is what is kept of it; no bytes stand for one
 pub record StandsFor (b : List ℕ) (i : IndexView) : Type 0 where
   pub bytes : All (λ x. x < 2 ^ 8) b
   pub accepted : IsIndexFile b
   pub index : i ≡ index_of b
-
--- the blocks lie one behind the other; that of the first is the place of the blocks
-abbrev pub block_place : IndexView → ℕ → ℕ
-block_place i k = i.blocks_at + sum_by (λ h. h.len) (take k i.heads)
 
 -- the store tells nothing, or has at least as many bytes as titles and blocks need
 abbrev pub Fits : Option (List ℕ) → IndexView → Type 0

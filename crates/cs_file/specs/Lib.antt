@@ -1,3 +1,7 @@
 pub mod Answers
+pub mod Fetching
+pub mod HeaderView
 pub mod Indexes
+pub mod Opening
+pub mod Parting
 pub mod Writable

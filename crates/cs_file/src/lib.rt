@@ -6,12 +6,21 @@
 #![tactic(auto)]
 
 mod blocks;
+mod directory;
 mod fault;
 mod fetching;
+mod header;
 mod image;
 mod index;
+mod judged;
+mod kinds;
 mod opening;
+mod part;
+mod parts;
+mod postings;
 mod reading;
+mod titles;
+mod vocabulary;
 mod writing;
 
 pub use cs_base::BlockHead;

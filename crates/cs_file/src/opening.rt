@@ -4,9 +4,17 @@ ghost use Rattle.std.specs.Option.{ForSome};
 ghost use Rattle.cs_file.specs.Answers.{IsDamageOf, is_read_of_open};
 ghost use Rattle.cs_file.specs.Indexes.{StandsFor, Fits, CausedReads};
 
+use crate::directory::read_directory;
 use crate::fault::OpenFault;
+use crate::header::read_header;
 use crate::index::Index;
+use crate::judged::tried;
+use crate::parts::bad_part;
+use crate::postings::read_blocks;
+use crate::titles::read_titles;
+use crate::vocabulary::read_vocabulary;
 use cs_base::Store;
+use cs_vocab::Vocab;
 use std::alloc::Global;
 
 /// Opens the index file that a store holds: tests all its rules, and keeps words, offsets and heads.
@@ -22,7 +30,20 @@ pub fn open_index<S: Store>(alloc: Global, store: &mut S) -> Result<Index, OpenF
     ensures lent { S.lent store.new ≡ S.lent store.old }
     ensures caused { CausedReads (is_read_of_open result) (S.faults store.old) (S.faults store.new) }
 {
-    let _ = alloc;
-    let _ = &store;
-    Err(OpenFault::Memory)
+    let header = read_header(alloc, store)?;
+    let words = read_vocabulary(alloc, store, &header)?;
+    let offsets = read_titles(alloc, store, &header)?;
+    let heads = read_directory(alloc, store, &header, words.as_slice())?;
+    let parts = read_blocks(alloc, store, &header, heads.as_slice())?;
+    let place = bad_part(words.as_slice(), &parts, header.target, header.directory_at());
+    tried(18, place)?;
+    Ok(Index {
+        docs: header.docs,
+        words: Vocab::from_words(words),
+        offsets,
+        heads,
+        target: header.target,
+        titles_at: header.titles_at(),
+        blocks_at: header.blocks_at(),
+    })
 }

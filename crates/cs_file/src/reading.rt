@@ -1,9 +1,14 @@
 //! Bytes of a store, read at once or in pieces.
-ghost use Rattle.std.specs.Prelude.{◌≡◌, ◌+◌, ◌<◌, ◌≤◌, ◌^◌, length, IfOk, OnOk};
+ghost use Rattle.std.specs.Prelude.{◌≡◌, ◌+◌, ◌<◌, ◌≤◌, ◌^◌, Option, length, IfOk, IfErr, OnOk, All, replicate};
 ghost use Rattle.std.specs.Option.{ForSome};
 ghost use Rattle.cs_base.specs.outside.Causes.{Counted, ReadsWithin};
 ghost use Rattle.cs_base.specs.outside.Outside.{part};
+ghost use Rattle.cs_base.specs.declared.index.block.Broken.{Broken};
+ghost use Rattle.cs_file.specs.Answers.{is_read_of_open};
+ghost use Rattle.cs_file.specs.Indexes.{CausedReads};
+ghost use Rattle.cs_file.specs.Opening.{AreBytes, Refuses};
 
+use crate::fault::OpenFault;
 use cs_base::{Failed, Memory, Store};
 use std::alloc::Global;
 
@@ -12,7 +17,8 @@ const PIECE: usize = 1 << 16;
 
 /// So many zeros, to be read over.
 pub(crate) fn zeros(alloc: Global, len: usize) -> Result<Vec<u8>, Memory>
-    ensures { IfOk result (λ v. length v.items ≡ len) }
+    ensures long { IfOk result (λ v. length v.items ≡ len) }
+    ensures zeros { IfOk result (λ v. v.items ≡ replicate len 0) }
 {
     let zeros = vec![in alloc; 0; len]?;
     Ok(zeros)
@@ -37,8 +43,42 @@ pub(crate) fn read_at_once<S: Store>(
     read
 }
 
-/// Fills a vector with the bytes from a place, by reads of at most `PIECE` bytes each.
-pub(crate) fn read_in_pieces<S: Store>(
+/// So many bytes from a place, by reads of at most `PIECE` bytes each.
+pub(crate) fn section<S: Store>(
+    alloc: Global,
+    store: &mut S,
+    at: u64,
+    len: usize,
+) -> Result<Vec<u8>, OpenFault>
+    requires places { at + len < 2 ^ 64 }
+    requires within { ForSome (S.bytes store.old) (λ b. at + len ≤ length b) }
+
+    ensures ok { ForSome (S.bytes store.old) (λ b. IfOk result (λ v. v.items ≡ part b at len)) }
+    ensures long { IfOk result (λ v. length v.items ≡ len) }
+    ensures small { ForSome (S.bytes store.old) (λ b. OnOk result (AreBytes b at len)) }
+    // no damage is found
+    ensures err { (o : Option Broken) → IfErr result (Refuses o) }
+    ensures bytes { S.bytes store.new ≡ S.bytes store.old }
+    ensures lent { S.lent store.new ≡ S.lent store.old }
+    ensures caused { CausedReads (is_read_of_open result) (S.faults store.old) (S.faults store.new) }
+{
+    let mut bytes = zeros(alloc, len)?;
+    match read_in_pieces(store, at, &mut bytes) {
+        Ok(()) => {
+            are_bytes(&bytes);
+            Ok(bytes)
+        }
+        Err(_) => Err(OpenFault::Read),
+    }
+}
+
+// What is read into bytes is below 256, which a store needn't tell of what it holds.
+fn are_bytes(bytes: &[u8])
+    ensures { All (λ x. x < 2 ^ 8) bytes.now }
+{}
+
+// Fills a vector with the bytes from a place.
+fn read_in_pieces<S: Store>(
     store: &mut S,
     at: u64,
     bytes: &mut Vec<u8>,

@@ -1,0 +1,216 @@
+-- What a fetched block and a title that was read are.
+--
+--   block_within        a block's bytes lie within the bytes of all blocks
+--   has_block           rows by the rules that were added are those of the block
+--   same_posts          over bytes that stand for the index they are its posts
+--   never_broken        and no rule is broken there
+--   title_within        a title's bytes lie before the blocks
+--   BlockRead, block_read        what is known where a block's bytes were read
+--   shaped_read, block_by, stood_by, unchanged_by, changed_by    the clauses of a fetch, from that and from what decoding answers
+--   TitleRead, title_read, TitleSpan, title_span       the same of a title
+--   title_by, title_stood, title_unchanged, title_changed        the clauses of a title, from that and from whether it is text
+use Rattle.std.proofs.Common.{◌≡◌, ℕ, ◌+◌, ◌-◌, ◌<◌, ◌≤◌, ◌^◌, true, false, true≢false, List, [], ◌++◌, length, get_or, take, Option, Some, None, Result, Ok, Err, refl, sym, ap, subst, ◌∙◌, arith}
+use Rattle.std.specs.Option.{ForSome, option_map}
+use Rattle.std.specs.Prelude.{IfErr, IfOk}
+use Rattle.std.specs.Str.{is_utf8}
+use Rattle.std.proofs.lemmas.Option.{none-some}
+use Rattle.std.specs.List.{sum_by}
+use Rattle.std.proofs.lemmas.List.{get_or_default, take_all}
+use Rattle.std.proofs.lemmas.List.Sums.{sum_by_more_le}
+use Rattle.cs_base.specs.declared.index.block.BlockHead.{BlockHead}
+use Rattle.cs_base.specs.declared.index.block.Broken.{Broken}
+use Rattle.cs_base.specs.declared.content.doc.Post.{Post}
+use Rattle.cs_base.specs.declared.content.limits.TheConstants.{MAX_DOCS}
+use Rattle.cs_base.specs.outside.Outside.{part}
+use Rattle.cs_block.proofs.LawsLemmas.{unique}
+use Rattle.cs_model.specs.Scores.{SCORES}
+use Rattle.cs_model_index.specs.BlockRules.{judged, IsBlock, broken_at}
+use Rattle.cs_model_index.specs.FileRules.{in_file}
+use Rattle.cs_model_index.specs.Blocks.{IsShaped}
+use Rattle.cs_file.specs.Answers.{HasBlock, IsChangeOfBlock, IsChangeOfTitle, is_changed}
+use Rattle.cs_file.specs.Fetching.{DecodesAt, ReadsText}
+use Rattle.cs_file.specs.declared.fault.FetchFault.{FetchFault}
+use Rattle.cs_file.specs.declared.fault.FetchFault.TheVariants as fetches
+use Rattle.cs_file.specs.Indexes.{IndexView, IsIndex, StandsFor, block_place, block_posts, title_in, title_place, title_len}
+use Rattle.cs_file.proofs.HeadsLemmas.{head_shaped}
+use Rattle.cs_file.proofs.OffsetsLemmas.{spans}
+use Rattle.cs_file.proofs.StoodLemmas.{stood_block}
+use Rattle.cs_file.proofs.TitlesLemmas.{stood_title}
+
+pub block_within : (i : IndexView) (k : ℕ) (d : BlockHead) → k < length i.heads → block_place i k + (get_or i.heads k d).len ≤ block_place i (length i.heads)
+block_within i k d lt =
+    let one = sum_by_more_le (λ (h : BlockHead). h.len) i.heads k d lt in
+    let all : sum_by (λ h. h.len) (take (length i.heads) i.heads) ≡ sum_by (λ h. h.len) i.heads = ap (sum_by (λ h. h.len)) (take_all (length i.heads) i.heads (omega arith)) in
+    omega (arith, one, all)
+
+pub has_block : (i : IndexView) (told : Option (List ℕ)) (k : ℕ) (d : BlockHead) (rows old new : List Post) (read : List ℕ) → k < length i.heads
+    → IsBlock SCORES (get_or i.heads k d) i.docs rows read → new ≡ old ++ rows → ForSome told (λ b. read ≡ part b (block_place i k) (get_or i.heads k d).len) → HasBlock i told k old new
+has_block i told k d rows old new read lt block added is = record {
+  rows = rows;
+  bytes = read;
+  added = added;
+  block = λ e. subst (λ (h : BlockHead). IsBlock SCORES h i.docs rows read) (get_or_default i.heads k d e lt) block;
+  read = λ e. subst (λ (h : BlockHead). ForSome told (λ b. read ≡ part b (block_place i k) h.len)) (get_or_default i.heads k d e lt) is;
+}
+
+-- the posts of two readings of the same bytes
+pub same_posts : (b : List ℕ) (i : IndexView) → StandsFor b i → IsIndex i → (k : ℕ) (d : BlockHead) (rows : List Post) (read : List ℕ) → k < length i.heads → length read ≡ (get_or i.heads k d).len
+    → read ≡ part b (block_place i k) (get_or i.heads k d).len → IsBlock SCORES (get_or i.heads k d) i.docs rows read → rows ≡ block_posts b k
+same_posts b i s is k d rows read lt len at block =
+    let h = get_or i.heads k d in
+    let few = is.few_docs in
+    let small : i.docs < 2 ^ 32 = omega (arith, few) in
+    let shaped : IsShaped h (length read) = subst (IsShaped h) (sym len) (head_shaped i is k d lt) in
+    let own = subst (IsBlock SCORES h i.docs (block_posts b k)) (sym at) (stood_block b i s is k d lt) in
+    sym (unique h i.docs rows read small shaped block).1 ∙ (unique h i.docs (block_posts b k) read small shaped own).1
+
+pub never_broken : (b : List ℕ) (i : IndexView) → StandsFor b i → IsIndex i → (k : ℕ) (d : BlockHead) (read : List ℕ) → k < length i.heads → length read ≡ (get_or i.heads k d).len
+    → read ≡ part b (block_place i k) (get_or i.heads k d).len → judged SCORES (get_or i.heads k d) i.docs read ≡ None
+never_broken b i s is k d read lt len at =
+    let h = get_or i.heads k d in
+    let few = is.few_docs in
+    let small : i.docs < 2 ^ 32 = omega (arith, few) in
+    let shaped : IsShaped h (length read) = subst (IsShaped h) (sym len) (head_shaped i is k d lt) in
+    let own = subst (IsBlock SCORES h i.docs (block_posts b k)) (sym at) (stood_block b i s is k d lt) in
+    (unique h i.docs (block_posts b k) read small shaped own).0
+
+pub title_within : (i : IndexView) → IsIndex i → (d : ℕ) → d < i.docs → title_place i d + title_len i d ≤ block_place i (length i.heads)
+title_within i is d lt =
+    let sp = spans i is d lt in
+    let a = sp.onward in
+    let b = sp.within in
+    let c = sp.blocks in
+    omega (arith, a, b, c)
+
+-- what decoding answers where no rule is broken
+unbroken_answer : (at : ℕ) (o : Option Broken) (r : Result (Unit {0}) FetchFault) → DecodesAt at o r → o ≡ None → is_changed r ≡ false
+unbroken_answer at o (Ok u) h e = refl
+unbroken_answer at o (Err (fetches.Changed rule there)) h e = absurd (none-some (broken_at rule there) (sym (ap (option_map (in_file at)) e) ∙ h))
+unbroken_answer at o (Err fetches.Read) h e = refl
+unbroken_answer at o (Err fetches.Memory) h e = refl
+
+-- what is known where the block's bytes were read, by its head and its place
+pub record BlockRead (i : IndexView) (told : Option (List ℕ)) (k : ℕ) (head : BlockHead) (docs at : ℕ) (read : List ℕ) : Type 0 where
+  pub known : k < length i.heads
+  pub head_is : (d : BlockHead) → head ≡ get_or i.heads k d
+  pub docs_are : docs ≡ i.docs
+  pub at_is : at ≡ block_place i k
+  pub long : length read ≡ head.len
+  pub read_is : ForSome told (λ b. read ≡ part b at head.len)
+
+abbrev pub nothing : BlockHead
+nothing = record { lo = 0; words = 0; rows = 0; len = 0; facet = false }
+
+pub block_read : (i own : IndexView) (told : Option (List ℕ)) (k : ℕ) (hs : List BlockHead) (at : ℕ) (read bytes : List ℕ) → own ≡ i → hs ≡ own.heads → k < length i.heads → at ≡ block_place i k
+    → read ≡ bytes → length bytes ≡ (get_or hs k nothing).len → ForSome told (λ b. bytes ≡ part b at (get_or hs k nothing).len) → BlockRead i told k (get_or hs k nothing) own.docs at read
+block_read i own told k hs at read bytes seen same known at_is taken long is = record {
+  known = known;
+  head_is = λ d. ap (λ xs. get_or xs k nothing) (same ∙ ap (λ (v : IndexView). v.heads) seen) ∙ get_or_default i.heads k nothing d known;
+  docs_are = ap (λ (v : IndexView). v.docs) seen;
+  at_is = at_is;
+  long = ap length taken ∙ long;
+  read_is = λ b t. taken ∙ is b t;
+}
+
+-- the same, with the block's head and place themselves
+record ReadThere (i : IndexView) (told : Option (List ℕ)) (k : ℕ) (head : BlockHead) (docs : ℕ) (read : List ℕ) (d : BlockHead) : Type 0 where
+  is : ForSome told (λ b. read ≡ part b (block_place i k) (get_or i.heads k d).len)
+  long : length read ≡ (get_or i.heads k d).len
+
+there : (i : IndexView) (told : Option (List ℕ)) (k : ℕ) (head : BlockHead) (docs at : ℕ) (read : List ℕ) (d : BlockHead) → BlockRead i told k head docs at read → ReadThere i told k head docs read d
+there i told k head docs at read d h = record {
+  is = λ b t. h.read_is b t ∙ ap (λ (n : ℕ). part b n head.len) h.at_is ∙ ap (λ (x : BlockHead). part b (block_place i k) x.len) (h.head_is d);
+  long = h.long ∙ ap (λ (x : BlockHead). x.len) (h.head_is d);
+}
+
+pub shaped_read : (i : IndexView) (told : Option (List ℕ)) (k : ℕ) (head : BlockHead) (docs at : ℕ) (read : List ℕ) → IsIndex i → BlockRead i told k head docs at read → IsShaped head (length read)
+shaped_read i told k head docs at read is h =
+    subst (λ (n : ℕ). IsShaped head n) (sym h.long) (subst (λ (x : BlockHead). IsShaped x x.len) (sym (h.head_is head)) (head_shaped i is k head h.known))
+
+pub block_by : (i : IndexView) (told : Option (List ℕ)) (k : ℕ) (head : BlockHead) (docs at : ℕ) (read : List ℕ) (rows old new : List Post) → BlockRead i told k head docs at read → IsBlock SCORES head docs rows read → new ≡ old ++ rows → HasBlock i told k old new
+block_by i told k head docs at read rows old new h block added =
+    has_block i told k head rows old new read h.known (subst (λ (x : BlockHead). IsBlock SCORES x i.docs rows read) (h.head_is head) (subst (λ (n : ℕ). IsBlock SCORES head n rows read) h.docs_are block)) added (there i told k head docs at read head h).is
+
+pub stood_by : (b : List ℕ) (i : IndexView) (told : Option (List ℕ)) (k : ℕ) (head : BlockHead) (docs at : ℕ) (read : List ℕ) (rows old new : List Post) → told ≡ Some b → StandsFor b i → IsIndex i → BlockRead i told k head docs at read
+    → IsBlock SCORES head docs rows read → new ≡ old ++ rows → new ≡ old ++ block_posts b k
+stood_by b i told k head docs at read rows old new t s is h block added =
+    let r = there i told k head docs at read head h in
+    added ∙ ap (λ (x : List Post). old ++ x) (same_posts b i s is k head rows read h.known r.long (r.is b t) (subst (λ (x : BlockHead). IsBlock SCORES x i.docs rows read) (h.head_is head) (subst (λ (n : ℕ). IsBlock SCORES head n rows read) h.docs_are block)))
+
+pub unchanged_by : (b : List ℕ) (i : IndexView) (told : Option (List ℕ)) (k : ℕ) (head : BlockHead) (docs at : ℕ) (read : List ℕ) (result : Result (Unit {0}) FetchFault) → told ≡ Some b → StandsFor b i → IsIndex i → BlockRead i told k head docs at read
+    → DecodesAt at (judged SCORES head docs read) result → is_changed result ≡ false
+unchanged_by b i told k head docs at read result t s is h answer =
+    let r = there i told k head docs at read head h in
+    unbroken_answer at (judged SCORES head docs read) result answer (ap (λ (x : BlockHead). judged SCORES x docs read) (h.head_is head) ∙ ap (λ (n : ℕ). judged SCORES (get_or i.heads k head) n read) h.docs_are ∙ never_broken b i s is k head read h.known r.long (r.is b t))
+
+-- the answer as a fault of the call
+pub changed_by : (i : IndexView) (told : Option (List ℕ)) (k : ℕ) (head : BlockHead) (docs at : ℕ) (read : List ℕ) (result : Result (Unit {0}) FetchFault) → BlockRead i told k head docs at read
+    → DecodesAt at (judged SCORES head docs read) result → IfErr result (IsChangeOfBlock i told k)
+changed_by i told k head docs at read (Ok u) h answer = tt
+changed_by i told k head docs at read (Err fetches.Read) h answer = tt
+changed_by i told k head docs at read (Err fetches.Memory) h answer = tt
+changed_by i told k head docs at read (Err (fetches.Changed rule place)) h answer = record {
+  bytes = read;
+  broken = λ d. ap (λ (n : ℕ). option_map (in_file n) (judged SCORES (get_or i.heads k d) i.docs read)) (sym h.at_is)
+      ∙ ap (λ (n : ℕ). option_map (in_file at) (judged SCORES (get_or i.heads k d) n read)) (sym h.docs_are)
+      ∙ ap (λ (x : BlockHead). option_map (in_file at) (judged SCORES x docs read)) (sym (h.head_is d)) ∙ answer;
+  read = λ d. (there i told k head docs at read d h).is;
+}
+
+-- ---- titles
+-- what is known where the title's bytes were read
+pub record TitleRead (i : IndexView) (told : Option (List ℕ)) (d at : ℕ) (read : List ℕ) : Type 0 where
+  pub at_is : at ≡ title_place i d
+  pub read_is : ForSome told (λ b. read ≡ part b (title_place i d) (title_len i d))
+
+-- where it begins and ends, by the offsets as they were read
+pub record TitleSpan (i : IndexView) (d at from to : ℕ) : Type 0 where
+  pub onward : from ≤ to
+  pub at_is : at ≡ title_place i d
+  pub len_is : to - from ≡ title_len i d
+  pub within : at + (to - from) ≤ block_place i (length i.heads)
+
+pub title_span : (i own : IndexView) (d : ℕ) (os : List ℕ) (from : ℕ) → own ≡ i → IsIndex i → os ≡ own.offsets → d < i.docs → from ≡ get_or os d 0 → TitleSpan i d (own.titles_at + from) from (get_or os (d + 1) 0)
+title_span i own d os from seen is same lt from_is =
+    let sp = spans i is d lt in
+    let all : os ≡ i.offsets = same ∙ ap (λ (v : IndexView). v.offsets) seen in
+    let a : from ≡ get_or i.offsets d 0 = from_is ∙ ap (λ (x : List ℕ). get_or x d 0) all in
+    let b : get_or os (d + 1) 0 ≡ get_or i.offsets (d + 1) 0 = ap (λ (x : List ℕ). get_or x (d + 1) 0) all in
+    let t : own.titles_at ≡ i.titles_at = ap (λ (v : IndexView). v.titles_at) seen in
+    let up = sp.onward in
+    let within = title_within i is d lt in
+    record { onward = omega (arith, up, a, b); at_is = omega (arith, a, t); len_is = omega (arith, a, b); within = omega (arith, within, a, b, t) }
+
+pub title_read : (i : IndexView) (told : Option (List ℕ)) (d at from to here : ℕ) (read : List ℕ) → TitleSpan i d at from to → from ≡ here → ForSome told (λ b. read ≡ part b at (to - here)) → TitleRead i told d at read
+title_read i told d at from to here read span same is = record {
+  at_is = span.at_is;
+  read_is = λ b t. is b t ∙ ap (λ (n : ℕ). part b at (to - n)) (sym same) ∙ ap (λ (n : ℕ). part b n (to - from)) span.at_is ∙ ap (part b (title_place i d)) span.len_is;
+}
+
+pub title_by : (i : IndexView) (told : Option (List ℕ)) (d at : ℕ) (read : List ℕ) (r : Result (List ℕ) FetchFault) → TitleRead i told d at read → ReadsText read at r → ForSome told (λ b. IfOk r (λ t. t ≡ part b (title_place i d) (title_len i d)))
+title_by i told d at read (Ok text) h answer = λ b t. answer.0 ∙ h.read_is b t
+title_by i told d at read (Err e) h answer = λ b t. tt
+
+pub title_changed : (i : IndexView) (told : Option (List ℕ)) (d at : ℕ) (read : List ℕ) (r : Result (List ℕ) FetchFault) → TitleRead i told d at read → ReadsText read at r → IfErr r (IsChangeOfTitle i told d)
+title_changed i told d at read (Ok text) h answer = tt
+title_changed i told d at read (Err fetches.Read) h answer = tt
+title_changed i told d at read (Err fetches.Memory) h answer = tt
+title_changed i told d at read (Err (fetches.Changed rule place)) h answer = record {
+  bytes = read;
+  broken = answer.0;
+  rule_is = answer.1;
+  place = answer.2 ∙ h.at_is;
+  read = h.read_is;
+}
+
+pub title_stood : (b : List ℕ) (i : IndexView) (told : Option (List ℕ)) (d at : ℕ) (read : List ℕ) (r : Result (List ℕ) FetchFault) → told ≡ Some b → StandsFor b i → IsIndex i → d < i.docs → TitleRead i told d at read → ReadsText read at r → IfOk r (λ t. t ≡ title_in b d)
+title_stood b i told d at read (Ok text) t s is lt h answer = answer.0 ∙ h.read_is b t ∙ sym (stood_title b i s is d lt).bytes
+title_stood b i told d at read (Err e) t s is lt h answer = tt
+
+pub title_unchanged : (b : List ℕ) (i : IndexView) (told : Option (List ℕ)) (d at : ℕ) (read : List ℕ) (r : Result (List ℕ) FetchFault) → told ≡ Some b → StandsFor b i → IsIndex i → d < i.docs → TitleRead i told d at read → ReadsText read at r → is_changed r ≡ false
+title_unchanged b i told d at read (Ok text) t s is lt h answer = refl
+title_unchanged b i told d at read (Err fetches.Read) t s is lt h answer = refl
+title_unchanged b i told d at read (Err fetches.Memory) t s is lt h answer = refl
+title_unchanged b i told d at read (Err (fetches.Changed rule place)) t s is lt h answer =
+    let same : read ≡ title_in b d = h.read_is b t ∙ sym (stood_title b i s is d lt).bytes in
+    absurd (true≢false (sym (ap is_utf8 same ∙ (stood_title b i s is d lt).text) ∙ answer.0))

@@ -1,0 +1,96 @@
+-- The first item of some that breaks a rule, found from the left.
+--
+--   before_start, before_on       the value before the first, and before the next
+--   Rest holds size first xs i at       the first break among the items from number i on, which lies at `at`, is that of all
+--   rest_start, rest_on, rest_broken, rest_end        the steps of a search from the left
+--   all_hold             where no item breaks a rule, each keeps it
+--   held_anywhere        and so it does wherever the values lie
+use Rattle.std.proofs.Common.{◌≡◌, ℕ, zero, suc, ◌+◌, ◌-◌, ◌<◌, ◌≤◌, ◌&&◌, Bool, true, false, not, cond, List, [], ◌∷◌, length, get_or, drop, Option, Some, None, refl, sym, ap, subst, ◌∙◌, arith}
+use Rattle.std.specs.Prelude.{find}
+use Rattle.std.specs.List.{AllByRecursion, list_all, slice_get}
+use Rattle.std.specs.Option.{option_map}
+use Rattle.std.proofs.lemmas.Bool.{and_from}
+use Rattle.cs_model_index.specs.FileRules.{Placed, laid, place_of_item, break_of}
+use Rattle.cs_file.specs.Opening.{before}
+
+pub before_start : {X : Type 0} (xs : List X) → before xs 0 ≡ None
+unfolding before
+before_start xs = refl
+
+got : {X : Type 0} (xs : List X) (i : ℕ) (x : X) → i < length xs → x ≡ get_or xs i x → slice_get xs i ≡ Some x
+got [] i x lt e = absurd (omega arith)
+got (y ∷ xs) zero x lt e = ap Some (sym e)
+got (y ∷ xs) (suc i) x lt e = got xs i x (omega arith) e
+
+pub before_on : {X : Type 0} (xs : List X) (i : ℕ) (x : X) → i < length xs → x ≡ get_or xs i x → before xs (i + 1) ≡ Some x
+unfolding before
+before_on xs i x lt e = let one : i + 1 ≡ suc i = omega arith in ap (before xs) one ∙ got xs i x lt e
+
+pub Rest : {X : Type 0} → (Placed X → Bool) → (X → ℕ) → ℕ → List X → ℕ → ℕ → Type 0
+Rest holds size first xs i at = break_of holds (laid size at (before xs i) (drop i xs)) ≡ break_of holds (laid size first None xs)
+
+pub rest_start : {X : Type 0} (holds : Placed X → Bool) (size : X → ℕ) (first : ℕ) (xs : List X) → Rest holds size first xs 0 first
+unfolding Rest before
+rest_start holds size first xs = refl
+
+-- one item and what is laid behind it
+split : {X : Type 0} (size : X → ℕ) (at : ℕ) (last : Option X) (xs : List X) (i : ℕ) (x : X) → i < length xs → x ≡ get_or xs i x
+    → laid size at last (drop i xs) ≡ record { value = x; last = last; next = slice_get (drop (suc i) xs) 0; at = at } ∷ laid size (at + size x) (Some x) (drop (suc i) xs)
+unfolding laid
+split size at last [] i x lt e = absurd (omega arith)
+split size at last (y ∷ xs) zero x lt e = ap (λ z. record { value = z; last = last; next = slice_get xs 0; at = at } ∷ laid size (at + size z) (Some z) xs) (sym e)
+split size at last (y ∷ xs) (suc i) x lt e = split size at last xs i x (omega arith) e
+
+found : {X : Type 0} (holds : Placed X → Bool) (i : Placed X) (items : List (Placed X)) → holds i ≡ false → break_of holds (i ∷ items) ≡ Some i.at
+unfolding break_of
+found holds i items e = ap (λ (b : Bool). option_map place_of_item (cond (not b) (Some i) (find (λ j. not (holds j)) items))) e
+
+passed : {X : Type 0} (holds : Placed X → Bool) (i : Placed X) (items : List (Placed X)) → holds i ≡ true → break_of holds (i ∷ items) ≡ break_of holds items
+unfolding break_of
+passed holds i items e = ap (λ (b : Bool). option_map place_of_item (cond (not b) (Some i) (find (λ j. not (holds j)) items))) e
+
+nothing_left : {X : Type 0} (xs : List X) (i : ℕ) → length xs ≤ i → drop i xs ≡ []
+nothing_left [] zero le = refl
+nothing_left [] (suc i) le = refl
+nothing_left (x ∷ xs) zero le = absurd (omega arith)
+nothing_left (x ∷ xs) (suc i) le = nothing_left xs i (omega arith)
+
+pub rest_on : {X : Type 0} (holds : Placed X → Bool) (size : X → ℕ) (first : ℕ) (xs : List X) (i at next : ℕ) (x : X) → i < length xs → x ≡ get_or xs i x → next ≡ at + size x
+    → holds (record { value = x; last = before xs i; next = slice_get (drop (suc i) xs) 0; at = at }) ≡ true → Rest holds size first xs i at → Rest holds size first xs (i + 1) next
+unfolding Rest
+rest_on holds size first xs i at next x lt e sum keeps h =
+    let one : i + 1 ≡ suc i = omega arith in
+    ap (λ (n : ℕ). break_of holds (laid size n (before xs (i + 1)) (drop (i + 1) xs))) sum
+    ∙ ap (λ (l : Option _). break_of holds (laid size (at + size x) l (drop (i + 1) xs))) (before_on xs i x lt e)
+    ∙ ap (λ (n : ℕ). break_of holds (laid size (at + size x) (Some x) (drop n xs))) one
+    ∙ sym (passed holds (record { value = x; last = before xs i; next = slice_get (drop (suc i) xs) 0; at = at }) (laid size (at + size x) (Some x) (drop (suc i) xs)) keeps)
+    ∙ ap (break_of holds) (sym (split size at (before xs i) xs i x lt e)) ∙ h
+
+pub rest_broken : {X : Type 0} (holds : Placed X → Bool) (size : X → ℕ) (first : ℕ) (xs : List X) (i at : ℕ) (x : X) → i < length xs → x ≡ get_or xs i x
+    → holds (record { value = x; last = before xs i; next = slice_get (drop (suc i) xs) 0; at = at }) ≡ false → Rest holds size first xs i at → Some at ≡ break_of holds (laid size first None xs)
+unfolding Rest
+rest_broken holds size first xs i at x lt e breaks h =
+    sym (found holds (record { value = x; last = before xs i; next = slice_get (drop (suc i) xs) 0; at = at }) (laid size (at + size x) (Some x) (drop (suc i) xs)) breaks)
+    ∙ ap (break_of holds) (sym (split size at (before xs i) xs i x lt e)) ∙ h
+
+pub rest_end : {X : Type 0} (holds : Placed X → Bool) (size : X → ℕ) (first : ℕ) (xs : List X) (i at : ℕ) → length xs ≤ i → Rest holds size first xs i at → None ≡ break_of holds (laid size first None xs)
+unfolding Rest laid break_of
+rest_end holds size first xs i at le h = ap (λ l. break_of holds (laid size at (before xs i) l)) (sym (nothing_left xs i le)) ∙ h
+
+-- ---- all items
+found_none : {X : Type 0} (b : Bool) (i : Placed X) (o : Option (Placed X)) → option_map place_of_item (cond (not b) (Some i) o) ≡ None → (b ≡ true) × (option_map place_of_item o ≡ None)
+found_none true i o e = (refl, e)
+found_none false i o e = absurd cc
+
+pub all_hold : {X : Type 0} (holds : Placed X → Bool) (items : List (Placed X)) → break_of holds items ≡ None → list_all holds items ≡ true
+unfolding break_of
+all_hold holds [] e = refl
+all_hold holds (i ∷ items) e =
+    let p = found_none (holds i) i (find (λ i. not (holds i)) items) e in
+    and_from (holds i) (list_all holds items) p.0 (all_hold holds items p.1)
+
+-- of a test that doesn't ask where an item lies
+pub held_anywhere : {X : Type 0} (holds : Option X → X → Bool) (size : X → ℕ) (at there : ℕ) (last : Option X) (xs : List X) → list_all (λ i. holds i.last i.value) (laid size at last xs) ≡ list_all (λ i. holds i.last i.value) (laid size there last xs)
+unfolding laid
+held_anywhere holds size at there last [] = refl
+held_anywhere holds size at there last (x ∷ xs) = ap (λ (b : Bool). holds last x && b) (held_anywhere holds size (at + size x) (there + size x) (Some x) xs)

@@ -1,0 +1,193 @@
+-- What the functions say that opening is made of: a stage for each section of the file, which tries the rules of that section.
+--
+-- Source: this engine's own.
+--
+--   Refuses o e               the fault, if it is damage, is this broken rule with its place
+--   Judges o r                the answer of a stage whose first broken rule this is, if there is one
+--   AreBytes b at n           n of the bytes from a place on are bytes, as all are that were read
+--   IsHeader h                numbers of a header that are in their ranges
+--   IsHeaderOf b h            the bytes have this header and its size
+--   HasHeader told h          the same of the bytes that a store tells
+--   header_stage b, vocabulary_stage b, titles_stage b, directory_stage b, blocks_stage b, parting_stage b
+--                             the first broken rule of each stage: 1 to 4, 5 to 7, 8 and 9, 10 to 12, 13 to 17, 18
+--   before xs i               the value before another one
+--   front_word bytes          where the word at the front of bytes ends
+--   HasVocabulary h ws        words by the rules, as the header says
+--   HasOffsets h os           offsets by the rules, as the header says
+--   HasHeads h ws hs          heads by the rules, over words, as the header says
+--   words_judged ws           rules 6 and 7 of words
+--   bad_joint h hs, bad_size h hs, directory_judged h ws hs       rules 10 to 12 of heads
+--   bad_offset h os, bad_title b     where rules 8 and 9 are broken
+--   header_judged bytes size         rules 2 to 4 of the header's bytes
+--   words_of b, offsets_of b, titles_of b, heads_of b, blocks_of b       what is read of the bytes
+use Rattle.std.specs.Prelude.{◌≡◌, ℕ, zero, suc, ◌+◌, true, All, if◌then◌else◌, ◌<◌, ◌≤◌, ◌^◌, ◌==◌, ◌&&◌, List, [], ◌∷◌, length, take, Option, None, Some, Result, MatchResult}
+use Rattle.std.specs.List.{list_all, slice_get, sum_by}
+use Rattle.std.specs.List.Sorted.{IsStrictlySortedBy}
+use Rattle.std.specs.Option.{ForSome, option_or, unwrap_or}
+use Rattle.std.specs.Ordering.{nat_cmp}
+use Rattle.std.specs.Cmp.Lexicographic.{slice_cmp}
+use Rattle.std.specs.Str.{bytes_eq, is_utf8}
+use Rattle.cs_base.specs.declared.index.block.BlockHead.{BlockHead}
+use Rattle.cs_base.specs.declared.index.block.Broken.{Broken}
+use Rattle.cs_base.specs.declared.content.doc.Post.{Post}
+use Rattle.cs_base.specs.outside.Outside.{part}
+use Rattle.cs_base.specs.declared.content.limits.TheConstants.{MAX_DOCS, MAX_WORDS, MAX_ROWS}
+use Rattle.cs_model.specs.First.{unless, first_reason}
+use Rattle.cs_model_index.specs.BlockRules.{broken_at}
+use Rattle.cs_model_index.specs.FileRules.{laid, last_value, words_end, is_joined, is_of_one_kind, is_sized, break_of, is_onward, last_offset_at, tried, field_breaks, is_length, is_word, word_size, follows, header_rules, vocabulary_rules, title_rules, directory_rules, blocks_break, parting_rules}
+use Rattle.cs_model_index.specs.Layout.{Header, MAGIC, vocabulary_bytes}
+use Rattle.cs_model_index.specs.Numbered.{word_at}
+use Rattle.cs_model_index.specs.Partitions.{is_facet}
+use Rattle.cs_model_index.specs.Sections.{header_of, contents_of, vocabulary_at, offsets_at, titles_at, directory_at, blocks_at, size_by}
+use Rattle.cs_model_index.specs.declared.limits.TheConstants.{NUMBER_BYTES, ENTRY_BYTES, MAX_TARGET}
+use Rattle.cs_file.specs.declared.fault.OpenFault.{OpenFault}
+use Rattle.cs_file.specs.declared.fault.OpenFault.TheVariants as opens
+
+-- ---- answers
+-- of a failed read and of want of memory nothing is said
+abbrev pub Refuses : Option Broken → OpenFault → Type 0
+Refuses o (opens.Damaged rule at) = o ≡ Some (broken_at rule at)
+Refuses o opens.Read = Unit {0}
+Refuses o opens.Memory = Unit {0}
+
+-- Ok where no rule is broken
+abbrev pub Judges : {T : Type 0} → Option Broken → Result T OpenFault → Type 0
+Judges o r = MatchResult r (λ _. o ≡ None) (Refuses o)
+
+-- these bytes are numbers below 256
+abbrev pub AreBytes : List ℕ → ℕ → ℕ → Type 0
+AreBytes b at n = All (λ x. x < 2 ^ 8) (part b at n)
+
+-- ---- the header
+-- those that count within their limits, and lengths of four bytes
+pub record IsHeader (h : Header) : Type 0 where
+  pub docs : h.docs ≤ MAX_DOCS
+  pub words : h.words ≤ MAX_WORDS
+  pub rows : h.rows ≤ MAX_ROWS
+  pub blocks : h.blocks ≤ h.words
+  pub target_from : 1 ≤ h.target
+  pub target_to : h.target ≤ MAX_TARGET
+  pub vocabulary : h.vocabulary_len < 2 ^ 32
+  pub titles : h.titles_len < 2 ^ 32
+  pub postings : h.blocks_len < 2 ^ 32
+
+-- the numbers are read of the bytes, which are as many as they say
+pub record IsHeaderOf (b : List ℕ) (h : Header) : Type 0 where
+  pub numbers : header_of b ≡ h
+  pub size : length b ≡ size_by h
+
+-- of a store that doesn't tell nothing is said
+abbrev pub HasHeader : Option (List ℕ) → Header → Type 0
+HasHeader told h = ForSome told (λ b. IsHeaderOf b h)
+
+-- ---- what is read of bytes
+-- the words of the vocabulary
+unfoldable pub words_of : List ℕ → List (List ℕ)
+words_of b = (contents_of b).words
+
+-- where titles begin and the last one ends
+unfoldable pub offsets_of : List ℕ → List ℕ
+offsets_of b = (contents_of b).offsets
+
+-- the titles between them
+unfoldable pub titles_of : List ℕ → List (List ℕ)
+titles_of b = (contents_of b).titles
+
+-- the heads of the directory
+unfoldable pub heads_of : List ℕ → List BlockHead
+heads_of b = (contents_of b).heads
+
+-- the posts of the blocks
+unfoldable pub blocks_of : List ℕ → List (List Post)
+blocks_of b = (contents_of b).blocks
+
+-- the value before number i; None before the first, and behind the last of no value
+unfoldable pub before : {X : Type 0} → List X → ℕ → Option X
+before xs zero = None
+before xs (suc i) = slice_get xs i
+
+-- where the word ends whose length byte stands at the front of bytes; None where no length byte with its word stands there
+unfoldable pub front_word : List ℕ → Option ℕ
+front_word [] = None
+front_word (n ∷ bytes) = if is_length n bytes then Some (1 + n) else None
+
+-- ---- what the rules say of what is kept
+-- as many words as the header says, in as many bytes, and in order
+pub record HasVocabulary (h : Header) (ws : List (List ℕ)) : Type 0 where
+  pub count : length ws ≡ h.words
+  pub len : length (vocabulary_bytes ws) ≡ h.vocabulary_len
+  pub words : All (λ w. is_word w ≡ true) ws
+  pub ascending : IsStrictlySortedBy (slice_cmp nat_cmp) ws
+
+-- one offset more than there are documents, each from the one before on, up to the end of the titles
+pub record HasOffsets (h : Header) (os : List ℕ) : Type 0 where
+  pub count : length os ≡ h.docs + 1
+  pub onward : list_all (λ p. is_onward p.last p.value) (laid (λ o. NUMBER_BYTES) 0 None os) ≡ true
+  pub end : unwrap_or (last_value os) 0 ≡ h.titles_len
+
+-- as many blocks as the header says, with all words, each with few words of one kind, and with as many rows and bytes as it says
+pub record HasHeads (h : Header) (ws : List (List ℕ)) (hs : List BlockHead) : Type 0 where
+  pub count : length hs ≡ h.blocks
+  pub joined : list_all (λ p. is_joined p.last p.value) (laid (λ h. ENTRY_BYTES) 0 None hs) ≡ true
+  pub end : words_end (last_value hs) ≡ h.words
+  pub kinds : list_all (is_of_one_kind ws) hs ≡ true
+  pub facets : All (λ h. h.facet ≡ is_facet (word_at ws h.lo)) hs
+  pub sized : list_all is_sized hs ≡ true
+  pub rows : sum_by (λ h. h.rows) hs ≡ h.rows
+  pub bytes : sum_by (λ h. h.len) hs ≡ h.blocks_len
+
+-- ---- the stages
+-- rules 1 to 4
+unfoldable pub header_stage : List ℕ → Option Broken
+header_stage b = first_reason (header_rules b (header_of b))
+
+-- rules 2 to 4 of the first bytes of a file of some size
+unfoldable pub header_judged : List ℕ → ℕ → Option Broken
+header_judged bytes size =
+    first_reason (tried 2 (unless (bytes_eq (take 8 bytes) MAGIC) 0) ∷ tried 3 (first_reason (field_breaks (header_of bytes))) ∷ tried 4 (unless (size == size_by (header_of bytes)) size) ∷ [])
+
+-- rules 5 to 7
+unfoldable pub vocabulary_stage : List ℕ → Option Broken
+vocabulary_stage b = first_reason (vocabulary_rules (contents_of b))
+
+-- rules 6 and 7 of some words
+unfoldable pub words_judged : List (List ℕ) → Option Broken
+words_judged ws =
+    let items = laid word_size vocabulary_at None ws in
+    first_reason (tried 6 (break_of (λ i. is_word i.value) items) ∷ tried 7 (break_of (λ i. follows i.last i.value) items) ∷ [])
+
+-- rules 8 and 9
+unfoldable pub titles_stage : List ℕ → Option Broken
+titles_stage b = first_reason (title_rules (contents_of b))
+
+-- where rule 8 is broken by some offsets
+unfoldable pub bad_offset : Header → List ℕ → Option ℕ
+bad_offset h os = option_or (break_of (λ i. is_onward i.last i.value) (laid (λ o. NUMBER_BYTES) (offsets_at h) None os)) (unless (unwrap_or (last_value os) 0 == h.titles_len) (last_offset_at h))
+
+-- where rule 9 is broken by the titles of bytes
+unfoldable pub bad_title : List ℕ → Option ℕ
+bad_title b = break_of (λ i. is_utf8 i.value) (laid (λ t. length t) (titles_at (header_of b)) None (titles_of b))
+
+-- rules 10 to 12
+unfoldable pub directory_stage : List ℕ → Option Broken
+directory_stage b = first_reason (directory_rules (contents_of b))
+
+-- where rule 10 is broken by some heads
+unfoldable pub bad_joint : Header → List BlockHead → Option ℕ
+bad_joint h hs = option_or (break_of (λ i. is_joined i.last i.value) (laid (λ h. ENTRY_BYTES) (directory_at h) None hs)) (unless (words_end (last_value hs) == h.words) (blocks_at h))
+
+-- where rule 12 is broken by them
+unfoldable pub bad_size : Header → List BlockHead → Option ℕ
+bad_size h hs = option_or (break_of (λ i. is_sized i.value) (laid (λ h. ENTRY_BYTES) (directory_at h) None hs)) (unless (sum_by (λ h. h.rows) hs == h.rows && sum_by (λ h. h.len) hs == h.blocks_len) (blocks_at h))
+
+-- rules 10 to 12 of heads over some words
+unfoldable pub directory_judged : Header → List (List ℕ) → List BlockHead → Option Broken
+directory_judged h ws hs = first_reason (tried 10 (bad_joint h hs) ∷ tried 11 (break_of (λ i. is_of_one_kind ws i.value) (laid (λ h. ENTRY_BYTES) (directory_at h) None hs)) ∷ tried 12 (bad_size h hs) ∷ [])
+
+-- rules 13 to 17
+unfoldable pub blocks_stage : List ℕ → Option Broken
+blocks_stage b = blocks_break (header_of b).docs (blocks_at (header_of b)) (contents_of b).heads (contents_of b).bytes.blocks
+
+-- rule 18
+unfoldable pub parting_stage : List ℕ → Option Broken
+parting_stage b = first_reason (parting_rules (contents_of b))

@@ -1,0 +1,232 @@
+//! The directory of an index file: what it says of each block.
+ghost use Rattle.std.specs.Prelude.{◌≡◌, ◌+◌, ◌*◌, ◌≤◌, ◌<◌, ◌^◌, ◌==◌, ◌&&◌, false, length, drop, slice_index_or, IfOk, OnOk, None};
+ghost use Rattle.std.specs.List.{sum_by};
+ghost use Rattle.std.specs.Option.{ForSome};
+ghost use Rattle.cs_base.specs.declared.content.limits.TheConstants.{MAX_WORDS};
+ghost use Rattle.cs_model_index.specs.FileRules.{break_of, is_joined, is_of_one_kind, is_sized, laid, last_value, tried, words_end};
+ghost use Rattle.cs_model_index.specs.Sections.{directory_at, head_in, heads_in};
+ghost use Rattle.cs_model_index.specs.declared.limits.TheConstants.{ENTRY_BYTES};
+ghost use Rattle.cs_file.specs.Answers.{is_read_of_open};
+ghost use Rattle.cs_file.specs.HeaderView.{seen};
+ghost use Rattle.cs_file.specs.Indexes.{CausedReads};
+ghost use Rattle.cs_file.specs.Opening.{AreBytes, Judges, IsHeader, HasHeader, HasHeads, bad_joint, bad_size, before, directory_stage, directory_judged, heads_of, words_of};
+
+use crate::fault::OpenFault;
+use crate::header::Header;
+use crate::judged::{number_at, tried, unless};
+use crate::kinds::{has_facet, is_of_one_kind};
+use crate::reading::section;
+use cs_base::{BlockHead, Memory, Seq, Store, Word};
+use cs_model_index::ENTRY_BYTES;
+use std::alloc::Global;
+
+/// Reads the directory of blocks of these words, and tries rules 10 to 12.
+pub(crate) fn read_directory<S: Store>(
+    alloc: Global,
+    store: &mut S,
+    header: &Header,
+    words: &[Word],
+) -> Result<Seq<BlockHead>, OpenFault>
+    requires ranges { IsHeader (seen header.now) }
+    requires told { HasHeader (S.bytes store.old) (seen header.now) }
+    requires words { ForSome (S.bytes store.old) (λ b. words.now ≡ words_of b) }
+    requires few { length words.now ≤ MAX_WORDS }
+
+    ensures exact { ForSome (S.bytes store.old) (λ b. Judges (directory_stage b) result) }
+    ensures heads { ForSome (S.bytes store.old) (λ b. IfOk result (λ hs. hs ≡ heads_of b)) }
+    ensures ruled { IfOk result (λ hs. HasHeads (seen header.now) words.now hs) }
+    ensures small { ForSome (S.bytes store.old) (λ b. OnOk result (AreBytes b (directory_at (seen header.now)) (ENTRY_BYTES * header.now.blocks))) }
+    ensures bytes { S.bytes store.new ≡ S.bytes store.old }
+    ensures lent { S.lent store.new ≡ S.lent store.old }
+    ensures caused { CausedReads (is_read_of_open result) (S.faults store.old) (S.faults store.new) }
+{
+    let len = ENTRY_BYTES as usize * header.blocks as usize;
+    let bytes = section(alloc, store, header.directory_at(), len)?;
+    let heads = heads(alloc, words, &bytes, header.blocks)?;
+    judge_heads(&heads, header, words)?;
+    Ok(Seq::from_vec(heads))
+}
+
+// The heads whose entries stand one behind the other.
+fn heads(
+    alloc: Global,
+    words: &[Word],
+    bytes: &[u8],
+    count: u32,
+) -> Result<Vec<BlockHead>, Memory>
+    requires { length bytes.now ≡ ENTRY_BYTES * count }
+
+    ensures { IfOk result (λ v. v.items ≡ heads_in words.now count bytes.now) }
+{
+    let mut heads = Vec::with_capacity(alloc, count as usize)?;
+    for i in 0..count as usize {
+        heads.push(head_at(words, bytes, ENTRY_BYTES as usize * i))?;
+    }
+    Ok(heads)
+}
+
+// The head whose entry stands at a place.
+#[tactic(auto, using(crate::proofs::DirectoryLemmas::head_here))]
+fn head_at(words: &[Word], bytes: &[u8], at: usize) -> BlockHead
+    requires { at + 16 ≤ length bytes.now }
+
+    ensures { result ≡ head_in words.now (drop at bytes.now) }
+{
+    let lo = number_at(bytes, at);
+    BlockHead {
+        lo,
+        words: number_at(bytes, at + 4),
+        rows: number_at(bytes, at + 8),
+        len: number_at(bytes, at + 12),
+        facet: has_facet(words, lo),
+    }
+}
+
+// Tries rules 10 to 12.
+fn judge_heads(heads: &[BlockHead], header: &Header, words: &[Word]) -> Result<(), OpenFault>
+    requires ranges { IsHeader (seen header.now) }
+    requires few { length words.now ≤ MAX_WORDS }
+    requires blocks { length heads.now ≤ MAX_WORDS }
+
+    ensures exact { Judges (directory_judged (seen header.now) words.now heads.now) result }
+    ensures unread { is_read_of_open result ≡ false }
+{
+    tried(10, bad_joint(heads, header))?;
+    tried(11, bad_kind(heads, header.directory_at(), words))?;
+    tried(12, bad_size(heads, header))
+}
+
+// The place of the first block that doesn't begin where the one before ends, or of the directory's end.
+fn bad_joint(heads: &[BlockHead], header: &Header) -> Option<u64>
+    requires { length heads.now ≤ MAX_WORDS }
+
+    ensures { result ≡ bad_joint (seen header.now) heads.now }
+{
+    let ends = last_end(heads) == u64::from(header.words);
+    bad_start(heads, header.directory_at()).or(unless(ends, header.blocks_at()))
+}
+
+// Where the words of the last block end, 0 where there is none.
+fn last_end(heads: &[BlockHead]) -> u64
+    ensures { result ≡ words_end (last_value heads.now) }
+{
+    match heads.last() {
+        Some(head) => end_of(head),
+        None => 0,
+    }
+}
+
+fn end_of(head: &BlockHead) -> u64
+    ensures value { result ≡ head.now.lo + head.now.words }
+    ensures small { result < 2 ^ 33 }
+{
+    u64::from(head.lo) + u64::from(head.words)
+}
+
+// The place of the first block that has no word, or doesn't begin where the one before ends.
+fn bad_start(heads: &[BlockHead], first: u64) -> Option<u64>
+    requires few { length heads.now ≤ MAX_WORDS }
+    requires places { first < 2 ^ 40 }
+
+    ensures { result ≡ break_of (λ i. is_joined i.last i.value) (laid (λ h. ENTRY_BYTES) first None heads.now) }
+{
+    for i in 0..heads.len() {
+        if !is_joined(heads, i) {
+            return Some(first + u64::from(ENTRY_BYTES) * i as u64);
+        }
+    }
+    None
+}
+
+// Whether block `i` begins where the one before ends, and has a word.
+#[tactic(auto, unfolding(crate::specs::Opening::before))]
+fn is_joined(heads: &[BlockHead], i: usize) -> bool
+    requires { i < length heads.now }
+
+    ensures { result ≡ is_joined (before heads.now i) (slice_index_or heads.now i (record { lo = 0; words = 0; rows = 0; len = 0; facet = false })) }
+{
+    let head = heads[i];
+    let end = if i == 0 { 0 } else { end_of(&heads[i - 1]) };
+    u64::from(head.lo) == end && 1 <= head.words
+}
+
+// The place of the first block that has too many words, or words of two kinds.
+fn bad_kind(heads: &[BlockHead], first: u64, words: &[Word]) -> Option<u64>
+    requires few { length heads.now ≤ MAX_WORDS }
+    requires places { first < 2 ^ 40 }
+
+    ensures { result ≡ break_of (λ i. is_of_one_kind words.now i.value) (laid (λ h. ENTRY_BYTES) first None heads.now) }
+{
+    for i in 0..heads.len() {
+        if !is_of_one_kind(words, &heads[i]) {
+            return Some(first + u64::from(ENTRY_BYTES) * i as u64);
+        }
+    }
+    None
+}
+
+// The place of the first block with too few or too many rows or bytes, or of the directory's end where all have.
+fn bad_size(heads: &[BlockHead], header: &Header) -> Option<u64>
+    requires { length heads.now ≤ MAX_WORDS }
+
+    ensures { result ≡ bad_size (seen header.now) heads.now }
+{
+    let sums = has_sums(heads, header);
+    bad_shape(heads, header.directory_at()).or(unless(sums, header.blocks_at()))
+}
+
+// Whether the rows and the bytes of all blocks are those of the header.
+fn has_sums(heads: &[BlockHead], header: &Header) -> bool
+    requires { length heads.now ≤ MAX_WORDS }
+
+    ensures { result ≡ (sum_by (λ h. h.rows) heads.now == header.now.rows && sum_by (λ h. h.len) heads.now == header.now.blocks_len) }
+{
+    rows_in(heads) == u64::from(header.rows) && bytes_in(heads) == u64::from(header.blocks_len)
+}
+
+fn bad_shape(heads: &[BlockHead], first: u64) -> Option<u64>
+    requires few { length heads.now ≤ MAX_WORDS }
+    requires places { first < 2 ^ 40 }
+
+    ensures { result ≡ break_of (λ i. is_sized i.value) (laid (λ h. ENTRY_BYTES) first None heads.now) }
+{
+    for i in 0..heads.len() {
+        if !is_sized(&heads[i]) {
+            return Some(first + u64::from(ENTRY_BYTES) * i as u64);
+        }
+    }
+    None
+}
+
+// Whether a block has as many rows and bytes as it may have.
+fn is_sized(head: &BlockHead) -> bool
+    ensures { result ≡ is_sized head.now }
+{
+    let rows = u64::from(head.rows);
+    let len = u64::from(head.len);
+    head.words <= head.rows && 8 * rows <= len && len <= 12 * rows
+}
+
+fn rows_in(heads: &[BlockHead]) -> u64
+    requires { length heads.now ≤ MAX_WORDS }
+
+    ensures { result ≡ sum_by (λ h. h.rows) heads.now }
+{
+    let mut sum: u64 = 0;
+    for head in heads {
+        sum += u64::from(head.rows);
+    }
+    sum
+}
+
+fn bytes_in(heads: &[BlockHead]) -> u64
+    requires { length heads.now ≤ MAX_WORDS }
+
+    ensures { result ≡ sum_by (λ h. h.len) heads.now }
+{
+    let mut sum: u64 = 0;
+    for head in heads {
+        sum += u64::from(head.len);
+    }
+    sum
+}

@@ -1,0 +1,151 @@
+//! The header of an index file.
+ghost use Rattle.std.specs.Prelude.{◌≡◌, ◌+◌, ◌<◌, ◌≤◌, ◌^◌, false, length, IfOk, OnOk};
+ghost use Rattle.std.specs.Option.{ForSome};
+ghost use Rattle.cs_model.specs.First.{first_reason};
+ghost use Rattle.cs_model_index.specs.FileRules.{field_breaks};
+ghost use Rattle.cs_model_index.specs.Sections.{number_at, header_of, offsets_at, titles_at, directory_at, blocks_at, size_by};
+ghost use Rattle.cs_model_index.specs.declared.limits.TheConstants.{HEADER_BYTES};
+ghost use Rattle.cs_file.specs.Answers.{is_read_of_open};
+ghost use Rattle.cs_file.specs.HeaderView.{seen};
+ghost use Rattle.cs_file.specs.Indexes.{CausedReads};
+ghost use Rattle.cs_file.specs.Opening.{AreBytes, Judges, IsHeader, HasHeader, header_stage, header_judged};
+
+use crate::fault::OpenFault;
+use crate::judged::{number_at, tried, unless};
+use crate::reading::section;
+use cs_base::{MAX_DOCS, MAX_ROWS, MAX_WORDS, Store};
+use cs_model_index::{ENTRY_BYTES, HEADER_BYTES, MAX_TARGET, NUMBER_BYTES};
+use std::alloc::Global;
+
+// The first bytes of an index file.
+const MAGIC: [u8; 8] = *b"HYBIDX1\n";
+
+/// The numbers of a header that keeps the rules. Its last number is 0 then.
+#[derive(Clone, Copy, Drop)]
+pub(crate) struct Header {
+    /// How many documents there are.
+    pub(crate) docs: u32,
+    /// How many words there are.
+    pub(crate) words: u32,
+    /// How many rows there are.
+    pub(crate) rows: u32,
+    /// How many blocks there are.
+    pub(crate) blocks: u32,
+    /// The most rows of a block of several words.
+    pub(crate) target: u32,
+    /// The bytes of the vocabulary.
+    pub(crate) vocabulary_len: u32,
+    /// The bytes of the titles.
+    pub(crate) titles_len: u32,
+    /// The bytes of the blocks.
+    pub(crate) blocks_len: u32,
+}
+
+impl Header {
+    /// The place of the title offsets.
+    pub(crate) fn offsets_at(&self) -> u64
+        ensures value { result ≡ offsets_at (seen self.now) }
+        ensures small { result < 2 ^ 33 }
+    {
+        u64::from(HEADER_BYTES) + u64::from(self.vocabulary_len)
+    }
+
+    /// The place of the titles.
+    pub(crate) fn titles_at(&self) -> u64
+        ensures value { result ≡ titles_at (seen self.now) }
+        ensures small { result < 2 ^ 35 }
+    {
+        self.offsets_at() + u64::from(NUMBER_BYTES) * (u64::from(self.docs) + 1)
+    }
+
+    /// The place of the directory.
+    pub(crate) fn directory_at(&self) -> u64
+        ensures value { result ≡ directory_at (seen self.now) }
+        ensures small { result < 2 ^ 36 }
+    {
+        self.titles_at() + u64::from(self.titles_len)
+    }
+
+    /// The place of the blocks.
+    pub(crate) fn blocks_at(&self) -> u64
+        ensures value { result ≡ blocks_at (seen self.now) }
+        ensures small { result < 2 ^ 38 }
+    {
+        self.directory_at() + u64::from(ENTRY_BYTES) * u64::from(self.blocks)
+    }
+
+    /// The size of the file.
+    pub(crate) fn size(&self) -> u64
+        ensures value { result ≡ size_by (seen self.now) }
+        ensures small { result < 2 ^ 39 }
+    {
+        self.blocks_at() + u64::from(self.blocks_len)
+    }
+}
+
+/// Reads the header, and tries rules 1 to 4.
+pub(crate) fn read_header<S: Store>(alloc: Global, store: &mut S) -> Result<Header, OpenFault>
+    ensures exact { ForSome (S.bytes store.old) (λ b. Judges (header_stage b) result) }
+    ensures told { IfOk result (λ h. HasHeader (S.bytes store.old) (seen h)) }
+    ensures ranges { IfOk result (λ h. IsHeader (seen h)) }
+    ensures small { ForSome (S.bytes store.old) (λ b. OnOk result (AreBytes b 0 HEADER_BYTES)) }
+    ensures bytes { S.bytes store.new ≡ S.bytes store.old }
+    ensures lent { S.lent store.new ≡ S.lent store.old }
+    ensures caused { CausedReads (is_read_of_open result) (S.faults store.old) (S.faults store.new) }
+{
+    let Ok(size) = store.size() else {
+        return Err(OpenFault::Read);
+    };
+    tried(1, unless(u64::from(HEADER_BYTES) <= size, size))?;
+    let bytes = section(alloc, store, 0, HEADER_BYTES as usize)?;
+    judge_header(&bytes, size)
+}
+
+// Tries rules 2 to 4 on the bytes of a header, over a file of this size.
+fn judge_header(bytes: &[u8], size: u64) -> Result<Header, OpenFault>
+    requires { length bytes.now ≡ HEADER_BYTES }
+
+    ensures exact { Judges (header_judged bytes.now size) result }
+    ensures numbers { IfOk result (λ h. header_of bytes.now ≡ seen h) }
+    ensures size { IfOk result (λ h. size ≡ size_by (seen h)) }
+    ensures ranges { IfOk result (λ h. IsHeader (seen h)) }
+    ensures unread { is_read_of_open result ≡ false }
+{
+    tried(2, unless(bytes[..MAGIC.len()] == MAGIC[..], 0))?;
+    let header = header_in(bytes);
+    tried(3, broken_field(&header, number_at(bytes, 40)))?;
+    tried(4, unless(size == header.size(), size))?;
+    Ok(header)
+}
+
+// The numbers of a header, whatever they are.
+fn header_in(bytes: &[u8]) -> Header
+    requires { length bytes.now ≡ HEADER_BYTES }
+
+    ensures numbers { record (seen result) { spare = number_at bytes.now 40 } ≡ header_of bytes.now }
+    ensures small { (result.vocabulary_len < 2 ^ 32) × (result.titles_len < 2 ^ 32) × (result.blocks_len < 2 ^ 32) }
+{
+    Header {
+        docs: number_at(bytes, 8),
+        words: number_at(bytes, 12),
+        rows: number_at(bytes, 16),
+        blocks: number_at(bytes, 20),
+        target: number_at(bytes, 24),
+        vocabulary_len: number_at(bytes, 28),
+        titles_len: number_at(bytes, 32),
+        blocks_len: number_at(bytes, 36),
+    }
+}
+
+// The place of the first number that is out of its range.
+fn broken_field(header: &Header, spare: u32) -> Option<u64>
+    ensures { result ≡ first_reason (field_breaks (record (seen header.now) { spare = spare })) }
+{
+    let in_range = 1 <= header.target && header.target <= MAX_TARGET;
+    unless(header.docs as usize <= MAX_DOCS, 8)
+        .or(unless(header.words as usize <= MAX_WORDS, 12))
+        .or(unless(header.rows as usize <= MAX_ROWS, 16))
+        .or(unless(header.blocks <= header.words, 20))
+        .or(unless(in_range, 24))
+        .or(unless(spare == 0, 40))
+}

@@ -1,0 +1,127 @@
+//! The blocks of an index file.
+ghost use Rattle.std.specs.Prelude.{◌≡◌, ◌+◌, ◌≤◌, ◌<◌, ◌^◌, ◌++◌, ◌∷◌, [], All, false, length, IfOk, OnOk};
+ghost use Rattle.std.specs.List.{sum_by};
+ghost use Rattle.std.specs.Option.{ForSome, option_map};
+ghost use Rattle.cs_base.specs.outside.Outside.{part};
+ghost use Rattle.cs_base.specs.declared.content.limits.TheConstants.{MAX_ROWS, MAX_WORDS};
+ghost use Rattle.cs_model.specs.Scores.{SCORES};
+ghost use Rattle.cs_model_index.specs.BlockRules.{judged, rows_read};
+ghost use Rattle.cs_model_index.specs.Blocks.{IsShaped};
+ghost use Rattle.cs_model_index.specs.FileRules.{in_file};
+ghost use Rattle.cs_model_index.specs.Sections.{blocks_at};
+ghost use Rattle.cs_file.specs.Answers.{is_read_of_open};
+ghost use Rattle.cs_file.specs.HeaderView.{seen};
+ghost use Rattle.cs_file.specs.Indexes.{CausedReads};
+ghost use Rattle.cs_file.specs.Opening.{AreBytes, Judges, IsHeader, HasHeader, blocks_of, blocks_stage, heads_of};
+ghost use Rattle.cs_file.specs.Parting.{part_by, parts_by};
+
+use crate::fault::OpenFault;
+use crate::header::Header;
+use crate::part::Part;
+use crate::parts::part_of;
+use crate::reading::section;
+use cs_base::{BlockHead, Memory, Store};
+use cs_block::{BlockFault, decode};
+use cs_cols::Cols;
+use std::alloc::Global;
+
+/// Reads the blocks one by one, tries rules 13 to 17, and says what rule 18 asks of them.
+pub(crate) fn read_blocks<S: Store>(
+    alloc: Global,
+    store: &mut S,
+    header: &Header,
+    heads: &[BlockHead],
+) -> Result<Vec<Part>, OpenFault>
+    requires ranges { IsHeader (seen header.now) }
+    requires told { HasHeader (S.bytes store.old) (seen header.now) }
+    requires heads { ForSome (S.bytes store.old) (λ b. heads.now ≡ heads_of b) }
+    requires shaped { All (λ h. IsShaped h h.len) heads.now }
+    requires bytes { sum_by (λ h. h.len) heads.now ≡ header.now.blocks_len }
+    requires few { length heads.now ≤ MAX_WORDS }
+    requires rows { All (λ h. h.rows ≤ MAX_ROWS) heads.now }
+
+    ensures exact { ForSome (S.bytes store.old) (λ b. Judges (blocks_stage b) result) }
+    ensures parts { ForSome (S.bytes store.old) (λ b. IfOk result (λ v. v.items ≡ parts_by heads.now (blocks_of b))) }
+    ensures count { IfOk result (λ v. length v.items ≡ length heads.now) }
+    ensures small { ForSome (S.bytes store.old) (λ b. OnOk result (AreBytes b (blocks_at (seen header.now)) header.now.blocks_len)) }
+    ensures bytes { S.bytes store.new ≡ S.bytes store.old }
+    ensures lent { S.lent store.new ≡ S.lent store.old }
+    ensures caused { CausedReads (is_read_of_open result) (S.faults store.old) (S.faults store.new) }
+{
+    let mut parts = room_for(alloc, heads.len())?;
+    let mut at = header.blocks_at();
+    for i in 0..heads.len() {
+        let part = read_block(alloc, store, at, &heads[i], header.docs)?;
+        push_part(&mut parts, part)?;
+        at += u64::from(heads[i].len);
+    }
+    Ok(parts)
+}
+
+fn room_for(alloc: Global, count: usize) -> Result<Vec<Part>, Memory>
+    ensures { IfOk result (λ v. v.items ≡ []) }
+{
+    let parts = Vec::with_capacity(alloc, count)?;
+    Ok(parts)
+}
+
+fn push_part(parts: &mut Vec<Part>, part: Part) -> Result<(), Memory>
+    ensures { OnOk result (parts.new.items ≡ parts.old.items ++ part ∷ []) }
+{
+    parts.push(part)?;
+    Ok(())
+}
+
+// Reads the block at a place, and tries rules 13 to 17 on it.
+fn read_block<S: Store>(
+    alloc: Global,
+    store: &mut S,
+    at: u64,
+    head: &BlockHead,
+    docs: u32,
+) -> Result<Part, OpenFault>
+    requires shaped { IsShaped head.now head.now.len }
+    requires rows { head.now.rows ≤ MAX_ROWS }
+    requires places { at < 2 ^ 40 }
+    requires within { ForSome (S.bytes store.old) (λ b. at + head.now.len ≤ length b) }
+
+    ensures exact { ForSome (S.bytes store.old) (λ b. Judges (option_map (in_file at) (judged SCORES head.now docs (part b at head.now.len))) result) }
+    ensures part { ForSome (S.bytes store.old) (λ b. IfOk result (λ p. p ≡ part_by head.now (rows_read head.now (part b at head.now.len)))) }
+    ensures small { ForSome (S.bytes store.old) (λ b. OnOk result (AreBytes b at head.now.len)) }
+    ensures bytes { S.bytes store.new ≡ S.bytes store.old }
+    ensures lent { S.lent store.new ≡ S.lent store.old }
+    ensures caused { CausedReads (is_read_of_open result) (S.faults store.old) (S.faults store.new) }
+{
+    let bytes = section(alloc, store, at, head.len as usize)?;
+    judge_block(alloc, &bytes, head, docs, at)
+}
+
+// Tries rules 13 to 17 on the bytes of a block that stands at a place.
+fn judge_block(
+    alloc: Global,
+    bytes: &[u8],
+    head: &BlockHead,
+    docs: u32,
+    at: u64,
+) -> Result<Part, OpenFault>
+    requires shaped { IsShaped head.now (length bytes.now) }
+    requires rows { head.now.rows ≤ MAX_ROWS }
+    requires places { at < 2 ^ 40 }
+
+    ensures exact { Judges (option_map (in_file at) (judged SCORES head.now docs bytes.now)) result }
+    ensures part { IfOk result (λ p. p ≡ part_by head.now (rows_read head.now bytes.now)) }
+    ensures unread { is_read_of_open result ≡ false }
+{
+    let mut rows = Cols::new(alloc);
+    match decode(bytes, head, docs, &mut rows) {
+        Ok(()) => {
+            let part = part_of(alloc, head, rows.words())?;
+            Ok(part)
+        }
+        Err(BlockFault::Memory) => Err(OpenFault::Memory),
+        Err(BlockFault::Rule { n, at: within }) => Err(OpenFault::Damaged {
+            rule: n,
+            at: at + u64::from(within),
+        }),
+    }
+}
