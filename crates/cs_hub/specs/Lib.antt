@@ -1,3 +1,5 @@
 pub mod Following
-pub mod Streams
+pub mod Responding
 pub mod Speaking
+pub mod Streams
+pub mod Turns

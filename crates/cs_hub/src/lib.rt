@@ -4,6 +4,13 @@
 //! `specs/Following.antt`. Nothing here knows a socket or a file.
 #![tactic(auto)]
 
+mod answer;
+mod answerer;
+mod asking;
+mod line;
+mod reading;
+mod responses;
+mod saying;
 mod serving;
 mod slots;
 
