@@ -2,18 +2,21 @@
 --
 --   along_start, along_next, along_hold, along_stop    the way through the bytes
 --   calm_on                                            what the hub keeps
-use Rattle.std.proofs.Common.{◌≡◌, ℕ, ◌≤◌, Bool, false, List, [], ◌∷◌, ◌++◌, drop, refl, sym, ◌∙◌, ap, subst, append_assoc, append-nil, arith}
-use Rattle.std.specs.Prelude.{Option, All}
+--   full                                               a piece with which the limit is reached
+use Rattle.std.proofs.Common.{◌≡◌, inr, ℕ, ◌+◌, ◌-◌, ◌≤◌, Bool, false, List, [], ◌∷◌, ◌++◌, length, take, drop, refl, sym, ◌∙◌, ap, subst, append_assoc, append-nil, arith}
+use Rattle.std.specs.Prelude.{Option, None, All}
+use Rattle.std.proofs.lemmas.List.{length-take}
+use Rattle.cs_base.specs.declared.content.limits.TheConstants.{MAX_CONNECTION_BYTES}
 use Rattle.std.specs.List.{AllZip}
 use Rattle.cs_base.specs.outside.Hub.{Listening, Talk}
 use Rattle.std.proofs.lemmas.List.Elements.{All-append, All-cons}
 use Rattle.cs_model.specs.Corpus.{Corpus}
 use Rattle.cs_model_serving.specs.Responses.{Response, response_bytes, all_bytes}
-use Rattle.cs_model_serving.specs.Connections.{Served, MayReplace, serve, waits, answers_on}
+use Rattle.cs_model_serving.specs.Connections.{Served, Left, MayReplace, serve, waits, answers_on}
 use Rattle.cs_model_serving.specs.ServingLaws.{answers_before}
 use Rattle.cs_model_serving.proofs.ServeLemmas.{serve-more}
 use Rattle.cs_hub.specs.Speaking.{Calm, IsServed, IsEnded, Says}
-use Rattle.cs_hub.specs.Turns.{IsOne, IsAlong, Along, GoesOn, Kept, HoldsOn, Holds, Stops}
+use Rattle.cs_hub.specs.Turns.{IsOne, IsAlong, Along, GoesOn, Kept, HoldsOn, Holds, Stops, Received}
 use Rattle.cs_hub.proofs.SpeakLemmas.{rose_none, spoke_nothing, says_both}
 use Rattle.cs_hub.proofs.ServedLemmas.{all_nil, zip_both, bytes_both, ended_behind}
 
@@ -89,3 +92,14 @@ calm_still s faults talk = record { state = refl; faults = refl; orderly = λ h.
 
 pub calm_on : (s s' s'' : Listening) (m n p : ℕ) (talk talk' talk'' : Option Talk) → Calm s s' m n talk talk' → Calm s' s'' n p talk' talk'' → Calm s s'' m p talk talk''
 calm_on s s' s'' m n p talk talk' talk'' h k = record { state = k.state ∙ h.state; faults = k.faults ∙ h.faults; orderly = λ o. k.orderly (h.orderly o) }
+
+-- ---- the limit
+pub full : (Over : Corpus → Type 0) (c : ℕ) (old : Left) (taken : ℕ) (unread piece counted unread' : List ℕ) (m n : ℕ) (talk talk' : Option Talk) → record { taken = taken; unread = unread } ≡ old → counted ≡ take (MAX_CONNECTION_BYTES - taken) piece
+    → MAX_CONNECTION_BYTES ≤ taken + length counted → Holds Over c (unread ++ counted) unread' m n talk talk' → Received Over c old piece None m n talk talk'
+full Over c old taken unread piece counted unread' m n talk talk' is e limit h =
+    subst (λ (l : Left). Received Over c l piece None m n talk talk') is
+    (inr (
+      unread',
+      subst (λ x. Holds Over c (unread ++ x) unread' m n talk talk') e h,
+      let size = length-take (MAX_CONNECTION_BYTES - taken) piece in omega (arith, limit, ap length e, size),
+    ))

@@ -10,9 +10,11 @@ mod asking;
 mod line;
 mod reading;
 mod responses;
+mod rounds;
 mod saying;
 mod serving;
 mod slots;
+mod steps;
 
 pub use serving::{ServeEnd, serve};
 pub use slots::Core;
