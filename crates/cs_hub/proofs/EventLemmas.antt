@@ -4,7 +4,7 @@
 --   sum_at, sum_new                   sums over connections, of which one has another value
 --   piece_stays, opened_stays, ended_stays, over_stays      the core follows the hub after each event
 --   others_by, piece_others, opened_others, ended_others    the others stay as they are
---   came_by_one                       no event came
+--   came_spoke, piece_came, opened_came     no event came
 use Rattle.std.proofs.Common.{◌≡◌, ◌⊎◌, inl, inr, ℕ, suc, ◌+◌, ◌<◌, ◌≤◌, ◌==◌, Bool, true, false, ◌||◌, cond, List, [], ◌∷◌, ◌++◌, length, take, refl, sym, ◌∙◌, ap, subst, arith, append_assoc, append-nil}
 use Prim.Native.Nat.{zero}
 use Rattle.std.specs.Prelude.{Option, Some, None, is_some, All, ◌≢◌}
@@ -147,11 +147,11 @@ piece_here k b s piece broken ended x old kept fails more sent later e h advance
     } in
     subst (λ y. IsRight k (b ++ piece) (s ++ more) y ended kept (sent ++ later)) (sym (ap (λ y. fails || y) l.0.whole ∙ or_false fails)) is
 
-pub piece_stays : (Over : Corpus → Type 0) (k : Corpus) → Over k → (core core' : Slots) (c n : ℕ) (piece : List ℕ) (s s' : Listening) (m o : ℕ) (talk talk' : Option Talk) → length piece ≡ n → Heeds Over core core' c piece s s' m o talk talk' → HasLive core' s' → (IsOrderly s talk → IsOrderly s' talk')
+pub piece_stays : (Told : Corpus → Type 0) (k : Corpus) → Told k → (core core' : Slots) (c n : ℕ) (piece : List ℕ) (s s' : Listening) (m o : ℕ) (talk talk' : Option Talk) → length piece ≡ n → Heeds Told core core' c piece s s' m o talk talk' → HasLive core' s' → (IsOrderly s talk → IsOrderly s' talk')
     → StaysRight k core core' (Piece c n) piece s s' talk talk' m o
-piece_stays Over k over core core' c n piece s s' m o talk talk' whole d live orderly = λ s0 talk0 room i h e.
+piece_stays Told k over core core' c n piece s s' m o talk talk' whole d live orderly = λ s0 talk0 room i h e.
     let p = e.happens in
-    let w = after_piece Over c d.old piece d.kept m o talk talk' d.received in
+    let w = after_piece Told c d.old piece d.kept m o talk talk' d.received in
     let x = w.1.counted k over in
     let bytes : bytes_at c (Piece c n) (take n piece) ≡ piece = ap (λ b. cond b (take n piece) []) (itself c) ∙ ap (λ j. take j piece) (sym whole) ∙ take-length piece in (
       reads x.sent,
@@ -179,3 +179,178 @@ piece_stays Over k over core core' c n piece s s' m o talk talk' whole d live or
       },
       x.rose,
     )
+
+-- ---- a connection that opens
+unequal : (c d : ℕ) → d ≢ c → (c == d) ≡ false
+unequal c d h = elim (c == d) as (λ b. (b ≡ true → c ≡ d) → b ≡ false) [ true ↦ λ f. absurd (h (sym (f refl))) | false ↦ λ f. refl ] (Decides-eqb c d).0
+
+silent_one : (c : ℕ) (e : Event) (bytes : List ℕ) → IsNotOf c e → (bytes_at c e bytes ≡ []) × (ended_at c e ≡ false)
+silent_one c (Opened d) bytes h = (refl, refl)
+silent_one c (Piece d n) bytes h = (ap (λ b. cond b bytes []) (unequal c d h), refl)
+silent_one c (Ended d) bytes h = (refl, unequal c d h)
+silent_one c Over bytes h = (refl, refl)
+
+silent_before : (c : ℕ) (es : List Came) → All (λ e. IsNotOf c e.event) es → (bytes_on c es ≡ []) × (ended_on c es ≡ false)
+silent_before c [] h = (refl, refl)
+silent_before c (e ∷ es) h =
+    let one = silent_one c e.event e.bytes (All-head (λ (e : Came). IsNotOf c e.event) e es h) in
+    let more = silent_before c es (All-tail (λ (e : Came). IsNotOf c e.event) e es h) in
+    (ap (λ l. l ++ bytes_on c es) one.0 ∙ more.0, ap (λ b. b || ended_on c es) one.1 ∙ more.1)
+
+below_next : (d c n m : ℕ) → m ≡ n + 1 → d < m → (d == c) ≡ false → c ≡ n → d < n
+below_next d c n m e less other is = grind (arith, nat_tests)
+
+-- what was sent on it, and how it stands
+pub record Greeted (c : ℕ) (x : Option Left) (core core' : Slots) (s s' : Listening) (talk talk' : Option Talk) : Type 0 where
+  pub more : List ℕ
+  pub fails : Bool
+  pub spoke : Spoke c more fails talk talk'
+  pub acted : Acted core core' c x s s'
+  pub stands : (k : Corpus) → IsRight k [] more fails false x []
+
+greeted_none : (core core' : Slots) (c : ℕ) (s s' : Listening) (talk talk' : Option Talk) → Acted core core' c None s s' → (whole : Bool) → Said c memory_bytes whole talk talk' → (x : Option Left) × Greeted c x core core' s s' talk talk'
+greeted_none core core' c s s' talk talk' a true g = (None, record { more = memory_bytes; fails = false; spoke = g; acted = a; stands = λ k. refused_right k false })
+greeted_none core core' c s s' talk talk' a false g = (None, record { more = take g.0 memory_bytes; fails = true; spoke = g.1; acted = a; stands = λ k. cut_right k g.0 false })
+
+pub greeted : (core core' : Slots) (c : ℕ) (s s' : Listening) (talk talk' : Option Talk) → Greets core core' c s s' talk talk' → (x : Option Left) × Greeted c x core core' s s' talk talk'
+greeted core core' c s s' talk talk' (inl g) = (Some (record { taken = 0; unread = [] }), record { more = []; fails = false; spoke = subst (Spoke c [] false talk) (sym g.1) (spoke_nothing c talk); acted = g.0; stands = λ k. fresh_right k })
+greeted core core' c s s' talk talk' (inr g) = greeted_none core core' c s s' talk talk' g.0 g.1.0 g.1.1
+
+or_false_is : (a b : Bool) → b ≡ false → (a || b) ≡ a
+or_false_is a b h = ap (λ x. a || x) h ∙ or_false a
+
+pub opened_stays : (k : Corpus) (core core' : Slots) (c : ℕ) (piece : List ℕ) (s s' : Listening) (m : ℕ) (talk talk' : Option Talk) → Greets core core' c s s' talk talk' → HasLive core' s' → (IsOrderly s talk → IsOrderly s' talk') → StaysRight k core core' (Opened c) piece s s' talk talk' m m
+opened_stays k core core' c piece s s' m talk talk' greets live orderly = λ s0 talk0 room i h e.
+    let p = e.happens in
+    let g = greeted core core' c s s' talk talk' greets in (
+      0,
+      record {
+        live = live;
+        orderly = orderly e.orderly;
+        right = lift (λ u. AreRight k core' s' u (i + 0)) c g.1.more g.1.fails (came_of (Opened c) piece) talk0 talk talk' e.came g.1.spoke (λ t0 u at did.
+            let a = h.right t0 at in
+            let fresh = h.orderly.fresh t0 at c (let l : s0.opened ≤ c = omega (arith, p.1) in l) in
+            let silent = silent_before c t0.came fresh.0 in
+            all_right k core core' c g.0 s0 s s' t0 u (came_of (Opened c) piece) g.1.more g.1.fails a.sent [] g.1.acted did
+            (record {
+              silent = λ q other. (refl, refl);
+              opened = λ q less other. below_next q c s0.opened s.opened (ap (λ (y : Listening). y.opened) p.3) less other p.1;
+              over = ap (λ (y : Listening). y.over) p.3;
+            })
+            a.right
+            (λ less.
+            right_as k [] _ g.1.more _ g.1.fails _ false _ g.0 g.0 []
+            (append-nil (bytes_on c t0.came) ∙ silent.0) (ap (λ l. l ++ g.1.more) fresh.1) (or_false_is g.1.fails (set.contains t0.broken c) fresh.2)
+            (ap (λ b. (b || false) || s.over) silent.1 ∙ ap (λ (y : Listening). y.over) p.3 ∙ p.0) refl (g.1.stands k))
+            (i + 0)
+            (let q = sum_new s0.opened s.opened c (λ d. reads (a.sent d)) (λ d. reads (with_own c [] a.sent d)) (λ d other. ap reads (other_at c d [] a.sent other)) (ap reads (own_at c [] a.sent)) p.1 (ap (λ (y : Listening). y.opened) p.3) in
+            let f = a.few in
+            omega (arith, q, f)));
+      },
+      rose_none m m (omega arith),
+    )
+
+-- ---- a connection that ended
+pub ended_stays : (k : Corpus) (core core' : Slots) (c : ℕ) (piece : List ℕ) (s : Listening) (m : ℕ) (talk : Option Talk) → Acted core core' c None s s → HasLive core' s → StaysRight k core core' (Ended c) piece s s talk talk m m
+ended_stays k core core' c piece s m talk acted live = λ s0 talk0 room i h e.
+    let p = e.happens in (
+      0,
+      record {
+        live = live;
+        orderly = e.orderly;
+        right = lift (λ u. AreRight k core' s u (i + 0)) c [] false (came_of (Ended c) piece) talk0 talk talk e.came (spoke_nothing c talk) (λ t0 u at did.
+            let a = h.right t0 at in
+            all_right k core core' c None s0 s s t0 u (came_of (Ended c) piece) [] false a.sent (a.sent c) acted did
+            (record {
+              silent = λ q other. (refl, other);
+              opened = λ q less other. subst (λ (y : Listening). q < y.opened) p.2 less;
+              over = ap (λ (y : Listening). y.over) p.2;
+            })
+            a.right
+            (λ less.
+            right_as k (bytes_on c t0.came) _ (sent_on t0 c) _ (set.contains t0.broken c) _ true _ None None (a.sent c)
+            (append-nil (bytes_on c t0.came)) (append-nil (sent_on t0 c)) refl
+            (ap (λ b. (ended_on c t0.came || b) || s.over) (itself c) ∙ ap (λ b. b || s.over) (or_true (ended_on c t0.came))) refl
+            (let_go k (bytes_on c t0.came) (sent_on t0 c) (set.contains t0.broken c) (ended_on c t0.came || s0.over) (left_at core c) (a.sent c) (a.right c (subst (λ (y : Listening). c < y.opened) p.2 less))))
+            (i + 0)
+            (let q = sum_at s.opened c 0 (λ d. reads (a.sent d)) (λ d. reads (with_own c (a.sent c) a.sent d)) (λ d other. ap reads (other_at c d (a.sent c) a.sent other)) (omega (arith, ap reads (own_at c (a.sent c) a.sent))) in
+            let f : sum_below s.opened (λ d. reads (a.sent d)) ≤ i = subst (λ (y : Listening). sum_below y.opened (λ d. reads (a.sent d)) ≤ i) (sym p.2) a.few in
+            omega (arith, q, f)));
+      },
+      rose_none m m (omega arith),
+    )
+
+-- ---- the end of all
+over_right : (k : Corpus) (core core' : Slots) (s0 s s' : Listening) (t0 u : Talk) (piece : List ℕ) (i : ℕ) → AreRight k core s0 t0 i → Did 0 [] false (hears (came_of Over piece) t0) u → ((d : ℕ) → (sent_on u d ≡ sent_on t0 d) × (set.contains u.broken d ≡ set.contains t0.broken d))
+    → s ≡ record s0 { over = true } → s' ≡ record s { live = s'.live } → ((d : ℕ) → left_at core' d ≡ None) → AreRight k core' s' u (i + 0)
+over_right k core core' s0 s s' t0 u piece i a did same p q none =
+    let e = came_of Over piece in
+    let opened : s'.opened ≡ s0.opened = ap (λ (y : Listening). y.opened) q ∙ ap (λ (y : Listening). y.opened) p in
+    let over : s'.over ≡ true = ap (λ (y : Listening). y.over) q ∙ ap (λ (y : Listening). y.over) p in
+    record {
+      sent = a.sent;
+      right = λ d less.
+          right_as k (bytes_on d t0.came) (bytes_on d u.came) (sent_on t0 d) (sent_on u d) (set.contains t0.broken d) (set.contains u.broken d) true (ended_on d u.came || s'.over) None (left_at core' d) (a.sent d)
+          (ap (bytes_on d) did.came ∙ bytes_on-push d t0.came e ∙ append-nil (bytes_on d t0.came)) (same d).0 (same d).1
+          (ap (λ b. ended_on d u.came || b) over ∙ or_true (ended_on d u.came)) (none d)
+          (let_go k (bytes_on d t0.came) (sent_on t0 d) (set.contains t0.broken d) (ended_on d t0.came || s0.over) (left_at core d) (a.sent d) (a.right d (subst (λ n. d < n) opened less)));
+      few = let f = a.few in let g = ap (λ n. sum_below n (λ d. reads (a.sent d))) opened in omega (arith, f, g);
+    }
+
+-- nothing was sent on any connection
+still_told : (t u : Talk) → Did 0 [] false t u → (d : ℕ) → (sent_on u d ≡ sent_on t d) × (set.contains u.broken d ≡ set.contains t.broken d)
+still_told t u did d = by_conn (λ d. (sent_on u d ≡ sent_on t d) × (set.contains u.broken d ≡ set.contains t.broken d)) 0 d (did.own ∙ append-nil (sent_on t 0), did.whole) (did.others d)
+
+pub over_stays : (k : Corpus) (core core' : Slots) (piece : List ℕ) (s s' : Listening) (m : ℕ) (talk talk' : Option Talk) → talk' ≡ talk → s' ≡ record s { live = s'.live } → ((d : ℕ) → left_at core' d ≡ None) → HasLive core' s' → (IsOrderly s talk → IsOrderly s' talk')
+    → StaysRight k core core' Over piece s s' talk talk' m m
+over_stays k core core' piece s s' m talk talk' same q none live orderly = λ s0 talk0 room i h e. (
+  0,
+  record {
+    live = live;
+    orderly = orderly e.orderly;
+    right = lift (λ u. AreRight k core' s' u (i + 0)) 0 [] false (came_of Over piece) talk0 talk talk' e.came (subst (Spoke 0 [] false talk) (sym same) (spoke_nothing 0 talk)) (λ t0 u at did.
+        over_right k core core' s0 s s' t0 u piece i (h.right t0 at) did (still_told (hears (came_of Over piece) t0) u did) e.happens q none);
+  },
+  rose_none m m (omega arith),
+)
+
+-- ---- other connections
+spoke_others : (c : ℕ) (more : List ℕ) (fails : Bool) (talk talk' : Option Talk) → Spoke c more fails talk talk' → ForSome talk (λ t. ForSome talk' (λ u. (d : ℕ) → (d == c) ≡ false → (sent_on u d ≡ sent_on t d) × (set.contains u.broken d ≡ set.contains t.broken d)))
+spoke_others c more fails None talk' h = λ t at. absurd cc
+spoke_others c more fails (Some x) None h = absurd h
+spoke_others c more fails (Some x) (Some y) h = λ t at u at' d other.
+    subst (λ v. (sent_on u d ≡ sent_on v d) × (set.contains u.broken d ≡ set.contains v.broken d)) (same_Some x t at)
+    (subst (λ v. (sent_on v d ≡ sent_on x d) × (set.contains v.broken d ≡ set.contains x.broken d)) (same_Some y u at') (h.others d other))
+
+pub others_by : (event : Event) (core core' : Slots) (c : ℕ) (x : Option Left) (s s' : Listening) (talk talk' : Option Talk) (more : List ℕ) (fails : Bool) → ((d : ℕ) → IsOther event d → (d == c) ≡ false) → Spoke c more fails talk talk' → Acted core core' c x s s' → LeavesOthers event core core' s s' talk talk'
+others_by event core core' c x s s' talk talk' more fails is f a = record {
+  left = λ d o. a.sets d ∙ ap (λ b. cond b x (left_at core d)) (is d o);
+  live = λ d o. a.live d ∙ ap (λ b. cond b (is_some x) (set.contains s.live d)) (is d o);
+  sent = λ t at u at' d o. spoke_others c more fails talk talk' f t at u at' d (is d o);
+}
+
+pub piece_others : (Told : Corpus → Type 0) (core core' : Slots) (c n : ℕ) (piece : List ℕ) (s s' : Listening) (m o : ℕ) (talk talk' : Option Talk) → Heeds Told core core' c piece s s' m o talk talk' → LeavesOthers (Piece c n) core core' s s' talk talk'
+piece_others Told core core' c n piece s s' m o talk talk' d =
+    let w = after_piece Told c d.old piece d.kept m o talk talk' d.received in
+    others_by (Piece c n) core core' c d.kept s s' talk talk' w.1.more w.0 (λ q o. o) w.1.spoke d.acted
+
+pub opened_others : (core core' : Slots) (c : ℕ) (s s' : Listening) (talk talk' : Option Talk) → Greets core core' c s s' talk talk' → LeavesOthers (Opened c) core core' s s' talk talk'
+opened_others core core' c s s' talk talk' greets =
+    let g = greeted core core' c s s' talk talk' greets in
+    others_by (Opened c) core core' c g.0 s s' talk talk' g.1.more g.1.fails (λ q o. o) g.1.spoke g.1.acted
+
+pub ended_others : (core core' : Slots) (c : ℕ) (s : Listening) (talk : Option Talk) → Acted core core' c None s s → LeavesOthers (Ended c) core core' s s talk talk
+ended_others core core' c s talk a = others_by (Ended c) core core' c None s s talk talk [] false (λ q o. o) (spoke_nothing c talk) a
+
+-- ---- events
+pub came_spoke : (c : ℕ) (more : List ℕ) (fails : Bool) (talk talk' : Option Talk) → Spoke c more fails talk talk' → KeepsCame talk talk'
+came_spoke c more fails None None h = refl
+came_spoke c more fails None (Some u) h = absurd h
+came_spoke c more fails (Some t) None h = absurd h
+came_spoke c more fails (Some t) (Some u) h = ap Some h.came
+
+pub piece_came : (Told : Corpus → Type 0) (core core' : Slots) (c : ℕ) (piece : List ℕ) (s s' : Listening) (m o : ℕ) (talk talk' : Option Talk) → Heeds Told core core' c piece s s' m o talk talk' → KeepsCame talk talk'
+piece_came Told core core' c piece s s' m o talk talk' d = let w = after_piece Told c d.old piece d.kept m o talk talk' d.received in came_spoke c w.1.more w.0 talk talk' w.1.spoke
+
+pub opened_came : (core core' : Slots) (c : ℕ) (s s' : Listening) (talk talk' : Option Talk) → Greets core core' c s s' talk talk' → KeepsCame talk talk'
+opened_came core core' c s s' talk talk' greets = let g = greeted core core' c s s' talk talk' greets in came_spoke c g.1.more g.1.fails talk talk' g.1.spoke
