@@ -2,23 +2,27 @@
 --
 --   before_step                what is live before the step of an event
 --   came_one                   one event more
---   starts_over, goes_on       what is served before the first round, and after one more
+--   ServedBy, goes_on, served_by       what is served so far, after one more round, and at the end
+--   at_start, start_live, start_still, less_left      before the first round
 --   none_live                  where nothing is kept, nothing is live
-use Rattle.std.proofs.Common.{◌≡◌, ℕ, ◌+◌, ◌-◌, ◌*◌, ◌≤◌, Bool, true, false, ◌||◌, cond, List, [], ◌∷◌, ◌++◌, length, refl, sym, ◌∙◌, ap, subst, arith, length-append}
+use Rattle.std.proofs.Common.{◌≡◌, ℕ, ◌+◌, ◌-◌, ◌*◌, ◌<◌, ◌≤◌, Bool, true, false, ◌||◌, cond, List, [], ◌∷◌, ◌++◌, length, refl, sym, ◌∙◌, ap, subst, arith, length-append}
 use Rattle.std.specs.Prelude.{Option, Some, None, is_some}
 use Rattle.std.specs.Option.{option_map}
+use Rattle.std.specs.Ordering.{nat_cmp}
 use Rattle.std.specs.FinSet as set
 use Rattle.std.proofs.lemmas.Option.{same_Some}
+use Rattle.cs_base.specs.declared.content.limits.TheConstants.{MAX_CONNECTION_BYTES}
 use Rattle.cs_base.specs.declared.outside.hub.Event.{Event}
 use Rattle.cs_base.specs.declared.outside.hub.Event.TheVariants.{Opened, Piece, Ended, Over}
-use Rattle.cs_base.specs.outside.Hub.{Came, Talk, Listening, IsOrderly, Happens, hears}
+use Rattle.cs_base.specs.outside.Hub.{Came, Talk, Listening, IsOrderly, Happens, hears, listens}
 use Rattle.cs_model.specs.Corpus.{Corpus}
 use Rattle.cs_model_serving.specs.Connections.{Left}
 use Rattle.cs_hub.specs.Streams.{RoseBy}
 use Rattle.cs_hub.specs.Following.{Slots, left_at, HasLive, HasLiveBut, Follows, AreServed}
-use Rattle.cs_hub.specs.Rounds.{KeepsCame, came_by, StaysServed}
-use Rattle.cs_hub.proofs.SpeakLemmas.{itself, in_after, rose_both}
+use Rattle.cs_hub.specs.Rounds.{KeepsCame, came_by, StaysServed, still, weight}
+use Rattle.cs_hub.proofs.SpeakLemmas.{itself, in_after, rose_both, rose_none}
 use Rattle.cs_hub.proofs.ActLemmas.{gone_at}
+use Rattle.cs_hub.proofs.FollowLemmas.{starts}
 
 not_live : (b : Bool) → (b ≡ true → ⊥) → b ≡ false
 not_live true h = absurd (h refl)
@@ -77,3 +81,17 @@ served_by k core s talk m n h = record { core = core; failed = h.failed; follows
 -- ---- the end
 pub none_live : (core : Slots) (s : Listening) → HasLive core s → ((d : ℕ) → left_at core d ≡ None) → (d : ℕ) → set.contains s.live d ≡ false
 none_live core s h none = λ d. sym (h d) ∙ ap is_some (none d)
+
+-- ---- the start
+pub at_start : (k : Corpus) (core : Slots) (s : Listening) (talk : Option Talk) (port conns m : ℕ) → core ≡ [] → s ≡ listens port conns → IsOrderly s talk → ServedBy k core s talk m m
+at_start k core s talk port conns m none e o = subst (λ x. ServedBy k x s talk m m) (sym none) (record { failed = 0; follows = starts k s talk port conns e o; rose = rose_none m m (omega arith) })
+
+pub start_live : (core : Slots) (s : Listening) (port conns : ℕ) → core ≡ [] → s ≡ listens port conns → HasLive core s
+start_live core s port conns none e = subst (λ x. HasLive x s) (sym none) (λ d. sym (ap (λ (y : Listening). set.contains y.live d) e ∙ set.contains-empty nat_cmp d))
+
+pub start_still : (core : Slots) (conns : ℕ) → core ≡ [] → still conns 0 core ≡ conns * (MAX_CONNECTION_BYTES + 2)
+start_still core conns none = let w = ap weight none in omega (arith, w)
+
+-- less is left to come, by the numbers that the loop keeps
+pub less_left : (conns opened count room was : ℕ) (core core' : Slots) → room ≡ conns → was ≡ opened → still room count core' < still room was core → still conns count core' < still conns opened core
+less_left conns opened count room was core core' e f h = subst (λ i. still i count core' < still i opened core) e (subst (λ i. still room count core' < still room i core) f h)
