@@ -149,7 +149,7 @@ piece_here k b s piece broken ended x old kept fails more sent later e h advance
 
 pub piece_stays : (Told : Corpus → Type 0) (k : Corpus) → Told k → (core core' : Slots) (c n : ℕ) (piece : List ℕ) (s s' : Listening) (m o : ℕ) (talk talk' : Option Talk) → length piece ≡ n → Heeds Told core core' c piece s s' m o talk talk' → HasLive core' s' → (IsOrderly s talk → IsOrderly s' talk')
     → StaysRight k core core' (Piece c n) piece s s' talk talk' m o
-piece_stays Told k over core core' c n piece s s' m o talk talk' whole d live orderly = λ s0 talk0 room i h e.
+piece_stays Told k over core core' c n piece s s' m o talk talk' whole d live orderly = record { stays = λ s0 talk0 room i h e.
     let p = e.happens in
     let w = after_piece Told c d.old piece d.kept m o talk talk' d.received in
     let x = w.1.counted k over in
@@ -178,7 +178,7 @@ piece_stays Told k over core core' c n piece s s' m o talk talk' whole d live or
             omega (arith, q, f)));
       },
       x.rose,
-    )
+    ) }
 
 -- ---- a connection that opens
 unequal : (c d : ℕ) → d ≢ c → (c == d) ≡ false
@@ -220,7 +220,7 @@ or_false_is : (a b : Bool) → b ≡ false → (a || b) ≡ a
 or_false_is a b h = ap (λ x. a || x) h ∙ or_false a
 
 pub opened_stays : (k : Corpus) (core core' : Slots) (c : ℕ) (piece : List ℕ) (s s' : Listening) (m : ℕ) (talk talk' : Option Talk) → Greets core core' c s s' talk talk' → HasLive core' s' → (IsOrderly s talk → IsOrderly s' talk') → StaysRight k core core' (Opened c) piece s s' talk talk' m m
-opened_stays k core core' c piece s s' m talk talk' greets live orderly = λ s0 talk0 room i h e.
+opened_stays k core core' c piece s s' m talk talk' greets live orderly = record { stays = λ s0 talk0 room i h e.
     let p = e.happens in
     let g = greeted core core' c s s' talk talk' greets in (
       0,
@@ -248,11 +248,11 @@ opened_stays k core core' c piece s s' m talk talk' greets live orderly = λ s0 
             omega (arith, q, f)));
       },
       rose_none m m (omega arith),
-    )
+    ) }
 
 -- ---- a connection that ended
 pub ended_stays : (k : Corpus) (core core' : Slots) (c : ℕ) (piece : List ℕ) (s : Listening) (m : ℕ) (talk : Option Talk) → Acted core core' c None s s → HasLive core' s → StaysRight k core core' (Ended c) piece s s talk talk m m
-ended_stays k core core' c piece s m talk acted live = λ s0 talk0 room i h e.
+ended_stays k core core' c piece s m talk acted live = record { stays = λ s0 talk0 room i h e.
     let p = e.happens in (
       0,
       record {
@@ -278,7 +278,7 @@ ended_stays k core core' c piece s m talk acted live = λ s0 talk0 room i h e.
             omega (arith, q, f)));
       },
       rose_none m m (omega arith),
-    )
+    ) }
 
 -- ---- the end of all
 over_right : (k : Corpus) (core core' : Slots) (s0 s s' : Listening) (t0 u : Talk) (piece : List ℕ) (i : ℕ) → AreRight k core s0 t0 i → Did 0 [] false (hears (came_of Over piece) t0) u → ((d : ℕ) → (sent_on u d ≡ sent_on t0 d) × (set.contains u.broken d ≡ set.contains t0.broken d))
@@ -303,7 +303,7 @@ still_told t u did d = by_conn (λ d. (sent_on u d ≡ sent_on t d) × (set.cont
 
 pub over_stays : (k : Corpus) (core core' : Slots) (piece : List ℕ) (s s' : Listening) (m : ℕ) (talk talk' : Option Talk) → talk' ≡ talk → s' ≡ record s { live = s'.live } → ((d : ℕ) → left_at core' d ≡ None) → HasLive core' s' → (IsOrderly s talk → IsOrderly s' talk')
     → StaysRight k core core' Over piece s s' talk talk' m m
-over_stays k core core' piece s s' m talk talk' same q none live orderly = λ s0 talk0 room i h e. (
+over_stays k core core' piece s s' m talk talk' same q none live orderly = record { stays = λ s0 talk0 room i h e. (
   0,
   record {
     live = live;
@@ -312,7 +312,7 @@ over_stays k core core' piece s s' m talk talk' same q none live orderly = λ s0
         over_right k core core' s0 s s' t0 u piece i (h.right t0 at) did (still_told (hears (came_of Over piece) t0) u did) e.happens q none);
   },
   rose_none m m (omega arith),
-)
+) }
 
 -- ---- other connections
 spoke_others : (c : ℕ) (more : List ℕ) (fails : Bool) (talk talk' : Option Talk) → Spoke c more fails talk talk' → ForSome talk (λ t. ForSome talk' (λ u. (d : ℕ) → (d == c) ≡ false → (sent_on u d ≡ sent_on t d) × (set.contains u.broken d ≡ set.contains t.broken d)))

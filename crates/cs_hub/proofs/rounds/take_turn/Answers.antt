@@ -10,7 +10,7 @@ step_with-requires-clause-live g c =
 
 pub returns-in-Ok-clause-served : goal.returns-in-Ok-clause-served
 returns-in-Ok-clause-served g c = λ k over n h.
-    c.step_with.ensures.follows k over (g.H.Hub.state c.args.hub.now) (g.H.Hub.talk c.args.hub.now) (length c.args.buffer.now) n h (record {
+    (c.step_with.ensures.follows k over).stays (g.H.Hub.state c.args.hub.now) (g.H.Hub.talk c.args.hub.now) (length c.args.buffer.now) n h (record {
       happens = c.in-Ok.ensures.event;
       came = c.in-Ok.ensures.came ∙ ap (λ e. option_map (hears e) (g.H.Hub.talk c.args.hub.now)) (sym c.piece_of.ensures.came);
       orderly = c.in-Ok.ensures.orderly;
