@@ -5,7 +5,7 @@
 --   piece_stays, opened_stays, ended_stays, over_stays      the core follows the hub after each event
 --   others_by, piece_others, opened_others, ended_others    the others stay as they are
 --   came_spoke, piece_came, opened_came     no event came
-use Rattle.std.proofs.Common.{◌≡◌, ◌⊎◌, inl, inr, ℕ, suc, ◌+◌, ◌<◌, ◌≤◌, ◌==◌, Bool, true, false, ◌||◌, cond, List, [], ◌∷◌, ◌++◌, length, take, refl, sym, ◌∙◌, ap, subst, arith, append_assoc, append-nil}
+use Rattle.std.proofs.Common.{◌≡◌, inl, inr, ℕ, suc, ◌+◌, ◌<◌, ◌≤◌, ◌==◌, Bool, true, false, ◌||◌, cond, List, [], ◌∷◌, ◌++◌, length, take, refl, sym, ◌∙◌, ap, subst, arith, append_assoc, append-nil}
 use Prim.Native.Nat.{zero}
 use Rattle.std.specs.Prelude.{Option, Some, None, is_some, All, ◌≢◌}
 use Rattle.std.specs.Option.{ForSome, option_map}
@@ -19,15 +19,14 @@ use Rattle.cs_base.specs.declared.outside.hub.Event.TheVariants.{Opened, Piece, 
 use Rattle.cs_base.specs.outside.Hub.{Came, Talk, Listening, IsOrderly, IsNotOf, sent_on, came_of, hears}
 use Rattle.cs_model.specs.Corpus.{Corpus}
 use Rattle.cs_model_serving.specs.Responses.{Response, memory_bytes}
-use Rattle.cs_model_serving.specs.Connections.{Left, StandsBy, StandsLive, reads, changes}
+use Rattle.cs_model_serving.specs.Connections.{Left, StandsLive, reads, changes}
 use Rattle.cs_model_serving.proofs.CountLemmas.{reads-append, changes-append}
-use Rattle.cs_hub.specs.Streams.{bytes_at, bytes_on, ended_at, ended_on, sum_below, RoseBy}
-use Rattle.cs_hub.specs.Following.{Slots, left_at, HasLive, HasCause, Heard, IsRight, AreRight, Follows, StaysRight, IsOther, LeavesOthers}
+use Rattle.cs_hub.specs.Streams.{bytes_at, bytes_on, ended_at, ended_on, sum_below}
+use Rattle.cs_hub.specs.Following.{Slots, left_at, HasLive, IsRight, AreRight, StaysRight, IsOther, LeavesOthers}
 use Rattle.cs_hub.specs.Rounds.{Acted, Greets, Heeds, KeepsCame}
-use Rattle.cs_hub.specs.Speaking.{Did, Spoke, Said, Says}
+use Rattle.cs_hub.specs.Speaking.{Did, Spoke, Said}
 use Rattle.cs_hub.proofs.SpeakLemmas.{itself, by_conn, same_conn, spoke_nothing, rose_none}
-use Rattle.cs_hub.proofs.ActLemmas.{acted_live}
-use Rattle.cs_hub.proofs.RightLemmas.{Advances, StandsSo, after_piece, right_as, fresh_right, refused_right, cut_right, let_go, or_true, or_false}
+use Rattle.cs_hub.proofs.RightLemmas.{Advances, after_piece, right_as, fresh_right, refused_right, cut_right, let_go, or_true, or_false}
 
 -- ---- what came on one connection, with one event more
 pub bytes_on-push : (c : ℕ) (es : List Came) (e : Came) → bytes_on c (es ++ e ∷ []) ≡ bytes_on c es ++ bytes_at c e.event e.bytes
@@ -149,36 +148,38 @@ piece_here k b s piece broken ended x old kept fails more sent later e h advance
 
 pub piece_stays : (Told : Corpus → Type 0) (k : Corpus) → Told k → (core core' : Slots) (c n : ℕ) (piece : List ℕ) (s s' : Listening) (m o : ℕ) (talk talk' : Option Talk) → length piece ≡ n → Heeds Told core core' c piece s s' m o talk talk' → HasLive core' s' → (IsOrderly s talk → IsOrderly s' talk')
     → StaysRight k core core' (Piece c n) piece s s' talk talk' m o
-piece_stays Told k over core core' c n piece s s' m o talk talk' whole d live orderly = record { stays = λ s0 talk0 room i h e.
-    let p = e.happens in
-    let w = after_piece Told c d.old piece d.kept m o talk talk' d.received in
-    let x = w.1.counted k over in
-    let bytes : bytes_at c (Piece c n) (take n piece) ≡ piece = ap (λ b. cond b (take n piece) []) (itself c) ∙ ap (λ j. take j piece) (sym whole) ∙ take-length piece in (
-      reads x.sent,
-      record {
-        live = live;
-        orderly = orderly e.orderly;
-        right = lift (λ u. AreRight k core' s' u (i + reads x.sent)) c w.1.more w.0 (came_of (Piece c n) piece) talk0 talk talk' e.came w.1.spoke (λ t0 u at did.
-            let a = h.right t0 at in
-            all_right k core core' c d.kept s0 s s' t0 u (came_of (Piece c n) piece) w.1.more w.0 a.sent (a.sent c ++ x.sent) d.acted did
-            (record {
-              silent = λ q other. (ap (λ b. cond b (take n piece) []) other, refl);
-              opened = λ q less other. subst (λ (y : Listening). q < y.opened) p.4 less;
-              over = ap (λ (y : Listening). y.over) p.4;
-            })
-            a.right
-            (λ less.
-            right_as k (bytes_on c t0.came ++ piece) _ (sent_on t0 c ++ w.1.more) (sent_on t0 c ++ w.1.more) (w.0 || set.contains t0.broken c) (w.0 || set.contains t0.broken c) (ended_on c t0.came || s0.over) _ d.kept d.kept (a.sent c ++ x.sent)
-            (ap (λ l. bytes_on c t0.came ++ l) bytes) refl refl
-            (ap (λ b. b || s.over) (or_false (ended_on c t0.came)) ∙ ap (λ (y : Listening). ended_on c t0.came || y.over) p.4) refl
-            (piece_here k (bytes_on c t0.came) (sent_on t0 c) piece (set.contains t0.broken c) (ended_on c t0.came || s0.over) (left_at core c) d.old d.kept w.0 w.1.more (a.sent c) x.sent d.was (a.right c (subst (λ (y : Listening). c < y.opened) p.4 less)) x.meets x.unchanged))
-            (i + reads x.sent)
-            (let q = sum_at s.opened c (reads x.sent) (λ d. reads (a.sent d)) (λ d. reads (with_own c (a.sent c ++ x.sent) a.sent d)) (λ d other. ap reads (other_at c d (a.sent c ++ x.sent) a.sent other)) (let z = reads-append (a.sent c) x.sent in omega (arith, z, ap reads (own_at c (a.sent c ++ x.sent) a.sent))) in
-            let f : sum_below s.opened (λ d. reads (a.sent d)) ≤ i = subst (λ (y : Listening). sum_below y.opened (λ d. reads (a.sent d)) ≤ i) (sym p.4) a.few in
-            omega (arith, q, f)));
-      },
-      x.rose,
-    ) }
+piece_stays Told k over core core' c n piece s s' m o talk talk' whole d live orderly = record {
+  stays = λ s0 talk0 room i h e.
+      let p = e.happens in
+      let w = after_piece Told c d.old piece d.kept m o talk talk' d.received in
+      let x = w.1.counted k over in
+      let bytes : bytes_at c (Piece c n) (take n piece) ≡ piece = ap (λ b. cond b (take n piece) []) (itself c) ∙ ap (λ j. take j piece) (sym whole) ∙ take-length piece in (
+        reads x.sent,
+        record {
+          live = live;
+          orderly = orderly e.orderly;
+          right = lift (λ u. AreRight k core' s' u (i + reads x.sent)) c w.1.more w.0 (came_of (Piece c n) piece) talk0 talk talk' e.came w.1.spoke (λ t0 u at did.
+              let a = h.right t0 at in
+              all_right k core core' c d.kept s0 s s' t0 u (came_of (Piece c n) piece) w.1.more w.0 a.sent (a.sent c ++ x.sent) d.acted did
+              (record {
+                silent = λ q other. (ap (λ b. cond b (take n piece) []) other, refl);
+                opened = λ q less other. subst (λ (y : Listening). q < y.opened) p.4 less;
+                over = ap (λ (y : Listening). y.over) p.4;
+              })
+              a.right
+              (λ less.
+              right_as k (bytes_on c t0.came ++ piece) _ (sent_on t0 c ++ w.1.more) (sent_on t0 c ++ w.1.more) (w.0 || set.contains t0.broken c) (w.0 || set.contains t0.broken c) (ended_on c t0.came || s0.over) _ d.kept d.kept (a.sent c ++ x.sent)
+              (ap (λ l. bytes_on c t0.came ++ l) bytes) refl refl
+              (ap (λ b. b || s.over) (or_false (ended_on c t0.came)) ∙ ap (λ (y : Listening). ended_on c t0.came || y.over) p.4) refl
+              (piece_here k (bytes_on c t0.came) (sent_on t0 c) piece (set.contains t0.broken c) (ended_on c t0.came || s0.over) (left_at core c) d.old d.kept w.0 w.1.more (a.sent c) x.sent d.was (a.right c (subst (λ (y : Listening). c < y.opened) p.4 less)) x.meets x.unchanged))
+              (i + reads x.sent)
+              (let q = sum_at s.opened c (reads x.sent) (λ d. reads (a.sent d)) (λ d. reads (with_own c (a.sent c ++ x.sent) a.sent d)) (λ d other. ap reads (other_at c d (a.sent c ++ x.sent) a.sent other)) (let z = reads-append (a.sent c) x.sent in omega (arith, z, ap reads (own_at c (a.sent c ++ x.sent) a.sent))) in
+              let f : sum_below s.opened (λ d. reads (a.sent d)) ≤ i = subst (λ (y : Listening). sum_below y.opened (λ d. reads (a.sent d)) ≤ i) (sym p.4) a.few in
+              omega (arith, q, f)));
+        },
+        x.rose,
+      );
+}
 
 -- ---- a connection that opens
 unequal : (c d : ℕ) → d ≢ c → (c == d) ≡ false
@@ -220,65 +221,69 @@ or_false_is : (a b : Bool) → b ≡ false → (a || b) ≡ a
 or_false_is a b h = ap (λ x. a || x) h ∙ or_false a
 
 pub opened_stays : (k : Corpus) (core core' : Slots) (c : ℕ) (piece : List ℕ) (s s' : Listening) (m : ℕ) (talk talk' : Option Talk) → Greets core core' c s s' talk talk' → HasLive core' s' → (IsOrderly s talk → IsOrderly s' talk') → StaysRight k core core' (Opened c) piece s s' talk talk' m m
-opened_stays k core core' c piece s s' m talk talk' greets live orderly = record { stays = λ s0 talk0 room i h e.
-    let p = e.happens in
-    let g = greeted core core' c s s' talk talk' greets in (
-      0,
-      record {
-        live = live;
-        orderly = orderly e.orderly;
-        right = lift (λ u. AreRight k core' s' u (i + 0)) c g.1.more g.1.fails (came_of (Opened c) piece) talk0 talk talk' e.came g.1.spoke (λ t0 u at did.
-            let a = h.right t0 at in
-            let fresh = h.orderly.fresh t0 at c (let l : s0.opened ≤ c = omega (arith, p.1) in l) in
-            let silent = silent_before c t0.came fresh.0 in
-            all_right k core core' c g.0 s0 s s' t0 u (came_of (Opened c) piece) g.1.more g.1.fails a.sent [] g.1.acted did
-            (record {
-              silent = λ q other. (refl, refl);
-              opened = λ q less other. below_next q c s0.opened s.opened (ap (λ (y : Listening). y.opened) p.3) less other p.1;
-              over = ap (λ (y : Listening). y.over) p.3;
-            })
-            a.right
-            (λ less.
-            right_as k [] _ g.1.more _ g.1.fails _ false _ g.0 g.0 []
-            (append-nil (bytes_on c t0.came) ∙ silent.0) (ap (λ l. l ++ g.1.more) fresh.1) (or_false_is g.1.fails (set.contains t0.broken c) fresh.2)
-            (ap (λ b. (b || false) || s.over) silent.1 ∙ ap (λ (y : Listening). y.over) p.3 ∙ p.0) refl (g.1.stands k))
-            (i + 0)
-            (let q = sum_new s0.opened s.opened c (λ d. reads (a.sent d)) (λ d. reads (with_own c [] a.sent d)) (λ d other. ap reads (other_at c d [] a.sent other)) (ap reads (own_at c [] a.sent)) p.1 (ap (λ (y : Listening). y.opened) p.3) in
-            let f = a.few in
-            omega (arith, q, f)));
-      },
-      rose_none m m (omega arith),
-    ) }
+opened_stays k core core' c piece s s' m talk talk' greets live orderly = record {
+  stays = λ s0 talk0 room i h e.
+      let p = e.happens in
+      let g = greeted core core' c s s' talk talk' greets in (
+        0,
+        record {
+          live = live;
+          orderly = orderly e.orderly;
+          right = lift (λ u. AreRight k core' s' u (i + 0)) c g.1.more g.1.fails (came_of (Opened c) piece) talk0 talk talk' e.came g.1.spoke (λ t0 u at did.
+              let a = h.right t0 at in
+              let fresh = h.orderly.fresh t0 at c (let l : s0.opened ≤ c = omega (arith, p.1) in l) in
+              let silent = silent_before c t0.came fresh.0 in
+              all_right k core core' c g.0 s0 s s' t0 u (came_of (Opened c) piece) g.1.more g.1.fails a.sent [] g.1.acted did
+              (record {
+                silent = λ q other. (refl, refl);
+                opened = λ q less other. below_next q c s0.opened s.opened (ap (λ (y : Listening). y.opened) p.3) less other p.1;
+                over = ap (λ (y : Listening). y.over) p.3;
+              })
+              a.right
+              (λ less.
+              right_as k [] _ g.1.more _ g.1.fails _ false _ g.0 g.0 []
+              (append-nil (bytes_on c t0.came) ∙ silent.0) (ap (λ l. l ++ g.1.more) fresh.1) (or_false_is g.1.fails (set.contains t0.broken c) fresh.2)
+              (ap (λ b. (b || false) || s.over) silent.1 ∙ ap (λ (y : Listening). y.over) p.3 ∙ p.0) refl (g.1.stands k))
+              (i + 0)
+              (let q = sum_new s0.opened s.opened c (λ d. reads (a.sent d)) (λ d. reads (with_own c [] a.sent d)) (λ d other. ap reads (other_at c d [] a.sent other)) (ap reads (own_at c [] a.sent)) p.1 (ap (λ (y : Listening). y.opened) p.3) in
+              let f = a.few in
+              omega (arith, q, f)));
+        },
+        rose_none m m (omega arith),
+      );
+}
 
 -- ---- a connection that ended
 pub ended_stays : (k : Corpus) (core core' : Slots) (c : ℕ) (piece : List ℕ) (s : Listening) (m : ℕ) (talk : Option Talk) → Acted core core' c None s s → HasLive core' s → StaysRight k core core' (Ended c) piece s s talk talk m m
-ended_stays k core core' c piece s m talk acted live = record { stays = λ s0 talk0 room i h e.
-    let p = e.happens in (
-      0,
-      record {
-        live = live;
-        orderly = e.orderly;
-        right = lift (λ u. AreRight k core' s u (i + 0)) c [] false (came_of (Ended c) piece) talk0 talk talk e.came (spoke_nothing c talk) (λ t0 u at did.
-            let a = h.right t0 at in
-            all_right k core core' c None s0 s s t0 u (came_of (Ended c) piece) [] false a.sent (a.sent c) acted did
-            (record {
-              silent = λ q other. (refl, other);
-              opened = λ q less other. subst (λ (y : Listening). q < y.opened) p.2 less;
-              over = ap (λ (y : Listening). y.over) p.2;
-            })
-            a.right
-            (λ less.
-            right_as k (bytes_on c t0.came) _ (sent_on t0 c) _ (set.contains t0.broken c) _ true _ None None (a.sent c)
-            (append-nil (bytes_on c t0.came)) (append-nil (sent_on t0 c)) refl
-            (ap (λ b. (ended_on c t0.came || b) || s.over) (itself c) ∙ ap (λ b. b || s.over) (or_true (ended_on c t0.came))) refl
-            (let_go k (bytes_on c t0.came) (sent_on t0 c) (set.contains t0.broken c) (ended_on c t0.came || s0.over) (left_at core c) (a.sent c) (a.right c (subst (λ (y : Listening). c < y.opened) p.2 less))))
-            (i + 0)
-            (let q = sum_at s.opened c 0 (λ d. reads (a.sent d)) (λ d. reads (with_own c (a.sent c) a.sent d)) (λ d other. ap reads (other_at c d (a.sent c) a.sent other)) (omega (arith, ap reads (own_at c (a.sent c) a.sent))) in
-            let f : sum_below s.opened (λ d. reads (a.sent d)) ≤ i = subst (λ (y : Listening). sum_below y.opened (λ d. reads (a.sent d)) ≤ i) (sym p.2) a.few in
-            omega (arith, q, f)));
-      },
-      rose_none m m (omega arith),
-    ) }
+ended_stays k core core' c piece s m talk acted live = record {
+  stays = λ s0 talk0 room i h e.
+      let p = e.happens in (
+        0,
+        record {
+          live = live;
+          orderly = e.orderly;
+          right = lift (λ u. AreRight k core' s u (i + 0)) c [] false (came_of (Ended c) piece) talk0 talk talk e.came (spoke_nothing c talk) (λ t0 u at did.
+              let a = h.right t0 at in
+              all_right k core core' c None s0 s s t0 u (came_of (Ended c) piece) [] false a.sent (a.sent c) acted did
+              (record {
+                silent = λ q other. (refl, other);
+                opened = λ q less other. subst (λ (y : Listening). q < y.opened) p.2 less;
+                over = ap (λ (y : Listening). y.over) p.2;
+              })
+              a.right
+              (λ less.
+              right_as k (bytes_on c t0.came) _ (sent_on t0 c) _ (set.contains t0.broken c) _ true _ None None (a.sent c)
+              (append-nil (bytes_on c t0.came)) (append-nil (sent_on t0 c)) refl
+              (ap (λ b. (ended_on c t0.came || b) || s.over) (itself c) ∙ ap (λ b. b || s.over) (or_true (ended_on c t0.came))) refl
+              (let_go k (bytes_on c t0.came) (sent_on t0 c) (set.contains t0.broken c) (ended_on c t0.came || s0.over) (left_at core c) (a.sent c) (a.right c (subst (λ (y : Listening). c < y.opened) p.2 less))))
+              (i + 0)
+              (let q = sum_at s.opened c 0 (λ d. reads (a.sent d)) (λ d. reads (with_own c (a.sent c) a.sent d)) (λ d other. ap reads (other_at c d (a.sent c) a.sent other)) (omega (arith, ap reads (own_at c (a.sent c) a.sent))) in
+              let f : sum_below s.opened (λ d. reads (a.sent d)) ≤ i = subst (λ (y : Listening). sum_below y.opened (λ d. reads (a.sent d)) ≤ i) (sym p.2) a.few in
+              omega (arith, q, f)));
+        },
+        rose_none m m (omega arith),
+      );
+}
 
 -- ---- the end of all
 over_right : (k : Corpus) (core core' : Slots) (s0 s s' : Listening) (t0 u : Talk) (piece : List ℕ) (i : ℕ) → AreRight k core s0 t0 i → Did 0 [] false (hears (came_of Over piece) t0) u → ((d : ℕ) → (sent_on u d ≡ sent_on t0 d) × (set.contains u.broken d ≡ set.contains t0.broken d))
@@ -303,16 +308,18 @@ still_told t u did d = by_conn (λ d. (sent_on u d ≡ sent_on t d) × (set.cont
 
 pub over_stays : (k : Corpus) (core core' : Slots) (piece : List ℕ) (s s' : Listening) (m : ℕ) (talk talk' : Option Talk) → talk' ≡ talk → s' ≡ record s { live = s'.live } → ((d : ℕ) → left_at core' d ≡ None) → HasLive core' s' → (IsOrderly s talk → IsOrderly s' talk')
     → StaysRight k core core' Over piece s s' talk talk' m m
-over_stays k core core' piece s s' m talk talk' same q none live orderly = record { stays = λ s0 talk0 room i h e. (
-  0,
-  record {
-    live = live;
-    orderly = orderly e.orderly;
-    right = lift (λ u. AreRight k core' s' u (i + 0)) 0 [] false (came_of Over piece) talk0 talk talk' e.came (subst (Spoke 0 [] false talk) (sym same) (spoke_nothing 0 talk)) (λ t0 u at did.
-        over_right k core core' s0 s s' t0 u piece i (h.right t0 at) did (still_told (hears (came_of Over piece) t0) u did) e.happens q none);
-  },
-  rose_none m m (omega arith),
-) }
+over_stays k core core' piece s s' m talk talk' same q none live orderly = record {
+  stays = λ s0 talk0 room i h e. (
+    0,
+    record {
+      live = live;
+      orderly = orderly e.orderly;
+      right = lift (λ u. AreRight k core' s' u (i + 0)) 0 [] false (came_of Over piece) talk0 talk talk' e.came (subst (Spoke 0 [] false talk) (sym same) (spoke_nothing 0 talk)) (λ t0 u at did.
+          over_right k core core' s0 s s' t0 u piece i (h.right t0 at) did (still_told (hears (came_of Over piece) t0) u did) e.happens q none);
+    },
+    rose_none m m (omega arith),
+  );
+}
 
 -- ---- other connections
 spoke_others : (c : ℕ) (more : List ℕ) (fails : Bool) (talk talk' : Option Talk) → Spoke c more fails talk talk' → ForSome talk (λ t. ForSome talk' (λ u. (d : ℕ) → (d == c) ≡ false → (sent_on u d ≡ sent_on t d) × (set.contains u.broken d ≡ set.contains t.broken d)))

@@ -15,7 +15,7 @@ use Rattle.cs_model_serving.specs.Responses.{Response, response_bytes, all_bytes
 use Rattle.cs_model_serving.specs.Connections.{Served, Left, MayReplace, serve, waits, answers_on}
 use Rattle.cs_model_serving.specs.ServingLaws.{answers_before}
 use Rattle.cs_model_serving.proofs.ServeLemmas.{serve-more}
-use Rattle.cs_hub.specs.Speaking.{Calm, IsServed, IsEnded, Says}
+use Rattle.cs_hub.specs.Speaking.{Calm, IsEnded}
 use Rattle.cs_hub.specs.Turns.{IsOne, IsAlong, Along, GoesOn, Kept, HoldsOn, Holds, Stops, Received}
 use Rattle.cs_hub.proofs.SpeakLemmas.{rose_none, spoke_nothing, says_both}
 use Rattle.cs_hub.proofs.ServedLemmas.{all_nil, zip_both, bytes_both, ended_behind}
@@ -83,7 +83,7 @@ pub along_stop : (Over Later : Corpus → Type 0) (c : ℕ) (b left : List ℕ) 
 along_stop Over Later c b left m n o talk mid talk' still h s = (
   s.0,
   says_both Over Later c s.0 (λ k more sent. IsAlong k b left more sent) (λ k more sent. IsEnded (serve k left) more s.0 sent) (λ k more sent. IsEnded (serve k b) more s.0 sent) m n o talk mid talk' still
-  (λ k x y xs ys. all_stopped k b left s.0 x y xs ys) h s.1,
+      (λ k x y xs ys. all_stopped k b left s.0 x y xs ys) h s.1,
 )
 
 -- ---- what the hub keeps

@@ -3,7 +3,7 @@
 --   seen_count   as many bytes were seen as there are
 --   open_none, open_more     no bytes are unread, or those in which no head ended
 --   span_of, span_front      where a head lies among unread bytes and those that came
-use Rattle.std.proofs.Common.{◌≡◌, ℕ, ◌+◌, ◌-◌, ◌<◌, ◌≤◌, List, [], ◌++◌, length, take, refl, sym, ◌∙◌, ap, subst, arith, length-append}
+use Rattle.std.proofs.Common.{◌≡◌, ℕ, ◌+◌, ◌-◌, ◌<◌, ◌≤◌, List, [], ◌++◌, length, take, sym, ap, subst, arith, length-append}
 use Rattle.std.proofs.lemmas.List.{length-take-le}
 use Rattle.cs_base.specs.declared.content.limits.TheConstants.{MAX_HEAD_BYTES}
 use Rattle.cs_http.specs.declared.framing.Seen.{Seen}

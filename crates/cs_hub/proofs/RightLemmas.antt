@@ -5,20 +5,20 @@
 --   fresh_right        one that opened
 --   refused_right, cut_right      one that opened and was told want of memory
 --   let_go             one that isn't kept any more
-use Rattle.std.proofs.Common.{◌≡◌, ◌⊎◌, inl, inr, ℕ, ◌+◌, ◌-◌, ◌<◌, ◌≤◌, Bool, true, false, ◌||◌, List, [], ◌∷◌, ◌++◌, length, take, drop, refl, sym, ◌∙◌, ap, subst, arith, length-append}
+use Rattle.std.proofs.Common.{◌≡◌, inl, inr, ℕ, ◌+◌, ◌-◌, ◌<◌, ◌≤◌, Bool, true, false, ◌||◌, List, [], ◌++◌, length, take, drop, refl, sym, ◌∙◌, ap, subst, arith, length-append}
 use Rattle.std.specs.Prelude.{Option, Some, None, nat_le, All}
 use Rattle.std.proofs.lemmas.Bool.Decides.{nat_tests}
 use Rattle.std.proofs.lemmas.List.{take-append-drop}
 use Rattle.cs_base.specs.declared.content.limits.TheConstants.{MAX_CONNECTION_BYTES}
 use Rattle.cs_base.specs.outside.Hub.{Talk}
 use Rattle.cs_model.specs.Corpus.{Corpus}
-use Rattle.cs_model_serving.specs.Responses.{Response, all_bytes, memory_bytes}
-use Rattle.cs_model_serving.specs.Connections.{Served, Left, serve, answers, is_finished, IsAnswered, IsStopped, IsFair, StandsLive, StandsShut, StandsBy, waits, reads, changes}
+use Rattle.cs_model_serving.specs.Responses.{Response, memory_bytes}
+use Rattle.cs_model_serving.specs.Connections.{Served, Left, serve, answers, is_finished, IsAnswered, IsStopped, IsFair, StandsLive, StandsShut, StandsBy, waits}
 use Rattle.cs_model_serving.specs.ServingLaws.{answers_before}
 use Rattle.cs_model_serving.proofs.FrameLemmas.{take_both, frame-nil}
 use Rattle.cs_model_serving.proofs.ServeLemmas.{serve-goes_on, serve-more}
 use Rattle.cs_hub.specs.Following.{HasCause, IsRight}
-use Rattle.cs_hub.specs.Speaking.{IsServed, IsCutShort, IsMet, IsEnded, IsCounted, Says}
+use Rattle.cs_hub.specs.Speaking.{IsServed, IsCutShort, IsMet, IsEnded, Says}
 use Rattle.cs_hub.specs.Turns.{HoldsOn, Received}
 use Rattle.cs_hub.proofs.ServedLemmas.{all_nil, zip_going, served_both, ended_behind, plain}
 

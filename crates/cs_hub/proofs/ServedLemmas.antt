@@ -5,7 +5,7 @@
 --   zip_going                    what stands in the place of responses that close nothing closes nothing
 --   served_both, cut_behind, met_behind, ended_behind     responses behind some first ones
 --   plain                        no response that is served says Read or Changed, and while the connection goes on none closes it
-use Rattle.std.proofs.Common.{◌≡◌, inl, inr, ℕ, suc, ◌+◌, Bool, true, false, List, [], ◌∷◌, ◌++◌, length, drop, slice_range, append_assoc, append-nil, refl, sym, ◌∙◌, ap, ap₂, subst, arith}
+use Rattle.std.proofs.Common.{◌≡◌, inl, inr, ℕ, suc, ◌+◌, Bool, true, false, List, [], ◌∷◌, ◌++◌, length, drop, slice_range, append_assoc, refl, sym, ◌∙◌, ap, ap₂, subst, arith}
 use Prim.Native.Nat.{zero}
 use Rattle.std.specs.Prelude.{All, cond}
 use Rattle.std.specs.List.{AllZip}
@@ -16,7 +16,7 @@ use Rattle.cs_model.specs.Corpus.{Corpus}
 use Rattle.cs_model_serving.specs.declared.framed.Framed.{Framed}
 use Rattle.cs_model_serving.specs.declared.framed.Framed.TheVariants.{Head, More, TooLong}
 use Rattle.cs_model_serving.specs.Framing.{frame}
-use Rattle.cs_model_serving.specs.Responses.{Response, response_bytes, response_to, all_bytes, memory_bytes, read_failed, index_changed, too_long}
+use Rattle.cs_model_serving.specs.Responses.{Response, response_bytes, response_to, all_bytes, memory_bytes}
 use Rattle.cs_model_serving.specs.Connections.{Served, waits, answered_by, framed, serve_heads, serve, MayReplace, is_read, is_changed, reads, changes}
 use Rattle.cs_model_serving.specs.ServingLaws.{answers_before}
 use Rattle.cs_model_serving.proofs.CountLemmas.{answer_counts}

@@ -3,7 +3,7 @@
 --   held_within, set_at, unset_at, none_at, padded_at, replicate-push     reading and setting a slot
 --   live_le, live_none, live_some, some_held, padded_count                counting
 --   padded_weight, set_weight                                             weighing
-use Rattle.std.proofs.Common.{◌≡◌, ℕ, suc, ◌+◌, ◌<◌, ◌≤◌, ◌==◌, true, false, cond, [], ◌∷◌, ◌++◌, length, slice_set, refl, sym, ◌∙◌, ap, subst, arith}
+use Rattle.std.proofs.Common.{◌≡◌, ℕ, suc, ◌+◌, ◌<◌, ◌≤◌, ◌==◌, true, cond, [], ◌∷◌, ◌++◌, length, slice_set, refl, sym, ◌∙◌, ap, arith}
 use Prim.Native.Nat.{zero}
 use Rattle.std.specs.Prelude.{Option, Some, None, is_some, replicate}
 use Rattle.std.proofs.lemmas.List.{get_or-set_same, get_or-set_other, set-get_or}

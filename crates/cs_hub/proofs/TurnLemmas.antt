@@ -7,14 +7,13 @@
 --   found_head, found_more, found_long    what looking found, as framing
 --   head_bytes        the bytes of a head, some of which were unread
 use Rattle.std.proofs.Common.{ap₂, ◌≡◌, ◌⊎◌, inl, inr, ℕ, ◌+◌, ◌-◌, ◌<◌, ◌≤◌, Bool, true, false, List, [], ◌∷◌, ◌++◌, length, take, drop, slice_range, append_assoc, append-nil, refl, sym, ◌∙◌, ap, subst, arith, length-append, length-drop}
-use Rattle.std.specs.Prelude.{Option, cond, All, Result, Ok, Err, IfOk}
+use Rattle.std.specs.Prelude.{Option, cond, Result, Ok, Err, IfOk}
 use Rattle.std.specs.List.{AllZip}
 use Rattle.std.proofs.lemmas.List.{take-append-drop, take-append-le, drop-append-le, length-take-le}
 use Rattle.std.proofs.Math.Seq.{drop-append-add}
 use Rattle.cs_base.specs.outside.Hub.{Talk}
 use Rattle.cs_base.specs.declared.memory.Memory.{Memory}
 use Rattle.cs_http.specs.declared.framing.Seen.{Seen}
-use Rattle.cs_http.specs.declared.framing.Look.{Look}
 use Rattle.cs_http.specs.declared.framing.Look.TheVariants.{Head, More, TooLong}
 use Rattle.cs_http.specs.Looking.{look_by, look_of}
 use Rattle.cs_model.specs.Corpus.{Corpus}
@@ -29,8 +28,8 @@ use Rattle.cs_hub.specs.declared.reading.Turn.TheVariants.{Next, Holds, Stops as
 use Rattle.cs_hub.specs.declared.answer.Answer.{Answer}
 use Rattle.cs_hub.specs.Responding.{response}
 use Rattle.cs_hub.specs.Streams.{RoseBy}
-use Rattle.cs_hub.specs.Speaking.{Said, Starved, IsCutShort, IsServed, IsEnded, Says}
-use Rattle.cs_hub.specs.Turns.{IsFor, IsGiven, Delivered, IsSent, Replied, IsOne, IsHeld, IsRefused, GoesOn, Stops, Turned}
+use Rattle.cs_hub.specs.Speaking.{Said, Starved, IsCutShort, IsEnded, Says}
+use Rattle.cs_hub.specs.Turns.{IsGiven, Delivered, IsSent, Replied, IsOne, IsHeld, IsRefused, GoesOn, Stops, Turned}
 use Rattle.cs_hub.proofs.SpeakLemmas.{rose_none}
 use Rattle.cs_hub.proofs.ServedLemmas.{all_nil, zip_same, same_closing, plain, reads_cons, changes_cons}
 

@@ -14,15 +14,15 @@
 --   came_by talk                     how many events came
 --   Went                             how a round went
 --   StaysServed                      what a round keeps
-use Rattle.std.specs.Prelude.{◌≡◌, ◌⊎◌, ℕ, ◌+◌, ◌-◌, ◌*◌, ◌<◌, ◌≤◌, Bool, true, false, ◌==◌, cond, List, [], length, Option, Some, None, is_some, map}
+use Rattle.std.specs.Prelude.{◌≡◌, ◌⊎◌, ℕ, ◌+◌, ◌-◌, ◌*◌, ◌<◌, ◌≤◌, Bool, true, false, ◌==◌, cond, List, [], length, Option, Some, None, is_some}
 use Rattle.std.specs.List.{sum_by}
-use Rattle.std.specs.Option.{ForSome, option_map}
+use Rattle.std.specs.Option.{option_map}
 use Rattle.std.specs.FinSet as set
 use Rattle.cs_base.specs.declared.content.limits.TheConstants.{MAX_CONNECTION_BYTES}
 use Rattle.cs_base.specs.declared.outside.hub.Event.{Event}
 use Rattle.cs_base.specs.declared.outside.hub.Event.TheVariants.{Opened, Piece, Ended, Over}
 use Rattle.cs_base.specs.outside.Causes.{Rose}
-use Rattle.cs_base.specs.outside.Hub.{Came, Listening, Talk, IsOrderly}
+use Rattle.cs_base.specs.outside.Hub.{Listening, Talk}
 use Rattle.cs_model.specs.Corpus.{Corpus}
 use Rattle.cs_model_serving.specs.Connections.{Left}
 use Rattle.cs_hub.specs.declared.rounds.Round.{Round}

@@ -14,7 +14,7 @@
 --   IsEnded a s fails sent   what is served was met, and nothing more is to be sent; where a send failed, some first bytes were
 --   IsCounted P before now   some responses meet P; none says Changed, and as many say Read as failures were counted at most
 --   Says                     what was sent on a connection, and by each corpus that is answered over what it meets
-use Rattle.std.specs.Prelude.{◌≡◌, ◌⊎◌, refl, ℕ, Bool, true, false, ◌||◌, ◌==◌, List, [], ◌++◌, take, All, Option, Some, None}
+use Rattle.std.specs.Prelude.{◌≡◌, ◌⊎◌, refl, ℕ, Bool, true, false, ◌||◌, ◌==◌, List, ◌++◌, take, All, Option, Some, None}
 use Rattle.std.specs.Coded.{Coded, code_by, coded×, coded_list, coded_ℕ}
 use Rattle.std.specs.FinSet as set
 use Rattle.std.specs.List.{AllZip}

@@ -10,7 +10,7 @@
 --   IsHeld, IsRefused        what was done where no head ends: the bytes were kept, or more can't come
 --   GoesOn, Kept, Stops      what a turn did: a head was answered; none ends there; the connection is to be closed
 --   Turned                   these by what the turn gave
---   HoldsOn                  all that is served was sent, and the connection goes on
+--   HoldsOn, Holds           all that is served was sent, and the connection goes on
 --   Reads                    what the bytes of a piece did, by whether the connection goes on
 --   Received                 what a piece did, by what is kept of the connection
 --   IsAlong, Along           on the way through the bytes, some first responses were sent
@@ -32,7 +32,7 @@ use Rattle.cs_hub.specs.declared.reading.Turn.TheVariants as turns
 use Rattle.cs_hub.specs.declared.answer.Answer.{Answer}
 use Rattle.cs_hub.specs.Responding.{response}
 use Rattle.cs_hub.specs.Streams.{RoseBy}
-use Rattle.cs_hub.specs.Speaking.{Spoke, Said, Starved, IsServed, IsEnded, Says}
+use Rattle.cs_hub.specs.Speaking.{Spoke, Starved, IsServed, IsEnded, Says}
 
 -- ---- unread bytes
 -- no head ends in the bytes, which may be none, and what was seen of them is kept

@@ -15,6 +15,8 @@ mod saying;
 mod serving;
 mod slots;
 mod steps;
+#[cfg(test)]
+mod tests;
 
 pub use serving::{ServeEnd, serve};
 pub use slots::Core;

@@ -118,7 +118,10 @@ fn reply_to<A: Answerer>(
     let (status, body) = match answerer.reply(alloc, request) {
         Ok(reply) => (200, reply_bytes(alloc, &reply)?),
         Err(AskFault::Read) => (500, fault_bytes(alloc, &Fault::Read)?),
-        Err(AskFault::Changed { rule, at }) => (500, fault_bytes(alloc, &Fault::Changed { rule, at })?),
+        Err(AskFault::Changed { rule, at }) => (
+            500,
+            fault_bytes(alloc, &Fault::Changed { rule, at })?,
+        ),
         Err(AskFault::Memory) => return Err(Memory),
     };
     Ok(Answer {

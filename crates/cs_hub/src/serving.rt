@@ -72,8 +72,8 @@ pub fn serve<S: Store, H: Hub>(
     serve_over(alloc, &mut asking, hub, conns)
 }
 
-// The same over anything that answers requests.
-fn serve_over<A: Answerer, H: Hub>(
+/// The same over anything that answers requests.
+pub(crate) fn serve_over<A: Answerer, H: Hub>(
     alloc: Global,
     answerer: &mut A,
     hub: &mut H,

@@ -1,6 +1,5 @@
 use Rattle.std.proofs.Common.{subst}
 use Rattle.std.proofs.lemmas.Result.{IfOk-weaker}
-use Rattle.std.specs.Prelude.{IfOk}
 use Rattle.cs_hub.specs.Responding.{response, IsJudgedSo}
 use Rattle.cs_hub.specs.Turns.{IsGiven}
 use Rattle.cs_model_serving.specs.Responses.{to_params, response_to}

@@ -1,7 +1,7 @@
 use Rattle.std.proofs.Common.{sym, ◌∙◌, ap, length}
 use Rattle.std.specs.Option.{option_map}
 use Rattle.cs_base.specs.outside.Hub.{hears}
-use Rattle.cs_hub.proofs.RoundLemmas.{before_step, came_one, none_live}
+use Rattle.cs_hub.proofs.RoundLemmas.{before_step}
 use Rattle.cs_hub.proofs.rounds.take_turn.Goals as goal
 
 pub step_with-requires-clause-live : goal.step_with-requires-clause-live

@@ -1,4 +1,4 @@
-use Rattle.std.proofs.Common.{arith, ◌≡◌, ◌++◌, ◌-◌, take, drop, length, slice_range, subst, refl, ◌∙◌, ap}
+use Rattle.std.proofs.Common.{arith, ◌≡◌, ◌++◌, length, slice_range, ap}
 use Rattle.std.proofs.lemmas.Grind.{common_steps}
 use Rattle.cs_hub.proofs.ReadingLemmas.{open_none}
 use Rattle.cs_hub.proofs.TurnLemmas.{replied_by}

@@ -1,4 +1,4 @@
-use Rattle.std.proofs.Common.{arith, ◌≡◌, ◌++◌, ◌-◌, length, sym, ap}
+use Rattle.std.proofs.Common.{arith, ◌≡◌, ◌++◌, ◌-◌, length, ap}
 use Rattle.cs_hub.proofs.ReadingLemmas.{span_of, span_front}
 use Rattle.cs_hub.proofs.TurnLemmas.{found_head, found_more, found_long, turned_goes, turned_stops, turned_long, turned_held}
 use Rattle.cs_hub.proofs.reading.Reading.turn.Goals as goal

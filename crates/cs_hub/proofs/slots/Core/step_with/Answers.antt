@@ -1,10 +1,10 @@
 use Rattle.std.proofs.Common.{sym, subst}
 use Rattle.std.specs.Prelude.{None}
 use Rattle.cs_base.specs.declared.outside.hub.Event.{Event}
-use Rattle.cs_base.specs.declared.outside.hub.Event.TheVariants.{Opened, Piece, Ended, Over}
-use Rattle.cs_hub.specs.Following.{HasLiveBut, IsWhole, LeavesOthers, StaysRight}
+use Rattle.cs_base.specs.declared.outside.hub.Event.TheVariants.{Opened, Piece, Ended}
+use Rattle.cs_hub.specs.Following.{HasLiveBut, IsWhole, StaysRight}
 use Rattle.cs_hub.proofs.ActLemmas.{acted_live, ended_acted}
-use Rattle.cs_hub.proofs.EventLemmas.{greeted, opened_stays, opened_others, opened_came, piece_stays, piece_others, piece_came, ended_stays, ended_others, over_stays}
+use Rattle.cs_hub.proofs.EventLemmas.{greeted, opened_stays, piece_stays, ended_stays, over_stays}
 use Rattle.cs_hub.proofs.slots.Core.step_with.Goals as goal
 
 pub returns-in-Opened-clause-follows : goal.returns-in-Opened-clause-follows
