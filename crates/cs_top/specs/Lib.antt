@@ -1,4 +1,5 @@
 pub mod Ask
+pub mod Build
 pub mod Commands
 pub mod Endings
 pub mod Met

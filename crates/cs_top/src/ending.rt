@@ -8,7 +8,7 @@ ghost use Rattle.cs_top.specs.Views.{collection_ending, collection_refusal_of, e
 use crate::collection::CollectionFault;
 use crate::lines::{ScriptFault, ScriptStop};
 use crate::said::{Said, put_said};
-use cs_base::Sink;
+use cs_base::{Failed, Sink};
 use cs_docs::Reason;
 
 const USAGE: &[u8] =
@@ -66,6 +66,17 @@ impl<'a> Stop<'a> {
             Stop::Memory => of_run(MEMORY),
             Stop::Script(fault) => of_reason(b"script: ", fault.reason()),
         }
+    }
+}
+
+impl From<Failed> for Stop<'_> {
+    ghost use Rattle.std.specs.Prelude.{◌≡◌};
+    ghost use Rattle.cs_top.specs.declared.ending.Stop.{Stop};
+
+    ghost from_gives = { λ _ stop. stop ≡ Stop.Failed };
+
+    fn from(_: Failed) -> Self {
+        Stop::Failed
     }
 }
 

@@ -4,6 +4,7 @@
 #![tactic(auto)]
 
 mod ask;
+mod build;
 mod collection;
 mod command;
 mod ending;

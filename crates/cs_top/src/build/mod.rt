@@ -1,0 +1,4 @@
+//! `build COLLECTION INDEX`: the index file of a collection.
+mod saving;
+
+pub(crate) use saving::save;
