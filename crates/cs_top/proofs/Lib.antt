@@ -1,4 +1,5 @@
 pub mod AnsweredLemmas
+pub mod BuildLemmas
 pub mod AskLemmas
 pub mod CompleteLemmas
 pub mod Examples
