@@ -20,6 +20,7 @@ use Rattle.cs_model.specs.Collection.{CollectionRefusal}
 use Rattle.cs_model.specs.Corpus.{refusal}
 use Rattle.cs_model.specs.Outputs.{ScriptFault, script_line_too_long, script_line_not_utf8}
 use Rattle.cs_docs.specs.Refusals.{refusal_of, rows_refusal_of, words_said}
+use Rattle.cs_build.specs.Building.{build_refusal_of}
 use Rattle.cs_engine.specs.Searching.{corpus_refusal_of}
 use Rattle.cs_top.specs.Commands.{Command, build, ask, replay, serve, trial}
 use Rattle.cs_top.specs.Endings.{Ending, done, not_built, usage, refused, absent, failed, no_memory, script_refused}
@@ -46,6 +47,7 @@ abbrev pub collection_refusal_of : CollectionFault → Option CollectionRefusal
 collection_refusal_of (faults.Documents f) = refusal_of f
 collection_refusal_of (faults.Rows f) = rows_refusal_of f
 collection_refusal_of (faults.Words f) = corpus_refusal_of f
+collection_refusal_of (faults.Image f) = build_refusal_of f
 
 -- where it is no want of memory, it is the first refusal of the collection
 abbrev pub IsCause : List ℕ → CollectionFault → Type 0
