@@ -6,6 +6,7 @@
 
 mod building;
 mod fault;
+pub mod laws;
 
 pub use building::image;
 pub use fault::BuildFault;

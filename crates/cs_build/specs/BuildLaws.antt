@@ -1,0 +1,18 @@
+-- What a collection's documents and rows keep, so that its image has a file.
+--
+-- Source: this engine's own.
+--
+--   TitlesAreParts        titles together have at most as many bytes as the collection
+--   TitlesHaveFewBytes    so those of a collection that isn't refused have few enough for a file
+use Rattle.std.specs.Prelude.{◌≡◌, ℕ, ◌^◌, ◌<◌, ◌≤◌, List, length, map, None}
+use Rattle.cs_model.specs.Collection.{docs_refusal, documents}
+use Rattle.cs_model.specs.Corpus.{title_of}
+use Rattle.cs_model_index.specs.Layout.{title_bytes}
+
+-- of any bytes; of no bytes there are no titles
+abbrev pub TitlesAreParts : Type 0
+TitlesAreParts = (c : List ℕ) → length (title_bytes (map title_of (documents c))) ≤ length c
+
+-- a place in the titles is a number of four bytes
+abbrev pub TitlesHaveFewBytes : Type 0
+TitlesHaveFewBytes = (c : List ℕ) → docs_refusal c ≡ None → length (title_bytes (map title_of (documents c))) < 2 ^ 32
