@@ -6,9 +6,11 @@ use Rattle.std.specs.FinMap as map
 use Rattle.cs_base.specs.outside.Causes.{Rose}
 use Rattle.cs_base.specs.outside.Outside.{Held, File, IsHeld}
 use Rattle.cs_model.specs.Outputs.{MayPut, first_fault, readable_lines, script_lines}
+use Rattle.cs_model_index.specs.Images.{Image}
 use Rattle.cs_top.specs.Ask.{AskRan, AskStops, AskScript, AskTold, CanAsk, AskAnswer, asks_join}
+use Rattle.cs_top.specs.Build.{BuildRan, BuildStops, BuildTold, BuildWrites, CanBuild}
 use Rattle.cs_top.specs.Commands.{Command, build, ask, replay, serve, trial}
-use Rattle.cs_top.specs.Endings.{Ending, done, not_built, usage, refused, absent, failed, no_memory, script_refused, status, Caused}
+use Rattle.cs_top.specs.Endings.{Ending, done, not_built, usage, refused, absent, failed, no_memory, script_refused, status, Caused, CausedBy}
 use Rattle.cs_top.specs.Met.{Met, Wrote, held_bytes}
 use Rattle.cs_top.specs.Runs.{Completes, Ran}
 use Rattle.cs_top.specs.Scripts.{ScriptEnds, IsAnswerable, StopsBefore}
@@ -60,9 +62,37 @@ told : (e : Ending) (h : Held) (c s : List ℕ) (w : Wrote) → AskTold e h c s 
 told e h c s w (inl a) can calm = stopped e h c s can a.0 calm
 told e h c s w (inr a) can calm = scripted _ asks_join e (script_lines (held_bytes h s)) a.1.0 w can.1 a.1.1 calm
 
+unmade : (e : Ending) (h : Held) (c : List ℕ) → CanBuild h c → BuildStops e h c → (e ≡ failed → ⊥) → IsWell e
+unmade (absent n) h c can a calm = absurd (missing (map.get h c) can.0 a.1)
+unmade (refused r) h c can (held, is) calm = let e : Some r ≡ None = sym is ∙ can.1 in absurd cc
+unmade no_memory h c can a calm = inr refl
+unmade failed h c can a calm = absurd (calm refl)
+unmade done h c can a calm = absurd a
+unmade not_built h c can a calm = absurd a
+unmade usage h c can a calm = absurd a
+unmade (script_refused f) h c can a calm = absurd a
+
+written : (e : Ending) (h : Held) (i : List ℕ) (x : Image) (now : Option Held) → BuildWrites e h i x now → (e ≡ failed → ⊥) → IsWell e
+written done h i x now a calm = inl refl
+written no_memory h i x now a calm = inr refl
+written failed h i x now a calm = absurd (calm refl)
+written not_built h i x now a calm = absurd a
+written usage h i x now a calm = absurd a
+written (refused r) h i x now a calm = absurd a
+written (absent n) h i x now a calm = absurd a
+written (script_refused f) h i x now a calm = absurd a
+
+built : (e : Ending) (h : Held) (c i : List ℕ) (now : Option Held) → BuildTold e h c i now → CanBuild h c → (e ≡ failed → ⊥) → IsWell e
+built e h c i now (inl a) can calm = unmade e h c can a.0 calm
+built e h c i now (inr a) can calm = written e h i a.0 now a.2 calm
+
+no_failed_file : (e : Ending) (before now : ℕ) → CausedBy e before now → (Rose before now → ⊥) → e ≡ failed → ⊥
+no_failed_file e before now cause files is = files (subst (λ x. CausedBy x before now) is cause).0
+
 pub completes : {H : Type 0} (e : Ending) (command : Option Command) (m : Met H) → Ran e command m → Completes command m (status e)
 completes e None m r = λ h held able. absurd able
-completes e (Some (build c i)) m r = λ h held able. absurd able
+completes e (Some (build c i)) m r = λ h held able files out.
+    built e h c i m.held_now (r.told h held) able (no_failed_file e m.files_before m.files_now r.caused files)
 completes e (Some (ask c s)) m r = λ h held able files out.
     told e h c s m.out (r.told h held) able (no_failure e m.files_before m.files_now m.out.before m.out.now r.caused files out)
 completes e (Some (replay i s)) m r = λ h held able. absurd able

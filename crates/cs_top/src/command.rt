@@ -8,6 +8,7 @@ ghost use Rattle.cs_top.specs.Runs.{Completes, Ran};
 ghost use Rattle.cs_top.specs.Views.{ended};
 
 use crate::ask::ask;
+use crate::build::build;
 use crate::ending::{Stop, status_of, tell};
 use crate::words::{Command, command_of};
 use cs_base::{Files, Hub, Sink};
@@ -53,6 +54,7 @@ fn carry_out<'a, F: Files, H: Hub, O: Sink>(
     let _ = &hub;
     match command_of(words) {
         None => Err(Stop::Usage),
+        Some(Command::Build { collection, index }) => build(alloc, collection, index, files),
         Some(Command::Ask { collection, script }) => ask(alloc, collection, script, files, out),
         Some(_) => Err(Stop::NotBuilt),
     }
