@@ -28,9 +28,9 @@ twice false x y z = refl
 put_back : (k : Held) (n : List ℕ) (f : File) → get k n ≡ Some f → k ≡ insert (insert k n empty_file) n f
 put_back k n f e = same k _ (λ q. sym (get_after (insert k n empty_file) n f q ∙ ap (λ x. cond (bytes_eq q n) (Some f) x) (get_after k n empty_file q) ∙ there q (bytes_eq q n) refl))
   where
-  there : (q : List ℕ) (b : Bool) → bytes_eq q n ≡ b → cond b (Some f) (cond b (Some empty_file) (get k q)) ≡ get k q
-  there q true t = sym (ap (get k) (same_name q n t) ∙ e)
-  there q false t = refl
+    there : (q : List ℕ) (b : Bool) → bytes_eq q n ≡ b → cond b (Some f) (cond b (Some empty_file) (get k q)) ≡ get k q
+    there q true t = sym (ap (get k) (same_name q n t) ∙ e)
+    there q false t = refl
 
 -- it is begun
 pub begun_by : (old made grown : Option Held) (n b : List ℕ) → Sets old n (λ _. empty_file) made → GrewByPrefix (file_bytes made n) b (file_bytes grown n) → but_for n grown ≡ but_for n made

@@ -1,11 +1,12 @@
+pub mod AnswerLemmas
 pub mod AnsweredLemmas
 pub mod BuildLemmas
-pub mod AskLemmas
 pub mod CompleteLemmas
 pub mod Examples
 pub mod GrewLemmas
 pub mod LineTexts
 pub mod MemoryText
 pub mod SaysLemmas
+pub mod TallyLemmas
 pub mod StepLemmas
 pub mod WindowLemmas

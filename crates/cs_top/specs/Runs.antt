@@ -13,6 +13,7 @@ use Rattle.cs_top.specs.Build.{BuildRan, CanBuild}
 use Rattle.cs_top.specs.Commands.{Command, build, ask, replay, serve, trial}
 use Rattle.cs_top.specs.Endings.{Ending, not_built, usage}
 use Rattle.cs_top.specs.Met.{Met, LeavesAll}
+use Rattle.cs_top.specs.Replay.{ReplayRan, CanReplay}
 
 -- a run that ends as x before it meets anything
 pub record Idle {H : Type 0} (x e : Ending) (m : Met H) : Type 0 where
@@ -24,7 +25,7 @@ abbrev pub Ran : {H : Type 0} → Ending → Option Command → Met H → Type 0
 Ran e None m = Idle usage e m
 Ran e (Some (build c i)) m = BuildRan e c i m
 Ran e (Some (ask c s)) m = AskRan e c s m
-Ran e (Some (replay i s)) m = Idle not_built e m
+Ran e (Some (replay i s)) m = ReplayRan e i s m
 Ran e (Some (serve i p n)) m = Idle not_built e m
 Ran e (Some (trial n)) m = Idle not_built e m
 
@@ -32,6 +33,7 @@ Ran e (Some (trial n)) m = Idle not_built e m
 abbrev pub IsAble : Option Command → Held → Type 0
 IsAble (Some (build c i)) h = CanBuild h c
 IsAble (Some (ask c s)) h = CanAsk h c s
+IsAble (Some (replay i s)) h = CanReplay h i s
 IsAble command h = ⊥
 
 -- No run gives up by itself: what can be done is done, or memory ran out.

@@ -10,6 +10,7 @@ ghost use Rattle.cs_top.specs.Views.{ended};
 use crate::ask::ask;
 use crate::build::build;
 use crate::ending::{Stop, status_of, tell};
+use crate::replay::replay;
 use crate::words::{Command, command_of};
 use cs_base::{Files, Hub, Sink};
 use std::alloc::Global;
@@ -56,6 +57,7 @@ fn carry_out<'a, F: Files, H: Hub, O: Sink>(
         None => Err(Stop::Usage),
         Some(Command::Build { collection, index }) => build(alloc, collection, index, files),
         Some(Command::Ask { collection, script }) => ask(alloc, collection, script, files, out),
+        Some(Command::Replay { index, script }) => replay(alloc, index, script, files, out),
         Some(_) => Err(Stop::NotBuilt),
     }
 }

@@ -32,5 +32,5 @@ returns-in_err-save-clause-told g c h held =
     let has : HasImage h c.args.collection.now x = ((held_by _ _ (c.in_ok-size.ensures.ok h held), c.in_ok-image.ensures.accepted h here), c.in_ok-image.ensures.ok h here) in
     let all : BuildTold (stop_ending c.in_err-save.field-0.0) h c.args.collection.now c.args.index.now (g.F.Files.held c.save.new.files) =
     begun c.in_err-save.field-0.0 h c.args.collection.now c.args.index.now x _ c.in_err-save.ensures.kind has
-      (subst (λ old. IsBegun old c.args.index.now (file x) (g.F.Files.held c.save.new.files)) same c.in_err-save.ensures.err) in
+    (subst (λ old. IsBegun old c.args.index.now (file x) (g.F.Files.held c.save.new.files)) same c.in_err-save.ensures.err) in
     search rules
