@@ -7,6 +7,7 @@ pub mod GrewLemmas
 pub mod LineTexts
 pub mod MemoryText
 pub mod SaysLemmas
+pub mod ScriptLemmas
 pub mod TallyLemmas
 pub mod StepLemmas
 pub mod WindowLemmas

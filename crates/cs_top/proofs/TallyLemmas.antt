@@ -1,8 +1,9 @@
 -- How often texts say that a read failed, against how often the files' count rose.
 --
 --   tally_none, tally_same, tally_more      of no texts, behind a line without bytes, and behind one text more
+--   not_read, not_changed, counts_more     of what came of some lines and of more
 --   short_here, short_failed, short_put     of a script that ends early: at a refused line, where a file failed, where a put did
-use Rattle.std.proofs.Common.{◌≡◌, ◌≢◌, ℕ, ◌+◌, ◌≤◌, ◌-◌, ◌^◌, Bool, true, false, List, [], ◌∷◌, ◌++◌, length, inl, inr, refl, sym, ◌∙◌, ap, subst, arith}
+use Rattle.std.proofs.Common.{◌≡◌, ◌≢◌, ◌⊎◌, ℕ, ◌+◌, ◌≤◌, ◌-◌, ◌^◌, Bool, true, false, List, [], ◌∷◌, ◌++◌, length, inl, inr, refl, sym, ◌∙◌, ap, subst, arith}
 use Rattle.std.specs.Prelude.{min, filter}
 use Rattle.std.specs.Str.{bytes_eq}
 use Rattle.std.proofs.lemmas.Slice.Eq.{bytes_eq-Decides}
@@ -10,7 +11,7 @@ use Rattle.cs_base.specs.outside.Causes.{Rose}
 use Rattle.cs_hub.specs.Streams.{RoseBy}
 use Rattle.cs_model.specs.Outputs.{ScriptFault, failed_reads, read_text}
 use Rattle.cs_model.proofs.OutputLemmas.{failed_reads-push}
-use Rattle.cs_top.specs.Answering.{Costs, worst}
+use Rattle.cs_top.specs.Answering.{CameCounts, Costs, worst}
 use Rattle.cs_top.specs.Endings.{Ending, failed, script_refused}
 use Rattle.cs_top.specs.Met.{Wrote}
 use Rattle.cs_top.specs.Scripts.{ShortTally, Tally}
@@ -54,7 +55,7 @@ read_first Changed Answered h = ((λ e. cc e), λ e. cc e)
 read_first Changed Read h = absurd (h refl)
 read_first Changed Changed h = ((λ e. cc e), λ e. cc e)
 
-not_changed : (a b : Came) → a ≢ Changed → b ≢ Changed → worst a b ≢ Changed
+pub not_changed : (a b : Came) → a ≢ Changed → b ≢ Changed → worst a b ≢ Changed
 not_changed Answered b x y = y
 not_changed Read b x y = λ e. cc e
 not_changed Changed b x y = absurd (x refl)
@@ -62,6 +63,32 @@ not_changed Changed b x y = absurd (x refl)
 clean_text : (b : Bool) (t : List ℕ) → bytes_eq t read_text ≡ b → t ≢ read_text → failed_reads (t ∷ []) ≡ 0
 clean_text true t e other = absurd (other ((bytes_eq-Decides t read_text).0 e))
 clean_text false t e other = one_is t false e
+
+pub not_read : (a b : Came) → a ≢ Read → b ≢ Read → worst a b ≢ Read
+not_read Answered b x y = y
+not_read Read b x y = absurd (x refl)
+not_read Changed Answered x y = λ e. cc e
+not_read Changed Read x y = absurd (y refl)
+not_read Changed Changed x y = λ e. cc e
+
+which_read : (a b : Came) → worst a b ≡ Read → (a ≡ Read) ⊎ (b ≡ Read)
+which_read Answered b e = inr e
+which_read Read b e = inl refl
+which_read Changed Answered e = absurd cc
+which_read Changed Read e = inr refl
+which_read Changed Changed e = absurd cc
+
+rose_by : (a b : Came) (n m k : ℕ) → CameCounts a n m → CameCounts b m k → (a ≡ Read) ⊎ (b ≡ Read) → Rose n k
+rose_by a b n m k x y (inl e) = let r = x.read e in let l = y.later in omega (arith, r, l)
+rose_by a b n m k x y (inr e) = let r = y.read e in let l = x.later in omega (arith, r, l)
+
+-- what came of some lines and of more, by the counts
+pub counts_more : (a b : Came) (n m k : ℕ) → CameCounts a n m → CameCounts b m k → CameCounts (worst a b) n k
+counts_more a b n m k x y = record {
+  later = let l = x.later in let r = y.later in omega (arith, l, r);
+  read = λ e. rose_by a b n m k x y (which_read a b e);
+  quiet = λ h. let both = read_first a b h in y.quiet both.1 ∙ x.quiet both.0;
+}
 
 -- ---- tallies
 pub tally_none : (n m : ℕ) → m ≡ n → Tally Answered n m []

@@ -1,7 +1,7 @@
 //! `ask COLLECTION SCRIPT`: a script that is answered over a collection, with its index file in memory.
-ghost use Rattle.std.specs.Prelude.{◌≡◌, IfOk, IfErr, OnOk};
+ghost use Rattle.std.specs.Prelude.{◌≡◌, Some, IfOk, IfErr, OnOk};
 ghost use Rattle.std.specs.Option.{ForSome};
-ghost use Rattle.cs_file.specs.Indexes.{StandsFor};
+ghost use Rattle.cs_file.specs.Indexes.{Fits, StandsFor};
 ghost use Rattle.cs_file.specs.Writable.{CanBeWritten};
 ghost use Rattle.cs_model.specs.Corpus.{corpus};
 ghost use Rattle.cs_model_index.specs.FileRules.{IsIndexFile};
@@ -76,6 +76,7 @@ fn opened(alloc: Global, image: Image) -> Result<(Engine, MemStore), Memory>
 
     ensures bytes { IfOk result (λ p. p.1.bytes ≡ file image) }
     ensures stands { IfOk result (λ p. StandsFor (file image) p.0.index) }
+    ensures fits { IfOk result (λ p. Fits (Some (file image)) p.0.index) }
 {
     let bytes = file_of(alloc, image)?;
     let mut store = MemStore::new(bytes);

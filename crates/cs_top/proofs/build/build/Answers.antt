@@ -23,6 +23,8 @@ begun stops.NotBuilt h c i x now kind has is = absurd kind
 begun (stops.Collection f) h c i x now kind has is = absurd kind
 begun (stops.Absent n) h c i x now kind has is = absurd kind
 begun (stops.Script f) h c i x now kind has is = absurd kind
+begun (stops.Damaged rule at) h c i x now kind has is = absurd kind
+begun stops.Changed h c i x now kind has is = absurd kind
 
 pub returns-in_err-save-clause-told : goal.returns-in_err-save-clause-told
 returns-in_err-save-clause-told g c h held =
