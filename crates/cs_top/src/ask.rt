@@ -38,10 +38,11 @@ pub(crate) fn ask<'a, F: Files, O: Sink>(
     let (image, size) = prepare(alloc, collection, script, files)?;
     let (mut engine, store) = opened(alloc, image)?;
     let mut file = IndexFile::made(store);
-    let came = answer_script(alloc, &mut engine, &mut file, files, script, size, out)?;
-    match came {
-        Came::Answered => Ok(()),
-        Came::Read | Came::Changed => unreachable!(),
+    match answer_script(alloc, &mut engine, &mut file, files, script, size, out) {
+        Ok(Came::Answered) => Ok(()),
+        Ok(Came::Read) => unreachable!(),
+        Ok(Came::Changed) => unreachable!(),
+        Err(stop) => Err(Stop::from(stop)),
     }
 }
 

@@ -40,5 +40,5 @@ pub returns-clause-whole : goal.returns-clause-whole
 returns-clause-whole c =
     let is : IsImage (corpus c.args.bytes.now) BLOCK_ROWS c.in_ok-image.image =
     subst (λ k. IsImage k BLOCK_ROWS c.in_ok-image.image) (collection_made c.in_ok-docs.docs c.in_ok-rows.rows c.in_ok-rows.ensures.ok ∙ ap corpus_of c.in_ok-docs.ensures.ok) c.in_ok-image.ensures.ok in
-    let all = files_of_collections c.args.bytes.now BLOCK_ROWS c.in_ok-image.image (accepted_by c.args.bytes.now c.in_ok-rows.rows c.in_ok-docs.ensures.accepted (c.in_ok-rows.ensures.ok ∙ ap rows_of c.in_ok-docs.ensures.ok) c.in_ok-rows.ensures.few c.in_ok-image.ensures.few_words) is (omega arith) (omega arith) in
+    let all = files_of_collections c.args.bytes.now BLOCK_ROWS c.in_ok-image.image (accepted_by c.args.bytes.now c.in_ok-rows.rows c.in_ok-docs.ensures.accepted (c.in_ok-rows.ensures.ok ∙ ap rows_of c.in_ok-docs.ensures.ok) (subst (λ r. length r ≤ MAX_ROWS) (sym c.in_ok-rows.ensures.ok) c.in_ok-rows.ensures.few) c.in_ok-image.ensures.few_words) is (omega arith) (omega arith) in
     (all.0, all.2)
