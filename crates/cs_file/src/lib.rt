@@ -5,11 +5,13 @@
 //! from the store when they are asked for.
 #![tactic(auto)]
 
+mod blocks;
 mod fault;
 mod fetching;
 mod image;
 mod index;
 mod opening;
+mod reading;
 mod writing;
 
 pub use cs_base::BlockHead;
