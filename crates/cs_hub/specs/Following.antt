@@ -98,10 +98,9 @@ pub record AreServed (k : Corpus) (s : Listening) (talk : Option Talk) (before n
 
 -- a step keeps this: where the core followed the hub before the event came, it follows it after the step, and the responses that
 -- the step sent say Read at most as often as the count of failures rose
-abbrev pub StaysRight : Corpus → Slots → Slots → Event → List ℕ → Listening → Listening → Option Talk → Option Talk → ℕ → ℕ → Type 0
-StaysRight k core core' event piece heard s' told talk' before now =
-    (s : Listening) (talk : Option Talk) (room n : ℕ) → Follows k core s talk n → Heard s talk room event piece heard told
-    → (more : ℕ) × Follows k core' s' talk' (n + more) × RoseBy more before now
+pub record StaysRight (k : Corpus) (core core' : Slots) (event : Event) (piece : List ℕ) (heard s' : Listening) (told talk' : Option Talk) (before now : ℕ) : Type 0 where
+  pub stays : (s : Listening) (talk : Option Talk) (room n : ℕ) → Follows k core s talk n → Heard s talk room event piece heard told
+      → (more : ℕ) × Follows k core' s' talk' (n + more) × RoseBy more before now
 
 -- ---- isolation
 -- the event isn't of this connection; Over is of each

@@ -4,8 +4,19 @@
 //! `specs/Following.antt`. Nothing here knows a socket or a file.
 #![tactic(auto)]
 
+mod answer;
+mod answerer;
+mod asking;
+mod line;
+mod reading;
+mod responses;
+mod rounds;
+mod saying;
 mod serving;
 mod slots;
+mod steps;
+#[cfg(test)]
+mod tests;
 
 pub use serving::{ServeEnd, serve};
 pub use slots::Core;

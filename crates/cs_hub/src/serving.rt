@@ -7,11 +7,21 @@ ghost use Rattle.cs_base.specs.outside.Causes.{Rose};
 ghost use Rattle.cs_base.specs.outside.Hub.{IsOrderly, listens};
 ghost use Rattle.cs_file.specs.Indexes.{Fits, StandsFor};
 ghost use Rattle.cs_model_index.specs.Sections.{file_corpus};
+ghost use Rattle.cs_model.specs.Corpus.{Corpus};
+ghost use Rattle.cs_hub.specs.Ending.{Ends};
 ghost use Rattle.cs_hub.specs.Following.{AreServed};
+ghost use Rattle.cs_hub.specs.Rounds.{came_by};
 
+use crate::answerer::Answerer;
+use crate::asking::Asking;
+use crate::rounds::{Round, is_busy, take_turn};
+use crate::slots::Core;
 use cs_base::{Hub, Store};
 use cs_engine::Engine;
 use std::alloc::Global;
+
+// The most bytes of a piece.
+const PIECE_BYTES: usize = 4096;
 
 /// How serving ends.
 #[derive(Clone, Copy, Debug, PartialEq, Eq)]
@@ -58,10 +68,60 @@ pub fn serve<S: Store, H: Hub>(
     ensures lent { S.lent store.new ≡ S.lent store.old }
     ensures later { S.faults store.old ≤ S.faults store.new }
 {
-    let _ = alloc;
-    let _ = &engine;
-    let _ = &store;
-    let _ = &hub;
-    let _ = conns;
-    ServeEnd::Memory
+    let mut asking = Asking::new(engine, store);
+    serve_over(alloc, &mut asking, hub, conns)
+}
+
+/// The same over anything that answers requests.
+pub(crate) fn serve_over<A: Answerer, H: Hub>(
+    alloc: Global,
+    answerer: &mut A,
+    hub: &mut H,
+    conns: u32,
+) -> ServeEnd
+    requires listens { (port : ℕ) × (H.state hub.old ≡ listens port conns) }
+    requires orderly { IsOrderly (H.state hub.old) (H.talk hub.old) }
+
+    ensures served { (k : Corpus) → A.answers answerer.old k → AreServed k (H.state hub.new) (H.talk hub.new) (A.faults answerer.old) (A.faults answerer.new) }
+    ensures ends { Ends result conns (H.state hub.old) (H.state hub.new) (H.faults hub.old) (H.faults hub.new) }
+    ensures memory { result ≡ ServeEnd.Memory → (H.state hub.new ≡ H.state hub.old) × (H.talk hub.new ≡ H.talk hub.old) × (A.faults answerer.new ≡ A.faults answerer.old) }
+    ensures events { came_by (H.talk hub.new) ≤ came_by (H.talk hub.old) + conns * (MAX_CONNECTION_BYTES + 2) + 1 }
+    ensures lent { A.lent answerer.new ≡ A.lent answerer.old }
+    ensures later { A.faults answerer.old ≤ A.faults answerer.new }
+{
+    match vec![in alloc; 0; PIECE_BYTES] {
+        Ok(mut buffer) => serve_with(alloc, answerer, hub, conns, buffer.as_mut_slice()),
+        Err(_) => ServeEnd::Memory,
+    }
+}
+
+// The loop, with a buffer for pieces.
+fn serve_with<A: Answerer, H: Hub>(
+    alloc: Global,
+    answerer: &mut A,
+    hub: &mut H,
+    conns: u32,
+    buffer: &mut [u8],
+) -> ServeEnd
+    requires some { 0 < length buffer.old }
+    requires listens { (port : ℕ) × (H.state hub.old ≡ listens port conns) }
+    requires orderly { IsOrderly (H.state hub.old) (H.talk hub.old) }
+
+    ensures served { (k : Corpus) → A.answers answerer.old k → AreServed k (H.state hub.new) (H.talk hub.new) (A.faults answerer.old) (A.faults answerer.new) }
+    ensures ends { Ends result conns (H.state hub.old) (H.state hub.new) (H.faults hub.old) (H.faults hub.new) }
+    ensures some_memory { result ≢ ServeEnd.Memory }
+    ensures events { came_by (H.talk hub.new) ≤ came_by (H.talk hub.old) + conns * (MAX_CONNECTION_BYTES + 2) + 1 }
+    ensures lent { A.lent answerer.new ≡ A.lent answerer.old }
+    ensures later { A.faults answerer.old ≤ A.faults answerer.new }
+{
+    let mut core = Core::new(alloc);
+    let mut opened = 0;
+    while is_busy(&core, opened, conns) {
+        match take_turn(&mut core, alloc, answerer, hub, buffer, opened, conns) {
+            Round::Goes(count) => opened = count,
+            Round::Over => return ServeEnd::Done,
+            Round::Failed => return ServeEnd::HubFailed,
+        }
+    }
+    ServeEnd::Done
 }
