@@ -126,8 +126,8 @@ module _ (i : IndexView) (f : FileView) (held : Option Held) where
 pub ok_there : {T E : Type 0} (r : Result T E) (x y : T) (P : T → Type 0) → r ≡ Ok x → x ≡ y → IfOk r P → P y
 ok_there r x y P e p h = subst P p (ok_at r x P e h)
   where
-  ok_at : {T E : Type 0} (r : Result T E) (x : T) (P : T → Type 0) → r ≡ Ok x → IfOk r P → P x
-  ok_at r x P e h = subst (λ z. IfOk z P) e h
+    ok_at : {T E : Type 0} (r : Result T E) (x : T) (P : T → Type 0) → r ≡ Ok x → IfOk r P → P x
+    ok_at r x P e h = subst (λ z. IfOk z P) e h
 
 pub err_there : {T E : Type 0} (r : Result T E) (x : E) (P : E → Type 0) → r ≡ Err x → IfErr r P → P x
 err_there r x P e h = subst (λ z. IfErr z P) e h

@@ -136,8 +136,8 @@ short_failed came w before count now ts t rose = record {
   more = λ e low. rose_more (failed_reads ts) before count now t.rose rose;
 }
   where
-  rose_less : (n b c : ℕ) → RoseBy (n + 1) b c → RoseBy n b c
-  rose_less n b c r = omega (arith, r)
+    rose_less : (n b c : ℕ) → RoseBy (n + 1) b c → RoseBy n b c
+    rose_less n b c r = omega (arith, r)
 
 pub short_put : (came met : Came) (w : Wrote) (before count now : ℕ) (ts : List (List ℕ)) (t : List ℕ) → Rose w.before w.now → Tally came before count ts → Costs met count now t → ShortTally failed w before now (ts ++ t ∷ [])
 short_put came met w before count now ts t rose h c = record {

@@ -35,7 +35,15 @@ pub(crate) fn replay<'a, F: Files, O: Sink>(
     let script_size = size_of(files, script)?;
     let mut engine = open(alloc, files, index, size)?;
     let mut file = IndexFile::held(index, size);
-    match answer_script(alloc, &mut engine, &mut file, files, script, script_size, out) {
+    match answer_script(
+        alloc,
+        &mut engine,
+        &mut file,
+        files,
+        script,
+        script_size,
+        out,
+    ) {
         Ok(Came::Answered) => Ok(()),
         Ok(Came::Read) => Err(Stop::Failed),
         Ok(Came::Changed) => Err(Stop::Changed),

@@ -38,10 +38,10 @@ returns-in-Ok-Answered-clause-told g c h held =
     let fb = g.F.Files.faults c.prepare.new.files in
     let fn = g.F.Files.faults c.answer_script.new.files in
     let over = over_made c.in_ok-engine.engine.index f (g.F.Files.held c.prepare.new.files) (file c.in_ok-image.image) c.in_ok-engine.store.bytes k c.made-file.ensures c.in_ok-engine.ensures.bytes c.in_ok-engine.ensures.stands
-      (sym (c.in_ok-image.ensures.corpus h held)) in
+    (sym (c.in_ok-image.ensures.corpus h held)) in
     let some = some_made c.in_ok-engine.engine.index f (g.F.Files.held c.prepare.new.files) c.in_ok-engine.store.bytes c.made-file.ensures in
     let whole = ok_there c.answer_script.result c.in-Ok-Answered.field-0 Answered (λ came. (ts : List (List ℕ)) × ScriptEnds (MayAnswer f k) done ls ts w × Tally came fb fn ts) c.in-Ok-Answered.is c.in-Ok-Answered.field-0-is
-      (c.answer_script.ensures.whole k over h (c.in_ok-image.ensures.files ∙ held)) in
+    (c.answer_script.ensures.whole k over h (c.in_ok-image.ensures.files ∙ held)) in
     inr (c.in_ok-image.ensures.ready h held, (whole.0, ends_by (MayAnswer f k) (IsAnswer k) (made_only f k some) done ls whole.0 w whole.1))
 
 pub returns-clause-told : goal.returns-clause-told
@@ -54,10 +54,10 @@ returns-clause-told g c h held =
     let fb = g.F.Files.faults c.prepare.new.files in
     let fn = g.F.Files.faults c.answer_script.new.files in
     let over = over_made c.in_ok-engine.engine.index f (g.F.Files.held c.prepare.new.files) (file c.in_ok-image.image) c.in_ok-engine.store.bytes k c.made-file.ensures c.in_ok-engine.ensures.bytes c.in_ok-engine.ensures.stands
-      (sym (c.in_ok-image.ensures.corpus h held)) in
+    (sym (c.in_ok-image.ensures.corpus h held)) in
     let some = some_made c.in_ok-engine.engine.index f (g.F.Files.held c.prepare.new.files) c.in_ok-engine.store.bytes c.made-file.ensures in
     let short = err_there c.answer_script.result c.in-Err.stop (λ s. (ts : List (List ℕ)) × ScriptEnds (MayAnswer f k) (stop_ending (of_script s)) ls ts w × ShortTally (stop_ending (of_script s)) w fb fn ts) c.in-Err.is
-      (c.answer_script.ensures.short k over h (c.in_ok-image.ensures.files ∙ held)) in
+    (c.answer_script.ensures.short k over h (c.in_ok-image.ensures.files ∙ held)) in
     let all : AskTold e h c.args.collection.now c.args.script.now w =
     inr (c.in_ok-image.ensures.ready h held, (short.0, ends_by (MayAnswer f k) (IsAnswer k) (made_only f k some) e ls short.0 w short.1)) in
     subst (λ x. AskTold (stop_ending x) h c.args.collection.now c.args.script.now w) (sym c.from.ensures) all

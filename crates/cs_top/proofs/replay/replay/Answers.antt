@@ -31,7 +31,7 @@ returns-clause-told g c h held =
     let fb = g.F.Files.faults c.open.new.files in
     let e = stop_ending (of_script c.in-Err.stop) in
     let short = err_there c.answer_script.result c.in-Err.stop (λ s. (ts : List (List ℕ)) × ScriptEnds (MayAnswer f k) (stop_ending (of_script s)) ls ts w × ShortTally (stop_ending (of_script s)) w fb fn ts) c.in-Err.is
-      (c.answer_script.ensures.short k over h third) in
+    (c.answer_script.ensures.short k over h third) in
     let all : ReplayTold e h i c.args.script.now (g.F.Files.faults c.args.files.now) fn w =
     inr (is_open, subst (λ n. ReplayScript k e ls n fn w) calm (script_short f k ls fb fn w c.in-Err.stop short)) in
     subst (λ x. ReplayTold (stop_ending x) h i c.args.script.now (g.F.Files.faults c.args.files.now) fn w) (sym c.from.ensures) all

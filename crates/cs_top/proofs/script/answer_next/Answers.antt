@@ -26,7 +26,7 @@ returns-clause-ok g c k over h held =
     subst (λ n. Reaches (MayAnswer c.args.file.now k) (held_bytes h c.args.script.now) c.args.place (record { at = c.in_ok-len.at; number = c.args.place.number + 1 }) (g.O.Sink.written c.args.out.now) (g.O.Sink.written c.answer_line.new.out) c.in_ok-came.came n (g.F.Files.faults c.answer_line.new.files))
     c.in_ok-len.ensures.counted.quiet
     (reaches_by (MayAnswer c.args.file.now k) (held_bytes h c.args.script.now) _ c.args.place c.in_ok-len.at (wrote g.O.Sink.written g.O.Sink.faults c.args.out.now c.answer_line.new.out) _ (g.F.Files.faults c.answer_line.new.files)
-      (record { at = c.in_ok-len.at; number = c.args.place.number + 1 }) (g.O.Sink.written c.args.out.now) (g.O.Sink.written c.answer_line.new.out) c.in_ok-came.came (c.in_ok-len.ensures.line h held) refl (c.in_ok-came.ensures.ok k here))
+    (record { at = c.in_ok-len.at; number = c.args.place.number + 1 }) (g.O.Sink.written c.args.out.now) (g.O.Sink.written c.answer_line.new.out) c.in_ok-came.came (c.in_ok-len.ensures.line h held) refl (c.in_ok-came.ensures.ok k here))
 
 pub returns-clause-unchanged : goal.returns-clause-unchanged
 returns-clause-unchanged g c k over = c.in_ok-came.ensures.unchanged k (over_at c.args.engine.now.index c.args.engine.now.index c.args.file.now c.args.file.now _ _ k refl refl c.in_ok-len.ensures.same over)
