@@ -1,3 +1,4 @@
 pub mod Answers
 pub mod Indexes
+pub mod Putting
 pub mod Writable

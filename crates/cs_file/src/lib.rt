@@ -10,6 +10,8 @@ mod fetching;
 mod image;
 mod index;
 mod opening;
+mod putting;
+mod sizes;
 mod writing;
 
 pub use cs_base::BlockHead;

@@ -1,0 +1,3 @@
+pub mod OffsetLemmas
+pub mod PutLemmas
+pub mod SizeLemmas
