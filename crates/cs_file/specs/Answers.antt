@@ -5,7 +5,7 @@
 --   IsDamageOf b e          the fault of opening, if it is damage, is the first broken rule of the bytes with its place
 --   is_read_of_open r, is_read_of_fetch r, is_sink r, is_changed r      the answer is a failed read, a failed sink, a change
 --   HasBlock i told k old new      posts were added that are those of block k, read of the bytes that the store tells
-use Rattle.std.specs.Prelude.{◌≡◌, ℕ, Bool, true, false, List, ◌++◌, Option, Some, Result, Err, slice_index_or}
+use Rattle.std.specs.Prelude.{◌≡◌, ℕ, Bool, true, false, List, ◌++◌, Option, Some, Result, Ok, Err, slice_index_or}
 use Rattle.std.specs.Option.{ForSome}
 use Rattle.cs_base.specs.outside.Outside.{part}
 use Rattle.cs_base.specs.declared.index.block.BlockHead.{BlockHead}
