@@ -1,1 +1,3 @@
 pub mod Building
+pub mod Ordering
+pub mod Runs

@@ -10,8 +10,13 @@ ghost use Rattle.cs_file.specs.Writable.{CanBeWritten};
 ghost use Rattle.cs_build.specs.Building.{corpus_from, KeepLimits};
 
 use crate::fault::BuildFault;
-use cs_base::{Doc, Row, Seq};
+use crate::filling::blocks_of;
+use crate::heads::heads_of;
+use crate::ordering::in_order;
+use crate::parting::{counts_of, parted};
+use cs_base::{Doc, MAX_WORDS, Memory, Row, Seq, Text};
 use cs_file::Image;
+use cs_vocab::Numbered;
 use std::alloc::Global;
 
 /// The image of the titles of documents and of rows, which may come in any order.
@@ -37,8 +42,39 @@ pub fn image(
     ensures writable { length (title_bytes (map title_of docs)) < 2 ^ 32 → IfOk result CanBeWritten }
     ensures limits { KeepLimits docs rows → IfOk result HasLimits }
 {
-    let _ = (alloc, target);
-    drop(rows);
-    drop(docs);
-    Err(BuildFault::Memory)
+    let titles = titles_of(alloc, docs)?;
+    let rows = in_order(alloc, rows)?;
+    let Numbered { words, numbers } = Numbered::of(alloc, &rows)?;
+    if words.len() as usize > MAX_WORDS {
+        return Err(BuildFault::TooManyWords);
+    }
+    let counts = counts_of(alloc, words.len(), numbers.as_slice())?;
+    let runs = parted(alloc, &words, &counts, target)?;
+    let blocks = blocks_of(
+        alloc,
+        &runs,
+        words.len(),
+        rows.as_slice(),
+        numbers.as_slice(),
+    )?;
+    let heads = heads_of(alloc, &words, &runs, &blocks)?;
+    Ok(Image {
+        titles,
+        words,
+        heads: Seq::from_vec(heads),
+        blocks: Seq::from_vec(blocks),
+        target,
+    })
+}
+
+/// The titles of the documents. The rest of them is dropped.
+fn titles_of(alloc: Global, docs: Seq<Doc>) -> Result<Seq<Text>, Memory>
+    ensures ok { IfOk result (λ titles. titles ≡ map title_of docs) }
+{
+    let mut titles = Vec::with_capacity(alloc, docs.len())?;
+    for doc in docs.into_vec() {
+        let Doc { title, .. } = doc;
+        titles.push(title)?;
+    }
+    Ok(Seq::from_vec(titles))
 }

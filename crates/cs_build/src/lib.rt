@@ -6,6 +6,12 @@
 
 mod building;
 mod fault;
+mod filling;
+mod heads;
+mod ordering;
+mod parting;
+#[cfg(test)]
+mod tests;
 
 pub use building::image;
 pub use fault::BuildFault;
