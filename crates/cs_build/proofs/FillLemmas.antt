@@ -16,7 +16,7 @@ use Rattle.std.proofs.lemmas.List.Elements.{filter-append}
 use Rattle.cs_base.specs.declared.content.doc.Post.{Post}
 use Rattle.cs_base.specs.declared.content.doc.Row.{Row}
 use Rattle.cs_cols.specs.declared.cols.Cols.{Cols}
-use Rattle.cs_build.specs.Runs.{has_word, AreSpans, places_from, posts_by, is_within, IsCounted, AreFilled}
+use Rattle.cs_build.specs.Runs.{has_word, AreSpans, places_from, posts_by, is_within, IsCounted, IsPushed, AreFilled}
 use Rattle.cs_build.specs.declared.parting.Run.{Run}
 
 -- ---- the run of a word
@@ -82,7 +82,7 @@ spans_on lo end [] s = omega (arith, s)
 spans_on lo end (run ∷ runs) s = let rest = spans_on (lo + run.words) end runs s.1 in omega (arith, rest)
 
 pub places_many : (k lo end : ℕ) (runs : List Run) → AreSpans lo runs end → length (places_from k runs) + lo ≡ end
-places_many k lo end [] s = s
+places_many k lo end [] s = omega (arith, s)
 places_many k lo end (run ∷ runs) s =
     let rest = places_many (k + 1) (lo + run.words) end runs s.1 in
     omega (arith, rest, length-append (replicate run.words k) (places_from (k + 1) runs), length-replicate run.words k)
@@ -215,3 +215,19 @@ all_posts posts [] [] f = refl
 all_posts posts [] (b ∷ blocks) f = absurd f
 all_posts posts (run ∷ runs) [] f = absurd f
 all_posts posts (run ∷ runs) (b ∷ blocks) f = ap (λ x. x ∷ map (λ b. b.posts) blocks) f.0 ∙ ap (λ l. filter (is_within run) posts ∷ l) (all_posts posts runs blocks f.2)
+
+get_default : (xs : List ℕ) (i a b : ℕ) → i < length xs → get_or xs i a ≡ get_or xs i b
+get_default [] i a b l = absurd (omega (arith, l))
+get_default (x ∷ xs) zero a b l = refl
+get_default (x ∷ xs) (suc i) a b l = get_default xs i a b (omega (arith, l))
+
+-- the place of a word that is read
+pub place_at : (runs : List Run) (words n : ℕ) (places : List ℕ) (k : ℕ) → AreSpans 0 runs words → n < words → places ≡ places_from 0 runs → k ≡ get_or places n k → IsPlaced runs n k
+place_at runs words n places k s l e is =
+    let many : n < length places = omega (arith, ap length e, places_many 0 0 words runs s, l) in
+    placed runs words n k s l (is ∙ get_default places n k 0 many ∙ ap (λ xs. get_or xs n 0) e)
+
+pub pushed : (p : Post) (posts next : List Post) (runs : List Run) (blocks old new : List Cols) (k : ℕ) → next ≡ posts ++ p ∷ [] → IsOnly runs k p.word → AreFilled posts runs blocks → old ≡ blocks → IsPushed old k p new → AreFilled next runs new
+pushed p posts next runs blocks old new k e o f same x =
+    subst (λ ps. AreFilled ps runs new) (sym e) (subst (AreFilled (posts ++ p ∷ []) runs) (sym x.set)
+    (one_post p posts runs old k x.block x.block o (subst (AreFilled posts runs) (sym same) f) x.posts x.room))

@@ -2,6 +2,8 @@ pub mod CollectionLemmas
 pub mod CountLemmas
 pub mod CutLemmas
 pub mod FillLemmas
+pub mod HeadLemmas
 pub mod KindLemmas
 pub mod LengthLemmas
 pub mod OrderLemmas
+pub mod PartLemmas

@@ -1,10 +1,10 @@
 //! The words of a vocabulary, parted into runs.
 ghost use Rattle.std.specs.Prelude.{◌≡◌, ◌+◌, ◌≤◌, ◌<◌, ◌||◌, not, length, slice_index_or, IfOk};
-ghost use Rattle.std.specs.List.{All};
+ghost use Rattle.std.specs.List.{All, position_or_len};
 ghost use Rattle.cs_base.specs.declared.content.limits.TheConstants.{MAX_ROWS};
 ghost use Rattle.cs_vocab.specs.Ranges.{IsBelow};
 ghost use Rattle.cs_model_index.specs.Numbered.{word_at};
-ghost use Rattle.cs_model_index.specs.Partitions.{Count, is_alike, is_facet, kind_of, is_full};
+ghost use Rattle.cs_model_index.specs.Partitions.{Count, is_alike, is_colon, is_facet, kind_of, is_full};
 ghost use Rattle.cs_model_index.specs.declared.limits.TheConstants.{MAX_TARGET};
 ghost use Rattle.cs_build.specs.Runs.{AreCounts, AreParted, Agrees};
 
@@ -110,9 +110,17 @@ fn kind(word: &[u8]) -> &[u8]
     if !begins_as_facet(word) {
         return &[];
     }
-    match word[1..].iter().position(|&b| b == b':') {
-        Some(i) => &word[..i + 1],
-        None => word,
+    &word[..1 + colon_in(&word[1..])]
+}
+
+// The place of the first colon, or the end.
+fn colon_in(text: &[u8]) -> usize
+    ensures value { result ≡ position_or_len is_colon text.now }
+    ensures within { result ≤ length text.now }
+{
+    match text.iter().position(|&b| b == b':') {
+        Some(i) => i,
+        None => text.len(),
     }
 }
 

@@ -15,7 +15,7 @@ overflow_cast-i c = omega (arith, c.loop-i-test.true, c.requires.few, c.ranges.w
 
 pub loop-i-preserved : goal.loop-i-preserved
 loop-i-preserved c =
-    next_places c.loop-i.places.items c.resize.new.self.items c.loop-i.i c.args.words ((get_or c.args.runs.now c.loop-i.i (record { lo = 0; words = 0; rows = 0 })).lo + (get_or c.args.runs.now c.loop-i.i (record { lo = 0; words = 0; rows = 0 })).words) _ c.args.runs.now (record { lo = 0; words = 0; rows = 0 }) c.loop-i-test.true refl c.loop-i.places.ok c.in_ok-resize.ensures.items c.loop-i.invariant
+    next_places c.loop-i.places.items c.resize.new.self.items c.loop-i.i c.args.words ((get_or c.args.runs.now c.loop-i.i (record { lo = 0; words = 0; rows = 0 })).lo + (get_or c.args.runs.now c.loop-i.i (record { lo = 0; words = 0; rows = 0 })).words) _ c.args.runs.now (record { lo = 0; words = 0; rows = 0 }) c.loop-i-test.true refl c.loop-i.places.ok.0 c.in_ok-resize.ensures.items c.loop-i.invariant
 
 pub returns : goal.returns
 returns c =

@@ -1,6 +1,7 @@
-use Rattle.std.proofs.Common.{◌≡◌, ◌+◌, get_or, set, arith, subst, sym, ap, ◌∙◌, take}
+use Rattle.std.proofs.Common.{◌≡◌, ◌+◌, get_or, set, arith, subst, sym, ap, refl, ◌∙◌, take}
 use Rattle.std.specs.Prelude.{◌==◌}
 use Rattle.std.specs.List.{count_by}
+use Rattle.std.proofs.lemmas.Grind.{get_or_default_zero}
 use Rattle.std.proofs.lemmas.List.{take_all}
 use Rattle.std.proofs.lemmas.List.Elements.{All-get_or}
 use Rattle.cs_vocab.specs.Ranges.{IsBelow}
@@ -13,13 +14,23 @@ index_mut-requires c =
     omega (arith, below, c.loop-number.invariant.each, c.loop-number.counts.ok)
 
 pub loop-number-init : goal.loop-number-init
-loop-number-init c = subst (AreCounted c.args.words c.args.numbers.now 0) (sym c.in_ok-counts.ensures.items) (none_counted c.args.words c.args.numbers.now)
+loop-number-init c = subst (AreCounted c.args.words c.args.numbers.now 0) (sym (c.in_ok-counts.ensures.items_if_clones_equal (λ y e. e))) (none_counted c.args.words c.args.numbers.now)
 
 pub overflow_add-index_mut : goal.overflow_add-index_mut
-overflow_add-index_mut c = let h = c.index_mut.ensures in ?
+overflow_add-index_mut c =
+    let below = All-get_or (IsBelow c.args.words) c.args.numbers.now c.loop-number.number-index 0 c.loop-number-test.true c.requires.below in
+    let m = get_or c.args.numbers.now c.loop-number.number-index 0 in
+    let few = few_counted c.args.words c.args.numbers.now c.loop-number.number-index c.loop-number.counts.items m c.loop-number.invariant below in
+    let here = get_or_default_zero c.loop-number.counts.items m c.index_mut.result.now (omega (arith, below, c.loop-number.invariant.each)) in
+    omega (arith, c.index_mut.ensures.value, here, few, c.loop-number-test.true, c.requires.few)
 
 pub loop-number-preserved : goal.loop-number-preserved
-loop-number-preserved c = let h = c.index_mut.ensures in ?
+loop-number-preserved c =
+    let below = All-get_or (IsBelow c.args.words) c.args.numbers.now c.loop-number.number-index 0 c.loop-number-test.true c.requires.below in
+    let m = get_or c.args.numbers.now c.loop-number.number-index 0 in
+    let here : c.index_mut.result.now ≡ get_or c.loop-number.counts.items m 0 = c.index_mut.ensures.value ∙ get_or_default_zero c.loop-number.counts.items m c.index_mut.result.now (omega (arith, below, c.loop-number.invariant.each)) in
+    subst (λ k. AreCounted c.args.words c.args.numbers.now (c.loop-number.number-index + 1) (set c.loop-number.counts.items m (k + 1))) (sym here)
+    (one_counted c.args.words c.args.numbers.now c.loop-number.number-index c.loop-number.counts.items m c.loop-number-test.true refl below c.loop-number.invariant)
 
 pub returns : goal.returns
 returns c = record {
