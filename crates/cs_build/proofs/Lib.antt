@@ -1,3 +1,4 @@
+pub mod AssembleLemmas
 pub mod CollectionLemmas
 pub mod CountLemmas
 pub mod CutLemmas

@@ -7,7 +7,7 @@
 --   rows_counted      as many as its words have together
 --   spans_are, few_runs, all_inside     where the runs lie
 --   heads_are         the heads of the runs
-use Rattle.std.proofs.Common.{◌≡◌, ℕ, zero, suc, ◌+◌, ◌-◌, ◌<◌, ◌≤◌, ◌&&◌, ◌||◌, Bool, true, false, true≢false, cond, List, [], ◌∷◌, ◌++◌, length, map, drop, take, get_or, refl, sym, ◌∙◌, ap, subst, inl, inr, arith, append_assoc, append-nil, length-append, length-map}
+use Rattle.std.proofs.Common.{◌≡◌, ℕ, zero, suc, ◌+◌, ◌-◌, ◌<◌, ◌≤◌, ◌&&◌, ◌||◌, Bool, true, false, true≢false, cond, List, [], ◌∷◌, ◌++◌, length, map, drop, take, get_or, refl, sym, ◌∙◌, ap, subst, inl, inr, arith, append_assoc, append-nil, length-append}
 use Rattle.std.specs.Prelude.{filter, flat_map, nat_lt, nat_le, ◌==◌}
 use Rattle.std.specs.List.{All, AllByRecursion, list_any, list_all, count_by, sum_by, zip}
 use Rattle.std.specs.List.Sorted.{IsStrictlySortedBy}
@@ -18,7 +18,8 @@ use Rattle.std.specs.Str.{bytes_eq}
 use Rattle.std.proofs.Math.Seq.{get_or-append-add}
 use Rattle.std.proofs.lemmas.Bool.{and_parts, and_from, cases_lt, false_from_ne_true, leb-true}
 use Rattle.std.proofs.lemmas.Bool.Decides.{nat_tests}
-use Rattle.std.proofs.lemmas.Cmp.{nat_list_cmp_total, tied_itself}
+use Rattle.std.proofs.lemmas.Cmp.{nat_list_cmp_total}
+use Rattle.std.specs.Cmp.{tied_itself}
 use Rattle.std.proofs.lemmas.List.{get_or_append_left, length-map}
 use Rattle.std.proofs.lemmas.List.Elements.{recursion_from_All}
 use Rattle.std.proofs.lemmas.List.Folds.{list_any_at}
@@ -105,16 +106,16 @@ module _ (ws : Words) (up : IsStrictlySortedBy (slice_cmp nat_cmp) ws) where
       let all : length ws ≡ lo + (length part + length rest) = omega (arith, ap length e, length-append front (part ++ rest), length-append part rest) in
       same_bool _ _
       (λ h.
-          let r = in_range lo n (length part) h in
-          let j : n - lo < length part = omega (arith, r.0, r.1) in
-          let at : word_at part (n - lo) ≡ w = sym (at_front front part rest (n - lo) j e) ∙ ap (word_at ws) (let k : lo + (n - lo) ≡ n = omega (arith, r.0) in k) ∙ word_of_number ws w known in
-          list_any_at (bytes_eq w) part (n - lo) [] j ((bytes_eq-Decides w (word_at part (n - lo))).1 (sym at)))
+      let r = in_range lo n (length part) h in
+      let j : n - lo < length part = omega (arith, r.0, r.1) in
+      let at : word_at part (n - lo) ≡ w = sym (at_front front part rest (n - lo) j e) ∙ ap (word_at ws) (let k : lo + (n - lo) ≡ n = omega (arith, r.0) in k) ∙ word_of_number ws w known in
+      list_any_at (bytes_eq w) part (n - lo) [] j ((bytes_eq-Decides w (word_at part (n - lo))).1 (sym at)))
       (λ h.
-          let j = word_number part w in
-          let l : j < length part = number_below part w h in
-          let at : word_at ws (lo + j) ≡ w = at_front front part rest j l e ∙ word_of_number part w h in
-          let is : n ≡ lo + j = ap (word_number ws) (sym at) ∙ number_of_word ws (lo + j) up (omega (arith, l, all)) in
-          range_in lo n (length part) (omega (arith, is)) (omega (arith, is, l)))
+      let j = word_number part w in
+      let l : j < length part = number_below part w h in
+      let at : word_at ws (lo + j) ≡ w = at_front front part rest j l e ∙ word_of_number part w h in
+      let is : n ≡ lo + j = ap (word_number ws) (sym at) ∙ number_of_word ws (lo + j) up (omega (arith, l, all)) in
+      range_in lo n (length part) (omega (arith, is)) (omega (arith, is, l)))
 
   has_part : Words → Row → Bool
   has_part part r = list_any (bytes_eq r.word) part
@@ -163,10 +164,10 @@ module _ (ws : Words) (up : IsStrictlySortedBy (slice_cmp nat_cmp) ws) where
       or_false false b h k = k
 
   either_kept : (a b : Bool) (r : Row) (xs ys zs : List Row) → (a ≡ true → b ≡ false) → length xs + length ys ≡ length zs → length (cond a (r ∷ xs) xs) + length (cond b (r ∷ ys) ys) ≡ length (cond (a || b) (r ∷ zs) zs)
-  either_kept true true r xs ys zs no e = absurd (true≢false (no refl))
-  either_kept true false r xs ys zs no e = omega (arith, e)
-  either_kept false true r xs ys zs no e = omega (arith, e)
-  either_kept false false r xs ys zs no e = e
+  either_kept true true r xs ys zs apart e = absurd (true≢false (apart refl))
+  either_kept true false r xs ys zs apart e = omega (arith, e)
+  either_kept false true r xs ys zs apart e = omega (arith, e)
+  either_kept false false r xs ys zs apart e = e
 
   one_word_more : (w : List ℕ) (part : Words) (rows : List Row) → AllByRecursion (λ y. slice_cmp nat_cmp w y ≡ Less) part
       → length (filter (λ r. bytes_eq r.word w) rows) + length (filter (λ r. list_any (bytes_eq r.word) part) rows) ≡ length (filter (λ r. list_any (bytes_eq r.word) (w ∷ part)) rows)
@@ -208,8 +209,8 @@ module _ (ws : Words) (up : IsStrictlySortedBy (slice_cmp nat_cmp) ws) where
     rows_counted front [] lo l e = tt
     rows_counted front (part ∷ parts) lo l e = (
       rows_of_part front part (parts_of parts) rows e
-      ∙ ap length (sym (part_posts front part (parts_of parts) (count_in rows) rows e known))
-      ∙ ap (λ (k : ℕ). let run : Run = record { lo = k; words = length part; rows = rows_of_run (count_in rows) part } in length (filter (is_within run) (numbered ws rows))) (sym l),
+          ∙ ap length (sym (part_posts front part (parts_of parts) (count_in rows) rows e known))
+          ∙ ap (λ (k : ℕ). let run : Run = record { lo = k; words = length part; rows = rows_of_run (count_in rows) part } in length (filter (is_within run) (numbered ws rows))) (sym l),
       rows_counted (front ++ part) parts (lo + length part) (omega (arith, l, length-append front part)) (next_front front part (parts_of parts) e),
     )
 

@@ -2,7 +2,6 @@
 --
 --   titles_joined     titles one after the other, as the other sections are written
 --   longer            one item more
---   few_word_bytes    the vocabulary has few bytes
 --   blocks_len_is     the bytes of the blocks are those that the heads tell
 --   pair_at           a head with the posts of its block
 --   same_numbers      nine numbers
@@ -47,17 +46,6 @@ blocks_len_is (h ∷ hs) [] e fit = absurd (omega (arith, e))
 blocks_len_is (h ∷ hs) (b ∷ bs) e fit =
     let rest = blocks_len_is hs bs (omega (arith, e)) fit.1 in
     omega (arith, length-append (block_bytes b h.lo) (blocks_bytes hs bs), rest, fit.0.len, sum_by-cons (λ h. h.len) h hs)
-
-word_lengths : (ws : List (List ℕ)) → AllByRecursion (λ w. length w ≤ MAX_WORD_BYTES) ws → AllByRecursion (λ w. length (length w ∷ w) ≤ MAX_WORD_BYTES + 1) ws
-word_lengths [] h = tt
-word_lengths (w ∷ ws) h = (omega (arith, h.0), word_lengths ws h.1)
-
-pub few_word_bytes : (ws : List (List ℕ)) → length ws ≤ MAX_WORDS → All (λ w. length w ≤ MAX_WORD_BYTES) ws → length (vocabulary_bytes ws) < 2 ^ 32
-unfolding vocabulary_bytes
-few_word_bytes ws few short =
-    let f : List ℕ → List ℕ = λ w. length w ∷ w in
-    let each = All-from_recursion (λ w. length (f w) ≤ MAX_WORD_BYTES + 1) ws (word_lengths ws (recursion_from_All (λ w. length w ≤ MAX_WORD_BYTES) ws short)) in
-    omega (arith, length-flat_map f ws, sum_by-le (λ w. length (f w)) (MAX_WORD_BYTES + 1) ws each, few)
 
 -- ---- heads with their blocks
 pub record IsPair (hs : List BlockHead) (bs : List Cols) (i : ℕ) (h : BlockHead) (x : Cols) : Type 0 where

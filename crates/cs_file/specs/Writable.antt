@@ -6,7 +6,7 @@
 --   CanBeWritten i     each number of the image has room in its file
 use Rattle.std.specs.Prelude.{◌≡◌, ◌^◌, ◌<◌, ◌≤◌, List, length, All}
 use Rattle.std.specs.List.{sum_by, zip}
-use Rattle.cs_base.specs.declared.content.limits.TheConstants.{MAX_DOCS, MAX_WORDS, MAX_ROWS, MAX_WORD_BYTES}
+use Rattle.cs_base.specs.declared.content.limits.TheConstants.{MAX_DOCS, MAX_WORDS, MAX_ROWS}
 use Rattle.cs_base.specs.declared.index.block.BlockHead.{BlockHead}
 use Rattle.cs_base.specs.declared.content.doc.Post.{Post}
 use Rattle.cs_model_index.specs.Blocks.{AreWritable, block_bytes}
@@ -24,7 +24,6 @@ pub record CanBeWritten (i : Image) : Type 0 where
   pub few_docs : length i.titles ≤ MAX_DOCS
   pub few_bytes : length (title_bytes i.titles) < 2 ^ 32
   pub few_words : length i.words ≤ MAX_WORDS
-  pub short : All (λ w. length w ≤ MAX_WORD_BYTES) i.words
   pub few_blocks : length i.blocks ≤ length i.words
   pub one_each : length i.heads ≡ length i.blocks
   pub few_rows : sum_by (λ block. length block) i.blocks ≤ MAX_ROWS

@@ -1,6 +1,7 @@
 //! The numbers of an index file's header.
 ghost use Rattle.std.specs.Prelude.{◌≡◌, ◌<◌, ◌≤◌, ◌^◌, length, map};
 ghost use Rattle.std.specs.List.{sum_by};
+ghost use Rattle.cs_base.specs.declared.content.limits.TheConstants.{MAX_WORDS};
 ghost use Rattle.cs_model_index.specs.Layout.{Header, header_numbers, header_of_image, vocabulary_bytes, title_bytes};
 ghost use Rattle.cs_file.specs.Writable.{CanBeWritten};
 
@@ -41,13 +42,13 @@ fn rows_in(blocks: &[Cols]) -> u32
 }
 
 fn vocabulary_len(words: &Vocab) -> u32
-    requires { length (vocabulary_bytes words.now) < 2 ^ 32 }
+    requires { length words.now ≤ MAX_WORDS }
 
     ensures { result ≡ length (vocabulary_bytes words.now) }
 {
     let mut bytes = 0;
     for n in 0..words.len() {
-        bytes += 1 + words.word(n).len() as u32;
+        bytes += 1 + u32::from(words.word_len(n));
     }
     bytes
 }

@@ -2,7 +2,6 @@
 ghost use Rattle.std.specs.Prelude.{◌≡◌, ◌∷◌, ◌++◌, ◌≤◌, ◌<◌, ◌^◌, OnOk, OnErr, length, map, All};
 ghost use Rattle.std.specs.List.{flat_map, zip};
 ghost use Rattle.cs_base.specs.outside.Outside.{Grew, GrewByPrefix};
-ghost use Rattle.cs_base.specs.declared.content.limits.TheConstants.{MAX_WORD_BYTES};
 ghost use Rattle.cs_model_index.specs.Blocks.{AreWritable, block_bytes};
 ghost use Rattle.cs_model_index.specs.Layout.{file, number_bytes, header_bytes, header_of_image, vocabulary_bytes, offset_bytes, title_bytes, entry_bytes, directory_bytes, blocks_bytes};
 ghost use Rattle.cs_file.specs.Answers.{is_sink};
@@ -84,29 +83,30 @@ fn put_numbers<S: Sink>(numbers: &[u32], held: &mut Vec<u8>, out: &mut S) -> Res
 }
 
 fn put_vocabulary<S: Sink>(words: &Vocab, held: &mut Vec<u8>, out: &mut S) -> Result<(), WriteFault>
-    requires { All (λ w. length w ≤ MAX_WORD_BYTES) words.now }
-
     ensures ok { OnOk result (HasPut (S.written out.old) held.old.items (vocabulary_bytes words.now) (S.written out.new) held.new.items) }
     ensures err { OnErr result (GrewByPrefix (S.written out.old) (held.old.items ++ vocabulary_bytes words.now) (S.written out.new)) }
     ensures lent { S.lent out.new ≡ S.lent out.old }
     ensures caused { CausedReads (is_sink result) (S.faults out.old) (S.faults out.new) }
 {
     for n in 0..words.len() {
-        put_word(words.word(n), held, out)?;
+        put_word(words.word_len(n), words.word(n), held, out)?;
     }
     Ok(())
 }
 
-// Puts a word behind its length.
-fn put_word<S: Sink>(word: &[u8], held: &mut Vec<u8>, out: &mut S) -> Result<(), WriteFault>
-    requires { length word.now ≤ MAX_WORD_BYTES }
-
-    ensures ok { OnOk result (HasPut (S.written out.old) held.old.items (length word.now ∷ word.now) (S.written out.new) held.new.items) }
-    ensures err { OnErr result (GrewByPrefix (S.written out.old) (held.old.items ++ length word.now ∷ word.now) (S.written out.new)) }
+// Puts a length, and a word behind it.
+fn put_word<S: Sink>(
+    len: u8,
+    word: &[u8],
+    held: &mut Vec<u8>,
+    out: &mut S,
+) -> Result<(), WriteFault>
+    ensures ok { OnOk result (HasPut (S.written out.old) held.old.items (len ∷ word.now) (S.written out.new) held.new.items) }
+    ensures err { OnErr result (GrewByPrefix (S.written out.old) (held.old.items ++ len ∷ word.now) (S.written out.new)) }
     ensures lent { S.lent out.new ≡ S.lent out.old }
     ensures caused { CausedReads (is_sink result) (S.faults out.old) (S.faults out.new) }
 {
-    put_bytes(&[word.len() as u8], held, out)?;
+    put_bytes(&[len], held, out)?;
     put_bytes(word, held, out)
 }
 

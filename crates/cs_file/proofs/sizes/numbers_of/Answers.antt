@@ -6,13 +6,8 @@ use Rattle.cs_base.specs.declared.index.block.BlockHead.{BlockHead}
 use Rattle.cs_cols.specs.declared.cols.Cols.{Cols}
 use Rattle.cs_model_index.specs.Layout.{header_numbers, header_of_image, title_bytes}
 use Rattle.cs_file.specs.Writable.{BlockFits, CanBeWritten}
-use Rattle.cs_file.proofs.SizeLemmas.{few_word_bytes, blocks_len_is, rows_counted, same_numbers}
+use Rattle.cs_file.proofs.SizeLemmas.{blocks_len_is, rows_counted, same_numbers}
 use Rattle.cs_file.proofs.sizes.numbers_of.Goals as goal
-
-pub vocabulary_len-requires : goal.vocabulary_len-requires
-vocabulary_len-requires c =
-    let r = subst CanBeWritten (sym c.image.view_is) c.requires in
-    few_word_bytes c.image.inside.words r.few_words r.short
 
 pub blocks_len-requires : goal.blocks_len-requires
 blocks_len-requires c =
