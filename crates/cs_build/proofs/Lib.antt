@@ -1,8 +1,17 @@
+pub mod AssembleLemmas
 pub mod CollectionLemmas
+pub mod CountLemmas
+pub mod CutLemmas
 pub mod FileLemmas
+pub mod FillLemmas
+pub mod HeadLemmas
 pub mod KeyTextLemmas
+pub mod KindLemmas
+pub mod LengthLemmas
 pub mod MadeLemmas
+pub mod OrderLemmas
 pub mod PartLemmas
 pub mod RowLemmas
+pub mod TextPartLemmas
 pub mod TitleLemmas
 pub mod WordLemmas

@@ -1,125 +1,262 @@
--- Parts of a text that is cut at ASCII bytes are texts.
+-- The runs of a corpus's words, and the blocks that they have.
 --
---   before-utf8, after-utf8    what stands before and behind the first byte that passes a test
---   facet_pieces-utf8          the pieces of a facets column
-use Rattle.std.proofs.Common.{◌≡◌, ℕ, zero, suc, ◌+◌, ◌-◌, ◌<◌, ◌≤◌, Bool, true, false, not, true≢false, cond, nat_lt, List, [], ◌∷◌, length, map, filter, drop, get_or, reverse, refl, sym, ap, ◌∙◌, subst, arith, length-drop}
-use Rattle.std.specs.List.{AllByRecursion, slice_split, position_or_len, prefix_len, suffix_len, before_first, after_first}
-use Rattle.std.specs.Str.{IsUtf8}
+--   Partly            runs that stand behind a front of the words
+--   agree             the counts of numbers are those of the rows' words
+--   numbered_posts    the posts of rows by their words' numbers
+--   blocks_are        the block of a run has the rows of its words
+--   rows_counted      as many as its words have together
+--   spans_are, few_runs, all_inside     where the runs lie
+--   heads_are         the heads of the runs
+use Rattle.std.proofs.Common.{◌≡◌, ℕ, zero, suc, ◌+◌, ◌-◌, ◌<◌, ◌≤◌, ◌&&◌, ◌||◌, Bool, true, false, true≢false, cond, List, [], ◌∷◌, ◌++◌, length, map, drop, take, get_or, refl, sym, ◌∙◌, ap, subst, inl, inr, arith, append_assoc, append-nil, length-append}
+use Rattle.std.specs.Prelude.{filter, flat_map, nat_lt, nat_le, ◌==◌}
+use Rattle.std.specs.List.{All, AllByRecursion, list_any, list_all, count_by, sum_by, zip}
+use Rattle.std.specs.List.Sorted.{IsStrictlySortedBy}
+use Rattle.std.specs.Ordering.{nat_cmp, is_lt}
+use Rattle.std.specs.Cmp.Lexicographic.{slice_cmp}
+use Rattle.std.specs.declared.cmp.Ordering.TheVariants.{Less}
+use Rattle.std.specs.Str.{bytes_eq}
+use Rattle.std.proofs.Math.Seq.{get_or-append-add}
+use Rattle.std.proofs.lemmas.Bool.{and_parts, and_from, cases_lt, false_from_ne_true, leb-true}
 use Rattle.std.proofs.lemmas.Bool.Decides.{nat_tests}
-use Rattle.std.proofs.lemmas.List.{take_all, drop_all, nil_from_length, get_or-reverse}
-use Rattle.std.proofs.lemmas.List.Elements.{All-from_get_or}
-use Rattle.std.proofs.lemmas.List.Splits.{slice_split_first, slice_split_none}
-use Rattle.std.proofs.lemmas.List.Sums.{prefix_len_passes, prefix_len_stops, fails_before_first, suffix_len-le-length}
-use Rattle.std.proofs.lemmas.Str.{IsUtf8-nil, IsUtf8-take, IsUtf8-drop, IsCharBoundary-before_ascii, IsCharBoundary-after_ascii}
-use Rattle.cs_docs.specs.Pieces.{is_semicolon}
-use Rattle.cs_model.specs.Collection.{is_space, without_spaces, without_spaces_behind, facet_pieces}
+use Rattle.std.proofs.lemmas.Cmp.{nat_list_cmp_total}
+use Rattle.std.specs.Cmp.{tied_itself}
+use Rattle.std.proofs.lemmas.List.{get_or_append_left, length-map}
+use Rattle.std.proofs.lemmas.List.Elements.{recursion_from_All}
+use Rattle.std.proofs.lemmas.List.Folds.{list_any_at}
+use Rattle.std.proofs.lemmas.List.Sums.{length-filter, sum_by-cons}
+use Rattle.std.proofs.lemmas.Slice.Eq.{bytes_eq-Decides}
+use Rattle.cs_base.specs.declared.index.block.BlockHead.{BlockHead}
+use Rattle.cs_base.specs.declared.content.doc.Post.{Post}
+use Rattle.cs_base.specs.declared.content.doc.Row.{Row}
 use Rattle.cs_model.specs.Words.{is_filled}
+use Rattle.cs_model_index.specs.Images.{count_in, block_of, head_of, heads_from}
+use Rattle.cs_model_index.specs.Blocks.{block_bytes}
+use Rattle.cs_model_index.specs.Numbered.{word_at, word_number, post_of, numbered, HasWord}
+use Rattle.cs_model_index.specs.Partitions.{Count, is_facet, rows_of_run, is_run, is_one_kind, is_light}
+use Rattle.cs_model_index.specs.declared.limits.TheConstants.{MAX_BLOCK_WORDS}
+use Rattle.cs_model_index.proofs.NumberedLemmas.{word_of_number, number_of_word, number_below}
+use Rattle.cs_vocab.specs.Ranges.{IsBelow, AreNumbers}
+use Rattle.cs_build.specs.Runs.{AreCounts, Agrees, AreSpans, IsCounted, runs_from, has_word, is_within, posts_by, head_by}
+use Rattle.cs_build.specs.declared.parting.Run.{Run}
 
--- ---- the first byte that passes a test
+abbrev Words : Type 0
+Words = List (List ℕ)
 
-passes : (b : Bool) → not b ≡ false → b ≡ true
-passes true h = refl
-passes false h = absurd (true≢false h)
+-- ---- truth values
+same_bool : (a b : Bool) → (a ≡ true → b ≡ true) → (b ≡ true → a ≡ true) → a ≡ b
+same_bool true true f g = refl
+same_bool false false f g = refl
+same_bool true false f g = sym (f refl)
+same_bool false true f g = g refl
 
-module _ (p : ℕ → Bool) (ascii : (b : ℕ) → p b ≡ true → b < 128) where
-  here : (bs : List ℕ) → position_or_len p bs < length bs → get_or bs (position_or_len p bs) 0 < 128
-  here bs l = ascii (get_or bs (position_or_len p bs) 0) (passes (p (get_or bs (position_or_len p bs) 0)) (prefix_len_stops (λ x. not (p x)) bs 0 l))
+same_kept : {X Y : Type 0} (a b : Bool) (x : X) (y : Y) (xs : List X) (ys : List Y) → a ≡ b → length xs ≡ length ys → length (cond a (x ∷ xs) xs) ≡ length (cond b (y ∷ ys) ys)
+same_kept true true x y xs ys e l = ap (λ n. suc n) l
+same_kept false false x y xs ys e l = l
+same_kept true false x y xs ys e l = absurd (true≢false e)
+same_kept false true x y xs ys e l = absurd (true≢false (sym e))
 
-  before_at : (b : Bool) (bs : List ℕ) → nat_lt (position_or_len p bs) (length bs) ≡ b → IsUtf8 bs → IsUtf8 (before_first p bs)
-  before_at true bs e u =
-      let l : position_or_len p bs < length bs = grind (arith, nat_tests) in
-      IsUtf8-take bs (position_or_len p bs) u (IsCharBoundary-before_ascii bs (position_or_len p bs) l (here bs l))
-  before_at false bs e u =
-      let l : length bs ≤ position_or_len p bs = grind (arith, nat_tests) in
-      subst IsUtf8 (sym (take_all (position_or_len p bs) bs l)) u
+module _ (ws : Words) (up : IsStrictlySortedBy (slice_cmp nat_cmp) ws) where
+  -- ---- numbers of rows
+  same_test : (m n : ℕ) → m < length ws → n < length ws → (m == n) ≡ bytes_eq (word_at ws m) (word_at ws n)
+  same_test m n l h = same_bool (m == n) (bytes_eq (word_at ws m) (word_at ws n))
+      (λ e. let same : m ≡ n = grind (arith, nat_tests) in (bytes_eq-Decides (word_at ws m) (word_at ws n)).1 (ap (word_at ws) same))
+      (λ e. let same : m ≡ n = sym (number_of_word ws m up l) ∙ ap (word_number ws) ((bytes_eq-Decides (word_at ws m) (word_at ws n)).0 e) ∙ number_of_word ws n up h in grind (arith, nat_tests))
 
-  pub before-utf8 : (bs : List ℕ) → IsUtf8 bs → IsUtf8 (before_first p bs)
-  before-utf8 bs u = before_at (nat_lt (position_or_len p bs) (length bs)) bs refl u
+  counted : (n : ℕ) → n < length ws → (rows : List Row) (numbers : List ℕ) → map (word_at ws) numbers ≡ map (λ r. r.word) rows → AllByRecursion (IsBelow (length ws)) numbers
+      → length (filter (λ m. m == n) numbers) ≡ length (filter (λ r. bytes_eq r.word (word_at ws n)) rows)
+  counted n h [] [] e b = refl
+  counted n h (r ∷ rows) [] e b = absurd (omega (arith, ap length e))
+  counted n h [] (m ∷ numbers) e b = absurd (omega (arith, ap length e))
+  counted n h (r ∷ rows) (m ∷ numbers) e b =
+      let first : word_at ws m ≡ r.word = ap (λ l. get_or l 0 []) e in
+      same_kept (m == n) (bytes_eq r.word (word_at ws n)) m r (filter (λ k. k == n) numbers) (filter (λ s. bytes_eq s.word (word_at ws n)) rows)
+      (same_test m n b.0 h ∙ ap (λ w. bytes_eq w (word_at ws n)) first) (counted n h rows numbers (ap (drop 1) e) b.1)
 
-  after_at : (b : Bool) (bs : List ℕ) → nat_lt (position_or_len p bs) (length bs) ≡ b → IsUtf8 bs → IsUtf8 (after_first p bs)
-  after_at true bs e u =
-      let l : position_or_len p bs < length bs = grind (arith, nat_tests) in
-      IsUtf8-drop bs (position_or_len p bs + 1) u (IsCharBoundary-after_ascii bs (position_or_len p bs) u l (here bs l))
-  after_at false bs e u =
-      let l : length bs ≤ position_or_len p bs + 1 = grind (arith, nat_tests) in
-      subst IsUtf8 (sym (drop_all (position_or_len p bs + 1) bs l)) IsUtf8-nil
+  pub agree : (rows : List Row) (numbers counts : List ℕ) (words : ℕ) → words ≡ length ws → AreNumbers ws numbers (map (λ r. r.word) rows) → AreCounts words numbers counts → Agrees ws counts (count_in rows)
+  agree rows numbers counts words many ns cs n l =
+      cs.at n (omega (arith, l, many)) ∙ sym (length-filter (λ m. m == n) numbers) ∙ counted n l rows numbers ns.told (recursion_from_All (IsBelow (length ws)) numbers ns.below)
 
-  pub after-utf8 : (bs : List ℕ) → IsUtf8 bs → IsUtf8 (after_first p bs)
-  after-utf8 bs u = after_at (nat_lt (position_or_len p bs) (length bs)) bs refl u
+  posts_are : (rows : List Row) (numbers : List ℕ) → map (word_at ws) numbers ≡ map (λ r. r.word) rows → AllByRecursion (IsBelow (length ws)) numbers → posts_by rows numbers ≡ numbered ws rows
+  posts_are [] numbers e b = refl
+  posts_are (r ∷ rows) [] e b = absurd (omega (arith, ap length e))
+  posts_are (r ∷ rows) (m ∷ numbers) e b =
+      let first : word_at ws m ≡ r.word = ap (λ l. get_or l 0 []) e in
+      let number : m ≡ word_number ws r.word = sym (number_of_word ws m up b.0) ∙ ap (word_number ws) first in
+      ap (λ (n : ℕ). let p : Post = record { doc = r.doc; word = n; pos = r.pos; score = r.score } in p ∷ posts_by rows numbers) number
+      ∙ ap (λ ps. post_of ws r ∷ ps) (posts_are rows numbers (ap (drop 1) e) b.1)
 
-  whole : (bs : List ℕ) → length bs ≤ position_or_len p bs → slice_split p bs ≡ bs ∷ []
-  whole bs l = slice_split_none p bs (All-from_get_or (λ b. p b ≡ false) bs 0 (λ k m. fails_before_first p bs k 0 (omega (arith, l, m))))
+  pub numbered_posts : (rows : List Row) (numbers : List ℕ) → AreNumbers ws numbers (map (λ r. r.word) rows) → posts_by rows numbers ≡ numbered ws rows
+  numbered_posts rows numbers ns = posts_are rows numbers ns.told (recursion_from_All (IsBelow (length ws)) numbers ns.below)
 
-  shorter : (bs : List ℕ) (n : ℕ) → length bs ≤ n + 1 → length (after_first p bs) ≤ n
-  shorter bs n h = omega (arith, length-drop (position_or_len p bs + 1) bs)
+  -- ---- the words of a run
+  in_range : (lo n k : ℕ) → (nat_le lo n && nat_lt n (lo + k)) ≡ true → (lo ≤ n) × (n < lo + k)
+  in_range lo n k h = (grind (arith, nat_tests), grind (arith, nat_tests))
 
-  split_at : (b : Bool) (bs : List ℕ) → nat_lt (position_or_len p bs) (length bs) ≡ b → IsUtf8 bs → AllByRecursion IsUtf8 (slice_split p (after_first p bs)) → AllByRecursion IsUtf8 (slice_split p bs)
-  split_at true bs e u rest =
-      let l : position_or_len p bs < length bs = grind (arith, nat_tests) in
-      subst (AllByRecursion IsUtf8) (sym (slice_split_first p bs 0 l)) (before-utf8 bs u, rest)
-  split_at false bs e u rest =
-      let l : length bs ≤ position_or_len p bs = grind (arith, nat_tests) in
-      subst (AllByRecursion IsUtf8) (sym (whole bs l)) (u, tt)
+  range_in : (lo n k : ℕ) → lo ≤ n → n < lo + k → (nat_le lo n && nat_lt n (lo + k)) ≡ true
+  range_in lo n k h l = grind (arith, nat_tests)
 
-  split_within : (n : ℕ) (bs : List ℕ) → length bs ≤ n → IsUtf8 bs → AllByRecursion IsUtf8 (slice_split p bs)
-  split_within zero bs l u =
-      let none : bs ≡ [] = nil_from_length bs (omega (arith, l)) in
-      subst (λ v. AllByRecursion IsUtf8 (slice_split p v)) (sym none) (IsUtf8-nil, tt)
-  split_within (suc n) bs l u = split_at (nat_lt (position_or_len p bs) (length bs)) bs refl u (split_within n (after_first p bs) (shorter bs n (omega (arith, l))) (after-utf8 bs u))
+  at_front : (front part rest : Words) (j : ℕ) → j < length part → ws ≡ front ++ (part ++ rest) → word_at ws (length front + j) ≡ word_at part j
+  at_front front part rest j l e = ap (λ x. word_at x (length front + j)) e ∙ get_or-append-add front (part ++ rest) j [] ∙ get_or_append_left part rest [] j l
 
-  split-utf8 : (bs : List ℕ) → IsUtf8 bs → AllByRecursion IsUtf8 (slice_split p bs)
-  split-utf8 bs u = split_within (length bs) bs (omega arith) u
+  pub in_part : (front part rest : Words) (w : List ℕ) → ws ≡ front ++ (part ++ rest) → list_any (bytes_eq w) ws ≡ true
+      → (nat_le (length front) (word_number ws w) && nat_lt (word_number ws w) (length front + length part)) ≡ list_any (bytes_eq w) part
+  in_part front part rest w e known =
+      let n = word_number ws w in
+      let lo = length front in
+      let all : length ws ≡ lo + (length part + length rest) = omega (arith, ap length e, length-append front (part ++ rest), length-append part rest) in
+      same_bool _ _
+      (λ h.
+      let r = in_range lo n (length part) h in
+      let j : n - lo < length part = omega (arith, r.0, r.1) in
+      let at : word_at part (n - lo) ≡ w = sym (at_front front part rest (n - lo) j e) ∙ ap (word_at ws) (let k : lo + (n - lo) ≡ n = omega (arith, r.0) in k) ∙ word_of_number ws w known in
+      list_any_at (bytes_eq w) part (n - lo) [] j ((bytes_eq-Decides w (word_at part (n - lo))).1 (sym at)))
+      (λ h.
+      let j = word_number part w in
+      let l : j < length part = number_below part w h in
+      let at : word_at ws (lo + j) ≡ w = at_front front part rest j l e ∙ word_of_number part w h in
+      let is : n ≡ lo + j = ap (word_number ws) (sym at) ∙ number_of_word ws (lo + j) up (omega (arith, l, all)) in
+      range_in lo n (length part) (omega (arith, is)) (omega (arith, is, l)))
 
--- ---- spaces
+  has_part : Words → Row → Bool
+  has_part part r = list_any (bytes_eq r.word) part
 
-space_ascii : (b : ℕ) → is_space b ≡ true → b < 128
-space_ascii b h = grind (arith, nat_tests)
+  one_kept : (a b : Bool) (p : Post) (r : Row) (ps : List Post) (rs : List Row) → a ≡ b → p ≡ post_of ws r → ps ≡ numbered ws rs → cond a (p ∷ ps) ps ≡ numbered ws (cond b (r ∷ rs) rs)
+  one_kept true true p r ps rs e f g = ap (λ x. x ∷ ps) f ∙ ap (λ l. post_of ws r ∷ l) g
+  one_kept false false p r ps rs e f g = g
+  one_kept true false p r ps rs e f g = absurd (true≢false e)
+  one_kept false true p r ps rs e f g = absurd (true≢false (sym e))
 
-one-more : (n : ℕ) → 1 + n ≡ suc n
-one-more n = omega arith
+  pub part_posts : (front part rest : Words) (count : Count) (rows : List Row) → ws ≡ front ++ (part ++ rest) → AllByRecursion (HasWord ws) rows
+      → let run : Run = record { lo = length front; words = length part; rows = rows_of_run count part } in filter (is_within run) (numbered ws rows) ≡ block_of ws rows part
+  part_posts front part rest count [] e k = refl
+  part_posts front part rest count (r ∷ rows) e k =
+      let run : Run = record { lo = length front; words = length part; rows = rows_of_run count part } in
+      one_kept (is_within run (post_of ws r)) (list_any (bytes_eq r.word) part) (post_of ws r) r (filter (is_within run) (numbered ws rows)) (filter (λ s. list_any (bytes_eq s.word) part) rows)
+      (in_part front part rest r.word e k.0) refl (part_posts front part rest count rows e k.1)
 
-front_at : (b : Bool) (x : ℕ) (bs : List ℕ) → is_space x ≡ b → IsUtf8 (x ∷ bs) → (IsUtf8 bs → IsUtf8 (drop (prefix_len is_space bs) bs)) → IsUtf8 (drop (cond b (1 + prefix_len is_space bs) 0) (x ∷ bs))
-front_at true x bs e u more =
-    let rest : IsUtf8 bs = IsUtf8-drop (x ∷ bs) 1 u (IsCharBoundary-after_ascii (x ∷ bs) 0 u (omega arith) (space_ascii x e)) in
-    subst (λ n. IsUtf8 (drop n (x ∷ bs))) (sym (one-more (prefix_len is_space bs))) (more rest)
-front_at false x bs e u more = u
+  -- ---- how many rows a run has
+  sorted_front : (xs ys : Words) → IsStrictlySortedBy (slice_cmp nat_cmp) (xs ++ ys) → IsStrictlySortedBy (slice_cmp nat_cmp) xs
+  unfolding IsStrictlySortedBy
+  sorted_front [] ys h = tt
+  sorted_front (x ∷ xs) ys h = (below_front (λ y. slice_cmp nat_cmp x y ≡ Less) xs ys h.0, sorted_front xs ys h.1)
+    where
+      below_front : (P : List ℕ → Type 0) (xs ys : Words) → AllByRecursion P (xs ++ ys) → AllByRecursion P xs
+      below_front P [] ys h = tt
+      below_front P (x ∷ xs) ys h = (h.0, below_front P xs ys h.1)
 
-front-utf8 : (bs : List ℕ) → IsUtf8 bs → IsUtf8 (drop (prefix_len is_space bs) bs)
-front-utf8 [] u = u
-front-utf8 (x ∷ bs) u = front_at (is_space x) x bs refl u (front-utf8 bs)
+  sorted_behind : (xs ys : Words) → IsStrictlySortedBy (slice_cmp nat_cmp) (xs ++ ys) → IsStrictlySortedBy (slice_cmp nat_cmp) ys
+  unfolding IsStrictlySortedBy
+  sorted_behind [] ys h = h
+  sorted_behind (x ∷ xs) ys h = sorted_behind xs ys h.1
 
-end_space : (bs : List ℕ) (n : ℕ) → n + 1 ≡ suffix_len is_space bs → n < length bs → get_or bs (length bs - suffix_len is_space bs) 0 < 128
-end_space bs n e l =
-    let last : is_space (get_or (reverse bs) n 0) ≡ true = prefix_len_passes is_space (reverse bs) n 0 (omega (arith, e)) in
-    let at : length bs - 1 - n ≡ length bs - suffix_len is_space bs = omega (arith, e) in
-    space_ascii _ (ap is_space (ap (λ k. get_or bs k 0) (sym at) ∙ sym (get_or-reverse bs n 0 l)) ∙ last)
+  not_less_itself : (w : List ℕ) → slice_cmp nat_cmp w w ≡ Less → ⊥
+  not_less_itself w h = true≢false (sym (ap is_lt h) ∙ ap is_lt (tied_itself nat_list_cmp_total w))
 
-behind_at : (bs : List ℕ) (n : ℕ) → n ≡ suffix_len is_space bs → IsUtf8 bs → IsUtf8 (without_spaces_behind bs)
-behind_at bs zero e u = subst IsUtf8 (sym (take_all (length bs - suffix_len is_space bs) bs (omega (arith, e)))) u
-behind_at bs (suc n) e u =
-    let within : suffix_len is_space bs ≤ length bs = suffix_len-le-length is_space bs in
-    let one : n + 1 ≡ suffix_len is_space bs = omega (arith, e) in
-    let l : length bs - suffix_len is_space bs < length bs = omega (arith, one, within) in
-    IsUtf8-take bs (length bs - suffix_len is_space bs) u (IsCharBoundary-before_ascii bs (length bs - suffix_len is_space bs) l (end_space bs n one (omega (arith, one, within))))
+  not_there : (w v : List ℕ) (part : Words) → v ≡ w → AllByRecursion (λ y. slice_cmp nat_cmp w y ≡ Less) part → list_any (bytes_eq v) part ≡ false
+  not_there w v [] e h = refl
+  not_there w v (y ∷ part) e h =
+      or_false (bytes_eq v y) (list_any (bytes_eq v) part)
+      (false_from_ne_true _ (λ t. not_less_itself w (ap (slice_cmp nat_cmp w) (sym e ∙ (bytes_eq-Decides v y).0 t) ∙ h.0)))
+      (not_there w v part e h.1)
+    where
+      or_false : (a b : Bool) → a ≡ false → b ≡ false → (a || b) ≡ false
+      or_false true b h k = h
+      or_false false b h k = k
 
-pub behind-utf8 : (bs : List ℕ) → IsUtf8 bs → IsUtf8 (without_spaces_behind bs)
-behind-utf8 bs u = behind_at bs (suffix_len is_space bs) refl u
+  either_kept : (a b : Bool) (r : Row) (xs ys zs : List Row) → (a ≡ true → b ≡ false) → length xs + length ys ≡ length zs → length (cond a (r ∷ xs) xs) + length (cond b (r ∷ ys) ys) ≡ length (cond (a || b) (r ∷ zs) zs)
+  either_kept true true r xs ys zs apart e = absurd (true≢false (apart refl))
+  either_kept true false r xs ys zs apart e = omega (arith, e)
+  either_kept false true r xs ys zs apart e = omega (arith, e)
+  either_kept false false r xs ys zs apart e = e
 
-spaces-utf8 : (bs : List ℕ) → IsUtf8 bs → IsUtf8 (without_spaces bs)
-spaces-utf8 bs u = behind-utf8 (drop (prefix_len is_space bs) bs) (front-utf8 bs u)
+  one_word_more : (w : List ℕ) (part : Words) (rows : List Row) → AllByRecursion (λ y. slice_cmp nat_cmp w y ≡ Less) part
+      → length (filter (λ r. bytes_eq r.word w) rows) + length (filter (λ r. list_any (bytes_eq r.word) part) rows) ≡ length (filter (λ r. list_any (bytes_eq r.word) (w ∷ part)) rows)
+  one_word_more w part [] h = refl
+  one_word_more w part (r ∷ rows) h =
+      either_kept (bytes_eq r.word w) (list_any (bytes_eq r.word) part) r _ _ _ (λ t. not_there w r.word part ((bytes_eq-Decides r.word w).0 t) h) (one_word_more w part rows h)
 
--- ---- pieces of facets
+  no_rows : (rows : List Row) → length (filter (λ r. list_any (bytes_eq r.word) []) rows) ≡ 0
+  no_rows [] = refl
+  no_rows (r ∷ rows) = no_rows rows
 
-semicolon_ascii : (b : ℕ) → is_semicolon b ≡ true → b < 128
-semicolon_ascii b h = grind (arith, nat_tests)
+  part_rows : (part : Words) (rows : List Row) → IsStrictlySortedBy (slice_cmp nat_cmp) part → rows_of_run (count_in rows) part ≡ length (filter (λ r. list_any (bytes_eq r.word) part) rows)
+  unfolding IsStrictlySortedBy
+  part_rows [] rows h = sym (no_rows rows)
+  part_rows (w ∷ part) rows h =
+      sum_by-cons (count_in rows) w part ∙ ap (λ (n : ℕ). count_in rows w + n) (part_rows part rows h.1) ∙ one_word_more w part rows h.0
 
-kept_at : (b : Bool) (p : List ℕ) (ps : List (List ℕ)) → IsUtf8 p → AllByRecursion IsUtf8 ps → AllByRecursion IsUtf8 (cond b (p ∷ ps) ps)
-kept_at true p ps u h = (u, h)
-kept_at false p ps u h = h
+  pub rows_of_part : (front part rest : Words) (rows : List Row) → ws ≡ front ++ (part ++ rest) → rows_of_run (count_in rows) part ≡ length (block_of ws rows part)
+  rows_of_part front part rest rows e =
+      part_rows part rows (sorted_front part rest (sorted_behind front (part ++ rest) (subst (IsStrictlySortedBy (slice_cmp nat_cmp)) e up)))
+      ∙ sym (length-map (filter (λ r. list_any (bytes_eq r.word) part) rows) (post_of ws))
 
-each_piece : (ps : List (List ℕ)) → AllByRecursion IsUtf8 ps → AllByRecursion IsUtf8 (filter is_filled (map without_spaces ps))
-each_piece [] h = tt
-each_piece (p ∷ ps) h = kept_at (is_filled (without_spaces p)) (without_spaces p) (filter is_filled (map without_spaces ps)) (spaces-utf8 p h.0) (each_piece ps h.1)
+  -- ---- run by run
+  next_front : (front part rest : Words) → ws ≡ front ++ (part ++ rest) → ws ≡ (front ++ part) ++ rest
+  next_front front part rest e = e ∙ sym (append_assoc front part rest)
 
-pub facet_pieces-utf8 : (column : List ℕ) → IsUtf8 column → AllByRecursion IsUtf8 (facet_pieces column)
-facet_pieces-utf8 column u = each_piece (slice_split is_semicolon column) (split-utf8 is_semicolon semicolon_ascii column u)
+  module _ (rows : List Row) (known : AllByRecursion (HasWord ws) rows) where
+    abbrev parts_of : List Words → Words
+    parts_of parts = flat_map (λ part. part) parts
+
+    pub blocks_are : (front : Words) (parts : List Words) (lo : ℕ) → lo ≡ length front → ws ≡ front ++ parts_of parts → map (λ run. filter (is_within run) (numbered ws rows)) (runs_from (count_in rows) lo parts) ≡ map (block_of ws rows) parts
+    blocks_are front [] lo l e = refl
+    blocks_are front (part ∷ parts) lo l e =
+        ap (λ (k : ℕ). let run : Run = record { lo = k; words = length part; rows = rows_of_run (count_in rows) part } in filter (is_within run) (numbered ws rows) ∷ map (λ run. filter (is_within run) (numbered ws rows)) (runs_from (count_in rows) (lo + length part) parts)) l
+        ∙ ap (λ b. b ∷ map (λ run. filter (is_within run) (numbered ws rows)) (runs_from (count_in rows) (lo + length part) parts)) (part_posts front part (parts_of parts) (count_in rows) rows e known)
+        ∙ ap (λ bs. block_of ws rows part ∷ bs) (blocks_are (front ++ part) parts (lo + length part) (omega (arith, l, length-append front part)) (next_front front part (parts_of parts) e))
+
+    pub rows_counted : (front : Words) (parts : List Words) (lo : ℕ) → lo ≡ length front → ws ≡ front ++ parts_of parts → AllByRecursion (IsCounted (numbered ws rows)) (runs_from (count_in rows) lo parts)
+    rows_counted front [] lo l e = tt
+    rows_counted front (part ∷ parts) lo l e = (
+      rows_of_part front part (parts_of parts) rows e
+          ∙ ap length (sym (part_posts front part (parts_of parts) (count_in rows) rows e known))
+          ∙ ap (λ (k : ℕ). let run : Run = record { lo = k; words = length part; rows = rows_of_run (count_in rows) part } in length (filter (is_within run) (numbered ws rows))) (sym l),
+      rows_counted (front ++ part) parts (lo + length part) (omega (arith, l, length-append front part)) (next_front front part (parts_of parts) e),
+    )
+
+    first_word : (front part rest : Words) → 1 ≤ length part → ws ≡ front ++ (part ++ rest) → word_at ws (length front) ≡ word_at part 0
+    first_word front part rest some e = ap (word_at ws) (let z : length front ≡ length front + 0 = omega arith in z) ∙ at_front front part rest 0 some e
+
+    pub heads_are : (front : Words) (parts : List Words) (lo : ℕ) → lo ≡ length front → AllByRecursion (λ part. 1 ≤ length part) parts → ws ≡ front ++ parts_of parts
+        → map (head_by ws) (zip (runs_from (count_in rows) lo parts) (map (block_of ws rows) parts)) ≡ heads_from lo (zip parts (map (block_of ws rows) parts))
+    unfolding heads_from
+    heads_are front [] lo l some e = refl
+    heads_are front (part ∷ parts) lo l some e =
+        let block = block_of ws rows part in
+        let facet : is_facet (word_at ws lo) ≡ is_facet (word_at part 0) = ap (λ (k : ℕ). is_facet (word_at ws k)) l ∙ ap is_facet (first_word front part (parts_of parts) some.0 e) in
+        ap (λ (f : Bool). let h : BlockHead = record { lo = lo; words = length part; rows = rows_of_run (count_in rows) part; len = length (block_bytes block lo); facet = f } in h ∷ map (head_by ws) (zip (runs_from (count_in rows) (lo + length part) parts) (map (block_of ws rows) parts))) facet
+        ∙ ap (λ (n : ℕ). let h : BlockHead = record { lo = lo; words = length part; rows = n; len = length (block_bytes block lo); facet = is_facet (word_at part 0) } in h ∷ map (head_by ws) (zip (runs_from (count_in rows) (lo + length part) parts) (map (block_of ws rows) parts))) (rows_of_part front part (parts_of parts) rows e)
+        ∙ ap (λ hs. head_of lo part block ∷ hs) (heads_are (front ++ part) parts (lo + length part) (omega (arith, l, length-append front part)) some.1 (next_front front part (parts_of parts) e))
+
+    pub all_inside : (front : Words) (parts : List Words) (lo : ℕ) → lo ≡ length front → AllByRecursion (λ part. 1 ≤ length part) parts → ws ≡ front ++ parts_of parts → AllByRecursion (λ run. run.lo < length ws) (runs_from (count_in rows) lo parts)
+    all_inside front [] lo l some e = tt
+    all_inside front (part ∷ parts) lo l some e = (
+      omega (arith, l, some.0, ap length e, length-append front (part ++ parts_of parts), length-append part (parts_of parts)),
+      all_inside (front ++ part) parts (lo + length part) (omega (arith, l, length-append front part)) some.1 (next_front front part (parts_of parts) e),
+    )
+
+pub spans_are : (count : Count) (lo : ℕ) (parts : List Words) → AreSpans lo (runs_from count lo parts) (lo + length (flat_map (λ part. part) parts))
+spans_are count lo [] = omega arith
+spans_are count lo (part ∷ parts) = (refl, subst (AreSpans (lo + length part) (runs_from count (lo + length part) parts)) (omega (arith, length-append part (flat_map (λ part. part) parts))) (spans_are count (lo + length part) parts))
+
+pub few_runs : (count : Count) (lo : ℕ) (parts : List Words) → AllByRecursion (λ part. 1 ≤ length part) parts → length (runs_from count lo parts) ≤ length (flat_map (λ part. part) parts)
+few_runs count lo [] some = omega arith
+few_runs count lo (part ∷ parts) some = let rest = few_runs count (lo + length part) parts some.1 in omega (arith, rest, some.0, length-append part (flat_map (λ part. part) parts))
+
+-- each run has a word, and few
+pub record HasWords (part : Words) : Type 0 where
+  pub some : 1 ≤ length part
+  pub few : length part ≤ MAX_BLOCK_WORDS
+
+pub filled_parts : (target : ℕ) (count : Count) (parts : List Words) → list_all (is_run target count) parts ≡ true → AllByRecursion HasWords parts
+filled_parts target count [] h = tt
+filled_parts target count (part ∷ parts) h =
+    let p = and_parts (is_run target count part) (list_all (is_run target count) parts) h in
+    let a = and_parts (is_filled part) (is_one_kind part && (nat_le (length part) MAX_BLOCK_WORDS && is_light target (length part) (rows_of_run count part))) p.0 in
+    let b = and_parts (is_one_kind part) (nat_le (length part) MAX_BLOCK_WORDS && is_light target (length part) (rows_of_run count part)) a.1 in
+    let d = and_parts (nat_le (length part) MAX_BLOCK_WORDS) (is_light target (length part) (rows_of_run count part)) b.1 in
+    (record { some = leb-true 1 (length part) a.0; few = leb-true (length part) MAX_BLOCK_WORDS d.0 }, filled_parts target count parts p.1)
+
+pub some_words : (parts : List Words) → AllByRecursion HasWords parts → AllByRecursion (λ part. 1 ≤ length part) parts
+some_words [] h = tt
+some_words (part ∷ parts) h = (h.0.some, some_words parts h.1)

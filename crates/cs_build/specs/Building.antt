@@ -2,10 +2,11 @@
 --
 -- Source: this engine's own.
 --
+--   corpus_of_rows titles rows      titles by their numbers, and rows in order
 --   corpus_from docs rows     the titles of documents by their numbers, and rows that may come in any order
 --   KeepLimits docs rows      titles, words, positions and scores are those of a collection
 --   build_refusal_of e        the refusal of a collection that the fault e names; None for want of memory
-use Rattle.std.specs.Prelude.{◌≡◌, ◌^◌, ◌<◌, ◌≤◌, true, List, [], length, map, All, Option, Some, None}
+use Rattle.std.specs.Prelude.{◌≡◌, ℕ, ◌^◌, ◌<◌, ◌≤◌, true, List, [], length, map, All, Option, Some, None}
 use Rattle.std.specs.Str.{IsUtf8}
 use Rattle.cs_base.specs.content.Members.{members_in}
 use Rattle.cs_base.specs.content.Orders.{by_row}
@@ -13,7 +14,7 @@ use Rattle.cs_base.specs.declared.content.doc.Doc.{Doc}
 use Rattle.cs_base.specs.declared.content.doc.Row.{Row}
 use Rattle.cs_base.specs.declared.content.limits.TheConstants.{MAX_LINE_BYTES}
 use Rattle.cs_model.specs.Collection.{CollectionRefusal, too_many_words}
-use Rattle.cs_model.specs.Corpus.{Corpus, title_of, titles_of}
+use Rattle.cs_model.specs.Corpus.{Corpus, by_number, title_of, titles_of}
 use Rattle.cs_model.specs.Scores.{SCORES}
 use Rattle.cs_model_index.specs.BlockRules.{is_scored}
 use Rattle.cs_model_index.specs.FileRules.{is_word}
@@ -22,6 +23,10 @@ use Rattle.cs_model_index.specs.Numbered.{post_of}
 use Rattle.cs_model_index.specs.Partitions.{is_facet}
 use Rattle.cs_build.specs.declared.fault.BuildFault.{BuildFault}
 use Rattle.cs_build.specs.declared.fault.BuildFault.TheVariants.{TooManyWords, Memory}
+
+-- of no titles and no rows the empty corpus
+abbrev pub corpus_of_rows : List (List ℕ) → List Row → Corpus
+corpus_of_rows titles rows = record { titles = by_number titles; rows = rows }
 
 -- of no documents and no rows the empty corpus; rows that stand more than once count once
 abbrev pub corpus_from : List Doc → List Row → Corpus

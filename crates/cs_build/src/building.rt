@@ -1,17 +1,26 @@
 //! The image of a corpus.
-ghost use Rattle.std.specs.Prelude.{◌≡◌, ◌≤◌, ◌<◌, ◌^◌, length, map, IfOk, OnOk, IsErrOf};
+ghost use Rattle.std.specs.Prelude.{◌≡◌, ◌≤◌, ◌<◌, ◌^◌, List, length, map, IfOk, OnOk, IsErrOf};
+ghost use Rattle.std.specs.List.{All};
+ghost use Rattle.cs_base.specs.declared.content.doc.Row.{Row};
 ghost use Rattle.cs_base.specs.declared.content.limits.TheConstants.{MAX_DOCS, MAX_ROWS, MAX_WORDS};
 ghost use Rattle.cs_model.specs.Corpus.{IsCorpus, distinct_words, title_of};
 ghost use Rattle.cs_model_index.specs.FileLaws.{HasLimits};
-ghost use Rattle.cs_model_index.specs.Images.{IsImage};
+ghost use Rattle.cs_model_index.specs.Images.{IsImage, count_in};
 ghost use Rattle.cs_model_index.specs.Layout.{title_bytes};
 ghost use Rattle.cs_model_index.specs.declared.limits.TheConstants.{MAX_TARGET};
 ghost use Rattle.cs_file.specs.Writable.{CanBeWritten};
-ghost use Rattle.cs_build.specs.Building.{corpus_from, KeepLimits};
+ghost use Rattle.cs_build.specs.Building.{corpus_from, corpus_of_rows, KeepLimits};
+ghost use Rattle.cs_build.specs.Runs.{AreParted};
+ghost use Rattle.cs_vocab.specs.Ranges.{AreNumbers, IsBelow};
 
 use crate::fault::BuildFault;
-use cs_base::{Doc, Row, Seq};
+use crate::filling::blocks_of;
+use crate::heads::heads_of;
+use crate::ordering::in_order;
+use crate::parting::{Run, counts_of, parted};
+use cs_base::{Doc, MAX_WORDS, Memory, Row, Seq, Text};
 use cs_file::Image;
+use cs_vocab::{Numbered, Vocab};
 use std::alloc::Global;
 
 /// The image of the titles of documents and of rows, which may come in any order.
@@ -37,8 +46,69 @@ pub fn image(
     ensures writable { length (title_bytes (map title_of docs)) < 2 ^ 32 → IfOk result CanBeWritten }
     ensures limits { KeepLimits docs rows → IfOk result HasLimits }
 {
-    let _ = (alloc, target);
-    drop(rows);
-    drop(docs);
-    Err(BuildFault::Memory)
+    let titles = titles_of(alloc, docs)?;
+    let rows = in_order(alloc, rows)?;
+    built(alloc, titles, &rows, target)
+}
+
+// The image of titles and of rows that are in order.
+fn built(
+    alloc: Global,
+    titles: Seq<Text>,
+    rows: &Seq<Row>,
+    target: u32,
+) -> Result<Image, BuildFault>
+    requires few { length rows.now ≤ MAX_ROWS }
+    requires target { target ≤ MAX_TARGET }
+
+    ensures ok { IfOk result (IsImage (corpus_of_rows titles rows.now) target) }
+    ensures titles { IfOk result (λ i. i.titles ≡ titles) }
+    ensures few_words { OnOk result (length (distinct_words rows.now) ≤ MAX_WORDS) }
+    ensures too_many_words { IsErrOf result BuildFault.TooManyWords → MAX_WORDS < length (distinct_words rows.now) }
+{
+    let Numbered { words, numbers } = Numbered::of(alloc, rows)?;
+    if words.len() as usize > MAX_WORDS {
+        return Err(BuildFault::TooManyWords);
+    }
+    let runs = runs_of(alloc, &words, numbers.as_slice(), target)?;
+    let blocks = blocks_of(
+        alloc,
+        &runs,
+        words.len(),
+        rows.as_slice(),
+        numbers.as_slice(),
+    )?;
+    let heads = heads_of(alloc, &words, &runs, &blocks)?;
+    Ok(Image {
+        titles,
+        words,
+        heads: Seq::from_vec(heads),
+        blocks: Seq::from_vec(blocks),
+        target,
+    })
+}
+
+// The runs of words whose numbers stand for rows.
+fn runs_of(alloc: Global, words: &Vocab, numbers: &[u32], target: u32) -> Result<Vec<Run>, Memory>
+    requires below { All (IsBelow (length words.now)) numbers.now }
+    requires few { length numbers.now ≤ MAX_ROWS }
+    requires target { target ≤ MAX_TARGET }
+
+    ensures { IfOk result (λ runs. (rows : List Row) → AreNumbers words.now numbers.now (map (λ r. r.word) rows) → AreParted target words.now (count_in rows) runs.items) }
+{
+    let counts = counts_of(alloc, words.len(), numbers)?;
+    let runs = parted(alloc, words, &counts, target)?;
+    Ok(runs)
+}
+
+/// The titles of the documents. The rest of them is dropped.
+fn titles_of(alloc: Global, docs: Seq<Doc>) -> Result<Seq<Text>, Memory>
+    ensures ok { IfOk result (λ titles. titles ≡ map title_of docs) }
+{
+    let mut titles = Vec::with_capacity(alloc, docs.len())?;
+    for doc in docs.into_vec() {
+        let Doc { title, .. } = doc;
+        titles.push(title)?;
+    }
+    Ok(Seq::from_vec(titles))
 }

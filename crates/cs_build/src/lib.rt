@@ -7,6 +7,12 @@
 mod building;
 mod fault;
 pub mod laws;
+mod filling;
+mod heads;
+mod ordering;
+mod parting;
+#[cfg(test)]
+mod tests;
 
 pub use building::image;
 pub use fault::BuildFault;

@@ -7,12 +7,15 @@ pub mod HeadsLemmas
 pub mod KindsLemmas
 pub mod LaidLemmas
 pub mod MarksLemmas
+pub mod OffsetLemmas
 pub mod OffsetsLemmas
 pub mod OpenLemmas
 pub mod PartsLemmas
 pub mod PiecesLemmas
 pub mod PostingsLemmas
 pub mod PostsLemmas
+pub mod PutLemmas
+pub mod SizeLemmas
 pub mod StagesLemmas
 pub mod StoodLemmas
 pub mod TitleStageLemmas

@@ -4,4 +4,5 @@ pub mod HeaderView
 pub mod Indexes
 pub mod Opening
 pub mod Parting
+pub mod Putting
 pub mod Writable

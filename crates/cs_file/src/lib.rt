@@ -21,6 +21,8 @@ mod postings;
 mod reading;
 mod titles;
 mod vocabulary;
+mod putting;
+mod sizes;
 mod writing;
 
 pub use cs_base::BlockHead;

@@ -1,5 +1,5 @@
 //! Words in order.
-ghost use Rattle.std.specs.Prelude.{◌≡◌, ◌≤◌, ◌<◌, false, length, IfOk, IfSome, IfNone};
+ghost use Rattle.std.specs.Prelude.{◌≡◌, ◌≤◌, ◌<◌, false, [], length, slice_index_or, IfOk, IfSome, IfNone};
 ghost use Rattle.std.specs.List.{list_any};
 ghost use Rattle.std.specs.List.Sorted.{IsStrictlySortedBy};
 ghost use Rattle.std.specs.Ordering.{nat_cmp, is_lt};
@@ -71,6 +71,15 @@ impl Vocab {
         ensures { IsWordAt self.now n result.now }
     {
         self.words.as_slice()[n as usize].bytes()
+    }
+
+    /// How many bytes word `n` has.
+    pub fn word_len(&self, n: u32) -> u8
+        requires in_range { n < length self.now }
+
+        ensures { result ≡ length (slice_index_or self.now n []) }
+    {
+        self.words.as_slice()[n as usize].bytes().len() as u8
     }
 
     /// The number of the word `w`, if it is one of these.

@@ -1,0 +1,74 @@
+//! The heads of blocks.
+ghost use Rattle.std.specs.Prelude.{◌≡◌, ℕ, ◌≤◌, ◌<◌, length, map, IfOk};
+ghost use Rattle.std.specs.List.{AllByRecursion, zip};
+ghost use Rattle.cs_base.specs.declared.content.limits.TheConstants.{MAX_ROWS};
+ghost use Rattle.cs_base.specs.index.GapCode.{code};
+ghost use Rattle.cs_model_index.specs.Blocks.{block_bytes};
+ghost use Rattle.cs_build.specs.Runs.{head_by};
+
+use crate::parting::{Run, begins_as_facet};
+use cs_base::{BlockHead, Memory};
+use cs_cols::Cols;
+use cs_vocab::Vocab;
+use std::alloc::Global;
+
+/// What the directory says of each run and its block.
+pub(crate) fn heads_of(
+    alloc: Global,
+    words: &Vocab,
+    runs: &[Run],
+    blocks: &[Cols],
+) -> Result<Vec<BlockHead>, Memory>
+    requires each { length runs.now ≡ length blocks.now }
+    requires inside { AllByRecursion (λ run. run.lo < length words.now) runs.now }
+    requires few { AllByRecursion (λ b. length b.posts ≤ MAX_ROWS) blocks.now }
+
+    ensures { IfOk result (λ heads. heads.items ≡ map (head_by words.now) (zip runs.now (map (λ b. b.posts) blocks.now))) }
+{
+    let mut heads = Vec::with_capacity(alloc, runs.len())?;
+    for (i, run) in runs.iter().enumerate() {
+        heads.push(BlockHead {
+            lo: run.lo,
+            words: run.words,
+            rows: run.rows,
+            len: bytes_of(&blocks[i]),
+            facet: begins_as_facet(words.word(run.lo)),
+        })?;
+    }
+    Ok(heads)
+}
+
+// How many bytes a block has.
+fn bytes_of(block: &Cols) -> u32
+    requires few { length block.now.posts ≤ MAX_ROWS }
+
+    // wherever its words begin
+    ensures { (lo : ℕ) → result ≡ length (block_bytes block.now.posts lo) }
+{
+    let mut bytes = 0;
+    let mut before = 0;
+    for i in 0..block.len() {
+        let doc = block.get(i).doc;
+        bytes += 7 + code_len(doc.saturating_sub(before));
+        before = doc;
+    }
+    bytes
+}
+
+// How many bytes the gap code of a number has.
+fn code_len(n: u32) -> u32
+    ensures value { result ≡ length (code n) }
+    ensures few { result ≤ 5 }
+{
+    if n < 1 << 7 {
+        1
+    } else if n < 1 << 14 {
+        2
+    } else if n < 1 << 21 {
+        3
+    } else if n < 1 << 28 {
+        4
+    } else {
+        5
+    }
+}
