@@ -6,5 +6,8 @@ pub mod FillLemmas
 pub mod HeadLemmas
 pub mod KindLemmas
 pub mod LengthLemmas
+pub mod LimitLemmas
+pub mod ListingLemmas
 pub mod OrderLemmas
 pub mod PartLemmas
+pub mod WritableLemmas
