@@ -8,6 +8,8 @@ pub mod HeadLemmas
 pub mod KeyTextLemmas
 pub mod KindLemmas
 pub mod LengthLemmas
+pub mod LimitLemmas
+pub mod ListingLemmas
 pub mod MadeLemmas
 pub mod OrderLemmas
 pub mod PartLemmas
@@ -15,3 +17,4 @@ pub mod RowLemmas
 pub mod TextPartLemmas
 pub mod TitleLemmas
 pub mod WordLemmas
+pub mod WritableLemmas

@@ -179,7 +179,7 @@ module _ (ws : Words) (up : IsStrictlySortedBy (slice_cmp nat_cmp) ws) where
   no_rows [] = refl
   no_rows (r ∷ rows) = no_rows rows
 
-  part_rows : (part : Words) (rows : List Row) → IsStrictlySortedBy (slice_cmp nat_cmp) part → rows_of_run (count_in rows) part ≡ length (filter (λ r. list_any (bytes_eq r.word) part) rows)
+  pub part_rows : (part : Words) (rows : List Row) → IsStrictlySortedBy (slice_cmp nat_cmp) part → rows_of_run (count_in rows) part ≡ length (filter (λ r. list_any (bytes_eq r.word) part) rows)
   unfolding IsStrictlySortedBy
   part_rows [] rows h = sym (no_rows rows)
   part_rows (w ∷ part) rows h =
