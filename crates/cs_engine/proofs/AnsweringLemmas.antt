@@ -5,12 +5,10 @@
 --   shown_in          the hits that are shown have documents of the index
 --   hits_few          there are no more hits than documents
 --   words_as_shown, facet_told, title_told, reply_told     what is shown, over the bytes of the index
-use Rattle.std.proofs.Common.{◌≡◌, ℕ, suc, ◌+◌, ◌*◌, ◌<◌, ◌≤◌, ◌^◌, List, [], ◌∷◌, ◌++◌, length, map, take, drop, get_or, refl, sym, ap, subst, ◌∙◌, arith}
+use Rattle.std.proofs.Common.{◌≡◌, ℕ, ◌+◌, ◌<◌, ◌≤◌, ◌^◌, List, [], ◌∷◌, ◌++◌, length, map, take, drop, get_or, refl, sym, ap, subst, ◌∙◌, arith}
 use Rattle.std.specs.Prelude.{All}
 use Rattle.std.specs.List.{AllByRecursion}
 use Rattle.std.specs.List.Sorted.{IsStrictlySortedBy}
-use Rattle.std.specs.Ordering.{nat_cmp}
-use Rattle.std.specs.declared.cmp.Ordering.TheVariants.{Less}
 use Rattle.std.specs.Str.{IsUtf8, is_utf8}
 use Rattle.std.proofs.lemmas.Bool.{and_parts}
 use Rattle.std.proofs.lemmas.List.{append_assoc, get_or_default, length-map}
@@ -26,10 +24,9 @@ use Rattle.cs_docs.proofs.TextLemmas.{All-members}
 use Rattle.cs_file.specs.Indexes.{IndexView, IsIndex, StandsFor, title_in}
 use Rattle.cs_meet.proofs.Passes.{next_is}
 use Rattle.cs_meet.specs.Filters.{keep_docs}
-use Rattle.cs_model.specs.Answers.{PartRows, parts_of, table_of}
+use Rattle.cs_model.specs.Answers.{parts_of, table_of}
 use Rattle.cs_model.specs.Replies.{Reply, Shown, HitShown, FacetShown}
 use Rattle.cs_model.specs.Requests.{Request, hit_shown, reply_of, shown_of}
-use Rattle.cs_model_index.specs.FileRules.{is_word}
 use Rattle.cs_model_kept.specs.Entries.{base_of, scored_hits}
 use Rattle.cs_model_kept.specs.Entries as kept
 use Rattle.cs_model_kept.proofs.EntryLemmas.{listed_base}
@@ -37,7 +34,7 @@ use Rattle.cs_tables.specs.declared.tables.Completion.{Completion as Numbered}
 use Rattle.cs_tables.specs.Listings.{table}
 use Rattle.cs_engine.specs.Reading.{stock_of, AreWithin, IsWithin, HasRows}
 use Rattle.cs_engine.specs.Steps.{AreFound, IsBaseOf, IsHitOf}
-use Rattle.cs_engine.specs.Stocked.{corpus_in, docs_in, facet_at, facet_rows, listed, named_rows, rows_at, shown_at, title_at}
+use Rattle.cs_engine.specs.Stocked.{corpus_in, docs_in, facet_at, listed, named_rows, rows_at, shown_at}
 use Rattle.cs_engine.specs.declared.stock.Stock.{Stock}
 use Rattle.cs_engine.proofs.FoundLemmas.{docs_rise}
 use Rattle.cs_engine.proofs.ReplyLemmas.{facet_kept, first_there, reply_made, table_total, titled, words_shown}

@@ -6,17 +6,16 @@
 --   entry_begins, entry_goes_on, entry_ends     the entry of the parts so far
 --   part_begins, part_goes_on, part_ends        the rows of the alternatives so far
 --   chain_goes_on        the rows that the links so far lead to
-use Rattle.std.proofs.Common.{◌≡◌, ℕ, suc, ◌+◌, ◌*◌, ◌<◌, ◌≤◌, Bool, true, false, not, List, [], ◌∷◌, ◌++◌, length, map, take, drop, get_or, refl, sym, ap, subst, ◌∙◌, arith, length-take}
-use Rattle.std.specs.Prelude.{All, sum, fold}
-use Rattle.std.specs.List.{Contains}
+use Rattle.std.proofs.Common.{◌≡◌, ℕ, ◌+◌, ◌<◌, ◌≤◌, Bool, false, not, List, [], ◌∷◌, ◌++◌, length, map, take, drop, get_or, refl, sym, ap, subst, ◌∙◌}
+use Rattle.std.specs.Prelude.{sum, fold}
 use Rattle.cs_base.specs.declared.content.query.Link.{Link}
 use Rattle.cs_base.specs.declared.content.query.Link.TheVariants.{Phrase, Near}
 use Rattle.cs_file.specs.Indexes.{IndexView}
 use Rattle.cs_join.specs.Shared.{is_shared, shared}
 use Rattle.cs_join.proofs.JoinLemmas.{joins_are_shared}
-use Rattle.std.proofs.lemmas.List.{append-nil, append_assoc, get_or-map, length-map, take_all, drop_all, take_more, map-append}
+use Rattle.std.proofs.lemmas.List.{append-nil, append_assoc, take_all, drop_all, take_more, map-append}
 use Rattle.std.specs.List.{list_any}
-use Rattle.std.proofs.lemmas.List.Elements.{Contains-get_or, All-weaker, All-from_recursion}
+use Rattle.std.proofs.lemmas.List.Elements.{All-weaker, All-from_recursion}
 use Rattle.std.proofs.lemmas.List.Sums.{sum_by-cons, fold-append}
 use Rattle.cs_base.specs.content.Orders.{AreSorted}
 use Rattle.cs_base.specs.declared.content.doc.Base.{Base}
@@ -33,7 +32,7 @@ use Rattle.cs_base.specs.declared.content.query.Atom.TheOpen.{Atom-F}
 use Rattle.cs_base.specs.declared.content.query.Atom.TheFolds.{fold-roll-Atom, fold_out-Linked, fold_out-Chain, fold_out-Part, fold_out-Query}
 use Rattle.cs_meet.proofs.Passes.{next_is}
 use Rattle.cs_meet.specs.Filters.{IsUnion, stands_behind, is_near}
-use Rattle.cs_model.specs.Answers.{PartRows, LinkedRows, atom_rows, begins, chain_rows, chained, hits, linked_rows, of_word, part_rows, parts_of, query_parts, rows_of_atom, rows_of_chain, rows_of_linked, rows_of_part, scored, union_of}
+use Rattle.cs_model.specs.Answers.{PartRows, LinkedRows, atom_rows, chain_rows, chained, hits, linked_rows, part_rows, parts_of, query_parts, rows_of_atom, rows_of_chain, rows_of_linked, rows_of_part, scored, union_of}
 use Rattle.cs_model.specs.Collection.{named}
 use Rattle.cs_model.specs.Corpus.{Corpus}
 use Rattle.std.specs.Prelude.{Result, Ok, Err}
@@ -46,11 +45,9 @@ use Rattle.cs_base.specs.declared.index.plan.Plan.TheVariants.{Fresh}
 use Rattle.cs_model_kept.specs.Due.{Division, due, met_of_facets, atom_met, chain_met, linked_met, part_met, query_met, met_of_atom, met_of_chain, met_of_linked, met_of_part, met_of_query, met_prefix, met_word}
 use Rattle.cs_model_kept.specs.Entries.{Entry, EntryOf, base_of, entry, entry_at, entry_of, scored_hits}
 use Rattle.cs_model_kept.specs.Entries as kept
-use Rattle.cs_model_kept.specs.InnerQueries.{HasInner, atoms_of}
 use Rattle.cs_model_kept.proofs.EntryLemmas.{ends_more, extended_is, hits_are, listed_base, parts_read}
-use Rattle.cs_model_kept.proofs.InnerLemmas.{inner_queries_are_of_grammar}
 use Rattle.cs_engine.specs.Reading.{AreWithin, HasRows}
-use Rattle.cs_engine.specs.Steps.{IsStep, docs_after, ends_positive, posts_hits}
+use Rattle.cs_engine.specs.Steps.{IsStep, docs_after, posts_hits}
 use Rattle.cs_engine.specs.Stocked.{corpus_in, docs_in, linked_posts, rows_at, IsKnown, IsPicked, IsStocked}
 use Rattle.cs_engine.specs.declared.stock.Stock.{Stock}
 use Rattle.cs_engine.proofs.AtomsLemmas.{picked_again}

@@ -17,11 +17,10 @@ use Rattle.std.proofs.lemmas.List.Kept.{IsStrictlySortedBy-filter}
 use Rattle.std.proofs.lemmas.List.Sorted.{All-permutation, list_any-IsPermutation}
 use Rattle.std.specs.Ordering.{nat_cmp, eq_by_cmp, ordering_then}
 use Rattle.std.specs.declared.cmp.Ordering.TheVariants.{Less}
-use Rattle.cs_base.specs.content.Members.{members_in}
 use Rattle.cs_base.specs.content.Orders.{by_place, AreSorted}
 use Rattle.cs_base.specs.declared.content.doc.Post.{Post}
 use Rattle.cs_base.specs.declared.index.block.BlockHead.{BlockHead}
-use Rattle.cs_base.proofs.MembersLemmas.{all_then, members_are, is_member-listed}
+use Rattle.cs_base.proofs.MembersLemmas.{all_then, members_are}
 use Rattle.cs_file.specs.Answers.{HasBlock}
 use Rattle.cs_file.specs.Indexes.{IndexView, IsIndex, StandsFor, AreMet, is_met, block_posts}
 use Rattle.cs_file.proofs.PostsLemmas.{posts_between}

@@ -6,24 +6,22 @@
 --   step_told              the entry behind a part is that of its rows
 --   step_within            and it is in range
 --   docs_told, docs_sorted     the documents of a base
-use Rattle.std.proofs.Common.{◌≡◌, ℕ, suc, ◌+◌, ◌-◌, ◌*◌, ◌<◌, ◌≤◌, ◌^◌, ◌==◌, Bool, true, false, true≢false, not, max, List, [], ◌∷◌, ◌++◌, length, map, get_or, refl, sym, ap, subst, ◌∙◌, arith, if◌then◌else◌}
-use Rattle.std.specs.Prelude.{All, filter, find}
-use Rattle.std.specs.Option.{option_map, unwrap_or}
-use Rattle.std.specs.List.{AllByRecursion, list_any, range_with_len}
-use Rattle.std.specs.List.Sorted.{IsStrictlySortedBy}
+use Rattle.std.proofs.Common.{◌≡◌, ℕ, ◌+◌, ◌-◌, ◌*◌, ◌<◌, ◌≤◌, ◌^◌, ◌==◌, Bool, true, false, true≢false, not, List, [], ◌∷◌, ◌++◌, length, map, get_or, refl, sym, ap, subst, ◌∙◌, arith, if◌then◌else◌}
+use Rattle.std.specs.Prelude.{All, filter}
+use Rattle.std.specs.List.{list_any, range_with_len}
 use Rattle.std.specs.Ordering.{nat_cmp}
 use Rattle.std.specs.Cmp.{nat_cmp_total}
-use Rattle.std.specs.FinMap.{nat_cmp-IsAntisymmetric, keys}
-use Rattle.std.proofs.lemmas.List.Elements.{All-nil, All-filter, All-map, All-weaker, All-from_recursion, recursion_from_All, filter_passes}
+use Rattle.std.specs.FinMap.{nat_cmp-IsAntisymmetric}
+use Rattle.std.proofs.lemmas.List.Elements.{All-nil, All-filter, All-map, All-weaker, recursion_from_All, filter_passes}
 use Rattle.std.proofs.lemmas.List.Kept.{IsStrictlySortedBy-filter}
 use Rattle.cs_base.specs.content.Members.{members_in}
-use Rattle.cs_base.specs.content.Orders.{AreSorted, AreDocs, AreByDoc, by_doc, docs_of}
+use Rattle.cs_base.specs.content.Orders.{AreDocs, AreByDoc, by_doc, docs_of}
 use Rattle.cs_base.specs.declared.content.doc.Base.{Base}
 use Rattle.cs_base.specs.declared.content.doc.Base.TheVariants as base
 use Rattle.cs_base.specs.declared.content.doc.Post.{Post}
 use Rattle.cs_base.specs.declared.content.doc.Row.{Row}
 use Rattle.cs_base.specs.declared.content.doc.Scored.{Scored}
-use Rattle.cs_base.proofs.MembersLemmas.{all_then, listing-rises}
+use Rattle.cs_base.proofs.MembersLemmas.{listing-rises}
 use Rattle.cs_docs.proofs.TextLemmas.{All-members}
 use Rattle.cs_file.specs.Indexes.{IndexView}
 use Rattle.cs_meet.specs.Filters.{keep_docs, drop_docs, is_of}
@@ -34,7 +32,7 @@ use Rattle.cs_model_kept.specs.Entries.{Entry, EntryOf, entry_at, entry_after, h
 use Rattle.cs_model_kept.specs.Entries as kept
 use Rattle.cs_rank.specs.DocScores.{IsBase, best_row, greatest, of_doc, scores, with_base}
 use Rattle.cs_rank.specs.DocScores as rank
-use Rattle.cs_engine.specs.Reading.{AreWithin, IsWithin, HasRows}
+use Rattle.cs_engine.specs.Reading.{AreWithin, IsWithin}
 use Rattle.cs_engine.specs.Steps.{docs_after, posts_hits, posts_after, unscored, IsHitOf, IsBaseOf, EntryFits, IsStep, is_in_base, most}
 use Rattle.cs_engine.specs.Stocked.{row_of, rows_at, corpus_in, every, listed, docs_in}
 use Rattle.cs_engine.specs.declared.stock.Stock.{Stock}
@@ -85,14 +83,15 @@ nothing_fits i e is = subst (EntryFits i false 0) (sym is) (record { parts = λ 
 pub hits_in : (i : IndexView) (positive : Bool) (n : ℕ) (e : EntryOf Post) → EntryFits i positive n e → IsBaseOf i.docs (255 * n) (posts_hits positive e.base e.rows)
 hits_in i false n e fits = fits.base
 hits_in i true n e fits =
-    let some = fits.parts refl in
-    (scored_rise (λ d. with_base e.base (best_row e.rows d)) (λ d. refl) (docs_of e.rows) (listing-rises nat_cmp (map (λ p. p.doc) e.rows)),
+    let some = fits.parts refl in (
+      scored_rise (λ d. with_base e.base (best_row e.rows d)) (λ d. refl) (docs_of e.rows) (listing-rises nat_cmp (map (λ p. p.doc) e.rows)),
       All-map (IsHitOf i.docs (255 * n)) (λ d. with_base e.base (best_row e.rows d)) (docs_of e.rows) (λ k d l.
-      let doc = below i e.rows fits.rows k d l in
-      let at = get_or (docs_of e.rows) k d in
-      let low = base_small i.docs (255 * (n - 1)) at e.base fits.base in
-      let best = best_small i e.rows fits.rows at in
-      record { doc = doc; score = omega (arith, low, best, some) }))
+          let doc = below i e.rows fits.rows k d l in
+          let at = get_or (docs_of e.rows) k d in
+          let low = base_small i.docs (255 * (n - 1)) at e.base fits.base in
+          let best = best_small i e.rows fits.rows at in
+          record { doc = doc; score = omega (arith, low, best, some) }),
+    )
 
 -- ---- hits by posts and by rows
 rows_docs : (ws : List (List ℕ)) (ps : List Post) → map (λ r. r.doc) (rows_at ws ps) ≡ map (λ p. p.doc) ps
@@ -117,28 +116,28 @@ listed_told s n (base.Listed hs) is = refl
 
 -- ---- the entry behind a part
 module _ (s : Stock) (n : ℕ) (b : Base) (p : PartRows) (posts : List Post) (same : n ≡ length s.titles) (is : rows_at s.words posts ≡ p.rows) where
-  abbrev hs : List Scored
-  hs = kept.listed (corpus_in s) b
+  abbrev outs : List Scored
+  outs = kept.listed (corpus_in s) b
 
-  dropped : drop_docs (listed n b) posts ≡ without p.rows hs
+  dropped : drop_docs (listed n b) posts ≡ without p.rows outs
   dropped =
       ap (λ l. drop_docs l posts) (listed_told s n b same)
-      ∙ filter_alike (λ h. not (list_any (is_of h) posts)) (λ h. not (list_any (in_doc h.doc) p.rows)) hs (all_of _ (λ h. ap not (sym (any_through (row_of s.words) (in_doc h.doc) posts) ∙ ap (list_any (in_doc h.doc)) is)) hs)
+      ∙ filter_alike (λ h. not (list_any (is_of h) posts)) (λ h. not (list_any (in_doc h.doc) p.rows)) outs (all_of _ (λ h. ap not (sym (any_through (row_of s.words) (in_doc h.doc) posts) ∙ ap (list_any (in_doc h.doc)) is)) outs)
 
-  kept_told : rows_at s.words (keep_docs posts (docs_in n b)) ≡ filter (is_hit hs) p.rows
+  kept_told : rows_at s.words (keep_docs posts (docs_in n b)) ≡ filter (is_hit outs) p.rows
   kept_told =
       ap (λ l. rows_at s.words (keep_docs posts (map (λ h. h.doc) l))) (listed_told s n b same)
-      ∙ ap (rows_at s.words) (filter_alike (λ r. list_any (meet.in_doc r) (map (λ h. h.doc) hs)) (λ r. is_hit hs (row_of s.words r)) posts (all_of _ (λ r. any_through (λ (h : Scored). h.doc) (meet.in_doc r) hs) posts))
-      ∙ filter_through (row_of s.words) (is_hit hs) posts ∙ ap (filter (is_hit hs)) is
+      ∙ ap (rows_at s.words) (filter_alike (λ r. list_any (meet.in_doc r) (map (λ h. h.doc) outs)) (λ r. is_hit outs (row_of s.words r)) posts (all_of _ (λ r. any_through (λ (h : Scored). h.doc) (meet.in_doc r) outs) posts))
+      ∙ filter_through (row_of s.words) (is_hit outs) posts ∙ ap (filter (is_hit outs)) is
 
   pub step_told : (excluded : Bool) → p.excluded ≡ excluded → IsStep s b p (posts_after n b excluded posts)
   step_told true e =
       ap (λ (l : List Scored). let x : Entry = record { base = base.Listed l; rows = [] } in x) dropped
-      ∙ ap (λ x. if x then record { base = base.Listed (without p.rows hs); rows = [] } else record { base = if is_begun b then base.Listed hs else base.All; rows = filter (is_hit hs) p.rows }) (sym e)
+      ∙ ap (λ x. if x then record { base = base.Listed (without p.rows outs); rows = [] } else record { base = if is_begun b then base.Listed outs else base.All; rows = filter (is_hit outs) p.rows }) (sym e)
   step_told false e =
       ap (λ (l : List Row). let x : Entry = record { base = b; rows = l } in x) kept_told
-      ∙ ap (λ (x : Base). let y : Entry = record { base = x; rows = filter (is_hit hs) p.rows } in y) (own b)
-      ∙ ap (λ x. if x then record { base = base.Listed (without p.rows hs); rows = [] } else record { base = if is_begun b then base.Listed hs else base.All; rows = filter (is_hit hs) p.rows }) (sym e)
+      ∙ ap (λ (x : Base). let y : Entry = record { base = x; rows = filter (is_hit outs) p.rows } in y) (own b)
+      ∙ ap (λ x. if x then record { base = base.Listed (without p.rows outs); rows = [] } else record { base = if is_begun b then base.Listed outs else base.All; rows = filter (is_hit outs) p.rows }) (sym e)
     where
       own : (b : Base) → b ≡ (if is_begun b then base.Listed (kept.listed (corpus_in s) b) else base.All)
       own base.All = refl

@@ -3,26 +3,24 @@
 --   word_span, no_span      a word that is there, and one that isn't
 --   span_found              the posts between two numbers stand for the rows that pass the test
 --   prefix_met, word_met    how many blocks hold such words
-use Rattle.std.proofs.Common.{◌≡◌, ℕ, zero, suc, ◌+◌, ◌-◌, ◌<◌, ◌≤◌, ◌&&◌, max, Bool, true, false, true≢false, cond, List, [], ◌∷◌, length, get_or, take, drop, refl, sym, ap, subst, ◌∙◌, arith, length-take, length-drop, get_or-drop, get_or-take, if◌then◌else◌}
+use Rattle.std.proofs.Common.{◌≡◌, ℕ, suc, ◌+◌, ◌-◌, ◌<◌, ◌≤◌, ◌&&◌, max, Bool, true, false, cond, List, [], ◌∷◌, length, get_or, drop, refl, sym, ap, subst, ◌∙◌, arith, length-take, length-drop, get_or-drop, get_or-take, if◌then◌else◌}
 use Rattle.std.specs.Prelude.{All, filter, nat_le, nat_lt}
 use Rattle.std.specs.List.{AllByRecursion, list_any}
 use Rattle.std.specs.Str.{bytes_eq}
-use Rattle.std.proofs.lemmas.Bool.{and_parts}
 use Rattle.std.proofs.lemmas.Bool.Decides.{nat_tests}
 use Rattle.std.proofs.lemmas.List.Elements.{recursion_from_All}
 use Rattle.std.proofs.lemmas.List.Folds.{list_any_at}
 use Rattle.cs_base.specs.declared.content.doc.Post.{Post}
 use Rattle.cs_base.specs.declared.index.block.BlockHead.{BlockHead}
-use Rattle.cs_base.proofs.MembersLemmas.{all_then}
 use Rattle.cs_base.proofs.NameMaps.{name_itself}
 use Rattle.cs_file.specs.Indexes.{IndexView, IsIndex, StandsFor, is_met}
 use Rattle.cs_file.proofs.HeadsLemmas.{head_filled, head_within, heads_rise}
 use Rattle.cs_model.specs.Answers.{begins}
-use Rattle.cs_model_kept.specs.Due.{Division, block_words, met_prefix, met_word}
+use Rattle.cs_model_kept.specs.Due.{block_words, met_prefix, met_word}
 use Rattle.cs_vocab.specs.Ranges.{IsWordAt, IsRange}
 use Rattle.cs_engine.specs.Asking.{division}
 use Rattle.cs_engine.specs.Reading.{stock_of, HasRows, IsSpanOf}
-use Rattle.cs_engine.specs.Stocked.{word_at, rows_at, corpus_in, is_between, IsKnown, IsSpan}
+use Rattle.cs_engine.specs.Stocked.{word_at, rows_at, corpus_in, is_between, IsSpan}
 use Rattle.cs_engine.proofs.AtomsLemmas.{span_word, span_none, span_rows, picked_between, words_known}
 use Rattle.cs_engine.proofs.StockLemmas.{stocked, words_are}
 
@@ -79,20 +77,20 @@ in_turn lo n hi a b = grind (arith, nat_tests)
 
 pub prefix_met : (i : IndexView) → IsIndex i → (p : List ℕ) (lo hi : ℕ) → IsRange i.words p lo hi → length (filter (is_met lo hi) i.heads) ≤ met_prefix (division i) p
 prefix_met i is p lo hi range = filter_less (is_met lo hi) (λ h. list_any (begins p) (block_words (division i) h)) i.heads (λ k d l e.
-  let h = get_or i.heads k d in
-  let met = met_parts lo hi h e in
-  let ends = head_within i is k d l in
-  let filled = head_filled i is k d l in
-  let n = max lo h.lo in
-  let at : h.lo + (n - h.lo) ≡ n = omega arith in
-  let within = range.within in
-  let here : n < length i.words = omega (arith, met.1, met.2, within) in
-  let own : begins p (word_at i.words n) ≡ true = range.holds n here ∙ in_turn lo n hi (omega arith) (omega (arith, met.1, met.2)) in
-  let place : n - h.lo < h.words = omega (arith, met.0, filled) in
-  let l1 = length-take h.words (drop h.lo i.words) in
-  let l2 = length-drop h.lo i.words in
-  let there : get_or (block_words (division i) h) (n - h.lo) [] ≡ word_at i.words n = get_or-take h.words (drop h.lo i.words) (n - h.lo) [] place ∙ get_or-drop h.lo i.words (n - h.lo) [] ∙ ap (word_at i.words) at in
-  list_any_at (begins p) (block_words (division i) h) (n - h.lo) [] (omega (arith, l1, l2, place, ends)) (ap (begins p) there ∙ own))
+    let h = get_or i.heads k d in
+    let met = met_parts lo hi h e in
+    let ends = head_within i is k d l in
+    let filled = head_filled i is k d l in
+    let n = max lo h.lo in
+    let at : h.lo + (n - h.lo) ≡ n = omega arith in
+    let within = range.within in
+    let here : n < length i.words = omega (arith, met.1, met.2, within) in
+    let own : begins p (word_at i.words n) ≡ true = range.holds n here ∙ in_turn lo n hi (omega arith) (omega (arith, met.1, met.2)) in
+    let place : n - h.lo < h.words = omega (arith, met.0, filled) in
+    let l1 = length-take h.words (drop h.lo i.words) in
+    let l2 = length-drop h.lo i.words in
+    let there : get_or (block_words (division i) h) (n - h.lo) [] ≡ word_at i.words n = get_or-take h.words (drop h.lo i.words) (n - h.lo) [] place ∙ get_or-drop h.lo i.words (n - h.lo) [] ∙ ap (word_at i.words) at in
+    list_any_at (begins p) (block_words (division i) h) (n - h.lo) [] (omega (arith, l1, l2, place, ends)) (ap (begins p) there ∙ own))
 
 -- blocks that lie one behind the other
 abbrev AreApart : List BlockHead → Type 0

@@ -107,7 +107,12 @@ pub(crate) fn numbers_of(alloc: Global, hits: &[Scored]) -> Result<Vec<u32>, Mem
 }
 
 // The hits of a base that have none of the rows.
-pub(crate) fn without(alloc: Global, docs: u32, base: &Base, rows: &Cols) -> Result<Seq<Scored>, Memory>
+pub(crate) fn without(
+    alloc: Global,
+    docs: u32,
+    base: &Base,
+    rows: &Cols,
+) -> Result<Seq<Scored>, Memory>
     requires base { IsBase base.now }
     requires rows_sorted { AreSorted rows.now.posts }
 

@@ -23,8 +23,8 @@ mod stock;
 mod tests;
 mod words;
 
-pub use cs_query::{Reply, Request};
 pub use corpus::{Corpus, CorpusFault};
+pub use cs_query::{Reply, Request};
 pub use engine::Engine;
 pub use fault::AskFault;
 pub use joins::has_join;

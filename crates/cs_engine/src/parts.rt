@@ -61,7 +61,12 @@ fn rows_of_chain(alloc: Global, stock: &Stock, chain: &Chain) -> Result<Cols, Me
 }
 
 // Those of `next` that are linked to one of `found`.
-pub(crate) fn linked_rows(alloc: Global, link: Link, found: &Cols, next: &Cols) -> Result<Cols, Memory>
+pub(crate) fn linked_rows(
+    alloc: Global,
+    link: Link,
+    found: &Cols,
+    next: &Cols,
+) -> Result<Cols, Memory>
     requires found_sorted { AreSorted found.now.posts }
     requires next_sorted { AreSorted next.now.posts }
 

@@ -1,4 +1,4 @@
-use Rattle.std.proofs.Common.{◌≡◌, ◌<◌, ◌≤◌, ◌*◌, ℕ, List, ap, map, length, take, drop, sym, subst, ◌∙◌, arith}
+use Rattle.std.proofs.Common.{◌<◌, ap, map, length, take, drop, sym, subst, ◌∙◌, arith}
 use Rattle.std.specs.Prelude.{All}
 use Rattle.std.specs.Str.{IsUtf8}
 use Rattle.cs_base.specs.content.Members.{members_in}
@@ -8,8 +8,8 @@ use Rattle.cs_file.specs.Indexes.{IndexView}
 use Rattle.cs_model.specs.Requests.{hit_shown}
 use Rattle.cs_query.specs.RequestView.{asked}
 use Rattle.cs_tables.specs.declared.tables.Completion.{Completion}
-use Rattle.cs_engine.specs.Reading.{AreWithin, stock_of}
-use Rattle.cs_engine.specs.Stocked.{corpus_in, listed, shown_at}
+use Rattle.cs_engine.specs.Reading.{stock_of}
+use Rattle.cs_engine.specs.Stocked.{corpus_in, shown_at}
 use Rattle.cs_engine.proofs.AnsweringLemmas.{first_in, hits_few, index_texts, reply_told, shown_in, words_as_shown}
 use Rattle.cs_engine.proofs.answering.reply_of.Goals as goal
 
@@ -45,6 +45,6 @@ returns-clause-told g c b is stands found =
     let posts = c.args.pairs.now.posts in
     let shown = words_as_shown b i stands c.requires.index posts c.requires.pairs _ words r.completions c.in_ok-table.table.first c.in_ok-table.ensures.first c.in_ok-shown.shown (c.in_ok-shown.ensures ∙ ap (map (shown_at _)) c.as_slice.ensures) in
     let hits = c.in_ok-shown_first.ensures.told b (c.shown_facets.ensures.bytes ∙ is) stands
-        ∙ ap (map (hit_shown (corpus_in (stock_of b)))) (c.as_slice-3.ensures ∙ c.in_ok-first.ensures.ok ∙ ap (λ hs. take r.hits (drop r.offset (members_in by_rank hs))) c.as_slice-2.ensures) in
+    ∙ ap (map (hit_shown (corpus_in (stock_of b)))) (c.as_slice-3.ensures ∙ c.in_ok-first.ensures.ok ∙ ap (λ hs. take r.hits (drop r.offset (members_in by_rank hs))) c.as_slice-2.ensures) in
     reply_told b i stands c.requires.index r c.args.hits posts found c.requires.pairs c.in_ok-shown.shown c.in_ok-facets.facets c.in_ok-shown_first.shown_first c.in_ok-table.table.total c.len.result c.in_ok-all.all
     shown (c.in_ok-facets.ensures.told b is stands) hits c.in_ok-table.ensures.total c.len.ensures _ docs c.in_ok-all.ensures

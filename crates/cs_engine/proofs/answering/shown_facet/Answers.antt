@@ -1,13 +1,10 @@
-use Rattle.std.proofs.Common.{◌≡◌, ◌<◌, ℕ, List, ap, map, length, sym, subst, ◌∙◌}
+use Rattle.std.proofs.Common.{◌<◌, ap, map, length, sym, subst, ◌∙◌}
 use Rattle.std.specs.Prelude.{All}
 use Rattle.std.specs.Str.{IsUtf8}
-use Rattle.cs_base.specs.declared.content.doc.Post.{Post}
 use Rattle.cs_file.specs.Indexes.{IndexView}
 use Rattle.cs_tables.specs.declared.tables.Completion.{Completion}
 use Rattle.cs_engine.specs.Reading.{AreWithin}
-use Rattle.cs_engine.specs.Stocked.{docs_in, shown_at}
-use Rattle.cs_meet.specs.Filters as meet
-use Rattle.std.specs.List.{list_any}
+use Rattle.cs_engine.specs.Stocked.{shown_at}
 use Rattle.cs_engine.proofs.AnsweringLemmas.{few_docs, few_words, first_in, index_texts, words_as_shown, facet_told}
 use Rattle.cs_engine.proofs.ReadingLemmas.{kept_within}
 use Rattle.cs_engine.proofs.answering.shown_facet.Goals as goal

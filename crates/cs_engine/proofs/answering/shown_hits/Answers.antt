@@ -1,4 +1,4 @@
-use Rattle.std.proofs.Common.{◌≡◌, ◌+◌, ◌≤◌, ◌++◌, ◌∷◌, [], ap, length, get_or, refl, ◌∙◌, arith, length-append}
+use Rattle.std.proofs.Common.{◌+◌, ap, length, get_or, refl, ◌∙◌, arith, length-append}
 use Rattle.cs_base.specs.declared.content.doc.Scored.{Scored}
 use Rattle.cs_model.specs.Requests.{hit_shown}
 use Rattle.cs_engine.specs.Reading.{stock_of}

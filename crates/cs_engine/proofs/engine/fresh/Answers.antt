@@ -1,7 +1,6 @@
-use Rattle.std.proofs.Common.{◌≡◌, ◌+◌, ◌*◌, ◌≤◌, ap, length, sym, subst, ◌∙◌, arith}
+use Rattle.std.proofs.Common.{◌≡◌, ◌*◌, ap, length, sym, subst, ◌∙◌, arith}
 use Rattle.cs_base.specs.declared.content.query.Query.{out-Query}
-use Rattle.cs_file.specs.Indexes.{IndexView}
-use Rattle.cs_model.specs.Answers.{pairs, parts_of}
+use Rattle.cs_model.specs.Answers.{parts_of}
 use Rattle.cs_model_kept.proofs.EntryLemmas.{parts_read}
 use Rattle.cs_model_kept.specs.Entries.{Entry, EntryOf}
 use Rattle.cs_model_kept.specs.Entries as kept

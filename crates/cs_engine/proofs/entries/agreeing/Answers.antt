@@ -1,5 +1,5 @@
-use Rattle.std.proofs.Common.{◌≡◌, ◌∙◌, ap, map, sym, subst, List}
-use Rattle.cs_base.specs.content.Orders.{AreDocs, docs_of}
+use Rattle.std.proofs.Common.{◌∙◌, ap, map, sym, subst, List}
+use Rattle.cs_base.specs.content.Orders.{docs_of}
 use Rattle.cs_base.specs.declared.content.doc.Base.TheVariants as base
 use Rattle.cs_base.specs.declared.content.doc.Scored.{Scored}
 use Rattle.cs_rank.specs.DocScores.{IsBase}

@@ -1,4 +1,4 @@
-use Rattle.std.proofs.Common.{◌≡◌, List, [], ◌++◌, ap, ◌∙◌, sym, subst}
+use Rattle.std.proofs.Common.{◌≡◌, List, ◌++◌, ap, ◌∙◌, sym, subst}
 use Rattle.std.specs.Prelude.{filter}
 use Rattle.cs_base.specs.declared.content.doc.Post.{Post}
 use Rattle.cs_file.specs.Indexes.{block_posts}

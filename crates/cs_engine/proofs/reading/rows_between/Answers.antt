@@ -1,4 +1,4 @@
-use Rattle.std.proofs.Common.{◌≡◌, ◌≤◌, ◌+◌, ◌∙◌, sym, subst, arith}
+use Rattle.std.proofs.Common.{sym, subst, arith}
 use Rattle.cs_model_index.specs.Sections.{image_of}
 use Rattle.cs_engine.specs.Reading.{stock_of, AreWithin}
 use Rattle.cs_engine.proofs.ReadingLemmas.{met_count, no_run, none_within, whole_run}

@@ -1,11 +1,11 @@
-use Rattle.std.proofs.Common.{◌≡◌, ◌+◌, ◌≤◌, map, take, drop, length}
+use Rattle.std.proofs.Common.{◌≡◌, ◌+◌, ◌≤◌, map, take, drop}
 use Rattle.std.specs.Prelude.{sum, fold, not, false}
 use Rattle.cs_base.specs.declared.content.query.Part.{out-Part}
-use Rattle.cs_model_kept.specs.Due.{met_of_chain, met_of_linked, met_of_part, met_of_query}
+use Rattle.cs_model_kept.specs.Due.{met_of_part, met_of_query}
 use Rattle.cs_engine.specs.Asking.{division}
-use Rattle.cs_engine.specs.Reading.{AreWithin, WhereStood, stock_of}
+use Rattle.cs_engine.specs.Reading.{WhereStood, stock_of}
 use Rattle.cs_engine.specs.Steps.{EntryFits}
-use Rattle.cs_engine.proofs.EvaluationLemmas.{EntrySoFar, RowsSoFar, LinkedSoFar}
+use Rattle.cs_engine.proofs.EvaluationLemmas.{EntrySoFar}
 use Rattle.cs_engine.proofs.steps.entry_of.Given as goal
 
 abbrev pub invariant-loop-part : goal.invariant-loop-part
@@ -19,4 +19,3 @@ invariant-loop-part g l = let v = division l.index in record {
   within : EntryFits l.index l.positive l.part-index l.entry;
   told : WhereStood (g.S.Store.bytes l.fn.store) l.index (λ b. EntrySoFar (stock_of b) l.part-items l.part-index l.entry);
 }
-

@@ -1,4 +1,4 @@
-use Rattle.std.proofs.Common.{◌≤◌, ◌+◌, arith}
+use Rattle.std.proofs.Common.{arith}
 use Rattle.std.specs.Str.{bytes_eq}
 use Rattle.cs_engine.proofs.WordsLemmas.{word_met, span_found}
 use Rattle.cs_engine.proofs.words.rows_of_word.Goals as goal

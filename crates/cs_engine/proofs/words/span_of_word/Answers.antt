@@ -1,4 +1,4 @@
-use Rattle.std.proofs.Common.{◌≡◌, ℕ, List, true≢false, ap, sym, subst, ◌∙◌}
+use Rattle.std.proofs.Common.{ℕ, List, true≢false, ap, sym, subst, ◌∙◌}
 use Rattle.std.specs.Str.{bytes_eq}
 use Rattle.cs_file.specs.Indexes.{IndexView}
 use Rattle.cs_engine.specs.Reading.{IsSpanOf}

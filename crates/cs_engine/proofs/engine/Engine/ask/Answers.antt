@@ -1,4 +1,4 @@
-use Rattle.std.proofs.Common.{◌≡◌, ◌∙◌, ap, subst}
+use Rattle.std.proofs.Common.{◌∙◌, ap, subst}
 use Rattle.cs_engine.specs.declared.engine.Engine.{Engine}
 use Rattle.cs_file.specs.Indexes.{IsIndex}
 use Rattle.cs_model.specs.Corpus.{Corpus}
