@@ -56,7 +56,7 @@ later_scored : (f : ℕ → Scored) → ((d : ℕ) → (f d).doc ≡ d) → (d :
 later_scored f h d [] up = tt
 later_scored f h d (e ∷ ds) up = (ap (λ x. nat_cmp x (f e).doc) (h d) ∙ ap (nat_cmp d) (h e) ∙ up.0, later_scored f h d ds up.1)
 
-scored_rise : (f : ℕ → Scored) → ((d : ℕ) → (f d).doc ≡ d) → (ds : List ℕ) → AreDocs ds → AreByDoc (map f ds)
+pub scored_rise : (f : ℕ → Scored) → ((d : ℕ) → (f d).doc ≡ d) → (ds : List ℕ) → AreDocs ds → AreByDoc (map f ds)
 unfolding IsStrictlySortedBy
 scored_rise f h [] up = tt
 scored_rise f h (d ∷ ds) up = (later_scored f h d ds up.0, scored_rise f h ds up.1)
@@ -75,7 +75,7 @@ all_kept n rows known =
 
 -- ---- scores stay small
 
-found_small : (bound d : ℕ) (hs : List Scored) → AllByRecursion (λ h. h.score ≤ bound) hs → unwrap_or (option_map (λ (h : Scored). h.score) (find (λ h. h.doc == d) hs)) 0 ≤ bound
+pub found_small : (bound d : ℕ) (hs : List Scored) → AllByRecursion (λ h. h.score ≤ bound) hs → unwrap_or (option_map (λ (h : Scored). h.score) (find (λ h. h.doc == d) hs)) 0 ≤ bound
 found_small bound d [] h = omega arith
 found_small bound d (x ∷ hs) h =
     elim (x.doc == d) as (λ b. unwrap_or (option_map (λ (h : Scored). h.score) (cond b (Some x) (find (λ h. h.doc == d) hs))) 0 ≤ bound) [
@@ -87,7 +87,7 @@ base_small : (bound n d : ℕ) (b : Base) → All (λ h. h.score ≤ bound) (lis
 base_small bound n d base.All h = omega arith
 base_small bound n d (base.Listed hs) h = found_small bound d hs (recursion_from_All (λ h. h.score ≤ bound) hs h)
 
-greatest_small : (ps : List Post) → AllByRecursion (λ p. p.score ≤ 255) ps → greatest (map (λ p. p.score) ps) ≤ 255
+pub greatest_small : (ps : List Post) → AllByRecursion (λ p. p.score ≤ 255) ps → greatest (map (λ p. p.score) ps) ≤ 255
 greatest_small [] h = omega arith
 greatest_small (p ∷ ps) h = (let rest = greatest_small ps h.1 in omega (arith, rest, h.0))
 

@@ -94,7 +94,7 @@ base_listed : (n : ℕ) (b : Base) (d : ℕ) → base_score b d ≡ base_score (
 base_listed n base.All d = sym (zero_found (range_with_len 0 n) d)
 base_listed n (base.Listed hs) d = refl
 
-greatest_of : (ws : List (List ℕ)) (ps : List Post) → greatest (map (λ p. p.score) ps) ≡ greatest_score (rows_at ws ps)
+pub greatest_of : (ws : List (List ℕ)) (ps : List Post) → greatest (map (λ p. p.score) ps) ≡ greatest_score (rows_at ws ps)
 greatest_of ws [] = refl
 greatest_of ws (p ∷ ps) = ap (max p.score) (greatest_of ws ps)
 
@@ -125,7 +125,7 @@ module _ (ws : List (List ℕ)) (posts : List Post) where
   own_doc k p l = has_post (get_or posts k p).doc ∙ list_any_at (λ q. q.doc == (get_or posts k p).doc) posts k p l (itself (get_or posts k p).doc)
 
   -- the documents of the kept rows
-  kept_docs : (ds : List ℕ) → AreDocs ds → docs_of (keep_docs posts ds) ≡ filter (λ d. list_any (in_doc d) (rows_at ws posts)) ds
+  pub kept_docs : (ds : List ℕ) → AreDocs ds → docs_of (keep_docs posts ds) ≡ filter (λ d. list_any (in_doc d) (rows_at ws posts)) ds
   kept_docs ds up =
       let t : ℕ → Bool = λ d. list_any (in_doc d) (rows_at ws posts) in
       let kept = keep_docs posts ds in
@@ -156,13 +156,13 @@ module _ (s : Stock) (done : List PartRows) (p : PartRows) (posts : List Post) (
   abbrev ds : List ℕ
   ds = hits k done
 
-  hits_positive : p.excluded ≡ false → hits k (done ++ p ∷ []) ≡ filter (λ d. list_any (in_doc d) (rows_at s.words posts)) ds
+  pub hits_positive : p.excluded ≡ false → hits k (done ++ p ∷ []) ≡ filter (λ d. list_any (in_doc d) (rows_at s.words posts)) ds
   hits_positive e =
       hits_more k done p
       ∙ ap (λ b. filter (λ d. if b then not (list_any (in_doc d) p.rows) else list_any (in_doc d) p.rows) ds) e
       ∙ ap (λ rows. filter (λ d. list_any (in_doc d) rows) ds) (sym is)
 
-  hits_excluded : p.excluded ≡ true → hits k (done ++ p ∷ []) ≡ filter (λ d. not (list_any (in_doc d) (rows_at s.words posts))) ds
+  pub hits_excluded : p.excluded ≡ true → hits k (done ++ p ∷ []) ≡ filter (λ d. not (list_any (in_doc d) (rows_at s.words posts))) ds
   hits_excluded e =
       hits_more k done p
       ∙ ap (λ b. filter (λ d. if b then not (list_any (in_doc d) p.rows) else list_any (in_doc d) p.rows) ds) e

@@ -9,3 +9,9 @@ pub mod ReplyLemmas
 pub mod TableLemmas
 pub mod UnionLemmas
 pub mod VocabLemmas
+pub mod ReadingLemmas
+pub mod StockLemmas
+pub mod WordsLemmas
+pub mod StepLemmas
+pub mod EvaluationLemmas
+pub mod AnsweringLemmas

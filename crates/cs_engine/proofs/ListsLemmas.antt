@@ -19,6 +19,7 @@ use Rattle.std.specs.FinMap.{get, keys, find, is_sorted, from_entries, from_sort
 use Rattle.std.specs.FinMap.Entries.{below_all}
 use Rattle.std.proofs.lemmas.Bool.Decides.{nat_tests}
 use Rattle.std.proofs.lemmas.List.Folds.{list_any_at}
+use Rattle.std.proofs.lemmas.List.FromFn.{length-range_with_len, get_or-range_with_len}
 use Rattle.cs_base.proofs.OrdersLemmas.{Less-from_lt}
 
 pub all_of : {X : Type 0} (P : X → Type 0) → ((x : X) → P x) → (xs : List X) → AllByRecursion P xs
@@ -117,3 +118,10 @@ in_range a (suc n) d low high =
       | true ↦ λ e. refl
       | false ↦ λ e. in_range (a + 1) n d (grind (arith, nat_tests)) (omega arith)
     ] refl
+
+-- each of the first numbers is below their count
+pub range_below : (n : ℕ) → All (λ d. d < n) (range_with_len 0 n)
+range_below n k d l =
+    let many = length-range_with_len 0 n in
+    let at = get_or-range_with_len 0 n k d (omega (arith, l, many)) in
+    omega (arith, l, many, at)

@@ -9,6 +9,9 @@ use Rattle.std.proofs.Common.{◌≡◌, ℕ, zero, suc, ◌<◌, ◌≤◌, ◌
 use Rattle.std.specs.Prelude.{filter}
 use Rattle.std.specs.Option.{unwrap_or}
 use Rattle.std.specs.List.{All, AllByRecursion, list_all, take-map}
+use Rattle.std.specs.List.Sorted.{IsStrictlySortedBy}
+use Rattle.std.specs.Ordering.{nat_cmp}
+use Rattle.std.specs.Cmp.Lexicographic.{slice_cmp}
 use Rattle.std.specs.FinMap.{keys}
 use Rattle.std.proofs.lemmas.List.{length-map}
 use Rattle.std.proofs.lemmas.List.Elements.{All-from_recursion}
@@ -31,7 +34,7 @@ use Rattle.cs_model.specs.Replies.{Reply, Shown, HitShown, FacetShown}
 use Rattle.cs_model.specs.Requests.{Request, reply_of, reply_to, shown_of, hit_shown, facet_shown}
 use Rattle.cs_tables.specs.declared.tables.Completion.{Completion as Numbered}
 use Rattle.cs_tables.specs.Listings.{table}
-use Rattle.cs_engine.specs.Stocked.{word_at, row_of, rows_at, corpus_in, listed, docs_in, named_at, shown_at, named_rows, facet_rows, facet_at, title_at, IsKnown, IsStocked, IsPicked, IsFound}
+use Rattle.cs_engine.specs.Stocked.{word_at, row_of, rows_at, corpus_in, listed, docs_in, named_at, shown_at, named_rows, facet_rows, facet_at, title_at, scored_hits, IsKnown, IsStocked, IsPicked}
 use Rattle.cs_engine.specs.declared.stock.Stock.{Stock}
 use Rattle.cs_engine.proofs.VocabLemmas.{filter_through, rows_rise}
 use Rattle.cs_engine.proofs.ListsLemmas.{get_numbered, all_of, map_alike, keys_numbered}
@@ -53,12 +56,15 @@ take_all_of P zero xs h = tt
 take_all_of P (suc n) [] h = tt
 take_all_of P (suc n) (x ∷ xs) h = (h.0, take_all_of P n xs h.1)
 
+-- the first words of a table are there
+pub first_there : (ws : List (List ℕ)) → IsStrictlySortedBy (slice_cmp nat_cmp) ws → (posts : List Post) → AllByRecursion (λ p. p.word < length ws) posts → (cut : ℕ) (first : List Numbered) → first ≡ take cut (table posts) → All (λ c. c.word < length ws) first
+first_there ws up posts known cut first is =
+    subst (All (λ c. c.word < length ws)) (sym is) (All-from_recursion (λ c. c.word < length ws) (take cut (table posts)) (take_all_of (λ c. c.word < length ws) cut (table posts) (table_known ws up posts known)))
+
 module _ (s : Stock) (kept : IsStocked s) where
   -- the first words of a table are there
   pub first_known : (posts : List Post) (cut : ℕ) (first : List Numbered) → IsPicked s posts → first ≡ take cut (table posts) → All (λ c. c.word < length s.words) first
-  first_known posts cut first picked is =
-      subst (All (λ c. c.word < length s.words)) (sym is)
-      (All-from_recursion (λ c. c.word < length s.words) (take cut (table posts)) (take_all_of (λ c. c.word < length s.words) cut (table posts) (table_known s.words kept.words posts (picked_words s posts kept picked.among))))
+  first_known posts cut first picked is = first_there s.words kept.words posts (picked_words s posts kept picked.among) cut first is
 
   pub few_docs : (posts : List Post) → IsPicked s posts → All (λ p. p.doc < 2 ^ 20) posts
   few_docs posts picked =
@@ -73,18 +79,18 @@ module _ (s : Stock) (kept : IsStocked s) where
       All-from_recursion (λ p. p.word < 2 ^ 22) posts (all_then (IsKnown s) (λ p. p.word < 2 ^ 22) (λ p h. omega (arith, h.word, kept.few_words)) posts (picked_known s posts kept picked.among))
 
   -- the first words of a table, as they are shown
-  pub words_shown : (posts : List Post) (cut : ℕ) (first : List Numbered) → IsPicked s posts → first ≡ take cut (table posts) → map (shown_at s.words) first ≡ map shown_of (take cut (table_of (rows_at s.words posts)))
-  words_shown posts cut first picked is =
+  pub words_shown : (posts : List Post) (cut : ℕ) (first : List Numbered) → AllByRecursion (λ p. p.word < length s.words) posts → first ≡ take cut (table posts) → map (shown_at s.words) first ≡ map shown_of (take cut (table_of (rows_at s.words posts)))
+  words_shown posts cut first known is =
       ap (map (shown_at s.words)) is
       ∙ sym (through (take cut (table posts)))
-      ∙ ap (map shown_of) (sym (take-map (named_at s.words) cut (table posts)) ∙ ap (take cut) (table_through s.words kept.words posts (picked_words s posts kept picked.among)))
+      ∙ ap (map shown_of) (sym (take-map (named_at s.words) cut (table posts)) ∙ ap (take cut) (table_through s.words kept.words posts known))
     where
       through : (cs : List Numbered) → map shown_of (map (named_at s.words) cs) ≡ map (shown_at s.words) cs
       through [] = refl
       through (c ∷ cs) = ap (λ l. shown_at s.words c ∷ l) (through cs)
 
-  pub table_total : (posts : List Post) → IsPicked s posts → length (table posts) ≡ length (table_of (rows_at s.words posts))
-  table_total posts picked = sym (length-map (table posts) (named_at s.words)) ∙ ap length (table_through s.words kept.words posts (picked_words s posts kept picked.among))
+  pub table_total : (posts : List Post) → AllByRecursion (λ p. p.word < length s.words) posts → length (table posts) ≡ length (table_of (rows_at s.words posts))
+  table_total posts known = sym (length-map (table posts) (named_at s.words)) ∙ ap length (table_through s.words kept.words posts known)
 
   -- the rows of a facet in the documents of a base
   pub facet_kept : (b : Base) (name : List ℕ) (posts found : List Post) → rows_at s.words posts ≡ named_rows s name → found ≡ keep_docs posts (docs_in (length s.titles) b) → rows_at s.words found ≡ facet_rows s b name
@@ -100,7 +106,7 @@ filter_few p (x ∷ xs) =
       | false ↦ omega (arith, rest)
     ]
 
-module _ (s : Stock) (kept : IsStocked s) (ps : List PartRows) (b : Base) (posts : List Post) (found : IsFound s ps b posts) where
+module _ (s : Stock) (kept : IsStocked s) (ps : List PartRows) (b : Base) (posts : List Post) (lists : listed (length s.titles) b ≡ scored_hits (corpus_in s) ps) where
   abbrev k : Corpus
   k = corpus_in s
 
@@ -109,7 +115,7 @@ module _ (s : Stock) (kept : IsStocked s) (ps : List PartRows) (b : Base) (posts
   hits_few =
       omega (
         arith,
-        ap length found.hits,
+        ap length lists,
         length-map (hits k ps) (answers.scored ps),
         filter_few (λ d. list_all (answers.agrees d) ps) (keys k.titles),
         ap length (keys_numbered s.titles),
@@ -132,7 +138,7 @@ module _ (s : Stock) (kept : IsStocked s) (ps : List PartRows) (b : Base) (posts
     facet_pairs : facet_rows s b name ≡ pairs k (ps ++ facet_part k name ∷ [])
     facet_pairs =
         sym (facet_kept s kept b name asked_posts (keep_docs asked_posts (docs_in (length s.titles) b)) asked_is refl)
-        ∙ ap (λ ds. rows_at s.words (keep_docs asked_posts ds)) (listed_docs s ps (facet_part k name) asked_posts facet_is b found.hits)
+        ∙ ap (λ ds. rows_at s.words (keep_docs asked_posts ds)) (listed_docs s ps (facet_part k name) asked_posts facet_is b lists)
         ∙ kept_pairs s ps (facet_part k name) asked_posts facet_is refl
 
   facets_are : (cut : ℕ) (names : List (List ℕ)) → map (facet_at s b cut) names ≡ map (facet_shown k ps cut) names
@@ -140,7 +146,7 @@ module _ (s : Stock) (kept : IsStocked s) (ps : List PartRows) (b : Base) (posts
       map_alike (facet_at s b cut) (facet_shown k ps cut) names (all_of (λ name. facet_at s b cut name ≡ facet_shown k ps cut name) (λ name.
       ap (λ (rows : List Row). let f : FacetShown = record { name = name; table = map shown_of (take cut (table_of rows)) } in f) (facet_pairs name)) names)
 
-  pub reply_made : (r : Request) → ps ≡ answers.parts_of k r.query → (c : List Shown) (f : List FacetShown) (h : List HitShown) (tc th : ℕ)
+  pub reply_made : rows_at s.words posts ≡ pairs k ps → (r : Request) → ps ≡ answers.parts_of k r.query → (c : List Shown) (f : List FacetShown) (h : List HitShown) (tc th : ℕ)
       → c ≡ map shown_of (take r.completions (table_of (rows_at s.words posts)))
       → f ≡ map (facet_at s b r.completions) r.facets
       → h ≡ map (hit_shown k) (take r.hits (drop r.offset (members_in by_rank (listed (length s.titles) b))))
@@ -148,13 +154,13 @@ module _ (s : Stock) (kept : IsStocked s) (ps : List PartRows) (b : Base) (posts
       → th ≡ length (listed (length s.titles) b)
       → ◌≡◌ {A = Reply} (record { completions = c; facets = f; hits = h; total_completions = tc; total_hits = th }) (reply_of k r)
   unfolding reply_of
-  reply_made r parts c f h tc th c_is f_is h_is tc_is th_is =
+  reply_made pairs_are r parts c f h tc th c_is f_is h_is tc_is th_is =
       let by : List Shown → List FacetShown → List HitShown → ℕ → ℕ → Reply = λ c f h tc th. record { completions = c; facets = f; hits = h; total_completions = tc; total_hits = th } in
-      let c2 : c ≡ map shown_of (take r.completions (answers.table k ps)) = c_is ∙ ap (λ rows. map shown_of (take r.completions (table_of rows))) found.pairs in
+      let c2 : c ≡ map shown_of (take r.completions (answers.table k ps)) = c_is ∙ ap (λ rows. map shown_of (take r.completions (table_of rows))) pairs_are in
       let f2 : f ≡ map (facet_shown k ps r.completions) r.facets = f_is ∙ facets_are r.completions r.facets in
-      let h2 : h ≡ map (hit_shown k) (take r.hits (drop r.offset (ranked k ps))) = h_is ∙ ap (λ hs. map (hit_shown k) (take r.hits (drop r.offset (members_in by_rank hs)))) found.hits in
-      let tc2 : tc ≡ length (answers.table k ps) = tc_is ∙ ap (λ rows. length (table_of rows)) found.pairs in
-      let th2 : th ≡ length (hits k ps) = th_is ∙ ap length found.hits ∙ length-map (hits k ps) (answers.scored ps) in
+      let h2 : h ≡ map (hit_shown k) (take r.hits (drop r.offset (ranked k ps))) = h_is ∙ ap (λ hs. map (hit_shown k) (take r.hits (drop r.offset (members_in by_rank hs)))) lists in
+      let tc2 : tc ≡ length (answers.table k ps) = tc_is ∙ ap (λ rows. length (table_of rows)) pairs_are in
+      let th2 : th ≡ length (hits k ps) = th_is ∙ ap length lists ∙ length-map (hits k ps) (answers.scored ps) in
       ap (λ x. by x f h tc th) c2 ∙ ap (λ x. by (map shown_of (take r.completions (answers.table k ps))) x h tc th) f2
       ∙ ap (λ x. by (map shown_of (take r.completions (answers.table k ps))) (map (facet_shown k ps r.completions) r.facets) x tc th) h2
       ∙ ap (λ x. by (map shown_of (take r.completions (answers.table k ps))) (map (facet_shown k ps r.completions) r.facets) (map (hit_shown k) (take r.hits (drop r.offset (ranked k ps)))) x th) tc2

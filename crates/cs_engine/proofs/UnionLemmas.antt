@@ -98,7 +98,7 @@ module _ (posts : List Post) (up : AreSorted posts) (test : Post → Bool) where
         | false ↦ λ s. ap (λ t. test x || t) (any_missing a b all_a all_b.1 none)
       ] refl
 
-  any_united : (a b : List Post) → AllByRecursion (Contains posts) a → AllByRecursion (Contains posts) b → list_any test (a ++ missing a b) ≡ list_any test (a ++ b)
+  pub any_united : (a b : List Post) → AllByRecursion (Contains posts) a → AllByRecursion (Contains posts) b → list_any test (a ++ missing a b) ≡ list_any test (a ++ b)
   any_united a b all_a all_b =
       list_any-append test a (missing a b)
       ∙ elim (list_any test a) as (λ t. list_any test a ≡ t → (t || list_any test (missing a b)) ≡ (t || list_any test b)) [

@@ -1,2 +1,5 @@
+pub mod Asking
+pub mod Reading
 pub mod Searching
+pub mod Steps
 pub mod Stocked

@@ -69,7 +69,7 @@ fn span_of_word(words: &Vocab, word: &[u8]) -> (u32, u32)
 }
 
 // The posts whose word's number is `lo` or more and below `hi`, in memory that just holds them.
-fn posts_between(alloc: Global, posts: &Cols, lo: u32, hi: u32) -> Result<Cols, Memory>
+pub(crate) fn posts_between(alloc: Global, posts: &Cols, lo: u32, hi: u32) -> Result<Cols, Memory>
     ensures { IfOk result (λ c. c.posts ≡ filter (is_between lo hi) posts.now.posts) }
 {
     let words = posts.words();

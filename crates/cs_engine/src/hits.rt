@@ -96,7 +96,7 @@ pub(crate) fn kept_in(alloc: Global, docs: u32, base: &Base, rows: Cols) -> Resu
     }
 }
 
-fn numbers_of(alloc: Global, hits: &[Scored]) -> Result<Vec<u32>, Memory>
+pub(crate) fn numbers_of(alloc: Global, hits: &[Scored]) -> Result<Vec<u32>, Memory>
     ensures { IfOk result (λ v. v.items ≡ map (λ h. h.doc) hits.now) }
 {
     let mut numbers = Vec::with_capacity(alloc, hits.len())?;
@@ -107,7 +107,7 @@ fn numbers_of(alloc: Global, hits: &[Scored]) -> Result<Vec<u32>, Memory>
 }
 
 // The hits of a base that have none of the rows.
-fn without(alloc: Global, docs: u32, base: &Base, rows: &Cols) -> Result<Seq<Scored>, Memory>
+pub(crate) fn without(alloc: Global, docs: u32, base: &Base, rows: &Cols) -> Result<Seq<Scored>, Memory>
     requires base { IsBase base.now }
     requires rows_sorted { AreSorted rows.now.posts }
 
@@ -140,7 +140,7 @@ pub(crate) fn listed(alloc: Global, docs: u32, base: Base) -> Result<Seq<Scored>
 }
 
 // Every document, with the score 0.
-fn all_docs(alloc: Global, docs: u32) -> Result<Vec<Scored>, Memory>
+pub(crate) fn all_docs(alloc: Global, docs: u32) -> Result<Vec<Scored>, Memory>
     ensures { IfOk result (λ v. v.items ≡ every docs) }
 {
     let mut all = Vec::with_capacity(alloc, docs as usize)?;

@@ -4,16 +4,27 @@
 //! Nothing here reads a file.
 #![tactic(auto)]
 
+mod answering;
 mod atoms;
 mod building;
 mod corpus;
+mod engine;
+mod entries;
+mod evaluation;
+mod fault;
 mod hits;
 mod joins;
 mod parts;
+mod reading;
 mod replies;
+mod steps;
 mod stock;
 #[cfg(test)]
 mod tests;
+mod words;
 
+pub use cs_query::{Reply, Request};
 pub use corpus::{Corpus, CorpusFault};
+pub use engine::Engine;
+pub use fault::AskFault;
 pub use joins::has_join;

@@ -30,7 +30,7 @@ pub(crate) fn rows_of_part(alloc: Global, stock: &Stock, part: &Part) -> Result<
 }
 
 // The rows of some first chains, with those of one more.
-fn joined(alloc: Global, found: Cols, next: Cols) -> Result<Cols, Memory>
+pub(crate) fn joined(alloc: Global, found: Cols, next: Cols) -> Result<Cols, Memory>
     requires found_sorted { AreSorted found.posts }
     requires next_sorted { AreSorted next.posts }
 
@@ -61,7 +61,7 @@ fn rows_of_chain(alloc: Global, stock: &Stock, chain: &Chain) -> Result<Cols, Me
 }
 
 // Those of `next` that are linked to one of `found`.
-fn linked_rows(alloc: Global, link: Link, found: &Cols, next: &Cols) -> Result<Cols, Memory>
+pub(crate) fn linked_rows(alloc: Global, link: Link, found: &Cols, next: &Cols) -> Result<Cols, Memory>
     requires found_sorted { AreSorted found.now.posts }
     requires next_sorted { AreSorted next.now.posts }
 

@@ -86,7 +86,7 @@ fn shown_facet(
     })
 }
 
-fn shown_words(alloc: Global, words: &Vocab, first: &[Completion]) -> Result<Seq<Shown>, Memory>
+pub(crate) fn shown_words(alloc: Global, words: &Vocab, first: &[Completion]) -> Result<Seq<Shown>, Memory>
     requires texts { All IsUtf8 words.now }
     requires known { All (λ c. c.word < length words.now) first.now }
 

@@ -112,7 +112,7 @@ heads_again words (g ∷ hs) h =
 
 -- ---- the blocks
 -- blocks that go with their heads
-pub AreBlocks : ℕ → List BlockHead → List (List Post) → Type 0
+unfoldable pub AreBlocks : ℕ → List BlockHead → List (List Post) → Type 0
 AreBlocks docs [] [] = Unit {0}
 AreBlocks docs [] (rs ∷ rss) = ⊥
 AreBlocks docs (h ∷ hs) [] = ⊥

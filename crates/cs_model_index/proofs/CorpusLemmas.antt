@@ -1,7 +1,9 @@
 -- The image of a corpus keeps its rows: each stands in the block of the run that has its word.
 --
 --   rows_up           rows in order by document, position and word are in order by all four
+--   listed_word       a word is listed exactly where some row has it
 --   known_words       each row's word is among the words of the rows
+--   kept              what holds of each holds of each that is kept
 --   rows_of_runs      the rows of the blocks are those of the runs
 --   same_members      they are all rows
 --   corpora_are_kept  the law
@@ -50,16 +52,16 @@ rows_up [] h = tt
 rows_up (r ∷ rows) h = (rest_up r rows h.0, rows_up rows h.1)
 
 -- ---- words
-any_alike : {X : Type 0} (p q : X → Bool) (xs : List X) → ((x : X) → p x ≡ q x) → list_any p xs ≡ list_any q xs
+pub any_alike : {X : Type 0} (p q : X → Bool) (xs : List X) → ((x : X) → p x ≡ q x) → list_any p xs ≡ list_any q xs
 any_alike p q [] h = refl
 any_alike p q (x ∷ xs) h = ap (λ b. b || list_any p xs) (h x) ∙ ap (λ b. q x || b) (any_alike p q xs h)
 
-any_through : {X Y : Type 0} (f : X → Y) (p : Y → Bool) (xs : List X) → list_any p (map f xs) ≡ list_any (λ x. p (f x)) xs
+pub any_through : {X Y : Type 0} (f : X → Y) (p : Y → Bool) (xs : List X) → list_any p (map f xs) ≡ list_any (λ x. p (f x)) xs
 any_through f p [] = refl
 any_through f p (x ∷ xs) = ap (λ b. p (f x) || b) (any_through f p xs)
 
 -- a word is listed exactly where some row has it
-listed_word : (rows : List Row) (w : List ℕ) → list_any (bytes_eq w) (distinct_words rows) ≡ list_any (λ r. bytes_eq w r.word) rows
+pub listed_word : (rows : List Row) (w : List ℕ) → list_any (bytes_eq w) (distinct_words rows) ≡ list_any (λ r. bytes_eq w r.word) rows
 listed_word rows w =
     let listed : List (List ℕ) = map (λ r. r.word) rows in
     any_alike (bytes_eq w) (eq_by_cmp (slice_cmp nat_cmp) w) (distinct_words rows) (λ v. sym (is_eq-slice_cmp w v))
@@ -81,7 +83,7 @@ each_known ws (r ∷ rows) h = (
 pub known_words : (rows : List Row) → AllByRecursion (HasWord (distinct_words rows)) rows
 known_words rows = each_known (distinct_words rows) rows (λ w h. listed_word rows w ∙ h)
 
-kept : {X : Type 0} (P : X → Type 0) (t : X → Bool) (xs : List X) → AllByRecursion P xs → AllByRecursion P (filter t xs)
+pub kept : {X : Type 0} (P : X → Type 0) (t : X → Bool) (xs : List X) → AllByRecursion P xs → AllByRecursion P (filter t xs)
 kept P t [] h = tt
 kept P t (x ∷ xs) h =
     elim (t x) as (λ b. AllByRecursion P (cond b (x ∷ filter t xs) (filter t xs))) [

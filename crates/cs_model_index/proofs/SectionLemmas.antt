@@ -129,7 +129,7 @@ titles_written at (o ∷ ps) bytes some h end =
     )
 
 -- ---- the heads
-pub end_from : ℕ → List BlockHead → ℕ
+unfoldable pub end_from : ℕ → List BlockHead → ℕ
 end_from e [] = e
 end_from e (h ∷ hs) = end_from (h.lo + h.words) hs
 
@@ -151,7 +151,7 @@ Joined at last hs = AllByRecursion (λ i. is_joined i.last i.value ≡ true) (la
 abbrev Sized : ℕ → Option BlockHead → List BlockHead → Type 0
 Sized at last hs = AllByRecursion (λ i. is_sized i.value ≡ true) (laid (λ h. ENTRY_BYTES) at last hs)
 
-ends_rise : (at : ℕ) (last : Option BlockHead) (hs : List BlockHead) → Joined at last hs → words_end last ≤ end_from (words_end last) hs
+pub ends_rise : (at : ℕ) (last : Option BlockHead) (hs : List BlockHead) → Joined at last hs → words_end last ≤ end_from (words_end last) hs
 unfolding end_from laid
 ends_rise at last [] h = omega arith
 ends_rise at last (g ∷ hs) h =
@@ -160,7 +160,7 @@ ends_rise at last (g ∷ hs) h =
     omega (arith, here, rest)
 
 -- heads of so many bytes, one behind the other
-pub AreShaped : List BlockHead → ℕ → Type 0
+unfoldable pub AreShaped : List BlockHead → ℕ → Type 0
 AreShaped [] size = size ≡ 0
 AreShaped (h ∷ hs) size = IsShaped h h.len × (h.len ≤ size) × AreShaped hs (size - h.len)
 
@@ -181,7 +181,7 @@ shapes at last (h ∷ hs) size j s end sum =
     )
 
 -- ---- the blocks
-block_none : (at : ℕ) (o : Option Broken) (p : Option Broken) → option_or (option_map (in_file at) o) p ≡ None → (o ≡ None) × (p ≡ None)
+pub block_none : (at : ℕ) (o : Option Broken) (p : Option Broken) → option_or (option_map (in_file at) o) p ≡ None → (o ≡ None) × (p ≡ None)
 block_none at None p e = (refl, e)
 block_none at (Some b) p e = absurd cc
 

@@ -2,14 +2,17 @@
 --
 -- Source: this engine's own.
 --
--- The law `files` says what of this follows from the laws of blocks. The others are statements: no contract
--- promises them.
+-- The laws `files` and `accepted_files` say that all of this follows from the laws of blocks.
 --
 --   HasLimits i           an image whose numbers have room in a file, and whose titles, words and rows are those of a collection
 --   AcceptedAreFiles      an index file is the file of the image that is read of it
 --   FilesFollowBlocks     that follows from the laws of blocks
 --   FilesAreAccepted      the file of an image within the limits is an index file, of which this image is read
+--   ImagesFollowBlocks    that follows from the law of blocks
 --   AcceptedAreImages     what is read of an index file is the image of its corpus
+--   ReadingFollowsBlocks  that follows from the laws of blocks
+--   ReadAreCorpora        the corpus that is read of an index file is a corpus
+--   ReadCorporaFollowBlocks  that follows from the laws of blocks
 use Rattle.std.specs.Prelude.{◌≡◌, ℕ, ◌^◌, ◌<◌, ◌≤◌, true, List, length, All}
 use Rattle.std.specs.List.{sum_by}
 use Rattle.std.specs.Str.{IsUtf8}
@@ -52,6 +55,22 @@ FilesFollowBlocks = AcceptedAreBlocks → OneReading → AcceptedAreFiles
 abbrev pub FilesAreAccepted : Type 0
 FilesAreAccepted = (k : Corpus) (target : ℕ) (i : Image) → IsCorpus k → IsImage k target i → HasLimits i → IsIndexFile (file i) × (image_of (file i) ≡ i)
 
+-- it follows from the law of blocks
+abbrev pub ImagesFollowBlocks : Type 0
+ImagesFollowBlocks = OneReading → FilesAreAccepted
+
 -- so the rules accept the files of images alone
 abbrev pub AcceptedAreImages : Type 0
 AcceptedAreImages = (b : List ℕ) → All (λ x. x < 2 ^ 8) b → IsIndexFile b → IsImage (file_corpus b) (image_of b).target (image_of b)
+
+-- it follows from the laws of blocks
+abbrev pub ReadingFollowsBlocks : Type 0
+ReadingFollowsBlocks = AcceptedAreBlocks → OneReading → AcceptedAreImages
+
+-- its rows are named by document, position and word, and each row's document has a title
+abbrev pub ReadAreCorpora : Type 0
+ReadAreCorpora = (b : List ℕ) → All (λ x. x < 2 ^ 8) b → IsIndexFile b → IsCorpus (file_corpus b)
+
+-- it follows from the laws of blocks
+abbrev pub ReadCorporaFollowBlocks : Type 0
+ReadCorporaFollowBlocks = AcceptedAreBlocks → OneReading → ReadAreCorpora

@@ -1,6 +1,6 @@
 //! Laws about the definitions, and the numbers as they are promised. Each is the contract of a function that does nothing.
 ghost use Rattle.std.specs.Prelude.{◌≡◌, ◌^◌};
-ghost use Rattle.cs_model_index.specs.FileLaws.{FilesFollowBlocks};
+ghost use Rattle.cs_model_index.specs.FileLaws.{FilesFollowBlocks, ImagesFollowBlocks, ReadCorporaFollowBlocks, ReadingFollowsBlocks};
 ghost use Rattle.cs_model_index.specs.Images.{ImagesAreOne, ImagesKeepCorpora};
 ghost use Rattle.cs_model_index.specs.Partitions.{PartitionsAreOne};
 
@@ -26,4 +26,12 @@ pub fn one_image()
 /// Where the laws of blocks hold, an index file is the file of the image that is read of it.
 pub fn files()
     ensures { FilesFollowBlocks }
+{}
+
+/// Where the laws of blocks hold, the file of an image within the limits is an index file, of which this image is read;
+/// and what is read of an index file is a corpus and its image.
+pub fn accepted_files()
+    ensures images { ImagesFollowBlocks }
+    ensures reading { ReadingFollowsBlocks }
+    ensures corpora { ReadCorporaFollowBlocks }
 {}

@@ -10,13 +10,17 @@ use Rattle.cs_base.specs.outside.Outside.{Grew, GrewByPrefix}
 use Rattle.cs_model.specs.Words.{is_filled}
 use Rattle.cs_model.specs.First.{first_reason}
 use Rattle.cs_model.specs.Outputs.{ScriptFault, MayPut, OneEach, AnswersFirst, PutAll, line_fault, first_fault, is_readable, readable_lines, put_of}
-use Rattle.cs_model.proofs.OutputLemmas.{one_each-push, answers-first, behind_answered, put_of-push}
-use Rattle.cs_top.specs.Endings.{Ending, done, not_built, usage, refused, absent, failed, no_memory, script_refused}
+use Rattle.cs_model.proofs.OutputLemmas.{one_each-push, answers-first, put_of-push}
+use Rattle.cs_top.specs.Answering.{Costs, worst}
+use Rattle.cs_top.specs.Endings.{Ending, done, not_built, usage, refused, damaged, absent, failed, no_memory, script_refused, changed}
 use Rattle.cs_top.specs.Met.{Wrote}
-use Rattle.cs_top.specs.Scripts.{ScriptEnds}
+use Rattle.cs_top.specs.Scripts.{ScriptEnds, ShortTally, Tally}
 use Rattle.cs_top.specs.Steps.{StopsAt, Reaches, EndsAt}
 use Rattle.cs_top.specs.declared.lines.Place.{Place}
+use Rattle.cs_top.specs.declared.script.Came.{Came}
+use Rattle.cs_top.specs.declared.script.Came.TheVariants.{Answered}
 use Rattle.cs_top.proofs.GrewLemmas.{grew_none, grew_twice, grew_then_begun, grew_begun}
+use Rattle.cs_top.proofs.TallyLemmas.{tally_none, tally_same, tally_more, short_here, short_failed, short_put}
 
 -- ---- the lines from a place on
 abbrev kept : List (ℕ × List ℕ) → List (ℕ × List ℕ)
@@ -68,19 +72,20 @@ fault-nil : first_fault [] ≡ None
 fault-nil = refl
 
 -- ---- what is put so far
--- some lines were answered; what is left decides the rest
-pub record HasAnswered (A : MayPut) (all left : List (ℕ × List ℕ)) (old now : Option (List ℕ)) : Type 0 where
+-- some lines were answered, and this came of them; what is left decides the rest
+pub record HasAnswered (A : MayPut) (all left : List (ℕ × List ℕ)) (old now : Option (List ℕ)) (came : Came) (before count : ℕ) : Type 0 where
   pub done : List (List ℕ)
   pub texts : List (List ℕ)
   pub so_far : readable_lines all ≡ done ++ readable_lines left
   pub fault : first_fault all ≡ first_fault left
   pub answered : OneEach A done texts
   pub grew : Grew old (put_of texts) now
+  pub tally : Tally came before count texts
 
-pub at_start : (A : MayPut) (all left : List (ℕ × List ℕ)) (w : Option (List ℕ)) → all ≡ left → HasAnswered A all left w w
-at_start A all left w e = record { done = []; texts = []; so_far = ap readable_lines e; fault = ap first_fault e; answered = tt; grew = grew_none w }
+pub at_start : (A : MayPut) (all left : List (ℕ × List ℕ)) (w : Option (List ℕ)) (n m : ℕ) → all ≡ left → m ≡ n → HasAnswered A all left w w Answered n m
+at_start A all left w n m e same = record { done = []; texts = []; so_far = ap readable_lines e; fault = ap first_fault e; answered = tt; grew = grew_none w; tally = tally_none n m same }
 
-module _ {A : MayPut} {all left : List (ℕ × List ℕ)} {old now : Option (List ℕ)} (h : HasAnswered A all left old now) where
+module _ {A : MayPut} {all left : List (ℕ × List ℕ)} {old now : Option (List ℕ)} {came : Came} {before count : ℕ} (h : HasAnswered A all left old now came before count) where
   so_far-read : (l : ℕ × List ℕ) (ls : List (ℕ × List ℕ)) → left ≡ l ∷ ls → line_fault l ≡ None → readable_lines all ≡ h.done ++ l.1 ∷ readable_lines ls
   so_far-read l ls is read = h.so_far ∙ ap (λ x. h.done ++ readable_lines x) is ∙ ap (λ x. h.done ++ x) (readable-read l ls read)
 
@@ -88,14 +93,16 @@ module _ {A : MayPut} {all left : List (ℕ × List ℕ)} {old now : Option (Lis
   one_more l ls is read = so_far-read l ls is read ∙ sym (append_assoc h.done (l.1 ∷ []) (readable_lines ls))
 
   -- a line was answered
-  answers : (l : ℕ × List ℕ) (ls : List (ℕ × List ℕ)) (t : List ℕ) (new : Option (List ℕ)) → left ≡ l ∷ ls → line_fault l ≡ None → A l.1 t → Grew now (t ++ 10 ∷ []) new → HasAnswered A all ls old new
-  answers l ls t new is read a g = record {
+  answers : (l : ℕ × List ℕ) (ls : List (ℕ × List ℕ)) (t : List ℕ) (new : Option (List ℕ)) (met : Came) (n : ℕ) → left ≡ l ∷ ls → line_fault l ≡ None → A l.1 t → Costs met count n t → Grew now (t ++ 10 ∷ []) new
+      → HasAnswered A all ls old new (worst came met) before n
+  answers l ls t new met n is read a cost g = record {
     done = h.done ++ l.1 ∷ [];
     texts = h.texts ++ t ∷ [];
     so_far = one_more l ls is read;
     fault = h.fault ∙ ap first_fault is ∙ fault-read l ls read;
     answered = one_each-push A h.done h.texts l.1 t h.answered a;
     grew = subst (λ b. Grew old b new) (sym (put_of-push h.texts t)) (grew_twice old (put_of h.texts) (t ++ 10 ∷ []) now new h.grew g);
+    tally = tally_more came met before count n h.texts t h.tally cost;
   }
 
   first-answered : (ls : List (List ℕ)) → readable_lines all ≡ h.done ++ ls → AnswersFirst A (readable_lines all) h.texts
@@ -106,75 +113,87 @@ module _ {A : MayPut} {all left : List (ℕ × List ℕ)} {old now : Option (Lis
       let same : readable_lines all ≡ h.done = h.so_far ∙ ap (λ x. h.done ++ x) none ∙ append-nil h.done in
       (subst (λ ls. OneEach A ls h.texts) (sym same) h.answered, h.grew)
 
-  module _ (later : List ℕ → Bool) (before count : ℕ) where
+  module _ (first last : ℕ) where
     abbrev whole : Option (List ℕ) → Wrote
-    whole new = record { old = old; new = new; before = before; now = count }
+    whole new = record { old = old; new = new; before = first; now = last }
 
-    abbrev Ended : Ending → Option (List ℕ) → Type 0
-    Ended e new = (ts : List (List ℕ)) × ScriptEnds A later e all ts (whole new)
+    abbrev Ended : Ending → Option (List ℕ) → ℕ → Type 0
+    Ended e new n = (ts : List (List ℕ)) × ScriptEnds A e all ts (whole new) × ShortTally e (whole new) before n ts
 
     -- the script ended at a line
-    pub stops : (e : Ending) (l : ℕ × List ℕ) (ls : List (ℕ × List ℕ)) (new : Option (List ℕ)) → left ≡ l ∷ ls → StopsAt A later e l (record { old = now; new = new; before = before; now = count }) → Ended e new
-    stops not_built l ls new is st =
-        let here : readable_lines all ≡ h.done ++ l.1 ∷ readable_lines ls = so_far-read l ls is st.1 in
-        (h.texts, ((l.1, readable_lines ls, ap (drop (length h.texts)) here ∙ behind_answered A h.done (l.1 ∷ readable_lines ls) h.texts h.answered, st.2), first-answered (l.1 ∷ readable_lines ls) here, st.3 ∙ h.grew))
-    stops (script_refused f) l ls new is st =
+    pub stops : (e : Ending) (l : ℕ × List ℕ) (ls : List (ℕ × List ℕ)) (new : Option (List ℕ)) (n : ℕ) → left ≡ l ∷ ls → StopsAt A e l (record { old = now; new = new; before = first; now = last }) count n → Ended e new n
+    stops (script_refused f) l ls new n is st =
         let put : PutAll A (readable_lines all) h.texts old new = subst (λ w. PutAll A (readable_lines all) h.texts old w) (sym st.2) (all_put (ap readable_lines is ∙ readable-fault l ls f st.1)) in
-        (h.texts, (h.fault ∙ ap first_fault is ∙ fault-here l ls f st.1, put))
-    stops failed l ls new is st =
-        let one : OneEach A (h.done ++ l.1 ∷ []) (h.texts ++ st.3.0 ∷ []) = one_each-push A h.done h.texts l.1 st.3.0 h.answered st.3.1 in
-        let first : AnswersFirst A (readable_lines all) (h.texts ++ st.3.0 ∷ []) =
-        subst (λ x. AnswersFirst A x (h.texts ++ st.3.0 ∷ [])) (sym (one_more l ls is st.1)) (answers-first A (h.done ++ l.1 ∷ []) (readable_lines ls) (h.texts ++ st.3.0 ∷ []) one) in
-        let some : GrewByPrefix old (put_of (h.texts ++ st.3.0 ∷ [])) new =
-        subst (λ b. GrewByPrefix old b new) (sym (put_of-push h.texts st.3.0)) (grew_then_begun old (put_of h.texts) (st.3.0 ++ 10 ∷ []) now new h.grew st.3.2) in
-        (h.texts ++ st.3.0 ∷ [], ((first, some), λ low. absurd (low st.2)))
-    stops done l ls new is st = absurd st
-    stops usage l ls new is st = absurd st
-    stops (refused r) l ls new is st = absurd st
-    stops (absent n) l ls new is st = absurd st
-    stops no_memory l ls new is st = absurd st
+        (h.texts, (h.fault ∙ ap first_fault is ∙ fault-here l ls f st.1, put), short_here came f (whole new) before count n h.texts st.3 h.tally)
+    stops failed l ls new n is (some, read, rose, (met, t, a, cost, begun)) =
+        let one : OneEach A (h.done ++ l.1 ∷ []) (h.texts ++ t ∷ []) = one_each-push A h.done h.texts l.1 t h.answered a in
+        let first : AnswersFirst A (readable_lines all) (h.texts ++ t ∷ []) =
+        subst (λ x. AnswersFirst A x (h.texts ++ t ∷ [])) (sym (one_more l ls is read)) (answers-first A (h.done ++ l.1 ∷ []) (readable_lines ls) (h.texts ++ t ∷ []) one) in
+        let some : GrewByPrefix old (put_of (h.texts ++ t ∷ [])) new =
+        subst (λ b. GrewByPrefix old b new) (sym (put_of-push h.texts t)) (grew_then_begun old (put_of h.texts) (t ++ 10 ∷ []) now new h.grew begun) in
+        (h.texts ++ t ∷ [], ((first, some), λ low. absurd (low rose)), short_put came met (whole new) before count n h.texts t rose h.tally cost)
+    stops done l ls new n is st = absurd st
+    stops not_built l ls new n is st = absurd st
+    stops usage l ls new n is st = absurd st
+    stops (refused r) l ls new n is st = absurd st
+    stops (damaged rule at) l ls new n is st = absurd st
+    stops (absent name) l ls new n is st = absurd st
+    stops no_memory l ls new n is st = absurd st
+    stops changed l ls new n is st = absurd st
 
     -- a file failed
-    pub unread : (new : Option (List ℕ)) → new ≡ now → Ended failed new
-    unread new same =
-        subst (λ w. Ended failed w) (sym same) (h.texts, ((first-answered (readable_lines left) h.so_far, grew_begun old (put_of h.texts) now h.grew), λ low. h.grew))
+    pub unread : (new : Option (List ℕ)) (n : ℕ) → new ≡ now → Rose count n → Ended failed new n
+    unread new n same rose =
+        subst (λ w. Ended failed w n) (sym same)
+        (h.texts, ((first-answered (readable_lines left) h.so_far, grew_begun old (put_of h.texts) now h.grew), λ low. h.grew), short_failed came (whole now) before count n h.texts h.tally rose)
 
-    -- nothing is left
-    pub at_end : left ≡ [] → Ended done now
-    at_end none = (h.texts, (h.fault ∙ ap first_fault none ∙ fault-nil, all_put (ap readable_lines none ∙ readable-nil)))
+  -- nothing is left
+  pub at_end : (first last : ℕ) → left ≡ [] → (ts : List (List ℕ)) × ScriptEnds A done all ts (record { old = old; new = now; before = first; now = last }) × Tally came before count ts
+  at_end first last none = (h.texts, (h.fault ∙ ap first_fault none ∙ fault-nil, all_put (ap readable_lines none ∙ readable-nil)), h.tally)
 
 -- ---- one line of a script
-some_of : (A : MayPut) (later : List ℕ → Bool) (e : Ending) (l : ℕ × List ℕ) (w : Wrote) → StopsAt A later e l w → l.1 ≢ []
-some_of A later not_built l w st = st.0
-some_of A later (script_refused f) l w st = st.0
-some_of A later failed l w st = st.0
-some_of A later done l w st = absurd st
-some_of A later usage l w st = absurd st
-some_of A later (refused r) l w st = absurd st
-some_of A later (absent n) l w st = absurd st
-some_of A later no_memory l w st = absurd st
+some_of : (A : MayPut) (e : Ending) (l : ℕ × List ℕ) (w : Wrote) (n m : ℕ) → StopsAt A e l w n m → l.1 ≢ []
+some_of A (script_refused f) l w n m st = st.0
+some_of A failed l w n m st = st.0
+some_of A done l w n m st = absurd st
+some_of A not_built l w n m st = absurd st
+some_of A usage l w n m st = absurd st
+some_of A (refused r) l w n m st = absurd st
+some_of A (damaged rule at) l w n m st = absurd st
+some_of A (absent name) l w n m st = absurd st
+some_of A no_memory l w n m st = absurd st
+some_of A changed l w n m st = absurd st
 
-module _ (s : List ℕ) (p : Place) {A : MayPut} {all : List (ℕ × List ℕ)} {old now : Option (List ℕ)} (h : HasAnswered A all (lines_at s p) old now) where
+module _ (s : List ℕ) (p : Place) {A : MayPut} {all : List (ℕ × List ℕ)} {old now : Option (List ℕ)} {came : Came} {before count : ℕ} (h : HasAnswered A all (lines_at s p) old now came before count) where
   left_at : (q : Place) (l : List ℕ) → lines (drop p.at s) ≡ l ∷ lines (drop q.at s) → q.number ≡ p.number + 1 → lines_at s p ≡ kept (enumerate_from q.number (l ∷ lines (drop q.at s)))
   left_at q l is n = ap (λ ls. kept (enumerate_from (p.number + 1) ls)) is ∙ ap (λ m. kept (enumerate_from m (l ∷ lines (drop q.at s)))) (sym n)
 
   -- the script goes on behind the line
-  pub goes_on : (q : Place) (new : Option (List ℕ)) → Reaches A s p q now new → HasAnswered A all (lines_at s q) old new
-  goes_on q new (l, is, n, inl (none, same)) =
-      subst (λ w. HasAnswered A all (lines_at s q) old w) (sym same)
-      (subst (λ ls. HasAnswered A all ls old now) (left_at q l is n ∙ kept_none q.number l (lines (drop q.at s)) none) h)
-  goes_on q new (l, is, n, inr (some, read, (t, a, g))) =
-      answers h (q.number, l) (lines_at s q) t new (left_at q l is n ∙ kept_some q.number l (lines (drop q.at s)) some) read a g
+  pub goes_on : (q : Place) (new : Option (List ℕ)) (met : Came) (n : ℕ) → Reaches A s p q now new met count n → HasAnswered A all (lines_at s q) old new (worst came met) before n
+  goes_on q new met n (l, is, next, inl (none, same, plain, calm)) =
+      let rest : HasAnswered A all (lines_at s q) old now came before count = subst (λ ls. HasAnswered A all ls old now came before count) (left_at q l is next ∙ kept_none q.number l (lines (drop q.at s)) none) h in
+      record {
+        done = rest.done;
+        texts = rest.texts;
+        so_far = rest.so_far;
+        fault = rest.fault;
+        answered = rest.answered;
+        grew = subst (λ w. Grew old (put_of rest.texts) w) (sym same) rest.grew;
+        tally = tally_same came met before count n rest.texts plain calm rest.tally;
+      }
+  goes_on q new met n (l, is, next, inr (some, read, (t, a, cost, g))) =
+      answers h (q.number, l) (lines_at s q) t new met n (left_at q l is next ∙ kept_some q.number l (lines (drop q.at s)) some) read a cost g
 
   -- the script ends at the line
-  pub ends_here : (later : List ℕ → Bool) (before count : ℕ) (e : Ending) (new : Option (List ℕ)) → EndsAt A later e s p (record { old = now; new = new; before = before; now = count })
-      → ((ts : List (List ℕ)) × ScriptEnds A later e all ts (record { old = old; new = new; before = before; now = count }))
-  ends_here later before count e new (inl (is, same)) =
-      subst (λ x. (ts : List (List ℕ)) × ScriptEnds A later x all ts (record { old = old; new = new; before = before; now = count })) (sym is) (unread h later before count new same)
-  ends_here later before count e new (inr (l, ls, is, st)) =
-      stops h later before count e (p.number + 1, l) (kept (enumerate_from (p.number + 1 + 1) ls)) new
-      (ap (λ x. kept (enumerate_from (p.number + 1) x)) is ∙ kept_some (p.number + 1) l ls (some_of A later e (p.number + 1, l) _ st)) st
+  pub ends_here : (first last : ℕ) (e : Ending) (new : Option (List ℕ)) (n : ℕ) → EndsAt A e s p (record { old = now; new = new; before = first; now = last }) count n
+      → ((ts : List (List ℕ)) × ScriptEnds A e all ts (record { old = old; new = new; before = first; now = last }) × ShortTally e (record { old = old; new = new; before = first; now = last }) before n ts)
+  ends_here first last e new n (inl (is, same, rose, later)) =
+      subst (λ x. (ts : List (List ℕ)) × ScriptEnds A x all ts (record { old = old; new = new; before = first; now = last }) × ShortTally x (record { old = old; new = new; before = first; now = last }) before n ts) (sym is)
+      (unread h first last new n same rose)
+  ends_here first last e new n (inr (l, ls, is, st)) =
+      stops h first last e (p.number + 1, l) (kept (enumerate_from (p.number + 1 + 1) ls)) new n
+      (ap (λ x. kept (enumerate_from (p.number + 1) x)) is ∙ kept_some (p.number + 1) l ls (some_of A e (p.number + 1, l) _ _ _ st)) st
 
   -- the file is at its end
-  pub ends_done : (later : List ℕ → Bool) (before count : ℕ) → length s ≤ p.at → ((ts : List (List ℕ)) × ScriptEnds A later done all ts (record { old = old; new = now; before = before; now = count }))
-  ends_done later before count far = at_end h later before count (lines_at-end s p far)
+  pub ends_done : (first last : ℕ) → length s ≤ p.at → (ts : List (List ℕ)) × ScriptEnds A done all ts (record { old = old; new = now; before = first; now = last }) × Tally came before count ts
+  ends_done first last far = at_end h first last (lines_at-end s p far)

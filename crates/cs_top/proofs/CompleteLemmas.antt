@@ -6,23 +6,17 @@ use Rattle.std.specs.FinMap as map
 use Rattle.cs_base.specs.outside.Causes.{Rose}
 use Rattle.cs_base.specs.outside.Outside.{Held, File, IsHeld}
 use Rattle.cs_model.specs.Outputs.{MayPut, first_fault, readable_lines, script_lines}
-use Rattle.cs_top.specs.Ask.{AskRan, AskStops, AskScript, AskTold, CanAsk, AskAnswer, asks_join}
+use Rattle.cs_model.specs.Corpus.{Corpus}
+use Rattle.cs_model_index.specs.BlockRules.{broken_at}
+use Rattle.cs_model_index.specs.Images.{Image}
+use Rattle.cs_top.specs.Ask.{AskRan, AskStops, AskScript, AskTold, CanAsk}
+use Rattle.cs_top.specs.Build.{BuildRan, BuildStops, BuildTold, BuildWrites, CanBuild}
 use Rattle.cs_top.specs.Commands.{Command, build, ask, replay, serve, trial}
-use Rattle.cs_top.specs.Endings.{Ending, done, not_built, usage, refused, absent, failed, no_memory, script_refused, status, Caused}
+use Rattle.cs_top.specs.Endings.{Ending, done, not_built, usage, refused, damaged, absent, failed, no_memory, script_refused, changed, status, Caused, CausedBy}
 use Rattle.cs_top.specs.Met.{Met, Wrote, held_bytes}
 use Rattle.cs_top.specs.Runs.{Completes, Ran}
-use Rattle.cs_top.specs.Scripts.{ScriptEnds, IsAnswerable, StopsBefore}
-
-later_too : (p : List ℕ → Bool) (m : List ℕ) (ls : List (List ℕ)) → list_any p ls ≡ true → (b : Bool) → p m ≡ b → list_any p (m ∷ ls) ≡ true
-later_too p m ls rest true h = rw h refl
-later_too p m ls rest false h = rw (h, rest) refl
-
--- a line that asks for what isn't built stands among the lines
-stands : (p : List ℕ → Bool) (ls : List (List ℕ)) (n : ℕ) (l : List ℕ) (left : List (List ℕ)) → drop n ls ≡ l ∷ left → p l ≡ true → list_any p ls ≡ true
-stands p [] zero l left is asks = absurd cc
-stands p [] (suc n) l left is asks = absurd cc
-stands p (m ∷ ls) zero l left is asks = let same : m ≡ l = cc in rw (same, asks) refl
-stands p (m ∷ ls) (suc n) l left is asks = later_too p m ls (stands p ls n l left is asks) _ refl
+use Rattle.cs_top.specs.Replay.{CanReplay, ReplayCaused, ReplayScript, ReplayStops, ReplayTold}
+use Rattle.cs_top.specs.Scripts.{ScriptEnds, IsReadable}
 
 missing : (f : Option File) → IsHeld f → f ≡ None → ⊥
 missing None held none = held
@@ -45,26 +39,95 @@ stopped done h c s can a calm = absurd a
 stopped not_built h c s can a calm = absurd a
 stopped usage h c s can a calm = absurd a
 stopped (script_refused f) h c s can a calm = absurd a
+stopped (damaged rule at) h c s can a calm = absurd a
+stopped changed h c s can a calm = absurd a
 
-scripted : (A : MayPut) (later : List ℕ → Bool) (e : Ending) (ls : List (ℕ × List ℕ)) (ts : List (List ℕ)) (w : Wrote) → IsAnswerable later ls → ScriptEnds A later e ls ts w → (e ≡ failed → ⊥) → IsWell e
-scripted A later done ls ts w can a calm = inl refl
-scripted A later not_built ls ts w can (at, first, grew) calm = let e : false ≡ true = sym can.1 ∙ stands later (readable_lines ls) (length ts) at.0 at.1 at.2 at.3 in absurd cc
-scripted A later (script_refused f) ls ts w can a calm = let e : Some f ≡ None = sym a.0 ∙ can.0 in absurd cc
-scripted A later failed ls ts w can a calm = absurd (calm refl)
-scripted A later usage ls ts w can a calm = absurd a
-scripted A later (refused r) ls ts w can a calm = absurd a
-scripted A later (absent n) ls ts w can a calm = absurd a
-scripted A later no_memory ls ts w can a calm = absurd a
+scripted : (A : MayPut) (e : Ending) (ls : List (ℕ × List ℕ)) (ts : List (List ℕ)) (w : Wrote) → IsReadable ls → ScriptEnds A e ls ts w → (e ≡ failed → ⊥) → IsWell e
+scripted A done ls ts w can a calm = inl refl
+scripted A (script_refused f) ls ts w can a calm = let e : Some f ≡ None = sym a.0 ∙ can in absurd cc
+scripted A failed ls ts w can a calm = absurd (calm refl)
+scripted A not_built ls ts w can a calm = absurd a
+scripted A usage ls ts w can a calm = absurd a
+scripted A (refused r) ls ts w can a calm = absurd a
+scripted A (damaged rule at) ls ts w can a calm = absurd a
+scripted A (absent n) ls ts w can a calm = absurd a
+scripted A no_memory ls ts w can a calm = absurd a
+scripted A changed ls ts w can a calm = absurd a
 
 told : (e : Ending) (h : Held) (c s : List ℕ) (w : Wrote) → AskTold e h c s w → CanAsk h c s → (e ≡ failed → ⊥) → IsWell e
 told e h c s w (inl a) can calm = stopped e h c s can a.0 calm
-told e h c s w (inr a) can calm = scripted _ asks_join e (script_lines (held_bytes h s)) a.1.0 w can.1 a.1.1 calm
+told e h c s w (inr a) can calm = scripted _ e (script_lines (held_bytes h s)) a.1.0 w can.1 a.1.1 calm
+
+unmade : (e : Ending) (h : Held) (c : List ℕ) → CanBuild h c → BuildStops e h c → (e ≡ failed → ⊥) → IsWell e
+unmade (absent n) h c can a calm = absurd (missing (map.get h c) can.0 a.1)
+unmade (refused r) h c can (held, is) calm = let e : Some r ≡ None = sym is ∙ can.1 in absurd cc
+unmade no_memory h c can a calm = inr refl
+unmade failed h c can a calm = absurd (calm refl)
+unmade done h c can a calm = absurd a
+unmade not_built h c can a calm = absurd a
+unmade usage h c can a calm = absurd a
+unmade (script_refused f) h c can a calm = absurd a
+unmade (damaged rule at) h c can a calm = absurd a
+unmade changed h c can a calm = absurd a
+
+written : (e : Ending) (h : Held) (i : List ℕ) (x : Image) (now : Option Held) → BuildWrites e h i x now → (e ≡ failed → ⊥) → IsWell e
+written done h i x now a calm = inl refl
+written no_memory h i x now a calm = inr refl
+written failed h i x now a calm = absurd (calm refl)
+written not_built h i x now a calm = absurd a
+written usage h i x now a calm = absurd a
+written (refused r) h i x now a calm = absurd a
+written (absent n) h i x now a calm = absurd a
+written (script_refused f) h i x now a calm = absurd a
+written (damaged rule at) h i x now a calm = absurd a
+written changed h i x now a calm = absurd a
+
+built : (e : Ending) (h : Held) (c i : List ℕ) (now : Option Held) → BuildTold e h c i now → CanBuild h c → (e ≡ failed → ⊥) → IsWell e
+built e h c i now (inl a) can calm = unmade e h c can a.0 calm
+built e h c i now (inr a) can calm = written e h i a.0 now a.2 calm
+
+no_failed_file : (e : Ending) (before now : ℕ) → CausedBy e before now → (Rose before now → ⊥) → e ≡ failed → ⊥
+no_failed_file e before now cause files is = files (subst (λ x. CausedBy x before now) is cause).0
+
+unplayed : (e : Ending) (h : Held) (i s : List ℕ) → CanReplay h i s → ReplayStops e h i s → (e ≡ failed → ⊥) → IsWell e
+unplayed (absent n) h i s can (inl a) calm = absurd (missing (map.get h i) can.0.0.0 a.1)
+unplayed (absent n) h i s can (inr a) calm = absurd (missing (map.get h s) can.0.0.1 a.2)
+unplayed (damaged rule at) h i s can a calm = let e : Some (broken_at rule at) ≡ None = sym a.1 ∙ can.0.1 in absurd cc
+unplayed no_memory h i s can a calm = inr refl
+unplayed failed h i s can a calm = absurd (calm refl)
+unplayed done h i s can a calm = absurd a
+unplayed not_built h i s can a calm = absurd a
+unplayed usage h i s can a calm = absurd a
+unplayed (refused r) h i s can a calm = absurd a
+unplayed (script_refused f) h i s can a calm = absurd a
+unplayed changed h i s can a calm = absurd a
+
+played : (k : Corpus) (e : Ending) (ls : List (ℕ × List ℕ)) (before now : ℕ) (w : Wrote) → IsReadable ls → ReplayScript k e ls before now w → (e ≡ failed → ⊥) → IsWell e
+played k done ls before now w can a calm = inl refl
+played k (script_refused f) ls before now w can a calm = let e : Some f ≡ None = sym a.1.0 ∙ can in absurd cc
+played k failed ls before now w can a calm = absurd (calm refl)
+played k not_built ls before now w can a calm = absurd a
+played k usage ls before now w can a calm = absurd a
+played k (refused r) ls before now w can a calm = absurd a
+played k (damaged rule at) ls before now w can a calm = absurd a
+played k (absent n) ls before now w can a calm = absurd a
+played k no_memory ls before now w can a calm = absurd a
+played k changed ls before now w can a calm = absurd a
+
+replay_told : (e : Ending) (h : Held) (i s : List ℕ) (before now : ℕ) (w : Wrote) → ReplayTold e h i s before now w → CanReplay h i s → (e ≡ failed → ⊥) → IsWell e
+replay_told e h i s before now w (inl a) can calm = unplayed e h i s can a.0 calm
+replay_told e h i s before now w (inr a) can calm = played _ e (script_lines (held_bytes h s)) before now w can.1 a.1 calm
+
+no_failed_replay : (e : Ending) (fb fn ob on : ℕ) → ReplayCaused e fb fn ob on → (Rose fb fn → ⊥) → (Rose ob on → ⊥) → e ≡ failed → ⊥
+no_failed_replay e fb fn ob on cause files out is = elim (subst (λ x. ReplayCaused x fb fn ob on) is cause).0 [ inl r ↦ files r | inr r ↦ out r ]
 
 pub completes : {H : Type 0} (e : Ending) (command : Option Command) (m : Met H) → Ran e command m → Completes command m (status e)
 completes e None m r = λ h held able. absurd able
-completes e (Some (build c i)) m r = λ h held able. absurd able
+completes e (Some (build c i)) m r = λ h held able files out.
+    built e h c i m.held_now (r.told h held) able (no_failed_file e m.files_before m.files_now r.caused files)
 completes e (Some (ask c s)) m r = λ h held able files out.
     told e h c s m.out (r.told h held) able (no_failure e m.files_before m.files_now m.out.before m.out.now r.caused files out)
-completes e (Some (replay i s)) m r = λ h held able. absurd able
+completes e (Some (replay i s)) m r = λ h held able files out.
+    replay_told e h i s m.files_before m.files_now m.out (r.told h held) able (no_failed_replay e m.files_before m.files_now m.out.before m.out.now r.caused files out)
 completes e (Some (serve i p n)) m r = λ h held able. absurd able
 completes e (Some (trial n)) m r = λ h held able. absurd able

@@ -1,9 +1,13 @@
+pub mod AnswerLemmas
 pub mod AnsweredLemmas
+pub mod BuildLemmas
 pub mod CompleteLemmas
 pub mod Examples
 pub mod GrewLemmas
 pub mod LineTexts
 pub mod MemoryText
 pub mod SaysLemmas
+pub mod ScriptLemmas
+pub mod TallyLemmas
 pub mod StepLemmas
 pub mod WindowLemmas

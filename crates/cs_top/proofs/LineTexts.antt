@@ -1,7 +1,6 @@
 -- What the readers of a line say of it, in the words that define its answer.
 use Rattle.std.proofs.Common.{◌≡◌, ◌≢◌, ◌<◌, ◌≤◌, ℕ, Bool, true, false, ◌&&◌, List, length, nat_le, refl, sym, ◌∙◌, ap, arith}
 use Rattle.std.specs.Prelude.{Some, None}
-use Rattle.std.specs.Option.{is_none}
 use Rattle.std.specs.Str.{is_utf8, IsUtf8}
 use Rattle.std.proofs.lemmas.Bool.{false_from_ne_true}
 use Rattle.std.proofs.lemmas.Bool.Decides.{nat_tests}
@@ -12,12 +11,13 @@ use Rattle.cs_json.specs.FaultTexts.{fault_text}
 use Rattle.cs_json.specs.declared.fault.Fault.TheVariants as faults
 use Rattle.cs_model.specs.Corpus.{Corpus}
 use Rattle.cs_model.specs.Faults.{bad_text, limit_text, param_text}
-use Rattle.cs_model.specs.Outputs.{script_line_too_long, script_line_not_utf8, line_fault, text, text_by}
-use Rattle.cs_model.specs.Parameters.{request_of, request_refusal}
+use Rattle.cs_model.specs.Outputs.{script_line_too_long, script_line_not_utf8, line_fault, read_text, text, text_by}
+use Rattle.cs_model.specs.Parameters.{bad_param, bad_query, request_of, request_refusal}
+use Rattle.cs_model.specs.Refusals.{Bad, Limit}
+use Rattle.cs_query.specs.ParamNames.{param_name}
 use Rattle.cs_model.specs.Replies.{reply_text}
 use Rattle.cs_model.specs.Requests.{Request, reply_of}
-use Rattle.cs_engine.specs.Searching.{has_join}
-use Rattle.cs_top.specs.Ask.{asks_join}
+use Rattle.cs_top.proofs.MemoryText.{refusal_apart}
 use Rattle.cs_query.specs.declared.request.ReqFault.{ReqFault}
 use Rattle.cs_query.specs.declared.request.ReqFault.TheVariants as causes
 
@@ -29,16 +29,13 @@ refused_text k p (causes.Bad at) h other = ap (text_by k p) h
 refused_text k p (causes.Limit at which) h other = ap (text_by k p) h
 refused_text k p causes.Memory h other = absurd (other refl)
 
--- a refused line asks no join
-pub refused_join : (p : List ℕ) (e : ReqFault) → IsCause p e → e ≢ causes.Memory → asks_join p ≡ false
-refused_join p (causes.BadParam which) h other = ap (λ x. is_none x && has_join (request_of p).query) h
-refused_join p (causes.Bad at) h other = ap (λ x. is_none x && has_join (request_of p).query) h
-refused_join p (causes.Limit at which) h other = ap (λ x. is_none x && has_join (request_of p).query) h
-refused_join p causes.Memory h other = absurd (other refl)
-
--- a request asks a join where its query has one
-pub request_join : (p : List ℕ) (r : Request) (b : Bool) → request_refusal p ≡ None → r ≡ request_of p → b ≡ has_join r.query → asks_join p ≡ b
-request_join p r b accepted is told = ap (λ x. is_none x && has_join (request_of p).query) accepted ∙ ap (λ (x : Request). has_join x.query) (sym is) ∙ sym told
+-- a refused line has no other text than that of its refusal
+pub refused_apart : (k : Corpus) (p : List ℕ) (e : ReqFault) → IsCause p e → e ≢ causes.Memory → text k p ≢ read_text
+unfolding text
+refused_apart k p (causes.BadParam which) h other = λ is. refusal_apart (bad_param (param_name which)) (sym (ap (text_by k p) h) ∙ is)
+refused_apart k p (causes.Bad at) h other = λ is. refusal_apart (bad_query at Bad) (sym (ap (text_by k p) h) ∙ is)
+refused_apart k p (causes.Limit at which) h other = λ is. refusal_apart (bad_query at (Limit which)) (sym (ap (text_by k p) h) ∙ is)
+refused_apart k p causes.Memory h other = absurd (other refl)
 
 -- the text of a line that is a request
 pub request_text : (k : Corpus) (p : List ℕ) (r : Request) → request_refusal p ≡ None → r ≡ request_of p → text k p ≡ reply_text (reply_of k r)

@@ -1,7 +1,5 @@
 -- What `ask COLLECTION SCRIPT` does.
 --
---   asks_join p              the parameters are a request, and its query has a join, which isn't answered yet
---   AskAnswer k l t          t may be put for the line, as far as joins aren't answered yet
 --   AreHeld h c s            both files are held
 --   IsReady h c s            the same, and the collection is accepted
 --   AskStops e h c s         what shows that it ended so before its script
@@ -10,26 +8,15 @@
 --   AskEnds e c s w          how it may end over any files
 --   AskRan e c s m           a whole run
 --   CanAsk h c s             the script can be answered whole
-use Rattle.std.specs.Prelude.{◌≡◌, ◌⊎◌, ℕ, Bool, true, ◌&&◌, List, Option, Some, None}
-use Rattle.std.specs.Option.{ForSome, is_none}
+use Rattle.std.specs.Prelude.{◌≡◌, ◌⊎◌, ℕ, List, Option, Some, None}
+use Rattle.std.specs.Option.{ForSome}
 use Rattle.std.specs.FinMap as map
 use Rattle.cs_base.specs.outside.Outside.{Held, IsHeld}
-use Rattle.cs_model.specs.Corpus.{Corpus, corpus, refusal}
-use Rattle.cs_model.specs.Outputs.{MayPut, IsAnswer, memory_text, script_lines}
-use Rattle.cs_model.specs.Parameters.{request_of, request_refusal}
-use Rattle.cs_engine.specs.Searching.{has_join}
-use Rattle.cs_top.specs.Endings.{Ending, usage, refused, absent, failed, no_memory, Caused}
+use Rattle.cs_model.specs.Corpus.{corpus, refusal}
+use Rattle.cs_model.specs.Outputs.{IsAnswer, script_lines}
+use Rattle.cs_top.specs.Endings.{Ending, not_built, usage, refused, absent, damaged, changed, failed, no_memory, Caused}
 use Rattle.cs_top.specs.Met.{Met, Wrote, held_bytes}
-use Rattle.cs_top.specs.Scripts.{ScriptEnds, IsAnswerable}
-
--- ---- joins aren't answered yet; nothing else knows of that
--- the parameters are a request whose query has a join; a refused line asks none
-abbrev pub asks_join : List ℕ → Bool
-asks_join p = is_none (request_refusal p) && has_join (request_of p).query
-
--- an answer to the line; where memory runs out before a line is known to ask a join, it has the text of that like any other
-abbrev pub AskAnswer : Corpus → MayPut
-AskAnswer k l t = IsAnswer k l t × (asks_join l ≡ true → t ≡ memory_text)
+use Rattle.cs_top.specs.Scripts.{ScriptEnds, IsReadable}
 
 -- ---- over files that tell
 -- both files are held
@@ -51,8 +38,7 @@ AskStops e h c s = ⊥
 
 -- how its script ended, and the texts that were put, over the corpus of its collection
 abbrev pub AskScript : Ending → Held → List ℕ → List ℕ → Wrote → Type 0
-AskScript e h c s w =
-    (ts : List (List ℕ)) × ScriptEnds (AskAnswer (corpus (held_bytes h c))) asks_join e (script_lines (held_bytes h s)) ts w
+AskScript e h c s w = (ts : List (List ℕ)) × ScriptEnds (IsAnswer (corpus (held_bytes h c))) e (script_lines (held_bytes h s)) ts w
 
 -- how it ended over files that tell: before its script, with nothing put, or with its script
 abbrev pub AskTold : Ending → Held → List ℕ → List ℕ → Wrote → Type 0
@@ -62,6 +48,9 @@ AskTold e h c s w = (AskStops e h c s × (w.new ≡ w.old)) ⊎ (IsReady h c s �
 -- how it may end over any files: a name that is said to be absent is one of the two, and nothing is put before the script
 abbrev pub AskEnds : Ending → List ℕ → List ℕ → Wrote → Type 0
 AskEnds usage c s w = ⊥
+AskEnds not_built c s w = ⊥
+AskEnds (damaged rule at) c s w = ⊥
+AskEnds changed c s w = ⊥
 AskEnds (absent name) c s w = ((name ≡ c) ⊎ (name ≡ s)) × (w.new ≡ w.old)
 AskEnds (refused r) c s w = w.new ≡ w.old
 AskEnds no_memory c s w = w.new ≡ w.old
@@ -77,4 +66,4 @@ pub record AskRan {H : Type 0} (e : Ending) (c s : List ℕ) (m : Met H) : Type 
 
 -- the script can be answered whole
 abbrev pub CanAsk : Held → List ℕ → List ℕ → Type 0
-CanAsk h c s = IsReady h c s × IsAnswerable asks_join (script_lines (held_bytes h s))
+CanAsk h c s = IsReady h c s × IsReadable (script_lines (held_bytes h s))

@@ -1,7 +1,10 @@
+pub mod Answering
 pub mod Ask
+pub mod Build
 pub mod Commands
 pub mod Endings
 pub mod Met
+pub mod Replay
 pub mod Runs
 pub mod Scripts
 pub mod Steps

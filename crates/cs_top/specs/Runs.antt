@@ -9,9 +9,11 @@ use Rattle.std.specs.Option.{ForSome}
 use Rattle.cs_base.specs.outside.Causes.{Rose}
 use Rattle.cs_base.specs.outside.Outside.{Held}
 use Rattle.cs_top.specs.Ask.{AskRan, CanAsk}
+use Rattle.cs_top.specs.Build.{BuildRan, CanBuild}
 use Rattle.cs_top.specs.Commands.{Command, build, ask, replay, serve, trial}
 use Rattle.cs_top.specs.Endings.{Ending, not_built, usage}
 use Rattle.cs_top.specs.Met.{Met, LeavesAll}
+use Rattle.cs_top.specs.Replay.{ReplayRan, CanReplay}
 
 -- a run that ends as x before it meets anything
 pub record Idle {H : Type 0} (x e : Ending) (m : Met H) : Type 0 where
@@ -21,15 +23,17 @@ pub record Idle {H : Type 0} (x e : Ending) (m : Met H) : Type 0 where
 -- a whole run: each command has its own record, and those that aren't built yet share one
 abbrev pub Ran : {H : Type 0} → Ending → Option Command → Met H → Type 0
 Ran e None m = Idle usage e m
-Ran e (Some (build c i)) m = Idle not_built e m
+Ran e (Some (build c i)) m = BuildRan e c i m
 Ran e (Some (ask c s)) m = AskRan e c s m
-Ran e (Some (replay i s)) m = Idle not_built e m
+Ran e (Some (replay i s)) m = ReplayRan e i s m
 Ran e (Some (serve i p n)) m = Idle not_built e m
 Ran e (Some (trial n)) m = Idle not_built e m
 
 -- files from which a command can do all; no command does that before it is built
 abbrev pub IsAble : Option Command → Held → Type 0
+IsAble (Some (build c i)) h = CanBuild h c
 IsAble (Some (ask c s)) h = CanAsk h c s
+IsAble (Some (replay i s)) h = CanReplay h i s
 IsAble command h = ⊥
 
 -- No run gives up by itself: what can be done is done, or memory ran out.

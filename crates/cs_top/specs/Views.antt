@@ -1,28 +1,36 @@
 -- Types of the code as what they stand for.
 --
 --   seen                         a command of the code
+--   home_seen f                  an index file of the code
 --   collection_refusal_of f      the refusal that a fault of a collection names; None for want of memory
 --   IsCause c f                  it names the refusal of the collection c; nothing is said of want of memory
 --   fault_seen f                 a refused line's fault
 --   collection_ending r          the ending of a run whose collection has the refusal r, or no memory
 --   of_script s                  the stop of a run whose script stops
 --   stop_ending s, ended r       the ending of a run that stops, and of any run
---   script_ended r               the ending of a run by its script
 --   IsAbsence s name             a stop of a file that should be held: its name is said to be absent, or a call failed
 --   IsMissing s f                where a stop says a name to be absent, the file isn't held
 --   IsDevice s                   a call failed, or memory ran out
 --   IsOfCollection s             a stop of a collection: its fault, or a call failed, or memory ran out
 --   IsCauseOf c s                where it is a fault of the collection c, this has its cause there
+--   IsOfIndex s                  a stop of an index file: damage, or a call failed, or memory ran out
+--   IsDamage b s                 where it is damage of the bytes b, this is their first broken rule with its place
 --   said_text s                  a line on standard error
-use Rattle.std.specs.Prelude.{◌≡◌, ℕ, List, [], ◌∷◌, ◌++◌, Option, Some, None, MatchOption, Result, Ok, Err}
+use Rattle.std.specs.Prelude.{◌≡◌, ℕ, List, [], ◌∷◌, ◌++◌, Option, Some, None, MatchOption, Result, Ok, Err, codes}
+use Rattle.std.specs.Fmt.{decimal}
 use Rattle.cs_base.specs.outside.Outside.{File}
 use Rattle.cs_model.specs.Collection.{CollectionRefusal}
 use Rattle.cs_model.specs.Corpus.{refusal}
 use Rattle.cs_model.specs.Outputs.{ScriptFault, script_line_too_long, script_line_not_utf8}
+use Rattle.cs_model_index.specs.BlockRules.{broken_at}
+use Rattle.cs_model_index.specs.FileRules.{damage}
 use Rattle.cs_docs.specs.Refusals.{refusal_of, rows_refusal_of, words_said}
-use Rattle.cs_engine.specs.Searching.{corpus_refusal_of}
+use Rattle.cs_build.specs.Building.{build_refusal_of}
 use Rattle.cs_top.specs.Commands.{Command, build, ask, replay, serve, trial}
-use Rattle.cs_top.specs.Endings.{Ending, done, not_built, usage, refused, absent, failed, no_memory, script_refused}
+use Rattle.cs_top.specs.Endings.{Ending, done, not_built, usage, refused, damaged, absent, failed, no_memory, script_refused, changed}
+use Rattle.cs_top.specs.Answering.{FileView}
+use Rattle.cs_top.specs.declared.answering.Home.{Home}
+use Rattle.cs_top.specs.declared.answering.Home.TheVariants as homes
 use Rattle.cs_top.specs.declared.collection.CollectionFault.{CollectionFault}
 use Rattle.cs_top.specs.declared.collection.CollectionFault.TheVariants as faults
 use Rattle.cs_top.specs.declared.ending.Stop.{Stop}
@@ -32,6 +40,7 @@ use Rattle.cs_top.specs.declared.lines.ScriptFault.TheVariants as unread
 use Rattle.cs_top.specs.declared.lines.ScriptStop.{ScriptStop}
 use Rattle.cs_top.specs.declared.lines.ScriptStop.TheVariants as scripts
 use Rattle.cs_top.specs.declared.said.Said.{Said}
+use Rattle.cs_top.specs.declared.said.Said.TheVariants as said
 use Rattle.cs_top.specs.declared.words.Command.{Command as Read}
 use Rattle.cs_top.specs.declared.words.Command.TheVariants as read
 
@@ -42,10 +51,15 @@ seen (read.Replay i s) = replay i.now s.now
 seen (read.Serve i p n) = serve i.now p.now n.now
 seen (read.Trial n) = trial n.now
 
+-- one that is made has no name
+abbrev pub home_seen : Home → FileView
+home_seen (homes.Memory s) = record { made = Some s.bytes; name = []; size = 0 }
+home_seen (homes.Files name size) = record { made = None; name = name.now; size = size }
+
 abbrev pub collection_refusal_of : CollectionFault → Option CollectionRefusal
 collection_refusal_of (faults.Documents f) = refusal_of f
 collection_refusal_of (faults.Rows f) = rows_refusal_of f
-collection_refusal_of (faults.Words f) = corpus_refusal_of f
+collection_refusal_of (faults.Words f) = build_refusal_of f
 
 -- where it is no want of memory, it is the first refusal of the collection
 abbrev pub IsCause : List ℕ → CollectionFault → Type 0
@@ -67,6 +81,8 @@ stop_ending (stops.Absent name) = absent name.now
 stop_ending stops.Failed = failed
 stop_ending stops.Memory = no_memory
 stop_ending (stops.Script f) = script_refused (fault_seen f)
+stop_ending (stops.Damaged rule at) = damaged rule at
+stop_ending stops.Changed = changed
 
 -- a run that doesn't stop is done
 abbrev pub ended : Result (Unit {0}) Stop → Ending
@@ -74,14 +90,8 @@ ended (Ok x) = done
 ended (Err s) = stop_ending s
 
 abbrev pub of_script : ScriptStop → Stop
-of_script scripts.NotBuilt = stops.NotBuilt
 of_script (scripts.Unread f) = stops.Script f
 of_script scripts.Failed = stops.Failed
-
--- a script that doesn't stop is done
-abbrev pub script_ended : Result (Unit {0}) ScriptStop → Ending
-script_ended (Ok x) = done
-script_ended (Err s) = stop_ending (of_script s)
 
 abbrev pub IsAbsence : Stop → List ℕ → Type 0
 IsAbsence (stops.Absent said) name = said.now ≡ name
@@ -107,5 +117,16 @@ abbrev pub IsCauseOf : List ℕ → Stop → Type 0
 IsCauseOf c (stops.Collection f) = IsCause c f
 IsCauseOf c s = Unit {0}
 
+abbrev pub IsOfIndex : Stop → Type 0
+IsOfIndex (stops.Damaged rule at) = Unit {0}
+IsOfIndex stops.Failed = Unit {0}
+IsOfIndex stops.Memory = Unit {0}
+IsOfIndex s = ⊥
+
+abbrev pub IsDamage : List ℕ → Stop → Type 0
+IsDamage b (stops.Damaged rule at) = damage b ≡ Some (broken_at rule at)
+IsDamage b s = Unit {0}
+
 abbrev pub said_text : Said → List ℕ
-said_text s = s.of.now ++ (words_said s.line s.words.now ++ 10 ∷ [])
+said_text (said.Words of line words) = of.now ++ (words_said line words.now ++ 10 ∷ [])
+said_text (said.Damage rule at) = codes "index: rule " ++ (decimal rule ++ (codes " at " ++ (decimal at ++ 10 ∷ [])))

@@ -2,7 +2,12 @@
 ghost use Rattle.std.specs.Prelude.{◌≡◌, None, IfOk, IfErr, OnOk};
 ghost use Rattle.std.specs.Option.{option_map};
 ghost use Rattle.cs_docs.specs.Refusals.{reason_text};
-ghost use Rattle.cs_engine.specs.Searching.{corpus_of_view};
+ghost use Rattle.cs_file.specs.Writable.{CanBeWritten};
+ghost use Rattle.cs_model_index.specs.FileRules.{IsIndexFile};
+ghost use Rattle.cs_model_index.specs.Images.{IsImage};
+ghost use Rattle.cs_model_index.specs.Layout.{file};
+ghost use Rattle.cs_model_index.specs.Sections.{file_corpus};
+ghost use Rattle.cs_model_index.specs.declared.limits.TheConstants.{TARGET as BLOCK_ROWS};
 ghost use Rattle.cs_model.specs.Collection.{refusal_words};
 ghost use Rattle.cs_model.specs.Corpus.{corpus, refusal};
 ghost use Rattle.cs_top.specs.Endings.{CausedBy};
@@ -12,8 +17,10 @@ ghost use Rattle.cs_top.specs.Views.{IsCause, IsCauseOf, IsOfCollection, collect
 use crate::ending::Stop;
 use crate::files::read_all;
 use cs_base::{Files, MAX_COLLECTION_BYTES};
+use cs_build::{BuildFault, image};
 use cs_docs::{DocFault, Reason, RowsFault, read_docs, rows_of};
-use cs_engine::{Corpus, CorpusFault};
+use cs_file::Image;
+use cs_model_index::TARGET;
 use std::alloc::Global;
 
 /// Why a collection makes no corpus: what refused it, or what found no memory.
@@ -24,7 +31,7 @@ pub(crate) enum CollectionFault {
     /// Their rows.
     Rows(RowsFault),
     /// Their words.
-    Words(CorpusFault),
+    Words(BuildFault),
 }
 
 impl CollectionFault {
@@ -40,18 +47,21 @@ impl CollectionFault {
     }
 }
 
-/// The corpus of a collection of this size.
-pub(crate) fn read_corpus<'a, F: Files>(
+/// The image of a collection of this size.
+pub(crate) fn read_image<'a, F: Files>(
     alloc: Global,
     files: &mut F,
     name: &str,
     size: u64,
-) -> Result<Corpus, Stop<'a>>
+) -> Result<Image, Stop<'a>>
     requires size { HasSize (F.held files.old) name.now size }
 
-    ensures ok { OfBytes (F.held files.old) name.now (λ b. IfOk result (λ k. corpus_of_view k ≡ corpus b)) }
+    ensures ok { OfBytes (F.held files.old) name.now (λ b. IfOk result (IsImage (corpus b) BLOCK_ROWS)) }
     ensures accepted { OfBytes (F.held files.old) name.now (λ b. OnOk result (refusal b ≡ None)) }
     ensures cause { OfBytes (F.held files.old) name.now (λ b. IfErr result (λ s. IsCauseOf b s)) }
+    ensures writable { IfOk result CanBeWritten }
+    ensures whole { IfOk result (λ i. IsIndexFile (file i)) }
+    ensures corpus { OfBytes (F.held files.old) name.now (λ b. IfOk result (λ i. file_corpus (file i) ≡ corpus b)) }
     ensures kind { IfErr result IsOfCollection }
     ensures quiet { OnOk result (F.faults files.new ≡ F.faults files.old) }
     ensures caused { IfErr result (λ s. CausedBy (stop_ending s) (F.faults files.old) (F.faults files.new)) }
@@ -61,24 +71,37 @@ pub(crate) fn read_corpus<'a, F: Files>(
         return Err(Stop::Collection(CollectionFault::Documents(DocFault::TooLarge)));
     }
     let bytes = read_all(alloc, files, name, size)?;
-    match corpus_of(alloc, &bytes) {
-        Ok(corpus) => Ok(corpus),
+    match image_of(alloc, &bytes) {
+        Ok(image) => Ok(image),
         Err(fault) => Err(Stop::Collection(fault)),
     }
 }
 
-// The corpus of a collection that is accepted.
-fn corpus_of(alloc: Global, bytes: &[u8]) -> Result<Corpus, CollectionFault>
-    ensures ok { IfOk result (λ k. corpus_of_view k ≡ corpus bytes.now) }
+// The image of a collection that is accepted.
+fn image_of(alloc: Global, bytes: &[u8]) -> Result<Image, CollectionFault>
+    ensures ok { IfOk result (IsImage (corpus bytes.now) BLOCK_ROWS) }
     ensures accepted { OnOk result (refusal bytes.now ≡ None) }
+    ensures writable { IfOk result CanBeWritten }
+    ensures whole { IfOk result (λ i. IsIndexFile (file i) × (file_corpus (file i) ≡ corpus bytes.now)) }
 
     // Each fault but want of memory is the first refusal.
     ensures err { IfErr result (λ e. IsCause bytes.now e) }
 {
     let docs = read_docs(alloc, bytes)?;
     let rows = rows_of(alloc, &docs)?;
-    let corpus = Corpus::new(alloc, docs, rows)?;
-    Ok(corpus)
+    let image = image(alloc, rows, docs, TARGET)?;
+    Ok(image)
+}
+
+impl From<BuildFault> for CollectionFault {
+    ghost use Rattle.std.specs.Prelude.{◌≡◌};
+    ghost use Rattle.cs_top.specs.declared.collection.CollectionFault.TheVariants.{Words};
+
+    ghost from_gives = { λ fault result. result ≡ Words fault };
+
+    fn from(fault: BuildFault) -> CollectionFault {
+        CollectionFault::Words(fault)
+    }
 }
 
 impl From<DocFault> for CollectionFault {
@@ -100,16 +123,5 @@ impl From<RowsFault> for CollectionFault {
 
     fn from(fault: RowsFault) -> CollectionFault {
         CollectionFault::Rows(fault)
-    }
-}
-
-impl From<CorpusFault> for CollectionFault {
-    ghost use Rattle.std.specs.Prelude.{◌≡◌};
-    ghost use Rattle.cs_top.specs.declared.collection.CollectionFault.TheVariants.{Words};
-
-    ghost from_gives = { λ fault result. result ≡ Words fault };
-
-    fn from(fault: CorpusFault) -> CollectionFault {
-        CollectionFault::Words(fault)
     }
 }

@@ -8,7 +8,9 @@ ghost use Rattle.cs_top.specs.Runs.{Completes, Ran};
 ghost use Rattle.cs_top.specs.Views.{ended};
 
 use crate::ask::ask;
+use crate::build::build;
 use crate::ending::{Stop, status_of, tell};
+use crate::replay::replay;
 use crate::words::{Command, command_of};
 use cs_base::{Files, Hub, Sink};
 use std::alloc::Global;
@@ -53,7 +55,9 @@ fn carry_out<'a, F: Files, H: Hub, O: Sink>(
     let _ = &hub;
     match command_of(words) {
         None => Err(Stop::Usage),
+        Some(Command::Build { collection, index }) => build(alloc, collection, index, files),
         Some(Command::Ask { collection, script }) => ask(alloc, collection, script, files, out),
+        Some(Command::Replay { index, script }) => replay(alloc, index, script, files, out),
         Some(_) => Err(Stop::NotBuilt),
     }
 }

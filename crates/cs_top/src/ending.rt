@@ -8,13 +8,13 @@ ghost use Rattle.cs_top.specs.Views.{collection_ending, collection_refusal_of, e
 use crate::collection::CollectionFault;
 use crate::lines::{ScriptFault, ScriptStop};
 use crate::said::{Said, put_said};
-use cs_base::Sink;
+use cs_base::{Failed, Memory, Sink};
 use cs_docs::Reason;
 
 const USAGE: &[u8] =
     b"usage: complete build COLLECTION INDEX | ask COLLECTION SCRIPT | replay INDEX SCRIPT | serve INDEX PORT CONNS | trial N";
 
-const MEMORY: &[u8] = b"memory";
+const NO_MEMORY: &[u8] = b"memory";
 
 /// Why a run ends before all is done.
 #[derive(Clone, Copy, Debug, PartialEq, Eq)]
@@ -33,6 +33,15 @@ pub(crate) enum Stop<'a> {
     Memory,
     /// A line of the script can't be read.
     Script(ScriptFault),
+    /// The index file breaks a rule.
+    Damaged {
+        /// The first rule that it breaks, from 1 to 18.
+        rule: u8,
+        /// The place at which it is broken, in bytes from the file's first.
+        at: u64,
+    },
+    /// The index file isn't what it was at opening.
+    Changed,
 }
 
 impl<'a> Stop<'a> {
@@ -43,10 +52,12 @@ impl<'a> Stop<'a> {
             Stop::NotBuilt => 1,
             Stop::Usage => 2,
             Stop::Collection(fault) => status_of_collection(fault),
+            Stop::Damaged { .. } => 4,
             Stop::Absent(_) => 5,
             Stop::Failed => 6,
             Stop::Memory => 7,
             Stop::Script(_) => 8,
+            Stop::Changed => 9,
         }
     }
 
@@ -57,15 +68,39 @@ impl<'a> Stop<'a> {
             Stop::Usage => of_run(USAGE),
             Stop::NotBuilt => of_run(b"not built"),
             Stop::Collection(fault) => said_of_collection(fault),
-            Stop::Absent(name) => Said {
+            Stop::Damaged { rule, at } => Said::Damage { rule, at },
+            Stop::Absent(name) => Said::Words {
                 of: b"absent: ",
                 line: None,
                 words: name.as_bytes(),
             },
             Stop::Failed => of_run(b"device failed"),
-            Stop::Memory => of_run(MEMORY),
+            Stop::Memory => of_run(NO_MEMORY),
             Stop::Script(fault) => of_reason(b"script: ", fault.reason()),
+            Stop::Changed => of_run(b"index changed"),
         }
+    }
+}
+
+impl From<Failed> for Stop<'_> {
+    ghost use Rattle.std.specs.Prelude.{◌≡◌};
+    ghost use Rattle.cs_top.specs.declared.ending.Stop.{Stop};
+
+    ghost from_gives = { λ _ stop. stop ≡ Stop.Failed };
+
+    fn from(_: Failed) -> Self {
+        Stop::Failed
+    }
+}
+
+impl From<Memory> for Stop<'_> {
+    ghost use Rattle.std.specs.Prelude.{◌≡◌};
+    ghost use Rattle.cs_top.specs.declared.ending.Stop.{Stop};
+
+    ghost from_gives = { λ _ stop. stop ≡ Stop.Memory };
+
+    fn from(_: Memory) -> Self {
+        Stop::Memory
     }
 }
 
@@ -77,7 +112,6 @@ impl From<ScriptStop> for Stop<'_> {
 
     fn from(stop: ScriptStop) -> Self {
         match stop {
-            ScriptStop::NotBuilt => Stop::NotBuilt,
             ScriptStop::Unread(fault) => Stop::Script(fault),
             ScriptStop::Failed => Stop::Failed,
         }
@@ -117,14 +151,14 @@ fn said_of_collection(fault: CollectionFault) -> Said<'static>
 {
     match fault.reason() {
         Some(reason) => of_reason(b"collection: ", reason),
-        None => of_run(MEMORY),
+        None => of_run(NO_MEMORY),
     }
 }
 
 fn of_run(words: &'static [u8]) -> Said<'static>
     ensures { said_text result ≡ words.now ++ 10 ∷ [] }
 {
-    Said {
+    Said::Words {
         of: b"",
         line: None,
         words,
@@ -134,7 +168,7 @@ fn of_run(words: &'static [u8]) -> Said<'static>
 fn of_reason(of: &'static [u8], reason: Reason<'static>) -> Said<'static>
     ensures { said_text result ≡ of.now ++ (reason_text reason.entry ++ 10 ∷ []) }
 {
-    Said {
+    Said::Words {
         of,
         line: reason.line,
         words: reason.words,

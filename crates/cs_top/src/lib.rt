@@ -3,13 +3,17 @@
 //! `run` is the one call. What it does stands in `specs/Runs.antt`, over the definitions of `cs_model`.
 #![tactic(auto)]
 
+mod answering;
 mod ask;
+mod build;
 mod collection;
 mod command;
 mod ending;
 mod files;
 mod lines;
+mod replay;
 mod said;
+mod script;
 mod words;
 
 pub use command::run;

@@ -19,8 +19,6 @@ pub(crate) const WINDOW_BYTES: usize = MAX_SCRIPT_LINE_BYTES + 2;
 /// Why a script ends before its last line.
 #[derive(Clone, Copy, Debug, PartialEq, Eq)]
 pub(crate) enum ScriptStop {
-    /// A line asks what isn't built yet.
-    NotBuilt,
     /// A line can't be read.
     Unread(ScriptFault),
     /// A call of files or of standard output failed.

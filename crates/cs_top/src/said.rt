@@ -1,22 +1,34 @@
 //! A line on standard error.
-ghost use Rattle.std.specs.Prelude.{◌≡◌, OnOk, OnErr};
+ghost use Rattle.std.specs.Prelude.{◌≡◌, ◌++◌, ◌∷◌, [], OnOk, OnErr};
 ghost use Rattle.std.specs.List.{flat_map};
 ghost use Rattle.cs_base.specs.outside.Causes.{Counted};
 ghost use Rattle.cs_base.specs.outside.Outside.{Grew, GrewByPrefix};
+ghost use Rattle.cs_docs.specs.Refusals.{words_said};
 ghost use Rattle.cs_top.specs.Views.{said_text};
+ghost use Rattle.cs_top.specs.declared.said.Said.TheVariants as TheSaid;
 
 use cs_base::{Failed, Sink};
 use itoa::Buffer;
 
-/// What is said of a file, of one of its lines, or of the whole run.
+/// What is said on standard error.
 #[derive(Clone, Copy, Debug, PartialEq, Eq)]
-pub(crate) struct Said<'a> {
-    /// What it is said of, with a colon and a space; empty where it is the whole run.
-    pub of: &'a [u8],
-    /// The number of the line that it is said of, from 1.
-    pub line: Option<u64>,
-    /// What is said.
-    pub words: &'a [u8],
+pub(crate) enum Said<'a> {
+    /// Words of a file, of one of its lines, or of the whole run.
+    Words {
+        /// What they are said of, with a colon and a space; empty where it is the whole run.
+        of: &'a [u8],
+        /// The number of the line that they are said of, from 1.
+        line: Option<u64>,
+        /// What is said.
+        words: &'a [u8],
+    },
+    /// A broken rule of the index file.
+    Damage {
+        /// The rule's number.
+        rule: u8,
+        /// The place at which it is broken.
+        at: u64,
+    },
 }
 
 /// Puts the line. It takes no memory.
@@ -25,14 +37,37 @@ pub(crate) fn put_said<E: Sink>(err: &mut E, said: Said<'_>) -> Result<(), Faile
     ensures err { OnErr result (GrewByPrefix (E.written err.old) (said_text said.entry) (E.written err.new)) }
     ensures counted { Counted (E.faults err.old) (E.faults err.new) result }
 {
-    match said.line {
-        None => put_all(err, &[said.of, said.words, b"\n"]),
+    match said {
+        Said::Words { of, line, words } => put_words(err, of, line, words),
+        Said::Damage { rule, at } => put_damage(err, rule, at),
+    }
+}
+
+fn put_words<E: Sink>(err: &mut E, of: &[u8], line: Option<u64>, words: &[u8]) -> Result<(), Failed>
+    ensures ok { OnOk result (Grew (E.written err.old) (of.now ++ (words_said line words.now ++ 10 ∷ [])) (E.written err.new)) }
+    ensures err { OnErr result (GrewByPrefix (E.written err.old) (of.now ++ (words_said line words.now ++ 10 ∷ [])) (E.written err.new)) }
+    ensures counted { Counted (E.faults err.old) (E.faults err.new) result }
+{
+    match line {
+        None => put_all(err, &[of, words, b"\n"]),
         Some(line) => {
             let mut digits = Buffer::new();
             let number = digits.format(line).as_bytes();
-            put_all(err, &[said.of, b"line ", number, b": ", said.words, b"\n"])
+            put_all(err, &[of, b"line ", number, b": ", words, b"\n"])
         }
     }
+}
+
+fn put_damage<E: Sink>(err: &mut E, rule: u8, at: u64) -> Result<(), Failed>
+    ensures ok { OnOk result (Grew (E.written err.old) (said_text (TheSaid.Damage rule at)) (E.written err.new)) }
+    ensures err { OnErr result (GrewByPrefix (E.written err.old) (said_text (TheSaid.Damage rule at)) (E.written err.new)) }
+    ensures counted { Counted (E.faults err.old) (E.faults err.new) result }
+{
+    let mut rule_digits = Buffer::new();
+    let mut place_digits = Buffer::new();
+    let rule = rule_digits.format(rule).as_bytes();
+    let at = place_digits.format(at).as_bytes();
+    put_all(err, &[b"index: rule ", rule, b" at ", at, b"\n"])
 }
 
 // Puts some pieces, one after another.

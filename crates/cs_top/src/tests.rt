@@ -19,13 +19,14 @@ const TYP: &str = concat!(
 const GUIDE: &str =
     "Müller's \"Über-Guide\": 2nd ed.\tpublisher=O'Reilly & Co.; lang=de\tThe handbook.";
 
-// A keystroke a line: prefixes, two words, an exact word, a phrase, nearness, exclusion, facets, parameters, refusals.
+// A keystroke a line: prefixes, two words, an exact word, a phrase, nearness, exclusion, a join, facets, parameters, refusals.
 const KEYSTROKES: &str = r#"q=typ
 q=search+typ
 q=type$
 q=type-ahead
 q=lambda..typ
 q=typ+-search
+q=author[search]+typ
 q=year:
 q=
 q=&h=1&o=1
@@ -58,6 +59,10 @@ const REPLIES: &str = concat!(
     r#""hits":[{"doc":2,"score":4,"title":"Typed lambda calculi"}],"total":{"completions":1,"hits":1}}"#,
     "\n",
     r#"{"completions":[],"facets":{},"hits":[{"doc":2,"score":4,"title":"Typed lambda calculi"}],"total":{"completions":0,"hits":1}}"#,
+    "\n",
+    r#"{"completions":[{"docs":2,"word":"type"}],"facets":{},"#,
+    r#""hits":[{"doc":0,"score":6,"title":"Type less find more"},{"doc":1,"score":3,"title":"The CompleteSearch engine"}],"#,
+    r#""total":{"completions":1,"hits":2}}"#,
     "\n",
     r#"{"completions":[{"docs":1,"word":"year:1940"},{"docs":1,"word":"year:2006"},{"docs":1,"word":"year:2007"}],"facets":{},"#,
     r#""hits":[{"doc":0,"score":2,"title":"Type less find more"},{"doc":1,"score":2,"title":"The CompleteSearch engine"},"#,
@@ -121,6 +126,8 @@ const MARKED_REPLY: &str = concat!(
     "\n",
 );
 
+const UNREAD: &[u8] = b"{\"error\":\"read\"}\n{\"at\":2,\"error\":\"bad\"}\n";
+
 const NOTHING: &str = concat!(
     r#"{"completions":[],"facets":{},"hits":[],"total":{"completions":0,"hits":0}}"#,
     "\n",
@@ -156,6 +163,10 @@ fn run_with(
     if let Some(bytes) = script {
         files.hold("Q", bytes.to_vec(alloc)?)?;
     }
+    run_over(alloc, words, &mut files)
+}
+
+fn run_over(alloc: Global, words: &[&str], files: &mut MemFiles) -> Result<Left, Fail> {
     let mut given = Vec::new(alloc);
     for word in words {
         given.push(String::from_str(alloc, word)?)?;
@@ -163,7 +174,7 @@ fn run_with(
     let mut hub = ScriptHub::new(alloc, Seq::new(alloc));
     let mut out = MemSink::new(alloc);
     let mut err = MemSink::new(alloc);
-    let status = run(alloc, &given, &mut files, &mut hub, &mut out, &mut err);
+    let status = run(alloc, &given, files, &mut hub, &mut out, &mut err);
     Ok(Left {
         status,
         out: out.into_bytes(),
@@ -191,6 +202,50 @@ fn lines_have_these_replies(rt: HostRuntime) -> Result<(), Fail> {
     Ok(())
 }
 
+// The files with an index file I of the three documents.
+fn built(alloc: Global, script: &[u8]) -> Result<MemFiles, Fail> {
+    let mut files = MemFiles::new(alloc);
+    files.hold("C", S.as_bytes().to_vec(alloc)?)?;
+    files.hold("Q", script.to_vec(alloc)?)?;
+    let words: [&str; 3] = ["build", "C", "I"];
+    let left = run_over(alloc, &words, &mut files)?;
+    if left.is(0, b"", "") {
+        Ok(files)
+    } else {
+        Err(Fail::new("not built"))
+    }
+}
+
+#[test]
+fn an_index_file_has_the_replies_of_its_collection(rt: HostRuntime) -> Result<(), Fail> {
+    let mut files = built(rt.alloc(), KEYSTROKES.as_bytes())?;
+    let words: [&str; 3] = ["replay", "I", "Q"];
+    let left = run_over(rt.alloc(), &words, &mut files)?;
+    assert!(rt; left.is(0, REPLIES.as_bytes(), ""));
+    Ok(())
+}
+
+// Each read in turn: of the index file at opening, of the script, and of blocks and titles, where a line says so.
+#[test]
+fn a_failed_read_of_a_replay_is_said_in_its_line(rt: HostRuntime) -> Result<(), Fail> {
+    let mut unread = 0;
+    for k in 1..100 {
+        let mut files = built(rt.alloc(), b"q=typ\nq=a||b\n")?;
+        files.fail_reads(vec![in rt.alloc(); k; 1]?);
+        let words: [&str; 3] = ["replay", "I", "Q"];
+        let left = run_over(rt.alloc(), &words, &mut files)?;
+        if left.status == 0 {
+            assert!(rt; unread > 0);
+            return Ok(());
+        }
+        assert!(rt; left.status == 6, "at {k}");
+        if left.is(6, UNREAD, "device failed\n") {
+            unread += 1;
+        }
+    }
+    Err(Fail::new("no run was whole"))
+}
+
 // A collection, and what is said of it.
 #[test]
 fn refused_collections_are_named(rt: HostRuntime) -> Result<(), Fail> {
@@ -210,11 +265,9 @@ fn refused_collections_are_named(rt: HostRuntime) -> Result<(), Fail> {
 fn what_ends_a_script_is_named_after_the_lines_before_it(rt: HostRuntime) -> Result<(), Fail> {
     let full = script_with(rt.alloc(), 4_096)?;
     let longer = script_with(rt.alloc(), 4_097)?;
-    let joined = b"q=typ\nq=typ\nq=author[search]+typ\nq=typ".as_slice();
     for (script, status, lines, err) in [
         (b"q=typ\n".as_slice(), 0, 1, ""),
         (b"", 0, 0, ""),
-        (joined, 1, 2, "not built\n"),
         (full.as_slice(), 0, 2, ""),
         (longer.as_slice(), 8, 1, "script: line 2: too long\n"),
         (

@@ -8,6 +8,7 @@ use Rattle.cs_query.specs.RequestView.{asked}
 use Rattle.cs_engine.specs.Stocked.{corpus_in, shown_at, listed}
 use Rattle.cs_engine.proofs.FoundLemmas.{found_base}
 use Rattle.cs_engine.proofs.FoldsLemmas.{parts-few}
+use Rattle.cs_engine.proofs.UnionLemmas.{picked_words}
 use Rattle.cs_engine.proofs.ReplyLemmas.{few_docs, few_words, first_known, words_shown, table_total, hits_few, reply_made}
 use Rattle.cs_engine.proofs.replies.reply_to.Goals as goal
 
@@ -31,7 +32,7 @@ pub overflow_cast-result : goal.overflow_cast-result
 overflow_cast-result c =
     let s = c.args.stock.now in
     let b = c.in_ok-base.field-0.base in
-    let few = hits_few s c.requires.stocked (parts_of (corpus_in s) c.args.request.now.query) b c.in_ok-base.field-0.pairs.posts c.in_ok-base.ensures.ok in
+    let few = hits_few s c.requires.stocked (parts_of (corpus_in s) c.args.request.now.query) b c.in_ok-base.field-0.pairs.posts c.in_ok-base.ensures.ok.hits in
     let hits : c.in_ok-hits.hits ≡ listed (length s.titles) b = c.in_ok-hits.ensures ∙ ap (λ n. listed n b) c.len.ensures in
     omega (arith, c.len-2.ensures, ap length hits, few, c.requires.stocked.few_docs)
 
@@ -45,10 +46,10 @@ returns c =
     let found = c.in_ok-base.ensures.ok in
     let hits : c.in_ok-hits.hits ≡ listed (length s.titles) b = c.in_ok-hits.ensures ∙ ap (λ n. listed n b) c.len.ensures in
     record {
-      ok = reply_made s c.requires.stocked (parts_of k r.query) b posts found r refl c.in_ok-shown.shown c.in_ok-facets.facets c.in_ok-shown_first.shown_first c.in_ok-table.table.total c.len-2.result
-          (c.in_ok-shown.ensures ∙ ap (map (shown_at s.words)) c.as_slice.ensures ∙ words_shown s c.requires.stocked posts r.completions c.in_ok-table.table.first found.picked c.in_ok-table.ensures.first)
+      ok = reply_made s c.requires.stocked (parts_of k r.query) b posts found.hits found.pairs r refl c.in_ok-shown.shown c.in_ok-facets.facets c.in_ok-shown_first.shown_first c.in_ok-table.table.total c.len-2.result
+          (c.in_ok-shown.ensures ∙ ap (map (shown_at s.words)) c.as_slice.ensures ∙ words_shown s c.requires.stocked posts r.completions c.in_ok-table.table.first (picked_words s posts c.requires.stocked found.picked.among) c.in_ok-table.ensures.first)
           c.in_ok-facets.ensures
           (c.in_ok-shown_first.ensures ∙ ap (map (hit_shown k)) (c.as_slice-3.ensures ∙ c.in_ok-first.ensures.ok ∙ ap (λ hs. take r.hits (drop r.offset (members_in by_rank hs))) (c.as_slice-2.ensures ∙ hits)))
-          (c.in_ok-table.ensures.total ∙ table_total s c.requires.stocked posts found.picked)
+          (c.in_ok-table.ensures.total ∙ table_total s c.requires.stocked posts (picked_words s posts c.requires.stocked found.picked.among))
           (c.len-2.ensures ∙ ap length hits);
     }

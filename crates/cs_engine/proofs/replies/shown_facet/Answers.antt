@@ -6,6 +6,7 @@ use Rattle.cs_model.specs.Replies.{Shown, FacetShown}
 use Rattle.cs_model.specs.Requests.{shown_of}
 use Rattle.cs_engine.specs.Stocked.{docs_in, shown_at, rows_at}
 use Rattle.cs_engine.proofs.AtomsLemmas.{picked_again}
+use Rattle.cs_engine.proofs.UnionLemmas.{picked_words}
 use Rattle.cs_engine.proofs.ReplyLemmas.{below_end, few_docs, few_words, first_known, words_shown, facet_kept}
 use Rattle.cs_engine.proofs.replies.shown_facet.Goals as goal
 
@@ -29,7 +30,7 @@ returns c =
     let posts = c.in_ok-pairs.pairs.posts in
     let picked = picked_again s _ c.in_ok-rows.rows.posts posts c.in_ok-rows.ensures.picked c.in_ok-pairs.ensures.ok in
     let table : c.in_ok-words.words ≡ map shown_of (take c.args.cut (table_of (rows_at s.words posts))) =
-    c.in_ok-words.ensures ∙ ap (map (shown_at s.words)) c.as_slice.ensures ∙ words_shown s c.requires.stocked posts c.args.cut c.in_ok-table.table.first picked c.in_ok-table.ensures.first in
+    c.in_ok-words.ensures ∙ ap (map (shown_at s.words)) c.as_slice.ensures ∙ words_shown s c.requires.stocked posts c.args.cut c.in_ok-table.table.first (picked_words s posts c.requires.stocked picked.among) c.in_ok-table.ensures.first in
     let rows = facet_kept s c.requires.stocked c.args.base.now c.args.name.now c.in_ok-rows.rows.posts posts c.in_ok-rows.ensures.ok (c.in_ok-pairs.ensures.ok ∙ ap (λ n. keep_docs c.in_ok-rows.rows.posts (docs_in n c.args.base.now)) c.len.ensures) in
     ap (λ n. let f : FacetShown = record { name = n; table = c.in_ok-words.words } in f) c.in_ok-copied.ensures.ok
     ∙ ap (λ (t : List Shown). let f : FacetShown = record { name = c.args.name.now; table = t } in f) (table ∙ ap (λ rs. map shown_of (take c.args.cut (table_of rs))) rows)

@@ -1,0 +1,26 @@
+-- The rows of a collection make its corpus.
+--
+--   rows_again      a collection's rows are in the order of a corpus
+--   collection_made the corpus that is made of a collection's rows is the collection's
+--   collection_is   and it is a corpus
+use Rattle.std.proofs.Common.{◌≡◌, ℕ, List, sym, ap, subst, ◌∙◌}
+use Rattle.cs_base.specs.content.Members.{members_in}
+use Rattle.cs_base.specs.content.Orders.{by_row}
+use Rattle.cs_base.specs.declared.content.doc.Doc.{Doc}
+use Rattle.cs_base.specs.declared.content.doc.Row.{Row}
+use Rattle.cs_base.proofs.MembersLemmas.{listed_itself, listing-rises}
+use Rattle.cs_base.proofs.OrdersLemmas.{by_row_total, by_row_exact}
+use Rattle.cs_docs.proofs.CorpusLaws.{corpus_is}
+use Rattle.cs_model.specs.Collection.{documents}
+use Rattle.cs_model.specs.Corpus.{Corpus, IsCorpus, rows_of, titles_of, corpus_of}
+use Rattle.cs_build.specs.Building.{corpus_from}
+
+rows_again : (docs : List Doc) → members_in by_row (rows_of docs) ≡ rows_of docs
+rows_again docs = sym (listed_itself by_row by_row_total by_row_exact (rows_of docs) (listing-rises by_row _))
+
+pub collection_made : (docs : List Doc) (rows : List Row) → rows ≡ rows_of docs → corpus_from docs rows ≡ corpus_of docs
+collection_made docs rows e =
+    ap (λ (rs : List Row). let k : Corpus = record { titles = titles_of docs; rows = rs } in k) (ap (members_in by_row) e ∙ rows_again docs)
+
+pub collection_is : (c : List ℕ) (docs : List Doc) (rows : List Row) → docs ≡ documents c → rows ≡ rows_of docs → IsCorpus (corpus_from docs rows)
+collection_is c docs rows d e = subst IsCorpus (sym (collection_made docs rows e ∙ ap corpus_of d)) (corpus_is c)

@@ -1,0 +1,42 @@
+-- The corpus that an image is made of, and what makes its file an index file.
+--
+-- Source: this engine's own.
+--
+--   corpus_from docs rows     the titles of documents by their numbers, and rows that may come in any order
+--   KeepLimits docs rows      titles, words, positions and scores are those of a collection
+--   build_refusal_of e        the refusal of a collection that the fault e names; None for want of memory
+use Rattle.std.specs.Prelude.{◌≡◌, ◌^◌, ◌<◌, ◌≤◌, true, List, [], length, map, All, Option, Some, None}
+use Rattle.std.specs.Str.{IsUtf8}
+use Rattle.cs_base.specs.content.Members.{members_in}
+use Rattle.cs_base.specs.content.Orders.{by_row}
+use Rattle.cs_base.specs.declared.content.doc.Doc.{Doc}
+use Rattle.cs_base.specs.declared.content.doc.Row.{Row}
+use Rattle.cs_base.specs.declared.content.limits.TheConstants.{MAX_LINE_BYTES}
+use Rattle.cs_model.specs.Collection.{CollectionRefusal, too_many_words}
+use Rattle.cs_model.specs.Corpus.{Corpus, title_of, titles_of}
+use Rattle.cs_model.specs.Scores.{SCORES}
+use Rattle.cs_model_index.specs.BlockRules.{is_scored}
+use Rattle.cs_model_index.specs.FileRules.{is_word}
+use Rattle.cs_model_index.specs.Layout.{title_bytes}
+use Rattle.cs_model_index.specs.Numbered.{post_of}
+use Rattle.cs_model_index.specs.Partitions.{is_facet}
+use Rattle.cs_build.specs.declared.fault.BuildFault.{BuildFault}
+use Rattle.cs_build.specs.declared.fault.BuildFault.TheVariants.{TooManyWords, Memory}
+
+-- of no documents and no rows the empty corpus; rows that stand more than once count once
+abbrev pub corpus_from : List Doc → List Row → Corpus
+corpus_from docs rows = record { titles = titles_of docs; rows = members_in by_row rows }
+
+-- titles are texts and not too long, words have the form of a collection's words, and each row has the position and the score of its
+-- kind; no documents and no rows keep them
+pub record KeepLimits (docs : List Doc) (rows : List Row) : Type 0 where
+  pub texts : All IsUtf8 (map title_of docs)
+  pub short : All (λ t. length t ≤ MAX_LINE_BYTES) (map title_of docs)
+  pub few_bytes : length (title_bytes (map title_of docs)) < 2 ^ 32
+  pub words : All (λ r. is_word r.word ≡ true) rows
+  pub scored : All (λ r. is_scored SCORES (is_facet r.word) (post_of [] r) ≡ true) rows
+
+-- want of memory names none
+abbrev pub build_refusal_of : BuildFault → Option CollectionRefusal
+build_refusal_of TooManyWords = Some too_many_words
+build_refusal_of Memory = None

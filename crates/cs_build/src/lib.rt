@@ -1,0 +1,12 @@
+//! Images of collections: the blocks into which a collection's rows are parted, and the heads that the directory lists.
+//!
+//! What an image is stands in `Images` of `cs_model_index`, and how words are parted in `Partitions` there. Nothing
+//! here reads or writes a file.
+#![tactic(auto)]
+
+mod building;
+mod fault;
+pub mod laws;
+
+pub use building::image;
+pub use fault::BuildFault;

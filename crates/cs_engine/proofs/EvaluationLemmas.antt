@@ -1,0 +1,258 @@
+-- The loops over parts, alternatives and links of a query.
+--
+--   is_prefix, is_exact, is_join      the rows of an atom, by its kind, and its blocks
+--   chain-is, met_chain-is, met_linked-is, met_part-is, met_query-is      those of a level by those of what it holds
+--   next_left            what is left, with the next in front
+--   entry_begins, entry_goes_on, entry_ends     the entry of the parts so far
+--   part_begins, part_goes_on, part_ends        the rows of the alternatives so far
+--   chain_goes_on        the rows that the links so far lead to
+use Rattle.std.proofs.Common.{◌≡◌, ℕ, suc, ◌+◌, ◌*◌, ◌<◌, ◌≤◌, Bool, true, false, not, List, [], ◌∷◌, ◌++◌, length, map, take, drop, get_or, refl, sym, ap, subst, ◌∙◌, arith, length-take}
+use Rattle.std.specs.Prelude.{All, sum, fold}
+use Rattle.std.specs.List.{Contains}
+use Rattle.cs_base.specs.declared.content.query.Link.{Link}
+use Rattle.cs_base.specs.declared.content.query.Link.TheVariants.{Phrase, Near}
+use Rattle.cs_file.specs.Indexes.{IndexView}
+use Rattle.cs_join.specs.Shared.{is_shared, shared}
+use Rattle.cs_join.proofs.JoinLemmas.{joins_are_shared}
+use Rattle.std.proofs.lemmas.List.{append-nil, append_assoc, get_or-map, length-map, take_all, drop_all, take_more, map-append}
+use Rattle.std.specs.List.{list_any}
+use Rattle.std.proofs.lemmas.List.Elements.{Contains-get_or, All-weaker, All-from_recursion}
+use Rattle.std.proofs.lemmas.List.Sums.{sum_by-cons, fold-append}
+use Rattle.cs_base.specs.content.Orders.{AreSorted}
+use Rattle.cs_base.specs.declared.content.doc.Base.{Base}
+use Rattle.cs_base.specs.declared.content.doc.Base.TheVariants as base
+use Rattle.cs_base.specs.declared.content.doc.Post.{Post}
+use Rattle.cs_base.specs.declared.content.doc.Row.{Row}
+use Rattle.cs_base.specs.declared.content.query.Query.{Query, out-Query}
+use Rattle.cs_base.specs.declared.content.query.Part.{Part, out-Part}
+use Rattle.cs_base.specs.declared.content.query.Chain.{Chain, out-Chain}
+use Rattle.cs_base.specs.declared.content.query.Linked.{Linked, out-Linked}
+use Rattle.cs_base.specs.declared.content.query.Atom.{Atom, roll-Atom}
+use Rattle.cs_base.specs.declared.content.query.Atom.TheVariants.{Prefix, Exact, Join}
+use Rattle.cs_base.specs.declared.content.query.Atom.TheOpen.{Atom-F}
+use Rattle.cs_base.specs.declared.content.query.Atom.TheFolds.{fold-roll-Atom, fold_out-Linked, fold_out-Chain, fold_out-Part, fold_out-Query}
+use Rattle.cs_meet.proofs.Passes.{next_is}
+use Rattle.cs_meet.specs.Filters.{IsUnion, stands_behind, is_near}
+use Rattle.cs_model.specs.Answers.{PartRows, LinkedRows, atom_rows, begins, chain_rows, chained, hits, linked_rows, of_word, part_rows, parts_of, query_parts, rows_of_atom, rows_of_chain, rows_of_linked, rows_of_part, scored, union_of}
+use Rattle.cs_model.specs.Collection.{named}
+use Rattle.cs_model.specs.Corpus.{Corpus}
+use Rattle.std.specs.Prelude.{Result, Ok, Err}
+use Rattle.std.specs.Result.{IsErr}
+use Rattle.cs_model.specs.Replies.{Reply}
+use Rattle.cs_model.specs.Requests.{Request}
+use Rattle.cs_engine.specs.Asking.{titles_read}
+use Rattle.cs_engine.specs.declared.fault.AskFault.{AskFault}
+use Rattle.cs_base.specs.declared.index.plan.Plan.TheVariants.{Fresh}
+use Rattle.cs_model_kept.specs.Due.{Division, due, met_of_facets, atom_met, chain_met, linked_met, part_met, query_met, met_of_atom, met_of_chain, met_of_linked, met_of_part, met_of_query, met_prefix, met_word}
+use Rattle.cs_model_kept.specs.Entries.{Entry, EntryOf, base_of, entry, entry_at, entry_of, scored_hits}
+use Rattle.cs_model_kept.specs.Entries as kept
+use Rattle.cs_model_kept.specs.InnerQueries.{HasInner, atoms_of}
+use Rattle.cs_model_kept.proofs.EntryLemmas.{ends_more, extended_is, hits_are, listed_base, parts_read}
+use Rattle.cs_model_kept.proofs.InnerLemmas.{inner_queries_are_of_grammar}
+use Rattle.cs_engine.specs.Reading.{AreWithin, HasRows}
+use Rattle.cs_engine.specs.Steps.{IsStep, docs_after, ends_positive, posts_hits}
+use Rattle.cs_engine.specs.Stocked.{corpus_in, docs_in, linked_posts, rows_at, IsKnown, IsPicked, IsStocked}
+use Rattle.cs_engine.specs.declared.stock.Stock.{Stock}
+use Rattle.cs_engine.proofs.AtomsLemmas.{picked_again}
+use Rattle.cs_engine.proofs.ReadingLemmas.{kept_within}
+use Rattle.cs_engine.proofs.FoldsLemmas.{part_rows-is}
+use Rattle.cs_engine.proofs.HitsLemmas.{own_docs}
+use Rattle.cs_engine.proofs.FoundLemmas.{is_excluded}
+use Rattle.cs_engine.proofs.StepLemmas.{docs_more, hits_told, listed_told}
+use Rattle.cs_engine.proofs.UnionLemmas.{no_chains, one_more_chain, one_more_link, picked_known}
+
+-- ---- levels
+module _ (k : Corpus) where
+  pub is_prefix : (p : List ℕ) → rows_of_atom k (Prefix p) ≡ atom_rows k (Atom-F.Prefix p)
+  unfolding roll-Atom denote.Hole.Carrier.roll
+  is_prefix p = fold-roll-Atom (List Row) (List Row) LinkedRows PartRows (List PartRows) (atom_rows k) chain_rows linked_rows part_rows query_parts (Atom-F.Prefix p)
+
+  pub is_exact : (w : List ℕ) → rows_of_atom k (Exact w) ≡ atom_rows k (Atom-F.Exact w)
+  unfolding roll-Atom denote.Hole.Carrier.roll
+  is_exact w = fold-roll-Atom (List Row) (List Row) LinkedRows PartRows (List PartRows) (atom_rows k) chain_rows linked_rows part_rows query_parts (Atom-F.Exact w)
+
+  pub is_join : (name : List ℕ) (inner : Query) → rows_of_atom k (Join name inner) ≡ atom_rows k (Atom-F.Join name (parts_of k inner))
+  unfolding roll-Atom denote.Hole.Carrier.roll
+  is_join name inner = fold-roll-Atom (List Row) (List Row) LinkedRows PartRows (List PartRows) (atom_rows k) chain_rows linked_rows part_rows query_parts (Atom-F.Join name inner)
+
+  pub chain-is : (c : Chain) → rows_of_chain k c ≡ chained (rows_of_atom k (out-Chain c).first) (map (rows_of_linked k) (out-Chain c).rest)
+  chain-is c = fold_out-Chain (List Row) (List Row) LinkedRows PartRows (List PartRows) (atom_rows k) chain_rows linked_rows part_rows query_parts c
+
+module _ (v : Division) where
+  pub met_prefix-is : (p : List ℕ) → met_of_atom v (Prefix p) ≡ met_prefix v p
+  unfolding roll-Atom denote.Hole.Carrier.roll
+  met_prefix-is p = fold-roll-Atom ℕ ℕ ℕ ℕ ℕ (atom_met v) chain_met linked_met part_met query_met (Atom-F.Prefix p)
+
+  pub met_exact-is : (w : List ℕ) → met_of_atom v (Exact w) ≡ met_word v w
+  unfolding roll-Atom denote.Hole.Carrier.roll
+  met_exact-is w = fold-roll-Atom ℕ ℕ ℕ ℕ ℕ (atom_met v) chain_met linked_met part_met query_met (Atom-F.Exact w)
+
+  pub met_join-is : (name : List ℕ) (inner : Query) → met_of_atom v (Join name inner) ≡ met_prefix v (named name []) + met_of_query v inner
+  unfolding roll-Atom denote.Hole.Carrier.roll
+  met_join-is name inner = fold-roll-Atom ℕ ℕ ℕ ℕ ℕ (atom_met v) chain_met linked_met part_met query_met (Atom-F.Join name inner)
+
+  pub met_linked-is : (l : Linked) → met_of_linked v l ≡ met_of_atom v (out-Linked l).atom
+  met_linked-is l = fold_out-Linked ℕ ℕ ℕ ℕ ℕ (atom_met v) chain_met linked_met part_met query_met l
+
+  pub met_chain-is : (c : Chain) → met_of_chain v c ≡ met_of_atom v (out-Chain c).first + sum (map (met_of_linked v) (out-Chain c).rest)
+  met_chain-is c = fold_out-Chain ℕ ℕ ℕ ℕ ℕ (atom_met v) chain_met linked_met part_met query_met c
+
+  pub met_part-is : (p : Part) → met_of_part v p ≡ sum (map (met_of_chain v) (out-Part p).chains)
+  met_part-is p = fold_out-Part ℕ ℕ ℕ ℕ ℕ (atom_met v) chain_met linked_met part_met query_met p
+
+  pub met_query-is : (q : Query) → met_of_query v q ≡ sum (map (met_of_part v) (out-Query q).parts)
+  met_query-is q = fold_out-Query ℕ ℕ ℕ ℕ ℕ (atom_met v) chain_met linked_met part_met query_met q
+
+-- what is left, with the next in front
+pub next_left : {X : Type 0} (f : X → ℕ) (xs : List X) (i : ℕ) (x : X) → i < length xs → x ≡ get_or xs i x → sum (map f (drop i xs)) ≡ f x + sum (map f (drop (i + 1) xs))
+next_left f xs i x l is = ap (λ r. sum (map f r)) (next_is xs i x l is) ∙ sum_by-cons (λ n. n) (f x) (map f (drop (i + 1) xs))
+
+-- ---- parts
+abbrev positive_by : List Part → Bool
+positive_by ps = fold (λ before p. not (out-Part p).excluded) false ps
+
+pub positive_more : (ps : List Part) (i : ℕ) (x : Part) → i < length ps → x ≡ get_or ps i x → positive_by (take (i + 1) ps) ≡ not (out-Part x).excluded
+positive_more ps i x l at = ap positive_by (take_more ps i x l ∙ ap (λ y. take i ps ++ y ∷ []) (sym at)) ∙ fold-append (λ before p. not (out-Part p).excluded) false (take i ps) (x ∷ [])
+
+module _ (k : Corpus) where
+  excluded_is : (p : Part) → (rows_of_part k p).excluded ≡ (out-Part p).excluded
+  excluded_is p = ap (λ (r : PartRows). r.excluded) (part_rows-is k p)
+
+  abbrev read : List Part → List PartRows
+  read ps = map (rows_of_part k) ps
+
+  read_more : (ps : List Part) (i : ℕ) (x : Part) → i < length ps → x ≡ get_or ps i x → read (take (i + 1) ps) ≡ read (take i ps) ++ rows_of_part k x ∷ []
+  read_more ps i x l at = ap read (take_more ps i x l) ∙ map-append (rows_of_part k) (take i ps) (get_or ps i x ∷ []) ∙ ap (λ y. read (take i ps) ++ rows_of_part k y ∷ []) (sym at)
+
+  -- whether the parts so far end in a positive one
+  ends_from : (b : Bool) (done ps : List Part) → b ≡ kept.ends_positive (read done) → fold (λ before p. not (out-Part p).excluded) b ps ≡ kept.ends_positive (read (done ++ ps))
+  ends_from b done [] is = is ∙ ap (λ l. kept.ends_positive (read l)) (sym (append-nil done))
+  ends_from b done (p ∷ ps) is =
+      ends_from (not (out-Part p).excluded) (done ++ p ∷ []) ps (ap not (sym (excluded_is p)) ∙ sym (ends_more (read done) (rows_of_part k p)) ∙ ap kept.ends_positive (sym (map-append (rows_of_part k) done (p ∷ []))))
+      ∙ ap (λ l. kept.ends_positive (read l)) (append_assoc done (p ∷ []) ps)
+
+  pub ends_read : (ps : List Part) → positive_by ps ≡ kept.ends_positive (read ps)
+  ends_read ps = ends_from false [] ps refl
+
+-- the hits of parts by their entry
+pub hits_by : (s : Stock) (ps : List PartRows) (positive : Bool) (e : EntryOf Post) → positive ≡ kept.ends_positive ps → entry_at s.words e ≡ entry (corpus_in s) ps → posts_hits positive e.base e.rows ≡ base_of (corpus_in s) ps
+hits_by s ps positive e ends is = hits_told s.words positive e ∙ ap (λ b. kept.hits_of b (entry_at s.words e)) ends ∙ ap (kept.hits_of (kept.ends_positive ps)) is ∙ hits_are (corpus_in s) ps
+
+-- and their documents
+pub docs_by : (s : Stock) (n : ℕ) (ps : List PartRows) (b : Base) → n ≡ length s.titles → b ≡ base_of (corpus_in s) ps → docs_in n b ≡ hits (corpus_in s) ps
+docs_by s n ps b same is =
+    ap (map (λ h. h.doc)) (listed_told s n b same ∙ ap (kept.listed (corpus_in s)) is ∙ listed_base (corpus_in s) ps) ∙ own_docs (scored ps) (λ d. refl) (hits (corpus_in s) ps)
+
+module _ (s : Stock) (ps : List Part) where
+  abbrev k : Corpus
+  k = corpus_in s
+
+  abbrev pub EntrySoFar : ℕ → EntryOf Post → Type 0
+  EntrySoFar i e = entry_at s.words e ≡ entry k (map (rows_of_part k) (take i ps))
+
+  pub entry_begins : (e : EntryOf Post) → e ≡ record { base = base.All; rows = [] } → EntrySoFar 0 e
+  entry_begins e is = ap (entry_at s.words) is
+
+  pub entry_goes_on : (i : ℕ) (x : Part) → i < length ps → x ≡ get_or ps i x → (positive : Bool) (was now : EntryOf Post) (hits : Base) → positive ≡ positive_by (take i ps) → EntrySoFar i was → hits ≡ posts_hits positive was.base was.rows → IsStep s hits (rows_of_part k x) now → EntrySoFar (i + 1) now
+  entry_goes_on i x l at positive was now hits ends so_far hits_are step =
+      let done = map (rows_of_part k) (take i ps) in
+      let own : hits ≡ kept.hits_of (kept.ends_positive done) (entry k done) = hits_are ∙ hits_told s.words positive was ∙ ap (λ b. kept.hits_of b (entry_at s.words was)) (ends ∙ ends_read k (take i ps)) ∙ ap (kept.hits_of (kept.ends_positive done)) so_far in
+      step ∙ ap (λ b. kept.entry_after (kept.is_begun b) (kept.listed k b) (rows_of_part k x)) own
+      ∙ sym (extended_is k done (rows_of_part k x)) ∙ ap (entry k) (sym (read_more k ps i x l at))
+
+  pub entry_ends : (q : Query) (i : ℕ) (e : EntryOf Post) → ps ≡ (out-Query q).parts → length ps ≤ i → EntrySoFar i e → entry_at s.words e ≡ entry_of k q
+  unfolding entry_of
+  entry_ends q i e are l so_far = so_far ∙ ap (λ xs. entry k (map (rows_of_part k) xs)) (take_all i ps l ∙ are) ∙ ap (entry k) (sym (parts_read k q))
+
+-- ---- alternatives
+module _ (s : Stock) (chains : List Chain) where
+  abbrev ks : Corpus
+  ks = corpus_in s
+
+  abbrev pub RowsSoFar : ℕ → List Post → Type 0
+  RowsSoFar i found = HasRows s (union_of (map (rows_of_chain ks) (take i chains))) found
+
+  pub part_begins : (found : List Post) → found ≡ [] → RowsSoFar 0 found
+  part_begins found is = let h = no_chains s found is in record { is = h.0; picked = h.1 }
+
+  pub part_goes_on : IsStocked s → (i : ℕ) (x : Chain) → i < length chains → x ≡ get_or chains i x → (found next now : List Post) → RowsSoFar i found → HasRows s (rows_of_chain ks x) next → IsUnion found next now → AreSorted now → RowsSoFar (i + 1) now
+  part_goes_on stocked i x l at found next now so_far more union up =
+      let h = one_more_chain s chains i x found next now stocked l at so_far.is so_far.picked more.is more.picked union up in
+      record { is = h.0; picked = h.1 }
+
+  pub part_ends : (p : Part) → chains ≡ (out-Part p).chains → (i : ℕ) (found : List Post) → length chains ≤ i → RowsSoFar i found → HasRows s (rows_of_part ks p).rows found
+  part_ends p are i found l so_far = subst (λ rows. HasRows s rows found) (ap (λ cs. union_of (map (rows_of_chain ks) cs)) (take_all i chains l ∙ are) ∙ sym (ap (λ (r : PartRows). r.rows) (part_rows-is ks p))) so_far
+
+-- ---- links
+module _ (s : Stock) (c : Chain) (links : List Linked) where
+  abbrev kl : Corpus
+  kl = corpus_in s
+
+  pub record LinkedSoFar (i : ℕ) (found : List Post) : Type 0 where
+    pub rows : rows_of_chain kl c ≡ chained (rows_at s.words found) (map (rows_of_linked kl) (drop i links))
+    pub picked : IsPicked s found
+
+  pub chain_begins : links ≡ (out-Chain c).rest → (found : List Post) → HasRows s (rows_of_atom kl (out-Chain c).first) found → LinkedSoFar 0 found
+  chain_begins are found h = record {
+    rows = chain-is kl c ∙ ap (λ ls. chained (rows_of_atom kl (out-Chain c).first) (map (rows_of_linked kl) ls)) (sym are) ∙ ap (λ rows. chained rows (map (rows_of_linked kl) links)) (sym h.is);
+    picked = h.picked;
+  }
+
+  pub chain_goes_on : (i : ℕ) (x : Linked) → i < length links → x ≡ get_or links i x → (found next now : List Post) → LinkedSoFar i found → HasRows s (rows_of_atom kl (out-Linked x).atom) next → now ≡ linked_posts (out-Linked x).link found next → LinkedSoFar (i + 1) now
+  chain_goes_on i x l at found next now so_far more are =
+      let h = one_more_link s links i x (rows_of_chain kl c) found next now l at so_far.rows more.is more.picked are in
+      record { rows = h.0; picked = h.1 }
+
+  pub chain_ends : (i : ℕ) (found : List Post) → length links ≤ i → LinkedSoFar i found → HasRows s (rows_of_chain kl c) found
+  chain_ends i found l so_far = record {
+    is = sym (so_far.rows ∙ ap (λ ls. chained (rows_at s.words found) (map (rows_of_linked kl) ls)) (drop_all i links l));
+    picked = so_far.picked;
+  }
+
+-- ---- what always holds
+pub linked_within : (i : IndexView) (link : Link) (a b c : List Post) → AreWithin i b → c ≡ linked_posts link a b → AreWithin i c
+linked_within i Phrase a b c w is = subst (AreWithin i) (sym is) (kept_within i (λ r. list_any (stands_behind r) a) b w)
+linked_within i Near a b c w is = subst (AreWithin i) (sym is) (kept_within i (λ r. list_any (is_near r) a) b w)
+
+-- ---- joins
+pub joined_rows : (s : Stock) → IsStocked s → (a : Atom) (name : List ℕ) (inner : Query) → a ≡ Join name inner → (posts now : List Post) (docs : List ℕ) → HasRows s (atom_rows (corpus_in s) (Atom-F.Prefix (named name []))) posts
+    → docs ≡ hits (corpus_in s) (parts_of (corpus_in s) inner) → now ≡ shared posts docs → HasRows s (rows_of_atom (corpus_in s) a) now
+joined_rows s stocked a name inner is posts now docs has are now_is = record {
+  is = ap (rows_at s.words) (now_is ∙ ap (shared posts) are)
+      ∙ joins_are_shared (corpus_in s) name (parts_of (corpus_in s) inner) s.words posts stocked.words (All-weaker (IsKnown s) (λ p. p.word < length s.words) (λ p h. h.word) posts (All-from_recursion (IsKnown s) posts (picked_known s posts stocked has.picked.among))) has.is
+      ∙ sym (is_join (corpus_in s) name inner) ∙ ap (rows_of_atom (corpus_in s)) (sym is);
+  picked = picked_again s (is_shared docs posts) posts now has.picked now_is;
+}
+
+pub entry_unrolled : (k : Corpus) (q : Query) → entry_of k q ≡ entry k (parts_of k q)
+unfolding entry_of
+entry_unrolled k q = refl
+
+-- ---- the documents of hits
+module _ (s : Stock) (ps : List Part) where
+  abbrev kd : Corpus
+  kd = corpus_in s
+
+  abbrev pub DocsSoFar : ℕ → ℕ → Base → Type 0
+  DocsSoFar n i b = docs_in n b ≡ hits kd (map (rows_of_part kd) (take i ps))
+
+  pub docs_begin : (n : ℕ) → n ≡ length s.titles → DocsSoFar n 0 base.All
+  docs_begin n same = docs_by s n [] base.All same refl
+
+  pub docs_go_on : (n i : ℕ) (x : Part) → i < length ps → x ≡ get_or ps i x → (was now : Base) (posts : List Post) → DocsSoFar n i was → HasRows s (rows_of_part kd x).rows posts → docs_in n now ≡ docs_after n was (out-Part x).excluded posts → DocsSoFar n (i + 1) now
+  docs_go_on n i x l at was now posts so_far has is =
+      let done = map (rows_of_part kd) (take i ps) in
+      is ∙ docs_more s done (rows_of_part kd x) posts has.is n was so_far (out-Part x).excluded (is_excluded s x) ∙ ap (hits kd) (sym (read_more kd ps i x l at))
+
+  pub docs_end : (q : Query) (n i : ℕ) (b : Base) → ps ≡ (out-Query q).parts → length ps ≤ i → DocsSoFar n i b → docs_in n b ≡ hits kd (parts_of kd q)
+  docs_end q n i b are l so_far = so_far ∙ ap (λ xs. hits kd (map (rows_of_part kd) xs)) (take_all i ps l ∙ are) ∙ ap (hits kd) (sym (parts_read kd q))
+
+-- ---- what may be read
+pub due_fresh : (v : Division) (r : Request) (n : ℕ) → due v r Fresh n ≡ n + met_of_facets v r.facets + met_of_query v r.query
+unfolding due
+due_fresh v r n = refl
+
+-- where there is no reply
+pub err_titles : (q : Request) (r : Result Reply AskFault) → IsErr r → titles_read q r ≡ q.hits
+err_titles q (Ok r) h = absurd cc
+err_titles q (Err e) h = refl

@@ -1,0 +1,169 @@
+-- The posts of a range of words, from the blocks that hold such words.
+--
+--   fetched_within, kept_within, united_within     posts that are read, cut and united are in order and in range
+--   cut_run          one block
+--   run_joined       two runs
+--   whole_run        the run of the blocks that hold such words
+--   met_count        how many blocks are met
+use Rattle.std.proofs.Common.{◌≡◌, ℕ, zero, suc, ◌+◌, ◌-◌, ◌<◌, ◌≤◌, ◌&&◌, ◌||◌, Bool, true, false, cond, List, [], ◌∷◌, ◌++◌, length, get_or, take, drop, Option, refl, sym, ap, subst, ◌∙◌, arith, append-nil, drop-drop}
+use Rattle.std.specs.Prelude.{All, filter, flat_map, nat_le, nat_lt}
+use Rattle.std.specs.List.{Contains, list_any}
+use Rattle.std.specs.List.Sorted.{IsStrictlySortedBy}
+use Rattle.std.proofs.lemmas.Bool.Decides.{nat_tests}
+use Rattle.std.proofs.lemmas.Grind.{flat_map-append}
+use Rattle.std.proofs.lemmas.List.Elements.{All-nil, All-filter, All-append, Contains-get_or, Contains-append_left, Contains-append_right, recursion_from_All}
+use Rattle.std.proofs.lemmas.List.Folds.{list_any-append}
+use Rattle.std.proofs.lemmas.List.Kept.{IsStrictlySortedBy-filter}
+use Rattle.std.proofs.lemmas.List.Sorted.{All-permutation, list_any-IsPermutation}
+use Rattle.std.specs.Ordering.{nat_cmp, eq_by_cmp, ordering_then}
+use Rattle.std.specs.declared.cmp.Ordering.TheVariants.{Less}
+use Rattle.cs_base.specs.content.Members.{members_in}
+use Rattle.cs_base.specs.content.Orders.{by_place, AreSorted}
+use Rattle.cs_base.specs.declared.content.doc.Post.{Post}
+use Rattle.cs_base.specs.declared.index.block.BlockHead.{BlockHead}
+use Rattle.cs_base.proofs.MembersLemmas.{all_then, members_are, is_member-listed}
+use Rattle.cs_file.specs.Answers.{HasBlock}
+use Rattle.cs_file.specs.Indexes.{IndexView, IsIndex, StandsFor, AreMet, is_met, block_posts}
+use Rattle.cs_file.proofs.PostsLemmas.{posts_between}
+use Rattle.cs_file.proofs.StoodLemmas.{stood_count}
+use Rattle.cs_meet.specs.Filters.{IsUnion, missing}
+use Rattle.cs_model_index.specs.Sections.{image_of}
+use Rattle.cs_model_index.specs.Images.{image_posts}
+use Rattle.cs_engine.specs.Reading.{by_post, stock_of, run_of, HasRun, IsWithin, AreWithin}
+use Rattle.cs_engine.specs.Stocked.{is_between}
+use Rattle.cs_engine.specs.declared.stock.Stock.{Stock}
+use Rattle.cs_engine.proofs.StockLemmas.{by_post_total, by_post_exact, block_within, from_file, stocked}
+use Rattle.cs_engine.proofs.TableLemmas.{any_listed}
+use Rattle.cs_engine.proofs.UnionLemmas.{any_united}
+
+-- ---- what always holds
+pub kept_within : (i : IndexView) (t : Post → Bool) (posts : List Post) → AreWithin i posts → AreWithin i (filter t posts)
+kept_within i t posts h = record { sorted = IsStrictlySortedBy-filter by_place t posts h.sorted; within = All-filter t (IsWithin i.docs (length i.words)) posts h.within }
+
+pub united_within : (i : IndexView) (a b c : List Post) → AreWithin i a → AreWithin i b → IsUnion a b c → AreSorted c → AreWithin i c
+united_within i a b c in_a in_b union up =
+    let P : Post → Type 0 = IsWithin i.docs (length i.words) in
+    record { sorted = up; within = All-permutation P (a ++ missing a b) c union (All-append P a (missing a b) in_a.within (All-filter _ P b in_b.within)) }
+
+none_sorted : AreSorted []
+unfolding IsStrictlySortedBy
+none_sorted = tt
+
+pub none_within : (i : IndexView) → AreWithin i []
+none_within i = record { sorted = none_sorted; within = All-nil (IsWithin i.docs (length i.words)) }
+
+pub fetched_within : (i : IndexView) → IsIndex i → (told : Option (List ℕ)) (k : ℕ) → k < length i.heads → (old new : List Post) → old ≡ [] → HasBlock i told k old new → AreWithin i new
+fetched_within i is told k lt old new none h =
+    let d : BlockHead = record { lo = 0; words = 0; rows = 0; len = 0; facet = false } in
+    let all : new ≡ h.rows = h.added ∙ ap (λ (x : List Post). x ++ h.rows) none in
+    subst (AreWithin i) (sym all) (block_within i is k d lt h.rows h.bytes (h.block d))
+
+-- ---- runs of blocks
+one_block : (bs : List (List Post)) (k : ℕ) → k < length bs → take (k + 1 - k) (drop k bs) ≡ get_or bs k [] ∷ []
+one_block [] k lt = absurd (omega (arith, lt))
+one_block (b ∷ bs) zero lt = refl
+one_block (b ∷ bs) (suc k) lt = (let e : suc k + 1 - suc k ≡ k + 1 - k = omega arith in ap (λ n. take n (drop k bs)) e) ∙ one_block bs k (omega (arith, lt))
+
+pub cut_run : (b : List ℕ) (i : IndexView) → StandsFor b i → IsIndex i → (k lo hi : ℕ) → k < length i.heads → (posts : List Post) → posts ≡ filter (is_between lo hi) (block_posts b k) → HasRun (stock_of b) (image_of b).blocks k (k + 1) lo hi posts
+cut_run b i s is k lo hi lt posts are =
+    let bs = (image_of b).blocks in
+    let count = stood_count b i s in
+    let l : k < length bs = omega (arith, lt, count) in
+    let here : run_of bs k (k + 1) lo hi ≡ filter (is_between lo hi) (block_posts b k) = ap (flat_map (filter (is_between lo hi))) (one_block bs k l) ∙ append-nil (filter (is_between lo hi) (block_posts b k)) in
+    record {
+      among = subst (All (Contains (stock_of b).posts.posts)) (sym are) (All-filter (is_between lo hi) (Contains (stock_of b).posts.posts) (block_posts b k) (λ j d m. from_file b i s is (get_or (block_posts b k) j d) (in_all bs k l (get_or (block_posts b k) j d) (Contains-get_or (block_posts b k) j d m))));
+      alike = λ t. ap (list_any t) (are ∙ sym here);
+    }
+  where
+    in_all : (bs : List (List Post)) (k : ℕ) → k < length bs → (x : Post) → Contains (get_or bs k []) x → Contains (flat_map (λ block. block) bs) x
+    in_all [] k l x c = absurd (omega (arith, l))
+    in_all (b ∷ bs) zero l x c = Contains-append_left b (flat_map (λ block. block) bs) x c
+    in_all (b ∷ bs) (suc k) l x c = Contains-append_right b (flat_map (λ block. block) bs) x (in_all bs k (omega (arith, l)) x c)
+
+take_two : {X : Type 0} (n m : ℕ) (xs : List X) → take (n + m) xs ≡ take n xs ++ take m (drop n xs)
+take_two zero m xs = (let e : 0 + m ≡ m = omega arith in ap (λ k. take k xs) e)
+take_two (suc n) m [] = (let e : suc n + m ≡ suc (n + m) = omega arith in ap (λ k. take k []) e) ∙ none m
+  where
+    none : {X : Type 0} (m : ℕ) → [] ≡ take {A = X} m []
+    none zero = refl
+    none (suc m) = refl
+take_two (suc n) m (x ∷ xs) = (let e : suc n + m ≡ suc (n + m) = omega arith in ap (λ k. take k (x ∷ xs)) e) ∙ ap (λ l. x ∷ l) (take_two n m xs)
+
+run_parted : (bs : List (List Post)) (f m l lo hi : ℕ) → f ≤ m → m ≤ l → run_of bs f l lo hi ≡ run_of bs f m lo hi ++ run_of bs m l lo hi
+run_parted bs f m l lo hi up on =
+    let g : List Post → List Post = filter (is_between lo hi) in
+    let e : l - f ≡ (m - f) + (l - m) = omega (arith, up, on) in
+    let n : m - f + f ≡ m = omega (arith, up) in
+    ap (λ k. flat_map g (take k (drop f bs))) e
+    ∙ ap (flat_map g) (take_two (m - f) (l - m) (drop f bs) ∙ ap (λ xs. take (m - f) (drop f bs) ++ take (l - m) xs) (drop-drop (m - f) f bs ∙ ap (λ k. drop k bs) (let n' : f + (m - f) ≡ m = omega (arith, up) in n')))
+    ∙ flat_map-append g (take (m - f) (drop f bs)) (take (l - m) (drop m bs))
+
+pub run_joined : (s : Stock) (bs : List (List Post)) (f m l lo hi : ℕ) (a b c : List Post) → AreSorted s.posts.posts → f ≤ m → m ≤ l → HasRun s bs f m lo hi a → HasRun s bs m l lo hi b → IsUnion a b c → HasRun s bs f l lo hi c
+run_joined s bs f m l lo hi a b c up le on in_a in_b union =
+    let posts = s.posts.posts in
+    record {
+      among = All-permutation (Contains posts) (a ++ missing a b) c union (All-append (Contains posts) a (missing a b) in_a.among (All-filter _ (Contains posts) b in_b.among));
+      alike = λ t.
+          sym (list_any-IsPermutation t (a ++ missing a b) c union)
+          ∙ any_united posts up t a b (recursion_from_All (Contains posts) a in_a.among) (recursion_from_All (Contains posts) b in_b.among)
+          ∙ list_any-append t a b ∙ ap (λ x. x || list_any t b) (in_a.alike t) ∙ ap (λ x. list_any t (run_of bs f m lo hi) || x) (in_b.alike t)
+          ∙ sym (list_any-append t (run_of bs f m lo hi) (run_of bs m l lo hi)) ∙ ap (list_any t) (sym (run_parted bs f m l lo hi le on));
+    }
+
+sooner : (x y : Post) → by_place x y ≡ Less → by_post x y ≡ Less
+sooner x y h = ap (λ o. ordering_then o (nat_cmp x.score y.score)) h
+
+still_rise : (xs : List Post) → AreSorted xs → IsStrictlySortedBy by_post xs
+unfolding IsStrictlySortedBy
+still_rise [] h = tt
+still_rise (x ∷ xs) h = (all_then _ _ (sooner x) xs h.0, still_rise xs h.1)
+
+same_posts : (xs ys : List Post) → AreSorted xs → AreSorted ys → ((t : Post → Bool) → list_any t xs ≡ list_any t ys) → xs ≡ ys
+same_posts xs ys up_x up_y alike =
+    members_are by_post by_post_total by_post_exact xs ys (still_rise xs up_x) (λ q. alike (eq_by_cmp by_post q))
+    ∙ sym (members_are by_post by_post_total by_post_exact ys ys (still_rise ys up_y) (λ q. refl))
+
+any_filter : {X : Type 0} (t p : X → Bool) (xs : List X) → list_any t (filter p xs) ≡ list_any (λ x. p x && t x) xs
+any_filter t p [] = refl
+any_filter t p (x ∷ xs) =
+    elim (p x) as (λ b. list_any t (cond b (x ∷ filter p xs) (filter p xs)) ≡ ((b && t x) || list_any (λ x. p x && t x) xs)) [
+      | true ↦ ap (λ b. t x || b) (any_filter t p xs)
+      | false ↦ any_filter t p xs
+    ]
+
+pub whole_run : (b : List ℕ) (i : IndexView) → StandsFor b i → IsIndex i → (lo hi first last : ℕ) → AreMet i.heads lo hi first last → (posts : List Post) → AreSorted posts → HasRun (stock_of b) (image_of b).blocks first last lo hi posts → posts ≡ filter (is_between lo hi) (stock_of b).posts.posts
+whole_run b i s is lo hi first last met posts up run =
+    let st = stocked b i s is in
+    let p = is_between lo hi in
+    let all = image_posts (image_of b) in
+    same_posts posts (filter p (stock_of b).posts.posts) up (IsStrictlySortedBy-filter by_place p (stock_of b).posts.posts st.sorted)
+    (λ t. run.alike t ∙ ap (list_any t) (sym (posts_between b i s is lo hi first last met))
+    ∙ any_filter t p all ∙ sym (any_listed by_post by_post_total by_post_exact (λ x. p x && t x) all) ∙ sym (any_filter t p (stock_of b).posts.posts))
+
+pub no_run : (s : Stock) (bs : List (List Post)) (first last lo hi : ℕ) (posts : List Post) → first ≡ last → posts ≡ [] → HasRun s bs first last lo hi posts
+no_run s bs first last lo hi posts same none = record {
+  among = subst (All (Contains s.posts.posts)) (sym none) (All-nil (Contains s.posts.posts));
+  alike = λ t. ap (list_any t) none ∙ ap (λ n. list_any t (flat_map (filter (is_between lo hi)) (take n (drop first bs)))) (let e : 0 ≡ last - first = omega (arith, same) in e);
+}
+
+-- ---- how many blocks are met
+count_from : {X : Type 0} (p : X → Bool) (xs : List X) (first last : ℕ) → first ≤ last → last ≤ length xs → ((k : ℕ) (d : X) → first ≤ k → k < last → p (get_or xs k d) ≡ true) → last - first ≤ length (filter p xs)
+count_from p [] first last up within h = omega (arith, within)
+count_from p (x ∷ xs) first zero up within h = omega arith
+count_from p (x ∷ xs) zero (suc last) up within h =
+    let rest = count_from p xs 0 last (omega arith) (omega (arith, within)) (λ k d a b. h (suc k) d (omega arith) (omega (arith, b))) in
+    let here : p x ≡ true = h 0 x (omega arith) (omega arith) in
+    subst (λ b. suc last - 0 ≤ length (cond b (x ∷ filter p xs) (filter p xs))) (sym here) (omega (arith, rest))
+count_from p (x ∷ xs) (suc first) (suc last) up within h =
+    let rest = count_from p xs first last (omega (arith, up)) (omega (arith, within)) (λ k d a b. h (suc k) d (omega (arith, a)) (omega (arith, b))) in
+    elim (p x) as (λ b. suc last - suc first ≤ length (cond b (x ∷ filter p xs) (filter p xs))) [
+      | true ↦ omega (arith, rest)
+      | false ↦ omega (arith, rest)
+    ]
+
+in_turn : (first k last : ℕ) → first ≤ k → k < last → (nat_le first k && nat_lt k last) ≡ true
+in_turn first k last a b = grind (arith, nat_tests)
+
+pub met_count : (heads : List BlockHead) (lo hi first last : ℕ) → AreMet heads lo hi first last → last - first ≤ length (filter (is_met lo hi) heads)
+met_count heads lo hi first last met =
+    count_from (is_met lo hi) heads first last met.ordered met.within (λ k d a b. (let w = met.within in met.met k d (omega (arith, b, w))) ∙ in_turn first k last a b)

@@ -1,0 +1,205 @@
+-- One part more: the hits of an entry, and the entry behind a part.
+--
+--   base_in, hits_in       a base in range is one for scores, and so are the hits of an entry in range
+--   hits_told              the hits of posts are those of the rows that they stand for
+--   listed_told            the hits of a base, as a list
+--   step_told              the entry behind a part is that of its rows
+--   step_within            and it is in range
+--   docs_told, docs_sorted     the documents of a base
+use Rattle.std.proofs.Common.{◌≡◌, ℕ, suc, ◌+◌, ◌-◌, ◌*◌, ◌<◌, ◌≤◌, ◌^◌, ◌==◌, Bool, true, false, true≢false, not, max, List, [], ◌∷◌, ◌++◌, length, map, get_or, refl, sym, ap, subst, ◌∙◌, arith, if◌then◌else◌}
+use Rattle.std.specs.Prelude.{All, filter, find}
+use Rattle.std.specs.Option.{option_map, unwrap_or}
+use Rattle.std.specs.List.{AllByRecursion, list_any, range_with_len}
+use Rattle.std.specs.List.Sorted.{IsStrictlySortedBy}
+use Rattle.std.specs.Ordering.{nat_cmp}
+use Rattle.std.specs.Cmp.{nat_cmp_total}
+use Rattle.std.specs.FinMap.{nat_cmp-IsAntisymmetric, keys}
+use Rattle.std.proofs.lemmas.List.Elements.{All-nil, All-filter, All-map, All-weaker, All-from_recursion, recursion_from_All, filter_passes}
+use Rattle.std.proofs.lemmas.List.Kept.{IsStrictlySortedBy-filter}
+use Rattle.cs_base.specs.content.Members.{members_in}
+use Rattle.cs_base.specs.content.Orders.{AreSorted, AreDocs, AreByDoc, by_doc, docs_of}
+use Rattle.cs_base.specs.declared.content.doc.Base.{Base}
+use Rattle.cs_base.specs.declared.content.doc.Base.TheVariants as base
+use Rattle.cs_base.specs.declared.content.doc.Post.{Post}
+use Rattle.cs_base.specs.declared.content.doc.Row.{Row}
+use Rattle.cs_base.specs.declared.content.doc.Scored.{Scored}
+use Rattle.cs_base.proofs.MembersLemmas.{all_then, listing-rises}
+use Rattle.cs_docs.proofs.TextLemmas.{All-members}
+use Rattle.cs_file.specs.Indexes.{IndexView}
+use Rattle.cs_meet.specs.Filters.{keep_docs, drop_docs, is_of}
+use Rattle.cs_meet.specs.Filters as meet
+use Rattle.cs_model.specs.Answers.{PartRows, hits, in_doc, greatest_score}
+use Rattle.cs_model.specs.Answers as answers
+use Rattle.cs_model_kept.specs.Entries.{Entry, EntryOf, entry_at, entry_after, hits_of, is_begun, is_hit, over, without}
+use Rattle.cs_model_kept.specs.Entries as kept
+use Rattle.cs_rank.specs.DocScores.{IsBase, best_row, greatest, of_doc, scores, with_base}
+use Rattle.cs_rank.specs.DocScores as rank
+use Rattle.cs_engine.specs.Reading.{AreWithin, IsWithin, HasRows}
+use Rattle.cs_engine.specs.Steps.{docs_after, posts_hits, posts_after, unscored, IsHitOf, IsBaseOf, EntryFits, IsStep, is_in_base, most}
+use Rattle.cs_engine.specs.Stocked.{row_of, rows_at, corpus_in, every, listed, docs_in}
+use Rattle.cs_engine.specs.declared.stock.Stock.{Stock}
+use Rattle.cs_engine.proofs.FoundLemmas.{docs_rise, every_rises, scored_rise, found_small, greatest_small}
+use Rattle.cs_engine.proofs.HitsLemmas.{ds_rise, greatest_of, hits_excluded, hits_positive, kept_docs, own_docs}
+use Rattle.cs_engine.proofs.ListsLemmas.{all_of, keys_numbered, map_alike, range_below}
+use Rattle.cs_engine.proofs.ReadingLemmas.{kept_within, none_within}
+use Rattle.cs_engine.proofs.VocabLemmas.{any_through, filter_alike, filter_through}
+
+-- ---- in range
+pub base_in : (docs bound : ℕ) (b : Base) → bound ≤ 2 ^ 20 → IsBaseOf docs bound b → IsBase b
+base_in docs bound base.All l h = tt
+base_in docs bound (base.Listed hs) l h = (h.0, λ k d m. let at = h.1 k d m in let s = at.score in omega (arith, s, l))
+
+pub base_weaker : (docs m n : ℕ) (b : Base) → m ≤ n → IsBaseOf docs m b → IsBaseOf docs n b
+base_weaker docs m n base.All l h = tt
+base_weaker docs m n (base.Listed hs) l h = (h.0, λ k d e. let at = h.1 k d e in record { doc = at.doc; score = (let s = at.score in omega (arith, s, l)) })
+
+every_in : (docs bound : ℕ) → All (IsHitOf docs bound) (every docs)
+every_in docs bound = All-map (IsHitOf docs bound) (λ (d : ℕ). let h : Scored = record { doc = d; score = 0 } in h) (range_with_len 0 docs) (λ k d l. record { doc = range_below docs k d l; score = omega arith })
+
+pub listed_in : (docs bound : ℕ) (b : Base) → IsBaseOf docs bound b → AreByDoc (listed docs b) × All (IsHitOf docs bound) (listed docs b)
+listed_in docs bound base.All h = (every_rises docs, every_in docs bound)
+listed_in docs bound (base.Listed hs) h = h
+
+pub docs_sorted : (docs bound : ℕ) (b : Base) → IsBaseOf docs bound b → AreDocs (docs_in docs b)
+docs_sorted docs bound b h = docs_rise (listed docs b) (listed_in docs bound b h).0
+
+base_small : (docs bound d : ℕ) (b : Base) → IsBaseOf docs bound b → rank.base_score b d ≤ bound
+base_small docs bound d base.All h = omega arith
+base_small docs bound d (base.Listed hs) h = found_small bound d hs (recursion_from_All (λ h. h.score ≤ bound) hs (All-weaker (IsHitOf docs bound) (λ h. h.score ≤ bound) (λ x at. at.score) hs h.1))
+
+below : (i : IndexView) (posts : List Post) → AreWithin i posts → All (λ d. d < i.docs) (docs_of posts)
+below i posts w = All-members nat_cmp nat_cmp_total nat_cmp-IsAntisymmetric (λ d. d < i.docs) (map (λ p. p.doc) posts) (All-map (λ d. d < i.docs) (λ p. p.doc) posts (All-weaker (IsWithin i.docs (length i.words)) (λ p. p.doc < i.docs) (λ p h. h.doc) posts w.within))
+
+best_small : (i : IndexView) (posts : List Post) → AreWithin i posts → (d : ℕ) → greatest (map (λ p. p.score) (of_doc d posts)) ≤ 255
+best_small i posts w d =
+    greatest_small (of_doc d posts) (recursion_from_All (λ p. p.score ≤ 255) (of_doc d posts) (All-filter (λ p. p.doc == d) (λ p. p.score ≤ 255) posts (All-weaker (IsWithin i.docs (length i.words)) (λ p. p.score ≤ 255) (λ p h. h.score) posts w.within)))
+
+pub most_small : (positive : Bool) (n : ℕ) → n ≤ 16 → most positive n ≤ 2 ^ 20
+most_small true n l = omega (arith, l)
+most_small false n l = omega (arith, l)
+
+pub nothing_fits : (i : IndexView) (e : EntryOf Post) → e ≡ record { base = base.All; rows = [] } → EntryFits i false 0 e
+nothing_fits i e is = subst (EntryFits i false 0) (sym is) (record { parts = λ f. absurd (true≢false (sym f)); rows = none_within i; base = tt; in_base = All-nil _ })
+
+-- the hits of an entry in range
+pub hits_in : (i : IndexView) (positive : Bool) (n : ℕ) (e : EntryOf Post) → EntryFits i positive n e → IsBaseOf i.docs (255 * n) (posts_hits positive e.base e.rows)
+hits_in i false n e fits = fits.base
+hits_in i true n e fits =
+    let some = fits.parts refl in
+    (scored_rise (λ d. with_base e.base (best_row e.rows d)) (λ d. refl) (docs_of e.rows) (listing-rises nat_cmp (map (λ p. p.doc) e.rows)),
+      All-map (IsHitOf i.docs (255 * n)) (λ d. with_base e.base (best_row e.rows d)) (docs_of e.rows) (λ k d l.
+      let doc = below i e.rows fits.rows k d l in
+      let at = get_or (docs_of e.rows) k d in
+      let low = base_small i.docs (255 * (n - 1)) at e.base fits.base in
+      let best = best_small i e.rows fits.rows at in
+      record { doc = doc; score = omega (arith, low, best, some) }))
+
+-- ---- hits by posts and by rows
+rows_docs : (ws : List (List ℕ)) (ps : List Post) → map (λ r. r.doc) (rows_at ws ps) ≡ map (λ p. p.doc) ps
+rows_docs ws [] = refl
+rows_docs ws (p ∷ ps) = ap (λ l. p.doc ∷ l) (rows_docs ws ps)
+
+over_told : (ws : List (List ℕ)) (b : Base) (posts : List Post) → scores b posts ≡ over b (rows_at ws posts)
+over_told ws base.All posts =
+    ap (map (λ d. with_base base.All (best_row posts d))) (ap (members_in nat_cmp) (sym (rows_docs ws posts)))
+    ∙ map_alike _ _ (answers.docs_of (rows_at ws posts)) (all_of _ (λ d. ap (λ (n : ℕ). let h : Scored = record { doc = d; score = 0 + n } in h) (greatest_of ws (of_doc d posts) ∙ ap greatest_score (filter_through (row_of ws) (in_doc d) posts))) (answers.docs_of (rows_at ws posts)))
+over_told ws (base.Listed hs) posts =
+    ap (map (λ d. with_base (base.Listed hs) (best_row posts d))) (ap (members_in nat_cmp) (sym (rows_docs ws posts)))
+    ∙ map_alike _ _ (answers.docs_of (rows_at ws posts)) (all_of _ (λ d. ap (λ (n : ℕ). let h : Scored = record { doc = d; score = kept.base_score (base.Listed hs) d + n } in h) (greatest_of ws (of_doc d posts) ∙ ap greatest_score (filter_through (row_of ws) (in_doc d) posts))) (answers.docs_of (rows_at ws posts)))
+
+pub hits_told : (ws : List (List ℕ)) (positive : Bool) (e : EntryOf Post) → posts_hits positive e.base e.rows ≡ hits_of positive (entry_at ws e)
+hits_told ws true e = ap base.Listed (over_told ws e.base e.rows)
+hits_told ws false e = refl
+
+pub listed_told : (s : Stock) (n : ℕ) (b : Base) → n ≡ length s.titles → listed n b ≡ kept.listed (corpus_in s) b
+listed_told s n base.All is = ap every is ∙ ap (map (λ (d : ℕ). let h : Scored = record { doc = d; score = 0 } in h)) (sym (keys_numbered s.titles))
+listed_told s n (base.Listed hs) is = refl
+
+-- ---- the entry behind a part
+module _ (s : Stock) (n : ℕ) (b : Base) (p : PartRows) (posts : List Post) (same : n ≡ length s.titles) (is : rows_at s.words posts ≡ p.rows) where
+  abbrev hs : List Scored
+  hs = kept.listed (corpus_in s) b
+
+  dropped : drop_docs (listed n b) posts ≡ without p.rows hs
+  dropped =
+      ap (λ l. drop_docs l posts) (listed_told s n b same)
+      ∙ filter_alike (λ h. not (list_any (is_of h) posts)) (λ h. not (list_any (in_doc h.doc) p.rows)) hs (all_of _ (λ h. ap not (sym (any_through (row_of s.words) (in_doc h.doc) posts) ∙ ap (list_any (in_doc h.doc)) is)) hs)
+
+  kept_told : rows_at s.words (keep_docs posts (docs_in n b)) ≡ filter (is_hit hs) p.rows
+  kept_told =
+      ap (λ l. rows_at s.words (keep_docs posts (map (λ h. h.doc) l))) (listed_told s n b same)
+      ∙ ap (rows_at s.words) (filter_alike (λ r. list_any (meet.in_doc r) (map (λ h. h.doc) hs)) (λ r. is_hit hs (row_of s.words r)) posts (all_of _ (λ r. any_through (λ (h : Scored). h.doc) (meet.in_doc r) hs) posts))
+      ∙ filter_through (row_of s.words) (is_hit hs) posts ∙ ap (filter (is_hit hs)) is
+
+  pub step_told : (excluded : Bool) → p.excluded ≡ excluded → IsStep s b p (posts_after n b excluded posts)
+  step_told true e =
+      ap (λ (l : List Scored). let x : Entry = record { base = base.Listed l; rows = [] } in x) dropped
+      ∙ ap (λ x. if x then record { base = base.Listed (without p.rows hs); rows = [] } else record { base = if is_begun b then base.Listed hs else base.All; rows = filter (is_hit hs) p.rows }) (sym e)
+  step_told false e =
+      ap (λ (l : List Row). let x : Entry = record { base = b; rows = l } in x) kept_told
+      ∙ ap (λ (x : Base). let y : Entry = record { base = x; rows = filter (is_hit hs) p.rows } in y) (own b)
+      ∙ ap (λ x. if x then record { base = base.Listed (without p.rows hs); rows = [] } else record { base = if is_begun b then base.Listed hs else base.All; rows = filter (is_hit hs) p.rows }) (sym e)
+    where
+      own : (b : Base) → b ≡ (if is_begun b then base.Listed (kept.listed (corpus_in s) b) else base.All)
+      own base.All = refl
+      own (base.Listed l) = refl
+
+in_hits : (docs bound : ℕ) (b : Base) (posts : List Post) → All (λ p. p.doc < docs) posts → All (λ p. is_in_base b p ≡ true) (keep_docs posts (docs_in docs b))
+in_hits docs bound base.All posts h = λ k d l. refl
+in_hits docs bound (base.Listed hs) posts h = λ k d l. sym (any_through (λ (h : Scored). h.doc) (meet.in_doc (get_or (keep_docs posts (docs_in docs (base.Listed hs))) k d)) hs) ∙ filter_passes (λ r. list_any (meet.in_doc r) (map (λ h. h.doc) hs)) posts k d l
+
+pub step_within : (i : IndexView) (b : Base) (excluded : Bool) (posts : List Post) → AreWithin i posts → (n : ℕ) → IsBaseOf i.docs (255 * n) b → EntryFits i (not excluded) (n + 1) (posts_after i.docs b excluded posts)
+step_within i b true posts w n fits =
+    let all = listed_in i.docs (255 * n) b fits in
+    let keeps : Scored → Bool = λ h. not (list_any (is_of h) posts) in
+    record {
+      parts = λ e. omega arith;
+      rows = none_within i;
+      base = base_weaker i.docs (255 * n) (255 * (n + 1)) (base.Listed (drop_docs (listed i.docs b) posts)) (omega arith) (IsStrictlySortedBy-filter by_doc keeps (listed i.docs b) all.0, All-filter keeps (IsHitOf i.docs (255 * n)) (listed i.docs b) all.1);
+      in_base = All-nil _;
+    }
+step_within i b false posts w n fits =
+    record {
+      parts = λ e. omega arith;
+      rows = kept_within i (λ r. list_any (meet.in_doc r) (docs_in i.docs b)) posts w;
+      base = (let e : n ≡ n + 1 - 1 = omega arith in subst (λ m. IsBaseOf i.docs (255 * m) b) e fits);
+      in_base = in_hits i.docs (255 * n) b posts (All-weaker (IsWithin i.docs (length i.words)) (λ p. p.doc < i.docs) (λ p h. h.doc) posts w.within);
+    }
+
+pub known_docs : (i : IndexView) (posts : List Post) → AreWithin i posts → All (λ p. p.doc < i.docs) posts
+known_docs i posts w = All-weaker (IsWithin i.docs (length i.words)) (λ p. p.doc < i.docs) (λ p h. h.doc) posts w.within
+
+-- ---- hits without their scores
+module _ (s : Stock) (done : List PartRows) (p : PartRows) (posts : List Post) (is : rows_at s.words posts ≡ p.rows) (n : ℕ) (b : Base) (lists : docs_in n b ≡ hits (corpus_in s) done) where
+  dropped_docs : map (λ h. h.doc) (drop_docs (listed n b) posts) ≡ filter (λ d. not (list_any (in_doc d) (rows_at s.words posts))) (docs_in n b)
+  dropped_docs =
+      ap (map (λ (h : Scored). h.doc)) (filter_alike (λ h. not (list_any (is_of h) posts)) (λ h. not (list_any (in_doc h.doc) (rows_at s.words posts))) (listed n b) (all_of _ (λ h. ap not (sym (any_through (row_of s.words) (in_doc h.doc) posts))) (listed n b)))
+      ∙ filter_through (λ (h : Scored). h.doc) (λ d. not (list_any (in_doc d) (rows_at s.words posts))) (listed n b)
+
+  pub docs_more : (excluded : Bool) → p.excluded ≡ excluded → docs_after n b excluded posts ≡ hits (corpus_in s) (done ++ p ∷ [])
+  docs_more true e = dropped_docs ∙ ap (filter (λ d. not (list_any (in_doc d) (rows_at s.words posts)))) lists ∙ sym (hits_excluded s done p posts is e)
+  docs_more false e =
+      ap (λ ds. docs_of (keep_docs posts ds)) lists
+      ∙ kept_docs s.words posts (hits (corpus_in s) done) (ds_rise s done)
+      ∙ sym (hits_positive s done p posts is e)
+
+-- ---- bases without scores
+pub unscored_base : (ds : List ℕ) → AreDocs ds → IsBase (base.Listed (map unscored ds))
+unscored_base ds up = (scored_rise unscored (λ d. refl) ds up, All-map (λ h. h.score ≤ 2 ^ 20) unscored ds (λ k d l. omega arith))
+
+pub left_base : (n : ℕ) (b : Base) (posts : List Post) → IsBase b → IsBase (base.Listed (drop_docs (listed n b) posts))
+left_base n b posts h =
+    let keeps : Scored → Bool = λ h. not (list_any (is_of h) posts) in
+    let all = all_listed b h in
+    (IsStrictlySortedBy-filter by_doc keeps (listed n b) all.0, All-filter keeps (λ h. h.score ≤ 2 ^ 20) (listed n b) all.1)
+  where
+    all_listed : (b : Base) → IsBase b → AreByDoc (listed n b) × All (λ h. h.score ≤ 2 ^ 20) (listed n b)
+    all_listed base.All h = (every_rises n, All-map (λ h. h.score ≤ 2 ^ 20) unscored (range_with_len 0 n) (λ k d l. omega arith))
+    all_listed (base.Listed hs) h = h
+
+pub unscored_docs : (ds : List ℕ) → map (λ h. h.doc) (map unscored ds) ≡ ds
+unscored_docs ds = own_docs unscored (λ d. refl) ds
+
+pub base_sorted : (n : ℕ) (b : Base) → IsBase b → AreDocs (docs_in n b)
+base_sorted n base.All h = docs_rise (every n) (every_rises n)
+base_sorted n (base.Listed hs) h = docs_rise hs h.0

@@ -1,0 +1,72 @@
+-- What is read of an index: what always holds of it, and what it is where the store tells the index's own bytes.
+--
+-- Source: this engine's own.
+--
+--   by_post                     posts: document, position, number of the word, score, each ascending
+--   stock_of b                  the titles, words and posts that are read of the bytes of an index file
+--   WhereStood told i P         P holds of the bytes that a store tells, where the index i is what is kept of them
+--   IsWithin docs words p       the numbers of a post are in range
+--   AreWithin i posts           posts in order, in the range of an index
+--   HasRows s rows posts        posts of the stock that stand for these rows
+--   run_of blocks first last lo hi    the posts with a word from lo up to hi in the blocks from number first up to last, one block
+--                               behind the other
+--   HasRun s blocks first last lo hi posts    posts of the stock are those of such a run, in any order
+--   IsSpanOf ws test lo hi      the words that pass a test are those from lo up to hi, both within the vocabulary
+use Rattle.std.specs.Prelude.{◌≡◌, ℕ, ◌-◌, ◌≤◌, ◌<◌, Bool, List, length, take, drop, filter, flat_map, Option}
+use Rattle.std.specs.List.{All, Contains, list_any}
+use Rattle.std.specs.Option.{ForSome}
+use Rattle.std.specs.Ordering.{nat_cmp, then_cmp, on}
+use Rattle.std.specs.declared.cmp.Ordering.{Ordering}
+use Rattle.cs_base.specs.content.Members.{members_in}
+use Rattle.cs_base.specs.content.Orders.{AreSorted, by_place}
+use Rattle.cs_base.specs.declared.content.doc.Post.{Post}
+use Rattle.cs_base.specs.declared.content.doc.Row.{Row}
+use Rattle.cs_file.specs.Indexes.{IndexView, StandsFor}
+use Rattle.cs_model_index.specs.Images.{image_posts}
+use Rattle.cs_model_index.specs.Sections.{image_of}
+use Rattle.cs_engine.specs.Stocked.{rows_at, is_between, IsPicked, IsSpan}
+use Rattle.cs_engine.specs.declared.stock.Stock.{Stock}
+
+-- the score comes last, which the other three determine in an index
+abbrev pub by_post : Post → Post → Ordering
+by_post = then_cmp by_place (on (λ p. p.score) nat_cmp)
+
+-- the posts of all blocks in one order; it counts only where the bytes are an index file
+abbrev pub stock_of : List ℕ → Stock
+stock_of b = record { titles = (image_of b).titles; words = (image_of b).words; posts = record { posts = members_in by_post (image_posts (image_of b)); room = 0 } }
+
+-- nothing is said of a store that tells nothing, and of one that tells other bytes
+abbrev pub WhereStood : Option (List ℕ) → IndexView → (List ℕ → Type 0) → Type 0
+WhereStood told i P = ForSome told (λ b. StandsFor b i → P b)
+
+-- below so many documents and words, and with a score of one byte
+pub record IsWithin (docs words : ℕ) (p : Post) : Type 0 where
+  pub doc : p.doc < docs
+  pub word : p.word < words
+  pub score : p.score ≤ 255
+
+-- whatever the store tells; so are no posts
+pub record AreWithin (i : IndexView) (posts : List Post) : Type 0 where
+  pub sorted : AreSorted posts
+  pub within : All (IsWithin i.docs (length i.words)) posts
+
+-- each post is one of the stock's; no posts stand for no rows
+pub record HasRows (s : Stock) (rows : List Row) (posts : List Post) : Type 0 where
+  pub is : rows_at s.words posts ≡ rows
+  pub picked : IsPicked s posts
+
+-- ---- runs of blocks
+-- none where first is last
+abbrev pub run_of : List (List Post) → ℕ → ℕ → ℕ → ℕ → List Post
+run_of blocks first last lo hi = flat_map (filter (is_between lo hi)) (take (last - first) (drop first blocks))
+
+-- the same tests pass on both, so they are the same but for their order
+pub record HasRun (s : Stock) (blocks : List (List Post)) (first last lo hi : ℕ) (posts : List Post) : Type 0 where
+  pub among : All (Contains s.posts.posts) posts
+  pub alike : (t : Post → Bool) → list_any t posts ≡ list_any t (run_of blocks first last lo hi)
+
+-- where no word passes, lo is hi or more
+pub record IsSpanOf (ws : List (List ℕ)) (test : List ℕ → Bool) (lo hi : ℕ) : Type 0 where
+  pub ordered : lo ≤ hi
+  pub within : hi ≤ length ws
+  pub holds : IsSpan ws test lo hi

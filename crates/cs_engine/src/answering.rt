@@ -1,0 +1,150 @@
+//! Replies, from the hits of a query and its rows in them.
+ghost use Rattle.std.specs.Prelude.{◌≡◌, ◌+◌, ◌*◌, ◌<◌, [], false, length, map, IfOk};
+ghost use Rattle.std.specs.List.{All};
+ghost use Rattle.cs_base.specs.outside.Causes.{ReadsWithin};
+ghost use Rattle.cs_base.specs.declared.content.limits.TheConstants.{MAX_PARTS};
+ghost use Rattle.cs_file.specs.Indexes.{IsIndex, Fits, CausedReads};
+ghost use Rattle.cs_model.specs.Collection.{named};
+ghost use Rattle.cs_model.specs.Requests.{hit_shown, reply_of};
+ghost use Rattle.cs_model_kept.specs.Due.{met_of_facets, met_prefix};
+ghost use Rattle.cs_query.specs.RequestView.{asked};
+ghost use Rattle.cs_engine.specs.Asking.{division, is_read, is_changed, titles_read};
+ghost use Rattle.cs_engine.specs.Reading.{AreWithin, WhereStood, stock_of};
+ghost use Rattle.cs_engine.specs.Steps.{AreFound, IsBaseOf};
+ghost use Rattle.cs_engine.specs.Stocked.{corpus_in, facet_at};
+
+use crate::fault::AskFault;
+use crate::hits::{kept_in, listed};
+use crate::replies::shown_words;
+use crate::words::rows_of_facet;
+use cs_base::{Base, Scored, Seq, Store, Text};
+use cs_cols::Cols;
+use cs_file::Index;
+use cs_query::{FacetShown, HitShown, Reply, Request};
+use cs_rank::top;
+use cs_tables::completions;
+use std::alloc::Global;
+
+/// The reply to a request, by the hits of its query and the rows of the last part in them.
+pub(crate) fn reply_of<S: Store>(
+    alloc: Global,
+    index: &Index,
+    store: &mut S,
+    request: &Request,
+    hits: Base,
+    pairs: &Cols,
+) -> Result<Reply, AskFault>
+    requires base { IsBaseOf index.now.docs (255 * MAX_PARTS) hits }
+    requires pairs { AreWithin index.now pairs.now.posts }
+    requires index { IsIndex index.now }
+    requires fits { Fits (S.bytes store.old) index.now }
+
+    ensures told { WhereStood (S.bytes store.old) index.now (λ b. AreFound (stock_of b) request.now.query hits pairs.now.posts → IfOk result (λ r. r ≡ reply_of (corpus_in (stock_of b)) (asked request.now))) }
+    ensures unchanged { WhereStood (S.bytes store.old) index.now (λ b. is_changed result ≡ false) }
+    ensures bytes { S.bytes store.new ≡ S.bytes store.old }
+    ensures lent { S.lent store.new ≡ S.lent store.old }
+    ensures reads { ReadsWithin (titles_read (asked request.now) result + met_of_facets (division index.now) (asked request.now).facets) (S.reads store.old) (S.reads store.new) }
+    ensures caused { CausedReads (is_read result) (S.faults store.old) (S.faults store.new) }
+{
+    let table = completions(alloc, pairs, request.completions)?;
+    let shown = shown_words(alloc, &index.words, table.first.as_slice())?;
+    let facets = shown_facets(alloc, index, store, &hits, request)?;
+    let all = listed(alloc, index.docs, hits)?;
+    let first = top(alloc, all.as_slice(), request.offset, request.hits)?;
+    let shown_first = shown_hits(alloc, index, store, first.as_slice())?;
+    Ok(Reply {
+        completions: shown,
+        facets,
+        hits: shown_first,
+        total_completions: table.total,
+        total_hits: all.len() as u32,
+    })
+}
+
+// The table of each facet asked.
+fn shown_facets<S: Store>(
+    alloc: Global,
+    index: &Index,
+    store: &mut S,
+    base: &Base,
+    request: &Request,
+) -> Result<Seq<FacetShown>, AskFault>
+    requires base { IsBaseOf index.now.docs (255 * MAX_PARTS) base.now }
+    requires index { IsIndex index.now }
+    requires fits { Fits (S.bytes store.old) index.now }
+
+    ensures told { WhereStood (S.bytes store.old) index.now (λ b. IfOk result (λ shown. shown ≡ map (facet_at (stock_of b) base.now request.now.completions) (asked request.now).facets)) }
+    ensures unchanged { WhereStood (S.bytes store.old) index.now (λ b. is_changed result ≡ false) }
+    ensures bytes { S.bytes store.new ≡ S.bytes store.old }
+    ensures lent { S.lent store.new ≡ S.lent store.old }
+    ensures reads { ReadsWithin (met_of_facets (division index.now) (asked request.now).facets) (S.reads store.old) (S.reads store.new) }
+    ensures caused { CausedReads (is_read result) (S.faults store.old) (S.faults store.new) }
+{
+    let mut shown = Seq::new(alloc);
+    for name in request.facets.as_slice() {
+        let facet = shown_facet(alloc, index, store, base, name, request.completions)?;
+        shown.push(facet)?;
+    }
+    Ok(shown)
+}
+
+fn shown_facet<S: Store>(
+    alloc: Global,
+    index: &Index,
+    store: &mut S,
+    base: &Base,
+    name: &Text,
+    cut: u32,
+) -> Result<FacetShown, AskFault>
+    requires base { IsBaseOf index.now.docs (255 * MAX_PARTS) base.now }
+    requires index { IsIndex index.now }
+    requires fits { Fits (S.bytes store.old) index.now }
+
+    ensures told { WhereStood (S.bytes store.old) index.now (λ b. IfOk result (λ shown. shown ≡ facet_at (stock_of b) base.now cut name.now)) }
+    ensures unchanged { WhereStood (S.bytes store.old) index.now (λ b. is_changed result ≡ false) }
+    ensures bytes { S.bytes store.new ≡ S.bytes store.old }
+    ensures lent { S.lent store.new ≡ S.lent store.old }
+    ensures reads { ReadsWithin (met_prefix (division index.now) (named name.now [])) (S.reads store.old) (S.reads store.new) }
+    ensures caused { CausedReads (is_read result) (S.faults store.old) (S.faults store.new) }
+{
+    let rows = rows_of_facet(alloc, index, store, name)?;
+    let pairs = kept_in(alloc, index.docs, base, rows)?;
+    let table = completions(alloc, &pairs, cut)?;
+    let copied = name.copy(alloc)?;
+    let words = shown_words(alloc, &index.words, table.first.as_slice())?;
+    Ok(FacetShown {
+        name: copied,
+        table: words,
+    })
+}
+
+// Hits with their titles, each of which is read once.
+fn shown_hits<S: Store>(
+    alloc: Global,
+    index: &Index,
+    store: &mut S,
+    hits: &[Scored],
+) -> Result<Seq<HitShown>, AskFault>
+    requires known { All (λ h. h.doc < index.now.docs) hits.now }
+    requires index { IsIndex index.now }
+    requires fits { Fits (S.bytes store.old) index.now }
+
+    ensures told { WhereStood (S.bytes store.old) index.now (λ b. IfOk result (λ shown. shown ≡ map (hit_shown (corpus_in (stock_of b))) hits.now)) }
+    ensures count { IfOk result (λ shown. length shown ≡ length hits.now) }
+    ensures unchanged { WhereStood (S.bytes store.old) index.now (λ b. is_changed result ≡ false) }
+    ensures bytes { S.bytes store.new ≡ S.bytes store.old }
+    ensures lent { S.lent store.new ≡ S.lent store.old }
+    ensures reads { ReadsWithin (length hits.now) (S.reads store.old) (S.reads store.new) }
+    ensures caused { CausedReads (is_read result) (S.faults store.old) (S.faults store.new) }
+{
+    let mut shown = Seq::new(alloc);
+    for hit in hits {
+        let title = index.title(alloc, store, hit.doc)?;
+        shown.push(HitShown {
+            doc: hit.doc,
+            score: hit.score,
+            title,
+        })?;
+    }
+    Ok(shown)
+}

@@ -1,0 +1,143 @@
+//! Entries: the hits from which a query's last part goes on, and the rows of that part in them.
+ghost use Rattle.std.specs.Prelude.{◌≡◌, ◌<◌, [], map, IfOk};
+ghost use Rattle.std.specs.List.{All};
+ghost use Rattle.cs_base.specs.content.Orders.{AreSorted};
+ghost use Rattle.cs_base.specs.declared.content.doc.Base.TheVariants as base;
+ghost use Rattle.cs_rank.specs.DocScores.{IsBase};
+ghost use Rattle.cs_engine.specs.Steps.{posts_hits, posts_after, docs_after, unscored};
+ghost use Rattle.cs_engine.specs.Stocked.{docs_in};
+
+use crate::hits::{all_docs, kept_in, numbers_of, without};
+use cs_base::{Base, Memory, Scored, Seq};
+use cs_cache::Entry;
+use cs_cols::Cols;
+use cs_meet::docs_of;
+use cs_rank::score;
+use std::alloc::Global;
+
+/// The entry before the first part.
+pub(crate) fn nothing_kept(alloc: Global) -> Entry
+    ensures { result ≡ record { base = base.All; rows = [] } }
+{
+    Entry {
+        base: Base::All,
+        rows: Cols::new(alloc),
+    }
+}
+
+/// The hits of a query by its entry: its rows over its base where the last part is positive, and else the base.
+pub(crate) fn hits_of(
+    alloc: Global,
+    positive: bool,
+    base: &Base,
+    rows: &Cols,
+) -> Result<Base, Memory>
+    requires base { IsBase base.now }
+    requires sorted { AreSorted rows.now.posts }
+
+    ensures { IfOk result (λ b. b ≡ posts_hits positive base.now rows.now.posts) }
+{
+    if !positive {
+        let copied = copy_of(alloc, base)?;
+        return Ok(copied);
+    }
+    let scored = score(alloc, base, rows)?;
+    Ok(Base::Listed(scored))
+}
+
+// The same base once more.
+fn copy_of(alloc: Global, base: &Base) -> Result<Base, Memory>
+    ensures { IfOk result (λ b. b ≡ base.now) }
+{
+    match base {
+        Base::All => Ok(Base::All),
+        Base::Listed(hits) => {
+            let copied = Vec::from_slice(alloc, hits.as_slice())?;
+            Ok(Base::Listed(Seq::from_vec(copied)))
+        }
+    }
+}
+
+/// The entry of a query and one part more, by the query's hits and the part's rows.
+pub(crate) fn entry_after(
+    alloc: Global,
+    docs: u32,
+    hits: Base,
+    excluded: bool,
+    rows: Cols,
+) -> Result<Entry, Memory>
+    requires base { IsBase hits }
+    requires rows_sorted { AreSorted rows.posts }
+    requires known { All (λ p. p.doc < docs) rows.posts }
+
+    ensures { IfOk result (λ e. e ≡ posts_after docs hits excluded rows.posts) }
+{
+    if excluded {
+        let left = without(alloc, docs, &hits, &rows)?;
+        return Ok(Entry {
+            base: Base::Listed(left),
+            rows: Cols::new(alloc),
+        });
+    }
+    let kept = kept_in(alloc, docs, &hits, rows)?;
+    Ok(Entry {
+        base: hits,
+        rows: kept,
+    })
+}
+
+/// The numbers of the documents that a base lists.
+pub(crate) fn docs_of_base(alloc: Global, docs: u32, base: &Base) -> Result<Vec<u32>, Memory>
+    ensures { IfOk result (λ v. v.items ≡ docs_in docs base.now) }
+{
+    match base {
+        Base::All => {
+            let all = all_docs(alloc, docs)?;
+            let numbers = numbers_of(alloc, &all)?;
+            Ok(numbers)
+        }
+        Base::Listed(hits) => {
+            let numbers = numbers_of(alloc, hits.as_slice())?;
+            Ok(numbers)
+        }
+    }
+}
+
+/// The hits that agree with one part more, whose rows these are, as a base. Their scores aren't counted.
+pub(crate) fn agreeing(
+    alloc: Global,
+    docs: u32,
+    hits: &Base,
+    excluded: bool,
+    rows: Cols,
+) -> Result<Base, Memory>
+    requires base { IsBase hits.now }
+    requires rows_sorted { AreSorted rows.posts }
+    requires known { All (λ p. p.doc < docs) rows.posts }
+
+    ensures docs { IfOk result (λ b. docs_in docs b ≡ docs_after docs hits.now excluded rows.posts) }
+    ensures base { IfOk result IsBase }
+{
+    if excluded {
+        let left = without(alloc, docs, hits, &rows)?;
+        return Ok(Base::Listed(left));
+    }
+    let kept = kept_in(alloc, docs, hits, rows)?;
+    let numbers = docs_of(alloc, &kept)?;
+    let listed = unscored(alloc, &numbers)?;
+    Ok(Base::Listed(listed))
+}
+
+// Each of the documents with the score 0.
+fn unscored(alloc: Global, numbers: &[u32]) -> Result<Seq<Scored>, Memory>
+    ensures { IfOk result (λ v. v ≡ map unscored numbers.now) }
+{
+    let mut listed = Vec::with_capacity(alloc, numbers.len())?;
+    for doc in numbers {
+        listed.push(Scored {
+            doc: *doc,
+            score: 0,
+        })?;
+    }
+    Ok(Seq::from_vec(listed))
+}

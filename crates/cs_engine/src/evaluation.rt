@@ -1,0 +1,139 @@
+//! The rows of a part, read from its atoms up.
+ghost use Rattle.std.specs.Prelude.{◌≡◌, false, IfOk};
+ghost use Rattle.cs_base.specs.content.Orders.{AreDocs};
+ghost use Rattle.cs_base.specs.outside.Causes.{ReadsWithin};
+ghost use Rattle.cs_file.specs.Indexes.{IsIndex, Fits, CausedReads};
+ghost use Rattle.cs_model.specs.Answers.{hits, parts_of, rows_of_atom, rows_of_chain, rows_of_part};
+ghost use Rattle.cs_model_kept.specs.Due.{met_of_atom, met_of_chain, met_of_part, met_of_query};
+ghost use Rattle.cs_engine.specs.Asking.{division, is_read, is_changed};
+ghost use Rattle.cs_engine.specs.Reading.{AreWithin, HasRows, WhereStood, stock_of};
+ghost use Rattle.cs_engine.specs.Stocked.{corpus_in};
+
+use crate::entries::{agreeing, docs_of_base};
+use crate::fault::AskFault;
+use crate::parts::{joined, linked_rows};
+use crate::words::{rows_of_facet, rows_of_prefix, rows_of_word};
+use cs_base::{Atom, Base, Chain, Part, Query, Store};
+use cs_cols::Cols;
+use cs_file::Index;
+use cs_join::shared;
+use std::alloc::Global;
+
+/// The rows of a part: those of some of its chains, each once.
+#[cycle(evaluation)]
+pub(crate) fn rows_of_part<S: Store>(
+    alloc: Global,
+    index: &Index,
+    store: &mut S,
+    part: &Part,
+) -> Result<Cols, AskFault>
+    requires index { IsIndex index.now }
+    requires fits { Fits (S.bytes store.old) index.now }
+
+    ensures told { WhereStood (S.bytes store.old) index.now (λ b. IfOk result (λ c. HasRows (stock_of b) (rows_of_part (corpus_in (stock_of b)) part.now).rows c.posts)) }
+    ensures within { IfOk result (λ c. AreWithin index.now c.posts) }
+    ensures unchanged { WhereStood (S.bytes store.old) index.now (λ b. is_changed result ≡ false) }
+    ensures bytes { S.bytes store.new ≡ S.bytes store.old }
+    ensures lent { S.lent store.new ≡ S.lent store.old }
+    ensures reads { ReadsWithin (met_of_part (division index.now) part.now) (S.reads store.old) (S.reads store.new) }
+    ensures caused { CausedReads (is_read result) (S.faults store.old) (S.faults store.new) }
+{
+    let mut found = Cols::new(alloc);
+    for chain in part.chains.as_slice() {
+        let next = rows_of_chain(alloc, index, store, chain)?;
+        found = joined(alloc, found, next)?;
+    }
+    Ok(found)
+}
+
+// Link by link from the left, the rows of each atom that are linked to a row kept so far.
+#[cycle(evaluation)]
+fn rows_of_chain<S: Store>(
+    alloc: Global,
+    index: &Index,
+    store: &mut S,
+    chain: &Chain,
+) -> Result<Cols, AskFault>
+    requires index { IsIndex index.now }
+    requires fits { Fits (S.bytes store.old) index.now }
+
+    ensures told { WhereStood (S.bytes store.old) index.now (λ b. IfOk result (λ c. HasRows (stock_of b) (rows_of_chain (corpus_in (stock_of b)) chain.now) c.posts)) }
+    ensures within { IfOk result (λ c. AreWithin index.now c.posts) }
+    ensures unchanged { WhereStood (S.bytes store.old) index.now (λ b. is_changed result ≡ false) }
+    ensures bytes { S.bytes store.new ≡ S.bytes store.old }
+    ensures lent { S.lent store.new ≡ S.lent store.old }
+    ensures reads { ReadsWithin (met_of_chain (division index.now) chain.now) (S.reads store.old) (S.reads store.new) }
+    ensures caused { CausedReads (is_read result) (S.faults store.old) (S.faults store.new) }
+{
+    let mut found = rows_of_atom(alloc, index, store, &chain.first)?;
+    for linked in chain.rest.as_slice() {
+        let next = rows_of_atom(alloc, index, store, &linked.atom)?;
+        found = linked_rows(alloc, linked.link, &found, &next)?;
+    }
+    Ok(found)
+}
+
+// The rows of an atom. Those of a join share their word with a row in a hit of the query in its bracket.
+#[cycle(evaluation)]
+fn rows_of_atom<S: Store>(
+    alloc: Global,
+    index: &Index,
+    store: &mut S,
+    atom: &Atom,
+) -> Result<Cols, AskFault>
+    requires index { IsIndex index.now }
+    requires fits { Fits (S.bytes store.old) index.now }
+
+    ensures told { WhereStood (S.bytes store.old) index.now (λ b. IfOk result (λ c. HasRows (stock_of b) (rows_of_atom (corpus_in (stock_of b)) atom.now) c.posts)) }
+    ensures within { IfOk result (λ c. AreWithin index.now c.posts) }
+    ensures unchanged { WhereStood (S.bytes store.old) index.now (λ b. is_changed result ≡ false) }
+    ensures bytes { S.bytes store.new ≡ S.bytes store.old }
+    ensures lent { S.lent store.new ≡ S.lent store.old }
+    ensures reads { ReadsWithin (met_of_atom (division index.now) atom.now) (S.reads store.old) (S.reads store.new) }
+    ensures caused { CausedReads (is_read result) (S.faults store.old) (S.faults store.new) }
+{
+    match atom {
+        Atom::Prefix(prefix) => {
+            let rows = rows_of_prefix(alloc, index, store, prefix.as_str().as_bytes())?;
+            Ok(rows)
+        }
+        Atom::Exact(word) => {
+            let rows = rows_of_word(alloc, index, store, word.as_str().as_bytes())?;
+            Ok(rows)
+        }
+        Atom::Join { name, inner } => {
+            let docs = docs_of_hits(alloc, index, store, inner)?;
+            let rows = rows_of_facet(alloc, index, store, name)?;
+            let kept = shared(alloc, &rows, docs.as_slice())?;
+            Ok(kept)
+        }
+    }
+}
+
+// The documents that are hits of a query.
+#[cycle(evaluation)]
+fn docs_of_hits<S: Store>(
+    alloc: Global,
+    index: &Index,
+    store: &mut S,
+    query: &Query,
+) -> Result<Vec<u32>, AskFault>
+    requires index { IsIndex index.now }
+    requires fits { Fits (S.bytes store.old) index.now }
+
+    ensures told { WhereStood (S.bytes store.old) index.now (λ b. IfOk result (λ v. v.items ≡ hits (corpus_in (stock_of b)) (parts_of (corpus_in (stock_of b)) query.now))) }
+    ensures sorted { IfOk result (λ v. AreDocs v.items) }
+    ensures unchanged { WhereStood (S.bytes store.old) index.now (λ b. is_changed result ≡ false) }
+    ensures bytes { S.bytes store.new ≡ S.bytes store.old }
+    ensures lent { S.lent store.new ≡ S.lent store.old }
+    ensures reads { ReadsWithin (met_of_query (division index.now) query.now) (S.reads store.old) (S.reads store.new) }
+    ensures caused { CausedReads (is_read result) (S.faults store.old) (S.faults store.new) }
+{
+    let mut hits = Base::All;
+    for part in query.parts.as_slice() {
+        let rows = rows_of_part(alloc, index, store, part)?;
+        hits = agreeing(alloc, index.docs, &hits, part.excluded, rows)?;
+    }
+    let docs = docs_of_base(alloc, index.docs, &hits)?;
+    Ok(docs)
+}

@@ -1,0 +1,4 @@
+pub mod HeadsLemmas
+pub mod PiecesLemmas
+pub mod PostsLemmas
+pub mod StoodLemmas

@@ -1,0 +1,22 @@
+//! The index file: images of collections, their bytes, and an index that is opened over a store.
+//!
+//! What an image, its file and the eighteen rules are stands in `cs_model_index`; in words it stands in
+//! `docs/INDEX_FILE.md`. An `Index` holds words, offsets and heads, and no posting: blocks and titles are read
+//! from the store when they are asked for.
+#![tactic(auto)]
+
+mod blocks;
+mod fault;
+mod fetching;
+mod image;
+mod index;
+mod opening;
+mod reading;
+mod writing;
+
+pub use cs_base::BlockHead;
+pub use fault::{FetchFault, OpenFault, WriteFault};
+pub use image::Image;
+pub use index::Index;
+pub use opening::open_index;
+pub use writing::write_index;

@@ -1,0 +1,75 @@
+//! Bytes of a store, read at once or in pieces.
+ghost use Rattle.std.specs.Prelude.{◌≡◌, ◌+◌, ◌<◌, ◌≤◌, ◌^◌, length, IfOk, OnOk};
+ghost use Rattle.std.specs.Option.{ForSome};
+ghost use Rattle.cs_base.specs.outside.Causes.{Counted, ReadsWithin};
+ghost use Rattle.cs_base.specs.outside.Outside.{part};
+
+use cs_base::{Failed, Memory, Store};
+use std::alloc::Global;
+
+// The most bytes of a piece.
+const PIECE: usize = 1 << 16;
+
+/// So many zeros, to be read over.
+pub(crate) fn zeros(alloc: Global, len: usize) -> Result<Vec<u8>, Memory>
+    ensures { IfOk result (λ v. length v.items ≡ len) }
+{
+    let zeros = vec![in alloc; 0; len]?;
+    Ok(zeros)
+}
+
+/// Fills a vector with the bytes from a place, by one read.
+pub(crate) fn read_at_once<S: Store>(
+    store: &mut S,
+    at: u64,
+    bytes: &mut Vec<u8>,
+) -> Result<(), Failed>
+    requires within { ForSome (S.bytes store.old) (λ b. at + length bytes.old.items ≤ length b) }
+
+    ensures ok { ForSome (S.bytes store.old) (λ b. OnOk result (bytes.new.items ≡ part b at (length bytes.old.items))) }
+    ensures long { length bytes.new.items ≡ length bytes.old.items }
+    ensures same { S.bytes store.new ≡ S.bytes store.old }
+    ensures lent { S.lent store.new ≡ S.lent store.old }
+    ensures reads { ReadsWithin 1 (S.reads store.old) (S.reads store.new) }
+    ensures counted { Counted (S.faults store.old) (S.faults store.new) result }
+{
+    let read = store.read_at(at, bytes);
+    read
+}
+
+/// Fills a vector with the bytes from a place, by reads of at most `PIECE` bytes each.
+pub(crate) fn read_in_pieces<S: Store>(
+    store: &mut S,
+    at: u64,
+    bytes: &mut Vec<u8>,
+) -> Result<(), Failed>
+    requires places { at + length bytes.old.items < 2 ^ 64 }
+    requires within { ForSome (S.bytes store.old) (λ b. at + length bytes.old.items ≤ length b) }
+
+    ensures ok { ForSome (S.bytes store.old) (λ b. OnOk result (bytes.new.items ≡ part b at (length bytes.old.items))) }
+    ensures long { length bytes.new.items ≡ length bytes.old.items }
+    ensures same { S.bytes store.new ≡ S.bytes store.old }
+    ensures lent { S.lent store.new ≡ S.lent store.old }
+    ensures counted { Counted (S.faults store.old) (S.faults store.new) result }
+{
+    fill(store, at, bytes)
+}
+
+// Fills a slice with the bytes from a place.
+pub(crate) fn fill<S: Store>(store: &mut S, at: u64, out: &mut [u8]) -> Result<(), Failed>
+    requires places { at + length out.old < 2 ^ 64 }
+    requires within { ForSome (S.bytes store.old) (λ b. at + length out.old ≤ length b) }
+
+    ensures ok { ForSome (S.bytes store.old) (λ b. OnOk result (out.new ≡ part b at (length out.old))) }
+    ensures same { S.bytes store.new ≡ S.bytes store.old }
+    ensures lent { S.lent store.new ≡ S.lent store.old }
+    ensures counted { Counted (S.faults store.old) (S.faults store.new) result }
+{
+    let mut done = 0;
+    while done < out.len() {
+        let end = done + (out.len() - done).min(PIECE);
+        store.read_at(at + done as u64, &mut out[done..end])?;
+        done = end;
+    }
+    Ok(())
+}

@@ -1,0 +1,113 @@
+-- What an event does to the slots and to the set of live connections.
+--
+--   gone_at                               who is in a set with one connection fewer
+--   acted_set, acted_as, acted_live       a slot that was set, and that the live connections are kept then
+--   heeds_acted, heeds_lighter            a piece
+--   greets_kept, greets_refused, greets_lighter   a connection that opened
+--   ended_acted, ended_lighter            one that ended
+--   shut_live                             one that is closed at the end of all
+use Rattle.std.proofs.Common.{◌≡◌, ℕ, ◌+◌, ◌<◌, ◌≤◌, ◌==◌, Bool, true, false, not, ◌&&◌, ◌++◌, cond, List, length, slice_set, refl, sym, ◌∙◌, ap, subst, arith}
+use Rattle.std.specs.Prelude.{Option, Some, None, is_some, replicate}
+use Rattle.std.specs.Cmp.{unsigned_tied}
+use Rattle.std.proofs.lemmas.Cmp.{nat_cmp_total}
+use Rattle.std.specs.FinSet as set
+use Rattle.std.proofs.lemmas.List.{set-set}
+use Rattle.cs_base.specs.declared.content.limits.TheConstants.{MAX_CONNECTION_BYTES}
+use Rattle.cs_base.specs.outside.Hub.{Listening, Conns, Talk}
+use Rattle.cs_model.specs.Corpus.{Corpus}
+use Rattle.cs_model_serving.specs.Connections.{Left}
+use Rattle.cs_hub.specs.Following.{Slots, left_at, HasLive}
+use Rattle.cs_hub.specs.Rounds.{weight, to_come, Acted, closed_unless}
+use Rattle.cs_hub.specs.Turns.{Received}
+use Rattle.cs_hub.proofs.SpeakLemmas.{itself, by_conn}
+use Rattle.cs_hub.proofs.SlotLemmas.{set_at, unset_at, none_there, padded_at, set_weight, padded_weight, held_within}
+
+in_gone : (s : Conns) (c d : ℕ) → set.contains (set.remove s c) d ≡ (not (d == c) && set.contains s d)
+in_gone s c d = set.contains-remove nat_cmp_total s c d ∙ ap (λ b. not b && set.contains s d) (unsigned_tied d c)
+
+gone_case : (a b : Bool) → (not a && b) ≡ cond a false b
+gone_case true b = refl
+gone_case false b = refl
+
+pub gone_at : (s : Conns) (c d : ℕ) → set.contains (set.remove s c) d ≡ cond (d == c) false (set.contains s d)
+gone_at s c d = in_gone s c d ∙ gone_case (d == c) (set.contains s d)
+
+-- a value that is there already
+there_at : (f : ℕ → Bool) (c d : ℕ) (b : Bool) → f c ≡ b → f d ≡ cond (d == c) b (f d)
+there_at f c d b h = by_conn (λ d. f d ≡ cond (d == c) b (f d)) c d (h ∙ sym (ap (λ x. cond x b (f c)) (itself c))) (λ other. sym (ap (λ x. cond x b (f d)) other))
+
+-- ---- one slot
+acted_set : (core : Slots) (c : ℕ) (x : Option Left) (s : Listening) → c < length core → set.contains s.live c ≡ true → Acted core (slice_set core c x) c x s (closed_unless (is_some x) c s)
+acted_set core c (Some l) s h live = record { sets = λ d. set_at core c d (Some l) h; live = λ d. there_at (set.contains s.live) c d true live; same = refl }
+acted_set core c None s h live = record { sets = λ d. set_at core c d None h; live = λ d. gone_at s.live c d; same = refl }
+
+acted_as : (core core' now : Slots) (c : ℕ) (x : Option Left) (s s' t : Listening) → now ≡ core' → t ≡ s' → Acted core core' c x s s' → Acted core now c x s t
+acted_as core core' now c x s s' t e f h = subst (λ k. Acted core k c x s t) (sym e) (subst (λ u. Acted core core' c x s u) (sym f) h)
+
+pub acted_live : (core core' : Slots) (c : ℕ) (x : Option Left) (s s' : Listening) → ((d : ℕ) → (d == c) ≡ false → is_some (left_at core d) ≡ set.contains s.live d) → Acted core core' c x s s' → HasLive core' s'
+acted_live core core' c x s s' h a = λ d. ap is_some (a.sets d) ∙ by_conn (λ d. is_some (cond (d == c) x (left_at core d)) ≡ cond (d == c) (is_some x) (set.contains s.live d)) c d
+    (ap (λ b. is_some (cond b x (left_at core c))) (itself c) ∙ sym (ap (λ b. cond b (is_some x) (set.contains s.live c)) (itself c)))
+    (λ other. ap (λ b. is_some (cond b x (left_at core d))) other ∙ h d other ∙ sym (ap (λ b. cond b (is_some x) (set.contains s.live d)) other)) ∙ sym (a.live d)
+
+-- ---- a piece
+pub heeds_acted : (core core1 core' : Slots) (c : ℕ) (kept : Option Left) (s s1 s' : Listening) → core1 ≡ slice_set core c None → core' ≡ slice_set core1 c kept → s1 ≡ s → s' ≡ closed_unless (is_some kept) c s1
+    → c < length core → set.contains s.live c ≡ true → Acted core core' c kept s s'
+heeds_acted core core1 core' c kept s s1 s' e f g i h live =
+    acted_as core (slice_set core c kept) core' c kept s (closed_unless (is_some kept) c s) s' (f ∙ ap (λ k. slice_set k c kept) e ∙ set-set core c None kept) (i ∙ ap (closed_unless (is_some kept) c) g) (acted_set core c kept s h live)
+
+pub heeds_lighter : (Over : Corpus → Type 0) (core core' : Slots) (c : ℕ) (old : Left) (piece : List ℕ) (kept : Option Left) (m n : ℕ) (talk talk' : Option Talk) → core' ≡ slice_set core c kept → left_at core c ≡ Some old → old.taken < MAX_CONNECTION_BYTES → 0 < length piece
+    → Received Over c old piece kept m n talk talk' → weight core' < weight core
+heeds_lighter Over core core' c old piece (Some l) m n talk talk' e was room some r =
+    let w = set_weight core c (Some l) (held_within core c (ap is_some was)) in
+    omega (arith, w, ap weight e, ap to_come was, room, some, r.1, r.2)
+heeds_lighter Over core core' c old piece None m n talk talk' e was room some r =
+    let w = set_weight core c None (held_within core c (ap is_some was)) in
+    omega (arith, w, ap weight e, ap to_come was, room)
+
+-- ---- a connection that opens
+pub greets_kept : (core mid core' : Slots) (c n : ℕ) (l : Left) (s : Listening) → mid ≡ core ++ replicate n None → core' ≡ slice_set mid c (Some l) → c < length mid → set.contains s.live c ≡ true → Acted core core' c (Some l) s s
+greets_kept core mid core' c n l s e f h live = record {
+  sets = λ d. ap (λ k. left_at k d) f ∙ set_at mid c d (Some l) h ∙ ap (cond (d == c) (Some l)) (ap (λ k. left_at k d) e ∙ padded_at core n d);
+  live = λ d. there_at (set.contains s.live) c d true live;
+  same = refl;
+}
+
+pub greets_refused : (core core' : Slots) (c n : ℕ) (s s' : Listening) → core' ≡ core ++ replicate n None → left_at core c ≡ None → s' ≡ record s { live = set.remove s.live c } → Acted core core' c None s s'
+greets_refused core core' c n s s' e none f = record {
+  sets = λ d. ap (λ k. left_at k d) e ∙ padded_at core n d ∙ none_there core c d none;
+  live = λ d. ap (λ (t : Listening). set.contains t.live d) f ∙ gone_at s.live c d;
+  same = f ∙ ap (λ (t : Listening). let u : Listening = record s { live = t.live } in u) (sym f);
+}
+
+pub greets_lighter : (core mid core' : Slots) (c n : ℕ) (l : Left) → mid ≡ core ++ replicate n None → core' ≡ slice_set mid c (Some l) → c < length mid → weight core' ≤ weight core + (MAX_CONNECTION_BYTES + 1)
+greets_lighter core mid core' c n l e f h =
+    let w = set_weight mid c (Some l) h in
+    let p = padded_weight core n in
+    omega (arith, w, p, ap weight e, ap weight f)
+
+-- ---- a connection that ended
+pub ended_acted : (core core' : Slots) (c : ℕ) (s : Listening) → core' ≡ slice_set core c None → set.contains s.live c ≡ false → Acted core core' c None s s
+ended_acted core core' c s e gone = record { sets = λ d. ap (λ k. left_at k d) e ∙ unset_at core c d; live = λ d. there_at (set.contains s.live) c d false gone; same = refl }
+
+came_at : (x : Option Left) → is_some x ≡ true → 0 < to_come x
+came_at (Some l) h = omega arith
+came_at None h = absurd cc
+
+pub ended_lighter : (core core' : Slots) (c : ℕ) → core' ≡ slice_set core c None → is_some (left_at core c) ≡ true → weight core' < weight core
+ended_lighter core core' c e held =
+    let w = set_weight core c None (held_within core c held) in
+    let p = came_at (left_at core c) held in
+    omega (arith, w, p, ap weight e)
+
+-- ---- the end of all
+some_live : (core : Slots) (s : Listening) → HasLive core s → (c : ℕ) → Acted core (slice_set core c None) c None s (closed_unless (not (is_some (left_at core c))) c s)
+some_live core s h c =
+    elim (is_some (left_at core c)) as (λ b. is_some (left_at core c) ≡ b → Acted core (slice_set core c None) c None s (closed_unless (not b) c s)) [
+      | true ↦ λ e. record { sets = λ d. unset_at core c d; live = λ d. gone_at s.live c d; same = refl }
+      | false ↦ λ e. record { sets = λ d. unset_at core c d; live = λ d. there_at (set.contains s.live) c d false (sym (h c) ∙ e); same = refl }
+    ] refl
+
+pub shut_live : (core core' : Slots) (c : ℕ) (b : Bool) (s s' : Listening) → HasLive core s → core' ≡ slice_set core c None → b ≡ is_some (left_at core c) → s' ≡ closed_unless (not b) c s → HasLive core' s'
+shut_live core core' c b s s' h e is f =
+    acted_live core core' c None s s' (λ d other. h d)
+    (acted_as core (slice_set core c None) core' c None s (closed_unless (not (is_some (left_at core c))) c s) s' e (f ∙ ap (λ x. closed_unless (not x) c s) is) (some_live core s h c))

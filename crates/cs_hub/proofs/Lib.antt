@@ -1,0 +1,12 @@
+pub mod ActLemmas
+pub mod EventLemmas
+pub mod FollowLemmas
+pub mod LineLemmas
+pub mod ReadingLemmas
+pub mod RespondingLemmas
+pub mod RightLemmas
+pub mod RoundLemmas
+pub mod ServedLemmas
+pub mod SlotLemmas
+pub mod SpeakLemmas
+pub mod TurnLemmas

@@ -1,0 +1,14 @@
+use Rattle.std.proofs.Common.{arith, ◌≡◌, ◌++◌, length, slice_range, ap}
+use Rattle.std.proofs.lemmas.Grind.{common_steps}
+use Rattle.cs_hub.proofs.ReadingLemmas.{open_none}
+use Rattle.cs_hub.proofs.TurnLemmas.{replied_by}
+use Rattle.cs_hub.proofs.reading.Reading.answer.Goals as goal
+
+pub invariant_of-self-2 : goal.invariant_of-self-2
+invariant_of-self-2 g c = open_none c.clear.new.self.items c.nothing-self-inside.result c.clear.ensures.items c.nothing-self-inside.ensures.seen c.nothing-self-inside.ensures.few
+
+pub returns-clause-replied : goal.returns-clause-replied
+returns-clause-replied g c =
+    let all : c.as_slice.result.now ≡ c.args.self.now ++ c.args.end.now = grind (arith, common_steps) in
+    replied_by (g.A.Answerer.answers c.args.answerer.now) c.args.conn _ (slice_range (c.args.self.now ++ c.args.end.now) c.args.skip (length (c.args.self.now ++ c.args.end.now))) c.answer_head-answer.result c.send.result (g.A.Answerer.faults c.args.answerer.now) (g.A.Answerer.faults c.answer_head-answer.new.answerer) (g.H.Hub.talk c.args.hub.now) (g.H.Hub.talk c.send.new.hub)
+    (ap (λ l. slice_range l c.args.skip (length l)) all) c.answer_head-answer.ensures.ok c.send.ensures.sent

@@ -1,0 +1,13 @@
+use Rattle.std.proofs.lemmas.Result.{IfOk-weaker}
+use Rattle.cs_hub.specs.Responding.{response, IsRefusedSo}
+use Rattle.cs_hub.specs.Turns.{IsGiven}
+use Rattle.cs_model_serving.specs.Responses.{to_params}
+use Rattle.cs_hub.proofs.RespondingLemmas.{given_refused}
+use Rattle.cs_hub.proofs.responses.answer_params.Goals as goal
+
+pub returns-in-Err-clause-ok : goal.returns-in-Err-clause-ok
+returns-in-Err-clause-ok g c =
+    let over = g.A.Answerer.answers c.args.answerer.now in
+    let before = g.A.Answerer.faults c.args.answerer.now in
+    IfOk-weaker c.refuse_params.result (λ a. IsRefusedSo c.in-Err.fault c.args.close (response a)) (λ a. IsGiven over (λ k. to_params k c.args.params.now c.args.close) (response a) before before)
+    (λ a h. given_refused over c.args.params.now c.in-Err.fault c.args.close (response a) before c.in-Err.ensures.err h) c.refuse_params.ensures

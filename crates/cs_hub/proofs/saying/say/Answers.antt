@@ -1,0 +1,15 @@
+use Rattle.std.proofs.Common.{true, false, take}
+use Rattle.cs_base.specs.outside.Hub.{sends, breaks}
+use Rattle.cs_hub.proofs.SpeakLemmas.{did_send, did_cut, spoke_by}
+use Rattle.cs_hub.proofs.saying.say.Goals as goal
+
+pub returns-in-Ok-clause-said : goal.returns-in-Ok-clause-said
+returns-in-Ok-clause-said g c =
+    spoke_by c.args.conn c.args.text.now false (sends c.args.conn c.args.text.now) (g.H.Hub.talk c.args.hub.now) (g.H.Hub.talk c.send.new.self) (did_send c.args.conn c.args.text.now) c.in-Ok.ensures.ok
+
+pub returns-in-Err-clause-said : goal.returns-in-Err-clause-said
+returns-in-Err-clause-said g c =
+    let cut = take c.in-Err.ensures.err.0 c.args.text.now in (
+      c.in-Err.ensures.err.0,
+      spoke_by c.args.conn cut true (λ t. breaks c.args.conn (sends c.args.conn cut t)) (g.H.Hub.talk c.args.hub.now) (g.H.Hub.talk c.send.new.self) (did_cut c.args.conn cut) c.in-Err.ensures.err.1,
+    )

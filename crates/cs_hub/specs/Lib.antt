@@ -1,0 +1,7 @@
+pub mod Ending
+pub mod Following
+pub mod Responding
+pub mod Rounds
+pub mod Speaking
+pub mod Streams
+pub mod Turns

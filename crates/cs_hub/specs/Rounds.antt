@@ -1,0 +1,130 @@
+-- What the slots of the core hold, what one event does to them, and what of all connections is still to come.
+--
+--   one_live x, live_count core      1 for a connection that is kept; how many are
+--   to_come x, weight core           how many bytes may still come on it, and one for its end; over all that are kept
+--   Acted                            a connection is kept so, or no more; the others are as they were
+--   closed_unless kept c s           the hub's state after a connection was kept or closed
+--   Greets                           a connection that opened is kept, or was told want of memory and closed
+--   Heeds                            a piece came
+--   Lightens e core core'            what an event adds to the weight at most, and what it takes away at least
+--   KeepsCame talk talk'             no event came
+--   HasBytes, IsBelow                what an event of a hub keeps: its piece fits the buffer, a number is below the room
+--   Counted e opened r               how the loop goes on after an event, by how many connections were opened
+--   still conns opened core          what is left to come over all connections
+--   came_by talk                     how many events came
+--   Went                             how a round went
+--   StaysServed                      what a round keeps
+use Rattle.std.specs.Prelude.{◌≡◌, ◌⊎◌, ℕ, ◌+◌, ◌-◌, ◌*◌, ◌<◌, ◌≤◌, Bool, true, false, ◌==◌, cond, List, [], length, Option, Some, None, is_some}
+use Rattle.std.specs.List.{sum_by}
+use Rattle.std.specs.Option.{option_map}
+use Rattle.std.specs.FinSet as set
+use Rattle.cs_base.specs.declared.content.limits.TheConstants.{MAX_CONNECTION_BYTES}
+use Rattle.cs_base.specs.declared.outside.hub.Event.{Event}
+use Rattle.cs_base.specs.declared.outside.hub.Event.TheVariants.{Opened, Piece, Ended, Over}
+use Rattle.cs_base.specs.outside.Causes.{Rose}
+use Rattle.cs_base.specs.outside.Hub.{Listening, Talk}
+use Rattle.cs_model.specs.Corpus.{Corpus}
+use Rattle.cs_model_serving.specs.Connections.{Left}
+use Rattle.cs_hub.specs.declared.rounds.Round.{Round}
+use Rattle.cs_hub.specs.declared.rounds.Round.TheVariants as round
+use Rattle.cs_hub.specs.Streams.{RoseBy}
+use Rattle.cs_hub.specs.Following.{Slots, left_at, Follows}
+use Rattle.cs_hub.specs.Speaking.{Starved}
+use Rattle.cs_hub.specs.Turns.{Received}
+
+-- ---- slots
+-- none for an empty slot
+abbrev pub one_live : Option Left → ℕ
+one_live None = 0
+one_live (Some l) = 1
+
+-- of no slots none
+abbrev pub live_count : Slots → ℕ
+live_count core = sum_by one_live core
+
+-- the bytes up to the limit, and the end of the connection; none for an empty slot
+abbrev pub to_come : Option Left → ℕ
+to_come None = 0
+to_come (Some l) = (MAX_CONNECTION_BYTES - l.taken) + 1
+
+-- 0 where no connection is kept
+abbrev pub weight : Slots → ℕ
+weight core = sum_by to_come core
+
+-- ---- one event
+-- this is kept of connection c, None where nothing is, and it is live where something is; the others are as they were
+pub record Acted (core core' : Slots) (c : ℕ) (x : Option Left) (s s' : Listening) : Type 0 where
+  pub sets : (d : ℕ) → left_at core' d ≡ cond (d == c) x (left_at core d)
+  pub live : (d : ℕ) → set.contains s'.live d ≡ cond (d == c) (is_some x) (set.contains s.live d)
+  pub same : s' ≡ record s { live = s'.live }
+
+-- it stays where the connection is kept
+abbrev pub closed_unless : Bool → ℕ → Listening → Listening
+closed_unless true c s = s
+closed_unless false c s = record s { live = set.remove s.live c }
+
+-- nothing came on the connection that is kept; where it isn't kept, it was sent the memory response
+abbrev pub Greets : Slots → Slots → ℕ → Listening → Listening → Option Talk → Option Talk → Type 0
+Greets core core' c s s' talk talk' =
+    (Acted core core' c (Some (record { taken = 0; unread = [] })) s s' × (talk' ≡ talk))
+    ⊎ (Acted core core' c None s s' × Starved c talk talk')
+
+-- what was kept of the connection, and what is kept of it now
+pub record Heeds (Over : Corpus → Type 0) (core core' : Slots) (c : ℕ) (piece : List ℕ) (s s' : Listening) (before now : ℕ) (talk talk' : Option Talk) : Type 0 where
+  pub old : Left
+  pub was : left_at core c ≡ Some old
+  pub kept : Option Left
+  pub received : Received Over c old piece kept before now talk talk'
+  pub acted : Acted core core' c kept s s'
+
+-- an opened connection adds the bytes that count and its end; a piece and an end take away at least one; Over adds nothing
+abbrev pub Lightens : Event → Slots → Slots → Type 0
+Lightens (Opened c) core core' = weight core' ≤ weight core + (MAX_CONNECTION_BYTES + 1)
+Lightens (Piece c n) core core' = weight core' < weight core
+Lightens (Ended c) core core' = weight core' < weight core
+Lightens Over core core' = Unit {0}
+
+-- the events that came stay as they are, or still aren't told
+abbrev pub KeepsCame : Option Talk → Option Talk → Type 0
+KeepsCame talk talk' = option_map (λ t. t.came) talk' ≡ option_map (λ t. t.came) talk
+
+-- ---- the loop
+-- a piece has bytes, and no more than the buffer
+abbrev pub HasBytes : Event → ℕ → Type 0
+HasBytes (Opened c) size = Unit {0}
+HasBytes (Piece c n) size = (0 < n) × (n ≤ size)
+HasBytes (Ended c) size = Unit {0}
+HasBytes Over size = Unit {0}
+
+-- a connection that opens is one of so many
+abbrev pub IsBelow : Event → ℕ → Type 0
+IsBelow (Opened c) conns = c < conns
+IsBelow (Piece c n) conns = Unit {0}
+IsBelow (Ended c) conns = Unit {0}
+IsBelow Over conns = Unit {0}
+
+-- one more was opened, or as many as before, or nothing more comes
+abbrev pub Counted : Event → ℕ → Round → Type 0
+Counted (Opened c) opened r = r ≡ round.Goes (c + 1)
+Counted (Piece c n) opened r = r ≡ round.Goes opened
+Counted (Ended c) opened r = r ≡ round.Goes opened
+Counted Over opened r = r ≡ round.Over
+
+-- 0 where all were opened and none is kept
+abbrev pub still : ℕ → ℕ → Slots → ℕ
+still conns opened core = (conns - opened) * (MAX_CONNECTION_BYTES + 2) + weight core
+
+-- how many events came so far; 0 where that isn't told
+abbrev pub came_by : Option Talk → ℕ
+came_by None = 0
+came_by (Some t) = length t.came
+
+-- an event came, and less is left to come; or nothing more comes and no connection is live; or the hub failed, and nothing changed
+abbrev pub Went : Round → Listening → Listening → Option Talk → Option Talk → ℕ → ℕ → Slots → Slots → Type 0
+Went (round.Goes n) s s' talk talk' faults faults' core core' = (s'.opened ≡ n) × (faults' ≡ faults) × (still s.conns n core' < still s.conns s.opened core) × (n ≤ s.conns) × (s'.over ≡ s.over) × (came_by talk' ≤ came_by talk + 1)
+Went round.Over s s' talk talk' faults faults' core core' = (s'.over ≡ true) × (faults' ≡ faults) × ((c : ℕ) → set.contains s'.live c ≡ false) × (came_by talk' ≤ came_by talk + 1)
+Went round.Failed s s' talk talk' faults faults' core core' = Rose faults faults' × (s' ≡ s) × (core' ≡ core) × (talk' ≡ talk)
+
+-- where the core followed the hub before the round, it follows it after it, and the count of failures rose by as many as say Read
+abbrev pub StaysServed : Corpus → Slots → Slots → Listening → Listening → Option Talk → Option Talk → ℕ → ℕ → Type 0
+StaysServed k core core' s s' talk talk' before now = (n : ℕ) → Follows k core s talk n → (more : ℕ) × Follows k core' s' talk' (n + more) × RoseBy more before now

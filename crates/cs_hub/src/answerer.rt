@@ -1,0 +1,37 @@
+//! What answers requests, as the serving core meets it.
+ghost use Rattle.std.specs.Prelude.{◌≡◌, ℕ, false, IfOk};
+ghost use Rattle.cs_engine.specs.Asking.{is_read, is_changed};
+ghost use Rattle.cs_file.specs.Indexes.{CausedReads};
+ghost use Rattle.cs_model.specs.Corpus.{Corpus};
+ghost use Rattle.cs_model.specs.Parameters.{HoldsLimits};
+ghost use Rattle.cs_model.specs.Requests.{reply_of};
+ghost use Rattle.cs_query.specs.RequestView.{asked};
+
+use cs_engine::AskFault;
+use cs_query::{Reply, Request};
+use std::alloc::Global;
+
+/// What answers requests.
+pub(crate) trait Answerer {
+    /// It answers over this corpus.
+    ghost answers: { Self → Corpus → Type 0 };
+
+    /// A count of failed reads, which never falls.
+    ghost faults: { Self → ℕ };
+
+    /// What no call changes, as what is lent to it.
+    ghost Lent: { Type 0 };
+
+    /// That of this one.
+    ghost lent: { Self → Lent };
+
+    /// The reply to a request.
+    fn reply(&mut self, alloc: Global, request: &Request) -> Result<Reply, AskFault>
+        requires limits { HoldsLimits (asked request.now) }
+
+        ensures ok { (k : Corpus) → answers self.old k → IfOk result (λ r. r ≡ reply_of k (asked request.now)) }
+        ensures unchanged { (k : Corpus) → answers self.old k → is_changed result ≡ false }
+        ensures still { (k : Corpus) → answers self.old k → answers self.new k }
+        ensures lent { lent self.new ≡ lent self.old }
+        ensures caused { CausedReads (is_read result) (faults self.old) (faults self.new) };
+}

@@ -1,0 +1,124 @@
+//! One live connection.
+ghost use Rattle.std.specs.Prelude.{◌≡◌, ◌≤◌, ◌<◌, ◌++◌, [], length, take, drop};
+ghost use Rattle.cs_base.specs.declared.content.limits.TheConstants.{MAX_CONNECTION_BYTES as MOST};
+ghost use Rattle.cs_base.specs.outside.Hub.{IsLive};
+ghost use Rattle.cs_model.specs.Corpus.{Corpus};
+ghost use Rattle.cs_hub.specs.Speaking.{Calm};
+ghost use Rattle.cs_hub.specs.Turns.{Reads, Received};
+
+use crate::answerer::Answerer;
+use crate::reading::{Reading, Turn};
+use cs_base::{Hub, MAX_CONNECTION_BYTES};
+use std::alloc::Global;
+use std::marker::Model;
+
+/// A live connection: its unread bytes, and how many bytes were taken, fewer than count.
+#[derive(Debug, Drop)]
+pub(crate) struct Line {
+    reading: Reading,
+    taken: usize,
+}
+
+impl Model for Line {
+    ghost use Rattle.std.specs.Prelude.{◌<◌};
+    ghost use Rattle.cs_base.specs.declared.content.limits.TheConstants.{MAX_CONNECTION_BYTES as LIMIT};
+    ghost use Rattle.cs_model_serving.specs.Connections.{Left};
+    ghost use Rattle.cs_hub.specs.Speaking.{left_code};
+
+    ghost Value = { Left };
+
+    ghost coded = { left_code };
+
+    ghost view = { λ l. record { taken = l.taken; unread = l.reading } };
+
+    ghost invariant = { λ l. l.taken < LIMIT };
+}
+
+impl Line {
+    /// Nothing came. It takes no memory.
+    pub fn new(alloc: Global) -> Line
+        ensures { result ≡ record { taken = 0; unread = [] } }
+    {
+        Line {
+            reading: Reading::new(alloc),
+            taken: 0,
+        }
+    }
+
+    /// Answers the heads that end in a piece; None where the connection is to be closed.
+    pub fn receive<A: Answerer, H: Hub>(
+        self,
+        alloc: Global,
+        answerer: &mut A,
+        hub: &mut H,
+        conn: u32,
+        piece: &[u8],
+    ) -> Option<Line>
+        requires live { IsLive (H.state hub.old) conn }
+
+        ensures received { Received (A.answers answerer.old) conn self piece.now result (A.faults answerer.old) (A.faults answerer.new) (H.talk hub.old) (H.talk hub.new) }
+        ensures room { self.taken < MOST }
+        ensures still { (k : Corpus) → A.answers answerer.old k → A.answers answerer.new k }
+        ensures lent { A.lent answerer.new ≡ A.lent answerer.old }
+        ensures later { A.faults answerer.old ≤ A.faults answerer.new }
+        ensures calm { Calm (H.state hub.old) (H.state hub.new) (H.faults hub.old) (H.faults hub.new) (H.talk hub.old) (H.talk hub.new) }
+    {
+        let Line { mut reading, taken } = self;
+        let counted = first_of(piece, MAX_CONNECTION_BYTES - taken);
+        if !read_on(&mut reading, alloc, answerer, hub, conn, counted) {
+            return None;
+        }
+        let taken = taken + counted.len();
+        if taken < MAX_CONNECTION_BYTES {
+            Some(Line { reading, taken })
+        } else {
+            None
+        }
+    }
+}
+
+// Answers the heads in these bytes; true where the connection goes on.
+fn read_on<A: Answerer, H: Hub>(
+    reading: &mut Reading,
+    alloc: Global,
+    answerer: &mut A,
+    hub: &mut H,
+    conn: u32,
+    piece: &[u8],
+) -> bool
+    requires live { IsLive (H.state hub.old) conn }
+
+    ensures reads { Reads (A.answers answerer.old) conn (reading.old ++ piece.now) result reading.new (A.faults answerer.old) (A.faults answerer.new) (H.talk hub.old) (H.talk hub.new) }
+    ensures still { (k : Corpus) → A.answers answerer.old k → A.answers answerer.new k }
+    ensures lent { A.lent answerer.new ≡ A.lent answerer.old }
+    ensures later { A.faults answerer.old ≤ A.faults answerer.new }
+    ensures calm { Calm (H.state hub.old) (H.state hub.new) (H.faults hub.old) (H.faults hub.new) (H.talk hub.old) (H.talk hub.new) }
+{
+    let mut rest = piece;
+    loop {
+        match reading.turn(alloc, answerer, hub, conn, rest) {
+            Turn::Next(used) => rest = behind(rest, used),
+            Turn::Holds => return true,
+            Turn::Stops => return false,
+        }
+    }
+}
+
+// The bytes behind so many.
+fn behind(bytes: &[u8], count: usize) -> &[u8]
+    requires { count ≤ length bytes.now }
+
+    ensures { result.now ≡ drop count bytes.now }
+{
+    &bytes[count..]
+}
+
+// So many first bytes, or all.
+fn first_of(piece: &[u8], count: usize) -> &[u8]
+    ensures { result.now ≡ take count piece.now }
+{
+    if piece.len() <= count {
+        return piece;
+    }
+    &piece[..count]
+}

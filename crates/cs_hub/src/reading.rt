@@ -1,0 +1,186 @@
+//! The unread bytes of one connection.
+ghost use Rattle.std.specs.Prelude.{◌≡◌, ◌≤◌, ◌<◌, ◌++◌, [], true, length, slice_range};
+ghost use Rattle.cs_base.specs.outside.Hub.{IsLive};
+ghost use Rattle.cs_http.specs.Looking.{IsPlaced, IsBelowLimit, look_of};
+ghost use Rattle.cs_model.specs.Corpus.{Corpus};
+ghost use Rattle.cs_model_serving.specs.Responses.{response_to, too_long};
+ghost use Rattle.cs_hub.specs.Speaking.{Calm};
+ghost use Rattle.cs_hub.specs.Turns.{IsOpen, Replied, Turned, IsHeld, IsRefused, IsSent};
+
+use crate::answer::Answer;
+use crate::answerer::Answerer;
+use crate::responses::{answer_head, answer_too_long};
+use crate::saying::{deliver, starve};
+use cs_base::{Hub, Memory};
+use cs_http::{Look, Seen};
+use std::alloc::Global;
+use std::marker::Model;
+
+/// What a turn gave.
+#[derive(Clone, Copy, Debug, PartialEq, Eq)]
+pub(crate) enum Turn {
+    /// A head was answered, which ended behind so many bytes more.
+    Next(usize),
+    /// No head ends there.
+    Holds,
+    /// The connection is to be closed.
+    Stops,
+}
+
+/// The unread bytes of a connection, which hold no whole head. There are fewer than a head may have.
+#[derive(Debug, Drop)]
+pub(crate) struct Reading {
+    unread: Vec<u8>,
+    seen: Seen,
+}
+
+impl Model for Reading {
+    ghost use Rattle.std.specs.Prelude.{ℕ, List};
+    ghost use Rattle.std.specs.Coded.{coded_list, coded_ℕ};
+    ghost use Rattle.cs_hub.specs.Turns.{IsOpen};
+
+    ghost Value = { List ℕ };
+
+    ghost coded = { coded_list coded_ℕ };
+
+    ghost view = { λ r. r.unread.items };
+
+    ghost invariant = { λ r. IsOpen r.unread.items r.seen };
+}
+
+impl Reading {
+    /// Nothing came. It takes no memory.
+    pub fn new(alloc: Global) -> Reading
+        ensures { result ≡ [] }
+    {
+        Reading {
+            unread: Vec::new(alloc),
+            seen: Seen::nothing(),
+        }
+    }
+
+    /// Answers a head, keeps the bytes where none ends in them, or says that the connection is to be closed.
+    pub fn turn<A: Answerer, H: Hub>(
+        &mut self,
+        alloc: Global,
+        answerer: &mut A,
+        hub: &mut H,
+        conn: u32,
+        rest: &[u8],
+    ) -> Turn
+        requires live { IsLive (H.state hub.old) conn }
+
+        ensures turned { Turned (A.answers answerer.old) conn self.old rest.now result self.new (A.faults answerer.old) (A.faults answerer.new) (H.talk hub.old) (H.talk hub.new) }
+        ensures still { (k : Corpus) → A.answers answerer.old k → A.answers answerer.new k }
+        ensures lent { A.lent answerer.new ≡ A.lent answerer.old }
+        ensures later { A.faults answerer.old ≤ A.faults answerer.new }
+        ensures calm { Calm (H.state hub.old) (H.state hub.new) (H.faults hub.old) (H.faults hub.new) (H.talk hub.old) (H.talk hub.new) }
+    {
+        let held = self.unread.len();
+        match self.look(rest) {
+            Look::Head { skip, end } => {
+                let used = end - held;
+                if self.answer(alloc, answerer, hub, conn, &rest[..used], skip) {
+                    Turn::Next(used)
+                } else {
+                    Turn::Stops
+                }
+            }
+            Look::TooLong => {
+                refuse(alloc, hub, conn);
+                Turn::Stops
+            }
+            Look::More(seen) => self.keep(hub, conn, rest, seen),
+        }
+    }
+
+    // Looks at more bytes, each once.
+    fn look(&self, rest: &[u8]) -> Look
+        ensures found { result ≡ look_of (self.now ++ rest.now) }
+        ensures placed { IsPlaced (length self.now) (length rest.now) result }
+        ensures few { IsBelowLimit result }
+    {
+        self.seen.look(rest)
+    }
+
+    // Keeps bytes in which no head ends.
+    fn keep<H: Hub>(&mut self, hub: &mut H, conn: u32, rest: &[u8], seen: Seen) -> Turn
+        requires live { IsLive (H.state hub.old) conn }
+        requires seen { IsOpen (self.old ++ rest.now) seen }
+
+        ensures held { IsHeld conn self.old rest.now result self.new (H.talk hub.old) (H.talk hub.new) }
+        ensures calm { Calm (H.state hub.old) (H.state hub.new) (H.faults hub.old) (H.faults hub.new) (H.talk hub.old) (H.talk hub.new) }
+    {
+        match self.unread.extend_from_slice(rest) {
+            Ok(()) => {
+                self.seen = seen;
+                Turn::Holds
+            }
+            Err(_) => {
+                starve(hub, conn);
+                Turn::Stops
+            }
+        }
+    }
+
+    // Answers the head that ends with these bytes, behind so many of empty lines; true where the connection goes on.
+    fn answer<A: Answerer, H: Hub>(
+        &mut self,
+        alloc: Global,
+        answerer: &mut A,
+        hub: &mut H,
+        conn: u32,
+        end: &[u8],
+        skip: usize,
+    ) -> bool
+        requires live { IsLive (H.state hub.old) conn }
+        requires within { skip ≤ length (self.old ++ end.now) }
+
+        ensures replied { Replied (A.answers answerer.old) conn (λ k. response_to k (slice_range (self.old ++ end.now) skip (length (self.old ++ end.now)))) result (A.faults answerer.old) (A.faults answerer.new) (H.talk hub.old) (H.talk hub.new) }
+        ensures emptied { result ≡ true → self.new ≡ [] }
+        ensures still { (k : Corpus) → A.answers answerer.old k → A.answers answerer.new k }
+        ensures lent { A.lent answerer.new ≡ A.lent answerer.old }
+        ensures later { A.faults answerer.old ≤ A.faults answerer.new }
+        ensures calm { Calm (H.state hub.old) (H.state hub.new) (H.faults hub.old) (H.faults hub.new) (H.talk hub.old) (H.talk hub.new) }
+    {
+        if self.unread.extend_from_slice(end).is_err() {
+            starve(hub, conn);
+            return false;
+        }
+        let answer = answer_head(alloc, answerer, &self.unread.as_slice()[skip..]);
+        self.unread.clear();
+        self.seen = Seen::nothing();
+        send(alloc, hub, conn, answer)
+    }
+}
+
+// Sends a response, or the memory response where there is none; true where the connection goes on.
+fn send<H: Hub>(alloc: Global, hub: &mut H, conn: u32, answer: Result<Answer, Memory>) -> bool
+    requires live { IsLive (H.state hub.old) conn }
+
+    ensures sent { IsSent conn answer result (H.talk hub.old) (H.talk hub.new) }
+    ensures calm { Calm (H.state hub.old) (H.state hub.new) (H.faults hub.old) (H.faults hub.new) (H.talk hub.old) (H.talk hub.new) }
+{
+    match answer {
+        Ok(answer) => deliver(alloc, hub, conn, &answer),
+        Err(_) => {
+            starve(hub, conn);
+            false
+        }
+    }
+}
+
+// Sends the response where no head ends within the limit.
+fn refuse<H: Hub>(alloc: Global, hub: &mut H, conn: u32)
+    requires live { IsLive (H.state hub.old) conn }
+
+    ensures refused { IsRefused conn (H.talk hub.old) (H.talk hub.new) }
+    ensures calm { Calm (H.state hub.old) (H.state hub.new) (H.faults hub.old) (H.faults hub.new) (H.talk hub.old) (H.talk hub.new) }
+{
+    match answer_too_long(alloc) {
+        Ok(answer) => {
+            let _ = deliver(alloc, hub, conn, &answer);
+        }
+        Err(_) => starve(hub, conn),
+    }
+}

@@ -1,0 +1,132 @@
+//! The response to a head.
+ghost use Rattle.std.specs.Prelude.{◌≡◌, ◌≤◌, IfOk};
+ghost use Rattle.cs_model.specs.Corpus.{Corpus};
+ghost use Rattle.cs_model.specs.Parameters.{HoldsLimits};
+ghost use Rattle.cs_model_serving.specs.Responses.{response_to, to_params, too_long};
+ghost use Rattle.cs_query.specs.RequestView.{asked};
+ghost use Rattle.cs_hub.specs.Responding.{response, IsJudgedSo, IsRefusedSo, replied};
+ghost use Rattle.cs_hub.specs.Turns.{IsGiven};
+
+use crate::answer::Answer;
+use crate::answerer::Answerer;
+use cs_base::Memory;
+use cs_engine::AskFault;
+use cs_http::{HeadFault, head, request};
+use cs_json::{Fault, fault_bytes, reply_bytes};
+use cs_query::{ReqFault, Request};
+use std::alloc::Global;
+
+/// The response to the bytes of a head, or of what should be one.
+pub(crate) fn answer_head<A: Answerer>(
+    alloc: Global,
+    answerer: &mut A,
+    bytes: &[u8],
+) -> Result<Answer, Memory>
+    ensures ok { IfOk result (λ a. IsGiven (A.answers answerer.old) (λ k. response_to k bytes.now) (response a) (A.faults answerer.old) (A.faults answerer.new)) }
+    ensures still { (k : Corpus) → A.answers answerer.old k → A.answers answerer.new k }
+    ensures lent { A.lent answerer.new ≡ A.lent answerer.old }
+    ensures later { A.faults answerer.old ≤ A.faults answerer.new }
+{
+    match head(alloc, bytes) {
+        Ok(asked) => answer_params(alloc, answerer, asked.params.as_slice(), asked.close),
+        Err(fault) => refuse_head(alloc, fault),
+    }
+}
+
+/// The response where no head ends within the limit.
+#[tactic(auto, unfolding(cs_json::specs::FaultTexts::fault_text))]
+pub(crate) fn answer_too_long(alloc: Global) -> Result<Answer, Memory>
+    ensures { IfOk result (λ a. response a ≡ too_long) }
+{
+    let body = fault_bytes(alloc, &Fault::TooLong)?;
+    Ok(Answer {
+        status: 431,
+        close: true,
+        body,
+    })
+}
+
+// The response to bytes that aren't answered with a reply.
+#[tactic(auto, unfolding(cs_json::specs::FaultTexts::fault_text))]
+fn refuse_head(alloc: Global, fault: HeadFault) -> Result<Answer, Memory>
+    ensures { IfOk result (λ a. IsJudgedSo fault (response a)) }
+{
+    let (status, close, fault) = match fault {
+        HeadFault::NotHead => (400, true, Fault::NotHead),
+        HeadFault::Body => (400, true, Fault::Body),
+        HeadFault::Path { close } => (404, close, Fault::Path),
+        HeadFault::Method { close } => (405, close, Fault::Method),
+        HeadFault::Memory => return Err(Memory),
+    };
+    let body = fault_bytes(alloc, &fault)?;
+    Ok(Answer {
+        status,
+        close,
+        body,
+    })
+}
+
+// The response to parameters.
+fn answer_params<A: Answerer>(
+    alloc: Global,
+    answerer: &mut A,
+    params: &[u8],
+    close: bool,
+) -> Result<Answer, Memory>
+    ensures ok { IfOk result (λ a. IsGiven (A.answers answerer.old) (λ k. to_params k params.now close) (response a) (A.faults answerer.old) (A.faults answerer.new)) }
+    ensures still { (k : Corpus) → A.answers answerer.old k → A.answers answerer.new k }
+    ensures lent { A.lent answerer.new ≡ A.lent answerer.old }
+    ensures later { A.faults answerer.old ≤ A.faults answerer.new }
+{
+    match request(alloc, params) {
+        Ok(request) => reply_to(alloc, answerer, &request, close),
+        Err(fault) => refuse_params(alloc, fault, close),
+    }
+}
+
+// The response to refused parameters.
+#[tactic(auto, unfolding(cs_json::specs::FaultTexts::fault_text))]
+fn refuse_params(alloc: Global, fault: ReqFault, close: bool) -> Result<Answer, Memory>
+    ensures { IfOk result (λ a. IsRefusedSo fault close (response a)) }
+{
+    if matches!(fault, ReqFault::Memory) {
+        return Err(Memory);
+    }
+    let body = fault_bytes(alloc, &Fault::Refused(fault))?;
+    Ok(Answer {
+        status: 400,
+        close,
+        body,
+    })
+}
+
+// The response to a request: its reply, or in its place what kept it from being answered.
+#[tactic(auto, unfolding(cs_json::specs::FaultTexts::fault_text))]
+fn reply_to<A: Answerer>(
+    alloc: Global,
+    answerer: &mut A,
+    request: &Request,
+    close: bool,
+) -> Result<Answer, Memory>
+    requires limits { HoldsLimits (asked request.now) }
+
+    ensures ok { IfOk result (λ a. IsGiven (A.answers answerer.old) (λ k. replied k (asked request.now) close) (response a) (A.faults answerer.old) (A.faults answerer.new)) }
+    ensures still { (k : Corpus) → A.answers answerer.old k → A.answers answerer.new k }
+    ensures lent { A.lent answerer.new ≡ A.lent answerer.old }
+    ensures later { A.faults answerer.old ≤ A.faults answerer.new }
+{
+    let (status, body) = match answerer.reply(alloc, request) {
+        Ok(reply) => (200, reply_bytes(alloc, &reply)?),
+        Err(AskFault::Read) => (500, fault_bytes(alloc, &Fault::Read)?),
+        Err(AskFault::Changed { rule, at }) => (
+            500,
+            fault_bytes(alloc, &Fault::Changed { rule, at })?,
+        ),
+        Err(AskFault::Memory) => return Err(Memory),
+    };
+    Ok(Answer {
+        status,
+        close,
+        body,
+    })
+}

@@ -1,0 +1,127 @@
+//! The loop over the events of a hub.
+ghost use Rattle.std.specs.Prelude.{◌≡◌, ◌≢◌, ◌⊎◌, ℕ, ◌+◌, ◌*◌, ◌<◌, ◌≤◌, true, false, length};
+ghost use Rattle.std.specs.FinSet as set;
+ghost use Rattle.std.specs.Option.{ForSome};
+ghost use Rattle.cs_base.specs.declared.content.limits.TheConstants.{MAX_CONNECTION_BYTES};
+ghost use Rattle.cs_base.specs.outside.Causes.{Rose};
+ghost use Rattle.cs_base.specs.outside.Hub.{IsOrderly, listens};
+ghost use Rattle.cs_file.specs.Indexes.{Fits, StandsFor};
+ghost use Rattle.cs_model_index.specs.Sections.{file_corpus};
+ghost use Rattle.cs_model.specs.Corpus.{Corpus};
+ghost use Rattle.cs_hub.specs.Ending.{Ends};
+ghost use Rattle.cs_hub.specs.Following.{AreServed};
+ghost use Rattle.cs_hub.specs.Rounds.{came_by};
+
+use crate::answerer::Answerer;
+use crate::asking::Asking;
+use crate::rounds::{Round, is_busy, take_turn};
+use crate::slots::Core;
+use cs_base::{Hub, Store};
+use cs_engine::Engine;
+use std::alloc::Global;
+
+// The most bytes of a piece.
+const PIECE_BYTES: usize = 4096;
+
+/// How serving ends.
+#[derive(Clone, Copy, Debug, PartialEq, Eq)]
+pub enum ServeEnd {
+    /// All connections were opened and none is live, or nothing more comes.
+    Done,
+    /// The hub gave no event.
+    HubFailed,
+    /// There was no memory at the start.
+    Memory,
+}
+
+/// Serves so many connections of a hub that listens and has opened none, until all were opened and none is live, or nothing more
+/// comes.
+pub fn serve<S: Store, H: Hub>(
+    alloc: Global,
+    engine: &mut Engine,
+    store: &mut S,
+    hub: &mut H,
+    conns: u32,
+) -> ServeEnd
+    requires fits { Fits (S.bytes store.old) engine.old.index }
+    requires listens { (port : ℕ) × (H.state hub.old ≡ listens port conns) }
+    requires orderly { IsOrderly (H.state hub.old) (H.talk hub.old) }
+
+    // Over bytes that stand for the index each opened connection is right.
+    ensures served { ForSome (S.bytes store.old) (λ b. StandsFor b engine.old.index → AreServed (file_corpus b) (H.state hub.new) (H.talk hub.new) (S.faults store.old) (S.faults store.new)) }
+
+    // Want of memory comes before the first event.
+    ensures done { result ≡ ServeEnd.Done → ((c : ℕ) → set.contains (H.state hub.new).live c ≡ false) × (((H.state hub.new).opened ≡ conns) ⊎ ((H.state hub.new).over ≡ true)) }
+    ensures hub_failed { result ≡ ServeEnd.HubFailed → Rose (H.faults hub.old) (H.faults hub.new) }
+    ensures only_before_the_end { result ≡ ServeEnd.HubFailed → ((H.state hub.new).over ≡ false) × (((H.state hub.new).opened < conns) ⊎ ((c : ℕ) × (set.contains (H.state hub.new).live c ≡ true))) }
+    ensures memory { result ≡ ServeEnd.Memory → (H.state hub.new ≡ H.state hub.old) × (H.talk hub.new ≡ H.talk hub.old) × (S.faults store.new ≡ S.faults store.old) }
+    ensures quiet { result ≢ ServeEnd.HubFailed → H.faults hub.new ≡ H.faults hub.old }
+
+    ensures port { (H.state hub.new).port ≡ (H.state hub.old).port }
+    ensures conns { (H.state hub.new).conns ≡ conns }
+
+    // Each event opens a connection, takes one of its bytes or ends one.
+    ensures events { ForSome (H.talk hub.old) (λ t. ForSome (H.talk hub.new) (λ u. length u.came ≤ length t.came + conns * (MAX_CONNECTION_BYTES + 2) + 1)) }
+
+    ensures index { engine.new.index ≡ engine.old.index }
+    ensures bytes { S.bytes store.new ≡ S.bytes store.old }
+    ensures lent { S.lent store.new ≡ S.lent store.old }
+    ensures later { S.faults store.old ≤ S.faults store.new }
+{
+    let mut asking = Asking::new(engine, store);
+    serve_over(alloc, &mut asking, hub, conns)
+}
+
+/// The same over anything that answers requests.
+pub(crate) fn serve_over<A: Answerer, H: Hub>(
+    alloc: Global,
+    answerer: &mut A,
+    hub: &mut H,
+    conns: u32,
+) -> ServeEnd
+    requires listens { (port : ℕ) × (H.state hub.old ≡ listens port conns) }
+    requires orderly { IsOrderly (H.state hub.old) (H.talk hub.old) }
+
+    ensures served { (k : Corpus) → A.answers answerer.old k → AreServed k (H.state hub.new) (H.talk hub.new) (A.faults answerer.old) (A.faults answerer.new) }
+    ensures ends { Ends result conns (H.state hub.old) (H.state hub.new) (H.faults hub.old) (H.faults hub.new) }
+    ensures memory { result ≡ ServeEnd.Memory → (H.state hub.new ≡ H.state hub.old) × (H.talk hub.new ≡ H.talk hub.old) × (A.faults answerer.new ≡ A.faults answerer.old) }
+    ensures events { came_by (H.talk hub.new) ≤ came_by (H.talk hub.old) + conns * (MAX_CONNECTION_BYTES + 2) + 1 }
+    ensures lent { A.lent answerer.new ≡ A.lent answerer.old }
+    ensures later { A.faults answerer.old ≤ A.faults answerer.new }
+{
+    match vec![in alloc; 0; PIECE_BYTES] {
+        Ok(mut buffer) => serve_with(alloc, answerer, hub, conns, buffer.as_mut_slice()),
+        Err(_) => ServeEnd::Memory,
+    }
+}
+
+// The loop, with a buffer for pieces.
+fn serve_with<A: Answerer, H: Hub>(
+    alloc: Global,
+    answerer: &mut A,
+    hub: &mut H,
+    conns: u32,
+    buffer: &mut [u8],
+) -> ServeEnd
+    requires some { 0 < length buffer.old }
+    requires listens { (port : ℕ) × (H.state hub.old ≡ listens port conns) }
+    requires orderly { IsOrderly (H.state hub.old) (H.talk hub.old) }
+
+    ensures served { (k : Corpus) → A.answers answerer.old k → AreServed k (H.state hub.new) (H.talk hub.new) (A.faults answerer.old) (A.faults answerer.new) }
+    ensures ends { Ends result conns (H.state hub.old) (H.state hub.new) (H.faults hub.old) (H.faults hub.new) }
+    ensures some_memory { result ≢ ServeEnd.Memory }
+    ensures events { came_by (H.talk hub.new) ≤ came_by (H.talk hub.old) + conns * (MAX_CONNECTION_BYTES + 2) + 1 }
+    ensures lent { A.lent answerer.new ≡ A.lent answerer.old }
+    ensures later { A.faults answerer.old ≤ A.faults answerer.new }
+{
+    let mut core = Core::new(alloc);
+    let mut opened = 0;
+    while is_busy(&core, opened, conns) {
+        match take_turn(&mut core, alloc, answerer, hub, buffer, opened, conns) {
+            Round::Goes(count) => opened = count,
+            Round::Over => return ServeEnd::Done,
+            Round::Failed => return ServeEnd::HubFailed,
+        }
+    }
+    ServeEnd::Done
+}

@@ -1,0 +1,218 @@
+//! One event.
+ghost use Rattle.std.specs.Prelude.{◌≡◌, ◌<◌, ◌≤◌, ℕ, not, None, true, length, is_some, slice_set};
+ghost use Rattle.std.specs.FinSet as set;
+ghost use Rattle.std.specs.Option.{ForSome};
+ghost use Rattle.cs_base.specs.outside.Hub.{IsLive, IsOrderly};
+ghost use Rattle.cs_file.specs.Indexes.{Fits, StandsFor};
+ghost use Rattle.cs_model.specs.Corpus.{Corpus};
+ghost use Rattle.cs_model_index.specs.Sections.{file_corpus};
+ghost use Rattle.cs_hub.specs.Following.{HasLive, HasLiveBut, IsWhole, LeavesOthers, StaysRight, left_at};
+ghost use Rattle.cs_hub.specs.Rounds.{Greets, Heeds, Lightens, KeepsCame, closed_unless};
+ghost use Rattle.cs_hub.specs.Speaking.{Starved};
+
+use crate::answerer::Answerer;
+use crate::asking::Asking;
+use crate::line::Line;
+use crate::saying::starve;
+use crate::slots::Core;
+use cs_base::{Event, Hub, Store};
+use cs_engine::Engine;
+use std::alloc::Global;
+
+impl Core {
+    /// One event. A connection for which no memory is found is sent the memory response and closed.
+    pub fn step<S: Store, H: Hub>(
+        &mut self,
+        alloc: Global,
+        engine: &mut Engine,
+        store: &mut S,
+        hub: &mut H,
+        event: Event,
+        piece: &[u8],
+    )
+        requires fits { Fits (S.bytes store.old) engine.old.index }
+        requires live { HasLiveBut self.old (H.state hub.old) event }
+        requires whole { IsWhole event piece.now }
+
+        // Over bytes that stand for the index: where the core followed the hub before the event, it follows it after the step.
+        ensures follows { ForSome (S.bytes store.old) (λ b. StandsFor b engine.old.index → StaysRight (file_corpus b) self.old self.new event piece.now (H.state hub.old) (H.state hub.new) (H.talk hub.old) (H.talk hub.new) (S.faults store.old) (S.faults store.new)) }
+        ensures live { HasLive self.new (H.state hub.new) }
+        ensures over { event ≡ Event.Over → (c : ℕ) → left_at self.new c ≡ None }
+
+        // Other connections stay as they are.
+        ensures others { LeavesOthers event self.old self.new (H.state hub.old) (H.state hub.new) (H.talk hub.old) (H.talk hub.new) }
+        ensures same { H.state hub.new ≡ record (H.state hub.old) { live = (H.state hub.new).live } }
+        ensures came { KeepsCame (H.talk hub.old) (H.talk hub.new) }
+        ensures faults { H.faults hub.new ≡ H.faults hub.old }
+        ensures orderly { IsOrderly (H.state hub.old) (H.talk hub.old) → IsOrderly (H.state hub.new) (H.talk hub.new) }
+        ensures lighter { Lightens event self.old self.new }
+
+        ensures index { engine.new.index ≡ engine.old.index }
+        ensures bytes { S.bytes store.new ≡ S.bytes store.old }
+        ensures lent { S.lent store.new ≡ S.lent store.old }
+        ensures later { S.faults store.old ≤ S.faults store.new }
+    {
+        let mut asking = Asking::new(engine, store);
+        self.step_with(alloc, &mut asking, hub, event, piece);
+    }
+
+    /// One event, over anything that answers requests.
+    pub(crate) fn step_with<A: Answerer, H: Hub>(
+        &mut self,
+        alloc: Global,
+        answerer: &mut A,
+        hub: &mut H,
+        event: Event,
+        piece: &[u8],
+    )
+        requires live { HasLiveBut self.old (H.state hub.old) event }
+        requires whole { IsWhole event piece.now }
+
+        ensures follows { (k : Corpus) → A.answers answerer.old k → StaysRight k self.old self.new event piece.now (H.state hub.old) (H.state hub.new) (H.talk hub.old) (H.talk hub.new) (A.faults answerer.old) (A.faults answerer.new) }
+        ensures live { HasLive self.new (H.state hub.new) }
+        ensures over { event ≡ Event.Over → (c : ℕ) → left_at self.new c ≡ None }
+        ensures others { LeavesOthers event self.old self.new (H.state hub.old) (H.state hub.new) (H.talk hub.old) (H.talk hub.new) }
+        ensures same { H.state hub.new ≡ record (H.state hub.old) { live = (H.state hub.new).live } }
+        ensures came { KeepsCame (H.talk hub.old) (H.talk hub.new) }
+        ensures faults { H.faults hub.new ≡ H.faults hub.old }
+        ensures orderly { IsOrderly (H.state hub.old) (H.talk hub.old) → IsOrderly (H.state hub.new) (H.talk hub.new) }
+        ensures lighter { Lightens event self.old self.new }
+        ensures still { (k : Corpus) → A.answers answerer.old k → A.answers answerer.new k }
+        ensures lent { A.lent answerer.new ≡ A.lent answerer.old }
+        ensures later { A.faults answerer.old ≤ A.faults answerer.new }
+    {
+        match event {
+            Event::Opened(conn) => self.open(alloc, hub, conn),
+            Event::Piece(conn, _) => self.hear(alloc, answerer, hub, conn, piece),
+            Event::Ended(conn) => self.forget(conn),
+            Event::Over => self.close_all(hub),
+        }
+    }
+
+    // A connection opens. Where there is no memory for it, it is sent the memory response and closed.
+    fn open<H: Hub>(&mut self, alloc: Global, hub: &mut H, conn: u32)
+        requires live { IsLive (H.state hub.old) conn }
+        requires empty { left_at self.old conn ≡ None }
+
+        ensures greets { Greets self.old self.new conn (H.state hub.old) (H.state hub.new) (H.talk hub.old) (H.talk hub.new) }
+        ensures faults { H.faults hub.new ≡ H.faults hub.old }
+        ensures orderly { IsOrderly (H.state hub.old) (H.talk hub.old) → IsOrderly (H.state hub.new) (H.talk hub.new) }
+        ensures lighter { Lightens (Event.Opened conn) self.old self.new }
+    {
+        if self.make_room(conn) {
+            self.put(conn, Line::new(alloc));
+        } else {
+            refuse(hub, conn);
+        }
+    }
+
+    // A piece comes.
+    fn hear<A: Answerer, H: Hub>(
+        &mut self,
+        alloc: Global,
+        answerer: &mut A,
+        hub: &mut H,
+        conn: u32,
+        piece: &[u8],
+    )
+        requires live { IsLive (H.state hub.old) conn }
+        requires held { is_some (left_at self.old conn) ≡ true }
+        requires some { 0 < length piece.now }
+
+        ensures heeds { Heeds (A.answers answerer.old) self.old self.new conn piece.now (H.state hub.old) (H.state hub.new) (A.faults answerer.old) (A.faults answerer.new) (H.talk hub.old) (H.talk hub.new) }
+        ensures faults { H.faults hub.new ≡ H.faults hub.old }
+        ensures orderly { IsOrderly (H.state hub.old) (H.talk hub.old) → IsOrderly (H.state hub.new) (H.talk hub.new) }
+        ensures lighter { Lightens (Event.Piece conn (length piece.now)) self.old self.new }
+        ensures still { (k : Corpus) → A.answers answerer.old k → A.answers answerer.new k }
+        ensures lent { A.lent answerer.new ≡ A.lent answerer.old }
+        ensures later { A.faults answerer.old ≤ A.faults answerer.new }
+    {
+        match self.take(conn) {
+            Some(line) => {
+                let kept = line.receive(alloc, answerer, hub, conn, piece);
+                self.settle(hub, conn, kept);
+            }
+            None => unreachable!(),
+        }
+    }
+
+    // Keeps a connection, or closes it.
+    fn settle<H: Hub>(&mut self, hub: &mut H, conn: u32, kept: Option<Line>)
+        requires within { conn < length self.old }
+        requires empty { left_at self.old conn ≡ None }
+
+        ensures core { self.new ≡ slice_set self.old conn kept }
+        ensures state { H.state hub.new ≡ closed_unless (is_some kept) conn (H.state hub.old) }
+        ensures talk { H.talk hub.new ≡ H.talk hub.old }
+        ensures faults { H.faults hub.new ≡ H.faults hub.old }
+        ensures orderly { IsOrderly (H.state hub.old) (H.talk hub.old) → IsOrderly (H.state hub.new) (H.talk hub.new) }
+    {
+        match kept {
+            Some(line) => self.put(conn, line),
+            None => hub.close(conn),
+        }
+    }
+
+    // A connection ended.
+    fn forget(&mut self, conn: u32)
+        ensures { self.new ≡ slice_set self.old conn None }
+    {
+        let _ = self.take(conn);
+    }
+
+    // Closes every live connection.
+    fn close_all<H: Hub>(&mut self, hub: &mut H)
+        requires live { HasLive self.old (H.state hub.old) }
+
+        ensures live { HasLive self.new (H.state hub.new) }
+        ensures none { (c : ℕ) → left_at self.new c ≡ None }
+        ensures same { H.state hub.new ≡ record (H.state hub.old) { live = (H.state hub.new).live } }
+        ensures talk { H.talk hub.new ≡ H.talk hub.old }
+        ensures faults { H.faults hub.new ≡ H.faults hub.old }
+        ensures orderly { IsOrderly (H.state hub.old) (H.talk hub.old) → IsOrderly (H.state hub.new) (H.talk hub.new) }
+    {
+        for conn in 0..self.len() {
+            self.shut(hub, conn as u32);
+        }
+    }
+
+    // Closes a connection where it is live.
+    fn shut<H: Hub>(&mut self, hub: &mut H, conn: u32)
+        requires live { HasLive self.old (H.state hub.old) }
+
+        ensures live { HasLive self.new (H.state hub.new) }
+        ensures core { self.new ≡ slice_set self.old conn None }
+        ensures same { H.state hub.new ≡ record (H.state hub.old) { live = (H.state hub.new).live } }
+        ensures talk { H.talk hub.new ≡ H.talk hub.old }
+        ensures faults { H.faults hub.new ≡ H.faults hub.old }
+        ensures orderly { IsOrderly (H.state hub.old) (H.talk hub.old) → IsOrderly (H.state hub.new) (H.talk hub.new) }
+    {
+        let line = self.take(conn);
+        close_where(hub, conn, line.is_some());
+    }
+}
+
+// Closes a connection, or leaves it.
+fn close_where<H: Hub>(hub: &mut H, conn: u32, closes: bool)
+    ensures state { H.state hub.new ≡ closed_unless (not closes) conn (H.state hub.old) }
+    ensures talk { H.talk hub.new ≡ H.talk hub.old }
+    ensures faults { H.faults hub.new ≡ H.faults hub.old }
+    ensures orderly { IsOrderly (H.state hub.old) (H.talk hub.old) → IsOrderly (H.state hub.new) (H.talk hub.new) }
+{
+    if closes {
+        hub.close(conn);
+    }
+}
+
+// Sends the memory response and closes the connection.
+fn refuse<H: Hub>(hub: &mut H, conn: u32)
+    requires live { IsLive (H.state hub.old) conn }
+
+    ensures starved { Starved conn (H.talk hub.old) (H.talk hub.new) }
+    ensures state { H.state hub.new ≡ record (H.state hub.old) { live = set.remove (H.state hub.old).live conn } }
+    ensures faults { H.faults hub.new ≡ H.faults hub.old }
+    ensures orderly { IsOrderly (H.state hub.old) (H.talk hub.old) → IsOrderly (H.state hub.new) (H.talk hub.new) }
+{
+    starve(hub, conn);
+    hub.close(conn);
+}

@@ -1,0 +1,99 @@
+-- What is put for a line, by the answer that was found for it.
+--
+--   has_costs       an answer with a text costs what its text costs
+--   passes          a line whose answer was put is passed
+--   stops_there     a line whose answer wasn't put whole ends the script
+--   line_ok, line_err        the same of the result of putting it
+--   refusal_is, reply_is     a refusal and a reply as the text of the line
+use Rattle.std.proofs.Common.{◌≡◌, ◌≢◌, ◌==◌, ℕ, ◌≤◌, Bool, true, false, List, [], ◌∷◌, ◌++◌, length, inl, inr, refl, sym, ap, ◌∙◌, subst, Vec, Global}
+use Rattle.std.specs.Prelude.{Option, Some, None, is_some, Result, Ok, Err, OnOk, OnErr, IfOk, IfErr}
+use Rattle.cs_base.specs.declared.memory.Memory.{Memory}
+use Rattle.cs_http.specs.Refusing.{IsCause}
+use Rattle.cs_json.specs.FaultTexts.{fault_text}
+use Rattle.cs_json.specs.declared.fault.Fault.TheVariants as faults
+use Rattle.cs_query.specs.declared.request.ReqFault.{ReqFault}
+use Rattle.cs_query.specs.declared.request.ReqFault.TheVariants as causes
+use Rattle.cs_base.specs.outside.Causes.{Rose}
+use Rattle.cs_base.specs.outside.Outside.{Grew, GrewByPrefix}
+use Rattle.cs_model.specs.Corpus.{Corpus}
+use Rattle.cs_model.specs.Outputs.{MayPut, IsAnswer, line_fault, memory_text, read_text, text}
+use Rattle.cs_model.specs.Parameters.{request_of, request_refusal}
+use Rattle.cs_model.specs.Replies.{reply_text}
+use Rattle.cs_model.specs.Requests.{Request, reply_of}
+use Rattle.cs_top.specs.Answering.{CameCounts, Costs, FileView, HasReply, HasText, MayAnswer, came_of, line_bytes}
+use Rattle.cs_top.specs.Endings.{failed, CausedBy}
+use Rattle.cs_top.specs.Met.{Wrote}
+use Rattle.cs_top.specs.Steps.{Passes, StopsAt}
+use Rattle.cs_top.specs.Views.{of_script, stop_ending}
+use Rattle.cs_top.specs.declared.lines.ScriptStop.{ScriptStop}
+use Rattle.cs_top.specs.declared.lines.ScriptStop.TheVariants as scripts
+use Rattle.cs_top.specs.declared.script.Came.{Came}
+use Rattle.cs_top.specs.declared.script.Came.TheVariants as came
+use Rattle.cs_top.specs.declared.script.answers.Answer.{Answer}
+use Rattle.cs_top.specs.declared.script.answers.Answer.TheVariants as answers
+use Rattle.cs_top.proofs.LineTexts.{refused_apart, refused_text, request_text}
+use Rattle.cs_top.proofs.MemoryText.{memory_apart, reply_apart}
+
+plain_costs : (n m : ℕ) (t : List ℕ) → n ≤ m → t ≢ read_text → Costs came.Answered n m t
+plain_costs n m t later other = record { later = later; read = λ e. absurd (other e); clean = λ h. other; unchanged = λ e. cc e }
+
+pub has_costs : (A : MayPut) (l : List ℕ) (a : Answer) (n m : ℕ) → A l memory_text → HasText A l a → CameCounts (came_of a) n m → (t : List ℕ) × (line_bytes a ≡ t ++ 10 ∷ []) × A l t × Costs (came_of a) n m t
+has_costs A l (answers.Text b) n m memory (t, is, a, other) c = (t, is, a, plain_costs n m t c.later other)
+has_costs A l answers.Memory n m memory h c = (memory_text, refl, memory, plain_costs n m memory_text c.later memory_apart)
+has_costs A l answers.Read n m memory h c = (read_text, refl, h, record { later = c.later; read = λ e. c.read refl; clean = λ low. absurd (low refl); unchanged = λ e. cc e })
+has_costs A l (answers.Changed b) n m memory h c = absurd h
+
+module _ (f : FileView) (k : Corpus) (l : ℕ × List ℕ) (a : Answer) (n m : ℕ) (some : l.1 ≢ []) (read : line_fault l ≡ None) (h : HasText (MayAnswer f k) l.1 a) (c : CameCounts (came_of a) n m) where
+  text_there : (t : List ℕ) × (line_bytes a ≡ t ++ 10 ∷ []) × MayAnswer f k l.1 t × Costs (came_of a) n m t
+  text_there = has_costs (MayAnswer f k) l.1 a n m (inl (inr refl)) h c
+
+  pub passes : (old new : Option (List ℕ)) → Grew old (line_bytes a) new → Passes (MayAnswer f k) l old new (came_of a) n m
+  passes old new g =
+      let x = text_there in
+      inr (some, read, (x.0, x.2, x.3, subst (λ b. Grew old b new) x.1 g))
+
+  pub stops_there : (w : Wrote) → GrewByPrefix w.old (line_bytes a) w.new → Rose w.before w.now → StopsAt (MayAnswer f k) failed l w n m
+  stops_there w g rose =
+      let x = text_there in
+      (some, read, rose, (came_of a, x.0, x.2, x.3, subst (λ b. GrewByPrefix w.old b w.new) x.1 g))
+
+none_there : (o : Option (List ℕ)) → (is_some o ≡ true → ⊥) → o ≡ None
+none_there None never = refl
+none_there (Some b) never = absurd (never refl)
+
+module _ (f : FileView) (k : Corpus) (l : ℕ × List ℕ) (a : Answer) (n m : ℕ) (some : l.1 ≢ []) (read : line_fault l ≡ None) (h : HasText (MayAnswer f k) l.1 a) (c : CameCounts (came_of a) n m) where
+  -- a line whose answer was put
+  pub line_ok : {E : Type 0} (r : Result Came E) (old new : Option (List ℕ)) → OnOk r (Grew old (line_bytes a) new) → IfOk r (λ x. x ≡ came_of a) → IfOk r (λ came. Passes (MayAnswer f k) l old new came n m)
+  line_ok (Ok x) old new g is = subst (λ y. Passes (MayAnswer f k) l old new y n m) (sym is) (passes f k l a n m some read h c old new g)
+  line_ok (Err e) old new g is = tt
+
+  -- and one whose answer wasn't put whole
+  pub line_err : (r : Result Came ScriptStop) (w : Wrote) → OnErr r (GrewByPrefix w.old (line_bytes a) w.new) → IfErr r (λ s. s ≡ scripts.Failed) → IfErr r (λ s. CausedBy (stop_ending (of_script s)) w.before w.now)
+      → IfErr r (λ s. StopsAt (MayAnswer f k) (stop_ending (of_script s)) l w n m)
+  line_err (Ok x) w g is cause = tt
+  line_err (Err s) w g is cause =
+      subst (λ x. StopsAt (MayAnswer f k) (stop_ending (of_script x)) l w n m) (sym is)
+      (stops_there f k l a n m some read h c w g (subst (λ x. CausedBy (stop_ending (of_script x)) w.before w.now) is cause).0)
+
+-- what holds of what came holds of the result that says so
+pub said_came : {E : Type 0} (r : Result Came E) (a : Came) (P : Came → Type 0) → IfOk r (λ x. x ≡ a) → P a → IfOk r P
+said_came (Ok x) a P is p = subst P (sym is) p
+said_came (Err e) a P is p = tt
+
+pub some_bytes : (l : List ℕ) → false ≡ (length l == 0) → l ≢ []
+some_bytes [] h e = absurd cc
+some_bytes (b ∷ l) h e = absurd cc
+
+-- a refusal, as the answer to its line; without memory for its text that of want of memory
+pub refusal_is : (f : FileView) (k : Corpus) (p : List ℕ) (e : ReqFault) (r : Result (Vec ℕ Global) Memory) (a : Answer) → IsCause p e → IfOk r (λ b. a ≡ answers.Text b) → OnErr r (a ≡ answers.Memory)
+    → IfOk r (λ b. b.items ≡ fault_text (faults.Refused e) ++ 10 ∷ []) → OnOk r (e ≢ causes.Memory) → HasText (MayAnswer f k) p a
+refusal_is f k p e (Ok b) a cause whole none is other =
+    subst (HasText (MayAnswer f k) p) (sym whole) (text k p, is ∙ ap (λ t. t ++ 10 ∷ []) (sym (refused_text k p e cause other)), inl (inl refl), refused_apart k p e cause other)
+refusal_is f k p e (Err x) a cause whole none is other = subst (HasText (MayAnswer f k) p) (sym none) tt
+
+-- the reply to a request, as the answer to its line
+pub reply_is : (f : FileView) (k : Corpus) (p : List ℕ) (r : Request) (a : Answer) → request_refusal p ≡ None → r ≡ request_of p → HasReply k r a → (is_some f.made ≡ true → came_of a ≢ came.Read) → HasText (MayAnswer f k) p a
+reply_is f k p r (answers.Text b) accepted is h unread = (reply_text (reply_of k r), h, inl (inl (sym (request_text k p r accepted is))), reply_apart (reply_of k r))
+reply_is f k p r answers.Memory accepted is h unread = tt
+reply_is f k p r answers.Read accepted is h unread = inr (none_there f.made (λ e. unread e refl), inr (accepted, refl))
+reply_is f k p r (answers.Changed b) accepted is h unread = h

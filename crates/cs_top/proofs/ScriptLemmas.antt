@@ -1,0 +1,133 @@
+-- How a script ended, over other relations of a line and its text, and as `ask` and `replay` say it.
+--
+--   ends_by          what a relation says another one says too
+--   made_only        over a file in memory a line has its text or that of want of memory
+--   held_by, over_made, there_made, some_made, over_held     what is answered over: a file that was made, and one that is held
+--   script_short, script_answered, script_read     of `replay`: its script ended early, each line was answered, a read failed
+use Rattle.std.proofs.Common.{◌≡◌, ◌≢◌, ◌⊎◌, ℕ, ◌+◌, Bool, true, false, List, [], ◌∷◌, length, take, inl, inr, refl, sym, ap, ◌∙◌, subst, arith}
+use Rattle.std.specs.Prelude.{Option, Some, None, is_some, filter, if◌then◌else◌, Result, Ok, Err, IfOk, IfErr}
+use Rattle.std.specs.Str.{bytes_eq}
+use Rattle.std.proofs.lemmas.List.{take_all}
+use Rattle.std.proofs.lemmas.Slice.Eq.{bytes_eq-Decides}
+use Rattle.cs_base.specs.outside.Causes.{Rose}
+use Rattle.cs_base.specs.outside.Outside.{Grew}
+use Rattle.cs_hub.specs.Streams.{RoseBy}
+use Rattle.cs_model.specs.Corpus.{Corpus}
+use Rattle.cs_model.specs.Outputs.{MayPut, OneEach, AnswersFirst, IsAnswer, PutAll, failed_reads, first_fault, put_of, read_text, readable_lines}
+use Rattle.cs_model.proofs.OutputLemmas.{length-one_each}
+use Rattle.cs_base.specs.outside.Outside.{File, Held, IsHeld, file_bytes, size_of}
+use Rattle.cs_file.specs.Indexes.{IndexView, Fits, StandsFor}
+use Rattle.cs_model_index.specs.Sections.{file_corpus}
+use Rattle.cs_top.specs.Answering.{AnswersOver, FileView, IsReplayed, IsThere, MayAnswer, bytes_there}
+use Rattle.cs_top.specs.Endings.{Ending, done, not_built, usage, refused, damaged, absent, failed, no_memory, script_refused, changed}
+use Rattle.cs_top.specs.Met.{Wrote, held_bytes}
+use Rattle.cs_top.specs.Replay.{IsWholeBut, ReplayScript}
+use Rattle.cs_top.specs.Scripts.{ScriptEnds, ShortTally, Tally}
+use Rattle.cs_top.specs.Views.{of_script, stop_ending}
+use Rattle.cs_top.specs.declared.lines.ScriptStop.{ScriptStop}
+use Rattle.cs_top.specs.declared.lines.ScriptStop.TheVariants as scripts
+use Rattle.cs_top.specs.declared.script.Came.TheVariants as came
+use Rattle.cs_top.proofs.GrewLemmas.{grew_begun}
+
+each_by : (A B : MayPut) → ((l t : List ℕ) → A l t → B l t) → (ls ts : List (List ℕ)) → OneEach A ls ts → OneEach B ls ts
+each_by A B f [] [] h = tt
+each_by A B f [] (t ∷ ts) h = absurd h
+each_by A B f (l ∷ ls) [] h = absurd h
+each_by A B f (l ∷ ls) (t ∷ ts) h = (f l t h.0, each_by A B f ls ts h.1)
+
+pub ends_by : (A B : MayPut) → ((l t : List ℕ) → A l t → B l t) → (e : Ending) (ls : List (ℕ × List ℕ)) (ts : List (List ℕ)) (w : Wrote) → ScriptEnds A e ls ts w → ScriptEnds B e ls ts w
+ends_by A B f done ls ts w h = (h.0, (each_by A B f (readable_lines ls) ts h.1.0, h.1.1))
+ends_by A B f (script_refused r) ls ts w h = (h.0, (each_by A B f (readable_lines ls) ts h.1.0, h.1.1))
+ends_by A B f failed ls ts w h = ((each_by A B f (take (length ts) (readable_lines ls)) ts h.0.0, h.0.1), h.1)
+ends_by A B f not_built ls ts w h = absurd h
+ends_by A B f usage ls ts w h = absurd h
+ends_by A B f (refused r) ls ts w h = absurd h
+ends_by A B f (damaged rule at) ls ts w h = absurd h
+ends_by A B f (absent name) ls ts w h = absurd h
+ends_by A B f no_memory ls ts w h = absurd h
+ends_by A B f changed ls ts w h = absurd h
+
+some_none : (o : Option (List ℕ)) → is_some o ≡ true → o ≡ None → ⊥
+some_none None some none = absurd cc
+some_none (Some b) some none = absurd cc
+
+pub made_only : (f : FileView) (k : Corpus) → is_some f.made ≡ true → (l t : List ℕ) → MayAnswer f k l t → IsAnswer k l t
+made_only f k some l t (inl a) = a
+made_only f k some l t (inr r) = absurd (some_none f.made some r.0)
+
+pub replayed : (f : FileView) (k : Corpus) (l t : List ℕ) → MayAnswer f k l t → IsReplayed k l t
+replayed f k l t (inl a) = inl a
+replayed f k l t (inr r) = r.1
+
+-- ---- where no text says that a read failed
+counted : (t : List ℕ) (ts : List (List ℕ)) (b : Bool) → bytes_eq t read_text ≡ b → failed_reads (t ∷ ts) ≡ (if b then 1 + failed_reads ts else failed_reads ts)
+unfolding failed_reads
+counted t ts true e = rw e (omega arith)
+counted t ts false e = rw e refl
+
+plain_by : (k : Corpus) (l t : List ℕ) (b : Bool) → bytes_eq t read_text ≡ b → b ≡ false → IsReplayed k l t → IsAnswer k l t
+plain_by k l t b e never (inl a) = a
+plain_by k l t b e never (inr r) = let yes : true ≡ false = sym ((bytes_eq-Decides t read_text).1 r.1) ∙ e ∙ never in absurd cc
+
+one_plain : (k : Corpus) (l t : List ℕ) (ls ts : List (List ℕ)) (b : Bool) → bytes_eq t read_text ≡ b → failed_reads (t ∷ ts) ≡ 0 → IsReplayed k l t → (failed_reads ts ≡ 0 → OneEach (IsAnswer k) ls ts) → OneEach (IsAnswer k) (l ∷ ls) (t ∷ ts)
+one_plain k l t ls ts true e none h rest = let many = counted t ts true e in absurd (omega (arith, many, none))
+one_plain k l t ls ts false e none h rest = let same = counted t ts false e in (plain_by k l t false e refl h, rest (sym same ∙ none))
+
+plain_each : (k : Corpus) (ls ts : List (List ℕ)) → failed_reads ts ≡ 0 → OneEach (IsReplayed k) ls ts → OneEach (IsAnswer k) ls ts
+plain_each k [] [] none h = tt
+plain_each k [] (t ∷ ts) none h = absurd h
+plain_each k (l ∷ ls) [] none h = absurd h
+plain_each k (l ∷ ls) (t ∷ ts) none h = one_plain k l t ls ts (bytes_eq t read_text) refl none h.0 (λ rest. plain_each k ls ts rest h.1)
+
+-- ---- of `replay`
+module _ (f : FileView) (k : Corpus) (ls : List (ℕ × List ℕ)) (before now : ℕ) (w : Wrote) where
+  pub script_short : (s : ScriptStop) → ((ts : List (List ℕ)) × ScriptEnds (MayAnswer f k) (stop_ending (of_script s)) ls ts w × ShortTally (stop_ending (of_script s)) w before now ts) → ReplayScript k (stop_ending (of_script s)) ls before now w
+  script_short (scripts.Unread x) (ts, h, t) = (ts, ends_by (MayAnswer f k) (IsReplayed k) (replayed f k) (stop_ending (of_script (scripts.Unread x))) ls ts w h, t.rose)
+  script_short scripts.Failed (ts, h, t) = (ts, ends_by (MayAnswer f k) (IsReplayed k) (replayed f k) failed ls ts w h, t.rose, λ low few. absurd (few (t.more refl low)))
+
+  pub script_answered : ((ts : List (List ℕ)) × ScriptEnds (MayAnswer f k) done ls ts w × Tally came.Answered before now ts) → ReplayScript k done ls before now w
+  script_answered (ts, h, t) =
+      let put = ends_by (MayAnswer f k) (IsReplayed k) (replayed f k) done ls ts w h in
+      (ts, (put.0, (plain_each k (readable_lines ls) ts (t.clean (λ e. cc e)) put.1.0, put.1.1)))
+
+  pub script_read : ((ts : List (List ℕ)) × ScriptEnds (MayAnswer f k) done ls ts w × Tally came.Read before now ts) → ReplayScript k failed ls before now w
+  script_read (ts, h, t) =
+      let put = ends_by (MayAnswer f k) (IsReplayed k) (replayed f k) done ls ts w h in
+      let all : AnswersFirst (IsReplayed k) (readable_lines ls) ts =
+      subst (λ x. OneEach (IsReplayed k) x ts) (sym (take_all (length ts) (readable_lines ls) (let e = length-one_each (IsReplayed k) (readable_lines ls) ts put.1.0 in omega (arith, e)))) put.1.0 in
+      (ts, ((all, grew_begun w.old (put_of ts) w.new put.1.1), λ low. put.1.1), t.rose, λ low few. put)
+
+  pub script_changed : ((ts : List (List ℕ)) × ScriptEnds (MayAnswer f k) done ls ts w × Tally came.Changed before now ts) → ⊥
+  script_changed (ts, h, t) = t.unchanged refl
+
+-- ---- what is answered over
+-- a file of some size is held
+pub held_by : (f : Option File) (n : ℕ) → size_of f ≡ Some n → IsHeld f
+held_by None n e = absurd cc
+held_by (Some f) n e = omega arith
+
+module _ (i : IndexView) (f : FileView) (held : Option Held) where
+  pub over_made : (b s : List ℕ) (k : Corpus) → f ≡ record { made = Some s; name = []; size = 0 } → s ≡ b → StandsFor b i → k ≡ file_corpus b → AnswersOver i f held k
+  over_made b s k e p st q = (b, ap (λ x. bytes_there x held) e ∙ ap (λ x. Some x) p, st, q)
+
+  pub there_made : (b s : List ℕ) → f ≡ record { made = Some s; name = []; size = 0 } → s ≡ b → Fits (Some b) i → IsThere i f held
+  there_made b s e p fits = record {
+    sized = λ none. let wrong : Some s ≡ None = sym (ap (λ x. x.made) e) ∙ none in absurd cc;
+    fits = subst (λ o. Fits o i) (sym (ap (λ x. bytes_there x held) e ∙ ap (λ x. Some x) p)) fits;
+  }
+
+  pub some_made : (s : List ℕ) → f ≡ record { made = Some s; name = []; size = 0 } → is_some f.made ≡ true
+  some_made s e = ap (λ x. is_some x.made) e
+
+  pub over_held : (h : Held) (name : List ℕ) (size : ℕ) → f ≡ record { made = None; name = name; size = size } → held ≡ Some h → StandsFor (held_bytes h name) i → AnswersOver i f held (file_corpus (held_bytes h name))
+  over_held h name size e is st = (held_bytes h name, ap (λ x. bytes_there x held) e ∙ ap (λ x. file_bytes x name) is, st, refl)
+
+-- ---- what holds of a result that is known
+pub ok_there : {T E : Type 0} (r : Result T E) (x y : T) (P : T → Type 0) → r ≡ Ok x → x ≡ y → IfOk r P → P y
+ok_there r x y P e p h = subst P p (ok_at r x P e h)
+  where
+    ok_at : {T E : Type 0} (r : Result T E) (x : T) (P : T → Type 0) → r ≡ Ok x → IfOk r P → P x
+    ok_at r x P e h = subst (λ z. IfOk z P) e h
+
+pub err_there : {T E : Type 0} (r : Result T E) (x : E) (P : E → Type 0) → r ≡ Err x → IfErr r P → P x
+err_there r x P e h = subst (λ z. IfErr z P) e h

@@ -1,0 +1,98 @@
+use Rattle.std.proofs.Common.{◌≡◌, ◌≢◌, ◌∙◌, ℕ, true, List, rules, ap, sym, subst, arith, refl}
+use Rattle.std.specs.Prelude.{filter, is_some}
+use Rattle.std.specs.List.{enumerate_from}
+use Rattle.std.specs.Str.Lines.{lines}
+use Rattle.std.specs.FinMap as map
+use Rattle.cs_model.specs.Outputs.{script_lines}
+use Rattle.cs_model.specs.Words.{is_filled}
+use Rattle.cs_top.specs.Answering.{CameCounts, FileView, MayAnswer}
+use Rattle.cs_top.specs.Endings.{failed}
+use Rattle.cs_top.specs.Met.{held_bytes, wrote}
+use Rattle.cs_top.specs.Scripts.{ScriptEnds, ShortTally}
+use Rattle.cs_top.specs.Steps.{EndsAt, Reaches}
+use Rattle.cs_top.specs.declared.script.Came.{Came}
+use Rattle.cs_top.specs.declared.script.Came.TheVariants.{Read, Changed}
+use Rattle.cs_top.specs.Views.{of_script, stop_ending}
+use Rattle.cs_top.proofs.AnsweredLemmas.{HasAnswered, at_start, lines_at, unread, goes_on, ends_here, ends_done}
+use Rattle.cs_top.proofs.TallyLemmas.{counts_more, not_changed, not_read}
+use Rattle.cs_top.proofs.StepLemmas.{over_at}
+use Rattle.cs_top.proofs.WindowLemmas.{held_size}
+use Rattle.cs_top.proofs.script.answer_script.Goals as goal
+
+pub returns-in_err-at-clause-short : goal.returns-in_err-at-clause-short
+returns-in_err-at-clause-short g c k over h held =
+    let a = MayAnswer c.args.file.now k in
+    let ls = script_lines (held_bytes h c.args.script.now) in
+    let w = g.O.Sink.written c.args.out.now in
+    let n = g.O.Sink.faults c.args.out.now in
+    let fb = g.F.Files.faults c.args.files.now in
+    let fn = g.F.Files.faults c.first_place.new.files in
+    let all : (ts : List (List ℕ)) × ScriptEnds a failed ls ts (wrote g.O.Sink.written g.O.Sink.faults c.args.out.now c.args.out.now)
+    × ShortTally failed (wrote g.O.Sink.written g.O.Sink.faults c.args.out.now c.args.out.now) fb fn ts =
+    unread (at_start a ls ls w fb fb refl refl) n n w fn refl c.in_err-at.ensures.counted.failed in
+    search rules
+
+pub loop-place-init : goal.loop-place-init
+loop-place-init g c = record {
+  so_far = λ k over h held.
+      at_start _ _ _ (g.O.Sink.written c.args.out.now) (g.F.Files.faults c.args.files.now) (g.F.Files.faults c.first_place.new.files) (ap (λ x. filter (λ l. is_filled l.1) (enumerate_from 1 (lines x))) (c.in_ok-at.ensures.mark h held))
+      c.in_ok-at.ensures.counted.quiet;
+  unchanged = λ k over e. cc e;
+  made = λ some e. cc e;
+  counts = record { later = c.in_ok-at.ensures.counted.later; read = λ e. absurd (cc e); quiet = λ h. c.in_ok-at.ensures.counted.quiet };
+  engine = refl;
+  file = refl;
+  same = c.in_ok-at.ensures.same;
+  out = refl;
+  numbered = omega arith;
+}
+
+pub returns-in_err-next-clause-short : goal.returns-in_err-next-clause-short
+returns-in_err-next-clause-short g c k over h held =
+    let inv = c.loop-place.invariant in
+    let b = held_bytes h c.args.script.now in
+    let e = stop_ending (of_script c.in_err-next.field-0.0) in
+    let new = g.O.Sink.written c.answer_next.new.out in
+    let first = g.O.Sink.faults c.args.out.now in
+    let last = g.O.Sink.faults c.answer_next.new.out in
+    let n = g.F.Files.faults c.answer_next.new.files in
+    let there = c.in_err-next.ensures.err k (over_at _ _ _ _ _ _ k inv.engine inv.file inv.same over) h (inv.same ∙ held) in
+    let here : EndsAt (MayAnswer c.args.file.now k) e b c.loop-place.place (record { old = g.O.Sink.written c.loop-place.out; new = new; before = first; now = last }) (g.F.Files.faults c.loop-place.files) n =
+    subst (λ m. EndsAt (MayAnswer c.args.file.now k) e b c.loop-place.place (record { old = g.O.Sink.written c.loop-place.out; new = new; before = m; now = last }) (g.F.Files.faults c.loop-place.files) n) inv.out
+    (subst (λ f. EndsAt (MayAnswer f k) e b c.loop-place.place (wrote g.O.Sink.written g.O.Sink.faults c.loop-place.out c.answer_next.new.out) (g.F.Files.faults c.loop-place.files) n) inv.file there) in
+    let all : (ts : List (List ℕ)) × ScriptEnds (MayAnswer c.args.file.now k) e (script_lines b) ts (wrote g.O.Sink.written g.O.Sink.faults c.args.out.now c.answer_next.new.out)
+    × ShortTally e (wrote g.O.Sink.written g.O.Sink.faults c.args.out.now c.answer_next.new.out) (g.F.Files.faults c.args.files.now) n ts =
+    ends_here b c.loop-place.place (inv.so_far k over h held) first last e new n here in
+    search rules
+
+pub loop-place-preserved : goal.loop-place-preserved
+loop-place-preserved g c =
+    let inv = c.loop-place.invariant in
+    let is = c.and-came.ensures in
+    let next = c.in_ok-next in
+    record {
+      so_far = λ k over h held.
+          let b = held_bytes h c.args.script.now in
+          let there = next.ensures.ok k (over_at _ _ _ _ _ _ k inv.engine inv.file inv.same over) h (inv.same ∙ held) in
+          let here : Reaches (MayAnswer c.args.file.now k) b c.loop-place.place next.next (g.O.Sink.written c.loop-place.out) (g.O.Sink.written c.answer_next.new.out) next.met (g.F.Files.faults c.loop-place.files) (g.F.Files.faults c.answer_next.new.files) =
+          subst (λ f. Reaches (MayAnswer f k) b c.loop-place.place next.next (g.O.Sink.written c.loop-place.out) (g.O.Sink.written c.answer_next.new.out) next.met (g.F.Files.faults c.loop-place.files) (g.F.Files.faults c.answer_next.new.files)) inv.file there in
+          subst (λ x. HasAnswered (MayAnswer c.args.file.now k) (script_lines b) (lines_at b next.next) (g.O.Sink.written c.args.out.now) (g.O.Sink.written c.answer_next.new.out) x (g.F.Files.faults c.args.files.now) (g.F.Files.faults c.answer_next.new.files)) (sym is)
+          (goes_on b c.loop-place.place (inv.so_far k over h held) next.next (g.O.Sink.written c.answer_next.new.out) next.met (g.F.Files.faults c.answer_next.new.files) here);
+      unchanged = λ k over.
+          subst (λ x. x ≢ Changed) (sym is)
+          (not_changed c.loop-place.came next.met (inv.unchanged k over) (next.ensures.unchanged k (over_at _ _ _ _ _ _ k inv.engine inv.file inv.same over)));
+      made = λ some.
+          subst (λ x. x ≢ Read) (sym is)
+          (not_read c.loop-place.came next.met (inv.made some) (next.ensures.made (subst (λ f. is_some f.made ≡ true) (sym inv.file) some)));
+      counts = subst (λ x. CameCounts x (g.F.Files.faults c.args.files.now) (g.F.Files.faults c.answer_next.new.files)) (sym is) (counts_more c.loop-place.came next.met _ _ _ inv.counts next.ensures.counts);
+      engine = next.ensures.engine ∙ inv.engine;
+      file = next.ensures.file ∙ inv.file;
+      same = next.ensures.files ∙ inv.same;
+      out = next.ensures.quiet ∙ inv.out;
+      numbered = next.ensures.further.2;
+    }
+
+pub returns-clause-whole : goal.returns-clause-whole
+returns-clause-whole g c k over h held =
+    let size = held_size (map.get h c.args.script.now) c.args.size (c.requires.size h held) in
+    ends_done (held_bytes h c.args.script.now) c.loop-place.place (c.loop-place.invariant.so_far k over h held) (g.O.Sink.faults c.args.out.now) (g.O.Sink.faults c.loop-place.out) (omega (arith, size))

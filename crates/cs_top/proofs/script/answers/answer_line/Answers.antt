@@ -1,0 +1,20 @@
+use Rattle.std.proofs.Common.{◌≢◌, sym}
+use Rattle.cs_top.specs.Met.{wrote}
+use Rattle.cs_top.specs.Answering.{came_of}
+use Rattle.cs_top.specs.declared.script.Came.TheVariants.{Changed}
+use Rattle.cs_top.proofs.AnswerLemmas.{line_err, line_ok, said_came, some_bytes}
+use Rattle.cs_top.proofs.script.answers.answer_line.Goals as goal
+
+pub returns-clause-ok : goal.returns-clause-ok
+returns-clause-ok g c k over =
+    line_ok c.args.file.now k (c.args.number, c.args.line.now) c.answer_params-answer.result _ _ (some_bytes c.args.line.now c.if-is_empty.ensures) (sym c.in_default.ensures)
+    (c.answer_params-answer.ensures.text k over) c.answer_params-answer.ensures.counts c.put_answer.result _ _ c.put_answer.ensures.ok c.put_answer.ensures.came
+
+pub returns-clause-err : goal.returns-clause-err
+returns-clause-err g c k over =
+    line_err c.args.file.now k (c.args.number, c.args.line.now) c.answer_params-answer.result _ _ (some_bytes c.args.line.now c.if-is_empty.ensures) (sym c.in_default.ensures)
+    (c.answer_params-answer.ensures.text k over) c.answer_params-answer.ensures.counts c.put_answer.result
+    (wrote g.O.Sink.written g.O.Sink.faults c.args.out.now c.put_answer.new.out) c.put_answer.ensures.err c.put_answer.ensures.kind c.put_answer.ensures.caused
+
+pub returns-clause-unchanged : goal.returns-clause-unchanged
+returns-clause-unchanged g c k over = said_came c.put_answer.result (came_of c.answer_params-answer.result) (λ x. x ≢ Changed) c.put_answer.ensures.came (c.answer_params-answer.ensures.unchanged k over)

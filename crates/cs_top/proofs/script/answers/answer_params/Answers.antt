@@ -1,0 +1,12 @@
+use Rattle.cs_query.specs.RequestView.{asked}
+use Rattle.cs_top.proofs.AnswerLemmas.{refusal_is, reply_is}
+use Rattle.cs_top.proofs.script.answers.answer_params.Goals as goal
+
+pub returns-in-Ok-clause-text : goal.returns-in-Ok-clause-text
+returns-in-Ok-clause-text g c k over =
+    reply_is c.args.file.now k c.args.line.now (asked c.in-Ok.wanted) c.answer_request.result c.in-Ok.ensures.accepted c.in-Ok.ensures.ok (c.answer_request.ensures.text k over) c.answer_request.ensures.unread
+
+pub returns-in-Err-clause-text : goal.returns-in-Err-clause-text
+returns-in-Err-clause-text g c k over =
+    refusal_is c.args.file.now k c.args.line.now c.in-Err.fault c.refusal_line.result c.text_or_memory.result c.in-Err.ensures.err c.text_or_memory.ensures.text c.text_or_memory.ensures.memory
+    c.refusal_line.ensures.text c.refusal_line.ensures.refused

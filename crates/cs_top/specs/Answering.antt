@@ -1,0 +1,110 @@
+-- What answers the lines of a script: an engine and the bytes of its index file, made in memory or held by the files.
+--
+--   FileView                   an index file of the code: its bytes where they were made, else its name and size
+--   bytes_there f held         the bytes that it tells; None where the files don't tell
+--   IsThere i f held           a file that fits the index
+--   AnswersOver i f held k     k is the corpus of an index file that stands for the index
+--   IsReplayed k l t           t may be put for the line over an index file: its text, the memory text, or in a reply's place that of a
+--                              failed read
+--   MayAnswer f k              what may be put for a line over this file
+--   Came                       what came of the lines so far: only answers, or a failed read or a change too
+--   worst a b                  what came of some lines and of more
+--   CameCounts came before now     a count of failures rose where a failed read came, and else stayed
+--   Costs came before now t    a count rose where the text is that of a failed read, and that is said to have come
+--   came_of a                  what comes of a line by what is put for it
+--   line_bytes a               what is put for it, with its line ending
+--   HasText A l a              what is put for a line has a text by A; no change is put
+--   HasReply k r a             what is put for a request has the text of its reply, or of a failed read
+use Rattle.std.specs.Prelude.{◌≡◌, ◌≢◌, ◌⊎◌, ℕ, ◌≤◌, List, [], ◌∷◌, ◌++◌, Option, Some, None}
+use Rattle.std.specs.Option.{ForSome, option_or}
+use Rattle.std.specs.FinMap as map
+use Rattle.cs_base.specs.outside.Causes.{Rose}
+use Rattle.cs_base.specs.outside.Outside.{Held, file_bytes}
+use Rattle.cs_file.specs.Indexes.{IndexView, Fits, StandsFor}
+use Rattle.cs_model.specs.Corpus.{Corpus}
+use Rattle.cs_model.specs.Outputs.{MayPut, IsAnswer, memory_text, read_text}
+use Rattle.cs_model.specs.Parameters.{request_refusal}
+use Rattle.cs_model.specs.Replies.{reply_text}
+use Rattle.cs_model.specs.Requests.{Request, reply_of}
+use Rattle.cs_model_index.specs.Sections.{file_corpus}
+use Rattle.cs_top.specs.Met.{HasSize}
+use Rattle.cs_top.specs.declared.script.Came.{Came}
+use Rattle.cs_top.specs.declared.script.Came.TheVariants.{Answered, Read, Changed}
+use Rattle.cs_top.specs.declared.script.answers.Answer.{Answer}
+use Rattle.cs_top.specs.declared.script.answers.Answer.TheVariants as answers
+
+-- an index file that was made has bytes, and its name and size don't count
+pub record FileView : Type 0 where
+  pub made : Option (List ℕ)
+  pub name : List ℕ
+  pub size : ℕ
+
+-- those that were made, else those that the files tell; none of a name that isn't held
+abbrev pub bytes_there : FileView → Option Held → Option (List ℕ)
+bytes_there f held = option_or f.made (file_bytes held f.name)
+
+-- a file that is held has this size, and the bytes fit the index
+pub record IsThere (i : IndexView) (f : FileView) (held : Option Held) : Type 0 where
+  pub sized : f.made ≡ None → HasSize held f.name f.size
+  pub fits : Fits (bytes_there f held) i
+
+-- the bytes are told, they stand for the index, and this is their corpus; of files that don't tell there is no such corpus
+abbrev pub AnswersOver : IndexView → FileView → Option Held → Corpus → Type 0
+AnswersOver i f held k = (b : List ℕ) × (bytes_there f held ≡ Some b) × StandsFor b i × (k ≡ file_corpus b)
+
+-- an answer to the line, or in the place of a reply the text of a failed read; a refused line has its own text
+abbrev pub IsReplayed : Corpus → MayPut
+IsReplayed k l t = IsAnswer k l t ⊎ ((request_refusal l ≡ None) × (t ≡ read_text))
+
+-- a file that was made in memory is never read in vain
+abbrev pub MayAnswer : FileView → Corpus → MayPut
+MayAnswer f k l t = IsAnswer k l t ⊎ ((f.made ≡ None) × IsReplayed k l t)
+
+-- a failed read goes before a change, and a change before answers
+abbrev pub worst : Came → Came → Came
+worst Read b = Read
+worst Changed Read = Read
+worst Changed b = Changed
+worst Answered b = b
+
+-- where a failed read came it rose, and else it is as it was; it never falls
+pub record CameCounts (came : Came) (before now : ℕ) : Type 0 where
+  pub later : before ≤ now
+  pub read : came ≡ Read → Rose before now
+  pub quiet : came ≢ Read → now ≡ before
+
+-- a failed read costs, and where none is said to have come there is no such text; no change comes
+pub record Costs (came : Came) (before now : ℕ) (t : List ℕ) : Type 0 where
+  pub later : before ≤ now
+  pub read : t ≡ read_text → Rose before now
+  pub clean : came ≢ Read → t ≢ read_text
+  pub unchanged : came ≢ Changed
+
+-- by what is put for it
+abbrev pub came_of : Answer → Came
+came_of (answers.Text b) = Answered
+came_of answers.Memory = Answered
+came_of answers.Read = Read
+came_of (answers.Changed b) = Changed
+
+-- where there is no memory for a text, that of want of memory
+abbrev pub line_bytes : Answer → List ℕ
+line_bytes (answers.Text b) = b.items
+line_bytes answers.Memory = memory_text ++ 10 ∷ []
+line_bytes answers.Read = read_text ++ 10 ∷ []
+line_bytes (answers.Changed (Some b)) = b.items
+line_bytes (answers.Changed None) = memory_text ++ 10 ∷ []
+
+-- what is put has a text by A, which is that of a failed read where it says so; nothing is said of want of memory
+abbrev pub HasText : MayPut → List ℕ → Answer → Type 0
+HasText A l (answers.Text b) = (t : List ℕ) × (b.items ≡ t ++ 10 ∷ []) × A l t × (t ≢ read_text)
+HasText A l answers.Memory = Unit {0}
+HasText A l answers.Read = A l read_text
+HasText A l (answers.Changed b) = ⊥
+
+-- the text of the reply, want of memory or a failed read
+abbrev pub HasReply : Corpus → Request → Answer → Type 0
+HasReply k r (answers.Text b) = b.items ≡ reply_text (reply_of k r) ++ 10 ∷ []
+HasReply k r answers.Memory = Unit {0}
+HasReply k r answers.Read = Unit {0}
+HasReply k r (answers.Changed b) = ⊥

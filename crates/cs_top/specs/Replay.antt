@@ -1,0 +1,95 @@
+-- What `replay INDEX SCRIPT` does.
+--
+--   AreThere h i s           both files are held
+--   IsOpen h i s             the same, and the first is an index file
+--   ReplayStops e h i s      what shows that it ended so before its script
+--   IsWholeBut k ls ts w     each line has its text, a failed read's among them
+--   ReplayScript k e ls before now w     how its script ended over a corpus, and what was put for it
+--   ReplayTold               how it ended over files that tell: before its script, with nothing put, or with its script
+--   ReplayEnds e i s w       how it may end over any files
+--   ReplayCaused             why it ends: where it failed a count rose; a read that failed before a refused line is no failure
+--   ReplayRan e i s m        a whole run
+--   CanReplay h i s          the script can be answered whole
+use Rattle.std.specs.Prelude.{◌≡◌, ◌⊎◌, ℕ, ◌+◌, ◌≤◌, List, Option, Some, None}
+use Rattle.std.specs.Option.{ForSome}
+use Rattle.std.specs.FinMap as map
+use Rattle.cs_base.specs.outside.Causes.{Rose}
+use Rattle.cs_base.specs.outside.Outside.{Held, IsHeld}
+use Rattle.cs_hub.specs.Streams.{RoseBy}
+use Rattle.cs_model.specs.Corpus.{Corpus}
+use Rattle.cs_model.specs.Outputs.{IsAnswer, PutAll, failed_reads, readable_lines, script_lines}
+use Rattle.cs_model_index.specs.BlockRules.{broken_at}
+use Rattle.cs_model_index.specs.FileRules.{damage, IsIndexFile}
+use Rattle.cs_model_index.specs.Sections.{file_corpus}
+use Rattle.cs_top.specs.Answering.{IsReplayed}
+use Rattle.cs_top.specs.Endings.{Ending, done, not_built, usage, refused, absent, damaged, failed, no_memory, script_refused}
+use Rattle.cs_top.specs.Met.{Met, Wrote, held_bytes}
+use Rattle.cs_top.specs.Scripts.{ScriptEnds, IsReadable}
+
+-- ---- over files that tell
+-- both files are held
+abbrev pub AreThere : Held → List ℕ → List ℕ → Type 0
+AreThere h i s = IsHeld (map.get h i) × IsHeld (map.get h s)
+
+-- both files are held, and the first breaks no rule of index files
+abbrev pub IsOpen : Held → List ℕ → List ℕ → Type 0
+IsOpen h i s = AreThere h i s × IsIndexFile (held_bytes h i)
+
+-- Before its script: the first of the two names that isn't held is said to be absent, and damage is the first broken rule of the
+-- index file and its place. Both sizes are asked before anything is read, and take no memory: want of memory hides no absent file.
+abbrev pub ReplayStops : Ending → Held → List ℕ → List ℕ → Type 0
+ReplayStops (absent name) h i s = ((name ≡ i) × (map.get h i ≡ None)) ⊎ ((name ≡ s) × IsHeld (map.get h i) × (map.get h s ≡ None))
+ReplayStops (damaged rule at) h i s = AreThere h i s × (damage (held_bytes h i) ≡ Some (broken_at rule at))
+ReplayStops no_memory h i s = AreThere h i s
+ReplayStops failed h i s = Unit {0}
+ReplayStops e h i s = ⊥
+
+-- each line is read and has a text, in a reply's place maybe that of a failed read
+abbrev pub IsWholeBut : Corpus → List (ℕ × List ℕ) → List (List ℕ) → Wrote → Type 0
+IsWholeBut k ls ts w = IsReadable ls × PutAll (IsReplayed k) (readable_lines ls) ts w.old w.new
+
+-- Done: each line was answered, and no read failed. A refused line: those before it were answered. Failed: some first lines were; where
+-- out's count didn't rise, and the files' count no more than texts say that a read failed, all of them. It ends in no other way.
+-- Of the texts at most as many say that a read failed as the count rose by, unless that stands at its last value.
+abbrev pub ReplayScript : Corpus → Ending → List (ℕ × List ℕ) → ℕ → ℕ → Wrote → Type 0
+ReplayScript k done ls before now w = (ts : List (List ℕ)) × ScriptEnds (IsAnswer k) done ls ts w
+ReplayScript k (script_refused f) ls before now w = (ts : List (List ℕ)) × ScriptEnds (IsReplayed k) (script_refused f) ls ts w × RoseBy (failed_reads ts) before now
+ReplayScript k failed ls before now w =
+    (ts : List (List ℕ)) × ScriptEnds (IsReplayed k) failed ls ts w × RoseBy (failed_reads ts) before now
+    × (¬ Rose w.before w.now → ¬ RoseBy (failed_reads ts + 1) before now → IsWholeBut k ls ts w)
+ReplayScript k e ls before now w = ⊥
+
+-- how it ended over files that tell: before its script, with nothing put, or with its script; the numbers are the files' count before
+-- and after it
+abbrev pub ReplayTold : Ending → Held → List ℕ → List ℕ → ℕ → ℕ → Wrote → Type 0
+ReplayTold e h i s before now w =
+    (ReplayStops e h i s × (w.new ≡ w.old)) ⊎ (IsOpen h i s × ReplayScript (file_corpus (held_bytes h i)) e (script_lines (held_bytes h s)) before now w)
+
+-- ---- over any files
+-- how it may end over any files: a name that is said to be absent is one of the two, and nothing is put before the script
+abbrev pub ReplayEnds : Ending → List ℕ → List ℕ → Wrote → Type 0
+ReplayEnds usage i s w = ⊥
+ReplayEnds not_built i s w = ⊥
+ReplayEnds (refused r) i s w = ⊥
+ReplayEnds (absent name) i s w = ((name ≡ i) ⊎ (name ≡ s)) × (w.new ≡ w.old)
+ReplayEnds (damaged rule at) i s w = w.new ≡ w.old
+ReplayEnds no_memory i s w = w.new ≡ w.old
+ReplayEnds e i s w = Unit {0}
+
+-- where it failed one of the counts rose; before a refused line reads may have failed; else both are as they were
+abbrev pub ReplayCaused : Ending → ℕ → ℕ → ℕ → ℕ → Type 0
+ReplayCaused failed files_before files_now out_before out_now = (Rose files_before files_now ⊎ Rose out_before out_now) × (files_before ≤ files_now) × (out_before ≤ out_now)
+ReplayCaused (script_refused f) files_before files_now out_before out_now = (files_before ≤ files_now) × (out_now ≡ out_before)
+ReplayCaused e files_before files_now out_before out_now = (files_now ≡ files_before) × (out_now ≡ out_before)
+
+-- a whole run; it changes no file, and meets no hub
+pub record ReplayRan {H : Type 0} (e : Ending) (i s : List ℕ) (m : Met H) : Type 0 where
+  pub ends : ReplayEnds e i s m.out
+  pub told : ForSome m.held (λ h. ReplayTold e h i s m.files_before m.files_now m.out)
+  pub caused : ReplayCaused e m.files_before m.files_now m.out.before m.out.now
+  pub files : m.held_now ≡ m.held
+  pub hub : m.hub_now ≡ m.hub
+
+-- the script can be answered whole
+abbrev pub CanReplay : Held → List ℕ → List ℕ → Type 0
+CanReplay h i s = IsOpen h i s × IsReadable (script_lines (held_bytes h s))

@@ -1,0 +1,87 @@
+//! What answers requests: an engine, over an index file in memory or one that the files hold.
+ghost use Rattle.std.specs.Prelude.{◌≡◌, true, false, Some, None, [], IfOk, is_some};
+ghost use Rattle.cs_engine.specs.Asking.{is_changed, is_read};
+ghost use Rattle.cs_file.specs.Indexes.{CausedReads};
+ghost use Rattle.cs_model.specs.Corpus.{Corpus};
+ghost use Rattle.cs_model.specs.Parameters.{HoldsLimits};
+ghost use Rattle.cs_model.specs.Requests.{reply_of};
+ghost use Rattle.cs_query.specs.RequestView.{asked};
+ghost use Rattle.cs_top.specs.Answering.{AnswersOver, IsThere};
+
+use cs_base::{FileStore, Files, MemStore};
+use cs_engine::{AskFault, Engine};
+use cs_query::{Reply, Request};
+use std::alloc::Global;
+use std::marker::Model;
+
+/// An index file, in memory or among the files.
+#[derive(Drop)]
+pub(crate) struct IndexFile<'a> {
+    home: Home<'a>,
+}
+
+// Where it lies.
+#[derive(Drop)]
+enum Home<'a> {
+    // In memory.
+    Memory(MemStore),
+    // Among the files, with its name and its size in bytes.
+    Files { name: &'a str, size: u64 },
+}
+
+impl<'a> Model for IndexFile<'a> {
+    ghost use Rattle.cs_top.specs.Answering.{FileView};
+    ghost use Rattle.cs_top.specs.Views.{home_seen};
+
+    ghost Value = { FileView };
+
+    ghost view = { λ f. home_seen f.home };
+}
+
+impl<'a> IndexFile<'a> {
+    /// The file whose bytes a store in memory holds.
+    pub(crate) fn made(store: MemStore) -> IndexFile<'a>
+        ensures { result ≡ record { made = Some store.bytes; name = []; size = 0 } }
+    {
+        IndexFile {
+            home: Home::Memory(store),
+        }
+    }
+
+    /// The file of this name and of so many bytes.
+    pub(crate) fn held(name: &'a str, size: u64) -> IndexFile<'a>
+        ensures { result ≡ record { made = None; name = name.now; size = size } }
+    {
+        IndexFile {
+            home: Home::Files { name, size },
+        }
+    }
+}
+
+/// The reply to a request, over an index file that is there.
+pub(crate) fn respond<F: Files>(
+    alloc: Global,
+    engine: &mut Engine,
+    file: &mut IndexFile<'_>,
+    files: &mut F,
+    request: &Request,
+) -> Result<Reply, AskFault>
+    requires limits { HoldsLimits (asked request.now) }
+    requires there { IsThere engine.old.index file.old (F.held files.old) }
+
+    ensures ok { (k : Corpus) → AnswersOver engine.old.index file.old (F.held files.old) k → IfOk result (λ r. r ≡ reply_of k (asked request.now)) }
+    ensures unchanged { (k : Corpus) → AnswersOver engine.old.index file.old (F.held files.old) k → is_changed result ≡ false }
+    ensures unread { is_some file.old.made ≡ true → is_read result ≡ false }
+    ensures engine { engine.new.index ≡ engine.old.index }
+    ensures file { file.new ≡ file.old }
+    ensures files { F.held files.new ≡ F.held files.old }
+    ensures caused { CausedReads (is_read result) (F.faults files.old) (F.faults files.new) }
+{
+    match &mut file.home {
+        Home::Memory(store) => engine.ask(alloc, store, request),
+        Home::Files { name, size } => {
+            let mut store = FileStore::new(files, name, *size);
+            engine.ask(alloc, &mut store, request)
+        }
+    }
+}

@@ -1,0 +1,102 @@
+//! `ask COLLECTION SCRIPT`: a script that is answered over a collection, with its index file in memory.
+ghost use Rattle.std.specs.Prelude.{◌≡◌, Some, IfOk, IfErr, OnOk};
+ghost use Rattle.std.specs.Option.{ForSome};
+ghost use Rattle.cs_file.specs.Indexes.{Fits, StandsFor};
+ghost use Rattle.cs_file.specs.Writable.{CanBeWritten};
+ghost use Rattle.cs_model.specs.Corpus.{corpus};
+ghost use Rattle.cs_model_index.specs.FileRules.{IsIndexFile};
+ghost use Rattle.cs_model_index.specs.Layout.{file};
+ghost use Rattle.cs_model_index.specs.Sections.{file_corpus};
+ghost use Rattle.cs_top.specs.Ask.{AskEnds, AskStops, AskTold, IsReady};
+ghost use Rattle.cs_top.specs.Endings.{Caused, CausedBy};
+ghost use Rattle.cs_top.specs.Met.{HasSize, OfBytes, Wrote, wrote};
+ghost use Rattle.cs_top.specs.Views.{ended, stop_ending};
+
+use crate::answering::IndexFile;
+use crate::collection::read_image;
+use crate::ending::Stop;
+use crate::files::size_of;
+use crate::script::{Came, answer_script};
+use cs_base::{Files, MemSink, MemStore, Memory, Sink};
+use cs_engine::Engine;
+use cs_file::{Image, OpenFault, WriteFault, open_index, write_index};
+use std::alloc::Global;
+
+/// Answers each line of a script over a collection.
+pub(crate) fn ask<'a, F: Files, O: Sink>(
+    alloc: Global,
+    collection: &'a str,
+    script: &'a str,
+    files: &mut F,
+    out: &mut O,
+) -> Result<(), Stop<'a>>
+    ensures ends { AskEnds (ended result) collection.now script.now (wrote O.written O.faults out.old out.new) }
+    ensures told { ForSome (F.held files.old) (λ h. AskTold (ended result) h collection.now script.now (wrote O.written O.faults out.old out.new)) }
+    ensures caused { Caused (ended result) (F.faults files.old) (F.faults files.new) (O.faults out.old) (O.faults out.new) }
+    ensures files { F.held files.new ≡ F.held files.old }
+{
+    let (image, size) = prepare(alloc, collection, script, files)?;
+    let (mut engine, store) = opened(alloc, image)?;
+    let mut file = IndexFile::made(store);
+    match answer_script(alloc, &mut engine, &mut file, files, script, size, out) {
+        Ok(Came::Answered) => Ok(()),
+        Ok(Came::Read) => unreachable!(),
+        Ok(Came::Changed) => unreachable!(),
+        Err(stop) => Err(Stop::from(stop)),
+    }
+}
+
+// The image of the collection, and the script's size.
+fn prepare<'a, F: Files>(
+    alloc: Global,
+    collection: &'a str,
+    script: &'a str,
+    files: &mut F,
+) -> Result<(Image, u64), Stop<'a>>
+    ensures ready { ForSome (F.held files.old) (λ h. OnOk result (IsReady h collection.now script.now)) }
+    ensures corpus { OfBytes (F.held files.old) collection.now (λ b. IfOk result (λ p. file_corpus (file p.0) ≡ corpus b)) }
+    ensures writable { IfOk result (λ p. CanBeWritten p.0) }
+    ensures whole { IfOk result (λ p. IsIndexFile (file p.0)) }
+    ensures size { IfOk result (λ p. HasSize (F.held files.old) script.now p.1) }
+    ensures stops { ForSome (F.held files.old) (λ h. IfErr result (λ s. AskStops (stop_ending s) h collection.now script.now)) }
+    ensures ends { IfErr result (λ s. (w : Wrote) → w.new ≡ w.old → AskEnds (stop_ending s) collection.now script.now w) }
+    ensures quiet { OnOk result (F.faults files.new ≡ F.faults files.old) }
+    ensures caused { IfErr result (λ s. CausedBy (stop_ending s) (F.faults files.old) (F.faults files.new)) }
+    ensures files { F.held files.new ≡ F.held files.old }
+{
+    let collection_size = size_of(files, collection)?;
+    let script_size = size_of(files, script)?;
+    let image = read_image(alloc, files, collection, collection_size)?;
+    Ok((image, script_size))
+}
+
+// The engine over the index file of an image, and that file.
+fn opened(alloc: Global, image: Image) -> Result<(Engine, MemStore), Memory>
+    requires writable { CanBeWritten image }
+    requires whole { IsIndexFile (file image) }
+
+    ensures bytes { IfOk result (λ p. p.1.bytes ≡ file image) }
+    ensures stands { IfOk result (λ p. StandsFor (file image) p.0.index) }
+    ensures fits { IfOk result (λ p. Fits (Some (file image)) p.0.index) }
+{
+    let bytes = file_of(alloc, image)?;
+    let mut store = MemStore::new(bytes);
+    match open_index(alloc, &mut store) {
+        Ok(index) => Ok((Engine::new(index), store)),
+        Err(OpenFault::Memory) => Err(Memory),
+        Err(OpenFault::Read | OpenFault::Damaged { .. }) => unreachable!(),
+    }
+}
+
+// The bytes of the index file of an image.
+fn file_of(alloc: Global, image: Image) -> Result<Vec<u8>, Memory>
+    requires writable { CanBeWritten image }
+
+    ensures ok { IfOk result (λ b. b.items ≡ file image) }
+{
+    let mut sink = MemSink::new(alloc);
+    match write_index(alloc, &image, &mut sink) {
+        Ok(()) => Ok(sink.into_bytes()),
+        Err(WriteFault::Sink | WriteFault::Memory) => Err(Memory),
+    }
+}

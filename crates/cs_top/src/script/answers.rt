@@ -1,0 +1,228 @@
+//! One line of a script, answered.
+ghost use Rattle.std.specs.Prelude.{◌≡◌, ◌≢◌, ◌≤◌, ◌++◌, ◌∷◌, [], true, IfOk, IfErr, OnOk, OnErr, is_some};
+ghost use Rattle.cs_base.specs.outside.Outside.{Grew, GrewByPrefix};
+ghost use Rattle.cs_json.specs.FaultTexts.{fault_text};
+ghost use Rattle.cs_json.specs.declared.fault.Fault.TheVariants as faults;
+ghost use Rattle.cs_model.specs.Corpus.{Corpus};
+ghost use Rattle.cs_model.specs.Outputs.{memory_text, read_text};
+ghost use Rattle.cs_model.specs.Parameters.{HoldsLimits};
+ghost use Rattle.cs_model.specs.Replies.{reply_text};
+ghost use Rattle.cs_query.specs.RequestView.{asked};
+ghost use Rattle.cs_query.specs.declared.request.ReqFault.{ReqFault};
+ghost use Rattle.cs_top.specs.Answering.{AnswersOver, CameCounts, HasReply, HasText, IsThere, MayAnswer, came_of, line_bytes};
+ghost use Rattle.cs_top.specs.Endings.{CausedBy};
+ghost use Rattle.cs_top.specs.declared.script.answers.Answer.TheVariants as answers;
+ghost use Rattle.cs_top.specs.Met.{wrote};
+ghost use Rattle.cs_top.specs.Steps.{Passes, StopsAt};
+ghost use Rattle.cs_top.specs.Views.{of_script, stop_ending};
+
+use crate::answering::{IndexFile, respond};
+use crate::lines::{ScriptStop, line_fault};
+use crate::script::Came;
+use cs_base::{Files, Memory, Sink};
+use cs_engine::{AskFault, Engine};
+use cs_http::request;
+use cs_json::{Fault, fault_bytes, reply_bytes};
+use cs_query::{Reply, ReqFault, Request};
+use std::alloc::Global;
+
+/// What is put for a line that is read, with its line ending.
+#[derive(Drop)]
+enum Answer {
+    /// Its text.
+    Text(Vec<u8>),
+    /// The text of want of memory.
+    Memory,
+    /// In a reply's place, the text of a failed read.
+    Read,
+    /// In a reply's place, that of an index file that changed; None where there was no memory for it.
+    Changed(Option<Vec<u8>>),
+}
+
+impl From<Memory> for Answer {
+    ghost use Rattle.std.specs.Prelude.{◌≡◌};
+    ghost use Rattle.cs_top.specs.declared.script.answers.Answer.TheVariants as answers;
+
+    ghost from_gives = { λ _ e. e ≡ answers.Memory };
+
+    fn from(_: Memory) -> Answer {
+        Answer::Memory
+    }
+}
+
+/// Answers a line of a script, if it has bytes, and says what came of it. An error says how the script ends there.
+pub(crate) fn answer_line<F: Files, O: Sink>(
+    alloc: Global,
+    engine: &mut Engine,
+    file: &mut IndexFile<'_>,
+    files: &mut F,
+    line: &[u8],
+    number: u64,
+    out: &mut O,
+) -> Result<Came, ScriptStop>
+    requires there { IsThere engine.old.index file.old (F.held files.old) }
+
+    ensures ok { (k : Corpus) → AnswersOver engine.old.index file.old (F.held files.old) k → IfOk result (λ came. Passes (MayAnswer file.old k) (number, line.now) (O.written out.old) (O.written out.new) came (F.faults files.old) (F.faults files.new)) }
+    ensures err { (k : Corpus) → AnswersOver engine.old.index file.old (F.held files.old) k → IfErr result (λ s. StopsAt (MayAnswer file.old k) (stop_ending (of_script s)) (number, line.now)
+        (wrote O.written O.faults out.old out.new) (F.faults files.old) (F.faults files.new)) }
+    ensures unchanged { (k : Corpus) → AnswersOver engine.old.index file.old (F.held files.old) k → IfOk result (λ came. came ≢ Came.Changed) }
+    ensures engine { engine.new.index ≡ engine.old.index }
+    ensures file { file.new ≡ file.old }
+    ensures files { F.held files.new ≡ F.held files.old }
+    ensures counts { IfOk result (λ came. CameCounts came (F.faults files.old) (F.faults files.new)) }
+    ensures later { F.faults files.old ≤ F.faults files.new }
+    ensures unread { is_some file.old.made ≡ true → IfOk result (λ came. came ≢ Came.Read) }
+    ensures made { is_some file.old.made ≡ true → F.faults files.new ≡ F.faults files.old }
+    ensures quiet { OnOk result (O.faults out.new ≡ O.faults out.old) }
+    ensures caused { IfErr result (λ s. CausedBy (stop_ending (of_script s)) (O.faults out.old) (O.faults out.new)) }
+{
+    if line.is_empty() {
+        return Ok(Came::Answered);
+    }
+    if let Some(fault) = line_fault(line, number) {
+        return Err(ScriptStop::Unread(fault));
+    }
+    let answer = answer_params(alloc, engine, file, files, line);
+    put_answer(out, &answer)
+}
+
+// Puts an answer, and says what came of the line.
+fn put_answer<O: Sink>(out: &mut O, answer: &Answer) -> Result<Came, ScriptStop>
+    ensures ok { OnOk result (Grew (O.written out.old) (line_bytes answer.now) (O.written out.new)) }
+    ensures came { IfOk result (λ c. c ≡ came_of answer.now) }
+    ensures err { OnErr result (GrewByPrefix (O.written out.old) (line_bytes answer.now) (O.written out.new)) }
+    ensures kind { IfErr result (λ s. s ≡ ScriptStop.Failed) }
+    ensures quiet { OnOk result (O.faults out.new ≡ O.faults out.old) }
+    ensures caused { IfErr result (λ s. CausedBy (stop_ending (of_script s)) (O.faults out.old) (O.faults out.new)) }
+{
+    match answer {
+        Answer::Text(bytes) => put(out, bytes, Came::Answered),
+        Answer::Memory => put(out, memory_line(), Came::Answered),
+        Answer::Read => put(out, read_line(), Came::Read),
+        Answer::Changed(Some(bytes)) => put(out, bytes, Came::Changed),
+        Answer::Changed(None) => put(out, memory_line(), Came::Changed),
+    }
+}
+
+// The text in a line's place where memory ran out, with its line ending.
+#[tactic(auto, using(crate::proofs::MemoryText::memory_line))]
+fn memory_line() -> &'static [u8]
+    ensures { result.now ≡ memory_text ++ 10 ∷ [] }
+{
+    b"{\"error\":\"memory\"}\n"
+}
+
+// The text in a reply's place where the index file couldn't be read, with its line ending.
+#[tactic(auto, using(crate::proofs::MemoryText::read_line))]
+fn read_line() -> &'static [u8]
+    ensures { result.now ≡ read_text ++ 10 ∷ [] }
+{
+    b"{\"error\":\"read\"}\n"
+}
+
+// Puts the text of a line, of which this came.
+fn put<O: Sink>(out: &mut O, bytes: &[u8], came: Came) -> Result<Came, ScriptStop>
+    ensures ok { OnOk result (Grew (O.written out.old) bytes.now (O.written out.new)) }
+    ensures came { IfOk result (λ c. c ≡ came) }
+    ensures err { OnErr result (GrewByPrefix (O.written out.old) bytes.now (O.written out.new)) }
+    ensures kind { IfErr result (λ s. s ≡ ScriptStop.Failed) }
+    ensures quiet { OnOk result (O.faults out.new ≡ O.faults out.old) }
+    ensures caused { IfErr result (λ s. CausedBy (stop_ending (of_script s)) (O.faults out.old) (O.faults out.new)) }
+{
+    out.put(bytes)?;
+    Ok(came)
+}
+
+// What is put for a line that is read.
+fn answer_params<F: Files>(
+    alloc: Global,
+    engine: &mut Engine,
+    file: &mut IndexFile<'_>,
+    files: &mut F,
+    line: &[u8],
+) -> Answer
+    requires there { IsThere engine.old.index file.old (F.held files.old) }
+
+    ensures unchanged { (k : Corpus) → AnswersOver engine.old.index file.old (F.held files.old) k → came_of result ≢ Came.Changed }
+    ensures text { (k : Corpus) → AnswersOver engine.old.index file.old (F.held files.old) k → HasText (MayAnswer file.old k) line.now result }
+    ensures unread { is_some file.old.made ≡ true → came_of result ≢ Came.Read }
+    ensures engine { engine.new.index ≡ engine.old.index }
+    ensures file { file.new ≡ file.old }
+    ensures files { F.held files.new ≡ F.held files.old }
+    ensures counts { CameCounts (came_of result) (F.faults files.old) (F.faults files.new) }
+{
+    match request(alloc, line) {
+        Ok(wanted) => answer_request(alloc, engine, file, files, &wanted),
+        Err(fault) => text_or_memory(refusal_line(alloc, fault)),
+    }
+}
+
+// What is put for a line that is a request.
+fn answer_request<F: Files>(
+    alloc: Global,
+    engine: &mut Engine,
+    file: &mut IndexFile<'_>,
+    files: &mut F,
+    wanted: &Request,
+) -> Answer
+    requires limits { HoldsLimits (asked wanted.now) }
+    requires there { IsThere engine.old.index file.old (F.held files.old) }
+
+    ensures unchanged { (k : Corpus) → AnswersOver engine.old.index file.old (F.held files.old) k → came_of result ≢ Came.Changed }
+    ensures text { (k : Corpus) → AnswersOver engine.old.index file.old (F.held files.old) k → HasReply k (asked wanted.now) result }
+    ensures unread { is_some file.old.made ≡ true → came_of result ≢ Came.Read }
+    ensures engine { engine.new.index ≡ engine.old.index }
+    ensures file { file.new ≡ file.old }
+    ensures files { F.held files.new ≡ F.held files.old }
+    ensures counts { CameCounts (came_of result) (F.faults files.old) (F.faults files.new) }
+{
+    match respond(alloc, engine, file, files, wanted) {
+        Ok(reply) => text_or_memory(reply_line(alloc, &reply)),
+        Err(AskFault::Memory) => Answer::Memory,
+        Err(AskFault::Read) => Answer::Read,
+        Err(AskFault::Changed { rule, at }) => { Answer::Changed(changed_line(alloc, rule, at)) }
+    }
+}
+
+fn text_or_memory(line: Result<Vec<u8>, Memory>) -> Answer
+    ensures text { IfOk line (λ b. result ≡ answers.Text b) }
+    ensures memory { OnErr line (result ≡ answers.Memory) }
+{
+    match line {
+        Ok(bytes) => Answer::Text(bytes),
+        Err(_) => Answer::Memory,
+    }
+}
+
+// The text of a reply, and its line ending.
+fn reply_line(alloc: Global, reply: &Reply) -> Result<Vec<u8>, Memory>
+    ensures { IfOk result (λ b. b.items ≡ reply_text reply.now ++ 10 ∷ []) }
+{
+    let mut bytes = reply_bytes(alloc, reply)?;
+    bytes.push(b'\n')?;
+    Ok(bytes)
+}
+
+// The text of a changed index file, and its line ending; None where there is no memory for it.
+fn changed_line(alloc: Global, rule: u8, at: u64) -> Option<Vec<u8>> {
+    let Ok(mut bytes) = fault_bytes(alloc, &Fault::Changed { rule, at }) else {
+        return None;
+    };
+    match bytes.push(b'\n') {
+        Ok(()) => Some(bytes),
+        Err(_) => None,
+    }
+}
+
+// The text of a refusal, and its line ending. Want of memory isn't one.
+fn refusal_line(alloc: Global, fault: ReqFault) -> Result<Vec<u8>, Memory>
+    ensures text { IfOk result (λ b. b.items ≡ fault_text (faults.Refused fault) ++ 10 ∷ []) }
+    ensures refused { OnOk result (fault ≢ ReqFault.Memory) }
+{
+    if let ReqFault::Memory = fault {
+        return Err(Memory);
+    }
+    let mut bytes = fault_bytes(alloc, &Fault::Refused(fault))?;
+    bytes.push(b'\n')?;
+    Ok(bytes)
+}

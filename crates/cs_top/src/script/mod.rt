@@ -1,0 +1,120 @@
+//! A script, answered line by line while it is read.
+ghost use Rattle.std.specs.Prelude.{◌≡◌, ◌≢◌, ◌<◌, ◌≤◌, ℕ, true, List, IfOk, IfErr, OnOk, is_some};
+ghost use Rattle.cs_model.specs.Corpus.{Corpus};
+ghost use Rattle.cs_model.specs.Outputs.{script_lines};
+ghost use Rattle.cs_top.specs.Answering.{AnswersOver, CameCounts, IsThere, MayAnswer, worst};
+ghost use Rattle.cs_top.specs.Endings.{done};
+ghost use Rattle.cs_top.specs.Met.{HasSize, OfBytes, wrote};
+ghost use Rattle.cs_top.specs.Scripts.{ScriptCaused, ScriptEnds, ShortTally, Tally};
+ghost use Rattle.cs_top.specs.Steps.{Reaches, EndsAt};
+ghost use Rattle.cs_top.specs.Views.{of_script, stop_ending};
+
+mod answers;
+#[cfg(test)]
+mod tests;
+
+use crate::answering::IndexFile;
+use crate::lines::{Place, ScriptStop, WINDOW_BYTES, first_place, read_line};
+use answers::answer_line;
+use cs_base::{Files, Sink};
+use cs_engine::Engine;
+use std::alloc::Global;
+
+/// What came of the lines of a script so far.
+#[derive(Clone, Copy, Debug, PartialEq, Eq)]
+pub(crate) enum Came {
+    /// Each has its own text or that of want of memory.
+    Answered,
+    /// In a reply's place one has the text of a failed read.
+    Read,
+    /// In a reply's place one has that of an index file that changed, and none that of a failed read.
+    Changed,
+}
+
+impl Came {
+    // What came of these lines and of one more.
+    fn and(self, more: Came) -> Came
+        ensures { result ≡ worst self more }
+    {
+        match (self, more) {
+            (Came::Read, _) | (_, Came::Read) => Came::Read,
+            (Came::Changed, _) | (_, Came::Changed) => Came::Changed,
+            (Came::Answered, Came::Answered) => Came::Answered,
+        }
+    }
+}
+
+/// Answers a script's lines that have bytes, each before the next one is read, up to the first at which the script ends, and says
+/// what came of them.
+pub(crate) fn answer_script<F: Files, O: Sink>(
+    alloc: Global,
+    engine: &mut Engine,
+    file: &mut IndexFile<'_>,
+    files: &mut F,
+    script: &str,
+    size: u64,
+    out: &mut O,
+) -> Result<Came, ScriptStop>
+    requires size { HasSize (F.held files.old) script.now size }
+    requires there { IsThere engine.old.index file.old (F.held files.old) }
+
+    ensures whole { (k : Corpus) → AnswersOver engine.old.index file.old (F.held files.old) k → OfBytes (F.held files.old) script.now (λ b. IfOk result (λ came. (ts : List (List ℕ))
+        × ScriptEnds (MayAnswer file.old k) done (script_lines b) ts (wrote O.written O.faults out.old out.new) × Tally came (F.faults files.old) (F.faults files.new) ts)) }
+    ensures short { (k : Corpus) → AnswersOver engine.old.index file.old (F.held files.old) k → OfBytes (F.held files.old) script.now (λ b. IfErr result (λ s. (ts : List (List ℕ))
+        × ScriptEnds (MayAnswer file.old k) (stop_ending (of_script s)) (script_lines b) ts (wrote O.written O.faults out.old out.new)
+        × ShortTally (stop_ending (of_script s)) (wrote O.written O.faults out.old out.new) (F.faults files.old) (F.faults files.new) ts)) }
+    ensures unchanged { (k : Corpus) → AnswersOver engine.old.index file.old (F.held files.old) k → IfOk result (λ came. came ≢ Came.Changed) }
+    ensures made { is_some file.old.made ≡ true → IfOk result (λ came. came ≢ Came.Read) }
+    ensures counts { IfOk result (λ came. CameCounts came (F.faults files.old) (F.faults files.new)) }
+    ensures quiet { OnOk result (O.faults out.new ≡ O.faults out.old) }
+    ensures caused { IfErr result (λ s. ScriptCaused (stop_ending (of_script s)) (is_some file.old.made) (F.faults files.old) (F.faults files.new) (O.faults out.old) (O.faults out.new)) }
+    ensures files { F.held files.new ≡ F.held files.old }
+{
+    let at = first_place(files, script, size)?;
+    let mut place = Place { at, number: 0 };
+    let mut came = Came::Answered;
+    while place.at < size {
+        let (next, met) = answer_next(alloc, engine, file, files, script, size, place, out)?;
+        place = next;
+        came = came.and(met);
+    }
+    Ok(came)
+}
+
+// Reads the line at a place and answers it, and gives the place behind it and what came of it. An error says how the script ends
+// there.
+fn answer_next<F: Files, O: Sink>(
+    alloc: Global,
+    engine: &mut Engine,
+    file: &mut IndexFile<'_>,
+    files: &mut F,
+    script: &str,
+    size: u64,
+    place: Place,
+    out: &mut O,
+) -> Result<(Place, Came), ScriptStop>
+    requires size { HasSize (F.held files.old) script.now size }
+    requires there { IsThere engine.old.index file.old (F.held files.old) }
+    requires within { place.at < size }
+    requires numbered { place.number ≤ place.at }
+
+    ensures ok { (k : Corpus) → AnswersOver engine.old.index file.old (F.held files.old) k → OfBytes (F.held files.old) script.now (λ b. IfOk result (λ p. Reaches (MayAnswer file.old k) b
+        place p.0 (O.written out.old) (O.written out.new) p.1 (F.faults files.old) (F.faults files.new))) }
+    ensures err { (k : Corpus) → AnswersOver engine.old.index file.old (F.held files.old) k → OfBytes (F.held files.old) script.now (λ b. IfErr result (λ s. EndsAt (MayAnswer file.old k)
+        (stop_ending (of_script s)) b place (wrote O.written O.faults out.old out.new) (F.faults files.old) (F.faults files.new))) }
+    ensures unchanged { (k : Corpus) → AnswersOver engine.old.index file.old (F.held files.old) k → IfOk result (λ p. p.1 ≢ Came.Changed) }
+    ensures further { IfOk result (λ p. (place.at < p.0.at) × (p.0.at ≤ size) × (p.0.number ≤ p.0.at)) }
+    ensures engine { engine.new.index ≡ engine.old.index }
+    ensures file { file.new ≡ file.old }
+    ensures files { F.held files.new ≡ F.held files.old }
+    ensures made { is_some file.old.made ≡ true → IfOk result (λ p. p.1 ≢ Came.Read) }
+    ensures counts { IfOk result (λ p. CameCounts p.1 (F.faults files.old) (F.faults files.new)) }
+    ensures quiet { OnOk result (O.faults out.new ≡ O.faults out.old) }
+    ensures caused { IfErr result (λ s. ScriptCaused (stop_ending (of_script s)) (is_some file.old.made) (F.faults files.old) (F.faults files.new) (O.faults out.old) (O.faults out.new)) }
+{
+    let mut buffer = [0u8; WINDOW_BYTES];
+    let (len, at) = read_line(files, script, size, place.at, &mut buffer)?;
+    let number = place.number + 1;
+    let came = answer_line(alloc, engine, file, files, &buffer[..len], number, out)?;
+    Ok((Place { at, number }, came))
+}

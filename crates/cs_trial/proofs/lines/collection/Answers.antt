@@ -1,0 +1,17 @@
+use Rattle.std.proofs.Common.{◌≡◌, ◌∙◌, ap, arith}
+use Rattle.std.specs.List.{flat_map, range_with_len}
+use Rattle.cs_model_trial.specs.Generator.{collection, line_draws, line_count, trial_line}
+use Rattle.cs_trial.proofs.LinesLemmas.{lines_more, line_behind}
+use Rattle.cs_trial.proofs.lines.collection.Goals as goal
+
+pub loop-preserved : goal.loop-preserved
+loop-preserved c = record {
+  bytes = lines_more c.args.n c.loop.counter c.loop.numbers.state c.loop.bytes.items c.put_line.new.bytes.items c.loop.invariant.state c.loop.invariant.bytes c.in_ok-put_line.ensures.bytes;
+  state = c.in_ok-put_line.ensures.state ∙ line_behind c.args.n c.loop.counter c.loop.numbers.state c.loop.invariant.state;
+}
+
+pub returns : goal.returns
+unfolding collection
+returns c =
+    let all : c.loop.counter ≡ line_count c.args.n = omega arith in
+    c.loop.invariant.bytes ∙ ap (λ k. flat_map (λ i. trial_line (line_draws c.args.n i)) (range_with_len 0 k)) all
