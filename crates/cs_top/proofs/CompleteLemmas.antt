@@ -13,10 +13,11 @@ use Rattle.cs_top.specs.Ask.{AskRan, AskStops, AskScript, AskTold, CanAsk}
 use Rattle.cs_top.specs.Build.{BuildRan, BuildStops, BuildTold, BuildWrites, CanBuild}
 use Rattle.cs_top.specs.Commands.{Command, build, ask, replay, serve, trial}
 use Rattle.cs_top.specs.Endings.{Ending, done, not_built, usage, refused, damaged, absent, failed, no_memory, script_refused, changed, status, Caused, CausedBy}
-use Rattle.cs_top.specs.Met.{Met, Wrote, held_bytes}
+use Rattle.cs_top.specs.Met.{Listened, Met, Wrote, held_bytes}
 use Rattle.cs_top.specs.Runs.{Completes, Ran}
 use Rattle.cs_top.specs.Replay.{CanReplay, ReplayCaused, ReplayScript, ReplayStops, ReplayTold}
 use Rattle.cs_top.specs.Scripts.{ScriptEnds, IsReadable}
+use Rattle.cs_top.specs.Serve.{CanServe, ServeCaused, ServeStops, ServeTold}
 
 missing : (f : Option File) → IsHeld f → f ≡ None → ⊥
 missing None held none = held
@@ -121,13 +122,41 @@ replay_told e h i s before now w (inr a) can calm = played _ e (script_lines (he
 no_failed_replay : (e : Ending) (fb fn ob on : ℕ) → ReplayCaused e fb fn ob on → (Rose fb fn → ⊥) → (Rose ob on → ⊥) → e ≡ failed → ⊥
 no_failed_replay e fb fn ob on cause files out is = elim (subst (λ x. ReplayCaused x fb fn ob on) is cause).0 [ inl r ↦ files r | inr r ↦ out r ]
 
+unserved : (e : Ending) (h : Held) (i : List ℕ) → CanServe h i → ServeStops e h i → (e ≡ failed → ⊥) → IsWell e
+unserved (absent n) h i can a calm = absurd (missing (map.get h i) can.0 a.1)
+unserved (damaged rule at) h i can a calm = let e : Some (broken_at rule at) ≡ None = sym a.1 ∙ can.1 in absurd cc
+unserved no_memory h i can a calm = inr refl
+unserved failed h i can a calm = absurd (calm refl)
+unserved done h i can a calm = absurd a
+unserved not_built h i can a calm = absurd a
+unserved usage h i can a calm = absurd a
+unserved (refused r) h i can a calm = absurd a
+unserved (script_refused f) h i can a calm = absurd a
+unserved changed h i can a calm = absurd a
+
+served : (e : Ending) (h : Held) (i p n : List ℕ) (before now : ℕ) (w : Wrote) (net : Listened) → ServeTold e h i p n before now w net → CanServe h i → (e ≡ failed → ⊥) → IsWell e
+served done h i p n before now w net a can calm = inl refl
+served (absent x) h i p n before now w net a can calm = unserved (absent x) h i can a calm
+served (damaged rule at) h i p n before now w net a can calm = unserved (damaged rule at) h i can a calm
+served no_memory h i p n before now w net a can calm = inr refl
+served failed h i p n before now w net a can calm = absurd (calm refl)
+served not_built h i p n before now w net a can calm = absurd a
+served usage h i p n before now w net a can calm = absurd a
+served (refused r) h i p n before now w net a can calm = absurd a
+served (script_refused f) h i p n before now w net a can calm = absurd a
+served changed h i p n before now w net a can calm = absurd a
+
+no_failed_serve : (e : Ending) (fb fn ob on hb hn : ℕ) → ServeCaused e fb fn ob on hb hn → (Rose fb fn → ⊥) → (Rose ob on → ⊥) → (Rose hb hn → ⊥) → e ≡ failed → ⊥
+no_failed_serve e fb fn ob on hb hn cause files out hub is = elim (subst (λ x. ServeCaused x fb fn ob on hb hn) is cause).0 [ inl r ↦ files r | inr r ↦ elim r [ inl r ↦ out r | inr r ↦ hub r ] ]
+
 pub completes : {H : Type 0} (e : Ending) (command : Option Command) (m : Met H) → Ran e command m → Completes command m (status e)
 completes e None m r = λ h held able. absurd able
-completes e (Some (build c i)) m r = λ h held able files out.
+completes e (Some (build c i)) m r = λ h held able files out hub.
     built e h c i m.held_now (r.told h held) able (no_failed_file e m.files_before m.files_now r.caused files)
-completes e (Some (ask c s)) m r = λ h held able files out.
+completes e (Some (ask c s)) m r = λ h held able files out hub.
     told e h c s m.out (r.told h held) able (no_failure e m.files_before m.files_now m.out.before m.out.now r.caused files out)
-completes e (Some (replay i s)) m r = λ h held able files out.
+completes e (Some (replay i s)) m r = λ h held able files out hub.
     replay_told e h i s m.files_before m.files_now m.out (r.told h held) able (no_failed_replay e m.files_before m.files_now m.out.before m.out.now r.caused files out)
-completes e (Some (serve i p n)) m r = λ h held able. absurd able
+completes e (Some (serve i p n)) m r = λ h held able files out hub.
+    served e h i p n m.files_before m.files_now m.out m.net (r.told h held) able (no_failed_serve e m.files_before m.files_now m.out.before m.out.now m.net.before m.net.now r.caused files out hub)
 completes e (Some (trial n)) m r = λ h held able. absurd able

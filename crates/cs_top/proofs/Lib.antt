@@ -8,6 +8,7 @@ pub mod LineTexts
 pub mod MemoryText
 pub mod SaysLemmas
 pub mod ScriptLemmas
+pub mod ServeLemmas
 pub mod TallyLemmas
 pub mod StepLemmas
 pub mod WindowLemmas

@@ -7,5 +7,6 @@ pub mod Met
 pub mod Replay
 pub mod Runs
 pub mod Scripts
+pub mod Serve
 pub mod Steps
 pub mod Views

@@ -1,7 +1,9 @@
 -- What a run meets outside, before and after it. Each meaning is optional: None where the object doesn't tell.
 --
 --   Wrote, wrote           what a sink told before and after, and how often it had failed
---   Met, met               the files that were held and are held, what was put, how often calls had failed, and the hub
+--   Listened, listened     what a hub told before and after, and how often `listen` and `next` had failed
+--   Met, met               the files that were held and are held, what was put, how often calls had failed, and the
+--                          hub
 --   LeavesAll m            files, out and hub are as they were
 --   held_bytes h name      what a file holds; no bytes where it isn't held
 --   OfBytes held name P    over files that tell, P holds of what the file holds
@@ -9,6 +11,7 @@
 use Rattle.std.specs.Prelude.{◌≡◌, ℕ, List, Option, Some}
 use Rattle.std.specs.Option.{ForSome}
 use Rattle.std.specs.FinMap as map
+use Rattle.cs_base.specs.outside.Hub.{Listening, Talk}
 use Rattle.cs_base.specs.outside.Outside.{Held, bytes_of, size_of}
 
 -- what a sink tells, and its count of faults; a count never falls
@@ -22,6 +25,19 @@ pub record Wrote : Type 0 where
 abbrev pub wrote : {O : Type 0} → (O → Option (List ℕ)) → (O → ℕ) → O → O → Wrote
 wrote written faults old new = record { old = written old; new = written new; before = faults old; now = faults new }
 
+-- what a hub tells, its talk maybe not, and its count of failures of `listen` and `next`
+pub record Listened : Type 0 where
+  pub state : Listening
+  pub state_now : Listening
+  pub talk : Option Talk
+  pub talk_now : Option Talk
+  pub before : ℕ
+  pub now : ℕ
+
+-- the same of a hub, from what it was to what it is
+abbrev pub listened : {H : Type 0} → (H → Listening) → (H → Option Talk) → (H → ℕ) → H → H → Listened
+listened state talk faults old new = record { state = state old; state_now = state new; talk = talk old; talk_now = talk new; before = faults old; now = faults new }
+
 -- what a run meets; a hub is seen whole, whatever it tells
 pub record Met (H : Type 0) : Type 0 where
   pub held : Option Held
@@ -29,17 +45,19 @@ pub record Met (H : Type 0) : Type 0 where
   pub files_before : ℕ
   pub files_now : ℕ
   pub out : Wrote
+  pub net : Listened
   pub hub : H
   pub hub_now : H
 
 -- what files, out and hub tell of themselves, from what they were to what they are
-abbrev pub met : {F O H : Type 0} → (F → Option Held) → (F → ℕ) → (O → Option (List ℕ)) → (O → ℕ) → F → F → O → O → H → H → Met H
-met held files_faults written out_faults files_old files_new out_old out_new hub_old hub_new = record {
+abbrev pub met : {F O H : Type 0} → (F → Option Held) → (F → ℕ) → (O → Option (List ℕ)) → (O → ℕ) → (H → Listening) → (H → Option Talk) → (H → ℕ) → F → F → O → O → H → H → Met H
+met held files_faults written out_faults state talk hub_faults files_old files_new out_old out_new hub_old hub_new = record {
   held = held files_old;
   held_now = held files_new;
   files_before = files_faults files_old;
   files_now = files_faults files_new;
   out = wrote written out_faults out_old out_new;
+  net = listened state talk hub_faults hub_old hub_new;
   hub = hub_old;
   hub_now = hub_new;
 }

@@ -14,19 +14,20 @@ use Rattle.cs_top.specs.Commands.{Command, build, ask, replay, serve, trial}
 use Rattle.cs_top.specs.Endings.{Ending, not_built, usage}
 use Rattle.cs_top.specs.Met.{Met, LeavesAll}
 use Rattle.cs_top.specs.Replay.{ReplayRan, CanReplay}
+use Rattle.cs_top.specs.Serve.{ServeRan, CanServe}
 
 -- a run that ends as x before it meets anything
 pub record Idle {H : Type 0} (x e : Ending) (m : Met H) : Type 0 where
   pub ends : e ≡ x
   pub leaves : LeavesAll m
 
--- a whole run: each command has its own record, and those that aren't built yet share one
+-- a whole run: each command has its own record, and `trial` isn't built yet
 abbrev pub Ran : {H : Type 0} → Ending → Option Command → Met H → Type 0
 Ran e None m = Idle usage e m
 Ran e (Some (build c i)) m = BuildRan e c i m
 Ran e (Some (ask c s)) m = AskRan e c s m
 Ran e (Some (replay i s)) m = ReplayRan e i s m
-Ran e (Some (serve i p n)) m = Idle not_built e m
+Ran e (Some (serve i p n)) m = ServeRan e i p n m
 Ran e (Some (trial n)) m = Idle not_built e m
 
 -- files from which a command can do all; no command does that before it is built
@@ -34,9 +35,10 @@ abbrev pub IsAble : Option Command → Held → Type 0
 IsAble (Some (build c i)) h = CanBuild h c
 IsAble (Some (ask c s)) h = CanAsk h c s
 IsAble (Some (replay i s)) h = CanReplay h i s
+IsAble (Some (serve i p n)) h = CanServe h i
 IsAble command h = ⊥
 
 -- No run gives up by itself: what can be done is done, or memory ran out.
 abbrev pub Completes : {H : Type 0} → Option Command → Met H → ℕ → Type 0
 Completes command m result =
-    ForSome m.held (λ h. IsAble command h → ¬ Rose m.files_before m.files_now → ¬ Rose m.out.before m.out.now → (result ≡ 0) ⊎ (result ≡ 7))
+    ForSome m.held (λ h. IsAble command h → ¬ Rose m.files_before m.files_now → ¬ Rose m.out.before m.out.now → ¬ Rose m.net.before m.net.now → (result ≡ 0) ⊎ (result ≡ 7))

@@ -1,6 +1,7 @@
 -- Types of the code as what they stand for.
 --
 --   seen                         a command of the code
+--   HasNumbers c                 the words of port and connections are such numbers; any command that isn't `serve` has them
 --   home_seen f                  an index file of the code
 --   collection_refusal_of f      the refusal that a fault of a collection names; None for want of memory
 --   IsCause c f                  it names the refusal of the collection c; nothing is said of want of memory
@@ -16,7 +17,7 @@
 --   IsOfIndex s                  a stop of an index file: damage, or a call failed, or memory ran out
 --   IsDamage b s                 where it is damage of the bytes b, this is their first broken rule with its place
 --   said_text s                  a line on standard error
-use Rattle.std.specs.Prelude.{◌≡◌, ℕ, List, [], ◌∷◌, ◌++◌, Option, Some, None, MatchOption, Result, Ok, Err, codes}
+use Rattle.std.specs.Prelude.{◌≡◌, ℕ, true, List, [], ◌∷◌, ◌++◌, Option, Some, None, MatchOption, Result, Ok, Err, codes}
 use Rattle.std.specs.Fmt.{decimal}
 use Rattle.cs_base.specs.outside.Outside.{File}
 use Rattle.cs_model.specs.Collection.{CollectionRefusal}
@@ -26,7 +27,7 @@ use Rattle.cs_model_index.specs.BlockRules.{broken_at}
 use Rattle.cs_model_index.specs.FileRules.{damage}
 use Rattle.cs_docs.specs.Refusals.{refusal_of, rows_refusal_of, words_said}
 use Rattle.cs_build.specs.Building.{build_refusal_of}
-use Rattle.cs_top.specs.Commands.{Command, build, ask, replay, serve, trial}
+use Rattle.cs_top.specs.Commands.{Command, build, ask, replay, serve, trial, is_number}
 use Rattle.cs_top.specs.Endings.{Ending, done, not_built, usage, refused, damaged, absent, failed, no_memory, script_refused, changed}
 use Rattle.cs_top.specs.Answering.{FileView}
 use Rattle.cs_top.specs.declared.answering.Home.{Home}
@@ -50,6 +51,11 @@ seen (read.Ask c s) = ask c.now s.now
 seen (read.Replay i s) = replay i.now s.now
 seen (read.Serve i p n) = serve i.now p.now n.now
 seen (read.Trial n) = trial n.now
+
+-- the words of `serve` are such numbers; of another command nothing is said
+abbrev pub HasNumbers : Read → Type 0
+HasNumbers (read.Serve i p n) = (is_number 5 65535 p.now ≡ true) × (is_number 7 1000000 n.now ≡ true)
+HasNumbers c = Unit {0}
 
 -- one that is made has no name
 abbrev pub home_seen : Home → FileView

@@ -11,6 +11,7 @@ use crate::ask::ask;
 use crate::build::build;
 use crate::ending::{Stop, status_of, tell};
 use crate::replay::replay;
+use crate::serve::serve;
 use crate::words::{Command, command_of};
 use cs_base::{Files, Hub, Sink};
 use std::alloc::Global;
@@ -19,7 +20,8 @@ use std::alloc::Global;
 ///
 /// `words` are the command line's words without the program's name. 0: all was done. 1: a form was met
 /// that isn't built yet. 2: the words aren't in the table. 3: the collection isn't accepted. 5: a file to be
-/// read isn't held. 6: a call of `files` or `out` failed. 7: memory ran out before the script's first line.
+/// read isn't held. 6: a call of `files` or `out` failed, or the hub's `listen` or `next`. 7: memory ran out before the script's
+/// first line or the first connection.
 /// 8: a line of the script is too long or isn't UTF-8; the lines before it were answered.
 pub fn run<F: Files, H: Hub, O: Sink, E: Sink>(
     alloc: Global,
@@ -30,12 +32,12 @@ pub fn run<F: Files, H: Hub, O: Sink, E: Sink>(
     err: &mut E,
 ) -> u8
     ensures ran { (e : Ending) × (result ≡ status e)
-        × Ran e (command_of (map string_bytes words.now.items)) (met F.held F.faults O.written O.faults files.old files.new out.old out.new hub.old hub.new)
+        × Ran e (command_of (map string_bytes words.now.items)) (met F.held F.faults O.written O.faults H.state H.talk H.faults files.old files.new out.old out.new hub.old hub.new)
         × Says (wrote E.written E.faults err.old err.new) (line_of e) }
 
     // Where all can be done and no count rose, it is, or memory ran out.
     ensures complete { Completes (command_of (map string_bytes words.now.items))
-        (met F.held F.faults O.written O.faults files.old files.new out.old out.new hub.old hub.new) result }
+        (met F.held F.faults O.written O.faults H.state H.talk H.faults files.old files.new out.old out.new hub.old hub.new) result }
 {
     let ended = carry_out(alloc, words, files, hub, out);
     tell(err, ended);
@@ -50,14 +52,16 @@ fn carry_out<'a, F: Files, H: Hub, O: Sink>(
     out: &mut O,
 ) -> Result<(), Stop<'a>>
     ensures ran { Ran (ended result) (command_of (map string_bytes words.now.items))
-        (met F.held F.faults O.written O.faults files.old files.new out.old out.new hub.old hub.new) }
+        (met F.held F.faults O.written O.faults H.state H.talk H.faults files.old files.new out.old out.new hub.old hub.new) }
 {
-    let _ = &hub;
     match command_of(words) {
         None => Err(Stop::Usage),
         Some(Command::Build { collection, index }) => build(alloc, collection, index, files),
         Some(Command::Ask { collection, script }) => ask(alloc, collection, script, files, out),
         Some(Command::Replay { index, script }) => replay(alloc, index, script, files, out),
-        Some(_) => Err(Stop::NotBuilt),
+        Some(Command::Serve { index, port, conns }) => {
+            serve(alloc, index, port, conns, files, hub, out)
+        }
+        Some(Command::Trial { .. }) => Err(Stop::NotBuilt),
     }
 }

@@ -11,9 +11,11 @@ mod command;
 mod ending;
 mod files;
 mod lines;
+mod opening;
 mod replay;
 mod said;
 mod script;
+mod serve;
 mod words;
 
 pub use command::run;

@@ -70,8 +70,8 @@ fn put_damage<E: Sink>(err: &mut E, rule: u8, at: u64) -> Result<(), Failed>
     put_all(err, &[b"index: rule ", rule, b" at ", at, b"\n"])
 }
 
-// Puts some pieces, one after another.
-fn put_all<E: Sink>(err: &mut E, pieces: &[&[u8]]) -> Result<(), Failed>
+/// Puts some pieces, one after another.
+pub(crate) fn put_all<E: Sink>(err: &mut E, pieces: &[&[u8]]) -> Result<(), Failed>
     ensures ok { OnOk result (Grew (E.written err.old) (flat_map (λ p. p.now) pieces.now) (E.written err.new)) }
     ensures err { OnErr result (GrewByPrefix (E.written err.old) (flat_map (λ p. p.now) pieces.now) (E.written err.new)) }
     ensures counted { Counted (E.faults err.old) (E.faults err.new) result }

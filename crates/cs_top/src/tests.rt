@@ -1,6 +1,6 @@
 //! What no clause says: that with memory at hand worked scripts have these replies, and how the lines read.
 use crate::run;
-use cs_base::{Files, MemFiles, MemSink, Memory, ScriptHub, Seq};
+use cs_base::{Files, MemFiles, MemSink, Memory, ScriptHub, Scripted, Seq};
 use std::alloc::Global;
 use std::test::Fail;
 
@@ -167,14 +167,23 @@ fn run_with(
 }
 
 fn run_over(alloc: Global, words: &[&str], files: &mut MemFiles) -> Result<Left, Fail> {
+    let mut hub = ScriptHub::new(alloc, Seq::new(alloc));
+    run_beside(alloc, words, files, &mut hub)
+}
+
+fn run_beside(
+    alloc: Global,
+    words: &[&str],
+    files: &mut MemFiles,
+    hub: &mut ScriptHub,
+) -> Result<Left, Fail> {
     let mut given = Vec::new(alloc);
     for word in words {
         given.push(String::from_str(alloc, word)?)?;
     }
-    let mut hub = ScriptHub::new(alloc, Seq::new(alloc));
     let mut out = MemSink::new(alloc);
     let mut err = MemSink::new(alloc);
-    let status = run(alloc, &given, files, &mut hub, &mut out, &mut err);
+    let status = run(alloc, &given, files, hub, &mut out, &mut err);
     Ok(Left {
         status,
         out: out.into_bytes(),
@@ -340,9 +349,26 @@ fn a_word_is_cut_at_120_bytes_and_a_query_is_refused_there(rt: HostRuntime) -> R
 }
 
 #[test]
+fn a_connection_has_the_reply_of_its_request(rt: HostRuntime) -> Result<(), Fail> {
+    let mut files = built(rt.alloc(), b"")?;
+    let head = b"GET /search?q=typ HTTP/1.1\r\n\r\n".as_slice();
+    let bytes = Seq::from_vec(head.to_vec(rt.alloc())?);
+    let mut events = Seq::new(rt.alloc());
+    events.push(Scripted::Opened)?;
+    events.push(Scripted::Piece { conn: 0, bytes })?;
+    let mut hub = ScriptHub::new(rt.alloc(), events);
+    let words: [&str; 4] = ["serve", "I", "8080", "1"];
+    let left = run_beside(rt.alloc(), &words, &mut files, &mut hub)?;
+    assert!(rt; left.is(0, b"serving 8080\n", ""));
+    assert!(rt; hub.sent(0).ends_with(TYP.as_bytes()));
+    Ok(())
+}
+
+#[test]
 fn what_is_missing_is_named(rt: HostRuntime) -> Result<(), Fail> {
     let ask: [&str; 3] = ["ask", "C", "Q"];
     let few: [&str; 2] = ["ask", "C"];
+    let serve: [&str; 4] = ["serve", "C", "8080", "1"];
     let later: [&str; 2] = ["trial", "1000"];
     let beyond: [&str; 2] = ["trial", "1001"];
     let script: &[u8] = b"q=a\n";
@@ -351,6 +377,7 @@ fn what_is_missing_is_named(rt: HostRuntime) -> Result<(), Fail> {
         (ask.as_slice(), None, Some(script), 5, "absent: C\n"),
         (ask.as_slice(), None, None, 5, "absent: C\n"),
         (ask.as_slice(), Some(refused), None, 5, "absent: Q\n"),
+        (serve.as_slice(), None, None, 5, "absent: C\n"),
         (few.as_slice(), None, None, 2, USAGE),
         (later.as_slice(), None, None, 1, "not built\n"),
         (beyond.as_slice(), None, None, 2, USAGE),

@@ -1,9 +1,10 @@
 //! The command line's words, read by a table.
-ghost use Rattle.std.specs.Prelude.{◌≡◌, ◌≤◌, map, ◌&&◌, nat_lt, nat_le};
-ghost use Rattle.std.specs.Option.{option_map};
+ghost use Rattle.std.specs.Prelude.{◌≡◌, ◌≤◌, true, map, ◌&&◌, nat_lt, nat_le};
+ghost use Rattle.std.specs.Option.{ForSome, option_map};
 ghost use Rattle.std.specs.String.{string_bytes};
+ghost use Rattle.cs_model.specs.Parameters.{number_of};
 ghost use Rattle.cs_top.specs.Commands.{command_of, two_words, serve_words, trial_words, is_number};
-ghost use Rattle.cs_top.specs.Views.{seen};
+ghost use Rattle.cs_top.specs.Views.{HasNumbers, seen};
 
 use cs_text::{has_digits, number_of};
 
@@ -49,7 +50,8 @@ pub(crate) enum Command<'a> {
 
 /// The command; None where the words aren't in the table.
 pub(crate) fn command_of(words: &[String]) -> Option<Command<'_>>
-    ensures { option_map seen result ≡ command_of (map string_bytes words.now) }
+    ensures seen { option_map seen result ≡ command_of (map string_bytes words.now) }
+    ensures numbers { ForSome result HasNumbers }
 {
     match words {
         [command, number] => trial(command.as_str(), number.as_str()),
@@ -65,7 +67,8 @@ pub(crate) fn command_of(words: &[String]) -> Option<Command<'_>>
 }
 
 fn two_words<'a>(command: &str, first: &'a str, second: &'a str) -> Option<Command<'a>>
-    ensures { option_map seen result ≡ two_words command.now first.now second.now }
+    ensures seen { option_map seen result ≡ two_words command.now first.now second.now }
+    ensures numbers { ForSome result HasNumbers }
 {
     match command {
         "build" => Some(Command::Build {
@@ -85,7 +88,8 @@ fn two_words<'a>(command: &str, first: &'a str, second: &'a str) -> Option<Comma
 }
 
 fn serve<'a>(command: &str, index: &'a str, port: &'a str, conns: &'a str) -> Option<Command<'a>>
-    ensures { option_map seen result ≡ serve_words command.now index.now port.now conns.now }
+    ensures seen { option_map seen result ≡ serve_words command.now index.now port.now conns.now }
+    ensures numbers { ForSome result HasNumbers }
 {
     if command == "serve" && is_number(port, 5, 65_535) && is_number(conns, 7, 1_000_000) {
         Some(Command::Serve { index, port, conns })
@@ -95,13 +99,32 @@ fn serve<'a>(command: &str, index: &'a str, port: &'a str, conns: &'a str) -> Op
 }
 
 fn trial<'a>(command: &str, number: &'a str) -> Option<Command<'a>>
-    ensures { option_map seen result ≡ trial_words command.now number.now }
+    ensures seen { option_map seen result ≡ trial_words command.now number.now }
+    ensures numbers { ForSome result HasNumbers }
 {
     if command == "trial" && is_number(number, 4, 1_000) {
         Some(Command::Trial { number })
     } else {
         None
     }
+}
+
+/// The port of its word.
+pub(crate) fn port_of(word: &str) -> u16
+    requires { is_number 5 65535 word.now ≡ true }
+
+    ensures { result ≡ number_of word.now }
+{
+    number_of(word.as_bytes()) as u16
+}
+
+/// The number of connections of its word.
+pub(crate) fn conns_of(word: &str) -> u32
+    requires { is_number 7 1000000 word.now ≡ true }
+
+    ensures { result ≡ number_of word.now }
+{
+    number_of(word.as_bytes())
 }
 
 // Whether a word is 1 to so many digits, and their number from 1 to `greatest`.

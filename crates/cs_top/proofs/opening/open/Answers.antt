@@ -3,7 +3,7 @@ use Rattle.std.specs.Prelude.{Some}
 use Rattle.cs_base.specs.outside.Outside.{file_bytes}
 use Rattle.cs_file.specs.Indexes.{StandsFor}
 use Rattle.cs_top.specs.Met.{held_bytes}
-use Rattle.cs_top.proofs.replay.open.Goals as goal
+use Rattle.cs_top.proofs.opening.open.Goals as goal
 
 pub returns-in-Ok-clause-ok : goal.returns-in-Ok-clause-ok
 returns-in-Ok-clause-ok g c h held =

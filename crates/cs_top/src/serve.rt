@@ -1,0 +1,128 @@
+//! `serve INDEX PORT CONNS`: requests of connections that are answered over an index file.
+ghost use Rattle.std.specs.Prelude.{◌≡◌, ◌≢◌, ◌≤◌, ◌⊎◌, ℕ, List, true, false, IfErr, IfOk, OnErr, OnOk};
+ghost use Rattle.std.specs.FinSet as set;
+ghost use Rattle.std.specs.Option.{ForSome};
+ghost use Rattle.cs_base.specs.outside.Causes.{Rose};
+ghost use Rattle.cs_base.specs.outside.Hub.{IsOrderly, listens};
+ghost use Rattle.cs_base.specs.outside.Outside.{GrewByPrefix, file_bytes};
+ghost use Rattle.cs_file.specs.Indexes.{Fits, StandsFor};
+ghost use Rattle.cs_hub.specs.Following.{AreServed};
+ghost use Rattle.cs_model_index.specs.Sections.{file_corpus};
+ghost use Rattle.cs_top.specs.Commands.{is_number};
+ghost use Rattle.cs_top.specs.Endings.{CausedBy};
+ghost use Rattle.cs_top.specs.Met.{HasSize, Listened, OfBytes, Wrote, listened, wrote};
+ghost use Rattle.cs_top.specs.Serve.{CanServe, HasPut, HasStopped, IsListening, IsUntouched, ServeCaused, ServeEnds, ServeTold, serving_line};
+ghost use Rattle.cs_top.specs.Views.{ended, stop_ending};
+
+use crate::ending::Stop;
+use crate::files::size_of;
+use crate::opening::open;
+use crate::said::put_all;
+use crate::words::{conns_of, port_of};
+use cs_base::{Failed, FileStore, Files, Hub, Sink};
+use cs_engine::Engine;
+use cs_hub::ServeEnd;
+use std::alloc::Global;
+
+/// Answers what comes on so many connections over an index file, until all were opened and none is live, or nothing more comes.
+pub(crate) fn serve<'a, F: Files, H: Hub, O: Sink>(
+    alloc: Global,
+    index: &'a str,
+    port: &str,
+    conns: &str,
+    files: &mut F,
+    hub: &mut H,
+    out: &mut O,
+) -> Result<(), Stop<'a>>
+    requires port { is_number 5 65535 port.now ≡ true }
+    requires conns { is_number 7 1000000 conns.now ≡ true }
+
+    ensures ends { ServeEnds (ended result) index.now port.now conns.now (wrote O.written O.faults out.old out.new) (listened H.state H.talk H.faults hub.old hub.new) }
+    ensures told { ForSome (F.held files.old) (λ h. ServeTold (ended result) h index.now port.now conns.now (F.faults files.old) (F.faults files.new) (wrote O.written O.faults out.old out.new) (listened H.state H.talk H.faults hub.old hub.new)) }
+    ensures caused { ServeCaused (ended result) (F.faults files.old) (F.faults files.new) (O.faults out.old) (O.faults out.new) (H.faults hub.old) (H.faults hub.new) }
+    ensures files { F.held files.new ≡ F.held files.old }
+{
+    let (mut engine, size) = prepare(alloc, files, index)?;
+    begin(hub, out, port, conns)?;
+    match serve_file(alloc, &mut engine, files, index, size, hub, conns_of(conns)) {
+        ServeEnd::Done => Ok(()),
+        ServeEnd::HubFailed => Err(Stop::Failed),
+        ServeEnd::Memory => Err(Stop::Memory),
+    }
+}
+
+// The engine of the index file, and the file's size.
+fn prepare<'a, F: Files>(
+    alloc: Global,
+    files: &mut F,
+    index: &'a str,
+) -> Result<(Engine, u64), Stop<'a>>
+    ensures size { IfOk result (λ p. HasSize (F.held files.old) index.now p.1) }
+    ensures stands { OfBytes (F.held files.old) index.now (λ b. IfOk result (λ p. StandsFor b p.0.index)) }
+    ensures ready { ForSome (F.held files.old) (λ h. OnOk result (CanServe h index.now)) }
+    ensures fits { IfOk result (λ p. Fits (file_bytes (F.held files.new) index.now) p.0.index) }
+    ensures ends { IfErr result (λ s. (p : List ℕ) → (n : List ℕ) → (w : Wrote) → (net : Listened) → IsUntouched w net → ServeEnds (stop_ending s) index.now p n w net) }
+    ensures told { ForSome (F.held files.old) (λ h. IfErr result (λ s. (p : List ℕ) → (n : List ℕ) → (before : ℕ) → (now : ℕ) → (w : Wrote) → (net : Listened) → IsUntouched w net → ServeTold (stop_ending s) h index.now p n before now w net)) }
+    ensures quiet { OnOk result (F.faults files.new ≡ F.faults files.old) }
+    ensures caused { IfErr result (λ s. CausedBy (stop_ending s) (F.faults files.old) (F.faults files.new)) }
+    ensures files { F.held files.new ≡ F.held files.old }
+{
+    let size = size_of(files, index)?;
+    let engine = open(alloc, files, index, size)?;
+    Ok((engine, size))
+}
+
+// Listens, and puts the line.
+fn begin<H: Hub, O: Sink>(hub: &mut H, out: &mut O, port: &str, conns: &str) -> Result<(), Failed>
+    requires port { is_number 5 65535 port.now ≡ true }
+    requires conns { is_number 7 1000000 conns.now ≡ true }
+
+    ensures put { OnOk result (HasPut port.now (wrote O.written O.faults out.old out.new)) }
+    ensures listening { OnOk result (IsListening port.now conns.now (listened H.state H.talk H.faults hub.old hub.new)) }
+    ensures orderly { OnOk result (IsOrderly (H.state hub.new) (H.talk hub.new)) }
+    ensures quiet { OnOk result (H.faults hub.new ≡ H.faults hub.old) }
+    ensures stopped { OnErr result (HasStopped port.now conns.now (wrote O.written O.faults out.old out.new) (listened H.state H.talk H.faults hub.old hub.new)) }
+    ensures caused { OnErr result (Rose (O.faults out.old) (O.faults out.new) ⊎ Rose (H.faults hub.old) (H.faults hub.new)) }
+    ensures later { O.faults out.old ≤ O.faults out.new }
+{
+    hub.listen(port_of(port), conns_of(conns))?;
+    put_line(out, port)
+}
+
+fn put_line<O: Sink>(out: &mut O, port: &str) -> Result<(), Failed>
+    ensures ok { OnOk result (HasPut port.now (wrote O.written O.faults out.old out.new)) }
+    ensures err { OnErr result (GrewByPrefix (O.written out.old) (serving_line port.now) (O.written out.new)) }
+    ensures failed { OnErr result (Rose (O.faults out.old) (O.faults out.new)) }
+    ensures later { O.faults out.old ≤ O.faults out.new }
+{
+    put_all(out, &[b"serving ", port.as_bytes(), b"\n"])
+}
+
+// Serves over a file of this size.
+fn serve_file<F: Files, H: Hub>(
+    alloc: Global,
+    engine: &mut Engine,
+    files: &mut F,
+    name: &str,
+    size: u64,
+    hub: &mut H,
+    conns: u32,
+) -> ServeEnd
+    requires size { HasSize (F.held files.old) name.now size }
+    requires fits { Fits (file_bytes (F.held files.old) name.now) engine.old.index }
+    requires listens { (port : ℕ) × (H.state hub.old ≡ listens port conns) }
+    requires orderly { IsOrderly (H.state hub.old) (H.talk hub.old) }
+
+    ensures served { OfBytes (F.held files.old) name.now (λ b. StandsFor b engine.old.index → AreServed (file_corpus b) (H.state hub.new) (H.talk hub.new) (F.faults files.old) (F.faults files.new)) }
+    ensures done { result ≡ ServeEnd.Done → ((c : ℕ) → set.contains (H.state hub.new).live c ≡ false) × (((H.state hub.new).opened ≡ conns) ⊎ ((H.state hub.new).over ≡ true)) }
+    ensures hub_failed { result ≡ ServeEnd.HubFailed → Rose (H.faults hub.old) (H.faults hub.new) }
+    ensures memory { result ≡ ServeEnd.Memory → (H.state hub.new ≡ H.state hub.old) × (H.talk hub.new ≡ H.talk hub.old) × (F.faults files.new ≡ F.faults files.old) }
+    ensures quiet { result ≢ ServeEnd.HubFailed → H.faults hub.new ≡ H.faults hub.old }
+    ensures port { (H.state hub.new).port ≡ (H.state hub.old).port }
+    ensures conns { (H.state hub.new).conns ≡ conns }
+    ensures files { F.held files.new ≡ F.held files.old }
+    ensures later { F.faults files.old ≤ F.faults files.new }
+{
+    let mut store = FileStore::new(files, name, size);
+    cs_hub::serve(alloc, engine, &mut store, hub, conns)
+}
