@@ -2,8 +2,7 @@
 --
 --   same_words       rows that are listed have the same words
 --   rows_fewer       and there are at most as many of them
---   made_written     the image can be written
---   made_limits      and is within the limits
+--   made_limits      the image is within the limits
 use Rattle.std.proofs.Common.{◌≡◌, ℕ, ◌^◌, ◌<◌, ◌≤◌, Bool, true, ◌||◌, List, [], ◌∷◌, length, map, refl, sym, ap, subst, ◌∙◌, arith}
 use Rattle.std.specs.List.{All, AllByRecursion, list_any, sum_by, zip}
 use Rattle.std.specs.Ordering.{nat_cmp, eq_by_cmp}
@@ -22,7 +21,6 @@ use Rattle.cs_base.specs.declared.content.limits.TheConstants.{MAX_DOCS, MAX_LIN
 use Rattle.cs_base.proofs.MembersLemmas.{members-alike}
 use Rattle.cs_base.proofs.OrdersLemmas.{by_row_total, by_row_exact}
 use Rattle.cs_docs.proofs.TextLemmas.{All-members}
-use Rattle.cs_file.specs.Writable.{CanBeWritten}
 use Rattle.cs_model.specs.Corpus.{Corpus, distinct_words, title_of}
 use Rattle.cs_model.specs.Scores.{SCORES}
 use Rattle.cs_model_index.specs.BlockRules.{is_scored}
@@ -38,7 +36,7 @@ use Rattle.cs_model_index.proofs.ImageLemmas.{one_list}
 use Rattle.cs_model_index.proofs.Listings.{any_listed, listed_few}
 use Rattle.cs_model_index.proofs.NumberedLemmas.{word_of_number}
 use Rattle.cs_build.specs.Building.{corpus_from, KeepLimits}
-use Rattle.cs_build.specs.BuildLaws.{Made, ImagesAreWritable, ImagesHaveLimits}
+use Rattle.cs_build.specs.BuildLaws.{Made, ImagesHaveLimits}
 
 -- ---- rows
 any_map : (p : List ℕ → Bool) (rows : List Row) → list_any p (map (λ r. r.word) rows) ≡ list_any (λ r. p r.word) rows
@@ -82,21 +80,6 @@ module _ (docs : List Doc) (rows : List Row) (target : ℕ) (i : Image) (h : Mad
   all_words : (P : List ℕ → Type 0) → All (λ r. P r.word) rows → All P i.words
   all_words P all = subst (All P) (sym words) (All-members (slice_cmp nat_cmp) nat_list_cmp_total exact_bytes P (map (λ r. r.word) rows) (All-map P (λ r. r.word) rows all))
 
-  written : length (title_bytes (map title_of docs)) < 2 ^ 32 → All (λ r. length r.word ≤ MAX_WORD_BYTES) rows → CanBeWritten i
-  written few short =
-      let blocks = blocks_few from target i h.corpus h.image in
-      record {
-        few_docs = docs_few;
-        few_bytes = bytes_few few;
-        few_words = words_few;
-        short = all_words (λ w. length w ≤ MAX_WORD_BYTES) short;
-        few_blocks = blocks.0;
-        one_each = blocks.1;
-        few_rows = rows_few;
-        blocks = All-from_recursion (λ p. AreWritable p.0.lo p.1) (zip i.heads i.blocks) (blocks_hold from target i h.corpus h.image);
-        target = omega (arith, aim, h.target_to);
-      }
-
   known : AllByRecursion (λ p. p.doc < length i.titles) (image_posts i)
   known =
       posts_from from target i h.corpus h.image (λ r. contains_key from.titles r.doc ≡ true) (λ p. p.doc < length i.titles)
@@ -123,9 +106,6 @@ module _ (docs : List Doc) (rows : List Row) (target : ℕ) (i : Image) (h : Mad
     target_from = omega (arith, aim, h.target_from);
     target_to = omega (arith, aim, h.target_to);
   }
-
-pub made_written : ImagesAreWritable
-made_written docs rows target i h few short = written docs rows target i h few short
 
 pub made_limits : ImagesHaveLimits
 made_limits docs rows target i h keep = within docs rows target i h keep

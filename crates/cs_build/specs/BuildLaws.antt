@@ -6,14 +6,12 @@
 --   TitlesHaveFewBytes      so those of a collection that isn't refused have few enough for a file
 --   CollectionsKeepLimits   documents and rows of a collection that isn't refused keep the limits
 --   Made docs rows target i     i is the image of documents and rows, few enough of both and of words
---   ImagesAreWritable       it can be written, where titles have few bytes and no word is too long
 --   ImagesHaveLimits        it is within the limits of files, where documents and rows keep them
 --   FilesOfCollections      the file of a collection's image is an index file, of which the image and the corpus are read
 use Rattle.std.specs.Prelude.{◌≡◌, ℕ, ◌^◌, ◌<◌, ◌≤◌, List, length, map, All, None}
 use Rattle.cs_base.specs.declared.content.doc.Doc.{Doc}
 use Rattle.cs_base.specs.declared.content.doc.Row.{Row}
 use Rattle.cs_base.specs.declared.content.limits.TheConstants.{MAX_DOCS, MAX_ROWS, MAX_WORDS, MAX_WORD_BYTES}
-use Rattle.cs_file.specs.Writable.{CanBeWritten}
 use Rattle.cs_model.specs.Collection.{docs_refusal, documents}
 use Rattle.cs_model.specs.Corpus.{IsCorpus, corpus, distinct_words, refusal, rows_of, title_of}
 use Rattle.cs_model_index.specs.FileLaws.{HasLimits}
@@ -45,11 +43,6 @@ pub record Made (docs : List Doc) (rows : List Row) (target : ℕ) (i : Image) :
   pub few_words : length (distinct_words rows) ≤ MAX_WORDS
   pub target_from : 1 ≤ target
   pub target_to : target ≤ MAX_TARGET
-
--- whatever the words are made of
-abbrev pub ImagesAreWritable : Type 0
-ImagesAreWritable =
-    (docs : List Doc) (rows : List Row) (target : ℕ) (i : Image) → Made docs rows target i → length (title_bytes (map title_of docs)) < 2 ^ 32 → All (λ r. length r.word ≤ MAX_WORD_BYTES) rows → CanBeWritten i
 
 -- so such an image has a file that is accepted
 abbrev pub ImagesHaveLimits : Type 0

@@ -1,5 +1,5 @@
 //! Laws about collections, their images and files. Each is the contract of a function that does nothing.
-ghost use Rattle.cs_build.specs.BuildLaws.{TitlesAreParts, TitlesHaveFewBytes, CollectionsKeepLimits, ImagesAreWritable, ImagesHaveLimits, FilesOfCollections};
+ghost use Rattle.cs_build.specs.BuildLaws.{TitlesAreParts, TitlesHaveFewBytes, CollectionsKeepLimits, ImagesHaveLimits, FilesOfCollections};
 ghost use Rattle.cs_model_index.specs.FileLaws.{AcceptedAreFiles, AcceptedAreImages, FilesAreAccepted, ReadAreCorpora};
 
 /// The titles of a collection together have at most as many bytes as the collection, so those of a collection that
@@ -14,10 +14,9 @@ pub fn collections()
     ensures { CollectionsKeepLimits }
 {}
 
-/// The image of documents and rows can be written, and where these are a collection's it is within the limits of files.
+/// The image of documents and rows that keep the limits of files is within them.
 pub fn images()
-    ensures written { ImagesAreWritable }
-    ensures limits { ImagesHaveLimits }
+    ensures { ImagesHaveLimits }
 {}
 
 /// The file of an image within the limits is an index file, of which this image is read; and an index file is the file
