@@ -1,16 +1,15 @@
 -- A run that could do all and met no fault did all, or found no memory.
-use Rattle.std.proofs.Common.{◌≡◌, ◌⊎◌, ℕ, Bool, true, false, suc, zero, List, [], ◌∷◌, drop, length, inl, inr, refl, sym, subst, ◌∙◌}
+use Rattle.std.proofs.Common.{◌≡◌, ◌⊎◌, ℕ, List, inl, inr, refl, sym, subst, ◌∙◌}
 use Rattle.std.specs.Prelude.{Option, Some, None}
-use Rattle.std.specs.List.{list_any}
 use Rattle.std.specs.FinMap as map
 use Rattle.cs_base.specs.outside.Causes.{Rose}
 use Rattle.cs_base.specs.outside.Outside.{Held, File, IsHeld}
-use Rattle.cs_model.specs.Outputs.{MayPut, first_fault, readable_lines, script_lines}
+use Rattle.cs_model.specs.Outputs.{MayPut, script_lines}
 use Rattle.cs_model.specs.Corpus.{Corpus}
 use Rattle.cs_model_index.specs.BlockRules.{broken_at}
 use Rattle.cs_model_index.specs.Images.{Image}
-use Rattle.cs_top.specs.Ask.{AskRan, AskStops, AskScript, AskTold, CanAsk}
-use Rattle.cs_top.specs.Build.{BuildRan, BuildStops, BuildTold, BuildWrites, CanBuild}
+use Rattle.cs_top.specs.Ask.{AskStops, AskTold, CanAsk}
+use Rattle.cs_top.specs.Build.{BuildStops, BuildTold, BuildWrites, CanBuild}
 use Rattle.cs_top.specs.Commands.{Command, build, ask, replay, serve, trial}
 use Rattle.cs_top.specs.Endings.{Ending, done, not_built, usage, refused, damaged, absent, failed, no_memory, script_refused, changed, status, Caused, CausedBy}
 use Rattle.cs_top.specs.Met.{Listened, Met, Wrote, held_bytes}

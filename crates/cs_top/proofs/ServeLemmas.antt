@@ -1,5 +1,5 @@
 -- A run of `serve` that put its line whole, over an out that tells and didn't fail, failed by the hub alone.
-use Rattle.std.proofs.Common.{◌≡◌, ℕ, List, [], ◌∷◌, ◌++◌, append-nil, inl, inr, sym, ◌∙◌, ap}
+use Rattle.std.proofs.Common.{◌≡◌, ℕ, List, [], ◌++◌, append-nil, inl, inr, sym, ◌∙◌, ap}
 use Rattle.std.proofs.lemmas.List.{append_cancel_left}
 use Rattle.std.specs.Prelude.{Some}
 use Rattle.std.specs.Option.{option_map, unwrap_or}

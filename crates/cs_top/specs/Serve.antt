@@ -14,7 +14,7 @@
 --   ServeTold                how it ended over files that tell
 --   ServeCaused              why it ends: where it failed a count rose; while it serves reads may fail
 --   ServeRan e i p n m       a whole run
-use Rattle.std.specs.Prelude.{◌≡◌, ◌⊎◌, ℕ, ◌≤◌, true, false, List, [], ◌∷◌, ◌++◌, Option, Some, None, codes}
+use Rattle.std.specs.Prelude.{◌≡◌, ◌⊎◌, ℕ, ◌≤◌, true, false, List, [], ◌∷◌, ◌++◌, Some, None, codes}
 use Rattle.std.specs.Option.{ForSome, option_map}
 use Rattle.std.specs.FinMap as map
 use Rattle.std.specs.FinSet as set

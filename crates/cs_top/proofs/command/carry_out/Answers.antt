@@ -1,4 +1,4 @@
-use Rattle.std.proofs.Common.{◌≡◌, subst}
+use Rattle.std.proofs.Common.{subst}
 use Rattle.cs_top.specs.Views.{HasNumbers}
 use Rattle.cs_top.proofs.command.carry_out.Goals as goal
 
