@@ -28,6 +28,6 @@ loop-hit-preserved g c =
       count = ap length c.in_ok-push.ensures.ok ∙ length-append c.loop-hit.shown _ ∙ ap (λ n. n + 1) inv.count;
       told = λ b is stands.
           shown_more (hit_shown (corpus_in (stock_of b))) _ c.loop-hit.shown c.push.new.self hits i none _ c.loop-hit-test.true
-          (title_told b c.args.index.now stands c.requires.index h c.in_ok-title.title (c.requires.known i none c.loop-hit-test.true) (c.in_ok-title.ensures.ok b (inv.bytes ∙ is) stands))
+          (title_told b c.args.index.now stands c.requires.index h c.in_ok-title.title (c.requires.known i none c.loop-hit-test.true) (c.in_ok-title.ensures.stood b (inv.bytes ∙ is) stands))
           c.in_ok-push.ensures.ok (inv.told b is stands);
     }
