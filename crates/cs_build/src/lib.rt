@@ -6,9 +6,9 @@
 
 mod building;
 mod fault;
-pub mod laws;
 mod filling;
 mod heads;
+pub mod laws;
 mod ordering;
 mod parting;
 #[cfg(test)]

@@ -85,8 +85,10 @@ flat_cut f bs first last up within h =
   where
     lt-leb' : (k n : ℕ) → k < n → nat_le n k ≡ false
     lt-leb' k n lt = false_from_ne_true _ (λ e. let le = leb-true _ _ e in omega (arith, lt, le))
+
     le-ltb' : (n k : ℕ) → n ≤ k → nat_lt k n ≡ false
     le-ltb' n k le = false_from_ne_true _ (λ e. let lt = ltb-true _ _ e in omega (arith, lt, le))
+
     and_right : (a : Bool) → (a && false) ≡ false
     and_right true = refl
     and_right false = refl
@@ -94,11 +96,11 @@ flat_cut f bs first last up within h =
 -- a post that is between has a word of its block that is
 met_by : (lo hi : ℕ) (h : BlockHead) (p : Post) → h.lo ≤ p.word → p.word < h.lo + h.words → is_met lo hi h ≡ false → is_between lo hi p ≡ false
 met_by lo hi h p from to none = false_from_ne_true _ (λ e.
-  let q = and_parts (nat_le lo p.word) (nat_lt p.word hi) e in
-  let a = leb-true _ _ q.0 in
-  let b = ltb-true _ _ q.1 in
-  let met : is_met lo hi h ≡ true = and_from _ _ (lt-ltb lo (h.lo + h.words) (omega (arith, a, to))) (and_from _ _ (lt-ltb h.lo hi (omega (arith, b, from))) (lt-ltb lo hi (omega (arith, a, b)))) in
-  true≢false (sym met ∙ none))
+    let q = and_parts (nat_le lo p.word) (nat_lt p.word hi) e in
+    let a = leb-true _ _ q.0 in
+    let b = ltb-true _ _ q.1 in
+    let met : is_met lo hi h ≡ true = and_from _ _ (lt-ltb lo (h.lo + h.words) (omega (arith, a, to))) (and_from _ _ (lt-ltb h.lo hi (omega (arith, b, from))) (lt-ltb lo hi (omega (arith, a, b)))) in
+    true≢false (sym met ∙ none))
 
 pub posts_between : (b : List ℕ) (i : IndexView) → StandsFor b i → IsIndex i → (lo hi first last : ℕ) → AreMet i.heads lo hi first last
     → filter (is_between lo hi) (image_posts (image_of b)) ≡ flat_map (filter (is_between lo hi)) (take (last - first) (drop first (image_of b).blocks))

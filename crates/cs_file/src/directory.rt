@@ -48,12 +48,7 @@ pub(crate) fn read_directory<S: Store>(
 }
 
 // The heads whose entries stand one behind the other.
-fn heads(
-    alloc: Global,
-    words: &[Word],
-    bytes: &[u8],
-    count: u32,
-) -> Result<Vec<BlockHead>, Memory>
+fn heads(alloc: Global, words: &[Word], bytes: &[u8], count: u32) -> Result<Vec<BlockHead>, Memory>
     requires { length bytes.now ≡ ENTRY_BYTES * count }
 
     ensures { IfOk result (λ v. v.items ≡ heads_in words.now count bytes.now) }

@@ -18,11 +18,11 @@ mod opening;
 mod part;
 mod parts;
 mod postings;
+mod putting;
 mod reading;
+mod sizes;
 mod titles;
 mod vocabulary;
-mod putting;
-mod sizes;
 mod writing;
 
 pub use cs_base::BlockHead;

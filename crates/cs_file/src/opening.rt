@@ -35,7 +35,12 @@ pub fn open_index<S: Store>(alloc: Global, store: &mut S) -> Result<Index, OpenF
     let offsets = read_titles(alloc, store, &header)?;
     let heads = read_directory(alloc, store, &header, words.as_slice())?;
     let parts = read_blocks(alloc, store, &header, heads.as_slice())?;
-    let place = bad_part(words.as_slice(), &parts, header.target, header.directory_at());
+    let place = bad_part(
+        words.as_slice(),
+        &parts,
+        header.target,
+        header.directory_at(),
+    );
     tried(18, place)?;
     Ok(Index {
         docs: header.docs,

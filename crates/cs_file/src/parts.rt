@@ -80,7 +80,9 @@ fn keeps_part(words: &[Word], parts: &[Part], i: usize, target: u32) -> bool
     ensures { result ≡ keeps_part target words.now (slice_index_or parts.now i no_part) (slice_get parts.now (i + 1)) }
 {
     let part = &parts[i];
-    part.whole && is_light(part, target) && is_closed(words, part, parts.get(i + 1).copied(), target)
+    part.whole
+        && is_light(part, target)
+        && is_closed(words, part, parts.get(i + 1).copied(), target)
 }
 
 fn is_light(part: &Part, target: u32) -> bool

@@ -78,11 +78,7 @@ fn are_bytes(bytes: &[u8])
 {}
 
 // Fills a vector with the bytes from a place.
-fn read_in_pieces<S: Store>(
-    store: &mut S,
-    at: u64,
-    bytes: &mut Vec<u8>,
-) -> Result<(), Failed>
+fn read_in_pieces<S: Store>(store: &mut S, at: u64, bytes: &mut Vec<u8>) -> Result<(), Failed>
     requires places { at + length bytes.old.items < 2 ^ 64 }
     requires within { ForSome (S.bytes store.old) (λ b. at + length bytes.old.items ≤ length b) }
 

@@ -144,12 +144,7 @@ fn judge_titles<S: Store>(
 }
 
 // Reads a title, and tries rule 9 on it.
-fn judge_title<S: Store>(
-    alloc: Global,
-    store: &mut S,
-    at: u64,
-    len: u32,
-) -> Result<(), OpenFault>
+fn judge_title<S: Store>(alloc: Global, store: &mut S, at: u64, len: u32) -> Result<(), OpenFault>
     requires places { at + len < 2 ^ 64 }
     requires within { ForSome (S.bytes store.old) (λ b. at + len ≤ length b) }
 
