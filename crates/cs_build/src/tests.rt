@@ -1,4 +1,7 @@
 //! Images of small collections, against the bytes of their files.
+ghost use Rattle.std.specs.Prelude.{IfOk};
+ghost use Rattle.cs_file.specs.Writable.{CanBeWritten};
+
 use crate::image;
 use cs_base::{MemSink, Memory};
 use cs_docs::{read_docs, rows_of};
@@ -34,7 +37,9 @@ fn the_file_of_a_collection_has_these_bytes(rt: HostRuntime) -> Result<(), Fail>
     Ok(())
 }
 
-fn image_of(alloc: Global, collection: &[u8]) -> Result<Image, Memory> {
+fn image_of(alloc: Global, collection: &[u8]) -> Result<Image, Memory>
+    ensures { IfOk result CanBeWritten }
+{
     let Ok(docs) = read_docs(alloc, collection) else {
         return Err(Memory);
     };

@@ -9,7 +9,7 @@ use Rattle.cs_top.specs.Met.{Listened, Wrote}
 use Rattle.cs_top.specs.Serve.{IsServing, ServeFailed, serving_line}
 
 pub failed_after_line : (p n : List ℕ) (w : Wrote) (net : Listened) (P : Type 0) (b : List ℕ) → w.old ≡ Some b → Grew w.old (serving_line p) w.new → ¬ Rose w.before w.now → ServeFailed p n w net P
-      → IsServing p n w net × Rose net.before net.now × P
+    → IsServing p n w net × Rose net.before net.now × P
 failed_after_line p n w net P b told line calm (inr after) = after
 failed_after_line p n w net P b told line calm (inl (inr begun)) = absurd (calm begun.1)
 failed_after_line p n w net P b told line calm (inl (inl untouched)) =

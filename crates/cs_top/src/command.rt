@@ -18,11 +18,11 @@ use std::alloc::Global;
 
 /// Does what the words ask for, and answers the exit status.
 ///
-/// `words` are the command line's words without the program's name. 0: all was done. 1: a form was met
-/// that isn't built yet. 2: the words aren't in the table. 3: the collection isn't accepted. 5: a file to be
-/// read isn't held. 6: a call of `files` or `out` failed, or the hub's `listen` or `next`. 7: memory ran out before the script's
-/// first line or the first connection.
-/// 8: a line of the script is too long or isn't UTF-8; the lines before it were answered.
+/// `words` are the command line's words without the program's name. 0: all was done. 1: a form was met that isn't
+/// built yet. 2: the words aren't in the table. 3: the collection isn't accepted. 4: the index file is damaged. 5: a file
+/// to be read isn't held. 6: a call of `files` or `out` failed, or the hub's `listen` or `next`. 7: memory ran out before
+/// the script's first line or the first connection. 8: a line of the script is too long or isn't UTF-8; the lines before
+/// it were answered. 9: the index file isn't what it was at opening.
 pub fn run<F: Files, H: Hub, O: Sink, E: Sink>(
     alloc: Global,
     words: &Vec<String>,
