@@ -79,7 +79,8 @@ impl Vocab {
 
         ensures { result ≡ length (slice_index_or self.now n []) }
     {
-        self.words.as_slice()[n as usize].bytes().len() as u8
+        let words = self.words.as_slice();
+        words[n as usize].bytes().len() as u8
     }
 
     /// The number of the word `w`, if it is one of these.
