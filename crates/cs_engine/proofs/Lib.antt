@@ -14,3 +14,6 @@ pub mod WordsLemmas
 pub mod StepLemmas
 pub mod EvaluationLemmas
 pub mod AnsweringLemmas
+pub mod KeptLemmas
+pub mod PlansLemmas
+pub mod LentLemmas

@@ -13,9 +13,12 @@ mod fault;
 mod hits;
 mod note;
 mod parts;
+mod plans;
 mod reading;
 mod replies;
+mod replying;
 mod steps;
+mod typed;
 mod words;
 
 pub use cs_query::{Reply, Request};
