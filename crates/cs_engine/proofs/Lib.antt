@@ -1,5 +1,4 @@
 pub mod AtomsLemmas
-pub mod BuildingLemmas
 pub mod ColonLemmas
 pub mod FoldsLemmas
 pub mod FoundLemmas
@@ -15,3 +14,6 @@ pub mod WordsLemmas
 pub mod StepLemmas
 pub mod EvaluationLemmas
 pub mod AnsweringLemmas
+pub mod KeptLemmas
+pub mod PlansLemmas
+pub mod LentLemmas

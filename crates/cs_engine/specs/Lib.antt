@@ -1,5 +1,5 @@
 pub mod Asking
+pub mod Keeping
 pub mod Reading
-pub mod Searching
 pub mod Steps
 pub mod Stocked

@@ -1,88 +1,117 @@
 //! The engine over an opened index.
-ghost use Rattle.std.specs.Prelude.{◌≡◌, false, IfOk};
+ghost use Rattle.std.specs.Prelude.{◌≡◌, ◌≤◌, [], false, not, is_some, IfOk};
 ghost use Rattle.std.specs.Option.{ForSome};
 ghost use Rattle.cs_base.specs.outside.Causes.{ReadsWithin};
-ghost use Rattle.cs_base.specs.declared.index.plan.Plan.{Plan};
-ghost use Rattle.cs_file.specs.Indexes.{IsIndex, Fits, StandsFor, CausedReads};
+ghost use Rattle.cs_cache.specs.AnswerList.{answer_list};
+ghost use Rattle.cs_file.specs.Indexes.{Fits, StandsFor, CausedReads};
 ghost use Rattle.cs_model.specs.Parameters.{HoldsLimits};
 ghost use Rattle.cs_model.specs.Requests.{reply_of};
 ghost use Rattle.cs_model_index.specs.Sections.{file_corpus};
 ghost use Rattle.cs_model_kept.specs.Due.{due};
+ghost use Rattle.cs_model_kept.specs.KeptList.{plan_by};
+ghost use Rattle.cs_model_kept.specs.declared.limits.TheConstants.{MAX_ENTRIES};
 ghost use Rattle.cs_query.specs.RequestView.{asked};
-ghost use Rattle.cs_engine.specs.Asking.{division, is_read, is_changed, titles_read};
-ghost use Rattle.cs_engine.specs.Reading.{WhereStood, stock_of};
-ghost use Rattle.cs_engine.specs.Stocked.{corpus_in};
+ghost use Rattle.cs_engine.specs.Asking.{division, is_read, is_changed, titles_of};
+ghost use Rattle.cs_engine.specs.Keeping.{AreGood, IsAfter, Keeps, became, behind, is_same, note_plan};
 
-use crate::answering::reply_of;
-use crate::entries::hits_of;
 use crate::fault::AskFault;
-use crate::steps::{ends_positive, entry_of};
-use cs_base::Store;
+use crate::note::Note;
+use crate::replying::answered;
+use cs_base::{Kept, Keys, Plan, Store};
+use cs_cache::{Answers, Entry};
 use cs_file::Index;
-use cs_query::{Reply, Request};
+use cs_query::{Reply, Request, keys};
 use std::alloc::Global;
+use std::marker::Model;
 
-/// What answers requests over the store of an index.
+/// What answers requests over the store of an index, and keeps of its answers what serves the next ones.
+///
+/// Each entry that it keeps is in the range of the index, whatever store it was read from.
 #[derive(Drop)]
 pub struct Engine {
     /// The index that was opened.
     pub index: Index,
+    /// What is kept of answers.
+    pub answers: Answers,
+}
+
+impl Model for Engine {
+    ghost use Rattle.cs_engine.specs.Keeping.{EngineView, KeepsFitting};
+
+    ghost Value = { EngineView };
+
+    ghost view = { λ e. record { index = e.index; answers = e.answers } };
+
+    ghost invariant = { λ e. KeepsFitting e.index e.answers.entries };
 }
 
 impl Engine {
-    /// The engine of an index.
-    pub fn new(index: Index) -> Engine
-        ensures { result.index ≡ index }
+    /// The engine of an index, with nothing kept and room for so many answers.
+    pub fn new(alloc: Global, index: Index, capacity: usize) -> Result<Engine, cs_base::Memory>
+        requires some { 1 ≤ capacity }
+        requires limit { capacity ≤ MAX_ENTRIES }
+
+        ensures ok { IfOk result (λ e. e ≡ record { index = index; answers = answer_list [] capacity }) }
     {
-        Engine { index }
+        let answers = Answers::new(alloc, capacity)?;
+        Ok(Engine { index, answers })
     }
 
-    /// The reply to a request, over the store from which the index was opened. Blocks are read when an atom or a facet needs them.
+    /// The reply to a request, over the store from which the index was opened, and how it was answered. It goes on from what is kept;
+    /// blocks are read where that doesn't serve.
+    ///
+    /// A failed read and a change of the file are told as such, and want of memory too; the same answers are kept then.
     pub fn ask<S: Store>(
         &mut self,
         alloc: Global,
         store: &mut S,
         request: &Request,
-    ) -> Result<Reply, AskFault>
+    ) -> Result<(Reply, Note), AskFault>
         requires limits { HoldsLimits (asked request.now) }
         requires fits { Fits (S.bytes store.old) self.old.index }
 
-        ensures ok { ForSome (S.bytes store.old) (λ b. StandsFor b self.old.index → IfOk result (λ r. r ≡ reply_of (file_corpus b) (asked request.now))) }
+        // Over bytes that stand for the index, where what is kept is good: the reply is right, and what is kept stays good.
+        ensures ok { ForSome (S.bytes store.old) (λ b. StandsFor b self.old.index → AreGood b self.old → IfOk result (λ r. r.0 ≡ reply_of (file_corpus b) (asked request.now))) }
+        ensures good { ForSome (S.bytes store.old) (λ b. StandsFor b self.old.index → AreGood b self.old → AreGood b self.new) }
+        ensures after { ForSome (S.bytes store.old) (λ b. StandsFor b self.old.index → AreGood b self.old → IsAfter b request.now.query self.old result self.new) }
         ensures unchanged { ForSome (S.bytes store.old) (λ b. StandsFor b self.old.index → is_changed result ≡ false) }
+
+        // Over each store: what is kept, what is left as it was, how much is read, and why it is refused.
+        ensures keeps { Keeps self.old.index request.now.query self.old.answers result self.new.answers }
         ensures index { self.new.index ≡ self.old.index }
         ensures bytes { S.bytes store.new ≡ S.bytes store.old }
         ensures lent { S.lent store.new ≡ S.lent store.old }
-        ensures reads { ReadsWithin (due (division self.old.index) (asked request.now) Plan.Fresh (titles_read (asked request.now) result)) (S.reads store.old) (S.reads store.new) }
+        ensures reads { ReadsWithin (due (division self.old.index) (asked request.now) (note_plan request.now.query self.old.answers) (titles_of (asked request.now) result)) (S.reads store.old) (S.reads store.new) }
         ensures caused { CausedReads (is_read result) (S.faults store.old) (S.faults store.new) }
     {
-        // the type of an index says what it keeps where a field of it is read
-        let _ = &self.index.docs;
-        let reply = fresh(alloc, &self.index, store, request)?;
-        Ok(reply)
+        let keys = keys(alloc, &request.query)?;
+        let plan = self.answers.look(&keys);
+        let (reply, own) = answered(
+            alloc,
+            &self.index,
+            &self.answers,
+            store,
+            request,
+            &keys,
+            plan,
+        )?;
+        let kept = put(&mut self.answers, keys, plan, own);
+        Ok((reply, Note { plan, kept }))
     }
 }
 
-// The reply by the entry of the query, which is made from its first part on.
-fn fresh<S: Store>(
-    alloc: Global,
-    index: &Index,
-    store: &mut S,
-    request: &Request,
-) -> Result<Reply, AskFault>
-    requires limits { HoldsLimits (asked request.now) }
-    requires index { IsIndex index.now }
-    requires fits { Fits (S.bytes store.old) index.now }
+// What becomes of the query's own entry, behind a reply by a plan. The entry that the plan used comes to the front before.
+fn put(answers: &mut Answers, keys: Keys, plan: Plan, entry: Option<Entry>) -> Kept
+    requires plan { plan ≡ plan_by answers.old.entries keys }
+    requires own { is_some entry ≡ not (is_same plan) }
 
-    ensures told { WhereStood (S.bytes store.old) index.now (λ b. IfOk result (λ r. r ≡ reply_of (corpus_in (stock_of b)) (asked request.now))) }
-    ensures unchanged { WhereStood (S.bytes store.old) index.now (λ b. is_changed result ≡ false) }
-    ensures bytes { S.bytes store.new ≡ S.bytes store.old }
-    ensures lent { S.lent store.new ≡ S.lent store.old }
-    ensures reads { ReadsWithin (due (division index.now) (asked request.now) Plan.Fresh (titles_read (asked request.now) result)) (S.reads store.old) (S.reads store.new) }
-    ensures caused { CausedReads (is_read result) (S.faults store.old) (S.faults store.new) }
+    ensures became { result ≡ became entry }
+    ensures entries { answers.new.entries ≡ behind answers.old keys plan entry }
+    ensures capacity { answers.new.capacity ≡ answers.old.capacity }
 {
-    let entry = entry_of(alloc, index, store, &request.query)?;
-    let positive = ends_positive(&request.query);
-    let hits = hits_of(alloc, positive, &entry.base, &entry.rows)?;
-    let reply = reply_of(alloc, index, store, request, hits, &entry.rows)?;
-    Ok(reply)
+    answers.resume(&keys, plan);
+    match entry {
+        Some(entry) => answers.keep(keys.same, entry),
+        None => Kept::Had,
+    }
 }

@@ -1,0 +1,10 @@
+use Rattle.std.proofs.Common.{◌≡◌, ◌≤◌, ◌+◌, ◌++◌, drop, length}
+use Rattle.std.specs.Prelude.{filter}
+use Rattle.cs_engine.specs.Stocked.{is_between}
+use Rattle.cs_engine.proofs.between.posts_between.Given as goal
+
+abbrev pub invariant-loop-i : goal.invariant-loop-i
+invariant-loop-i l = record {
+  told : filter (is_between l.lo l.hi) l.posts.posts ≡ l.found.posts ++ filter (is_between l.lo l.hi) (drop l.i l.posts.posts);
+  room : length (filter (is_between l.lo l.hi) l.posts.posts) ≤ length l.found.posts + l.found.room;
+}

@@ -1,0 +1,135 @@
+-- What an engine keeps of answers: what always holds of it, what it is where the store tells the index's own bytes, and what a
+-- request leaves of it.
+--
+-- Source: this engine's own, over `KeptList` of cs_model_kept.
+--
+--   EngineView                an opened index, and what is kept of answers
+--   entry_with b posts        the entry of this base and these posts
+--   FitsQuery i q e           an entry is in the range of an index, as that of the query q is
+--   IsKeptEntry i e           the key of e is that of a query of the grammar, whose entry fits the index i
+--   KeepsFitting i held       each entry does
+--   IsEntryOver b i q e       over the bytes b of an index an entry is that of the query q
+--   HoldsGood b i held        over them each kept entry is that of its key's own query
+--   AreGood b e               over the bytes b of its index an engine keeps under each key the entry of the key's own query
+--   note_plan q a             the plan by which a query is answered from what is kept
+--   is_same p                 the plan is Same
+--   became o                  what becomes of a query's own entry; of None, which was kept before, Had
+--   behind a keys p o         the entries that a reply by the plan p leaves, where o is the query's own entry, if it wasn't kept before
+--   WasHad n                  an answer was kept before exactly where the plan is Same
+--   IsKeptBehind i q n old new      what is kept after a reply: what was used in front, and before it the query's own entry where it is kept
+--   IsLeftBehind q old new    what is kept after a refusal: the same entries, the used one maybe in front
+--   Keeps i q old r new       the one or the other
+--   IsAfter b q old r new     what is kept after a reply, over the bytes of the index
+use Rattle.std.specs.Prelude.{◌≡◌, ◌⊎◌, ℕ, Bool, true, false, List, ◌∷◌, length, take, Option, Some, None, Result, Ok, Err}
+use Rattle.std.specs.List.{All}
+use Rattle.cs_base.specs.declared.content.doc.Base.{Base}
+use Rattle.cs_base.specs.declared.content.doc.Post.{Post}
+use Rattle.cs_base.specs.declared.content.key.Keys.{Keys}
+use Rattle.cs_base.specs.declared.content.query.Query.{Query, out-Query}
+use Rattle.cs_base.specs.declared.index.plan.Kept.{Kept}
+use Rattle.cs_base.specs.declared.index.plan.Kept.TheVariants as kept
+use Rattle.cs_base.specs.declared.index.plan.Plan.{Plan}
+use Rattle.cs_base.specs.declared.index.plan.Plan.TheVariants as plan
+use Rattle.cs_cache.specs.AnswerList.{AnswerList}
+use Rattle.cs_file.specs.Indexes.{IndexView}
+use Rattle.cs_model.specs.Canonical.{canonical}
+use Rattle.cs_model.specs.Keys.{keys_of}
+use Rattle.cs_model.specs.Refusals.{IsOfGrammar}
+use Rattle.cs_model.specs.Replies.{Reply}
+use Rattle.cs_model_index.specs.Sections.{file_corpus}
+use Rattle.cs_model_kept.specs.Entries.{EntryOf, entry_at, entry_of}
+use Rattle.cs_model_kept.specs.KeptList.{KeptOf, GoodFor, after, kept_at, kept_by, kept_fresh, plan_by, put_in_front, to_front, used_key}
+use Rattle.cs_engine.specs.Steps.{EntryFits, last_is_positive}
+use Rattle.cs_engine.specs.declared.fault.AskFault.{AskFault}
+use Rattle.cs_engine.specs.declared.note.Note.{Note}
+
+-- an index that was opened, and the kept entries with how many there may be; an engine begins with none
+pub record EngineView : Type 0 where
+  pub index : IndexView
+  pub answers : AnswerList
+
+-- ---- over each store
+-- as it stands; of no posts it has no rows
+abbrev pub entry_with : Base → List Post → EntryOf Post
+entry_with b posts = record { base = b; rows = posts }
+
+-- its posts and its base are within the index, and its scores are those of so many parts
+abbrev pub FitsQuery : IndexView → Query → EntryOf Post → Type 0
+FitsQuery i q e = EntryFits i (last_is_positive q) (length (out-Query q).parts) e
+
+-- the key is that of a query of the grammar, and the entry's rows and base are in the range of the index, as an entry of that
+-- query's parts is
+pub record IsKeptEntry (i : IndexView) (e : List ℕ × EntryOf Post) : Type 0 where
+  pub query : Query
+  pub of_grammar : IsOfGrammar query
+  pub key : e.0 ≡ canonical query
+  pub fits : EntryFits i (last_is_positive query) (length (out-Query query).parts) e.1
+
+-- of no entry it holds
+abbrev pub KeepsFitting : IndexView → KeptOf (EntryOf Post) → Type 0
+KeepsFitting i held = All (IsKeptEntry i) held
+
+-- the plan by the keys of the query; Fresh where nothing is kept
+abbrev pub note_plan : Query → AnswerList → Plan
+note_plan q a = plan_by a.entries (keys_of q)
+
+-- Narrow, Extend and Fresh aren't
+abbrev pub is_same : Plan → Bool
+is_same plan.Same = true
+is_same (plan.Narrow cut) = false
+is_same plan.Extend = false
+is_same plan.Fresh = false
+
+-- an entry that wasn't kept before is kept now, unless it is too large
+abbrev pub became : Option (EntryOf Post) → Kept
+became None = kept.Had
+became (Some e) = kept_fresh e
+
+-- the used entry comes to the front, and the query's own before that where it is kept
+abbrev pub behind : AnswerList → Keys → Plan → Option (EntryOf Post) → KeptOf (EntryOf Post)
+behind a keys by_plan None = to_front a.entries (used_key keys by_plan)
+behind a keys by_plan (Some e) = put_in_front a.capacity (kept_fresh e) (keys.same, e) (to_front a.entries (used_key keys by_plan))
+
+-- an answer that was used for its own query isn't kept a second time, and each other one is kept or too large
+abbrev pub WasHad : Note → Type 0
+WasHad n = (n.plan ≡ plan.Same → n.kept ≡ kept.Had) × (n.kept ≡ kept.Had → n.plan ≡ plan.Same)
+
+-- the entries that a query leaves where its own isn't kept: the used one in front
+abbrev pub fronted : Query → AnswerList → KeptOf (EntryOf Post)
+fronted q a = to_front a.entries (used_key (keys_of q) (note_plan q a))
+
+-- the used entry comes to the front, and where the query's own is kept now it stands before that, the last one going where there
+-- are too many; over a store that doesn't tell, its own may be any that fits
+abbrev pub IsKeptBehind : IndexView → Query → Kept → AnswerList → AnswerList → Type 0
+IsKeptBehind i q kept.Kept old new = (e : EntryOf Post) × IsKeptEntry i (canonical q, e) × (new.entries ≡ take old.capacity ((canonical q, e) ∷ fronted q old))
+IsKeptBehind i q kept.Had old new = new.entries ≡ fronted q old
+IsKeptBehind i q kept.TooLarge old new = new.entries ≡ fronted q old
+
+-- the same entries in the same order, or the used one in front
+abbrev pub IsLeftBehind : Query → AnswerList → AnswerList → Type 0
+IsLeftBehind q old new = (new.entries ≡ old.entries) ⊎ (new.entries ≡ fronted q old)
+
+-- after a reply, and after a refusal; how many there may be stays
+abbrev pub Keeps : IndexView → Query → AnswerList → Result (Reply × Note) AskFault → AnswerList → Type 0
+Keeps i q old (Ok r) new = (new.capacity ≡ old.capacity) × (r.1.plan ≡ note_plan q old) × WasHad r.1 × IsKeptBehind i q r.1.kept old new
+Keeps i q old (Err e) new = (new.capacity ≡ old.capacity) × IsLeftBehind q old new
+
+-- ---- over the bytes of the index
+-- with its rows told by the words of the index
+abbrev pub IsEntryOver : List ℕ → IndexView → Query → EntryOf Post → Type 0
+IsEntryOver b i q e = entry_at i.words e ≡ entry_of (file_corpus b) q
+
+-- no entries are good
+abbrev pub HoldsGood : List ℕ → IndexView → KeptOf (EntryOf Post) → Type 0
+HoldsGood b i held = GoodFor (file_corpus b) (kept_at i.words held)
+
+-- under each key stands the entry of the key's own query over the corpus of the bytes; an engine that keeps nothing is good
+abbrev pub AreGood : List ℕ → EngineView → Type 0
+AreGood b e = HoldsGood b e.index e.answers.entries
+
+-- the entries of the corpus are those that a query leaves, its own kept unless it is too large; nothing is said of a refusal
+abbrev pub IsAfter : List ℕ → Query → EngineView → Result (Reply × Note) AskFault → EngineView → Type 0
+IsAfter b q old (Ok r) new =
+    (r.1.kept ≡ kept_by r.1.plan (entry_of (file_corpus b) q))
+    × (kept_at new.index.words new.answers.entries ≡ after (kept_at old.index.words old.answers.entries) old.answers.capacity q r.1.kept (file_corpus b))
+IsAfter b q old (Err e) new = Unit {0}
