@@ -3,6 +3,7 @@ ghost use Rattle.std.specs.Prelude.{◌≡◌, ◌<◌, ◌≤◌, ℕ, not, Non
 ghost use Rattle.std.specs.FinSet as set;
 ghost use Rattle.std.specs.Option.{ForSome};
 ghost use Rattle.cs_base.specs.outside.Hub.{IsLive, IsOrderly};
+ghost use Rattle.cs_engine.specs.Keeping.{AreGood};
 ghost use Rattle.cs_file.specs.Indexes.{Fits, StandsFor};
 ghost use Rattle.cs_model.specs.Corpus.{Corpus};
 ghost use Rattle.cs_model_index.specs.Sections.{file_corpus};
@@ -34,8 +35,10 @@ impl Core {
         requires live { HasLiveBut self.old (H.state hub.old) event }
         requires whole { IsWhole event piece.now }
 
-        // Over bytes that stand for the index: where the core followed the hub before the event, it follows it after the step.
-        ensures follows { ForSome (S.bytes store.old) (λ b. StandsFor b engine.old.index → StaysRight (file_corpus b) self.old self.new event piece.now (H.state hub.old) (H.state hub.new) (H.talk hub.old) (H.talk hub.new) (S.faults store.old) (S.faults store.new)) }
+        // Over bytes that stand for the index, where what is kept is good: where the core followed the hub before the event, it follows
+        // it after the step, and what is kept stays good.
+        ensures follows { ForSome (S.bytes store.old) (λ b. StandsFor b engine.old.index → AreGood b engine.old → StaysRight (file_corpus b) self.old self.new event piece.now (H.state hub.old) (H.state hub.new) (H.talk hub.old) (H.talk hub.new) (S.faults store.old) (S.faults store.new)) }
+        ensures good { ForSome (S.bytes store.old) (λ b. StandsFor b engine.old.index → AreGood b engine.old → AreGood b engine.new) }
         ensures live { HasLive self.new (H.state hub.new) }
         ensures over { event ≡ Event.Over → (c : ℕ) → left_at self.new c ≡ None }
 
@@ -48,6 +51,7 @@ impl Core {
         ensures lighter { Lightens event self.old self.new }
 
         ensures index { engine.new.index ≡ engine.old.index }
+        ensures capacity { engine.new.answers.capacity ≡ engine.old.answers.capacity }
         ensures bytes { S.bytes store.new ≡ S.bytes store.old }
         ensures lent { S.lent store.new ≡ S.lent store.old }
         ensures later { S.faults store.old ≤ S.faults store.new }
