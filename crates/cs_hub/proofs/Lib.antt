@@ -1,6 +1,8 @@
 pub mod ActLemmas
+pub mod AskedLemmas
 pub mod EventLemmas
 pub mod FollowLemmas
+pub mod HeadsLemmas
 pub mod LineLemmas
 pub mod ReadingLemmas
 pub mod RespondingLemmas

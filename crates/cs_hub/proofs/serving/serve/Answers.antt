@@ -1,4 +1,4 @@
-use Rattle.std.proofs.Common.{ap, refl, subst, sym, ◌∙◌}
+use Rattle.std.proofs.Common.{ap, refl, rules, subst, sym, ◌∙◌}
 use Rattle.cs_engine.specs.Keeping.{AreGood}
 use Rattle.cs_file.specs.Indexes.{StandsFor}
 use Rattle.cs_model_index.specs.Sections.{file_corpus}
@@ -10,6 +10,6 @@ returns-clause-good g c = λ b told stands good.
     let same = c.new-asking.ensures.engine in
     let kept = c.new-asking.ensures.store in
     let lent = c.serve_over.ensures.lent in
-    subst (AreGood b) (sym (c.engine-1.given.1 (sym (ap (λ l. l.0) lent ∙ c.new-asking.ensures.same_engine))))
-    (good_after (g.S.Store.bytes c.args.store.now) _ b c.serve_over.new.answerer.engine.now told (ap (λ l. l.1.1.0) lent ∙ ap g.S.Store.bytes kept)
-    (c.serve_over.ensures.still (file_corpus b) (b, ap g.S.Store.bytes kept ∙ told, subst (λ e. StandsFor b e.index) (sym same) stands, subst (AreGood b) (sym same) good, refl)))
+    let now = good_after (g.S.Store.bytes c.args.store.now) _ b c.serve_over.new.answerer.engine.now told (ap (λ l. l.1.1.0) lent ∙ ap g.S.Store.bytes kept)
+    (c.serve_over.ensures.still (file_corpus b) (b, ap g.S.Store.bytes kept ∙ told, subst (λ e. StandsFor b e.index) (sym same) stands, subst (AreGood b) (sym same) good, refl)) in
+    search (now, rules)
