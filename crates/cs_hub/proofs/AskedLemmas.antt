@@ -6,12 +6,14 @@
 --   along_start, along_next, along_hold, along_stop    the way through the bytes
 --   turned_goes, turned_stops     a head was answered
 --   turned_held                   no head ends there
+--   asks_counted                  the bytes of a piece that count
 --   sent_ok, sent_open, refused_close      what is known of a response by what was sent
 --   engine_leaves                 an engine was asked once
 --   within_due, within_for        an engine asked so reads no more than is due
-use Rattle.std.proofs.Common.{◌≡◌, ℕ, ◌+◌, ◌≤◌, Bool, true, false, List, [], ◌∷◌, ◌++◌, length, take, drop, slice_range, refl, sym, ◌∙◌, ap, subst, arith, append_assoc, append-nil}
+use Rattle.std.proofs.Common.{◌≡◌, ℕ, ◌+◌, ◌-◌, ◌≤◌, Bool, true, false, List, [], ◌∷◌, ◌++◌, length, take, drop, slice_range, refl, sym, ◌∙◌, ap, subst, arith, append_assoc, append-nil}
 use Rattle.std.specs.Prelude.{Option, Some, None, Result, Ok, Err, IfOk, is_ok}
 use Rattle.std.specs.FinMap as map
+use Rattle.cs_base.specs.declared.content.limits.TheConstants.{MAX_CONNECTION_BYTES}
 use Rattle.cs_base.specs.declared.memory.Memory.{Memory}
 use Rattle.cs_base.specs.outside.Causes.{ReadsWithin}
 use Rattle.cs_base.specs.outside.Hub.{Talk}
@@ -29,6 +31,7 @@ use Rattle.cs_model.specs.Replies.{Reply}
 use Rattle.cs_model.specs.Requests.{Request}
 use Rattle.cs_model_kept.specs.Due.{due}
 use Rattle.cs_model_serving.specs.declared.framed.Framed.TheVariants as framed
+use Rattle.cs_model_serving.specs.Connections.{Left}
 use Rattle.cs_model_serving.specs.Framing.{frame}
 use Rattle.cs_model_serving.specs.Heads.{Judgement, asks, judge}
 use Rattle.cs_model_serving.specs.Responses.{Response}
@@ -165,6 +168,12 @@ module _ {K : Type 0} (Leaves : K → Request → K → Type 0) where
     in_turn = in_turn_both h.first a.first s t u h.in_turn a.in_turn;
     all = λ e. absurd cc;
   }
+
+  -- ---- a piece
+  pub asks_counted : (whole : Bool) (old : Left) (taken : ℕ) (unread piece counted : List ℕ) (s t : K) → record { taken = taken; unread = unread } ≡ old → counted ≡ take (MAX_CONNECTION_BYTES - taken) piece
+      → AsksOf Leaves whole (requests_on (unread ++ counted)) s t → AsksOf Leaves whole (requests_on (old.unread ++ take (MAX_CONNECTION_BYTES - old.taken) piece)) s t
+  asks_counted whole old taken unread piece counted s t is e a =
+      subst (λ (l : Left). AsksOf Leaves whole (requests_on (l.unread ++ take (MAX_CONNECTION_BYTES - l.taken) piece)) s t) is (subst (λ x. AsksOf Leaves whole (requests_on (unread ++ x)) s t) e a)
 
 -- ---- an engine
 -- a count of reads that rose twice
