@@ -1,5 +1,5 @@
 //! The engine over an opened index.
-ghost use Rattle.std.specs.Prelude.{◌≡◌, ◌≤◌, [], false, not, is_some, IfOk};
+ghost use Rattle.std.specs.Prelude.{◌≡◌, ◌≤◌, [], false, not, is_some, length, IfOk};
 ghost use Rattle.std.specs.Option.{ForSome};
 ghost use Rattle.cs_base.specs.outside.Causes.{ReadsWithin};
 ghost use Rattle.cs_cache.specs.AnswerList.{answer_list};
@@ -76,7 +76,8 @@ impl Engine {
         ensures after { ForSome (S.bytes store.old) (λ b. StandsFor b self.old.index → AreGood b self.old → IsAfter b request.now.query self.old result self.new) }
         ensures unchanged { ForSome (S.bytes store.old) (λ b. StandsFor b self.old.index → is_changed result ≡ false) }
 
-        // Over each store: what is kept, what is left as it was, how much is read, and why it is refused.
+        // Over each store: how much is shown, what is kept, what is left as it was, how much is read, and why it is refused.
+        ensures few { IfOk result (λ r. length r.0.hits ≤ request.now.hits) }
         ensures keeps { Keeps self.old.index request.now.query self.old.answers result self.new.answers }
         ensures index { self.new.index ≡ self.old.index }
         ensures bytes { S.bytes store.new ≡ S.bytes store.old }

@@ -2,12 +2,17 @@
 --
 --   starts        before anything was opened the core of no slots follows it
 --   served_none   nothing was served then, and no count rose
-use Rattle.std.proofs.Common.{◌≡◌, ℕ, ◌+◌, ◌-◌, ◌^◌, ◌≤◌, [], sym, ◌∙◌, ap, arith}
-use Rattle.std.specs.Prelude.{Option, min}
+--   good_after    what is kept of answers is good after it was answered from
+use Rattle.std.proofs.Common.{◌≡◌, ℕ, ◌+◌, ◌-◌, ◌^◌, ◌≤◌, List, [], sym, ◌∙◌, ap, subst, arith}
+use Rattle.std.specs.Prelude.{Option, Some, min}
 use Rattle.std.specs.Ordering.{nat_cmp}
 use Rattle.std.specs.FinSet as set
+use Rattle.std.proofs.lemmas.Option.{same_Some}
 use Rattle.cs_base.specs.outside.Hub.{Talk, Listening, IsOrderly, listens}
+use Rattle.cs_engine.specs.Keeping.{AreGood, EngineView}
+use Rattle.cs_file.specs.Indexes.{StandsFor}
 use Rattle.cs_model.specs.Corpus.{Corpus}
+use Rattle.cs_model_index.specs.Sections.{file_corpus}
 use Rattle.cs_model_serving.specs.Connections.{reads}
 use Rattle.cs_hub.specs.Streams.{sum_below}
 use Rattle.cs_hub.specs.Following.{Follows, AreServed}
@@ -25,3 +30,7 @@ starts k s talk port conns e o = record {
 
 pub served_none : (k : Corpus) (s : Listening) (talk : Option Talk) (port conns n : ℕ) → s ≡ listens port conns → IsOrderly s talk → AreServed k s talk n n
 served_none k s talk port conns n e o = record { core = []; failed = 0; follows = starts k s talk port conns e o; rose = let l : min (n + 0) (2 ^ 64 - 1) ≤ n = omega arith in l }
+
+-- what an engine that was answered over these bytes keeps is good after it as well
+pub good_after : (told told' : Option (List ℕ)) (b : List ℕ) (e : EngineView) → told ≡ Some b → told' ≡ told → (x : List ℕ) × (told' ≡ Some x) × StandsFor x e.index × AreGood x e × (file_corpus b ≡ file_corpus x) → AreGood b e
+good_after told told' b e is same h = subst (λ l. AreGood l e) (same_Some h.0 b (sym h.1 ∙ same ∙ is)) h.3

@@ -1,6 +1,9 @@
 pub mod ActLemmas
+pub mod AskedLemmas
 pub mod EventLemmas
 pub mod FollowLemmas
+pub mod HeadsExamples
+pub mod HeadsLemmas
 pub mod LineLemmas
 pub mod ReadingLemmas
 pub mod RespondingLemmas

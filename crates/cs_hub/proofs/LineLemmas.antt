@@ -3,8 +3,9 @@
 --   along_start, along_next, along_hold, along_stop    the way through the bytes
 --   calm_on                                            what the hub keeps
 --   full                                               a piece with which the limit is reached
-use Rattle.std.proofs.Common.{◌≡◌, inr, ℕ, ◌+◌, ◌-◌, ◌≤◌, Bool, false, List, [], ◌∷◌, ◌++◌, length, take, drop, refl, sym, ◌∙◌, ap, subst, append_assoc, append-nil, arith}
-use Rattle.std.specs.Prelude.{Option, None, All}
+--   shut, kept                                         one after which the connection is to be closed, or goes on
+use Rattle.std.proofs.Common.{◌≡◌, inl, inr, ℕ, ◌+◌, ◌-◌, ◌<◌, ◌≤◌, Bool, false, List, [], ◌∷◌, ◌++◌, length, take, drop, refl, sym, ◌∙◌, ap, subst, append_assoc, append-nil, arith}
+use Rattle.std.specs.Prelude.{Option, Some, None, All}
 use Rattle.std.proofs.lemmas.List.{length-take}
 use Rattle.cs_base.specs.declared.content.limits.TheConstants.{MAX_CONNECTION_BYTES}
 use Rattle.std.specs.List.{AllZip}
@@ -103,3 +104,18 @@ full Over c old taken unread piece counted unread' m n talk talk' is e limit h =
       subst (λ x. Holds Over c (unread ++ x) unread' m n talk talk') e h,
       let size = length-take (MAX_CONNECTION_BYTES - taken) piece in omega (arith, limit, ap length e, size),
     ))
+
+-- ---- below the limit, and where it doesn't matter
+pub shut : (Over : Corpus → Type 0) (c : ℕ) (old : Left) (taken : ℕ) (unread piece counted : List ℕ) (m n : ℕ) (talk talk' : Option Talk) → record { taken = taken; unread = unread } ≡ old → counted ≡ take (MAX_CONNECTION_BYTES - taken) piece
+    → Stops Over c (unread ++ counted) m n talk talk' → Received Over c old piece None m n talk talk'
+shut Over c old taken unread piece counted m n talk talk' is e h =
+    subst (λ (l : Left). Received Over c l piece None m n talk talk') is (inl (subst (λ x. Stops Over c (unread ++ x) m n talk talk') e h))
+
+pub kept : (Over : Corpus → Type 0) (c : ℕ) (old : Left) (taken : ℕ) (unread piece counted unread' : List ℕ) (m n : ℕ) (talk talk' : Option Talk) → record { taken = taken; unread = unread } ≡ old → counted ≡ take (MAX_CONNECTION_BYTES - taken) piece
+    → taken + length counted < MAX_CONNECTION_BYTES → Holds Over c (unread ++ counted) unread' m n talk talk' → Received Over c old piece (Some (record { taken = taken + length counted; unread = unread' })) m n talk talk'
+kept Over c old taken unread piece counted unread' m n talk talk' is e below h =
+    subst (λ (l : Left). Received Over c l piece (Some (record { taken = taken + length counted; unread = unread' })) m n talk talk') is (
+      subst (λ x. Holds Over c (unread ++ x) unread' m n talk talk') e h,
+      let size = length-take (MAX_CONNECTION_BYTES - taken) piece in omega (arith, below, ap length e, size),
+      below,
+    )

@@ -3,11 +3,12 @@
 --   starves           want of memory, whatever was to be served
 --   one_goes          a response was sent, and the connection goes on
 --   one_stops         a response was sent, or not whole, and the connection is to be closed
+--   delivered_by      a response was sent, whole or not
 --   replied_goes, replied_stops      the same of the response to a head
 --   found_head, found_more, found_long    what looking found, as framing
 --   head_bytes        the bytes of a head, some of which were unread
 use Rattle.std.proofs.Common.{ap₂, ◌≡◌, ◌⊎◌, inl, inr, ℕ, ◌+◌, ◌-◌, ◌<◌, ◌≤◌, Bool, true, false, List, [], ◌∷◌, ◌++◌, length, take, drop, slice_range, append_assoc, append-nil, refl, sym, ◌∙◌, ap, subst, arith, length-append, length-drop}
-use Rattle.std.specs.Prelude.{Option, cond, Result, Ok, Err, IfOk}
+use Rattle.std.specs.Prelude.{Option, cond, not, ◌&&◌, Result, Ok, Err, IfOk}
 use Rattle.std.specs.List.{AllZip}
 use Rattle.std.proofs.lemmas.List.{take-append-drop, take-append-le, drop-append-le, length-take-le}
 use Rattle.std.proofs.Math.Seq.{drop-append-add}
@@ -28,7 +29,7 @@ use Rattle.cs_hub.specs.declared.reading.Turn.TheVariants.{Next, Holds, Stops as
 use Rattle.cs_hub.specs.declared.answer.Answer.{Answer}
 use Rattle.cs_hub.specs.Responding.{response}
 use Rattle.cs_hub.specs.Streams.{RoseBy}
-use Rattle.cs_hub.specs.Speaking.{Said, Starved, IsCutShort, IsEnded, Says}
+use Rattle.cs_hub.specs.Speaking.{Said, Spoke, Starved, IsCutShort, IsEnded, Says}
 use Rattle.cs_hub.specs.Turns.{IsGiven, Delivered, IsSent, Replied, IsOne, IsHeld, IsRefused, GoesOn, Stops, Turned}
 use Rattle.cs_hub.proofs.SpeakLemmas.{rose_none}
 use Rattle.cs_hub.proofs.ServedLemmas.{all_nil, zip_same, same_closing, plain, reads_cons, changes_cons}
@@ -146,6 +147,16 @@ module _ (Over : Corpus → Type 0) (c : ℕ) (b rest : List ℕ) (right : Corpu
     },
   )
   one_stops (inr (inr s)) = starves Over c b m n talk talk' later s
+
+-- ---- what was sent
+closes_so : (c : ℕ) (r : Response) (close : Bool) (talk talk' : Option Talk) → r.closes ≡ close → Spoke c (response_bytes r) false talk talk' → Delivered c r (not close) talk talk'
+closes_so c r true talk talk' is h = inl (is, h)
+closes_so c r false talk talk' is h = (is, h)
+
+-- a response goes on where it was sent whole and doesn't close the connection
+pub delivered_by : (c : ℕ) (r : Response) (text : List ℕ) (whole : Bool) (talk talk' : Option Talk) → text ≡ response_bytes r → Said c text whole talk talk' → Delivered c r (whole && not r.closes) talk talk'
+delivered_by c r text true talk talk' is h = closes_so c r r.closes talk talk' refl (subst (λ t. Spoke c t false talk talk') is h)
+delivered_by c r text false talk talk' is h = inr (inl (h.0, subst (λ t. Spoke c (take h.0 t) true talk talk') is h.1))
 
 -- ---- the response to a head
 pub replied_goes : (Over : Corpus → Type 0) (c : ℕ) (b rest : List ℕ) (right : Corpus → Response) (goes : Bool) (m n : ℕ) (talk talk' : Option Talk) → ((k : Corpus) → serve k b ≡ answered (right k) rest (serve k)) → m ≤ n → goes ≡ true

@@ -1,3 +1,5 @@
+pub mod Asked
+pub mod DueReads
 pub mod Ending
 pub mod Following
 pub mod Responding

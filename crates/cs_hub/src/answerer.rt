@@ -4,7 +4,7 @@ ghost use Rattle.cs_engine.specs.Asking.{is_read, is_changed};
 ghost use Rattle.cs_file.specs.Indexes.{CausedReads};
 ghost use Rattle.cs_model.specs.Corpus.{Corpus};
 ghost use Rattle.cs_model.specs.Parameters.{HoldsLimits};
-ghost use Rattle.cs_model.specs.Requests.{reply_of};
+ghost use Rattle.cs_model.specs.Requests.{Request as Wanted, reply_of};
 ghost use Rattle.cs_query.specs.RequestView.{asked};
 
 use cs_engine::AskFault;
@@ -25,6 +25,15 @@ pub(crate) trait Answerer {
     /// That of this one.
     ghost lent: { Self → Lent };
 
+    /// What it keeps from one request to the next, and how often it read.
+    ghost Kept: { Type 0 };
+
+    /// That of this one.
+    ghost kept: { Self → Kept };
+
+    /// What a request may leave of it.
+    ghost leaves: { Kept → Wanted → Kept → Type 0 };
+
     /// The reply to a request.
     fn reply(&mut self, alloc: Global, request: &Request) -> Result<Reply, AskFault>
         requires limits { HoldsLimits (asked request.now) }
@@ -33,5 +42,6 @@ pub(crate) trait Answerer {
         ensures unchanged { (k : Corpus) → answers self.old k → is_changed result ≡ false }
         ensures still { (k : Corpus) → answers self.old k → answers self.new k }
         ensures lent { lent self.new ≡ lent self.old }
+        ensures asked { leaves (kept self.old) (asked request.now) (kept self.new) }
         ensures caused { CausedReads (is_read result) (faults self.old) (faults self.new) };
 }

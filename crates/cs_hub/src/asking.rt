@@ -36,16 +36,25 @@ impl<S: Store> Answerer for Asking<'_, S> {
     ghost use Rattle.std.specs.Borrow.{GName};
     ghost use Rattle.cs_file.specs.Indexes.{IndexView, StandsFor};
     ghost use Rattle.cs_model_index.specs.Sections.{file_corpus};
+    ghost use Rattle.cs_engine.specs.Keeping.{AreGood, EngineView};
+    ghost use Rattle.cs_hub.specs.Asked.{EngineLeaves};
 
-    ghost answers = { λ a k. (b : List ℕ) × (S.bytes a.store.now ≡ Some b) × StandsFor b a.engine.now.index × (k ≡ file_corpus b) };
+    ghost answers = { λ a k. (b : List ℕ) × (S.bytes a.store.now ≡ Some b) × StandsFor b a.engine.now.index × AreGood b a.engine.now × (k ≡ file_corpus b) };
 
     ghost faults = { λ a. S.faults a.store.now };
 
-    ghost Lent = { GName × (GName × (Option (List ℕ) × (S.Lent × IndexView))) };
+    ghost Lent = { GName × (GName × (Option (List ℕ) × (S.Lent × (IndexView × ℕ)))) };
 
-    ghost lent = { λ a. (a.engine.ghost_name, (a.store.ghost_name, (S.bytes a.store.now, (S.lent a.store.now, a.engine.now.index)))) };
+    ghost lent = { λ a. (a.engine.ghost_name, (a.store.ghost_name, (S.bytes a.store.now, (S.lent a.store.now, (a.engine.now.index, a.engine.now.answers.capacity))))) };
+
+    ghost Kept = { EngineView × ℕ };
+
+    ghost kept = { λ a. (a.engine.now, S.reads a.store.now) };
+
+    ghost leaves = { EngineLeaves };
 
     fn reply(&mut self, alloc: Global, request: &Request) -> Result<Reply, AskFault> {
-        self.engine.ask(alloc, self.store, request)
+        let (reply, _) = self.engine.ask(alloc, self.store, request)?;
+        Ok(reply)
     }
 }

@@ -1,9 +1,12 @@
 //! The response to a head.
-ghost use Rattle.std.specs.Prelude.{◌≡◌, ◌≤◌, IfOk};
+ghost use Rattle.std.specs.Prelude.{◌≡◌, ◌≢◌, ◌≤◌, IfOk, is_ok};
 ghost use Rattle.cs_model.specs.Corpus.{Corpus};
-ghost use Rattle.cs_model.specs.Parameters.{HoldsLimits};
+ghost use Rattle.cs_model.specs.Parameters.{HoldsLimits, request_refusal};
+ghost use Rattle.cs_model_serving.specs.Heads.{judge};
 ghost use Rattle.cs_model_serving.specs.Responses.{response_to, to_params, too_long};
 ghost use Rattle.cs_query.specs.RequestView.{asked};
+ghost use Rattle.cs_hub.specs.Asked.{AsksOf};
+ghost use Rattle.cs_hub.specs.DueReads.{closes_behind, requests_by, requests_in};
 ghost use Rattle.cs_hub.specs.Responding.{response, IsJudgedSo, IsRefusedSo, replied};
 ghost use Rattle.cs_hub.specs.Turns.{IsGiven};
 
@@ -23,6 +26,8 @@ pub(crate) fn answer_head<A: Answerer>(
     bytes: &[u8],
 ) -> Result<Answer, Memory>
     ensures ok { IfOk result (λ a. IsGiven (A.answers answerer.old) (λ k. response_to k bytes.now) (response a) (A.faults answerer.old) (A.faults answerer.new)) }
+    ensures close { IfOk result (λ a. a.close ≡ closes_behind (judge bytes.now)) }
+    ensures asked { AsksOf A.leaves (is_ok result) (requests_in (judge bytes.now)) (A.kept answerer.old) (A.kept answerer.new) }
     ensures still { (k : Corpus) → A.answers answerer.old k → A.answers answerer.new k }
     ensures lent { A.lent answerer.new ≡ A.lent answerer.old }
     ensures later { A.faults answerer.old ≤ A.faults answerer.new }
@@ -49,7 +54,8 @@ pub(crate) fn answer_too_long(alloc: Global) -> Result<Answer, Memory>
 // The response to bytes that aren't answered with a reply.
 #[tactic(auto, unfolding(cs_json::specs::FaultTexts::fault_text))]
 fn refuse_head(alloc: Global, fault: HeadFault) -> Result<Answer, Memory>
-    ensures { IfOk result (λ a. IsJudgedSo fault (response a)) }
+    ensures judged { IfOk result (λ a. IsJudgedSo fault (response a)) }
+    ensures told { IfOk result (λ a. fault ≢ HeadFault.Memory) }
 {
     let (status, close, fault) = match fault {
         HeadFault::NotHead => (400, true, Fault::NotHead),
@@ -74,6 +80,8 @@ fn answer_params<A: Answerer>(
     close: bool,
 ) -> Result<Answer, Memory>
     ensures ok { IfOk result (λ a. IsGiven (A.answers answerer.old) (λ k. to_params k params.now close) (response a) (A.faults answerer.old) (A.faults answerer.new)) }
+    ensures close { IfOk result (λ a. a.close ≡ close) }
+    ensures asked { AsksOf A.leaves (is_ok result) (requests_by params.now (request_refusal params.now)) (A.kept answerer.old) (A.kept answerer.new) }
     ensures still { (k : Corpus) → A.answers answerer.old k → A.answers answerer.new k }
     ensures lent { A.lent answerer.new ≡ A.lent answerer.old }
     ensures later { A.faults answerer.old ≤ A.faults answerer.new }
@@ -87,7 +95,9 @@ fn answer_params<A: Answerer>(
 // The response to refused parameters.
 #[tactic(auto, unfolding(cs_json::specs::FaultTexts::fault_text))]
 fn refuse_params(alloc: Global, fault: ReqFault, close: bool) -> Result<Answer, Memory>
-    ensures { IfOk result (λ a. IsRefusedSo fault close (response a)) }
+    ensures refused { IfOk result (λ a. IsRefusedSo fault close (response a)) }
+    ensures close { IfOk result (λ a. a.close ≡ close) }
+    ensures told { IfOk result (λ a. fault ≢ ReqFault.Memory) }
 {
     if matches!(fault, ReqFault::Memory) {
         return Err(Memory);
@@ -111,6 +121,8 @@ fn reply_to<A: Answerer>(
     requires limits { HoldsLimits (asked request.now) }
 
     ensures ok { IfOk result (λ a. IsGiven (A.answers answerer.old) (λ k. replied k (asked request.now) close) (response a) (A.faults answerer.old) (A.faults answerer.new)) }
+    ensures close { IfOk result (λ a. a.close ≡ close) }
+    ensures asked { A.leaves (A.kept answerer.old) (asked request.now) (A.kept answerer.new) }
     ensures still { (k : Corpus) → A.answers answerer.old k → A.answers answerer.new k }
     ensures lent { A.lent answerer.new ≡ A.lent answerer.old }
     ensures later { A.faults answerer.old ≤ A.faults answerer.new }

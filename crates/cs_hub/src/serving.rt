@@ -5,6 +5,7 @@ ghost use Rattle.std.specs.Option.{ForSome};
 ghost use Rattle.cs_base.specs.declared.content.limits.TheConstants.{MAX_CONNECTION_BYTES};
 ghost use Rattle.cs_base.specs.outside.Causes.{Rose};
 ghost use Rattle.cs_base.specs.outside.Hub.{IsOrderly, listens};
+ghost use Rattle.cs_engine.specs.Keeping.{AreGood};
 ghost use Rattle.cs_file.specs.Indexes.{Fits, StandsFor};
 ghost use Rattle.cs_model_index.specs.Sections.{file_corpus};
 ghost use Rattle.cs_model.specs.Corpus.{Corpus};
@@ -47,8 +48,9 @@ pub fn serve<S: Store, H: Hub>(
     requires listens { (port : ℕ) × (H.state hub.old ≡ listens port conns) }
     requires orderly { IsOrderly (H.state hub.old) (H.talk hub.old) }
 
-    // Over bytes that stand for the index each opened connection is right.
-    ensures served { ForSome (S.bytes store.old) (λ b. StandsFor b engine.old.index → AreServed (file_corpus b) (H.state hub.new) (H.talk hub.new) (S.faults store.old) (S.faults store.new)) }
+    // Over bytes that stand for the index, where what is kept is good: each opened connection is right, and what is kept stays good.
+    ensures served { ForSome (S.bytes store.old) (λ b. StandsFor b engine.old.index → AreGood b engine.old → AreServed (file_corpus b) (H.state hub.new) (H.talk hub.new) (S.faults store.old) (S.faults store.new)) }
+    ensures good { ForSome (S.bytes store.old) (λ b. StandsFor b engine.old.index → AreGood b engine.old → AreGood b engine.new) }
 
     // Want of memory comes before the first event.
     ensures done { result ≡ ServeEnd.Done → ((c : ℕ) → set.contains (H.state hub.new).live c ≡ false) × (((H.state hub.new).opened ≡ conns) ⊎ ((H.state hub.new).over ≡ true)) }
@@ -64,6 +66,7 @@ pub fn serve<S: Store, H: Hub>(
     ensures events { ForSome (H.talk hub.old) (λ t. ForSome (H.talk hub.new) (λ u. length u.came ≤ length t.came + conns * (MAX_CONNECTION_BYTES + 2) + 1)) }
 
     ensures index { engine.new.index ≡ engine.old.index }
+    ensures capacity { engine.new.answers.capacity ≡ engine.old.answers.capacity }
     ensures bytes { S.bytes store.new ≡ S.bytes store.old }
     ensures lent { S.lent store.new ≡ S.lent store.old }
     ensures later { S.faults store.old ≤ S.faults store.new }
@@ -86,6 +89,7 @@ pub(crate) fn serve_over<A: Answerer, H: Hub>(
     ensures ends { Ends result conns (H.state hub.old) (H.state hub.new) (H.faults hub.old) (H.faults hub.new) }
     ensures memory { result ≡ ServeEnd.Memory → (H.state hub.new ≡ H.state hub.old) × (H.talk hub.new ≡ H.talk hub.old) × (A.faults answerer.new ≡ A.faults answerer.old) }
     ensures events { came_by (H.talk hub.new) ≤ came_by (H.talk hub.old) + conns * (MAX_CONNECTION_BYTES + 2) + 1 }
+    ensures still { (k : Corpus) → A.answers answerer.old k → A.answers answerer.new k }
     ensures lent { A.lent answerer.new ≡ A.lent answerer.old }
     ensures later { A.faults answerer.old ≤ A.faults answerer.new }
 {
@@ -111,6 +115,7 @@ fn serve_with<A: Answerer, H: Hub>(
     ensures ends { Ends result conns (H.state hub.old) (H.state hub.new) (H.faults hub.old) (H.faults hub.new) }
     ensures some_memory { result ≢ ServeEnd.Memory }
     ensures events { came_by (H.talk hub.new) ≤ came_by (H.talk hub.old) + conns * (MAX_CONNECTION_BYTES + 2) + 1 }
+    ensures still { (k : Corpus) → A.answers answerer.old k → A.answers answerer.new k }
     ensures lent { A.lent answerer.new ≡ A.lent answerer.old }
     ensures later { A.faults answerer.old ≤ A.faults answerer.new }
 {

@@ -3,9 +3,12 @@ ghost use Rattle.std.specs.Prelude.{◌≡◌, ◌<◌, ◌≤◌, ℕ, not, Non
 ghost use Rattle.std.specs.FinSet as set;
 ghost use Rattle.std.specs.Option.{ForSome};
 ghost use Rattle.cs_base.specs.outside.Hub.{IsLive, IsOrderly};
+ghost use Rattle.cs_engine.specs.Keeping.{AreGood};
 ghost use Rattle.cs_file.specs.Indexes.{Fits, StandsFor};
 ghost use Rattle.cs_model.specs.Corpus.{Corpus};
 ghost use Rattle.cs_model_index.specs.Sections.{file_corpus};
+ghost use Rattle.cs_hub.specs.Asked.{AsksOf};
+ghost use Rattle.cs_hub.specs.DueReads.{AnswersWithin, bytes_behind, bytes_to_answer, goes_on, requests_on};
 ghost use Rattle.cs_hub.specs.Following.{HasLive, HasLiveBut, IsWhole, LeavesOthers, StaysRight, left_at};
 ghost use Rattle.cs_hub.specs.Rounds.{Greets, Heeds, Lightens, KeepsCame, closed_unless};
 ghost use Rattle.cs_hub.specs.Speaking.{Starved};
@@ -34,8 +37,10 @@ impl Core {
         requires live { HasLiveBut self.old (H.state hub.old) event }
         requires whole { IsWhole event piece.now }
 
-        // Over bytes that stand for the index: where the core followed the hub before the event, it follows it after the step.
-        ensures follows { ForSome (S.bytes store.old) (λ b. StandsFor b engine.old.index → StaysRight (file_corpus b) self.old self.new event piece.now (H.state hub.old) (H.state hub.new) (H.talk hub.old) (H.talk hub.new) (S.faults store.old) (S.faults store.new)) }
+        // Over bytes that stand for the index, where what is kept is good: where the core followed the hub before the event, it follows
+        // it after the step, and what is kept stays good.
+        ensures follows { ForSome (S.bytes store.old) (λ b. StandsFor b engine.old.index → AreGood b engine.old → StaysRight (file_corpus b) self.old self.new event piece.now (H.state hub.old) (H.state hub.new) (H.talk hub.old) (H.talk hub.new) (S.faults store.old) (S.faults store.new)) }
+        ensures good { ForSome (S.bytes store.old) (λ b. StandsFor b engine.old.index → AreGood b engine.old → AreGood b engine.new) }
         ensures live { HasLive self.new (H.state hub.new) }
         ensures over { event ≡ Event.Over → (c : ℕ) → left_at self.new c ≡ None }
 
@@ -47,7 +52,11 @@ impl Core {
         ensures orderly { IsOrderly (H.state hub.old) (H.talk hub.old) → IsOrderly (H.state hub.new) (H.talk hub.new) }
         ensures lighter { Lightens event self.old self.new }
 
+        // How much is read for the requests that are answered, over every store and hub.
+        ensures reads { AnswersWithin (goes_on self.new event) (requests_on (bytes_to_answer self.old event piece.now)) engine.old engine.new (S.reads store.old) (S.reads store.new) }
+
         ensures index { engine.new.index ≡ engine.old.index }
+        ensures capacity { engine.new.answers.capacity ≡ engine.old.answers.capacity }
         ensures bytes { S.bytes store.new ≡ S.bytes store.old }
         ensures lent { S.lent store.new ≡ S.lent store.old }
         ensures later { S.faults store.old ≤ S.faults store.new }
@@ -77,6 +86,7 @@ impl Core {
         ensures faults { H.faults hub.new ≡ H.faults hub.old }
         ensures orderly { IsOrderly (H.state hub.old) (H.talk hub.old) → IsOrderly (H.state hub.new) (H.talk hub.new) }
         ensures lighter { Lightens event self.old self.new }
+        ensures asked { AsksOf A.leaves (goes_on self.new event) (requests_on (bytes_to_answer self.old event piece.now)) (A.kept answerer.old) (A.kept answerer.new) }
         ensures still { (k : Corpus) → A.answers answerer.old k → A.answers answerer.new k }
         ensures lent { A.lent answerer.new ≡ A.lent answerer.old }
         ensures later { A.faults answerer.old ≤ A.faults answerer.new }
@@ -123,6 +133,7 @@ impl Core {
         ensures faults { H.faults hub.new ≡ H.faults hub.old }
         ensures orderly { IsOrderly (H.state hub.old) (H.talk hub.old) → IsOrderly (H.state hub.new) (H.talk hub.new) }
         ensures lighter { Lightens (Event.Piece conn (length piece.now)) self.old self.new }
+        ensures asked { AsksOf A.leaves (is_some (left_at self.new conn)) (requests_on (bytes_behind (left_at self.old conn) piece.now)) (A.kept answerer.old) (A.kept answerer.new) }
         ensures still { (k : Corpus) → A.answers answerer.old k → A.answers answerer.new k }
         ensures lent { A.lent answerer.new ≡ A.lent answerer.old }
         ensures later { A.faults answerer.old ≤ A.faults answerer.new }

@@ -23,6 +23,12 @@ impl Answerer for Empty {
 
     ghost lent = { λ _. tt };
 
+    ghost Kept = { Unit {0} };
+
+    ghost kept = { λ _. tt };
+
+    ghost leaves = { λ _ _ _. Unit {0} };
+
     fn reply(&mut self, alloc: Global, _request: &Request) -> Result<Reply, AskFault> {
         if self.failing > 0 {
             self.failing -= 1;

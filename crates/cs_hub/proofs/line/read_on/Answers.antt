@@ -2,12 +2,16 @@ use Rattle.std.proofs.Common.{rules, ◌++◌, sym, ◌∙◌, subst, arith}
 use Rattle.cs_base.specs.outside.Hub.{IsLive}
 use Rattle.cs_hub.specs.Turns.{Along}
 use Rattle.cs_hub.proofs.LineLemmas.{along_start, along_next, along_hold, along_stop, calm_still, calm_on}
+use Rattle.std.proofs.Common.{drop}
+use Rattle.std.specs.Prelude.{true}
+use Rattle.cs_hub.proofs.AskedLemmas.{along_start as asked_start, along_next as asked_next, along_hold as asked_hold, along_stop as asked_stop}
 use Rattle.cs_hub.proofs.line.read_on.Goals as goal
 
 pub loop-used-init : goal.loop-used-init
 loop-used-init g c = record {
   live = c.requires.live;
   along = along_start (g.A.Answerer.answers c.args.answerer.now) c.args.conn (c.args.reading.now ++ c.args.piece.now) (g.A.Answerer.faults c.args.answerer.now) (g.H.Hub.talk c.args.hub.now);
+  asked = asked_start g.A.Answerer.leaves (c.args.reading.now ++ c.args.piece.now) (g.A.Answerer.kept c.args.answerer.now);
   still = λ k h. h;
   lent = search rules;
   later = omega arith;
@@ -26,6 +30,8 @@ loop-used-preserved g c =
       along = subst (λ r. Along over c.args.conn (c.args.reading.now ++ c.args.piece.now) (c.turn.new.self ++ r) before after talk then) (sym c.behind-rest.ensures)
           (along_next over (g.A.Answerer.answers c.loop-used.answerer) c.args.conn c.in-Next.used (c.args.reading.now ++ c.args.piece.now) c.loop-used.reading c.loop-used.rest.now c.turn.new.self before (g.A.Answerer.faults c.loop-used.answerer) after talk (g.H.Hub.talk c.loop-used.hub) then
           c.loop-used.invariant.still c.loop-used.invariant.along c.in-Next.ensures.turned);
+      asked = asked_next g.A.Answerer.leaves (c.args.reading.now ++ c.args.piece.now) (drop c.in-Next.used c.loop-used.rest.now) (c.loop-used.reading ++ c.loop-used.rest.now) c.turn.new.self c.behind-rest.result.now (g.A.Answerer.kept c.args.answerer.now) (g.A.Answerer.kept c.loop-used.answerer) (g.A.Answerer.kept c.turn.new.answerer)
+          c.in-Next.ensures.turned.emptied c.behind-rest.ensures c.loop-used.invariant.asked c.in-Next.ensures.asked;
       still = λ k h. c.in-Next.ensures.still k (c.loop-used.invariant.still k h);
       lent = c.in-Next.ensures.lent ∙ c.loop-used.invariant.lent;
       later = omega (arith, c.in-Next.ensures.later, c.loop-used.invariant.later);
@@ -41,3 +47,13 @@ pub returns-in-Stops-clause-reads : goal.returns-in-Stops-clause-reads
 returns-in-Stops-clause-reads g c =
     along_stop (g.A.Answerer.answers c.args.answerer.now) (g.A.Answerer.answers c.loop-used.answerer) c.args.conn (c.args.reading.now ++ c.args.piece.now) (c.loop-used.reading ++ c.loop-used.rest.now) (g.A.Answerer.faults c.args.answerer.now) (g.A.Answerer.faults c.loop-used.answerer) (g.A.Answerer.faults c.turn.new.answerer)
     (g.H.Hub.talk c.args.hub.now) (g.H.Hub.talk c.loop-used.hub) (g.H.Hub.talk c.turn.new.hub) c.loop-used.invariant.still c.loop-used.invariant.along c.in-Stops.ensures.turned
+
+pub returns-in-Holds-clause-asked : goal.returns-in-Holds-clause-asked
+returns-in-Holds-clause-asked g c =
+    asked_hold g.A.Answerer.leaves true (c.args.reading.now ++ c.args.piece.now) (c.loop-used.reading ++ c.loop-used.rest.now) (g.A.Answerer.kept c.args.answerer.now) (g.A.Answerer.kept c.loop-used.answerer) (g.A.Answerer.kept c.turn.new.answerer)
+    c.loop-used.invariant.asked c.in-Holds.ensures.asked.0 c.in-Holds.ensures.asked.1
+
+pub returns-in-Stops-clause-asked : goal.returns-in-Stops-clause-asked
+returns-in-Stops-clause-asked g c =
+    asked_stop g.A.Answerer.leaves (c.args.reading.now ++ c.args.piece.now) (c.loop-used.reading ++ c.loop-used.rest.now) (g.A.Answerer.kept c.args.answerer.now) (g.A.Answerer.kept c.loop-used.answerer) (g.A.Answerer.kept c.turn.new.answerer)
+    c.loop-used.invariant.asked c.in-Stops.ensures.asked

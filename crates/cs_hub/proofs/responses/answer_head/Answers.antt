@@ -1,9 +1,15 @@
-use Rattle.std.proofs.Common.{subst}
+use Rattle.std.proofs.Common.{◌≡◌, sym, ◌∙◌, ap, subst}
 use Rattle.std.proofs.lemmas.Result.{IfOk-weaker}
 use Rattle.cs_hub.specs.Responding.{response, IsJudgedSo}
 use Rattle.cs_hub.specs.Turns.{IsGiven}
 use Rattle.cs_model_serving.specs.Responses.{to_params, response_to}
 use Rattle.cs_hub.proofs.RespondingLemmas.{given_searched, given_judged}
+use Rattle.std.specs.Prelude.{is_ok}
+use Rattle.cs_model_serving.specs.Heads.{judge}
+use Rattle.cs_model.specs.Parameters.{request_refusal}
+use Rattle.cs_hub.specs.Asked.{AsksOf}
+use Rattle.cs_hub.specs.DueReads.{requests_by, closes_behind}
+use Rattle.cs_hub.proofs.AskedLemmas.{asks_head, refused_head, refused_close}
 use Rattle.cs_hub.proofs.responses.answer_head.Goals as goal
 
 pub returns-in-Ok-clause-ok : goal.returns-in-Ok-clause-ok
@@ -19,4 +25,21 @@ returns-in-Err-clause-ok g c =
     let over = g.A.Answerer.answers c.args.answerer.now in
     let before = g.A.Answerer.faults c.args.answerer.now in
     IfOk-weaker c.refuse_head.result (λ a. IsJudgedSo c.in-Err.fault (response a)) (λ a. IsGiven over (λ k. response_to k c.args.bytes.now) (response a) before before)
-    (λ a h. given_judged over c.args.bytes.now c.in-Err.fault (response a) before c.in-Err.ensures.err h) c.refuse_head.ensures
+    (λ a h. given_judged over c.args.bytes.now c.in-Err.fault (response a) before c.in-Err.ensures.err h) c.refuse_head.ensures.judged
+
+pub returns-in-Ok-clause-asked : goal.returns-in-Ok-clause-asked
+returns-in-Ok-clause-asked g c =
+    asks_head g.A.Answerer.leaves (is_ok c.answer_params.result) c.args.bytes.now c.in-Ok.asked.params c.in-Ok.asked.close (g.A.Answerer.kept c.args.answerer.now) (g.A.Answerer.kept c.answer_params.new.answerer) c.in-Ok.ensures.ok
+    (subst (λ p. AsksOf g.A.Answerer.leaves (is_ok c.answer_params.result) (requests_by p (request_refusal p)) (g.A.Answerer.kept c.args.answerer.now) (g.A.Answerer.kept c.answer_params.new.answerer)) c.as_slice.ensures c.answer_params.ensures.asked)
+
+pub returns-in-Err-clause-asked : goal.returns-in-Err-clause-asked
+returns-in-Err-clause-asked g c = refused_head g.A.Answerer.leaves (judge c.args.bytes.now) c.in-Err.fault c.refuse_head.result (g.A.Answerer.kept c.args.answerer.now) c.in-Err.ensures.err c.refuse_head.ensures.told
+
+pub returns-in-Ok-clause-close : goal.returns-in-Ok-clause-close
+returns-in-Ok-clause-close g c =
+    IfOk-weaker c.answer_params.result (λ a. a.close ≡ c.in-Ok.asked.close) (λ a. a.close ≡ closes_behind (judge c.args.bytes.now)) (λ a h. h ∙ sym (ap closes_behind c.in-Ok.ensures.ok)) c.answer_params.ensures.close
+
+pub returns-in-Err-clause-close : goal.returns-in-Err-clause-close
+returns-in-Err-clause-close g c =
+    IfOk-weaker c.refuse_head.result (λ a. IsJudgedSo c.in-Err.fault (response a)) (λ a. a.close ≡ closes_behind (judge c.args.bytes.now))
+    (λ a h. refused_close (judge c.args.bytes.now) c.in-Err.fault (response a) c.in-Err.ensures.err h) c.refuse_head.ensures.judged

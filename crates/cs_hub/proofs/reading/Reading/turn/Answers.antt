@@ -1,6 +1,8 @@
 use Rattle.std.proofs.Common.{arith, ◌≡◌, ◌++◌, ◌-◌, length, ap}
 use Rattle.cs_hub.proofs.ReadingLemmas.{span_of, span_front}
 use Rattle.cs_hub.proofs.TurnLemmas.{found_head, found_more, found_long, turned_goes, turned_stops, turned_long, turned_held}
+use Rattle.cs_hub.specs.DueReads.{requests_on}
+use Rattle.cs_hub.proofs.AskedLemmas.{asks_none, turned_goes as asked_goes, turned_stops as asked_stops, turned_held as asked_held}
 use Rattle.cs_hub.proofs.reading.Reading.turn.Goals as goal
 
 pub answer-requires-clause-within : goal.answer-requires-clause-within
@@ -31,4 +33,26 @@ returns-in-TooLong-clause-turned g c =
 pub returns-in-More-clause-turned : goal.returns-in-More-clause-turned
 returns-in-More-clause-turned g c =
     turned_held (g.A.Answerer.answers c.args.answerer.now) c.args.conn c.args.self.now c.args.rest.now c.keep.new.self c.keep.result (g.A.Answerer.faults c.args.answerer.now) (g.H.Hub.talk c.args.hub.now) (g.H.Hub.talk c.keep.new.hub)
+    (found_more (c.args.self.now ++ c.args.rest.now) c.in-More.seen c.in-More.ensures.found) c.keep.ensures.held
+
+pub returns-then-answer-clause-asked : goal.returns-then-answer-clause-asked
+returns-then-answer-clause-asked g c =
+    let held : c.len-held.result ≡ length c.args.self.now = omega (arith, c.len-held.ensures, c.self.inside.unread.ok, ap length c.self.view_is) in
+    let span = span_of c.args.self.now c.args.rest.now c.len-held.result c.in-Head.skip c.in-Head.end c.in-Head.ensures.found c.in-Head.ensures.placed held in
+    asked_goes g.A.Answerer.leaves c.args.self.now c.args.rest.now c.in-Head.skip c.in-Head.end (c.in-Head.end - c.len-held.result) c.answer.result (g.A.Answerer.kept c.args.answerer.now) (g.A.Answerer.kept c.answer.new.answerer)
+    (found_head (c.args.self.now ++ c.args.rest.now) c.in-Head.skip c.in-Head.end c.in-Head.ensures.found) span.total span.within span.front c.answer.ensures.asked c.if-answer.true (c.answer.ensures.going c.if-answer.true)
+
+pub returns-else-answer-clause-asked : goal.returns-else-answer-clause-asked
+returns-else-answer-clause-asked g c =
+    let held : c.len-held.result ≡ length c.args.self.now = omega (arith, c.len-held.ensures, c.self.inside.unread.ok, ap length c.self.view_is) in
+    let span = span_of c.args.self.now c.args.rest.now c.len-held.result c.in-Head.skip c.in-Head.end c.in-Head.ensures.found c.in-Head.ensures.placed held in
+    asked_stops g.A.Answerer.leaves c.args.self.now c.args.rest.now c.in-Head.skip c.in-Head.end (c.in-Head.end - c.len-held.result) c.answer.result (g.A.Answerer.kept c.args.answerer.now) (g.A.Answerer.kept c.answer.new.answerer)
+    (found_head (c.args.self.now ++ c.args.rest.now) c.in-Head.skip c.in-Head.end c.in-Head.ensures.found) span.total span.within span.front c.answer.ensures.asked
+
+pub returns-in-TooLong-clause-asked : goal.returns-in-TooLong-clause-asked
+returns-in-TooLong-clause-asked g c = asks_none g.A.Answerer.leaves (requests_on (c.args.self.now ++ c.args.rest.now)) (g.A.Answerer.kept c.args.answerer.now)
+
+pub returns-in-More-clause-asked : goal.returns-in-More-clause-asked
+returns-in-More-clause-asked g c =
+    asked_held g.A.Answerer.leaves c.args.conn c.args.self.now c.args.rest.now c.keep.new.self c.keep.result (g.A.Answerer.kept c.args.answerer.now) (g.H.Hub.talk c.args.hub.now) (g.H.Hub.talk c.keep.new.hub)
     (found_more (c.args.self.now ++ c.args.rest.now) c.in-More.seen c.in-More.ensures.found) c.keep.ensures.held

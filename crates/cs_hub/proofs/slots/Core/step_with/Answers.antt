@@ -1,9 +1,12 @@
 use Rattle.std.proofs.Common.{sym, subst}
-use Rattle.std.specs.Prelude.{None}
+use Rattle.std.specs.Prelude.{None, true}
 use Rattle.cs_base.specs.declared.outside.hub.Event.{Event}
 use Rattle.cs_base.specs.declared.outside.hub.Event.TheVariants.{Opened, Piece, Ended}
+use Rattle.cs_hub.specs.Asked.{AsksOf}
+use Rattle.cs_hub.specs.DueReads.{bytes_to_answer, goes_on, requests_on}
 use Rattle.cs_hub.specs.Following.{HasLiveBut, IsWhole, StaysRight}
 use Rattle.cs_hub.proofs.ActLemmas.{acted_live, ended_acted}
+use Rattle.cs_hub.proofs.AskedLemmas.{asks_no_bytes}
 use Rattle.cs_hub.proofs.EventLemmas.{greeted, opened_stays, piece_stays, ended_stays, over_stays}
 use Rattle.cs_hub.proofs.slots.Core.step_with.Goals as goal
 
@@ -54,3 +57,18 @@ returns-in-Over-clause-follows g c = λ k over.
     let count = g.A.Answerer.faults c.args.answerer.now in
     subst (λ (v : Event). StaysRight k c.args.self.now c.close_all.new.self v c.args.piece.now now then talk told count count) (sym c.in-Over.is)
     (over_stays k c.args.self.now c.close_all.new.self c.args.piece.now now then count talk told c.close_all.ensures.talk c.close_all.ensures.same c.close_all.ensures.none c.close_all.ensures.live c.close_all.ensures.orderly)
+
+pub returns-in-Opened-clause-asked : goal.returns-in-Opened-clause-asked
+returns-in-Opened-clause-asked g c =
+    let kept = g.A.Answerer.kept c.args.answerer.now in
+    subst (λ (v : Event). AsksOf g.A.Answerer.leaves (goes_on c.open.new.self v) (requests_on (bytes_to_answer c.args.self.now v c.args.piece.now)) kept kept) (sym c.in-Opened.is) (asks_no_bytes g.A.Answerer.leaves true kept)
+
+pub returns-in-Ended-clause-asked : goal.returns-in-Ended-clause-asked
+returns-in-Ended-clause-asked g c =
+    let kept = g.A.Answerer.kept c.args.answerer.now in
+    subst (λ (v : Event). AsksOf g.A.Answerer.leaves (goes_on c.forget.new.self v) (requests_on (bytes_to_answer c.args.self.now v c.args.piece.now)) kept kept) (sym c.in-Ended.is) (asks_no_bytes g.A.Answerer.leaves true kept)
+
+pub returns-in-Over-clause-asked : goal.returns-in-Over-clause-asked
+returns-in-Over-clause-asked g c =
+    let kept = g.A.Answerer.kept c.args.answerer.now in
+    subst (λ (v : Event). AsksOf g.A.Answerer.leaves (goes_on c.close_all.new.self v) (requests_on (bytes_to_answer c.args.self.now v c.args.piece.now)) kept kept) (sym c.in-Over.is) (asks_no_bytes g.A.Answerer.leaves true kept)
