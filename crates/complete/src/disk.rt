@@ -123,6 +123,7 @@ impl<R: rt::Files + Drop> Disk<'_, R> {
     }
 
     // Keeps the bytes of a stream, and answers their number.
+    #[tactic(auto, using(crate::proofs::StreamsLemmas::size_held))]
     fn read_stream(&mut self, name: &str) -> io::Result<Option<u64>>
         ensures kept { IfOk result (λ n. n ≡ size_of (map.get self.new.streams.held name.now)) }
     {
@@ -177,6 +178,7 @@ impl<R: rt::Files + Drop> Disk<'_, R> {
     fn open(&mut self, name: &str, access: Access) -> io::Result<Opened<R::File>>
         ensures right { IfOk result (λ o. (o.access ≡ access) × (string_bytes o.name ≡ name.now)) }
         ensures kept { ForSome self.old.opened (λ o. o.access ≡ access → string_bytes o.name ≡ name.now → result ≡ Ok o) }
+        ensures streams { self.new.streams ≡ self.old.streams }
     {
         match self.opened.take() {
             Some(opened) if opened.access == access && opened.name.as_str() == name => Ok(opened),
