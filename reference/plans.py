@@ -9,7 +9,6 @@ rows of a prefix are found by sorted words; all else is filtered there.
 """
 import bisect
 import collections
-import functools
 import sys
 
 import complete
@@ -26,19 +25,30 @@ class Counting:
         for row in corpus.rows:
             self.docs_of[row.word].append(row.doc)
         self.words = sorted(self.docs_of)
+        self.found = {}    # by canonical texts, since atoms of two kinds with one word are equal as tuples
 
-    @functools.cache
+    def once(self, text, made):
+        """What was made under this text before, else what is made now."""
+        if text not in self.found:
+            self.found[text] = made()
+        return self.found[text]
+
     def rows_by_document(self, part):
         """Each document that has rows of the part, with their number."""
+        return self.once(("rows", complete.canonical((part,))), lambda: self.counted(part))
+
+    def counted(self, part):
         if len(part.chains) == 1 and len(part.chains[0]) == 1 and isinstance(part.chains[0][0].atom, complete.Prefix):
             prefix = part.chains[0][0].atom.word
             words = self.words[bisect.bisect_left(self.words, prefix):bisect.bisect_left(self.words, prefix + BEHIND)]
             return collections.Counter(doc for word in words for doc in self.docs_of[word])
         return collections.Counter(row.doc for row in complete.rows_of_part(self.corpus, part))
 
-    @functools.cache
     def hits(self, query):
         """The documents with a row of every positive part and none of an excluded one."""
+        return self.once(("hits", complete.canonical(query)), lambda: self.filtered(query))
+
+    def filtered(self, query):
         found = set(range(len(self.corpus.titles)))
         for part in query:
             rows = self.rows_by_document(part).keys()
