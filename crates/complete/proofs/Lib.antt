@@ -1,3 +1,4 @@
 pub mod AppendsLemmas
+pub mod StreamsLemmas
 pub mod TurnsLemmas
 pub mod WordsLemmas

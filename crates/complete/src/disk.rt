@@ -1,21 +1,25 @@
 //! The system's files as the files that the program meets.
-ghost use Rattle.std.specs.Prelude.{◌≡◌, ◌↔◌, IsTrue, IfOk, IfErr, IsErr, OnOk, Ok, Some, None};
+ghost use Rattle.std.specs.Prelude.{◌≡◌, ◌↔◌, length, IsTrue, IfOk, IfErr, IsErr, OnOk, Ok, Some, None};
+ghost use Rattle.std.specs.FinMap as map;
 ghost use Rattle.std.specs.Option.{ForSome};
 ghost use Rattle.std.specs.String.{string_bytes};
-ghost use Rattle.std.specs.Fs.{metadata_len, file_type, IsFile};
+ghost use Rattle.std.specs.Fs.{metadata_len, file_type, IsDir, IsFile};
 ghost use Rattle.std.specs.IoError.{error_kind};
 ghost use Rattle.std.specs.Io.KnownBytes.{Appends};
+ghost use Rattle.cs_base.specs.outside.Outside.{part, size_of};
 ghost use Rattle.complete.specs.System.{SaysAbsent};
 
 use crate::faults::Faults;
+use crate::streams::{lend, read_whole};
 use crate::whole::write_whole;
-use cs_base::{Failed, Files};
+use cs_base::{Failed, Files, MemFiles};
 use std::alloc::Global;
 use std::fs::{File, Metadata, OpenFile, OpenOptions};
 use std::io::{self, ErrorKind, Read, Seek, SeekFrom};
 use std::{fs, rt};
 
-/// The system's files. A name is a path, and a file is a regular one: a folder or a pipe fails.
+/// The system's files. A name is a path. A regular file is read in pieces and written; a stream, as a pipe or a device, is read
+/// whole when its size is asked, and never written; a folder fails.
 ///
 /// They tell nothing of their content. The file that was last read or written stays open under its
 /// name, so a file that is read in pieces is opened once.
@@ -35,6 +39,7 @@ impl<'a, R: rt::Files + Drop> DiskFiles<'a, R> {
                 rt,
                 alloc,
                 opened: None,
+                streams: MemFiles::new(alloc),
             },
             faults: Faults::none(),
         }
@@ -84,20 +89,60 @@ struct Opened<F> {
     file: F,
 }
 
-// The system's files, with its own answers.
+// What a name stands for.
+#[derive(Clone, Copy, PartialEq, Eq)]
+enum Found {
+    Absent,
+    File { bytes: u64 },
+    Stream,
+}
+
+// The system's files, with its own answers, and the bytes of the streams that were read.
 #[derive(Drop)]
 struct Disk<'a, R: rt::Files + Drop> {
     rt: &'a R,
     alloc: Global,
     opened: Option<Opened<R::File>>,
+    streams: MemFiles,
 }
 
 impl<R: rt::Files + Drop> Disk<'_, R> {
-    fn size(&self, name: &str) -> io::Result<Option<u64>> {
-        size_of(fs::metadata(self.rt, name))
+    // The size of a stream is that of the bytes that are kept of it, and each of the first call.
+    fn size(&mut self, name: &str) -> io::Result<Option<u64>>
+        ensures kept { ForSome (map.get self.new.streams.held name.now) (λ f. IfOk result (λ n. n ≡ Some (length f.bytes))) }
+        ensures once { ForSome (map.get self.old.streams.held name.now) (λ f. (self.new.streams ≡ self.old.streams) × (result ≡ Ok (Some (length f.bytes)))) }
+    {
+        if let Some(bytes) = self.streams.bytes(name) {
+            return Ok(Some(bytes.len() as u64));
+        }
+        match found_of(fs::metadata(self.rt, name))? {
+            Found::Absent => Ok(None),
+            Found::File { bytes } => Ok(Some(bytes)),
+            Found::Stream => self.read_stream(name),
+        }
     }
 
-    fn read_at(&mut self, name: &str, at: u64, out: &mut [u8]) -> io::Result<()> {
+    // Keeps the bytes of a stream, and answers their number.
+    #[tactic(auto, using(crate::proofs::StreamsLemmas::size_held))]
+    fn read_stream(&mut self, name: &str) -> io::Result<Option<u64>>
+        ensures kept { IfOk result (λ n. n ≡ size_of (map.get self.new.streams.held name.now)) }
+    {
+        let stream = self.open(name, Access::Read)?.file;
+        let bytes = read_whole(self.alloc, stream)?;
+        let size = bytes.len() as u64;
+        match self.streams.hold(name, bytes) {
+            Ok(()) => Ok(Some(size)),
+            Err(_) => Err(ErrorKind::OutOfMemory.into()),
+        }
+    }
+
+    fn read_at(&mut self, name: &str, at: u64, out: &mut [u8]) -> io::Result<()>
+        ensures lent { ForSome (map.get self.old.streams.held name.now) (λ f. OnOk result (out.new ≡ part f.bytes at (length out.old))) }
+        ensures streams { self.new.streams ≡ self.old.streams }
+    {
+        if let Some(bytes) = self.streams.bytes(name) {
+            return lend(bytes, at, out);
+        }
         let mut opened = self.open(name, Access::Read)?;
         opened.file.seek(SeekFrom::Start(at))?;
         opened.file.read_exact(out)?;
@@ -107,6 +152,9 @@ impl<R: rt::Files + Drop> Disk<'_, R> {
 
     fn create(&mut self, name: &str) -> io::Result<()> {
         self.opened = None;
+        if found_of(fs::metadata(self.rt, name))? == Found::Stream {
+            return Err(ErrorKind::Unsupported.into());
+        }
         File::create(self.rt, name)?;
         Ok(())
     }
@@ -130,6 +178,7 @@ impl<R: rt::Files + Drop> Disk<'_, R> {
     fn open(&mut self, name: &str, access: Access) -> io::Result<Opened<R::File>>
         ensures right { IfOk result (λ o. (o.access ≡ access) × (string_bytes o.name ≡ name.now)) }
         ensures kept { ForSome self.old.opened (λ o. o.access ≡ access → string_bytes o.name ≡ name.now → result ≡ Ok o) }
+        ensures streams { self.new.streams ≡ self.old.streams }
     {
         match self.opened.take() {
             Some(opened) if opened.access == access && opened.name.as_str() == name => Ok(opened),
@@ -147,17 +196,19 @@ impl<R: rt::Files + Drop> Disk<'_, R> {
     }
 }
 
-// The bytes of a file, by what the system says of its name; None where no file has the name.
-fn size_of(found: io::Result<Metadata>) -> io::Result<Option<u64>>
-    ensures file { IfOk found (λ m. IsFile (file_type m) → result ≡ Ok (Some (metadata_len m))) }
-    ensures other { IfOk found (λ m. ¬ IsFile (file_type m) → IsErr result) }
-    ensures absent { IfErr found (λ e. SaysAbsent (error_kind e) → result ≡ Ok None) }
+// What a name stands for, by what the system says of it.
+fn found_of(found: io::Result<Metadata>) -> io::Result<Found>
+    ensures file { IfOk found (λ m. IsFile (file_type m) → result ≡ Ok (Found.File (metadata_len m))) }
+    ensures folder { IfOk found (λ m. IsDir (file_type m) → IsErr result) }
+    ensures stream { IfOk found (λ m. ¬ IsFile (file_type m) → ¬ IsDir (file_type m) → result ≡ Ok Found.Stream) }
+    ensures absent { IfErr found (λ e. SaysAbsent (error_kind e) → result ≡ Ok Found.Absent) }
     ensures err { IfErr found (λ e. ¬ SaysAbsent (error_kind e) → IsErr result) }
 {
     match found {
-        Ok(found) if found.is_file() => Ok(Some(found.len())),
-        Ok(_) => Err(ErrorKind::Unsupported.into()),
-        Err(error) if is_absent(error.kind()) => Ok(None),
+        Ok(found) if found.is_file() => Ok(Found::File { bytes: found.len() }),
+        Ok(found) if found.is_dir() => Err(ErrorKind::IsADirectory.into()),
+        Ok(_) => Ok(Found::Stream),
+        Err(error) if is_absent(error.kind()) => Ok(Found::Absent),
         Err(error) => Err(error),
     }
 }

@@ -13,6 +13,7 @@ mod faults;
 mod hub_tests;
 mod standard;
 mod startup;
+mod streams;
 mod tcp;
 #[cfg(test)]
 mod tests;

@@ -2,6 +2,7 @@
 use crate::disk::DiskFiles;
 use crate::standard::Standard;
 use crate::startup::start;
+use crate::streams::{lend, read_whole};
 use cs_base::{Failed, Files, MemSink, ScriptHub, Seq, Sink};
 use std::alloc::{AllocError, Global};
 use std::env::Args;
@@ -101,6 +102,39 @@ fn a_file_of_more_than_32_bits_has_its_size(rt: HostRuntime) -> Result<(), Fail>
     assert_eq!(rt; files.read_at(NAME, SIZE, &mut piece), Ok(()));
     assert_eq!(rt; piece, *b"last");
     fs::remove_dir_all(&rt, FOLDER)?;
+    Ok(())
+}
+
+#[test]
+fn a_device_is_read_once_and_never_written(rt: HostRuntime) -> Result<(), Fail> {
+    let mut files = DiskFiles::new(rt.alloc(), &rt);
+    let mut piece = [0u8; 1];
+    assert_eq!(rt; files.read_at("/dev/zero", 0, &mut piece), Ok(()));
+    assert_eq!(rt; files.size("/dev/null"), Ok(Some(0)));
+    assert_eq!(rt; files.size("/dev/null"), Ok(Some(0)));
+    assert_eq!(rt; files.read_at("/dev/null", 0, &mut []), Ok(()));
+    assert_eq!(rt; files.read_at("/dev/null", 0, &mut piece), Err(Failed));
+    assert_eq!(rt; files.create("/dev/null"), Err(Failed));
+    Ok(())
+}
+
+#[test]
+fn a_stream_is_lent_as_it_was_read(rt: HostRuntime) -> Result<(), Fail> {
+    let bytes = read_whole(rt.alloc(), &b"a pipe"[..])?;
+    assert_eq!(rt; bytes.as_slice(), b"a pipe".as_slice());
+    let mut piece = [0u8; 4];
+    for (at, want) in [
+        (2, Some(*b"pipe")),
+        (0, Some(*b"a pi")),
+        (3, None),
+        (u64::MAX, None),
+    ] {
+        let lent = lend(&bytes, at, &mut piece).is_ok();
+        assert_eq!(rt; lent, want.is_some(), "at {at}");
+        if let Some(want) = want {
+            assert_eq!(rt; piece, want, "at {at}");
+        }
+    }
     Ok(())
 }
 
