@@ -6,11 +6,11 @@ use Rattle.cs_block.proofs.ItemsLemmas.{judged_cut, rows_cut}
 use Rattle.cs_block.proofs.PassLemmas.{none-from_test}
 use Rattle.cs_block.proofs.decoding.decode_reserved.Goals as goal
 
-pub returns-in-Some-clause-accepts : goal.returns-in-Some-clause-accepts
-returns-in-Some-clause-accepts c = λ rows block. returns-in-Some-clause-exact c ∙ (unique c.args.head.now c.args.docs rows c.args.bytes.now (omega arith) c.requires.shaped block).0
-
 pub returns-in-Some-clause-exact : goal.returns-in-Some-clause-exact
 returns-in-Some-clause-exact c = c.in-Some.ensures ∙ judged_cut c.args.head.now c.args.docs c.args.bytes.now _ c.cut-columns.ensures.value
+
+pub returns-in-Some-clause-accepts : goal.returns-in-Some-clause-accepts
+returns-in-Some-clause-accepts c = λ rows block. returns-in-Some-clause-exact c ∙ (unique c.args.head.now c.args.docs rows c.args.bytes.now (omega arith) c.requires.shaped block).0
 
 pub returns-else-not-push_rows-clause-exact : goal.returns-else-not-push_rows-clause-exact
 returns-else-not-push_rows-clause-exact c = sym (none-from_test _ (sym c.push_rows.ensures.told ∙ c.if-not-push_rows.false)) ∙ judged_cut c.args.head.now c.args.docs c.args.bytes.now _ c.cut-columns.ensures.value
