@@ -52,7 +52,8 @@ impl Best {
 
     /// The best documents, best first.
     pub fn list(&self) -> &[Scored]
-        ensures { result.now ≡ self.now.list }
+        ensures value { result.now ≡ self.now.list }
+        ensures order { self.now.list ≡ first_of self.now.room self.now.list }
     {
         self.list.as_slice()
     }

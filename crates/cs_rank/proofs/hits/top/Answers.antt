@@ -9,7 +9,7 @@ returns c =
     record {
       ok = c.from_vec.ensures ∙ c.in_ok-shown.ensures.items ∙ c.without_first.ensures
           ∙ ap (drop c.args.o)
-          (c.list.ensures ∙ c.in_ok-offer_all.ensures.ok
+          (c.list.ensures.value ∙ c.in_ok-offer_all.ensures.ok
           ∙ ap (λ xs. first_of c.in_ok-best.best.room (xs ++ scored)) c.in_ok-best.ensures.0
           ∙ ap (λ n. first_of n scored) (c.in_ok-best.ensures.1 ∙ (let least = c.min-room.ensures in omega arith)))
           ∙ shown c.args.o c.args.h scored;
