@@ -1,7 +1,8 @@
 //! A bounded list of the best documents.
-ghost use Rattle.std.specs.Prelude.{◌≡◌, ◌+◌, ◌-◌, ◌<◌, ◌≤◌, [], ◌∷◌, ◌++◌, IfOk, OnOk, OnErr, length, insert, MatchOption, slice_index_or};
+ghost use Rattle.std.specs.Prelude.{◌≡◌, ℕ, true, false, List, ◌+◌, ◌-◌, ◌<◌, ◌≤◌, [], ◌∷◌, ◌++◌, IfOk, OnOk, OnErr, length, insert, MatchOption, slice_index_or};
 ghost use Rattle.std.specs.Vec.{vec_len, vec_capacity};
 ghost use Rattle.cs_base.specs.content.Orders.{by_rank};
+ghost use Rattle.cs_base.specs.declared.content.doc.Scored.{Scored};
 ghost use Rattle.cs_rank.specs.Kept.{IsFull, Takes, is_behind, first_of};
 ghost use Rattle.cs_rank.specs.declared.best.TheConstants.{MAX_ROOM};
 
@@ -124,14 +125,16 @@ fn sift(kept: &mut Vec<Scored>, room: usize, scored: &[Scored])
 {
     let mut worst = None;
     for s in scored {
-        worst = keep(kept, room, worst, *s);
+        if !is_beaten(s, &worst) {
+            worst = keep(kept, room, worst, *s);
+        }
     }
 }
 
-// Adds one entry, unless it is behind `worst`, the last of `room` better ones. Once twice as many as `room`
-// are kept, the first `room` alone stay, and the answer is the last of these.
-#[inline]
+// Adds one entry, which isn't behind the worst. Once twice as many as `room` are kept, the first `room` alone
+// stay, and the answer is the last of these.
 fn keep(kept: &mut Vec<Scored>, room: usize, worst: Option<Scored>, s: Scored) -> Option<Scored>
+    requires near { is_behind s worst ≡ false }
     requires some { 0 < room }
     requires few { vec_len kept.old < room + room }
     requires space { room + room ≤ vec_capacity kept.old }
@@ -140,9 +143,6 @@ fn keep(kept: &mut Vec<Scored>, room: usize, worst: Option<Scored>, s: Scored) -
     ensures few { vec_len kept.new < room + room }
     ensures capacity { vec_capacity kept.new ≡ vec_capacity kept.old }
 {
-    if is_beaten(&s, &worst) {
-        return worst;
-    }
     kept.push_reserved(s);
     if kept.len() == room + room {
         return prune(kept, room);
@@ -150,8 +150,11 @@ fn keep(kept: &mut Vec<Scored>, room: usize, worst: Option<Scored>, s: Scored) -
     worst
 }
 
+// Whether an entry isn't before the last of `room` better ones: it may be let go.
+#[inline]
 fn is_beaten(s: &Scored, worst: &Option<Scored>) -> bool
-    ensures { result ≡ is_behind s.now worst.now }
+    ensures value { result ≡ is_behind s.now worst.now }
+    ensures let_go { result ≡ true → (room : ℕ) (kept : List Scored) → Takes s.now room kept worst.now kept worst.now }
 {
     match worst {
         Some(worst) => !s.cmp(worst).is_lt(),
