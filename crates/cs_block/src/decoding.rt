@@ -1,6 +1,7 @@
 //! Reading a block.
 ghost use Rattle.std.specs.Prelude.{◌≡◌, ℕ, ◌≤◌, ◌++◌, true, List, length, map, take, OnOk, OnErr, None};
 ghost use Rattle.std.specs.Option.{is_none};
+ghost use Rattle.std.specs.Result.{result_err};
 ghost use Rattle.cs_base.specs.declared.content.doc.Post.{Post};
 ghost use Rattle.cs_model.specs.Scores.{SCORES};
 ghost use Rattle.cs_model_index.specs.Blocks.{IsShaped};
@@ -13,7 +14,7 @@ use crate::fault::BlockFault;
 use crate::judging::judge;
 use crate::rules::keeps_rules;
 use crate::runs::push_runs;
-use cs_base::BlockHead;
+use cs_base::{BlockHead, Broken};
 use cs_cols::Cols;
 
 /// Adds the rows of a block at the end, or the fault says which rule its bytes break first, or that
@@ -30,16 +31,33 @@ pub fn decode(bytes: &[u8], head: &BlockHead, docs: u32, into: &mut Cols) -> Res
     ensures exact { Decodes result (judged SCORES head.now docs bytes.now) }
     ensures err { OnErr result (into.new.posts ≡ into.old.posts) }
 {
-    let len = into.len();
     into.reserve(head.rows as usize)?;
+    decode_reserved(bytes, head, docs, into)?;
+    Ok(())
+}
+
+/// The same in the room that there is: it takes no memory, so a broken rule is all that it answers.
+pub fn decode_reserved(
+    bytes: &[u8],
+    head: &BlockHead,
+    docs: u32,
+    into: &mut Cols,
+) -> Result<(), Broken>
+    requires shaped { IsShaped head.now (length bytes.now) }
+    requires room { head.now.rows ≤ into.old.room }
+
+    ensures ok { OnOk result ((rows : List Post) × IsBlock SCORES head.now docs rows bytes.now × (into.new.posts ≡ into.old.posts ++ rows)) }
+    ensures accepts { (rows : List Post) → IsBlock SCORES head.now docs rows bytes.now → result_err result ≡ None }
+    // which rule is the first broken one, and where
+    ensures exact { result_err result ≡ judged SCORES head.now docs bytes.now }
+    ensures err { OnErr result (into.new.posts ≡ into.old.posts) }
+{
+    let len = into.len();
     let columns = cut(bytes, head);
     if !push_rows(&columns, head, docs, into) {
         if let Some(broken) = judge(&columns, head, docs) {
             into.truncate(len);
-            return Err(BlockFault::Rule {
-                n: broken.n,
-                at: broken.at,
-            });
+            return Err(broken);
         }
     }
     Ok(())

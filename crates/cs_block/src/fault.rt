@@ -1,5 +1,5 @@
 //! Why a block isn't read.
-use cs_base::Memory;
+use cs_base::{Broken, Memory};
 
 /// What `decode` answers where it adds no rows.
 #[derive(Clone, Copy, Debug, PartialEq, Eq, Drop)]
@@ -23,5 +23,19 @@ impl From<Memory> for BlockFault {
 
     fn from(_: Memory) -> BlockFault {
         BlockFault::Memory
+    }
+}
+
+impl From<Broken> for BlockFault {
+    ghost use Rattle.std.specs.Prelude.{◌≡◌};
+    ghost use Rattle.cs_block.specs.declared.fault.BlockFault.{BlockFault};
+
+    ghost from_gives = { λ broken e. e ≡ BlockFault.Rule broken.n broken.at };
+
+    fn from(broken: Broken) -> BlockFault {
+        BlockFault::Rule {
+            n: broken.n,
+            at: broken.at,
+        }
     }
 }

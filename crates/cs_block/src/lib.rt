@@ -18,7 +18,7 @@ mod runs;
 #[cfg(test)]
 mod tests;
 
-pub use cs_base::BlockHead;
-pub use decoding::decode;
+pub use cs_base::{BlockHead, Broken};
+pub use decoding::{decode, decode_reserved};
 pub use encoding::encode;
 pub use fault::BlockFault;

@@ -1,5 +1,5 @@
 //! A worked block, written and read, and the rule and the place of each damage to it.
-use crate::{BlockFault, decode, encode};
+use crate::{BlockFault, Broken, decode, decode_reserved, encode};
 use cs_base::BlockHead;
 use cs_cols::Cols;
 use std::test::Fail;
@@ -100,4 +100,17 @@ fn a_facet_block_is_told_from_a_plain_one(rt: HostRuntime) {
     let answer = decode(&left_over, &longer, 1, &mut rows);
     assert_eq!(rt; answer, Err(BlockFault::Rule { n: 13, at: 1 }));
     assert_eq!(rt; rows.len(), 1);
+}
+
+#[test]
+fn a_block_is_decoded_in_the_room_that_there_is(rt: HostRuntime) -> Result<(), Fail> {
+    let mut rows = Cols::new(rt.alloc());
+    rows.reserve(3)?;
+    assert_eq!(rt; decode_reserved(&BLOCK, &HEAD, 1, &mut rows), Ok(()));
+    assert_eq!(rt; rows.words(), [2, 3, 1].as_slice());
+    rows.reserve(3)?;
+    let broken = decode_reserved(&damaged([(23, 3), (24, 0)]), &HEAD, 1, &mut rows);
+    assert_eq!(rt; broken, Err(Broken { n: 16, at: 17 }));
+    assert_eq!(rt; rows.len(), 3);
+    Ok(())
 }

@@ -3,3 +3,4 @@ pub mod GroupsLemmas
 pub mod KeptLemmas
 pub mod Lookups
 pub mod Places
+pub mod Puts

@@ -30,7 +30,7 @@ module _ {X : Type 0} (R : X → X → Ordering) where
   place s [] = s ∷ []
   place s (x ∷ xs) = by_order (R s x) (s ∷ x ∷ xs) (x ∷ xs) (x ∷ place s xs)
 
-  keys_put : (s : X) (es : List (X × Unit {0})) → map (λ e. e.0) (put R s tt es) ≡ place s (map (λ e. e.0) es)
+  pub keys_put : (s : X) (es : List (X × Unit {0})) → map (λ e. e.0) (put R s tt es) ≡ place s (map (λ e. e.0) es)
   keys_put s [] = refl
   keys_put s (e ∷ es) =
       elim (R s e.0) as (λ o. map (λ e. e.0) (by_order o ((s, tt) ∷ e ∷ es) ((e.0, tt) ∷ es) (e ∷ put R s tt es)) ≡ by_order o (s ∷ e.0 ∷ map (λ e. e.0) es) (e.0 ∷ map (λ e. e.0) es) (e.0 ∷ place s (map (λ e. e.0) es))) [
@@ -148,7 +148,7 @@ module _ {X : Type 0} (R : X → X → Ordering) where
   take_rises (suc n) [] h = tt
   take_rises (suc n) (x ∷ xs) h = (rest_rises n x xs h.0, take_rises n xs h.1)
 
-  picked : (P : X → Type 0) (xs : List X) (k : ℕ) (d : X) → AllByRecursion P xs → k < length xs → P (get_or xs k d)
+  pub picked : (P : X → Type 0) (xs : List X) (k : ℕ) (d : X) → AllByRecursion P xs → k < length xs → P (get_or xs k d)
   picked P [] k d h lt = absurd (omega arith)
   picked P (x ∷ xs) zero d h lt = h.0
   picked P (x ∷ xs) (suc k) d h lt = picked P xs k d h.1 (omega arith)

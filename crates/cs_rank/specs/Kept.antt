@@ -2,7 +2,9 @@
 --
 --   IsUpTo w xs                           none of xs comes behind w in the order of hits
 --   IsFull room w xs                      the first `room` of xs are there, and none of them comes behind w
---   Takes old s new                       what `old` held the best of, `new` holds the best of with s besides
+--   Ranked                                the best of some documents, best first, and how many are kept at most
+--   first_of room xs                      the best `room` of some documents, best first
+--   Takes s room kept worst now worst'    what `kept` has the best of, `now` has the best of with s besides
 --   is_behind s worst                     whether s comes behind `worst`, or is it
 --   HasBest seen room kept worst          kept has the first `room` of seen, and `worst`, where it is told, comes before none of these
 use Rattle.std.specs.Prelude.{◌≡◌, ℕ, ◌≤◌, List, [], ◌∷◌, ◌++◌, length, take, Bool, false, not, Option, None, Some, MatchOption}
@@ -12,7 +14,15 @@ use Rattle.std.specs.declared.cmp.Ordering.{Ordering}
 use Rattle.cs_base.specs.content.Members.{members_in}
 use Rattle.cs_base.specs.content.Orders.{by_rank}
 use Rattle.cs_base.specs.declared.content.doc.Scored.{Scored}
-use Rattle.cs_rank.specs.declared.best.Best.{Best}
+
+-- documents in their order, and how many are kept at most
+pub record Ranked : Type 0 where
+  pub list : List Scored
+  pub room : ℕ
+
+-- the best `room` documents, each once, best first; all where there are fewer
+abbrev pub first_of : ℕ → List Scored → List Scored
+first_of room xs = take room (members_in by_rank xs)
 
 -- none of xs comes behind w
 abbrev pub IsUpTo : {X : Type 0} → (X → X → Ordering) → X → List X → Type 0
@@ -28,9 +38,9 @@ pub record HasBest (seen : List Scored) (room : ℕ) (kept : List Scored) (worst
   pub same : take room (members_in by_rank seen) ≡ take room (members_in by_rank kept)
   pub full : MatchOption worst (Unit {0}) (λ w. IsFull by_rank room w (members_in by_rank kept))
 
--- where `old` holds the best of what was seen, `new` holds the best of that and s
-abbrev pub Takes : Best → Scored → Best → Type 0
-Takes old s new = (seen : List Scored) → HasBest seen old.room old.kept.items old.worst → HasBest (seen ++ s ∷ []) new.room new.kept.items new.worst
+-- where `kept` has the best of what was seen, `now` has the best of that and s
+abbrev pub Takes : Scored → ℕ → List Scored → Option Scored → List Scored → Option Scored → Type 0
+Takes s room kept worst now worst' = (seen : List Scored) → HasBest seen room kept worst → HasBest (seen ++ s ∷ []) room now worst'
 
 -- whether s isn't before the last of so many better ones; while none is known, it may be
 abbrev pub is_behind : Scored → Option Scored → Bool

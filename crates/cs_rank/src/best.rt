@@ -1,80 +1,178 @@
-//! A bounded list of the best documents: what can't be among the first `room` is let go on the way.
-ghost use Rattle.std.specs.Prelude.{◌≡◌, ◌<◌, ◌-◌, [], IfOk, OnOk, length, take, drop, MatchOption, slice_index_or};
-ghost use Rattle.cs_base.specs.content.Members.{members_in};
+//! A bounded list of the best documents.
+ghost use Rattle.std.specs.Prelude.{◌≡◌, ℕ, true, false, List, ◌+◌, ◌-◌, ◌<◌, ◌≤◌, [], ◌∷◌, ◌++◌, IfOk, OnOk, OnErr, length, insert, MatchOption, slice_index_or};
+ghost use Rattle.std.specs.Vec.{vec_len, vec_capacity};
 ghost use Rattle.cs_base.specs.content.Orders.{by_rank};
-ghost use Rattle.cs_rank.specs.Kept.{HasBest, IsFull, Takes, is_behind};
+ghost use Rattle.cs_base.specs.declared.content.doc.Scored.{Scored};
+ghost use Rattle.cs_rank.specs.Kept.{IsFull, Takes, is_behind, first_of};
+ghost use Rattle.cs_rank.specs.declared.best.TheConstants.{MAX_ROOM};
 
-use cs_base::{Memory, Scored};
+use cs_base::{MAX_OFFSET, MAX_SHOWN, Memory, Scored};
 use std::alloc::Global;
+use std::marker::Model;
 
-/// Some documents that hold the best `room` of those offered.
-#[derive(Drop)]
-pub(crate) struct Best {
+/// The most documents that a list keeps: those that a request leaves out in front, and those that it shows.
+pub const MAX_ROOM: usize = MAX_OFFSET as usize + MAX_SHOWN as usize;
+
+/// The best of the documents that were offered, best first.
+#[derive(Debug, Drop)]
+pub struct Best {
     room: usize,
-    // at most twice the room, in no order
-    kept: Vec<Scored>,
-    // the last of `room` better ones, once so many are known: what isn't before it is let go
-    worst: Option<Scored>,
+    // has memory for `room` at least
+    list: Vec<Scored>,
+}
+
+impl Model for Best {
+    ghost use Rattle.std.specs.Prelude.{◌≡◌, ◌≤◌};
+    ghost use Rattle.std.specs.Vec.{vec_capacity};
+    ghost use Rattle.cs_rank.specs.Kept.{Ranked, first_of};
+
+    ghost Value = { Ranked };
+
+    ghost view = { λ b. record { list = b.list.items; room = b.room } };
+
+    ghost invariant = { λ b. (b.list.items ≡ first_of b.room b.list.items) × (b.room ≤ vec_capacity b.list) };
 }
 
 impl Best {
-    /// Of no documents, with memory for the offers that will be kept at once.
-    pub(crate) fn new(alloc: Global, room: usize, offers: usize) -> Result<Best, Memory>
-        ensures ok { IfOk result (λ b. HasBest [] b.room b.kept.items b.worst × (b.room ≡ room)) }
+    /// Of no documents, with memory for the best `room`.
+    pub fn new(alloc: Global, room: usize) -> Result<Best, Memory>
+        requires { room ≤ MAX_ROOM }
+
+        ensures { IfOk result (λ b. (b.list ≡ []) × (b.room ≡ room)) }
     {
-        let kept = Vec::with_capacity(alloc, offers.min(room.saturating_mul(2)))?;
-        Ok(Best {
-            room,
-            kept,
-            worst: None,
-        })
+        Best::with_room(alloc, room)
     }
 
-    /// One more document.
-    pub(crate) fn offer(&mut self, s: Scored) -> Result<(), Memory>
-        ensures ok { OnOk result (Takes self.old s self.new) }
+    // The same for any room: `offer` moves up to so many entries.
+    pub(crate) fn with_room(alloc: Global, room: usize) -> Result<Best, Memory>
+        ensures { IfOk result (λ b. (b.list ≡ []) × (b.room ≡ room)) }
+    {
+        let list = Vec::with_capacity(alloc, room)?;
+        Ok(Best { room, list })
+    }
+
+    /// The best documents, best first.
+    pub fn list(&self) -> &[Scored]
+        ensures value { result.now ≡ self.now.list }
+        ensures order { self.now.list ≡ first_of self.now.room self.now.list }
+    {
+        self.list.as_slice()
+    }
+
+    /// How many documents are kept at most.
+    pub fn room(&self) -> usize
+        ensures { result ≡ self.now.room }
+    {
+        self.room
+    }
+
+    /// Puts one more document in its place; where there are more than `room` now, the last is let go. It
+    /// takes no memory. A document that stands there with the same score is not put twice.
+    pub fn offer(&mut self, s: Scored)
+        ensures list { self.new.list ≡ first_of self.old.room (self.old.list ++ s ∷ []) }
         ensures room { self.new.room ≡ self.old.room }
     {
-        if self.is_beaten(&s) {
+        let Err(place) = self.list.binary_search(&s) else {
+            return;
+        };
+        if place >= self.room {
+            return;
+        }
+        if self.list.len() == self.room {
+            self.list.pop();
+        }
+        put(&mut self.list, place, s);
+    }
+
+    /// Offers each of these documents, with as little moving as sorting takes.
+    pub(crate) fn offer_all(&mut self, scored: &[Scored]) -> Result<(), Memory>
+        ensures ok { OnOk result (self.new.list ≡ first_of self.old.room (self.old.list ++ scored.now)) }
+        ensures err { OnErr result (self.new.list ≡ self.old.list) }
+        ensures room { self.new.room ≡ self.old.room }
+    {
+        if self.room == 0 {
             return Ok(());
         }
-        self.kept.push(s)?;
-        if self.kept.len() / 2 >= self.room {
-            self.prune();
-        }
+        self.list.reserve(self.room + self.room)?;
+        sift(&mut self.list, self.room, scored);
+        prune(&mut self.list, self.room);
         Ok(())
     }
+}
 
-    /// The best of all that were offered, best first, without the first `o` of them.
-    pub(crate) fn without_first(mut self, alloc: Global, o: usize) -> Result<Vec<Scored>, Memory>
-        ensures ok { IfOk result (λ v. v.items ≡ drop o (take self.room (members_in by_rank self.kept.items))) }
-    {
-        self.prune();
-        let from = o.min(self.kept.len());
-        let shown = Vec::from_slice(alloc, &self.kept[from..])?;
-        Ok(shown)
+// Puts an entry in a list that has memory for it.
+fn put(list: &mut Vec<Scored>, place: usize, s: Scored)
+    requires place { place ≤ vec_len list.old }
+    requires space { vec_len list.old < vec_capacity list.old }
+
+    ensures items { list.new.items ≡ insert list.old.items place s }
+    ensures capacity { vec_capacity list.old ≤ vec_capacity list.new }
+{
+    match list.insert(place, s) {
+        Ok(()) => (),
+        Err(_) => unreachable!(),
     }
+}
 
-    fn is_beaten(&self, s: &Scored) -> bool
-        ensures { result ≡ is_behind s.now self.now.worst }
-    {
-        match &self.worst {
-            Some(worst) => !s.cmp(worst).is_lt(),
-            None => false,
+// Adds what may be among the first `room`.
+fn sift(kept: &mut Vec<Scored>, room: usize, scored: &[Scored])
+    requires some { 0 < room }
+    requires few { vec_len kept.old ≤ room }
+    requires space { room + room ≤ vec_capacity kept.old }
+
+    ensures kept { first_of room kept.new.items ≡ first_of room (kept.old.items ++ scored.now) }
+    ensures capacity { vec_capacity kept.new ≡ vec_capacity kept.old }
+{
+    let mut worst = None;
+    for s in scored {
+        if !is_beaten(s, &worst) {
+            worst = keep(kept, room, worst, *s);
         }
     }
+}
 
-    // Keeps the first `room` alone, in order.
-    fn prune(&mut self)
-        ensures kept { self.new.kept.items ≡ take self.old.room (members_in by_rank self.old.kept.items) }
-        ensures worst { MatchOption self.new.worst (Unit {0}) (λ w. IsFull by_rank self.old.room w self.new.kept.items) }
-        ensures room { self.new.room ≡ self.old.room }
-    {
-        self.kept.sort_unstable();
-        self.kept.dedup();
-        self.kept.truncate(self.room);
-        self.worst = last_of(self.kept.as_slice(), self.room);
+// Adds one entry, which isn't behind the worst. Once twice as many as `room` are kept, the first `room` alone
+// stay, and the answer is the last of these.
+fn keep(kept: &mut Vec<Scored>, room: usize, worst: Option<Scored>, s: Scored) -> Option<Scored>
+    requires near { is_behind s worst ≡ false }
+    requires some { 0 < room }
+    requires few { vec_len kept.old < room + room }
+    requires space { room + room ≤ vec_capacity kept.old }
+
+    ensures takes { Takes s room kept.old.items worst kept.new.items result }
+    ensures few { vec_len kept.new < room + room }
+    ensures capacity { vec_capacity kept.new ≡ vec_capacity kept.old }
+{
+    kept.push_reserved(s);
+    if kept.len() == room + room {
+        return prune(kept, room);
     }
+    worst
+}
+
+// Whether an entry isn't before the last of `room` better ones: it may be let go.
+#[inline]
+fn is_beaten(s: &Scored, worst: &Option<Scored>) -> bool
+    ensures value { result ≡ is_behind s.now worst.now }
+    ensures let_go { result ≡ true → (room : ℕ) (kept : List Scored) → Takes s.now room kept worst.now kept worst.now }
+{
+    match worst {
+        Some(worst) => !s.cmp(worst).is_lt(),
+        None => false,
+    }
+}
+
+// Keeps the first `room` alone, in order, and answers the last of them where they are so many.
+fn prune(kept: &mut Vec<Scored>, room: usize) -> Option<Scored>
+    ensures kept { kept.new.items ≡ first_of room kept.old.items }
+    ensures worst { MatchOption result (Unit {0}) (λ w. IsFull by_rank room w kept.new.items) }
+    ensures few { vec_len kept.new ≤ room }
+    ensures capacity { vec_capacity kept.new ≡ vec_capacity kept.old }
+{
+    kept.sort_unstable();
+    kept.dedup();
+    kept.truncate(room);
+    last_of(kept.as_slice(), room)
 }
 
 // The last of exactly so many.

@@ -14,11 +14,15 @@ use std::alloc::Global;
 pub fn top(alloc: Global, scored: &[Scored], o: u32, h: u32) -> Result<Seq<Scored>, Memory>
     ensures ok { IfOk result (λ v. v ≡ take h (drop o (members_in by_rank scored.now))) }
 {
-    let room = o as usize + h as usize;
-    let mut best = Best::new(alloc, room, scored.len())?;
-    for s in scored {
-        best.offer(*s)?;
-    }
-    let shown = best.without_first(alloc, o as usize)?;
+    let room = scored.len().min(o as usize + h as usize);
+    let mut best = Best::with_room(alloc, room)?;
+    best.offer_all(scored)?;
+    let shown = Vec::from_slice(alloc, without_first(best.list(), o as usize))?;
     Ok(Seq::from_vec(shown))
+}
+
+fn without_first(list: &[Scored], o: usize) -> &[Scored]
+    ensures { result.now ≡ drop o list.now }
+{
+    &list[o.min(list.len())..]
 }

@@ -7,6 +7,7 @@ mod best;
 mod hits;
 mod scores;
 
+pub use best::{Best, MAX_ROOM};
 pub use hits::top;
 pub use scores::score;
 

@@ -1,5 +1,5 @@
-//! The hits that are shown, on a worked list.
-use crate::top;
+//! The best of a worked list, and the hits that are shown.
+use crate::{Best, top};
 use cs_base::{Memory, Scored};
 use std::alloc::Global;
 use std::process::Abort;
@@ -39,5 +39,27 @@ fn hits_go_by_score_and_then_by_document(rt: HostRuntime) -> Result<(), Fail> {
     expect(&rt, rt.alloc(), 1, 2, &[0, 2])?;
     expect(&rt, rt.alloc(), 3, 100, &[1])?;
     expect(&rt, rt.alloc(), 4, 1, &[])?;
+    Ok(())
+}
+
+#[test]
+fn a_list_keeps_the_best_of_its_room(rt: HostRuntime) -> Result<(), Fail> {
+    let mut best = Best::new(rt.alloc(), 2)?;
+    let mut none = Best::new(rt.alloc(), 0)?;
+    let lists: [&[u32]; 4] = [&[0], &[0, 1], &[0, 2], &[3, 0]];
+    for (i, score) in [4, 1, 4, 9].into_iter().enumerate() {
+        let s = Scored {
+            doc: i as u32,
+            score,
+        };
+        best.offer(s);
+        none.offer(s);
+        assert!(rt; shows(best.list(), lists[i]), "after {i}");
+        assert!(rt; none.list().is_empty());
+    }
+    assert!(rt; best.room() == 2);
+    // what stands there with the same score isn't put twice
+    best.offer(Scored { doc: 0, score: 4 });
+    assert!(rt; shows(best.list(), &[3, 0]));
     Ok(())
 }
