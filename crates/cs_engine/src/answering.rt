@@ -1,5 +1,5 @@
 //! Replies, from the hits of a query and its rows in them.
-ghost use Rattle.std.specs.Prelude.{◌≡◌, ◌+◌, ◌*◌, ◌<◌, [], false, length, map, IfOk};
+ghost use Rattle.std.specs.Prelude.{◌≡◌, ◌+◌, ◌*◌, ◌≤◌, ◌<◌, [], false, length, map, IfOk};
 ghost use Rattle.std.specs.List.{All};
 ghost use Rattle.cs_base.specs.outside.Causes.{ReadsWithin};
 ghost use Rattle.cs_base.specs.declared.content.limits.TheConstants.{MAX_PARTS};
@@ -40,6 +40,7 @@ pub(crate) fn reply_of<S: Store>(
     requires fits { Fits (S.bytes store.old) index.now }
 
     ensures told { WhereStood (S.bytes store.old) index.now (λ b. AreFound (stock_of b) request.now.query hits pairs.now.posts → IfOk result (λ r. r ≡ reply_of (corpus_in (stock_of b)) (asked request.now))) }
+    ensures few { IfOk result (λ r. length r.hits ≤ request.now.hits) }
     ensures unchanged { WhereStood (S.bytes store.old) index.now (λ b. is_changed result ≡ false) }
     ensures bytes { S.bytes store.new ≡ S.bytes store.old }
     ensures lent { S.lent store.new ≡ S.lent store.old }

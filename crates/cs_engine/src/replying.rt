@@ -1,5 +1,5 @@
 //! The reply to a request by its plan, and the query's own entry where that wasn't kept before.
-ghost use Rattle.std.specs.Prelude.{◌≡◌, ◌+◌, Some, false, not, is_some, IfSome, IfOk};
+ghost use Rattle.std.specs.Prelude.{◌≡◌, ◌+◌, ◌≤◌, Some, false, not, is_some, length, IfSome, IfOk};
 ghost use Rattle.cs_base.specs.outside.Causes.{ReadsWithin};
 ghost use Rattle.cs_file.specs.Indexes.{IsIndex, Fits, CausedReads};
 ghost use Rattle.cs_model.specs.Keys.{keys_of};
@@ -43,6 +43,7 @@ pub(crate) fn answered<S: Store>(
 
     ensures told { WhereStood (S.bytes store.old) index.now (λ b. HoldsGood b index.now answers.now.entries → IfOk result (λ a. a.0 ≡ reply_of (file_corpus b) (asked request.now))) }
     ensures own { WhereStood (S.bytes store.old) index.now (λ b. HoldsGood b index.now answers.now.entries → IfOk result (λ a. IfSome a.1 (IsEntryOver b index.now request.now.query))) }
+    ensures few { IfOk result (λ a. length a.0.hits ≤ request.now.hits) }
     ensures within { IfOk result (λ a. IfSome a.1 (FitsQuery index.now request.now.query)) }
     ensures had { IfOk result (λ a. is_some a.1 ≡ not (is_same plan)) }
     ensures unchanged { WhereStood (S.bytes store.old) index.now (λ b. is_changed result ≡ false) }
@@ -93,6 +94,7 @@ fn with_reply<S: Store>(
     requires fits { Fits (S.bytes store.old) index.now }
 
     ensures told { WhereStood (S.bytes store.old) index.now (λ b. IsEntryOver b index.now request.now.query entry → IfOk result (λ a. a.0 ≡ reply_of (file_corpus b) (asked request.now))) }
+    ensures few { IfOk result (λ a. length a.0.hits ≤ request.now.hits) }
     ensures same { IfOk result (λ a. a.1 ≡ Some entry) }
     ensures unchanged { WhereStood (S.bytes store.old) index.now (λ b. is_changed result ≡ false) }
     ensures bytes { S.bytes store.new ≡ S.bytes store.old }
@@ -119,6 +121,7 @@ fn by_entry<S: Store>(
     requires fits { Fits (S.bytes store.old) index.now }
 
     ensures told { WhereStood (S.bytes store.old) index.now (λ b. IsEntryOver b index.now request.now.query (entry_with base.now rows.now.posts) → IfOk result (λ r. r ≡ reply_of (file_corpus b) (asked request.now))) }
+    ensures few { IfOk result (λ r. length r.hits ≤ request.now.hits) }
     ensures unchanged { WhereStood (S.bytes store.old) index.now (λ b. is_changed result ≡ false) }
     ensures bytes { S.bytes store.new ≡ S.bytes store.old }
     ensures lent { S.lent store.new ≡ S.lent store.old }
