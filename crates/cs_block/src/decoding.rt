@@ -36,7 +36,9 @@ pub fn decode(bytes: &[u8], head: &BlockHead, docs: u32, into: &mut Cols) -> Res
     Ok(())
 }
 
-/// The same in the room that there is: it takes no memory, so a broken rule is all that it answers.
+/// Adds the rows of a block at the end, as `decode` does, in room that was reserved for them. It takes no
+/// memory. `Broken` is the rule that the bytes break first, from 13 to 17, and its place in bytes from the
+/// block's first; the list is as it was then.
 pub fn decode_reserved(
     bytes: &[u8],
     head: &BlockHead,

@@ -4,11 +4,9 @@
 --   kept_too          one more that is kept
 --   pruned            what is cut to the room
 --   full_from_last    what is cut to the room knows its worst
---   shown_of          what is shown in the end
-use Rattle.std.proofs.Common.{◌≡◌, ℕ, true, false, List, [], ◌∷◌, ◌++◌, ◌+◌, ◌-◌, ◌<◌, ◌≤◌, length, take, drop, take_all, get_or, refl, sym, ◌∙◌, ap, subst, true≢false}
+use Rattle.std.proofs.Common.{◌≡◌, ℕ, true, false, List, [], ◌∷◌, ◌++◌, ◌-◌, ◌<◌, length, take, get_or, refl, sym, ◌∙◌, ap, subst, true≢false}
 use Rattle.std.specs.Prelude.{Option, Some, None, MatchOption}
 use Rattle.std.proofs.lemmas.Bool.{not-true, not-false}
-use Rattle.std.proofs.lemmas.List.{drop-take}
 use Rattle.std.specs.List.Sorted.{IsStrictlySortedBy}
 use Rattle.std.specs.Ordering.{is_lt, is_gt}
 use Rattle.std.specs.declared.cmp.Ordering.{Ordering}
@@ -73,9 +71,3 @@ pub full_from_last : (room : ℕ) (kept now : List Scored) (last : Option Scored
 full_from_last room kept now None e h = tt
 full_from_last room kept now (Some w) e h =
     full_at_last by_rank by_rank_total room now w (subst (IsStrictlySortedBy by_rank) (sym e) (take_rises by_rank room _ (listing-rises by_rank kept))) h.0 h.1 h.2
-
--- after all was offered: the first o + h of what is kept, without the first o
-pub shown_of : (o h room index : ℕ) (scored kept : List Scored) (worst : Option Scored) → HasBest (take index scored) room kept worst → length scored ≤ index → room ≡ o + h → drop o (take room (members_in by_rank kept)) ≡ take h (drop o (members_in by_rank scored))
-shown_of o h room index scored kept worst best all is =
-    ap (drop o) (sym best.same ∙ ap (λ xs. take room (members_in by_rank xs)) (take_all index scored all) ∙ ap (λ n. take n (members_in by_rank scored)) is)
-    ∙ drop-take o h (members_in by_rank scored)

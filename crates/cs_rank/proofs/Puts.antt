@@ -5,6 +5,7 @@
 --   few_listed      a set has no more members than were named
 --   none_first      of no documents there is no best one
 --   first_again     the best of the best are these
+--   few             there are no more of them than the room
 --   searchable      a search in the list of the best tells a place
 --   stands          what is offered and stands there changes nothing
 --   behind          nor does what comes behind so many

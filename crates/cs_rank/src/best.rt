@@ -34,7 +34,7 @@ impl Model for Best {
 }
 
 impl Best {
-    /// Of no documents, with memory for the best `room`.
+    /// Of no documents, with memory for the best `room`; `Memory` where that isn't had.
     pub fn new(alloc: Global, room: usize) -> Result<Best, Memory>
         requires { room ≤ MAX_ROOM }
 
