@@ -12,10 +12,9 @@ use Rattle.cs_model.specs.First.{first_reason}
 use Rattle.cs_model.specs.Outputs.{ScriptFault, MayPut, OneEach, AnswersFirst, PutAll, line_fault, first_fault, is_readable, readable_lines, put_of}
 use Rattle.cs_model.proofs.OutputLemmas.{one_each-push, answers-first, put_of-push}
 use Rattle.cs_top.specs.Answering.{Costs, worst}
-use Rattle.cs_top.specs.Endings.{Ending, done, not_built, usage, refused, damaged, absent, failed, no_memory, script_refused, changed}
+use Rattle.cs_top.specs.CommandLine.{Ending, done, usage, refused, damaged, absent, failed, no_memory, script_refused, changed}
 use Rattle.cs_top.specs.Met.{Wrote}
-use Rattle.cs_top.specs.Scripts.{ScriptEnds, ShortTally, Tally}
-use Rattle.cs_top.specs.Steps.{StopsAt, Reaches, EndsAt}
+use Rattle.cs_top.specs.Scripts.{ScriptEnds, ShortTally, Tally, StopsAt, Reaches, EndsAt}
 use Rattle.cs_top.specs.declared.lines.Place.{Place}
 use Rattle.cs_top.specs.declared.script.Came.{Came}
 use Rattle.cs_top.specs.declared.script.Came.TheVariants.{Answered}
@@ -133,7 +132,6 @@ module _ {A : MayPut} {all left : List (ℕ × List ℕ)} {old now : Option (Lis
         subst (λ b. GrewByPrefix old b new) (sym (put_of-push h.texts t)) (grew_then_begun old (put_of h.texts) (t ++ 10 ∷ []) now new h.grew begun) in
         (h.texts ++ t ∷ [], ((first, some), λ low. absurd (low rose)), short_put came met (whole new) before count n h.texts t rose h.tally cost)
     stops done l ls new n is st = absurd st
-    stops not_built l ls new n is st = absurd st
     stops usage l ls new n is st = absurd st
     stops (refused r) l ls new n is st = absurd st
     stops (damaged rule at) l ls new n is st = absurd st
@@ -156,7 +154,6 @@ some_of : (A : MayPut) (e : Ending) (l : ℕ × List ℕ) (w : Wrote) (n m : ℕ
 some_of A (script_refused f) l w n m st = st.0
 some_of A failed l w n m st = st.0
 some_of A done l w n m st = absurd st
-some_of A not_built l w n m st = absurd st
 some_of A usage l w n m st = absurd st
 some_of A (refused r) l w n m st = absurd st
 some_of A (damaged rule at) l w n m st = absurd st

@@ -8,15 +8,14 @@ use Rattle.cs_model.specs.Outputs.{MayPut, script_lines}
 use Rattle.cs_model.specs.Corpus.{Corpus}
 use Rattle.cs_model_index.specs.BlockRules.{broken_at}
 use Rattle.cs_model_index.specs.Images.{Image}
-use Rattle.cs_top.specs.Ask.{AskStops, AskTold, CanAsk}
+use Rattle.cs_top.specs.ScriptRuns.{AskStops, AskTold, CanAsk, CanReplay, ReplayCaused, ReplayScript, ReplayStops, ReplayTold}
 use Rattle.cs_top.specs.Build.{BuildStops, BuildTold, BuildWrites, CanBuild}
-use Rattle.cs_top.specs.Commands.{Command, build, ask, replay, serve, trial}
-use Rattle.cs_top.specs.Endings.{Ending, done, not_built, usage, refused, damaged, absent, failed, no_memory, script_refused, changed, status, Caused, CausedBy}
+use Rattle.cs_top.specs.CommandLine.{Command, build, ask, replay, serve, trial, Ending, done, usage, refused, damaged, absent, failed, no_memory, script_refused, changed, status, Caused, CausedBy}
 use Rattle.cs_top.specs.Met.{Listened, Met, Wrote, held_bytes}
 use Rattle.cs_top.specs.Runs.{Completes, Ran}
-use Rattle.cs_top.specs.Replay.{CanReplay, ReplayCaused, ReplayScript, ReplayStops, ReplayTold}
 use Rattle.cs_top.specs.Scripts.{ScriptEnds, IsReadable}
 use Rattle.cs_top.specs.Serve.{CanServe, ServeCaused, ServeStops, ServeTold}
+use Rattle.cs_top.specs.Trial.{TrialEnds}
 
 missing : (f : Option File) → IsHeld f → f ≡ None → ⊥
 missing None held none = held
@@ -36,7 +35,6 @@ stopped (refused r) h c s can (held, is) calm = let e : Some r ≡ None = sym is
 stopped no_memory h c s can a calm = inr refl
 stopped failed h c s can a calm = absurd (calm refl)
 stopped done h c s can a calm = absurd a
-stopped not_built h c s can a calm = absurd a
 stopped usage h c s can a calm = absurd a
 stopped (script_refused f) h c s can a calm = absurd a
 stopped (damaged rule at) h c s can a calm = absurd a
@@ -46,7 +44,6 @@ scripted : (A : MayPut) (e : Ending) (ls : List (ℕ × List ℕ)) (ts : List (L
 scripted A done ls ts w can a calm = inl refl
 scripted A (script_refused f) ls ts w can a calm = let e : Some f ≡ None = sym a.0 ∙ can in absurd cc
 scripted A failed ls ts w can a calm = absurd (calm refl)
-scripted A not_built ls ts w can a calm = absurd a
 scripted A usage ls ts w can a calm = absurd a
 scripted A (refused r) ls ts w can a calm = absurd a
 scripted A (damaged rule at) ls ts w can a calm = absurd a
@@ -64,7 +61,6 @@ unmade (refused r) h c can (held, is) calm = let e : Some r ≡ None = sym is �
 unmade no_memory h c can a calm = inr refl
 unmade failed h c can a calm = absurd (calm refl)
 unmade done h c can a calm = absurd a
-unmade not_built h c can a calm = absurd a
 unmade usage h c can a calm = absurd a
 unmade (script_refused f) h c can a calm = absurd a
 unmade (damaged rule at) h c can a calm = absurd a
@@ -74,7 +70,6 @@ written : (e : Ending) (h : Held) (i : List ℕ) (x : Image) (now : Option Held)
 written done h i x now a calm = inl refl
 written no_memory h i x now a calm = inr refl
 written failed h i x now a calm = absurd (calm refl)
-written not_built h i x now a calm = absurd a
 written usage h i x now a calm = absurd a
 written (refused r) h i x now a calm = absurd a
 written (absent n) h i x now a calm = absurd a
@@ -96,7 +91,6 @@ unplayed (damaged rule at) h i s can a calm = let e : Some (broken_at rule at) �
 unplayed no_memory h i s can a calm = inr refl
 unplayed failed h i s can a calm = absurd (calm refl)
 unplayed done h i s can a calm = absurd a
-unplayed not_built h i s can a calm = absurd a
 unplayed usage h i s can a calm = absurd a
 unplayed (refused r) h i s can a calm = absurd a
 unplayed (script_refused f) h i s can a calm = absurd a
@@ -106,7 +100,6 @@ played : (k : Corpus) (e : Ending) (ls : List (ℕ × List ℕ)) (before now : �
 played k done ls before now w can a calm = inl refl
 played k (script_refused f) ls before now w can a calm = let e : Some f ≡ None = sym a.1.0 ∙ can in absurd cc
 played k failed ls before now w can a calm = absurd (calm refl)
-played k not_built ls before now w can a calm = absurd a
 played k usage ls before now w can a calm = absurd a
 played k (refused r) ls before now w can a calm = absurd a
 played k (damaged rule at) ls before now w can a calm = absurd a
@@ -127,7 +120,6 @@ unserved (damaged rule at) h i can a calm = let e : Some (broken_at rule at) ≡
 unserved no_memory h i can a calm = inr refl
 unserved failed h i can a calm = absurd (calm refl)
 unserved done h i can a calm = absurd a
-unserved not_built h i can a calm = absurd a
 unserved usage h i can a calm = absurd a
 unserved (refused r) h i can a calm = absurd a
 unserved (script_refused f) h i can a calm = absurd a
@@ -139,7 +131,6 @@ served (absent x) h i p n before now w net a can calm = unserved (absent x) h i 
 served (damaged rule at) h i p n before now w net a can calm = unserved (damaged rule at) h i can a calm
 served no_memory h i p n before now w net a can calm = inr refl
 served failed h i p n before now w net a can calm = absurd (calm refl)
-served not_built h i p n before now w net a can calm = absurd a
 served usage h i p n before now w net a can calm = absurd a
 served (refused r) h i p n before now w net a can calm = absurd a
 served (script_refused f) h i p n before now w net a can calm = absurd a
@@ -147,6 +138,17 @@ served changed h i p n before now w net a can calm = absurd a
 
 no_failed_serve : (e : Ending) (fb fn ob on hb hn : ℕ) → ServeCaused e fb fn ob on hb hn → (Rose fb fn → ⊥) → (Rose ob on → ⊥) → (Rose hb hn → ⊥) → e ≡ failed → ⊥
 no_failed_serve e fb fn ob on hb hn cause files out hub is = elim (subst (λ x. ServeCaused x fb fn ob on hb hn) is cause).0 [ inl r ↦ files r | inr r ↦ elim r [ inl r ↦ out r | inr r ↦ hub r ] ]
+
+tried : (e : Ending) (n : List ℕ) (w : Wrote) → TrialEnds e n w → (e ≡ failed → ⊥) → IsWell e
+tried done n w a calm = inl refl
+tried no_memory n w a calm = inr refl
+tried failed n w a calm = absurd (calm refl)
+tried usage n w a calm = absurd a
+tried (refused r) n w a calm = absurd a
+tried (damaged rule at) n w a calm = absurd a
+tried (absent x) n w a calm = absurd a
+tried (script_refused f) n w a calm = absurd a
+tried changed n w a calm = absurd a
 
 pub completes : {H : Type 0} (e : Ending) (command : Option Command) (m : Met H) → Ran e command m → Completes command m (status e)
 completes e None m r = λ h held able. absurd able
@@ -158,4 +160,4 @@ completes e (Some (replay i s)) m r = λ h held able files out hub.
     replay_told e h i s m.files_before m.files_now m.out (r.told h held) able (no_failed_replay e m.files_before m.files_now m.out.before m.out.now r.caused files out)
 completes e (Some (serve i p n)) m r = λ h held able files out hub.
     served e h i p n m.files_before m.files_now m.out m.net (r.told h held) able (no_failed_serve e m.files_before m.files_now m.out.before m.out.now m.net.before m.net.now r.caused files out hub)
-completes e (Some (trial n)) m r = λ h held able. absurd able
+completes e (Some (trial n)) m r = λ files out hub. tried e n m.out r.ends (no_failed_file e m.out.before m.out.now r.caused out)

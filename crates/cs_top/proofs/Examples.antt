@@ -2,8 +2,7 @@
 use Rattle.std.proofs.Common.{◌≡◌, [], ◌∷◌, refl}
 use Rattle.std.specs.Prelude.{Some, None, codes}
 use Rattle.cs_model.specs.Collection.{too_many_words}
-use Rattle.cs_top.specs.Commands.{command_of, ask, serve, trial}
-use Rattle.cs_top.specs.Endings.{refused, absent, line_of}
+use Rattle.cs_top.specs.CommandLine.{command_of, ask, serve, trial, refused, absent, line_of}
 
 -- the command line's table
 words-ask : command_of (codes "ask" ∷ codes "C" ∷ codes "Q" ∷ []) ≡ Some (ask (codes "C") (codes "Q"))

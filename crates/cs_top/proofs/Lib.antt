@@ -11,4 +11,5 @@ pub mod ScriptLemmas
 pub mod ServeLemmas
 pub mod TallyLemmas
 pub mod StepLemmas
+pub mod TrialLemmas
 pub mod WindowLemmas

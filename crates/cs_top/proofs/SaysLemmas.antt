@@ -3,7 +3,7 @@ use Rattle.std.proofs.Common.{◌≡◌, ℕ, List, []}
 use Rattle.std.specs.Prelude.{Option, Result, Ok, Err, OnOk, OnErr}
 use Rattle.cs_base.specs.outside.Causes.{Counted, Rose}
 use Rattle.cs_base.specs.outside.Outside.{Grew, GrewByPrefix}
-use Rattle.cs_top.specs.Endings.{Says}
+use Rattle.cs_top.specs.CommandLine.{Says}
 use Rattle.cs_top.specs.Met.{Wrote}
 use Rattle.cs_top.proofs.GrewLemmas.{grew_none, grew_begun}
 

@@ -16,12 +16,13 @@ use Rattle.cs_model.specs.Corpus.{Corpus}
 use Rattle.cs_model.specs.Outputs.{MayPut, OneEach, AnswersFirst, IsAnswer, PutAll, failed_reads, first_fault, put_of, read_text, readable_lines}
 use Rattle.cs_model.proofs.OutputLemmas.{length-one_each}
 use Rattle.cs_base.specs.outside.Outside.{File, Held, IsHeld, file_bytes, size_of}
+use Rattle.cs_engine.specs.Keeping.{EngineView, AreGood}
 use Rattle.cs_file.specs.Indexes.{IndexView, Fits, StandsFor}
 use Rattle.cs_model_index.specs.Sections.{file_corpus}
 use Rattle.cs_top.specs.Answering.{AnswersOver, FileView, IsReplayed, IsThere, MayAnswer, bytes_there}
-use Rattle.cs_top.specs.Endings.{Ending, done, not_built, usage, refused, damaged, absent, failed, no_memory, script_refused, changed}
+use Rattle.cs_top.specs.CommandLine.{Ending, done, usage, refused, damaged, absent, failed, no_memory, script_refused, changed}
 use Rattle.cs_top.specs.Met.{Wrote, held_bytes}
-use Rattle.cs_top.specs.Replay.{IsWholeBut, ReplayScript}
+use Rattle.cs_top.specs.ScriptRuns.{IsWholeBut, ReplayScript}
 use Rattle.cs_top.specs.Scripts.{ScriptEnds, ShortTally, Tally}
 use Rattle.cs_top.specs.Views.{of_script, stop_ending}
 use Rattle.cs_top.specs.declared.lines.ScriptStop.{ScriptStop}
@@ -39,7 +40,6 @@ pub ends_by : (A B : MayPut) → ((l t : List ℕ) → A l t → B l t) → (e :
 ends_by A B f done ls ts w h = (h.0, (each_by A B f (readable_lines ls) ts h.1.0, h.1.1))
 ends_by A B f (script_refused r) ls ts w h = (h.0, (each_by A B f (readable_lines ls) ts h.1.0, h.1.1))
 ends_by A B f failed ls ts w h = ((each_by A B f (take (length ts) (readable_lines ls)) ts h.0.0, h.0.1), h.1)
-ends_by A B f not_built ls ts w h = absurd h
 ends_by A B f usage ls ts w h = absurd h
 ends_by A B f (refused r) ls ts w h = absurd h
 ends_by A B f (damaged rule at) ls ts w h = absurd h
@@ -106,10 +106,15 @@ pub held_by : (f : Option File) (n : ℕ) → size_of f ≡ Some n → IsHeld f
 held_by None n e = absurd cc
 held_by (Some f) n e = omega arith
 
-module _ (i : IndexView) (f : FileView) (held : Option Held) where
-  pub over_made : (b s : List ℕ) (k : Corpus) → f ≡ record { made = Some s; name = []; size = 0 } → s ≡ b → StandsFor b i → k ≡ file_corpus b → AnswersOver i f held k
-  over_made b s k e p st q = (b, ap (λ x. bytes_there x held) e ∙ ap (λ x. Some x) p, st, q)
+module _ (e : EngineView) (f : FileView) (held : Option Held) where
+  pub over_made : (b s : List ℕ) (k : Corpus) → f ≡ record { made = Some s; name = []; size = 0 } → s ≡ b → StandsFor b e.index → AreGood b e → k ≡ file_corpus b → AnswersOver e f held k
+  over_made b s k is p st good q = (b, ap (λ x. bytes_there x held) is ∙ ap (λ x. Some x) p, st, good, q)
 
+  pub over_held : (h : Held) (name : List ℕ) (size : ℕ) → f ≡ record { made = None; name = name; size = size } → held ≡ Some h → StandsFor (held_bytes h name) e.index → AreGood (held_bytes h name) e
+      → AnswersOver e f held (file_corpus (held_bytes h name))
+  over_held h name size q is st good = (held_bytes h name, ap (λ x. bytes_there x held) q ∙ ap (λ x. file_bytes x name) is, st, good, refl)
+
+module _ (i : IndexView) (f : FileView) (held : Option Held) where
   pub there_made : (b s : List ℕ) → f ≡ record { made = Some s; name = []; size = 0 } → s ≡ b → Fits (Some b) i → IsThere i f held
   there_made b s e p fits = record {
     sized = λ none. let wrong : Some s ≡ None = sym (ap (λ x. x.made) e) ∙ none in absurd cc;
@@ -118,9 +123,6 @@ module _ (i : IndexView) (f : FileView) (held : Option Held) where
 
   pub some_made : (s : List ℕ) → f ≡ record { made = Some s; name = []; size = 0 } → is_some f.made ≡ true
   some_made s e = ap (λ x. is_some x.made) e
-
-  pub over_held : (h : Held) (name : List ℕ) (size : ℕ) → f ≡ record { made = None; name = name; size = size } → held ≡ Some h → StandsFor (held_bytes h name) i → AnswersOver i f held (file_corpus (held_bytes h name))
-  over_held h name size e is st = (held_bytes h name, ap (λ x. bytes_there x held) e ∙ ap (λ x. file_bytes x name) is, st, refl)
 
 -- ---- what holds of a result that is known
 pub ok_there : {T E : Type 0} (r : Result T E) (x y : T) (P : T → Type 0) → r ≡ Ok x → x ≡ y → IfOk r P → P y

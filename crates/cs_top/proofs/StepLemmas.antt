@@ -1,16 +1,16 @@
 -- What a line that was read says of the line at its place in the script.
-use Rattle.std.proofs.Common.{◌≡◌, ◌≢◌, ℕ, ◌+◌, ◌<◌, List, [], ◌∷◌, length, drop, inl, inr, sym, ◌∙◌, arith}
+use Rattle.std.proofs.Common.{◌≡◌, ◌≢◌, ℕ, ◌+◌, ◌<◌, List, [], ◌∷◌, length, drop, inl, inr, sym, subst, ◌∙◌, arith}
 use Rattle.std.specs.Prelude.{Option, Some, None}
 use Rattle.cs_base.specs.outside.Outside.{Held}
-use Rattle.cs_file.specs.Indexes.{IndexView}
+use Rattle.cs_engine.specs.Keeping.{EngineView}
 use Rattle.cs_model.specs.Corpus.{Corpus}
 use Rattle.cs_top.specs.Answering.{AnswersOver, FileView}
 use Rattle.std.specs.Str.Lines.{lines}
 use Rattle.cs_base.specs.declared.content.limits.TheConstants.{MAX_SCRIPT_LINE_BYTES}
 use Rattle.cs_model.specs.Outputs.{MayPut, line_fault, script_line_too_long}
-use Rattle.cs_top.specs.Endings.{Ending, done, not_built, usage, refused, damaged, absent, failed, no_memory, script_refused, changed}
+use Rattle.cs_top.specs.CommandLine.{Ending, done, usage, refused, damaged, absent, failed, no_memory, script_refused, changed}
 use Rattle.cs_top.specs.Met.{Wrote}
-use Rattle.cs_top.specs.Steps.{StopsAt, IsFirstLine, EndsAt, Passes, Reaches}
+use Rattle.cs_top.specs.Scripts.{StopsAt, IsFirstLine, EndsAt, Passes, Reaches}
 use Rattle.cs_top.specs.declared.lines.Place.{Place}
 use Rattle.cs_top.specs.declared.script.Came.{Came}
 use Rattle.cs_top.proofs.LineTexts.{fault-too_long}
@@ -29,7 +29,6 @@ module _ (A : MayPut) (s l : List ℕ) (p : Place) (at : ℕ) (w : Wrote) (befor
   ends_at (script_refused f) (inr (long, more)) h =
       inr (more.0, more.1, more.2, (long_some more.0 more.3, fault-too_long (p.number + 1) more.0 more.3 ∙ sym (fault-too_long (p.number + 1) l long) ∙ h.1, h.2, h.3))
   ends_at done (inr x) h = absurd h
-  ends_at not_built (inr x) h = absurd h
   ends_at usage (inr x) h = absurd h
   ends_at (refused r) (inr x) h = absurd h
   ends_at (damaged rule at) (inr x) h = absurd h
@@ -42,6 +41,6 @@ module _ (A : MayPut) (s l : List ℕ) (p : Place) (at : ℕ) (w : Wrote) (befor
   reaches_by q old new came (inr (long, more)) n (inl (none, same, plain, calm)) = absurd (long_some l long none)
   reaches_by q old new came (inr (long, more)) n (inr (some, read, put)) = absurd (unread q.number l long read)
 
--- what it answers over stays, where index, file and files do
-pub over_at : (i j : IndexView) (f g : FileView) (x y : Option Held) (k : Corpus) → j ≡ i → g ≡ f → y ≡ x → AnswersOver i f x k → AnswersOver j g y k
-over_at i j f g x y k p q r over = rw (p, q, r) over
+-- what it answers over stays, where what is held does
+pub over_at : (e : EngineView) (f : FileView) (x y : Option Held) (k : Corpus) → y ≡ x → AnswersOver e f x k → AnswersOver e f y k
+over_at e f x y k r over = subst (λ z. AnswersOver e f z k) (sym r) over

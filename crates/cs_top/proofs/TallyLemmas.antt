@@ -12,7 +12,7 @@ use Rattle.cs_hub.specs.Streams.{RoseBy}
 use Rattle.cs_model.specs.Outputs.{ScriptFault, failed_reads, read_text}
 use Rattle.cs_model.proofs.OutputLemmas.{failed_reads-push}
 use Rattle.cs_top.specs.Answering.{CameCounts, Costs, worst}
-use Rattle.cs_top.specs.Endings.{Ending, failed, script_refused}
+use Rattle.cs_top.specs.CommandLine.{Ending, failed, script_refused}
 use Rattle.cs_top.specs.Met.{Wrote}
 use Rattle.cs_top.specs.Scripts.{ShortTally, Tally}
 use Rattle.cs_top.specs.declared.script.Came.{Came}

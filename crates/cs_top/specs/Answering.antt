@@ -3,7 +3,7 @@
 --   FileView                   an index file of the code: its bytes where they were made, else its name and size
 --   bytes_there f held         the bytes that it tells; None where the files don't tell
 --   IsThere i f held           a file that fits the index
---   AnswersOver i f held k     k is the corpus of an index file that stands for the index
+--   AnswersOver e f held k     k is the corpus of an index file that stands for the engine's index, and what the engine keeps is good
 --   IsReplayed k l t           t may be put for the line over an index file: its text, the memory text, or in a reply's place that of a
 --                              failed read
 --   MayAnswer f k              what may be put for a line over this file
@@ -20,6 +20,7 @@ use Rattle.std.specs.Option.{ForSome, option_or}
 use Rattle.std.specs.FinMap as map
 use Rattle.cs_base.specs.outside.Causes.{Rose}
 use Rattle.cs_base.specs.outside.Outside.{Held, file_bytes}
+use Rattle.cs_engine.specs.Keeping.{EngineView, AreGood}
 use Rattle.cs_file.specs.Indexes.{IndexView, Fits, StandsFor}
 use Rattle.cs_model.specs.Corpus.{Corpus}
 use Rattle.cs_model.specs.Outputs.{MayPut, IsAnswer, memory_text, read_text}
@@ -48,9 +49,10 @@ pub record IsThere (i : IndexView) (f : FileView) (held : Option Held) : Type 0 
   pub sized : f.made ≡ None → HasSize held f.name f.size
   pub fits : Fits (bytes_there f held) i
 
--- the bytes are told, they stand for the index, and this is their corpus; of files that don't tell there is no such corpus
-abbrev pub AnswersOver : IndexView → FileView → Option Held → Corpus → Type 0
-AnswersOver i f held k = (b : List ℕ) × (bytes_there f held ≡ Some b) × StandsFor b i × (k ≡ file_corpus b)
+-- the bytes are told, they stand for the index, what is kept of answers is good over them, and this is their corpus; of files that
+-- don't tell there is no such corpus
+abbrev pub AnswersOver : EngineView → FileView → Option Held → Corpus → Type 0
+AnswersOver e f held k = (b : List ℕ) × (bytes_there f held ≡ Some b) × StandsFor b e.index × AreGood b e × (k ≡ file_corpus b)
 
 -- an answer to the line, or in the place of a reply the text of a failed read; a refused line has its own text
 abbrev pub IsReplayed : Corpus → MayPut

@@ -1,12 +1,10 @@
 pub mod Answering
-pub mod Ask
 pub mod Build
-pub mod Commands
-pub mod Endings
+pub mod CommandLine
 pub mod Met
-pub mod Replay
 pub mod Runs
+pub mod ScriptRuns
 pub mod Scripts
 pub mod Serve
-pub mod Steps
+pub mod Trial
 pub mod Views

@@ -3,42 +3,48 @@
 --   Idle x e m                   the run ended as x, and left all as it was
 --   Ran e command m              a whole run: usage where the words aren't in the table, else the record of the command
 --   IsAble command h             files, by their names, from which a command can do all
---   Completes command m result   where files tell, the command can do all and no count rose, the status is 0 or 7
+--   Finishes m result            where no count rose, the status is 0 or 7
+--   Completes command m result   a command that can do all does it, or memory runs out; of files that don't tell that is said of
+--                                `trial` alone
 use Rattle.std.specs.Prelude.{◌≡◌, ◌⊎◌, ℕ, Option, Some, None}
 use Rattle.std.specs.Option.{ForSome}
 use Rattle.cs_base.specs.outside.Causes.{Rose}
 use Rattle.cs_base.specs.outside.Outside.{Held}
-use Rattle.cs_top.specs.Ask.{AskRan, CanAsk}
 use Rattle.cs_top.specs.Build.{BuildRan, CanBuild}
-use Rattle.cs_top.specs.Commands.{Command, build, ask, replay, serve, trial}
-use Rattle.cs_top.specs.Endings.{Ending, not_built, usage}
+use Rattle.cs_top.specs.CommandLine.{Command, build, ask, replay, serve, trial, Ending, usage}
 use Rattle.cs_top.specs.Met.{Met, LeavesAll}
-use Rattle.cs_top.specs.Replay.{ReplayRan, CanReplay}
+use Rattle.cs_top.specs.ScriptRuns.{AskRan, CanAsk, ReplayRan, CanReplay}
 use Rattle.cs_top.specs.Serve.{ServeRan, CanServe}
+use Rattle.cs_top.specs.Trial.{TrialRan}
 
 -- a run that ends as x before it meets anything
 pub record Idle {H : Type 0} (x e : Ending) (m : Met H) : Type 0 where
   pub ends : e ≡ x
   pub leaves : LeavesAll m
 
--- a whole run: each command has its own record, and `trial` isn't built yet
+-- a whole run: each command has its own record
 abbrev pub Ran : {H : Type 0} → Ending → Option Command → Met H → Type 0
 Ran e None m = Idle usage e m
 Ran e (Some (build c i)) m = BuildRan e c i m
 Ran e (Some (ask c s)) m = AskRan e c s m
 Ran e (Some (replay i s)) m = ReplayRan e i s m
 Ran e (Some (serve i p n)) m = ServeRan e i p n m
-Ran e (Some (trial n)) m = Idle not_built e m
+Ran e (Some (trial n)) m = TrialRan e n m
 
--- files from which a command can do all; no command does that before it is built
+-- files from which a command can do all; `trial` needs none
 abbrev pub IsAble : Option Command → Held → Type 0
 IsAble (Some (build c i)) h = CanBuild h c
 IsAble (Some (ask c s)) h = CanAsk h c s
 IsAble (Some (replay i s)) h = CanReplay h i s
 IsAble (Some (serve i p n)) h = CanServe h i
-IsAble command h = ⊥
+IsAble (Some (trial n)) h = Unit {0}
+IsAble None h = ⊥
 
--- No run gives up by itself: what can be done is done, or memory ran out.
+-- where no count rose all was done, or memory ran out
+abbrev pub Finishes : {H : Type 0} → Met H → ℕ → Type 0
+Finishes m result = ¬ Rose m.files_before m.files_now → ¬ Rose m.out.before m.out.now → ¬ Rose m.net.before m.net.now → (result ≡ 0) ⊎ (result ≡ 7)
+
+-- No run gives up by itself: what can be done is done, or memory ran out. No words that aren't in the table can be.
 abbrev pub Completes : {H : Type 0} → Option Command → Met H → ℕ → Type 0
-Completes command m result =
-    ForSome m.held (λ h. IsAble command h → ¬ Rose m.files_before m.files_now → ¬ Rose m.out.before m.out.now → ¬ Rose m.net.before m.net.now → (result ≡ 0) ⊎ (result ≡ 7))
+Completes (Some (trial n)) m result = Finishes m result
+Completes command m result = ForSome m.held (λ h. IsAble command h → Finishes m result)

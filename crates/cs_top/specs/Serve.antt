@@ -10,23 +10,30 @@
 --   HasStopped p n w net     how it stands where serving didn't begin
 --   ServeEnds e i p n w net  how it may end over any files
 --   ServeFailed p n w net P  how it failed: before it served, or while it did, and then P
+--   FailsBehind p n w net P  where it failed behind the line, the hub did, and then P
 --   AreAnswered h i ..       what was sent on each connection is right, and why it ended
+--   IsExact k b s            what was sent is exactly what answers the bytes b, or its beginning and the memory response
+--   AreExact k s t           so it is on each opened connection that isn't broken
 --   ServeTold                how it ended over files that tell
 --   ServeCaused              why it ends: where it failed a count rose; while it serves reads may fail
---   ServeRan e i p n m       a whole run
-use Rattle.std.specs.Prelude.{◌≡◌, ◌⊎◌, ℕ, ◌≤◌, true, false, List, [], ◌∷◌, ◌++◌, Some, None, codes}
+--   ServeRan e i p n m       a whole run; where all is done and no read failed, each connection has exactly what answers its bytes
+use Rattle.std.specs.Prelude.{◌≡◌, ◌⊎◌, ℕ, ◌<◌, ◌≤◌, true, false, List, [], ◌∷◌, ◌++◌, Some, None, codes}
 use Rattle.std.specs.Option.{ForSome, option_map}
 use Rattle.std.specs.FinMap as map
 use Rattle.std.specs.FinSet as set
 use Rattle.cs_base.specs.outside.Causes.{Rose}
-use Rattle.cs_base.specs.outside.Hub.{listens, silent}
+use Rattle.cs_base.specs.outside.Hub.{Listening, Talk, listens, sent_on, silent}
 use Rattle.cs_base.specs.outside.Outside.{Grew, GrewByPrefix, Held, IsHeld}
 use Rattle.cs_hub.specs.Following.{AreServed}
+use Rattle.cs_hub.specs.Streams.{bytes_on}
+use Rattle.cs_model.specs.Corpus.{Corpus}
 use Rattle.cs_model.specs.Parameters.{number_of}
 use Rattle.cs_model_index.specs.BlockRules.{broken_at}
 use Rattle.cs_model_index.specs.FileRules.{damage, IsIndexFile}
 use Rattle.cs_model_index.specs.Sections.{file_corpus}
-use Rattle.cs_top.specs.Endings.{Ending, done, absent, damaged, failed, no_memory}
+use Rattle.cs_model_serving.specs.Connections.{answers}
+use Rattle.cs_model_serving.specs.Responses.{Response, all_bytes, memory_bytes}
+use Rattle.cs_top.specs.CommandLine.{Ending, done, absent, damaged, failed, no_memory}
 use Rattle.cs_top.specs.Met.{Listened, Met, Wrote, held_bytes}
 
 -- the line with the word of the port, as it stands in the command; zeros in front of it stay
@@ -73,13 +80,21 @@ pub record IsOver (n : List ℕ) (net : Listened) : Type 0 where
   pub live : (c : ℕ) → set.contains net.state_now.live c ≡ false
   pub opened : (net.state_now.opened ≡ number_of n) ⊎ (net.state_now.over ≡ true)
 
--- where it failed before it served: all is as it was, or it listens, and out failed after some first bytes of the line
+-- where it failed before it served: all is as it was, and the hub's count didn't fall; or it listens, and out alone failed after some
+-- first bytes of the line
 abbrev pub HasStopped : List ℕ → List ℕ → Wrote → Listened → Type 0
-HasStopped p n w net = IsUntouched w net ⊎ (GrewByPrefix w.old (serving_line p) w.new × Rose w.before w.now × IsListening p n net)
+HasStopped p n w net =
+    (IsUntouched w net × (net.before ≤ net.now))
+    ⊎ (GrewByPrefix w.old (serving_line p) w.new × Rose w.before w.now × IsListening p n net × (net.now ≡ net.before))
 
 -- how it failed: before it served, or while it did by the hub's count, and then P too
 abbrev pub ServeFailed : List ℕ → List ℕ → Wrote → Listened → Type 0 → Type 0
 ServeFailed p n w net P = HasStopped p n w net ⊎ (IsServing p n w net × Rose net.before net.now × P)
+
+-- Where the line was put whole, over an out that tells and didn't fail, it served, and failed by the hub's count of `listen` and `next`
+-- alone; and then P.
+abbrev pub FailsBehind : List ℕ → List ℕ → Wrote → Listened → Type 0 → Type 0
+FailsBehind p n w net P = ForSome w.old (λ b. Grew w.old (serving_line p) w.new → ¬ Rose w.before w.now → IsServing p n w net × Rose net.before net.now × P)
 
 -- how it may end over any files: done after the line, and over; a refused file leaves all as it was, and so does want of memory, or
 -- that comes after the line, before the first event
@@ -96,6 +111,16 @@ ServeEnds e i p n w net = ⊥
 -- corpus of the file, and one that isn't live has a cause; before and now are the files' count
 abbrev pub AreAnswered : Held → List ℕ → ℕ → ℕ → Listened → Type 0
 AreAnswered h i before now net = CanServe h i × AreServed (file_corpus (held_bytes h i)) net.state_now net.talk_now before now
+
+-- exactly the responses to the bytes b, one after the other; or some first ones of them, maybe none, and then the memory response
+abbrev pub IsExact : Corpus → List ℕ → List ℕ → Type 0
+IsExact k b s =
+    (s ≡ all_bytes (answers k b).responses)
+    ⊎ ((first : List Response) × (later : List Response) × ((answers k b).responses ≡ first ++ later) × (s ≡ all_bytes first ++ memory_bytes))
+
+-- so it is on each opened connection on which no send failed
+abbrev pub AreExact : Corpus → Listening → Talk → Type 0
+AreExact k s t = (c : ℕ) → c < s.opened → set.contains t.broken c ≡ false → IsExact k (bytes_on c t.came) (sent_on t c)
 
 -- how it ended: a refusal by its cause; done, and where it failed while it served, each connection stands right
 abbrev pub ServeTold : Ending → Held → List ℕ → List ℕ → List ℕ → ℕ → ℕ → Wrote → Listened → Type 0
@@ -115,5 +140,7 @@ ServeCaused e files_before files_now out_before out_now hub_before hub_now = (fi
 pub record ServeRan {H : Type 0} (e : Ending) (i p n : List ℕ) (m : Met H) : Type 0 where
   pub ends : ServeEnds e i p n m.out m.net
   pub told : ForSome m.held (λ h. ServeTold e h i p n m.files_before m.files_now m.out m.net)
+  pub behind : e ≡ failed → FailsBehind p n m.out m.net (ForSome m.held (λ h. AreAnswered h i m.files_before m.files_now m.net))
+  pub exact : e ≡ done → ¬ Rose m.files_before m.files_now → ForSome m.held (λ h. ForSome m.net.talk_now (λ t. AreExact (file_corpus (held_bytes h i)) m.net.state_now t))
   pub caused : ServeCaused e m.files_before m.files_now m.out.before m.out.now m.net.before m.net.now
   pub files : m.held_now ≡ m.held

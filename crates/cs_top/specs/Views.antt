@@ -1,7 +1,7 @@
 -- Types of the code as what they stand for.
 --
 --   seen                         a command of the code
---   HasNumbers c                 the words of port and connections are such numbers; any command that isn't `serve` has them
+--   HasNumbers c                 its words of numbers are such numbers; a command without one has them
 --   home_seen f                  an index file of the code
 --   collection_refusal_of f      the refusal that a fault of a collection names; None for want of memory
 --   IsCause c f                  it names the refusal of the collection c; nothing is said of want of memory
@@ -27,8 +27,7 @@ use Rattle.cs_model_index.specs.BlockRules.{broken_at}
 use Rattle.cs_model_index.specs.FileRules.{damage}
 use Rattle.cs_docs.specs.Refusals.{refusal_of, rows_refusal_of, words_said}
 use Rattle.cs_build.specs.Building.{build_refusal_of}
-use Rattle.cs_top.specs.Commands.{Command, build, ask, replay, serve, trial, is_number}
-use Rattle.cs_top.specs.Endings.{Ending, done, not_built, usage, refused, damaged, absent, failed, no_memory, script_refused, changed}
+use Rattle.cs_top.specs.CommandLine.{Command, build, ask, replay, serve, trial, is_number, Ending, done, usage, refused, damaged, absent, failed, no_memory, script_refused, changed}
 use Rattle.cs_top.specs.Answering.{FileView}
 use Rattle.cs_top.specs.declared.answering.Home.{Home}
 use Rattle.cs_top.specs.declared.answering.Home.TheVariants as homes
@@ -52,9 +51,10 @@ seen (read.Replay i s) = replay i.now s.now
 seen (read.Serve i p n) = serve i.now p.now n.now
 seen (read.Trial n) = trial n.now
 
--- the words of `serve` are such numbers; of another command nothing is said
+-- the words of `serve` and of `trial` are such numbers; of another command nothing is said
 abbrev pub HasNumbers : Read → Type 0
 HasNumbers (read.Serve i p n) = (is_number 5 65535 p.now ≡ true) × (is_number 7 1000000 n.now ≡ true)
+HasNumbers (read.Trial n) = is_number 4 1000 n.now ≡ true
 HasNumbers c = Unit {0}
 
 -- one that is made has no name
@@ -81,7 +81,6 @@ collection_ending (Some r) = refused r
 
 abbrev pub stop_ending : Stop → Ending
 stop_ending stops.Usage = usage
-stop_ending stops.NotBuilt = not_built
 stop_ending (stops.Collection f) = collection_ending (collection_refusal_of f)
 stop_ending (stops.Absent name) = absent name.now
 stop_ending stops.Failed = failed

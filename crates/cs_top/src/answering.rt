@@ -9,7 +9,7 @@ ghost use Rattle.cs_query.specs.RequestView.{asked};
 ghost use Rattle.cs_top.specs.Answering.{AnswersOver, IsThere};
 
 use cs_base::{FileStore, Files, MemStore};
-use cs_engine::{AskFault, Engine};
+use cs_engine::{AskFault, Engine, Note};
 use cs_query::{Reply, Request};
 use std::alloc::Global;
 use std::marker::Model;
@@ -58,19 +58,20 @@ impl<'a> IndexFile<'a> {
     }
 }
 
-/// The reply to a request, over an index file that is there.
+/// The reply to a request, over an index file that is there, and how it was answered.
 pub(crate) fn respond<F: Files>(
     alloc: Global,
     engine: &mut Engine,
     file: &mut IndexFile<'_>,
     files: &mut F,
     request: &Request,
-) -> Result<Reply, AskFault>
+) -> Result<(Reply, Note), AskFault>
     requires limits { HoldsLimits (asked request.now) }
     requires there { IsThere engine.old.index file.old (F.held files.old) }
 
-    ensures ok { (k : Corpus) → AnswersOver engine.old.index file.old (F.held files.old) k → IfOk result (λ r. r ≡ reply_of k (asked request.now)) }
-    ensures unchanged { (k : Corpus) → AnswersOver engine.old.index file.old (F.held files.old) k → is_changed result ≡ false }
+    ensures ok { (k : Corpus) → AnswersOver engine.old file.old (F.held files.old) k → IfOk result (λ r. r.0 ≡ reply_of k (asked request.now)) }
+    ensures unchanged { (k : Corpus) → AnswersOver engine.old file.old (F.held files.old) k → is_changed result ≡ false }
+    ensures stays { (k : Corpus) → AnswersOver engine.old file.old (F.held files.old) k → AnswersOver engine.new file.new (F.held files.new) k }
     ensures unread { is_some file.old.made ≡ true → is_read result ≡ false }
     ensures engine { engine.new.index ≡ engine.old.index }
     ensures file { file.new ≡ file.old }

@@ -1,14 +1,13 @@
 //! `ask COLLECTION SCRIPT`: a script that is answered over a collection, with its index file in memory.
 ghost use Rattle.std.specs.Prelude.{◌≡◌, Some, IfOk, IfErr, OnOk};
 ghost use Rattle.std.specs.Option.{ForSome};
-ghost use Rattle.cs_file.specs.Indexes.{Fits, StandsFor};
 ghost use Rattle.cs_file.specs.Writable.{CanBeWritten};
 ghost use Rattle.cs_model.specs.Corpus.{corpus};
 ghost use Rattle.cs_model_index.specs.FileRules.{IsIndexFile};
 ghost use Rattle.cs_model_index.specs.Layout.{file};
 ghost use Rattle.cs_model_index.specs.Sections.{file_corpus};
-ghost use Rattle.cs_top.specs.Ask.{AskEnds, AskStops, AskTold, IsReady};
-ghost use Rattle.cs_top.specs.Endings.{Caused, CausedBy};
+ghost use Rattle.cs_top.specs.ScriptRuns.{AskEnds, AskStops, AskTold, IsReady};
+ghost use Rattle.cs_top.specs.CommandLine.{Caused, CausedBy};
 ghost use Rattle.cs_top.specs.Met.{HasSize, OfBytes, Wrote, wrote};
 ghost use Rattle.cs_top.specs.Views.{ended, stop_ending};
 
@@ -16,10 +15,10 @@ use crate::answering::IndexFile;
 use crate::collection::read_image;
 use crate::ending::Stop;
 use crate::files::size_of;
+use crate::opening::open_image;
 use crate::script::{Came, answer_script};
-use cs_base::{Files, MemSink, MemStore, Memory, Sink};
-use cs_engine::Engine;
-use cs_file::{Image, OpenFault, WriteFault, open_index, write_index};
+use cs_base::{Files, Sink};
+use cs_file::Image;
 use std::alloc::Global;
 
 /// Answers each line of a script over a collection.
@@ -36,7 +35,7 @@ pub(crate) fn ask<'a, F: Files, O: Sink>(
     ensures files { F.held files.new ≡ F.held files.old }
 {
     let (image, size) = prepare(alloc, collection, script, files)?;
-    let (mut engine, store) = opened(alloc, image)?;
+    let (mut engine, store) = open_image(alloc, image)?;
     let mut file = IndexFile::made(store);
     match answer_script(alloc, &mut engine, &mut file, files, script, size, out) {
         Ok(Came::Answered) => Ok(()),
@@ -68,35 +67,4 @@ fn prepare<'a, F: Files>(
     let script_size = size_of(files, script)?;
     let image = read_image(alloc, files, collection, collection_size)?;
     Ok((image, script_size))
-}
-
-// The engine over the index file of an image, and that file.
-fn opened(alloc: Global, image: Image) -> Result<(Engine, MemStore), Memory>
-    requires writable { CanBeWritten image }
-    requires whole { IsIndexFile (file image) }
-
-    ensures bytes { IfOk result (λ p. p.1.bytes ≡ file image) }
-    ensures stands { IfOk result (λ p. StandsFor (file image) p.0.index) }
-    ensures fits { IfOk result (λ p. Fits (Some (file image)) p.0.index) }
-{
-    let bytes = file_of(alloc, image)?;
-    let mut store = MemStore::new(bytes);
-    match open_index(alloc, &mut store) {
-        Ok(index) => Ok((Engine::new(index), store)),
-        Err(OpenFault::Memory) => Err(Memory),
-        Err(OpenFault::Read | OpenFault::Damaged { .. }) => unreachable!(),
-    }
-}
-
-// The bytes of the index file of an image.
-fn file_of(alloc: Global, image: Image) -> Result<Vec<u8>, Memory>
-    requires writable { CanBeWritten image }
-
-    ensures ok { IfOk result (λ b. b.items ≡ file image) }
-{
-    let mut sink = MemSink::new(alloc);
-    match write_index(alloc, &image, &mut sink) {
-        Ok(()) => Ok(sink.into_bytes()),
-        Err(WriteFault::Sink | WriteFault::Memory) => Err(Memory),
-    }
 }

@@ -10,8 +10,9 @@ ghost use Rattle.cs_model_index.specs.Sections.{file_corpus};
 ghost use Rattle.cs_model_index.specs.declared.limits.TheConstants.{TARGET as BLOCK_ROWS};
 ghost use Rattle.cs_model.specs.Collection.{refusal_words};
 ghost use Rattle.cs_model.specs.Corpus.{corpus, refusal};
-ghost use Rattle.cs_top.specs.Endings.{CausedBy};
+ghost use Rattle.cs_top.specs.CommandLine.{CausedBy};
 ghost use Rattle.cs_top.specs.Met.{HasSize, OfBytes};
+ghost use Rattle.cs_top.specs.Trial.{HasSizes};
 ghost use Rattle.cs_top.specs.Views.{IsCause, IsCauseOf, IsOfCollection, collection_refusal_of, stop_ending};
 
 use crate::ending::Stop;
@@ -47,6 +48,17 @@ impl CollectionFault {
     }
 }
 
+/// A collection that is accepted.
+#[derive(Drop)]
+pub(crate) struct Imaged {
+    /// Its image.
+    pub image: Image,
+    /// How many documents it has.
+    pub documents: usize,
+    /// How many rows they have.
+    pub rows: usize,
+}
+
 /// The image of a collection of this size.
 pub(crate) fn read_image<'a, F: Files>(
     alloc: Global,
@@ -72,25 +84,32 @@ pub(crate) fn read_image<'a, F: Files>(
     }
     let bytes = read_all(alloc, files, name, size)?;
     match image_of(alloc, &bytes) {
-        Ok(image) => Ok(image),
+        Ok(imaged) => Ok(imaged.image),
         Err(fault) => Err(Stop::Collection(fault)),
     }
 }
 
-// The image of a collection that is accepted.
-fn image_of(alloc: Global, bytes: &[u8]) -> Result<Image, CollectionFault>
-    ensures ok { IfOk result (IsImage (corpus bytes.now) BLOCK_ROWS) }
+/// The image of a collection that is accepted.
+pub(crate) fn image_of(alloc: Global, bytes: &[u8]) -> Result<Imaged, CollectionFault>
+    ensures ok { IfOk result (λ i. IsImage (corpus bytes.now) BLOCK_ROWS i.image) }
     ensures accepted { OnOk result (refusal bytes.now ≡ None) }
-    ensures writable { IfOk result CanBeWritten }
-    ensures whole { IfOk result (λ i. IsIndexFile (file i) × (file_corpus (file i) ≡ corpus bytes.now)) }
+    ensures writable { IfOk result (λ i. CanBeWritten i.image) }
+    ensures whole { IfOk result (λ i. IsIndexFile (file i.image) × (file_corpus (file i.image) ≡ corpus bytes.now)) }
+    ensures sizes { IfOk result (λ i. HasSizes (corpus bytes.now) i.documents i.rows) }
 
     // Each fault but want of memory is the first refusal.
     ensures err { IfErr result (λ e. IsCause bytes.now e) }
 {
     let docs = read_docs(alloc, bytes)?;
     let rows = rows_of(alloc, &docs)?;
+    let document_count = docs.len();
+    let row_count = rows.len();
     let image = image(alloc, rows, docs, TARGET)?;
-    Ok(image)
+    Ok(Imaged {
+        image,
+        documents: document_count,
+        rows: row_count,
+    })
 }
 
 impl From<BuildFault> for CollectionFault {

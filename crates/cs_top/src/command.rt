@@ -1,8 +1,7 @@
 //! The top call: all that the program does.
 ghost use Rattle.std.specs.Prelude.{◌≡◌, map};
 ghost use Rattle.std.specs.String.{string_bytes};
-ghost use Rattle.cs_top.specs.Commands.{command_of};
-ghost use Rattle.cs_top.specs.Endings.{Ending, status, line_of, Says};
+ghost use Rattle.cs_top.specs.CommandLine.{command_of, Ending, status, line_of, Says};
 ghost use Rattle.cs_top.specs.Met.{met, wrote};
 ghost use Rattle.cs_top.specs.Runs.{Completes, Ran};
 ghost use Rattle.cs_top.specs.Views.{ended};
@@ -12,16 +11,17 @@ use crate::build::build;
 use crate::ending::{Stop, status_of, tell};
 use crate::replay::replay;
 use crate::serve::serve;
+use crate::trial::trial;
 use crate::words::{Command, command_of};
 use cs_base::{Files, Hub, Sink};
 use std::alloc::Global;
 
 /// Does what the words ask for, and answers the exit status.
 ///
-/// `words` are the command line's words without the program's name. 0: all was done. 1: a form was met that isn't
-/// built yet. 2: the words aren't in the table. 3: the collection isn't accepted. 4: the index file is damaged. 5: a file
-/// to be read isn't held. 6: a call of `files` or `out` failed, or the hub's `listen` or `next`. 7: memory ran out before
-/// the script's first line or the first connection. 8: a line of the script is too long or isn't UTF-8; the lines before
+/// `words` are the command line's words without the program's name. 0: all was done. 2: the words aren't in the
+/// table. 3: the collection isn't accepted. 4: the index file is damaged. 5: a file to be read isn't held. 6: a call of `files`
+/// or `out` failed, or the hub's `listen` or `next`. 7: memory ran out, of a script before its first line and of connections
+/// before the first one. 8: a line of the script is too long or isn't UTF-8; the lines before
 /// it were answered. 9: the index file isn't what it was at opening.
 pub fn run<F: Files, H: Hub, O: Sink, E: Sink>(
     alloc: Global,
@@ -62,6 +62,6 @@ fn carry_out<'a, F: Files, H: Hub, O: Sink>(
         Some(Command::Serve { index, port, conns }) => {
             serve(alloc, index, port, conns, files, hub, out)
         }
-        Some(Command::Trial { .. }) => Err(Stop::NotBuilt),
+        Some(Command::Trial { number }) => trial(alloc, number, out),
     }
 }

@@ -1,7 +1,7 @@
 //! How a run ends: its status, and what is said of it.
 ghost use Rattle.std.specs.Prelude.{◌≡◌, ◌++◌, ◌∷◌, [], codes};
 ghost use Rattle.cs_docs.specs.Refusals.{reason_text};
-ghost use Rattle.cs_top.specs.Endings.{status, line_of, Says};
+ghost use Rattle.cs_top.specs.CommandLine.{status, line_of, Says};
 ghost use Rattle.cs_top.specs.Met.{wrote};
 ghost use Rattle.cs_top.specs.Views.{collection_ending, collection_refusal_of, ended, said_text, stop_ending};
 
@@ -21,8 +21,6 @@ const NO_MEMORY: &[u8] = b"memory";
 pub(crate) enum Stop<'a> {
     /// The words aren't in the table.
     Usage,
-    /// What is asked isn't built yet.
-    NotBuilt,
     /// The collection makes no corpus.
     Collection(CollectionFault),
     /// A file to be read isn't held; its name.
@@ -49,7 +47,6 @@ impl<'a> Stop<'a> {
         ensures { result ≡ status (stop_ending self.entry) }
     {
         match self {
-            Stop::NotBuilt => 1,
             Stop::Usage => 2,
             Stop::Collection(fault) => status_of_collection(fault),
             Stop::Damaged { .. } => 4,
@@ -66,7 +63,6 @@ impl<'a> Stop<'a> {
     {
         match self {
             Stop::Usage => of_run(USAGE),
-            Stop::NotBuilt => of_run(b"not built"),
             Stop::Collection(fault) => said_of_collection(fault),
             Stop::Damaged { rule, at } => Said::Damage { rule, at },
             Stop::Absent(name) => Said::Words {

@@ -16,6 +16,7 @@ mod replay;
 mod said;
 mod script;
 mod serve;
+mod trial;
 mod words;
 
 pub use command::run;

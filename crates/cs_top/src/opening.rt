@@ -1,19 +1,25 @@
-//! Index files among the files, opened.
-ghost use Rattle.std.specs.Prelude.{◌≡◌, IfErr, IfOk, OnOk};
+//! Index files that are opened: among the files, and of an image in memory.
+ghost use Rattle.std.specs.Prelude.{◌≡◌, ℕ, List, [], Some, IfErr, IfOk, OnOk};
 ghost use Rattle.std.specs.Option.{ForSome};
 ghost use Rattle.cs_base.specs.outside.Outside.{file_bytes};
+ghost use Rattle.cs_engine.specs.Keeping.{AreGood};
 ghost use Rattle.cs_file.specs.Indexes.{Fits, StandsFor};
-ghost use Rattle.cs_top.specs.Endings.{CausedBy};
+ghost use Rattle.cs_file.specs.Writable.{CanBeWritten};
+ghost use Rattle.cs_model_index.specs.FileRules.{IsIndexFile};
+ghost use Rattle.cs_model_index.specs.Layout.{file};
+ghost use Rattle.cs_model_kept.specs.declared.limits.TheConstants.{MAX_ENTRIES};
+ghost use Rattle.cs_top.specs.CommandLine.{CausedBy};
 ghost use Rattle.cs_top.specs.Met.{HasSize, OfBytes};
 ghost use Rattle.cs_top.specs.Views.{IsDamage, IsOfIndex, stop_ending};
 
 use crate::ending::Stop;
-use cs_base::{FileStore, Files};
+use cs_base::{FileStore, Files, MemSink, MemStore, Memory};
 use cs_engine::Engine;
-use cs_file::{OpenFault, open_index};
+use cs_file::{Image, Index, OpenFault, WriteFault, open_index, write_index};
+use cs_model_kept::MAX_ENTRIES;
 use std::alloc::Global;
 
-/// The engine of an index file of this size.
+/// The engine of an index file of this size, with nothing kept.
 pub(crate) fn open<'a, F: Files>(
     alloc: Global,
     files: &mut F,
@@ -23,6 +29,7 @@ pub(crate) fn open<'a, F: Files>(
     requires size { HasSize (F.held files.old) name.now size }
 
     ensures ok { OfBytes (F.held files.old) name.now (λ b. IfOk result (λ e. StandsFor b e.index)) }
+    ensures good { (b : List ℕ) → IfOk result (AreGood b) }
     ensures damaged { OfBytes (F.held files.old) name.now (λ b. IfErr result (IsDamage b)) }
     ensures fits { IfOk result (λ e. Fits (file_bytes (F.held files.new) name.now) e.index) }
     ensures kind { IfErr result IsOfIndex }
@@ -30,11 +37,89 @@ pub(crate) fn open<'a, F: Files>(
     ensures caused { IfErr result (λ s. CausedBy (stop_ending s) (F.faults files.old) (F.faults files.new)) }
     ensures files { F.held files.new ≡ F.held files.old }
 {
+    let index = open_file(alloc, files, name, size)?;
+    let engine = engine_of(alloc, index)?;
+    Ok(engine)
+}
+
+// The index of an index file of this size.
+fn open_file<'a, F: Files>(
+    alloc: Global,
+    files: &mut F,
+    name: &str,
+    size: u64,
+) -> Result<Index, Stop<'a>>
+    requires size { HasSize (F.held files.old) name.now size }
+
+    ensures ok { OfBytes (F.held files.old) name.now (λ b. IfOk result (StandsFor b)) }
+    ensures damaged { OfBytes (F.held files.old) name.now (λ b. IfErr result (IsDamage b)) }
+    ensures fits { IfOk result (Fits (file_bytes (F.held files.new) name.now)) }
+    ensures kind { IfErr result IsOfIndex }
+    ensures quiet { OnOk result (F.faults files.new ≡ F.faults files.old) }
+    ensures caused { IfErr result (λ s. CausedBy (stop_ending s) (F.faults files.old) (F.faults files.new)) }
+    ensures files { F.held files.new ≡ F.held files.old }
+{
     let mut store = FileStore::new(files, name, size);
     match open_index(alloc, &mut store) {
-        Ok(index) => Ok(Engine::new(index)),
+        Ok(index) => Ok(index),
         Err(OpenFault::Damaged { rule, at }) => Err(Stop::Damaged { rule, at }),
         Err(OpenFault::Read) => Err(Stop::Failed),
         Err(OpenFault::Memory) => Err(Stop::Memory),
+    }
+}
+
+// The engine of an index, with room for as many answers as there may be.
+fn engine_of(alloc: Global, index: Index) -> Result<Engine, Memory>
+    ensures index { IfOk result (λ e. e.index ≡ index) }
+    ensures empty { IfOk result (λ e. (e.answers.entries ≡ []) × (e.answers.capacity ≡ MAX_ENTRIES)) }
+    ensures good { (b : List ℕ) → IfOk result (AreGood b) }
+{
+    Engine::new(alloc, index, MAX_ENTRIES)
+}
+
+/// The engine over the index file of an image, with nothing kept, and that file.
+pub(crate) fn open_image(alloc: Global, image: Image) -> Result<(Engine, MemStore), Memory>
+    requires writable { CanBeWritten image }
+    requires whole { IsIndexFile (file image) }
+
+    ensures bytes { IfOk result (λ p. p.1.bytes ≡ file image) }
+    ensures stands { IfOk result (λ p. StandsFor (file image) p.0.index) }
+    ensures fits { IfOk result (λ p. Fits (Some (file image)) p.0.index) }
+    ensures empty { IfOk result (λ p. (p.0.answers.entries ≡ []) × (p.0.answers.capacity ≡ MAX_ENTRIES)) }
+    ensures good { (b : List ℕ) → IfOk result (λ p. AreGood b p.0) }
+{
+    let (index, store) = open_bytes(alloc, image)?;
+    let engine = engine_of(alloc, index)?;
+    Ok((engine, store))
+}
+
+// The index of the file of an image, and that file.
+fn open_bytes(alloc: Global, image: Image) -> Result<(Index, MemStore), Memory>
+    requires writable { CanBeWritten image }
+    requires whole { IsIndexFile (file image) }
+
+    ensures bytes { IfOk result (λ p. p.1.bytes ≡ file image) }
+    ensures stands { IfOk result (λ p. StandsFor (file image) p.0) }
+    ensures fits { IfOk result (λ p. Fits (Some (file image)) p.0) }
+{
+    let bytes = file_of(alloc, image)?;
+    let mut store = MemStore::new(bytes);
+    match open_index(alloc, &mut store) {
+        Ok(index) => Ok((index, store)),
+        Err(OpenFault::Memory) => Err(Memory),
+        Err(OpenFault::Read | OpenFault::Damaged { .. }) => unreachable!(),
+    }
+}
+
+// The bytes of the index file of an image.
+fn file_of(alloc: Global, image: Image) -> Result<Vec<u8>, Memory>
+    requires writable { CanBeWritten image }
+
+    ensures ok { IfOk result (λ b. b.items ≡ file image) }
+{
+    let mut sink = MemSink::new(alloc);
+    match write_index(alloc, &image, &mut sink) {
+        Ok(()) => Ok(sink.into_bytes()),
+        Err(WriteFault::Sink | WriteFault::Memory) => Err(Memory),
     }
 }

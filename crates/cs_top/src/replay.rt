@@ -2,7 +2,7 @@
 ghost use Rattle.std.specs.Prelude.{◌≡◌};
 ghost use Rattle.std.specs.Option.{ForSome};
 ghost use Rattle.cs_top.specs.Met.{wrote};
-ghost use Rattle.cs_top.specs.Replay.{ReplayCaused, ReplayEnds, ReplayTold};
+ghost use Rattle.cs_top.specs.ScriptRuns.{ReplayCaused, ReplayEnds, ReplayTold};
 ghost use Rattle.cs_top.specs.Views.{ended};
 
 use crate::answering::IndexFile;

@@ -5,11 +5,11 @@ ghost use Rattle.std.specs.Option.{ForSome};
 ghost use Rattle.cs_base.specs.outside.Causes.{Rose};
 ghost use Rattle.cs_base.specs.outside.Hub.{IsOrderly, listens};
 ghost use Rattle.cs_base.specs.outside.Outside.{GrewByPrefix, file_bytes};
+ghost use Rattle.cs_engine.specs.Keeping.{AreGood};
 ghost use Rattle.cs_file.specs.Indexes.{Fits, StandsFor};
 ghost use Rattle.cs_hub.specs.Following.{AreServed};
 ghost use Rattle.cs_model_index.specs.Sections.{file_corpus};
-ghost use Rattle.cs_top.specs.Commands.{is_number};
-ghost use Rattle.cs_top.specs.Endings.{CausedBy};
+ghost use Rattle.cs_top.specs.CommandLine.{CausedBy, is_number};
 ghost use Rattle.cs_top.specs.Met.{HasSize, Listened, OfBytes, Wrote, listened, wrote};
 ghost use Rattle.cs_top.specs.Serve.{CanServe, HasPut, HasStopped, IsListening, IsUntouched, ServeCaused, ServeEnds, ServeTold, serving_line};
 ghost use Rattle.cs_top.specs.Views.{ended, stop_ending};
@@ -59,10 +59,11 @@ fn prepare<'a, F: Files>(
 ) -> Result<(Engine, u64), Stop<'a>>
     ensures size { IfOk result (λ p. HasSize (F.held files.old) index.now p.1) }
     ensures stands { OfBytes (F.held files.old) index.now (λ b. IfOk result (λ p. StandsFor b p.0.index)) }
+    ensures good { (b : List ℕ) → IfOk result (λ p. AreGood b p.0) }
     ensures ready { ForSome (F.held files.old) (λ h. OnOk result (CanServe h index.now)) }
     ensures fits { IfOk result (λ p. Fits (file_bytes (F.held files.new) index.now) p.0.index) }
-    ensures ends { IfErr result (λ s. (p : List ℕ) → (n : List ℕ) → (w : Wrote) → (net : Listened) → IsUntouched w net → ServeEnds (stop_ending s) index.now p n w net) }
-    ensures told { ForSome (F.held files.old) (λ h. IfErr result (λ s. (p : List ℕ) → (n : List ℕ) → (before : ℕ) → (now : ℕ) → (w : Wrote) → (net : Listened) → IsUntouched w net → ServeTold (stop_ending s) h index.now p n before now w net)) }
+    ensures ends { IfErr result (λ s. (p : List ℕ) → (n : List ℕ) → (w : Wrote) → (net : Listened) → IsUntouched w net → net.now ≡ net.before → ServeEnds (stop_ending s) index.now p n w net) }
+    ensures told { ForSome (F.held files.old) (λ h. IfErr result (λ s. (p : List ℕ) → (n : List ℕ) → (before : ℕ) → (now : ℕ) → (w : Wrote) → (net : Listened) → IsUntouched w net → net.now ≡ net.before → ServeTold (stop_ending s) h index.now p n before now w net)) }
     ensures quiet { OnOk result (F.faults files.new ≡ F.faults files.old) }
     ensures caused { IfErr result (λ s. CausedBy (stop_ending s) (F.faults files.old) (F.faults files.new)) }
     ensures files { F.held files.new ≡ F.held files.old }
@@ -113,7 +114,7 @@ fn serve_file<F: Files, H: Hub>(
     requires listens { (port : ℕ) × (H.state hub.old ≡ listens port conns) }
     requires orderly { IsOrderly (H.state hub.old) (H.talk hub.old) }
 
-    ensures served { OfBytes (F.held files.old) name.now (λ b. StandsFor b engine.old.index → AreServed (file_corpus b) (H.state hub.new) (H.talk hub.new) (F.faults files.old) (F.faults files.new)) }
+    ensures served { OfBytes (F.held files.old) name.now (λ b. StandsFor b engine.old.index → AreGood b engine.old → AreServed (file_corpus b) (H.state hub.new) (H.talk hub.new) (F.faults files.old) (F.faults files.new)) }
     ensures done { result ≡ ServeEnd.Done → ((c : ℕ) → set.contains (H.state hub.new).live c ≡ false) × (((H.state hub.new).opened ≡ conns) ⊎ ((H.state hub.new).over ≡ true)) }
     ensures hub_failed { result ≡ ServeEnd.HubFailed → Rose (H.faults hub.old) (H.faults hub.new) }
     ensures memory { result ≡ ServeEnd.Memory → (H.state hub.new ≡ H.state hub.old) × (H.talk hub.new ≡ H.talk hub.old) × (F.faults files.new ≡ F.faults files.old) }

@@ -1,4 +1,6 @@
 //! What no clause says: that with memory at hand worked scripts have these replies, and how the lines read.
+mod failing;
+
 use crate::run;
 use cs_base::{Files, MemFiles, MemSink, Memory, ScriptHub, Scripted, Seq};
 use std::alloc::Global;
@@ -177,10 +179,7 @@ fn run_beside(
     files: &mut MemFiles,
     hub: &mut ScriptHub,
 ) -> Result<Left, Fail> {
-    let mut given = Vec::new(alloc);
-    for word in words {
-        given.push(String::from_str(alloc, word)?)?;
-    }
+    let given = words_of(alloc, words)?;
     let mut out = MemSink::new(alloc);
     let mut err = MemSink::new(alloc);
     let status = run(alloc, &given, files, hub, &mut out, &mut err);
@@ -189,6 +188,14 @@ fn run_beside(
         out: out.into_bytes(),
         err: err.into_bytes(),
     })
+}
+
+fn words_of(alloc: Global, words: &[&str]) -> Result<Vec<String>, Memory> {
+    let mut given = Vec::new(alloc);
+    for word in words {
+        given.push(String::from_str(alloc, word)?)?;
+    }
+    Ok(given)
 }
 
 fn ask(alloc: Global, collection: &[u8], script: &[u8]) -> Result<Left, Fail> {
@@ -369,7 +376,6 @@ fn what_is_missing_is_named(rt: HostRuntime) -> Result<(), Fail> {
     let ask: [&str; 3] = ["ask", "C", "Q"];
     let few: [&str; 2] = ["ask", "C"];
     let serve: [&str; 4] = ["serve", "C", "8080", "1"];
-    let later: [&str; 2] = ["trial", "1000"];
     let beyond: [&str; 2] = ["trial", "1001"];
     let script: &[u8] = b"q=a\n";
     let refused: &[u8] = b"\xFF";
@@ -379,7 +385,6 @@ fn what_is_missing_is_named(rt: HostRuntime) -> Result<(), Fail> {
         (ask.as_slice(), Some(refused), None, 5, "absent: Q\n"),
         (serve.as_slice(), None, None, 5, "absent: C\n"),
         (few.as_slice(), None, None, 2, USAGE),
-        (later.as_slice(), None, None, 1, "not built\n"),
         (beyond.as_slice(), None, None, 2, USAGE),
     ] {
         let left = run_with(rt.alloc(), words, collection, script)?;

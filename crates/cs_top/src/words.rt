@@ -3,10 +3,11 @@ ghost use Rattle.std.specs.Prelude.{◌≡◌, ◌≤◌, true, map, ◌&&◌, n
 ghost use Rattle.std.specs.Option.{ForSome, option_map};
 ghost use Rattle.std.specs.String.{string_bytes};
 ghost use Rattle.cs_model.specs.Parameters.{number_of};
-ghost use Rattle.cs_top.specs.Commands.{command_of, two_words, serve_words, trial_words, is_number};
+ghost use Rattle.cs_top.specs.CommandLine.{command_of, two_words, serve_words, trial_words, is_number};
 ghost use Rattle.cs_top.specs.Views.{HasNumbers, seen};
 
 use cs_text::{has_digits, number_of};
+use cs_trial::MAX_TRIAL;
 
 /// What the words ask for.
 #[derive(Clone, Copy, Debug, PartialEq, Eq)]
@@ -102,7 +103,7 @@ fn trial<'a>(command: &str, number: &'a str) -> Option<Command<'a>>
     ensures seen { option_map seen result ≡ trial_words command.now number.now }
     ensures numbers { ForSome result HasNumbers }
 {
-    if command == "trial" && is_number(number, 4, 1_000) {
+    if command == "trial" && is_number(number, 4, MAX_TRIAL) {
         Some(Command::Trial { number })
     } else {
         None
@@ -123,6 +124,17 @@ pub(crate) fn conns_of(word: &str) -> u32
     requires { is_number 7 1000000 word.now ≡ true }
 
     ensures { result ≡ number_of word.now }
+{
+    number_of(word.as_bytes())
+}
+
+/// The number of a trial by its word.
+pub(crate) fn trial_of(word: &str) -> u32
+    requires { is_number 4 1000 word.now ≡ true }
+
+    ensures value { result ≡ number_of word.now }
+    ensures some { 1 ≤ result }
+    ensures most { result ≤ MAX_TRIAL }
 {
     number_of(word.as_bytes())
 }

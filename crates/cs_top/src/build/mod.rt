@@ -2,7 +2,7 @@
 ghost use Rattle.std.specs.Prelude.{◌≡◌, IfErr, OnOk};
 ghost use Rattle.std.specs.Option.{ForSome};
 ghost use Rattle.cs_top.specs.Build.{BuildEnds, BuildTold};
-ghost use Rattle.cs_top.specs.Endings.{CausedBy};
+ghost use Rattle.cs_top.specs.CommandLine.{CausedBy};
 ghost use Rattle.cs_top.specs.Views.{ended};
 
 mod saving;

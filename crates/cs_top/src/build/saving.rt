@@ -6,7 +6,7 @@ ghost use Rattle.cs_base.specs.outside.Outside.{Grew, GrewByPrefix, Sets, but_fo
 ghost use Rattle.cs_file.specs.Writable.{CanBeWritten};
 ghost use Rattle.cs_model_index.specs.Layout.{file};
 ghost use Rattle.cs_top.specs.Build.{IsBegun};
-ghost use Rattle.cs_top.specs.Endings.{CausedBy};
+ghost use Rattle.cs_top.specs.CommandLine.{CausedBy};
 ghost use Rattle.cs_top.specs.Views.{IsDevice, stop_ending};
 
 use crate::ending::Stop;

@@ -10,10 +10,10 @@ ghost use Rattle.cs_model.specs.Replies.{reply_text};
 ghost use Rattle.cs_query.specs.RequestView.{asked};
 ghost use Rattle.cs_query.specs.declared.request.ReqFault.{ReqFault};
 ghost use Rattle.cs_top.specs.Answering.{AnswersOver, CameCounts, HasReply, HasText, IsThere, MayAnswer, came_of, line_bytes};
-ghost use Rattle.cs_top.specs.Endings.{CausedBy};
+ghost use Rattle.cs_top.specs.CommandLine.{CausedBy};
 ghost use Rattle.cs_top.specs.declared.script.answers.Answer.TheVariants as answers;
 ghost use Rattle.cs_top.specs.Met.{wrote};
-ghost use Rattle.cs_top.specs.Steps.{Passes, StopsAt};
+ghost use Rattle.cs_top.specs.Scripts.{Passes, StopsAt};
 ghost use Rattle.cs_top.specs.Views.{of_script, stop_ending};
 
 use crate::answering::{IndexFile, respond};
@@ -62,10 +62,11 @@ pub(crate) fn answer_line<F: Files, O: Sink>(
 ) -> Result<Came, ScriptStop>
     requires there { IsThere engine.old.index file.old (F.held files.old) }
 
-    ensures ok { (k : Corpus) → AnswersOver engine.old.index file.old (F.held files.old) k → IfOk result (λ came. Passes (MayAnswer file.old k) (number, line.now) (O.written out.old) (O.written out.new) came (F.faults files.old) (F.faults files.new)) }
-    ensures err { (k : Corpus) → AnswersOver engine.old.index file.old (F.held files.old) k → IfErr result (λ s. StopsAt (MayAnswer file.old k) (stop_ending (of_script s)) (number, line.now)
+    ensures ok { (k : Corpus) → AnswersOver engine.old file.old (F.held files.old) k → IfOk result (λ came. Passes (MayAnswer file.old k) (number, line.now) (O.written out.old) (O.written out.new) came (F.faults files.old) (F.faults files.new)) }
+    ensures err { (k : Corpus) → AnswersOver engine.old file.old (F.held files.old) k → IfErr result (λ s. StopsAt (MayAnswer file.old k) (stop_ending (of_script s)) (number, line.now)
         (wrote O.written O.faults out.old out.new) (F.faults files.old) (F.faults files.new)) }
-    ensures unchanged { (k : Corpus) → AnswersOver engine.old.index file.old (F.held files.old) k → IfOk result (λ came. came ≢ Came.Changed) }
+    ensures unchanged { (k : Corpus) → AnswersOver engine.old file.old (F.held files.old) k → IfOk result (λ came. came ≢ Came.Changed) }
+    ensures stays { (k : Corpus) → AnswersOver engine.old file.old (F.held files.old) k → AnswersOver engine.new file.new (F.held files.new) k }
     ensures engine { engine.new.index ≡ engine.old.index }
     ensures file { file.new ≡ file.old }
     ensures files { F.held files.new ≡ F.held files.old }
@@ -143,9 +144,10 @@ fn answer_params<F: Files>(
 ) -> Answer
     requires there { IsThere engine.old.index file.old (F.held files.old) }
 
-    ensures unchanged { (k : Corpus) → AnswersOver engine.old.index file.old (F.held files.old) k → came_of result ≢ Came.Changed }
-    ensures text { (k : Corpus) → AnswersOver engine.old.index file.old (F.held files.old) k → HasText (MayAnswer file.old k) line.now result }
+    ensures unchanged { (k : Corpus) → AnswersOver engine.old file.old (F.held files.old) k → came_of result ≢ Came.Changed }
+    ensures text { (k : Corpus) → AnswersOver engine.old file.old (F.held files.old) k → HasText (MayAnswer file.old k) line.now result }
     ensures unread { is_some file.old.made ≡ true → came_of result ≢ Came.Read }
+    ensures stays { (k : Corpus) → AnswersOver engine.old file.old (F.held files.old) k → AnswersOver engine.new file.new (F.held files.new) k }
     ensures engine { engine.new.index ≡ engine.old.index }
     ensures file { file.new ≡ file.old }
     ensures files { F.held files.new ≡ F.held files.old }
@@ -168,16 +170,17 @@ fn answer_request<F: Files>(
     requires limits { HoldsLimits (asked wanted.now) }
     requires there { IsThere engine.old.index file.old (F.held files.old) }
 
-    ensures unchanged { (k : Corpus) → AnswersOver engine.old.index file.old (F.held files.old) k → came_of result ≢ Came.Changed }
-    ensures text { (k : Corpus) → AnswersOver engine.old.index file.old (F.held files.old) k → HasReply k (asked wanted.now) result }
+    ensures unchanged { (k : Corpus) → AnswersOver engine.old file.old (F.held files.old) k → came_of result ≢ Came.Changed }
+    ensures text { (k : Corpus) → AnswersOver engine.old file.old (F.held files.old) k → HasReply k (asked wanted.now) result }
     ensures unread { is_some file.old.made ≡ true → came_of result ≢ Came.Read }
+    ensures stays { (k : Corpus) → AnswersOver engine.old file.old (F.held files.old) k → AnswersOver engine.new file.new (F.held files.new) k }
     ensures engine { engine.new.index ≡ engine.old.index }
     ensures file { file.new ≡ file.old }
     ensures files { F.held files.new ≡ F.held files.old }
     ensures counts { CameCounts (came_of result) (F.faults files.old) (F.faults files.new) }
 {
     match respond(alloc, engine, file, files, wanted) {
-        Ok(reply) => text_or_memory(reply_line(alloc, &reply)),
+        Ok((reply, _)) => text_or_memory(reply_line(alloc, &reply)),
         Err(AskFault::Memory) => Answer::Memory,
         Err(AskFault::Read) => Answer::Read,
         Err(AskFault::Changed { rule, at }) => { Answer::Changed(changed_line(alloc, rule, at)) }

@@ -3,10 +3,9 @@ ghost use Rattle.std.specs.Prelude.{◌≡◌, ◌≢◌, ◌<◌, ◌≤◌, �
 ghost use Rattle.cs_model.specs.Corpus.{Corpus};
 ghost use Rattle.cs_model.specs.Outputs.{script_lines};
 ghost use Rattle.cs_top.specs.Answering.{AnswersOver, CameCounts, IsThere, MayAnswer, worst};
-ghost use Rattle.cs_top.specs.Endings.{done};
+ghost use Rattle.cs_top.specs.CommandLine.{done};
 ghost use Rattle.cs_top.specs.Met.{HasSize, OfBytes, wrote};
-ghost use Rattle.cs_top.specs.Scripts.{ScriptCaused, ScriptEnds, ShortTally, Tally};
-ghost use Rattle.cs_top.specs.Steps.{Reaches, EndsAt};
+ghost use Rattle.cs_top.specs.Scripts.{ScriptCaused, ScriptEnds, ShortTally, Tally, Reaches, EndsAt};
 ghost use Rattle.cs_top.specs.Views.{of_script, stop_ending};
 
 mod answers;
@@ -58,12 +57,12 @@ pub(crate) fn answer_script<F: Files, O: Sink>(
     requires size { HasSize (F.held files.old) script.now size }
     requires there { IsThere engine.old.index file.old (F.held files.old) }
 
-    ensures whole { (k : Corpus) → AnswersOver engine.old.index file.old (F.held files.old) k → OfBytes (F.held files.old) script.now (λ b. IfOk result (λ came. (ts : List (List ℕ))
+    ensures whole { (k : Corpus) → AnswersOver engine.old file.old (F.held files.old) k → OfBytes (F.held files.old) script.now (λ b. IfOk result (λ came. (ts : List (List ℕ))
         × ScriptEnds (MayAnswer file.old k) done (script_lines b) ts (wrote O.written O.faults out.old out.new) × Tally came (F.faults files.old) (F.faults files.new) ts)) }
-    ensures short { (k : Corpus) → AnswersOver engine.old.index file.old (F.held files.old) k → OfBytes (F.held files.old) script.now (λ b. IfErr result (λ s. (ts : List (List ℕ))
+    ensures short { (k : Corpus) → AnswersOver engine.old file.old (F.held files.old) k → OfBytes (F.held files.old) script.now (λ b. IfErr result (λ s. (ts : List (List ℕ))
         × ScriptEnds (MayAnswer file.old k) (stop_ending (of_script s)) (script_lines b) ts (wrote O.written O.faults out.old out.new)
         × ShortTally (stop_ending (of_script s)) (wrote O.written O.faults out.old out.new) (F.faults files.old) (F.faults files.new) ts)) }
-    ensures unchanged { (k : Corpus) → AnswersOver engine.old.index file.old (F.held files.old) k → IfOk result (λ came. came ≢ Came.Changed) }
+    ensures unchanged { (k : Corpus) → AnswersOver engine.old file.old (F.held files.old) k → IfOk result (λ came. came ≢ Came.Changed) }
     ensures made { is_some file.old.made ≡ true → IfOk result (λ came. came ≢ Came.Read) }
     ensures counts { IfOk result (λ came. CameCounts came (F.faults files.old) (F.faults files.new)) }
     ensures quiet { OnOk result (O.faults out.new ≡ O.faults out.old) }
@@ -98,12 +97,13 @@ fn answer_next<F: Files, O: Sink>(
     requires within { place.at < size }
     requires numbered { place.number ≤ place.at }
 
-    ensures ok { (k : Corpus) → AnswersOver engine.old.index file.old (F.held files.old) k → OfBytes (F.held files.old) script.now (λ b. IfOk result (λ p. Reaches (MayAnswer file.old k) b
+    ensures ok { (k : Corpus) → AnswersOver engine.old file.old (F.held files.old) k → OfBytes (F.held files.old) script.now (λ b. IfOk result (λ p. Reaches (MayAnswer file.old k) b
         place p.0 (O.written out.old) (O.written out.new) p.1 (F.faults files.old) (F.faults files.new))) }
-    ensures err { (k : Corpus) → AnswersOver engine.old.index file.old (F.held files.old) k → OfBytes (F.held files.old) script.now (λ b. IfErr result (λ s. EndsAt (MayAnswer file.old k)
+    ensures err { (k : Corpus) → AnswersOver engine.old file.old (F.held files.old) k → OfBytes (F.held files.old) script.now (λ b. IfErr result (λ s. EndsAt (MayAnswer file.old k)
         (stop_ending (of_script s)) b place (wrote O.written O.faults out.old out.new) (F.faults files.old) (F.faults files.new))) }
-    ensures unchanged { (k : Corpus) → AnswersOver engine.old.index file.old (F.held files.old) k → IfOk result (λ p. p.1 ≢ Came.Changed) }
+    ensures unchanged { (k : Corpus) → AnswersOver engine.old file.old (F.held files.old) k → IfOk result (λ p. p.1 ≢ Came.Changed) }
     ensures further { IfOk result (λ p. (place.at < p.0.at) × (p.0.at ≤ size) × (p.0.number ≤ p.0.at)) }
+    ensures stays { (k : Corpus) → AnswersOver engine.old file.old (F.held files.old) k → AnswersOver engine.new file.new (F.held files.new) k }
     ensures engine { engine.new.index ≡ engine.old.index }
     ensures file { file.new ≡ file.old }
     ensures files { F.held files.new ≡ F.held files.old }

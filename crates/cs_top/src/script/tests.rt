@@ -5,6 +5,7 @@ use crate::script::{Came, answer_script};
 use cs_base::{Files, MemFiles, MemSink, MemStore};
 use cs_engine::Engine;
 use cs_file::open_index;
+use cs_model_kept::MAX_ENTRIES;
 use std::alloc::Global;
 use std::test::Fail;
 
@@ -36,7 +37,7 @@ fn left_by(alloc: Global, script: &[u8]) -> Result<Left, Fail> {
     let mut store = MemStore::new(NO_DOCUMENTS.to_vec(alloc)?);
     let end = match (open_index(alloc, &mut store), files.size("Q")) {
         (Ok(index), Ok(Some(size))) => {
-            let mut engine = Engine::new(index);
+            let mut engine = Engine::new(alloc, index, MAX_ENTRIES)?;
             let mut file = IndexFile::made(store);
             answer_script(
                 alloc,

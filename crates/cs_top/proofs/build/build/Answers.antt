@@ -19,7 +19,6 @@ begun : (s : Stop) (h : Held) (c i : List â„•) (x : Image) (now : Option Held) â
 begun stops.Failed h c i x now kind has is = inr (x, has, is)
 begun stops.Memory h c i x now kind has is = inr (x, has, is)
 begun stops.Usage h c i x now kind has is = absurd kind
-begun stops.NotBuilt h c i x now kind has is = absurd kind
 begun (stops.Collection f) h c i x now kind has is = absurd kind
 begun (stops.Absent n) h c i x now kind has is = absurd kind
 begun (stops.Script f) h c i x now kind has is = absurd kind

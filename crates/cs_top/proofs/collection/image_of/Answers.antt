@@ -1,14 +1,19 @@
 use Rattle.std.proofs.Common.{◌≡◌, ◌<◌, ◌≤◌, ◌^◌, ℕ, true, List, [], ◌∷◌, ap, arith, length, nat_le, refl, sym, subst, ◌∙◌}
 use Rattle.std.specs.Prelude.{map, None}
+use Rattle.std.specs.FinMap.{keys}
+use Rattle.std.specs.List.{enumerate_from}
 use Rattle.std.proofs.lemmas.Bool.{le-leb}
+use Rattle.std.proofs.lemmas.List.{length-map}
+use Rattle.std.proofs.lemmas.List.FromFn.{length-enumerate_from}
 use Rattle.cs_base.specs.declared.content.doc.Row.{Row}
 use Rattle.cs_base.specs.declared.content.limits.TheConstants.{MAX_ROWS, MAX_WORDS}
 use Rattle.cs_model.specs.Collection.{docs_refusal, documents}
 use Rattle.cs_model.specs.First.{first_reason}
-use Rattle.cs_model.specs.Corpus.{corpus, corpus_of, distinct_words, refusal, rows_of, rows_refusal, title_of}
+use Rattle.cs_model.specs.Corpus.{by_number, corpus, corpus_of, distinct_words, refusal, rows_of, rows_refusal, title_of}
 use Rattle.cs_model_index.specs.Images.{IsImage}
 use Rattle.cs_model_index.specs.Layout.{title_bytes}
 use Rattle.cs_model_index.specs.declared.limits.TheConstants.{TARGET as BLOCK_ROWS}
+use Rattle.cs_model_index.proofs.ImageLemmas.{titles_listed}
 use Rattle.cs_build.proofs.CollectionLemmas.{collection_is, collection_made}
 use Rattle.cs_build.proofs.FileLemmas.{files_of_collections}
 use Rattle.cs_build.proofs.TitleLemmas.{titles_few}
@@ -42,3 +47,13 @@ returns-clause-whole c =
     subst (λ k. IsImage k BLOCK_ROWS c.in_ok-image.image) (collection_made c.in_ok-docs.docs c.in_ok-rows.rows c.in_ok-rows.ensures.ok ∙ ap corpus_of c.in_ok-docs.ensures.ok) c.in_ok-image.ensures.ok in
     let all = files_of_collections c.args.bytes.now BLOCK_ROWS c.in_ok-image.image (accepted_by c.args.bytes.now c.in_ok-rows.rows c.in_ok-docs.ensures.accepted (c.in_ok-rows.ensures.ok ∙ ap rows_of c.in_ok-docs.ensures.ok) (subst (λ r. length r ≤ MAX_ROWS) (sym c.in_ok-rows.ensures.ok) c.in_ok-rows.ensures.few) c.in_ok-image.ensures.few_words) is (omega arith) (omega arith) in
     (all.0, all.2)
+
+-- each document has its title in the corpus
+titles_counted : (ts : List (List ℕ)) → length (keys (by_number ts)) ≡ length ts
+titles_counted ts = ap (λ es. length (map (λ e. e.0) es)) (titles_listed ts) ∙ length-map (enumerate_from 0 ts) (λ e. e.0) ∙ length-enumerate_from 0 ts
+
+pub returns-clause-sizes : goal.returns-clause-sizes
+returns-clause-sizes c = record {
+  documents = c.len-document_count.ensures ∙ ap length c.in_ok-docs.ensures.ok ∙ sym (length-map (documents c.args.bytes.now) title_of) ∙ sym (titles_counted (map title_of (documents c.args.bytes.now)));
+  rows = c.len-row_count.ensures ∙ ap length (c.in_ok-rows.ensures.ok ∙ ap rows_of c.in_ok-docs.ensures.ok);
+}

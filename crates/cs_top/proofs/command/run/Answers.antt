@@ -1,7 +1,7 @@
 use Rattle.std.proofs.Common.{ℕ, sym, subst}
 use Rattle.std.specs.Prelude.{map}
 use Rattle.std.specs.String.{string_bytes}
-use Rattle.cs_top.specs.Commands.{command_of}
+use Rattle.cs_top.specs.CommandLine.{command_of}
 use Rattle.cs_top.specs.Met.{met}
 use Rattle.cs_top.specs.Runs.{Completes}
 use Rattle.cs_top.specs.Views.{ended}

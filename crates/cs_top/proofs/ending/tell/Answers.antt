@@ -1,5 +1,5 @@
 use Rattle.std.proofs.Common.{◌≡◌, ◌∙◌, sym, ap, subst, List, ℕ}
-use Rattle.cs_top.specs.Endings.{line_of, Says}
+use Rattle.cs_top.specs.CommandLine.{line_of, Says}
 use Rattle.cs_top.specs.Met.{wrote}
 use Rattle.cs_top.specs.Views.{ended, said_text}
 use Rattle.cs_top.proofs.SaysLemmas.{says}

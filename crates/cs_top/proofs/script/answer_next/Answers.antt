@@ -1,7 +1,7 @@
 use Rattle.std.proofs.Common.{◌≡◌, ◌≢◌, ◌+◌, refl, rules, subst}
 use Rattle.cs_top.specs.Answering.{AnswersOver, MayAnswer}
 use Rattle.cs_top.specs.Met.{held_bytes, wrote}
-use Rattle.cs_top.specs.Steps.{EndsAt, Reaches}
+use Rattle.cs_top.specs.Scripts.{EndsAt, Reaches}
 use Rattle.cs_top.specs.Views.{of_script, stop_ending}
 use Rattle.cs_top.proofs.StepLemmas.{ends_at, over_at, reaches_by}
 use Rattle.cs_top.proofs.script.answer_next.Goals as goal
@@ -14,7 +14,7 @@ returns-in_err-came-clause-err g c k over h held =
     let w = wrote g.O.Sink.written g.O.Sink.faults c.args.out.now c.answer_line.new.out in
     let fb = g.F.Files.faults c.args.files.now in
     let fn = g.F.Files.faults c.answer_line.new.files in
-    let here = over_at c.args.engine.now.index c.args.engine.now.index c.args.file.now c.args.file.now _ _ k refl refl c.in_ok-len.ensures.same over in
+    let here = over_at c.args.engine.now c.args.file.now _ _ k c.in_ok-len.ensures.same over in
     let all : EndsAt a e b c.args.place w fb fn =
     subst (λ n. EndsAt a e b c.args.place w n fn) c.in_ok-len.ensures.counted.quiet
     (ends_at a b _ c.args.place c.in_ok-len.at w _ fn e (c.in_ok-len.ensures.line h held) (c.in_err-came.ensures.err k here)) in
@@ -22,11 +22,14 @@ returns-in_err-came-clause-err g c k over h held =
 
 pub returns-clause-ok : goal.returns-clause-ok
 returns-clause-ok g c k over h held =
-    let here = over_at c.args.engine.now.index c.args.engine.now.index c.args.file.now c.args.file.now _ _ k refl refl c.in_ok-len.ensures.same over in
+    let here = over_at c.args.engine.now c.args.file.now _ _ k c.in_ok-len.ensures.same over in
     subst (λ n. Reaches (MayAnswer c.args.file.now k) (held_bytes h c.args.script.now) c.args.place (record { at = c.in_ok-len.at; number = c.args.place.number + 1 }) (g.O.Sink.written c.args.out.now) (g.O.Sink.written c.answer_line.new.out) c.in_ok-came.came n (g.F.Files.faults c.answer_line.new.files))
     c.in_ok-len.ensures.counted.quiet
     (reaches_by (MayAnswer c.args.file.now k) (held_bytes h c.args.script.now) _ c.args.place c.in_ok-len.at (wrote g.O.Sink.written g.O.Sink.faults c.args.out.now c.answer_line.new.out) _ (g.F.Files.faults c.answer_line.new.files)
     (record { at = c.in_ok-len.at; number = c.args.place.number + 1 }) (g.O.Sink.written c.args.out.now) (g.O.Sink.written c.answer_line.new.out) c.in_ok-came.came (c.in_ok-len.ensures.line h held) refl (c.in_ok-came.ensures.ok k here))
 
 pub returns-clause-unchanged : goal.returns-clause-unchanged
-returns-clause-unchanged g c k over = c.in_ok-came.ensures.unchanged k (over_at c.args.engine.now.index c.args.engine.now.index c.args.file.now c.args.file.now _ _ k refl refl c.in_ok-len.ensures.same over)
+returns-clause-unchanged g c k over = c.in_ok-came.ensures.unchanged k (over_at c.args.engine.now c.args.file.now _ _ k c.in_ok-len.ensures.same over)
+
+pub returns-clause-stays : goal.returns-clause-stays
+returns-clause-stays g c k over = c.in_ok-came.ensures.stays k (over_at c.args.engine.now c.args.file.now _ _ k c.in_ok-len.ensures.same over)

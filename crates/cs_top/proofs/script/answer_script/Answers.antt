@@ -6,10 +6,9 @@ use Rattle.std.specs.FinMap as map
 use Rattle.cs_model.specs.Outputs.{script_lines}
 use Rattle.cs_model.specs.Words.{is_filled}
 use Rattle.cs_top.specs.Answering.{CameCounts, FileView, MayAnswer}
-use Rattle.cs_top.specs.Endings.{failed}
+use Rattle.cs_top.specs.CommandLine.{failed}
 use Rattle.cs_top.specs.Met.{held_bytes, wrote}
-use Rattle.cs_top.specs.Scripts.{ScriptEnds, ShortTally}
-use Rattle.cs_top.specs.Steps.{EndsAt, Reaches}
+use Rattle.cs_top.specs.Scripts.{ScriptEnds, ShortTally, EndsAt, Reaches}
 use Rattle.cs_top.specs.declared.script.Came.{Came}
 use Rattle.cs_top.specs.declared.script.Came.TheVariants.{Read, Changed}
 use Rattle.cs_top.specs.Views.{of_script, stop_ending}
@@ -38,6 +37,7 @@ loop-place-init g c = record {
       at_start _ _ _ (g.O.Sink.written c.args.out.now) (g.F.Files.faults c.args.files.now) (g.F.Files.faults c.first_place.new.files) (ap (λ x. filter (λ l. is_filled l.1) (enumerate_from 1 (lines x))) (c.in_ok-at.ensures.mark h held))
       c.in_ok-at.ensures.counted.quiet;
   unchanged = λ k over e. cc e;
+  stays = λ k over. over_at c.args.engine.now c.args.file.now _ _ k c.in_ok-at.ensures.same over;
   made = λ some e. cc e;
   counts = record { later = c.in_ok-at.ensures.counted.later; read = λ e. absurd (cc e); quiet = λ h. c.in_ok-at.ensures.counted.quiet };
   engine = refl;
@@ -56,7 +56,7 @@ returns-in_err-next-clause-short g c k over h held =
     let first = g.O.Sink.faults c.args.out.now in
     let last = g.O.Sink.faults c.answer_next.new.out in
     let n = g.F.Files.faults c.answer_next.new.files in
-    let there = c.in_err-next.ensures.err k (over_at _ _ _ _ _ _ k inv.engine inv.file inv.same over) h (inv.same ∙ held) in
+    let there = c.in_err-next.ensures.err k (inv.stays k over) h (inv.same ∙ held) in
     let here : EndsAt (MayAnswer c.args.file.now k) e b c.loop-place.place (record { old = g.O.Sink.written c.loop-place.out; new = new; before = first; now = last }) (g.F.Files.faults c.loop-place.files) n =
     subst (λ m. EndsAt (MayAnswer c.args.file.now k) e b c.loop-place.place (record { old = g.O.Sink.written c.loop-place.out; new = new; before = m; now = last }) (g.F.Files.faults c.loop-place.files) n) inv.out
     (subst (λ f. EndsAt (MayAnswer f k) e b c.loop-place.place (wrote g.O.Sink.written g.O.Sink.faults c.loop-place.out c.answer_next.new.out) (g.F.Files.faults c.loop-place.files) n) inv.file there) in
@@ -73,14 +73,15 @@ loop-place-preserved g c =
     record {
       so_far = λ k over h held.
           let b = held_bytes h c.args.script.now in
-          let there = next.ensures.ok k (over_at _ _ _ _ _ _ k inv.engine inv.file inv.same over) h (inv.same ∙ held) in
+          let there = next.ensures.ok k (inv.stays k over) h (inv.same ∙ held) in
           let here : Reaches (MayAnswer c.args.file.now k) b c.loop-place.place next.next (g.O.Sink.written c.loop-place.out) (g.O.Sink.written c.answer_next.new.out) next.met (g.F.Files.faults c.loop-place.files) (g.F.Files.faults c.answer_next.new.files) =
           subst (λ f. Reaches (MayAnswer f k) b c.loop-place.place next.next (g.O.Sink.written c.loop-place.out) (g.O.Sink.written c.answer_next.new.out) next.met (g.F.Files.faults c.loop-place.files) (g.F.Files.faults c.answer_next.new.files)) inv.file there in
           subst (λ x. HasAnswered (MayAnswer c.args.file.now k) (script_lines b) (lines_at b next.next) (g.O.Sink.written c.args.out.now) (g.O.Sink.written c.answer_next.new.out) x (g.F.Files.faults c.args.files.now) (g.F.Files.faults c.answer_next.new.files)) (sym is)
           (goes_on b c.loop-place.place (inv.so_far k over h held) next.next (g.O.Sink.written c.answer_next.new.out) next.met (g.F.Files.faults c.answer_next.new.files) here);
       unchanged = λ k over.
           subst (λ x. x ≢ Changed) (sym is)
-          (not_changed c.loop-place.came next.met (inv.unchanged k over) (next.ensures.unchanged k (over_at _ _ _ _ _ _ k inv.engine inv.file inv.same over)));
+          (not_changed c.loop-place.came next.met (inv.unchanged k over) (next.ensures.unchanged k (inv.stays k over)));
+      stays = λ k over. next.ensures.stays k (inv.stays k over);
       made = λ some.
           subst (λ x. x ≢ Read) (sym is)
           (not_read c.loop-place.came next.met (inv.made some) (next.ensures.made (subst (λ f. is_some f.made ≡ true) (sym inv.file) some)));

@@ -10,9 +10,10 @@ use Rattle.cs_top.proofs.script.answer_script.Given as goal
 
 abbrev pub invariant-loop-place : goal.invariant-loop-place
 invariant-loop-place g l = record {
-  so_far : (k : Corpus) → AnswersOver l.fn.engine.index l.fn.file (g.F.Files.held l.fn.files) k → OfBytes (g.F.Files.held l.fn.files) l.script (λ b.
+  so_far : (k : Corpus) → AnswersOver l.fn.engine l.fn.file (g.F.Files.held l.fn.files) k → OfBytes (g.F.Files.held l.fn.files) l.script (λ b.
       HasAnswered (MayAnswer l.fn.file k) (script_lines b) (lines_at b l.place) (g.O.Sink.written l.fn.out) (g.O.Sink.written l.out) l.came (g.F.Files.faults l.fn.files) (g.F.Files.faults l.files));
-  unchanged : (k : Corpus) → AnswersOver l.fn.engine.index l.fn.file (g.F.Files.held l.fn.files) k → l.came ≢ Changed;
+  unchanged : (k : Corpus) → AnswersOver l.fn.engine l.fn.file (g.F.Files.held l.fn.files) k → l.came ≢ Changed;
+  stays : (k : Corpus) → AnswersOver l.fn.engine l.fn.file (g.F.Files.held l.fn.files) k → AnswersOver l.engine l.file (g.F.Files.held l.files) k;
   made : is_some l.fn.file.made ≡ true → l.came ≢ Read;
   counts : CameCounts l.came (g.F.Files.faults l.fn.files) (g.F.Files.faults l.files);
   engine : l.engine.index ≡ l.fn.engine.index;

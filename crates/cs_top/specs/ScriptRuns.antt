@@ -1,8 +1,15 @@
--- What `replay INDEX SCRIPT` does.
+-- What the two commands do that answer a script: `ask COLLECTION SCRIPT` and `replay INDEX SCRIPT`.
 --
---   AreThere h i s           both files are held
---   IsOpen h i s             the same, and the first is an index file
---   ReplayStops e h i s      what shows that it ended so before its script
+--   AreHeld h a b            both files are held
+--   IsReady h c s            the same, and the collection is accepted
+--   AskStops e h c s         what shows that `ask` ended so before its script
+--   AskScript e h c s w      how its script ended, and what was put for it
+--   AskTold e h c s w        how it ended over files that tell: before its script, with nothing put, or with its script
+--   AskEnds e c s w          how it may end over any files
+--   AskRan e c s m           a whole run
+--   CanAsk h c s             the script can be answered whole
+--   IsOpen h i s             both files are held, and the first is an index file
+--   ReplayStops e h i s      what shows that `replay` ended so before its script
 --   IsWholeBut k ls ts w     each line has its text, a failed read's among them
 --   ReplayScript k e ls before now w     how its script ended over a corpus, and what was put for it
 --   ReplayTold               how it ended over files that tell: before its script, with nothing put, or with its script
@@ -10,37 +17,83 @@
 --   ReplayCaused             why it ends: where it failed a count rose; a read that failed before a refused line is no failure
 --   ReplayRan e i s m        a whole run
 --   CanReplay h i s          the script can be answered whole
-use Rattle.std.specs.Prelude.{◌≡◌, ◌⊎◌, ℕ, ◌+◌, ◌≤◌, List, Option, Some, None}
+use Rattle.std.specs.Prelude.{◌≡◌, ◌⊎◌, ℕ, List, Option, Some, None, ◌+◌, ◌≤◌}
 use Rattle.std.specs.Option.{ForSome}
 use Rattle.std.specs.FinMap as map
-use Rattle.cs_base.specs.outside.Causes.{Rose}
 use Rattle.cs_base.specs.outside.Outside.{Held, IsHeld}
+use Rattle.cs_model.specs.Corpus.{corpus, refusal, Corpus}
+use Rattle.cs_model.specs.Outputs.{IsAnswer, script_lines, PutAll, failed_reads, readable_lines}
+use Rattle.cs_top.specs.CommandLine.{Ending, usage, refused, absent, damaged, changed, failed, no_memory, Caused, done, script_refused}
+use Rattle.cs_top.specs.Met.{Met, Wrote, held_bytes}
+use Rattle.cs_top.specs.Scripts.{ScriptEnds, IsReadable}
+use Rattle.cs_base.specs.outside.Causes.{Rose}
 use Rattle.cs_hub.specs.Streams.{RoseBy}
-use Rattle.cs_model.specs.Corpus.{Corpus}
-use Rattle.cs_model.specs.Outputs.{IsAnswer, PutAll, failed_reads, readable_lines, script_lines}
 use Rattle.cs_model_index.specs.BlockRules.{broken_at}
 use Rattle.cs_model_index.specs.FileRules.{damage, IsIndexFile}
 use Rattle.cs_model_index.specs.Sections.{file_corpus}
 use Rattle.cs_top.specs.Answering.{IsReplayed}
-use Rattle.cs_top.specs.Endings.{Ending, done, not_built, usage, refused, absent, damaged, failed, no_memory, script_refused}
-use Rattle.cs_top.specs.Met.{Met, Wrote, held_bytes}
-use Rattle.cs_top.specs.Scripts.{ScriptEnds, IsReadable}
 
--- ---- over files that tell
 -- both files are held
-abbrev pub AreThere : Held → List ℕ → List ℕ → Type 0
-AreThere h i s = IsHeld (map.get h i) × IsHeld (map.get h s)
+abbrev pub AreHeld : Held → List ℕ → List ℕ → Type 0
+AreHeld h a b = IsHeld (map.get h a) × IsHeld (map.get h b)
 
+-- ---- `ask` over files that tell
+
+-- both files are held and the collection is accepted
+abbrev pub IsReady : Held → List ℕ → List ℕ → Type 0
+IsReady h c s = AreHeld h c s × (refusal (held_bytes h c) ≡ None)
+
+-- Before its script: the first of the two names that isn't held is said to be absent, and a refusal is that of a collection
+-- whose script is held. Both sizes are asked before anything is read, and take no memory: want of memory hides no absent file.
+abbrev pub AskStops : Ending → Held → List ℕ → List ℕ → Type 0
+AskStops (absent name) h c s = ((name ≡ c) × (map.get h c ≡ None)) ⊎ ((name ≡ s) × IsHeld (map.get h c) × (map.get h s ≡ None))
+AskStops (refused r) h c s = AreHeld h c s × (refusal (held_bytes h c) ≡ Some r)
+AskStops no_memory h c s = AreHeld h c s
+AskStops failed h c s = Unit {0}
+AskStops e h c s = ⊥
+
+-- how its script ended, and the texts that were put, over the corpus of its collection
+abbrev pub AskScript : Ending → Held → List ℕ → List ℕ → Wrote → Type 0
+AskScript e h c s w = (ts : List (List ℕ)) × ScriptEnds (IsAnswer (corpus (held_bytes h c))) e (script_lines (held_bytes h s)) ts w
+
+-- how it ended over files that tell: before its script, with nothing put, or with its script
+abbrev pub AskTold : Ending → Held → List ℕ → List ℕ → Wrote → Type 0
+AskTold e h c s w = (AskStops e h c s × (w.new ≡ w.old)) ⊎ (IsReady h c s × AskScript e h c s w)
+
+-- ---- `ask` over any files
+-- how it may end over any files: a name that is said to be absent is one of the two, and nothing is put before the script
+abbrev pub AskEnds : Ending → List ℕ → List ℕ → Wrote → Type 0
+AskEnds usage c s w = ⊥
+AskEnds (damaged rule at) c s w = ⊥
+AskEnds changed c s w = ⊥
+AskEnds (absent name) c s w = ((name ≡ c) ⊎ (name ≡ s)) × (w.new ≡ w.old)
+AskEnds (refused r) c s w = w.new ≡ w.old
+AskEnds no_memory c s w = w.new ≡ w.old
+AskEnds e c s w = Unit {0}
+
+-- a whole run; it changes no file, and meets no hub
+pub record AskRan {H : Type 0} (e : Ending) (c s : List ℕ) (m : Met H) : Type 0 where
+  pub ends : AskEnds e c s m.out
+  pub told : ForSome m.held (λ h. AskTold e h c s m.out)
+  pub caused : Caused e m.files_before m.files_now m.out.before m.out.now
+  pub files : m.held_now ≡ m.held
+  pub hub : m.hub_now ≡ m.hub
+
+-- the script can be answered whole
+abbrev pub CanAsk : Held → List ℕ → List ℕ → Type 0
+CanAsk h c s = IsReady h c s × IsReadable (script_lines (held_bytes h s))
+
+-- ---- `replay` over files that tell
 -- both files are held, and the first breaks no rule of index files
 abbrev pub IsOpen : Held → List ℕ → List ℕ → Type 0
-IsOpen h i s = AreThere h i s × IsIndexFile (held_bytes h i)
+IsOpen h i s = AreHeld h i s × IsIndexFile (held_bytes h i)
 
 -- Before its script: the first of the two names that isn't held is said to be absent, and damage is the first broken rule of the
 -- index file and its place. Both sizes are asked before anything is read, and take no memory: want of memory hides no absent file.
 abbrev pub ReplayStops : Ending → Held → List ℕ → List ℕ → Type 0
 ReplayStops (absent name) h i s = ((name ≡ i) × (map.get h i ≡ None)) ⊎ ((name ≡ s) × IsHeld (map.get h i) × (map.get h s ≡ None))
-ReplayStops (damaged rule at) h i s = AreThere h i s × (damage (held_bytes h i) ≡ Some (broken_at rule at))
-ReplayStops no_memory h i s = AreThere h i s
+ReplayStops (damaged rule at) h i s = AreHeld h i s × (damage (held_bytes h i) ≡ Some (broken_at rule at))
+ReplayStops no_memory h i s = AreHeld h i s
 ReplayStops failed h i s = Unit {0}
 ReplayStops e h i s = ⊥
 
@@ -65,11 +118,10 @@ abbrev pub ReplayTold : Ending → Held → List ℕ → List ℕ → ℕ → �
 ReplayTold e h i s before now w =
     (ReplayStops e h i s × (w.new ≡ w.old)) ⊎ (IsOpen h i s × ReplayScript (file_corpus (held_bytes h i)) e (script_lines (held_bytes h s)) before now w)
 
--- ---- over any files
+-- ---- `replay` over any files
 -- how it may end over any files: a name that is said to be absent is one of the two, and nothing is put before the script
 abbrev pub ReplayEnds : Ending → List ℕ → List ℕ → Wrote → Type 0
 ReplayEnds usage i s w = ⊥
-ReplayEnds not_built i s w = ⊥
 ReplayEnds (refused r) i s w = ⊥
 ReplayEnds (absent name) i s w = ((name ≡ i) ⊎ (name ≡ s)) × (w.new ≡ w.old)
 ReplayEnds (damaged rule at) i s w = w.new ≡ w.old

@@ -1,0 +1,230 @@
+//! What no clause says: each call of the outside fails in turn, and what a run then leaves.
+use super::S;
+use crate::run;
+use cs_base::{MemFiles, MemSink, ScriptHub, Scripted, Seq};
+use std::alloc::Global;
+use std::test::Fail;
+
+// The index file of no documents.
+const NO_DOCUMENTS: &[u8] =
+    b"HYBIDX1\n\0\0\0\0\0\0\0\0\0\0\0\0\0\0\0\0\0\0\x20\0\0\0\0\0\0\0\0\0\0\0\0\0\0\0\0\0\0\0\0\0";
+
+const KEYSTROKES: &[u8] = b"q=t\nq=ty\nq=typ\nq=typ+s\nq=typ+se\nq=typ\n";
+
+// Which calls fail.
+#[derive(Clone, Copy, Debug, PartialEq, Eq)]
+enum Calls {
+    Reads,
+    Writes,
+    Puts,
+    Says,
+    Nexts,
+    Sends,
+}
+
+// What a run leaves.
+#[derive(Drop)]
+struct Left {
+    status: u8,
+    index: Vec<u8>,
+    out: Vec<u8>,
+    err: Vec<u8>,
+    first: Vec<u8>,
+    second: Vec<u8>,
+}
+
+impl Left {
+    fn is(&self, whole: &Left) -> bool {
+        self.status == whole.status
+            && self.index.as_slice() == whole.index.as_slice()
+            && self.out.as_slice() == whole.out.as_slice()
+            && self.err.as_slice() == whole.err.as_slice()
+            && self.first.as_slice() == whole.first.as_slice()
+            && self.second.as_slice() == whole.second.as_slice()
+    }
+
+    // A beginning of what a whole run leaves, whatever is said.
+    fn begins(&self, whole: &Left) -> bool {
+        whole.index.as_slice().starts_with(&self.index)
+            && whole.out.as_slice().starts_with(&self.out)
+            && whole.first.as_slice().starts_with(&self.first)
+            && whole.second.as_slice().starts_with(&self.second)
+    }
+}
+
+// The files of all runs: two collections, a script, and two index files, of which the second one is of no documents.
+fn held(alloc: Global) -> Result<MemFiles, Fail> {
+    let mut files = MemFiles::new(alloc);
+    files.hold("C", S.as_bytes().to_vec(alloc)?)?;
+    files.hold("B", b"a\tb\tc".to_vec(alloc)?)?;
+    files.hold("Q", KEYSTROKES.to_vec(alloc)?)?;
+    files.hold("E", NO_DOCUMENTS.to_vec(alloc)?)?;
+    let words: [&str; 3] = ["build", "C", "I"];
+    let left = super::run_over(alloc, &words, &mut files)?;
+    if left.is(0, b"", "") {
+        Ok(files)
+    } else {
+        Err(Fail::new("not built"))
+    }
+}
+
+fn piece(alloc: Global, conn: u32, bytes: &[u8]) -> Result<Scripted, Fail> {
+    Ok(Scripted::Piece {
+        conn,
+        bytes: Seq::from_vec(bytes.to_vec(alloc)?),
+    })
+}
+
+// A request that comes in two pieces, and beside it a head that is too long.
+fn two_connections(alloc: Global) -> Result<ScriptHub, Fail> {
+    let letters = vec![in alloc; b'a'; 4096]?;
+    let mut events = Seq::new(alloc);
+    events.push(Scripted::Opened)?;
+    events.push(Scripted::Opened)?;
+    events.push(piece(alloc, 0, b"GET /search?q= HT")?)?;
+    events.push(piece(alloc, 1, &letters)?)?;
+    events.push(piece(alloc, 1, &letters)?)?;
+    events.push(piece(alloc, 0, b"TP/1.1\r\n\r\n")?)?;
+    events.push(Scripted::Ended { conn: 0 })?;
+    Ok(ScriptHub::new(alloc, events))
+}
+
+// What a run of the words leaves where the k-th of these calls fails.
+fn left_at(alloc: Global, words: &[&str], calls: Calls, k: u64) -> Result<Left, Fail> {
+    let mut files = held(alloc)?;
+    let mut hub = two_connections(alloc)?;
+    let mut out = MemSink::new(alloc);
+    let mut err = MemSink::new(alloc);
+    let failing = vec![in alloc; k; 1]?;
+    match calls {
+        Calls::Reads => files.fail_reads(failing),
+        Calls::Writes => files.fail_writes(failing),
+        Calls::Puts => out.fail(failing),
+        Calls::Says => err.fail(failing),
+        Calls::Nexts => hub.fail_next(failing),
+        Calls::Sends => hub.fail_send(failing),
+    }
+    let given = super::words_of(alloc, words)?;
+    let status = run(alloc, &given, &mut files, &mut hub, &mut out, &mut err);
+    let index = files.bytes("N").unwrap_or(b"");
+    Ok(Left {
+        status,
+        index: index.to_vec(alloc)?,
+        out: out.into_bytes(),
+        err: err.into_bytes(),
+        first: hub.sent(0).to_vec(alloc)?,
+        second: hub.sent(1).to_vec(alloc)?,
+    })
+}
+
+// The status where one of these calls failed.
+fn status_of(calls: Calls) -> u8 {
+    match calls {
+        Calls::Says => 3,
+        Calls::Sends => 0,
+        Calls::Reads | Calls::Writes | Calls::Puts | Calls::Nexts => 6,
+    }
+}
+
+// Where a read failed, whole lines are put; where a send did, the other connection has what it should have.
+fn is_right(calls: Calls, left: &Left, whole: &Left) -> bool {
+    match calls {
+        Calls::Reads => left.out.is_empty() || left.out.as_slice().ends_with(b"\n"),
+        Calls::Sends => {
+            left.begins(whole)
+                && (left.first.as_slice() == whole.first.as_slice()
+                    || left.second.as_slice() == whole.second.as_slice())
+        }
+        Calls::Writes | Calls::Puts | Calls::Says | Calls::Nexts => left.begins(whole),
+    }
+}
+
+// Each of these calls fails in turn, up to a run in which none does. How many runs failed.
+fn fails_in_turn(alloc: Global, words: &[&str], calls: Calls) -> Result<u64, Fail> {
+    let whole = left_at(alloc, words, calls, 0)?;
+    for k in 1..200 {
+        let left = left_at(alloc, words, calls, k)?;
+        if left.is(&whole) {
+            return Ok(k - 1);
+        }
+        if left.status != status_of(calls) || !is_right(calls, &left, &whole) {
+            return Err(Fail::new("something else is left"));
+        }
+    }
+    Err(Fail::new("no run was whole"))
+}
+
+#[test]
+fn each_call_fails_in_turn(rt: HostRuntime) -> Result<(), Fail> {
+    let build: [&str; 3] = ["build", "C", "N"];
+    let replay: [&str; 3] = ["replay", "I", "Q"];
+    let ask: [&str; 3] = ["ask", "C", "Q"];
+    let refused: [&str; 3] = ["ask", "B", "Q"];
+    let serve: [&str; 4] = ["serve", "E", "8080", "2"];
+    for (words, calls) in [
+        (build.as_slice(), Calls::Writes),
+        (&replay, Calls::Reads),
+        (&ask, Calls::Puts),
+        (&serve, Calls::Sends),
+        (&serve, Calls::Nexts),
+        (&refused, Calls::Says),
+    ] {
+        let failed = fails_in_turn(rt.alloc(), words, calls)?;
+        assert!(rt; failed > 0, "of {calls:?}");
+    }
+    Ok(())
+}
+
+const UNREAD: &[u8] =
+    b"HTTP/1.1 500 Internal Server Error\r\nContent-Type: application/json\r\nContent-Length: 16\r\n\r\n{\"error\":\"read\"}";
+
+const ANSWER: &str = concat!(
+    "HTTP/1.1 200 OK\r\nContent-Type: application/json\r\nContent-Length: 151\r\n\r\n",
+    r#"{"completions":[{"docs":2,"word":"type"},{"docs":1,"word":"typed"},{"docs":1,"word":"types"}],"facets":{},"#,
+    r#""hits":[],"total":{"completions":3,"hits":3}}"#,
+);
+
+fn is_twice(sent: &[u8], response: &[u8]) -> bool {
+    sent.len() == 2 * response.len() && sent.starts_with(response) && sent.ends_with(response)
+}
+
+// The status, and what was sent, where all reads from the k-th on fail.
+fn served_without_reads(alloc: Global, k: u64) -> Result<(u8, Vec<u8>), Fail> {
+    let mut files = held(alloc)?;
+    let mut failing = Vec::new(alloc);
+    for call in k..k + 10_000 {
+        failing.push(call)?;
+    }
+    files.fail_reads(failing);
+    let head = b"GET /search?q=typ&h=0 HTTP/1.1\r\n\r\nGET /search?q=typ&h=0 HTTP/1.1\r\n\r\n";
+    let mut events = Seq::new(alloc);
+    events.push(Scripted::Opened)?;
+    events.push(piece(alloc, 0, head)?)?;
+    events.push(Scripted::Ended { conn: 0 })?;
+    let mut hub = ScriptHub::new(alloc, events);
+    let words: [&str; 4] = ["serve", "I", "8080", "1"];
+    let left = super::run_beside(alloc, &words, &mut files, &mut hub)?;
+    Ok((left.status, hub.sent(0).to_vec(alloc)?))
+}
+
+// Opening fails, then the blocks of the first request, and then nothing: the second request is answered from what is kept.
+#[test]
+fn a_second_request_needs_no_read(rt: HostRuntime) -> Result<(), Fail> {
+    let mut is_stopped = false;
+    let mut is_unread = false;
+    for k in 1..200 {
+        let (status, sent) = served_without_reads(rt.alloc(), k)?;
+        if is_twice(&sent, ANSWER.as_bytes()) {
+            assert!(rt; status == 0 && is_stopped && is_unread);
+            return Ok(());
+        }
+        if status == 0 {
+            assert!(rt; is_twice(&sent, UNREAD), "at {k}");
+            is_unread = true;
+        } else {
+            assert!(rt; status == 6 && sent.is_empty(), "at {k}");
+            is_stopped = true;
+        }
+    }
+    Err(Fail::new("no run was whole"))
+}

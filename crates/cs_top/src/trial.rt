@@ -1,0 +1,178 @@
+//! `trial N`: what is typed over the collection of a number is asked, and what came of it is told.
+ghost use Rattle.std.specs.Prelude.{◌≡◌, ◌≤◌, ◌+◌, ◌++◌, ◌∷◌, ◌^◌, [], ℕ, List, All, IfOk, OnOk, Some, length, map, true};
+ghost use Rattle.cs_base.specs.declared.content.query.Query.{Query};
+ghost use Rattle.cs_file.specs.Indexes.{Fits, StandsFor};
+ghost use Rattle.cs_file.specs.Writable.{CanBeWritten};
+ghost use Rattle.cs_model.specs.Parameters.{HoldsLimits};
+ghost use Rattle.cs_model_index.specs.FileRules.{IsIndexFile};
+ghost use Rattle.cs_model_index.specs.Images.{IsImage};
+ghost use Rattle.cs_model_index.specs.Layout.{file};
+ghost use Rattle.cs_model_index.specs.Sections.{file_corpus};
+ghost use Rattle.cs_model_index.specs.declared.limits.TheConstants.{TARGET as BLOCK_ROWS};
+ghost use Rattle.cs_model_trial.specs.Summary.{IsSummary, trial_corpus};
+ghost use Rattle.cs_query.specs.RequestView.{asked};
+ghost use Rattle.cs_top.specs.CommandLine.{CausedBy, is_number};
+ghost use Rattle.cs_top.specs.Met.{wrote};
+ghost use Rattle.cs_top.specs.Trial.{AreFew, HasAsked, HasSizes, TrialEnds, sizes_of, with_reply};
+ghost use Rattle.cs_top.specs.Views.{ended};
+ghost use Rattle.cs_trial.specs.declared.counts.Counts.{Counts};
+ghost use Rattle.cs_trial.specs.declared.lines.TheConstants.{MAX_TRIAL};
+
+use crate::collection::{Imaged, image_of};
+use crate::ending::Stop;
+use crate::opening::open_image;
+use crate::words::trial_of;
+use cs_base::{MemStore, Memory, Plan, Sink};
+use cs_engine::{AskFault, Engine, Note};
+use cs_query::{Reply, Request};
+use cs_trial::{Counts, collection, requests, summary_bytes};
+use std::alloc::Global;
+
+/// Puts the summary of a trial.
+pub(crate) fn trial<'a, O: Sink>(alloc: Global, number: &str, out: &mut O) -> Result<(), Stop<'a>>
+    requires { is_number 4 1000 number.now ≡ true }
+
+    ensures ends { TrialEnds (ended result) number.now (wrote O.written O.faults out.old out.new) }
+    ensures caused { CausedBy (ended result) (O.faults out.old) (O.faults out.new) }
+{
+    let summary = summary_of(alloc, trial_of(number))?;
+    out.put(&summary)?;
+    Ok(())
+}
+
+// The text of the summary of trial `n`.
+fn summary_of(alloc: Global, n: u32) -> Result<Vec<u8>, Memory>
+    requires some { 1 ≤ n }
+    requires most { n ≤ MAX_TRIAL }
+
+    ensures { IfOk result (λ b. IsSummary n b.items) }
+{
+    let requests = requests(alloc, n)?;
+    let Imaged {
+        image,
+        documents,
+        rows,
+    } = imaged(alloc, n)?;
+    let mut counts = sizes(documents, rows, image.heads.len());
+    let (mut engine, mut store) = open_image(alloc, image)?;
+    ask_all(alloc, &mut engine, &mut store, &requests, &mut counts)?;
+    summary_bytes(alloc, &counts)
+}
+
+// The image of the collection of trial `n`.
+fn imaged(alloc: Global, n: u32) -> Result<Imaged, Memory>
+    requires most { n ≤ MAX_TRIAL }
+
+    ensures ok { IfOk result (λ i. IsImage (trial_corpus n) BLOCK_ROWS i.image) }
+    ensures writable { IfOk result (λ i. CanBeWritten i.image) }
+    ensures whole { IfOk result (λ i. IsIndexFile (file i.image) × (file_corpus (file i.image) ≡ trial_corpus n)) }
+    ensures sizes { IfOk result (λ i. HasSizes (trial_corpus n) i.documents i.rows) }
+{
+    let bytes = collection(alloc, n)?;
+    match image_of(alloc, &bytes) {
+        Ok(imaged) => Ok(imaged),
+        Err(_) => Err(Memory),
+    }
+}
+
+// What is counted before anything is asked.
+fn sizes(documents: usize, rows: usize, blocks: usize) -> Counts
+    ensures { result ≡ record { documents = documents; rows = rows; blocks = blocks; replies = 0; hits = 0; same = 0; narrow = 0; extend = 0; fresh = 0 } }
+{
+    Counts {
+        documents: documents as u64,
+        rows: rows as u64,
+        blocks: blocks as u64,
+        replies: 0,
+        hits: 0,
+        same: 0,
+        narrow: 0,
+        extend: 0,
+        fresh: 0,
+    }
+}
+
+// Asks one request after the other, and counts the replies.
+fn ask_all(
+    alloc: Global,
+    engine: &mut Engine,
+    store: &mut MemStore,
+    requests: &[Request],
+    counts: &mut Counts,
+) -> Result<(), Memory>
+    requires limits { All (λ r. HoldsLimits (asked r)) requests.now }
+    requires stands { StandsFor store.old.bytes engine.old.index }
+    requires fits { Fits (Some store.old.bytes) engine.old.index }
+    requires few { length requests.now ≤ 2 ^ 16 }
+    requires none { AreFew 0 counts.old }
+
+    ensures asked { HasAsked store.old.bytes [] engine.old counts.old → OnOk result (HasAsked store.old.bytes (map (λ r. r.query) requests.now) engine.new counts.new) }
+    ensures sizes { OnOk result (sizes_of counts.new ≡ sizes_of counts.old) }
+{
+    for request in requests {
+        ask_one(alloc, engine, store, request, counts)?;
+    }
+    Ok(())
+}
+
+// Asks a request, and counts its reply.
+fn ask_one(
+    alloc: Global,
+    engine: &mut Engine,
+    store: &mut MemStore,
+    request: &Request,
+    counts: &mut Counts,
+) -> Result<(), Memory>
+    requires limits { HoldsLimits (asked request.now) }
+    requires stands { StandsFor store.old.bytes engine.old.index }
+    requires fits { Fits (Some store.old.bytes) engine.old.index }
+    requires few { AreFew (2 ^ 16) counts.old }
+
+    ensures asked { (qs : List Query) → HasAsked store.old.bytes qs engine.old counts.old → OnOk result (HasAsked store.new.bytes (qs ++ request.now.query ∷ []) engine.new counts.new) }
+    ensures few { (n : ℕ) → AreFew n counts.old → OnOk result (AreFew (n + 1) counts.new) }
+    ensures sizes { OnOk result (sizes_of counts.new ≡ sizes_of counts.old) }
+    ensures index { engine.new.index ≡ engine.old.index }
+    ensures bytes { store.new.bytes ≡ store.old.bytes }
+{
+    let (reply, note) = answer(alloc, engine, store, request)?;
+    count(counts, note.plan, reply.total_hits);
+    Ok(())
+}
+
+// The reply to a request, and how it was answered. A store in memory is never read in vain.
+fn answer(
+    alloc: Global,
+    engine: &mut Engine,
+    store: &mut MemStore,
+    request: &Request,
+) -> Result<(Reply, Note), Memory>
+    requires limits { HoldsLimits (asked request.now) }
+    requires stands { StandsFor store.old.bytes engine.old.index }
+    requires fits { Fits (Some store.old.bytes) engine.old.index }
+
+    ensures asked { (qs : List Query) → (c : Counts) → HasAsked store.old.bytes qs engine.old c → IfOk result (λ r. HasAsked store.new.bytes (qs ++ request.now.query ∷ []) engine.new (with_reply r.1.plan r.0.total_hits c)) }
+    ensures index { engine.new.index ≡ engine.old.index }
+    ensures bytes { store.new.bytes ≡ store.old.bytes }
+{
+    match engine.ask(alloc, store, request) {
+        Ok(answer) => Ok(answer),
+        Err(AskFault::Memory) => Err(Memory),
+        Err(AskFault::Read | AskFault::Changed { .. }) => unreachable!(),
+    }
+}
+
+// Counts a reply.
+fn count(counts: &mut Counts, plan: Plan, hits: u32)
+    requires { AreFew (2 ^ 16) counts.old }
+
+    ensures { counts.new ≡ with_reply plan hits counts.old }
+{
+    counts.replies += 1;
+    counts.hits += u64::from(hits);
+    match plan {
+        Plan::Same => counts.same += 1,
+        Plan::Narrow { .. } => counts.narrow += 1,
+        Plan::Extend => counts.extend += 1,
+        Plan::Fresh => counts.fresh += 1,
+    }
+}
