@@ -15,3 +15,5 @@ pub mod WordsLemmas
 pub mod StepLemmas
 pub mod EvaluationLemmas
 pub mod AnsweringLemmas
+pub mod AlikeLemmas
+pub mod CountingLemmas

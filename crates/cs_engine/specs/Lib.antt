@@ -1,4 +1,5 @@
 pub mod Asking
+pub mod Counting
 pub mod Keeping
 pub mod Reading
 pub mod Searching

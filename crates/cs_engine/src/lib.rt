@@ -8,6 +8,7 @@ mod answering;
 mod atoms;
 mod building;
 mod corpus;
+mod counting;
 mod engine;
 mod entries;
 mod evaluation;
