@@ -34,8 +34,8 @@ use Rattle.cs_tables.specs.declared.tables.Completion.{Completion as Numbered}
 use Rattle.cs_tables.specs.Listings.{table}
 use Rattle.cs_engine.specs.Reading.{stock_of, AreWithin, IsWithin, HasRows}
 use Rattle.cs_engine.specs.Steps.{AreFound, IsBaseOf, IsHitOf}
-use Rattle.cs_engine.specs.Stocked.{corpus_in, docs_in, facet_at, listed, named_rows, rows_at, shown_at}
-use Rattle.cs_engine.specs.declared.stock.Stock.{Stock}
+use Rattle.cs_model_index.specs.Numbered.{rows_at}
+use Rattle.cs_engine.specs.Stocked.{Stock, corpus_in, docs_in, facet_at, base_hits, named_rows, shown_at}
 use Rattle.cs_engine.proofs.FoundLemmas.{docs_rise}
 use Rattle.cs_engine.proofs.ReplyLemmas.{facet_kept, first_there, reply_made, table_total, titled, words_shown}
 use Rattle.cs_engine.proofs.StepLemmas.{listed_in, listed_told}
@@ -57,10 +57,10 @@ module _ (i : IndexView) (is : IsIndex i) where
   pub first_in : (posts : List Post) → AreWithin i posts → (cut : ℕ) (first : List Numbered) → first ≡ take cut (table posts) → All (λ c. c.word < length i.words) first
   first_in posts w cut first are = first_there i.words is.ascending posts (words_there posts w) cut first are
 
-  pub shown_in : (bound : ℕ) (b : Base) (n : ℕ) (all : List Scored) (o h : ℕ) → n ≡ i.docs → all ≡ listed n b → IsBaseOf i.docs bound b → (first : List Scored) → first ≡ take h (drop o (members_in by_rank all)) → All (λ h. h.doc < i.docs) first
+  pub shown_in : (bound : ℕ) (b : Base) (n : ℕ) (all : List Scored) (o h : ℕ) → n ≡ i.docs → all ≡ base_hits n b → IsBaseOf i.docs bound b → (first : List Scored) → first ≡ take h (drop o (members_in by_rank all)) → All (λ h. h.doc < i.docs) first
   shown_in bound b n all o h same are fits first is_first =
       let P : Scored → Type 0 = λ h. h.doc < i.docs in
-      let each : All P all = subst (All P) (sym (are ∙ ap (λ m. listed m b) same)) (All-weaker (IsHitOf i.docs bound) P (λ x at. at.doc) (listed i.docs b) (listed_in i.docs bound b fits).1) in
+      let each : All P all = subst (All P) (sym (are ∙ ap (λ m. base_hits m b) same)) (All-weaker (IsHitOf i.docs bound) P (λ x at. at.doc) (base_hits i.docs b) (listed_in i.docs bound b fits).1) in
       subst (All P) (sym is_first) (All-take P h (drop o (members_in by_rank all)) (All-drop P o (members_in by_rank all) (All-members by_rank by_rank_total by_rank_exact P all each)))
 
   ascend_few : (lo n d : ℕ) (ds : List ℕ) → lo ≤ d → AreDocs (d ∷ ds) → AllByRecursion (λ x. x < n) (d ∷ ds) → length (d ∷ ds) + lo ≤ n
@@ -75,13 +75,13 @@ module _ (i : IndexView) (is : IsIndex i) where
   docs_few n [] up h = omega arith
   docs_few n (d ∷ ds) up h = let few = ascend_few 0 n d ds (omega arith) up (recursion_from_All (λ x. x < n) (d ∷ ds) h) in omega (arith, few)
 
-  pub hits_few : (bound : ℕ) (b : Base) (n : ℕ) (all : List Scored) → n ≡ i.docs → all ≡ listed n b → IsBaseOf i.docs bound b → length all ≤ 2 ^ 20
+  pub hits_few : (bound : ℕ) (b : Base) (n : ℕ) (all : List Scored) → n ≡ i.docs → all ≡ base_hits n b → IsBaseOf i.docs bound b → length all ≤ 2 ^ 20
   hits_few bound b n all same are fits =
-      let ls = listed i.docs b in
+      let ls = base_hits i.docs b in
       let in_all = listed_in i.docs bound b fits in
       let few = docs_few i.docs (map (λ h. h.doc) ls) (docs_rise ls in_all.0) (All-map (λ d. d < i.docs) (λ h. h.doc) ls (All-weaker (IsHitOf i.docs bound) (λ h. h.doc < i.docs) (λ x at. at.doc) ls in_all.1)) in
       let most = is.few_docs in
-      omega (arith, few, most, length-map ls (λ (h : Scored). h.doc), ap length (are ∙ ap (λ m. listed m b) same))
+      omega (arith, few, most, length-map ls (λ (h : Scored). h.doc), ap length (are ∙ ap (λ m. base_hits m b) same))
 
 module _ (b : List ℕ) (i : IndexView) (stands : StandsFor b i) (is : IsIndex i) where
   abbrev s : Stock
@@ -114,13 +114,13 @@ module _ (b : List ℕ) (i : IndexView) (stands : StandsFor b i) (is : IsIndex i
       → h ≡ map (hit_shown (corpus_in s)) (take r.hits (drop r.offset (members_in by_rank all)))
       → tc ≡ length (table posts)
       → th ≡ length all
-      → (n : ℕ) → n ≡ i.docs → all ≡ listed n hits
+      → (n : ℕ) → n ≡ i.docs → all ≡ base_hits n hits
       → ◌≡◌ {A = Reply} (record { completions = c; facets = f; hits = h; total_completions = tc; total_hits = th }) (reply_of (corpus_in s) r)
   reply_told r hits posts found w c f h tc th all c_is f_is h_is tc_is th_is n docs are =
       let k = corpus_in s in
       let ps = parts_of k r.query in
-      let here : all ≡ listed (length s.titles) hits = are ∙ ap (λ m. listed m hits) (docs ∙ docs_are b i stands is) in
-      let lists : listed (length s.titles) hits ≡ scored_hits k ps = listed_told s (length s.titles) hits refl ∙ ap (kept.listed k) found.base ∙ listed_base k ps in
+      let here : all ≡ base_hits (length s.titles) hits = are ∙ ap (λ m. base_hits m hits) (docs ∙ docs_are b i stands is) in
+      let lists : base_hits (length s.titles) hits ≡ scored_hits k ps = listed_told s (length s.titles) hits refl ∙ ap (kept.listed k) found.base ∙ listed_base k ps in
       reply_made s (stocked b i stands is) ps hits posts lists found.rows r refl c f h tc th
       c_is f_is (h_is ∙ ap (λ hs. map (hit_shown k) (take r.hits (drop r.offset (members_in by_rank hs)))) here)
       (tc_is ∙ total_told posts w) (th_is ∙ ap length here)

@@ -1,4 +1,4 @@
--- The rows of an atom are those whose words have numbers from one number up to another.
+-- The rows of words that pass a test are those whose words have numbers from one number up to another.
 --
 --   span_word        one word
 --   span_none        no word
@@ -18,13 +18,9 @@ use Rattle.std.proofs.lemmas.List.Elements.{All-filter, All-contains_itself, rec
 use Rattle.std.proofs.lemmas.List.Kept.{IsStrictlySortedBy-filter}
 use Rattle.cs_base.specs.content.Orders.{by_place}
 use Rattle.cs_base.specs.declared.content.doc.Post.{Post}
-use Rattle.cs_base.specs.declared.content.query.Atom.{Atom}
-use Rattle.cs_model.specs.Answers.{rows_of_atom}
 use Rattle.cs_vocab.specs.Ranges.{IsWordAt}
-use Rattle.cs_engine.specs.Searching.{atom_has_join}
-use Rattle.cs_engine.specs.Stocked.{word_at, row_of, rows_at, corpus_in, IsKnown, IsStocked, IsPicked, IsSpan, is_between, atom_test}
-use Rattle.cs_engine.specs.declared.stock.Stock.{Stock}
-use Rattle.cs_engine.proofs.FoldsLemmas.{atom_rows-is}
+use Rattle.cs_model_index.specs.Numbered.{word_at, row_of, rows_at}
+use Rattle.cs_engine.specs.Stocked.{Stock, IsKnown, IsStocked, IsPicked, IsSpan, is_between}
 use Rattle.cs_base.proofs.MembersLemmas.{all_then}
 use Rattle.cs_base.proofs.NameMaps.{name_itself, name_sym}
 use Rattle.cs_vocab.proofs.RangesLemmas.{three_ways}
@@ -67,15 +63,11 @@ span_rows ws test lo hi posts span known =
 pub words_known : (s : Stock) (posts : List Post) → All (IsKnown s) posts → AllByRecursion (λ p. p.word < length s.words) posts
 words_known s posts h = all_then (IsKnown s) (λ p. p.word < length s.words) (λ p k. k.word) posts (recursion_from_All (IsKnown s) posts h)
 
-pub atom_found : (s : Stock) (a : Atom) (lo hi : ℕ) (found : List Post) → IsStocked s → atom_has_join a ≡ false → IsSpan s.words (atom_test a) lo hi → found ≡ filter (is_between lo hi) s.posts.posts → rows_at s.words found ≡ rows_of_atom (corpus_in s) a
-atom_found s a lo hi found kept plain span is =
-    ap (rows_at s.words) is ∙ span_rows s.words (atom_test a) lo hi s.posts.posts span (words_known s s.posts.posts kept.known) ∙ sym (atom_rows-is (corpus_in s) a plain)
-
-pub picked_between : (s : Stock) (p : Post → Bool) (found : List Post) → IsStocked s → found ≡ filter p s.posts.posts → IsPicked s found
+pub picked_between : (s : Stock) (p : Post → Bool) (found : List Post) → IsStocked s → found ≡ filter p s.posts → IsPicked s found
 picked_between s p found kept is =
     subst (IsPicked s) (sym is) (record {
-      sorted = IsStrictlySortedBy-filter by_place p s.posts.posts kept.sorted;
-      among = All-filter p (Contains s.posts.posts) s.posts.posts (All-contains_itself s.posts.posts);
+      sorted = IsStrictlySortedBy-filter by_place p s.posts kept.sorted;
+      among = All-filter p (Contains s.posts) s.posts (All-contains_itself s.posts);
     })
 
 -- what is picked, and then picked again by a test
@@ -83,7 +75,7 @@ pub picked_again : (s : Stock) (p : Post → Bool) (posts found : List Post) →
 picked_again s p posts found picked is =
     subst (IsPicked s) (sym is) (record {
       sorted = IsStrictlySortedBy-filter by_place p posts picked.sorted;
-      among = All-filter p (Contains s.posts.posts) posts picked.among;
+      among = All-filter p (Contains s.posts) posts picked.among;
     })
 
 -- ---- counting

@@ -260,27 +260,27 @@ module _ (b : List ℕ) (i : IndexView) (stands : StandsFor b i) (is : IsIndex i
   flat_twice p q [] = refl
   flat_twice p q (b ∷ bs) = ap₂ (λ x y. x ++ y) (filter_twice p q b) (flat_twice p q bs) ∙ sym (filter-append q (filter p b) (flat_map (filter p) bs))
 
-  pub table_told : (first last lo hi : ℕ) (listed : List Bool) → AreMet i.heads lo hi first last → table (counted_rows blocks first last lo hi listed) ≡ table (filter (in_listed listed) (filter (is_between lo hi) (stock_of b).posts.posts))
+  pub table_told : (first last lo hi : ℕ) (listed : List Bool) → AreMet i.heads lo hi first last → table (counted_rows blocks first last lo hi listed) ≡ table (filter (in_listed listed) (filter (is_between lo hi) (stock_of b).posts))
   table_told first last lo hi listed met =
       let p = is_between lo hi in
       let q = in_listed listed in
       let all = image_posts (image_of b) in
       let whole : counted_rows blocks first last lo hi listed ≡ filter q (filter p all) = flat_twice p q (take (last - first) (drop first blocks)) ∙ ap (filter q) (sym (posts_between b i stands is lo hi first last met)) in
       ap table whole
-      ∙ table_alike (filter q (filter p all)) (filter q (filter p (stock_of b).posts.posts))
+      ∙ table_alike (filter q (filter p all)) (filter q (filter p (stock_of b).posts))
       (λ t. any_filter t q (filter p all) ∙ any_filter (λ x. q x && t x) p all
       ∙ sym (any_listed by_post by_post_total by_post_exact (λ x. p x && (q x && t x)) all)
-      ∙ sym (any_filter t q (filter p (stock_of b).posts.posts) ∙ any_filter (λ x. q x && t x) p (stock_of b).posts.posts))
+      ∙ sym (any_filter t q (filter p (stock_of b).posts) ∙ any_filter (λ x. q x && t x) p (stock_of b).posts))
 
   -- the posts that are read of an index file are in its range
-  pub stock_within : AreWithin i (stock_of b).posts.posts
+  pub stock_within : AreWithin i (stock_of b).posts
   stock_within =
       let st = stocked b i stands is in
       let docs = docs_are b i stands is in
       let words = ap length (words_are b i stands is) in
       record {
         sorted = st.sorted;
-        within = All-weaker (IsKnown (stock_of b)) (IsWithin i.docs (length i.words)) (λ x h. let doc = h.doc in let word = h.word in record { doc = omega (arith, doc, docs); word = omega (arith, word, words); score = h.score }) (stock_of b).posts.posts st.known;
+        within = All-weaker (IsKnown (stock_of b)) (IsWithin i.docs (length i.words)) (λ x h. let doc = h.doc in let word = h.word in record { doc = omega (arith, doc, docs); word = omega (arith, word, words); score = h.score }) (stock_of b).posts st.known;
       }
 
   pub listed_kept : (base : Base) (listed : List Bool) (posts : List Post) → AreListed i.docs base listed → AreWithin i posts → filter (in_listed listed) posts ≡ keep_docs posts (docs_in i.docs base)
@@ -290,14 +290,14 @@ module _ (b : List ℕ) (i : IndexView) (stands : StandsFor b i) (is : IsIndex i
 
   -- the posts that a facet counts
   abbrev facet_posts : ℕ → ℕ → List Bool → List Post
-  facet_posts lo hi listed = filter (in_listed listed) (filter (is_between lo hi) (stock_of b).posts.posts)
+  facet_posts lo hi listed = filter (in_listed listed) (filter (is_between lo hi) (stock_of b).posts)
 
   -- what is shown of them is the facet's table
   pub facet_counted : (base : Base) (cut : ℕ) (name copied prefix : List ℕ) (lo hi : ℕ) (listed : List Bool) (ws : List (List ℕ)) (first : List Numbered) (shown : List Shown) → copied ≡ name → prefix ≡ named name [] → IsRange i.words prefix lo hi → AreListed i.docs base listed
       → ws ≡ i.words → first ≡ take cut (table (facet_posts lo hi listed)) → shown ≡ map (shown_at ws) first → ◌≡◌ {A = FacetShown} (record { name = copied; table = shown }) (facet_at (stock_of b) base cut name)
   facet_counted base cut name copied prefix lo hi listed ws first shown same prefix_is range has words first_is shown_is =
-      let asked = filter (is_between lo hi) (stock_of b).posts.posts in
-      let within = kept_within i (is_between lo hi) (stock_of b).posts.posts stock_within in
+      let asked = filter (is_between lo hi) (stock_of b).posts in
+      let within = kept_within i (is_between lo hi) (stock_of b).posts stock_within in
       let own = subst (λ p. IsRange i.words p lo hi) prefix_is range in
       let rows = span_found b i stands is (begins (named name [])) lo hi own.holds asked refl in
       let kept = listed_kept base listed asked has within in

@@ -48,8 +48,8 @@ use Rattle.cs_model_kept.specs.Entries as kept
 use Rattle.cs_model_kept.proofs.EntryLemmas.{ends_more, extended_is, hits_are, listed_base, parts_read}
 use Rattle.cs_engine.specs.Reading.{AreWithin, HasRows}
 use Rattle.cs_engine.specs.Steps.{IsStep, docs_after, posts_hits}
-use Rattle.cs_engine.specs.Stocked.{corpus_in, docs_in, linked_posts, rows_at, IsKnown, IsPicked, IsStocked}
-use Rattle.cs_engine.specs.declared.stock.Stock.{Stock}
+use Rattle.cs_model_index.specs.Numbered.{rows_at}
+use Rattle.cs_engine.specs.Stocked.{Stock, corpus_in, docs_in, linked_posts, IsKnown, IsPicked, IsStocked}
 use Rattle.cs_engine.proofs.AtomsLemmas.{picked_again}
 use Rattle.cs_engine.proofs.ReadingLemmas.{kept_within}
 use Rattle.cs_engine.proofs.FoldsLemmas.{part_rows-is}

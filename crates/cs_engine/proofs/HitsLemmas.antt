@@ -1,39 +1,37 @@
--- Hits, scores and pairs of one more part.
+-- Hits and pairs of one more part.
 --
 --   hits_more         the hits of one more part, among those so far
 --   kept_pairs        the rows of one more positive part in the hits so far are the pairs
---   positive_hits     the hits of one more positive part with their scores
---   excluded_hits     the hits that one more excluded part leaves
-use Rattle.std.proofs.Common.{◌≡◌, ℕ, ◌+◌, ◌==◌, ◌&&◌, ◌||◌, max, Bool, true, false, true≢false, not, List, [], ◌∷◌, ◌++◌, length, map, get_or, cond, refl, sym, ◌∙◌, ap, subst, if◌then◌else◌}
-use Rattle.std.specs.Prelude.{Some, filter, sum, find, fold}
-use Rattle.std.specs.Option.{option_map, unwrap_or}
-use Rattle.std.specs.List.{All, AllByRecursion, list_any, list_all, range_with_len}
+--   hits_positive, hits_excluded      the hits that one more part leaves
+--   kept_docs         the documents of the rows in the hits so far
+--   listed_docs       a base that lists the hits so far has their documents
+use Rattle.std.proofs.Common.{◌≡◌, ℕ, ◌==◌, ◌&&◌, ◌||◌, max, Bool, true, false, not, List, [], ◌∷◌, ◌++◌, length, map, get_or, refl, sym, ◌∙◌, ap, subst, if◌then◌else◌}
+use Rattle.std.specs.Prelude.{filter}
+use Rattle.std.specs.List.{All, AllByRecursion, list_any, list_all}
 use Rattle.std.specs.List.Sorted.{IsStrictlySortedBy}
 use Rattle.std.specs.Ordering.{nat_cmp, eq_by_cmp}
 use Rattle.std.specs.Cmp.{nat_cmp_total}
 use Rattle.std.specs.FinMap.{nat_cmp-IsAntisymmetric, keys}
 use Rattle.std.proofs.Math.Bool.{and_comm}
-use Rattle.std.proofs.lemmas.List.{map-append}
-use Rattle.std.proofs.lemmas.List.Sums.{fold-append}
-use Rattle.std.proofs.lemmas.List.Elements.{All-filter, filter-append, recursion_from_All}
+use Rattle.std.proofs.lemmas.List.Elements.{recursion_from_All}
 use Rattle.std.proofs.lemmas.List.Folds.{list_any_at, list_all-append}
 use Rattle.std.proofs.lemmas.List.Kept.{IsStrictlySortedBy-filter}
 use Rattle.std.proofs.lemmas.Map.Views.{any-filter_same}
 use Rattle.cs_base.specs.content.Orders.{AreDocs, docs_of}
 use Rattle.cs_base.specs.declared.content.doc.Base.{Base}
-use Rattle.cs_base.specs.declared.content.doc.Base.TheVariants as base
 use Rattle.cs_base.specs.declared.content.doc.Post.{Post}
 use Rattle.cs_base.specs.declared.content.doc.Scored.{Scored}
 use Rattle.cs_base.proofs.MembersLemmas.{all_then, members_are}
 use Rattle.cs_meet.specs.Filters.{keep_docs, drop_docs, is_of}
 use Rattle.cs_meet.specs.Filters as meet
-use Rattle.cs_model.specs.Answers.{PartRows, in_doc, is_listed, agrees, hits, pairs, last_rows, greatest_score, score, scored}
+use Rattle.cs_model.specs.Answers.{PartRows, in_doc, is_listed, agrees, hits, pairs, last_rows, greatest_score, scored}
 use Rattle.cs_model.specs.Corpus.{Corpus}
-use Rattle.cs_rank.specs.DocScores.{greatest, of_doc, best_row, base_score, with_base, scores}
-use Rattle.cs_engine.specs.Stocked.{row_of, rows_at, corpus_in, listed, docs_in, scored_hits}
-use Rattle.cs_engine.specs.declared.stock.Stock.{Stock}
+use Rattle.cs_rank.specs.DocScores.{greatest}
+use Rattle.cs_model_index.specs.Numbered.{row_of, rows_at}
+use Rattle.cs_model_kept.specs.Entries.{scored_hits}
+use Rattle.cs_engine.specs.Stocked.{Stock, corpus_in, base_hits, docs_in}
 use Rattle.cs_engine.proofs.VocabLemmas.{filter_through, filter_alike, any_through}
-use Rattle.cs_engine.proofs.ListsLemmas.{all_of, map_alike, filter_twice, and_true, same_number, itself, number_tie, own_members, any_tie, keys_numbered, range_rises}
+use Rattle.cs_engine.proofs.ListsLemmas.{all_of, filter_twice, and_true, same_number, itself, number_tie, any_tie, keys_numbered, range_rises}
 
 -- ---- one more part
 
@@ -50,71 +48,15 @@ last_more [] p = refl
 last_more (a ∷ []) p = refl
 last_more (a ∷ b ∷ done) p = last_more (b ∷ done) p
 
--- what a part adds to a score
-abbrev gives : ℕ → PartRows → ℕ
-gives d p = greatest_score (filter (in_doc d) p.rows)
-
-score_split : (d : ℕ) (done : List PartRows) (p : PartRows) → score (done ++ p ∷ []) d ≡ fold ◌+◌ (score done d) (map (gives d) (cond (not p.excluded) (p ∷ []) []))
-score_split d done p =
-    let positive : PartRows → Bool = λ p. not p.excluded in
-    ap (λ xs. sum (map (gives d) xs)) (filter-append positive done (p ∷ []))
-    ∙ ap sum (map-append (gives d) (filter positive done) (filter positive (p ∷ [])))
-    ∙ fold-append ◌+◌ 0 (map (gives d) (filter positive done)) (map (gives d) (filter positive (p ∷ [])))
-
-score_positive : (d : ℕ) (done : List PartRows) (p : PartRows) → p.excluded ≡ false → score (done ++ p ∷ []) d ≡ score done d + gives d p
-score_positive d done p e = score_split d done p ∙ ap (λ b. fold ◌+◌ (score done d) (map (gives d) (cond (not b) (p ∷ []) []))) e
-
-score_excluded : (d : ℕ) (done : List PartRows) (p : PartRows) → p.excluded ≡ true → score (done ++ p ∷ []) d ≡ score done d
-score_excluded d done p e = score_split d done p ∙ ap (λ b. fold ◌+◌ (score done d) (map (gives d) (cond (not b) (p ∷ []) []))) e
-
 -- ---- posts and documents
 
 pub own_docs : (f : ℕ → Scored) → ((d : ℕ) → (f d).doc ≡ d) → (ds : List ℕ) → map (λ h. h.doc) (map f ds) ≡ ds
 own_docs f h [] = refl
 own_docs f h (d ∷ ds) = ap (λ x. x ∷ map (λ h. h.doc) (map f ds)) (h d) ∙ ap (λ l. d ∷ l) (own_docs f h ds)
 
-find_own : (f : ℕ → Scored) → ((d : ℕ) → (f d).doc ≡ d) → (ds : List ℕ) (d : ℕ) → list_any (λ e. e == d) ds ≡ true → find (λ h. h.doc == d) (map f ds) ≡ Some (f d)
-find_own f h [] d m = absurd (true≢false (sym m))
-find_own f h (x ∷ ds) d m =
-    ap (λ y. cond (y == d) (Some (f x)) (find (λ h. h.doc == d) (map f ds))) (h x)
-    ∙ elim (x == d) as (λ b. x == d ≡ b → (b || list_any (λ e. e == d) ds) ≡ true → cond b (Some (f x)) (find (λ h. h.doc == d) (map f ds)) ≡ Some (f d)) [
-      | true ↦ λ e _. ap (λ y. Some (f y)) (same_number x d e)
-      | false ↦ λ e r. find_own f h ds d r
-    ] refl m
-
-zero_found : (ds : List ℕ) (d : ℕ) → unwrap_or (option_map (λ (h : Scored). h.score) (find (λ h. h.doc == d) (map (λ d. record { doc = d; score = 0 }) ds))) 0 ≡ 0
-zero_found [] d = refl
-zero_found (x ∷ ds) d =
-    elim (x == d) as (λ b. unwrap_or (option_map (λ (h : Scored). h.score) (cond b (Some (record { doc = x; score = 0 })) (find (λ h. h.doc == d) (map (λ d. record { doc = d; score = 0 }) ds)))) 0 ≡ 0) [
-      | true ↦ refl
-      | false ↦ zero_found ds d
-    ]
-
-base_listed : (n : ℕ) (b : Base) (d : ℕ) → base_score b d ≡ base_score (base.Listed (listed n b)) d
-base_listed n base.All d = sym (zero_found (range_with_len 0 n) d)
-base_listed n (base.Listed hs) d = refl
-
 pub greatest_of : (ws : List (List ℕ)) (ps : List Post) → greatest (map (λ p. p.score) ps) ≡ greatest_score (rows_at ws ps)
 greatest_of ws [] = refl
 greatest_of ws (p ∷ ps) = ap (max p.score) (greatest_of ws ps)
-
--- the rows of a listed document are all kept
-kept_of_doc : (ds : List ℕ) (d : ℕ) (rows : List Post) → list_any (λ e. e == d) ds ≡ true → of_doc d (keep_docs rows ds) ≡ of_doc d rows
-kept_of_doc ds d [] m = refl
-kept_of_doc ds d (r ∷ rows) m =
-    elim (r.doc == d) as (λ b. r.doc == d ≡ b → filter (λ p. p.doc == d) (cond (list_any (meet.in_doc r) ds) (r ∷ keep_docs rows ds) (keep_docs rows ds)) ≡ cond b (r ∷ of_doc d rows) (of_doc d rows)) [
-      | true ↦ λ e.
-          let same : r.doc ≡ d = same_number r.doc d e in
-          let is : list_any (meet.in_doc r) ds ≡ true = ap (λ x. list_any (λ y. y == x) ds) same ∙ m in
-          ap (λ b. filter (λ p. p.doc == d) (cond b (r ∷ keep_docs rows ds) (keep_docs rows ds))) is
-          ∙ ap (λ b. cond b (r ∷ of_doc d (keep_docs rows ds)) (of_doc d (keep_docs rows ds))) e ∙ ap (λ l. r ∷ l) (kept_of_doc ds d rows m)
-      | false ↦ λ e.
-          passed (list_any (meet.in_doc r) ds) r rows e ∙ kept_of_doc ds d rows m
-    ] refl
-  where
-    passed : (b : Bool) (r : Post) (rows : List Post) → r.doc == d ≡ false → filter (λ p. p.doc == d) (cond b (r ∷ keep_docs rows ds) (keep_docs rows ds)) ≡ of_doc d (keep_docs rows ds)
-    passed true r rows e = ap (λ b. cond b (r ∷ of_doc d (keep_docs rows ds)) (of_doc d (keep_docs rows ds))) e
-    passed false r rows e = refl
 
 module _ (ws : List (List ℕ)) (posts : List Post) where
   -- a document has a row where it has a post
@@ -182,42 +124,6 @@ module _ (s : Stock) (done : List PartRows) (p : PartRows) (posts : List Post) (
       ∙ filter_through (row_of s.words) (λ r. is_listed now r.doc) posts
       ∙ ap (filter (λ r. is_listed now r.doc)) (is ∙ sym (last_more done p ∙ ap (λ b. if b then [] else p.rows) e))
 
-  pub no_pairs : p.excluded ≡ true → [] ≡ pairs k (done ++ p ∷ [])
-  no_pairs e = sym (ap (filter (λ r. is_listed (hits k (done ++ p ∷ [])) r.doc)) (last_more done p ∙ ap (λ b. if b then [] else p.rows) e))
-
-  module _ (b : Base) (lists : listed (length s.titles) b ≡ scored_hits k done) where
+  module _ (b : Base) (lists : base_hits (length s.titles) b ≡ scored_hits k done) where
     pub listed_docs : docs_in (length s.titles) b ≡ ds
     listed_docs = ap (map (λ h. h.doc)) lists ∙ own_docs (scored done) (λ d. refl) ds
-
-    score_so_far : (d : ℕ) → list_any (λ e. e == d) ds ≡ true → base_score b d ≡ score done d
-    score_so_far d m =
-        base_listed (length s.titles) b d ∙ ap (λ hs. base_score (base.Listed hs) d) lists
-        ∙ ap (λ o. unwrap_or (option_map (λ (h : Scored). h.score) o) 0) (find_own (scored done) (λ d. refl) ds d m)
-
-    pub positive_hits : p.excluded ≡ false → scores b (keep_docs posts (docs_in (length s.titles) b)) ≡ scored_hits k (done ++ p ∷ [])
-    positive_hits e =
-        let t : ℕ → Bool = λ d. list_any (in_doc d) (rows_at s.words posts) in
-        let kept = keep_docs posts ds in
-        let one : (d : ℕ) → list_any (λ e. e == d) ds ≡ true → with_base b (best_row kept d) ≡ scored (done ++ p ∷ []) d = λ d m.
-        let best : greatest (map (λ p. p.score) (of_doc d kept)) ≡ gives d p =
-        ap (λ ps. greatest (map (λ p. p.score) ps)) (kept_of_doc ds d posts m) ∙ greatest_of s.words (of_doc d posts)
-        ∙ ap greatest_score (filter_through (row_of s.words) (in_doc d) posts) ∙ ap (λ rows. greatest_score (filter (in_doc d) rows)) is in
-        ap (λ (n : ℕ). let h : Scored = record { doc = d; score = n + greatest (map (λ p. p.score) (of_doc d kept)) } in h) (score_so_far d m)
-        ∙ ap (λ (n : ℕ). let h : Scored = record { doc = d; score = score done d + n } in h) best
-        ∙ ap (λ (n : ℕ). let h : Scored = record { doc = d; score = n } in h) (sym (score_positive d done p e)) in
-        let members : AllByRecursion (λ d. list_any (λ e. e == d) ds ≡ true) (filter t ds) =
-        recursion_from_All (λ d. list_any (λ e. e == d) ds ≡ true) (filter t ds) (All-filter t (λ d. list_any (λ e. e == d) ds ≡ true) ds (own_members ds)) in
-        ap (λ xs. scores b (keep_docs posts xs)) listed_docs
-        ∙ ap (map (λ d. with_base b (best_row kept d))) (kept_docs s.words posts ds (ds_rise s done))
-        ∙ map_alike (λ d. with_base b (best_row kept d)) (scored (done ++ p ∷ [])) (filter t ds) (all_then (λ d. list_any (λ e. e == d) ds ≡ true) (λ d. with_base b (best_row kept d) ≡ scored (done ++ p ∷ []) d) one (filter t ds) members)
-        ∙ ap (map (scored (done ++ p ∷ []))) (sym (hits_positive e))
-
-    pub excluded_hits : p.excluded ≡ true → drop_docs (listed (length s.titles) b) posts ≡ scored_hits k (done ++ p ∷ [])
-    excluded_hits e =
-        let t : ℕ → Bool = λ d. not (list_any (in_doc d) (rows_at s.words posts)) in
-        let u : ℕ → Bool = λ d. not (list_any (is_of (scored done d)) posts) in
-        ap (λ hs. drop_docs hs posts) lists
-        ∙ sym (filter_through (scored done) (λ h. not (list_any (is_of h) posts)) ds)
-        ∙ ap (map (scored done)) (filter_alike u t ds (all_of (λ d. u d ≡ t d) (λ d. ap not (sym (has_post s.words posts d))) ds))
-        ∙ map_alike (scored done) (scored (done ++ p ∷ [])) (filter t ds) (all_of (λ d. scored done d ≡ scored (done ++ p ∷ []) d) (λ d. ap (λ (n : ℕ). let h : Scored = record { doc = d; score = n } in h) (sym (score_excluded d done p e))) (filter t ds))
-        ∙ ap (map (scored (done ++ p ∷ []))) (sym (hits_excluded e))

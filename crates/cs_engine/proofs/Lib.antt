@@ -1,5 +1,4 @@
 pub mod AtomsLemmas
-pub mod BuildingLemmas
 pub mod ColonLemmas
 pub mod FoldsLemmas
 pub mod FoundLemmas

@@ -29,8 +29,7 @@ use Rattle.cs_meet.specs.Filters.{IsUnion, missing}
 use Rattle.cs_model_index.specs.Sections.{image_of}
 use Rattle.cs_model_index.specs.Images.{image_posts}
 use Rattle.cs_engine.specs.Reading.{by_post, stock_of, run_of, HasRun, IsWithin, AreWithin}
-use Rattle.cs_engine.specs.Stocked.{is_between}
-use Rattle.cs_engine.specs.declared.stock.Stock.{Stock}
+use Rattle.cs_engine.specs.Stocked.{Stock, is_between}
 use Rattle.cs_engine.proofs.AlikeLemmas.{any_filter}
 use Rattle.cs_engine.proofs.StockLemmas.{by_post_total, by_post_exact, block_within, from_file, stocked}
 use Rattle.cs_engine.proofs.TableLemmas.{any_listed}
@@ -71,7 +70,7 @@ cut_run b i s is k lo hi lt posts are =
     let l : k < length bs = omega (arith, lt, count) in
     let here : run_of bs k (k + 1) lo hi ≡ filter (is_between lo hi) (block_posts b k) = ap (flat_map (filter (is_between lo hi))) (one_block bs k l) ∙ append-nil (filter (is_between lo hi) (block_posts b k)) in
     record {
-      among = subst (All (Contains (stock_of b).posts.posts)) (sym are) (All-filter (is_between lo hi) (Contains (stock_of b).posts.posts) (block_posts b k) (λ j d m. from_file b i s is (get_or (block_posts b k) j d) (in_all bs k l (get_or (block_posts b k) j d) (Contains-get_or (block_posts b k) j d m))));
+      among = subst (All (Contains (stock_of b).posts)) (sym are) (All-filter (is_between lo hi) (Contains (stock_of b).posts) (block_posts b k) (λ j d m. from_file b i s is (get_or (block_posts b k) j d) (in_all bs k l (get_or (block_posts b k) j d) (Contains-get_or (block_posts b k) j d m))));
       alike = λ t. ap (list_any t) (are ∙ sym here);
     }
   where
@@ -98,9 +97,9 @@ run_parted bs f m l lo hi up on =
     ∙ ap (flat_map g) (take_two (m - f) (l - m) (drop f bs) ∙ ap (λ xs. take (m - f) (drop f bs) ++ take (l - m) xs) (drop-drop (m - f) f bs ∙ ap (λ k. drop k bs) (let n' : f + (m - f) ≡ m = omega (arith, up) in n')))
     ∙ flat_map-append g (take (m - f) (drop f bs)) (take (l - m) (drop m bs))
 
-pub run_joined : (s : Stock) (bs : List (List Post)) (f m l lo hi : ℕ) (a b c : List Post) → AreSorted s.posts.posts → f ≤ m → m ≤ l → HasRun s bs f m lo hi a → HasRun s bs m l lo hi b → IsUnion a b c → HasRun s bs f l lo hi c
+pub run_joined : (s : Stock) (bs : List (List Post)) (f m l lo hi : ℕ) (a b c : List Post) → AreSorted s.posts → f ≤ m → m ≤ l → HasRun s bs f m lo hi a → HasRun s bs m l lo hi b → IsUnion a b c → HasRun s bs f l lo hi c
 run_joined s bs f m l lo hi a b c up le on in_a in_b union =
-    let posts = s.posts.posts in
+    let posts = s.posts in
     record {
       among = All-permutation (Contains posts) (a ++ missing a b) c union (All-append (Contains posts) a (missing a b) in_a.among (All-filter _ (Contains posts) b in_b.among));
       alike = λ t.
@@ -123,18 +122,18 @@ same_posts xs ys up_x up_y alike =
     members_are by_post by_post_total by_post_exact xs ys (still_rise xs up_x) (λ q. alike (eq_by_cmp by_post q))
     ∙ sym (members_are by_post by_post_total by_post_exact ys ys (still_rise ys up_y) (λ q. refl))
 
-pub whole_run : (b : List ℕ) (i : IndexView) → StandsFor b i → IsIndex i → (lo hi first last : ℕ) → AreMet i.heads lo hi first last → (posts : List Post) → AreSorted posts → HasRun (stock_of b) (image_of b).blocks first last lo hi posts → posts ≡ filter (is_between lo hi) (stock_of b).posts.posts
+pub whole_run : (b : List ℕ) (i : IndexView) → StandsFor b i → IsIndex i → (lo hi first last : ℕ) → AreMet i.heads lo hi first last → (posts : List Post) → AreSorted posts → HasRun (stock_of b) (image_of b).blocks first last lo hi posts → posts ≡ filter (is_between lo hi) (stock_of b).posts
 whole_run b i s is lo hi first last met posts up run =
     let st = stocked b i s is in
     let p = is_between lo hi in
     let all = image_posts (image_of b) in
-    same_posts posts (filter p (stock_of b).posts.posts) up (IsStrictlySortedBy-filter by_place p (stock_of b).posts.posts st.sorted)
+    same_posts posts (filter p (stock_of b).posts) up (IsStrictlySortedBy-filter by_place p (stock_of b).posts st.sorted)
     (λ t. run.alike t ∙ ap (list_any t) (sym (posts_between b i s is lo hi first last met))
-    ∙ any_filter t p all ∙ sym (any_listed by_post by_post_total by_post_exact (λ x. p x && t x) all) ∙ sym (any_filter t p (stock_of b).posts.posts))
+    ∙ any_filter t p all ∙ sym (any_listed by_post by_post_total by_post_exact (λ x. p x && t x) all) ∙ sym (any_filter t p (stock_of b).posts))
 
 pub no_run : (s : Stock) (bs : List (List Post)) (first last lo hi : ℕ) (posts : List Post) → first ≡ last → posts ≡ [] → HasRun s bs first last lo hi posts
 no_run s bs first last lo hi posts same none = record {
-  among = subst (All (Contains s.posts.posts)) (sym none) (All-nil (Contains s.posts.posts));
+  among = subst (All (Contains s.posts)) (sym none) (All-nil (Contains s.posts));
   alike = λ t. ap (list_any t) none ∙ ap (λ n. list_any t (flat_map (filter (is_between lo hi)) (take n (drop first bs)))) (let e : 0 ≡ last - first = omega (arith, same) in e);
 }
 

@@ -1,29 +1,26 @@
 -- The lists of a reply.
 --
---   titled, untitled     the title of a document that there is, and of one that there isn't
---   first_known, words_shown      the first words of a table are there, and how they are shown
+--   titled               the title of a document that there is
+--   first_there, words_shown      the first words of a table are there, and how they are shown
 --   facet_kept           the rows of a facet in the documents of a base
---   hits_few             there are at most as many hits as documents
 --   reply_made           what answers a request is its reply
-use Rattle.std.proofs.Common.{◌≡◌, ℕ, zero, suc, ◌<◌, ◌≤◌, ◌^◌, Bool, true, false, List, [], ◌∷◌, ◌++◌, length, map, take, drop, get_or, cond, refl, sym, ◌∙◌, ap, subst, arith, append-nil}
+use Rattle.std.proofs.Common.{◌≡◌, ℕ, zero, suc, ◌<◌, List, [], ◌∷◌, ◌++◌, length, map, take, drop, get_or, refl, sym, ◌∙◌, ap, subst, append-nil}
 use Rattle.std.specs.Prelude.{filter}
 use Rattle.std.specs.Option.{unwrap_or}
-use Rattle.std.specs.List.{All, AllByRecursion, list_all, take-map}
+use Rattle.std.specs.List.{All, AllByRecursion, take-map}
 use Rattle.std.specs.List.Sorted.{IsStrictlySortedBy}
 use Rattle.std.specs.Ordering.{nat_cmp}
 use Rattle.std.specs.Cmp.Lexicographic.{slice_cmp}
-use Rattle.std.specs.FinMap.{keys}
 use Rattle.std.proofs.lemmas.List.{length-map}
 use Rattle.std.proofs.lemmas.List.Elements.{All-from_recursion}
-use Rattle.std.proofs.lemmas.List.FromFn.{length-range_with_len}
 use Rattle.std.proofs.lemmas.List.Kept.{IsStrictlySortedBy-filter}
-use Rattle.std.proofs.lemmas.Option.{slice_get_past, slice_get-get_or}
+use Rattle.std.proofs.lemmas.Option.{slice_get-get_or}
 use Rattle.cs_base.specs.content.Members.{members_in}
 use Rattle.cs_base.specs.content.Orders.{by_row, by_rank}
 use Rattle.cs_base.specs.declared.content.doc.Base.{Base}
 use Rattle.cs_base.specs.declared.content.doc.Post.{Post}
 use Rattle.cs_base.specs.declared.content.doc.Row.{Row}
-use Rattle.cs_base.proofs.MembersLemmas.{all_then, listed_itself}
+use Rattle.cs_base.proofs.MembersLemmas.{listed_itself}
 use Rattle.cs_base.proofs.OrdersLemmas.{by_row_total, by_row_exact}
 use Rattle.cs_meet.specs.Filters.{keep_docs}
 use Rattle.cs_model.specs.Answers.{PartRows, begins, is_listed, hits, pairs, ranked, table_of, facet_part}
@@ -34,11 +31,11 @@ use Rattle.cs_model.specs.Replies.{Reply, Shown, HitShown, FacetShown}
 use Rattle.cs_model.specs.Requests.{Request, reply_of, reply_to, shown_of, hit_shown, facet_shown}
 use Rattle.cs_tables.specs.declared.tables.Completion.{Completion as Numbered}
 use Rattle.cs_tables.specs.Listings.{table}
-use Rattle.cs_engine.specs.Stocked.{word_at, row_of, rows_at, corpus_in, listed, docs_in, named_at, shown_at, named_rows, facet_rows, facet_at, title_at, scored_hits, IsKnown, IsStocked, IsPicked}
-use Rattle.cs_engine.specs.declared.stock.Stock.{Stock}
+use Rattle.cs_model_index.specs.Numbered.{word_at, row_of, rows_at}
+use Rattle.cs_model_kept.specs.Entries.{scored_hits}
+use Rattle.cs_engine.specs.Stocked.{Stock, corpus_in, base_hits, docs_in, named_at, shown_at, named_rows, named_rows_in, facet_at, title_at, IsStocked}
 use Rattle.cs_engine.proofs.VocabLemmas.{filter_through, rows_rise}
-use Rattle.cs_engine.proofs.ListsLemmas.{get_numbered, all_of, map_alike, keys_numbered}
-use Rattle.cs_engine.proofs.UnionLemmas.{picked_known, picked_words}
+use Rattle.cs_engine.proofs.ListsLemmas.{get_numbered, all_of, map_alike}
 use Rattle.cs_engine.proofs.HitsLemmas.{kept_pairs, listed_docs}
 use Rattle.cs_engine.proofs.AtomsLemmas.{words_known}
 use Rattle.cs_engine.proofs.TableLemmas.{table_through, table_known}
@@ -47,9 +44,6 @@ use Rattle.cs_engine.proofs.TableLemmas.{table_through, table_known}
 
 pub titled : (titles : List (List ℕ)) (d : ℕ) (blank : List ℕ) → d < length titles → title_at titles d ≡ get_or titles d blank
 titled titles d blank h = ap (λ o. unwrap_or o []) (get_numbered titles d ∙ slice_get-get_or titles d blank h)
-
-pub untitled : (titles : List (List ℕ)) (d : ℕ) → length titles ≤ d → title_at titles d ≡ []
-untitled titles d h = ap (λ o. unwrap_or o []) (get_numbered titles d ∙ slice_get_past titles d h)
 
 take_all_of : {X : Type 0} (P : X → Type 0) (n : ℕ) (xs : List X) → AllByRecursion P xs → AllByRecursion P (take n xs)
 take_all_of P zero xs h = tt
@@ -62,22 +56,6 @@ first_there ws up posts known cut first is =
     subst (All (λ c. c.word < length ws)) (sym is) (All-from_recursion (λ c. c.word < length ws) (take cut (table posts)) (take_all_of (λ c. c.word < length ws) cut (table posts) (table_known ws up posts known)))
 
 module _ (s : Stock) (kept : IsStocked s) where
-  -- the first words of a table are there
-  pub first_known : (posts : List Post) (cut : ℕ) (first : List Numbered) → IsPicked s posts → first ≡ take cut (table posts) → All (λ c. c.word < length s.words) first
-  first_known posts cut first picked is = first_there s.words kept.words posts (picked_words s posts kept picked.among) cut first is
-
-  pub few_docs : (posts : List Post) → IsPicked s posts → All (λ p. p.doc < 2 ^ 20) posts
-  few_docs posts picked =
-      All-from_recursion (λ p. p.doc < 2 ^ 20) posts (all_then (IsKnown s) (λ p. p.doc < 2 ^ 20) (λ p h. omega (arith, h.doc, kept.few_docs)) posts (picked_known s posts kept picked.among))
-
-  pub below_end : (posts : List Post) (n : ℕ) → IsPicked s posts → n ≡ length s.titles → All (λ p. p.doc < n) posts
-  below_end posts n picked is =
-      All-from_recursion (λ p. p.doc < n) posts (all_then (IsKnown s) (λ p. p.doc < n) (λ p h. subst (λ m. p.doc < m) (sym is) h.doc) posts (picked_known s posts kept picked.among))
-
-  pub few_words : (posts : List Post) → IsPicked s posts → All (λ p. p.word < 2 ^ 22) posts
-  few_words posts picked =
-      All-from_recursion (λ p. p.word < 2 ^ 22) posts (all_then (IsKnown s) (λ p. p.word < 2 ^ 22) (λ p h. omega (arith, h.word, kept.few_words)) posts (picked_known s posts kept picked.among))
-
   -- the first words of a table, as they are shown
   pub words_shown : (posts : List Post) (cut : ℕ) (first : List Numbered) → AllByRecursion (λ p. p.word < length s.words) posts → first ≡ take cut (table posts) → map (shown_at s.words) first ≡ map shown_of (take cut (table_of (rows_at s.words posts)))
   words_shown posts cut first known is =
@@ -93,49 +71,28 @@ module _ (s : Stock) (kept : IsStocked s) where
   table_total posts known = sym (length-map (table posts) (named_at s.words)) ∙ ap length (table_through s.words kept.words posts known)
 
   -- the rows of a facet in the documents of a base
-  pub facet_kept : (b : Base) (name : List ℕ) (posts found : List Post) → rows_at s.words posts ≡ named_rows s name → found ≡ keep_docs posts (docs_in (length s.titles) b) → rows_at s.words found ≡ facet_rows s b name
+  pub facet_kept : (b : Base) (name : List ℕ) (posts found : List Post) → rows_at s.words posts ≡ named_rows s name → found ≡ keep_docs posts (docs_in (length s.titles) b) → rows_at s.words found ≡ named_rows_in s b name
   facet_kept b name posts found is kept_is =
       ap (rows_at s.words) kept_is ∙ filter_through (row_of s.words) (λ r. is_listed (docs_in (length s.titles) b) r.doc) posts ∙ ap (filter (λ r. is_listed (docs_in (length s.titles) b) r.doc)) is
 
-filter_few : {X : Type 0} (p : X → Bool) (xs : List X) → length (filter p xs) ≤ length xs
-filter_few p [] = omega arith
-filter_few p (x ∷ xs) =
-    let rest = filter_few p xs in
-    elim (p x) as (λ b. length (cond b (x ∷ filter p xs) (filter p xs)) ≤ length (x ∷ xs)) [
-      | true ↦ omega (arith, rest)
-      | false ↦ omega (arith, rest)
-    ]
-
-module _ (s : Stock) (kept : IsStocked s) (ps : List PartRows) (b : Base) (posts : List Post) (lists : listed (length s.titles) b ≡ scored_hits (corpus_in s) ps) where
+module _ (s : Stock) (kept : IsStocked s) (ps : List PartRows) (b : Base) (posts : List Post) (lists : base_hits (length s.titles) b ≡ scored_hits (corpus_in s) ps) where
   abbrev k : Corpus
   k = corpus_in s
 
-  -- there are at most as many hits as documents
-  pub hits_few : length (listed (length s.titles) b) ≤ length s.titles
-  hits_few =
-      omega (
-        arith,
-        ap length lists,
-        length-map (hits k ps) (answers.scored ps),
-        filter_few (λ d. list_all (answers.agrees d) ps) (keys k.titles),
-        ap length (keys_numbered s.titles),
-        length-range_with_len 0 (length s.titles),
-      )
-
   module _ (name : List ℕ) where
     abbrev asked_posts : List Post
-    asked_posts = filter (λ p. begins (named name []) (word_at s.words p.word)) s.posts.posts
+    asked_posts = filter (λ p. begins (named name []) (word_at s.words p.word)) s.posts
 
     asked_is : rows_at s.words asked_posts ≡ named_rows s name
-    asked_is = filter_through (row_of s.words) (λ r. begins (named name []) r.word) s.posts.posts
+    asked_is = filter_through (row_of s.words) (λ r. begins (named name []) r.word) s.posts
 
     facet_is : rows_at s.words asked_posts ≡ (facet_part k name).rows
     facet_is =
         asked_is
-        ∙ listed_itself by_row by_row_total by_row_exact (named_rows s name) (IsStrictlySortedBy-filter by_row (λ r. begins (named name []) r.word) (rows_at s.words s.posts.posts) (rows_rise s.words kept.words s.posts.posts (words_known s s.posts.posts kept.known) kept.sorted))
+        ∙ listed_itself by_row by_row_total by_row_exact (named_rows s name) (IsStrictlySortedBy-filter by_row (λ r. begins (named name []) r.word) (rows_at s.words s.posts) (rows_rise s.words kept.words s.posts (words_known s s.posts kept.known) kept.sorted))
         ∙ ap (members_in by_row) (sym (append-nil (named_rows s name)))
 
-    facet_pairs : facet_rows s b name ≡ pairs k (ps ++ facet_part k name ∷ [])
+    facet_pairs : named_rows_in s b name ≡ pairs k (ps ++ facet_part k name ∷ [])
     facet_pairs =
         sym (facet_kept s kept b name asked_posts (keep_docs asked_posts (docs_in (length s.titles) b)) asked_is refl)
         ∙ ap (λ ds. rows_at s.words (keep_docs asked_posts ds)) (listed_docs s ps (facet_part k name) asked_posts facet_is b lists)
@@ -149,9 +106,9 @@ module _ (s : Stock) (kept : IsStocked s) (ps : List PartRows) (b : Base) (posts
   pub reply_made : rows_at s.words posts ≡ pairs k ps → (r : Request) → ps ≡ answers.parts_of k r.query → (c : List Shown) (f : List FacetShown) (h : List HitShown) (tc th : ℕ)
       → c ≡ map shown_of (take r.completions (table_of (rows_at s.words posts)))
       → f ≡ map (facet_at s b r.completions) r.facets
-      → h ≡ map (hit_shown k) (take r.hits (drop r.offset (members_in by_rank (listed (length s.titles) b))))
+      → h ≡ map (hit_shown k) (take r.hits (drop r.offset (members_in by_rank (base_hits (length s.titles) b))))
       → tc ≡ length (table_of (rows_at s.words posts))
-      → th ≡ length (listed (length s.titles) b)
+      → th ≡ length (base_hits (length s.titles) b)
       → ◌≡◌ {A = Reply} (record { completions = c; facets = f; hits = h; total_completions = tc; total_hits = th }) (reply_of k r)
   unfolding reply_of
   reply_made pairs_are r parts c f h tc th c_is f_is h_is tc_is th_is =

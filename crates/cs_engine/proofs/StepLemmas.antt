@@ -33,9 +33,9 @@ use Rattle.cs_model_kept.specs.Entries as kept
 use Rattle.cs_rank.specs.DocScores.{IsBase, best_row, greatest, of_doc, scores, with_base}
 use Rattle.cs_rank.specs.DocScores as rank
 use Rattle.cs_engine.specs.Reading.{AreWithin, IsWithin}
-use Rattle.cs_engine.specs.Steps.{docs_after, posts_hits, posts_after, unscored, IsHitOf, IsBaseOf, EntryFits, IsStep, is_in_base, most}
-use Rattle.cs_engine.specs.Stocked.{row_of, rows_at, corpus_in, every, listed, docs_in}
-use Rattle.cs_engine.specs.declared.stock.Stock.{Stock}
+use Rattle.cs_engine.specs.Steps.{docs_after, posts_hits, posts_after, with_no_score, IsHitOf, IsBaseOf, EntryFits, IsStep, is_in_base, most}
+use Rattle.cs_model_index.specs.Numbered.{row_of, rows_at}
+use Rattle.cs_engine.specs.Stocked.{Stock, corpus_in, every, base_hits, docs_in}
 use Rattle.cs_engine.proofs.FoundLemmas.{docs_rise, every_rises, scored_rise, found_small, greatest_small}
 use Rattle.cs_engine.proofs.HitsLemmas.{ds_rise, greatest_of, hits_excluded, hits_positive, kept_docs, own_docs}
 use Rattle.cs_engine.proofs.ListsLemmas.{all_of, keys_numbered, map_alike, range_below}
@@ -54,12 +54,12 @@ base_weaker docs m n (base.Listed hs) l h = (h.0, λ k d e. let at = h.1 k d e i
 every_in : (docs bound : ℕ) → All (IsHitOf docs bound) (every docs)
 every_in docs bound = All-map (IsHitOf docs bound) (λ (d : ℕ). let h : Scored = record { doc = d; score = 0 } in h) (range_with_len 0 docs) (λ k d l. record { doc = range_below docs k d l; score = omega arith })
 
-pub listed_in : (docs bound : ℕ) (b : Base) → IsBaseOf docs bound b → AreByDoc (listed docs b) × All (IsHitOf docs bound) (listed docs b)
+pub listed_in : (docs bound : ℕ) (b : Base) → IsBaseOf docs bound b → AreByDoc (base_hits docs b) × All (IsHitOf docs bound) (base_hits docs b)
 listed_in docs bound base.All h = (every_rises docs, every_in docs bound)
 listed_in docs bound (base.Listed hs) h = h
 
 pub docs_sorted : (docs bound : ℕ) (b : Base) → IsBaseOf docs bound b → AreDocs (docs_in docs b)
-docs_sorted docs bound b h = docs_rise (listed docs b) (listed_in docs bound b h).0
+docs_sorted docs bound b h = docs_rise (base_hits docs b) (listed_in docs bound b h).0
 
 base_small : (docs bound d : ℕ) (b : Base) → IsBaseOf docs bound b → rank.base_score b d ≤ bound
 base_small docs bound d base.All h = omega arith
@@ -110,7 +110,7 @@ pub hits_told : (ws : List (List ℕ)) (positive : Bool) (e : EntryOf Post) → 
 hits_told ws true e = ap base.Listed (over_told ws e.base e.rows)
 hits_told ws false e = refl
 
-pub listed_told : (s : Stock) (n : ℕ) (b : Base) → n ≡ length s.titles → listed n b ≡ kept.listed (corpus_in s) b
+pub listed_told : (s : Stock) (n : ℕ) (b : Base) → n ≡ length s.titles → base_hits n b ≡ kept.listed (corpus_in s) b
 listed_told s n base.All is = ap every is ∙ ap (map (λ (d : ℕ). let h : Scored = record { doc = d; score = 0 } in h)) (sym (keys_numbered s.titles))
 listed_told s n (base.Listed hs) is = refl
 
@@ -119,7 +119,7 @@ module _ (s : Stock) (n : ℕ) (b : Base) (p : PartRows) (posts : List Post) (sa
   abbrev outs : List Scored
   outs = kept.listed (corpus_in s) b
 
-  dropped : drop_docs (listed n b) posts ≡ without p.rows outs
+  dropped : drop_docs (base_hits n b) posts ≡ without p.rows outs
   dropped =
       ap (λ l. drop_docs l posts) (listed_told s n b same)
       ∙ filter_alike (λ h. not (list_any (is_of h) posts)) (λ h. not (list_any (in_doc h.doc) p.rows)) outs (all_of _ (λ h. ap not (sym (any_through (row_of s.words) (in_doc h.doc) posts) ∙ ap (list_any (in_doc h.doc)) is)) outs)
@@ -154,7 +154,7 @@ step_within i b true posts w n fits =
     record {
       parts = λ e. omega arith;
       rows = none_within i;
-      base = base_weaker i.docs (255 * n) (255 * (n + 1)) (base.Listed (drop_docs (listed i.docs b) posts)) (omega arith) (IsStrictlySortedBy-filter by_doc keeps (listed i.docs b) all.0, All-filter keeps (IsHitOf i.docs (255 * n)) (listed i.docs b) all.1);
+      base = base_weaker i.docs (255 * n) (255 * (n + 1)) (base.Listed (drop_docs (base_hits i.docs b) posts)) (omega arith) (IsStrictlySortedBy-filter by_doc keeps (base_hits i.docs b) all.0, All-filter keeps (IsHitOf i.docs (255 * n)) (base_hits i.docs b) all.1);
       in_base = All-nil _;
     }
 step_within i b false posts w n fits =
@@ -170,10 +170,10 @@ known_docs i posts w = All-weaker (IsWithin i.docs (length i.words)) (λ p. p.do
 
 -- ---- hits without their scores
 module _ (s : Stock) (done : List PartRows) (p : PartRows) (posts : List Post) (is : rows_at s.words posts ≡ p.rows) (n : ℕ) (b : Base) (lists : docs_in n b ≡ hits (corpus_in s) done) where
-  dropped_docs : map (λ h. h.doc) (drop_docs (listed n b) posts) ≡ filter (λ d. not (list_any (in_doc d) (rows_at s.words posts))) (docs_in n b)
+  dropped_docs : map (λ h. h.doc) (drop_docs (base_hits n b) posts) ≡ filter (λ d. not (list_any (in_doc d) (rows_at s.words posts))) (docs_in n b)
   dropped_docs =
-      ap (map (λ (h : Scored). h.doc)) (filter_alike (λ h. not (list_any (is_of h) posts)) (λ h. not (list_any (in_doc h.doc) (rows_at s.words posts))) (listed n b) (all_of _ (λ h. ap not (sym (any_through (row_of s.words) (in_doc h.doc) posts))) (listed n b)))
-      ∙ filter_through (λ (h : Scored). h.doc) (λ d. not (list_any (in_doc d) (rows_at s.words posts))) (listed n b)
+      ap (map (λ (h : Scored). h.doc)) (filter_alike (λ h. not (list_any (is_of h) posts)) (λ h. not (list_any (in_doc h.doc) (rows_at s.words posts))) (base_hits n b) (all_of _ (λ h. ap not (sym (any_through (row_of s.words) (in_doc h.doc) posts))) (base_hits n b)))
+      ∙ filter_through (λ (h : Scored). h.doc) (λ d. not (list_any (in_doc d) (rows_at s.words posts))) (base_hits n b)
 
   pub docs_more : (excluded : Bool) → p.excluded ≡ excluded → docs_after n b excluded posts ≡ hits (corpus_in s) (done ++ p ∷ [])
   docs_more true e = dropped_docs ∙ ap (filter (λ d. not (list_any (in_doc d) (rows_at s.words posts)))) lists ∙ sym (hits_excluded s done p posts is e)
@@ -183,21 +183,21 @@ module _ (s : Stock) (done : List PartRows) (p : PartRows) (posts : List Post) (
       ∙ sym (hits_positive s done p posts is e)
 
 -- ---- bases without scores
-pub unscored_base : (ds : List ℕ) → AreDocs ds → IsBase (base.Listed (map unscored ds))
-unscored_base ds up = (scored_rise unscored (λ d. refl) ds up, All-map (λ h. h.score ≤ 2 ^ 20) unscored ds (λ k d l. omega arith))
+pub unscored_base : (ds : List ℕ) → AreDocs ds → IsBase (base.Listed (map with_no_score ds))
+unscored_base ds up = (scored_rise with_no_score (λ d. refl) ds up, All-map (λ h. h.score ≤ 2 ^ 20) with_no_score ds (λ k d l. omega arith))
 
-pub left_base : (n : ℕ) (b : Base) (posts : List Post) → IsBase b → IsBase (base.Listed (drop_docs (listed n b) posts))
+pub left_base : (n : ℕ) (b : Base) (posts : List Post) → IsBase b → IsBase (base.Listed (drop_docs (base_hits n b) posts))
 left_base n b posts h =
     let keeps : Scored → Bool = λ h. not (list_any (is_of h) posts) in
     let all = all_listed b h in
-    (IsStrictlySortedBy-filter by_doc keeps (listed n b) all.0, All-filter keeps (λ h. h.score ≤ 2 ^ 20) (listed n b) all.1)
+    (IsStrictlySortedBy-filter by_doc keeps (base_hits n b) all.0, All-filter keeps (λ h. h.score ≤ 2 ^ 20) (base_hits n b) all.1)
   where
-    all_listed : (b : Base) → IsBase b → AreByDoc (listed n b) × All (λ h. h.score ≤ 2 ^ 20) (listed n b)
-    all_listed base.All h = (every_rises n, All-map (λ h. h.score ≤ 2 ^ 20) unscored (range_with_len 0 n) (λ k d l. omega arith))
+    all_listed : (b : Base) → IsBase b → AreByDoc (base_hits n b) × All (λ h. h.score ≤ 2 ^ 20) (base_hits n b)
+    all_listed base.All h = (every_rises n, All-map (λ h. h.score ≤ 2 ^ 20) with_no_score (range_with_len 0 n) (λ k d l. omega arith))
     all_listed (base.Listed hs) h = h
 
-pub unscored_docs : (ds : List ℕ) → map (λ h. h.doc) (map unscored ds) ≡ ds
-unscored_docs ds = own_docs unscored (λ d. refl) ds
+pub unscored_docs : (ds : List ℕ) → map (λ h. h.doc) (map with_no_score ds) ≡ ds
+unscored_docs ds = own_docs with_no_score (λ d. refl) ds
 
 pub base_sorted : (n : ℕ) (b : Base) → IsBase b → AreDocs (docs_in n b)
 base_sorted n base.All h = docs_rise (every n) (every_rises n)

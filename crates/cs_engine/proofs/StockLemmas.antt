@@ -42,7 +42,8 @@ use Rattle.cs_model_index.specs.BlockRules.{keeps, is_scored, in_kind, IsBlock}
 use Rattle.cs_model_index.specs.Images.{image_posts}
 use Rattle.cs_model_index.specs.Sections.{contents_of, image_of, file_corpus}
 use Rattle.cs_engine.specs.Reading.{by_post, stock_of, IsWithin, AreWithin}
-use Rattle.cs_engine.specs.Stocked.{row_of, rows_at, corpus_in, IsKnown, IsStocked}
+use Rattle.cs_model_index.specs.Numbered.{row_of, rows_at}
+use Rattle.cs_engine.specs.Stocked.{corpus_in, IsKnown, IsStocked}
 use Rattle.cs_engine.proofs.ListsLemmas.{same_number}
 use Rattle.cs_engine.proofs.TableLemmas.{any_listed}
 use Rattle.cs_engine.proofs.UnionLemmas.{one_post}
@@ -179,15 +180,15 @@ module _ (b : List ℕ) (i : IndexView) (s : StandsFor b i) (is : IsIndex i) whe
       ]
 
   -- a post of the stock is one of the file
-  pub in_file : (x : Post) → Contains (stock_of b).posts.posts x → Contains all x
+  pub in_file : (x : Post) → Contains (stock_of b).posts x → Contains all x
   in_file x (k, l, at) =
       Contains-from_any (λ p q e. by_post_exact p q ((Equal-is (by_post p q)).0 e)) x all
-      (sym (is_member-listed by_post by_post_total all x) ∙ list_any_at (eq_by_cmp by_post x) (stock_of b).posts.posts k x l (ap (eq_by_cmp by_post x) at ∙ (Equal-is (by_post x x)).1 (tied_itself by_post_total x)))
+      (sym (is_member-listed by_post by_post_total all x) ∙ list_any_at (eq_by_cmp by_post x) (stock_of b).posts k x l (ap (eq_by_cmp by_post x) at ∙ (Equal-is (by_post x x)).1 (tied_itself by_post_total x)))
 
   -- and back
-  pub from_file : (x : Post) → Contains all x → Contains (stock_of b).posts.posts x
+  pub from_file : (x : Post) → Contains all x → Contains (stock_of b).posts x
   from_file x (k, l, at) =
-      Contains-from_any (λ p q e. by_post_exact p q ((Equal-is (by_post p q)).0 e)) x (stock_of b).posts.posts
+      Contains-from_any (λ p q e. by_post_exact p q ((Equal-is (by_post p q)).0 e)) x (stock_of b).posts
       (is_member-listed by_post by_post_total all x ∙ list_any_at (eq_by_cmp by_post x) all k x l (ap (eq_by_cmp by_post x) at ∙ (Equal-is (by_post x x)).1 (tied_itself by_post_total x)))
 
   pub words_are : i.words ≡ (stock_of b).words
@@ -217,10 +218,10 @@ module _ (b : List ℕ) (i : IndexView) (s : StandsFor b i) (is : IsIndex i) whe
     few_words = (let few = is.few_words in omega (arith, ap length words_are, few));
     texts = subst (All IsUtf8) words_are texts;
     few_docs = (let few = is.few_docs in omega (arith, docs_are, few));
-    sorted = places_rise (stock_of b).posts.posts (listing-rises by_post all) (λ x y in_x in_y same. one_of_all x y (in_file x in_x) (in_file y in_y) same);
+    sorted = places_rise (stock_of b).posts (listing-rises by_post all) (λ x y in_x in_y same. one_of_all x y (in_file x in_x) (in_file y in_y) same);
     known = λ k d l.
-        let x = get_or (stock_of b).posts.posts k d in
-        let w = within_all x (in_file x (Contains-get_or (stock_of b).posts.posts k d l)) in
+        let x = get_or (stock_of b).posts k d in
+        let w = within_all x (in_file x (Contains-get_or (stock_of b).posts k d l)) in
         let doc = w.doc in
         let word = w.word in
         record { doc = omega (arith, doc, docs_are); word = omega (arith, word, ap length words_are); score = w.score };
@@ -230,9 +231,9 @@ module _ (b : List ℕ) (i : IndexView) (s : StandsFor b i) (is : IsIndex i) whe
   stock_corpus =
       let st = stocked in
       let ws = (stock_of b).words in
-      let known = all_then (IsKnown (stock_of b)) (λ p. p.word < length ws) (λ p h. h.word) (stock_of b).posts.posts (recursion_from_All (IsKnown (stock_of b)) (stock_of b).posts.posts st.known) in
+      let known = all_then (IsKnown (stock_of b)) (λ p. p.word < length ws) (λ p h. h.word) (stock_of b).posts (recursion_from_All (IsKnown (stock_of b)) (stock_of b).posts st.known) in
       ap (λ (rows : List Row). let k : Corpus = record { titles = by_number (image_of b).titles; rows = rows } in k)
-      (members_are by_row by_row_total by_row_exact (rows_at ws (stock_of b).posts.posts) (rows_at ws all) (rows_rise ws st.words (stock_of b).posts.posts known st.sorted)
-      (λ q. any_through (row_of ws) (eq_by_cmp by_row q) (stock_of b).posts.posts
+      (members_are by_row by_row_total by_row_exact (rows_at ws (stock_of b).posts) (rows_at ws all) (rows_rise ws st.words (stock_of b).posts known st.sorted)
+      (λ q. any_through (row_of ws) (eq_by_cmp by_row q) (stock_of b).posts
       ∙ any_listed by_post by_post_total by_post_exact (λ p. eq_by_cmp by_row q (row_of ws p)) all
       ∙ sym (any_through (row_of ws) (eq_by_cmp by_row q) all)))

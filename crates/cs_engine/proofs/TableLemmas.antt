@@ -29,7 +29,8 @@ use Rattle.cs_model.specs.Answers.{by_count, table_of}
 use Rattle.cs_model.specs.Answers as rows
 use Rattle.cs_tables.specs.declared.tables.Completion.{Completion}
 use Rattle.cs_tables.specs.Listings.{by_docs, table, of_word, completion_of}
-use Rattle.cs_engine.specs.Stocked.{word_at, row_of, rows_at, named_at}
+use Rattle.cs_model_index.specs.Numbered.{word_at, row_of, rows_at}
+use Rattle.cs_engine.specs.Stocked.{named_at}
 use Rattle.cs_vocab.proofs.RangesLemmas.{three_ways}
 use Rattle.cs_tables.proofs.TablesLemmas.{by_docs_total, by_docs_exact}
 use Rattle.cs_engine.proofs.VocabLemmas.{filter_through, filter_alike, any_through, apart, is_less, less_word}

@@ -31,10 +31,10 @@ use Rattle.cs_base.proofs.MembersLemmas.{all_then, members_are, members-alike, i
 use Rattle.cs_base.proofs.OrdersLemmas.{by_row_total, by_row_exact}
 use Rattle.cs_meet.specs.Filters.{IsUnion, shares_place, missing, follow, near, stands_behind, is_near}
 use Rattle.cs_model.specs.Answers.{LinkedRows, is_linked, linked_to, union_of, chained, rows_of_chain, rows_of_linked, rows_of_atom}
-use Rattle.cs_engine.specs.Stocked.{row_of, rows_at, corpus_in, linked_posts, IsKnown, IsStocked, IsPicked}
+use Rattle.cs_model_index.specs.Numbered.{row_of, rows_at}
+use Rattle.cs_engine.specs.Stocked.{Stock, corpus_in, linked_posts, IsKnown, IsStocked, IsPicked}
 use Rattle.cs_engine.proofs.AtomsLemmas.{picked_again}
 use Rattle.cs_engine.proofs.FoldsLemmas.{linked_rows-is}
-use Rattle.cs_engine.specs.declared.stock.Stock.{Stock}
 use Rattle.cs_vocab.proofs.RangesLemmas.{three_ways}
 use Rattle.cs_engine.proofs.VocabLemmas.{filter_through, filter_alike, any_through, rows_rise}
 
@@ -110,17 +110,17 @@ module _ (posts : List Post) (up : AreSorted posts) (test : Post → Bool) where
 pub known_at : (s : Stock) (all : List Post) (p : Post) → Contains all p → All (IsKnown s) all → IsKnown s p
 known_at s all p (k, l, e) h = subst (IsKnown s) e (h k p l)
 
-pub picked_known : (s : Stock) (posts : List Post) → IsStocked s → All (Contains s.posts.posts) posts → AllByRecursion (IsKnown s) posts
+pub picked_known : (s : Stock) (posts : List Post) → IsStocked s → All (Contains s.posts) posts → AllByRecursion (IsKnown s) posts
 picked_known s posts kept among =
-    all_then (Contains s.posts.posts) (IsKnown s) (λ p h. known_at s s.posts.posts p h kept.known) posts (recursion_from_All (Contains s.posts.posts) posts among)
+    all_then (Contains s.posts) (IsKnown s) (λ p h. known_at s s.posts p h kept.known) posts (recursion_from_All (Contains s.posts) posts among)
 
-pub picked_words : (s : Stock) (posts : List Post) → IsStocked s → All (Contains s.posts.posts) posts → AllByRecursion (λ p. p.word < length s.words) posts
+pub picked_words : (s : Stock) (posts : List Post) → IsStocked s → All (Contains s.posts) posts → AllByRecursion (λ p. p.word < length s.words) posts
 picked_words s posts kept among =
     all_then (IsKnown s) (λ p. p.word < length s.words) (λ p h. h.word) posts (picked_known s posts kept among)
 
 pub united : (s : Stock) (a b c : List Post) → IsStocked s → IsPicked s a → IsPicked s b → IsUnion a b c → AreSorted c → (rows_at s.words c ≡ members_in by_row (rows_at s.words a ++ rows_at s.words b)) × IsPicked s c
 united s a b c kept in_a in_b union up =
-    let posts = s.posts.posts in
+    let posts = s.posts in
     let among : All (Contains posts) c = All-permutation (Contains posts) (a ++ missing a b) c union (All-append (Contains posts) a (missing a b) in_a.among (All-filter _ (Contains posts) b in_b.among)) in
     let all_a = recursion_from_All (Contains posts) a in_a.among in
     let all_b = recursion_from_All (Contains posts) b in_b.among in (

@@ -6,8 +6,7 @@
 --   apart                words in order differ
 --   less_word            numbers of words ascend as the words do
 --   rows_rise            sorted posts stand for rows in order
---   posts_rise           posts that stand for rows in order are sorted
-use Rattle.std.proofs.Common.{◌≡◌, ℕ, ◌<◌, ◌≤◌, Bool, true, false, true≢false, ◌||◌, cond, List, [], ◌∷◌, length, map, refl, sym, ◌∙◌, ap, arith}
+use Rattle.std.proofs.Common.{◌≡◌, ℕ, ◌<◌, Bool, true, false, true≢false, ◌||◌, cond, List, [], ◌∷◌, length, map, refl, sym, ◌∙◌, ap, arith}
 use Rattle.std.specs.Prelude.{filter}
 use Rattle.std.specs.List.{AllByRecursion, list_any}
 use Rattle.std.specs.List.Sorted.{IsStrictlySortedBy}
@@ -22,11 +21,9 @@ use Rattle.std.proofs.lemmas.Bool.Decides.{nat_tests}
 use Rattle.std.proofs.lemmas.Cmp.{nat_list_cmp_total}
 use Rattle.std.proofs.lemmas.Map.Keys.{Less-from_sorted}
 use Rattle.std.proofs.lemmas.Slice.Eq.{bytes_eq-Decides}
-use Rattle.cs_base.proofs.OrdersLemmas.{Less-from_lt}
-use Rattle.cs_base.specs.content.Orders.{by_row, by_place, AreSorted, by_spot}
+use Rattle.cs_base.specs.content.Orders.{by_row, by_place, AreSorted}
 use Rattle.cs_base.specs.declared.content.doc.Post.{Post}
-use Rattle.cs_vocab.proofs.RangesLemmas.{three_ways}
-use Rattle.cs_engine.specs.Stocked.{word_at, row_of, rows_at}
+use Rattle.cs_model_index.specs.Numbered.{word_at, row_of, rows_at}
 
 module _ {X Y : Type 0} (f : X → Y) where
   pub filter_through : (p : Y → Bool) (xs : List X) → map f (filter (λ x. p (f x)) xs) ≡ filter p (map f xs)
@@ -57,15 +54,6 @@ module _ (ws : List (List ℕ)) (up : IsStrictlySortedBy (slice_cmp nat_cmp) ws)
   pub less_word : (m n : ℕ) → m < n → n < length ws → slice_cmp nat_cmp (word_at ws m) (word_at ws n) ≡ Less
   less_word m n h l = Less-from_sorted (slice_cmp nat_cmp) ws m n [] up h l
 
-  not_less : (m n : ℕ) → n ≤ m → m < length ws → slice_cmp nat_cmp (word_at ws m) (word_at ws n) ≡ Less → m < n
-  not_less m n h l less = three_ways m n (λ t. t)
-      (λ t. absurd (true≢false (sym (ap is_lt (ap (λ k. slice_cmp nat_cmp (word_at ws m) (word_at ws k)) t ∙ less)) ∙ ap is_lt (tied_itself nat_list_cmp_total (word_at ws m)))))
-      (λ t. absurd (true≢false (sym (ap is_lt (nat_list_cmp_total.trans (word_at ws n) (word_at ws m) (word_at ws n) (less_word n m t l) less)) ∙ ap is_lt (tied_itself nat_list_cmp_total (word_at ws n)))))
-
-  -- words that ascend have numbers that do
-  pub less_back : (m n : ℕ) → m < length ws → n < length ws → slice_cmp nat_cmp (word_at ws m) (word_at ws n) ≡ Less → m < n
-  less_back m n k l less = three_ways m n (λ t. t) (λ t. not_less m n (omega (arith, t)) k less) (λ t. not_less m n (omega (arith, t)) k less)
-
   through : (a b e : Ordering) (m n : ℕ) → n < length ws → ordering_then a (ordering_then b (nat_cmp m n)) ≡ Less → ordering_then a (ordering_then b (ordering_then (slice_cmp nat_cmp (word_at ws m) (word_at ws n)) e)) ≡ Less
   through Less b e m n l h = refl
   through Greater b e m n l h = h
@@ -75,13 +63,6 @@ module _ (ws : List (List ℕ)) (up : IsStrictlySortedBy (slice_cmp nat_cmp) ws)
 
   pub row_less : (p q : Post) → q.word < length ws → by_place p q ≡ Less → by_row (row_of ws p) (row_of ws q) ≡ Less
   row_less p q l h = through (nat_cmp p.doc q.doc) (nat_cmp p.pos q.pos) (nat_cmp p.score q.score) p.word q.word l h
-
-  back : (a b : Ordering) (m n : ℕ) → m < length ws → n < length ws → ordering_then a (ordering_then b (slice_cmp nat_cmp (word_at ws m) (word_at ws n))) ≡ Less → ordering_then a (ordering_then b (nat_cmp m n)) ≡ Less
-  back Less b m n k l h = refl
-  back Greater b m n k l h = h
-  back Equal Less m n k l h = refl
-  back Equal Greater m n k l h = h
-  back Equal Equal m n k l h = Less-from_lt m n (less_back m n k l h)
 
   abbrev pub HasWord : Post → Type 0
   HasWord p = p.word < length ws
@@ -94,12 +75,3 @@ module _ (ws : List (List ℕ)) (up : IsStrictlySortedBy (slice_cmp nat_cmp) ws)
   unfolding IsStrictlySortedBy
   rows_rise [] l h = tt
   rows_rise (p ∷ ps) l h = (rest_rise p ps l.1 h.0, rows_rise ps l.1 h.1)
-
-  rest_back : (p : Post) (ps : List Post) → HasWord p → AllByRecursion HasWord ps → AllByRecursion (λ r. by_spot (row_of ws p) r ≡ Less) (rows_at ws ps) → AllByRecursion (λ q. by_place p q ≡ Less) ps
-  rest_back p [] k l h = tt
-  rest_back p (q ∷ ps) k l h = (back (nat_cmp p.doc q.doc) (nat_cmp p.pos q.pos) p.word q.word k l.0 h.0, rest_back p ps k l.1 h.1)
-
-  pub posts_rise : (ps : List Post) → AllByRecursion HasWord ps → IsStrictlySortedBy by_spot (rows_at ws ps) → AreSorted ps
-  unfolding IsStrictlySortedBy
-  posts_rise [] l h = tt
-  posts_rise (p ∷ ps) l h = (rest_back p ps l.0 l.1 h.0, posts_rise ps l.1 h.1)

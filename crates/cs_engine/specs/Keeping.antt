@@ -13,7 +13,7 @@
 --   IsLeftBehind q old new    what is kept after a refusal: the same entries, the used one maybe in front
 --   Keeps i q old r new       the one or the other
 --   IsAfter b q old r new     what is kept after a reply, over the bytes of the index
-use Rattle.std.specs.Prelude.{◌≡◌, ◌⊎◌, ℕ, Bool, true, false, List, ◌∷◌, length, take, Result, Ok, Err}
+use Rattle.std.specs.Prelude.{◌≡◌, ◌⊎◌, ℕ, List, ◌∷◌, length, take, Result, Ok, Err}
 use Rattle.std.specs.List.{All}
 use Rattle.cs_base.specs.declared.content.doc.Post.{Post}
 use Rattle.cs_base.specs.declared.content.query.Query.{Query, out-Query}
@@ -30,7 +30,7 @@ use Rattle.cs_model.specs.Replies.{Reply}
 use Rattle.cs_model_index.specs.Sections.{file_corpus}
 use Rattle.cs_model_kept.specs.Entries.{EntryOf, entry_of}
 use Rattle.cs_model_kept.specs.KeptList.{KeptOf, GoodFor, after, kept_at, kept_by, plan_by, to_front, used_key}
-use Rattle.cs_engine.specs.Steps.{EntryFits, ends_positive}
+use Rattle.cs_engine.specs.Steps.{EntryFits, last_is_positive}
 use Rattle.cs_engine.specs.declared.fault.AskFault.{AskFault}
 use Rattle.cs_engine.specs.declared.note.Note.{Note}
 
@@ -46,7 +46,7 @@ pub record IsKeptEntry (i : IndexView) (e : List ℕ × EntryOf Post) : Type 0 w
   pub query : Query
   pub of_grammar : IsOfGrammar query
   pub key : e.0 ≡ canonical query
-  pub fits : EntryFits i (ends_positive query) (length (out-Query query).parts) e.1
+  pub fits : EntryFits i (last_is_positive query) (length (out-Query query).parts) e.1
 
 -- of no entry it holds
 abbrev pub KeepsFitting : IndexView → KeptOf (EntryOf Post) → Type 0

@@ -2,6 +2,5 @@ pub mod Asking
 pub mod Counting
 pub mod Keeping
 pub mod Reading
-pub mod Searching
 pub mod Steps
 pub mod Stocked

@@ -24,8 +24,8 @@ use Rattle.cs_base.specs.declared.content.doc.Row.{Row}
 use Rattle.cs_file.specs.Indexes.{IndexView, StandsFor}
 use Rattle.cs_model_index.specs.Images.{image_posts}
 use Rattle.cs_model_index.specs.Sections.{image_of}
-use Rattle.cs_engine.specs.Stocked.{rows_at, is_between, IsPicked, IsSpan}
-use Rattle.cs_engine.specs.declared.stock.Stock.{Stock}
+use Rattle.cs_model_index.specs.Numbered.{rows_at}
+use Rattle.cs_engine.specs.Stocked.{Stock, is_between, IsPicked, IsSpan}
 
 -- the score comes last, which the other three determine in an index
 abbrev pub by_post : Post → Post → Ordering
@@ -33,7 +33,7 @@ by_post = then_cmp by_place (on (λ p. p.score) nat_cmp)
 
 -- the posts of all blocks in one order; it counts only where the bytes are an index file
 abbrev pub stock_of : List ℕ → Stock
-stock_of b = record { titles = (image_of b).titles; words = (image_of b).words; posts = record { posts = members_in by_post (image_posts (image_of b)); room = 0 } }
+stock_of b = record { titles = (image_of b).titles; words = (image_of b).words; posts = members_in by_post (image_posts (image_of b)) }
 
 -- nothing is said of a store that tells nothing, and of one that tells other bytes
 abbrev pub WhereStood : Option (List ℕ) → IndexView → (List ℕ → Type 0) → Type 0
@@ -62,7 +62,7 @@ run_of blocks first last lo hi = flat_map (filter (is_between lo hi)) (take (las
 
 -- the same tests pass on both, so they are the same but for their order
 pub record HasRun (s : Stock) (blocks : List (List Post)) (first last lo hi : ℕ) (posts : List Post) : Type 0 where
-  pub among : All (Contains s.posts.posts) posts
+  pub among : All (Contains s.posts) posts
   pub alike : (t : Post → Bool) → list_any t posts ≡ list_any t (run_of blocks first last lo hi)
 
 -- where no word passes, lo is hi or more

@@ -4,12 +4,12 @@
 --
 --   posts_hits positive b posts     the hits of an entry of this base and these posts; positive says whether the last part is
 --   posts_after n hits excluded posts   the entry behind one part more, whose posts these are, over n documents
---   unscored d                      the document d with the score 0
+--   with_no_score d                 the document d with the score 0
 --   docs_after n hits excluded posts    the documents of hits behind one part more, whose posts these are, over n documents
 --   IsBaseOf docs bound b           a base's documents ascend and are in range, and no score of it is above the bound
 --   most positive n                 the greatest score of a base of an entry of n parts
 --   EntryFits i positive n e        an entry of n parts is in the range of an index
---   ends_positive q                 whether the last part of a query is positive
+--   last_is_positive q              whether the last part of a query is positive
 --   AreFound s q hits posts         the hits of the query q, and posts that stand for its pairs
 --   IsStep s hits p e               e is the entry of a query of these hits and of the part p
 use Rattle.std.specs.Prelude.{◌≡◌, ℕ, ◌-◌, ◌*◌, ◌≤◌, ◌<◌, Bool, true, false, not, ◌==◌, List, [], map, fold, if◌then◌else◌}
@@ -28,8 +28,8 @@ use Rattle.cs_model_kept.specs.Entries.{EntryOf, base_of, entry_at, entry_after,
 use Rattle.cs_model_kept.specs.Entries as kept
 use Rattle.cs_rank.specs.DocScores.{scores}
 use Rattle.cs_engine.specs.Reading.{AreWithin}
-use Rattle.cs_engine.specs.Stocked.{listed, docs_in, corpus_in, rows_at}
-use Rattle.cs_engine.specs.declared.stock.Stock.{Stock}
+use Rattle.cs_model_index.specs.Numbered.{rows_at}
+use Rattle.cs_engine.specs.Stocked.{Stock, base_hits, docs_in, corpus_in}
 
 -- its posts over its base where the last part is positive, and else the base
 abbrev pub posts_hits : Bool → Base → List Post → Base
@@ -37,15 +37,15 @@ posts_hits positive b posts = if positive then base.Listed (scores b posts) else
 
 -- an excluded part takes hits away and leaves no posts, and a positive one leaves its posts in the hits
 abbrev pub posts_after : ℕ → Base → Bool → List Post → EntryOf Post
-posts_after n hits excluded posts = if excluded then record { base = base.Listed (drop_docs (listed n hits) posts); rows = [] } else record { base = hits; rows = keep_docs posts (docs_in n hits) }
+posts_after n hits excluded posts = if excluded then record { base = base.Listed (drop_docs (base_hits n hits) posts); rows = [] } else record { base = hits; rows = keep_docs posts (docs_in n hits) }
 
 -- as of a query without a positive part
-abbrev pub unscored : ℕ → Scored
-unscored d = record { doc = d; score = 0 }
+abbrev pub with_no_score : ℕ → Scored
+with_no_score d = record { doc = d; score = 0 }
 
 -- those without a post where the part is excluded, and those with one where it isn't
 abbrev pub docs_after : ℕ → Base → Bool → List Post → List ℕ
-docs_after n hits excluded posts = if excluded then map (λ h. h.doc) (drop_docs (listed n hits) posts) else docs_of (keep_docs posts (docs_in n hits))
+docs_after n hits excluded posts = if excluded then map (λ h. h.doc) (drop_docs (base_hits n hits) posts) else docs_of (keep_docs posts (docs_in n hits))
 
 -- the document is below docs, and the score at most the bound
 pub record IsHitOf (docs bound : ℕ) (h : Scored) : Type 0 where
@@ -74,8 +74,8 @@ pub record EntryFits (i : IndexView) (positive : Bool) (n : ℕ) (e : EntryOf Po
   pub in_base : All (λ p. is_in_base e.base p ≡ true) e.rows
 
 -- not so without a part
-abbrev pub ends_positive : Query → Bool
-ends_positive q = fold (λ before p. not (out-Part p).excluded) false (out-Query q).parts
+abbrev pub last_is_positive : Query → Bool
+last_is_positive q = fold (λ before p. not (out-Part p).excluded) false (out-Query q).parts
 
 -- the posts of the entry stand for the rows that the part leaves
 abbrev pub IsStep : Stock → Base → PartRows → EntryOf Post → Type 0

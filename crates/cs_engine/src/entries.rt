@@ -4,7 +4,7 @@ ghost use Rattle.std.specs.List.{All};
 ghost use Rattle.cs_base.specs.content.Orders.{AreSorted};
 ghost use Rattle.cs_base.specs.declared.content.doc.Base.TheVariants as base;
 ghost use Rattle.cs_rank.specs.DocScores.{IsBase};
-ghost use Rattle.cs_engine.specs.Steps.{posts_hits, posts_after, docs_after, unscored};
+ghost use Rattle.cs_engine.specs.Steps.{posts_hits, posts_after, docs_after, with_no_score};
 ghost use Rattle.cs_engine.specs.Stocked.{docs_in};
 
 use crate::hits::{all_docs, kept_in, numbers_of, without};
@@ -130,7 +130,7 @@ pub(crate) fn agreeing(
 
 // Each of the documents with the score 0.
 fn unscored(alloc: Global, numbers: &[u32]) -> Result<Seq<Scored>, Memory>
-    ensures { IfOk result (λ v. v ≡ map unscored numbers.now) }
+    ensures { IfOk result (λ v. v ≡ map with_no_score numbers.now) }
 {
     let mut listed = Vec::with_capacity(alloc, numbers.len())?;
     for doc in numbers {

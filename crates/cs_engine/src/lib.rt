@@ -1,33 +1,25 @@
-//! The engine: the reply that a collection in memory gives to a request.
+//! The engine: the reply that an opened index gives to a request, from what is kept of the answers before it and from its blocks.
 //!
-//! Callers see `Corpus` as its titles and rows. What a reply says stands in `Answers` and `Requests` of `cs_model`.
-//! Nothing here reads a file.
+//! Callers see `Engine` as its index and a list of kept entries. What a reply says stands in `Answers` and `Requests` of `cs_model`,
+//! what is kept in `Entries` and `KeptList` of `cs_model_kept`. It reads through a store alone, and writes nothing.
 #![tactic(auto)]
 
 mod answering;
-mod atoms;
-mod building;
-mod corpus;
+mod between;
 mod counting;
 mod engine;
 mod entries;
 mod evaluation;
 mod fault;
 mod hits;
-mod joins;
 mod note;
 mod parts;
 mod reading;
 mod replies;
 mod steps;
-mod stock;
-#[cfg(test)]
-mod tests;
 mod words;
 
-pub use corpus::{Corpus, CorpusFault};
 pub use cs_query::{Reply, Request};
 pub use engine::Engine;
 pub use fault::AskFault;
-pub use joins::has_join;
 pub use note::Note;

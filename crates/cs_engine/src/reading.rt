@@ -7,7 +7,7 @@ ghost use Rattle.cs_engine.specs.Asking.{is_read, is_changed};
 ghost use Rattle.cs_engine.specs.Reading.{AreWithin, HasRun, WhereStood, stock_of};
 ghost use Rattle.cs_engine.specs.Stocked.{is_between};
 
-use crate::atoms::posts_between;
+use crate::between::posts_between;
 use crate::fault::AskFault;
 use cs_base::Store;
 use cs_cols::Cols;
@@ -28,7 +28,7 @@ pub(crate) fn rows_between<S: Store>(
     requires index { IsIndex index.now }
     requires fits { Fits (S.bytes store.old) index.now }
 
-    ensures told { WhereStood (S.bytes store.old) index.now (λ b. IfOk result (λ c. c.posts ≡ filter (is_between lo hi) (stock_of b).posts.posts)) }
+    ensures told { WhereStood (S.bytes store.old) index.now (λ b. IfOk result (λ c. c.posts ≡ filter (is_between lo hi) (stock_of b).posts)) }
     ensures within { IfOk result (λ c. AreWithin index.now c.posts) }
     ensures unchanged { WhereStood (S.bytes store.old) index.now (λ b. is_changed result ≡ false) }
     ensures bytes { S.bytes store.new ≡ S.bytes store.old }

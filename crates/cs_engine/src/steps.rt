@@ -11,7 +11,7 @@ ghost use Rattle.cs_model_kept.specs.Due.{met_of_part, met_of_query};
 ghost use Rattle.cs_model_kept.specs.Entries.{entry_at, entry_of};
 ghost use Rattle.cs_engine.specs.Asking.{division, is_read, is_changed};
 ghost use Rattle.cs_engine.specs.Reading.{WhereStood, stock_of};
-ghost use Rattle.cs_engine.specs.Steps.{EntryFits, IsBaseOf, IsStep, ends_positive};
+ghost use Rattle.cs_engine.specs.Steps.{EntryFits, IsBaseOf, IsStep, last_is_positive};
 ghost use Rattle.cs_engine.specs.Stocked.{corpus_in};
 
 use crate::entries::{entry_after, hits_of, nothing_kept};
@@ -34,7 +34,7 @@ pub(crate) fn entry_of<S: Store>(
     requires fits { Fits (S.bytes store.old) index.now }
 
     ensures told { WhereStood (S.bytes store.old) index.now (λ b. IfOk result (λ e. entry_at (stock_of b).words e ≡ entry_of (corpus_in (stock_of b)) query.now)) }
-    ensures within { IfOk result (λ e. EntryFits index.now (ends_positive query.now) (length (out-Query query.now).parts) e) }
+    ensures within { IfOk result (λ e. EntryFits index.now (last_is_positive query.now) (length (out-Query query.now).parts) e) }
     ensures unchanged { WhereStood (S.bytes store.old) index.now (λ b. is_changed result ≡ false) }
     ensures bytes { S.bytes store.new ≡ S.bytes store.old }
     ensures lent { S.lent store.new ≡ S.lent store.old }
@@ -77,8 +77,8 @@ pub(crate) fn extended<S: Store>(
 }
 
 /// Whether the last part of a query is positive; not so without a part.
-pub(crate) fn ends_positive(query: &Query) -> bool
-    ensures { result ≡ ends_positive query.now }
+pub(crate) fn last_is_positive(query: &Query) -> bool
+    ensures { result ≡ last_is_positive query.now }
 {
     let mut positive = false;
     for part in query.parts.as_slice() {

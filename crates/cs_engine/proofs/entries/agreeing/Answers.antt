@@ -3,7 +3,7 @@ use Rattle.cs_base.specs.content.Orders.{docs_of}
 use Rattle.cs_base.specs.declared.content.doc.Base.TheVariants as base
 use Rattle.cs_base.specs.declared.content.doc.Scored.{Scored}
 use Rattle.cs_rank.specs.DocScores.{IsBase}
-use Rattle.cs_engine.specs.Steps.{docs_after, unscored}
+use Rattle.cs_engine.specs.Steps.{docs_after, with_no_score}
 use Rattle.cs_engine.proofs.StepLemmas.{left_base, unscored_base, unscored_docs}
 use Rattle.cs_engine.proofs.entries.agreeing.Goals as goal
 
@@ -12,10 +12,10 @@ returns-then-excluded-clause-base c = subst (λ (l : List Scored). IsBase (base.
 
 pub returns-clause-docs : goal.returns-clause-docs
 returns-clause-docs c =
-    ap (map (λ (h : Scored). h.doc)) (c.in_ok-listed.ensures ∙ ap (map unscored) c.deref.ensures.value) ∙ unscored_docs c.in_ok-numbers.numbers.items
+    ap (map (λ (h : Scored). h.doc)) (c.in_ok-listed.ensures ∙ ap (map with_no_score) c.deref.ensures.value) ∙ unscored_docs c.in_ok-numbers.numbers.items
     ∙ c.in_ok-numbers.ensures.ok ∙ ap docs_of c.in_ok-kept.ensures.ok
     ∙ ap (λ b. docs_after c.args.docs c.args.hits.now b c.args.rows.posts) (sym c.if-excluded.false)
 
 pub returns-clause-base : goal.returns-clause-base
 returns-clause-base c =
-    subst (λ (l : List Scored). IsBase (base.Listed l)) (sym (c.in_ok-listed.ensures ∙ ap (map unscored) c.deref.ensures.value)) (unscored_base c.in_ok-numbers.numbers.items c.in_ok-numbers.ensures.sorted)
+    subst (λ (l : List Scored). IsBase (base.Listed l)) (sym (c.in_ok-listed.ensures ∙ ap (map with_no_score) c.deref.ensures.value)) (unscored_base c.in_ok-numbers.numbers.items c.in_ok-numbers.ensures.sorted)

@@ -1,5 +1,5 @@
-use Rattle.cs_engine.proofs.atoms.posts_between.Goals as goal
-use Rattle.cs_engine.proofs.atoms.posts_between.Goals.{then-is_in, else-is_in}
+use Rattle.cs_engine.proofs.between.posts_between.Goals as goal
+use Rattle.cs_engine.proofs.between.posts_between.Goals.{then-is_in, else-is_in}
 use Rattle.cs_cols.specs.Held.{Held}
 use Rattle.std.proofs.Common.{◌≡◌, ◌<◌, ◌&&◌, Bool, ◌++◌, ◌+◌, ◌∷◌, [], ◌∙◌, sym, ap, length, drop, get_or, arith, true, false, length-append}
 use Rattle.std.specs.Prelude.{filter, nat_le, nat_lt}

@@ -1,6 +1,6 @@
 use Rattle.std.proofs.Common.{◌≡◌, ◌≤◌, ◌&&◌, take, length}
 use Rattle.std.specs.Prelude.{filter, nat_le, nat_lt}
-use Rattle.cs_engine.proofs.atoms.count_between.Given as goal
+use Rattle.cs_engine.proofs.between.count_between.Given as goal
 
 abbrev pub invariant-loop-word : goal.invariant-loop-word
 invariant-loop-word l = record {

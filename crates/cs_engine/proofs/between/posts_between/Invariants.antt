@@ -1,7 +1,7 @@
 use Rattle.std.proofs.Common.{◌≡◌, ◌≤◌, ◌+◌, ◌++◌, drop, length}
 use Rattle.std.specs.Prelude.{filter}
 use Rattle.cs_engine.specs.Stocked.{is_between}
-use Rattle.cs_engine.proofs.atoms.posts_between.Given as goal
+use Rattle.cs_engine.proofs.between.posts_between.Given as goal
 
 abbrev pub invariant-loop-i : goal.invariant-loop-i
 invariant-loop-i l = record {
