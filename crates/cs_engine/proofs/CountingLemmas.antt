@@ -2,7 +2,7 @@
 --
 --   everywhere, hit_listed, hits_listed     which documents a base lists
 --   known_docs           the documents of a block are listed or not
---   counted_more         one block more
+--   flat_more            one block more
 --   block_counted        one block more is counted
 --   countable            the rows that are counted are countable
 --   table_told           their table
@@ -141,9 +141,9 @@ known_docs i posts docs n are long w =
 pub counted_none : (bs : List (List Post)) (first lo hi : ℕ) (listed : List Bool) → counted_rows bs first first lo hi listed ≡ []
 counted_none bs first lo hi listed = let e : first - first ≡ 0 = omega arith in ap (λ n. flat_map (chosen lo hi listed) (take n (drop first bs))) e
 
-pub counted_more : (bs : List (List Post)) (first k lo hi : ℕ) (listed : List Bool) → first ≤ k → k < length bs → counted_rows bs first (k + 1) lo hi listed ≡ counted_rows bs first k lo hi listed ++ chosen lo hi listed (get_or bs k [])
-counted_more bs first k lo hi listed le lt =
-    let f : List Post → List Post = chosen lo hi listed in
+-- what is made of the blocks from number first up to k, and of one block more
+pub flat_more : (f : List Post → List Post) (bs : List (List Post)) (first k : ℕ) → first ≤ k → k < length bs → flat_map f (take (k + 1 - first) (drop first bs)) ≡ flat_map f (take (k - first) (drop first bs)) ++ f (get_or bs k [])
+flat_more f bs first k le lt =
     let rest = drop first bs in
     let e : k + 1 - first ≡ (k - first) + 1 = omega (arith, le) in
     let inside : k - first < length rest = omega (arith, lt, le, length-drop first bs) in
@@ -249,7 +249,7 @@ module _ (b : List ℕ) (i : IndexView) (stands : StandsFor b i) (is : IsIndex i
       → HasCounted (counted_rows blocks first k lo hi listed) old → HasCounted (counted_rows blocks first (k + 1) lo hi listed) new
   block_counted first k lo hi listed old new le lt low high step h =
       let count = stood_count b i stands in
-      let more = counted_more blocks first k lo hi listed le (omega (arith, lt, count)) in
+      let more = flat_more (chosen lo hi listed) blocks first k le (omega (arith, lt, count)) in
       let all = countable first (k + 1) lo hi listed (omega (arith, le)) (omega (arith, lt)) in
       let seen = counted_rows blocks first k lo hi listed in
       let Steps : ℕ → ℕ → Type 0 = λ l u. AreCountable (seen ++ chosen l u listed (block_posts b k)) → HasCounted (seen ++ chosen l u listed (block_posts b k)) new in

@@ -16,3 +16,4 @@ pub mod EvaluationLemmas
 pub mod AnsweringLemmas
 pub mod AlikeLemmas
 pub mod CountingLemmas
+pub mod PackingLemmas

@@ -13,6 +13,7 @@ mod evaluation;
 mod fault;
 mod hits;
 mod note;
+mod packing;
 mod parts;
 mod reading;
 mod replies;
