@@ -4,18 +4,27 @@
 -- Source: this engine's own, over `KeptList` of cs_model_kept.
 --
 --   EngineView                an opened index, and what is kept of answers
+--   entry_with b posts        the entry of this base and these posts
+--   FitsQuery i q e           an entry is in the range of an index, as that of the query q is
 --   IsKeptEntry i e           the key of e is that of a query of the grammar, whose entry fits the index i
 --   KeepsFitting i held       each entry does
+--   IsEntryOver b i q e       over the bytes b of an index an entry is that of the query q
+--   HoldsGood b i held        over them each kept entry is that of its key's own query
 --   AreGood b e               over the bytes b of its index an engine keeps under each key the entry of the key's own query
 --   note_plan q a             the plan by which a query is answered from what is kept
+--   is_same p                 the plan is Same
+--   became o                  what becomes of a query's own entry; of None, which was kept before, Had
+--   behind a keys p o         the entries that a reply by the plan p leaves, where o is the query's own entry, if it wasn't kept before
 --   WasHad n                  an answer was kept before exactly where the plan is Same
 --   IsKeptBehind i q n old new      what is kept after a reply: what was used in front, and before it the query's own entry where it is kept
 --   IsLeftBehind q old new    what is kept after a refusal: the same entries, the used one maybe in front
 --   Keeps i q old r new       the one or the other
 --   IsAfter b q old r new     what is kept after a reply, over the bytes of the index
-use Rattle.std.specs.Prelude.{◌≡◌, ◌⊎◌, ℕ, List, ◌∷◌, length, take, Result, Ok, Err}
+use Rattle.std.specs.Prelude.{◌≡◌, ◌⊎◌, ℕ, Bool, true, false, List, ◌∷◌, length, take, Option, Some, None, Result, Ok, Err}
 use Rattle.std.specs.List.{All}
+use Rattle.cs_base.specs.declared.content.doc.Base.{Base}
 use Rattle.cs_base.specs.declared.content.doc.Post.{Post}
+use Rattle.cs_base.specs.declared.content.key.Keys.{Keys}
 use Rattle.cs_base.specs.declared.content.query.Query.{Query, out-Query}
 use Rattle.cs_base.specs.declared.index.plan.Kept.{Kept}
 use Rattle.cs_base.specs.declared.index.plan.Kept.TheVariants as kept
@@ -28,8 +37,8 @@ use Rattle.cs_model.specs.Keys.{keys_of}
 use Rattle.cs_model.specs.Refusals.{IsOfGrammar}
 use Rattle.cs_model.specs.Replies.{Reply}
 use Rattle.cs_model_index.specs.Sections.{file_corpus}
-use Rattle.cs_model_kept.specs.Entries.{EntryOf, entry_of}
-use Rattle.cs_model_kept.specs.KeptList.{KeptOf, GoodFor, after, kept_at, kept_by, plan_by, to_front, used_key}
+use Rattle.cs_model_kept.specs.Entries.{EntryOf, entry_at, entry_of}
+use Rattle.cs_model_kept.specs.KeptList.{KeptOf, GoodFor, after, kept_at, kept_by, kept_fresh, plan_by, put_in_front, to_front, used_key}
 use Rattle.cs_engine.specs.Steps.{EntryFits, last_is_positive}
 use Rattle.cs_engine.specs.declared.fault.AskFault.{AskFault}
 use Rattle.cs_engine.specs.declared.note.Note.{Note}
@@ -40,6 +49,14 @@ pub record EngineView : Type 0 where
   pub answers : AnswerList
 
 -- ---- over each store
+-- as it stands; of no posts it has no rows
+abbrev pub entry_with : Base → List Post → EntryOf Post
+entry_with b posts = record { base = b; rows = posts }
+
+-- its posts and its base are within the index, and its scores are those of so many parts
+abbrev pub FitsQuery : IndexView → Query → EntryOf Post → Type 0
+FitsQuery i q e = EntryFits i (last_is_positive q) (length (out-Query q).parts) e
+
 -- the key is that of a query of the grammar, and the entry's rows and base are in the range of the index, as an entry of that
 -- query's parts is
 pub record IsKeptEntry (i : IndexView) (e : List ℕ × EntryOf Post) : Type 0 where
@@ -55,6 +72,23 @@ KeepsFitting i held = All (IsKeptEntry i) held
 -- the plan by the keys of the query; Fresh where nothing is kept
 abbrev pub note_plan : Query → AnswerList → Plan
 note_plan q a = plan_by a.entries (keys_of q)
+
+-- Narrow, Extend and Fresh aren't
+abbrev pub is_same : Plan → Bool
+is_same plan.Same = true
+is_same (plan.Narrow cut) = false
+is_same plan.Extend = false
+is_same plan.Fresh = false
+
+-- an entry that wasn't kept before is kept now, unless it is too large
+abbrev pub became : Option (EntryOf Post) → Kept
+became None = kept.Had
+became (Some e) = kept_fresh e
+
+-- the used entry comes to the front, and the query's own before that where it is kept
+abbrev pub behind : AnswerList → Keys → Plan → Option (EntryOf Post) → KeptOf (EntryOf Post)
+behind a keys by_plan None = to_front a.entries (used_key keys by_plan)
+behind a keys by_plan (Some e) = put_in_front a.capacity (kept_fresh e) (keys.same, e) (to_front a.entries (used_key keys by_plan))
 
 -- an answer that was used for its own query isn't kept a second time, and each other one is kept or too large
 abbrev pub WasHad : Note → Type 0
@@ -81,9 +115,17 @@ Keeps i q old (Ok r) new = (new.capacity ≡ old.capacity) × (r.1.plan ≡ note
 Keeps i q old (Err e) new = (new.capacity ≡ old.capacity) × IsLeftBehind q old new
 
 -- ---- over the bytes of the index
+-- with its rows told by the words of the index
+abbrev pub IsEntryOver : List ℕ → IndexView → Query → EntryOf Post → Type 0
+IsEntryOver b i q e = entry_at i.words e ≡ entry_of (file_corpus b) q
+
+-- no entries are good
+abbrev pub HoldsGood : List ℕ → IndexView → KeptOf (EntryOf Post) → Type 0
+HoldsGood b i held = GoodFor (file_corpus b) (kept_at i.words held)
+
 -- under each key stands the entry of the key's own query over the corpus of the bytes; an engine that keeps nothing is good
 abbrev pub AreGood : List ℕ → EngineView → Type 0
-AreGood b e = GoodFor (file_corpus b) (kept_at e.index.words e.answers.entries)
+AreGood b e = HoldsGood b e.index e.answers.entries
 
 -- the entries of the corpus are those that a query leaves, its own kept unless it is too large; nothing is said of a refusal
 abbrev pub IsAfter : List ℕ → Query → EngineView → Result (Reply × Note) AskFault → EngineView → Type 0

@@ -9,6 +9,7 @@
 --   IsBaseOf docs bound b           a base's documents ascend and are in range, and no score of it is above the bound
 --   most positive n                 the greatest score of a base of an entry of n parts
 --   EntryFits i positive n e        an entry of n parts is in the range of an index
+--   end_positive ps                 whether the last one of these parts is positive
 --   last_is_positive q              whether the last part of a query is positive
 --   AreFound s q hits posts         the hits of the query q, and posts that stand for its pairs
 --   IsStep s hits p e               e is the entry of a query of these hits and of the part p
@@ -20,7 +21,7 @@ use Rattle.cs_base.specs.declared.content.doc.Base.TheVariants as base
 use Rattle.cs_base.specs.declared.content.doc.Post.{Post}
 use Rattle.cs_base.specs.declared.content.doc.Scored.{Scored}
 use Rattle.cs_base.specs.declared.content.query.Query.{Query, out-Query}
-use Rattle.cs_base.specs.declared.content.query.Part.{out-Part}
+use Rattle.cs_base.specs.declared.content.query.Part.{Part, out-Part}
 use Rattle.cs_file.specs.Indexes.{IndexView}
 use Rattle.cs_meet.specs.Filters.{keep_docs, drop_docs}
 use Rattle.cs_model.specs.Answers.{PartRows, pairs, parts_of}
@@ -74,8 +75,12 @@ pub record EntryFits (i : IndexView) (positive : Bool) (n : ℕ) (e : EntryOf Po
   pub in_base : All (λ p. is_in_base e.base p ≡ true) e.rows
 
 -- not so without a part
+abbrev pub end_positive : List Part → Bool
+end_positive ps = fold (λ before p. not (out-Part p).excluded) false ps
+
+-- not so of the empty query
 abbrev pub last_is_positive : Query → Bool
-last_is_positive q = fold (λ before p. not (out-Part p).excluded) false (out-Query q).parts
+last_is_positive q = end_positive (out-Query q).parts
 
 -- the posts of the entry stand for the rows that the part leaves
 abbrev pub IsStep : Stock → Base → PartRows → EntryOf Post → Type 0

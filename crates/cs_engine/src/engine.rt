@@ -1,5 +1,5 @@
 //! The engine over an opened index.
-ghost use Rattle.std.specs.Prelude.{◌≡◌, ◌≤◌, [], false, IfOk};
+ghost use Rattle.std.specs.Prelude.{◌≡◌, ◌≤◌, [], false, not, is_some, IfOk};
 ghost use Rattle.std.specs.Option.{ForSome};
 ghost use Rattle.cs_base.specs.outside.Causes.{ReadsWithin};
 ghost use Rattle.cs_cache.specs.AnswerList.{answer_list};
@@ -8,17 +8,19 @@ ghost use Rattle.cs_model.specs.Parameters.{HoldsLimits};
 ghost use Rattle.cs_model.specs.Requests.{reply_of};
 ghost use Rattle.cs_model_index.specs.Sections.{file_corpus};
 ghost use Rattle.cs_model_kept.specs.Due.{due};
+ghost use Rattle.cs_model_kept.specs.KeptList.{plan_by};
 ghost use Rattle.cs_model_kept.specs.declared.limits.TheConstants.{MAX_ENTRIES};
 ghost use Rattle.cs_query.specs.RequestView.{asked};
 ghost use Rattle.cs_engine.specs.Asking.{division, is_read, is_changed, titles_of};
-ghost use Rattle.cs_engine.specs.Keeping.{AreGood, IsAfter, Keeps, note_plan};
+ghost use Rattle.cs_engine.specs.Keeping.{AreGood, IsAfter, Keeps, became, behind, is_same, note_plan};
 
 use crate::fault::AskFault;
 use crate::note::Note;
-use cs_base::Store;
-use cs_cache::Answers;
+use crate::replying::answered;
+use cs_base::{Kept, Keys, Plan, Store};
+use cs_cache::{Answers, Entry};
 use cs_file::Index;
-use cs_query::{Reply, Request};
+use cs_query::{Reply, Request, keys};
 use std::alloc::Global;
 use std::marker::Model;
 
@@ -82,6 +84,34 @@ impl Engine {
         ensures reads { ReadsWithin (due (division self.old.index) (asked request.now) (note_plan request.now.query self.old.answers) (titles_of (asked request.now) result)) (S.reads store.old) (S.reads store.new) }
         ensures caused { CausedReads (is_read result) (S.faults store.old) (S.faults store.new) }
     {
-        Err(AskFault::Memory)
+        let keys = keys(alloc, &request.query)?;
+        let plan = self.answers.look(&keys);
+        let (reply, own) = answered(
+            alloc,
+            &self.index,
+            &self.answers,
+            store,
+            request,
+            &keys,
+            plan,
+        )?;
+        let kept = put(&mut self.answers, keys, plan, own);
+        Ok((reply, Note { plan, kept }))
+    }
+}
+
+// What becomes of the query's own entry, behind a reply by a plan. The entry that the plan used comes to the front before.
+fn put(answers: &mut Answers, keys: Keys, plan: Plan, entry: Option<Entry>) -> Kept
+    requires plan { plan ≡ plan_by answers.old.entries keys }
+    requires own { is_some entry ≡ not (is_same plan) }
+
+    ensures became { result ≡ became entry }
+    ensures entries { answers.new.entries ≡ behind answers.old keys plan entry }
+    ensures capacity { answers.new.capacity ≡ answers.old.capacity }
+{
+    answers.resume(&keys, plan);
+    match entry {
+        Some(entry) => answers.keep(keys.same, entry),
+        None => Kept::Had,
     }
 }

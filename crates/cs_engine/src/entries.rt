@@ -45,8 +45,8 @@ pub(crate) fn hits_of(
     Ok(Base::Listed(scored))
 }
 
-// The same base once more.
-fn copy_of(alloc: Global, base: &Base) -> Result<Base, Memory>
+/// The same base once more.
+pub(crate) fn copy_of(alloc: Global, base: &Base) -> Result<Base, Memory>
     ensures { IfOk result (λ b. b ≡ base.now) }
 {
     match base {

@@ -15,9 +15,12 @@ mod hits;
 mod note;
 mod packing;
 mod parts;
+mod plans;
 mod reading;
 mod replies;
+mod replying;
 mod steps;
+mod typed;
 mod words;
 
 pub use cs_query::{Reply, Request};

@@ -11,7 +11,7 @@ ghost use Rattle.cs_model_kept.specs.Due.{met_of_part, met_of_query};
 ghost use Rattle.cs_model_kept.specs.Entries.{entry_at, entry_of};
 ghost use Rattle.cs_engine.specs.Asking.{division, is_read, is_changed};
 ghost use Rattle.cs_engine.specs.Reading.{WhereStood, stock_of};
-ghost use Rattle.cs_engine.specs.Steps.{EntryFits, IsBaseOf, IsStep, last_is_positive};
+ghost use Rattle.cs_engine.specs.Steps.{EntryFits, IsBaseOf, IsStep, end_positive, last_is_positive};
 ghost use Rattle.cs_engine.specs.Stocked.{corpus_in};
 
 use crate::entries::{entry_after, hits_of, nothing_kept};
@@ -76,12 +76,12 @@ pub(crate) fn extended<S: Store>(
     Ok(entry)
 }
 
-/// Whether the last part of a query is positive; not so without a part.
-pub(crate) fn last_is_positive(query: &Query) -> bool
-    ensures { result ≡ last_is_positive query.now }
+/// Whether the last one of these parts is positive; not so without a part.
+pub(crate) fn end_positive(parts: &[Part]) -> bool
+    ensures { result ≡ end_positive parts.now }
 {
     let mut positive = false;
-    for part in query.parts.as_slice() {
+    for part in parts {
         positive = !part.excluded;
     }
     positive

@@ -1,0 +1,113 @@
+-- What is lent to a plan, and the reads that a plan leaves.
+--
+--   same_lent, extend_lent, narrow_lent      the entry that is lent is in range, and over the bytes the one that the plan speaks of
+--   narrow_typed         a prefix is being typed, and the rows that are lent are in range
+--   due_reads            the reads for a query's parts and those behind them
+--   err_due              where there is no reply
+use Rattle.std.proofs.Common.{◌≡◌, ℕ, ◌+◌, ◌<◌, List, length, refl, sym, ap, subst, ◌∙◌, arith, Option, Some, None, IsSome}
+use Rattle.std.specs.Prelude.{filter, IfSome, Result, Ok, Err}
+use Rattle.std.specs.Result.{IsErr}
+use Rattle.cs_base.specs.outside.Causes.{ReadsWithin}
+use Rattle.cs_base.specs.declared.content.doc.Base.{Base}
+use Rattle.cs_base.specs.declared.content.doc.Post.{Post}
+use Rattle.cs_base.specs.declared.content.key.Keys.{Keys}
+use Rattle.cs_base.specs.declared.content.query.Query.{Query, out-Query}
+use Rattle.cs_base.specs.declared.index.plan.Plan.{Plan}
+use Rattle.cs_base.specs.declared.index.plan.Plan.TheVariants.{Same, Narrow, Extend, Fresh}
+use Rattle.cs_file.specs.Indexes.{IndexView}
+use Rattle.cs_model.specs.Answers.{begins}
+use Rattle.cs_model.specs.Keys.{keys_of, last_prefix}
+use Rattle.cs_model.specs.Refusals.{IsOfGrammar}
+use Rattle.cs_model.specs.Replies.{Reply}
+use Rattle.cs_model.specs.Requests.{Request}
+use Rattle.cs_model_index.specs.Numbered.{word_at}
+use Rattle.cs_model_kept.specs.Due.{Division, due, met_by, met_of_facets}
+use Rattle.cs_model_kept.specs.Entries.{EntryOf}
+use Rattle.cs_model_kept.specs.KeptList.{KeptOf, plan_by, used_entry}
+use Rattle.cs_model_kept.specs.KeptListLaws.{before_last}
+use Rattle.cs_engine.specs.Asking.{titles_of}
+use Rattle.cs_engine.specs.Keeping.{FitsQuery, HoldsGood, IsEntryOver, KeepsFitting, entry_with}
+use Rattle.cs_engine.specs.Reading.{AreWithin}
+use Rattle.cs_engine.specs.declared.fault.AskFault.{AskFault}
+use Rattle.cs_engine.proofs.KeptLemmas.{extend_fits, extend_told, narrow_fits, narrow_told, narrowed_fits, same_fits, same_told}
+use Rattle.cs_engine.proofs.PlansLemmas.{Viewed, is_used, viewed}
+
+-- ---- what is lent
+module _ (i : IndexView) (held : KeptOf (EntryOf Post)) (fit : KeepsFitting i held) (q : Query) (g : IsOfGrammar q) (keys : Keys) (are : keys ≡ keys_of q) (by_plan : Plan) (is : by_plan ≡ plan_by held keys) (base : Base) (rows : List Post)
+    (b : IfSome (used_entry held keys by_plan) (λ e. base ≡ e.1.base)) (r : IfSome (used_entry held keys by_plan) (λ e. rows ≡ e.1.rows)) where
+  abbrev lent : EntryOf Post
+  lent = entry_with base rows
+
+  lent_by : (own : Plan) → by_plan ≡ own → ¬ (own ≡ Fresh) → Viewed (used_entry held (keys_of q) own) lent
+  lent_by own same other =
+      let v = viewed (used_entry held keys by_plan) (is_used held q g keys are by_plan is (λ f. other (sym same ∙ f))) base rows b r in
+      record {
+        kept = v.kept;
+        found = ap (used_entry held (keys_of q)) (sym same) ∙ ap (λ k. used_entry held k by_plan) (sym are) ∙ v.found;
+        same = v.same;
+      }
+
+  plan_of : (own : Plan) → by_plan ≡ own → own ≡ plan_by held (keys_of q)
+  plan_of own same = sym same ∙ is ∙ ap (plan_by held) are
+
+  pub same_lent : by_plan ≡ Same → FitsQuery i q lent × ((bytes : List ℕ) → HoldsGood bytes i held → IsEntryOver bytes i q lent)
+  same_lent same =
+      let v = lent_by Same same (λ f. let no : Same ≡ Fresh = f in cc) in (
+        subst (FitsQuery i q) v.same (same_fits i held fit q g v.kept v.found),
+        λ bytes good. subst (IsEntryOver bytes i q) v.same (same_told bytes i held good q g v.kept (plan_of Same same) v.found),
+      )
+
+  pub extend_lent : by_plan ≡ Extend → (1 < length (out-Query q).parts) × FitsQuery i (before_last q) lent × ((bytes : List ℕ) → HoldsGood bytes i held → IsEntryOver bytes i (before_last q) lent)
+  extend_lent same =
+      let v = lent_by Extend same (λ f. let no : Extend ≡ Fresh = f in cc) in
+      let fits = extend_fits i held fit q g v.kept v.found in (
+        fits.0,
+        subst (FitsQuery i (before_last q)) v.same fits.1,
+        λ bytes good. subst (IsEntryOver bytes i (before_last q)) v.same (extend_told bytes i held good q g v.kept (plan_of Extend same) v.found),
+      )
+
+  not_fresh : (cut : ℕ) → ¬ (Narrow cut ≡ Fresh)
+  not_fresh cut f = cc
+
+  pub narrow_typed : (cut : ℕ) → by_plan ≡ Narrow cut → IsSome (last_prefix q) × AreWithin i rows
+  narrow_typed cut same =
+      let v = lent_by (Narrow cut) same (not_fresh cut) in
+      let fits = narrow_fits i held fit q g v.kept cut v.found in
+      (fits.0, (subst (FitsQuery i q) v.same fits.1).rows)
+
+  pub narrow_lent : (cut : ℕ) → by_plan ≡ Narrow cut → (e : EntryOf Post) → e.base ≡ base → IfSome (last_prefix q) (λ p. e.rows ≡ filter (λ post. begins p (word_at i.words post.word)) rows)
+      → FitsQuery i q e × ((bytes : List ℕ) → HoldsGood bytes i held → IsEntryOver bytes i q e)
+  narrow_lent cut same e base_is rows_are = cases (last_prefix q) refl (narrow_typed cut same).0 rows_are
+    where
+      cases : (o : Option (List ℕ)) → last_prefix q ≡ o → IsSome o → IfSome o (λ p. e.rows ≡ filter (λ post. begins p (word_at i.words post.word)) rows) → FitsQuery i q e × ((bytes : List ℕ) → HoldsGood bytes i held → IsEntryOver bytes i q e)
+      cases None typed some h = absurd cc
+      cases (Some p) typed some h =
+          let v = lent_by (Narrow cut) same (not_fresh cut) in
+          let keeps : Post → _ = λ post. begins p (word_at i.words post.word) in
+          let fits = (narrow_fits i held fit q g v.kept cut v.found).1 in
+          let whole : entry_with v.kept.1.base (filter keeps v.kept.1.rows) ≡ e =
+          ap (λ (x : EntryOf Post). entry_with x.base (filter keeps x.rows)) v.same ∙ ap (entry_with base) (sym h) ∙ ap (λ x. entry_with x e.rows) (sym base_is) in (
+            subst (FitsQuery i q) whole (narrowed_fits i q keeps v.kept.1 fits),
+            λ bytes good. subst (IsEntryOver bytes i q) whole (narrow_told bytes i held good q g v.kept cut (plan_of (Narrow cut) same) v.found p typed),
+          )
+
+-- ---- what may be read
+due_is : (v : Division) (r : Request) (by_plan : Plan) (titles : ℕ) → due v r by_plan titles ≡ titles + met_of_facets v r.facets + met_by v r.query by_plan
+unfolding due
+due_is v r by_plan titles = refl
+
+pub due_reads : (v : Division) (r : Request) (by_plan own : Plan) (titles before mid now : ℕ) → by_plan ≡ own → ReadsWithin (met_by v r.query own) before mid → ReadsWithin (titles + met_of_facets v r.facets) mid now → ReadsWithin (due v r by_plan titles) before now
+due_reads v r by_plan own titles before mid now same a b =
+    let all = due_is v r by_plan titles ∙ ap (λ p. titles + met_of_facets v r.facets + met_by v r.query p) same in
+    let a_later = a.later in
+    let a_within = a.within in
+    let b_later = b.later in
+    let b_within = b.within in
+    record { later = omega (arith, a_later, b_later); within = omega (arith, a_within, b_within, all) }
+
+pub no_reads : (n now : ℕ) → ReadsWithin n now now
+no_reads n now = record { later = omega arith; within = omega arith }
+
+pub err_due : {T : Type 0} (q : Request) (r : Result (Reply × T) AskFault) → IsErr r → titles_of q r ≡ q.hits
+err_due q (Ok r) h = absurd cc
+err_due q (Err e) h = refl

@@ -1,0 +1,130 @@
+-- From a kept entry to the reply.
+--
+--   viewed               the entry that is lent
+--   is_used              each plan but Fresh uses one
+--   narrowed_rows        the rows of the words from one number up to another are those of the prefix that has these words
+--   ends_first, first_in, more_told, more_fits, last_met      one part more
+--   hits_are_in, found_by_entry      the hits of the query's own entry
+use Rattle.std.proofs.Common.{◌≡◌, ℕ, ◌+◌, ◌-◌, ◌*◌, ◌≤◌, Bool, not, List, [], ◌∷◌, length, map, take, get_or, refl, sym, ap, subst, ◌∙◌, arith, length-take, Option, Some, None, IsSome, suc}
+use Rattle.std.specs.Prelude.{filter, IfSome}
+use Rattle.std.proofs.lemmas.List.{take_all}
+use Rattle.std.proofs.lemmas.List.Elements.{All-weaker, recursion_from_All}
+use Rattle.cs_base.specs.declared.content.doc.Base.{Base}
+use Rattle.cs_base.specs.declared.content.doc.Post.{Post}
+use Rattle.cs_base.specs.declared.content.key.Keys.{Keys}
+use Rattle.cs_base.specs.declared.content.query.Part.{Part, out-Part}
+use Rattle.cs_base.specs.declared.content.query.Query.{Query, out-Query, out-roll-Query}
+use Rattle.cs_base.specs.declared.index.plan.Plan.{Plan}
+use Rattle.cs_base.specs.declared.index.plan.Plan.TheVariants.{Fresh}
+use Rattle.cs_file.specs.Indexes.{IndexView, IsIndex, StandsFor}
+use Rattle.cs_model.specs.Answers.{begins, parts_of, rows_of_part}
+use Rattle.cs_model.specs.Keys.{keys_of, last_of}
+use Rattle.cs_model.specs.Refusals.{IsOfGrammar}
+use Rattle.cs_model_index.specs.Numbered.{word_at}
+use Rattle.cs_model_kept.specs.Due.{Division, met_of_last, met_of_part}
+use Rattle.cs_model_kept.specs.Entries.{Entry, EntryOf, entry, entry_at, entry_of}
+use Rattle.cs_model_kept.specs.Entries as kept
+use Rattle.cs_model_kept.specs.KeptList.{KeptOf, plan_by, used_entry}
+use Rattle.cs_model_kept.specs.KeptListLaws.{before_last}
+use Rattle.cs_model_kept.proofs.EntryLemmas.{parts_read}
+use Rattle.cs_model_kept.proofs.PlanLemmas.{plans_are_held}
+use Rattle.cs_vocab.specs.Ranges.{IsRange}
+use Rattle.cs_engine.specs.Keeping.{FitsQuery, IsEntryOver, entry_with}
+use Rattle.cs_engine.specs.Reading.{AreWithin, IsWithin, stock_of}
+use Rattle.cs_engine.specs.Steps.{AreFound, EntryFits, IsBaseOf, IsStep, end_positive, last_is_positive, posts_hits}
+use Rattle.cs_engine.specs.Stocked.{corpus_in, is_between}
+use Rattle.cs_engine.proofs.EvaluationLemmas.{EntrySoFar, ends_read, entry_ends, entry_goes_on, entry_unrolled, hits_by, positive_more}
+use Rattle.cs_engine.proofs.KeptLemmas.{from_stock, in_stock}
+use Rattle.cs_engine.proofs.StepLemmas.{base_weaker, hits_in}
+use Rattle.cs_engine.proofs.VocabLemmas.{filter_alike}
+
+-- ---- the entry that is lent
+pub record Viewed (o : Option (List ℕ × EntryOf Post)) (e : EntryOf Post) : Type 0 where
+  pub kept : List ℕ × EntryOf Post
+  pub found : o ≡ Some kept
+  pub same : kept.1 ≡ e
+
+pub viewed : (o : Option (List ℕ × EntryOf Post)) → IsSome o → (base : Base) (rows : List Post) → IfSome o (λ e. base ≡ e.1.base) → IfSome o (λ e. rows ≡ e.1.rows) → Viewed o (entry_with base rows)
+viewed None some base rows b r = absurd cc
+viewed (Some e) some base rows b r = record {
+  kept = e;
+  found = refl;
+  same = ap (λ x. entry_with x e.1.rows) (sym b) ∙ ap (entry_with base) (sym r);
+}
+
+pub is_used : (held : KeptOf (EntryOf Post)) (q : Query) → IsOfGrammar q → (keys : Keys) → keys ≡ keys_of q → (by_plan : Plan) → by_plan ≡ plan_by held keys → ¬ (by_plan ≡ Fresh) → IsSome (used_entry held keys by_plan)
+is_used held q g keys are by_plan is other =
+    let own : by_plan ≡ plan_by held (keys_of q) = is ∙ ap (plan_by held) are in
+    subst (λ k. IsSome (used_entry held k by_plan)) (sym are) (subst (λ p. IsSome (used_entry held (keys_of q) p)) (sym own) (plans_are_held held q g (λ fresh. other (own ∙ fresh))))
+
+-- ---- a letter more
+pub narrowed_rows : (i : IndexView) (p : List ℕ) (lo hi : ℕ) (posts : List Post) → IsRange i.words p lo hi → AreWithin i posts → filter (is_between lo hi) posts ≡ filter (λ post. begins p (word_at i.words post.word)) posts
+narrowed_rows i p lo hi posts range w =
+    let same : Post → Type 0 = λ x. is_between lo hi x ≡ begins p (word_at i.words x.word) in
+    filter_alike (is_between lo hi) (λ x. begins p (word_at i.words x.word)) posts (recursion_from_All same posts (All-weaker (IsWithin i.docs (length i.words)) same (λ x at. sym (range.holds x.word at.word)) posts w.within))
+
+-- ---- a part more
+last_is : (ps : List Part) (p : Part) → 1 ≤ length ps → p ≡ get_or ps (length ps - 1) p → last_of ps ≡ Some p
+last_is [] p some at = absurd (omega (arith, some))
+last_is (x ∷ []) p some at = let first : length (x ∷ []) - 1 ≡ 0 = omega arith in ap Some (sym (at ∙ ap (λ n. get_or (x ∷ []) n p) first))
+last_is (x ∷ y ∷ ys) p some at = let more : length (x ∷ y ∷ ys) - 1 ≡ suc (length (y ∷ ys) - 1) = omega arith in last_is (y ∷ ys) p (omega arith) (at ∙ ap (λ n. get_or (x ∷ y ∷ ys) n p) more)
+
+pub last_met : (v : Division) (ps : List Part) (p : Part) → 1 ≤ length ps → p ≡ get_or ps (length ps - 1) p → met_of_last v (last_of ps) ≡ met_of_part v p
+last_met v ps p some at = ap (met_of_last v) (last_is ps p some at)
+
+module _ (q : Query) where
+  abbrev ps : List Part
+  ps = (out-Query q).parts
+
+  abbrev first : List Part
+  first = take (length ps - 1) ps
+
+  first_are : (out-Query (before_last q)).parts ≡ first
+  first_are = ap (λ x. x.parts) (out-roll-Query (record { parts = first }))
+
+  -- the hits of the first parts
+  pub ends_first : (positive : Bool) → positive ≡ end_positive first → positive ≡ last_is_positive (before_last q)
+  ends_first positive ends = ends ∙ sym (ap end_positive first_are)
+
+  pub first_in : (i : IndexView) (e : EntryOf Post) (positive : Bool) (hits : Base) → FitsQuery i (before_last q) e → positive ≡ end_positive first → hits ≡ posts_hits positive e.base e.rows → IsBaseOf i.docs (255 * (length ps - 1)) hits
+  first_in i e positive hits fits ends are =
+      let many : length (out-Query (before_last q)).parts ≡ length ps - 1 = ap length first_are ∙ (let l = length-take (length ps - 1) ps in omega (arith, l)) in
+      subst (IsBaseOf i.docs (255 * (length ps - 1))) (sym are) (hits_in i positive (length ps - 1) e (subst (λ n. EntryFits i positive n e) many (subst (λ p. EntryFits i p (length (out-Query (before_last q)).parts) e) (sym (ends_first positive ends)) fits)))
+
+  pub more_fits : (i : IndexView) (n : ℕ) (x : Part) (e : EntryOf Post) → length ps ≡ n + 1 → x ≡ get_or ps n x → EntryFits i (not (out-Part x).excluded) (n + 1) e → FitsQuery i q e
+  more_fits i n x e many at fits =
+      let whole : take (n + 1) ps ≡ ps = take_all (n + 1) ps (omega (arith, many)) in
+      let ends : not (out-Part x).excluded ≡ last_is_positive q = sym (positive_more ps n x (omega (arith, many)) at) ∙ ap end_positive whole in
+      subst (λ m. EntryFits i (last_is_positive q) m e) (sym many) (subst (λ b. EntryFits i b (n + 1) e) ends fits)
+
+  module _ (b : List ℕ) (i : IndexView) (stands : StandsFor b i) (is : IsIndex i) (was now : EntryOf Post) where
+    so_far : IsEntryOver b i (before_last q) was → EntrySoFar (stock_of b) ps (length ps - 1) was
+    so_far own =
+        let k = corpus_in (stock_of b) in
+        in_stock b i stands is (before_last q) was own ∙ entry_unrolled k (before_last q) ∙ ap (entry k) (parts_read k (before_last q))
+        ∙ ap (λ xs. entry k (map (rows_of_part k) xs)) first_are
+
+    pub more_told : (n : ℕ) (x : Part) (positive : Bool) (hits : Base) → length ps ≡ n + 1 → x ≡ get_or ps n x → positive ≡ end_positive (take n ps) → hits ≡ posts_hits positive was.base was.rows → IsEntryOver b i (before_last q) was
+        → IsStep (stock_of b) hits (rows_of_part (corpus_in (stock_of b)) x) now → IsEntryOver b i q now
+    more_told n x positive hits many at ends hits_are own step =
+        let here : length ps - 1 ≡ n = omega (arith, many) in
+        from_stock b i stands is q now (entry_ends (stock_of b) ps q (n + 1) now refl (omega (arith, many))
+        (entry_goes_on (stock_of b) ps n x (omega (arith, many)) at positive was now hits ends (subst (λ m. EntrySoFar (stock_of b) ps m was) here (so_far own)) hits_are step))
+
+-- ---- hits by the query's own entry
+module _ (i : IndexView) (q : Query) (e : EntryOf Post) (positive : Bool) (ends : positive ≡ last_is_positive q) (hits : Base) (are : hits ≡ posts_hits positive e.base e.rows) where
+  pub hits_are_in : FitsQuery i q e → length (out-Query q).parts ≤ 16 → IsBaseOf i.docs (255 * 16) hits
+  hits_are_in fits few =
+      let n = length (out-Query q).parts in
+      base_weaker i.docs (255 * n) (255 * 16) hits (omega (arith, few)) (subst (IsBaseOf i.docs (255 * n)) (sym are) (hits_in i positive n e (subst (λ p. EntryFits i p n e) (sym ends) fits)))
+
+  pub found_by_entry : (b : List ℕ) → StandsFor b i → IsIndex i → IsEntryOver b i q e → AreFound (stock_of b) q hits e.rows
+  found_by_entry b stands is own =
+      let s = stock_of b in
+      let k = corpus_in s in
+      let told = in_stock b i stands is q e own ∙ entry_unrolled k q in
+      let from : positive ≡ kept.ends_positive (parts_of k q) = ends ∙ ends_read k (out-Query q).parts ∙ ap kept.ends_positive (sym (parts_read k q)) in
+      record {
+        base = are ∙ hits_by s (parts_of k q) positive e from told;
+        rows = ap (λ (x : Entry). x.rows) told;
+      }

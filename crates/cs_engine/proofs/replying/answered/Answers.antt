@@ -1,0 +1,125 @@
+use Rattle.std.proofs.Common.{◌≡◌, ◌∙◌, sym, subst, arith, length}
+use Rattle.std.specs.Prelude.{IfSome}
+use Rattle.cs_base.specs.declared.index.plan.Plan.TheVariants.{Same, Narrow, Extend, Fresh}
+use Rattle.cs_file.specs.Indexes.{IsIndex}
+use Rattle.cs_query.specs.RequestView.{asked}
+use Rattle.cs_engine.specs.Asking.{division, titles_of}
+use Rattle.cs_engine.specs.Keeping.{FitsQuery, IsEntryOver}
+use Rattle.cs_engine.proofs.KeptLemmas.{from_stock}
+use Rattle.cs_engine.proofs.LentLemmas.{due_reads, err_due, extend_lent, narrow_lent, narrow_typed, no_reads, same_lent}
+use Rattle.cs_engine.proofs.PlansLemmas.{is_used}
+use Rattle.cs_engine.proofs.replying.answered.Goals as goal
+
+-- ---- the query's own entry
+pub view-view-requires : goal.view-view-requires
+view-view-requires g c =
+    record { held = is_used c.args.answers.now.entries c.args.request.now.query c.requires.limits.query c.args.keys.now c.requires.keys c.args.plan c.requires.plan (λ f. let no : Same ≡ Fresh = sym c.in-Same.is ∙ f in cc) }
+
+pub by_entry-requires-clause-entry : goal.by_entry-requires-clause-entry
+by_entry-requires-clause-entry g c =
+    (same_lent c.args.index.now c.args.answers.now.entries c.requires.kept c.args.request.now.query c.requires.limits.query c.args.keys.now c.requires.keys c.args.plan c.requires.plan c.view-view.result.base.now c.view-view.result.rows.now.posts
+    c.view-view.ensures.base c.view-view.ensures.rows c.in-Same.is).0
+
+pub returns-in_err-reply-in-Same-clause-reads : goal.returns-in_err-reply-in-Same-clause-reads
+returns-in_err-reply-in-Same-clause-reads g c =
+    due_reads (division c.args.index.now) (asked c.args.request.now) c.args.plan Same (titles_of (asked c.args.request.now) c.from_residual.result) _ (g.S.Store.reads c.args.store.now) _ c.in-Same.is (no_reads 0 _) (let r = c.in_err-reply-in-Same.ensures.reads in let w = r.within in let e = err_due (asked c.args.request.now) c.from_residual.result c.from_residual.ensures.0 in record { later = r.later; within = omega (arith, w, e) })
+
+pub returns-in_ok-reply-in-Same-clause-told : goal.returns-in_ok-reply-in-Same-clause-told
+returns-in_ok-reply-in-Same-clause-told g c b is stands good =
+    c.in_ok-reply-in-Same.ensures.told b is stands ((same_lent c.args.index.now c.args.answers.now.entries c.requires.kept c.args.request.now.query c.requires.limits.query c.args.keys.now c.requires.keys c.args.plan c.requires.plan c.view-view.result.base.now c.view-view.result.rows.now.posts
+    c.view-view.ensures.base c.view-view.ensures.rows c.in-Same.is).1 b good)
+
+pub returns-in_ok-reply-in-Same-clause-reads : goal.returns-in_ok-reply-in-Same-clause-reads
+returns-in_ok-reply-in-Same-clause-reads g c =
+    due_reads (division c.args.index.now) (asked c.args.request.now) c.args.plan Same (length c.in_ok-reply-in-Same.reply.hits) _ (g.S.Store.reads c.args.store.now) _ c.in-Same.is (no_reads 0 _) (c.in_ok-reply-in-Same.ensures.reads)
+
+-- ---- a letter more
+pub view-view-requires-in-Narrow : goal.view-view-requires-in-Narrow
+view-view-requires-in-Narrow g c =
+    record { held = is_used c.args.answers.now.entries c.args.request.now.query c.requires.limits.query c.args.keys.now c.requires.keys c.args.plan c.requires.plan (λ f. let no : Narrow c.in-Narrow.cut ≡ Fresh = sym c.in-Narrow.is ∙ f in cc) }
+
+pub narrowed-requires-clause-within : goal.narrowed-requires-clause-within
+narrowed-requires-clause-within g c =
+    (narrow_typed c.args.index.now c.args.answers.now.entries c.requires.kept c.args.request.now.query c.requires.limits.query c.args.keys.now c.requires.keys c.args.plan c.requires.plan c.view-view-in-Narrow.result.base.now c.view-view-in-Narrow.result.rows.now.posts
+    c.view-view-in-Narrow.ensures.base c.view-view-in-Narrow.ensures.rows c.in-Narrow.cut c.in-Narrow.is).1
+
+pub with_reply-requires-clause-entry : goal.with_reply-requires-clause-entry
+with_reply-requires-clause-entry g c =
+    (narrow_lent c.args.index.now c.args.answers.now.entries c.requires.kept c.args.request.now.query c.requires.limits.query c.args.keys.now c.requires.keys c.args.plan c.requires.plan c.view-view-in-Narrow.result.base.now c.view-view-in-Narrow.result.rows.now.posts
+    c.view-view-in-Narrow.ensures.base c.view-view-in-Narrow.ensures.rows c.in-Narrow.cut c.in-Narrow.is c.in_ok-entry-in-Narrow.entry c.in_ok-entry-in-Narrow.ensures.base c.in_ok-entry-in-Narrow.ensures.rows).0
+
+pub returns-in_err-answered-in-Narrow-clause-reads : goal.returns-in_err-answered-in-Narrow-clause-reads
+returns-in_err-answered-in-Narrow-clause-reads g c =
+    due_reads (division c.args.index.now) (asked c.args.request.now) c.args.plan (Narrow c.in-Narrow.cut) (titles_of (asked c.args.request.now) c.from_residual-in_err-answered-in-Narrow.result) _ (g.S.Store.reads c.args.store.now) _ c.in-Narrow.is (no_reads 0 _) (let r = c.in_err-answered-in-Narrow.ensures.reads in let w = r.within in let e = err_due (asked c.args.request.now) c.from_residual-in_err-answered-in-Narrow.result c.from_residual-in_err-answered-in-Narrow.ensures.0 in record { later = r.later; within = omega (arith, w, e) })
+
+pub returns-in_ok-answered-in-Narrow-clause-told : goal.returns-in_ok-answered-in-Narrow-clause-told
+returns-in_ok-answered-in-Narrow-clause-told g c b is stands good =
+    c.in_ok-answered-in-Narrow.ensures.told b is stands ((narrow_lent c.args.index.now c.args.answers.now.entries c.requires.kept c.args.request.now.query c.requires.limits.query c.args.keys.now c.requires.keys c.args.plan c.requires.plan c.view-view-in-Narrow.result.base.now c.view-view-in-Narrow.result.rows.now.posts
+    c.view-view-in-Narrow.ensures.base c.view-view-in-Narrow.ensures.rows c.in-Narrow.cut c.in-Narrow.is c.in_ok-entry-in-Narrow.entry c.in_ok-entry-in-Narrow.ensures.base c.in_ok-entry-in-Narrow.ensures.rows).1 b good)
+
+pub returns-in_ok-answered-in-Narrow-clause-own : goal.returns-in_ok-answered-in-Narrow-clause-own
+returns-in_ok-answered-in-Narrow-clause-own g c b is stands good =
+    subst (λ o. IfSome o (IsEntryOver b c.args.index.now c.args.request.now.query)) (sym c.in_ok-answered-in-Narrow.ensures.same) ((narrow_lent c.args.index.now c.args.answers.now.entries c.requires.kept c.args.request.now.query c.requires.limits.query c.args.keys.now c.requires.keys c.args.plan c.requires.plan c.view-view-in-Narrow.result.base.now c.view-view-in-Narrow.result.rows.now.posts
+    c.view-view-in-Narrow.ensures.base c.view-view-in-Narrow.ensures.rows c.in-Narrow.cut c.in-Narrow.is c.in_ok-entry-in-Narrow.entry c.in_ok-entry-in-Narrow.ensures.base c.in_ok-entry-in-Narrow.ensures.rows).1 b good)
+
+pub returns-in_ok-answered-in-Narrow-clause-within : goal.returns-in_ok-answered-in-Narrow-clause-within
+returns-in_ok-answered-in-Narrow-clause-within g c =
+    subst (λ o. IfSome o (FitsQuery c.args.index.now c.args.request.now.query)) (sym c.in_ok-answered-in-Narrow.ensures.same) (narrow_lent c.args.index.now c.args.answers.now.entries c.requires.kept c.args.request.now.query c.requires.limits.query c.args.keys.now c.requires.keys c.args.plan c.requires.plan c.view-view-in-Narrow.result.base.now c.view-view-in-Narrow.result.rows.now.posts
+    c.view-view-in-Narrow.ensures.base c.view-view-in-Narrow.ensures.rows c.in-Narrow.cut c.in-Narrow.is c.in_ok-entry-in-Narrow.entry c.in_ok-entry-in-Narrow.ensures.base c.in_ok-entry-in-Narrow.ensures.rows).0
+
+pub returns-in_ok-answered-in-Narrow-clause-reads : goal.returns-in_ok-answered-in-Narrow-clause-reads
+returns-in_ok-answered-in-Narrow-clause-reads g c =
+    due_reads (division c.args.index.now) (asked c.args.request.now) c.args.plan (Narrow c.in-Narrow.cut) (length c.in_ok-answered-in-Narrow.answered.0.hits) _ (g.S.Store.reads c.args.store.now) _ c.in-Narrow.is (no_reads 0 _) (c.in_ok-answered-in-Narrow.ensures.reads)
+
+-- ---- a part more
+pub view-view-requires-in-Extend : goal.view-view-requires-in-Extend
+view-view-requires-in-Extend g c =
+    record { held = is_used c.args.answers.now.entries c.args.request.now.query c.requires.limits.query c.args.keys.now c.requires.keys c.args.plan c.requires.plan (λ f. let no : Extend ≡ Fresh = sym c.in-Extend.is ∙ f in cc) }
+
+pub one_part_more-requires-clause-before : goal.one_part_more-requires-clause-before
+one_part_more-requires-clause-before g c =
+    (extend_lent c.args.index.now c.args.answers.now.entries c.requires.kept c.args.request.now.query c.requires.limits.query c.args.keys.now c.requires.keys c.args.plan c.requires.plan c.view-view-in-Extend.result.base.now c.view-view-in-Extend.result.rows.now.posts
+    c.view-view-in-Extend.ensures.base c.view-view-in-Extend.ensures.rows c.in-Extend.is).1
+
+pub returns-in_err-entry-in-Extend-clause-reads : goal.returns-in_err-entry-in-Extend-clause-reads
+returns-in_err-entry-in-Extend-clause-reads g c =
+    due_reads (division c.args.index.now) (asked c.args.request.now) c.args.plan Extend (titles_of (asked c.args.request.now) c.from_residual-in_err-entry-in-Extend.result) _ (g.S.Store.reads c.one_part_more.new.store) _ c.in-Extend.is (c.one_part_more.ensures.reads) (no_reads _ _)
+
+pub returns-in_err-answered-in-Extend-clause-reads : goal.returns-in_err-answered-in-Extend-clause-reads
+returns-in_err-answered-in-Extend-clause-reads g c =
+    due_reads (division c.args.index.now) (asked c.args.request.now) c.args.plan Extend (titles_of (asked c.args.request.now) c.from_residual-in_err-answered-in-Extend.result) _ (g.S.Store.reads c.one_part_more.new.store) _ c.in-Extend.is (c.one_part_more.ensures.reads) (let r = c.in_err-answered-in-Extend.ensures.reads in let w = r.within in let e = err_due (asked c.args.request.now) c.from_residual-in_err-answered-in-Extend.result c.from_residual-in_err-answered-in-Extend.ensures.0 in record { later = r.later; within = omega (arith, w, e) })
+
+pub returns-in_ok-answered-in-Extend-clause-told : goal.returns-in_ok-answered-in-Extend-clause-told
+returns-in_ok-answered-in-Extend-clause-told g c b is stands good =
+    c.in_ok-answered-in-Extend.ensures.told b (c.one_part_more.ensures.bytes ∙ is) stands (c.in_ok-entry-in-Extend.ensures.told b is stands ((extend_lent c.args.index.now c.args.answers.now.entries c.requires.kept c.args.request.now.query c.requires.limits.query c.args.keys.now c.requires.keys c.args.plan c.requires.plan c.view-view-in-Extend.result.base.now c.view-view-in-Extend.result.rows.now.posts
+    c.view-view-in-Extend.ensures.base c.view-view-in-Extend.ensures.rows c.in-Extend.is).2 b good))
+
+pub returns-in_ok-answered-in-Extend-clause-own : goal.returns-in_ok-answered-in-Extend-clause-own
+returns-in_ok-answered-in-Extend-clause-own g c b is stands good =
+    subst (λ o. IfSome o (IsEntryOver b c.args.index.now c.args.request.now.query)) (sym c.in_ok-answered-in-Extend.ensures.same) (c.in_ok-entry-in-Extend.ensures.told b is stands ((extend_lent c.args.index.now c.args.answers.now.entries c.requires.kept c.args.request.now.query c.requires.limits.query c.args.keys.now c.requires.keys c.args.plan c.requires.plan c.view-view-in-Extend.result.base.now c.view-view-in-Extend.result.rows.now.posts
+    c.view-view-in-Extend.ensures.base c.view-view-in-Extend.ensures.rows c.in-Extend.is).2 b good))
+
+pub returns-in_ok-answered-in-Extend-clause-reads : goal.returns-in_ok-answered-in-Extend-clause-reads
+returns-in_ok-answered-in-Extend-clause-reads g c =
+    due_reads (division c.args.index.now) (asked c.args.request.now) c.args.plan Extend (length c.in_ok-answered-in-Extend.answered.0.hits) _ (g.S.Store.reads c.one_part_more.new.store) _ c.in-Extend.is (c.one_part_more.ensures.reads) (c.in_ok-answered-in-Extend.ensures.reads)
+
+-- ---- all parts
+pub returns-in_err-entry-in-Fresh-clause-reads : goal.returns-in_err-entry-in-Fresh-clause-reads
+returns-in_err-entry-in-Fresh-clause-reads g c =
+    due_reads (division c.args.index.now) (asked c.args.request.now) c.args.plan Fresh (titles_of (asked c.args.request.now) c.from_residual-in_err-entry-in-Fresh.result) _ (g.S.Store.reads c.entry_of.new.store) _ c.in-Fresh.is (c.entry_of.ensures.reads) (no_reads _ _)
+
+pub returns-in_err-answered-in-Fresh-clause-reads : goal.returns-in_err-answered-in-Fresh-clause-reads
+returns-in_err-answered-in-Fresh-clause-reads g c =
+    due_reads (division c.args.index.now) (asked c.args.request.now) c.args.plan Fresh (titles_of (asked c.args.request.now) c.from_residual-in_err-answered-in-Fresh.result) _ (g.S.Store.reads c.entry_of.new.store) _ c.in-Fresh.is (c.entry_of.ensures.reads) (let r = c.in_err-answered-in-Fresh.ensures.reads in let w = r.within in let e = err_due (asked c.args.request.now) c.from_residual-in_err-answered-in-Fresh.result c.from_residual-in_err-answered-in-Fresh.ensures.0 in record { later = r.later; within = omega (arith, w, e) })
+
+pub returns-in_ok-answered-in-Fresh-clause-told : goal.returns-in_ok-answered-in-Fresh-clause-told
+returns-in_ok-answered-in-Fresh-clause-told g c b is stands good =
+    c.in_ok-answered-in-Fresh.ensures.told b (c.entry_of.ensures.bytes ∙ is) stands (from_stock b c.args.index.now stands (subst IsIndex c.index.view_is c.index.invariant) c.args.request.now.query c.in_ok-entry-in-Fresh.entry (c.in_ok-entry-in-Fresh.ensures.told b is stands))
+
+pub returns-in_ok-answered-in-Fresh-clause-own : goal.returns-in_ok-answered-in-Fresh-clause-own
+returns-in_ok-answered-in-Fresh-clause-own g c b is stands good =
+    subst (λ o. IfSome o (IsEntryOver b c.args.index.now c.args.request.now.query)) (sym c.in_ok-answered-in-Fresh.ensures.same) (from_stock b c.args.index.now stands (subst IsIndex c.index.view_is c.index.invariant) c.args.request.now.query c.in_ok-entry-in-Fresh.entry (c.in_ok-entry-in-Fresh.ensures.told b is stands))
+
+pub returns-in_ok-answered-in-Fresh-clause-reads : goal.returns-in_ok-answered-in-Fresh-clause-reads
+returns-in_ok-answered-in-Fresh-clause-reads g c =
+    due_reads (division c.args.index.now) (asked c.args.request.now) c.args.plan Fresh (length c.in_ok-answered-in-Fresh.answered.0.hits) _ (g.S.Store.reads c.entry_of.new.store) _ c.in-Fresh.is (c.entry_of.ensures.reads) (c.in_ok-answered-in-Fresh.ensures.reads)

@@ -1,0 +1,83 @@
+//! The entry of a query out of a kept one.
+ghost use Rattle.std.specs.Prelude.{◌≡◌, ◌≤◌, ◌-◌, false, filter, length, take, IsSome, IfSome, IfOk};
+ghost use Rattle.cs_base.specs.outside.Causes.{ReadsWithin};
+ghost use Rattle.cs_base.specs.declared.content.query.Query.{out-Query};
+ghost use Rattle.cs_file.specs.Indexes.{IsIndex, Fits, CausedReads};
+ghost use Rattle.cs_model.specs.Answers.{begins};
+ghost use Rattle.cs_model.specs.Keys.{last_of, last_prefix};
+ghost use Rattle.cs_model.specs.Refusals.{IsOfGrammar};
+ghost use Rattle.cs_model_index.specs.Numbered.{word_at};
+ghost use Rattle.cs_model_kept.specs.Due.{met_of_last};
+ghost use Rattle.cs_model_kept.specs.KeptListLaws.{before_last};
+ghost use Rattle.cs_engine.specs.Asking.{division, is_read, is_changed};
+ghost use Rattle.cs_engine.specs.Keeping.{FitsQuery, IsEntryOver, entry_with};
+ghost use Rattle.cs_engine.specs.Reading.{AreWithin, WhereStood};
+
+use crate::between::posts_between;
+use crate::entries::{copy_of, hits_of};
+use crate::fault::AskFault;
+use crate::steps::{end_positive, extended};
+use crate::typed::last_prefix;
+use cs_base::{Base, Memory, Query, Store};
+use cs_cache::Entry;
+use cs_cols::Cols;
+use cs_file::Index;
+use std::alloc::Global;
+
+/// The entry of a query whose prefix is being typed, out of that of the query with a shorter prefix in its place: the rows whose
+/// word begins with the longer one, and the same base.
+pub(crate) fn narrowed(
+    alloc: Global,
+    index: &Index,
+    query: &Query,
+    base: &Base,
+    rows: &Cols,
+) -> Result<Entry, Memory>
+    requires typed { IsSome (last_prefix query.now) }
+    requires within { AreWithin index.now rows.now.posts }
+
+    ensures base { IfOk result (λ e. e.base ≡ base.now) }
+    ensures rows { IfOk result (λ e. IfSome (last_prefix query.now) (λ p. e.rows ≡ filter (λ post. begins p (word_at index.now.words post.word)) rows.now.posts)) }
+{
+    let Some(prefix) = last_prefix(query) else {
+        unreachable!()
+    };
+    let (lo, hi) = index.range(prefix.as_bytes());
+    let copied = copy_of(alloc, base)?;
+    let found = posts_between(alloc, rows, lo, hi)?;
+    Ok(Entry {
+        base: copied,
+        rows: found,
+    })
+}
+
+/// The entry of a query out of that of the query without its last part, whose atoms are read.
+pub(crate) fn one_part_more<S: Store>(
+    alloc: Global,
+    index: &Index,
+    store: &mut S,
+    query: &Query,
+    base: &Base,
+    rows: &Cols,
+) -> Result<Entry, AskFault>
+    requires several { 1 ≤ length (out-Query query.now).parts }
+    requires of_grammar { IsOfGrammar query.now }
+    requires before { FitsQuery index.now (before_last query.now) (entry_with base.now rows.now.posts) }
+    requires index { IsIndex index.now }
+    requires fits { Fits (S.bytes store.old) index.now }
+
+    ensures told { WhereStood (S.bytes store.old) index.now (λ b. IsEntryOver b index.now (before_last query.now) (entry_with base.now rows.now.posts) → IfOk result (IsEntryOver b index.now query.now)) }
+    ensures within { IfOk result (FitsQuery index.now query.now) }
+    ensures unchanged { WhereStood (S.bytes store.old) index.now (λ b. is_changed result ≡ false) }
+    ensures bytes { S.bytes store.new ≡ S.bytes store.old }
+    ensures lent { S.lent store.new ≡ S.lent store.old }
+    ensures reads { ReadsWithin (met_of_last (division index.now) (last_of (out-Query query.now).parts)) (S.reads store.old) (S.reads store.new) }
+    ensures caused { CausedReads (is_read result) (S.faults store.old) (S.faults store.new) }
+{
+    let parts = query.parts.as_slice();
+    let last = parts.len() - 1;
+    let positive = end_positive(&parts[..last]);
+    let hits = hits_of(alloc, positive, base, rows)?;
+    let entry = extended(alloc, index, store, hits, &parts[last])?;
+    Ok(entry)
+}

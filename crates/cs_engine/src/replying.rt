@@ -1,0 +1,132 @@
+//! The reply to a request by its plan, and the query's own entry where that wasn't kept before.
+ghost use Rattle.std.specs.Prelude.{◌≡◌, ◌+◌, Some, false, not, is_some, IfSome, IfOk};
+ghost use Rattle.cs_base.specs.outside.Causes.{ReadsWithin};
+ghost use Rattle.cs_file.specs.Indexes.{IsIndex, Fits, CausedReads};
+ghost use Rattle.cs_model.specs.Keys.{keys_of};
+ghost use Rattle.cs_model.specs.Parameters.{HoldsLimits};
+ghost use Rattle.cs_model.specs.Requests.{reply_of};
+ghost use Rattle.cs_model_index.specs.Sections.{file_corpus};
+ghost use Rattle.cs_model_kept.specs.Due.{due, met_of_facets};
+ghost use Rattle.cs_model_kept.specs.KeptList.{plan_by};
+ghost use Rattle.cs_query.specs.RequestView.{asked};
+ghost use Rattle.cs_engine.specs.Asking.{division, is_read, is_changed, titles_of, titles_read};
+ghost use Rattle.cs_engine.specs.Keeping.{FitsQuery, HoldsGood, IsEntryOver, KeepsFitting, entry_with, is_same};
+ghost use Rattle.cs_engine.specs.Reading.{WhereStood};
+
+use crate::answering::reply_of;
+use crate::entries::hits_of;
+use crate::fault::AskFault;
+use crate::plans::{narrowed, one_part_more};
+use crate::steps::{end_positive, entry_of};
+use cs_base::{Base, Keys, Plan, Store};
+use cs_cache::{Answers, Entry};
+use cs_cols::Cols;
+use cs_file::Index;
+use cs_query::{Reply, Request};
+use std::alloc::Global;
+
+/// The reply by a plan of what is kept, and the query's own entry; None where that was kept before.
+pub(crate) fn answered<S: Store>(
+    alloc: Global,
+    index: &Index,
+    answers: &Answers,
+    store: &mut S,
+    request: &Request,
+    keys: &Keys,
+    plan: Plan,
+) -> Result<(Reply, Option<Entry>), AskFault>
+    requires limits { HoldsLimits (asked request.now) }
+    requires keys { keys.now ≡ keys_of request.now.query }
+    requires plan { plan ≡ plan_by answers.now.entries keys.now }
+    requires kept { KeepsFitting index.now answers.now.entries }
+    requires fits { Fits (S.bytes store.old) index.now }
+
+    ensures told { WhereStood (S.bytes store.old) index.now (λ b. HoldsGood b index.now answers.now.entries → IfOk result (λ a. a.0 ≡ reply_of (file_corpus b) (asked request.now))) }
+    ensures own { WhereStood (S.bytes store.old) index.now (λ b. HoldsGood b index.now answers.now.entries → IfOk result (λ a. IfSome a.1 (IsEntryOver b index.now request.now.query))) }
+    ensures within { IfOk result (λ a. IfSome a.1 (FitsQuery index.now request.now.query)) }
+    ensures had { IfOk result (λ a. is_some a.1 ≡ not (is_same plan)) }
+    ensures unchanged { WhereStood (S.bytes store.old) index.now (λ b. is_changed result ≡ false) }
+    ensures bytes { S.bytes store.new ≡ S.bytes store.old }
+    ensures lent { S.lent store.new ≡ S.lent store.old }
+    ensures reads { ReadsWithin (due (division index.now) (asked request.now) plan (titles_of (asked request.now) result)) (S.reads store.old) (S.reads store.new) }
+    ensures caused { CausedReads (is_read result) (S.faults store.old) (S.faults store.new) }
+{
+    // the type of an index says what it keeps where a field of it is read
+    let _ = &index.docs;
+    match plan {
+        Plan::Same => {
+            let view = answers.view(keys, plan);
+            let reply = by_entry(alloc, index, store, request, view.base, view.rows)?;
+            Ok((reply, None))
+        }
+        Plan::Narrow { .. } => {
+            let view = answers.view(keys, plan);
+            let entry = narrowed(alloc, index, &request.query, view.base, view.rows)?;
+            let answered = with_reply(alloc, index, store, request, entry)?;
+            Ok(answered)
+        }
+        Plan::Extend => {
+            let view = answers.view(keys, plan);
+            let entry = one_part_more(alloc, index, store, &request.query, view.base, view.rows)?;
+            let answered = with_reply(alloc, index, store, request, entry)?;
+            Ok(answered)
+        }
+        Plan::Fresh => {
+            let entry = entry_of(alloc, index, store, &request.query)?;
+            let answered = with_reply(alloc, index, store, request, entry)?;
+            Ok(answered)
+        }
+    }
+}
+
+// The reply by the query's own entry, which goes along.
+fn with_reply<S: Store>(
+    alloc: Global,
+    index: &Index,
+    store: &mut S,
+    request: &Request,
+    entry: Entry,
+) -> Result<(Reply, Option<Entry>), AskFault>
+    requires limits { HoldsLimits (asked request.now) }
+    requires entry { FitsQuery index.now request.now.query entry }
+    requires index { IsIndex index.now }
+    requires fits { Fits (S.bytes store.old) index.now }
+
+    ensures told { WhereStood (S.bytes store.old) index.now (λ b. IsEntryOver b index.now request.now.query entry → IfOk result (λ a. a.0 ≡ reply_of (file_corpus b) (asked request.now))) }
+    ensures same { IfOk result (λ a. a.1 ≡ Some entry) }
+    ensures unchanged { WhereStood (S.bytes store.old) index.now (λ b. is_changed result ≡ false) }
+    ensures bytes { S.bytes store.new ≡ S.bytes store.old }
+    ensures lent { S.lent store.new ≡ S.lent store.old }
+    ensures reads { ReadsWithin (titles_of (asked request.now) result + met_of_facets (division index.now) (asked request.now).facets) (S.reads store.old) (S.reads store.new) }
+    ensures caused { CausedReads (is_read result) (S.faults store.old) (S.faults store.new) }
+{
+    let reply = by_entry(alloc, index, store, request, &entry.base, &entry.rows)?;
+    Ok((reply, Some(entry)))
+}
+
+// The reply by the base and the rows of the query's own entry.
+fn by_entry<S: Store>(
+    alloc: Global,
+    index: &Index,
+    store: &mut S,
+    request: &Request,
+    base: &Base,
+    rows: &Cols,
+) -> Result<Reply, AskFault>
+    requires limits { HoldsLimits (asked request.now) }
+    requires entry { FitsQuery index.now request.now.query (entry_with base.now rows.now.posts) }
+    requires index { IsIndex index.now }
+    requires fits { Fits (S.bytes store.old) index.now }
+
+    ensures told { WhereStood (S.bytes store.old) index.now (λ b. IsEntryOver b index.now request.now.query (entry_with base.now rows.now.posts) → IfOk result (λ r. r ≡ reply_of (file_corpus b) (asked request.now))) }
+    ensures unchanged { WhereStood (S.bytes store.old) index.now (λ b. is_changed result ≡ false) }
+    ensures bytes { S.bytes store.new ≡ S.bytes store.old }
+    ensures lent { S.lent store.new ≡ S.lent store.old }
+    ensures reads { ReadsWithin (titles_read (asked request.now) result + met_of_facets (division index.now) (asked request.now).facets) (S.reads store.old) (S.reads store.new) }
+    ensures caused { CausedReads (is_read result) (S.faults store.old) (S.faults store.new) }
+{
+    let positive = end_positive(request.query.parts.as_slice());
+    let hits = hits_of(alloc, positive, base, rows)?;
+    let reply = reply_of(alloc, index, store, request, hits, rows)?;
+    Ok(reply)
+}
