@@ -30,6 +30,7 @@ use Rattle.cs_model_index.specs.Sections.{image_of}
 use Rattle.cs_model_index.specs.Images.{image_posts}
 use Rattle.cs_engine.specs.Reading.{by_post, stock_of, run_of, HasRun, IsWithin, AreWithin}
 use Rattle.cs_engine.specs.Stocked.{Stock, is_between}
+use Rattle.cs_engine.proofs.AlikeLemmas.{any_filter}
 use Rattle.cs_engine.proofs.StockLemmas.{by_post_total, by_post_exact, block_within, from_file, stocked}
 use Rattle.cs_engine.proofs.TableLemmas.{any_listed}
 use Rattle.cs_engine.proofs.UnionLemmas.{any_united}
@@ -120,14 +121,6 @@ same_posts : (xs ys : List Post) → AreSorted xs → AreSorted ys → ((t : Pos
 same_posts xs ys up_x up_y alike =
     members_are by_post by_post_total by_post_exact xs ys (still_rise xs up_x) (λ q. alike (eq_by_cmp by_post q))
     ∙ sym (members_are by_post by_post_total by_post_exact ys ys (still_rise ys up_y) (λ q. refl))
-
-any_filter : {X : Type 0} (t p : X → Bool) (xs : List X) → list_any t (filter p xs) ≡ list_any (λ x. p x && t x) xs
-any_filter t p [] = refl
-any_filter t p (x ∷ xs) =
-    elim (p x) as (λ b. list_any t (cond b (x ∷ filter p xs) (filter p xs)) ≡ ((b && t x) || list_any (λ x. p x && t x) xs)) [
-      | true ↦ ap (λ b. t x || b) (any_filter t p xs)
-      | false ↦ any_filter t p xs
-    ]
 
 pub whole_run : (b : List ℕ) (i : IndexView) → StandsFor b i → IsIndex i → (lo hi first last : ℕ) → AreMet i.heads lo hi first last → (posts : List Post) → AreSorted posts → HasRun (stock_of b) (image_of b).blocks first last lo hi posts → posts ≡ filter (is_between lo hi) (stock_of b).posts
 whole_run b i s is lo hi first last met posts up run =

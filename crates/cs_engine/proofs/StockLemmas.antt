@@ -1,5 +1,6 @@
 -- The posts of an index file as a corpus in one order.
 --
+--   kept_all          what each row that keeps a rule is
 --   block_within      the posts of a block are in order and in range
 --   in_block          a post of the file is one of some block
 --   one_post_of       of the posts of a file one alone has a document, position and word
@@ -102,7 +103,7 @@ places_rise (x ∷ xs) up one =
     (recursion_from_All (λ y. by_place x y ≡ Less) xs each, places_rise xs up.1 (one_rest x xs one))
 
 -- ---- the posts of a block
-kept_all : (holds : Option Post → Post → Bool) (P : Post → Type 0) → ((last : Option Post) (r : Post) → holds last r ≡ true → P r) → (last : Option Post) (rs : List Post) → keeps holds last rs ≡ true → AllByRecursion P rs
+pub kept_all : (holds : Option Post → Post → Bool) (P : Post → Type 0) → ((last : Option Post) (r : Post) → holds last r ≡ true → P r) → (last : Option Post) (rs : List Post) → keeps holds last rs ≡ true → AllByRecursion P rs
 unfolding keeps
 kept_all holds P f last [] e = tt
 kept_all holds P f last (r ∷ rs) e = let p = and_parts (holds last r) (keeps holds (Some r) rs) e in (f last r p.0, kept_all holds P f (Some r) rs p.1)

@@ -1,6 +1,7 @@
 //! Replies, from the hits of a query and its rows in them.
 ghost use Rattle.std.specs.Prelude.{◌≡◌, ◌+◌, ◌*◌, ◌≤◌, ◌<◌, [], false, length, map, IfOk};
 ghost use Rattle.std.specs.List.{All};
+ghost use Rattle.cs_base.specs.declared.content.doc.Base.{Base};
 ghost use Rattle.cs_base.specs.outside.Causes.{ReadsWithin};
 ghost use Rattle.cs_base.specs.declared.content.limits.TheConstants.{MAX_PARTS};
 ghost use Rattle.cs_file.specs.Indexes.{IsIndex, Fits, CausedReads};
@@ -9,20 +10,22 @@ ghost use Rattle.cs_model.specs.Requests.{hit_shown, reply_of};
 ghost use Rattle.cs_model_kept.specs.Due.{met_of_facets, met_prefix};
 ghost use Rattle.cs_query.specs.RequestView.{asked};
 ghost use Rattle.cs_engine.specs.Asking.{division, is_read, is_changed, titles_read};
+ghost use Rattle.cs_engine.specs.Counting.{AreListed};
 ghost use Rattle.cs_engine.specs.Reading.{AreWithin, WhereStood, stock_of};
 ghost use Rattle.cs_engine.specs.Steps.{AreFound, IsBaseOf};
 ghost use Rattle.cs_engine.specs.Stocked.{corpus_in, facet_at};
 
+use crate::counting::{listed_docs, table_between};
 use crate::fault::AskFault;
-use crate::hits::{kept_in, listed};
+use crate::hits::listed;
 use crate::replies::shown_words;
-use crate::words::rows_of_facet;
 use cs_base::{Base, Scored, Seq, Store, Text};
 use cs_cols::Cols;
 use cs_file::Index;
 use cs_query::{FacetShown, HitShown, Reply, Request};
 use cs_rank::top;
 use cs_tables::completions;
+use cs_text::named_word;
 use std::alloc::Global;
 
 /// The reply to a request, by the hits of its query and the rows of the last part in them.
@@ -82,40 +85,45 @@ fn shown_facets<S: Store>(
     ensures caused { CausedReads (is_read result) (S.faults store.old) (S.faults store.new) }
 {
     let mut shown = Seq::new(alloc);
+    if request.facets.as_slice().is_empty() {
+        return Ok(shown);
+    }
+    let listed = listed_docs(alloc, index.docs, base)?;
     for name in request.facets.as_slice() {
-        let facet = shown_facet(alloc, index, store, base, name, request.completions)?;
+        let facet = shown_facet(alloc, index, store, name, &listed, request.completions)?;
         shown.push(facet)?;
     }
     Ok(shown)
 }
 
+// The table of one facet in listed documents.
 fn shown_facet<S: Store>(
     alloc: Global,
     index: &Index,
     store: &mut S,
-    base: &Base,
     name: &Text,
+    listed: &[bool],
     cut: u32,
 ) -> Result<FacetShown, AskFault>
-    requires base { IsBaseOf index.now.docs (255 * MAX_PARTS) base.now }
+    requires listed { length listed.now ≡ index.now.docs }
     requires index { IsIndex index.now }
     requires fits { Fits (S.bytes store.old) index.now }
 
-    ensures told { WhereStood (S.bytes store.old) index.now (λ b. IfOk result (λ shown. shown ≡ facet_at (stock_of b) base.now cut name.now)) }
+    ensures told { WhereStood (S.bytes store.old) index.now (λ b. IfOk result (λ shown. (base : Base) → AreListed index.now.docs base listed.now → shown ≡ facet_at (stock_of b) base cut name.now)) }
     ensures unchanged { WhereStood (S.bytes store.old) index.now (λ b. is_changed result ≡ false) }
     ensures bytes { S.bytes store.new ≡ S.bytes store.old }
     ensures lent { S.lent store.new ≡ S.lent store.old }
     ensures reads { ReadsWithin (met_prefix (division index.now) (named name.now [])) (S.reads store.old) (S.reads store.new) }
     ensures caused { CausedReads (is_read result) (S.faults store.old) (S.faults store.new) }
 {
-    let rows = rows_of_facet(alloc, index, store, name)?;
-    let pairs = kept_in(alloc, index.docs, base, rows)?;
-    let table = completions(alloc, &pairs, cut)?;
+    let prefix = named_word(alloc, name.as_str(), "")?;
+    let words = index.range(prefix.as_str().as_bytes());
+    let table = table_between(alloc, index, store, words, listed, cut)?;
     let copied = name.copy(alloc)?;
-    let words = shown_words(alloc, &index.words, table.first.as_slice())?;
+    let shown = shown_words(alloc, &index.words, table.first.as_slice())?;
     Ok(FacetShown {
         name: copied,
-        table: words,
+        table: shown,
     })
 }
 

@@ -33,8 +33,9 @@ fn count_between(words: &[u32], lo: u32, hi: u32) -> usize
     count
 }
 
+/// Whether a word's number is `lo` or more and below `hi`.
 #[inline]
-fn is_in(word: u32, lo: u32, hi: u32) -> bool
+pub(crate) fn is_in(word: u32, lo: u32, hi: u32) -> bool
     ensures { result ≡ (nat_le lo word && nat_lt word hi) }
 {
     lo <= word && word < hi

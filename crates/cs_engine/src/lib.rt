@@ -6,12 +6,14 @@
 
 mod answering;
 mod between;
+mod counting;
 mod engine;
 mod entries;
 mod evaluation;
 mod fault;
 mod hits;
 mod note;
+mod packing;
 mod parts;
 mod plans;
 mod reading;

@@ -1,4 +1,5 @@
 pub mod MarksLemmas
 pub mod Samples
 pub mod TablesLemmas
+pub mod WordCountsLemmas
 pub mod WordsLemmas

@@ -1,7 +1,7 @@
 -- After rows that are sorted, the mark of a word has the number of its documents.
 --
---   marked-is        the mark has the number of documents
---   docs_few         there are at most 2^20 of them
+--   word_marked, marked-is     the mark of a word whose rows are in order has the number of its documents
+--   word_docs_few, docs_few    there are at most MAX_DOCS of them
 --   has_room         a mark can count one more
 --   in_range         a row's word has a mark
 --   seen_more        the marks after one more row
@@ -81,14 +81,21 @@ each_doc w (p ∷ rows) h =
       | false ↦ each_doc w rows h.1
     ]
 
-climbs_of : (w : ℕ) (rows : List Post) → AreSorted rows → Climbs (map (λ p. p.doc) (of_word w rows))
-climbs_of w rows up = docs_climb (of_word w rows) (IsStrictlySortedBy-filter by_place (λ p. p.word == w) rows up)
+pub word_sorted : (w : ℕ) (rows : List Post) → AreSorted rows → AreSorted (of_word w rows)
+word_sorted w rows up = IsStrictlySortedBy-filter by_place (λ p. p.word == w) rows up
+
+-- it is enough that the rows of the word are in order
+pub word_marked : (w : ℕ) (rows : List Post) → AreSorted (of_word w rows) → AllByRecursion (λ p. p.doc < MAX_DOCS) rows → (marked w rows).docs ≡ doc_count (of_word w rows)
+word_marked w rows up below = ap (λ (m : Mark). m.docs) (fold_sees w blank rows) ∙ tally _ (docs_climb (of_word w rows) up) (each_doc w rows below)
+
+pub word_docs_few : (w : ℕ) (rows : List Post) → AreSorted (of_word w rows) → AllByRecursion (λ p. p.doc < MAX_DOCS) rows → doc_count (of_word w rows) ≤ MAX_DOCS
+word_docs_few w rows up below = few _ (docs_climb (of_word w rows) up) (each_doc w rows below)
 
 pub marked-is : (w : ℕ) (rows : List Post) → AreSorted rows → AllByRecursion (λ p. p.doc < MAX_DOCS) rows → (marked w rows).docs ≡ doc_count (of_word w rows)
-marked-is w rows up below = ap (λ (m : Mark). m.docs) (fold_sees w blank rows) ∙ tally _ (climbs_of w rows up) (each_doc w rows below)
+marked-is w rows up below = word_marked w rows (word_sorted w rows up) below
 
 pub docs_few : (w : ℕ) (rows : List Post) → AreSorted rows → AllByRecursion (λ p. p.doc < MAX_DOCS) rows → doc_count (of_word w rows) ≤ MAX_DOCS
-docs_few w rows up below = few _ (climbs_of w rows up) (each_doc w rows below)
+docs_few w rows up below = word_docs_few w rows (word_sorted w rows up) below
 
 pub each : (P : Post → Type 0) (rows : List Post) → ((k : ℕ) (d : Post) → k < length rows → P (get_or rows k d)) → AllByRecursion P rows
 each P [] h = tt
@@ -113,7 +120,7 @@ at_field f [] i d lt = absurd (omega arith)
 at_field f (p ∷ rows) zero d lt = refl
 at_field f (p ∷ rows) (suc i) d lt = at_field f rows i d (omega arith)
 
-fold_push : (w : ℕ) (m : Mark) (rows : List Post) (p : Post) → fold (sees w) m (rows ++ p ∷ []) ≡ sees w (fold (sees w) m rows) p
+pub fold_push : (w : ℕ) (m : Mark) (rows : List Post) (p : Post) → fold (sees w) m (rows ++ p ∷ []) ≡ sees w (fold (sees w) m rows) p
 fold_push w m [] p = refl
 fold_push w m (r ∷ rows) p = fold_push w (sees w m r) rows p
 

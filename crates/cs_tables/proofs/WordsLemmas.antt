@@ -1,6 +1,6 @@
 -- The words that are collected from the marks are those of the rows, each with its number of documents.
 --
---   counts-are     the lemma itself
+--   collected_words, counts-are     the lemma itself
 --   words_within   the words that a range holds
 use Rattle.std.proofs.Common.{◌≡◌, ℕ, zero, suc, ◌+◌, ◌<◌, ◌≤◌, Bool, true, false, ◌||◌, List, [], ◌∷◌, ◌++◌, map, length, take, take_all, get_or, ◌==◌, nat_lt, refl, sym, ◌∙◌, ap, subst, arith, true≢false, if◌then◌else◌}
 use Rattle.std.specs.List.{AllByRecursion, list_any}
@@ -23,7 +23,7 @@ use Rattle.cs_rank.proofs.GroupsLemmas.{nothing_listed}
 use Rattle.cs_tables.specs.declared.counts.Mark.{Mark}
 use Rattle.cs_tables.specs.Listings.{of_word, doc_count}
 use Rattle.cs_tables.specs.Marks.{kept, collected, marked, counted_word, words_of}
-use Rattle.cs_tables.proofs.MarksLemmas.{marked-is}
+use Rattle.cs_tables.proofs.MarksLemmas.{word_marked, word_sorted}
 
 -- the numbers from lo on, n of them, that count something
 abbrev numbers : (ℕ → ℕ) → ℕ → ℕ → List ℕ
@@ -148,12 +148,17 @@ numbers-are rows lo n within =
     (λ e. sym (positive q rows) ∙ numbers_only (count_in rows) q lo n e)
     (λ e. let r = ranged lo n (map (λ p. p.word) rows) q within e in numbers_have (count_in rows) q lo n r.0 r.1 (positive q rows ∙ e)))
 
+-- it is enough that the rows of each word are in order
+pub collected_words : (rows : List Post) (lo : ℕ) (marks : List Mark) → ((w : ℕ) → AreSorted (of_word w rows)) → AllByRecursion (λ p. p.doc < MAX_DOCS) rows → ((k : ℕ) (d : Mark) → k < length marks → get_or marks k d ≡ marked (lo + k) rows) → ((k : ℕ) → k < length (map (λ p. p.word) rows) → (lo ≤ get_or (map (λ p. p.word) rows) k 0) × (get_or (map (λ p. p.word) rows) k 0 < lo + length marks)) → collected lo marks ≡ map (counted_word rows) (words_of rows)
+collected_words rows lo marks up below each_mark within =
+    collected-is (count_in rows) lo marks (λ k d lt. ap (λ (m : Mark). m.docs) (each_mark k d lt) ∙ word_marked (lo + k) rows (up (lo + k)) below)
+    ∙ ap (map (counted_word rows)) (numbers-are rows lo (length marks) within)
+
 pub counts-are : (rows : List Post) (lo n i : ℕ) (marks : List Mark) → AreSorted rows → AllByRecursion (λ p. p.doc < MAX_DOCS) rows → length marks ≡ n → length (map (λ p. p.doc) rows) ≤ i → ((k : ℕ) (d : Mark) → k < n → get_or marks k d ≡ marked (lo + k) (take i rows)) → ((k : ℕ) → k < length (map (λ p. p.word) rows) → (lo ≤ get_or (map (λ p. p.word) rows) k 0) × (get_or (map (λ p. p.word) rows) k 0 < lo + n)) → collected lo marks ≡ map (counted_word rows) (words_of rows)
 counts-are rows lo n i marks up below long all each_mark within =
     let whole : take i rows ≡ rows = take_all i rows (omega (arith, length-map rows (λ (p : Post). p.doc))) in
-    collected-is (count_in rows) lo marks (λ k d lt. ap (λ (m : Mark). m.docs) (each_mark k d (omega arith) ∙ ap (marked (lo + k)) whole) ∙ marked-is (lo + k) rows up below)
-    ∙ ap (λ n. map (counted_word rows) (numbers (count_in rows) lo n)) long
-    ∙ ap (map (counted_word rows)) (numbers-are rows lo n within)
+    collected_words rows lo marks (λ w. word_sorted w rows up) below (λ k d lt. each_mark k d (omega (arith, lt, long)) ∙ ap (marked (lo + k)) whole)
+    (λ k lt. let at = within k lt in (at.0, omega (arith, at.1, long)))
 
 pub words_within : (b : ℕ) (rows : List Post) → ((k : ℕ) (d : Post) → k < length rows → (get_or rows k d).word < b) → (k : ℕ) (d : ℕ) → k < length (map (λ p. p.word) rows) → get_or (map (λ p. p.word) rows) k d < b
 words_within b [] h k d lt = absurd (omega arith)

@@ -1,3 +1,4 @@
 pub mod Listings
 pub mod Marks
 pub mod Sample
+pub mod WordCounts

@@ -13,9 +13,15 @@ use std::alloc::Global;
 /// The number that no document has.
 const NO_DOC: u32 = u32::MAX;
 
+/// The mark of a word before any row.
+pub(crate) const BLANK: Mark = Mark {
+    docs: 0,
+    last: NO_DOC,
+};
+
 /// What was seen of a word on a pass over rows by document.
 #[derive(Clone, Copy)]
-struct Mark {
+pub(crate) struct Mark {
     /// The documents that have it so far.
     docs: u32,
     /// The last of them, or `NO_DOC`.
@@ -23,15 +29,14 @@ struct Mark {
 }
 
 impl Mark {
+    /// One row more. A number of documents that can't grow stays as it is.
     #[inline]
-    fn see(&mut self, doc: u32)
-        requires { self.old.docs < 2 ^ 32 - 1 }
-
-        ensures { self.new ≡ saw self.old doc }
+    pub(crate) fn see(&mut self, doc: u32)
+        ensures { self.old.docs < 2 ^ 32 - 1 → self.new ≡ saw self.old doc }
     {
         if self.last != doc {
             self.last = doc;
-            self.docs += 1;
+            self.docs = self.docs.saturating_add(1);
         }
     }
 }
@@ -48,11 +53,7 @@ pub(crate) fn counts(alloc: Global, rows: &Cols) -> Result<Vec<Scored>, Memory>
     let docs = rows.docs();
     let words = rows.words();
     let (low, many) = word_range(words);
-    let blank = Mark {
-        docs: 0,
-        last: NO_DOC,
-    };
-    let mut marks = vec![in alloc; blank; many]?;
+    let mut marks = vec![in alloc; BLANK; many]?;
     for i in 0..docs.len() {
         let word = (words[i] - low) as usize;
         marks[word].see(docs[i]);
@@ -77,8 +78,8 @@ fn word_range(words: &[u32]) -> (u32, usize)
     (low, end.saturating_sub(low) as usize)
 }
 
-// The words that have a document, with their numbers from `low` on.
-fn collect(alloc: Global, low: u32, marks: &[Mark]) -> Result<Vec<Scored>, Memory>
+/// The words that have a document, with their numbers from `low` on.
+pub(crate) fn collect(alloc: Global, low: u32, marks: &[Mark]) -> Result<Vec<Scored>, Memory>
     requires { low + length marks.now ≤ MAX_WORDS }
 
     ensures ok { IfOk result (λ v. v.items ≡ collected low marks.now) }

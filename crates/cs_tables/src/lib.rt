@@ -6,8 +6,10 @@
 
 mod counts;
 mod tables;
+mod word_counts;
 
 pub use tables::{Completion, Table, completions};
+pub use word_counts::WordCounts;
 
 #[cfg(test)]
 mod tests;

@@ -49,7 +49,8 @@ pub fn completions(alloc: Global, rows: &Cols, cut: u32) -> Result<Table, Memory
     })
 }
 
-fn completions_of(alloc: Global, best: &[Scored]) -> Result<Vec<Completion>, Memory>
+/// Counted words as completions.
+pub(crate) fn completions_of(alloc: Global, best: &[Scored]) -> Result<Vec<Completion>, Memory>
     ensures { IfOk result (λ v. v.items ≡ map completion best.now) }
 {
     let mut first = Vec::with_capacity(alloc, best.len())?;

@@ -2,7 +2,7 @@
 ghost use Rattle.std.specs.Prelude.{◌≡◌, IfOk};
 ghost use Rattle.cs_tables.specs.Sample.{sample, sample_base};
 
-use crate::completions;
+use crate::{WordCounts, completions};
 use cs_base::{Base, Memory, Post, Scored, Seq};
 use cs_cols::Cols;
 use cs_rank::score;
@@ -49,6 +49,19 @@ fn a_word_counts_once_in_a_document(rt: HostRuntime) -> Result<(), Fail> {
     let first = table.first.as_slice();
     assert!(rt; table.total == 2 && first.len() == 1);
     assert!(rt; first[0].word == 20 && first[0].docs == 2);
+    Ok(())
+}
+
+#[test]
+fn rows_that_come_in_pieces_count_in_listed_documents(rt: HostRuntime) -> Result<(), Fail> {
+    let mut counts = WordCounts::new(rt.alloc(), 20, 25)?;
+    counts.add(&[0, 1, 1, 2], &[20, 20, 20, 19], &[true, true, true]);
+    counts.add(&[0, 1, 2, 2], &[24, 24, 24, 25], &[true, false, true]);
+    let table = counts.table(rt.alloc(), 5)?;
+    let first = table.first.as_slice();
+    assert!(rt; table.total == 2 && first.len() == 2);
+    assert!(rt; first[0].word == 20 && first[0].docs == 2);
+    assert!(rt; first[1].word == 24 && first[1].docs == 2);
     Ok(())
 }
 

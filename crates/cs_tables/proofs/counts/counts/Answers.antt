@@ -12,23 +12,22 @@ word_range-low-requires c =
     subst (λ (ws : List ℕ). (k : ℕ) (d : ℕ) → k < length ws → get_or ws k d < MAX_WORDS) (sym c.words-words.ensures)
     (words_within MAX_WORDS c.args.rows.now.posts c.requires.words)
 
-pub see-requires : goal.see-requires
-see-requires c =
+pub loop-i-preserved : goal.loop-i-preserved
+loop-i-preserved c =
     let low = c.word_range-low.result.0 in
     let many = c.word_range-low.result.1 in
     let rows = c.args.rows.now.posts in
     let words = c.words-words.result.now in
     let j = get_or words c.loop-i.i 0 - low in
     let m = c.index_mut.result.now in
-    has_room (low + j) c.loop-i.i rows m c.requires.sorted (each (λ (p : Post). p.doc < MAX_DOCS) rows c.requires.docs)
-    (c.index_mut.ensures.value ∙ c.loop-i.invariant.each j m (in_range rows c.docs-docs.result.now words c.loop-i.i low many c.docs-docs.ensures c.words-words.ensures c.word_range-low.ensures.within c.loop-i-test.true))
-
-pub loop-i-preserved : goal.loop-i-preserved
-loop-i-preserved c = record {
-  long = length-set c.loop-i.marks.items _ _ ∙ c.loop-i.invariant.long;
-  each = seen_more c.args.rows.now.posts c.docs-docs.result.now c.words-words.result.now c.loop-i.i c.word_range-low.result.0 c.word_range-low.result.1 c.loop-i.marks.items c.index_mut.result.now c.see.new.self
-      c.docs-docs.ensures c.words-words.ensures c.word_range-low.ensures.within c.loop-i-test.true c.loop-i.invariant.long c.loop-i.invariant.each c.index_mut.ensures.value c.see.ensures;
-}
+    let below = each (λ (p : Post). p.doc < MAX_DOCS) rows c.requires.docs in
+    let is = c.index_mut.ensures.value ∙ c.loop-i.invariant.each j m (in_range rows c.docs-docs.result.now words c.loop-i.i low many c.docs-docs.ensures c.words-words.ensures c.word_range-low.ensures.within c.loop-i-test.true) in
+    let saws = c.see.ensures (has_room (low + j) c.loop-i.i rows m c.requires.sorted below is) in
+    record {
+      long = length-set c.loop-i.marks.items _ _ ∙ c.loop-i.invariant.long;
+      each = seen_more rows c.docs-docs.result.now words c.loop-i.i low many c.loop-i.marks.items m c.see.new.self
+          c.docs-docs.ensures c.words-words.ensures c.word_range-low.ensures.within c.loop-i-test.true c.loop-i.invariant.long c.loop-i.invariant.each c.index_mut.ensures.value saws;
+    }
 
 pub returns-clause-ok : goal.returns-clause-ok
 returns-clause-ok c =

@@ -1,0 +1,309 @@
+-- The rows of a range of words, counted block by block.
+--
+--   everywhere, hit_listed, hits_listed     which documents a base lists
+--   known_docs           the documents of a block are listed or not
+--   flat_more            one block more
+--   block_counted        one block more is counted
+--   countable            the rows that are counted are countable
+--   table_told           their table
+--   facet_counted        the table of a facet
+--   facet_met            the blocks that hold a facet's words
+use Rattle.std.proofs.Common.{◌≡◌, ◌≢◌, ℕ, zero, suc, ◌+◌, ◌-◌, ◌<◌, ◌≤◌, ◌==◌, ◌&&◌, ◌||◌, Bool, true, false, cond, List, [], ◌∷◌, ◌++◌, length, get_or, set, take, drop, map, replicate, refl, sym, ap, ap₂, subst, ◌∙◌, arith, append-nil, length-take, length-drop, get_or-drop, get_or-take, get_or-set_other, length-set}
+use Rattle.std.specs.Prelude.{All, filter, flat_map, nat_lt}
+use Rattle.std.specs.List.{list_any}
+use Rattle.std.specs.List.Sorted.{IsStrictlySortedBy}
+use Rattle.std.proofs.lemmas.Bool.{eq-eqb, eqb-true, ltb-true, ltb-false}
+use Rattle.std.proofs.lemmas.Bool.Decides.{nat_tests}
+use Rattle.std.proofs.lemmas.Grind.{flat_map-append, get_or-set_at}
+use Rattle.std.proofs.lemmas.List.{take_more, get_or-replicate, length-replicate}
+use Rattle.std.proofs.lemmas.List.Elements.{All-nil, All-head, All-tail, All-append, All-filter, All-weaker, All-map, filter-append, recursion_from_All}
+use Rattle.std.proofs.lemmas.List.Folds.{list_any-append}
+use Rattle.std.proofs.lemmas.List.Kept.{IsStrictlySortedBy-filter}
+use Rattle.cs_base.specs.content.Orders.{AreSorted, by_place}
+use Rattle.cs_base.specs.declared.content.doc.Base.{Base}
+use Rattle.cs_base.specs.declared.content.doc.Base.TheVariants as base
+use Rattle.cs_base.specs.declared.content.doc.Post.{Post}
+use Rattle.cs_base.specs.declared.content.doc.Scored.{Scored}
+use Rattle.cs_base.specs.declared.content.limits.TheConstants.{MAX_DOCS}
+use Rattle.cs_base.specs.declared.index.block.BlockHead.{BlockHead}
+use Rattle.cs_base.proofs.MembersLemmas.{all_then}
+use Rattle.cs_file.specs.Indexes.{IndexView, IsIndex, StandsFor, AreMet, block_posts, is_met}
+use Rattle.cs_file.proofs.HeadsLemmas.{heads_rise}
+use Rattle.cs_file.proofs.PostsLemmas.{block_words, posts_between}
+use Rattle.cs_file.proofs.StoodLemmas.{stood_block, stood_count}
+use Rattle.cs_meet.specs.Filters.{keep_docs}
+use Rattle.cs_model.specs.Answers.{begins, is_listed}
+use Rattle.cs_model.specs.Collection.{named}
+use Rattle.cs_model.specs.Replies.{Shown, FacetShown}
+use Rattle.cs_model_index.specs.Images.{image_posts}
+use Rattle.cs_model_index.specs.Sections.{image_of}
+use Rattle.cs_model_kept.specs.Due.{met_prefix}
+use Rattle.cs_tables.specs.declared.tables.Completion.{Completion as Numbered}
+use Rattle.cs_tables.specs.Listings.{of_word, table}
+use Rattle.cs_tables.specs.WordCounts.{AreCountable, HasCounted, WordCountsView, chosen, is_chosen}
+use Rattle.cs_engine.specs.Asking.{division}
+use Rattle.cs_engine.specs.Counting.{AreListed, AreMarked, counted_rows, in_listed}
+use Rattle.cs_engine.specs.Reading.{AreWithin, IsWithin, by_post, stock_of}
+use Rattle.cs_engine.specs.Steps.{IsBaseOf, IsHitOf}
+use Rattle.cs_engine.specs.Stocked.{docs_in, every, facet_at, is_between, shown_at, IsKnown}
+use Rattle.cs_engine.proofs.AnsweringLemmas.{facet_told, words_as_shown}
+use Rattle.cs_engine.proofs.AlikeLemmas.{any_filter, table_alike}
+use Rattle.cs_engine.proofs.FoundLemmas.{every_more}
+use Rattle.cs_engine.proofs.ListsLemmas.{filter_twice}
+use Rattle.cs_engine.proofs.ReadingLemmas.{kept_within}
+use Rattle.cs_engine.proofs.StockLemmas.{by_post_total, by_post_exact, docs_are, stocked, within_block, words_are}
+use Rattle.cs_engine.proofs.TableLemmas.{any_listed}
+use Rattle.cs_engine.proofs.VocabLemmas.{filter_alike}
+use Rattle.cs_engine.proofs.WordsLemmas.{prefix_met, span_found}
+use Rattle.cs_vocab.specs.Ranges.{IsRange}
+
+-- ---- which documents are listed
+abbrev doc_of : Scored → ℕ
+doc_of h = h.doc
+
+listed_every : (n d : ℕ) → d < n → is_listed (map doc_of (every n)) d ≡ true
+listed_every zero d lt = absurd (omega (arith, lt))
+listed_every (suc n) d lt =
+    let one : suc n ≡ n + 1 = omega arith in
+    ap (λ m. is_listed (map doc_of (every m)) d) one
+    ∙ ap (λ hs. is_listed (map doc_of hs) d) (every_more n)
+    ∙ ap (λ ds. is_listed ds d) (map_two (every n) n)
+    ∙ list_any-append (λ e. e == d) (map doc_of (every n)) (n ∷ [])
+    ∙ elim (n == d) as (λ b. n == d ≡ b → (list_any (λ e. e == d) (map doc_of (every n)) || (b || false)) ≡ true) [
+      | true ↦ λ e. or_true (list_any (λ e. e == d) (map doc_of (every n)))
+      | false ↦ λ e. or_first _ (listed_every n d (let apart : n ≢ d = λ s. absurd (let t = eq-eqb n d s in cc) in omega (arith, lt, apart)))
+    ] refl
+  where
+    map_two : (hs : List Scored) (n : ℕ) → map doc_of (hs ++ (record { doc = n; score = 0 }) ∷ []) ≡ map doc_of hs ++ n ∷ []
+    map_two [] n = refl
+    map_two (h ∷ hs) n = ap (λ l. h.doc ∷ l) (map_two hs n)
+
+    or_true : (b : Bool) → (b || (true || false)) ≡ true
+    or_true true = refl
+    or_true false = refl
+
+    or_first : (b : Bool) → b ≡ true → (b || (false || false)) ≡ true
+    or_first true e = refl
+    or_first false e = e
+
+pub everywhere : (docs : ℕ) (all : List Bool) → all ≡ replicate docs true → AreListed docs base.All all
+everywhere docs all are = record {
+  long = ap length are ∙ length-replicate docs true;
+  each = λ d lt. ap (λ l. get_or l d false) are ∙ get_or-replicate docs d true false lt ∙ sym (listed_every docs d lt);
+}
+
+-- one hit more
+pub hit_listed : (hits : List Scored) (i : ℕ) (none : Scored) (old now : List Bool) → i < length hits → (get_or hits i none).doc < length now → AreMarked (take i hits) old now → AreMarked (take (i + 1) hits) old (set now (get_or hits i none).doc true)
+hit_listed hits i none old now lt inside h =
+    let x = get_or hits i none in
+    let more : map doc_of (take (i + 1) hits) ≡ map doc_of (take i hits) ++ x.doc ∷ [] = ap (map doc_of) (take_more hits i none lt) ∙ map_two (take i hits) x in (
+      length-set now x.doc true ∙ h.0,
+      λ d l.
+          let there : d < length now = subst (λ n. d < n) (length-set now x.doc true) l in
+          let split : is_listed (map doc_of (take (i + 1) hits)) d ≡ (is_listed (map doc_of (take i hits)) d || ((x.doc == d) || false)) = ap (λ ds. is_listed ds d) more ∙ list_any-append (λ e. e == d) (map doc_of (take i hits)) (x.doc ∷ []) in
+          elim (x.doc == d) as (λ b. x.doc == d ≡ b → get_or (set now x.doc true) d false ≡ (get_or old d false || (is_listed (map doc_of (take i hits)) d || (b || false)))) [
+            | true ↦ λ e. let at = eqb-true x.doc d e in get_or-set_at now x.doc d true false (sym at) inside ∙ sym (last_true (get_or old d false) (is_listed (map doc_of (take i hits)) d))
+            | false ↦ λ e. let apart : d ≢ x.doc = (λ s. absurd (let t = eq-eqb x.doc d (sym s) in cc)) in get_or-set_other now x.doc d true false apart ∙ h.1 d there ∙ sym (last_false (get_or old d false) (is_listed (map doc_of (take i hits)) d))
+          ] refl
+          ∙ ap (λ b. get_or old d false || b) (sym split),
+    )
+  where
+    map_two : (hs : List Scored) (x : Scored) → map doc_of (hs ++ x ∷ []) ≡ map doc_of hs ++ x.doc ∷ []
+    map_two [] x = refl
+    map_two (h ∷ hs) x = ap (λ l. h.doc ∷ l) (map_two hs x)
+
+    last_true : (a b : Bool) → (a || (b || (true || false))) ≡ true
+    last_true true b = refl
+    last_true false true = refl
+    last_true false false = refl
+
+    last_false : (a b : Bool) → (a || (b || (false || false))) ≡ (a || b)
+    last_false true b = refl
+    last_false false true = refl
+    last_false false false = refl
+
+pub hits_listed : (docs : ℕ) (hits : List Scored) (blank listed : List Bool) → blank ≡ replicate docs false → AreMarked hits blank listed → AreListed docs (base.Listed hits) listed
+hits_listed docs hits blank listed none h =
+    let long : length listed ≡ docs = h.0 ∙ ap length none ∙ length-replicate docs false in
+    record {
+      long = long;
+      each = λ d lt. h.1 d (omega (arith, lt, long)) ∙ ap (λ b. b || is_listed (map doc_of hits) d) (ap (λ l. get_or l d false) none ∙ get_or-replicate docs d false false lt);
+    }
+
+pub hit_docs : (docs bound : ℕ) (hits : List Scored) (n : ℕ) → n ≡ docs → IsBaseOf docs bound (base.Listed hits) → All (λ h. h.doc < n) hits
+hit_docs docs bound hits n same h = subst (λ m. All (λ h. h.doc < m) hits) (sym same) (All-weaker (IsHitOf docs bound) (λ h. h.doc < docs) (λ x at. at.doc) hits h.1)
+
+-- ---- one block
+pub known_docs : (i : IndexView) (posts : List Post) (docs : List ℕ) (n : ℕ) → docs ≡ map (λ p. p.doc) posts → n ≡ i.docs → AreWithin i posts → All (λ d. d < n) docs
+known_docs i posts docs n are long w =
+    subst (λ m. All (λ d. d < m) docs) (sym long) (subst (All (λ d. d < i.docs)) (sym are) (All-map (λ d. d < i.docs) (λ (p : Post). p.doc) posts (All-weaker (IsWithin i.docs (length i.words)) (λ p. p.doc < i.docs) (λ p h. h.doc) posts w.within)))
+
+pub counted_none : (bs : List (List Post)) (first lo hi : ℕ) (listed : List Bool) → counted_rows bs first first lo hi listed ≡ []
+counted_none bs first lo hi listed = let e : first - first ≡ 0 = omega arith in ap (λ n. flat_map (chosen lo hi listed) (take n (drop first bs))) e
+
+-- what is made of the blocks from number first up to k, and of one block more
+pub flat_more : (f : List Post → List Post) (bs : List (List Post)) (first k : ℕ) → first ≤ k → k < length bs → flat_map f (take (k + 1 - first) (drop first bs)) ≡ flat_map f (take (k - first) (drop first bs)) ++ f (get_or bs k [])
+flat_more f bs first k le lt =
+    let rest = drop first bs in
+    let e : k + 1 - first ≡ (k - first) + 1 = omega (arith, le) in
+    let inside : k - first < length rest = omega (arith, lt, le, length-drop first bs) in
+    let at : first + (k - first) ≡ k = omega (arith, le) in
+    let there : get_or rest (k - first) [] ≡ get_or bs k [] = get_or-drop first bs (k - first) [] ∙ ap (λ n. get_or bs n []) at in
+    ap (λ n. flat_map f (take n rest)) e ∙ ap (flat_map f) (take_more rest (k - first) [] inside) ∙ flat_map-append f (take (k - first) rest) (get_or rest (k - first) [] ∷ [])
+    ∙ ap (λ x. flat_map f (take (k - first) rest) ++ x) (append-nil (f (get_or rest (k - first) [])) ∙ ap f there)
+
+-- ---- rows of many blocks
+sorted_nil : AreSorted []
+unfolding IsStrictlySortedBy
+sorted_nil = tt
+
+no_word : (w : ℕ) (xs : List Post) → All (λ p. p.word == w ≡ false) xs → of_word w xs ≡ []
+no_word w [] h = refl
+no_word w (x ∷ xs) h =
+    ap (λ b. cond b (x ∷ of_word w xs) (of_word w xs)) (All-head (λ p. p.word == w ≡ false) x xs h) ∙ no_word w xs (All-tail (λ p. p.word == w ≡ false) x xs h)
+
+flat_all : (P : Post → Type 0) (t : Post → Bool) (bs : List (List Post)) → ((k : ℕ) → k < length bs → All P (get_or bs k [])) → All P (flat_map (filter t) bs)
+flat_all P t [] h = All-nil P
+flat_all P t (b ∷ bs) h = All-append P (filter t b) (flat_map (filter t) bs) (All-filter t P b (h 0 (omega arith))) (flat_all P t bs (λ k lt. h (suc k) (omega (arith, lt))))
+
+-- each block is in order, with words from one number up to another, and a later block has later words
+record AreParted (bs : List (List Post)) (from to : ℕ → ℕ) : Type 0 where
+  sorted : (k : ℕ) → k < length bs → AreSorted (get_or bs k [])
+  words : (k : ℕ) → k < length bs → All (λ p. (from k ≤ p.word) × (p.word < to k)) (get_or bs k [])
+  later : (j k : ℕ) → j < k → k < length bs → to j ≤ from k
+
+parted_rest : (b : List Post) (bs : List (List Post)) (from to : ℕ → ℕ) → AreParted (b ∷ bs) from to → AreParted bs (λ k. from (suc k)) (λ k. to (suc k))
+parted_rest b bs from to p = record {
+  sorted = λ k lt. p.sorted (suc k) (omega (arith, lt));
+  words = λ k lt. p.words (suc k) (omega (arith, lt));
+  later = λ j k up lt. p.later (suc j) (suc k) (omega (arith, up)) (omega (arith, lt));
+}
+
+apart_from : (w n : ℕ) → w < n → (p : Post) → n ≤ p.word → p.word == w ≡ false
+apart_from w n lt p le = (let up : w < p.word = omega (arith, lt, le) in grind (arith, nat_tests))
+
+apart_to : (w n : ℕ) → n ≤ w → (p : Post) → p.word < n → p.word == w ≡ false
+apart_to w n le p lt = (let up : p.word < w = omega (arith, lt, le) in grind (arith, nat_tests))
+
+words_in_order : (t : Post → Bool) (bs : List (List Post)) (from to : ℕ → ℕ) → AreParted bs from to → (w : ℕ) → AreSorted (of_word w (flat_map (filter t) bs))
+words_in_order t [] from to p w = sorted_nil
+words_in_order t (b ∷ bs) from to p w =
+    let here = filter t b in
+    let rest = flat_map (filter t) bs in
+    let both : of_word w (here ++ rest) ≡ of_word w here ++ of_word w rest = filter-append (λ p. p.word == w) here rest in
+    elim (nat_lt w (to 0)) as (λ c. nat_lt w (to 0) ≡ c → AreSorted (of_word w (here ++ rest))) [
+      | true ↦ λ e.
+          let lt = ltb-true w (to 0) e in
+          let high : All (λ p. to 0 ≤ p.word) rest = flat_all (λ p. to 0 ≤ p.word) t bs (λ k l.
+          let up = p.later 0 (suc k) (omega arith) (omega (arith, l)) in
+          All-weaker (λ p. (from (suc k) ≤ p.word) × (p.word < to (suc k))) (λ p. to 0 ≤ p.word) (λ x h. omega (arith, h.0, up)) (get_or bs k []) (p.words (suc k) (omega (arith, l)))) in
+          let none : of_word w rest ≡ [] = no_word w rest (All-weaker (λ p. to 0 ≤ p.word) (λ p. p.word == w ≡ false) (λ x h. apart_from w (to 0) lt x h) rest high) in
+          subst AreSorted (sym (both ∙ ap (λ l. of_word w here ++ l) none ∙ append-nil (of_word w here)))
+          (IsStrictlySortedBy-filter by_place (λ p. p.word == w) here (IsStrictlySortedBy-filter by_place t b (p.sorted 0 (omega arith))))
+      | false ↦ λ e.
+          let le = ltb-false w (to 0) e in
+          let low : All (λ p. p.word < to 0) here = All-filter t (λ p. p.word < to 0) b (All-weaker (λ p. (from 0 ≤ p.word) × (p.word < to 0)) (λ p. p.word < to 0) (λ x h. h.1) b (p.words 0 (omega arith))) in
+          let none : of_word w here ≡ [] = no_word w here (All-weaker (λ p. p.word < to 0) (λ p. p.word == w ≡ false) (λ x h. apart_to w (to 0) le x h) here low) in
+          subst AreSorted (sym (both ∙ ap (λ l. l ++ of_word w rest) none)) (words_in_order t bs (λ k. from (suc k)) (λ k. to (suc k)) (parted_rest b bs from to p) w)
+    ] refl
+
+module _ (b : List ℕ) (i : IndexView) (stands : StandsFor b i) (is : IsIndex i) where
+  abbrev blocks : List (List Post)
+  blocks = (image_of b).blocks
+
+  abbrev none : BlockHead
+  none = record { lo = 0; words = 0; rows = 0; len = 0; facet = false }
+
+  -- the blocks from number first up to last
+  cut_at : (first last k : ℕ) → first ≤ last → last ≤ length i.heads → k < length (take (last - first) (drop first blocks)) → (get_or (take (last - first) (drop first blocks)) k [] ≡ block_posts b (first + k)) × (first + k < last)
+  cut_at first last k le within lt =
+      let count = stood_count b i stands in
+      let l1 = length-drop first blocks in
+      let l2 = length-take (last - first) (drop first blocks) in
+      let inside : k < last - first = omega (arith, lt, l1, l2) in
+      (get_or-take (last - first) (drop first blocks) k [] inside ∙ get_or-drop first blocks k [], omega (arith, inside, le))
+
+  parted : (first last : ℕ) → first ≤ last → last ≤ length i.heads → AreParted (take (last - first) (drop first blocks)) (λ k. (get_or i.heads (first + k) none).lo) (λ k. (get_or i.heads (first + k) none).lo + (get_or i.heads (first + k) none).words)
+  parted first last le within = record {
+    sorted = λ k lt. let at = cut_at first last k le within lt in subst AreSorted (sym at.0) (within_block b i stands is (first + k) (omega (arith, at.1, within))).sorted;
+    words = λ k lt.
+        let at = cut_at first last k le within lt in
+        let l : first + k < length i.heads = omega (arith, at.1, within) in
+        let h = get_or i.heads (first + k) none in
+        subst (All (λ p. (h.lo ≤ p.word) × (p.word < h.lo + h.words))) (sym at.0) (block_words h i.docs (block_posts b (first + k)) _ (stood_block b i stands is (first + k) none l));
+    later = λ j k up lt. let at = cut_at first last k le within lt in heads_rise i is (first + j) (first + k) none (omega (arith, up)) (omega (arith, at.1, within));
+  }
+
+  pub countable : (first last lo hi : ℕ) (listed : List Bool) → first ≤ last → last ≤ length i.heads → AreCountable (counted_rows blocks first last lo hi listed)
+  countable first last lo hi listed le within = record {
+    ordered = words_in_order (is_chosen lo hi listed) (take (last - first) (drop first blocks)) _ _ (parted first last le within);
+    few_docs = flat_all (λ p. p.doc < MAX_DOCS) (is_chosen lo hi listed) (take (last - first) (drop first blocks)) (λ k lt.
+        let at = cut_at first last k le within lt in
+        let few = is.few_docs in
+        subst (All (λ p. p.doc < MAX_DOCS)) (sym at.0) (All-weaker (IsWithin i.docs (length i.words)) (λ p. p.doc < MAX_DOCS) (λ x h. let d = h.doc in omega (arith, d, few)) (block_posts b (first + k)) (within_block b i stands is (first + k) (omega (arith, at.1, within))).within));
+  }
+
+  -- one block more is counted
+  pub block_counted : (first k lo hi : ℕ) (listed : List Bool) (old new : WordCountsView) → first ≤ k → k < length i.heads → old.low ≡ lo → old.high ≡ hi
+      → ((seen : List Post) → AreCountable (seen ++ chosen old.low old.high listed (block_posts b k)) → HasCounted seen old → HasCounted (seen ++ chosen old.low old.high listed (block_posts b k)) new)
+      → HasCounted (counted_rows blocks first k lo hi listed) old → HasCounted (counted_rows blocks first (k + 1) lo hi listed) new
+  block_counted first k lo hi listed old new le lt low high step h =
+      let count = stood_count b i stands in
+      let more = flat_more (chosen lo hi listed) blocks first k le (omega (arith, lt, count)) in
+      let all = countable first (k + 1) lo hi listed (omega (arith, le)) (omega (arith, lt)) in
+      let seen = counted_rows blocks first k lo hi listed in
+      let Steps : ℕ → ℕ → Type 0 = λ l u. AreCountable (seen ++ chosen l u listed (block_posts b k)) → HasCounted (seen ++ chosen l u listed (block_posts b k)) new in
+      let own : Steps lo hi = subst (Steps lo) high (subst (λ l. Steps l old.high) low (λ few. step seen few h)) in
+      subst (λ rows. HasCounted rows new) (sym more) (own (subst AreCountable more all))
+
+  flat_twice : (p q : Post → Bool) (bs : List (List Post)) → flat_map (filter (λ x. p x && q x)) bs ≡ filter q (flat_map (filter p) bs)
+  flat_twice p q [] = refl
+  flat_twice p q (b ∷ bs) = ap₂ (λ x y. x ++ y) (filter_twice p q b) (flat_twice p q bs) ∙ sym (filter-append q (filter p b) (flat_map (filter p) bs))
+
+  pub table_told : (first last lo hi : ℕ) (listed : List Bool) → AreMet i.heads lo hi first last → table (counted_rows blocks first last lo hi listed) ≡ table (filter (in_listed listed) (filter (is_between lo hi) (stock_of b).posts))
+  table_told first last lo hi listed met =
+      let p = is_between lo hi in
+      let q = in_listed listed in
+      let all = image_posts (image_of b) in
+      let whole : counted_rows blocks first last lo hi listed ≡ filter q (filter p all) = flat_twice p q (take (last - first) (drop first blocks)) ∙ ap (filter q) (sym (posts_between b i stands is lo hi first last met)) in
+      ap table whole
+      ∙ table_alike (filter q (filter p all)) (filter q (filter p (stock_of b).posts))
+      (λ t. any_filter t q (filter p all) ∙ any_filter (λ x. q x && t x) p all
+      ∙ sym (any_listed by_post by_post_total by_post_exact (λ x. p x && (q x && t x)) all)
+      ∙ sym (any_filter t q (filter p (stock_of b).posts) ∙ any_filter (λ x. q x && t x) p (stock_of b).posts))
+
+  -- the posts that are read of an index file are in its range
+  pub stock_within : AreWithin i (stock_of b).posts
+  stock_within =
+      let st = stocked b i stands is in
+      let docs = docs_are b i stands is in
+      let words = ap length (words_are b i stands is) in
+      record {
+        sorted = st.sorted;
+        within = All-weaker (IsKnown (stock_of b)) (IsWithin i.docs (length i.words)) (λ x h. let doc = h.doc in let word = h.word in record { doc = omega (arith, doc, docs); word = omega (arith, word, words); score = h.score }) (stock_of b).posts st.known;
+      }
+
+  pub listed_kept : (base : Base) (listed : List Bool) (posts : List Post) → AreListed i.docs base listed → AreWithin i posts → filter (in_listed listed) posts ≡ keep_docs posts (docs_in i.docs base)
+  listed_kept base listed posts has w =
+      filter_alike (in_listed listed) (λ p. is_listed (docs_in i.docs base) p.doc) posts
+      (all_then (IsWithin i.docs (length i.words)) (λ p. in_listed listed p ≡ is_listed (docs_in i.docs base) p.doc) (λ p h. has.each p.doc h.doc) posts (recursion_from_All (IsWithin i.docs (length i.words)) posts w.within))
+
+  -- the posts that a facet counts
+  abbrev facet_posts : ℕ → ℕ → List Bool → List Post
+  facet_posts lo hi listed = filter (in_listed listed) (filter (is_between lo hi) (stock_of b).posts)
+
+  -- what is shown of them is the facet's table
+  pub facet_counted : (base : Base) (cut : ℕ) (name copied prefix : List ℕ) (lo hi : ℕ) (listed : List Bool) (ws : List (List ℕ)) (first : List Numbered) (shown : List Shown) → copied ≡ name → prefix ≡ named name [] → IsRange i.words prefix lo hi → AreListed i.docs base listed
+      → ws ≡ i.words → first ≡ take cut (table (facet_posts lo hi listed)) → shown ≡ map (shown_at ws) first → ◌≡◌ {A = FacetShown} (record { name = copied; table = shown }) (facet_at (stock_of b) base cut name)
+  facet_counted base cut name copied prefix lo hi listed ws first shown same prefix_is range has words first_is shown_is =
+      let asked = filter (is_between lo hi) (stock_of b).posts in
+      let within = kept_within i (is_between lo hi) (stock_of b).posts stock_within in
+      let own = subst (λ p. IsRange i.words p lo hi) prefix_is range in
+      let rows = span_found b i stands is (begins (named name [])) lo hi own.holds asked refl in
+      let kept = listed_kept base listed asked has within in
+      let table_is = words_as_shown b i stands is (facet_posts lo hi listed) (kept_within i (in_listed listed) asked within) ws words cut first first_is shown shown_is in
+      facet_told b i stands is base cut name copied asked (facet_posts lo hi listed) i.docs shown same rows refl kept table_is
+
+-- the blocks that hold a facet's words
+pub facet_met : (i : IndexView) → IsIndex i → (name bytes prefix : List ℕ) (lo hi : ℕ) → bytes ≡ prefix → prefix ≡ named name [] → IsRange i.words bytes lo hi → length (filter (is_met lo hi) i.heads) ≤ met_prefix (division i) (named name [])
+facet_met i is name bytes prefix lo hi read asked range = subst (λ p. length (filter (is_met lo hi) i.heads) ≤ met_prefix (division i) p) (read ∙ asked) (prefix_met i is bytes lo hi range)

@@ -1,0 +1,309 @@
+-- Posts as numbers: their order, and what one sort of them gives.
+--
+--   unkeyed             a packed post is the post of its number
+--   ordered_is          what is left of sorted numbers is in order, and loses no member
+--   packed_block        the posts of a block are packed
+--   no_keys, keys_more  numbers of no block, and of one block more
+--   ordered_within, ordered_run     what is brought into order of a run of blocks
+use Rattle.std.proofs.Common.{◌≡◌, ℕ, zero, suc, ◌+◌, ◌-◌, ◌*◌, ◌/◌, ◌%◌, ◌<◌, ◌≤◌, ◌==◌, ◌&&◌, ◌||◌, Bool, true, false, cond, List, [], ◌∷◌, ◌++◌, length, get_or, take, drop, map, Option, None, refl, sym, ap, ap₂, subst, ◌∙◌, arith}
+use Rattle.std.specs.Prelude.{All, filter, flat_map, nat_lt}
+use Rattle.std.specs.List.{AllByRecursion, Contains, list_any}
+use Rattle.std.specs.List.Sorted.{IsPermutation, IsSorted, IsStrictlySortedBy}
+use Rattle.std.specs.Ordering.{is_lt, nat_cmp, ordering_then}
+use Rattle.std.specs.declared.cmp.Ordering.{Ordering}
+use Rattle.std.specs.declared.cmp.Ordering.TheVariants.{Less, Equal}
+use Rattle.std.proofs.lemmas.Bool.{eq-eqb, eqb-true, ltb-false, ltb-true}
+use Rattle.std.proofs.lemmas.Bool.Decides.{nat_tests}
+use Rattle.std.proofs.lemmas.List.{map-append}
+use Rattle.std.proofs.lemmas.List.Elements.{All-nil, All-append, All-contains, All-filter, All-from_recursion, Contains-append_left, Contains-append_right, Contains-get_or, recursion_from_All}
+use Rattle.std.proofs.lemmas.List.Sorted.{All-permutation, IsPermutation-map, list_any-IsPermutation}
+use Rattle.cs_base.specs.content.Orders.{AreSorted, by_place}
+use Rattle.cs_base.specs.declared.content.doc.Post.{Post}
+use Rattle.cs_base.specs.declared.index.block.BlockHead.{BlockHead}
+use Rattle.cs_base.proofs.MembersLemmas.{again}
+use Rattle.cs_base.proofs.OrdersLemmas.{Less-from_lt}
+use Rattle.cs_file.specs.Answers.{HasBlock}
+use Rattle.cs_file.specs.Indexes.{IndexView, IsIndex, StandsFor, block_posts}
+use Rattle.cs_file.proofs.StoodLemmas.{stood_count}
+use Rattle.cs_meet.specs.Filters.{shares_place}
+use Rattle.cs_model.specs.Scores.{SCORES}
+use Rattle.cs_model_index.specs.BlockRules.{in_kind, is_scored}
+use Rattle.cs_model_index.specs.Sections.{image_of}
+use Rattle.cs_engine.specs.Packing.{HasKeys, IsOrdered, IsPacked, apart, key_of, place_of, post_of}
+use Rattle.cs_engine.specs.Reading.{AreWithin, HasRun, IsWithin, WhereStood, run_of, stock_of}
+use Rattle.cs_engine.specs.Stocked.{is_between}
+use Rattle.cs_engine.specs.declared.packing.TheConstants.{NO_PLACE, POSITION_ROOM, SCORE_ROOM}
+use Rattle.cs_engine.proofs.CountingLemmas.{flat_more}
+use Rattle.cs_engine.proofs.ReadingLemmas.{fetched_within}
+use Rattle.cs_engine.proofs.StockLemmas.{from_file, kept_all, stocked}
+use Rattle.cs_engine.proofs.UnionLemmas.{one_post}
+
+-- ---- a post and its number
+front : (m r : ℕ) → r < 8 → (m * 8 + r) / 8 ≡ m
+front m r lt = omega (arith, lt)
+
+back : (m r : ℕ) → r < 8 → (m * 8 + r) % 8 ≡ r
+back m r lt = omega (arith, lt)
+
+word_front : (m r : ℕ) → r < 4194304 → (m * 4194304 + r) / 4194304 ≡ m
+word_front m r lt = omega (arith, lt)
+
+word_back : (m r : ℕ) → r < 4194304 → (m * 4194304 + r) % 4194304 ≡ r
+word_back m r lt = omega (arith, lt)
+
+spot_front : (m r : ℕ) → r < 131072 → (m * 131072 + r) / 131072 ≡ m
+spot_front m r lt = omega (arith, lt)
+
+spot_back : (m r : ℕ) → r < 131072 → (m * 131072 + r) % 131072 ≡ r
+spot_back m r lt = omega (arith, lt)
+
+pub unkeyed : (p : Post) → IsPacked p → post_of (key_of p) ≡ p
+unkeyed p h =
+    let spot = p.doc * 131072 + p.pos in
+    let place = spot * 4194304 + p.word in
+    let at : place_of (key_of p) ≡ place = front place p.score h.score in
+    let spots : place_of (key_of p) / 4194304 ≡ spot = ap (λ n. n / 4194304) at ∙ word_front spot p.word h.word in
+    let doc : (post_of (key_of p)).doc ≡ p.doc = ap (λ n. n / 131072) spots ∙ spot_front p.doc p.pos h.pos in
+    let pos : (post_of (key_of p)).pos ≡ p.pos = ap (λ n. n % 131072) spots ∙ spot_back p.doc p.pos h.pos in
+    let word : (post_of (key_of p)).word ≡ p.word = ap (λ n. n % 4194304) at ∙ word_back spot p.word h.word in
+    let score : (post_of (key_of p)).score ≡ p.score = back place p.score h.score in
+    ap (λ d. let q : Post = record { doc = d; word = (post_of (key_of p)).word; pos = (post_of (key_of p)).pos; score = (post_of (key_of p)).score } in q) doc
+    ∙ ap (λ w. let q : Post = record { doc = p.doc; word = w; pos = (post_of (key_of p)).pos; score = (post_of (key_of p)).score } in q) word
+    ∙ ap (λ x. let q : Post = record { doc = p.doc; word = p.word; pos = x; score = (post_of (key_of p)).score } in q) pos
+    ∙ ap (λ s. let q : Post = record { doc = p.doc; word = p.word; pos = p.pos; score = s } in q) score
+
+all_unkeyed : (rows : List Post) → AllByRecursion IsPacked rows → map post_of (map key_of rows) ≡ rows
+all_unkeyed [] h = refl
+all_unkeyed (p ∷ rows) h = ap₂ (λ x xs. x ∷ xs) (unkeyed p h.0) (all_unkeyed rows h.1)
+
+small_key : (p : Post) → IsPacked p → place_of (key_of p) < NO_PLACE
+small_key p h = let doc = h.doc in let pos = h.pos in let word = h.word in let score = h.score in omega (arith, doc, pos, word, score)
+
+small_keys : (rows : List Post) → AllByRecursion IsPacked rows → AllByRecursion (λ k. place_of k < NO_PLACE) (map key_of rows)
+small_keys [] h = tt
+small_keys (p ∷ rows) h = (small_key p h.0, small_keys rows h.1)
+
+-- ---- the order of numbers
+less_then : (d e : ℕ) (r : Ordering) → d < e → ordering_then (nat_cmp d e) r ≡ Less
+less_then d e r lt = ap (λ o. ordering_then o r) (Less-from_lt d e lt)
+
+tied_then : (d e : ℕ) (r : Ordering) → d ≡ e → ordering_then (nat_cmp d e) r ≡ r
+tied_then d e r same = let tied : nat_cmp d e ≡ Equal = grind (arith, nat_tests) in ap (λ o. ordering_then o r) tied
+
+word_later : (a b : ℕ) → a < b → b / 4194304 ≤ a / 4194304 → (a / 4194304 ≡ b / 4194304) × (a % 4194304 < b % 4194304)
+word_later a b lt le = (omega (arith, lt, le), omega (arith, lt, le))
+
+spot_later : (a b : ℕ) → a < b → b / 131072 ≤ a / 131072 → (a / 131072 ≡ b / 131072) × (a % 131072 < b % 131072)
+spot_later a b lt le = (omega (arith, lt, le), omega (arith, lt, le))
+
+spots_less : (a b : ℕ) (r : Ordering) → a < b → ordering_then (nat_cmp (a / 131072) (b / 131072)) (ordering_then (nat_cmp (a % 131072) (b % 131072)) r) ≡ Less
+spots_less a b r lt =
+    elim (nat_lt (a / 131072) (b / 131072)) as (λ c. nat_lt (a / 131072) (b / 131072) ≡ c → ordering_then (nat_cmp (a / 131072) (b / 131072)) (ordering_then (nat_cmp (a % 131072) (b % 131072)) r) ≡ Less) [
+      | true ↦ λ e. less_then (a / 131072) (b / 131072) _ (ltb-true _ _ e)
+      | false ↦ λ e. let s = spot_later a b lt (ltb-false _ _ e) in tied_then (a / 131072) (b / 131072) _ s.0 ∙ less_then (a % 131072) (b % 131072) r s.1
+    ] refl
+
+places_less : (a b : ℕ) → place_of a < place_of b → by_place (post_of a) (post_of b) ≡ Less
+places_less a b lt =
+    let m = place_of a in
+    let n = place_of b in
+    elim (nat_lt (m / 4194304) (n / 4194304)) as (λ c. nat_lt (m / 4194304) (n / 4194304) ≡ c → by_place (post_of a) (post_of b) ≡ Less) [
+      | true ↦ λ e. spots_less (m / 4194304) (n / 4194304) (nat_cmp (m % 4194304) (n % 4194304)) (ltb-true _ _ e)
+      | false ↦ λ e.
+          let w = word_later m n lt (ltb-false _ _ e) in
+          tied_then (m / 4194304 / 131072) (n / 4194304 / 131072) _ (ap (λ x. x / 131072) w.0)
+          ∙ tied_then (m / 4194304 % 131072) (n / 4194304 % 131072) _ (ap (λ x. x % 131072) w.0)
+          ∙ Less-from_lt (m % 4194304) (n % 4194304) w.1
+    ] refl
+
+-- each number is at least the one before
+Up : ℕ → List ℕ → Type 0
+Up l [] = Unit {0}
+Up l (k ∷ ks) = (l ≤ k) × Up k ks
+
+no_less : (k l : ℕ) → is_lt (nat_cmp k l) ≡ false → l ≤ k
+no_less k l h = grind (arith, nat_tests)
+
+ups : (l : ℕ) (ks : List ℕ) → IsSorted nat_cmp (l ∷ ks) → Up l ks
+unfolding Up
+ups l [] h = tt
+ups l (k ∷ ks) h = (
+  no_less k l (h 0 0 (omega arith) (omega arith)),
+  ups k ks (λ j d from lt.
+      let e : suc j + 1 ≡ suc (j + 1) = omega arith in
+      ap (λ n. is_lt (nat_cmp (get_or (l ∷ k ∷ ks) n d) (get_or (k ∷ ks) j d))) (sym e) ∙ h (suc j) d (omega arith) (omega (arith, lt))),
+)
+
+later_place : (k l : ℕ) → l ≤ k → place_of l ≤ place_of k
+later_place k l le = omega (arith, le)
+
+not_same : (k l : ℕ) → l ≤ k → k == l ≡ false → l < k
+not_same k l le h = grind (arith, nat_tests)
+
+above : (n l : ℕ) (ks : List ℕ) → n ≤ place_of l → Up l ks → AllByRecursion (λ k. n < place_of k) (apart (place_of l) ks)
+unfolding Up
+above n l [] le up = tt
+above n l (k ∷ ks) le up =
+    let on = later_place k l up.0 in
+    let rest = above n k ks (omega (arith, le, on)) up.1 in
+    elim (place_of k == place_of l) as (λ b. place_of k == place_of l ≡ b → AllByRecursion (λ k. n < place_of k) (cond b (apart (place_of k) ks) (k ∷ apart (place_of k) ks))) [
+      | true ↦ λ e. rest
+      | false ↦ λ e. let lt = not_same (place_of k) (place_of l) on e in (omega (arith, le, lt), rest)
+    ] refl
+
+all_later : (l : ℕ) (ks : List ℕ) → AllByRecursion (λ k. place_of l < place_of k) ks → AllByRecursion (λ p. by_place (post_of l) p ≡ Less) (map post_of ks)
+all_later l [] h = tt
+all_later l (k ∷ ks) h = (places_less l k h.0, all_later l ks h.1)
+
+rises : (l : ℕ) (ks : List ℕ) → Up l ks → AreSorted (map post_of (apart (place_of l) ks))
+unfolding Up IsStrictlySortedBy
+rises l [] up = tt
+rises l (k ∷ ks) up =
+    let rest = rises k ks up.1 in
+    elim (place_of k == place_of l) as (λ b. AreSorted (map post_of (cond b (apart (place_of k) ks) (k ∷ apart (place_of k) ks)))) [
+      | true ↦ rest
+      | false ↦ (all_later k (apart (place_of k) ks) (above (place_of k) k ks (omega arith) up.1), rest)
+    ]
+
+-- ---- what is left of them
+each_apart : (P : Post → Type 0) (l : ℕ) (ks : List ℕ) → AllByRecursion P (map post_of ks) → AllByRecursion P (map post_of (apart l ks))
+each_apart P l [] h = tt
+each_apart P l (k ∷ ks) h =
+    let rest = each_apart P (place_of k) ks h.1 in
+    elim (place_of k == l) as (λ b. AllByRecursion P (map post_of (cond b (apart (place_of k) ks) (k ∷ apart (place_of k) ks)))) [
+      | true ↦ rest
+      | false ↦ (h.0, rest)
+    ]
+
+all_three : (a b c : Bool) → a ≡ true → b ≡ true → c ≡ true → (a && (b && c)) ≡ true
+all_three a b c p q r = rw (p, q, r) refl
+
+shared : (k l : ℕ) → place_of k ≡ place_of l → shares_place (post_of k) (post_of l) ≡ true
+shared k l same =
+    all_three _ _ _ (eq-eqb (post_of l).doc (post_of k).doc (ap (λ n. n / 4194304 / 131072) (sym same))) (eq-eqb (post_of l).pos (post_of k).pos (ap (λ n. n / 4194304 % 131072) (sym same)))
+    (eq-eqb (post_of l).word (post_of k).word (ap (λ n. n % 4194304) (sym same)))
+
+module _ (all : List Post) (up : AreSorted all) (t : Post → Bool) where
+  any_behind : (l : ℕ) (ks : List ℕ) → Contains all (post_of l) → AllByRecursion (Contains all) (map post_of ks) → (t (post_of l) || list_any t (map post_of (apart (place_of l) ks))) ≡ (t (post_of l) || list_any t (map post_of ks))
+  any_behind l [] at h = refl
+  any_behind l (k ∷ ks) at h =
+      let rest = any_behind k ks h.0 h.1 in
+      elim (place_of k == place_of l) as (λ b. place_of k == place_of l ≡ b → (t (post_of l) || list_any t (map post_of (cond b (apart (place_of k) ks) (k ∷ apart (place_of k) ks)))) ≡ (t (post_of l) || (t (post_of k) || list_any t (map post_of ks)))) [
+        | true ↦ λ e.
+            let same : post_of k ≡ post_of l = one_post all up (post_of k) (post_of l) h.0 at (shared k l (eqb-true (place_of k) (place_of l) e)) in
+            ap (λ p. t p || list_any t (map post_of (apart (place_of k) ks))) (sym same) ∙ rest ∙ again (t (post_of k)) (list_any t (map post_of ks)) ∙ ap (λ p. t p || (t (post_of k) || list_any t (map post_of ks))) same
+        | false ↦ λ e. ap (λ b. t (post_of l) || b) rest
+      ] refl
+
+first_apart : (k : ℕ) (ks : List ℕ) → place_of k < NO_PLACE → apart NO_PLACE (k ∷ ks) ≡ k ∷ apart (place_of k) ks
+first_apart k ks lt = let away : place_of k == NO_PLACE ≡ false = grind (arith, nat_tests) in ap (λ b. cond b (apart (place_of k) ks) (k ∷ apart (place_of k) ks)) away
+
+sorted_nil : AreSorted []
+unfolding IsStrictlySortedBy
+sorted_nil = tt
+
+pub all_rise : (ks : List ℕ) → AllByRecursion (λ k. place_of k < NO_PLACE) ks → IsSorted nat_cmp ks → AreSorted (map post_of (apart NO_PLACE ks))
+unfolding IsStrictlySortedBy
+all_rise [] small up = sorted_nil
+all_rise (k ∷ ks) small up =
+    let on = ups k ks up in
+    subst (λ xs. AreSorted (map post_of xs)) (sym (first_apart k ks small.0)) (all_later k (apart (place_of k) ks) (above (place_of k) k ks (omega arith) on), rises k ks on)
+
+pub any_apart : (all : List Post) → AreSorted all → (t : Post → Bool) (ks : List ℕ) → AllByRecursion (λ k. place_of k < NO_PLACE) ks → AllByRecursion (Contains all) (map post_of ks) → list_any t (map post_of (apart NO_PLACE ks)) ≡ list_any t (map post_of ks)
+any_apart all up t [] small h = refl
+any_apart all up t (k ∷ ks) small h = ap (λ xs. list_any t (map post_of xs)) (first_apart k ks small.0) ∙ any_behind all up t k ks h.0 h.1
+
+pub ordered_is : (rows : List Post) (keys ks : List ℕ) (posts : List Post) → keys ≡ map key_of rows → All IsPacked rows → IsPermutation keys ks → IsSorted nat_cmp ks → posts ≡ map post_of (apart NO_PLACE ks) → IsOrdered rows posts
+ordered_is rows keys ks posts are packed moved up is =
+    let each = recursion_from_All IsPacked rows packed in
+    let perm = subst (λ xs. IsPermutation xs ks) are moved in
+    let small = recursion_from_All (λ k. place_of k < NO_PLACE) ks (All-permutation (λ k. place_of k < NO_PLACE) (map key_of rows) ks perm (All-from_recursion (λ k. place_of k < NO_PLACE) (map key_of rows) (small_keys rows each))) in
+    let posts_perm : IsPermutation rows (map post_of ks) = subst (λ xs. IsPermutation xs (map post_of ks)) (all_unkeyed rows each) (IsPermutation-map post_of (map key_of rows) ks perm) in
+    record {
+      sorted = subst AreSorted (sym is) (all_rise ks small up);
+      among = subst (All (Contains rows)) (sym is) (All-from_recursion (Contains rows) (map post_of (apart NO_PLACE ks)) (each_apart (Contains rows) NO_PLACE ks (recursion_from_All (Contains rows) (map post_of ks) (All-permutation (Contains rows) rows (map post_of ks) posts_perm (λ k d lt. Contains-get_or rows k d lt)))));
+      alike = λ all all_up in_all t.
+          ap (list_any t) is
+          ∙ any_apart all all_up t ks small (recursion_from_All (Contains all) (map post_of ks) (All-permutation (Contains all) rows (map post_of ks) posts_perm in_all))
+          ∙ sym (list_any-IsPermutation t rows (map post_of ks) posts_perm);
+    }
+
+-- ---- the rows of blocks
+record HasRoom (r : Post) : Type 0 where
+  pos : r.pos < POSITION_ROOM
+  score : r.score < SCORE_ROOM
+
+has_room : (facet : Bool) (r : Post) → is_scored SCORES facet r ≡ true → HasRoom r
+has_room true r h = record { pos = grind (arith, nat_tests); score = grind (arith, nat_tests) }
+has_room false r h = record { pos = grind (arith, nat_tests); score = grind (arith, nat_tests) }
+
+pub packed_block : (i : IndexView) → IsIndex i → (told : Option (List ℕ)) (k : ℕ) → k < length i.heads → (old new : List Post) → old ≡ [] → HasBlock i told k old new → All IsPacked new
+packed_block i is told k lt old new none h =
+    let d : BlockHead = record { lo = 0; words = 0; rows = 0; len = 0; facet = false } in
+    let all : new ≡ h.rows = h.added ∙ ap (λ (x : List Post). x ++ h.rows) none in
+    let head = get_or i.heads k d in
+    let each = kept_all (in_kind SCORES head).holds HasRoom (λ last r e. has_room head.facet r e) None h.rows (h.block d).meets.1.1.0 in
+    let rooms = subst (All HasRoom) (sym all) (All-from_recursion HasRoom h.rows each) in
+    let within = (fetched_within i is told k lt old new none h).within in
+    let docs = is.few_docs in
+    let words = is.few_words in
+    λ j e l.
+    let w = within j e l in
+    let doc = w.doc in
+    let word = w.word in
+    record { doc = omega (arith, doc, docs); pos = (rooms j e l).pos; word = omega (arith, word, words); score = (rooms j e l).score }
+
+pub no_keys : (i : IndexView) (told : Option (List ℕ)) (first lo hi : ℕ) (keys : List ℕ) → keys ≡ [] → HasKeys i told first first lo hi keys
+no_keys i told first lo hi keys none = record {
+  rows = [];
+  are = none;
+  packed = All-nil IsPacked;
+  within = All-nil (IsWithin i.docs (length i.words));
+  run = λ b is stands. (let e : 0 ≡ first - first = omega arith in ap (λ n. flat_map (filter (is_between lo hi)) (take n (drop first (image_of b).blocks))) e);
+}
+
+pub keys_more : (i : IndexView) (told : Option (List ℕ)) (first k lo hi : ℕ) (old new : List ℕ) (rows : List Post) → IsIndex i → first ≤ k → k < length i.heads → new ≡ old ++ map key_of rows → All IsPacked rows → All (IsWithin i.docs (length i.words)) rows
+    → WhereStood told i (λ b. rows ≡ filter (is_between lo hi) (block_posts b k)) → HasKeys i told first k lo hi old → HasKeys i told first (k + 1) lo hi new
+keys_more i told first k lo hi old new rows index le lt added packed within block h = record {
+  rows = h.rows ++ rows;
+  are = added ∙ ap (λ xs. xs ++ map key_of rows) h.are ∙ sym (map-append key_of h.rows rows);
+  packed = All-append IsPacked h.rows rows h.packed packed;
+  within = All-append (IsWithin i.docs (length i.words)) h.rows rows h.within within;
+  run = λ b is stands.
+      let count = stood_count b i stands in
+      ap₂ (λ x y. x ++ y) (h.run b is stands) (block b is stands) ∙ sym (flat_more (filter (is_between lo hi)) (image_of b).blocks first k le (omega (arith, lt, count)));
+}
+
+in_rows : (P : Post → Type 0) (rows posts : List Post) → All (Contains rows) posts → All P rows → All P posts
+in_rows P rows posts among h = λ k d lt. All-contains P rows (get_or posts k d) h (among k d lt)
+
+pub ordered_within : (i : IndexView) (told : Option (List ℕ)) (first last lo hi : ℕ) (keys : List ℕ) (posts : List Post) (h : HasKeys i told first last lo hi keys) → IsOrdered h.rows posts → AreWithin i posts
+ordered_within i told first last lo hi keys posts h o = record { sorted = o.sorted; within = in_rows (IsWithin i.docs (length i.words)) h.rows posts o.among h.within }
+
+-- each post of a run is one of the stock
+module _ (P : Post → Type 0) (t : Post → Bool) where
+  dropped : (n : ℕ) (bs : List (List Post)) → ((x : Post) → Contains (flat_map (λ block. block) bs) x → P x) → (x : Post) → Contains (flat_map (λ block. block) (drop n bs)) x → P x
+  dropped zero bs h = h
+  dropped (suc n) [] h = h
+  dropped (suc n) (b ∷ bs) h = dropped n bs (λ x c. h x (Contains-append_right b (flat_map (λ block. block) bs) x c))
+
+  taken : (n : ℕ) (bs : List (List Post)) → ((x : Post) → Contains (flat_map (λ block. block) bs) x → P x) → All P (flat_map (filter t) (take n bs))
+  taken zero bs h = All-nil P
+  taken (suc n) [] h = All-nil P
+  taken (suc n) (b ∷ bs) h =
+      All-append P (filter t b) (flat_map (filter t) (take n bs)) (All-filter t P b (λ k d lt. h (get_or b k d) (Contains-append_left b (flat_map (λ block. block) bs) (get_or b k d) (Contains-get_or b k d lt))))
+      (taken n bs (λ x c. h x (Contains-append_right b (flat_map (λ block. block) bs) x c)))
+
+run_known : (b : List ℕ) (i : IndexView) → StandsFor b i → IsIndex i → (first last lo hi : ℕ) → All (Contains (stock_of b).posts) (run_of (image_of b).blocks first last lo hi)
+run_known b i s is first last lo hi =
+    let P : Post → Type 0 = Contains (stock_of b).posts in
+    taken P (is_between lo hi) (last - first) (drop first (image_of b).blocks) (dropped P (is_between lo hi) first (image_of b).blocks (from_file b i s is))
+
+pub ordered_run : (b : List ℕ) (i : IndexView) (told : Option (List ℕ)) → StandsFor b i → IsIndex i → (first last lo hi : ℕ) (rows posts : List Post) → rows ≡ run_of (image_of b).blocks first last lo hi → IsOrdered rows posts → HasRun (stock_of b) (image_of b).blocks first last lo hi posts
+ordered_run b i told s is first last lo hi rows posts run o =
+    let all = (stock_of b).posts in
+    let known : All (Contains all) rows = subst (All (Contains all)) (sym run) (run_known b i s is first last lo hi) in
+    record {
+      among = in_rows (Contains all) rows posts o.among known;
+      alike = λ t. o.alike all (stocked b i s is).sorted known t ∙ ap (list_any t) run;
+    }

@@ -1,0 +1,33 @@
+-- The rows that the table of a facet counts.
+--
+-- Source: this engine's own.
+--
+--   in_listed listed p       the document of a post is listed
+--   counted_rows blocks first last lo hi listed     the posts that are counted in the blocks from number first up to last, one block
+--                            behind the other
+--   AreMarked hits old new   the documents of hits are listed beside those that were
+--   AreListed docs b listed  which of so many documents a base lists
+use Rattle.std.specs.Prelude.{◌≡◌, ℕ, ◌-◌, ◌<◌, ◌||◌, Bool, false, List, length, map, take, drop, flat_map, slice_index_or}
+use Rattle.cs_base.specs.declared.content.doc.Base.{Base}
+use Rattle.cs_base.specs.declared.content.doc.Post.{Post}
+use Rattle.cs_base.specs.declared.content.doc.Scored.{Scored}
+use Rattle.cs_model.specs.Answers.{is_listed}
+use Rattle.cs_tables.specs.WordCounts.{chosen}
+use Rattle.cs_engine.specs.Stocked.{docs_in}
+
+-- a document behind the last of the list isn't
+abbrev pub in_listed : List Bool → Post → Bool
+in_listed listed p = slice_index_or listed p.doc false
+
+-- none where first is last
+abbrev pub counted_rows : List (List Post) → ℕ → ℕ → ℕ → ℕ → List Bool → List Post
+counted_rows blocks first last lo hi listed = flat_map (chosen lo hi listed) (take (last - first) (drop first blocks))
+
+-- of no hits they are the same
+abbrev pub AreMarked : List Scored → List Bool → List Bool → Type 0
+AreMarked hits old new = (length new ≡ length old) × ((d : ℕ) → d < length new → slice_index_or new d false ≡ (slice_index_or old d false || is_listed (map (λ h. h.doc) hits) d))
+
+-- All lists each of them
+pub record AreListed (docs : ℕ) (b : Base) (listed : List Bool) : Type 0 where
+  pub long : length listed ≡ docs
+  pub each : (d : ℕ) → d < docs → slice_index_or listed d false ≡ is_listed (docs_in docs b) d

@@ -1,0 +1,118 @@
+//! The words of a range, counted block by block in the documents of a base.
+ghost use Rattle.std.specs.Prelude.{◌≡◌, ◌≤◌, ◌<◌, ◌*◌, ◌++◌, [], List, false, filter, length, take, IfOk, OnOk};
+ghost use Rattle.std.specs.List.{All};
+ghost use Rattle.cs_base.specs.declared.content.doc.Post.{Post};
+ghost use Rattle.cs_base.specs.declared.content.limits.TheConstants.{MAX_PARTS};
+ghost use Rattle.cs_base.specs.outside.Causes.{ReadsWithin};
+ghost use Rattle.cs_file.specs.Indexes.{IsIndex, Fits, CausedReads, block_posts, is_met};
+ghost use Rattle.cs_tables.specs.Listings.{table};
+ghost use Rattle.cs_tables.specs.WordCounts.{AreCountable, HasCounted, chosen};
+ghost use Rattle.cs_engine.specs.Asking.{is_read, is_changed};
+ghost use Rattle.cs_engine.specs.Counting.{AreListed, AreMarked, in_listed};
+ghost use Rattle.cs_engine.specs.Reading.{WhereStood, stock_of};
+ghost use Rattle.cs_engine.specs.Steps.{IsBaseOf};
+ghost use Rattle.cs_engine.specs.Stocked.{is_between};
+
+use crate::fault::AskFault;
+use cs_base::{Base, Memory, Scored, Store};
+use cs_cols::Cols;
+use cs_file::Index;
+use cs_tables::{Table, WordCounts};
+use std::alloc::Global;
+
+/// Which documents a base lists, by document.
+pub(crate) fn listed_docs(alloc: Global, docs: u32, base: &Base) -> Result<Vec<bool>, Memory>
+    requires base { IsBaseOf docs (255 * MAX_PARTS) base.now }
+
+    ensures { IfOk result (λ v. AreListed docs base.now v.items) }
+{
+    match base {
+        Base::All => {
+            let all = vec![in alloc; true; docs as usize]?;
+            Ok(all)
+        }
+        Base::Listed(hits) => {
+            let mut listed = vec![in alloc; false; docs as usize]?;
+            list_all(&mut listed, hits.as_slice());
+            Ok(listed)
+        }
+    }
+}
+
+// Lists the documents of some hits.
+fn list_all(listed: &mut [bool], hits: &[Scored])
+    requires { All (λ h. h.doc < length listed.old) hits.now }
+
+    ensures { AreMarked hits.now listed.old listed.new }
+{
+    for hit in hits {
+        listed[hit.doc as usize] = true;
+    }
+}
+
+/// The table of the words from number `words.0` up to `words.1` by their rows in listed documents. Each block that holds such a
+/// word is read once.
+pub(crate) fn table_between<S: Store>(
+    alloc: Global,
+    index: &Index,
+    store: &mut S,
+    words: (u32, u32),
+    listed: &[bool],
+    cut: u32,
+) -> Result<Table, AskFault>
+    requires ordered { words.0 ≤ words.1 }
+    requires in_range { words.1 ≤ length index.now.words }
+    requires listed { length listed.now ≡ index.now.docs }
+    requires index { IsIndex index.now }
+    requires fits { Fits (S.bytes store.old) index.now }
+
+    ensures told { WhereStood (S.bytes store.old) index.now (λ b. IfOk result (λ t. t.first ≡ take cut (table (filter (in_listed listed.now) (filter (is_between words.0 words.1) (stock_of b).posts))))) }
+    ensures known { IfOk result (λ t. All (λ w. w.word < length index.now.words) t.first) }
+    ensures unchanged { WhereStood (S.bytes store.old) index.now (λ b. is_changed result ≡ false) }
+    ensures bytes { S.bytes store.new ≡ S.bytes store.old }
+    ensures lent { S.lent store.new ≡ S.lent store.old }
+    ensures reads { ReadsWithin (length (filter (is_met words.0 words.1) index.now.heads)) (S.reads store.old) (S.reads store.new) }
+    ensures caused { CausedReads (is_read result) (S.faults store.old) (S.faults store.new) }
+{
+    let (lo, hi) = words;
+    let (first, last) = index.blocks(lo, hi);
+    let mut counts = WordCounts::new(alloc, lo, hi)?;
+    let mut block = Cols::new(alloc);
+    for k in first..last {
+        count_block(alloc, index, store, k, listed, &mut block, &mut counts)?;
+    }
+    let table = counts.table(alloc, cut)?;
+    Ok(table)
+}
+
+// Counts the rows of block `k`, which is read once, in columns that hold no row.
+fn count_block<S: Store>(
+    alloc: Global,
+    index: &Index,
+    store: &mut S,
+    k: u32,
+    listed: &[bool],
+    block: &mut Cols,
+    counts: &mut WordCounts,
+) -> Result<(), AskFault>
+    requires in_range { k < length index.now.heads }
+    requires listed { length listed.now ≡ index.now.docs }
+    requires empty { block.old.posts ≡ [] }
+    requires index { IsIndex index.now }
+    requires fits { Fits (S.bytes store.old) index.now }
+
+    ensures told { WhereStood (S.bytes store.old) index.now (λ b. OnOk result ((seen : List Post) → AreCountable (seen ++ chosen counts.old.low counts.old.high listed.now (block_posts b k)) → HasCounted seen counts.old → HasCounted (seen ++ chosen counts.old.low counts.old.high listed.now (block_posts b k)) counts.new)) }
+    ensures low { counts.new.low ≡ counts.old.low }
+    ensures high { counts.new.high ≡ counts.old.high }
+    ensures empty { OnOk result (block.new.posts ≡ []) }
+    ensures unchanged { WhereStood (S.bytes store.old) index.now (λ b. is_changed result ≡ false) }
+    ensures bytes { S.bytes store.new ≡ S.bytes store.old }
+    ensures lent { S.lent store.new ≡ S.lent store.old }
+    ensures reads { ReadsWithin 1 (S.reads store.old) (S.reads store.new) }
+    ensures caused { CausedReads (is_read result) (S.faults store.old) (S.faults store.new) }
+{
+    index.fetch(alloc, store, k, block)?;
+    counts.add(block.docs(), block.words(), listed);
+    block.truncate(0);
+    Ok(())
+}

@@ -1,0 +1,223 @@
+-- The rows that are given are counted, piece by piece.
+--
+--   All-members          what each of a list is, each of its listing is
+--   counted_nothing      the marks of no rows
+--   row_counted, row_passed     the marks behind one row
+--   rows_counted         behind one row more
+--   piece_counted        what is counted behind a piece more
+--   words_counted        the words that are collected are those of the rows
+--   first_below          the first words of a table are among those counted
+use Rattle.std.proofs.Common.{◌≡◌, ◌≢◌, ℕ, zero, suc, ◌+◌, ◌-◌, ◌<◌, ◌≤◌, ◌&&◌, ◌||◌, Bool, true, false, List, [], ◌∷◌, ◌++◌, cond, map, length, take, take_all, drop, replicate, get_or, set, ◌==◌, nat_lt, nat_le, refl, sym, ◌∙◌, ap, ap₂, subst, arith, append_assoc, append-nil, get_or-set_other}
+use Rattle.std.specs.Prelude.{All, slice_index_or}
+use Rattle.std.specs.List.{AllByRecursion, list_any}
+use Rattle.std.specs.Ordering.{eq_by_cmp, is_eq}
+use Rattle.std.specs.declared.cmp.Ordering.{Ordering}
+use Rattle.std.specs.Cmp.{IsTotalOrder, Equal-is, tied_itself}
+use Rattle.std.specs.FinMap.{IsAntisymmetric}
+use Rattle.std.proofs.lemmas.Bool.{and_parts, leb-true, ltb-true, or_left, or_right, eqb-true, eq-eqb, ne_eqb}
+use Rattle.std.proofs.lemmas.Grind.{get_or-set_at}
+use Rattle.std.proofs.lemmas.List.{length-map, take_more, take-append-le, drop_all, get_or_default, get_or-replicate}
+use Rattle.std.proofs.lemmas.List.Elements.{All-nil, All-cons, All-append, All-from_recursion, All-take, All-drop, All-map, recursion_from_All, filter-append}
+use Rattle.cs_base.specs.content.Members.{members_in}
+use Rattle.cs_base.specs.content.Orders.{AreSorted, by_place, by_rank}
+use Rattle.cs_base.specs.declared.content.doc.Post.{Post}
+use Rattle.cs_base.specs.declared.content.doc.Scored.{Scored}
+use Rattle.cs_base.specs.declared.content.limits.TheConstants.{MAX_DOCS}
+use Rattle.cs_base.proofs.MembersLemmas.{is_member-listed}
+use Rattle.cs_base.proofs.OrdersLemmas.{by_rank_total, by_rank_exact}
+use Rattle.cs_rank.proofs.Places.{take_rises}
+use Rattle.cs_tables.specs.declared.counts.Mark.{Mark}
+use Rattle.cs_tables.specs.declared.counts.TheConstants.{NO_DOC}
+use Rattle.cs_tables.specs.declared.tables.Completion.{Completion}
+use Rattle.cs_tables.specs.Listings.{completion, of_word}
+use Rattle.cs_tables.specs.Marks.{collected, counted_word, marked, saw, words_of}
+use Rattle.cs_tables.specs.WordCounts.{AreCountable, Counts, HasCounted, HasMarks, WordCountsView, chosen, is_chosen}
+use Rattle.cs_tables.proofs.MarksLemmas.{fold_push, word_marked, word_docs_few}
+use Rattle.cs_tables.proofs.WordsLemmas.{collected_words}
+
+-- ---- listings
+module _ {X : Type 0} (R : X → X → Ordering) (o : IsTotalOrder R) (exact : IsAntisymmetric R) (P : X → Type 0) where
+  has : (xs : List X) → AllByRecursion P xs → (q : X) → list_any (eq_by_cmp R q) xs ≡ true → P q
+  has [] h q e = absurd (cc)
+  has (x ∷ xs) h q e =
+      elim (eq_by_cmp R q x) as (λ b. eq_by_cmp R q x ≡ b → b || list_any (eq_by_cmp R q) xs ≡ true → P q) [
+        | true ↦ λ s _. subst P (sym (exact q x ((Equal-is (R q x)).0 s))) h.0
+        | false ↦ λ s r. has xs h.1 q r
+      ] refl e
+
+  each_of : (xs : List X) → ((q : X) → list_any (eq_by_cmp R q) xs ≡ true → P q) → AllByRecursion P xs
+  each_of [] h = tt
+  each_of (x ∷ xs) h = (h x (or_left _ _ (ap is_eq (tied_itself o x))), each_of xs (λ q e. h q (or_right (eq_by_cmp R q x) _ e)))
+
+  All-members : (xs : List X) → AllByRecursion P xs → All P (members_in R xs)
+  All-members xs h = All-from_recursion P (members_in R xs) (each_of (members_in R xs) (λ q e. has xs h q (sym (is_member-listed R o xs q) ∙ e)))
+
+-- ---- rows that are countable
+rises_front : (a b : List Post) → AreSorted (a ++ b) → AreSorted a
+rises_front a b up = subst AreSorted (take-append-le (length a) a b (omega arith) ∙ whole a) (take_rises by_place (length a) (a ++ b) up)
+  where
+    whole : (a : List Post) → take (length a) a ≡ a
+    whole [] = refl
+    whole (x ∷ a) = ap (λ l. x ∷ l) (whole a)
+
+all_front : (P : Post → Type 0) (a b : List Post) → All P (a ++ b) → AllByRecursion P a
+all_front P [] b h = tt
+all_front P (x ∷ a) b h = (h 0 x (omega arith), all_front P a b (λ k d lt. h (suc k) d (omega (arith, lt))))
+
+-- what stands before countable rows is
+front_countable : (a b : List Post) → AreCountable (a ++ b) → AreCountable a
+front_countable a b c = record {
+  ordered = λ w. rises_front (of_word w a) (of_word w b) (subst AreSorted (filter-append (λ p. p.word == w) a b) (c.ordered w));
+  few_docs = All-from_recursion (λ p. p.doc < MAX_DOCS) a (all_front (λ p. p.doc < MAX_DOCS) a b c.few_docs);
+}
+
+-- ---- the marks
+-- what a read past the last mark would give
+abbrev unread : Mark
+unread = record { docs = 0; last = 0 }
+
+abbrev blank : Mark
+blank = record { docs = 0; last = NO_DOC }
+
+pub counted_nothing : (low n : ℕ) (marks : List Mark) → marks ≡ replicate n blank → HasMarks low [] marks
+counted_nothing low n marks are k d lt = ap (λ ms. get_or ms k d) are ∙ get_or-replicate n k blank d (omega (arith, lt, ap length are, long n))
+  where
+    long : (n : ℕ) → length (replicate n blank) ≡ n
+    long zero = refl
+    long (suc n) = ap suc (long n)
+
+module _ (low high : ℕ) (listed : List Bool) where
+  -- a mark can count one more
+  has_room : (w : ℕ) (seen : List Post) (m : Mark) → AreCountable seen → m ≡ marked w seen → m.docs < NO_DOC
+  has_room w seen m c is =
+      let below = recursion_from_All (λ p. p.doc < MAX_DOCS) seen c.few_docs in
+      let docs = ap (λ (m : Mark). m.docs) is ∙ word_marked w seen (c.ordered w) below in
+      let least = word_docs_few w seen (c.ordered w) below in
+      omega (arith, docs, least)
+
+  test_at : (p : Post) (doc word : ℕ) → doc ≡ p.doc → word ≡ p.word → ((nat_le low word && nat_lt word high) && slice_index_or listed doc false) ≡ is_chosen low high listed p
+  test_at p doc word d w = ap₂ (λ x y. (nat_le low y && nat_lt y high) && slice_index_or listed x false) d w
+
+  -- a row that isn't chosen
+  pub row_passed : (marks : List Mark) (doc word : ℕ) → ((nat_le low word && nat_lt word high) && slice_index_or listed doc false) ≡ false → (p : Post) → doc ≡ p.doc → word ≡ p.word → Counts low high listed (p ∷ []) marks marks
+  row_passed marks doc word out p d w seen c h =
+      let none : chosen low high listed (p ∷ []) ≡ [] = ap (λ b. cond b (p ∷ []) []) (sym (test_at p doc word d w) ∙ out) in
+      subst (λ rows. HasMarks low rows marks) (sym (append-nil seen) ∙ ap (λ rows. seen ++ rows) (sym none)) h
+
+  -- a row that is
+  pub row_counted : (marks : List Mark) (doc word : ℕ) (now : Mark) → low + length marks ≡ high → ((nat_le low word && nat_lt word high) && slice_index_or listed doc false) ≡ true → ((get_or marks (word - low) unread).docs < NO_DOC → now ≡ saw (get_or marks (word - low) unread) doc)
+      → (p : Post) → doc ≡ p.doc → word ≡ p.word → Counts low high listed (p ∷ []) marks (set marks (word - low) now)
+  row_counted marks doc word now sized in_it saws p d w seen c h =
+      let one : chosen low high listed (p ∷ []) ≡ p ∷ [] = ap (λ b. cond b (p ∷ []) []) (sym (test_at p doc word d w) ∙ in_it) in
+      let range = and_parts (nat_le low word) (nat_lt word high) (and_parts (nat_le low word && nat_lt word high) _ in_it).0 in
+      let from = leb-true low word range.0 in
+      let upto = ltb-true word high range.1 in
+      let j = word - low in
+      let inside : j < length marks = omega (arith, sized, from, upto) in
+      let before = front_countable seen (chosen low high listed (p ∷ [])) c in
+      let m = get_or marks j unread in
+      let old : m ≡ marked (low + j) seen = h j unread inside in
+      let new : now ≡ saw (marked (low + j) seen) p.doc = saws (has_room (low + j) seen m before old) ∙ ap₂ saw old d in
+      subst (λ rows. HasMarks low rows (set marks j now)) (ap (λ rows. seen ++ rows) (sym one)) (λ k e lt.
+      elim (j == k) as (λ b. j == k ≡ b → get_or (set marks j now) k e ≡ marked (low + k) (seen ++ p ∷ [])) [
+        | true ↦ λ s.
+            let at : j ≡ k = eqb-true j k s in
+            let there : p.word ≡ low + k = omega (arith, at, w, from) in
+            get_or-set_at marks j k now e (sym at) inside ∙ new ∙ ap (λ n. saw (marked (low + n) seen) p.doc) at
+            ∙ sym (fold_push (low + k) blank seen p ∙ ap (λ b. cond b (saw (marked (low + k) seen) p.doc) (marked (low + k) seen)) (eq-eqb p.word (low + k) there))
+        | false ↦ λ s.
+            let apart : k ≢ j = (λ x. absurd (let t = eq-eqb j k (sym x) in cc)) in
+            let elsewhere : p.word ≢ low + k = (λ x. apart (omega (arith, x, w, from))) in
+            get_or-set_other marks j k now e apart ∙ h k e (subst (λ n. k < n) (same_long marks j now) lt)
+            ∙ sym (fold_push (low + k) blank seen p ∙ ap (λ b. cond b (saw (marked (low + k) seen) p.doc) (marked (low + k) seen)) (ne_eqb p.word (low + k) elsewhere))
+      ] refl)
+    where
+      same_long : (ms : List Mark) (j : ℕ) (n : Mark) → length (set ms j n) ≡ length ms
+      same_long [] j n = refl
+      same_long (m ∷ ms) zero n = refl
+      same_long (m ∷ ms) (suc j) n = ap suc (same_long ms j n)
+
+  -- one piece behind another
+  pieces_counted : (a b : List Post) (m0 m1 m2 : List Mark) → Counts low high listed a m0 m1 → Counts low high listed b m1 m2 → Counts low high listed (a ++ b) m0 m2
+  pieces_counted a b m0 m1 m2 first second seen c h =
+      let f = chosen low high listed in
+      let both : seen ++ f (a ++ b) ≡ (seen ++ f a) ++ f b = ap (λ rows. seen ++ rows) (filter-append (is_chosen low high listed) a b) ∙ sym (append_assoc seen (f a) (f b)) in
+      let whole : AreCountable ((seen ++ f a) ++ f b) = subst AreCountable both c in
+      subst (λ rows. HasMarks low rows m2) (sym both) (second (seen ++ f a) whole (first seen (front_countable (seen ++ f a) (f b) whole) h))
+
+  abbrev no_post : Post
+  no_post = record { doc = 0; word = 0; pos = 0; score = 0 }
+
+  at_field : (f : Post → ℕ) (rows : List Post) (i : ℕ) (d : Post) → i < length rows → get_or (map f rows) i 0 ≡ f (get_or rows i d)
+  at_field f [] i d lt = absurd (omega (arith, lt))
+  at_field f (p ∷ rows) zero d lt = refl
+  at_field f (p ∷ rows) (suc i) d lt = at_field f rows i d (omega (arith, lt))
+
+  pub rows_counted : (rows : List Post) (docs words : List ℕ) (i : ℕ) (m0 m1 m2 : List Mark) → docs ≡ map (λ p. p.doc) rows → words ≡ map (λ p. p.word) rows → i < length docs
+      → Counts low high listed (take i rows) m0 m1 → ((p : Post) → get_or docs i 0 ≡ p.doc → get_or words i 0 ≡ p.word → Counts low high listed (p ∷ []) m1 m2) → Counts low high listed (take (i + 1) rows) m0 m2
+  rows_counted rows docs words i m0 m1 m2 is_docs is_words lt before next =
+      let inside : i < length rows = omega (arith, lt, ap length is_docs, length-map rows (λ (p : Post). p.doc)) in
+      let p = get_or rows i no_post in
+      let doc = ap (λ xs. get_or xs i 0) is_docs ∙ at_field (λ p. p.doc) rows i no_post inside in
+      let word = ap (λ xs. get_or xs i 0) is_words ∙ at_field (λ p. p.word) rows i no_post inside in
+      subst (λ xs. Counts low high listed xs m0 m2) (sym (take_more rows i no_post inside)) (pieces_counted (take i rows) (p ∷ []) m0 m1 m2 before (next p doc word))
+
+  chosen_within : (rows : List Post) → All (λ p. (low ≤ p.word) × (p.word < high)) (chosen low high listed rows)
+  chosen_within [] = All-nil (λ (p : Post). (low ≤ p.word) × (p.word < high))
+  chosen_within (p ∷ rows) =
+      elim (is_chosen low high listed p) as (λ b. is_chosen low high listed p ≡ b → All (λ p. (low ≤ p.word) × (p.word < high)) (cond b (p ∷ chosen low high listed rows) (chosen low high listed rows))) [
+        | true ↦ λ e.
+            let range = and_parts (nat_le low p.word) (nat_lt p.word high) (and_parts (nat_le low p.word && nat_lt p.word high) _ e).0 in
+            All-cons (λ (p : Post). (low ≤ p.word) × (p.word < high)) p (chosen low high listed rows) (leb-true low p.word range.0, ltb-true p.word high range.1) (chosen_within rows)
+        | false ↦ λ e. chosen_within rows
+      ] refl
+
+  -- a piece more
+  pub piece_counted : (seen rows : List Post) (old new : WordCountsView) → old.low ≡ low → old.high ≡ high → new.low ≡ low → new.high ≡ high → Counts low high listed rows old.marks new.marks → AreCountable (seen ++ chosen low high listed rows) → HasCounted seen old → HasCounted (seen ++ chosen low high listed rows) new
+  piece_counted seen rows old new a b c d counts few h = record {
+    marks = subst (λ n. HasMarks n (seen ++ chosen low high listed rows) new.marks) (sym c) (counts seen few (subst (λ n. HasMarks n seen old.marks) a h.marks));
+    within = subst (λ n. All (λ p. (n ≤ p.word) × (p.word < new.high)) (seen ++ chosen low high listed rows)) (sym c)
+        (subst (λ n. All (λ p. (low ≤ p.word) × (p.word < n)) (seen ++ chosen low high listed rows)) (sym d)
+        (All-append (λ (p : Post). (low ≤ p.word) × (p.word < high)) seen (chosen low high listed rows)
+        (subst (λ n. All (λ p. (low ≤ p.word) × (p.word < n)) seen) b (subst (λ n. All (λ p. (n ≤ p.word) × (p.word < old.high)) seen) a h.within))
+        (chosen_within rows)));
+  }
+
+-- a vector whose slice was lent holds what was written there
+pub written_back : {X : Type 0} (n : ℕ) (a b : List X) → length a ≡ length b → n ≡ length b → take n (a ++ drop (length a) b) ≡ a
+written_back n a b l m = ap (λ r. take n (a ++ r)) (drop_all (length a) b (omega (arith, l))) ∙ ap (take n) (append-nil a) ∙ take_all n a (omega (arith, l, m))
+
+-- ---- tables
+pub words_counted : (t : WordCountsView) (rows : List Post) → t.low + length t.marks ≡ t.high → AreCountable rows → HasCounted rows t → collected t.low t.marks ≡ map (counted_word rows) (words_of rows)
+words_counted t rows sized c h =
+    collected_words rows t.low t.marks c.ordered (recursion_from_All (λ p. p.doc < MAX_DOCS) rows c.few_docs) h.marks (λ k lt.
+    let inside : k < length rows = omega (arith, lt, length-map rows (λ (p : Post). p.word)) in
+    let at = h.within k (get_or rows k blank_post) inside in
+    let word : get_or (map (λ p. p.word) rows) k 0 ≡ (get_or rows k blank_post).word = field rows k inside in
+    let same : get_or rows k (get_or rows k blank_post) ≡ get_or rows k blank_post = get_or_default rows k _ blank_post inside in
+    let from = subst (λ (x : Post). (t.low ≤ x.word) × (x.word < t.high)) same at in
+    (omega (arith, word, from.0), omega (arith, word, from.1, sized)))
+  where
+    blank_post : Post
+    blank_post = record { doc = 0; word = 0; pos = 0; score = 0 }
+
+    field : (rows : List Post) (k : ℕ) → k < length rows → get_or (map (λ p. p.word) rows) k 0 ≡ (get_or rows k blank_post).word
+    field [] k lt = absurd (omega (arith, lt))
+    field (p ∷ rows) zero lt = refl
+    field (p ∷ rows) (suc k) lt = field rows k (omega (arith, lt))
+
+collected_below : (n low : ℕ) (marks : List Mark) → low + length marks ≤ n → AllByRecursion (λ h. h.doc < n) (collected low marks)
+collected_below n low [] le = tt
+collected_below n low (m ∷ marks) le =
+    let rest = collected_below n (low + 1) marks (omega (arith, le)) in
+    elim (nat_lt 0 m.docs) as (λ b. AllByRecursion (λ h. h.doc < n) (cond b (record { doc = low; score = m.docs } ∷ []) [] ++ collected (low + 1) marks)) [
+      | true ↦ (omega (arith, le), rest)
+      | false ↦ rest
+    ]
+
+-- each of the first is among those counted
+pub first_below : (n low cut : ℕ) (marks : List Mark) → low + length marks ≤ n → All (λ c. c.word < n) (map completion (take cut (drop 0 (members_in by_rank (collected low marks)))))
+first_below n low cut marks le =
+    let P : Scored → Type 0 = λ h. h.doc < n in
+    let all = All-members by_rank by_rank_total by_rank_exact P (collected low marks) (collected_below n low marks le) in
+    All-map (λ (c : Completion). c.word < n) completion _ (All-take P cut (drop 0 (members_in by_rank (collected low marks))) (All-drop P 0 (members_in by_rank (collected low marks)) all))

@@ -1,0 +1,51 @@
+-- Counting the documents of words over rows that come in pieces.
+--
+-- Source: this engine's own.
+--
+--   WordCountsView                      the words from one number up to another, and the mark of each
+--   is_chosen low high listed p    the word of a row is one of these, and its document is listed
+--   chosen low high listed rows    the rows that are counted
+--   AreCountable rows              the rows of each word are in order, and their documents are few
+--   HasMarks low rows marks        the marks of the words from low on are those after these rows
+--   Counts low high listed rows old new     the marks after these rows more, whatever rows came before
+--   HasCounted rows t              what is counted after these rows, all of words that are counted
+use Rattle.std.specs.Prelude.{◌≡◌, ℕ, ◌+◌, ◌<◌, ◌≤◌, ◌&&◌, Bool, false, nat_le, nat_lt, List, ◌++◌, filter, length, slice_index_or}
+use Rattle.std.specs.List.{All}
+use Rattle.cs_base.specs.content.Orders.{AreSorted}
+use Rattle.cs_base.specs.declared.content.doc.Post.{Post}
+use Rattle.cs_base.specs.declared.content.limits.TheConstants.{MAX_DOCS}
+use Rattle.cs_tables.specs.Listings.{of_word}
+use Rattle.cs_tables.specs.Marks.{marked}
+use Rattle.cs_tables.specs.declared.counts.Mark.{Mark}
+
+-- the words from low up to high, high left out, and one mark for each
+pub record WordCountsView : Type 0 where
+  pub low : ℕ
+  pub high : ℕ
+  pub marks : List Mark
+
+-- a document behind the last of the list isn't listed
+abbrev pub is_chosen : ℕ → ℕ → List Bool → Post → Bool
+is_chosen low high listed p = (nat_le low p.word && nat_lt p.word high) && slice_index_or listed p.doc false
+
+-- of no rows none
+abbrev pub chosen : ℕ → ℕ → List Bool → List Post → List Post
+chosen low high listed rows = filter (is_chosen low high listed) rows
+
+-- rows of different words may come in any order; no rows are countable
+pub record AreCountable (rows : List Post) : Type 0 where
+  pub ordered : (w : ℕ) → AreSorted (of_word w rows)
+  pub few_docs : All (λ p. p.doc < MAX_DOCS) rows
+
+-- one for each word; after no rows none has a document
+abbrev pub HasMarks : ℕ → List Post → List Mark → Type 0
+HasMarks low rows marks = (k : ℕ) (d : Mark) → k < length marks → slice_index_or marks k d ≡ marked (low + k) rows
+
+-- those of the rows that are chosen count, and no others
+abbrev pub Counts : ℕ → ℕ → List Bool → List Post → List Mark → List Mark → Type 0
+Counts low high listed rows old new = (seen : List Post) → AreCountable (seen ++ chosen low high listed rows) → HasMarks low seen old → HasMarks low (seen ++ chosen low high listed rows) new
+
+-- after no rows no word has a document
+pub record HasCounted (rows : List Post) (t : WordCountsView) : Type 0 where
+  pub marks : HasMarks t.low rows t.marks
+  pub within : All (λ p. (t.low ≤ p.word) × (p.word < t.high)) rows
