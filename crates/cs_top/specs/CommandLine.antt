@@ -62,7 +62,7 @@ command_of (c ∷ a ∷ b ∷ []) = two_words c a b
 command_of (c ∷ i ∷ p ∷ n ∷ []) = serve_words c i p n
 command_of _ = None
 
--- how a run may end; only a whole script is done
+-- how a run may end; one is done that did all that the words ask for
 pub data Ending : Type 0 where
   done : Ending
   usage : Ending

@@ -135,6 +135,10 @@ const NOTHING: &str = concat!(
     "\n",
 );
 
+// What a plain search over sets of rows, in another language, counts of the first trial.
+const SUMMARY: &str =
+    "documents 100\nrows 1600\nblocks 2\nreplies 260\nhits 4023\nsame 47\nnarrow 189\nextend 20\nfresh 4\n";
+
 const USAGE: &str =
     "usage: complete build COLLECTION INDEX | ask COLLECTION SCRIPT | replay INDEX SCRIPT | serve INDEX PORT CONNS | trial N\n";
 
@@ -368,6 +372,14 @@ fn a_connection_has_the_reply_of_its_request(rt: HostRuntime) -> Result<(), Fail
     let left = run_beside(rt.alloc(), &words, &mut files, &mut hub)?;
     assert!(rt; left.is(0, b"serving 8080\n", ""));
     assert!(rt; hub.sent(0).ends_with(TYP.as_bytes()));
+    Ok(())
+}
+
+#[test]
+fn a_trial_has_its_summary(rt: HostRuntime) -> Result<(), Fail> {
+    let words: [&str; 2] = ["trial", "1"];
+    let left = run_with(rt.alloc(), &words, None, None)?;
+    assert!(rt; left.is(0, SUMMARY.as_bytes(), ""));
     Ok(())
 }
 

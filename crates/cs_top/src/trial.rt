@@ -59,7 +59,8 @@ fn summary_of(alloc: Global, n: u32) -> Result<Vec<u8>, Memory>
     summary_bytes(alloc, &counts)
 }
 
-// The image of the collection of trial `n`.
+// The image of the collection of trial `n`, which keeps each rule and each limit of collections. That isn't said by a clause, so a
+// refusal is told as want of memory.
 fn imaged(alloc: Global, n: u32) -> Result<Imaged, Memory>
     requires most { n ≤ MAX_TRIAL }
 

@@ -192,8 +192,8 @@ fn is_twice(sent: &[u8], response: &[u8]) -> bool {
 fn served_without_reads(alloc: Global, k: u64) -> Result<(u8, Vec<u8>), Fail> {
     let mut files = held(alloc)?;
     let mut failing = Vec::new(alloc);
-    for call in k..k + 10_000 {
-        failing.push(call)?;
+    for behind in 0..10_000u64 {
+        failing.push(k.saturating_add(behind))?;
     }
     files.fail_reads(failing);
     let head = b"GET /search?q=typ&h=0 HTTP/1.1\r\n\r\nGET /search?q=typ&h=0 HTTP/1.1\r\n\r\n";
