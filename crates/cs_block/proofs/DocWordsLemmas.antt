@@ -102,7 +102,7 @@ pub doc_words_all : (head : BlockHead) (docs : ℕ) (bytes : List ℕ) (c : Bloc
 unfolding rows_read
 doc_words_all head docs bytes c i at before old_docs docs_now old_words words_now is le h =
     let all : h.done ≡ rows_read head bytes =
-        sym (h.rows ∙ ap (λ (x : List Item). h.done ++ map item_row x) (items_end head c i at h.last le) ∙ append-nil h.done) ∙ ap (λ x. map item_row (block_items head x)) is in
+    sym (h.rows ∙ ap (λ (x : List Item). h.done ++ map item_row x) (items_end head c i at h.last le) ∙ append-nil h.done) ∙ ap (λ x. map item_row (block_items head x)) is in
     record {
       docs_are = h.docs_are ∙ ap (λ (xs : List Post). old_docs ++ map (λ p. p.doc) xs) all;
       words_are = h.words_are ∙ ap (λ (xs : List Post). old_words ++ map (λ p. p.word) xs) all;

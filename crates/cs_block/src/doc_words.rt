@@ -90,7 +90,13 @@ fn add_run(
     let Some(at) = docs_in(columns.gaps, from.at, from.before, docs, run_docs) else {
         return Ok(None);
     };
-    if !words_in(columns.words, from.rows as usize, head.lo, head.words, run_words) {
+    if !words_in(
+        columns.words,
+        from.rows as usize,
+        head.lo,
+        head.words,
+        run_words,
+    ) {
         return Ok(None);
     }
     into_docs.extend_from_slice(run_docs)?;
