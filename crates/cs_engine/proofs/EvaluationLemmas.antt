@@ -1,11 +1,14 @@
 -- The loops over parts, alternatives and links of a query.
 --
---   is_prefix, is_exact, is_join      the rows of an atom, by its kind, and its blocks
---   chain-is, met_chain-is, met_linked-is, met_part-is, met_query-is      those of a level by those of what it holds
+--   is_join              the rows of a join
+--   met_linked-is, met_part-is, met_query-is      the blocks of a level by those of what it holds
 --   next_left            what is left, with the next in front
 --   entry_begins, entry_goes_on, entry_ends     the entry of the parts so far
 --   part_begins, part_goes_on, part_ends        the rows of the alternatives so far
---   chain_goes_on        the rows that the links so far lead to
+--   chain_goes_on, chain_ends     the rows that the links so far lead to
+--   linked_within        what is linked is in range
+--   joined_rows          the rows of a join, by those of its name
+--   docs_begin, docs_go_on, docs_end      the documents of the parts so far
 use Rattle.std.proofs.Common.{◌≡◌, ℕ, ◌+◌, ◌<◌, ◌≤◌, Bool, false, not, List, [], ◌∷◌, ◌++◌, length, map, take, drop, get_or, refl, sym, ap, subst, ◌∙◌}
 use Rattle.std.specs.Prelude.{sum, fold}
 use Rattle.cs_base.specs.declared.content.query.Link.{Link}
@@ -24,25 +27,18 @@ use Rattle.cs_base.specs.declared.content.doc.Post.{Post}
 use Rattle.cs_base.specs.declared.content.doc.Row.{Row}
 use Rattle.cs_base.specs.declared.content.query.Query.{Query, out-Query}
 use Rattle.cs_base.specs.declared.content.query.Part.{Part, out-Part}
-use Rattle.cs_base.specs.declared.content.query.Chain.{Chain, out-Chain}
+use Rattle.cs_base.specs.declared.content.query.Chain.{Chain}
 use Rattle.cs_base.specs.declared.content.query.Linked.{Linked, out-Linked}
 use Rattle.cs_base.specs.declared.content.query.Atom.{Atom, roll-Atom}
-use Rattle.cs_base.specs.declared.content.query.Atom.TheVariants.{Prefix, Exact, Join}
+use Rattle.cs_base.specs.declared.content.query.Atom.TheVariants.{Join}
 use Rattle.cs_base.specs.declared.content.query.Atom.TheOpen.{Atom-F}
-use Rattle.cs_base.specs.declared.content.query.Atom.TheFolds.{fold-roll-Atom, fold_out-Linked, fold_out-Chain, fold_out-Part, fold_out-Query}
+use Rattle.cs_base.specs.declared.content.query.Atom.TheFolds.{fold-roll-Atom, fold_out-Linked, fold_out-Part, fold_out-Query}
 use Rattle.cs_meet.proofs.Passes.{next_is}
 use Rattle.cs_meet.specs.Filters.{IsUnion, stands_behind, is_near}
 use Rattle.cs_model.specs.Answers.{PartRows, LinkedRows, atom_rows, chain_rows, chained, hits, linked_rows, part_rows, parts_of, query_parts, rows_of_atom, rows_of_chain, rows_of_linked, rows_of_part, scored, union_of}
 use Rattle.cs_model.specs.Collection.{named}
 use Rattle.cs_model.specs.Corpus.{Corpus}
-use Rattle.std.specs.Prelude.{Result, Ok, Err}
-use Rattle.std.specs.Result.{IsErr}
-use Rattle.cs_model.specs.Replies.{Reply}
-use Rattle.cs_model.specs.Requests.{Request}
-use Rattle.cs_engine.specs.Asking.{titles_read}
-use Rattle.cs_engine.specs.declared.fault.AskFault.{AskFault}
-use Rattle.cs_base.specs.declared.index.plan.Plan.TheVariants.{Fresh}
-use Rattle.cs_model_kept.specs.Due.{Division, due, met_of_facets, atom_met, chain_met, linked_met, part_met, query_met, met_of_atom, met_of_chain, met_of_linked, met_of_part, met_of_query, met_prefix, met_word}
+use Rattle.cs_model_kept.specs.Due.{Division, atom_met, chain_met, linked_met, part_met, query_met, met_of_atom, met_of_chain, met_of_linked, met_of_part, met_of_query}
 use Rattle.cs_model_kept.specs.Entries.{Entry, EntryOf, base_of, entry, entry_at, entry_of, scored_hits}
 use Rattle.cs_model_kept.specs.Entries as kept
 use Rattle.cs_model_kept.proofs.EntryLemmas.{ends_more, extended_is, hits_are, listed_base, parts_read}
@@ -60,39 +56,13 @@ use Rattle.cs_engine.proofs.UnionLemmas.{no_chains, one_more_chain, one_more_lin
 
 -- ---- levels
 module _ (k : Corpus) where
-  pub is_prefix : (p : List ℕ) → rows_of_atom k (Prefix p) ≡ atom_rows k (Atom-F.Prefix p)
-  unfolding roll-Atom denote.Hole.Carrier.roll
-  is_prefix p = fold-roll-Atom (List Row) (List Row) LinkedRows PartRows (List PartRows) (atom_rows k) chain_rows linked_rows part_rows query_parts (Atom-F.Prefix p)
-
-  pub is_exact : (w : List ℕ) → rows_of_atom k (Exact w) ≡ atom_rows k (Atom-F.Exact w)
-  unfolding roll-Atom denote.Hole.Carrier.roll
-  is_exact w = fold-roll-Atom (List Row) (List Row) LinkedRows PartRows (List PartRows) (atom_rows k) chain_rows linked_rows part_rows query_parts (Atom-F.Exact w)
-
   pub is_join : (name : List ℕ) (inner : Query) → rows_of_atom k (Join name inner) ≡ atom_rows k (Atom-F.Join name (parts_of k inner))
   unfolding roll-Atom denote.Hole.Carrier.roll
   is_join name inner = fold-roll-Atom (List Row) (List Row) LinkedRows PartRows (List PartRows) (atom_rows k) chain_rows linked_rows part_rows query_parts (Atom-F.Join name inner)
 
-  pub chain-is : (c : Chain) → rows_of_chain k c ≡ chained (rows_of_atom k (out-Chain c).first) (map (rows_of_linked k) (out-Chain c).rest)
-  chain-is c = fold_out-Chain (List Row) (List Row) LinkedRows PartRows (List PartRows) (atom_rows k) chain_rows linked_rows part_rows query_parts c
-
 module _ (v : Division) where
-  pub met_prefix-is : (p : List ℕ) → met_of_atom v (Prefix p) ≡ met_prefix v p
-  unfolding roll-Atom denote.Hole.Carrier.roll
-  met_prefix-is p = fold-roll-Atom ℕ ℕ ℕ ℕ ℕ (atom_met v) chain_met linked_met part_met query_met (Atom-F.Prefix p)
-
-  pub met_exact-is : (w : List ℕ) → met_of_atom v (Exact w) ≡ met_word v w
-  unfolding roll-Atom denote.Hole.Carrier.roll
-  met_exact-is w = fold-roll-Atom ℕ ℕ ℕ ℕ ℕ (atom_met v) chain_met linked_met part_met query_met (Atom-F.Exact w)
-
-  pub met_join-is : (name : List ℕ) (inner : Query) → met_of_atom v (Join name inner) ≡ met_prefix v (named name []) + met_of_query v inner
-  unfolding roll-Atom denote.Hole.Carrier.roll
-  met_join-is name inner = fold-roll-Atom ℕ ℕ ℕ ℕ ℕ (atom_met v) chain_met linked_met part_met query_met (Atom-F.Join name inner)
-
   pub met_linked-is : (l : Linked) → met_of_linked v l ≡ met_of_atom v (out-Linked l).atom
   met_linked-is l = fold_out-Linked ℕ ℕ ℕ ℕ ℕ (atom_met v) chain_met linked_met part_met query_met l
-
-  pub met_chain-is : (c : Chain) → met_of_chain v c ≡ met_of_atom v (out-Chain c).first + sum (map (met_of_linked v) (out-Chain c).rest)
-  met_chain-is c = fold_out-Chain ℕ ℕ ℕ ℕ ℕ (atom_met v) chain_met linked_met part_met query_met c
 
   pub met_part-is : (p : Part) → met_of_part v p ≡ sum (map (met_of_chain v) (out-Part p).chains)
   met_part-is p = fold_out-Part ℕ ℕ ℕ ℕ ℕ (atom_met v) chain_met linked_met part_met query_met p
@@ -189,12 +159,6 @@ module _ (s : Stock) (c : Chain) (links : List Linked) where
     pub rows : rows_of_chain kl c ≡ chained (rows_at s.words found) (map (rows_of_linked kl) (drop i links))
     pub picked : IsPicked s found
 
-  pub chain_begins : links ≡ (out-Chain c).rest → (found : List Post) → HasRows s (rows_of_atom kl (out-Chain c).first) found → LinkedSoFar 0 found
-  chain_begins are found h = record {
-    rows = chain-is kl c ∙ ap (λ ls. chained (rows_of_atom kl (out-Chain c).first) (map (rows_of_linked kl) ls)) (sym are) ∙ ap (λ rows. chained rows (map (rows_of_linked kl) links)) (sym h.is);
-    picked = h.picked;
-  }
-
   pub chain_goes_on : (i : ℕ) (x : Linked) → i < length links → x ≡ get_or links i x → (found next now : List Post) → LinkedSoFar i found → HasRows s (rows_of_atom kl (out-Linked x).atom) next → now ≡ linked_posts (out-Linked x).link found next → LinkedSoFar (i + 1) now
   chain_goes_on i x l at found next now so_far more are =
       let h = one_more_link s links i x (rows_of_chain kl c) found next now l at so_far.rows more.is more.picked are in
@@ -243,13 +207,3 @@ module _ (s : Stock) (ps : List Part) where
 
   pub docs_end : (q : Query) (n i : ℕ) (b : Base) → ps ≡ (out-Query q).parts → length ps ≤ i → DocsSoFar n i b → docs_in n b ≡ hits kd (parts_of kd q)
   docs_end q n i b are l so_far = so_far ∙ ap (λ xs. hits kd (map (rows_of_part kd) xs)) (take_all i ps l ∙ are) ∙ ap (hits kd) (sym (parts_read kd q))
-
--- ---- what may be read
-pub due_fresh : (v : Division) (r : Request) (n : ℕ) → due v r Fresh n ≡ n + met_of_facets v r.facets + met_of_query v r.query
-unfolding due
-due_fresh v r n = refl
-
--- where there is no reply
-pub err_titles : (q : Request) (r : Result Reply AskFault) → IsErr r → titles_read q r ≡ q.hits
-err_titles q (Ok r) h = absurd cc
-err_titles q (Err e) h = refl

@@ -4,11 +4,10 @@
 --   map_alike            functions that agree on a list map it alike
 --   filter_twice         two filters are one
 --   and_true             a test and one that passes
---   own_members          each number of a list is a member of it
 --   keys_numbered        the keys of a numbered list are its numbers
 --   get_numbered         what is held at a number
 --   range_rises          numbers in turn ascend
-use Rattle.std.proofs.Common.{◌≡◌, ℕ, zero, suc, ◌+◌, ◌<◌, ◌≤◌, ◌==◌, ◌&&◌, ◌||◌, Bool, true, false, List, [], ◌∷◌, T, cond, length, map, get_or, refl, sym, ◌∙◌, ap, arith}
+use Rattle.std.proofs.Common.{◌≡◌, ℕ, zero, suc, ◌+◌, ◌<◌, ◌≤◌, ◌==◌, ◌&&◌, ◌||◌, Bool, true, false, List, [], ◌∷◌, T, cond, length, map, refl, sym, ◌∙◌, ap, arith}
 use Rattle.std.specs.Prelude.{Some, filter}
 use Rattle.std.specs.List.{All, AllByRecursion, list_any, enumerate_from, range_with_len, slice_get}
 use Rattle.std.specs.List.Sorted.{IsStrictlySortedBy}
@@ -18,7 +17,6 @@ use Rattle.std.specs.declared.cmp.Ordering.TheVariants.{Less}
 use Rattle.std.specs.FinMap.{get, keys, find, is_sorted, from_entries, from_sorted, same_map, get-from_entries, get-from_sorted, entries-from_sorted, nat_cmp-IsAntisymmetric}
 use Rattle.std.specs.FinMap.Entries.{below_all}
 use Rattle.std.proofs.lemmas.Bool.Decides.{nat_tests}
-use Rattle.std.proofs.lemmas.List.Folds.{list_any_at}
 use Rattle.std.proofs.lemmas.List.FromFn.{length-range_with_len, get_or-range_with_len}
 use Rattle.cs_base.proofs.OrdersLemmas.{Less-from_lt}
 
@@ -50,9 +48,6 @@ itself x = grind (arith, nat_tests)
 
 pub number_tie : (q x : ℕ) → eq_by_cmp nat_cmp q x ≡ (x == q)
 number_tie q x = grind (arith, nat_tests)
-
-pub own_members : (ds : List ℕ) → All (λ d. list_any (λ e. e == d) ds ≡ true) ds
-own_members ds k d l = list_any_at (λ e. e == get_or ds k d) ds k d l (itself (get_or ds k d))
 
 pub any_tie : (q : ℕ) (ds : List ℕ) → list_any (eq_by_cmp nat_cmp q) ds ≡ list_any (λ e. e == q) ds
 any_tie q [] = refl

@@ -5,7 +5,8 @@
 --   listed_told            the hits of a base, as a list
 --   step_told              the entry behind a part is that of its rows
 --   step_within            and it is in range
---   docs_told, docs_sorted     the documents of a base
+--   known_docs                 the documents of posts
+--   docs_more, unscored_docs, base_sorted     the documents of a base, without scores
 use Rattle.std.proofs.Common.{◌≡◌, ℕ, ◌+◌, ◌-◌, ◌*◌, ◌<◌, ◌≤◌, ◌^◌, ◌==◌, Bool, true, false, true≢false, not, List, [], ◌∷◌, ◌++◌, length, map, get_or, refl, sym, ap, subst, ◌∙◌, arith, if◌then◌else◌}
 use Rattle.std.specs.Prelude.{All, filter}
 use Rattle.std.specs.List.{list_any, range_with_len}
@@ -57,9 +58,6 @@ every_in docs bound = All-map (IsHitOf docs bound) (λ (d : ℕ). let h : Scored
 pub listed_in : (docs bound : ℕ) (b : Base) → IsBaseOf docs bound b → AreByDoc (base_hits docs b) × All (IsHitOf docs bound) (base_hits docs b)
 listed_in docs bound base.All h = (every_rises docs, every_in docs bound)
 listed_in docs bound (base.Listed hs) h = h
-
-pub docs_sorted : (docs bound : ℕ) (b : Base) → IsBaseOf docs bound b → AreDocs (docs_in docs b)
-docs_sorted docs bound b h = docs_rise (base_hits docs b) (listed_in docs bound b h).0
 
 base_small : (docs bound d : ℕ) (b : Base) → IsBaseOf docs bound b → rank.base_score b d ≤ bound
 base_small docs bound d base.All h = omega arith

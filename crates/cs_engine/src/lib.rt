@@ -20,6 +20,8 @@ mod reading;
 mod replies;
 mod replying;
 mod steps;
+#[cfg(test)]
+mod tests;
 mod typed;
 mod words;
 

@@ -1,0 +1,27 @@
+use Rattle.std.proofs.Common.{◌≡◌, ◌≤◌, List, ℕ, [], length, arith, refl, sym, subst}
+use Rattle.std.specs.List.{list_all}
+use Rattle.std.specs.List.Sorted.{IsStrictlySortedBy}
+use Rattle.std.specs.Ordering.{nat_cmp}
+use Rattle.std.specs.Cmp.Lexicographic.{slice_cmp}
+use Rattle.cs_model.specs.Parameters.{HoldsLimits}
+use Rattle.cs_model.specs.Refusals.{IsOfGrammar}
+use Rattle.cs_model.proofs.PartsLemmas.{few_parts}
+use Rattle.cs_base.specs.declared.content.query.Query.{Query}
+use Rattle.cs_engine.proofs.tests.answer.Goals as goal
+
+-- a request without facets
+plain : (q : Query) (names : List (List ℕ)) → IsOfGrammar q → names ≡ [] → HoldsLimits (record { query = q; hits = 10; completions = 10; offset = 0; facets = names })
+unfolding IsStrictlySortedBy
+plain q names g none = subst (λ (ns : List (List ℕ)). HoldsLimits (record { query = q; hits = 10; completions = 10; offset = 0; facets = ns })) (sym none) (record {
+  query = g;
+  parts = few_parts q g;
+  hits = omega arith;
+  completions = omega arith;
+  offset = omega arith;
+  names = refl;
+  facets = tt;
+  few = omega arith;
+})
+
+pub ask-requires-clause-limits : goal.ask-requires-clause-limits
+ask-requires-clause-limits c = plain c.in-Ok.query c.new-2.result c.in-Ok.ensures.grammar c.new-2.ensures

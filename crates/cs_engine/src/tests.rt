@@ -1,0 +1,72 @@
+//! What no clause says: that an engine answers where there is memory, and goes on from what it kept.
+ghost use Rattle.std.specs.Prelude.{◌≡◌, Some};
+ghost use Rattle.cs_file.specs.Indexes.{Fits};
+
+use crate::{Engine, Note};
+use cs_base::{Kept, MemStore, Plan, Seq};
+use cs_file::open_index;
+use cs_query::{Reply, Request, parse};
+use std::alloc::Global;
+use std::test::Fail;
+
+// The index file of one document with the title `Ab`, the facet `k=C` and the text `b a`.
+const ONE_DOCUMENT: &[u8] =
+    b"HYBIDX1\n\0\0\0\x01\0\0\0\x04\0\0\0\x04\0\0\0\x02\0\0 \0\0\0\0\x0C\0\0\0\x02\0\0\0 \0\0\0\0\x04:k:c\x01a\x02ab\x01b\0\0\0\0\0\0\0\x02Ab\0\0\0\0\0\0\0\x01\0\0\0\x01\0\0\0\x08\0\0\0\x01\0\0\0\x03\0\0\0\x03\0\0\0\x18\0\0\0\0\0\0\0\x02\0\0\0\0\x01\0\x02\0\0\0\0\0\x01\0\0\0\n\0\0\0\x0B\x04\x01\x01";
+
+// The reply to a query, without facets.
+fn answer(
+    alloc: Global,
+    engine: &mut Engine,
+    store: &mut MemStore,
+    text: &str,
+) -> Result<(Reply, Note), Fail>
+    requires fits { Fits (Some store.old.bytes) engine.old.index }
+
+    ensures bytes { store.new.bytes ≡ store.old.bytes }
+    ensures index { engine.new.index ≡ engine.old.index }
+{
+    let Ok(query) = parse(alloc, text) else {
+        return Err(Fail::new("no query"));
+    };
+    let request = Request {
+        query,
+        hits: 10,
+        completions: 10,
+        offset: 0,
+        facets: Seq::new(alloc),
+    };
+    match engine.ask(alloc, store, &request) {
+        Ok(answered) => Ok(answered),
+        Err(_) => Err(Fail::new("no reply")),
+    }
+}
+
+#[test]
+fn each_request_goes_on_from_those_before(rt: HostRuntime) -> Result<(), Fail> {
+    let alloc = rt.alloc();
+    let mut store = MemStore::new(ONE_DOCUMENT.to_vec(alloc)?);
+    let Ok(index) = open_index(alloc, &mut store) else {
+        return Err(Fail::new("no index"));
+    };
+    let mut engine = Engine::new(alloc, index, 4)?;
+    for (text, plan, kept, words, hits, score) in [
+        ("a", Plan::Fresh, Kept::Kept, 2, 1, 4),
+        ("ab", Plan::Narrow { cut: 1 }, Kept::Kept, 1, 1, 4),
+        ("ab b", Plan::Extend, Kept::Kept, 1, 1, 5),
+        ("ab b", Plan::Same, Kept::Had, 1, 1, 5),
+        ("ab -a", Plan::Extend, Kept::Kept, 0, 0, 0),
+    ] {
+        let (reply, note) = answer(alloc, &mut engine, &mut store, text)?;
+        assert!(rt;
+            note == Note { plan, kept } && reply.total_completions == words,
+            "{text}"
+        );
+        for hit in reply.hits.as_slice() {
+            assert!(rt;
+                hit.doc == 0 && hit.score == score && hit.title.as_str() == "Ab",
+                "{text}"
+            );
+        }
+    }
+    Ok(())
+}
