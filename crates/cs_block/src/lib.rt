@@ -7,6 +7,7 @@
 
 mod columns;
 mod decoding;
+mod doc_words;
 mod encoding;
 mod fault;
 mod judging;
@@ -20,5 +21,6 @@ mod tests;
 
 pub use cs_base::{BlockHead, Broken};
 pub use decoding::{decode, decode_reserved};
+pub use doc_words::read_doc_words;
 pub use encoding::encode;
 pub use fault::BlockFault;

@@ -1,5 +1,5 @@
 //! The words of a range, counted block by block in the documents of a base.
-ghost use Rattle.std.specs.Prelude.{◌≡◌, ◌≤◌, ◌<◌, ◌*◌, ◌++◌, [], List, false, filter, length, take, IfOk, OnOk};
+ghost use Rattle.std.specs.Prelude.{◌≡◌, ◌≤◌, ◌<◌, ◌*◌, ◌++◌, List, false, filter, length, take, IfOk, OnOk};
 ghost use Rattle.std.specs.List.{All};
 ghost use Rattle.cs_base.specs.declared.content.doc.Post.{Post};
 ghost use Rattle.cs_base.specs.declared.content.limits.TheConstants.{MAX_PARTS};
@@ -15,7 +15,6 @@ ghost use Rattle.cs_engine.specs.Stocked.{is_between};
 
 use crate::fault::AskFault;
 use cs_base::{Base, Memory, Scored, Store};
-use cs_cols::Cols;
 use cs_file::Index;
 use cs_tables::{Table, WordCounts};
 use std::alloc::Global;
@@ -77,42 +76,50 @@ pub(crate) fn table_between<S: Store>(
     let (lo, hi) = words;
     let (first, last) = index.blocks(lo, hi);
     let mut counts = WordCounts::new(alloc, lo, hi)?;
-    let mut block = Cols::new(alloc);
+    let mut docs = Vec::new(alloc);
+    let mut numbers = Vec::new(alloc);
     for k in first..last {
-        count_block(alloc, index, store, k, listed, &mut block, &mut counts)?;
+        count_block(
+            alloc,
+            index,
+            store,
+            k,
+            listed,
+            &mut docs,
+            &mut numbers,
+            &mut counts,
+        )?;
     }
     let table = counts.table(alloc, cut)?;
     Ok(table)
 }
 
-// Counts the rows of block `k`, which is read once, in columns that hold no row.
+// Counts the rows of block `k`, which is read once. The columns take the documents of its rows and the numbers of their words.
 fn count_block<S: Store>(
     alloc: Global,
     index: &Index,
     store: &mut S,
     k: u32,
     listed: &[bool],
-    block: &mut Cols,
+    docs: &mut Vec<u32>,
+    numbers: &mut Vec<u32>,
     counts: &mut WordCounts,
 ) -> Result<(), AskFault>
     requires in_range { k < length index.now.heads }
     requires listed { length listed.now ≡ index.now.docs }
-    requires empty { block.old.posts ≡ [] }
     requires index { IsIndex index.now }
     requires fits { Fits (S.bytes store.old) index.now }
 
     ensures told { WhereStood (S.bytes store.old) index.now (λ b. OnOk result ((seen : List Post) → AreCountable (seen ++ chosen counts.old.low counts.old.high listed.now (block_posts b k)) → HasCounted seen counts.old → HasCounted (seen ++ chosen counts.old.low counts.old.high listed.now (block_posts b k)) counts.new)) }
     ensures low { counts.new.low ≡ counts.old.low }
     ensures high { counts.new.high ≡ counts.old.high }
-    ensures empty { OnOk result (block.new.posts ≡ []) }
     ensures unchanged { WhereStood (S.bytes store.old) index.now (λ b. is_changed result ≡ false) }
     ensures bytes { S.bytes store.new ≡ S.bytes store.old }
     ensures lent { S.lent store.new ≡ S.lent store.old }
     ensures reads { ReadsWithin 1 (S.reads store.old) (S.reads store.new) }
     ensures caused { CausedReads (is_read result) (S.faults store.old) (S.faults store.new) }
 {
-    index.fetch(alloc, store, k, block)?;
-    counts.add(block.docs(), block.words(), listed);
-    block.truncate(0);
+    index.fetch_doc_words(alloc, store, k, docs, numbers)?;
+    counts.add(docs, numbers, listed);
     Ok(())
 }

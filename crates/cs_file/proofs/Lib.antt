@@ -1,6 +1,7 @@
 pub mod BytesLemmas
 pub mod CutLemmas
 pub mod DirectoryLemmas
+pub mod DocWordsLemmas
 pub mod FetchLemmas
 pub mod HeaderLemmas
 pub mod HeadsLemmas

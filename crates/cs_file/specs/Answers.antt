@@ -5,9 +5,10 @@
 --   IsDamageOf b e          the fault of opening, if it is damage, is the first broken rule of the bytes with its place
 --   is_read_of_open r, is_read_of_fetch r, is_sink r, is_changed r      the answer is a failed read, a failed sink, a change
 --   HasBlock i told k old new      posts were added that are those of block k, read of the bytes that the store tells
+--   AreOf posts docs words         the documents and the words of posts
 --   BreaksBlock i told k rule at, IsChangeOfBlock i told k e     the first rule that the bytes of block k break, with its place in the file
 --   BreaksTitle i told d rule at, IsChangeOfTitle i told d e     the bytes of title d aren't text
-use Rattle.std.specs.Prelude.{◌≡◌, ℕ, Bool, true, false, List, ◌++◌, Option, Some, Result, Ok, Err, slice_index_or}
+use Rattle.std.specs.Prelude.{◌≡◌, ℕ, Bool, true, false, List, ◌++◌, map, Option, Some, Result, Ok, Err, slice_index_or}
 use Rattle.std.specs.Option.{ForSome, option_map}
 use Rattle.std.specs.Str.{is_utf8}
 use Rattle.cs_base.specs.outside.Outside.{part}
@@ -57,6 +58,10 @@ pub record HasBlock (i : IndexView) (told : Option (List ℕ)) (k : ℕ) (old ne
   pub added : new ≡ old ++ rows
   pub block : (d : BlockHead) → IsBlock SCORES (slice_index_or i.heads k d) i.docs rows bytes
   pub read : (d : BlockHead) → ForSome told (λ b. bytes ≡ part b (block_place i k) (slice_index_or i.heads k d).len)
+
+-- one of each for each post
+abbrev pub AreOf : List Post → List ℕ → List ℕ → Type 0
+AreOf posts docs words = (docs ≡ map (λ p. p.doc) posts) × (words ≡ map (λ p. p.word) posts)
 
 -- some bytes break the rule, and no other of a block before it; of a store that tells, these are its bytes at the block's place
 pub record BreaksBlock (i : IndexView) (told : Option (List ℕ)) (k rule at : ℕ) : Type 0 where

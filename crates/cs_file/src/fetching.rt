@@ -1,23 +1,24 @@
 //! Reading blocks and titles of an opened index.
-ghost use Rattle.std.specs.Prelude.{◌≡◌, ◌<◌, ◌≤◌, ◌+◌, ◌*◌, ◌^◌, ◌++◌, ℕ, List, false, length, IfOk, IfErr, OnOk, OnErr};
+ghost use Rattle.std.specs.Prelude.{◌≡◌, ◌<◌, ◌≤◌, ◌+◌, ◌*◌, ◌^◌, ◌++◌, ℕ, List, [], false, length, Err, IfOk, IfErr, OnOk, OnErr, All};
 ghost use Rattle.std.specs.List.{sum_by};
 ghost use Rattle.std.specs.Option.{ForSome};
 ghost use Rattle.cs_base.specs.declared.content.doc.Post.{Post};
 ghost use Rattle.cs_base.specs.declared.content.limits.TheConstants.{MAX_WORDS};
 ghost use Rattle.cs_base.specs.outside.Causes.{ReadsWithin};
 ghost use Rattle.cs_base.specs.outside.Outside.{part};
+ghost use Rattle.cs_block.specs.DocWords.{AddsDocWords};
 ghost use Rattle.cs_model.specs.Scores.{SCORES};
 ghost use Rattle.cs_model_index.specs.BlockRules.{IsBlock, judged};
 ghost use Rattle.cs_model_index.specs.Blocks.{IsShaped};
-ghost use Rattle.cs_file.specs.Answers.{HasBlock, IsChangeOfBlock, IsChangeOfTitle, is_read_of_fetch, is_changed};
+ghost use Rattle.cs_file.specs.Answers.{AreOf, HasBlock, IsChangeOfBlock, IsChangeOfTitle, is_read_of_fetch, is_changed};
 ghost use Rattle.cs_file.specs.Fetching.{DecodesAt, ReadsText};
 ghost use Rattle.cs_file.specs.Indexes.{StandsFor, Fits, CausedReads, block_place, block_posts, title_in, title_place, title_len};
 
 use crate::fault::FetchFault;
 use crate::index::Index;
 use crate::reading::{read_at_once, zeros};
-use cs_base::{BlockHead, Store, Text};
-use cs_block::{BlockFault, decode};
+use cs_base::{BlockHead, Memory, Store, Text};
+use cs_block::{BlockFault, decode, read_doc_words};
 use cs_cols::Cols;
 use std::alloc::Global;
 
@@ -48,6 +49,37 @@ impl Index {
         let at = self.block_at(k);
         let bytes = bytes_at(alloc, store, at, head.len)?;
         decode_at(&bytes, &head, self.docs, at, into)
+    }
+
+    /// Puts the documents and the words of the posts of block `k` into two columns, in place of what these hold, read from the
+    /// store from which the index was opened. Positions and scores aren't looked at. Where it fails the columns hold anything.
+    pub fn fetch_doc_words<S: Store>(
+        &self,
+        alloc: Global,
+        store: &mut S,
+        k: u32,
+        docs: &mut Vec<u32>,
+        words: &mut Vec<u32>,
+    ) -> Result<(), FetchFault>
+        requires in_range { k < length self.now.heads }
+        requires fits { Fits (S.bytes store.old) self.now }
+
+        // over every store they are in range, and over one that tells they are read there
+        ensures even { OnOk result (length words.new.items ≡ length docs.new.items) }
+        ensures docs { OnOk result (All (λ d. d < self.now.docs) docs.new.items) }
+        ensures words { OnOk result (All (λ w. w < length self.now.words) words.new.items) }
+        ensures stood { ForSome (S.bytes store.old) (λ b. StandsFor b self.now → OnOk result (AreOf (block_posts b k) docs.new.items words.new.items)) }
+        ensures changed { IfErr result (IsChangeOfBlock self.now (S.bytes store.old) k) }
+        ensures unchanged { ForSome (S.bytes store.old) (λ b. StandsFor b self.now → is_changed result ≡ false) }
+        ensures bytes { S.bytes store.new ≡ S.bytes store.old }
+        ensures lent { S.lent store.new ≡ S.lent store.old }
+        ensures reads { ReadsWithin 1 (S.reads store.old) (S.reads store.new) }
+        ensures caused { CausedReads (is_read_of_fetch result) (S.faults store.old) (S.faults store.new) }
+    {
+        let head = self.heads.as_slice()[k as usize];
+        let at = self.block_at(k);
+        let bytes = bytes_at(alloc, store, at, head.len)?;
+        doc_words_at(alloc, &bytes, &head, self.docs, at, docs, words)
     }
 
     /// The title of a document, read from the store from which the index was opened.
@@ -149,6 +181,45 @@ fn decode_at(
             at: at + u64::from(within),
         }),
     }
+}
+
+// Puts the documents and words of a block that stands at a place of the file into two columns. Where one isn't in range, the
+// block is decoded, which says what is broken.
+fn doc_words_at(
+    alloc: Global,
+    bytes: &[u8],
+    head: &BlockHead,
+    docs: u32,
+    at: u64,
+    into_docs: &mut Vec<u32>,
+    into_words: &mut Vec<u32>,
+) -> Result<(), FetchFault>
+    requires shaped { IsShaped head.now (length bytes.now) }
+    requires places { at < 2 ^ 63 }
+
+    ensures ok { OnOk result (AddsDocWords head.now docs bytes.now [] into_docs.new.items [] into_words.new.items) }
+    ensures exact { IfErr result (λ fault. DecodesAt at (judged SCORES head.now docs bytes.now) (Err fault)) }
+    ensures unread { is_read_of_fetch result ≡ false }
+{
+    into_docs.truncate(0);
+    into_words.truncate(0);
+    if read_doc_words(bytes, head, docs, into_docs, into_words)? {
+        return Ok(());
+    }
+    let mut rows = Cols::new(alloc);
+    decode_at(bytes, head, docs, at, &mut rows)?;
+    put_all(into_docs, rows.docs())?;
+    put_all(into_words, rows.words())?;
+    Ok(())
+}
+
+// Puts numbers into a column in place of what it holds.
+fn put_all(column: &mut Vec<u32>, numbers: &[u32]) -> Result<(), Memory>
+    ensures { OnOk result (column.new.items ≡ numbers.now) }
+{
+    column.truncate(0);
+    column.extend_from_slice(numbers)?;
+    Ok(())
 }
 
 // The text of a title that stands at a place of the file.

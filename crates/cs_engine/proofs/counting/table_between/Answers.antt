@@ -28,7 +28,6 @@ loop-k-preserved g c =
       from = omega (arith, inv.from);
       low = c.count_block.ensures.low ∙ inv.low;
       high = c.count_block.ensures.high ∙ inv.high;
-      empty = c.in_ok-count_block.ensures.empty;
       told = λ b is stands.
           block_counted b c.args.index.now stands c.requires.index c.blocks-first.result.0 c.loop-k.k c.args.words.0 c.args.words.1 c.args.listed.now c.loop-k.counts c.count_block.new.counts
           inv.from (omega (arith, within, c.loop-k-test.true)) inv.low inv.high (c.in_ok-count_block.ensures.told b (inv.bytes ∙ is) stands) (inv.told b is stands);

@@ -1,4 +1,4 @@
-use Rattle.std.proofs.Common.{◌≡◌, ◌+◌, ◌≤◌, []}
+use Rattle.std.proofs.Common.{◌≡◌, ◌+◌, ◌≤◌}
 use Rattle.cs_model_index.specs.Sections.{image_of}
 use Rattle.cs_tables.specs.WordCounts.{HasCounted}
 use Rattle.cs_engine.specs.Counting.{counted_rows}
@@ -15,6 +15,5 @@ invariant-loop-k g l = record {
   from : l.first ≤ l.k;
   low : l.counts.low ≡ l.lo;
   high : l.counts.high ≡ l.hi;
-  empty : l.block.posts ≡ [];
   told : WhereStood (g.S.Store.bytes l.fn.store) l.index (λ b. HasCounted (counted_rows (image_of b).blocks l.first l.k l.lo l.hi l.listed) l.counts);
 }
