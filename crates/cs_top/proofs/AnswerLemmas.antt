@@ -5,7 +5,7 @@
 --   stops_there     a line whose answer wasn't put whole ends the script
 --   line_ok, line_err        the same of the result of putting it
 --   refusal_is, reply_is     a refusal and a reply as the text of the line
-use Rattle.std.proofs.Common.{◌≡◌, ◌≢◌, ◌==◌, ℕ, ◌≤◌, Bool, true, false, List, [], ◌∷◌, ◌++◌, length, inl, inr, refl, sym, ap, ◌∙◌, subst, Vec, Global}
+use Rattle.std.proofs.Common.{◌≡◌, ◌≢◌, ◌==◌, ℕ, ◌≤◌, true, false, List, [], ◌∷◌, ◌++◌, length, inl, inr, refl, sym, ap, ◌∙◌, subst, Vec, Global}
 use Rattle.std.specs.Prelude.{Option, Some, None, is_some, Result, Ok, Err, OnOk, OnErr, IfOk, IfErr}
 use Rattle.cs_base.specs.declared.memory.Memory.{Memory}
 use Rattle.cs_http.specs.Refusing.{IsCause}
@@ -16,7 +16,7 @@ use Rattle.cs_query.specs.declared.request.ReqFault.TheVariants as causes
 use Rattle.cs_base.specs.outside.Causes.{Rose}
 use Rattle.cs_base.specs.outside.Outside.{Grew, GrewByPrefix}
 use Rattle.cs_model.specs.Corpus.{Corpus}
-use Rattle.cs_model.specs.Outputs.{MayPut, IsAnswer, line_fault, memory_text, read_text, text}
+use Rattle.cs_model.specs.Outputs.{MayPut, line_fault, memory_text, read_text, text}
 use Rattle.cs_model.specs.Parameters.{request_of, request_refusal}
 use Rattle.cs_model.specs.Replies.{reply_text}
 use Rattle.cs_model.specs.Requests.{Request, reply_of}

@@ -3,7 +3,7 @@
 --   begun_by     a name was made and holds some first ones of the bytes, whole or not
 --   grown_all    bytes that were added whole are some first ones of them
 --   made_or_not  a name that should be made is as it was or holds nothing
-use Rattle.std.proofs.Common.{◌≡◌, ◌⊎◌, inl, inr, ℕ, Bool, true, false, List, [], ◌++◌, cond, sym, ◌∙◌, ap, refl, arith}
+use Rattle.std.proofs.Common.{◌≡◌, ◌⊎◌, inl, inr, ℕ, Bool, true, false, List, ◌++◌, cond, sym, ◌∙◌, ap, refl, arith}
 use Rattle.std.specs.Prelude.{Option, Some, None, length, take}
 use Rattle.std.specs.Option.{option_map, is_some, ForSome}
 use Rattle.std.specs.FinMap.{get, insert}

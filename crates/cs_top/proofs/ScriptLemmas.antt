@@ -4,16 +4,13 @@
 --   made_only        over a file in memory a line has its text or that of want of memory
 --   held_by, over_made, there_made, some_made, over_held     what is answered over: a file that was made, and one that is held
 --   script_short, script_answered, script_read     of `replay`: its script ended early, each line was answered, a read failed
-use Rattle.std.proofs.Common.{◌≡◌, ◌≢◌, ◌⊎◌, ℕ, ◌+◌, Bool, true, false, List, [], ◌∷◌, length, take, inl, inr, refl, sym, ap, ◌∙◌, subst, arith}
-use Rattle.std.specs.Prelude.{Option, Some, None, is_some, filter, if◌then◌else◌, Result, Ok, Err, IfOk, IfErr}
+use Rattle.std.proofs.Common.{◌≡◌, ℕ, ◌+◌, Bool, true, false, List, [], ◌∷◌, length, take, inl, inr, refl, sym, ap, ◌∙◌, subst, arith}
+use Rattle.std.specs.Prelude.{Option, Some, None, is_some, if◌then◌else◌, Result, Ok, Err, IfOk, IfErr}
 use Rattle.std.specs.Str.{bytes_eq}
 use Rattle.std.proofs.lemmas.List.{take_all}
 use Rattle.std.proofs.lemmas.Slice.Eq.{bytes_eq-Decides}
-use Rattle.cs_base.specs.outside.Causes.{Rose}
-use Rattle.cs_base.specs.outside.Outside.{Grew}
-use Rattle.cs_hub.specs.Streams.{RoseBy}
 use Rattle.cs_model.specs.Corpus.{Corpus}
-use Rattle.cs_model.specs.Outputs.{MayPut, OneEach, AnswersFirst, IsAnswer, PutAll, failed_reads, first_fault, put_of, read_text, readable_lines}
+use Rattle.cs_model.specs.Outputs.{MayPut, OneEach, AnswersFirst, IsAnswer, failed_reads, put_of, read_text, readable_lines}
 use Rattle.cs_model.proofs.OutputLemmas.{length-one_each}
 use Rattle.cs_base.specs.outside.Outside.{File, Held, IsHeld, file_bytes, size_of}
 use Rattle.cs_engine.specs.Keeping.{EngineView, AreGood}
@@ -22,7 +19,7 @@ use Rattle.cs_model_index.specs.Sections.{file_corpus}
 use Rattle.cs_top.specs.Answering.{AnswersOver, FileView, IsReplayed, IsThere, MayAnswer, bytes_there}
 use Rattle.cs_top.specs.CommandLine.{Ending, done, usage, refused, damaged, absent, failed, no_memory, script_refused, changed}
 use Rattle.cs_top.specs.Met.{Wrote, held_bytes}
-use Rattle.cs_top.specs.ScriptRuns.{IsWholeBut, ReplayScript}
+use Rattle.cs_top.specs.ScriptRuns.{ReplayScript}
 use Rattle.cs_top.specs.Scripts.{ScriptEnds, ShortTally, Tally}
 use Rattle.cs_top.specs.Views.{of_script, stop_ending}
 use Rattle.cs_top.specs.declared.lines.ScriptStop.{ScriptStop}

@@ -5,14 +5,13 @@
 --   exact_one            so one connection was sent exactly what answers its bytes
 --   exact_all            and each of them, where the files' count didn't rise
 --   ran_by               a whole run
-use Rattle.std.proofs.Common.{◌≡◌, ℕ, ◌+◌, ◌<◌, ◌≤◌, suc, zero, Bool, true, false, not, cond, ltb, List, [], ◌∷◌, ◌++◌, append-nil, inl, inr, refl, sym, subst, ◌∙◌, ap, arith}
+use Rattle.std.proofs.Common.{◌≡◌, ℕ, ◌+◌, ◌<◌, suc, zero, Bool, true, false, not, cond, ltb, List, [], ◌∷◌, ◌++◌, append-nil, inl, inr, refl, sym, subst, ◌∙◌, ap, arith}
 use Rattle.std.proofs.lemmas.Bool.Decides.{nat_tests}
 use Rattle.std.proofs.lemmas.List.{append_cancel_left}
 use Rattle.std.proofs.lemmas.Slice.Eq.{bytes_eq-Decides}
 use Rattle.std.specs.Prelude.{Option, Some, None}
 use Rattle.std.specs.List.{AllZip}
 use Rattle.std.specs.Option.{ForSome, option_map, unwrap_or}
-use Rattle.std.specs.FinSet as set
 use Rattle.cs_base.specs.outside.Causes.{Rose}
 use Rattle.cs_base.specs.outside.Hub.{Listening, Talk, sent_on}
 use Rattle.cs_base.specs.outside.Outside.{Grew}
@@ -23,7 +22,7 @@ use Rattle.cs_model.specs.Corpus.{Corpus}
 use Rattle.cs_model_index.specs.Sections.{file_corpus}
 use Rattle.cs_model_serving.specs.Connections.{IsFair, Left, MayReplace, StandsBy, answers, changes, is_changed, is_read, reads}
 use Rattle.cs_model_serving.specs.Responses.{Response, all_bytes, index_changed, memory_bytes, read_failed}
-use Rattle.cs_top.specs.CommandLine.{Ending, done, failed}
+use Rattle.cs_top.specs.CommandLine.{Ending, failed}
 use Rattle.cs_top.specs.Met.{Listened, Met, Wrote, held_bytes}
 use Rattle.cs_top.specs.Serve.{AreAnswered, AreExact, FailsBehind, IsExact, IsServing, ServeCaused, ServeEnds, ServeFailed, ServeRan, ServeTold, serving_line}
 

@@ -3,8 +3,7 @@
 --   tally_none, tally_same, tally_more      of no texts, behind a line without bytes, and behind one text more
 --   not_read, not_changed, counts_more     of what came of some lines and of more
 --   short_here, short_failed, short_put     of a script that ends early: at a refused line, where a file failed, where a put did
-use Rattle.std.proofs.Common.{◌≡◌, ◌≢◌, ◌⊎◌, ℕ, ◌+◌, ◌≤◌, ◌-◌, ◌^◌, Bool, true, false, List, [], ◌∷◌, ◌++◌, length, inl, inr, refl, sym, ◌∙◌, ap, subst, arith}
-use Rattle.std.specs.Prelude.{min, filter}
+use Rattle.std.proofs.Common.{◌≡◌, ◌≢◌, ◌⊎◌, ℕ, ◌+◌, ◌≤◌, Bool, true, false, List, [], ◌∷◌, ◌++◌, inl, inr, refl, sym, ◌∙◌, subst, arith}
 use Rattle.std.specs.Str.{bytes_eq}
 use Rattle.std.proofs.lemmas.Slice.Eq.{bytes_eq-Decides}
 use Rattle.cs_base.specs.outside.Causes.{Rose}
@@ -12,7 +11,7 @@ use Rattle.cs_hub.specs.Streams.{RoseBy}
 use Rattle.cs_model.specs.Outputs.{ScriptFault, failed_reads, read_text}
 use Rattle.cs_model.proofs.OutputLemmas.{failed_reads-push}
 use Rattle.cs_top.specs.Answering.{CameCounts, Costs, worst}
-use Rattle.cs_top.specs.CommandLine.{Ending, failed, script_refused}
+use Rattle.cs_top.specs.CommandLine.{failed, script_refused}
 use Rattle.cs_top.specs.Met.{Wrote}
 use Rattle.cs_top.specs.Scripts.{ShortTally, Tally}
 use Rattle.cs_top.specs.declared.script.Came.{Came}

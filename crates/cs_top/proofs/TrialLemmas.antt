@@ -10,7 +10,7 @@
 --   ok_then                  what follows of a value that is there
 --   told_is                  counts as the lines of a summary
 --   summed                   the text of the summary
-use Rattle.std.proofs.Common.{◌≡◌, ℕ, ◌+◌, ◌*◌, ◌^◌, ◌<◌, ◌≤◌, Bool, suc, List, [], ◌∷◌, ◌++◌, length, take, map, get_or, refl, sym, ◌∙◌, ap, subst, arith, add-one, add-zero}
+use Rattle.std.proofs.Common.{◌≡◌, ℕ, ◌+◌, ◌^◌, ◌<◌, ◌≤◌, Bool, List, [], ◌∷◌, ◌++◌, length, take, map, get_or, refl, sym, ◌∙◌, ap, subst, arith, add-one, add-zero}
 use Rattle.std.specs.Prelude.{filter, sum, Result, Ok, Err, IfOk}
 use Rattle.std.specs.List.{flat_map}
 use Rattle.std.specs.FinMap as fin
@@ -19,13 +19,11 @@ use Rattle.std.proofs.lemmas.List.{length-append, length-map, map-append}
 use Rattle.std.proofs.lemmas.List.Elements.{filter-append}
 use Rattle.std.proofs.lemmas.List.Sums.{sum_by-append, sum_by-cons}
 use Rattle.cs_base.specs.declared.content.query.Query.{Query}
-use Rattle.cs_base.specs.declared.index.plan.Kept.{Kept}
 use Rattle.cs_base.specs.declared.index.plan.Plan.{Plan}
 use Rattle.cs_base.specs.declared.index.plan.Plan.TheVariants.{Same, Narrow, Extend, Fresh}
-use Rattle.cs_cache.specs.AnswerList.{AnswerList}
 use Rattle.cs_engine.specs.Keeping.{AreGood, EngineView, IsAfter, Keeps}
 use Rattle.cs_engine.specs.declared.note.Note.{Note}
-use Rattle.cs_file.specs.Indexes.{IndexView, StandsFor}
+use Rattle.cs_file.specs.Indexes.{StandsFor}
 use Rattle.cs_model.specs.Answers.{hits, parts_of}
 use Rattle.cs_model.specs.Corpus.{Corpus}
 use Rattle.cs_model.specs.Keys.{keys_of}

@@ -16,8 +16,7 @@
 --   HasText A l a              what is put for a line has a text by A; no change is put
 --   HasReply k r a             what is put for a request has the text of its reply, or of a failed read
 use Rattle.std.specs.Prelude.{◌≡◌, ◌≢◌, ◌⊎◌, ℕ, ◌≤◌, List, [], ◌∷◌, ◌++◌, Option, Some, None}
-use Rattle.std.specs.Option.{ForSome, option_or}
-use Rattle.std.specs.FinMap as map
+use Rattle.std.specs.Option.{option_or}
 use Rattle.cs_base.specs.outside.Causes.{Rose}
 use Rattle.cs_base.specs.outside.Outside.{Held, file_bytes}
 use Rattle.cs_engine.specs.Keeping.{EngineView, AreGood}

@@ -16,7 +16,7 @@ use Rattle.cs_model.specs.Corpus.{corpus, refusal}
 use Rattle.cs_model_index.specs.Images.{Image, IsImage}
 use Rattle.cs_model_index.specs.Layout.{file}
 use Rattle.cs_model_index.specs.declared.limits.TheConstants.{TARGET}
-use Rattle.cs_top.specs.CommandLine.{Ending, done, usage, refused, absent, failed, no_memory, CausedBy}
+use Rattle.cs_top.specs.CommandLine.{Ending, done, refused, absent, failed, no_memory, CausedBy}
 use Rattle.cs_top.specs.Met.{Met, held_bytes}
 
 -- ---- over files that tell

@@ -17,7 +17,7 @@
 --   ReplayCaused             why it ends: where it failed a count rose; a read that failed before a refused line is no failure
 --   ReplayRan e i s m        a whole run
 --   CanReplay h i s          the script can be answered whole
-use Rattle.std.specs.Prelude.{◌≡◌, ◌⊎◌, ℕ, List, Option, Some, None, ◌+◌, ◌≤◌}
+use Rattle.std.specs.Prelude.{◌≡◌, ◌⊎◌, ℕ, List, Some, None, ◌+◌, ◌≤◌}
 use Rattle.std.specs.Option.{ForSome}
 use Rattle.std.specs.FinMap as map
 use Rattle.cs_base.specs.outside.Outside.{Held, IsHeld}

@@ -1,5 +1,5 @@
 //! `ask COLLECTION SCRIPT`: a script that is answered over a collection, with its index file in memory.
-ghost use Rattle.std.specs.Prelude.{◌≡◌, Some, IfOk, IfErr, OnOk};
+ghost use Rattle.std.specs.Prelude.{◌≡◌, IfOk, IfErr, OnOk};
 ghost use Rattle.std.specs.Option.{ForSome};
 ghost use Rattle.cs_file.specs.Writable.{CanBeWritten};
 ghost use Rattle.cs_model.specs.Corpus.{corpus};

@@ -1,5 +1,5 @@
 //! How a run ends: its status, and what is said of it.
-ghost use Rattle.std.specs.Prelude.{◌≡◌, ◌++◌, ◌∷◌, [], codes};
+ghost use Rattle.std.specs.Prelude.{◌≡◌, ◌++◌, ◌∷◌, []};
 ghost use Rattle.cs_docs.specs.Refusals.{reason_text};
 ghost use Rattle.cs_top.specs.CommandLine.{status, line_of, Says};
 ghost use Rattle.cs_top.specs.Met.{wrote};

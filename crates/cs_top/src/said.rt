@@ -1,5 +1,5 @@
 //! A line on standard error.
-ghost use Rattle.std.specs.Prelude.{◌≡◌, ◌++◌, ◌∷◌, [], OnOk, OnErr};
+ghost use Rattle.std.specs.Prelude.{◌++◌, ◌∷◌, [], OnOk, OnErr};
 ghost use Rattle.std.specs.List.{flat_map};
 ghost use Rattle.cs_base.specs.outside.Causes.{Counted};
 ghost use Rattle.cs_base.specs.outside.Outside.{Grew, GrewByPrefix};

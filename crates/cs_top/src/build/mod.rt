@@ -1,5 +1,4 @@
 //! `build COLLECTION INDEX`: the index file of a collection.
-ghost use Rattle.std.specs.Prelude.{◌≡◌, IfErr, OnOk};
 ghost use Rattle.std.specs.Option.{ForSome};
 ghost use Rattle.cs_top.specs.Build.{BuildEnds, BuildTold};
 ghost use Rattle.cs_top.specs.CommandLine.{CausedBy};

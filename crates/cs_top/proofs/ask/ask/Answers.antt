@@ -1,5 +1,4 @@
-use Rattle.std.proofs.Common.{◌≡◌, ◌≢◌, ◌∙◌, ℕ, List, inr, refl, sym, subst}
-use Rattle.std.specs.Prelude.{Some}
+use Rattle.std.proofs.Common.{◌≢◌, ◌∙◌, ℕ, List, inr, refl, sym, subst}
 use Rattle.cs_model.specs.Corpus.{corpus}
 use Rattle.cs_model.specs.Outputs.{IsAnswer, script_lines}
 use Rattle.cs_model_index.specs.Layout.{file}

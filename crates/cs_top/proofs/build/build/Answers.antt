@@ -4,7 +4,7 @@ use Rattle.cs_base.specs.outside.Outside.{File, Held, IsHeld, size_of}
 use Rattle.cs_model_index.specs.Images.{Image}
 use Rattle.cs_model_index.specs.Layout.{file}
 use Rattle.cs_top.specs.Build.{BuildTold, HasImage, IsBegun}
-use Rattle.cs_top.specs.Views.{IsDevice, ended, stop_ending}
+use Rattle.cs_top.specs.Views.{IsDevice, stop_ending}
 use Rattle.cs_top.specs.declared.ending.Stop.{Stop}
 use Rattle.cs_top.specs.declared.ending.Stop.TheVariants as stops
 use Rattle.cs_top.proofs.build.build.Goals as goal

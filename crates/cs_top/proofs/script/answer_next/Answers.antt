@@ -1,5 +1,5 @@
-use Rattle.std.proofs.Common.{◌≡◌, ◌≢◌, ◌+◌, refl, rules, subst}
-use Rattle.cs_top.specs.Answering.{AnswersOver, MayAnswer}
+use Rattle.std.proofs.Common.{◌+◌, refl, rules, subst}
+use Rattle.cs_top.specs.Answering.{MayAnswer}
 use Rattle.cs_top.specs.Met.{held_bytes, wrote}
 use Rattle.cs_top.specs.Scripts.{EndsAt, Reaches}
 use Rattle.cs_top.specs.Views.{of_script, stop_ending}

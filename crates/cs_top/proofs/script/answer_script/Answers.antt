@@ -5,11 +5,10 @@ use Rattle.std.specs.Str.Lines.{lines}
 use Rattle.std.specs.FinMap as map
 use Rattle.cs_model.specs.Outputs.{script_lines}
 use Rattle.cs_model.specs.Words.{is_filled}
-use Rattle.cs_top.specs.Answering.{CameCounts, FileView, MayAnswer}
+use Rattle.cs_top.specs.Answering.{CameCounts, MayAnswer}
 use Rattle.cs_top.specs.CommandLine.{failed}
 use Rattle.cs_top.specs.Met.{held_bytes, wrote}
 use Rattle.cs_top.specs.Scripts.{ScriptEnds, ShortTally, EndsAt, Reaches}
-use Rattle.cs_top.specs.declared.script.Came.{Came}
 use Rattle.cs_top.specs.declared.script.Came.TheVariants.{Read, Changed}
 use Rattle.cs_top.specs.Views.{of_script, stop_ending}
 use Rattle.cs_top.proofs.AnsweredLemmas.{HasAnswered, at_start, lines_at, unread, goes_on, ends_here, ends_done}

@@ -1,9 +1,9 @@
-use Rattle.std.proofs.Common.{◌≡◌, ◌≤◌, ◌^◌, ◌∙◌, ap, arith, length, map, subst, sym}
+use Rattle.std.proofs.Common.{◌≡◌, ◌∙◌, ap, arith, length, map, subst, sym}
 use Rattle.cs_file.specs.Indexes.{StandsFor}
 use Rattle.cs_model_index.specs.Sections.{file_corpus}
 use Rattle.cs_model_trial.specs.Sessions.{queries}
-use Rattle.cs_model_trial.specs.Summary.{IsSummary, trial_corpus}
-use Rattle.cs_top.specs.Trial.{AddUp, AreFew, HasAsked, sizes_of}
+use Rattle.cs_model_trial.specs.Summary.{trial_corpus}
+use Rattle.cs_top.specs.Trial.{AddUp, AreFew, sizes_of}
 use Rattle.cs_top.proofs.TrialLemmas.{asked_none, asked_queries, few_requests, ok_then, summed, told_is}
 use Rattle.cs_top.proofs.trial.summary_of.Goals as goal
 
