@@ -1,22 +1,21 @@
 -- The rows of a range of words, counted block by block.
 --
---   everywhere, hit_listed, hits_listed     which documents a base lists
---   known_docs           the documents of a block are listed or not
+--   everywhere           All lists each document
 --   flat_more            one block more
 --   block_counted        one block more is counted
 --   countable            the rows that are counted are countable
 --   table_told           their table
 --   facet_counted        the table of a facet
 --   facet_met            the blocks that hold a facet's words
-use Rattle.std.proofs.Common.{◌≡◌, ◌≢◌, ℕ, zero, suc, ◌+◌, ◌-◌, ◌<◌, ◌≤◌, ◌==◌, ◌&&◌, ◌||◌, Bool, true, false, cond, List, [], ◌∷◌, ◌++◌, length, get_or, set, take, drop, map, replicate, refl, sym, ap, ap₂, subst, ◌∙◌, arith, append-nil, length-take, length-drop, get_or-drop, get_or-take, get_or-set_other, length-set}
+use Rattle.std.proofs.Common.{◌≡◌, ◌≢◌, ℕ, zero, suc, ◌+◌, ◌-◌, ◌<◌, ◌≤◌, ◌==◌, ◌&&◌, ◌||◌, Bool, true, false, cond, List, [], ◌∷◌, ◌++◌, length, get_or, take, drop, map, replicate, refl, sym, ap, ap₂, subst, ◌∙◌, arith, append-nil, length-take, length-drop, get_or-drop, get_or-take}
 use Rattle.std.specs.Prelude.{All, filter, flat_map, nat_lt}
 use Rattle.std.specs.List.{list_any}
 use Rattle.std.specs.List.Sorted.{IsStrictlySortedBy}
-use Rattle.std.proofs.lemmas.Bool.{eq-eqb, eqb-true, ltb-true, ltb-false}
+use Rattle.std.proofs.lemmas.Bool.{eq-eqb, ltb-true, ltb-false}
 use Rattle.std.proofs.lemmas.Bool.Decides.{nat_tests}
-use Rattle.std.proofs.lemmas.Grind.{flat_map-append, get_or-set_at}
+use Rattle.std.proofs.lemmas.Grind.{flat_map-append}
 use Rattle.std.proofs.lemmas.List.{take_more, get_or-replicate, length-replicate}
-use Rattle.std.proofs.lemmas.List.Elements.{All-nil, All-head, All-tail, All-append, All-filter, All-weaker, All-map, filter-append, recursion_from_All}
+use Rattle.std.proofs.lemmas.List.Elements.{All-nil, All-head, All-tail, All-append, All-filter, All-weaker, filter-append, recursion_from_All}
 use Rattle.std.proofs.lemmas.List.Folds.{list_any-append}
 use Rattle.std.proofs.lemmas.List.Kept.{IsStrictlySortedBy-filter}
 use Rattle.cs_base.specs.content.Orders.{AreSorted, by_place}
@@ -42,9 +41,8 @@ use Rattle.cs_tables.specs.declared.tables.Completion.{Completion as Numbered}
 use Rattle.cs_tables.specs.Listings.{of_word, table}
 use Rattle.cs_tables.specs.WordCounts.{AreCountable, HasCounted, WordCountsView, chosen, is_chosen}
 use Rattle.cs_engine.specs.Asking.{division}
-use Rattle.cs_engine.specs.Counting.{AreListed, AreMarked, counted_rows, in_listed}
+use Rattle.cs_engine.specs.Counting.{AreListed, counted_rows, in_listed}
 use Rattle.cs_engine.specs.Reading.{AreWithin, IsWithin, by_post, stock_of}
-use Rattle.cs_engine.specs.Steps.{IsBaseOf, IsHitOf}
 use Rattle.cs_engine.specs.Stocked.{docs_in, every, facet_at, is_between, shown_at, IsKnown}
 use Rattle.cs_engine.proofs.AnsweringLemmas.{facet_told, words_as_shown}
 use Rattle.cs_engine.proofs.AlikeLemmas.{any_filter, table_alike}
@@ -92,55 +90,7 @@ everywhere docs all are = record {
   each = λ d lt. ap (λ l. get_or l d false) are ∙ get_or-replicate docs d true false lt ∙ sym (listed_every docs d lt);
 }
 
--- one hit more
-pub hit_listed : (hits : List Scored) (i : ℕ) (none : Scored) (old now : List Bool) → i < length hits → (get_or hits i none).doc < length now → AreMarked (take i hits) old now → AreMarked (take (i + 1) hits) old (set now (get_or hits i none).doc true)
-hit_listed hits i none old now lt inside h =
-    let x = get_or hits i none in
-    let more : map doc_of (take (i + 1) hits) ≡ map doc_of (take i hits) ++ x.doc ∷ [] = ap (map doc_of) (take_more hits i none lt) ∙ map_two (take i hits) x in (
-      length-set now x.doc true ∙ h.0,
-      λ d l.
-          let there : d < length now = subst (λ n. d < n) (length-set now x.doc true) l in
-          let split : is_listed (map doc_of (take (i + 1) hits)) d ≡ (is_listed (map doc_of (take i hits)) d || ((x.doc == d) || false)) = ap (λ ds. is_listed ds d) more ∙ list_any-append (λ e. e == d) (map doc_of (take i hits)) (x.doc ∷ []) in
-          elim (x.doc == d) as (λ b. x.doc == d ≡ b → get_or (set now x.doc true) d false ≡ (get_or old d false || (is_listed (map doc_of (take i hits)) d || (b || false)))) [
-            | true ↦ λ e. let at = eqb-true x.doc d e in get_or-set_at now x.doc d true false (sym at) inside ∙ sym (last_true (get_or old d false) (is_listed (map doc_of (take i hits)) d))
-            | false ↦ λ e. let apart : d ≢ x.doc = (λ s. absurd (let t = eq-eqb x.doc d (sym s) in cc)) in get_or-set_other now x.doc d true false apart ∙ h.1 d there ∙ sym (last_false (get_or old d false) (is_listed (map doc_of (take i hits)) d))
-          ] refl
-          ∙ ap (λ b. get_or old d false || b) (sym split),
-    )
-  where
-    map_two : (hs : List Scored) (x : Scored) → map doc_of (hs ++ x ∷ []) ≡ map doc_of hs ++ x.doc ∷ []
-    map_two [] x = refl
-    map_two (h ∷ hs) x = ap (λ l. h.doc ∷ l) (map_two hs x)
-
-    last_true : (a b : Bool) → (a || (b || (true || false))) ≡ true
-    last_true true b = refl
-    last_true false true = refl
-    last_true false false = refl
-
-    last_false : (a b : Bool) → (a || (b || (false || false))) ≡ (a || b)
-    last_false true b = refl
-    last_false false true = refl
-    last_false false false = refl
-
-pub hits_listed : (docs : ℕ) (hits : List Scored) (blank listed : List Bool) → blank ≡ replicate docs false → AreMarked hits blank listed → AreListed docs (base.Listed hits) listed
-hits_listed docs hits blank listed none h =
-    let long : length listed ≡ docs = h.0 ∙ ap length none ∙ length-replicate docs false in
-    record {
-      long = long;
-      each = λ d lt. h.1 d (omega (arith, lt, long)) ∙ ap (λ b. b || is_listed (map doc_of hits) d) (ap (λ l. get_or l d false) none ∙ get_or-replicate docs d false false lt);
-    }
-
-pub hit_docs : (docs bound : ℕ) (hits : List Scored) (n : ℕ) → n ≡ docs → IsBaseOf docs bound (base.Listed hits) → All (λ h. h.doc < n) hits
-hit_docs docs bound hits n same h = subst (λ m. All (λ h. h.doc < m) hits) (sym same) (All-weaker (IsHitOf docs bound) (λ h. h.doc < docs) (λ x at. at.doc) hits h.1)
-
 -- ---- one block
-pub known_docs : (i : IndexView) (posts : List Post) (docs : List ℕ) (n : ℕ) → docs ≡ map (λ p. p.doc) posts → n ≡ i.docs → AreWithin i posts → All (λ d. d < n) docs
-known_docs i posts docs n are long w =
-    subst (λ m. All (λ d. d < m) docs) (sym long) (subst (All (λ d. d < i.docs)) (sym are) (All-map (λ d. d < i.docs) (λ (p : Post). p.doc) posts (All-weaker (IsWithin i.docs (length i.words)) (λ p. p.doc < i.docs) (λ p h. h.doc) posts w.within)))
-
-pub counted_none : (bs : List (List Post)) (first lo hi : ℕ) (listed : List Bool) → counted_rows bs first first lo hi listed ≡ []
-counted_none bs first lo hi listed = let e : first - first ≡ 0 = omega arith in ap (λ n. flat_map (chosen lo hi listed) (take n (drop first bs))) e
-
 -- what is made of the blocks from number first up to k, and of one block more
 pub flat_more : (f : List Post → List Post) (bs : List (List Post)) (first k : ℕ) → first ≤ k → k < length bs → flat_map f (take (k + 1 - first) (drop first bs)) ≡ flat_map f (take (k - first) (drop first bs)) ++ f (get_or bs k [])
 flat_more f bs first k le lt =

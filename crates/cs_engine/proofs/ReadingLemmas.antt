@@ -2,19 +2,16 @@
 --
 --   fetched_within, kept_within, united_within     posts that are read, cut and united are in order and in range
 --   cut_run          one block
---   run_joined       two runs
 --   whole_run        the run of the blocks that hold such words
 --   met_count        how many blocks are met
-use Rattle.std.proofs.Common.{◌≡◌, ℕ, zero, suc, ◌+◌, ◌-◌, ◌<◌, ◌≤◌, ◌&&◌, ◌||◌, Bool, true, false, cond, List, [], ◌∷◌, ◌++◌, length, get_or, take, drop, Option, refl, sym, ap, subst, ◌∙◌, arith, append-nil, drop-drop}
+use Rattle.std.proofs.Common.{◌≡◌, ℕ, zero, suc, ◌+◌, ◌-◌, ◌<◌, ◌≤◌, ◌&&◌, Bool, true, false, cond, List, [], ◌∷◌, ◌++◌, length, get_or, take, drop, Option, refl, sym, ap, subst, ◌∙◌, arith, append-nil}
 use Rattle.std.specs.Prelude.{All, filter, flat_map, nat_le, nat_lt}
 use Rattle.std.specs.List.{Contains, list_any}
 use Rattle.std.specs.List.Sorted.{IsStrictlySortedBy}
 use Rattle.std.proofs.lemmas.Bool.Decides.{nat_tests}
-use Rattle.std.proofs.lemmas.Grind.{flat_map-append}
-use Rattle.std.proofs.lemmas.List.Elements.{All-nil, All-filter, All-append, Contains-get_or, Contains-append_left, Contains-append_right, recursion_from_All}
-use Rattle.std.proofs.lemmas.List.Folds.{list_any-append}
+use Rattle.std.proofs.lemmas.List.Elements.{All-nil, All-filter, All-append, Contains-get_or, Contains-append_left, Contains-append_right}
 use Rattle.std.proofs.lemmas.List.Kept.{IsStrictlySortedBy-filter}
-use Rattle.std.proofs.lemmas.List.Sorted.{All-permutation, list_any-IsPermutation}
+use Rattle.std.proofs.lemmas.List.Sorted.{All-permutation}
 use Rattle.std.specs.Ordering.{nat_cmp, eq_by_cmp, ordering_then}
 use Rattle.std.specs.declared.cmp.Ordering.TheVariants.{Less}
 use Rattle.cs_base.specs.content.Orders.{by_place, AreSorted}
@@ -33,7 +30,6 @@ use Rattle.cs_engine.specs.Stocked.{Stock, is_between}
 use Rattle.cs_engine.proofs.AlikeLemmas.{any_filter}
 use Rattle.cs_engine.proofs.StockLemmas.{by_post_total, by_post_exact, block_within, from_file, stocked}
 use Rattle.cs_engine.proofs.TableLemmas.{any_listed}
-use Rattle.cs_engine.proofs.UnionLemmas.{any_united}
 
 -- ---- what always holds
 pub kept_within : (i : IndexView) (t : Post → Bool) (posts : List Post) → AreWithin i posts → AreWithin i (filter t posts)
@@ -78,36 +74,6 @@ cut_run b i s is k lo hi lt posts are =
     in_all [] k l x c = absurd (omega (arith, l))
     in_all (b ∷ bs) zero l x c = Contains-append_left b (flat_map (λ block. block) bs) x c
     in_all (b ∷ bs) (suc k) l x c = Contains-append_right b (flat_map (λ block. block) bs) x (in_all bs k (omega (arith, l)) x c)
-
-take_two : {X : Type 0} (n m : ℕ) (xs : List X) → take (n + m) xs ≡ take n xs ++ take m (drop n xs)
-take_two zero m xs = (let e : 0 + m ≡ m = omega arith in ap (λ k. take k xs) e)
-take_two (suc n) m [] = (let e : suc n + m ≡ suc (n + m) = omega arith in ap (λ k. take k []) e) ∙ none m
-  where
-    none : {X : Type 0} (m : ℕ) → [] ≡ take {A = X} m []
-    none zero = refl
-    none (suc m) = refl
-take_two (suc n) m (x ∷ xs) = (let e : suc n + m ≡ suc (n + m) = omega arith in ap (λ k. take k (x ∷ xs)) e) ∙ ap (λ l. x ∷ l) (take_two n m xs)
-
-run_parted : (bs : List (List Post)) (f m l lo hi : ℕ) → f ≤ m → m ≤ l → run_of bs f l lo hi ≡ run_of bs f m lo hi ++ run_of bs m l lo hi
-run_parted bs f m l lo hi up on =
-    let g : List Post → List Post = filter (is_between lo hi) in
-    let e : l - f ≡ (m - f) + (l - m) = omega (arith, up, on) in
-    let n : m - f + f ≡ m = omega (arith, up) in
-    ap (λ k. flat_map g (take k (drop f bs))) e
-    ∙ ap (flat_map g) (take_two (m - f) (l - m) (drop f bs) ∙ ap (λ xs. take (m - f) (drop f bs) ++ take (l - m) xs) (drop-drop (m - f) f bs ∙ ap (λ k. drop k bs) (let n' : f + (m - f) ≡ m = omega (arith, up) in n')))
-    ∙ flat_map-append g (take (m - f) (drop f bs)) (take (l - m) (drop m bs))
-
-pub run_joined : (s : Stock) (bs : List (List Post)) (f m l lo hi : ℕ) (a b c : List Post) → AreSorted s.posts → f ≤ m → m ≤ l → HasRun s bs f m lo hi a → HasRun s bs m l lo hi b → IsUnion a b c → HasRun s bs f l lo hi c
-run_joined s bs f m l lo hi a b c up le on in_a in_b union =
-    let posts = s.posts in
-    record {
-      among = All-permutation (Contains posts) (a ++ missing a b) c union (All-append (Contains posts) a (missing a b) in_a.among (All-filter _ (Contains posts) b in_b.among));
-      alike = λ t.
-          sym (list_any-IsPermutation t (a ++ missing a b) c union)
-          ∙ any_united posts up t a b (recursion_from_All (Contains posts) a in_a.among) (recursion_from_All (Contains posts) b in_b.among)
-          ∙ list_any-append t a b ∙ ap (λ x. x || list_any t b) (in_a.alike t) ∙ ap (λ x. list_any t (run_of bs f m lo hi) || x) (in_b.alike t)
-          ∙ sym (list_any-append t (run_of bs f m lo hi) (run_of bs m l lo hi)) ∙ ap (list_any t) (sym (run_parted bs f m l lo hi le on));
-    }
 
 sooner : (x y : Post) → by_place x y ≡ Less → by_post x y ≡ Less
 sooner x y h = ap (λ o. ordering_then o (nat_cmp x.score y.score)) h

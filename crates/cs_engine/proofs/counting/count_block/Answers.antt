@@ -1,4 +1,4 @@
-use Rattle.std.proofs.Common.{◌<◌, List, ℕ, ap, length, sym, subst, ◌∙◌}
+use Rattle.std.proofs.Common.{◌<◌, ap, length, sym, subst, ◌∙◌}
 use Rattle.std.specs.Prelude.{All}
 use Rattle.cs_file.specs.Indexes.{block_posts}
 use Rattle.cs_engine.proofs.counting.count_block.Goals as goal
