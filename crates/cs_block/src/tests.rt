@@ -1,5 +1,5 @@
 //! A worked block, written and read, and the rule and the place of each damage to it.
-use crate::{BlockFault, Broken, decode, decode_reserved, encode};
+use crate::{BlockFault, Broken, decode, decode_reserved, encode, read_doc_words};
 use cs_base::BlockHead;
 use cs_cols::Cols;
 use std::test::Fail;
@@ -43,6 +43,22 @@ fn the_worked_block_is_decoded_and_encoded(rt: HostRuntime) -> Result<(), Fail> 
     encode(&rows, 1, &mut out)?;
     assert_eq!(rt; out.len(), 25);
     assert_eq!(rt; &out[1..], BLOCK.as_slice());
+    Ok(())
+}
+
+#[test]
+fn documents_and_words_are_read_alone(rt: HostRuntime) -> Result<(), Fail> {
+    let mut docs = Vec::new(rt.alloc());
+    let mut words = Vec::new(rt.alloc());
+    assert!(rt; read_doc_words(&BLOCK, &HEAD, 1, &mut docs, &mut words)?);
+    assert_eq!(rt; docs.as_slice(), [0, 0, 0].as_slice());
+    assert_eq!(rt; words.as_slice(), [2, 3, 1].as_slice());
+    let none = (24, 0);
+    // a code that is cut, a document that isn't there, a word of another block
+    for change in [(2, 0x80), (2, 1), (4, 3)] {
+        let bytes = damaged([change, none]);
+        assert!(rt; !read_doc_words(&bytes, &HEAD, 1, &mut docs, &mut words)?);
+    }
     Ok(())
 }
 
