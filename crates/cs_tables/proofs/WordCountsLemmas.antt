@@ -31,7 +31,7 @@ use Rattle.cs_tables.specs.declared.counts.TheConstants.{NO_DOC}
 use Rattle.cs_tables.specs.declared.tables.Completion.{Completion}
 use Rattle.cs_tables.specs.Listings.{completion, of_word}
 use Rattle.cs_tables.specs.Marks.{collected, counted_word, marked, saw, words_of}
-use Rattle.cs_tables.specs.WordCounts.{AreCountable, Counts, HasCounted, HasMarks, WordCountsView, chosen, is_chosen}
+use Rattle.cs_tables.specs.WordCounts.{AreCountable, Counts, HasCounted, HasWordMarks, WordCountsView, chosen, is_chosen}
 use Rattle.cs_tables.proofs.MarksLemmas.{fold_push, word_marked, word_docs_few}
 use Rattle.cs_tables.proofs.WordsLemmas.{collected_words}
 
@@ -79,7 +79,7 @@ unread = record { docs = 0; last = 0 }
 abbrev blank : Mark
 blank = record { docs = 0; last = NO_DOC }
 
-pub counted_nothing : (low n : ℕ) (marks : List Mark) → marks ≡ replicate n blank → HasMarks low [] marks
+pub counted_nothing : (low n : ℕ) (marks : List Mark) → marks ≡ replicate n blank → HasWordMarks low [] marks
 counted_nothing low n marks are k d lt = ap (λ ms. get_or ms k d) are ∙ get_or-replicate n k blank d (omega (arith, lt, ap length are, long n))
   where
     long : (n : ℕ) → length (replicate n blank) ≡ n
@@ -102,7 +102,7 @@ module _ (low high : ℕ) (listed : List Bool) where
   pub row_passed : (marks : List Mark) (doc word : ℕ) → ((nat_le low word && nat_lt word high) && slice_index_or listed doc false) ≡ false → (p : Post) → doc ≡ p.doc → word ≡ p.word → Counts low high listed (p ∷ []) marks marks
   row_passed marks doc word out p d w seen c h =
       let none : chosen low high listed (p ∷ []) ≡ [] = ap (λ b. cond b (p ∷ []) []) (sym (test_at p doc word d w) ∙ out) in
-      subst (λ rows. HasMarks low rows marks) (sym (append-nil seen) ∙ ap (λ rows. seen ++ rows) (sym none)) h
+      subst (λ rows. HasWordMarks low rows marks) (sym (append-nil seen) ∙ ap (λ rows. seen ++ rows) (sym none)) h
 
   -- a row that is
   pub row_counted : (marks : List Mark) (doc word : ℕ) (now : Mark) → low + length marks ≡ high → ((nat_le low word && nat_lt word high) && slice_index_or listed doc false) ≡ true → ((get_or marks (word - low) unread).docs < NO_DOC → now ≡ saw (get_or marks (word - low) unread) doc)
@@ -118,7 +118,7 @@ module _ (low high : ℕ) (listed : List Bool) where
       let m = get_or marks j unread in
       let old : m ≡ marked (low + j) seen = h j unread inside in
       let new : now ≡ saw (marked (low + j) seen) p.doc = saws (has_room (low + j) seen m before old) ∙ ap₂ saw old d in
-      subst (λ rows. HasMarks low rows (set marks j now)) (ap (λ rows. seen ++ rows) (sym one)) (λ k e lt.
+      subst (λ rows. HasWordMarks low rows (set marks j now)) (ap (λ rows. seen ++ rows) (sym one)) (λ k e lt.
       elim (j == k) as (λ b. j == k ≡ b → get_or (set marks j now) k e ≡ marked (low + k) (seen ++ p ∷ [])) [
         | true ↦ λ s.
             let at : j ≡ k = eqb-true j k s in
@@ -143,7 +143,7 @@ module _ (low high : ℕ) (listed : List Bool) where
       let f = chosen low high listed in
       let both : seen ++ f (a ++ b) ≡ (seen ++ f a) ++ f b = ap (λ rows. seen ++ rows) (filter-append (is_chosen low high listed) a b) ∙ sym (append_assoc seen (f a) (f b)) in
       let whole : AreCountable ((seen ++ f a) ++ f b) = subst AreCountable both c in
-      subst (λ rows. HasMarks low rows m2) (sym both) (second (seen ++ f a) whole (first seen (front_countable (seen ++ f a) (f b) whole) h))
+      subst (λ rows. HasWordMarks low rows m2) (sym both) (second (seen ++ f a) whole (first seen (front_countable (seen ++ f a) (f b) whole) h))
 
   abbrev no_post : Post
   no_post = record { doc = 0; word = 0; pos = 0; score = 0 }
@@ -175,7 +175,7 @@ module _ (low high : ℕ) (listed : List Bool) where
   -- a piece more
   pub piece_counted : (seen rows : List Post) (old new : WordCountsView) → old.low ≡ low → old.high ≡ high → new.low ≡ low → new.high ≡ high → Counts low high listed rows old.marks new.marks → AreCountable (seen ++ chosen low high listed rows) → HasCounted seen old → HasCounted (seen ++ chosen low high listed rows) new
   piece_counted seen rows old new a b c d counts few h = record {
-    marks = subst (λ n. HasMarks n (seen ++ chosen low high listed rows) new.marks) (sym c) (counts seen few (subst (λ n. HasMarks n seen old.marks) a h.marks));
+    marks = subst (λ n. HasWordMarks n (seen ++ chosen low high listed rows) new.marks) (sym c) (counts seen few (subst (λ n. HasWordMarks n seen old.marks) a h.marks));
     within = subst (λ n. All (λ p. (n ≤ p.word) × (p.word < new.high)) (seen ++ chosen low high listed rows)) (sym c)
         (subst (λ n. All (λ p. (low ≤ p.word) × (p.word < n)) (seen ++ chosen low high listed rows)) (sym d)
         (All-append (λ (p : Post). (low ≤ p.word) × (p.word < high)) seen (chosen low high listed rows)

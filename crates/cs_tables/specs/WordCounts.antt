@@ -6,7 +6,7 @@
 --   is_chosen low high listed p    the word of a row is one of these, and its document is listed
 --   chosen low high listed rows    the rows that are counted
 --   AreCountable rows              the rows of each word are in order, and their documents are few
---   HasMarks low rows marks        the marks of the words from low on are those after these rows
+--   HasWordMarks low rows marks    the marks of the words from low on are those after these rows
 --   Counts low high listed rows old new     the marks after these rows more, whatever rows came before
 --   HasCounted rows t              what is counted after these rows, all of words that are counted
 use Rattle.std.specs.Prelude.{◌≡◌, ℕ, ◌+◌, ◌<◌, ◌≤◌, ◌&&◌, Bool, false, nat_le, nat_lt, List, ◌++◌, filter, length, slice_index_or}
@@ -38,14 +38,14 @@ pub record AreCountable (rows : List Post) : Type 0 where
   pub few_docs : All (λ p. p.doc < MAX_DOCS) rows
 
 -- one for each word; after no rows none has a document
-abbrev pub HasMarks : ℕ → List Post → List Mark → Type 0
-HasMarks low rows marks = (k : ℕ) (d : Mark) → k < length marks → slice_index_or marks k d ≡ marked (low + k) rows
+abbrev pub HasWordMarks : ℕ → List Post → List Mark → Type 0
+HasWordMarks low rows marks = (k : ℕ) (d : Mark) → k < length marks → slice_index_or marks k d ≡ marked (low + k) rows
 
 -- those of the rows that are chosen count, and no others
 abbrev pub Counts : ℕ → ℕ → List Bool → List Post → List Mark → List Mark → Type 0
-Counts low high listed rows old new = (seen : List Post) → AreCountable (seen ++ chosen low high listed rows) → HasMarks low seen old → HasMarks low (seen ++ chosen low high listed rows) new
+Counts low high listed rows old new = (seen : List Post) → AreCountable (seen ++ chosen low high listed rows) → HasWordMarks low seen old → HasWordMarks low (seen ++ chosen low high listed rows) new
 
 -- after no rows no word has a document
 pub record HasCounted (rows : List Post) (t : WordCountsView) : Type 0 where
-  pub marks : HasMarks t.low rows t.marks
+  pub marks : HasWordMarks t.low rows t.marks
   pub within : All (λ p. (t.low ≤ p.word) × (p.word < t.high)) rows
