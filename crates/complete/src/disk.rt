@@ -10,7 +10,7 @@ ghost use Rattle.cs_base.specs.outside.Outside.{part, size_of};
 ghost use Rattle.complete.specs.System.{SaysAbsent};
 
 use crate::faults::Faults;
-use crate::streams::{lend, read_whole};
+use crate::streams::{keep_whole, lend};
 use crate::whole::write_whole;
 use cs_base::{Failed, Files, MemFiles};
 use std::alloc::Global;
@@ -123,17 +123,12 @@ impl<R: rt::Files + Drop> Disk<'_, R> {
     }
 
     // Keeps the bytes of a stream, and answers their number.
-    #[tactic(auto, using(crate::proofs::StreamsLemmas::size_held))]
     fn read_stream(&mut self, name: &str) -> io::Result<Option<u64>>
         ensures kept { IfOk result (λ n. n ≡ size_of (map.get self.new.streams.held name.now)) }
     {
         let stream = self.open(name, Access::Read)?.file;
-        let bytes = read_whole(self.alloc, stream)?;
-        let size = bytes.len() as u64;
-        match self.streams.hold(name, bytes) {
-            Ok(()) => Ok(Some(size)),
-            Err(_) => Err(ErrorKind::OutOfMemory.into()),
-        }
+        let size = keep_whole(self.alloc, &mut self.streams, name, stream)?;
+        Ok(Some(size))
     }
 
     fn read_at(&mut self, name: &str, at: u64, out: &mut [u8]) -> io::Result<()>

@@ -2,8 +2,8 @@
 use crate::disk::DiskFiles;
 use crate::standard::Standard;
 use crate::startup::start;
-use crate::streams::{lend, read_whole};
-use cs_base::{Failed, Files, MemSink, ScriptHub, Seq, Sink};
+use crate::streams::{keep_whole, lend};
+use cs_base::{Failed, Files, MemFiles, MemSink, ScriptHub, Seq, Sink};
 use std::alloc::{AllocError, Global};
 use std::env::Args;
 use std::fs;
@@ -120,8 +120,13 @@ fn a_device_is_read_once_and_never_written(rt: HostRuntime) -> Result<(), Fail> 
 
 #[test]
 fn a_stream_is_lent_as_it_was_read(rt: HostRuntime) -> Result<(), Fail> {
-    let bytes = read_whole(rt.alloc(), &b"a pipe"[..])?;
-    assert_eq!(rt; bytes.as_slice(), b"a pipe".as_slice());
+    let mut streams = MemFiles::new(rt.alloc());
+    assert_eq!(rt;
+        keep_whole(rt.alloc(), &mut streams, "pipe", &b"a pipe"[..])?,
+        6
+    );
+    let bytes = streams.bytes("pipe").unwrap_or(&[]);
+    assert_eq!(rt; bytes, b"a pipe".as_slice());
     let mut piece = [0u8; 4];
     for (at, want) in [
         (2, Some(*b"pipe")),
@@ -129,7 +134,7 @@ fn a_stream_is_lent_as_it_was_read(rt: HostRuntime) -> Result<(), Fail> {
         (3, None),
         (u64::MAX, None),
     ] {
-        let lent = lend(&bytes, at, &mut piece).is_ok();
+        let lent = lend(bytes, at, &mut piece).is_ok();
         assert_eq!(rt; lent, want.is_some(), "at {at}");
         if let Some(want) = want {
             assert_eq!(rt; piece, want, "at {at}");
