@@ -74,7 +74,7 @@ impl Reading {
         requires live { IsLive (H.state hub.old) conn }
 
         ensures turned { Turned (A.answers answerer.old) conn self.old rest.now result self.new (A.faults answerer.old) (A.faults answerer.new) (H.talk hub.old) (H.talk hub.new) }
-        ensures asked { AsksBy A.leaves self.old rest.now result (A.kept answerer.old) (A.kept answerer.new) }
+        ensures asked { AsksBy A.leaves conn self.old rest.now result (A.kept answerer.old) (A.kept answerer.new) (H.talk hub.old) (H.talk hub.new) }
         ensures still { (k : Corpus) → A.answers answerer.old k → A.answers answerer.new k }
         ensures lent { A.lent answerer.new ≡ A.lent answerer.old }
         ensures later { A.faults answerer.old ≤ A.faults answerer.new }
