@@ -1,17 +1,18 @@
 -- What is asked, from one request to all those of a step.
 --
 --   requests_both, requests_length, requests_few     the requests of answers; those of a head are one or none
---   some_said, some_starved, some_delivered, some_replied, some_refused      what was sent, whatever it was
+--   some_said, some_starved, some_delivered, some_refused      what was sent, whatever it was
 --   replied_open                  where the connection goes on a whole response was sent
---   before_one                    of one request nothing is said about responses
+--   before_one, want_by, memory_both      what was sent for one request, and want of memory
 --   in_turn_both                  requests behind requests
 --   asks_none, asks_nothing, asks_one, asks_whole, asks_less, asks_no_bytes      none, none of none, one; where less is claimed; none of no bytes
 --   asks_params, refused_params, asks_head, refused_head      what parameters and a head ask
 --   along_start, along_next, along_hold, along_stop    the way through the bytes
+--   asks_few, asks_sent           one head asks at most one request
 --   turned_goes, turned_stops     a head was answered
---   turned_held, turned_long      no head ends there
+--   nothing_stops, turned_held, turned_long      nothing was asked; no head ends there
 --   asks_counted, asks_of_line    the bytes of a piece that count, and of a connection that is kept
---   sent_ok, sent_open, refused_close      what is known of a response by what was sent
+--   sent_open, refused_close      what is known of a response by what was sent
 --   few_titles, read_in           one answer of an engine
 --   standing, stands_so           how an engine stands
 --   within_due, within_for        an engine asked so reads no more than is due
@@ -44,8 +45,8 @@ use Rattle.cs_model_serving.specs.Heads.{Judgement, refused, asks, judge}
 use Rattle.cs_model_serving.specs.Responses.{Response, all_bytes, memory_bytes, response_bytes, too_long}
 use Rattle.cs_query.specs.declared.request.ReqFault.{ReqFault}
 use Rattle.cs_query.specs.declared.request.ReqFault.TheVariants as faults
-use Rattle.cs_hub.specs.Asked.{InTurn, HasMemory, AsksOf, AsksAsSent, AsksAlong, AsksBy, Standing, EngineLeaves}
-use Rattle.cs_hub.specs.DueReads.{Answered, AnswersWithin, AreDue, SentBefore, bytes_behind, closes_behind, failed_reads, is_want, reply_in, requests_by, requests_in, requests_of, requests_on}
+use Rattle.cs_hub.specs.Asked.{InTurn, AsksOf, AsksAsSent, AsksAlong, AsksBy, Standing, EngineLeaves}
+use Rattle.cs_hub.specs.DueReads.{Answered, AnswersWithin, AreDue, HasMemory, SentBefore, bytes_behind, closes_behind, failed_reads, is_want, reply_in, requests_by, requests_in, requests_of, requests_on}
 use Rattle.cs_hub.specs.Following.{Slots, left_at}
 use Rattle.cs_hub.specs.Responding.{response, IsJudgedSo}
 use Rattle.cs_hub.specs.Speaking.{Said, Spoke, Starved}
@@ -95,10 +96,6 @@ some_delivered c r false talk talk' (inl h) = (response_bytes r, false, h.1)
 some_delivered c r false talk talk' (inr (inl h)) = (take h.0 (response_bytes r), true, h.1)
 some_delivered c r false talk talk' (inr (inr h)) = some_starved c talk talk' h
 
-pub some_replied : (Over : Corpus → Type 0) (c : ℕ) (right : Corpus → Response) (goes : Bool) (m n : ℕ) (talk talk' : Option Talk) → Replied Over c right goes m n talk talk' → Some_said c talk talk'
-some_replied Over c right goes m n talk talk' (inl h) = some_delivered c h.0 goes talk talk' h.2
-some_replied Over c right goes m n talk talk' (inr h) = some_starved c talk talk' h.1
-
 pub some_refused : (c : ℕ) (talk talk' : Option Talk) → IsRefused c talk talk' → Some_said c talk talk'
 some_refused c talk talk' (inl h) = some_delivered c too_long h.0 talk talk' h.1
 some_refused c talk talk' (inr h) = some_starved c talk talk' h
@@ -111,8 +108,21 @@ pub replied_open : (Over : Corpus → Type 0) (c : ℕ) (right : Corpus → Resp
 replied_open Over c right goes m n talk talk' on (inl h) = (h.0, whole_by c h.0 goes talk talk' h.2 on)
 replied_open Over c right goes m n talk talk' on (inr h) = absurd (let x : true ≡ false = sym on ∙ h.0 in cc)
 
-before_one : (c : ℕ) (talk talk' : Option Talk) (n : ℕ) → n ≤ 1 → Some_said c talk talk' → SentBefore c talk talk' n
-before_one c talk talk' n few h = record { sent = []; part = h.0; fails = h.1; spoke = h.2; enough = omega (arith, few) }
+-- of one request nothing is said about responses, only of memory
+before_one : (c : ℕ) (talk talk' : Option Talk) (xs : List Answered) → length xs ≤ 1 → HasMemory xs → Some_said c talk talk' → SentBefore c talk talk' xs
+before_one c talk talk' xs few memory h = record { sent = []; part = h.0; fails = h.1; spoke = h.2; enough = omega (arith, few); memory = inl memory }
+
+want_by : (c : ℕ) (whole : Bool) (talk talk' : Option Talk) (xs : List Answered) → length xs ≤ 1 → Said c memory_bytes whole talk talk' → SentBefore c talk talk' xs
+want_by c true talk talk' xs few h = record { sent = []; part = memory_bytes; fails = false; spoke = h; enough = omega (arith, few); memory = inr (inr refl) }
+want_by c false talk talk' xs few h = record { sent = []; part = take h.0 memory_bytes; fails = true; spoke = h.1; enough = omega (arith, few); memory = inr (inl refl) }
+
+memory_both : (xs ys : List Answered) (P : Type 0) → HasMemory xs → HasMemory ys ⊎ P → HasMemory (xs ++ ys) ⊎ P
+memory_both xs ys P h (inl k) = inl (All-append (λ (a : Answered). is_want a.1 ≡ false) xs ys h k)
+memory_both xs ys P h (inr p) = inr p
+
+-- nothing follows from what can't be
+pub by_nothing : (P : Type 0) → false ≡ true → P
+by_nothing P e = absurd cc
 
 module _ {K : Type 0} (Leaves : K → Request → Result Reply AskFault → K → Type 0) where
   pub in_turn_both : (xs ys : List Answered) (s t u : K) → InTurn Leaves xs s t → InTurn Leaves ys t u → InTurn Leaves (xs ++ ys) s u
@@ -121,7 +131,7 @@ module _ {K : Type 0} (Leaves : K → Request → Result Reply AskFault → K �
 
   -- ---- some first requests
   abbrev pub asks_none : (qs : List Request) (s : K) → AsksOf Leaves false qs s s
-  asks_none qs s = record { answered = []; later = qs; cut = refl; in_turn = refl; all = λ e. absurd cc }
+  asks_none qs s = record { answered = []; later = qs; cut = refl; in_turn = refl; all = by_nothing ((qs ≡ []) × HasMemory []) }
 
   abbrev pub asks_nothing : (whole : Bool) (s : K) → AsksOf Leaves whole [] s s
   asks_nothing whole s = record { answered = []; later = []; cut = refl; in_turn = refl; all = λ e. (refl, All-nil (λ (a : Answered). is_want a.1 ≡ false)) }
@@ -138,7 +148,7 @@ module _ {K : Type 0} (Leaves : K → Request → Result Reply AskFault → K �
   abbrev pub asks_whole : (whole less : Bool) (qs : List Request) (s t : K) → (less ≡ true → whole ≡ true) → AsksOf Leaves whole qs s t → AsksOf Leaves less qs s t
   asks_whole whole less qs s t h a = record { answered = a.answered; later = a.later; cut = a.cut; in_turn = a.in_turn; all = λ e. a.all (h e) }
 
-  pub asks_less : (whole : Bool) (qs : List Request) (s t : K) (Sent : ℕ → Type 0) → AsksAsSent Leaves whole qs s t Sent → AsksAsSent Leaves false qs s t Sent
+  pub asks_less : (whole : Bool) (qs : List Request) (s t : K) (Sent : List Answered → Type 0) → AsksAsSent Leaves whole qs s t Sent → AsksAsSent Leaves false qs s t Sent
   asks_less whole qs s t Sent a = record { asks = asks_whole whole false qs s t (λ e. absurd cc) a.asks; sent = a.sent }
 
   abbrev asks_some : (qs more all : List Request) (s t : K) → all ≡ qs ++ more → (whole : Bool) → AsksOf Leaves whole qs s t → AsksOf Leaves false all s t
@@ -147,10 +157,10 @@ module _ {K : Type 0} (Leaves : K → Request → Result Reply AskFault → K �
     later = a.later ++ more;
     cut = e ∙ ap (λ l. l ++ more) a.cut ∙ append_assoc (requests_of a.answered) a.later more;
     in_turn = a.in_turn;
-    all = λ e. absurd cc;
+    all = by_nothing ((a.later ++ more ≡ []) × HasMemory a.answered);
   }
 
-  pub asks_no_bytes : (whole : Bool) (s : K) (Sent : ℕ → Type 0) → Sent 0 → AsksAsSent Leaves whole (requests_on []) s s Sent
+  pub asks_no_bytes : (whole : Bool) (s : K) (Sent : List Answered → Type 0) → Sent [] → AsksAsSent Leaves whole (requests_on []) s s Sent
   asks_no_bytes whole s Sent h = subst (λ l. AsksAsSent Leaves whole l s s Sent) (sym requests-none) (record { asks = asks_nothing whole s; sent = h })
 
   -- no more answers than requests
@@ -189,9 +199,20 @@ module _ {K : Type 0} (Leaves : K → Request → Result Reply AskFault → K �
   refused_head j (heads.Method close) result s cause h = subst (λ x. AsksOf Leaves (is_ok result) (requests_in x) s s) (sym cause) (asks_nothing (is_ok result) s)
   refused_head j heads.Memory result s cause h = for_memory result (requests_in j) s (never (heads.Memory ≡ heads.Memory → ⊥) result (λ f. f refl) h)
 
+  -- what was sent of one head's response
+  pub asks_sent : (c : ℕ) (answer : Result Answer Memory) (goes : Bool) (qs : List Request) (s t : K) (talk talk' : Option Talk) → length qs ≤ 1 → IsSent c answer goes talk talk' → AsksOf Leaves (is_ok answer) qs s t → AsksAsSent Leaves goes qs s t (SentBefore c talk talk')
+  asks_sent c (Ok x) goes qs s t talk talk' few h a = record {
+    asks = asks_whole true goes qs s t (λ e. refl) a;
+    sent = before_one c talk talk' a.answered (asks_few true qs s t a few) (a.all refl).1 (some_delivered c (response x) goes talk talk' h);
+  }
+  asks_sent c (Err e) goes qs s t talk talk' few h a = record {
+    asks = asks_whole false goes qs s t (λ on. sym h.0 ∙ on) a;
+    sent = want_by c h.1.0 talk talk' a.answered (asks_few false qs s t a few) h.1.1;
+  }
+
   -- ---- turns
   module _ (c : ℕ) (u r : List ℕ) (skip end used : ℕ) (goes : Bool) (s t : K) (talk talk' : Option Talk) (found : frame (u ++ r) ≡ framed.Head skip end) (total : length u + used ≡ end) (within : used ≤ length r) (front : skip ≤ end)
-      (a : AsksOf Leaves goes (requests_in (judge (slice_range (u ++ take used r) skip (length (u ++ take used r))))) s t) where
+      (a : AsksAsSent Leaves goes (requests_in (judge (slice_range (u ++ take used r) skip (length (u ++ take used r))))) s t (SentBefore c talk talk')) where
     -- the head's own bytes, of which some were unread
     abbrev own : List ℕ
     own = slice_range (u ++ take used r) skip (length (u ++ take used r))
@@ -199,29 +220,29 @@ module _ {K : Type 0} (Leaves : K → Request → Result Reply AskFault → K �
     pub turned_goes : goes ≡ true → closes_behind (judge own) ≡ false → (x : Response) × Spoke c (response_bytes x) false talk talk' → AsksAlong Leaves c (u ++ r) (drop used r) s t talk talk'
     turned_goes on stays said =
         let is = head_bytes u r skip end used total within front in
-        let same : requests_in (judge own) ≡ requests_of a.answered = a.cut ∙ ap (λ l. requests_of a.answered ++ l) (a.all on).0 ∙ append-nil (requests_of a.answered) in
+        let same : requests_in (judge own) ≡ requests_of a.asks.answered = a.asks.cut ∙ ap (λ l. requests_of a.asks.answered ++ l) (a.asks.all on).0 ∙ append-nil (requests_of a.asks.answered) in
         let e : requests_on (u ++ r) ≡ requests_in (judge own) ++ requests_on (drop end (u ++ r)) =
         subst (λ x. requests_on (u ++ r) ≡ requests_in (judge x) ++ requests_on (drop end (u ++ r))) (sym is) (requests-goes_on (u ++ r) skip end found (subst (λ x. closes_behind (judge x) ≡ false) is stays)) in
         record {
-          answered = a.answered;
-          cut = e ∙ ap (λ l. l ++ requests_on (drop end (u ++ r))) same ∙ ap (λ l. requests_of a.answered ++ requests_on l) (behind_head u r end used total);
-          in_turn = a.in_turn;
-          memory = (a.all on).1;
+          answered = a.asks.answered;
+          cut = e ∙ ap (λ l. l ++ requests_on (drop end (u ++ r))) same ∙ ap (λ l. requests_of a.asks.answered ++ requests_on l) (behind_head u r end used total);
+          in_turn = a.asks.in_turn;
+          memory = (a.asks.all on).1;
           sent = said.0 ∷ [];
           spoke = subst (λ l. Spoke c l false talk talk') (sym (append-nil (response_bytes said.0))) said.1;
-          enough = asks_few goes (requests_in (judge own)) s t a (requests_few (judge own));
+          enough = asks_few goes (requests_in (judge own)) s t a.asks (requests_few (judge own));
         }
 
-    pub turned_stops : Some_said c talk talk' → AsksAsSent Leaves false (requests_on (u ++ r)) s t (SentBefore c talk talk')
-    turned_stops said =
+    pub turned_stops : AsksAsSent Leaves false (requests_on (u ++ r)) s t (SentBefore c talk talk')
+    turned_stops =
         let x = requests-head (u ++ r) skip end found in
         record {
-          asks = asks_some (requests_in (judge own)) x.0 (requests_on (u ++ r)) s t (x.1 ∙ ap (λ l. requests_in (judge l) ++ x.0) (sym (head_bytes u r skip end used total within front))) goes a;
-          sent = before_one c talk talk' (length a.answered) (asks_few goes (requests_in (judge own)) s t a (requests_few (judge own))) said;
+          asks = asks_some (requests_in (judge own)) x.0 (requests_on (u ++ r)) s t (x.1 ∙ ap (λ l. requests_in (judge l) ++ x.0) (sym (head_bytes u r skip end used total within front))) goes a.asks;
+          sent = a.sent;
         }
 
-  nothing_stops : (c : ℕ) (qs : List Request) (s : K) (talk talk' : Option Talk) → Some_said c talk talk' → AsksAsSent Leaves false qs s s (SentBefore c talk talk')
-  nothing_stops c qs s talk talk' h = record { asks = asks_none qs s; sent = before_one c talk talk' 0 (omega arith) h }
+  pub nothing_stops : (c : ℕ) (qs : List Request) (s : K) (talk talk' : Option Talk) → Some_said c talk talk' → AsksAsSent Leaves false qs s s (SentBefore c talk talk')
+  nothing_stops c qs s talk talk' h = record { asks = asks_none qs s; sent = before_one c talk talk' [] (omega arith) (All-nil (λ (a : Answered). is_want a.1 ≡ false)) h }
 
   pub turned_held : (c : ℕ) (u r u' : List ℕ) (turn : Turn) (s : K) (talk talk' : Option Talk) → frame (u ++ r) ≡ framed.More → IsHeld c u r turn u' talk talk' → AsksBy Leaves c u r turn s s talk talk'
   turned_held c u r u' (turns.Next i) s talk talk' f h = absurd h
@@ -265,6 +286,7 @@ module _ {K : Type 0} (Leaves : K → Request → Result Reply AskFault → K �
       fails = false;
       spoke = subst (λ l. Spoke c l false talk talk') (sym (append-nil (all_bytes h.sent))) (subst (Spoke c (all_bytes h.sent) false talk) (sym end.2) h.spoke);
       enough = omega (arith, h.enough);
+      memory = inl h.memory;
     };
   }
 
@@ -284,11 +306,12 @@ module _ {K : Type 0} (Leaves : K → Request → Result Reply AskFault → K �
       spoke = subst (λ l. Spoke c l a.sent.fails talk talk') (sym (ap (λ l. l ++ a.sent.part) (bytes_both h.sent a.sent.sent) ∙ append_assoc (all_bytes h.sent) (all_bytes a.sent.sent) a.sent.part))
           (spoke_both c (all_bytes h.sent) (all_bytes a.sent.sent ++ a.sent.part) a.sent.fails talk mid talk' h.spoke a.sent.spoke);
       enough = omega (arith, h.enough, a.sent.enough, length-append h.answered a.asks.answered, length-append h.sent a.sent.sent);
+      memory = memory_both h.answered a.asks.answered ((a.sent.fails ≡ true) ⊎ (a.sent.part ≡ memory_bytes)) h.memory a.sent.memory;
     };
   }
 
   -- ---- a piece
-  pub asks_counted : (whole : Bool) (old : Left) (taken : ℕ) (unread piece counted : List ℕ) (s t : K) (Sent : ℕ → Type 0) → record { taken = taken; unread = unread } ≡ old → counted ≡ take (MAX_CONNECTION_BYTES - taken) piece
+  pub asks_counted : (whole : Bool) (old : Left) (taken : ℕ) (unread piece counted : List ℕ) (s t : K) (Sent : List Answered → Type 0) → record { taken = taken; unread = unread } ≡ old → counted ≡ take (MAX_CONNECTION_BYTES - taken) piece
       → AsksAsSent Leaves whole (requests_on (unread ++ counted)) s t Sent → AsksAsSent Leaves whole (requests_on (old.unread ++ take (MAX_CONNECTION_BYTES - old.taken) piece)) s t Sent
   asks_counted whole old taken unread piece counted s t Sent is e a =
       subst (λ (l : Left). AsksAsSent Leaves whole (requests_on (l.unread ++ take (MAX_CONNECTION_BYTES - l.taken) piece)) s t Sent) is (subst (λ x. AsksAsSent Leaves whole (requests_on (unread ++ x)) s t Sent) e a)
@@ -337,26 +360,21 @@ standing told e reads faults = record { told = told; engine = e; reads = reads; 
 pub stands_so : (b b' : Option (List ℕ)) (e e' : EngineView) (m m' n n' : ℕ) → b ≡ b' → e ≡ e' → m ≡ m' → n ≡ n' → standing b e m n ≡ standing b' e' m' n'
 stands_so b b' e e' m m' n n' h i j k = ap (λ x. standing x e m n) h ∙ ap (λ x. standing b' x m n) i ∙ ap (λ x. standing b' e' x n) j ∙ ap (standing b' e' m') k
 
-abbrev Within : Bool → List Request → (ℕ → Type 0) → Standing → Standing → Type 0
+abbrev Within : Bool → List Request → (List Answered → Type 0) → Standing → Standing → Type 0
 Within whole qs Sent s t = AnswersWithin s.told whole qs s.engine t.engine s.reads t.reads s.faults t.faults Sent
 
-within_due : (whole : Bool) (qs : List Request) (s t : Standing) (Sent : ℕ → Type 0) → AsksAsSent EngineLeaves whole qs s t Sent → Within whole qs Sent s t
+within_due : (whole : Bool) (qs : List Request) (s t : Standing) (Sent : List Answered → Type 0) → AsksAsSent EngineLeaves whole qs s t Sent → Within whole qs Sent s t
 within_due whole qs s t Sent a =
     let sum = sum_of a.asks.answered s t a.asks.in_turn in
     record { answered = a.asks.answered; later = a.asks.later; cut = a.asks.cut; all = a.asks.all; n = sum.n; are_due = sum.are_due; reads = sum.reads; rose = sum.rose; sent = a.sent }
 
 -- the same of an engine and counts that are these
-pub within_for : (whole : Bool) (qs : List Request) (s t : Standing) (told : Option (List ℕ)) (old new : EngineView) (before now failed failed' : ℕ) (Sent : ℕ → Type 0) → s ≡ standing told old before failed → t ≡ standing t.told new now failed'
+pub within_for : (whole : Bool) (qs : List Request) (s t : Standing) (told : Option (List ℕ)) (old new : EngineView) (before now failed failed' : ℕ) (Sent : List Answered → Type 0) → s ≡ standing told old before failed → t ≡ standing t.told new now failed'
     → AsksAsSent EngineLeaves whole qs s t Sent → AnswersWithin told whole qs old new before now failed failed' Sent
 within_for whole qs s t told old new before now failed failed' Sent e f a =
     subst (λ x. Within whole qs Sent x (standing t.told new now failed')) e (subst (Within whole qs Sent s) f (within_due whole qs s t Sent a))
 
 -- ---- responses
--- where the connection goes on there was a response
-pub sent_ok : (c : ℕ) (answer : Result Answer Memory) (goes : Bool) (talk talk' : Option Talk) → IsSent c answer goes talk talk' → goes ≡ true → is_ok answer ≡ true
-sent_ok c (Ok a) goes talk talk' h on = refl
-sent_ok c (Err e) goes talk talk' h on = absurd (let x : true ≡ false = sym on ∙ h.0 in cc)
-
 open_by : (c : ℕ) (r : Response) (goes : Bool) (talk talk' : Option Talk) → Delivered c r goes talk talk' → goes ≡ true → r.closes ≡ false
 open_by c r true talk talk' h on = h.0
 open_by c r false talk talk' h on = absurd cc

@@ -1,14 +1,13 @@
 -- What is asked of an answerer, one request after the other.
 --
 --   InTurn Leaves xs s t    requests with these answers led from the state s to t, each by Leaves
---   HasMemory xs            none of the answers is want of memory
 --   AsksOf Leaves whole qs s t      some first ones of the requests did, and where `whole` all
 --   AsksAsSent Leaves whole qs s t Sent   the same, of as many as Sent says
 --   AsksAlong Leaves c b left s t   those of the bytes b before the bytes that are left did, each answered so
 --   AsksBy                  what a turn asked, by what it gave
 --   Standing                an engine over its store, as it stands between requests
 --   EngineLeaves s q r t    a request was asked of an engine over its store
-use Rattle.std.specs.Prelude.{◌≡◌, ℕ, ◌≤◌, Bool, true, false, List, [], ◌∷◌, ◌++◌, length, drop, All, Option, Result}
+use Rattle.std.specs.Prelude.{◌≡◌, ℕ, ◌≤◌, Bool, true, false, List, [], ◌∷◌, ◌++◌, length, drop, Option, Result}
 use Rattle.cs_base.specs.outside.Causes.{ReadsWithin}
 use Rattle.cs_base.specs.outside.Hub.{Talk}
 use Rattle.cs_engine.specs.Asking.{is_read}
@@ -20,7 +19,7 @@ use Rattle.cs_model.specs.Requests.{Request}
 use Rattle.cs_model_serving.specs.Responses.{Response, all_bytes}
 use Rattle.cs_hub.specs.declared.reading.Turn.{Turn}
 use Rattle.cs_hub.specs.declared.reading.Turn.TheVariants as turns
-use Rattle.cs_hub.specs.DueReads.{Answered, IsDue, SentBefore, is_want, requests_of, requests_on}
+use Rattle.cs_hub.specs.DueReads.{Answered, HasMemory, IsDue, SentBefore, requests_of, requests_on}
 use Rattle.cs_hub.specs.Speaking.{Spoke}
 
 module _ {K : Type 0} (Leaves : K → Request → Result Reply AskFault → K → Type 0) where
@@ -28,10 +27,6 @@ module _ {K : Type 0} (Leaves : K → Request → Result Reply AskFault → K �
   abbrev pub InTurn : List Answered → K → K → Type 0
   InTurn [] s t = t ≡ s
   InTurn (a ∷ xs) s t = (mid : K) × Leaves s a.0 a.1 mid × InTurn xs mid t
-
--- of no answers none is
-abbrev pub HasMemory : List Answered → Type 0
-HasMemory xs = All (λ a. is_want a.1 ≡ false) xs
 
 -- the requests behind them aren't asked, as where a send failed or memory ran out; where `whole` there are none behind, and memory
 -- didn't run out
@@ -43,9 +38,9 @@ pub record AsksOf {K : Type 0} (Leaves : K → Request → Result Reply AskFault
   pub all : whole ≡ true → (later ≡ []) × HasMemory answered
 
 -- so many were asked as what was sent between the two states allows
-pub record AsksAsSent {K : Type 0} (Leaves : K → Request → Result Reply AskFault → K → Type 0) (whole : Bool) (qs : List Request) (s t : K) (Sent : ℕ → Type 0) : Type 0 where
+pub record AsksAsSent {K : Type 0} (Leaves : K → Request → Result Reply AskFault → K → Type 0) (whole : Bool) (qs : List Request) (s t : K) (Sent : List Answered → Type 0) : Type 0 where
   pub asks : AsksOf Leaves whole qs s t
-  pub sent : Sent (length asks.answered)
+  pub sent : Sent asks.answered
 
 -- the requests of the bytes that are left come behind them, and only whole responses were sent, as many as requests or more
 pub record AsksAlong {K : Type 0} (Leaves : K → Request → Result Reply AskFault → K → Type 0) (c : ℕ) (b left : List ℕ) (s t : K) (talk talk' : Option Talk) : Type 0 where

@@ -20,10 +20,11 @@
 --   IsRightOver b q e r e'  over the bytes b of the index: the right reply, and what is kept behind it
 --   IsDue told a e n e'     n reads are due for a request of the engine e with this answer, which leaves the engine e'
 --   AreDue told xs e n e'   the same of requests that are asked one after the other
---   SentBefore c n          all responses to n requests but the last were sent whole on the connection c
---   SentAt event n          the same where the event is a piece
+--   HasMemory xs            none of the answers is want of memory
+--   SentBefore c xs         all responses to the requests but the last were sent whole on the connection c
+--   SentAt event xs         the same where the event is a piece
 --   AnswersWithin           some first requests were answered, and no more was read than is due for them
-use Rattle.std.specs.Prelude.{◌≡◌, ℕ, suc, ◌+◌, ◌-◌, ◌≤◌, Bool, true, false, cond, List, [], ◌∷◌, ◌++◌, map, length, take, drop, slice_range, All, Option, Some, None, is_some, Result, Ok, Err, IfOk}
+use Rattle.std.specs.Prelude.{◌≡◌, ◌⊎◌, ℕ, suc, ◌+◌, ◌-◌, ◌≤◌, Bool, true, false, cond, List, [], ◌∷◌, ◌++◌, map, length, take, drop, slice_range, All, Option, Some, None, is_some, Result, Ok, Err, IfOk}
 use Prim.Native.Nat.{zero}
 use Rattle.std.specs.List.{flat_map}
 use Rattle.std.specs.Option.{ForSome}
@@ -43,7 +44,7 @@ use Rattle.cs_model_serving.specs.declared.framed.Framed.TheVariants.{Head, More
 use Rattle.cs_model_serving.specs.Connections.{Left}
 use Rattle.cs_model_serving.specs.Framing.{frame}
 use Rattle.cs_model_serving.specs.Heads.{Judgement, refused, asks, judge}
-use Rattle.cs_model_serving.specs.Responses.{Response, all_bytes, to_refused}
+use Rattle.cs_model_serving.specs.Responses.{Response, all_bytes, memory_bytes, to_refused}
 use Rattle.cs_engine.specs.declared.fault.AskFault.{AskFault}
 use Rattle.cs_engine.specs.declared.fault.AskFault.TheVariants as faults
 use Rattle.cs_engine.specs.declared.note.Note.{Note}
@@ -158,31 +159,37 @@ AreDue told [] old n new = (n ≡ 0) × (new ≡ old)
 AreDue told (a ∷ xs) old n new = (one : ℕ) × (others : ℕ) × (mid : EngineView) × (n ≡ one + others) × IsDue told a old one mid × AreDue told xs mid others new
 
 -- ---- between answers
--- on the connection at least so many whole responses less one were sent, and perhaps bytes behind them: so behind a response that
--- wasn't sent whole no request was asked; of one request it says nothing about responses
-pub record SentBefore (c : ℕ) (talk talk' : Option Talk) (n : ℕ) : Type 0 where
+-- of no answers none is
+abbrev pub HasMemory : List Answered → Type 0
+HasMemory xs = All (λ a. is_want a.1 ≡ false) xs
+
+-- on the connection at least as many whole responses as answers less one were sent, and perhaps bytes behind them: so behind a
+-- response that wasn't sent whole no request was asked. Want of memory is told: no answer is one, unless a send failed or the
+-- memory response came last
+pub record SentBefore (c : ℕ) (talk talk' : Option Talk) (answered : List Answered) : Type 0 where
   pub sent : List Response
   pub part : List ℕ
   pub fails : Bool
   pub spoke : Spoke c (all_bytes sent ++ part) fails talk talk'
-  pub enough : n ≤ suc (length sent)
+  pub enough : length answered ≤ suc (length sent)
+  pub memory : HasMemory answered ⊎ (fails ≡ true) ⊎ (part ≡ memory_bytes)
 
 -- at an event that is no piece nothing is asked
-abbrev pub SentAt : Event → Option Talk → Option Talk → ℕ → Type 0
-SentAt (Opened c) talk talk' n = n ≡ 0
-SentAt (Piece c m) talk talk' n = SentBefore c talk talk' n
-SentAt (Ended c) talk talk' n = n ≡ 0
-SentAt Over talk talk' n = n ≡ 0
+abbrev pub SentAt : Event → Option Talk → Option Talk → List Answered → Type 0
+SentAt (Opened c) talk talk' answered = answered ≡ []
+SentAt (Piece c m) talk talk' answered = SentBefore c talk talk' answered
+SentAt (Ended c) talk talk' answered = answered ≡ []
+SentAt Over talk talk' answered = answered ≡ []
 
 -- some first ones of these requests were answered, as many as were sent; where `whole` all of them and none met want of memory. No
 -- more was read than is due for them, and no more answers are failed reads than the count of failures rose by
-pub record AnswersWithin (told : Option (List ℕ)) (whole : Bool) (qs : List Request) (old new : EngineView) (before now failed failed' : ℕ) (Sent : ℕ → Type 0) : Type 0 where
+pub record AnswersWithin (told : Option (List ℕ)) (whole : Bool) (qs : List Request) (old new : EngineView) (before now failed failed' : ℕ) (Sent : List Answered → Type 0) : Type 0 where
   pub answered : List Answered
   pub later : List Request
   pub cut : qs ≡ requests_of answered ++ later
-  pub all : whole ≡ true → (later ≡ []) × All (λ a. is_want a.1 ≡ false) answered
+  pub all : whole ≡ true → (later ≡ []) × HasMemory answered
   pub n : ℕ
   pub are_due : AreDue told answered old n new
   pub reads : ReadsWithin n before now
   pub rose : RoseBy (failed_reads answered) failed failed'
-  pub sent : Sent (length answered)
+  pub sent : Sent answered

@@ -1,5 +1,5 @@
 use Rattle.std.proofs.Common.{◌≡◌, refl, sym, subst}
-use Rattle.std.specs.Prelude.{None, true}
+use Rattle.std.specs.Prelude.{[], None, true}
 use Rattle.cs_base.specs.declared.outside.hub.Event.{Event}
 use Rattle.cs_base.specs.declared.outside.hub.Event.TheVariants.{Opened, Piece, Ended}
 use Rattle.cs_hub.specs.Asked.{AsksAsSent}
@@ -61,17 +61,17 @@ returns-in-Over-clause-follows g c = λ k over.
 pub returns-in-Opened-clause-asked : goal.returns-in-Opened-clause-asked
 returns-in-Opened-clause-asked g c =
     let kept = g.A.Answerer.kept c.args.answerer.now in
-    subst (λ (v : Event). AsksAsSent g.A.Answerer.leaves (goes_on c.open.new.self v) (requests_on (bytes_to_answer c.args.self.now v c.args.piece.now)) kept kept (SentAt v (g.H.Hub.talk c.args.hub.now) (g.H.Hub.talk c.open.new.hub))) (sym c.in-Opened.is) (asks_no_bytes g.A.Answerer.leaves true kept (λ n. n ≡ 0) refl)
+    subst (λ (v : Event). AsksAsSent g.A.Answerer.leaves (goes_on c.open.new.self v) (requests_on (bytes_to_answer c.args.self.now v c.args.piece.now)) kept kept (SentAt v (g.H.Hub.talk c.args.hub.now) (g.H.Hub.talk c.open.new.hub))) (sym c.in-Opened.is) (asks_no_bytes g.A.Answerer.leaves true kept (λ xs. xs ≡ []) refl)
 
 pub returns-in-Ended-clause-asked : goal.returns-in-Ended-clause-asked
 returns-in-Ended-clause-asked g c =
     let kept = g.A.Answerer.kept c.args.answerer.now in
-    subst (λ (v : Event). AsksAsSent g.A.Answerer.leaves (goes_on c.forget.new.self v) (requests_on (bytes_to_answer c.args.self.now v c.args.piece.now)) kept kept (SentAt v (g.H.Hub.talk c.args.hub.now) (g.H.Hub.talk c.args.hub.now))) (sym c.in-Ended.is) (asks_no_bytes g.A.Answerer.leaves true kept (λ n. n ≡ 0) refl)
+    subst (λ (v : Event). AsksAsSent g.A.Answerer.leaves (goes_on c.forget.new.self v) (requests_on (bytes_to_answer c.args.self.now v c.args.piece.now)) kept kept (SentAt v (g.H.Hub.talk c.args.hub.now) (g.H.Hub.talk c.args.hub.now))) (sym c.in-Ended.is) (asks_no_bytes g.A.Answerer.leaves true kept (λ xs. xs ≡ []) refl)
 
 pub returns-in-Over-clause-asked : goal.returns-in-Over-clause-asked
 returns-in-Over-clause-asked g c =
     let kept = g.A.Answerer.kept c.args.answerer.now in
-    subst (λ (v : Event). AsksAsSent g.A.Answerer.leaves (goes_on c.close_all.new.self v) (requests_on (bytes_to_answer c.args.self.now v c.args.piece.now)) kept kept (SentAt v (g.H.Hub.talk c.args.hub.now) (g.H.Hub.talk c.close_all.new.hub))) (sym c.in-Over.is) (asks_no_bytes g.A.Answerer.leaves true kept (λ n. n ≡ 0) refl)
+    subst (λ (v : Event). AsksAsSent g.A.Answerer.leaves (goes_on c.close_all.new.self v) (requests_on (bytes_to_answer c.args.self.now v c.args.piece.now)) kept kept (SentAt v (g.H.Hub.talk c.args.hub.now) (g.H.Hub.talk c.close_all.new.hub))) (sym c.in-Over.is) (asks_no_bytes g.A.Answerer.leaves true kept (λ xs. xs ≡ []) refl)
 
 pub returns-in-Piece-clause-asked : goal.returns-in-Piece-clause-asked
 returns-in-Piece-clause-asked g c =
