@@ -1,6 +1,6 @@
 -- Which requests are answered of the bytes of a connection, and how much may be read for them.
 --
--- Source: this engine's own. `heads-served` in `proofs/HeadsLemmas.antt` says that what is served of bytes is the responses to
+-- Source: this engine's own. The law `heads_are_served` in `src/laws.rt` says that what is served of bytes is the responses to
 -- these heads.
 --
 --   closes_behind j         the connection is closed after the response to the judgement
