@@ -1,26 +1,35 @@
 -- What is asked, from one request to all those of a step.
 --
+--   requests_both, requests_length, requests_few     the requests of answers; those of a head are one or none
+--   some_said, some_starved, some_delivered, some_refused      what was sent, whatever it was
+--   replied_open                  where the connection goes on a whole response was sent
+--   before_one, want_by, memory_both      what was sent for one request, and want of memory
 --   in_turn_both                  requests behind requests
---   asks_none, asks_nothing, asks_one, asks_whole, asks_no_bytes      none, none of none, one; where less is claimed; none of no bytes
+--   asks_none, asks_nothing, asks_one, asks_whole, asks_less, asks_no_bytes      none, none of none, one; where less is claimed; none of no bytes
 --   asks_params, refused_params, asks_head, refused_head      what parameters and a head ask
 --   along_start, along_next, along_hold, along_stop    the way through the bytes
+--   asks_few, asks_sent           one head asks at most one request
 --   turned_goes, turned_stops     a head was answered
---   turned_held                   no head ends there
---   asks_counted                  the bytes of a piece that count
---   sent_ok, sent_open, refused_close      what is known of a response by what was sent
---   engine_leaves                 an engine was asked once
+--   nothing_stops, turned_held, turned_long      nothing was asked; no head ends there
+--   asks_counted, asks_of_line    the bytes of a piece that count, and of a connection that is kept
+--   sent_open, refused_close      what is known of a response by what was sent
+--   few_titles, read_in           one answer of an engine
+--   standing, stands_so           how an engine stands
 --   within_due, within_for        an engine asked so reads no more than is due
-use Rattle.std.proofs.Common.{◌≡◌, ℕ, ◌+◌, ◌-◌, ◌≤◌, Bool, true, false, List, [], ◌∷◌, ◌++◌, length, take, drop, slice_range, refl, sym, ◌∙◌, ap, subst, arith, append_assoc, append-nil}
-use Rattle.std.specs.Prelude.{Option, Some, None, Result, Ok, Err, IfOk, is_ok}
+use Rattle.std.proofs.Common.{◌≡◌, ℕ, ◌+◌, ◌-◌, ◌≤◌, Bool, true, false, List, [], ◌∷◌, ◌++◌, length, take, drop, slice_range, refl, sym, ◌∙◌, ap, subst, arith, append_assoc, append-nil, inl, inr, length-append}
+use Rattle.std.specs.Prelude.{◌⊎◌, suc, ◌<◌, cond, slice_set, is_some, Option, Some, None, Result, Ok, Err, IfOk, is_ok}
+use Rattle.std.proofs.lemmas.List.Elements.{All-append, All-cons, All-nil}
 use Rattle.std.specs.FinMap as map
 use Rattle.cs_base.specs.declared.content.limits.TheConstants.{MAX_CONNECTION_BYTES}
 use Rattle.cs_base.specs.declared.memory.Memory.{Memory}
 use Rattle.cs_base.specs.outside.Causes.{ReadsWithin}
 use Rattle.cs_base.specs.outside.Hub.{Talk}
-use Rattle.cs_engine.specs.Asking.{division, titles_of}
-use Rattle.cs_engine.specs.Keeping.{EngineView, Keeps, note_plan}
+use Rattle.cs_engine.specs.Asking.{is_read, titles_of}
+use Rattle.cs_engine.specs.Keeping.{EngineView}
 use Rattle.cs_engine.specs.declared.fault.AskFault.{AskFault}
+use Rattle.cs_engine.specs.declared.fault.AskFault.TheVariants as refusals
 use Rattle.cs_engine.specs.declared.note.Note.{Note}
+use Rattle.cs_file.specs.Indexes.{CausedReads}
 use Rattle.cs_http.specs.Judging.{IsHeadCause}
 use Rattle.cs_http.specs.Refusing.{IsCause}
 use Rattle.cs_http.specs.declared.heads.HeadFault.{HeadFault}
@@ -29,58 +38,138 @@ use Rattle.cs_model.specs.Corpus.{Corpus}
 use Rattle.cs_model.specs.Parameters.{RequestRefusal, request_of, request_refusal}
 use Rattle.cs_model.specs.Replies.{Reply}
 use Rattle.cs_model.specs.Requests.{Request}
-use Rattle.cs_model_kept.specs.Due.{due}
 use Rattle.cs_model_serving.specs.declared.framed.Framed.TheVariants as framed
 use Rattle.cs_model_serving.specs.Connections.{Left}
 use Rattle.cs_model_serving.specs.Framing.{frame}
-use Rattle.cs_model_serving.specs.Heads.{Judgement, asks, judge}
-use Rattle.cs_model_serving.specs.Responses.{Response}
+use Rattle.cs_model_serving.specs.Heads.{Judgement, refused, asks, judge}
+use Rattle.cs_model_serving.specs.Responses.{Response, all_bytes, memory_bytes, response_bytes, too_long}
 use Rattle.cs_query.specs.declared.request.ReqFault.{ReqFault}
 use Rattle.cs_query.specs.declared.request.ReqFault.TheVariants as faults
-use Rattle.cs_hub.specs.Asked.{InTurn, AsksOf, AsksAlong, AsksBy, EngineLeaves}
-use Rattle.cs_hub.specs.DueReads.{AnswersWithin, AreDue, closes_behind, requests_by, requests_in, requests_on}
+use Rattle.cs_hub.specs.Asked.{InTurn, AsksOf, AsksAsSent, AsksAlong, AsksBy, Standing, EngineLeaves}
+use Rattle.cs_hub.specs.DueReads.{Answered, AnswersWithin, AreDue, HasMemory, SentBefore, bytes_behind, closes_behind, failed_reads, is_want, reply_in, requests_by, requests_in, requests_of, requests_on}
+use Rattle.cs_hub.specs.Following.{Slots, left_at}
 use Rattle.cs_hub.specs.Responding.{response, IsJudgedSo}
-use Rattle.cs_hub.specs.Turns.{Delivered, IsHeld, IsSent}
+use Rattle.cs_hub.specs.Speaking.{Said, Spoke, Starved}
+use Rattle.cs_hub.specs.Streams.{RoseBy}
+use Rattle.cs_hub.specs.Turns.{Delivered, IsHeld, IsRefused, IsSent, Replied}
 use Rattle.cs_hub.specs.declared.answer.Answer.{Answer}
 use Rattle.cs_hub.specs.declared.reading.Turn.{Turn}
 use Rattle.cs_hub.specs.declared.reading.Turn.TheVariants as turns
 use Rattle.cs_hub.proofs.HeadsLemmas.{closes_by, requests-more, requests-head, requests-goes_on, requests-none}
+use Rattle.cs_hub.proofs.ServedLemmas.{bytes_both}
+use Rattle.cs_hub.proofs.SpeakLemmas.{itself, rose_both, rose_none, rose_one, spoke_both, spoke_nothing}
+use Rattle.cs_hub.proofs.SlotLemmas.{set_at}
 use Rattle.cs_hub.proofs.TurnLemmas.{head_bytes, behind_head}
 
-module _ {K : Type 0} (Leaves : K → Request → K → Type 0) where
-  pub in_turn_both : (xs ys : List Request) (s t u : K) → InTurn Leaves xs s t → InTurn Leaves ys t u → InTurn Leaves (xs ++ ys) s u
+-- ---- requests
+pub requests_both : (xs ys : List Answered) → requests_of (xs ++ ys) ≡ requests_of xs ++ requests_of ys
+requests_both [] ys = refl
+requests_both (x ∷ xs) ys = ap (λ l. x.0 ∷ l) (requests_both xs ys)
+
+pub requests_length : (xs : List Answered) → length (requests_of xs) ≡ length xs
+requests_length [] = refl
+requests_length (a ∷ xs) = ap suc (requests_length xs)
+
+few_by : (p : List ℕ) (r : Option RequestRefusal) → length (requests_by p r) ≤ 1
+few_by p None = omega arith
+few_by p (Some r) = omega arith
+
+pub requests_few : (j : Judgement) → length (requests_in j) ≤ 1
+requests_few (refused r) = omega arith
+requests_few (asks p close) = few_by p (request_refusal p)
+
+-- ---- what was sent
+-- something was sent on the connection, whole or not, perhaps nothing
+abbrev pub Some_said : ℕ → Option Talk → Option Talk → Type 0
+Some_said c talk talk' = (part : List ℕ) × (fails : Bool) × Spoke c part fails talk talk'
+
+pub some_said : (c : ℕ) (text : List ℕ) (whole : Bool) (talk talk' : Option Talk) → Said c text whole talk talk' → Some_said c talk talk'
+some_said c text true talk talk' h = (text, false, h)
+some_said c text false talk talk' h = (take h.0 text, true, h.1)
+
+pub some_starved : (c : ℕ) (talk talk' : Option Talk) → Starved c talk talk' → Some_said c talk talk'
+some_starved c talk talk' h = some_said c memory_bytes h.0 talk talk' h.1
+
+pub some_delivered : (c : ℕ) (r : Response) (goes : Bool) (talk talk' : Option Talk) → Delivered c r goes talk talk' → Some_said c talk talk'
+some_delivered c r true talk talk' h = (response_bytes r, false, h.1)
+some_delivered c r false talk talk' (inl h) = (response_bytes r, false, h.1)
+some_delivered c r false talk talk' (inr (inl h)) = (take h.0 (response_bytes r), true, h.1)
+some_delivered c r false talk talk' (inr (inr h)) = some_starved c talk talk' h
+
+pub some_refused : (c : ℕ) (talk talk' : Option Talk) → IsRefused c talk talk' → Some_said c talk talk'
+some_refused c talk talk' (inl h) = some_delivered c too_long h.0 talk talk' h.1
+some_refused c talk talk' (inr h) = some_starved c talk talk' h
+
+whole_by : (c : ℕ) (r : Response) (goes : Bool) (talk talk' : Option Talk) → Delivered c r goes talk talk' → goes ≡ true → Spoke c (response_bytes r) false talk talk'
+whole_by c r true talk talk' h on = h.1
+whole_by c r false talk talk' h on = absurd cc
+
+pub replied_open : (Over : Corpus → Type 0) (c : ℕ) (right : Corpus → Response) (goes : Bool) (m n : ℕ) (talk talk' : Option Talk) → goes ≡ true → Replied Over c right goes m n talk talk' → (r : Response) × Spoke c (response_bytes r) false talk talk'
+replied_open Over c right goes m n talk talk' on (inl h) = (h.0, whole_by c h.0 goes talk talk' h.2 on)
+replied_open Over c right goes m n talk talk' on (inr h) = absurd (let x : true ≡ false = sym on ∙ h.0 in cc)
+
+-- of one request nothing is said about responses, only of memory
+before_one : (c : ℕ) (talk talk' : Option Talk) (xs : List Answered) → length xs ≤ 1 → HasMemory xs → Some_said c talk talk' → SentBefore c talk talk' xs
+before_one c talk talk' xs few memory h = record { sent = []; part = h.0; fails = h.1; spoke = h.2; enough = omega (arith, few); memory = inl memory }
+
+want_by : (c : ℕ) (whole : Bool) (talk talk' : Option Talk) (xs : List Answered) → length xs ≤ 1 → Said c memory_bytes whole talk talk' → SentBefore c talk talk' xs
+want_by c true talk talk' xs few h = record { sent = []; part = memory_bytes; fails = false; spoke = h; enough = omega (arith, few); memory = inr (inr refl) }
+want_by c false talk talk' xs few h = record { sent = []; part = take h.0 memory_bytes; fails = true; spoke = h.1; enough = omega (arith, few); memory = inr (inl refl) }
+
+memory_both : (xs ys : List Answered) (P : Type 0) → HasMemory xs → HasMemory ys ⊎ P → HasMemory (xs ++ ys) ⊎ P
+memory_both xs ys P h (inl k) = inl (All-append (λ (a : Answered). is_want a.1 ≡ false) xs ys h k)
+memory_both xs ys P h (inr p) = inr p
+
+-- nothing follows from what can't be
+pub by_nothing : (P : Type 0) → false ≡ true → P
+by_nothing P e = absurd cc
+
+module _ {K : Type 0} (Leaves : K → Request → Result Reply AskFault → K → Type 0) where
+  pub in_turn_both : (xs ys : List Answered) (s t u : K) → InTurn Leaves xs s t → InTurn Leaves ys t u → InTurn Leaves (xs ++ ys) s u
   in_turn_both [] ys s t u h k = subst (λ x. InTurn Leaves ys x u) h k
   in_turn_both (x ∷ xs) ys s t u h k = (h.0, h.1, in_turn_both xs ys h.0 t u h.2 k)
 
   -- ---- some first requests
-  pub asks_none : (qs : List Request) (s : K) → AsksOf Leaves false qs s s
-  asks_none qs s = record { first = []; later = qs; cut = refl; in_turn = refl; all = λ e. absurd cc }
+  abbrev pub asks_none : (qs : List Request) (s : K) → AsksOf Leaves false qs s s
+  asks_none qs s = record { answered = []; later = qs; cut = refl; in_turn = refl; all = by_nothing ((qs ≡ []) × HasMemory []) }
 
-  pub asks_nothing : (whole : Bool) (s : K) → AsksOf Leaves whole [] s s
-  asks_nothing whole s = record { first = []; later = []; cut = refl; in_turn = refl; all = λ e. refl }
+  abbrev pub asks_nothing : (whole : Bool) (s : K) → AsksOf Leaves whole [] s s
+  asks_nothing whole s = record { answered = []; later = []; cut = refl; in_turn = refl; all = λ e. (refl, All-nil (λ (a : Answered). is_want a.1 ≡ false)) }
 
-  pub asks_one : (whole : Bool) (q : Request) (s t : K) → Leaves s q t → AsksOf Leaves whole (q ∷ []) s t
-  asks_one whole q s t h = record { first = q ∷ []; later = []; cut = refl; in_turn = (t, h, refl); all = λ e. refl }
-
-  pub asks_whole : (whole less : Bool) (qs : List Request) (s t : K) → (less ≡ true → whole ≡ true) → AsksOf Leaves whole qs s t → AsksOf Leaves less qs s t
-  asks_whole whole less qs s t h a = record { first = a.first; later = a.later; cut = a.cut; in_turn = a.in_turn; all = λ e. a.all (h e) }
-
-  asks_some : (qs more all : List Request) (s t : K) → all ≡ qs ++ more → (whole : Bool) → AsksOf Leaves whole qs s t → AsksOf Leaves false all s t
-  asks_some qs more all s t e whole a = record {
-    first = a.first;
-    later = a.later ++ more;
-    cut = e ∙ ap (λ l. l ++ more) a.cut ∙ append_assoc a.first a.later more;
-    in_turn = a.in_turn;
-    all = λ e. absurd cc;
+  pub asks_one : (whole : Bool) (q : Request) (r : Result Reply AskFault) (s t : K) → Leaves s q r t → (whole ≡ true → is_want r ≡ false) → AsksOf Leaves whole (q ∷ []) s t
+  asks_one whole q r s t h memory = record {
+    answered = (q, r) ∷ [];
+    later = [];
+    cut = refl;
+    in_turn = (t, h, refl);
+    all = λ e. (refl, All-cons (λ (a : Answered). is_want a.1 ≡ false) (q, r) [] (memory e) (All-nil (λ (a : Answered). is_want a.1 ≡ false)));
   }
 
-  pub asks_no_bytes : (whole : Bool) (s : K) → AsksOf Leaves whole (requests_on []) s s
-  asks_no_bytes whole s = subst (λ l. AsksOf Leaves whole l s s) (sym requests-none) (asks_nothing whole s)
+  abbrev pub asks_whole : (whole less : Bool) (qs : List Request) (s t : K) → (less ≡ true → whole ≡ true) → AsksOf Leaves whole qs s t → AsksOf Leaves less qs s t
+  asks_whole whole less qs s t h a = record { answered = a.answered; later = a.later; cut = a.cut; in_turn = a.in_turn; all = λ e. a.all (h e) }
+
+  pub asks_less : (whole : Bool) (qs : List Request) (s t : K) (Sent : List Answered → Type 0) → AsksAsSent Leaves whole qs s t Sent → AsksAsSent Leaves false qs s t Sent
+  asks_less whole qs s t Sent a = record { asks = asks_whole whole false qs s t (λ e. absurd cc) a.asks; sent = a.sent }
+
+  abbrev asks_some : (qs more all : List Request) (s t : K) → all ≡ qs ++ more → (whole : Bool) → AsksOf Leaves whole qs s t → AsksOf Leaves false all s t
+  asks_some qs more all s t e whole a = record {
+    answered = a.answered;
+    later = a.later ++ more;
+    cut = e ∙ ap (λ l. l ++ more) a.cut ∙ append_assoc (requests_of a.answered) a.later more;
+    in_turn = a.in_turn;
+    all = by_nothing ((a.later ++ more ≡ []) × HasMemory a.answered);
+  }
+
+  pub asks_no_bytes : (whole : Bool) (s : K) (Sent : List Answered → Type 0) → Sent [] → AsksAsSent Leaves whole (requests_on []) s s Sent
+  asks_no_bytes whole s Sent h = subst (λ l. AsksAsSent Leaves whole l s s Sent) (sym requests-none) (record { asks = asks_nothing whole s; sent = h })
+
+  -- no more answers than requests
+  pub asks_few : (whole : Bool) (qs : List Request) (s t : K) (a : AsksOf Leaves whole qs s t) → length qs ≤ 1 → length a.answered ≤ 1
+  asks_few whole qs s t a h = omega (arith, h, ap length a.cut, length-append (requests_of a.answered) a.later, requests_length a.answered)
 
   -- ---- parameters and heads
-  pub asks_params : (whole : Bool) (p : List ℕ) (q : Request) (s t : K) → request_refusal p ≡ None → q ≡ request_of p → Leaves s q t → AsksOf Leaves whole (requests_by p (request_refusal p)) s t
-  asks_params whole p q s t none is h =
-      subst (λ r. AsksOf Leaves whole (requests_by p r) s t) (sym none) (asks_one whole (request_of p) s t (subst (λ x. Leaves s x t) is h))
+  pub asks_params : (whole : Bool) (p : List ℕ) (q : Request) (s t : K) → request_refusal p ≡ None → q ≡ request_of p → AsksOf Leaves whole (q ∷ []) s t → AsksOf Leaves whole (requests_by p (request_refusal p)) s t
+  asks_params whole p q s t none is h = subst (λ r. AsksOf Leaves whole (requests_by p r) s t) (sym none) (subst (λ x. AsksOf Leaves whole (x ∷ []) s t) is h)
 
   by_refusal : (whole : Bool) (p : List ℕ) (r : RequestRefusal) (s : K) → request_refusal p ≡ Some r → AsksOf Leaves whole (requests_by p (request_refusal p)) s s
   by_refusal whole p r s e = subst (λ o. AsksOf Leaves whole (requests_by p o) s s) (sym e) (asks_nothing whole s)
@@ -110,104 +199,182 @@ module _ {K : Type 0} (Leaves : K → Request → K → Type 0) where
   refused_head j (heads.Method close) result s cause h = subst (λ x. AsksOf Leaves (is_ok result) (requests_in x) s s) (sym cause) (asks_nothing (is_ok result) s)
   refused_head j heads.Memory result s cause h = for_memory result (requests_in j) s (never (heads.Memory ≡ heads.Memory → ⊥) result (λ f. f refl) h)
 
+  -- what was sent of one head's response
+  pub asks_sent : (c : ℕ) (answer : Result Answer Memory) (goes : Bool) (qs : List Request) (s t : K) (talk talk' : Option Talk) → length qs ≤ 1 → IsSent c answer goes talk talk' → AsksOf Leaves (is_ok answer) qs s t → AsksAsSent Leaves goes qs s t (SentBefore c talk talk')
+  asks_sent c (Ok x) goes qs s t talk talk' few h a = record {
+    asks = asks_whole true goes qs s t (λ e. refl) a;
+    sent = before_one c talk talk' a.answered (asks_few true qs s t a few) (a.all refl).1 (some_delivered c (response x) goes talk talk' h);
+  }
+  asks_sent c (Err e) goes qs s t talk talk' few h a = record {
+    asks = asks_whole false goes qs s t (λ on. sym h.0 ∙ on) a;
+    sent = want_by c h.1.0 talk talk' a.answered (asks_few false qs s t a few) h.1.1;
+  }
+
   -- ---- turns
-  module _ (u r : List ℕ) (skip end used : ℕ) (goes : Bool) (s t : K) (found : frame (u ++ r) ≡ framed.Head skip end) (total : length u + used ≡ end) (within : used ≤ length r) (front : skip ≤ end)
-      (a : AsksOf Leaves goes (requests_in (judge (slice_range (u ++ take used r) skip (length (u ++ take used r))))) s t) where
+  module _ (c : ℕ) (u r : List ℕ) (skip end used : ℕ) (goes : Bool) (s t : K) (talk talk' : Option Talk) (found : frame (u ++ r) ≡ framed.Head skip end) (total : length u + used ≡ end) (within : used ≤ length r) (front : skip ≤ end)
+      (a : AsksAsSent Leaves goes (requests_in (judge (slice_range (u ++ take used r) skip (length (u ++ take used r))))) s t (SentBefore c talk talk')) where
     -- the head's own bytes, of which some were unread
     abbrev own : List ℕ
     own = slice_range (u ++ take used r) skip (length (u ++ take used r))
 
-    pub turned_goes : goes ≡ true → closes_behind (judge own) ≡ false → AsksAlong Leaves (u ++ r) (drop used r) s t
-    turned_goes on stays =
+    pub turned_goes : goes ≡ true → closes_behind (judge own) ≡ false → (x : Response) × Spoke c (response_bytes x) false talk talk' → AsksAlong Leaves c (u ++ r) (drop used r) s t talk talk'
+    turned_goes on stays said =
         let is = head_bytes u r skip end used total within front in
-        let same : requests_in (judge own) ≡ a.first = a.cut ∙ ap (λ l. a.first ++ l) (a.all on) ∙ append-nil a.first in
+        let same : requests_in (judge own) ≡ requests_of a.asks.answered = a.asks.cut ∙ ap (λ l. requests_of a.asks.answered ++ l) (a.asks.all on).0 ∙ append-nil (requests_of a.asks.answered) in
         let e : requests_on (u ++ r) ≡ requests_in (judge own) ++ requests_on (drop end (u ++ r)) =
         subst (λ x. requests_on (u ++ r) ≡ requests_in (judge x) ++ requests_on (drop end (u ++ r))) (sym is) (requests-goes_on (u ++ r) skip end found (subst (λ x. closes_behind (judge x) ≡ false) is stays)) in
         record {
-          first = a.first;
-          cut = e ∙ ap (λ l. l ++ requests_on (drop end (u ++ r))) same ∙ ap (λ l. a.first ++ requests_on l) (behind_head u r end used total);
-          in_turn = a.in_turn;
+          answered = a.asks.answered;
+          cut = e ∙ ap (λ l. l ++ requests_on (drop end (u ++ r))) same ∙ ap (λ l. requests_of a.asks.answered ++ requests_on l) (behind_head u r end used total);
+          in_turn = a.asks.in_turn;
+          memory = (a.asks.all on).1;
+          sent = said.0 ∷ [];
+          spoke = subst (λ l. Spoke c l false talk talk') (sym (append-nil (response_bytes said.0))) said.1;
+          enough = asks_few goes (requests_in (judge own)) s t a.asks (requests_few (judge own));
         }
 
-    pub turned_stops : AsksOf Leaves false (requests_on (u ++ r)) s t
+    pub turned_stops : AsksAsSent Leaves false (requests_on (u ++ r)) s t (SentBefore c talk talk')
     turned_stops =
         let x = requests-head (u ++ r) skip end found in
-        asks_some (requests_in (judge own)) x.0 (requests_on (u ++ r)) s t (x.1 ∙ ap (λ l. requests_in (judge l) ++ x.0) (sym (head_bytes u r skip end used total within front))) goes a
+        record {
+          asks = asks_some (requests_in (judge own)) x.0 (requests_on (u ++ r)) s t (x.1 ∙ ap (λ l. requests_in (judge l) ++ x.0) (sym (head_bytes u r skip end used total within front))) goes a.asks;
+          sent = a.sent;
+        }
 
-  pub turned_held : (c : ℕ) (u r u' : List ℕ) (turn : Turn) (s : K) (talk talk' : Option Talk) → frame (u ++ r) ≡ framed.More → IsHeld c u r turn u' talk talk' → AsksBy Leaves u r turn s s
+  pub nothing_stops : (c : ℕ) (qs : List Request) (s : K) (talk talk' : Option Talk) → Some_said c talk talk' → AsksAsSent Leaves false qs s s (SentBefore c talk talk')
+  nothing_stops c qs s talk talk' h = record { asks = asks_none qs s; sent = before_one c talk talk' [] (omega arith) (All-nil (λ (a : Answered). is_want a.1 ≡ false)) h }
+
+  pub turned_held : (c : ℕ) (u r u' : List ℕ) (turn : Turn) (s : K) (talk talk' : Option Talk) → frame (u ++ r) ≡ framed.More → IsHeld c u r turn u' talk talk' → AsksBy Leaves c u r turn s s talk talk'
   turned_held c u r u' (turns.Next i) s talk talk' f h = absurd h
-  turned_held c u r u' turns.Holds s talk talk' f h = (requests-more (u ++ r) f, refl)
-  turned_held c u r u' turns.Stops s talk talk' f h = asks_none (requests_on (u ++ r)) s
+  turned_held c u r u' turns.Holds s talk talk' f h = (requests-more (u ++ r) f, refl, h.1)
+  turned_held c u r u' turns.Stops s talk talk' f h = nothing_stops c (requests_on (u ++ r)) s talk talk' (some_starved c talk talk' h)
+
+  pub turned_long : (c : ℕ) (b : List ℕ) (s : K) (talk talk' : Option Talk) → IsRefused c talk talk' → AsksAsSent Leaves false (requests_on b) s s (SentBefore c talk talk')
+  turned_long c b s talk talk' h = nothing_stops c (requests_on b) s talk talk' (some_refused c talk talk' h)
 
   -- ---- the way through the bytes
-  pub along_start : (b : List ℕ) (s : K) → AsksAlong Leaves b b s s
-  along_start b s = record { first = []; cut = refl; in_turn = refl }
+  pub along_start : (c : ℕ) (b : List ℕ) (s : K) (talk : Option Talk) → AsksAlong Leaves c b b s s talk talk
+  along_start c b s talk = record { answered = []; cut = refl; in_turn = refl; memory = All-nil (λ (a : Answered). is_want a.1 ≡ false); sent = []; spoke = spoke_nothing c talk; enough = omega arith }
 
-  pub along_next : (b left u u' later : List ℕ) (s t v : K) → u' ≡ [] → later ≡ left → AsksAlong Leaves b u s t → AsksAlong Leaves u left t v → AsksAlong Leaves b (u' ++ later) s v
-  along_next b left u u' later s t v empty is h k =
-      subst (λ l. AsksAlong Leaves b (l ++ later) s v) (sym empty) (subst (λ l. AsksAlong Leaves b l s v) (sym is) (record {
-        first = h.first ++ k.first;
-        cut = h.cut ∙ ap (λ l. h.first ++ l) k.cut ∙ sym (append_assoc h.first k.first (requests_on left));
-        in_turn = in_turn_both h.first k.first s t v h.in_turn k.in_turn;
-      }))
-
-  pub along_hold : (whole : Bool) (b left : List ℕ) (s t u : K) → AsksAlong Leaves b left s t → requests_on left ≡ [] → u ≡ t → AsksOf Leaves whole (requests_on b) s u
-  along_hold whole b left s t u h none same = record {
-    first = h.first;
-    later = [];
-    cut = h.cut ∙ ap (λ l. h.first ++ l) none;
-    in_turn = subst (InTurn Leaves h.first s) (sym same) h.in_turn;
-    all = λ e. refl;
+  pub along_both : (c : ℕ) (b left last : List ℕ) (s t v : K) (talk mid talk' : Option Talk) → AsksAlong Leaves c b left s t talk mid → AsksAlong Leaves c left last t v mid talk' → AsksAlong Leaves c b last s v talk talk'
+  along_both c b left last s t v talk mid talk' h k = record {
+    answered = h.answered ++ k.answered;
+    cut = h.cut ∙ ap (λ l. requests_of h.answered ++ l) k.cut ∙ sym (append_assoc (requests_of h.answered) (requests_of k.answered) (requests_on last)) ∙ ap (λ l. l ++ requests_on last) (sym (requests_both h.answered k.answered));
+    in_turn = in_turn_both h.answered k.answered s t v h.in_turn k.in_turn;
+    memory = All-append (λ (a : Answered). is_want a.1 ≡ false) h.answered k.answered h.memory k.memory;
+    sent = h.sent ++ k.sent;
+    spoke = subst (λ l. Spoke c l false talk talk') (sym (bytes_both h.sent k.sent)) (spoke_both c (all_bytes h.sent) (all_bytes k.sent) false talk mid talk' h.spoke k.spoke);
+    enough = omega (arith, h.enough, k.enough, length-append h.answered k.answered, length-append h.sent k.sent);
   }
 
-  pub along_stop : (b left : List ℕ) (s t u : K) → AsksAlong Leaves b left s t → AsksOf Leaves false (requests_on left) t u → AsksOf Leaves false (requests_on b) s u
-  along_stop b left s t u h a = record {
-    first = h.first ++ a.first;
-    later = a.later;
-    cut = h.cut ∙ ap (λ l. h.first ++ l) a.cut ∙ sym (append_assoc h.first a.first a.later);
-    in_turn = in_turn_both h.first a.first s t u h.in_turn a.in_turn;
-    all = λ e. absurd cc;
+  pub along_next : (c : ℕ) (b left u u' later : List ℕ) (s t v : K) (talk mid talk' : Option Talk) → u' ≡ [] → later ≡ left → AsksAlong Leaves c b u s t talk mid → AsksAlong Leaves c u left t v mid talk' → AsksAlong Leaves c b (u' ++ later) s v talk talk'
+  along_next c b left u u' later s t v talk mid talk' empty is h k =
+      subst (λ l. AsksAlong Leaves c b (l ++ later) s v talk talk') (sym empty) (subst (λ l. AsksAlong Leaves c b l s v talk talk') (sym is) (along_both c b u left s t v talk mid talk' h k))
+
+  pub along_hold : (c : ℕ) (whole : Bool) (b left : List ℕ) (s t u : K) (talk mid talk' : Option Talk) → AsksAlong Leaves c b left s t talk mid → (requests_on left ≡ []) × (u ≡ t) × (talk' ≡ mid) → AsksAsSent Leaves whole (requests_on b) s u (SentBefore c talk talk')
+  along_hold c whole b left s t u talk mid talk' h end = record {
+    asks = record {
+      answered = h.answered;
+      later = [];
+      cut = h.cut ∙ ap (λ l. requests_of h.answered ++ l) end.0;
+      in_turn = subst (InTurn Leaves h.answered s) (sym end.1) h.in_turn;
+      all = λ e. (refl, h.memory);
+    };
+    sent = record {
+      sent = h.sent;
+      part = [];
+      fails = false;
+      spoke = subst (λ l. Spoke c l false talk talk') (sym (append-nil (all_bytes h.sent))) (subst (Spoke c (all_bytes h.sent) false talk) (sym end.2) h.spoke);
+      enough = omega (arith, h.enough);
+      memory = inl h.memory;
+    };
+  }
+
+  pub along_stop : (c : ℕ) (b left : List ℕ) (s t u : K) (talk mid talk' : Option Talk) → AsksAlong Leaves c b left s t talk mid → AsksAsSent Leaves false (requests_on left) t u (SentBefore c mid talk') → AsksAsSent Leaves false (requests_on b) s u (SentBefore c talk talk')
+  along_stop c b left s t u talk mid talk' h a = record {
+    asks = record {
+      answered = h.answered ++ a.asks.answered;
+      later = a.asks.later;
+      cut = h.cut ∙ ap (λ l. requests_of h.answered ++ l) a.asks.cut ∙ sym (append_assoc (requests_of h.answered) (requests_of a.asks.answered) a.asks.later) ∙ ap (λ l. l ++ a.asks.later) (sym (requests_both h.answered a.asks.answered));
+      in_turn = in_turn_both h.answered a.asks.answered s t u h.in_turn a.asks.in_turn;
+      all = λ e. absurd cc;
+    };
+    sent = record {
+      sent = h.sent ++ a.sent.sent;
+      part = a.sent.part;
+      fails = a.sent.fails;
+      spoke = subst (λ l. Spoke c l a.sent.fails talk talk') (sym (ap (λ l. l ++ a.sent.part) (bytes_both h.sent a.sent.sent) ∙ append_assoc (all_bytes h.sent) (all_bytes a.sent.sent) a.sent.part))
+          (spoke_both c (all_bytes h.sent) (all_bytes a.sent.sent ++ a.sent.part) a.sent.fails talk mid talk' h.spoke a.sent.spoke);
+      enough = omega (arith, h.enough, a.sent.enough, length-append h.answered a.asks.answered, length-append h.sent a.sent.sent);
+      memory = memory_both h.answered a.asks.answered ((a.sent.fails ≡ true) ⊎ (a.sent.part ≡ memory_bytes)) h.memory a.sent.memory;
+    };
   }
 
   -- ---- a piece
-  pub asks_counted : (whole : Bool) (old : Left) (taken : ℕ) (unread piece counted : List ℕ) (s t : K) → record { taken = taken; unread = unread } ≡ old → counted ≡ take (MAX_CONNECTION_BYTES - taken) piece
-      → AsksOf Leaves whole (requests_on (unread ++ counted)) s t → AsksOf Leaves whole (requests_on (old.unread ++ take (MAX_CONNECTION_BYTES - old.taken) piece)) s t
-  asks_counted whole old taken unread piece counted s t is e a =
-      subst (λ (l : Left). AsksOf Leaves whole (requests_on (l.unread ++ take (MAX_CONNECTION_BYTES - l.taken) piece)) s t) is (subst (λ x. AsksOf Leaves whole (requests_on (unread ++ x)) s t) e a)
+  pub asks_counted : (whole : Bool) (old : Left) (taken : ℕ) (unread piece counted : List ℕ) (s t : K) (Sent : List Answered → Type 0) → record { taken = taken; unread = unread } ≡ old → counted ≡ take (MAX_CONNECTION_BYTES - taken) piece
+      → AsksAsSent Leaves whole (requests_on (unread ++ counted)) s t Sent → AsksAsSent Leaves whole (requests_on (old.unread ++ take (MAX_CONNECTION_BYTES - old.taken) piece)) s t Sent
+  asks_counted whole old taken unread piece counted s t Sent is e a =
+      subst (λ (l : Left). AsksAsSent Leaves whole (requests_on (l.unread ++ take (MAX_CONNECTION_BYTES - l.taken) piece)) s t Sent) is (subst (λ x. AsksAsSent Leaves whole (requests_on (unread ++ x)) s t Sent) e a)
+
+  -- a connection that was kept, and is put back or not
+  pub asks_of_line : (c : ℕ) (core core' : Slots) (l : Left) (piece : List ℕ) (kept : Option Left) (s t : K) (talk mid talk' : Option Talk) → core' ≡ slice_set core c kept → c < length core → Some l ≡ left_at core c → talk' ≡ mid
+      → AsksAsSent Leaves (is_some kept) (requests_on (l.unread ++ take (MAX_CONNECTION_BYTES - l.taken) piece)) s t (SentBefore c talk mid)
+      → AsksAsSent Leaves (is_some (left_at core' c)) (requests_on (bytes_behind (left_at core c) piece)) s t (SentBefore c talk talk')
+  asks_of_line c core core' l piece kept s t talk mid talk' is within was same a =
+      let at : left_at core' c ≡ kept = ap (λ k. left_at k c) is ∙ set_at core c c kept within ∙ ap (λ b. cond b kept (left_at core c)) (itself c) in
+      subst (λ x. AsksAsSent Leaves (is_some x) (requests_on (bytes_behind (left_at core c) piece)) s t (SentBefore c talk talk')) (sym at)
+      (subst (λ x. AsksAsSent Leaves (is_some kept) (requests_on (bytes_behind x piece)) s t (SentBefore c talk talk')) was
+      (subst (λ x. AsksAsSent Leaves (is_some kept) (requests_on (l.unread ++ take (MAX_CONNECTION_BYTES - l.taken) piece)) s t (SentBefore c talk x)) (sym same) a))
 
 -- ---- an engine
 -- a count of reads that rose twice
 reads_both : (m n before mid now : ℕ) → ReadsWithin m before mid → ReadsWithin n mid now → ReadsWithin (m + n) before now
 reads_both m n before mid now h k = record { later = omega (arith, h.later, k.later); within = omega (arith, h.within, k.within) }
 
--- the reads that are due for requests which an engine was asked in turn
-pub record SumOf (qs : List Request) (old new : EngineView) (before now : ℕ) : Type 0 where
-  pub n : ℕ
-  pub are_due : AreDue qs old n new
-  pub reads : ReadsWithin n before now
+caused_rose : (read : Bool) (before now : ℕ) → CausedReads read before now → RoseBy (cond read 1 0) before now
+caused_rose true before now h = rose_one before now (h.failed refl)
+caused_rose false before now h = rose_none before now h.later
 
-sum_of : (qs : List Request) (s t : EngineView × ℕ) → InTurn EngineLeaves qs s t → SumOf qs s.0 t.0 s.1 t.1
+-- the reads that are due for requests which an engine was asked in turn
+pub record SumOf (xs : List Answered) (s t : Standing) : Type 0 where
+  pub n : ℕ
+  pub are_due : AreDue s.told xs s.engine n t.engine
+  pub reads : ReadsWithin n s.reads t.reads
+  pub rose : RoseBy (failed_reads xs) s.faults t.faults
+
+sum_of : (xs : List Answered) (s t : Standing) → InTurn EngineLeaves xs s t → SumOf xs s t
 sum_of [] s t h =
-    subst (λ (x : EngineView × ℕ). SumOf [] s.0 x.0 s.1 x.1) (sym h) (record { n = 0; are_due = (refl, refl); reads = record { later = omega arith; within = omega arith } })
-sum_of (q ∷ qs) s t h =
-    let others = sum_of qs h.0 t h.2 in
+    subst (λ (x : Standing). SumOf [] s x) (sym h) (record { n = 0; are_due = (refl, refl); reads = record { later = omega arith; within = omega arith }; rose = rose_none s.faults s.faults (omega arith) })
+sum_of (a ∷ xs) s t h =
+    let others = sum_of xs h.0 t h.2 in
     record {
       n = h.1.n + others.n;
-      are_due = (h.1.n, others.n, h.0.0, refl, h.1.is_due, others.are_due);
-      reads = reads_both h.1.n others.n s.1 h.0.1 t.1 h.1.reads others.reads;
+      are_due = (h.1.n, others.n, h.0.engine, refl, h.1.is_due, subst (λ x. AreDue x xs h.0.engine others.n t.engine) h.1.told others.are_due);
+      reads = reads_both h.1.n others.n s.reads h.0.reads t.reads h.1.reads others.reads;
+      rose = rose_both (cond (is_read a.1) 1 0) (failed_reads xs) s.faults h.0.faults t.faults (caused_rose (is_read a.1) s.faults h.0.faults h.1.caused) others.rose;
     }
 
-pub within_due : (whole : Bool) (qs : List Request) (s t : EngineView × ℕ) → AsksOf EngineLeaves whole qs s t → AnswersWithin whole qs s.0 t.0 s.1 t.1
-within_due whole qs s t a =
-    let sum = sum_of a.first s t a.in_turn in
-    record { first = a.first; later = a.later; cut = a.cut; all = a.all; n = sum.n; are_due = sum.are_due; reads = sum.reads }
+abbrev pub standing : Option (List ℕ) → EngineView → ℕ → ℕ → Standing
+standing told e reads faults = record { told = told; engine = e; reads = reads; faults = faults }
 
--- ---- what is sent
--- where the connection goes on there was a response
-pub sent_ok : (c : ℕ) (answer : Result Answer Memory) (goes : Bool) (talk talk' : Option Talk) → IsSent c answer goes talk talk' → goes ≡ true → is_ok answer ≡ true
-sent_ok c (Ok a) goes talk talk' h on = refl
-sent_ok c (Err e) goes talk talk' h on = absurd (let x : true ≡ false = sym on ∙ h.0 in cc)
+pub stands_so : (b b' : Option (List ℕ)) (e e' : EngineView) (m m' n n' : ℕ) → b ≡ b' → e ≡ e' → m ≡ m' → n ≡ n' → standing b e m n ≡ standing b' e' m' n'
+stands_so b b' e e' m m' n n' h i j k = ap (λ x. standing x e m n) h ∙ ap (λ x. standing b' x m n) i ∙ ap (λ x. standing b' e' x n) j ∙ ap (standing b' e' m') k
 
+abbrev Within : Bool → List Request → (List Answered → Type 0) → Standing → Standing → Type 0
+Within whole qs Sent s t = AnswersWithin s.told whole qs s.engine t.engine s.reads t.reads s.faults t.faults Sent
+
+within_due : (whole : Bool) (qs : List Request) (s t : Standing) (Sent : List Answered → Type 0) → AsksAsSent EngineLeaves whole qs s t Sent → Within whole qs Sent s t
+within_due whole qs s t Sent a =
+    let sum = sum_of a.asks.answered s t a.asks.in_turn in
+    record { answered = a.asks.answered; later = a.asks.later; cut = a.asks.cut; all = a.asks.all; n = sum.n; are_due = sum.are_due; reads = sum.reads; rose = sum.rose; sent = a.sent }
+
+-- the same of an engine and counts that are these
+pub within_for : (whole : Bool) (qs : List Request) (s t : Standing) (told : Option (List ℕ)) (old new : EngineView) (before now failed failed' : ℕ) (Sent : List Answered → Type 0) → s ≡ standing told old before failed → t ≡ standing t.told new now failed'
+    → AsksAsSent EngineLeaves whole qs s t Sent → AnswersWithin told whole qs old new before now failed failed' Sent
+within_for whole qs s t told old new before now failed failed' Sent e f a =
+    subst (λ x. Within whole qs Sent x (standing t.told new now failed')) e (subst (Within whole qs Sent s) f (within_due whole qs s t Sent a))
+
+-- ---- responses
 open_by : (c : ℕ) (r : Response) (goes : Bool) (talk talk' : Option Talk) → Delivered c r goes talk talk' → goes ≡ true → r.closes ≡ false
 open_by c r true talk talk' h on = h.0
 open_by c r false talk talk' h on = absurd cc
@@ -224,20 +391,12 @@ pub refused_close : (j : Judgement) (fault : HeadFault) (r : Response) → IsHea
 refused_close j fault r cause h = ap (λ (x : Response). x.closes) (h nowhere j cause) ∙ closes_by nowhere j
 
 -- ---- one request of an engine
-few_titles : (q : Request) (r : Result (Reply × Note) AskFault) → IfOk r (λ x. length x.0.hits ≤ q.hits) → titles_of q r ≤ q.hits
+pub few_titles : (q : Request) (r : Result (Reply × Note) AskFault) → IfOk r (λ x. length x.0.hits ≤ q.hits) → titles_of q r ≤ q.hits
 few_titles q (Ok x) h = h
 few_titles q (Err e) h = omega arith
 
-pub engine_leaves : (q : Request) (answer : Result (Reply × Note) AskFault) (old new : EngineView) (before now : ℕ) → IfOk answer (λ x. length x.0.hits ≤ q.hits) → new.index ≡ old.index → Keeps old.index q.query old.answers answer new.answers
-    → ReadsWithin (due (division old.index) q (note_plan q.query old.answers) (titles_of q answer)) before now → EngineLeaves (old, before) q (new, now)
-engine_leaves q answer old new before now few index keeps reads = record {
-  n = due (division old.index) q (note_plan q.query old.answers) (titles_of q answer);
-  is_due = record { answer = answer; few = few_titles q answer few; index = index; keeps = keeps; sum = refl };
-  reads = reads;
-}
-
--- the same of an engine and a count that are these
-pub within_for : (whole : Bool) (qs : List Request) (s t : EngineView × ℕ) (old new : EngineView) (before now : ℕ) → s.0 ≡ old → new ≡ t.0 → s.1 ≡ before → now ≡ t.1 → AsksOf EngineLeaves whole qs s t → AnswersWithin whole qs old new before now
-within_for whole qs s t old new before now e f m n a =
-    subst (λ x. AnswersWithin whole qs x new before now) e (subst (λ x. AnswersWithin whole qs s.0 x before now) (sym f)
-    (subst (λ x. AnswersWithin whole qs s.0 t.0 x now) m (subst (λ x. AnswersWithin whole qs s.0 t.0 s.1 x) (sym n) (within_due whole qs s t a))))
+pub read_in : (r : Result (Reply × Note) AskFault) → is_read (reply_in r) ≡ is_read r
+read_in (Ok x) = refl
+read_in (Err refusals.Read) = refl
+read_in (Err (refusals.Changed rule at)) = refl
+read_in (Err refusals.Memory) = refl

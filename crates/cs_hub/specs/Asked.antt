@@ -1,46 +1,74 @@
 -- What is asked of an answerer, one request after the other.
 --
---   InTurn Leaves qs s t        requests led from the state s to t, each by Leaves
+--   InTurn Leaves xs s t    requests with these answers led from the state s to t, each by Leaves
 --   AsksOf Leaves whole qs s t      some first ones of the requests did, and where `whole` all
---   AsksAlong Leaves b left s t     those of the bytes b before the bytes that are left did
---   AsksBy                      what a turn asked, by what it gave
---   EngineLeaves s q t          a request was asked of an engine over its store, told with the count of its reads
-use Rattle.std.specs.Prelude.{◌≡◌, ℕ, Bool, true, false, List, [], ◌∷◌, ◌++◌, drop}
+--   AsksAsSent Leaves whole qs s t Sent   the same, of as many as Sent says
+--   AsksAlong Leaves c b left s t   those of the bytes b before the bytes that are left did, each answered so
+--   AsksBy                  what a turn asked, by what it gave
+--   Standing                an engine over its store, as it stands between requests
+--   EngineLeaves s q r t    a request was asked of an engine over its store
+use Rattle.std.specs.Prelude.{◌≡◌, ℕ, ◌≤◌, Bool, true, false, List, [], ◌∷◌, ◌++◌, length, drop, Option, Result}
 use Rattle.cs_base.specs.outside.Causes.{ReadsWithin}
+use Rattle.cs_base.specs.outside.Hub.{Talk}
+use Rattle.cs_engine.specs.Asking.{is_read}
 use Rattle.cs_engine.specs.Keeping.{EngineView}
+use Rattle.cs_engine.specs.declared.fault.AskFault.{AskFault}
+use Rattle.cs_file.specs.Indexes.{CausedReads}
+use Rattle.cs_model.specs.Replies.{Reply}
 use Rattle.cs_model.specs.Requests.{Request}
+use Rattle.cs_model_serving.specs.Responses.{Response, all_bytes}
 use Rattle.cs_hub.specs.declared.reading.Turn.{Turn}
 use Rattle.cs_hub.specs.declared.reading.Turn.TheVariants as turns
-use Rattle.cs_hub.specs.DueReads.{IsDue, requests_on}
+use Rattle.cs_hub.specs.DueReads.{Answered, HasMemory, IsDue, SentBefore, requests_of, requests_on}
+use Rattle.cs_hub.specs.Speaking.{Spoke}
 
-module _ {K : Type 0} (Leaves : K → Request → K → Type 0) where
+module _ {K : Type 0} (Leaves : K → Request → Result Reply AskFault → K → Type 0) where
   -- each state is the one that the request before left; of no requests the last is the first
-  abbrev pub InTurn : List Request → K → K → Type 0
+  abbrev pub InTurn : List Answered → K → K → Type 0
   InTurn [] s t = t ≡ s
-  InTurn (q ∷ qs) s t = (mid : K) × Leaves s q mid × InTurn qs mid t
+  InTurn (a ∷ xs) s t = (mid : K) × Leaves s a.0 a.1 mid × InTurn xs mid t
 
--- the requests behind them aren't asked, as where a send failed or memory ran out; where `whole` there are none behind
-pub record AsksOf {K : Type 0} (Leaves : K → Request → K → Type 0) (whole : Bool) (qs : List Request) (s t : K) : Type 0 where
-  pub first : List Request
+-- the requests behind them aren't asked, as where a send failed or memory ran out; where `whole` there are none behind, and memory
+-- didn't run out
+pub record AsksOf {K : Type 0} (Leaves : K → Request → Result Reply AskFault → K → Type 0) (whole : Bool) (qs : List Request) (s t : K) : Type 0 where
+  pub answered : List Answered
   pub later : List Request
-  pub cut : qs ≡ first ++ later
-  pub in_turn : InTurn Leaves first s t
-  pub all : whole ≡ true → later ≡ []
+  pub cut : qs ≡ requests_of answered ++ later
+  pub in_turn : InTurn Leaves answered s t
+  pub all : whole ≡ true → (later ≡ []) × HasMemory answered
 
--- the requests of the bytes that are left come behind them
-pub record AsksAlong {K : Type 0} (Leaves : K → Request → K → Type 0) (b left : List ℕ) (s t : K) : Type 0 where
-  pub first : List Request
-  pub cut : requests_on b ≡ first ++ requests_on left
-  pub in_turn : InTurn Leaves first s t
+-- so many were asked as what was sent between the two states allows
+pub record AsksAsSent {K : Type 0} (Leaves : K → Request → Result Reply AskFault → K → Type 0) (whole : Bool) (qs : List Request) (s t : K) (Sent : List Answered → Type 0) : Type 0 where
+  pub asks : AsksOf Leaves whole qs s t
+  pub sent : Sent asks.answered
 
--- a head was answered; or no head ends there, and nothing was asked; or the connection is to be closed
-abbrev pub AsksBy : {K : Type 0} → (K → Request → K → Type 0) → List ℕ → List ℕ → Turn → K → K → Type 0
-AsksBy Leaves unread rest (turns.Next used) s t = AsksAlong Leaves (unread ++ rest) (drop used rest) s t
-AsksBy Leaves unread rest turns.Holds s t = (requests_on (unread ++ rest) ≡ []) × (t ≡ s)
-AsksBy Leaves unread rest turns.Stops s t = AsksOf Leaves false (requests_on (unread ++ rest)) s t
+-- the requests of the bytes that are left come behind them, and only whole responses were sent, as many as requests or more
+pub record AsksAlong {K : Type 0} (Leaves : K → Request → Result Reply AskFault → K → Type 0) (c : ℕ) (b left : List ℕ) (s t : K) (talk talk' : Option Talk) : Type 0 where
+  pub answered : List Answered
+  pub cut : requests_on b ≡ requests_of answered ++ requests_on left
+  pub in_turn : InTurn Leaves answered s t
+  pub memory : HasMemory answered
+  pub sent : List Response
+  pub spoke : Spoke c (all_bytes sent) false talk talk'
+  pub enough : length answered ≤ length sent
 
--- no more is read than is due
-pub record EngineLeaves (s : EngineView × ℕ) (q : Request) (t : EngineView × ℕ) : Type 0 where
+-- a head was answered; or no head ends there, and nothing was asked or sent; or the connection is to be closed
+abbrev pub AsksBy : {K : Type 0} → (K → Request → Result Reply AskFault → K → Type 0) → ℕ → List ℕ → List ℕ → Turn → K → K → Option Talk → Option Talk → Type 0
+AsksBy Leaves c unread rest (turns.Next used) s t talk talk' = AsksAlong Leaves c (unread ++ rest) (drop used rest) s t talk talk'
+AsksBy Leaves c unread rest turns.Holds s t talk talk' = (requests_on (unread ++ rest) ≡ []) × (t ≡ s) × (talk' ≡ talk)
+AsksBy Leaves c unread rest turns.Stops s t talk talk' = AsksAsSent Leaves false (requests_on (unread ++ rest)) s t (SentBefore c talk talk')
+
+-- the bytes that the store tells, the engine, and the counts of reads and of failures
+pub record Standing : Type 0 where
+  pub told : Option (List ℕ)
+  pub engine : EngineView
+  pub reads : ℕ
+  pub faults : ℕ
+
+-- no more is read than is due, and a failed read is told where the count of failures rose
+pub record EngineLeaves (s : Standing) (q : Request) (r : Result Reply AskFault) (t : Standing) : Type 0 where
   pub n : ℕ
-  pub is_due : IsDue q s.0 n t.0
-  pub reads : ReadsWithin n s.1 t.1
+  pub is_due : IsDue s.told (q, r) s.engine n t.engine
+  pub told : t.told ≡ s.told
+  pub reads : ReadsWithin n s.reads t.reads
+  pub caused : CausedReads (is_read r) s.faults t.faults

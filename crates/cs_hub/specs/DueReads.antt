@@ -1,6 +1,6 @@
 -- Which requests are answered of the bytes of a connection, and how much may be read for them.
 --
--- Source: this engine's own. `heads-served` in `proofs/HeadsLemmas.antt` says that what is served of bytes is the responses to
+-- Source: this engine's own. The law `heads_are_served` in `src/laws.rt` says that what is served of bytes is the responses to
 -- these heads.
 --
 --   closes_behind j         the connection is closed after the response to the judgement
@@ -13,31 +13,46 @@
 --   bytes_behind l piece    the bytes that a piece leaves to be answered on a connection of which l is kept
 --   bytes_to_answer core e piece    those that an event leaves; none where it is no piece
 --   goes_on core e          the connection of a piece is kept; so it is said of each event that is no piece
---   IsDue q e n e'          n reads are due for a request of the engine e, which leaves the engine e'
---   AreDue qs e n e'        the same of requests that are asked one after the other
+--   Answered                a request and the answer to it
+--   requests_of xs          the requests that were answered
+--   reply_in r              an answer of an engine, without how the reply was made
+--   is_want r, failed_reads xs      the answer is want of memory; how many answers are a failed read
+--   IsRightOver b q e r e'  over the bytes b of the index: the right reply, and what is kept behind it
+--   IsDue told a e n e'     n reads are due for a request of the engine e with this answer, which leaves the engine e'
+--   AreDue told xs e n e'   the same of requests that are asked one after the other
+--   HasMemory xs            none of the answers is want of memory
+--   SentBefore c xs         all responses to the requests but the last were sent whole on the connection c
+--   SentAt event xs         the same where the event is a piece
 --   AnswersWithin           some first requests were answered, and no more was read than is due for them
-use Rattle.std.specs.Prelude.{◌≡◌, ℕ, suc, ◌+◌, ◌-◌, ◌≤◌, Bool, true, cond, List, [], ◌∷◌, ◌++◌, length, take, drop, slice_range, Option, Some, None, is_some, Result}
+use Rattle.std.specs.Prelude.{◌≡◌, ◌⊎◌, ℕ, suc, ◌+◌, ◌-◌, ◌≤◌, Bool, true, false, cond, List, [], ◌∷◌, ◌++◌, map, length, take, drop, slice_range, All, Option, Some, None, is_some, Result, Ok, Err, IfOk}
 use Prim.Native.Nat.{zero}
 use Rattle.std.specs.List.{flat_map}
+use Rattle.std.specs.Option.{ForSome}
 use Rattle.cs_base.specs.declared.content.limits.TheConstants.{MAX_CONNECTION_BYTES}
 use Rattle.cs_base.specs.declared.outside.hub.Event.{Event}
 use Rattle.cs_base.specs.declared.outside.hub.Event.TheVariants.{Opened, Piece, Ended, Over}
 use Rattle.cs_base.specs.outside.Causes.{ReadsWithin}
+use Rattle.cs_base.specs.outside.Hub.{Talk}
+use Rattle.cs_file.specs.Indexes.{StandsFor}
 use Rattle.cs_model.specs.Parameters.{RequestRefusal, request_of, request_refusal}
 use Rattle.cs_model.specs.Replies.{Reply}
-use Rattle.cs_model.specs.Requests.{Request}
+use Rattle.cs_model.specs.Requests.{Request, reply_of}
+use Rattle.cs_model_index.specs.Sections.{file_corpus}
 use Rattle.cs_model_kept.specs.Due.{due}
 use Rattle.cs_model_serving.specs.declared.framed.Framed.{Framed}
 use Rattle.cs_model_serving.specs.declared.framed.Framed.TheVariants.{Head, More, TooLong}
 use Rattle.cs_model_serving.specs.Connections.{Left}
 use Rattle.cs_model_serving.specs.Framing.{frame}
 use Rattle.cs_model_serving.specs.Heads.{Judgement, refused, asks, judge}
-use Rattle.cs_model_serving.specs.Responses.{to_refused}
+use Rattle.cs_model_serving.specs.Responses.{Response, all_bytes, memory_bytes, to_refused}
 use Rattle.cs_engine.specs.declared.fault.AskFault.{AskFault}
+use Rattle.cs_engine.specs.declared.fault.AskFault.TheVariants as faults
 use Rattle.cs_engine.specs.declared.note.Note.{Note}
-use Rattle.cs_engine.specs.Asking.{division, titles_of}
-use Rattle.cs_engine.specs.Keeping.{EngineView, Keeps, note_plan}
+use Rattle.cs_engine.specs.Asking.{division, is_changed, is_read, titles_of}
+use Rattle.cs_engine.specs.Keeping.{AreGood, EngineView, IsAfter, Keeps, note_plan}
 use Rattle.cs_hub.specs.Following.{Slots, left_at}
+use Rattle.cs_hub.specs.Speaking.{Spoke}
+use Rattle.cs_hub.specs.Streams.{RoseBy}
 
 -- ---- requests
 -- as the response itself says, over each corpus
@@ -94,28 +109,87 @@ goes_on core (Piece c n) = is_some (left_at core c)
 goes_on core (Ended c) = true
 goes_on core Over = true
 
+-- ---- answers
+-- the answer is a reply, or why there is none
+abbrev pub Answered : Type 0
+Answered = Request × Result Reply AskFault
+
+-- in their order; of no answers none
+abbrev pub requests_of : List Answered → List Request
+requests_of xs = map (λ a. a.0) xs
+
+-- the reply alone; what kept it from being given stays
+abbrev pub reply_in : Result (Reply × Note) AskFault → Result Reply AskFault
+reply_in (Ok r) = Ok r.0
+reply_in (Err e) = Err e
+
+-- a reply isn't
+abbrev pub is_want : Result Reply AskFault → Bool
+is_want (Err faults.Memory) = true
+is_want _ = false
+
+-- of no answers none is
+abbrev pub failed_reads : List Answered → ℕ
+failed_reads [] = 0
+failed_reads (a ∷ xs) = cond (is_read a.1) 1 0 + failed_reads xs
+
 -- ---- reads
--- so many reads are due for a request by the plan from what the engine keeps, and this engine is left behind it: as some answer
--- tells, a reply with at most as many titles as hits are asked, or a refusal
-pub record IsDue (q : Request) (old : EngineView) (n : ℕ) (new : EngineView) : Type 0 where
+-- where there is a reply it is the right one, and behind it exactly this is kept; what is kept stays good, behind a refusal too
+pub record IsRightOver (b : List ℕ) (q : Request) (old : EngineView) (answer : Result (Reply × Note) AskFault) (new : EngineView) : Type 0 where
+  pub right : IfOk answer (λ r. r.0 ≡ reply_of (file_corpus b) q)
+  pub after : IsAfter b q.query old answer new
+  pub good : AreGood b new
+
+-- so many reads are due for a request by the plan from what the engine keeps and by the titles of its answer, which are at most as
+-- many as hits are asked, and this engine is left behind it; where the store tells the bytes of the index no change is told
+pub record IsDue (told : Option (List ℕ)) (a : Answered) (old : EngineView) (n : ℕ) (new : EngineView) : Type 0 where
   pub answer : Result (Reply × Note) AskFault
-  pub few : titles_of q answer ≤ q.hits
+  pub reply : a.1 ≡ reply_in answer
+  pub few : titles_of a.0 answer ≤ a.0.hits
   pub index : new.index ≡ old.index
-  pub keeps : Keeps old.index q.query old.answers answer new.answers
-  pub sum : n ≡ due (division old.index) q (note_plan q.query old.answers) (titles_of q answer)
+  pub keeps : Keeps old.index a.0.query old.answers answer new.answers
+  pub unchanged : ForSome told (λ b. StandsFor b old.index → is_changed answer ≡ false)
+  pub right : ForSome told (λ b. StandsFor b old.index → AreGood b old → IsRightOver b a.0 old answer new)
+  pub sum : n ≡ due (division old.index) a.0 (note_plan a.0.query old.answers) (titles_of a.0 answer)
 
 -- the sum for requests that are asked one after the other, each of the engine that the one before left; for none no read is due,
 -- and the engine stays as it is
-abbrev pub AreDue : List Request → EngineView → ℕ → EngineView → Type 0
-AreDue [] old n new = (n ≡ 0) × (new ≡ old)
-AreDue (q ∷ qs) old n new = (one : ℕ) × (others : ℕ) × (mid : EngineView) × (n ≡ one + others) × IsDue q old one mid × AreDue qs mid others new
+abbrev pub AreDue : Option (List ℕ) → List Answered → EngineView → ℕ → EngineView → Type 0
+AreDue told [] old n new = (n ≡ 0) × (new ≡ old)
+AreDue told (a ∷ xs) old n new = (one : ℕ) × (others : ℕ) × (mid : EngineView) × (n ≡ one + others) × IsDue told a old one mid × AreDue told xs mid others new
 
--- some first ones of these requests were answered, all of them where `whole`, and no more was read than is due for them
-pub record AnswersWithin (whole : Bool) (qs : List Request) (old new : EngineView) (before now : ℕ) : Type 0 where
-  pub first : List Request
+-- ---- between answers
+-- of no answers none is
+abbrev pub HasMemory : List Answered → Type 0
+HasMemory xs = All (λ a. is_want a.1 ≡ false) xs
+
+-- on the connection at least as many whole responses as answers less one were sent, and perhaps bytes behind them: so behind a
+-- response that wasn't sent whole no request was asked. Want of memory is told: no answer is one, unless a send failed or the
+-- memory response came last
+pub record SentBefore (c : ℕ) (talk talk' : Option Talk) (answered : List Answered) : Type 0 where
+  pub sent : List Response
+  pub part : List ℕ
+  pub fails : Bool
+  pub spoke : Spoke c (all_bytes sent ++ part) fails talk talk'
+  pub enough : length answered ≤ suc (length sent)
+  pub memory : HasMemory answered ⊎ (fails ≡ true) ⊎ (part ≡ memory_bytes)
+
+-- at an event that is no piece nothing is asked
+abbrev pub SentAt : Event → Option Talk → Option Talk → List Answered → Type 0
+SentAt (Opened c) talk talk' answered = answered ≡ []
+SentAt (Piece c m) talk talk' answered = SentBefore c talk talk' answered
+SentAt (Ended c) talk talk' answered = answered ≡ []
+SentAt Over talk talk' answered = answered ≡ []
+
+-- some first ones of these requests were answered, as many as were sent; where `whole` all of them and none met want of memory. No
+-- more was read than is due for them, and no more answers are failed reads than the count of failures rose by
+pub record AnswersWithin (told : Option (List ℕ)) (whole : Bool) (qs : List Request) (old new : EngineView) (before now failed failed' : ℕ) (Sent : List Answered → Type 0) : Type 0 where
+  pub answered : List Answered
   pub later : List Request
-  pub cut : qs ≡ first ++ later
-  pub all : whole ≡ true → later ≡ []
+  pub cut : qs ≡ requests_of answered ++ later
+  pub all : whole ≡ true → (later ≡ []) × HasMemory answered
   pub n : ℕ
-  pub are_due : AreDue first old n new
+  pub are_due : AreDue told answered old n new
   pub reads : ReadsWithin n before now
+  pub rose : RoseBy (failed_reads answered) failed failed'
+  pub sent : Sent answered

@@ -1,9 +1,11 @@
 //! What answers requests, as the serving core meets it.
-ghost use Rattle.std.specs.Prelude.{◌≡◌, ℕ, false, IfOk};
+ghost use Rattle.std.specs.Prelude.{◌≡◌, ℕ, false, Result, IfOk};
 ghost use Rattle.cs_engine.specs.Asking.{is_read, is_changed};
+ghost use Rattle.cs_engine.specs.declared.fault.AskFault.{AskFault as Fault};
 ghost use Rattle.cs_file.specs.Indexes.{CausedReads};
 ghost use Rattle.cs_model.specs.Corpus.{Corpus};
 ghost use Rattle.cs_model.specs.Parameters.{HoldsLimits};
+ghost use Rattle.cs_model.specs.Replies.{Reply as Answer};
 ghost use Rattle.cs_model.specs.Requests.{Request as Wanted, reply_of};
 ghost use Rattle.cs_query.specs.RequestView.{asked};
 
@@ -31,8 +33,8 @@ pub(crate) trait Answerer {
     /// That of this one.
     ghost kept: { Self → Kept };
 
-    /// What a request may leave of it.
-    ghost leaves: { Kept → Wanted → Kept → Type 0 };
+    /// What a request with this answer may leave of it.
+    ghost leaves: { Kept → Wanted → Result Answer Fault → Kept → Type 0 };
 
     /// The reply to a request.
     fn reply(&mut self, alloc: Global, request: &Request) -> Result<Reply, AskFault>
@@ -42,6 +44,6 @@ pub(crate) trait Answerer {
         ensures unchanged { (k : Corpus) → answers self.old k → is_changed result ≡ false }
         ensures still { (k : Corpus) → answers self.old k → answers self.new k }
         ensures lent { lent self.new ≡ lent self.old }
-        ensures asked { leaves (kept self.old) (asked request.now) (kept self.new) }
+        ensures asked { leaves (kept self.old) (asked request.now) result (kept self.new) }
         ensures caused { CausedReads (is_read result) (faults self.old) (faults self.new) };
 }

@@ -36,8 +36,8 @@ impl<S: Store> Answerer for Asking<'_, S> {
     ghost use Rattle.std.specs.Borrow.{GName};
     ghost use Rattle.cs_file.specs.Indexes.{IndexView, StandsFor};
     ghost use Rattle.cs_model_index.specs.Sections.{file_corpus};
-    ghost use Rattle.cs_engine.specs.Keeping.{AreGood, EngineView};
-    ghost use Rattle.cs_hub.specs.Asked.{EngineLeaves};
+    ghost use Rattle.cs_engine.specs.Keeping.{AreGood};
+    ghost use Rattle.cs_hub.specs.Asked.{EngineLeaves, Standing};
 
     ghost answers = { λ a k. (b : List ℕ) × (S.bytes a.store.now ≡ Some b) × StandsFor b a.engine.now.index × AreGood b a.engine.now × (k ≡ file_corpus b) };
 
@@ -47,9 +47,9 @@ impl<S: Store> Answerer for Asking<'_, S> {
 
     ghost lent = { λ a. (a.engine.ghost_name, (a.store.ghost_name, (S.bytes a.store.now, (S.lent a.store.now, (a.engine.now.index, a.engine.now.answers.capacity))))) };
 
-    ghost Kept = { EngineView × ℕ };
+    ghost Kept = { Standing };
 
-    ghost kept = { λ a. (a.engine.now, S.reads a.store.now) };
+    ghost kept = { λ a. record { told = S.bytes a.store.now; engine = a.engine.now; reads = S.reads a.store.now; faults = S.faults a.store.now } };
 
     ghost leaves = { EngineLeaves };
 

@@ -7,6 +7,7 @@
 mod answer;
 mod answerer;
 mod asking;
+pub mod laws;
 mod line;
 mod reading;
 mod responses;

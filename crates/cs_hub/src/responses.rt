@@ -1,5 +1,5 @@
 //! The response to a head.
-ghost use Rattle.std.specs.Prelude.{◌≡◌, ◌≢◌, ◌≤◌, IfOk, is_ok};
+ghost use Rattle.std.specs.Prelude.{◌≡◌, ◌≢◌, ◌≤◌, [], ◌∷◌, IfOk, is_ok};
 ghost use Rattle.cs_model.specs.Corpus.{Corpus};
 ghost use Rattle.cs_model.specs.Parameters.{HoldsLimits, request_refusal};
 ghost use Rattle.cs_model_serving.specs.Heads.{judge};
@@ -122,7 +122,7 @@ fn reply_to<A: Answerer>(
 
     ensures ok { IfOk result (λ a. IsGiven (A.answers answerer.old) (λ k. replied k (asked request.now) close) (response a) (A.faults answerer.old) (A.faults answerer.new)) }
     ensures close { IfOk result (λ a. a.close ≡ close) }
-    ensures asked { A.leaves (A.kept answerer.old) (asked request.now) (A.kept answerer.new) }
+    ensures asked { AsksOf A.leaves (is_ok result) (asked request.now ∷ []) (A.kept answerer.old) (A.kept answerer.new) }
     ensures still { (k : Corpus) → A.answers answerer.old k → A.answers answerer.new k }
     ensures lent { A.lent answerer.new ≡ A.lent answerer.old }
     ensures later { A.faults answerer.old ≤ A.faults answerer.new }

@@ -7,8 +7,8 @@ ghost use Rattle.cs_engine.specs.Keeping.{AreGood};
 ghost use Rattle.cs_file.specs.Indexes.{Fits, StandsFor};
 ghost use Rattle.cs_model.specs.Corpus.{Corpus};
 ghost use Rattle.cs_model_index.specs.Sections.{file_corpus};
-ghost use Rattle.cs_hub.specs.Asked.{AsksOf};
-ghost use Rattle.cs_hub.specs.DueReads.{AnswersWithin, bytes_behind, bytes_to_answer, goes_on, requests_on};
+ghost use Rattle.cs_hub.specs.Asked.{AsksAsSent};
+ghost use Rattle.cs_hub.specs.DueReads.{AnswersWithin, SentAt, SentBefore, bytes_behind, bytes_to_answer, goes_on, requests_on};
 ghost use Rattle.cs_hub.specs.Following.{HasLive, HasLiveBut, IsWhole, LeavesOthers, StaysRight, left_at};
 ghost use Rattle.cs_hub.specs.Rounds.{Greets, Heeds, Lightens, KeepsCame, closed_unless};
 ghost use Rattle.cs_hub.specs.Speaking.{Starved};
@@ -53,7 +53,7 @@ impl Core {
         ensures lighter { Lightens event self.old self.new }
 
         // How much is read for the requests that are answered, over every store and hub.
-        ensures reads { AnswersWithin (goes_on self.new event) (requests_on (bytes_to_answer self.old event piece.now)) engine.old engine.new (S.reads store.old) (S.reads store.new) }
+        ensures reads { AnswersWithin (S.bytes store.old) (goes_on self.new event) (requests_on (bytes_to_answer self.old event piece.now)) engine.old engine.new (S.reads store.old) (S.reads store.new) (S.faults store.old) (S.faults store.new) (SentAt event (H.talk hub.old) (H.talk hub.new)) }
 
         ensures index { engine.new.index ≡ engine.old.index }
         ensures capacity { engine.new.answers.capacity ≡ engine.old.answers.capacity }
@@ -86,7 +86,7 @@ impl Core {
         ensures faults { H.faults hub.new ≡ H.faults hub.old }
         ensures orderly { IsOrderly (H.state hub.old) (H.talk hub.old) → IsOrderly (H.state hub.new) (H.talk hub.new) }
         ensures lighter { Lightens event self.old self.new }
-        ensures asked { AsksOf A.leaves (goes_on self.new event) (requests_on (bytes_to_answer self.old event piece.now)) (A.kept answerer.old) (A.kept answerer.new) }
+        ensures asked { AsksAsSent A.leaves (goes_on self.new event) (requests_on (bytes_to_answer self.old event piece.now)) (A.kept answerer.old) (A.kept answerer.new) (SentAt event (H.talk hub.old) (H.talk hub.new)) }
         ensures still { (k : Corpus) → A.answers answerer.old k → A.answers answerer.new k }
         ensures lent { A.lent answerer.new ≡ A.lent answerer.old }
         ensures later { A.faults answerer.old ≤ A.faults answerer.new }
@@ -133,7 +133,7 @@ impl Core {
         ensures faults { H.faults hub.new ≡ H.faults hub.old }
         ensures orderly { IsOrderly (H.state hub.old) (H.talk hub.old) → IsOrderly (H.state hub.new) (H.talk hub.new) }
         ensures lighter { Lightens (Event.Piece conn (length piece.now)) self.old self.new }
-        ensures asked { AsksOf A.leaves (is_some (left_at self.new conn)) (requests_on (bytes_behind (left_at self.old conn) piece.now)) (A.kept answerer.old) (A.kept answerer.new) }
+        ensures asked { AsksAsSent A.leaves (is_some (left_at self.new conn)) (requests_on (bytes_behind (left_at self.old conn) piece.now)) (A.kept answerer.old) (A.kept answerer.new) (SentBefore conn (H.talk hub.old) (H.talk hub.new)) }
         ensures still { (k : Corpus) → A.answers answerer.old k → A.answers answerer.new k }
         ensures lent { A.lent answerer.new ≡ A.lent answerer.old }
         ensures later { A.faults answerer.old ≤ A.faults answerer.new }

@@ -27,7 +27,7 @@ impl Answerer for Empty {
 
     ghost kept = { λ _. tt };
 
-    ghost leaves = { λ _ _ _. Unit {0} };
+    ghost leaves = { λ _ _ _ _. Unit {0} };
 
     fn reply(&mut self, alloc: Global, _request: &Request) -> Result<Reply, AskFault> {
         if self.failing > 0 {

@@ -11,7 +11,7 @@ pub loop-used-init : goal.loop-used-init
 loop-used-init g c = record {
   live = c.requires.live;
   along = along_start (g.A.Answerer.answers c.args.answerer.now) c.args.conn (c.args.reading.now ++ c.args.piece.now) (g.A.Answerer.faults c.args.answerer.now) (g.H.Hub.talk c.args.hub.now);
-  asked = asked_start g.A.Answerer.leaves (c.args.reading.now ++ c.args.piece.now) (g.A.Answerer.kept c.args.answerer.now);
+  asked = asked_start g.A.Answerer.leaves c.args.conn (c.args.reading.now ++ c.args.piece.now) (g.A.Answerer.kept c.args.answerer.now) (g.H.Hub.talk c.args.hub.now);
   still = λ k h. h;
   lent = search rules;
   later = omega arith;
@@ -30,7 +30,7 @@ loop-used-preserved g c =
       along = subst (λ r. Along over c.args.conn (c.args.reading.now ++ c.args.piece.now) (c.turn.new.self ++ r) before after talk then) (sym c.behind-rest.ensures)
           (along_next over (g.A.Answerer.answers c.loop-used.answerer) c.args.conn c.in-Next.used (c.args.reading.now ++ c.args.piece.now) c.loop-used.reading c.loop-used.rest.now c.turn.new.self before (g.A.Answerer.faults c.loop-used.answerer) after talk (g.H.Hub.talk c.loop-used.hub) then
           c.loop-used.invariant.still c.loop-used.invariant.along c.in-Next.ensures.turned);
-      asked = asked_next g.A.Answerer.leaves (c.args.reading.now ++ c.args.piece.now) (drop c.in-Next.used c.loop-used.rest.now) (c.loop-used.reading ++ c.loop-used.rest.now) c.turn.new.self c.behind-rest.result.now (g.A.Answerer.kept c.args.answerer.now) (g.A.Answerer.kept c.loop-used.answerer) (g.A.Answerer.kept c.turn.new.answerer)
+      asked = asked_next g.A.Answerer.leaves c.args.conn (c.args.reading.now ++ c.args.piece.now) (drop c.in-Next.used c.loop-used.rest.now) (c.loop-used.reading ++ c.loop-used.rest.now) c.turn.new.self c.behind-rest.result.now (g.A.Answerer.kept c.args.answerer.now) (g.A.Answerer.kept c.loop-used.answerer) (g.A.Answerer.kept c.turn.new.answerer) talk (g.H.Hub.talk c.loop-used.hub) then
           c.in-Next.ensures.turned.emptied c.behind-rest.ensures c.loop-used.invariant.asked c.in-Next.ensures.asked;
       still = λ k h. c.in-Next.ensures.still k (c.loop-used.invariant.still k h);
       lent = c.in-Next.ensures.lent ∙ c.loop-used.invariant.lent;
@@ -50,10 +50,10 @@ returns-in-Stops-clause-reads g c =
 
 pub returns-in-Holds-clause-asked : goal.returns-in-Holds-clause-asked
 returns-in-Holds-clause-asked g c =
-    asked_hold g.A.Answerer.leaves true (c.args.reading.now ++ c.args.piece.now) (c.loop-used.reading ++ c.loop-used.rest.now) (g.A.Answerer.kept c.args.answerer.now) (g.A.Answerer.kept c.loop-used.answerer) (g.A.Answerer.kept c.turn.new.answerer)
-    c.loop-used.invariant.asked c.in-Holds.ensures.asked.0 c.in-Holds.ensures.asked.1
+    asked_hold g.A.Answerer.leaves c.args.conn true (c.args.reading.now ++ c.args.piece.now) (c.loop-used.reading ++ c.loop-used.rest.now) (g.A.Answerer.kept c.args.answerer.now) (g.A.Answerer.kept c.loop-used.answerer) (g.A.Answerer.kept c.turn.new.answerer) (g.H.Hub.talk c.args.hub.now) (g.H.Hub.talk c.loop-used.hub) (g.H.Hub.talk c.turn.new.hub)
+    c.loop-used.invariant.asked c.in-Holds.ensures.asked
 
 pub returns-in-Stops-clause-asked : goal.returns-in-Stops-clause-asked
 returns-in-Stops-clause-asked g c =
-    asked_stop g.A.Answerer.leaves (c.args.reading.now ++ c.args.piece.now) (c.loop-used.reading ++ c.loop-used.rest.now) (g.A.Answerer.kept c.args.answerer.now) (g.A.Answerer.kept c.loop-used.answerer) (g.A.Answerer.kept c.turn.new.answerer)
+    asked_stop g.A.Answerer.leaves c.args.conn (c.args.reading.now ++ c.args.piece.now) (c.loop-used.reading ++ c.loop-used.rest.now) (g.A.Answerer.kept c.args.answerer.now) (g.A.Answerer.kept c.loop-used.answerer) (g.A.Answerer.kept c.turn.new.answerer) (g.H.Hub.talk c.args.hub.now) (g.H.Hub.talk c.loop-used.hub) (g.H.Hub.talk c.turn.new.hub)
     c.loop-used.invariant.asked c.in-Stops.ensures.asked

@@ -3,11 +3,10 @@ use Rattle.std.proofs.lemmas.Grind.{common_steps}
 use Rattle.cs_hub.proofs.ReadingLemmas.{open_none}
 use Rattle.cs_hub.proofs.TurnLemmas.{replied_by}
 use Rattle.std.proofs.Common.{subst}
-use Rattle.std.specs.Prelude.{is_ok}
 use Rattle.cs_model_serving.specs.Heads.{judge}
-use Rattle.cs_hub.specs.Asked.{AsksOf}
-use Rattle.cs_hub.specs.DueReads.{requests_in}
-use Rattle.cs_hub.proofs.AskedLemmas.{asks_whole, sent_ok, sent_open}
+use Rattle.cs_hub.specs.Asked.{AsksAsSent}
+use Rattle.cs_hub.specs.DueReads.{SentBefore, requests_in}
+use Rattle.cs_hub.proofs.AskedLemmas.{asks_sent, nothing_stops, requests_few, sent_open, some_starved}
 use Rattle.cs_hub.proofs.reading.Reading.answer.Goals as goal
 
 pub invariant_of-self-2 : goal.invariant_of-self-2
@@ -22,8 +21,12 @@ returns-clause-replied g c =
 pub returns-clause-asked : goal.returns-clause-asked
 returns-clause-asked g c =
     let all : c.as_slice.result.now ≡ c.args.self.now ++ c.args.end.now = grind (arith, common_steps) in
-    subst (λ h. AsksOf g.A.Answerer.leaves c.send.result (requests_in (judge h)) (g.A.Answerer.kept c.args.answerer.now) (g.A.Answerer.kept c.answer_head-answer.new.answerer)) (ap (λ l. slice_range l c.args.skip (length l)) all)
-    (asks_whole g.A.Answerer.leaves (is_ok c.answer_head-answer.result) c.send.result _ (g.A.Answerer.kept c.args.answerer.now) (g.A.Answerer.kept c.answer_head-answer.new.answerer) (sent_ok c.args.conn c.answer_head-answer.result c.send.result (g.H.Hub.talk c.args.hub.now) (g.H.Hub.talk c.send.new.hub) c.send.ensures.sent) c.answer_head-answer.ensures.asked)
+    subst (λ h. AsksAsSent g.A.Answerer.leaves c.send.result (requests_in (judge h)) (g.A.Answerer.kept c.args.answerer.now) (g.A.Answerer.kept c.answer_head-answer.new.answerer) (SentBefore c.args.conn (g.H.Hub.talk c.args.hub.now) (g.H.Hub.talk c.send.new.hub))) (ap (λ l. slice_range l c.args.skip (length l)) all)
+    (asks_sent g.A.Answerer.leaves c.args.conn c.answer_head-answer.result c.send.result _ (g.A.Answerer.kept c.args.answerer.now) (g.A.Answerer.kept c.answer_head-answer.new.answerer) (g.H.Hub.talk c.args.hub.now) (g.H.Hub.talk c.send.new.hub) (requests_few (judge _)) c.send.ensures.sent c.answer_head-answer.ensures.asked)
+
+pub returns-then-is_err-clause-asked : goal.returns-then-is_err-clause-asked
+returns-then-is_err-clause-asked g c =
+    nothing_stops g.A.Answerer.leaves c.args.conn _ (g.A.Answerer.kept c.args.answerer.now) (g.H.Hub.talk c.args.hub.now) (g.H.Hub.talk c.starve.new.hub) (some_starved c.args.conn (g.H.Hub.talk c.args.hub.now) (g.H.Hub.talk c.starve.new.hub) c.starve.ensures.starved)
 
 pub returns-clause-going : goal.returns-clause-going
 returns-clause-going g c =

@@ -3,6 +3,7 @@ use Rattle.std.proofs.lemmas.List.{set-set}
 use Rattle.std.specs.Prelude.{None}
 use Rattle.cs_hub.specs.Turns.{Received}
 use Rattle.cs_hub.proofs.SlotLemmas.{held_within}
+use Rattle.cs_hub.proofs.AskedLemmas.{asks_of_line}
 use Rattle.cs_hub.proofs.ActLemmas.{heeds_acted, heeds_lighter}
 use Rattle.cs_hub.proofs.slots.Core.hear.Goals as goal
 
@@ -21,3 +22,11 @@ returns-clause-lighter g c =
     heeds_lighter (g.A.Answerer.answers c.args.answerer.now) c.args.self.now c.settle.new.self c.args.conn c.in-Some.line c.args.piece.now c.receive-kept.result (g.A.Answerer.faults c.args.answerer.now) (g.A.Answerer.faults c.receive-kept.new.answerer) (g.H.Hub.talk c.args.hub.now) (g.H.Hub.talk c.receive-kept.new.hub)
     (c.settle.ensures.core ∙ ap (λ k. slice_set k c.args.conn c.receive-kept.result) c.take.ensures.taken ∙ set-set c.args.self.now c.args.conn None c.receive-kept.result)
     (sym c.in-Some.ensures.value) c.receive-kept.ensures.room c.requires.some c.receive-kept.ensures.received
+
+pub returns-clause-asked : goal.returns-clause-asked
+returns-clause-asked g c =
+    let now = g.A.Answerer.kept c.args.answerer.now in
+    let then = g.A.Answerer.kept c.receive-kept.new.answerer in
+    asks_of_line g.A.Answerer.leaves c.args.conn c.args.self.now c.settle.new.self c.in-Some.line c.args.piece.now c.receive-kept.result now then (g.H.Hub.talk c.args.hub.now) (g.H.Hub.talk c.receive-kept.new.hub) (g.H.Hub.talk c.settle.new.hub)
+    (c.settle.ensures.core ∙ ap (λ k. slice_set k c.args.conn c.receive-kept.result) c.take.ensures.taken ∙ set-set c.args.self.now c.args.conn None c.receive-kept.result)
+    (held_within c.args.self.now c.args.conn c.requires.held) c.in-Some.ensures.value c.settle.ensures.talk c.receive-kept.ensures.asked

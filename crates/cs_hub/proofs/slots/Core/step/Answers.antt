@@ -3,7 +3,7 @@ use Rattle.cs_engine.specs.Keeping.{AreGood}
 use Rattle.cs_file.specs.Indexes.{StandsFor}
 use Rattle.cs_model_index.specs.Sections.{file_corpus}
 use Rattle.cs_hub.specs.DueReads.{bytes_to_answer, goes_on, requests_on}
-use Rattle.cs_hub.proofs.AskedLemmas.{within_for}
+use Rattle.cs_hub.proofs.AskedLemmas.{standing, stands_so, within_for}
 use Rattle.cs_hub.proofs.FollowLemmas.{good_after}
 use Rattle.cs_hub.proofs.slots.Core.step.Goals as goal
 
@@ -20,5 +20,6 @@ pub returns-clause-reads : goal.returns-clause-reads
 returns-clause-reads g c =
     let before = c.new-asking.result in
     let then = c.step_with.new.answerer in
-    within_for (goes_on c.step_with.new.self c.args.event) (requests_on (bytes_to_answer c.args.self.now c.args.event c.args.piece.now)) (before.engine.now, g.S.Store.reads before.store.now) (then.engine.now, g.S.Store.reads then.store.now) _ _ _ _
-    (search rules) (search rules) (search rules) (search rules) c.step_with.ensures.asked
+    within_for (goes_on c.step_with.new.self c.args.event) (requests_on (bytes_to_answer c.args.self.now c.args.event c.args.piece.now))
+    (standing (g.S.Store.bytes before.store.now) before.engine.now (g.S.Store.reads before.store.now) (g.S.Store.faults before.store.now)) (standing (g.S.Store.bytes then.store.now) then.engine.now (g.S.Store.reads then.store.now) (g.S.Store.faults then.store.now))
+    _ _ _ _ _ _ _ _ (stands_so _ _ _ _ _ _ _ _ (search rules) (search rules) (search rules) (search rules)) (stands_so _ _ _ _ _ _ _ _ refl (search rules) (search rules) (search rules)) c.step_with.ensures.asked

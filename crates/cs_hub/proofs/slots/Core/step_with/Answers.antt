@@ -1,9 +1,9 @@
-use Rattle.std.proofs.Common.{sym, subst}
-use Rattle.std.specs.Prelude.{None, true}
+use Rattle.std.proofs.Common.{◌≡◌, refl, sym, subst}
+use Rattle.std.specs.Prelude.{[], None, true}
 use Rattle.cs_base.specs.declared.outside.hub.Event.{Event}
 use Rattle.cs_base.specs.declared.outside.hub.Event.TheVariants.{Opened, Piece, Ended}
-use Rattle.cs_hub.specs.Asked.{AsksOf}
-use Rattle.cs_hub.specs.DueReads.{bytes_to_answer, goes_on, requests_on}
+use Rattle.cs_hub.specs.Asked.{AsksAsSent}
+use Rattle.cs_hub.specs.DueReads.{SentAt, bytes_to_answer, goes_on, requests_on}
 use Rattle.cs_hub.specs.Following.{HasLiveBut, IsWhole, StaysRight}
 use Rattle.cs_hub.proofs.ActLemmas.{acted_live, ended_acted}
 use Rattle.cs_hub.proofs.AskedLemmas.{asks_no_bytes}
@@ -61,14 +61,20 @@ returns-in-Over-clause-follows g c = λ k over.
 pub returns-in-Opened-clause-asked : goal.returns-in-Opened-clause-asked
 returns-in-Opened-clause-asked g c =
     let kept = g.A.Answerer.kept c.args.answerer.now in
-    subst (λ (v : Event). AsksOf g.A.Answerer.leaves (goes_on c.open.new.self v) (requests_on (bytes_to_answer c.args.self.now v c.args.piece.now)) kept kept) (sym c.in-Opened.is) (asks_no_bytes g.A.Answerer.leaves true kept)
+    subst (λ (v : Event). AsksAsSent g.A.Answerer.leaves (goes_on c.open.new.self v) (requests_on (bytes_to_answer c.args.self.now v c.args.piece.now)) kept kept (SentAt v (g.H.Hub.talk c.args.hub.now) (g.H.Hub.talk c.open.new.hub))) (sym c.in-Opened.is) (asks_no_bytes g.A.Answerer.leaves true kept (λ xs. xs ≡ []) refl)
 
 pub returns-in-Ended-clause-asked : goal.returns-in-Ended-clause-asked
 returns-in-Ended-clause-asked g c =
     let kept = g.A.Answerer.kept c.args.answerer.now in
-    subst (λ (v : Event). AsksOf g.A.Answerer.leaves (goes_on c.forget.new.self v) (requests_on (bytes_to_answer c.args.self.now v c.args.piece.now)) kept kept) (sym c.in-Ended.is) (asks_no_bytes g.A.Answerer.leaves true kept)
+    subst (λ (v : Event). AsksAsSent g.A.Answerer.leaves (goes_on c.forget.new.self v) (requests_on (bytes_to_answer c.args.self.now v c.args.piece.now)) kept kept (SentAt v (g.H.Hub.talk c.args.hub.now) (g.H.Hub.talk c.args.hub.now))) (sym c.in-Ended.is) (asks_no_bytes g.A.Answerer.leaves true kept (λ xs. xs ≡ []) refl)
 
 pub returns-in-Over-clause-asked : goal.returns-in-Over-clause-asked
 returns-in-Over-clause-asked g c =
     let kept = g.A.Answerer.kept c.args.answerer.now in
-    subst (λ (v : Event). AsksOf g.A.Answerer.leaves (goes_on c.close_all.new.self v) (requests_on (bytes_to_answer c.args.self.now v c.args.piece.now)) kept kept) (sym c.in-Over.is) (asks_no_bytes g.A.Answerer.leaves true kept)
+    subst (λ (v : Event). AsksAsSent g.A.Answerer.leaves (goes_on c.close_all.new.self v) (requests_on (bytes_to_answer c.args.self.now v c.args.piece.now)) kept kept (SentAt v (g.H.Hub.talk c.args.hub.now) (g.H.Hub.talk c.close_all.new.hub))) (sym c.in-Over.is) (asks_no_bytes g.A.Answerer.leaves true kept (λ xs. xs ≡ []) refl)
+
+pub returns-in-Piece-clause-asked : goal.returns-in-Piece-clause-asked
+returns-in-Piece-clause-asked g c =
+    let now = g.A.Answerer.kept c.args.answerer.now in
+    let then = g.A.Answerer.kept c.hear.new.answerer in
+    subst (λ (v : Event). AsksAsSent g.A.Answerer.leaves (goes_on c.hear.new.self v) (requests_on (bytes_to_answer c.args.self.now v c.args.piece.now)) now then (SentAt v (g.H.Hub.talk c.args.hub.now) (g.H.Hub.talk c.hear.new.hub))) (sym c.in-Piece.is) c.hear.ensures.asked

@@ -1,0 +1,5 @@
+use Rattle.cs_hub.proofs.HeadsLemmas.{heads-served}
+use Rattle.cs_hub.proofs.laws.heads_are_served.Goals as goal
+
+pub returns : goal.returns
+returns c = heads-served
