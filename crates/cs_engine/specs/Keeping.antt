@@ -16,6 +16,7 @@
 --   became o                  what becomes of a query's own entry; of None, which was kept before, Had
 --   behind a keys p o         the entries that a reply by the plan p leaves, where o is the query's own entry, if it wasn't kept before
 --   WasHad n                  an answer was kept before exactly where the plan is Same
+--   fronted q a               the entries that a query leaves where its own isn't kept
 --   IsKeptBehind i q n old new      what is kept after a reply: what was used in front, and before it the query's own entry where it is kept
 --   IsLeftBehind q old new    what is kept after a refusal: the same entries, the used one maybe in front
 --   Keeps i q old r new       the one or the other

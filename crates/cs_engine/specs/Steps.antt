@@ -6,8 +6,10 @@
 --   posts_after n hits excluded posts   the entry behind one part more, whose posts these are, over n documents
 --   with_no_score d                 the document d with the score 0
 --   docs_after n hits excluded posts    the documents of hits behind one part more, whose posts these are, over n documents
+--   IsHitOf docs bound h            a hit's document is in range, and its score not above the bound
 --   IsBaseOf docs bound b           a base's documents ascend and are in range, and no score of it is above the bound
 --   most positive n                 the greatest score of a base of an entry of n parts
+--   is_in_base b p                  a base lists the document of the post p
 --   EntryFits i positive n e        an entry of n parts is in the range of an index
 --   end_positive ps                 whether the last one of these parts is positive
 --   last_is_positive q              whether the last part of a query is positive

@@ -1,8 +1,5 @@
-use Rattle.std.proofs.Common.{◌≡◌, ◌≤◌, List, ℕ, [], length, arith, refl, sym, subst}
-use Rattle.std.specs.List.{list_all}
+use Rattle.std.proofs.Common.{◌≡◌, List, ℕ, [], arith, refl, sym, subst}
 use Rattle.std.specs.List.Sorted.{IsStrictlySortedBy}
-use Rattle.std.specs.Ordering.{nat_cmp}
-use Rattle.std.specs.Cmp.Lexicographic.{slice_cmp}
 use Rattle.cs_model.specs.Parameters.{HoldsLimits}
 use Rattle.cs_model.specs.Refusals.{IsOfGrammar}
 use Rattle.cs_model.proofs.PartsLemmas.{few_parts}
