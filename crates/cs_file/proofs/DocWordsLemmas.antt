@@ -4,7 +4,7 @@
 --   words_even, words_known, docs_known     they are as many, and in range
 --   doc_words_stood      over bytes that stand for the index they are those of the block's posts
 --   fault_changed, fault_unchanged      what a fault says
-use Rattle.std.proofs.Common.{◌≡◌, ℕ, ◌+◌, ◌<◌, ◌≤◌, ◌^◌, false, List, [], ◌++◌, length, get_or, map, Option, Some, Result, Ok, Err, refl, sym, ap, subst, ◌∙◌, arith}
+use Rattle.std.proofs.Common.{◌≡◌, ℕ, ◌+◌, ◌<◌, ◌≤◌, ◌^◌, false, List, [], length, map, Option, Some, Result, Ok, Err, refl, sym, ap, subst, ◌∙◌, arith}
 use Rattle.std.specs.Prelude.{All, IfErr}
 use Rattle.std.proofs.lemmas.List.{length-map}
 use Rattle.std.proofs.lemmas.List.Elements.{All-map, All-weaker}
@@ -19,7 +19,7 @@ use Rattle.cs_file.specs.Answers.{AreOf, IsChangeOfBlock, is_changed}
 use Rattle.cs_file.specs.Fetching.{DecodesAt}
 use Rattle.cs_file.specs.declared.fault.FetchFault.{FetchFault}
 use Rattle.cs_file.specs.Indexes.{IndexView, IsIndex, StandsFor, block_posts}
-use Rattle.cs_file.proofs.FetchLemmas.{BlockRead, changed_by, shaped_read, stood_by, unchanged_by}
+use Rattle.cs_file.proofs.FetchLemmas.{BlockRead, changed_by, shaped_read, unchanged_by}
 use Rattle.cs_file.proofs.HeadsLemmas.{head_within}
 use Rattle.cs_file.proofs.PostsLemmas.{block_docs, block_words}
 use Rattle.cs_file.proofs.StoodLemmas.{stood_block}

@@ -1,4 +1,4 @@
-use Rattle.std.proofs.Common.{◌≡◌, ℕ, suc, ◌+◌, ◌-◌, ◌++◌, List, length, get_or, refl, sym, ap, ◌∙◌, arith}
+use Rattle.std.proofs.Common.{◌≡◌, ◌+◌, ◌-◌, length, get_or, refl, sym, ap, ◌∙◌, arith}
 use Rattle.cs_block.specs.ColumnsView.{seen}
 use Rattle.cs_block.proofs.DocWordsLemmas.{run_added}
 use Rattle.cs_block.proofs.doc_words.add_run.Goals as goal
