@@ -4,9 +4,9 @@
 --   heads_on, heads_end        heads that are read one by one
 --   directory_is, heads_are    the stage and the heads, by the section's bytes and the words
 --   has_heads          what the rules say of them
-use Rattle.std.proofs.Common.{◌≡◌, ℕ, zero, suc, ◌+◌, ◌-◌, ◌*◌, ◌<◌, ◌≤◌, Bool, true, false, List, [], ◌∷◌, ◌++◌, length, get_or, take, drop, Option, Some, None, refl, sym, ap, subst, ◌∙◌, arith, drop-drop}
+use Rattle.std.proofs.Common.{◌≡◌, ℕ, zero, suc, ◌+◌, ◌-◌, ◌*◌, ◌<◌, ◌≤◌, Bool, true, List, [], ◌∷◌, ◌++◌, length, take, drop, Option, Some, None, refl, sym, ap, subst, ◌∙◌, arith, drop-drop}
 use Rattle.std.specs.Prelude.{All}
-use Rattle.std.specs.List.{list_all, sum_by}
+use Rattle.std.specs.List.{list_all}
 use Rattle.std.specs.Int.{w32, from_be_bytes}
 use Rattle.std.specs.Option.{option_or}
 use Rattle.std.proofs.lemmas.Bool.{and_parts, eqb-true, and_from}
@@ -16,12 +16,12 @@ use Rattle.cs_base.specs.declared.index.block.BlockHead.{BlockHead}
 use Rattle.cs_base.specs.declared.index.block.Broken.{Broken}
 use Rattle.cs_base.specs.outside.Outside.{part}
 use Rattle.cs_model.proofs.FirstLemmas.{unless_none}
-use Rattle.cs_model.specs.First.{unless, first_reason}
-use Rattle.cs_model_index.specs.FileRules.{laid, last_value, break_of, words_end, is_joined, is_of_one_kind, is_sized, tried}
+use Rattle.cs_model.specs.First.{first_reason}
+use Rattle.cs_model_index.specs.FileRules.{laid, is_joined, is_of_one_kind, is_sized, tried}
 use Rattle.cs_model_index.specs.Layout.{Header}
 use Rattle.cs_model_index.specs.Numbered.{word_at}
 use Rattle.cs_model_index.specs.Partitions.{is_facet}
-use Rattle.cs_model_index.specs.Sections.{number_at, head_in, heads_in, header_of, contents_of, offsets_len, directory_len, offsets_at, titles_at, directory_at, blocks_at}
+use Rattle.cs_model_index.specs.Sections.{number_at, head_in, heads_in, header_of, contents_of, offsets_len, directory_len, directory_at}
 use Rattle.cs_model_index.specs.declared.limits.TheConstants.{HEADER_BYTES, ENTRY_BYTES}
 use Rattle.cs_model_index.proofs.NumbersLemmas.{heads_count}
 use Rattle.cs_file.specs.Opening.{IsHeaderOf, HasHeads, bad_joint, bad_size, directory_judged, directory_stage, heads_of, words_of}

@@ -6,12 +6,12 @@
 --   header_part          what is read of the first bytes is what is read of all
 --   refused_short, rest_is     rule 1, and the others where it holds
 --   header_told          the header is that of all bytes
-use Rattle.std.proofs.Common.{◌≡◌, ℕ, ◌+◌, ◌-◌, ◌<◌, ◌≤◌, ◌^◌, ◌==◌, List, [], ◌∷◌, length, take, drop, Option, Some, None, Result, Ok, Err, refl, sym, ap, subst, ◌∙◌, arith, length-take}
+use Rattle.std.proofs.Common.{◌≡◌, ℕ, ◌+◌, ◌-◌, ◌<◌, ◌≤◌, ◌^◌, ◌==◌, List, [], ◌∷◌, length, take, drop, Option, Some, None, refl, sym, ap, subst, ◌∙◌, arith}
 use Rattle.std.specs.Prelude.{nat_le}
 use Rattle.std.specs.List.{AllByRecursion}
 use Rattle.std.specs.Int.{w32, from_be_bytes}
 use Rattle.std.specs.Str.{bytes_eq}
-use Rattle.std.proofs.lemmas.Bool.{and_parts, leb-true, eqb-true, le-leb}
+use Rattle.std.proofs.lemmas.Bool.{and_parts, leb-true, eqb-true}
 use Rattle.std.proofs.lemmas.List.{drop-take, take-take}
 use Rattle.cs_base.specs.declared.index.block.Broken.{Broken}
 use Rattle.cs_base.specs.outside.Outside.{part}
@@ -23,7 +23,7 @@ use Rattle.cs_model_index.specs.Sections.{number_at, header_of, size_by}
 use Rattle.cs_model_index.specs.declared.limits.TheConstants.{HEADER_BYTES}
 use Rattle.cs_file.specs.declared.fault.OpenFault.{OpenFault}
 use Rattle.cs_file.specs.Opening.{Refuses, IsHeader, IsHeaderOf, header_stage, header_judged}
-use Rattle.cs_file.proofs.StagesLemmas.{refuses_at, refuses_first, refuses_rest, none_of_all, first_none}
+use Rattle.cs_file.proofs.StagesLemmas.{refuses_first, refuses_rest, none_of_all, first_none}
 
 -- ---- rules 2 to 4
 abbrev magic_break : List ℕ → Option ℕ

@@ -19,7 +19,7 @@ use Rattle.cs_base.specs.declared.content.limits.TheConstants.{MAX_WORDS}
 use Rattle.cs_model_index.specs.Blocks.{IsShaped}
 use Rattle.cs_model_index.specs.FileRules.{laid, last_value, words_end, is_joined, is_sized}
 use Rattle.cs_model_index.specs.declared.limits.TheConstants.{ENTRY_BYTES}
-use Rattle.cs_file.specs.Indexes.{IndexView, IsIndex, is_met, AreMet}
+use Rattle.cs_file.specs.Indexes.{IndexView, IsIndex, AreMet}
 
 -- ---- blocks that lie one behind the other
 pub AreJoined : ℕ → List BlockHead → Type 0

@@ -5,9 +5,9 @@
 --   rest_start, rest_on, rest_broken, rest_end        the steps of a search from the left
 --   all_hold             where no item breaks a rule, each keeps it
 --   held_anywhere        and so it does wherever the values lie
-use Rattle.std.proofs.Common.{◌≡◌, ℕ, zero, suc, ◌+◌, ◌-◌, ◌<◌, ◌≤◌, ◌&&◌, Bool, true, false, not, cond, List, [], ◌∷◌, length, get_or, drop, Option, Some, None, refl, sym, ap, subst, ◌∙◌, arith}
+use Rattle.std.proofs.Common.{◌≡◌, ℕ, zero, suc, ◌+◌, ◌<◌, ◌≤◌, ◌&&◌, Bool, true, false, not, cond, List, [], ◌∷◌, length, get_or, drop, Option, Some, None, refl, sym, ap, ◌∙◌, arith}
 use Rattle.std.specs.Prelude.{find}
-use Rattle.std.specs.List.{AllByRecursion, list_all, slice_get}
+use Rattle.std.specs.List.{list_all, slice_get}
 use Rattle.std.specs.Option.{option_map}
 use Rattle.std.proofs.lemmas.Bool.{and_from}
 use Rattle.cs_model_index.specs.FileRules.{Placed, laid, place_of_item, break_of}

@@ -9,30 +9,29 @@
 --   AllRead, read_whole           where all bytes were read, all are below 256
 --   index_is, stands_for          over a store that tells it stands for the bytes
 --   fits_store         and the blocks lie within them
-use Rattle.std.proofs.Common.{◌≡◌, ℕ, zero, suc, ◌+◌, ◌-◌, ◌*◌, ◌<◌, ◌≤◌, ◌^◌, true, List, [], ◌∷◌, ◌++◌, length, get_or, take, drop, Option, Some, None, Result, Ok, Err, refl, sym, ap, subst, ◌∙◌, arith}
+use Rattle.std.proofs.Common.{◌≡◌, ℕ, ◌+◌, ◌*◌, ◌<◌, ◌≤◌, ◌^◌, List, [], ◌∷◌, ◌++◌, length, take, Option, Some, None, Result, Ok, Err, refl, sym, ap, subst, ◌∙◌, arith}
 use Rattle.std.specs.Prelude.{All, IfErr}
 use Rattle.std.specs.List.{sum_by}
-use Rattle.std.specs.Option.{ForSome}
 use Rattle.std.specs.Result.{IsErrAnd}
 use Rattle.std.proofs.lemmas.List.{take_all}
 use Rattle.std.proofs.lemmas.List.Sums.{sum_by_more_le}
 use Rattle.cs_base.specs.declared.index.block.BlockHead.{BlockHead}
 use Rattle.cs_base.specs.declared.index.block.Broken.{Broken}
-use Rattle.cs_base.specs.declared.content.limits.TheConstants.{MAX_DOCS, MAX_WORDS, MAX_ROWS}
+use Rattle.cs_base.specs.declared.content.limits.TheConstants.{MAX_ROWS}
 use Rattle.cs_model.specs.First.{first_reason}
 use Rattle.cs_model_index.specs.Blocks.{IsShaped}
 use Rattle.cs_model_index.specs.FileRules.{header_rules, vocabulary_rules, title_rules, directory_rules, parting_rules, damage}
-use Rattle.cs_model_index.specs.Layout.{Header, vocabulary_bytes}
-use Rattle.cs_model_index.specs.Sections.{header_of, contents_of, vocabulary_at, offsets_at, offsets_len, titles_at, directory_at, directory_len, blocks_at, size_by}
+use Rattle.cs_model_index.specs.Layout.{Header}
+use Rattle.cs_model_index.specs.Sections.{header_of, contents_of, vocabulary_at, offsets_at, titles_at, directory_at, blocks_at, size_by}
 use Rattle.cs_model_index.specs.declared.limits.TheConstants.{HEADER_BYTES, NUMBER_BYTES, ENTRY_BYTES}
 use Rattle.cs_file.specs.Answers.{IsDamageOf}
 use Rattle.cs_file.specs.declared.fault.OpenFault.{OpenFault}
 use Rattle.cs_file.specs.declared.fault.OpenFault.TheVariants as opens
-use Rattle.cs_file.specs.Indexes.{IndexView, IsIndex, index_of, StandsFor, Fits, block_place, titles_end}
+use Rattle.cs_file.specs.Indexes.{IndexView, IsIndex, index_of, StandsFor, Fits}
 use Rattle.cs_file.specs.Opening.{Refuses, AreBytes, IsHeader, IsHeaderOf, HasHeader, HasVocabulary, HasOffsets, HasHeads, header_stage, vocabulary_stage, titles_stage, directory_stage, blocks_stage, parting_stage, words_of, offsets_of, heads_of}
 use Rattle.cs_file.proofs.BytesLemmas.{more_front, all_bytes}
 use Rattle.cs_file.proofs.HeadsLemmas.{head_shaped}
-use Rattle.cs_file.proofs.StagesLemmas.{refuses_at, refuses_first, refuses_rest, none_of_all}
+use Rattle.cs_file.proofs.StagesLemmas.{refuses_first}
 
 -- ---- the stages
 joined : (rs qs : List (Option Broken)) → first_reason (rs ++ qs) ≡ first_reason (first_reason rs ∷ first_reason qs ∷ [])

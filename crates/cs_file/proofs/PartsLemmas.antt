@@ -4,18 +4,18 @@
 --   parts_count          there is a part for each head
 --   parting_is           the stage, by the parts
 --   next_is              the part behind another one
-use Rattle.std.proofs.Common.{◌≡◌, ℕ, zero, suc, ◌+◌, ◌*◌, ◌<◌, ◌≤◌, ◌&&◌, Bool, true, false, not, cond, List, [], ◌∷◌, length, get_or, take, drop, map, Option, Some, None, refl, sym, ap, ◌∙◌, arith}
-use Rattle.std.specs.Prelude.{find, count_by}
+use Rattle.std.proofs.Common.{◌≡◌, ℕ, zero, suc, ◌+◌, ◌&&◌, Bool, true, false, not, cond, List, [], ◌∷◌, length, take, drop, map, Option, Some, None, refl, sym, ap, ◌∙◌, arith}
+use Rattle.std.specs.Prelude.{find}
 use Rattle.std.specs.List.{slice_get, zip}
 use Rattle.std.specs.Option.{option_map}
 use Rattle.cs_base.specs.declared.index.block.BlockHead.{BlockHead}
 use Rattle.cs_base.specs.declared.index.block.Broken.{Broken}
 use Rattle.cs_base.specs.declared.content.doc.Post.{Post}
 use Rattle.cs_model.specs.First.{first_reason}
-use Rattle.cs_model_index.specs.BlockRules.{Item, item_row, items_in, doc_before, row_at, gap_number, gap_len, rows_read}
-use Rattle.cs_model_index.specs.FileRules.{Block, Placed, laid, break_of, has_rows, is_closed, is_parted, place_of_item, tried}
+use Rattle.cs_model_index.specs.BlockRules.{item_row, items_in, doc_before, row_at, gap_number, gap_len, rows_read}
+use Rattle.cs_model_index.specs.FileRules.{Block, Placed, laid, break_of, has_rows, is_parted, place_of_item, tried}
 use Rattle.cs_model_index.specs.Layout.{Header}
-use Rattle.cs_model_index.specs.Partitions.{is_light, is_full}
+use Rattle.cs_model_index.specs.Partitions.{is_light}
 use Rattle.cs_model_index.specs.Sections.{header_of, contents_of, blocks_in, directory_at}
 use Rattle.cs_model_index.specs.declared.limits.TheConstants.{ENTRY_BYTES}
 use Rattle.cs_file.specs.declared.part.Part.{Part}

@@ -6,7 +6,7 @@
 --   reading, reads_on, read_refused, read_all       its steps
 --   at_next, at_within   the place of a block
 --   block_bytes_on, block_bytes_all      the bytes of the blocks
-use Rattle.std.proofs.Common.{◌≡◌, ℕ, zero, suc, ◌+◌, ◌-◌, ◌<◌, ◌≤◌, ◌^◌, List, [], ◌∷◌, ◌++◌, length, get_or, take, drop, map, Option, Some, None, Result, refl, sym, ap, subst, ◌∙◌, arith, drop-drop}
+use Rattle.std.proofs.Common.{◌≡◌, ℕ, zero, suc, ◌+◌, ◌<◌, ◌≤◌, ◌^◌, List, [], ◌∷◌, ◌++◌, length, get_or, drop, map, Option, Some, None, refl, sym, ap, subst, ◌∙◌, arith, drop-drop}
 use Rattle.std.specs.Prelude.{All, count_by, ◌==◌}
 use Rattle.std.specs.List.{sum_by, list_all, list_any, range_with_len}
 use Rattle.std.specs.Option.{option_map, option_or}

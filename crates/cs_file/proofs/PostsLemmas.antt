@@ -5,15 +5,14 @@
 --   posts_between          the posts of all blocks that have such words are those of the blocks met
 --   posts_known            each post of the image has a word of the vocabulary and a document below the index's
 --   rows_between           the rows whose words begin with a text are those of the words' numbers
-use Rattle.std.proofs.Common.{◌≡◌, ℕ, zero, suc, ◌+◌, ◌-◌, ◌<◌, ◌≤◌, ◌&&◌, Bool, true, false, true≢false, cond, List, [], ◌∷◌, ◌++◌, length, get_or, take, drop, map, Option, Some, None, refl, sym, ap, subst, ◌∙◌, arith, inl, inr, length-take, length-drop, take-append-drop, get_or-drop, get_or-take}
+use Rattle.std.proofs.Common.{◌≡◌, ℕ, suc, ◌+◌, ◌-◌, ◌<◌, ◌≤◌, ◌&&◌, Bool, true, false, true≢false, cond, List, [], ◌∷◌, ◌++◌, length, get_or, take, drop, Option, Some, None, refl, sym, ap, ◌∙◌, arith, length-take, length-drop, take-append-drop, get_or-drop, get_or-take}
 use Rattle.std.specs.Prelude.{All, filter, flat_map, nat_le, nat_lt}
-use Rattle.std.proofs.lemmas.Bool.{and_parts, and_from, leb-true, ltb-true, lt-ltb, le-leb, cases_lt, false_from_ne_true}
+use Rattle.std.proofs.lemmas.Bool.{and_parts, and_from, leb-true, ltb-true, lt-ltb, false_from_ne_true}
 use Rattle.std.proofs.lemmas.Grind.{flat_map-append}
 use Rattle.std.proofs.lemmas.List.{append-nil}
-use Rattle.std.proofs.lemmas.List.Elements.{All-nil, All-cons, All-head, All-tail, All-append, All-get_or, All-weaker, filter-append}
+use Rattle.std.proofs.lemmas.List.Elements.{All-nil, All-cons, All-head, All-tail, All-append, filter-append}
 use Rattle.cs_base.specs.declared.index.block.BlockHead.{BlockHead}
 use Rattle.cs_base.specs.declared.content.doc.Post.{Post}
-use Rattle.cs_base.specs.outside.Outside.{part}
 use Rattle.cs_model.specs.Answers.{begins}
 use Rattle.cs_model.specs.Scores.{SCORES}
 use Rattle.cs_model_index.specs.BlockRules.{keeps, in_docs, in_words, IsBlock}
@@ -21,7 +20,7 @@ use Rattle.cs_model_index.specs.Images.{image_posts, image_rows}
 use Rattle.cs_model_index.specs.Numbered.{row_of, rows_at}
 use Rattle.cs_model_index.specs.Sections.{image_of}
 use Rattle.cs_vocab.specs.Ranges.{IsRange}
-use Rattle.cs_file.specs.Indexes.{IndexView, IsIndex, StandsFor, block_place, is_met, AreMet, block_posts}
+use Rattle.cs_file.specs.Indexes.{IndexView, IsIndex, StandsFor, is_met, AreMet, block_posts}
 use Rattle.cs_file.proofs.HeadsLemmas.{head_within}
 use Rattle.cs_file.proofs.StoodLemmas.{stood, stood_count, stood_block}
 

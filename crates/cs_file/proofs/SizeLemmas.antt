@@ -5,22 +5,20 @@
 --   blocks_len_is     the bytes of the blocks are those that the heads tell
 --   pair_at           a head with the posts of its block
 --   same_numbers      nine numbers
-use Rattle.std.proofs.Common.{◌≡◌, ℕ, ◌+◌, ◌<◌, ◌≤◌, ◌^◌, List, [], ◌∷◌, ◌++◌, length, map, take, get_or, append-nil, refl, sym, ◌∙◌, ap, arith, length-append}
+use Rattle.std.proofs.Common.{◌≡◌, ℕ, ◌+◌, ◌<◌, ◌≤◌, List, [], ◌∷◌, ◌++◌, length, map, take, get_or, append-nil, refl, sym, ◌∙◌, ap, arith, length-append}
 use Rattle.std.specs.Prelude.{flat_map}
-use Rattle.std.specs.List.{All, sum_by, zip, AllByRecursion}
+use Rattle.std.specs.List.{sum_by, zip, AllByRecursion}
 use Rattle.std.proofs.lemmas.Grind.{flat_map-append}
 use Rattle.std.proofs.lemmas.List.{take_more, get_or-map, length-map}
-use Rattle.std.proofs.lemmas.List.Elements.{All-from_recursion, recursion_from_All}
-use Rattle.std.proofs.lemmas.List.Concat.{flat_map-cons, length-flat_map}
+use Rattle.std.proofs.lemmas.List.Concat.{flat_map-cons}
 use Rattle.std.proofs.lemmas.List.Folds.{length-flat_map-take}
-use Rattle.std.proofs.lemmas.List.Sums.{sum_by-cons, sum_by-le}
+use Rattle.std.proofs.lemmas.List.Sums.{sum_by-cons}
 use Rattle.std.proofs.lemmas.Slice.Zip.{get_or-zip, length-zip}
 use Rattle.cs_cols.specs.declared.cols.Cols.{Cols}
-use Rattle.cs_base.specs.declared.content.limits.TheConstants.{MAX_WORDS, MAX_WORD_BYTES}
 use Rattle.cs_base.specs.declared.index.block.BlockHead.{BlockHead}
 use Rattle.cs_base.specs.declared.content.doc.Post.{Post}
 use Rattle.cs_model_index.specs.Blocks.{block_bytes}
-use Rattle.cs_model_index.specs.Layout.{title_bytes, vocabulary_bytes, blocks_bytes}
+use Rattle.cs_model_index.specs.Layout.{title_bytes, blocks_bytes}
 use Rattle.cs_file.specs.Writable.{BlockFits}
 
 pub titles_joined : (ts : List (List ℕ)) → title_bytes ts ≡ flat_map (λ t. t) ts

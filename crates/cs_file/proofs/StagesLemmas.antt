@@ -7,7 +7,7 @@
 --   on_ok                what holds anyhow holds of an Ok
 --   if_ok_both           two facts of an Ok together
 --   two_first, two_last, three_first, three_second, three_last     of two or three rules, the fault of the first, and the answer of a later one
-use Rattle.std.proofs.Common.{◌≡◌, ℕ, true, false, true≢false, arith, List, [], ◌∷◌, Option, Some, None, Result, Ok, Err, refl, sym, ap, subst, ◌∙◌}
+use Rattle.std.proofs.Common.{◌≡◌, ℕ, false, true≢false, arith, List, [], ◌∷◌, Option, Some, None, Result, Ok, Err, refl, sym, ap, subst, ◌∙◌}
 use Rattle.std.specs.Result.{IsErrAnd, IfOk, OnOk}
 use Rattle.cs_base.specs.declared.index.block.Broken.{Broken}
 use Rattle.cs_model.specs.First.{first_reason}

@@ -9,15 +9,10 @@
 --   posts_in, stood_block      block k is a block by its head, in the bytes at its place
 --   block_words, block_docs    its words are those of its head, and its documents are below the index's
 --   posts_between      the posts of all blocks with a word from one number up to another are those of the blocks that hold such a word
-use Rattle.std.proofs.Common.{◌≡◌, ℕ, zero, suc, ◌+◌, ◌-◌, ◌*◌, ◌<◌, ◌≤◌, ◌^◌, ◌&&◌, Bool, true, false, cond, List, [], ◌∷◌, ◌++◌, length, get_or, take, drop, Option, Some, None, refl, sym, ap, subst, ◌∙◌, arith, inl, inr, length-take, length-drop, take-append-drop, drop-drop}
-use Rattle.std.specs.Prelude.{All, filter, flat_map, nat_le, nat_lt}
+use Rattle.std.proofs.Common.{◌≡◌, ℕ, zero, suc, ◌+◌, ◌<◌, ◌≤◌, ◌^◌, List, [], ◌∷◌, length, get_or, take, drop, Option, Some, None, refl, sym, ap, subst, ◌∙◌, arith, length-take, length-drop, drop-drop}
 use Rattle.std.specs.List.{sum_by}
 use Rattle.std.specs.Option.{option_map, option_or}
-use Rattle.std.proofs.lemmas.Bool.{and_parts, leb-true, leb-false, ltb-true, ltb-false, le-leb, lt-ltb, cases_lt}
-use Rattle.std.proofs.lemmas.Bool.Decides.{nat_tests}
-use Rattle.std.proofs.lemmas.Grind.{flat_map-append}
-use Rattle.std.proofs.lemmas.List.Elements.{All-cons, filter-append}
-use Rattle.std.proofs.lemmas.List.Sums.{sum_by-cons, sum_by-take-le}
+use Rattle.std.proofs.lemmas.List.Sums.{sum_by-cons}
 use Rattle.cs_base.specs.declared.index.block.BlockHead.{BlockHead}
 use Rattle.cs_base.specs.declared.index.block.Broken.{Broken}
 use Rattle.cs_base.specs.declared.content.doc.Post.{Post}
@@ -25,16 +20,15 @@ use Rattle.cs_base.specs.declared.content.limits.TheConstants.{MAX_DOCS}
 use Rattle.cs_base.specs.outside.Outside.{part}
 use Rattle.cs_block.proofs.LawsLemmas.{accepted_are_blocks, unique}
 use Rattle.cs_model.specs.Scores.{SCORES}
-use Rattle.cs_model_index.specs.BlockRules.{judged, rows_read, keeps, in_docs, in_words, MeetAll, IsBlock}
+use Rattle.cs_model_index.specs.BlockRules.{judged, IsBlock}
 use Rattle.cs_model_index.specs.Blocks.{IsShaped}
-use Rattle.cs_model_index.specs.FileRules.{in_file, blocks_break, damage, IsIndexFile}
-use Rattle.cs_model_index.specs.Images.{Image, image_posts}
+use Rattle.cs_model_index.specs.FileRules.{in_file, blocks_break, damage}
 use Rattle.cs_model_index.specs.Sections.{header_of, sections, contents_of, blocks_in, offsets_len, directory_len, blocks_at, image_of}
 use Rattle.cs_model_index.specs.declared.limits.TheConstants.{HEADER_BYTES}
 use Rattle.cs_model_index.proofs.AcceptedLemmas.{RulesHold, rules_hold, sections_sized}
 use Rattle.cs_model_index.proofs.BlockUses.{BlocksAreRead, blocks_are_read}
 use Rattle.cs_model_index.proofs.NumbersLemmas.{IsBytes, bytes_from_all, all_from_bytes, IsBytes-take, IsBytes-drop}
-use Rattle.cs_file.specs.Indexes.{IndexView, IsIndex, index_of, StandsFor, block_place, is_met, AreMet, block_posts}
+use Rattle.cs_file.specs.Indexes.{IndexView, IsIndex, index_of, StandsFor, block_place, block_posts}
 use Rattle.cs_file.proofs.HeadsLemmas.{head_shaped}
 
 pub blocks_law : BlocksAreRead

@@ -7,19 +7,16 @@
 --   TitleTold, title_told  a title of bytes whose header is known
 --   titles_begun, titles_on, title_refused, titles_done    the steps of reading the titles one by one
 --   title_bytes_begun, title_bytes_on, title_bytes_all     and of their bytes
-use Rattle.std.proofs.Common.{◌≡◌, ℕ, zero, suc, ◌+◌, ◌-◌, ◌*◌, ◌<◌, ◌≤◌, Bool, true, false, true≢false, List, [], ◌∷◌, ◌++◌, length, get_or, take, drop, Option, Some, None, Result, refl, sym, ap, subst, ◌∙◌, arith, length-take, length-drop, drop-drop}
-use Rattle.std.specs.List.{list_all}
-use Rattle.std.specs.Option.{ForSome, option_or, unwrap_or}
+use Rattle.std.proofs.Common.{◌≡◌, ℕ, suc, ◌+◌, ◌-◌, ◌*◌, ◌<◌, ◌≤◌, Bool, true, false, List, [], ◌∷◌, ◌++◌, length, get_or, take, drop, Option, Some, None, refl, sym, ap, subst, ◌∙◌, arith, length-take, length-drop, drop-drop}
+use Rattle.std.specs.Option.{option_or}
 use Rattle.std.specs.Str.{is_utf8}
 use Rattle.std.proofs.lemmas.Bool.{eqb-true}
 use Rattle.std.proofs.lemmas.Option.{unwrap_or-slice_get}
 use Rattle.std.proofs.lemmas.List.{append-nil, append_assoc, get_or_default}
-use Rattle.cs_base.specs.declared.index.block.Broken.{Broken}
 use Rattle.cs_base.specs.outside.Outside.{part}
 use Rattle.cs_model.proofs.FirstLemmas.{unless_none}
 use Rattle.cs_model.specs.First.{unless, first_reason}
-use Rattle.cs_model_index.specs.BlockRules.{broken_at}
-use Rattle.cs_model_index.specs.FileRules.{laid, last_value, break_of, is_onward, last_offset_at, tried}
+use Rattle.cs_model_index.specs.FileRules.{laid, break_of, is_onward, tried}
 use Rattle.cs_model_index.specs.Layout.{Header}
 use Rattle.cs_model_index.specs.Sections.{number_at, numbers_in, header_of, contents_of, offsets_len, offsets_at, titles_at, titles_in}
 use Rattle.cs_model_index.specs.declared.limits.TheConstants.{HEADER_BYTES, NUMBER_BYTES}

@@ -5,7 +5,7 @@
 --   within_part      some of the first bytes from a place on
 --   titles_count     there is one title less than there are offsets
 --   stood_title      title d, and that it is UTF-8
-use Rattle.std.proofs.Common.{◌≡◌, ℕ, zero, suc, ◌+◌, ◌-◌, ◌<◌, ◌≤◌, true, List, [], ◌∷◌, length, get_or, take, drop, Option, Some, None, refl, sym, ap, subst, ◌∙◌, arith, length-take, drop-drop}
+use Rattle.std.proofs.Common.{◌≡◌, ℕ, zero, suc, ◌+◌, ◌-◌, ◌<◌, ◌≤◌, true, List, [], ◌∷◌, length, get_or, take, drop, Option, Some, None, refl, sym, ap, subst, ◌∙◌, arith, drop-drop}
 use Rattle.std.specs.List.{AllByRecursion}
 use Rattle.std.specs.Option.{unwrap_or}
 use Rattle.std.specs.Str.{is_utf8}
@@ -13,7 +13,7 @@ use Rattle.std.proofs.lemmas.List.{drop-take, take-take}
 use Rattle.cs_base.specs.outside.Outside.{part}
 use Rattle.cs_model_index.specs.FileRules.{laid, last_value}
 use Rattle.cs_model_index.specs.Sections.{header_of, contents_of, offsets_len, titles_at, titles_in, image_of}
-use Rattle.cs_model_index.specs.declared.limits.TheConstants.{HEADER_BYTES, NUMBER_BYTES}
+use Rattle.cs_model_index.specs.declared.limits.TheConstants.{HEADER_BYTES}
 use Rattle.cs_file.specs.Indexes.{IndexView, IsIndex, StandsFor, titles_end, title_place, title_len, title_in}
 use Rattle.cs_file.proofs.OffsetsLemmas.{title_at_index, spans}
 use Rattle.cs_file.proofs.StoodLemmas.{stood}

@@ -1,4 +1,4 @@
-use Rattle.std.proofs.Common.{◌≡◌, ◌==◌, None, sym, ap, ◌∙◌}
+use Rattle.std.proofs.Common.{◌==◌, None, ap, ◌∙◌}
 use Rattle.std.specs.Option.{option_or}
 use Rattle.cs_model.specs.First.{unless}
 use Rattle.cs_model_index.specs.FileRules.{break_of, is_joined, laid, last_value, words_end}

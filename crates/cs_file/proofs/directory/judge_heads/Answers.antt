@@ -1,9 +1,7 @@
-use Rattle.std.proofs.Common.{◌≡◌, None, sym, ap, subst, ◌∙◌}
+use Rattle.std.proofs.Common.{None, sym, ap, subst, ◌∙◌}
 use Rattle.cs_model_index.specs.FileRules.{break_of, is_of_one_kind, laid, tried}
-use Rattle.cs_model_index.specs.Sections.{directory_at}
 use Rattle.cs_model_index.specs.declared.limits.TheConstants.{ENTRY_BYTES}
-use Rattle.cs_file.specs.HeaderView.{seen}
-use Rattle.cs_file.specs.Opening.{Refuses, Judges, bad_joint, bad_size, directory_judged}
+use Rattle.cs_file.specs.Opening.{Refuses, Judges, directory_judged}
 use Rattle.cs_file.proofs.StagesLemmas.{three_first, three_second, three_last}
 use Rattle.cs_file.proofs.directory.judge_heads.Goals as goal
 

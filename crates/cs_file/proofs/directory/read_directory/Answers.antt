@@ -1,4 +1,4 @@
-use Rattle.std.proofs.Common.{◌≡◌, ◌*◌, ◌≤◌, length, sym, ap, subst, ◌∙◌, arith}
+use Rattle.std.proofs.Common.{◌*◌, length, sym, ap, subst, ◌∙◌, arith}
 use Rattle.cs_base.specs.outside.Outside.{part}
 use Rattle.cs_model_index.proofs.NumbersLemmas.{heads_count}
 use Rattle.cs_file.specs.HeaderView.{seen}

@@ -1,4 +1,4 @@
-use Rattle.std.proofs.Common.{◌≡◌, ◌==◌, ◌+◌, ◌<◌, ◌^◌, ap, sym, ◌∙◌, arith}
+use Rattle.std.proofs.Common.{◌≡◌, ◌==◌, ap, sym, ◌∙◌}
 use Rattle.cs_model.specs.First.{unless, first_reason}
 use Rattle.cs_model_index.specs.FileRules.{field_breaks}
 use Rattle.cs_model_index.specs.Layout.{Header}

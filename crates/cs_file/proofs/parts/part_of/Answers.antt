@@ -1,4 +1,4 @@
-use Rattle.std.proofs.Common.{sym, ap, subst, ◌∙◌}
+use Rattle.std.proofs.Common.{sym, subst, ◌∙◌}
 use Rattle.cs_file.specs.Parting.{HasMarks}
 use Rattle.cs_file.proofs.MarksLemmas.{whole_is}
 use Rattle.cs_file.proofs.parts.part_of.Goals as goal

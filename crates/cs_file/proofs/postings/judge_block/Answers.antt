@@ -1,4 +1,4 @@
-use Rattle.std.proofs.Common.{◌≤◌, length, arith}
+use Rattle.std.proofs.Common.{arith}
 use Rattle.cs_file.proofs.PostingsLemmas.{decoded, decoded_few, decoded_within, part_is}
 use Rattle.cs_file.proofs.postings.judge_block.Goals as goal
 

@@ -1,4 +1,4 @@
-use Rattle.std.proofs.Common.{◌≡◌, ◌+◌, [], ◌∷◌, ◌++◌, length, slice_index_or, refl, sym, ap, subst, ◌∙◌, arith, length-append}
+use Rattle.std.proofs.Common.{◌≡◌, ◌+◌, [], ◌∷◌, length, slice_index_or, refl, sym, ap, subst, ◌∙◌, arith, length-append}
 use Rattle.cs_file.specs.HeaderView.{seen}
 use Rattle.cs_model_index.specs.Sections.{blocks_at}
 use Rattle.cs_file.proofs.BytesLemmas.{no_bytes}

@@ -1,4 +1,4 @@
-use Rattle.std.proofs.Common.{sym, ap, ◌∙◌}
+use Rattle.std.proofs.Common.{ap, ◌∙◌}
 use Rattle.cs_base.specs.outside.Outside.{part}
 use Rattle.cs_file.proofs.BytesLemmas.{bytes_by}
 use Rattle.cs_file.proofs.reading.section.Goals as goal

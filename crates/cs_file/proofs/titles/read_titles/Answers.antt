@@ -1,7 +1,6 @@
-use Rattle.std.proofs.Common.{◌≡◌, ◌+◌, ◌*◌, ◌≤◌, [], ◌∷◌, length, refl, sym, ap, subst, ◌∙◌, arith}
+use Rattle.std.proofs.Common.{◌+◌, ◌*◌, [], ◌∷◌, length, refl, sym, ap, subst, ◌∙◌, arith}
 use Rattle.cs_base.specs.outside.Outside.{part}
 use Rattle.cs_model_index.specs.FileRules.{tried}
-use Rattle.cs_model_index.specs.Sections.{numbers_in}
 use Rattle.cs_model_index.proofs.NumbersLemmas.{numbers_count}
 use Rattle.cs_file.specs.HeaderView.{seen}
 use Rattle.cs_file.specs.Opening.{Refuses, HasOffsets, bad_offset, bad_title}

@@ -1,4 +1,4 @@
-use Rattle.std.proofs.Common.{◌+◌, ◌*◌, ◌≤◌, length, sym, ap, subst, ◌∙◌, arith, slice_index_or, []}
+use Rattle.std.proofs.Common.{◌+◌, length, sym, ap, subst, ◌∙◌, arith, []}
 use Rattle.std.proofs.lemmas.List.{get_or_default}
 use Rattle.cs_model_index.specs.FileRules.{follows, word_size}
 use Rattle.cs_model_index.specs.Sections.{vocabulary_at}

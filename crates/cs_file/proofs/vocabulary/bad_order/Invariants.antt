@@ -1,4 +1,4 @@
-use Rattle.std.proofs.Common.{◌≡◌, ◌+◌, ◌*◌, ◌≤◌}
+use Rattle.std.proofs.Common.{◌+◌, ◌*◌, ◌≤◌}
 use Rattle.cs_model_index.specs.FileRules.{follows, word_size}
 use Rattle.cs_model_index.specs.Sections.{vocabulary_at}
 use Rattle.cs_file.proofs.LaidLemmas.{Rest}

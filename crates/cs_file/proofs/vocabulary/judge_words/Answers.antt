@@ -1,4 +1,4 @@
-use Rattle.std.proofs.Common.{◌≡◌, None, sym, ap, subst, ◌∙◌}
+use Rattle.std.proofs.Common.{None, sym, ap, subst, ◌∙◌}
 use Rattle.cs_model_index.specs.FileRules.{break_of, is_word, follows, laid, tried, word_size}
 use Rattle.cs_model_index.specs.Sections.{vocabulary_at}
 use Rattle.cs_file.specs.Opening.{Refuses, Judges, words_judged}

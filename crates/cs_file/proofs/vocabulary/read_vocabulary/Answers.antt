@@ -1,9 +1,9 @@
-use Rattle.std.proofs.Common.{◌≡◌, ◌+◌, ◌≤◌, [], ◌∷◌, length, refl, sym, ap, subst, ◌∙◌, arith}
+use Rattle.std.proofs.Common.{[], ◌∷◌, length, refl, sym, ap, subst, ◌∙◌, arith}
 use Rattle.cs_base.specs.outside.Outside.{part}
 use Rattle.cs_model_index.specs.FileRules.{tried, words_break}
 use Rattle.cs_model_index.specs.Sections.{vocabulary_at, vocabulary_in}
 use Rattle.cs_file.specs.HeaderView.{seen}
-use Rattle.cs_file.specs.Opening.{Judges, Refuses, words_judged}
+use Rattle.cs_file.specs.Opening.{Refuses, words_judged}
 use Rattle.cs_file.proofs.BytesLemmas.{bytes_at}
 use Rattle.cs_file.proofs.StagesLemmas.{judged_along, judges_by, none_of_all, two_first, two_last}
 use Rattle.cs_file.proofs.VocabularyLemmas.{vocabulary_is, words_are, words_count, has_vocabulary}

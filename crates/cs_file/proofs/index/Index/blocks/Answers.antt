@@ -1,8 +1,7 @@
-use Rattle.std.proofs.Common.{◌≡◌, ◌+◌, ◌<◌, ◌≤◌, List, length, nat_le, nat_lt, true, false, rules, arith, sym, ap, subst}
+use Rattle.std.proofs.Common.{◌≡◌, ◌+◌, List, length, nat_le, nat_lt, true, false, rules, arith, sym, ap, subst}
 use Rattle.std.specs.List.Sorted.{IsPartitionedBy, IsPartitionPoint}
 use Rattle.std.proofs.lemmas.List.Sorted.{IsPartitionPoint-from_clause}
 use Rattle.cs_base.specs.declared.index.block.BlockHead.{BlockHead}
-use Rattle.cs_base.specs.declared.content.limits.TheConstants.{MAX_WORDS}
 use Rattle.cs_file.specs.Indexes.{AreMet}
 use Rattle.cs_file.proofs.HeadsLemmas.{few_heads, ends_are_parted, begins_are_parted, met_between}
 use Rattle.cs_file.proofs.index.Index.blocks.Goals as goal

@@ -1,4 +1,4 @@
-use Rattle.std.proofs.Common.{◌≡◌, ◌+◌, ◌≤◌, length, slice_index_or, ap, subst, ◌∙◌, arith}
+use Rattle.std.proofs.Common.{slice_index_or, ap, subst, ◌∙◌, arith}
 use Rattle.std.proofs.lemmas.Result.{on_ok_weaker}
 use Rattle.cs_file.specs.Indexes.{IsIndex}
 use Rattle.cs_file.proofs.FetchLemmas.{block_within, nothing, block_read, shaped_read, block_by, stood_by, unchanged_by, changed_by}

@@ -1,4 +1,4 @@
-use Rattle.std.proofs.Common.{◌≡◌, ◌+◌, ◌-◌, ◌≤◌, length, slice_index_or, ap, subst, ◌∙◌, arith}
+use Rattle.std.proofs.Common.{subst, arith}
 use Rattle.cs_file.specs.Indexes.{IsIndex}
 use Rattle.cs_file.proofs.FetchLemmas.{title_span, title_read, title_by, title_stood, title_unchanged, title_changed}
 use Rattle.cs_file.proofs.index.Index.title.Goals as goal
