@@ -3,9 +3,9 @@
 --   on_ok         what holds of a result by three facts
 --   doc_inside    a document that has a title
 --   has_limits    the image
-use Rattle.std.proofs.Common.{◌≡◌, ℕ, zero, suc, ◌+◌, ◌<◌, ◌≤◌, ◌^◌, Bool, true, false, true≢false, cond, List, [], ◌∷◌, ◌++◌, length, map, refl, sym, ◌∙◌, ap, subst, arith}
-use Rattle.std.specs.Prelude.{Option, Some, None, Result, Ok, Err, IfOk, OnOk, filter, flat_map}
-use Rattle.std.specs.List.{All, AllByRecursion, list_any, enumerate_from, sum_by}
+use Rattle.std.proofs.Common.{◌≡◌, ℕ, ◌+◌, ◌<◌, ◌≤◌, ◌^◌, true, false, true≢false, cond, List, [], ◌∷◌, ◌++◌, length, map, refl, sym, ◌∙◌, ap, subst, arith}
+use Rattle.std.specs.Prelude.{Some, Result, Ok, Err, IfOk, OnOk, filter, flat_map}
+use Rattle.std.specs.List.{All, AllByRecursion, list_any, enumerate_from}
 use Rattle.std.specs.List.Sorted.{IsStrictlySortedBy}
 use Rattle.std.specs.Option.{is_some}
 use Rattle.std.specs.Ordering.{nat_cmp, eq_by_cmp}
@@ -27,9 +27,9 @@ use Rattle.cs_model.specs.Scores.{SCORES}
 use Rattle.cs_model_index.specs.BlockRules.{is_scored}
 use Rattle.cs_model_index.specs.FileLaws.{HasLimits}
 use Rattle.cs_model_index.specs.FileRules.{is_word}
-use Rattle.cs_model_index.specs.Images.{Image, IsImage, count_in, block_of, image_posts}
+use Rattle.cs_model_index.specs.Images.{Image, IsImage, block_of}
 use Rattle.cs_model_index.specs.Layout.{title_bytes}
-use Rattle.cs_model_index.specs.Numbered.{word_at, word_number, post_of, numbered, HasWord}
+use Rattle.cs_model_index.specs.Numbered.{word_at, post_of, numbered, HasWord}
 use Rattle.cs_model_index.specs.Partitions.{is_facet}
 use Rattle.cs_model_index.specs.declared.limits.TheConstants.{MAX_TARGET}
 use Rattle.cs_model_index.proofs.CorpusLemmas.{known_words}

@@ -4,7 +4,7 @@
 --   rows_fewer       and there are at most as many of them
 --   made_limits      the image is within the limits
 use Rattle.std.proofs.Common.{◌≡◌, ℕ, ◌^◌, ◌<◌, ◌≤◌, Bool, true, ◌||◌, List, [], ◌∷◌, length, map, refl, sym, ap, subst, ◌∙◌, arith}
-use Rattle.std.specs.List.{All, AllByRecursion, list_any, sum_by, zip}
+use Rattle.std.specs.List.{All, AllByRecursion, list_any, sum_by}
 use Rattle.std.specs.Ordering.{nat_cmp, eq_by_cmp}
 use Rattle.std.specs.Cmp.Lexicographic.{slice_cmp}
 use Rattle.std.specs.FinMap.{contains_key}
@@ -17,7 +17,7 @@ use Rattle.cs_base.specs.content.Members.{members_in}
 use Rattle.cs_base.specs.content.Orders.{by_row}
 use Rattle.cs_base.specs.declared.content.doc.Doc.{Doc}
 use Rattle.cs_base.specs.declared.content.doc.Row.{Row}
-use Rattle.cs_base.specs.declared.content.limits.TheConstants.{MAX_DOCS, MAX_LINE_BYTES, MAX_ROWS, MAX_WORDS, MAX_WORD_BYTES}
+use Rattle.cs_base.specs.declared.content.limits.TheConstants.{MAX_DOCS, MAX_LINE_BYTES, MAX_ROWS, MAX_WORDS}
 use Rattle.cs_base.proofs.MembersLemmas.{members-alike}
 use Rattle.cs_base.proofs.OrdersLemmas.{by_row_total, by_row_exact}
 use Rattle.cs_docs.proofs.TextLemmas.{All-members}
@@ -27,11 +27,10 @@ use Rattle.cs_model_index.specs.BlockRules.{is_scored}
 use Rattle.cs_model_index.specs.FileLaws.{HasLimits}
 use Rattle.cs_model_index.specs.FileRules.{is_word}
 use Rattle.cs_model_index.specs.Images.{Image, image_posts}
-use Rattle.cs_model_index.specs.Blocks.{AreWritable}
 use Rattle.cs_model_index.specs.Layout.{title_bytes}
 use Rattle.cs_model_index.specs.Numbered.{post_of, word_at}
 use Rattle.cs_model_index.specs.Partitions.{is_facet}
-use Rattle.cs_model_index.proofs.CorpusSizes.{words_are, posts_few, posts_from, blocks_hold, blocks_few, title_there}
+use Rattle.cs_model_index.proofs.CorpusSizes.{words_are, posts_few, posts_from, title_there}
 use Rattle.cs_model_index.proofs.ImageLemmas.{one_list}
 use Rattle.cs_model_index.proofs.Listings.{any_listed, listed_few}
 use Rattle.cs_model_index.proofs.NumberedLemmas.{word_of_number}

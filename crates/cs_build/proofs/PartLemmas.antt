@@ -7,16 +7,16 @@
 --   rows_counted      as many as its words have together
 --   spans_are, few_runs, all_inside     where the runs lie
 --   heads_are         the heads of the runs
-use Rattle.std.proofs.Common.{◌≡◌, ℕ, zero, suc, ◌+◌, ◌-◌, ◌<◌, ◌≤◌, ◌&&◌, ◌||◌, Bool, true, false, true≢false, cond, List, [], ◌∷◌, ◌++◌, length, map, drop, take, get_or, refl, sym, ◌∙◌, ap, subst, inl, inr, arith, append_assoc, append-nil, length-append}
+use Rattle.std.proofs.Common.{◌≡◌, ℕ, suc, ◌+◌, ◌-◌, ◌<◌, ◌≤◌, ◌&&◌, ◌||◌, Bool, true, false, true≢false, cond, List, [], ◌∷◌, ◌++◌, length, map, drop, get_or, refl, sym, ◌∙◌, ap, subst, arith, append_assoc, length-append}
 use Rattle.std.specs.Prelude.{filter, flat_map, nat_lt, nat_le, ◌==◌}
-use Rattle.std.specs.List.{All, AllByRecursion, list_any, list_all, count_by, sum_by, zip}
+use Rattle.std.specs.List.{AllByRecursion, list_any, list_all, zip}
 use Rattle.std.specs.List.Sorted.{IsStrictlySortedBy}
 use Rattle.std.specs.Ordering.{nat_cmp, is_lt}
 use Rattle.std.specs.Cmp.Lexicographic.{slice_cmp}
 use Rattle.std.specs.declared.cmp.Ordering.TheVariants.{Less}
 use Rattle.std.specs.Str.{bytes_eq}
 use Rattle.std.proofs.Math.Seq.{get_or-append-add}
-use Rattle.std.proofs.lemmas.Bool.{and_parts, and_from, cases_lt, false_from_ne_true, leb-true}
+use Rattle.std.proofs.lemmas.Bool.{and_parts, false_from_ne_true, leb-true}
 use Rattle.std.proofs.lemmas.Bool.Decides.{nat_tests}
 use Rattle.std.proofs.lemmas.Cmp.{nat_list_cmp_total}
 use Rattle.std.specs.Cmp.{tied_itself}
@@ -36,7 +36,7 @@ use Rattle.cs_model_index.specs.Partitions.{Count, is_facet, rows_of_run, is_run
 use Rattle.cs_model_index.specs.declared.limits.TheConstants.{MAX_BLOCK_WORDS}
 use Rattle.cs_model_index.proofs.NumberedLemmas.{word_of_number, number_of_word, number_below}
 use Rattle.cs_vocab.specs.Ranges.{IsBelow, AreNumbers}
-use Rattle.cs_build.specs.Runs.{AreCounts, Agrees, AreSpans, IsCounted, runs_from, has_word, is_within, posts_by, head_by}
+use Rattle.cs_build.specs.Runs.{AreCounts, Agrees, AreSpans, IsCounted, runs_from, is_within, posts_by, head_by}
 use Rattle.cs_build.specs.declared.parting.Run.{Run}
 
 abbrev Words : Type 0

@@ -4,9 +4,9 @@
 --   rows_total      the blocks have as many rows as their words
 --   bytes_total     and few bytes
 --   can_be_written  the image
-use Rattle.std.proofs.Common.{◌≡◌, ℕ, zero, suc, ◌+◌, ◌*◌, ◌<◌, ◌≤◌, ◌^◌, ◌&&◌, Bool, true, false, true≢false, cond, List, [], ◌∷◌, ◌++◌, length, map, refl, sym, ◌∙◌, ap, subst, arith, append_assoc, length-append}
+use Rattle.std.proofs.Common.{◌≡◌, ℕ, suc, ◌+◌, ◌*◌, ◌<◌, ◌≤◌, ◌^◌, ◌&&◌, Bool, true, false, cond, List, [], ◌∷◌, ◌++◌, length, map, refl, sym, ◌∙◌, ap, subst, arith, append_assoc, length-append}
 use Rattle.std.specs.Prelude.{filter, flat_map, nat_lt, nat_le}
-use Rattle.std.specs.List.{All, AllByRecursion, list_any, sum_by, zip}
+use Rattle.std.specs.List.{AllByRecursion, list_any, sum_by, zip}
 use Rattle.std.specs.List.Sorted.{IsStrictlySortedBy}
 use Rattle.std.specs.Ordering.{nat_cmp}
 use Rattle.std.specs.Cmp.Lexicographic.{slice_cmp}
@@ -17,14 +17,13 @@ use Rattle.std.proofs.lemmas.List.Elements.{All-from_recursion}
 use Rattle.std.proofs.lemmas.List.Kept.{IsStrictlySortedBy-filter}
 use Rattle.std.proofs.lemmas.List.Sums.{length-filter, count_by-le-length, sum_by-cons, sum_by-append}
 use Rattle.cs_base.specs.content.Orders.{by_spot}
-use Rattle.cs_base.specs.declared.index.block.BlockHead.{BlockHead}
 use Rattle.cs_base.specs.declared.content.doc.Post.{Post}
 use Rattle.cs_base.specs.declared.content.doc.Row.{Row}
 use Rattle.cs_base.specs.declared.content.limits.TheConstants.{MAX_DOCS, MAX_ROWS, MAX_WORDS}
 use Rattle.cs_base.proofs.MembersLemmas.{listing-rises}
 use Rattle.cs_model.specs.Corpus.{distinct_words}
 use Rattle.cs_model_index.specs.Blocks.{AreWritable, block_bytes}
-use Rattle.cs_model_index.specs.Images.{Image, IsImage, count_in, block_of, heads_from, image_by}
+use Rattle.cs_model_index.specs.Images.{Image, IsImage, count_in, block_of, heads_from}
 use Rattle.cs_model_index.specs.Layout.{title_bytes, blocks_bytes}
 use Rattle.cs_model_index.specs.Numbered.{post_of, numbered, HasWord}
 use Rattle.cs_model_index.specs.Partitions.{rows_of_run}

@@ -8,10 +8,10 @@
 --   Made docs rows target i     i is the image of documents and rows, few enough of both and of words
 --   ImagesHaveLimits        it is within the limits of files, where documents and rows keep them
 --   FilesOfCollections      the file of a collection's image is an index file, of which the image and the corpus are read
-use Rattle.std.specs.Prelude.{◌≡◌, ℕ, ◌^◌, ◌<◌, ◌≤◌, List, length, map, All, None}
+use Rattle.std.specs.Prelude.{◌≡◌, ℕ, ◌^◌, ◌<◌, ◌≤◌, List, length, map, None}
 use Rattle.cs_base.specs.declared.content.doc.Doc.{Doc}
 use Rattle.cs_base.specs.declared.content.doc.Row.{Row}
-use Rattle.cs_base.specs.declared.content.limits.TheConstants.{MAX_DOCS, MAX_ROWS, MAX_WORDS, MAX_WORD_BYTES}
+use Rattle.cs_base.specs.declared.content.limits.TheConstants.{MAX_DOCS, MAX_ROWS, MAX_WORDS}
 use Rattle.cs_model.specs.Collection.{docs_refusal, documents}
 use Rattle.cs_model.specs.Corpus.{IsCorpus, corpus, distinct_words, refusal, rows_of, title_of}
 use Rattle.cs_model_index.specs.FileLaws.{HasLimits}

@@ -5,8 +5,8 @@ use Rattle.cs_cols.specs.declared.cols.Cols.{Cols}
 use Rattle.cs_base.specs.declared.content.limits.TheConstants.{MAX_ROWS}
 use Rattle.cs_model_index.specs.Images.{count_in}
 use Rattle.cs_vocab.specs.Ranges.{AreNumbers}
-use Rattle.cs_build.specs.Runs.{AreParted, AreSpans, IsCounted, is_within, posts_by, head_by}
-use Rattle.cs_build.proofs.AssembleLemmas.{many_numbers, spans_kept, few_kept, counted_kept, inside_kept, rows_kept, as_many, image_made}
+use Rattle.cs_build.specs.Runs.{AreParted, AreSpans, is_within, posts_by, head_by}
+use Rattle.cs_build.proofs.AssembleLemmas.{spans_kept, few_kept, counted_kept, inside_kept, rows_kept, as_many, image_made}
 use Rattle.cs_build.proofs.building.built.Goals as goal
 
 pub blocks_of-requires-clause-spans : goal.blocks_of-requires-clause-spans

@@ -1,11 +1,11 @@
-use Rattle.std.proofs.Common.{◌≡◌, ◌++◌, ◌∷◌, [], map, length, refl, sym, ap, ◌∙◌, arith, get_or, take, List}
+use Rattle.std.proofs.Common.{◌++◌, ◌∷◌, [], map, refl, sym, ap, ◌∙◌, arith, get_or, take, List}
 use Rattle.std.specs.List.{zip}
 use Rattle.std.proofs.lemmas.List.{take_all}
 use Rattle.cs_base.specs.declared.index.block.BlockHead.{BlockHead}
 use Rattle.cs_cols.specs.declared.cols.Cols.{Cols}
 use Rattle.cs_model_index.specs.Partitions.{is_facet}
 use Rattle.cs_build.specs.Runs.{head_by}
-use Rattle.cs_build.proofs.HeadLemmas.{head_is, head_more, pairs_many, all_at}
+use Rattle.cs_build.proofs.HeadLemmas.{head_is, head_more, pairs_many}
 use Rattle.cs_build.proofs.heads.heads_of.Goals as goal
 
 pub loop-i-preserved : goal.loop-i-preserved

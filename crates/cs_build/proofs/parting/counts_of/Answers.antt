@@ -1,4 +1,4 @@
-use Rattle.std.proofs.Common.{◌≡◌, ◌+◌, get_or, set, arith, subst, sym, ap, refl, ◌∙◌, take}
+use Rattle.std.proofs.Common.{◌≡◌, ◌+◌, get_or, set, arith, subst, sym, ap, refl, ◌∙◌}
 use Rattle.std.specs.Prelude.{◌==◌}
 use Rattle.std.specs.List.{count_by}
 use Rattle.std.proofs.lemmas.Grind.{get_or_default_zero}
