@@ -46,7 +46,7 @@ use Rattle.cs_model_serving.specs.Responses.{Response, all_bytes, memory_bytes, 
 use Rattle.cs_query.specs.declared.request.ReqFault.{ReqFault}
 use Rattle.cs_query.specs.declared.request.ReqFault.TheVariants as faults
 use Rattle.cs_hub.specs.Asked.{InTurn, AsksOf, AsksAsSent, AsksAlong, AsksBy, Standing, EngineLeaves}
-use Rattle.cs_hub.specs.DueReads.{Answered, AnswersWithin, AreDue, HasMemory, SentBefore, bytes_behind, closes_behind, failed_reads, is_want, reply_in, requests_by, requests_in, requests_of, requests_on}
+use Rattle.cs_hub.specs.DueReads.{Answered, AnswersWithin, AreDue, HasMemory, SentBefore, bytes_behind, closes_behind, read_failures, is_want, reply_in, requests_by, requests_in, requests_of, requests_on}
 use Rattle.cs_hub.specs.Following.{Slots, left_at}
 use Rattle.cs_hub.specs.Responding.{response, IsJudgedSo}
 use Rattle.cs_hub.specs.Speaking.{Said, Spoke, Starved}
@@ -340,7 +340,7 @@ pub record SumOf (xs : List Answered) (s t : Standing) : Type 0 where
   pub n : ℕ
   pub are_due : AreDue s.told xs s.engine n t.engine
   pub reads : ReadsWithin n s.reads t.reads
-  pub rose : RoseBy (failed_reads xs) s.faults t.faults
+  pub rose : RoseBy (read_failures xs) s.faults t.faults
 
 sum_of : (xs : List Answered) (s t : Standing) → InTurn EngineLeaves xs s t → SumOf xs s t
 sum_of [] s t h =
@@ -351,7 +351,7 @@ sum_of (a ∷ xs) s t h =
       n = h.1.n + others.n;
       are_due = (h.1.n, others.n, h.0.engine, refl, h.1.is_due, subst (λ x. AreDue x xs h.0.engine others.n t.engine) h.1.told others.are_due);
       reads = reads_both h.1.n others.n s.reads h.0.reads t.reads h.1.reads others.reads;
-      rose = rose_both (cond (is_read a.1) 1 0) (failed_reads xs) s.faults h.0.faults t.faults (caused_rose (is_read a.1) s.faults h.0.faults h.1.caused) others.rose;
+      rose = rose_both (cond (is_read a.1) 1 0) (read_failures xs) s.faults h.0.faults t.faults (caused_rose (is_read a.1) s.faults h.0.faults h.1.caused) others.rose;
     }
 
 abbrev pub standing : Option (List ℕ) → EngineView → ℕ → ℕ → Standing

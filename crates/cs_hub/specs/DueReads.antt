@@ -16,7 +16,7 @@
 --   Answered                a request and the answer to it
 --   requests_of xs          the requests that were answered
 --   reply_in r              an answer of an engine, without how the reply was made
---   is_want r, failed_reads xs      the answer is want of memory; how many answers are a failed read
+--   is_want r, read_failures xs      the answer is want of memory; how many answers are a failed read
 --   IsRightOver b q e r e'  over the bytes b of the index: the right reply, and what is kept behind it
 --   IsDue told a e n e'     n reads are due for a request of the engine e with this answer, which leaves the engine e'
 --   AreDue told xs e n e'   the same of requests that are asked one after the other
@@ -129,9 +129,9 @@ is_want (Err faults.Memory) = true
 is_want _ = false
 
 -- of no answers none is
-abbrev pub failed_reads : List Answered → ℕ
-failed_reads [] = 0
-failed_reads (a ∷ xs) = cond (is_read a.1) 1 0 + failed_reads xs
+abbrev pub read_failures : List Answered → ℕ
+read_failures [] = 0
+read_failures (a ∷ xs) = cond (is_read a.1) 1 0 + read_failures xs
 
 -- ---- reads
 -- where there is a reply it is the right one, and behind it exactly this is kept; what is kept stays good, behind a refusal too
@@ -191,5 +191,5 @@ pub record AnswersWithin (told : Option (List ℕ)) (whole : Bool) (qs : List Re
   pub n : ℕ
   pub are_due : AreDue told answered old n new
   pub reads : ReadsWithin n before now
-  pub rose : RoseBy (failed_reads answered) failed failed'
+  pub rose : RoseBy (read_failures answered) failed failed'
   pub sent : Sent answered
