@@ -3,10 +3,9 @@
 --   prefix_words, exact_words      those of an atom
 --   chain_words, part_words        those of a chain of one atom, and of a part of one chain
 --   listed_entry, listed_fits      the entry of one part more, by the rows in listed documents
-use Rattle.std.proofs.Common.{◌≡◌, ℕ, zero, ◌+◌, ◌-◌, ◌*◌, ◌<◌, ◌≤◌, ◌==◌, Bool, true, false, List, [], ◌∷◌, ◌++◌, length, map, get_or, Option, None, Some, refl, sym, ap, subst, ◌∙◌, arith}
+use Rattle.std.proofs.Common.{◌≡◌, ℕ, ◌+◌, ◌-◌, ◌*◌, ◌<◌, ◌≤◌, ◌==◌, Bool, true, false, List, [], ◌∷◌, length, map, get_or, Option, None, Some, refl, sym, ap, subst, ◌∙◌, arith}
 use Rattle.std.specs.Prelude.{All, IfSome, filter, sum}
 use Rattle.std.specs.Str.{bytes_eq}
-use Rattle.std.proofs.lemmas.List.Elements.{All-weaker}
 use Rattle.cs_base.specs.declared.content.doc.Base.{Base}
 use Rattle.cs_base.specs.declared.content.doc.Base.TheVariants as base
 use Rattle.cs_base.specs.declared.content.doc.Post.{Post}
@@ -23,21 +22,21 @@ use Rattle.cs_model.specs.Corpus.{Corpus}
 use Rattle.cs_model.proofs.AnswersLemmas.{prefix_rows, exact_rows}
 use Rattle.cs_model_kept.specs.Due.{atom_met, chain_met, linked_met, part_met, query_met, met_of_atom, met_of_chain, met_of_linked, met_of_part}
 use Rattle.cs_model_kept.specs.Entries.{EntryOf}
-use Rattle.cs_model_kept.proofs.DueLemmas.{met_prefix_atom, met_exact_atom}
+use Rattle.cs_model_kept.proofs.DueLemmas.{met_prefix_atom}
 use Rattle.cs_vocab.specs.Ranges.{IsRange}
 use Rattle.cs_engine.specs.Asking.{division}
 use Rattle.cs_engine.specs.Counting.{AreListed, in_listed}
 use Rattle.cs_engine.specs.Plain.{AreWordsOf}
-use Rattle.cs_engine.specs.Reading.{AreWithin, HasRows, IsSpanOf, IsWithin, stock_of}
+use Rattle.cs_engine.specs.Reading.{AreWithin, HasRows, IsSpanOf, stock_of}
 use Rattle.cs_engine.specs.Steps.{EntryFits, IsBaseOf, is_in_base, posts_after}
-use Rattle.cs_engine.specs.Stocked.{corpus_in, docs_in, is_between}
+use Rattle.cs_engine.specs.Stocked.{corpus_in, is_between}
 use Rattle.cs_engine.proofs.CountingLemmas.{listed_kept, stock_within}
-use Rattle.cs_engine.proofs.EvaluationLemmas.{RowsSoFar, met_part-is, part_begins, part_ends, part_goes_on}
+use Rattle.cs_engine.proofs.EvaluationLemmas.{met_part-is, part_begins, part_ends, part_goes_on}
 use Rattle.cs_engine.proofs.ReadingLemmas.{kept_within}
 use Rattle.cs_engine.proofs.StockLemmas.{stocked}
 use Rattle.cs_engine.proofs.UnionLemmas.{with_nothing}
 use Rattle.cs_engine.proofs.VocabLemmas.{any_through}
-use Rattle.cs_engine.proofs.WordsLemmas.{prefix_met, span_found, word_met}
+use Rattle.cs_engine.proofs.WordsLemmas.{prefix_met, span_found}
 
 -- ---- atoms
 pub prefix_words : (i : IndexView) → IsIndex i → (a : Atom) (p bytes : List ℕ) (lo hi : ℕ) → a ≡ Prefix p → bytes ≡ p → IsRange i.words bytes lo hi → AreWordsOf i (met_of_atom (division i) a) (λ k. rows_of_atom k a) lo hi

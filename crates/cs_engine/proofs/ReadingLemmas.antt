@@ -3,12 +3,12 @@
 --   fetched_within, kept_within, united_within     posts that are read, cut and united are in order and in range
 --   same_posts       posts in order with the same members are the same
 --   met_count        how many blocks are met
-use Rattle.std.proofs.Common.{◌≡◌, ℕ, zero, suc, ◌+◌, ◌-◌, ◌<◌, ◌≤◌, ◌&&◌, Bool, true, false, cond, List, [], ◌∷◌, ◌++◌, length, get_or, take, drop, Option, refl, sym, ap, subst, ◌∙◌, arith, append-nil}
-use Rattle.std.specs.Prelude.{All, filter, flat_map, nat_le, nat_lt}
-use Rattle.std.specs.List.{Contains, list_any}
+use Rattle.std.proofs.Common.{◌≡◌, ℕ, zero, suc, ◌-◌, ◌<◌, ◌≤◌, ◌&&◌, Bool, true, false, cond, List, [], ◌∷◌, ◌++◌, length, get_or, Option, refl, sym, ap, subst, ◌∙◌, arith}
+use Rattle.std.specs.Prelude.{filter, nat_le, nat_lt}
+use Rattle.std.specs.List.{list_any}
 use Rattle.std.specs.List.Sorted.{IsStrictlySortedBy}
 use Rattle.std.proofs.lemmas.Bool.Decides.{nat_tests}
-use Rattle.std.proofs.lemmas.List.Elements.{All-nil, All-filter, All-append, Contains-get_or, Contains-append_left, Contains-append_right}
+use Rattle.std.proofs.lemmas.List.Elements.{All-nil, All-filter, All-append}
 use Rattle.std.proofs.lemmas.List.Kept.{IsStrictlySortedBy-filter}
 use Rattle.std.proofs.lemmas.List.Sorted.{All-permutation}
 use Rattle.std.specs.Ordering.{nat_cmp, eq_by_cmp, ordering_then}
@@ -18,17 +18,10 @@ use Rattle.cs_base.specs.declared.content.doc.Post.{Post}
 use Rattle.cs_base.specs.declared.index.block.BlockHead.{BlockHead}
 use Rattle.cs_base.proofs.MembersLemmas.{all_then, members_are}
 use Rattle.cs_file.specs.Answers.{HasBlock}
-use Rattle.cs_file.specs.Indexes.{IndexView, IsIndex, StandsFor, AreMet, is_met, block_posts}
-use Rattle.cs_file.proofs.PostsLemmas.{posts_between}
-use Rattle.cs_file.proofs.StoodLemmas.{stood_count}
+use Rattle.cs_file.specs.Indexes.{IndexView, IsIndex, AreMet, is_met}
 use Rattle.cs_meet.specs.Filters.{IsUnion, missing}
-use Rattle.cs_model_index.specs.Sections.{image_of}
-use Rattle.cs_model_index.specs.Images.{image_posts}
-use Rattle.cs_engine.specs.Reading.{by_post, stock_of, run_of, HasRun, IsWithin, AreWithin}
-use Rattle.cs_engine.specs.Stocked.{Stock, is_between}
-use Rattle.cs_engine.proofs.AlikeLemmas.{any_filter}
-use Rattle.cs_engine.proofs.StockLemmas.{by_post_total, by_post_exact, block_within, from_file, stocked}
-use Rattle.cs_engine.proofs.TableLemmas.{any_listed}
+use Rattle.cs_engine.specs.Reading.{by_post, IsWithin, AreWithin}
+use Rattle.cs_engine.proofs.StockLemmas.{by_post_total, by_post_exact, block_within}
 
 -- ---- what always holds
 pub kept_within : (i : IndexView) (t : Post → Bool) (posts : List Post) → AreWithin i posts → AreWithin i (filter t posts)

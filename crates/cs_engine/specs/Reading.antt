@@ -11,7 +11,7 @@
 --   run_of blocks first last t  the posts that pass a test in the blocks from number first up to last, one block behind the other
 --   IsSpanOf ws test lo hi      the words that pass a test are those from lo up to hi, both within the vocabulary
 use Rattle.std.specs.Prelude.{◌≡◌, ℕ, ◌-◌, ◌≤◌, ◌<◌, Bool, List, length, take, drop, filter, flat_map, Option}
-use Rattle.std.specs.List.{All, Contains, list_any}
+use Rattle.std.specs.List.{All}
 use Rattle.std.specs.Option.{ForSome}
 use Rattle.std.specs.Ordering.{nat_cmp, then_cmp, on}
 use Rattle.std.specs.declared.cmp.Ordering.{Ordering}
