@@ -4,7 +4,9 @@
 --   flat_more            one block more
 --   block_counted        one block more is counted
 --   countable            the rows that are counted are countable
+--   counted_alike        they have the members of those asked for
 --   table_told           their table
+--   listed_kept, all_listed     the rows in listed documents
 --   facet_counted        the table of a facet
 --   facet_met            the blocks that hold a facet's words
 use Rattle.std.proofs.Common.{◌≡◌, ◌≢◌, ℕ, zero, suc, ◌+◌, ◌-◌, ◌<◌, ◌≤◌, ◌==◌, ◌&&◌, ◌||◌, Bool, true, false, cond, List, [], ◌∷◌, ◌++◌, length, get_or, take, drop, map, replicate, refl, sym, ap, ap₂, subst, ◌∙◌, arith, append-nil, length-take, length-drop, get_or-drop, get_or-take}
@@ -46,7 +48,7 @@ use Rattle.cs_engine.specs.Reading.{AreWithin, IsWithin, by_post, stock_of}
 use Rattle.cs_engine.specs.Stocked.{docs_in, every, facet_at, is_between, shown_at, IsKnown}
 use Rattle.cs_engine.proofs.AnsweringLemmas.{facet_told, words_as_shown}
 use Rattle.cs_engine.proofs.AlikeLemmas.{any_filter, table_alike}
-use Rattle.cs_engine.proofs.FoundLemmas.{every_more}
+use Rattle.cs_engine.proofs.FoundLemmas.{all_kept, every_more}
 use Rattle.cs_engine.proofs.ListsLemmas.{filter_twice}
 use Rattle.cs_engine.proofs.ReadingLemmas.{kept_within}
 use Rattle.cs_engine.proofs.StockLemmas.{by_post_total, by_post_exact, docs_are, stocked, within_block, words_are}
@@ -210,17 +212,19 @@ module _ (b : List ℕ) (i : IndexView) (stands : StandsFor b i) (is : IsIndex i
   flat_twice p q [] = refl
   flat_twice p q (b ∷ bs) = ap₂ (λ x y. x ++ y) (filter_twice p q b) (flat_twice p q bs) ∙ sym (filter-append q (filter p b) (flat_map (filter p) bs))
 
-  pub table_told : (first last lo hi : ℕ) (listed : List Bool) → AreMet i.heads lo hi first last → table (counted_rows blocks first last lo hi listed) ≡ table (filter (in_listed listed) (filter (is_between lo hi) (stock_of b).posts))
-  table_told first last lo hi listed met =
+  -- the posts that are counted have the members of those asked for
+  pub counted_alike : (first last lo hi : ℕ) (listed : List Bool) → AreMet i.heads lo hi first last → (t : Post → Bool) → list_any t (counted_rows blocks first last lo hi listed) ≡ list_any t (filter (in_listed listed) (filter (is_between lo hi) (stock_of b).posts))
+  counted_alike first last lo hi listed met t =
       let p = is_between lo hi in
       let q = in_listed listed in
       let all = image_posts (image_of b) in
       let whole : counted_rows blocks first last lo hi listed ≡ filter q (filter p all) = flat_twice p q (take (last - first) (drop first blocks)) ∙ ap (filter q) (sym (posts_between b i stands is lo hi first last met)) in
-      ap table whole
-      ∙ table_alike (filter q (filter p all)) (filter q (filter p (stock_of b).posts))
-      (λ t. any_filter t q (filter p all) ∙ any_filter (λ x. q x && t x) p all
+      ap (list_any t) whole ∙ any_filter t q (filter p all) ∙ any_filter (λ x. q x && t x) p all
       ∙ sym (any_listed by_post by_post_total by_post_exact (λ x. p x && (q x && t x)) all)
-      ∙ sym (any_filter t q (filter p (stock_of b).posts) ∙ any_filter (λ x. q x && t x) p (stock_of b).posts))
+      ∙ sym (any_filter t q (filter p (stock_of b).posts) ∙ any_filter (λ x. q x && t x) p (stock_of b).posts)
+
+  pub table_told : (first last lo hi : ℕ) (listed : List Bool) → AreMet i.heads lo hi first last → table (counted_rows blocks first last lo hi listed) ≡ table (filter (in_listed listed) (filter (is_between lo hi) (stock_of b).posts))
+  table_told first last lo hi listed met = table_alike (counted_rows blocks first last lo hi listed) (filter (in_listed listed) (filter (is_between lo hi) (stock_of b).posts)) (counted_alike first last lo hi listed met)
 
   -- the posts that are read of an index file are in its range
   pub stock_within : AreWithin i (stock_of b).posts
@@ -237,6 +241,13 @@ module _ (b : List ℕ) (i : IndexView) (stands : StandsFor b i) (is : IsIndex i
   listed_kept base listed posts has w =
       filter_alike (in_listed listed) (λ p. is_listed (docs_in i.docs base) p.doc) posts
       (all_then (IsWithin i.docs (length i.words)) (λ p. in_listed listed p ≡ is_listed (docs_in i.docs base) p.doc) (λ p h. has.each p.doc h.doc) posts (recursion_from_All (IsWithin i.docs (length i.words)) posts w.within))
+
+  -- of all documents each post is in one
+  pub all_listed : (lo hi : ℕ) (all : List Bool) → AreListed i.docs base.All all → filter (in_listed all) (filter (is_between lo hi) (stock_of b).posts) ≡ filter (is_between lo hi) (stock_of b).posts
+  all_listed lo hi all has =
+      let asked = filter (is_between lo hi) (stock_of b).posts in
+      let w = kept_within i (is_between lo hi) (stock_of b).posts stock_within in
+      listed_kept base.All all asked has w ∙ sym (all_kept i.docs asked (All-weaker (IsWithin i.docs (length i.words)) (λ p. p.doc < i.docs) (λ p h. h.doc) asked w.within))
 
   -- the posts that a facet counts
   abbrev facet_posts : ℕ → ℕ → List Bool → List Post

@@ -11,6 +11,7 @@ pub mod KeptLemmas
 pub mod LentLemmas
 pub mod ListsLemmas
 pub mod PackingLemmas
+pub mod PlainLemmas
 pub mod PlansLemmas
 pub mod ReadingLemmas
 pub mod ReplyLemmas

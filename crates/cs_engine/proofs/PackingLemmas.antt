@@ -4,8 +4,8 @@
 --   ordered_is          what is left of sorted numbers is in order, and loses no member
 --   packed_block        the posts of a block are packed
 --   no_keys, keys_more  numbers of no block, and of one block more
---   ordered_within, ordered_run     what is brought into order of a run of blocks
-use Rattle.std.proofs.Common.{◌≡◌, ℕ, zero, suc, ◌+◌, ◌-◌, ◌*◌, ◌/◌, ◌%◌, ◌<◌, ◌≤◌, ◌==◌, ◌&&◌, ◌||◌, Bool, true, false, cond, List, [], ◌∷◌, ◌++◌, length, get_or, take, drop, map, Option, None, refl, sym, ap, ap₂, subst, ◌∙◌, arith}
+--   ordered_within, ordered_passed, ordered_told     what is brought into order of a run of blocks
+use Rattle.std.proofs.Common.{◌≡◌, ℕ, zero, suc, ◌+◌, ◌-◌, ◌*◌, ◌/◌, ◌%◌, ◌<◌, ◌≤◌, ◌==◌, ◌&&◌, ◌||◌, Bool, true, false, true≢false, cond, List, [], ◌∷◌, ◌++◌, length, get_or, take, drop, map, Option, None, refl, sym, ap, ap₂, subst, ◌∙◌, arith}
 use Rattle.std.specs.Prelude.{All, filter, flat_map, nat_lt}
 use Rattle.std.specs.List.{AllByRecursion, Contains, list_any}
 use Rattle.std.specs.List.Sorted.{IsPermutation, IsSorted, IsStrictlySortedBy}
@@ -15,7 +15,8 @@ use Rattle.std.specs.declared.cmp.Ordering.TheVariants.{Less, Equal}
 use Rattle.std.proofs.lemmas.Bool.{eq-eqb, eqb-true, ltb-false, ltb-true}
 use Rattle.std.proofs.lemmas.Bool.Decides.{nat_tests}
 use Rattle.std.proofs.lemmas.List.{map-append}
-use Rattle.std.proofs.lemmas.List.Elements.{All-nil, All-append, All-contains, All-filter, All-from_recursion, Contains-append_left, Contains-append_right, Contains-get_or, recursion_from_All}
+use Rattle.std.proofs.lemmas.List.Elements.{All-nil, All-append, All-contains, All-filter, All-from_recursion, All-weaker, Contains-append_left, Contains-append_right, Contains-get_or, filter_passes, recursion_from_All}
+use Rattle.std.proofs.lemmas.List.Kept.{IsStrictlySortedBy-filter}
 use Rattle.std.proofs.lemmas.List.Sorted.{All-permutation, IsPermutation-map, list_any-IsPermutation}
 use Rattle.cs_base.specs.content.Orders.{AreSorted, by_place}
 use Rattle.cs_base.specs.declared.content.doc.Post.{Post}
@@ -23,18 +24,20 @@ use Rattle.cs_base.specs.declared.index.block.BlockHead.{BlockHead}
 use Rattle.cs_base.proofs.MembersLemmas.{again}
 use Rattle.cs_base.proofs.OrdersLemmas.{Less-from_lt}
 use Rattle.cs_file.specs.Answers.{HasBlock}
-use Rattle.cs_file.specs.Indexes.{IndexView, IsIndex, StandsFor, block_posts}
+use Rattle.cs_file.specs.Indexes.{AreMet, IndexView, IsIndex, StandsFor, block_posts}
 use Rattle.cs_file.proofs.StoodLemmas.{stood_count}
 use Rattle.cs_meet.specs.Filters.{shares_place}
 use Rattle.cs_model.specs.Scores.{SCORES}
+use Rattle.cs_tables.specs.WordCounts.{is_chosen}
 use Rattle.cs_model_index.specs.BlockRules.{in_kind, is_scored}
 use Rattle.cs_model_index.specs.Sections.{image_of}
 use Rattle.cs_engine.specs.Packing.{HasKeys, IsOrdered, IsPacked, apart, key_of, place_of, post_of}
-use Rattle.cs_engine.specs.Reading.{AreWithin, HasRun, IsWithin, WhereStood, run_of, stock_of}
+use Rattle.cs_engine.specs.Counting.{in_listed}
+use Rattle.cs_engine.specs.Reading.{AreWithin, IsWithin, WhereStood, run_of, stock_of}
 use Rattle.cs_engine.specs.Stocked.{is_between}
 use Rattle.cs_engine.specs.declared.packing.TheConstants.{NO_PLACE, POSITION_ROOM, SCORE_ROOM}
-use Rattle.cs_engine.proofs.CountingLemmas.{flat_more}
-use Rattle.cs_engine.proofs.ReadingLemmas.{fetched_within}
+use Rattle.cs_engine.proofs.CountingLemmas.{counted_alike, flat_more}
+use Rattle.cs_engine.proofs.ReadingLemmas.{fetched_within, same_posts}
 use Rattle.cs_engine.proofs.StockLemmas.{from_file, kept_all, stocked}
 use Rattle.cs_engine.proofs.UnionLemmas.{one_post}
 
@@ -253,32 +256,43 @@ packed_block i is told k lt old new none h =
     let word = w.word in
     record { doc = omega (arith, doc, docs); pos = (rooms j e l).pos; word = omega (arith, word, words); score = (rooms j e l).score }
 
-pub no_keys : (i : IndexView) (told : Option (List ℕ)) (first lo hi : ℕ) (keys : List ℕ) → keys ≡ [] → HasKeys i told first first lo hi keys
-no_keys i told first lo hi keys none = record {
+pub no_keys : (i : IndexView) (told : Option (List ℕ)) (first : ℕ) (t : Post → Bool) (keys : List ℕ) → keys ≡ [] → HasKeys i told first first t keys
+no_keys i told first t keys none = record {
   rows = [];
   are = none;
   packed = All-nil IsPacked;
   within = All-nil (IsWithin i.docs (length i.words));
-  run = λ b is stands. (let e : 0 ≡ first - first = omega arith in ap (λ n. flat_map (filter (is_between lo hi)) (take n (drop first (image_of b).blocks))) e);
+  passed = All-nil (λ p. t p ≡ true);
+  run = λ b is stands. (let e : 0 ≡ first - first = omega arith in ap (λ n. flat_map (filter t) (take n (drop first (image_of b).blocks))) e);
 }
 
-pub keys_more : (i : IndexView) (told : Option (List ℕ)) (first k lo hi : ℕ) (old new : List ℕ) (rows : List Post) → IsIndex i → first ≤ k → k < length i.heads → new ≡ old ++ map key_of rows → All IsPacked rows → All (IsWithin i.docs (length i.words)) rows
-    → WhereStood told i (λ b. rows ≡ filter (is_between lo hi) (block_posts b k)) → HasKeys i told first k lo hi old → HasKeys i told first (k + 1) lo hi new
-keys_more i told first k lo hi old new rows index le lt added packed within block h = record {
-  rows = h.rows ++ rows;
-  are = added ∙ ap (λ xs. xs ++ map key_of rows) h.are ∙ sym (map-append key_of h.rows rows);
-  packed = All-append IsPacked h.rows rows h.packed packed;
-  within = All-append (IsWithin i.docs (length i.words)) h.rows rows h.within within;
+-- of a block that is read the posts that pass are added
+pub keys_more : (i : IndexView) (told : Option (List ℕ)) (first k : ℕ) (t : Post → Bool) (old new : List ℕ) (read : List Post) → IsIndex i → first ≤ k → k < length i.heads → new ≡ old ++ map key_of (filter t read) → All IsPacked read → All (IsWithin i.docs (length i.words)) read
+    → WhereStood told i (λ b. read ≡ block_posts b k) → HasKeys i told first k t old → HasKeys i told first (k + 1) t new
+keys_more i told first k t old new read index le lt added packed within block h = record {
+  rows = h.rows ++ filter t read;
+  are = added ∙ ap (λ xs. xs ++ map key_of (filter t read)) h.are ∙ sym (map-append key_of h.rows (filter t read));
+  packed = All-append IsPacked h.rows (filter t read) h.packed (All-filter t IsPacked read packed);
+  within = All-append (IsWithin i.docs (length i.words)) h.rows (filter t read) h.within (All-filter t (IsWithin i.docs (length i.words)) read within);
+  passed = All-append (λ p. t p ≡ true) h.rows (filter t read) h.passed (filter_passes t read);
   run = λ b is stands.
       let count = stood_count b i stands in
-      ap₂ (λ x y. x ++ y) (h.run b is stands) (block b is stands) ∙ sym (flat_more (filter (is_between lo hi)) (image_of b).blocks first k le (omega (arith, lt, count)));
+      ap₂ (λ x y. x ++ y) (h.run b is stands) (ap (filter t) (block b is stands)) ∙ sym (flat_more (filter t) (image_of b).blocks first k le (omega (arith, lt, count)));
 }
 
 in_rows : (P : Post → Type 0) (rows posts : List Post) → All (Contains rows) posts → All P rows → All P posts
 in_rows P rows posts among h = λ k d lt. All-contains P rows (get_or posts k d) h (among k d lt)
 
-pub ordered_within : (i : IndexView) (told : Option (List ℕ)) (first last lo hi : ℕ) (keys : List ℕ) (posts : List Post) (h : HasKeys i told first last lo hi keys) → IsOrdered h.rows posts → AreWithin i posts
-ordered_within i told first last lo hi keys posts h o = record { sorted = o.sorted; within = in_rows (IsWithin i.docs (length i.words)) h.rows posts o.among h.within }
+pub ordered_within : (i : IndexView) (rows posts : List Post) → All (IsWithin i.docs (length i.words)) rows → IsOrdered rows posts → AreWithin i posts
+ordered_within i rows posts within o = record { sorted = o.sorted; within = in_rows (IsWithin i.docs (length i.words)) rows posts o.among within }
+
+listed_too : (a b : Bool) → (a && b) ≡ true → b ≡ true
+listed_too true b h = h
+listed_too false b h = absurd (true≢false (sym h))
+
+pub ordered_passed : (lo hi : ℕ) (listed : List Bool) (rows posts : List Post) → All (λ p. is_chosen lo hi listed p ≡ true) rows → IsOrdered rows posts → All (λ p. in_listed listed p ≡ true) posts
+ordered_passed lo hi listed rows posts passed o =
+    All-weaker (λ p. is_chosen lo hi listed p ≡ true) (λ p. in_listed listed p ≡ true) (λ p h. listed_too (is_between lo hi p) (in_listed listed p) h) posts (in_rows (λ p. is_chosen lo hi listed p ≡ true) rows posts o.among passed)
 
 -- each post of a run is one of the stock
 module _ (P : Post → Type 0) (t : Post → Bool) where
@@ -294,16 +308,17 @@ module _ (P : Post → Type 0) (t : Post → Bool) where
       All-append P (filter t b) (flat_map (filter t) (take n bs)) (All-filter t P b (λ k d lt. h (get_or b k d) (Contains-append_left b (flat_map (λ block. block) bs) (get_or b k d) (Contains-get_or b k d lt))))
       (taken n bs (λ x c. h x (Contains-append_right b (flat_map (λ block. block) bs) x c)))
 
-run_known : (b : List ℕ) (i : IndexView) → StandsFor b i → IsIndex i → (first last lo hi : ℕ) → All (Contains (stock_of b).posts) (run_of (image_of b).blocks first last lo hi)
-run_known b i s is first last lo hi =
+run_known : (b : List ℕ) (i : IndexView) → StandsFor b i → IsIndex i → (first last : ℕ) (t : Post → Bool) → All (Contains (stock_of b).posts) (run_of (image_of b).blocks first last t)
+run_known b i s is first last t =
     let P : Post → Type 0 = Contains (stock_of b).posts in
-    taken P (is_between lo hi) (last - first) (drop first (image_of b).blocks) (dropped P (is_between lo hi) first (image_of b).blocks (from_file b i s is))
+    taken P t (last - first) (drop first (image_of b).blocks) (dropped P t first (image_of b).blocks (from_file b i s is))
 
-pub ordered_run : (b : List ℕ) (i : IndexView) (told : Option (List ℕ)) → StandsFor b i → IsIndex i → (first last lo hi : ℕ) (rows posts : List Post) → rows ≡ run_of (image_of b).blocks first last lo hi → IsOrdered rows posts → HasRun (stock_of b) (image_of b).blocks first last lo hi posts
-ordered_run b i told s is first last lo hi rows posts run o =
+pub ordered_told : (b : List ℕ) (i : IndexView) → StandsFor b i → IsIndex i → (first last lo hi : ℕ) (listed : List Bool) → AreMet i.heads lo hi first last → (rows posts : List Post) → rows ≡ run_of (image_of b).blocks first last (is_chosen lo hi listed) → IsOrdered rows posts
+    → posts ≡ filter (in_listed listed) (filter (is_between lo hi) (stock_of b).posts)
+ordered_told b i s is first last lo hi listed met rows posts run o =
     let all = (stock_of b).posts in
-    let known : All (Contains all) rows = subst (All (Contains all)) (sym run) (run_known b i s is first last lo hi) in
-    record {
-      among = in_rows (Contains all) rows posts o.among known;
-      alike = λ t. o.alike all (stocked b i s is).sorted known t ∙ ap (list_any t) run;
-    }
+    let up = (stocked b i s is).sorted in
+    let known : All (Contains all) rows = subst (All (Contains all)) (sym run) (run_known b i s is first last (is_chosen lo hi listed)) in
+    same_posts posts (filter (in_listed listed) (filter (is_between lo hi) all)) o.sorted
+    (IsStrictlySortedBy-filter by_place (in_listed listed) (filter (is_between lo hi) all) (IsStrictlySortedBy-filter by_place (is_between lo hi) all up))
+    (λ t. o.alike all up known t ∙ ap (list_any t) run ∙ counted_alike b i s is first last lo hi listed met t)

@@ -1,15 +1,14 @@
 -- The posts of a range of words, from the blocks that hold such words.
 --
 --   fetched_within, kept_within, united_within     posts that are read, cut and united are in order and in range
---   cut_run          one block
---   whole_run        the run of the blocks that hold such words
+--   same_posts       posts in order with the same members are the same
 --   met_count        how many blocks are met
-use Rattle.std.proofs.Common.{◌≡◌, ℕ, zero, suc, ◌+◌, ◌-◌, ◌<◌, ◌≤◌, ◌&&◌, Bool, true, false, cond, List, [], ◌∷◌, ◌++◌, length, get_or, take, drop, Option, refl, sym, ap, subst, ◌∙◌, arith, append-nil}
-use Rattle.std.specs.Prelude.{All, filter, flat_map, nat_le, nat_lt}
-use Rattle.std.specs.List.{Contains, list_any}
+use Rattle.std.proofs.Common.{◌≡◌, ℕ, zero, suc, ◌-◌, ◌<◌, ◌≤◌, ◌&&◌, Bool, true, false, cond, List, [], ◌∷◌, ◌++◌, length, get_or, Option, refl, sym, ap, subst, ◌∙◌, arith}
+use Rattle.std.specs.Prelude.{filter, nat_le, nat_lt}
+use Rattle.std.specs.List.{list_any}
 use Rattle.std.specs.List.Sorted.{IsStrictlySortedBy}
 use Rattle.std.proofs.lemmas.Bool.Decides.{nat_tests}
-use Rattle.std.proofs.lemmas.List.Elements.{All-nil, All-filter, All-append, Contains-get_or, Contains-append_left, Contains-append_right}
+use Rattle.std.proofs.lemmas.List.Elements.{All-nil, All-filter, All-append}
 use Rattle.std.proofs.lemmas.List.Kept.{IsStrictlySortedBy-filter}
 use Rattle.std.proofs.lemmas.List.Sorted.{All-permutation}
 use Rattle.std.specs.Ordering.{nat_cmp, eq_by_cmp, ordering_then}
@@ -19,17 +18,10 @@ use Rattle.cs_base.specs.declared.content.doc.Post.{Post}
 use Rattle.cs_base.specs.declared.index.block.BlockHead.{BlockHead}
 use Rattle.cs_base.proofs.MembersLemmas.{all_then, members_are}
 use Rattle.cs_file.specs.Answers.{HasBlock}
-use Rattle.cs_file.specs.Indexes.{IndexView, IsIndex, StandsFor, AreMet, is_met, block_posts}
-use Rattle.cs_file.proofs.PostsLemmas.{posts_between}
-use Rattle.cs_file.proofs.StoodLemmas.{stood_count}
+use Rattle.cs_file.specs.Indexes.{IndexView, IsIndex, AreMet, is_met}
 use Rattle.cs_meet.specs.Filters.{IsUnion, missing}
-use Rattle.cs_model_index.specs.Sections.{image_of}
-use Rattle.cs_model_index.specs.Images.{image_posts}
-use Rattle.cs_engine.specs.Reading.{by_post, stock_of, run_of, HasRun, IsWithin, AreWithin}
-use Rattle.cs_engine.specs.Stocked.{Stock, is_between}
-use Rattle.cs_engine.proofs.AlikeLemmas.{any_filter}
-use Rattle.cs_engine.proofs.StockLemmas.{by_post_total, by_post_exact, block_within, from_file, stocked}
-use Rattle.cs_engine.proofs.TableLemmas.{any_listed}
+use Rattle.cs_engine.specs.Reading.{by_post, IsWithin, AreWithin}
+use Rattle.cs_engine.proofs.StockLemmas.{by_post_total, by_post_exact, block_within}
 
 -- ---- what always holds
 pub kept_within : (i : IndexView) (t : Post → Bool) (posts : List Post) → AreWithin i posts → AreWithin i (filter t posts)
@@ -53,28 +45,7 @@ fetched_within i is told k lt old new none h =
     let all : new ≡ h.rows = h.added ∙ ap (λ (x : List Post). x ++ h.rows) none in
     subst (AreWithin i) (sym all) (block_within i is k d lt h.rows h.bytes (h.block d))
 
--- ---- runs of blocks
-one_block : (bs : List (List Post)) (k : ℕ) → k < length bs → take (k + 1 - k) (drop k bs) ≡ get_or bs k [] ∷ []
-one_block [] k lt = absurd (omega (arith, lt))
-one_block (b ∷ bs) zero lt = refl
-one_block (b ∷ bs) (suc k) lt = (let e : suc k + 1 - suc k ≡ k + 1 - k = omega arith in ap (λ n. take n (drop k bs)) e) ∙ one_block bs k (omega (arith, lt))
-
-pub cut_run : (b : List ℕ) (i : IndexView) → StandsFor b i → IsIndex i → (k lo hi : ℕ) → k < length i.heads → (posts : List Post) → posts ≡ filter (is_between lo hi) (block_posts b k) → HasRun (stock_of b) (image_of b).blocks k (k + 1) lo hi posts
-cut_run b i s is k lo hi lt posts are =
-    let bs = (image_of b).blocks in
-    let count = stood_count b i s in
-    let l : k < length bs = omega (arith, lt, count) in
-    let here : run_of bs k (k + 1) lo hi ≡ filter (is_between lo hi) (block_posts b k) = ap (flat_map (filter (is_between lo hi))) (one_block bs k l) ∙ append-nil (filter (is_between lo hi) (block_posts b k)) in
-    record {
-      among = subst (All (Contains (stock_of b).posts)) (sym are) (All-filter (is_between lo hi) (Contains (stock_of b).posts) (block_posts b k) (λ j d m. from_file b i s is (get_or (block_posts b k) j d) (in_all bs k l (get_or (block_posts b k) j d) (Contains-get_or (block_posts b k) j d m))));
-      alike = λ t. ap (list_any t) (are ∙ sym here);
-    }
-  where
-    in_all : (bs : List (List Post)) (k : ℕ) → k < length bs → (x : Post) → Contains (get_or bs k []) x → Contains (flat_map (λ block. block) bs) x
-    in_all [] k l x c = absurd (omega (arith, l))
-    in_all (b ∷ bs) zero l x c = Contains-append_left b (flat_map (λ block. block) bs) x c
-    in_all (b ∷ bs) (suc k) l x c = Contains-append_right b (flat_map (λ block. block) bs) x (in_all bs k (omega (arith, l)) x c)
-
+-- ---- posts in order
 sooner : (x y : Post) → by_place x y ≡ Less → by_post x y ≡ Less
 sooner x y h = ap (λ o. ordering_then o (nat_cmp x.score y.score)) h
 
@@ -83,25 +54,10 @@ unfolding IsStrictlySortedBy
 still_rise [] h = tt
 still_rise (x ∷ xs) h = (all_then _ _ (sooner x) xs h.0, still_rise xs h.1)
 
-same_posts : (xs ys : List Post) → AreSorted xs → AreSorted ys → ((t : Post → Bool) → list_any t xs ≡ list_any t ys) → xs ≡ ys
+pub same_posts : (xs ys : List Post) → AreSorted xs → AreSorted ys → ((t : Post → Bool) → list_any t xs ≡ list_any t ys) → xs ≡ ys
 same_posts xs ys up_x up_y alike =
     members_are by_post by_post_total by_post_exact xs ys (still_rise xs up_x) (λ q. alike (eq_by_cmp by_post q))
     ∙ sym (members_are by_post by_post_total by_post_exact ys ys (still_rise ys up_y) (λ q. refl))
-
-pub whole_run : (b : List ℕ) (i : IndexView) → StandsFor b i → IsIndex i → (lo hi first last : ℕ) → AreMet i.heads lo hi first last → (posts : List Post) → AreSorted posts → HasRun (stock_of b) (image_of b).blocks first last lo hi posts → posts ≡ filter (is_between lo hi) (stock_of b).posts
-whole_run b i s is lo hi first last met posts up run =
-    let st = stocked b i s is in
-    let p = is_between lo hi in
-    let all = image_posts (image_of b) in
-    same_posts posts (filter p (stock_of b).posts) up (IsStrictlySortedBy-filter by_place p (stock_of b).posts st.sorted)
-    (λ t. run.alike t ∙ ap (list_any t) (sym (posts_between b i s is lo hi first last met))
-    ∙ any_filter t p all ∙ sym (any_listed by_post by_post_total by_post_exact (λ x. p x && t x) all) ∙ sym (any_filter t p (stock_of b).posts))
-
-pub no_run : (s : Stock) (bs : List (List Post)) (first last lo hi : ℕ) (posts : List Post) → first ≡ last → posts ≡ [] → HasRun s bs first last lo hi posts
-no_run s bs first last lo hi posts same none = record {
-  among = subst (All (Contains s.posts)) (sym none) (All-nil (Contains s.posts));
-  alike = λ t. ap (list_any t) none ∙ ap (λ n. list_any t (flat_map (filter (is_between lo hi)) (take n (drop first bs)))) (let e : 0 ≡ last - first = omega (arith, same) in e);
-}
 
 -- ---- how many blocks are met
 count_from : {X : Type 0} (p : X → Bool) (xs : List X) (first last : ℕ) → first ≤ last → last ≤ length xs → ((k : ℕ) (d : X) → first ≤ k → k < last → p (get_or xs k d) ≡ true) → last - first ≤ length (filter p xs)

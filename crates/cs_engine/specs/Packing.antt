@@ -8,8 +8,9 @@
 --   post_of key            the post of a number
 --   apart last keys        the numbers whose place isn't that of the one before; last is the place before the first
 --   IsOrdered rows posts   the members of rows, in order, each place once
---   HasKeys i told first k lo hi keys     numbers of posts in the range of an index; of a store that tells, of a run of its blocks
-use Rattle.std.specs.Prelude.{◌≡◌, ℕ, ◌+◌, ◌*◌, ◌/◌, ◌%◌, ◌<◌, ◌==◌, Bool, List, [], ◌∷◌, length, map, Option, if◌then◌else◌}
+--   HasKeys i told first k t keys    numbers of posts in the range of an index that pass a test; of a store that tells, of a run of its
+--                          blocks
+use Rattle.std.specs.Prelude.{◌≡◌, ℕ, ◌+◌, ◌*◌, ◌/◌, ◌%◌, ◌<◌, ◌==◌, Bool, true, List, [], ◌∷◌, length, map, Option, if◌then◌else◌}
 use Rattle.std.specs.List.{All, Contains, list_any}
 use Rattle.cs_base.specs.content.Orders.{AreSorted}
 use Rattle.cs_base.specs.declared.content.doc.Post.{Post}
@@ -50,9 +51,10 @@ pub record IsOrdered (rows posts : List Post) : Type 0 where
   pub alike : (all : List Post) → AreSorted all → All (Contains all) rows → (t : Post → Bool) → list_any t posts ≡ list_any t rows
 
 -- none where first is k
-pub record HasKeys (i : IndexView) (told : Option (List ℕ)) (first k lo hi : ℕ) (keys : List ℕ) : Type 0 where
+pub record HasKeys (i : IndexView) (told : Option (List ℕ)) (first k : ℕ) (t : Post → Bool) (keys : List ℕ) : Type 0 where
   pub rows : List Post
   pub are : keys ≡ map key_of rows
   pub packed : All IsPacked rows
   pub within : All (IsWithin i.docs (length i.words)) rows
-  pub run : WhereStood told i (λ b. rows ≡ run_of (image_of b).blocks first k lo hi)
+  pub passed : All (λ p. t p ≡ true) rows
+  pub run : WhereStood told i (λ b. rows ≡ run_of (image_of b).blocks first k t)

@@ -8,12 +8,10 @@
 --   IsWithin docs words p       the numbers of a post are in range
 --   AreWithin i posts           posts in order, in the range of an index
 --   HasRows s rows posts        posts of the stock that stand for these rows
---   run_of blocks first last lo hi    the posts with a word from lo up to hi in the blocks from number first up to last, one block
---                               behind the other
---   HasRun s blocks first last lo hi posts    posts of the stock are those of such a run, in any order
+--   run_of blocks first last t  the posts that pass a test in the blocks from number first up to last, one block behind the other
 --   IsSpanOf ws test lo hi      the words that pass a test are those from lo up to hi, both within the vocabulary
 use Rattle.std.specs.Prelude.{◌≡◌, ℕ, ◌-◌, ◌≤◌, ◌<◌, Bool, List, length, take, drop, filter, flat_map, Option}
-use Rattle.std.specs.List.{All, Contains, list_any}
+use Rattle.std.specs.List.{All}
 use Rattle.std.specs.Option.{ForSome}
 use Rattle.std.specs.Ordering.{nat_cmp, then_cmp, on}
 use Rattle.std.specs.declared.cmp.Ordering.{Ordering}
@@ -25,7 +23,7 @@ use Rattle.cs_file.specs.Indexes.{IndexView, StandsFor}
 use Rattle.cs_model_index.specs.Images.{image_posts}
 use Rattle.cs_model_index.specs.Sections.{image_of}
 use Rattle.cs_model_index.specs.Numbered.{rows_at}
-use Rattle.cs_engine.specs.Stocked.{Stock, is_between, IsPicked, IsSpan}
+use Rattle.cs_engine.specs.Stocked.{Stock, IsPicked, IsSpan}
 
 -- the score comes last, which the other three determine in an index
 abbrev pub by_post : Post → Post → Ordering
@@ -57,13 +55,8 @@ pub record HasRows (s : Stock) (rows : List Row) (posts : List Post) : Type 0 wh
 
 -- ---- runs of blocks
 -- none where first is last
-abbrev pub run_of : List (List Post) → ℕ → ℕ → ℕ → ℕ → List Post
-run_of blocks first last lo hi = flat_map (filter (is_between lo hi)) (take (last - first) (drop first blocks))
-
--- the same tests pass on both, so they are the same but for their order
-pub record HasRun (s : Stock) (blocks : List (List Post)) (first last lo hi : ℕ) (posts : List Post) : Type 0 where
-  pub among : All (Contains s.posts) posts
-  pub alike : (t : Post → Bool) → list_any t posts ≡ list_any t (run_of blocks first last lo hi)
+abbrev pub run_of : List (List Post) → ℕ → ℕ → (Post → Bool) → List Post
+run_of blocks first last t = flat_map (filter t) (take (last - first) (drop first blocks))
 
 -- where no word passes, lo is hi or more
 pub record IsSpanOf (ws : List (List ℕ)) (test : List ℕ → Bool) (lo hi : ℕ) : Type 0 where

@@ -1,8 +1,9 @@
-//! Posts whose word lies between two others.
-ghost use Rattle.std.specs.Prelude.{◌≡◌, ◌&&◌, nat_le, nat_lt, filter, length, IfOk};
+//! Posts whose word lies between two others, and those of them in listed documents.
+ghost use Rattle.std.specs.Prelude.{◌≡◌, ◌<◌, ◌&&◌, nat_le, nat_lt, filter, length, IfOk};
+ghost use Rattle.cs_tables.specs.WordCounts.{is_chosen};
 ghost use Rattle.cs_engine.specs.Stocked.{is_between};
 
-use cs_base::Memory;
+use cs_base::{Memory, Post};
 use cs_cols::Cols;
 use std::alloc::Global;
 
@@ -39,4 +40,14 @@ pub(crate) fn is_in(word: u32, lo: u32, hi: u32) -> bool
     ensures { result ≡ (nat_le lo word && nat_lt word hi) }
 {
     lo <= word && word < hi
+}
+
+/// Whether a post's word is one of these and its document is listed.
+#[inline]
+pub(crate) fn is_chosen(post: Post, lo: u32, hi: u32, listed: &[bool]) -> bool
+    requires { post.doc < length listed.now }
+
+    ensures { result ≡ is_chosen lo hi listed.now post }
+{
+    is_in(post.word, lo, hi) & listed[post.doc as usize]
 }

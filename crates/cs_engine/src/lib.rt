@@ -15,6 +15,7 @@ mod hits;
 mod note;
 mod packing;
 mod parts;
+mod plain;
 mod plans;
 mod reading;
 mod replies;

@@ -1,11 +1,11 @@
 //! Rows brought into one order by one sort of numbers.
-ghost use Rattle.std.specs.Prelude.{◌≡◌, ◌++◌, List, map, filter, IfOk, OnOk};
+ghost use Rattle.std.specs.Prelude.{◌≡◌, ◌<◌, ◌++◌, List, length, map, filter, IfOk, OnOk};
 ghost use Rattle.std.specs.List.{All};
 ghost use Rattle.cs_base.specs.declared.content.doc.Post.{Post};
+ghost use Rattle.cs_tables.specs.WordCounts.{is_chosen};
 ghost use Rattle.cs_engine.specs.Packing.{IsOrdered, IsPacked, apart, key_of, place_of, post_of};
-ghost use Rattle.cs_engine.specs.Stocked.{is_between};
 
-use crate::between::is_in;
+use crate::between::is_chosen;
 use cs_base::{Memory, Post};
 use cs_cols::Cols;
 use std::alloc::Global;
@@ -22,17 +22,23 @@ const SCORE_ROOM: u64 = 1 << 3;
 /// The place that no number has.
 const NO_PLACE: u64 = u64::MAX;
 
-/// Adds the numbers of the rows whose word's number is `words.0` or more and below `words.1`.
-pub(crate) fn pack(rows: &Cols, words: (u32, u32), keys: &mut Vec<u64>) -> Result<(), Memory>
-    requires { All IsPacked rows.now.posts }
+/// Adds the numbers of the rows in listed documents whose word's number is `words.0` or more and below `words.1`.
+pub(crate) fn pack(
+    rows: &Cols,
+    words: (u32, u32),
+    listed: &[bool],
+    keys: &mut Vec<u64>,
+) -> Result<(), Memory>
+    requires packed { All IsPacked rows.now.posts }
+    requires known { All (λ p. p.doc < length listed.now) rows.now.posts }
 
-    ensures { OnOk result (keys.new.items ≡ keys.old.items ++ map key_of (filter (is_between words.0 words.1) rows.now.posts)) }
+    ensures { OnOk result (keys.new.items ≡ keys.old.items ++ map key_of (filter (is_chosen words.0 words.1 listed.now) rows.now.posts)) }
 {
     let (lo, hi) = words;
     keys.reserve(rows.len())?;
     for i in 0..rows.len() {
         let row = rows.get(i);
-        if is_in(row.word, lo, hi) {
+        if is_chosen(row, lo, hi, listed) {
             keys.push_reserved(key_of(row));
         }
     }

@@ -1,17 +1,19 @@
 //! The rows of a range of words, read from the blocks of an index.
-ghost use Rattle.std.specs.Prelude.{◌≡◌, ℕ, ◌+◌, ◌-◌, ◌≤◌, ◌<◌, [], false, filter, length, IfOk, OnOk};
+ghost use Rattle.std.specs.Prelude.{◌≡◌, ℕ, ◌+◌, ◌≤◌, ◌<◌, [], false, true, filter, length, IfOk, OnOk};
+ghost use Rattle.std.specs.List.{All};
 ghost use Rattle.cs_base.specs.outside.Causes.{ReadsWithin};
 ghost use Rattle.cs_file.specs.Indexes.{IsIndex, Fits, CausedReads, is_met};
-ghost use Rattle.cs_model_index.specs.Sections.{image_of};
+ghost use Rattle.cs_tables.specs.WordCounts.{is_chosen};
 ghost use Rattle.cs_engine.specs.Asking.{is_read, is_changed};
+ghost use Rattle.cs_engine.specs.Counting.{in_listed};
 ghost use Rattle.cs_engine.specs.Packing.{HasKeys};
-ghost use Rattle.cs_engine.specs.Reading.{AreWithin, HasRun, WhereStood, stock_of};
+ghost use Rattle.cs_engine.specs.Reading.{AreWithin, WhereStood, stock_of};
 ghost use Rattle.cs_engine.specs.Stocked.{is_between};
 
-use crate::between::posts_between;
+use crate::counting::listed_docs;
 use crate::fault::AskFault;
 use crate::packing::{ordered, pack};
-use cs_base::Store;
+use cs_base::{Base, Store};
 use cs_cols::Cols;
 use cs_file::Index;
 use std::alloc::Global;
@@ -37,65 +39,64 @@ pub(crate) fn rows_between<S: Store>(
     ensures reads { ReadsWithin (length (filter (is_met lo hi) index.now.heads)) (S.reads store.old) (S.reads store.new) }
     ensures caused { CausedReads (is_read result) (S.faults store.old) (S.faults store.new) }
 {
-    let (first, last) = index.blocks(lo, hi);
-    if first == last {
-        return Ok(Cols::new(alloc));
-    }
-    let rows = gathered(alloc, index, store, (first, last), (lo, hi))?;
+    let all = listed_docs(alloc, index.docs, &Base::All)?;
+    let rows = rows_in(alloc, index, store, (lo, hi), &all)?;
     Ok(rows)
 }
 
-// The rows of these words in the blocks from one number up to another: of one block cut, of more brought into one order.
-fn gathered<S: Store>(
+/// The rows in listed documents whose word's number is `words.0` or more and below `words.1`, in order. Each block that holds such a
+/// word is read once.
+pub(crate) fn rows_in<S: Store>(
     alloc: Global,
     index: &Index,
     store: &mut S,
-    blocks: (u32, u32),
     words: (u32, u32),
+    listed: &[bool],
 ) -> Result<Cols, AskFault>
-    requires some { blocks.0 < blocks.1 }
-    requires in_range { blocks.1 ≤ length index.now.heads }
+    requires ordered { words.0 ≤ words.1 }
+    requires in_range { words.1 ≤ length index.now.words }
+    requires listed { length listed.now ≡ index.now.docs }
     requires index { IsIndex index.now }
     requires fits { Fits (S.bytes store.old) index.now }
 
-    ensures told { WhereStood (S.bytes store.old) index.now (λ b. IfOk result (λ c. HasRun (stock_of b) (image_of b).blocks blocks.0 blocks.1 words.0 words.1 c.posts)) }
+    ensures told { WhereStood (S.bytes store.old) index.now (λ b. IfOk result (λ c. c.posts ≡ filter (in_listed listed.now) (filter (is_between words.0 words.1) (stock_of b).posts))) }
     ensures within { IfOk result (λ c. AreWithin index.now c.posts) }
+    ensures listed { IfOk result (λ c. All (λ p. in_listed listed.now p ≡ true) c.posts) }
     ensures unchanged { WhereStood (S.bytes store.old) index.now (λ b. is_changed result ≡ false) }
     ensures bytes { S.bytes store.new ≡ S.bytes store.old }
     ensures lent { S.lent store.new ≡ S.lent store.old }
-    ensures reads { ReadsWithin (blocks.1 - blocks.0) (S.reads store.old) (S.reads store.new) }
+    ensures reads { ReadsWithin (length (filter (is_met words.0 words.1) index.now.heads)) (S.reads store.old) (S.reads store.new) }
     ensures caused { CausedReads (is_read result) (S.faults store.old) (S.faults store.new) }
 {
-    let (first, last) = blocks;
-    if last - first == 1 {
-        let only = cut(alloc, index, store, first, words)?;
-        return Ok(only);
-    }
+    let (lo, hi) = words;
+    let (first, last) = index.blocks(lo, hi);
     let mut keys = Vec::new(alloc);
     let mut block = Cols::new(alloc);
     for k in first..last {
-        pack_block(alloc, index, store, k, words, &mut block, &mut keys)?;
+        pack_block(alloc, index, store, k, words, listed, &mut block, &mut keys)?;
     }
     let rows = ordered(alloc, keys)?;
     Ok(rows)
 }
 
-// Adds the numbers of the rows of these words in block `k`, which is read once into columns that hold no row.
+// Adds the numbers of the rows of these words in listed documents of block `k`, which is read once into columns that hold no row.
 fn pack_block<S: Store>(
     alloc: Global,
     index: &Index,
     store: &mut S,
     k: u32,
     words: (u32, u32),
+    listed: &[bool],
     block: &mut Cols,
     keys: &mut Vec<u64>,
 ) -> Result<(), AskFault>
     requires in_range { k < length index.now.heads }
+    requires listed { length listed.now ≡ index.now.docs }
     requires empty { block.old.posts ≡ [] }
     requires index { IsIndex index.now }
     requires fits { Fits (S.bytes store.old) index.now }
 
-    ensures keys { OnOk result ((first : ℕ) → first ≤ k → HasKeys index.now (S.bytes store.old) first k words.0 words.1 keys.old.items → HasKeys index.now (S.bytes store.old) first (k + 1) words.0 words.1 keys.new.items) }
+    ensures keys { OnOk result ((first : ℕ) → first ≤ k → HasKeys index.now (S.bytes store.old) first k (is_chosen words.0 words.1 listed.now) keys.old.items → HasKeys index.now (S.bytes store.old) first (k + 1) (is_chosen words.0 words.1 listed.now) keys.new.items) }
     ensures empty { OnOk result (block.new.posts ≡ []) }
     ensures unchanged { WhereStood (S.bytes store.old) index.now (λ b. is_changed result ≡ false) }
     ensures bytes { S.bytes store.new ≡ S.bytes store.old }
@@ -104,34 +105,7 @@ fn pack_block<S: Store>(
     ensures caused { CausedReads (is_read result) (S.faults store.old) (S.faults store.new) }
 {
     index.fetch(alloc, store, k, block)?;
-    pack(block, words, keys)?;
+    pack(block, words, listed, keys)?;
     block.truncate(0);
     Ok(())
-}
-
-// The rows of these words in block `k`, which is read once.
-fn cut<S: Store>(
-    alloc: Global,
-    index: &Index,
-    store: &mut S,
-    k: u32,
-    words: (u32, u32),
-) -> Result<Cols, AskFault>
-    requires in_range { k < length index.now.heads }
-    requires index { IsIndex index.now }
-    requires fits { Fits (S.bytes store.old) index.now }
-
-    ensures told { WhereStood (S.bytes store.old) index.now (λ b. IfOk result (λ c. HasRun (stock_of b) (image_of b).blocks k (k + 1) words.0 words.1 c.posts)) }
-    ensures within { IfOk result (λ c. AreWithin index.now c.posts) }
-    ensures unchanged { WhereStood (S.bytes store.old) index.now (λ b. is_changed result ≡ false) }
-    ensures bytes { S.bytes store.new ≡ S.bytes store.old }
-    ensures lent { S.lent store.new ≡ S.lent store.old }
-    ensures reads { ReadsWithin 1 (S.reads store.old) (S.reads store.new) }
-    ensures caused { CausedReads (is_read result) (S.faults store.old) (S.faults store.new) }
-{
-    let mut whole = Cols::new(alloc);
-    index.fetch(alloc, store, k, &mut whole)?;
-    let (lo, hi) = words;
-    let rows = posts_between(alloc, &whole, lo, hi)?;
-    Ok(rows)
 }

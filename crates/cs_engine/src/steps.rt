@@ -17,6 +17,7 @@ ghost use Rattle.cs_engine.specs.Stocked.{corpus_in};
 use crate::entries::{entry_after, hits_of, nothing_kept};
 use crate::evaluation::rows_of_part;
 use crate::fault::AskFault;
+use crate::plain::{extended_by_words, words_of_part};
 use cs_base::{Base, Part, Query, Store};
 use cs_cache::Entry;
 use cs_file::Index;
@@ -71,6 +72,10 @@ pub(crate) fn extended<S: Store>(
     ensures reads { ReadsWithin (met_of_part (division index.now) part.now) (S.reads store.old) (S.reads store.new) }
     ensures caused { CausedReads (is_read result) (S.faults store.old) (S.faults store.new) }
 {
+    if let Some(words) = words_of_part(index, part) {
+        let entry = extended_by_words(alloc, index, store, hits, words)?;
+        return Ok(entry);
+    }
     let rows = rows_of_part(alloc, index, store, part)?;
     let entry = entry_after(alloc, index.docs, hits, part.excluded, rows)?;
     Ok(entry)

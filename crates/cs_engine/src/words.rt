@@ -88,8 +88,8 @@ pub(crate) fn rows_of_facet<S: Store>(
     Ok(rows)
 }
 
-// The number of a word and the next one, or an empty range.
-fn span_of_word(index: &Index, word: &[u8]) -> (u32, u32)
+/// The number of a word and the next one, or an empty range.
+pub(crate) fn span_of_word(index: &Index, word: &[u8]) -> (u32, u32)
     requires index { IsIndex index.now }
 
     ensures span { IsSpanOf index.now.words (λ v. bytes_eq v word.now) result.0 result.1 }

@@ -1,31 +1,18 @@
-use Rattle.std.proofs.Common.{sym, subst, arith}
-use Rattle.cs_model_index.specs.Sections.{image_of}
-use Rattle.cs_engine.specs.Reading.{stock_of, AreWithin}
-use Rattle.cs_engine.proofs.ReadingLemmas.{met_count, no_run, none_within, whole_run}
+use Rattle.std.proofs.Common.{◌∙◌, ap, length, subst}
+use Rattle.std.specs.Prelude.{filter}
+use Rattle.cs_base.specs.declared.content.doc.Base.TheVariants as base
+use Rattle.cs_file.specs.Indexes.{IndexView}
+use Rattle.cs_engine.specs.Counting.{AreListed, in_listed}
+use Rattle.cs_engine.specs.Reading.{stock_of}
+use Rattle.cs_engine.specs.Stocked.{is_between}
+use Rattle.cs_engine.proofs.CountingLemmas.{all_listed}
 use Rattle.cs_engine.proofs.reading.rows_between.Goals as goal
 
-pub returns-then-first-last-clause-told : goal.returns-then-first-last-clause-told
-returns-then-first-last-clause-told g c b is stands =
-    let posts = c.new.result.posts in
-    let within = subst (AreWithin c.args.index.now) (sym c.new.ensures) (none_within c.args.index.now) in
-    whole_run b c.args.index.now stands c.requires.index c.args.lo c.args.hi c.blocks-first.result.0 c.blocks-first.result.1 c.blocks-first.ensures posts within.sorted
-    (no_run (stock_of b) (image_of b).blocks c.blocks-first.result.0 c.blocks-first.result.1 c.args.lo c.args.hi posts c.if-first-last.true c.new.ensures)
-
-pub returns-then-first-last-clause-within : goal.returns-then-first-last-clause-within
-returns-then-first-last-clause-within g c = subst (AreWithin c.args.index.now) (sym c.new.ensures) (none_within c.args.index.now)
-
-pub returns-in_err-rows-clause-reads : goal.returns-in_err-rows-clause-reads
-returns-in_err-rows-clause-reads g c =
-    let met = met_count c.args.index.now.heads c.args.lo c.args.hi c.blocks-first.result.0 c.blocks-first.result.1 c.blocks-first.ensures in
-    let reads = c.gathered.ensures.reads in
-    record { later = reads.later; within = (let w = reads.within in omega (arith, w, met)) }
+pub rows_in-requires-clause-listed : goal.rows_in-requires-clause-listed
+rows_in-requires-clause-listed g c = ap length c.deref.ensures.value ∙ c.in_ok-all.ensures.long ∙ ap (λ (x : IndexView). x.docs) c.index.view_is
 
 pub returns-clause-told : goal.returns-clause-told
 returns-clause-told g c b is stands =
-    whole_run b c.args.index.now stands c.requires.index c.args.lo c.args.hi c.blocks-first.result.0 c.blocks-first.result.1 c.blocks-first.ensures c.in_ok-rows.rows.posts c.in_ok-rows.ensures.within.sorted (c.in_ok-rows.ensures.told b is stands)
-
-pub returns-clause-reads : goal.returns-clause-reads
-returns-clause-reads g c =
-    let met = met_count c.args.index.now.heads c.args.lo c.args.hi c.blocks-first.result.0 c.blocks-first.result.1 c.blocks-first.ensures in
-    let reads = c.gathered.ensures.reads in
-    record { later = reads.later; within = (let w = reads.within in omega (arith, w, met)) }
+    let listed = subst (λ n. AreListed n base.All c.in_ok-all.all.items) (ap (λ (x : IndexView). x.docs) c.index.view_is) c.in_ok-all.ensures in
+    c.in_ok-rows.ensures.told b is stands ∙ ap (λ l. filter (in_listed l) (filter (is_between c.args.lo c.args.hi) (stock_of b).posts)) c.deref.ensures.value
+    ∙ all_listed b c.args.index.now stands c.requires.index c.args.lo c.args.hi c.in_ok-all.all.items listed

@@ -1,6 +1,7 @@
 use Rattle.std.proofs.Common.{◌≡◌, ◌+◌, ◌≤◌, []}
+use Rattle.cs_tables.specs.WordCounts.{is_chosen}
 use Rattle.cs_engine.specs.Packing.{HasKeys}
-use Rattle.cs_engine.proofs.reading.gathered.Given as goal
+use Rattle.cs_engine.proofs.reading.rows_in.Given as goal
 
 abbrev pub invariant-loop-k : goal.invariant-loop-k
 invariant-loop-k g l = record {
@@ -11,5 +12,5 @@ invariant-loop-k g l = record {
   quiet : g.S.Store.faults l.store ≡ g.S.Store.faults l.fn.store;
   from : l.first ≤ l.k;
   empty : l.block.posts ≡ [];
-  keys : HasKeys l.index (g.S.Store.bytes l.fn.store) l.first l.k l.words.0 l.words.1 l.keys.items;
+  keys : HasKeys l.index (g.S.Store.bytes l.fn.store) l.first l.k (is_chosen l.words.0 l.words.1 l.listed) l.keys.items;
 }

@@ -1,0 +1,11 @@
+use Rattle.std.proofs.Common.{arith}
+use Rattle.cs_engine.proofs.PlainLemmas.{one_chain, part_words}
+use Rattle.cs_engine.proofs.plain.words_of_part.Goals as goal
+
+pub returns-in-len1-clause-words : goal.returns-in-len1-clause-words
+returns-in-len1-clause-words c =
+    let items = c.as_slice.result.now in
+    let x = c.chain-item.result in
+    let some = c.in-len1.len_at_least in
+    let few = c.in-len1.len_below in
+    part_words c.args.index.now c.requires.index c.args.part.now x items c.as_slice.ensures (one_chain items x (omega (arith, some, few)) c.chain-item.is) c.words_of_chain.result c.words_of_chain.ensures
