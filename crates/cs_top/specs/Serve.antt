@@ -7,6 +7,7 @@
 --   IsListening p n net      the hub is as `listen` leaves it
 --   HasPut p w               the line is put whole
 --   IsServing p n w net      the line is put, and the hub has the port and the room for connections
+--   IsOver n net             no connection is live, and no more will be
 --   HasStopped p n w net     how it stands where serving didn't begin
 --   ServeEnds e i p n w net  how it may end over any files
 --   ServeFailed p n w net P  how it failed: before it served, or while it did, and then P

@@ -44,6 +44,7 @@ use Rattle.cs_top.specs.declared.said.Said.TheVariants as said
 use Rattle.cs_top.specs.declared.words.Command.{Command as Read}
 use Rattle.cs_top.specs.declared.words.Command.TheVariants as read
 
+-- word by word, variant by variant
 abbrev pub seen : Read → Command
 seen (read.Build c i) = build c.now i.now
 seen (read.Ask c s) = ask c.now s.now
@@ -62,6 +63,7 @@ abbrev pub home_seen : Home → FileView
 home_seen (homes.Memory s) = record { made = Some s.bytes; name = []; size = 0 }
 home_seen (homes.Files name size) = record { made = None; name = name.now; size = size }
 
+-- a fault of its lines, of its rows or of its words names its own refusal; want of memory none
 abbrev pub collection_refusal_of : CollectionFault → Option CollectionRefusal
 collection_refusal_of (faults.Documents f) = refusal_of f
 collection_refusal_of (faults.Rows f) = rows_refusal_of f
@@ -71,14 +73,17 @@ collection_refusal_of (faults.Words f) = build_refusal_of f
 abbrev pub IsCause : List ℕ → CollectionFault → Type 0
 IsCause c f = MatchOption (collection_refusal_of f) (Unit {0}) (λ r. refusal c ≡ Some r)
 
+-- the same fault at the same line
 abbrev pub fault_seen : Unread → ScriptFault
 fault_seen (unread.TooLong n) = script_line_too_long n
 fault_seen (unread.NotUtf8 n) = script_line_not_utf8 n
 
+-- refused with the refusal, and without one for want of memory
 abbrev pub collection_ending : Option CollectionRefusal → Ending
 collection_ending None = no_memory
 collection_ending (Some r) = refused r
 
+-- variant by variant
 abbrev pub stop_ending : Stop → Ending
 stop_ending stops.Usage = usage
 stop_ending (stops.Collection f) = collection_ending (collection_refusal_of f)
@@ -94,44 +99,53 @@ abbrev pub ended : Result (Unit {0}) Stop → Ending
 ended (Ok x) = done
 ended (Err s) = stop_ending s
 
+-- a line that is refused, or a call that failed
 abbrev pub of_script : ScriptStop → Stop
 of_script (scripts.Unread f) = stops.Script f
 of_script scripts.Failed = stops.Failed
 
+-- the name that is said is this one; of a failed call nothing is said, and a run stops there in no other way
 abbrev pub IsAbsence : Stop → List ℕ → Type 0
 IsAbsence (stops.Absent said) name = said.now ≡ name
 IsAbsence stops.Failed name = Unit {0}
 IsAbsence s name = ⊥
 
+-- of any other stop nothing is said
 abbrev pub IsMissing : Stop → Option File → Type 0
 IsMissing (stops.Absent said) f = f ≡ None
 IsMissing s f = Unit {0}
 
+-- a run stops there in no other way
 abbrev pub IsDevice : Stop → Type 0
 IsDevice stops.Failed = Unit {0}
 IsDevice stops.Memory = Unit {0}
 IsDevice s = ⊥
 
+-- a run stops there in no other way
 abbrev pub IsOfCollection : Stop → Type 0
 IsOfCollection (stops.Collection f) = Unit {0}
 IsOfCollection stops.Failed = Unit {0}
 IsOfCollection stops.Memory = Unit {0}
 IsOfCollection s = ⊥
 
+-- of any other stop nothing is said
 abbrev pub IsCauseOf : List ℕ → Stop → Type 0
 IsCauseOf c (stops.Collection f) = IsCause c f
 IsCauseOf c s = Unit {0}
 
+-- a run stops there in no other way
 abbrev pub IsOfIndex : Stop → Type 0
 IsOfIndex (stops.Damaged rule at) = Unit {0}
 IsOfIndex stops.Failed = Unit {0}
 IsOfIndex stops.Memory = Unit {0}
 IsOfIndex s = ⊥
 
+-- of any other stop nothing is said
 abbrev pub IsDamage : List ℕ → Stop → Type 0
 IsDamage b (stops.Damaged rule at) = damage b ≡ Some (broken_at rule at)
 IsDamage b s = Unit {0}
 
+-- its words with an LF behind them
 abbrev pub said_text : Said → List ℕ
 said_text (said.Words of line words) = of.now ++ (words_said line words.now ++ 10 ∷ [])
 said_text (said.Damage rule at) = codes "index: rule " ++ (decimal rule ++ (codes " at " ++ (decimal at ++ 10 ∷ [])))
