@@ -4,7 +4,8 @@
 --   flat_more            one block more
 --   block_counted        one block more is counted
 --   countable            the rows that are counted are countable
---   counted_alike        they have the members of those asked for
+--   counted_alike, counted_long     they have the members of those asked for, and are as many
+--   counted_whole        rows that all are chosen
 --   table_told           their table
 --   listed_kept, all_listed     the rows in listed documents
 --   facet_counted        the table of a facet
@@ -48,7 +49,8 @@ use Rattle.cs_engine.specs.Reading.{AreWithin, IsWithin, by_post, stock_of}
 use Rattle.cs_engine.specs.Stocked.{docs_in, every, facet_at, is_between, shown_at, IsKnown}
 use Rattle.cs_engine.proofs.AnsweringLemmas.{facet_told, words_as_shown}
 use Rattle.cs_engine.proofs.AlikeLemmas.{any_filter, table_alike}
-use Rattle.cs_engine.proofs.FoundLemmas.{all_kept, every_more}
+use Rattle.cs_engine.proofs.DistinctLemmas.{Apart, apart_append, apart_none, apart_sorted, long_alike}
+use Rattle.cs_engine.proofs.FoundLemmas.{all_kept, every_more, stays}
 use Rattle.cs_engine.proofs.ListsLemmas.{filter_twice}
 use Rattle.cs_engine.proofs.ReadingLemmas.{kept_within}
 use Rattle.cs_engine.proofs.StockLemmas.{by_post_total, by_post_exact, docs_are, stocked, within_block, words_are}
@@ -159,6 +161,18 @@ words_in_order t (b ∷ bs) from to p w =
           subst AreSorted (sym (both ∙ ap (λ l. l ++ of_word w rest) none)) (words_in_order t bs (λ k. from (suc k)) (λ k. to (suc k)) (parted_rest b bs from to p) w)
     ] refl
 
+blocks_apart : (t : Post → Bool) (bs : List (List Post)) (from to : ℕ → ℕ) → AreParted bs from to → Apart (flat_map (filter t) bs)
+blocks_apart t [] from to p = apart_none
+blocks_apart t (b ∷ bs) from to p =
+    let here = filter t b in
+    let rest = flat_map (filter t) bs in
+    let low : All (λ p. p.word < to 0) here = All-filter t (λ p. p.word < to 0) b (All-weaker (λ p. (from 0 ≤ p.word) × (p.word < to 0)) (λ p. p.word < to 0) (λ x h. h.1) b (p.words 0 (omega arith))) in
+    let high : All (λ p. to 0 ≤ p.word) rest = flat_all (λ p. to 0 ≤ p.word) t bs (λ k l.
+    let up = p.later 0 (suc k) (omega arith) (omega (arith, l)) in
+    All-weaker (λ p. (from (suc k) ≤ p.word) × (p.word < to (suc k))) (λ p. to 0 ≤ p.word) (λ x h. omega (arith, h.0, up)) (get_or bs k []) (p.words (suc k) (omega (arith, l)))) in
+    apart_append (to 0) here rest (apart_sorted here (IsStrictlySortedBy-filter by_place t b (p.sorted 0 (omega arith)))) (blocks_apart t bs (λ k. from (suc k)) (λ k. to (suc k)) (parted_rest b bs from to p))
+    (recursion_from_All (λ p. p.word < to 0) here low) (recursion_from_All (λ p. to 0 ≤ p.word) rest high)
+
 module _ (b : List ℕ) (i : IndexView) (stands : StandsFor b i) (is : IsIndex i) where
   abbrev blocks : List (List Post)
   blocks = (image_of b).blocks
@@ -223,6 +237,15 @@ module _ (b : List ℕ) (i : IndexView) (stands : StandsFor b i) (is : IsIndex i
       ∙ sym (any_listed by_post by_post_total by_post_exact (λ x. p x && (q x && t x)) all)
       ∙ sym (any_filter t q (filter p (stock_of b).posts) ∙ any_filter (λ x. q x && t x) p (stock_of b).posts)
 
+  -- and there are as many
+  pub counted_long : (first last lo hi : ℕ) (listed : List Bool) → AreMet i.heads lo hi first last → length (counted_rows blocks first last lo hi listed) ≡ length (filter (in_listed listed) (filter (is_between lo hi) (stock_of b).posts))
+  counted_long first last lo hi listed met =
+      let up = (stocked b i stands is).sorted in
+      long_alike (counted_rows blocks first last lo hi listed) (filter (in_listed listed) (filter (is_between lo hi) (stock_of b).posts))
+      (blocks_apart (is_chosen lo hi listed) (take (last - first) (drop first blocks)) _ _ (parted first last met.ordered met.within))
+      (IsStrictlySortedBy-filter by_place (in_listed listed) (filter (is_between lo hi) (stock_of b).posts) (IsStrictlySortedBy-filter by_place (is_between lo hi) (stock_of b).posts up))
+      (counted_alike first last lo hi listed met)
+
   pub table_told : (first last lo hi : ℕ) (listed : List Bool) → AreMet i.heads lo hi first last → table (counted_rows blocks first last lo hi listed) ≡ table (filter (in_listed listed) (filter (is_between lo hi) (stock_of b).posts))
   table_told first last lo hi listed met = table_alike (counted_rows blocks first last lo hi listed) (filter (in_listed listed) (filter (is_between lo hi) (stock_of b).posts)) (counted_alike first last lo hi listed met)
 
@@ -268,3 +291,7 @@ module _ (b : List ℕ) (i : IndexView) (stands : StandsFor b i) (is : IsIndex i
 -- the blocks that hold a facet's words
 pub facet_met : (i : IndexView) → IsIndex i → (name bytes prefix : List ℕ) (lo hi : ℕ) → bytes ≡ prefix → prefix ≡ named name [] → IsRange i.words bytes lo hi → length (filter (is_met lo hi) i.heads) ≤ met_prefix (division i) (named name [])
 facet_met i is name bytes prefix lo hi read asked range = subst (λ p. length (filter (is_met lo hi) i.heads) ≤ met_prefix (division i) p) (read ∙ asked) (prefix_met i is bytes lo hi range)
+
+-- rows that all are chosen
+pub counted_whole : (lo hi : ℕ) (listed : List Bool) (rows : List Post) → All (λ p. is_chosen lo hi listed p ≡ true) rows → chosen lo hi listed rows ≡ rows
+counted_whole lo hi listed rows passed = stays (is_chosen lo hi listed) rows (recursion_from_All (λ p. is_chosen lo hi listed p ≡ true) rows passed)

@@ -58,7 +58,7 @@ scored_rise f h (d ∷ ds) up = (later_scored f h d ds up.0, scored_rise f h ds 
 pub every_rises : (n : ℕ) → AreByDoc (every n)
 every_rises n = scored_rise with_no_score (λ d. refl) (range_with_len 0 n) (range_rises 0 n)
 
-stays : (p : Post → Bool) (rows : List Post) → AllByRecursion (λ r. p r ≡ true) rows → filter p rows ≡ rows
+pub stays : (p : Post → Bool) (rows : List Post) → AllByRecursion (λ r. p r ≡ true) rows → filter p rows ≡ rows
 stays p [] h = refl
 stays p (r ∷ rows) h = ap (λ b. cond b (r ∷ filter p rows) (filter p rows)) h.0 ∙ ap (λ l. r ∷ l) (stays p rows h.1)
 

@@ -218,8 +218,11 @@ module _ (i : IndexView) (q : Query) (g : IsOfGrammar q) (a : AnswerList) (keys 
   )
   put_behind kept.TooLarge e own new h = h ∙ is_fronted
 
-  pub kept_behind : (o : Option (EntryOf Post)) → IfSome o (FitsQuery i q) → (new : AnswerList) → new.entries ≡ behind a keys by_plan o → IsKeptBehind i q (became o) a new
-  kept_behind None own new h = h ∙ is_fronted
+  pub kept_behind : (o : Option (EntryOf Post)) → IfSome o (FitsQuery i q) → (new : AnswerList) → new.entries ≡ behind a keys by_plan o → IsKeptBehind i q (became by_plan o) a new
+  kept_behind None own new h = elim (is_same by_plan) as (λ s. IsKeptBehind i q (if s then kept.Had else kept.TooLarge) a new) [
+    | true ↦ h ∙ is_fronted
+    | false ↦ h ∙ is_fronted
+  ]
   kept_behind (Some e) own new h = put_behind (kept_fresh e) e own new h
 
 never_had : (e : EntryOf Post) → ¬ (kept_fresh e ≡ kept.Had)
@@ -229,33 +232,27 @@ never_had e h = cases (nat_lt MAX_ENTRY_SIZE (entry_size e)) h
     cases true h = cc
     cases false h = cc
 
-same_is : (by_plan : Plan) → false ≡ not (is_same by_plan) → by_plan ≡ Same
-same_is Same h = refl
-same_is (Narrow cut) h = absurd (true≢false (sym h))
-same_is Extend h = absurd (true≢false (sym h))
-same_is Fresh h = absurd (true≢false (sym h))
-
-pub other_is : (by_plan : Plan) → true ≡ not (is_same by_plan) → ¬ (by_plan ≡ Same)
-other_is by_plan h same = true≢false (h ∙ ap (λ p. not (is_same p)) same)
-
-pub was_had : (by_plan : Plan) (o : Option (EntryOf Post)) → is_some o ≡ not (is_same by_plan) → (by_plan ≡ Same → became o ≡ kept.Had) × (became o ≡ kept.Had → by_plan ≡ Same)
-was_had by_plan None h = (λ _. refl, λ _. same_is by_plan h)
-was_had by_plan (Some e) h = (λ same. absurd (other_is by_plan h same), λ had. absurd (never_had e had))
+pub was_had : (by_plan : Plan) (o : Option (EntryOf Post)) → (is_same by_plan ≡ true → is_some o ≡ false) → (by_plan ≡ Same → became by_plan o ≡ kept.Had) × (became by_plan o ≡ kept.Had → by_plan ≡ Same)
+was_had Same None h = (λ _. refl, λ _. refl)
+was_had (Narrow cut) None h = (λ same. absurd (let no : Narrow cut ≡ Same = same in cc), λ had. absurd (let no : kept.TooLarge ≡ kept.Had = had in cc))
+was_had Extend None h = (λ same. absurd (let no : Extend ≡ Same = same in cc), λ had. absurd (let no : kept.TooLarge ≡ kept.Had = had in cc))
+was_had Fresh None h = (λ same. absurd (let no : Fresh ≡ Same = same in cc), λ had. absurd (let no : kept.TooLarge ≡ kept.Had = had in cc))
+was_had by_plan (Some e) h = (λ same. absurd (true≢false (h (ap is_same same))), λ had. absurd (never_had e had))
 
 -- ---- over the bytes of the index
 module _ (b : List ℕ) (i : IndexView) (q : Query) where
-  fresh_is : (e : EntryOf Post) → IsEntryOver b i q e → kept_fresh e ≡ kept_fresh (entry_of (file_corpus b) q)
+  pub fresh_is : (e : EntryOf Post) → IsEntryOver b i q e → kept_fresh e ≡ kept_fresh (entry_of (file_corpus b) q)
   fresh_is e own = sym (numbers_keep_alike i.words e) ∙ ap (λ (x : Entry). kept_fresh x) own
 
-  pub kept_is : (by_plan : Plan) (o : Option (EntryOf Post)) → is_some o ≡ not (is_same by_plan) → IfSome o (IsEntryOver b i q) → became o ≡ kept_by by_plan (entry_of (file_corpus b) q)
-  kept_is Same None h own = refl
-  kept_is Same (Some e) h own = absurd (true≢false h)
-  kept_is (Narrow cut) None h own = absurd (true≢false (sym h))
-  kept_is (Narrow cut) (Some e) h own = fresh_is e own
-  kept_is Extend None h own = absurd (true≢false (sym h))
-  kept_is Extend (Some e) h own = fresh_is e own
-  kept_is Fresh None h own = absurd (true≢false (sym h))
-  kept_is Fresh (Some e) h own = fresh_is e own
+  pub kept_is : (by_plan : Plan) (o : Option (EntryOf Post)) → (is_same by_plan ≡ true → is_some o ≡ false) → (is_some o ≡ false → is_same by_plan ≡ false → kept_fresh (entry_of (file_corpus b) q) ≡ kept.TooLarge) → IfSome o (IsEntryOver b i q) → became by_plan o ≡ kept_by by_plan (entry_of (file_corpus b) q)
+  kept_is Same None h large own = refl
+  kept_is Same (Some e) h large own = absurd (true≢false (h refl))
+  kept_is (Narrow cut) None h large own = sym (large refl refl)
+  kept_is (Narrow cut) (Some e) h large own = fresh_is e own
+  kept_is Extend None h large own = sym (large refl refl)
+  kept_is Extend (Some e) h large own = fresh_is e own
+  kept_is Fresh None h large own = sym (large refl refl)
+  kept_is Fresh (Some e) h large own = fresh_is e own
 
 module _ (b : List ℕ) (i : IndexView) (q : Query) (g : IsOfGrammar q) (a : AnswerList) (keys : Keys) (are : keys ≡ keys_of q) (by_plan : Plan) (is : by_plan ≡ plan_by a.entries keys) where
   abbrev ws : List (List ℕ)
@@ -277,9 +274,12 @@ module _ (b : List ℕ) (i : IndexView) (q : Query) (g : IsOfGrammar q) (a : Ans
   fronts_alike : kept_at ws (to_front a.entries (used_key keys by_plan)) ≡ now
   fronts_alike = sym (numbers_front_alike ws a.entries (used_key keys by_plan)) ∙ ap (λ x. to_front held (used_key x by_plan)) are ∙ ap (λ p. to_front held (used_key (keys_of q) p)) plan_is
 
-  pub after_is : (o : Option (EntryOf Post)) → IfSome o (IsEntryOver b i q) → kept_at ws (behind a keys by_plan o) ≡ after held a.capacity q (became o) k
+  pub after_is : (o : Option (EntryOf Post)) → IfSome o (IsEntryOver b i q) → kept_at ws (behind a keys by_plan o) ≡ after held a.capacity q (became by_plan o) k
   unfolding after
-  after_is None own = fronts_alike
+  after_is None own = elim (is_same by_plan) as (λ s. kept_at ws (behind a keys by_plan None) ≡ after held a.capacity q (if s then kept.Had else kept.TooLarge) k) [
+    | true ↦ fronts_alike
+    | false ↦ fronts_alike
+  ]
   after_is (Some e) own =
       let was = kept_fresh e in
       sym (numbers_put_alike ws (to_front a.entries (used_key keys by_plan)) a.capacity was keys.same e)
@@ -287,9 +287,13 @@ module _ (b : List ℕ) (i : IndexView) (q : Query) (g : IsOfGrammar q) (a : Ans
       ∙ ap (λ key. put_in_front a.capacity was (key, entry_at ws e) now) (ap (λ (x : Keys). x.same) are)
       ∙ ap (λ (x : Entry). put_in_front a.capacity was (canonical q, x) now) own
 
-  is_new : (o : Option (EntryOf Post)) → is_some o ≡ not (is_same by_plan) → became o ≡ kept.Kept → ¬ (plan held q ≡ Same)
-  is_new None h was same = absurd (let no : kept.Had ≡ kept.Kept = was in cc)
-  is_new (Some e) h was same = other_is by_plan h (plan_is ∙ same)
+  not_kept : (s : Bool) → ¬ ((if s then kept.Had else kept.TooLarge) ≡ kept.Kept)
+  not_kept true h = cc
+  not_kept false h = cc
 
-  pub good_behind : HoldsGood b i a.entries → (o : Option (EntryOf Post)) → is_some o ≡ not (is_same by_plan) → IfSome o (IsEntryOver b i q) → HoldsGood b i (behind a keys by_plan o)
-  good_behind good o h own = subst (GoodFor k) (sym (after_is o own)) (lists_stay_good k held a.capacity q (became o) good g (is_new o h))
+  is_new : (o : Option (EntryOf Post)) → (is_same by_plan ≡ true → is_some o ≡ false) → became by_plan o ≡ kept.Kept → ¬ (plan held q ≡ Same)
+  is_new None h was same = absurd (not_kept (is_same by_plan) was)
+  is_new (Some e) h was same = true≢false (h (ap is_same (plan_is ∙ same)))
+
+  pub good_behind : HoldsGood b i a.entries → (o : Option (EntryOf Post)) → (is_same by_plan ≡ true → is_some o ≡ false) → IfSome o (IsEntryOver b i q) → HoldsGood b i (behind a keys by_plan o)
+  good_behind good o h own = subst (GoodFor k) (sym (after_is o own)) (lists_stay_good k held a.capacity q (became by_plan o) good g (is_new o h))

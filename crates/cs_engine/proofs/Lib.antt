@@ -1,8 +1,10 @@
 pub mod AlikeLemmas
 pub mod AnsweringLemmas
 pub mod AtomsLemmas
+pub mod BestLemmas
 pub mod ColonLemmas
 pub mod CountingLemmas
+pub mod DistinctLemmas
 pub mod EvaluationLemmas
 pub mod FoldsLemmas
 pub mod FoundLemmas
@@ -10,6 +12,7 @@ pub mod HitsLemmas
 pub mod KeptLemmas
 pub mod LentLemmas
 pub mod ListsLemmas
+pub mod LooseLemmas
 pub mod PackingLemmas
 pub mod PlainLemmas
 pub mod PlansLemmas

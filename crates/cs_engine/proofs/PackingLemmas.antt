@@ -4,7 +4,9 @@
 --   ordered_is          what is left of sorted numbers is in order, and loses no member
 --   packed_block        the posts of a block are packed
 --   no_keys, keys_more  numbers of no block, and of one block more
---   ordered_within, ordered_passed, ordered_told     what is brought into order of a run of blocks
+--   gathered            what is gathered of a run of blocks
+--   ordered_within, ordered_passed, ordered_told     what is brought into order of it
+--   as_they_come        and what isn't
 use Rattle.std.proofs.Common.{◌≡◌, ℕ, zero, suc, ◌+◌, ◌-◌, ◌*◌, ◌/◌, ◌%◌, ◌<◌, ◌≤◌, ◌==◌, ◌&&◌, ◌||◌, Bool, true, false, true≢false, cond, List, [], ◌∷◌, ◌++◌, length, get_or, take, drop, map, Option, None, refl, sym, ap, ap₂, subst, ◌∙◌, arith}
 use Rattle.std.specs.Prelude.{All, filter, flat_map, nat_lt}
 use Rattle.std.specs.List.{AllByRecursion, Contains, list_any}
@@ -28,15 +30,16 @@ use Rattle.cs_file.specs.Indexes.{AreMet, IndexView, IsIndex, StandsFor, block_p
 use Rattle.cs_file.proofs.StoodLemmas.{stood_count}
 use Rattle.cs_meet.specs.Filters.{shares_place}
 use Rattle.cs_model.specs.Scores.{SCORES}
-use Rattle.cs_tables.specs.WordCounts.{is_chosen}
+use Rattle.cs_tables.specs.WordCounts.{AreCountable, is_chosen}
 use Rattle.cs_model_index.specs.BlockRules.{in_kind, is_scored}
 use Rattle.cs_model_index.specs.Sections.{image_of}
 use Rattle.cs_engine.specs.Packing.{HasKeys, IsOrdered, IsPacked, apart, key_of, place_of, post_of}
 use Rattle.cs_engine.specs.Counting.{in_listed}
+use Rattle.cs_engine.specs.Loose.{AreAlike, AreGathered}
 use Rattle.cs_engine.specs.Reading.{AreWithin, IsWithin, WhereStood, run_of, stock_of}
 use Rattle.cs_engine.specs.Stocked.{is_between}
 use Rattle.cs_engine.specs.declared.packing.TheConstants.{NO_PLACE, POSITION_ROOM, SCORE_ROOM}
-use Rattle.cs_engine.proofs.CountingLemmas.{counted_alike, flat_more}
+use Rattle.cs_engine.proofs.CountingLemmas.{counted_alike, counted_long, countable, flat_more}
 use Rattle.cs_engine.proofs.ReadingLemmas.{fetched_within, same_posts}
 use Rattle.cs_engine.proofs.StockLemmas.{from_file, kept_all, stocked}
 use Rattle.cs_engine.proofs.UnionLemmas.{one_post}
@@ -313,12 +316,33 @@ run_known b i s is first last t =
     let P : Post → Type 0 = Contains (stock_of b).posts in
     taken P t (last - first) (drop first (image_of b).blocks) (dropped P t first (image_of b).blocks (from_file b i s is))
 
-pub ordered_told : (b : List ℕ) (i : IndexView) → StandsFor b i → IsIndex i → (first last lo hi : ℕ) (listed : List Bool) → AreMet i.heads lo hi first last → (rows posts : List Post) → rows ≡ run_of (image_of b).blocks first last (is_chosen lo hi listed) → IsOrdered rows posts
+-- what is gathered of the blocks that hold such words
+pub gathered : (i : IndexView) → IsIndex i → (told : Option (List ℕ)) (first last lo hi : ℕ) (listed : List Bool) (keys : List ℕ) → AreMet i.heads lo hi first last → HasKeys i told first last (is_chosen lo hi listed) keys → AreGathered i told lo hi listed keys
+gathered i is told first last lo hi listed keys met h = record {
+  rows = h.rows;
+  are = h.are;
+  packed = h.packed;
+  within = h.within;
+  passed = h.passed;
+  stood = λ b tells stands.
+      let run = h.run b tells stands in
+      record {
+        among = subst (All (Contains (stock_of b).posts)) (sym run) (run_known b i stands is first last (is_chosen lo hi listed));
+        alike = λ t. ap (list_any t) run ∙ counted_alike b i stands is first last lo hi listed met t;
+        long = ap length run ∙ counted_long b i stands is first last lo hi listed met;
+        countable = subst AreCountable (sym run) (countable b i stands is first last lo hi listed met.ordered met.within);
+      };
+}
+
+pub ordered_told : (b : List ℕ) (i : IndexView) → StandsFor b i → IsIndex i → (lo hi : ℕ) (listed : List Bool) (rows posts : List Post) → AreAlike (stock_of b) lo hi listed rows → IsOrdered rows posts
     → posts ≡ filter (in_listed listed) (filter (is_between lo hi) (stock_of b).posts)
-ordered_told b i s is first last lo hi listed met rows posts run o =
+ordered_told b i s is lo hi listed rows posts a o =
     let all = (stock_of b).posts in
     let up = (stocked b i s is).sorted in
-    let known : All (Contains all) rows = subst (All (Contains all)) (sym run) (run_known b i s is first last (is_chosen lo hi listed)) in
     same_posts posts (filter (in_listed listed) (filter (is_between lo hi) all)) o.sorted
     (IsStrictlySortedBy-filter by_place (in_listed listed) (filter (is_between lo hi) all) (IsStrictlySortedBy-filter by_place (is_between lo hi) all up))
-    (λ t. o.alike all up known t ∙ ap (list_any t) run ∙ counted_alike b i s is first last lo hi listed met t)
+    (λ t. o.alike all up a.among t ∙ a.alike t)
+
+-- the rows of numbers, as they come
+pub as_they_come : (rows : List Post) (keys : List ℕ) → keys ≡ map key_of rows → All IsPacked rows → map post_of keys ≡ rows
+as_they_come rows keys are packed = ap (map post_of) are ∙ all_unkeyed rows (recursion_from_All IsPacked rows packed)

@@ -46,10 +46,10 @@ fetched_within i is told k lt old new none h =
     subst (AreWithin i) (sym all) (block_within i is k d lt h.rows h.bytes (h.block d))
 
 -- ---- posts in order
-sooner : (x y : Post) → by_place x y ≡ Less → by_post x y ≡ Less
+pub sooner : (x y : Post) → by_place x y ≡ Less → by_post x y ≡ Less
 sooner x y h = ap (λ o. ordering_then o (nat_cmp x.score y.score)) h
 
-still_rise : (xs : List Post) → AreSorted xs → IsStrictlySortedBy by_post xs
+pub still_rise : (xs : List Post) → AreSorted xs → IsStrictlySortedBy by_post xs
 unfolding IsStrictlySortedBy
 still_rise [] h = tt
 still_rise (x ∷ xs) h = (all_then _ _ (sooner x) xs h.0, still_rise xs h.1)

@@ -1,6 +1,7 @@
 -- One part more: the hits of an entry, and the entry behind a part.
 --
 --   base_in, hits_in       a base in range is one for scores, and so are the hits of an entry in range
+--   scores_in              and those of rows in any order
 --   hits_told              the hits of posts are those of the rows that they stand for
 --   listed_told            the hits of a base, as a list
 --   step_told              the entry behind a part is that of its rows
@@ -63,12 +64,12 @@ base_small : (docs bound d : ℕ) (b : Base) → IsBaseOf docs bound b → rank.
 base_small docs bound d base.All h = omega arith
 base_small docs bound d (base.Listed hs) h = found_small bound d hs (recursion_from_All (λ h. h.score ≤ bound) hs (All-weaker (IsHitOf docs bound) (λ h. h.score ≤ bound) (λ x at. at.score) hs h.1))
 
-below : (i : IndexView) (posts : List Post) → AreWithin i posts → All (λ d. d < i.docs) (docs_of posts)
-below i posts w = All-members nat_cmp nat_cmp_total nat_cmp-IsAntisymmetric (λ d. d < i.docs) (map (λ p. p.doc) posts) (All-map (λ d. d < i.docs) (λ p. p.doc) posts (All-weaker (IsWithin i.docs (length i.words)) (λ p. p.doc < i.docs) (λ p h. h.doc) posts w.within))
+below : (i : IndexView) (posts : List Post) → All (IsWithin i.docs (length i.words)) posts → All (λ d. d < i.docs) (docs_of posts)
+below i posts within = All-members nat_cmp nat_cmp_total nat_cmp-IsAntisymmetric (λ d. d < i.docs) (map (λ p. p.doc) posts) (All-map (λ d. d < i.docs) (λ p. p.doc) posts (All-weaker (IsWithin i.docs (length i.words)) (λ p. p.doc < i.docs) (λ p h. h.doc) posts within))
 
-best_small : (i : IndexView) (posts : List Post) → AreWithin i posts → (d : ℕ) → greatest (map (λ p. p.score) (of_doc d posts)) ≤ 255
-best_small i posts w d =
-    greatest_small (of_doc d posts) (recursion_from_All (λ p. p.score ≤ 255) (of_doc d posts) (All-filter (λ p. p.doc == d) (λ p. p.score ≤ 255) posts (All-weaker (IsWithin i.docs (length i.words)) (λ p. p.score ≤ 255) (λ p h. h.score) posts w.within)))
+best_small : (i : IndexView) (posts : List Post) → All (IsWithin i.docs (length i.words)) posts → (d : ℕ) → greatest (map (λ p. p.score) (of_doc d posts)) ≤ 255
+best_small i posts within d =
+    greatest_small (of_doc d posts) (recursion_from_All (λ p. p.score ≤ 255) (of_doc d posts) (All-filter (λ p. p.doc == d) (λ p. p.score ≤ 255) posts (All-weaker (IsWithin i.docs (length i.words)) (λ p. p.score ≤ 255) (λ p h. h.score) posts within)))
 
 pub most_small : (positive : Bool) (n : ℕ) → n ≤ 16 → most positive n ≤ 2 ^ 20
 most_small true n l = omega (arith, l)
@@ -84,12 +85,22 @@ hits_in i true n e fits =
     let some = fits.parts refl in (
       scored_rise (λ d. with_base e.base (best_row e.rows d)) (λ d. refl) (docs_of e.rows) (listing-rises nat_cmp (map (λ p. p.doc) e.rows)),
       All-map (IsHitOf i.docs (255 * n)) (λ d. with_base e.base (best_row e.rows d)) (docs_of e.rows) (λ k d l.
-          let doc = below i e.rows fits.rows k d l in
+          let doc = below i e.rows fits.rows.within k d l in
           let at = get_or (docs_of e.rows) k d in
           let low = base_small i.docs (255 * (n - 1)) at e.base fits.base in
-          let best = best_small i e.rows fits.rows at in
+          let best = best_small i e.rows fits.rows.within at in
           record { doc = doc; score = omega (arith, low, best, some) }),
     )
+
+-- and those of rows in any order
+pub scores_in : (i : IndexView) (rows : List Post) → All (IsWithin i.docs (length i.words)) rows → IsBaseOf i.docs 255 (base.Listed (scores base.All rows))
+scores_in i rows within = (
+  scored_rise (λ d. with_base base.All (best_row rows d)) (λ d. refl) (docs_of rows) (listing-rises nat_cmp (map (λ p. p.doc) rows)),
+  All-map (IsHitOf i.docs 255) (λ d. with_base base.All (best_row rows d)) (docs_of rows) (λ k d l.
+      let doc = below i rows within k d l in
+      let best = best_small i rows within (get_or (docs_of rows) k d) in
+      record { doc = doc; score = omega (arith, best) }),
+)
 
 -- ---- hits by posts and by rows
 rows_docs : (ws : List (List ℕ)) (ps : List Post) → map (λ r. r.doc) (rows_at ws ps) ≡ map (λ p. p.doc) ps

@@ -13,7 +13,7 @@
 --   AreGood b e               over the bytes b of its index an engine keeps under each key the entry of the key's own query
 --   note_plan q a             the plan by which a query is answered from what is kept
 --   is_same p                 the plan is Same
---   became o                  what becomes of a query's own entry; of None, which was kept before, Had
+--   became p o                what becomes of a query's own entry behind the plan p; of None, which was kept before or is too large
 --   behind a keys p o         the entries that a reply by the plan p leaves, where o is the query's own entry, if it wasn't kept before
 --   WasHad n                  an answer was kept before exactly where the plan is Same
 --   fronted q a               the entries that a query leaves where its own isn't kept
@@ -21,7 +21,7 @@
 --   IsLeftBehind q old new    what is kept after a refusal: the same entries, the used one maybe in front
 --   Keeps i q old r new       the one or the other
 --   IsAfter b q old r new     what is kept after a reply, over the bytes of the index
-use Rattle.std.specs.Prelude.{◌≡◌, ◌⊎◌, ℕ, Bool, true, false, List, ◌∷◌, length, take, Option, Some, None, Result, Ok, Err}
+use Rattle.std.specs.Prelude.{◌≡◌, ◌⊎◌, ℕ, Bool, true, false, List, ◌∷◌, length, take, Option, Some, None, Result, Ok, Err, if◌then◌else◌}
 use Rattle.std.specs.List.{All}
 use Rattle.cs_base.specs.declared.content.doc.Base.{Base}
 use Rattle.cs_base.specs.declared.content.doc.Post.{Post}
@@ -81,10 +81,10 @@ is_same (plan.Narrow cut) = false
 is_same plan.Extend = false
 is_same plan.Fresh = false
 
--- an entry that wasn't kept before is kept now, unless it is too large
-abbrev pub became : Option (EntryOf Post) → Kept
-became None = kept.Had
-became (Some e) = kept_fresh e
+-- an entry that wasn't kept before is kept now, unless it is too large; of one that isn't there the plan says which it was
+abbrev pub became : Plan → Option (EntryOf Post) → Kept
+became p None = if is_same p then kept.Had else kept.TooLarge
+became p (Some e) = kept_fresh e
 
 -- the used entry comes to the front, and the query's own before that where it is kept
 abbrev pub behind : AnswerList → Keys → Plan → Option (EntryOf Post) → KeptOf (EntryOf Post)

@@ -1,6 +1,7 @@
 pub mod Asking
 pub mod Counting
 pub mod Keeping
+pub mod Loose
 pub mod Packing
 pub mod Plain
 pub mod Reading

@@ -11,8 +11,9 @@ ghost use Rattle.cs_model_kept.specs.Due.{met_of_facets, met_prefix};
 ghost use Rattle.cs_query.specs.RequestView.{asked};
 ghost use Rattle.cs_engine.specs.Asking.{division, is_read, is_changed, titles_read};
 ghost use Rattle.cs_engine.specs.Counting.{AreListed};
-ghost use Rattle.cs_engine.specs.Reading.{AreWithin, WhereStood, stock_of};
-ghost use Rattle.cs_engine.specs.Steps.{AreFound, IsBaseOf};
+ghost use Rattle.cs_engine.specs.Loose.{IsTableFor};
+ghost use Rattle.cs_engine.specs.Reading.{WhereStood, stock_of};
+ghost use Rattle.cs_engine.specs.Steps.{IsBaseOf};
 ghost use Rattle.cs_engine.specs.Stocked.{corpus_in, facet_at};
 
 use crate::counting::{listed_docs, table_between};
@@ -20,29 +21,28 @@ use crate::fault::AskFault;
 use crate::hits::listed;
 use crate::replies::shown_words;
 use cs_base::{Base, Scored, Seq, Store, Text};
-use cs_cols::Cols;
 use cs_file::Index;
 use cs_query::{FacetShown, HitShown, Reply, Request};
 use cs_rank::top;
-use cs_tables::completions;
+use cs_tables::Table;
 use cs_text::named_word;
 use std::alloc::Global;
 
-/// The reply to a request, by the hits of its query and the rows of the last part in them.
+/// The reply to a request, by the hits of its query and the table of the rows of the last part in them.
 pub(crate) fn reply_of<S: Store>(
     alloc: Global,
     index: &Index,
     store: &mut S,
     request: &Request,
     hits: Base,
-    pairs: &Cols,
+    table: Table,
 ) -> Result<Reply, AskFault>
     requires base { IsBaseOf index.now.docs (255 * MAX_PARTS) hits }
-    requires pairs { AreWithin index.now pairs.now.posts }
+    requires table { All (λ w. w.word < length index.now.words) table.first }
     requires index { IsIndex index.now }
     requires fits { Fits (S.bytes store.old) index.now }
 
-    ensures told { WhereStood (S.bytes store.old) index.now (λ b. AreFound (stock_of b) request.now.query hits pairs.now.posts → IfOk result (λ r. r ≡ reply_of (corpus_in (stock_of b)) (asked request.now))) }
+    ensures told { WhereStood (S.bytes store.old) index.now (λ b. IsTableFor index.now b request.now.query request.now.completions hits table → IfOk result (λ r. r ≡ reply_of (corpus_in (stock_of b)) (asked request.now))) }
     ensures few { IfOk result (λ r. length r.hits ≤ request.now.hits) }
     ensures unchanged { WhereStood (S.bytes store.old) index.now (λ b. is_changed result ≡ false) }
     ensures bytes { S.bytes store.new ≡ S.bytes store.old }
@@ -50,7 +50,6 @@ pub(crate) fn reply_of<S: Store>(
     ensures reads { ReadsWithin (titles_read (asked request.now) result + met_of_facets (division index.now) (asked request.now).facets) (S.reads store.old) (S.reads store.new) }
     ensures caused { CausedReads (is_read result) (S.faults store.old) (S.faults store.new) }
 {
-    let table = completions(alloc, pairs, request.completions)?;
     let shown = shown_words(alloc, &index.words, table.first.as_slice())?;
     let facets = shown_facets(alloc, index, store, &hits, request)?;
     let all = listed(alloc, index.docs, hits)?;

@@ -1,12 +1,12 @@
 //! The words of a range, counted block by block in the documents of a base.
-ghost use Rattle.std.specs.Prelude.{◌≡◌, ◌≤◌, ◌<◌, ◌*◌, ◌++◌, List, false, filter, length, take, IfOk, OnOk};
+ghost use Rattle.std.specs.Prelude.{◌≡◌, ◌≤◌, ◌<◌, ◌*◌, ◌++◌, List, false, true, filter, length, take, IfOk, OnOk};
 ghost use Rattle.std.specs.List.{All};
 ghost use Rattle.cs_base.specs.declared.content.doc.Post.{Post};
-ghost use Rattle.cs_base.specs.declared.content.limits.TheConstants.{MAX_PARTS};
+ghost use Rattle.cs_base.specs.declared.content.limits.TheConstants.{MAX_PARTS, MAX_WORDS};
 ghost use Rattle.cs_base.specs.outside.Causes.{ReadsWithin};
 ghost use Rattle.cs_file.specs.Indexes.{IsIndex, Fits, CausedReads, block_posts, is_met};
 ghost use Rattle.cs_tables.specs.Listings.{table};
-ghost use Rattle.cs_tables.specs.WordCounts.{AreCountable, HasCounted, chosen};
+ghost use Rattle.cs_tables.specs.WordCounts.{AreCountable, HasCounted, chosen, is_chosen};
 ghost use Rattle.cs_engine.specs.Asking.{is_read, is_changed};
 ghost use Rattle.cs_engine.specs.Counting.{AreListed, AreMarked, in_listed};
 ghost use Rattle.cs_engine.specs.Reading.{WhereStood, stock_of};
@@ -15,6 +15,7 @@ ghost use Rattle.cs_engine.specs.Stocked.{is_between};
 
 use crate::fault::AskFault;
 use cs_base::{Base, Memory, Scored, Store};
+use cs_cols::Cols;
 use cs_file::Index;
 use cs_tables::{Table, WordCounts};
 use std::alloc::Global;
@@ -122,4 +123,29 @@ fn count_block<S: Store>(
     index.fetch_doc_words(alloc, store, k, docs, numbers)?;
     counts.add(docs, numbers, listed);
     Ok(())
+}
+
+/// The table of rows of the words from number `words.0` up to `words.1` in listed documents, of which those of one word come in
+/// order.
+pub(crate) fn table_of(
+    alloc: Global,
+    words: (u32, u32),
+    rows: &Cols,
+    listed: &[bool],
+    cut: u32,
+) -> Result<Table, Memory>
+    requires ordered { words.0 ≤ words.1 }
+    requires few { words.1 ≤ MAX_WORDS }
+    requires known { All (λ p. p.doc < length listed.now) rows.now.posts }
+    requires passed { All (λ p. is_chosen words.0 words.1 listed.now p ≡ true) rows.now.posts }
+
+    ensures total { IfOk result (λ t. AreCountable rows.now.posts → t.total ≡ length (table rows.now.posts)) }
+    ensures first { IfOk result (λ t. AreCountable rows.now.posts → t.first ≡ take cut (table rows.now.posts)) }
+    ensures known { IfOk result (λ t. All (λ w. w.word < words.1) t.first) }
+{
+    let (lo, hi) = words;
+    let mut counts = WordCounts::new(alloc, lo, hi)?;
+    counts.add(rows.docs(), rows.words(), listed);
+    let table = counts.table(alloc, cut)?;
+    Ok(table)
 }

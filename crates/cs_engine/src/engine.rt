@@ -1,5 +1,5 @@
 //! The engine over an opened index.
-ghost use Rattle.std.specs.Prelude.{◌≡◌, ◌≤◌, [], false, not, is_some, length, IfOk};
+ghost use Rattle.std.specs.Prelude.{◌≡◌, ◌≤◌, [], None, false, true, is_some, length, IfOk};
 ghost use Rattle.std.specs.Option.{ForSome};
 ghost use Rattle.cs_base.specs.outside.Causes.{ReadsWithin};
 ghost use Rattle.cs_cache.specs.AnswerList.{answer_list};
@@ -104,15 +104,25 @@ impl Engine {
 // What becomes of the query's own entry, behind a reply by a plan. The entry that the plan used comes to the front before.
 fn put(answers: &mut Answers, keys: Keys, plan: Plan, entry: Option<Entry>) -> Kept
     requires plan { plan ≡ plan_by answers.old.entries keys }
-    requires own { is_some entry ≡ not (is_same plan) }
+    requires own { is_same plan ≡ true → is_some entry ≡ false }
 
-    ensures became { result ≡ became entry }
+    ensures became { result ≡ became plan entry }
     ensures entries { answers.new.entries ≡ behind answers.old keys plan entry }
     ensures capacity { answers.new.capacity ≡ answers.old.capacity }
 {
     answers.resume(&keys, plan);
     match entry {
         Some(entry) => answers.keep(keys.same, entry),
-        None => Kept::Had,
+        None => not_kept(plan),
+    }
+}
+
+// What is told of an own entry that isn't there: it was kept before where the plan is Same, and else it is too large.
+fn not_kept(plan: Plan) -> Kept
+    ensures { result ≡ became plan None }
+{
+    match plan {
+        Plan::Same => Kept::Had,
+        Plan::Narrow { .. } | Plan::Extend | Plan::Fresh => Kept::TooLarge,
     }
 }

@@ -5,6 +5,7 @@
 #![tactic(auto)]
 
 mod answering;
+mod best;
 mod between;
 mod counting;
 mod engine;
@@ -12,6 +13,7 @@ mod entries;
 mod evaluation;
 mod fault;
 mod hits;
+mod loose;
 mod note;
 mod packing;
 mod parts;

@@ -54,6 +54,18 @@ pub(crate) fn ordered(alloc: Global, mut keys: Vec<u64>) -> Result<Cols, Memory>
     Ok(rows)
 }
 
+/// The posts of numbers, as they come.
+pub(crate) fn as_they_come(alloc: Global, keys: &[u64]) -> Result<Cols, Memory>
+    ensures { IfOk result (λ c. c.posts ≡ map post_of keys.now) }
+{
+    let mut rows = Cols::new(alloc);
+    rows.reserve(keys.len())?;
+    for key in keys {
+        rows.push_reserved(post_of(*key));
+    }
+    Ok(rows)
+}
+
 // The posts of ascending numbers, each place once.
 fn unpack(alloc: Global, keys: &[u64]) -> Result<Cols, Memory>
     ensures { IfOk result (λ c. c.posts ≡ map post_of (apart NO_PLACE keys.now)) }

@@ -6,6 +6,7 @@ ghost use Rattle.cs_file.specs.Indexes.{IsIndex, Fits, CausedReads, is_met};
 ghost use Rattle.cs_tables.specs.WordCounts.{is_chosen};
 ghost use Rattle.cs_engine.specs.Asking.{is_read, is_changed};
 ghost use Rattle.cs_engine.specs.Counting.{in_listed};
+ghost use Rattle.cs_engine.specs.Loose.{AreGathered};
 ghost use Rattle.cs_engine.specs.Packing.{HasKeys};
 ghost use Rattle.cs_engine.specs.Reading.{AreWithin, WhereStood, stock_of};
 ghost use Rattle.cs_engine.specs.Stocked.{is_between};
@@ -68,6 +69,33 @@ pub(crate) fn rows_in<S: Store>(
     ensures reads { ReadsWithin (length (filter (is_met words.0 words.1) index.now.heads)) (S.reads store.old) (S.reads store.new) }
     ensures caused { CausedReads (is_read result) (S.faults store.old) (S.faults store.new) }
 {
+    let keys = keys_in(alloc, index, store, words, listed)?;
+    let rows = ordered(alloc, keys)?;
+    Ok(rows)
+}
+
+/// The numbers of the rows in listed documents whose word's number is `words.0` or more and below `words.1`, block by block. Each
+/// block that holds such a word is read once.
+pub(crate) fn keys_in<S: Store>(
+    alloc: Global,
+    index: &Index,
+    store: &mut S,
+    words: (u32, u32),
+    listed: &[bool],
+) -> Result<Vec<u64>, AskFault>
+    requires ordered { words.0 ≤ words.1 }
+    requires in_range { words.1 ≤ length index.now.words }
+    requires listed { length listed.now ≡ index.now.docs }
+    requires index { IsIndex index.now }
+    requires fits { Fits (S.bytes store.old) index.now }
+
+    ensures gathered { IfOk result (λ v. AreGathered index.now (S.bytes store.old) words.0 words.1 listed.now v.items) }
+    ensures unchanged { WhereStood (S.bytes store.old) index.now (λ b. is_changed result ≡ false) }
+    ensures bytes { S.bytes store.new ≡ S.bytes store.old }
+    ensures lent { S.lent store.new ≡ S.lent store.old }
+    ensures reads { ReadsWithin (length (filter (is_met words.0 words.1) index.now.heads)) (S.reads store.old) (S.reads store.new) }
+    ensures caused { CausedReads (is_read result) (S.faults store.old) (S.faults store.new) }
+{
     let (lo, hi) = words;
     let (first, last) = index.blocks(lo, hi);
     let mut keys = Vec::new(alloc);
@@ -75,8 +103,7 @@ pub(crate) fn rows_in<S: Store>(
     for k in first..last {
         pack_block(alloc, index, store, k, words, listed, &mut block, &mut keys)?;
     }
-    let rows = ordered(alloc, keys)?;
-    Ok(rows)
+    Ok(keys)
 }
 
 // Adds the numbers of the rows of these words in listed documents of block `k`, which is read once into columns that hold no row.

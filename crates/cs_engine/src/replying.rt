@@ -1,13 +1,15 @@
 //! The reply to a request by its plan, and the query's own entry where that wasn't kept before.
-ghost use Rattle.std.specs.Prelude.{◌≡◌, ◌+◌, ◌≤◌, Some, false, not, is_some, length, IfSome, IfOk};
+ghost use Rattle.std.specs.Prelude.{◌≡◌, ◌+◌, ◌≤◌, Some, false, true, is_some, length, IfSome, IfOk};
+ghost use Rattle.cs_base.specs.declared.index.plan.Kept.TheVariants as kept;
 ghost use Rattle.cs_base.specs.outside.Causes.{ReadsWithin};
 ghost use Rattle.cs_file.specs.Indexes.{IsIndex, Fits, CausedReads};
 ghost use Rattle.cs_model.specs.Keys.{keys_of};
 ghost use Rattle.cs_model.specs.Parameters.{HoldsLimits};
 ghost use Rattle.cs_model.specs.Requests.{reply_of};
 ghost use Rattle.cs_model_index.specs.Sections.{file_corpus};
-ghost use Rattle.cs_model_kept.specs.Due.{due, met_of_facets};
-ghost use Rattle.cs_model_kept.specs.KeptList.{plan_by};
+ghost use Rattle.cs_model_kept.specs.Due.{due, met_of_facets, met_of_query};
+ghost use Rattle.cs_model_kept.specs.Entries.{entry_of};
+ghost use Rattle.cs_model_kept.specs.KeptList.{kept_fresh, plan_by};
 ghost use Rattle.cs_query.specs.RequestView.{asked};
 ghost use Rattle.cs_engine.specs.Asking.{division, is_read, is_changed, titles_of, titles_read};
 ghost use Rattle.cs_engine.specs.Keeping.{FitsQuery, HoldsGood, IsEntryOver, KeepsFitting, entry_with, is_same};
@@ -16,6 +18,8 @@ ghost use Rattle.cs_engine.specs.Reading.{WhereStood};
 use crate::answering::reply_of;
 use crate::entries::hits_of;
 use crate::fault::AskFault;
+use crate::loose::answered_by_words;
+use crate::plain::words_of_query;
 use crate::plans::{narrowed, one_part_more};
 use crate::steps::{end_positive, entry_of};
 use cs_base::{Base, Keys, Plan, Store};
@@ -23,9 +27,10 @@ use cs_cache::{Answers, Entry};
 use cs_cols::Cols;
 use cs_file::Index;
 use cs_query::{Reply, Request};
+use cs_tables::completions;
 use std::alloc::Global;
 
-/// The reply by a plan of what is kept, and the query's own entry; None where that was kept before.
+/// The reply by a plan of what is kept, and the query's own entry; None where that was kept before or is too large.
 pub(crate) fn answered<S: Store>(
     alloc: Global,
     index: &Index,
@@ -45,7 +50,8 @@ pub(crate) fn answered<S: Store>(
     ensures own { WhereStood (S.bytes store.old) index.now (λ b. HoldsGood b index.now answers.now.entries → IfOk result (λ a. IfSome a.1 (IsEntryOver b index.now request.now.query))) }
     ensures few { IfOk result (λ a. length a.0.hits ≤ request.now.hits) }
     ensures within { IfOk result (λ a. IfSome a.1 (FitsQuery index.now request.now.query)) }
-    ensures had { IfOk result (λ a. is_some a.1 ≡ not (is_same plan)) }
+    ensures had { IfOk result (λ a. is_same plan ≡ true → is_some a.1 ≡ false) }
+    ensures large { WhereStood (S.bytes store.old) index.now (λ b. HoldsGood b index.now answers.now.entries → IfOk result (λ a. is_some a.1 ≡ false → is_same plan ≡ false → kept_fresh (entry_of (file_corpus b) request.now.query) ≡ kept.TooLarge)) }
     ensures unchanged { WhereStood (S.bytes store.old) index.now (λ b. is_changed result ≡ false) }
     ensures bytes { S.bytes store.new ≡ S.bytes store.old }
     ensures lent { S.lent store.new ≡ S.lent store.old }
@@ -73,15 +79,45 @@ pub(crate) fn answered<S: Store>(
             Ok(answered)
         }
         Plan::Fresh => {
-            let entry = entry_of(alloc, index, store, &request.query)?;
-            let answered = with_reply(alloc, index, store, request, entry)?;
+            let answered = fresh(alloc, index, store, request)?;
             Ok(answered)
         }
     }
 }
 
-// The reply by the query's own entry, which goes along.
-fn with_reply<S: Store>(
+// The reply by all parts, and the query's own entry; None where that is too large.
+fn fresh<S: Store>(
+    alloc: Global,
+    index: &Index,
+    store: &mut S,
+    request: &Request,
+) -> Result<(Reply, Option<Entry>), AskFault>
+    requires limits { HoldsLimits (asked request.now) }
+    requires index { IsIndex index.now }
+    requires fits { Fits (S.bytes store.old) index.now }
+
+    ensures told { WhereStood (S.bytes store.old) index.now (λ b. IfOk result (λ a. a.0 ≡ reply_of (file_corpus b) (asked request.now))) }
+    ensures own { WhereStood (S.bytes store.old) index.now (λ b. IfOk result (λ a. IfSome a.1 (IsEntryOver b index.now request.now.query))) }
+    ensures large { WhereStood (S.bytes store.old) index.now (λ b. IfOk result (λ a. is_some a.1 ≡ false → kept_fresh (entry_of (file_corpus b) request.now.query) ≡ kept.TooLarge)) }
+    ensures few { IfOk result (λ a. length a.0.hits ≤ request.now.hits) }
+    ensures within { IfOk result (λ a. IfSome a.1 (FitsQuery index.now request.now.query)) }
+    ensures unchanged { WhereStood (S.bytes store.old) index.now (λ b. is_changed result ≡ false) }
+    ensures bytes { S.bytes store.new ≡ S.bytes store.old }
+    ensures lent { S.lent store.new ≡ S.lent store.old }
+    ensures reads { ReadsWithin (titles_of (asked request.now) result + met_of_facets (division index.now) (asked request.now).facets + met_of_query (division index.now) request.now.query) (S.reads store.old) (S.reads store.new) }
+    ensures caused { CausedReads (is_read result) (S.faults store.old) (S.faults store.new) }
+{
+    if let Some(words) = words_of_query(index, &request.query) {
+        let answered = answered_by_words(alloc, index, store, request, words)?;
+        return Ok(answered);
+    }
+    let entry = entry_of(alloc, index, store, &request.query)?;
+    let answered = with_reply(alloc, index, store, request, entry)?;
+    Ok(answered)
+}
+
+/// The reply by the query's own entry, which goes along.
+pub(crate) fn with_reply<S: Store>(
     alloc: Global,
     index: &Index,
     store: &mut S,
@@ -130,6 +166,7 @@ fn by_entry<S: Store>(
 {
     let positive = end_positive(request.query.parts.as_slice());
     let hits = hits_of(alloc, positive, base, rows)?;
-    let reply = reply_of(alloc, index, store, request, hits, rows)?;
+    let table = completions(alloc, rows, request.completions)?;
+    let reply = reply_of(alloc, index, store, request, hits, table)?;
     Ok(reply)
 }

@@ -10,7 +10,7 @@ use Rattle.cs_query.specs.RequestView.{asked}
 use Rattle.cs_tables.specs.declared.tables.Completion.{Completion}
 use Rattle.cs_engine.specs.Reading.{stock_of}
 use Rattle.cs_engine.specs.Stocked.{corpus_in, shown_at}
-use Rattle.cs_engine.proofs.AnsweringLemmas.{first_in, hits_few, index_texts, reply_told, shown_in, words_as_shown}
+use Rattle.cs_engine.proofs.AnsweringLemmas.{hits_few, index_texts, reply_told, shown_in, words_as_shown}
 use Rattle.cs_engine.proofs.answering.reply_of.Goals as goal
 
 pub shown_words-requires-clause-texts : goal.shown_words-requires-clause-texts
@@ -19,8 +19,7 @@ shown_words-requires-clause-texts g c = subst (All IsUtf8) (sym (ap (λ (x : Ind
 pub shown_words-requires-clause-known : goal.shown_words-requires-clause-known
 shown_words-requires-clause-known g c =
     let i = c.args.index.now in
-    let first = first_in i c.requires.index c.args.pairs.now.posts c.requires.pairs c.args.request.now.completions c.in_ok-table.table.first c.in_ok-table.ensures.first in
-    subst (λ ws. All (λ (w : Completion). w.word < length ws) c.as_slice.result.now) (sym (ap (λ (x : IndexView). x.words) c.index.view_is)) (subst (All (λ (w : Completion). w.word < length i.words)) (sym c.as_slice.ensures) first)
+    subst (λ ws. All (λ (w : Completion). w.word < length ws) c.as_slice.result.now) (sym (ap (λ (x : IndexView). x.words) c.index.view_is)) (subst (All (λ (w : Completion). w.word < length i.words)) (sym c.as_slice.ensures) c.requires.table)
 
 pub shown_hits-requires-clause-known : goal.shown_hits-requires-clause-known
 shown_hits-requires-clause-known g c =
@@ -42,9 +41,9 @@ returns-clause-told g c b is stands found =
     let r = asked c.args.request.now in
     let words = ap (λ (x : IndexView). x.words) c.index.view_is in
     let docs = ap (λ (x : IndexView). x.docs) c.index.view_is in
-    let posts = c.args.pairs.now.posts in
-    let shown = words_as_shown b i stands c.requires.index posts c.requires.pairs _ words r.completions c.in_ok-table.table.first c.in_ok-table.ensures.first c.in_ok-shown.shown (c.in_ok-shown.ensures ∙ ap (map (shown_at _)) c.as_slice.ensures) in
+    let posts = found.posts in
+    let shown = words_as_shown b i stands c.requires.index posts found.within _ words r.completions c.args.table.first found.first c.in_ok-shown.shown (c.in_ok-shown.ensures ∙ ap (map (shown_at _)) c.as_slice.ensures) in
     let hits = c.in_ok-shown_first.ensures.told b (c.shown_facets.ensures.bytes ∙ is) stands
     ∙ ap (map (hit_shown (corpus_in (stock_of b)))) (c.as_slice-3.ensures ∙ c.in_ok-first.ensures.ok ∙ ap (λ hs. take r.hits (drop r.offset (members_in by_rank hs))) c.as_slice-2.ensures) in
-    reply_told b i stands c.requires.index r c.args.hits posts found c.requires.pairs c.in_ok-shown.shown c.in_ok-facets.facets c.in_ok-shown_first.shown_first c.in_ok-table.table.total c.len.result c.in_ok-all.all
-    shown (c.in_ok-facets.ensures.told b is stands) hits c.in_ok-table.ensures.total c.len.ensures _ docs c.in_ok-all.ensures
+    reply_told b i stands c.requires.index r c.args.hits posts found.found found.within c.in_ok-shown.shown c.in_ok-facets.facets c.in_ok-shown_first.shown_first c.args.table.total c.len.result c.in_ok-all.all
+    shown (c.in_ok-facets.ensures.told b is stands) hits found.total c.len.ensures _ docs c.in_ok-all.ensures

@@ -1,12 +1,10 @@
 use Rattle.std.proofs.Common.{◌≡◌, ◌∙◌, sym, subst, arith, length}
 use Rattle.std.specs.Prelude.{IfSome}
 use Rattle.cs_base.specs.declared.index.plan.Plan.TheVariants.{Same, Narrow, Extend, Fresh}
-use Rattle.cs_file.specs.Indexes.{IsIndex}
 use Rattle.cs_query.specs.RequestView.{asked}
 use Rattle.cs_engine.specs.Asking.{division, titles_of}
 use Rattle.cs_engine.specs.Keeping.{FitsQuery, IsEntryOver}
-use Rattle.cs_engine.proofs.KeptLemmas.{from_stock}
-use Rattle.cs_engine.proofs.LentLemmas.{due_reads, err_due, extend_lent, narrow_lent, narrow_typed, no_reads, same_lent}
+use Rattle.cs_engine.proofs.LentLemmas.{due_reads, err_due, fresh_reads, extend_lent, narrow_lent, narrow_typed, no_reads, same_lent}
 use Rattle.cs_engine.proofs.PlansLemmas.{is_used}
 use Rattle.cs_engine.proofs.replying.answered.Goals as goal
 
@@ -104,22 +102,10 @@ returns-in_ok-answered-in-Extend-clause-reads g c =
     due_reads (division c.args.index.now) (asked c.args.request.now) c.args.plan Extend (length c.in_ok-answered-in-Extend.answered.0.hits) _ (g.S.Store.reads c.one_part_more.new.store) _ c.in-Extend.is (c.one_part_more.ensures.reads) (c.in_ok-answered-in-Extend.ensures.reads)
 
 -- ---- all parts
-pub returns-in_err-entry-in-Fresh-clause-reads : goal.returns-in_err-entry-in-Fresh-clause-reads
-returns-in_err-entry-in-Fresh-clause-reads g c =
-    due_reads (division c.args.index.now) (asked c.args.request.now) c.args.plan Fresh (titles_of (asked c.args.request.now) c.from_residual-in_err-entry-in-Fresh.result) _ (g.S.Store.reads c.entry_of.new.store) _ c.in-Fresh.is (c.entry_of.ensures.reads) (no_reads _ _)
-
 pub returns-in_err-answered-in-Fresh-clause-reads : goal.returns-in_err-answered-in-Fresh-clause-reads
 returns-in_err-answered-in-Fresh-clause-reads g c =
-    due_reads (division c.args.index.now) (asked c.args.request.now) c.args.plan Fresh (titles_of (asked c.args.request.now) c.from_residual-in_err-answered-in-Fresh.result) _ (g.S.Store.reads c.entry_of.new.store) _ c.in-Fresh.is (c.entry_of.ensures.reads) (let r = c.in_err-answered-in-Fresh.ensures.reads in let w = r.within in let e = err_due (asked c.args.request.now) c.from_residual-in_err-answered-in-Fresh.result c.from_residual-in_err-answered-in-Fresh.ensures.0 in record { later = r.later; within = omega (arith, w, e) })
-
-pub returns-in_ok-answered-in-Fresh-clause-told : goal.returns-in_ok-answered-in-Fresh-clause-told
-returns-in_ok-answered-in-Fresh-clause-told g c b is stands good =
-    c.in_ok-answered-in-Fresh.ensures.told b (c.entry_of.ensures.bytes ∙ is) stands (from_stock b c.args.index.now stands (subst IsIndex c.index.view_is c.index.invariant) c.args.request.now.query c.in_ok-entry-in-Fresh.entry (c.in_ok-entry-in-Fresh.ensures.told b is stands))
-
-pub returns-in_ok-answered-in-Fresh-clause-own : goal.returns-in_ok-answered-in-Fresh-clause-own
-returns-in_ok-answered-in-Fresh-clause-own g c b is stands good =
-    subst (λ o. IfSome o (IsEntryOver b c.args.index.now c.args.request.now.query)) (sym c.in_ok-answered-in-Fresh.ensures.same) (from_stock b c.args.index.now stands (subst IsIndex c.index.view_is c.index.invariant) c.args.request.now.query c.in_ok-entry-in-Fresh.entry (c.in_ok-entry-in-Fresh.ensures.told b is stands))
+    fresh_reads (division c.args.index.now) (asked c.args.request.now) c.args.plan (titles_of (asked c.args.request.now) c.from_residual-in_err-answered-in-Fresh.result) _ _ c.in-Fresh.is (let r = c.in_err-answered-in-Fresh.ensures.reads in let w = r.within in let e = err_due (asked c.args.request.now) c.from_residual-in_err-answered-in-Fresh.result c.from_residual-in_err-answered-in-Fresh.ensures.0 in record { later = r.later; within = omega (arith, w, e) })
 
 pub returns-in_ok-answered-in-Fresh-clause-reads : goal.returns-in_ok-answered-in-Fresh-clause-reads
 returns-in_ok-answered-in-Fresh-clause-reads g c =
-    due_reads (division c.args.index.now) (asked c.args.request.now) c.args.plan Fresh (length c.in_ok-answered-in-Fresh.answered.0.hits) _ (g.S.Store.reads c.entry_of.new.store) _ c.in-Fresh.is (c.entry_of.ensures.reads) (c.in_ok-answered-in-Fresh.ensures.reads)
+    fresh_reads (division c.args.index.now) (asked c.args.request.now) c.args.plan (length c.in_ok-answered-in-Fresh.answered.0.hits) _ _ c.in-Fresh.is c.in_ok-answered-in-Fresh.ensures.reads

@@ -4,6 +4,7 @@ use Rattle.cs_model.specs.Requests.{reply_of}
 use Rattle.cs_query.specs.RequestView.{asked}
 use Rattle.cs_engine.specs.Keeping.{entry_with}
 use Rattle.cs_engine.specs.Steps.{end_positive}
+use Rattle.cs_engine.proofs.AnsweringLemmas.{first_in}
 use Rattle.cs_engine.proofs.PlansLemmas.{found_by_entry, hits_are_in}
 use Rattle.cs_engine.proofs.StockLemmas.{stock_corpus}
 use Rattle.cs_engine.proofs.replying.by_entry.Goals as goal
@@ -18,5 +19,8 @@ returns-clause-told g c b is stands own =
     let i = c.args.index.now in
     let e = entry_with c.args.base.now c.args.rows.now.posts in
     c.in_ok-reply.ensures.told b is stands
-    (found_by_entry i c.args.request.now.query e c.end_positive-positive.result (c.end_positive-positive.ensures ∙ ap end_positive c.as_slice.ensures) c.in_ok-hits.hits c.in_ok-hits.ensures b stands c.requires.index own)
+    (record { posts = e.rows; within = c.requires.entry.rows; first = c.in_ok-table.ensures.first; total = c.in_ok-table.ensures.total; found = found_by_entry i c.args.request.now.query e c.end_positive-positive.result (c.end_positive-positive.ensures ∙ ap end_positive c.as_slice.ensures) c.in_ok-hits.hits c.in_ok-hits.ensures b stands c.requires.index own })
     ∙ ap (λ (k : Corpus). reply_of k (asked c.args.request.now)) (stock_corpus b i stands c.requires.index)
+
+pub reply_of-requires-clause-table : goal.reply_of-requires-clause-table
+reply_of-requires-clause-table g c = first_in c.args.index.now c.requires.index c.args.rows.now.posts c.requires.entry.rows c.args.request.now.completions c.in_ok-table.table.first c.in_ok-table.ensures.first

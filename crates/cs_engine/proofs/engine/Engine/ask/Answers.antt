@@ -34,7 +34,7 @@ returns-clause-after g c b is stands good =
     ap (kept_at i.words) c.put-kept.ensures.entries
     ∙ after_is b i q c.requires.limits.query a c.in_ok-keys.keys c.in_ok-keys.ensures.ok c.look-plan.result c.look-plan.ensures o own
     ∙ ap (λ w. after (kept_at i.words a.entries) a.capacity q w (file_corpus b)) (sym became) in (
-      became ∙ kept_is b i q c.look-plan.result o c.in_ok-reply.ensures.had own,
+      became ∙ kept_is b i q c.look-plan.result o c.in_ok-reply.ensures.had (c.in_ok-reply.ensures.large b is stands_inside good_inside) own,
       subst (λ (e : Engine). kept_at i.words new.entries ≡ after (kept_at e.index.words e.answers.entries) e.answers.capacity q c.put-kept.result (file_corpus b)) c.self.view_is list,
     )
 

@@ -1,0 +1,274 @@
+-- The table of documents: row by row, and the hits that are read off it.
+--
+--   raised_more, raised_all      rows are noted one after the other
+--   hits_more, hits_all          the hits of the table
+--   hits_are, seen_scores        are the documents of the rows with their scores
+--   alike_scores                 which depend on the rows' members alone
+--   written_back                 a table that was lent
+use Rattle.std.proofs.Common.{◌≡◌, ℕ, zero, suc, ◌+◌, ◌-◌, ◌≤◌, ◌<◌, ◌==◌, ◌&&◌, ◌||◌, Bool, true, false, List, [], ◌∷◌, ◌++◌, map, take, drop, length, get_or, cond, refl, sym, ◌∙◌, ap, subst, arith, append-nil, length-set}
+use Rattle.std.specs.Prelude.{max, nat_lt, nat_le, All, filter, slice_index, slice_set}
+use Rattle.std.specs.List.{list_any, range_with_len, AllByRecursion}
+use Rattle.std.specs.List.Sorted.{IsStrictlySortedBy}
+use Rattle.std.specs.Ordering.{nat_cmp, eq_by_cmp}
+use Rattle.std.specs.declared.cmp.Ordering.TheVariants.{Less}
+use Rattle.std.specs.Cmp.{nat_cmp_total}
+use Rattle.std.specs.FinMap.{nat_cmp-IsAntisymmetric}
+use Rattle.std.proofs.lemmas.Bool.Decides.{nat_tests}
+use Rattle.std.proofs.lemmas.List.{get_or-set_same, get_or-set_other, take_more, take_all, append_assoc, drop_all, map-append}
+use Rattle.std.proofs.lemmas.List.Elements.{filter-append, recursion_from_All}
+use Rattle.std.proofs.lemmas.List.Kept.{IsStrictlySortedBy-filter}
+use Rattle.cs_base.specs.content.Orders.{docs_of}
+use Rattle.cs_base.specs.declared.content.doc.Base.TheVariants as base
+use Rattle.cs_base.specs.declared.content.doc.Post.{Post}
+use Rattle.cs_base.specs.declared.content.doc.Scored.{Scored}
+use Rattle.cs_base.proofs.MembersLemmas.{members_are, members-alike}
+use Rattle.cs_base.proofs.OrdersLemmas.{Less-from_lt}
+use Rattle.cs_rank.specs.DocScores.{greatest, of_doc, best_row, scores, with_base}
+use Rattle.cs_meet.proofs.Passes.{next_is}
+use Rattle.cs_engine.specs.Loose.{best_of, HasBest, hits_in}
+use Rattle.cs_engine.proofs.AlikeLemmas.{any_filter}
+
+any_map : {X Y : Type 0} (t : Y → Bool) (f : X → Y) (xs : List X) → list_any t (map f xs) ≡ list_any (λ x. t (f x)) xs
+any_map t f [] = refl
+any_map t f (x ∷ xs) = ap (λ b. t (f x) || b) (any_map t f xs)
+
+max_last : (x y g : ℕ) → max x (max g y) ≡ max (max x g) y
+max_last x y g = omega arith
+
+greatest_push : (xs : List ℕ) (y : ℕ) → greatest (xs ++ y ∷ []) ≡ max (greatest xs) y
+greatest_push [] y = omega arith
+greatest_push (x ∷ xs) y = ap (max x) (greatest_push xs y) ∙ max_last x y (greatest xs)
+
+-- what one post gives document d
+abbrev given : ℕ → Post → ℕ
+given d p = cond (p.doc == d) (p.score + 1) 0
+
+best_push : (seen : List Post) (p : Post) (d : ℕ) → best_of (seen ++ p ∷ []) d ≡ max (best_of seen d) (given d p)
+best_push seen p d =
+    ap (λ l. greatest (map (λ (p : Post). p.score + 1) l)) (filter-append (λ (p : Post). p.doc == d) seen (p ∷ []))
+    ∙ elim (p.doc == d) as (λ b. greatest (map (λ (p : Post). p.score + 1) (of_doc d seen ++ cond b (p ∷ []) [])) ≡ max (best_of seen d) (cond b (p.score + 1) 0)) [
+      | true ↦ ap greatest (map-append (λ (p : Post). p.score + 1) (of_doc d seen) (p ∷ [])) ∙ greatest_push (map (λ (p : Post). p.score + 1) (of_doc d seen)) (p.score + 1)
+      | false ↦ ap (λ l. greatest (map (λ (p : Post). p.score + 1) l)) (append-nil (of_doc d seen)) ∙ omega arith
+    ]
+
+same_number : (x y : ℕ) → (x == y) ≡ true → x ≡ y
+same_number x y h = grind (arith, nat_tests)
+
+other_number : (x y : ℕ) → (x == y) ≡ false → x ≡ y → ⊥
+other_number x y h e = grind (arith, nat_tests)
+
+-- one post is noted
+pub raised : (seen : List Post) (best : List ℕ) (p : Post) (v : ℕ) → p.doc < length best → v ≡ max (slice_index best p.doc) (p.score + 1) → HasBest seen best → HasBest (seen ++ p ∷ []) (slice_set best p.doc v)
+raised seen best p v l is has d m =
+    let long = length-set best p.doc v in
+    elim (p.doc == d) as (λ b. (p.doc == d) ≡ b → slice_index (slice_set best p.doc v) d ≡ best_of (seen ++ p ∷ []) d) [
+      | true ↦ λ e.
+          let same : p.doc ≡ d = same_number p.doc d e in
+          ap (slice_index (slice_set best p.doc v)) (sym same) ∙ get_or-set_same best p.doc v 0 l ∙ is ∙ ap (λ x. max x (p.score + 1)) (has p.doc l ∙ ap (best_of seen) same)
+          ∙ sym (best_push seen p d ∙ ap (λ b. max (best_of seen d) (cond b (p.score + 1) 0)) e)
+      | false ↦ λ e.
+          let zero_max : max (best_of seen d) 0 ≡ best_of seen d = omega arith in
+          get_or-set_other best p.doc d v 0 (λ e'. other_number p.doc d e (sym e')) ∙ has d (omega (arith, m, long))
+          ∙ sym (best_push seen p d ∙ ap (λ b. max (best_of seen d) (cond b (p.score + 1) 0)) e ∙ zero_max)
+    ] refl
+
+-- the step of the loop
+pub raised_more : (all seen rows : List Post) (best : List ℕ) (i : ℕ) (p : Post) (v : ℕ) → i < length rows → p ≡ get_or rows i p → p.doc < length best → v ≡ max (slice_index best p.doc) (p.score + 1)
+    → HasBest (seen ++ take i rows) best → HasBest (seen ++ take (i + 1) rows) (slice_set best p.doc v)
+raised_more all seen rows best i p v l at in_best is has =
+    let longer : (seen ++ take i rows) ++ p ∷ [] ≡ seen ++ take (i + 1) rows =
+    append_assoc seen (take i rows) (p ∷ []) ∙ ap (λ r. seen ++ r) (ap (λ x. take i rows ++ x ∷ []) at ∙ sym (take_more rows i p l)) in
+    subst (λ s. HasBest s (slice_set best p.doc v)) longer (raised (seen ++ take i rows) best p v in_best is has)
+
+pub raised_all : (seen rows : List Post) (best : List ℕ) (i : ℕ) → length rows ≤ i → HasBest (seen ++ take i rows) best → HasBest (seen ++ rows) best
+raised_all seen rows best i l has = subst (λ r. HasBest (seen ++ r) best) (take_all i rows l) has
+
+-- ---- the hits of the table
+
+settle : (t : Bool) (done rest : List Scored) (x : Scored) → done ++ cond t (x ∷ rest) rest ≡ (done ++ cond t (x ∷ []) []) ++ rest
+settle true done rest x = sym (append_assoc done (x ∷ []) rest)
+settle false done rest x = ap (λ l. l ++ rest) (sym (append-nil done))
+
+pub hits_more : (whole done now : List Scored) (best : List ℕ) (d b : ℕ) → d < length best → b ≡ get_or best d b → now ≡ done ++ cond (nat_lt 0 b) (record { doc = d; score = b - 1 } ∷ []) []
+    → whole ≡ done ++ hits_in d (drop d best) → whole ≡ now ++ hits_in (d + 1) (drop (d + 1) best)
+unfolding hits_in
+hits_more whole done now best d b l is told left =
+    left ∙ ap (λ r. done ++ hits_in d r) (next_is best d b l is) ∙ settle (nat_lt 0 b) done (hits_in (d + 1) (drop (d + 1) best)) (record { doc = d; score = b - 1 })
+    ∙ ap (λ l. l ++ hits_in (d + 1) (drop (d + 1) best)) (sym told)
+
+pub hits_all : (whole done : List Scored) (best : List ℕ) (d : ℕ) → length best ≤ d → whole ≡ done ++ hits_in d (drop d best) → done ≡ whole
+unfolding hits_in
+hits_all whole done best d l left = sym (left ∙ ap (λ r. done ++ hits_in d r) (drop_all d best l) ∙ append-nil done)
+
+-- ---- hits are read off the table
+is_number : (x y : ℕ) → eq_by_cmp nat_cmp x y ≡ true → x ≡ y
+is_number x y h = grind (arith, nat_tests)
+
+and_true : (b : Bool) → (b && true) ≡ b
+and_true true = refl
+and_true false = refl
+
+and_false : (b : Bool) → (b && false) ≡ false
+and_false true = refl
+and_false false = refl
+
+both_and : (a b c : Bool) → ((a && c) || (b && c)) ≡ ((a || b) && c)
+both_and true true true = refl
+both_and true true false = refl
+both_and true false true = refl
+both_and true false false = refl
+both_and false true c = refl
+both_and false false c = refl
+
+none_in : (a q m : ℕ) → m ≡ a → (nat_le a q && nat_lt q m) ≡ false
+none_in a q m e = grind (arith, nat_tests)
+
+next_in : (q a n : ℕ) → (eq_by_cmp nat_cmp q a || (nat_le (a + 1) q && nat_lt q (a + 1 + n))) ≡ (nat_le a q && nat_lt q (a + suc n))
+next_in q a n = grind (arith, nat_tests)
+
+not_tied : (q d n : ℕ) → d < n → n ≤ q → eq_by_cmp nat_cmp q d ≡ false
+not_tied q d n l m = grind (arith, nat_tests)
+
+not_less : (q n : ℕ) → nat_lt q n ≡ false → n ≤ q
+not_less q n h = grind (arith, nat_tests)
+
+inside_test : (q n : ℕ) → nat_lt q n ≡ true → (nat_le 0 q && nat_lt q (0 + n)) ≡ true
+inside_test q n h = grind (arith, nat_tests)
+
+outside_test : (q n : ℕ) → nat_lt q n ≡ false → (nat_le 0 q && nat_lt q (0 + n)) ≡ false
+outside_test q n h = grind (arith, nat_tests)
+
+tie : (q d s : ℕ) → ((d == q) && nat_lt 0 (s + 1)) ≡ eq_by_cmp nat_cmp q d
+tie q d s = grind (arith, nat_tests)
+
+all_later : (x a n : ℕ) → x < a → AllByRecursion (λ y. nat_cmp x y ≡ Less) (range_with_len a n)
+all_later x a zero l = tt
+all_later x a (suc n) l = (Less-from_lt x a l, all_later x (a + 1) n (omega (arith, l)))
+
+settle_more : (b : Bool) (f : ℕ → Scored) (a : ℕ) (l : List ℕ) → cond b (f a ∷ map f l) (map f l) ≡ map f (cond b (a ∷ l) l)
+settle_more true f a l = refl
+settle_more false f a l = refl
+
+over_max : (k n g : ℕ) → nat_lt k (max n g) ≡ (nat_lt k n || nat_lt k g)
+over_max k n g = grind (arith, nat_tests)
+
+over_none : (k : ℕ) → nat_lt k 0 ≡ false
+over_none k = grind (arith, nat_tests)
+
+-- the greatest is above k where one is
+greatest_over : (k : ℕ) (ns : List ℕ) → nat_lt k (greatest ns) ≡ list_any (nat_lt k) ns
+greatest_over k [] = over_none k
+greatest_over k (n ∷ ns) = over_max k n (greatest ns) ∙ ap (λ b. nat_lt k n || b) (greatest_over k ns)
+
+above : (a : ℕ) → nat_lt a a ≡ false
+above a = grind (arith, nat_tests)
+
+not_either : (a b : ℕ) → nat_lt a b ≡ false → nat_lt b a ≡ false → a ≡ b
+not_either a b h k = grind (arith, nat_tests)
+
+same_tests : (a b : ℕ) → ((k : ℕ) → nat_lt k a ≡ nat_lt k b) → a ≡ b
+same_tests a b h = not_either a b (sym (h a) ∙ above a) (h b ∙ above b)
+
+best_over : (rows : List Post) (d k : ℕ) → nat_lt k (best_of rows d) ≡ list_any (λ p. (p.doc == d) && nat_lt k (p.score + 1)) rows
+best_over rows d k =
+    greatest_over k (map (λ (p : Post). p.score + 1) (of_doc d rows)) ∙ any_map (nat_lt k) (λ (p : Post). p.score + 1) (of_doc d rows)
+    ∙ any_filter (λ (p : Post). nat_lt k (p.score + 1)) (λ (p : Post). p.doc == d) rows
+
+less_one : (x g h : ℕ) → h - 1 ≡ g → (h ≡ 0 → g ≡ 0) → max (x + 1) h - 1 ≡ max x g
+less_one x g h e z = omega (arith, e)
+
+scores_less : (l : List Post) → greatest (map (λ p. p.score + 1) l) - 1 ≡ greatest (map (λ p. p.score) l)
+scores_less [] = omega arith
+scores_less (p ∷ l) = less_one p.score _ _ (scores_less l) (λ z. let e = scores_less l in omega (arith, e, z))
+
+read_off : (seen : List Post) (a : ℕ) (bs : List ℕ) → ((i : ℕ) → i < length bs → slice_index bs i ≡ best_of seen (a + i))
+    → hits_in a bs ≡ map (best_row seen) (filter (λ d. nat_lt 0 (best_of seen d)) (range_with_len a (length bs)))
+unfolding hits_in
+read_off seen a [] h = refl
+read_off seen a (b ∷ bs) h =
+    let at : b ≡ best_of seen a = let e : a + 0 ≡ a = omega arith in h 0 (omega arith) ∙ ap (best_of seen) e in
+    let rest = read_off seen (a + 1) bs (λ i l. let e : a + suc i ≡ a + 1 + i = omega arith in h (suc i) (omega (arith, l)) ∙ ap (best_of seen) e) in
+    let row : b - 1 ≡ greatest (map (λ p. p.score) (of_doc a seen)) = ap (λ n. n - 1) at ∙ scores_less (of_doc a seen) in
+    ap (λ n. cond (nat_lt 0 b) (let s : Scored = record { doc = a; score = n } in s ∷ hits_in (a + 1) bs) (hits_in (a + 1) bs)) row
+    ∙ ap (λ n. cond (nat_lt 0 n) (best_row seen a ∷ hits_in (a + 1) bs) (hits_in (a + 1) bs)) at
+    ∙ ap (λ l. cond (nat_lt 0 (best_of seen a)) (best_row seen a ∷ l) l) rest
+    ∙ settle_more (nat_lt 0 (best_of seen a)) (best_row seen) a (filter (λ d. nat_lt 0 (best_of seen d)) (range_with_len (a + 1) (length bs)))
+
+-- the documents with a post are those that have an entry
+eq_sides : (q d : ℕ) (p : ℕ → Bool) → (p d && eq_by_cmp nat_cmp q d) ≡ (eq_by_cmp nat_cmp q d && p q)
+eq_sides q d p =
+    elim (eq_by_cmp nat_cmp q d) as (λ b. eq_by_cmp nat_cmp q d ≡ b → (p d && b) ≡ (b && p q)) [
+      | true ↦ λ e. and_true (p d) ∙ ap p (sym (is_number q d e))
+      | false ↦ λ e. and_false (p d)
+    ] refl
+
+any_range : (q : ℕ) (p : ℕ → Bool) (a n : ℕ) → list_any (λ d. p d && eq_by_cmp nat_cmp q d) (range_with_len a n) ≡ ((nat_le a q && nat_lt q (a + n)) && p q)
+any_range q p a zero = let e : a + 0 ≡ a = omega arith in sym (ap (λ b. b && p q) (none_in a q (a + 0) e))
+any_range q p a (suc n) =
+    ap (λ b. b || list_any (λ d. p d && eq_by_cmp nat_cmp q d) (range_with_len (a + 1) n)) (eq_sides q a p)
+    ∙ ap (λ b. (eq_by_cmp nat_cmp q a && p q) || b) (any_range q p (a + 1) n)
+    ∙ both_and (eq_by_cmp nat_cmp q a) (nat_le (a + 1) q && nat_lt q (a + 1 + n)) (p q)
+    ∙ ap (λ b. b && p q) (next_in q a n)
+
+range_rises : (a n : ℕ) → IsStrictlySortedBy nat_cmp (range_with_len a n)
+unfolding IsStrictlySortedBy
+range_rises a zero = tt
+range_rises a (suc n) = (all_later a (a + 1) n (omega arith), range_rises (a + 1) n)
+
+absent : (seen : List Post) (n q : ℕ) → AllByRecursion (λ p. p.doc < n) seen → n ≤ q → list_any (λ p. eq_by_cmp nat_cmp q p.doc) seen ≡ false
+absent [] n q h l = refl
+absent (p ∷ seen) n q h l = ap (λ b. b || list_any (λ (p : Post). eq_by_cmp nat_cmp q p.doc) seen) (not_tied q p.doc n h.0 l) ∙ absent seen n q h.1 l
+
+any_same : (s t : Post → Bool) → ((p : Post) → s p ≡ t p) → (xs : List Post) → list_any s xs ≡ list_any t xs
+any_same s t h [] = refl
+any_same s t h (x ∷ xs) = ap (λ b. b || list_any s xs) (h x) ∙ ap (λ b. t x || b) (any_same s t h xs)
+
+has_entry : (seen : List Post) (q : ℕ) → nat_lt 0 (best_of seen q) ≡ list_any (λ p. eq_by_cmp nat_cmp q p.doc) seen
+has_entry seen q = best_over seen q 0 ∙ any_same _ _ (λ p. tie q p.doc p.score) seen
+
+pub docs_are : (seen : List Post) (n : ℕ) → All (λ p. p.doc < n) seen → filter (λ d. nat_lt 0 (best_of seen d)) (range_with_len 0 n) ≡ docs_of seen
+docs_are seen n inside =
+    members_are nat_cmp nat_cmp_total nat_cmp-IsAntisymmetric (filter (λ d. nat_lt 0 (best_of seen d)) (range_with_len 0 n)) (map (λ p. p.doc) seen)
+    (IsStrictlySortedBy-filter nat_cmp _ (range_with_len 0 n) (range_rises 0 n))
+    (λ q. any_filter (eq_by_cmp nat_cmp q) (λ d. nat_lt 0 (best_of seen d)) (range_with_len 0 n) ∙ any_range q (λ d. nat_lt 0 (best_of seen d)) 0 n
+    ∙ ap (λ b. (nat_le 0 q && nat_lt q (0 + n)) && b) (has_entry seen q)
+    ∙ elim (nat_lt q n) as (λ b. nat_lt q n ≡ b → ((nat_le 0 q && nat_lt q (0 + n)) && list_any (λ (p : Post). eq_by_cmp nat_cmp q p.doc) seen) ≡ list_any (λ (p : Post). eq_by_cmp nat_cmp q p.doc) seen) [
+      | true ↦ λ e. ap (λ b. b && list_any (λ (p : Post). eq_by_cmp nat_cmp q p.doc) seen) (inside_test q n e)
+      | false ↦ λ e. let none = absent seen n q (recursion_from_All (λ (p : Post). p.doc < n) seen inside) (not_less q n e) in
+          ap (λ b. b && list_any (λ (p : Post). eq_by_cmp nat_cmp q p.doc) seen) (outside_test q n e) ∙ sym none
+    ] refl
+    ∙ sym (any_map (eq_by_cmp nat_cmp q) (λ (p : Post). p.doc) seen))
+
+-- the hits that are read off the table are the documents of the posts with their scores
+pub hits_are : (seen : List Post) (best : List ℕ) → HasBest seen best → All (λ p. p.doc < length best) seen → hits_in 0 best ≡ map (best_row seen) (docs_of seen)
+hits_are seen best has inside =
+    read_off seen 0 best (λ i l. let e : i ≡ 0 + i = omega arith in has i l ∙ ap (best_of seen) e) ∙ ap (map (best_row seen)) (docs_are seen (length best) inside)
+
+map_same : {X : Type 0} (f g : ℕ → X) → ((w : ℕ) → f w ≡ g w) → (ws : List ℕ) → map f ws ≡ map g ws
+map_same f g h [] = refl
+map_same f g h (w ∷ ws) = ap (λ x. x ∷ map f ws) (h w) ∙ ap (λ l. g w ∷ l) (map_same f g h ws)
+
+plain_row : (d n : ℕ) → ◌≡◌ {A = Scored} (record { doc = d; score = n }) (record { doc = d; score = 0 + n })
+plain_row d n = let e : n ≡ 0 + n = omega arith in ap (λ m. let h : Scored = record { doc = d; score = m } in h) e
+
+pub seen_scores : (rows : List Post) (best : List ℕ) (hits : List Scored) → HasBest rows best → All (λ p. p.doc < length best) rows → hits ≡ hits_in 0 best → hits ≡ scores base.All rows
+seen_scores rows best hits has inside are =
+    are ∙ hits_are rows best has inside ∙ map_same (best_row rows) (λ d. with_base base.All (best_row rows d)) (λ d. plain_row d (greatest (map (λ p. p.score) (of_doc d rows)))) (docs_of rows)
+
+-- ---- rows with the same members
+score_over : (rows : List Post) (d k : ℕ) → nat_lt k (greatest (map (λ p. p.score) (of_doc d rows))) ≡ list_any (λ p. (p.doc == d) && nat_lt k p.score) rows
+score_over rows d k =
+    greatest_over k (map (λ (p : Post). p.score) (of_doc d rows)) ∙ any_map (nat_lt k) (λ (p : Post). p.score) (of_doc d rows)
+    ∙ any_filter (λ (p : Post). nat_lt k p.score) (λ (p : Post). p.doc == d) rows
+
+pub alike_scores : (xs ys : List Post) → ((t : Post → Bool) → list_any t xs ≡ list_any t ys) → scores base.All xs ≡ scores base.All ys
+alike_scores xs ys a =
+    map_same (λ d. with_base base.All (best_row xs d)) (λ d. with_base base.All (best_row ys d))
+    (λ d. ap (λ n. let h : Scored = record { doc = d; score = 0 + n } in h) (same_tests _ _ (λ k. score_over xs d k ∙ a _ ∙ sym (score_over ys d k)))) (docs_of xs)
+    ∙ ap (map (λ d. with_base base.All (best_row ys d)))
+    (members-alike nat_cmp nat_cmp_total nat_cmp-IsAntisymmetric (map (λ p. p.doc) xs) (map (λ p. p.doc) ys) (λ q. any_map (eq_by_cmp nat_cmp q) (λ p. p.doc) xs ∙ a _ ∙ sym (any_map (eq_by_cmp nat_cmp q) (λ p. p.doc) ys)))
+
+-- a vector that a slice was lent of
+pub written_back : (n : ℕ) (a b : List ℕ) → length a ≡ length b → n ≡ length b → take n (a ++ drop (length a) b) ≡ a
+written_back n a b l m =
+    ap (λ r. take n (a ++ r)) (drop_all (length a) b (omega (arith, l))) ∙ ap (take n) (append-nil a) ∙ take_all n a (omega (arith, l, m))

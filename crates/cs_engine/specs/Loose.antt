@@ -1,0 +1,77 @@
+-- Rows in any order: what depends on their members alone.
+--
+-- Source: this engine's own.
+--
+--   best_of rows d           one more than the greatest score of the rows of document d
+--   HasBest seen best        a table by document of the rows that were seen
+--   hits_in d best           the documents of a table, from d on, that have a row, with their scores
+--   AreAlike s lo hi listed rows     rows in any order are those of a stock with these words in listed documents
+--   AreGathered i told lo hi listed keys     numbers of such rows
+--   AreQueryWords i q lo hi          a query of one part asks for these words
+--   IsTableFor i b q cut hits t      over the bytes of an index a table is that of a query of these hits, cut
+use Rattle.std.specs.Prelude.{◌≡◌, ℕ, ◌+◌, ◌-◌, ◌≤◌, ◌<◌, Bool, true, nat_lt, List, [], ◌∷◌, length, map, filter, take, slice_index, Option, if◌then◌else◌}
+use Rattle.std.specs.List.{All, Contains, list_any}
+use Rattle.cs_base.specs.declared.content.doc.Base.{Base}
+use Rattle.cs_base.specs.declared.content.doc.Base.TheVariants as base
+use Rattle.cs_base.specs.declared.content.doc.Post.{Post}
+use Rattle.cs_base.specs.declared.content.doc.Scored.{Scored}
+use Rattle.cs_base.specs.declared.content.query.Query.{Query, out-Query}
+use Rattle.cs_file.specs.Indexes.{IndexView, StandsFor, is_met}
+use Rattle.cs_model_kept.specs.Due.{met_of_query}
+use Rattle.cs_model_kept.specs.Entries.{EntryOf, entry_at, entry_of}
+use Rattle.cs_rank.specs.DocScores.{greatest, of_doc}
+use Rattle.cs_tables.specs.Listings.{table}
+use Rattle.cs_tables.specs.declared.tables.Table.{Table}
+use Rattle.cs_tables.specs.WordCounts.{AreCountable, is_chosen}
+use Rattle.cs_engine.specs.Asking.{division}
+use Rattle.cs_engine.specs.Counting.{in_listed}
+use Rattle.cs_engine.specs.Packing.{IsPacked, key_of}
+use Rattle.cs_engine.specs.Reading.{AreWithin, IsWithin, WhereStood, stock_of}
+use Rattle.cs_engine.specs.Steps.{AreFound, last_is_positive}
+use Rattle.cs_engine.specs.Stocked.{Stock, corpus_in, is_between}
+
+-- 0 where the document has no row
+abbrev pub best_of : List Post → ℕ → ℕ
+best_of rows d = greatest (map (λ p. p.score + 1) (of_doc d rows))
+
+-- of no rows each entry is 0
+abbrev pub HasBest : List Post → List ℕ → Type 0
+HasBest seen best = (d : ℕ) → d < length best → slice_index best d ≡ best_of seen d
+
+-- none of an empty table
+unfoldable pub hits_in : ℕ → List ℕ → List Scored
+hits_in d [] = []
+hits_in d (b ∷ bs) = if nat_lt 0 b then record { doc = d; score = b - 1 } ∷ hits_in (d + 1) bs else hits_in (d + 1) bs
+
+-- the same tests pass on both, there are as many, and the rows of each word are in order
+pub record AreAlike (s : Stock) (lo hi : ℕ) (listed : List Bool) (rows : List Post) : Type 0 where
+  pub among : All (Contains s.posts) rows
+  pub alike : (t : Post → Bool) → list_any t rows ≡ list_any t (filter (in_listed listed) (filter (is_between lo hi) s.posts))
+  pub long : length rows ≡ length (filter (in_listed listed) (filter (is_between lo hi) s.posts))
+  pub countable : AreCountable rows
+
+-- each row passes, and is in the range of the index
+pub record AreGathered (i : IndexView) (told : Option (List ℕ)) (lo hi : ℕ) (listed : List Bool) (keys : List ℕ) : Type 0 where
+  pub rows : List Post
+  pub are : keys ≡ map key_of rows
+  pub packed : All IsPacked rows
+  pub within : All (IsWithin i.docs (length i.words)) rows
+  pub passed : All (λ p. is_chosen lo hi listed p ≡ true) rows
+  pub stood : WhereStood told i (λ b. AreAlike (stock_of b) lo hi listed rows)
+
+-- its entry lists all documents, and its rows are those of these words
+pub record AreQueryWords (i : IndexView) (q : Query) (lo hi : ℕ) : Type 0 where
+  pub one : length (out-Query q).parts ≡ 1
+  pub positive : last_is_positive q ≡ true
+  pub ordered : lo ≤ hi
+  pub within : hi ≤ length i.words
+  pub few : length (filter (is_met lo hi) i.heads) ≤ met_of_query (division i) q
+  pub entry : (b : List ℕ) → StandsFor b i → ◌≡◌ {A = EntryOf _} (entry_at (stock_of b).words (record { base = base.All; rows = filter (is_between lo hi) (stock_of b).posts })) (entry_of (corpus_in (stock_of b)) q)
+
+-- of posts that stand for the pairs, in order
+pub record IsTableFor (i : IndexView) (b : List ℕ) (q : Query) (cut : ℕ) (hits : Base) (t : Table) : Type 0 where
+  pub posts : List Post
+  pub found : AreFound (stock_of b) q hits posts
+  pub within : AreWithin i posts
+  pub first : t.first ≡ take cut (table posts)
+  pub total : t.total ≡ length (table posts)
