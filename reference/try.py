@@ -6,8 +6,7 @@
 
 PROGRAM is crates/complete/out/complete. Bytes on standard output, words on standard error, the status and the files left
 behind are compared; of `serve`, what comes back on each connection. A case that differs is made smaller as long as it
-differs, and printed with its number; the exit status is then 1. What a program says isn't built yet is skipped, and that
-is said: a whole kind, or what a script has from its first join on.
+differs, and printed with its number; the exit status is then 1.
 
 Random texts keep to characters that Unicode 3.2 has, and to some later ones by name. Each table since then has them, and
 folding and decomposition of a character that has a meaning are never changed. So a number is the same case whatever Python
@@ -28,7 +27,6 @@ import unicodedata
 
 import complete
 
-NOT_BUILT = b"not built\n"
 SECONDS = 600
 NO_END = "no end"
 TRIES_TO_SHRINK = 1000
@@ -481,16 +479,6 @@ def outcome_of_program(program, case):
         return ran.returncode, ran.stdout, ran.stderr, files_in(folder)
 
 
-def first_join(script):
-    """How many lines of a script are answered before the first that asks a join."""
-    with contextlib.suppress(complete.Ended):
-        for number, line in enumerate(complete.script_lines(script)):
-            with contextlib.suppress(complete.Refused):
-                if any(isinstance(atom, complete.Join) for atom in complete.atoms_of(complete.request_of(line).query)):
-                    return number
-    return None
-
-
 def outcome_of_reference(case):
     put, said = [], io.BytesIO()
     here = os.getcwd()
@@ -504,17 +492,10 @@ def outcome_of_reference(case):
         return status, put, said.getvalue(), files_in(folder)
 
 
-def is_same(program, case, unbuilt):
-    """What both give, and whether it is the same as far as the program is built."""
-    got, (status, put, said, left) = outcome_of_program(program, case), outcome_of_reference(case)
-    want = (status, b"".join(put), said, left)
-    if got[0] == 1 and got[2] == NOT_BUILT and case["words"]:
-        if case["words"][0] in unbuilt and status != 2:
-            return got, (1, b"", NOT_BUILT, case["files"])
-        joined = first_join(case["files"]["Q"]) if case["words"][0] == "ask" and status in (0, 8) else None
-        if joined is not None:
-            return got, (1, b"".join(put[:joined]), NOT_BUILT, left)
-    return got, want
+def both(program, case):
+    """What the program gives, and what the reference does."""
+    status, put, said, left = outcome_of_reference(case)
+    return outcome_of_program(program, case), (status, b"".join(put), said, left)
 
 
 # ---- Connections ----
@@ -615,7 +596,7 @@ def served(program, case):
                 running.kill()
 
 
-def is_same_served(program, case, _unbuilt):
+def both_served(program, case):
     try:
         corpus = complete.corpus_of(case["files"]["C"])
     except complete.Ended:
@@ -684,15 +665,7 @@ def show(kind, number, case, got, want):
 MADE = {"ask": ask_case, "words": words_case, "build": build_case, "replay": replay_case, "damage": damage_case, "serve": serve_case}
 LISTED = {"characters": character_cases, "limits": limit_cases, "trial": trial_cases}
 COUNTS = {"ask": 20_000, "words": 5_000, "characters": 10_000, "limits": 100, "build": 5_000, "damage": 10_000, "replay": 5_000, "serve": 3_000, "trial": 20}
-NEEDS = {"build": "build", "damage": "replay", "replay": "replay", "serve": "serve", "trial": "trial"}
 FEW = {"trial": 2, "characters": 50, "limits": 0, "serve": 50}
-
-
-def unbuilt_commands(program):
-    """The commands that the program says aren't built; no file is there, and `trial` is asked for the smallest."""
-    lines_of_words = [["build", "X", "Y"], ["ask", "X", "Y"], ["replay", "X", "Y"], ["serve", "X", "1", "1"], ["trial", "1"]]
-    outcomes = {words[0]: outcome_of_program(program, {"words": words, "files": {}}) for words in lines_of_words}
-    return {command for command, outcome in outcomes.items() if outcome[0] == 1 and outcome[2] == NOT_BUILT}
 
 
 def cases_of(kind, count, first):
@@ -703,25 +676,20 @@ def cases_of(kind, count, first):
             yield number, MADE[kind](random.Random(f"{kind} {number}"))
 
 
-def try_kind(program, kind, count, first, unbuilt):
+def try_kind(program, kind, count, first):
     """Runs so many cases of a kind; says whether all were the same."""
-    if NEEDS.get(kind) in unbuilt:
-        print(f"{kind}: skipped, the program says that {NEEDS[kind]} is not built")
-        return True
-    compare = is_same_served if kind == "serve" else is_same
-    begun, done, partly = time.monotonic(), 0, 0
+    compare = both_served if kind == "serve" else both
+    begun, done = time.monotonic(), 0
     for number, case in cases_of(kind, count, first):
-        got, want = compare(program, case, unbuilt)
+        got, want = compare(program, case)
         if got != want:
             if got[0] != NO_END:
-                case = smaller(case, lambda other: compare(program, other, unbuilt))
-                got, want = compare(program, case, unbuilt)
+                case = smaller(case, lambda other: compare(program, other))
+                got, want = compare(program, case)
             show(kind, number, case, got, want)
             return False
         done += 1
-        partly += got[2] == NOT_BUILT
-    note = f", {partly} of them up to what is not built" if partly else ""
-    print(f"{kind}: {done} cases without a difference{note}, {time.monotonic() - begun:.0f} s", flush=True)
+    print(f"{kind}: {done} cases without a difference, {time.monotonic() - begun:.0f} s", flush=True)
     return True
 
 
@@ -729,13 +697,12 @@ def main():
     if not 2 <= len(sys.argv) <= 5 or len(sys.argv) > 2 and sys.argv[2] not in COUNTS:
         sys.exit(__doc__ + "\nKinds: " + ", ".join(COUNTS))
     program = os.path.abspath(sys.argv[1])
-    unbuilt = unbuilt_commands(program)
     if len(sys.argv) == 2:
-        same = [try_kind(program, kind, FEW.get(kind, 200), 0, unbuilt) for kind in COUNTS]
+        same = [try_kind(program, kind, FEW.get(kind, 200), 0) for kind in COUNTS]
     else:
         kind, *numbers = sys.argv[2:]
         count, first = [*map(int, numbers), *[COUNTS[kind], 0][len(numbers):]]
-        same = [try_kind(program, kind, count, first, unbuilt)]
+        same = [try_kind(program, kind, count, first)]
     return 0 if all(same) else 1
 
 
