@@ -1,17 +1,18 @@
 //! What no clause says: that the calls succeed where there is memory, and that the definitions give what
 //! `docs/MEANING.md` says of them.
 use crate::{DocFault, RowsFault, read_docs, rows_of};
+use cs_worked::{BAD_FACET, BAD_NAME, GUIDE, MARKED_LINES};
 use std::alloc::Global;
 use std::test::Fail;
 
 // A collection, and its documents as `line|title|facets|text` with LF behind each.
 #[test]
 fn collections_have_these_documents(rt: HostRuntime) -> Result<(), Fail> {
-    let rows = [
+    const ROWS: &[(&str, &str)] = &[
         ("", ""),
         ("\n\r\n\n", ""),
         // the mark, CR before LF, an empty line, an unended last line
-        ("\u{FEFF}a\r\n\nb", "1|a||\n3|b||\n"),
+        (MARKED_LINES, "1|a||\n3|b||\n"),
         // the mark once
         ("\u{FEFF}\u{FEFF}a", "1|\u{FEFF}a||\n"),
         // CR elsewhere belongs to the line
@@ -22,7 +23,7 @@ fn collections_have_these_documents(rt: HostRuntime) -> Result<(), Fail> {
         // empty pieces, and values without a word
         ("t\t ; ;k=--;K = a;;\n", "1|t| ; ;k=--;K = a;;|\n"),
     ];
-    for (text, want) in rows {
+    for (text, want) in ROWS {
         let docs = read_docs(rt.alloc(), text.as_bytes())?;
         let mut shown = String::new(rt.alloc());
         for doc in docs.as_slice() {
@@ -35,7 +36,7 @@ fn collections_have_these_documents(rt: HostRuntime) -> Result<(), Fail> {
             )?;
             shown.push_str(line.as_str())?;
         }
-        assert_eq!(rt; shown.as_str(), want, "of {text}");
+        assert_eq!(rt; shown.as_str(), *want, "of {text}");
     }
     Ok(())
 }
@@ -43,7 +44,7 @@ fn collections_have_these_documents(rt: HostRuntime) -> Result<(), Fail> {
 // A collection, and its rows as `doc word pos score` with LF behind each.
 #[test]
 fn collections_have_these_rows(rt: HostRuntime) -> Result<(), Fail> {
-    let rows = [
+    const ROWS: &[(&str, &str)] = &[
         ("", ""),
         ("Type less\n\nless", "0 type 1 4\n0 less 2 4\n1 less 1 4\n"),
         ("a b\t\tx y", "0 a 1 4\n0 b 2 4\n0 x 11 1\n0 y 12 1\n"),
@@ -56,11 +57,11 @@ fn collections_have_these_rows(rt: HostRuntime) -> Result<(), Fail> {
         // the name by its key text, the value from the first `=`
         ("\tKe\u{212A}=a=b", "0 :kek:a_b 0 2\n"),
         (
-            "M\u{FC}ller's \"\u{DC}ber-Guide\": 2nd ed.\tpublisher=O'Reilly & Co.; lang=de\tThe handbook.",
+            GUIDE,
             "0 :lang:de 0 2\n0 :publisher:o_reilly_co 0 2\n0 mu\u{308}ller 1 4\n0 s 2 4\n0 u\u{308}ber 3 4\n0 guide 4 4\n0 2nd 5 4\n0 ed 6 4\n0 the 15 1\n0 handbook 16 1\n",
         ),
     ];
-    for (text, want) in rows {
+    for (text, want) in ROWS {
         let docs = read_docs(rt.alloc(), text.as_bytes())?;
         let mut shown = Vec::new(rt.alloc());
         for row in rows_of(rt.alloc(), &docs)?.as_slice() {
@@ -78,12 +79,12 @@ fn collections_have_these_rows(rt: HostRuntime) -> Result<(), Fail> {
 // A collection, and its refusal.
 #[test]
 fn collections_are_refused_by_their_first_broken_rule(rt: HostRuntime) {
-    let rows: [(&[u8], DocFault); 12] = [
+    const ROWS: &[(&[u8], DocFault)] = &[
         (b"a\n\xFF", DocFault::NotUtf8 { line: 2 }),
         (b"\xEF\xBB", DocFault::NotUtf8 { line: 1 }),
-        (b"a\tb\tc", DocFault::BadFacet { line: 1 }),
+        (BAD_FACET, DocFault::BadFacet { line: 1 }),
         (b"a\tk=v;b", DocFault::BadFacet { line: 1 }),
-        (b"x\t1a=b", DocFault::BadName { line: 1 }),
+        (BAD_NAME, DocFault::BadName { line: 1 }),
         (b"x\t=b", DocFault::BadName { line: 1 }),
         (b"x\ta b=c", DocFault::BadName { line: 1 }),
         (b"x\tabcdefghijklmnopq=c", DocFault::BadName { line: 1 }),
@@ -95,15 +96,15 @@ fn collections_are_refused_by_their_first_broken_rule(rt: HostRuntime) {
         // the least line
         (b"\n\nx\tb\n\xFF", DocFault::BadFacet { line: 3 }),
     ];
-    for (bytes, want) in rows {
-        assert_eq!(rt; refusal(rt.alloc(), bytes), Some(want));
+    for (bytes, want) in ROWS {
+        assert_eq!(rt; refusal(rt.alloc(), bytes), Some(*want));
     }
 }
 
 // So many times one text behind another, and the refusal.
 #[test]
 fn limits_are_kept_to_the_last_one(rt: HostRuntime) -> Result<(), Fail> {
-    let rows = [
+    const ROWS: &[(&str, &str, usize, Option<DocFault>)] = &[
         ("", "a", 1 << 20, None),
         (
             "\n",
@@ -121,12 +122,12 @@ fn limits_are_kept_to_the_last_one(rt: HostRuntime) -> Result<(), Fail> {
             Some(DocFault::WordsTooMany { line: 1 }),
         ),
     ];
-    for (start, part, count, want) in rows {
+    for (start, part, count, want) in ROWS {
         let mut text = String::from_str(rt.alloc(), start)?;
-        text.push_str(part.repeat(rt.alloc(), count)?.as_str())?;
+        text.push_str(part.repeat(rt.alloc(), *count)?.as_str())?;
         assert_eq!(rt;
             refusal(rt.alloc(), text.as_bytes()),
-            want,
+            *want,
             "of {count} behind {start}"
         );
     }
@@ -143,7 +144,7 @@ fn refusal(alloc: Global, bytes: &[u8]) -> Option<DocFault> {
 // A fault, and its text.
 #[test]
 fn faults_have_these_texts(rt: HostRuntime) -> Result<(), Fail> {
-    let of_documents = [
+    const OF_DOCUMENTS: &[(DocFault, &str)] = &[
         (DocFault::TooLarge, "too large"),
         (DocFault::NotUtf8 { line: 1 }, "line 1: not UTF-8"),
         (DocFault::LineTooLong { line: 2 }, "line 2: line too long"),
@@ -156,15 +157,15 @@ fn faults_have_these_texts(rt: HostRuntime) -> Result<(), Fail> {
         ),
         (DocFault::Memory, "out of memory"),
     ];
-    for (fault, want) in of_documents {
-        assert_eq!(rt; format!(in rt.alloc(); "{fault}")?.as_str(), want);
+    for (fault, want) in OF_DOCUMENTS {
+        assert_eq!(rt; format!(in rt.alloc(); "{fault}")?.as_str(), *want);
     }
-    let of_rows = [
+    const OF_ROWS: &[(RowsFault, &str)] = &[
         (RowsFault::TooManyRows, "too many rows"),
         (RowsFault::Memory, "out of memory"),
     ];
-    for (fault, want) in of_rows {
-        assert_eq!(rt; format!(in rt.alloc(); "{fault}")?.as_str(), want);
+    for (fault, want) in OF_ROWS {
+        assert_eq!(rt; format!(in rt.alloc(); "{fault}")?.as_str(), *want);
     }
     Ok(())
 }

@@ -6,12 +6,9 @@ use crate::{Engine, Note};
 use cs_base::{Kept, MemStore, Plan, Seq};
 use cs_file::open_index;
 use cs_query::{Reply, Request, parse};
+use cs_worked::ONE_DOCUMENT;
 use std::alloc::Global;
 use std::test::Fail;
-
-// The index file of one document with the title `Ab`, the facet `k=C` and the text `b a`.
-const ONE_DOCUMENT: &[u8] =
-    b"HYBIDX1\n\0\0\0\x01\0\0\0\x04\0\0\0\x04\0\0\0\x02\0\0 \0\0\0\0\x0C\0\0\0\x02\0\0\0 \0\0\0\0\x04:k:c\x01a\x02ab\x01b\0\0\0\0\0\0\0\x02Ab\0\0\0\0\0\0\0\x01\0\0\0\x01\0\0\0\x08\0\0\0\x01\0\0\0\x03\0\0\0\x03\0\0\0\x18\0\0\0\0\0\0\0\x02\0\0\0\0\x01\0\x02\0\0\0\0\0\x01\0\0\0\n\0\0\0\x0B\x04\x01\x01";
 
 // The reply to a query, without facets.
 fn answer(
@@ -44,7 +41,7 @@ fn answer(
 #[test]
 fn each_request_goes_on_from_those_before(rt: HostRuntime) -> Result<(), Fail> {
     let alloc = rt.alloc();
-    let mut store = MemStore::new(ONE_DOCUMENT.to_vec(alloc)?);
+    let mut store = MemStore::new(ONE_DOCUMENT.file.to_vec(alloc)?);
     let Ok(index) = open_index(alloc, &mut store) else {
         return Err(Fail::new("no index"));
     };

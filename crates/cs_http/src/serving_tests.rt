@@ -1,32 +1,30 @@
 //! What no clause says: that heads and responses are given where there is memory.
 use crate::{Framed, HeadFault, Look, Seen, frame, head, memory_response, wrap};
 use cs_base::{Memory, Text};
+use cs_worked::{ANNOUNCED_BODY, OTHER_METHOD, OTHER_PATH, TYPED};
 use std::alloc::Global;
 use std::process::Abort;
 use std::test::Fail;
 
 #[test]
 fn heads_are_judged_in_order(rt: HostRuntime) -> Result<(), Fail> {
-    let rows = [
-        ("GET /search?q=typ HTTP/1.1\r\n\r\n", "asks q=typ, stays"),
+    const ROWS: &[(&str, &str)] = &[
+        (TYPED.head, "asks q=typ, stays"),
         ("\nGET /search HTTP/1.0\n\n", "asks , closes"),
         (
             "GET /search?q=a HTTP/1.1\r\nContent-Length: 00\r\nConnection: keep-alive, close\r\n\r\n",
             "asks q=a, closes",
         ),
-        ("GET /x HTTP/1.1\r\n\r\n", "path, stays"),
-        ("POST /search HTTP/1.1\r\n\r\n", "method, stays"),
+        (OTHER_PATH.head, "path, stays"),
+        (OTHER_METHOD.head, "method, stays"),
         ("POST /x HTTP/1.0\r\n\r\n", "path, closes"),
-        (
-            "GET /search HTTP/1.1\r\nTransfer-Encoding: chunked\r\n\r\n",
-            "body",
-        ),
+        (ANNOUNCED_BODY.head, "body"),
         ("POST /x HTTP/1.1\r\nContent-Length: 1\r\n\r\n", "body"),
         ("GET /search HTTP/1.1\r\n\r\nx", "no head"),
     ];
-    for (bytes, want) in rows {
+    for (bytes, want) in ROWS {
         let found = told(rt.alloc(), bytes.as_bytes())?;
-        assert_eq!(&rt; found.as_str(), want, "of {bytes}");
+        assert_eq!(&rt; found.as_str(), *want, "of {bytes}");
     }
     Ok(())
 }

@@ -3,13 +3,14 @@
 use crate::request;
 use cs_base::{Atom, Memory, Text};
 use cs_query::{ReqFault, Request};
+use cs_worked::{LATER_HIT, MANY_HITS, NO_NUMBER, OFFSET_FIRST, PREFIX, SECOND_BAR};
 use std::alloc::Global;
 use std::process::Abort;
 use std::test::Fail;
 
 #[test]
 fn names_and_values_are_decoded_before_they_are_read(rt: HostRuntime) -> Result<(), Fail> {
-    let rows = [
+    const ROWS: &[(&str, &str)] = &[
         ("%71=a", "10 10 0;;a"),
         ("%68=%31%30", "10 10 0;;"),
         ("q=a+b", "10 10 0;;a b"),
@@ -23,15 +24,15 @@ fn names_and_values_are_decoded_before_they_are_read(rt: HostRuntime) -> Result<
         ("q=a%zz", "10 10 0;;a zz"),
         ("f=%61%2Cb", "10 10 0;a,b,;"),
     ];
-    are_answered(&rt, rt.alloc(), &rows)
+    are_answered(&rt, rt.alloc(), ROWS)
 }
 
 #[test]
 fn the_first_of_each_name_counts(rt: HostRuntime) -> Result<(), Fail> {
-    let rows = [
+    const ROWS: &[(&str, &str)] = &[
         ("", "10 10 0;;"),
-        ("q=typ", "10 10 0;;typ"),
-        ("q=&h=1&o=1", "1 10 1;;"),
+        (PREFIX.line, "10 10 0;;typ"),
+        (LATER_HIT.line, "1 10 1;;"),
         ("q=a&q=b", "10 10 0;;a"),
         ("q&q=b", "10 10 0;;"),
         ("h=1&h=101", "1 10 0;;"),
@@ -39,17 +40,17 @@ fn the_first_of_each_name_counts(rt: HostRuntime) -> Result<(), Fail> {
         ("Q=a&x=1&&h=2&", "2 10 0;;"),
         ("q=a=b", "10 10 0;;a b"),
     ];
-    are_answered(&rt, rt.alloc(), &rows)
+    are_answered(&rt, rt.alloc(), ROWS)
 }
 
 #[test]
 fn counts_are_a_few_digits_within_their_limits(rt: HostRuntime) -> Result<(), Fail> {
-    let rows = [
+    const ROWS: &[(&str, &str)] = &[
         ("h=0&c=100&o=10000", "0 100 10000;;"),
         ("h=100&c=0&o=0", "100 0 0;;"),
         ("h=00010&c=00000&o=00001", "10 0 1;;"),
-        ("q=typ&h=101", "no h"),
-        ("q=typ&h=", "no h"),
+        (MANY_HITS.line, "no h"),
+        (NO_NUMBER.line, "no h"),
         ("h", "no h"),
         ("h=000010", "no h"),
         ("h=+1", "no h"),
@@ -62,12 +63,12 @@ fn counts_are_a_few_digits_within_their_limits(rt: HostRuntime) -> Result<(), Fa
         ("o=10001", "no o"),
         ("o=000000", "no o"),
     ];
-    are_answered(&rt, rt.alloc(), &rows)
+    are_answered(&rt, rt.alloc(), ROWS)
 }
 
 #[test]
 fn facets_are_asked_once_each_by_names_in_byte_order(rt: HostRuntime) -> Result<(), Fail> {
-    let rows = [
+    const ROWS: &[(&str, &str)] = &[
         ("f=author,zzz", "10 10 0;author,zzz,;"),
         ("f=zzz,author,zzz", "10 10 0;author,zzz,;"),
         ("f=b,a1,a", "10 10 0;a,a1,b,;"),
@@ -84,23 +85,23 @@ fn facets_are_asked_once_each_by_names_in_byte_order(rt: HostRuntime) -> Result<
         ("f=abcdefghijklmnopq", "no f"),
         ("f=a,b,c,d,e,f,g,h,i", "no f"),
     ];
-    are_answered(&rt, rt.alloc(), &rows)
+    are_answered(&rt, rt.alloc(), ROWS)
 }
 
 #[test]
 fn the_query_is_judged_last_by_its_key_text(rt: HostRuntime) -> Result<(), Fail> {
-    let rows = [
+    const ROWS: &[(&str, &str)] = &[
         ("q=||&f=A&o=x&c=x&h=x", "no h"),
         ("q=||&f=A&o=x&c=x", "no c"),
         ("q=||&f=A&o=x", "no o"),
         ("q=||&f=A", "no f"),
-        ("q=a||b&o=x", "no o"),
-        ("q=a||b", "bad 2"),
+        (OFFSET_FIRST.line, "no o"),
+        (SECOND_BAR.line, "bad 2"),
         ("q=%C3%89:", "bad 3"),
         ("q=%C3:", "bad 3"),
         ("q=a+a+a+a+a+a+a+a+a+a+a+a+a+a+a+a+a", "limit 32 Parts"),
     ];
-    are_answered(&rt, rt.alloc(), &rows)
+    are_answered(&rt, rt.alloc(), ROWS)
 }
 
 // Each row is a string of parameters, and its request or its first refusal as `told` writes it.

@@ -4,6 +4,7 @@ use crate::serving::{ServeEnd, serve_over};
 use cs_base::{Hub, ScriptHub, Scripted, Seq};
 use cs_engine::AskFault;
 use cs_query::{Reply, Request};
+use cs_worked::{FAILED_READ, HEADS, LONG_HEAD, NO_QUERY, OTHER_PATH};
 use std::alloc::Global;
 use std::test::Fail;
 
@@ -45,20 +46,6 @@ impl Answerer for Empty {
     }
 }
 
-const EMPTY_REPLY: &[u8] =
-    b"HTTP/1.1 200 OK\r\nContent-Type: application/json\r\nContent-Length: 75\r\n\r\n{\"completions\":[],\"facets\":{},\"hits\":[],\"total\":{\"completions\":0,\"hits\":0}}";
-
-const LONG_HEAD: &[u8] =
-    b"HTTP/1.1 431 Request Header Fields Too Large\r\nContent-Type: application/json\r\nContent-Length: 25\r\nConnection: close\r\n\r\n{\"error\":\"head too long\"}";
-
-const FAILED_READ: &[u8] =
-    b"HTTP/1.1 500 Internal Server Error\r\nContent-Type: application/json\r\nContent-Length: 16\r\n\r\n{\"error\":\"read\"}";
-
-const REFUSALS: &[u8] =
-    b"HTTP/1.1 404 Not Found\r\nContent-Type: application/json\r\nContent-Length: 16\r\n\r\n{\"error\":\"path\"}HTTP/1.1 405 Method Not Allowed\r\nAllow: GET\r\nContent-Type: application/json\r\nContent-Length: 18\r\n\r\n{\"error\":\"method\"}HTTP/1.1 400 Bad Request\r\nContent-Type: application/json\r\nContent-Length: 22\r\n\r\n{\"at\":2,\"error\":\"bad\"}HTTP/1.1 400 Bad Request\r\nContent-Type: application/json\r\nContent-Length: 16\r\nConnection: close\r\n\r\n{\"error\":\"body\"}";
-
-const HEAD: &[u8] = b"GET /search?q= HTTP/1.1\r\n\r\n";
-
 fn piece(alloc: Global, conn: u32, bytes: &[u8]) -> Result<Scripted, Fail> {
     let bytes = Seq::from_vec(bytes.to_vec(alloc)?);
     Ok(Scripted::Piece { conn, bytes })
@@ -87,44 +74,60 @@ fn each_connection_has_its_own_unread_bytes(rt: HostRuntime) -> Result<(), Fail>
     events.push(Scripted::Ended { conn: 0 })?;
     let mut hub = ScriptHub::new(alloc, events);
     serve_two(alloc, &mut hub, 0)?;
-    assert_eq!(&rt; hub.sent(0), EMPTY_REPLY);
-    assert_eq!(&rt; hub.sent(1), LONG_HEAD);
+    assert_eq!(&rt; hub.sent(0), NO_QUERY.response.as_bytes());
+    assert_eq!(&rt; hub.sent(1), LONG_HEAD.as_bytes());
     Ok(())
 }
 
 #[test]
 fn heads_are_answered_until_one_closes_the_connection(rt: HostRuntime) -> Result<(), Fail> {
     let alloc = rt.alloc();
-    let heads =
-        b"GET /x HTTP/1.1\r\n\r\nPOST /search HTTP/1.1\r\n\r\nGET /search?q=a%7C%7Cb HTTP/1.1\r\n\r\nGET /search HTTP/1.1\r\nTransfer-Encoding: chunked\r\n\r\nGET /x HTTP/1.1\r\n\r\n";
+    let mut heads = Vec::new(alloc);
+    for row in HEADS {
+        heads.extend_from_slice(row.head.as_bytes())?;
+    }
+    heads.extend_from_slice(OTHER_PATH.head.as_bytes())?;
     let mut events = Seq::new(alloc);
     events.push(Scripted::Opened)?;
-    events.push(piece(alloc, 0, heads)?)?;
-    events.push(piece(alloc, 0, HEAD)?)?;
+    events.push(piece(alloc, 0, &heads)?)?;
+    events.push(piece(alloc, 0, NO_QUERY.head.as_bytes())?)?;
     let mut hub = ScriptHub::new(alloc, events);
     serve_two(alloc, &mut hub, 0)?;
-    assert_eq!(&rt; hub.sent(0), REFUSALS);
+    let mut rest = hub.sent(0);
+    for row in HEADS {
+        assert!(&rt;
+            rest.starts_with(row.response.as_bytes()),
+            "to {}",
+            row.head
+        );
+        rest = rest.get(row.response.len()..).unwrap_or(b"");
+    }
+    assert_eq!(&rt; rest, b"".as_slice());
     Ok(())
 }
 
 #[test]
 fn a_failure_is_that_of_one_request_or_connection(rt: HostRuntime) -> Result<(), Fail> {
     let alloc = rt.alloc();
+    let head = NO_QUERY.head.as_bytes();
     let mut events = Seq::new(alloc);
     events.push(Scripted::Opened)?;
     events.push(Scripted::Opened)?;
-    events.push(piece(alloc, 1, HEAD)?)?;
-    events.push(piece(alloc, 0, HEAD)?)?;
-    events.push(piece(alloc, 1, HEAD)?)?;
-    events.push(piece(alloc, 0, HEAD)?)?;
+    events.push(piece(alloc, 1, head)?)?;
+    events.push(piece(alloc, 0, head)?)?;
+    events.push(piece(alloc, 1, head)?)?;
+    events.push(piece(alloc, 0, head)?)?;
     let mut hub = ScriptHub::new(alloc, events);
     let mut calls = Vec::new(alloc);
     calls.push(2)?;
     hub.fail_send(calls);
     serve_two(alloc, &mut hub, 1)?;
     assert_eq!(&rt; hub.sent(0), b"".as_slice());
-    assert_eq!(&rt; hub.sent(1).starts_with(FAILED_READ), true);
-    assert_eq!(&rt; hub.sent(1).ends_with(EMPTY_REPLY), true);
-    assert_eq!(&rt; hub.sent(1).len(), FAILED_READ.len() + EMPTY_REPLY.len());
+    assert_eq!(&rt; hub.sent(1).starts_with(FAILED_READ.as_bytes()), true);
+    assert_eq!(&rt; hub.sent(1).ends_with(NO_QUERY.response.as_bytes()), true);
+    assert_eq!(&rt;
+        hub.sent(1).len(),
+        FAILED_READ.len() + NO_QUERY.response.len()
+    );
     Ok(())
 }

@@ -2,6 +2,7 @@
 use crate::{Fault, fault_bytes, reply_bytes};
 use cs_base::{Seq, Text};
 use cs_query::{FacetShown, HitShown, Param, Reply, ReqFault, Shown, Which};
+use cs_worked::{LONG_WORD, MANY_HITS, SECOND_BAR};
 use std::alloc::Global;
 use std::test::Fail;
 
@@ -55,22 +56,18 @@ fn a_reply_has_its_keys_in_byte_order(rt: HostRuntime) -> Result<(), Fail> {
 
 #[test]
 fn faults_have_the_texts_of_the_format(rt: HostRuntime) -> Result<(), Fail> {
-    let limit = ReqFault::Limit {
-        at: 120,
-        which: Which::Word,
-    };
-    for (fault, want) in [
+    const ROWS: &[(Fault, &str)] = &[
+        (Fault::Refused(ReqFault::Bad { at: 2 }), SECOND_BAR.reply),
         (
-            Fault::Refused(ReqFault::Bad { at: 2 }),
-            r#"{"at":2,"error":"bad"}"#,
-        ),
-        (
-            Fault::Refused(limit),
-            r#"{"at":120,"error":"limit","which":"word"}"#,
+            Fault::Refused(ReqFault::Limit {
+                at: 120,
+                which: Which::Word,
+            }),
+            LONG_WORD.reply,
         ),
         (
             Fault::Refused(ReqFault::BadParam { which: Param::H }),
-            r#"{"error":"param","param":"h"}"#,
+            MANY_HITS.reply,
         ),
         (Fault::Refused(ReqFault::Memory), r#"{"error":"memory"}"#),
         (
@@ -78,8 +75,9 @@ fn faults_have_the_texts_of_the_format(rt: HostRuntime) -> Result<(), Fail> {
             r#"{"at":106,"error":"changed","rule":13}"#,
         ),
         (Fault::TooLong, r#"{"error":"head too long"}"#),
-    ] {
-        let text = fault_bytes(rt.alloc(), &fault)?;
+    ];
+    for (fault, want) in ROWS {
+        let text = fault_bytes(rt.alloc(), fault)?;
         assert_eq!(rt; text.as_slice(), want.as_bytes(), "{want}");
     }
     Ok(())

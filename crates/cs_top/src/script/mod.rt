@@ -9,8 +9,6 @@ ghost use Rattle.cs_top.specs.Scripts.{ScriptCaused, ScriptEnds, ShortTally, Tal
 ghost use Rattle.cs_top.specs.Views.{of_script, stop_ending};
 
 mod answers;
-#[cfg(test)]
-mod tests;
 
 use crate::answering::IndexFile;
 use crate::lines::{Place, ScriptStop, WINDOW_BYTES, first_place, read_line};

@@ -1,15 +1,13 @@
 //! What no clause says: each call of the outside fails in turn, and what a run then leaves.
-use super::S;
+use super::{ASK, REPLAY, SERVE, built, run_beside, run_over, words_of};
 use crate::run;
 use cs_base::{MemFiles, MemSink, ScriptHub, Scripted, Seq};
+use cs_worked::{BAD_FACET, FAILED_READ, NO_DOCUMENTS, THREE_DOCUMENTS};
 use std::alloc::Global;
 use std::test::Fail;
 
-// The index file of no documents.
-const NO_DOCUMENTS: &[u8] =
-    b"HYBIDX1\n\0\0\0\0\0\0\0\0\0\0\0\0\0\0\0\0\0\0\x20\0\0\0\0\0\0\0\0\0\0\0\0\0\0\0\0\0\0\0\0\0";
-
-const KEYSTROKES: &[u8] = b"q=t\nq=ty\nq=typ\nq=typ+s\nq=typ+se\nq=typ\n";
+// What is typed, key by key, and then the first word alone again.
+const TYPING: &[u8] = b"q=t\nq=ty\nq=typ\nq=typ+s\nq=typ+se\nq=typ\n";
 
 // Which calls fail.
 #[derive(Clone, Copy, Debug, PartialEq, Eq)]
@@ -53,19 +51,11 @@ impl Left {
 }
 
 // The files of all runs: two collections, a script, and two index files, of which the second one is of no documents.
-fn held(alloc: Global) -> Result<MemFiles, Fail> {
-    let mut files = MemFiles::new(alloc);
-    files.hold("C", S.as_bytes().to_vec(alloc)?)?;
-    files.hold("B", b"a\tb\tc".to_vec(alloc)?)?;
-    files.hold("Q", KEYSTROKES.to_vec(alloc)?)?;
-    files.hold("E", NO_DOCUMENTS.to_vec(alloc)?)?;
-    let words: [&str; 3] = ["build", "C", "I"];
-    let left = super::run_over(alloc, &words, &mut files)?;
-    if left.is(0, b"", "") {
-        Ok(files)
-    } else {
-        Err(Fail::new("not built"))
-    }
+fn all_files(alloc: Global) -> Result<MemFiles, Fail> {
+    let mut files = built(alloc, THREE_DOCUMENTS, TYPING)?;
+    files.hold("B", BAD_FACET.to_vec(alloc)?)?;
+    files.hold("E", NO_DOCUMENTS.file.to_vec(alloc)?)?;
+    Ok(files)
 }
 
 fn piece(alloc: Global, conn: u32, bytes: &[u8]) -> Result<Scripted, Fail> {
@@ -91,7 +81,7 @@ fn two_connections(alloc: Global) -> Result<ScriptHub, Fail> {
 
 // What a run of the words leaves where the k-th of these calls fails.
 fn left_at(alloc: Global, words: &[&str], calls: Calls, k: u64) -> Result<Left, Fail> {
-    let mut files = held(alloc)?;
+    let mut files = all_files(alloc)?;
     let mut hub = two_connections(alloc)?;
     let mut out = MemSink::new(alloc);
     let mut err = MemSink::new(alloc);
@@ -104,7 +94,7 @@ fn left_at(alloc: Global, words: &[&str], calls: Calls, k: u64) -> Result<Left, 
         Calls::Nexts => hub.fail_next(failing),
         Calls::Sends => hub.fail_send(failing),
     }
-    let given = super::words_of(alloc, words)?;
+    let given = words_of(alloc, words)?;
     let status = run(alloc, &given, &mut files, &mut hub, &mut out, &mut err);
     let index = files.bytes("N").unwrap_or(b"");
     Ok(Left {
@@ -154,29 +144,46 @@ fn fails_in_turn(alloc: Global, words: &[&str], calls: Calls) -> Result<u64, Fai
     Err(Fail::new("no run was whole"))
 }
 
+// Command lines, and calls that fail while they are run.
+const FAILING: &[(&[&str], Calls)] = &[
+    (&["build", "C", "N"], Calls::Writes),
+    (REPLAY, Calls::Reads),
+    (ASK, Calls::Puts),
+    (&["serve", "E", "8080", "2"], Calls::Sends),
+    (&["serve", "E", "8080", "2"], Calls::Nexts),
+    (&["ask", "B", "Q"], Calls::Says),
+];
+
 #[test]
 fn each_call_fails_in_turn(rt: HostRuntime) -> Result<(), Fail> {
-    let build: [&str; 3] = ["build", "C", "N"];
-    let replay: [&str; 3] = ["replay", "I", "Q"];
-    let ask: [&str; 3] = ["ask", "C", "Q"];
-    let refused: [&str; 3] = ["ask", "B", "Q"];
-    let serve: [&str; 4] = ["serve", "E", "8080", "2"];
-    for (words, calls) in [
-        (build.as_slice(), Calls::Writes),
-        (&replay, Calls::Reads),
-        (&ask, Calls::Puts),
-        (&serve, Calls::Sends),
-        (&serve, Calls::Nexts),
-        (&refused, Calls::Says),
-    ] {
-        let failed = fails_in_turn(rt.alloc(), words, calls)?;
+    for (words, calls) in FAILING {
+        let failed = fails_in_turn(rt.alloc(), words, *calls)?;
         assert!(rt; failed > 0, "of {calls:?}");
     }
     Ok(())
 }
 
-const UNREAD: &[u8] =
-    b"HTTP/1.1 500 Internal Server Error\r\nContent-Type: application/json\r\nContent-Length: 16\r\n\r\n{\"error\":\"read\"}";
+const UNREAD: &[u8] = b"{\"error\":\"read\"}\n{\"at\":2,\"error\":\"bad\"}\n";
+
+// Each read in turn: of the index file at opening, of the script, and of blocks and titles, where a line says so.
+#[test]
+fn a_failed_read_of_a_replay_is_said_in_its_line(rt: HostRuntime) -> Result<(), Fail> {
+    let mut is_said = false;
+    for k in 1..100 {
+        let mut files = built(rt.alloc(), THREE_DOCUMENTS, b"q=typ\nq=a||b\n")?;
+        files.fail_reads(vec![in rt.alloc(); k; 1]?);
+        let left = run_over(rt.alloc(), REPLAY, &mut files)?;
+        if left.status == 0 {
+            assert!(rt; is_said);
+            return Ok(());
+        }
+        assert!(rt; left.status == 6, "at {k}");
+        if left.is(6, UNREAD, "device failed\n") {
+            is_said = true;
+        }
+    }
+    Err(Fail::new("no run was whole"))
+}
 
 const ANSWER: &str = concat!(
     "HTTP/1.1 200 OK\r\nContent-Type: application/json\r\nContent-Length: 151\r\n\r\n",
@@ -190,7 +197,7 @@ fn is_twice(sent: &[u8], response: &[u8]) -> bool {
 
 // The status, and what was sent, where all reads from the k-th on fail.
 fn served_without_reads(alloc: Global, k: u64) -> Result<(u8, Vec<u8>), Fail> {
-    let mut files = held(alloc)?;
+    let mut files = all_files(alloc)?;
     let mut failing = Vec::new(alloc);
     for behind in 0..10_000u64 {
         failing.push(k.saturating_add(behind))?;
@@ -202,8 +209,7 @@ fn served_without_reads(alloc: Global, k: u64) -> Result<(u8, Vec<u8>), Fail> {
     events.push(piece(alloc, 0, head)?)?;
     events.push(Scripted::Ended { conn: 0 })?;
     let mut hub = ScriptHub::new(alloc, events);
-    let words: [&str; 4] = ["serve", "I", "8080", "1"];
-    let left = super::run_beside(alloc, &words, &mut files, &mut hub)?;
+    let left = run_beside(alloc, SERVE, &mut files, &mut hub)?;
     Ok((left.status, hub.sent(0).to_vec(alloc)?))
 }
 
@@ -219,7 +225,7 @@ fn a_second_request_needs_no_read(rt: HostRuntime) -> Result<(), Fail> {
             return Ok(());
         }
         if status == 0 {
-            assert!(rt; is_twice(&sent, UNREAD), "at {k}");
+            assert!(rt; is_twice(&sent, FAILED_READ.as_bytes()), "at {k}");
             is_unread = true;
         } else {
             assert!(rt; status == 6 && sent.is_empty(), "at {k}");

@@ -1,0 +1,5 @@
+//! What the program says.
+
+/// The line on standard error for a command line that it can't read.
+pub const USAGE: &str =
+    "usage: complete build COLLECTION INDEX | ask COLLECTION SCRIPT | replay INDEX SCRIPT | serve INDEX PORT CONNS | trial N\n";

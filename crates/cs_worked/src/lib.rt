@@ -1,0 +1,26 @@
+//! Worked documents, questions and replies: what tests of several crates hold the code against.
+//!
+//! Each was worked by hand from what `docs/` says, or by a plain search in another language, and none is the program's own
+//! output. JSON stands as a reader sees it. Nothing here is computed, and no crate uses it but in tests.
+#![tactic(auto)]
+
+mod collections;
+mod commands;
+mod files;
+mod heads;
+mod keystrokes;
+mod pairs;
+mod scripts;
+
+pub use collections::{BAD_FACET, BAD_NAME, GUIDE, MARKED_LINES, THREE_DOCUMENTS};
+pub use commands::USAGE;
+pub use files::{NO_DOCUMENTS, ONE_DOCUMENT};
+pub use heads::{
+    ANNOUNCED_BODY, FAILED_READ, HEADS, LONG_HEAD, NO_QUERY, OTHER_METHOD, OTHER_PATH,
+    REFUSED_QUERY, TYPED,
+};
+pub use keystrokes::{
+    FACETS, KEYSTROKES, LATER_HIT, MANY_HITS, NO_NUMBER, OFFSET_FIRST, PREFIX, SECOND_BAR,
+};
+pub use pairs::{Worked, WorkedFile, WorkedHead, WorkedScript};
+pub use scripts::{LONG_WORD, SCRIPTS};
