@@ -4,6 +4,7 @@ use crate::standard::Standard;
 use crate::startup::start;
 use crate::streams::{keep_whole, lend};
 use cs_base::{Failed, Files, MemFiles, MemSink, ScriptHub, Seq, Sink};
+use cs_worked::USAGE;
 use std::alloc::{AllocError, Global};
 use std::env::Args;
 use std::fs;
@@ -142,9 +143,6 @@ fn a_stream_is_lent_as_it_was_read(rt: HostRuntime) -> Result<(), Fail> {
     }
     Ok(())
 }
-
-const USAGE: &str =
-    "usage: complete build COLLECTION INDEX | ask COLLECTION SCRIPT | replay INDEX SCRIPT | serve INDEX PORT CONNS | trial N\n";
 
 fn command_line(alloc: Global, words: &[&str]) -> Result<Args, AllocError> {
     let mut args = Vec::new(alloc);

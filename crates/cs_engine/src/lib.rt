@@ -23,8 +23,6 @@ mod reading;
 mod replies;
 mod replying;
 mod steps;
-#[cfg(test)]
-mod tests;
 mod typed;
 mod words;
 

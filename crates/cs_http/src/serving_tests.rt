@@ -8,7 +8,7 @@ use std::test::Fail;
 
 #[test]
 fn heads_are_judged_in_order(rt: HostRuntime) -> Result<(), Fail> {
-    const ROWS: &[(&str, &str)] = &[
+    let rows = [
         (TYPED.head, "asks q=typ, stays"),
         ("\nGET /search HTTP/1.0\n\n", "asks , closes"),
         (
@@ -22,9 +22,9 @@ fn heads_are_judged_in_order(rt: HostRuntime) -> Result<(), Fail> {
         ("POST /x HTTP/1.1\r\nContent-Length: 1\r\n\r\n", "body"),
         ("GET /search HTTP/1.1\r\n\r\nx", "no head"),
     ];
-    for (bytes, want) in ROWS {
+    for (bytes, want) in rows {
         let found = told(rt.alloc(), bytes.as_bytes())?;
-        assert_eq!(&rt; found.as_str(), *want, "of {bytes}");
+        assert_eq!(&rt; found.as_str(), want, "of {bytes}");
     }
     Ok(())
 }

@@ -3,7 +3,6 @@
 use crate::request;
 use cs_base::{Atom, Memory, Text};
 use cs_query::{ReqFault, Request};
-use cs_worked::{LATER_HIT, MANY_HITS, NO_NUMBER, OFFSET_FIRST, PREFIX, SECOND_BAR};
 use std::alloc::Global;
 use std::process::Abort;
 use std::test::Fail;
@@ -31,8 +30,8 @@ fn names_and_values_are_decoded_before_they_are_read(rt: HostRuntime) -> Result<
 fn the_first_of_each_name_counts(rt: HostRuntime) -> Result<(), Fail> {
     const ROWS: &[(&str, &str)] = &[
         ("", "10 10 0;;"),
-        (PREFIX.line, "10 10 0;;typ"),
-        (LATER_HIT.line, "1 10 1;;"),
+        ("q=typ", "10 10 0;;typ"),
+        ("q=&h=1&o=1", "1 10 1;;"),
         ("q=a&q=b", "10 10 0;;a"),
         ("q&q=b", "10 10 0;;"),
         ("h=1&h=101", "1 10 0;;"),
@@ -49,8 +48,8 @@ fn counts_are_a_few_digits_within_their_limits(rt: HostRuntime) -> Result<(), Fa
         ("h=0&c=100&o=10000", "0 100 10000;;"),
         ("h=100&c=0&o=0", "100 0 0;;"),
         ("h=00010&c=00000&o=00001", "10 0 1;;"),
-        (MANY_HITS.line, "no h"),
-        (NO_NUMBER.line, "no h"),
+        ("q=typ&h=101", "no h"),
+        ("q=typ&h=", "no h"),
         ("h", "no h"),
         ("h=000010", "no h"),
         ("h=+1", "no h"),
@@ -95,8 +94,8 @@ fn the_query_is_judged_last_by_its_key_text(rt: HostRuntime) -> Result<(), Fail>
         ("q=||&f=A&o=x&c=x", "no c"),
         ("q=||&f=A&o=x", "no o"),
         ("q=||&f=A", "no f"),
-        (OFFSET_FIRST.line, "no o"),
-        (SECOND_BAR.line, "bad 2"),
+        ("q=a||b&o=x", "no o"),
+        ("q=a||b", "bad 2"),
         ("q=%C3%89:", "bad 3"),
         ("q=%C3:", "bad 3"),
         ("q=a+a+a+a+a+a+a+a+a+a+a+a+a+a+a+a+a", "limit 32 Parts"),

@@ -56,7 +56,7 @@ fn a_reply_has_its_keys_in_byte_order(rt: HostRuntime) -> Result<(), Fail> {
 
 #[test]
 fn faults_have_the_texts_of_the_format(rt: HostRuntime) -> Result<(), Fail> {
-    const ROWS: &[(Fault, &str)] = &[
+    for (fault, want) in [
         (Fault::Refused(ReqFault::Bad { at: 2 }), SECOND_BAR.reply),
         (
             Fault::Refused(ReqFault::Limit {
@@ -75,9 +75,8 @@ fn faults_have_the_texts_of_the_format(rt: HostRuntime) -> Result<(), Fail> {
             r#"{"at":106,"error":"changed","rule":13}"#,
         ),
         (Fault::TooLong, r#"{"error":"head too long"}"#),
-    ];
-    for (fault, want) in ROWS {
-        let text = fault_bytes(rt.alloc(), fault)?;
+    ] {
+        let text = fault_bytes(rt.alloc(), &fault)?;
         assert_eq!(rt; text.as_slice(), want.as_bytes(), "{want}");
     }
     Ok(())

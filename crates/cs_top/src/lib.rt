@@ -20,6 +20,3 @@ mod trial;
 mod words;
 
 pub use command::run;
-
-#[cfg(test)]
-mod tests;

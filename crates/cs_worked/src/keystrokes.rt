@@ -7,6 +7,7 @@ pub const KEYSTROKES: &[Worked] = &[
     TWO_WORDS,
     EXACT_WORD,
     PHRASE,
+    DOTTED_PHRASE,
     NEARNESS,
     ALTERNATIVES,
     EXCLUSION,
@@ -35,7 +36,7 @@ pub const PREFIX: Worked = Worked {
 };
 
 /// Both must occur, and the last one is completed.
-pub const TWO_WORDS: Worked = Worked {
+const TWO_WORDS: Worked = Worked {
     line: "q=search+typ",
     reply: concat!(
         r#"{"completions":[{"docs":2,"word":"type"}],"facets":{},"#,
@@ -45,7 +46,7 @@ pub const TWO_WORDS: Worked = Worked {
 };
 
 /// An exact word: longer ones are not found.
-pub const EXACT_WORD: Worked = Worked {
+const EXACT_WORD: Worked = Worked {
     line: "q=type$",
     reply: concat!(
         r#"{"completions":[{"docs":2,"word":"type"}],"facets":{},"#,
@@ -55,7 +56,7 @@ pub const EXACT_WORD: Worked = Worked {
 };
 
 /// A phrase: `ahead` stands directly behind.
-pub const PHRASE: Worked = Worked {
+const PHRASE: Worked = Worked {
     line: "q=type-ahead",
     reply: concat!(
         r#"{"completions":[{"docs":1,"word":"ahead"}],"facets":{},"#,
@@ -63,8 +64,17 @@ pub const PHRASE: Worked = Worked {
     ),
 };
 
+/// The same phrase: a dash links as a dot does.
+const DOTTED_PHRASE: Worked = Worked {
+    line: "q=type.ahead",
+    reply: concat!(
+        r#"{"completions":[{"docs":1,"word":"ahead"}],"facets":{},"#,
+        r#""hits":[{"doc":1,"score":1,"title":"The CompleteSearch engine"}],"total":{"completions":1,"hits":1}}"#,
+    ),
+};
+
 /// Nearness: the other word that begins so stands 10 positions away.
-pub const NEARNESS: Worked = Worked {
+const NEARNESS: Worked = Worked {
     line: "q=lambda..typ",
     reply: concat!(
         r#"{"completions":[{"docs":1,"word":"typed"}],"facets":{},"#,
@@ -73,7 +83,7 @@ pub const NEARNESS: Worked = Worked {
 };
 
 /// Alternatives of one part.
-pub const ALTERNATIVES: Worked = Worked {
+const ALTERNATIVES: Worked = Worked {
     line: "q=typed|ahead",
     reply: concat!(
         r#"{"completions":[{"docs":1,"word":"ahead"},{"docs":1,"word":"typed"}],"facets":{},"#,
@@ -83,19 +93,19 @@ pub const ALTERNATIVES: Worked = Worked {
 };
 
 /// An excluded last part has no completions.
-pub const EXCLUSION: Worked = Worked {
+const EXCLUSION: Worked = Worked {
     line: "q=typ+-search",
     reply: r#"{"completions":[],"facets":{},"hits":[{"doc":2,"score":4,"title":"Typed lambda calculi"}],"total":{"completions":0,"hits":1}}"#,
 };
 
 /// Nothing positive scores.
-pub const EXCLUSION_ALONE: Worked = Worked {
+const EXCLUSION_ALONE: Worked = Worked {
     line: "q=-search",
     reply: r#"{"completions":[],"facets":{},"hits":[{"doc":2,"score":0,"title":"Typed lambda calculi"}],"total":{"completions":0,"hits":1}}"#,
 };
 
 /// What is excluded stands in front, and the last part is completed.
-pub const EXCLUSION_FIRST: Worked = Worked {
+const EXCLUSION_FIRST: Worked = Worked {
     line: "q=-search+typ",
     reply: concat!(
         r#"{"completions":[{"docs":1,"word":"typed"},{"docs":1,"word":"types"}],"facets":{},"#,
@@ -104,7 +114,7 @@ pub const EXCLUSION_FIRST: Worked = Worked {
 };
 
 /// The authors of what is found by `search`, beside a word.
-pub const JOIN: Worked = Worked {
+const JOIN: Worked = Worked {
     line: "q=author[search]+typ",
     reply: concat!(
         r#"{"completions":[{"docs":2,"word":"type"}],"facets":{},"#,
@@ -114,7 +124,7 @@ pub const JOIN: Worked = Worked {
 };
 
 /// Every value of a facet, without its leading colon.
-pub const FACET_VALUES: Worked = Worked {
+const FACET_VALUES: Worked = Worked {
     line: "q=year:",
     reply: concat!(
         r#"{"completions":[{"docs":1,"word":"year:1940"},{"docs":1,"word":"year:2006"},{"docs":1,"word":"year:2007"}],"facets":{},"#,
@@ -124,7 +134,7 @@ pub const FACET_VALUES: Worked = Worked {
 };
 
 /// Not begun: each document is a hit.
-pub const EMPTY_QUERY: Worked = Worked {
+const EMPTY_QUERY: Worked = Worked {
     line: "q=",
     reply: concat!(
         r#"{"completions":[],"facets":{},"#,
@@ -134,7 +144,7 @@ pub const EMPTY_QUERY: Worked = Worked {
 };
 
 /// One hit, behind the first: the total counts all.
-pub const LATER_HIT: Worked = Worked {
+const LATER_HIT: Worked = Worked {
     line: "q=&h=1&o=1",
     reply: concat!(
         r#"{"completions":[],"facets":{},"hits":[{"doc":1,"score":0,"title":"The CompleteSearch engine"}],"#,
@@ -143,7 +153,7 @@ pub const LATER_HIT: Worked = Worked {
 };
 
 /// Not finished: the bar is dropped.
-pub const OPEN_BAR: Worked = Worked {
+const OPEN_BAR: Worked = Worked {
     line: "q=a|",
     reply: concat!(
         r#"{"completions":[{"docs":1,"word":"a"},{"docs":1,"word":"ahead"},{"docs":1,"word":"and"},"#,
@@ -154,7 +164,7 @@ pub const OPEN_BAR: Worked = Worked {
 };
 
 /// Two facets are asked, of which no document has the second.
-pub const FACETS: Worked = Worked {
+const FACETS: Worked = Worked {
     line: "q=search&f=author,zzz",
     reply: concat!(
         r#"{"completions":[{"docs":2,"word":"search"}],"facets":{"author":[{"docs":2,"word":"author:bast"},"#,
@@ -177,13 +187,13 @@ pub const MANY_HITS: Worked = Worked {
 };
 
 /// A parameter without digits.
-pub const NO_NUMBER: Worked = Worked {
+const NO_NUMBER: Worked = Worked {
     line: "q=typ&h=",
     reply: r#"{"error":"param","param":"h"}"#,
 };
 
 /// Two things are refused: parameters go before the query.
-pub const OFFSET_FIRST: Worked = Worked {
+const OFFSET_FIRST: Worked = Worked {
     line: "q=a||b&o=x",
     reply: r#"{"error":"param","param":"o"}"#,
 };

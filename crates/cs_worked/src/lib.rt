@@ -19,8 +19,6 @@ pub use heads::{
     ANNOUNCED_BODY, FAILED_READ, HEADS, LONG_HEAD, NO_QUERY, OTHER_METHOD, OTHER_PATH,
     REFUSED_QUERY, TYPED,
 };
-pub use keystrokes::{
-    FACETS, KEYSTROKES, LATER_HIT, MANY_HITS, NO_NUMBER, OFFSET_FIRST, PREFIX, SECOND_BAR,
-};
+pub use keystrokes::{KEYSTROKES, MANY_HITS, PREFIX, SECOND_BAR};
 pub use pairs::{Worked, WorkedFile, WorkedHead, WorkedScript};
 pub use scripts::{LONG_WORD, SCRIPTS};

@@ -1,7 +1,7 @@
 //! What no clause says: each call of the outside fails in turn, and what a run then leaves.
-use super::{ASK, REPLAY, SERVE, built, run_beside, run_over, words_of};
-use crate::run;
+use crate::commands::{ASK, REPLAY, SERVE, built, run_beside, run_over, words_of};
 use cs_base::{MemFiles, MemSink, ScriptHub, Scripted, Seq};
+use cs_top::run;
 use cs_worked::{BAD_FACET, FAILED_READ, NO_DOCUMENTS, THREE_DOCUMENTS};
 use std::alloc::Global;
 use std::test::Fail;

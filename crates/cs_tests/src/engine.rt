@@ -2,8 +2,8 @@
 ghost use Rattle.std.specs.Prelude.{◌≡◌, Some};
 ghost use Rattle.cs_file.specs.Indexes.{Fits};
 
-use crate::{Engine, Note};
 use cs_base::{Kept, MemStore, Plan, Seq};
+use cs_engine::{Engine, Note};
 use cs_file::open_index;
 use cs_query::{Reply, Request, parse};
 use cs_worked::ONE_DOCUMENT;

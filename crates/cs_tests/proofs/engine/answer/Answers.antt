@@ -4,7 +4,7 @@ use Rattle.cs_model.specs.Parameters.{HoldsLimits}
 use Rattle.cs_model.specs.Refusals.{IsOfGrammar}
 use Rattle.cs_model.proofs.PartsLemmas.{few_parts}
 use Rattle.cs_base.specs.declared.content.query.Query.{Query}
-use Rattle.cs_engine.proofs.tests.answer.Goals as goal
+use Rattle.cs_tests.proofs.engine.answer.Goals as goal
 
 -- a request without facets
 plain : (q : Query) (names : List (List ℕ)) → IsOfGrammar q → names ≡ [] → HoldsLimits (record { query = q; hits = 10; completions = 10; offset = 0; facets = names })

@@ -1,8 +1,6 @@
 //! What no clause says: that with memory at hand worked scripts have these replies, and how the lines read.
-mod failing;
-
-use crate::run;
 use cs_base::{MemFiles, MemSink, Memory, ScriptHub, Scripted, Seq};
+use cs_top::run;
 use cs_worked::{
     BAD_FACET, BAD_NAME, PREFIX, SCRIPTS, SECOND_BAR, THREE_DOCUMENTS, TYPED, USAGE, Worked,
     WorkedScript,
@@ -12,13 +10,13 @@ use std::process::Abort;
 use std::test::Fail;
 
 // Command lines: C is a collection, Q a script and I an index file.
-const ASK: &[&str] = &["ask", "C", "Q"];
+pub(crate) const ASK: &[&str] = &["ask", "C", "Q"];
 
 const BUILD: &[&str] = &["build", "C", "I"];
 
-const REPLAY: &[&str] = &["replay", "I", "Q"];
+pub(crate) const REPLAY: &[&str] = &["replay", "I", "Q"];
 
-const SERVE: &[&str] = &["serve", "I", "8080", "1"];
+pub(crate) const SERVE: &[&str] = &["serve", "I", "8080", "1"];
 
 const TRIAL: &[&str] = &["trial", "1"];
 
@@ -28,24 +26,24 @@ const SUMMARY: &str =
 
 /// What a run leaves.
 #[derive(Drop)]
-struct Left {
-    status: u8,
+pub(crate) struct Left {
+    pub(crate) status: u8,
     out: Vec<u8>,
     err: Vec<u8>,
 }
 
 impl Left {
-    fn is(&self, status: u8, out: &[u8], err: &str) -> bool {
+    pub(crate) fn is(&self, status: u8, out: &[u8], err: &str) -> bool {
         self.status == status && self.out.as_slice() == out && self.err.as_slice() == err.as_bytes()
     }
 }
 
-fn run_over(alloc: Global, words: &[&str], files: &mut MemFiles) -> Result<Left, Fail> {
+pub(crate) fn run_over(alloc: Global, words: &[&str], files: &mut MemFiles) -> Result<Left, Fail> {
     let mut hub = ScriptHub::new(alloc, Seq::new(alloc));
     run_beside(alloc, words, files, &mut hub)
 }
 
-fn run_beside(
+pub(crate) fn run_beside(
     alloc: Global,
     words: &[&str],
     files: &mut MemFiles,
@@ -62,7 +60,7 @@ fn run_beside(
     })
 }
 
-fn words_of(alloc: Global, words: &[&str]) -> Result<Vec<String>, Memory> {
+pub(crate) fn words_of(alloc: Global, words: &[&str]) -> Result<Vec<String>, Memory> {
     let mut given = Vec::new(alloc);
     for word in words {
         given.push(String::from_str(alloc, word)?)?;
@@ -83,7 +81,7 @@ fn held(alloc: Global, collection: Option<&[u8]>, script: Option<&[u8]>) -> Resu
 }
 
 // The files C and Q, and the index file I of the collection.
-fn built(alloc: Global, collection: &str, script: &[u8]) -> Result<MemFiles, Fail> {
+pub(crate) fn built(alloc: Global, collection: &str, script: &[u8]) -> Result<MemFiles, Fail> {
     let mut files = held(alloc, Some(collection.as_bytes()), Some(script))?;
     let left = run_over(alloc, BUILD, &mut files)?;
     if left.is(0, b"", "") {

@@ -1,0 +1,9 @@
+//! Tests of the engine and of whole commands, which are proved here once, and not again with what they test.
+#![tactic(auto)]
+
+#[cfg(test)]
+mod commands;
+#[cfg(test)]
+mod engine;
+#[cfg(test)]
+mod failing;
