@@ -1,1 +1,3 @@
+pub mod Block
 pub mod Held
+pub mod Rooms
