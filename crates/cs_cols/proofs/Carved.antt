@@ -2,12 +2,11 @@
 --
 --   rooms_apart    room for a block's words is room for each column, with a way back
 --   carve          an empty `Vec` of a block's words is the rooms, and a `Block` that waits for them
-use Rattle.std.proofs.Common.{◌≡◌, ℕ, ◌+◌, ◌-◌, ◌*◌, ◌<◌, List, [], ◌∷◌, true, refl, sym, subst, arith, Vec}
+use Rattle.std.proofs.Common.{◌≡◌, ℕ, ◌+◌, ◌-◌, ◌*◌, ◌<◌, [], ◌∷◌, true, refl, sym, subst, arith, Vec}
 use Rattle.std.proofs.lemmas.Bool.{ne_eqb, not_from_false}
 use seplogic.Ra.Ura.{Ura}
 use mir.Syntax.{Tys, Ty, ty_struct, tcons, tnil}
 use mir.Val.{Val}
-use base.Fraction.{full_share}
 use base.Logic.{SProp, ent, sep, wand, guard, never, id⊢, apply∗}
 use base.Fml.{ftrue, fsep, froom, fwand, feq}
 use prog.Memory.{up}
@@ -15,9 +14,8 @@ use prog.Model.{rooms_at}
 use types.Logic.{Logic, sem}
 use types.Kit.{‵, raw, ◌⊛◌, ◌$◌, ◌∵◌, !, qed, move, frame, assume, show, check, split, split3, fsplit, fsplit3, fjoin, fjoin3, feq_i, group, use1, use2, rewrite, done}
 use denote.Builtin.{u32}
-use denote.Steps.{nothing}
 use denote.RattleType.{RattleType}
-use denote.RawPtr.{Ptr, InBlock, block_ptr, in_block, in_a_block, ◌+ₚ◌}
+use denote.RawPtr.{Ptr, InBlock, block_ptr, in_block, in_a_block}
 use Rattle.std.specs.Allocator.{block_with_items}
 use Rattle.std_alloc.specs.Vec.Ownership.{owns_if, has_block}
 use Rattle.std_alloc.specs.contracts.vec.Vec as V

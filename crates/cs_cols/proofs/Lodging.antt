@@ -4,7 +4,7 @@
 --   Column, column-laws           a column that lies in memory of another's, and its laws
 --   Lodges, at_lodge, lodge_goes, lodge_gives      `lodge` of an empty column, what it is handed, and what a caller has of it
 --   Dislodges, at_dislodge, dislodge_goes, dislodge_gives      the same of `dislodge`, which leaves the room
-use Rattle.std.proofs.Common.{◌≡◌, ℕ, ◌+◌, ◌-◌, ◌*◌, ◌^◌, ◌<◌, ◌≤◌, List, [], ◌∷◌, length, refl, sym, ap, ◌∙◌, arith, Vec}
+use Rattle.std.proofs.Common.{◌≡◌, ℕ, ◌+◌, ◌-◌, ◌*◌, ◌^◌, ◌<◌, ◌≤◌, List, [], ◌∷◌, refl, sym, ap, ◌∙◌, arith, Vec}
 use lib.Dec.{lit<}
 use seplogic.Ra.Ura.{Ura}
 use mir.Syntax.{Ty, Width, w8, w32, w64, ty_int, ty_array}
@@ -27,7 +27,7 @@ use denote.Memory.{part_at}
 use denote.Param.{param}
 use denote.Param.Laws.{Laws, of_field}
 use denote.Param.Shared.{copy_shared}
-use denote.RawPtr.{Ptr, block_ptr, null_ptr, room_for, in_a_block}
+use denote.RawPtr.{block_ptr, null_ptr, room_for, in_a_block}
 use denote.Steps.{only, nothing, heard}
 use denote.Struct.Field.{u8-field, u32-field}
 use denote.Struct.Laws.{u8-laws, u8-copy, u32-laws, u32-copy}

@@ -62,7 +62,7 @@ module _ {M : Type 1} {𝓤 : Ura M} {𝓛 : Logic 𝓤} {K : Type 0} {Γ : List
 
   pub five_made : K → (R S U V W : RattleType) (r : R.Denot) (s : S.Denot) (u : U.Denot) (v : V.Denot) (w : W.Denot) (a b c d e : Val)
       → Step K 𝓛 (‵ ((plainly (R ∷ S ∷ U ∷ V ∷ W ∷ [])).own_val (r, (s, (u, (v, (w, tt))))) (five a b c d e ∷ [])) ∷ Γ) G
-        (‵ (R.own_val r (a ∷ [])) ∷ ‵ (S.own_val s (b ∷ [])) ∷ ‵ (U.own_val u (c ∷ [])) ∷ ‵ (V.own_val v (d ∷ [])) ∷ ‵ (W.own_val w (e ∷ [])) ∷ Γ) G
+      (‵ (R.own_val r (a ∷ [])) ∷ ‵ (S.own_val s (b ∷ [])) ∷ ‵ (U.own_val u (c ∷ [])) ∷ ‵ (V.own_val v (d ∷ [])) ∷ ‵ (W.own_val w (e ∷ [])) ∷ Γ) G
   five_made t R S U V W r s u v w a b c d e = step (λ k.
       nothing t $ move t (5 ∷ 0 ∷ []) $ fjoin t $ move t (4 ∷ 0 ∷ []) $ fjoin t $ move t (3 ∷ 0 ∷ []) $ fjoin t $ move t (2 ∷ 0 ∷ []) $ fjoin t $ move t (1 ∷ 0 ∷ []) $ fjoin t $
       feq_i t (List Val) (five a b c d e ∷ []) (five a b c d e ∷ []) refl $ fjoin t $

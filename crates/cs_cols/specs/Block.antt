@@ -7,7 +7,7 @@
 use Rattle.std.specs.Prelude.{ℕ, ◌+◌, ◌*◌, ◌/◌, refl}
 use Rattle.std.specs.Coded.{Coded, code_by, coded×, coded_ℕ}
 use base.Fml.{Fml, fsep}
-use mir.Syntax.{Ty, Tys, ty_int, ty_array, tcons, tnil, w8, w32}
+use mir.Syntax.{Ty, ty_int, ty_array, w8, w32}
 use denote.RawPtr.{Ptr, coded_ptr, room_for, ◌+ₚ◌}
 
 -- where a block begins, and for how many posts it is

@@ -37,12 +37,12 @@ pub(crate) fn house_numbers(ptr: *mut u32, cap: usize, room: NumberRoom) -> Vec<
 }
 
 // An empty column of bytes in this room.
-pub(crate) fn house_bytes(ptr: *mut u8, cap: usize, room: ByteRoom) -> Vec<u8, Lodged>
+pub(crate) fn house_bytes(ptr: *mut u32, cap: usize, room: ByteRoom) -> Vec<u8, Lodged>
     requires { (room.ptr ≡ ptr) × (room.cap ≡ cap) × (0 < cap) × (cap < 2 ^ 63) }
     ensures { (result.items ≡ []) × (vec_len result ≡ 0) × (vec_capacity result ≡ cap) × (vec_ptr result ≡ ptr) }
 {
     let ByteRoom {} = room;
-    unsafe { lodge(ptr, 0, cap) }
+    unsafe { lodge(ptr as *mut u8, 0, cap) }
 }
 
 // The room of a column of numbers, with which its entries are forgotten.

@@ -1,5 +1,5 @@
 -- `whole` hands the rooms to what waits for them. Assumes `Logic`.
-use Rattle.std.proofs.Common.{◌≡◌, ℕ, ◌*◌, List, [], ◌∷◌, ◌++◌, refl, ap, subst}
+use Rattle.std.proofs.Common.{ℕ, ◌*◌, List, [], ◌∷◌, ◌++◌, refl, ap, subst}
 use seplogic.Ra.Ura.{Ura}
 use mir.Syntax.{Fn}
 use mir.Val.{Val}
@@ -46,9 +46,16 @@ abbrev ended : Ended
 ended = F.ended
 
 abbrev stayed : Stays ended.signature.params ended.kept
-stayed =
-    (stay_dropped (plain (λ _. NumberRoom.the_row)) yes, (stay_dropped (plain (λ _. NumberRoom.the_row)) yes, (stay_dropped (plain (λ _. NumberRoom.the_row)) yes,
-    (stay_dropped (plain (λ _. ByteRoom.the_row)) yes, (stay_dropped (plain (λ _. Block.the_row)) yes, tt)))))
+stayed = (
+  stay_dropped (plain (λ _. NumberRoom.the_row)) yes,
+  (
+    stay_dropped (plain (λ _. NumberRoom.the_row)) yes,
+    (
+      stay_dropped (plain (λ _. NumberRoom.the_row)) yes,
+      (stay_dropped (plain (λ _. ByteRoom.the_row)) yes, (stay_dropped (plain (λ _. Block.the_row)) yes, tt)),
+    ),
+  ),
+)
 
 module _ {M : Type 1} {𝓤 : Ura M} (𝓛 : Logic 𝓤) (at_mem : Memory → SProp 𝓤) (run : Routine → Fun 𝓤) where
   open 𝓛 use {H}

@@ -1,11 +1,9 @@
 -- `house_bytes` hands the room to `lodge`. Assumes `Logic`.
 use Rattle.std.proofs.Common.{◌≡◌, ℕ, ◌*◌, ◌^◌, ◌<◌, List, [], ◌∷◌, ◌++◌, refl, sym, ap, ◌∙◌, subst, arith, Vec}
-use lib.Dec.{lit<}
 use seplogic.Ra.Ura.{Ura}
 use mir.Syntax.{Fn, Callee, a_type, seq, assign, place, rv_opd, copy, return, w64}
 use mir.Val.{Val, vint, vptr}
 use base.Logic.{SProp, ent, never, id⊢}
-use base.Fml.{froom}
 use prog.Memory.{Memory}
 use prog.Routine.{Routine}
 use prog.Wp.{Calls, Loops, WpFn, Tables}
@@ -87,7 +85,7 @@ module _ {M : Type 1} {𝓤 : Ura M} (𝓛 : Logic 𝓤) (at_mem : Memory → SP
         regoal ! (λ (us : List Val). prop (WpFn 𝓤 H C Λ function ((vptr b o ∷ []) ++ (us ++ (vss.1.1.0 ++ []))) Post)) is₁ refl $
         regoal ! (λ (us : List Val). prop (WpFn 𝓤 H C Λ function ((vptr b o ∷ []) ++ ((vint w64 n ∷ []) ++ (us ++ []))) Post)) is₂ refl $
         enter ! C Λ function (vptr b o ∷ vint w64 n ∷ none ∷ []) Post $ alloc_all ! (λ l. pass_all ! refl ((tt, tt), ((tt, record { fits = fits }), ((tt, tt), tt))) $
-        first ! $ blocks ! $ use1 𝓛 (raw ((Lodges byte 𝓛 at_mem run).pre y)) (lodge_goes byte 𝓛 at_mem run b o n asked.2 small fit) $
+        first ! $ blocks ! $ sets ! (of_opd ! (get ! refl)) refl (tt, tt) $ use1 𝓛 (raw ((Lodges byte 𝓛 at_mem run).pre y)) (lodge_goes byte 𝓛 at_mem run b o n asked.2 small fit) $
         calls_at_last ! framed (Lodges byte 𝓛 at_mem run) called y (and_then ! (get ! refl) (and_then ! (lit ! tt) (and_then ! (get ! refl) (no_more !)))) (λ v.
         use1 𝓛 (later (some (λ (r : Vec ℕ Lodged). given (IsLodged byte 𝓛 at_mem run b o n r) (‵ ((Column byte).own_val r (v ∷ [])))))) (lodge_gives byte 𝓛 at_mem run b o n v) $
         await ! tt $ pick ! (λ r. learn ! (λ is. tells ! (Column byte) (column-laws byte) r (v ∷ []) (λ u same good.

@@ -1,11 +1,9 @@
 -- `house_numbers` hands the room to `lodge`. Assumes `Logic`.
 use Rattle.std.proofs.Common.{◌≡◌, ℕ, ◌*◌, ◌^◌, ◌<◌, List, [], ◌∷◌, ◌++◌, refl, sym, ap, ◌∙◌, subst, arith, Vec}
-use lib.Dec.{lit<}
 use seplogic.Ra.Ura.{Ura}
 use mir.Syntax.{Fn, Callee, a_type, seq, assign, place, rv_opd, copy, return, w64}
 use mir.Val.{Val, vint, vptr}
 use base.Logic.{SProp, ent, never, id⊢}
-use base.Fml.{froom}
 use prog.Memory.{Memory}
 use prog.Routine.{Routine}
 use prog.Wp.{Calls, Loops, WpFn, Tables}
