@@ -6,7 +6,7 @@ ghost use Rattle.std.specs.Prelude.{◌≡◌, ℕ, ◌<◌};
 ghost use base.Fml.{ftrue, fex, fsep, feq, fwand};
 ghost use denote.RawPtr.{Ptr, InBlock};
 ghost use Rattle.std_alloc.specs.Vec.{vec_len, vec_capacity, vec_ptr};
-ghost use Rattle.cs_cols.specs.Block.{Extent, extent_code, rooms, block_words};
+ghost use Rattle.cs_cols.specs.Block.{Extent, extent_code, rooms, block_cells};
 ghost use Rattle.cs_cols.specs.Rooms.{LieAt};
 
 use crate::rooms::{ByteRoom, NumberRoom};
@@ -28,7 +28,7 @@ impl Owns for Block {
 }
 
 impl Move for Block {
-    ghost own_val = { λ e vs. fex Inside (λ v. fsep (feq (Ptr × ℕ) (v.vec.ptr, v.vec.cap) (e.ptr, block_words e.cap)) (fwand (rooms e.ptr e.cap) (Fields.own_val (record { vec = v.vec }) vs))) };
+    ghost own_val = { λ e vs. fex Inside (λ v. fsep (feq (Ptr × ℕ) (v.vec.ptr, v.vec.cap) (e.ptr, block_cells e.cap)) (fwand (rooms e.ptr e.cap) (Fields.own_val (record { vec = v.vec }) vs))) };
 }
 
 impl fmt::Debug for Block {
@@ -42,7 +42,7 @@ pub(crate) fn part(
     vec: Vec<u32, Global>,
     cap: usize,
 ) -> (NumberRoom, NumberRoom, NumberRoom, ByteRoom, Block)
-    requires { (vec_len vec ≡ 0) × (vec_capacity vec ≡ block_words cap) × (0 < cap) }
+    requires { (vec_len vec ≡ 0) × (vec_capacity vec ≡ block_cells cap) × (0 < cap) }
     ensures { InBlock (vec_ptr vec) × LieAt (vec_ptr vec) cap result.0 result.1 result.2 result.3
         × (result.4.ptr ≡ vec_ptr vec) × (result.4.cap ≡ cap) }
 {
@@ -64,7 +64,7 @@ pub(crate) fn whole(
     block: Block,
 ) -> Vec<u32, Global>
     requires { LieAt block.ptr block.cap docs words places scores }
-    ensures { (vec_ptr result ≡ block.ptr) × (vec_capacity result ≡ block_words block.cap) }
+    ensures { (vec_ptr result ≡ block.ptr) × (vec_capacity result ≡ block_cells block.cap) }
 {
     let NumberRoom {} = docs;
     let NumberRoom {} = words;

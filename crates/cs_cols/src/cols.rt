@@ -8,6 +8,7 @@ use crate::rooms::{house_bytes, house_numbers, vacate_bytes, vacate_numbers};
 use cs_base::{Memory, Post};
 use std::alloc::Global;
 use std::marker::Model;
+use std::mem::replace;
 use std_alloc::vec::Lodged;
 
 // Bytes of a document, a word or a position.
@@ -94,8 +95,8 @@ impl Cols {
         if cap > MOST_POSTS {
             return Err(Memory);
         }
-        let block_words = (POST_BYTES * cap).div_ceil(NUMBER_BYTES);
-        let mut vec = Vec::with_capacity(alloc, block_words)?;
+        let cells = (POST_BYTES * cap).div_ceil(NUMBER_BYTES);
+        let mut vec = Vec::with_capacity(alloc, cells)?;
         let ptr = vec.as_mut_ptr();
         let (docs, words, places, scores, block) = part(vec, cap);
         let (second, third, fourth) = unsafe {
@@ -247,15 +248,29 @@ impl Cols {
 
 // Adds entries at the end of a column, in the memory that it has.
 #[inline]
-fn extend_column<T: Copy>(column: &mut Vec<T, Lodged>, more: &[T])
+fn extend_column<T: Copy + Drop>(column: &mut Vec<T, Lodged>, more: &[T])
     requires room { vec_len column.old + length more.now ≤ vec_capacity column.old }
 
     ensures items { column.new.items ≡ column.old.items ++ more.now }
     ensures in_place { IsInPlace column.old column.new }
 {
+    let taken = replace(column, Vec::new(Lodged));
+    *column = extended(taken, more);
+}
+
+// The column with these entries at its end. It is a local, so that no entry can lie over where it
+// begins, and the loop can become vector code.
+#[inline]
+fn extended<T: Copy>(mut column: Vec<T, Lodged>, more: &[T]) -> Vec<T, Lodged>
+    requires room { vec_len column + length more.now ≤ vec_capacity column }
+
+    ensures items { result.items ≡ column.items ++ more.now }
+    ensures in_place { IsInPlace column result }
+{
     for entry in more {
         column.push_reserved(*entry);
     }
+    column
 }
 
 // Keeps the first `n` entries, in the same memory.

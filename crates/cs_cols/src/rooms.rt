@@ -2,7 +2,7 @@
 ghost use Rattle.std.specs.Prelude.{◌≡◌, ◌*◌, ◌^◌, ◌<◌, [], ℕ};
 ghost use denote.RawPtr.{Ptr, room_for};
 ghost use Rattle.std_alloc.specs.Vec.{vec_len, vec_capacity, vec_ptr};
-ghost use Rattle.cs_cols.specs.Block.{numbers, bytes};
+ghost use Rattle.cs_cols.specs.Block.{number_column, byte_column};
 
 use std::marker::Model;
 use std_alloc::vec::{Lodged, lodge};
@@ -14,7 +14,7 @@ pub(crate) struct NumberRoom {
 }
 
 impl Model for NumberRoom {
-    ghost also_owns = { λ r. room_for (numbers r.cap) r.ptr };
+    ghost also_owns = { λ r. room_for (number_column r.cap) r.ptr };
 }
 
 // Memory for `cap` bytes at `ptr`, whatever lies there.
@@ -24,7 +24,7 @@ pub(crate) struct ByteRoom {
 }
 
 impl Model for ByteRoom {
-    ghost also_owns = { λ r. room_for (bytes r.cap) r.ptr };
+    ghost also_owns = { λ r. room_for (byte_column r.cap) r.ptr };
 }
 
 // An empty column of numbers in this room, which neither grows nor frees it.

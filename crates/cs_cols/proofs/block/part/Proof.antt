@@ -31,7 +31,7 @@ use denote.Triple.Spec.{Meets, triple_of}
 use denote.Triple.Table.{entered}
 use denote.Triple.Walked.{says, Stays, stay_dropped, walk_of, ends_at, walk_Meets}
 use Rattle.std.proofs.alloc.Calls.{Goes-blank}
-use Rattle.cs_cols.specs.Block.{rooms, block_words}
+use Rattle.cs_cols.specs.Block.{rooms, block_cells}
 use Rattle.cs_cols.specs.contracts.rooms.NumberRoom as NumberRoom
 use Rattle.cs_cols.specs.contracts.rooms.ByteRoom as ByteRoom
 use Rattle.cs_cols.specs.contracts.block.Block as Block
@@ -74,7 +74,7 @@ module _ {M : Type 1} {𝓤 : Ura M} (𝓛 : Logic 𝓤) (at_mem : Memory → SP
         let N = NumberRoom.the_row in
         let S = ByteRoom.the_row in
         let B = Block.the_row in
-        let Asked = (v.len ≡ 0) × (v.cap ≡ block_words c) × (0 < c) in
+        let Asked = (v.len ≡ 0) × (v.cap ≡ block_cells c) × (0 < c) in
         let docs : N.Denot = record { ptr = p; cap = c } in
         let words : N.Denot = record { ptr = p +ₚ 4 * c; cap = c } in
         let places : N.Denot = record { ptr = p +ₚ 8 * c; cap = c } in

@@ -27,7 +27,7 @@ use denote.Triple.Spec.{Meets, triple_of}
 use denote.Triple.Table.{entered}
 use denote.Triple.Walked.{says, Stays, stay_dropped, walk_of, ends_at, walk_Meets}
 use Rattle.std.proofs.alloc.Calls.{Goes-blank}
-use Rattle.cs_cols.specs.Block.{numbers, bytes, rooms}
+use Rattle.cs_cols.specs.Block.{number_column, byte_column, rooms}
 use Rattle.cs_cols.specs.Rooms.{LieAt}
 use Rattle.cs_cols.specs.contracts.rooms.NumberRoom as NumberRoom
 use Rattle.cs_cols.specs.contracts.rooms.ByteRoom as ByteRoom
@@ -81,8 +81,8 @@ module _ {M : Type 1} {𝓤 : Ura M} (𝓛 : Logic 𝓤) (at_mem : Memory → SP
         let e = a.1.1.1.1.0 in
         let us = vss.1.1.1.1.0 in
         let Asked = LieAt e.ptr e.cap docs words places scores in
-        let Number = λ (r : Ptr × ℕ). ‵ (room_for (numbers r.1) r.0) in
-        let Byte = λ (r : Ptr × ℕ). ‵ (room_for (bytes r.1) r.0) in
+        let Number = λ (r : Ptr × ℕ). ‵ (room_for (number_column r.1) r.0) in
+        let Byte = λ (r : Ptr × ℕ). ‵ (room_for (byte_column r.1) r.0) in
         qed 𝓛 ((raw toks ⊛ ‵ (owns (types_at ended.signature.params z.0.0) a vss)) ∷ raw (fact 𝓤 Asked) ∷ []) ∵
         move ! (1 ∷ []) $ heard ! Asked (λ asked. split ! $ move ! (1 ∷ []) $
         fsplit ! $ fsplit ! $ none_had ! vss.0 (λ is₀. move ! (1 ∷ []) $ fsplit ! $ fsplit ! $ none_had ! vss.1.0 (λ is₁. move ! (1 ∷ []) $

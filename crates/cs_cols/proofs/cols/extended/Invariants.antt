@@ -1,7 +1,7 @@
 use Rattle.std.proofs.Common.{◌≡◌, ◌+◌, ◌++◌, take}
 use Rattle.std_alloc.specs.Vec.{vec_len}
 use Rattle.cs_cols.specs.Placed.{IsInPlace}
-use Rattle.cs_cols.proofs.cols.extend_column.Given as goal
+use Rattle.cs_cols.proofs.cols.extended.Given as goal
 
 abbrev pub invariant-loop-entry : goal.invariant-loop-entry
 invariant-loop-entry g l =
