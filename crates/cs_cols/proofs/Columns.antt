@@ -2,14 +2,16 @@
 --
 --   post           the post of these four numbers
 --   columns        the posts' documents, words, positions and scores are the columns
+--   columns-back   the posts of those columns are the posts
 --   posts-length   there are as many posts as documents
 --   posts-at       the post at a place is made of the columns' entries there
 --   posts-append   more entries at the end of each column are posts at the end
 --   posts-push     an entry at the end of each column is a post at the end
+--   even-take      the first entries of even columns are even
 --   posts-take     the first entries of each column are the first posts
 use Rattle.std.proofs.Common.{◌≡◌, ℕ, zero, suc, ◌<◌, List, [], ◌∷◌, ◌++◌, length, get_or, take, refl, sym, ◌∙◌, ap, arith}
-use Rattle.std.specs.Prelude.{map}
-use Rattle.std.proofs.lemmas.List.{length-map, get_or-map}
+use Rattle.std.specs.Prelude.{map, min}
+use Rattle.std.proofs.lemmas.List.{length-map, length-take, get_or-map}
 use Rattle.cs_base.specs.declared.content.doc.Post.{Post}
 use Rattle.cs_cols.specs.Held.{posts_of, AreEven}
 
@@ -67,3 +69,12 @@ posts-take (suc n) (d ∷ ds) [] ps ss = refl
 posts-take (suc n) (d ∷ ds) (w ∷ ws) [] ss = refl
 posts-take (suc n) (d ∷ ds) (w ∷ ws) (p ∷ ps) [] = refl
 posts-take (suc n) (d ∷ ds) (w ∷ ws) (p ∷ ps) (s ∷ ss) = ap (λ l. post d w p s ∷ l) (posts-take n ds ws ps ss)
+
+pub even-take : (n : ℕ) (ds ws ps ss : List ℕ) → AreEven ds ws ps ss → AreEven (take n ds) (take n ws) (take n ps) (take n ss)
+even-take n ds ws ps ss h =
+    let same : (xs : List ℕ) → length xs ≡ length ds → length (take n xs) ≡ length (take n ds) = λ xs e. length-take n xs ∙ ap (min n) e ∙ sym (length-take n ds) in
+    (same ws h.0, same ps h.1, same ss h.2)
+
+pub columns-back : (l : List Post) → posts_of (map (λ p. p.doc) l) (map (λ p. p.word) l) (map (λ p. p.pos) l) (map (λ p. p.score) l) ≡ l
+columns-back [] = refl
+columns-back (p ∷ l) = ap (λ t. p ∷ t) (columns-back l)

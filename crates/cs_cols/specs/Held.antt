@@ -3,12 +3,7 @@
 --   Held                   posts in their order, and how many more there is room for
 --   posts_of ds ws ps ss   the posts whose documents, words, positions and scores these are; a column that is longer than another has no say behind its end
 --   AreEven ds ws ps ss    the four columns are equally long
---   HasRoom v n            a vector has memory for n more entries
---   AllHaveRoom ds ws ps ss n    each of four columns has
-use Rattle.std.specs.Prelude.{◌≡◌, ℕ, ◌+◌, ◌≤◌, List, [], ◌∷◌, length}
-use Rattle.std.specs.Vec.{vec_len, vec_capacity}
-use Rattle.std.specs.declared.vec.Vec.{Vec}
-use Rattle.std.specs.declared.alloc.Global.{Global}
+use Rattle.std.specs.Prelude.{◌≡◌, ℕ, List, [], ◌∷◌, length}
 use Rattle.cs_base.specs.declared.content.doc.Post.{Post}
 
 -- posts in their order, and how many more there is room for
@@ -24,11 +19,3 @@ posts_of _ _ _ _ = []
 -- four columns of equal length
 abbrev pub AreEven : List ℕ → List ℕ → List ℕ → List ℕ → Type 0
 AreEven ds ws ps ss = (length ws ≡ length ds) × (length ps ≡ length ds) × (length ss ≡ length ds)
-
--- memory for n more entries
-abbrev pub HasRoom : Vec ℕ Global → ℕ → Type 0
-HasRoom v n = vec_len v + n ≤ vec_capacity v
-
--- each of four columns has memory for n more entries
-abbrev pub AllHaveRoom : Vec ℕ Global → Vec ℕ Global → Vec ℕ Global → Vec ℕ Global → ℕ → Type 0
-AllHaveRoom ds ws ps ss n = HasRoom ds n × HasRoom ws n × HasRoom ps n × HasRoom ss n

@@ -1,1 +1,4 @@
+pub mod Block
 pub mod Held
+pub mod Placed
+pub mod Rooms

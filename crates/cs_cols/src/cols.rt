@@ -1,30 +1,71 @@
 //! The columns and their calls.
 ghost use Rattle.std.specs.Prelude.{◌≡◌, ◌+◌, ◌≤◌, ◌<◌, ◌^◌, [], ◌∷◌, ◌++◌, length, map, take, slice_index_or, IfOk, OnOk, OnErr};
-ghost use Rattle.std.specs.Vec.{vec_len, vec_capacity};
+ghost use Rattle.std_alloc.specs.Vec.{vec_len, vec_capacity};
+ghost use Rattle.cs_cols.specs.Placed.{IsInPlace};
 
+use crate::block::{Block, part, whole};
+use crate::rooms::{house_bytes, house_numbers, vacate_bytes, vacate_numbers};
 use cs_base::{Memory, Post};
 use std::alloc::Global;
 use std::marker::Model;
+use std::mem::replace;
+use std_alloc::vec::Lodged;
+
+// Bytes of a document, a word or a position.
+const NUMBER_BYTES: usize = 4;
+
+// Bytes of a post: three numbers, and a score of one byte.
+const POST_BYTES: usize = 3 * NUMBER_BYTES + 1;
+
+// Posts whose bytes can be counted.
+const MOST_POSTS: usize = isize::MAX as usize / POST_BYTES;
+
+// Posts that the first memory is for, at least.
+const FIRST_POSTS: usize = 4;
 
 /// Posts in columns, which contracts see as the list of the posts and the spare room.
-#[derive(Debug, Drop)]
+#[derive(Debug)]
 pub struct Cols {
-    docs: Vec<u32>,
-    words: Vec<u32>,
-    places: Vec<u32>,
-    scores: Vec<u8>,
-    // how many more posts each column has memory for
-    room: usize,
+    alloc: Global,
+    docs: Vec<u32, Lodged>,
+    words: Vec<u32, Lodged>,
+    places: Vec<u32, Lodged>,
+    scores: Vec<u8, Lodged>,
+    // the memory that the columns lie in, if there is any
+    block: Option<Block>,
 }
 
 impl Model for Cols {
-    ghost use Rattle.cs_cols.specs.Held.{Held, posts_of, AreEven, AllHaveRoom};
+    ghost use Rattle.std.specs.Prelude.{◌-◌};
+    ghost use Rattle.std_alloc.specs.Vec.{vec_len, vec_capacity};
+    ghost use Rattle.cs_cols.specs.Held.{Held, posts_of, AreEven};
+    ghost use Rattle.cs_cols.specs.Placed.{ArePlaced};
 
     ghost Value = { Held };
 
-    ghost view = { λ c. record { posts = posts_of c.docs.items c.words.items c.places.items c.scores.items; room = c.room } };
+    ghost view = { λ c. record { posts = posts_of c.docs.items c.words.items c.places.items c.scores.items; room = vec_capacity c.docs - vec_len c.docs } };
 
-    ghost invariant = { λ c. AreEven c.docs.items c.words.items c.places.items c.scores.items × AllHaveRoom c.docs c.words c.places c.scores c.room };
+    ghost invariant = { λ c. AreEven c.docs.items c.words.items c.places.items c.scores.items × ArePlaced c.docs c.words c.places c.scores c.block };
+}
+
+impl Drop for Cols {
+    fn drop(self) {
+        let Cols {
+            alloc: _,
+            docs,
+            words,
+            places,
+            scores,
+            block,
+        } = self;
+        if let Some(block) = block {
+            let docs = vacate_numbers(docs);
+            let words = vacate_numbers(words);
+            let places = vacate_numbers(places);
+            let scores = vacate_bytes(scores);
+            drop(whole(docs, words, places, scores, block));
+        }
+    }
 }
 
 impl Cols {
@@ -35,12 +76,44 @@ impl Cols {
         ensures { result.posts ≡ [] }
     {
         Cols {
-            docs: Vec::new(alloc),
-            words: Vec::new(alloc),
-            places: Vec::new(alloc),
-            scores: Vec::new(alloc),
-            room: 0,
+            alloc,
+            docs: Vec::new(Lodged),
+            words: Vec::new(Lodged),
+            places: Vec::new(Lodged),
+            scores: Vec::new(Lodged),
+            block: None,
         }
+    }
+
+    // No posts, in memory for `cap`.
+    fn with_capacity(alloc: Global, cap: usize) -> Result<Cols, Memory>
+        ensures { IfOk result (λ c. (c.posts ≡ []) × (cap ≤ c.room)) }
+    {
+        if cap == 0 {
+            return Ok(Cols::new(alloc));
+        }
+        if cap > MOST_POSTS {
+            return Err(Memory);
+        }
+        let cells = (POST_BYTES * cap).div_ceil(NUMBER_BYTES);
+        let mut vec = Vec::with_capacity(alloc, cells)?;
+        let ptr = vec.as_mut_ptr();
+        let (docs, words, places, scores, block) = part(vec, cap);
+        let (second, third, fourth) = unsafe {
+            (
+                ptr.byte_add(NUMBER_BYTES * cap),
+                ptr.byte_add(2 * NUMBER_BYTES * cap),
+                ptr.byte_add(3 * NUMBER_BYTES * cap),
+            )
+        };
+        Ok(Cols {
+            alloc,
+            docs: house_numbers(ptr, cap, docs),
+            words: house_numbers(second, cap, words),
+            places: house_numbers(third, cap, places),
+            scores: house_bytes(fourth, cap, scores),
+            block: Some(block),
+        })
     }
 
     /// How many posts there are.
@@ -102,17 +175,9 @@ impl Cols {
     pub fn copy(&self, alloc: Global) -> Result<Cols, Memory>
         ensures { IfOk result (λ c. c.posts ≡ self.now.posts) }
     {
-        let docs = Vec::from_slice(alloc, self.docs.as_slice())?;
-        let words = Vec::from_slice(alloc, self.words.as_slice())?;
-        let places = Vec::from_slice(alloc, self.places.as_slice())?;
-        let scores = Vec::from_slice(alloc, self.scores.as_slice())?;
-        Ok(Cols {
-            docs,
-            words,
-            places,
-            scores,
-            room: 0,
-        })
+        let mut copy = Cols::with_capacity(alloc, self.len())?;
+        copy.extend_reserved(self.docs(), self.words(), self.places(), self.scores());
+        Ok(copy)
     }
 
     /// Makes room for `n` more posts.
@@ -122,11 +187,21 @@ impl Cols {
         ensures posts { self.new.posts ≡ self.old.posts }
         ensures room { self.old.room ≤ self.new.room }
     {
-        self.docs.reserve(n)?;
-        self.words.reserve(n)?;
-        self.places.reserve(n)?;
-        self.scores.reserve(n)?;
-        self.room = self.room.max(n);
+        let len = self.docs.len();
+        let cap = self.docs.capacity();
+        if n <= cap - len {
+            return Ok(());
+        }
+        let Some(wanted) = len.checked_add(n) else {
+            return Err(Memory);
+        };
+        let cap = cap
+            .saturating_mul(2)
+            .clamp(FIRST_POSTS, MOST_POSTS)
+            .max(wanted);
+        let mut more = Cols::with_capacity(self.alloc, cap)?;
+        more.extend_reserved(self.docs(), self.words(), self.places(), self.scores());
+        *self = more;
         Ok(())
     }
 
@@ -142,7 +217,6 @@ impl Cols {
         self.words.push_reserved(p.word);
         self.places.push_reserved(p.pos);
         self.scores.push_reserved(p.score);
-        self.room -= 1;
     }
 
     /// Adds the posts whose columns these are at the end, in the room that there is. It takes no memory.
@@ -158,7 +232,6 @@ impl Cols {
         extend_column(&mut self.words, words);
         extend_column(&mut self.places, places);
         extend_column(&mut self.scores, scores);
-        self.room -= docs.len();
     }
 
     /// Keeps the first `n` posts, all where there are fewer.
@@ -166,24 +239,46 @@ impl Cols {
         ensures posts { self.new.posts ≡ take n self.old.posts }
         ensures room { self.old.room ≤ self.new.room }
     {
-        self.docs.truncate(n);
-        self.words.truncate(n);
-        self.places.truncate(n);
-        self.scores.truncate(n);
+        truncate_column(&mut self.docs, n);
+        truncate_column(&mut self.words, n);
+        truncate_column(&mut self.places, n);
+        truncate_column(&mut self.scores, n);
     }
 }
 
-// Adds entries at the end of a column that has memory for them.
+// Adds entries at the end of a column, in the memory that it has.
 #[inline]
-fn extend_column<T: Copy>(column: &mut Vec<T>, more: &[T])
+fn extend_column<T: Copy + Drop>(column: &mut Vec<T, Lodged>, more: &[T])
     requires room { vec_len column.old + length more.now ≤ vec_capacity column.old }
 
     ensures items { column.new.items ≡ column.old.items ++ more.now }
-    ensures len { vec_len column.new ≡ vec_len column.old + length more.now }
-    ensures capacity { vec_capacity column.old ≤ vec_capacity column.new }
+    ensures in_place { IsInPlace column.old column.new }
 {
-    match column.extend_from_slice(more) {
-        Ok(()) => (),
-        Err(_) => unreachable!(),
+    let taken = replace(column, Vec::new(Lodged));
+    *column = extended(taken, more);
+}
+
+// The column with these entries at its end. It is a local, so that no entry can lie over where it
+// begins, and the loop can become vector code.
+#[inline]
+fn extended<T: Copy>(mut column: Vec<T, Lodged>, more: &[T]) -> Vec<T, Lodged>
+    requires room { vec_len column + length more.now ≤ vec_capacity column }
+
+    ensures items { result.items ≡ column.items ++ more.now }
+    ensures in_place { IsInPlace column result }
+{
+    for entry in more {
+        column.push_reserved(*entry);
+    }
+    column
+}
+
+// Keeps the first `n` entries, in the same memory.
+fn truncate_column<T: Copy>(column: &mut Vec<T, Lodged>, n: usize)
+    ensures items { column.new.items ≡ take n column.old.items }
+    ensures in_place { IsInPlace column.old column.new }
+{
+    while n < column.len() {
+        column.take_last();
     }
 }

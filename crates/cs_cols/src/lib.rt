@@ -4,7 +4,9 @@
 //! can still take without asking for memory. How the columns lie in memory is in no clause.
 #![tactic(auto)]
 
+mod block;
 mod cols;
+mod rooms;
 #[cfg(test)]
 mod tests;
 
