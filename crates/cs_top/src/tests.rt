@@ -1,5 +1,6 @@
 //! What no clause says: that with memory at hand worked scripts have these replies, and how the lines read.
 mod failing;
+mod tired;
 
 use crate::run;
 use cs_base::{Files, MemFiles, MemSink, Memory, ScriptHub, Scripted, Seq};
