@@ -78,7 +78,7 @@ impl Reading {
         ensures still { (k : Corpus) → A.answers answerer.old k → A.answers answerer.new k }
         ensures lent { A.lent answerer.new ≡ A.lent answerer.old }
         ensures later { A.faults answerer.old ≤ A.faults answerer.new }
-        ensures calm { Calm (H.state hub.old) (H.state hub.new) (H.faults hub.old) (H.faults hub.new) (H.talk hub.old) (H.talk hub.new) }
+        ensures calm { Calm (H.state hub.old) (H.state hub.new) (H.faults hub.old) (H.faults hub.new) (H.send_faults hub.old) (H.send_faults hub.new) (H.talk hub.old) (H.talk hub.new) }
     {
         let held = self.unread.len();
         match self.look(rest) {
@@ -113,7 +113,7 @@ impl Reading {
         requires seen { IsOpen (self.old ++ rest.now) seen }
 
         ensures held { IsHeld conn self.old rest.now result self.new (H.talk hub.old) (H.talk hub.new) }
-        ensures calm { Calm (H.state hub.old) (H.state hub.new) (H.faults hub.old) (H.faults hub.new) (H.talk hub.old) (H.talk hub.new) }
+        ensures calm { Calm (H.state hub.old) (H.state hub.new) (H.faults hub.old) (H.faults hub.new) (H.send_faults hub.old) (H.send_faults hub.new) (H.talk hub.old) (H.talk hub.new) }
     {
         match self.unread.extend_from_slice(rest) {
             Ok(()) => {
@@ -147,7 +147,7 @@ impl Reading {
         ensures still { (k : Corpus) → A.answers answerer.old k → A.answers answerer.new k }
         ensures lent { A.lent answerer.new ≡ A.lent answerer.old }
         ensures later { A.faults answerer.old ≤ A.faults answerer.new }
-        ensures calm { Calm (H.state hub.old) (H.state hub.new) (H.faults hub.old) (H.faults hub.new) (H.talk hub.old) (H.talk hub.new) }
+        ensures calm { Calm (H.state hub.old) (H.state hub.new) (H.faults hub.old) (H.faults hub.new) (H.send_faults hub.old) (H.send_faults hub.new) (H.talk hub.old) (H.talk hub.new) }
     {
         if self.unread.extend_from_slice(end).is_err() {
             starve(hub, conn);
@@ -165,7 +165,7 @@ fn send<H: Hub>(alloc: Global, hub: &mut H, conn: u32, answer: Result<Answer, Me
     requires live { IsLive (H.state hub.old) conn }
 
     ensures sent { IsSent conn answer result (H.talk hub.old) (H.talk hub.new) }
-    ensures calm { Calm (H.state hub.old) (H.state hub.new) (H.faults hub.old) (H.faults hub.new) (H.talk hub.old) (H.talk hub.new) }
+    ensures calm { Calm (H.state hub.old) (H.state hub.new) (H.faults hub.old) (H.faults hub.new) (H.send_faults hub.old) (H.send_faults hub.new) (H.talk hub.old) (H.talk hub.new) }
 {
     match answer {
         Ok(answer) => deliver(alloc, hub, conn, &answer),
@@ -181,7 +181,7 @@ fn refuse<H: Hub>(alloc: Global, hub: &mut H, conn: u32)
     requires live { IsLive (H.state hub.old) conn }
 
     ensures refused { IsRefused conn (H.talk hub.old) (H.talk hub.new) }
-    ensures calm { Calm (H.state hub.old) (H.state hub.new) (H.faults hub.old) (H.faults hub.new) (H.talk hub.old) (H.talk hub.new) }
+    ensures calm { Calm (H.state hub.old) (H.state hub.new) (H.faults hub.old) (H.faults hub.new) (H.send_faults hub.old) (H.send_faults hub.new) (H.talk hub.old) (H.talk hub.new) }
 {
     match answer_too_long(alloc) {
         Ok(answer) => {
