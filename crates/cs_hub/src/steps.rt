@@ -54,7 +54,7 @@ impl Core {
         ensures lighter { Lightens event self.old self.new }
 
         // How much is read for the requests that are answered, over every store and hub.
-        ensures reads { AnswersWithin (S.bytes store.old) (goes_on self.new event) (requests_on (bytes_to_answer self.old event piece.now)) engine.old engine.new (S.reads store.old) (S.reads store.new) (S.faults store.old) (S.faults store.new) (SentAt event (H.talk hub.old) (H.talk hub.new)) }
+        ensures reads { AnswersWithin (S.bytes store.old) (goes_on self.new event) (requests_on (bytes_to_answer self.old event piece.now)) engine.old engine.new (S.reads store.old) (S.reads store.new) (S.faults store.old) (S.faults store.new) (SentAt event (bytes_to_answer self.old event piece.now) (H.talk hub.old) (H.talk hub.new)) }
 
         ensures index { engine.new.index ≡ engine.old.index }
         ensures capacity { engine.new.answers.capacity ≡ engine.old.answers.capacity }
@@ -88,7 +88,7 @@ impl Core {
         ensures breaks { BreaksBy (H.send_faults hub.old) (H.send_faults hub.new) (H.talk hub.old) (H.talk hub.new) }
         ensures orderly { IsOrderly (H.state hub.old) (H.talk hub.old) → IsOrderly (H.state hub.new) (H.talk hub.new) }
         ensures lighter { Lightens event self.old self.new }
-        ensures asked { AsksAsSent A.leaves (goes_on self.new event) (requests_on (bytes_to_answer self.old event piece.now)) (A.kept answerer.old) (A.kept answerer.new) (SentAt event (H.talk hub.old) (H.talk hub.new)) }
+        ensures asked { AsksAsSent A.leaves (goes_on self.new event) (requests_on (bytes_to_answer self.old event piece.now)) (A.kept answerer.old) (A.kept answerer.new) (SentAt event (bytes_to_answer self.old event piece.now) (H.talk hub.old) (H.talk hub.new)) }
         ensures still { (k : Corpus) → A.answers answerer.old k → A.answers answerer.new k }
         ensures lent { A.lent answerer.new ≡ A.lent answerer.old }
         ensures later { A.faults answerer.old ≤ A.faults answerer.new }
@@ -137,7 +137,7 @@ impl Core {
         ensures breaks { BreaksBy (H.send_faults hub.old) (H.send_faults hub.new) (H.talk hub.old) (H.talk hub.new) }
         ensures orderly { IsOrderly (H.state hub.old) (H.talk hub.old) → IsOrderly (H.state hub.new) (H.talk hub.new) }
         ensures lighter { Lightens (Event.Piece conn (length piece.now)) self.old self.new }
-        ensures asked { AsksAsSent A.leaves (is_some (left_at self.new conn)) (requests_on (bytes_behind (left_at self.old conn) piece.now)) (A.kept answerer.old) (A.kept answerer.new) (SentBefore conn (H.talk hub.old) (H.talk hub.new)) }
+        ensures asked { AsksAsSent A.leaves (is_some (left_at self.new conn)) (requests_on (bytes_behind (left_at self.old conn) piece.now)) (A.kept answerer.old) (A.kept answerer.new) (SentBefore conn (bytes_behind (left_at self.old conn) piece.now) (H.talk hub.old) (H.talk hub.new)) }
         ensures still { (k : Corpus) → A.answers answerer.old k → A.answers answerer.new k }
         ensures lent { A.lent answerer.new ≡ A.lent answerer.old }
         ensures later { A.faults answerer.old ≤ A.faults answerer.new }
