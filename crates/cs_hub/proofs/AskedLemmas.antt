@@ -1,23 +1,29 @@
 -- What is asked, from one request to all those of a step.
 --
---   requests_both, requests_length, requests_few     the requests of answers; those of a head are one or none
+--   requests_both, requests_length      the requests of answers
 --   some_said, some_starved, some_delivered, some_refused      what was sent, whatever it was
 --   replied_open                  where the connection goes on a whole response was sent
---   before_one, want_by, memory_both      what was sent for one request, and want of memory
+--   before_none, want_before      nothing was asked: there was no head, or no memory
+--   want_for, sent_for            what was sent for one head
+--   before_stop                   a head behind which the connection is to be closed
+--   asked_both, enough_both, memory_both      heads behind heads
 --   in_turn_both                  requests behind requests
 --   asks_none, asks_nothing, asks_one, asks_whole, asks_less, asks_no_bytes      none, none of none, one; where less is claimed; none of no bytes
 --   asks_params, refused_params, asks_head, refused_head      what parameters and a head ask
---   along_start, along_next, along_hold, along_stop    the way through the bytes
---   asks_few, asks_sent           one head asks at most one request
+--   asks_below, asks_all, asks_sent, starved_for      how many answers there are; what was asked for one head, by what was sent
 --   turned_goes, turned_stops     a head was answered
---   nothing_stops, turned_held, turned_long      nothing was asked; no head ends there
+--   turned_held, turned_long      no head ends there
+--   along_start, along_next, along_hold, along_stop    the way through the bytes
 --   asks_counted, asks_of_line    the bytes of a piece that count, and of a connection that is kept
 --   sent_open, refused_close      what is known of a response by what was sent
 --   few_titles, read_in           one answer of an engine
 --   standing, stands_so           how an engine stands
 --   within_due, within_for        an engine asked so reads no more than is due
-use Rattle.std.proofs.Common.{◌≡◌, ℕ, ◌+◌, ◌-◌, ◌≤◌, Bool, true, false, List, [], ◌∷◌, ◌++◌, length, take, drop, slice_range, refl, sym, ◌∙◌, ap, subst, arith, append_assoc, append-nil, inl, inr, length-append}
-use Rattle.std.specs.Prelude.{◌⊎◌, suc, ◌<◌, cond, slice_set, is_some, Option, Some, None, Result, Ok, Err, IfOk, is_ok}
+use Rattle.std.proofs.Common.{◌≡◌, ℕ, ◌+◌, ◌-◌, ◌≤◌, Bool, true, false, List, [], ◌∷◌, ◌++◌, length, take, drop, slice_range, refl, sym, ◌∙◌, ap, ap₂, subst, arith, append_assoc, append-nil, inl, inr, length-append}
+use Rattle.std.specs.Prelude.{◌⊎◌, suc, ◌<◌, not, cond, slice_set, is_some, Option, Some, None, Result, Ok, Err, IfOk, is_ok}
+use Rattle.std.proofs.Math.Seq.{take-append-add}
+use Rattle.std.proofs.lemmas.Grind.{flat_map-append}
+use Rattle.std.proofs.lemmas.List.{take_all}
 use Rattle.std.proofs.lemmas.List.Elements.{All-append, All-cons, All-nil}
 use Rattle.std.specs.FinMap as map
 use Rattle.cs_base.specs.declared.content.limits.TheConstants.{MAX_CONNECTION_BYTES}
@@ -45,8 +51,8 @@ use Rattle.cs_model_serving.specs.Heads.{Judgement, refused, asks, judge}
 use Rattle.cs_model_serving.specs.Responses.{Response, all_bytes, memory_bytes, response_bytes, too_long}
 use Rattle.cs_query.specs.declared.request.ReqFault.{ReqFault}
 use Rattle.cs_query.specs.declared.request.ReqFault.TheVariants as faults
-use Rattle.cs_hub.specs.Asked.{InTurn, AsksOf, AsksAsSent, AsksAlong, AsksBy, Standing, EngineLeaves}
-use Rattle.cs_hub.specs.DueReads.{Answered, AnswersWithin, AreDue, HasMemory, SentBefore, bytes_behind, closes_behind, read_failures, is_want, reply_in, requests_by, requests_in, requests_of, requests_on}
+use Rattle.cs_hub.specs.Asked.{InTurn, AsksOf, AsksAsSent, AsksAlong, AsksBy, SentFor, Standing, EngineLeaves}
+use Rattle.cs_hub.specs.DueReads.{Answered, AnswersWithin, AreDue, HasMemory, SentBefore, bytes_behind, closes_behind, heads_on, read_failures, is_want, reply_in, requests_by, requests_in, requests_of, requests_on, requests_to}
 use Rattle.cs_hub.specs.Following.{Slots, left_at}
 use Rattle.cs_hub.specs.Responding.{response, IsJudgedSo}
 use Rattle.cs_hub.specs.Speaking.{Said, Spoke, Starved}
@@ -55,7 +61,7 @@ use Rattle.cs_hub.specs.Turns.{Delivered, IsHeld, IsRefused, IsSent, Replied}
 use Rattle.cs_hub.specs.declared.answer.Answer.{Answer}
 use Rattle.cs_hub.specs.declared.reading.Turn.{Turn}
 use Rattle.cs_hub.specs.declared.reading.Turn.TheVariants as turns
-use Rattle.cs_hub.proofs.HeadsLemmas.{closes_by, requests-more, requests-head, requests-goes_on, requests-none}
+use Rattle.cs_hub.proofs.HeadsLemmas.{closes_by, heads-closes, heads-goes_on, heads-head, heads-long, heads-more, requests-none}
 use Rattle.cs_hub.proofs.ServedLemmas.{bytes_both}
 use Rattle.cs_hub.proofs.SpeakLemmas.{itself, rose_both, rose_none, rose_one, spoke_both, spoke_nothing}
 use Rattle.cs_hub.proofs.SlotLemmas.{set_at}
@@ -69,14 +75,6 @@ requests_both (x ∷ xs) ys = ap (λ l. x.0 ∷ l) (requests_both xs ys)
 pub requests_length : (xs : List Answered) → length (requests_of xs) ≡ length xs
 requests_length [] = refl
 requests_length (a ∷ xs) = ap suc (requests_length xs)
-
-few_by : (p : List ℕ) (r : Option RequestRefusal) → length (requests_by p r) ≤ 1
-few_by p None = omega arith
-few_by p (Some r) = omega arith
-
-pub requests_few : (j : Judgement) → length (requests_in j) ≤ 1
-requests_few (refused r) = omega arith
-requests_few (asks p close) = few_by p (request_refusal p)
 
 -- ---- what was sent
 -- something was sent on the connection, whole or not, perhaps nothing
@@ -108,17 +106,70 @@ pub replied_open : (Over : Corpus → Type 0) (c : ℕ) (right : Corpus → Resp
 replied_open Over c right goes m n talk talk' on (inl h) = (h.0, whole_by c h.0 goes talk talk' h.2 on)
 replied_open Over c right goes m n talk talk' on (inr h) = absurd (let x : true ≡ false = sym on ∙ h.0 in cc)
 
--- of one request nothing is said about responses, only of memory
-before_one : (c : ℕ) (talk talk' : Option Talk) (xs : List Answered) → length xs ≤ 1 → HasMemory xs → Some_said c talk talk' → SentBefore c talk talk' xs
-before_one c talk talk' xs few memory h = record { sent = []; part = h.0; fails = h.1; spoke = h.2; enough = omega (arith, few); memory = inl memory }
+-- nothing is asked where there is no head
+before_none : (c : ℕ) (b : List ℕ) (talk talk' : Option Talk) → heads_on b ≡ [] → Some_said c talk talk' → SentBefore c b talk talk' []
+before_none c b talk talk' none h = record {
+  sent = [];
+  part = h.0;
+  fails = h.1;
+  spoke = h.2;
+  enough = omega arith;
+  all = inl (All-nil (λ (a : Answered). is_want a.1 ≡ false), sym (ap (λ l. length (requests_to l)) none));
+}
 
-want_by : (c : ℕ) (whole : Bool) (talk talk' : Option Talk) (xs : List Answered) → length xs ≤ 1 → Said c memory_bytes whole talk talk' → SentBefore c talk talk' xs
-want_by c true talk talk' xs few h = record { sent = []; part = memory_bytes; fails = false; spoke = h; enough = omega (arith, few); memory = inr (inr refl) }
-want_by c false talk talk' xs few h = record { sent = []; part = take h.0 memory_bytes; fails = true; spoke = h.1; enough = omega (arith, few); memory = inr (inl refl) }
+want_before : (c : ℕ) (b : List ℕ) (whole : Bool) (talk talk' : Option Talk) → Said c memory_bytes whole talk talk' → SentBefore c b talk talk' []
+want_before c b true talk talk' h = record { sent = []; part = memory_bytes; fails = false; spoke = h; enough = omega arith; all = inr (inr refl) }
+want_before c b false talk talk' h = record { sent = []; part = take h.0 memory_bytes; fails = true; spoke = h.1; enough = omega arith; all = inr (inl refl) }
 
-memory_both : (xs ys : List Answered) (P : Type 0) → HasMemory xs → HasMemory ys ⊎ P → HasMemory (xs ++ ys) ⊎ P
-memory_both xs ys P h (inl k) = inl (All-append (λ (a : Answered). is_want a.1 ≡ false) xs ys h k)
-memory_both xs ys P h (inr p) = inr p
+-- ---- one head
+want_for : (c : ℕ) (goes : Bool) (h : List ℕ) (whole : Bool) (talk talk' : Option Talk) (xs : List Answered) → Said c memory_bytes whole talk talk' → SentFor c goes h talk talk' xs
+want_for c goes h true talk talk' xs said = record { part = memory_bytes; fails = false; spoke = said; all = inr (inr refl) }
+want_for c goes h false talk talk' xs said = record { part = take said.0 memory_bytes; fails = true; spoke = said.1; all = inr (inl refl) }
+
+sent_for : (c : ℕ) (r : Response) (goes : Bool) (h : List ℕ) (talk talk' : Option Talk) (xs : List Answered) → HasMemory xs → length xs ≡ length (requests_in (judge h)) → r.closes ≡ closes_behind (judge h) → Delivered c r goes talk talk' → SentFor c goes h talk talk' xs
+sent_for c r true h talk talk' xs memory all closes d = record { part = response_bytes r; fails = false; spoke = d.1; all = inl (memory, all, sym closes ∙ d.0) }
+sent_for c r false h talk talk' xs memory all closes (inl d) = record { part = response_bytes r; fails = false; spoke = d.1; all = inl (memory, all, sym closes ∙ d.0) }
+sent_for c r false h talk talk' xs memory all closes (inr (inl d)) = record { part = take d.0 (response_bytes r); fails = true; spoke = d.1; all = inr (inl refl) }
+sent_for c r false h talk talk' xs memory all closes (inr (inr s)) = want_for c false h s.0 talk talk' xs s.1
+
+-- the first head, behind which the connection is to be closed
+all_stop : (c : ℕ) (goes : Bool) (h b : List ℕ) (talk talk' : Option Talk) (xs : List Answered) (P : Type 0) → goes ≡ false → (closes_behind (judge h) ≡ true → heads_on b ≡ h ∷ [])
+    → (HasMemory xs × (length xs ≡ length (requests_in (judge h))) × (closes_behind (judge h) ≡ not goes)) ⊎ P → (HasMemory xs × (length xs ≡ length (requests_on b))) ⊎ P
+all_stop c goes h b talk talk' xs P off alone (inl k) =
+    let one = alone (k.2 ∙ ap not off) in
+    inl (k.0, k.1 ∙ sym (ap length (append-nil (requests_in (judge h)))) ∙ sym (ap (λ l. length (requests_to l)) one))
+all_stop c goes h b talk talk' xs P off alone (inr p) = inr p
+
+before_stop : (c : ℕ) (goes : Bool) (h b : List ℕ) (later : List (List ℕ)) (talk talk' : Option Talk) (xs : List Answered) → goes ≡ false → length xs ≤ length (requests_in (judge h)) → heads_on b ≡ h ∷ later → (closes_behind (judge h) ≡ true → heads_on b ≡ h ∷ []) → SentFor c goes h talk talk' xs
+    → SentBefore c b talk talk' xs
+before_stop c goes h b later talk talk' xs off few is alone s = record {
+  sent = [];
+  part = s.part;
+  fails = s.fails;
+  spoke = s.spoke;
+  enough = let first = ap (λ l. length (requests_to (take 1 l))) is in let one = ap length (append-nil (requests_in (judge h))) in omega (arith, few, first, one);
+  all = all_stop c goes h b talk talk' xs ((s.fails ≡ true) ⊎ (s.part ≡ memory_bytes)) off alone s.all;
+}
+
+-- ---- heads behind heads
+asked_both : (hs ks : List (List ℕ)) → requests_to (hs ++ ks) ≡ requests_to hs ++ requests_to ks
+asked_both hs ks = flat_map-append (λ h. requests_in (judge h)) hs ks
+
+enough_both : (hs left all : List (List ℕ)) (xs ys : List Answered) (m n total : ℕ) → all ≡ hs ++ left → requests_to hs ≡ requests_of xs → length hs ≡ m → total ≡ m + n → length ys ≤ length (requests_to (take (n + 1) left))
+    → length (xs ++ ys) ≤ length (requests_to (take (total + 1) all))
+enough_both hs left all xs ys m n total cut asked each sum few =
+    let first : take (total + 1) all ≡ hs ++ take (n + 1) left =
+    ap (take (total + 1)) cut ∙ ap (λ i. take i (hs ++ left)) (let e : total + 1 ≡ length hs + (n + 1) = omega (arith, each, sum) in e) ∙ take-append-add hs left (n + 1) in
+    let whole : length (requests_to (take (total + 1) all)) ≡ length (requests_to hs) + length (requests_to (take (n + 1) left)) =
+    ap (λ l. length (requests_to l)) first ∙ ap length (asked_both hs (take (n + 1) left)) ∙ length-append (requests_to hs) (requests_to (take (n + 1) left)) in
+    let front : length (requests_to hs) ≡ length xs = ap length asked ∙ requests_length xs in
+    omega (arith, whole, front, few, length-append xs ys)
+
+memory_both : (xs ys : List Answered) (b left : List ℕ) (P : Type 0) → requests_on b ≡ requests_of xs ++ requests_on left → HasMemory xs → (HasMemory ys × (length ys ≡ length (requests_on left))) ⊎ P → (HasMemory (xs ++ ys) × (length (xs ++ ys) ≡ length (requests_on b))) ⊎ P
+memory_both xs ys b left P cut h (inl k) =
+    let count : length (xs ++ ys) ≡ length (requests_on b) = omega (arith, length-append xs ys, requests_length xs, k.1, ap length cut, length-append (requests_of xs) (requests_on left)) in
+    inl (All-append (λ (a : Answered). is_want a.1 ≡ false) xs ys h k.0, count)
+memory_both xs ys b left P cut h (inr p) = inr p
 
 -- nothing follows from what can't be
 pub by_nothing : (P : Type 0) → false ≡ true → P
@@ -164,8 +215,12 @@ module _ {K : Type 0} (Leaves : K → Request → Result Reply AskFault → K �
   asks_no_bytes whole s Sent h = subst (λ l. AsksAsSent Leaves whole l s s Sent) (sym requests-none) (record { asks = asks_nothing whole s; sent = h })
 
   -- no more answers than requests
-  pub asks_few : (whole : Bool) (qs : List Request) (s t : K) (a : AsksOf Leaves whole qs s t) → length qs ≤ 1 → length a.answered ≤ 1
-  asks_few whole qs s t a h = omega (arith, h, ap length a.cut, length-append (requests_of a.answered) a.later, requests_length a.answered)
+  asks_below : (whole : Bool) (qs : List Request) (s t : K) (a : AsksOf Leaves whole qs s t) → length a.answered ≤ length qs
+  asks_below whole qs s t a = omega (arith, ap length a.cut, length-append (requests_of a.answered) a.later, requests_length a.answered)
+
+  -- as many where all were asked
+  asks_all : (qs : List Request) (s t : K) (a : AsksOf Leaves true qs s t) → length a.answered ≡ length qs
+  asks_all qs s t a = omega (arith, ap length a.cut, length-append (requests_of a.answered) a.later, requests_length a.answered, ap length (a.all refl).0)
 
   -- ---- parameters and heads
   pub asks_params : (whole : Bool) (p : List ℕ) (q : Request) (s t : K) → request_refusal p ≡ None → q ≡ request_of p → AsksOf Leaves whole (q ∷ []) s t → AsksOf Leaves whole (requests_by p (request_refusal p)) s t
@@ -200,19 +255,24 @@ module _ {K : Type 0} (Leaves : K → Request → Result Reply AskFault → K �
   refused_head j heads.Memory result s cause h = for_memory result (requests_in j) s (never (heads.Memory ≡ heads.Memory → ⊥) result (λ f. f refl) h)
 
   -- what was sent of one head's response
-  pub asks_sent : (c : ℕ) (answer : Result Answer Memory) (goes : Bool) (qs : List Request) (s t : K) (talk talk' : Option Talk) → length qs ≤ 1 → IsSent c answer goes talk talk' → AsksOf Leaves (is_ok answer) qs s t → AsksAsSent Leaves goes qs s t (SentBefore c talk talk')
-  asks_sent c (Ok x) goes qs s t talk talk' few h a = record {
-    asks = asks_whole true goes qs s t (λ e. refl) a;
-    sent = before_one c talk talk' a.answered (asks_few true qs s t a few) (a.all refl).1 (some_delivered c (response x) goes talk talk' h);
+  pub asks_sent : (c : ℕ) (answer : Result Answer Memory) (goes : Bool) (h : List ℕ) (s t : K) (talk talk' : Option Talk) → IfOk answer (λ a. a.close ≡ closes_behind (judge h)) → IsSent c answer goes talk talk' → AsksOf Leaves (is_ok answer) (requests_in (judge h)) s t
+      → AsksAsSent Leaves goes (requests_in (judge h)) s t (SentFor c goes h talk talk')
+  asks_sent c (Ok x) goes h s t talk talk' closes sent a = record {
+    asks = asks_whole true goes (requests_in (judge h)) s t (λ e. refl) a;
+    sent = sent_for c (response x) goes h talk talk' a.answered (a.all refl).1 (asks_all (requests_in (judge h)) s t a) closes sent;
   }
-  asks_sent c (Err e) goes qs s t talk talk' few h a = record {
-    asks = asks_whole false goes qs s t (λ on. sym h.0 ∙ on) a;
-    sent = want_by c h.1.0 talk talk' a.answered (asks_few false qs s t a few) h.1.1;
+  asks_sent c (Err e) goes h s t talk talk' closes sent a = record {
+    asks = asks_whole false goes (requests_in (judge h)) s t (λ on. sym sent.0 ∙ on) a;
+    sent = want_for c goes h sent.1.0 talk talk' a.answered sent.1.1;
   }
+
+  -- no memory was there for its bytes
+  pub starved_for : (c : ℕ) (goes : Bool) (h : List ℕ) (s : K) (talk talk' : Option Talk) → Starved c talk talk' → AsksAsSent Leaves false (requests_in (judge h)) s s (SentFor c goes h talk talk')
+  starved_for c goes h s talk talk' starved = record { asks = asks_none (requests_in (judge h)) s; sent = want_for c goes h starved.0 talk talk' [] starved.1 }
 
   -- ---- turns
   module _ (c : ℕ) (u r : List ℕ) (skip end used : ℕ) (goes : Bool) (s t : K) (talk talk' : Option Talk) (found : frame (u ++ r) ≡ framed.Head skip end) (total : length u + used ≡ end) (within : used ≤ length r) (front : skip ≤ end)
-      (a : AsksAsSent Leaves goes (requests_in (judge (slice_range (u ++ take used r) skip (length (u ++ take used r))))) s t (SentBefore c talk talk')) where
+      (a : AsksAsSent Leaves goes (requests_in (judge (slice_range (u ++ take used r) skip (length (u ++ take used r))))) s t (SentFor c goes (slice_range (u ++ take used r) skip (length (u ++ take used r))) talk talk')) where
     -- the head's own bytes, of which some were unread
     abbrev own : List ℕ
     own = slice_range (u ++ take used r) skip (length (u ++ take used r))
@@ -220,111 +280,125 @@ module _ {K : Type 0} (Leaves : K → Request → Result Reply AskFault → K �
     pub turned_goes : goes ≡ true → closes_behind (judge own) ≡ false → (x : Response) × Spoke c (response_bytes x) false talk talk' → AsksAlong Leaves c (u ++ r) (drop used r) s t talk talk'
     turned_goes on stays said =
         let is = head_bytes u r skip end used total within front in
-        let same : requests_in (judge own) ≡ requests_of a.asks.answered = a.asks.cut ∙ ap (λ l. requests_of a.asks.answered ++ l) (a.asks.all on).0 ∙ append-nil (requests_of a.asks.answered) in
-        let e : requests_on (u ++ r) ≡ requests_in (judge own) ++ requests_on (drop end (u ++ r)) =
-        subst (λ x. requests_on (u ++ r) ≡ requests_in (judge x) ++ requests_on (drop end (u ++ r))) (sym is) (requests-goes_on (u ++ r) skip end found (subst (λ x. closes_behind (judge x) ≡ false) is stays)) in
+        let e : heads_on (u ++ r) ≡ own ∷ heads_on (drop end (u ++ r)) =
+        subst (λ x. heads_on (u ++ r) ≡ x ∷ heads_on (drop end (u ++ r))) (sym is) (heads-goes_on (u ++ r) skip end found (subst (λ x. closes_behind (judge x) ≡ false) is stays)) in
         record {
+          heads = own ∷ [];
+          cut = e ∙ ap (λ l. own ∷ heads_on l) (behind_head u r end used total);
           answered = a.asks.answered;
-          cut = e ∙ ap (λ l. l ++ requests_on (drop end (u ++ r))) same ∙ ap (λ l. requests_of a.asks.answered ++ requests_on l) (behind_head u r end used total);
+          asked = append-nil (requests_in (judge own)) ∙ a.asks.cut ∙ ap (λ l. requests_of a.asks.answered ++ l) (a.asks.all on).0 ∙ append-nil (requests_of a.asks.answered);
           in_turn = a.asks.in_turn;
           memory = (a.asks.all on).1;
           sent = said.0 ∷ [];
           spoke = subst (λ l. Spoke c l false talk talk') (sym (append-nil (response_bytes said.0))) said.1;
-          enough = asks_few goes (requests_in (judge own)) s t a.asks (requests_few (judge own));
+          each = refl;
         }
 
-    pub turned_stops : AsksAsSent Leaves false (requests_on (u ++ r)) s t (SentBefore c talk talk')
-    turned_stops =
-        let x = requests-head (u ++ r) skip end found in
+    pub turned_stops : goes ≡ false → AsksAsSent Leaves false (requests_on (u ++ r)) s t (SentBefore c (u ++ r) talk talk')
+    turned_stops off =
+        let is = head_bytes u r skip end used total within front in
+        let x = heads-head (u ++ r) skip end found in
+        let heads : heads_on (u ++ r) ≡ own ∷ x.0 = x.1 ∙ ap (λ l. l ∷ x.0) (sym is) in
+        let alone : closes_behind (judge own) ≡ true → heads_on (u ++ r) ≡ own ∷ [] =
+        λ closes. heads-closes (u ++ r) skip end found (subst (λ l. closes_behind (judge l) ≡ true) is closes) ∙ ap (λ l. l ∷ []) (sym is) in
         record {
-          asks = asks_some (requests_in (judge own)) x.0 (requests_on (u ++ r)) s t (x.1 ∙ ap (λ l. requests_in (judge l) ++ x.0) (sym (head_bytes u r skip end used total within front))) goes a.asks;
-          sent = a.sent;
+          asks = asks_some (requests_in (judge own)) (requests_to x.0) (requests_on (u ++ r)) s t (ap requests_to heads) goes a.asks;
+          sent = before_stop c goes own (u ++ r) x.0 talk talk' a.asks.answered off (asks_below goes (requests_in (judge own)) s t a.asks) heads alone a.sent;
         }
 
-  pub nothing_stops : (c : ℕ) (qs : List Request) (s : K) (talk talk' : Option Talk) → Some_said c talk talk' → AsksAsSent Leaves false qs s s (SentBefore c talk talk')
-  nothing_stops c qs s talk talk' h = record { asks = asks_none qs s; sent = before_one c talk talk' [] (omega arith) (All-nil (λ (a : Answered). is_want a.1 ≡ false)) h }
+  starved_stops : (c : ℕ) (b : List ℕ) (s : K) (talk talk' : Option Talk) → Starved c talk talk' → AsksAsSent Leaves false (requests_on b) s s (SentBefore c b talk talk')
+  starved_stops c b s talk talk' h = record { asks = asks_none (requests_on b) s; sent = want_before c b h.0 talk talk' h.1 }
 
   pub turned_held : (c : ℕ) (u r u' : List ℕ) (turn : Turn) (s : K) (talk talk' : Option Talk) → frame (u ++ r) ≡ framed.More → IsHeld c u r turn u' talk talk' → AsksBy Leaves c u r turn s s talk talk'
   turned_held c u r u' (turns.Next i) s talk talk' f h = absurd h
-  turned_held c u r u' turns.Holds s talk talk' f h = (requests-more (u ++ r) f, refl, h.1)
-  turned_held c u r u' turns.Stops s talk talk' f h = nothing_stops c (requests_on (u ++ r)) s talk talk' (some_starved c talk talk' h)
+  turned_held c u r u' turns.Holds s talk talk' f h = (heads-more (u ++ r) f, refl, h.1)
+  turned_held c u r u' turns.Stops s talk talk' f h = starved_stops c (u ++ r) s talk talk' h
 
-  pub turned_long : (c : ℕ) (b : List ℕ) (s : K) (talk talk' : Option Talk) → IsRefused c talk talk' → AsksAsSent Leaves false (requests_on b) s s (SentBefore c talk talk')
-  turned_long c b s talk talk' h = nothing_stops c (requests_on b) s talk talk' (some_refused c talk talk' h)
+  pub turned_long : (c : ℕ) (b : List ℕ) (s : K) (talk talk' : Option Talk) → frame b ≡ framed.TooLong → IsRefused c talk talk' → AsksAsSent Leaves false (requests_on b) s s (SentBefore c b talk talk')
+  turned_long c b s talk talk' f h = record { asks = asks_none (requests_on b) s; sent = before_none c b talk talk' (heads-long b f) (some_refused c talk talk' h) }
 
   -- ---- the way through the bytes
   pub along_start : (c : ℕ) (b : List ℕ) (s : K) (talk : Option Talk) → AsksAlong Leaves c b b s s talk talk
-  along_start c b s talk = record { answered = []; cut = refl; in_turn = refl; memory = All-nil (λ (a : Answered). is_want a.1 ≡ false); sent = []; spoke = spoke_nothing c talk; enough = omega arith }
+  along_start c b s talk = record { heads = []; cut = refl; answered = []; asked = refl; in_turn = refl; memory = All-nil (λ (a : Answered). is_want a.1 ≡ false); sent = []; spoke = spoke_nothing c talk; each = refl }
 
   pub along_both : (c : ℕ) (b left last : List ℕ) (s t v : K) (talk mid talk' : Option Talk) → AsksAlong Leaves c b left s t talk mid → AsksAlong Leaves c left last t v mid talk' → AsksAlong Leaves c b last s v talk talk'
   along_both c b left last s t v talk mid talk' h k = record {
+    heads = h.heads ++ k.heads;
+    cut = h.cut ∙ ap (λ l. h.heads ++ l) k.cut ∙ sym (append_assoc h.heads k.heads (heads_on last));
     answered = h.answered ++ k.answered;
-    cut = h.cut ∙ ap (λ l. requests_of h.answered ++ l) k.cut ∙ sym (append_assoc (requests_of h.answered) (requests_of k.answered) (requests_on last)) ∙ ap (λ l. l ++ requests_on last) (sym (requests_both h.answered k.answered));
+    asked = asked_both h.heads k.heads ∙ ap₂ (λ x y. x ++ y) h.asked k.asked ∙ sym (requests_both h.answered k.answered);
     in_turn = in_turn_both h.answered k.answered s t v h.in_turn k.in_turn;
     memory = All-append (λ (a : Answered). is_want a.1 ≡ false) h.answered k.answered h.memory k.memory;
     sent = h.sent ++ k.sent;
     spoke = subst (λ l. Spoke c l false talk talk') (sym (bytes_both h.sent k.sent)) (spoke_both c (all_bytes h.sent) (all_bytes k.sent) false talk mid talk' h.spoke k.spoke);
-    enough = omega (arith, h.enough, k.enough, length-append h.answered k.answered, length-append h.sent k.sent);
+    each = omega (arith, h.each, k.each, length-append h.heads k.heads, length-append h.sent k.sent);
   }
 
   pub along_next : (c : ℕ) (b left u u' later : List ℕ) (s t v : K) (talk mid talk' : Option Talk) → u' ≡ [] → later ≡ left → AsksAlong Leaves c b u s t talk mid → AsksAlong Leaves c u left t v mid talk' → AsksAlong Leaves c b (u' ++ later) s v talk talk'
   along_next c b left u u' later s t v talk mid talk' empty is h k =
       subst (λ l. AsksAlong Leaves c b (l ++ later) s v talk talk') (sym empty) (subst (λ l. AsksAlong Leaves c b l s v talk talk') (sym is) (along_both c b u left s t v talk mid talk' h k))
 
-  pub along_hold : (c : ℕ) (whole : Bool) (b left : List ℕ) (s t u : K) (talk mid talk' : Option Talk) → AsksAlong Leaves c b left s t talk mid → (requests_on left ≡ []) × (u ≡ t) × (talk' ≡ mid) → AsksAsSent Leaves whole (requests_on b) s u (SentBefore c talk talk')
-  along_hold c whole b left s t u talk mid talk' h end = record {
-    asks = record {
-      answered = h.answered;
-      later = [];
-      cut = h.cut ∙ ap (λ l. requests_of h.answered ++ l) end.0;
-      in_turn = subst (InTurn Leaves h.answered s) (sym end.1) h.in_turn;
-      all = λ e. (refl, h.memory);
-    };
-    sent = record {
-      sent = h.sent;
-      part = [];
-      fails = false;
-      spoke = subst (λ l. Spoke c l false talk talk') (sym (append-nil (all_bytes h.sent))) (subst (Spoke c (all_bytes h.sent) false talk) (sym end.2) h.spoke);
-      enough = omega (arith, h.enough);
-      memory = inl h.memory;
-    };
-  }
+  pub along_hold : (c : ℕ) (whole : Bool) (b left : List ℕ) (s t u : K) (talk mid talk' : Option Talk) → AsksAlong Leaves c b left s t talk mid → (heads_on left ≡ []) × (u ≡ t) × (talk' ≡ mid) → AsksAsSent Leaves whole (requests_on b) s u (SentBefore c b talk talk')
+  along_hold c whole b left s t u talk mid talk' h end =
+      let all : heads_on b ≡ h.heads = h.cut ∙ ap (λ l. h.heads ++ l) end.0 ∙ append-nil h.heads in
+      let asked : requests_on b ≡ requests_of h.answered = ap requests_to all ∙ h.asked in
+      let count : length h.answered ≡ length (requests_on b) = omega (arith, ap length asked, requests_length h.answered) in
+      let first : take (length h.sent + 1) (heads_on b) ≡ heads_on b = take_all (length h.sent + 1) (heads_on b) (omega (arith, ap length all, h.each)) in
+      record {
+        asks = record {
+          answered = h.answered;
+          later = [];
+          cut = asked ∙ sym (append-nil (requests_of h.answered));
+          in_turn = subst (InTurn Leaves h.answered s) (sym end.1) h.in_turn;
+          all = λ e. (refl, h.memory);
+        };
+        sent = record {
+          sent = h.sent;
+          part = [];
+          fails = false;
+          spoke = subst (λ l. Spoke c l false talk talk') (sym (append-nil (all_bytes h.sent))) (subst (Spoke c (all_bytes h.sent) false talk) (sym end.2) h.spoke);
+          enough = omega (arith, count, ap (λ l. length (requests_to l)) first);
+          all = inl (h.memory, count);
+        };
+      }
 
-  pub along_stop : (c : ℕ) (b left : List ℕ) (s t u : K) (talk mid talk' : Option Talk) → AsksAlong Leaves c b left s t talk mid → AsksAsSent Leaves false (requests_on left) t u (SentBefore c mid talk') → AsksAsSent Leaves false (requests_on b) s u (SentBefore c talk talk')
-  along_stop c b left s t u talk mid talk' h a = record {
-    asks = record {
-      answered = h.answered ++ a.asks.answered;
-      later = a.asks.later;
-      cut = h.cut ∙ ap (λ l. requests_of h.answered ++ l) a.asks.cut ∙ sym (append_assoc (requests_of h.answered) (requests_of a.asks.answered) a.asks.later) ∙ ap (λ l. l ++ a.asks.later) (sym (requests_both h.answered a.asks.answered));
-      in_turn = in_turn_both h.answered a.asks.answered s t u h.in_turn a.asks.in_turn;
-      all = λ e. absurd cc;
-    };
-    sent = record {
-      sent = h.sent ++ a.sent.sent;
-      part = a.sent.part;
-      fails = a.sent.fails;
-      spoke = subst (λ l. Spoke c l a.sent.fails talk talk') (sym (ap (λ l. l ++ a.sent.part) (bytes_both h.sent a.sent.sent) ∙ append_assoc (all_bytes h.sent) (all_bytes a.sent.sent) a.sent.part))
-          (spoke_both c (all_bytes h.sent) (all_bytes a.sent.sent ++ a.sent.part) a.sent.fails talk mid talk' h.spoke a.sent.spoke);
-      enough = omega (arith, h.enough, a.sent.enough, length-append h.answered a.asks.answered, length-append h.sent a.sent.sent);
-      memory = memory_both h.answered a.asks.answered ((a.sent.fails ≡ true) ⊎ (a.sent.part ≡ memory_bytes)) h.memory a.sent.memory;
-    };
-  }
+  pub along_stop : (c : ℕ) (b left : List ℕ) (s t u : K) (talk mid talk' : Option Talk) → AsksAlong Leaves c b left s t talk mid → AsksAsSent Leaves false (requests_on left) t u (SentBefore c left mid talk') → AsksAsSent Leaves false (requests_on b) s u (SentBefore c b talk talk')
+  along_stop c b left s t u talk mid talk' h a =
+      let cut : requests_on b ≡ requests_of h.answered ++ requests_on left = ap requests_to h.cut ∙ asked_both h.heads (heads_on left) ∙ ap (λ l. l ++ requests_on left) h.asked in
+      record {
+        asks = record {
+          answered = h.answered ++ a.asks.answered;
+          later = a.asks.later;
+          cut = cut ∙ ap (λ l. requests_of h.answered ++ l) a.asks.cut ∙ sym (append_assoc (requests_of h.answered) (requests_of a.asks.answered) a.asks.later) ∙ ap (λ l. l ++ a.asks.later) (sym (requests_both h.answered a.asks.answered));
+          in_turn = in_turn_both h.answered a.asks.answered s t u h.in_turn a.asks.in_turn;
+          all = λ e. absurd cc;
+        };
+        sent = record {
+          sent = h.sent ++ a.sent.sent;
+          part = a.sent.part;
+          fails = a.sent.fails;
+          spoke = subst (λ l. Spoke c l a.sent.fails talk talk') (sym (ap (λ l. l ++ a.sent.part) (bytes_both h.sent a.sent.sent) ∙ append_assoc (all_bytes h.sent) (all_bytes a.sent.sent) a.sent.part))
+              (spoke_both c (all_bytes h.sent) (all_bytes a.sent.sent ++ a.sent.part) a.sent.fails talk mid talk' h.spoke a.sent.spoke);
+          enough = enough_both h.heads (heads_on left) (heads_on b) h.answered a.asks.answered (length h.sent) (length a.sent.sent) (length (h.sent ++ a.sent.sent)) h.cut h.asked h.each (length-append h.sent a.sent.sent) a.sent.enough;
+          all = memory_both h.answered a.asks.answered b left ((a.sent.fails ≡ true) ⊎ (a.sent.part ≡ memory_bytes)) cut h.memory a.sent.all;
+        };
+      }
 
   -- ---- a piece
-  pub asks_counted : (whole : Bool) (old : Left) (taken : ℕ) (unread piece counted : List ℕ) (s t : K) (Sent : List Answered → Type 0) → record { taken = taken; unread = unread } ≡ old → counted ≡ take (MAX_CONNECTION_BYTES - taken) piece
-      → AsksAsSent Leaves whole (requests_on (unread ++ counted)) s t Sent → AsksAsSent Leaves whole (requests_on (old.unread ++ take (MAX_CONNECTION_BYTES - old.taken) piece)) s t Sent
+  pub asks_counted : (whole : Bool) (old : Left) (taken : ℕ) (unread piece counted : List ℕ) (s t : K) (Sent : List ℕ → List Answered → Type 0) → record { taken = taken; unread = unread } ≡ old → counted ≡ take (MAX_CONNECTION_BYTES - taken) piece
+      → AsksAsSent Leaves whole (requests_on (unread ++ counted)) s t (Sent (unread ++ counted)) → AsksAsSent Leaves whole (requests_on (old.unread ++ take (MAX_CONNECTION_BYTES - old.taken) piece)) s t (Sent (old.unread ++ take (MAX_CONNECTION_BYTES - old.taken) piece))
   asks_counted whole old taken unread piece counted s t Sent is e a =
-      subst (λ (l : Left). AsksAsSent Leaves whole (requests_on (l.unread ++ take (MAX_CONNECTION_BYTES - l.taken) piece)) s t Sent) is (subst (λ x. AsksAsSent Leaves whole (requests_on (unread ++ x)) s t Sent) e a)
+      subst (λ (l : Left). AsksAsSent Leaves whole (requests_on (l.unread ++ take (MAX_CONNECTION_BYTES - l.taken) piece)) s t (Sent (l.unread ++ take (MAX_CONNECTION_BYTES - l.taken) piece))) is (subst (λ x. AsksAsSent Leaves whole (requests_on (unread ++ x)) s t (Sent (unread ++ x))) e a)
 
   -- a connection that was kept, and is put back or not
   pub asks_of_line : (c : ℕ) (core core' : Slots) (l : Left) (piece : List ℕ) (kept : Option Left) (s t : K) (talk mid talk' : Option Talk) → core' ≡ slice_set core c kept → c < length core → Some l ≡ left_at core c → talk' ≡ mid
-      → AsksAsSent Leaves (is_some kept) (requests_on (l.unread ++ take (MAX_CONNECTION_BYTES - l.taken) piece)) s t (SentBefore c talk mid)
-      → AsksAsSent Leaves (is_some (left_at core' c)) (requests_on (bytes_behind (left_at core c) piece)) s t (SentBefore c talk talk')
+      → AsksAsSent Leaves (is_some kept) (requests_on (l.unread ++ take (MAX_CONNECTION_BYTES - l.taken) piece)) s t (SentBefore c (l.unread ++ take (MAX_CONNECTION_BYTES - l.taken) piece) talk mid)
+      → AsksAsSent Leaves (is_some (left_at core' c)) (requests_on (bytes_behind (left_at core c) piece)) s t (SentBefore c (bytes_behind (left_at core c) piece) talk talk')
   asks_of_line c core core' l piece kept s t talk mid talk' is within was same a =
       let at : left_at core' c ≡ kept = ap (λ k. left_at k c) is ∙ set_at core c c kept within ∙ ap (λ b. cond b kept (left_at core c)) (itself c) in
-      subst (λ x. AsksAsSent Leaves (is_some x) (requests_on (bytes_behind (left_at core c) piece)) s t (SentBefore c talk talk')) (sym at)
-      (subst (λ x. AsksAsSent Leaves (is_some kept) (requests_on (bytes_behind x piece)) s t (SentBefore c talk talk')) was
-      (subst (λ x. AsksAsSent Leaves (is_some kept) (requests_on (l.unread ++ take (MAX_CONNECTION_BYTES - l.taken) piece)) s t (SentBefore c talk x)) (sym same) a))
+      subst (λ x. AsksAsSent Leaves (is_some x) (requests_on (bytes_behind (left_at core c) piece)) s t (SentBefore c (bytes_behind (left_at core c) piece) talk talk')) (sym at)
+      (subst (λ x. AsksAsSent Leaves (is_some kept) (requests_on (bytes_behind x piece)) s t (SentBefore c (bytes_behind x piece) talk talk')) was
+      (subst (λ x. AsksAsSent Leaves (is_some kept) (requests_on (l.unread ++ take (MAX_CONNECTION_BYTES - l.taken) piece)) s t (SentBefore c (l.unread ++ take (MAX_CONNECTION_BYTES - l.taken) piece) talk x)) (sym same) a))
 
 -- ---- an engine
 -- a count of reads that rose twice

@@ -2,13 +2,11 @@
 --
 --   heads-framed      the heads are those that framing finds, one behind the other
 --   heads-served      what is served of bytes is the responses to these heads, and maybe that to a head that is too long
---   requests-more, requests-long, requests-head, requests-goes_on      what is asked, by what framing found
+--   heads-more, heads-long, heads-head, heads-goes_on, heads-closes    the heads, by what framing found
 --   requests-none     no bytes ask nothing
 use Rattle.std.proofs.Common.{◌≡◌, ◌⊎◌, inl, inr, ℕ, suc, ◌<◌, ◌≤◌, Bool, true, false, cond, List, [], ◌∷◌, ◌++◌, map, length, drop, slice_range, refl, sym, ◌∙◌, ap, subst, arith, length-drop}
 use Prim.Native.Nat.{zero}
-use Rattle.std.specs.List.{flat_map}
 use Rattle.cs_model.specs.Corpus.{Corpus}
-use Rattle.cs_model.specs.Requests.{Request}
 use Rattle.cs_model_serving.specs.declared.framed.Framed.{Framed}
 use Rattle.cs_model_serving.specs.declared.framed.Framed.TheVariants.{Head, More, TooLong}
 use Rattle.cs_model_serving.specs.Connections.{Served, answered, answered_by, serve, serve_heads, framed}
@@ -16,7 +14,7 @@ use Rattle.cs_model_serving.specs.Framing.{frame}
 use Rattle.cs_model_serving.specs.Heads.{Judgement, refused, asks, judge}
 use Rattle.cs_model_serving.specs.Responses.{Response, response_to, to_judgement, too_long}
 use Rattle.cs_model_serving.proofs.FrameLemmas.{frame-nil, frame-within}
-use Rattle.cs_hub.specs.DueReads.{closes_behind, requests_in, requests_on, heads_among, heads_framed, heads_on}
+use Rattle.cs_hub.specs.DueReads.{closes_behind, heads_among, heads_framed, heads_on, requests_on, requests_to}
 
 -- ---- the number of heads
 -- two ways to go on that agree on fewer bytes
@@ -50,28 +48,27 @@ heads-framed (c ∷ b) =
     framed_same (c ∷ b) (frame (c ∷ b)) (heads_among (length b)) (λ rest. heads_among (length rest) rest) refl
     (λ rest less. enough (length b) (length rest) rest (omega (arith, less)) (omega arith))
 
--- ---- what is asked
-abbrev ask_all : List (List ℕ) → List Request
-ask_all hs = flat_map (λ h. requests_in (judge h)) hs
+-- ---- the heads, by what framing found
+pub heads-more : (b : List ℕ) → frame b ≡ More → heads_on b ≡ []
+heads-more b h = heads-framed b ∙ ap (λ f. heads_framed b f heads_on) h
 
-pub requests-more : (b : List ℕ) → frame b ≡ More → requests_on b ≡ []
-requests-more b h = ap ask_all (heads-framed b ∙ ap (λ f. heads_framed b f heads_on) h)
-
-pub requests-long : (b : List ℕ) → frame b ≡ TooLong → requests_on b ≡ []
-requests-long b h = ap ask_all (heads-framed b ∙ ap (λ f. heads_framed b f heads_on) h)
+pub heads-long : (b : List ℕ) → frame b ≡ TooLong → heads_on b ≡ []
+heads-long b h = heads-framed b ∙ ap (λ f. heads_framed b f heads_on) h
 
 pub requests-none : requests_on [] ≡ []
-requests-none = requests-more [] frame-nil
+requests-none = ap requests_to (heads-more [] frame-nil)
 
-pub requests-head : (b : List ℕ) (skip end : ℕ) → frame b ≡ Head skip end → (later : List Request) × (requests_on b ≡ requests_in (judge (slice_range b skip end)) ++ later)
-requests-head b skip end h = (
-  ask_all (cond (closes_behind (judge (slice_range b skip end))) [] (heads_on (drop end b))),
-  ap ask_all (heads-framed b ∙ ap (λ f. heads_framed b f heads_on) h),
-)
+pub heads-head : (b : List ℕ) (skip end : ℕ) → frame b ≡ Head skip end → (later : List (List ℕ)) × (heads_on b ≡ slice_range b skip end ∷ later)
+heads-head b skip end h = (cond (closes_behind (judge (slice_range b skip end))) [] (heads_on (drop end b)), heads-framed b ∙ ap (λ f. heads_framed b f heads_on) h)
 
-pub requests-goes_on : (b : List ℕ) (skip end : ℕ) → frame b ≡ Head skip end → closes_behind (judge (slice_range b skip end)) ≡ false → requests_on b ≡ requests_in (judge (slice_range b skip end)) ++ requests_on (drop end b)
-requests-goes_on b skip end h goes =
-    ap ask_all (heads-framed b ∙ ap (λ f. heads_framed b f heads_on) h ∙ ap (λ x. slice_range b skip end ∷ cond x [] (heads_on (drop end b))) goes)
+heads-by : (b : List ℕ) (skip end : ℕ) (closes : Bool) → frame b ≡ Head skip end → closes_behind (judge (slice_range b skip end)) ≡ closes → heads_on b ≡ slice_range b skip end ∷ cond closes [] (heads_on (drop end b))
+heads-by b skip end closes h is = heads-framed b ∙ ap (λ f. heads_framed b f heads_on) h ∙ ap (λ x. slice_range b skip end ∷ cond x [] (heads_on (drop end b))) is
+
+pub heads-goes_on : (b : List ℕ) (skip end : ℕ) → frame b ≡ Head skip end → closes_behind (judge (slice_range b skip end)) ≡ false → heads_on b ≡ slice_range b skip end ∷ heads_on (drop end b)
+heads-goes_on b skip end h is = heads-by b skip end false h is
+
+pub heads-closes : (b : List ℕ) (skip end : ℕ) → frame b ≡ Head skip end → closes_behind (judge (slice_range b skip end)) ≡ true → heads_on b ≡ slice_range b skip end ∷ []
+heads-closes b skip end h is = heads-by b skip end true h is
 
 -- ---- what is served
 pub closes_by : (k : Corpus) (j : Judgement) → (to_judgement k j).closes ≡ closes_behind j

@@ -18,7 +18,7 @@ use Rattle.cs_model_serving.specs.ServingLaws.{answers_before}
 use Rattle.cs_model_serving.proofs.ServeLemmas.{serve-more}
 use Rattle.cs_hub.specs.Speaking.{Calm, IsEnded}
 use Rattle.cs_hub.specs.Turns.{IsOne, IsAlong, Along, GoesOn, Kept, HoldsOn, Holds, Stops, Received}
-use Rattle.cs_hub.proofs.SpeakLemmas.{rose_none, spoke_nothing, says_both}
+use Rattle.cs_hub.proofs.SpeakLemmas.{breaks_both, breaks_none, rose_none, spoke_nothing, says_both}
 use Rattle.cs_hub.proofs.ServedLemmas.{all_nil, zip_both, bytes_both, ended_behind}
 
 pub along_start : (Over : Corpus → Type 0) (c : ℕ) (b : List ℕ) (m : ℕ) (talk : Option Talk) → Along Over c b b m m talk talk
@@ -88,11 +88,16 @@ along_stop Over Later c b left m n o talk mid talk' still h s = (
 )
 
 -- ---- what the hub keeps
-pub calm_still : (s : Listening) (faults : ℕ) (talk : Option Talk) → Calm s s faults faults talk talk
-calm_still s faults talk = record { state = refl; faults = refl; orderly = λ h. h }
+pub calm_still : (s : Listening) (faults sends : ℕ) (talk : Option Talk) → Calm s s faults faults sends sends talk talk
+calm_still s faults sends talk = record { state = refl; faults = refl; breaks = breaks_none sends talk; orderly = λ h. h }
 
-pub calm_on : (s s' s'' : Listening) (m n p : ℕ) (talk talk' talk'' : Option Talk) → Calm s s' m n talk talk' → Calm s' s'' n p talk' talk'' → Calm s s'' m p talk talk''
-calm_on s s' s'' m n p talk talk' talk'' h k = record { state = k.state ∙ h.state; faults = k.faults ∙ h.faults; orderly = λ o. k.orderly (h.orderly o) }
+pub calm_on : (s s' s'' : Listening) (m n p i j l : ℕ) (talk talk' talk'' : Option Talk) → Calm s s' m n i j talk talk' → Calm s' s'' n p j l talk' talk'' → Calm s s'' m p i l talk talk''
+calm_on s s' s'' m n p i j l talk talk' talk'' h k = record {
+  state = k.state ∙ h.state;
+  faults = k.faults ∙ h.faults;
+  breaks = breaks_both i j l talk talk' talk'' h.breaks k.breaks;
+  orderly = λ o. k.orderly (h.orderly o);
+}
 
 -- ---- the limit
 pub full : (Over : Corpus → Type 0) (c : ℕ) (old : Left) (taken : ℕ) (unread piece counted unread' : List ℕ) (m n : ℕ) (talk talk' : Option Talk) → record { taken = taken; unread = unread } ≡ old → counted ≡ take (MAX_CONNECTION_BYTES - taken) piece

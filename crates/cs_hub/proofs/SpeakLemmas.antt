@@ -4,23 +4,26 @@
 --   did_nothing, did_send, did_cut, did_both      what single sends do, and one change after another
 --   spoke_nothing, spoke_by, spoke_both   the same of talks that may not be told
 --   rose_none, rose_both, rose_one        counts
+--   breaks_none, breaks_both, breaks_by, breaks_sent, breaks_failed, breaks_heard, breaks_as     which connections broke
+--   none_broken                           none did since nothing was opened
 --   says_both                             what is said after what was said
 use Rattle.std.proofs.Common.{◌≡◌, ℕ, ◌+◌, ◌≤◌, ◌==◌, Bool, true, false, ◌||◌, cond, List, [], ◌++◌, refl, sym, ◌∙◌, ap, subst, append_assoc, append-nil, arith}
 use Rattle.std.specs.Prelude.{Option, Some, None}
-use Rattle.std.specs.Option.{unwrap_or, option_map}
+use Rattle.std.specs.Option.{ForSome, unwrap_or, option_map}
 use Rattle.std.specs.Cmp.{unsigned_tied}
 use Rattle.std.proofs.lemmas.Cmp.{nat_cmp_total}
 use Rattle.std.proofs.lemmas.Bool.Decides.{Decides-eqb}
+use Rattle.std.proofs.lemmas.Option.{same_Some}
 use Rattle.std.specs.FinMap as map
 use Rattle.std.specs.FinSet as set
 use Rattle.cs_base.specs.outside.Causes.{Rose}
-use Rattle.cs_base.specs.outside.Hub.{Talk, Conns, sent_on, sends, breaks}
+use Rattle.cs_base.specs.outside.Hub.{Came, Talk, Conns, IsOrderly, Listening, listens, sent_on, sends, breaks, hears}
 use Rattle.cs_model.specs.Corpus.{Corpus}
 use Rattle.cs_model_serving.specs.Responses.{Response}
 use Rattle.cs_model_serving.specs.Connections.{reads}
 use Rattle.cs_model_serving.proofs.CountLemmas.{reads-append, changes-append}
 use Rattle.cs_hub.specs.Streams.{RoseBy}
-use Rattle.cs_hub.specs.Speaking.{Did, Spoke, IsCounted, Says}
+use Rattle.cs_hub.specs.Speaking.{AreUnbroken, BreaksBy, Did, Spoke, IsCounted, Says}
 
 -- ---- connections
 pub itself : (c : ℕ) → (c == c) ≡ true
@@ -117,6 +120,52 @@ rose_from a l m n h k = omega (arith, h, k)
 
 pub rose_on : (a m n o : ℕ) → RoseBy a m n → n ≤ o → RoseBy a m o
 rose_on a m n o h k = omega (arith, h, k)
+
+-- ---- what broke
+pub breaks_none : (n : ℕ) (talk : Option Talk) → BreaksBy n n talk talk
+breaks_none n talk = record { later = omega arith; unbroken = λ calm. refl }
+
+-- a count that didn't rise over both didn't over either
+calm_first : (m n o : ℕ) → n ≤ o → (Rose m o → ⊥) → Rose m n → ⊥
+calm_first m n o h calm rose = calm (let x : Rose m o = omega (arith, h, rose) in x)
+
+calm_then : (m n o : ℕ) → m ≤ n → (Rose m o → ⊥) → Rose n o → ⊥
+calm_then m n o h calm rose = calm (let x : Rose m o = omega (arith, h, rose) in x)
+
+pub breaks_both : (m n o : ℕ) (talk mid talk' : Option Talk) → BreaksBy m n talk mid → BreaksBy n o mid talk' → BreaksBy m o talk talk'
+breaks_both m n o talk mid talk' h k = record {
+  later = omega (arith, h.later, k.later);
+  unbroken = λ calm. k.unbroken (calm_then m n o h.later calm) ∙ h.unbroken (calm_first m n o k.later calm);
+}
+
+-- by a change of the talk that breaks none
+pub breaks_by : (m n : ℕ) (f : Talk → Talk) (talk talk' : Option Talk) → n ≡ m → ((t : Talk) → (f t).broken ≡ t.broken) → talk' ≡ option_map f talk → BreaksBy m n talk talk'
+breaks_by m n f None talk' e same is = record { later = omega (arith, e); unbroken = λ calm. ap (option_map (λ t. t.broken)) is }
+breaks_by m n f (Some t) talk' e same is = record { later = omega (arith, e); unbroken = λ calm. ap (option_map (λ t. t.broken)) is ∙ ap Some (same t) }
+
+pub breaks_sent : (c m n : ℕ) (b : List ℕ) (talk talk' : Option Talk) → n ≡ m → talk' ≡ option_map (sends c b) talk → BreaksBy m n talk talk'
+breaks_sent c m n b talk talk' e is = breaks_by m n (sends c b) talk talk' e (λ t. refl) is
+
+pub breaks_heard : (e : Came) (m n : ℕ) (talk talk' : Option Talk) → n ≡ m → talk' ≡ option_map (hears e) talk → BreaksBy m n talk talk'
+breaks_heard e m n talk talk' same is = breaks_by m n (hears e) talk talk' same (λ t. refl) is
+
+pub breaks_failed : (m n : ℕ) (talk talk' : Option Talk) → m ≤ n → Rose m n → BreaksBy m n talk talk'
+breaks_failed m n talk talk' later rose = record { later = later; unbroken = λ calm. absurd (calm rose) }
+
+-- nothing was sent behind it
+pub breaks_as : (m n o : ℕ) (talk mid talk' : Option Talk) → o ≡ n → talk' ≡ mid → BreaksBy m n talk mid → BreaksBy m o talk talk'
+breaks_as m n o talk mid talk' e is h = subst (λ i. BreaksBy m i talk talk') (sym e) (subst (BreaksBy m n talk) (sym is) h)
+
+unbroken_as : (talk : Option Talk) (u : Talk) → option_map (λ t. t.broken) (Some u) ≡ option_map (λ t. t.broken) talk → ForSome talk AreUnbroken → AreUnbroken u
+unbroken_as None u is h = absurd cc
+unbroken_as (Some t) u is h = λ c. ap (λ b. set.contains b c) (same_Some u.broken t.broken is) ∙ h t refl c
+
+-- where nothing was opened none was broken
+fresh_unbroken : (s : Listening) (talk : Option Talk) (port conns : ℕ) → s ≡ listens port conns → IsOrderly s talk → ForSome talk AreUnbroken
+fresh_unbroken s talk port conns e o = λ t at c. (o.fresh t at c (let l : s.opened ≤ c = omega (arith, ap (λ (y : Listening). y.opened) e) in l)).2
+
+pub none_broken : (m n port conns : ℕ) (s : Listening) (talk talk' : Option Talk) → s ≡ listens port conns → IsOrderly s talk → BreaksBy m n talk talk' → (Rose m n → ⊥) → ForSome talk' AreUnbroken
+none_broken m n port conns s talk talk' e o h calm = λ u at. unbroken_as talk u (ap (option_map (λ t. t.broken)) (sym at) ∙ h.unbroken calm) (fresh_unbroken s talk port conns e o)
 
 -- ---- what is said
 counted_both : (P Q R : List Response → Type 0) (m n o : ℕ) → ((xs ys : List Response) → P xs → Q ys → R (xs ++ ys)) → IsCounted P m n → IsCounted Q n o → IsCounted R m o

@@ -4,10 +4,11 @@
 --   AsksOf Leaves whole qs s t      some first ones of the requests did, and where `whole` all
 --   AsksAsSent Leaves whole qs s t Sent   the same, of as many as Sent says
 --   AsksAlong Leaves c b left s t   those of the bytes b before the bytes that are left did, each answered so
+--   SentFor c goes h xs     what was sent for one head: its response, or less of it, or the memory response
 --   AsksBy                  what a turn asked, by what it gave
 --   Standing                an engine over its store, as it stands between requests
 --   EngineLeaves s q r t    a request was asked of an engine over its store
-use Rattle.std.specs.Prelude.{◌≡◌, ℕ, ◌≤◌, Bool, true, false, List, [], ◌∷◌, ◌++◌, length, drop, Option, Result}
+use Rattle.std.specs.Prelude.{◌≡◌, ◌⊎◌, ℕ, Bool, true, false, not, List, [], ◌∷◌, ◌++◌, length, drop, Option, Result}
 use Rattle.cs_base.specs.outside.Causes.{ReadsWithin}
 use Rattle.cs_base.specs.outside.Hub.{Talk}
 use Rattle.cs_engine.specs.Asking.{is_read}
@@ -16,10 +17,11 @@ use Rattle.cs_engine.specs.declared.fault.AskFault.{AskFault}
 use Rattle.cs_file.specs.Indexes.{CausedReads}
 use Rattle.cs_model.specs.Replies.{Reply}
 use Rattle.cs_model.specs.Requests.{Request}
-use Rattle.cs_model_serving.specs.Responses.{Response, all_bytes}
+use Rattle.cs_model_serving.specs.Heads.{judge}
+use Rattle.cs_model_serving.specs.Responses.{Response, all_bytes, memory_bytes}
 use Rattle.cs_hub.specs.declared.reading.Turn.{Turn}
 use Rattle.cs_hub.specs.declared.reading.Turn.TheVariants as turns
-use Rattle.cs_hub.specs.DueReads.{Answered, HasMemory, IsDue, SentBefore, requests_of, requests_on}
+use Rattle.cs_hub.specs.DueReads.{Answered, HasMemory, IsDue, SentBefore, closes_behind, heads_on, requests_in, requests_of, requests_on, requests_to}
 use Rattle.cs_hub.specs.Speaking.{Spoke}
 
 module _ {K : Type 0} (Leaves : K → Request → Result Reply AskFault → K → Type 0) where
@@ -42,21 +44,31 @@ pub record AsksAsSent {K : Type 0} (Leaves : K → Request → Result Reply AskF
   pub asks : AsksOf Leaves whole qs s t
   pub sent : Sent asks.answered
 
--- the requests of the bytes that are left come behind them, and only whole responses were sent, as many as requests or more
+-- the heads of the bytes that are left come behind these, and only whole responses were sent, one to each head
 pub record AsksAlong {K : Type 0} (Leaves : K → Request → Result Reply AskFault → K → Type 0) (c : ℕ) (b left : List ℕ) (s t : K) (talk talk' : Option Talk) : Type 0 where
+  pub heads : List (List ℕ)
+  pub cut : heads_on b ≡ heads ++ heads_on left
   pub answered : List Answered
-  pub cut : requests_on b ≡ requests_of answered ++ requests_on left
+  pub asked : requests_to heads ≡ requests_of answered
   pub in_turn : InTurn Leaves answered s t
   pub memory : HasMemory answered
   pub sent : List Response
   pub spoke : Spoke c (all_bytes sent) false talk talk'
-  pub enough : length answered ≤ length sent
+  pub each : length heads ≡ length sent
+
+-- the response was sent whole, behind what the head asks, and the connection is closed behind it unless it goes on; or the send
+-- failed, or the memory response was sent
+pub record SentFor (c : ℕ) (goes : Bool) (h : List ℕ) (talk talk' : Option Talk) (answered : List Answered) : Type 0 where
+  pub part : List ℕ
+  pub fails : Bool
+  pub spoke : Spoke c part fails talk talk'
+  pub all : (HasMemory answered × (length answered ≡ length (requests_in (judge h))) × (closes_behind (judge h) ≡ not goes)) ⊎ (fails ≡ true) ⊎ (part ≡ memory_bytes)
 
 -- a head was answered; or no head ends there, and nothing was asked or sent; or the connection is to be closed
 abbrev pub AsksBy : {K : Type 0} → (K → Request → Result Reply AskFault → K → Type 0) → ℕ → List ℕ → List ℕ → Turn → K → K → Option Talk → Option Talk → Type 0
 AsksBy Leaves c unread rest (turns.Next used) s t talk talk' = AsksAlong Leaves c (unread ++ rest) (drop used rest) s t talk talk'
-AsksBy Leaves c unread rest turns.Holds s t talk talk' = (requests_on (unread ++ rest) ≡ []) × (t ≡ s) × (talk' ≡ talk)
-AsksBy Leaves c unread rest turns.Stops s t talk talk' = AsksAsSent Leaves false (requests_on (unread ++ rest)) s t (SentBefore c talk talk')
+AsksBy Leaves c unread rest turns.Holds s t talk talk' = (heads_on (unread ++ rest) ≡ []) × (t ≡ s) × (talk' ≡ talk)
+AsksBy Leaves c unread rest turns.Stops s t talk talk' = AsksAsSent Leaves false (requests_on (unread ++ rest)) s t (SentBefore c (unread ++ rest) talk talk')
 
 -- the bytes that the store tells, the engine, and the counts of reads and of failures
 pub record Standing : Type 0 where

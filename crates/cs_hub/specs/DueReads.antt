@@ -9,7 +9,8 @@
 --   heads_framed            the heads by what framing found
 --   heads_among n b         the heads of unread bytes, at most n of them
 --   heads_on b              the heads of unread bytes, up to the first after which the connection is closed; of no bytes none
---   requests_on b           the requests of these heads
+--   requests_to hs          the requests of some heads
+--   requests_on b           those of the heads of unread bytes
 --   bytes_behind l piece    the bytes that a piece leaves to be answered on a connection of which l is kept
 --   bytes_to_answer core e piece    those that an event leaves; none where it is no piece
 --   goes_on core e          the connection of a piece is kept; so it is said of each event that is no piece
@@ -21,8 +22,8 @@
 --   IsDue told a e n e'     n reads are due for a request of the engine e with this answer, which leaves the engine e'
 --   AreDue told xs e n e'   the same of requests that are asked one after the other
 --   HasMemory xs            none of the answers is want of memory
---   SentBefore c xs         all responses to the requests but the last were sent whole on the connection c
---   SentAt event xs         the same where the event is a piece
+--   SentBefore c b xs       behind a response that wasn't sent whole on the connection c nothing was asked of the bytes b
+--   SentAt event b xs       the same where the event is a piece
 --   AnswersWithin           some first requests were answered, and no more was read than is due for them
 use Rattle.std.specs.Prelude.{◌≡◌, ◌⊎◌, ℕ, suc, ◌+◌, ◌-◌, ◌≤◌, Bool, true, false, cond, List, [], ◌∷◌, ◌++◌, map, length, take, drop, slice_range, All, Option, Some, None, is_some, Result, Ok, Err, IfOk}
 use Prim.Native.Nat.{zero}
@@ -85,9 +86,13 @@ heads_among (suc n) b = heads_framed b (frame b) (heads_among n)
 unfoldable pub heads_on : List ℕ → List (List ℕ)
 heads_on b = heads_among (length b) b
 
--- what these heads ask, in their order; of no bytes nothing
+-- what some heads ask, in their order; none ask nothing
+abbrev pub requests_to : List (List ℕ) → List Request
+requests_to hs = flat_map (λ h. requests_in (judge h)) hs
+
+-- what the heads of the bytes ask; of no bytes nothing
 abbrev pub requests_on : List ℕ → List Request
-requests_on b = flat_map (λ h. requests_in (judge h)) (heads_on b)
+requests_on b = requests_to (heads_on b)
 
 -- ---- events
 -- the bytes that weren't read, and behind them those of the piece that count; none on a connection that isn't kept
@@ -163,23 +168,23 @@ AreDue told (a ∷ xs) old n new = (one : ℕ) × (others : ℕ) × (mid : Engin
 abbrev pub HasMemory : List Answered → Type 0
 HasMemory xs = All (λ a. is_want a.1 ≡ false) xs
 
--- on the connection at least as many whole responses as answers less one were sent, and perhaps bytes behind them: so behind a
--- response that wasn't sent whole no request was asked. Want of memory is told: no answer is one, unless a send failed or the
--- memory response came last
-pub record SentBefore (c : ℕ) (talk talk' : Option Talk) (answered : List Answered) : Type 0 where
+-- on the connection whole responses were sent, to the first heads of the bytes, and perhaps bytes behind them. No more was answered
+-- than these heads and the next one ask: so behind a response that wasn't sent whole nothing was. All that the heads ask was
+-- answered, and no answer is want of memory, unless a send failed or the memory response came last
+pub record SentBefore (c : ℕ) (b : List ℕ) (talk talk' : Option Talk) (answered : List Answered) : Type 0 where
   pub sent : List Response
   pub part : List ℕ
   pub fails : Bool
   pub spoke : Spoke c (all_bytes sent ++ part) fails talk talk'
-  pub enough : length answered ≤ suc (length sent)
-  pub memory : HasMemory answered ⊎ (fails ≡ true) ⊎ (part ≡ memory_bytes)
+  pub enough : length answered ≤ length (requests_to (take (length sent + 1) (heads_on b)))
+  pub all : (HasMemory answered × (length answered ≡ length (requests_on b))) ⊎ (fails ≡ true) ⊎ (part ≡ memory_bytes)
 
 -- at an event that is no piece nothing is asked
-abbrev pub SentAt : Event → Option Talk → Option Talk → List Answered → Type 0
-SentAt (Opened c) talk talk' answered = answered ≡ []
-SentAt (Piece c m) talk talk' answered = SentBefore c talk talk' answered
-SentAt (Ended c) talk talk' answered = answered ≡ []
-SentAt Over talk talk' answered = answered ≡ []
+abbrev pub SentAt : Event → List ℕ → Option Talk → Option Talk → List Answered → Type 0
+SentAt (Opened c) b talk talk' answered = answered ≡ []
+SentAt (Piece c m) b talk talk' answered = SentBefore c b talk talk' answered
+SentAt (Ended c) b talk talk' answered = answered ≡ []
+SentAt Over b talk talk' answered = answered ≡ []
 
 -- some first ones of these requests were answered, as many as were sent; where `whole` all of them and none met want of memory. No
 -- more was read than is due for them, and no more answers are failed reads than the count of failures rose by

@@ -6,6 +6,8 @@
 --   Spoke                    the same of talks that may not be told
 --   Said c text whole        a text was sent on it, whole or cut off at some byte
 --   Starved c                the memory response was, whole or cut off
+--   BreaksBy before now      a connection broke only where the count of failed sends rose
+--   AreUnbroken t            no connection is broken
 --   Calm                     what every call of the hub but `next` keeps
 --   IsServed rs s sent       s is the responses `sent`, one in the place of each of rs
 --   IsCutShort rs s sent     s is such responses for some first ones of rs, after which the connection goes on, and then the
@@ -14,10 +16,12 @@
 --   IsEnded a s fails sent   what is served was met, and nothing more is to be sent; where a send failed, some first bytes were
 --   IsCounted P before now   some responses meet P; none says Changed, and as many say Read as failures were counted at most
 --   Says                     what was sent on a connection, and by each corpus that is answered over what it meets
-use Rattle.std.specs.Prelude.{◌≡◌, ◌⊎◌, refl, ℕ, Bool, true, false, ◌||◌, ◌==◌, List, ◌++◌, take, All, Option, Some, None}
+use Rattle.std.specs.Prelude.{◌≡◌, ◌⊎◌, ◌≤◌, refl, ℕ, Bool, true, false, ◌||◌, ◌==◌, List, ◌++◌, take, All, Option, Some, None}
 use Rattle.std.specs.Coded.{Coded, code_by, coded×, coded_list, coded_ℕ}
 use Rattle.std.specs.FinSet as set
 use Rattle.std.specs.List.{AllZip}
+use Rattle.std.specs.Option.{option_map}
+use Rattle.cs_base.specs.outside.Causes.{Rose}
 use Rattle.cs_base.specs.outside.Hub.{Listening, Talk, IsOrderly, sent_on}
 use Rattle.cs_model.specs.Corpus.{Corpus}
 use Rattle.cs_model_serving.specs.Responses.{Response, all_bytes, memory_bytes}
@@ -52,10 +56,22 @@ Said c text false talk talk' = (count : ℕ) × Spoke c (take count text) true t
 abbrev pub Starved : ℕ → Option Talk → Option Talk → Type 0
 Starved c talk talk' = (whole : Bool) × Said c memory_bytes whole talk talk'
 
--- the state and the count of `listen` and `next` stay, and what holds after each call of a hub
-pub record Calm (s s' : Listening) (before now : ℕ) (talk talk' : Option Talk) : Type 0 where
+-- the count of failed sends didn't fall, and where it didn't rise the same connections are broken, none more and none less, or that
+-- still isn't told
+pub record BreaksBy (before now : ℕ) (talk talk' : Option Talk) : Type 0 where
+  pub later : before ≤ now
+  pub unbroken : ¬ Rose before now → option_map (λ t. t.broken) talk' ≡ option_map (λ t. t.broken) talk
+
+-- on no connection did a send fail, also of those that weren't opened
+abbrev pub AreUnbroken : Talk → Type 0
+AreUnbroken t = (c : ℕ) → set.contains t.broken c ≡ false
+
+-- the state and the count of `listen` and `next` stay, a connection breaks only where a send failed, and what holds after each call
+-- of a hub
+pub record Calm (s s' : Listening) (before now sends sends' : ℕ) (talk talk' : Option Talk) : Type 0 where
   pub state : s' ≡ s
   pub faults : now ≡ before
+  pub breaks : BreaksBy sends sends' talk talk'
   pub orderly : IsOrderly s talk → IsOrderly s' talk'
 
 -- ---- what is met

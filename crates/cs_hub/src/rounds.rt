@@ -4,6 +4,7 @@ ghost use Rattle.cs_base.specs.outside.Hub.{came_of, IsOrderly};
 ghost use Rattle.cs_model.specs.Corpus.{Corpus};
 ghost use Rattle.cs_hub.specs.Following.{HasLive, IsWhole, left_at};
 ghost use Rattle.cs_hub.specs.Rounds.{Counted, HasBytes, IsBelow, StaysServed, Went};
+ghost use Rattle.cs_hub.specs.Speaking.{BreaksBy};
 
 use crate::answerer::Answerer;
 use crate::slots::Core;
@@ -53,6 +54,8 @@ pub(crate) fn take_turn<A: Answerer, H: Hub>(
     ensures went { Went result (H.state hub.old) (H.state hub.new) (H.talk hub.old) (H.talk hub.new) (H.faults hub.old) (H.faults hub.new) core.old core.new }
     ensures live { HasLive core.new (H.state hub.new) }
     ensures orderly { IsOrderly (H.state hub.new) (H.talk hub.new) }
+    ensures hub_later { H.faults hub.old ≤ H.faults hub.new }
+    ensures breaks { BreaksBy (H.send_faults hub.old) (H.send_faults hub.new) (H.talk hub.old) (H.talk hub.new) }
     ensures port { (H.state hub.new).port ≡ (H.state hub.old).port }
     ensures conns { (H.state hub.new).conns ≡ conns }
     ensures still { (k : Corpus) → A.answers answerer.old k → A.answers answerer.new k }

@@ -12,6 +12,7 @@ ghost use Rattle.cs_model.specs.Corpus.{Corpus};
 ghost use Rattle.cs_hub.specs.Ending.{Ends};
 ghost use Rattle.cs_hub.specs.Following.{AreServed};
 ghost use Rattle.cs_hub.specs.Rounds.{came_by};
+ghost use Rattle.cs_hub.specs.Speaking.{AreUnbroken};
 
 use crate::answerer::Answerer;
 use crate::asking::Asking;
@@ -56,8 +57,13 @@ pub fn serve<S: Store, H: Hub>(
     ensures done { result ≡ ServeEnd.Done → ((c : ℕ) → set.contains (H.state hub.new).live c ≡ false) × (((H.state hub.new).opened ≡ conns) ⊎ ((H.state hub.new).over ≡ true)) }
     ensures hub_failed { result ≡ ServeEnd.HubFailed → Rose (H.faults hub.old) (H.faults hub.new) }
     ensures only_before_the_end { result ≡ ServeEnd.HubFailed → ((H.state hub.new).over ≡ false) × (((H.state hub.new).opened < conns) ⊎ ((c : ℕ) × (set.contains (H.state hub.new).live c ≡ true))) }
-    ensures memory { result ≡ ServeEnd.Memory → (H.state hub.new ≡ H.state hub.old) × (H.talk hub.new ≡ H.talk hub.old) × (S.faults store.new ≡ S.faults store.old) }
+    ensures memory { result ≡ ServeEnd.Memory → (H.state hub.new ≡ H.state hub.old) × (H.talk hub.new ≡ H.talk hub.old) × (S.faults store.new ≡ S.faults store.old) × (H.send_faults hub.new ≡ H.send_faults hub.old) }
     ensures quiet { result ≢ ServeEnd.HubFailed → H.faults hub.new ≡ H.faults hub.old }
+    ensures hub_later { H.faults hub.old ≤ H.faults hub.new }
+
+    // Where no send failed, no connection is broken.
+    ensures unbroken { ¬ Rose (H.send_faults hub.old) (H.send_faults hub.new) → ForSome (H.talk hub.new) AreUnbroken }
+    ensures sends_later { H.send_faults hub.old ≤ H.send_faults hub.new }
 
     ensures port { (H.state hub.new).port ≡ (H.state hub.old).port }
     ensures conns { (H.state hub.new).conns ≡ conns }
@@ -87,7 +93,9 @@ pub(crate) fn serve_over<A: Answerer, H: Hub>(
 
     ensures served { (k : Corpus) → A.answers answerer.old k → AreServed k (H.state hub.new) (H.talk hub.new) (A.faults answerer.old) (A.faults answerer.new) }
     ensures ends { Ends result conns (H.state hub.old) (H.state hub.new) (H.faults hub.old) (H.faults hub.new) }
-    ensures memory { result ≡ ServeEnd.Memory → (H.state hub.new ≡ H.state hub.old) × (H.talk hub.new ≡ H.talk hub.old) × (A.faults answerer.new ≡ A.faults answerer.old) }
+    ensures sends_later { H.send_faults hub.old ≤ H.send_faults hub.new }
+    ensures unbroken { ¬ Rose (H.send_faults hub.old) (H.send_faults hub.new) → ForSome (H.talk hub.new) AreUnbroken }
+    ensures memory { result ≡ ServeEnd.Memory → (H.state hub.new ≡ H.state hub.old) × (H.talk hub.new ≡ H.talk hub.old) × (A.faults answerer.new ≡ A.faults answerer.old) × (H.send_faults hub.new ≡ H.send_faults hub.old) }
     ensures events { came_by (H.talk hub.new) ≤ came_by (H.talk hub.old) + conns * (MAX_CONNECTION_BYTES + 2) + 1 }
     ensures still { (k : Corpus) → A.answers answerer.old k → A.answers answerer.new k }
     ensures lent { A.lent answerer.new ≡ A.lent answerer.old }
@@ -113,6 +121,8 @@ fn serve_with<A: Answerer, H: Hub>(
 
     ensures served { (k : Corpus) → A.answers answerer.old k → AreServed k (H.state hub.new) (H.talk hub.new) (A.faults answerer.old) (A.faults answerer.new) }
     ensures ends { Ends result conns (H.state hub.old) (H.state hub.new) (H.faults hub.old) (H.faults hub.new) }
+    ensures sends_later { H.send_faults hub.old ≤ H.send_faults hub.new }
+    ensures unbroken { ¬ Rose (H.send_faults hub.old) (H.send_faults hub.new) → ForSome (H.talk hub.new) AreUnbroken }
     ensures some_memory { result ≢ ServeEnd.Memory }
     ensures events { came_by (H.talk hub.new) ≤ came_by (H.talk hub.old) + conns * (MAX_CONNECTION_BYTES + 2) + 1 }
     ensures still { (k : Corpus) → A.answers answerer.old k → A.answers answerer.new k }

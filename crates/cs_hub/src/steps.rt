@@ -11,7 +11,7 @@ ghost use Rattle.cs_hub.specs.Asked.{AsksAsSent};
 ghost use Rattle.cs_hub.specs.DueReads.{AnswersWithin, SentAt, SentBefore, bytes_behind, bytes_to_answer, goes_on, requests_on};
 ghost use Rattle.cs_hub.specs.Following.{HasLive, HasLiveBut, IsWhole, LeavesOthers, StaysRight, left_at};
 ghost use Rattle.cs_hub.specs.Rounds.{Greets, Heeds, Lightens, KeepsCame, closed_unless};
-ghost use Rattle.cs_hub.specs.Speaking.{Starved};
+ghost use Rattle.cs_hub.specs.Speaking.{BreaksBy, Starved};
 
 use crate::answerer::Answerer;
 use crate::asking::Asking;
@@ -49,11 +49,12 @@ impl Core {
         ensures same { H.state hub.new ≡ record (H.state hub.old) { live = (H.state hub.new).live } }
         ensures came { KeepsCame (H.talk hub.old) (H.talk hub.new) }
         ensures faults { H.faults hub.new ≡ H.faults hub.old }
+        ensures breaks { BreaksBy (H.send_faults hub.old) (H.send_faults hub.new) (H.talk hub.old) (H.talk hub.new) }
         ensures orderly { IsOrderly (H.state hub.old) (H.talk hub.old) → IsOrderly (H.state hub.new) (H.talk hub.new) }
         ensures lighter { Lightens event self.old self.new }
 
         // How much is read for the requests that are answered, over every store and hub.
-        ensures reads { AnswersWithin (S.bytes store.old) (goes_on self.new event) (requests_on (bytes_to_answer self.old event piece.now)) engine.old engine.new (S.reads store.old) (S.reads store.new) (S.faults store.old) (S.faults store.new) (SentAt event (H.talk hub.old) (H.talk hub.new)) }
+        ensures reads { AnswersWithin (S.bytes store.old) (goes_on self.new event) (requests_on (bytes_to_answer self.old event piece.now)) engine.old engine.new (S.reads store.old) (S.reads store.new) (S.faults store.old) (S.faults store.new) (SentAt event (bytes_to_answer self.old event piece.now) (H.talk hub.old) (H.talk hub.new)) }
 
         ensures index { engine.new.index ≡ engine.old.index }
         ensures capacity { engine.new.answers.capacity ≡ engine.old.answers.capacity }
@@ -84,9 +85,10 @@ impl Core {
         ensures same { H.state hub.new ≡ record (H.state hub.old) { live = (H.state hub.new).live } }
         ensures came { KeepsCame (H.talk hub.old) (H.talk hub.new) }
         ensures faults { H.faults hub.new ≡ H.faults hub.old }
+        ensures breaks { BreaksBy (H.send_faults hub.old) (H.send_faults hub.new) (H.talk hub.old) (H.talk hub.new) }
         ensures orderly { IsOrderly (H.state hub.old) (H.talk hub.old) → IsOrderly (H.state hub.new) (H.talk hub.new) }
         ensures lighter { Lightens event self.old self.new }
-        ensures asked { AsksAsSent A.leaves (goes_on self.new event) (requests_on (bytes_to_answer self.old event piece.now)) (A.kept answerer.old) (A.kept answerer.new) (SentAt event (H.talk hub.old) (H.talk hub.new)) }
+        ensures asked { AsksAsSent A.leaves (goes_on self.new event) (requests_on (bytes_to_answer self.old event piece.now)) (A.kept answerer.old) (A.kept answerer.new) (SentAt event (bytes_to_answer self.old event piece.now) (H.talk hub.old) (H.talk hub.new)) }
         ensures still { (k : Corpus) → A.answers answerer.old k → A.answers answerer.new k }
         ensures lent { A.lent answerer.new ≡ A.lent answerer.old }
         ensures later { A.faults answerer.old ≤ A.faults answerer.new }
@@ -106,6 +108,7 @@ impl Core {
 
         ensures greets { Greets self.old self.new conn (H.state hub.old) (H.state hub.new) (H.talk hub.old) (H.talk hub.new) }
         ensures faults { H.faults hub.new ≡ H.faults hub.old }
+        ensures breaks { BreaksBy (H.send_faults hub.old) (H.send_faults hub.new) (H.talk hub.old) (H.talk hub.new) }
         ensures orderly { IsOrderly (H.state hub.old) (H.talk hub.old) → IsOrderly (H.state hub.new) (H.talk hub.new) }
         ensures lighter { Lightens (Event.Opened conn) self.old self.new }
     {
@@ -131,9 +134,10 @@ impl Core {
 
         ensures heeds { Heeds (A.answers answerer.old) self.old self.new conn piece.now (H.state hub.old) (H.state hub.new) (A.faults answerer.old) (A.faults answerer.new) (H.talk hub.old) (H.talk hub.new) }
         ensures faults { H.faults hub.new ≡ H.faults hub.old }
+        ensures breaks { BreaksBy (H.send_faults hub.old) (H.send_faults hub.new) (H.talk hub.old) (H.talk hub.new) }
         ensures orderly { IsOrderly (H.state hub.old) (H.talk hub.old) → IsOrderly (H.state hub.new) (H.talk hub.new) }
         ensures lighter { Lightens (Event.Piece conn (length piece.now)) self.old self.new }
-        ensures asked { AsksAsSent A.leaves (is_some (left_at self.new conn)) (requests_on (bytes_behind (left_at self.old conn) piece.now)) (A.kept answerer.old) (A.kept answerer.new) (SentBefore conn (H.talk hub.old) (H.talk hub.new)) }
+        ensures asked { AsksAsSent A.leaves (is_some (left_at self.new conn)) (requests_on (bytes_behind (left_at self.old conn) piece.now)) (A.kept answerer.old) (A.kept answerer.new) (SentBefore conn (bytes_behind (left_at self.old conn) piece.now) (H.talk hub.old) (H.talk hub.new)) }
         ensures still { (k : Corpus) → A.answers answerer.old k → A.answers answerer.new k }
         ensures lent { A.lent answerer.new ≡ A.lent answerer.old }
         ensures later { A.faults answerer.old ≤ A.faults answerer.new }
@@ -156,6 +160,7 @@ impl Core {
         ensures state { H.state hub.new ≡ closed_unless (is_some kept) conn (H.state hub.old) }
         ensures talk { H.talk hub.new ≡ H.talk hub.old }
         ensures faults { H.faults hub.new ≡ H.faults hub.old }
+        ensures sends { H.send_faults hub.new ≡ H.send_faults hub.old }
         ensures orderly { IsOrderly (H.state hub.old) (H.talk hub.old) → IsOrderly (H.state hub.new) (H.talk hub.new) }
     {
         match kept {
@@ -180,6 +185,7 @@ impl Core {
         ensures same { H.state hub.new ≡ record (H.state hub.old) { live = (H.state hub.new).live } }
         ensures talk { H.talk hub.new ≡ H.talk hub.old }
         ensures faults { H.faults hub.new ≡ H.faults hub.old }
+        ensures sends { H.send_faults hub.new ≡ H.send_faults hub.old }
         ensures orderly { IsOrderly (H.state hub.old) (H.talk hub.old) → IsOrderly (H.state hub.new) (H.talk hub.new) }
     {
         for conn in 0..self.len() {
@@ -196,6 +202,7 @@ impl Core {
         ensures same { H.state hub.new ≡ record (H.state hub.old) { live = (H.state hub.new).live } }
         ensures talk { H.talk hub.new ≡ H.talk hub.old }
         ensures faults { H.faults hub.new ≡ H.faults hub.old }
+        ensures sends { H.send_faults hub.new ≡ H.send_faults hub.old }
         ensures orderly { IsOrderly (H.state hub.old) (H.talk hub.old) → IsOrderly (H.state hub.new) (H.talk hub.new) }
     {
         let line = self.take(conn);
@@ -208,6 +215,7 @@ fn close_where<H: Hub>(hub: &mut H, conn: u32, closes: bool)
     ensures state { H.state hub.new ≡ closed_unless (not closes) conn (H.state hub.old) }
     ensures talk { H.talk hub.new ≡ H.talk hub.old }
     ensures faults { H.faults hub.new ≡ H.faults hub.old }
+    ensures sends { H.send_faults hub.new ≡ H.send_faults hub.old }
     ensures orderly { IsOrderly (H.state hub.old) (H.talk hub.old) → IsOrderly (H.state hub.new) (H.talk hub.new) }
 {
     if closes {
@@ -222,6 +230,7 @@ fn refuse<H: Hub>(hub: &mut H, conn: u32)
     ensures starved { Starved conn (H.talk hub.old) (H.talk hub.new) }
     ensures state { H.state hub.new ≡ record (H.state hub.old) { live = set.remove (H.state hub.old).live conn } }
     ensures faults { H.faults hub.new ≡ H.faults hub.old }
+    ensures breaks { BreaksBy (H.send_faults hub.old) (H.send_faults hub.new) (H.talk hub.old) (H.talk hub.new) }
     ensures orderly { IsOrderly (H.state hub.old) (H.talk hub.old) → IsOrderly (H.state hub.new) (H.talk hub.new) }
 {
     starve(hub, conn);

@@ -7,3 +7,5 @@ mod commands;
 mod engine;
 #[cfg(test)]
 mod failing;
+#[cfg(test)]
+mod tired;

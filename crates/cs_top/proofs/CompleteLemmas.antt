@@ -14,8 +14,9 @@ use Rattle.cs_top.specs.CommandLine.{Command, build, ask, replay, serve, trial, 
 use Rattle.cs_top.specs.Met.{Listened, Met, Wrote, held_bytes}
 use Rattle.cs_top.specs.Runs.{Completes, Ran}
 use Rattle.cs_top.specs.Scripts.{ScriptEnds, IsReadable}
-use Rattle.cs_top.specs.Serve.{CanServe, ServeCaused, ServeStops, ServeTold}
+use Rattle.cs_top.specs.Serve.{CanServe, ServeCaused, ServeEnds, ServeStops, ServeTold}
 use Rattle.cs_top.specs.Trial.{TrialEnds}
+use Rattle.cs_top.proofs.ServeLemmas.{served_all}
 
 missing : (f : Option File) → IsHeld f → f ≡ None → ⊥
 missing None held none = held
@@ -139,6 +140,18 @@ served changed h i p n before now w net a can calm = absurd a
 no_failed_serve : (e : Ending) (fb fn ob on hb hn : ℕ) → ServeCaused e fb fn ob on hb hn → (Rose fb fn → ⊥) → (Rose ob on → ⊥) → (Rose hb hn → ⊥) → e ≡ failed → ⊥
 no_failed_serve e fb fn ob on hb hn cause files out hub is = elim (subst (λ x. ServeCaused x fb fn ob on hb hn) is cause).0 [ inl r ↦ files r | inr r ↦ elim r [ inl r ↦ out r | inr r ↦ hub r ] ]
 
+-- no other ending has this status
+only_done : (e : Ending) → status e ≡ 0 → e ≡ done
+only_done done is = refl
+only_done usage is = absurd cc
+only_done (refused r) is = absurd cc
+only_done (damaged rule at) is = absurd cc
+only_done (absent x) is = absurd cc
+only_done failed is = absurd cc
+only_done no_memory is = absurd cc
+only_done (script_refused f) is = absurd cc
+only_done changed is = absurd cc
+
 tried : (e : Ending) (n : List ℕ) (w : Wrote) → TrialEnds e n w → (e ≡ failed → ⊥) → IsWell e
 tried done n w a calm = inl refl
 tried no_memory n w a calm = inr refl
@@ -158,6 +171,9 @@ completes e (Some (ask c s)) m r = λ h held able files out hub.
     told e h c s m.out (r.told h held) able (no_failure e m.files_before m.files_now m.out.before m.out.now r.caused files out)
 completes e (Some (replay i s)) m r = λ h held able files out hub.
     replay_told e h i s m.files_before m.files_now m.out (r.told h held) able (no_failed_replay e m.files_before m.files_now m.out.before m.out.now r.caused files out)
-completes e (Some (serve i p n)) m r = λ h held able files out hub.
-    served e h i p n m.files_before m.files_now m.out m.net (r.told h held) able (no_failed_serve e m.files_before m.files_now m.out.before m.out.now m.net.before m.net.now r.caused files out hub)
+completes e (Some (serve i p n)) m r = λ h held able. (
+  λ files out hub. served e h i p n m.files_before m.files_now m.out m.net (r.told h held) able (no_failed_serve e m.files_before m.files_now m.out.before m.out.now m.net.before m.net.now r.caused files out hub),
+  λ zero calm sent. let is = only_done e zero in
+      served_all h i p n m.files_before m.files_now m.out m.net (subst (λ x. ServeEnds x i p n m.out m.net) is r.ends).0 (subst (λ x. ServeTold x h i p n m.files_before m.files_now m.out m.net) is (r.told h held)) calm sent,
+)
 completes e (Some (trial n)) m r = λ files out hub. tried e n m.out r.ends (no_failed_file e m.out.before m.out.now r.caused out)

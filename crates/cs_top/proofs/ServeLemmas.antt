@@ -1,11 +1,13 @@
 -- What follows of a run of `serve` by how it ended.
 --
+--   serving_by           a hub that served, by what it was when it began
 --   failed_after_line    one that put its line whole, over an out that tells and didn't fail, failed by the hub alone
 --   same_each            where no response says Read or Changed, each is the answer in whose place it stands
 --   exact_one            so one connection was sent exactly what answers its bytes
 --   exact_all            and each of them, where the files' count didn't rise
+--   served_all           also those on which a send might fail, where none did
 --   ran_by               a whole run
-use Rattle.std.proofs.Common.{◌≡◌, ℕ, ◌+◌, ◌<◌, suc, zero, Bool, true, false, not, cond, ltb, List, [], ◌∷◌, ◌++◌, append-nil, inl, inr, refl, sym, subst, ◌∙◌, ap, arith}
+use Rattle.std.proofs.Common.{◌≡◌, ℕ, ◌+◌, ◌<◌, ◌≤◌, suc, zero, Bool, true, false, not, cond, ltb, List, [], ◌∷◌, ◌++◌, append-nil, inl, inr, refl, sym, subst, ◌∙◌, ap, arith}
 use Rattle.std.proofs.lemmas.Bool.Decides.{nat_tests}
 use Rattle.std.proofs.lemmas.List.{append_cancel_left}
 use Rattle.std.proofs.lemmas.Slice.Eq.{bytes_eq-Decides}
@@ -14,17 +16,29 @@ use Rattle.std.specs.List.{AllZip}
 use Rattle.std.specs.Option.{ForSome, option_map, unwrap_or}
 use Rattle.cs_base.specs.outside.Causes.{Rose}
 use Rattle.cs_base.specs.outside.Hub.{Listening, Talk, sent_on}
-use Rattle.cs_base.specs.outside.Outside.{Grew}
+use Rattle.cs_base.specs.outside.Outside.{Grew, Held}
 use Rattle.cs_hub.specs.Following.{AreServed, left_at}
+use Rattle.cs_hub.specs.Speaking.{AreUnbroken}
 use Rattle.cs_hub.specs.Streams.{RoseBy, bytes_on, sum_below}
 use Rattle.cs_hub.proofs.ServedLemmas.{changes_cons, reads_cons}
 use Rattle.cs_model.specs.Corpus.{Corpus}
+use Rattle.cs_model.specs.Parameters.{number_of}
 use Rattle.cs_model_index.specs.Sections.{file_corpus}
 use Rattle.cs_model_serving.specs.Connections.{IsFair, Left, MayReplace, StandsBy, answers, changes, is_changed, is_read, reads}
 use Rattle.cs_model_serving.specs.Responses.{Response, all_bytes, index_changed, memory_bytes, read_failed}
 use Rattle.cs_top.specs.CommandLine.{Ending, failed}
 use Rattle.cs_top.specs.Met.{Listened, Met, Wrote, held_bytes}
-use Rattle.cs_top.specs.Serve.{AreAnswered, AreExact, FailsBehind, IsExact, IsServing, ServeCaused, ServeEnds, ServeFailed, ServeRan, ServeTold, serving_line}
+use Rattle.cs_top.specs.Serve.{AreAnswered, AreExact, FailsBehind, HasPut, IsExact, IsServing, ServeCaused, ServeEnds, ServeFailed, ServeRan, ServeTold, ServesAll, serving_line}
+
+pub serving_by : (p n : List ℕ) (w : Wrote) (net : Listened) (mid : ℕ) → HasPut p w → net.state_now.port ≡ number_of p → net.state_now.conns ≡ number_of n → mid ≡ net.sends_before → mid ≤ net.sends_now → ((Rose mid net.sends_now → ⊥) → ForSome net.talk_now AreUnbroken)
+    → IsServing p n w net
+serving_by p n w net mid put port conns sends later unbroken = record {
+  put = put;
+  port = port;
+  conns = conns;
+  sends = omega (arith, sends, later);
+  unbroken = λ calm. unbroken (λ rose. calm (subst (λ x. Rose x net.sends_now) sends rose));
+}
 
 pub failed_after_line : (p n : List ℕ) (w : Wrote) (net : Listened) (P : Type 0) (b : List ℕ) → w.old ≡ Some b → Grew w.old (serving_line p) w.new → ¬ Rose w.before w.now → ServeFailed p n w net P
     → IsServing p n w net × Rose net.before net.now × P
@@ -90,6 +104,10 @@ exact_all k s talk before now h calm t told c opened whole =
     let one = right.right c opened in
     exact_one k (bytes_on c t.came) (sent_on t c) (right.sent c) (each_none s.opened (λ d. reads (right.sent d)) c opened none) one.unchanged (left_at h.core c)
     (subst (λ x. StandsBy k (bytes_on c t.came) (sent_on t c) x (left_at h.core c) (right.sent c)) whole one.stands)
+
+pub served_all : (h : Held) (i p n : List ℕ) (before now : ℕ) (w : Wrote) (net : Listened) → IsServing p n w net → AreAnswered h i before now net → ¬ Rose before now → ¬ Rose net.sends_before net.sends_now → ServesAll h i net
+served_all h i p n before now w net serving right calm sent t told c opened =
+    exact_all (file_corpus (held_bytes h i)) net.state_now net.talk_now before now right.1 calm t told c opened (serving.unbroken sent t told c)
 
 -- ---- a whole run
 module _ (i p n : List ℕ) {H : Type 0} (m : Met H) where

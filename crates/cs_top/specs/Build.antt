@@ -33,7 +33,8 @@ abbrev pub IsBegun : Option Held → List ℕ → List ℕ → Option Held → T
 IsBegun old name b new = (new ≡ old) ⊎ ((f : File) × (k : ℕ) × (f.bytes ≡ take k b) × Sets old name (λ _. f) new)
 
 -- Before the index file is made: a name that is said to be absent is the collection's, and a refusal is that of the collection.
--- Its size is asked before anything is read, and takes no memory: want of memory hides no absent file.
+-- Its size is asked before any memory is taken: want of memory hides no absent file. Files may take some to tell a size, as that of a
+-- stream, which is read whole for it; where they find none, that call fails.
 abbrev pub BuildStops : Ending → Held → List ℕ → Type 0
 BuildStops (absent name) h c = (name ≡ c) × (map.get h c ≡ None)
 BuildStops (refused r) h c = IsHeld (map.get h c) × (refusal (held_bytes h c) ≡ Some r)

@@ -1,7 +1,7 @@
 -- What a run meets outside, before and after it. Each meaning is optional: None where the object doesn't tell.
 --
 --   Wrote, wrote           what a sink told before and after, and how often it had failed
---   Listened, listened     what a hub told before and after, and how often `listen` and `next` had failed
+--   Listened, listened     what a hub told before and after, how often `listen` and `next` had failed, and how often `send`
 --   Met, met               the files that were held and are held, what was put, how often calls had failed, and the
 --                          hub
 --   LeavesAll m            files, out and hub are as they were
@@ -25,7 +25,7 @@ pub record Wrote : Type 0 where
 abbrev pub wrote : {O : Type 0} → (O → Option (List ℕ)) → (O → ℕ) → O → O → Wrote
 wrote written faults old new = record { old = written old; new = written new; before = faults old; now = faults new }
 
--- what a hub tells, its talk maybe not, and its count of failures of `listen` and `next`
+-- what a hub tells, its talk maybe not, its count of failures of `listen` and `next`, and that of failures of `send`
 pub record Listened : Type 0 where
   pub state : Listening
   pub state_now : Listening
@@ -33,10 +33,21 @@ pub record Listened : Type 0 where
   pub talk_now : Option Talk
   pub before : ℕ
   pub now : ℕ
+  pub sends_before : ℕ
+  pub sends_now : ℕ
 
 -- the same of a hub, from what it was to what it is
-abbrev pub listened : {H : Type 0} → (H → Listening) → (H → Option Talk) → (H → ℕ) → H → H → Listened
-listened state talk faults old new = record { state = state old; state_now = state new; talk = talk old; talk_now = talk new; before = faults old; now = faults new }
+abbrev pub listened : {H : Type 0} → (H → Listening) → (H → Option Talk) → (H → ℕ) → (H → ℕ) → H → H → Listened
+listened state talk faults sends old new = record {
+  state = state old;
+  state_now = state new;
+  talk = talk old;
+  talk_now = talk new;
+  before = faults old;
+  now = faults new;
+  sends_before = sends old;
+  sends_now = sends new;
+}
 
 -- what a run meets; a hub is seen whole, whatever it tells
 pub record Met (H : Type 0) : Type 0 where
@@ -50,14 +61,14 @@ pub record Met (H : Type 0) : Type 0 where
   pub hub_now : H
 
 -- what files, out and hub tell of themselves, from what they were to what they are
-abbrev pub met : {F O H : Type 0} → (F → Option Held) → (F → ℕ) → (O → Option (List ℕ)) → (O → ℕ) → (H → Listening) → (H → Option Talk) → (H → ℕ) → F → F → O → O → H → H → Met H
-met held files_faults written out_faults state talk hub_faults files_old files_new out_old out_new hub_old hub_new = record {
+abbrev pub met : {F O H : Type 0} → (F → Option Held) → (F → ℕ) → (O → Option (List ℕ)) → (O → ℕ) → (H → Listening) → (H → Option Talk) → (H → ℕ) → (H → ℕ) → F → F → O → O → H → H → Met H
+met held files_faults written out_faults state talk hub_faults send_faults files_old files_new out_old out_new hub_old hub_new = record {
   held = held files_old;
   held_now = held files_new;
   files_before = files_faults files_old;
   files_now = files_faults files_new;
   out = wrote written out_faults out_old out_new;
-  net = listened state talk hub_faults hub_old hub_new;
+  net = listened state talk hub_faults send_faults hub_old hub_new;
   hub = hub_old;
   hub_now = hub_new;
 }

@@ -5,7 +5,7 @@
 --   IsAble command h             files, by their names, from which a command can do all
 --   Finishes m result            where no count rose, the status is 0 or 7
 --   Completes command m result   a command that can do all does it, or memory runs out; of files that don't tell that is said of
---                                `trial` alone
+--                                `trial` alone. `serve` leaves no request unanswered then
 use Rattle.std.specs.Prelude.{◌≡◌, ◌⊎◌, ℕ, Option, Some, None}
 use Rattle.std.specs.Option.{ForSome}
 use Rattle.cs_base.specs.outside.Causes.{Rose}
@@ -14,7 +14,7 @@ use Rattle.cs_top.specs.Build.{BuildRan, CanBuild}
 use Rattle.cs_top.specs.CommandLine.{Command, build, ask, replay, serve, trial, Ending, usage}
 use Rattle.cs_top.specs.Met.{Met, LeavesAll}
 use Rattle.cs_top.specs.ScriptRuns.{AskRan, CanAsk, ReplayRan, CanReplay}
-use Rattle.cs_top.specs.Serve.{ServeRan, CanServe}
+use Rattle.cs_top.specs.Serve.{ServeRan, ServesAll, CanServe}
 use Rattle.cs_top.specs.Trial.{TrialRan}
 
 -- a run that ends as x before it meets anything
@@ -44,7 +44,10 @@ IsAble None h = ⊥
 abbrev pub Finishes : {H : Type 0} → Met H → ℕ → Type 0
 Finishes m result = ¬ Rose m.files_before m.files_now → ¬ Rose m.out.before m.out.now → ¬ Rose m.net.before m.net.now → (result ≡ 0) ⊎ (result ≡ 7)
 
--- No run gives up by itself: what can be done is done, or memory ran out. No words that aren't in the table can be.
+-- No run gives up by itself: what can be done is done, or memory ran out. No words that aren't in the table can be. Where `serve` is
+-- done and no read and no send failed, each connection has exactly what answers its bytes, or its beginning and the memory response.
 abbrev pub Completes : {H : Type 0} → Option Command → Met H → ℕ → Type 0
 Completes (Some (trial n)) m result = Finishes m result
+Completes (Some (serve i p n)) m result =
+    ForSome m.held (λ h. CanServe h i → Finishes m result × (result ≡ 0 → ¬ Rose m.files_before m.files_now → ¬ Rose m.net.sends_before m.net.sends_now → ServesAll h i m.net))
 Completes command m result = ForSome m.held (λ h. IsAble command h → Finishes m result)

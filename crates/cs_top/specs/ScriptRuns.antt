@@ -44,7 +44,8 @@ abbrev pub IsReady : Held → List ℕ → List ℕ → Type 0
 IsReady h c s = AreHeld h c s × (refusal (held_bytes h c) ≡ None)
 
 -- Before its script: the first of the two names that isn't held is said to be absent, and a refusal is that of a collection
--- whose script is held. Both sizes are asked before anything is read, and take no memory: want of memory hides no absent file.
+-- whose script is held. Both sizes are asked before any memory is taken: want of memory hides no absent file. Files may take some to
+-- tell a size, as that of a stream, which is read whole for it; where they find none, that call fails.
 abbrev pub AskStops : Ending → Held → List ℕ → List ℕ → Type 0
 AskStops (absent name) h c s = ((name ≡ c) × (map.get h c ≡ None)) ⊎ ((name ≡ s) × IsHeld (map.get h c) × (map.get h s ≡ None))
 AskStops (refused r) h c s = AreHeld h c s × (refusal (held_bytes h c) ≡ Some r)
@@ -89,7 +90,8 @@ abbrev pub IsOpen : Held → List ℕ → List ℕ → Type 0
 IsOpen h i s = AreHeld h i s × IsIndexFile (held_bytes h i)
 
 -- Before its script: the first of the two names that isn't held is said to be absent, and damage is the first broken rule of the
--- index file and its place. Both sizes are asked before anything is read, and take no memory: want of memory hides no absent file.
+-- index file and its place. Both sizes are asked before any memory is taken: want of memory hides no absent file. Files may take some
+-- to tell a size, as that of a stream, which is read whole for it; where they find none, that call fails.
 abbrev pub ReplayStops : Ending → Held → List ℕ → List ℕ → Type 0
 ReplayStops (absent name) h i s = ((name ≡ i) × (map.get h i ≡ None)) ⊎ ((name ≡ s) × IsHeld (map.get h i) × (map.get h s ≡ None))
 ReplayStops (damaged rule at) h i s = AreHeld h i s × (damage (held_bytes h i) ≡ Some (broken_at rule at))

@@ -6,7 +6,7 @@
 --   IsUntouched w net        nothing is put, and the hub tells what it told
 --   IsListening p n net      the hub is as `listen` leaves it
 --   HasPut p w               the line is put whole
---   IsServing p n w net      the line is put, and the hub has the port and the room for connections
+--   IsServing p n w net      the line is put, the hub has the port and the room for connections, and none broke but by a failed send
 --   IsOver n net             no connection is live, and no more will be
 --   HasStopped p n w net     how it stands where serving didn't begin
 --   ServeEnds e i p n w net  how it may end over any files
@@ -15,9 +15,11 @@
 --   AreAnswered h i ..       what was sent on each connection is right, and why it ended
 --   IsExact k b s            what was sent is exactly what answers the bytes b, or its beginning and the memory response
 --   AreExact k s t           so it is on each opened connection that isn't broken
+--   ServesAll h i net        over a hub that tells its talk, so it is on each opened connection, by the corpus of the index file
 --   ServeTold                how it ended over files that tell
 --   ServeCaused              why it ends: where it failed a count rose; while it serves reads may fail
---   ServeRan e i p n m       a whole run; where all is done and no read failed, each connection has exactly what answers its bytes
+--   ServeRan e i p n m       a whole run; where all is done and no read failed, each connection has exactly what answers its bytes, but
+--                            for those on which a send failed
 use Rattle.std.specs.Prelude.{◌≡◌, ◌⊎◌, ℕ, ◌<◌, ◌≤◌, true, false, List, [], ◌∷◌, ◌++◌, Some, None, codes}
 use Rattle.std.specs.Option.{ForSome, option_map}
 use Rattle.std.specs.FinMap as map
@@ -26,6 +28,7 @@ use Rattle.cs_base.specs.outside.Causes.{Rose}
 use Rattle.cs_base.specs.outside.Hub.{Listening, Talk, listens, sent_on, silent}
 use Rattle.cs_base.specs.outside.Outside.{Grew, GrewByPrefix, Held, IsHeld}
 use Rattle.cs_hub.specs.Following.{AreServed}
+use Rattle.cs_hub.specs.Speaking.{AreUnbroken}
 use Rattle.cs_hub.specs.Streams.{bytes_on}
 use Rattle.cs_model.specs.Corpus.{Corpus}
 use Rattle.cs_model.specs.Parameters.{number_of}
@@ -54,27 +57,32 @@ ServeStops failed h i = Unit {0}
 ServeStops e h i = ⊥
 
 -- ---- out and the hub
--- nothing is put, and the hub tells what it told; its counts are said elsewhere
+-- nothing is put, and the hub tells what it told; its count of `listen` and `next` is said elsewhere
 pub record IsUntouched (w : Wrote) (net : Listened) : Type 0 where
   pub put : w.new ≡ w.old
   pub state : net.state_now ≡ net.state
   pub talk : net.talk_now ≡ net.talk
+  pub sends : net.sends_now ≡ net.sends_before
 
 -- it listens, and nothing came yet
 pub record IsListening (p n : List ℕ) (net : Listened) : Type 0 where
   pub state : net.state_now ≡ listens (number_of p) (number_of n)
   pub talk : net.talk_now ≡ option_map (λ _. silent) net.talk
+  pub sends : net.sends_now ≡ net.sends_before
 
 -- exactly the line is put, and out didn't fail
 pub record HasPut (p : List ℕ) (w : Wrote) : Type 0 where
   pub line : Grew w.old (serving_line p) w.new
   pub count : w.now ≡ w.before
 
--- the line is put, and the hub has this port and room for so many connections, of which any may be opened
+-- the line is put, and the hub has this port and room for so many connections, of which any may be opened; where no send failed, no
+-- connection is broken
 pub record IsServing (p n : List ℕ) (w : Wrote) (net : Listened) : Type 0 where
   pub put : HasPut p w
   pub port : net.state_now.port ≡ number_of p
   pub conns : net.state_now.conns ≡ number_of n
+  pub sends : net.sends_before ≤ net.sends_now
+  pub unbroken : ¬ Rose net.sends_before net.sends_now → ForSome net.talk_now AreUnbroken
 
 -- no connection is live, and all were opened or nothing more comes
 pub record IsOver (n : List ℕ) (net : Listened) : Type 0 where
@@ -123,6 +131,10 @@ IsExact k b s =
 abbrev pub AreExact : Corpus → Listening → Talk → Type 0
 AreExact k s t = (c : ℕ) → c < s.opened → set.contains t.broken c ≡ false → IsExact k (bytes_on c t.came) (sent_on t c)
 
+-- so it is on each opened connection, by the corpus of the index file; nothing is said over a hub that doesn't tell its talk
+abbrev pub ServesAll : Held → List ℕ → Listened → Type 0
+ServesAll h i net = ForSome net.talk_now (λ t. (c : ℕ) → c < net.state_now.opened → IsExact (file_corpus (held_bytes h i)) (bytes_on c t.came) (sent_on t c))
+
 -- how it ended: a refusal by its cause; done, and where it failed while it served, each connection stands right
 abbrev pub ServeTold : Ending → Held → List ℕ → List ℕ → List ℕ → ℕ → ℕ → Wrote → Listened → Type 0
 ServeTold done h i p n before now w net = AreAnswered h i before now net
@@ -130,10 +142,10 @@ ServeTold failed h i p n before now w net = ServeFailed p n w net (AreAnswered h
 ServeTold e h i p n before now w net = ServeStops e h i
 
 -- ---- causes
--- where it failed one of the counts rose; where it is done reads may have failed; else the counts are as they were
+-- where it failed one of the counts rose, and none fell; where it is done reads may have failed; else the counts are as they were
 abbrev pub ServeCaused : Ending → ℕ → ℕ → ℕ → ℕ → ℕ → ℕ → Type 0
 ServeCaused failed files_before files_now out_before out_now hub_before hub_now =
-    (Rose files_before files_now ⊎ Rose out_before out_now ⊎ Rose hub_before hub_now) × (files_before ≤ files_now) × (out_before ≤ out_now)
+    (Rose files_before files_now ⊎ Rose out_before out_now ⊎ Rose hub_before hub_now) × (files_before ≤ files_now) × (out_before ≤ out_now) × (hub_before ≤ hub_now)
 ServeCaused done files_before files_now out_before out_now hub_before hub_now = (files_before ≤ files_now) × (out_now ≡ out_before) × (hub_now ≡ hub_before)
 ServeCaused e files_before files_now out_before out_now hub_before hub_now = (files_now ≡ files_before) × (out_now ≡ out_before) × (hub_now ≡ hub_before)
 

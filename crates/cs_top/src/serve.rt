@@ -8,6 +8,7 @@ ghost use Rattle.cs_base.specs.outside.Outside.{GrewByPrefix, file_bytes};
 ghost use Rattle.cs_engine.specs.Keeping.{AreGood};
 ghost use Rattle.cs_file.specs.Indexes.{Fits, StandsFor};
 ghost use Rattle.cs_hub.specs.Following.{AreServed};
+ghost use Rattle.cs_hub.specs.Speaking.{AreUnbroken};
 ghost use Rattle.cs_model_index.specs.Sections.{file_corpus};
 ghost use Rattle.cs_top.specs.CommandLine.{CausedBy, is_number};
 ghost use Rattle.cs_top.specs.Met.{HasSize, Listened, OfBytes, Wrote, listened, wrote};
@@ -37,8 +38,8 @@ pub(crate) fn serve<'a, F: Files, H: Hub, O: Sink>(
     requires port { is_number 5 65535 port.now ≡ true }
     requires conns { is_number 7 1000000 conns.now ≡ true }
 
-    ensures ends { ServeEnds (ended result) index.now port.now conns.now (wrote O.written O.faults out.old out.new) (listened H.state H.talk H.faults hub.old hub.new) }
-    ensures told { ForSome (F.held files.old) (λ h. ServeTold (ended result) h index.now port.now conns.now (F.faults files.old) (F.faults files.new) (wrote O.written O.faults out.old out.new) (listened H.state H.talk H.faults hub.old hub.new)) }
+    ensures ends { ServeEnds (ended result) index.now port.now conns.now (wrote O.written O.faults out.old out.new) (listened H.state H.talk H.faults H.send_faults hub.old hub.new) }
+    ensures told { ForSome (F.held files.old) (λ h. ServeTold (ended result) h index.now port.now conns.now (F.faults files.old) (F.faults files.new) (wrote O.written O.faults out.old out.new) (listened H.state H.talk H.faults H.send_faults hub.old hub.new)) }
     ensures caused { ServeCaused (ended result) (F.faults files.old) (F.faults files.new) (O.faults out.old) (O.faults out.new) (H.faults hub.old) (H.faults hub.new) }
     ensures files { F.held files.new ≡ F.held files.old }
 {
@@ -79,10 +80,11 @@ fn begin<H: Hub, O: Sink>(hub: &mut H, out: &mut O, port: &str, conns: &str) -> 
     requires conns { is_number 7 1000000 conns.now ≡ true }
 
     ensures put { OnOk result (HasPut port.now (wrote O.written O.faults out.old out.new)) }
-    ensures listening { OnOk result (IsListening port.now conns.now (listened H.state H.talk H.faults hub.old hub.new)) }
+    ensures listening { OnOk result (IsListening port.now conns.now (listened H.state H.talk H.faults H.send_faults hub.old hub.new)) }
     ensures orderly { OnOk result (IsOrderly (H.state hub.new) (H.talk hub.new)) }
     ensures quiet { OnOk result (H.faults hub.new ≡ H.faults hub.old) }
-    ensures stopped { OnErr result (HasStopped port.now conns.now (wrote O.written O.faults out.old out.new) (listened H.state H.talk H.faults hub.old hub.new)) }
+    ensures hub_later { H.faults hub.old ≤ H.faults hub.new }
+    ensures stopped { OnErr result (HasStopped port.now conns.now (wrote O.written O.faults out.old out.new) (listened H.state H.talk H.faults H.send_faults hub.old hub.new)) }
     ensures caused { OnErr result (Rose (O.faults out.old) (O.faults out.new) ⊎ Rose (H.faults hub.old) (H.faults hub.new)) }
     ensures later { O.faults out.old ≤ O.faults out.new }
 {
@@ -117,8 +119,11 @@ fn serve_file<F: Files, H: Hub>(
     ensures served { OfBytes (F.held files.old) name.now (λ b. StandsFor b engine.old.index → AreGood b engine.old → AreServed (file_corpus b) (H.state hub.new) (H.talk hub.new) (F.faults files.old) (F.faults files.new)) }
     ensures done { result ≡ ServeEnd.Done → ((c : ℕ) → set.contains (H.state hub.new).live c ≡ false) × (((H.state hub.new).opened ≡ conns) ⊎ ((H.state hub.new).over ≡ true)) }
     ensures hub_failed { result ≡ ServeEnd.HubFailed → Rose (H.faults hub.old) (H.faults hub.new) }
-    ensures memory { result ≡ ServeEnd.Memory → (H.state hub.new ≡ H.state hub.old) × (H.talk hub.new ≡ H.talk hub.old) × (F.faults files.new ≡ F.faults files.old) }
+    ensures memory { result ≡ ServeEnd.Memory → (H.state hub.new ≡ H.state hub.old) × (H.talk hub.new ≡ H.talk hub.old) × (F.faults files.new ≡ F.faults files.old) × (H.send_faults hub.new ≡ H.send_faults hub.old) }
     ensures quiet { result ≢ ServeEnd.HubFailed → H.faults hub.new ≡ H.faults hub.old }
+    ensures hub_later { H.faults hub.old ≤ H.faults hub.new }
+    ensures unbroken { ¬ Rose (H.send_faults hub.old) (H.send_faults hub.new) → ForSome (H.talk hub.new) AreUnbroken }
+    ensures sends_later { H.send_faults hub.old ≤ H.send_faults hub.new }
     ensures port { (H.state hub.new).port ≡ (H.state hub.old).port }
     ensures conns { (H.state hub.new).conns ≡ conns }
     ensures files { F.held files.new ≡ F.held files.old }

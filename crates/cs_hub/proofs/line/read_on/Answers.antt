@@ -15,7 +15,7 @@ loop-used-init g c = record {
   still = λ k h. h;
   lent = search rules;
   later = omega arith;
-  calm = calm_still (g.H.Hub.state c.args.hub.now) (g.H.Hub.faults c.args.hub.now) (g.H.Hub.talk c.args.hub.now);
+  calm = calm_still (g.H.Hub.state c.args.hub.now) (g.H.Hub.faults c.args.hub.now) (g.H.Hub.send_faults c.args.hub.now) (g.H.Hub.talk c.args.hub.now);
 }
 
 pub loop-used-preserved : goal.loop-used-preserved
@@ -35,7 +35,7 @@ loop-used-preserved g c =
       still = λ k h. c.in-Next.ensures.still k (c.loop-used.invariant.still k h);
       lent = c.in-Next.ensures.lent ∙ c.loop-used.invariant.lent;
       later = omega (arith, c.in-Next.ensures.later, c.loop-used.invariant.later);
-      calm = calm_on (g.H.Hub.state c.args.hub.now) (g.H.Hub.state c.loop-used.hub) (g.H.Hub.state c.turn.new.hub) (g.H.Hub.faults c.args.hub.now) (g.H.Hub.faults c.loop-used.hub) (g.H.Hub.faults c.turn.new.hub) talk (g.H.Hub.talk c.loop-used.hub) then c.loop-used.invariant.calm c.in-Next.ensures.calm;
+      calm = calm_on (g.H.Hub.state c.args.hub.now) (g.H.Hub.state c.loop-used.hub) (g.H.Hub.state c.turn.new.hub) (g.H.Hub.faults c.args.hub.now) (g.H.Hub.faults c.loop-used.hub) (g.H.Hub.faults c.turn.new.hub) (g.H.Hub.send_faults c.args.hub.now) (g.H.Hub.send_faults c.loop-used.hub) (g.H.Hub.send_faults c.turn.new.hub) talk (g.H.Hub.talk c.loop-used.hub) then c.loop-used.invariant.calm c.in-Next.ensures.calm;
     }
 
 pub returns-in-Holds-clause-reads : goal.returns-in-Holds-clause-reads

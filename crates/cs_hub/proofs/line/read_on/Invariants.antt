@@ -14,7 +14,7 @@ invariant-loop-used g l = record {
   still : (k : Corpus) → g.A.Answerer.answers l.initial.answerer k → g.A.Answerer.answers l.answerer k;
   lent : g.A.Answerer.lent l.answerer ≡ g.A.Answerer.lent l.initial.answerer;
   later : g.A.Answerer.faults l.initial.answerer ≤ g.A.Answerer.faults l.answerer;
-  calm : Calm (g.H.Hub.state l.initial.hub) (g.H.Hub.state l.hub) (g.H.Hub.faults l.initial.hub) (g.H.Hub.faults l.hub) (g.H.Hub.talk l.initial.hub) (g.H.Hub.talk l.hub);
+  calm : Calm (g.H.Hub.state l.initial.hub) (g.H.Hub.state l.hub) (g.H.Hub.faults l.initial.hub) (g.H.Hub.faults l.hub) (g.H.Hub.send_faults l.initial.hub) (g.H.Hub.send_faults l.hub) (g.H.Hub.talk l.initial.hub) (g.H.Hub.talk l.hub);
 }
 
 abbrev pub decreases-loop-used : goal.decreases-loop-used

@@ -1,6 +1,7 @@
 use Rattle.std.proofs.Common.{◌∙◌, ap, arith, rules}
 use Rattle.cs_base.specs.outside.Hub.{Listening}
 use Rattle.cs_hub.proofs.RoundLemmas.{at_start, start_live, start_still, goes_on, served_by, less_left}
+use Rattle.cs_hub.proofs.SpeakLemmas.{breaks_both, breaks_none, none_broken}
 use Rattle.cs_hub.proofs.serving.serve_with.Goals as goal
 
 pub loop-alloc-init : goal.loop-alloc-init
@@ -19,6 +20,7 @@ loop-alloc-init g c =
       port = search rules;
       going = ap (λ (y : Listening). y.over) e;
       quiet = search rules;
+      breaks = breaks_none (g.H.Hub.send_faults c.args.hub.now) (g.H.Hub.talk c.args.hub.now);
       events = let z = start_still c.new-core.result c.args.conns none in omega (arith, z);
       still_over = λ k over. over;
       lent = search rules;
@@ -41,6 +43,7 @@ loop-alloc-preserved g c =
       port = r.port ∙ i.port;
       going = r.went.4 ∙ i.going;
       quiet = r.went.1 ∙ i.quiet;
+      breaks = breaks_both (g.H.Hub.send_faults c.args.hub.now) (g.H.Hub.send_faults c.loop-alloc.hub) (g.H.Hub.send_faults c.take_turn.new.hub) (g.H.Hub.talk c.args.hub.now) (g.H.Hub.talk c.loop-alloc.hub) (g.H.Hub.talk c.take_turn.new.hub) i.breaks r.breaks;
       events = omega (arith, less, r.went.5, i.events);
       still_over = λ k over. r.still k (i.still_over k over);
       lent = r.lent ∙ i.lent;

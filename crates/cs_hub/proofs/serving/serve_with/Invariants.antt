@@ -4,6 +4,7 @@ use Rattle.cs_base.specs.outside.Hub.{IsOrderly}
 use Rattle.cs_model.specs.Corpus.{Corpus}
 use Rattle.cs_hub.specs.Following.{HasLive}
 use Rattle.cs_hub.specs.Rounds.{still, came_by}
+use Rattle.cs_hub.specs.Speaking.{BreaksBy}
 use Rattle.cs_hub.proofs.RoundLemmas.{ServedBy}
 use Rattle.cs_hub.proofs.serving.serve_with.Given as goal
 
@@ -18,6 +19,7 @@ invariant-loop-alloc g l = record {
   port : (g.H.Hub.state l.hub).port ≡ (g.H.Hub.state l.initial.hub).port;
   going : (g.H.Hub.state l.hub).over ≡ false;
   quiet : g.H.Hub.faults l.hub ≡ g.H.Hub.faults l.initial.hub;
+  breaks : BreaksBy (g.H.Hub.send_faults l.initial.hub) (g.H.Hub.send_faults l.hub) (g.H.Hub.talk l.initial.hub) (g.H.Hub.talk l.hub);
   events : came_by (g.H.Hub.talk l.hub) + still l.conns l.opened l.core ≤ came_by (g.H.Hub.talk l.initial.hub) + l.conns * (MAX_CONNECTION_BYTES + 2);
   still_over : (k : Corpus) → g.A.Answerer.answers l.initial.answerer k → g.A.Answerer.answers l.answerer k;
   lent : g.A.Answerer.lent l.answerer ≡ g.A.Answerer.lent l.initial.answerer;

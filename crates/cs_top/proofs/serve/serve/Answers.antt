@@ -2,7 +2,8 @@ use Rattle.std.proofs.Common.{◌∙◌, ap, inr, refl, subst}
 use Rattle.cs_base.specs.outside.Causes.{Rose}
 use Rattle.cs_hub.specs.Following.{AreServed}
 use Rattle.cs_model_index.specs.Sections.{file_corpus}
-use Rattle.cs_top.specs.Met.{held_bytes}
+use Rattle.cs_top.specs.Met.{held_bytes, listened, wrote}
+use Rattle.cs_top.proofs.ServeLemmas.{serving_by}
 use Rattle.cs_top.proofs.serve.serve.Goals as goal
 
 pub returns-in-Done-clause-told : goal.returns-in-Done-clause-told
@@ -17,11 +18,8 @@ pub returns-in-HubFailed-clause-told : goal.returns-in-HubFailed-clause-told
 returns-in-HubFailed-clause-told g c h held =
     let b = held_bytes h c.args.index.now in
     inr (
-      record {
-        put = c.in_ok-begin.ensures.put;
-        port = c.in-HubFailed.ensures.port ∙ ap (λ s. s.port) c.in_ok-begin.ensures.listening.state;
-        conns = c.in-HubFailed.ensures.conns ∙ c.conns_of.ensures;
-      },
+      serving_by c.args.port.now c.args.conns.now (wrote g.O.Sink.written g.O.Sink.faults c.args.out.now c.begin.new.out) (listened g.H.Hub.state g.H.Hub.talk g.H.Hub.faults g.H.Hub.send_faults c.args.hub.now c.serve_file.new.hub) (g.H.Hub.send_faults c.begin.new.hub)
+          c.in_ok-begin.ensures.put (c.in-HubFailed.ensures.port ∙ ap (λ s. s.port) c.in_ok-begin.ensures.listening.state) (c.in-HubFailed.ensures.conns ∙ c.conns_of.ensures) c.in_ok-begin.ensures.listening.sends c.in-HubFailed.ensures.sends_later c.in-HubFailed.ensures.unbroken,
       subst (λ n. Rose n (g.H.Hub.faults c.serve_file.new.hub)) c.in_ok-begin.ensures.quiet (c.in-HubFailed.ensures.hub_failed refl),
       (
         c.in_ok-engine.ensures.ready h held,

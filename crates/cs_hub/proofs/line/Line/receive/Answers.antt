@@ -21,15 +21,15 @@ returns-then-not-read_on-clause-received g c =
 
 pub returns-then-taken-lt-MAX_CONNECTION_BYTES-clause-asked : goal.returns-then-taken-lt-MAX_CONNECTION_BYTES-clause-asked
 returns-then-taken-lt-MAX_CONNECTION_BYTES-clause-asked g c =
-    asks_counted g.A.Answerer.leaves true c.args.self c.self.inside.taken c.self.inside.reading c.args.piece.now c.first_of-counted.result.now (g.A.Answerer.kept c.args.answerer.now) (g.A.Answerer.kept c.read_on.new.answerer) (SentBefore c.args.conn (g.H.Hub.talk c.args.hub.now) (g.H.Hub.talk c.read_on.new.hub))
+    asks_counted g.A.Answerer.leaves true c.args.self c.self.inside.taken c.self.inside.reading c.args.piece.now c.first_of-counted.result.now (g.A.Answerer.kept c.args.answerer.now) (g.A.Answerer.kept c.read_on.new.answerer) (λ b. SentBefore c.args.conn b (g.H.Hub.talk c.args.hub.now) (g.H.Hub.talk c.read_on.new.hub))
     c.self.view_is c.first_of-counted.ensures c.if-not-read_on.ensures.asked
 
 pub returns-else-taken-lt-MAX_CONNECTION_BYTES-clause-asked : goal.returns-else-taken-lt-MAX_CONNECTION_BYTES-clause-asked
 returns-else-taken-lt-MAX_CONNECTION_BYTES-clause-asked g c =
-    asks_counted g.A.Answerer.leaves false c.args.self c.self.inside.taken c.self.inside.reading c.args.piece.now c.first_of-counted.result.now (g.A.Answerer.kept c.args.answerer.now) (g.A.Answerer.kept c.read_on.new.answerer) (SentBefore c.args.conn (g.H.Hub.talk c.args.hub.now) (g.H.Hub.talk c.read_on.new.hub))
+    asks_counted g.A.Answerer.leaves false c.args.self c.self.inside.taken c.self.inside.reading c.args.piece.now c.first_of-counted.result.now (g.A.Answerer.kept c.args.answerer.now) (g.A.Answerer.kept c.read_on.new.answerer) (λ b. SentBefore c.args.conn b (g.H.Hub.talk c.args.hub.now) (g.H.Hub.talk c.read_on.new.hub))
     c.self.view_is c.first_of-counted.ensures (asks_less g.A.Answerer.leaves true _ _ _ _ c.if-not-read_on.ensures.asked)
 
 pub returns-then-not-read_on-clause-asked : goal.returns-then-not-read_on-clause-asked
 returns-then-not-read_on-clause-asked g c =
-    asks_counted g.A.Answerer.leaves false c.args.self c.self.inside.taken c.self.inside.reading c.args.piece.now c.first_of-counted.result.now (g.A.Answerer.kept c.args.answerer.now) (g.A.Answerer.kept c.read_on.new.answerer) (SentBefore c.args.conn (g.H.Hub.talk c.args.hub.now) (g.H.Hub.talk c.read_on.new.hub))
+    asks_counted g.A.Answerer.leaves false c.args.self c.self.inside.taken c.self.inside.reading c.args.piece.now c.first_of-counted.result.now (g.A.Answerer.kept c.args.answerer.now) (g.A.Answerer.kept c.read_on.new.answerer) (λ b. SentBefore c.args.conn b (g.H.Hub.talk c.args.hub.now) (g.H.Hub.talk c.read_on.new.hub))
     c.self.view_is c.first_of-counted.ensures c.if-not-read_on.ensures.asked

@@ -4,9 +4,9 @@ use Rattle.cs_hub.proofs.ReadingLemmas.{open_none}
 use Rattle.cs_hub.proofs.TurnLemmas.{replied_by}
 use Rattle.std.proofs.Common.{subst}
 use Rattle.cs_model_serving.specs.Heads.{judge}
-use Rattle.cs_hub.specs.Asked.{AsksAsSent}
-use Rattle.cs_hub.specs.DueReads.{SentBefore, requests_in}
-use Rattle.cs_hub.proofs.AskedLemmas.{asks_sent, nothing_stops, requests_few, sent_open, some_starved}
+use Rattle.cs_hub.specs.Asked.{AsksAsSent, SentFor}
+use Rattle.cs_hub.specs.DueReads.{requests_in}
+use Rattle.cs_hub.proofs.AskedLemmas.{asks_sent, sent_open, starved_for}
 use Rattle.cs_hub.proofs.reading.Reading.answer.Goals as goal
 
 pub invariant_of-self-2 : goal.invariant_of-self-2
@@ -21,12 +21,12 @@ returns-clause-replied g c =
 pub returns-clause-asked : goal.returns-clause-asked
 returns-clause-asked g c =
     let all : c.as_slice.result.now ≡ c.args.self.now ++ c.args.end.now = grind (arith, common_steps) in
-    subst (λ h. AsksAsSent g.A.Answerer.leaves c.send.result (requests_in (judge h)) (g.A.Answerer.kept c.args.answerer.now) (g.A.Answerer.kept c.answer_head-answer.new.answerer) (SentBefore c.args.conn (g.H.Hub.talk c.args.hub.now) (g.H.Hub.talk c.send.new.hub))) (ap (λ l. slice_range l c.args.skip (length l)) all)
-    (asks_sent g.A.Answerer.leaves c.args.conn c.answer_head-answer.result c.send.result _ (g.A.Answerer.kept c.args.answerer.now) (g.A.Answerer.kept c.answer_head-answer.new.answerer) (g.H.Hub.talk c.args.hub.now) (g.H.Hub.talk c.send.new.hub) (requests_few (judge _)) c.send.ensures.sent c.answer_head-answer.ensures.asked)
+    subst (λ h. AsksAsSent g.A.Answerer.leaves c.send.result (requests_in (judge h)) (g.A.Answerer.kept c.args.answerer.now) (g.A.Answerer.kept c.answer_head-answer.new.answerer) (SentFor c.args.conn c.send.result h (g.H.Hub.talk c.args.hub.now) (g.H.Hub.talk c.send.new.hub))) (ap (λ l. slice_range l c.args.skip (length l)) all)
+    (asks_sent g.A.Answerer.leaves c.args.conn c.answer_head-answer.result c.send.result _ (g.A.Answerer.kept c.args.answerer.now) (g.A.Answerer.kept c.answer_head-answer.new.answerer) (g.H.Hub.talk c.args.hub.now) (g.H.Hub.talk c.send.new.hub) c.answer_head-answer.ensures.close c.send.ensures.sent c.answer_head-answer.ensures.asked)
 
 pub returns-then-is_err-clause-asked : goal.returns-then-is_err-clause-asked
 returns-then-is_err-clause-asked g c =
-    nothing_stops g.A.Answerer.leaves c.args.conn _ (g.A.Answerer.kept c.args.answerer.now) (g.H.Hub.talk c.args.hub.now) (g.H.Hub.talk c.starve.new.hub) (some_starved c.args.conn (g.H.Hub.talk c.args.hub.now) (g.H.Hub.talk c.starve.new.hub) c.starve.ensures.starved)
+    starved_for g.A.Answerer.leaves c.args.conn _ _ (g.A.Answerer.kept c.args.answerer.now) (g.H.Hub.talk c.args.hub.now) (g.H.Hub.talk c.starve.new.hub) c.starve.ensures.starved
 
 pub returns-clause-going : goal.returns-clause-going
 returns-clause-going g c =

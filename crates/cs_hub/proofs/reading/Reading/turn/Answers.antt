@@ -47,10 +47,10 @@ returns-else-answer-clause-asked g c =
     let held : c.len-held.result ≡ length c.args.self.now = omega (arith, c.len-held.ensures, c.self.inside.unread.ok, ap length c.self.view_is) in
     let span = span_of c.args.self.now c.args.rest.now c.len-held.result c.in-Head.skip c.in-Head.end c.in-Head.ensures.found c.in-Head.ensures.placed held in
     asked_stops g.A.Answerer.leaves c.args.conn c.args.self.now c.args.rest.now c.in-Head.skip c.in-Head.end (c.in-Head.end - c.len-held.result) c.answer.result (g.A.Answerer.kept c.args.answerer.now) (g.A.Answerer.kept c.answer.new.answerer) (g.H.Hub.talk c.args.hub.now) (g.H.Hub.talk c.answer.new.hub)
-    (found_head (c.args.self.now ++ c.args.rest.now) c.in-Head.skip c.in-Head.end c.in-Head.ensures.found) span.total span.within span.front c.answer.ensures.asked
+    (found_head (c.args.self.now ++ c.args.rest.now) c.in-Head.skip c.in-Head.end c.in-Head.ensures.found) span.total span.within span.front c.answer.ensures.asked c.if-answer.false
 
 pub returns-in-TooLong-clause-asked : goal.returns-in-TooLong-clause-asked
-returns-in-TooLong-clause-asked g c = asked_long g.A.Answerer.leaves c.args.conn (c.args.self.now ++ c.args.rest.now) (g.A.Answerer.kept c.args.answerer.now) (g.H.Hub.talk c.args.hub.now) (g.H.Hub.talk c.refuse.new.hub) c.refuse.ensures.refused
+returns-in-TooLong-clause-asked g c = asked_long g.A.Answerer.leaves c.args.conn (c.args.self.now ++ c.args.rest.now) (g.A.Answerer.kept c.args.answerer.now) (g.H.Hub.talk c.args.hub.now) (g.H.Hub.talk c.refuse.new.hub) (found_long (c.args.self.now ++ c.args.rest.now) c.in-TooLong.ensures.found) c.refuse.ensures.refused
 
 pub returns-in-More-clause-asked : goal.returns-in-More-clause-asked
 returns-in-More-clause-asked g c =

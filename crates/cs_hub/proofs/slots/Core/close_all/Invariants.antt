@@ -12,5 +12,6 @@ invariant-loop-conn g l = record {
   same : g.H.Hub.state l.hub ≡ record (g.H.Hub.state l.initial.hub) { live = (g.H.Hub.state l.hub).live };
   talk : g.H.Hub.talk l.hub ≡ g.H.Hub.talk l.initial.hub;
   faults : g.H.Hub.faults l.hub ≡ g.H.Hub.faults l.initial.hub;
+  sends : g.H.Hub.send_faults l.hub ≡ g.H.Hub.send_faults l.initial.hub;
   orderly : IsOrderly (g.H.Hub.state l.initial.hub) (g.H.Hub.talk l.initial.hub) → IsOrderly (g.H.Hub.state l.hub) (g.H.Hub.talk l.hub);
 }

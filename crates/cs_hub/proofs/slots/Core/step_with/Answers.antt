@@ -61,20 +61,20 @@ returns-in-Over-clause-follows g c = λ k over.
 pub returns-in-Opened-clause-asked : goal.returns-in-Opened-clause-asked
 returns-in-Opened-clause-asked g c =
     let kept = g.A.Answerer.kept c.args.answerer.now in
-    subst (λ (v : Event). AsksAsSent g.A.Answerer.leaves (goes_on c.open.new.self v) (requests_on (bytes_to_answer c.args.self.now v c.args.piece.now)) kept kept (SentAt v (g.H.Hub.talk c.args.hub.now) (g.H.Hub.talk c.open.new.hub))) (sym c.in-Opened.is) (asks_no_bytes g.A.Answerer.leaves true kept (λ xs. xs ≡ []) refl)
+    subst (λ (v : Event). AsksAsSent g.A.Answerer.leaves (goes_on c.open.new.self v) (requests_on (bytes_to_answer c.args.self.now v c.args.piece.now)) kept kept (SentAt v (bytes_to_answer c.args.self.now v c.args.piece.now) (g.H.Hub.talk c.args.hub.now) (g.H.Hub.talk c.open.new.hub))) (sym c.in-Opened.is) (asks_no_bytes g.A.Answerer.leaves true kept (λ xs. xs ≡ []) refl)
 
 pub returns-in-Ended-clause-asked : goal.returns-in-Ended-clause-asked
 returns-in-Ended-clause-asked g c =
     let kept = g.A.Answerer.kept c.args.answerer.now in
-    subst (λ (v : Event). AsksAsSent g.A.Answerer.leaves (goes_on c.forget.new.self v) (requests_on (bytes_to_answer c.args.self.now v c.args.piece.now)) kept kept (SentAt v (g.H.Hub.talk c.args.hub.now) (g.H.Hub.talk c.args.hub.now))) (sym c.in-Ended.is) (asks_no_bytes g.A.Answerer.leaves true kept (λ xs. xs ≡ []) refl)
+    subst (λ (v : Event). AsksAsSent g.A.Answerer.leaves (goes_on c.forget.new.self v) (requests_on (bytes_to_answer c.args.self.now v c.args.piece.now)) kept kept (SentAt v (bytes_to_answer c.args.self.now v c.args.piece.now) (g.H.Hub.talk c.args.hub.now) (g.H.Hub.talk c.args.hub.now))) (sym c.in-Ended.is) (asks_no_bytes g.A.Answerer.leaves true kept (λ xs. xs ≡ []) refl)
 
 pub returns-in-Over-clause-asked : goal.returns-in-Over-clause-asked
 returns-in-Over-clause-asked g c =
     let kept = g.A.Answerer.kept c.args.answerer.now in
-    subst (λ (v : Event). AsksAsSent g.A.Answerer.leaves (goes_on c.close_all.new.self v) (requests_on (bytes_to_answer c.args.self.now v c.args.piece.now)) kept kept (SentAt v (g.H.Hub.talk c.args.hub.now) (g.H.Hub.talk c.close_all.new.hub))) (sym c.in-Over.is) (asks_no_bytes g.A.Answerer.leaves true kept (λ xs. xs ≡ []) refl)
+    subst (λ (v : Event). AsksAsSent g.A.Answerer.leaves (goes_on c.close_all.new.self v) (requests_on (bytes_to_answer c.args.self.now v c.args.piece.now)) kept kept (SentAt v (bytes_to_answer c.args.self.now v c.args.piece.now) (g.H.Hub.talk c.args.hub.now) (g.H.Hub.talk c.close_all.new.hub))) (sym c.in-Over.is) (asks_no_bytes g.A.Answerer.leaves true kept (λ xs. xs ≡ []) refl)
 
 pub returns-in-Piece-clause-asked : goal.returns-in-Piece-clause-asked
 returns-in-Piece-clause-asked g c =
     let now = g.A.Answerer.kept c.args.answerer.now in
     let then = g.A.Answerer.kept c.hear.new.answerer in
-    subst (λ (v : Event). AsksAsSent g.A.Answerer.leaves (goes_on c.hear.new.self v) (requests_on (bytes_to_answer c.args.self.now v c.args.piece.now)) now then (SentAt v (g.H.Hub.talk c.args.hub.now) (g.H.Hub.talk c.hear.new.hub))) (sym c.in-Piece.is) c.hear.ensures.asked
+    subst (λ (v : Event). AsksAsSent g.A.Answerer.leaves (goes_on c.hear.new.self v) (requests_on (bytes_to_answer c.args.self.now v c.args.piece.now)) now then (SentAt v (bytes_to_answer c.args.self.now v c.args.piece.now) (g.H.Hub.talk c.args.hub.now) (g.H.Hub.talk c.hear.new.hub))) (sym c.in-Piece.is) c.hear.ensures.asked

@@ -1,0 +1,63 @@
+//! What no clause says: of two equal requests the first one's read fails, and the second has its reply.
+use crate::commands::built;
+use cs_base::{Hub, Plan, ScriptHub, Scripted, Seq, TiredStore};
+use cs_engine::{AskFault, Engine};
+use cs_file::open_index;
+use cs_http::request;
+use cs_hub::{ServeEnd, serve};
+use cs_worked::{FAILED_READ, THREE_DOCUMENTS, TYPED};
+use std::alloc::Global;
+use std::test::Fail;
+
+// The index file of the three documents, in a store.
+fn tired(alloc: Global) -> Result<TiredStore, Fail> {
+    let files = built(alloc, THREE_DOCUMENTS, b"")?;
+    let Some(bytes) = files.bytes("I") else {
+        return Err(Fail::new("not built"));
+    };
+    Ok(TiredStore::new(bytes.to_vec(alloc)?))
+}
+
+#[test]
+fn a_failed_read_is_that_of_one_request(rt: HostRuntime) -> Result<(), Fail> {
+    let alloc = rt.alloc();
+    let mut store = tired(alloc)?;
+    let Ok(index) = open_index(alloc, &mut store) else {
+        return Err(Fail::new("no index"));
+    };
+    let mut engine = Engine::new(alloc, index, 4)?;
+    let heads = format!(in alloc; "{}{}", TYPED.head, TYPED.head)?;
+    let bytes = Seq::from_vec(heads.into_bytes());
+    let mut events = Seq::new(alloc);
+    events.push(Scripted::Opened)?;
+    events.push(Scripted::Piece { conn: 0, bytes })?;
+    events.push(Scripted::Ended { conn: 0 })?;
+    let mut hub = ScriptHub::new(alloc, events);
+    hub.listen(8080, 1)?;
+    store.fail_at(1);
+    assert!(rt; serve(alloc, &mut engine, &mut store, &mut hub, 1) == ServeEnd::Done);
+    let sent = format!(in alloc; "{}{}", FAILED_READ.response, TYPED.response)?;
+    assert_eq!(&rt; hub.sent(0), sent.as_str().as_bytes());
+    Ok(())
+}
+
+// Nothing is kept of an answer that couldn't be read.
+#[test]
+fn the_plan_behind_a_failed_read_is_fresh(rt: HostRuntime) -> Result<(), Fail> {
+    let alloc = rt.alloc();
+    let mut store = tired(alloc)?;
+    let Ok(index) = open_index(alloc, &mut store) else {
+        return Err(Fail::new("no index"));
+    };
+    let mut engine = Engine::new(alloc, index, 4)?;
+    store.fail_at(1);
+    let Ok(request) = request(alloc, b"q=typ") else {
+        return Err(Fail::new("no request"));
+    };
+    assert!(rt; matches!(engine.ask(alloc, &mut store, &request), Err(AskFault::Read)));
+    let Ok((_, note)) = engine.ask(alloc, &mut store, &request) else {
+        return Err(Fail::new("no reply"));
+    };
+    assert!(rt; note.plan == Plan::Fresh);
+    Ok(())
+}
