@@ -1,5 +1,5 @@
 //! A worked block, written and read, and the rule and the place of each damage to it.
-use crate::{BlockFault, Broken, decode, decode_reserved, encode, read_doc_words};
+use crate::{BlockFault, Broken, decode, decode_reserved, encode, read_doc_words, read_positions};
 use cs_base::BlockHead;
 use cs_cols::Cols;
 use std::test::Fail;
@@ -58,6 +58,25 @@ fn documents_and_words_are_read_alone(rt: HostRuntime) -> Result<(), Fail> {
     for change in [(2, 0x80), (2, 1), (4, 3)] {
         let bytes = damaged([change, none]);
         assert!(rt; !read_doc_words(&bytes, &HEAD, 1, &mut docs, &mut words)?);
+    }
+    Ok(())
+}
+
+#[test]
+fn positions_and_scores_are_read_alone(rt: HostRuntime) -> Result<(), Fail> {
+    let mut positions = Vec::new(rt.alloc());
+    let mut scores = Vec::new(rt.alloc());
+    assert!(rt; read_positions(&BLOCK, &HEAD, &mut positions, &mut scores)?);
+    assert_eq!(rt; positions.as_slice(), [1, 10, 11].as_slice());
+    assert_eq!(rt; scores.as_slice(), [4, 1, 1].as_slice());
+    // the position of a facet, a position past the last, the score of a facet
+    for changes in [
+        [(12, 0), (24, 0)],
+        [(14, 1), (15, 0x87)],
+        [(23, 2), (24, 0)],
+    ] {
+        let bytes = damaged(changes);
+        assert!(rt; !read_positions(&bytes, &HEAD, &mut positions, &mut scores)?);
     }
     Ok(())
 }

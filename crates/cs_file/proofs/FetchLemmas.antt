@@ -5,8 +5,10 @@
 --   same_posts          over bytes that stand for the index they are its posts
 --   never_broken        and no rule is broken there
 --   title_within        a title's bytes lie before the blocks
---   BlockRead, block_read        what is known where a block's bytes were read
---   shaped_read, block_by, stood_by, unchanged_by, changed_by    the clauses of a fetch, from that and from what decoding answers
+--   block_read          what is known where a block's bytes were read
+--   shaped_read, few_docs, block_by, stood_rows, stood_by, read_there, unchanged_by, changed_by      the clauses of a fetch, from that and from what decoding
+--                       answers
+--   fault_unchanged, fault_changed      of one that decodes only where a test fails
 --   TitleRead, title_read, TitleSpan, title_span       the same of a title
 --   title_by, title_stood, title_unchanged, title_changed        the clauses of a title, from that and from whether it is text
 use Rattle.std.proofs.Common.{◌≡◌, ℕ, ◌+◌, ◌-◌, ◌<◌, ◌≤◌, ◌^◌, false, true≢false, List, ◌++◌, length, get_or, take, Option, Some, None, Result, Ok, Err, refl, sym, ap, subst, ◌∙◌, arith}
@@ -23,13 +25,14 @@ use Rattle.cs_base.specs.declared.content.doc.Post.{Post}
 use Rattle.cs_base.specs.outside.Outside.{part}
 use Rattle.cs_block.proofs.LawsLemmas.{unique}
 use Rattle.cs_model.specs.Scores.{SCORES}
-use Rattle.cs_model_index.specs.BlockRules.{judged, IsBlock, broken_at}
+use Rattle.cs_model_index.specs.BlockRules.{judged, IsBlock, broken_at, rows_read}
 use Rattle.cs_model_index.specs.FileRules.{in_file}
 use Rattle.cs_model_index.specs.Blocks.{IsShaped}
 use Rattle.cs_file.specs.Answers.{HasBlock, IsChangeOfBlock, IsChangeOfTitle, is_changed}
-use Rattle.cs_file.specs.Fetching.{DecodesAt, ReadsText}
+use Rattle.cs_file.specs.Fetching.{DecodesAt, IsPlaced, ReadsText}
 use Rattle.cs_file.specs.declared.fault.FetchFault.{FetchFault}
 use Rattle.cs_file.specs.declared.fault.FetchFault.TheVariants as fetches
+use Rattle.cs_file.specs.declared.fetching.Placed.{Placed}
 use Rattle.cs_file.specs.Indexes.{IndexView, IsIndex, StandsFor, block_place, block_posts, title_in, title_place, title_len}
 use Rattle.cs_file.proofs.HeadsLemmas.{head_shaped}
 use Rattle.cs_file.proofs.OffsetsLemmas.{spans}
@@ -88,73 +91,81 @@ unbroken_answer at o (Err (fetches.Changed rule there)) h e = absurd (none-some 
 unbroken_answer at o (Err fetches.Read) h e = refl
 unbroken_answer at o (Err fetches.Memory) h e = refl
 
--- what is known where the block's bytes were read, by its head and its place
-pub record BlockRead (i : IndexView) (told : Option (List ℕ)) (k : ℕ) (head : BlockHead) (docs at : ℕ) (read : List ℕ) : Type 0 where
-  pub known : k < length i.heads
-  pub head_is : (d : BlockHead) → head ≡ get_or i.heads k d
-  pub docs_are : docs ≡ i.docs
-  pub at_is : at ≡ block_place i k
-  pub long : length read ≡ head.len
-  pub read_is : ForSome told (λ b. read ≡ part b at head.len)
-
 abbrev pub nothing : BlockHead
 nothing = record { lo = 0; words = 0; rows = 0; len = 0; facet = false }
 
-pub block_read : (i own : IndexView) (told : Option (List ℕ)) (k : ℕ) (hs : List BlockHead) (at : ℕ) (read bytes : List ℕ) → own ≡ i → hs ≡ own.heads → k < length i.heads → at ≡ block_place i k
-    → read ≡ bytes → length bytes ≡ (get_or hs k nothing).len → ForSome told (λ b. bytes ≡ part b at (get_or hs k nothing).len) → BlockRead i told k (get_or hs k nothing) own.docs at read
-block_read i own told k hs at read bytes seen same known at_is taken long is = record {
+pub block_read : (i own : IndexView) (told : Option (List ℕ)) (k : ℕ) (hs : List BlockHead) (at : ℕ) (read : List ℕ) → own ≡ i → IsIndex i → hs ≡ own.heads → k < length i.heads → at ≡ block_place i k
+    → length read ≡ (get_or hs k nothing).len → ForSome told (λ b. read ≡ part b at (get_or hs k nothing).len) → IsPlaced i told k (record { head = get_or hs k nothing; docs = own.docs; at = at }) read
+block_read i own told k hs at read seen index same known at_is long is = record {
+  index = index;
   known = known;
+  small = (let few = index.small in let within = block_within i k nothing known in omega (arith, few, within, at_is));
   head_is = λ d. ap (λ xs. get_or xs k nothing) (same ∙ ap (λ (v : IndexView). v.heads) seen) ∙ get_or_default i.heads k nothing d known;
   docs_are = ap (λ (v : IndexView). v.docs) seen;
   at_is = at_is;
-  long = ap length taken ∙ long;
-  read_is = λ b t. taken ∙ is b t;
+  long = long;
+  read_is = is;
 }
 
--- the same, with the block's head and place themselves
-record ReadThere (i : IndexView) (told : Option (List ℕ)) (k : ℕ) (head : BlockHead) (docs : ℕ) (read : List ℕ) (d : BlockHead) : Type 0 where
-  is : ForSome told (λ b. read ≡ part b (block_place i k) (get_or i.heads k d).len)
-  long : length read ≡ (get_or i.heads k d).len
+module _ (i : IndexView) (told : Option (List ℕ)) (k : ℕ) (placed : Placed) (read : List ℕ) (h : IsPlaced i told k placed read) where
+  -- the same, with the block's head and place themselves
+  there : (d : BlockHead) → ForSome told (λ b. read ≡ part b (block_place i k) (get_or i.heads k d).len)
+  there d = λ b t. h.read_is b t ∙ ap (λ (n : ℕ). part b n placed.head.len) h.at_is ∙ ap (λ (x : BlockHead). part b (block_place i k) x.len) (h.head_is d)
 
-there : (i : IndexView) (told : Option (List ℕ)) (k : ℕ) (head : BlockHead) (docs at : ℕ) (read : List ℕ) (d : BlockHead) → BlockRead i told k head docs at read → ReadThere i told k head docs read d
-there i told k head docs at read d h = record {
-  is = λ b t. h.read_is b t ∙ ap (λ (n : ℕ). part b n head.len) h.at_is ∙ ap (λ (x : BlockHead). part b (block_place i k) x.len) (h.head_is d);
-  long = h.long ∙ ap (λ (x : BlockHead). x.len) (h.head_is d);
-}
+  long_there : (d : BlockHead) → length read ≡ (get_or i.heads k d).len
+  long_there d = h.long ∙ ap (λ (x : BlockHead). x.len) (h.head_is d)
 
-pub shaped_read : (i : IndexView) (told : Option (List ℕ)) (k : ℕ) (head : BlockHead) (docs at : ℕ) (read : List ℕ) → IsIndex i → BlockRead i told k head docs at read → IsShaped head (length read)
-shaped_read i told k head docs at read is h =
-    subst (λ (n : ℕ). IsShaped head n) (sym h.long) (subst (λ (x : BlockHead). IsShaped x x.len) (sym (h.head_is head)) (head_shaped i is k head h.known))
+  block_there : (d : BlockHead) (rows : List Post) → IsBlock SCORES placed.head placed.docs rows read → IsBlock SCORES (get_or i.heads k d) i.docs rows read
+  block_there d rows block = subst (λ (x : BlockHead). IsBlock SCORES x i.docs rows read) (h.head_is d) (subst (λ (n : ℕ). IsBlock SCORES placed.head n rows read) h.docs_are block)
 
-pub block_by : (i : IndexView) (told : Option (List ℕ)) (k : ℕ) (head : BlockHead) (docs at : ℕ) (read : List ℕ) (rows old new : List Post) → BlockRead i told k head docs at read → IsBlock SCORES head docs rows read → new ≡ old ++ rows → HasBlock i told k old new
-block_by i told k head docs at read rows old new h block added =
-    has_block i told k head rows old new read h.known (subst (λ (x : BlockHead). IsBlock SCORES x i.docs rows read) (h.head_is head) (subst (λ (n : ℕ). IsBlock SCORES head n rows read) h.docs_are block)) added (there i told k head docs at read head h).is
+  pub shaped_read : IsShaped placed.head (length read)
+  shaped_read = subst (λ (n : ℕ). IsShaped placed.head n) (sym h.long) (subst (λ (x : BlockHead). IsShaped x x.len) (sym (h.head_is placed.head)) (head_shaped i h.index k placed.head h.known))
 
-pub stood_by : (b : List ℕ) (i : IndexView) (told : Option (List ℕ)) (k : ℕ) (head : BlockHead) (docs at : ℕ) (read : List ℕ) (rows old new : List Post) → told ≡ Some b → StandsFor b i → IsIndex i → BlockRead i told k head docs at read
-    → IsBlock SCORES head docs rows read → new ≡ old ++ rows → new ≡ old ++ block_posts b k
-stood_by b i told k head docs at read rows old new t s is h block added =
-    let r = there i told k head docs at read head h in
-    added ∙ ap (λ (x : List Post). old ++ x) (same_posts b i s is k head rows read h.known r.long (r.is b t) (subst (λ (x : BlockHead). IsBlock SCORES x i.docs rows read) (h.head_is head) (subst (λ (n : ℕ). IsBlock SCORES head n rows read) h.docs_are block)))
+  pub few_docs : placed.docs < 2 ^ 32
+  few_docs = let index = h.index in let most = index.few_docs in omega (arith, most, h.docs_are)
 
-pub unchanged_by : (b : List ℕ) (i : IndexView) (told : Option (List ℕ)) (k : ℕ) (head : BlockHead) (docs at : ℕ) (read : List ℕ) (result : Result (Unit {0}) FetchFault) → told ≡ Some b → StandsFor b i → IsIndex i → BlockRead i told k head docs at read
-    → DecodesAt at (judged SCORES head docs read) result → is_changed result ≡ false
-unchanged_by b i told k head docs at read result t s is h answer =
-    let r = there i told k head docs at read head h in
-    unbroken_answer at (judged SCORES head docs read) result answer (ap (λ (x : BlockHead). judged SCORES x docs read) (h.head_is head) ∙ ap (λ (n : ℕ). judged SCORES (get_or i.heads k head) n read) h.docs_are ∙ never_broken b i s is k head read h.known r.long (r.is b t))
+  pub block_by : (rows old new : List Post) → IsBlock SCORES placed.head placed.docs rows read → new ≡ old ++ rows → HasBlock i told k old new
+  block_by rows old new block added = has_block i told k placed.head rows old new read h.known (block_there placed.head rows block) added (there placed.head)
 
--- the answer as a fault of the call
-pub changed_by : (i : IndexView) (told : Option (List ℕ)) (k : ℕ) (head : BlockHead) (docs at : ℕ) (read : List ℕ) (result : Result (Unit {0}) FetchFault) → BlockRead i told k head docs at read
-    → DecodesAt at (judged SCORES head docs read) result → IfErr result (IsChangeOfBlock i told k)
-changed_by i told k head docs at read (Ok u) h answer = tt
-changed_by i told k head docs at read (Err fetches.Read) h answer = tt
-changed_by i told k head docs at read (Err fetches.Memory) h answer = tt
-changed_by i told k head docs at read (Err (fetches.Changed rule place)) h answer = record {
-  bytes = read;
-  broken = λ d. ap (λ (n : ℕ). option_map (in_file n) (judged SCORES (get_or i.heads k d) i.docs read)) (sym h.at_is)
-      ∙ ap (λ (n : ℕ). option_map (in_file at) (judged SCORES (get_or i.heads k d) n read)) (sym h.docs_are)
-      ∙ ap (λ (x : BlockHead). option_map (in_file at) (judged SCORES x docs read)) (sym (h.head_is d)) ∙ answer;
-  read = λ d. (there i told k head docs at read d h).is;
-}
+  pub stood_rows : (b : List ℕ) (rows : List Post) → told ≡ Some b → StandsFor b i → IsBlock SCORES placed.head placed.docs rows read → rows ≡ block_posts b k
+  stood_rows b rows t s block = same_posts b i s h.index k placed.head rows read h.known (long_there placed.head) (there placed.head b t) (block_there placed.head rows block)
+
+  pub stood_by : (b : List ℕ) (rows old new : List Post) → told ≡ Some b → StandsFor b i → IsBlock SCORES placed.head placed.docs rows read → new ≡ old ++ rows → new ≡ old ++ block_posts b k
+  stood_by b rows old new t s block added = added ∙ ap (λ (x : List Post). old ++ x) (stood_rows b rows t s block)
+
+  -- the rows that are read of these bytes, whatever keeps them
+  pub read_there : (b : List ℕ) → told ≡ Some b → StandsFor b i → rows_read placed.head read ≡ block_posts b k
+  read_there b t s =
+      let own = subst (IsBlock SCORES (get_or i.heads k placed.head) i.docs (block_posts b k)) (sym (there placed.head b t)) (stood_block b i s h.index k placed.head h.known) in
+      let block = subst (λ (n : ℕ). IsBlock SCORES placed.head n (block_posts b k) read) (sym h.docs_are) (subst (λ (x : BlockHead). IsBlock SCORES x i.docs (block_posts b k) read) (sym (h.head_is placed.head)) own) in
+      (unique placed.head placed.docs (block_posts b k) read few_docs shaped_read block).1
+
+  pub unchanged_by : (b : List ℕ) (result : Result (Unit {0}) FetchFault) → told ≡ Some b → StandsFor b i → DecodesAt placed.at (judged SCORES placed.head placed.docs read) result → is_changed result ≡ false
+  unchanged_by b result t s answer =
+      unbroken_answer placed.at (judged SCORES placed.head placed.docs read) result answer (ap (λ (x : BlockHead). judged SCORES x placed.docs read) (h.head_is placed.head) ∙ ap (λ (n : ℕ). judged SCORES (get_or i.heads k placed.head) n read) h.docs_are
+      ∙ never_broken b i s h.index k placed.head read h.known (long_there placed.head) (there placed.head b t))
+
+  -- the answer as a fault of the call
+  pub changed_by : (result : Result (Unit {0}) FetchFault) → DecodesAt placed.at (judged SCORES placed.head placed.docs read) result → IfErr result (IsChangeOfBlock i told k)
+  changed_by (Ok u) answer = tt
+  changed_by (Err fetches.Read) answer = tt
+  changed_by (Err fetches.Memory) answer = tt
+  changed_by (Err (fetches.Changed rule place)) answer = record {
+    bytes = read;
+    broken = λ d. ap (λ (n : ℕ). option_map (in_file n) (judged SCORES (get_or i.heads k d) i.docs read)) (sym h.at_is)
+        ∙ ap (λ (n : ℕ). option_map (in_file placed.at) (judged SCORES (get_or i.heads k d) n read)) (sym h.docs_are)
+        ∙ ap (λ (x : BlockHead). option_map (in_file placed.at) (judged SCORES x placed.docs read)) (sym (h.head_is d)) ∙ answer;
+    read = λ d. there d;
+  }
+
+  -- the same of a call that decodes only where a test fails
+  pub fault_unchanged : (b : List ℕ) (result : Result (Unit {0}) FetchFault) → told ≡ Some b → StandsFor b i → IfErr result (λ e. DecodesAt placed.at (judged SCORES placed.head placed.docs read) (Err e)) → is_changed result ≡ false
+  fault_unchanged b (Ok u) t s answer = refl
+  fault_unchanged b (Err e) t s answer = unchanged_by b (Err e) t s answer
+
+  pub fault_changed : (result : Result (Unit {0}) FetchFault) → IfErr result (λ e. DecodesAt placed.at (judged SCORES placed.head placed.docs read) (Err e)) → IfErr result (IsChangeOfBlock i told k)
+  fault_changed (Ok u) answer = tt
+  fault_changed (Err e) answer = changed_by (Err e) answer
 
 -- ---- titles
 -- what is known where the title's bytes were read

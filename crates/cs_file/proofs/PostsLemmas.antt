@@ -1,6 +1,7 @@
 -- The posts of an opened index that have some words: those of the blocks that hold such words, each block cut to them.
 --
---   block_docs, block_words     the documents of a block are below the index's, and its words are those of its head
+--   block_docs, block_words, block_scored     the documents of a block are below the index's, its words are those of its head, and its positions and
+--                          scores those of its kind
 --   is_between lo hi p     the post's word has a number from lo up to hi, hi left out
 --   posts_between          the posts of all blocks that have such words are those of the blocks met
 --   posts_known            each post of the image has a word of the vocabulary and a document below the index's
@@ -15,7 +16,7 @@ use Rattle.cs_base.specs.declared.index.block.BlockHead.{BlockHead}
 use Rattle.cs_base.specs.declared.content.doc.Post.{Post}
 use Rattle.cs_model.specs.Answers.{begins}
 use Rattle.cs_model.specs.Scores.{SCORES}
-use Rattle.cs_model_index.specs.BlockRules.{keeps, in_docs, in_words, IsBlock}
+use Rattle.cs_model_index.specs.BlockRules.{keeps, in_docs, in_kind, in_words, is_scored, IsBlock}
 use Rattle.cs_model_index.specs.Images.{image_posts, image_rows}
 use Rattle.cs_model_index.specs.Numbered.{row_of, rows_at}
 use Rattle.cs_model_index.specs.Sections.{image_of}
@@ -39,6 +40,9 @@ pub block_words : (h : BlockHead) (docs : ℕ) (rs : List Post) (bytes : List �
 block_words h docs rs bytes b =
     let below = kept_all (in_words h).holds (λ p. p.word < h.lo + h.words) (λ last r e. ltb-true _ _ e) None rs b.meets.1.0 in
     λ k d lt. ((b.writable.words k d lt).0, below k d lt)
+
+pub block_scored : (h : BlockHead) (docs : ℕ) (rs : List Post) (bytes : List ℕ) → IsBlock SCORES h docs rs bytes → All (λ p. is_scored SCORES h.facet p ≡ true) rs
+block_scored h docs rs bytes b = kept_all (in_kind SCORES h).holds (λ p. is_scored SCORES h.facet p ≡ true) (λ last r e. e) None rs b.meets.1.1.0
 
 -- ---- the posts of some words
 abbrev pub is_between : ℕ → ℕ → Post → Bool

@@ -6,16 +6,19 @@
 --   is_read_of_open r, is_read_of_fetch r, is_sink r, is_changed r      the answer is a failed read, a failed sink, a change
 --   HasBlock i told k old new      posts were added that are those of block k, read of the bytes that the store tells
 --   AreOf posts docs words         the documents and the words of posts
+--   posts_in f              the posts of a block that was read into columns
+--   IsRanged i p            the numbers of a post are in range
 --   BreaksBlock i told k rule at, IsChangeOfBlock i told k e     the first rule that the bytes of block k break, with its place in the file
 --   BreaksTitle i told d rule at, IsChangeOfTitle i told d e     the bytes of title d aren't text
-use Rattle.std.specs.Prelude.{◌≡◌, ℕ, Bool, true, false, List, ◌++◌, map, Option, Some, Result, Err, slice_index_or}
+use Rattle.std.specs.Prelude.{◌≡◌, ℕ, ◌<◌, Bool, true, false, List, ◌++◌, length, map, Option, Some, Result, Err, slice_index_or}
 use Rattle.std.specs.Option.{ForSome, option_map}
 use Rattle.std.specs.Str.{is_utf8}
 use Rattle.cs_base.specs.outside.Outside.{part}
 use Rattle.cs_base.specs.declared.index.block.BlockHead.{BlockHead}
 use Rattle.cs_base.specs.declared.content.doc.Post.{Post}
+use Rattle.cs_cols.specs.Held.{posts_of}
 use Rattle.cs_model.specs.Scores.{SCORES}
-use Rattle.cs_model_index.specs.BlockRules.{judged, IsBlock, broken_at}
+use Rattle.cs_model_index.specs.BlockRules.{judged, IsBlock, broken_at, is_scored}
 use Rattle.cs_model_index.specs.FileRules.{in_file, damage}
 use Rattle.cs_file.specs.Indexes.{IndexView, block_place, title_place, title_len}
 use Rattle.cs_file.specs.declared.fault.OpenFault.{OpenFault}
@@ -23,6 +26,7 @@ use Rattle.cs_file.specs.declared.fault.OpenFault.TheVariants as opens
 use Rattle.cs_file.specs.declared.fault.FetchFault.{FetchFault}
 use Rattle.cs_file.specs.declared.fault.FetchFault.TheVariants as fetches
 use Rattle.cs_file.specs.declared.fault.WriteFault.{WriteFault}
+use Rattle.cs_file.specs.declared.fetched.Fetched.{Fetched}
 use Rattle.cs_file.specs.declared.fault.WriteFault.TheVariants as writes
 
 -- of a failed read and of want of memory nothing is said
@@ -62,6 +66,17 @@ pub record HasBlock (i : IndexView) (told : Option (List ℕ)) (k : ℕ) (old ne
 -- one of each for each post
 abbrev pub AreOf : List Post → List ℕ → List ℕ → Type 0
 AreOf posts docs words = (docs ≡ map (λ p. p.doc) posts) × (words ≡ map (λ p. p.word) posts)
+
+-- of columns that aren't even as many as the shortest has
+abbrev pub posts_in : Fetched → List Post
+posts_in f = posts_of f.docs.items f.words.items f.positions.items f.scores.items
+
+-- a document and a word of the index, with the position and the score of a facet word or of any other
+pub record IsRanged (i : IndexView) (p : Post) : Type 0 where
+  pub doc : p.doc < i.docs
+  pub word : p.word < length i.words
+  pub facet : Bool
+  pub scored : is_scored SCORES facet p ≡ true
 
 -- some bytes break the rule, and no other of a block before it; of a store that tells, these are its bytes at the block's place
 pub record BreaksBlock (i : IndexView) (told : Option (List ℕ)) (k rule at : ℕ) : Type 0 where

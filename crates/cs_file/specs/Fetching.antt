@@ -2,16 +2,45 @@
 --
 -- Source: this engine's own.
 --
+--   IsPlaced i told k placed read      the bytes of block k were read, and what is known of it
+--   AreColumns placed read docs words positions scores, HasPosts placed read f      columns have the posts of a block whose bytes were read
 --   DecodesAt at broken r     the answer where this is the first rule that a block at a place breaks, if there is one
 --   ReadsText bytes at r      the text of these bytes, or that rule 9 is broken at the place
-use Rattle.std.specs.Prelude.{◌≡◌, ℕ, true, false, List, Option, None, Some, Result, Ok, Err}
-use Rattle.std.specs.Option.{option_map}
+use Rattle.std.specs.Prelude.{◌≡◌, ℕ, ◌^◌, ◌<◌, true, false, List, [], length, slice_index_or, Option, None, Some, Result, Ok, Err}
+use Rattle.std.specs.Option.{ForSome, option_map}
 use Rattle.std.specs.Str.{is_utf8}
+use Rattle.cs_base.specs.declared.index.block.BlockHead.{BlockHead}
 use Rattle.cs_base.specs.declared.index.block.Broken.{Broken}
+use Rattle.cs_base.specs.outside.Outside.{part}
+use Rattle.cs_block.specs.DocWords.{AddsDocWords}
+use Rattle.cs_block.specs.Positions.{HasPositions}
 use Rattle.cs_model_index.specs.BlockRules.{broken_at}
 use Rattle.cs_model_index.specs.FileRules.{in_file}
+use Rattle.cs_file.specs.Indexes.{IndexView, IsIndex, block_place}
 use Rattle.cs_file.specs.declared.fault.FetchFault.{FetchFault}
 use Rattle.cs_file.specs.declared.fault.FetchFault.TheVariants as fetches
+use Rattle.cs_file.specs.declared.fetched.Fetched.{Fetched}
+use Rattle.cs_file.specs.declared.fetching.Placed.{Placed}
+
+-- of a store that tells, they are its bytes at the block's place
+pub record IsPlaced (i : IndexView) (told : Option (List ℕ)) (k : ℕ) (placed : Placed) (read : List ℕ) : Type 0 where
+  pub index : IsIndex i
+  pub known : k < length i.heads
+  pub small : placed.at < 2 ^ 63
+  pub head_is : (d : BlockHead) → placed.head ≡ slice_index_or i.heads k d
+  pub docs_are : placed.docs ≡ i.docs
+  pub at_is : placed.at ≡ block_place i k
+  pub long : length read ≡ placed.head.len
+  pub read_is : ForSome told (λ b. read ≡ part b placed.at placed.head.len)
+
+-- each column is as long as the block has rows
+pub record AreColumns (placed : Placed) (read docs words positions scores : List ℕ) : Type 0 where
+  pub listed : AddsDocWords placed.head placed.docs read [] docs [] words
+  pub scored : HasPositions placed.head read positions scores
+
+-- these are four of its fields
+abbrev pub HasPosts : Placed → List ℕ → Fetched → Type 0
+HasPosts placed read f = AreColumns placed read f.docs.items f.words.items f.positions.items f.scores.items
 
 -- Ok where no rule is broken; memory may always run out, and a failed read says nothing
 abbrev pub DecodesAt : ℕ → Option Broken → Result (Unit {0}) FetchFault → Type 0

@@ -1,5 +1,5 @@
 //! Reading blocks and titles of an opened index.
-ghost use Rattle.std.specs.Prelude.{◌≡◌, ◌<◌, ◌≤◌, ◌+◌, ◌*◌, ◌^◌, ◌++◌, ℕ, List, [], false, length, Err, IfOk, IfErr, OnOk, OnErr, All};
+ghost use Rattle.std.specs.Prelude.{◌≡◌, ◌<◌, ◌≤◌, ◌+◌, ◌*◌, ◌^◌, ◌++◌, ℕ, List, [], false, true, length, Err, IfOk, IfErr, OnOk, OnErr, All};
 ghost use Rattle.std.specs.List.{sum_by};
 ghost use Rattle.std.specs.Option.{ForSome};
 ghost use Rattle.cs_base.specs.declared.content.doc.Post.{Post};
@@ -10,17 +10,30 @@ ghost use Rattle.cs_block.specs.DocWords.{AddsDocWords};
 ghost use Rattle.cs_model.specs.Scores.{SCORES};
 ghost use Rattle.cs_model_index.specs.BlockRules.{IsBlock, judged};
 ghost use Rattle.cs_model_index.specs.Blocks.{IsShaped};
-ghost use Rattle.cs_file.specs.Answers.{AreOf, HasBlock, IsChangeOfBlock, IsChangeOfTitle, is_read_of_fetch, is_changed};
-ghost use Rattle.cs_file.specs.Fetching.{DecodesAt, ReadsText};
+ghost use Rattle.cs_cols.specs.Held.{AreEven};
+ghost use Rattle.cs_file.specs.Answers.{AreOf, HasBlock, IsChangeOfBlock, IsChangeOfTitle, IsRanged, is_read_of_fetch, is_changed, posts_in};
+ghost use Rattle.cs_file.specs.Fetching.{DecodesAt, HasPosts, IsPlaced, ReadsText};
 ghost use Rattle.cs_file.specs.Indexes.{StandsFor, Fits, CausedReads, block_place, block_posts, title_in, title_place, title_len};
 
 use crate::fault::FetchFault;
+use crate::fetched::Fetched;
 use crate::index::Index;
-use crate::reading::{read_at_once, zeros};
+use crate::reading::{fit, read_at_once};
 use cs_base::{BlockHead, Memory, Store, Text};
-use cs_block::{BlockFault, decode, read_doc_words};
+use cs_block::{BlockFault, decode, read_doc_words, read_positions};
 use cs_cols::Cols;
 use std::alloc::Global;
+
+/// What is known of a block whose bytes are read.
+#[derive(Clone, Copy)]
+struct Placed {
+    /// What the directory says of it.
+    head: BlockHead,
+    /// The documents of the collection are those below this one.
+    docs: u32,
+    /// Its place, in bytes from the file's first.
+    at: u64,
+}
 
 impl Index {
     /// Adds the posts of block `k` at the end, read from the store from which the index was opened.
@@ -45,30 +58,27 @@ impl Index {
         ensures reads { ReadsWithin 1 (S.reads store.old) (S.reads store.new) }
         ensures caused { CausedReads (is_read_of_fetch result) (S.faults store.old) (S.faults store.new) }
     {
-        let head = self.heads.as_slice()[k as usize];
-        let at = self.block_at(k);
-        let bytes = bytes_at(alloc, store, at, head.len)?;
-        decode_at(&bytes, &head, self.docs, at, into)
+        let mut bytes = Vec::new(alloc);
+        let placed = self.read_block(store, k, &mut bytes)?;
+        decode_at(&bytes, &placed, into)
     }
 
-    /// Puts the documents and the words of the posts of block `k` into two columns, in place of what these hold, read from the
-    /// store from which the index was opened. Positions and scores aren't looked at. Where it fails the columns hold anything.
-    pub fn fetch_doc_words<S: Store>(
+    /// Reads the posts of block `k` in place of what `into` holds, from the store from which the index was opened. That they
+    /// are in order isn't looked at. Where it fails `into` holds anything.
+    pub fn fetch_posts<S: Store>(
         &self,
         alloc: Global,
         store: &mut S,
         k: u32,
-        docs: &mut Vec<u32>,
-        words: &mut Vec<u32>,
+        into: &mut Fetched,
     ) -> Result<(), FetchFault>
         requires in_range { k < length self.now.heads }
         requires fits { Fits (S.bytes store.old) self.now }
 
         // over every store they are in range, and over one that tells they are read there
-        ensures even { OnOk result (length words.new.items ≡ length docs.new.items) }
-        ensures docs { OnOk result (All (λ d. d < self.now.docs) docs.new.items) }
-        ensures words { OnOk result (All (λ w. w < length self.now.words) words.new.items) }
-        ensures stood { ForSome (S.bytes store.old) (λ b. StandsFor b self.now → OnOk result (AreOf (block_posts b k) docs.new.items words.new.items)) }
+        ensures even { OnOk result (AreEven into.new.docs.items into.new.words.items into.new.positions.items into.new.scores.items) }
+        ensures ranged { OnOk result (All (IsRanged self.now) (posts_in into.new)) }
+        ensures stood { ForSome (S.bytes store.old) (λ b. StandsFor b self.now → OnOk result (posts_in into.new ≡ block_posts b k)) }
         ensures changed { IfErr result (IsChangeOfBlock self.now (S.bytes store.old) k) }
         ensures unchanged { ForSome (S.bytes store.old) (λ b. StandsFor b self.now → is_changed result ≡ false) }
         ensures bytes { S.bytes store.new ≡ S.bytes store.old }
@@ -76,10 +86,36 @@ impl Index {
         ensures reads { ReadsWithin 1 (S.reads store.old) (S.reads store.new) }
         ensures caused { CausedReads (is_read_of_fetch result) (S.faults store.old) (S.faults store.new) }
     {
-        let head = self.heads.as_slice()[k as usize];
-        let at = self.block_at(k);
-        let bytes = bytes_at(alloc, store, at, head.len)?;
-        doc_words_at(alloc, &bytes, &head, self.docs, at, docs, words)
+        let placed = self.read_block(store, k, &mut into.bytes)?;
+        posts_at(alloc, &placed, into)
+    }
+
+    /// Reads the documents and the words of the posts of block `k` in place of those that `into` holds, from the store from
+    /// which the index was opened. Positions and scores aren't looked at. Where it fails `into` holds anything.
+    pub fn fetch_doc_words<S: Store>(
+        &self,
+        alloc: Global,
+        store: &mut S,
+        k: u32,
+        into: &mut Fetched,
+    ) -> Result<(), FetchFault>
+        requires in_range { k < length self.now.heads }
+        requires fits { Fits (S.bytes store.old) self.now }
+
+        // over every store they are in range, and over one that tells they are read there
+        ensures even { OnOk result (length into.new.words.items ≡ length into.new.docs.items) }
+        ensures docs { OnOk result (All (λ d. d < self.now.docs) into.new.docs.items) }
+        ensures words { OnOk result (All (λ w. w < length self.now.words) into.new.words.items) }
+        ensures stood { ForSome (S.bytes store.old) (λ b. StandsFor b self.now → OnOk result (AreOf (block_posts b k) into.new.docs.items into.new.words.items)) }
+        ensures changed { IfErr result (IsChangeOfBlock self.now (S.bytes store.old) k) }
+        ensures unchanged { ForSome (S.bytes store.old) (λ b. StandsFor b self.now → is_changed result ≡ false) }
+        ensures bytes { S.bytes store.new ≡ S.bytes store.old }
+        ensures lent { S.lent store.new ≡ S.lent store.old }
+        ensures reads { ReadsWithin 1 (S.reads store.old) (S.reads store.new) }
+        ensures caused { CausedReads (is_read_of_fetch result) (S.faults store.old) (S.faults store.new) }
+    {
+        let placed = self.read_block(store, k, &mut into.bytes)?;
+        doc_words_at(alloc, &placed, into)
     }
 
     /// The title of a document, read from the store from which the index was opened.
@@ -105,8 +141,36 @@ impl Index {
         let from = offsets[doc as usize];
         let to = offsets[doc as usize + 1];
         let at = self.titles_at + u64::from(from);
-        let bytes = bytes_at(alloc, store, at, to - from)?;
+        let mut bytes = Vec::new(alloc);
+        read_over(store, at, to - from, &mut bytes)?;
         text_at(bytes, at)
+    }
+
+    // Reads the bytes of block `k` in place of others.
+    fn read_block<S: Store>(
+        &self,
+        store: &mut S,
+        k: u32,
+        bytes: &mut Vec<u8>,
+    ) -> Result<Placed, FetchFault>
+        requires in_range { k < length self.now.heads }
+        requires fits { Fits (S.bytes store.old) self.now }
+
+        ensures ok { IfOk result (λ placed. IsPlaced self.now (S.bytes store.old) k placed bytes.new.items) }
+        ensures unchanged { is_changed result ≡ false }
+        ensures bytes { S.bytes store.new ≡ S.bytes store.old }
+        ensures lent { S.lent store.new ≡ S.lent store.old }
+        ensures reads { ReadsWithin 1 (S.reads store.old) (S.reads store.new) }
+        ensures caused { CausedReads (is_read_of_fetch result) (S.faults store.old) (S.faults store.new) }
+    {
+        let head = self.heads.as_slice()[k as usize];
+        let at = self.block_at(k);
+        read_over(store, at, head.len, bytes)?;
+        Ok(Placed {
+            head,
+            docs: self.docs,
+            at,
+        })
     }
 
     // The place of block `k`, in bytes from the file's first.
@@ -133,88 +197,142 @@ fn bytes_of(heads: &[BlockHead]) -> u64
     sum
 }
 
-// So many bytes from a place, by one read.
-fn bytes_at<S: Store>(
-    alloc: Global,
+// Reads so many bytes from a place in place of others, by one read.
+fn read_over<S: Store>(
     store: &mut S,
     at: u64,
     len: u32,
-) -> Result<Vec<u8>, FetchFault>
+    bytes: &mut Vec<u8>,
+) -> Result<(), FetchFault>
     requires within { ForSome (S.bytes store.old) (λ b. at + len ≤ length b) }
 
-    ensures ok { ForSome (S.bytes store.old) (λ b. IfOk result (λ v. v.items ≡ part b at len)) }
-    ensures long { IfOk result (λ v. length v.items ≡ len) }
+    ensures ok { ForSome (S.bytes store.old) (λ b. OnOk result (bytes.new.items ≡ part b at len)) }
+    ensures long { OnOk result (length bytes.new.items ≡ len) }
     ensures unchanged { is_changed result ≡ false }
     ensures bytes { S.bytes store.new ≡ S.bytes store.old }
     ensures lent { S.lent store.new ≡ S.lent store.old }
     ensures reads { ReadsWithin 1 (S.reads store.old) (S.reads store.new) }
     ensures caused { CausedReads (is_read_of_fetch result) (S.faults store.old) (S.faults store.new) }
 {
-    let mut bytes = zeros(alloc, len as usize)?;
-    match read_at_once(store, at, &mut bytes) {
-        Ok(()) => Ok(bytes),
+    fit(bytes, len as usize)?;
+    match read_at_once(store, at, bytes) {
+        Ok(()) => Ok(()),
         Err(_) => Err(FetchFault::Read),
     }
 }
 
-// Adds the posts of a block that stands at a place of the file.
-fn decode_at(
-    bytes: &[u8],
-    head: &BlockHead,
-    docs: u32,
-    at: u64,
-    into: &mut Cols,
-) -> Result<(), FetchFault>
-    requires shaped { IsShaped head.now (length bytes.now) }
-    requires places { at < 2 ^ 63 }
+// Adds the posts of a block.
+fn decode_at(bytes: &[u8], placed: &Placed, into: &mut Cols) -> Result<(), FetchFault>
+    requires shaped { IsShaped placed.now.head (length bytes.now) }
+    requires places { placed.now.at < 2 ^ 63 }
 
-    ensures ok { OnOk result ((rows : List Post) × IsBlock SCORES head.now docs rows bytes.now × (into.new.posts ≡ into.old.posts ++ rows)) }
-    ensures exact { DecodesAt at (judged SCORES head.now docs bytes.now) result }
+    ensures ok { OnOk result ((rows : List Post) × IsBlock SCORES placed.now.head placed.now.docs rows bytes.now × (into.new.posts ≡ into.old.posts ++ rows)) }
+    ensures exact { DecodesAt placed.now.at (judged SCORES placed.now.head placed.now.docs bytes.now) result }
     ensures err { OnErr result (into.new.posts ≡ into.old.posts) }
     ensures unread { is_read_of_fetch result ≡ false }
 {
-    match decode(bytes, head, docs, into) {
+    match decode(bytes, &placed.head, placed.docs, into) {
         Ok(()) => Ok(()),
         Err(BlockFault::Memory) => Err(FetchFault::Memory),
-        Err(BlockFault::Rule { n, at: within }) => Err(FetchFault::Changed {
+        Err(BlockFault::Rule { n, at }) => Err(FetchFault::Changed {
             rule: n,
-            at: at + u64::from(within),
+            at: placed.at + u64::from(at),
         }),
     }
 }
 
-// Puts the documents and words of a block that stands at a place of the file into two columns. Where one isn't in range, the
-// block is decoded, which says what is broken.
-fn doc_words_at(
-    alloc: Global,
-    bytes: &[u8],
-    head: &BlockHead,
-    docs: u32,
-    at: u64,
-    into_docs: &mut Vec<u32>,
-    into_words: &mut Vec<u32>,
-) -> Result<(), FetchFault>
-    requires shaped { IsShaped head.now (length bytes.now) }
-    requires places { at < 2 ^ 63 }
+// Puts the posts of a block, whose bytes were read, into columns. Where one isn't in range, the block is decoded, which says what
+// is broken.
+fn posts_at(alloc: Global, placed: &Placed, into: &mut Fetched) -> Result<(), FetchFault>
+    requires shaped { IsShaped placed.now.head (length into.old.bytes.items) }
+    requires places { placed.now.at < 2 ^ 63 }
+    requires few { placed.now.docs < 2 ^ 32 }
 
-    ensures ok { OnOk result (AddsDocWords head.now docs bytes.now [] into_docs.new.items [] into_words.new.items) }
-    ensures exact { IfErr result (λ fault. DecodesAt at (judged SCORES head.now docs bytes.now) (Err fault)) }
+    ensures ok { OnOk result (HasPosts placed.now into.old.bytes.items into.new) }
+    ensures exact { IfErr result (λ fault. DecodesAt placed.now.at (judged SCORES placed.now.head placed.now.docs into.old.bytes.items) (Err fault)) }
     ensures unread { is_read_of_fetch result ≡ false }
 {
-    into_docs.truncate(0);
-    into_words.truncate(0);
-    if read_doc_words(bytes, head, docs, into_docs, into_words)? {
+    if read_columns(placed, into)? {
         return Ok(());
     }
+    decode_columns(alloc, placed, into)
+}
+
+// Puts the posts of a block, whose bytes were read, into columns. False where one isn't in range.
+fn read_columns(placed: &Placed, into: &mut Fetched) -> Result<bool, Memory>
+    requires shaped { IsShaped placed.now.head (length into.old.bytes.items) }
+
+    ensures ok { IfOk result (λ whole. whole ≡ true → HasPosts placed.now into.old.bytes.items into.new) }
+    ensures bytes { into.new.bytes ≡ into.old.bytes }
+{
+    if !list_columns(placed, into)? {
+        return Ok(false);
+    }
+    let whole = read_positions(
+        &into.bytes,
+        &placed.head,
+        &mut into.positions,
+        &mut into.scores,
+    )?;
+    Ok(whole)
+}
+
+// Puts the documents and words of a block, whose bytes were read, into columns. False where one isn't in range.
+fn list_columns(placed: &Placed, into: &mut Fetched) -> Result<bool, Memory>
+    requires shaped { IsShaped placed.now.head (length into.old.bytes.items) }
+
+    ensures ok { IfOk result (λ whole. whole ≡ true → AddsDocWords placed.now.head placed.now.docs into.old.bytes.items [] into.new.docs.items [] into.new.words.items) }
+    ensures bytes { into.new.bytes ≡ into.old.bytes }
+{
+    into.docs.truncate(0);
+    into.words.truncate(0);
+    let whole = read_doc_words(
+        &into.bytes,
+        &placed.head,
+        placed.docs,
+        &mut into.docs,
+        &mut into.words,
+    )?;
+    Ok(whole)
+}
+
+// The same of documents and words alone.
+fn doc_words_at(alloc: Global, placed: &Placed, into: &mut Fetched) -> Result<(), FetchFault>
+    requires shaped { IsShaped placed.now.head (length into.old.bytes.items) }
+    requires places { placed.now.at < 2 ^ 63 }
+    requires few { placed.now.docs < 2 ^ 32 }
+
+    ensures ok { OnOk result (AddsDocWords placed.now.head placed.now.docs into.old.bytes.items [] into.new.docs.items [] into.new.words.items) }
+    ensures exact { IfErr result (λ fault. DecodesAt placed.now.at (judged SCORES placed.now.head placed.now.docs into.old.bytes.items) (Err fault)) }
+    ensures unread { is_read_of_fetch result ≡ false }
+{
+    if list_columns(placed, into)? {
+        return Ok(());
+    }
+    decode_columns(alloc, placed, into)
+}
+
+// Puts the posts of a block, whose bytes were read, into columns by decoding it.
+fn decode_columns(alloc: Global, placed: &Placed, into: &mut Fetched) -> Result<(), FetchFault>
+    requires shaped { IsShaped placed.now.head (length into.old.bytes.items) }
+    requires places { placed.now.at < 2 ^ 63 }
+    requires few { placed.now.docs < 2 ^ 32 }
+
+    ensures ok { OnOk result (HasPosts placed.now into.old.bytes.items into.new) }
+    ensures exact { DecodesAt placed.now.at (judged SCORES placed.now.head placed.now.docs into.old.bytes.items) result }
+    ensures unread { is_read_of_fetch result ≡ false }
+{
     let mut rows = Cols::new(alloc);
-    decode_at(bytes, head, docs, at, &mut rows)?;
-    put_all(into_docs, rows.docs())?;
-    put_all(into_words, rows.words())?;
+    decode_at(&into.bytes, placed, &mut rows)?;
+    put_all(&mut into.docs, rows.docs())?;
+    put_all(&mut into.words, rows.words())?;
+    put_all(&mut into.positions, rows.places())?;
+    put_all(&mut into.scores, rows.scores())?;
     Ok(())
 }
 
 // Puts numbers into a column in place of what it holds.
-fn put_all(column: &mut Vec<u32>, numbers: &[u32]) -> Result<(), Memory>
+fn put_all<T: Copy>(column: &mut Vec<T>, numbers: &[T]) -> Result<(), Memory>
     ensures { OnOk result (column.new.items ≡ numbers.now) }
 {
     column.truncate(0);

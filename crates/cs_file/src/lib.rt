@@ -8,6 +8,7 @@
 mod blocks;
 mod directory;
 mod fault;
+mod fetched;
 mod fetching;
 mod header;
 mod image;
@@ -27,6 +28,7 @@ mod writing;
 
 pub use cs_base::BlockHead;
 pub use fault::{FetchFault, OpenFault, WriteFault};
+pub use fetched::Fetched;
 pub use image::Image;
 pub use index::Index;
 pub use opening::open_index;

@@ -24,6 +24,14 @@ pub(crate) fn zeros(alloc: Global, len: usize) -> Result<Vec<u8>, Memory>
     Ok(zeros)
 }
 
+/// Makes a vector so long, to be read over.
+pub(crate) fn fit(bytes: &mut Vec<u8>, len: usize) -> Result<(), Memory>
+    ensures { OnOk result (length bytes.new.items ≡ len) }
+{
+    bytes.resize(len, 0)?;
+    Ok(())
+}
+
 /// Fills a vector with the bytes from a place, by one read.
 pub(crate) fn read_at_once<S: Store>(
     store: &mut S,

@@ -1,0 +1,30 @@
+//! Reading the positions and the scores of a block's rows, without their documents and words.
+ghost use Rattle.std.specs.Prelude.{◌≡◌, true, length, IfOk};
+ghost use Rattle.cs_model_index.specs.Blocks.{IsShaped};
+ghost use Rattle.cs_block.specs.Positions.{HasPositions};
+
+use crate::columns::cut;
+use crate::run_columns::{are_scores, positions_in};
+use cs_base::{BlockHead, Memory};
+
+/// Puts the positions and the scores of a block's rows into two columns, in place of what these hold. False, with anything in
+/// them, where one isn't of the block's kind, which never comes of bytes that keep the rules.
+pub fn read_positions(
+    bytes: &[u8],
+    head: &BlockHead,
+    positions: &mut Vec<u32>,
+    scores: &mut Vec<u8>,
+) -> Result<bool, Memory>
+    requires shaped { IsShaped head.now (length bytes.now) }
+
+    ensures ok { IfOk result (λ whole. whole ≡ true → HasPositions head.now bytes.now positions.new.items scores.new.items) }
+{
+    let columns = cut(bytes, head);
+    positions.resize(head.rows as usize, 0)?;
+    scores.truncate(0);
+    scores.extend_from_slice(columns.scores)?;
+    Ok(
+        positions_in(columns.positions, 0, head.facet, positions)
+            && are_scores(columns.scores, head.facet),
+    )
+}
