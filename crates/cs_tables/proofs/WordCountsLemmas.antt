@@ -1,6 +1,7 @@
 -- The rows that are given are counted, piece by piece.
 --
 --   All-members          what each of a list is, each of its listing is
+--   front_countable      what stands before countable rows is
 --   counted_nothing      the marks of no rows
 --   one_counted          the marks behind one row of one of the words
 --   row_counted, row_passed     behind one row
@@ -66,7 +67,7 @@ all_front P [] b h = tt
 all_front P (x ∷ a) b h = (h 0 x (omega arith), all_front P a b (λ k d lt. h (suc k) d (omega (arith, lt))))
 
 -- what stands before countable rows is
-front_countable : (a b : List Post) → AreCountable (a ++ b) → AreCountable a
+pub front_countable : (a b : List Post) → AreCountable (a ++ b) → AreCountable a
 front_countable a b c = record {
   ordered = λ w. rises_front (of_word w a) (of_word w b) (subst AreSorted (filter-append (λ p. p.word == w) a b) (c.ordered w));
   few_docs = All-from_recursion (λ p. p.doc < MAX_DOCS) a (all_front (λ p. p.doc < MAX_DOCS) a b c.few_docs);
