@@ -2,7 +2,8 @@
 --
 --   raised_more, raised_all      rows are noted one after the other
 --   hits_more, hits_all          the hits of the table
---   hits_are, seen_scores        are the documents of the rows with their scores
+--   hits_are                     are the documents of the rows with their scores
+--   small_score, best_small      which are small
 --   alike_scores                 which depend on the rows' members alone
 --   written_back                 a table that was lent
 use Rattle.std.proofs.Common.{◌≡◌, ℕ, zero, suc, ◌+◌, ◌-◌, ◌≤◌, ◌<◌, ◌==◌, ◌&&◌, ◌||◌, Bool, true, false, List, [], ◌∷◌, ◌++◌, map, take, drop, length, get_or, cond, refl, sym, ◌∙◌, ap, subst, arith, append-nil, length-set}
@@ -14,11 +15,11 @@ use Rattle.std.specs.declared.cmp.Ordering.TheVariants.{Less}
 use Rattle.std.specs.Cmp.{nat_cmp_total}
 use Rattle.std.specs.FinMap.{nat_cmp-IsAntisymmetric}
 use Rattle.std.proofs.lemmas.Bool.Decides.{nat_tests}
-use Rattle.std.proofs.lemmas.List.{get_or-set_same, get_or-set_other, take_more, take_all, append_assoc, drop_all, map-append}
-use Rattle.std.proofs.lemmas.List.Elements.{filter-append, recursion_from_All}
+use Rattle.std.proofs.lemmas.List.{get_or-set_same, get_or-set_other, take_all, append_assoc, drop_all, map-append}
+use Rattle.std.proofs.lemmas.List.Elements.{All-filter, All-map, filter-append, recursion_from_All}
 use Rattle.std.proofs.lemmas.List.Kept.{IsStrictlySortedBy-filter}
 use Rattle.cs_base.specs.content.Orders.{docs_of}
-use Rattle.cs_base.specs.declared.content.doc.Base.TheVariants as base
+use Rattle.cs_base.specs.declared.content.doc.Base.{Base}
 use Rattle.cs_base.specs.declared.content.doc.Post.{Post}
 use Rattle.cs_base.specs.declared.content.doc.Scored.{Scored}
 use Rattle.cs_base.proofs.MembersLemmas.{members_are, members-alike}
@@ -26,7 +27,10 @@ use Rattle.cs_base.proofs.OrdersLemmas.{Less-from_lt}
 use Rattle.cs_rank.specs.DocScores.{greatest, of_doc, best_row, scores, with_base}
 use Rattle.cs_meet.proofs.Passes.{next_is}
 use Rattle.cs_engine.specs.Loose.{best_of, HasBest, hits_in}
+use Rattle.cs_engine.specs.Packing.{post_of}
 use Rattle.cs_engine.proofs.AlikeLemmas.{any_filter}
+use Rattle.cs_engine.proofs.FoundLemmas.{greatest_small}
+use Rattle.cs_engine.proofs.KeysLemmas.{one_more}
 
 any_map : {X Y : Type 0} (t : Y → Bool) (f : X → Y) (xs : List X) → list_any t (map f xs) ≡ list_any (λ x. t (f x)) xs
 any_map t f [] = refl
@@ -73,15 +77,18 @@ raised seen best p v l is has d m =
     ] refl
 
 -- the step of the loop
-pub raised_more : (all seen rows : List Post) (best : List ℕ) (i : ℕ) (p : Post) (v : ℕ) → i < length rows → p ≡ get_or rows i p → p.doc < length best → v ≡ max (slice_index best p.doc) (p.score + 1)
-    → HasBest (seen ++ take i rows) best → HasBest (seen ++ take (i + 1) rows) (slice_set best p.doc v)
-raised_more all seen rows best i p v l at in_best is has =
-    let longer : (seen ++ take i rows) ++ p ∷ [] ≡ seen ++ take (i + 1) rows =
-    append_assoc seen (take i rows) (p ∷ []) ∙ ap (λ r. seen ++ r) (ap (λ x. take i rows ++ x ∷ []) at ∙ sym (take_more rows i p l)) in
-    subst (λ s. HasBest s (slice_set best p.doc v)) longer (raised (seen ++ take i rows) best p v in_best is has)
+pub raised_more : (seen : List Post) (keys best : List ℕ) (i : ℕ) (row : Post) (v : ℕ) → i < length keys → row ≡ post_of (get_or keys i 0) → row.doc < length best → v ≡ max (slice_index best row.doc) (row.score + 1)
+    → HasBest (seen ++ map post_of (take i keys)) best → HasBest (seen ++ map post_of (take (i + 1) keys)) (slice_set best row.doc v)
+raised_more seen keys best i row v l at in_best is has =
+    let longer : (seen ++ map post_of (take i keys)) ++ row ∷ [] ≡ seen ++ map post_of (take (i + 1) keys) = append_assoc seen (map post_of (take i keys)) (row ∷ []) ∙ ap (λ r. seen ++ r) (sym (one_more keys i row l at)) in
+    subst (λ s. HasBest s (slice_set best row.doc v)) longer (raised (seen ++ map post_of (take i keys)) best row v in_best is has)
 
-pub raised_all : (seen rows : List Post) (best : List ℕ) (i : ℕ) → length rows ≤ i → HasBest (seen ++ take i rows) best → HasBest (seen ++ rows) best
-raised_all seen rows best i l has = subst (λ r. HasBest (seen ++ r) best) (take_all i rows l) has
+pub raised_all : (seen : List Post) (keys best : List ℕ) (i : ℕ) → length keys ≤ i → HasBest (seen ++ map post_of (take i keys)) best → HasBest (seen ++ map post_of keys) best
+raised_all seen keys best i l has = subst (λ ks. HasBest (seen ++ map post_of ks) best) (take_all i keys l) has
+
+-- a number has little room for a score
+pub small_score : (k : ℕ) → (post_of k).score < 8
+small_score k = omega arith
 
 -- ---- the hits of the table
 
@@ -248,12 +255,11 @@ map_same : {X : Type 0} (f g : ℕ → X) → ((w : ℕ) → f w ≡ g w) → (w
 map_same f g h [] = refl
 map_same f g h (w ∷ ws) = ap (λ x. x ∷ map f ws) (h w) ∙ ap (λ l. g w ∷ l) (map_same f g h ws)
 
-plain_row : (d n : ℕ) → ◌≡◌ {A = Scored} (record { doc = d; score = n }) (record { doc = d; score = 0 + n })
-plain_row d n = let e : n ≡ 0 + n = omega arith in ap (λ m. let h : Scored = record { doc = d; score = m } in h) e
-
-pub seen_scores : (rows : List Post) (best : List ℕ) (hits : List Scored) → HasBest rows best → All (λ p. p.doc < length best) rows → hits ≡ hits_in 0 best → hits ≡ scores base.All rows
-seen_scores rows best hits has inside are =
-    are ∙ hits_are rows best has inside ∙ map_same (best_row rows) (λ d. with_base base.All (best_row rows d)) (λ d. plain_row d (greatest (map (λ p. p.score) (of_doc d rows)))) (docs_of rows)
+-- each is small
+pub best_small : (keys : List ℕ) → All (λ h. h.score ≤ 255) (map (best_row (map post_of keys)) (docs_of (map post_of keys)))
+best_small keys =
+    let rows = map post_of keys in
+    All-map (λ h. h.score ≤ 255) (best_row rows) (docs_of rows) (λ k d l. greatest_small (of_doc (get_or (docs_of rows) k d) rows) (recursion_from_All (λ p. p.score ≤ 255) (of_doc (get_or (docs_of rows) k d) rows) (All-filter (λ p. p.doc == get_or (docs_of rows) k d) (λ p. p.score ≤ 255) rows (All-map (λ p. p.score ≤ 255) post_of keys (λ j e m. let s = small_score (get_or keys j e) in omega (arith, s))))))
 
 -- ---- rows with the same members
 score_over : (rows : List Post) (d k : ℕ) → nat_lt k (greatest (map (λ p. p.score) (of_doc d rows))) ≡ list_any (λ p. (p.doc == d) && nat_lt k p.score) rows
@@ -261,11 +267,11 @@ score_over rows d k =
     greatest_over k (map (λ (p : Post). p.score) (of_doc d rows)) ∙ any_map (nat_lt k) (λ (p : Post). p.score) (of_doc d rows)
     ∙ any_filter (λ (p : Post). nat_lt k p.score) (λ (p : Post). p.doc == d) rows
 
-pub alike_scores : (xs ys : List Post) → ((t : Post → Bool) → list_any t xs ≡ list_any t ys) → scores base.All xs ≡ scores base.All ys
-alike_scores xs ys a =
-    map_same (λ d. with_base base.All (best_row xs d)) (λ d. with_base base.All (best_row ys d))
-    (λ d. ap (λ n. let h : Scored = record { doc = d; score = 0 + n } in h) (same_tests _ _ (λ k. score_over xs d k ∙ a _ ∙ sym (score_over ys d k)))) (docs_of xs)
-    ∙ ap (map (λ d. with_base base.All (best_row ys d)))
+pub alike_scores : (b : Base) (xs ys : List Post) → ((t : Post → Bool) → list_any t xs ≡ list_any t ys) → scores b xs ≡ scores b ys
+alike_scores b xs ys a =
+    map_same (λ d. with_base b (best_row xs d)) (λ d. with_base b (best_row ys d))
+    (λ d. ap (λ n. with_base b (record { doc = d; score = n })) (same_tests _ _ (λ k. score_over xs d k ∙ a _ ∙ sym (score_over ys d k)))) (docs_of xs)
+    ∙ ap (map (λ d. with_base b (best_row ys d)))
     (members-alike nat_cmp nat_cmp_total nat_cmp-IsAntisymmetric (map (λ p. p.doc) xs) (map (λ p. p.doc) ys) (λ q. any_map (eq_by_cmp nat_cmp q) (λ p. p.doc) xs ∙ a _ ∙ sym (any_map (eq_by_cmp nat_cmp q) (λ p. p.doc) ys)))
 
 -- a vector that a slice was lent of

@@ -5,7 +5,6 @@
 --   block_counted        one block more is counted
 --   countable            the rows that are counted are countable
 --   counted_alike, counted_long     they have the members of those asked for, and are as many
---   counted_whole        rows that all are chosen
 --   table_told           their table
 --   listed_kept, all_listed     the rows in listed documents
 --   facet_counted        the table of a facet
@@ -50,7 +49,7 @@ use Rattle.cs_engine.specs.Stocked.{docs_in, every, facet_at, is_between, shown_
 use Rattle.cs_engine.proofs.AnsweringLemmas.{facet_told, words_as_shown}
 use Rattle.cs_engine.proofs.AlikeLemmas.{any_filter, table_alike}
 use Rattle.cs_engine.proofs.DistinctLemmas.{Apart, apart_append, apart_none, apart_sorted, long_alike}
-use Rattle.cs_engine.proofs.FoundLemmas.{all_kept, every_more, stays}
+use Rattle.cs_engine.proofs.FoundLemmas.{all_kept, every_more}
 use Rattle.cs_engine.proofs.ListsLemmas.{filter_twice}
 use Rattle.cs_engine.proofs.ReadingLemmas.{kept_within}
 use Rattle.cs_engine.proofs.StockLemmas.{by_post_total, by_post_exact, docs_are, stocked, within_block, words_are}
@@ -291,7 +290,3 @@ module _ (b : List ℕ) (i : IndexView) (stands : StandsFor b i) (is : IsIndex i
 -- the blocks that hold a facet's words
 pub facet_met : (i : IndexView) → IsIndex i → (name bytes prefix : List ℕ) (lo hi : ℕ) → bytes ≡ prefix → prefix ≡ named name [] → IsRange i.words bytes lo hi → length (filter (is_met lo hi) i.heads) ≤ met_prefix (division i) (named name [])
 facet_met i is name bytes prefix lo hi read asked range = subst (λ p. length (filter (is_met lo hi) i.heads) ≤ met_prefix (division i) p) (read ∙ asked) (prefix_met i is bytes lo hi range)
-
--- rows that all are chosen
-pub counted_whole : (lo hi : ℕ) (listed : List Bool) (rows : List Post) → All (λ p. is_chosen lo hi listed p ≡ true) rows → chosen lo hi listed rows ≡ rows
-counted_whole lo hi listed rows passed = stays (is_chosen lo hi listed) rows (recursion_from_All (λ p. is_chosen lo hi listed p ≡ true) rows passed)

@@ -3,7 +3,7 @@
 --   same_lent, extend_lent, narrow_lent      the entry that is lent is in range, and over the bytes the one that the plan speaks of
 --   narrow_typed         a prefix is being typed, and the rows that are lent are in range
 --   due_reads            the reads for a query's parts and those behind them
---   fresh_reads          the reads for all parts
+--   all_reads            all of them at once
 --   err_due              where there is no reply
 use Rattle.std.proofs.Common.{◌≡◌, ℕ, ◌+◌, ◌<◌, List, length, refl, sym, ap, subst, ◌∙◌, arith, Option, Some, None, IsSome}
 use Rattle.std.specs.Prelude.{filter, IfSome, Result, Ok, Err}
@@ -22,7 +22,7 @@ use Rattle.cs_model.specs.Refusals.{IsOfGrammar}
 use Rattle.cs_model.specs.Replies.{Reply}
 use Rattle.cs_model.specs.Requests.{Request}
 use Rattle.cs_model_index.specs.Numbered.{word_at}
-use Rattle.cs_model_kept.specs.Due.{Division, due, met_by, met_of_facets, met_of_query}
+use Rattle.cs_model_kept.specs.Due.{Division, due, met_by, met_of_facets}
 use Rattle.cs_model_kept.specs.Entries.{EntryOf}
 use Rattle.cs_model_kept.specs.KeptList.{KeptOf, plan_by, used_entry}
 use Rattle.cs_model_kept.specs.KeptListLaws.{before_last}
@@ -106,8 +106,8 @@ due_reads v r by_plan own titles before mid now same a b =
     let b_within = b.within in
     record { later = omega (arith, a_later, b_later); within = omega (arith, a_within, b_within, all) }
 
-pub fresh_reads : (v : Division) (r : Request) (by_plan : Plan) (titles before now : ℕ) → by_plan ≡ Fresh → ReadsWithin (titles + met_of_facets v r.facets + met_of_query v r.query) before now → ReadsWithin (due v r by_plan titles) before now
-fresh_reads v r by_plan titles before now same a =
+pub all_reads : (v : Division) (r : Request) (by_plan own : Plan) (titles before now : ℕ) → by_plan ≡ own → ReadsWithin (titles + met_of_facets v r.facets + met_by v r.query own) before now → ReadsWithin (due v r by_plan titles) before now
+all_reads v r by_plan own titles before now same a =
     let all = due_is v r by_plan titles ∙ ap (λ p. titles + met_of_facets v r.facets + met_by v r.query p) same in
     let a_later = a.later in
     let a_within = a.within in

@@ -10,6 +10,7 @@ pub mod FoldsLemmas
 pub mod FoundLemmas
 pub mod HitsLemmas
 pub mod KeptLemmas
+pub mod KeysLemmas
 pub mod LentLemmas
 pub mod ListsLemmas
 pub mod LooseLemmas

@@ -7,17 +7,18 @@
 --   gathered            what is gathered of a run of blocks
 --   ordered_within, ordered_passed, ordered_told     what is brought into order of it
 --   as_they_come        and what isn't
+--   keys_among, keys_between     what holds of each of the rows
 use Rattle.std.proofs.Common.{◌≡◌, ℕ, zero, suc, ◌+◌, ◌-◌, ◌*◌, ◌/◌, ◌%◌, ◌<◌, ◌≤◌, ◌==◌, ◌&&◌, ◌||◌, Bool, true, false, true≢false, cond, List, [], ◌∷◌, ◌++◌, length, get_or, take, drop, map, Option, None, refl, sym, ap, ap₂, subst, ◌∙◌, arith}
-use Rattle.std.specs.Prelude.{All, filter, flat_map, nat_lt}
+use Rattle.std.specs.Prelude.{All, filter, flat_map, nat_le, nat_lt}
 use Rattle.std.specs.List.{AllByRecursion, Contains, list_any}
 use Rattle.std.specs.List.Sorted.{IsPermutation, IsSorted, IsStrictlySortedBy}
 use Rattle.std.specs.Ordering.{is_lt, nat_cmp, ordering_then}
 use Rattle.std.specs.declared.cmp.Ordering.{Ordering}
 use Rattle.std.specs.declared.cmp.Ordering.TheVariants.{Less, Equal}
-use Rattle.std.proofs.lemmas.Bool.{eq-eqb, eqb-true, ltb-false, ltb-true}
+use Rattle.std.proofs.lemmas.Bool.{and_parts, eq-eqb, eqb-true, leb-true, ltb-false, ltb-true}
 use Rattle.std.proofs.lemmas.Bool.Decides.{nat_tests}
 use Rattle.std.proofs.lemmas.List.{map-append}
-use Rattle.std.proofs.lemmas.List.Elements.{All-nil, All-append, All-contains, All-filter, All-from_recursion, All-weaker, Contains-append_left, Contains-append_right, Contains-get_or, filter_passes, recursion_from_All}
+use Rattle.std.proofs.lemmas.List.Elements.{All-nil, All-append, All-contains, All-filter, All-from_recursion, All-map, All-weaker, Contains-append_left, Contains-append_right, Contains-get_or, filter_passes, recursion_from_All}
 use Rattle.std.proofs.lemmas.List.Kept.{IsStrictlySortedBy-filter}
 use Rattle.std.proofs.lemmas.List.Sorted.{All-permutation, IsPermutation-map, list_any-IsPermutation}
 use Rattle.cs_base.specs.content.Orders.{AreSorted, by_place}
@@ -346,3 +347,14 @@ ordered_told b i s is lo hi listed rows posts a o =
 -- the rows of numbers, as they come
 pub as_they_come : (rows : List Post) (keys : List ℕ) → keys ≡ map key_of rows → All IsPacked rows → map post_of keys ≡ rows
 as_they_come rows keys are packed = ap (map post_of) are ∙ all_unkeyed rows (recursion_from_All IsPacked rows packed)
+
+-- what holds of each of the rows
+pub keys_among : (P : Post → Type 0) (rows : List Post) (keys : List ℕ) → keys ≡ map key_of rows → All IsPacked rows → All P rows → All (λ k. P (post_of k)) keys
+keys_among P rows keys are packed h =
+    subst (All (λ k. P (post_of k))) (sym are) (All-map (λ k. P (post_of k)) key_of rows (λ k d l. subst P (sym (unkeyed (get_or rows k d) (packed k d l))) (h k d l)))
+
+pub keys_between : (lo hi : ℕ) (listed : List Bool) (rows : List Post) (keys : List ℕ) → keys ≡ map key_of rows → All IsPacked rows → All (λ p. is_chosen lo hi listed p ≡ true) rows → All (λ k. (lo ≤ (post_of k).word) × ((post_of k).word < hi)) keys
+keys_between lo hi listed rows keys are packed passed =
+    keys_among (λ p. (lo ≤ p.word) × (p.word < hi)) rows keys are packed (All-weaker (λ p. is_chosen lo hi listed p ≡ true) (λ p. (lo ≤ p.word) × (p.word < hi)) (λ p h.
+    let both = and_parts (nat_le lo p.word) (nat_lt p.word hi) (and_parts (nat_le lo p.word && nat_lt p.word hi) (in_listed listed p) h).0 in
+    (leb-true lo p.word both.0, ltb-true p.word hi both.1)) rows passed)

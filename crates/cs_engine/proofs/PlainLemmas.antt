@@ -2,9 +2,8 @@
 --
 --   prefix_words, exact_words      those of an atom
 --   chain_words, part_words        those of a chain of one atom, and of a part of one chain
---   query_words                    those of a query of one part, and its entry
 --   listed_entry, listed_fits      the entry of one part more, by the rows in listed documents
-use Rattle.std.proofs.Common.{◌≡◌, ℕ, ◌+◌, ◌-◌, ◌*◌, ◌<◌, ◌≤◌, ◌==◌, Bool, true, false, not, List, [], ◌∷◌, length, map, get_or, Option, None, Some, refl, sym, ap, subst, ◌∙◌, arith}
+use Rattle.std.proofs.Common.{◌≡◌, ℕ, ◌+◌, ◌-◌, ◌*◌, ◌<◌, ◌≤◌, ◌==◌, Bool, true, false, List, [], ◌∷◌, length, map, get_or, Option, None, Some, refl, sym, ap, subst, ◌∙◌, arith}
 use Rattle.std.specs.Prelude.{All, IfSome, filter, sum}
 use Rattle.std.specs.Str.{bytes_eq}
 use Rattle.cs_base.specs.declared.content.doc.Base.{Base}
@@ -17,28 +16,24 @@ use Rattle.cs_base.specs.declared.content.query.Atom.TheFolds.{fold_out-Chain}
 use Rattle.cs_base.specs.declared.content.query.Chain.{Chain, out-Chain}
 use Rattle.cs_base.specs.declared.content.query.Linked.{Linked}
 use Rattle.cs_base.specs.declared.content.query.Part.{Part, out-Part}
-use Rattle.cs_base.specs.declared.content.query.Query.{Query, out-Query}
 use Rattle.cs_file.specs.Indexes.{IndexView, IsIndex, StandsFor, is_met}
 use Rattle.cs_model.specs.Answers.{PartRows, LinkedRows, atom_rows, begins, chain_rows, chained, linked_rows, part_rows, query_parts, rows_of_atom, rows_of_chain, rows_of_linked, rows_of_part}
 use Rattle.cs_model.specs.Corpus.{Corpus}
 use Rattle.cs_model.proofs.AnswersLemmas.{prefix_rows, exact_rows}
-use Rattle.cs_model_kept.specs.Due.{atom_met, chain_met, linked_met, part_met, query_met, met_of_atom, met_of_chain, met_of_linked, met_of_part, met_of_query}
-use Rattle.cs_model_kept.specs.Entries.{EntryOf, entry_at, entry_of}
+use Rattle.cs_model_kept.specs.Due.{atom_met, chain_met, linked_met, part_met, query_met, met_of_atom, met_of_chain, met_of_linked, met_of_part}
+use Rattle.cs_model_kept.specs.Entries.{EntryOf}
 use Rattle.cs_model_kept.proofs.DueLemmas.{met_prefix_atom}
 use Rattle.cs_vocab.specs.Ranges.{IsRange}
 use Rattle.cs_engine.specs.Asking.{division}
 use Rattle.cs_engine.specs.Counting.{AreListed, in_listed}
-use Rattle.cs_engine.specs.Loose.{AreQueryWords}
 use Rattle.cs_engine.specs.Plain.{AreWordsOf}
 use Rattle.cs_engine.specs.Reading.{AreWithin, HasRows, IsSpanOf, stock_of}
-use Rattle.cs_engine.specs.Steps.{EntryFits, IsBaseOf, IsStep, end_positive, is_in_base, posts_after}
+use Rattle.cs_engine.specs.Steps.{EntryFits, IsBaseOf, is_in_base, posts_after}
 use Rattle.cs_engine.specs.Stocked.{corpus_in, is_between}
 use Rattle.cs_engine.proofs.CountingLemmas.{listed_kept, stock_within}
-use Rattle.cs_engine.proofs.EvaluationLemmas.{entry_begins, entry_ends, entry_goes_on, met_query-is, met_part-is, part_begins, part_ends, part_goes_on}
-use Rattle.cs_engine.proofs.FoundLemmas.{all_kept, is_excluded}
-use Rattle.cs_engine.proofs.StepLemmas.{known_docs, step_told}
+use Rattle.cs_engine.proofs.EvaluationLemmas.{met_part-is, part_begins, part_ends, part_goes_on}
 use Rattle.cs_engine.proofs.ReadingLemmas.{kept_within}
-use Rattle.cs_engine.proofs.StockLemmas.{docs_are, stocked}
+use Rattle.cs_engine.proofs.StockLemmas.{stocked}
 use Rattle.cs_engine.proofs.UnionLemmas.{with_nothing}
 use Rattle.cs_engine.proofs.VocabLemmas.{any_through}
 use Rattle.cs_engine.proofs.WordsLemmas.{prefix_met, span_found}
@@ -141,35 +136,3 @@ module _ (i : IndexView) (hits : Base) (listed : List Bool) (has : AreListed i.d
     base = (let e : n ≡ n + 1 - 1 = omega arith in subst (λ m. IsBaseOf i.docs (255 * m) hits) e fits);
     in_base = λ k d l. listed_base (get_or rows k d) hits has (w.within k d l).doc (passed k d l);
   }
-
--- ---- queries of one part
-one_part : (parts : List Part) (p : Part) → length parts ≡ 1 → p ≡ get_or parts 0 p → parts ≡ p ∷ []
-one_part [] p one at = absurd (omega (arith, one))
-one_part (d ∷ []) p one at = ap (λ x. x ∷ []) (sym at)
-one_part (d ∷ e ∷ parts) p one at = absurd (omega (arith, one))
-
-only_entry : (b : List ℕ) (i : IndexView) → StandsFor b i → IsIndex i → (q : Query) (p : Part) → (out-Query q).parts ≡ p ∷ [] → (out-Part p).excluded ≡ false → (posts : List Post) → AreWithin i posts → HasRows (stock_of b) (rows_of_part (corpus_in (stock_of b)) p).rows posts
-    → entry_at (stock_of b).words (record { base = base.All; rows = posts }) ≡ entry_of (corpus_in (stock_of b)) q
-only_entry b i stands is q p own positive posts w has =
-    let s = stock_of b in
-    let before : EntryOf Post = record { base = base.All; rows = [] } in
-    let now : EntryOf Post = record { base = base.All; rows = posts } in
-    let kept : posts_after i.docs base.All false posts ≡ now = ap (λ (l : List Post). let e : EntryOf Post = record { base = base.All; rows = l } in e) (sym (all_kept i.docs posts (known_docs i posts w))) in
-    let step : IsStep s base.All (rows_of_part (corpus_in s) p) now = subst (IsStep s base.All (rows_of_part (corpus_in s) p)) kept (step_told s i.docs base.All (rows_of_part (corpus_in s) p) posts (docs_are b i stands is) has.is false (is_excluded s p ∙ positive)) in
-    entry_ends s (p ∷ []) q 1 now (sym own) (omega arith) (entry_goes_on s (p ∷ []) 0 p (omega arith) refl false before now base.All refl (entry_begins s (p ∷ []) before refl) refl step)
-
-pub query_words : (i : IndexView) → IsIndex i → (q : Query) (p : Part) (parts : List Part) → parts ≡ (out-Query q).parts → length parts ≡ 1 → p ≡ get_or parts 0 p → (o : Option (ℕ × ℕ)) → IfSome o (λ w. (out-Part p).excluded ≡ false)
-    → IfSome o (λ w. AreWordsOf i (met_of_part (division i) p) (λ k. (rows_of_part k p).rows) w.0 w.1) → IfSome o (λ w. AreQueryWords i q w.0 w.1)
-query_words i is q p parts are one at None positive h = h
-query_words i is q p parts are one at (Some w) positive h =
-    let v = division i in
-    let own : (out-Query q).parts ≡ p ∷ [] = sym are ∙ one_part parts p one at in
-    let met : met_of_query v q ≡ 0 + met_of_part v p = met_query-is v q ∙ ap (λ ps. sum (map (met_of_part v) ps)) own in
-    record {
-      one = ap length own;
-      positive = ap end_positive own ∙ ap not positive;
-      ordered = h.ordered;
-      within = h.within;
-      few = (let l = h.few in omega (arith, l, met));
-      entry = λ b stands. only_entry b i stands is q p own positive (filter (is_between w.0 w.1) (stock_of b).posts) (kept_within i (is_between w.0 w.1) (stock_of b).posts (stock_within b i stands is)) (h.posts b stands);
-    }

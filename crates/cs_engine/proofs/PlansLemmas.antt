@@ -3,13 +3,17 @@
 --   viewed               the entry that is lent
 --   is_used              each plan but Fresh uses one
 --   narrowed_rows        the rows of the words from one number up to another are those of the prefix that has these words
---   ends_first, first_in, more_told, more_fits, last_met      one part more
+--   ends_first, ends_last, first_in, more_told, more_fits, last_met      one part more
+--   first_fits, first_parts, more_by_words, parts_met      the entry of the first parts, and of all by the last one's words
+--   nothing_own, nothing_over        the entry of a query without a part
 --   hits_are_in, found_by_entry      the hits of the query's own entry
-use Rattle.std.proofs.Common.{◌≡◌, ℕ, ◌+◌, ◌-◌, ◌*◌, ◌≤◌, Bool, not, List, [], ◌∷◌, length, map, take, get_or, refl, sym, ap, subst, ◌∙◌, arith, length-take, Option, Some, None, IsSome, suc}
-use Rattle.std.specs.Prelude.{filter, IfSome}
+use Rattle.std.proofs.Common.{◌≡◌, ℕ, ◌+◌, ◌-◌, ◌*◌, ◌≤◌, Bool, false, not, List, [], ◌∷◌, length, map, take, get_or, refl, sym, ap, subst, ◌∙◌, arith, length-take, Option, Some, None, IsSome, suc}
+use Rattle.std.specs.Prelude.{filter, sum, IfSome}
 use Rattle.std.proofs.lemmas.List.{take_all}
 use Rattle.std.proofs.lemmas.List.Elements.{All-weaker, recursion_from_All}
+use Rattle.std.proofs.lemmas.List.Sums.{sum_by-cons}
 use Rattle.cs_base.specs.declared.content.doc.Base.{Base}
+use Rattle.cs_base.specs.declared.content.doc.Base.TheVariants as base
 use Rattle.cs_base.specs.declared.content.doc.Post.{Post}
 use Rattle.cs_base.specs.declared.content.key.Keys.{Keys}
 use Rattle.cs_base.specs.declared.content.query.Part.{Part, out-Part}
@@ -29,13 +33,18 @@ use Rattle.cs_model_kept.specs.KeptListLaws.{before_last}
 use Rattle.cs_model_kept.proofs.EntryLemmas.{parts_read}
 use Rattle.cs_model_kept.proofs.PlanLemmas.{plans_are_held}
 use Rattle.cs_vocab.specs.Ranges.{IsRange}
+use Rattle.cs_engine.specs.Asking.{division}
 use Rattle.cs_engine.specs.Keeping.{FitsQuery, IsEntryOver, entry_with}
+use Rattle.cs_engine.specs.Loose.{IsEntryByWords}
+use Rattle.cs_engine.specs.Plain.{AreWordsOf}
 use Rattle.cs_engine.specs.Reading.{AreWithin, IsWithin, stock_of}
-use Rattle.cs_engine.specs.Steps.{AreFound, EntryFits, IsBaseOf, IsStep, end_positive, last_is_positive, posts_hits}
+use Rattle.cs_engine.specs.Steps.{AreFound, EntryFits, IsBaseOf, IsStep, end_positive, last_is_positive, posts_after, posts_hits}
 use Rattle.cs_engine.specs.Stocked.{corpus_in, is_between}
-use Rattle.cs_engine.proofs.EvaluationLemmas.{EntrySoFar, ends_read, entry_ends, entry_goes_on, entry_unrolled, hits_by, positive_more}
+use Rattle.cs_engine.proofs.EvaluationLemmas.{EntrySoFar, ends_read, entry_begins, entry_ends, entry_goes_on, entry_unrolled, hits_by, positive_more}
+use Rattle.cs_engine.proofs.FoundLemmas.{is_excluded}
 use Rattle.cs_engine.proofs.KeptLemmas.{from_stock, in_stock}
-use Rattle.cs_engine.proofs.StepLemmas.{base_weaker, hits_in}
+use Rattle.cs_engine.proofs.StepLemmas.{base_weaker, hits_in, nothing_fits, step_told}
+use Rattle.cs_engine.proofs.StockLemmas.{docs_are}
 use Rattle.cs_engine.proofs.VocabLemmas.{filter_alike}
 
 -- ---- the entry that is lent
@@ -91,11 +100,21 @@ module _ (q : Query) where
       let many : length (out-Query (before_last q)).parts ≡ length ps - 1 = ap length first_are ∙ (let l = length-take (length ps - 1) ps in omega (arith, l)) in
       subst (IsBaseOf i.docs (255 * (length ps - 1))) (sym are) (hits_in i positive (length ps - 1) e (subst (λ n. EntryFits i positive n e) many (subst (λ p. EntryFits i p (length (out-Query (before_last q)).parts) e) (sym (ends_first positive ends)) fits)))
 
+  -- the last part says whether the query ends in a positive one
+  pub ends_last : (n : ℕ) (x : Part) → length ps ≡ n + 1 → x ≡ get_or ps n x → last_is_positive q ≡ not (out-Part x).excluded
+  ends_last n x many at = sym (sym (positive_more ps n x (omega (arith, many)) at) ∙ ap end_positive (take_all (n + 1) ps (omega (arith, many))))
+
   pub more_fits : (i : IndexView) (n : ℕ) (x : Part) (e : EntryOf Post) → length ps ≡ n + 1 → x ≡ get_or ps n x → EntryFits i (not (out-Part x).excluded) (n + 1) e → FitsQuery i q e
   more_fits i n x e many at fits =
-      let whole : take (n + 1) ps ≡ ps = take_all (n + 1) ps (omega (arith, many)) in
-      let ends : not (out-Part x).excluded ≡ last_is_positive q = sym (positive_more ps n x (omega (arith, many)) at) ∙ ap end_positive whole in
+      let ends = sym (ends_last n x many at) in
       subst (λ m. EntryFits i (last_is_positive q) m e) (sym many) (subst (λ b. EntryFits i b (n + 1) e) ends fits)
+
+  -- the entry of the first parts is that of the query without its last one
+  pub first_fits : (i : IndexView) (firsts : List Part) (e : EntryOf Post) → firsts ≡ take (length ps - 1) ps → EntryFits i (end_positive firsts) (length firsts) e → FitsQuery i (before_last q) e
+  first_fits i firsts e are fits = subst (λ xs. EntryFits i (end_positive xs) (length xs) e) (are ∙ sym first_are) fits
+
+  pub first_parts : (firsts : List Part) → firsts ≡ take (length ps - 1) ps → firsts ≡ (out-Query (before_last q)).parts
+  first_parts firsts are = are ∙ sym first_are
 
   module _ (b : List ℕ) (i : IndexView) (stands : StandsFor b i) (is : IsIndex i) (was now : EntryOf Post) where
     so_far : IsEntryOver b i (before_last q) was → EntrySoFar (stock_of b) ps (length ps - 1) was
@@ -110,6 +129,39 @@ module _ (q : Query) where
         let here : length ps - 1 ≡ n = omega (arith, many) in
         from_stock b i stands is q now (entry_ends (stock_of b) ps q (n + 1) now refl (omega (arith, many))
         (entry_goes_on (stock_of b) ps n x (omega (arith, many)) at positive was now hits ends (subst (λ m. EntrySoFar (stock_of b) ps m was) here (so_far own)) hits_are step))
+
+-- the entry by the words that the last part asks for
+pub more_by_words : (q : Query) (b : List ℕ) (i : IndexView) → StandsFor b i → IsIndex i → (was : EntryOf Post) (n : ℕ) (x : Part) (positive : Bool) (hits : Base) (lo hi : ℕ) → length (out-Query q).parts ≡ n + 1 → x ≡ get_or (out-Query q).parts n x → positive ≡ end_positive (take n (out-Query q).parts)
+    → hits ≡ posts_hits positive was.base was.rows → (out-Part x).excluded ≡ false → AreWordsOf i (met_of_part (division i) x) (λ k. (rows_of_part k x).rows) lo hi → IsEntryOver b i (before_last q) was → IsEntryByWords b i q hits lo hi
+more_by_words q b i stands is was n x positive hits lo hi many at ends hits_are last asks own =
+    let s = stock_of b in
+    let posts = filter (is_between lo hi) s.posts in
+    more_told q b i stands is was (posts_after i.docs hits false posts) n x positive hits many at ends hits_are own
+    (step_told s i.docs hits (rows_of_part (corpus_in s) x) posts (docs_are b i stands is) (asks.posts b stands).is false (is_excluded s x ∙ last))
+
+-- what is read for the last part and for those before it
+pub parts_met : (v : Division) (ps : List Part) → 1 ≤ length ps → sum (map (met_of_part v) (take (length ps - 1) ps)) + met_of_last v (last_of ps) ≡ sum (map (met_of_part v) ps)
+parts_met v [] some = absurd (omega (arith, some))
+parts_met v (x ∷ []) some = let none : length (x ∷ []) - 1 ≡ 0 = omega arith in let one = sum_by-cons (λ n. n) (met_of_part v x) [] in ap (λ n. sum (map (met_of_part v) (take n (x ∷ []))) + met_of_part v x) none ∙ omega (arith, one)
+parts_met v (x ∷ y ∷ ys) some =
+    let f = met_of_part v in
+    let more : length (x ∷ y ∷ ys) - 1 ≡ suc (length (y ∷ ys) - 1) = omega arith in
+    let rest = parts_met v (y ∷ ys) (omega arith) in
+    let front = sum_by-cons (λ n. n) (f x) (map f (take (length (y ∷ ys) - 1) (y ∷ ys))) in
+    let whole = sum_by-cons (λ n. n) (f x) (map f (y ∷ ys)) in
+    ap (λ n. sum (map f (take n (x ∷ y ∷ ys))) + met_of_last v (last_of (y ∷ ys))) more ∙ omega (arith, rest, front, whole)
+
+-- ---- queries without a part
+module _ (q : Query) (parts : List Part) (are : parts ≡ (out-Query q).parts) (none : length parts ≡ 0) (e : EntryOf Post) (is_nothing : e ≡ record { base = base.All; rows = [] }) where
+  pub nothing_own : (i : IndexView) → FitsQuery i q e
+  nothing_own i = subst (λ xs. EntryFits i (end_positive xs) (length xs) e) (sym (no_parts parts none) ∙ are) (nothing_fits i e is_nothing)
+    where
+      no_parts : (xs : List Part) → length xs ≡ 0 → xs ≡ []
+      no_parts [] h = refl
+      no_parts (x ∷ xs) h = absurd (omega (arith, h))
+
+  pub nothing_over : (b : List ℕ) (i : IndexView) → StandsFor b i → IsIndex i → IsEntryOver b i q e
+  nothing_over b i stands is = from_stock b i stands is q e (entry_ends (stock_of b) parts q 0 e are (omega (arith, none)) (entry_begins (stock_of b) parts e is_nothing))
 
 -- ---- hits by the query's own entry
 module _ (i : IndexView) (q : Query) (e : EntryOf Post) (positive : Bool) (ends : positive ≡ last_is_positive q) (hits : Base) (are : hits ≡ posts_hits positive e.base e.rows) where

@@ -1,7 +1,7 @@
 -- One part more: the hits of an entry, and the entry behind a part.
 --
---   base_in, hits_in       a base in range is one for scores, and so are the hits of an entry in range
---   scores_in              and those of rows in any order
+--   base_in, scores_in     a base in range is one for scores, and so are scores over it
+--   hits_in                the hits of an entry in range
 --   hits_told              the hits of posts are those of the rows that they stand for
 --   listed_told            the hits of a base, as a list
 --   step_told              the entry behind a part is that of its rows
@@ -78,29 +78,21 @@ most_small false n l = omega (arith, l)
 pub nothing_fits : (i : IndexView) (e : EntryOf Post) → e ≡ record { base = base.All; rows = [] } → EntryFits i false 0 e
 nothing_fits i e is = subst (EntryFits i false 0) (sym is) (record { parts = λ f. absurd (true≢false (sym f)); rows = none_within i; base = tt; in_base = All-nil _ })
 
+-- the scores of rows in any order over a base in range
+pub scores_in : (i : IndexView) (n : ℕ) (b : Base) (rows : List Post) → 1 ≤ n → IsBaseOf i.docs (255 * (n - 1)) b → All (IsWithin i.docs (length i.words)) rows → IsBaseOf i.docs (255 * n) (base.Listed (scores b rows))
+scores_in i n b rows some fits within = (
+  scored_rise (λ d. with_base b (best_row rows d)) (λ d. refl) (docs_of rows) (listing-rises nat_cmp (map (λ p. p.doc) rows)),
+  All-map (IsHitOf i.docs (255 * n)) (λ d. with_base b (best_row rows d)) (docs_of rows) (λ k d l.
+      let at = get_or (docs_of rows) k d in
+      let low = base_small i.docs (255 * (n - 1)) at b fits in
+      let best = best_small i rows within at in
+      record { doc = below i rows within k d l; score = omega (arith, low, best, some) }),
+)
+
 -- the hits of an entry in range
 pub hits_in : (i : IndexView) (positive : Bool) (n : ℕ) (e : EntryOf Post) → EntryFits i positive n e → IsBaseOf i.docs (255 * n) (posts_hits positive e.base e.rows)
 hits_in i false n e fits = fits.base
-hits_in i true n e fits =
-    let some = fits.parts refl in (
-      scored_rise (λ d. with_base e.base (best_row e.rows d)) (λ d. refl) (docs_of e.rows) (listing-rises nat_cmp (map (λ p. p.doc) e.rows)),
-      All-map (IsHitOf i.docs (255 * n)) (λ d. with_base e.base (best_row e.rows d)) (docs_of e.rows) (λ k d l.
-          let doc = below i e.rows fits.rows.within k d l in
-          let at = get_or (docs_of e.rows) k d in
-          let low = base_small i.docs (255 * (n - 1)) at e.base fits.base in
-          let best = best_small i e.rows fits.rows.within at in
-          record { doc = doc; score = omega (arith, low, best, some) }),
-    )
-
--- and those of rows in any order
-pub scores_in : (i : IndexView) (rows : List Post) → All (IsWithin i.docs (length i.words)) rows → IsBaseOf i.docs 255 (base.Listed (scores base.All rows))
-scores_in i rows within = (
-  scored_rise (λ d. with_base base.All (best_row rows d)) (λ d. refl) (docs_of rows) (listing-rises nat_cmp (map (λ p. p.doc) rows)),
-  All-map (IsHitOf i.docs 255) (λ d. with_base base.All (best_row rows d)) (docs_of rows) (λ k d l.
-      let doc = below i rows within k d l in
-      let best = best_small i rows within (get_or (docs_of rows) k d) in
-      record { doc = doc; score = omega (arith, best) }),
-)
+hits_in i true n e fits = scores_in i n e.base e.rows (fits.parts refl) fits.base fits.rows.within
 
 -- ---- hits by posts and by rows
 rows_docs : (ws : List (List ℕ)) (ps : List Post) → map (λ r. r.doc) (rows_at ws ps) ≡ map (λ p. p.doc) ps

@@ -9,6 +9,7 @@
 --   IsKeptEntry i e           the key of e is that of a query of the grammar, whose entry fits the index i
 --   KeepsFitting i held       each entry does
 --   IsEntryOver b i q e       over the bytes b of an index an entry is that of the query q
+--   IsAnsweredOver b i r a    over them an answer has the reply to a request, and its own entry where that isn't too large
 --   HoldsGood b i held        over them each kept entry is that of its key's own query
 --   AreGood b e               over the bytes b of its index an engine keeps under each key the entry of the key's own query
 --   note_plan q a             the plan by which a query is answered from what is kept
@@ -21,7 +22,7 @@
 --   IsLeftBehind q old new    what is kept after a refusal: the same entries, the used one maybe in front
 --   Keeps i q old r new       the one or the other
 --   IsAfter b q old r new     what is kept after a reply, over the bytes of the index
-use Rattle.std.specs.Prelude.{◌≡◌, ◌⊎◌, ℕ, Bool, true, false, List, ◌∷◌, length, take, Option, Some, None, Result, Ok, Err, if◌then◌else◌}
+use Rattle.std.specs.Prelude.{◌≡◌, ◌⊎◌, ℕ, Bool, true, false, List, ◌∷◌, length, take, Option, Some, None, is_some, IfSome, Result, Ok, Err, if◌then◌else◌}
 use Rattle.std.specs.List.{All}
 use Rattle.cs_base.specs.declared.content.doc.Base.{Base}
 use Rattle.cs_base.specs.declared.content.doc.Post.{Post}
@@ -37,6 +38,7 @@ use Rattle.cs_model.specs.Canonical.{canonical}
 use Rattle.cs_model.specs.Keys.{keys_of}
 use Rattle.cs_model.specs.Refusals.{IsOfGrammar}
 use Rattle.cs_model.specs.Replies.{Reply}
+use Rattle.cs_model.specs.Requests.{Request, reply_of}
 use Rattle.cs_model_index.specs.Sections.{file_corpus}
 use Rattle.cs_model_kept.specs.Entries.{EntryOf, entry_at, entry_of}
 use Rattle.cs_model_kept.specs.KeptList.{KeptOf, GoodFor, after, kept_at, kept_by, kept_fresh, plan_by, put_in_front, to_front, used_key}
@@ -119,6 +121,12 @@ Keeps i q old (Err e) new = (new.capacity ≡ old.capacity) × IsLeftBehind q ol
 -- with its rows told by the words of the index
 abbrev pub IsEntryOver : List ℕ → IndexView → Query → EntryOf Post → Type 0
 IsEntryOver b i q e = entry_at i.words e ≡ entry_of (file_corpus b) q
+
+-- an own entry that doesn't come along is too large
+pub record IsAnsweredOver (b : List ℕ) (i : IndexView) (r : Request) (a : Reply × Option (EntryOf Post)) : Type 0 where
+  pub reply : a.0 ≡ reply_of (file_corpus b) r
+  pub own : IfSome a.1 (IsEntryOver b i r.query)
+  pub large : is_some a.1 ≡ false → kept_fresh (entry_of (file_corpus b) r.query) ≡ kept.TooLarge
 
 -- no entries are good
 abbrev pub HoldsGood : List ℕ → IndexView → KeptOf (EntryOf Post) → Type 0

@@ -7,28 +7,27 @@
 --   hits_in d best           the documents of a table, from d on, that have a row, with their scores
 --   AreAlike s lo hi listed rows     rows in any order are those of a stock with these words in listed documents
 --   AreGathered i told lo hi listed keys     numbers of such rows
---   AreQueryWords i q lo hi          a query of one part asks for these words
+--   AreKeysIn i told hits lo hi keys          numbers of such rows in the documents of hits
+--   AreLastWords i q hits lo hi      the last part of a query is positive and asks for these words, and hits are in range as those before it
+--   IsEntryByWords b i q hits lo hi  over the bytes of an index the own entry of a query is that of these hits and words
 --   IsTableFor i b q cut hits t      over the bytes of an index a table is that of a query of these hits, cut
-use Rattle.std.specs.Prelude.{◌≡◌, ℕ, ◌+◌, ◌-◌, ◌≤◌, ◌<◌, Bool, true, nat_lt, List, [], ◌∷◌, length, map, filter, take, slice_index, Option, if◌then◌else◌}
+use Rattle.std.specs.Prelude.{◌≡◌, ℕ, ◌+◌, ◌-◌, ◌*◌, ◌≤◌, ◌<◌, Bool, true, false, nat_lt, List, [], ◌∷◌, length, map, filter, take, slice_index, Option, if◌then◌else◌}
 use Rattle.std.specs.List.{All, Contains, list_any}
 use Rattle.cs_base.specs.declared.content.doc.Base.{Base}
-use Rattle.cs_base.specs.declared.content.doc.Base.TheVariants as base
 use Rattle.cs_base.specs.declared.content.doc.Post.{Post}
 use Rattle.cs_base.specs.declared.content.doc.Scored.{Scored}
 use Rattle.cs_base.specs.declared.content.query.Query.{Query, out-Query}
-use Rattle.cs_file.specs.Indexes.{IndexView, StandsFor, is_met}
-use Rattle.cs_model_kept.specs.Due.{met_of_query}
-use Rattle.cs_model_kept.specs.Entries.{EntryOf, entry_at, entry_of}
+use Rattle.cs_file.specs.Indexes.{IndexView}
 use Rattle.cs_rank.specs.DocScores.{greatest, of_doc}
 use Rattle.cs_tables.specs.Listings.{table}
 use Rattle.cs_tables.specs.declared.tables.Table.{Table}
 use Rattle.cs_tables.specs.WordCounts.{AreCountable, is_chosen}
-use Rattle.cs_engine.specs.Asking.{division}
-use Rattle.cs_engine.specs.Counting.{in_listed}
+use Rattle.cs_engine.specs.Counting.{AreListed, in_listed}
+use Rattle.cs_engine.specs.Keeping.{IsEntryOver}
 use Rattle.cs_engine.specs.Packing.{IsPacked, key_of}
 use Rattle.cs_engine.specs.Reading.{AreWithin, IsWithin, WhereStood, stock_of}
-use Rattle.cs_engine.specs.Steps.{AreFound, last_is_positive}
-use Rattle.cs_engine.specs.Stocked.{Stock, corpus_in, is_between}
+use Rattle.cs_engine.specs.Steps.{AreFound, IsBaseOf, last_is_positive, posts_after}
+use Rattle.cs_engine.specs.Stocked.{Stock, is_between}
 
 -- 0 where the document has no row
 abbrev pub best_of : List Post → ℕ → ℕ
@@ -59,14 +58,23 @@ pub record AreGathered (i : IndexView) (told : Option (List ℕ)) (lo hi : ℕ) 
   pub passed : All (λ p. is_chosen lo hi listed p ≡ true) rows
   pub stood : WhereStood told i (λ b. AreAlike (stock_of b) lo hi listed rows)
 
--- its entry lists all documents, and its rows are those of these words
-pub record AreQueryWords (i : IndexView) (q : Query) (lo hi : ℕ) : Type 0 where
-  pub one : length (out-Query q).parts ≡ 1
+-- those of the documents that the hits list
+pub record AreKeysIn (i : IndexView) (told : Option (List ℕ)) (hits : Base) (lo hi : ℕ) (keys : List ℕ) : Type 0 where
+  pub listed : List Bool
+  pub has : AreListed i.docs hits listed
+  pub gathered : AreGathered i told lo hi listed keys
+
+-- before a query's only part all documents are hits
+pub record AreLastWords (i : IndexView) (q : Query) (hits : Base) (lo hi : ℕ) : Type 0 where
+  pub some : 1 ≤ length (out-Query q).parts
   pub positive : last_is_positive q ≡ true
   pub ordered : lo ≤ hi
   pub within : hi ≤ length i.words
-  pub few : length (filter (is_met lo hi) i.heads) ≤ met_of_query (division i) q
-  pub entry : (b : List ℕ) → StandsFor b i → ◌≡◌ {A = EntryOf _} (entry_at (stock_of b).words (record { base = base.All; rows = filter (is_between lo hi) (stock_of b).posts })) (entry_of (corpus_in (stock_of b)) q)
+  pub base : IsBaseOf i.docs (255 * (length (out-Query q).parts - 1)) hits
+
+-- its base are the hits, and its rows are those of these words in them
+abbrev pub IsEntryByWords : List ℕ → IndexView → Query → Base → ℕ → ℕ → Type 0
+IsEntryByWords b i q hits lo hi = IsEntryOver b i q (posts_after i.docs hits false (filter (is_between lo hi) (stock_of b).posts))
 
 -- of posts that stand for the pairs, in order
 pub record IsTableFor (i : IndexView) (b : List ℕ) (q : Query) (cut : ℕ) (hits : Base) (t : Table) : Type 0 where

@@ -1,30 +1,53 @@
 //! The best score of each document, over rows in any order.
-ghost use Rattle.std.specs.Prelude.{◌≡◌, ◌+◌, ◌-◌, ◌<◌, ◌≤◌, ◌++◌, ◌∷◌, ◌^◌, [], List, IfOk, OnOk, length, nat_lt, if◌then◌else◌};
+ghost use Rattle.std.specs.Prelude.{◌≡◌, ◌+◌, ◌-◌, ◌<◌, ◌++◌, ◌∷◌, ◌^◌, [], List, IfOk, OnOk, length, map, nat_lt, if◌then◌else◌};
 ghost use Rattle.std.specs.List.{All};
-ghost use Rattle.cs_base.specs.declared.content.doc.Base.TheVariants as base;
 ghost use Rattle.cs_base.specs.declared.content.doc.Post.{Post};
-ghost use Rattle.cs_rank.specs.DocScores.{scores};
+ghost use Rattle.cs_rank.specs.DocScores.{IsBase, best_row, scores};
+ghost use Rattle.cs_base.specs.content.Orders.{docs_of};
 ghost use Rattle.cs_engine.specs.Loose.{HasBest, hits_in};
+ghost use Rattle.cs_engine.specs.Packing.{post_of};
 
-use cs_base::{Memory, Scored, Seq};
-use cs_cols::Cols;
+use crate::packing::post_of;
+use cs_base::{Base, Memory, Scored, Seq};
+use cs_rank::add_base;
 use std::alloc::Global;
 
-/// Each document of some rows, which come in any order, with the greatest score of its rows, by document ascending.
-pub(crate) fn best_scores(alloc: Global, docs: u32, rows: &Cols) -> Result<Seq<Scored>, Memory>
-    requires known { All (λ p. p.doc < docs) rows.now.posts }
-    requires scores { All (λ p. p.score ≤ 255) rows.now.posts }
+/// Each document of some rows, of which these are the numbers in any order, with its score over a base, by document ascending.
+pub(crate) fn scores_over(
+    alloc: Global,
+    docs: u32,
+    base: &Base,
+    keys: &[u64],
+) -> Result<Seq<Scored>, Memory>
+    requires base { IsBase base.now }
+    requires known { All (λ k. (post_of k).doc < docs) keys.now }
 
-    ensures { IfOk result (λ hits. hits ≡ scores base.All rows.now.posts) }
+    ensures { IfOk result (λ hits. hits ≡ scores base.now (map post_of keys.now)) }
+{
+    let best = best_scores(alloc, docs, keys)?;
+    match base {
+        Base::All => Ok(Seq::from_vec(best)),
+        Base::Listed(listed) => {
+            let scored = add_base(alloc, listed.as_slice(), best.as_slice())?;
+            Ok(Seq::from_vec(scored))
+        }
+    }
+}
+
+// Each document of the rows with the greatest score of its rows.
+fn best_scores(alloc: Global, docs: u32, keys: &[u64]) -> Result<Vec<Scored>, Memory>
+    requires known { All (λ k. (post_of k).doc < docs) keys.now }
+
+    ensures { IfOk result (λ v. v.items ≡ map (best_row (map post_of keys.now)) (docs_of (map post_of keys.now))) }
 {
     let mut best = zeros(alloc, docs)?;
-    raise_all(&mut best, rows);
+    raise_all(&mut best, keys);
     let hits = hits_in(alloc, &best)?;
-    Ok(Seq::from_vec(hits))
+    Ok(hits)
 }
 
 // A table of no rows.
-fn zeros(alloc: Global, docs: u32) -> Result<Vec<u32>, Memory>
+fn zeros(alloc: Global, docs: u32) -> Result<Vec<u8>, Memory>
     ensures none { IfOk result (λ v. HasBest [] v.items) }
     ensures long { IfOk result (λ v. length v.items ≡ docs) }
 {
@@ -33,22 +56,21 @@ fn zeros(alloc: Global, docs: u32) -> Result<Vec<u32>, Memory>
 }
 
 // Notes the scores of rows: by document the greatest one and one more.
-fn raise_all(best: &mut [u32], rows: &Cols)
-    requires docs { All (λ p. p.doc < length best.old) rows.now.posts }
-    requires scores { All (λ p. p.score ≤ 255) rows.now.posts }
+fn raise_all(best: &mut [u8], keys: &[u64])
+    requires { All (λ k. (post_of k).doc < length best.old) keys.now }
 
-    ensures best { (seen : List Post) → HasBest seen best.old → HasBest (seen ++ rows.now.posts) best.new }
+    ensures best { (seen : List Post) → HasBest seen best.old → HasBest (seen ++ map post_of keys.now) best.new }
     ensures len { length best.new ≡ length best.old }
 {
-    for i in 0..rows.len() {
-        let row = rows.get(i);
+    for key in keys {
+        let row = post_of(*key);
         let at = row.doc as usize;
-        best[at] = best[at].max(u32::from(row.score) + 1);
+        best[at] = best[at].max(row.score + 1);
     }
 }
 
 // The documents that have an entry, with their scores.
-fn hits_in(alloc: Global, best: &[u32]) -> Result<Vec<Scored>, Memory>
+fn hits_in(alloc: Global, best: &[u8]) -> Result<Vec<Scored>, Memory>
     requires { length best.now < 2 ^ 32 }
 
     ensures { IfOk result (λ v. v.items ≡ hits_in 0 best.now) }
@@ -60,13 +82,13 @@ fn hits_in(alloc: Global, best: &[u32]) -> Result<Vec<Scored>, Memory>
     Ok(hits)
 }
 
-fn add_hit(hits: &mut Vec<Scored>, doc: u32, entry: u32) -> Result<(), Memory>
+fn add_hit(hits: &mut Vec<Scored>, doc: u32, entry: u8) -> Result<(), Memory>
     ensures { OnOk result (hits.new.items ≡ hits.old.items ++ (if nat_lt 0 entry then record { doc = doc; score = entry - 1 } ∷ [] else [])) }
 {
     if entry > 0 {
         hits.push(Scored {
             doc,
-            score: entry - 1,
+            score: u32::from(entry) - 1,
         })?;
     }
     Ok(())

@@ -1,21 +1,22 @@
 //! The words of a range, counted block by block in the documents of a base.
-ghost use Rattle.std.specs.Prelude.{◌≡◌, ◌≤◌, ◌<◌, ◌*◌, ◌++◌, List, false, true, filter, length, take, IfOk, OnOk};
+ghost use Rattle.std.specs.Prelude.{◌≡◌, ◌≤◌, ◌<◌, ◌*◌, ◌++◌, [], List, false, true, filter, length, map, take, IfOk, OnOk};
 ghost use Rattle.std.specs.List.{All};
 ghost use Rattle.cs_base.specs.declared.content.doc.Post.{Post};
 ghost use Rattle.cs_base.specs.declared.content.limits.TheConstants.{MAX_PARTS, MAX_WORDS};
 ghost use Rattle.cs_base.specs.outside.Causes.{ReadsWithin};
 ghost use Rattle.cs_file.specs.Indexes.{IsIndex, Fits, CausedReads, block_posts, is_met};
 ghost use Rattle.cs_tables.specs.Listings.{table};
-ghost use Rattle.cs_tables.specs.WordCounts.{AreCountable, HasCounted, chosen, is_chosen};
+ghost use Rattle.cs_tables.specs.WordCounts.{AreCountable, HasCounted, chosen};
 ghost use Rattle.cs_engine.specs.Asking.{is_read, is_changed};
 ghost use Rattle.cs_engine.specs.Counting.{AreListed, AreMarked, in_listed};
+ghost use Rattle.cs_engine.specs.Packing.{post_of};
 ghost use Rattle.cs_engine.specs.Reading.{WhereStood, stock_of};
 ghost use Rattle.cs_engine.specs.Steps.{IsBaseOf};
 ghost use Rattle.cs_engine.specs.Stocked.{is_between};
 
 use crate::fault::AskFault;
+use crate::packing::post_of;
 use cs_base::{Base, Memory, Scored, Store};
-use cs_cols::Cols;
 use cs_file::Index;
 use cs_tables::{Table, WordCounts};
 use std::alloc::Global;
@@ -125,27 +126,38 @@ fn count_block<S: Store>(
     Ok(())
 }
 
-/// The table of rows of the words from number `words.0` up to `words.1` in listed documents, of which those of one word come in
-/// order.
+/// The table of rows of the words from number `words.0` up to `words.1`, of which these are the numbers, those of one word in order.
 pub(crate) fn table_of(
     alloc: Global,
     words: (u32, u32),
-    rows: &Cols,
-    listed: &[bool],
+    keys: &[u64],
     cut: u32,
 ) -> Result<Table, Memory>
     requires ordered { words.0 ≤ words.1 }
     requires few { words.1 ≤ MAX_WORDS }
-    requires known { All (λ p. p.doc < length listed.now) rows.now.posts }
-    requires passed { All (λ p. is_chosen words.0 words.1 listed.now p ≡ true) rows.now.posts }
+    requires between { All (λ k. (words.0 ≤ (post_of k).word) × ((post_of k).word < words.1)) keys.now }
 
-    ensures total { IfOk result (λ t. AreCountable rows.now.posts → t.total ≡ length (table rows.now.posts)) }
-    ensures first { IfOk result (λ t. AreCountable rows.now.posts → t.first ≡ take cut (table rows.now.posts)) }
+    ensures total { IfOk result (λ t. AreCountable (map post_of keys.now) → t.total ≡ length (table (map post_of keys.now))) }
+    ensures first { IfOk result (λ t. AreCountable (map post_of keys.now) → t.first ≡ take cut (table (map post_of keys.now))) }
     ensures known { IfOk result (λ t. All (λ w. w.word < words.1) t.first) }
 {
     let (lo, hi) = words;
     let mut counts = WordCounts::new(alloc, lo, hi)?;
-    counts.add(rows.docs(), rows.words(), listed);
+    count_keys(&mut counts, keys);
     let table = counts.table(alloc, cut)?;
     Ok(table)
+}
+
+// Counts the rows that these are the numbers of.
+fn count_keys(counts: &mut WordCounts, keys: &[u64])
+    requires { All (λ k. (counts.old.low ≤ (post_of k).word) × ((post_of k).word < counts.old.high)) keys.now }
+
+    ensures counted { AreCountable (map post_of keys.now) → HasCounted [] counts.old → HasCounted (map post_of keys.now) counts.new }
+    ensures low { counts.new.low ≡ counts.old.low }
+    ensures high { counts.new.high ≡ counts.old.high }
+{
+    for key in keys {
+        let row = post_of(*key);
+        counts.see(row.doc, row.word);
+    }
 }

@@ -54,18 +54,6 @@ pub(crate) fn ordered(alloc: Global, mut keys: Vec<u64>) -> Result<Cols, Memory>
     Ok(rows)
 }
 
-/// The posts of numbers, as they come.
-pub(crate) fn as_they_come(alloc: Global, keys: &[u64]) -> Result<Cols, Memory>
-    ensures { IfOk result (λ c. c.posts ≡ map post_of keys.now) }
-{
-    let mut rows = Cols::new(alloc);
-    rows.reserve(keys.len())?;
-    for key in keys {
-        rows.push_reserved(post_of(*key));
-    }
-    Ok(rows)
-}
-
 // The posts of ascending numbers, each place once.
 fn unpack(alloc: Global, keys: &[u64]) -> Result<Cols, Memory>
     ensures { IfOk result (λ c. c.posts ≡ map post_of (apart NO_PLACE keys.now)) }
@@ -95,9 +83,9 @@ fn key_of(post: Post) -> u64
     place * SCORE_ROOM + u64::from(post.score)
 }
 
-// The post of a number.
+/// The post of a number.
 #[inline]
-fn post_of(key: u64) -> Post
+pub(crate) fn post_of(key: u64) -> Post
     ensures { result ≡ post_of key }
 {
     let place = key / SCORE_ROOM;

@@ -7,7 +7,6 @@ ghost use Rattle.cs_file.specs.Indexes.{IsIndex, Fits, CausedReads, is_met};
 ghost use Rattle.cs_model.specs.Answers.{rows_of_atom, rows_of_chain, rows_of_part};
 ghost use Rattle.cs_model_kept.specs.Due.{met_of_atom, met_of_chain, met_of_part};
 ghost use Rattle.cs_engine.specs.Asking.{division, is_read, is_changed};
-ghost use Rattle.cs_engine.specs.Loose.{AreQueryWords};
 ghost use Rattle.cs_engine.specs.Plain.{AreWordsOf};
 ghost use Rattle.cs_engine.specs.Reading.{WhereStood, stock_of};
 ghost use Rattle.cs_engine.specs.Steps.{EntryFits, IsBaseOf, posts_after};
@@ -17,22 +16,10 @@ use crate::counting::listed_docs;
 use crate::fault::AskFault;
 use crate::reading::rows_in;
 use crate::words::span_of_word;
-use cs_base::{Atom, Base, Chain, Part, Query, Store};
+use cs_base::{Atom, Base, Chain, Part, Store};
 use cs_cache::Entry;
 use cs_file::Index;
 use std::alloc::Global;
-
-/// The words that a query of one part asks for, where the part is such a one.
-pub(crate) fn words_of_query(index: &Index, query: &Query) -> Option<(u32, u32)>
-    requires index { IsIndex index.now }
-
-    ensures { IfSome result (λ w. AreQueryWords index.now query.now w.0 w.1) }
-{
-    match query.parts.as_slice() {
-        [part] => words_of_part(index, part),
-        _ => None,
-    }
-}
 
 /// The words that a part asks for, where it is positive and has one chain of one atom that is no join: from one number up to
 /// another, which is left out.

@@ -1,27 +1,32 @@
-//! The entry of a query out of a kept one.
-ghost use Rattle.std.specs.Prelude.{◌≡◌, ◌≤◌, ◌-◌, false, filter, length, take, IsSome, IfSome, IfOk};
+//! A query by a kept entry: its own entry where a letter more is typed, and the reply to it and one part more.
+ghost use Rattle.std.specs.Prelude.{◌≡◌, ◌+◌, ◌≤◌, false, filter, length, IsSome, IfSome, IfOk};
 ghost use Rattle.cs_base.specs.outside.Causes.{ReadsWithin};
 ghost use Rattle.cs_base.specs.declared.content.query.Query.{out-Query};
 ghost use Rattle.cs_file.specs.Indexes.{IsIndex, Fits, CausedReads};
 ghost use Rattle.cs_model.specs.Answers.{begins};
 ghost use Rattle.cs_model.specs.Keys.{last_of, last_prefix};
-ghost use Rattle.cs_model.specs.Refusals.{IsOfGrammar};
+ghost use Rattle.cs_model.specs.Parameters.{HoldsLimits};
 ghost use Rattle.cs_model_index.specs.Numbered.{word_at};
-ghost use Rattle.cs_model_kept.specs.Due.{met_of_last};
+ghost use Rattle.cs_model_kept.specs.Due.{met_of_facets, met_of_last};
 ghost use Rattle.cs_model_kept.specs.KeptListLaws.{before_last};
-ghost use Rattle.cs_engine.specs.Asking.{division, is_read, is_changed};
-ghost use Rattle.cs_engine.specs.Keeping.{FitsQuery, IsEntryOver, entry_with};
+ghost use Rattle.cs_query.specs.RequestView.{asked};
+ghost use Rattle.cs_engine.specs.Asking.{division, is_read, is_changed, titles_of};
+ghost use Rattle.cs_engine.specs.Keeping.{FitsQuery, IsAnsweredOver, IsEntryOver, entry_with};
 ghost use Rattle.cs_engine.specs.Reading.{AreWithin, WhereStood};
 
 use crate::between::posts_between;
 use crate::entries::{copy_of, hits_of};
 use crate::fault::AskFault;
+use crate::loose::answered_by_words;
+use crate::plain::words_of_part;
+use crate::replying::with_reply;
 use crate::steps::{end_positive, extended};
 use crate::typed::last_prefix;
 use cs_base::{Base, Memory, Query, Store};
 use cs_cache::Entry;
 use cs_cols::Cols;
 use cs_file::Index;
+use cs_query::{Reply, Request};
 use std::alloc::Global;
 
 /// The entry of a query whose prefix is being typed, out of that of the query with a shorter prefix in its place: the rows whose
@@ -51,33 +56,40 @@ pub(crate) fn narrowed(
     })
 }
 
-/// The entry of a query out of that of the query without its last part, whose atoms are read.
-pub(crate) fn one_part_more<S: Store>(
+/// The reply to a query by the entry of the query without its last part, whose atoms are read, and the query's own entry; None where
+/// that is too large.
+pub(crate) fn answered_by_part<S: Store>(
     alloc: Global,
     index: &Index,
     store: &mut S,
-    query: &Query,
+    request: &Request,
     base: &Base,
     rows: &Cols,
-) -> Result<Entry, AskFault>
-    requires several { 1 ≤ length (out-Query query.now).parts }
-    requires of_grammar { IsOfGrammar query.now }
-    requires before { FitsQuery index.now (before_last query.now) (entry_with base.now rows.now.posts) }
+) -> Result<(Reply, Option<Entry>), AskFault>
+    requires limits { HoldsLimits (asked request.now) }
+    requires some { 1 ≤ length (out-Query request.now.query).parts }
+    requires before { FitsQuery index.now (before_last request.now.query) (entry_with base.now rows.now.posts) }
     requires index { IsIndex index.now }
     requires fits { Fits (S.bytes store.old) index.now }
 
-    ensures told { WhereStood (S.bytes store.old) index.now (λ b. IsEntryOver b index.now (before_last query.now) (entry_with base.now rows.now.posts) → IfOk result (IsEntryOver b index.now query.now)) }
-    ensures within { IfOk result (FitsQuery index.now query.now) }
+    ensures told { WhereStood (S.bytes store.old) index.now (λ b. IsEntryOver b index.now (before_last request.now.query) (entry_with base.now rows.now.posts) → IfOk result (IsAnsweredOver b index.now (asked request.now))) }
+    ensures few { IfOk result (λ a. length a.0.hits ≤ request.now.hits) }
+    ensures within { IfOk result (λ a. IfSome a.1 (FitsQuery index.now request.now.query)) }
     ensures unchanged { WhereStood (S.bytes store.old) index.now (λ b. is_changed result ≡ false) }
     ensures bytes { S.bytes store.new ≡ S.bytes store.old }
     ensures lent { S.lent store.new ≡ S.lent store.old }
-    ensures reads { ReadsWithin (met_of_last (division index.now) (last_of (out-Query query.now).parts)) (S.reads store.old) (S.reads store.new) }
+    ensures reads { ReadsWithin (titles_of (asked request.now) result + met_of_facets (division index.now) (asked request.now).facets + met_of_last (division index.now) (last_of (out-Query request.now.query).parts)) (S.reads store.old) (S.reads store.new) }
     ensures caused { CausedReads (is_read result) (S.faults store.old) (S.faults store.new) }
 {
-    let parts = query.parts.as_slice();
+    let parts = request.query.parts.as_slice();
     let last = parts.len() - 1;
     let positive = end_positive(&parts[..last]);
     let hits = hits_of(alloc, positive, base, rows)?;
+    if let Some(words) = words_of_part(index, &parts[last]) {
+        let answered = answered_by_words(alloc, index, store, request, hits, words)?;
+        return Ok(answered);
+    }
     let entry = extended(alloc, index, store, hits, &parts[last])?;
-    Ok(entry)
+    let answered = with_reply(alloc, index, store, request, entry)?;
+    Ok(answered)
 }

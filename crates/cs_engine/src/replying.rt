@@ -12,15 +12,13 @@ ghost use Rattle.cs_model_kept.specs.Entries.{entry_of};
 ghost use Rattle.cs_model_kept.specs.KeptList.{kept_fresh, plan_by};
 ghost use Rattle.cs_query.specs.RequestView.{asked};
 ghost use Rattle.cs_engine.specs.Asking.{division, is_read, is_changed, titles_of, titles_read};
-ghost use Rattle.cs_engine.specs.Keeping.{FitsQuery, HoldsGood, IsEntryOver, KeepsFitting, entry_with, is_same};
+ghost use Rattle.cs_engine.specs.Keeping.{FitsQuery, HoldsGood, IsAnsweredOver, IsEntryOver, KeepsFitting, entry_with, is_same};
 ghost use Rattle.cs_engine.specs.Reading.{WhereStood};
 
 use crate::answering::reply_of;
-use crate::entries::hits_of;
+use crate::entries::{hits_of, nothing_kept};
 use crate::fault::AskFault;
-use crate::loose::answered_by_words;
-use crate::plain::words_of_query;
-use crate::plans::{narrowed, one_part_more};
+use crate::plans::{answered_by_part, narrowed};
 use crate::steps::{end_positive, entry_of};
 use cs_base::{Base, Keys, Plan, Store};
 use cs_cache::{Answers, Entry};
@@ -74,8 +72,7 @@ pub(crate) fn answered<S: Store>(
         }
         Plan::Extend => {
             let view = answers.view(keys, plan);
-            let entry = one_part_more(alloc, index, store, &request.query, view.base, view.rows)?;
-            let answered = with_reply(alloc, index, store, request, entry)?;
+            let answered = answered_by_part(alloc, index, store, request, view.base, view.rows)?;
             Ok(answered)
         }
         Plan::Fresh => {
@@ -96,9 +93,7 @@ fn fresh<S: Store>(
     requires index { IsIndex index.now }
     requires fits { Fits (S.bytes store.old) index.now }
 
-    ensures told { WhereStood (S.bytes store.old) index.now (λ b. IfOk result (λ a. a.0 ≡ reply_of (file_corpus b) (asked request.now))) }
-    ensures own { WhereStood (S.bytes store.old) index.now (λ b. IfOk result (λ a. IfSome a.1 (IsEntryOver b index.now request.now.query))) }
-    ensures large { WhereStood (S.bytes store.old) index.now (λ b. IfOk result (λ a. is_some a.1 ≡ false → kept_fresh (entry_of (file_corpus b) request.now.query) ≡ kept.TooLarge)) }
+    ensures told { WhereStood (S.bytes store.old) index.now (λ b. IfOk result (IsAnsweredOver b index.now (asked request.now))) }
     ensures few { IfOk result (λ a. length a.0.hits ≤ request.now.hits) }
     ensures within { IfOk result (λ a. IfSome a.1 (FitsQuery index.now request.now.query)) }
     ensures unchanged { WhereStood (S.bytes store.old) index.now (λ b. is_changed result ≡ false) }
@@ -107,12 +102,14 @@ fn fresh<S: Store>(
     ensures reads { ReadsWithin (titles_of (asked request.now) result + met_of_facets (division index.now) (asked request.now).facets + met_of_query (division index.now) request.now.query) (S.reads store.old) (S.reads store.new) }
     ensures caused { CausedReads (is_read result) (S.faults store.old) (S.faults store.new) }
 {
-    if let Some(words) = words_of_query(index, &request.query) {
-        let answered = answered_by_words(alloc, index, store, request, words)?;
+    let parts = request.query.parts.as_slice();
+    if parts.is_empty() {
+        let entry = nothing_kept(alloc);
+        let answered = with_reply(alloc, index, store, request, entry)?;
         return Ok(answered);
     }
-    let entry = entry_of(alloc, index, store, &request.query)?;
-    let answered = with_reply(alloc, index, store, request, entry)?;
+    let first = entry_of(alloc, index, store, &parts[..parts.len() - 1])?;
+    let answered = answered_by_part(alloc, index, store, request, &first.base, &first.rows)?;
     Ok(answered)
 }
 

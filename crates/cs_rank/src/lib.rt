@@ -9,7 +9,7 @@ mod scores;
 
 pub use best::{Best, MAX_ROOM};
 pub use hits::top;
-pub use scores::score;
+pub use scores::{add_base, score};
 
 #[cfg(test)]
 mod tests;

@@ -86,8 +86,9 @@ fn absorb(best: &mut Vec<Scored>, current: Scored, next: Scored) -> Result<Score
     Ok(next)
 }
 
-// What the base gave is added to each document's score.
-fn add_base(alloc: Global, listed: &[Scored], best: &[Scored]) -> Result<Vec<Scored>, Memory>
+/// Scored documents, ascending, each with what a base gave it added to its score. A document that the base doesn't list counts there
+/// as 0.
+pub fn add_base(alloc: Global, listed: &[Scored], best: &[Scored]) -> Result<Vec<Scored>, Memory>
     requires base { IsBase (Listed listed.now) }
     requires best_sorted { AreByDoc best.now }
     requires small { All (λ h. h.score ≤ 255) best.now }

@@ -1,10 +1,12 @@
 -- The rows that are given are counted, piece by piece.
 --
 --   All-members          what each of a list is, each of its listing is
+--   front_countable      what stands before countable rows is
 --   counted_nothing      the marks of no rows
---   row_counted, row_passed     the marks behind one row
+--   one_counted          the marks behind one row of one of the words
+--   row_counted, row_passed     behind one row
 --   rows_counted         behind one row more
---   piece_counted        what is counted behind a piece more
+--   piece_counted, row_seen     what is counted behind a piece more, and behind one row
 --   words_counted        the words that are collected are those of the rows
 --   first_below          the first words of a table are among those counted
 use Rattle.std.proofs.Common.{◌≡◌, ◌≢◌, ℕ, zero, suc, ◌+◌, ◌-◌, ◌<◌, ◌≤◌, ◌&&◌, ◌||◌, Bool, true, false, List, [], ◌∷◌, ◌++◌, cond, map, length, take, take_all, drop, replicate, get_or, set, ◌==◌, nat_lt, nat_le, refl, sym, ◌∙◌, ap, ap₂, subst, arith, append_assoc, append-nil, get_or-set_other}
@@ -65,7 +67,7 @@ all_front P [] b h = tt
 all_front P (x ∷ a) b h = (h 0 x (omega arith), all_front P a b (λ k d lt. h (suc k) d (omega (arith, lt))))
 
 -- what stands before countable rows is
-front_countable : (a b : List Post) → AreCountable (a ++ b) → AreCountable a
+pub front_countable : (a b : List Post) → AreCountable (a ++ b) → AreCountable a
 front_countable a b c = record {
   ordered = λ w. rises_front (of_word w a) (of_word w b) (subst AreSorted (filter-append (λ p. p.word == w) a b) (c.ordered w));
   few_docs = All-from_recursion (λ p. p.doc < MAX_DOCS) a (all_front (λ p. p.doc < MAX_DOCS) a b c.few_docs);
@@ -86,15 +88,44 @@ counted_nothing low n marks are k d lt = ap (λ ms. get_or ms k d) are ∙ get_o
     long zero = refl
     long (suc n) = ap suc (long n)
 
-module _ (low high : ℕ) (listed : List Bool) where
-  -- a mark can count one more
-  has_room : (w : ℕ) (seen : List Post) (m : Mark) → AreCountable seen → m ≡ marked w seen → m.docs < NO_DOC
-  has_room w seen m c is =
-      let below = recursion_from_All (λ p. p.doc < MAX_DOCS) seen c.few_docs in
-      let docs = ap (λ (m : Mark). m.docs) is ∙ word_marked w seen (c.ordered w) below in
-      let least = word_docs_few w seen (c.ordered w) below in
-      omega (arith, docs, least)
+-- a mark can count one more
+has_room : (w : ℕ) (seen : List Post) (m : Mark) → AreCountable seen → m ≡ marked w seen → m.docs < NO_DOC
+has_room w seen m c is =
+    let below = recursion_from_All (λ p. p.doc < MAX_DOCS) seen c.few_docs in
+    let docs = ap (λ (m : Mark). m.docs) is ∙ word_marked w seen (c.ordered w) below in
+    let least = word_docs_few w seen (c.ordered w) below in
+    omega (arith, docs, least)
 
+-- a row of one of the words
+pub one_counted : (low high : ℕ) (marks : List Mark) (doc word : ℕ) (now : Mark) → low + length marks ≡ high → low ≤ word → word < high → ((get_or marks (word - low) unread).docs < NO_DOC → now ≡ saw (get_or marks (word - low) unread) doc)
+    → (p : Post) → doc ≡ p.doc → word ≡ p.word → (seen : List Post) → AreCountable (seen ++ p ∷ []) → HasWordMarks low seen marks → HasWordMarks low (seen ++ p ∷ []) (set marks (word - low) now)
+one_counted low high marks doc word now sized from upto saws p d w seen c h =
+    let j = word - low in
+    let inside : j < length marks = omega (arith, sized, from, upto) in
+    let before = front_countable seen (p ∷ []) c in
+    let m = get_or marks j unread in
+    let old : m ≡ marked (low + j) seen = h j unread inside in
+    let new : now ≡ saw (marked (low + j) seen) p.doc = saws (has_room (low + j) seen m before old) ∙ ap₂ saw old d in
+    λ k e lt.
+    elim (j == k) as (λ b. j == k ≡ b → get_or (set marks j now) k e ≡ marked (low + k) (seen ++ p ∷ [])) [
+      | true ↦ λ s.
+          let at : j ≡ k = eqb-true j k s in
+          let there : p.word ≡ low + k = omega (arith, at, w, from) in
+          get_or-set_at marks j k now e (sym at) inside ∙ new ∙ ap (λ n. saw (marked (low + n) seen) p.doc) at
+          ∙ sym (fold_push (low + k) blank seen p ∙ ap (λ b. cond b (saw (marked (low + k) seen) p.doc) (marked (low + k) seen)) (eq-eqb p.word (low + k) there))
+      | false ↦ λ s.
+          let apart : k ≢ j = (λ x. absurd (let t = eq-eqb j k (sym x) in cc)) in
+          let elsewhere : p.word ≢ low + k = (λ x. apart (omega (arith, x, w, from))) in
+          get_or-set_other marks j k now e apart ∙ h k e (subst (λ n. k < n) (same_long marks j now) lt)
+          ∙ sym (fold_push (low + k) blank seen p ∙ ap (λ b. cond b (saw (marked (low + k) seen) p.doc) (marked (low + k) seen)) (ne_eqb p.word (low + k) elsewhere))
+    ] refl
+  where
+    same_long : (ms : List Mark) (j : ℕ) (n : Mark) → length (set ms j n) ≡ length ms
+    same_long [] j n = refl
+    same_long (m ∷ ms) zero n = refl
+    same_long (m ∷ ms) (suc j) n = ap suc (same_long ms j n)
+
+module _ (low high : ℕ) (listed : List Bool) where
   test_at : (p : Post) (doc word : ℕ) → doc ≡ p.doc → word ≡ p.word → ((nat_le low word && nat_lt word high) && slice_index_or listed doc false) ≡ is_chosen low high listed p
   test_at p doc word d w = ap₂ (λ x y. (nat_le low y && nat_lt y high) && slice_index_or listed x false) d w
 
@@ -108,34 +139,10 @@ module _ (low high : ℕ) (listed : List Bool) where
   pub row_counted : (marks : List Mark) (doc word : ℕ) (now : Mark) → low + length marks ≡ high → ((nat_le low word && nat_lt word high) && slice_index_or listed doc false) ≡ true → ((get_or marks (word - low) unread).docs < NO_DOC → now ≡ saw (get_or marks (word - low) unread) doc)
       → (p : Post) → doc ≡ p.doc → word ≡ p.word → Counts low high listed (p ∷ []) marks (set marks (word - low) now)
   row_counted marks doc word now sized in_it saws p d w seen c h =
-      let one : chosen low high listed (p ∷ []) ≡ p ∷ [] = ap (λ b. cond b (p ∷ []) []) (sym (test_at p doc word d w) ∙ in_it) in
+      let one : seen ++ chosen low high listed (p ∷ []) ≡ seen ++ p ∷ [] = ap (λ b. seen ++ cond b (p ∷ []) []) (sym (test_at p doc word d w) ∙ in_it) in
       let range = and_parts (nat_le low word) (nat_lt word high) (and_parts (nat_le low word && nat_lt word high) _ in_it).0 in
-      let from = leb-true low word range.0 in
-      let upto = ltb-true word high range.1 in
-      let j = word - low in
-      let inside : j < length marks = omega (arith, sized, from, upto) in
-      let before = front_countable seen (chosen low high listed (p ∷ [])) c in
-      let m = get_or marks j unread in
-      let old : m ≡ marked (low + j) seen = h j unread inside in
-      let new : now ≡ saw (marked (low + j) seen) p.doc = saws (has_room (low + j) seen m before old) ∙ ap₂ saw old d in
-      subst (λ rows. HasWordMarks low rows (set marks j now)) (ap (λ rows. seen ++ rows) (sym one)) (λ k e lt.
-      elim (j == k) as (λ b. j == k ≡ b → get_or (set marks j now) k e ≡ marked (low + k) (seen ++ p ∷ [])) [
-        | true ↦ λ s.
-            let at : j ≡ k = eqb-true j k s in
-            let there : p.word ≡ low + k = omega (arith, at, w, from) in
-            get_or-set_at marks j k now e (sym at) inside ∙ new ∙ ap (λ n. saw (marked (low + n) seen) p.doc) at
-            ∙ sym (fold_push (low + k) blank seen p ∙ ap (λ b. cond b (saw (marked (low + k) seen) p.doc) (marked (low + k) seen)) (eq-eqb p.word (low + k) there))
-        | false ↦ λ s.
-            let apart : k ≢ j = (λ x. absurd (let t = eq-eqb j k (sym x) in cc)) in
-            let elsewhere : p.word ≢ low + k = (λ x. apart (omega (arith, x, w, from))) in
-            get_or-set_other marks j k now e apart ∙ h k e (subst (λ n. k < n) (same_long marks j now) lt)
-            ∙ sym (fold_push (low + k) blank seen p ∙ ap (λ b. cond b (saw (marked (low + k) seen) p.doc) (marked (low + k) seen)) (ne_eqb p.word (low + k) elsewhere))
-      ] refl)
-    where
-      same_long : (ms : List Mark) (j : ℕ) (n : Mark) → length (set ms j n) ≡ length ms
-      same_long [] j n = refl
-      same_long (m ∷ ms) zero n = refl
-      same_long (m ∷ ms) (suc j) n = ap suc (same_long ms j n)
+      subst (λ rows. HasWordMarks low rows (set marks (word - low) now)) (sym one)
+      (one_counted low high marks doc word now sized (leb-true low word range.0) (ltb-true word high range.1) saws p d w seen (subst AreCountable one c) h)
 
   -- one piece behind another
   pieces_counted : (a b : List Post) (m0 m1 m2 : List Mark) → Counts low high listed a m0 m1 → Counts low high listed b m1 m2 → Counts low high listed (a ++ b) m0 m2
@@ -182,6 +189,15 @@ module _ (low high : ℕ) (listed : List Bool) where
         (subst (λ n. All (λ p. (low ≤ p.word) × (p.word < n)) seen) b (subst (λ n. All (λ p. (n ≤ p.word) × (p.word < old.high)) seen) a h.within))
         (chosen_within rows)));
   }
+
+-- one row more, of one of the words
+pub row_seen : (seen : List Post) (p : Post) (old new : WordCountsView) → old.low ≡ new.low → old.high ≡ new.high → (new.low ≤ p.word) × (p.word < new.high) → (HasWordMarks old.low seen old.marks → HasWordMarks old.low (seen ++ p ∷ []) new.marks) → HasCounted seen old → HasCounted (seen ++ p ∷ []) new
+row_seen seen p old new low high within counts h = record {
+  marks = subst (λ n. HasWordMarks n (seen ++ p ∷ []) new.marks) low (counts h.marks);
+  within = All-append (λ (p : Post). (new.low ≤ p.word) × (p.word < new.high)) seen (p ∷ [])
+      (subst (λ n. All (λ p. (new.low ≤ p.word) × (p.word < n)) seen) high (subst (λ n. All (λ p. (n ≤ p.word) × (p.word < old.high)) seen) low h.within))
+      (All-cons (λ (p : Post). (new.low ≤ p.word) × (p.word < new.high)) p [] within (All-nil (λ (p : Post). (new.low ≤ p.word) × (p.word < new.high))));
+}
 
 -- a vector whose slice was lent holds what was written there
 pub written_back : {X : Type 0} (n : ℕ) (a b : List X) → length a ≡ length b → n ≡ length b → take n (a ++ drop (length a) b) ≡ a

@@ -61,6 +61,20 @@ impl WordCounts {
         see_rows(low, high, &mut self.marks, docs, words, listed);
     }
 
+    /// Counts one row more, of one of these words.
+    #[inline]
+    pub fn see(&mut self, doc: u32, word: u32)
+        requires from { self.old.low ≤ word }
+        requires upto { word < self.old.high }
+
+        ensures counted { (p : Post) → doc ≡ p.doc → word ≡ p.word → (seen : List Post) → AreCountable (seen ++ p ∷ []) → HasCounted seen self.old → HasCounted (seen ++ p ∷ []) self.new }
+        ensures low { self.new.low ≡ self.old.low }
+        ensures high { self.new.high ≡ self.old.high }
+    {
+        let at = (word - self.low) as usize;
+        self.marks[at].see(doc);
+    }
+
     /// The words that have a document by their number of documents descending, then by number, cut to the first `cut`, and
     /// how many there are before the cut.
     pub fn table(&self, alloc: Global, cut: u32) -> Result<Table, Memory>

@@ -4,7 +4,7 @@ use Rattle.cs_base.specs.declared.index.plan.Plan.TheVariants.{Same, Narrow, Ext
 use Rattle.cs_query.specs.RequestView.{asked}
 use Rattle.cs_engine.specs.Asking.{division, titles_of}
 use Rattle.cs_engine.specs.Keeping.{FitsQuery, IsEntryOver}
-use Rattle.cs_engine.proofs.LentLemmas.{due_reads, err_due, fresh_reads, extend_lent, narrow_lent, narrow_typed, no_reads, same_lent}
+use Rattle.cs_engine.proofs.LentLemmas.{due_reads, err_due, all_reads, extend_lent, narrow_lent, narrow_typed, no_reads, same_lent}
 use Rattle.cs_engine.proofs.PlansLemmas.{is_used}
 use Rattle.cs_engine.proofs.replying.answered.Goals as goal
 
@@ -74,38 +74,54 @@ pub view-view-requires-in-Extend : goal.view-view-requires-in-Extend
 view-view-requires-in-Extend g c =
     record { held = is_used c.args.answers.now.entries c.args.request.now.query c.requires.limits.query c.args.keys.now c.requires.keys c.args.plan c.requires.plan (λ f. let no : Extend ≡ Fresh = sym c.in-Extend.is ∙ f in cc) }
 
-pub one_part_more-requires-clause-before : goal.one_part_more-requires-clause-before
-one_part_more-requires-clause-before g c =
+pub answered_by_part-requires-clause-some : goal.answered_by_part-requires-clause-some
+answered_by_part-requires-clause-some g c =
+    let several = (extend_lent c.args.index.now c.args.answers.now.entries c.requires.kept c.args.request.now.query c.requires.limits.query c.args.keys.now c.requires.keys c.args.plan c.requires.plan c.view-view-in-Extend.result.base.now c.view-view-in-Extend.result.rows.now.posts
+    c.view-view-in-Extend.ensures.base c.view-view-in-Extend.ensures.rows c.in-Extend.is).0 in
+    omega (arith, several)
+
+pub answered_by_part-requires-clause-before : goal.answered_by_part-requires-clause-before
+answered_by_part-requires-clause-before g c =
     (extend_lent c.args.index.now c.args.answers.now.entries c.requires.kept c.args.request.now.query c.requires.limits.query c.args.keys.now c.requires.keys c.args.plan c.requires.plan c.view-view-in-Extend.result.base.now c.view-view-in-Extend.result.rows.now.posts
     c.view-view-in-Extend.ensures.base c.view-view-in-Extend.ensures.rows c.in-Extend.is).1
 
-pub returns-in_err-entry-in-Extend-clause-reads : goal.returns-in_err-entry-in-Extend-clause-reads
-returns-in_err-entry-in-Extend-clause-reads g c =
-    due_reads (division c.args.index.now) (asked c.args.request.now) c.args.plan Extend (titles_of (asked c.args.request.now) c.from_residual-in_err-entry-in-Extend.result) _ (g.S.Store.reads c.one_part_more.new.store) _ c.in-Extend.is (c.one_part_more.ensures.reads) (no_reads _ _)
-
 pub returns-in_err-answered-in-Extend-clause-reads : goal.returns-in_err-answered-in-Extend-clause-reads
 returns-in_err-answered-in-Extend-clause-reads g c =
-    due_reads (division c.args.index.now) (asked c.args.request.now) c.args.plan Extend (titles_of (asked c.args.request.now) c.from_residual-in_err-answered-in-Extend.result) _ (g.S.Store.reads c.one_part_more.new.store) _ c.in-Extend.is (c.one_part_more.ensures.reads) (let r = c.in_err-answered-in-Extend.ensures.reads in let w = r.within in let e = err_due (asked c.args.request.now) c.from_residual-in_err-answered-in-Extend.result c.from_residual-in_err-answered-in-Extend.ensures.0 in record { later = r.later; within = omega (arith, w, e) })
+    all_reads (division c.args.index.now) (asked c.args.request.now) c.args.plan Extend (titles_of (asked c.args.request.now) c.from_residual-in_err-answered-in-Extend.result) _ _ c.in-Extend.is (let r = c.in_err-answered-in-Extend.ensures.reads in let w = r.within in let e = err_due (asked c.args.request.now) c.from_residual-in_err-answered-in-Extend.result c.from_residual-in_err-answered-in-Extend.ensures.0 in record { later = r.later; within = omega (arith, w, e) })
 
 pub returns-in_ok-answered-in-Extend-clause-told : goal.returns-in_ok-answered-in-Extend-clause-told
 returns-in_ok-answered-in-Extend-clause-told g c b is stands good =
-    c.in_ok-answered-in-Extend.ensures.told b (c.one_part_more.ensures.bytes ∙ is) stands (c.in_ok-entry-in-Extend.ensures.told b is stands ((extend_lent c.args.index.now c.args.answers.now.entries c.requires.kept c.args.request.now.query c.requires.limits.query c.args.keys.now c.requires.keys c.args.plan c.requires.plan c.view-view-in-Extend.result.base.now c.view-view-in-Extend.result.rows.now.posts
-    c.view-view-in-Extend.ensures.base c.view-view-in-Extend.ensures.rows c.in-Extend.is).2 b good))
+    (c.in_ok-answered-in-Extend.ensures.told b is stands ((extend_lent c.args.index.now c.args.answers.now.entries c.requires.kept c.args.request.now.query c.requires.limits.query c.args.keys.now c.requires.keys c.args.plan c.requires.plan c.view-view-in-Extend.result.base.now c.view-view-in-Extend.result.rows.now.posts
+    c.view-view-in-Extend.ensures.base c.view-view-in-Extend.ensures.rows c.in-Extend.is).2 b good)).reply
 
 pub returns-in_ok-answered-in-Extend-clause-own : goal.returns-in_ok-answered-in-Extend-clause-own
 returns-in_ok-answered-in-Extend-clause-own g c b is stands good =
-    subst (λ o. IfSome o (IsEntryOver b c.args.index.now c.args.request.now.query)) (sym c.in_ok-answered-in-Extend.ensures.same) (c.in_ok-entry-in-Extend.ensures.told b is stands ((extend_lent c.args.index.now c.args.answers.now.entries c.requires.kept c.args.request.now.query c.requires.limits.query c.args.keys.now c.requires.keys c.args.plan c.requires.plan c.view-view-in-Extend.result.base.now c.view-view-in-Extend.result.rows.now.posts
-    c.view-view-in-Extend.ensures.base c.view-view-in-Extend.ensures.rows c.in-Extend.is).2 b good))
+    (c.in_ok-answered-in-Extend.ensures.told b is stands ((extend_lent c.args.index.now c.args.answers.now.entries c.requires.kept c.args.request.now.query c.requires.limits.query c.args.keys.now c.requires.keys c.args.plan c.requires.plan c.view-view-in-Extend.result.base.now c.view-view-in-Extend.result.rows.now.posts
+    c.view-view-in-Extend.ensures.base c.view-view-in-Extend.ensures.rows c.in-Extend.is).2 b good)).own
+
+pub returns-in_ok-answered-in-Extend-clause-large : goal.returns-in_ok-answered-in-Extend-clause-large
+returns-in_ok-answered-in-Extend-clause-large g c b is stands good none other =
+    (c.in_ok-answered-in-Extend.ensures.told b is stands ((extend_lent c.args.index.now c.args.answers.now.entries c.requires.kept c.args.request.now.query c.requires.limits.query c.args.keys.now c.requires.keys c.args.plan c.requires.plan c.view-view-in-Extend.result.base.now c.view-view-in-Extend.result.rows.now.posts
+    c.view-view-in-Extend.ensures.base c.view-view-in-Extend.ensures.rows c.in-Extend.is).2 b good)).large none
 
 pub returns-in_ok-answered-in-Extend-clause-reads : goal.returns-in_ok-answered-in-Extend-clause-reads
 returns-in_ok-answered-in-Extend-clause-reads g c =
-    due_reads (division c.args.index.now) (asked c.args.request.now) c.args.plan Extend (length c.in_ok-answered-in-Extend.answered.0.hits) _ (g.S.Store.reads c.one_part_more.new.store) _ c.in-Extend.is (c.one_part_more.ensures.reads) (c.in_ok-answered-in-Extend.ensures.reads)
+    all_reads (division c.args.index.now) (asked c.args.request.now) c.args.plan Extend (length c.in_ok-answered-in-Extend.answered.0.hits) _ _ c.in-Extend.is c.in_ok-answered-in-Extend.ensures.reads
 
 -- ---- all parts
 pub returns-in_err-answered-in-Fresh-clause-reads : goal.returns-in_err-answered-in-Fresh-clause-reads
 returns-in_err-answered-in-Fresh-clause-reads g c =
-    fresh_reads (division c.args.index.now) (asked c.args.request.now) c.args.plan (titles_of (asked c.args.request.now) c.from_residual-in_err-answered-in-Fresh.result) _ _ c.in-Fresh.is (let r = c.in_err-answered-in-Fresh.ensures.reads in let w = r.within in let e = err_due (asked c.args.request.now) c.from_residual-in_err-answered-in-Fresh.result c.from_residual-in_err-answered-in-Fresh.ensures.0 in record { later = r.later; within = omega (arith, w, e) })
+    all_reads (division c.args.index.now) (asked c.args.request.now) c.args.plan Fresh (titles_of (asked c.args.request.now) c.from_residual-in_err-answered-in-Fresh.result) _ _ c.in-Fresh.is (let r = c.in_err-answered-in-Fresh.ensures.reads in let w = r.within in let e = err_due (asked c.args.request.now) c.from_residual-in_err-answered-in-Fresh.result c.from_residual-in_err-answered-in-Fresh.ensures.0 in record { later = r.later; within = omega (arith, w, e) })
 
 pub returns-in_ok-answered-in-Fresh-clause-reads : goal.returns-in_ok-answered-in-Fresh-clause-reads
 returns-in_ok-answered-in-Fresh-clause-reads g c =
-    fresh_reads (division c.args.index.now) (asked c.args.request.now) c.args.plan (length c.in_ok-answered-in-Fresh.answered.0.hits) _ _ c.in-Fresh.is c.in_ok-answered-in-Fresh.ensures.reads
+    all_reads (division c.args.index.now) (asked c.args.request.now) c.args.plan Fresh (length c.in_ok-answered-in-Fresh.answered.0.hits) _ _ c.in-Fresh.is c.in_ok-answered-in-Fresh.ensures.reads
+
+pub returns-in_ok-answered-in-Fresh-clause-told : goal.returns-in_ok-answered-in-Fresh-clause-told
+returns-in_ok-answered-in-Fresh-clause-told g c b is stands good = (c.in_ok-answered-in-Fresh.ensures.told b is stands).reply
+
+pub returns-in_ok-answered-in-Fresh-clause-own : goal.returns-in_ok-answered-in-Fresh-clause-own
+returns-in_ok-answered-in-Fresh-clause-own g c b is stands good = (c.in_ok-answered-in-Fresh.ensures.told b is stands).own
+
+pub returns-in_ok-answered-in-Fresh-clause-large : goal.returns-in_ok-answered-in-Fresh-clause-large
+returns-in_ok-answered-in-Fresh-clause-large g c b is stands good none other = (c.in_ok-answered-in-Fresh.ensures.told b is stands).large none

@@ -1,15 +1,82 @@
-use Rattle.std.proofs.Common.{sym, subst, ◌∙◌, ap, true≢false}
-use Rattle.std.specs.Prelude.{IfSome, is_some}
-use Rattle.cs_engine.specs.Keeping.{IsEntryOver}
+use Rattle.std.proofs.Common.{◌-◌, ◌≤◌, ◌∙◌, List, length, map, take, sym, ap, subst, arith, true≢false}
+use Rattle.std.specs.Prelude.{IfSome, is_some, sum}
+use Rattle.std.proofs.lemmas.Grind.{common_steps}
+use Rattle.cs_base.specs.declared.content.query.Part.{Part}
+use Rattle.cs_model.specs.Keys.{last_of}
+use Rattle.cs_model_kept.specs.Due.{met_of_last, met_of_part}
+use Rattle.cs_model_kept.specs.KeptListLaws.{before_last}
+use Rattle.cs_query.specs.RequestView.{asked}
+use Rattle.cs_engine.specs.Asking.{division}
+use Rattle.cs_engine.specs.Keeping.{FitsQuery, IsEntryOver}
+use Rattle.cs_engine.proofs.EvaluationLemmas.{met_query-is}
 use Rattle.cs_engine.proofs.KeptLemmas.{from_stock}
+use Rattle.cs_engine.proofs.LentLemmas.{err_due}
+use Rattle.cs_engine.proofs.PlansLemmas.{first_parts, nothing_over, nothing_own, parts_met}
 use Rattle.cs_engine.proofs.replying.fresh.Goals as goal
 
+-- ---- no part
+pub with_reply-requires-clause-entry : goal.with_reply-requires-clause-entry
+with_reply-requires-clause-entry g c =
+    nothing_own c.args.request.now.query c.as_slice-parts.result.now c.as_slice-parts.ensures (grind (arith, common_steps)) c.nothing_kept-entry.result c.nothing_kept-entry.ensures c.args.index.now
+
+pub returns-then-is_empty-clause-told : goal.returns-then-is_empty-clause-told
+returns-then-is_empty-clause-told g c b is stands =
+    let q = c.args.request.now.query in
+    let over = nothing_over q c.as_slice-parts.result.now c.as_slice-parts.ensures (grind (arith, common_steps)) c.nothing_kept-entry.result c.nothing_kept-entry.ensures b c.args.index.now stands c.requires.index in
+    record {
+      reply = c.in_ok-answered.ensures.told b is stands over;
+      own = subst (λ o. IfSome o (IsEntryOver b c.args.index.now q)) (sym c.in_ok-answered.ensures.same) over;
+      large = λ none. absurd (true≢false (ap is_some (sym c.in_ok-answered.ensures.same) ∙ none));
+    }
+
+pub returns-then-is_empty-clause-within : goal.returns-then-is_empty-clause-within
+returns-then-is_empty-clause-within g c =
+    subst (λ o. IfSome o (FitsQuery c.args.index.now c.args.request.now.query)) (sym c.in_ok-answered.ensures.same)
+    (nothing_own c.args.request.now.query c.as_slice-parts.result.now c.as_slice-parts.ensures (grind (arith, common_steps)) c.nothing_kept-entry.result c.nothing_kept-entry.ensures c.args.index.now)
+
+-- ---- the parts before the last, and that one
+pub returns-in_err-first-clause-reads : goal.returns-in_err-first-clause-reads
+returns-in_err-first-clause-reads g c =
+    let v = division c.args.index.now in
+    let q = c.args.request.now.query in
+    let parts = c.as_slice-parts.result.now in
+    let some : 1 ≤ length parts = grind (arith, common_steps) in
+    let all = met_query-is v q ∙ ap (λ (xs : List Part). sum (map (met_of_part v) xs)) (sym c.as_slice-parts.ensures) in
+    let met = parts_met v parts some in
+    let reads = c.entry_of.ensures.reads in
+    record { later = reads.later; within = (let w = reads.within in omega (arith, w, met, all)) }
+
+pub returns-in_err-answered-2-clause-reads : goal.returns-in_err-answered-2-clause-reads
+returns-in_err-answered-2-clause-reads g c =
+    let v = division c.args.index.now in
+    let q = c.args.request.now.query in
+    let parts = c.as_slice-parts.result.now in
+    let some : 1 ≤ length parts = grind (arith, common_steps) in
+    let all = met_query-is v q ∙ ap (λ (xs : List Part). sum (map (met_of_part v) xs)) (sym c.as_slice-parts.ensures) in
+    let met = parts_met v parts some in
+    let last = ap (λ (xs : List Part). met_of_last v (last_of xs)) c.as_slice-parts.ensures in
+    let first = c.entry_of.ensures.reads in
+    let then = c.in_err-answered-2.ensures.reads in
+    let due = err_due (asked c.args.request.now) c.from_residual-in_err-answered-2.result c.from_residual-in_err-answered-2.ensures.0 in
+    record { later = (let l = first.later in let m = then.later in omega (arith, l, m)); within = (let a = first.within in let w = then.within in omega (arith, a, w, met, all, last, due)) }
+
 pub returns-clause-told : goal.returns-clause-told
-returns-clause-told g c b is stands = c.in_ok-answered-2.ensures.told b (c.entry_of.ensures.bytes ∙ is) stands (from_stock b c.args.index.now stands c.requires.index c.args.request.now.query c.in_ok-entry.entry (c.in_ok-entry.ensures.told b is stands))
+returns-clause-told g c b is stands =
+    let q = c.args.request.now.query in
+    let are = ap (λ (xs : List Part). take (length xs - 1) xs) c.as_slice-parts.ensures in
+    c.in_ok-answered-2.ensures.told b (c.entry_of.ensures.bytes ∙ is) stands
+    (subst (IsEntryOver b c.args.index.now (before_last q)) (sym c.first.view_is)
+    (from_stock b c.args.index.now stands c.requires.index (before_last q) c.in_ok-first.first (c.in_ok-first.ensures.told b is stands (before_last q) (first_parts q _ are))))
 
-pub returns-clause-own : goal.returns-clause-own
-returns-clause-own g c b is stands =
-    subst (λ o. IfSome o (IsEntryOver b c.args.index.now c.args.request.now.query)) (sym c.in_ok-answered-2.ensures.same) (from_stock b c.args.index.now stands c.requires.index c.args.request.now.query c.in_ok-entry.entry (c.in_ok-entry.ensures.told b is stands))
-
-pub returns-clause-large : goal.returns-clause-large
-returns-clause-large g c b is stands none = absurd (true≢false (ap is_some (sym c.in_ok-answered-2.ensures.same) ∙ none))
+pub returns-clause-reads : goal.returns-clause-reads
+returns-clause-reads g c =
+    let v = division c.args.index.now in
+    let q = c.args.request.now.query in
+    let parts = c.as_slice-parts.result.now in
+    let some : 1 ≤ length parts = grind (arith, common_steps) in
+    let all = met_query-is v q ∙ ap (λ (xs : List Part). sum (map (met_of_part v) xs)) (sym c.as_slice-parts.ensures) in
+    let met = parts_met v parts some in
+    let last = ap (λ (xs : List Part). met_of_last v (last_of xs)) c.as_slice-parts.ensures in
+    let first = c.entry_of.ensures.reads in
+    let then = c.in_ok-answered-2.ensures.reads in
+    record { later = (let l = first.later in let m = then.later in omega (arith, l, m)); within = (let a = first.within in let w = then.within in omega (arith, a, w, met, all, last)) }

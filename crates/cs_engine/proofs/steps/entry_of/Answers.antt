@@ -1,56 +1,50 @@
-use Rattle.std.proofs.Common.{◌≡◌, ◌*◌, length, map, refl, sym, ap, subst, ◌∙◌, arith}
-use Rattle.std.specs.Prelude.{sum}
+use Rattle.std.proofs.Common.{◌≡◌, ◌*◌, length, refl, sym, ap, subst, ◌∙◌, arith}
+use Rattle.std.proofs.lemmas.List.{take_all}
 use Rattle.cs_base.specs.declared.content.doc.Post.{Post}
-use Rattle.cs_model.proofs.PartsLemmas.{few_parts}
 use Rattle.cs_model_kept.specs.Due.{met_of_part}
 use Rattle.cs_model_kept.specs.Entries.{EntryOf}
 use Rattle.cs_rank.specs.DocScores.{IsBase}
 use Rattle.cs_engine.specs.Asking.{division}
 use Rattle.cs_engine.specs.Reading.{stock_of}
-use Rattle.cs_engine.specs.Steps.{IsBaseOf, posts_hits}
-use Rattle.cs_engine.proofs.EvaluationLemmas.{met_query-is, next_left, positive_more, entry_begins, entry_goes_on, entry_ends}
+use Rattle.cs_engine.specs.Steps.{EntryFits, IsBaseOf, end_positive, posts_hits}
+use Rattle.cs_engine.proofs.EvaluationLemmas.{next_left, positive_more, entry_begins, entry_goes_on, entry_ends}
 use Rattle.cs_engine.proofs.StepLemmas.{base_in, base_weaker, hits_in, most_small, nothing_fits}
 use Rattle.cs_engine.proofs.steps.entry_of.Goals as goal
 
 -- ---- the entry of a query
 pub loop-part-init : goal.loop-part-init
 loop-part-init g c =
-    let v = division c.args.index.now in
-    let parts = c.as_slice-part-items.result.now in
-    let met = met_query-is v c.args.query.now ∙ ap (λ xs. sum (map (met_of_part v) xs)) (sym c.as_slice-part-items.ensures) in
     record {
       bytes = refl;
       lent = refl;
       later = omega arith;
-      reads = omega (arith, met);
+      reads = omega arith;
       quiet = refl;
       positive = refl;
       within = nothing_fits c.args.index.now c.nothing_kept-entry.result c.nothing_kept-entry.ensures;
-      told = λ b is stands. entry_begins (stock_of b) parts c.nothing_kept-entry.result c.nothing_kept-entry.ensures;
+      told = λ b is stands. entry_begins (stock_of b) c.args.parts.now c.nothing_kept-entry.result c.nothing_kept-entry.ensures;
     }
 
 pub hits_of-requires-clause-base : goal.hits_of-requires-clause-base
 hits_of-requires-clause-base g c =
-    let few = few_parts c.args.query.now c.requires.of_grammar in
+    let few = c.requires.few in
     let same = ap (λ (e : EntryOf Post). e.base) c.entry.view_is in
-    let many = ap length c.as_slice-part-items.ensures in
-    subst IsBase (sym same) (base_in c.args.index.now.docs _ c.loop-part.entry.base (most_small c.loop-part.positive c.loop-part.part-index (omega (arith, few, many, c.loop-part-test.true))) c.loop-part.invariant.within.base)
+    subst IsBase (sym same) (base_in c.args.index.now.docs _ c.loop-part.entry.base (most_small c.loop-part.positive c.loop-part.part-index (omega (arith, few, c.loop-part-test.true))) c.loop-part.invariant.within.base)
 
 pub extended-requires-clause-base : goal.extended-requires-clause-base
 extended-requires-clause-base g c =
     let i = c.args.index.now in
     let n = c.loop-part.part-index in
     let e = c.loop-part.entry in
-    let few = few_parts c.args.query.now c.requires.of_grammar in
-    let many = ap length c.as_slice-part-items.ensures in
+    let few = c.requires.few in
     let seen : c.in_ok-hits.hits ≡ posts_hits c.loop-part.positive e.base e.rows = c.in_ok-hits.ensures ∙ ap (λ (x : EntryOf Post). posts_hits c.loop-part.positive x.base x.rows) c.entry.view_is in
-    base_weaker i.docs (255 * n) (255 * 16) c.in_ok-hits.hits (omega (arith, few, many, c.loop-part-test.true)) (subst (IsBaseOf i.docs (255 * n)) (sym seen) (hits_in i c.loop-part.positive n e c.loop-part.invariant.within))
+    base_weaker i.docs (255 * n) (255 * 16) c.in_ok-hits.hits (omega (arith, few, c.loop-part-test.true)) (subst (IsBaseOf i.docs (255 * n)) (sym seen) (hits_in i c.loop-part.positive n e c.loop-part.invariant.within))
 
 pub returns-in_err-entry-clause-reads : goal.returns-in_err-entry-clause-reads
 returns-in_err-entry-clause-reads g c =
     let v = division c.args.index.now in
     let inv = c.loop-part.invariant in
-    let left = next_left (met_of_part v) c.as_slice-part-items.result.now c.loop-part.part-index c.part-item.result c.loop-part-test.true c.part-item.is in
+    let left = next_left (met_of_part v) c.args.parts.now c.loop-part.part-index c.part-item.result c.loop-part-test.true c.part-item.is in
     let reads = c.extended.ensures.reads in
     let later = reads.later in
     let within = reads.within in
@@ -63,7 +57,7 @@ loop-part-preserved g c =
     let n = c.loop-part.part-index in
     let inv = c.loop-part.invariant in
     let call = c.extended.ensures in
-    let items = c.as_slice-part-items.result.now in
+    let items = c.args.parts.now in
     let x = c.part-item.result in
     let e = c.loop-part.entry in
     let left = next_left (met_of_part v) items n x c.loop-part-test.true c.part-item.is in
@@ -84,5 +78,12 @@ loop-part-preserved g c =
     }
 
 pub returns-clause-told : goal.returns-clause-told
-returns-clause-told g c b is stands =
-    entry_ends (stock_of b) c.as_slice-part-items.result.now c.args.query.now c.loop-part.part-index c.loop-part.entry c.as_slice-part-items.ensures (omega (arith, c.loop-part-test.false)) (c.loop-part.invariant.told b is stands)
+returns-clause-told g c b is stands q are = entry_ends (stock_of b) c.args.parts.now q c.loop-part.part-index c.loop-part.entry are (omega (arith, c.loop-part-test.false)) (c.loop-part.invariant.told b is stands)
+
+pub returns-clause-within : goal.returns-clause-within
+returns-clause-within g c =
+    let n = c.loop-part.part-index in
+    let parts = c.args.parts.now in
+    let whole : n ≡ length parts = omega (arith, c.loop-part-test.false, c.loop-part.auto.part-index-end) in
+    let ends : c.loop-part.positive ≡ end_positive parts = c.loop-part.invariant.positive ∙ ap end_positive (take_all n parts (omega (arith, c.loop-part-test.false))) in
+    subst (λ m. EntryFits c.args.index.now (end_positive parts) m c.loop-part.entry) whole (subst (λ p. EntryFits c.args.index.now p n c.loop-part.entry) ends c.loop-part.invariant.within)
