@@ -36,7 +36,7 @@ fn a_failed_read_is_that_of_one_request(rt: HostRuntime) -> Result<(), Fail> {
     hub.listen(8080, 1)?;
     store.fail_at(1);
     assert!(rt; serve(alloc, &mut engine, &mut store, &mut hub, 1) == ServeEnd::Done);
-    let sent = format!(in alloc; "{}{}", FAILED_READ.response, TYPED.response)?;
+    let sent = format!(in alloc; "{}{}", FAILED_READ, TYPED.response)?;
     assert_eq!(&rt; hub.sent(0), sent.as_str().as_bytes());
     Ok(())
 }
