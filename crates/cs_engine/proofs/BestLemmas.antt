@@ -25,7 +25,7 @@ use Rattle.cs_base.proofs.MembersLemmas.{members_are, members-alike}
 use Rattle.cs_base.proofs.OrdersLemmas.{Less-from_lt}
 use Rattle.cs_rank.specs.DocScores.{greatest, of_doc, best_row, scores, with_base}
 use Rattle.cs_meet.proofs.Passes.{next_is}
-use Rattle.cs_engine.specs.Loose.{best_of, HasBest, hits_in}
+use Rattle.cs_engine.specs.Loose.{best_of, HasBestScores, hits_in}
 use Rattle.cs_engine.proofs.AlikeLemmas.{any_filter}
 
 any_map : {X Y : Type 0} (t : Y → Bool) (f : X → Y) (xs : List X) → list_any t (map f xs) ≡ list_any (λ x. t (f x)) xs
@@ -58,7 +58,7 @@ other_number : (x y : ℕ) → (x == y) ≡ false → x ≡ y → ⊥
 other_number x y h e = grind (arith, nat_tests)
 
 -- one post is noted
-pub raised : (seen : List Post) (best : List ℕ) (p : Post) (v : ℕ) → p.doc < length best → v ≡ max (slice_index best p.doc) (p.score + 1) → HasBest seen best → HasBest (seen ++ p ∷ []) (slice_set best p.doc v)
+pub raised : (seen : List Post) (best : List ℕ) (p : Post) (v : ℕ) → p.doc < length best → v ≡ max (slice_index best p.doc) (p.score + 1) → HasBestScores seen best → HasBestScores (seen ++ p ∷ []) (slice_set best p.doc v)
 raised seen best p v l is has d m =
     let long = length-set best p.doc v in
     elim (p.doc == d) as (λ b. (p.doc == d) ≡ b → slice_index (slice_set best p.doc v) d ≡ best_of (seen ++ p ∷ []) d) [
@@ -74,14 +74,14 @@ raised seen best p v l is has d m =
 
 -- the step of the loop
 pub raised_more : (all seen rows : List Post) (best : List ℕ) (i : ℕ) (p : Post) (v : ℕ) → i < length rows → p ≡ get_or rows i p → p.doc < length best → v ≡ max (slice_index best p.doc) (p.score + 1)
-    → HasBest (seen ++ take i rows) best → HasBest (seen ++ take (i + 1) rows) (slice_set best p.doc v)
+    → HasBestScores (seen ++ take i rows) best → HasBestScores (seen ++ take (i + 1) rows) (slice_set best p.doc v)
 raised_more all seen rows best i p v l at in_best is has =
     let longer : (seen ++ take i rows) ++ p ∷ [] ≡ seen ++ take (i + 1) rows =
     append_assoc seen (take i rows) (p ∷ []) ∙ ap (λ r. seen ++ r) (ap (λ x. take i rows ++ x ∷ []) at ∙ sym (take_more rows i p l)) in
-    subst (λ s. HasBest s (slice_set best p.doc v)) longer (raised (seen ++ take i rows) best p v in_best is has)
+    subst (λ s. HasBestScores s (slice_set best p.doc v)) longer (raised (seen ++ take i rows) best p v in_best is has)
 
-pub raised_all : (seen rows : List Post) (best : List ℕ) (i : ℕ) → length rows ≤ i → HasBest (seen ++ take i rows) best → HasBest (seen ++ rows) best
-raised_all seen rows best i l has = subst (λ r. HasBest (seen ++ r) best) (take_all i rows l) has
+pub raised_all : (seen rows : List Post) (best : List ℕ) (i : ℕ) → length rows ≤ i → HasBestScores (seen ++ take i rows) best → HasBestScores (seen ++ rows) best
+raised_all seen rows best i l has = subst (λ r. HasBestScores (seen ++ r) best) (take_all i rows l) has
 
 -- ---- the hits of the table
 
@@ -240,7 +240,7 @@ docs_are seen n inside =
     ∙ sym (any_map (eq_by_cmp nat_cmp q) (λ (p : Post). p.doc) seen))
 
 -- the hits that are read off the table are the documents of the posts with their scores
-pub hits_are : (seen : List Post) (best : List ℕ) → HasBest seen best → All (λ p. p.doc < length best) seen → hits_in 0 best ≡ map (best_row seen) (docs_of seen)
+pub hits_are : (seen : List Post) (best : List ℕ) → HasBestScores seen best → All (λ p. p.doc < length best) seen → hits_in 0 best ≡ map (best_row seen) (docs_of seen)
 hits_are seen best has inside =
     read_off seen 0 best (λ i l. let e : i ≡ 0 + i = omega arith in has i l ∙ ap (best_of seen) e) ∙ ap (map (best_row seen)) (docs_are seen (length best) inside)
 
@@ -251,7 +251,7 @@ map_same f g h (w ∷ ws) = ap (λ x. x ∷ map f ws) (h w) ∙ ap (λ l. g w �
 plain_row : (d n : ℕ) → ◌≡◌ {A = Scored} (record { doc = d; score = n }) (record { doc = d; score = 0 + n })
 plain_row d n = let e : n ≡ 0 + n = omega arith in ap (λ m. let h : Scored = record { doc = d; score = m } in h) e
 
-pub seen_scores : (rows : List Post) (best : List ℕ) (hits : List Scored) → HasBest rows best → All (λ p. p.doc < length best) rows → hits ≡ hits_in 0 best → hits ≡ scores base.All rows
+pub seen_scores : (rows : List Post) (best : List ℕ) (hits : List Scored) → HasBestScores rows best → All (λ p. p.doc < length best) rows → hits ≡ hits_in 0 best → hits ≡ scores base.All rows
 seen_scores rows best hits has inside are =
     are ∙ hits_are rows best has inside ∙ map_same (best_row rows) (λ d. with_base base.All (best_row rows d)) (λ d. plain_row d (greatest (map (λ p. p.score) (of_doc d rows)))) (docs_of rows)
 

@@ -41,7 +41,7 @@ use Rattle.cs_model_index.specs.Numbered.{rows_at, row_of, word_at}
 use Rattle.cs_model_index.specs.Sections.{file_corpus}
 use Rattle.cs_model_kept.specs.declared.limits.TheConstants.{MAX_ENTRY_SIZE}
 use Rattle.cs_model_kept.specs.Entries.{Entry, EntryOf, entry_at, entry_of, entry_size}
-use Rattle.cs_model_kept.specs.KeptList.{GoodFor, KeptOf, KeptList, after, found, kept_at, kept_by, kept_fresh, plan, plan_by, put_in_front, to_front, used_entry, used_key}
+use Rattle.cs_model_kept.specs.KeptList.{GoodFor, KeptOf, KeptList, after, found, kept_at, kept_by, kept_fresh, plan, plan_by, put_in_front, to_front, used_entry, used_key, is_same}
 use Rattle.cs_model_kept.specs.KeptListLaws.{Finds, Serves, before_last}
 use Rattle.cs_model_kept.proofs.FirstParts.{first_parts_stay}
 use Rattle.cs_model_kept.proofs.HeldLemmas.{numbers_front_alike, numbers_keep_alike, numbers_plan_alike, numbers_put_alike, numbers_use_alike}
@@ -50,7 +50,7 @@ use Rattle.cs_model_kept.proofs.NarrowLemmas.{entries_narrow}
 use Rattle.cs_model_kept.proofs.PlanLemmas.{plans_serve}
 use Rattle.cs_model_kept.proofs.ShorterQueries.{shorter_stays}
 use Rattle.cs_model_kept.proofs.TypedLemmas.{none_some}
-use Rattle.cs_engine.specs.Keeping.{FitsQuery, HoldsGood, IsEntryOver, IsKeptBehind, IsKeptEntry, KeepsFitting, became, behind, entry_with, fronted, is_same, note_plan}
+use Rattle.cs_engine.specs.Keeping.{FitsQuery, HoldsGood, IsEntryOver, IsKeptBehind, IsKeptEntry, KeepsFitting, became, behind, entry_with, fronted, note_plan}
 use Rattle.cs_engine.specs.Reading.{stock_of}
 use Rattle.cs_engine.specs.Steps.{EntryFits, end_positive, is_in_base, last_is_positive}
 use Rattle.cs_engine.specs.Stocked.{corpus_in}

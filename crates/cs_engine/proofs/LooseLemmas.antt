@@ -2,7 +2,7 @@
 --
 --   chosen_entry, entry_fits     the entry of the rows in order
 --   is_large                     where there are more rows than may be kept, it is too large
---   loose_table                  the table of rows in any order is that of the query
+--   loose_table                  the post_table of rows in any order is that of the query
 use Rattle.std.proofs.Common.{◌≡◌, ℕ, ◌+◌, ◌<◌, Bool, true, List, length, take, sym, ap, subst, ◌∙◌, arith, if◌then◌else◌}
 use Rattle.std.specs.Prelude.{All, filter, nat_lt}
 use Rattle.std.specs.List.{list_any}
@@ -18,7 +18,7 @@ use Rattle.cs_model_kept.specs.Entries.{EntryOf, entry_of}
 use Rattle.cs_model_kept.specs.KeptList.{kept_fresh}
 use Rattle.cs_model_kept.specs.declared.limits.TheConstants.{MAX_ENTRY_SIZE}
 use Rattle.cs_rank.specs.DocScores.{scores}
-use Rattle.cs_tables.specs.Listings.{table}
+use Rattle.cs_tables.specs.Listings.{post_table}
 use Rattle.cs_tables.specs.declared.tables.Table.{Table}
 use Rattle.cs_engine.specs.Counting.{AreListed, in_listed}
 use Rattle.cs_engine.specs.Keeping.{FitsQuery, IsEntryOver}
@@ -65,7 +65,7 @@ module _ (b : List ℕ) (i : IndexView) (stands : StandsFor b i) (is : IsIndex i
         let long : length rows ≡ length own = a.long ∙ ap length (all_listed b i stands is lo hi all has) in
         sym (fresh_is b i q (entry_of_rows own) own_entry) ∙ ap (λ x. if x then kept.TooLarge else kept.Kept) (large_true MAX_ENTRY_SIZE (length own) (subst (λ n. MAX_ENTRY_SIZE < n) long lt))
 
-    pub loose_table : (cut : ℕ) (hits : List Scored) (t : Table) → hits ≡ scores base.All rows → t.first ≡ take cut (table rows) → t.total ≡ length (table rows) → IsTableFor i b q cut (base.Listed hits) t
+    pub loose_table : (cut : ℕ) (hits : List Scored) (t : Table) → hits ≡ scores base.All rows → t.first ≡ take cut (post_table rows) → t.total ≡ length (post_table rows) → IsTableFor i b q cut (base.Listed hits) t
     loose_table cut hits t are first total = record {
       posts = own;
       found = found_by_entry i q (entry_of_rows own) true (sym asks.positive) (base.Listed hits) (ap base.Listed (are ∙ alike_scores rows own own_alike)) b stands is own_entry;

@@ -4,7 +4,7 @@ ghost use Rattle.std.specs.List.{All};
 ghost use Rattle.cs_base.specs.declared.content.doc.Base.TheVariants as base;
 ghost use Rattle.cs_base.specs.declared.content.doc.Post.{Post};
 ghost use Rattle.cs_rank.specs.DocScores.{scores};
-ghost use Rattle.cs_engine.specs.Loose.{HasBest, hits_in};
+ghost use Rattle.cs_engine.specs.Loose.{HasBestScores, hits_in};
 
 use cs_base::{Memory, Scored, Seq};
 use cs_cols::Cols;
@@ -25,7 +25,7 @@ pub(crate) fn best_scores(alloc: Global, docs: u32, rows: &Cols) -> Result<Seq<S
 
 // A table of no rows.
 fn zeros(alloc: Global, docs: u32) -> Result<Vec<u32>, Memory>
-    ensures none { IfOk result (λ v. HasBest [] v.items) }
+    ensures none { IfOk result (λ v. HasBestScores [] v.items) }
     ensures long { IfOk result (λ v. length v.items ≡ docs) }
 {
     let table = vec![in alloc; 0; docs as usize]?;
@@ -37,7 +37,7 @@ fn raise_all(best: &mut [u32], rows: &Cols)
     requires docs { All (λ p. p.doc < length best.old) rows.now.posts }
     requires scores { All (λ p. p.score ≤ 255) rows.now.posts }
 
-    ensures best { (seen : List Post) → HasBest seen best.old → HasBest (seen ++ rows.now.posts) best.new }
+    ensures best { (seen : List Post) → HasBestScores seen best.old → HasBestScores (seen ++ rows.now.posts) best.new }
     ensures len { length best.new ≡ length best.old }
 {
     for i in 0..rows.len() {

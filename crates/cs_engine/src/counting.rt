@@ -5,7 +5,7 @@ ghost use Rattle.cs_base.specs.declared.content.doc.Post.{Post};
 ghost use Rattle.cs_base.specs.declared.content.limits.TheConstants.{MAX_PARTS, MAX_WORDS};
 ghost use Rattle.cs_base.specs.outside.Causes.{ReadsWithin};
 ghost use Rattle.cs_file.specs.Indexes.{IsIndex, Fits, CausedReads, block_posts, is_met};
-ghost use Rattle.cs_tables.specs.Listings.{table};
+ghost use Rattle.cs_tables.specs.Listings.{post_table};
 ghost use Rattle.cs_tables.specs.WordCounts.{AreCountable, HasCounted, chosen, is_chosen};
 ghost use Rattle.cs_engine.specs.Asking.{is_read, is_changed};
 ghost use Rattle.cs_engine.specs.Counting.{AreListed, AreMarked, in_listed};
@@ -66,7 +66,7 @@ pub(crate) fn table_between<S: Store>(
     requires index { IsIndex index.now }
     requires fits { Fits (S.bytes store.old) index.now }
 
-    ensures told { WhereStood (S.bytes store.old) index.now (λ b. IfOk result (λ t. t.first ≡ take cut (table (filter (in_listed listed.now) (filter (is_between words.0 words.1) (stock_of b).posts))))) }
+    ensures told { WhereStood (S.bytes store.old) index.now (λ b. IfOk result (λ t. t.first ≡ take cut (post_table (filter (in_listed listed.now) (filter (is_between words.0 words.1) (stock_of b).posts))))) }
     ensures known { IfOk result (λ t. All (λ w. w.word < length index.now.words) t.first) }
     ensures unchanged { WhereStood (S.bytes store.old) index.now (λ b. is_changed result ≡ false) }
     ensures bytes { S.bytes store.new ≡ S.bytes store.old }
@@ -139,8 +139,8 @@ pub(crate) fn table_of(
     requires known { All (λ p. p.doc < length listed.now) rows.now.posts }
     requires passed { All (λ p. is_chosen words.0 words.1 listed.now p ≡ true) rows.now.posts }
 
-    ensures total { IfOk result (λ t. AreCountable rows.now.posts → t.total ≡ length (table rows.now.posts)) }
-    ensures first { IfOk result (λ t. AreCountable rows.now.posts → t.first ≡ take cut (table rows.now.posts)) }
+    ensures total { IfOk result (λ t. AreCountable rows.now.posts → t.total ≡ length (post_table rows.now.posts)) }
+    ensures first { IfOk result (λ t. AreCountable rows.now.posts → t.first ≡ take cut (post_table rows.now.posts)) }
     ensures known { IfOk result (λ t. All (λ w. w.word < words.1) t.first) }
 {
     let (lo, hi) = words;

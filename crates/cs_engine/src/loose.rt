@@ -12,7 +12,7 @@ ghost use Rattle.cs_model_kept.specs.Due.{met_of_facets};
 ghost use Rattle.cs_model_kept.specs.Entries.{entry_of};
 ghost use Rattle.cs_model_kept.specs.KeptList.{kept_fresh};
 ghost use Rattle.cs_query.specs.RequestView.{asked};
-ghost use Rattle.cs_engine.specs.Asking.{division, is_read, is_changed, titles_of, titles_read};
+ghost use Rattle.cs_engine.specs.Asking.{division, is_read, is_changed, titles_asked, titles_read};
 ghost use Rattle.cs_engine.specs.Counting.{AreListed};
 ghost use Rattle.cs_engine.specs.Keeping.{FitsQuery, IsEntryOver};
 ghost use Rattle.cs_engine.specs.Loose.{AreGathered, AreQueryWords};
@@ -53,7 +53,7 @@ pub(crate) fn answered_by_words<S: Store>(
     ensures unchanged { WhereStood (S.bytes store.old) index.now (λ b. is_changed result ≡ false) }
     ensures bytes { S.bytes store.new ≡ S.bytes store.old }
     ensures lent { S.lent store.new ≡ S.lent store.old }
-    ensures reads { ReadsWithin (titles_of (asked request.now) result + met_of_facets (division index.now) (asked request.now).facets + length (filter (is_met words.0 words.1) index.now.heads)) (S.reads store.old) (S.reads store.new) }
+    ensures reads { ReadsWithin (titles_asked (asked request.now) result + met_of_facets (division index.now) (asked request.now).facets + length (filter (is_met words.0 words.1) index.now.heads)) (S.reads store.old) (S.reads store.new) }
     ensures caused { CausedReads (is_read result) (S.faults store.old) (S.faults store.new) }
 {
     let all = listed_docs(alloc, index.docs, &Base::All)?;

@@ -15,7 +15,7 @@ use Rattle.cs_block.proofs.LawsLemmas.{unique}
 use Rattle.cs_model.specs.Scores.{SCORES}
 use Rattle.cs_model_index.specs.BlockRules.{IsBlock, judged, rows_read}
 use Rattle.cs_model_index.specs.Blocks.{IsShaped}
-use Rattle.cs_file.specs.Answers.{AreOf, IsChangeOfBlock, is_changed}
+use Rattle.cs_file.specs.Answers.{AreOf, IsChangeOfBlock, is_changed_of_fetch}
 use Rattle.cs_file.specs.Fetching.{DecodesAt}
 use Rattle.cs_file.specs.declared.fault.FetchFault.{FetchFault}
 use Rattle.cs_file.specs.Indexes.{IndexView, IsIndex, StandsFor, block_posts}
@@ -57,7 +57,7 @@ module _ (i : IndexView) (told : Option (List ℕ)) (k : ℕ) (head : BlockHead)
   fault_changed (Ok u) answer = tt
   fault_changed (Err e) answer = changed_by i told k head docs at read (Err e) h answer
 
-  pub fault_unchanged : (b : List ℕ) (result : Result (Unit {0}) FetchFault) → told ≡ Some b → StandsFor b i → IfErr result (λ e. DecodesAt at (judged SCORES head docs read) (Err e)) → is_changed result ≡ false
+  pub fault_unchanged : (b : List ℕ) (result : Result (Unit {0}) FetchFault) → told ≡ Some b → StandsFor b i → IfErr result (λ e. DecodesAt at (judged SCORES head docs read) (Err e)) → is_changed_of_fetch result ≡ false
   fault_unchanged b (Ok u) t s answer = refl
   fault_unchanged b (Err e) t s answer = unchanged_by b i told k head docs at read (Err e) t s is h answer
 

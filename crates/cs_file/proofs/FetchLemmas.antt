@@ -26,7 +26,7 @@ use Rattle.cs_model.specs.Scores.{SCORES}
 use Rattle.cs_model_index.specs.BlockRules.{judged, IsBlock, broken_at}
 use Rattle.cs_model_index.specs.FileRules.{in_file}
 use Rattle.cs_model_index.specs.Blocks.{IsShaped}
-use Rattle.cs_file.specs.Answers.{HasBlock, IsChangeOfBlock, IsChangeOfTitle, is_changed}
+use Rattle.cs_file.specs.Answers.{HasBlock, IsChangeOfBlock, IsChangeOfTitle, is_changed_of_fetch}
 use Rattle.cs_file.specs.Fetching.{DecodesAt, ReadsText}
 use Rattle.cs_file.specs.declared.fault.FetchFault.{FetchFault}
 use Rattle.cs_file.specs.declared.fault.FetchFault.TheVariants as fetches
@@ -82,7 +82,7 @@ title_within i is d lt =
     omega (arith, a, b, c)
 
 -- what decoding answers where no rule is broken
-unbroken_answer : (at : ℕ) (o : Option Broken) (r : Result (Unit {0}) FetchFault) → DecodesAt at o r → o ≡ None → is_changed r ≡ false
+unbroken_answer : (at : ℕ) (o : Option Broken) (r : Result (Unit {0}) FetchFault) → DecodesAt at o r → o ≡ None → is_changed_of_fetch r ≡ false
 unbroken_answer at o (Ok u) h e = refl
 unbroken_answer at o (Err (fetches.Changed rule there)) h e = absurd (none-some (broken_at rule there) (sym (ap (option_map (in_file at)) e) ∙ h))
 unbroken_answer at o (Err fetches.Read) h e = refl
@@ -137,7 +137,7 @@ stood_by b i told k head docs at read rows old new t s is h block added =
     added ∙ ap (λ (x : List Post). old ++ x) (same_posts b i s is k head rows read h.known r.long (r.is b t) (subst (λ (x : BlockHead). IsBlock SCORES x i.docs rows read) (h.head_is head) (subst (λ (n : ℕ). IsBlock SCORES head n rows read) h.docs_are block)))
 
 pub unchanged_by : (b : List ℕ) (i : IndexView) (told : Option (List ℕ)) (k : ℕ) (head : BlockHead) (docs at : ℕ) (read : List ℕ) (result : Result (Unit {0}) FetchFault) → told ≡ Some b → StandsFor b i → IsIndex i → BlockRead i told k head docs at read
-    → DecodesAt at (judged SCORES head docs read) result → is_changed result ≡ false
+    → DecodesAt at (judged SCORES head docs read) result → is_changed_of_fetch result ≡ false
 unchanged_by b i told k head docs at read result t s is h answer =
     let r = there i told k head docs at read head h in
     unbroken_answer at (judged SCORES head docs read) result answer (ap (λ (x : BlockHead). judged SCORES x docs read) (h.head_is head) ∙ ap (λ (n : ℕ). judged SCORES (get_or i.heads k head) n read) h.docs_are ∙ never_broken b i s is k head read h.known r.long (r.is b t))
@@ -206,7 +206,7 @@ pub title_stood : (b : List ℕ) (i : IndexView) (told : Option (List ℕ)) (d a
 title_stood b i told d at read (Ok text) t s is lt h answer = answer.0 ∙ h.read_is b t ∙ sym (stood_title b i s is d lt).bytes
 title_stood b i told d at read (Err e) t s is lt h answer = tt
 
-pub title_unchanged : (b : List ℕ) (i : IndexView) (told : Option (List ℕ)) (d at : ℕ) (read : List ℕ) (r : Result (List ℕ) FetchFault) → told ≡ Some b → StandsFor b i → IsIndex i → d < i.docs → TitleRead i told d at read → ReadsText read at r → is_changed r ≡ false
+pub title_unchanged : (b : List ℕ) (i : IndexView) (told : Option (List ℕ)) (d at : ℕ) (read : List ℕ) (r : Result (List ℕ) FetchFault) → told ≡ Some b → StandsFor b i → IsIndex i → d < i.docs → TitleRead i told d at read → ReadsText read at r → is_changed_of_fetch r ≡ false
 title_unchanged b i told d at read (Ok text) t s is lt h answer = refl
 title_unchanged b i told d at read (Err fetches.Read) t s is lt h answer = refl
 title_unchanged b i told d at read (Err fetches.Memory) t s is lt h answer = refl

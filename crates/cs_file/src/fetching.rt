@@ -10,7 +10,7 @@ ghost use Rattle.cs_block.specs.DocWords.{AddsDocWords};
 ghost use Rattle.cs_model.specs.Scores.{SCORES};
 ghost use Rattle.cs_model_index.specs.BlockRules.{IsBlock, judged};
 ghost use Rattle.cs_model_index.specs.Blocks.{IsShaped};
-ghost use Rattle.cs_file.specs.Answers.{AreOf, HasBlock, IsChangeOfBlock, IsChangeOfTitle, is_read_of_fetch, is_changed};
+ghost use Rattle.cs_file.specs.Answers.{AreOf, HasBlock, IsChangeOfBlock, IsChangeOfTitle, is_read_of_fetch, is_changed_of_fetch};
 ghost use Rattle.cs_file.specs.Fetching.{DecodesAt, ReadsText};
 ghost use Rattle.cs_file.specs.Indexes.{StandsFor, Fits, CausedReads, block_place, block_posts, title_in, title_place, title_len};
 
@@ -39,7 +39,7 @@ impl Index {
         ensures stood { ForSome (S.bytes store.old) (λ b. StandsFor b self.now → OnOk result (into.new.posts ≡ into.old.posts ++ block_posts b k)) }
         ensures changed { IfErr result (IsChangeOfBlock self.now (S.bytes store.old) k) }
         ensures err { OnErr result (into.new.posts ≡ into.old.posts) }
-        ensures unchanged { ForSome (S.bytes store.old) (λ b. StandsFor b self.now → is_changed result ≡ false) }
+        ensures unchanged { ForSome (S.bytes store.old) (λ b. StandsFor b self.now → is_changed_of_fetch result ≡ false) }
         ensures bytes { S.bytes store.new ≡ S.bytes store.old }
         ensures lent { S.lent store.new ≡ S.lent store.old }
         ensures reads { ReadsWithin 1 (S.reads store.old) (S.reads store.new) }
@@ -70,7 +70,7 @@ impl Index {
         ensures words { OnOk result (All (λ w. w < length self.now.words) words.new.items) }
         ensures stood { ForSome (S.bytes store.old) (λ b. StandsFor b self.now → OnOk result (AreOf (block_posts b k) docs.new.items words.new.items)) }
         ensures changed { IfErr result (IsChangeOfBlock self.now (S.bytes store.old) k) }
-        ensures unchanged { ForSome (S.bytes store.old) (λ b. StandsFor b self.now → is_changed result ≡ false) }
+        ensures unchanged { ForSome (S.bytes store.old) (λ b. StandsFor b self.now → is_changed_of_fetch result ≡ false) }
         ensures bytes { S.bytes store.new ≡ S.bytes store.old }
         ensures lent { S.lent store.new ≡ S.lent store.old }
         ensures reads { ReadsWithin 1 (S.reads store.old) (S.reads store.new) }
@@ -95,7 +95,7 @@ impl Index {
         ensures ok { ForSome (S.bytes store.old) (λ b. IfOk result (λ t. t ≡ part b (title_place self.now doc) (title_len self.now doc))) }
         ensures stood { ForSome (S.bytes store.old) (λ b. StandsFor b self.now → IfOk result (λ t. t ≡ title_in b doc)) }
         ensures changed { IfErr result (IsChangeOfTitle self.now (S.bytes store.old) doc) }
-        ensures unchanged { ForSome (S.bytes store.old) (λ b. StandsFor b self.now → is_changed result ≡ false) }
+        ensures unchanged { ForSome (S.bytes store.old) (λ b. StandsFor b self.now → is_changed_of_fetch result ≡ false) }
         ensures bytes { S.bytes store.new ≡ S.bytes store.old }
         ensures lent { S.lent store.new ≡ S.lent store.old }
         ensures reads { ReadsWithin 1 (S.reads store.old) (S.reads store.new) }
@@ -144,7 +144,7 @@ fn bytes_at<S: Store>(
 
     ensures ok { ForSome (S.bytes store.old) (λ b. IfOk result (λ v. v.items ≡ part b at len)) }
     ensures long { IfOk result (λ v. length v.items ≡ len) }
-    ensures unchanged { is_changed result ≡ false }
+    ensures unchanged { is_changed_of_fetch result ≡ false }
     ensures bytes { S.bytes store.new ≡ S.bytes store.old }
     ensures lent { S.lent store.new ≡ S.lent store.old }
     ensures reads { ReadsWithin 1 (S.reads store.old) (S.reads store.new) }

@@ -5,7 +5,7 @@ ghost use Rattle.cs_base.specs.declared.content.limits.TheConstants.{MAX_ROWS, M
 ghost use Rattle.cs_model_index.specs.FileRules.{break_of, laid};
 ghost use Rattle.cs_model_index.specs.Partitions.{is_full, is_light};
 ghost use Rattle.cs_model_index.specs.declared.limits.TheConstants.{ENTRY_BYTES};
-ghost use Rattle.cs_file.specs.Parting.{HasMarks, closes, keeps_part, no_part};
+ghost use Rattle.cs_file.specs.Parting.{HasMarks, is_closed_by, keeps_part, no_part};
 
 use crate::kinds::are_alike;
 use crate::part::Part;
@@ -93,7 +93,7 @@ fn is_light(part: &Part, target: u32) -> bool
 
 // Whether the next block, if it is of the same kind, has a first word for which there is no room.
 fn is_closed(words: &[Word], part: &Part, next: Option<Part>, target: u32) -> bool
-    ensures { result ≡ closes target words.now part.now next }
+    ensures { result ≡ is_closed_by target words.now part.now next }
 {
     match next {
         None => true,

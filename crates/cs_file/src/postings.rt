@@ -10,7 +10,7 @@ ghost use Rattle.cs_model_index.specs.Blocks.{IsShaped};
 ghost use Rattle.cs_model_index.specs.FileRules.{in_file};
 ghost use Rattle.cs_model_index.specs.Sections.{blocks_at};
 ghost use Rattle.cs_file.specs.Answers.{is_read_of_open};
-ghost use Rattle.cs_file.specs.HeaderView.{seen};
+ghost use Rattle.cs_file.specs.HeaderView.{seen_header};
 ghost use Rattle.cs_file.specs.Indexes.{CausedReads};
 ghost use Rattle.cs_file.specs.Opening.{AreBytes, Judges, IsHeader, HasHeader, blocks_of, blocks_stage, heads_of};
 ghost use Rattle.cs_file.specs.Parting.{part_by, parts_by};
@@ -32,8 +32,8 @@ pub(crate) fn read_blocks<S: Store>(
     header: &Header,
     heads: &[BlockHead],
 ) -> Result<Vec<Part>, OpenFault>
-    requires ranges { IsHeader (seen header.now) }
-    requires told { HasHeader (S.bytes store.old) (seen header.now) }
+    requires ranges { IsHeader (seen_header header.now) }
+    requires told { HasHeader (S.bytes store.old) (seen_header header.now) }
     requires heads { ForSome (S.bytes store.old) (λ b. heads.now ≡ heads_of b) }
     requires shaped { All (λ h. IsShaped h h.len) heads.now }
     requires bytes { sum_by (λ h. h.len) heads.now ≡ header.now.blocks_len }
@@ -43,7 +43,7 @@ pub(crate) fn read_blocks<S: Store>(
     ensures exact { ForSome (S.bytes store.old) (λ b. Judges (blocks_stage b) result) }
     ensures parts { ForSome (S.bytes store.old) (λ b. IfOk result (λ v. v.items ≡ parts_by heads.now (blocks_of b))) }
     ensures count { IfOk result (λ v. length v.items ≡ length heads.now) }
-    ensures small { ForSome (S.bytes store.old) (λ b. OnOk result (AreBytes b (blocks_at (seen header.now)) header.now.blocks_len)) }
+    ensures small { ForSome (S.bytes store.old) (λ b. OnOk result (AreBytes b (blocks_at (seen_header header.now)) header.now.blocks_len)) }
     ensures bytes { S.bytes store.new ≡ S.bytes store.old }
     ensures lent { S.lent store.new ≡ S.lent store.old }
     ensures caused { CausedReads (is_read_of_open result) (S.faults store.old) (S.faults store.new) }

@@ -18,6 +18,7 @@ use Rattle.std.specs.Prelude.{◌≡◌, ℕ, ◌+◌, Bool, true, false, ◌&&�
 use Rattle.std.specs.List.{list_all, sum_by, zip, before_first}
 use Rattle.std.specs.Str.{bytes_eq}
 use Rattle.cs_model.specs.Words.{is_filled}
+use Rattle.cs_model.specs.Collection.{is_colon}
 use Rattle.cs_model_index.specs.Numbered.{word_at}
 use Rattle.cs_model_index.specs.declared.limits.TheConstants.{MAX_BLOCK_WORDS}
 
@@ -26,10 +27,6 @@ abbrev pub Count : Type 0
 Count = List ℕ → ℕ
 
 -- ---- kinds of words
--- the byte is a colon
-abbrev pub is_colon : ℕ → Bool
-is_colon b = b == 58
-
 -- a word that begins with a colon; the empty text doesn't
 abbrev pub is_facet : List ℕ → Bool
 is_facet [] = false

@@ -13,7 +13,7 @@ ghost use Rattle.cs_model.specs.Corpus.{corpus, refusal};
 ghost use Rattle.cs_top.specs.CommandLine.{CausedBy};
 ghost use Rattle.cs_top.specs.Met.{HasSize, OfBytes};
 ghost use Rattle.cs_top.specs.Trial.{HasSizes};
-ghost use Rattle.cs_top.specs.Views.{IsCause, IsCauseOf, IsOfCollection, collection_refusal_of, stop_ending};
+ghost use Rattle.cs_top.specs.Views.{IsCollectionCause, IsStopCause, IsOfCollection, collection_refusal_of, stop_ending};
 
 use crate::ending::Stop;
 use crate::files::read_all;
@@ -70,7 +70,7 @@ pub(crate) fn read_image<'a, F: Files>(
 
     ensures ok { OfBytes (F.held files.old) name.now (λ b. IfOk result (IsImage (corpus b) BLOCK_ROWS)) }
     ensures accepted { OfBytes (F.held files.old) name.now (λ b. OnOk result (refusal b ≡ None)) }
-    ensures cause { OfBytes (F.held files.old) name.now (λ b. IfErr result (λ s. IsCauseOf b s)) }
+    ensures cause { OfBytes (F.held files.old) name.now (λ b. IfErr result (λ s. IsStopCause b s)) }
     ensures writable { IfOk result CanBeWritten }
     ensures whole { IfOk result (λ i. IsIndexFile (file i)) }
     ensures corpus { OfBytes (F.held files.old) name.now (λ b. IfOk result (λ i. file_corpus (file i) ≡ corpus b)) }
@@ -98,7 +98,7 @@ pub(crate) fn image_of(alloc: Global, bytes: &[u8]) -> Result<Imaged, Collection
     ensures sizes { IfOk result (λ i. HasSizes (corpus bytes.now) i.documents i.rows) }
 
     // Each fault but want of memory is the first refusal.
-    ensures err { IfErr result (λ e. IsCause bytes.now e) }
+    ensures err { IfErr result (λ e. IsCollectionCause bytes.now e) }
 {
     let docs = read_docs(alloc, bytes)?;
     let rows = rows_of(alloc, &docs)?;

@@ -1,7 +1,7 @@
 //! The top call: all that the program does.
 ghost use Rattle.std.specs.Prelude.{◌≡◌, map};
 ghost use Rattle.std.specs.String.{string_bytes};
-ghost use Rattle.cs_top.specs.CommandLine.{command_of, Ending, status, line_of, Says};
+ghost use Rattle.cs_top.specs.CommandLine.{command_of, Ending, status, line_of, SaysLine};
 ghost use Rattle.cs_top.specs.Met.{met, wrote};
 ghost use Rattle.cs_top.specs.Runs.{Completes, Ran};
 ghost use Rattle.cs_top.specs.Views.{ended};

@@ -1,7 +1,7 @@
 //! How a run ends: its status, and what is said of it.
 ghost use Rattle.std.specs.Prelude.{◌≡◌, ◌++◌, ◌∷◌, []};
 ghost use Rattle.cs_docs.specs.Refusals.{reason_text};
-ghost use Rattle.cs_top.specs.CommandLine.{status, line_of, Says};
+ghost use Rattle.cs_top.specs.CommandLine.{status, line_of, SaysLine};
 ghost use Rattle.cs_top.specs.Met.{wrote};
 ghost use Rattle.cs_top.specs.Views.{collection_ending, collection_refusal_of, ended, said_text, stop_ending};
 
@@ -126,7 +126,7 @@ pub(crate) fn status_of(run: Result<(), Stop<'_>>) -> u8
 
 /// Says how a run ended. A failure of standard error changes nothing else.
 pub(crate) fn tell<E: Sink>(err: &mut E, run: Result<(), Stop<'_>>)
-    ensures { Says (wrote E.written E.faults err.old err.new) (line_of (ended run.entry)) }
+    ensures { SaysLine (wrote E.written E.faults err.old err.new) (line_of (ended run.entry)) }
 {
     if let Err(stop) = run {
         let _ = put_said(err, stop.said());

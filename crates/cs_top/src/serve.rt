@@ -5,13 +5,14 @@ ghost use Rattle.std.specs.Option.{ForSome};
 ghost use Rattle.cs_base.specs.outside.Causes.{Rose};
 ghost use Rattle.cs_base.specs.outside.Hub.{IsOrderly, listens};
 ghost use Rattle.cs_base.specs.outside.Outside.{GrewByPrefix, file_bytes};
+ghost use Rattle.cs_base.specs.declared.content.limits.TheConstants.{MAX_PORT_DIGITS, MAX_PORT, MAX_CONNECTIONS_DIGITS, MAX_CONNECTIONS};
 ghost use Rattle.cs_engine.specs.Keeping.{AreGood};
 ghost use Rattle.cs_file.specs.Indexes.{Fits, StandsFor};
 ghost use Rattle.cs_hub.specs.Following.{AreServed};
 ghost use Rattle.cs_model_index.specs.Sections.{file_corpus};
 ghost use Rattle.cs_top.specs.CommandLine.{CausedBy, is_number};
 ghost use Rattle.cs_top.specs.Met.{HasSize, Listened, OfBytes, Wrote, listened, wrote};
-ghost use Rattle.cs_top.specs.Serve.{CanServe, HasPut, HasStopped, IsListening, IsUntouched, ServeCaused, ServeEnds, ServeTold, serving_line};
+ghost use Rattle.cs_top.specs.Serve.{CanServe, HasToldPort, HasStopped, IsListening, IsUntouched, ServeCaused, ServeEnds, ServeTold, serving_line};
 ghost use Rattle.cs_top.specs.Views.{ended, stop_ending};
 
 use crate::ending::Stop;
@@ -34,8 +35,8 @@ pub(crate) fn serve<'a, F: Files, H: Hub, O: Sink>(
     hub: &mut H,
     out: &mut O,
 ) -> Result<(), Stop<'a>>
-    requires port { is_number 5 65535 port.now ≡ true }
-    requires conns { is_number 7 1000000 conns.now ≡ true }
+    requires port { is_number MAX_PORT_DIGITS MAX_PORT port.now ≡ true }
+    requires conns { is_number MAX_CONNECTIONS_DIGITS MAX_CONNECTIONS conns.now ≡ true }
 
     ensures ends { ServeEnds (ended result) index.now port.now conns.now (wrote O.written O.faults out.old out.new) (listened H.state H.talk H.faults hub.old hub.new) }
     ensures told { ForSome (F.held files.old) (λ h. ServeTold (ended result) h index.now port.now conns.now (F.faults files.old) (F.faults files.new) (wrote O.written O.faults out.old out.new) (listened H.state H.talk H.faults hub.old hub.new)) }
@@ -75,10 +76,10 @@ fn prepare<'a, F: Files>(
 
 // Listens, and puts the line.
 fn begin<H: Hub, O: Sink>(hub: &mut H, out: &mut O, port: &str, conns: &str) -> Result<(), Failed>
-    requires port { is_number 5 65535 port.now ≡ true }
-    requires conns { is_number 7 1000000 conns.now ≡ true }
+    requires port { is_number MAX_PORT_DIGITS MAX_PORT port.now ≡ true }
+    requires conns { is_number MAX_CONNECTIONS_DIGITS MAX_CONNECTIONS conns.now ≡ true }
 
-    ensures put { OnOk result (HasPut port.now (wrote O.written O.faults out.old out.new)) }
+    ensures put { OnOk result (HasToldPort port.now (wrote O.written O.faults out.old out.new)) }
     ensures listening { OnOk result (IsListening port.now conns.now (listened H.state H.talk H.faults hub.old hub.new)) }
     ensures orderly { OnOk result (IsOrderly (H.state hub.new) (H.talk hub.new)) }
     ensures quiet { OnOk result (H.faults hub.new ≡ H.faults hub.old) }
@@ -91,7 +92,7 @@ fn begin<H: Hub, O: Sink>(hub: &mut H, out: &mut O, port: &str, conns: &str) -> 
 }
 
 fn put_line<O: Sink>(out: &mut O, port: &str) -> Result<(), Failed>
-    ensures ok { OnOk result (HasPut port.now (wrote O.written O.faults out.old out.new)) }
+    ensures ok { OnOk result (HasToldPort port.now (wrote O.written O.faults out.old out.new)) }
     ensures err { OnErr result (GrewByPrefix (O.written out.old) (serving_line port.now) (O.written out.new)) }
     ensures failed { OnErr result (Rose (O.faults out.old) (O.faults out.new)) }
     ensures later { O.faults out.old ≤ O.faults out.new }

@@ -1,7 +1,7 @@
 use Rattle.std.proofs.Common.{◌≡◌, ◌<◌, [], length, ap, sym, subst, ◌∙◌, arith}
 use Rattle.std.specs.Prelude.{All}
 use Rattle.cs_base.specs.declared.content.doc.Post.{Post}
-use Rattle.cs_engine.specs.Loose.{HasBest}
+use Rattle.cs_engine.specs.Loose.{HasBestScores}
 use Rattle.cs_engine.proofs.BestLemmas.{seen_scores, written_back}
 use Rattle.cs_engine.proofs.best.best_scores.Goals as goal
 
@@ -14,6 +14,6 @@ returns c =
     let long : length new ≡ length old = omega (arith, c.raise_all.ensures.len, ap length c.deref_mut.ensures.value) in
     let back = written_back c.in_ok-best.best.len new old long (omega (arith, c.deref_mut.ensures.len, ap length c.deref_mut.ensures.value)) in
     let is : table ≡ new = c.deref.ensures.value ∙ back in
-    let has : HasBest rows table = subst (HasBest rows) (sym is) (c.raise_all.ensures.best [] (subst (HasBest []) (sym c.deref_mut.ensures.value) c.in_ok-best.ensures.none)) in
+    let has : HasBestScores rows table = subst (HasBestScores rows) (sym is) (c.raise_all.ensures.best [] (subst (HasBestScores []) (sym c.deref_mut.ensures.value) c.in_ok-best.ensures.none)) in
     let inside = subst (λ n. All (λ (p : Post). p.doc < n) rows) (sym (ap length is ∙ long ∙ c.in_ok-best.ensures.long)) c.requires.known in
     seen_scores rows table c.from_vec.result has inside (c.from_vec.ensures ∙ c.in_ok-hits.ensures)
