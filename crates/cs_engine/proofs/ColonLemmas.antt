@@ -8,7 +8,7 @@ use Rattle.std.specs.Str.{IsUtf8}
 use Rattle.std.proofs.lemmas.Bool.Decides.{nat_tests}
 use Rattle.std.proofs.lemmas.List.{take_all}
 use Rattle.std.proofs.lemmas.Str.{IsUtf8-drop, IsCharBoundary-after_ascii}
-use Rattle.cs_engine.proofs.ListsLemmas.{and_true}
+use Rattle.cs_base.proofs.ListsLemmas.{and_true}
 
 colon_first : (b : ℕ) (bs : List ℕ) (r : Bool) → starts_with nat_eq (b ∷ bs) (58 ∷ []) ≡ r → (b == 58) ≡ r
 colon_first b bs r m = let turned : (b == 58) ≡ (58 == b) = grind (arith, nat_tests) in turned ∙ sym (and_true (58 == b)) ∙ m

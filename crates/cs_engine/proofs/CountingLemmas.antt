@@ -29,6 +29,7 @@ use Rattle.cs_base.specs.declared.content.doc.Scored.{Scored}
 use Rattle.cs_base.specs.declared.content.limits.TheConstants.{MAX_DOCS}
 use Rattle.cs_base.specs.declared.index.block.BlockHead.{BlockHead}
 use Rattle.cs_base.proofs.MembersLemmas.{all_then}
+use Rattle.cs_base.proofs.ListsLemmas.{filter_twice, filter_alike}
 use Rattle.cs_file.specs.Indexes.{IndexView, IsIndex, StandsFor, AreMet, block_posts, is_met}
 use Rattle.cs_file.proofs.HeadsLemmas.{heads_rise}
 use Rattle.cs_file.proofs.PostsLemmas.{block_words, posts_between}
@@ -51,11 +52,9 @@ use Rattle.cs_engine.proofs.AnsweringLemmas.{facet_told, words_as_shown}
 use Rattle.cs_engine.proofs.AlikeLemmas.{any_filter, table_alike}
 use Rattle.cs_engine.proofs.DistinctLemmas.{Apart, apart_append, apart_none, apart_sorted, long_alike}
 use Rattle.cs_engine.proofs.FoundLemmas.{all_kept, every_more, stays}
-use Rattle.cs_engine.proofs.ListsLemmas.{filter_twice}
 use Rattle.cs_engine.proofs.ReadingLemmas.{kept_within}
 use Rattle.cs_engine.proofs.StockLemmas.{by_post_total, by_post_exact, docs_are, stocked, within_block, words_are}
 use Rattle.cs_engine.proofs.TableLemmas.{any_listed}
-use Rattle.cs_engine.proofs.VocabLemmas.{filter_alike}
 use Rattle.cs_engine.proofs.WordsLemmas.{prefix_met, span_found}
 use Rattle.cs_vocab.specs.Ranges.{IsRange}
 

@@ -22,6 +22,7 @@ use Rattle.cs_base.specs.declared.content.doc.Base.{Base}
 use Rattle.cs_base.specs.declared.content.doc.Post.{Post}
 use Rattle.cs_base.specs.declared.content.doc.Scored.{Scored}
 use Rattle.cs_base.proofs.MembersLemmas.{all_then, members_are}
+use Rattle.cs_base.proofs.ListsLemmas.{all_of, filter_twice, and_true, same_number, itself, number_tie, any_tie, filter_through, filter_alike, any_through}
 use Rattle.cs_meet.specs.Filters.{keep_docs, drop_docs, is_of}
 use Rattle.cs_meet.specs.Filters as meet
 use Rattle.cs_model.specs.Answers.{PartRows, in_doc, is_listed, agrees, hits, pairs, last_rows, greatest_score, scored}
@@ -30,8 +31,7 @@ use Rattle.cs_rank.specs.DocScores.{greatest}
 use Rattle.cs_model_index.specs.Numbered.{row_of, rows_at}
 use Rattle.cs_model_kept.specs.Entries.{scored_hits}
 use Rattle.cs_engine.specs.Stocked.{Stock, corpus_in, base_hits, docs_in}
-use Rattle.cs_engine.proofs.VocabLemmas.{filter_through, filter_alike, any_through}
-use Rattle.cs_engine.proofs.ListsLemmas.{all_of, filter_twice, and_true, same_number, itself, number_tie, any_tie, keys_numbered, range_rises}
+use Rattle.cs_engine.proofs.ListsLemmas.{keys_numbered, range_rises}
 
 -- ---- one more part
 

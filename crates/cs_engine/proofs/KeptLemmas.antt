@@ -28,6 +28,7 @@ use Rattle.cs_base.specs.declared.index.plan.Kept.{Kept}
 use Rattle.cs_base.specs.declared.index.plan.Kept.TheVariants as kept
 use Rattle.cs_base.specs.declared.index.plan.Plan.{Plan}
 use Rattle.cs_base.specs.declared.index.plan.Plan.TheVariants.{Same, Narrow, Extend, Fresh}
+use Rattle.cs_base.proofs.ListsLemmas.{filter_through}
 use Rattle.cs_cache.specs.AnswerList.{AnswerList}
 use Rattle.cs_file.specs.Indexes.{IndexView, IsIndex, StandsFor}
 use Rattle.cs_model.specs.Answers.{begins}
@@ -56,7 +57,6 @@ use Rattle.cs_engine.specs.Steps.{EntryFits, end_positive, is_in_base, last_is_p
 use Rattle.cs_engine.specs.Stocked.{corpus_in}
 use Rattle.cs_engine.proofs.ReadingLemmas.{kept_within}
 use Rattle.cs_engine.proofs.StockLemmas.{stock_corpus, words_are}
-use Rattle.cs_engine.proofs.VocabLemmas.{filter_through}
 
 -- ---- what is found
 unsome : {X : Type 0} (a b : X) → Some a ≡ Some b → a ≡ b

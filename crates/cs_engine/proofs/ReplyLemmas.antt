@@ -22,6 +22,7 @@ use Rattle.cs_base.specs.declared.content.doc.Post.{Post}
 use Rattle.cs_base.specs.declared.content.doc.Row.{Row}
 use Rattle.cs_base.proofs.MembersLemmas.{listed_itself}
 use Rattle.cs_base.proofs.OrdersLemmas.{by_row_total, by_row_exact}
+use Rattle.cs_base.proofs.ListsLemmas.{all_of, map_alike, filter_through}
 use Rattle.cs_meet.specs.Filters.{keep_docs}
 use Rattle.cs_model.specs.Answers.{PartRows, begins, is_listed, hits, pairs, ranked, table_of, facet_part}
 use Rattle.cs_model.specs.Answers as answers
@@ -34,8 +35,8 @@ use Rattle.cs_tables.specs.Listings.{post_table}
 use Rattle.cs_model_index.specs.Numbered.{word_at, row_of, rows_at}
 use Rattle.cs_model_kept.specs.Entries.{scored_hits}
 use Rattle.cs_engine.specs.Stocked.{Stock, corpus_in, base_hits, docs_in, named_at, shown_at, named_rows, named_rows_in, facet_at, title_at, IsStocked}
-use Rattle.cs_engine.proofs.VocabLemmas.{filter_through, rows_rise}
-use Rattle.cs_engine.proofs.ListsLemmas.{get_numbered, all_of, map_alike}
+use Rattle.cs_engine.proofs.VocabLemmas.{rows_rise}
+use Rattle.cs_engine.proofs.ListsLemmas.{get_numbered}
 use Rattle.cs_engine.proofs.HitsLemmas.{kept_pairs, listed_docs}
 use Rattle.cs_engine.proofs.AtomsLemmas.{words_known}
 use Rattle.cs_engine.proofs.TableLemmas.{table_through, table_known}

@@ -24,6 +24,7 @@ use Rattle.cs_base.specs.declared.content.doc.Post.{Post}
 use Rattle.cs_base.specs.declared.content.doc.Row.{Row}
 use Rattle.cs_base.specs.declared.content.doc.Scored.{Scored}
 use Rattle.cs_base.proofs.MembersLemmas.{listing-rises}
+use Rattle.cs_base.proofs.ListsLemmas.{all_of, map_alike, filter_through, filter_alike, any_through}
 use Rattle.cs_docs.proofs.TextLemmas.{All-members}
 use Rattle.cs_file.specs.Indexes.{IndexView}
 use Rattle.cs_meet.specs.Filters.{keep_docs, drop_docs, is_of}
@@ -40,9 +41,8 @@ use Rattle.cs_model_index.specs.Numbered.{row_of, rows_at}
 use Rattle.cs_engine.specs.Stocked.{Stock, corpus_in, every, base_hits, docs_in}
 use Rattle.cs_engine.proofs.FoundLemmas.{docs_rise, every_rises, scored_rise, found_small, greatest_small}
 use Rattle.cs_engine.proofs.HitsLemmas.{ds_rise, greatest_of, hits_excluded, hits_positive, kept_docs, own_docs}
-use Rattle.cs_engine.proofs.ListsLemmas.{all_of, keys_numbered, map_alike, range_below}
+use Rattle.cs_engine.proofs.ListsLemmas.{keys_numbered, range_below}
 use Rattle.cs_engine.proofs.ReadingLemmas.{kept_within, none_within}
-use Rattle.cs_engine.proofs.VocabLemmas.{any_through, filter_alike, filter_through}
 
 -- ---- in range
 pub base_in : (docs bound : ℕ) (b : Base) → bound ≤ 2 ^ 20 → IsBaseOf docs bound b → IsBase b

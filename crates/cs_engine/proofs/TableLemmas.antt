@@ -24,6 +24,7 @@ use Rattle.cs_base.specs.declared.content.doc.Post.{Post}
 use Rattle.cs_base.specs.declared.content.doc.Row.{Row}
 use Rattle.cs_base.proofs.MembersLemmas.{all_then, members_are, is_member-listed, listing-rises}
 use Rattle.cs_base.proofs.NameMaps.{name_sym}
+use Rattle.cs_base.proofs.ListsLemmas.{filter_through, filter_alike, any_through}
 use Rattle.cs_docs.proofs.TextLemmas.{All-members}
 use Rattle.cs_model.specs.Answers.{by_count, table_of}
 use Rattle.cs_model.specs.Answers as rows
@@ -33,7 +34,7 @@ use Rattle.cs_model_index.specs.Numbered.{word_at, row_of, rows_at}
 use Rattle.cs_engine.specs.Stocked.{named_at}
 use Rattle.cs_vocab.proofs.RangesLemmas.{three_ways}
 use Rattle.cs_tables.proofs.TablesLemmas.{by_docs_total, by_docs_exact}
-use Rattle.cs_engine.proofs.VocabLemmas.{filter_through, filter_alike, any_through, apart, is_less, less_word}
+use Rattle.cs_engine.proofs.VocabLemmas.{apart, is_less, less_word}
 
 -- ---- listings
 

@@ -29,12 +29,12 @@ use Rattle.cs_base.specs.declared.content.query.Query.{Query, out-Query, roll-ou
 use Rattle.cs_base.specs.declared.content.query.Part.{Part}
 use Rattle.cs_base.proofs.MembersLemmas.{all_then, keys-rise, members_are}
 use Rattle.cs_base.specs.content.Bases.{base_score}
+use Rattle.cs_base.proofs.ListsLemmas.{all_of, map_alike, filter_alike, filter_twice, filter_through, any_through, all_stay, and_true, same_number, itself, number_tie, any_tie, own_members, take_init, last_entry}
 use Rattle.cs_model.specs.Answers.{PartRows, in_doc, is_listed, agrees, row_docs, hits, pairs, last_rows, greatest_score, parts_of, rows_of_part, score, scored}
 use Rattle.cs_model.specs.Corpus.{Corpus}
 use Rattle.cs_model.proofs.AnswersLemmas.{query_rolled}
 use Rattle.cs_model_kept.specs.Entries.{Entry, scored_hits, base_of, ends_positive, before_typed, entry, entry_of, over, hits_of, listed, is_begun, is_hit, without, entry_after, extended}
 use Rattle.cs_model_kept.specs.KeptLaws.{HitsAreOver, BasesListHits, EntriesExtend, EntriesAreSteps, followed}
-use Rattle.cs_model_kept.proofs.ListsLemmas.{all_of, map_alike, filter_alike, filter_twice, filter_through, any_through, all_stay, and_true, itself, same_number, number_tie, any_tie, own_members, take_init, last_entry}
 
 -- ---- one part more
 module _ (k : Corpus) (done : List PartRows) (p : PartRows) where

@@ -20,13 +20,13 @@ use Rattle.cs_base.specs.declared.content.key.Keys.{Keys}
 use Rattle.cs_base.specs.declared.content.key.Narrower.{Narrower}
 use Rattle.cs_base.specs.declared.index.plan.Kept.TheVariants as kept
 use Rattle.cs_base.specs.declared.index.plan.Plan.TheVariants.{Same, Extend, Fresh}
+use Rattle.cs_base.proofs.ListsLemmas.{filter_through, any_through}
 use Rattle.cs_model_index.specs.Numbered.{row_of}
 use Rattle.cs_model_kept.specs.declared.limits.TheConstants.{MAX_ENTRY_SIZE}
 use Rattle.cs_model_kept.specs.Entries.{Entry, EntryOf, entry_at, listed_count}
 use Rattle.cs_model_kept.specs.KeptList.{KeptOf, extend_or_fresh, found, is_held, kept_at, narrow_or, plan_by, to_front, used_key}
 use Rattle.cs_model_kept.specs.KeptListLaws.{FrontsPlanAlike, FrontsUseAlike, OthersAreNew, NumbersPlanAlike, NumbersUseAlike, NumbersFrontAlike, NumbersPutAlike, NumbersKeepAlike}
 use Rattle.cs_model_kept.proofs.KeptListLemmas.{held_front}
-use Rattle.cs_model_kept.proofs.ListsLemmas.{any_through, filter_through}
 
 -- a test finds an entry exactly where one passes
 pub found_any : {X : Type 0} (p : X → Bool) (xs : List X) → is_some (find p xs) ≡ list_any p xs

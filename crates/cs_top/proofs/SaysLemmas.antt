@@ -3,9 +3,9 @@ use Rattle.std.proofs.Common.{ℕ, List}
 use Rattle.std.specs.Prelude.{Result, Ok, Err, OnOk, OnErr}
 use Rattle.cs_base.specs.outside.Causes.{Counted, Rose}
 use Rattle.cs_base.specs.outside.Outside.{Grew, GrewByPrefix}
+use Rattle.cs_base.proofs.GrewLemmas.{grew_begun}
 use Rattle.cs_top.specs.CommandLine.{SaysLine}
 use Rattle.cs_top.specs.Met.{Wrote}
-use Rattle.cs_top.proofs.GrewLemmas.{grew_begun}
 
 -- by one call
 pub says : {T E : Type 0} (r : Result T E) (w : Wrote) (line : List ℕ) → OnOk r (Grew w.old line w.new) → OnErr r (GrewByPrefix w.old line w.new) → Counted w.before w.now r → SaysLine w line
