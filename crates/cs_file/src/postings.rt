@@ -17,7 +17,7 @@ ghost use Rattle.cs_file.specs.Parting.{part_by, parts_by};
 
 use crate::fault::OpenFault;
 use crate::header::Header;
-use crate::part::Part;
+use crate::part::BlockPart;
 use crate::parts::part_of;
 use crate::reading::section;
 use cs_base::{BlockHead, Memory, Store};
@@ -31,7 +31,7 @@ pub(crate) fn read_blocks<S: Store>(
     store: &mut S,
     header: &Header,
     heads: &[BlockHead],
-) -> Result<Vec<Part>, OpenFault>
+) -> Result<Vec<BlockPart>, OpenFault>
     requires ranges { IsHeader (seen_header header.now) }
     requires told { HasHeader (S.bytes store.old) (seen_header header.now) }
     requires heads { ForSome (S.bytes store.old) (λ b. heads.now ≡ heads_of b) }
@@ -58,14 +58,14 @@ pub(crate) fn read_blocks<S: Store>(
     Ok(parts)
 }
 
-fn room_for(alloc: Global, count: usize) -> Result<Vec<Part>, Memory>
+fn room_for(alloc: Global, count: usize) -> Result<Vec<BlockPart>, Memory>
     ensures { IfOk result (λ v. v.items ≡ []) }
 {
     let parts = Vec::with_capacity(alloc, count)?;
     Ok(parts)
 }
 
-fn push_part(parts: &mut Vec<Part>, part: Part) -> Result<(), Memory>
+fn push_part(parts: &mut Vec<BlockPart>, part: BlockPart) -> Result<(), Memory>
     ensures { OnOk result (parts.new.items ≡ parts.old.items ++ part ∷ []) }
 {
     parts.push(part)?;
@@ -79,7 +79,7 @@ fn read_block<S: Store>(
     at: u64,
     head: &BlockHead,
     docs: u32,
-) -> Result<Part, OpenFault>
+) -> Result<BlockPart, OpenFault>
     requires shaped { IsShaped head.now head.now.len }
     requires rows { head.now.rows ≤ MAX_ROWS }
     requires places { at < 2 ^ 40 }
@@ -103,7 +103,7 @@ fn judge_block(
     head: &BlockHead,
     docs: u32,
     at: u64,
-) -> Result<Part, OpenFault>
+) -> Result<BlockPart, OpenFault>
     requires shaped { IsShaped head.now (length bytes.now) }
     requires rows { head.now.rows ≤ MAX_ROWS }
     requires places { at < 2 ^ 40 }

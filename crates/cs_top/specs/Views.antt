@@ -34,8 +34,8 @@ use Rattle.cs_top.specs.declared.answering.Home.{Home}
 use Rattle.cs_top.specs.declared.answering.Home.TheVariants as homes
 use Rattle.cs_top.specs.declared.collection.CollectionFault.{CollectionFault}
 use Rattle.cs_top.specs.declared.collection.CollectionFault.TheVariants as faults
-use Rattle.cs_top.specs.declared.ending.Stop.{Stop}
-use Rattle.cs_top.specs.declared.ending.Stop.TheVariants as stops
+use Rattle.cs_top.specs.declared.ending.RunStop.{RunStop}
+use Rattle.cs_top.specs.declared.ending.RunStop.TheVariants as stops
 use Rattle.cs_top.specs.declared.lines.ScriptFault.{ScriptFault as Unread}
 use Rattle.cs_top.specs.declared.lines.ScriptFault.TheVariants as unread
 use Rattle.cs_top.specs.declared.lines.ScriptStop.{ScriptStop}
@@ -85,7 +85,7 @@ collection_ending None = no_memory
 collection_ending (Some r) = refused r
 
 -- variant by variant
-abbrev pub stop_ending : Stop → Ending
+abbrev pub stop_ending : RunStop → Ending
 stop_ending stops.Usage = usage
 stop_ending (stops.Collection f) = collection_ending (collection_refusal_of f)
 stop_ending (stops.Absent name) = absent name.now
@@ -96,53 +96,53 @@ stop_ending (stops.Damaged rule at) = damaged rule at
 stop_ending stops.Changed = changed
 
 -- a run that doesn't stop is done
-abbrev pub ended : Result (Unit {0}) Stop → Ending
+abbrev pub ended : Result (Unit {0}) RunStop → Ending
 ended (Ok x) = done
 ended (Err s) = stop_ending s
 
 -- a line that is refused, or a call that failed
-abbrev pub of_script : ScriptStop → Stop
+abbrev pub of_script : ScriptStop → RunStop
 of_script (scripts.Unread f) = stops.Script f
 of_script scripts.Failed = stops.Failed
 
 -- the name that is said is this one; of a failed call nothing is said, and a run stops there in no other way
-abbrev pub IsAbsence : Stop → List ℕ → Type 0
+abbrev pub IsAbsence : RunStop → List ℕ → Type 0
 IsAbsence (stops.Absent said) name = said.now ≡ name
 IsAbsence stops.Failed name = Unit {0}
 IsAbsence s name = ⊥
 
 -- of any other stop nothing is said
-abbrev pub IsMissing : Stop → Option File → Type 0
+abbrev pub IsMissing : RunStop → Option File → Type 0
 IsMissing (stops.Absent said) f = f ≡ None
 IsMissing s f = Unit {0}
 
 -- a run stops there in no other way
-abbrev pub IsDevice : Stop → Type 0
+abbrev pub IsDevice : RunStop → Type 0
 IsDevice stops.Failed = Unit {0}
 IsDevice stops.Memory = Unit {0}
 IsDevice s = ⊥
 
 -- a run stops there in no other way
-abbrev pub IsOfCollection : Stop → Type 0
+abbrev pub IsOfCollection : RunStop → Type 0
 IsOfCollection (stops.Collection f) = Unit {0}
 IsOfCollection stops.Failed = Unit {0}
 IsOfCollection stops.Memory = Unit {0}
 IsOfCollection s = ⊥
 
 -- of any other stop nothing is said
-abbrev pub IsStopCause : List ℕ → Stop → Type 0
+abbrev pub IsStopCause : List ℕ → RunStop → Type 0
 IsStopCause c (stops.Collection f) = IsCollectionCause c f
 IsStopCause c s = Unit {0}
 
 -- a run stops there in no other way
-abbrev pub IsOfIndex : Stop → Type 0
+abbrev pub IsOfIndex : RunStop → Type 0
 IsOfIndex (stops.Damaged rule at) = Unit {0}
 IsOfIndex stops.Failed = Unit {0}
 IsOfIndex stops.Memory = Unit {0}
 IsOfIndex s = ⊥
 
 -- of any other stop nothing is said
-abbrev pub IsDamage : List ℕ → Stop → Type 0
+abbrev pub IsDamage : List ℕ → RunStop → Type 0
 IsDamage b (stops.Damaged rule at) = damage b ≡ Some (broken_at rule at)
 IsDamage b s = Unit {0}
 

@@ -15,7 +15,7 @@ ghost use Rattle.cs_top.specs.Met.{HasSize, OfBytes};
 ghost use Rattle.cs_top.specs.Trial.{HasSizes};
 ghost use Rattle.cs_top.specs.Views.{IsCollectionCause, IsStopCause, IsOfCollection, collection_refusal_of, stop_ending};
 
-use crate::ending::Stop;
+use crate::ending::RunStop;
 use crate::files::read_all;
 use cs_base::{Files, MAX_COLLECTION_BYTES};
 use cs_build::{BuildFault, image};
@@ -65,7 +65,7 @@ pub(crate) fn read_image<'a, F: Files>(
     files: &mut F,
     name: &str,
     size: u64,
-) -> Result<Image, Stop<'a>>
+) -> Result<Image, RunStop<'a>>
     requires size { HasSize (F.held files.old) name.now size }
 
     ensures ok { OfBytes (F.held files.old) name.now (λ b. IfOk result (IsImage (corpus b) BLOCK_ROWS)) }
@@ -80,12 +80,12 @@ pub(crate) fn read_image<'a, F: Files>(
     ensures files { F.held files.new ≡ F.held files.old }
 {
     if size > MAX_COLLECTION_BYTES as u64 {
-        return Err(Stop::Collection(CollectionFault::Documents(DocFault::TooLarge)));
+        return Err(RunStop::Collection(CollectionFault::Documents(DocFault::TooLarge)));
     }
     let bytes = read_all(alloc, files, name, size)?;
     match image_of(alloc, &bytes) {
         Ok(imaged) => Ok(imaged.image),
-        Err(fault) => Err(Stop::Collection(fault)),
+        Err(fault) => Err(RunStop::Collection(fault)),
     }
 }
 

@@ -15,7 +15,7 @@ ghost use Rattle.cs_top.specs.Met.{HasSize, Listened, OfBytes, Wrote, listened, 
 ghost use Rattle.cs_top.specs.Serve.{CanServe, HasToldPort, HasStopped, IsListening, IsUntouched, ServeCaused, ServeEnds, ServeTold, serving_line};
 ghost use Rattle.cs_top.specs.Views.{ended, stop_ending};
 
-use crate::ending::Stop;
+use crate::ending::RunStop;
 use crate::files::size_of;
 use crate::opening::open;
 use crate::said::put_all;
@@ -34,7 +34,7 @@ pub(crate) fn serve<'a, F: Files, H: Hub, O: Sink>(
     files: &mut F,
     hub: &mut H,
     out: &mut O,
-) -> Result<(), Stop<'a>>
+) -> Result<(), RunStop<'a>>
     requires port { is_number MAX_PORT_DIGITS MAX_PORT port.now ≡ true }
     requires conns { is_number MAX_CONNECTIONS_DIGITS MAX_CONNECTIONS conns.now ≡ true }
 
@@ -47,8 +47,8 @@ pub(crate) fn serve<'a, F: Files, H: Hub, O: Sink>(
     begin(hub, out, port, conns)?;
     match serve_file(alloc, &mut engine, files, index, size, hub, conns_of(conns)) {
         ServeEnd::Done => Ok(()),
-        ServeEnd::HubFailed => Err(Stop::Failed),
-        ServeEnd::Memory => Err(Stop::Memory),
+        ServeEnd::HubFailed => Err(RunStop::Failed),
+        ServeEnd::Memory => Err(RunStop::Memory),
     }
 }
 
@@ -57,7 +57,7 @@ fn prepare<'a, F: Files>(
     alloc: Global,
     files: &mut F,
     index: &'a str,
-) -> Result<(Engine, u64), Stop<'a>>
+) -> Result<(Engine, u64), RunStop<'a>>
     ensures size { IfOk result (λ p. HasSize (F.held files.old) index.now p.1) }
     ensures stands { OfBytes (F.held files.old) index.now (λ b. IfOk result (λ p. StandsFor b p.0.index)) }
     ensures good { (b : List ℕ) → IfOk result (λ p. AreGood b p.0) }

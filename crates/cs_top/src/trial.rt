@@ -19,7 +19,7 @@ ghost use Rattle.cs_top.specs.Views.{ended};
 ghost use Rattle.cs_trial.specs.declared.counts.Counts.{Counts};
 
 use crate::collection::{Imaged, image_of};
-use crate::ending::Stop;
+use crate::ending::RunStop;
 use crate::opening::open_image;
 use crate::words::trial_of;
 use cs_base::{MemStore, Memory, Plan, Sink};
@@ -29,7 +29,7 @@ use cs_trial::{Counts, collection, requests, summary_bytes};
 use std::alloc::Global;
 
 /// Puts the summary of a trial.
-pub(crate) fn trial<'a, O: Sink>(alloc: Global, number: &str, out: &mut O) -> Result<(), Stop<'a>>
+pub(crate) fn trial<'a, O: Sink>(alloc: Global, number: &str, out: &mut O) -> Result<(), RunStop<'a>>
     requires { is_number MAX_TRIAL_DIGITS MAX_TRIAL number.now ≡ true }
 
     ensures ends { TrialEnds (ended result) number.now (wrote O.written O.faults out.old out.new) }
