@@ -14,7 +14,7 @@
 --   is_ended target count p   the run p.0 is one that ends where the run p.1 begins
 --   IsPartition target count words runs    runs that joined are the words, each as long as it may be
 --   PartitionsAreOne          the law that no words have two partitions
-use Rattle.std.specs.Prelude.{◌≡◌, ℕ, ◌+◌, Bool, true, false, ◌&&◌, ◌||◌, not, ◌==◌, nat_lt, nat_le, List, [], ◌∷◌, length, drop, flat_map, if◌then◌else◌}
+use Rattle.std.specs.Prelude.{◌≡◌, ℕ, ◌+◌, Bool, true, false, ◌&&◌, ◌||◌, not, nat_lt, nat_le, List, [], ◌∷◌, length, drop, flat_map, if◌then◌else◌}
 use Rattle.std.specs.List.{list_all, sum_by, zip, before_first}
 use Rattle.std.specs.Str.{bytes_eq}
 use Rattle.cs_model.specs.Words.{is_filled}

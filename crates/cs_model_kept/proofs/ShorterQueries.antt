@@ -4,7 +4,7 @@
 --   words_left           so is each shorter word
 --   out-prefix, out-exact     what atoms are, seen as one level
 --   shorter_stays        the law
-use Rattle.std.proofs.Common.{◌≡◌, ℕ, ◌≤◌, ◌&&◌, ◌||◌, ◌==◌, Bool, true, false, true≢false, not, List, [], ◌∷◌, ◌++◌, map, filter, drop, length, refl, sym, ◌∙◌, ap, subst, arith, append_assoc, length-append, Some}
+use Rattle.std.proofs.Common.{◌≡◌, ℕ, ◌≤◌, ◌&&◌, ◌||◌, Bool, true, false, true≢false, not, List, [], ◌∷◌, ◌++◌, map, filter, drop, length, refl, sym, ◌∙◌, ap, subst, arith, append_assoc, length-append, Some}
 use Rattle.std.specs.Prelude.{encode_utf8_all, nat_lt}
 use Rattle.std.specs.Char.{encode_utf8}
 use Rattle.std.specs.List.{All, Contains, list_any, list_all}

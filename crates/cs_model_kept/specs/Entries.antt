@@ -26,9 +26,8 @@
 --   extended k positive e p   the entry of a query and one part more, by the query's own entry
 --   kept_steps k ps           the entry of parts, taken one after the other, with whether the last one is positive
 --   entry_at ws e             the entry whose rows the posts of e stand for
-use Rattle.std.specs.Prelude.{ℕ, ◌+◌, ◌-◌, ◌==◌, Bool, true, false, not, if◌then◌else◌, List, [], ◌∷◌, map, filter, fold, take, length, find}
+use Rattle.std.specs.Prelude.{ℕ, ◌+◌, ◌-◌, ◌==◌, Bool, true, false, not, if◌then◌else◌, List, [], ◌∷◌, map, filter, fold, take, length}
 use Rattle.std.specs.List.{list_any}
-use Rattle.std.specs.Option.{option_map, unwrap_or}
 use Rattle.std.specs.FinMap as map
 use Rattle.cs_base.specs.declared.content.doc.Base.{Base}
 use Rattle.cs_base.specs.declared.content.doc.Base.TheVariants as base

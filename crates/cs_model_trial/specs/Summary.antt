@@ -19,7 +19,7 @@ use Rattle.std.specs.Fmt.{decimal}
 use Rattle.std.specs.List.{flat_map}
 use Rattle.std.specs.FinMap as map
 use Rattle.cs_base.specs.declared.index.plan.Plan.{Plan}
-use Rattle.cs_base.specs.declared.index.plan.Plan.TheVariants.{Same, Narrow, Extend, Fresh}
+use Rattle.cs_base.specs.declared.index.plan.Plan.TheVariants.{Narrow, Extend, Fresh}
 use Rattle.cs_base.specs.declared.content.query.Query.{Query}
 use Rattle.cs_model.specs.Answers.{hits, parts_of}
 use Rattle.cs_model.specs.Corpus.{Corpus, corpus}
