@@ -2,7 +2,7 @@
 ghost use Rattle.std.specs.Prelude.{◌≡◌, ◌⊎◌, map, IfOk, OnErr, IsErr};
 ghost use Rattle.std.specs.String.{string_bytes};
 ghost use Rattle.std.specs.Process.{exit_status};
-ghost use Rattle.cs_top.specs.CommandLine.{command_of, Ending, no_memory, status, line_of, Says};
+ghost use Rattle.cs_top.specs.CommandLine.{command_of, Ending, no_memory, status, line_of, SaysLine};
 ghost use Rattle.cs_top.specs.Met.{LeavesAll, met, wrote};
 ghost use Rattle.cs_top.specs.Runs.{Ran};
 ghost use Rattle.complete.specs.System.{words_given, LacksMemory, MayLack};

@@ -1,6 +1,8 @@
 pub mod Connected
 pub mod ConnectionLists
 pub mod FileLemmas
+pub mod GrewLemmas
+pub mod ListsLemmas
 pub mod MembersLemmas
 pub mod NameMaps
 pub mod OrdersLemmas

@@ -1,3 +1,4 @@
+pub mod Bases
 pub mod Bytes
 pub mod Members
 pub mod Orders

@@ -41,8 +41,19 @@ pub fn serving_limits()
     ensures connection_bytes { MAX_CONNECTION_BYTES ≡ 2 ^ 20 }
 {}
 
+/// The limits of the command line's numbers.
+pub fn command_limits()
+    ensures port { MAX_PORT ≡ 65535 }
+    ensures port_digits { MAX_PORT_DIGITS ≡ 5 }
+    ensures connections { MAX_CONNECTIONS ≡ 1000000 }
+    ensures connections_digits { MAX_CONNECTIONS_DIGITS ≡ 7 }
+    ensures trial { MAX_TRIAL ≡ 1000 }
+    ensures trial_digits { MAX_TRIAL_DIGITS ≡ 4 }
+{}
+
 /// What rows count for, and where text words begin.
 pub fn scores()
+    ensures row { MAX_ROW_SCORE ≡ 255 }
     ensures title { TITLE_SCORE ≡ 4 }
     ensures facet { FACET_SCORE ≡ 2 }
     ensures text { TEXT_SCORE ≡ 1 }

@@ -7,7 +7,7 @@ ghost use Rattle.cs_model.specs.Scores.{SCORES};
 ghost use Rattle.cs_model_index.specs.Blocks.{IsShaped};
 ghost use Rattle.cs_model_index.specs.BlockRules.{IsBlock, item_row, block_items, judged, judged_columns};
 ghost use Rattle.cs_block.specs.Reading.{Decodes, HasColumns};
-ghost use Rattle.cs_block.specs.ColumnsView.{seen};
+ghost use Rattle.cs_block.specs.ColumnsView.{seen_columns};
 
 use crate::columns::{Columns, cut, gap_here, row_of};
 use crate::fault::BlockFault;
@@ -69,11 +69,11 @@ pub fn decode_reserved(
 // the runs are all rows; where one does, the rows of its run are gone over one by one.
 fn push_rows(columns: &Columns<'_>, head: &BlockHead, docs: u32, into: &mut Cols) -> bool
     requires shaped { IsShaped head.now head.now.len }
-    requires sized { HasColumns head.now (seen columns.now) }
+    requires sized { HasColumns head.now (seen_columns columns.now) }
     requires room { head.now.rows ≤ into.old.room }
 
-    ensures told { result ≡ is_none (judged_columns SCORES head.now docs (seen columns.now)) }
-    ensures posts { result ≡ true → into.new.posts ≡ into.old.posts ++ map item_row (block_items head.now (seen columns.now)) }
+    ensures told { result ≡ is_none (judged_columns SCORES head.now docs (seen_columns columns.now)) }
+    ensures posts { result ≡ true → into.new.posts ≡ into.old.posts ++ map item_row (block_items head.now (seen_columns columns.now)) }
     ensures kept { take (length into.old.posts) into.new.posts ≡ into.old.posts }
 {
     let reached = push_runs(columns, head, docs, into);

@@ -1,7 +1,7 @@
 //! Reading the documents and the words of a block's rows run by run, without positions and scores.
 ghost use Rattle.std.specs.Prelude.{◌≡◌, ℕ, ◌+◌, ◌≤◌, ◌<◌, List, true, length, IfOk, IfSome};
 ghost use Rattle.cs_model_index.specs.Blocks.{IsShaped};
-ghost use Rattle.cs_block.specs.ColumnsView.{seen};
+ghost use Rattle.cs_block.specs.ColumnsView.{seen_columns};
 ghost use Rattle.cs_block.specs.DocWords.{AddsDocWords, HasDocWords};
 ghost use Rattle.cs_block.specs.Reading.{HasColumns};
 ghost use Rattle.cs_block.specs.declared.runs.TheConstants.{RUN};
@@ -76,14 +76,14 @@ fn add_run(
     into_words: &mut Vec<u32>,
 ) -> Result<Option<Passed>, Memory>
     requires shaped { IsShaped head.now head.now.len }
-    requires sized { HasColumns head.now (seen columns.now) }
+    requires sized { HasColumns head.now (seen_columns columns.now) }
     requires some { 0 < length run_docs.old }
     requires few { length run_docs.old ≤ RUN }
     requires words { length run_words.old ≡ length run_docs.old }
     requires rows { from.rows + length run_docs.old ≤ head.now.rows }
     requires within { from.at ≤ length columns.now.gaps.now }
 
-    ensures added { IfOk result (λ run. IfSome run (λ next. (old_docs old_words : List ℕ) → HasDocWords head.now docs (seen columns.now) from.rows from.at from.before old_docs into_docs.old.items old_words into_words.old.items → HasDocWords head.now docs (seen columns.now) next.rows next.at next.before old_docs into_docs.new.items old_words into_words.new.items)) }
+    ensures added { IfOk result (λ run. IfSome run (λ next. (old_docs old_words : List ℕ) → HasDocWords head.now docs (seen_columns columns.now) from.rows from.at from.before old_docs into_docs.old.items old_words into_words.old.items → HasDocWords head.now docs (seen_columns columns.now) next.rows next.at next.before old_docs into_docs.new.items old_words into_words.new.items)) }
     ensures rows { IfOk result (λ run. IfSome run (λ next. next.rows ≡ from.rows + length run_docs.old)) }
 {
     let rows = run_docs.len();

@@ -5,7 +5,7 @@ ghost use Rattle.cs_model.specs.Scores.{SCORES};
 ghost use Rattle.cs_model_index.specs.Blocks.{IsShaped};
 ghost use Rattle.cs_model_index.specs.BlockRules.{block_items, broken_at, codes_break, first_broken, judged_columns, rules};
 ghost use Rattle.cs_block.specs.Reading.{HasColumns};
-ghost use Rattle.cs_block.specs.ColumnsView.{seen};
+ghost use Rattle.cs_block.specs.ColumnsView.{seen_columns};
 
 use crate::columns::{Columns, gap_here, row_of};
 use crate::rules::{is_after, is_in_words, is_scored};
@@ -14,9 +14,9 @@ use cs_base::{BlockHead, Broken, Post};
 /// The first broken rule, if one is broken.
 pub fn judge(columns: &Columns<'_>, head: &BlockHead, docs: u32) -> Option<Broken>
     requires shaped { IsShaped head.now head.now.len }
-    requires sized { HasColumns head.now (seen columns.now) }
+    requires sized { HasColumns head.now (seen_columns columns.now) }
 
-    ensures { result ≡ judged_columns SCORES head.now docs (seen columns.now) }
+    ensures { result ≡ judged_columns SCORES head.now docs (seen_columns columns.now) }
 {
     if let Some(at) = bad_code(columns.gaps, head.rows) {
         return Some(Broken {
@@ -48,10 +48,10 @@ fn bad_code(gaps: &[u8], rows: u32) -> Option<usize>
 // The first broken rule on rows, over a gap column that holds.
 fn broken_row(columns: &Columns<'_>, head: &BlockHead, docs: u32) -> Option<Broken>
     requires shaped { IsShaped head.now head.now.len }
-    requires sized { HasColumns head.now (seen columns.now) }
+    requires sized { HasColumns head.now (seen_columns columns.now) }
     requires codes { codes_break head.now.rows 0 columns.now.gaps.now ≡ None }
 
-    ensures { result ≡ first_broken (rules SCORES head.now docs) (block_items head.now (seen columns.now)) }
+    ensures { result ≡ first_broken (rules SCORES head.now docs) (block_items head.now (seen_columns columns.now)) }
 {
     let words_at = head.len - 7 * head.rows;
     let positions_at = words_at + 2 * head.rows;

@@ -3,7 +3,7 @@ ghost use Rattle.std.specs.Prelude.{◌≡◌, ◌+◌, ◌≤◌, ◌<◌, List
 ghost use Rattle.cs_base.specs.declared.content.doc.Post.{Post};
 ghost use Rattle.cs_model_index.specs.Blocks.{IsShaped};
 ghost use Rattle.cs_block.specs.Reading.{HasColumns};
-ghost use Rattle.cs_block.specs.ColumnsView.{seen};
+ghost use Rattle.cs_block.specs.ColumnsView.{seen_columns};
 ghost use Rattle.cs_block.specs.Runs.{row_in};
 ghost use Rattle.cs_block.specs.Pass.{HasPushed};
 
@@ -33,10 +33,10 @@ pub struct Reached {
 /// Adds rows run by run, up to the first run in which a row breaks a rule.
 pub fn push_runs(columns: &Columns<'_>, head: &BlockHead, docs: u32, into: &mut Cols) -> Reached
     requires shaped { IsShaped head.now head.now.len }
-    requires sized { HasColumns head.now (seen columns.now) }
+    requires sized { HasColumns head.now (seen_columns columns.now) }
     requires room { head.now.rows ≤ into.old.room }
 
-    ensures { HasPushed head.now docs (seen columns.now) result.rows result.at result.last result.before into.old.posts into.new.posts into.new.room }
+    ensures { HasPushed head.now docs (seen_columns columns.now) result.rows result.at result.last result.before into.old.posts into.new.posts into.new.room }
 {
     let mut run_docs = [0u32; RUN];
     let mut run_words = [0u32; RUN];
@@ -80,7 +80,7 @@ fn push_run(
     into: &mut Cols,
 ) -> Option<Reached>
     requires shaped { IsShaped head.now head.now.len }
-    requires sized { HasColumns head.now (seen columns.now) }
+    requires sized { HasColumns head.now (seen_columns columns.now) }
     requires some { 0 < length run_docs.old }
     requires few { length run_docs.old ≤ RUN }
     requires words { length run_words.old ≡ length run_docs.old }
@@ -89,7 +89,7 @@ fn push_run(
     requires within { from.at ≤ length columns.now.gaps.now }
     requires room { length run_docs.old ≤ into.old.room }
 
-    ensures pushed { IfSome result (λ next. (first : List Post) → HasPushed head.now docs (seen columns.now) from.rows from.at from.last from.before first into.old.posts into.old.room → HasPushed head.now docs (seen columns.now) next.rows next.at next.last next.before first into.new.posts into.new.room) }
+    ensures pushed { IfSome result (λ next. (first : List Post) → HasPushed head.now docs (seen_columns columns.now) from.rows from.at from.last from.before first into.old.posts into.old.room → HasPushed head.now docs (seen_columns columns.now) next.rows next.at next.last next.before first into.new.posts into.new.room) }
     ensures rows { IfSome result (λ next. next.rows ≡ from.rows + length run_docs.old) }
     ensures kept { IfNone result (into.new ≡ into.old) }
 {

@@ -23,7 +23,7 @@ use Rattle.cs_model_index.specs.Numbered.{numbered, HasWord}
 use Rattle.cs_model_index.proofs.CorpusLemmas.{known_words}
 use Rattle.cs_vocab.specs.Ranges.{AreNumbers}
 use Rattle.cs_build.specs.Building.{corpus_of_rows}
-use Rattle.cs_build.specs.Runs.{AreParted, AreSpans, IsCounted, runs_from, is_within, posts_by, head_by}
+use Rattle.cs_build.specs.Runs.{AreParted, AreSpans, CountsRows, runs_from, is_within, posts_by, run_head}
 use Rattle.cs_build.specs.declared.parting.Run.{Run}
 use Rattle.cs_build.proofs.FillLemmas.{posts_many}
 use Rattle.cs_build.proofs.PartLemmas.{numbered_posts, blocks_are, rows_counted, heads_are, all_inside, spans_are, few_runs, filled_parts, some_words}
@@ -61,9 +61,9 @@ module _ (ws : List (List ℕ)) (rows : List Row) (numbers : List ℕ) (target :
   pub few_kept : length runs ≤ length ws
   few_kept = omega (arith, ap length p.are, few_runs (count_in rows) 0 p.parts some, ap length whole)
 
-  pub counted_kept : AllByRecursion (IsCounted (posts_by rows numbers)) runs
-  counted_kept = subst (λ rs. AllByRecursion (IsCounted (posts_by rows numbers)) rs) (sym p.are)
-      (subst (λ ps. AllByRecursion (IsCounted ps) (runs_from (count_in rows) 0 p.parts)) (sym (numbered_posts ws up rows numbers ns)) (rows_counted ws up rows known [] p.parts 0 refl whole))
+  pub counted_kept : AllByRecursion (CountsRows (posts_by rows numbers)) runs
+  counted_kept = subst (λ rs. AllByRecursion (CountsRows (posts_by rows numbers)) rs) (sym p.are)
+      (subst (λ ps. AllByRecursion (CountsRows ps) (runs_from (count_in rows) 0 p.parts)) (sym (numbered_posts ws up rows numbers ns)) (rows_counted ws up rows known [] p.parts 0 refl whole))
 
   pub inside_kept : AllByRecursion (λ run. run.lo < length ws) runs
   inside_kept = subst (AllByRecursion (λ run. run.lo < length ws)) (sym p.are) (all_inside ws up rows known [] p.parts 0 refl some whole)
@@ -80,14 +80,14 @@ module _ (ws : List (List ℕ)) (rows : List Row) (numbers : List ℕ) (target :
     pub rows_kept : (most : ℕ) → length rows ≤ most → AllByRecursion (λ b. length b.posts ≤ most) blocks
     rows_kept most few = few_each (posts_by rows numbers) most blocks runs b (omega (arith, posts_many rows numbers many_numbers, few))
 
-    pub image_made : (heads : List BlockHead) (titles : List (List ℕ)) → heads ≡ map (head_by ws) (zip runs (map (λ b. b.posts) blocks))
+    pub image_made : (heads : List BlockHead) (titles : List (List ℕ)) → heads ≡ map (run_head ws) (zip runs (map (λ b. b.posts) blocks))
         → let i : Image = record { titles = titles; words = ws; heads = heads; blocks = map (λ b. b.posts) blocks; target = target } in IsImage (corpus_of_rows titles rows) target i
     image_made heads titles h =
         let posts = map (λ (b : Cols). b.posts) blocks in
         let joined = p.partition.joined in
         let blocks_are : posts ≡ map (block_of (flat_map (λ part. part) p.parts) rows) p.parts = blocks_made ∙ ap (λ (x : List (List ℕ)). map (block_of x rows) p.parts) (sym joined) in
         let listed : heads ≡ heads_from 0 (zip p.parts (map (block_of (flat_map (λ part. part) p.parts) rows) p.parts)) =
-        h ∙ ap (λ (x : List Run). map (head_by ws) (zip x posts)) p.are ∙ ap (λ (x : List (List Post)). map (head_by ws) (zip (runs_from (count_in rows) 0 p.parts) x)) blocks_made
+        h ∙ ap (λ (x : List Run). map (run_head ws) (zip x posts)) p.are ∙ ap (λ (x : List (List Post)). map (run_head ws) (zip (runs_from (count_in rows) 0 p.parts) x)) blocks_made
         ∙ heads_are ws up rows known [] p.parts 0 refl some whole ∙ ap (λ (x : List (List ℕ)). heads_from 0 (zip p.parts (map (block_of x rows) p.parts))) (sym joined) in
         record {
           titles = refl;

@@ -16,7 +16,7 @@ use Rattle.std.proofs.lemmas.List.Elements.{filter-append}
 use Rattle.cs_base.specs.declared.content.doc.Post.{Post}
 use Rattle.cs_base.specs.declared.content.doc.Row.{Row}
 use Rattle.cs_cols.specs.declared.cols.Cols.{Cols}
-use Rattle.cs_build.specs.Runs.{has_word, AreSpans, places_from, posts_by, is_within, IsCounted, IsPushed, AreFilled}
+use Rattle.cs_build.specs.Runs.{has_word, AreSpans, places_from, posts_by, is_within, CountsRows, IsPushed, AreFilled}
 use Rattle.cs_build.specs.declared.parting.Run.{Run}
 
 -- ---- the run of a word
@@ -189,7 +189,7 @@ more_to_come run p posts rest all h e =
     ap (filter (is_within run)) e ∙ filter-append (is_within run) posts (p ∷ rest) ∙ ap (λ b. filter (is_within run) posts ++ cond b (p ∷ filter (is_within run) rest) (filter (is_within run) rest)) h in
     omega (arith, ap length whole, length-append (filter (is_within run) posts) (p ∷ filter (is_within run) rest))
 
-pub roomy : (p : Post) (posts rest all : List Post) (runs : List Run) (blocks : List Cols) (k : ℕ) (d : Cols) → all ≡ posts ++ p ∷ rest → IsOnly runs k p.word → AllByRecursion (IsCounted all) runs → AreFilled posts runs blocks → 1 ≤ (get_or blocks k d).room
+pub roomy : (p : Post) (posts rest all : List Post) (runs : List Run) (blocks : List Cols) (k : ℕ) (d : Cols) → all ≡ posts ++ p ∷ rest → IsOnly runs k p.word → AllByRecursion (CountsRows all) runs → AreFilled posts runs blocks → 1 ≤ (get_or blocks k d).room
 roomy p posts rest all [] blocks k d e o c f = absurd o
 roomy p posts rest all (run ∷ runs) [] k d e o c f = absurd f
 roomy p posts rest all (run ∷ runs) (b ∷ blocks) zero d e o c f =

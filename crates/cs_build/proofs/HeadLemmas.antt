@@ -9,7 +9,7 @@ use Rattle.cs_cols.specs.declared.cols.Cols.{Cols}
 use Rattle.cs_model_index.specs.Blocks.{block_bytes}
 use Rattle.cs_model_index.specs.Numbered.{word_at}
 use Rattle.cs_model_index.specs.Partitions.{is_facet}
-use Rattle.cs_build.specs.Runs.{head_by}
+use Rattle.cs_build.specs.Runs.{run_head}
 use Rattle.cs_build.specs.declared.parting.Run.{Run}
 
 pub pairs_many : (runs : List Run) (bs : List (List Post)) → length (zip runs bs) ≤ length runs
@@ -22,11 +22,11 @@ all_at P (x ∷ xs) (suc i) d h l = all_at P xs i d h.1 (omega (arith, l))
 
 -- a head that was put together is that of the run and its block
 pub head_is : (ws : List (List ℕ)) (run : Run) (posts : List Post) (lo words rows len : ℕ) (facet : Bool) → lo ≡ run.lo → words ≡ run.words → rows ≡ run.rows → len ≡ length (block_bytes posts run.lo) → facet ≡ is_facet (word_at ws run.lo)
-    → let h : BlockHead = record { lo = lo; words = words; rows = rows; len = len; facet = facet } in h ≡ head_by ws (run, posts)
+    → let h : BlockHead = record { lo = lo; words = words; rows = rows; len = len; facet = facet } in h ≡ run_head ws (run, posts)
 head_is ws run posts lo words rows len facet a b c e f = rw (a, b, c, e, f) refl
 
 pub head_more : (ws : List (List ℕ)) (runs : List Run) (bs : List Cols) (i : ℕ) (d : Run) (x : Cols) → length runs ≡ length bs → i < length runs → x ≡ get_or bs i x
-    → map (head_by ws) (take (i + 1) (zip runs (map (λ b. b.posts) bs))) ≡ map (head_by ws) (take i (zip runs (map (λ b. b.posts) bs))) ++ head_by ws (get_or runs i d, x.posts) ∷ []
+    → map (run_head ws) (take (i + 1) (zip runs (map (λ b. b.posts) bs))) ≡ map (run_head ws) (take i (zip runs (map (λ b. b.posts) bs))) ++ run_head ws (get_or runs i d, x.posts) ∷ []
 head_more ws runs bs i d x e l is =
     let posts : List (List Post) = map (λ (b : Cols). b.posts) bs in
     let many : length posts ≡ length bs = length-map bs (λ (b : Cols). b.posts) in
@@ -35,5 +35,5 @@ head_more ws runs bs i d x e l is =
     let at : get_or (zip runs posts) i (d, x.posts) ≡ (get_or runs i d, x.posts) =
     get_or-zip runs posts i (d, x.posts) l inside
     ∙ ap (λ (y : List Post). (get_or runs i d, y)) (get_or-map (λ (b : Cols). b.posts) bs i x x.posts (omega (arith, l, e)) ∙ ap (λ (b : Cols). b.posts) (sym is)) in
-    ap (map (head_by ws)) (take_more (zip runs posts) i (d, x.posts) both) ∙ map-append (head_by ws) (take i (zip runs posts)) (get_or (zip runs posts) i (d, x.posts) ∷ [])
-    ∙ ap (λ (p : Run × List Post). map (head_by ws) (take i (zip runs posts)) ++ head_by ws p ∷ []) at
+    ap (map (run_head ws)) (take_more (zip runs posts) i (d, x.posts) both) ∙ map-append (run_head ws) (take i (zip runs posts)) (get_or (zip runs posts) i (d, x.posts) ∷ [])
+    ∙ ap (λ (p : Run × List Post). map (run_head ws) (take i (zip runs posts)) ++ run_head ws p ∷ []) at

@@ -2,7 +2,8 @@
 use Rattle.std.proofs.Common.{◌≡◌, ℕ, ◌+◌, ◌≤◌, true, false, true≢false, cond, List, [], ◌∷◌, length, take, drop, refl, sym, ap, ◌∙◌, arith, add-one}
 use Rattle.std.specs.List.{position_or_len}
 use Rattle.std.proofs.lemmas.List.{take_all}
-use Rattle.cs_model_index.specs.Partitions.{is_colon, is_facet, kind_of}
+use Rattle.cs_model.specs.Collection.{is_colon}
+use Rattle.cs_model_index.specs.Partitions.{is_facet, kind_of}
 
 pub some_word : (w : List ℕ) → is_facet w ≡ true → 1 ≤ length w
 some_word [] h = absurd (true≢false (sym h))

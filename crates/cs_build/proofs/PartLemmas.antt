@@ -36,7 +36,7 @@ use Rattle.cs_model_index.specs.Partitions.{Count, is_facet, rows_of_run, is_run
 use Rattle.cs_model_index.specs.declared.limits.TheConstants.{MAX_BLOCK_WORDS}
 use Rattle.cs_model_index.proofs.NumberedLemmas.{word_of_number, number_of_word, number_below}
 use Rattle.cs_vocab.specs.Ranges.{IsBelow, AreNumbers}
-use Rattle.cs_build.specs.Runs.{AreCounts, Agrees, AreSpans, IsCounted, runs_from, is_within, posts_by, head_by}
+use Rattle.cs_build.specs.Runs.{AreCounts, AreCountsBy, AreSpans, CountsRows, runs_from, is_within, posts_by, run_head}
 use Rattle.cs_build.specs.declared.parting.Run.{Run}
 
 abbrev Words : Type 0
@@ -72,7 +72,7 @@ module _ (ws : Words) (up : IsStrictlySortedBy (slice_cmp nat_cmp) ws) where
       same_kept (m == n) (bytes_eq r.word (word_at ws n)) m r (filter (λ k. k == n) numbers) (filter (λ s. bytes_eq s.word (word_at ws n)) rows)
       (same_test m n b.0 h ∙ ap (λ w. bytes_eq w (word_at ws n)) first) (counted n h rows numbers (ap (drop 1) e) b.1)
 
-  pub agree : (rows : List Row) (numbers counts : List ℕ) (words : ℕ) → words ≡ length ws → AreNumbers ws numbers (map (λ r. r.word) rows) → AreCounts words numbers counts → Agrees ws counts (count_in rows)
+  pub agree : (rows : List Row) (numbers counts : List ℕ) (words : ℕ) → words ≡ length ws → AreNumbers ws numbers (map (λ r. r.word) rows) → AreCounts words numbers counts → AreCountsBy ws counts (count_in rows)
   agree rows numbers counts words many ns cs n l =
       cs.at n (omega (arith, l, many)) ∙ sym (length-filter (λ m. m == n) numbers) ∙ counted n l rows numbers ns.told (recursion_from_All (IsBelow (length ws)) numbers ns.below)
 
@@ -205,7 +205,7 @@ module _ (ws : Words) (up : IsStrictlySortedBy (slice_cmp nat_cmp) ws) where
         ∙ ap (λ b. b ∷ map (λ run. filter (is_within run) (numbered ws rows)) (runs_from (count_in rows) (lo + length part) parts)) (part_posts front part (parts_of parts) (count_in rows) rows e known)
         ∙ ap (λ bs. block_of ws rows part ∷ bs) (blocks_are (front ++ part) parts (lo + length part) (omega (arith, l, length-append front part)) (next_front front part (parts_of parts) e))
 
-    pub rows_counted : (front : Words) (parts : List Words) (lo : ℕ) → lo ≡ length front → ws ≡ front ++ parts_of parts → AllByRecursion (IsCounted (numbered ws rows)) (runs_from (count_in rows) lo parts)
+    pub rows_counted : (front : Words) (parts : List Words) (lo : ℕ) → lo ≡ length front → ws ≡ front ++ parts_of parts → AllByRecursion (CountsRows (numbered ws rows)) (runs_from (count_in rows) lo parts)
     rows_counted front [] lo l e = tt
     rows_counted front (part ∷ parts) lo l e = (
       rows_of_part front part (parts_of parts) rows e
@@ -218,14 +218,14 @@ module _ (ws : Words) (up : IsStrictlySortedBy (slice_cmp nat_cmp) ws) where
     first_word front part rest some e = ap (word_at ws) (let z : length front ≡ length front + 0 = omega arith in z) ∙ at_front front part rest 0 some e
 
     pub heads_are : (front : Words) (parts : List Words) (lo : ℕ) → lo ≡ length front → AllByRecursion (λ part. 1 ≤ length part) parts → ws ≡ front ++ parts_of parts
-        → map (head_by ws) (zip (runs_from (count_in rows) lo parts) (map (block_of ws rows) parts)) ≡ heads_from lo (zip parts (map (block_of ws rows) parts))
+        → map (run_head ws) (zip (runs_from (count_in rows) lo parts) (map (block_of ws rows) parts)) ≡ heads_from lo (zip parts (map (block_of ws rows) parts))
     unfolding heads_from
     heads_are front [] lo l some e = refl
     heads_are front (part ∷ parts) lo l some e =
         let block = block_of ws rows part in
         let facet : is_facet (word_at ws lo) ≡ is_facet (word_at part 0) = ap (λ (k : ℕ). is_facet (word_at ws k)) l ∙ ap is_facet (first_word front part (parts_of parts) some.0 e) in
-        ap (λ (f : Bool). let h : BlockHead = record { lo = lo; words = length part; rows = rows_of_run (count_in rows) part; len = length (block_bytes block lo); facet = f } in h ∷ map (head_by ws) (zip (runs_from (count_in rows) (lo + length part) parts) (map (block_of ws rows) parts))) facet
-        ∙ ap (λ (n : ℕ). let h : BlockHead = record { lo = lo; words = length part; rows = n; len = length (block_bytes block lo); facet = is_facet (word_at part 0) } in h ∷ map (head_by ws) (zip (runs_from (count_in rows) (lo + length part) parts) (map (block_of ws rows) parts))) (rows_of_part front part (parts_of parts) rows e)
+        ap (λ (f : Bool). let h : BlockHead = record { lo = lo; words = length part; rows = rows_of_run (count_in rows) part; len = length (block_bytes block lo); facet = f } in h ∷ map (run_head ws) (zip (runs_from (count_in rows) (lo + length part) parts) (map (block_of ws rows) parts))) facet
+        ∙ ap (λ (n : ℕ). let h : BlockHead = record { lo = lo; words = length part; rows = n; len = length (block_bytes block lo); facet = is_facet (word_at part 0) } in h ∷ map (run_head ws) (zip (runs_from (count_in rows) (lo + length part) parts) (map (block_of ws rows) parts))) (rows_of_part front part (parts_of parts) rows e)
         ∙ ap (λ hs. head_of lo part block ∷ hs) (heads_are (front ++ part) parts (lo + length part) (omega (arith, l, length-append front part)) some.1 (next_front front part (parts_of parts) e))
 
     pub all_inside : (front : Words) (parts : List Words) (lo : ℕ) → lo ≡ length front → AllByRecursion (λ part. 1 ≤ length part) parts → ws ≡ front ++ parts_of parts → AllByRecursion (λ run. run.lo < length ws) (runs_from (count_in rows) lo parts)

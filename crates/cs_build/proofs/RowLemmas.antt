@@ -14,7 +14,7 @@ use Rattle.cs_base.specs.declared.content.doc.Row.{Row}
 use Rattle.cs_base.specs.declared.content.limits.TheConstants.{MAX_COLLECTION_BYTES, MAX_LINE_BYTES, MAX_DOC_WORDS, MAX_POSITION, MAX_DOCS}
 use Rattle.cs_base.specs.declared.content.scores.TheConstants.{TITLE_SCORE, FACET_SCORE, TEXT_SCORE, BEHIND_TITLE}
 use Rattle.cs_base.proofs.OrdersLemmas.{by_row_total, by_row_exact}
-use Rattle.cs_docs.specs.Pieces.{IsNamed, AreNamed, IsAccepted}
+use Rattle.cs_docs.specs.Pieces.{IsNamed, AreNamed, CanBeListed}
 use Rattle.cs_docs.proofs.AcceptedLemmas.{accepted_docs}
 use Rattle.cs_docs.proofs.TextLemmas.{All-members}
 use Rattle.cs_model.specs.Collection.{DocLine, columns, doc_lines, docs_refusal, document, documents, facet_pieces, facet_word, facet_words, is_equals, is_tab, line_refusal, line_too_long, named, not_utf8, piece_name, piece_refusal, piece_value, too_large, too_many_docs, word_count, words_too_many}
@@ -120,7 +120,7 @@ kept_pieces (p ∷ ps) h n = piece_at (slug (piece_value p)) p ps refl (after-ut
 
 -- ---- documents
 
-good_doc : (d : ℕ) (doc : Doc) → IsText doc → IsAccepted doc → AllByRecursion IsGood (doc_rows SCORES (d, doc))
+good_doc : (d : ℕ) (doc : Doc) → IsText doc → CanBeListed doc → AllByRecursion IsGood (doc_rows SCORES (d, doc))
 good_doc d doc t a =
     good-append (facet_rows SCORES d doc ++ title_rows SCORES d doc) (text_rows SCORES d doc)
     (good-append (facet_rows SCORES d doc) (title_rows SCORES d doc)
@@ -128,14 +128,14 @@ good_doc d doc t a =
     (good_placed d TITLE_SCORE (good_title d) 1 (words doc.title) (omega arith) (omega (arith, a.few)) (cut_words doc.title t.title)))
     (good_placed d TEXT_SCORE (good_text d) (length (words doc.title) + BEHIND_TITLE) (words doc.text) (omega arith) (omega (arith, a.few)) (cut_words doc.text t.text))
 
-good_docs : (d : ℕ) (docs : List Doc) → AllByRecursion IsText docs → AllByRecursion IsAccepted docs → AllByRecursion IsGood (flat_map (doc_rows SCORES) (enumerate_from d docs))
+good_docs : (d : ℕ) (docs : List Doc) → AllByRecursion IsText docs → AllByRecursion CanBeListed docs → AllByRecursion IsGood (flat_map (doc_rows SCORES) (enumerate_from d docs))
 good_docs d [] t a = tt
 good_docs d (doc ∷ docs) t a = good-append (doc_rows SCORES (d, doc)) (flat_map (doc_rows SCORES) (enumerate_from (d + 1) docs)) (good_doc d doc t.0 a.0) (good_docs (d + 1) docs t.1 a.1)
 
-good_rows : (docs : List Doc) → All IsText docs → All IsAccepted docs → All IsGood (rows_of docs)
+good_rows : (docs : List Doc) → All IsText docs → All CanBeListed docs → All IsGood (rows_of docs)
 good_rows docs t a =
     All-members by_row by_row_total by_row_exact IsGood (flat_map (doc_rows SCORES) (enumerate_from 0 docs))
-    (All-from_recursion IsGood (flat_map (doc_rows SCORES) (enumerate_from 0 docs)) (good_docs 0 docs (recursion_from_All IsText docs t) (recursion_from_All IsAccepted docs a)))
+    (All-from_recursion IsGood (flat_map (doc_rows SCORES) (enumerate_from 0 docs)) (good_docs 0 docs (recursion_from_All IsText docs t) (recursion_from_All CanBeListed docs a)))
 
 pub keep_limits : CollectionsKeepLimits
 keep_limits c h =

@@ -21,12 +21,12 @@ use Rattle.std.proofs.lemmas.Str.{chars-encodes, encodes-append, encodes-chars, 
 use Rattle.std.proofs.lemmas.Str.Ascii.{IsAscii-from_all}
 use Rattle.cs_base.specs.declared.content.limits.TheConstants.{MAX_PLAIN_WORD_BYTES}
 use Rattle.cs_docs.proofs.TextLemmas.{named_text}
-use Rattle.cs_model.specs.Collection.{begins_with_letter, is_name_byte, has_name_form, named}
+use Rattle.cs_model.specs.Collection.{begins_with_letter, is_name_byte, has_name_form, named, is_colon}
 use Rattle.cs_model.specs.KeyText.{norm}
 use Rattle.cs_model.specs.Words.{is_filled, is_gap, is_word_char, fitting, cut, words, slug, slug_of}
 use Rattle.cs_model.proofs.FittingLemmas.{fitting-fits}
 use Rattle.cs_model_index.specs.FileRules.{is_word, is_plain_word, is_named_value, is_value_char}
-use Rattle.cs_model_index.specs.Partitions.{is_colon, is_facet}
+use Rattle.cs_model_index.specs.Partitions.{is_facet}
 use Rattle.cs_text.proofs.CutLemmas.{cut-some, some_chars}
 use Rattle.cs_build.proofs.KeyTextLemmas.{norm-scalars}
 

@@ -3,7 +3,7 @@
 -- Source: this engine's own. How words are parted into runs stands in `Partitions` of `cs_model_index`.
 --
 --   AreCounts words numbers counts      how often each number below `words` stands among numbers
---   Agrees ws counts count     the counts are those of the words of a vocabulary
+--   AreCountsBy ws counts count     the counts are those of the words of a vocabulary
 --   runs_from count lo parts   runs of words that lie one behind the other, the first from word number lo on
 --   AreParted target ws count runs     these runs are the partition of the words
 --   has_word run n             word number n is one of the run's
@@ -11,10 +11,10 @@
 --   places_from k runs         for each word the index of its run, the first run having the index k
 --   posts_by rows numbers      the posts of rows, by the numbers of their words
 --   is_within run p            the post's word is one of the run's
---   IsCounted posts run        the run has as many rows as there are posts of its words
+--   CountsRows posts run        the run has as many rows as there are posts of its words
 --   AreFilled posts runs blocks      each block has those of these posts that have a word of its run, and room for its other rows
 --   IsPushed old i post new      the post was added at the end of block number i
---   head_by ws p               what the directory says of a run and its posts
+--   run_head ws p               what the directory says of a run and its posts
 use Rattle.std.specs.Prelude.{◌≡◌, ℕ, ◌+◌, ◌≤◌, ◌<◌, ◌&&◌, ◌==◌, Bool, nat_le, nat_lt, List, [], ◌∷◌, ◌++◌, length, filter, replicate, slice_index_or, slice_set}
 use Rattle.std.specs.List.{count_by}
 use Rattle.cs_base.specs.declared.index.block.BlockHead.{BlockHead}
@@ -33,8 +33,8 @@ pub record AreCounts (words : ℕ) (numbers counts : List ℕ) : Type 0 where
   pub at : (n : ℕ) → n < words → slice_index_or counts n 0 ≡ count_by (λ m. m == n) numbers
 
 -- word by word; nothing is said of other words
-abbrev pub Agrees : List (List ℕ) → List ℕ → Count → Type 0
-Agrees ws counts count = (n : ℕ) → n < length ws → slice_index_or counts n 0 ≡ count (word_at ws n)
+abbrev pub AreCountsBy : List (List ℕ) → List ℕ → Count → Type 0
+AreCountsBy ws counts count = (n : ℕ) → n < length ws → slice_index_or counts n 0 ≡ count (word_at ws n)
 
 -- ---- runs
 -- of no runs none
@@ -73,8 +73,8 @@ abbrev pub is_within : Run → Post → Bool
 is_within run p = has_word run p.word
 
 -- of no posts 0
-abbrev pub IsCounted : List Post → Run → Type 0
-IsCounted posts run = run.rows ≡ length (filter (is_within run) posts)
+abbrev pub CountsRows : List Post → Run → Type 0
+CountsRows posts run = run.rows ≡ length (filter (is_within run) posts)
 
 -- there are as many blocks as runs, each of them with the posts of its run and room for as many rows as the run has
 abbrev pub AreFilled : List Post → List Run → List Cols → Type 0
@@ -90,5 +90,5 @@ pub record IsPushed (old : List Cols) (i : ℕ) (post : Post) (new : List Cols) 
   pub room : (slice_index_or old i block).room ≤ block.room + 1
 
 -- of a run without posts it has no bytes
-abbrev pub head_by : List (List ℕ) → Run × List Post → BlockHead
-head_by ws p = record { lo = p.0.lo; words = p.0.words; rows = p.0.rows; len = length (block_bytes p.1 p.0.lo); facet = is_facet (word_at ws p.0.lo) }
+abbrev pub run_head : List (List ℕ) → Run × List Post → BlockHead
+run_head ws p = record { lo = p.0.lo; words = p.0.words; rows = p.0.rows; len = length (block_bytes p.1 p.0.lo); facet = is_facet (word_at ws p.0.lo) }

@@ -4,7 +4,7 @@ ghost use Rattle.std.specs.List.{All, AllByRecursion};
 ghost use Rattle.cs_base.specs.declared.content.limits.TheConstants.{MAX_ROWS};
 ghost use Rattle.cs_vocab.specs.Ranges.{IsBelow};
 ghost use Rattle.cs_cols.specs.declared.cols.Cols.{Cols};
-ghost use Rattle.cs_build.specs.Runs.{AreSpans, AreFilled, IsCounted, IsPushed, is_within, places_from, posts_by};
+ghost use Rattle.cs_build.specs.Runs.{AreSpans, AreFilled, CountsRows, IsPushed, is_within, places_from, posts_by};
 
 use crate::parting::Run;
 use cs_base::{Memory, Post, Row};
@@ -24,7 +24,7 @@ pub(crate) fn blocks_of(
     requires below { All (IsBelow words) numbers.now }
     requires each { length numbers.now ≡ length rows.now }
     requires few { length runs.now ≤ words }
-    requires counted { AllByRecursion (IsCounted (posts_by rows.now numbers.now)) runs.now }
+    requires counted { AllByRecursion (CountsRows (posts_by rows.now numbers.now)) runs.now }
 
     ensures { IfOk result (λ blocks. map (λ b. b.posts) blocks.items ≡ map (λ run. filter (is_within run) (posts_by rows.now numbers.now)) runs.now) }
 {

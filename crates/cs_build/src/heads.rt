@@ -4,7 +4,7 @@ ghost use Rattle.std.specs.List.{AllByRecursion, zip};
 ghost use Rattle.cs_base.specs.declared.content.limits.TheConstants.{MAX_ROWS};
 ghost use Rattle.cs_base.specs.index.GapCode.{code};
 ghost use Rattle.cs_model_index.specs.Blocks.{block_bytes};
-ghost use Rattle.cs_build.specs.Runs.{head_by};
+ghost use Rattle.cs_build.specs.Runs.{run_head};
 
 use crate::parting::{Run, begins_as_facet};
 use cs_base::{BlockHead, Memory};
@@ -23,7 +23,7 @@ pub(crate) fn heads_of(
     requires inside { AllByRecursion (λ run. run.lo < length words.now) runs.now }
     requires few { AllByRecursion (λ b. length b.posts ≤ MAX_ROWS) blocks.now }
 
-    ensures { IfOk result (λ heads. heads.items ≡ map (head_by words.now) (zip runs.now (map (λ b. b.posts) blocks.now))) }
+    ensures { IfOk result (λ heads. heads.items ≡ map (run_head words.now) (zip runs.now (map (λ b. b.posts) blocks.now))) }
 {
     let mut heads = Vec::with_capacity(alloc, runs.len())?;
     for (i, run) in runs.iter().enumerate() {

@@ -4,7 +4,7 @@ ghost use Rattle.std.specs.List.Sorted.{IsStrictlySortedBy};
 ghost use Rattle.std.specs.Ordering.{is_lt};
 ghost use Rattle.cs_base.specs.content.Members.{members_in};
 ghost use Rattle.cs_base.specs.content.Orders.{by_row, by_spot};
-ghost use Rattle.cs_build.specs.Ordering.{row_at};
+ghost use Rattle.cs_build.specs.Ordering.{row_of_spot};
 
 use cs_base::{Memory, Row, Seq, Word};
 use std::alloc::Global;
@@ -34,7 +34,7 @@ pub(crate) fn in_order(alloc: Global, rows: Seq<Row>) -> Result<Seq<Row>, Memory
 }
 
 fn spots_of(alloc: Global, rows: Seq<Row>) -> Result<Vec<Spot>, Memory>
-    ensures { IfOk result (λ spots. map row_at spots.items ≡ rows) }
+    ensures { IfOk result (λ spots. map row_of_spot spots.items ≡ rows) }
 {
     let mut spots = Vec::with_capacity(alloc, rows.len())?;
     for row in rows.into_vec() {
@@ -55,7 +55,7 @@ fn spots_of(alloc: Global, rows: Seq<Row>) -> Result<Vec<Spot>, Memory>
 }
 
 fn rows_at(alloc: Global, spots: Vec<Spot>) -> Result<Seq<Row>, Memory>
-    ensures { IfOk result (λ rows. rows ≡ map row_at spots.items) }
+    ensures { IfOk result (λ rows. rows ≡ map row_of_spot spots.items) }
 {
     let mut rows = Vec::with_capacity(alloc, spots.len())?;
     for spot in spots {

@@ -2,11 +2,12 @@
 ghost use Rattle.std.specs.Prelude.{◌≡◌, ◌+◌, ◌≤◌, ◌<◌, ◌||◌, not, length, slice_index_or, IfOk};
 ghost use Rattle.std.specs.List.{All, position_or_len};
 ghost use Rattle.cs_base.specs.declared.content.limits.TheConstants.{MAX_ROWS};
+ghost use Rattle.cs_model.specs.Collection.{is_colon};
 ghost use Rattle.cs_vocab.specs.Ranges.{IsBelow};
 ghost use Rattle.cs_model_index.specs.Numbered.{word_at};
-ghost use Rattle.cs_model_index.specs.Partitions.{Count, is_alike, is_colon, is_facet, kind_of, is_full};
+ghost use Rattle.cs_model_index.specs.Partitions.{Count, is_alike, is_facet, kind_of, is_full};
 ghost use Rattle.cs_model_index.specs.declared.limits.TheConstants.{MAX_TARGET};
-ghost use Rattle.cs_build.specs.Runs.{AreCounts, AreParted, Agrees};
+ghost use Rattle.cs_build.specs.Runs.{AreCounts, AreParted, AreCountsBy};
 
 use cs_base::Memory;
 use cs_model_index::MAX_BLOCK_WORDS;
@@ -49,7 +50,7 @@ pub(crate) fn parted(
     requires target { target ≤ MAX_TARGET }
 
     // whatever count has these values at the words
-    ensures { IfOk result (λ runs. (count : Count) → Agrees words.now counts.now count → AreParted target words.now count runs.items) }
+    ensures { IfOk result (λ runs. (count : Count) → AreCountsBy words.now counts.now count → AreParted target words.now count runs.items) }
 {
     let mut runs = Vec::new(alloc);
     if counts.is_empty() {

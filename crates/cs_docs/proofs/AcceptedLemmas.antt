@@ -13,7 +13,7 @@ use Rattle.cs_model.specs.Collection.{piece_refusal, line_refusal, docs_refusal,
 use Rattle.cs_model.specs.Words.{is_filled}
 use Rattle.cs_model.specs.First.{unless, first_reason}
 use Rattle.cs_model.proofs.FirstLemmas.{none_first, none_rest, unless_none}
-use Rattle.cs_docs.specs.Pieces.{IsNamed, AreNamed, IsAccepted}
+use Rattle.cs_docs.specs.Pieces.{IsNamed, AreNamed, CanBeListed}
 use Rattle.cs_docs.specs.Reading.{doc_lines_from}
 use Rattle.cs_docs.proofs.PlainLemmas.{length_documents_of_lines}
 
@@ -30,20 +30,20 @@ named_pieces n [] h = tt
 named_pieces n (p ∷ ps) h = (named_piece n p (none_first (piece_refusal n p) (map (piece_refusal n) ps) h), named_pieces n ps (none_rest (piece_refusal n p) (map (piece_refusal n) ps) h))
 
 -- A line that isn't refused breaks no rule, whichever rules there are.
-accepted_line : (l : DocLine) → line_refusal l ≡ None → IsAccepted (document l)
+accepted_line : (l : DocLine) → line_refusal l ≡ None → CanBeListed (document l)
 accepted_line l h = record {
   pieces = named_pieces l.line (facet_pieces (columns l.bytes).facets) (grind (arith, h));
   few = grind (arith, nat_tests, h);
 }
 
-accepted_lines : (ks : List DocLine) → first_reason (map line_refusal ks) ≡ None → AllByRecursion IsAccepted (map document ks)
+accepted_lines : (ks : List DocLine) → first_reason (map line_refusal ks) ≡ None → AllByRecursion CanBeListed (map document ks)
 accepted_lines [] h = tt
 accepted_lines (k ∷ ks) h = (accepted_line k (none_first (line_refusal k) (map line_refusal ks) h), accepted_lines ks (none_rest (line_refusal k) (map line_refusal ks) h))
 
 -- ---- the documents of a collection that isn't refused
 
-pub accepted_docs : (c : List ℕ) (docs : List Doc) → docs_refusal c ≡ None → docs ≡ documents c → All IsAccepted docs
-accepted_docs c docs h e = subst (All IsAccepted) (sym e) (All-from_recursion IsAccepted (documents c) (accepted_lines (doc_lines_from 0 1 (lines (without_mark c))) (none_rest (unless (nat_le (length c) MAX_COLLECTION_BYTES) too_large) _ h)))
+pub accepted_docs : (c : List ℕ) (docs : List Doc) → docs_refusal c ≡ None → docs ≡ documents c → All CanBeListed docs
+accepted_docs c docs h e = subst (All CanBeListed) (sym e) (All-from_recursion CanBeListed (documents c) (accepted_lines (doc_lines_from 0 1 (lines (without_mark c))) (none_rest (unless (nat_le (length c) MAX_COLLECTION_BYTES) too_large) _ h)))
 
 unmarked_length : (b : Bool) (c : List ℕ) → length (cond b (drop 3 c) c) ≤ length c
 unmarked_length true c = omega (arith, length-drop 3 c)

@@ -24,7 +24,7 @@ use Rattle.cs_model.specs.Collection.{facet_words, named}
 use Rattle.cs_model.specs.Corpus.{placed, title_rows, text_rows}
 use Rattle.cs_model.specs.Words.{words}
 use Rattle.cs_model.specs.Scores.{SCORES}
-use Rattle.cs_docs.specs.Listing.{listed_facets, listed_doc, HasText}
+use Rattle.cs_docs.specs.Listing.{listed_facets, listed_doc, HasUtf8Word}
 
 -- in a total order each thing ties with itself
 pub ties : {X : Type 0} (R : X → X → Ordering) → IsTotalOrder R → (x : X) → eq_by_cmp R x x ≡ true
@@ -46,23 +46,23 @@ module _ {X : Type 0} (R : X → X → Ordering) (o : IsTotalOrder R) (exact : I
   pub All-members : (xs : List X) → All P xs → All P (members_in R xs)
   All-members xs h = All-from_recursion P (members_in R xs) (each (members_in R xs) (λ q e. has xs (recursion_from_All P xs h) q (sym (is_member-listed R o xs q) ∙ e)))
 
-placed_text : (d score : ℕ) (n : ℕ) (ws : List (List ℕ)) → AllByRecursion IsUtf8 ws → AllByRecursion HasText (map (placed d score) (enumerate_from n ws))
+placed_text : (d score : ℕ) (n : ℕ) (ws : List (List ℕ)) → AllByRecursion IsUtf8 ws → AllByRecursion HasUtf8Word (map (placed d score) (enumerate_from n ws))
 placed_text d score n [] h = tt
 placed_text d score n (w ∷ ws) h = (h.0, placed_text d score (n + 1) ws h.1)
 
-facets_text : (d : ℕ) (ws : List (List ℕ)) → AllByRecursion IsUtf8 ws → AllByRecursion HasText (map (λ w. placed d FACET_SCORE (0, w)) ws)
+facets_text : (d : ℕ) (ws : List (List ℕ)) → AllByRecursion IsUtf8 ws → AllByRecursion HasUtf8Word (map (λ w. placed d FACET_SCORE (0, w)) ws)
 facets_text d [] h = tt
 facets_text d (w ∷ ws) h = (h.0, facets_text d ws h.1)
 
-pub text_of_doc : (d : ℕ) (doc : Doc) → All IsUtf8 (facet_words doc.facets) → All IsUtf8 (words doc.title) → All IsUtf8 (words doc.text) → All HasText (listed_doc (d, doc))
+pub text_of_doc : (d : ℕ) (doc : Doc) → All IsUtf8 (facet_words doc.facets) → All IsUtf8 (words doc.title) → All IsUtf8 (words doc.text) → All HasUtf8Word (listed_doc (d, doc))
 text_of_doc d doc facets title text =
     let listed = All-members (slice_cmp nat_cmp) nat_list_cmp_total exact_bytes IsUtf8 (facet_words doc.facets) facets in
     let facet_rows = map (λ w. placed d FACET_SCORE (0, w)) (listed_facets doc.facets) in
-    All-append HasText (facet_rows ++ title_rows SCORES d doc) (text_rows SCORES d doc)
-    (All-append HasText facet_rows (title_rows SCORES d doc)
-    (All-from_recursion HasText facet_rows (facets_text d (listed_facets doc.facets) (recursion_from_All IsUtf8 (listed_facets doc.facets) listed)))
-    (All-from_recursion HasText (title_rows SCORES d doc) (placed_text d TITLE_SCORE 1 (words doc.title) (recursion_from_All IsUtf8 (words doc.title) title))))
-    (All-from_recursion HasText (text_rows SCORES d doc) (placed_text d TEXT_SCORE _ (words doc.text) (recursion_from_All IsUtf8 (words doc.text) text)))
+    All-append HasUtf8Word (facet_rows ++ title_rows SCORES d doc) (text_rows SCORES d doc)
+    (All-append HasUtf8Word facet_rows (title_rows SCORES d doc)
+    (All-from_recursion HasUtf8Word facet_rows (facets_text d (listed_facets doc.facets) (recursion_from_All IsUtf8 (listed_facets doc.facets) listed)))
+    (All-from_recursion HasUtf8Word (title_rows SCORES d doc) (placed_text d TITLE_SCORE 1 (words doc.title) (recursion_from_All IsUtf8 (words doc.title) title))))
+    (All-from_recursion HasUtf8Word (text_rows SCORES d doc) (placed_text d TEXT_SCORE _ (words doc.text) (recursion_from_All IsUtf8 (words doc.text) text)))
 
 pub named_text : (name value : List ℕ) → IsUtf8 name → IsUtf8 value → IsUtf8 (named name value)
 named_text name value n v =

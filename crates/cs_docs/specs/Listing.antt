@@ -2,7 +2,7 @@
 --
 --   listed_facets column     the facet words of a column, each once, by bytes
 --   listed_doc p             the rows of a document of number p.0, in their order
---   HasText r                the row's word is UTF-8
+--   HasUtf8Word r                the row's word is UTF-8
 --   listed_rows d docs       the rows of documents that are numbered from d, in their order
 use Rattle.std.specs.Prelude.{ℕ, ◌++◌, List, map}
 use Rattle.std.specs.List.{flat_map, enumerate_from}
@@ -28,5 +28,5 @@ listed_doc p = map (λ w. placed p.0 FACET_SCORE (0, w)) (listed_facets p.1.face
 abbrev pub listed_rows : ℕ → List Doc → List Row
 listed_rows d docs = flat_map listed_doc (enumerate_from d docs)
 
-abbrev pub HasText : Row → Type 0
-HasText r = IsUtf8 r.word
+abbrev pub HasUtf8Word : Row → Type 0
+HasUtf8Word r = IsUtf8 r.word

@@ -2,7 +2,7 @@
 --
 --   is_semicolon b      the byte that cuts the column
 --   IsNamed p           the piece isn't refused
---   IsAccepted doc      the document's pieces aren't refused, and it has few words
+--   CanBeListed doc      the document's pieces aren't refused, and it has few words
 --   one_piece p rest    the pieces of a column whose first one is p, if p has bytes, and behind it those of rest
 use Rattle.std.specs.Prelude.{◌≡◌, ℕ, ◌+◌, ◌≤◌, Bool, true, ◌==◌, List, [], ◌∷◌, ◌++◌, length, filter}
 use Rattle.std.specs.List.{AllByRecursion, list_any}
@@ -26,6 +26,6 @@ abbrev pub AreNamed : List (List ℕ) → Type 0
 AreNamed ps = AllByRecursion IsNamed ps
 
 -- a document whose line isn't refused, as far as its rows ask
-pub record IsAccepted (doc : Doc) : Type 0 where
+pub record CanBeListed (doc : Doc) : Type 0 where
   pub pieces : AreNamed (facet_pieces doc.facets)
   pub few : length (words doc.title) + length (words doc.text) ≤ MAX_DOC_WORDS

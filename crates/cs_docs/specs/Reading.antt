@@ -2,7 +2,7 @@
 --
 --   doc_lines_from d n ls     the documents of lines that begin at line n, where d documents stand before them
 --   documents_from d n ls     the same as documents
---   line_of d n l             the line l, which is line n, as document d
+--   numbered_line d n l             the line l, which is line n, as document d
 --   title_only l              the line l as a title, without facets and text
 --   doc_of n l                the document of the line l, which is line n
 use Rattle.std.specs.Prelude.{ℕ, List, [], map, filter}
@@ -19,12 +19,12 @@ abbrev pub documents_from : ℕ → ℕ → List (List ℕ) → List Doc
 documents_from d n ls = map document (doc_lines_from d n ls)
 
 -- the number of the document that the line would be
-abbrev pub line_of : ℕ → ℕ → List ℕ → DocLine
-line_of d n l = record { doc = d; line = n; bytes = l }
+abbrev pub numbered_line : ℕ → ℕ → List ℕ → DocLine
+numbered_line d n l = record { doc = d; line = n; bytes = l }
 
 -- one whose columns are empty where the line is
 abbrev pub doc_of : ℕ → List ℕ → Doc
-doc_of n l = document (line_of 0 n l)
+doc_of n l = document (numbered_line 0 n l)
 
 -- the line as a title, without facets and text
 abbrev pub title_only : DocLine → Doc

@@ -5,7 +5,7 @@ ghost use Rattle.std.specs.Str.{is_utf8};
 ghost use Rattle.cs_model.specs.Collection.{is_tab, not_utf8, line_too_long, words_too_many, line_refusal};
 ghost use Rattle.cs_model.specs.First.{unless, first_reason};
 ghost use Rattle.cs_model.specs.Words.{words};
-ghost use Rattle.cs_docs.specs.Reading.{doc_of, line_of, documents_from};
+ghost use Rattle.cs_docs.specs.Reading.{doc_of, numbered_line, documents_from};
 ghost use Rattle.cs_docs.specs.Refusals.{IsCauseOf, refusal_from};
 
 use crate::fault::DocFault;
@@ -37,8 +37,8 @@ pub(crate) fn push_document(
 // The columns of a line, each in memory of its own.
 fn document_of(alloc: Global, line: &[u8], doc: usize, number: u32) -> Result<Doc, DocFault>
     ensures ok { IfOk result (λ d. d ≡ doc_of number line.now) }
-    ensures accepted { OnOk result (line_refusal (line_of doc number line.now) ≡ None) }
-    ensures err { IfErr result (λ e. IsCauseOf (line_refusal (line_of doc number line.now)) e) }
+    ensures accepted { OnOk result (line_refusal (numbered_line doc number line.now) ≡ None) }
+    ensures err { IfErr result (λ e. IsCauseOf (line_refusal (numbered_line doc number line.now)) e) }
 {
     let text = text_of(line, number)?;
     let (title, rest) = cut_at_tab(text);

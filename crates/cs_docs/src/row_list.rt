@@ -5,8 +5,8 @@ ghost use Rattle.std.specs.Str.{IsUtf8};
 ghost use Rattle.cs_model.specs.Collection.{documents, docs_refusal, facet_pieces, facet_words};
 ghost use Rattle.cs_model.specs.Corpus.{rows_of, placed};
 ghost use Rattle.cs_model.specs.Words.{words};
-ghost use Rattle.cs_docs.specs.Listing.{listed_doc, listed_facets, HasText};
-ghost use Rattle.cs_docs.specs.Pieces.{AreNamed, IsAccepted};
+ghost use Rattle.cs_docs.specs.Listing.{listed_doc, listed_facets, HasUtf8Word};
+ghost use Rattle.cs_docs.specs.Pieces.{AreNamed, CanBeListed};
 
 use crate::facet::facet_words;
 use crate::fault::RowsFault;
@@ -43,10 +43,10 @@ pub fn rows_of(alloc: Global, docs: &Seq<Doc>) -> Result<Seq<Row>, RowsFault>
 
 // Adds the rows of one document.
 fn push_doc(alloc: Global, rows: &mut Seq<Row>, number: u32, doc: &Doc) -> Result<(), Memory>
-    requires { IsAccepted doc.now }
+    requires { CanBeListed doc.now }
 
     ensures ok { OnOk result (rows.new ≡ rows.old ++ listed_doc (number, doc.now)) }
-    ensures utf8 { OnOk result (All HasText (listed_doc (number, doc.now))) }
+    ensures utf8 { OnOk result (All HasUtf8Word (listed_doc (number, doc.now))) }
 {
     push_facets(alloc, rows, number, doc.facets.as_str())?;
     let end = push_words(alloc, rows, number, doc.title.as_str(), 1, TITLE_SCORE)?;

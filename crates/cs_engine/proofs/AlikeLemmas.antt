@@ -1,7 +1,7 @@
 -- Tables depend on the members of posts alone, in whatever order and however often they come.
 --
 --   any_filter       a test on what a filter leaves
---   table_alike      posts with the same members have the same table
+--   table_alike      posts with the same members have the same post_table
 use Rattle.std.proofs.Common.{◌≡◌, ℕ, ◌==◌, ◌&&◌, ◌||◌, Bool, true, false, List, [], ◌∷◌, map, length, cond, refl, sym, ◌∙◌, ap}
 use Rattle.std.specs.Prelude.{filter}
 use Rattle.std.specs.List.{list_any}
@@ -13,8 +13,8 @@ use Rattle.cs_base.specs.content.Orders.{by_rank}
 use Rattle.cs_base.specs.declared.content.doc.Post.{Post}
 use Rattle.cs_base.specs.declared.content.doc.Scored.{Scored}
 use Rattle.cs_base.proofs.MembersLemmas.{members-alike}
-use Rattle.cs_tables.specs.Listings.{completion, of_word, table}
-use Rattle.cs_tables.specs.Marks.{counted_word, words_of}
+use Rattle.cs_tables.specs.Listings.{completion, with_word, post_table}
+use Rattle.cs_tables.specs.Marks.{counted_word, post_words}
 use Rattle.cs_tables.proofs.TablesLemmas.{table-is}
 
 pub any_filter : {X : Type 0} (t p : X → Bool) (xs : List X) → list_any t (filter p xs) ≡ list_any (λ x. p x && t x) xs
@@ -42,11 +42,11 @@ module _ (xs ys : List Post) (alike : (t : Post → Bool) → list_any t xs ≡ 
       members-alike nat_cmp nat_cmp_total nat_cmp-IsAntisymmetric (map f xs) (map f ys)
       (λ q. any_map (eq_by_cmp nat_cmp q) f xs ∙ alike (λ p. eq_by_cmp nat_cmp q (f p)) ∙ sym (any_map (eq_by_cmp nat_cmp q) f ys))
 
-counted_alike : (xs ys : List Post) → ((t : Post → Bool) → list_any t xs ≡ list_any t ys) → map (counted_word xs) (words_of xs) ≡ map (counted_word ys) (words_of ys)
+counted_alike : (xs ys : List Post) → ((t : Post → Bool) → list_any t xs ≡ list_any t ys) → map (counted_word xs) (post_words xs) ≡ map (counted_word ys) (post_words ys)
 counted_alike xs ys alike =
     map_same (counted_word xs) (counted_word ys)
-    (λ w. ap (λ ds. let s : Scored = record { doc = w; score = length ds } in s) (members_alike (of_word w xs) (of_word w ys) (filter_alike xs ys alike (λ p. p.word == w)) (λ p. p.doc))) (words_of xs)
+    (λ w. ap (λ ds. let s : Scored = record { doc = w; score = length ds } in s) (members_alike (with_word w xs) (with_word w ys) (filter_alike xs ys alike (λ p. p.word == w)) (λ p. p.doc))) (post_words xs)
     ∙ ap (map (counted_word ys)) (members_alike xs ys alike (λ p. p.word))
 
-pub table_alike : (xs ys : List Post) → ((t : Post → Bool) → list_any t xs ≡ list_any t ys) → table xs ≡ table ys
+pub table_alike : (xs ys : List Post) → ((t : Post → Bool) → list_any t xs ≡ list_any t ys) → post_table xs ≡ post_table ys
 table_alike xs ys alike = sym (table-is xs) ∙ ap (λ c. map completion (members_in by_rank c)) (counted_alike xs ys alike) ∙ table-is ys

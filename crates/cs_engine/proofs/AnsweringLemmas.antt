@@ -1,7 +1,7 @@
 -- Replies over an index.
 --
 --   few_docs, few_words, words_there, index_texts     numbers of posts and words of an index, as tables need them
---   first_in          the first words of a table are words of the index
+--   first_in          the first words of a post_table are words of the index
 --   shown_in          the hits that are shown have documents of the index
 --   hits_few          there are no more hits than documents
 --   words_as_shown, facet_told, title_told, reply_told     what is shown, over the bytes of the index
@@ -31,7 +31,7 @@ use Rattle.cs_model_kept.specs.Entries.{base_of, scored_hits}
 use Rattle.cs_model_kept.specs.Entries as kept
 use Rattle.cs_model_kept.proofs.EntryLemmas.{listed_base}
 use Rattle.cs_tables.specs.declared.tables.Completion.{Completion as Numbered}
-use Rattle.cs_tables.specs.Listings.{table}
+use Rattle.cs_tables.specs.Listings.{post_table}
 use Rattle.cs_engine.specs.Reading.{stock_of, AreWithin, IsWithin, HasRows}
 use Rattle.cs_engine.specs.Steps.{AreFound, IsBaseOf, IsHitOf}
 use Rattle.cs_model_index.specs.Numbered.{rows_at}
@@ -54,7 +54,7 @@ module _ (i : IndexView) (is : IsIndex i) where
   pub words_there : (posts : List Post) → AreWithin i posts → AllByRecursion (λ p. p.word < length i.words) posts
   words_there posts w = recursion_from_All (λ p. p.word < length i.words) posts (All-weaker (IsWithin i.docs (length i.words)) (λ p. p.word < length i.words) (λ p h. h.word) posts w.within)
 
-  pub first_in : (posts : List Post) → AreWithin i posts → (cut : ℕ) (first : List Numbered) → first ≡ take cut (table posts) → All (λ c. c.word < length i.words) first
+  pub first_in : (posts : List Post) → AreWithin i posts → (cut : ℕ) (first : List Numbered) → first ≡ take cut (post_table posts) → All (λ c. c.word < length i.words) first
   first_in posts w cut first are = first_there i.words is.ascending posts (words_there posts w) cut first are
 
   pub shown_in : (bound : ℕ) (b : Base) (n : ℕ) (all : List Scored) (o h : ℕ) → n ≡ i.docs → all ≡ base_hits n b → IsBaseOf i.docs bound b → (first : List Scored) → first ≡ take h (drop o (members_in by_rank all)) → All (λ h. h.doc < i.docs) first
@@ -90,11 +90,11 @@ module _ (b : List ℕ) (i : IndexView) (stands : StandsFor b i) (is : IsIndex i
   own_words : (posts : List Post) → AreWithin i posts → AllByRecursion (λ p. p.word < length s.words) posts
   own_words posts w = subst (λ ws. AllByRecursion (λ (p : Post). p.word < length ws) posts) (words_are b i stands is) (words_there i is posts w)
 
-  pub words_as_shown : (posts : List Post) → AreWithin i posts → (ws : List (List ℕ)) → ws ≡ i.words → (cut : ℕ) (first : List Numbered) → first ≡ take cut (table posts) → (shown : List Shown) → shown ≡ map (shown_at ws) first → shown ≡ map shown_of (take cut (table_of (rows_at s.words posts)))
+  pub words_as_shown : (posts : List Post) → AreWithin i posts → (ws : List (List ℕ)) → ws ≡ i.words → (cut : ℕ) (first : List Numbered) → first ≡ take cut (post_table posts) → (shown : List Shown) → shown ≡ map (shown_at ws) first → shown ≡ map shown_of (take cut (table_of (rows_at s.words posts)))
   words_as_shown posts w ws same cut first are shown shown_is =
       shown_is ∙ ap (λ x. map (shown_at x) first) (same ∙ words_are b i stands is) ∙ words_shown s (stocked b i stands is) posts cut first (own_words posts w) are
 
-  pub total_told : (posts : List Post) → AreWithin i posts → length (table posts) ≡ length (table_of (rows_at s.words posts))
+  pub total_told : (posts : List Post) → AreWithin i posts → length (post_table posts) ≡ length (table_of (rows_at s.words posts))
   total_told posts w = table_total s (stocked b i stands is) posts (own_words posts w)
 
   pub facet_told : (base : Base) (cut : ℕ) (name copied : List ℕ) (rows posts : List Post) (n : ℕ) (words : List Shown) → copied ≡ name → HasRows s (named_rows s name) rows → n ≡ i.docs → posts ≡ keep_docs rows (docs_in n base)
@@ -112,7 +112,7 @@ module _ (b : List ℕ) (i : IndexView) (stands : StandsFor b i) (is : IsIndex i
       → c ≡ map shown_of (take r.completions (table_of (rows_at s.words posts)))
       → f ≡ map (facet_at s hits r.completions) r.facets
       → h ≡ map (hit_shown (corpus_in s)) (take r.hits (drop r.offset (members_in by_rank all)))
-      → tc ≡ length (table posts)
+      → tc ≡ length (post_table posts)
       → th ≡ length all
       → (n : ℕ) → n ≡ i.docs → all ≡ base_hits n hits
       → ◌≡◌ {A = Reply} (record { completions = c; facets = f; hits = h; total_completions = tc; total_hits = th }) (reply_of (corpus_in s) r)

@@ -23,8 +23,9 @@ use Rattle.cs_model_index.specs.Numbered.{word_at, row_of, rows_at}
 use Rattle.cs_engine.specs.Stocked.{Stock, IsKnown, IsStocked, IsPicked, IsSpan, is_between}
 use Rattle.cs_base.proofs.MembersLemmas.{all_then}
 use Rattle.cs_base.proofs.NameMaps.{name_itself, name_sym}
+use Rattle.cs_base.proofs.ListsLemmas.{filter_through, filter_alike}
 use Rattle.cs_vocab.proofs.RangesLemmas.{three_ways}
-use Rattle.cs_engine.proofs.VocabLemmas.{apart, filter_through, filter_alike, less_word}
+use Rattle.cs_engine.proofs.VocabLemmas.{apart, less_word}
 
 early : (n m : ℕ) → m < n → (nat_le n m && nat_lt m (n + 1)) ≡ false
 early n m h = grind (arith, nat_tests)

@@ -26,8 +26,8 @@ use Rattle.cs_base.proofs.MembersLemmas.{members_are, members-alike}
 use Rattle.cs_base.proofs.OrdersLemmas.{Less-from_lt}
 use Rattle.cs_rank.specs.DocScores.{greatest, of_doc, best_row, scores, with_base}
 use Rattle.cs_meet.proofs.Passes.{next_is}
-use Rattle.cs_engine.specs.Loose.{best_of, HasBest, hits_in}
-use Rattle.cs_engine.specs.Packing.{post_of}
+use Rattle.cs_engine.specs.Loose.{best_of, HasBestScores, hits_in}
+use Rattle.cs_engine.specs.Packing.{post_of_key}
 use Rattle.cs_engine.proofs.AlikeLemmas.{any_filter}
 use Rattle.cs_engine.proofs.FoundLemmas.{greatest_small}
 use Rattle.cs_engine.proofs.KeysLemmas.{one_more}
@@ -62,7 +62,7 @@ other_number : (x y : ℕ) → (x == y) ≡ false → x ≡ y → ⊥
 other_number x y h e = grind (arith, nat_tests)
 
 -- one post is noted
-pub raised : (seen : List Post) (best : List ℕ) (p : Post) (v : ℕ) → p.doc < length best → v ≡ max (slice_index best p.doc) (p.score + 1) → HasBest seen best → HasBest (seen ++ p ∷ []) (slice_set best p.doc v)
+pub raised : (seen : List Post) (best : List ℕ) (p : Post) (v : ℕ) → p.doc < length best → v ≡ max (slice_index best p.doc) (p.score + 1) → HasBestScores seen best → HasBestScores (seen ++ p ∷ []) (slice_set best p.doc v)
 raised seen best p v l is has d m =
     let long = length-set best p.doc v in
     elim (p.doc == d) as (λ b. (p.doc == d) ≡ b → slice_index (slice_set best p.doc v) d ≡ best_of (seen ++ p ∷ []) d) [
@@ -77,17 +77,17 @@ raised seen best p v l is has d m =
     ] refl
 
 -- the step of the loop
-pub raised_more : (seen : List Post) (keys best : List ℕ) (i : ℕ) (row : Post) (v : ℕ) → i < length keys → row ≡ post_of (get_or keys i 0) → row.doc < length best → v ≡ max (slice_index best row.doc) (row.score + 1)
-    → HasBest (seen ++ map post_of (take i keys)) best → HasBest (seen ++ map post_of (take (i + 1) keys)) (slice_set best row.doc v)
+pub raised_more : (seen : List Post) (keys best : List ℕ) (i : ℕ) (row : Post) (v : ℕ) → i < length keys → row ≡ post_of_key (get_or keys i 0) → row.doc < length best → v ≡ max (slice_index best row.doc) (row.score + 1)
+    → HasBestScores (seen ++ map post_of_key (take i keys)) best → HasBestScores (seen ++ map post_of_key (take (i + 1) keys)) (slice_set best row.doc v)
 raised_more seen keys best i row v l at in_best is has =
-    let longer : (seen ++ map post_of (take i keys)) ++ row ∷ [] ≡ seen ++ map post_of (take (i + 1) keys) = append_assoc seen (map post_of (take i keys)) (row ∷ []) ∙ ap (λ r. seen ++ r) (sym (one_more keys i row l at)) in
-    subst (λ s. HasBest s (slice_set best row.doc v)) longer (raised (seen ++ map post_of (take i keys)) best row v in_best is has)
+    let longer : (seen ++ map post_of_key (take i keys)) ++ row ∷ [] ≡ seen ++ map post_of_key (take (i + 1) keys) = append_assoc seen (map post_of_key (take i keys)) (row ∷ []) ∙ ap (λ r. seen ++ r) (sym (one_more keys i row l at)) in
+    subst (λ s. HasBestScores s (slice_set best row.doc v)) longer (raised (seen ++ map post_of_key (take i keys)) best row v in_best is has)
 
-pub raised_all : (seen : List Post) (keys best : List ℕ) (i : ℕ) → length keys ≤ i → HasBest (seen ++ map post_of (take i keys)) best → HasBest (seen ++ map post_of keys) best
-raised_all seen keys best i l has = subst (λ ks. HasBest (seen ++ map post_of ks) best) (take_all i keys l) has
+pub raised_all : (seen : List Post) (keys best : List ℕ) (i : ℕ) → length keys ≤ i → HasBestScores (seen ++ map post_of_key (take i keys)) best → HasBestScores (seen ++ map post_of_key keys) best
+raised_all seen keys best i l has = subst (λ ks. HasBestScores (seen ++ map post_of_key ks) best) (take_all i keys l) has
 
 -- a number has little room for a score
-pub small_score : (k : ℕ) → (post_of k).score < 8
+pub small_score : (k : ℕ) → (post_of_key k).score < 8
 small_score k = omega arith
 
 -- ---- the hits of the table
@@ -247,7 +247,7 @@ docs_are seen n inside =
     ∙ sym (any_map (eq_by_cmp nat_cmp q) (λ (p : Post). p.doc) seen))
 
 -- the hits that are read off the table are the documents of the posts with their scores
-pub hits_are : (seen : List Post) (best : List ℕ) → HasBest seen best → All (λ p. p.doc < length best) seen → hits_in 0 best ≡ map (best_row seen) (docs_of seen)
+pub hits_are : (seen : List Post) (best : List ℕ) → HasBestScores seen best → All (λ p. p.doc < length best) seen → hits_in 0 best ≡ map (best_row seen) (docs_of seen)
 hits_are seen best has inside =
     read_off seen 0 best (λ i l. let e : i ≡ 0 + i = omega arith in has i l ∙ ap (best_of seen) e) ∙ ap (map (best_row seen)) (docs_are seen (length best) inside)
 
@@ -256,10 +256,10 @@ map_same f g h [] = refl
 map_same f g h (w ∷ ws) = ap (λ x. x ∷ map f ws) (h w) ∙ ap (λ l. g w ∷ l) (map_same f g h ws)
 
 -- each is small
-pub best_small : (keys : List ℕ) → All (λ h. h.score ≤ 255) (map (best_row (map post_of keys)) (docs_of (map post_of keys)))
+pub best_small : (keys : List ℕ) → All (λ h. h.score ≤ 255) (map (best_row (map post_of_key keys)) (docs_of (map post_of_key keys)))
 best_small keys =
-    let rows = map post_of keys in
-    All-map (λ h. h.score ≤ 255) (best_row rows) (docs_of rows) (λ k d l. greatest_small (of_doc (get_or (docs_of rows) k d) rows) (recursion_from_All (λ p. p.score ≤ 255) (of_doc (get_or (docs_of rows) k d) rows) (All-filter (λ p. p.doc == get_or (docs_of rows) k d) (λ p. p.score ≤ 255) rows (All-map (λ p. p.score ≤ 255) post_of keys (λ j e m. let s = small_score (get_or keys j e) in omega (arith, s))))))
+    let rows = map post_of_key keys in
+    All-map (λ h. h.score ≤ 255) (best_row rows) (docs_of rows) (λ k d l. greatest_small (of_doc (get_or (docs_of rows) k d) rows) (recursion_from_All (λ p. p.score ≤ 255) (of_doc (get_or (docs_of rows) k d) rows) (All-filter (λ p. p.doc == get_or (docs_of rows) k d) (λ p. p.score ≤ 255) rows (All-map (λ p. p.score ≤ 255) post_of_key keys (λ j e m. let s = small_score (get_or keys j e) in omega (arith, s))))))
 
 -- ---- rows with the same members
 score_over : (rows : List Post) (d k : ℕ) → nat_lt k (greatest (map (λ p. p.score) (of_doc d rows))) ≡ list_any (λ p. (p.doc == d) && nat_lt k p.score) rows

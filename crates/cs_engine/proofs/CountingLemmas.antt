@@ -5,9 +5,9 @@
 --   block_counted        one block more is counted
 --   countable            the rows that are counted are countable
 --   counted_alike, counted_long     they have the members of those asked for, and are as many
---   table_told           their table
+--   table_told           their post_table
 --   listed_kept, all_listed     the rows in listed documents
---   facet_counted        the table of a facet
+--   facet_counted        the post_table of a facet
 --   facet_met            the blocks that hold a facet's words
 use Rattle.std.proofs.Common.{◌≡◌, ◌≢◌, ℕ, zero, suc, ◌+◌, ◌-◌, ◌<◌, ◌≤◌, ◌==◌, ◌&&◌, ◌||◌, Bool, true, false, cond, List, [], ◌∷◌, ◌++◌, length, get_or, take, drop, map, replicate, refl, sym, ap, ap₂, subst, ◌∙◌, arith, append-nil, length-take, length-drop, get_or-drop, get_or-take}
 use Rattle.std.specs.Prelude.{All, filter, flat_map, nat_lt}
@@ -28,6 +28,7 @@ use Rattle.cs_base.specs.declared.content.doc.Scored.{Scored}
 use Rattle.cs_base.specs.declared.content.limits.TheConstants.{MAX_DOCS}
 use Rattle.cs_base.specs.declared.index.block.BlockHead.{BlockHead}
 use Rattle.cs_base.proofs.MembersLemmas.{all_then}
+use Rattle.cs_base.proofs.ListsLemmas.{filter_twice, filter_alike}
 use Rattle.cs_file.specs.Indexes.{IndexView, IsIndex, StandsFor, AreMet, block_posts, is_met}
 use Rattle.cs_file.proofs.HeadsLemmas.{heads_rise}
 use Rattle.cs_file.proofs.PostsLemmas.{block_words, posts_between}
@@ -40,7 +41,7 @@ use Rattle.cs_model_index.specs.Images.{image_posts}
 use Rattle.cs_model_index.specs.Sections.{image_of}
 use Rattle.cs_model_kept.specs.Due.{met_prefix}
 use Rattle.cs_tables.specs.declared.tables.Completion.{Completion as Numbered}
-use Rattle.cs_tables.specs.Listings.{of_word, table}
+use Rattle.cs_tables.specs.Listings.{with_word, post_table}
 use Rattle.cs_tables.specs.WordCounts.{AreCountable, HasCounted, WordCountsView, chosen, is_chosen}
 use Rattle.cs_engine.specs.Asking.{division}
 use Rattle.cs_engine.specs.Counting.{AreListed, counted_rows, in_listed}
@@ -50,11 +51,9 @@ use Rattle.cs_engine.proofs.AnsweringLemmas.{facet_told, words_as_shown}
 use Rattle.cs_engine.proofs.AlikeLemmas.{any_filter, table_alike}
 use Rattle.cs_engine.proofs.DistinctLemmas.{Apart, apart_append, apart_none, apart_sorted, long_alike}
 use Rattle.cs_engine.proofs.FoundLemmas.{all_kept, every_more}
-use Rattle.cs_engine.proofs.ListsLemmas.{filter_twice}
 use Rattle.cs_engine.proofs.ReadingLemmas.{kept_within}
 use Rattle.cs_engine.proofs.StockLemmas.{by_post_total, by_post_exact, docs_are, stocked, within_block, words_are}
 use Rattle.cs_engine.proofs.TableLemmas.{any_listed}
-use Rattle.cs_engine.proofs.VocabLemmas.{filter_alike}
 use Rattle.cs_engine.proofs.WordsLemmas.{prefix_met, span_found}
 use Rattle.cs_vocab.specs.Ranges.{IsRange}
 
@@ -110,10 +109,10 @@ sorted_nil : AreSorted []
 unfolding IsStrictlySortedBy
 sorted_nil = tt
 
-no_word : (w : ℕ) (xs : List Post) → All (λ p. p.word == w ≡ false) xs → of_word w xs ≡ []
+no_word : (w : ℕ) (xs : List Post) → All (λ p. p.word == w ≡ false) xs → with_word w xs ≡ []
 no_word w [] h = refl
 no_word w (x ∷ xs) h =
-    ap (λ b. cond b (x ∷ of_word w xs) (of_word w xs)) (All-head (λ p. p.word == w ≡ false) x xs h) ∙ no_word w xs (All-tail (λ p. p.word == w ≡ false) x xs h)
+    ap (λ b. cond b (x ∷ with_word w xs) (with_word w xs)) (All-head (λ p. p.word == w ≡ false) x xs h) ∙ no_word w xs (All-tail (λ p. p.word == w ≡ false) x xs h)
 
 flat_all : (P : Post → Type 0) (t : Post → Bool) (bs : List (List Post)) → ((k : ℕ) → k < length bs → All P (get_or bs k [])) → All P (flat_map (filter t) bs)
 flat_all P t [] h = All-nil P
@@ -138,26 +137,26 @@ apart_from w n lt p le = (let up : w < p.word = omega (arith, lt, le) in grind (
 apart_to : (w n : ℕ) → n ≤ w → (p : Post) → p.word < n → p.word == w ≡ false
 apart_to w n le p lt = (let up : p.word < w = omega (arith, lt, le) in grind (arith, nat_tests))
 
-words_in_order : (t : Post → Bool) (bs : List (List Post)) (from to : ℕ → ℕ) → AreParted bs from to → (w : ℕ) → AreSorted (of_word w (flat_map (filter t) bs))
+words_in_order : (t : Post → Bool) (bs : List (List Post)) (from to : ℕ → ℕ) → AreParted bs from to → (w : ℕ) → AreSorted (with_word w (flat_map (filter t) bs))
 words_in_order t [] from to p w = sorted_nil
 words_in_order t (b ∷ bs) from to p w =
     let here = filter t b in
     let rest = flat_map (filter t) bs in
-    let both : of_word w (here ++ rest) ≡ of_word w here ++ of_word w rest = filter-append (λ p. p.word == w) here rest in
-    elim (nat_lt w (to 0)) as (λ c. nat_lt w (to 0) ≡ c → AreSorted (of_word w (here ++ rest))) [
+    let both : with_word w (here ++ rest) ≡ with_word w here ++ with_word w rest = filter-append (λ p. p.word == w) here rest in
+    elim (nat_lt w (to 0)) as (λ c. nat_lt w (to 0) ≡ c → AreSorted (with_word w (here ++ rest))) [
       | true ↦ λ e.
           let lt = ltb-true w (to 0) e in
           let high : All (λ p. to 0 ≤ p.word) rest = flat_all (λ p. to 0 ≤ p.word) t bs (λ k l.
           let up = p.later 0 (suc k) (omega arith) (omega (arith, l)) in
           All-weaker (λ p. (from (suc k) ≤ p.word) × (p.word < to (suc k))) (λ p. to 0 ≤ p.word) (λ x h. omega (arith, h.0, up)) (get_or bs k []) (p.words (suc k) (omega (arith, l)))) in
-          let none : of_word w rest ≡ [] = no_word w rest (All-weaker (λ p. to 0 ≤ p.word) (λ p. p.word == w ≡ false) (λ x h. apart_from w (to 0) lt x h) rest high) in
-          subst AreSorted (sym (both ∙ ap (λ l. of_word w here ++ l) none ∙ append-nil (of_word w here)))
+          let none : with_word w rest ≡ [] = no_word w rest (All-weaker (λ p. to 0 ≤ p.word) (λ p. p.word == w ≡ false) (λ x h. apart_from w (to 0) lt x h) rest high) in
+          subst AreSorted (sym (both ∙ ap (λ l. with_word w here ++ l) none ∙ append-nil (with_word w here)))
           (IsStrictlySortedBy-filter by_place (λ p. p.word == w) here (IsStrictlySortedBy-filter by_place t b (p.sorted 0 (omega arith))))
       | false ↦ λ e.
           let le = ltb-false w (to 0) e in
           let low : All (λ p. p.word < to 0) here = All-filter t (λ p. p.word < to 0) b (All-weaker (λ p. (from 0 ≤ p.word) × (p.word < to 0)) (λ p. p.word < to 0) (λ x h. h.1) b (p.words 0 (omega arith))) in
-          let none : of_word w here ≡ [] = no_word w here (All-weaker (λ p. p.word < to 0) (λ p. p.word == w ≡ false) (λ x h. apart_to w (to 0) le x h) here low) in
-          subst AreSorted (sym (both ∙ ap (λ l. l ++ of_word w rest) none)) (words_in_order t bs (λ k. from (suc k)) (λ k. to (suc k)) (parted_rest b bs from to p) w)
+          let none : with_word w here ≡ [] = no_word w here (All-weaker (λ p. p.word < to 0) (λ p. p.word == w ≡ false) (λ x h. apart_to w (to 0) le x h) here low) in
+          subst AreSorted (sym (both ∙ ap (λ l. l ++ with_word w rest) none)) (words_in_order t bs (λ k. from (suc k)) (λ k. to (suc k)) (parted_rest b bs from to p) w)
     ] refl
 
 blocks_apart : (t : Post → Bool) (bs : List (List Post)) (from to : ℕ → ℕ) → AreParted bs from to → Apart (flat_map (filter t) bs)
@@ -245,7 +244,7 @@ module _ (b : List ℕ) (i : IndexView) (stands : StandsFor b i) (is : IsIndex i
       (IsStrictlySortedBy-filter by_place (in_listed listed) (filter (is_between lo hi) (stock_of b).posts) (IsStrictlySortedBy-filter by_place (is_between lo hi) (stock_of b).posts up))
       (counted_alike first last lo hi listed met)
 
-  pub table_told : (first last lo hi : ℕ) (listed : List Bool) → AreMet i.heads lo hi first last → table (counted_rows blocks first last lo hi listed) ≡ table (filter (in_listed listed) (filter (is_between lo hi) (stock_of b).posts))
+  pub table_told : (first last lo hi : ℕ) (listed : List Bool) → AreMet i.heads lo hi first last → post_table (counted_rows blocks first last lo hi listed) ≡ post_table (filter (in_listed listed) (filter (is_between lo hi) (stock_of b).posts))
   table_told first last lo hi listed met = table_alike (counted_rows blocks first last lo hi listed) (filter (in_listed listed) (filter (is_between lo hi) (stock_of b).posts)) (counted_alike first last lo hi listed met)
 
   -- the posts that are read of an index file are in its range
@@ -275,9 +274,9 @@ module _ (b : List ℕ) (i : IndexView) (stands : StandsFor b i) (is : IsIndex i
   abbrev facet_posts : ℕ → ℕ → List Bool → List Post
   facet_posts lo hi listed = filter (in_listed listed) (filter (is_between lo hi) (stock_of b).posts)
 
-  -- what is shown of them is the facet's table
+  -- what is shown of them is the facet's post_table
   pub facet_counted : (base : Base) (cut : ℕ) (name copied prefix : List ℕ) (lo hi : ℕ) (listed : List Bool) (ws : List (List ℕ)) (first : List Numbered) (shown : List Shown) → copied ≡ name → prefix ≡ named name [] → IsRange i.words prefix lo hi → AreListed i.docs base listed
-      → ws ≡ i.words → first ≡ take cut (table (facet_posts lo hi listed)) → shown ≡ map (shown_at ws) first → ◌≡◌ {A = FacetShown} (record { name = copied; table = shown }) (facet_at (stock_of b) base cut name)
+      → ws ≡ i.words → first ≡ take cut (post_table (facet_posts lo hi listed)) → shown ≡ map (shown_at ws) first → ◌≡◌ {A = FacetShown} (record { name = copied; table = shown }) (facet_at (stock_of b) base cut name)
   facet_counted base cut name copied prefix lo hi listed ws first shown same prefix_is range has words first_is shown_is =
       let asked = filter (is_between lo hi) (stock_of b).posts in
       let within = kept_within i (is_between lo hi) (stock_of b).posts stock_within in

@@ -14,7 +14,7 @@ use Rattle.std.specs.Prelude.{sum, fold}
 use Rattle.cs_base.specs.declared.content.query.Link.{Link}
 use Rattle.cs_base.specs.declared.content.query.Link.TheVariants.{Phrase, Near}
 use Rattle.cs_file.specs.Indexes.{IndexView}
-use Rattle.cs_join.specs.Shared.{is_shared, shared}
+use Rattle.cs_join.specs.Shared.{shares_word, shared}
 use Rattle.cs_join.proofs.JoinLemmas.{joins_are_shared}
 use Rattle.std.proofs.lemmas.List.{append-nil, append_assoc, take_all, drop_all, take_more, map-append}
 use Rattle.std.specs.List.{list_any}
@@ -182,7 +182,7 @@ joined_rows s stocked a name inner is posts now docs has are now_is = record {
   is = ap (rows_at s.words) (now_is ∙ ap (shared posts) are)
       ∙ joins_are_shared (corpus_in s) name (parts_of (corpus_in s) inner) s.words posts stocked.words (All-weaker (IsKnown s) (λ p. p.word < length s.words) (λ p h. h.word) posts (All-from_recursion (IsKnown s) posts (picked_known s posts stocked has.picked.among))) has.is
       ∙ sym (is_join (corpus_in s) name inner) ∙ ap (rows_of_atom (corpus_in s)) (sym is);
-  picked = picked_again s (is_shared docs posts) posts now has.picked now_is;
+  picked = picked_again s (shares_word docs posts) posts now has.picked now_is;
 }
 
 pub entry_unrolled : (k : Corpus) (q : Query) → entry_of k q ≡ entry k (parts_of k q)

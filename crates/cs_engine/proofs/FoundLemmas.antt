@@ -65,7 +65,7 @@ stays p (r ∷ rows) h = ap (λ b. cond b (r ∷ filter p rows) (filter p rows))
 pub all_kept : (n : ℕ) (rows : List Post) → All (λ p. p.doc < n) rows → rows ≡ keep_docs rows (docs_in n base.All)
 all_kept n rows known =
     sym (ap (keep_docs rows) (own_docs with_no_score (λ d. refl) (range_with_len 0 n))
-    ∙ stays (λ r. list_any (meet.in_doc r) (range_with_len 0 n)) rows (all_then (λ p. p.doc < n) (λ r. list_any (meet.in_doc r) (range_with_len 0 n) ≡ true) (λ r l. in_range 0 n r.doc (omega arith) (omega (arith, l))) rows (recursion_from_All (λ p. p.doc < n) rows known)))
+    ∙ stays (λ r. list_any (meet.is_of_doc r) (range_with_len 0 n)) rows (all_then (λ p. p.doc < n) (λ r. list_any (meet.is_of_doc r) (range_with_len 0 n) ≡ true) (λ r l. in_range 0 n r.doc (omega arith) (omega (arith, l))) rows (recursion_from_All (λ p. p.doc < n) rows known)))
 
 -- ---- scores stay small
 

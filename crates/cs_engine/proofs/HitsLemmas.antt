@@ -22,6 +22,7 @@ use Rattle.cs_base.specs.declared.content.doc.Base.{Base}
 use Rattle.cs_base.specs.declared.content.doc.Post.{Post}
 use Rattle.cs_base.specs.declared.content.doc.Scored.{Scored}
 use Rattle.cs_base.proofs.MembersLemmas.{all_then, members_are}
+use Rattle.cs_base.proofs.ListsLemmas.{all_of, filter_twice, and_true, same_number, itself, number_tie, any_tie, filter_through, filter_alike, any_through}
 use Rattle.cs_meet.specs.Filters.{keep_docs, drop_docs, is_of}
 use Rattle.cs_meet.specs.Filters as meet
 use Rattle.cs_model.specs.Answers.{PartRows, in_doc, is_listed, agrees, hits, pairs, last_rows, greatest_score, scored}
@@ -30,8 +31,7 @@ use Rattle.cs_rank.specs.DocScores.{greatest}
 use Rattle.cs_model_index.specs.Numbered.{row_of, rows_at}
 use Rattle.cs_model_kept.specs.Entries.{scored_hits}
 use Rattle.cs_engine.specs.Stocked.{Stock, corpus_in, base_hits, docs_in}
-use Rattle.cs_engine.proofs.VocabLemmas.{filter_through, filter_alike, any_through}
-use Rattle.cs_engine.proofs.ListsLemmas.{all_of, filter_twice, and_true, same_number, itself, number_tie, any_tie, keys_numbered, range_rises}
+use Rattle.cs_engine.proofs.ListsLemmas.{keys_numbered, range_rises}
 
 -- ---- one more part
 
@@ -73,12 +73,12 @@ module _ (ws : List (List ℕ)) (posts : List Post) where
       let kept = keep_docs posts ds in
       sym (members_are nat_cmp nat_cmp_total nat_cmp-IsAntisymmetric (filter t ds) (map (λ p. p.doc) kept) (IsStrictlySortedBy-filter nat_cmp t ds up) (λ q.
       let is_q : (k : ℕ) → eq_by_cmp nat_cmp q k ≡ true → t k ≡ t q = λ k e. ap t (same_number k q (sym (number_tie q k) ∙ e)) in
-      let in_q : (p : Post) → eq_by_cmp nat_cmp q p.doc ≡ true → list_any (meet.in_doc p) ds ≡ list_any (λ e. e == q) ds = λ p e. ap (λ x. list_any (λ y. y == x) ds) (same_number p.doc q (sym (number_tie q p.doc) ∙ e)) in
+      let in_q : (p : Post) → eq_by_cmp nat_cmp q p.doc ≡ true → list_any (meet.is_of_doc p) ds ≡ list_any (λ e. e == q) ds = λ p e. ap (λ x. list_any (λ y. y == x) ds) (same_number p.doc q (sym (number_tie q p.doc) ∙ e)) in
       any-filter_same (eq_by_cmp nat_cmp q) t (t q) is_q ds
       ∙ ap (λ b. t q && b) (any_tie q ds)
       ∙ and_comm (t q) (list_any (λ e. e == q) ds)
       ∙ ap (λ b. list_any (λ e. e == q) ds && b) (has_post q ∙ any_same q posts)
-      ∙ sym (any-filter_same (λ p. eq_by_cmp nat_cmp q p.doc) (λ p. list_any (meet.in_doc p) ds) (list_any (λ e. e == q) ds) in_q posts)
+      ∙ sym (any-filter_same (λ p. eq_by_cmp nat_cmp q p.doc) (λ p. list_any (meet.is_of_doc p) ds) (list_any (λ e. e == q) ds) in_q posts)
       ∙ sym (any_through (λ p. p.doc) (eq_by_cmp nat_cmp q) kept)))
     where
       any_same : (q : ℕ) (ps : List Post) → list_any (λ p. p.doc == q) ps ≡ list_any (λ p. eq_by_cmp nat_cmp q p.doc) ps
@@ -115,12 +115,12 @@ module _ (s : Stock) (done : List PartRows) (p : PartRows) (posts : List Post) (
   kept_pairs e =
       let t : ℕ → Bool = λ d. list_any (in_doc d) (rows_at s.words posts) in
       let now = hits k (done ++ p ∷ []) in
-      let each : AllByRecursion (λ r. list_any (meet.in_doc r) ds ≡ is_listed now r.doc) posts =
-      all_then (λ r. t r.doc ≡ true) (λ r. list_any (meet.in_doc r) ds ≡ is_listed now r.doc) (λ r own.
+      let each : AllByRecursion (λ r. list_any (meet.is_of_doc r) ds ≡ is_listed now r.doc) posts =
+      all_then (λ r. t r.doc ≡ true) (λ r. list_any (meet.is_of_doc r) ds ≡ is_listed now r.doc) (λ r own.
       sym (ap (λ hs. list_any (λ e. e == r.doc) hs) (hits_positive e)
       ∙ any-filter_same (λ e. e == r.doc) t (t r.doc) (λ x same. ap t (same_number x r.doc same)) ds
       ∙ ap (λ b. b && list_any (λ e. e == r.doc) ds) own)) posts (recursion_from_All (λ r. t r.doc ≡ true) posts (own_doc s.words posts)) in
-      ap (rows_at s.words) (filter_alike (λ r. list_any (meet.in_doc r) ds) (λ r. is_listed now r.doc) posts each)
+      ap (rows_at s.words) (filter_alike (λ r. list_any (meet.is_of_doc r) ds) (λ r. is_listed now r.doc) posts each)
       ∙ filter_through (row_of s.words) (λ r. is_listed now r.doc) posts
       ∙ ap (filter (λ r. is_listed now r.doc)) (is ∙ sym (last_more done p ∙ ap (λ b. if b then [] else p.rows) e))
 

@@ -28,6 +28,7 @@ use Rattle.cs_base.specs.declared.index.plan.Kept.{Kept}
 use Rattle.cs_base.specs.declared.index.plan.Kept.TheVariants as kept
 use Rattle.cs_base.specs.declared.index.plan.Plan.{Plan}
 use Rattle.cs_base.specs.declared.index.plan.Plan.TheVariants.{Same, Narrow, Extend, Fresh}
+use Rattle.cs_base.proofs.ListsLemmas.{filter_through}
 use Rattle.cs_cache.specs.AnswerList.{AnswerList}
 use Rattle.cs_file.specs.Indexes.{IndexView, IsIndex, StandsFor}
 use Rattle.cs_model.specs.Answers.{begins}
@@ -41,7 +42,7 @@ use Rattle.cs_model_index.specs.Numbered.{rows_at, row_of, word_at}
 use Rattle.cs_model_index.specs.Sections.{file_corpus}
 use Rattle.cs_model_kept.specs.declared.limits.TheConstants.{MAX_ENTRY_SIZE}
 use Rattle.cs_model_kept.specs.Entries.{Entry, EntryOf, entry_at, entry_of, entry_size}
-use Rattle.cs_model_kept.specs.KeptList.{GoodFor, KeptOf, KeptList, after, found, kept_at, kept_by, kept_fresh, plan, plan_by, put_in_front, to_front, used_entry, used_key}
+use Rattle.cs_model_kept.specs.KeptList.{GoodFor, KeptOf, KeptList, after, found, kept_at, kept_by, kept_fresh, plan, plan_by, put_in_front, to_front, used_entry, used_key, is_same}
 use Rattle.cs_model_kept.specs.KeptListLaws.{Finds, Serves, before_last}
 use Rattle.cs_model_kept.proofs.FirstParts.{first_parts_stay}
 use Rattle.cs_model_kept.proofs.HeldLemmas.{numbers_front_alike, numbers_keep_alike, numbers_plan_alike, numbers_put_alike, numbers_use_alike}
@@ -50,13 +51,12 @@ use Rattle.cs_model_kept.proofs.NarrowLemmas.{entries_narrow}
 use Rattle.cs_model_kept.proofs.PlanLemmas.{plans_serve}
 use Rattle.cs_model_kept.proofs.ShorterQueries.{shorter_stays}
 use Rattle.cs_model_kept.proofs.TypedLemmas.{none_some}
-use Rattle.cs_engine.specs.Keeping.{FitsQuery, HoldsGood, IsEntryOver, IsKeptBehind, IsKeptEntry, KeepsFitting, became, behind, entry_with, fronted, is_same, note_plan}
+use Rattle.cs_engine.specs.Keeping.{FitsQuery, HoldsGood, IsEntryOver, IsKeptBehind, IsKeptEntry, KeepsFitting, became, behind, entry_with, fronted, note_plan}
 use Rattle.cs_engine.specs.Reading.{stock_of}
 use Rattle.cs_engine.specs.Steps.{EntryFits, end_positive, is_in_base, last_is_positive}
 use Rattle.cs_engine.specs.Stocked.{corpus_in}
 use Rattle.cs_engine.proofs.ReadingLemmas.{kept_within}
 use Rattle.cs_engine.proofs.StockLemmas.{stock_corpus, words_are}
-use Rattle.cs_engine.proofs.VocabLemmas.{filter_through}
 
 -- ---- what is found
 unsome : {X : Type 0} (a b : X) → Some a ≡ Some b → a ≡ b

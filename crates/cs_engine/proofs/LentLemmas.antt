@@ -26,7 +26,7 @@ use Rattle.cs_model_kept.specs.Due.{Division, due, met_by, met_of_facets}
 use Rattle.cs_model_kept.specs.Entries.{EntryOf}
 use Rattle.cs_model_kept.specs.KeptList.{KeptOf, plan_by, used_entry}
 use Rattle.cs_model_kept.specs.KeptListLaws.{before_last}
-use Rattle.cs_engine.specs.Asking.{titles_of}
+use Rattle.cs_engine.specs.Asking.{titles_asked}
 use Rattle.cs_engine.specs.Keeping.{FitsQuery, HoldsGood, IsEntryOver, KeepsFitting, entry_with}
 use Rattle.cs_engine.specs.Reading.{AreWithin}
 use Rattle.cs_engine.specs.declared.fault.AskFault.{AskFault}
@@ -116,6 +116,6 @@ all_reads v r by_plan own titles before now same a =
 pub no_reads : (n now : ℕ) → ReadsWithin n now now
 no_reads n now = record { later = omega arith; within = omega arith }
 
-pub err_due : {T : Type 0} (q : Request) (r : Result (Reply × T) AskFault) → IsErr r → titles_of q r ≡ q.hits
+pub err_due : {T : Type 0} (q : Request) (r : Result (Reply × T) AskFault) → IsErr r → titles_asked q r ≡ q.hits
 err_due q (Ok r) h = absurd cc
 err_due q (Err e) h = refl

@@ -1,9 +1,5 @@
--- Lists: filters, maps, members and numbers.
+-- Numbered lists and ranges of numbers.
 --
---   all_of               what holds of each value holds of all of a list
---   map_alike            functions that agree on a list map it alike
---   filter_twice         two filters are one
---   and_true             a test and one that passes
 --   keys_numbered        the keys of a numbered list are its numbers
 --   get_numbered         what is held at a number
 --   range_rises          numbers in turn ascend
@@ -19,39 +15,6 @@ use Rattle.std.specs.FinMap.Entries.{below_all}
 use Rattle.std.proofs.lemmas.Bool.Decides.{nat_tests}
 use Rattle.std.proofs.lemmas.List.FromFn.{length-range_with_len, get_or-range_with_len}
 use Rattle.cs_base.proofs.OrdersLemmas.{Less-from_lt}
-
-pub all_of : {X : Type 0} (P : X → Type 0) → ((x : X) → P x) → (xs : List X) → AllByRecursion P xs
-all_of P h [] = tt
-all_of P h (x ∷ xs) = (h x, all_of P h xs)
-
-pub map_alike : {X Y : Type 0} (f g : X → Y) (xs : List X) → AllByRecursion (λ x. f x ≡ g x) xs → map f xs ≡ map g xs
-map_alike f g [] h = refl
-map_alike f g (x ∷ xs) h = ap (λ y. y ∷ map f xs) h.0 ∙ ap (λ ys. g x ∷ ys) (map_alike f g xs h.1)
-
-pub filter_twice : {X : Type 0} (p q : X → Bool) (xs : List X) → filter (λ x. p x && q x) xs ≡ filter q (filter p xs)
-filter_twice p q [] = refl
-filter_twice p q (x ∷ xs) =
-    elim (p x) as (λ b. cond (b && q x) (x ∷ filter (λ x. p x && q x) xs) (filter (λ x. p x && q x) xs) ≡ filter q (cond b (x ∷ filter p xs) (filter p xs))) [
-      | true ↦ ap (λ l. cond (q x) (x ∷ l) l) (filter_twice p q xs)
-      | false ↦ filter_twice p q xs
-    ]
-
-pub and_true : (b : Bool) → (b && true) ≡ b
-and_true true = refl
-and_true false = refl
-
-pub same_number : (x y : ℕ) → (x == y) ≡ true → x ≡ y
-same_number x y h = grind (arith, nat_tests)
-
-pub itself : (x : ℕ) → (x == x) ≡ true
-itself x = grind (arith, nat_tests)
-
-pub number_tie : (q x : ℕ) → eq_by_cmp nat_cmp q x ≡ (x == q)
-number_tie q x = grind (arith, nat_tests)
-
-pub any_tie : (q : ℕ) (ds : List ℕ) → list_any (eq_by_cmp nat_cmp q) ds ≡ list_any (λ e. e == q) ds
-any_tie q [] = refl
-any_tie q (d ∷ ds) = ap (λ b. b || list_any (eq_by_cmp nat_cmp q) ds) (number_tie q d) ∙ ap (λ b. (d == q) || b) (any_tie q ds)
 
 -- ---- numbered lists
 

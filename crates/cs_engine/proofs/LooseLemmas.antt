@@ -2,7 +2,7 @@
 --
 --   chosen_entry, entry_fits     the entry of the rows in order
 --   is_large                     where it is larger than may be kept
---   loose_table                  the table of rows in any order is that of the query
+--   loose_table                  the post_table of rows in any order is that of the query
 use Rattle.std.proofs.Common.{◌≡◌, ℕ, ◌+◌, ◌-◌, ◌<◌, Bool, true, List, length, take, refl, sym, ap, subst, ◌∙◌, arith, if◌then◌else◌}
 use Rattle.std.specs.Prelude.{All, filter, nat_lt}
 use Rattle.std.proofs.lemmas.Bool.Decides.{nat_tests}
@@ -18,7 +18,7 @@ use Rattle.cs_model_kept.specs.Entries.{entry_of, listed_count}
 use Rattle.cs_model_kept.specs.KeptList.{kept_fresh}
 use Rattle.cs_model_kept.specs.declared.limits.TheConstants.{MAX_ENTRY_SIZE}
 use Rattle.cs_rank.specs.DocScores.{scores}
-use Rattle.cs_tables.specs.Listings.{table}
+use Rattle.cs_tables.specs.Listings.{post_table}
 use Rattle.cs_tables.specs.declared.tables.Table.{Table}
 use Rattle.cs_engine.specs.Counting.{AreListed, in_listed}
 use Rattle.cs_engine.specs.Keeping.{FitsQuery, IsEntryOver, entry_with}
@@ -58,7 +58,7 @@ module _ (i : IndexView) (q : Query) (hits : Base) (lo hi : ℕ) (asks : AreLast
           sym (fresh_is b i q (entry_with hits chosen) (chosen_entry chosen refl))
           ∙ ap (λ x. if x then kept.TooLarge else kept.Kept) (large_true MAX_ENTRY_SIZE (length chosen + listed_count hits) (subst (λ n. MAX_ENTRY_SIZE < n + listed_count hits) a.long lt))
 
-      pub loose_table : (cut : ℕ) (found : List Scored) (t : Table) → found ≡ scores hits rows → t.first ≡ take cut (table rows) → t.total ≡ length (table rows) → IsTableFor i b q cut (base.Listed found) t
+      pub loose_table : (cut : ℕ) (found : List Scored) (t : Table) → found ≡ scores hits rows → t.first ≡ take cut (post_table rows) → t.total ≡ length (post_table rows) → IsTableFor i b q cut (base.Listed found) t
       loose_table cut found t are first total = record {
         posts = chosen;
         found = found_by_entry i q (entry_with hits chosen) true (sym asks.positive) (base.Listed found) (ap base.Listed (are ∙ alike_scores hits rows chosen a.alike)) b stands is (chosen_entry chosen refl);

@@ -34,7 +34,7 @@ use Rattle.cs_model.specs.Scores.{SCORES}
 use Rattle.cs_tables.specs.WordCounts.{AreCountable, is_chosen}
 use Rattle.cs_model_index.specs.BlockRules.{in_kind, is_scored}
 use Rattle.cs_model_index.specs.Sections.{image_of}
-use Rattle.cs_engine.specs.Packing.{HasKeys, IsOrdered, IsPacked, apart, key_of, place_of, post_of}
+use Rattle.cs_engine.specs.Packing.{HasKeys, IsOrdered, IsPacked, apart, key_of, place_of_key, post_of_key}
 use Rattle.cs_engine.specs.Counting.{in_listed}
 use Rattle.cs_engine.specs.Loose.{AreAlike, AreGathered}
 use Rattle.cs_engine.specs.Reading.{AreWithin, IsWithin, WhereStood, run_of, stock_of}
@@ -64,29 +64,29 @@ spot_front m r lt = omega (arith, lt)
 spot_back : (m r : ℕ) → r < 131072 → (m * 131072 + r) % 131072 ≡ r
 spot_back m r lt = omega (arith, lt)
 
-pub unkeyed : (p : Post) → IsPacked p → post_of (key_of p) ≡ p
+pub unkeyed : (p : Post) → IsPacked p → post_of_key (key_of p) ≡ p
 unkeyed p h =
     let spot = p.doc * 131072 + p.pos in
     let place = spot * 4194304 + p.word in
-    let at : place_of (key_of p) ≡ place = front place p.score h.score in
-    let spots : place_of (key_of p) / 4194304 ≡ spot = ap (λ n. n / 4194304) at ∙ word_front spot p.word h.word in
-    let doc : (post_of (key_of p)).doc ≡ p.doc = ap (λ n. n / 131072) spots ∙ spot_front p.doc p.pos h.pos in
-    let pos : (post_of (key_of p)).pos ≡ p.pos = ap (λ n. n % 131072) spots ∙ spot_back p.doc p.pos h.pos in
-    let word : (post_of (key_of p)).word ≡ p.word = ap (λ n. n % 4194304) at ∙ word_back spot p.word h.word in
-    let score : (post_of (key_of p)).score ≡ p.score = back place p.score h.score in
-    ap (λ d. let q : Post = record { doc = d; word = (post_of (key_of p)).word; pos = (post_of (key_of p)).pos; score = (post_of (key_of p)).score } in q) doc
-    ∙ ap (λ w. let q : Post = record { doc = p.doc; word = w; pos = (post_of (key_of p)).pos; score = (post_of (key_of p)).score } in q) word
-    ∙ ap (λ x. let q : Post = record { doc = p.doc; word = p.word; pos = x; score = (post_of (key_of p)).score } in q) pos
+    let at : place_of_key (key_of p) ≡ place = front place p.score h.score in
+    let spots : place_of_key (key_of p) / 4194304 ≡ spot = ap (λ n. n / 4194304) at ∙ word_front spot p.word h.word in
+    let doc : (post_of_key (key_of p)).doc ≡ p.doc = ap (λ n. n / 131072) spots ∙ spot_front p.doc p.pos h.pos in
+    let pos : (post_of_key (key_of p)).pos ≡ p.pos = ap (λ n. n % 131072) spots ∙ spot_back p.doc p.pos h.pos in
+    let word : (post_of_key (key_of p)).word ≡ p.word = ap (λ n. n % 4194304) at ∙ word_back spot p.word h.word in
+    let score : (post_of_key (key_of p)).score ≡ p.score = back place p.score h.score in
+    ap (λ d. let q : Post = record { doc = d; word = (post_of_key (key_of p)).word; pos = (post_of_key (key_of p)).pos; score = (post_of_key (key_of p)).score } in q) doc
+    ∙ ap (λ w. let q : Post = record { doc = p.doc; word = w; pos = (post_of_key (key_of p)).pos; score = (post_of_key (key_of p)).score } in q) word
+    ∙ ap (λ x. let q : Post = record { doc = p.doc; word = p.word; pos = x; score = (post_of_key (key_of p)).score } in q) pos
     ∙ ap (λ s. let q : Post = record { doc = p.doc; word = p.word; pos = p.pos; score = s } in q) score
 
-all_unkeyed : (rows : List Post) → AllByRecursion IsPacked rows → map post_of (map key_of rows) ≡ rows
+all_unkeyed : (rows : List Post) → AllByRecursion IsPacked rows → map post_of_key (map key_of rows) ≡ rows
 all_unkeyed [] h = refl
 all_unkeyed (p ∷ rows) h = ap₂ (λ x xs. x ∷ xs) (unkeyed p h.0) (all_unkeyed rows h.1)
 
-small_key : (p : Post) → IsPacked p → place_of (key_of p) < NO_PLACE
+small_key : (p : Post) → IsPacked p → place_of_key (key_of p) < NO_PLACE
 small_key p h = let doc = h.doc in let pos = h.pos in let word = h.word in let score = h.score in omega (arith, doc, pos, word, score)
 
-small_keys : (rows : List Post) → AllByRecursion IsPacked rows → AllByRecursion (λ k. place_of k < NO_PLACE) (map key_of rows)
+small_keys : (rows : List Post) → AllByRecursion IsPacked rows → AllByRecursion (λ k. place_of_key k < NO_PLACE) (map key_of rows)
 small_keys [] h = tt
 small_keys (p ∷ rows) h = (small_key p h.0, small_keys rows h.1)
 
@@ -110,11 +110,11 @@ spots_less a b r lt =
       | false ↦ λ e. let s = spot_later a b lt (ltb-false _ _ e) in tied_then (a / 131072) (b / 131072) _ s.0 ∙ less_then (a % 131072) (b % 131072) r s.1
     ] refl
 
-places_less : (a b : ℕ) → place_of a < place_of b → by_place (post_of a) (post_of b) ≡ Less
+places_less : (a b : ℕ) → place_of_key a < place_of_key b → by_place (post_of_key a) (post_of_key b) ≡ Less
 places_less a b lt =
-    let m = place_of a in
-    let n = place_of b in
-    elim (nat_lt (m / 4194304) (n / 4194304)) as (λ c. nat_lt (m / 4194304) (n / 4194304) ≡ c → by_place (post_of a) (post_of b) ≡ Less) [
+    let m = place_of_key a in
+    let n = place_of_key b in
+    elim (nat_lt (m / 4194304) (n / 4194304)) as (λ c. nat_lt (m / 4194304) (n / 4194304) ≡ c → by_place (post_of_key a) (post_of_key b) ≡ Less) [
       | true ↦ λ e. spots_less (m / 4194304) (n / 4194304) (nat_cmp (m % 4194304) (n % 4194304)) (ltb-true _ _ e)
       | false ↦ λ e.
           let w = word_later m n lt (ltb-false _ _ e) in
@@ -141,43 +141,43 @@ ups l (k ∷ ks) h = (
       ap (λ n. is_lt (nat_cmp (get_or (l ∷ k ∷ ks) n d) (get_or (k ∷ ks) j d))) (sym e) ∙ h (suc j) d (omega arith) (omega (arith, lt))),
 )
 
-later_place : (k l : ℕ) → l ≤ k → place_of l ≤ place_of k
+later_place : (k l : ℕ) → l ≤ k → place_of_key l ≤ place_of_key k
 later_place k l le = omega (arith, le)
 
 not_same : (k l : ℕ) → l ≤ k → k == l ≡ false → l < k
 not_same k l le h = grind (arith, nat_tests)
 
-above : (n l : ℕ) (ks : List ℕ) → n ≤ place_of l → Up l ks → AllByRecursion (λ k. n < place_of k) (apart (place_of l) ks)
+above : (n l : ℕ) (ks : List ℕ) → n ≤ place_of_key l → Up l ks → AllByRecursion (λ k. n < place_of_key k) (apart (place_of_key l) ks)
 unfolding Up
 above n l [] le up = tt
 above n l (k ∷ ks) le up =
     let on = later_place k l up.0 in
     let rest = above n k ks (omega (arith, le, on)) up.1 in
-    elim (place_of k == place_of l) as (λ b. place_of k == place_of l ≡ b → AllByRecursion (λ k. n < place_of k) (cond b (apart (place_of k) ks) (k ∷ apart (place_of k) ks))) [
+    elim (place_of_key k == place_of_key l) as (λ b. place_of_key k == place_of_key l ≡ b → AllByRecursion (λ k. n < place_of_key k) (cond b (apart (place_of_key k) ks) (k ∷ apart (place_of_key k) ks))) [
       | true ↦ λ e. rest
-      | false ↦ λ e. let lt = not_same (place_of k) (place_of l) on e in (omega (arith, le, lt), rest)
+      | false ↦ λ e. let lt = not_same (place_of_key k) (place_of_key l) on e in (omega (arith, le, lt), rest)
     ] refl
 
-all_later : (l : ℕ) (ks : List ℕ) → AllByRecursion (λ k. place_of l < place_of k) ks → AllByRecursion (λ p. by_place (post_of l) p ≡ Less) (map post_of ks)
+all_later : (l : ℕ) (ks : List ℕ) → AllByRecursion (λ k. place_of_key l < place_of_key k) ks → AllByRecursion (λ p. by_place (post_of_key l) p ≡ Less) (map post_of_key ks)
 all_later l [] h = tt
 all_later l (k ∷ ks) h = (places_less l k h.0, all_later l ks h.1)
 
-rises : (l : ℕ) (ks : List ℕ) → Up l ks → AreSorted (map post_of (apart (place_of l) ks))
+rises : (l : ℕ) (ks : List ℕ) → Up l ks → AreSorted (map post_of_key (apart (place_of_key l) ks))
 unfolding Up IsStrictlySortedBy
 rises l [] up = tt
 rises l (k ∷ ks) up =
     let rest = rises k ks up.1 in
-    elim (place_of k == place_of l) as (λ b. AreSorted (map post_of (cond b (apart (place_of k) ks) (k ∷ apart (place_of k) ks)))) [
+    elim (place_of_key k == place_of_key l) as (λ b. AreSorted (map post_of_key (cond b (apart (place_of_key k) ks) (k ∷ apart (place_of_key k) ks)))) [
       | true ↦ rest
-      | false ↦ (all_later k (apart (place_of k) ks) (above (place_of k) k ks (omega arith) up.1), rest)
+      | false ↦ (all_later k (apart (place_of_key k) ks) (above (place_of_key k) k ks (omega arith) up.1), rest)
     ]
 
 -- ---- what is left of them
-each_apart : (P : Post → Type 0) (l : ℕ) (ks : List ℕ) → AllByRecursion P (map post_of ks) → AllByRecursion P (map post_of (apart l ks))
+each_apart : (P : Post → Type 0) (l : ℕ) (ks : List ℕ) → AllByRecursion P (map post_of_key ks) → AllByRecursion P (map post_of_key (apart l ks))
 each_apart P l [] h = tt
 each_apart P l (k ∷ ks) h =
-    let rest = each_apart P (place_of k) ks h.1 in
-    elim (place_of k == l) as (λ b. AllByRecursion P (map post_of (cond b (apart (place_of k) ks) (k ∷ apart (place_of k) ks)))) [
+    let rest = each_apart P (place_of_key k) ks h.1 in
+    elim (place_of_key k == l) as (λ b. AllByRecursion P (map post_of_key (cond b (apart (place_of_key k) ks) (k ∷ apart (place_of_key k) ks)))) [
       | true ↦ rest
       | false ↦ (h.0, rest)
     ]
@@ -185,54 +185,54 @@ each_apart P l (k ∷ ks) h =
 all_three : (a b c : Bool) → a ≡ true → b ≡ true → c ≡ true → (a && (b && c)) ≡ true
 all_three a b c p q r = rw (p, q, r) refl
 
-shared : (k l : ℕ) → place_of k ≡ place_of l → shares_place (post_of k) (post_of l) ≡ true
+shared : (k l : ℕ) → place_of_key k ≡ place_of_key l → shares_place (post_of_key k) (post_of_key l) ≡ true
 shared k l same =
-    all_three _ _ _ (eq-eqb (post_of l).doc (post_of k).doc (ap (λ n. n / 4194304 / 131072) (sym same))) (eq-eqb (post_of l).pos (post_of k).pos (ap (λ n. n / 4194304 % 131072) (sym same)))
-    (eq-eqb (post_of l).word (post_of k).word (ap (λ n. n % 4194304) (sym same)))
+    all_three _ _ _ (eq-eqb (post_of_key l).doc (post_of_key k).doc (ap (λ n. n / 4194304 / 131072) (sym same))) (eq-eqb (post_of_key l).pos (post_of_key k).pos (ap (λ n. n / 4194304 % 131072) (sym same)))
+    (eq-eqb (post_of_key l).word (post_of_key k).word (ap (λ n. n % 4194304) (sym same)))
 
 module _ (all : List Post) (up : AreSorted all) (t : Post → Bool) where
-  any_behind : (l : ℕ) (ks : List ℕ) → Contains all (post_of l) → AllByRecursion (Contains all) (map post_of ks) → (t (post_of l) || list_any t (map post_of (apart (place_of l) ks))) ≡ (t (post_of l) || list_any t (map post_of ks))
+  any_behind : (l : ℕ) (ks : List ℕ) → Contains all (post_of_key l) → AllByRecursion (Contains all) (map post_of_key ks) → (t (post_of_key l) || list_any t (map post_of_key (apart (place_of_key l) ks))) ≡ (t (post_of_key l) || list_any t (map post_of_key ks))
   any_behind l [] at h = refl
   any_behind l (k ∷ ks) at h =
       let rest = any_behind k ks h.0 h.1 in
-      elim (place_of k == place_of l) as (λ b. place_of k == place_of l ≡ b → (t (post_of l) || list_any t (map post_of (cond b (apart (place_of k) ks) (k ∷ apart (place_of k) ks)))) ≡ (t (post_of l) || (t (post_of k) || list_any t (map post_of ks)))) [
+      elim (place_of_key k == place_of_key l) as (λ b. place_of_key k == place_of_key l ≡ b → (t (post_of_key l) || list_any t (map post_of_key (cond b (apart (place_of_key k) ks) (k ∷ apart (place_of_key k) ks)))) ≡ (t (post_of_key l) || (t (post_of_key k) || list_any t (map post_of_key ks)))) [
         | true ↦ λ e.
-            let same : post_of k ≡ post_of l = one_post all up (post_of k) (post_of l) h.0 at (shared k l (eqb-true (place_of k) (place_of l) e)) in
-            ap (λ p. t p || list_any t (map post_of (apart (place_of k) ks))) (sym same) ∙ rest ∙ again (t (post_of k)) (list_any t (map post_of ks)) ∙ ap (λ p. t p || (t (post_of k) || list_any t (map post_of ks))) same
-        | false ↦ λ e. ap (λ b. t (post_of l) || b) rest
+            let same : post_of_key k ≡ post_of_key l = one_post all up (post_of_key k) (post_of_key l) h.0 at (shared k l (eqb-true (place_of_key k) (place_of_key l) e)) in
+            ap (λ p. t p || list_any t (map post_of_key (apart (place_of_key k) ks))) (sym same) ∙ rest ∙ again (t (post_of_key k)) (list_any t (map post_of_key ks)) ∙ ap (λ p. t p || (t (post_of_key k) || list_any t (map post_of_key ks))) same
+        | false ↦ λ e. ap (λ b. t (post_of_key l) || b) rest
       ] refl
 
-first_apart : (k : ℕ) (ks : List ℕ) → place_of k < NO_PLACE → apart NO_PLACE (k ∷ ks) ≡ k ∷ apart (place_of k) ks
-first_apart k ks lt = let away : place_of k == NO_PLACE ≡ false = grind (arith, nat_tests) in ap (λ b. cond b (apart (place_of k) ks) (k ∷ apart (place_of k) ks)) away
+first_apart : (k : ℕ) (ks : List ℕ) → place_of_key k < NO_PLACE → apart NO_PLACE (k ∷ ks) ≡ k ∷ apart (place_of_key k) ks
+first_apart k ks lt = let away : place_of_key k == NO_PLACE ≡ false = grind (arith, nat_tests) in ap (λ b. cond b (apart (place_of_key k) ks) (k ∷ apart (place_of_key k) ks)) away
 
 sorted_nil : AreSorted []
 unfolding IsStrictlySortedBy
 sorted_nil = tt
 
-pub all_rise : (ks : List ℕ) → AllByRecursion (λ k. place_of k < NO_PLACE) ks → IsSorted nat_cmp ks → AreSorted (map post_of (apart NO_PLACE ks))
+pub all_rise : (ks : List ℕ) → AllByRecursion (λ k. place_of_key k < NO_PLACE) ks → IsSorted nat_cmp ks → AreSorted (map post_of_key (apart NO_PLACE ks))
 unfolding IsStrictlySortedBy
 all_rise [] small up = sorted_nil
 all_rise (k ∷ ks) small up =
     let on = ups k ks up in
-    subst (λ xs. AreSorted (map post_of xs)) (sym (first_apart k ks small.0)) (all_later k (apart (place_of k) ks) (above (place_of k) k ks (omega arith) on), rises k ks on)
+    subst (λ xs. AreSorted (map post_of_key xs)) (sym (first_apart k ks small.0)) (all_later k (apart (place_of_key k) ks) (above (place_of_key k) k ks (omega arith) on), rises k ks on)
 
-pub any_apart : (all : List Post) → AreSorted all → (t : Post → Bool) (ks : List ℕ) → AllByRecursion (λ k. place_of k < NO_PLACE) ks → AllByRecursion (Contains all) (map post_of ks) → list_any t (map post_of (apart NO_PLACE ks)) ≡ list_any t (map post_of ks)
+pub any_apart : (all : List Post) → AreSorted all → (t : Post → Bool) (ks : List ℕ) → AllByRecursion (λ k. place_of_key k < NO_PLACE) ks → AllByRecursion (Contains all) (map post_of_key ks) → list_any t (map post_of_key (apart NO_PLACE ks)) ≡ list_any t (map post_of_key ks)
 any_apart all up t [] small h = refl
-any_apart all up t (k ∷ ks) small h = ap (λ xs. list_any t (map post_of xs)) (first_apart k ks small.0) ∙ any_behind all up t k ks h.0 h.1
+any_apart all up t (k ∷ ks) small h = ap (λ xs. list_any t (map post_of_key xs)) (first_apart k ks small.0) ∙ any_behind all up t k ks h.0 h.1
 
-pub ordered_is : (rows : List Post) (keys ks : List ℕ) (posts : List Post) → keys ≡ map key_of rows → All IsPacked rows → IsPermutation keys ks → IsSorted nat_cmp ks → posts ≡ map post_of (apart NO_PLACE ks) → IsOrdered rows posts
+pub ordered_is : (rows : List Post) (keys ks : List ℕ) (posts : List Post) → keys ≡ map key_of rows → All IsPacked rows → IsPermutation keys ks → IsSorted nat_cmp ks → posts ≡ map post_of_key (apart NO_PLACE ks) → IsOrdered rows posts
 ordered_is rows keys ks posts are packed moved up is =
     let each = recursion_from_All IsPacked rows packed in
     let perm = subst (λ xs. IsPermutation xs ks) are moved in
-    let small = recursion_from_All (λ k. place_of k < NO_PLACE) ks (All-permutation (λ k. place_of k < NO_PLACE) (map key_of rows) ks perm (All-from_recursion (λ k. place_of k < NO_PLACE) (map key_of rows) (small_keys rows each))) in
-    let posts_perm : IsPermutation rows (map post_of ks) = subst (λ xs. IsPermutation xs (map post_of ks)) (all_unkeyed rows each) (IsPermutation-map post_of (map key_of rows) ks perm) in
+    let small = recursion_from_All (λ k. place_of_key k < NO_PLACE) ks (All-permutation (λ k. place_of_key k < NO_PLACE) (map key_of rows) ks perm (All-from_recursion (λ k. place_of_key k < NO_PLACE) (map key_of rows) (small_keys rows each))) in
+    let posts_perm : IsPermutation rows (map post_of_key ks) = subst (λ xs. IsPermutation xs (map post_of_key ks)) (all_unkeyed rows each) (IsPermutation-map post_of_key (map key_of rows) ks perm) in
     record {
       sorted = subst AreSorted (sym is) (all_rise ks small up);
-      among = subst (All (Contains rows)) (sym is) (All-from_recursion (Contains rows) (map post_of (apart NO_PLACE ks)) (each_apart (Contains rows) NO_PLACE ks (recursion_from_All (Contains rows) (map post_of ks) (All-permutation (Contains rows) rows (map post_of ks) posts_perm (λ k d lt. Contains-get_or rows k d lt)))));
+      among = subst (All (Contains rows)) (sym is) (All-from_recursion (Contains rows) (map post_of_key (apart NO_PLACE ks)) (each_apart (Contains rows) NO_PLACE ks (recursion_from_All (Contains rows) (map post_of_key ks) (All-permutation (Contains rows) rows (map post_of_key ks) posts_perm (λ k d lt. Contains-get_or rows k d lt)))));
       alike = λ all all_up in_all t.
           ap (list_any t) is
-          ∙ any_apart all all_up t ks small (recursion_from_All (Contains all) (map post_of ks) (All-permutation (Contains all) rows (map post_of ks) posts_perm in_all))
-          ∙ sym (list_any-IsPermutation t rows (map post_of ks) posts_perm);
+          ∙ any_apart all all_up t ks small (recursion_from_All (Contains all) (map post_of_key ks) (All-permutation (Contains all) rows (map post_of_key ks) posts_perm in_all))
+          ∙ sym (list_any-IsPermutation t rows (map post_of_key ks) posts_perm);
     }
 
 -- ---- the rows of blocks
@@ -345,15 +345,15 @@ ordered_told b i s is lo hi listed rows posts a o =
     (λ t. o.alike all up a.among t ∙ a.alike t)
 
 -- the rows of numbers, as they come
-pub as_they_come : (rows : List Post) (keys : List ℕ) → keys ≡ map key_of rows → All IsPacked rows → map post_of keys ≡ rows
-as_they_come rows keys are packed = ap (map post_of) are ∙ all_unkeyed rows (recursion_from_All IsPacked rows packed)
+pub as_they_come : (rows : List Post) (keys : List ℕ) → keys ≡ map key_of rows → All IsPacked rows → map post_of_key keys ≡ rows
+as_they_come rows keys are packed = ap (map post_of_key) are ∙ all_unkeyed rows (recursion_from_All IsPacked rows packed)
 
 -- what holds of each of the rows
-pub keys_among : (P : Post → Type 0) (rows : List Post) (keys : List ℕ) → keys ≡ map key_of rows → All IsPacked rows → All P rows → All (λ k. P (post_of k)) keys
+pub keys_among : (P : Post → Type 0) (rows : List Post) (keys : List ℕ) → keys ≡ map key_of rows → All IsPacked rows → All P rows → All (λ k. P (post_of_key k)) keys
 keys_among P rows keys are packed h =
-    subst (All (λ k. P (post_of k))) (sym are) (All-map (λ k. P (post_of k)) key_of rows (λ k d l. subst P (sym (unkeyed (get_or rows k d) (packed k d l))) (h k d l)))
+    subst (All (λ k. P (post_of_key k))) (sym are) (All-map (λ k. P (post_of_key k)) key_of rows (λ k d l. subst P (sym (unkeyed (get_or rows k d) (packed k d l))) (h k d l)))
 
-pub keys_between : (lo hi : ℕ) (listed : List Bool) (rows : List Post) (keys : List ℕ) → keys ≡ map key_of rows → All IsPacked rows → All (λ p. is_chosen lo hi listed p ≡ true) rows → All (λ k. (lo ≤ (post_of k).word) × ((post_of k).word < hi)) keys
+pub keys_between : (lo hi : ℕ) (listed : List Bool) (rows : List Post) (keys : List ℕ) → keys ≡ map key_of rows → All IsPacked rows → All (λ p. is_chosen lo hi listed p ≡ true) rows → All (λ k. (lo ≤ (post_of_key k).word) × ((post_of_key k).word < hi)) keys
 keys_between lo hi listed rows keys are packed passed =
     keys_among (λ p. (lo ≤ p.word) × (p.word < hi)) rows keys are packed (All-weaker (λ p. is_chosen lo hi listed p ≡ true) (λ p. (lo ≤ p.word) × (p.word < hi)) (λ p h.
     let both = and_parts (nat_le lo p.word) (nat_lt p.word hi) (and_parts (nat_le lo p.word && nat_lt p.word hi) (in_listed listed p) h).0 in

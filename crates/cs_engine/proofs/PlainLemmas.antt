@@ -16,6 +16,7 @@ use Rattle.cs_base.specs.declared.content.query.Atom.TheFolds.{fold_out-Chain}
 use Rattle.cs_base.specs.declared.content.query.Chain.{Chain, out-Chain}
 use Rattle.cs_base.specs.declared.content.query.Linked.{Linked}
 use Rattle.cs_base.specs.declared.content.query.Part.{Part, out-Part}
+use Rattle.cs_base.proofs.ListsLemmas.{any_through}
 use Rattle.cs_file.specs.Indexes.{IndexView, IsIndex, StandsFor, is_met}
 use Rattle.cs_model.specs.Answers.{PartRows, LinkedRows, atom_rows, begins, chain_rows, chained, linked_rows, part_rows, query_parts, rows_of_atom, rows_of_chain, rows_of_linked, rows_of_part}
 use Rattle.cs_model.specs.Corpus.{Corpus}
@@ -35,7 +36,6 @@ use Rattle.cs_engine.proofs.EvaluationLemmas.{met_part-is, part_begins, part_end
 use Rattle.cs_engine.proofs.ReadingLemmas.{kept_within}
 use Rattle.cs_engine.proofs.StockLemmas.{stocked}
 use Rattle.cs_engine.proofs.UnionLemmas.{with_nothing}
-use Rattle.cs_engine.proofs.VocabLemmas.{any_through}
 use Rattle.cs_engine.proofs.WordsLemmas.{prefix_met, span_found}
 
 -- ---- atoms

@@ -20,6 +20,7 @@ use Rattle.cs_base.specs.declared.content.query.Part.{Part, out-Part}
 use Rattle.cs_base.specs.declared.content.query.Query.{Query, out-Query, out-roll-Query}
 use Rattle.cs_base.specs.declared.index.plan.Plan.{Plan}
 use Rattle.cs_base.specs.declared.index.plan.Plan.TheVariants.{Fresh}
+use Rattle.cs_base.proofs.ListsLemmas.{filter_alike}
 use Rattle.cs_file.specs.Indexes.{IndexView, IsIndex, StandsFor}
 use Rattle.cs_model.specs.Answers.{begins, parts_of, rows_of_part}
 use Rattle.cs_model.specs.Keys.{keys_of, last_of}
@@ -45,7 +46,6 @@ use Rattle.cs_engine.proofs.FoundLemmas.{is_excluded}
 use Rattle.cs_engine.proofs.KeptLemmas.{from_stock, in_stock}
 use Rattle.cs_engine.proofs.StepLemmas.{base_weaker, hits_in, nothing_fits, step_told}
 use Rattle.cs_engine.proofs.StockLemmas.{docs_are}
-use Rattle.cs_engine.proofs.VocabLemmas.{filter_alike}
 
 -- ---- the entry that is lent
 pub record Viewed (o : Option (List ℕ × EntryOf Post)) (e : EntryOf Post) : Type 0 where

@@ -1,7 +1,7 @@
 -- The lists of a reply.
 --
 --   titled               the title of a document that there is
---   first_there, words_shown      the first words of a table are there, and how they are shown
+--   first_there, words_shown      the first words of a post_table are there, and how they are shown
 --   facet_kept           the rows of a facet in the documents of a base
 --   reply_made           what answers a request is its reply
 use Rattle.std.proofs.Common.{◌≡◌, ℕ, zero, suc, ◌<◌, List, [], ◌∷◌, ◌++◌, length, map, take, drop, get_or, refl, sym, ◌∙◌, ap, subst, append-nil}
@@ -22,6 +22,7 @@ use Rattle.cs_base.specs.declared.content.doc.Post.{Post}
 use Rattle.cs_base.specs.declared.content.doc.Row.{Row}
 use Rattle.cs_base.proofs.MembersLemmas.{listed_itself}
 use Rattle.cs_base.proofs.OrdersLemmas.{by_row_total, by_row_exact}
+use Rattle.cs_base.proofs.ListsLemmas.{all_of, map_alike, filter_through}
 use Rattle.cs_meet.specs.Filters.{keep_docs}
 use Rattle.cs_model.specs.Answers.{PartRows, begins, is_listed, hits, pairs, ranked, table_of, facet_part}
 use Rattle.cs_model.specs.Answers as answers
@@ -30,12 +31,12 @@ use Rattle.cs_model.specs.Corpus.{Corpus}
 use Rattle.cs_model.specs.Replies.{Reply, Shown, HitShown, FacetShown}
 use Rattle.cs_model.specs.Requests.{Request, reply_of, reply_to, shown_of, hit_shown, facet_shown}
 use Rattle.cs_tables.specs.declared.tables.Completion.{Completion as Numbered}
-use Rattle.cs_tables.specs.Listings.{table}
+use Rattle.cs_tables.specs.Listings.{post_table}
 use Rattle.cs_model_index.specs.Numbered.{word_at, row_of, rows_at}
 use Rattle.cs_model_kept.specs.Entries.{scored_hits}
 use Rattle.cs_engine.specs.Stocked.{Stock, corpus_in, base_hits, docs_in, named_at, shown_at, named_rows, named_rows_in, facet_at, title_at, IsStocked}
-use Rattle.cs_engine.proofs.VocabLemmas.{filter_through, rows_rise}
-use Rattle.cs_engine.proofs.ListsLemmas.{get_numbered, all_of, map_alike}
+use Rattle.cs_engine.proofs.VocabLemmas.{rows_rise}
+use Rattle.cs_engine.proofs.ListsLemmas.{get_numbered}
 use Rattle.cs_engine.proofs.HitsLemmas.{kept_pairs, listed_docs}
 use Rattle.cs_engine.proofs.AtomsLemmas.{words_known}
 use Rattle.cs_engine.proofs.TableLemmas.{table_through, table_known}
@@ -50,25 +51,25 @@ take_all_of P zero xs h = tt
 take_all_of P (suc n) [] h = tt
 take_all_of P (suc n) (x ∷ xs) h = (h.0, take_all_of P n xs h.1)
 
--- the first words of a table are there
-pub first_there : (ws : List (List ℕ)) → IsStrictlySortedBy (slice_cmp nat_cmp) ws → (posts : List Post) → AllByRecursion (λ p. p.word < length ws) posts → (cut : ℕ) (first : List Numbered) → first ≡ take cut (table posts) → All (λ c. c.word < length ws) first
+-- the first words of a post_table are there
+pub first_there : (ws : List (List ℕ)) → IsStrictlySortedBy (slice_cmp nat_cmp) ws → (posts : List Post) → AllByRecursion (λ p. p.word < length ws) posts → (cut : ℕ) (first : List Numbered) → first ≡ take cut (post_table posts) → All (λ c. c.word < length ws) first
 first_there ws up posts known cut first is =
-    subst (All (λ c. c.word < length ws)) (sym is) (All-from_recursion (λ c. c.word < length ws) (take cut (table posts)) (take_all_of (λ c. c.word < length ws) cut (table posts) (table_known ws up posts known)))
+    subst (All (λ c. c.word < length ws)) (sym is) (All-from_recursion (λ c. c.word < length ws) (take cut (post_table posts)) (take_all_of (λ c. c.word < length ws) cut (post_table posts) (table_known ws up posts known)))
 
 module _ (s : Stock) (kept : IsStocked s) where
-  -- the first words of a table, as they are shown
-  pub words_shown : (posts : List Post) (cut : ℕ) (first : List Numbered) → AllByRecursion (λ p. p.word < length s.words) posts → first ≡ take cut (table posts) → map (shown_at s.words) first ≡ map shown_of (take cut (table_of (rows_at s.words posts)))
+  -- the first words of a post_table, as they are shown
+  pub words_shown : (posts : List Post) (cut : ℕ) (first : List Numbered) → AllByRecursion (λ p. p.word < length s.words) posts → first ≡ take cut (post_table posts) → map (shown_at s.words) first ≡ map shown_of (take cut (table_of (rows_at s.words posts)))
   words_shown posts cut first known is =
       ap (map (shown_at s.words)) is
-      ∙ sym (through (take cut (table posts)))
-      ∙ ap (map shown_of) (sym (take-map (named_at s.words) cut (table posts)) ∙ ap (take cut) (table_through s.words kept.words posts known))
+      ∙ sym (through (take cut (post_table posts)))
+      ∙ ap (map shown_of) (sym (take-map (named_at s.words) cut (post_table posts)) ∙ ap (take cut) (table_through s.words kept.words posts known))
     where
       through : (cs : List Numbered) → map shown_of (map (named_at s.words) cs) ≡ map (shown_at s.words) cs
       through [] = refl
       through (c ∷ cs) = ap (λ l. shown_at s.words c ∷ l) (through cs)
 
-  pub table_total : (posts : List Post) → AllByRecursion (λ p. p.word < length s.words) posts → length (table posts) ≡ length (table_of (rows_at s.words posts))
-  table_total posts known = sym (length-map (table posts) (named_at s.words)) ∙ ap length (table_through s.words kept.words posts known)
+  pub table_total : (posts : List Post) → AllByRecursion (λ p. p.word < length s.words) posts → length (post_table posts) ≡ length (table_of (rows_at s.words posts))
+  table_total posts known = sym (length-map (post_table posts) (named_at s.words)) ∙ ap length (table_through s.words kept.words posts known)
 
   -- the rows of a facet in the documents of a base
   pub facet_kept : (b : Base) (name : List ℕ) (posts found : List Post) → rows_at s.words posts ≡ named_rows s name → found ≡ keep_docs posts (docs_in (length s.titles) b) → rows_at s.words found ≡ named_rows_in s b name

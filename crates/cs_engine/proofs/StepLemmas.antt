@@ -24,6 +24,8 @@ use Rattle.cs_base.specs.declared.content.doc.Post.{Post}
 use Rattle.cs_base.specs.declared.content.doc.Row.{Row}
 use Rattle.cs_base.specs.declared.content.doc.Scored.{Scored}
 use Rattle.cs_base.proofs.MembersLemmas.{listing-rises}
+use Rattle.cs_base.proofs.ListsLemmas.{all_of, map_alike, filter_through, filter_alike, any_through}
+use Rattle.cs_base.specs.content.Bases.{base_score}
 use Rattle.cs_docs.proofs.TextLemmas.{All-members}
 use Rattle.cs_file.specs.Indexes.{IndexView}
 use Rattle.cs_meet.specs.Filters.{keep_docs, drop_docs, is_of}
@@ -40,9 +42,8 @@ use Rattle.cs_model_index.specs.Numbered.{row_of, rows_at}
 use Rattle.cs_engine.specs.Stocked.{Stock, corpus_in, every, base_hits, docs_in}
 use Rattle.cs_engine.proofs.FoundLemmas.{docs_rise, every_rises, scored_rise, found_small, greatest_small}
 use Rattle.cs_engine.proofs.HitsLemmas.{ds_rise, greatest_of, hits_excluded, hits_positive, kept_docs, own_docs}
-use Rattle.cs_engine.proofs.ListsLemmas.{all_of, keys_numbered, map_alike, range_below}
+use Rattle.cs_engine.proofs.ListsLemmas.{keys_numbered, range_below}
 use Rattle.cs_engine.proofs.ReadingLemmas.{kept_within, none_within}
-use Rattle.cs_engine.proofs.VocabLemmas.{any_through, filter_alike, filter_through}
 
 -- ---- in range
 pub base_in : (docs bound : ℕ) (b : Base) → bound ≤ 2 ^ 20 → IsBaseOf docs bound b → IsBase b
@@ -60,7 +61,7 @@ pub listed_in : (docs bound : ℕ) (b : Base) → IsBaseOf docs bound b → AreB
 listed_in docs bound base.All h = (every_rises docs, every_in docs bound)
 listed_in docs bound (base.Listed hs) h = h
 
-base_small : (docs bound d : ℕ) (b : Base) → IsBaseOf docs bound b → rank.base_score b d ≤ bound
+base_small : (docs bound d : ℕ) (b : Base) → IsBaseOf docs bound b → base_score b d ≤ bound
 base_small docs bound d base.All h = omega arith
 base_small docs bound d (base.Listed hs) h = found_small bound d hs (recursion_from_All (λ h. h.score ≤ bound) hs (All-weaker (IsHitOf docs bound) (λ h. h.score ≤ bound) (λ x at. at.score) hs h.1))
 
@@ -102,10 +103,10 @@ rows_docs ws (p ∷ ps) = ap (λ l. p.doc ∷ l) (rows_docs ws ps)
 over_told : (ws : List (List ℕ)) (b : Base) (posts : List Post) → scores b posts ≡ over b (rows_at ws posts)
 over_told ws base.All posts =
     ap (map (λ d. with_base base.All (best_row posts d))) (ap (members_in nat_cmp) (sym (rows_docs ws posts)))
-    ∙ map_alike _ _ (answers.docs_of (rows_at ws posts)) (all_of _ (λ d. ap (λ (n : ℕ). let h : Scored = record { doc = d; score = 0 + n } in h) (greatest_of ws (of_doc d posts) ∙ ap greatest_score (filter_through (row_of ws) (in_doc d) posts))) (answers.docs_of (rows_at ws posts)))
+    ∙ map_alike _ _ (answers.row_docs (rows_at ws posts)) (all_of _ (λ d. ap (λ (n : ℕ). let h : Scored = record { doc = d; score = 0 + n } in h) (greatest_of ws (of_doc d posts) ∙ ap greatest_score (filter_through (row_of ws) (in_doc d) posts))) (answers.row_docs (rows_at ws posts)))
 over_told ws (base.Listed hs) posts =
     ap (map (λ d. with_base (base.Listed hs) (best_row posts d))) (ap (members_in nat_cmp) (sym (rows_docs ws posts)))
-    ∙ map_alike _ _ (answers.docs_of (rows_at ws posts)) (all_of _ (λ d. ap (λ (n : ℕ). let h : Scored = record { doc = d; score = kept.base_score (base.Listed hs) d + n } in h) (greatest_of ws (of_doc d posts) ∙ ap greatest_score (filter_through (row_of ws) (in_doc d) posts))) (answers.docs_of (rows_at ws posts)))
+    ∙ map_alike _ _ (answers.row_docs (rows_at ws posts)) (all_of _ (λ d. ap (λ (n : ℕ). let h : Scored = record { doc = d; score = base_score (base.Listed hs) d + n } in h) (greatest_of ws (of_doc d posts) ∙ ap greatest_score (filter_through (row_of ws) (in_doc d) posts))) (answers.row_docs (rows_at ws posts)))
 
 pub hits_told : (ws : List (List ℕ)) (positive : Bool) (e : EntryOf Post) → posts_hits positive e.base e.rows ≡ hits_of positive (entry_at ws e)
 hits_told ws true e = ap base.Listed (over_told ws e.base e.rows)
@@ -128,7 +129,7 @@ module _ (s : Stock) (n : ℕ) (b : Base) (p : PartRows) (posts : List Post) (sa
   kept_told : rows_at s.words (keep_docs posts (docs_in n b)) ≡ filter (is_hit outs) p.rows
   kept_told =
       ap (λ l. rows_at s.words (keep_docs posts (map (λ h. h.doc) l))) (listed_told s n b same)
-      ∙ ap (rows_at s.words) (filter_alike (λ r. list_any (meet.in_doc r) (map (λ h. h.doc) outs)) (λ r. is_hit outs (row_of s.words r)) posts (all_of _ (λ r. any_through (λ (h : Scored). h.doc) (meet.in_doc r) outs) posts))
+      ∙ ap (rows_at s.words) (filter_alike (λ r. list_any (meet.is_of_doc r) (map (λ h. h.doc) outs)) (λ r. is_hit outs (row_of s.words r)) posts (all_of _ (λ r. any_through (λ (h : Scored). h.doc) (meet.is_of_doc r) outs) posts))
       ∙ filter_through (row_of s.words) (is_hit outs) posts ∙ ap (filter (is_hit outs)) is
 
   pub step_told : (excluded : Bool) → p.excluded ≡ excluded → IsStep s b p (posts_after n b excluded posts)
@@ -146,7 +147,7 @@ module _ (s : Stock) (n : ℕ) (b : Base) (p : PartRows) (posts : List Post) (sa
 
 in_hits : (docs bound : ℕ) (b : Base) (posts : List Post) → All (λ p. p.doc < docs) posts → All (λ p. is_in_base b p ≡ true) (keep_docs posts (docs_in docs b))
 in_hits docs bound base.All posts h = λ k d l. refl
-in_hits docs bound (base.Listed hs) posts h = λ k d l. sym (any_through (λ (h : Scored). h.doc) (meet.in_doc (get_or (keep_docs posts (docs_in docs (base.Listed hs))) k d)) hs) ∙ filter_passes (λ r. list_any (meet.in_doc r) (map (λ h. h.doc) hs)) posts k d l
+in_hits docs bound (base.Listed hs) posts h = λ k d l. sym (any_through (λ (h : Scored). h.doc) (meet.is_of_doc (get_or (keep_docs posts (docs_in docs (base.Listed hs))) k d)) hs) ∙ filter_passes (λ r. list_any (meet.is_of_doc r) (map (λ h. h.doc) hs)) posts k d l
 
 pub step_within : (i : IndexView) (b : Base) (excluded : Bool) (posts : List Post) → AreWithin i posts → (n : ℕ) → IsBaseOf i.docs (255 * n) b → EntryFits i (not excluded) (n + 1) (posts_after i.docs b excluded posts)
 step_within i b true posts w n fits =
@@ -161,7 +162,7 @@ step_within i b true posts w n fits =
 step_within i b false posts w n fits =
     record {
       parts = λ e. omega arith;
-      rows = kept_within i (λ r. list_any (meet.in_doc r) (docs_in i.docs b)) posts w;
+      rows = kept_within i (λ r. list_any (meet.is_of_doc r) (docs_in i.docs b)) posts w;
       base = (let e : n ≡ n + 1 - 1 = omega arith in subst (λ m. IsBaseOf i.docs (255 * m) b) e fits);
       in_base = in_hits i.docs (255 * n) b posts (All-weaker (IsWithin i.docs (length i.words)) (λ p. p.doc < i.docs) (λ p h. h.doc) posts w.within);
     }

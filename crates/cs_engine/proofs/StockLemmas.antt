@@ -32,6 +32,7 @@ use Rattle.cs_base.specs.declared.content.doc.Row.{Row}
 use Rattle.cs_base.specs.declared.index.block.BlockHead.{BlockHead}
 use Rattle.cs_base.proofs.MembersLemmas.{all_then, members_are, is_member-listed, listing-rises}
 use Rattle.cs_base.proofs.OrdersLemmas.{by_row_total, by_row_exact, by_place_total}
+use Rattle.cs_base.proofs.ListsLemmas.{same_number, any_through}
 use Rattle.cs_file.specs.Indexes.{IndexView, IsIndex, StandsFor, block_posts}
 use Rattle.cs_file.proofs.HeadsLemmas.{heads_rise, head_within}
 use Rattle.cs_file.proofs.StoodLemmas.{stood, stood_count, stood_block}
@@ -45,10 +46,9 @@ use Rattle.cs_model_index.specs.Sections.{contents_of, image_of, file_corpus}
 use Rattle.cs_engine.specs.Reading.{by_post, stock_of, IsWithin, AreWithin}
 use Rattle.cs_model_index.specs.Numbered.{row_of, rows_at}
 use Rattle.cs_engine.specs.Stocked.{corpus_in, IsKnown, IsStocked}
-use Rattle.cs_engine.proofs.ListsLemmas.{same_number}
 use Rattle.cs_engine.proofs.TableLemmas.{any_listed}
 use Rattle.cs_engine.proofs.UnionLemmas.{one_post}
-use Rattle.cs_engine.proofs.VocabLemmas.{any_through, rows_rise}
+use Rattle.cs_engine.proofs.VocabLemmas.{rows_rise}
 
 -- ---- one order of posts
 pub by_post_total : IsTotalOrder by_post

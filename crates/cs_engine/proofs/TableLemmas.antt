@@ -1,7 +1,7 @@
 -- Tables through the vocabulary.
 --
 --   any_listed       a test passes on a listing where it does on the list
---   table_through    the table of posts, each word in place of its number, is the table of their rows
+--   table_through    the post_table of posts, each word in place of its number, is the post_table of their rows
 --   table_known      its words are there
 use Rattle.std.proofs.Common.{◌≡◌, ℕ, ◌<◌, ◌==◌, ◌||◌, Bool, true, false, true≢false, List, [], ◌∷◌, length, map, refl, sym, ◌∙◌, ap, arith}
 use Rattle.std.specs.List.{AllByRecursion, list_any}
@@ -24,16 +24,17 @@ use Rattle.cs_base.specs.declared.content.doc.Post.{Post}
 use Rattle.cs_base.specs.declared.content.doc.Row.{Row}
 use Rattle.cs_base.proofs.MembersLemmas.{all_then, members_are, is_member-listed, listing-rises}
 use Rattle.cs_base.proofs.NameMaps.{name_sym}
+use Rattle.cs_base.proofs.ListsLemmas.{filter_through, filter_alike, any_through}
 use Rattle.cs_docs.proofs.TextLemmas.{All-members}
 use Rattle.cs_model.specs.Answers.{by_count, table_of}
 use Rattle.cs_model.specs.Answers as rows
 use Rattle.cs_tables.specs.declared.tables.Completion.{Completion}
-use Rattle.cs_tables.specs.Listings.{by_docs, table, of_word, completion_of}
+use Rattle.cs_tables.specs.Listings.{by_docs, post_table, with_word, post_completion}
 use Rattle.cs_model_index.specs.Numbered.{word_at, row_of, rows_at}
 use Rattle.cs_engine.specs.Stocked.{named_at}
 use Rattle.cs_vocab.proofs.RangesLemmas.{three_ways}
 use Rattle.cs_tables.proofs.TablesLemmas.{by_docs_total, by_docs_exact}
-use Rattle.cs_engine.proofs.VocabLemmas.{filter_through, filter_alike, any_through, apart, is_less, less_word}
+use Rattle.cs_engine.proofs.VocabLemmas.{apart, is_less, less_word}
 
 -- ---- listings
 
@@ -76,8 +77,8 @@ by_count_exact a b h =
     ap (λ (p : ℕ × List ℕ). let c : rows.Completion = record { docs = p.0; word = p.1 } in c)
     (exact_pairs (flip_args nat_cmp) (slice_cmp nat_cmp) (λ x y e. sym (exact_unsigned y x e)) exact_bytes (a.docs, a.word) (b.docs, b.word) h)
 
-is_same : (m n : ℕ) → m ≡ n → (m == n) ≡ true
-is_same m n h = grind (arith, nat_tests)
+equal_numbers : (m n : ℕ) → m ≡ n → (m == n) ≡ true
+equal_numbers m n h = grind (arith, nat_tests)
 
 is_under : (m n : ℕ) → m < n → (m == n) ≡ false
 is_under m n h = grind (arith, nat_tests)
@@ -91,7 +92,7 @@ module _ (ws : List (List ℕ)) (up : IsStrictlySortedBy (slice_cmp nat_cmp) ws)
   same_word : (m n : ℕ) → m < length ws → n < length ws → bytes_eq (word_at ws m) (word_at ws n) ≡ (m == n)
   same_word m n k l = three_ways m n
       (λ h. apart (word_at ws m) (word_at ws n) (less_word ws up m n h l) ∙ sym (is_under m n h))
-      (λ h. (bytes_eq-Decides (word_at ws m) (word_at ws n)).1 (ap (word_at ws) h) ∙ sym (is_same m n h))
+      (λ h. (bytes_eq-Decides (word_at ws m) (word_at ws n)).1 (ap (word_at ws) h) ∙ sym (equal_numbers m n h))
       (λ h. name_sym (word_at ws m) (word_at ws n) ∙ apart (word_at ws n) (word_at ws m) (less_word ws up n m h k) ∙ sym (is_over m n h))
 
   below_named : (o : Ordering) (m n : ℕ) → n < length ws → ordering_then o (nat_cmp m n) ≡ Less → ordering_then o (slice_cmp nat_cmp (word_at ws m) (word_at ws n)) ≡ Less
@@ -116,40 +117,40 @@ module _ (ws : List (List ℕ)) (up : IsStrictlySortedBy (slice_cmp nat_cmp) ws)
   docs_at (p ∷ ps) = ap (λ l. p.doc ∷ l) (docs_at ps)
 
   module _ (ps : List Post) (known : AllByRecursion (λ p. p.word < length ws) ps) where
-    of_word_through : (n : ℕ) → n < length ws → rows_at ws (of_word n ps) ≡ rows.of_word (word_at ws n) (rows_at ws ps)
+    of_word_through : (n : ℕ) → n < length ws → rows_at ws (with_word n ps) ≡ rows.of_word (word_at ws n) (rows_at ws ps)
     of_word_through n l =
         ap (rows_at ws) (filter_alike (λ p. p.word == n) (λ p. bytes_eq (word_at ws p.word) (word_at ws n)) ps (all_then (λ p. p.word < length ws) (λ p. (p.word == n) ≡ bytes_eq (word_at ws p.word) (word_at ws n)) (λ p k. sym (same_word p.word n k l)) ps known))
         ∙ filter_through (row_of ws) (λ r. bytes_eq r.word (word_at ws n)) ps
 
-    completion_through : (n : ℕ) → n < length ws → named_at ws (completion_of ps n) ≡ rows.completion_of (rows_at ws ps) (word_at ws n)
+    completion_through : (n : ℕ) → n < length ws → named_at ws (post_completion ps n) ≡ rows.completion_of (rows_at ws ps) (word_at ws n)
     completion_through n l =
         ap (λ (ds : List ℕ). let c : rows.Completion = record { docs = length (members_in nat_cmp ds); word = word_at ws n } in c)
-        (sym (docs_at (of_word n ps)) ∙ ap (map (λ (r : Row). r.doc)) (of_word_through n l))
+        (sym (docs_at (with_word n ps)) ∙ ap (map (λ (r : Row). r.doc)) (of_word_through n l))
 
     abbrev listed_words : List Completion
-    listed_words = map (λ p. completion_of ps p.word) ps
+    listed_words = map (λ p. post_completion ps p.word) ps
 
-    there : (qs : List Post) → AllByRecursion (λ p. p.word < length ws) qs → AllByRecursion IsThere (map (λ p. completion_of ps p.word) qs)
+    there : (qs : List Post) → AllByRecursion (λ p. p.word < length ws) qs → AllByRecursion IsThere (map (λ p. post_completion ps p.word) qs)
     there [] l = tt
     there (q ∷ qs) l = (l.0, there qs l.1)
 
-    -- the words of the table are there
-    pub table_known : AllByRecursion (λ c. c.word < length ws) (table ps)
+    -- the words of the post_table are there
+    pub table_known : AllByRecursion (λ c. c.word < length ws) (post_table ps)
     table_known =
-        recursion_from_All IsThere (table ps) (All-members by_docs by_docs_total by_docs_exact IsThere listed_words (All-from_recursion IsThere listed_words (there ps known)))
+        recursion_from_All IsThere (post_table ps) (All-members by_docs by_docs_total by_docs_exact IsThere listed_words (All-from_recursion IsThere listed_words (there ps known)))
 
     any_named : (q : rows.Completion) (qs : List Post) → AllByRecursion (λ p. p.word < length ws) qs
-        → list_any (λ c. eq_by_cmp by_count q (named_at ws c)) (map (λ p. completion_of ps p.word) qs) ≡ list_any (eq_by_cmp by_count q) (map (λ r. rows.completion_of (rows_at ws ps) r.word) (rows_at ws qs))
+        → list_any (λ c. eq_by_cmp by_count q (named_at ws c)) (map (λ p. post_completion ps p.word) qs) ≡ list_any (eq_by_cmp by_count q) (map (λ r. rows.completion_of (rows_at ws ps) r.word) (rows_at ws qs))
     any_named q [] l = refl
     any_named q (p ∷ qs) l =
-        ap (λ c. eq_by_cmp by_count q c || list_any (λ c. eq_by_cmp by_count q (named_at ws c)) (map (λ p. completion_of ps p.word) qs)) (completion_through p.word l.0)
+        ap (λ c. eq_by_cmp by_count q c || list_any (λ c. eq_by_cmp by_count q (named_at ws c)) (map (λ p. post_completion ps p.word) qs)) (completion_through p.word l.0)
         ∙ ap (λ b. eq_by_cmp by_count q (rows.completion_of (rows_at ws ps) (word_at ws p.word)) || b) (any_named q qs l.1)
 
-    pub table_through : map (named_at ws) (table ps) ≡ table_of (rows_at ws ps)
+    pub table_through : map (named_at ws) (post_table ps) ≡ table_of (rows_at ws ps)
     table_through =
-        members_are by_count by_count_total by_count_exact (map (named_at ws) (table ps)) (map (λ r. rows.completion_of (rows_at ws ps) r.word) (rows_at ws ps))
-        (rise_named (table ps) table_known (listing-rises by_docs listed_words))
+        members_are by_count by_count_total by_count_exact (map (named_at ws) (post_table ps)) (map (λ r. rows.completion_of (rows_at ws ps) r.word) (rows_at ws ps))
+        (rise_named (post_table ps) table_known (listing-rises by_docs listed_words))
         (λ q.
-        any_through (named_at ws) (eq_by_cmp by_count q) (table ps)
+        any_through (named_at ws) (eq_by_cmp by_count q) (post_table ps)
         ∙ any_listed by_docs by_docs_total by_docs_exact (λ c. eq_by_cmp by_count q (named_at ws c)) listed_words
         ∙ any_named q ps known)

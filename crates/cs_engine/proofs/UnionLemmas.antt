@@ -29,6 +29,7 @@ use Rattle.cs_base.specs.declared.content.query.Link.{Link}
 use Rattle.cs_base.specs.declared.content.query.Link.TheVariants.{Phrase, Near}
 use Rattle.cs_base.proofs.MembersLemmas.{all_then, members_are, members-alike, is_member-listed, listed_itself}
 use Rattle.cs_base.proofs.OrdersLemmas.{by_row_total, by_row_exact}
+use Rattle.cs_base.proofs.ListsLemmas.{filter_through, filter_alike, any_through}
 use Rattle.cs_meet.specs.Filters.{IsUnion, shares_place, missing, follow, near, stands_behind, is_near}
 use Rattle.cs_model.specs.Answers.{LinkedRows, is_linked, linked_to, union_of, chained, rows_of_chain, rows_of_linked, rows_of_atom}
 use Rattle.cs_model_index.specs.Numbered.{row_of, rows_at}
@@ -36,7 +37,7 @@ use Rattle.cs_engine.specs.Stocked.{Stock, corpus_in, linked_posts, IsKnown, IsS
 use Rattle.cs_engine.proofs.AtomsLemmas.{picked_again}
 use Rattle.cs_engine.proofs.FoldsLemmas.{linked_rows-is}
 use Rattle.cs_vocab.proofs.RangesLemmas.{three_ways}
-use Rattle.cs_engine.proofs.VocabLemmas.{filter_through, filter_alike, any_through, rows_rise}
+use Rattle.cs_engine.proofs.VocabLemmas.{rows_rise}
 
 -- ---- one post at a place
 

@@ -1,8 +1,5 @@
 -- Lists and orders through the vocabulary: a post stands for a row, and numbers of words ascend as their bytes do.
 --
---   filter_through       a filter of rows is one of posts
---   filter_alike         tests that agree on a list filter it alike
---   any_through          a test of rows is one of posts
 --   apart                words in order differ
 --   less_word            numbers of words ascend as the words do
 --   rows_rise            sorted posts stand for rows in order
@@ -24,23 +21,6 @@ use Rattle.std.proofs.lemmas.Slice.Eq.{bytes_eq-Decides}
 use Rattle.cs_base.specs.content.Orders.{by_row, by_place, AreSorted}
 use Rattle.cs_base.specs.declared.content.doc.Post.{Post}
 use Rattle.cs_model_index.specs.Numbered.{word_at, row_of, rows_at}
-
-module _ {X Y : Type 0} (f : X → Y) where
-  pub filter_through : (p : Y → Bool) (xs : List X) → map f (filter (λ x. p (f x)) xs) ≡ filter p (map f xs)
-  filter_through p [] = refl
-  filter_through p (x ∷ xs) =
-      elim (p (f x)) as (λ b. map f (cond b (x ∷ filter (λ x. p (f x)) xs) (filter (λ x. p (f x)) xs)) ≡ cond b (f x ∷ filter p (map f xs)) (filter p (map f xs))) [
-        | true ↦ ap (λ l. f x ∷ l) (filter_through p xs)
-        | false ↦ filter_through p xs
-      ]
-
-  pub any_through : (p : Y → Bool) (xs : List X) → list_any p (map f xs) ≡ list_any (λ x. p (f x)) xs
-  any_through p [] = refl
-  any_through p (x ∷ xs) = ap (λ b. p (f x) || b) (any_through p xs)
-
-pub filter_alike : {X : Type 0} (p q : X → Bool) (xs : List X) → AllByRecursion (λ x. p x ≡ q x) xs → filter p xs ≡ filter q xs
-filter_alike p q [] h = refl
-filter_alike p q (x ∷ xs) h = ap (λ b. cond b (x ∷ filter p xs) (filter p xs)) h.0 ∙ ap (λ l. cond (q x) (x ∷ l) l) (filter_alike p q xs h.1)
 
 pub is_less : (x y : ℕ) → nat_cmp x y ≡ Less → x < y
 is_less x y h = grind (arith, nat_tests)

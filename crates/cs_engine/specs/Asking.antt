@@ -6,7 +6,7 @@
 --   division i           the words of an index and its blocks, of which it is said how many may be read
 --   is_read r, is_changed r     the answer is a failed read, a change
 --   titles_read q r      how many titles may be read for a request: those shown, or as many as it asks where it is refused
---   titles_of q r        the same, where a reply comes with something else
+--   titles_asked q r        the same, where a reply comes with something else
 use Rattle.std.specs.Prelude.{ℕ, Bool, true, false, length, Result, Ok, Err}
 use Rattle.cs_file.specs.Indexes.{IndexView}
 use Rattle.cs_file.specs.declared.fault.FetchFault.{FetchFault}
@@ -43,6 +43,6 @@ titles_read q (Ok r) = length r.hits
 titles_read q (Err e) = q.hits
 
 -- the same of a reply with something else, as a note
-abbrev pub titles_of : {T : Type 0} → Request → Result (Reply × T) AskFault → ℕ
-titles_of q (Ok r) = length r.0.hits
-titles_of q (Err e) = q.hits
+abbrev pub titles_asked : {T : Type 0} → Request → Result (Reply × T) AskFault → ℕ
+titles_asked q (Ok r) = length r.0.hits
+titles_asked q (Err e) = q.hits

@@ -13,7 +13,6 @@
 --   HoldsGood b i held        over them each kept entry is that of its key's own query
 --   AreGood b e               over the bytes b of its index an engine keeps under each key the entry of the key's own query
 --   note_plan q a             the plan by which a query is answered from what is kept
---   is_same p                 the plan is Same
 --   became p o                what becomes of a query's own entry behind the plan p; of None, which was kept before or is too large
 --   behind a keys p o         the entries that a reply by the plan p leaves, where o is the query's own entry, if it wasn't kept before
 --   WasHad n                  an answer was kept before exactly where the plan is Same
@@ -41,7 +40,7 @@ use Rattle.cs_model.specs.Replies.{Reply}
 use Rattle.cs_model.specs.Requests.{Request, reply_of}
 use Rattle.cs_model_index.specs.Sections.{file_corpus}
 use Rattle.cs_model_kept.specs.Entries.{EntryOf, entry_at, entry_of}
-use Rattle.cs_model_kept.specs.KeptList.{KeptOf, GoodFor, after, kept_at, kept_by, kept_fresh, plan_by, put_in_front, to_front, used_key}
+use Rattle.cs_model_kept.specs.KeptList.{KeptOf, GoodFor, after, kept_at, kept_by, kept_fresh, plan_by, put_in_front, to_front, used_key, is_same}
 use Rattle.cs_engine.specs.Steps.{EntryFits, last_is_positive}
 use Rattle.cs_engine.specs.declared.fault.AskFault.{AskFault}
 use Rattle.cs_engine.specs.declared.note.Note.{Note}
@@ -75,13 +74,6 @@ KeepsFitting i held = All (IsKeptEntry i) held
 -- the plan by the keys of the query; Fresh where nothing is kept
 abbrev pub note_plan : Query → AnswerList → Plan
 note_plan q a = plan_by a.entries (keys_of q)
-
--- Narrow, Extend and Fresh aren't
-abbrev pub is_same : Plan → Bool
-is_same plan.Same = true
-is_same (plan.Narrow cut) = false
-is_same plan.Extend = false
-is_same plan.Fresh = false
 
 -- an entry that wasn't kept before is kept now, unless it is too large; of one that isn't there the plan says which it was
 abbrev pub became : Plan → Option (EntryOf Post) → Kept

@@ -4,8 +4,8 @@
 --
 --   IsPacked p             a post that has a number: each of its parts has room
 --   key_of p               its number: document, position, word and score, one behind the other
---   place_of key           the number without the score
---   post_of key            the post of a number
+--   place_of_key key           the number without the score
+--   post_of_key key            the post of a number
 --   apart last keys        the numbers whose place isn't that of the one before; last is the place before the first
 --   IsOrdered rows posts   the members of rows, in order, each place once
 --   HasKeys i told first k t keys    numbers of posts in the range of an index that pass a test; of a store that tells, of a run of its
@@ -32,17 +32,17 @@ abbrev pub key_of : Post → ℕ
 key_of p = ((p.doc * POSITION_ROOM + p.pos) * WORD_ROOM + p.word) * SCORE_ROOM + p.score
 
 -- what two posts of one document, position and word share
-abbrev pub place_of : ℕ → ℕ
-place_of key = key / SCORE_ROOM
+abbrev pub place_of_key : ℕ → ℕ
+place_of_key key = key / SCORE_ROOM
 
 -- every number has one
-abbrev pub post_of : ℕ → Post
-post_of key = record { doc = place_of key / WORD_ROOM / POSITION_ROOM; word = place_of key % WORD_ROOM; pos = place_of key / WORD_ROOM % POSITION_ROOM; score = key % SCORE_ROOM }
+abbrev pub post_of_key : ℕ → Post
+post_of_key key = record { doc = place_of_key key / WORD_ROOM / POSITION_ROOM; word = place_of_key key % WORD_ROOM; pos = place_of_key key / WORD_ROOM % POSITION_ROOM; score = key % SCORE_ROOM }
 
 -- of ascending numbers the first of each place
 abbrev pub apart : ℕ → List ℕ → List ℕ
 apart last [] = []
-apart last (k ∷ keys) = if place_of k == last then apart (place_of k) keys else k ∷ apart (place_of k) keys
+apart last (k ∷ keys) = if place_of_key k == last then apart (place_of_key k) keys else k ∷ apart (place_of_key k) keys
 
 -- where posts that share a place are the same, no member is lost
 pub record IsOrdered (rows posts : List Post) : Type 0 where

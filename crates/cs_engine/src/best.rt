@@ -4,8 +4,8 @@ ghost use Rattle.std.specs.List.{All};
 ghost use Rattle.cs_base.specs.declared.content.doc.Post.{Post};
 ghost use Rattle.cs_rank.specs.DocScores.{IsBase, best_row, scores};
 ghost use Rattle.cs_base.specs.content.Orders.{docs_of};
-ghost use Rattle.cs_engine.specs.Loose.{HasBest, hits_in};
-ghost use Rattle.cs_engine.specs.Packing.{post_of};
+ghost use Rattle.cs_engine.specs.Loose.{HasBestScores, hits_in};
+ghost use Rattle.cs_engine.specs.Packing.{post_of_key};
 
 use crate::packing::post_of;
 use cs_base::{Base, Memory, Scored, Seq};
@@ -20,9 +20,9 @@ pub(crate) fn scores_over(
     keys: &[u64],
 ) -> Result<Seq<Scored>, Memory>
     requires base { IsBase base.now }
-    requires known { All (λ k. (post_of k).doc < docs) keys.now }
+    requires known { All (λ k. (post_of_key k).doc < docs) keys.now }
 
-    ensures { IfOk result (λ hits. hits ≡ scores base.now (map post_of keys.now)) }
+    ensures { IfOk result (λ hits. hits ≡ scores base.now (map post_of_key keys.now)) }
 {
     let best = best_scores(alloc, docs, keys)?;
     match base {
@@ -36,9 +36,9 @@ pub(crate) fn scores_over(
 
 // Each document of the rows with the greatest score of its rows.
 fn best_scores(alloc: Global, docs: u32, keys: &[u64]) -> Result<Vec<Scored>, Memory>
-    requires known { All (λ k. (post_of k).doc < docs) keys.now }
+    requires known { All (λ k. (post_of_key k).doc < docs) keys.now }
 
-    ensures { IfOk result (λ v. v.items ≡ map (best_row (map post_of keys.now)) (docs_of (map post_of keys.now))) }
+    ensures { IfOk result (λ v. v.items ≡ map (best_row (map post_of_key keys.now)) (docs_of (map post_of_key keys.now))) }
 {
     let mut best = zeros(alloc, docs)?;
     raise_all(&mut best, keys);
@@ -48,7 +48,7 @@ fn best_scores(alloc: Global, docs: u32, keys: &[u64]) -> Result<Vec<Scored>, Me
 
 // A table of no rows.
 fn zeros(alloc: Global, docs: u32) -> Result<Vec<u8>, Memory>
-    ensures none { IfOk result (λ v. HasBest [] v.items) }
+    ensures none { IfOk result (λ v. HasBestScores [] v.items) }
     ensures long { IfOk result (λ v. length v.items ≡ docs) }
 {
     let table = vec![in alloc; 0; docs as usize]?;
@@ -57,9 +57,9 @@ fn zeros(alloc: Global, docs: u32) -> Result<Vec<u8>, Memory>
 
 // Notes the scores of rows: by document the greatest one and one more.
 fn raise_all(best: &mut [u8], keys: &[u64])
-    requires { All (λ k. (post_of k).doc < length best.old) keys.now }
+    requires { All (λ k. (post_of_key k).doc < length best.old) keys.now }
 
-    ensures best { (seen : List Post) → HasBest seen best.old → HasBest (seen ++ map post_of keys.now) best.new }
+    ensures best { (seen : List Post) → HasBestScores seen best.old → HasBestScores (seen ++ map post_of_key keys.now) best.new }
     ensures len { length best.new ≡ length best.old }
 {
     for key in keys {

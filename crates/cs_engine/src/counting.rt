@@ -5,11 +5,11 @@ ghost use Rattle.cs_base.specs.declared.content.doc.Post.{Post};
 ghost use Rattle.cs_base.specs.declared.content.limits.TheConstants.{MAX_PARTS, MAX_WORDS};
 ghost use Rattle.cs_base.specs.outside.Causes.{ReadsWithin};
 ghost use Rattle.cs_file.specs.Indexes.{IsIndex, Fits, CausedReads, block_posts, is_met};
-ghost use Rattle.cs_tables.specs.Listings.{table};
+ghost use Rattle.cs_tables.specs.Listings.{post_table};
 ghost use Rattle.cs_tables.specs.WordCounts.{AreCountable, HasCounted, chosen};
 ghost use Rattle.cs_engine.specs.Asking.{is_read, is_changed};
 ghost use Rattle.cs_engine.specs.Counting.{AreListed, AreMarked, in_listed};
-ghost use Rattle.cs_engine.specs.Packing.{post_of};
+ghost use Rattle.cs_engine.specs.Packing.{post_of_key};
 ghost use Rattle.cs_engine.specs.Reading.{WhereStood, stock_of};
 ghost use Rattle.cs_engine.specs.Steps.{IsBaseOf};
 ghost use Rattle.cs_engine.specs.Stocked.{is_between};
@@ -67,7 +67,7 @@ pub(crate) fn table_between<S: Store>(
     requires index { IsIndex index.now }
     requires fits { Fits (S.bytes store.old) index.now }
 
-    ensures told { WhereStood (S.bytes store.old) index.now (λ b. IfOk result (λ t. t.first ≡ take cut (table (filter (in_listed listed.now) (filter (is_between words.0 words.1) (stock_of b).posts))))) }
+    ensures told { WhereStood (S.bytes store.old) index.now (λ b. IfOk result (λ t. t.first ≡ take cut (post_table (filter (in_listed listed.now) (filter (is_between words.0 words.1) (stock_of b).posts))))) }
     ensures known { IfOk result (λ t. All (λ w. w.word < length index.now.words) t.first) }
     ensures unchanged { WhereStood (S.bytes store.old) index.now (λ b. is_changed result ≡ false) }
     ensures bytes { S.bytes store.new ≡ S.bytes store.old }
@@ -135,10 +135,10 @@ pub(crate) fn table_of(
 ) -> Result<Table, Memory>
     requires ordered { words.0 ≤ words.1 }
     requires few { words.1 ≤ MAX_WORDS }
-    requires between { All (λ k. (words.0 ≤ (post_of k).word) × ((post_of k).word < words.1)) keys.now }
+    requires between { All (λ k. (words.0 ≤ (post_of_key k).word) × ((post_of_key k).word < words.1)) keys.now }
 
-    ensures total { IfOk result (λ t. AreCountable (map post_of keys.now) → t.total ≡ length (table (map post_of keys.now))) }
-    ensures first { IfOk result (λ t. AreCountable (map post_of keys.now) → t.first ≡ take cut (table (map post_of keys.now))) }
+    ensures total { IfOk result (λ t. AreCountable (map post_of_key keys.now) → t.total ≡ length (post_table (map post_of_key keys.now))) }
+    ensures first { IfOk result (λ t. AreCountable (map post_of_key keys.now) → t.first ≡ take cut (post_table (map post_of_key keys.now))) }
     ensures known { IfOk result (λ t. All (λ w. w.word < words.1) t.first) }
 {
     let (lo, hi) = words;
@@ -150,9 +150,9 @@ pub(crate) fn table_of(
 
 // Counts the rows that these are the numbers of.
 fn count_keys(counts: &mut WordCounts, keys: &[u64])
-    requires { All (λ k. (counts.old.low ≤ (post_of k).word) × ((post_of k).word < counts.old.high)) keys.now }
+    requires { All (λ k. (counts.old.low ≤ (post_of_key k).word) × ((post_of_key k).word < counts.old.high)) keys.now }
 
-    ensures counted { AreCountable (map post_of keys.now) → HasCounted [] counts.old → HasCounted (map post_of keys.now) counts.new }
+    ensures counted { AreCountable (map post_of_key keys.now) → HasCounted [] counts.old → HasCounted (map post_of_key keys.now) counts.new }
     ensures low { counts.new.low ≡ counts.old.low }
     ensures high { counts.new.high ≡ counts.old.high }
 {

@@ -8,11 +8,11 @@ ghost use Rattle.cs_model.specs.Parameters.{HoldsLimits};
 ghost use Rattle.cs_model.specs.Requests.{reply_of};
 ghost use Rattle.cs_model_index.specs.Sections.{file_corpus};
 ghost use Rattle.cs_model_kept.specs.Due.{due};
-ghost use Rattle.cs_model_kept.specs.KeptList.{plan_by};
+ghost use Rattle.cs_model_kept.specs.KeptList.{plan_by, is_same};
 ghost use Rattle.cs_model_kept.specs.declared.limits.TheConstants.{MAX_ENTRIES};
 ghost use Rattle.cs_query.specs.RequestView.{asked};
-ghost use Rattle.cs_engine.specs.Asking.{division, is_read, is_changed, titles_of};
-ghost use Rattle.cs_engine.specs.Keeping.{AreGood, IsAfter, Keeps, became, behind, is_same, note_plan};
+ghost use Rattle.cs_engine.specs.Asking.{division, is_read, is_changed, titles_asked};
+ghost use Rattle.cs_engine.specs.Keeping.{AreGood, IsAfter, Keeps, became, behind, note_plan};
 
 use crate::fault::AskFault;
 use crate::note::Note;
@@ -36,7 +36,7 @@ pub struct Engine {
 }
 
 impl Model for Engine {
-    ghost use Rattle.cs_engine.specs.Keeping.{EngineView, KeepsFitting};
+ghost use Rattle.cs_engine.specs.Keeping.{EngineView, KeepsFitting};
 
     ghost Value = { EngineView };
 
@@ -82,7 +82,7 @@ impl Engine {
         ensures index { self.new.index ≡ self.old.index }
         ensures bytes { S.bytes store.new ≡ S.bytes store.old }
         ensures lent { S.lent store.new ≡ S.lent store.old }
-        ensures reads { ReadsWithin (due (division self.old.index) (asked request.now) (note_plan request.now.query self.old.answers) (titles_of (asked request.now) result)) (S.reads store.old) (S.reads store.new) }
+        ensures reads { ReadsWithin (due (division self.old.index) (asked request.now) (note_plan request.now.query self.old.answers) (titles_asked (asked request.now) result)) (S.reads store.old) (S.reads store.new) }
         ensures caused { CausedReads (is_read result) (S.faults store.old) (S.faults store.new) }
     {
         let keys = keys(alloc, &request.query)?;

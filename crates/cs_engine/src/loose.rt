@@ -10,7 +10,7 @@ ghost use Rattle.cs_model_index.specs.Sections.{file_corpus};
 ghost use Rattle.cs_model_kept.specs.Due.{met_of_facets};
 ghost use Rattle.cs_model_kept.specs.Entries.{listed_count};
 ghost use Rattle.cs_query.specs.RequestView.{asked};
-ghost use Rattle.cs_engine.specs.Asking.{division, is_read, is_changed, titles_of, titles_read};
+ghost use Rattle.cs_engine.specs.Asking.{division, is_read, is_changed, titles_asked, titles_read};
 ghost use Rattle.cs_engine.specs.Keeping.{FitsQuery, IsAnsweredOver};
 ghost use Rattle.cs_engine.specs.Loose.{AreKeysIn, AreLastWords, IsEntryByWords};
 ghost use Rattle.cs_engine.specs.Reading.{WhereStood};
@@ -51,7 +51,7 @@ pub(crate) fn answered_by_words<S: Store>(
     ensures unchanged { WhereStood (S.bytes store.old) index.now (λ b. is_changed result ≡ false) }
     ensures bytes { S.bytes store.new ≡ S.bytes store.old }
     ensures lent { S.lent store.new ≡ S.lent store.old }
-    ensures reads { ReadsWithin (titles_of (asked request.now) result + met_of_facets (division index.now) (asked request.now).facets + length (filter (is_met words.0 words.1) index.now.heads)) (S.reads store.old) (S.reads store.new) }
+    ensures reads { ReadsWithin (titles_asked (asked request.now) result + met_of_facets (division index.now) (asked request.now).facets + length (filter (is_met words.0 words.1) index.now.heads)) (S.reads store.old) (S.reads store.new) }
     ensures caused { CausedReads (is_read result) (S.faults store.old) (S.faults store.new) }
 {
     let keys = keys_of_hits(alloc, index, store, &hits, words)?;

@@ -3,7 +3,7 @@ ghost use Rattle.std.specs.Prelude.{◌≡◌, ◌<◌, ◌++◌, List, length, 
 ghost use Rattle.std.specs.List.{All};
 ghost use Rattle.cs_base.specs.declared.content.doc.Post.{Post};
 ghost use Rattle.cs_tables.specs.WordCounts.{is_chosen};
-ghost use Rattle.cs_engine.specs.Packing.{IsOrdered, IsPacked, apart, key_of, place_of, post_of};
+ghost use Rattle.cs_engine.specs.Packing.{IsOrdered, IsPacked, apart, key_of, place_of_key, post_of_key};
 
 use crate::between::is_chosen;
 use cs_base::{Memory, Post};
@@ -56,7 +56,7 @@ pub(crate) fn ordered(alloc: Global, mut keys: Vec<u64>) -> Result<Cols, Memory>
 
 // The posts of ascending numbers, each place once.
 fn unpack(alloc: Global, keys: &[u64]) -> Result<Cols, Memory>
-    ensures { IfOk result (λ c. c.posts ≡ map post_of (apart NO_PLACE keys.now)) }
+    ensures { IfOk result (λ c. c.posts ≡ map post_of_key (apart NO_PLACE keys.now)) }
 {
     let mut rows = Cols::new(alloc);
     rows.reserve(keys.len())?;
@@ -86,7 +86,7 @@ fn key_of(post: Post) -> u64
 /// The post of a number.
 #[inline]
 pub(crate) fn post_of(key: u64) -> Post
-    ensures { result ≡ post_of key }
+    ensures { result ≡ post_of_key key }
 {
     let place = key / SCORE_ROOM;
     let spot = place / WORD_ROOM;

@@ -10,7 +10,7 @@ ghost use Rattle.cs_model_index.specs.Numbered.{word_at};
 ghost use Rattle.cs_model_kept.specs.Due.{met_of_facets, met_of_last};
 ghost use Rattle.cs_model_kept.specs.KeptListLaws.{before_last};
 ghost use Rattle.cs_query.specs.RequestView.{asked};
-ghost use Rattle.cs_engine.specs.Asking.{division, is_read, is_changed, titles_of};
+ghost use Rattle.cs_engine.specs.Asking.{division, is_read, is_changed, titles_asked};
 ghost use Rattle.cs_engine.specs.Keeping.{FitsQuery, IsAnsweredOver, IsEntryOver, entry_with};
 ghost use Rattle.cs_engine.specs.Reading.{AreWithin, WhereStood};
 
@@ -78,7 +78,7 @@ pub(crate) fn answered_by_part<S: Store>(
     ensures unchanged { WhereStood (S.bytes store.old) index.now (λ b. is_changed result ≡ false) }
     ensures bytes { S.bytes store.new ≡ S.bytes store.old }
     ensures lent { S.lent store.new ≡ S.lent store.old }
-    ensures reads { ReadsWithin (titles_of (asked request.now) result + met_of_facets (division index.now) (asked request.now).facets + met_of_last (division index.now) (last_of (out-Query request.now.query).parts)) (S.reads store.old) (S.reads store.new) }
+    ensures reads { ReadsWithin (titles_asked (asked request.now) result + met_of_facets (division index.now) (asked request.now).facets + met_of_last (division index.now) (last_of (out-Query request.now.query).parts)) (S.reads store.old) (S.reads store.new) }
     ensures caused { CausedReads (is_read result) (S.faults store.old) (S.faults store.new) }
 {
     let parts = request.query.parts.as_slice();

@@ -9,10 +9,10 @@ ghost use Rattle.cs_model.specs.Requests.{reply_of};
 ghost use Rattle.cs_model_index.specs.Sections.{file_corpus};
 ghost use Rattle.cs_model_kept.specs.Due.{due, met_of_facets, met_of_query};
 ghost use Rattle.cs_model_kept.specs.Entries.{entry_of};
-ghost use Rattle.cs_model_kept.specs.KeptList.{kept_fresh, plan_by};
+ghost use Rattle.cs_model_kept.specs.KeptList.{kept_fresh, plan_by, is_same};
 ghost use Rattle.cs_query.specs.RequestView.{asked};
-ghost use Rattle.cs_engine.specs.Asking.{division, is_read, is_changed, titles_of, titles_read};
-ghost use Rattle.cs_engine.specs.Keeping.{FitsQuery, HoldsGood, IsAnsweredOver, IsEntryOver, KeepsFitting, entry_with, is_same};
+ghost use Rattle.cs_engine.specs.Asking.{division, is_read, is_changed, titles_asked, titles_read};
+ghost use Rattle.cs_engine.specs.Keeping.{FitsQuery, HoldsGood, IsAnsweredOver, IsEntryOver, KeepsFitting, entry_with};
 ghost use Rattle.cs_engine.specs.Reading.{WhereStood};
 
 use crate::answering::reply_of;
@@ -53,7 +53,7 @@ pub(crate) fn answered<S: Store>(
     ensures unchanged { WhereStood (S.bytes store.old) index.now (λ b. is_changed result ≡ false) }
     ensures bytes { S.bytes store.new ≡ S.bytes store.old }
     ensures lent { S.lent store.new ≡ S.lent store.old }
-    ensures reads { ReadsWithin (due (division index.now) (asked request.now) plan (titles_of (asked request.now) result)) (S.reads store.old) (S.reads store.new) }
+    ensures reads { ReadsWithin (due (division index.now) (asked request.now) plan (titles_asked (asked request.now) result)) (S.reads store.old) (S.reads store.new) }
     ensures caused { CausedReads (is_read result) (S.faults store.old) (S.faults store.new) }
 {
     // the type of an index says what it keeps where a field of it is read
@@ -99,7 +99,7 @@ fn fresh<S: Store>(
     ensures unchanged { WhereStood (S.bytes store.old) index.now (λ b. is_changed result ≡ false) }
     ensures bytes { S.bytes store.new ≡ S.bytes store.old }
     ensures lent { S.lent store.new ≡ S.lent store.old }
-    ensures reads { ReadsWithin (titles_of (asked request.now) result + met_of_facets (division index.now) (asked request.now).facets + met_of_query (division index.now) request.now.query) (S.reads store.old) (S.reads store.new) }
+    ensures reads { ReadsWithin (titles_asked (asked request.now) result + met_of_facets (division index.now) (asked request.now).facets + met_of_query (division index.now) request.now.query) (S.reads store.old) (S.reads store.new) }
     ensures caused { CausedReads (is_read result) (S.faults store.old) (S.faults store.new) }
 {
     let parts = request.query.parts.as_slice();
@@ -132,7 +132,7 @@ pub(crate) fn with_reply<S: Store>(
     ensures unchanged { WhereStood (S.bytes store.old) index.now (λ b. is_changed result ≡ false) }
     ensures bytes { S.bytes store.new ≡ S.bytes store.old }
     ensures lent { S.lent store.new ≡ S.lent store.old }
-    ensures reads { ReadsWithin (titles_of (asked request.now) result + met_of_facets (division index.now) (asked request.now).facets) (S.reads store.old) (S.reads store.new) }
+    ensures reads { ReadsWithin (titles_asked (asked request.now) result + met_of_facets (division index.now) (asked request.now).facets) (S.reads store.old) (S.reads store.new) }
     ensures caused { CausedReads (is_read result) (S.faults store.old) (S.faults store.new) }
 {
     let reply = by_entry(alloc, index, store, request, &entry.base, &entry.rows)?;

@@ -24,7 +24,7 @@ use Rattle.cs_model_index.specs.Partitions.{is_facet}
 use Rattle.cs_model_index.specs.Sections.{number_at, head_in, heads_in, header_of, contents_of, offsets_len, directory_len, directory_at}
 use Rattle.cs_model_index.specs.declared.limits.TheConstants.{HEADER_BYTES, ENTRY_BYTES}
 use Rattle.cs_model_index.proofs.NumbersLemmas.{heads_count}
-use Rattle.cs_file.specs.Opening.{IsHeaderOf, HasHeads, bad_joint, bad_size, directory_judged, directory_stage, heads_of, words_of}
+use Rattle.cs_file.specs.Opening.{IsHeaderOf, HasHeads, bad_joint, bad_size, directory_judged, directory_stage, heads_of, file_words}
 use Rattle.cs_file.proofs.LaidLemmas.{all_hold, held_anywhere}
 
 -- ---- heads
@@ -68,13 +68,13 @@ heads_end ws bytes count i hs le h =
     sym (append-nil hs) ∙ ap (λ (x : List BlockHead). hs ++ x) (sym (no_heads ws (drop (16 * i) bytes))) ∙ ap (λ (k : ℕ). hs ++ heads_in ws k (drop (16 * i) bytes)) (sym none) ∙ h
 
 -- ---- the stage
-own_stage : (b : List ℕ) → directory_stage b ≡ directory_judged (header_of b) (words_of b) (heads_of b)
-unfolding directory_stage directory_judged bad_joint bad_size words_of heads_of
+own_stage : (b : List ℕ) → directory_stage b ≡ directory_judged (header_of b) (file_words b) (heads_of b)
+unfolding directory_stage directory_judged bad_joint bad_size file_words heads_of
 own_stage b = refl
 
-pub directory_is : (b : List ℕ) (h : Header) (ws : List (List ℕ)) (hs : List BlockHead) → IsHeaderOf b h → ws ≡ words_of b → hs ≡ heads_of b → directory_stage b ≡ directory_judged h ws hs
+pub directory_is : (b : List ℕ) (h : Header) (ws : List (List ℕ)) (hs : List BlockHead) → IsHeaderOf b h → ws ≡ file_words b → hs ≡ heads_of b → directory_stage b ≡ directory_judged h ws hs
 directory_is b h ws hs is words heads =
-    own_stage b ∙ ap (λ (x : Header). directory_judged x (words_of b) (heads_of b)) is.numbers ∙ ap (λ (x : List (List ℕ)). directory_judged h x (heads_of b)) (sym words) ∙ ap (directory_judged h ws) (sym heads)
+    own_stage b ∙ ap (λ (x : Header). directory_judged x (file_words b) (heads_of b)) is.numbers ∙ ap (λ (x : List (List ℕ)). directory_judged h x (heads_of b)) (sym words) ∙ ap (directory_judged h ws) (sym heads)
 
 directory_start : (b : List ℕ) → (contents_of b).bytes.directory ≡ part b (directory_at (header_of b)) (directory_len (header_of b))
 directory_start b =
@@ -84,13 +84,13 @@ directory_start b =
     let e = drop-drop h.titles_len (HEADER_BYTES + h.vocabulary_len + offsets_len h) b in
     ap (λ (x : List ℕ). take (directory_len h) (drop h.titles_len (drop (offsets_len h) x))) a ∙ ap (λ (x : List ℕ). take (directory_len h) (drop h.titles_len x)) c ∙ ap (λ (x : List ℕ). take (directory_len h) x) e
 
-own_heads : (b : List ℕ) → heads_of b ≡ heads_in (words_of b) (header_of b).blocks (contents_of b).bytes.directory
-unfolding heads_of words_of
+own_heads : (b : List ℕ) → heads_of b ≡ heads_in (file_words b) (header_of b).blocks (contents_of b).bytes.directory
+unfolding heads_of file_words
 own_heads b = refl
 
-pub heads_are : (b : List ℕ) (h : Header) (ws : List (List ℕ)) (bytes : List ℕ) → IsHeaderOf b h → ws ≡ words_of b → bytes ≡ part b (directory_at h) (directory_len h) → heads_in ws h.blocks bytes ≡ heads_of b
+pub heads_are : (b : List ℕ) (h : Header) (ws : List (List ℕ)) (bytes : List ℕ) → IsHeaderOf b h → ws ≡ file_words b → bytes ≡ part b (directory_at h) (directory_len h) → heads_in ws h.blocks bytes ≡ heads_of b
 heads_are b h ws bytes is words at =
-    sym (own_heads b ∙ ap (heads_in (words_of b) (header_of b).blocks) (directory_start b) ∙ ap (λ (x : Header). heads_in (words_of b) x.blocks (part b (directory_at x) (directory_len x))) is.numbers
+    sym (own_heads b ∙ ap (heads_in (file_words b) (header_of b).blocks) (directory_start b) ∙ ap (λ (x : Header). heads_in (file_words b) x.blocks (part b (directory_at x) (directory_len x))) is.numbers
     ∙ ap (λ (x : List (List ℕ)). heads_in x h.blocks (part b (directory_at h) (directory_len h))) (sym words) ∙ ap (heads_in ws h.blocks) (sym at))
 
 -- ---- what the rules say

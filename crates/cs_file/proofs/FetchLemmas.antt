@@ -28,7 +28,7 @@ use Rattle.cs_model.specs.Scores.{SCORES}
 use Rattle.cs_model_index.specs.BlockRules.{judged, IsBlock, broken_at, rows_read}
 use Rattle.cs_model_index.specs.FileRules.{in_file}
 use Rattle.cs_model_index.specs.Blocks.{IsShaped}
-use Rattle.cs_file.specs.Answers.{HasBlock, IsChangeOfBlock, IsChangeOfTitle, is_changed}
+use Rattle.cs_file.specs.Answers.{HasBlock, IsChangeOfBlock, IsChangeOfTitle, is_changed_of_fetch}
 use Rattle.cs_file.specs.Fetching.{DecodesAt, IsPlaced, ReadsText}
 use Rattle.cs_file.specs.declared.fault.FetchFault.{FetchFault}
 use Rattle.cs_file.specs.declared.fault.FetchFault.TheVariants as fetches
@@ -85,7 +85,7 @@ title_within i is d lt =
     omega (arith, a, b, c)
 
 -- what decoding answers where no rule is broken
-unbroken_answer : (at : ℕ) (o : Option Broken) (r : Result (Unit {0}) FetchFault) → DecodesAt at o r → o ≡ None → is_changed r ≡ false
+unbroken_answer : (at : ℕ) (o : Option Broken) (r : Result (Unit {0}) FetchFault) → DecodesAt at o r → o ≡ None → is_changed_of_fetch r ≡ false
 unbroken_answer at o (Ok u) h e = refl
 unbroken_answer at o (Err (fetches.Changed rule there)) h e = absurd (none-some (broken_at rule there) (sym (ap (option_map (in_file at)) e) ∙ h))
 unbroken_answer at o (Err fetches.Read) h e = refl
@@ -140,7 +140,7 @@ module _ (i : IndexView) (told : Option (List ℕ)) (k : ℕ) (placed : Placed) 
       let block = subst (λ (n : ℕ). IsBlock SCORES placed.head n (block_posts b k) read) (sym h.docs_are) (subst (λ (x : BlockHead). IsBlock SCORES x i.docs (block_posts b k) read) (sym (h.head_is placed.head)) own) in
       (unique placed.head placed.docs (block_posts b k) read few_docs shaped_read block).1
 
-  pub unchanged_by : (b : List ℕ) (result : Result (Unit {0}) FetchFault) → told ≡ Some b → StandsFor b i → DecodesAt placed.at (judged SCORES placed.head placed.docs read) result → is_changed result ≡ false
+  pub unchanged_by : (b : List ℕ) (result : Result (Unit {0}) FetchFault) → told ≡ Some b → StandsFor b i → DecodesAt placed.at (judged SCORES placed.head placed.docs read) result → is_changed_of_fetch result ≡ false
   unchanged_by b result t s answer =
       unbroken_answer placed.at (judged SCORES placed.head placed.docs read) result answer (ap (λ (x : BlockHead). judged SCORES x placed.docs read) (h.head_is placed.head) ∙ ap (λ (n : ℕ). judged SCORES (get_or i.heads k placed.head) n read) h.docs_are
       ∙ never_broken b i s h.index k placed.head read h.known (long_there placed.head) (there placed.head b t))
@@ -159,7 +159,7 @@ module _ (i : IndexView) (told : Option (List ℕ)) (k : ℕ) (placed : Placed) 
   }
 
   -- the same of a call that decodes only where a test fails
-  pub fault_unchanged : (b : List ℕ) (result : Result (Unit {0}) FetchFault) → told ≡ Some b → StandsFor b i → IfErr result (λ e. DecodesAt placed.at (judged SCORES placed.head placed.docs read) (Err e)) → is_changed result ≡ false
+  pub fault_unchanged : (b : List ℕ) (result : Result (Unit {0}) FetchFault) → told ≡ Some b → StandsFor b i → IfErr result (λ e. DecodesAt placed.at (judged SCORES placed.head placed.docs read) (Err e)) → is_changed_of_fetch result ≡ false
   fault_unchanged b (Ok u) t s answer = refl
   fault_unchanged b (Err e) t s answer = unchanged_by b (Err e) t s answer
 
@@ -217,7 +217,7 @@ pub title_stood : (b : List ℕ) (i : IndexView) (told : Option (List ℕ)) (d a
 title_stood b i told d at read (Ok text) t s is lt h answer = answer.0 ∙ h.read_is b t ∙ sym (stood_title b i s is d lt).bytes
 title_stood b i told d at read (Err e) t s is lt h answer = tt
 
-pub title_unchanged : (b : List ℕ) (i : IndexView) (told : Option (List ℕ)) (d at : ℕ) (read : List ℕ) (r : Result (List ℕ) FetchFault) → told ≡ Some b → StandsFor b i → IsIndex i → d < i.docs → TitleRead i told d at read → ReadsText read at r → is_changed r ≡ false
+pub title_unchanged : (b : List ℕ) (i : IndexView) (told : Option (List ℕ)) (d at : ℕ) (read : List ℕ) (r : Result (List ℕ) FetchFault) → told ≡ Some b → StandsFor b i → IsIndex i → d < i.docs → TitleRead i told d at read → ReadsText read at r → is_changed_of_fetch r ≡ false
 title_unchanged b i told d at read (Ok text) t s is lt h answer = refl
 title_unchanged b i told d at read (Err fetches.Read) t s is lt h answer = refl
 title_unchanged b i told d at read (Err fetches.Memory) t s is lt h answer = refl

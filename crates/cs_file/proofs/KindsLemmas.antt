@@ -6,7 +6,8 @@ use Rattle.std.proofs.Common.{◌≡◌, ℕ, zero, suc, ◌+◌, ◌<◌, ◌�
 use Rattle.std.specs.List.{before_first, position_or_len}
 use Rattle.std.proofs.lemmas.Bool.{cases_lt}
 use Rattle.std.proofs.lemmas.List.{take_all}
-use Rattle.cs_model_index.specs.Partitions.{is_colon, is_facet, kind_of}
+use Rattle.cs_model.specs.Collection.{is_colon}
+use Rattle.cs_model_index.specs.Partitions.{is_facet, kind_of}
 
 drop_past : {X : Type 0} (xs : List X) (n : ℕ) → length xs ≤ n → drop n xs ≡ drop (length xs) xs
 drop_past [] zero le = refl

@@ -28,7 +28,7 @@ use Rattle.cs_file.specs.Answers.{IsDamageOf}
 use Rattle.cs_file.specs.declared.fault.OpenFault.{OpenFault}
 use Rattle.cs_file.specs.declared.fault.OpenFault.TheVariants as opens
 use Rattle.cs_file.specs.Indexes.{IndexView, IsIndex, index_of, StandsFor, Fits}
-use Rattle.cs_file.specs.Opening.{Refuses, AreBytes, IsHeader, IsHeaderOf, HasHeader, HasVocabulary, HasOffsets, HasHeads, header_stage, vocabulary_stage, titles_stage, directory_stage, blocks_stage, parting_stage, words_of, offsets_of, heads_of}
+use Rattle.cs_file.specs.Opening.{Refuses, AreBytes, IsHeader, IsHeaderOf, HasHeader, HasVocabulary, HasOffsets, HasHeads, header_stage, vocabulary_stage, titles_stage, directory_stage, blocks_stage, parting_stage, file_words, offsets_of, heads_of}
 use Rattle.cs_file.proofs.BytesLemmas.{more_front, all_bytes}
 use Rattle.cs_file.proofs.HeadsLemmas.{head_shaped}
 use Rattle.cs_file.proofs.StagesLemmas.{refuses_first}
@@ -221,8 +221,8 @@ same_index : (docs docs' target target' t t' p p' : ℕ) (ws ws' : List (List �
     → let x : IndexView = record { docs = docs; words = ws; offsets = os; heads = hs; target = target; titles_at = t; blocks_at = p } in let y : IndexView = record { docs = docs'; words = ws'; offsets = os'; heads = hs'; target = target'; titles_at = t'; blocks_at = p' } in x ≡ y
 same_index docs docs' target target' t t' p p' ws ws' os os' hs hs' a b c d e f g = rw (a, b, c, d, e, f, g) refl
 
-pub index_is : (b : List ℕ) (h : Header) (i : IndexView) → IsHeaderOf b h → i.docs ≡ h.docs → i.words ≡ words_of b → i.offsets ≡ offsets_of b → i.heads ≡ heads_of b → i.target ≡ h.target → i.titles_at ≡ titles_at h → i.blocks_at ≡ blocks_at h → i ≡ index_of b
-unfolding index_of words_of offsets_of heads_of
+pub index_is : (b : List ℕ) (h : Header) (i : IndexView) → IsHeaderOf b h → i.docs ≡ h.docs → i.words ≡ file_words b → i.offsets ≡ offsets_of b → i.heads ≡ heads_of b → i.target ≡ h.target → i.titles_at ≡ titles_at h → i.blocks_at ≡ blocks_at h → i ≡ index_of b
+unfolding index_of file_words offsets_of heads_of
 index_is b h i is docs words offsets heads target titles blocks =
     let back : h ≡ header_of b = sym is.numbers in
     same_index i.docs (header_of b).docs i.target (header_of b).target i.titles_at (titles_at (header_of b)) i.blocks_at (blocks_at (header_of b)) i.words _ i.offsets _ i.heads _

@@ -18,9 +18,9 @@ use Rattle.cs_model_index.specs.Layout.{Header}
 use Rattle.cs_model_index.specs.Partitions.{is_light}
 use Rattle.cs_model_index.specs.Sections.{header_of, contents_of, blocks_in, directory_at}
 use Rattle.cs_model_index.specs.declared.limits.TheConstants.{ENTRY_BYTES}
-use Rattle.cs_file.specs.declared.part.Part.{Part}
-use Rattle.cs_file.specs.Opening.{IsHeaderOf, blocks_of, heads_of, parting_stage, words_of}
-use Rattle.cs_file.specs.Parting.{part_by, parts_by, closes, keeps_part}
+use Rattle.cs_file.specs.declared.part.BlockPart.{BlockPart}
+use Rattle.cs_file.specs.Opening.{IsHeaderOf, blocks_of, heads_of, parting_stage, file_words}
+use Rattle.cs_file.specs.Parting.{part_by, parts_by, is_closed_by, keeps_part}
 
 -- ---- rows
 items_count : (lo k : ℕ) (last : Option Post) (index at : ℕ) (gaps words positions scores : List ℕ) → length (map item_row (items_in lo k last index at gaps words positions scores)) ≡ k
@@ -50,8 +50,8 @@ break_cons holds i items = step (holds i) i (find (λ j. not (holds j)) items)
 abbrev block_breaks : ℕ → List (List ℕ) → ℕ → Option Block → List BlockHead → List (List Post) → Option ℕ
 block_breaks target ws at last hs blocks = break_of (is_parted target ws) (laid (λ (p : Block). ENTRY_BYTES) at last (zip hs blocks))
 
-abbrev pub part_breaks : ℕ → List (List ℕ) → ℕ → Option Part → List Part → Option ℕ
-part_breaks target ws at last parts = break_of (λ i. keeps_part target ws i.value i.next) (laid (λ (p : Part). ENTRY_BYTES) at last parts)
+abbrev pub part_breaks : ℕ → List (List ℕ) → ℕ → Option BlockPart → List BlockPart → Option ℕ
+part_breaks target ws at last parts = break_of (λ i. keeps_part target ws i.value i.next) (laid (λ (p : BlockPart). ENTRY_BYTES) at last parts)
 
 -- the test of one block, and of its part
 same_test : (target : ℕ) (ws : List (List ℕ)) (h : BlockHead) (posts : List Post) (last : Option Block) (at : ℕ) (hs : List BlockHead) (bytes : List ℕ) → length posts ≡ h.rows
@@ -60,10 +60,10 @@ unfolding parts_by blocks_in
 same_test target ws h posts last at [] bytes len = ap (λ (n : ℕ). has_rows (h, posts) && (is_light target h.words n && true)) len
 same_test target ws h posts last at (g ∷ hs) bytes len =
     let block : List Post = rows_read g (take g.len bytes) in
-    let closed : ℕ → Bool = λ n. has_rows (h, posts) && (is_light target h.words n && closes target ws (record (part_by h posts) { head = record h { rows = n } }) (Some (part_by g block))) in
+    let closed : ℕ → Bool = λ n. has_rows (h, posts) && (is_light target h.words n && is_closed_by target ws (record (part_by h posts) { head = record h { rows = n } }) (Some (part_by g block))) in
     ap closed len
 
-same_breaks : (target : ℕ) (ws : List (List ℕ)) (at : ℕ) (last : Option Block) (before : Option Part) (hs : List BlockHead) (bytes : List ℕ)
+same_breaks : (target : ℕ) (ws : List (List ℕ)) (at : ℕ) (last : Option Block) (before : Option BlockPart) (hs : List BlockHead) (bytes : List ℕ)
     → block_breaks target ws at last hs (blocks_in hs bytes) ≡ part_breaks target ws at before (parts_by hs (blocks_in hs bytes))
 unfolding parts_by blocks_in laid break_of
 same_breaks target ws at last before [] bytes = refl
@@ -73,34 +73,34 @@ same_breaks target ws at last before (h ∷ hs) bytes =
     let blocks = blocks_in hs rest in
     let value : Block = (h, posts) in
     let i : Placed Block = record { value = value; last = last; next = slice_get (zip hs blocks) 0; at = at } in
-    let j : Placed Part = record { value = part_by h posts; last = before; next = slice_get (parts_by hs blocks) 0; at = at } in
+    let j : Placed BlockPart = record { value = part_by h posts; last = before; next = slice_get (parts_by hs blocks) 0; at = at } in
     break_cons (is_parted target ws) i (laid (λ (p : Block). ENTRY_BYTES) (at + ENTRY_BYTES) (Some value) (zip hs blocks))
     ∙ ap (λ (b : Bool). cond b (block_breaks target ws (at + ENTRY_BYTES) (Some value) hs blocks) (Some at)) (same_test target ws h posts last at hs rest (rows_count h (take h.len bytes)))
     ∙ ap (λ (o : Option ℕ). cond (keeps_part target ws (part_by h posts) (slice_get (parts_by hs blocks) 0)) o (Some at)) (same_breaks target ws (at + ENTRY_BYTES) (Some value) (Some (part_by h posts)) hs rest)
-    ∙ sym (break_cons (λ i. keeps_part target ws i.value i.next) j (laid (λ (p : Part). ENTRY_BYTES) (at + ENTRY_BYTES) (Some (part_by h posts)) (parts_by hs blocks)))
+    ∙ sym (break_cons (λ i. keeps_part target ws i.value i.next) j (laid (λ (p : BlockPart). ENTRY_BYTES) (at + ENTRY_BYTES) (Some (part_by h posts)) (parts_by hs blocks)))
 
 -- ---- the stage
 own_blocks : (b : List ℕ) → blocks_of b ≡ blocks_in (heads_of b) (contents_of b).bytes.blocks
 unfolding blocks_of heads_of
 own_blocks b = refl
 
-own_stage : (b : List ℕ) → parting_stage b ≡ first_reason (tried 18 (block_breaks (header_of b).target (words_of b) (directory_at (header_of b)) None (heads_of b) (blocks_of b)) ∷ [])
-unfolding parting_stage words_of heads_of blocks_of
+own_stage : (b : List ℕ) → parting_stage b ≡ first_reason (tried 18 (block_breaks (header_of b).target (file_words b) (directory_at (header_of b)) None (heads_of b) (blocks_of b)) ∷ [])
+unfolding parting_stage file_words heads_of blocks_of
 own_stage b = refl
 
 only : (o : Option Broken) → first_reason (o ∷ []) ≡ o
 only None = refl
 only (Some x) = refl
 
-pub parting_is : (b : List ℕ) (h : Header) (ws : List (List ℕ)) (parts : List Part) → IsHeaderOf b h → ws ≡ words_of b → parts ≡ parts_by (heads_of b) (blocks_of b) → parting_stage b ≡ tried 18 (part_breaks h.target ws (directory_at h) None parts)
+pub parting_is : (b : List ℕ) (h : Header) (ws : List (List ℕ)) (parts : List BlockPart) → IsHeaderOf b h → ws ≡ file_words b → parts ≡ parts_by (heads_of b) (blocks_of b) → parting_stage b ≡ tried 18 (part_breaks h.target ws (directory_at h) None parts)
 parting_is b h ws parts is words are =
     let bytes = (contents_of b).bytes.blocks in
-    own_stage b ∙ only (tried 18 (block_breaks (header_of b).target (words_of b) (directory_at (header_of b)) None (heads_of b) (blocks_of b)))
-    ∙ ap (λ (x : Header). tried 18 (block_breaks x.target (words_of b) (directory_at x) None (heads_of b) (blocks_of b))) is.numbers
-    ∙ ap (λ (x : List (List Post)). tried 18 (block_breaks h.target (words_of b) (directory_at h) None (heads_of b) x)) (own_blocks b)
-    ∙ ap (tried 18) (same_breaks h.target (words_of b) (directory_at h) None None (heads_of b) bytes)
-    ∙ ap (λ (x : List (List Post)). tried 18 (part_breaks h.target (words_of b) (directory_at h) None (parts_by (heads_of b) x))) (sym (own_blocks b))
-    ∙ ap (λ (x : List Part). tried 18 (part_breaks h.target (words_of b) (directory_at h) None x)) (sym are)
+    own_stage b ∙ only (tried 18 (block_breaks (header_of b).target (file_words b) (directory_at (header_of b)) None (heads_of b) (blocks_of b)))
+    ∙ ap (λ (x : Header). tried 18 (block_breaks x.target (file_words b) (directory_at x) None (heads_of b) (blocks_of b))) is.numbers
+    ∙ ap (λ (x : List (List Post)). tried 18 (block_breaks h.target (file_words b) (directory_at h) None (heads_of b) x)) (own_blocks b)
+    ∙ ap (tried 18) (same_breaks h.target (file_words b) (directory_at h) None None (heads_of b) bytes)
+    ∙ ap (λ (x : List (List Post)). tried 18 (part_breaks h.target (file_words b) (directory_at h) None (parts_by (heads_of b) x))) (sym (own_blocks b))
+    ∙ ap (λ (x : List BlockPart). tried 18 (part_breaks h.target (file_words b) (directory_at h) None x)) (sym are)
     ∙ ap (λ (x : List (List ℕ)). tried 18 (part_breaks h.target x (directory_at h) None parts)) (sym words)
 
 pub next_is : {X : Type 0} (xs : List X) (i : ℕ) → slice_get (drop (suc i) xs) 0 ≡ slice_get xs (i + 1)

@@ -24,7 +24,7 @@ use Rattle.cs_model_index.specs.Blocks.{IsShaped}
 use Rattle.cs_model_index.specs.FileRules.{in_file, blocks_break}
 use Rattle.cs_model_index.specs.Layout.{Header}
 use Rattle.cs_model_index.specs.Sections.{header_of, contents_of, blocks_in, blocks_at}
-use Rattle.cs_file.specs.declared.part.Part.{Part}
+use Rattle.cs_file.specs.declared.part.BlockPart.{BlockPart}
 use Rattle.cs_file.specs.declared.fault.OpenFault.{OpenFault}
 use Rattle.cs_file.specs.Opening.{AreBytes, Refuses, IsHeaderOf, blocks_of, blocks_stage, heads_of}
 use Rattle.cs_file.specs.Parting.{part_by, parts_by}
@@ -56,7 +56,7 @@ pub decoded_within : (head : BlockHead) (docs : ℕ) (bytes : List ℕ) (posts :
 decoded_within head docs bytes posts words d =
     subst (λ (ws : List ℕ). All (λ w. (head.lo ≤ w) × (w < head.lo + head.words)) ws) (sym d.words_are) (All-map (λ w. (head.lo ≤ w) × (w < head.lo + head.words)) (λ p. p.word) posts (block_words head docs posts bytes d.block))
 
-pub part_is : (head : BlockHead) (docs : ℕ) (bytes : List ℕ) (posts : List Post) (words : List ℕ) (p : Part) → docs < 2 ^ 32 → IsShaped head (length bytes) → Decoded head docs bytes posts words → p.head ≡ head
+pub part_is : (head : BlockHead) (docs : ℕ) (bytes : List ℕ) (posts : List Post) (words : List ℕ) (p : BlockPart) → docs < 2 ^ 32 → IsShaped head (length bytes) → Decoded head docs bytes posts words → p.head ≡ head
     → p.whole ≡ list_all (λ n. list_any (λ w. w == n) words) (range_with_len head.lo head.words) → p.first ≡ count_by (λ w. w == head.lo) words → p ≡ part_by head (rows_read head bytes)
 part_is head docs bytes posts words p few shaped d h w f =
     let rows : posts ≡ rows_read head bytes = read_rows head docs posts bytes few shaped d.block in
@@ -65,7 +65,7 @@ part_is head docs bytes posts words p few shaped d h w f =
     let first : p.first ≡ count_by (λ post. post.word == head.lo) posts = f ∙ ap (count_by (λ w. w == head.lo)) d.words_are ∙ count_posts head.lo posts in
     same_part p (part_by head posts) h whole first ∙ ap (part_by head) rows
   where
-    same_part : (p q : Part) → p.head ≡ q.head → p.whole ≡ q.whole → p.first ≡ q.first → p ≡ q
+    same_part : (p q : BlockPart) → p.head ≡ q.head → p.whole ≡ q.whole → p.first ≡ q.first → p ≡ q
     same_part p q a b c = rw (a, b, c) refl
 
 -- ---- the first blocks
@@ -78,15 +78,15 @@ unfolding blocks_of heads_of
 own_blocks b = ap (blocks_in (contents_of b).heads) (blocks_start b)
 
 -- of `heads` the first i were read, up to the place `at`
-pub record BlocksRead (b : List ℕ) (h : Header) (heads : List BlockHead) (i at : ℕ) (parts : List Part) : Type 0 where
+pub record BlocksRead (b : List ℕ) (h : Header) (heads : List BlockHead) (i at : ℕ) (parts : List BlockPart) : Type 0 where
   pub told : blocks_break h.docs at (drop i heads) (drop at b) ≡ blocks_stage b
   pub parts_are : parts ++ parts_by (drop i heads) (blocks_in (drop i heads) (drop at b)) ≡ parts_by heads (blocks_of b)
 
-pub reading : (b : List ℕ) (h : Header) (heads : List BlockHead) (at : ℕ) (parts : List Part) → IsHeaderOf b h → heads ≡ heads_of b → at ≡ blocks_at h → parts ≡ [] → BlocksRead b h heads 0 at parts
+pub reading : (b : List ℕ) (h : Header) (heads : List BlockHead) (at : ℕ) (parts : List BlockPart) → IsHeaderOf b h → heads ≡ heads_of b → at ≡ blocks_at h → parts ≡ [] → BlocksRead b h heads 0 at parts
 reading b h heads at parts is own place none = record {
   told = ap (λ (n : ℕ). blocks_break h.docs n heads (drop n b)) place ∙ ap (λ (x : List BlockHead). blocks_break h.docs (blocks_at h) x (drop (blocks_at h) b)) own
       ∙ ap (λ (x : Header). blocks_break x.docs (blocks_at x) (heads_of b) (drop (blocks_at x) b)) (sym is.numbers) ∙ sym (own_stage b);
-  parts_are = ap (λ (x : List Part). x ++ parts_by heads (blocks_in heads (drop at b))) none ∙ ap (λ (n : ℕ). parts_by heads (blocks_in heads (drop n b))) place
+  parts_are = ap (λ (x : List BlockPart). x ++ parts_by heads (blocks_in heads (drop at b))) none ∙ ap (λ (n : ℕ). parts_by heads (blocks_in heads (drop n b))) place
       ∙ ap (λ (x : List BlockHead). parts_by heads (blocks_in x (drop (blocks_at h) b))) own
       ∙ ap (λ (x : Header). parts_by heads (blocks_in (heads_of b) (drop (blocks_at x) b))) (sym is.numbers) ∙ ap (parts_by heads) (sym (own_blocks b));
 }
@@ -109,7 +109,7 @@ parts_first : (at : ℕ) (x : BlockHead) (hs : List BlockHead) (b : List ℕ)
 unfolding parts_by blocks_in
 parts_first at x hs b = ap (λ (y : List ℕ). part_by x (rows_read x (part b at x.len)) ∷ parts_by hs (blocks_in hs y)) (drop-drop x.len at b)
 
-pub reads_on : (b : List ℕ) (h : Header) (heads : List BlockHead) (i at : ℕ) (parts now : List Part) (p : Part) → i < length heads
+pub reads_on : (b : List ℕ) (h : Header) (heads : List BlockHead) (i at : ℕ) (parts now : List BlockPart) (p : BlockPart) → i < length heads
     → option_map (in_file at) (judged SCORES (get_or heads i nothing) h.docs (part b at (get_or heads i nothing).len)) ≡ None
     → p ≡ part_by (get_or heads i nothing) (rows_read (get_or heads i nothing) (part b at (get_or heads i nothing).len)) → now ≡ parts ++ p ∷ []
     → BlocksRead b h heads i at parts → BlocksRead b h heads (i + 1) (at + (get_or heads i nothing).len) now
@@ -118,16 +118,16 @@ reads_on b h heads i at parts now p lt fine is added r =
     let hs = drop (i + 1) heads in
     let rest = parts_by hs (blocks_in hs (drop (at + x.len) b)) in
     let here : parts_by (drop i heads) (blocks_in (drop i heads) (drop at b)) ≡ p ∷ rest =
-    ap (λ (y : List BlockHead). parts_by y (blocks_in y (drop at b))) (head_first heads i lt) ∙ parts_first at x hs b ∙ ap (λ (q : Part). q ∷ rest) (sym is) in
+    ap (λ (y : List BlockHead). parts_by y (blocks_in y (drop at b))) (head_first heads i lt) ∙ parts_first at x hs b ∙ ap (λ (q : BlockPart). q ∷ rest) (sym is) in
     record {
       told = ap (λ (o : Option Broken). option_or o (blocks_break h.docs (at + x.len) hs (drop (at + x.len) b))) (sym fine) ∙ sym (break_first h.docs at x hs b) ∙ ap (λ (y : List BlockHead). blocks_break h.docs at y (drop at b)) (sym (head_first heads i lt)) ∙ r.told;
-      parts_are = ap (λ (y : List Part). y ++ rest) added ∙ append_assoc parts (p ∷ []) rest ∙ ap (λ (y : List Part). parts ++ y) (sym here) ∙ r.parts_are;
+      parts_are = ap (λ (y : List BlockPart). y ++ rest) added ∙ append_assoc parts (p ∷ []) rest ∙ ap (λ (y : List BlockPart). parts ++ y) (sym here) ∙ r.parts_are;
     }
 
 or_some : (o p : Option Broken) (x : Broken) → o ≡ Some x → option_or o p ≡ Some x
 or_some o p x e = ap (λ (y : Option Broken). option_or y p) e
 
-pub read_refused : (b : List ℕ) (h : Header) (heads : List BlockHead) (i at : ℕ) (parts : List Part) (e : OpenFault) → i < length heads
+pub read_refused : (b : List ℕ) (h : Header) (heads : List BlockHead) (i at : ℕ) (parts : List BlockPart) (e : OpenFault) → i < length heads
     → Refuses (option_map (in_file at) (judged SCORES (get_or heads i nothing) h.docs (part b at (get_or heads i nothing).len))) e → BlocksRead b h heads i at parts → Refuses (blocks_stage b) e
 read_refused b h heads i at parts e lt refused r =
     let x = get_or heads i nothing in
@@ -151,11 +151,11 @@ no_parts : (bytes : List ℕ) → parts_by [] (blocks_in [] bytes) ≡ []
 unfolding parts_by blocks_in
 no_parts bytes = refl
 
-pub read_all : (b : List ℕ) (h : Header) (heads : List BlockHead) (i at : ℕ) (parts : List Part) → length heads ≤ i → BlocksRead b h heads i at parts → (blocks_stage b ≡ None) × (parts ≡ parts_by heads (blocks_of b))
+pub read_all : (b : List ℕ) (h : Header) (heads : List BlockHead) (i at : ℕ) (parts : List BlockPart) → length heads ≤ i → BlocksRead b h heads i at parts → (blocks_stage b ≡ None) × (parts ≡ parts_by heads (blocks_of b))
 read_all b h heads i at parts le r =
     let end = nothing_left heads i le in (
       sym r.told ∙ ap (λ (y : List BlockHead). blocks_break h.docs at y (drop at b)) end ∙ no_break h.docs at (drop at b),
-      sym (append-nil parts) ∙ ap (λ (y : List Part). parts ++ y) (sym (no_parts (drop at b))) ∙ ap (λ (y : List BlockHead). parts ++ parts_by y (blocks_in y (drop at b))) (sym end) ∙ r.parts_are,
+      sym (append-nil parts) ∙ ap (λ (y : List BlockPart). parts ++ y) (sym (no_parts (drop at b))) ∙ ap (λ (y : List BlockHead). parts ++ parts_by y (blocks_in y (drop at b))) (sym end) ∙ r.parts_are,
     )
 
 -- the place of the next block, and that of the first one's end

@@ -16,12 +16,9 @@ use Rattle.std.proofs.lemmas.Grind.{flat_map-append}
 use Rattle.std.proofs.lemmas.List.{take_all, take_more, take-append-drop}
 use Rattle.std.proofs.lemmas.List.Concat.{flat_map-cons}
 use Rattle.cs_base.specs.outside.Outside.{Grew, GrewByPrefix}
+use Rattle.cs_base.proofs.GrewLemmas.{grew_none, grew_twice, begun, grew_then_begun}
 use Rattle.cs_model_index.specs.Layout.{title_bytes}
 use Rattle.cs_file.specs.Putting.{HasPut}
-
-pub on_err : {T E : Type 0} (r : Result T E) (P : Type 0) → P → OnErr r P
-on_err (Ok x) P p = tt
-on_err (Err e) P p = p
 
 pub then_ok : {T E : Type 0} (r : Result T E) (P Q : Type 0) → (P → Q) → OnOk r P → OnOk r Q
 then_ok (Ok x) P Q f p = f p
@@ -32,32 +29,6 @@ then_err (Ok x) P Q f p = tt
 then_err (Err e) P Q f p = f p
 
 -- ---- puts
-pub grew_none : (w : Option (List ℕ)) → Grew w [] w
-grew_none None = refl
-grew_none (Some w) = ap (λ l. Some l) (sym (append-nil w))
-
-pub grew_twice : (w : Option (List ℕ)) (a b : List ℕ) (v u : Option (List ℕ)) → Grew w a v → Grew v b u → Grew w (a ++ b) u
-grew_twice None a b v u h k = k ∙ ap (option_map (λ l. l ++ b)) h
-grew_twice (Some w) a b v u h k = k ∙ ap (option_map (λ l. l ++ b)) h ∙ ap (λ l. Some l) (append_assoc w a b)
-
--- what was added whole was added up to its end
-pub grew_begun : (w : Option (List ℕ)) (a : List ℕ) (v : Option (List ℕ)) → Grew w a v → GrewByPrefix w a v
-grew_begun w a v h = (length a, h ∙ ap (λ b. option_map (λ l. l ++ b) w) (sym (take-length a)))
-
--- a put that fails leaves some first bytes of what was to come
-pub begun : (w : Option (List ℕ)) (a b : List ℕ) (v : Option (List ℕ)) → GrewByPrefix w a v → GrewByPrefix w (a ++ b) v
-begun w a b v h =
-    let start : take (length (take h.0 a)) (a ++ b) ≡ take h.0 a =
-    ap (λ x. take (length (take h.0 a)) (x ++ b)) (sym (take-append-drop h.0 a))
-    ∙ ap (take (length (take h.0 a))) (append_assoc (take h.0 a) (drop h.0 a) b)
-    ∙ take-append_seam (take h.0 a) (drop h.0 a ++ b) in
-    (length (take h.0 a), h.1 ∙ ap (λ x. option_map (λ l. l ++ x) w) (sym start))
-
--- what was put before goes in front
-pub grew_then_begun : (w : Option (List ℕ)) (a b : List ℕ) (v u : Option (List ℕ)) → Grew w a v → GrewByPrefix v b u → GrewByPrefix w (a ++ b) u
-grew_then_begun w a b v u h k =
-    (length a + k.0, grew_twice w a (take k.0 b) v u h k.1 ∙ ap (λ x. option_map (λ l. l ++ x) w) (sym (take-append-add a b k.0)))
-
 -- a piece is put of what is still to come
 module _ (w v u : Option (List ℕ)) (put piece behind rest all : List ℕ) (so_far : Grew w put v) (told : put ++ rest ≡ all) (cut : piece ++ behind ≡ rest) where
   pub piece_told : (put ++ piece) ++ behind ≡ all

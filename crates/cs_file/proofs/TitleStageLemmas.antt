@@ -22,7 +22,7 @@ use Rattle.cs_model_index.specs.Sections.{number_at, numbers_in, header_of, cont
 use Rattle.cs_model_index.specs.declared.limits.TheConstants.{HEADER_BYTES, NUMBER_BYTES}
 use Rattle.cs_model_index.proofs.NumbersLemmas.{numbers_count}
 use Rattle.cs_file.specs.declared.fault.OpenFault.{OpenFault}
-use Rattle.cs_file.specs.Opening.{AreBytes, Refuses, IsHeaderOf, HasOffsets, bad_offset, bad_title, offsets_of, titles_of, titles_stage}
+use Rattle.cs_file.specs.Opening.{AreBytes, Refuses, IsHeaderOf, HasOffsets, bad_offset, bad_title, offsets_of, file_titles, titles_stage}
 use Rattle.cs_file.proofs.BytesLemmas.{no_bytes, more_bytes, bytes_at}
 use Rattle.cs_file.proofs.LaidLemmas.{Rest, rest_start, rest_on, rest_broken, rest_end, all_hold, held_anywhere}
 use Rattle.cs_file.proofs.OffsetsLemmas.{onward_zero, onward_next, onward_end, title_at_index}
@@ -56,7 +56,7 @@ numbers_end bytes count i ns le h =
 
 -- ---- the stage
 own_stage : (b : List ℕ) → titles_stage b ≡ first_reason (tried 8 (bad_offset (header_of b) (offsets_of b)) ∷ tried 9 (bad_title b) ∷ [])
-unfolding titles_stage bad_offset bad_title offsets_of titles_of
+unfolding titles_stage bad_offset bad_title offsets_of file_titles
 own_stage b = refl
 
 pub titles_is : (b : List ℕ) (h : Header) (os : List ℕ) → IsHeaderOf b h → os ≡ offsets_of b → titles_stage b ≡ first_reason (tried 8 (bad_offset h os) ∷ tried 9 (bad_title b) ∷ [])
@@ -89,23 +89,23 @@ has_offsets h os bytes is fine =
     }
 
 -- ---- titles
-own_titles : (b : List ℕ) → titles_of b ≡ titles_in (offsets_of b) (contents_of b).bytes.titles
-unfolding titles_of offsets_of
+own_titles : (b : List ℕ) → file_titles b ≡ titles_in (offsets_of b) (contents_of b).bytes.titles
+unfolding file_titles offsets_of
 own_titles b = refl
 
-own_bad : (b : List ℕ) → bad_title b ≡ break_of (λ i. is_utf8 i.value) (laid (λ t. length t) (titles_at (header_of b)) None (titles_of b))
+own_bad : (b : List ℕ) → bad_title b ≡ break_of (λ i. is_utf8 i.value) (laid (λ t. length t) (titles_at (header_of b)) None (file_titles b))
 unfolding bad_title
 own_bad b = refl
 
-pub bad_is : (b : List ℕ) (h : Header) → IsHeaderOf b h → bad_title b ≡ break_of (λ i. is_utf8 i.value) (laid (λ t. length t) (titles_at h) None (titles_of b))
-bad_is b h is = own_bad b ∙ ap (λ (x : Header). break_of (λ i. is_utf8 i.value) (laid (λ t. length t) (titles_at x) None (titles_of b))) is.numbers
+pub bad_is : (b : List ℕ) (h : Header) → IsHeaderOf b h → bad_title b ≡ break_of (λ i. is_utf8 i.value) (laid (λ t. length t) (titles_at h) None (file_titles b))
+bad_is b h is = own_bad b ∙ ap (λ (x : Header). break_of (λ i. is_utf8 i.value) (laid (λ t. length t) (titles_at x) None (file_titles b))) is.numbers
 
 -- title d, from `at` on
 pub record TitleTold (b : List ℕ) (h : Header) (os : List ℕ) (d : ℕ) : Type 0 where
-  pub known : d < length (titles_of b)
-  pub title : get_or (titles_of b) d [] ≡ part b (titles_at h + get_or os d 0) (get_or os (d + 1) 0 - get_or os d 0)
+  pub known : d < length (file_titles b)
+  pub title : get_or (file_titles b) d [] ≡ part b (titles_at h + get_or os d 0) (get_or os (d + 1) 0 - get_or os d 0)
   pub within : titles_at h + get_or os d 0 + (get_or os (d + 1) 0 - get_or os d 0) ≤ length b
-  pub len : length (get_or (titles_of b) d []) ≡ get_or os (d + 1) 0 - get_or os d 0
+  pub len : length (get_or (file_titles b) d []) ≡ get_or os (d + 1) 0 - get_or os d 0
 
 -- where title d begins and ends among the titles
 pub record TitleLies (h : Header) (os : List ℕ) (d : ℕ) : Type 0 where
@@ -132,9 +132,9 @@ title_told b h os d is at ruled lt =
     let n = get_or os (d + 1) 0 - from in
     let one : d + 1 ≡ suc d = omega arith in
     let bytes = (contents_of b).bytes.titles in
-    let own : titles_of b ≡ titles_in os bytes = own_titles b ∙ ap (λ (x : List ℕ). titles_in x bytes) (sym at) in
+    let own : file_titles b ≡ titles_in os bytes = own_titles b ∙ ap (λ (x : List ℕ). titles_in x bytes) (sym at) in
     let start : bytes ≡ take h.titles_len (drop (titles_at h) b) = titles_start b ∙ ap (λ (x : Header). take x.titles_len (drop (titles_at x) b)) is.numbers in
-    let title : get_or (titles_of b) d [] ≡ part b (titles_at h + from) n =
+    let title : get_or (file_titles b) d [] ≡ part b (titles_at h + from) n =
     ap (λ (ts : List (List ℕ)). get_or ts d []) own ∙ title_at_index os bytes d known ∙ ap (λ (k : ℕ). take (get_or os k 0 - from) (drop from bytes)) (sym one)
     ∙ ap (λ (x : List ℕ). take n (drop from x)) start ∙ within_part n from (titles_at h) h.titles_len b (omega (arith, up, end)) in
     let size = is.size in
@@ -147,22 +147,22 @@ title_told b h os d is at ruled lt =
     }
 
 abbrev pub RestOfTitles : List ℕ → Header → List ℕ → ℕ → Type 0
-RestOfTitles b h os d = Rest (λ i. is_utf8 i.value) (λ t. length t) (titles_at h) (titles_of b) d (titles_at h + get_or os d 0)
+RestOfTitles b h os d = Rest (λ i. is_utf8 i.value) (λ t. length t) (titles_at h) (file_titles b) d (titles_at h + get_or os d 0)
 
 pub titles_begun : (b : List ℕ) (h : Header) (os : List ℕ) → HasOffsets h os → RestOfTitles b h os 0
 titles_begun b h os ruled =
     let count = ruled.count in
     let zero_is : get_or os 0 0 ≡ 0 = onward_zero 0 os ruled.onward (omega (arith, count)) in
     let first : titles_at h ≡ titles_at h + get_or os 0 0 = omega (arith, zero_is) in
-    subst (λ (n : ℕ). Rest (λ i. is_utf8 i.value) (λ t. length t) (titles_at h) (titles_of b) 0 n) first (rest_start (λ i. is_utf8 i.value) (λ t. length t) (titles_at h) (titles_of b))
+    subst (λ (n : ℕ). Rest (λ i. is_utf8 i.value) (λ t. length t) (titles_at h) (file_titles b) 0 n) first (rest_start (λ i. is_utf8 i.value) (λ t. length t) (titles_at h) (file_titles b))
 
 pub titles_on : (b : List ℕ) (h : Header) (os : List ℕ) (d at : ℕ) → TitleLies h os d → TitleTold b h os d → tried 9 (unless (is_utf8 (part b (titles_at h + get_or os d 0) (get_or os (d + 1) 0 - get_or os d 0))) at) ≡ None → RestOfTitles b h os d → RestOfTitles b h os (d + 1)
 titles_on b h os d at lies told fine h' =
-    let t = get_or (titles_of b) d [] in
+    let t = get_or (file_titles b) d [] in
     let up = lies.onward in
     let len = told.len in
     let next : titles_at h + get_or os (d + 1) 0 ≡ titles_at h + get_or os d 0 + length t = omega (arith, up, len) in
-    rest_on (λ i. is_utf8 i.value) (λ t. length t) (titles_at h) (titles_of b) d (titles_at h + get_or os d 0) (titles_at h + get_or os (d + 1) 0) t told.known (get_or_default (titles_of b) d [] t told.known) next
+    rest_on (λ i. is_utf8 i.value) (λ t. length t) (titles_at h) (file_titles b) d (titles_at h + get_or os d 0) (titles_at h + get_or os (d + 1) 0) t told.known (get_or_default (file_titles b) d [] t told.known) next
     (ap is_utf8 told.title ∙ unless_none _ _ (tried_none 9 _ fine)) h'
 
 refused_by : (u : Bool) (at there : ℕ) (o : Option ℕ) (e : OpenFault) → at ≡ there → (u ≡ false → Some there ≡ o) → Refuses (tried 9 (unless u at)) e → Refuses (tried 9 o) e
@@ -172,16 +172,16 @@ refused_by false at there o e same f h = subst (λ (x : Option ℕ). Refuses (tr
 pub title_refused : (b : List ℕ) (h : Header) (os : List ℕ) (d at : ℕ) (e : OpenFault) → IsHeaderOf b h → TitleTold b h os d → at ≡ titles_at h + get_or os d 0 → RestOfTitles b h os d
     → Refuses (tried 9 (unless (is_utf8 (part b (titles_at h + get_or os d 0) (get_or os (d + 1) 0 - get_or os d 0))) at)) e → Refuses (tried 9 (bad_title b)) e
 title_refused b h os d at e is told same rest refused =
-    let t = get_or (titles_of b) d [] in
+    let t = get_or (file_titles b) d [] in
     refused_by (is_utf8 (part b (titles_at h + get_or os d 0) (get_or os (d + 1) 0 - get_or os d 0))) at (titles_at h + get_or os d 0) (bad_title b) e same
-    (λ no. rest_broken (λ i. is_utf8 i.value) (λ t. length t) (titles_at h) (titles_of b) d (titles_at h + get_or os d 0) t told.known (get_or_default (titles_of b) d [] t told.known) (ap is_utf8 told.title ∙ no) rest ∙ sym (bad_is b h is)) refused
+    (λ no. rest_broken (λ i. is_utf8 i.value) (λ t. length t) (titles_at h) (file_titles b) d (titles_at h + get_or os d 0) t told.known (get_or_default (file_titles b) d [] t told.known) (ap is_utf8 told.title ∙ no) rest ∙ sym (bad_is b h is)) refused
 
 pub titles_done : (b : List ℕ) (h : Header) (os : List ℕ) (d : ℕ) → IsHeaderOf b h → os ≡ offsets_of b → HasOffsets h os → h.docs ≤ d → RestOfTitles b h os d → tried 9 (bad_title b) ≡ None
 titles_done b h os d is at ruled le rest =
-    let own : titles_of b ≡ titles_in os (contents_of b).bytes.titles = own_titles b ∙ ap (λ (x : List ℕ). titles_in x (contents_of b).bytes.titles) (sym at) in
+    let own : file_titles b ≡ titles_in os (contents_of b).bytes.titles = own_titles b ∙ ap (λ (x : List ℕ). titles_in x (contents_of b).bytes.titles) (sym at) in
     let count = ruled.count in
-    let past : length (titles_of b) ≤ d = omega (arith, ap length own, titles_count os (contents_of b).bytes.titles, count) in
-    ap (tried 9) (bad_is b h is ∙ sym (rest_end (λ i. is_utf8 i.value) (λ t. length t) (titles_at h) (titles_of b) d (titles_at h + get_or os d 0) past rest))
+    let past : length (file_titles b) ≤ d = omega (arith, ap length own, titles_count os (contents_of b).bytes.titles, count) in
+    ap (tried 9) (bad_is b h is ∙ sym (rest_end (λ i. is_utf8 i.value) (λ t. length t) (titles_at h) (file_titles b) d (titles_at h + get_or os d 0) past rest))
 
 -- ---- the bytes of the titles
 pub title_bytes_begun : (b : List ℕ) (h : Header) (os : List ℕ) → HasOffsets h os → AreBytes b (titles_at h) (get_or os 0 0)

@@ -21,7 +21,7 @@ use Rattle.cs_model_index.specs.FileRules.{Placed, laid, break_of, tried, is_wor
 use Rattle.cs_model_index.specs.Layout.{Header, vocabulary_bytes}
 use Rattle.cs_model_index.specs.Sections.{header_of, vocabulary_at, vocabulary_in}
 use Rattle.cs_model_index.proofs.SectionLemmas.{words_written}
-use Rattle.cs_file.specs.Opening.{IsHeaderOf, HasVocabulary, vocabulary_stage, words_judged, words_of}
+use Rattle.cs_file.specs.Opening.{IsHeaderOf, HasVocabulary, vocabulary_stage, words_judged, file_words}
 use Rattle.cs_file.proofs.LaidLemmas.{all_hold}
 
 abbrev items : List (List ℕ) → List (Placed (List ℕ))
@@ -48,11 +48,11 @@ pub vocabulary_is : (b : List ℕ) (h : Header) (bytes : List ℕ) → IsHeaderO
     → vocabulary_stage b ≡ first_reason (tried 5 (words_break h.words vocabulary_at bytes) ∷ words_judged (vocabulary_in h.words bytes) ∷ [])
 vocabulary_is b h bytes is at = own_stage b ∙ ap (λ (x : Header). stage_by x.words (part b vocabulary_at x.vocabulary_len)) is.numbers ∙ ap (stage_by h.words) (sym at)
 
-own_words : (b : List ℕ) → words_of b ≡ vocabulary_in (header_of b).words (part b vocabulary_at (header_of b).vocabulary_len)
-unfolding words_of
+own_words : (b : List ℕ) → file_words b ≡ vocabulary_in (header_of b).words (part b vocabulary_at (header_of b).vocabulary_len)
+unfolding file_words
 own_words b = refl
 
-pub words_are : (b : List ℕ) (h : Header) (bytes : List ℕ) → IsHeaderOf b h → bytes ≡ part b vocabulary_at h.vocabulary_len → vocabulary_in h.words bytes ≡ words_of b
+pub words_are : (b : List ℕ) (h : Header) (bytes : List ℕ) → IsHeaderOf b h → bytes ≡ part b vocabulary_at h.vocabulary_len → vocabulary_in h.words bytes ≡ file_words b
 words_are b h bytes is at = sym (own_words b ∙ ap (λ (x : Header). vocabulary_in x.words (part b vocabulary_at x.vocabulary_len)) is.numbers ∙ ap (vocabulary_in h.words) (sym at))
 
 -- ---- words in order

@@ -3,7 +3,7 @@
 -- Source: this engine's own.
 --
 --   IsDamageOf b e          the fault of opening, if it is damage, is the first broken rule of the bytes with its place
---   is_read_of_open r, is_read_of_fetch r, is_sink r, is_changed r      the answer is a failed read, a failed sink, a change
+--   is_read_of_open r, is_read_of_fetch r, is_sink r, is_changed_of_fetch r      the answer is a failed read, a failed sink, a change
 --   HasBlock i told k old new      posts were added that are those of block k, read of the bytes that the store tells
 --   AreOf posts docs words         the documents and the words of posts
 --   posts_in f              the posts of a block that was read into columns
@@ -46,9 +46,9 @@ is_read_of_fetch (Err fetches.Read) = true
 is_read_of_fetch _ = false
 
 -- an Ok isn't one
-abbrev pub is_changed : {T : Type 0} → Result T FetchFault → Bool
-is_changed (Err (fetches.Changed rule at)) = true
-is_changed _ = false
+abbrev pub is_changed_of_fetch : {T : Type 0} → Result T FetchFault → Bool
+is_changed_of_fetch (Err (fetches.Changed rule at)) = true
+is_changed_of_fetch _ = false
 
 -- an Ok isn't one
 abbrev pub is_sink : {T : Type 0} → Result T WriteFault → Bool

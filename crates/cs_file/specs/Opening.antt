@@ -19,7 +19,7 @@
 --   bad_joint h hs, bad_size h hs, directory_judged h ws hs       rules 10 to 12 of heads
 --   bad_offset h os, bad_title b     where rules 8 and 9 are broken
 --   header_judged bytes size         rules 2 to 4 of the header's bytes
---   words_of b, offsets_of b, titles_of b, heads_of b, blocks_of b       what is read of the bytes
+--   file_words b, offsets_of b, file_titles b, heads_of b, blocks_of b       what is read of the bytes
 use Rattle.std.specs.Prelude.{◌≡◌, ℕ, zero, suc, ◌+◌, true, All, if◌then◌else◌, ◌<◌, ◌≤◌, ◌^◌, ◌==◌, ◌&&◌, List, [], ◌∷◌, length, take, Option, None, Some, Result, MatchResult}
 use Rattle.std.specs.List.{list_all, slice_get, sum_by}
 use Rattle.std.specs.List.Sorted.{IsStrictlySortedBy}
@@ -82,16 +82,16 @@ HasHeader told h = ForSome told (λ b. IsHeaderOf b h)
 
 -- ---- what is read of bytes
 -- the words of the vocabulary
-unfoldable pub words_of : List ℕ → List (List ℕ)
-words_of b = (contents_of b).words
+unfoldable pub file_words : List ℕ → List (List ℕ)
+file_words b = (contents_of b).words
 
 -- where titles begin and the last one ends
 unfoldable pub offsets_of : List ℕ → List ℕ
 offsets_of b = (contents_of b).offsets
 
 -- the titles between them
-unfoldable pub titles_of : List ℕ → List (List ℕ)
-titles_of b = (contents_of b).titles
+unfoldable pub file_titles : List ℕ → List (List ℕ)
+file_titles b = (contents_of b).titles
 
 -- the heads of the directory
 unfoldable pub heads_of : List ℕ → List BlockHead
@@ -166,7 +166,7 @@ bad_offset h os = option_or (break_of (λ i. is_onward i.last i.value) (laid (λ
 
 -- where rule 9 is broken by the titles of bytes
 unfoldable pub bad_title : List ℕ → Option ℕ
-bad_title b = break_of (λ i. is_utf8 i.value) (laid (λ t. length t) (titles_at (header_of b)) None (titles_of b))
+bad_title b = break_of (λ i. is_utf8 i.value) (laid (λ t. length t) (titles_at (header_of b)) None (file_titles b))
 
 -- rules 10 to 12
 unfoldable pub directory_stage : List ℕ → Option Broken

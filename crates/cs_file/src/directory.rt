@@ -7,9 +7,9 @@ ghost use Rattle.cs_model_index.specs.FileRules.{break_of, is_joined, is_of_one_
 ghost use Rattle.cs_model_index.specs.Sections.{directory_at, head_in, heads_in};
 ghost use Rattle.cs_model_index.specs.declared.limits.TheConstants.{ENTRY_BYTES};
 ghost use Rattle.cs_file.specs.Answers.{is_read_of_open};
-ghost use Rattle.cs_file.specs.HeaderView.{seen};
+ghost use Rattle.cs_file.specs.HeaderView.{seen_header};
 ghost use Rattle.cs_file.specs.Indexes.{CausedReads};
-ghost use Rattle.cs_file.specs.Opening.{AreBytes, Judges, IsHeader, HasHeader, HasHeads, bad_joint, bad_size, before, directory_stage, directory_judged, heads_of, words_of};
+ghost use Rattle.cs_file.specs.Opening.{AreBytes, Judges, IsHeader, HasHeader, HasHeads, bad_joint, bad_size, before, directory_stage, directory_judged, heads_of, file_words};
 
 use crate::fault::OpenFault;
 use crate::header::Header;
@@ -27,15 +27,15 @@ pub(crate) fn read_directory<S: Store>(
     header: &Header,
     words: &[Word],
 ) -> Result<Seq<BlockHead>, OpenFault>
-    requires ranges { IsHeader (seen header.now) }
-    requires told { HasHeader (S.bytes store.old) (seen header.now) }
-    requires words { ForSome (S.bytes store.old) (λ b. words.now ≡ words_of b) }
+    requires ranges { IsHeader (seen_header header.now) }
+    requires told { HasHeader (S.bytes store.old) (seen_header header.now) }
+    requires words { ForSome (S.bytes store.old) (λ b. words.now ≡ file_words b) }
     requires few { length words.now ≤ MAX_WORDS }
 
     ensures exact { ForSome (S.bytes store.old) (λ b. Judges (directory_stage b) result) }
     ensures heads { ForSome (S.bytes store.old) (λ b. IfOk result (λ hs. hs ≡ heads_of b)) }
-    ensures ruled { IfOk result (λ hs. HasHeads (seen header.now) words.now hs) }
-    ensures small { ForSome (S.bytes store.old) (λ b. OnOk result (AreBytes b (directory_at (seen header.now)) (ENTRY_BYTES * header.now.blocks))) }
+    ensures ruled { IfOk result (λ hs. HasHeads (seen_header header.now) words.now hs) }
+    ensures small { ForSome (S.bytes store.old) (λ b. OnOk result (AreBytes b (directory_at (seen_header header.now)) (ENTRY_BYTES * header.now.blocks))) }
     ensures bytes { S.bytes store.new ≡ S.bytes store.old }
     ensures lent { S.lent store.new ≡ S.lent store.old }
     ensures caused { CausedReads (is_read_of_open result) (S.faults store.old) (S.faults store.new) }
@@ -79,11 +79,11 @@ fn head_at(words: &[Word], bytes: &[u8], at: usize) -> BlockHead
 
 // Tries rules 10 to 12.
 fn judge_heads(heads: &[BlockHead], header: &Header, words: &[Word]) -> Result<(), OpenFault>
-    requires ranges { IsHeader (seen header.now) }
+    requires ranges { IsHeader (seen_header header.now) }
     requires few { length words.now ≤ MAX_WORDS }
     requires blocks { length heads.now ≤ MAX_WORDS }
 
-    ensures exact { Judges (directory_judged (seen header.now) words.now heads.now) result }
+    ensures exact { Judges (directory_judged (seen_header header.now) words.now heads.now) result }
     ensures unread { is_read_of_open result ≡ false }
 {
     tried(10, bad_joint(heads, header))?;
@@ -95,7 +95,7 @@ fn judge_heads(heads: &[BlockHead], header: &Header, words: &[Word]) -> Result<(
 fn bad_joint(heads: &[BlockHead], header: &Header) -> Option<u64>
     requires { length heads.now ≤ MAX_WORDS }
 
-    ensures { result ≡ bad_joint (seen header.now) heads.now }
+    ensures { result ≡ bad_joint (seen_header header.now) heads.now }
 {
     let ends = last_end(heads) == u64::from(header.words);
     bad_start(heads, header.directory_at()).or(unless(ends, header.blocks_at()))
@@ -164,7 +164,7 @@ fn bad_kind(heads: &[BlockHead], first: u64, words: &[Word]) -> Option<u64>
 fn bad_size(heads: &[BlockHead], header: &Header) -> Option<u64>
     requires { length heads.now ≤ MAX_WORDS }
 
-    ensures { result ≡ bad_size (seen header.now) heads.now }
+    ensures { result ≡ bad_size (seen_header header.now) heads.now }
 {
     let sums = has_sums(heads, header);
     bad_shape(heads, header.directory_at()).or(unless(sums, header.blocks_at()))

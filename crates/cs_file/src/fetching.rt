@@ -11,7 +11,7 @@ ghost use Rattle.cs_model.specs.Scores.{SCORES};
 ghost use Rattle.cs_model_index.specs.BlockRules.{IsBlock, judged};
 ghost use Rattle.cs_model_index.specs.Blocks.{IsShaped};
 ghost use Rattle.cs_cols.specs.Held.{AreEven};
-ghost use Rattle.cs_file.specs.Answers.{AreOf, HasBlock, IsChangeOfBlock, IsChangeOfTitle, IsRanged, is_read_of_fetch, is_changed, posts_in};
+ghost use Rattle.cs_file.specs.Answers.{AreOf, HasBlock, IsChangeOfBlock, IsChangeOfTitle, IsRanged, is_read_of_fetch, is_changed_of_fetch, posts_in};
 ghost use Rattle.cs_file.specs.Fetching.{DecodesAt, HasPosts, IsPlaced, ReadsText};
 ghost use Rattle.cs_file.specs.Indexes.{StandsFor, Fits, CausedReads, block_place, block_posts, title_in, title_place, title_len};
 
@@ -52,7 +52,7 @@ impl Index {
         ensures stood { ForSome (S.bytes store.old) (λ b. StandsFor b self.now → OnOk result (into.new.posts ≡ into.old.posts ++ block_posts b k)) }
         ensures changed { IfErr result (IsChangeOfBlock self.now (S.bytes store.old) k) }
         ensures err { OnErr result (into.new.posts ≡ into.old.posts) }
-        ensures unchanged { ForSome (S.bytes store.old) (λ b. StandsFor b self.now → is_changed result ≡ false) }
+        ensures unchanged { ForSome (S.bytes store.old) (λ b. StandsFor b self.now → is_changed_of_fetch result ≡ false) }
         ensures bytes { S.bytes store.new ≡ S.bytes store.old }
         ensures lent { S.lent store.new ≡ S.lent store.old }
         ensures reads { ReadsWithin 1 (S.reads store.old) (S.reads store.new) }
@@ -80,7 +80,7 @@ impl Index {
         ensures ranged { OnOk result (All (IsRanged self.now) (posts_in into.new)) }
         ensures stood { ForSome (S.bytes store.old) (λ b. StandsFor b self.now → OnOk result (posts_in into.new ≡ block_posts b k)) }
         ensures changed { IfErr result (IsChangeOfBlock self.now (S.bytes store.old) k) }
-        ensures unchanged { ForSome (S.bytes store.old) (λ b. StandsFor b self.now → is_changed result ≡ false) }
+        ensures unchanged { ForSome (S.bytes store.old) (λ b. StandsFor b self.now → is_changed_of_fetch result ≡ false) }
         ensures bytes { S.bytes store.new ≡ S.bytes store.old }
         ensures lent { S.lent store.new ≡ S.lent store.old }
         ensures reads { ReadsWithin 1 (S.reads store.old) (S.reads store.new) }
@@ -108,7 +108,7 @@ impl Index {
         ensures words { OnOk result (All (λ w. w < length self.now.words) into.new.words.items) }
         ensures stood { ForSome (S.bytes store.old) (λ b. StandsFor b self.now → OnOk result (AreOf (block_posts b k) into.new.docs.items into.new.words.items)) }
         ensures changed { IfErr result (IsChangeOfBlock self.now (S.bytes store.old) k) }
-        ensures unchanged { ForSome (S.bytes store.old) (λ b. StandsFor b self.now → is_changed result ≡ false) }
+        ensures unchanged { ForSome (S.bytes store.old) (λ b. StandsFor b self.now → is_changed_of_fetch result ≡ false) }
         ensures bytes { S.bytes store.new ≡ S.bytes store.old }
         ensures lent { S.lent store.new ≡ S.lent store.old }
         ensures reads { ReadsWithin 1 (S.reads store.old) (S.reads store.new) }
@@ -131,7 +131,7 @@ impl Index {
         ensures ok { ForSome (S.bytes store.old) (λ b. IfOk result (λ t. t ≡ part b (title_place self.now doc) (title_len self.now doc))) }
         ensures stood { ForSome (S.bytes store.old) (λ b. StandsFor b self.now → IfOk result (λ t. t ≡ title_in b doc)) }
         ensures changed { IfErr result (IsChangeOfTitle self.now (S.bytes store.old) doc) }
-        ensures unchanged { ForSome (S.bytes store.old) (λ b. StandsFor b self.now → is_changed result ≡ false) }
+        ensures unchanged { ForSome (S.bytes store.old) (λ b. StandsFor b self.now → is_changed_of_fetch result ≡ false) }
         ensures bytes { S.bytes store.new ≡ S.bytes store.old }
         ensures lent { S.lent store.new ≡ S.lent store.old }
         ensures reads { ReadsWithin 1 (S.reads store.old) (S.reads store.new) }
@@ -157,7 +157,7 @@ impl Index {
         requires fits { Fits (S.bytes store.old) self.now }
 
         ensures ok { IfOk result (λ placed. IsPlaced self.now (S.bytes store.old) k placed bytes.new.items) }
-        ensures unchanged { is_changed result ≡ false }
+        ensures unchanged { is_changed_of_fetch result ≡ false }
         ensures bytes { S.bytes store.new ≡ S.bytes store.old }
         ensures lent { S.lent store.new ≡ S.lent store.old }
         ensures reads { ReadsWithin 1 (S.reads store.old) (S.reads store.new) }
@@ -208,7 +208,7 @@ fn read_over<S: Store>(
 
     ensures ok { ForSome (S.bytes store.old) (λ b. OnOk result (bytes.new.items ≡ part b at len)) }
     ensures long { OnOk result (length bytes.new.items ≡ len) }
-    ensures unchanged { is_changed result ≡ false }
+    ensures unchanged { is_changed_of_fetch result ≡ false }
     ensures bytes { S.bytes store.new ≡ S.bytes store.old }
     ensures lent { S.lent store.new ≡ S.lent store.old }
     ensures reads { ReadsWithin 1 (S.reads store.old) (S.reads store.new) }

@@ -6,7 +6,7 @@ ghost use Rattle.cs_model_index.specs.FileRules.{field_breaks};
 ghost use Rattle.cs_model_index.specs.Sections.{number_at, header_of, offsets_at, titles_at, directory_at, blocks_at, size_by};
 ghost use Rattle.cs_model_index.specs.declared.limits.TheConstants.{HEADER_BYTES};
 ghost use Rattle.cs_file.specs.Answers.{is_read_of_open};
-ghost use Rattle.cs_file.specs.HeaderView.{seen};
+ghost use Rattle.cs_file.specs.HeaderView.{seen_header};
 ghost use Rattle.cs_file.specs.Indexes.{CausedReads};
 ghost use Rattle.cs_file.specs.Opening.{AreBytes, Judges, IsHeader, HasHeader, header_stage, header_judged};
 
@@ -44,7 +44,7 @@ pub(crate) struct Header {
 impl Header {
     /// The place of the title offsets.
     pub(crate) fn offsets_at(&self) -> u64
-        ensures value { result ≡ offsets_at (seen self.now) }
+        ensures value { result ≡ offsets_at (seen_header self.now) }
         ensures small { result < 2 ^ 33 }
     {
         u64::from(HEADER_BYTES) + u64::from(self.vocabulary_len)
@@ -52,7 +52,7 @@ impl Header {
 
     /// The place of the titles.
     pub(crate) fn titles_at(&self) -> u64
-        ensures value { result ≡ titles_at (seen self.now) }
+        ensures value { result ≡ titles_at (seen_header self.now) }
         ensures small { result < 2 ^ 35 }
     {
         self.offsets_at() + u64::from(NUMBER_BYTES) * (u64::from(self.docs) + 1)
@@ -60,7 +60,7 @@ impl Header {
 
     /// The place of the directory.
     pub(crate) fn directory_at(&self) -> u64
-        ensures value { result ≡ directory_at (seen self.now) }
+        ensures value { result ≡ directory_at (seen_header self.now) }
         ensures small { result < 2 ^ 36 }
     {
         self.titles_at() + u64::from(self.titles_len)
@@ -68,7 +68,7 @@ impl Header {
 
     /// The place of the blocks.
     pub(crate) fn blocks_at(&self) -> u64
-        ensures value { result ≡ blocks_at (seen self.now) }
+        ensures value { result ≡ blocks_at (seen_header self.now) }
         ensures small { result < 2 ^ 38 }
     {
         self.directory_at() + u64::from(ENTRY_BYTES) * u64::from(self.blocks)
@@ -76,7 +76,7 @@ impl Header {
 
     /// The size of the file.
     pub(crate) fn size(&self) -> u64
-        ensures value { result ≡ size_by (seen self.now) }
+        ensures value { result ≡ size_by (seen_header self.now) }
         ensures small { result < 2 ^ 39 }
     {
         self.blocks_at() + u64::from(self.blocks_len)
@@ -86,8 +86,8 @@ impl Header {
 /// Reads the header, and tries rules 1 to 4.
 pub(crate) fn read_header<S: Store>(alloc: Global, store: &mut S) -> Result<Header, OpenFault>
     ensures exact { ForSome (S.bytes store.old) (λ b. Judges (header_stage b) result) }
-    ensures told { IfOk result (λ h. HasHeader (S.bytes store.old) (seen h)) }
-    ensures ranges { IfOk result (λ h. IsHeader (seen h)) }
+    ensures told { IfOk result (λ h. HasHeader (S.bytes store.old) (seen_header h)) }
+    ensures ranges { IfOk result (λ h. IsHeader (seen_header h)) }
     ensures small { ForSome (S.bytes store.old) (λ b. OnOk result (AreBytes b 0 HEADER_BYTES)) }
     ensures bytes { S.bytes store.new ≡ S.bytes store.old }
     ensures lent { S.lent store.new ≡ S.lent store.old }
@@ -106,9 +106,9 @@ fn judge_header(bytes: &[u8], size: u64) -> Result<Header, OpenFault>
     requires { length bytes.now ≡ HEADER_BYTES }
 
     ensures exact { Judges (header_judged bytes.now size) result }
-    ensures numbers { IfOk result (λ h. header_of bytes.now ≡ seen h) }
-    ensures size { IfOk result (λ h. size ≡ size_by (seen h)) }
-    ensures ranges { IfOk result (λ h. IsHeader (seen h)) }
+    ensures numbers { IfOk result (λ h. header_of bytes.now ≡ seen_header h) }
+    ensures size { IfOk result (λ h. size ≡ size_by (seen_header h)) }
+    ensures ranges { IfOk result (λ h. IsHeader (seen_header h)) }
     ensures unread { is_read_of_open result ≡ false }
 {
     tried(2, unless(bytes[..MAGIC.len()] == MAGIC[..], 0))?;
@@ -122,7 +122,7 @@ fn judge_header(bytes: &[u8], size: u64) -> Result<Header, OpenFault>
 fn header_in(bytes: &[u8]) -> Header
     requires { length bytes.now ≡ HEADER_BYTES }
 
-    ensures numbers { record (seen result) { spare = number_at bytes.now 40 } ≡ header_of bytes.now }
+    ensures numbers { record (seen_header result) { spare = number_at bytes.now 40 } ≡ header_of bytes.now }
     ensures small { (result.vocabulary_len < 2 ^ 32) × (result.titles_len < 2 ^ 32) × (result.blocks_len < 2 ^ 32) }
 {
     Header {
@@ -139,7 +139,7 @@ fn header_in(bytes: &[u8]) -> Header
 
 // The place of the first number that is out of its range.
 fn broken_field(header: &Header, spare: u32) -> Option<u64>
-    ensures { result ≡ first_reason (field_breaks (record (seen header.now) { spare = spare })) }
+    ensures { result ≡ first_reason (field_breaks (record (seen_header header.now) { spare = spare })) }
 {
     let in_range = 1 <= header.target && header.target <= MAX_TARGET;
     unless(header.docs as usize <= MAX_DOCS, 8)

@@ -3,7 +3,7 @@ use cs_base::BlockHead;
 
 /// What rule 18 asks of a block.
 #[derive(Clone, Copy, Drop)]
-pub(crate) struct Part {
+pub(crate) struct BlockPart {
     /// What the directory says of it.
     pub(crate) head: BlockHead,
     /// Whether each of its words has a row.

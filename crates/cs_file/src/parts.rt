@@ -5,17 +5,17 @@ ghost use Rattle.cs_base.specs.declared.content.limits.TheConstants.{MAX_ROWS, M
 ghost use Rattle.cs_model_index.specs.FileRules.{break_of, laid};
 ghost use Rattle.cs_model_index.specs.Partitions.{is_full, is_light};
 ghost use Rattle.cs_model_index.specs.declared.limits.TheConstants.{ENTRY_BYTES};
-ghost use Rattle.cs_file.specs.Parting.{HasMarks, closes, keeps_part, no_part};
+ghost use Rattle.cs_file.specs.Parting.{HasMarks, is_closed_by, keeps_part, no_part};
 
 use crate::kinds::are_alike;
-use crate::part::Part;
+use crate::part::BlockPart;
 use crate::reading::zeros;
 use cs_base::{BlockHead, Memory, Word};
 use cs_model_index::{ENTRY_BYTES, MAX_BLOCK_WORDS};
 use std::alloc::Global;
 
 /// What rule 18 asks of a block whose rows have these words.
-pub(crate) fn part_of(alloc: Global, head: &BlockHead, words: &[u32]) -> Result<Part, Memory>
+pub(crate) fn part_of(alloc: Global, head: &BlockHead, words: &[u32]) -> Result<BlockPart, Memory>
     requires few { length words.now ≤ MAX_ROWS }
     requires within { All (λ w. (head.now.lo ≤ w) × (w < head.now.lo + head.now.words)) words.now }
 
@@ -24,7 +24,7 @@ pub(crate) fn part_of(alloc: Global, head: &BlockHead, words: &[u32]) -> Result<
     ensures first { IfOk result (λ p. p.first ≡ count_by (λ w. w == head.now.lo) words.now) }
 {
     let marks = marks_of(alloc, words, head.lo, head.words)?;
-    Ok(Part {
+    Ok(BlockPart {
         head: *head,
         whole: are_marked(&marks),
         first: count_of(words, head.lo),
@@ -59,7 +59,7 @@ fn count_of(words: &[u32], n: u32) -> u32
 }
 
 /// The place of the first block that isn't as long as it may be, or has a word without a row.
-pub(crate) fn bad_part(words: &[Word], parts: &[Part], target: u32, first: u64) -> Option<u64>
+pub(crate) fn bad_part(words: &[Word], parts: &[BlockPart], target: u32, first: u64) -> Option<u64>
     requires few { length parts.now ≤ MAX_WORDS }
     requires places { first < 2 ^ 40 }
 
@@ -74,7 +74,7 @@ pub(crate) fn bad_part(words: &[Word], parts: &[Part], target: u32, first: u64) 
 }
 
 // Whether block `i` keeps rule 18.
-fn keeps_part(words: &[Word], parts: &[Part], i: usize, target: u32) -> bool
+fn keeps_part(words: &[Word], parts: &[BlockPart], i: usize, target: u32) -> bool
     requires { i < length parts.now }
 
     ensures { result ≡ keeps_part target words.now (slice_index_or parts.now i no_part) (slice_get parts.now (i + 1)) }
@@ -85,15 +85,15 @@ fn keeps_part(words: &[Word], parts: &[Part], i: usize, target: u32) -> bool
         && is_closed(words, part, parts.get(i + 1).copied(), target)
 }
 
-fn is_light(part: &Part, target: u32) -> bool
+fn is_light(part: &BlockPart, target: u32) -> bool
     ensures { result ≡ is_light target part.now.head.words part.now.head.rows }
 {
     part.head.words <= 1 || part.head.rows <= target
 }
 
 // Whether the next block, if it is of the same kind, has a first word for which there is no room.
-fn is_closed(words: &[Word], part: &Part, next: Option<Part>, target: u32) -> bool
-    ensures { result ≡ closes target words.now part.now next }
+fn is_closed(words: &[Word], part: &BlockPart, next: Option<BlockPart>, target: u32) -> bool
+    ensures { result ≡ is_closed_by target words.now part.now next }
 {
     match next {
         None => true,
@@ -103,7 +103,7 @@ fn is_closed(words: &[Word], part: &Part, next: Option<Part>, target: u32) -> bo
     }
 }
 
-fn is_full(part: &Part, more: u32, target: u32) -> bool
+fn is_full(part: &BlockPart, more: u32, target: u32) -> bool
     ensures { result ≡ is_full target part.now.head.words (part.now.head.rows + more) }
 {
     MAX_BLOCK_WORDS <= part.head.words

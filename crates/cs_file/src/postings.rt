@@ -10,14 +10,14 @@ ghost use Rattle.cs_model_index.specs.Blocks.{IsShaped};
 ghost use Rattle.cs_model_index.specs.FileRules.{in_file};
 ghost use Rattle.cs_model_index.specs.Sections.{blocks_at};
 ghost use Rattle.cs_file.specs.Answers.{is_read_of_open};
-ghost use Rattle.cs_file.specs.HeaderView.{seen};
+ghost use Rattle.cs_file.specs.HeaderView.{seen_header};
 ghost use Rattle.cs_file.specs.Indexes.{CausedReads};
 ghost use Rattle.cs_file.specs.Opening.{AreBytes, Judges, IsHeader, HasHeader, blocks_of, blocks_stage, heads_of};
 ghost use Rattle.cs_file.specs.Parting.{part_by, parts_by};
 
 use crate::fault::OpenFault;
 use crate::header::Header;
-use crate::part::Part;
+use crate::part::BlockPart;
 use crate::parts::part_of;
 use crate::reading::section;
 use cs_base::{BlockHead, Memory, Store};
@@ -31,9 +31,9 @@ pub(crate) fn read_blocks<S: Store>(
     store: &mut S,
     header: &Header,
     heads: &[BlockHead],
-) -> Result<Vec<Part>, OpenFault>
-    requires ranges { IsHeader (seen header.now) }
-    requires told { HasHeader (S.bytes store.old) (seen header.now) }
+) -> Result<Vec<BlockPart>, OpenFault>
+    requires ranges { IsHeader (seen_header header.now) }
+    requires told { HasHeader (S.bytes store.old) (seen_header header.now) }
     requires heads { ForSome (S.bytes store.old) (λ b. heads.now ≡ heads_of b) }
     requires shaped { All (λ h. IsShaped h h.len) heads.now }
     requires bytes { sum_by (λ h. h.len) heads.now ≡ header.now.blocks_len }
@@ -43,7 +43,7 @@ pub(crate) fn read_blocks<S: Store>(
     ensures exact { ForSome (S.bytes store.old) (λ b. Judges (blocks_stage b) result) }
     ensures parts { ForSome (S.bytes store.old) (λ b. IfOk result (λ v. v.items ≡ parts_by heads.now (blocks_of b))) }
     ensures count { IfOk result (λ v. length v.items ≡ length heads.now) }
-    ensures small { ForSome (S.bytes store.old) (λ b. OnOk result (AreBytes b (blocks_at (seen header.now)) header.now.blocks_len)) }
+    ensures small { ForSome (S.bytes store.old) (λ b. OnOk result (AreBytes b (blocks_at (seen_header header.now)) header.now.blocks_len)) }
     ensures bytes { S.bytes store.new ≡ S.bytes store.old }
     ensures lent { S.lent store.new ≡ S.lent store.old }
     ensures caused { CausedReads (is_read_of_open result) (S.faults store.old) (S.faults store.new) }
@@ -58,14 +58,14 @@ pub(crate) fn read_blocks<S: Store>(
     Ok(parts)
 }
 
-fn room_for(alloc: Global, count: usize) -> Result<Vec<Part>, Memory>
+fn room_for(alloc: Global, count: usize) -> Result<Vec<BlockPart>, Memory>
     ensures { IfOk result (λ v. v.items ≡ []) }
 {
     let parts = Vec::with_capacity(alloc, count)?;
     Ok(parts)
 }
 
-fn push_part(parts: &mut Vec<Part>, part: Part) -> Result<(), Memory>
+fn push_part(parts: &mut Vec<BlockPart>, part: BlockPart) -> Result<(), Memory>
     ensures { OnOk result (parts.new.items ≡ parts.old.items ++ part ∷ []) }
 {
     parts.push(part)?;
@@ -79,7 +79,7 @@ fn read_block<S: Store>(
     at: u64,
     head: &BlockHead,
     docs: u32,
-) -> Result<Part, OpenFault>
+) -> Result<BlockPart, OpenFault>
     requires shaped { IsShaped head.now head.now.len }
     requires rows { head.now.rows ≤ MAX_ROWS }
     requires places { at < 2 ^ 40 }
@@ -103,7 +103,7 @@ fn judge_block(
     head: &BlockHead,
     docs: u32,
     at: u64,
-) -> Result<Part, OpenFault>
+) -> Result<BlockPart, OpenFault>
     requires shaped { IsShaped head.now (length bytes.now) }
     requires rows { head.now.rows ≤ MAX_ROWS }
     requires places { at < 2 ^ 40 }

@@ -9,7 +9,7 @@ ghost use Rattle.cs_model_index.specs.FileRules.{break_of, is_onward, laid, last
 ghost use Rattle.cs_model_index.specs.Sections.{numbers_in, offsets_at, titles_at};
 ghost use Rattle.cs_model_index.specs.declared.limits.TheConstants.{NUMBER_BYTES};
 ghost use Rattle.cs_file.specs.Answers.{is_read_of_open};
-ghost use Rattle.cs_file.specs.HeaderView.{seen};
+ghost use Rattle.cs_file.specs.HeaderView.{seen_header};
 ghost use Rattle.cs_file.specs.Indexes.{CausedReads};
 ghost use Rattle.cs_file.specs.Opening.{AreBytes, Judges, IsHeader, HasHeader, HasOffsets, before, bad_offset, bad_title, offsets_of, titles_stage};
 
@@ -27,14 +27,14 @@ pub(crate) fn read_titles<S: Store>(
     store: &mut S,
     header: &Header,
 ) -> Result<Seq<u32>, OpenFault>
-    requires ranges { IsHeader (seen header.now) }
-    requires told { HasHeader (S.bytes store.old) (seen header.now) }
+    requires ranges { IsHeader (seen_header header.now) }
+    requires told { HasHeader (S.bytes store.old) (seen_header header.now) }
 
     ensures exact { ForSome (S.bytes store.old) (λ b. Judges (titles_stage b) result) }
     ensures offsets { ForSome (S.bytes store.old) (λ b. IfOk result (λ os. os ≡ offsets_of b)) }
-    ensures ruled { IfOk result (λ os. HasOffsets (seen header.now) os) }
-    ensures small { ForSome (S.bytes store.old) (λ b. OnOk result (AreBytes b (offsets_at (seen header.now)) (NUMBER_BYTES * (header.now.docs + 1)))) }
-    ensures texts { ForSome (S.bytes store.old) (λ b. OnOk result (AreBytes b (titles_at (seen header.now)) header.now.titles_len)) }
+    ensures ruled { IfOk result (λ os. HasOffsets (seen_header header.now) os) }
+    ensures small { ForSome (S.bytes store.old) (λ b. OnOk result (AreBytes b (offsets_at (seen_header header.now)) (NUMBER_BYTES * (header.now.docs + 1)))) }
+    ensures texts { ForSome (S.bytes store.old) (λ b. OnOk result (AreBytes b (titles_at (seen_header header.now)) header.now.titles_len)) }
     ensures bytes { S.bytes store.new ≡ S.bytes store.old }
     ensures lent { S.lent store.new ≡ S.lent store.old }
     ensures caused { CausedReads (is_read_of_open result) (S.faults store.old) (S.faults store.new) }
@@ -66,7 +66,7 @@ fn bad_offset(offsets: &[u32], header: &Header) -> Option<u64>
     requires few { length offsets.now ≤ MAX_DOCS + 1 }
     requires docs { header.now.docs ≤ MAX_DOCS }
 
-    ensures { result ≡ bad_offset (seen header.now) offsets.now }
+    ensures { result ≡ bad_offset (seen_header header.now) offsets.now }
 {
     let first = header.offsets_at();
     let last_at = first + u64::from(NUMBER_BYTES) * u64::from(header.docs);
@@ -124,13 +124,13 @@ fn judge_titles<S: Store>(
     header: &Header,
     offsets: &[u32],
 ) -> Result<(), OpenFault>
-    requires ranges { IsHeader (seen header.now) }
-    requires told { HasHeader (S.bytes store.old) (seen header.now) }
-    requires ruled { HasOffsets (seen header.now) offsets.now }
+    requires ranges { IsHeader (seen_header header.now) }
+    requires told { HasHeader (S.bytes store.old) (seen_header header.now) }
+    requires ruled { HasOffsets (seen_header header.now) offsets.now }
     requires offsets { ForSome (S.bytes store.old) (λ b. offsets.now ≡ offsets_of b) }
 
     ensures exact { ForSome (S.bytes store.old) (λ b. Judges (tried 9 (bad_title b)) result) }
-    ensures small { ForSome (S.bytes store.old) (λ b. OnOk result (AreBytes b (titles_at (seen header.now)) header.now.titles_len)) }
+    ensures small { ForSome (S.bytes store.old) (λ b. OnOk result (AreBytes b (titles_at (seen_header header.now)) header.now.titles_len)) }
     ensures bytes { S.bytes store.new ≡ S.bytes store.old }
     ensures lent { S.lent store.new ≡ S.lent store.old }
     ensures caused { CausedReads (is_read_of_open result) (S.faults store.old) (S.faults store.new) }

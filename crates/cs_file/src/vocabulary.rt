@@ -8,9 +8,9 @@ ghost use Rattle.cs_model_index.specs.FileRules.{break_of, follows, is_named_val
 ghost use Rattle.cs_model_index.specs.Sections.{vocabulary_at, vocabulary_in};
 ghost use Rattle.cs_file.specs.declared.fault.OpenFault.{OpenFault};
 ghost use Rattle.cs_file.specs.Answers.{is_read_of_open};
-ghost use Rattle.cs_file.specs.HeaderView.{seen};
+ghost use Rattle.cs_file.specs.HeaderView.{seen_header};
 ghost use Rattle.cs_file.specs.Indexes.{CausedReads};
-ghost use Rattle.cs_file.specs.Opening.{AreBytes, Judges, IsHeader, HasHeader, HasVocabulary, before, front_word, vocabulary_stage, words_judged, words_of};
+ghost use Rattle.cs_file.specs.Opening.{AreBytes, Judges, IsHeader, HasHeader, HasVocabulary, before, front_word, vocabulary_stage, words_judged, file_words};
 
 use crate::fault::OpenFault;
 use crate::header::Header;
@@ -27,12 +27,12 @@ pub(crate) fn read_vocabulary<S: Store>(
     store: &mut S,
     header: &Header,
 ) -> Result<Seq<Word>, OpenFault>
-    requires ranges { IsHeader (seen header.now) }
-    requires told { HasHeader (S.bytes store.old) (seen header.now) }
+    requires ranges { IsHeader (seen_header header.now) }
+    requires told { HasHeader (S.bytes store.old) (seen_header header.now) }
 
     ensures exact { ForSome (S.bytes store.old) (λ b. Judges (vocabulary_stage b) result) }
-    ensures words { ForSome (S.bytes store.old) (λ b. IfOk result (λ ws. ws ≡ words_of b)) }
-    ensures ruled { IfOk result (λ ws. HasVocabulary (seen header.now) ws) }
+    ensures words { ForSome (S.bytes store.old) (λ b. IfOk result (λ ws. ws ≡ file_words b)) }
+    ensures ruled { IfOk result (λ ws. HasVocabulary (seen_header header.now) ws) }
     ensures small { ForSome (S.bytes store.old) (λ b. OnOk result (AreBytes b vocabulary_at header.now.vocabulary_len)) }
     ensures bytes { S.bytes store.new ≡ S.bytes store.old }
     ensures lent { S.lent store.new ≡ S.lent store.old }

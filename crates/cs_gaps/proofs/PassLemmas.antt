@@ -9,7 +9,7 @@ use Rattle.std.proofs.Math.Nat.{pow-suc, pow-le-pow_right, mul_assoc, mul-add, m
 use Rattle.cs_gaps.specs.declared.gap.Gap.{Gap}
 use Rattle.cs_gaps.specs.declared.gap.Gap.TheVariants.{Is, Cut, Long, Big}
 use Rattle.cs_base.specs.index.GapCode.{code_in, code, looked_at, value_of}
-use Rattle.cs_gaps.specs.Reading.{gap_at, moved, ended}
+use Rattle.cs_gaps.specs.Reading.{gap_at, moved, at_last_byte}
 use Rattle.cs_gaps.proofs.CodesLemmas.{onto, last, read_in, capped, gap_read}
 
 -- what was read before: a sum n, the weight of the next byte, and so many bytes
@@ -55,10 +55,10 @@ one_more : (t : Bool) (n w i b : ℕ) → capped (with_front n w i (cond t Long 
 one_more true n w i b = refl
 one_more false n w i b = rw (mul_comm w b) refl
 
-pub ends : (rest : List ℕ) (n w i b : ℕ) → b ≡ get_or rest i 0 → i < length rest → b < 128 → HasRead rest n w i → ended b (i + 1) (n + b * w) (i + 1) ≡ gap_at rest
+pub ends : (rest : List ℕ) (n w i b : ℕ) → b ≡ get_or rest i 0 → i < length rest → b < 128 → HasRead rest n w i → at_last_byte b (i + 1) (n + b * w) (i + 1) ≡ gap_at rest
 ends rest n w i b e lt small h =
     let one = unrolled rest i lt h.few in
-    let front : capped (with_front n w i (read_in (5 - i) (eqb i 0) (drop i rest))) ≡ ended b (i + 1) (n + b * w) (i + 1) =
+    let front : capped (with_front n w i (read_in (5 - i) (eqb i 0) (drop i rest))) ≡ at_last_byte b (i + 1) (n + b * w) (i + 1) =
     rw (one, ← e, lt-ltb b 128 small, same_test i) (one_more (eqb b 0 && ltb 1 (i + 1)) n w i b) in
     sym front ∙ h.told
 
@@ -110,7 +110,7 @@ both true u at n next = refl
 both false true at n next = refl
 both false false at n next = refl
 
-pub moved_ended : (at b len n next : ℕ) → moved at (ended b len n next) ≡ ended b len n (at + next)
+pub moved_ended : (at b len n next : ℕ) → moved at (at_last_byte b len n next) ≡ at_last_byte b len n (at + next)
 moved_ended at b len n next = both (eqb b 0 && ltb 1 len) (ltb n (2 ^ 32)) at n next
 
 -- ---- a code of one byte
@@ -170,10 +170,10 @@ put_done n text len left small h =
 pub rest_fits : (bytes : List ℕ) (at i : ℕ) → ((k : ℕ) → get_or bytes k 0 < 256) → get_or (take (length bytes - at) (drop at bytes)) i 0 < 256
 rest_fits bytes at i h = rw (take_rest bytes at, get_or-drop) (h (at + i))
 
-pub ended_here : (r : Gap) (bytes : List ℕ) (at i n w b f : ℕ) → r ≡ ended b (i + 1) (n + f * w) (at + i + 1) → f ≡ b → b ≡ get_or (take (length bytes - at) (drop at bytes)) i 0
+pub ended_here : (r : Gap) (bytes : List ℕ) (at i n w b f : ℕ) → r ≡ at_last_byte b (i + 1) (n + f * w) (at + i + 1) → f ≡ b → b ≡ get_or (take (length bytes - at) (drop at bytes)) i 0
     → i < length (take (length bytes - at) (drop at bytes)) → b < 128 → HasRead (take (length bytes - at) (drop at bytes)) n w i → r ≡ moved at (gap_at (drop at bytes))
 ended_here r bytes at i n w b f is same read lt small h =
     let e = ends _ n w i b read lt small h in
     let place : at + i + 1 ≡ at + (i + 1) = omega arith in
-    is ∙ ap (λ (x : ℕ). ended b (i + 1) (n + x * w) (at + i + 1)) same ∙ ap (λ (x : ℕ). ended b (i + 1) (n + b * w) x) place
+    is ∙ ap (λ (x : ℕ). at_last_byte b (i + 1) (n + x * w) (at + i + 1)) same ∙ ap (λ (x : ℕ). at_last_byte b (i + 1) (n + b * w) x) place
     ∙ sym (moved_ended at b (i + 1) (n + b * w) (i + 1)) ∙ ap (moved at) (e ∙ ap gap_at (take_rest bytes at))

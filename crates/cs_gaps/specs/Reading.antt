@@ -4,7 +4,7 @@
 --   gap_of looked            what the bytes make that were looked at
 --   gap_at bytes             what stands at the front of bytes; the place behind a code is counted from there
 --   moved at gap             the same, counted from another place
---   ended last len n next    what a last byte makes of the number n, where it is the last of so many bytes
+--   at_last_byte last len n next    what a last byte makes of the number n, where it is the last of so many bytes
 --   StandsAt n at next bytes the code of n stands at a place, and next is the place behind it
 use Rattle.std.specs.Prelude.{◌≡◌, ℕ, ◌+◌, ◌^◌, ◌<◌, ◌≤◌, ◌&&◌, ◌==◌, nat_lt, List, [], ◌∷◌, ◌++◌, length, drop, if◌then◌else◌}
 use Rattle.cs_base.specs.index.GapCode.{code, looked_at, value_of}
@@ -18,12 +18,12 @@ last_byte (b ∷ []) = b
 last_byte (b ∷ c ∷ bytes) = last_byte (c ∷ bytes)
 
 -- A code's last byte is zero only where it is the first; of five bytes the number may still be too big.
-abbrev pub ended : ℕ → ℕ → ℕ → ℕ → Gap
-ended last len n next = if last == 0 && nat_lt 1 len then Long else (if nat_lt n (2 ^ 32) then Is n next else Big)
+abbrev pub at_last_byte : ℕ → ℕ → ℕ → ℕ → Gap
+at_last_byte last len n next = if last == 0 && nat_lt 1 len then Long else (if nat_lt n (2 ^ 32) then Is n next else Big)
 
 -- what the bytes make that were looked at; of none Cut
 abbrev pub gap_of : List ℕ → Gap
-gap_of looked = if nat_lt (last_byte looked) 128 then ended (last_byte looked) (length looked) (value_of looked) (length looked) else (if length looked == 5 then Big else Cut)
+gap_of looked = if nat_lt (last_byte looked) 128 then at_last_byte (last_byte looked) (length looked) (value_of looked) (length looked) else (if length looked == 5 then Big else Cut)
 
 -- at most five bytes are looked at, and none behind the first without the top bit
 unfoldable pub gap_at : List ℕ → Gap

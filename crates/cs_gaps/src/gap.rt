@@ -1,7 +1,7 @@
 //! Writing a gap code, and reading the one at a place.
 ghost use Rattle.std.specs.Prelude.{◌≡◌, ℕ, ◌+◌, ◌<◌, ◌≤◌, ◌^◌, ◌++◌, List, length, drop, OnOk, OnErr};
 ghost use Rattle.cs_base.specs.index.GapCode.{code};
-ghost use Rattle.cs_gaps.specs.Reading.{StandsAt, gap_at, ended, moved};
+ghost use Rattle.cs_gaps.specs.Reading.{StandsAt, gap_at, at_last_byte, moved};
 
 use cs_base::Memory;
 
@@ -86,7 +86,7 @@ fn read_gap(bytes: &[u8], at: usize) -> Gap
 
 // What a last byte makes of the number `n`, where it is the last of `len` bytes.
 fn end_gap(last: u8, len: usize, n: u64, next: usize) -> Gap
-    ensures { result ≡ ended last len n next }
+    ensures { result ≡ at_last_byte last len n next }
 {
     if last == 0 && len > 1 {
         return Gap::Long;

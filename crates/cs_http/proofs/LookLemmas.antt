@@ -19,8 +19,8 @@ use Rattle.cs_model_serving.specs.declared.framed.Framed.{Framed}
 use Rattle.cs_model_serving.specs.declared.framed.Framed.TheVariants as framed
 use Rattle.cs_model_serving.specs.Framing.{is_line_feed, ended_lines, is_empty_line, lines_len, front_lines, later_lines, place_in, framed_by, frame}
 use Rattle.cs_model_serving.proofs.FrameLemmas.{frame-head, frame-too_long, frame-few, frame-nil}
-use Rattle.cs_http.specs.declared.framing.Tail.{Tail}
-use Rattle.cs_http.specs.declared.framing.Tail.TheVariants.{Empty, Return, Text}
+use Rattle.cs_http.specs.declared.framing.LineState.{LineState}
+use Rattle.cs_http.specs.declared.framing.LineState.TheVariants.{Empty, Return, Text}
 use Rattle.cs_http.specs.declared.framing.Seen.{Seen}
 use Rattle.cs_http.specs.declared.framing.Look.{Look}
 use Rattle.cs_http.specs.declared.framing.Look.TheVariants.{Head, More, TooLong}
@@ -76,7 +76,7 @@ old_of b s is =
     }
 
 -- what is seen of bytes, from its fields
-seen_by : (b : List ℕ) (count skip : ℕ) (tail : Tail) (begun : Bool) → count ≡ length b → skip ≡ lines_len (front_lines (ended_lines b)) → tail ≡ tail_of (open_line b) → begun ≡ is_filled (later_lines (ended_lines b)) → record { count = count; skip = skip; tail = tail; begun = begun } ≡ seen_of b
+seen_by : (b : List ℕ) (count skip : ℕ) (tail : LineState) (begun : Bool) → count ≡ length b → skip ≡ lines_len (front_lines (ended_lines b)) → tail ≡ tail_of (open_line b) → begun ≡ is_filled (later_lines (ended_lines b)) → record { count = count; skip = skip; tail = tail; begun = begun } ≡ seen_of b
 unfolding seen_of
 seen_by b count skip tail begun e f g h = λ i. record { count = e i; skip = f i; tail = g i; begun = h i }
 
@@ -84,7 +84,7 @@ longer : (b : List ℕ) (c : ℕ) → length (b ++ c ∷ []) ≡ length b + 1
 longer b c = length-append b (c ∷ [])
 
 -- ---- one byte more
-pub put_seen : (b : List ℕ) (s : Seen) (c : ℕ) (tail : Tail) → IsOld b s → is_line_feed c ≡ false → tail ≡ tail_of (open_line b ++ c ∷ [])
+pub put_seen : (b : List ℕ) (s : Seen) (c : ℕ) (tail : LineState) → IsOld b s → is_line_feed c ≡ false → tail ≡ tail_of (open_line b ++ c ∷ [])
     → within_limit (record { count = s.count + 1; skip = s.skip; tail = tail; begun = s.begun }) ≡ look_of (b ++ c ∷ [])
 put_seen b s c tail old other is =
     let opens = byte_opens b c other in

@@ -15,8 +15,8 @@ use Rattle.cs_model.specs.Words.{is_filled}
 use Rattle.cs_model_serving.specs.declared.framed.Framed.{Framed}
 use Rattle.cs_model_serving.specs.declared.framed.Framed.TheVariants as framed
 use Rattle.cs_model_serving.specs.Framing.{ended_lines, lines_len, front_lines, later_lines, frame}
-use Rattle.cs_http.specs.declared.framing.Tail.{Tail}
-use Rattle.cs_http.specs.declared.framing.Tail.TheVariants.{Empty, Return, Text}
+use Rattle.cs_http.specs.declared.framing.LineState.{LineState}
+use Rattle.cs_http.specs.declared.framing.LineState.TheVariants.{Empty, Return, Text}
 use Rattle.cs_http.specs.declared.framing.Seen.{Seen}
 use Rattle.cs_http.specs.declared.framing.Look.{Look}
 use Rattle.cs_http.specs.declared.framing.Look.TheVariants.{Head, More, TooLong}
@@ -26,7 +26,7 @@ unfoldable pub open_line : List ℕ → List ℕ
 open_line b = drop (lines_len (ended_lines b)) b
 
 -- what stands in such a line; two CRs are text
-abbrev pub tail_of : List ℕ → Tail
+abbrev pub tail_of : List ℕ → LineState
 tail_of [] = Empty
 tail_of (b ∷ []) = if b == 13 then Return else Text
 tail_of (b ∷ c ∷ bs) = Text

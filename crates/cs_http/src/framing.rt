@@ -9,7 +9,7 @@ use cs_model_serving::Framed;
 
 /// What stands in a line that isn't ended.
 #[derive(Clone, Copy, Debug, PartialEq, Eq)]
-pub enum Tail {
+pub enum LineState {
     /// Nothing.
     Empty,
     /// One carriage return alone.
@@ -26,7 +26,7 @@ pub struct Seen {
     /// The bytes of the empty lines in front.
     pub skip: usize,
     /// What stands in the last line.
-    pub tail: Tail,
+    pub tail: LineState,
     /// Whether a line that isn't empty was ended.
     pub begun: bool,
 }
@@ -67,7 +67,7 @@ impl Seen {
         Seen {
             count: 0,
             skip: 0,
-            tail: Tail::Empty,
+            tail: LineState::Empty,
             begun: false,
         }
     }
@@ -115,10 +115,10 @@ impl Seen {
     {
         let count = self.count + 1;
         match (self.tail, self.begun) {
-            (Tail::Text, _) => within_limit(Seen {
+            (LineState::Text, _) => within_limit(Seen {
                 count,
                 skip: self.skip,
-                tail: Tail::Empty,
+                tail: LineState::Empty,
                 begun: true,
             }),
             (_, true) => Look::Head {
@@ -128,7 +128,7 @@ impl Seen {
             (_, false) => within_limit(Seen {
                 count,
                 skip: count,
-                tail: Tail::Empty,
+                tail: LineState::Empty,
                 begun: false,
             }),
         }
@@ -152,14 +152,14 @@ impl Seen {
     }
 }
 
-impl Tail {
+impl LineState {
     // What stands in the line with one byte more.
-    fn with(self, byte: u8) -> Tail
+    fn with(self, byte: u8) -> LineState
         ensures { (line : List ℕ) → self ≡ tail_of line → result ≡ tail_of (line ++ byte ∷ []) }
     {
         match self {
-            Tail::Empty if byte == b'\r' => Tail::Return,
-            _ => Tail::Text,
+            LineState::Empty if byte == b'\r' => LineState::Return,
+            _ => LineState::Text,
         }
     }
 }

@@ -30,7 +30,7 @@ use Rattle.cs_base.specs.declared.content.limits.TheConstants.{MAX_CONNECTION_BY
 use Rattle.cs_base.specs.declared.memory.Memory.{Memory}
 use Rattle.cs_base.specs.outside.Causes.{ReadsWithin}
 use Rattle.cs_base.specs.outside.Hub.{Talk}
-use Rattle.cs_engine.specs.Asking.{is_read, titles_of}
+use Rattle.cs_engine.specs.Asking.{is_read, titles_asked}
 use Rattle.cs_engine.specs.Keeping.{EngineView}
 use Rattle.cs_engine.specs.declared.fault.AskFault.{AskFault}
 use Rattle.cs_engine.specs.declared.fault.AskFault.TheVariants as refusals
@@ -57,7 +57,7 @@ use Rattle.cs_hub.specs.Following.{Slots, left_at}
 use Rattle.cs_hub.specs.Responding.{response, IsJudgedSo}
 use Rattle.cs_hub.specs.Speaking.{Said, Spoke, Starved}
 use Rattle.cs_hub.specs.Streams.{RoseBy}
-use Rattle.cs_hub.specs.Turns.{Delivered, IsHeld, IsRefused, IsSent, Replied}
+use Rattle.cs_hub.specs.Turns.{Delivered, IsHeld, IsTurnedAway, IsSent, Replied}
 use Rattle.cs_hub.specs.declared.answer.Answer.{Answer}
 use Rattle.cs_hub.specs.declared.reading.Turn.{Turn}
 use Rattle.cs_hub.specs.declared.reading.Turn.TheVariants as turns
@@ -94,7 +94,7 @@ some_delivered c r false talk talk' (inl h) = (response_bytes r, false, h.1)
 some_delivered c r false talk talk' (inr (inl h)) = (take h.0 (response_bytes r), true, h.1)
 some_delivered c r false talk talk' (inr (inr h)) = some_starved c talk talk' h
 
-pub some_refused : (c : ℕ) (talk talk' : Option Talk) → IsRefused c talk talk' → Some_said c talk talk'
+pub some_refused : (c : ℕ) (talk talk' : Option Talk) → IsTurnedAway c talk talk' → Some_said c talk talk'
 some_refused c talk talk' (inl h) = some_delivered c too_long h.0 talk talk' h.1
 some_refused c talk talk' (inr h) = some_starved c talk talk' h
 
@@ -314,7 +314,7 @@ module _ {K : Type 0} (Leaves : K → Request → Result Reply AskFault → K �
   turned_held c u r u' turns.Holds s talk talk' f h = (heads-more (u ++ r) f, refl, h.1)
   turned_held c u r u' turns.Stops s talk talk' f h = starved_stops c (u ++ r) s talk talk' h
 
-  pub turned_long : (c : ℕ) (b : List ℕ) (s : K) (talk talk' : Option Talk) → frame b ≡ framed.TooLong → IsRefused c talk talk' → AsksAsSent Leaves false (requests_on b) s s (SentBefore c b talk talk')
+  pub turned_long : (c : ℕ) (b : List ℕ) (s : K) (talk talk' : Option Talk) → frame b ≡ framed.TooLong → IsTurnedAway c talk talk' → AsksAsSent Leaves false (requests_on b) s s (SentBefore c b talk talk')
   turned_long c b s talk talk' f h = record { asks = asks_none (requests_on b) s; sent = before_none c b talk talk' (heads-long b f) (some_refused c talk talk' h) }
 
   -- ---- the way through the bytes
@@ -465,7 +465,7 @@ pub refused_close : (j : Judgement) (fault : HeadFault) (r : Response) → IsHea
 refused_close j fault r cause h = ap (λ (x : Response). x.closes) (h nowhere j cause) ∙ closes_by nowhere j
 
 -- ---- one request of an engine
-pub few_titles : (q : Request) (r : Result (Reply × Note) AskFault) → IfOk r (λ x. length x.0.hits ≤ q.hits) → titles_of q r ≤ q.hits
+pub few_titles : (q : Request) (r : Result (Reply × Note) AskFault) → IfOk r (λ x. length x.0.hits ≤ q.hits) → titles_asked q r ≤ q.hits
 few_titles q (Ok x) h = h
 few_titles q (Err e) h = omega arith
 

@@ -15,7 +15,7 @@ use Rattle.cs_model.specs.Parameters.{RequestRefusal, request_of, request_refusa
 use Rattle.cs_model.specs.Requests.{Request}
 use Rattle.cs_model_serving.specs.Heads.{Judgement, asks, judge}
 use Rattle.cs_model_serving.specs.Responses.{Response, status_by, response_to, to_judgement, to_params}
-use Rattle.cs_model_serving.specs.Connections.{is_read, is_changed, reads, changes}
+use Rattle.cs_model_serving.specs.Connections.{says_read, says_changed, reads, changes}
 use Rattle.cs_model_serving.proofs.CountLemmas.{answer_counts}
 use Rattle.cs_query.specs.declared.request.ReqFault.{ReqFault}
 use Rattle.cs_hub.specs.Responding.{IsJudgedSo, IsRefusedSo, replied}
@@ -32,11 +32,11 @@ is_response k bytes j e = ap (to_judgement k) e
 none_of : (n : ℕ) (b : Bool) → n ≡ cond b 1 0 + 0 → b ≡ false → n ≡ 0
 none_of n b h e = h ∙ ap (λ x. cond x 1 0 + 0) e
 
-pub itself_given : (right r : Response) (m n : ℕ) → r ≡ right → is_read r ≡ false → is_changed r ≡ false → m ≤ n → IsFor right r m n
+pub itself_given : (right r : Response) (m n : ℕ) → r ≡ right → says_read r ≡ false → says_changed r ≡ false → m ≤ n → IsFor right r m n
 itself_given right r m n e read changed later = record {
   replaces = inl e;
-  unchanged = none_of (changes (r ∷ [])) (is_changed r) (changes_cons r []) changed;
-  rose = subst (λ i. RoseBy i m n) (sym (none_of (reads (r ∷ [])) (is_read r) (reads_cons r []) read)) (rose_none m n later);
+  unchanged = none_of (changes (r ∷ [])) (says_changed r) (changes_cons r []) changed;
+  rose = subst (λ i. RoseBy i m n) (sym (none_of (reads (r ∷ [])) (says_read r) (reads_cons r []) read)) (rose_none m n later);
 }
 
 -- ---- parameters
@@ -45,17 +45,17 @@ not_fault : (k : Corpus) (p : List ℕ) (r : Option RequestRefusal) → (status_
 not_fault k p None = refl
 not_fault k p (Some r) = refl
 
-params_counts : (k : Corpus) (p : List ℕ) (close : Bool) → (is_read (to_params k p close) ≡ false) × (is_changed (to_params k p close) ≡ false)
+params_counts : (k : Corpus) (p : List ℕ) (close : Bool) → (says_read (to_params k p close) ≡ false) × (says_changed (to_params k p close) ≡ false)
 params_counts k p close =
     let h = not_fault k p (request_refusal p) in
     let r = to_params k p close in
-    (ap (λ t. t && bytes_eq r.body (error_text (codes "read"))) h, ap (λ t. t && not (is_read r)) h)
+    (ap (λ t. t && bytes_eq r.body (error_text (codes "read"))) h, ap (λ t. t && not (says_read r)) h)
 
 pub given_refused : (Over : Corpus → Type 0) (p : List ℕ) (fault : ReqFault) (close : Bool) (r : Response) (m : ℕ) → IsCause p fault → IsRefusedSo fault close r → IsGiven Over (λ k. to_params k p close) r m m
 given_refused Over p fault close r m cause h = λ k over.
     let e : r ≡ to_params k p close = h k p cause in
     let counts = params_counts k p close in
-    itself_given (to_params k p close) r m m e (ap is_read e ∙ counts.0) (ap is_changed e ∙ counts.1) (omega arith)
+    itself_given (to_params k p close) r m m e (ap says_read e ∙ counts.0) (ap says_changed e ∙ counts.1) (omega arith)
 
 -- where the parameters aren't refused, the response is that to their request
 pub given_params : (k : Corpus) (p : List ℕ) (q : Request) (close : Bool) → request_refusal p ≡ None → q ≡ request_of p → replied k q close ≡ to_params k p close
@@ -73,4 +73,4 @@ pub given_judged : (Over : Corpus → Type 0) (bytes : List ℕ) (fault : HeadFa
 given_judged Over bytes fault r m cause h = λ k over.
     let e : r ≡ response_to k bytes = h k (judge bytes) cause ∙ sym (is_response k bytes (judge bytes) refl) in
     let counts = answer_counts k bytes in
-    itself_given (response_to k bytes) r m m e (ap is_read e ∙ counts.0) (ap is_changed e ∙ counts.1) (omega arith)
+    itself_given (response_to k bytes) r m m e (ap says_read e ∙ counts.0) (ap says_changed e ∙ counts.1) (omega arith)

@@ -17,7 +17,7 @@ use Rattle.cs_model_serving.specs.declared.framed.Framed.{Framed}
 use Rattle.cs_model_serving.specs.declared.framed.Framed.TheVariants.{Head, More, TooLong}
 use Rattle.cs_model_serving.specs.Framing.{frame}
 use Rattle.cs_model_serving.specs.Responses.{Response, response_bytes, response_to, all_bytes, memory_bytes}
-use Rattle.cs_model_serving.specs.Connections.{Served, waits, answered_by, framed, serve_heads, serve, MayReplace, is_read, is_changed, reads, changes}
+use Rattle.cs_model_serving.specs.Connections.{Served, waits, answered_by, framed, serve_heads, serve, MayReplace, says_read, says_changed, reads, changes}
 use Rattle.cs_model_serving.specs.ServingLaws.{answers_before}
 use Rattle.cs_model_serving.proofs.CountLemmas.{answer_counts}
 use Rattle.cs_hub.specs.Speaking.{IsServed, IsCutShort, IsMet, IsEnded}
@@ -88,25 +88,25 @@ waits_plain : (b : List ℕ) → IsPlain (waits b)
 waits_plain b = record { reads = refl; changes = refl; going = λ e. all_nil (λ r. r.closes ≡ false) }
 
 -- how many of a response and others
-pub reads_cons : (r : Response) (rs : List Response) → reads (r ∷ rs) ≡ cond (is_read r) 1 0 + reads rs
-reads_cons r rs = sum_by-cons (λ r. cond (is_read r) 1 0) r rs
+pub reads_cons : (r : Response) (rs : List Response) → reads (r ∷ rs) ≡ cond (says_read r) 1 0 + reads rs
+reads_cons r rs = sum_by-cons (λ r. cond (says_read r) 1 0) r rs
 
-pub changes_cons : (r : Response) (rs : List Response) → changes (r ∷ rs) ≡ cond (is_changed r) 1 0 + changes rs
-changes_cons r rs = sum_by-cons (λ r. cond (is_changed r) 1 0) r rs
+pub changes_cons : (r : Response) (rs : List Response) → changes (r ∷ rs) ≡ cond (says_changed r) 1 0 + changes rs
+changes_cons r rs = sum_by-cons (λ r. cond (says_changed r) 1 0) r rs
 
 none_more : (n : ℕ) (b : Bool) (m : ℕ) → n ≡ cond b 1 0 + m → b ≡ false → m ≡ 0 → n ≡ 0
 none_more n true m h e z = absurd cc
 none_more n false m h e z = omega (arith, h, z)
 
-answered_plain : (close : Bool) (r : Response) (rest : List ℕ) (later : List ℕ → Served) → r.closes ≡ close → is_read r ≡ false → is_changed r ≡ false → IsPlain (later rest) → IsPlain (answered_by close r rest later)
+answered_plain : (close : Bool) (r : Response) (rest : List ℕ) (later : List ℕ → Served) → r.closes ≡ close → says_read r ≡ false → says_changed r ≡ false → IsPlain (later rest) → IsPlain (answered_by close r rest later)
 answered_plain true r rest later closes read changed h = record {
-  reads = none_more (reads (r ∷ [])) (is_read r) (reads []) (reads_cons r []) read refl;
-  changes = none_more (changes (r ∷ [])) (is_changed r) (changes []) (changes_cons r []) changed refl;
+  reads = none_more (reads (r ∷ [])) (says_read r) (reads []) (reads_cons r []) read refl;
+  changes = none_more (changes (r ∷ [])) (says_changed r) (changes []) (changes_cons r []) changed refl;
   going = λ e. absurd cc;
 }
 answered_plain false r rest later closes read changed h = record {
-  reads = none_more (reads (r ∷ (later rest).responses)) (is_read r) (reads (later rest).responses) (reads_cons r (later rest).responses) read h.reads;
-  changes = none_more (changes (r ∷ (later rest).responses)) (is_changed r) (changes (later rest).responses) (changes_cons r (later rest).responses) changed h.changes;
+  reads = none_more (reads (r ∷ (later rest).responses)) (says_read r) (reads (later rest).responses) (reads_cons r (later rest).responses) read h.reads;
+  changes = none_more (changes (r ∷ (later rest).responses)) (says_changed r) (changes (later rest).responses) (changes_cons r (later rest).responses) changed h.changes;
   going = λ e. All-cons (λ r. r.closes ≡ false) r (later rest).responses closes (h.going e);
 }
 

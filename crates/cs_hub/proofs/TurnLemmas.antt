@@ -23,14 +23,14 @@ use Rattle.cs_model_serving.specs.declared.framed.Framed.TheVariants as framed
 use Rattle.cs_model_serving.specs.Framing.{frame}
 use Rattle.cs_model_serving.specs.Responses.{Response, response_to, response_bytes, all_bytes, memory_bytes, too_long}
 use Rattle.cs_model_serving.proofs.ServeLemmas.{serve-head, serve-too_long}
-use Rattle.cs_model_serving.specs.Connections.{Served, serve, answered, answered_by, MayReplace, is_read, is_changed, reads, changes}
+use Rattle.cs_model_serving.specs.Connections.{Served, serve, answered, answered_by, MayReplace, says_read, says_changed, reads, changes}
 use Rattle.cs_hub.specs.declared.reading.Turn.{Turn}
 use Rattle.cs_hub.specs.declared.reading.Turn.TheVariants.{Next, Holds, Stops as Closes}
 use Rattle.cs_hub.specs.declared.answer.Answer.{Answer}
 use Rattle.cs_hub.specs.Responding.{response}
 use Rattle.cs_hub.specs.Streams.{RoseBy}
 use Rattle.cs_hub.specs.Speaking.{Said, Spoke, Starved, IsCutShort, IsEnded, Says}
-use Rattle.cs_hub.specs.Turns.{IsGiven, Delivered, IsSent, Replied, IsOne, IsHeld, IsRefused, GoesOn, Stops, Turned}
+use Rattle.cs_hub.specs.Turns.{IsGiven, Delivered, IsSent, Replied, IsOne, IsHeld, IsTurnedAway, GoesOn, Stops, Turned}
 use Rattle.cs_hub.proofs.SpeakLemmas.{rose_none}
 use Rattle.cs_hub.proofs.ServedLemmas.{all_nil, zip_same, same_closing, plain, reads_cons, changes_cons}
 
@@ -103,10 +103,10 @@ module _ (Over : Corpus → Type 0) (c : ℕ) (b rest : List ℕ) (right : Corpu
   others k = let t = tail_of (right k).closes (right k) rest (serve k) in (t.0, ap (λ (a : Served). a.responses) (served k) ∙ t.1)
 
   none_read : (k : Corpus) → reads (others k).0 ≡ 0
-  none_read k = none_in (reads (right k ∷ (others k).0)) (reads (others k).0) (is_read (right k)) (sym (ap reads (others k).1) ∙ (plain k b).reads) (reads_cons (right k) (others k).0)
+  none_read k = none_in (reads (right k ∷ (others k).0)) (reads (others k).0) (says_read (right k)) (sym (ap reads (others k).1) ∙ (plain k b).reads) (reads_cons (right k) (others k).0)
 
   none_changed : (k : Corpus) → changes (others k).0 ≡ 0
-  none_changed k = none_in (changes (right k ∷ (others k).0)) (changes (others k).0) (is_changed (right k)) (sym (ap changes (others k).1) ∙ (plain k b).changes) (changes_cons (right k) (others k).0)
+  none_changed k = none_in (changes (right k ∷ (others k).0)) (changes (others k).0) (says_changed (right k)) (sym (ap changes (others k).1) ∙ (plain k b).changes) (changes_cons (right k) (others k).0)
 
   same_reads : (k : Corpus) → reads (r ∷ []) ≡ reads (r ∷ (others k).0)
   same_reads k = let x = reads_cons r [] in let y = reads_cons r (others k).0 in let z = none_read k in omega (arith, x, y, z)
@@ -251,7 +251,7 @@ module _ (Over : Corpus → Type 0) (c : ℕ) (u r u' : List ℕ) (skip end used
   pub turned_stops : goes ≡ false → Stops Over c (u ++ r) m n talk talk'
   turned_stops is = replied_stops Over c (u ++ r) (drop used r) (λ k. response_to k (slice_range (u ++ take used r) skip (length (u ++ take used r)))) goes m n talk talk' (λ k. served_by k u r skip end used f total within front) later is h
 
-pub turned_long : (Over : Corpus → Type 0) (c : ℕ) (b : List ℕ) (m : ℕ) (talk talk' : Option Talk) → frame b ≡ framed.TooLong → IsRefused c talk talk' → Stops Over c b m m talk talk'
+pub turned_long : (Over : Corpus → Type 0) (c : ℕ) (b : List ℕ) (m : ℕ) (talk talk' : Option Talk) → frame b ≡ framed.TooLong → IsTurnedAway c talk talk' → Stops Over c b m m talk talk'
 turned_long Over c b m talk talk' f h = refused_stops Over c b m talk talk' (λ k. serve-too_long k b f) h
 
 pub turned_held : (Over : Corpus → Type 0) (c : ℕ) (u r u' : List ℕ) (turn : Turn) (m : ℕ) (talk talk' : Option Talk) → frame (u ++ r) ≡ framed.More → IsHeld c u r turn u' talk talk' → Turned Over c u r turn u' m m talk talk'

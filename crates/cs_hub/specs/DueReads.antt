@@ -49,7 +49,7 @@ use Rattle.cs_model_serving.specs.Responses.{Response, all_bytes, memory_bytes, 
 use Rattle.cs_engine.specs.declared.fault.AskFault.{AskFault}
 use Rattle.cs_engine.specs.declared.fault.AskFault.TheVariants as faults
 use Rattle.cs_engine.specs.declared.note.Note.{Note}
-use Rattle.cs_engine.specs.Asking.{division, is_changed, is_read, titles_of}
+use Rattle.cs_engine.specs.Asking.{division, is_changed, is_read, titles_asked}
 use Rattle.cs_engine.specs.Keeping.{AreGood, EngineView, IsAfter, Keeps, note_plan}
 use Rattle.cs_hub.specs.Following.{Slots, left_at}
 use Rattle.cs_hub.specs.Speaking.{Spoke}
@@ -150,12 +150,12 @@ pub record IsRightOver (b : List ℕ) (q : Request) (old : EngineView) (answer :
 pub record IsDue (told : Option (List ℕ)) (a : Answered) (old : EngineView) (n : ℕ) (new : EngineView) : Type 0 where
   pub answer : Result (Reply × Note) AskFault
   pub reply : a.1 ≡ reply_in answer
-  pub few : titles_of a.0 answer ≤ a.0.hits
+  pub few : titles_asked a.0 answer ≤ a.0.hits
   pub index : new.index ≡ old.index
   pub keeps : Keeps old.index a.0.query old.answers answer new.answers
   pub unchanged : ForSome told (λ b. StandsFor b old.index → is_changed answer ≡ false)
   pub right : ForSome told (λ b. StandsFor b old.index → AreGood b old → IsRightOver b a.0 old answer new)
-  pub sum : n ≡ due (division old.index) a.0 (note_plan a.0.query old.answers) (titles_of a.0 answer)
+  pub sum : n ≡ due (division old.index) a.0 (note_plan a.0.query old.answers) (titles_asked a.0 answer)
 
 -- the sum for requests that are asked one after the other, each of the engine that the one before left; for none no read is due,
 -- and the engine stays as it is

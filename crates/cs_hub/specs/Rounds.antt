@@ -8,7 +8,7 @@
 --   Heeds                            a piece came
 --   Lightens e core core'            what an event adds to the weight at most, and what it takes away at least
 --   KeepsCame talk talk'             no event came
---   HasBytes, IsBelow                what an event of a hub keeps: its piece fits the buffer, a number is below the room
+--   HasBytes, OpensBelow                what an event of a hub keeps: its piece fits the buffer, a number is below the room
 --   Counted e opened r               how the loop goes on after an event, by how many connections were opened
 --   still conns opened core          what is left to come over all connections
 --   came_by talk                     how many events came
@@ -97,11 +97,11 @@ HasBytes (Ended c) size = Unit {0}
 HasBytes Over size = Unit {0}
 
 -- a connection that opens is one of so many
-abbrev pub IsBelow : Event → ℕ → Type 0
-IsBelow (Opened c) conns = c < conns
-IsBelow (Piece c n) conns = Unit {0}
-IsBelow (Ended c) conns = Unit {0}
-IsBelow Over conns = Unit {0}
+abbrev pub OpensBelow : Event → ℕ → Type 0
+OpensBelow (Opened c) conns = c < conns
+OpensBelow (Piece c n) conns = Unit {0}
+OpensBelow (Ended c) conns = Unit {0}
+OpensBelow Over conns = Unit {0}
 
 -- one more was opened, or as many as before, or nothing more comes
 abbrev pub Counted : Event → ℕ → Round → Type 0

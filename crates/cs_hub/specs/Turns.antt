@@ -7,7 +7,7 @@
 --   IsSent                   the same of what may be a response, or want of memory
 --   Replied                  the same of the response to a head, or memory ran out
 --   IsOne                    one response was sent, and later bytes are served behind it
---   IsHeld, IsRefused        what was done where no head ends: the bytes were kept, or more can't come
+--   IsHeld, IsTurnedAway        what was done where no head ends: the bytes were kept, or more can't come
 --   GoesOn, Kept, Stops      what a turn did: a head was answered; none ends there; the connection is to be closed
 --   Turned                   these by what the turn gave
 --   HoldsOn, Holds           all that is served was sent, and the connection goes on
@@ -103,8 +103,8 @@ IsHeld c unread rest turns.Holds unread' talk talk' = (unread' ≡ unread ++ res
 IsHeld c unread rest turns.Stops unread' talk talk' = Starved c talk talk'
 
 -- the response where no head ends was sent, or memory ran out
-abbrev pub IsRefused : ℕ → Option Talk → Option Talk → Type 0
-IsRefused c talk talk' = ((goes : Bool) × Delivered c too_long goes talk talk') ⊎ Starved c talk talk'
+abbrev pub IsTurnedAway : ℕ → Option Talk → Option Talk → Type 0
+IsTurnedAway c talk talk' = ((goes : Bool) × Delivered c too_long goes talk talk') ⊎ Starved c talk talk'
 
 -- what is served of the bytes was met, and the connection is to be closed
 abbrev pub Stops : (Corpus → Type 0) → ℕ → List ℕ → ℕ → ℕ → Option Talk → Option Talk → Type 0

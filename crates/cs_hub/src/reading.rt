@@ -8,7 +8,7 @@ ghost use Rattle.cs_model_serving.specs.Responses.{response_to, too_long};
 ghost use Rattle.cs_hub.specs.Asked.{AsksAsSent, AsksBy, SentFor};
 ghost use Rattle.cs_hub.specs.DueReads.{closes_behind, requests_in};
 ghost use Rattle.cs_hub.specs.Speaking.{Calm};
-ghost use Rattle.cs_hub.specs.Turns.{IsOpen, Replied, Turned, IsHeld, IsRefused, IsSent};
+ghost use Rattle.cs_hub.specs.Turns.{IsOpen, Replied, Turned, IsHeld, IsTurnedAway, IsSent};
 
 use crate::answer::Answer;
 use crate::answerer::Answerer;
@@ -180,7 +180,7 @@ fn send<H: Hub>(alloc: Global, hub: &mut H, conn: u32, answer: Result<Answer, Me
 fn refuse<H: Hub>(alloc: Global, hub: &mut H, conn: u32)
     requires live { IsLive (H.state hub.old) conn }
 
-    ensures refused { IsRefused conn (H.talk hub.old) (H.talk hub.new) }
+    ensures refused { IsTurnedAway conn (H.talk hub.old) (H.talk hub.new) }
     ensures calm { Calm (H.state hub.old) (H.state hub.new) (H.faults hub.old) (H.faults hub.new) (H.send_faults hub.old) (H.send_faults hub.new) (H.talk hub.old) (H.talk hub.new) }
 {
     match answer_too_long(alloc) {

@@ -48,21 +48,21 @@ module _ (ws : List (List ℕ)) (up : IsStrictlySortedBy (slice_cmp nat_cmp) ws)
             true≢false (grind (arith, nat_tests))))
       ] refl
 
-  shares_alike : (docs : List ℕ) (p : Post) (posts : List Post) → p.word < length ws → AllByRecursion (λ o. o.word < length ws) posts → posts_of.is_shared docs posts p ≡ shares (rows_at ws posts) docs (row_of ws p)
+  shares_alike : (docs : List ℕ) (p : Post) (posts : List Post) → p.word < length ws → AllByRecursion (λ o. o.word < length ws) posts → posts_of.shares_word docs posts p ≡ shares (rows_at ws posts) docs (row_of ws p)
   shares_alike docs p [] h known = refl
   shares_alike docs p (o ∷ posts) h known =
-      ap (λ b. (b && is_listed docs o.doc) || posts_of.is_shared docs posts p) (same_word o.word p.word known.0 h)
+      ap (λ b. (b && is_listed docs o.doc) || posts_of.shares_word docs posts p) (same_word o.word p.word known.0 h)
       ∙ ap (λ b. (bytes_eq (word_at ws o.word) (word_at ws p.word) && is_listed docs o.doc) || b) (shares_alike docs p posts h known.1)
 
   kept_row : (b : Bool) (p : Post) (posts : List Post) → rows_at ws (cond b (p ∷ posts) posts) ≡ cond b (row_of ws p ∷ rows_at ws posts) (rows_at ws posts)
   kept_row true p posts = refl
   kept_row false p posts = refl
 
-  kept_rows : (docs : List ℕ) (all posts : List Post) → AllByRecursion (λ o. o.word < length ws) all → AllByRecursion (λ o. o.word < length ws) posts → rows_at ws (filter (posts_of.is_shared docs all) posts) ≡ filter (shares (rows_at ws all) docs) (rows_at ws posts)
+  kept_rows : (docs : List ℕ) (all posts : List Post) → AllByRecursion (λ o. o.word < length ws) all → AllByRecursion (λ o. o.word < length ws) posts → rows_at ws (filter (posts_of.shares_word docs all) posts) ≡ filter (shares (rows_at ws all) docs) (rows_at ws posts)
   kept_rows docs all [] known h = refl
   kept_rows docs all (p ∷ posts) known h =
-      kept_row (posts_of.is_shared docs all p) p (filter (posts_of.is_shared docs all) posts)
-      ∙ ap (λ b. cond b (row_of ws p ∷ rows_at ws (filter (posts_of.is_shared docs all) posts)) (rows_at ws (filter (posts_of.is_shared docs all) posts))) (shares_alike docs p all h.0 known)
+      kept_row (posts_of.shares_word docs all p) p (filter (posts_of.shares_word docs all) posts)
+      ∙ ap (λ b. cond b (row_of ws p ∷ rows_at ws (filter (posts_of.shares_word docs all) posts)) (rows_at ws (filter (posts_of.shares_word docs all) posts))) (shares_alike docs p all h.0 known)
       ∙ ap (λ l. cond (shares (rows_at ws all) docs (row_of ws p)) (row_of ws p ∷ l) l) (kept_rows docs all posts known h.1)
 
   pub shared_stand : (docs : List ℕ) (posts : List Post) → AllByRecursion (λ o. o.word < length ws) posts → rows_at ws (shared posts docs) ≡ filter (shares (rows_at ws posts) docs) (rows_at ws posts)

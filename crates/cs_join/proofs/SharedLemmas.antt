@@ -8,18 +8,18 @@ use Rattle.std.specs.List.{list_any}
 use Rattle.std.proofs.lemmas.List.Elements.{filter_agree}
 use Rattle.std.proofs.lemmas.Bool.Decides.{nat_tests}
 use Rattle.cs_base.specs.declared.content.doc.Post.{Post}
-use Rattle.cs_meet.specs.Filters.{in_doc, keep_docs}
-use Rattle.cs_join.specs.Shared.{is_shared, shared}
-use Rattle.cs_join.specs.Marked.{AreMarked, has_mark}
+use Rattle.cs_meet.specs.Filters.{is_of_doc, keep_docs}
+use Rattle.cs_join.specs.Shared.{shares_word, shared}
+use Rattle.cs_join.specs.Marked.{AreMarksOf, has_mark}
 
-shared_by_words : (hits : List ℕ) (r : Post) (rows : List Post) → list_any (λ v. v == r.word) (map (λ p. p.word) (keep_docs rows hits)) ≡ is_shared hits rows r
+shared_by_words : (hits : List ℕ) (r : Post) (rows : List Post) → list_any (λ v. v == r.word) (map (λ p. p.word) (keep_docs rows hits)) ≡ shares_word hits rows r
 shared_by_words hits r [] = refl
 shared_by_words hits r (o ∷ rows) =
-    elim (list_any (in_doc o) hits) as (λ picked. list_any (λ v. v == r.word) (map (λ (p : Post). p.word) (cond picked (o ∷ keep_docs rows hits) (keep_docs rows hits))) ≡ (((o.word == r.word) && picked) || is_shared hits rows r)) [
+    elim (list_any (is_of_doc o) hits) as (λ picked. list_any (λ v. v == r.word) (map (λ (p : Post). p.word) (cond picked (o ∷ keep_docs rows hits) (keep_docs rows hits))) ≡ (((o.word == r.word) && picked) || shares_word hits rows r)) [
       | true ↦ (let rest = shared_by_words hits r rows in grind (arith, nat_tests, rest))
       | false ↦ (let rest = shared_by_words hits r rows in grind (arith, nat_tests, rest))
     ]
 
-pub shared_by_marks : (hits : List ℕ) (rows : List Post) (least : ℕ) (marks : List Bool) → AreMarked (map (λ p. p.word) (keep_docs rows hits)) least marks → filter (has_mark least marks) rows ≡ shared rows hits
+pub shared_by_marks : (hits : List ℕ) (rows : List Post) (least : ℕ) (marks : List Bool) → AreMarksOf (map (λ p. p.word) (keep_docs rows hits)) least marks → filter (has_mark least marks) rows ≡ shared rows hits
 shared_by_marks hits rows least marks marked =
-    filter_agree (has_mark least marks) (is_shared hits rows) (λ r. marked r.word ∙ shared_by_words hits r rows) rows
+    filter_agree (has_mark least marks) (shares_word hits rows) (λ r. marked r.word ∙ shared_by_words hits r rows) rows

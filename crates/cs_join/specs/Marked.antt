@@ -2,7 +2,7 @@
 --
 --   is_marked least marks w        the word w is marked in a table that begins at the word least
 --   has_mark least marks r         the word of the row r is
---   AreMarked words least marks    exactly these words are
+--   AreMarksOf words least marks    exactly these words are
 use Rattle.std.specs.Prelude.{◌≡◌, ℕ, ◌-◌, Bool, false, ◌&&◌, ◌==◌, nat_le, List, slice_index_or}
 use Rattle.std.specs.List.{list_any}
 use Rattle.cs_base.specs.declared.content.doc.Post.{Post}
@@ -16,5 +16,5 @@ abbrev pub has_mark : ℕ → List Bool → Post → Bool
 has_mark least marks r = is_marked least marks r.word
 
 -- each of the words is marked, and no other one; of no words none
-abbrev pub AreMarked : List ℕ → ℕ → List Bool → Type 0
-AreMarked words least marks = (w : ℕ) → is_marked least marks w ≡ list_any (λ v. v == w) words
+abbrev pub AreMarksOf : List ℕ → ℕ → List Bool → Type 0
+AreMarksOf words least marks = (w : ℕ) → is_marked least marks w ≡ list_any (λ v. v == w) words

@@ -1,6 +1,6 @@
 //! Words in a table.
 ghost use Rattle.std.specs.Prelude.{◌≡◌, ℕ, ◌+◌, ◌<◌, ◌≤◌, length, slice_index, slice_index_or, false, IfOk};
-ghost use Rattle.cs_join.specs.Marked.{AreMarked, is_marked};
+ghost use Rattle.cs_join.specs.Marked.{AreMarksOf, is_marked};
 
 use cs_base::Memory;
 use std::alloc::Global;
@@ -16,7 +16,7 @@ pub(crate) struct Marks {
 impl Marks {
     /// The marks of these words, each of which may stand more than once.
     pub(crate) fn of(alloc: Global, words: &[u32]) -> Result<Marks, Memory>
-        ensures { IfOk result (λ m. AreMarked words.now m.least m.marks.items) }
+        ensures { IfOk result (λ m. AreMarksOf words.now m.least m.marks.items) }
     {
         let (least, span) = span_of(words);
         let mut marks = vec![in alloc; false; span]?;

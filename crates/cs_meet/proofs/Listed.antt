@@ -8,7 +8,7 @@ use Rattle.std.proofs.lemmas.Bool.Decides.{nat_tests}
 use Rattle.std.proofs.lemmas.List.Folds.{list_any_at}
 use Rattle.cs_base.specs.declared.content.doc.Post.{Post}
 use Rattle.cs_base.specs.content.Orders.{by_place, AreSorted, AreDocs}
-use Rattle.cs_meet.specs.Filters.{in_doc}
+use Rattle.cs_meet.specs.Filters.{is_of_doc}
 use Rattle.cs_meet.specs.Places.{AllBelow, SplitsDocs, AheadOfRows, is_before}
 use Rattle.cs_meet.proofs.Passes.{none_at, IsUpTo, up_to}
 
@@ -26,43 +26,43 @@ below_through docs n d up within less m is k below =
 
 module _ (docs : List ℕ) (n : ℕ) (r : Post) (split : SplitsDocs docs n r.doc) where
   -- at the end the document isn't listed
-  pub listed_past : length docs ≤ n → list_any (in_doc r) docs ≡ false
-  listed_past past = none_at (in_doc r) docs 0 (λ k below.
+  pub listed_past : length docs ≤ n → list_any (is_of_doc r) docs ≡ false
+  listed_past past = none_at (is_of_doc r) docs 0 (λ k below.
       let less = split.below k (omega arith) in
       grind (arith, nat_tests, less))
 
-  listed_other : AreDocs docs → n < length docs → in_doc r (get_or docs n 0) ≡ false → list_any (in_doc r) docs ≡ false
-  listed_other up within other = none_at (in_doc r) docs 0 (λ k below.
-      elim (nat_lt k n) as (λ t. nat_lt k n ≡ t → in_doc r (get_or docs k 0) ≡ false) [
+  listed_other : AreDocs docs → n < length docs → is_of_doc r (get_or docs n 0) ≡ false → list_any (is_of_doc r) docs ≡ false
+  listed_other up within other = none_at (is_of_doc r) docs 0 (λ k below.
+      elim (nat_lt k n) as (λ t. nat_lt k n ≡ t → is_of_doc r (get_or docs k 0) ≡ false) [
         | true ↦ λ t.
             let less = split.below k (grind (arith, nat_tests)) in
             grind (arith, nat_tests, less)
-        | false ↦ λ t. elim (nat_lt n k) as (λ u. nat_lt n k ≡ u → in_doc r (get_or docs k 0) ≡ false) [
+        | false ↦ λ t. elim (nat_lt n k) as (λ u. nat_lt n k ≡ u → is_of_doc r (get_or docs k 0) ≡ false) [
           | true ↦ λ u.
               let more = below_from_sorted docs n k 0 up (grind (arith, nat_tests)) below in
               let stop = split.stop within in
               grind (arith, nat_tests, more, stop)
           | false ↦ λ u.
               let same : n ≡ k = grind (arith, nat_tests) in
-              subst (λ m. in_doc r (get_or docs m 0) ≡ false) same other
+              subst (λ m. is_of_doc r (get_or docs m 0) ≡ false) same other
         ] refl
       ] refl)
 
   -- within the list the document there decides
-  pub listed_at : AreDocs docs → n < length docs → (get_or docs n 0 == r.doc) ≡ list_any (in_doc r) docs
+  pub listed_at : AreDocs docs → n < length docs → (get_or docs n 0 == r.doc) ≡ list_any (is_of_doc r) docs
   listed_at up within =
-      elim (in_doc r (get_or docs n 0)) as (λ v. in_doc r (get_or docs n 0) ≡ v → v ≡ list_any (in_doc r) docs) [
-        | true ↦ λ here. sym (list_any_at (in_doc r) docs n 0 within here)
+      elim (is_of_doc r (get_or docs n 0)) as (λ v. is_of_doc r (get_or docs n 0) ≡ v → v ≡ list_any (is_of_doc r) docs) [
+        | true ↦ λ here. sym (list_any_at (is_of_doc r) docs n 0 within here)
         | false ↦ λ other. sym (listed_other up within other)
       ] refl
 
-less_isnt_listed : (r : Post) (d : ℕ) → d < r.doc → in_doc r d ≡ false
+less_isnt_listed : (r : Post) (d : ℕ) → d < r.doc → is_of_doc r d ≡ false
 less_isnt_listed r d h = grind (arith, nat_tests)
 
-before_isnt_here : (r : Post) (d : ℕ) → is_before r d 0 ≡ true → in_doc r d ≡ false
+before_isnt_here : (r : Post) (d : ℕ) → is_before r d 0 ≡ true → is_of_doc r d ≡ false
 before_isnt_here r d h = grind (arith, nat_tests)
 
-before_isnt_listed : (r : Post) (d e : ℕ) → is_before r d 0 ≡ true → d < e → in_doc r e ≡ false
+before_isnt_listed : (r : Post) (d e : ℕ) → is_before r d 0 ≡ true → d < e → is_of_doc r e ≡ false
 before_isnt_listed r d e h more = grind (arith, nat_tests)
 
 module _ (docs : List ℕ) (rows : List Post) where
@@ -82,18 +82,18 @@ module _ (docs : List ℕ) (rows : List Post) where
   module _ (i j : ℕ) (ahead : AheadOfRows docs rows i j) where
     -- rows before the document at i have no listed one
     pub none_listed : AreDocs docs → i < length docs → (n : ℕ) → n ≤ length rows → ((k : ℕ) (e : Post) → j ≤ k → k < n → is_before (get_or rows k e) (get_or docs i 0) 0 ≡ true)
-        → (k : ℕ) (e : Post) → j ≤ k → k < n → list_any (in_doc (get_or rows k e)) docs ≡ false
-    none_listed up within n small passed k e from below = none_at (in_doc (get_or rows k e)) docs 0 (λ m in_docs.
-        elim (nat_lt m i) as (λ t. nat_lt m i ≡ t → in_doc (get_or rows k e) (get_or docs m 0) ≡ false) [
+        → (k : ℕ) (e : Post) → j ≤ k → k < n → list_any (is_of_doc (get_or rows k e)) docs ≡ false
+    none_listed up within n small passed k e from below = none_at (is_of_doc (get_or rows k e)) docs 0 (λ m in_docs.
+        elim (nat_lt m i) as (λ t. nat_lt m i ≡ t → is_of_doc (get_or rows k e) (get_or docs m 0) ≡ false) [
           | true ↦ λ t. less_isnt_listed (get_or rows k e) (get_or docs m 0) (ahead.below k e from (omega arith) m (grind (arith, nat_tests)))
-          | false ↦ λ t. elim (nat_lt i m) as (λ u. nat_lt i m ≡ u → in_doc (get_or rows k e) (get_or docs m 0) ≡ false) [
+          | false ↦ λ t. elim (nat_lt i m) as (λ u. nat_lt i m ≡ u → is_of_doc (get_or rows k e) (get_or docs m 0) ≡ false) [
             | true ↦ λ u. before_isnt_listed (get_or rows k e) (get_or docs i 0) (get_or docs m 0) (passed k e from below) (below_from_sorted docs i m 0 up (grind (arith, nat_tests)) in_docs)
             | false ↦ λ u.
                 let same : i ≡ m = grind (arith, nat_tests) in
-                subst (λ q. in_doc (get_or rows k e) (get_or docs q 0) ≡ false) same (before_isnt_here (get_or rows k e) (get_or docs i 0) (passed k e from below))
+                subst (λ q. is_of_doc (get_or rows k e) (get_or docs q 0) ≡ false) same (before_isnt_here (get_or rows k e) (get_or docs i 0) (passed k e from below))
           ] refl
         ] refl)
 
     -- behind the last document no row has a listed one
-    pub none_listed_past : length docs ≤ i → (k : ℕ) (e : Post) → j ≤ k → k < length rows → list_any (in_doc (get_or rows k e)) docs ≡ false
-    none_listed_past past k e from below = none_at (in_doc (get_or rows k e)) docs 0 (λ m in_docs. less_isnt_listed (get_or rows k e) (get_or docs m 0) (ahead.below k e from below m (omega arith)))
+    pub none_listed_past : length docs ≤ i → (k : ℕ) (e : Post) → j ≤ k → k < length rows → list_any (is_of_doc (get_or rows k e)) docs ≡ false
+    none_listed_past past k e from below = none_at (is_of_doc (get_or rows k e)) docs 0 (λ m in_docs. less_isnt_listed (get_or rows k e) (get_or docs m 0) (ahead.below k e from below m (omega arith)))

@@ -15,12 +15,12 @@ use Rattle.cs_base.specs.declared.content.doc.Post.{Post}
 use Rattle.cs_base.specs.declared.content.doc.Scored.{Scored}
 
 -- the row is in document d
-abbrev pub in_doc : Post → ℕ → Bool
-in_doc r d = d == r.doc
+abbrev pub is_of_doc : Post → ℕ → Bool
+is_of_doc r d = d == r.doc
 
 -- the rows whose document is listed; none where none is
 abbrev pub keep_docs : List Post → List ℕ → List Post
-keep_docs rows docs = filter (λ r. list_any (in_doc r) docs) rows
+keep_docs rows docs = filter (λ r. list_any (is_of_doc r) docs) rows
 
 -- r stands one position behind x in the same document, both at 1 or more
 abbrev pub stands_behind : Post → Post → Bool

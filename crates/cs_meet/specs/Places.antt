@@ -2,7 +2,7 @@
 --
 --   is_before x d p          x stands in an earlier document than d, or in d before position p
 --   AllBefore posts n d p    the first n posts are before position p of document d
---   StopsAt posts n d p      the post at n isn't before position p of document d, if there is one
+--   IsNotBefore posts n d p      the post at n isn't before position p of document d, if there is one
 --   Splits posts n d p       n is the first place that isn't before position p of document d
 --   Ahead doc pos a b i j    the first i posts of a are before the place that each entry of b from j on asks for
 --   AllBelow docs n d        the first n documents are less than d
@@ -28,14 +28,14 @@ abbrev pub AllBefore : List Post → ℕ → ℕ → ℕ → Type 0
 AllBefore posts n d p = (k : ℕ) (e : Post) → k < n → is_before (slice_index_or posts k e) d p ≡ true
 
 -- the post at n isn't before position p of document d; of the end nothing is said
-abbrev pub StopsAt : List Post → ℕ → ℕ → ℕ → Type 0
-StopsAt posts n d p = (e : Post) → n < length posts → is_before (slice_index_or posts n e) d p ≡ false
+abbrev pub IsNotBefore : List Post → ℕ → ℕ → ℕ → Type 0
+IsNotBefore posts n d p = (e : Post) → n < length posts → is_before (slice_index_or posts n e) d p ≡ false
 
 -- n is the first place that isn't before position p of document d, or the end
 pub record Splits (posts : List Post) (n d p : ℕ) : Type 0 where
   pub within : n ≤ length posts
   pub before : AllBefore posts n d p
-  pub stop : StopsAt posts n d p
+  pub stop : IsNotBefore posts n d p
 
 -- the first i posts of a are before the place, by doc and pos, that each entry of b from j on asks for
 pub record Ahead {B : Type 0} (doc pos : B → ℕ) (a : List Post) (b : List B) (i j : ℕ) : Type 0 where

@@ -3,7 +3,7 @@ ghost use Rattle.std.specs.Prelude.{◌≡◌, ℕ, true, false, slice_index, sl
 ghost use Rattle.std.specs.List.{list_any};
 ghost use Rattle.std.specs.Vec.{vec_len, vec_capacity};
 ghost use Rattle.cs_base.specs.declared.content.doc.Post.{Post};
-ghost use Rattle.cs_meet.specs.Filters.{keep_docs, drop_docs, in_doc, is_of};
+ghost use Rattle.cs_meet.specs.Filters.{keep_docs, drop_docs, is_of_doc, is_of};
 ghost use Rattle.cs_base.specs.content.Orders.{AreDocs, AreByDoc, docs_of, AreSorted};
 ghost use Rattle.cs_meet.specs.Places.{Splits, AllBelow, SplitsDocs, AheadOfRows};
 
@@ -128,7 +128,7 @@ fn next_listed(docs: &[u32], i: usize, rows: &Cols, from: usize) -> usize
 
     ensures onward { from ≤ result }
     ensures within { result ≤ length rows.now.posts }
-    ensures none { (k : ℕ) (e : Post) → from ≤ k → k < result → list_any (in_doc (slice_index_or rows.now.posts k e)) docs.now ≡ false }
+    ensures none { (k : ℕ) (e : Post) → from ≤ k → k < result → list_any (is_of_doc (slice_index_or rows.now.posts k e)) docs.now ≡ false }
 {
     if i < docs.len() {
         pass_over(rows, from, docs[i], 0)
@@ -143,7 +143,7 @@ fn is_listed(docs: &[u32], i: usize, row: Post) -> bool
     requires sorted { AreDocs docs.now }
     requires splits { SplitsDocs docs.now i row.doc }
 
-    ensures { result ≡ list_any (in_doc row) docs.now }
+    ensures { result ≡ list_any (is_of_doc row) docs.now }
 {
     i < docs.len() && docs[i] == row.doc
 }

@@ -2,7 +2,7 @@
 ghost use Rattle.std.specs.Prelude.{◌≡◌, ℕ, ◌+◌, ◌-◌, ◌≤◌, ◌<◌, ◌^◌, [], ◌∷◌, ◌++◌, true, false, length, slice_index_or, if◌then◌else◌};
 ghost use Rattle.cs_base.specs.declared.content.doc.Post.{Post};
 ghost use Rattle.cs_base.specs.content.Orders.{AreSorted};
-ghost use Rattle.cs_meet.specs.Places.{AllBefore, Splits, StopsAt, is_before};
+ghost use Rattle.cs_meet.specs.Places.{AllBefore, Splits, IsNotBefore, is_before};
 
 use cs_base::Post;
 use cs_cols::Cols;
@@ -55,7 +55,7 @@ fn reaches_before(posts: &Cols, from: usize, step: usize, doc: u32, pos: u64) ->
     ensures small { length posts.now.posts < 2 ^ 63 }
     ensures there { result ≡ true → step ≤ length posts.now.posts - from }
     ensures yes { result ≡ true → (e : Post) → is_before (slice_index_or posts.now.posts (from + (step - 1)) e) doc pos ≡ true }
-    ensures no { result ≡ false → StopsAt posts.now.posts (from + (step - 1)) doc pos }
+    ensures no { result ≡ false → IsNotBefore posts.now.posts (from + (step - 1)) doc pos }
 {
     step <= posts.len() - from && comes_before(posts.get(from + (step - 1)), doc, pos)
 }
@@ -66,7 +66,7 @@ fn search_between(posts: &Cols, from: usize, end: usize, doc: u32, pos: u64) -> 
     requires order { from ≤ end }
     requires within { end ≤ length posts.now.posts }
     requires before { AllBefore posts.now.posts from doc pos }
-    requires stop { StopsAt posts.now.posts end doc pos }
+    requires stop { IsNotBefore posts.now.posts end doc pos }
 
     ensures onward { from ≤ result }
     ensures splits { Splits posts.now.posts result doc pos }

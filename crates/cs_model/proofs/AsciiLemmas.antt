@@ -8,6 +8,7 @@ use Rattle.std.proofs.lemmas.Bool.Decides.{nat_tests}
 use Rattle.std.proofs.lemmas.List.Elements.{All-from_recursion}
 use Rattle.std.proofs.lemmas.Str.{chars-IsAscii, encodes-IsAscii, len_utf8_ascii}
 use Rattle.std.proofs.lemmas.Str.Ascii.{IsAscii-from_all, lowercase_ascii}
+use Rattle.cs_base.specs.declared.content.limits.TheConstants.{MAX_PLAIN_WORD_BYTES}
 use Rattle.caseless.proofs.CaselessLemmas.{canonical_key-ascii, default_case_fold-ascii, All-chars}
 use Rattle.cs_model.specs.KeyText.{norm}
 use Rattle.cs_model.specs.Words.{is_word_char, is_gap, is_filled, fitting, cut, words, words_of}
@@ -76,21 +77,21 @@ AllAscii-take zero xs h = tt
 AllAscii-take (suc n) [] h = tt
 AllAscii-take (suc n) (x ∷ xs) h = (h.0, AllAscii-take n xs h.1)
 
-pub cut-ascii : (xs : List ℕ) → AllAscii xs → cut xs ≡ take 120 xs
+pub cut-ascii : (xs : List ℕ) → AllAscii xs → cut xs ≡ take MAX_PLAIN_WORD_BYTES xs
 unfolding cut
-cut-ascii xs h = ap encode_utf8_all (fitting-ascii 120 xs h) ∙ encodes-IsAscii (take 120 xs) (IsAscii-from_AllAscii (take 120 xs) (AllAscii-take 120 xs h))
+cut-ascii xs h = ap encode_utf8_all (fitting-ascii MAX_PLAIN_WORD_BYTES xs h) ∙ encodes-IsAscii (take MAX_PLAIN_WORD_BYTES xs) (IsAscii-from_AllAscii (take MAX_PLAIN_WORD_BYTES xs) (AllAscii-take MAX_PLAIN_WORD_BYTES xs h))
 
-cuts-ascii_at : (b : Bool) (p : List ℕ) → AllAscii p → (ps : List (List ℕ)) → map cut (filter is_filled ps) ≡ map (take 120) (filter is_filled ps)
-    → map cut (cond b (p ∷ filter is_filled ps) (filter is_filled ps)) ≡ map (take 120) (cond b (p ∷ filter is_filled ps) (filter is_filled ps))
+cuts-ascii_at : (b : Bool) (p : List ℕ) → AllAscii p → (ps : List (List ℕ)) → map cut (filter is_filled ps) ≡ map (take MAX_PLAIN_WORD_BYTES) (filter is_filled ps)
+    → map cut (cond b (p ∷ filter is_filled ps) (filter is_filled ps)) ≡ map (take MAX_PLAIN_WORD_BYTES) (cond b (p ∷ filter is_filled ps) (filter is_filled ps))
 cuts-ascii_at true p h ps e = rw (cut-ascii p h, e)
 cuts-ascii_at false p h ps e = e
 
-cuts-ascii : (ps : List (List ℕ)) → AllByRecursion AllAscii ps → map cut (filter is_filled ps) ≡ map (take 120) (filter is_filled ps)
+cuts-ascii : (ps : List (List ℕ)) → AllByRecursion AllAscii ps → map cut (filter is_filled ps) ≡ map (take MAX_PLAIN_WORD_BYTES) (filter is_filled ps)
 cuts-ascii [] h = refl
 cuts-ascii (p ∷ ps) h = cuts-ascii_at (is_filled p) p h.0 ps (cuts-ascii ps h.1)
 
 -- the words of characters that are all ASCII
-pub words_of-ascii : (xs : List ℕ) → AllAscii xs → words_of xs ≡ map (take 120) (filter is_filled (slice_split is_ascii_gap xs))
+pub words_of-ascii : (xs : List ℕ) → AllAscii xs → words_of xs ≡ map (take MAX_PLAIN_WORD_BYTES) (filter is_filled (slice_split is_ascii_gap xs))
 words_of-ascii xs h =
     ap (λ ps. map cut (filter is_filled ps)) (slice_split-same is_gap is_ascii_gap is_gap-ascii xs h)
     ∙ cuts-ascii (slice_split is_ascii_gap xs) (AllAscii-pieces is_ascii_gap xs h)

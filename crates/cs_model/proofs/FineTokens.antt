@@ -6,6 +6,7 @@
 use Rattle.std.proofs.Common.{◌≡◌, ℕ, zero, suc, ◌+◌, ◌≤◌, List, [], ◌∷◌, ◌++◌, map, length, take, refl, ap, ◌∙◌, sym, Bool, true, false, not, arith, length-append, None}
 use Rattle.std.specs.Char.{encode_utf8}
 use Rattle.std.proofs.lemmas.Bool.{lt-ltb}
+use Rattle.cs_base.specs.declared.content.limits.TheConstants.{MAX_DEPTH, MAX_PLAIN_WORD_BYTES, MAX_QUERY_BYTES}
 use Rattle.cs_model.specs.declared.kinds.Class.{Class}
 use Rattle.cs_model.specs.declared.kinds.Class.TheVariants as c
 use Rattle.cs_model.specs.declared.kinds.Tie.{Tie}
@@ -52,7 +53,7 @@ few_before (WholeValued t n v) ps f = record { parts = omega (arith, f.parts); a
 few_before (Opens t n) ps f = record { parts = omega (arith, f.parts); atoms = omega (arith, f.atoms) }
 few_before Closes ps f = record { parts = f.parts; atoms = f.atoms }
 
-shallow : (ps : List Piece) → Well ps → open_in ps ≤ 3
+shallow : (ps : List Piece) → Well ps → open_in ps ≤ MAX_DEPTH
 shallow [] h = omega arith
 shallow (Plain t w ∷ ps) h = shallow ps h.1
 shallow (Whole t w ∷ ps) h = shallow ps h.1
@@ -62,7 +63,7 @@ shallow (Opens t n ∷ ps) h = omega (arith, h.0.2)
 shallow (Closes ∷ ps) h = omega (arith, shallow ps h.1)
 
 -- tokens with the steps of such pieces pass, where none is refused and they aren't too long
-passes_as : (ts : List Token) (ps : List Piece) → steps ts ≡ map step_of ps → Well ps → Few ps → refused ts ≡ false → newest ts ≤ 120 → size ts + open_in ps ≤ 1024 → Passes ts
+passes_as : (ts : List Token) (ps : List Piece) → steps ts ≡ map step_of ps → Well ps → Few ps → refused ts ≡ false → newest ts ≤ MAX_PLAIN_WORD_BYTES → size ts + open_in ps ≤ MAX_QUERY_BYTES → Passes ts
 passes_as ts ps e h f r n s =
     let deep : depth ts ≡ open_in ps = ap (λ ss. length (reading ss).open_now) e ∙ (printed ps h).deep in
     record {
@@ -106,7 +107,7 @@ bar_fine (WholeValued t n v ∷ ps) h = refl
 bar_fine (Opens t n ∷ ps) h = cc
 bar_fine (Closes ∷ ps) h = refl
 
-space_passes : (f : Bool) (ps : List Piece) → Well ps → Few ps → cost ps + length (between (Begins false) f) + open_in ps ≤ 1024 → Fine (toks ps) → Fine (space_toks f (toks ps))
+space_passes : (f : Bool) (ps : List Piece) → Well ps → Few ps → cost ps + length (between (Begins false) f) + open_in ps ≤ MAX_QUERY_BYTES → Fine (toks ps) → Fine (space_toks f (toks ps))
 space_passes true ps h f s t = t
 space_passes false ps h f s t = (passes_as (Gap 1 ∷ toks ps) ps (steps_toks ps h) h f (gap_fine ps) (omega arith) (omega (arith, s, size_toks ps h)), t)
 
@@ -114,7 +115,7 @@ less_room : (f : Bool) → length (between (Begins false) f) ≤ length (between
 less_room true = omega arith
 less_room false = omega arith
 
-between_fine : (t : Tie) (ps : List Piece) (f : Bool) → Well ps → TieFits t ps → Few ps → cost ps + length (between t f) + open_in ps ≤ 1024 → Fine (toks ps) → Fine (between_toks t f (toks ps))
+between_fine : (t : Tie) (ps : List Piece) (f : Bool) → Well ps → TieFits t ps → Few ps → cost ps + length (between t f) + open_in ps ≤ MAX_QUERY_BYTES → Fine (toks ps) → Fine (between_toks t f (toks ps))
 between_fine (Begins false) ps f h k few s t = space_passes f ps h few s t
 between_fine (Begins true) ps f h k few s t = (
   passes_as (Run (45 ∷ []) ∷ space_toks f (toks ps)) ps (between_steps (Begins true) f (toks ps) ∙ steps_toks ps h) h few (minus_fine f ps) (omega arith)
@@ -151,7 +152,7 @@ value_fine n v ts h = ap not h
 
 -- a value behind its name
 fine_value : (t : Tie) (n v : List ℕ) (ps : List Piece) (m : ℕ) → IsNameWord n → IsValue v → TieFits t ps → Well ps → Few (Valued t n v ∷ ps)
-    → size (Value v ∷ Colon ∷ Word n ∷ between_toks t (fresh ps) (toks ps)) + m + open_in ps ≤ 1024 → Fine (toks ps) → Fine (Value v ∷ Colon ∷ Word n ∷ between_toks t (fresh ps) (toks ps))
+    → size (Value v ∷ Colon ∷ Word n ∷ between_toks t (fresh ps) (toks ps)) + m + open_in ps ≤ MAX_QUERY_BYTES → Fine (toks ps) → Fine (Value v ∷ Colon ∷ Word n ∷ between_toks t (fresh ps) (toks ps))
 fine_value t n v ps m hn hv k h few s fine =
     let ts : List Token = between_toks t (fresh ps) (toks ps) in
     let plain : Few (Plain t n ∷ ps) = record { parts = few.parts; atoms = few.atoms } in (

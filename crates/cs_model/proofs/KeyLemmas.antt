@@ -31,6 +31,7 @@ use Rattle.cs_model.specs.Keys.{last_of, prefix_in, last_atom, chain_prefix, cha
 use Rattle.cs_model.proofs.CanonicalLemmas.{query_shape, part_shape, chain_shape, linked_shape, prefix_shape}
 use Rattle.cs_model.proofs.LastEntries.{is_none, sign_before, join_push, concat_push}
 use Rattle.cs_model.proofs.AttachedText.{rolled_part, rolled_chain, rolled_linked, rolled_query, one_chain}
+use Rattle.cs_model.specs.Collection.{is_colon}
 
 -- ---- last entries
 pub on_last-append : {X : Type 0} (f : X → X) (xs : List X) (x : X) → on_last f (xs ++ x ∷ []) ≡ xs ++ f x ∷ []
@@ -220,9 +221,6 @@ map_cond f x false ys xs e = e
 filter_map : {X Y : Type 0} (f : X → Y) (t : Y → Bool) (xs : List X) → filter t (map f xs) ≡ map f (filter (λ x. t (f x)) xs)
 filter_map f t [] = refl
 filter_map f t (x ∷ xs) = map_cond f x (t (f x)) _ _ (filter_map f t xs)
-
-abbrev pub is_colon : ℕ → Bool
-is_colon c = c == 58
 
 any_behind : (xs ys : List ℕ) → list_any is_colon ys ≡ true → list_any is_colon (xs ++ ys) ≡ true
 any_behind xs ys h = list_any-append is_colon xs ys ∙ or_right (list_any is_colon xs) (list_any is_colon ys) h

@@ -1,6 +1,6 @@
 -- The definitions of a script's lines and of what is put for them, on small scripts.
 use Rattle.std.proofs.Common.{◌≡◌, ℕ, List, [], ◌∷◌, inl, inr, refl, sym, ◌∙◌}
-use Rattle.std.specs.Prelude.{replicate, Option, Some, None, codes}
+use Rattle.std.specs.Prelude.{replicate, Some, None, codes}
 use Rattle.serde_json.proofs.OnLiterals.{serde_json_on_literals}
 use Rattle.cs_model.specs.Corpus.{Corpus}
 use Rattle.cs_model.specs.Faults.{error_text}

@@ -55,7 +55,7 @@ all_closed-length ps [] = omega arith
 all_closed-length ps (l ∷ ls) = omega (arith, all_closed-length (closed ps l) ls, attached-length l.tie (join l.name ps) l.before)
 
 -- where the newest character isn't refused, few parts have begun
-verdict_parts : (ts : List Token) → verdict ts ≡ None → parts_in (steps ts) ≤ 16
+verdict_parts : (ts : List Token) → verdict ts ≡ None → parts_in (steps ts) ≤ MAX_PARTS
 verdict_parts ts h = (passes ts h).parts
 
 pub few_parts : (q : Query) → IsOfGrammar q → length (out-Query q).parts ≤ MAX_PARTS
@@ -64,7 +64,7 @@ few_parts q g =
     let ss = steps (tokens cs) in
     let r = reading ss in
     let last : verdict (tokens cs) ≡ None = ap (λ l. verdict (tokens l)) (sym (take_all (length cs) cs (omega arith))) ∙ g.accepted (length cs) (omega arith) in
-    let few : length (all_closed r.parts r.open_now) ≤ 16 = omega (arith, all_closed-length r.parts r.open_now, parts_within ss, verdict_parts (tokens cs) last) in
+    let few : length (all_closed r.parts r.open_now) ≤ MAX_PARTS = omega (arith, all_closed-length r.parts r.open_now, parts_within ss, verdict_parts (tokens cs) last) in
     let same : (out-Query q).parts ≡ all_closed r.parts r.open_now = ap (λ x. (out-Query x).parts) g.read ∙ ap (λ x. x.parts) (out-roll-Query (record { parts = all_closed r.parts r.open_now })) in
     omega (arith, few, ap length same)
 

@@ -35,7 +35,7 @@ pub record Passes (ts : List Token) : Type 0 where
   pub short : newest ts ≤ 120
   pub parts : parts_in (steps ts) ≤ 16
   pub atoms : atoms_in (steps ts) ≤ 32
-  pub shallow : depth ts ≤ 3
+  pub shallow : depth ts ≤ MAX_DEPTH
 
 pub passes : (ts : List Token) → verdict ts ≡ None → Passes ts
 passes ts h =
@@ -51,15 +51,15 @@ passes ts h =
     let h5 : first_reason (levels ∷ []) ≡ None = none_rest atoms (levels ∷ []) h4 in
     record {
       fine = not-true (refused ts) (unless_none _ Bad (none_first (unless (not (refused ts)) Bad) (bytes ∷ word ∷ parts ∷ atoms ∷ levels ∷ []) h));
-      small = leb-true (size ts + depth ts) 1024 (unless_none _ (Limit limits.Query) (none_first bytes (word ∷ parts ∷ atoms ∷ levels ∷ []) h1));
-      short = leb-true (newest ts) 120 (unless_none _ (Limit limits.Word) (none_first word (parts ∷ atoms ∷ levels ∷ []) h2));
-      parts = leb-true (parts_in (steps ts)) 16 (unless_none _ (Limit limits.Parts) (none_first parts (atoms ∷ levels ∷ []) h3));
-      atoms = leb-true (atoms_in (steps ts)) 32 (unless_none _ (Limit limits.Atoms) (none_first atoms (levels ∷ []) h4));
-      shallow = leb-true (depth ts) 3 (unless_none _ (Limit limits.Depth) (none_first levels [] h5));
+      small = leb-true (size ts + depth ts) MAX_QUERY_BYTES (unless_none _ (Limit limits.Query) (none_first bytes (word ∷ parts ∷ atoms ∷ levels ∷ []) h1));
+      short = leb-true (newest ts) MAX_PLAIN_WORD_BYTES (unless_none _ (Limit limits.Word) (none_first word (parts ∷ atoms ∷ levels ∷ []) h2));
+      parts = leb-true (parts_in (steps ts)) MAX_PARTS (unless_none _ (Limit limits.Parts) (none_first parts (atoms ∷ levels ∷ []) h3));
+      atoms = leb-true (atoms_in (steps ts)) MAX_ATOMS (unless_none _ (Limit limits.Atoms) (none_first atoms (levels ∷ []) h4));
+      shallow = leb-true (depth ts) MAX_DEPTH (unless_none _ (Limit limits.Depth) (none_first levels [] h5));
     }
 
 pub passed : (ts : List Token) → Passes ts → verdict ts ≡ None
-passed ts p = rw (p.fine, le-leb (size ts + depth ts) 1024 p.small, le-leb (newest ts) 120 p.short, le-leb (parts_in (steps ts)) 16 p.parts, le-leb (atoms_in (steps ts)) 32 p.atoms, le-leb (depth ts) 3 p.shallow) refl
+passed ts p = rw (p.fine, le-leb (size ts + depth ts) MAX_QUERY_BYTES p.small, le-leb (newest ts) MAX_PLAIN_WORD_BYTES p.short, le-leb (parts_in (steps ts)) MAX_PARTS p.parts, le-leb (atoms_in (steps ts)) MAX_ATOMS p.atoms, le-leb (depth ts) MAX_DEPTH p.shallow) refl
 
 -- ---- words and values with one character more
 one_char : (x : ℕ) → IsScalar x → chars (encode_utf8 x) ≡ x ∷ []
@@ -76,7 +76,7 @@ all_more p w x u s h k =
 some_bytes : (x : ℕ) → 1 ≤ length (encode_utf8 x)
 some_bytes x = omega (arith, length-le-encodes (x ∷ []), length-append (encode_utf8 x) [])
 
-word_more : (w : List ℕ) (x : ℕ) → IsWord w → IsScalar x → is_word_char x ≡ true → length (w ++ encode_utf8 x) ≤ 120 → IsWord (w ++ encode_utf8 x)
+word_more : (w : List ℕ) (x : ℕ) → IsWord w → IsScalar x → is_word_char x ≡ true → length (w ++ encode_utf8 x) ≤ MAX_PLAIN_WORD_BYTES → IsWord (w ++ encode_utf8 x)
 word_more w x h s k short = record {
   utf8 = IsUtf8-append w (encode_utf8 x) h.utf8 (IsUtf8-encode x s);
   letters = all_more is_word_char w x h.utf8 s h.letters k;
@@ -84,7 +84,7 @@ word_more w x h s k short = record {
   short = short;
 }
 
-word_new : (x : ℕ) → IsScalar x → is_word_char x ≡ true → length (encode_utf8 x) ≤ 120 → IsWord (encode_utf8 x)
+word_new : (x : ℕ) → IsScalar x → is_word_char x ≡ true → length (encode_utf8 x) ≤ MAX_PLAIN_WORD_BYTES → IsWord (encode_utf8 x)
 word_new x s k short = record {
   utf8 = IsUtf8-encode x s;
   letters = ap (list_all is_word_char) (one_char x s) ∙ and_from (is_word_char x) true k refl;
@@ -92,7 +92,7 @@ word_new x s k short = record {
   short = short;
 }
 
-value_more : (v : List ℕ) (x : ℕ) → IsValue v → IsScalar x → is_value_char x ≡ true → length (v ++ encode_utf8 x) ≤ 120 → IsValue (v ++ encode_utf8 x)
+value_more : (v : List ℕ) (x : ℕ) → IsValue v → IsScalar x → is_value_char x ≡ true → length (v ++ encode_utf8 x) ≤ MAX_PLAIN_WORD_BYTES → IsValue (v ++ encode_utf8 x)
 value_more v x h s k short = record {
   utf8 = IsUtf8-append v (encode_utf8 x) h.utf8 (IsUtf8-encode x s);
   letters = all_more is_value_char v x h.utf8 s h.letters k;
@@ -102,27 +102,27 @@ value_more v x h s k short = record {
 value_none : IsValue []
 value_none = record { utf8 = IsUtf8-nil; letters = ap (list_all is_value_char) chars-nil; short = omega arith }
 
-low_line : (v : List ℕ) → IsValue v → length (v ++ 95 ∷ []) ≤ 120 → IsValue (v ++ 95 ∷ [])
+low_line : (v : List ℕ) → IsValue v → length (v ++ 95 ∷ []) ≤ MAX_PLAIN_WORD_BYTES → IsValue (v ++ 95 ∷ [])
 unfolding is_word_char encode_utf8
 low_line v h short = value_more v 95 h refl refl short
 
 -- ---- token lists
-abbrev pub is_colon : List Token → Bool
-is_colon (Colon ∷ ts) = true
-is_colon _ = false
+abbrev pub has_colon_first : List Token → Bool
+has_colon_first (Colon ∷ ts) = true
+has_colon_first _ = false
 
 abbrev pub Right : Token → List Token → Type 0
 Right (Word w) ts = IsWord w × (opens ts ≡ true)
-Right (Value v) ts = IsValue v × (is_colon ts ≡ true)
+Right (Value v) ts = IsValue v × (has_colon_first ts ≡ true)
 Right (Run r) ts = 1 ≤ length r
 Right (Gap n) ts = 1 ≤ n
 Right _ ts = Unit {0}
 
 abbrev pub Kept : List Token → Type 0
 Kept [] = Unit {0}
-Kept (t ∷ ts) = (refused (t ∷ ts) ≡ false) × (depth (t ∷ ts) ≤ 3) × Right t ts × Kept ts
+Kept (t ∷ ts) = (refused (t ∷ ts) ≡ false) × (depth (t ∷ ts) ≤ MAX_DEPTH) × Right t ts × Kept ts
 
-kept_depth : (ts : List Token) → Kept ts → depth ts ≤ 3
+kept_depth : (ts : List Token) → Kept ts → depth ts ≤ MAX_DEPTH
 kept_depth [] h = omega arith
 kept_depth (t ∷ ts) h = h.1
 

@@ -44,7 +44,7 @@
 --   ranked k ps                   the hits with their scores, in the order in which they are shown; none where there is no
 --                                 hit
 --   Completion, by_count          a word with its number of documents; more documents first, then by bytes
---   docs_of rows                  the documents of rows, ascending, each once; of no rows none
+--   row_docs rows                  the documents of rows, ascending, each once; of no rows none
 --   completion_of rows w          the word w with the number of documents in which rows have it; 0 where no row does
 --   table_of rows                 each word of rows with that number, in that order; of no rows the empty table
 --   table k ps                    the completions: the table of the pairs; empty where there is no pair
@@ -237,12 +237,12 @@ abbrev pub by_count : Completion → Completion → Ordering
 by_count = then_cmp (on (λ c. c.docs) (flip_args nat_cmp)) (on (λ c. c.word) (slice_cmp nat_cmp))
 
 -- the documents of rows, each once, ascending; none where there is no row
-abbrev pub docs_of : List Row → List ℕ
-docs_of rows = members_in nat_cmp (map (λ r. r.doc) rows)
+abbrev pub row_docs : List Row → List ℕ
+row_docs rows = members_in nat_cmp (map (λ r. r.doc) rows)
 
 -- a word with its number of documents among these rows, one in which it stands twice counted once; 0 where no row has it
 abbrev pub completion_of : List Row → List ℕ → Completion
-completion_of rows w = record { docs = length (docs_of (of_word w rows)); word = w }
+completion_of rows w = record { docs = length (row_docs (of_word w rows)); word = w }
 
 -- each word of rows once, with its number of documents, in the order of tables; the empty table for no rows
 abbrev pub table_of : List Row → List Completion

@@ -8,7 +8,7 @@
 --                              bytes
 --   doc_lines c                the lines that have bytes, so numbered; none where no line has any
 --   is_tab b, is_space b       whether the byte is a tab, a space
---   is_equals b                whether it is the sign `=`
+--   is_colon b, is_equals b    whether it is the sign `:`, `=`
 --   Columns, columns l         title, facets and text of a line, cut at its first two tabs; a missing column is empty
 --   without_spaces_behind bs   the bytes bs without the spaces at their end
 --   without_spaces bs          the bytes bs without the spaces at both ends; nothing where there are spaces alone
@@ -97,6 +97,10 @@ columns l = record {
 -- the byte is a space, U+0020 and no other
 abbrev pub is_space : ℕ → Bool
 is_space b = b == space
+
+-- the byte is a colon
+abbrev pub is_colon : ℕ → Bool
+is_colon b = b == colon
 
 -- the byte is the sign `=`
 abbrev pub is_equals : ℕ → Bool

@@ -22,6 +22,7 @@ use Rattle.cs_base.specs.content.Orders.{by_row}
 use Rattle.cs_base.specs.declared.content.doc.Doc.{Doc}
 use Rattle.cs_base.specs.declared.content.doc.Row.{Row}
 use Rattle.cs_base.specs.declared.content.scores.TheConstants.{BEHIND_TITLE}
+use Rattle.cs_base.proofs.ListsLemmas.{any_through}
 use Rattle.cs_model.specs.Collection.{facet_words}
 use Rattle.cs_model.specs.Corpus.{corpus_of, doc_rows, facet_rows, placed, rows_of, text_rows, title_of, title_rows, titles_of}
 use Rattle.cs_model.specs.Scores.{SCORES}
@@ -38,10 +39,6 @@ both_ways : (a b : Bool) → (a ≡ true → b ≡ true) → (b ≡ true → a �
 both_ways true b h k = sym (h refl)
 both_ways false true h k = k refl
 both_ways false false h k = refl
-
-pub any_through : {X Y : Type 0} (t : Y → Bool) (f : X → Y) (xs : List X) → list_any t (map f xs) ≡ list_any (λ x. t (f x)) xs
-any_through t f [] = refl
-any_through t f (x ∷ xs) = ap (λ b. t (f x) || b) (any_through t f xs)
 
 module _ {X : Type 0} (R : X → X → Ordering) (o : IsTotalOrder R) (exact : IsAntisymmetric R) where
   any_at : (t : X → Bool) (x : X) (ys : List X) → t x ≡ true → list_any (eq_by_cmp R x) ys ≡ true → list_any t ys ≡ true
@@ -150,9 +147,9 @@ joined_rows ds es =
     ∙ ap (λ b. b || list_any is (all_rows (length ds) es)) (sym (is_member-listed by_row by_row_total before q))
     ∙ ap (λ b. list_any is (rows_of ds) || b)
     (ap (list_any is) behind
-    ∙ any_through is (later_row n) later
+    ∙ any_through (later_row n) is later
     ∙ sym (any_listed by_row by_row_total by_row_exact (λ r. is (later_row n r)) later)
-    ∙ sym (any_through is (later_row n) (rows_of es)))
+    ∙ sym (any_through (later_row n) is (rows_of es)))
     ∙ sym (list_any-append is (rows_of ds) (map (later_row n) (rows_of es))))
 
 pub joined_are_corpora : (ds es : List Doc) → corpus_of (ds ++ es) ≡ joined (corpus_of ds) (corpus_of es)

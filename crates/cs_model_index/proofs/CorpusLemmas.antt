@@ -27,6 +27,7 @@ use Rattle.cs_base.proofs.OrdersLemmas.{by_row_total, by_row_exact}
 use Rattle.cs_base.specs.content.Members.{members_in}
 use Rattle.cs_base.specs.content.Orders.{by_row, by_spot}
 use Rattle.cs_base.specs.declared.content.doc.Row.{Row}
+use Rattle.cs_base.proofs.ListsLemmas.{any_through}
 use Rattle.cs_model.specs.Corpus.{Corpus, by_number, distinct_words, IsCorpus}
 use Rattle.cs_model_index.proofs.NumberedLemmas.{rows_of_numbered}
 use Rattle.cs_model_index.specs.Images.{Image, block_of, image_rows, image_corpus, IsImage}
@@ -55,10 +56,6 @@ rows_up (r ∷ rows) h = (rest_up r rows h.0, rows_up rows h.1)
 pub any_alike : {X : Type 0} (p q : X → Bool) (xs : List X) → ((x : X) → p x ≡ q x) → list_any p xs ≡ list_any q xs
 any_alike p q [] h = refl
 any_alike p q (x ∷ xs) h = ap (λ b. b || list_any p xs) (h x) ∙ ap (λ b. q x || b) (any_alike p q xs h)
-
-pub any_through : {X Y : Type 0} (f : X → Y) (p : Y → Bool) (xs : List X) → list_any p (map f xs) ≡ list_any (λ x. p (f x)) xs
-any_through f p [] = refl
-any_through f p (x ∷ xs) = ap (λ b. p (f x) || b) (any_through f p xs)
 
 -- a word is listed exactly where some row has it
 pub listed_word : (rows : List Row) (w : List ℕ) → list_any (bytes_eq w) (distinct_words rows) ≡ list_any (λ r. bytes_eq w r.word) rows

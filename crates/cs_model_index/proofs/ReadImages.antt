@@ -18,6 +18,7 @@ use Rattle.cs_base.proofs.MembersLemmas.{members_are}
 use Rattle.cs_base.specs.declared.content.doc.Post.{Post}
 use Rattle.cs_base.specs.declared.content.doc.Row.{Row}
 use Rattle.cs_base.specs.declared.index.block.BlockHead.{BlockHead}
+use Rattle.cs_base.proofs.ListsLemmas.{any_through}
 use Rattle.cs_model.specs.Corpus.{distinct_words}
 use Rattle.cs_model_index.specs.BlockLaws.{AcceptedAreBlocks, OneReading}
 use Rattle.cs_model_index.specs.FileLaws.{AcceptedAreImages}
@@ -28,7 +29,7 @@ use Rattle.cs_model_index.specs.Sections.{blocks_at, contents_of, directory_at, 
 use Rattle.cs_model_index.specs.declared.limits.TheConstants.{HEADER_BYTES}
 use Rattle.cs_model_index.proofs.AcceptedLemmas.{RulesHold, rules_hold, sections_sized}
 use Rattle.cs_model_index.proofs.BlockUses.{BlocksAreRead, blocks_are_read}
-use Rattle.cs_model_index.proofs.CorpusLemmas.{any_alike, any_through}
+use Rattle.cs_model_index.proofs.CorpusLemmas.{any_alike}
 use Rattle.cs_model_index.proofs.Listings.{same_tests}
 use Rattle.cs_model_index.proofs.NumbersLemmas.{IsBytes, IsBytes-drop, bytes_from_all, numbers_count}
 use Rattle.cs_model_index.proofs.ReadBlocks.{AreRead, blocks_read, heads_kinds, rising_words}

@@ -19,11 +19,11 @@ use Rattle.std.specs.Str.{is_utf8}
 use Rattle.std.proofs.lemmas.Bool.{and_parts, and_from, le-leb, leb-true}
 use Rattle.std.proofs.lemmas.Bool.Decides.{nat_tests}
 use Rattle.cs_base.specs.declared.content.limits.TheConstants.{MAX_LINE_BYTES, MAX_NAME_BYTES, MAX_PLAIN_WORD_BYTES}
-use Rattle.cs_model.specs.Collection.{begins_with_letter, has_name_form, is_name_byte}
+use Rattle.cs_model.specs.Collection.{begins_with_letter, has_name_form, is_name_byte, is_colon}
 use Rattle.cs_model.specs.Words.{is_filled, is_word_char}
 use Rattle.cs_model_index.specs.FileRules.{laid, last_value, follows, is_named_value, is_onward, is_plain_word, is_value_char, is_word}
 use Rattle.cs_model_index.specs.Layout.{offsets_from, title_bytes, vocabulary_bytes}
-use Rattle.cs_model_index.specs.Partitions.{is_colon, is_facet}
+use Rattle.cs_model_index.specs.Partitions.{is_facet}
 use Rattle.cs_model_index.specs.declared.limits.TheConstants.{NUMBER_BYTES}
 use Rattle.cs_model_index.proofs.AgainLemmas.{HasLength, offsets_count}
 

@@ -34,14 +34,14 @@ use Rattle.cs_base.specs.declared.index.block.BlockHead.{BlockHead}
 use Rattle.cs_base.specs.declared.index.block.Broken.{Broken}
 use Rattle.cs_base.specs.declared.content.doc.Post.{Post}
 use Rattle.cs_base.specs.declared.content.limits.TheConstants.{MAX_DOCS, MAX_WORDS, MAX_ROWS, MAX_WORD_BYTES, MAX_PLAIN_WORD_BYTES, MAX_LINE_BYTES}
-use Rattle.cs_model.specs.Collection.{has_name_form}
+use Rattle.cs_model.specs.Collection.{has_name_form, is_colon}
 use Rattle.cs_model.specs.First.{unless, first_reason}
 use Rattle.cs_model.specs.Scores.{SCORES}
 use Rattle.cs_model.specs.Words.{is_filled, is_word_char}
 use Rattle.cs_model_index.specs.BlockRules.{broken_at, judged}
 use Rattle.cs_model_index.specs.Layout.{Header, MAGIC}
 use Rattle.cs_model_index.specs.Numbered.{word_at}
-use Rattle.cs_model_index.specs.Partitions.{is_colon, is_facet, is_alike, is_one_kind, is_light, is_full}
+use Rattle.cs_model_index.specs.Partitions.{is_facet, is_alike, is_one_kind, is_light, is_full}
 use Rattle.cs_model_index.specs.Sections.{Contents, contents_of, size_by, vocabulary_at, offsets_at, titles_at, directory_at, blocks_at}
 use Rattle.cs_model_index.specs.declared.limits.TheConstants.{HEADER_BYTES, NUMBER_BYTES, ENTRY_BYTES, MAX_BLOCK_WORDS, MAX_TARGET}
 

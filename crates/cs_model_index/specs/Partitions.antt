@@ -14,10 +14,11 @@
 --   is_ended target count p   the run p.0 is one that ends where the run p.1 begins
 --   IsPartition target count words runs    runs that joined are the words, each as long as it may be
 --   PartitionsAreOne          the law that no words have two partitions
-use Rattle.std.specs.Prelude.{◌≡◌, ℕ, ◌+◌, Bool, true, false, ◌&&◌, ◌||◌, not, ◌==◌, nat_lt, nat_le, List, [], ◌∷◌, length, drop, flat_map, if◌then◌else◌}
+use Rattle.std.specs.Prelude.{◌≡◌, ℕ, ◌+◌, Bool, true, false, ◌&&◌, ◌||◌, not, nat_lt, nat_le, List, [], ◌∷◌, length, drop, flat_map, if◌then◌else◌}
 use Rattle.std.specs.List.{list_all, sum_by, zip, before_first}
 use Rattle.std.specs.Str.{bytes_eq}
 use Rattle.cs_model.specs.Words.{is_filled}
+use Rattle.cs_model.specs.Collection.{is_colon}
 use Rattle.cs_model_index.specs.Numbered.{word_at}
 use Rattle.cs_model_index.specs.declared.limits.TheConstants.{MAX_BLOCK_WORDS}
 
@@ -26,10 +27,6 @@ abbrev pub Count : Type 0
 Count = List ℕ → ℕ
 
 -- ---- kinds of words
--- the byte is a colon
-abbrev pub is_colon : ℕ → Bool
-is_colon b = b == 58
-
 -- a word that begins with a colon; the empty text doesn't
 abbrev pub is_facet : List ℕ → Bool
 is_facet [] = false

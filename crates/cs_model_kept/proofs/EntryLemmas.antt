@@ -28,12 +28,13 @@ use Rattle.cs_base.specs.declared.content.doc.Scored.{Scored}
 use Rattle.cs_base.specs.declared.content.query.Query.{Query, out-Query, roll-out-Query}
 use Rattle.cs_base.specs.declared.content.query.Part.{Part}
 use Rattle.cs_base.proofs.MembersLemmas.{all_then, keys-rise, members_are}
-use Rattle.cs_model.specs.Answers.{PartRows, in_doc, is_listed, agrees, docs_of, hits, pairs, last_rows, greatest_score, parts_of, rows_of_part, score, scored}
+use Rattle.cs_base.specs.content.Bases.{base_score}
+use Rattle.cs_base.proofs.ListsLemmas.{all_of, map_alike, filter_alike, filter_twice, filter_through, any_through, all_stay, and_true, same_number, itself, number_tie, any_tie, own_members, take_init, last_entry}
+use Rattle.cs_model.specs.Answers.{PartRows, in_doc, is_listed, agrees, row_docs, hits, pairs, last_rows, greatest_score, parts_of, rows_of_part, score, scored}
 use Rattle.cs_model.specs.Corpus.{Corpus}
 use Rattle.cs_model.proofs.AnswersLemmas.{query_rolled}
-use Rattle.cs_model_kept.specs.Entries.{Entry, scored_hits, base_of, ends_positive, before_typed, entry, entry_of, base_score, over, hits_of, listed, is_begun, is_hit, without, entry_after, extended}
+use Rattle.cs_model_kept.specs.Entries.{Entry, scored_hits, base_of, ends_positive, before_typed, entry, entry_of, over, hits_of, listed, is_begun, is_hit, without, entry_after, extended}
 use Rattle.cs_model_kept.specs.KeptLaws.{HitsAreOver, BasesListHits, EntriesExtend, EntriesAreSteps, followed}
-use Rattle.cs_model_kept.proofs.ListsLemmas.{all_of, map_alike, filter_alike, filter_twice, filter_through, any_through, all_stay, and_true, itself, same_number, number_tie, any_tie, own_members, take_init, last_entry}
 
 -- ---- one part more
 module _ (k : Corpus) (done : List PartRows) (p : PartRows) where
@@ -158,7 +159,7 @@ module _ (k : Corpus) (done : List PartRows) (p : PartRows) where
         ∙ any-filter_same (λ x. x == q) (λ d. list_any (in_doc d) p.rows) (list_any (in_doc q) p.rows) (λ x same. ap (λ y. list_any (in_doc y) p.rows) (same_number x q same)) ds
 
     -- the documents of the pairs are the hits
-    pair_docs : docs_of (filter (λ r. is_listed now r.doc) p.rows) ≡ now
+    pair_docs : row_docs (filter (λ r. is_listed now r.doc) p.rows) ≡ now
     pair_docs =
         let kept = filter (λ r. is_listed now r.doc) p.rows in
         sym (members_are nat_cmp nat_cmp_total nat_cmp-IsAntisymmetric now (map (λ r. r.doc) kept) rises (λ q.

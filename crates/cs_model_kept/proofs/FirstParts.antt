@@ -11,6 +11,7 @@ use Rattle.std.specs.Prelude.{encode_utf8_all}
 use Rattle.cs_base.specs.declared.content.query.Part.{Part}
 use Rattle.cs_base.specs.declared.content.query.Query.{Query, roll-Query, out-Query, out-roll-Query}
 use Rattle.cs_base.specs.declared.content.query.Atom.{Atom, Prefix, Exact}
+use Rattle.cs_base.proofs.ListsLemmas.{take_init}
 use Rattle.cs_model.specs.declared.kinds.Level.{Level}
 use Rattle.cs_model.specs.declared.kinds.Tie.{Tie}
 use Rattle.cs_model.specs.declared.kinds.Tie.TheVariants.{Begins, Alternative, Linked as LinkedBy}
@@ -25,7 +26,6 @@ use Rattle.cs_model.proofs.FineTokens.{Few, few_before}
 use Rattle.cs_model.proofs.KeptPieces.{cost}
 use Rattle.cs_model.proofs.KeyLemmas.{on_last-append}
 use Rattle.cs_model.proofs.SizeLemmas.{encodes-append}
-use Rattle.cs_model_kept.proofs.ListsLemmas.{take_init}
 use Rattle.cs_model_kept.proofs.ShutPieces.{Shut, read, pieces_of, of_pieces}
 
 -- the brackets that are open behind pieces

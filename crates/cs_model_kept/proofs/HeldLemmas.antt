@@ -3,7 +3,7 @@
 --   found_any            a test finds an entry exactly where one passes
 --   is_found             a key that is held is found
 --   plan_alike           lists that hold the same keys give the same plans
---   is_same, not_same    a plan is Same exactly where the query's own key is held
+--   same_is_held, not_same    a plan is Same exactly where the query's own key is held
 --   others_are_new       where it isn't Same the key is new, an entry in front or not
 --   fronts_plan_alike, fronts_use_alike       plans and what they use stay where an entry comes to the front
 --   numbers_plan_alike .. numbers_keep_alike  entries told by the numbers of their words, and those of the corpus
@@ -20,13 +20,13 @@ use Rattle.cs_base.specs.declared.content.key.Keys.{Keys}
 use Rattle.cs_base.specs.declared.content.key.Narrower.{Narrower}
 use Rattle.cs_base.specs.declared.index.plan.Kept.TheVariants as kept
 use Rattle.cs_base.specs.declared.index.plan.Plan.TheVariants.{Same, Extend, Fresh}
+use Rattle.cs_base.proofs.ListsLemmas.{filter_through, any_through}
 use Rattle.cs_model_index.specs.Numbered.{row_of}
 use Rattle.cs_model_kept.specs.declared.limits.TheConstants.{MAX_ENTRY_SIZE}
 use Rattle.cs_model_kept.specs.Entries.{Entry, EntryOf, entry_at, listed_count}
 use Rattle.cs_model_kept.specs.KeptList.{KeptOf, extend_or_fresh, found, is_held, kept_at, narrow_or, plan_by, to_front, used_key}
 use Rattle.cs_model_kept.specs.KeptListLaws.{FrontsPlanAlike, FrontsUseAlike, OthersAreNew, NumbersPlanAlike, NumbersUseAlike, NumbersFrontAlike, NumbersPutAlike, NumbersKeepAlike}
 use Rattle.cs_model_kept.proofs.KeptListLemmas.{held_front}
-use Rattle.cs_model_kept.proofs.ListsLemmas.{any_through, filter_through}
 
 -- a test finds an entry exactly where one passes
 pub found_any : {X : Type 0} (p : X → Bool) (xs : List X) → is_some (find p xs) ≡ list_any p xs
@@ -74,9 +74,9 @@ module _ {E : Type 0} (held : KeptOf E) (keys : Keys) where
   shorter : Option Narrower
   shorter = find (λ n. is_held held n.key) keys.narrow
 
-  pub is_same : plan_by held keys ≡ Same → is_held held keys.same ≡ true
+  pub same_is_held : plan_by held keys ≡ Same → is_held held keys.same ≡ true
   unfolding shorter
-  is_same e = cases (is_held held keys.same) e
+  same_is_held e = cases (is_held held keys.same) e
     where
       cases : (b : Bool) → (if b then Same else narrow_or held keys shorter) ≡ Same → b ≡ true
       cases true e = refl

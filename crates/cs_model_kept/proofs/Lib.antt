@@ -9,7 +9,6 @@ pub mod InnerLemmas
 pub mod InnerPieces
 pub mod KeptExamples
 pub mod KeptListLemmas
-pub mod ListsLemmas
 pub mod NarrowLemmas
 pub mod PlanLemmas
 pub mod ShorterQueries

@@ -37,6 +37,7 @@ use Rattle.cs_base.specs.declared.content.query.Atom.TheVariants.{rolls-Prefix}
 use Rattle.cs_base.specs.declared.content.query.Atom.TheOpen.{Atom-F}
 use Rattle.cs_base.proofs.MembersLemmas.{members_are, is_member-listed, listing-rises}
 use Rattle.cs_base.proofs.OrdersLemmas.{by_row_total, by_row_exact}
+use Rattle.cs_base.proofs.ListsLemmas.{all_stay}
 use Rattle.cs_model.specs.Answers.{PartRows, LinkedRows, begins, chained, is_linked, linked_to, parts_of, rows_of_atom, rows_of_chain, rows_of_linked, rows_of_part, union_of}
 use Rattle.cs_model.specs.Corpus.{Corpus}
 use Rattle.cs_model.specs.Grammar.{on_last, with_chains}
@@ -47,7 +48,6 @@ use Rattle.cs_model.proofs.SizeLemmas.{encodes-append}
 use Rattle.cs_model_kept.specs.Entries.{Entry, scored_hits, base_of, entry, entry_of, is_begun, is_hit, without, entry_after}
 use Rattle.cs_model_kept.specs.KeptLaws.{EntriesNarrow}
 use Rattle.cs_model_kept.proofs.EntryLemmas.{entry_more, parts_read}
-use Rattle.cs_model_kept.proofs.ListsLemmas.{all_stay}
 
 -- ---- filters
 pub filter_within : {X : Type 0} (p q : X → Bool) → ((x : X) → p x ≡ true → q x ≡ true) → (xs : List X) → filter p (filter q xs) ≡ filter p xs

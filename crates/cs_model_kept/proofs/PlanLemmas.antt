@@ -17,6 +17,7 @@ use Rattle.cs_base.specs.declared.index.plan.Plan.{Plan}
 use Rattle.cs_base.specs.declared.index.plan.Plan.TheVariants.{Same, Narrow, Extend, Fresh}
 use Rattle.cs_base.specs.declared.content.query.Part.{Part}
 use Rattle.cs_base.specs.declared.content.query.Query.{Query, roll-Query, out-Query, out-roll-Query, roll-out-Query}
+use Rattle.cs_base.proofs.ListsLemmas.{itself, take_init, last_entry}
 use Rattle.cs_model.specs.Canonical.{canonical}
 use Rattle.cs_model.specs.Corpus.{Corpus}
 use Rattle.cs_model.specs.Keys.{keys_of, last_prefix, shorter_words, with_prefix, narrower, narrowers, key_before}
@@ -29,7 +30,6 @@ use Rattle.cs_model_kept.specs.KeptListLaws.{before_last, Finds, Serves, PlansSe
 use Rattle.cs_model_kept.proofs.FirstParts.{first_parts_stay}
 use Rattle.cs_model_kept.proofs.HeldLemmas.{is_found}
 use Rattle.cs_model_kept.proofs.KeptListLemmas.{held_are_own}
-use Rattle.cs_model_kept.proofs.ListsLemmas.{itself, last_entry, take_init}
 use Rattle.cs_model_kept.proofs.NarrowLemmas.{Begins, words_begin}
 use Rattle.cs_model_kept.proofs.ShorterQueries.{shorter_stays}
 use Rattle.cs_model_kept.proofs.TypedLemmas.{none_some}

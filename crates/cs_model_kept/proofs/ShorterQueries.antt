@@ -4,7 +4,7 @@
 --   words_left           so is each shorter word
 --   out-prefix, out-exact     what atoms are, seen as one level
 --   shorter_stays        the law
-use Rattle.std.proofs.Common.{◌≡◌, ℕ, ◌≤◌, ◌&&◌, ◌||◌, ◌==◌, Bool, true, false, true≢false, not, List, [], ◌∷◌, ◌++◌, map, filter, drop, length, refl, sym, ◌∙◌, ap, subst, arith, append_assoc, length-append, Some}
+use Rattle.std.proofs.Common.{◌≡◌, ℕ, ◌≤◌, ◌&&◌, ◌||◌, Bool, true, false, true≢false, not, List, [], ◌∷◌, ◌++◌, map, filter, drop, length, refl, sym, ◌∙◌, ap, subst, arith, append_assoc, length-append, Some}
 use Rattle.std.specs.Prelude.{encode_utf8_all, nat_lt}
 use Rattle.std.specs.Char.{encode_utf8}
 use Rattle.std.specs.List.{All, Contains, list_any, list_all}
@@ -21,7 +21,7 @@ use Rattle.cs_base.specs.declared.content.query.Atom.TheVariants.{rolls-Prefix, 
 use Rattle.cs_base.specs.declared.content.query.Atom.TheOpen.{Atom-F}
 use Rattle.cs_model.specs.declared.kinds.Level.{Level}
 use Rattle.cs_model.specs.declared.kinds.Tie.{Tie}
-use Rattle.cs_model.specs.Collection.{named}
+use Rattle.cs_model.specs.Collection.{named, is_colon}
 use Rattle.cs_model.specs.Grammar.{Reading, reading, leave, join, attached}
 use Rattle.cs_model.specs.Keys.{last_of, prefix_in, part_prefix, last_prefix, with_prefix, shorter, is_left, shorter_words}
 use Rattle.cs_model.specs.Refusals.{IsOfGrammar}
@@ -34,9 +34,6 @@ use Rattle.cs_model_kept.proofs.ShutPieces.{Shut, read, pieces_of, of_pieces}
 use Rattle.cs_model_kept.proofs.TypedLemmas.{none_some, typed_atom, typed_other}
 
 -- ---- shorter words
-abbrev is_colon : ℕ → Bool
-is_colon c = c == 58
-
 record Left (cs : List ℕ) (w : List ℕ) : Type 0 where
   spelled : List ℕ
   more : List ℕ

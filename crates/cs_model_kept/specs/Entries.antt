@@ -15,7 +15,6 @@
 --                             pairs; of the empty query All and no rows
 --   listed_count b            how many documents a base lists; 0 for All
 --   entry_size e              the rows and the listed documents of an entry, counted together
---   base_score b d            the score that a base gives to the document d; 0 for All, and where it doesn't list d
 --   over b rows               each document of rows, with its score in the base and the greatest score of its rows
 --   hits_of positive e        the hits of the query whose entry e is, as a base; positive says whether its last part is
 --   listed k b                the documents of a base with their scores; for All each document of the corpus with the score 0
@@ -27,9 +26,8 @@
 --   extended k positive e p   the entry of a query and one part more, by the query's own entry
 --   kept_steps k ps           the entry of parts, taken one after the other, with whether the last one is positive
 --   entry_at ws e             the entry whose rows the posts of e stand for
-use Rattle.std.specs.Prelude.{ℕ, ◌+◌, ◌-◌, ◌==◌, Bool, true, false, not, if◌then◌else◌, List, [], ◌∷◌, map, filter, fold, take, length, find}
+use Rattle.std.specs.Prelude.{ℕ, ◌+◌, ◌-◌, ◌==◌, Bool, true, false, not, if◌then◌else◌, List, [], ◌∷◌, map, filter, fold, take, length}
 use Rattle.std.specs.List.{list_any}
-use Rattle.std.specs.Option.{option_map, unwrap_or}
 use Rattle.std.specs.FinMap as map
 use Rattle.cs_base.specs.declared.content.doc.Base.{Base}
 use Rattle.cs_base.specs.declared.content.doc.Base.TheVariants as base
@@ -37,7 +35,8 @@ use Rattle.cs_base.specs.declared.content.doc.Post.{Post}
 use Rattle.cs_base.specs.declared.content.doc.Row.{Row}
 use Rattle.cs_base.specs.declared.content.doc.Scored.{Scored}
 use Rattle.cs_base.specs.declared.content.query.Query.{Query}
-use Rattle.cs_model.specs.Answers.{PartRows, in_doc, docs_of, greatest_score, hits, pairs, parts_of, scored}
+use Rattle.cs_base.specs.content.Bases.{base_score}
+use Rattle.cs_model.specs.Answers.{PartRows, in_doc, row_docs, greatest_score, hits, pairs, parts_of, scored}
 use Rattle.cs_model.specs.Corpus.{Corpus}
 use Rattle.cs_model_index.specs.Numbered.{rows_at}
 
@@ -91,14 +90,9 @@ abbrev pub entry_size : {R : Type 0} → EntryOf R → ℕ
 entry_size e = length e.rows + listed_count e.base
 
 -- ---- hits out of an entry
--- what a base gives to the document d; 0 where it is All, and where it doesn't list d
-abbrev pub base_score : Base → ℕ → ℕ
-base_score base.All d = 0
-base_score (base.Listed hs) d = unwrap_or (option_map (λ h. h.score) (find (λ h. h.doc == d) hs)) 0
-
 -- the documents of rows by number, each with what the base gives it and the greatest score of its rows; none of no rows
 abbrev pub over : Base → List Row → List Scored
-over b rows = map (λ d. record { doc = d; score = base_score b d + greatest_score (filter (in_doc d) rows) }) (docs_of rows)
+over b rows = map (λ d. record { doc = d; score = base_score b d + greatest_score (filter (in_doc d) rows) }) (row_docs rows)
 
 -- the hits of a query out of its entry: its rows over its base where the last part is positive, which may be none, and else the
 -- base

@@ -19,11 +19,12 @@
 --   to_front held key     the entry of this key in front of the others, whose order stays; without one the list as it is
 --   put_in_front room kept e held     the list with the entry e in front, where it is kept, and at most room entries
 --   after held room q kept k      the list after the query q, by what became of the query's own entry
+--   is_same plan          whether the plan is Same, so that the query's own entry is held
 --   kept_fresh e          what becomes of an entry that wasn't had: too large, or kept
 --   kept_by plan e        what becomes of a query's own entry e
 --   after_own held room q k       the list after the query q, whose own entry is kept where its entry_size allows
 --   plans k room held qs  the plans of the queries qs, asked one after the other from the list held on
-use Rattle.std.specs.Prelude.{◌≡◌, ℕ, Bool, not, nat_lt, if◌then◌else◌, List, [], ◌∷◌, ◌++◌, ◌==◌, map, filter, find, take, Option, Some, None}
+use Rattle.std.specs.Prelude.{◌≡◌, ℕ, Bool, true, false, not, nat_lt, if◌then◌else◌, List, [], ◌∷◌, ◌++◌, ◌==◌, map, filter, find, take, Option, Some, None}
 use Rattle.std.specs.List.{All, IsDistinct, list_any}
 use Rattle.std.specs.Option.{option_map, option_and_then}
 use Rattle.std.specs.Str.{bytes_eq}
@@ -121,6 +122,11 @@ plan held q = plan_by held (keys_of q)
 -- the list after a query over the corpus: the entry that its plan used comes to the front, and then its own where it is kept
 unfoldable pub after : KeptList → ℕ → Query → Kept → Corpus → KeptList
 after held room q kept k = put_in_front room kept (canonical q, entry_of k q) (to_front held (used_key (keys_of q) (plan held q)))
+
+-- the plan is Same; Narrow, Extend and Fresh aren't
+abbrev pub is_same : Plan → Bool
+is_same Same = true
+is_same _ = false
 
 -- an entry that wasn't had is kept, unless its size is above `MAX_ENTRY_SIZE`
 abbrev pub kept_fresh : {R : Type 0} → EntryOf R → Kept

@@ -18,8 +18,9 @@ use Rattle.std.proofs.Math.Seq.{take-append_seam, drop-append_seam, drop-append-
 use Rattle.httparse.proofs.GrammarLemmas.{cons-append}
 use Rattle.httparse.specs.Grammar.{LineEnd, crlf, lf, print_end, print_blank, print_field, print_section, print_version, print_request, Field, IsField, RequestHead, IsRequestHead, ReadsRequest, is_token_byte, is_uri_byte, is_value_byte, is_token, AllPass}
 use Rattle.cs_base.specs.declared.content.limits.TheConstants.{MAX_HEAD_FIELDS}
+use Rattle.cs_model.specs.Collection.{is_colon, is_space}
 use Rattle.cs_model_serving.specs.Framing.{ended_lines, is_empty_line, front_lines, later_lines, text_lines, closing_lines}
-use Rattle.cs_model_serving.specs.HeadReader.{IsHead, ends_in_return, line_text, line_end, is_space, is_colon, field_of, version_of, head_by, lines_head, is_field, is_valid, tested, read_head}
+use Rattle.cs_model_serving.specs.HeadReader.{IsHead, ends_in_return, line_text, line_end, field_of, version_of, head_by, lines_head, is_field, is_valid, tested, read_head}
 use Rattle.cs_model_serving.proofs.LineLemmas.{HasNoFeed, ended_first, ended_none, no_feed_nil}
 
 -- ---- the first that passes

@@ -15,7 +15,7 @@
 --   answers k b             what is served of the bytes that came on a connection, of which those behind the limit don't count
 --   is_finished k b         a response closed the connection, or as many bytes came as count
 --   MayReplace r s          s may be sent in the place of r: r itself, or in the place of a 200 a 500 with the same closing
---   is_read, is_changed     a 500 that says that the index wasn't read; one that says that it changed
+--   says_read, says_changed     a 500 that says that the index wasn't read; one that says that it changed
 --   reads rs, changes rs    how many of some responses are such; 0 of none
 --   IsAnswered k b s sent   s is, for the bytes b, the responses `sent`, one in the place of each answer
 --   IsStopped k b s sent    s is such responses for some first answers, none of which closed the connection, and then the
@@ -99,20 +99,20 @@ MayReplace r s =
     ⊎ ((r.status ≡ 200) × ((s ≡ read_failed r.closes) ⊎ ((rule : ℕ) × (at : ℕ) × (s ≡ index_changed rule at r.closes))))
 
 -- the response says that the index wasn't read
-abbrev pub is_read : Response → Bool
-is_read r = r.status == 500 && bytes_eq r.body (error_text (codes "read"))
+abbrev pub says_read : Response → Bool
+says_read r = r.status == 500 && bytes_eq r.body (error_text (codes "read"))
 
 -- the response says that the index changed, as each 500 does that isn't a Read
-abbrev pub is_changed : Response → Bool
-is_changed r = r.status == 500 && not (is_read r)
+abbrev pub says_changed : Response → Bool
+says_changed r = r.status == 500 && not (says_read r)
 
 -- how many of the responses say that the index wasn't read; 0 of none
 abbrev pub reads : List Response → ℕ
-reads rs = count_by is_read rs
+reads rs = count_by says_read rs
 
 -- how many of the responses say that the index changed; 0 of none
 abbrev pub changes : List Response → ℕ
-changes rs = count_by is_changed rs
+changes rs = count_by says_changed rs
 
 -- the first form: s is the bytes of the responses `sent`, one in the place of each answer to b, in order; nothing where there
 -- is no answer

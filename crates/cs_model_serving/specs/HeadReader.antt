@@ -8,8 +8,6 @@
 --   ends_in_return l    whether the line's last byte is CR
 --   line_text l         a line without the CR at its end, of which there may be none
 --   line_end l          how the line ends: CR LF or LF
---   is_space b          whether the byte is a space
---   is_colon b          whether it is a colon
 --   field_of l          the field that a line can be: the name before its first colon, the value behind it
 --   version_of text     the minor version that the bytes of a version end with
 --   head_by             the head that lines can be: empty lines in front, the start line, lines of fields, the closing line
@@ -21,11 +19,12 @@
 --
 -- The function guesses the one head that the bytes can be, line by line, and tests the guess: its parts are of their classes,
 -- and it is printed as these bytes.
-use Rattle.std.specs.Prelude.{◌≤◌, ℕ, ◌-◌, Bool, ◌&&◌, ◌==◌, nat_lt, nat_le, nat_eq, if◌then◌else◌, List, [], ◌∷◌, map, length, take, drop, slice_index, Option, Some, None}
+use Rattle.std.specs.Prelude.{◌≤◌, ℕ, ◌-◌, Bool, ◌&&◌, nat_lt, nat_le, nat_eq, if◌then◌else◌, List, [], ◌∷◌, map, length, take, drop, slice_index, Option, Some, None}
 use Rattle.std.specs.List.{list_all, ends_with, before_first, after_first, slice_index_or}
 use Rattle.std.specs.Str.{bytes_eq, is_utf8}
 use Rattle.httparse.specs.Grammar.{LineEnd, crlf, lf, Field, RequestHead, ReadsRequest, print_request, is_token, is_uri_byte, is_value_byte}
 use Rattle.cs_base.specs.declared.content.limits.TheConstants.{MAX_HEAD_FIELDS}
+use Rattle.cs_model.specs.Collection.{is_colon, is_space}
 use Rattle.cs_model_serving.specs.Framing.{ended_lines, front_lines, text_lines, closing_lines}
 
 -- ---- the grammar
@@ -51,14 +50,6 @@ unfoldable pub line_end : List ℕ → LineEnd
 line_end l = if ends_in_return l then crlf else lf
 
 -- ---- the guess
--- the byte is a space
-abbrev pub is_space : ℕ → Bool
-is_space b = b == 32
-
--- the byte is a colon
-abbrev pub is_colon : ℕ → Bool
-is_colon b = b == 58
-
 -- the field that a line can be; without a colon its value is empty
 abbrev pub field_of : List ℕ → Field
 field_of l = record {

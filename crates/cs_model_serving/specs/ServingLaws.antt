@@ -17,7 +17,7 @@ use Rattle.cs_model_serving.specs.declared.framed.Framed.TheVariants.{Head, TooL
 use Rattle.cs_model_serving.specs.Framing.{frame}
 use Rattle.cs_model_serving.specs.HeadReader.{IsHead, IsNoHead, read_head}
 use Rattle.cs_model_serving.specs.Responses.{Response, response_bytes, response_to, read_failed, index_changed, out_of_memory, memory_bytes}
-use Rattle.cs_model_serving.specs.Connections.{Served, framed, serve, answers, is_read, is_changed}
+use Rattle.cs_model_serving.specs.Connections.{Served, framed, serve, answers, says_read, says_changed}
 
 -- the head that is read is the one that the bytes are, and where none is read they are none
 pub record AreHeads : Type 0 where
@@ -59,6 +59,6 @@ MemoryIsConstant = memory_bytes ≡ response_bytes out_of_memory
 
 -- each 500 is counted once, by its text; a response to a head is no 500
 pub record FaultsAreCounted : Type 0 where
-  pub read : (close : Bool) → (is_read (read_failed close) ≡ true) × (is_changed (read_failed close) ≡ false)
-  pub changed : (rule at : ℕ) (close : Bool) → (is_read (index_changed rule at close) ≡ false) × (is_changed (index_changed rule at close) ≡ true)
-  pub none : (k : Corpus) (bytes : List ℕ) → (is_read (response_to k bytes) ≡ false) × (is_changed (response_to k bytes) ≡ false)
+  pub read : (close : Bool) → (says_read (read_failed close) ≡ true) × (says_changed (read_failed close) ≡ false)
+  pub changed : (rule at : ℕ) (close : Bool) → (says_read (index_changed rule at close) ≡ false) × (says_changed (index_changed rule at close) ≡ true)
+  pub none : (k : Corpus) (bytes : List ℕ) → (says_read (response_to k bytes) ≡ false) × (says_changed (response_to k bytes) ≡ false)

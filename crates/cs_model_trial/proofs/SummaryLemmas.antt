@@ -11,8 +11,8 @@ use Rattle.cs_base.specs.declared.content.query.Query.{Query}
 use Rattle.cs_model.specs.Corpus.{Corpus}
 use Rattle.cs_model_index.specs.declared.limits.TheConstants.{TARGET}
 use Rattle.cs_model_index.proofs.ImageLemmas.{images_are_one}
-use Rattle.cs_model_kept.specs.KeptList.{KeptList, plans, after_own}
-use Rattle.cs_model_trial.specs.Summary.{trial_corpus, trial_plans, is_same, is_narrow, is_extend, is_fresh, counted, summary, SummariesAreOne, PlansAreCounted}
+use Rattle.cs_model_kept.specs.KeptList.{KeptList, plans, after_own, is_same}
+use Rattle.cs_model_trial.specs.Summary.{trial_corpus, trial_plans, is_narrow, is_extend, is_fresh, counted, summary, SummariesAreOne, PlansAreCounted}
 
 plans_length : (k : Corpus) (room : ℕ) (held : KeptList) (qs : List Query) → length (plans k room held qs) ≡ length qs
 plans_length k room held [] = refl

@@ -5,7 +5,7 @@
 --   trial_corpus n         the corpus of the collection of trial n
 --   hits_found k qs        the numbers of hits of the queries qs, added up
 --   trial_plans k qs       the plans of the queries, from an empty list with room for `MAX_ENTRIES` entries on
---   is_same p, is_narrow p, is_extend p, is_fresh p      which plan p is
+--   is_narrow p, is_extend p, is_fresh p      which plan p is
 --   counted test ps        how many of the plans ps pass
 --   summary_line w n       a line of a word and a number, with LF
 --   counts n k blocks      the lines of a summary, each a word and its number, by the trial, its corpus and how many blocks the
@@ -19,14 +19,14 @@ use Rattle.std.specs.Fmt.{decimal}
 use Rattle.std.specs.List.{flat_map}
 use Rattle.std.specs.FinMap as map
 use Rattle.cs_base.specs.declared.index.plan.Plan.{Plan}
-use Rattle.cs_base.specs.declared.index.plan.Plan.TheVariants.{Same, Narrow, Extend, Fresh}
+use Rattle.cs_base.specs.declared.index.plan.Plan.TheVariants.{Narrow, Extend, Fresh}
 use Rattle.cs_base.specs.declared.content.query.Query.{Query}
 use Rattle.cs_model.specs.Answers.{hits, parts_of}
 use Rattle.cs_model.specs.Corpus.{Corpus, corpus}
 use Rattle.cs_model_index.specs.declared.limits.TheConstants.{TARGET}
 use Rattle.cs_model_index.specs.Images.{Image, IsImage}
 use Rattle.cs_model_kept.specs.declared.limits.TheConstants.{MAX_ENTRIES}
-use Rattle.cs_model_kept.specs.KeptList.{plans}
+use Rattle.cs_model_kept.specs.KeptList.{plans, is_same}
 use Rattle.cs_model_trial.specs.Generator.{collection}
 use Rattle.cs_model_trial.specs.Sessions.{queries}
 
@@ -41,11 +41,6 @@ hits_found k qs = sum (map (λ q. length (hits k (parts_of k q))) qs)
 -- the plans of queries that are asked one after the other on one engine, which begins with nothing kept; of no queries none
 unfoldable pub trial_plans : Corpus → List Query → List Plan
 trial_plans k qs = plans k MAX_ENTRIES [] qs
-
--- the answer was kept
-abbrev pub is_same : Plan → Bool
-is_same Same = true
-is_same _ = false
 
 -- that of a shorter prefix was, however short
 abbrev pub is_narrow : Plan → Bool

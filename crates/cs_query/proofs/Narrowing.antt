@@ -21,7 +21,8 @@ use Rattle.cs_base.specs.declared.content.query.Atom.{out-Atom}
 use Rattle.cs_model.specs.Keys.{last_of, prefix_in, last_atom, chain_prefix, part_prefix, last_prefix, narrower, shorter, is_left, shorter_words}
 use Rattle.cs_model.proofs.PieceTokens.{chars_some}
 use Rattle.cs_model.proofs.SizeLemmas.{encodes-append}
-use Rattle.cs_model.proofs.KeyLemmas.{is_colon, left_more, left_stop, left_empty}
+use Rattle.cs_model.proofs.KeyLemmas.{left_more, left_stop, left_empty}
+use Rattle.cs_model.specs.Collection.{is_colon}
 use Rattle.cs_text.proofs.PiecesLemmas.{some_length, nil_from_test}
 use Rattle.cs_text.proofs.SplitLemmas.{scalars_back}
 use Rattle.cs_query.specs.Printing.{Continues}

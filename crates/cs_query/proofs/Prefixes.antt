@@ -16,7 +16,7 @@ use Rattle.cs_query.specs.declared.fault.Stop.TheVariants as stops
 use Rattle.cs_query.specs.declared.reader.Tail.{Tail}
 use Rattle.cs_query.specs.declared.reader.Tail.TheVariants as tails
 use Rattle.cs_query.specs.declared.reader.Reader.{Reader}
-use Rattle.cs_query.specs.Following.{Follows, FollowsAll, Judges, Answers, fault_at, held, settled}
+use Rattle.cs_query.specs.Following.{StandsBehind, StandsBehindAll, JudgesTokens, Answers, fault_at, held, settled}
 use Rattle.cs_query.proofs.Verdicts.{within_all}
 use Rattle.cs_model.proofs.SizeLemmas.{size_next, place_more}
 use Rattle.std.specs.Char.{encode_utf8}
@@ -38,12 +38,12 @@ depth_held tails.Bar rest = refl
 depth_held tails.Open rest = refl
 depth_held tails.Close rest = refl
 
-followed : (rest : List Token) (r : Reader) → Follows rest r → verdict (held r.tail rest) ≡ None
+followed : (rest : List Token) (r : Reader) → StandsBehind rest r → verdict (held r.tail rest) ≡ None
 followed rest r f =
     let deep : depth (held r.tail rest) ≡ length r.gathered.open_now = depth_held r.tail rest ∙ ap (λ x. length x.open_now) f.stands.built ∙ length-reverse r.gathered.open_now in
     within_all (held r.tail rest) f.fine (omega (arith, f.stands.left)) f.short (omega (arith, f.stands.begun, f.stands.few)) (omega (arith, f.stands.atoms, f.stands.some)) (omega (arith, deep, f.stands.shallow))
 
-followed_all : (ts : List Token) (r : Reader) → FollowsAll ts r → verdict ts ≡ None
+followed_all : (ts : List Token) (r : Reader) → StandsBehindAll ts r → verdict ts ≡ None
 followed_all ts r f = ap verdict f.1 ∙ followed f.0 r f.2
 
 -- ---- prefixes
@@ -59,7 +59,7 @@ accepted_more cs i h e k within =
 
 -- the reader stands behind i characters of cs, at the byte `at`
 pub record HasRead (cs : List ℕ) (i at : ℕ) (r : Reader) : Type 0 where
-  pub follows : FollowsAll (tokens (take i cs)) r
+  pub follows : StandsBehindAll (tokens (take i cs)) r
   pub accepted : AcceptedTo cs i
   pub place : at ≡ place_of cs i
   pub bytes : size (tokens (take i cs)) ≡ at
@@ -69,9 +69,9 @@ next_tokens : (cs : List ℕ) (i at x : ℕ) (r : Reader) (h : HasRead cs i at r
 next_tokens cs i at x r h within same = tokens_more cs i within ∙ ap (λ y. with_next y (tokens (take i cs))) (sym same) ∙ ap (with_next x) h.follows.1
 
 pub one_more : (cs : List ℕ) (i at x : ℕ) (r next : Reader) (h : HasRead cs i at r) → i < length cs → x ≡ get_or cs i 0
-    → FollowsAll (with_next x (held r.tail h.follows.0)) next → HasRead cs (i + 1) (at + length (encode_utf8 x)) next
+    → StandsBehindAll (with_next x (held r.tail h.follows.0)) next → HasRead cs (i + 1) (at + length (encode_utf8 x)) next
 one_more cs i at x r next h within same f =
-    let follows : FollowsAll (tokens (take (i + 1) cs)) next = (f.0, next_tokens cs i at x r h within same ∙ f.1, f.2) in
+    let follows : StandsBehindAll (tokens (take (i + 1) cs)) next = (f.0, next_tokens cs i at x r h within same ∙ f.1, f.2) in
     let long : length (encode_utf8 x) ≡ length (encode_utf8 (get_or cs i 0)) = ap (λ y. length (encode_utf8 y)) same in
     record {
       follows = follows;
@@ -91,13 +91,13 @@ at_fault cs i at x r fault h within same v = record {
 }
 
 pub at_stop : (cs : List ℕ) (i at x : ℕ) (r : Reader) (s : Stop) (h : HasRead cs i at r) → i < length cs → x ≡ get_or cs i 0
-    → Judges (with_next x (held r.tail h.follows.0)) (Err s) → Answers cs (Err (fault_at at s))
+    → JudgesTokens (with_next x (held r.tail h.follows.0)) (Err s) → Answers cs (Err (fault_at at s))
 at_stop cs i at x r stops.Bad h within same v = at_fault cs i at x r Bad h within same v
 at_stop cs i at x r (stops.Limit which) h within same v = at_fault cs i at x r (Limit which) h within same v
 at_stop cs i at x r stops.Memory h within same v = tt
 
 pub at_end : (cs : List ℕ) (i at : ℕ) (r : Reader) (q : Query) → length cs ≤ i → HasRead cs i at r
-    → ((rest : List Token) → Follows rest r → q ≡ query_of_tokens (held r.tail rest)) → IsAccepted cs × (q ≡ query_of cs)
+    → ((rest : List Token) → StandsBehind rest r → q ≡ query_of_tokens (held r.tail rest)) → IsAccepted cs × (q ≡ query_of cs)
 at_end cs i at r q done h told =
     let all : take i cs ≡ cs = take_all i cs done in
     (λ k within. h.accepted k (omega arith), told h.follows.0 h.follows.2 ∙ ap query_of_tokens (sym h.follows.1) ∙ ap query_of all)

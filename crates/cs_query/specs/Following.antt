@@ -4,9 +4,9 @@
 --   settled tail rest      the tokens whose atoms are among the gathered parts
 --   Agrees tail tie rest   the tail and its tie are those that the tokens `rest` before it give
 --   Stands done all g      g has the parts of the tokens `done` and the counts of the tokens `all`
---   Follows rest r         the reader r stands behind the tokens of its tail and `rest`
---   FollowsAll ts r        it stands behind the tokens ts
---   Judges ts result       behind the tokens ts: the reader that follows them, or their fault
+--   StandsBehind rest r         the reader r stands behind the tokens of its tail and `rest`
+--   StandsBehindAll ts r        it stands behind the tokens ts
+--   JudgesTokens ts result       behind the tokens ts: the reader that follows them, or their fault
 --   fault_at at stop       the fault of a text whose reader stops at the byte `at`
 --   Answers cs result      the answer to the characters cs of a key text
 use Rattle.std.specs.Prelude.{◌≡◌, ℕ, ◌+◌, ◌≤◌, List, [], ◌∷◌, false, reverse, length, Some, Result, Ok, Err}
@@ -61,22 +61,22 @@ pub record Stands (done all : List Token) (g : Gathered) : Type 0 where
   pub left : size all + depth all + g.room ≡ MAX_QUERY_BYTES
 
 -- The reader stands behind the tokens of its tail and `rest`, and none of them is refused.
-pub record Follows (rest : List Token) (r : Reader) : Type 0 where
+pub record StandsBehind (rest : List Token) (r : Reader) : Type 0 where
   pub agrees : Agrees r.tail r.tie rest
   pub fine : refused (held r.tail rest) ≡ false
   pub short : newest (held r.tail rest) ≤ MAX_PLAIN_WORD_BYTES
   pub stands : Stands (settled r.tail rest) (held r.tail rest) r.gathered
 
 -- The reader stands behind these tokens.
-abbrev pub FollowsAll : List Token → Reader → Type 0
-FollowsAll ts r = (rest : List Token) × (ts ≡ held r.tail rest) × Follows rest r
+abbrev pub StandsBehindAll : List Token → Reader → Type 0
+StandsBehindAll ts r = (rest : List Token) × (ts ≡ held r.tail rest) × StandsBehind rest r
 
 -- These are the tokens with the new character: the reader follows them, or it names their fault.
-abbrev pub Judges : List Token → Result Reader Stop → Type 0
-Judges ts (Ok r) = FollowsAll ts r
-Judges ts (Err stops.Bad) = verdict ts ≡ Some Bad
-Judges ts (Err (stops.Limit which)) = verdict ts ≡ Some (Limit which)
-Judges ts (Err stops.Memory) = Unit {0}
+abbrev pub JudgesTokens : List Token → Result Reader Stop → Type 0
+JudgesTokens ts (Ok r) = StandsBehindAll ts r
+JudgesTokens ts (Err stops.Bad) = verdict ts ≡ Some Bad
+JudgesTokens ts (Err (stops.Limit which)) = verdict ts ≡ Some (Limit which)
+JudgesTokens ts (Err stops.Memory) = Unit {0}
 
 -- the fault of a text whose character at the byte `at` stops the reader
 abbrev pub fault_at : ℕ → Stop → QueryFault

@@ -4,7 +4,7 @@ ghost use Rattle.cs_model.specs.Tokens.{Token, Word, Run, Gap, Open};
 ghost use Rattle.cs_model.specs.Grammar.{tie as tie_of};
 ghost use Rattle.cs_model.specs.Collection.{has_name_form};
 ghost use Rattle.cs_model.specs.Refusals.{begins_part, refused};
-ghost use Rattle.cs_query.specs.Following.{Agrees, Stands, Judges, held, settled};
+ghost use Rattle.cs_query.specs.Following.{Agrees, Stands, JudgesTokens, held, settled};
 
 use crate::fault::Stop;
 use crate::reader::{Gathered, Reader, Tail};

@@ -3,7 +3,7 @@ ghost use Rattle.std.specs.Prelude.{◌≡◌, List, ◌∷◌, ◌++◌, false,
 ghost use Rattle.cs_model.specs.Tokens.{Token, Word, Value, Colon};
 ghost use Rattle.cs_model.specs.Grammar.{tie as tie_of};
 ghost use Rattle.cs_model.specs.Refusals.{refused};
-ghost use Rattle.cs_query.specs.Following.{Judges, Stands};
+ghost use Rattle.cs_query.specs.Following.{JudgesTokens, Stands};
 
 use crate::fault::Stop;
 use crate::reader::{Gathered, Reader, Tail};

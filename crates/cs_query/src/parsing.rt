@@ -6,7 +6,7 @@ ghost use Rattle.cs_base.specs.declared.content.query.Which.{Which as WhichValue
 ghost use Rattle.cs_model.specs.Grammar.{all_closed, query_of, query_of_tokens};
 ghost use Rattle.cs_model.specs.KeyText.{norm};
 ghost use Rattle.cs_model.specs.Refusals.{Bad, Limit, IsAccepted, IsOfGrammar, IsRefused};
-ghost use Rattle.cs_query.specs.Following.{Answers, Follows, FollowsAll, fault_at, held};
+ghost use Rattle.cs_query.specs.Following.{Answers, StandsBehind, StandsBehindAll, fault_at, held};
 
 use crate::attaching::close_level;
 use crate::fault::{QueryFault, Stop};
@@ -58,7 +58,7 @@ fn read(alloc: Global, key: &str) -> Result<Query, QueryFault>
 
 /// The reader of no text.
 fn start(alloc: Global) -> Reader
-    ensures { FollowsAll [] result }
+    ensures { StandsBehindAll [] result }
 {
     Reader {
         tail: Tail::Start,
@@ -85,7 +85,7 @@ fn fault_at(at: u32, stop: Stop) -> QueryFault
 
 /// The query of what was read.
 fn finish(alloc: Global, reader: Reader) -> Result<Query, Memory>
-    ensures { IfOk result (λ q. (rest : List Token) → Follows rest reader → q ≡ query_of_tokens (held reader.tail rest)) }
+    ensures { IfOk result (λ q. (rest : List Token) → StandsBehind rest reader → q ≡ query_of_tokens (held reader.tail rest)) }
 {
     let Reader {
         tail,

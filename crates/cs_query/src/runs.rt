@@ -1,7 +1,7 @@
 //! The reader after a character of runs: `.`, `-`, `_` or `'`.
 ghost use Rattle.std.specs.Prelude.{List, encode_utf8};
 ghost use Rattle.cs_model.specs.Tokens.{Token, grown};
-ghost use Rattle.cs_query.specs.Following.{Follows, Judges, held};
+ghost use Rattle.cs_query.specs.Following.{StandsBehind, JudgesTokens, held};
 
 use crate::beginnings::begin_run;
 use crate::fault::Stop;
@@ -13,7 +13,7 @@ use std::alloc::Global;
 /// After a dot.
 #[tactic(auto, using(crate::proofs::Verdicts::over_query))]
 pub fn after_dot(alloc: Global, reader: Reader, c: char) -> Result<Reader, Stop>
-    ensures { (rest : List Token) → Follows rest reader → Judges (grown Class.Dot (encode_utf8 c) (held reader.tail rest)) result }
+    ensures { (rest : List Token) → StandsBehind rest reader → JudgesTokens (grown Class.Dot (encode_utf8 c) (held reader.tail rest)) result }
 {
     let Reader {
         tail,
@@ -46,7 +46,7 @@ pub fn after_dot(alloc: Global, reader: Reader, c: char) -> Result<Reader, Stop>
 /// After a dash, a low line or an apostrophe.
 #[tactic(auto, using(crate::proofs::Verdicts::over_query, crate::proofs::Verdicts::over_word))]
 pub fn after_joiner(alloc: Global, reader: Reader, c: char) -> Result<Reader, Stop>
-    ensures { (rest : List Token) → Follows rest reader → Judges (grown Class.Joiner (encode_utf8 c) (held reader.tail rest)) result }
+    ensures { (rest : List Token) → StandsBehind rest reader → JudgesTokens (grown Class.Joiner (encode_utf8 c) (held reader.tail rest)) result }
 {
     let Reader {
         tail,

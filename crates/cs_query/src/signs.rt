@@ -3,7 +3,7 @@ ghost use Rattle.std.specs.Prelude.{◌≡◌, List, ◌∷◌, false, encode_ut
 ghost use Rattle.cs_model.specs.Tokens.{Token, Word, Value, Dollar, Colon, grown};
 ghost use Rattle.cs_model.specs.Grammar.{tie as tie_of};
 ghost use Rattle.cs_model.specs.Refusals.{refused};
-ghost use Rattle.cs_query.specs.Following.{Follows, Judges, Stands, held};
+ghost use Rattle.cs_query.specs.Following.{StandsBehind, JudgesTokens, Stands, held};
 
 use crate::attaching::close_level;
 use crate::beginnings::enter;
@@ -18,7 +18,7 @@ use std::alloc::Global;
 /// After a dollar.
 #[tactic(auto, using(crate::proofs::Verdicts::over_query))]
 pub fn after_dollar(alloc: Global, reader: Reader, c: char) -> Result<Reader, Stop>
-    ensures { (rest : List Token) → Follows rest reader → Judges (grown Class.Dollar (encode_utf8 c) (held reader.tail rest)) result }
+    ensures { (rest : List Token) → StandsBehind rest reader → JudgesTokens (grown Class.Dollar (encode_utf8 c) (held reader.tail rest)) result }
 {
     let Reader {
         tail,
@@ -50,7 +50,7 @@ pub fn after_dollar(alloc: Global, reader: Reader, c: char) -> Result<Reader, St
 /// After a bar.
 #[tactic(auto, using(crate::proofs::Verdicts::over_query))]
 pub fn after_bar(alloc: Global, reader: Reader, c: char) -> Result<Reader, Stop>
-    ensures { (rest : List Token) → Follows rest reader → Judges (grown Class.Bar (encode_utf8 c) (held reader.tail rest)) result }
+    ensures { (rest : List Token) → StandsBehind rest reader → JudgesTokens (grown Class.Bar (encode_utf8 c) (held reader.tail rest)) result }
 {
     if !takes_bar(&reader.tail) {
         return Err(Stop::Bad);
@@ -77,7 +77,7 @@ pub fn after_bar(alloc: Global, reader: Reader, c: char) -> Result<Reader, Stop>
 /// After a colon.
 #[tactic(auto, using(crate::proofs::Verdicts::over_query))]
 pub fn after_colon(alloc: Global, reader: Reader, c: char) -> Result<Reader, Stop>
-    ensures { (rest : List Token) → Follows rest reader → Judges (grown Class.Colon (encode_utf8 c) (held reader.tail rest)) result }
+    ensures { (rest : List Token) → StandsBehind rest reader → JudgesTokens (grown Class.Colon (encode_utf8 c) (held reader.tail rest)) result }
 {
     let Reader {
         tail,
@@ -114,7 +114,7 @@ pub fn after_colon(alloc: Global, reader: Reader, c: char) -> Result<Reader, Sto
 
 /// After an opening bracket.
 pub fn after_open(alloc: Global, reader: Reader, c: char) -> Result<Reader, Stop>
-    ensures { (rest : List Token) → Follows rest reader → Judges (grown Class.Open (encode_utf8 c) (held reader.tail rest)) result }
+    ensures { (rest : List Token) → StandsBehind rest reader → JudgesTokens (grown Class.Open (encode_utf8 c) (held reader.tail rest)) result }
 {
     let Reader {
         tail,
@@ -143,7 +143,7 @@ pub fn after_open(alloc: Global, reader: Reader, c: char) -> Result<Reader, Stop
 /// After a closing bracket.
 #[tactic(auto, using(crate::proofs::Lasts::reverse_push))]
 pub fn after_close(alloc: Global, reader: Reader, c: char) -> Result<Reader, Stop>
-    ensures { (rest : List Token) → Follows rest reader → Judges (grown Class.Close (encode_utf8 c) (held reader.tail rest)) result }
+    ensures { (rest : List Token) → StandsBehind rest reader → JudgesTokens (grown Class.Close (encode_utf8 c) (held reader.tail rest)) result }
 {
     let Reader {
         tail,
@@ -180,7 +180,7 @@ pub fn after_close(alloc: Global, reader: Reader, c: char) -> Result<Reader, Sto
 /// A dollar behind a word.
 #[tactic(auto, using(crate::proofs::Verdicts::over_query))]
 fn exact(alloc: Global, word: Text, tie: Tie, gathered: Gathered) -> Result<Reader, Stop>
-    ensures { (rest : List Token) → tie ≡ tie_of rest → Stands rest (Word word ∷ rest) gathered → Judges (Dollar ∷ Word word ∷ rest) result }
+    ensures { (rest : List Token) → tie ≡ tie_of rest → Stands rest (Word word ∷ rest) gathered → JudgesTokens (Dollar ∷ Word word ∷ rest) result }
 {
     if gathered.room < 1 {
         return Err(Stop::Limit(Which::Query));

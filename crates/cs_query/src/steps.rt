@@ -1,7 +1,7 @@
 //! The reader with one character more.
 ghost use Rattle.std.specs.Prelude.{List, encode_utf8};
 ghost use Rattle.cs_model.specs.Tokens.{Token, grown, with_next};
-ghost use Rattle.cs_query.specs.Following.{Follows, Judges, held};
+ghost use Rattle.cs_query.specs.Following.{StandsBehind, JudgesTokens, held};
 
 use crate::beginnings::{begin_gap, begin_word};
 use crate::classes::class_of;
@@ -17,7 +17,7 @@ use std::alloc::Global;
 
 /// The reader after one character more.
 pub fn step(alloc: Global, reader: Reader, c: char) -> Result<Reader, Stop>
-    ensures { (rest : List Token) → Follows rest reader → Judges (with_next c (held reader.tail rest)) result }
+    ensures { (rest : List Token) → StandsBehind rest reader → JudgesTokens (with_next c (held reader.tail rest)) result }
 {
     match class_of(c) {
         Class::Letter => after_letter(alloc, reader, c),
@@ -34,7 +34,7 @@ pub fn step(alloc: Global, reader: Reader, c: char) -> Result<Reader, Stop>
 
 /// After a word character.
 fn after_letter(alloc: Global, reader: Reader, c: char) -> Result<Reader, Stop>
-    ensures { (rest : List Token) → Follows rest reader → Judges (grown Class.Letter (encode_utf8 c) (held reader.tail rest)) result }
+    ensures { (rest : List Token) → StandsBehind rest reader → JudgesTokens (grown Class.Letter (encode_utf8 c) (held reader.tail rest)) result }
 {
     let Reader {
         tail,
@@ -71,7 +71,7 @@ fn after_letter(alloc: Global, reader: Reader, c: char) -> Result<Reader, Stop>
 /// After a character of a gap, which is any other.
 #[tactic(auto, using(crate::proofs::Verdicts::over_query))]
 fn after_other(alloc: Global, reader: Reader, c: char) -> Result<Reader, Stop>
-    ensures { (rest : List Token) → Follows rest reader → Judges (grown Class.Other (encode_utf8 c) (held reader.tail rest)) result }
+    ensures { (rest : List Token) → StandsBehind rest reader → JudgesTokens (grown Class.Other (encode_utf8 c) (held reader.tail rest)) result }
 {
     let Reader {
         tail,

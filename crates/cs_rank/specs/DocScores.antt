@@ -3,7 +3,6 @@
 --   greatest ns           the greatest of some numbers
 --   of_doc d rows         the rows of document d
 --   best_row rows d       document d with the greatest score of its rows
---   base_score base d     what the earlier parts gave document d
 --   with_base base h      h, with what the earlier parts gave it added
 --   scores base rows      each document of the rows with its score, ascending
 --   IsBase base           what a base keeps: its documents ascend, and no score is above 2^20
@@ -14,6 +13,7 @@ use Rattle.cs_base.specs.declared.content.doc.Base.{Base}
 use Rattle.cs_base.specs.declared.content.doc.Base.TheVariants as base
 use Rattle.cs_base.specs.declared.content.doc.Post.{Post}
 use Rattle.cs_base.specs.declared.content.doc.Scored.{Scored}
+use Rattle.cs_base.specs.content.Bases.{base_score}
 
 -- the greatest of some numbers; of none it is 0
 abbrev pub greatest : List ℕ → ℕ
@@ -23,11 +23,6 @@ greatest (n ∷ ns) = max n (greatest ns)
 -- the rows of document d, in their order
 abbrev pub of_doc : ℕ → List Post → List Post
 of_doc d rows = filter (λ p. p.doc == d) rows
-
--- what the earlier parts gave document d: 0 where there is no earlier part, and for a document that isn't listed
-abbrev pub base_score : Base → ℕ → ℕ
-base_score base.All d = 0
-base_score (base.Listed listed) d = unwrap_or (option_map (λ h. h.score) (find (λ h. h.doc == d) listed)) 0
 
 -- document d with the greatest score of its rows
 abbrev pub best_row : List Post → ℕ → Scored

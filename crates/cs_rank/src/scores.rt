@@ -3,8 +3,10 @@ ghost use Rattle.std.specs.Prelude.{◌≡◌, ◌≤◌, ◌<◌, ◌^◌, List
 ghost use Rattle.cs_base.specs.content.Orders.{docs_of, AreSorted, AreByDoc};
 ghost use Rattle.cs_base.specs.declared.content.doc.Scored.{Scored};
 ghost use Rattle.cs_base.specs.declared.content.doc.Base.TheVariants.{Listed};
+ghost use Rattle.cs_base.specs.content.Bases.{base_score};
+ghost use Rattle.cs_base.specs.declared.content.scores.TheConstants.{MAX_ROW_SCORE};
 ghost use Rattle.cs_rank.specs.Groups.{group};
-ghost use Rattle.cs_rank.specs.DocScores.{best_row, base_score, with_base, scores, IsBase, PassedBelow};
+ghost use Rattle.cs_rank.specs.DocScores.{best_row, with_base, scores, IsBase, PassedBelow};
 
 use cs_base::{Base, Memory, Scored, Seq};
 use cs_cols::Cols;
@@ -33,7 +35,7 @@ fn best_scores(alloc: Global, rows: &Cols) -> Result<Vec<Scored>, Memory>
     requires { AreSorted rows.now.posts }
 
     ensures best { IfOk result (λ v. v.items ≡ map (best_row rows.now.posts) (docs_of rows.now.posts)) }
-    ensures small { IfOk result (λ v. All (λ h. h.score ≤ 255) v.items) }
+    ensures small { IfOk result (λ v. All (λ h. h.score ≤ MAX_ROW_SCORE) v.items) }
 {
     let docs = rows.docs();
     let scores = rows.scores();
@@ -57,7 +59,7 @@ fn scored_at(docs: &[u32], scores: &[u8], i: usize) -> Scored
 
     ensures doc { result.doc ≡ slice_index_or docs.now i result.doc }
     ensures score { result.score ≡ slice_index_or scores.now i result.score }
-    ensures small { result.score ≤ 255 }
+    ensures small { result.score ≤ MAX_ROW_SCORE }
 {
     Scored {
         doc: docs[i],
@@ -69,12 +71,12 @@ fn scored_at(docs: &[u32], scores: &[u8], i: usize) -> Scored
 #[inline]
 fn absorb(best: &mut Vec<Scored>, current: Scored, next: Scored) -> Result<Scored, Memory>
     // a row's score is at most the greatest u8
-    requires current { current.score ≤ 255 }
-    requires next { next.score ≤ 255 }
+    requires current { current.score ≤ MAX_ROW_SCORE }
+    requires next { next.score ≤ MAX_ROW_SCORE }
 
     ensures ok { IfOk result (λ now. (rest : List Scored) → best.new.items ++ group now rest ≡ best.old.items ++ group current (next ∷ rest)) }
-    ensures now { IfOk result (λ now. now.score ≤ 255) }
-    ensures small { All (λ h. h.score ≤ 255) best.old.items → All (λ h. h.score ≤ 255) best.new.items }
+    ensures now { IfOk result (λ now. now.score ≤ MAX_ROW_SCORE) }
+    ensures small { All (λ h. h.score ≤ MAX_ROW_SCORE) best.old.items → All (λ h. h.score ≤ MAX_ROW_SCORE) best.new.items }
 {
     if next.doc == current.doc {
         return Ok(Scored {
@@ -91,7 +93,7 @@ fn absorb(best: &mut Vec<Scored>, current: Scored, next: Scored) -> Result<Score
 pub fn add_base(alloc: Global, listed: &[Scored], best: &[Scored]) -> Result<Vec<Scored>, Memory>
     requires base { IsBase (Listed listed.now) }
     requires best_sorted { AreByDoc best.now }
-    requires small { All (λ h. h.score ≤ 255) best.now }
+    requires small { All (λ h. h.score ≤ MAX_ROW_SCORE) best.now }
 
     ensures { IfOk result (λ v. v.items ≡ map (with_base (Listed listed.now)) best.now) }
 {

@@ -23,14 +23,14 @@ use Rattle.cs_rank.proofs.GroupsLemmas.{nothing_listed}
 use Rattle.cs_rank.proofs.Places.{take_rises}
 use Rattle.cs_tables.specs.declared.counts.Mark.{Mark}
 use Rattle.cs_tables.specs.declared.counts.TheConstants.{NO_DOC}
-use Rattle.cs_tables.specs.Listings.{of_word, doc_count}
-use Rattle.cs_tables.specs.Marks.{saw, sees, marked}
+use Rattle.cs_tables.specs.Listings.{with_word, doc_count}
+use Rattle.cs_tables.specs.Marks.{saw, sees, mark_of}
 
 -- a word's mark looks at its own rows
-fold_sees : (w : ℕ) (m : Mark) (rows : List Post) → fold (sees w) m rows ≡ fold saw m (map (λ p. p.doc) (of_word w rows))
+fold_sees : (w : ℕ) (m : Mark) (rows : List Post) → fold (sees w) m rows ≡ fold saw m (map (λ p. p.doc) (with_word w rows))
 fold_sees w m [] = refl
 fold_sees w m (p ∷ rows) =
-    elim (p.word == w) as (λ b. fold (sees w) (if b then saw m p.doc else m) rows ≡ fold saw m (map (λ p. p.doc) (if b then p ∷ of_word w rows else of_word w rows))) [
+    elim (p.word == w) as (λ b. fold (sees w) (if b then saw m p.doc else m) rows ≡ fold saw m (map (λ p. p.doc) (if b then p ∷ with_word w rows else with_word w rows))) [
       | true ↦ fold_sees w (saw m p.doc) rows
       | false ↦ fold_sees w m rows
     ]
@@ -73,28 +73,28 @@ few : (ds : List ℕ) → Climbs ds → AllByRecursion (λ d. d < MAX_DOCS) ds �
 few [] up below = subst (λ xs. length xs ≤ MAX_DOCS) nothing_listed (omega arith)
 few (d ∷ ds) up below = subst (λ xs. length xs ≤ MAX_DOCS) (fresh-listed d ds up) (let short = fresh_few MAX_DOCS d ds up below in omega arith)
 
-each_doc : (w : ℕ) (rows : List Post) → AllByRecursion (λ p. p.doc < MAX_DOCS) rows → AllByRecursion (λ d. d < MAX_DOCS) (map (λ p. p.doc) (of_word w rows))
+each_doc : (w : ℕ) (rows : List Post) → AllByRecursion (λ p. p.doc < MAX_DOCS) rows → AllByRecursion (λ d. d < MAX_DOCS) (map (λ p. p.doc) (with_word w rows))
 each_doc w [] h = tt
 each_doc w (p ∷ rows) h =
-    elim (p.word == w) as (λ b. AllByRecursion (λ d. d < MAX_DOCS) (map (λ p. p.doc) (if b then p ∷ of_word w rows else of_word w rows))) [
+    elim (p.word == w) as (λ b. AllByRecursion (λ d. d < MAX_DOCS) (map (λ p. p.doc) (if b then p ∷ with_word w rows else with_word w rows))) [
       | true ↦ (h.0, each_doc w rows h.1)
       | false ↦ each_doc w rows h.1
     ]
 
-pub word_sorted : (w : ℕ) (rows : List Post) → AreSorted rows → AreSorted (of_word w rows)
+pub word_sorted : (w : ℕ) (rows : List Post) → AreSorted rows → AreSorted (with_word w rows)
 word_sorted w rows up = IsStrictlySortedBy-filter by_place (λ p. p.word == w) rows up
 
 -- it is enough that the rows of the word are in order
-pub word_marked : (w : ℕ) (rows : List Post) → AreSorted (of_word w rows) → AllByRecursion (λ p. p.doc < MAX_DOCS) rows → (marked w rows).docs ≡ doc_count (of_word w rows)
-word_marked w rows up below = ap (λ (m : Mark). m.docs) (fold_sees w blank rows) ∙ tally _ (docs_climb (of_word w rows) up) (each_doc w rows below)
+pub word_marked : (w : ℕ) (rows : List Post) → AreSorted (with_word w rows) → AllByRecursion (λ p. p.doc < MAX_DOCS) rows → (mark_of w rows).docs ≡ doc_count (with_word w rows)
+word_marked w rows up below = ap (λ (m : Mark). m.docs) (fold_sees w blank rows) ∙ tally _ (docs_climb (with_word w rows) up) (each_doc w rows below)
 
-pub word_docs_few : (w : ℕ) (rows : List Post) → AreSorted (of_word w rows) → AllByRecursion (λ p. p.doc < MAX_DOCS) rows → doc_count (of_word w rows) ≤ MAX_DOCS
-word_docs_few w rows up below = few _ (docs_climb (of_word w rows) up) (each_doc w rows below)
+pub word_docs_few : (w : ℕ) (rows : List Post) → AreSorted (with_word w rows) → AllByRecursion (λ p. p.doc < MAX_DOCS) rows → doc_count (with_word w rows) ≤ MAX_DOCS
+word_docs_few w rows up below = few _ (docs_climb (with_word w rows) up) (each_doc w rows below)
 
-pub marked-is : (w : ℕ) (rows : List Post) → AreSorted rows → AllByRecursion (λ p. p.doc < MAX_DOCS) rows → (marked w rows).docs ≡ doc_count (of_word w rows)
+pub marked-is : (w : ℕ) (rows : List Post) → AreSorted rows → AllByRecursion (λ p. p.doc < MAX_DOCS) rows → (mark_of w rows).docs ≡ doc_count (with_word w rows)
 marked-is w rows up below = word_marked w rows (word_sorted w rows up) below
 
-pub docs_few : (w : ℕ) (rows : List Post) → AreSorted rows → AllByRecursion (λ p. p.doc < MAX_DOCS) rows → doc_count (of_word w rows) ≤ MAX_DOCS
+pub docs_few : (w : ℕ) (rows : List Post) → AreSorted rows → AllByRecursion (λ p. p.doc < MAX_DOCS) rows → doc_count (with_word w rows) ≤ MAX_DOCS
 docs_few w rows up below = word_docs_few w rows (word_sorted w rows up) below
 
 pub each : (P : Post → Type 0) (rows : List Post) → ((k : ℕ) (d : Post) → k < length rows → P (get_or rows k d)) → AllByRecursion P rows
@@ -107,11 +107,11 @@ all_take P (suc n) [] h = tt
 all_take P (suc n) (p ∷ rows) h = (h.0, all_take P n rows h.1)
 
 -- a mark has room for one more
-pub has_room : (w i : ℕ) (rows : List Post) (m : Mark) → AreSorted rows → AllByRecursion (λ p. p.doc < MAX_DOCS) rows → m ≡ marked w (take i rows) → m.docs < NO_DOC
+pub has_room : (w i : ℕ) (rows : List Post) (m : Mark) → AreSorted rows → AllByRecursion (λ p. p.doc < MAX_DOCS) rows → m ≡ mark_of w (take i rows) → m.docs < NO_DOC
 has_room w i rows m up below is =
     let up_i = take_rises by_place i rows up in
     let below_i = all_take (λ p. p.doc < MAX_DOCS) i rows below in
-    let docs : m.docs ≡ doc_count (of_word w (take i rows)) = ap (λ (m : Mark). m.docs) is ∙ marked-is w (take i rows) up_i below_i in
+    let docs : m.docs ≡ doc_count (with_word w (take i rows)) = ap (λ (m : Mark). m.docs) is ∙ marked-is w (take i rows) up_i below_i in
     let least = docs_few w (take i rows) up_i below_i in
     omega arith
 
@@ -128,7 +128,7 @@ abbrev no_post : Post
 no_post = record { doc = 0; word = 0; pos = 0; score = 0 }
 
 -- the marks after one more row
-marked_more : (w i : ℕ) (rows : List Post) → i < length rows → marked w (take (i + 1) rows) ≡ sees w (marked w (take i rows)) (get_or rows i no_post)
+marked_more : (w i : ℕ) (rows : List Post) → i < length rows → mark_of w (take (i + 1) rows) ≡ sees w (mark_of w (take i rows)) (get_or rows i no_post)
 marked_more w i rows lt = ap (fold (sees w) blank) (take_more rows i no_post lt) ∙ fold_push w blank (take i rows) (get_or rows i no_post)
 
 -- a row's word is in the range
@@ -137,7 +137,7 @@ in_range rows docs words i low many is_docs is_words within lt =
     let at = within i (omega (arith, ap length is_docs, ap length is_words, length-map rows (λ (p : Post). p.doc), length-map rows (λ (p : Post). p.word))) in
     omega arith
 
-pub seen_more : (rows : List Post) (docs words : List ℕ) (i low many : ℕ) (marks : List Mark) (m now : Mark) → docs ≡ map (λ p. p.doc) rows → words ≡ map (λ p. p.word) rows → ((k : ℕ) → k < length words → (low ≤ get_or words k 0) × (get_or words k 0 < low + many)) → i < length docs → length marks ≡ many → ((k : ℕ) (d : Mark) → k < many → get_or marks k d ≡ marked (low + k) (take i rows)) → m ≡ get_or marks (get_or words i 0 - low) m → now ≡ saw m (get_or docs i 0) → (k : ℕ) (d : Mark) → k < many → get_or (set marks (get_or words i 0 - low) now) k d ≡ marked (low + k) (take (i + 1) rows)
+pub seen_more : (rows : List Post) (docs words : List ℕ) (i low many : ℕ) (marks : List Mark) (m now : Mark) → docs ≡ map (λ p. p.doc) rows → words ≡ map (λ p. p.word) rows → ((k : ℕ) → k < length words → (low ≤ get_or words k 0) × (get_or words k 0 < low + many)) → i < length docs → length marks ≡ many → ((k : ℕ) (d : Mark) → k < many → get_or marks k d ≡ mark_of (low + k) (take i rows)) → m ≡ get_or marks (get_or words i 0 - low) m → now ≡ saw m (get_or docs i 0) → (k : ℕ) (d : Mark) → k < many → get_or (set marks (get_or words i 0 - low) now) k d ≡ mark_of (low + k) (take (i + 1) rows)
 seen_more rows docs words i low many marks m now is_docs is_words range lt long each_mark is saws k d below =
     let in_rows : i < length rows = omega (arith, ap length is_docs, length-map rows (λ (p : Post). p.doc)) in
     let p = get_or rows i no_post in
@@ -146,15 +146,15 @@ seen_more rows docs words i low many marks m now is_docs is_words range lt long 
     let within : get_or words i 0 - low < many = in_range rows docs words i low many is_docs is_words range lt in
     let least = (range i (omega (arith, ap length is_docs, ap length is_words, length-map rows (λ (p : Post). p.doc), length-map rows (λ (p : Post). p.word)))).0 in
     let j = get_or words i 0 - low in
-    elim (j == k) as (λ b. j == k ≡ b → get_or (set marks j now) k d ≡ marked (low + k) (take (i + 1) rows)) [
+    elim (j == k) as (λ b. j == k ≡ b → get_or (set marks j now) k d ≡ mark_of (low + k) (take (i + 1) rows)) [
       | true ↦ λ e.
           let at : j ≡ k = eqb-true j k e in
           let there : p.word ≡ low + k = omega arith in
-          get_or-set_at marks j k now d (sym at) (omega arith) ∙ saws ∙ ap₂ saw (is ∙ each_mark j m within ∙ ap (λ n. marked (low + n) (take i rows)) at) doc
-          ∙ sym (marked_more (low + k) i rows in_rows ∙ ap (λ b. if b then saw (marked (low + k) (take i rows)) p.doc else marked (low + k) (take i rows)) (eq-eqb p.word (low + k) there))
+          get_or-set_at marks j k now d (sym at) (omega arith) ∙ saws ∙ ap₂ saw (is ∙ each_mark j m within ∙ ap (λ n. mark_of (low + n) (take i rows)) at) doc
+          ∙ sym (marked_more (low + k) i rows in_rows ∙ ap (λ b. if b then saw (mark_of (low + k) (take i rows)) p.doc else mark_of (low + k) (take i rows)) (eq-eqb p.word (low + k) there))
       | false ↦ λ e.
           let apart : k ≢ j = (λ s. absurd (let t = eq-eqb j k (sym s) in cc)) in
           let elsewhere : p.word ≢ low + k = (λ s. apart (omega arith)) in
           get_or-set_other marks j k now d apart ∙ each_mark k d below
-          ∙ sym (marked_more (low + k) i rows in_rows ∙ ap (λ b. if b then saw (marked (low + k) (take i rows)) p.doc else marked (low + k) (take i rows)) (ne_eqb p.word (low + k) elsewhere))
+          ∙ sym (marked_more (low + k) i rows in_rows ∙ ap (λ b. if b then saw (mark_of (low + k) (take i rows)) p.doc else mark_of (low + k) (take i rows)) (ne_eqb p.word (low + k) elsewhere))
     ] refl

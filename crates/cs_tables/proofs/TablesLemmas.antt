@@ -1,6 +1,6 @@
--- The table of rows is the listing of their counted words in the order of hits.
+-- The post_table of rows is the listing of their counted words in the order of hits.
 --
---   table-is        the table, by the counted words
+--   table-is        the post_table, by the counted words
 --   table_total     how many words it has
 use Rattle.std.proofs.Common.{◌≡◌, ℕ, ◌+◌, Bool, true, false, ◌||◌, cond, List, [], ◌∷◌, map, length, refl, sym, ◌∙◌, ap, arith, true≢false}
 use Rattle.std.specs.List.{AllByRecursion, list_any}
@@ -21,9 +21,9 @@ use Rattle.cs_base.specs.declared.content.doc.Scored.{Scored}
 use Rattle.cs_base.proofs.MembersLemmas.{members_are, is_member-listed, listing-rises, none_listed}
 use Rattle.cs_base.proofs.OrdersLemmas.{by_rank_total, by_rank_exact}
 use Rattle.cs_tables.specs.declared.tables.Completion.{Completion}
-use Rattle.cs_tables.specs.Listings.{by_docs, table, completion, completion_of}
+use Rattle.cs_tables.specs.Listings.{by_docs, post_table, completion, post_completion}
 use Rattle.cs_tables.proofs.WordsLemmas.{eq_is}
-use Rattle.cs_tables.specs.Marks.{counted_word, words_of}
+use Rattle.cs_tables.specs.Marks.{counted_word, post_words}
 
 pub by_docs_total : IsTotalOrder by_docs
 by_docs_total = then_total (on_total (λ c. c.docs) (back_total nat_cmp_total)) (on_total (λ c. c.word) nat_cmp_total)
@@ -37,7 +37,7 @@ abbrev scored_of : Completion → Scored
 scored_of c = record { doc = c.word; score = c.docs }
 
 abbrev counted : List Post → List Scored
-counted rows = map (counted_word rows) (words_of rows)
+counted rows = map (counted_word rows) (post_words rows)
 
 -- entries that are in order stay so as completions
 below_as : (h : Scored) (hs : List Scored) → AllByRecursion (λ y. by_rank h y ≡ Less) hs → AllByRecursion (λ y. by_docs (completion h) y ≡ Less) (map completion hs)
@@ -81,17 +81,17 @@ any_map : (t : Scored → Bool) (f : ℕ → Scored) (xs : List ℕ) → list_an
 any_map t f [] = refl
 any_map t f (x ∷ xs) = ap (λ b. t (f x) || b) (any_map t f xs)
 
-any_rows : (all : List Post) (q : Completion) (rows : List Post) → list_any (λ x. eq_by_cmp by_rank (scored_of q) (counted_word all x)) (map (λ p. p.word) rows) ≡ list_any (eq_by_cmp by_docs q) (map (λ p. completion_of all p.word) rows)
+any_rows : (all : List Post) (q : Completion) (rows : List Post) → list_any (λ x. eq_by_cmp by_rank (scored_of q) (counted_word all x)) (map (λ p. p.word) rows) ≡ list_any (eq_by_cmp by_docs q) (map (λ p. post_completion all p.word) rows)
 any_rows all q [] = refl
-any_rows all q (p ∷ rows) = ap (λ b. eq_by_cmp by_docs q (completion_of all p.word) || b) (any_rows all q rows)
+any_rows all q (p ∷ rows) = ap (λ b. eq_by_cmp by_docs q (post_completion all p.word) || b) (any_rows all q rows)
 
-pub table-is : (rows : List Post) → map completion (members_in by_rank (counted rows)) ≡ table rows
+pub table-is : (rows : List Post) → map completion (members_in by_rank (counted rows)) ≡ post_table rows
 table-is rows =
-    members_are by_docs by_docs_total by_docs_exact (map completion (members_in by_rank (counted rows))) (map (λ p. completion_of rows p.word) rows)
+    members_are by_docs by_docs_total by_docs_exact (map completion (members_in by_rank (counted rows))) (map (λ p. post_completion rows p.word) rows)
     (rise_as _ (listing-rises by_rank (counted rows)))
     (λ q. any_as q (members_in by_rank (counted rows))
     ∙ is_member-listed by_rank by_rank_total (counted rows) (scored_of q)
-    ∙ any_map (eq_by_cmp by_rank (scored_of q)) (counted_word rows) (words_of rows)
+    ∙ any_map (eq_by_cmp by_rank (scored_of q)) (counted_word rows) (post_words rows)
     ∙ any_listed (λ x. eq_by_cmp by_rank (scored_of q) (counted_word rows x)) (map (λ p. p.word) rows)
     ∙ any_rows rows q rows)
 
@@ -119,7 +119,7 @@ ranked_long rows (w ∷ ws) up =
     length-map (entries (insert m s tt)) (λ (e : Scored × Unit {0}). e.0) ∙ sym (len-entries (insert m s tt)) ∙ len-insert by_rank_total m s tt
     ∙ ap (λ b. cond b (len m) (len m + 1)) new ∙ (let long : len m + 1 ≡ length (w ∷ ws) = omega arith in long)
 
-pub table_total : (rows : List Post) → length (counted rows) ≡ length (table rows)
+pub table_total : (rows : List Post) → length (counted rows) ≡ length (post_table rows)
 table_total rows =
-    length-map (words_of rows) (counted_word rows) ∙ sym (ranked_long rows (words_of rows) (listing-rises nat_cmp (map (λ p. p.word) rows)))
+    length-map (post_words rows) (counted_word rows) ∙ sym (ranked_long rows (post_words rows) (listing-rises nat_cmp (map (λ p. p.word) rows)))
     ∙ sym (length-map (members_in by_rank (counted rows)) completion) ∙ ap length (table-is rows)

@@ -31,8 +31,8 @@ use Rattle.cs_rank.proofs.Places.{take_rises}
 use Rattle.cs_tables.specs.declared.counts.Mark.{Mark}
 use Rattle.cs_tables.specs.declared.counts.TheConstants.{NO_DOC}
 use Rattle.cs_tables.specs.declared.tables.Completion.{Completion}
-use Rattle.cs_tables.specs.Listings.{completion, of_word}
-use Rattle.cs_tables.specs.Marks.{collected, counted_word, marked, saw, words_of}
+use Rattle.cs_tables.specs.Listings.{completion, with_word}
+use Rattle.cs_tables.specs.Marks.{collected, counted_word, mark_of, saw, post_words}
 use Rattle.cs_tables.specs.WordCounts.{AreCountable, Counts, HasCounted, HasWordMarks, WordCountsView, chosen, is_chosen}
 use Rattle.cs_tables.proofs.MarksLemmas.{fold_push, word_marked, word_docs_few}
 use Rattle.cs_tables.proofs.WordsLemmas.{collected_words}
@@ -69,7 +69,7 @@ all_front P (x ∷ a) b h = (h 0 x (omega arith), all_front P a b (λ k d lt. h 
 -- what stands before countable rows is
 pub front_countable : (a b : List Post) → AreCountable (a ++ b) → AreCountable a
 front_countable a b c = record {
-  ordered = λ w. rises_front (of_word w a) (of_word w b) (subst AreSorted (filter-append (λ p. p.word == w) a b) (c.ordered w));
+  ordered = λ w. rises_front (with_word w a) (with_word w b) (subst AreSorted (filter-append (λ p. p.word == w) a b) (c.ordered w));
   few_docs = All-from_recursion (λ p. p.doc < MAX_DOCS) a (all_front (λ p. p.doc < MAX_DOCS) a b c.few_docs);
 }
 
@@ -89,7 +89,7 @@ counted_nothing low n marks are k d lt = ap (λ ms. get_or ms k d) are ∙ get_o
     long (suc n) = ap suc (long n)
 
 -- a mark can count one more
-has_room : (w : ℕ) (seen : List Post) (m : Mark) → AreCountable seen → m ≡ marked w seen → m.docs < NO_DOC
+has_room : (w : ℕ) (seen : List Post) (m : Mark) → AreCountable seen → m ≡ mark_of w seen → m.docs < NO_DOC
 has_room w seen m c is =
     let below = recursion_from_All (λ p. p.doc < MAX_DOCS) seen c.few_docs in
     let docs = ap (λ (m : Mark). m.docs) is ∙ word_marked w seen (c.ordered w) below in
@@ -104,20 +104,20 @@ one_counted low high marks doc word now sized from upto saws p d w seen c h =
     let inside : j < length marks = omega (arith, sized, from, upto) in
     let before = front_countable seen (p ∷ []) c in
     let m = get_or marks j unread in
-    let old : m ≡ marked (low + j) seen = h j unread inside in
-    let new : now ≡ saw (marked (low + j) seen) p.doc = saws (has_room (low + j) seen m before old) ∙ ap₂ saw old d in
+    let old : m ≡ mark_of (low + j) seen = h j unread inside in
+    let new : now ≡ saw (mark_of (low + j) seen) p.doc = saws (has_room (low + j) seen m before old) ∙ ap₂ saw old d in
     λ k e lt.
-    elim (j == k) as (λ b. j == k ≡ b → get_or (set marks j now) k e ≡ marked (low + k) (seen ++ p ∷ [])) [
+    elim (j == k) as (λ b. j == k ≡ b → get_or (set marks j now) k e ≡ mark_of (low + k) (seen ++ p ∷ [])) [
       | true ↦ λ s.
           let at : j ≡ k = eqb-true j k s in
           let there : p.word ≡ low + k = omega (arith, at, w, from) in
-          get_or-set_at marks j k now e (sym at) inside ∙ new ∙ ap (λ n. saw (marked (low + n) seen) p.doc) at
-          ∙ sym (fold_push (low + k) blank seen p ∙ ap (λ b. cond b (saw (marked (low + k) seen) p.doc) (marked (low + k) seen)) (eq-eqb p.word (low + k) there))
+          get_or-set_at marks j k now e (sym at) inside ∙ new ∙ ap (λ n. saw (mark_of (low + n) seen) p.doc) at
+          ∙ sym (fold_push (low + k) blank seen p ∙ ap (λ b. cond b (saw (mark_of (low + k) seen) p.doc) (mark_of (low + k) seen)) (eq-eqb p.word (low + k) there))
       | false ↦ λ s.
           let apart : k ≢ j = (λ x. absurd (let t = eq-eqb j k (sym x) in cc)) in
           let elsewhere : p.word ≢ low + k = (λ x. apart (omega (arith, x, w, from))) in
           get_or-set_other marks j k now e apart ∙ h k e (subst (λ n. k < n) (same_long marks j now) lt)
-          ∙ sym (fold_push (low + k) blank seen p ∙ ap (λ b. cond b (saw (marked (low + k) seen) p.doc) (marked (low + k) seen)) (ne_eqb p.word (low + k) elsewhere))
+          ∙ sym (fold_push (low + k) blank seen p ∙ ap (λ b. cond b (saw (mark_of (low + k) seen) p.doc) (mark_of (low + k) seen)) (ne_eqb p.word (low + k) elsewhere))
     ] refl
   where
     same_long : (ms : List Mark) (j : ℕ) (n : Mark) → length (set ms j n) ≡ length ms
@@ -204,7 +204,7 @@ pub written_back : {X : Type 0} (n : ℕ) (a b : List X) → length a ≡ length
 written_back n a b l m = ap (λ r. take n (a ++ r)) (drop_all (length a) b (omega (arith, l))) ∙ ap (take n) (append-nil a) ∙ take_all n a (omega (arith, l, m))
 
 -- ---- tables
-pub words_counted : (t : WordCountsView) (rows : List Post) → t.low + length t.marks ≡ t.high → AreCountable rows → HasCounted rows t → collected t.low t.marks ≡ map (counted_word rows) (words_of rows)
+pub words_counted : (t : WordCountsView) (rows : List Post) → t.low + length t.marks ≡ t.high → AreCountable rows → HasCounted rows t → collected t.low t.marks ≡ map (counted_word rows) (post_words rows)
 words_counted t rows sized c h =
     collected_words rows t.low t.marks c.ordered (recursion_from_All (λ p. p.doc < MAX_DOCS) rows c.few_docs) h.marks (λ k lt.
     let inside : k < length rows = omega (arith, lt, length-map rows (λ (p : Post). p.word)) in

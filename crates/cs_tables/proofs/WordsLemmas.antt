@@ -21,8 +21,8 @@ use Rattle.cs_base.proofs.OrdersLemmas.{Less-from_lt}
 use Rattle.cs_base.specs.declared.content.limits.TheConstants.{MAX_DOCS}
 use Rattle.cs_rank.proofs.GroupsLemmas.{nothing_listed}
 use Rattle.cs_tables.specs.declared.counts.Mark.{Mark}
-use Rattle.cs_tables.specs.Listings.{of_word, doc_count}
-use Rattle.cs_tables.specs.Marks.{kept, collected, marked, counted_word, words_of}
+use Rattle.cs_tables.specs.Listings.{with_word, doc_count}
+use Rattle.cs_tables.specs.Marks.{kept, collected, mark_of, counted_word, post_words}
 use Rattle.cs_tables.proofs.MarksLemmas.{word_marked, word_sorted}
 
 -- the numbers from lo on, n of them, that count something
@@ -117,21 +117,21 @@ counted_some (p ∷ rows) =
 turned : (q x : ℕ) → eq_by_cmp nat_cmp q x ≡ (x == q)
 turned q x = both_ways _ _ (λ e. let s = eq_is q x e in eq-eqb x q (sym s)) (λ e. eq_of q x (sym (eqb-true x q e)))
 
-some_word : (q : ℕ) (rows : List Post) → nat_lt 0 (length (of_word q rows)) ≡ list_any (eq_by_cmp nat_cmp q) (map (λ p. p.word) rows)
+some_word : (q : ℕ) (rows : List Post) → nat_lt 0 (length (with_word q rows)) ≡ list_any (eq_by_cmp nat_cmp q) (map (λ p. p.word) rows)
 some_word q [] = refl
 some_word q (p ∷ rows) =
-    elim (p.word == q) as (λ b. nat_lt 0 (length (if b then p ∷ of_word q rows else of_word q rows)) ≡ (b || list_any (eq_by_cmp nat_cmp q) (map (λ p. p.word) rows))) [
-      | true ↦ (let lt : 0 < suc (length (of_word q rows)) = omega arith in grind (arith, nat_tests))
+    elim (p.word == q) as (λ b. nat_lt 0 (length (if b then p ∷ with_word q rows else with_word q rows)) ≡ (b || list_any (eq_by_cmp nat_cmp q) (map (λ p. p.word) rows))) [
+      | true ↦ (let lt : 0 < suc (length (with_word q rows)) = omega arith in grind (arith, nat_tests))
       | false ↦ some_word q rows
     ]
     ∙ sym (ap (λ b. b || list_any (eq_by_cmp nat_cmp q) (map (λ p. p.word) rows)) (turned q p.word))
 
 abbrev count_in : List Post → ℕ → ℕ
-count_in rows w = doc_count (of_word w rows)
+count_in rows w = doc_count (with_word w rows)
 
 -- a word has a document where it is a word of the rows
 positive : (q : ℕ) (rows : List Post) → nat_lt 0 (count_in rows q) ≡ list_any (eq_by_cmp nat_cmp q) (map (λ p. p.word) rows)
-positive q rows = counted_some (of_word q rows) ∙ some_word q rows
+positive q rows = counted_some (with_word q rows) ∙ some_word q rows
 
 ranged : (lo n : ℕ) (words : List ℕ) (q : ℕ) → ((k : ℕ) → k < length words → (lo ≤ get_or words k 0) × (get_or words k 0 < lo + n)) → list_any (eq_by_cmp nat_cmp q) words ≡ true → (lo ≤ q) × (q < lo + n)
 ranged lo n [] q h e = absurd (true≢false (sym e))
@@ -141,7 +141,7 @@ ranged lo n (w ∷ words) q h e =
       | false ↦ λ s r. ranged lo n words q (λ k lt. h (suc k) (omega arith)) r
     ] refl e
 
-numbers-are : (rows : List Post) (lo n : ℕ) → ((k : ℕ) → k < length (map (λ p. p.word) rows) → (lo ≤ get_or (map (λ p. p.word) rows) k 0) × (get_or (map (λ p. p.word) rows) k 0 < lo + n)) → numbers (count_in rows) lo n ≡ words_of rows
+numbers-are : (rows : List Post) (lo n : ℕ) → ((k : ℕ) → k < length (map (λ p. p.word) rows) → (lo ≤ get_or (map (λ p. p.word) rows) k 0) × (get_or (map (λ p. p.word) rows) k 0 < lo + n)) → numbers (count_in rows) lo n ≡ post_words rows
 numbers-are rows lo n within =
     members_are nat_cmp nat_cmp_total nat_cmp-IsAntisymmetric (numbers (count_in rows) lo n) (map (λ p. p.word) rows) (numbers_rise (count_in rows) lo n)
     (λ q. both_ways _ _
@@ -149,15 +149,15 @@ numbers-are rows lo n within =
     (λ e. let r = ranged lo n (map (λ p. p.word) rows) q within e in numbers_have (count_in rows) q lo n r.0 r.1 (positive q rows ∙ e)))
 
 -- it is enough that the rows of each word are in order
-pub collected_words : (rows : List Post) (lo : ℕ) (marks : List Mark) → ((w : ℕ) → AreSorted (of_word w rows)) → AllByRecursion (λ p. p.doc < MAX_DOCS) rows → ((k : ℕ) (d : Mark) → k < length marks → get_or marks k d ≡ marked (lo + k) rows) → ((k : ℕ) → k < length (map (λ p. p.word) rows) → (lo ≤ get_or (map (λ p. p.word) rows) k 0) × (get_or (map (λ p. p.word) rows) k 0 < lo + length marks)) → collected lo marks ≡ map (counted_word rows) (words_of rows)
+pub collected_words : (rows : List Post) (lo : ℕ) (marks : List Mark) → ((w : ℕ) → AreSorted (with_word w rows)) → AllByRecursion (λ p. p.doc < MAX_DOCS) rows → ((k : ℕ) (d : Mark) → k < length marks → get_or marks k d ≡ mark_of (lo + k) rows) → ((k : ℕ) → k < length (map (λ p. p.word) rows) → (lo ≤ get_or (map (λ p. p.word) rows) k 0) × (get_or (map (λ p. p.word) rows) k 0 < lo + length marks)) → collected lo marks ≡ map (counted_word rows) (post_words rows)
 collected_words rows lo marks up below each_mark within =
     collected-is (count_in rows) lo marks (λ k d lt. ap (λ (m : Mark). m.docs) (each_mark k d lt) ∙ word_marked (lo + k) rows (up (lo + k)) below)
     ∙ ap (map (counted_word rows)) (numbers-are rows lo (length marks) within)
 
-pub counts-are : (rows : List Post) (lo n i : ℕ) (marks : List Mark) → AreSorted rows → AllByRecursion (λ p. p.doc < MAX_DOCS) rows → length marks ≡ n → length (map (λ p. p.doc) rows) ≤ i → ((k : ℕ) (d : Mark) → k < n → get_or marks k d ≡ marked (lo + k) (take i rows)) → ((k : ℕ) → k < length (map (λ p. p.word) rows) → (lo ≤ get_or (map (λ p. p.word) rows) k 0) × (get_or (map (λ p. p.word) rows) k 0 < lo + n)) → collected lo marks ≡ map (counted_word rows) (words_of rows)
+pub counts-are : (rows : List Post) (lo n i : ℕ) (marks : List Mark) → AreSorted rows → AllByRecursion (λ p. p.doc < MAX_DOCS) rows → length marks ≡ n → length (map (λ p. p.doc) rows) ≤ i → ((k : ℕ) (d : Mark) → k < n → get_or marks k d ≡ mark_of (lo + k) (take i rows)) → ((k : ℕ) → k < length (map (λ p. p.word) rows) → (lo ≤ get_or (map (λ p. p.word) rows) k 0) × (get_or (map (λ p. p.word) rows) k 0 < lo + n)) → collected lo marks ≡ map (counted_word rows) (post_words rows)
 counts-are rows lo n i marks up below long all each_mark within =
     let whole : take i rows ≡ rows = take_all i rows (omega (arith, length-map rows (λ (p : Post). p.doc))) in
-    collected_words rows lo marks (λ w. word_sorted w rows up) below (λ k d lt. each_mark k d (omega (arith, lt, long)) ∙ ap (marked (lo + k)) whole)
+    collected_words rows lo marks (λ w. word_sorted w rows up) below (λ k d lt. each_mark k d (omega (arith, lt, long)) ∙ ap (mark_of (lo + k)) whole)
     (λ k lt. let at = within k lt in (at.0, omega (arith, at.1, long)))
 
 pub words_within : (b : ℕ) (rows : List Post) → ((k : ℕ) (d : Post) → k < length rows → (get_or rows k d).word < b) → (k : ℕ) (d : ℕ) → k < length (map (λ p. p.word) rows) → get_or (map (λ p. p.word) rows) k d < b

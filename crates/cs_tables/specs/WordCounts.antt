@@ -14,8 +14,8 @@ use Rattle.std.specs.List.{All}
 use Rattle.cs_base.specs.content.Orders.{AreSorted}
 use Rattle.cs_base.specs.declared.content.doc.Post.{Post}
 use Rattle.cs_base.specs.declared.content.limits.TheConstants.{MAX_DOCS}
-use Rattle.cs_tables.specs.Listings.{of_word}
-use Rattle.cs_tables.specs.Marks.{marked}
+use Rattle.cs_tables.specs.Listings.{with_word}
+use Rattle.cs_tables.specs.Marks.{mark_of}
 use Rattle.cs_tables.specs.declared.counts.Mark.{Mark}
 
 -- the words from low up to high, high left out, and one mark for each
@@ -34,12 +34,12 @@ chosen low high listed rows = filter (is_chosen low high listed) rows
 
 -- rows of different words may come in any order; no rows are countable
 pub record AreCountable (rows : List Post) : Type 0 where
-  pub ordered : (w : ℕ) → AreSorted (of_word w rows)
+  pub ordered : (w : ℕ) → AreSorted (with_word w rows)
   pub few_docs : All (λ p. p.doc < MAX_DOCS) rows
 
 -- one for each word; after no rows none has a document
 abbrev pub HasWordMarks : ℕ → List Post → List Mark → Type 0
-HasWordMarks low rows marks = (k : ℕ) (d : Mark) → k < length marks → slice_index_or marks k d ≡ marked (low + k) rows
+HasWordMarks low rows marks = (k : ℕ) (d : Mark) → k < length marks → slice_index_or marks k d ≡ mark_of (low + k) rows
 
 -- those of the rows that are chosen count, and no others
 abbrev pub Counts : ℕ → ℕ → List Bool → List Post → List Mark → List Mark → Type 0

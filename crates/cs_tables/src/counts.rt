@@ -4,7 +4,7 @@
 ghost use Rattle.std.specs.Prelude.{◌≡◌, ◌<◌, ◌≤◌, ◌^◌, ◌+◌, ◌++◌, ◌-◌, map, IfOk, OnOk, All, length, slice_index, EachIndex};
 ghost use Rattle.cs_base.specs.content.Orders.{AreSorted};
 ghost use Rattle.cs_base.specs.declared.content.limits.TheConstants.{MAX_DOCS, MAX_WORDS};
-ghost use Rattle.cs_tables.specs.Marks.{saw, kept, collected, counted_word, words_of};
+ghost use Rattle.cs_tables.specs.Marks.{saw, kept, collected, counted_word, post_words};
 
 use cs_base::{MAX_WORDS, Memory, Scored};
 use cs_cols::Cols;
@@ -47,7 +47,7 @@ pub(crate) fn counts(alloc: Global, rows: &Cols) -> Result<Vec<Scored>, Memory>
     requires docs { All (λ p. p.doc < MAX_DOCS) rows.now.posts }
     requires words { All (λ p. p.word < MAX_WORDS) rows.now.posts }
 
-    ensures ok { IfOk result (λ v. v.items ≡ map (counted_word rows.now.posts) (words_of rows.now.posts)) }
+    ensures ok { IfOk result (λ v. v.items ≡ map (counted_word rows.now.posts) (post_words rows.now.posts)) }
     ensures few { IfOk result (λ v. length v.items ≤ MAX_WORDS) }
 {
     let docs = rows.docs();

@@ -2,7 +2,7 @@
 ghost use Rattle.std.specs.Prelude.{◌≡◌, ◌<◌, IfOk, All, length, take, map};
 ghost use Rattle.cs_base.specs.content.Orders.{AreSorted};
 ghost use Rattle.cs_base.specs.declared.content.limits.TheConstants.{MAX_DOCS, MAX_WORDS};
-ghost use Rattle.cs_tables.specs.Listings.{table, completion};
+ghost use Rattle.cs_tables.specs.Listings.{post_table, completion};
 
 use crate::counts::counts;
 use cs_base::{Memory, Scored, Seq};
@@ -37,8 +37,8 @@ pub fn completions(alloc: Global, rows: &Cols, cut: u32) -> Result<Table, Memory
     requires docs { All (λ p. p.doc < MAX_DOCS) rows.now.posts }
     requires words { All (λ p. p.word < MAX_WORDS) rows.now.posts }
 
-    ensures total { IfOk result (λ t. t.total ≡ length (table rows.now.posts)) }
-    ensures first { IfOk result (λ t. t.first ≡ take cut (table rows.now.posts)) }
+    ensures total { IfOk result (λ t. t.total ≡ length (post_table rows.now.posts)) }
+    ensures first { IfOk result (λ t. t.first ≡ take cut (post_table rows.now.posts)) }
 {
     let counted = counts(alloc, rows)?;
     let best = top(alloc, counted.as_slice(), 0, cut)?;

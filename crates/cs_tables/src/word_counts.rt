@@ -2,7 +2,7 @@
 ghost use Rattle.std.specs.Prelude.{◌≡◌, ◌+◌, ◌++◌, ◌<◌, ◌≤◌, ◌&&◌, [], ◌∷◌, false, nat_le, nat_lt, List, map, length, take, slice_index_or, IfOk, All};
 ghost use Rattle.cs_base.specs.declared.content.doc.Post.{Post};
 ghost use Rattle.cs_base.specs.declared.content.limits.TheConstants.{MAX_DOCS, MAX_WORDS};
-ghost use Rattle.cs_tables.specs.Listings.{table};
+ghost use Rattle.cs_tables.specs.Listings.{post_table};
 ghost use Rattle.cs_tables.specs.WordCounts.{AreCountable, Counts, HasCounted, chosen};
 
 use crate::counts::{BLANK, Mark, collect};
@@ -78,8 +78,8 @@ impl WordCounts {
     /// The words that have a document by their number of documents descending, then by number, cut to the first `cut`, and
     /// how many there are before the cut.
     pub fn table(&self, alloc: Global, cut: u32) -> Result<Table, Memory>
-        ensures total { IfOk result (λ t. (rows : List Post) → AreCountable rows → HasCounted rows self.now → t.total ≡ length (table rows)) }
-        ensures first { IfOk result (λ t. (rows : List Post) → AreCountable rows → HasCounted rows self.now → t.first ≡ take cut (table rows)) }
+        ensures total { IfOk result (λ t. (rows : List Post) → AreCountable rows → HasCounted rows self.now → t.total ≡ length (post_table rows)) }
+        ensures first { IfOk result (λ t. (rows : List Post) → AreCountable rows → HasCounted rows self.now → t.first ≡ take cut (post_table rows)) }
         ensures known { IfOk result (λ t. All (λ c. c.word < self.now.high) t.first) }
     {
         let counted = collect(alloc, self.low, self.marks.as_slice())?;

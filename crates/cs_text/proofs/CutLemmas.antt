@@ -98,10 +98,10 @@ unfolding cut
 cut-some [] h = (cc)
 cut-some (c ∷ cs) h =
     let bounds = len_utf8_bounds c in
-    let fits : nat_le (len_utf8 c) 120 ≡ true = grind (arith, nat_tests, bounds) in
-    let left : fitting 120 (c ∷ cs) ≡ c ∷ fitting (120 - len_utf8 c) cs = rw fits in
-    let long : length (encode_utf8_all (c ∷ fitting (120 - len_utf8 c) cs)) ≡ len_utf8 c + length (encode_utf8_all (fitting (120 - len_utf8 c) cs)) =
-    length-append (encode_utf8 c) _ ∙ ap (λ n. n + length (encode_utf8_all (fitting (120 - len_utf8 c) cs))) (length-encode c) in
+    let fits : nat_le (len_utf8 c) MAX_PLAIN_WORD_BYTES ≡ true = grind (arith, nat_tests, bounds) in
+    let left : fitting MAX_PLAIN_WORD_BYTES (c ∷ cs) ≡ c ∷ fitting (MAX_PLAIN_WORD_BYTES - len_utf8 c) cs = rw fits in
+    let long : length (encode_utf8_all (c ∷ fitting (MAX_PLAIN_WORD_BYTES - len_utf8 c) cs)) ≡ len_utf8 c + length (encode_utf8_all (fitting (MAX_PLAIN_WORD_BYTES - len_utf8 c) cs)) =
+    length-append (encode_utf8 c) _ ∙ ap (λ n. n + length (encode_utf8_all (fitting (MAX_PLAIN_WORD_BYTES - len_utf8 c) cs))) (length-encode c) in
     omega (arith, ap (λ ds. length (encode_utf8_all ds)) left, long, bounds)
 
 some_from_bytes : (cs : List ℕ) → 1 ≤ length (encode_utf8_all cs) → is_filled cs ≡ true

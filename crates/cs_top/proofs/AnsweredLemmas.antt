@@ -7,6 +7,7 @@ use Rattle.std.specs.Str.Lines.{lines}
 use Rattle.std.proofs.lemmas.List.{drop_all}
 use Rattle.cs_base.specs.outside.Causes.{Rose}
 use Rattle.cs_base.specs.outside.Outside.{Grew, GrewByPrefix}
+use Rattle.cs_base.proofs.GrewLemmas.{grew_none, grew_twice, grew_begun, grew_then_begun}
 use Rattle.cs_model.specs.Words.{is_filled}
 use Rattle.cs_model.specs.First.{first_reason}
 use Rattle.cs_model.specs.Outputs.{ScriptFault, MayPut, OneEach, AnswersFirst, PutAll, line_fault, first_fault, is_readable, readable_lines, put_of}
@@ -18,7 +19,6 @@ use Rattle.cs_top.specs.Scripts.{ScriptEnds, ShortTally, Tally, StopsAt, Reaches
 use Rattle.cs_top.specs.declared.lines.Place.{Place}
 use Rattle.cs_top.specs.declared.script.Came.{Came}
 use Rattle.cs_top.specs.declared.script.Came.TheVariants.{Answered}
-use Rattle.cs_top.proofs.GrewLemmas.{grew_none, grew_twice, grew_then_begun, grew_begun}
 use Rattle.cs_top.proofs.TallyLemmas.{tally_none, tally_same, tally_more, short_here, short_failed, short_put}
 
 -- ---- the lines from a place on

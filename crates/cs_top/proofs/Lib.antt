@@ -3,7 +3,6 @@ pub mod AnsweredLemmas
 pub mod BuildLemmas
 pub mod CompleteLemmas
 pub mod Examples
-pub mod GrewLemmas
 pub mod LineTexts
 pub mod MemoryText
 pub mod SaysLemmas

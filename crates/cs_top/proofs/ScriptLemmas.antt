@@ -13,6 +13,7 @@ use Rattle.cs_model.specs.Corpus.{Corpus}
 use Rattle.cs_model.specs.Outputs.{MayPut, OneEach, AnswersFirst, IsAnswer, failed_reads, put_of, read_text, readable_lines}
 use Rattle.cs_model.proofs.OutputLemmas.{length-one_each}
 use Rattle.cs_base.specs.outside.Outside.{File, Held, IsHeld, file_bytes, size_of}
+use Rattle.cs_base.proofs.GrewLemmas.{grew_begun}
 use Rattle.cs_engine.specs.Keeping.{EngineView, AreGood}
 use Rattle.cs_file.specs.Indexes.{IndexView, Fits, StandsFor}
 use Rattle.cs_model_index.specs.Sections.{file_corpus}
@@ -25,7 +26,6 @@ use Rattle.cs_top.specs.Views.{of_script, stop_ending}
 use Rattle.cs_top.specs.declared.lines.ScriptStop.{ScriptStop}
 use Rattle.cs_top.specs.declared.lines.ScriptStop.TheVariants as scripts
 use Rattle.cs_top.specs.declared.script.Came.TheVariants as came
-use Rattle.cs_top.proofs.GrewLemmas.{grew_begun}
 
 each_by : (A B : MayPut) → ((l t : List ℕ) → A l t → B l t) → (ls ts : List (List ℕ)) → OneEach A ls ts → OneEach B ls ts
 each_by A B f [] [] h = tt

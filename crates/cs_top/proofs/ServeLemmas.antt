@@ -24,13 +24,13 @@ use Rattle.cs_hub.proofs.ServedLemmas.{changes_cons, reads_cons}
 use Rattle.cs_model.specs.Corpus.{Corpus}
 use Rattle.cs_model.specs.Parameters.{number_of}
 use Rattle.cs_model_index.specs.Sections.{file_corpus}
-use Rattle.cs_model_serving.specs.Connections.{IsFair, Left, MayReplace, StandsBy, answers, changes, is_changed, is_read, reads}
+use Rattle.cs_model_serving.specs.Connections.{IsFair, Left, MayReplace, StandsBy, answers, changes, says_changed, says_read, reads}
 use Rattle.cs_model_serving.specs.Responses.{Response, all_bytes, index_changed, memory_bytes, read_failed}
 use Rattle.cs_top.specs.CommandLine.{Ending, failed}
 use Rattle.cs_top.specs.Met.{Listened, Met, Wrote, held_bytes}
-use Rattle.cs_top.specs.Serve.{AreAnswered, AreExact, FailsBehind, HasPut, IsExact, IsServing, ServeCaused, ServeEnds, ServeFailed, ServeRan, ServeTold, ServesAll, serving_line}
+use Rattle.cs_top.specs.Serve.{AreAnswered, AreExact, FailsBehind, HasToldPort, IsExact, IsServing, ServeCaused, ServeEnds, ServeFailed, ServeRan, ServeTold, ServesAll, serving_line}
 
-pub serving_by : (p n : List ℕ) (w : Wrote) (net : Listened) (mid : ℕ) → HasPut p w → net.state_now.port ≡ number_of p → net.state_now.conns ≡ number_of n → mid ≡ net.sends_before → mid ≤ net.sends_now → ((Rose mid net.sends_now → ⊥) → ForSome net.talk_now AreUnbroken)
+pub serving_by : (p n : List ℕ) (w : Wrote) (net : Listened) (mid : ℕ) → HasToldPort p w → net.state_now.port ≡ number_of p → net.state_now.conns ≡ number_of n → mid ≡ net.sends_before → mid ≤ net.sends_now → ((Rose mid net.sends_now → ⊥) → ForSome net.talk_now AreUnbroken)
     → IsServing p n w net
 serving_by p n w net mid put port conns sends later unbroken = record {
   put = put;
@@ -54,13 +54,13 @@ flip : (x : Bool) → x ≡ false → not x ≡ false → ⊥
 flip true a b = absurd cc
 flip false a b = absurd cc
 
-read_is : (closes : Bool) → is_read (read_failed closes) ≡ true
+read_is : (closes : Bool) → says_read (read_failed closes) ≡ true
 read_is closes = (bytes_eq-Decides (read_failed closes).body (read_failed closes).body).1 refl
 
-itself : (r s : Response) → MayReplace r s → is_read s ≡ false → is_changed s ≡ false → s ≡ r
+itself : (r s : Response) → MayReplace r s → says_read s ≡ false → says_changed s ≡ false → s ≡ r
 itself r s (inl e) a b = e
-itself r s (inr (ok, inl e)) a b = let wrong : true ≡ false = sym (read_is r.closes) ∙ ap is_read (sym e) ∙ a in absurd cc
-itself r s (inr (ok, inr (rule, at, e))) a b = absurd (flip (is_read (index_changed rule at r.closes)) (ap is_read (sym e) ∙ a) (ap is_changed (sym e) ∙ b))
+itself r s (inr (ok, inl e)) a b = let wrong : true ≡ false = sym (read_is r.closes) ∙ ap says_read (sym e) ∙ a in absurd cc
+itself r s (inr (ok, inr (rule, at, e))) a b = absurd (flip (says_read (index_changed rule at r.closes)) (ap says_read (sym e) ∙ a) (ap says_changed (sym e) ∙ b))
 
 parted : (b : Bool) (n m : ℕ) → n ≡ cond b 1 0 + m → n ≡ 0 → (b ≡ false) × (m ≡ 0)
 parted true n m e none = absurd (omega (arith, e, none))
@@ -71,8 +71,8 @@ same_each [] [] z a b = refl
 same_each [] (s ∷ ss) z a b = absurd z
 same_each (r ∷ rs) [] z a b = absurd z
 same_each (r ∷ rs) (s ∷ ss) z a b =
-    let x = parted (is_read s) _ (reads ss) (reads_cons s ss) a in
-    let y = parted (is_changed s) _ (changes ss) (changes_cons s ss) b in
+    let x = parted (says_read s) _ (reads ss) (reads_cons s ss) a in
+    let y = parted (says_changed s) _ (changes ss) (changes_cons s ss) b in
     ap (λ t. t ∷ ss) (itself r s z.0 x.0 y.0) ∙ ap (λ ts. r ∷ ts) (same_each rs ss z.1 x.1 y.1)
 
 module _ (k : Corpus) (b s : List ℕ) (sent : List Response) (a : reads sent ≡ 0) (c : changes sent ≡ 0) where

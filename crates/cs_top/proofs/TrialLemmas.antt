@@ -33,11 +33,11 @@ use Rattle.cs_model_index.specs.Images.{Image, IsImage}
 use Rattle.cs_model_index.specs.Sections.{file_corpus}
 use Rattle.cs_model_index.specs.declared.limits.TheConstants.{TARGET}
 use Rattle.cs_model_kept.specs.Entries.{entry_of}
-use Rattle.cs_model_kept.specs.KeptList.{KeptList, after, after_own, kept_at, kept_by, plan, plan_by, plans}
+use Rattle.cs_model_kept.specs.KeptList.{KeptList, after, after_own, kept_at, kept_by, plan, plan_by, plans, is_same}
 use Rattle.cs_model_kept.specs.declared.limits.TheConstants.{MAX_ENTRIES}
 use Rattle.cs_model_kept.proofs.HeldLemmas.{numbers_plan_alike}
 use Rattle.cs_model_trial.specs.Sessions.{plain_request, queries, texts}
-use Rattle.cs_model_trial.specs.Summary.{IsSummary, counted, counts, hits_found, is_extend, is_fresh, is_narrow, is_same, summary, summary_line, trial_corpus, trial_plans}
+use Rattle.cs_model_trial.specs.Summary.{IsSummary, counted, counts, hits_found, is_extend, is_fresh, is_narrow, summary, summary_line, trial_corpus, trial_plans}
 use Rattle.cs_model_trial.proofs.TrialExamples.{texts-count}
 use Rattle.cs_query.specs.RequestView.{asked}
 use Rattle.cs_query.specs.declared.request.Request.{Request as Read}

@@ -9,7 +9,7 @@
 --                                            held, a failed device, no memory, a refused line of the script, an index file that changed
 --   status e                                 the exit status
 --   line_of e                                the line on standard error; nothing where all was done
---   Says w line                              standard error grew by the line where its count didn't rise, else by a prefix of it
+--   SaysLine w line                              standard error grew by the line where its count didn't rise, else by a prefix of it
 --   CausedBy e before now                    a run ends by a failure only where this count rose; else the count stays as it was
 --   Caused e ..                              the same for the counts of files and of out: one of the two rose
 --
@@ -20,6 +20,7 @@ use Rattle.cs_model.specs.Parameters.{number_of, has_digits}
 use Rattle.std.specs.Fmt.{decimal}
 use Rattle.cs_base.specs.outside.Causes.{Rose}
 use Rattle.cs_base.specs.outside.Outside.{Grew, GrewByPrefix}
+use Rattle.cs_base.specs.declared.content.limits.TheConstants.{MAX_PORT_DIGITS, MAX_PORT, MAX_CONNECTIONS_DIGITS, MAX_CONNECTIONS, MAX_TRIAL_DIGITS, MAX_TRIAL}
 use Rattle.cs_model.specs.Collection.{CollectionRefusal, refusal_words}
 use Rattle.cs_model.specs.Outputs.{ScriptFault, fault_words}
 use Rattle.cs_top.specs.Met.{Wrote}
@@ -47,13 +48,13 @@ two_words c a b =
     else (if bytes_eq c (codes "ask") then Some (ask a b)
     else some_if (bytes_eq c (codes "replay")) (replay a b))
 
--- `trial` with a number from 1 to 1,000
+-- `trial` with a number from 1 to `MAX_TRIAL`
 abbrev pub trial_words : List ℕ → List ℕ → Option Command
-trial_words c n = some_if (bytes_eq c (codes "trial") && is_number 4 1000 n) (trial n)
+trial_words c n = some_if (bytes_eq c (codes "trial") && is_number MAX_TRIAL_DIGITS MAX_TRIAL n) (trial n)
 
--- `serve` with a port from 1 to 65,535 and from 1 to 1,000,000 connections
+-- `serve` with a port from 1 to `MAX_PORT` and from 1 to `MAX_CONNECTIONS` connections
 abbrev pub serve_words : List ℕ → List ℕ → List ℕ → List ℕ → Option Command
-serve_words c i p n = some_if (bytes_eq c (codes "serve") && (is_number 5 65535 p && is_number 7 1000000 n)) (serve i p n)
+serve_words c i p n = some_if (bytes_eq c (codes "serve") && (is_number MAX_PORT_DIGITS MAX_PORT p && is_number MAX_CONNECTIONS_DIGITS MAX_CONNECTIONS n)) (serve i p n)
 
 -- the command of the words behind the program's name; None of no words
 abbrev pub command_of : List (List ℕ) → Option Command
@@ -99,7 +100,7 @@ line_of (script_refused f) = codes "script: " ++ (fault_words f ++ 10 ∷ [])
 line_of changed = codes "index changed\n"
 
 -- standard error grew by the line where its count didn't rise, else by some first bytes of it
-pub record Says (w : Wrote) (line : List ℕ) : Type 0 where
+pub record SaysLine (w : Wrote) (line : List ℕ) : Type 0 where
   pub whole : ¬ Rose w.before w.now → Grew w.old line w.new
   pub some : GrewByPrefix w.old line w.new
 

@@ -8,7 +8,7 @@
 --   AskEnds e c s w          how it may end over any files
 --   AskRan e c s m           a whole run
 --   CanAsk h c s             the script can be answered whole
---   IsOpen h i s             both files are held, and the first is an index file
+--   CanBeOpened h i s             both files are held, and the first is an index file
 --   ReplayStops e h i s      what shows that `replay` ended so before its script
 --   IsWholeBut k ls ts w     each line has its text, a failed read's among them
 --   ReplayScript k e ls before now w     how its script ended over a corpus, and what was put for it
@@ -86,8 +86,8 @@ CanAsk h c s = IsReady h c s × IsReadable (script_lines (held_bytes h s))
 
 -- ---- `replay` over files that tell
 -- both files are held, and the first breaks no rule of index files
-abbrev pub IsOpen : Held → List ℕ → List ℕ → Type 0
-IsOpen h i s = AreHeld h i s × IsIndexFile (held_bytes h i)
+abbrev pub CanBeOpened : Held → List ℕ → List ℕ → Type 0
+CanBeOpened h i s = AreHeld h i s × IsIndexFile (held_bytes h i)
 
 -- Before its script: the first of the two names that isn't held is said to be absent, and damage is the first broken rule of the
 -- index file and its place. Both sizes are asked before any memory is taken: want of memory hides no absent file. Files may take some
@@ -118,7 +118,7 @@ ReplayScript k e ls before now w = ⊥
 -- and after it
 abbrev pub ReplayTold : Ending → Held → List ℕ → List ℕ → ℕ → ℕ → Wrote → Type 0
 ReplayTold e h i s before now w =
-    (ReplayStops e h i s × (w.new ≡ w.old)) ⊎ (IsOpen h i s × ReplayScript (file_corpus (held_bytes h i)) e (script_lines (held_bytes h s)) before now w)
+    (ReplayStops e h i s × (w.new ≡ w.old)) ⊎ (CanBeOpened h i s × ReplayScript (file_corpus (held_bytes h i)) e (script_lines (held_bytes h s)) before now w)
 
 -- ---- `replay` over any files
 -- how it may end over any files: a name that is said to be absent is one of the two, and nothing is put before the script
@@ -146,4 +146,4 @@ pub record ReplayRan {H : Type 0} (e : Ending) (i s : List ℕ) (m : Met H) : Ty
 
 -- the script can be answered whole
 abbrev pub CanReplay : Held → List ℕ → List ℕ → Type 0
-CanReplay h i s = IsOpen h i s × IsReadable (script_lines (held_bytes h s))
+CanReplay h i s = CanBeOpened h i s × IsReadable (script_lines (held_bytes h s))

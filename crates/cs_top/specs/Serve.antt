@@ -5,7 +5,7 @@
 --   ServeStops e h i         what shows that it ended so before it listened
 --   IsUntouched w net        nothing is put, and the hub tells what it told
 --   IsListening p n net      the hub is as `listen` leaves it
---   HasPut p w               the line is put whole
+--   HasToldPort p w               the line is put whole
 --   IsServing p n w net      the line is put, the hub has the port and the room for connections, and none broke but by a failed send
 --   IsOver n net             no connection is live, and no more will be
 --   HasStopped p n w net     how it stands where serving didn't begin
@@ -71,14 +71,14 @@ pub record IsListening (p n : List ℕ) (net : Listened) : Type 0 where
   pub sends : net.sends_now ≡ net.sends_before
 
 -- exactly the line is put, and out didn't fail
-pub record HasPut (p : List ℕ) (w : Wrote) : Type 0 where
+pub record HasToldPort (p : List ℕ) (w : Wrote) : Type 0 where
   pub line : Grew w.old (serving_line p) w.new
   pub count : w.now ≡ w.before
 
 -- the line is put, and the hub has this port and room for so many connections, of which any may be opened; where no send failed, no
 -- connection is broken
 pub record IsServing (p n : List ℕ) (w : Wrote) (net : Listened) : Type 0 where
-  pub put : HasPut p w
+  pub put : HasToldPort p w
   pub port : net.state_now.port ≡ number_of p
   pub conns : net.state_now.conns ≡ number_of n
   pub sends : net.sends_before ≤ net.sends_now
@@ -111,7 +111,7 @@ abbrev pub ServeEnds : Ending → List ℕ → List ℕ → List ℕ → Wrote �
 ServeEnds done i p n w net = IsServing p n w net × IsOver n net
 ServeEnds (absent name) i p n w net = (name ≡ i) × IsUntouched w net
 ServeEnds (damaged rule at) i p n w net = IsUntouched w net
-ServeEnds no_memory i p n w net = IsUntouched w net ⊎ (HasPut p w × IsListening p n net)
+ServeEnds no_memory i p n w net = IsUntouched w net ⊎ (HasToldPort p w × IsListening p n net)
 ServeEnds failed i p n w net = ServeFailed p n w net (Unit {0})
 ServeEnds e i p n w net = ⊥
 

@@ -20,9 +20,9 @@ use Rattle.cs_file.specs.Indexes.{StandsFor}
 use Rattle.cs_model.specs.Corpus.{Corpus}
 use Rattle.cs_model.specs.Parameters.{number_of}
 use Rattle.cs_model_index.specs.Sections.{file_corpus}
-use Rattle.cs_model_kept.specs.KeptList.{KeptList, after_own, kept_at}
+use Rattle.cs_model_kept.specs.KeptList.{KeptList, after_own, kept_at, is_same}
 use Rattle.cs_model_kept.specs.declared.limits.TheConstants.{MAX_ENTRIES}
-use Rattle.cs_model_trial.specs.Summary.{IsSummary, counted, hits_found, is_extend, is_fresh, is_narrow, is_same, trial_plans}
+use Rattle.cs_model_trial.specs.Summary.{IsSummary, counted, hits_found, is_extend, is_fresh, is_narrow, trial_plans}
 use Rattle.cs_top.specs.CommandLine.{Ending, done, failed, no_memory, CausedBy}
 use Rattle.cs_top.specs.Met.{Met, Wrote}
 use Rattle.cs_trial.specs.declared.counts.Counts.{Counts}

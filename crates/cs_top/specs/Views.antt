@@ -1,10 +1,10 @@
 -- Types of the code as what they stand for.
 --
---   seen                         a command of the code
+--   seen_command                         a command of the code
 --   HasNumbers c                 its words of numbers are such numbers; a command without one has them
 --   home_seen f                  an index file of the code
 --   collection_refusal_of f      the refusal that a fault of a collection names; None for want of memory
---   IsCause c f                  it names the refusal of the collection c; nothing is said of want of memory
+--   IsCollectionCause c f                  it names the refusal of the collection c; nothing is said of want of memory
 --   fault_seen f                 a refused line's fault
 --   collection_ending r          the ending of a run whose collection has the refusal r, or no memory
 --   of_script s                  the stop of a run whose script stops
@@ -13,13 +13,14 @@
 --   IsMissing s f                where a stop says a name to be absent, the file isn't held
 --   IsDevice s                   a call failed, or memory ran out
 --   IsOfCollection s             a stop of a collection: its fault, or a call failed, or memory ran out
---   IsCauseOf c s                where it is a fault of the collection c, this has its cause there
+--   IsStopCause c s                where it is a fault of the collection c, this has its cause there
 --   IsOfIndex s                  a stop of an index file: damage, or a call failed, or memory ran out
 --   IsDamage b s                 where it is damage of the bytes b, this is their first broken rule with its place
 --   said_text s                  a line on standard error
 use Rattle.std.specs.Prelude.{◌≡◌, ℕ, true, List, [], ◌∷◌, ◌++◌, Option, Some, None, MatchOption, Result, Ok, Err, codes}
 use Rattle.std.specs.Fmt.{decimal}
 use Rattle.cs_base.specs.outside.Outside.{File}
+use Rattle.cs_base.specs.declared.content.limits.TheConstants.{MAX_PORT_DIGITS, MAX_PORT, MAX_CONNECTIONS_DIGITS, MAX_CONNECTIONS, MAX_TRIAL_DIGITS, MAX_TRIAL}
 use Rattle.cs_model.specs.Collection.{CollectionRefusal}
 use Rattle.cs_model.specs.Corpus.{refusal}
 use Rattle.cs_model.specs.Outputs.{ScriptFault, script_line_too_long, script_line_not_utf8}
@@ -33,8 +34,8 @@ use Rattle.cs_top.specs.declared.answering.Home.{Home}
 use Rattle.cs_top.specs.declared.answering.Home.TheVariants as homes
 use Rattle.cs_top.specs.declared.collection.CollectionFault.{CollectionFault}
 use Rattle.cs_top.specs.declared.collection.CollectionFault.TheVariants as faults
-use Rattle.cs_top.specs.declared.ending.Stop.{Stop}
-use Rattle.cs_top.specs.declared.ending.Stop.TheVariants as stops
+use Rattle.cs_top.specs.declared.ending.RunStop.{RunStop}
+use Rattle.cs_top.specs.declared.ending.RunStop.TheVariants as stops
 use Rattle.cs_top.specs.declared.lines.ScriptFault.{ScriptFault as Unread}
 use Rattle.cs_top.specs.declared.lines.ScriptFault.TheVariants as unread
 use Rattle.cs_top.specs.declared.lines.ScriptStop.{ScriptStop}
@@ -45,17 +46,17 @@ use Rattle.cs_top.specs.declared.words.Command.{Command as Read}
 use Rattle.cs_top.specs.declared.words.Command.TheVariants as read
 
 -- word by word, variant by variant
-abbrev pub seen : Read → Command
-seen (read.Build c i) = build c.now i.now
-seen (read.Ask c s) = ask c.now s.now
-seen (read.Replay i s) = replay i.now s.now
-seen (read.Serve i p n) = serve i.now p.now n.now
-seen (read.Trial n) = trial n.now
+abbrev pub seen_command : Read → Command
+seen_command (read.Build c i) = build c.now i.now
+seen_command (read.Ask c s) = ask c.now s.now
+seen_command (read.Replay i s) = replay i.now s.now
+seen_command (read.Serve i p n) = serve i.now p.now n.now
+seen_command (read.Trial n) = trial n.now
 
 -- the words of `serve` and of `trial` are such numbers; of another command nothing is said
 abbrev pub HasNumbers : Read → Type 0
-HasNumbers (read.Serve i p n) = (is_number 5 65535 p.now ≡ true) × (is_number 7 1000000 n.now ≡ true)
-HasNumbers (read.Trial n) = is_number 4 1000 n.now ≡ true
+HasNumbers (read.Serve i p n) = (is_number MAX_PORT_DIGITS MAX_PORT p.now ≡ true) × (is_number MAX_CONNECTIONS_DIGITS MAX_CONNECTIONS n.now ≡ true)
+HasNumbers (read.Trial n) = is_number MAX_TRIAL_DIGITS MAX_TRIAL n.now ≡ true
 HasNumbers c = Unit {0}
 
 -- one that is made has no name
@@ -70,8 +71,8 @@ collection_refusal_of (faults.Rows f) = rows_refusal_of f
 collection_refusal_of (faults.Words f) = build_refusal_of f
 
 -- where it is no want of memory, it is the first refusal of the collection
-abbrev pub IsCause : List ℕ → CollectionFault → Type 0
-IsCause c f = MatchOption (collection_refusal_of f) (Unit {0}) (λ r. refusal c ≡ Some r)
+abbrev pub IsCollectionCause : List ℕ → CollectionFault → Type 0
+IsCollectionCause c f = MatchOption (collection_refusal_of f) (Unit {0}) (λ r. refusal c ≡ Some r)
 
 -- the same fault at the same line
 abbrev pub fault_seen : Unread → ScriptFault
@@ -84,7 +85,7 @@ collection_ending None = no_memory
 collection_ending (Some r) = refused r
 
 -- variant by variant
-abbrev pub stop_ending : Stop → Ending
+abbrev pub stop_ending : RunStop → Ending
 stop_ending stops.Usage = usage
 stop_ending (stops.Collection f) = collection_ending (collection_refusal_of f)
 stop_ending (stops.Absent name) = absent name.now
@@ -95,53 +96,53 @@ stop_ending (stops.Damaged rule at) = damaged rule at
 stop_ending stops.Changed = changed
 
 -- a run that doesn't stop is done
-abbrev pub ended : Result (Unit {0}) Stop → Ending
+abbrev pub ended : Result (Unit {0}) RunStop → Ending
 ended (Ok x) = done
 ended (Err s) = stop_ending s
 
 -- a line that is refused, or a call that failed
-abbrev pub of_script : ScriptStop → Stop
+abbrev pub of_script : ScriptStop → RunStop
 of_script (scripts.Unread f) = stops.Script f
 of_script scripts.Failed = stops.Failed
 
 -- the name that is said is this one; of a failed call nothing is said, and a run stops there in no other way
-abbrev pub IsAbsence : Stop → List ℕ → Type 0
+abbrev pub IsAbsence : RunStop → List ℕ → Type 0
 IsAbsence (stops.Absent said) name = said.now ≡ name
 IsAbsence stops.Failed name = Unit {0}
 IsAbsence s name = ⊥
 
 -- of any other stop nothing is said
-abbrev pub IsMissing : Stop → Option File → Type 0
+abbrev pub IsMissing : RunStop → Option File → Type 0
 IsMissing (stops.Absent said) f = f ≡ None
 IsMissing s f = Unit {0}
 
 -- a run stops there in no other way
-abbrev pub IsDevice : Stop → Type 0
+abbrev pub IsDevice : RunStop → Type 0
 IsDevice stops.Failed = Unit {0}
 IsDevice stops.Memory = Unit {0}
 IsDevice s = ⊥
 
 -- a run stops there in no other way
-abbrev pub IsOfCollection : Stop → Type 0
+abbrev pub IsOfCollection : RunStop → Type 0
 IsOfCollection (stops.Collection f) = Unit {0}
 IsOfCollection stops.Failed = Unit {0}
 IsOfCollection stops.Memory = Unit {0}
 IsOfCollection s = ⊥
 
 -- of any other stop nothing is said
-abbrev pub IsCauseOf : List ℕ → Stop → Type 0
-IsCauseOf c (stops.Collection f) = IsCause c f
-IsCauseOf c s = Unit {0}
+abbrev pub IsStopCause : List ℕ → RunStop → Type 0
+IsStopCause c (stops.Collection f) = IsCollectionCause c f
+IsStopCause c s = Unit {0}
 
 -- a run stops there in no other way
-abbrev pub IsOfIndex : Stop → Type 0
+abbrev pub IsOfIndex : RunStop → Type 0
 IsOfIndex (stops.Damaged rule at) = Unit {0}
 IsOfIndex stops.Failed = Unit {0}
 IsOfIndex stops.Memory = Unit {0}
 IsOfIndex s = ⊥
 
 -- of any other stop nothing is said
-abbrev pub IsDamage : List ℕ → Stop → Type 0
+abbrev pub IsDamage : List ℕ → RunStop → Type 0
 IsDamage b (stops.Damaged rule at) = damage b ≡ Some (broken_at rule at)
 IsDamage b s = Unit {0}
 

@@ -13,7 +13,7 @@ ghost use Rattle.cs_top.specs.Views.{ended, stop_ending};
 
 use crate::answering::IndexFile;
 use crate::collection::read_image;
-use crate::ending::Stop;
+use crate::ending::RunStop;
 use crate::files::size_of;
 use crate::opening::open_image;
 use crate::script::{Came, answer_script};
@@ -28,7 +28,7 @@ pub(crate) fn ask<'a, F: Files, O: Sink>(
     script: &'a str,
     files: &mut F,
     out: &mut O,
-) -> Result<(), Stop<'a>>
+) -> Result<(), RunStop<'a>>
     ensures ends { AskEnds (ended result) collection.now script.now (wrote O.written O.faults out.old out.new) }
     ensures told { ForSome (F.held files.old) (λ h. AskTold (ended result) h collection.now script.now (wrote O.written O.faults out.old out.new)) }
     ensures caused { Caused (ended result) (F.faults files.old) (F.faults files.new) (O.faults out.old) (O.faults out.new) }
@@ -41,7 +41,7 @@ pub(crate) fn ask<'a, F: Files, O: Sink>(
         Ok(Came::Answered) => Ok(()),
         Ok(Came::Read) => unreachable!(),
         Ok(Came::Changed) => unreachable!(),
-        Err(stop) => Err(Stop::from(stop)),
+        Err(stop) => Err(RunStop::from(stop)),
     }
 }
 
@@ -51,7 +51,7 @@ fn prepare<'a, F: Files>(
     collection: &'a str,
     script: &'a str,
     files: &mut F,
-) -> Result<(Image, u64), Stop<'a>>
+) -> Result<(Image, u64), RunStop<'a>>
     ensures ready { ForSome (F.held files.old) (λ h. OnOk result (IsReady h collection.now script.now)) }
     ensures corpus { OfBytes (F.held files.old) collection.now (λ b. IfOk result (λ p. file_corpus (file p.0) ≡ corpus b)) }
     ensures writable { IfOk result (λ p. CanBeWritten p.0) }

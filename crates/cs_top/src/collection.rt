@@ -13,9 +13,9 @@ ghost use Rattle.cs_model.specs.Corpus.{corpus, refusal};
 ghost use Rattle.cs_top.specs.CommandLine.{CausedBy};
 ghost use Rattle.cs_top.specs.Met.{HasSize, OfBytes};
 ghost use Rattle.cs_top.specs.Trial.{HasSizes};
-ghost use Rattle.cs_top.specs.Views.{IsCause, IsCauseOf, IsOfCollection, collection_refusal_of, stop_ending};
+ghost use Rattle.cs_top.specs.Views.{IsCollectionCause, IsStopCause, IsOfCollection, collection_refusal_of, stop_ending};
 
-use crate::ending::Stop;
+use crate::ending::RunStop;
 use crate::files::read_all;
 use cs_base::{Files, MAX_COLLECTION_BYTES};
 use cs_build::{BuildFault, image};
@@ -65,12 +65,12 @@ pub(crate) fn read_image<'a, F: Files>(
     files: &mut F,
     name: &str,
     size: u64,
-) -> Result<Image, Stop<'a>>
+) -> Result<Image, RunStop<'a>>
     requires size { HasSize (F.held files.old) name.now size }
 
     ensures ok { OfBytes (F.held files.old) name.now (λ b. IfOk result (IsImage (corpus b) BLOCK_ROWS)) }
     ensures accepted { OfBytes (F.held files.old) name.now (λ b. OnOk result (refusal b ≡ None)) }
-    ensures cause { OfBytes (F.held files.old) name.now (λ b. IfErr result (λ s. IsCauseOf b s)) }
+    ensures cause { OfBytes (F.held files.old) name.now (λ b. IfErr result (λ s. IsStopCause b s)) }
     ensures writable { IfOk result CanBeWritten }
     ensures whole { IfOk result (λ i. IsIndexFile (file i)) }
     ensures corpus { OfBytes (F.held files.old) name.now (λ b. IfOk result (λ i. file_corpus (file i) ≡ corpus b)) }
@@ -80,12 +80,12 @@ pub(crate) fn read_image<'a, F: Files>(
     ensures files { F.held files.new ≡ F.held files.old }
 {
     if size > MAX_COLLECTION_BYTES as u64 {
-        return Err(Stop::Collection(CollectionFault::Documents(DocFault::TooLarge)));
+        return Err(RunStop::Collection(CollectionFault::Documents(DocFault::TooLarge)));
     }
     let bytes = read_all(alloc, files, name, size)?;
     match image_of(alloc, &bytes) {
         Ok(imaged) => Ok(imaged.image),
-        Err(fault) => Err(Stop::Collection(fault)),
+        Err(fault) => Err(RunStop::Collection(fault)),
     }
 }
 
@@ -98,7 +98,7 @@ pub(crate) fn image_of(alloc: Global, bytes: &[u8]) -> Result<Imaged, Collection
     ensures sizes { IfOk result (λ i. HasSizes (corpus bytes.now) i.documents i.rows) }
 
     // Each fault but want of memory is the first refusal.
-    ensures err { IfErr result (λ e. IsCause bytes.now e) }
+    ensures err { IfErr result (λ e. IsCollectionCause bytes.now e) }
 {
     let docs = read_docs(alloc, bytes)?;
     let rows = rows_of(alloc, &docs)?;

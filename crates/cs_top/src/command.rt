@@ -1,14 +1,14 @@
 //! The top call: all that the program does.
 ghost use Rattle.std.specs.Prelude.{◌≡◌, map};
 ghost use Rattle.std.specs.String.{string_bytes};
-ghost use Rattle.cs_top.specs.CommandLine.{command_of, Ending, status, line_of, Says};
+ghost use Rattle.cs_top.specs.CommandLine.{command_of, Ending, status, line_of, SaysLine};
 ghost use Rattle.cs_top.specs.Met.{met, wrote};
 ghost use Rattle.cs_top.specs.Runs.{Completes, Ran};
 ghost use Rattle.cs_top.specs.Views.{ended};
 
 use crate::ask::ask;
 use crate::build::build;
-use crate::ending::{Stop, status_of, tell};
+use crate::ending::{RunStop, status_of, tell};
 use crate::replay::replay;
 use crate::serve::serve;
 use crate::trial::trial;
@@ -50,12 +50,12 @@ fn carry_out<'a, F: Files, H: Hub, O: Sink>(
     files: &mut F,
     hub: &mut H,
     out: &mut O,
-) -> Result<(), Stop<'a>>
+) -> Result<(), RunStop<'a>>
     ensures ran { Ran (ended result) (command_of (map string_bytes words.now.items))
         (met F.held F.faults O.written O.faults H.state H.talk H.faults H.send_faults files.old files.new out.old out.new hub.old hub.new) }
 {
     match command_of(words) {
-        None => Err(Stop::Usage),
+        None => Err(RunStop::Usage),
         Some(Command::Build { collection, index }) => build(alloc, collection, index, files),
         Some(Command::Ask { collection, script }) => ask(alloc, collection, script, files, out),
         Some(Command::Replay { index, script }) => replay(alloc, index, script, files, out),

@@ -1,7 +1,7 @@
 //! How a run ends: its status, and what is said of it.
 ghost use Rattle.std.specs.Prelude.{◌≡◌, ◌++◌, ◌∷◌, []};
 ghost use Rattle.cs_docs.specs.Refusals.{reason_text};
-ghost use Rattle.cs_top.specs.CommandLine.{status, line_of, Says};
+ghost use Rattle.cs_top.specs.CommandLine.{status, line_of, SaysLine};
 ghost use Rattle.cs_top.specs.Met.{wrote};
 ghost use Rattle.cs_top.specs.Views.{collection_ending, collection_refusal_of, ended, said_text, stop_ending};
 
@@ -18,7 +18,7 @@ const NO_MEMORY: &[u8] = b"memory";
 
 /// Why a run ends before all is done.
 #[derive(Clone, Copy, Debug, PartialEq, Eq)]
-pub(crate) enum Stop<'a> {
+pub(crate) enum RunStop<'a> {
     /// The words aren't in the table.
     Usage,
     /// The collection makes no corpus.
@@ -42,19 +42,19 @@ pub(crate) enum Stop<'a> {
     Changed,
 }
 
-impl<'a> Stop<'a> {
+impl<'a> RunStop<'a> {
     fn status(self) -> u8
         ensures { result ≡ status (stop_ending self.entry) }
     {
         match self {
-            Stop::Usage => 2,
-            Stop::Collection(fault) => status_of_collection(fault),
-            Stop::Damaged { .. } => 4,
-            Stop::Absent(_) => 5,
-            Stop::Failed => 6,
-            Stop::Memory => 7,
-            Stop::Script(_) => 8,
-            Stop::Changed => 9,
+            RunStop::Usage => 2,
+            RunStop::Collection(fault) => status_of_collection(fault),
+            RunStop::Damaged { .. } => 4,
+            RunStop::Absent(_) => 5,
+            RunStop::Failed => 6,
+            RunStop::Memory => 7,
+            RunStop::Script(_) => 8,
+            RunStop::Changed => 9,
         }
     }
 
@@ -62,45 +62,45 @@ impl<'a> Stop<'a> {
         ensures { said_text result ≡ line_of (stop_ending self.entry) }
     {
         match self {
-            Stop::Usage => of_run(USAGE),
-            Stop::Collection(fault) => said_of_collection(fault),
-            Stop::Damaged { rule, at } => Said::Damage { rule, at },
-            Stop::Absent(name) => Said::Words {
+            RunStop::Usage => of_run(USAGE),
+            RunStop::Collection(fault) => said_of_collection(fault),
+            RunStop::Damaged { rule, at } => Said::Damage { rule, at },
+            RunStop::Absent(name) => Said::Words {
                 of: b"absent: ",
                 line: None,
                 words: name.as_bytes(),
             },
-            Stop::Failed => of_run(b"device failed"),
-            Stop::Memory => of_run(NO_MEMORY),
-            Stop::Script(fault) => of_reason(b"script: ", fault.reason()),
-            Stop::Changed => of_run(b"index changed"),
+            RunStop::Failed => of_run(b"device failed"),
+            RunStop::Memory => of_run(NO_MEMORY),
+            RunStop::Script(fault) => of_reason(b"script: ", fault.reason()),
+            RunStop::Changed => of_run(b"index changed"),
         }
     }
 }
 
-impl From<Failed> for Stop<'_> {
+impl From<Failed> for RunStop<'_> {
     ghost use Rattle.std.specs.Prelude.{◌≡◌};
-    ghost use Rattle.cs_top.specs.declared.ending.Stop.{Stop};
+    ghost use Rattle.cs_top.specs.declared.ending.RunStop.{RunStop};
 
-    ghost from_gives = { λ _ stop. stop ≡ Stop.Failed };
+    ghost from_gives = { λ _ stop. stop ≡ RunStop.Failed };
 
     fn from(_: Failed) -> Self {
-        Stop::Failed
+        RunStop::Failed
     }
 }
 
-impl From<Memory> for Stop<'_> {
+impl From<Memory> for RunStop<'_> {
     ghost use Rattle.std.specs.Prelude.{◌≡◌};
-    ghost use Rattle.cs_top.specs.declared.ending.Stop.{Stop};
+    ghost use Rattle.cs_top.specs.declared.ending.RunStop.{RunStop};
 
-    ghost from_gives = { λ _ stop. stop ≡ Stop.Memory };
+    ghost from_gives = { λ _ stop. stop ≡ RunStop.Memory };
 
     fn from(_: Memory) -> Self {
-        Stop::Memory
+        RunStop::Memory
     }
 }
 
-impl From<ScriptStop> for Stop<'_> {
+impl From<ScriptStop> for RunStop<'_> {
     ghost use Rattle.std.specs.Prelude.{◌≡◌};
     ghost use Rattle.cs_top.specs.Views.{of_script};
 
@@ -108,14 +108,14 @@ impl From<ScriptStop> for Stop<'_> {
 
     fn from(stop: ScriptStop) -> Self {
         match stop {
-            ScriptStop::Unread(fault) => Stop::Script(fault),
-            ScriptStop::Failed => Stop::Failed,
+            ScriptStop::Unread(fault) => RunStop::Script(fault),
+            ScriptStop::Failed => RunStop::Failed,
         }
     }
 }
 
 /// The exit status.
-pub(crate) fn status_of(run: Result<(), Stop<'_>>) -> u8
+pub(crate) fn status_of(run: Result<(), RunStop<'_>>) -> u8
     ensures { result ≡ status (ended run.entry) }
 {
     match run {
@@ -125,8 +125,8 @@ pub(crate) fn status_of(run: Result<(), Stop<'_>>) -> u8
 }
 
 /// Says how a run ended. A failure of standard error changes nothing else.
-pub(crate) fn tell<E: Sink>(err: &mut E, run: Result<(), Stop<'_>>)
-    ensures { Says (wrote E.written E.faults err.old err.new) (line_of (ended run.entry)) }
+pub(crate) fn tell<E: Sink>(err: &mut E, run: Result<(), RunStop<'_>>)
+    ensures { SaysLine (wrote E.written E.faults err.old err.new) (line_of (ended run.entry)) }
 {
     if let Err(stop) = run {
         let _ = put_said(err, stop.said());

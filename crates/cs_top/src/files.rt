@@ -6,12 +6,12 @@ ghost use Rattle.cs_top.specs.CommandLine.{CausedBy};
 ghost use Rattle.cs_top.specs.Met.{HasSize, OfBytes};
 ghost use Rattle.cs_top.specs.Views.{IsAbsence, IsDevice, IsMissing, stop_ending};
 
-use crate::ending::Stop;
+use crate::ending::RunStop;
 use cs_base::Files;
 use std::alloc::Global;
 
 /// The size of a file that should be held.
-pub(crate) fn size_of<'a, F: Files>(files: &mut F, name: &'a str) -> Result<u64, Stop<'a>>
+pub(crate) fn size_of<'a, F: Files>(files: &mut F, name: &'a str) -> Result<u64, RunStop<'a>>
     ensures ok { IfOk result (λ n. HasSize (F.held files.old) name.now n) }
     ensures missing { ForSome (F.held files.old) (λ h. IfErr result (λ s. IsMissing s (fin.get h name.now))) }
     ensures absence { IfErr result (λ s. IsAbsence s name.now) }
@@ -21,8 +21,8 @@ pub(crate) fn size_of<'a, F: Files>(files: &mut F, name: &'a str) -> Result<u64,
 {
     match files.size(name) {
         Ok(Some(size)) => Ok(size),
-        Ok(None) => Err(Stop::Absent(name)),
-        Err(_) => Err(Stop::Failed),
+        Ok(None) => Err(RunStop::Absent(name)),
+        Err(_) => Err(RunStop::Failed),
     }
 }
 
@@ -32,7 +32,7 @@ pub(crate) fn read_all<'a, F: Files>(
     files: &mut F,
     name: &str,
     size: u64,
-) -> Result<Vec<u8>, Stop<'a>>
+) -> Result<Vec<u8>, RunStop<'a>>
     requires { HasSize (F.held files.old) name.now size }
 
     ensures ok { OfBytes (F.held files.old) name.now (λ bytes. IfOk result (λ b. b.items ≡ bytes)) }
@@ -42,10 +42,10 @@ pub(crate) fn read_all<'a, F: Files>(
     ensures caused { IfErr result (λ s. CausedBy (stop_ending s) (F.faults files.old) (F.faults files.new)) }
 {
     let Ok(mut bytes) = vec![in alloc; 0u8; size as usize] else {
-        return Err(Stop::Memory);
+        return Err(RunStop::Memory);
     };
     match files.read_at(name, 0, &mut bytes) {
         Ok(()) => Ok(bytes),
-        Err(_) => Err(Stop::Failed),
+        Err(_) => Err(RunStop::Failed),
     }
 }

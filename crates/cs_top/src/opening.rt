@@ -11,7 +11,7 @@ ghost use Rattle.cs_top.specs.CommandLine.{CausedBy};
 ghost use Rattle.cs_top.specs.Met.{HasSize, OfBytes};
 ghost use Rattle.cs_top.specs.Views.{IsDamage, IsOfIndex, stop_ending};
 
-use crate::ending::Stop;
+use crate::ending::RunStop;
 use cs_base::{FileStore, Files, MemSink, MemStore, Memory};
 use cs_engine::Engine;
 use cs_file::{Image, Index, OpenFault, WriteFault, open_index, write_index};
@@ -24,7 +24,7 @@ pub(crate) fn open<'a, F: Files>(
     files: &mut F,
     name: &str,
     size: u64,
-) -> Result<Engine, Stop<'a>>
+) -> Result<Engine, RunStop<'a>>
     requires size { HasSize (F.held files.old) name.now size }
 
     ensures ok { OfBytes (F.held files.old) name.now (λ b. IfOk result (λ e. StandsFor b e.index)) }
@@ -47,7 +47,7 @@ fn open_file<'a, F: Files>(
     files: &mut F,
     name: &str,
     size: u64,
-) -> Result<Index, Stop<'a>>
+) -> Result<Index, RunStop<'a>>
     requires size { HasSize (F.held files.old) name.now size }
 
     ensures ok { OfBytes (F.held files.old) name.now (λ b. IfOk result (StandsFor b)) }
@@ -61,9 +61,9 @@ fn open_file<'a, F: Files>(
     let mut store = FileStore::new(files, name, size);
     match open_index(alloc, &mut store) {
         Ok(index) => Ok(index),
-        Err(OpenFault::Damaged { rule, at }) => Err(Stop::Damaged { rule, at }),
-        Err(OpenFault::Read) => Err(Stop::Failed),
-        Err(OpenFault::Memory) => Err(Stop::Memory),
+        Err(OpenFault::Damaged { rule, at }) => Err(RunStop::Damaged { rule, at }),
+        Err(OpenFault::Read) => Err(RunStop::Failed),
+        Err(OpenFault::Memory) => Err(RunStop::Memory),
     }
 }
 

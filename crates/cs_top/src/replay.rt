@@ -6,7 +6,7 @@ ghost use Rattle.cs_top.specs.ScriptRuns.{ReplayCaused, ReplayEnds, ReplayTold};
 ghost use Rattle.cs_top.specs.Views.{ended};
 
 use crate::answering::IndexFile;
-use crate::ending::Stop;
+use crate::ending::RunStop;
 use crate::files::size_of;
 use crate::opening::open;
 use crate::script::{Came, answer_script};
@@ -21,7 +21,7 @@ pub(crate) fn replay<'a, F: Files, O: Sink>(
     script: &'a str,
     files: &mut F,
     out: &mut O,
-) -> Result<(), Stop<'a>>
+) -> Result<(), RunStop<'a>>
     ensures ends { ReplayEnds (ended result) index.now script.now (wrote O.written O.faults out.old out.new) }
     ensures told { ForSome (F.held files.old) (λ h. ReplayTold (ended result) h index.now script.now (F.faults files.old) (F.faults files.new) (wrote O.written O.faults out.old out.new)) }
     ensures caused { ReplayCaused (ended result) (F.faults files.old) (F.faults files.new) (O.faults out.old) (O.faults out.new) }
@@ -41,8 +41,8 @@ pub(crate) fn replay<'a, F: Files, O: Sink>(
         out,
     ) {
         Ok(Came::Answered) => Ok(()),
-        Ok(Came::Read) => Err(Stop::Failed),
-        Ok(Came::Changed) => Err(Stop::Changed),
-        Err(stop) => Err(Stop::from(stop)),
+        Ok(Came::Read) => Err(RunStop::Failed),
+        Ok(Came::Changed) => Err(RunStop::Changed),
+        Err(stop) => Err(RunStop::from(stop)),
     }
 }

@@ -5,6 +5,7 @@ ghost use Rattle.std.specs.Option.{ForSome};
 ghost use Rattle.cs_base.specs.outside.Causes.{Rose};
 ghost use Rattle.cs_base.specs.outside.Hub.{IsOrderly, listens};
 ghost use Rattle.cs_base.specs.outside.Outside.{GrewByPrefix, file_bytes};
+ghost use Rattle.cs_base.specs.declared.content.limits.TheConstants.{MAX_PORT_DIGITS, MAX_PORT, MAX_CONNECTIONS_DIGITS, MAX_CONNECTIONS};
 ghost use Rattle.cs_engine.specs.Keeping.{AreGood};
 ghost use Rattle.cs_file.specs.Indexes.{Fits, StandsFor};
 ghost use Rattle.cs_hub.specs.Following.{AreServed};
@@ -12,10 +13,10 @@ ghost use Rattle.cs_hub.specs.Speaking.{AreUnbroken};
 ghost use Rattle.cs_model_index.specs.Sections.{file_corpus};
 ghost use Rattle.cs_top.specs.CommandLine.{CausedBy, is_number};
 ghost use Rattle.cs_top.specs.Met.{HasSize, Listened, OfBytes, Wrote, listened, wrote};
-ghost use Rattle.cs_top.specs.Serve.{CanServe, HasPut, HasStopped, IsListening, IsUntouched, ServeCaused, ServeEnds, ServeTold, serving_line};
+ghost use Rattle.cs_top.specs.Serve.{CanServe, HasToldPort, HasStopped, IsListening, IsUntouched, ServeCaused, ServeEnds, ServeTold, serving_line};
 ghost use Rattle.cs_top.specs.Views.{ended, stop_ending};
 
-use crate::ending::Stop;
+use crate::ending::RunStop;
 use crate::files::size_of;
 use crate::opening::open;
 use crate::said::put_all;
@@ -34,9 +35,9 @@ pub(crate) fn serve<'a, F: Files, H: Hub, O: Sink>(
     files: &mut F,
     hub: &mut H,
     out: &mut O,
-) -> Result<(), Stop<'a>>
-    requires port { is_number 5 65535 port.now ≡ true }
-    requires conns { is_number 7 1000000 conns.now ≡ true }
+) -> Result<(), RunStop<'a>>
+    requires port { is_number MAX_PORT_DIGITS MAX_PORT port.now ≡ true }
+    requires conns { is_number MAX_CONNECTIONS_DIGITS MAX_CONNECTIONS conns.now ≡ true }
 
     ensures ends { ServeEnds (ended result) index.now port.now conns.now (wrote O.written O.faults out.old out.new) (listened H.state H.talk H.faults H.send_faults hub.old hub.new) }
     ensures told { ForSome (F.held files.old) (λ h. ServeTold (ended result) h index.now port.now conns.now (F.faults files.old) (F.faults files.new) (wrote O.written O.faults out.old out.new) (listened H.state H.talk H.faults H.send_faults hub.old hub.new)) }
@@ -47,8 +48,8 @@ pub(crate) fn serve<'a, F: Files, H: Hub, O: Sink>(
     begin(hub, out, port, conns)?;
     match serve_file(alloc, &mut engine, files, index, size, hub, conns_of(conns)) {
         ServeEnd::Done => Ok(()),
-        ServeEnd::HubFailed => Err(Stop::Failed),
-        ServeEnd::Memory => Err(Stop::Memory),
+        ServeEnd::HubFailed => Err(RunStop::Failed),
+        ServeEnd::Memory => Err(RunStop::Memory),
     }
 }
 
@@ -57,7 +58,7 @@ fn prepare<'a, F: Files>(
     alloc: Global,
     files: &mut F,
     index: &'a str,
-) -> Result<(Engine, u64), Stop<'a>>
+) -> Result<(Engine, u64), RunStop<'a>>
     ensures size { IfOk result (λ p. HasSize (F.held files.old) index.now p.1) }
     ensures stands { OfBytes (F.held files.old) index.now (λ b. IfOk result (λ p. StandsFor b p.0.index)) }
     ensures good { (b : List ℕ) → IfOk result (λ p. AreGood b p.0) }
@@ -76,10 +77,10 @@ fn prepare<'a, F: Files>(
 
 // Listens, and puts the line.
 fn begin<H: Hub, O: Sink>(hub: &mut H, out: &mut O, port: &str, conns: &str) -> Result<(), Failed>
-    requires port { is_number 5 65535 port.now ≡ true }
-    requires conns { is_number 7 1000000 conns.now ≡ true }
+    requires port { is_number MAX_PORT_DIGITS MAX_PORT port.now ≡ true }
+    requires conns { is_number MAX_CONNECTIONS_DIGITS MAX_CONNECTIONS conns.now ≡ true }
 
-    ensures put { OnOk result (HasPut port.now (wrote O.written O.faults out.old out.new)) }
+    ensures put { OnOk result (HasToldPort port.now (wrote O.written O.faults out.old out.new)) }
     ensures listening { OnOk result (IsListening port.now conns.now (listened H.state H.talk H.faults H.send_faults hub.old hub.new)) }
     ensures orderly { OnOk result (IsOrderly (H.state hub.new) (H.talk hub.new)) }
     ensures quiet { OnOk result (H.faults hub.new ≡ H.faults hub.old) }
@@ -93,7 +94,7 @@ fn begin<H: Hub, O: Sink>(hub: &mut H, out: &mut O, port: &str, conns: &str) -> 
 }
 
 fn put_line<O: Sink>(out: &mut O, port: &str) -> Result<(), Failed>
-    ensures ok { OnOk result (HasPut port.now (wrote O.written O.faults out.old out.new)) }
+    ensures ok { OnOk result (HasToldPort port.now (wrote O.written O.faults out.old out.new)) }
     ensures err { OnErr result (GrewByPrefix (O.written out.old) (serving_line port.now) (O.written out.new)) }
     ensures failed { OnErr result (Rose (O.faults out.old) (O.faults out.new)) }
     ensures later { O.faults out.old ≤ O.faults out.new }

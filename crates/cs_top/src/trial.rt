@@ -1,6 +1,7 @@
 //! `trial N`: what is typed over the collection of a number is asked, and what came of it is told.
 ghost use Rattle.std.specs.Prelude.{◌≡◌, ◌≤◌, ◌+◌, ◌++◌, ◌∷◌, ◌^◌, [], ℕ, List, All, IfOk, OnOk, Some, length, map, true};
 ghost use Rattle.cs_base.specs.declared.content.query.Query.{Query};
+ghost use Rattle.cs_base.specs.declared.content.limits.TheConstants.{MAX_TRIAL, MAX_TRIAL_DIGITS};
 ghost use Rattle.cs_file.specs.Indexes.{Fits, StandsFor};
 ghost use Rattle.cs_file.specs.Writable.{CanBeWritten};
 ghost use Rattle.cs_model.specs.Parameters.{HoldsLimits};
@@ -16,10 +17,9 @@ ghost use Rattle.cs_top.specs.Met.{wrote};
 ghost use Rattle.cs_top.specs.Trial.{AreFew, HasAsked, HasSizes, TrialEnds, sizes_of, with_reply};
 ghost use Rattle.cs_top.specs.Views.{ended};
 ghost use Rattle.cs_trial.specs.declared.counts.Counts.{Counts};
-ghost use Rattle.cs_trial.specs.declared.lines.TheConstants.{MAX_TRIAL};
 
 use crate::collection::{Imaged, image_of};
-use crate::ending::Stop;
+use crate::ending::RunStop;
 use crate::opening::open_image;
 use crate::words::trial_of;
 use cs_base::{MemStore, Memory, Plan, Sink};
@@ -29,8 +29,8 @@ use cs_trial::{Counts, collection, requests, summary_bytes};
 use std::alloc::Global;
 
 /// Puts the summary of a trial.
-pub(crate) fn trial<'a, O: Sink>(alloc: Global, number: &str, out: &mut O) -> Result<(), Stop<'a>>
-    requires { is_number 4 1000 number.now ≡ true }
+pub(crate) fn trial<'a, O: Sink>(alloc: Global, number: &str, out: &mut O) -> Result<(), RunStop<'a>>
+    requires { is_number MAX_TRIAL_DIGITS MAX_TRIAL number.now ≡ true }
 
     ensures ends { TrialEnds (ended result) number.now (wrote O.written O.faults out.old out.new) }
     ensures caused { CausedBy (ended result) (O.faults out.old) (O.faults out.new) }

@@ -2,12 +2,15 @@
 ghost use Rattle.std.specs.Prelude.{◌≡◌, ◌≤◌, true, map, ◌&&◌, nat_lt, nat_le};
 ghost use Rattle.std.specs.Option.{ForSome, option_map};
 ghost use Rattle.std.specs.String.{string_bytes};
+ghost use Rattle.cs_base.specs.declared.content.limits.TheConstants.{MAX_PORT_DIGITS, MAX_PORT, MAX_CONNECTIONS_DIGITS, MAX_CONNECTIONS, MAX_TRIAL_DIGITS, MAX_TRIAL};
 ghost use Rattle.cs_model.specs.Parameters.{number_of};
 ghost use Rattle.cs_top.specs.CommandLine.{command_of, two_words, serve_words, trial_words, is_number};
-ghost use Rattle.cs_top.specs.Views.{HasNumbers, seen};
+ghost use Rattle.cs_top.specs.Views.{HasNumbers, seen_command};
 
+use cs_base::{
+    MAX_CONNECTIONS, MAX_CONNECTIONS_DIGITS, MAX_PORT, MAX_PORT_DIGITS, MAX_TRIAL, MAX_TRIAL_DIGITS,
+};
 use cs_text::{has_digits, number_of};
-use cs_trial::MAX_TRIAL;
 
 /// What the words ask for.
 #[derive(Clone, Copy, Debug, PartialEq, Eq)]
@@ -51,7 +54,7 @@ pub(crate) enum Command<'a> {
 
 /// The command; None where the words aren't in the table.
 pub(crate) fn command_of(words: &[String]) -> Option<Command<'_>>
-    ensures seen { option_map seen result ≡ command_of (map string_bytes words.now) }
+    ensures seen { option_map seen_command result ≡ command_of (map string_bytes words.now) }
     ensures numbers { ForSome result HasNumbers }
 {
     match words {
@@ -68,7 +71,7 @@ pub(crate) fn command_of(words: &[String]) -> Option<Command<'_>>
 }
 
 fn two_words<'a>(command: &str, first: &'a str, second: &'a str) -> Option<Command<'a>>
-    ensures seen { option_map seen result ≡ two_words command.now first.now second.now }
+    ensures seen { option_map seen_command result ≡ two_words command.now first.now second.now }
     ensures numbers { ForSome result HasNumbers }
 {
     match command {
@@ -89,10 +92,10 @@ fn two_words<'a>(command: &str, first: &'a str, second: &'a str) -> Option<Comma
 }
 
 fn serve<'a>(command: &str, index: &'a str, port: &'a str, conns: &'a str) -> Option<Command<'a>>
-    ensures seen { option_map seen result ≡ serve_words command.now index.now port.now conns.now }
+    ensures seen { option_map seen_command result ≡ serve_words command.now index.now port.now conns.now }
     ensures numbers { ForSome result HasNumbers }
 {
-    if command == "serve" && is_number(port, 5, 65_535) && is_number(conns, 7, 1_000_000) {
+    if command == "serve" && is_number(port, MAX_PORT_DIGITS, MAX_PORT) && is_number(conns, MAX_CONNECTIONS_DIGITS, MAX_CONNECTIONS) {
         Some(Command::Serve { index, port, conns })
     } else {
         None
@@ -100,10 +103,10 @@ fn serve<'a>(command: &str, index: &'a str, port: &'a str, conns: &'a str) -> Op
 }
 
 fn trial<'a>(command: &str, number: &'a str) -> Option<Command<'a>>
-    ensures seen { option_map seen result ≡ trial_words command.now number.now }
+    ensures seen { option_map seen_command result ≡ trial_words command.now number.now }
     ensures numbers { ForSome result HasNumbers }
 {
-    if command == "trial" && is_number(number, 4, MAX_TRIAL) {
+    if command == "trial" && is_number(number, MAX_TRIAL_DIGITS, MAX_TRIAL) {
         Some(Command::Trial { number })
     } else {
         None
@@ -112,7 +115,7 @@ fn trial<'a>(command: &str, number: &'a str) -> Option<Command<'a>>
 
 /// The port of its word.
 pub(crate) fn port_of(word: &str) -> u16
-    requires { is_number 5 65535 word.now ≡ true }
+    requires { is_number MAX_PORT_DIGITS MAX_PORT word.now ≡ true }
 
     ensures { result ≡ number_of word.now }
 {
@@ -121,7 +124,7 @@ pub(crate) fn port_of(word: &str) -> u16
 
 /// The number of connections of its word.
 pub(crate) fn conns_of(word: &str) -> u32
-    requires { is_number 7 1000000 word.now ≡ true }
+    requires { is_number MAX_CONNECTIONS_DIGITS MAX_CONNECTIONS word.now ≡ true }
 
     ensures { result ≡ number_of word.now }
 {
@@ -130,7 +133,7 @@ pub(crate) fn conns_of(word: &str) -> u32
 
 /// The number of a trial by its word.
 pub(crate) fn trial_of(word: &str) -> u32
-    requires { is_number 4 1000 word.now ≡ true }
+    requires { is_number MAX_TRIAL_DIGITS MAX_TRIAL word.now ≡ true }
 
     ensures value { result ≡ number_of word.now }
     ensures some { 1 ≤ result }
@@ -141,7 +144,7 @@ pub(crate) fn trial_of(word: &str) -> u32
 
 // Whether a word is 1 to so many digits, and their number from 1 to `greatest`.
 fn is_number(word: &str, digits: usize, greatest: u32) -> bool
-    requires { digits ≤ 7 }
+    requires { digits ≤ MAX_CONNECTIONS_DIGITS }
 
     ensures { result ≡ is_number digits greatest word.now }
 {

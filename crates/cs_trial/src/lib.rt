@@ -14,6 +14,6 @@ mod tests;
 mod typing;
 
 pub use counts::{Counts, summary_bytes};
-pub use lines::{MAX_TRIAL, collection};
+pub use lines::collection;
 pub use plain::requests;
 pub use typing::texts;

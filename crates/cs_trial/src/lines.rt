@@ -1,17 +1,14 @@
 //! The collection of a trial.
 ghost use Rattle.std.specs.Prelude.{◌≡◌, ◌≤◌, ◌++◌, [], ◌∷◌, ◌==◌, length, replicate, if◌then◌else◌, IfOk, OnOk};
+ghost use Rattle.cs_base.specs.declared.content.limits.TheConstants.{MAX_TRIAL};
 ghost use Rattle.cs_model_trial.specs.Generator.{behind, collection, draws, line_bounds, spaced, trial_line};
 ghost use Rattle.cs_model_trial.specs.declared.sizes.TheConstants.{WORDS};
-ghost use Rattle.cs_trial.specs.declared.lines.TheConstants.{MAX_TRIAL};
 
 use crate::draws::Draws;
 use crate::syllables::{put_word, syllable};
 use cs_base::Memory;
 use cs_model_trial::{LINES, SYLLABLES, TEXT_WORDS, TITLE_WORDS, WORDS};
 use std::alloc::Global;
-
-/// The greatest number of a trial.
-pub const MAX_TRIAL: u32 = 1000;
 
 // the bytes of a syllable, and of a word with what stands behind it
 const SYLLABLE_BYTES: u32 = 2;

@@ -1,13 +1,12 @@
 //! What the texts of a trial ask.
 ghost use Rattle.std.specs.Prelude.{◌≡◌, ◌≤◌, All, IfOk, map};
+ghost use Rattle.cs_base.specs.declared.content.limits.TheConstants.{MAX_TRIAL};
 ghost use Rattle.cs_model.specs.Parameters.{HoldsLimits};
 ghost use Rattle.cs_model_trial.specs.Sessions.{plain_request};
 ghost use Rattle.cs_model_trial.specs.Sessions.{texts as all_texts};
 ghost use Rattle.cs_query.specs.RequestView.{asked};
 ghost use Rattle.cs_trial.specs.Typed.{IsTyped};
-ghost use Rattle.cs_trial.specs.declared.lines.TheConstants.{MAX_TRIAL};
 
-use crate::lines::MAX_TRIAL;
 use crate::typing::texts;
 use cs_base::{DEFAULT_COMPLETIONS, DEFAULT_HITS, Memory, Seq, Text};
 use cs_query::{QueryFault, Request, parse};

@@ -1,13 +1,12 @@
 //! The texts that are typed over a trial's collection.
 ghost use Rattle.std.specs.Prelude.{◌≡◌, ◌≤◌, ◌<◌, ◌+◌, ◌*◌, ◌++◌, length, map, take, IsAscii, IfOk, OnOk};
 ghost use Rattle.std.specs.List.{range_with_len};
+ghost use Rattle.cs_base.specs.declared.content.limits.TheConstants.{MAX_TRIAL};
 ghost use Rattle.cs_model_trial.specs.Generator.{line_count};
 ghost use Rattle.cs_model_trial.specs.Sessions.{session_at, text_word, texts};
 ghost use Rattle.cs_model_trial.specs.declared.sizes.TheConstants.{TEXT_WORDS, TYPED_LETTERS};
-ghost use Rattle.cs_trial.specs.declared.lines.TheConstants.{MAX_TRIAL};
 
 use crate::draws::Draws;
-use crate::lines::MAX_TRIAL;
 use crate::syllables::put_word;
 use cs_base::{Memory, Seq, Text};
 use cs_model_trial::{LINES, SESSIONS, TEXT_WORDS, TITLE_WORDS, WORDS};

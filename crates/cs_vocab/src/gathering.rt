@@ -15,7 +15,7 @@ const MAX_SLOTS: usize = 1 << 20;
 
 /// Words of rows, and row by row which of them is its word.
 #[derive(Drop)]
-pub(crate) struct Gathered {
+pub(crate) struct MetWords {
     /// Every word of the rows, some of them more than once.
     pub(crate) words: Vec<Word>,
     /// The index of each row's word among them.
@@ -27,7 +27,7 @@ pub(crate) struct Gathered {
 /// The bytes of a word choose a slot, where the index of the last word that chose it stands. So a word is taken
 /// once more only where another one chose its slot in between: rows whose words were chosen to share a slot make
 /// the gathering longer, up to a word a row, and change nothing else.
-pub(crate) fn gather(alloc: Global, rows: &[Row]) -> Result<Gathered, Memory>
+pub(crate) fn gather(alloc: Global, rows: &[Row]) -> Result<MetWords, Memory>
     requires few { length rows.now ≤ MAX_ROWS }
 
     ensures words { IfOk result (λ g. members_in (slice_cmp nat_cmp) g.words.items ≡ distinct_words rows.now) }
@@ -43,7 +43,7 @@ pub(crate) fn gather(alloc: Global, rows: &[Row]) -> Result<Gathered, Memory>
         slots[slot] = index;
         indices.push(index)?;
     }
-    Ok(Gathered { words, indices })
+    Ok(MetWords { words, indices })
 }
 
 // The index of a word: the one kept for it, else behind all others, where the word is added.

@@ -1,7 +1,7 @@
 -- Inputs on which each of the calls on columns may be run.
 --
 --   ArePosts posts      posts that strictly ascend, with documents and words in the limits
---   AreListed listed    scored documents that strictly ascend, none with a score above what a base keeps
+--   AreScored listed    scored documents that strictly ascend, none with a score above what a base keeps
 --   IsFit inputs        posts, documents and scored documents are such
 use Rattle.std.specs.Prelude.{◌≤◌, ◌<◌, ◌^◌, List, All}
 use Rattle.cs_base.specs.content.Orders.{AreDocs, AreByDoc, AreSorted}
@@ -18,7 +18,7 @@ pub record ArePosts (posts : List Post) : Type 0 where
   pub words : All (λ p. p.word < MAX_WORDS) posts
 
 -- also none
-pub record AreListed (listed : List Scored) : Type 0 where
+pub record AreScored (listed : List Scored) : Type 0 where
   pub sorted : AreByDoc listed
   pub low : All (λ h. h.score ≤ 2 ^ 20) listed
 
@@ -27,5 +27,5 @@ pub record IsFit (i : Inputs) : Type 0 where
   pub rows : ArePosts i.rows.posts
   pub other : ArePosts i.other.posts
   pub docs : AreDocs i.docs.items
-  pub listed : AreListed i.listed
+  pub listed : AreScored i.listed
   pub base : IsBase i.base

@@ -1,6 +1,6 @@
 //! What the calls on columns are run on, and the test that they may be.
 ghost use Rattle.std.specs.Prelude.{◌≡◌, true, IfOk, IfSome};
-ghost use Rattle.timed.specs.Fit.{IsFit, ArePosts, AreListed};
+ghost use Rattle.timed.specs.Fit.{IsFit, ArePosts, AreScored};
 
 use crate::numbers::{posts, ranked};
 use cs_base::{Base, MAX_DOCS, MAX_WORDS, Memory, Scored, Seq};
@@ -72,7 +72,7 @@ fn are_posts(posts: &Cols) -> bool
 
 // Whether the scored documents strictly ascend, and no score is above what a base keeps.
 fn are_listed(listed: &[Scored]) -> bool
-    ensures { result ≡ true → AreListed listed.now }
+    ensures { result ≡ true → AreScored listed.now }
 {
     for i in 0..listed.len() {
         if listed[i].score > 1 << 20 {

@@ -1,4 +1,4 @@
-//! The limits of collections, words, queries, requests and connections.
+//! The limits of collections, words, queries, requests, connections and the command line.
 
 /// The most bytes of a collection.
 pub const MAX_COLLECTION_BYTES: usize = 1 << 28;
@@ -74,3 +74,21 @@ pub const MAX_HEAD_FIELDS: usize = 64;
 
 /// The bytes of a connection that count. Those behind them aren't answered.
 pub const MAX_CONNECTION_BYTES: usize = 1 << 20;
+
+/// The greatest port of the command line.
+pub const MAX_PORT: u32 = 65_535;
+
+/// The most digits of a port on the command line, leading zeros included.
+pub const MAX_PORT_DIGITS: usize = 5;
+
+/// The most connections over a serving's life.
+pub const MAX_CONNECTIONS: u32 = 1_000_000;
+
+/// The most digits of a number of connections on the command line, leading zeros included.
+pub const MAX_CONNECTIONS_DIGITS: usize = 7;
+
+/// The greatest number of a trial.
+pub const MAX_TRIAL: u32 = 1_000;
+
+/// The most digits of a trial's number on the command line, leading zeros included.
+pub const MAX_TRIAL_DIGITS: usize = 4;

@@ -7,7 +7,7 @@ ghost use Rattle.cs_top.specs.Views.{ended};
 mod saving;
 
 use crate::collection::read_image;
-use crate::ending::Stop;
+use crate::ending::RunStop;
 use crate::files::size_of;
 use cs_base::Files;
 use saving::save;
@@ -19,7 +19,7 @@ pub(crate) fn build<'a, F: Files>(
     collection: &'a str,
     index: &'a str,
     files: &mut F,
-) -> Result<(), Stop<'a>>
+) -> Result<(), RunStop<'a>>
     ensures ends { BuildEnds (ended result) collection.now }
     ensures told { ForSome (F.held files.old) (λ h. BuildTold (ended result) h collection.now index.now (F.held files.new)) }
     ensures caused { CausedBy (ended result) (F.faults files.old) (F.faults files.new) }

@@ -9,7 +9,7 @@ ghost use Rattle.cs_top.specs.Build.{IsBegun};
 ghost use Rattle.cs_top.specs.CommandLine.{CausedBy};
 ghost use Rattle.cs_top.specs.Views.{IsDevice, stop_ending};
 
-use crate::ending::Stop;
+use crate::ending::RunStop;
 use cs_base::{Failed, FileSink, Files};
 use cs_file::{Image, WriteFault, write_index};
 use std::alloc::Global;
@@ -20,7 +20,7 @@ pub(crate) fn save<'a, F: Files>(
     image: &Image,
     files: &mut F,
     name: &str,
-) -> Result<(), Stop<'a>>
+) -> Result<(), RunStop<'a>>
     requires { CanBeWritten image.now }
 
     ensures ok { OnOk result (Sets (F.held files.old) name.now (λ _. whole_file (file image.now)) (F.held files.new)) }
@@ -41,7 +41,7 @@ fn put_image<'a, F: Files>(
     image: &Image,
     files: &mut F,
     name: &str,
-) -> Result<(), Stop<'a>>
+) -> Result<(), RunStop<'a>>
     requires writable { CanBeWritten image.now }
     requires is_held { ForSome (F.held files.old) (λ h. is_some (fin.get h name.now) ≡ true) }
 
@@ -56,7 +56,7 @@ fn put_image<'a, F: Files>(
     let mut sink = FileSink::new(files, name);
     match write_index(alloc, image, &mut sink) {
         Ok(()) => Ok(()),
-        Err(WriteFault::Sink) => Err(Stop::Failed),
-        Err(WriteFault::Memory) => Err(Stop::Memory),
+        Err(WriteFault::Sink) => Err(RunStop::Failed),
+        Err(WriteFault::Memory) => Err(RunStop::Memory),
     }
 }

@@ -2,7 +2,7 @@ use Rattle.std.proofs.Common.{◌≡◌, ℕ, ◌+◌, ◌-◌, true, length, ta
 use Rattle.std.proofs.lemmas.List.{length-take, length-drop}
 use Rattle.cs_base.specs.declared.content.doc.Post.{Post}
 use Rattle.cs_model_index.specs.BlockRules.{is_after}
-use Rattle.cs_block.specs.ColumnsView.{seen}
+use Rattle.cs_block.specs.ColumnsView.{seen_columns}
 use Rattle.cs_block.specs.Pass.{HasPushed}
 use Rattle.cs_block.specs.Runs.{row_in}
 use Rattle.cs_block.proofs.RunsLemmas.{docs_onward, is_run, pushes_run}
@@ -12,7 +12,7 @@ pub returns-clause-pushed : goal.returns-clause-pushed
 returns-clause-pushed c =
     let head = c.args.head.now in
     let docs = c.args.docs in
-    let cols = seen c.args.columns.now in
+    let cols = seen_columns c.args.columns.now in
     let from = c.args.from in
     let n = length c.args.run_docs.now in
     let k = n - 1 in

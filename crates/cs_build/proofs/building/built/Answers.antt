@@ -5,7 +5,7 @@ use Rattle.cs_cols.specs.declared.cols.Cols.{Cols}
 use Rattle.cs_base.specs.declared.content.limits.TheConstants.{MAX_ROWS}
 use Rattle.cs_model_index.specs.Images.{count_in}
 use Rattle.cs_vocab.specs.Ranges.{AreNumbers}
-use Rattle.cs_build.specs.Runs.{AreParted, AreSpans, is_within, posts_by, head_by}
+use Rattle.cs_build.specs.Runs.{AreParted, AreSpans, is_within, posts_by, run_head}
 use Rattle.cs_build.proofs.AssembleLemmas.{spans_kept, few_kept, counted_kept, inside_kept, rows_kept, as_many, image_made}
 use Rattle.cs_build.proofs.building.built.Goals as goal
 
@@ -55,6 +55,6 @@ returns-clause-ok c =
     c.in_ok-runs.ensures c.args.rows.now (subst (λ ns. AreNumbers c.in_ok-words.field-0.words ns (map (λ r. r.word) c.args.rows.now)) (sym c.as_slice.ensures) c.in_ok-words.ensures.numbers) in
     let b : map (λ (b : Cols). b.posts) c.in_ok-blocks.blocks.items ≡ map (λ run. filter (is_within run) (posts_by c.args.rows.now c.in_ok-words.field-0.numbers)) c.in_ok-runs.runs.items =
     rw (c.as_slice-2.ensures, c.as_slice-3.ensures, c.deref.ensures.value) at c.in_ok-blocks.ensures in
-    let h : c.in_ok-heads.heads.items ≡ map (head_by c.in_ok-words.field-0.words) (zip c.in_ok-runs.runs.items (map (λ (b : Cols). b.posts) c.in_ok-blocks.blocks.items)) =
+    let h : c.in_ok-heads.heads.items ≡ map (run_head c.in_ok-words.field-0.words) (zip c.in_ok-runs.runs.items (map (λ (b : Cols). b.posts) c.in_ok-blocks.blocks.items)) =
     rw (c.deref-2.ensures.value, c.deref-3.ensures.value) at c.in_ok-heads.ensures in
     rw (c.from_vec.ensures, c.from_vec-2.ensures) (image_made c.in_ok-words.field-0.words c.args.rows.now c.in_ok-words.field-0.numbers c.args.target c.in_ok-runs.runs.items c.in_ok-words.ensures.words c.in_ok-words.ensures.numbers p c.in_ok-blocks.blocks.items b c.in_ok-heads.heads.items c.args.titles h)

@@ -6,7 +6,7 @@ use Rattle.cs_base.specs.content.Members.{members_in}
 use Rattle.cs_base.specs.content.Orders.{by_row}
 use Rattle.cs_base.proofs.OrdersLemmas.{by_row_total, by_row_exact}
 use Rattle.cs_vocab.proofs.SortedRefs.{listed_refs}
-use Rattle.cs_build.specs.Ordering.{row_at}
+use Rattle.cs_build.specs.Ordering.{row_of_spot}
 use Rattle.cs_build.specs.contracts.ordering.SpotOrd.TheImpl.Laws.{matches_eq-law}
 use Rattle.cs_build.proofs.OrderLemmas.{in_their_order, spot_of}
 use Rattle.cs_build.proofs.ordering.in_order.Goals as goal
@@ -16,13 +16,13 @@ returns-then-are_sorted-clause-ok c = in_their_order c.args.rows (subst (IsStric
 
 pub returns : goal.returns
 returns c =
-    let listed : map row_at c.dedup.new.self.items ≡ members_in by_row (map row_at c.in_ok-spots.spots.items) =
-    listed_refs row_at by_row_total by_row_exact _ (λ x y. matches_eq-law (spot_of x) (spot_of y)) c.in_ok-spots.spots.items c.sort.new.self.items c.dedup.new.self.items c.in_ok-sort.ensures.permutation c.in_ok-sort.ensures.sorted c.dedup.ensures.filtered in
-    let many : length (map row_at c.dedup.new.self.items) ≤ length c.args.rows = omega (
+    let listed : map row_of_spot c.dedup.new.self.items ≡ members_in by_row (map row_of_spot c.in_ok-spots.spots.items) =
+    listed_refs row_of_spot by_row_total by_row_exact _ (λ x y. matches_eq-law (spot_of x) (spot_of y)) c.in_ok-spots.spots.items c.sort.new.self.items c.dedup.new.self.items c.in_ok-sort.ensures.permutation c.in_ok-sort.ensures.sorted c.dedup.ensures.filtered in
+    let many : length (map row_of_spot c.dedup.new.self.items) ≤ length c.args.rows = omega (
       arith,
-      length-map c.dedup.new.self.items row_at,
+      length-map c.dedup.new.self.items row_of_spot,
       ap length c.in_ok-spots.ensures,
-      length-map c.in_ok-spots.spots.items row_at,
+      length-map c.in_ok-spots.spots.items row_of_spot,
       c.in_ok-sort.ensures.len,
       c.dedup.ensures.bound,
       c.dedup.new.self.ok,

@@ -1,7 +1,7 @@
 use Rattle.std.proofs.Common.{◌≡◌, ◌+◌, ◌-◌, length, length-drop, take, drop, sym, ap, ◌∙◌, arith}
 use Rattle.std.specs.List.{position_or_len}
 use Rattle.std.proofs.lemmas.List.{take_all}
-use Rattle.cs_model_index.specs.Partitions.{is_colon}
+use Rattle.cs_model.specs.Collection.{is_colon}
 use Rattle.cs_build.proofs.KindLemmas.{kind_at}
 use Rattle.cs_build.proofs.parting.kind.Goals as goal
 

@@ -5,14 +5,14 @@ use Rattle.std.proofs.lemmas.List.Elements.{All-get_or, All-append}
 use Rattle.cs_base.specs.declared.content.doc.Doc.{Doc}
 use Rattle.cs_base.specs.declared.content.doc.Row.{Row}
 use Rattle.cs_model.specs.Corpus.{rows_of}
-use Rattle.cs_docs.specs.Listing.{listed_doc, listed_rows, HasText}
-use Rattle.cs_docs.specs.Pieces.{IsAccepted}
+use Rattle.cs_docs.specs.Listing.{listed_doc, listed_rows, HasUtf8Word}
+use Rattle.cs_docs.specs.Pieces.{CanBeListed}
 use Rattle.cs_docs.proofs.AcceptedLemmas.{accepted_docs, few_docs}
 use Rattle.cs_docs.proofs.ListingLemmas.{listed_next, rows_listed}
 use Rattle.cs_docs.proofs.row_list.rows_of.Goals as goal
 
-text_more : (rows new doc : List Row) → All HasText rows → All HasText doc → new ≡ rows ++ doc → All HasText new
-text_more rows new doc h g e = subst (All HasText) (sym e) (All-append HasText rows doc h g)
+text_more : (rows new doc : List Row) → All HasUtf8Word rows → All HasUtf8Word doc → new ≡ rows ++ doc → All HasUtf8Word new
+text_more rows new doc h g e = subst (All HasUtf8Word) (sym e) (All-append HasUtf8Word rows doc h g)
 
 -- one more document
 next_rows : (docs : List Doc) (i : ℕ) (doc : Doc) (rows new : List Row) → i < length docs → doc ≡ get_or docs i doc → new ≡ rows ++ listed_doc (i, doc) → listed_rows 0 docs ≡ rows ++ listed_rows i (drop i docs)
@@ -34,7 +34,7 @@ push_doc-requires c =
     let doc = c.doc-item.result in
     let l : c.loop-number.number < length docs = omega (arith, ap length c.as_slice-doc-items.ensures) in
     let e : doc ≡ get_or docs c.loop-number.number doc = c.doc-item.is ∙ ap (λ ds. get_or ds c.loop-number.number doc) c.as_slice-doc-items.ensures in
-    subst IsAccepted (sym e) (All-get_or IsAccepted docs c.loop-number.number doc l (accepted_docs c.requires.read.0 docs c.requires.read.1 c.requires.read.2))
+    subst CanBeListed (sym e) (All-get_or CanBeListed docs c.loop-number.number doc l (accepted_docs c.requires.read.0 docs c.requires.read.1 c.requires.read.2))
 
 pub returns-then-len-gt-MAX_ROWS-clause-too_many : goal.returns-then-len-gt-MAX_ROWS-clause-too_many
 returns-then-len-gt-MAX_ROWS-clause-too_many c =

@@ -1,11 +1,11 @@
 use Rattle.std.proofs.Common.{◌≡◌, ◌++◌, List, map, take, length}
 use Rattle.cs_base.specs.declared.content.doc.Post.{Post}
-use Rattle.cs_engine.specs.Loose.{HasBest}
-use Rattle.cs_engine.specs.Packing.{post_of}
+use Rattle.cs_engine.specs.Loose.{HasBestScores}
+use Rattle.cs_engine.specs.Packing.{post_of_key}
 use Rattle.cs_engine.proofs.best.raise_all.Given as goal
 
 abbrev pub invariant-loop-key : goal.invariant-loop-key
 invariant-loop-key l = record {
-  best : (seen : List Post) → HasBest seen l.fn.best → HasBest (seen ++ map post_of (take l.key-index l.keys)) l.best;
+  best : (seen : List Post) → HasBestScores seen l.fn.best → HasBestScores (seen ++ map post_of_key (take l.key-index l.keys)) l.best;
   len : length l.best ≡ length l.fn.best;
 }

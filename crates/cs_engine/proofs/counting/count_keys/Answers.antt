@@ -2,7 +2,7 @@ use Rattle.std.proofs.Common.{◌≡◌, ◌∙◌, ap, refl, subst, map, take, 
 use Rattle.std.proofs.lemmas.List.{take_all}
 use Rattle.cs_base.specs.declared.content.doc.Post.{Post}
 use Rattle.cs_tables.specs.WordCounts.{HasCounted}
-use Rattle.cs_engine.specs.Packing.{post_of}
+use Rattle.cs_engine.specs.Packing.{post_of_key}
 use Rattle.cs_engine.proofs.KeysLemmas.{key_counted}
 use Rattle.cs_engine.proofs.counting.count_keys.Goals as goal
 
@@ -28,4 +28,4 @@ loop-key-preserved c = record {
 pub returns-clause-counted : goal.returns-clause-counted
 returns-clause-counted c few none =
     let whole : take c.loop-key.key-index c.args.keys.now ≡ c.args.keys.now = take_all c.loop-key.key-index c.args.keys.now (omega (arith, c.loop-key-test.false)) in
-    subst (λ ks. HasCounted (map post_of ks) c.loop-key.counts) whole (c.loop-key.invariant.counted few none)
+    subst (λ ks. HasCounted (map post_of_key ks) c.loop-key.counts) whole (c.loop-key.invariant.counted few none)

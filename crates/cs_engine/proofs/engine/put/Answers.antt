@@ -1,8 +1,7 @@
 use Rattle.std.proofs.Common.{◌≡◌, ◌∙◌, ap, sym, true≢false}
 use Rattle.std.specs.Prelude.{is_some}
-use Rattle.cs_engine.specs.Keeping.{is_same}
 use Rattle.cs_base.specs.declared.index.plan.Plan.TheVariants.{Same}
-use Rattle.cs_model_kept.specs.KeptList.{is_held, used_key}
+use Rattle.cs_model_kept.specs.KeptList.{is_held, used_key, is_same}
 use Rattle.cs_model_kept.proofs.HeldLemmas.{others_are_new}
 use Rattle.cs_engine.proofs.engine.put.Goals as goal
 

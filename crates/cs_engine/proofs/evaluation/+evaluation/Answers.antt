@@ -5,7 +5,7 @@ use Rattle.cs_base.specs.declared.content.doc.Post.{Post}
 use Rattle.cs_base.specs.declared.content.query.Part.{out-Part}
 use Rattle.cs_base.specs.declared.content.query.Linked.{out-Linked}
 use Rattle.cs_file.specs.Indexes.{IndexView}
-use Rattle.cs_join.specs.Shared.{is_shared, shared}
+use Rattle.cs_join.specs.Shared.{shares_word, shared}
 use Rattle.cs_model_kept.specs.Due.{met_of_chain, met_of_linked, met_of_part}
 use Rattle.cs_engine.specs.Asking.{division}
 use Rattle.cs_engine.specs.Reading.{AreWithin, stock_of}
@@ -100,7 +100,7 @@ rows_of_atom-returns-in_ok-kept-in-Join-clause-told g t c b is stands =
 pub rows_of_atom-returns-in_ok-kept-in-Join-clause-within : goal.rows_of_atom-returns-in_ok-kept-in-Join-clause-within
 rows_of_atom-returns-in_ok-kept-in-Join-clause-within g t c =
     let i = c.args.index.now in
-    subst (AreWithin i) (sym c.in_ok-kept-in-Join.ensures.ok) (kept_within i (is_shared _ c.in_ok-rows-in-Join.rows.posts) c.in_ok-rows-in-Join.rows.posts c.in_ok-rows-in-Join.ensures.within)
+    subst (AreWithin i) (sym c.in_ok-kept-in-Join.ensures.ok) (kept_within i (shares_word _ c.in_ok-rows-in-Join.rows.posts) c.in_ok-rows-in-Join.rows.posts c.in_ok-rows-in-Join.ensures.within)
 
 -- ---- links
 pub rows_of_chain-returns-in_err-next-clause-reads : goal.rows_of_chain-returns-in_err-next-clause-reads

@@ -9,7 +9,7 @@ use Rattle.cs_model.specs.Requests.{reply_of}
 use Rattle.cs_query.specs.RequestView.{asked}
 use Rattle.cs_rank.specs.DocScores.{scores}
 use Rattle.cs_engine.specs.Loose.{AreAlike}
-use Rattle.cs_engine.specs.Packing.{post_of}
+use Rattle.cs_engine.specs.Packing.{post_of_key}
 use Rattle.cs_engine.specs.Reading.{IsWithin, stock_of}
 use Rattle.cs_engine.specs.Steps.{IsBaseOf}
 use Rattle.cs_engine.proofs.LooseLemmas.{loose_table}
@@ -23,7 +23,7 @@ scores_over-requires-clause-known g c =
     let i = c.args.index.now in
     let h = c.requires.keys.gathered in
     let docs = ap (λ (x : IndexView). x.docs) c.index.view_is in
-    subst (λ n. All (λ k. (post_of k).doc < n) c.args.keys.now) (sym docs) (keys_among (λ p. p.doc < i.docs) h.rows c.args.keys.now h.are h.packed (All-weaker (IsWithin i.docs (length i.words)) (λ p. p.doc < i.docs) (λ p w. w.doc) h.rows h.within))
+    subst (λ n. All (λ k. (post_of_key k).doc < n) c.args.keys.now) (sym docs) (keys_among (λ p. p.doc < i.docs) h.rows c.args.keys.now h.are h.packed (All-weaker (IsWithin i.docs (length i.words)) (λ p. p.doc < i.docs) (λ p w. w.doc) h.rows h.within))
 
 pub table_of-requires-clause-between : goal.table_of-requires-clause-between
 table_of-requires-clause-between g c =
@@ -36,7 +36,7 @@ reply_of-requires-clause-base g c =
     let h = c.requires.keys.gathered in
     let n = length (out-Query c.args.request.now.query).parts in
     let few = c.requires.limits.parts in
-    let rows = map post_of c.args.keys.now in
+    let rows = map post_of_key c.args.keys.now in
     let within = subst (All (IsWithin i.docs (length i.words))) (sym (as_they_come h.rows c.args.keys.now h.are h.packed)) h.within in
     subst (λ l. IsBaseOf i.docs (255 * 16) (base.Listed l)) (sym c.in_ok-found.ensures) (base_weaker i.docs (255 * n) (255 * 16) (base.Listed (scores c.args.hits.now rows)) (omega (arith, few)) (scores_in i n c.args.hits.now rows c.requires.asks.some c.requires.asks.base within))
 
@@ -44,7 +44,7 @@ pub returns-clause-told : goal.returns-clause-told
 returns-clause-told g c b is stands by =
     let i = c.args.index.now in
     let h = c.requires.keys.gathered in
-    let rows = map post_of c.args.keys.now in
+    let rows = map post_of_key c.args.keys.now in
     let a = subst (AreAlike (stock_of b) c.args.words.0 c.args.words.1 c.requires.keys.listed) (sym (as_they_come h.rows c.args.keys.now h.are h.packed)) (h.stood b is stands) in
     c.in_ok-reply.ensures.told b is stands
     (loose_table i c.args.request.now.query c.args.hits.now c.args.words.0 c.args.words.1 c.requires.asks c.requires.keys.listed c.requires.keys.has b stands c.requires.index by rows a c.args.request.now.completions c.in_ok-found.found c.in_ok-table.table c.in_ok-found.ensures

@@ -2,7 +2,7 @@ use Rattle.std.proofs.Common.{◌≡◌, ◌∙◌, sym, subst, arith, length}
 use Rattle.std.specs.Prelude.{IfSome}
 use Rattle.cs_base.specs.declared.index.plan.Plan.TheVariants.{Same, Narrow, Extend, Fresh}
 use Rattle.cs_query.specs.RequestView.{asked}
-use Rattle.cs_engine.specs.Asking.{division, titles_of}
+use Rattle.cs_engine.specs.Asking.{division, titles_asked}
 use Rattle.cs_engine.specs.Keeping.{FitsQuery, IsEntryOver}
 use Rattle.cs_engine.proofs.LentLemmas.{due_reads, err_due, all_reads, extend_lent, narrow_lent, narrow_typed, no_reads, same_lent}
 use Rattle.cs_engine.proofs.PlansLemmas.{is_used}
@@ -20,7 +20,7 @@ by_entry-requires-clause-entry g c =
 
 pub returns-in_err-reply-in-Same-clause-reads : goal.returns-in_err-reply-in-Same-clause-reads
 returns-in_err-reply-in-Same-clause-reads g c =
-    due_reads (division c.args.index.now) (asked c.args.request.now) c.args.plan Same (titles_of (asked c.args.request.now) c.from_residual.result) _ (g.S.Store.reads c.args.store.now) _ c.in-Same.is (no_reads 0 _) (let r = c.in_err-reply-in-Same.ensures.reads in let w = r.within in let e = err_due (asked c.args.request.now) c.from_residual.result c.from_residual.ensures.0 in record { later = r.later; within = omega (arith, w, e) })
+    due_reads (division c.args.index.now) (asked c.args.request.now) c.args.plan Same (titles_asked (asked c.args.request.now) c.from_residual.result) _ (g.S.Store.reads c.args.store.now) _ c.in-Same.is (no_reads 0 _) (let r = c.in_err-reply-in-Same.ensures.reads in let w = r.within in let e = err_due (asked c.args.request.now) c.from_residual.result c.from_residual.ensures.0 in record { later = r.later; within = omega (arith, w, e) })
 
 pub returns-in_ok-reply-in-Same-clause-told : goal.returns-in_ok-reply-in-Same-clause-told
 returns-in_ok-reply-in-Same-clause-told g c b is stands good =
@@ -48,7 +48,7 @@ with_reply-requires-clause-entry g c =
 
 pub returns-in_err-answered-in-Narrow-clause-reads : goal.returns-in_err-answered-in-Narrow-clause-reads
 returns-in_err-answered-in-Narrow-clause-reads g c =
-    due_reads (division c.args.index.now) (asked c.args.request.now) c.args.plan (Narrow c.in-Narrow.cut) (titles_of (asked c.args.request.now) c.from_residual-in_err-answered-in-Narrow.result) _ (g.S.Store.reads c.args.store.now) _ c.in-Narrow.is (no_reads 0 _) (let r = c.in_err-answered-in-Narrow.ensures.reads in let w = r.within in let e = err_due (asked c.args.request.now) c.from_residual-in_err-answered-in-Narrow.result c.from_residual-in_err-answered-in-Narrow.ensures.0 in record { later = r.later; within = omega (arith, w, e) })
+    due_reads (division c.args.index.now) (asked c.args.request.now) c.args.plan (Narrow c.in-Narrow.cut) (titles_asked (asked c.args.request.now) c.from_residual-in_err-answered-in-Narrow.result) _ (g.S.Store.reads c.args.store.now) _ c.in-Narrow.is (no_reads 0 _) (let r = c.in_err-answered-in-Narrow.ensures.reads in let w = r.within in let e = err_due (asked c.args.request.now) c.from_residual-in_err-answered-in-Narrow.result c.from_residual-in_err-answered-in-Narrow.ensures.0 in record { later = r.later; within = omega (arith, w, e) })
 
 pub returns-in_ok-answered-in-Narrow-clause-told : goal.returns-in_ok-answered-in-Narrow-clause-told
 returns-in_ok-answered-in-Narrow-clause-told g c b is stands good =
@@ -87,7 +87,7 @@ answered_by_part-requires-clause-before g c =
 
 pub returns-in_err-answered-in-Extend-clause-reads : goal.returns-in_err-answered-in-Extend-clause-reads
 returns-in_err-answered-in-Extend-clause-reads g c =
-    all_reads (division c.args.index.now) (asked c.args.request.now) c.args.plan Extend (titles_of (asked c.args.request.now) c.from_residual-in_err-answered-in-Extend.result) _ _ c.in-Extend.is (let r = c.in_err-answered-in-Extend.ensures.reads in let w = r.within in let e = err_due (asked c.args.request.now) c.from_residual-in_err-answered-in-Extend.result c.from_residual-in_err-answered-in-Extend.ensures.0 in record { later = r.later; within = omega (arith, w, e) })
+    all_reads (division c.args.index.now) (asked c.args.request.now) c.args.plan Extend (titles_asked (asked c.args.request.now) c.from_residual-in_err-answered-in-Extend.result) _ _ c.in-Extend.is (let r = c.in_err-answered-in-Extend.ensures.reads in let w = r.within in let e = err_due (asked c.args.request.now) c.from_residual-in_err-answered-in-Extend.result c.from_residual-in_err-answered-in-Extend.ensures.0 in record { later = r.later; within = omega (arith, w, e) })
 
 pub returns-in_ok-answered-in-Extend-clause-told : goal.returns-in_ok-answered-in-Extend-clause-told
 returns-in_ok-answered-in-Extend-clause-told g c b is stands good =
@@ -111,7 +111,7 @@ returns-in_ok-answered-in-Extend-clause-reads g c =
 -- ---- all parts
 pub returns-in_err-answered-in-Fresh-clause-reads : goal.returns-in_err-answered-in-Fresh-clause-reads
 returns-in_err-answered-in-Fresh-clause-reads g c =
-    all_reads (division c.args.index.now) (asked c.args.request.now) c.args.plan Fresh (titles_of (asked c.args.request.now) c.from_residual-in_err-answered-in-Fresh.result) _ _ c.in-Fresh.is (let r = c.in_err-answered-in-Fresh.ensures.reads in let w = r.within in let e = err_due (asked c.args.request.now) c.from_residual-in_err-answered-in-Fresh.result c.from_residual-in_err-answered-in-Fresh.ensures.0 in record { later = r.later; within = omega (arith, w, e) })
+    all_reads (division c.args.index.now) (asked c.args.request.now) c.args.plan Fresh (titles_asked (asked c.args.request.now) c.from_residual-in_err-answered-in-Fresh.result) _ _ c.in-Fresh.is (let r = c.in_err-answered-in-Fresh.ensures.reads in let w = r.within in let e = err_due (asked c.args.request.now) c.from_residual-in_err-answered-in-Fresh.result c.from_residual-in_err-answered-in-Fresh.ensures.0 in record { later = r.later; within = omega (arith, w, e) })
 
 pub returns-in_ok-answered-in-Fresh-clause-reads : goal.returns-in_ok-answered-in-Fresh-clause-reads
 returns-in_ok-answered-in-Fresh-clause-reads g c =

@@ -5,7 +5,7 @@ use Rattle.cs_model.specs.First.{unless}
 use Rattle.cs_model_index.specs.FileRules.{break_of, is_sized, laid}
 use Rattle.cs_model_index.specs.Sections.{directory_at}
 use Rattle.cs_model_index.specs.declared.limits.TheConstants.{ENTRY_BYTES}
-use Rattle.cs_file.specs.HeaderView.{seen}
+use Rattle.cs_file.specs.HeaderView.{seen_header}
 use Rattle.cs_file.specs.Opening.{bad_size}
 use Rattle.cs_file.proofs.directory.bad_size.Goals as goal
 
@@ -13,7 +13,7 @@ pub returns : goal.returns
 unfolding bad_size
 returns c =
     let hs = c.args.heads.now in
-    let h = seen c.args.header.now in
+    let h = seen_header c.args.header.now in
     let sums = sum_by (λ h. h.rows) hs == h.rows && sum_by (λ h. h.len) hs == h.blocks_len in
     let first = c.bad_shape.ensures ∙ ap (λ n. break_of (λ i. is_sized i.value) (laid (λ h. ENTRY_BYTES) n None hs)) c.directory_at.ensures.value in
     let last = c.unless.ensures ∙ ap (λ b. unless b c.blocks_at.result) c.has_sums-sums.ensures ∙ ap (unless sums) c.blocks_at.ensures.value in

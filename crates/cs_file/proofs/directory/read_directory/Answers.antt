@@ -1,7 +1,7 @@
 use Rattle.std.proofs.Common.{◌*◌, length, sym, ap, subst, ◌∙◌, arith}
 use Rattle.cs_base.specs.outside.Outside.{part}
 use Rattle.cs_model_index.proofs.NumbersLemmas.{heads_count}
-use Rattle.cs_file.specs.HeaderView.{seen}
+use Rattle.cs_file.specs.HeaderView.{seen_header}
 use Rattle.cs_file.specs.Opening.{Refuses, HasHeads, directory_judged}
 use Rattle.cs_file.proofs.DirectoryLemmas.{directory_is, heads_are, has_heads}
 use Rattle.cs_file.proofs.StagesLemmas.{judged_along, judges_by}
@@ -19,7 +19,7 @@ judge_heads-requires-clause-blocks g c =
 
 pub returns-in_err-judge_heads-clause-exact : goal.returns-in_err-judge_heads-clause-exact
 returns-in_err-judge_heads-clause-exact g c = λ b t.
-    let h = seen c.args.header.now in
+    let h = seen_header c.args.header.now in
     let is = c.requires.told b t in
     let at = c.deref.ensures.value ∙ c.in_ok-bytes.ensures.ok b t ∙ ap (λ n. part b n (16 * h.blocks)) c.directory_at.ensures.value in
     let own = c.in_ok-heads.ensures ∙ heads_are b h c.args.words.now c.deref.result.now is (c.requires.words b t) at in
@@ -29,7 +29,7 @@ returns-in_err-judge_heads-clause-exact g c = λ b t.
 
 pub returns-clause-exact : goal.returns-clause-exact
 returns-clause-exact g c = λ b t.
-    let h = seen c.args.header.now in
+    let h = seen_header c.args.header.now in
     let is = c.requires.told b t in
     let at = c.deref.ensures.value ∙ c.in_ok-bytes.ensures.ok b t ∙ ap (λ n. part b n (16 * h.blocks)) c.directory_at.ensures.value in
     let own = c.in_ok-heads.ensures ∙ heads_are b h c.args.words.now c.deref.result.now is (c.requires.words b t) at in
@@ -38,11 +38,11 @@ returns-clause-exact g c = λ b t.
 
 pub returns-clause-heads : goal.returns-clause-heads
 returns-clause-heads g c = λ b t.
-    let h = seen c.args.header.now in
+    let h = seen_header c.args.header.now in
     let at = c.deref.ensures.value ∙ c.in_ok-bytes.ensures.ok b t ∙ ap (λ n. part b n (16 * h.blocks)) c.directory_at.ensures.value in
     c.from_vec.ensures ∙ c.in_ok-heads.ensures ∙ heads_are b h c.args.words.now c.deref.result.now (c.requires.told b t) (c.requires.words b t) at
 
 pub returns-clause-ruled : goal.returns-clause-ruled
 returns-clause-ruled g c =
-    let h = seen c.args.header.now in
+    let h = seen_header c.args.header.now in
     subst (HasHeads h c.args.words.now) (sym c.from_vec.ensures) (has_heads h c.args.words.now c.in_ok-heads.heads.items c.deref.result.now c.in_ok-heads.ensures (ap (directory_judged h c.args.words.now) (sym c.deref-2.ensures.value) ∙ c.in_ok-judge_heads.ensures.exact))

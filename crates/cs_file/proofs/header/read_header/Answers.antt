@@ -2,7 +2,7 @@ use Rattle.std.proofs.Common.{◌≡◌, ap, ◌∙◌}
 use Rattle.std.specs.Prelude.{nat_le}
 use Rattle.cs_model.specs.First.{unless}
 use Rattle.cs_model_index.specs.Sections.{header_of, size_by}
-use Rattle.cs_file.specs.HeaderView.{seen}
+use Rattle.cs_file.specs.HeaderView.{seen_header}
 use Rattle.cs_file.specs.Opening.{HasHeader}
 use Rattle.cs_file.proofs.HeaderLemmas.{refused_short, rest_is, header_told}
 use Rattle.cs_file.proofs.StagesLemmas.{judged_along, judges_by, caused_along, if_ok_both}
@@ -27,6 +27,6 @@ returns-clause-exact g c = λ b t.
 
 pub returns-clause-told : goal.returns-clause-told
 returns-clause-told g c =
-    if_ok_both c.judge_header.result (λ h. header_of c.deref.result.now ≡ seen h) (λ h. c.in-Ok.size ≡ size_by (seen h)) (λ h. HasHeader (g.S.Store.bytes c.args.store.now) (seen h))
-    (λ h numbers size b t. header_told b c.deref.result.now c.in-Ok.size (seen h) (c.in-Ok.ensures.ok b t) (c.deref.ensures.value ∙ c.in_ok-bytes.ensures.ok b (c.in-Ok.ensures.same ∙ t)) numbers size)
+    if_ok_both c.judge_header.result (λ h. header_of c.deref.result.now ≡ seen_header h) (λ h. c.in-Ok.size ≡ size_by (seen_header h)) (λ h. HasHeader (g.S.Store.bytes c.args.store.now) (seen_header h))
+    (λ h numbers size b t. header_told b c.deref.result.now c.in-Ok.size (seen_header h) (c.in-Ok.ensures.ok b t) (c.deref.ensures.value ∙ c.in_ok-bytes.ensures.ok b (c.in-Ok.ensures.same ∙ t)) numbers size)
     c.judge_header.ensures.numbers c.judge_header.ensures.size

@@ -4,7 +4,7 @@ use Rattle.cs_base.specs.declared.index.block.BlockHead.{BlockHead}
 use Rattle.cs_model_index.specs.Blocks.{IsShaped}
 use Rattle.cs_model_index.specs.FileRules.{tried}
 use Rattle.cs_model_index.specs.Sections.{directory_at}
-use Rattle.cs_file.specs.HeaderView.{seen}
+use Rattle.cs_file.specs.HeaderView.{seen_header}
 use Rattle.cs_file.specs.Indexes.{IndexView}
 use Rattle.cs_file.specs.Opening.{Refuses, blocks_of, HasHeads, HasVocabulary}
 use Rattle.cs_file.specs.Parting.{parts_by}
@@ -44,10 +44,10 @@ returns-in_err-parts-clause-damaged g c = λ b t.
 pub read_blocks-requires-clause-shaped : goal.read_blocks-requires-clause-shaped
 read_blocks-requires-clause-shaped g c =
     subst (λ (hs : List BlockHead). All (λ x. IsShaped x x.len) hs) (sym c.as_slice-2.ensures)
-    (shaped_heads (seen c.in_ok-header.header) c.in_ok-words.words c.in_ok-offsets.offsets c.in_ok-heads.heads c.in_ok-header.ensures.ranges c.in_ok-words.ensures.ruled c.in_ok-offsets.ensures.ruled (subst (λ ws. HasHeads (seen c.in_ok-header.header) ws c.in_ok-heads.heads) c.as_slice.ensures c.in_ok-heads.ensures.ruled))
+    (shaped_heads (seen_header c.in_ok-header.header) c.in_ok-words.words c.in_ok-offsets.offsets c.in_ok-heads.heads c.in_ok-header.ensures.ranges c.in_ok-words.ensures.ruled c.in_ok-offsets.ensures.ruled (subst (λ ws. HasHeads (seen_header c.in_ok-header.header) ws c.in_ok-heads.heads) c.as_slice.ensures c.in_ok-heads.ensures.ruled))
 
 pub read_blocks-requires-clause-rows : goal.read_blocks-requires-clause-rows
-read_blocks-requires-clause-rows g c = few_rows (seen c.in_ok-header.header) c.in_ok-words.words c.as_slice-2.result.now c.in_ok-header.ensures.ranges (subst (HasHeads (seen c.in_ok-header.header) c.in_ok-words.words) (sym c.as_slice-2.ensures) (subst (λ ws. HasHeads (seen c.in_ok-header.header) ws c.in_ok-heads.heads) c.as_slice.ensures c.in_ok-heads.ensures.ruled))
+read_blocks-requires-clause-rows g c = few_rows (seen_header c.in_ok-header.header) c.in_ok-words.words c.as_slice-2.result.now c.in_ok-header.ensures.ranges (subst (HasHeads (seen_header c.in_ok-header.header) c.in_ok-words.words) (sym c.as_slice-2.ensures) (subst (λ ws. HasHeads (seen_header c.in_ok-header.header) ws c.in_ok-heads.heads) c.as_slice.ensures c.in_ok-heads.ensures.ruled))
 
 pub returns-in_err-tried-clause-damaged : goal.returns-in_err-tried-clause-damaged
 returns-in_err-tried-clause-damaged g c = λ b t.
@@ -55,7 +55,7 @@ returns-in_err-tried-clause-damaged g c = λ b t.
     let t2 = c.in_ok-words.ensures.bytes ∙ t1 in
     let t3 = c.in_ok-offsets.ensures.bytes ∙ t2 in
     let t4 = c.in_ok-heads.ensures.bytes ∙ t3 in
-    let h = seen c.in_ok-header.header in
+    let h = seen_header c.in_ok-header.header in
     let is = c.in_ok-header.ensures.told b t in
     let heads = c.as_slice-2.ensures ∙ c.in_ok-heads.ensures.heads b t3 in
     let parts = c.in_ok-parts.ensures.parts b t4 ∙ ap (λ hs. parts_by hs (blocks_of b)) heads in
@@ -69,7 +69,7 @@ returns-in_err-tried-clause-damaged g c = λ b t.
 -- what is kept
 pub invariant_of-result : goal.invariant_of-result
 invariant_of-result g c =
-    let h = seen c.in_ok-header.header in
+    let h = seen_header c.in_ok-header.header in
     let i : IndexView = record { docs = c.in_ok-header.header.docs; words = c.from_words.result; offsets = c.in_ok-offsets.offsets; heads = c.in_ok-heads.heads; target = c.in_ok-header.header.target; titles_at = c.titles_at.result; blocks_at = c.blocks_at.result } in
     let words = c.from_words.ensures in
     let kept : Kept h i = record {
@@ -90,7 +90,7 @@ returns-clause-ok g c = λ b t.
     let t2 = c.in_ok-words.ensures.bytes ∙ t1 in
     let t3 = c.in_ok-offsets.ensures.bytes ∙ t2 in
     let t4 = c.in_ok-heads.ensures.bytes ∙ t3 in
-    let h = seen c.in_ok-header.header in
+    let h = seen_header c.in_ok-header.header in
     let is = c.in_ok-header.ensures.told b t in
     let heads = c.as_slice-2.ensures ∙ c.in_ok-heads.ensures.heads b t3 in
     let parts = c.in_ok-parts.ensures.parts b t4 ∙ ap (λ hs. parts_by hs (blocks_of b)) heads in
@@ -112,7 +112,7 @@ returns-clause-ok g c = λ b t.
 
 pub returns-clause-fits : goal.returns-clause-fits
 returns-clause-fits g c =
-    let h = seen c.in_ok-header.header in
+    let h = seen_header c.in_ok-header.header in
     let i : IndexView = record { docs = c.in_ok-header.header.docs; words = c.from_words.result; offsets = c.in_ok-offsets.offsets; heads = c.in_ok-heads.heads; target = c.in_ok-header.header.target; titles_at = c.titles_at.result; blocks_at = c.blocks_at.result } in
     let words = c.from_words.ensures in
     let kept : Kept h i = record {

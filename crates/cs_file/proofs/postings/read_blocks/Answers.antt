@@ -1,5 +1,5 @@
 use Rattle.std.proofs.Common.{◌≡◌, ◌+◌, [], ◌∷◌, length, slice_index_or, refl, sym, ap, subst, ◌∙◌, arith, length-append}
-use Rattle.cs_file.specs.HeaderView.{seen}
+use Rattle.cs_file.specs.HeaderView.{seen_header}
 use Rattle.cs_model_index.specs.Sections.{blocks_at}
 use Rattle.cs_file.proofs.BytesLemmas.{no_bytes}
 use Rattle.cs_file.proofs.FetchLemmas.{nothing}
@@ -9,8 +9,8 @@ use Rattle.cs_file.proofs.postings.read_blocks.Goals as goal
 
 pub loop-i-init : goal.loop-i-init
 loop-i-init g c = record {
-  told = λ b t. reading b (seen c.args.header.now) c.args.heads.now c.blocks_at-at.result c.in_ok-parts.parts.items (c.requires.told b t) (c.requires.heads b t) c.blocks_at-at.ensures.value c.in_ok-parts.ensures;
-  small = λ b t. no_bytes b (blocks_at (seen c.args.header.now));
+  told = λ b t. reading b (seen_header c.args.header.now) c.args.heads.now c.blocks_at-at.result c.in_ok-parts.parts.items (c.requires.told b t) (c.requires.heads b t) c.blocks_at-at.ensures.value c.in_ok-parts.ensures;
+  small = λ b t. no_bytes b (blocks_at (seen_header c.args.header.now));
   place = omega (arith, c.blocks_at-at.ensures.value);
   count = ap length c.in_ok-parts.ensures;
   same = refl;
@@ -20,13 +20,13 @@ loop-i-init g c = record {
 
 pub returns-in_err-part-clause-exact : goal.returns-in_err-part-clause-exact
 returns-in_err-part-clause-exact g c = λ b t.
-    judged_along _ _ c.from_residual-in_err-part.result (read_refused b (seen c.args.header.now) c.args.heads.now c.loop-i.i c.loop-i.at c.loop-i.parts.items c.in_err-part.field-0.0 c.loop-i-test.true (c.in_err-part.ensures.exact b (c.loop-i.invariant.same ∙ t)) (c.loop-i.invariant.told b t))
+    judged_along _ _ c.from_residual-in_err-part.result (read_refused b (seen_header c.args.header.now) c.args.heads.now c.loop-i.i c.loop-i.at c.loop-i.parts.items c.in_err-part.field-0.0 c.loop-i-test.true (c.in_err-part.ensures.exact b (c.loop-i.invariant.same ∙ t)) (c.loop-i.invariant.told b t))
     c.from_residual-in_err-part.ensures.1
 
 pub loop-i-preserved : goal.loop-i-preserved
 loop-i-preserved g c =
     let hs = c.args.heads.now in
-    let h = seen c.args.header.now in
+    let h = seen_header c.args.header.now in
     let len = c.from-at.ensures in
     let next : c.loop-i.at + (slice_index_or hs c.loop-i.i nothing).len ≡ c.loop-i.at + c.from-at.result = ap (λ n. c.loop-i.at + n) (sym len) in
     record {
@@ -41,10 +41,10 @@ loop-i-preserved g c =
     }
 
 pub returns-clause-exact : goal.returns-clause-exact
-returns-clause-exact g c = λ b t. (read_all b (seen c.args.header.now) c.args.heads.now c.loop-i.i c.loop-i.at c.loop-i.parts.items c.loop-i-test.false (c.loop-i.invariant.told b t)).0
+returns-clause-exact g c = λ b t. (read_all b (seen_header c.args.header.now) c.args.heads.now c.loop-i.i c.loop-i.at c.loop-i.parts.items c.loop-i-test.false (c.loop-i.invariant.told b t)).0
 
 pub returns-clause-parts : goal.returns-clause-parts
-returns-clause-parts g c = λ b t. (read_all b (seen c.args.header.now) c.args.heads.now c.loop-i.i c.loop-i.at c.loop-i.parts.items c.loop-i-test.false (c.loop-i.invariant.told b t)).1
+returns-clause-parts g c = λ b t. (read_all b (seen_header c.args.header.now) c.args.heads.now c.loop-i.i c.loop-i.at c.loop-i.parts.items c.loop-i-test.false (c.loop-i.invariant.told b t)).1
 
 pub returns-clause-small : goal.returns-clause-small
-returns-clause-small g c = λ b t. block_bytes_all b c.args.heads.now (blocks_at (seen c.args.header.now)) c.loop-i.i c.args.header.now.blocks_len c.loop-i-test.false c.requires.bytes (c.loop-i.invariant.small b t)
+returns-clause-small g c = λ b t. block_bytes_all b c.args.heads.now (blocks_at (seen_header c.args.header.now)) c.loop-i.i c.args.header.now.blocks_len c.loop-i-test.false c.requires.bytes (c.loop-i.invariant.small b t)

@@ -4,28 +4,28 @@ use Rattle.cs_base.specs.outside.Outside.{part}
 use Rattle.cs_model.specs.First.{unless}
 use Rattle.cs_model_index.specs.FileRules.{tried}
 use Rattle.cs_model_index.specs.Sections.{titles_at}
-use Rattle.cs_file.specs.HeaderView.{seen}
+use Rattle.cs_file.specs.HeaderView.{seen_header}
 use Rattle.cs_file.specs.Opening.{Refuses}
 use Rattle.cs_file.proofs.StagesLemmas.{judged_along}
 use Rattle.cs_file.proofs.TitleStageLemmas.{title_bytes_begun, title_bytes_on, title_bytes_all, title_lies, title_told, titles_begun, titles_on, title_refused, titles_done}
 use Rattle.cs_file.proofs.titles.judge_titles.Goals as goal
 
 pub loop-doc-init : goal.loop-doc-init
-loop-doc-init g c = record { told = λ b t. titles_begun b (seen c.args.header.now) c.args.offsets.now c.requires.ruled; small = λ b t. title_bytes_begun b (seen c.args.header.now) c.args.offsets.now c.requires.ruled; same = refl; lent = refl; quiet = refl }
+loop-doc-init g c = record { told = λ b t. titles_begun b (seen_header c.args.header.now) c.args.offsets.now c.requires.ruled; small = λ b t. title_bytes_begun b (seen_header c.args.header.now) c.args.offsets.now c.requires.ruled; same = refl; lent = refl; quiet = refl }
 
 pub overflow_sub-len : goal.overflow_sub-len
-overflow_sub-len g c = (title_lies (seen c.args.header.now) c.args.offsets.now c.loop-doc.doc c.requires.ruled c.loop-doc-test.true).onward
+overflow_sub-len g c = (title_lies (seen_header c.args.header.now) c.args.offsets.now c.loop-doc.doc c.requires.ruled c.loop-doc-test.true).onward
 
 pub judge_title-requires-clause-within : goal.judge_title-requires-clause-within
 judge_title-requires-clause-within g c = λ b t.
-    let h = seen c.args.header.now in
+    let h = seen_header c.args.header.now in
     let told = title_told b h c.args.offsets.now c.loop-doc.doc (c.requires.told b (sym c.loop-doc.invariant.same ∙ t)) (c.requires.offsets b (sym c.loop-doc.invariant.same ∙ t)) c.requires.ruled c.loop-doc-test.true in
     let within = told.within in
     omega (arith, within, c.titles_at-first.ensures.value, c.from.ensures)
 
 pub returns-in_err-judge_title-clause-exact : goal.returns-in_err-judge_title-clause-exact
 returns-in_err-judge_title-clause-exact g c = λ b t.
-    let h = seen c.args.header.now in
+    let h = seen_header c.args.header.now in
     let os = c.args.offsets.now in
     let d = c.loop-doc.doc in
     let len = slice_index_or os (d + 1) 0 - slice_index_or os d 0 in
@@ -37,7 +37,7 @@ returns-in_err-judge_title-clause-exact g c = λ b t.
 
 pub loop-doc-preserved : goal.loop-doc-preserved
 loop-doc-preserved g c =
-    let h = seen c.args.header.now in
+    let h = seen_header c.args.header.now in
     let os = c.args.offsets.now in
     let d = c.loop-doc.doc in
     let len = slice_index_or os (d + 1) 0 - slice_index_or os d 0 in
@@ -54,7 +54,7 @@ loop-doc-preserved g c =
     }
 
 pub returns-clause-exact : goal.returns-clause-exact
-returns-clause-exact g c = λ b t. titles_done b (seen c.args.header.now) c.args.offsets.now c.loop-doc.doc (c.requires.told b t) (c.requires.offsets b t) c.requires.ruled c.loop-doc-test.false (c.loop-doc.invariant.told b t)
+returns-clause-exact g c = λ b t. titles_done b (seen_header c.args.header.now) c.args.offsets.now c.loop-doc.doc (c.requires.told b t) (c.requires.offsets b t) c.requires.ruled c.loop-doc-test.false (c.loop-doc.invariant.told b t)
 
 pub returns-clause-small : goal.returns-clause-small
-returns-clause-small g c = λ b t. title_bytes_all b (seen c.args.header.now) c.args.offsets.now c.loop-doc.doc c.requires.ruled (omega arith) (c.loop-doc.invariant.small b t)
+returns-clause-small g c = λ b t. title_bytes_all b (seen_header c.args.header.now) c.args.offsets.now c.loop-doc.doc c.requires.ruled (omega arith) (c.loop-doc.invariant.small b t)

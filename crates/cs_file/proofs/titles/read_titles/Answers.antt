@@ -2,7 +2,7 @@ use Rattle.std.proofs.Common.{◌+◌, ◌*◌, [], ◌∷◌, length, refl, sym
 use Rattle.cs_base.specs.outside.Outside.{part}
 use Rattle.cs_model_index.specs.FileRules.{tried}
 use Rattle.cs_model_index.proofs.NumbersLemmas.{numbers_count}
-use Rattle.cs_file.specs.HeaderView.{seen}
+use Rattle.cs_file.specs.HeaderView.{seen_header}
 use Rattle.cs_file.specs.Opening.{Refuses, HasOffsets, bad_offset, bad_title}
 use Rattle.cs_file.proofs.StagesLemmas.{judged_along, judges_by, none_of_all, two_first, two_last}
 use Rattle.cs_file.proofs.TitleStageLemmas.{titles_is, offsets_are, has_offsets}
@@ -19,7 +19,7 @@ bad_offset-requires-clause-few g c =
 
 pub returns-in_err-tried-clause-exact : goal.returns-in_err-tried-clause-exact
 returns-in_err-tried-clause-exact g c = λ b t.
-    let h = seen c.args.header.now in
+    let h = seen_header c.args.header.now in
     let is = c.requires.told b t in
     let at = c.deref.ensures.value ∙ c.in_ok-bytes.ensures.ok b t ∙ ap (λ n. part b n (4 * (h.docs + 1))) c.offsets_at.ensures.value in
     let own = c.in_ok-offsets.ensures ∙ offsets_are b h c.deref.result.now is at in
@@ -31,20 +31,20 @@ returns-in_err-tried-clause-exact g c = λ b t.
 
 pub judge_titles-requires-clause-ruled : goal.judge_titles-requires-clause-ruled
 judge_titles-requires-clause-ruled g c =
-    let h = seen c.args.header.now in
+    let h = seen_header c.args.header.now in
     let found = c.bad_offset.ensures ∙ ap (bad_offset h) c.deref-2.ensures.value in
     subst (HasOffsets h) (sym c.deref-3.ensures.value) (has_offsets h c.in_ok-offsets.offsets.items c.deref.result.now c.in_ok-offsets.ensures (ap (tried 8) (sym found) ∙ c.in_ok-tried.ensures.judged))
 
 pub judge_titles-requires-clause-offsets : goal.judge_titles-requires-clause-offsets
 judge_titles-requires-clause-offsets g c = λ b s.
     let t = sym c.in_ok-bytes.ensures.bytes ∙ s in
-    let h = seen c.args.header.now in
+    let h = seen_header c.args.header.now in
     let at = c.deref.ensures.value ∙ c.in_ok-bytes.ensures.ok b t ∙ ap (λ n. part b n (4 * (h.docs + 1))) c.offsets_at.ensures.value in
     c.deref-3.ensures.value ∙ c.in_ok-offsets.ensures ∙ offsets_are b h c.deref.result.now (c.requires.told b t) at
 
 pub returns-in_err-judge_titles-clause-exact : goal.returns-in_err-judge_titles-clause-exact
 returns-in_err-judge_titles-clause-exact g c = λ b t.
-    let h = seen c.args.header.now in
+    let h = seen_header c.args.header.now in
     let is = c.requires.told b t in
     let at = c.deref.ensures.value ∙ c.in_ok-bytes.ensures.ok b t ∙ ap (λ n. part b n (4 * (h.docs + 1))) c.offsets_at.ensures.value in
     let own = c.in_ok-offsets.ensures ∙ offsets_are b h c.deref.result.now is at in
@@ -57,7 +57,7 @@ returns-in_err-judge_titles-clause-exact g c = λ b t.
 
 pub returns-clause-exact : goal.returns-clause-exact
 returns-clause-exact g c = λ b t.
-    let h = seen c.args.header.now in
+    let h = seen_header c.args.header.now in
     let is = c.requires.told b t in
     let at = c.deref.ensures.value ∙ c.in_ok-bytes.ensures.ok b t ∙ ap (λ n. part b n (4 * (h.docs + 1))) c.offsets_at.ensures.value in
     let own = c.in_ok-offsets.ensures ∙ offsets_are b h c.deref.result.now is at in
@@ -69,12 +69,12 @@ returns-clause-exact g c = λ b t.
 
 pub returns-clause-offsets : goal.returns-clause-offsets
 returns-clause-offsets g c = λ b t.
-    let h = seen c.args.header.now in
+    let h = seen_header c.args.header.now in
     let at = c.deref.ensures.value ∙ c.in_ok-bytes.ensures.ok b t ∙ ap (λ n. part b n (4 * (h.docs + 1))) c.offsets_at.ensures.value in
     c.from_vec.ensures ∙ c.in_ok-offsets.ensures ∙ offsets_are b h c.deref.result.now (c.requires.told b t) at
 
 pub returns-clause-ruled : goal.returns-clause-ruled
 returns-clause-ruled g c =
-    let h = seen c.args.header.now in
+    let h = seen_header c.args.header.now in
     let found = c.bad_offset.ensures ∙ ap (bad_offset h) c.deref-2.ensures.value in
     subst (HasOffsets h) (sym c.from_vec.ensures) (has_offsets h c.in_ok-offsets.offsets.items c.deref.result.now c.in_ok-offsets.ensures (ap (tried 8) (sym found) ∙ c.in_ok-tried.ensures.judged))

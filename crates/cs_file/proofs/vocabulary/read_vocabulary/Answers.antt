@@ -2,7 +2,7 @@ use Rattle.std.proofs.Common.{[], ◌∷◌, length, refl, sym, ap, subst, ◌�
 use Rattle.cs_base.specs.outside.Outside.{part}
 use Rattle.cs_model_index.specs.FileRules.{tried, words_break}
 use Rattle.cs_model_index.specs.Sections.{vocabulary_at, vocabulary_in}
-use Rattle.cs_file.specs.HeaderView.{seen}
+use Rattle.cs_file.specs.HeaderView.{seen_header}
 use Rattle.cs_file.specs.Opening.{Refuses, words_judged}
 use Rattle.cs_file.proofs.BytesLemmas.{bytes_at}
 use Rattle.cs_file.proofs.StagesLemmas.{judged_along, judges_by, none_of_all, two_first, two_last}
@@ -15,13 +15,13 @@ returns-in_err-bytes-clause-exact g c = λ b t. judged_along _ _ c.from_residual
 pub returns-in_err-words-clause-exact : goal.returns-in_err-words-clause-exact
 returns-in_err-words-clause-exact g c = λ b t.
     let at = c.deref.ensures.value ∙ c.in_ok-bytes.ensures.ok b t ∙ ap (λ n. part b n c.args.header.now.vocabulary_len) c.from.ensures in
-    let stage = vocabulary_is b (seen c.args.header.now) c.deref.result.now (c.requires.told b t) at in
+    let stage = vocabulary_is b (seen_header c.args.header.now) c.deref.result.now (c.requires.told b t) at in
     judges_by _ _ c.from_residual-in_err-words.result stage
     (two_first (tried 5 (words_break c.args.header.now.words vocabulary_at c.deref.result.now)) (words_judged (vocabulary_in c.args.header.now.words c.deref.result.now)) _ c.from_residual-in_err-words.result c.in_err-words.ensures.exact c.from_residual-in_err-words.ensures.1)
 
 pub judge_words-requires : goal.judge_words-requires
 judge_words-requires g c =
-    let count = words_count (seen c.args.header.now) c.as_slice.result.now c.deref.result.now c.in_ok-words.ensures.exact (c.as_slice.ensures ∙ c.in_ok-words.ensures.words) in
+    let count = words_count (seen_header c.args.header.now) c.as_slice.result.now c.deref.result.now c.in_ok-words.ensures.exact (c.as_slice.ensures ∙ c.in_ok-words.ensures.words) in
     let few = c.requires.ranges.words in
     record { few = omega (arith, count, few) }
 
@@ -29,7 +29,7 @@ pub returns-in_err-judge_words-clause-exact : goal.returns-in_err-judge_words-cl
 returns-in_err-judge_words-clause-exact g c = λ b t.
     let h = c.args.header.now in
     let at = c.deref.ensures.value ∙ c.in_ok-bytes.ensures.ok b t ∙ ap (λ n. part b n h.vocabulary_len) c.from.ensures in
-    let stage = vocabulary_is b (seen h) c.deref.result.now (c.requires.told b t) at in
+    let stage = vocabulary_is b (seen_header h) c.deref.result.now (c.requires.told b t) at in
     let words = c.as_slice.ensures ∙ c.in_ok-words.ensures.words in
     let first = tried 5 (words_break h.words vocabulary_at c.deref.result.now) in
     let rest = words_judged (vocabulary_in h.words c.deref.result.now) in
@@ -41,7 +41,7 @@ pub returns-clause-exact : goal.returns-clause-exact
 returns-clause-exact g c = λ b t.
     let h = c.args.header.now in
     let at = c.deref.ensures.value ∙ c.in_ok-bytes.ensures.ok b t ∙ ap (λ n. part b n h.vocabulary_len) c.from.ensures in
-    let stage = vocabulary_is b (seen h) c.deref.result.now (c.requires.told b t) at in
+    let stage = vocabulary_is b (seen_header h) c.deref.result.now (c.requires.told b t) at in
     let words = c.as_slice.ensures ∙ c.in_ok-words.ensures.words in
     let first = tried 5 (words_break h.words vocabulary_at c.deref.result.now) in
     let rest = words_judged (vocabulary_in h.words c.deref.result.now) in
@@ -50,11 +50,11 @@ returns-clause-exact g c = λ b t.
 pub returns-clause-words : goal.returns-clause-words
 returns-clause-words g c = λ b t.
     let at = c.deref.ensures.value ∙ c.in_ok-bytes.ensures.ok b t ∙ ap (λ n. part b n c.args.header.now.vocabulary_len) c.from.ensures in
-    c.in_ok-words.ensures.words ∙ words_are b (seen c.args.header.now) c.deref.result.now (c.requires.told b t) at
+    c.in_ok-words.ensures.words ∙ words_are b (seen_header c.args.header.now) c.deref.result.now (c.requires.told b t) at
 
 pub returns-clause-ruled : goal.returns-clause-ruled
 returns-clause-ruled g c =
-    has_vocabulary (seen c.args.header.now) c.in_ok-words.words c.deref.result.now (ap length c.deref.ensures.value ∙ c.in_ok-bytes.ensures.long) c.in_ok-words.ensures.exact c.in_ok-words.ensures.words
+    has_vocabulary (seen_header c.args.header.now) c.in_ok-words.words c.deref.result.now (ap length c.deref.ensures.value ∙ c.in_ok-bytes.ensures.long) c.in_ok-words.ensures.exact c.in_ok-words.ensures.words
     (ap words_judged (sym c.as_slice.ensures) ∙ c.in_ok-judge_words.ensures.exact)
 
 pub returns-clause-small : goal.returns-clause-small

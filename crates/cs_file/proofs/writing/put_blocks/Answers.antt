@@ -4,10 +4,11 @@ use Rattle.std.specs.List.{zip}
 use Rattle.std.proofs.lemmas.List.Elements.{All-get_or}
 use Rattle.cs_base.specs.declared.index.block.BlockHead.{BlockHead}
 use Rattle.cs_base.specs.declared.content.doc.Post.{Post}
+use Rattle.cs_base.proofs.GrewLemmas.{on_err}
 use Rattle.cs_model_index.specs.Blocks.{block_bytes}
 use Rattle.cs_model_index.specs.Layout.{blocks_bytes}
 use Rattle.cs_file.specs.Writable.{BlockFits}
-use Rattle.cs_file.proofs.PutLemmas.{on_err, item_put, item_fails, items_put}
+use Rattle.cs_file.proofs.PutLemmas.{item_put, item_fails, items_put}
 use Rattle.cs_file.proofs.SizeLemmas.{pair_at, pairs_many}
 use Rattle.cs_file.proofs.writing.put_blocks.Goals as goal
 

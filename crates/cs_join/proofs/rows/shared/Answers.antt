@@ -1,17 +1,17 @@
 use Rattle.std.proofs.Common.{◌∙◌, map, subst}
 use Rattle.std.proofs.lemmas.List.Kept.{IsStrictlySortedBy-filter}
 use Rattle.cs_base.specs.content.Orders.{by_place}
-use Rattle.cs_join.specs.Marked.{AreMarked, has_mark}
+use Rattle.cs_join.specs.Marked.{AreMarksOf, has_mark}
 use Rattle.cs_join.proofs.SharedLemmas.{shared_by_marks}
 use Rattle.cs_join.proofs.rows.shared.Goals as goal
 
 pub returns-clause-ok : goal.returns-clause-ok
 returns-clause-ok c =
     let marks = c.in_ok-marks.marks in
-    let marked = subst (λ w. AreMarked w marks.least marks.marks.items) c.words.ensures c.in_ok-marks.ensures in
+    let marked = subst (λ w. AreMarksOf w marks.least marks.marks.items) c.words.ensures c.in_ok-marks.ensures in
     c.in_ok-found.ensures
     ∙ shared_by_marks c.args.inner_hits.now c.args.facet_rows.now.posts marks.least marks.marks.items
-    (subst (λ rows. AreMarked (map (λ p. p.word) rows) marks.least marks.marks.items) c.in_ok-listed.ensures.ok marked)
+    (subst (λ rows. AreMarksOf (map (λ p. p.word) rows) marks.least marks.marks.items) c.in_ok-listed.ensures.ok marked)
 
 pub returns-clause-sorted : goal.returns-clause-sorted
 returns-clause-sorted c =

@@ -2,7 +2,7 @@ use Rattle.std.proofs.Common.{◌+◌, arith}
 use Rattle.std.specs.List.{list_any}
 use Rattle.std.proofs.lemmas.List.Kept.{IsStrictlySortedBy-filter}
 use Rattle.cs_base.specs.content.Orders.{by_place}
-use Rattle.cs_meet.specs.Filters.{in_doc}
+use Rattle.cs_meet.specs.Filters.{is_of_doc}
 use Rattle.cs_meet.proofs.Passes.{filter_more, filter_skip, filter_all}
 use Rattle.cs_meet.proofs.Listed.{listed_more, listed_on}
 use Rattle.cs_meet.proofs.documents.keep_docs.Goals as goal
@@ -18,9 +18,9 @@ loop-j-preserved c =
     let row = c.get-row.result in
     let j = c.loop-j.j in
     let next = c.next_listed-j.ensures in
-    let more = filter_more (λ r. list_any (in_doc r) docs) _ c.loop-j.found.posts rows j row c.is_listed.result c.loop-j.invariant.told (omega arith) c.get-row.ensures c.is_listed.ensures in
+    let more = filter_more (λ r. list_any (is_of_doc r) docs) _ c.loop-j.found.posts rows j row c.is_listed.result c.loop-j.invariant.told (omega arith) c.get-row.ensures c.is_listed.ensures in
     record {
-      told = rw c.add_where.ensures.posts (filter_skip (λ r. list_any (in_doc r) docs) _ _ rows (j + 1) c.next_listed-j.result more next.onward next.within next.none);
+      told = rw c.add_where.ensures.posts (filter_skip (λ r. list_any (is_of_doc r) docs) _ _ rows (j + 1) c.next_listed-j.result more next.onward next.within next.none);
       ahead = listed_on docs rows c.skip_docs-i.result (j + 1) c.next_listed-j.result next.onward
           (listed_more docs rows c.skip_docs-i.result j row c.requires.rows_sorted (omega arith) c.get-row.ensures c.skip_docs-i.ensures);
       room = omega arith;
@@ -30,5 +30,5 @@ pub returns-clause-sorted : goal.returns-clause-sorted
 returns-clause-sorted c =
     let docs = c.args.docs.now in
     let rows = c.args.rows.now.posts in
-    let all = filter_all (λ r. list_any (in_doc r) docs) _ c.loop-j.found.posts rows c.loop-j.j c.loop-j.invariant.told (omega arith) in
-    rw all (IsStrictlySortedBy-filter by_place (λ r. list_any (in_doc r) docs) rows c.requires.rows_sorted)
+    let all = filter_all (λ r. list_any (is_of_doc r) docs) _ c.loop-j.found.posts rows c.loop-j.j c.loop-j.invariant.told (omega arith) in
+    rw all (IsStrictlySortedBy-filter by_place (λ r. list_any (is_of_doc r) docs) rows c.requires.rows_sorted)

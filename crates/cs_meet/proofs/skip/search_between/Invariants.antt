@@ -1,5 +1,5 @@
 use Rattle.std.proofs.Common.{◌≤◌, ◌-◌, length}
-use Rattle.cs_meet.specs.Places.{AllBefore, StopsAt}
+use Rattle.cs_meet.specs.Places.{AllBefore, IsNotBefore}
 use Rattle.cs_meet.proofs.skip.search_between.Given as goal
 
 abbrev pub invariant-loop-lo : goal.invariant-loop-lo
@@ -8,7 +8,7 @@ invariant-loop-lo l = record {
   order : l.lo ≤ l.hi;
   within : l.hi ≤ length l.posts.posts;
   before : AllBefore l.posts.posts l.lo l.doc l.pos;
-  stop : StopsAt l.posts.posts l.hi l.doc l.pos;
+  stop : IsNotBefore l.posts.posts l.hi l.doc l.pos;
 }
 
 abbrev pub decreases-loop-lo : goal.decreases-loop-lo

@@ -5,8 +5,8 @@ use Rattle.cs_model_index.specs.Images.{Image}
 use Rattle.cs_model_index.specs.Layout.{file}
 use Rattle.cs_top.specs.Build.{BuildTold, HasImage, IsBegun}
 use Rattle.cs_top.specs.Views.{IsDevice, stop_ending}
-use Rattle.cs_top.specs.declared.ending.Stop.{Stop}
-use Rattle.cs_top.specs.declared.ending.Stop.TheVariants as stops
+use Rattle.cs_top.specs.declared.ending.RunStop.{RunStop}
+use Rattle.cs_top.specs.declared.ending.RunStop.TheVariants as stops
 use Rattle.cs_top.proofs.build.build.Goals as goal
 
 -- a file of some size is held
@@ -15,7 +15,7 @@ held_by None n e = absurd cc
 held_by (Some f) n e = omega arith
 
 -- a stop of saving
-begun : (s : Stop) (h : Held) (c i : List ℕ) (x : Image) (now : Option Held) → IsDevice s → HasImage h c x → IsBegun (Some h) i (file x) now → BuildTold (stop_ending s) h c i now
+begun : (s : RunStop) (h : Held) (c i : List ℕ) (x : Image) (now : Option Held) → IsDevice s → HasImage h c x → IsBegun (Some h) i (file x) now → BuildTold (stop_ending s) h c i now
 begun stops.Failed h c i x now kind has is = inr (x, has, is)
 begun stops.Memory h c i x now kind has is = inr (x, has, is)
 begun stops.Usage h c i x now kind has is = absurd kind

@@ -3,7 +3,7 @@ use Rattle.std.specs.String.{string_bytes}
 use Rattle.cs_top.specs.CommandLine.{command_of, serve}
 use Rattle.cs_top.specs.Met.{met}
 use Rattle.cs_top.specs.Runs.{Ran}
-use Rattle.cs_top.specs.Views.{HasNumbers, ended, seen}
+use Rattle.cs_top.specs.Views.{HasNumbers, ended, seen_command}
 use Rattle.cs_top.proofs.ServeLemmas.{ran_by}
 use Rattle.cs_top.proofs.command.carry_out.Goals as goal
 
@@ -23,5 +23,5 @@ returns-in-Some-Serve g c =
     let s = c.in-Some-Serve in
     let m = met g.F.Files.held g.F.Files.faults g.O.Sink.written g.O.Sink.faults g.H.Hub.state g.H.Hub.talk g.H.Hub.faults g.H.Hub.send_faults c.args.files.now c.serve.new.files c.args.out.now c.serve.new.out c.args.hub.now c.serve.new.hub in
     let e : Some (serve s.index.now s.port.now s.conns.now) ≡ command_of (map string_bytes c.args.words.now.items) =
-    ap (λ x. Some (seen x)) (sym s.field-0-is) ∙ s.ensures.seen ∙ ap (λ l. command_of (map string_bytes l)) c.deref.ensures.value in
+    ap (λ x. Some (seen_command x)) (sym s.field-0-is) ∙ s.ensures.seen ∙ ap (λ l. command_of (map string_bytes l)) c.deref.ensures.value in
     record { ran = subst (λ x. Ran (ended c.serve.result) x m) e (ran_by s.index.now s.port.now s.conns.now m (ended c.serve.result) c.serve.ensures.ends c.serve.ensures.told c.serve.ensures.caused c.serve.ensures.files) }

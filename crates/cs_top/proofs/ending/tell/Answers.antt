@@ -1,5 +1,5 @@
 use Rattle.std.proofs.Common.{◌≡◌, ◌∙◌, sym, ap, subst, List, ℕ}
-use Rattle.cs_top.specs.CommandLine.{line_of, Says}
+use Rattle.cs_top.specs.CommandLine.{line_of, SaysLine}
 use Rattle.cs_top.specs.Met.{wrote}
 use Rattle.cs_top.specs.Views.{ended, said_text}
 use Rattle.cs_top.proofs.SaysLemmas.{says}
@@ -9,4 +9,4 @@ pub returns-in-Err : goal.returns-in-Err
 returns-in-Err g c =
     let is : said_text c.said.result ≡ line_of (ended c.args.run) = c.said.ensures ∙ ap (λ r. line_of (ended r)) (sym c.in-Err.is) in
     let w = wrote g.E.Sink.written g.E.Sink.faults c.args.err.now c.put_said.new.err in
-    subst (λ (line : List ℕ). Says w line) is (says c.put_said.result w (said_text c.said.result) c.put_said.ensures.ok c.put_said.ensures.err c.put_said.ensures.counted)
+    subst (λ (line : List ℕ). SaysLine w line) is (says c.put_said.result w (said_text c.said.result) c.put_said.ensures.ok c.put_said.ensures.err c.put_said.ensures.counted)

@@ -8,7 +8,7 @@ use Rattle.cs_top.specs.Scripts.{ScriptEnds, ShortTally, Tally}
 use Rattle.cs_top.specs.declared.script.Came.TheVariants.{Answered, Read, Changed}
 use Rattle.cs_top.specs.CommandLine.{done, failed}
 use Rattle.cs_top.specs.Met.{held_bytes, wrote}
-use Rattle.cs_top.specs.ScriptRuns.{IsOpen, ReplayScript, ReplayTold}
+use Rattle.cs_top.specs.ScriptRuns.{CanBeOpened, ReplayScript, ReplayTold}
 use Rattle.cs_top.specs.Views.{of_script, stop_ending}
 use Rattle.cs_top.proofs.ScriptLemmas.{err_there, held_by, ok_there, over_held, script_answered, script_changed, script_read, script_short}
 use Rattle.cs_top.proofs.replay.replay.Goals as goal
@@ -26,7 +26,7 @@ returns-clause-told g c h held =
     let third : g.F.Files.held c.open.new.files ≡ Some h = c.in_ok-engine.ensures.files ∙ second in
     let calm : g.F.Files.faults c.open.new.files ≡ g.F.Files.faults c.args.files.now = c.in_ok-engine.ensures.quiet ∙ c.in_ok-script_size.ensures.quiet ∙ c.in_ok-size.ensures.quiet in
     let stands : StandsFor (held_bytes h i) c.in_ok-engine.engine.index = c.in_ok-engine.ensures.ok h second in
-    let is_open : IsOpen h i c.args.script.now = ((held_by _ _ (c.in_ok-size.ensures.ok h held), held_by _ _ (c.in_ok-script_size.ensures.ok h first)), stands.accepted) in
+    let is_open : CanBeOpened h i c.args.script.now = ((held_by _ _ (c.in_ok-size.ensures.ok h held), held_by _ _ (c.in_ok-script_size.ensures.ok h first)), stands.accepted) in
     let over = over_held c.in_ok-engine.engine f (g.F.Files.held c.open.new.files) h i c.in_ok-size.size c.held-file.ensures third stands (c.in_ok-engine.ensures.good (held_bytes h i)) in
     let fb = g.F.Files.faults c.open.new.files in
     let e = stop_ending (of_script c.in-Err.stop) in
@@ -49,7 +49,7 @@ returns-in-Ok-Answered-clause-told g c h held =
     let third : g.F.Files.held c.open.new.files ≡ Some h = c.in_ok-engine.ensures.files ∙ second in
     let calm : g.F.Files.faults c.open.new.files ≡ g.F.Files.faults c.args.files.now = c.in_ok-engine.ensures.quiet ∙ c.in_ok-script_size.ensures.quiet ∙ c.in_ok-size.ensures.quiet in
     let stands : StandsFor (held_bytes h i) c.in_ok-engine.engine.index = c.in_ok-engine.ensures.ok h second in
-    let is_open : IsOpen h i c.args.script.now = ((held_by _ _ (c.in_ok-size.ensures.ok h held), held_by _ _ (c.in_ok-script_size.ensures.ok h first)), stands.accepted) in
+    let is_open : CanBeOpened h i c.args.script.now = ((held_by _ _ (c.in_ok-size.ensures.ok h held), held_by _ _ (c.in_ok-script_size.ensures.ok h first)), stands.accepted) in
     let over = over_held c.in_ok-engine.engine f (g.F.Files.held c.open.new.files) h i c.in_ok-size.size c.held-file.ensures third stands (c.in_ok-engine.ensures.good (held_bytes h i)) in
     inr (is_open, subst (λ n. ReplayScript k done ls n fn w) calm (script_answered f k ls _ fn w (ok_there c.answer_script.result c.in-Ok-Answered.field-0 Answered (λ came. (ts : List (List ℕ)) × ScriptEnds (MayAnswer f k) done ls ts w × Tally came (g.F.Files.faults c.open.new.files) fn ts) c.in-Ok-Answered.is c.in-Ok-Answered.field-0-is (c.answer_script.ensures.whole k over h third))))
 
@@ -66,7 +66,7 @@ returns-in-Ok-Read-clause-told g c h held =
     let third : g.F.Files.held c.open.new.files ≡ Some h = c.in_ok-engine.ensures.files ∙ second in
     let calm : g.F.Files.faults c.open.new.files ≡ g.F.Files.faults c.args.files.now = c.in_ok-engine.ensures.quiet ∙ c.in_ok-script_size.ensures.quiet ∙ c.in_ok-size.ensures.quiet in
     let stands : StandsFor (held_bytes h i) c.in_ok-engine.engine.index = c.in_ok-engine.ensures.ok h second in
-    let is_open : IsOpen h i c.args.script.now = ((held_by _ _ (c.in_ok-size.ensures.ok h held), held_by _ _ (c.in_ok-script_size.ensures.ok h first)), stands.accepted) in
+    let is_open : CanBeOpened h i c.args.script.now = ((held_by _ _ (c.in_ok-size.ensures.ok h held), held_by _ _ (c.in_ok-script_size.ensures.ok h first)), stands.accepted) in
     let over = over_held c.in_ok-engine.engine f (g.F.Files.held c.open.new.files) h i c.in_ok-size.size c.held-file.ensures third stands (c.in_ok-engine.ensures.good (held_bytes h i)) in
     inr (is_open, subst (λ n. ReplayScript k failed ls n fn w) calm (script_read f k ls _ fn w (ok_there c.answer_script.result c.in-Ok-Read.field-0 Read (λ came. (ts : List (List ℕ)) × ScriptEnds (MayAnswer f k) done ls ts w × Tally came (g.F.Files.faults c.open.new.files) fn ts) c.in-Ok-Read.is c.in-Ok-Read.field-0-is (c.answer_script.ensures.whole k over h third))))
 
@@ -83,6 +83,6 @@ returns-in-Ok-Changed-clause-told g c h held =
     let third : g.F.Files.held c.open.new.files ≡ Some h = c.in_ok-engine.ensures.files ∙ second in
     let calm : g.F.Files.faults c.open.new.files ≡ g.F.Files.faults c.args.files.now = c.in_ok-engine.ensures.quiet ∙ c.in_ok-script_size.ensures.quiet ∙ c.in_ok-size.ensures.quiet in
     let stands : StandsFor (held_bytes h i) c.in_ok-engine.engine.index = c.in_ok-engine.ensures.ok h second in
-    let is_open : IsOpen h i c.args.script.now = ((held_by _ _ (c.in_ok-size.ensures.ok h held), held_by _ _ (c.in_ok-script_size.ensures.ok h first)), stands.accepted) in
+    let is_open : CanBeOpened h i c.args.script.now = ((held_by _ _ (c.in_ok-size.ensures.ok h held), held_by _ _ (c.in_ok-script_size.ensures.ok h first)), stands.accepted) in
     let over = over_held c.in_ok-engine.engine f (g.F.Files.held c.open.new.files) h i c.in_ok-size.size c.held-file.ensures third stands (c.in_ok-engine.ensures.good (held_bytes h i)) in
     absurd (script_changed f k ls _ fn w (ok_there c.answer_script.result c.in-Ok-Changed.field-0 Changed (λ came. (ts : List (List ℕ)) × ScriptEnds (MayAnswer f k) done ls ts w × Tally came (g.F.Files.faults c.open.new.files) fn ts) c.in-Ok-Changed.is c.in-Ok-Changed.field-0-is (c.answer_script.ensures.whole k over h third)))

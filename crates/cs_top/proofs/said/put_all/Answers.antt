@@ -1,4 +1,4 @@
-use Rattle.cs_top.proofs.GrewLemmas.{pieces_begun, on_err}
+use Rattle.cs_base.proofs.GrewLemmas.{on_err, pieces_begun}
 use Rattle.cs_top.proofs.said.put_all.Goals as goal
 
 pub returns-in_err-put-clause-err : goal.returns-in_err-put-clause-err

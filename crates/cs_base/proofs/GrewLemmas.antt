@@ -1,4 +1,12 @@
 -- What several puts of one sink add up to.
+--
+--   grew_none         of no bytes nothing is put
+--   grew_twice        what was put before stands in front
+--   grew_begun        what was put whole is put up to its end
+--   begun             a put that fails leaves some first bytes of what was to come
+--   grew_then_begun   so with what was put before in front
+--   on_err            where an answer is an error
+--   pieces_begun      pieces that are put one after another, where the put of one fails
 use Rattle.std.proofs.Common.{◌≡◌, ℕ, suc, ◌+◌, ◌<◌, List, [], ◌++◌, length, take, append_assoc, append-nil, drop, drop-cons, get_or, refl, sym, ◌∙◌, ap, subst}
 use Rattle.std.specs.List.{flat_map}
 use Rattle.std.proofs.lemmas.Grind.{flat_map-append}
