@@ -17,7 +17,7 @@ use std::alloc::Global;
 #[tactic(auto, using(crate::proofs::Verdicts::over_query, crate::proofs::Verdicts::over_parts, crate::proofs::Verdicts::over_atoms))]
 pub fn begin_word(alloc: Global, c: char, tie: Tie, gathered: Gathered) -> Result<Reader, Stop>
     ensures { (ts : List Token) → Stands ts ts gathered → tie ≡ tie_of ts → refused (Word (encode_utf8 c) ∷ ts) ≡ false
-        → Judges (Word (encode_utf8 c) ∷ ts) result }
+        → JudgesTokens (Word (encode_utf8 c) ∷ ts) result }
 {
     let Gathered {
         parts,
@@ -73,7 +73,7 @@ pub fn begin_run(
     gathered: Gathered,
 ) -> Result<Reader, Stop>
     ensures { (rest : List Token) → Agrees tail tie rest → Stands (settled tail rest) (held tail rest) gathered
-        → refused (Run (encode_utf8 c) ∷ held tail rest) ≡ false → Judges (Run (encode_utf8 c) ∷ held tail rest) result }
+        → refused (Run (encode_utf8 c) ∷ held tail rest) ≡ false → JudgesTokens (Run (encode_utf8 c) ∷ held tail rest) result }
 {
     let size = c.len_utf8();
     if gathered.room < size {
@@ -103,7 +103,7 @@ pub fn begin_gap(
     gathered: Gathered,
 ) -> Result<Reader, Stop>
     ensures { (rest : List Token) → Agrees tail tie rest → Stands (settled tail rest) (held tail rest) gathered
-        → refused (Gap (length (encode_utf8 c)) ∷ held tail rest) ≡ false → Judges (Gap (length (encode_utf8 c)) ∷ held tail rest) result }
+        → refused (Gap (length (encode_utf8 c)) ∷ held tail rest) ≡ false → JudgesTokens (Gap (length (encode_utf8 c)) ∷ held tail rest) result }
 {
     let size = c.len_utf8();
     if gathered.room < size {
@@ -124,7 +124,7 @@ pub fn begin_gap(
 #[tactic(auto, using(crate::proofs::Lasts::reverse_push, crate::proofs::Verdicts::over_query, crate::proofs::Verdicts::over_depth))]
 pub fn enter(alloc: Global, name: Text, tie: Tie, gathered: Gathered) -> Result<Reader, Stop>
     ensures { (rest : List Token) → Agrees (Tail.Word name) tie rest → has_name_form name ≡ true
-        → Stands rest (Word name ∷ rest) gathered → Judges (Open ∷ Word name ∷ rest) result }
+        → Stands rest (Word name ∷ rest) gathered → JudgesTokens (Open ∷ Word name ∷ rest) result }
 {
     let Gathered {
         parts,

@@ -14,7 +14,7 @@ use cs_model::Tie;
 #[tactic(auto, using(crate::proofs::Verdicts::over_query, crate::proofs::Verdicts::over_word))]
 pub fn grow_word(c: char, mut word: Text, tie: Tie, mut gathered: Gathered) -> Result<Reader, Stop>
     ensures { (rest : List Token) → tie ≡ tie_of rest → refused (Word word ∷ rest) ≡ false → Stands rest (Word word ∷ rest) gathered
-        → Judges (Word (word ++ encode_utf8 c) ∷ rest) result }
+        → JudgesTokens (Word (word ++ encode_utf8 c) ∷ rest) result }
 {
     let size = c.len_utf8();
     if gathered.room < size {
@@ -43,7 +43,7 @@ pub fn grow_value(
     mut gathered: Gathered,
 ) -> Result<Reader, Stop>
     ensures { (rest : List Token) → tie ≡ tie_of rest → refused (Value text ∷ Colon ∷ Word name ∷ rest) ≡ false
-        → Stands rest (Value text ∷ Colon ∷ Word name ∷ rest) gathered → Judges (Value (text ++ encode_utf8 c) ∷ Colon ∷ Word name ∷ rest) result }
+        → Stands rest (Value text ∷ Colon ∷ Word name ∷ rest) gathered → JudgesTokens (Value (text ++ encode_utf8 c) ∷ Colon ∷ Word name ∷ rest) result }
 {
     let size = c.len_utf8();
     if gathered.room < size {

@@ -206,7 +206,7 @@ fn exact_facet(
     gathered: Gathered,
 ) -> Result<Reader, Stop>
     ensures { (rest : List Token) → tie ≡ tie_of rest → refused (Dollar ∷ Value value ∷ Colon ∷ Word name ∷ rest) ≡ false
-        → Stands rest (Value value ∷ Colon ∷ Word name ∷ rest) gathered → Judges (Dollar ∷ Value value ∷ Colon ∷ Word name ∷ rest) result }
+        → Stands rest (Value value ∷ Colon ∷ Word name ∷ rest) gathered → JudgesTokens (Dollar ∷ Value value ∷ Colon ∷ Word name ∷ rest) result }
 {
     if gathered.room < 1 {
         return Err(Stop::Limit(Which::Query));
