@@ -8,6 +8,7 @@
 
 mod attaching;
 mod beginnings;
+mod brackets;
 mod classes;
 mod fault;
 mod growing;
@@ -17,8 +18,6 @@ mod printing;
 mod reader;
 mod reply;
 mod request;
-mod runs;
-mod signs;
 mod steps;
 mod tails;
 #[cfg(test)]
