@@ -25,7 +25,6 @@ mod replying;
 mod steps;
 #[cfg(test)]
 mod tests;
-mod typed;
 mod words;
 
 pub use cs_query::{Reply, Request};

@@ -17,11 +17,11 @@ use crate::between::posts_between;
 use crate::entries::{copy_of, hits_of};
 use crate::fault::AskFault;
 use crate::steps::{end_positive, extended};
-use crate::typed::last_prefix;
 use cs_base::{Base, Memory, Query, Store};
 use cs_cache::Entry;
 use cs_cols::Cols;
 use cs_file::Index;
+use cs_query::last_prefix;
 use std::alloc::Global;
 
 /// The entry of a query whose prefix is being typed, out of that of the query with a shorter prefix in its place: the rows whose

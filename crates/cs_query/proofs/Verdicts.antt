@@ -1,7 +1,7 @@
 -- The verdict on the newest character, limit by limit.
 --
 --   over_query, over_word, over_parts, over_atoms, over_depth    the limit that it is over
---   no_room                                                      the answer where a text would be longer than a query may be
+--   over_room                                                      the answer where a text would be longer than a query may be
 --   within_all                                                   it is over none
 --   dollar_fine                                                  a dollar may stand behind a value that isn't empty
 use Rattle.std.proofs.Common.{◌≡◌, ◌≢◌, ℕ, ◌+◌, ◌<◌, ◌≤◌, List, [], ◌∷◌, length, refl, sym, subst, false, Some, None, Result, Ok, Err}
@@ -20,9 +20,9 @@ use Rattle.cs_model.specs.Refusals.{refused, verdict, parts_in, atoms_in, depth,
 pub over_query : (ts : List Token) → refused ts ≡ false → MAX_QUERY_BYTES < size ts + depth ts → verdict ts ≡ Some (Limit limits.Query)
 over_query ts r h = rw (r, lt-leb (size ts + depth ts) MAX_QUERY_BYTES h) refl
 
-pub no_room : (ts : List Token) (r : Result Reader Stop) → IsErr r → IsErrAnd r (λ e. e ≡ stops.Limit limits.Query) → refused ts ≡ false → MAX_QUERY_BYTES < size ts + depth ts → JudgesTokens ts r
-no_room ts (Ok x) h is fine over = absurd cc
-no_room ts (Err e) h is fine over = subst (λ e. JudgesTokens ts (Err e)) (sym is) (over_query ts fine over)
+pub over_room : (ts : List Token) (r : Result Reader Stop) → IsErr r → IsErrAnd r (λ e. e ≡ stops.Limit limits.Query) → refused ts ≡ false → MAX_QUERY_BYTES < size ts + depth ts → JudgesTokens ts r
+over_room ts (Ok x) h is fine over = absurd cc
+over_room ts (Err e) h is fine over = subst (λ e. JudgesTokens ts (Err e)) (sym is) (over_query ts fine over)
 
 pub over_word : (ts : List Token) → refused ts ≡ false → size ts + depth ts ≤ MAX_QUERY_BYTES → MAX_PLAIN_WORD_BYTES < newest ts → verdict ts ≡ Some (Limit limits.Word)
 over_word ts r q h = rw (r, le-leb (size ts + depth ts) MAX_QUERY_BYTES q, lt-leb (newest ts) MAX_PLAIN_WORD_BYTES h) refl

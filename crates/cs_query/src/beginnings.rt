@@ -29,7 +29,7 @@ pub fn begin_word(alloc: Global, c: char, tail: Tail, gathered: Gathered) -> Res
     if gathered.atoms >= MAX_ATOMS {
         return Err(Stop::Limit(Which::Atoms));
     }
-    let text = text_of(alloc, c)?;
+    let text = text_of_char(alloc, c)?;
     Ok(Reader {
         tail: Tail::Word { tie, text },
         gathered: Gathered {
@@ -60,7 +60,7 @@ pub fn begin_run(alloc: Global, c: char, tail: Tail, gathered: Gathered) -> Resu
     let spot = spot_of(&tail);
     let gathered = settle(alloc, tail, gathered)?;
     let gathered = gathered.spend(c.len_utf8())?;
-    let text = text_of(alloc, c)?;
+    let text = text_of_char(alloc, c)?;
     Ok(Reader {
         tail: Tail::Run { spot, text },
         gathered,
@@ -83,7 +83,7 @@ pub fn begin_gap(alloc: Global, c: char, tail: Tail, gathered: Gathered) -> Resu
 }
 
 /// A text of one character.
-fn text_of(alloc: Global, c: char) -> Result<Text, Memory>
+fn text_of_char(alloc: Global, c: char) -> Result<Text, Memory>
     ensures { IfOk result (λ t. t ≡ encode_utf8 c) }
 {
     let mut text = Text::new(alloc);

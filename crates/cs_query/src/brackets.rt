@@ -14,7 +14,7 @@ use std::alloc::Global;
 
 /// A bracket opens behind a word, which must be a name. It takes the room of its closing bracket too.
 #[tactic(auto, using(crate::proofs::Lasts::reverse_push, crate::proofs::Verdicts::over_query, crate::proofs::Verdicts::over_depth))]
-pub fn enter(alloc: Global, tie: Tie, name: Text, gathered: Gathered) -> Result<Reader, Stop>
+pub fn begin_join(alloc: Global, tie: Tie, name: Text, gathered: Gathered) -> Result<Reader, Stop>
     ensures { (rest : List Token) → StandsBehind rest (record { tail = Tail.Word tie name; gathered = gathered })
         → JudgesTokens (Open ∷ Word name ∷ rest) result }
 {
@@ -41,7 +41,7 @@ pub fn enter(alloc: Global, tie: Tie, name: Text, gathered: Gathered) -> Result<
 
 /// The last bracket that is open closes.
 #[tactic(auto, using(crate::proofs::Lasts::reverse_push))]
-pub fn leave(alloc: Global, tail: Tail, gathered: Gathered) -> Result<Reader, Stop>
+pub fn end_join(alloc: Global, tail: Tail, gathered: Gathered) -> Result<Reader, Stop>
     ensures { (rest : List Token) → Agrees tail rest → Stands (settled tail rest) (held tail rest) gathered
         → JudgesTokens (Close ∷ held tail rest) result }
 {

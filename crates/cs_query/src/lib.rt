@@ -25,7 +25,7 @@ mod tests;
 
 pub use cs_base::{Atom, Chain, Key, Keys, Link, Linked, Narrower, Part, Query, Which};
 pub use fault::QueryFault;
-pub use keying::keys;
+pub use keying::{keys, last_prefix};
 pub use parsing::parse;
 pub use printing::print;
 pub use reply::{FacetShown, HitShown, Reply, Shown};

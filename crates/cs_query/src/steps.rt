@@ -6,7 +6,7 @@ ghost use Rattle.cs_query.specs.Following.{StandsBehind, JudgesTokens, held};
 use crate::beginnings::{
     begin_bar, begin_gap, begin_run, begin_value, begin_word, exact_value, exact_word,
 };
-use crate::brackets::{enter, leave};
+use crate::brackets::{begin_join, end_join};
 use crate::classes::class_of;
 use crate::fault::Stop;
 use crate::growing::{grow_gap, grow_run, grow_value, grow_word};
@@ -18,11 +18,11 @@ use std::alloc::Global;
 pub fn step(alloc: Global, reader: Reader, c: char) -> Result<Reader, Stop>
     ensures { (rest : List Token) → StandsBehind rest reader → JudgesTokens (with_next c (held reader.tail rest)) result }
 {
-    after(alloc, class_of(c), c, reader)
+    step_by_class(alloc, class_of(c), c, reader)
 }
 
 /// The reader after a character of a class.
-fn after(alloc: Global, class: Class, c: char, reader: Reader) -> Result<Reader, Stop>
+fn step_by_class(alloc: Global, class: Class, c: char, reader: Reader) -> Result<Reader, Stop>
     ensures { (rest : List Token) → StandsBehind rest reader → JudgesTokens (grown class (encode_utf8 c) (held reader.tail rest)) result }
 {
     let Reader { tail, gathered } = reader;
@@ -42,7 +42,7 @@ fn after(alloc: Global, class: Class, c: char, reader: Reader) -> Result<Reader,
             alloc, tie, name, text, gathered,
         ),
         (Class::Colon, Tail::Word { tie, text }) => begin_value(alloc, tie, text, gathered),
-        (Class::Open, Tail::Word { tie, text }) => enter(alloc, tie, text, gathered),
+        (Class::Open, Tail::Word { tie, text }) => begin_join(alloc, tie, text, gathered),
         (Class::Letter, Tail::Dollar | Tail::Close)
         | (Class::Dot | Class::Joiner | Class::Other, Tail::Bar)
         | (Class::Bar, Tail::Start | Tail::Gap(_) | Tail::Run { .. } | Tail::Bar | Tail::Open)
@@ -51,6 +51,6 @@ fn after(alloc: Global, class: Class, c: char, reader: Reader) -> Result<Reader,
         (Class::Dot | Class::Joiner, tail) => begin_run(alloc, c, tail, gathered),
         (Class::Other, tail) => begin_gap(alloc, c, tail, gathered),
         (Class::Bar, tail) => begin_bar(alloc, tail, gathered),
-        (Class::Close, tail) => leave(alloc, tail, gathered),
+        (Class::Close, tail) => end_join(alloc, tail, gathered),
     }
 }
