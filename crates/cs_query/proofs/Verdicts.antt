@@ -1,21 +1,21 @@
 -- The verdict on the newest character, limit by limit.
 --
 --   over_query, over_word, over_parts, over_atoms, over_depth    the limit that it is over
---   over_room                                                      the answer where a text would be longer than a query may be
+--   over_room                                                    the answer where a text would be longer than a query may be
 --   within_all                                                   it is over none
 --   dollar_fine                                                  a dollar may stand behind a value that isn't empty
 use Rattle.std.proofs.Common.{◌≡◌, ◌≢◌, ℕ, ◌+◌, ◌<◌, ◌≤◌, List, [], ◌∷◌, length, refl, sym, subst, false, Some, None, Result, Ok, Err}
-use Rattle.std.specs.Prelude.{IsErr, IsErrAnd}
 use Rattle.std.proofs.lemmas.Bool.{lt-leb, le-leb}
+use Rattle.std.specs.Prelude.{IsErr, IsErrAnd}
 use Rattle.cs_base.specs.declared.content.limits.TheConstants.{MAX_PLAIN_WORD_BYTES, MAX_QUERY_BYTES, MAX_PARTS, MAX_ATOMS, MAX_DEPTH}
 use Rattle.cs_base.specs.declared.content.query.Which.TheVariants as limits
 use Rattle.cs_model.specs.Tokens.{Token, Value, Dollar, size}
 use Rattle.cs_model.specs.Grammar.{steps}
+use Rattle.cs_model.specs.Refusals.{refused, verdict, parts_in, atoms_in, depth, newest, Limit}
 use Rattle.cs_query.specs.declared.fault.Stop.{Stop}
 use Rattle.cs_query.specs.declared.fault.Stop.TheVariants as stops
 use Rattle.cs_query.specs.declared.reader.Reader.{Reader}
 use Rattle.cs_query.specs.Following.{JudgesTokens}
-use Rattle.cs_model.specs.Refusals.{refused, verdict, parts_in, atoms_in, depth, newest, Limit}
 
 pub over_query : (ts : List Token) → refused ts ≡ false → MAX_QUERY_BYTES < size ts + depth ts → verdict ts ≡ Some (Limit limits.Query)
 over_query ts r h = rw (r, lt-leb (size ts + depth ts) MAX_QUERY_BYTES h) refl

@@ -1,4 +1,4 @@
-//! Tokens that begin behind a tail, whose atom goes among the parts.
+//! Tokens that begin. The atom of a word or a value that can't go on is put among the parts.
 ghost use Rattle.std.specs.Prelude.{◌≡◌, ◌≤◌, List, [], ◌∷◌, encode_utf8, length, true, false, IfOk};
 ghost use Rattle.cs_model.specs.Collection.{has_name_form};
 ghost use Rattle.cs_model.specs.Tokens.{Token, Word, Value, Run, Gap, Dollar, Bar, Colon};
@@ -82,16 +82,7 @@ pub fn begin_gap(alloc: Global, c: char, tail: Tail, gathered: Gathered) -> Resu
     })
 }
 
-/// A text of one character.
-fn text_of_char(alloc: Global, c: char) -> Result<Text, Memory>
-    ensures { IfOk result (λ t. t ≡ encode_utf8 c) }
-{
-    let mut text = Text::new(alloc);
-    text.push(c)?;
-    Ok(text)
-}
-
-/// A bar.
+/// A bar begins.
 #[tactic(auto, using(crate::proofs::Verdicts::over_query))]
 pub fn begin_bar(alloc: Global, tail: Tail, gathered: Gathered) -> Result<Reader, Stop>
     ensures { (rest : List Token) → Agrees tail rest → Stands (settled tail rest) (held tail rest) gathered
@@ -158,4 +149,13 @@ pub fn begin_value(alloc: Global, tie: Tie, name: Text, gathered: Gathered) -> R
         tail: Tail::Value { tie, name, text },
         gathered,
     })
+}
+
+/// A text of one character.
+fn text_of_char(alloc: Global, c: char) -> Result<Text, Memory>
+    ensures { IfOk result (λ t. t ≡ encode_utf8 c) }
+{
+    let mut text = Text::new(alloc);
+    text.push(c)?;
+    Ok(text)
 }
