@@ -23,7 +23,6 @@ mod reading;
 mod replies;
 mod replying;
 mod steps;
-mod typed;
 mod words;
 
 pub use cs_query::{Reply, Request};

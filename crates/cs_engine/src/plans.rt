@@ -21,12 +21,11 @@ use crate::loose::answered_by_words;
 use crate::plain::words_of_part;
 use crate::replying::with_reply;
 use crate::steps::{end_positive, extended};
-use crate::typed::last_prefix;
 use cs_base::{Base, Memory, Query, Store};
 use cs_cache::Entry;
 use cs_cols::Cols;
 use cs_file::Index;
-use cs_query::{Reply, Request};
+use cs_query::{Reply, Request, last_prefix};
 use std::alloc::Global;
 
 /// The entry of a query whose prefix is being typed, out of that of the query with a shorter prefix in its place: the rows whose

@@ -1,4 +1,3 @@
-pub mod Begins
 pub mod Joined
 pub mod Lasts
 pub mod Narrowing

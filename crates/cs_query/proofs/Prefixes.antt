@@ -31,8 +31,8 @@ depth_held : (t : Tail) (rest : List Token) → depth (held t rest) ≡ length (
 depth_held tails.Start rest = refl
 depth_held (tails.Gap n) rest = refl
 depth_held (tails.Run s r) rest = refl
-depth_held (tails.Word w) rest = refl
-depth_held (tails.Value n v) rest = refl
+depth_held (tails.Word t w) rest = refl
+depth_held (tails.Value t n v) rest = refl
 depth_held tails.Dollar rest = refl
 depth_held tails.Bar rest = refl
 depth_held tails.Open rest = refl

@@ -2,7 +2,7 @@
 --
 --   held tail rest         the tokens of a tail, and those before it
 --   settled tail rest      the tokens whose atoms are among the gathered parts
---   Agrees tail tie rest   the tail and its tie are those that the tokens `rest` before it give
+--   Agrees tail rest       what the tail says of the tokens `rest` before it is so
 --   Stands done all g      g has the parts of the tokens `done` and the counts of the tokens `all`
 --   StandsBehind rest r         the reader r stands behind the tokens of its tail and `rest`
 --   StandsBehindAll ts r        it stands behind the tokens ts
@@ -10,7 +10,6 @@
 --   fault_at at stop       the fault of a text whose reader stops at the byte `at`
 --   Answers cs result      the answer to the characters cs of a key text
 use Rattle.std.specs.Prelude.{◌≡◌, ℕ, ◌+◌, ◌≤◌, List, [], ◌∷◌, false, reverse, length, Some, Result, Ok, Err}
-use Rattle.cs_model.specs.declared.kinds.Tie.{Tie}
 use Rattle.cs_model.specs.Tokens.{Token, Word, Value, Run, Gap, Dollar, Bar, Colon, Open, Close, size}
 use Rattle.cs_model.specs.Grammar.{spot, tie, steps, reading, query_of}
 use Rattle.cs_model.specs.Refusals.{refused, verdict, parts_in, atoms_in, depth, newest, Bad, Limit, IsAccepted, IsRefused}
@@ -30,8 +29,8 @@ abbrev pub held : Tail → List Token → List Token
 held tails.Start rest = []
 held (tails.Gap n) rest = Gap n ∷ rest
 held (tails.Run s r) rest = Run r ∷ rest
-held (tails.Word w) rest = Word w ∷ rest
-held (tails.Value n v) rest = Value v ∷ Colon ∷ Word n ∷ rest
+held (tails.Word t w) rest = Word w ∷ rest
+held (tails.Value t n v) rest = Value v ∷ Colon ∷ Word n ∷ rest
 held tails.Dollar rest = Dollar ∷ rest
 held tails.Bar rest = Bar ∷ rest
 held tails.Open rest = Open ∷ rest
@@ -39,16 +38,16 @@ held tails.Close rest = Close ∷ rest
 
 -- the tokens whose atoms are in the parts: all but those of a word or a value, which may go on
 abbrev pub settled : Tail → List Token → List Token
-settled (tails.Word w) rest = rest
-settled (tails.Value n v) rest = rest
+settled (tails.Word t w) rest = rest
+settled (tails.Value t n v) rest = rest
 settled t rest = held t rest
 
--- what is known of the tokens before the tail, where they tie it
-abbrev pub Agrees : Tail → Tie → List Token → Type 0
-Agrees (tails.Run s r) t rest = s ≡ spot rest
-Agrees (tails.Word w) t rest = t ≡ tie rest
-Agrees (tails.Value n v) t rest = t ≡ tie rest
-Agrees _ t rest = Unit {0}
+-- the tail's spot or tie is that which the tokens before it give; other tails say nothing of them
+abbrev pub Agrees : Tail → List Token → Type 0
+Agrees (tails.Run s r) rest = s ≡ spot rest
+Agrees (tails.Word t w) rest = t ≡ tie rest
+Agrees (tails.Value t n v) rest = t ≡ tie rest
+Agrees _ rest = Unit {0}
 
 -- The parts and brackets are those of the tokens `done`, and the counts are those of the tokens `all`.
 pub record Stands (done all : List Token) (g : Gathered) : Type 0 where
@@ -62,7 +61,7 @@ pub record Stands (done all : List Token) (g : Gathered) : Type 0 where
 
 -- The reader stands behind the tokens of its tail and `rest`, and none of them is refused.
 pub record StandsBehind (rest : List Token) (r : Reader) : Type 0 where
-  pub agrees : Agrees r.tail r.tie rest
+  pub agrees : Agrees r.tail rest
   pub fine : refused (held r.tail rest) ≡ false
   pub short : newest (held r.tail rest) ≤ MAX_PLAIN_WORD_BYTES
   pub stands : Stands (settled r.tail rest) (held r.tail rest) r.gathered

@@ -1,53 +1,41 @@
-//! Tokens that begin.
-ghost use Rattle.std.specs.Prelude.{◌≡◌, ◌≤◌, List, ◌∷◌, encode_utf8, length, true, false};
-ghost use Rattle.cs_model.specs.Tokens.{Token, Word, Run, Gap, Open};
-ghost use Rattle.cs_model.specs.Grammar.{tie as tie_of};
+//! Tokens that begin. The atom of a word or a value that can't go on is put among the parts.
+ghost use Rattle.std.specs.Prelude.{◌≡◌, ◌≤◌, List, [], ◌∷◌, encode_utf8, length, true, false, IfOk};
 ghost use Rattle.cs_model.specs.Collection.{has_name_form};
+ghost use Rattle.cs_model.specs.Tokens.{Token, Word, Value, Run, Gap, Dollar, Bar, Colon};
 ghost use Rattle.cs_model.specs.Refusals.{begins_part, refused};
-ghost use Rattle.cs_query.specs.Following.{Agrees, Stands, JudgesTokens, held, settled};
+ghost use Rattle.cs_query.specs.Following.{Agrees, Stands, StandsBehind, JudgesTokens, held, settled};
 
 use crate::fault::Stop;
 use crate::reader::{Gathered, Reader, Tail};
-use crate::tails::{settle, spot_of};
-use cs_base::{MAX_ATOMS, MAX_DEPTH, MAX_PARTS, Seq, Text, Which};
-use cs_model::{Level, Tie};
+use crate::tails::{settle, spot_of, tie_behind};
+use cs_base::{Atom, MAX_ATOMS, MAX_PARTS, Memory, Text, Which};
+use cs_model::Tie;
+use cs_text::{has_name_form, named_word};
 use std::alloc::Global;
 
 /// A word begins.
 #[tactic(auto, using(crate::proofs::Verdicts::over_query, crate::proofs::Verdicts::over_parts, crate::proofs::Verdicts::over_atoms))]
-pub fn begin_word(alloc: Global, c: char, tie: Tie, gathered: Gathered) -> Result<Reader, Stop>
-    ensures { (ts : List Token) → Stands ts ts gathered → tie ≡ tie_of ts → refused (Word (encode_utf8 c) ∷ ts) ≡ false
-        → Judges (Word (encode_utf8 c) ∷ ts) result }
+pub fn begin_word(alloc: Global, c: char, tail: Tail, gathered: Gathered) -> Result<Reader, Stop>
+    ensures { (rest : List Token) → Agrees tail rest → Stands (settled tail rest) (held tail rest) gathered
+        → refused (Word (encode_utf8 c) ∷ held tail rest) ≡ false → JudgesTokens (Word (encode_utf8 c) ∷ held tail rest) result }
 {
-    let Gathered {
-        parts,
-        open_now,
-        begun,
-        atoms,
-        room,
-    } = gathered;
-    let size = c.len_utf8();
-    if room < size {
-        return Err(Stop::Limit(Which::Query));
-    }
+    let tie = tie_behind(&tail);
+    let gathered = settle(alloc, tail, gathered)?;
+    let gathered = gathered.spend(c.len_utf8())?;
     let more = begins_part(tie);
-    if begun > MAX_PARTS - more {
+    if gathered.begun > MAX_PARTS - more {
         return Err(Stop::Limit(Which::Parts));
     }
-    if atoms >= MAX_ATOMS {
+    if gathered.atoms >= MAX_ATOMS {
         return Err(Stop::Limit(Which::Atoms));
     }
-    let mut word = Text::new(alloc);
-    word.push(c)?;
+    let text = text_of_char(alloc, c)?;
     Ok(Reader {
-        tail: Tail::Word(word),
-        tie,
+        tail: Tail::Word { tie, text },
         gathered: Gathered {
-            parts,
-            open_now,
-            begun: begun + more,
-            atoms: atoms + 1,
-            room: room - size,
+            begun: gathered.begun + more,
+            atoms: gathered.atoms + 1,
+            ..gathered
         },
     })
 }
@@ -65,95 +53,109 @@ fn begins_part(tie: Tie) -> usize
 
 /// A run begins.
 #[tactic(auto, using(crate::proofs::Verdicts::over_query))]
-pub fn begin_run(
-    alloc: Global,
-    c: char,
-    tail: Tail,
-    tie: Tie,
-    gathered: Gathered,
-) -> Result<Reader, Stop>
-    ensures { (rest : List Token) → Agrees tail tie rest → Stands (settled tail rest) (held tail rest) gathered
-        → refused (Run (encode_utf8 c) ∷ held tail rest) ≡ false → Judges (Run (encode_utf8 c) ∷ held tail rest) result }
+pub fn begin_run(alloc: Global, c: char, tail: Tail, gathered: Gathered) -> Result<Reader, Stop>
+    ensures { (rest : List Token) → Agrees tail rest → Stands (settled tail rest) (held tail rest) gathered
+        → refused (Run (encode_utf8 c) ∷ held tail rest) ≡ false → JudgesTokens (Run (encode_utf8 c) ∷ held tail rest) result }
 {
-    let size = c.len_utf8();
-    if gathered.room < size {
-        return Err(Stop::Limit(Which::Query));
-    }
-    let room = gathered.room - size;
     let spot = spot_of(&tail);
-    let mut gathered = settle(alloc, tail, tie, gathered)?;
-    gathered.room = room;
-    let mut text = Text::new(alloc);
-    text.push(c)?;
-    let tail = Tail::Run { spot, text };
+    let gathered = settle(alloc, tail, gathered)?;
+    let gathered = gathered.spend(c.len_utf8())?;
+    let text = text_of_char(alloc, c)?;
     Ok(Reader {
-        tail,
-        tie,
+        tail: Tail::Run { spot, text },
         gathered,
     })
 }
 
 /// A gap begins.
 #[tactic(auto, using(crate::proofs::Verdicts::over_query))]
-pub fn begin_gap(
-    alloc: Global,
-    c: char,
-    tail: Tail,
-    tie: Tie,
-    gathered: Gathered,
-) -> Result<Reader, Stop>
-    ensures { (rest : List Token) → Agrees tail tie rest → Stands (settled tail rest) (held tail rest) gathered
-        → refused (Gap (length (encode_utf8 c)) ∷ held tail rest) ≡ false → Judges (Gap (length (encode_utf8 c)) ∷ held tail rest) result }
+pub fn begin_gap(alloc: Global, c: char, tail: Tail, gathered: Gathered) -> Result<Reader, Stop>
+    ensures { (rest : List Token) → Agrees tail rest → Stands (settled tail rest) (held tail rest) gathered
+        → refused (Gap (length (encode_utf8 c)) ∷ held tail rest) ≡ false
+        → JudgesTokens (Gap (length (encode_utf8 c)) ∷ held tail rest) result }
 {
-    let size = c.len_utf8();
-    if gathered.room < size {
-        return Err(Stop::Limit(Which::Query));
-    }
-    let room = gathered.room - size;
-    let mut gathered = settle(alloc, tail, tie, gathered)?;
-    gathered.room = room;
-    let tail = Tail::Gap(size);
+    let gathered = settle(alloc, tail, gathered)?;
+    let gathered = gathered.spend(c.len_utf8())?;
     Ok(Reader {
-        tail,
-        tie,
+        tail: Tail::Gap(c.len_utf8()),
         gathered,
     })
 }
 
-/// A bracket opens behind a name.
-#[tactic(auto, using(crate::proofs::Lasts::reverse_push, crate::proofs::Verdicts::over_query, crate::proofs::Verdicts::over_depth))]
-pub fn enter(alloc: Global, name: Text, tie: Tie, gathered: Gathered) -> Result<Reader, Stop>
-    ensures { (rest : List Token) → Agrees (Tail.Word name) tie rest → has_name_form name ≡ true
-        → Stands rest (Word name ∷ rest) gathered → Judges (Open ∷ Word name ∷ rest) result }
+/// A bar begins.
+#[tactic(auto, using(crate::proofs::Verdicts::over_query))]
+pub fn begin_bar(alloc: Global, tail: Tail, gathered: Gathered) -> Result<Reader, Stop>
+    ensures { (rest : List Token) → Agrees tail rest → Stands (settled tail rest) (held tail rest) gathered
+        → refused (Bar ∷ held tail rest) ≡ false → JudgesTokens (Bar ∷ held tail rest) result }
 {
-    let Gathered {
-        parts,
-        mut open_now,
-        begun,
-        atoms,
-        room,
-    } = gathered;
-    if room < 2 {
-        return Err(Stop::Limit(Which::Query));
-    }
-    if open_now.len() >= MAX_DEPTH {
-        return Err(Stop::Limit(Which::Depth));
-    }
-    open_now.push(Level {
-        tie,
-        name,
-        before: parts,
-    })?;
-    let parts = Seq::new(alloc);
+    let gathered = settle(alloc, tail, gathered)?;
+    let gathered = gathered.spend(1)?;
     Ok(Reader {
-        tail: Tail::Open,
-        tie,
-        gathered: Gathered {
-            parts,
-            open_now,
-            begun,
-            atoms,
-            room: room - 2,
-        },
+        tail: Tail::Bar,
+        gathered,
     })
+}
+
+/// A dollar behind a word.
+#[tactic(auto, using(crate::proofs::Verdicts::over_query))]
+pub fn exact_word(alloc: Global, tie: Tie, text: Text, gathered: Gathered) -> Result<Reader, Stop>
+    ensures { (rest : List Token) → StandsBehind rest (record { tail = Tail.Word tie text; gathered = gathered })
+        → JudgesTokens (Dollar ∷ Word text ∷ rest) result }
+{
+    let gathered = gathered.spend(1)?;
+    let gathered = gathered.add(alloc, tie, Atom::Exact(text))?;
+    Ok(Reader {
+        tail: Tail::Dollar,
+        gathered,
+    })
+}
+
+/// A dollar behind a value, which must not be empty.
+#[tactic(auto, using(crate::proofs::Verdicts::over_query, crate::proofs::Verdicts::dollar_fine))]
+pub fn exact_value(
+    alloc: Global,
+    tie: Tie,
+    name: Text,
+    text: Text,
+    gathered: Gathered,
+) -> Result<Reader, Stop>
+    ensures { (rest : List Token) → StandsBehind rest (record { tail = Tail.Value tie name text; gathered = gathered })
+        → JudgesTokens (Dollar ∷ Value text ∷ Colon ∷ Word name ∷ rest) result }
+{
+    if text.len() == 0 {
+        return Err(Stop::Bad);
+    }
+    let gathered = gathered.spend(1)?;
+    let word = named_word(alloc, name.as_str(), text.as_str())?;
+    let gathered = gathered.add(alloc, tie, Atom::Exact(word))?;
+    Ok(Reader {
+        tail: Tail::Dollar,
+        gathered,
+    })
+}
+
+/// A colon behind a word, which must be a name.
+#[tactic(auto, using(crate::proofs::Verdicts::over_query))]
+pub fn begin_value(alloc: Global, tie: Tie, name: Text, gathered: Gathered) -> Result<Reader, Stop>
+    ensures { (rest : List Token) → StandsBehind rest (record { tail = Tail.Word tie name; gathered = gathered })
+        → JudgesTokens (Value [] ∷ Colon ∷ Word name ∷ rest) result }
+{
+    if !has_name_form(name.as_str().as_bytes()) {
+        return Err(Stop::Bad);
+    }
+    let gathered = gathered.spend(1)?;
+    let text = Text::new(alloc);
+    Ok(Reader {
+        tail: Tail::Value { tie, name, text },
+        gathered,
+    })
+}
+
+/// A text of one character.
+fn text_of_char(alloc: Global, c: char) -> Result<Text, Memory>
+    ensures { IfOk result (λ t. t ≡ encode_utf8 c) }
+{
+    let mut text = Text::new(alloc);
+    text.push(c)?;
+    Ok(text)
 }

@@ -41,3 +41,19 @@ impl From<Memory> for Stop {
         Stop::Memory
     }
 }
+
+/// The text would be longer than a query may be.
+#[derive(Clone, Copy, Drop)]
+pub struct NoRoom;
+
+impl From<NoRoom> for Stop {
+    ghost use Rattle.std.specs.Prelude.{◌≡◌};
+    ghost use Rattle.cs_base.specs.declared.content.query.Which.TheVariants.{Query};
+    ghost use Rattle.cs_query.specs.declared.fault.Stop.TheVariants.{Limit as OverLimit};
+
+    ghost from_gives = { λ _ e. e ≡ OverLimit Query };
+
+    fn from(_: NoRoom) -> Self {
+        Stop::Limit(Which::Query)
+    }
+}

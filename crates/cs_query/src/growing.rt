@@ -1,34 +1,26 @@
-//! Words and values that go on.
-ghost use Rattle.std.specs.Prelude.{◌≡◌, List, ◌∷◌, ◌++◌, false, encode_utf8};
-ghost use Rattle.cs_model.specs.Tokens.{Token, Word, Value, Colon};
-ghost use Rattle.cs_model.specs.Grammar.{tie as tie_of};
-ghost use Rattle.cs_model.specs.Refusals.{refused};
-ghost use Rattle.cs_query.specs.Following.{JudgesTokens, Stands};
+//! The newest token with one character more.
+ghost use Rattle.std.specs.Prelude.{◌+◌, List, ◌∷◌, ◌++◌, encode_utf8, length};
+ghost use Rattle.cs_model.specs.Tokens.{Token, Word, Value, Run, Gap, Colon};
+ghost use Rattle.cs_query.specs.Following.{JudgesTokens, StandsBehind};
 
 use crate::fault::Stop;
 use crate::reader::{Gathered, Reader, Tail};
 use cs_base::{MAX_PLAIN_WORD_BYTES, Text, Which};
-use cs_model::Tie;
+use cs_model::{Spot, Tie};
 
 /// A word with one character more.
 #[tactic(auto, using(crate::proofs::Verdicts::over_query, crate::proofs::Verdicts::over_word))]
-pub fn grow_word(c: char, mut word: Text, tie: Tie, mut gathered: Gathered) -> Result<Reader, Stop>
-    ensures { (rest : List Token) → tie ≡ tie_of rest → refused (Word word ∷ rest) ≡ false → Stands rest (Word word ∷ rest) gathered
-        → Judges (Word (word ++ encode_utf8 c) ∷ rest) result }
+pub fn grow_word(c: char, tie: Tie, mut text: Text, gathered: Gathered) -> Result<Reader, Stop>
+    ensures { (rest : List Token) → StandsBehind rest (record { tail = Tail.Word tie text; gathered = gathered })
+        → JudgesTokens (Word (text ++ encode_utf8 c) ∷ rest) result }
 {
-    let size = c.len_utf8();
-    if gathered.room < size {
-        return Err(Stop::Limit(Which::Query));
-    }
-    if word.len() > MAX_PLAIN_WORD_BYTES - size {
+    let gathered = gathered.spend(c.len_utf8())?;
+    if text.len() > MAX_PLAIN_WORD_BYTES - c.len_utf8() {
         return Err(Stop::Limit(Which::Word));
     }
-    word.push(c)?;
-    gathered.room -= size;
-    let tail = Tail::Word(word);
+    text.push(c)?;
     Ok(Reader {
-        tail,
-        tie,
+        tail: Tail::Word { tie, text },
         gathered,
     })
 }
@@ -37,27 +29,49 @@ pub fn grow_word(c: char, mut word: Text, tie: Tie, mut gathered: Gathered) -> R
 #[tactic(auto, using(crate::proofs::Verdicts::over_query, crate::proofs::Verdicts::over_word))]
 pub fn grow_value(
     c: char,
+    tie: Tie,
     name: Text,
     mut text: Text,
-    tie: Tie,
-    mut gathered: Gathered,
+    gathered: Gathered,
 ) -> Result<Reader, Stop>
-    ensures { (rest : List Token) → tie ≡ tie_of rest → refused (Value text ∷ Colon ∷ Word name ∷ rest) ≡ false
-        → Stands rest (Value text ∷ Colon ∷ Word name ∷ rest) gathered → Judges (Value (text ++ encode_utf8 c) ∷ Colon ∷ Word name ∷ rest) result }
+    ensures { (rest : List Token) → StandsBehind rest (record { tail = Tail.Value tie name text; gathered = gathered })
+        → JudgesTokens (Value (text ++ encode_utf8 c) ∷ Colon ∷ Word name ∷ rest) result }
 {
-    let size = c.len_utf8();
-    if gathered.room < size {
-        return Err(Stop::Limit(Which::Query));
-    }
-    if text.len() > MAX_PLAIN_WORD_BYTES - size {
+    let gathered = gathered.spend(c.len_utf8())?;
+    if text.len() > MAX_PLAIN_WORD_BYTES - c.len_utf8() {
         return Err(Stop::Limit(Which::Word));
     }
     text.push(c)?;
-    gathered.room -= size;
-    let tail = Tail::Value { name, text };
     Ok(Reader {
-        tail,
-        tie,
+        tail: Tail::Value { tie, name, text },
+        gathered,
+    })
+}
+
+/// A run with one character more.
+#[tactic(auto, using(crate::proofs::Verdicts::over_query))]
+pub fn grow_run(c: char, spot: Spot, mut text: Text, gathered: Gathered) -> Result<Reader, Stop>
+    ensures { (rest : List Token) → StandsBehind rest (record { tail = Tail.Run spot text; gathered = gathered })
+        → JudgesTokens (Run (text ++ encode_utf8 c) ∷ rest) result }
+{
+    let gathered = gathered.spend(c.len_utf8())?;
+    text.push(c)?;
+    Ok(Reader {
+        tail: Tail::Run { spot, text },
+        gathered,
+    })
+}
+
+/// A gap with one character more.
+#[tactic(auto, using(crate::proofs::Verdicts::over_query))]
+pub fn grow_gap(c: char, bytes: usize, gathered: Gathered) -> Result<Reader, Stop>
+    ensures { (rest : List Token) → StandsBehind rest (record { tail = Tail.Gap bytes; gathered = gathered })
+        → JudgesTokens (Gap (bytes + length (encode_utf8 c)) ∷ rest) result }
+{
+    let size = c.len_utf8();
+    let gathered = gathered.spend(size)?;
+    Ok(Reader {
+        tail: Tail::Gap(bytes.saturating_add(size)),
         gathered,
     })
 }

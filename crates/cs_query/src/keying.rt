@@ -117,7 +117,7 @@ fn extend(alloc: Global, parts: &[Part]) -> Result<Option<Key>, Memory>
 }
 
 /// The prefix that is being typed: that at the end of the last part, where the part is positive and has one chain.
-fn last_prefix(query: &Query) -> Option<&str>
+pub fn last_prefix(query: &Query) -> Option<&str>
     ensures { option_map (λ w. w.now) result ≡ last_prefix query.now }
 {
     match query.parts.as_slice().last() {

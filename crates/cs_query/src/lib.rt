@@ -8,6 +8,7 @@
 
 mod attaching;
 mod beginnings;
+mod brackets;
 mod classes;
 mod fault;
 mod growing;
@@ -17,8 +18,6 @@ mod printing;
 mod reader;
 mod reply;
 mod request;
-mod runs;
-mod signs;
 mod steps;
 mod tails;
 #[cfg(test)]
@@ -26,7 +25,7 @@ mod tests;
 
 pub use cs_base::{Atom, Chain, Key, Keys, Link, Linked, Narrower, Part, Query, Which};
 pub use fault::QueryFault;
-pub use keying::keys;
+pub use keying::{keys, last_prefix};
 pub use parsing::parse;
 pub use printing::print;
 pub use reply::{FacetShown, HitShown, Reply, Shown};

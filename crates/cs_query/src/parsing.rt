@@ -14,7 +14,7 @@ use crate::reader::{Gathered, Reader, Tail};
 use crate::steps::step;
 use crate::tails::settle;
 use cs_base::{MAX_QUERY_BYTES, Memory, Part, Query, Seq};
-use cs_model::{Level, Tie};
+use cs_model::Level;
 use cs_text::norm;
 use std::alloc::Global;
 
@@ -62,7 +62,6 @@ fn start(alloc: Global) -> Reader
 {
     Reader {
         tail: Tail::Start,
-        tie: Tie::Begins { excluded: false },
         gathered: Gathered {
             parts: Seq::new(alloc),
             open_now: Seq::new(alloc),
@@ -87,19 +86,8 @@ fn fault_at(at: u32, stop: Stop) -> QueryFault
 fn finish(alloc: Global, reader: Reader) -> Result<Query, Memory>
     ensures { IfOk result (λ q. (rest : List Token) → StandsBehind rest reader → q ≡ query_of_tokens (held reader.tail rest)) }
 {
-    let Reader {
-        tail,
-        tie,
-        gathered,
-    } = reader;
-    let Gathered {
-        parts,
-        open_now,
-        begun: _,
-        atoms: _,
-        room: _,
-    } = settle(alloc, tail, tie, gathered)?;
-    let parts = close_all(alloc, parts, open_now)?;
+    let gathered = settle(alloc, reader.tail, reader.gathered)?;
+    let parts = close_all(alloc, gathered.parts, gathered.open_now)?;
     Ok(Query { parts })
 }
 
