@@ -36,7 +36,7 @@ pub struct Engine {
 }
 
 impl Model for Engine {
-ghost use Rattle.cs_engine.specs.Keeping.{EngineView, KeepsFitting};
+    ghost use Rattle.cs_engine.specs.Keeping.{EngineView, KeepsFitting};
 
     ghost Value = { EngineView };
 

@@ -21,7 +21,7 @@ mod tests;
 
 pub use cs_model_serving::Framed;
 pub use cs_query::{Param, ReqFault, Request};
-pub use framing::{Look, Seen, LineState, frame};
+pub use framing::{LineState, Look, Seen, frame};
 pub use heads::{Asked, HeadFault, head};
 pub use parameters::request;
 pub use responses::{memory_response, wrap};

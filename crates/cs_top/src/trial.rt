@@ -29,7 +29,11 @@ use cs_trial::{Counts, collection, requests, summary_bytes};
 use std::alloc::Global;
 
 /// Puts the summary of a trial.
-pub(crate) fn trial<'a, O: Sink>(alloc: Global, number: &str, out: &mut O) -> Result<(), RunStop<'a>>
+pub(crate) fn trial<'a, O: Sink>(
+    alloc: Global,
+    number: &str,
+    out: &mut O,
+) -> Result<(), RunStop<'a>>
     requires { is_number MAX_TRIAL_DIGITS MAX_TRIAL number.now ≡ true }
 
     ensures ends { TrialEnds (ended result) number.now (wrote O.written O.faults out.old out.new) }

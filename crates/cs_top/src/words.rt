@@ -95,7 +95,10 @@ fn serve<'a>(command: &str, index: &'a str, port: &'a str, conns: &'a str) -> Op
     ensures seen { option_map seen_command result ≡ serve_words command.now index.now port.now conns.now }
     ensures numbers { ForSome result HasNumbers }
 {
-    if command == "serve" && is_number(port, MAX_PORT_DIGITS, MAX_PORT) && is_number(conns, MAX_CONNECTIONS_DIGITS, MAX_CONNECTIONS) {
+    if command == "serve"
+        && is_number(port, MAX_PORT_DIGITS, MAX_PORT)
+        && is_number(conns, MAX_CONNECTIONS_DIGITS, MAX_CONNECTIONS)
+    {
         Some(Command::Serve { index, port, conns })
     } else {
         None
