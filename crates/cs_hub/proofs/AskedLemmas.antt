@@ -47,7 +47,7 @@ use Rattle.cs_model.specs.Requests.{Request}
 use Rattle.cs_model_serving.specs.declared.framed.Framed.TheVariants as framed
 use Rattle.cs_model_serving.specs.Connections.{Left}
 use Rattle.cs_model_serving.specs.Framing.{frame}
-use Rattle.cs_model_serving.specs.Heads.{Judgement, refused, asks, judge}
+use Rattle.cs_model_serving.specs.Heads.{Judgement, asks, judge}
 use Rattle.cs_model_serving.specs.Responses.{Response, all_bytes, memory_bytes, response_bytes, too_long}
 use Rattle.cs_query.specs.declared.request.ReqFault.{ReqFault}
 use Rattle.cs_query.specs.declared.request.ReqFault.TheVariants as faults

@@ -1,7 +1,7 @@
 use Rattle.std.proofs.Common.{◌∙◌, ap, arith, rules}
 use Rattle.cs_base.specs.outside.Hub.{Listening}
 use Rattle.cs_hub.proofs.RoundLemmas.{at_start, start_live, start_still, goes_on, served_by, less_left}
-use Rattle.cs_hub.proofs.SpeakLemmas.{breaks_both, breaks_none, none_broken}
+use Rattle.cs_hub.proofs.SpeakLemmas.{breaks_both, breaks_none}
 use Rattle.cs_hub.proofs.serving.serve_with.Goals as goal
 
 pub loop-alloc-init : goal.loop-alloc-init
