@@ -2,14 +2,16 @@
 --
 --   unkeyed             a packed post is the post of its number
 --   ordered_is          what is left of sorted numbers is in order, and loses no member
---   packed_block        the posts of a block are packed
+--   packed_posts, within_posts, known_posts     posts that are read are packed, and in range
+--   at_place, packs_on, packs_run     numbers of a run of posts, one post more, and of a run more
 --   no_keys, keys_more  numbers of no block, and of one block more
 --   gathered            what is gathered of a run of blocks
 --   ordered_within, ordered_passed, ordered_told     what is brought into order of it
 --   as_they_come        and what isn't
 --   keys_among, keys_between     what holds of each of the rows
-use Rattle.std.proofs.Common.{◌≡◌, ℕ, zero, suc, ◌+◌, ◌-◌, ◌*◌, ◌/◌, ◌%◌, ◌<◌, ◌≤◌, ◌==◌, ◌&&◌, ◌||◌, Bool, true, false, true≢false, cond, List, [], ◌∷◌, ◌++◌, length, get_or, take, drop, map, Option, None, refl, sym, ap, ap₂, subst, ◌∙◌, arith}
+use Rattle.std.proofs.Common.{◌≡◌, ℕ, zero, suc, ◌+◌, ◌-◌, ◌*◌, ◌/◌, ◌%◌, ◌<◌, ◌≤◌, ◌==◌, ◌&&◌, ◌||◌, Bool, true, false, true≢false, cond, List, [], ◌∷◌, ◌++◌, length, get_or, take, drop, map, Option, None, refl, sym, ap, ap₂, subst, ◌∙◌, arith, set, append_assoc, if◌then◌else◌}
 use Rattle.std.specs.Prelude.{All, filter, flat_map, nat_le, nat_lt}
+use Rattle.std.specs.Int.{from_bool}
 use Rattle.std.specs.List.{AllByRecursion, Contains, list_any}
 use Rattle.std.specs.List.Sorted.{IsPermutation, IsSorted, IsStrictlySortedBy}
 use Rattle.std.specs.Ordering.{is_lt, nat_cmp, ordering_then}
@@ -17,22 +19,21 @@ use Rattle.std.specs.declared.cmp.Ordering.{Ordering}
 use Rattle.std.specs.declared.cmp.Ordering.TheVariants.{Less, Equal}
 use Rattle.std.proofs.lemmas.Bool.{and_parts, eq-eqb, eqb-true, leb-true, ltb-false, ltb-true}
 use Rattle.std.proofs.lemmas.Bool.Decides.{nat_tests}
-use Rattle.std.proofs.lemmas.List.{map-append}
+use Rattle.std.proofs.lemmas.List.{map-append, drop_more, take-set, take_more_set}
 use Rattle.std.proofs.lemmas.List.Elements.{All-nil, All-append, All-contains, All-filter, All-from_recursion, All-map, All-weaker, Contains-append_left, Contains-append_right, Contains-get_or, filter_passes, recursion_from_All}
 use Rattle.std.proofs.lemmas.List.Kept.{IsStrictlySortedBy-filter}
 use Rattle.std.proofs.lemmas.List.Sorted.{All-permutation, IsPermutation-map, list_any-IsPermutation}
 use Rattle.cs_base.specs.content.Orders.{AreSorted, by_place}
 use Rattle.cs_base.specs.declared.content.doc.Post.{Post}
-use Rattle.cs_base.specs.declared.index.block.BlockHead.{BlockHead}
 use Rattle.cs_base.proofs.MembersLemmas.{again}
 use Rattle.cs_base.proofs.OrdersLemmas.{Less-from_lt}
-use Rattle.cs_file.specs.Answers.{HasBlock}
+use Rattle.cs_file.specs.Answers.{IsRanged}
 use Rattle.cs_file.specs.Indexes.{AreMet, IndexView, IsIndex, StandsFor, block_posts}
 use Rattle.cs_file.proofs.StoodLemmas.{stood_count}
 use Rattle.cs_meet.specs.Filters.{shares_place}
 use Rattle.cs_model.specs.Scores.{SCORES}
 use Rattle.cs_tables.specs.WordCounts.{AreCountable, is_chosen}
-use Rattle.cs_model_index.specs.BlockRules.{in_kind, is_scored}
+use Rattle.cs_model_index.specs.BlockRules.{is_scored}
 use Rattle.cs_model_index.specs.Sections.{image_of}
 use Rattle.cs_engine.specs.Packing.{HasKeys, IsOrdered, IsPacked, apart, key_of, place_of_key, post_of_key}
 use Rattle.cs_engine.specs.Counting.{in_listed}
@@ -41,8 +42,8 @@ use Rattle.cs_engine.specs.Reading.{AreWithin, IsWithin, WhereStood, run_of, sto
 use Rattle.cs_engine.specs.Stocked.{is_between}
 use Rattle.cs_engine.specs.declared.packing.TheConstants.{NO_PLACE, POSITION_ROOM, SCORE_ROOM}
 use Rattle.cs_engine.proofs.CountingLemmas.{counted_alike, counted_long, countable, flat_more}
-use Rattle.cs_engine.proofs.ReadingLemmas.{fetched_within, same_posts}
-use Rattle.cs_engine.proofs.StockLemmas.{from_file, kept_all, stocked}
+use Rattle.cs_engine.proofs.ReadingLemmas.{same_posts}
+use Rattle.cs_engine.proofs.StockLemmas.{from_file, stocked}
 use Rattle.cs_engine.proofs.UnionLemmas.{one_post}
 
 -- ---- a post and its number
@@ -244,21 +245,60 @@ has_room : (facet : Bool) (r : Post) → is_scored SCORES facet r ≡ true → H
 has_room true r h = record { pos = grind (arith, nat_tests); score = grind (arith, nat_tests) }
 has_room false r h = record { pos = grind (arith, nat_tests); score = grind (arith, nat_tests) }
 
-pub packed_block : (i : IndexView) → IsIndex i → (told : Option (List ℕ)) (k : ℕ) → k < length i.heads → (old new : List Post) → old ≡ [] → HasBlock i told k old new → All IsPacked new
-packed_block i is told k lt old new none h =
-    let d : BlockHead = record { lo = 0; words = 0; rows = 0; len = 0; facet = false } in
-    let all : new ≡ h.rows = h.added ∙ ap (λ (x : List Post). x ++ h.rows) none in
-    let head = get_or i.heads k d in
-    let each = kept_all (in_kind SCORES head).holds HasRoom (λ last r e. has_room head.facet r e) None h.rows (h.block d).meets.1.1.0 in
-    let rooms = subst (All HasRoom) (sym all) (All-from_recursion HasRoom h.rows each) in
-    let within = (fetched_within i is told k lt old new none h).within in
+-- posts in the range of an index have room, and numbers of one byte
+pub packed_posts : (i : IndexView) → IsIndex i → (read : List Post) → All (IsRanged i) read → All IsPacked read
+packed_posts i is read ranged =
     let docs = is.few_docs in
     let words = is.few_words in
     λ j e l.
-    let w = within j e l in
-    let doc = w.doc in
-    let word = w.word in
-    record { doc = omega (arith, doc, docs); pos = (rooms j e l).pos; word = omega (arith, word, words); score = (rooms j e l).score }
+    let p = ranged j e l in
+    let doc = p.doc in
+    let word = p.word in
+    let room = has_room p.facet (get_or read j e) p.scored in
+    record { doc = omega (arith, doc, docs); pos = room.pos; word = omega (arith, word, words); score = room.score }
+
+pub within_posts : (i : IndexView) (read : List Post) → All (IsRanged i) read → All (IsWithin i.docs (length i.words)) read
+within_posts i read ranged = λ j e l.
+    let p = ranged j e l in
+    let room = has_room p.facet (get_or read j e) p.scored in
+    let score = room.score in
+    record { doc = p.doc; word = p.word; score = omega (arith, score) }
+
+pub known_posts : (i : IndexView) (n : ℕ) → n ≡ i.docs → (read : List Post) → All (IsRanged i) read → All (λ p. p.doc < n) read
+known_posts i n same read ranged = λ j e l. let p = ranged j e l in let doc = p.doc in omega (arith, doc, same)
+
+pub at_place : (P : Post → Type 0) (posts : List Post) (i : ℕ) (p : Post) → i < length posts → p ≡ get_or posts i p → All P posts → P p
+at_place P posts i p lt is all = subst P (sym is) (all i p lt)
+
+pub counts_one : (b : Bool) → from_bool b ≡ (if b then 1 else 0)
+counts_one true = refl
+counts_one false = refl
+
+pub at_most_one : (b : Bool) → (if b then 1 else 0) ≤ 1
+at_most_one true = omega arith
+at_most_one false = omega arith
+
+-- behind a run what is left comes behind what was added
+pub packs_run : (old now run rest here : List ℕ) → now ≡ old ++ run → run ++ rest ≡ here → now ++ rest ≡ old ++ here
+packs_run old now run rest here added run_is = ap (λ xs. xs ++ rest) added ∙ append_assoc old run rest ∙ ap (λ xs. old ++ xs) run_is
+
+none_more : (n : ℕ) → n + 0 ≡ n
+none_more n = omega arith
+
+-- of one post more the number is put behind those that were chosen, and counts where it is chosen too
+pub packs_on : (t : Post → Bool) (posts : List Post) (i : ℕ) (p : Post) (run : List ℕ) (n m : ℕ) (whole : List ℕ) → i < length posts → p ≡ get_or posts i p → n < length run → m ≡ n + (if t p then 1 else 0)
+    → take n run ++ map key_of (filter t (drop i posts)) ≡ whole → take m (set run n (key_of p)) ++ map key_of (filter t (drop (i + 1) posts)) ≡ whole
+packs_on t posts i p run n m whole lt is room count h =
+    let rest = drop (i + 1) posts in
+    let split : drop i posts ≡ p ∷ rest = drop_more posts i p lt ∙ ap (λ q. q ∷ rest) (sym is) in
+    elim (t p) as (λ b. t p ≡ b → m ≡ n + cond b 1 0 → take m (set run n (key_of p)) ++ map key_of (filter t rest) ≡ whole) [
+      | true ↦ λ e at.
+          ap (λ x. take x (set run n (key_of p)) ++ map key_of (filter t rest)) at ∙ ap (λ xs. xs ++ map key_of (filter t rest)) (take_more_set run n (key_of p) room) ∙ append_assoc (take n run) (key_of p ∷ []) (map key_of (filter t rest))
+          ∙ ap (λ b. take n run ++ map key_of (cond b (p ∷ filter t rest) (filter t rest))) (sym e) ∙ ap (λ xs. take n run ++ map key_of (filter t xs)) (sym split) ∙ h
+      | false ↦ λ e at.
+          ap (λ x. take x (set run n (key_of p)) ++ map key_of (filter t rest)) (at ∙ none_more n) ∙ ap (λ xs. xs ++ map key_of (filter t rest)) (take-set run n (key_of p))
+          ∙ ap (λ b. take n run ++ map key_of (cond b (p ∷ filter t rest) (filter t rest))) (sym e) ∙ ap (λ xs. take n run ++ map key_of (filter t xs)) (sym split) ∙ h
+    ] refl count
 
 pub no_keys : (i : IndexView) (told : Option (List ℕ)) (first : ℕ) (t : Post → Bool) (keys : List ℕ) → keys ≡ [] → HasKeys i told first first t keys
 no_keys i told first t keys none = record {

@@ -39,7 +39,7 @@ fn count_between(words: &[u32], lo: u32, hi: u32) -> usize
 pub(crate) fn is_in(word: u32, lo: u32, hi: u32) -> bool
     ensures { result ≡ (nat_le lo word && nat_lt word hi) }
 {
-    lo <= word && word < hi
+    (lo <= word) & (word < hi)
 }
 
 /// Whether a post's word is one of these and its document is listed.

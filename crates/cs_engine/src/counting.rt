@@ -17,7 +17,8 @@ ghost use Rattle.cs_engine.specs.Stocked.{is_between};
 use crate::fault::AskFault;
 use crate::packing::post_of;
 use cs_base::{Base, Memory, Scored, Store};
-use cs_file::Index;
+use cs_file::{Fetched, Index};
+use cs_cols::Cols;
 use cs_tables::{Table, WordCounts};
 use std::alloc::Global;
 
@@ -78,33 +79,22 @@ pub(crate) fn table_between<S: Store>(
     let (lo, hi) = words;
     let (first, last) = index.blocks(lo, hi);
     let mut counts = WordCounts::new(alloc, lo, hi)?;
-    let mut docs = Vec::new(alloc);
-    let mut numbers = Vec::new(alloc);
+    let mut block = Fetched::new(alloc);
     for k in first..last {
-        count_block(
-            alloc,
-            index,
-            store,
-            k,
-            listed,
-            &mut docs,
-            &mut numbers,
-            &mut counts,
-        )?;
+        count_block(alloc, index, store, k, listed, &mut block, &mut counts)?;
     }
     let table = counts.table(alloc, cut)?;
     Ok(table)
 }
 
-// Counts the rows of block `k`, which is read once. The columns take the documents of its rows and the numbers of their words.
+// Counts the rows of block `k`, which is read once.
 fn count_block<S: Store>(
     alloc: Global,
     index: &Index,
     store: &mut S,
     k: u32,
     listed: &[bool],
-    docs: &mut Vec<u32>,
-    numbers: &mut Vec<u32>,
+    block: &mut Fetched,
     counts: &mut WordCounts,
 ) -> Result<(), AskFault>
     requires in_range { k < length index.now.heads }
@@ -121,8 +111,8 @@ fn count_block<S: Store>(
     ensures reads { ReadsWithin 1 (S.reads store.old) (S.reads store.new) }
     ensures caused { CausedReads (is_read result) (S.faults store.old) (S.faults store.new) }
 {
-    index.fetch_doc_words(alloc, store, k, docs, numbers)?;
-    counts.add(docs, numbers, listed);
+    index.fetch_doc_words(alloc, store, k, block)?;
+    counts.add(&block.docs, &block.words, listed);
     Ok(())
 }
 

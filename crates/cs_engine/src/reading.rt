@@ -1,5 +1,5 @@
 //! The rows of a range of words, read from the blocks of an index.
-ghost use Rattle.std.specs.Prelude.{◌≡◌, ℕ, ◌+◌, ◌≤◌, ◌<◌, [], false, true, filter, length, IfOk, OnOk};
+ghost use Rattle.std.specs.Prelude.{◌≡◌, ℕ, ◌+◌, ◌≤◌, ◌<◌, false, true, filter, length, IfOk, OnOk};
 ghost use Rattle.std.specs.List.{All};
 ghost use Rattle.cs_base.specs.outside.Causes.{ReadsWithin};
 ghost use Rattle.cs_file.specs.Indexes.{IsIndex, Fits, CausedReads, is_met};
@@ -16,7 +16,7 @@ use crate::fault::AskFault;
 use crate::packing::{ordered, pack};
 use cs_base::{Base, Store};
 use cs_cols::Cols;
-use cs_file::Index;
+use cs_file::{Fetched, Index};
 use std::alloc::Global;
 
 /// The rows whose word's number is `lo` or more and below `hi`, in order. Each block that holds such a word is read once.
@@ -99,14 +99,14 @@ pub(crate) fn keys_in<S: Store>(
     let (lo, hi) = words;
     let (first, last) = index.blocks(lo, hi);
     let mut keys = Vec::new(alloc);
-    let mut block = Cols::new(alloc);
+    let mut block = Fetched::new(alloc);
     for k in first..last {
         pack_block(alloc, index, store, k, words, listed, &mut block, &mut keys)?;
     }
     Ok(keys)
 }
 
-// Adds the numbers of the rows of these words in listed documents of block `k`, which is read once into columns that hold no row.
+// Adds the numbers of the rows of these words in listed documents of block `k`, which is read once.
 fn pack_block<S: Store>(
     alloc: Global,
     index: &Index,
@@ -114,25 +114,22 @@ fn pack_block<S: Store>(
     k: u32,
     words: (u32, u32),
     listed: &[bool],
-    block: &mut Cols,
+    block: &mut Fetched,
     keys: &mut Vec<u64>,
 ) -> Result<(), AskFault>
     requires in_range { k < length index.now.heads }
     requires listed { length listed.now ≡ index.now.docs }
-    requires empty { block.old.posts ≡ [] }
     requires index { IsIndex index.now }
     requires fits { Fits (S.bytes store.old) index.now }
 
     ensures keys { OnOk result ((first : ℕ) → first ≤ k → HasKeys index.now (S.bytes store.old) first k (is_chosen words.0 words.1 listed.now) keys.old.items → HasKeys index.now (S.bytes store.old) first (k + 1) (is_chosen words.0 words.1 listed.now) keys.new.items) }
-    ensures empty { OnOk result (block.new.posts ≡ []) }
     ensures unchanged { WhereStood (S.bytes store.old) index.now (λ b. is_changed result ≡ false) }
     ensures bytes { S.bytes store.new ≡ S.bytes store.old }
     ensures lent { S.lent store.new ≡ S.lent store.old }
     ensures reads { ReadsWithin 1 (S.reads store.old) (S.reads store.new) }
     ensures caused { CausedReads (is_read result) (S.faults store.old) (S.faults store.new) }
 {
-    index.fetch(alloc, store, k, block)?;
+    index.fetch_posts(alloc, store, k, block)?;
     pack(block, words, listed, keys)?;
-    block.truncate(0);
     Ok(())
 }

@@ -13,7 +13,6 @@ loop-k-init g c = record {
   reads = omega arith;
   quiet = refl;
   from = omega arith;
-  empty = c.new-block.ensures;
   keys = no_keys c.args.index.now (g.S.Store.bytes c.args.store.now) c.blocks-first.result.0 (is_chosen c.args.words.0 c.args.words.1 c.args.listed.now) c.new-keys.result.items c.new-keys.ensures.items;
 }
 
@@ -37,7 +36,6 @@ loop-k-preserved g c =
       reads = (let w = reads.within in omega (arith, w, inv.reads));
       quiet = c.in_ok-pack_block.ensures.caused.quiet refl ∙ inv.quiet;
       from = omega (arith, inv.from);
-      empty = c.in_ok-pack_block.ensures.empty;
       keys = subst (λ told. HasKeys c.args.index.now told first (c.loop-k.k + 1) t c.pack_block.new.keys.items) inv.bytes
           (c.in_ok-pack_block.ensures.keys first inv.from (subst (λ told. HasKeys c.args.index.now told first c.loop-k.k t c.loop-k.keys.items) (sym inv.bytes) inv.keys));
     }

@@ -1,4 +1,4 @@
-use Rattle.std.proofs.Common.{◌≡◌, ◌+◌, ◌≤◌, []}
+use Rattle.std.proofs.Common.{◌≡◌, ◌+◌, ◌≤◌}
 use Rattle.cs_tables.specs.WordCounts.{is_chosen}
 use Rattle.cs_engine.specs.Packing.{HasKeys}
 use Rattle.cs_engine.proofs.reading.keys_in.Given as goal
@@ -11,6 +11,5 @@ invariant-loop-k g l = record {
   reads : g.S.Store.reads l.store + l.first ≤ g.S.Store.reads l.fn.store + l.k;
   quiet : g.S.Store.faults l.store ≡ g.S.Store.faults l.fn.store;
   from : l.first ≤ l.k;
-  empty : l.block.posts ≡ [];
   keys : HasKeys l.index (g.S.Store.bytes l.fn.store) l.first l.k (is_chosen l.words.0 l.words.1 l.listed) l.keys.items;
 }
