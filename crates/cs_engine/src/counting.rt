@@ -18,7 +18,6 @@ use crate::fault::AskFault;
 use crate::packing::post_of;
 use cs_base::{Base, Memory, Scored, Store};
 use cs_file::{Fetched, Index};
-use cs_cols::Cols;
 use cs_tables::{Table, WordCounts};
 use std::alloc::Global;
 
