@@ -11,10 +11,10 @@
 --   places_from k runs         for each word the index of its run, the first run having the index k
 --   posts_by rows numbers      the posts of rows, by the numbers of their words
 --   is_within run p            the post's word is one of the run's
---   CountsRows posts run        the run has as many rows as there are posts of its words
+--   CountsRows posts run       the run has as many rows as there are posts of its words
 --   AreFilled posts runs blocks      each block has those of these posts that have a word of its run, and room for its other rows
 --   IsPushed old i post new      the post was added at the end of block number i
---   run_head ws p               what the directory says of a run and its posts
+--   run_head ws p              what the directory says of a run and its posts
 use Rattle.std.specs.Prelude.{◌≡◌, ℕ, ◌+◌, ◌≤◌, ◌<◌, ◌&&◌, ◌==◌, Bool, nat_le, nat_lt, List, [], ◌∷◌, ◌++◌, length, filter, replicate, slice_index_or, slice_set}
 use Rattle.std.specs.List.{count_by}
 use Rattle.cs_base.specs.declared.index.block.BlockHead.{BlockHead}

@@ -2,7 +2,7 @@
 --
 --   listed_facets column     the facet words of a column, each once, by bytes
 --   listed_doc p             the rows of a document of number p.0, in their order
---   HasUtf8Word r                the row's word is UTF-8
+--   HasUtf8Word r            the row's word is UTF-8
 --   listed_rows d docs       the rows of documents that are numbered from d, in their order
 use Rattle.std.specs.Prelude.{ℕ, ◌++◌, List, map}
 use Rattle.std.specs.List.{flat_map, enumerate_from}

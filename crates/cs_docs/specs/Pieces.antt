@@ -2,7 +2,7 @@
 --
 --   is_semicolon b      the byte that cuts the column
 --   IsNamed p           the piece isn't refused
---   CanBeListed doc      the document's pieces aren't refused, and it has few words
+--   CanBeListed doc     the document's pieces aren't refused, and it has few words
 --   one_piece p rest    the pieces of a column whose first one is p, if p has bytes, and behind it those of rest
 use Rattle.std.specs.Prelude.{◌≡◌, ℕ, ◌+◌, ◌≤◌, Bool, true, ◌==◌, List, [], ◌∷◌, ◌++◌, length, filter}
 use Rattle.std.specs.List.{AllByRecursion, list_any}

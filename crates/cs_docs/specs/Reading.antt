@@ -2,7 +2,7 @@
 --
 --   doc_lines_from d n ls     the documents of lines that begin at line n, where d documents stand before them
 --   documents_from d n ls     the same as documents
---   numbered_line d n l             the line l, which is line n, as document d
+--   numbered_line d n l       the line l, which is line n, as document d
 --   title_only l              the line l as a title, without facets and text
 --   doc_of n l                the document of the line l, which is line n
 use Rattle.std.specs.Prelude.{ℕ, List, [], map, filter}

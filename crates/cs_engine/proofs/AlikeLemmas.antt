@@ -1,7 +1,7 @@
 -- Tables depend on the members of posts alone, in whatever order and however often they come.
 --
 --   any_filter       a test on what a filter leaves
---   table_alike      posts with the same members have the same post_table
+--   table_alike      posts with the same members have the same table
 use Rattle.std.proofs.Common.{◌≡◌, ℕ, ◌==◌, ◌&&◌, ◌||◌, Bool, true, false, List, [], ◌∷◌, map, length, cond, refl, sym, ◌∙◌, ap}
 use Rattle.std.specs.Prelude.{filter}
 use Rattle.std.specs.List.{list_any}

@@ -1,7 +1,7 @@
 -- Replies over an index.
 --
 --   few_docs, few_words, words_there, index_texts     numbers of posts and words of an index, as tables need them
---   first_in          the first words of a post_table are words of the index
+--   first_in          the first words of a table are words of the index
 --   shown_in          the hits that are shown have documents of the index
 --   hits_few          there are no more hits than documents
 --   words_as_shown, facet_told, title_told, reply_told     what is shown, over the bytes of the index

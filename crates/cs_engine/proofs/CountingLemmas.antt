@@ -5,9 +5,9 @@
 --   block_counted        one block more is counted
 --   countable            the rows that are counted are countable
 --   counted_alike, counted_long     they have the members of those asked for, and are as many
---   table_told           their post_table
+--   table_told           their table
 --   listed_kept, all_listed     the rows in listed documents
---   facet_counted        the post_table of a facet
+--   facet_counted        the table of a facet
 --   facet_met            the blocks that hold a facet's words
 use Rattle.std.proofs.Common.{◌≡◌, ◌≢◌, ℕ, zero, suc, ◌+◌, ◌-◌, ◌<◌, ◌≤◌, ◌==◌, ◌&&◌, ◌||◌, Bool, true, false, cond, List, [], ◌∷◌, ◌++◌, length, get_or, take, drop, map, replicate, refl, sym, ap, ap₂, subst, ◌∙◌, arith, append-nil, length-take, length-drop, get_or-drop, get_or-take}
 use Rattle.std.specs.Prelude.{All, filter, flat_map, nat_lt}
@@ -274,7 +274,7 @@ module _ (b : List ℕ) (i : IndexView) (stands : StandsFor b i) (is : IsIndex i
   abbrev facet_posts : ℕ → ℕ → List Bool → List Post
   facet_posts lo hi listed = filter (in_listed listed) (filter (is_between lo hi) (stock_of b).posts)
 
-  -- what is shown of them is the facet's post_table
+  -- what is shown of them is the facet's table
   pub facet_counted : (base : Base) (cut : ℕ) (name copied prefix : List ℕ) (lo hi : ℕ) (listed : List Bool) (ws : List (List ℕ)) (first : List Numbered) (shown : List Shown) → copied ≡ name → prefix ≡ named name [] → IsRange i.words prefix lo hi → AreListed i.docs base listed
       → ws ≡ i.words → first ≡ take cut (post_table (facet_posts lo hi listed)) → shown ≡ map (shown_at ws) first → ◌≡◌ {A = FacetShown} (record { name = copied; table = shown }) (facet_at (stock_of b) base cut name)
   facet_counted base cut name copied prefix lo hi listed ws first shown same prefix_is range has words first_is shown_is =

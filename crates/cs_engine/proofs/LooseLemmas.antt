@@ -2,7 +2,7 @@
 --
 --   chosen_entry, entry_fits     the entry of the rows in order
 --   is_large                     where it is larger than may be kept
---   loose_table                  the post_table of rows in any order is that of the query
+--   loose_table                  the table of rows in any order is that of the query
 use Rattle.std.proofs.Common.{◌≡◌, ℕ, ◌+◌, ◌-◌, ◌<◌, Bool, true, List, length, take, refl, sym, ap, subst, ◌∙◌, arith, if◌then◌else◌}
 use Rattle.std.specs.Prelude.{All, filter, nat_lt}
 use Rattle.std.proofs.lemmas.Bool.Decides.{nat_tests}

@@ -1,7 +1,7 @@
 -- The lists of a reply.
 --
 --   titled               the title of a document that there is
---   first_there, words_shown      the first words of a post_table are there, and how they are shown
+--   first_there, words_shown      the first words of a table are there, and how they are shown
 --   facet_kept           the rows of a facet in the documents of a base
 --   reply_made           what answers a request is its reply
 use Rattle.std.proofs.Common.{◌≡◌, ℕ, zero, suc, ◌<◌, List, [], ◌∷◌, ◌++◌, length, map, take, drop, get_or, refl, sym, ◌∙◌, ap, subst, append-nil}
@@ -51,13 +51,13 @@ take_all_of P zero xs h = tt
 take_all_of P (suc n) [] h = tt
 take_all_of P (suc n) (x ∷ xs) h = (h.0, take_all_of P n xs h.1)
 
--- the first words of a post_table are there
+-- the first words of a table are there
 pub first_there : (ws : List (List ℕ)) → IsStrictlySortedBy (slice_cmp nat_cmp) ws → (posts : List Post) → AllByRecursion (λ p. p.word < length ws) posts → (cut : ℕ) (first : List Numbered) → first ≡ take cut (post_table posts) → All (λ c. c.word < length ws) first
 first_there ws up posts known cut first is =
     subst (All (λ c. c.word < length ws)) (sym is) (All-from_recursion (λ c. c.word < length ws) (take cut (post_table posts)) (take_all_of (λ c. c.word < length ws) cut (post_table posts) (table_known ws up posts known)))
 
 module _ (s : Stock) (kept : IsStocked s) where
-  -- the first words of a post_table, as they are shown
+  -- the first words of a table, as they are shown
   pub words_shown : (posts : List Post) (cut : ℕ) (first : List Numbered) → AllByRecursion (λ p. p.word < length s.words) posts → first ≡ take cut (post_table posts) → map (shown_at s.words) first ≡ map shown_of (take cut (table_of (rows_at s.words posts)))
   words_shown posts cut first known is =
       ap (map (shown_at s.words)) is

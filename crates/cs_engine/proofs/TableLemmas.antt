@@ -1,7 +1,7 @@
 -- Tables through the vocabulary.
 --
 --   any_listed       a test passes on a listing where it does on the list
---   table_through    the post_table of posts, each word in place of its number, is the post_table of their rows
+--   table_through    the table of posts, each word in place of its number, is the table of their rows
 --   table_known      its words are there
 use Rattle.std.proofs.Common.{◌≡◌, ℕ, ◌<◌, ◌==◌, ◌||◌, Bool, true, false, true≢false, List, [], ◌∷◌, length, map, refl, sym, ◌∙◌, ap, arith}
 use Rattle.std.specs.List.{AllByRecursion, list_any}
@@ -134,7 +134,7 @@ module _ (ws : List (List ℕ)) (up : IsStrictlySortedBy (slice_cmp nat_cmp) ws)
     there [] l = tt
     there (q ∷ qs) l = (l.0, there qs l.1)
 
-    -- the words of the post_table are there
+    -- the words of the table are there
     pub table_known : AllByRecursion (λ c. c.word < length ws) (post_table ps)
     table_known =
         recursion_from_All IsThere (post_table ps) (All-members by_docs by_docs_total by_docs_exact IsThere listed_words (All-from_recursion IsThere listed_words (there ps known)))

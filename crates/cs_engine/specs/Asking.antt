@@ -6,7 +6,7 @@
 --   division i           the words of an index and its blocks, of which it is said how many may be read
 --   is_read r, is_changed r     the answer is a failed read, a change
 --   titles_read q r      how many titles may be read for a request: those shown, or as many as it asks where it is refused
---   titles_asked q r        the same, where a reply comes with something else
+--   titles_asked q r     the same, where a reply comes with something else
 use Rattle.std.specs.Prelude.{ℕ, Bool, true, false, length, Result, Ok, Err}
 use Rattle.cs_file.specs.Indexes.{IndexView}
 use Rattle.cs_file.specs.declared.fault.FetchFault.{FetchFault}

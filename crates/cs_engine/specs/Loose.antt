@@ -3,14 +3,14 @@
 -- Source: this engine's own.
 --
 --   best_of rows d           one more than the greatest score of the rows of document d
---   HasBestScores seen best        a post_table by document of the rows that were seen
---   hits_in d best           the documents of a post_table, from d on, that have a row, with their scores
+--   HasBestScores seen best          a table by document of the rows that were seen
+--   hits_in d best           the documents of a table, from d on, that have a row, with their scores
 --   AreAlike s lo hi listed rows     rows in any order are those of a stock with these words in listed documents
 --   AreGathered i told lo hi listed keys     numbers of such rows
 --   AreKeysIn i told hits lo hi keys          numbers of such rows in the documents of hits
 --   AreLastWords i q hits lo hi      the last part of a query is positive and asks for these words, and hits are in range as those before it
 --   IsEntryByWords b i q hits lo hi  over the bytes of an index the own entry of a query is that of these hits and words
---   IsTableFor i b q cut hits t      over the bytes of an index a post_table is that of a query of these hits, cut
+--   IsTableFor i b q cut hits t      over the bytes of an index a table is that of a query of these hits, cut
 use Rattle.std.specs.Prelude.{◌≡◌, ℕ, ◌+◌, ◌-◌, ◌*◌, ◌≤◌, ◌<◌, Bool, true, false, nat_lt, List, [], ◌∷◌, length, map, filter, take, slice_index, Option, if◌then◌else◌}
 use Rattle.std.specs.List.{All, Contains, list_any}
 use Rattle.cs_base.specs.declared.content.doc.Base.{Base}
@@ -37,7 +37,7 @@ best_of rows d = greatest (map (λ p. p.score + 1) (of_doc d rows))
 abbrev pub HasBestScores : List Post → List ℕ → Type 0
 HasBestScores seen best = (d : ℕ) → d < length best → slice_index best d ≡ best_of seen d
 
--- none of an empty post_table
+-- none of an empty table
 unfoldable pub hits_in : ℕ → List ℕ → List Scored
 hits_in d [] = []
 hits_in d (b ∷ bs) = if nat_lt 0 b then record { doc = d; score = b - 1 } ∷ hits_in (d + 1) bs else hits_in (d + 1) bs

@@ -4,8 +4,8 @@
 --
 --   IsPacked p             a post that has a number: each of its parts has room
 --   key_of p               its number: document, position, word and score, one behind the other
---   place_of_key key           the number without the score
---   post_of_key key            the post of a number
+--   place_of_key key       the number without the score
+--   post_of_key key        the post of a number
 --   apart last keys        the numbers whose place isn't that of the one before; last is the place before the first
 --   IsOrdered rows posts   the members of rows, in order, each place once
 --   HasKeys i told first k t keys    numbers of posts in the range of an index that pass a test; of a store that tells, of a run of its

@@ -2,7 +2,7 @@
 --
 --   is_marked least marks w        the word w is marked in a table that begins at the word least
 --   has_mark least marks r         the word of the row r is
---   AreMarksOf words least marks    exactly these words are
+--   AreMarksOf words least marks   exactly these words are
 use Rattle.std.specs.Prelude.{◌≡◌, ℕ, ◌-◌, Bool, false, ◌&&◌, ◌==◌, nat_le, List, slice_index_or}
 use Rattle.std.specs.List.{list_any}
 use Rattle.cs_base.specs.declared.content.doc.Post.{Post}

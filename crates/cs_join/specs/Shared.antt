@@ -2,7 +2,7 @@
 -- query have.
 --
 --   is_shared_by hits r o    o is in one of the documents hits, and has the word of r
---   shares_word hits rows r    some row does so; in no document none does
+--   shares_word hits rows r  some row does so; in no document none does
 --   shared rows hits         the rows whose word is also the word of a row in one of the documents hits
 use Rattle.std.specs.Prelude.{ℕ, Bool, ◌&&◌, ◌==◌, List, filter}
 use Rattle.std.specs.List.{list_any}

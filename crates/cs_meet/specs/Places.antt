@@ -2,7 +2,7 @@
 --
 --   is_before x d p          x stands in an earlier document than d, or in d before position p
 --   AllBefore posts n d p    the first n posts are before position p of document d
---   IsNotBefore posts n d p      the post at n isn't before position p of document d, if there is one
+--   IsNotBefore posts n d p  the post at n isn't before position p of document d, if there is one
 --   Splits posts n d p       n is the first place that isn't before position p of document d
 --   Ahead doc pos a b i j    the first i posts of a are before the place that each entry of b from j on asks for
 --   AllBelow docs n d        the first n documents are less than d

@@ -4,8 +4,8 @@
 --   settled tail rest      the tokens whose atoms are among the gathered parts
 --   Agrees tail rest       what the tail says of the tokens `rest` before it is so
 --   Stands done all g      g has the parts of the tokens `done` and the counts of the tokens `all`
---   StandsBehind rest r         the reader r stands behind the tokens of its tail and `rest`
---   StandsBehindAll ts r        it stands behind the tokens ts
+--   StandsBehind rest r    the reader r stands behind the tokens of its tail and `rest`
+--   StandsBehindAll ts r   it stands behind the tokens ts
 --   JudgesTokens ts result       behind the tokens ts: the reader that follows them, or their fault
 --   fault_at at stop       the fault of a text whose reader stops at the byte `at`
 --   Answers cs result      the answer to the characters cs of a key text

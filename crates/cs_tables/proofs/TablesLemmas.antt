@@ -1,6 +1,6 @@
--- The post_table of rows is the listing of their counted words in the order of hits.
+-- The table of rows is the listing of their counted words in the order of hits.
 --
---   table-is        the post_table, by the counted words
+--   table-is        the table, by the counted words
 --   table_total     how many words it has
 use Rattle.std.proofs.Common.{◌≡◌, ℕ, ◌+◌, Bool, true, false, ◌||◌, cond, List, [], ◌∷◌, map, length, refl, sym, ◌∙◌, ap, arith, true≢false}
 use Rattle.std.specs.List.{AllByRecursion, list_any}

@@ -1,10 +1,10 @@
--- The post_table of some rows: their words with the number of documents that have each, in order.
+-- The table of some rows: their words with the number of documents that have each, in order.
 --
---   with_word w rows           the rows whose word has the number w
+--   with_word w rows         the rows whose word has the number w
 --   doc_count rows           how many documents the rows have
---   post_completion rows w     the word w with the number of documents that have it in the rows
+--   post_completion rows w   the word w with the number of documents that have it in the rows
 --   by_docs                  completions: documents descending, then the word's number ascending, which is the order of the words' bytes
---   post_table rows               the completions of the rows, in order
+--   post_table rows          the completions of the rows, in order
 --   completion h             a counted word that is written as a scored document
 use Rattle.std.specs.Prelude.{ℕ, List, map, length, filter, ◌==◌}
 use Rattle.std.specs.declared.cmp.Ordering.{Ordering}

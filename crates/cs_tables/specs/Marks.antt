@@ -1,9 +1,9 @@
 -- What a pass over rows by document knows of each word.
 --
---   post_words rows         the numbers of the rows' words, ascending, each once
+--   post_words rows       the numbers of the rows' words, ascending, each once
 --   counted_word rows w   word w with its number of documents, written as a scored document
 --   saw m d               the mark m after a row in document d
---   mark_of w rows         the mark of word w after the rows
+--   mark_of w rows        the mark of word w after the rows
 --   kept w n              word w with n documents, where there is one
 --   collected w marks     the words from w on that have a document, by their marks
 use Rattle.std.specs.Prelude.{ℕ, ◌+◌, List, [], ◌∷◌, ◌++◌, map, fold, ◌==◌, nat_lt, if◌then◌else◌}

@@ -9,7 +9,7 @@
 --                                            held, a failed device, no memory, a refused line of the script, an index file that changed
 --   status e                                 the exit status
 --   line_of e                                the line on standard error; nothing where all was done
---   SaysLine w line                              standard error grew by the line where its count didn't rise, else by a prefix of it
+--   SaysLine w line                          standard error grew by the line where its count didn't rise, else by a prefix of it
 --   CausedBy e before now                    a run ends by a failure only where this count rose; else the count stays as it was
 --   Caused e ..                              the same for the counts of files and of out: one of the two rose
 --

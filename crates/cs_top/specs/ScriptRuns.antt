@@ -8,7 +8,7 @@
 --   AskEnds e c s w          how it may end over any files
 --   AskRan e c s m           a whole run
 --   CanAsk h c s             the script can be answered whole
---   CanBeOpened h i s             both files are held, and the first is an index file
+--   CanBeOpened h i s        both files are held, and the first is an index file
 --   ReplayStops e h i s      what shows that `replay` ended so before its script
 --   IsWholeBut k ls ts w     each line has its text, a failed read's among them
 --   ReplayScript k e ls before now w     how its script ended over a corpus, and what was put for it

@@ -5,7 +5,7 @@
 --   ServeStops e h i         what shows that it ended so before it listened
 --   IsUntouched w net        nothing is put, and the hub tells what it told
 --   IsListening p n net      the hub is as `listen` leaves it
---   HasToldPort p w               the line is put whole
+--   HasToldPort p w          the line is put whole
 --   IsServing p n w net      the line is put, the hub has the port and the room for connections, and none broke but by a failed send
 --   IsOver n net             no connection is live, and no more will be
 --   HasStopped p n w net     how it stands where serving didn't begin

@@ -1,10 +1,10 @@
 -- Types of the code as what they stand for.
 --
---   seen_command                         a command of the code
+--   seen_command                 a command of the code
 --   HasNumbers c                 its words of numbers are such numbers; a command without one has them
 --   home_seen f                  an index file of the code
 --   collection_refusal_of f      the refusal that a fault of a collection names; None for want of memory
---   IsCollectionCause c f                  it names the refusal of the collection c; nothing is said of want of memory
+--   IsCollectionCause c f        it names the refusal of the collection c; nothing is said of want of memory
 --   fault_seen f                 a refused line's fault
 --   collection_ending r          the ending of a run whose collection has the refusal r, or no memory
 --   of_script s                  the stop of a run whose script stops
@@ -13,7 +13,7 @@
 --   IsMissing s f                where a stop says a name to be absent, the file isn't held
 --   IsDevice s                   a call failed, or memory ran out
 --   IsOfCollection s             a stop of a collection: its fault, or a call failed, or memory ran out
---   IsStopCause c s                where it is a fault of the collection c, this has its cause there
+--   IsStopCause c s              where it is a fault of the collection c, this has its cause there
 --   IsOfIndex s                  a stop of an index file: damage, or a call failed, or memory ran out
 --   IsDamage b s                 where it is damage of the bytes b, this is their first broken rule with its place
 --   said_text s                  a line on standard error
