@@ -1,9 +1,9 @@
 -- The posts of a range of words, from the blocks that hold such words.
 --
---   fetched_within, kept_within, united_within     posts that are read, cut and united are in order and in range
+--   kept_within, united_within     posts that are cut and united are in order and in range
 --   same_posts       posts in order with the same members are the same
 --   met_count        how many blocks are met
-use Rattle.std.proofs.Common.{◌≡◌, ℕ, zero, suc, ◌-◌, ◌<◌, ◌≤◌, ◌&&◌, Bool, true, false, cond, List, [], ◌∷◌, ◌++◌, length, get_or, Option, refl, sym, ap, subst, ◌∙◌, arith}
+use Rattle.std.proofs.Common.{◌≡◌, ℕ, zero, suc, ◌-◌, ◌<◌, ◌≤◌, ◌&&◌, Bool, true, false, cond, List, [], ◌∷◌, ◌++◌, length, get_or, refl, sym, ap, subst, ◌∙◌, arith}
 use Rattle.std.specs.Prelude.{filter, nat_le, nat_lt}
 use Rattle.std.specs.List.{list_any}
 use Rattle.std.specs.List.Sorted.{IsStrictlySortedBy}
@@ -17,11 +17,10 @@ use Rattle.cs_base.specs.content.Orders.{by_place, AreSorted}
 use Rattle.cs_base.specs.declared.content.doc.Post.{Post}
 use Rattle.cs_base.specs.declared.index.block.BlockHead.{BlockHead}
 use Rattle.cs_base.proofs.MembersLemmas.{all_then, members_are}
-use Rattle.cs_file.specs.Answers.{HasBlock}
-use Rattle.cs_file.specs.Indexes.{IndexView, IsIndex, AreMet, is_met}
+use Rattle.cs_file.specs.Indexes.{IndexView, AreMet, is_met}
 use Rattle.cs_meet.specs.Filters.{IsUnion, missing}
 use Rattle.cs_engine.specs.Reading.{by_post, IsWithin, AreWithin}
-use Rattle.cs_engine.proofs.StockLemmas.{by_post_total, by_post_exact, block_within}
+use Rattle.cs_engine.proofs.StockLemmas.{by_post_total, by_post_exact}
 
 -- ---- what always holds
 pub kept_within : (i : IndexView) (t : Post → Bool) (posts : List Post) → AreWithin i posts → AreWithin i (filter t posts)
@@ -38,12 +37,6 @@ none_sorted = tt
 
 pub none_within : (i : IndexView) → AreWithin i []
 none_within i = record { sorted = none_sorted; within = All-nil (IsWithin i.docs (length i.words)) }
-
-pub fetched_within : (i : IndexView) → IsIndex i → (told : Option (List ℕ)) (k : ℕ) → k < length i.heads → (old new : List Post) → old ≡ [] → HasBlock i told k old new → AreWithin i new
-fetched_within i is told k lt old new none h =
-    let d : BlockHead = record { lo = 0; words = 0; rows = 0; len = 0; facet = false } in
-    let all : new ≡ h.rows = h.added ∙ ap (λ (x : List Post). x ++ h.rows) none in
-    subst (AreWithin i) (sym all) (block_within i is k d lt h.rows h.bytes (h.block d))
 
 -- ---- posts in order
 pub sooner : (x y : Post) → by_place x y ≡ Less → by_post x y ≡ Less

@@ -1,11 +1,10 @@
-use Rattle.std.proofs.Common.{◌≡◌, ◌++◌, ◌∙◌, [], ap, sym, subst, arith, length, map, drop}
+use Rattle.std.proofs.Common.{◌≡◌, ◌++◌, ◌∙◌, [], ap, sym, arith, map, drop}
 use Rattle.std.specs.Prelude.{filter}
 use Rattle.std.proofs.lemmas.List.{append-nil, drop_all}
 use Rattle.cs_cols.proofs.Columns.{posts-length}
 use Rattle.cs_file.specs.Answers.{posts_in}
 use Rattle.cs_tables.specs.WordCounts.{is_chosen}
 use Rattle.cs_engine.specs.Packing.{key_of}
-use Rattle.cs_engine.proofs.PackingLemmas.{packs_run}
 use Rattle.cs_engine.proofs.packing.pack.Goals as goal
 
 pub returns : goal.returns

@@ -1,4 +1,4 @@
-use Rattle.std.proofs.Common.{◌≡◌, ◌+◌, ◌≤◌, ◌++◌, length, map, take, drop}
+use Rattle.std.proofs.Common.{◌≡◌, ◌+◌, ◌≤◌, ◌++◌, map, take, drop}
 use Rattle.std.specs.Prelude.{filter}
 use Rattle.cs_file.specs.Answers.{posts_in}
 use Rattle.cs_tables.specs.WordCounts.{is_chosen}

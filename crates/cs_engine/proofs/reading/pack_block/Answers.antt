@@ -1,5 +1,3 @@
-use Rattle.std.proofs.Common.{◌∙◌, refl, sym}
-use Rattle.std.proofs.lemmas.List.{append-nil}
 use Rattle.cs_file.specs.Answers.{posts_in}
 use Rattle.cs_tables.specs.WordCounts.{is_chosen}
 use Rattle.cs_engine.proofs.PackingLemmas.{keys_more, known_posts, packed_posts, within_posts}
