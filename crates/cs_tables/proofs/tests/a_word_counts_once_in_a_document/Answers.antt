@@ -1,5 +1,4 @@
 use Rattle.std.proofs.Common.{sym, subst}
-use Rattle.std.specs.List.Sorted.{IsStrictlySortedBy}
 use Rattle.cs_base.specs.content.Orders.{AreSorted}
 use Rattle.cs_tables.proofs.Samples.{sample-sorted}
 use Rattle.cs_tables.proofs.tests.a_word_counts_once_in_a_document.Goals as goal
