@@ -30,7 +30,7 @@ pub fn start<F: Files, H: Hub, O: Sink, E: Sink>(
     ensures ran { (e : Ending) × (exit_status result ≡ status e)
         × (Ran e (command_of (words_given args)) (met F.held F.faults O.written O.faults H.state H.talk H.faults H.send_faults files.old files.new out.old out.new hub.old hub.new)
         ⊎ ((e ≡ no_memory) × MayLack args × LeavesAll (met F.held F.faults O.written O.faults H.state H.talk H.faults H.send_faults files.old files.new out.old out.new hub.old hub.new)))
-        × Says (wrote E.written E.faults err.old err.new) (line_of e) }
+        × SaysLine (wrote E.written E.faults err.old err.new) (line_of e) }
     ensures memory { LacksMemory args → exit_status result ≡ status no_memory }
 {
     match words_of(alloc, args) {

@@ -33,7 +33,7 @@ pub fn run<F: Files, H: Hub, O: Sink, E: Sink>(
 ) -> u8
     ensures ran { (e : Ending) × (result ≡ status e)
         × Ran e (command_of (map string_bytes words.now.items)) (met F.held F.faults O.written O.faults H.state H.talk H.faults H.send_faults files.old files.new out.old out.new hub.old hub.new)
-        × Says (wrote E.written E.faults err.old err.new) (line_of e) }
+        × SaysLine (wrote E.written E.faults err.old err.new) (line_of e) }
 
     // Where all can be done and no count rose, it is, or memory ran out.
     ensures complete { Completes (command_of (map string_bytes words.now.items))
