@@ -1,7 +1,7 @@
 //! The memory of four columns: one block, whose parts are lent to a vector each.
 //!
 //! A block for `cap` posts holds all documents, then all words, then all positions, then all
-//! scores. Only the functions of this file stand over raw memory.
+//! scores. Only the functions of this file and of `rooms` stand over raw memory.
 ghost use Rattle.std.specs.Prelude.{◌≡◌, ℕ, ◌<◌};
 ghost use base.Fml.{ftrue, fex, fsep, feq, fwand};
 ghost use denote.RawPtr.{Ptr, InBlock};
