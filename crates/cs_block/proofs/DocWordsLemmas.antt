@@ -1,110 +1,88 @@
--- The documents and the words of a block's rows, run by run.
+-- The documents and the words of a block's rows, read from their columns alone.
 --
---   doc_words_start     before any row
---   run_added           a run more
---   doc_words_all       behind the last row
-use Rattle.std.proofs.Common.{◌≡◌, ℕ, zero, suc, ◌+◌, ◌*◌, ◌<◌, ◌≤◌, List, [], ◌∷◌, ◌++◌, length, get_or, map, take, drop, Some, None, refl, sym, ap, ap₂, subst, ◌∙◌, append_assoc, arith}
-use Rattle.std.specs.Prelude.{All}
+--   doc_words_all    they are those of all rows, where each is in range
+--   docs_there       documents that are there, where the call doesn't answer none
+--   refilled         a vector whose slice was lent whole holds what was written there
+use Rattle.std.proofs.Common.{◌≡◌, ℕ, zero, suc, ◌+◌, ◌*◌, ◌≤◌, true, List, [], ◌∷◌, ◌++◌, length, get_or, map, take, drop, Option, Some, None, refl, sym, ap, ap₂, subst, ◌∙◌, append_assoc, arith}
+use Rattle.std.specs.Prelude.{All, IfSome, is_some}
 use Rattle.std.specs.Int.{w16, from_be_bytes}
-use Rattle.std.proofs.lemmas.List.{append-nil, map-append, take_all, take_more}
+use Rattle.std.proofs.lemmas.List.{append-nil, drop_all, map-append, take_all, take_more}
 use Rattle.std.proofs.lemmas.List.Elements.{All-nil, All-cons, All-append}
 use Rattle.cs_base.specs.declared.index.block.BlockHead.{BlockHead}
 use Rattle.cs_base.specs.declared.content.doc.Post.{Post}
 use Rattle.cs_model_index.specs.BlockRules.{BlockColumns, Item, block_columns, block_items, doc_before, item_row, row_at, rows_read}
-use Rattle.cs_block.specs.DocWords.{AddsDocWords, HasDocWords, IsListable}
+use Rattle.cs_block.specs.DocWords.{HasDocWords, IsListable}
 use Rattle.cs_block.specs.Pass.{items_from}
-use Rattle.cs_block.specs.Reading.{GapHere}
 use Rattle.cs_block.specs.Runs.{AreWords, HasDocs, HaveDocs, doc_after, place_after}
-use Rattle.cs_block.proofs.ItemsLemmas.{items_end, items_on, items_start}
+use Rattle.cs_block.proofs.ItemsLemmas.{items_end, items_on, items_start, rows_cut}
 use Rattle.cs_block.proofs.RunsLemmas.{doc_on}
 
-pub doc_words_start : (head : BlockHead) (docs : ℕ) (c : BlockColumns) (old_docs old_words : List ℕ) → HasDocWords head docs c 0 0 0 old_docs old_docs old_words old_words
-doc_words_start head docs c old_docs old_words = record {
+-- the first k rows; `last` is the row behind which the next one stands
+record FirstRows (head : BlockHead) (docs : ℕ) (c : BlockColumns) (ds ws : List ℕ) (k : ℕ) : Type 0 where
+  done : List Post
+  last : Option Post
+  before : doc_after c.gaps 0 0 k ≡ doc_before last
+  rows : map item_row (block_items head c) ≡ done ++ map item_row (items_from head c k (place_after c.gaps 0 k) last)
+  docs_are : take k ds ≡ map (λ p. p.doc) done
+  words_are : take k ws ≡ map (λ p. p.word) done
+  listable : All (IsListable head docs) done
+
+first_rows : (head : BlockHead) (docs : ℕ) (c : BlockColumns) (ds ws : List ℕ) (k : ℕ) → k ≤ length ds → length ws ≡ length ds → length ds ≤ head.rows
+    → HaveDocs c.gaps 0 0 docs ds → AreWords head.lo head.words c.words 0 ws → FirstRows head docs c ds ws k
+unfolding place_after doc_after
+first_rows head docs c ds ws zero le even within are words = record {
   done = [];
   last = None;
-  before_is = refl;
-  within = omega arith;
+  before = refl;
   rows = ap (map item_row) (sym (items_start head c));
-  docs_are = sym (append-nil old_docs);
-  words_are = sym (append-nil old_words);
+  docs_are = refl;
+  words_are = refl;
   listable = All-nil (IsListable head docs);
 }
-
--- one row more
-row_added : (head : BlockHead) (docs : ℕ) (c : BlockColumns) (i at before n next doc word : ℕ) (old_docs docs_now old_words words_now : List ℕ) → i < head.rows → GapHere c.gaps at n next → doc ≡ before + n → doc < docs
-    → word ≡ head.lo + from_be_bytes w16 (take 2 (drop (2 * i) c.words)) → word < head.lo + head.words
-    → HasDocWords head docs c i at before old_docs docs_now old_words words_now → HasDocWords head docs c (i + 1) next doc old_docs (docs_now ++ doc ∷ []) old_words (words_now ++ word ∷ [])
-row_added head docs c i at before n next doc word old_docs docs_now old_words words_now lt gap sum below is_word in_words h =
-    let row = row_at head.lo (doc_before h.last + n) (drop (2 * i) c.words) (drop (4 * i) c.positions) (drop i c.scores) in
-    let item : Item = record { row = row; last = h.last; index = i; gap_at = at } in
-    let rest = items_from head c (i + 1) next (Some row) in
-    let split : items_from head c i at h.last ≡ item ∷ rest = items_on head c i at n next h.last row lt gap refl in
-    let doc_is : doc ≡ row.doc = sum ∙ ap (λ x. x + n) h.before_is in
+first_rows head docs c ds ws (suc j) le even within are words =
+    let h = first_rows head docs c ds ws j (omega (arith, le)) even within are words in
+    let d = are j (omega (arith, le)) in
+    let w = words j (omega (arith, le, even)) in
+    let n = d.0.0 in
+    let gap = d.0.1 in
+    let below = d.1 in
+    let in_words = w.1 in
+    let at = place_after c.gaps 0 j in
+    let next = place_after c.gaps 0 (suc j) in
+    let row = row_at head.lo (doc_before h.last + n) (drop (2 * j) c.words) (drop (4 * j) c.positions) (drop j c.scores) in
+    let item : Item = record { row = row; last = h.last; index = j; gap_at = at } in
+    let rest = items_from head c (j + 1) next (Some row) in
+    let split : items_from head c j at h.last ≡ item ∷ rest = items_on head c j at n next h.last row (omega (arith, le, within)) gap refl in
+    let doc_is : get_or ds j 0 ≡ row.doc = d.0.2 ∙ ap (λ (x : ℕ). x + n) h.before in
+    let from_none : 0 + j ≡ j = omega arith in
+    let word_is : get_or ws j 0 ≡ row.word = w.0 ∙ ap (λ (x : ℕ). head.lo + from_be_bytes w16 (take 2 (drop (2 * x) c.words))) from_none in
+    let one : j + 1 ≡ suc j = omega arith in
     record {
       done = h.done ++ row ∷ [];
       last = Some row;
-      before_is = doc_is;
-      within = gap.within;
-      rows = h.rows ∙ ap (λ (x : List Item). h.done ++ map item_row x) split ∙ sym (append_assoc h.done (row ∷ []) (map item_row rest));
-      docs_are = ap₂ (λ xs x. xs ++ x ∷ []) h.docs_are doc_is ∙ append_assoc old_docs (map (λ (p : Post). p.doc) h.done) (row.doc ∷ []) ∙ ap (λ xs. old_docs ++ xs) (sym (map-append (λ (p : Post). p.doc) h.done (row ∷ [])));
-      words_are = ap₂ (λ xs x. xs ++ x ∷ []) h.words_are is_word ∙ append_assoc old_words (map (λ (p : Post). p.word) h.done) (row.word ∷ []) ∙ ap (λ xs. old_words ++ xs) (sym (map-append (λ (p : Post). p.word) h.done (row ∷ [])));
-      listable = All-append (IsListable head docs) h.done (row ∷ []) h.listable (All-cons (IsListable head docs) row [] (record { doc = omega (arith, doc_is, below); from = omega arith; word = omega (arith, is_word, in_words) }) (All-nil (IsListable head docs)));
+      before = doc_on c.gaps 0 0 j n next gap ∙ ap (λ (x : ℕ). x + n) h.before;
+      rows = h.rows ∙ ap (λ (x : List Item). h.done ++ map item_row x) split ∙ sym (append_assoc h.done (row ∷ []) (map item_row rest)) ∙ ap (λ (x : ℕ). (h.done ++ row ∷ []) ++ map item_row (items_from head c x next (Some row))) one;
+      docs_are = ap (λ (x : ℕ). take x ds) (sym one) ∙ take_more ds j 0 (omega (arith, le)) ∙ ap₂ (λ (xs : List ℕ) (x : ℕ). xs ++ x ∷ []) h.docs_are doc_is ∙ sym (map-append (λ (p : Post). p.doc) h.done (row ∷ []));
+      words_are = ap (λ (x : ℕ). take x ws) (sym one) ∙ take_more ws j 0 (omega (arith, le, even)) ∙ ap₂ (λ (xs : List ℕ) (x : ℕ). xs ++ x ∷ []) h.words_are word_is ∙ sym (map-append (λ (p : Post). p.word) h.done (row ∷ []));
+      listable = All-append (IsListable head docs) h.done (row ∷ []) h.listable (All-cons (IsListable head docs) row [] (record { doc = omega (arith, doc_is, below); from = omega arith; word = omega (arith, word_is, in_words) }) (All-nil (IsListable head docs)));
     }
 
--- the first k rows of a run more
-rows_until : (head : BlockHead) (docs : ℕ) (c : BlockColumns) (i at before : ℕ) (ds ws old_docs docs_now old_words words_now : List ℕ) (k : ℕ) → k ≤ length ds → length ws ≡ length ds → i + length ds ≤ head.rows
-    → HaveDocs c.gaps at before docs ds → AreWords head.lo head.words c.words i ws → HasDocWords head docs c i at before old_docs docs_now old_words words_now
-    → HasDocWords head docs c (i + k) (place_after c.gaps at k) (doc_after c.gaps at before k) old_docs (docs_now ++ take k ds) old_words (words_now ++ take k ws)
-unfolding place_after doc_after
-rows_until head docs c i at before ds ws old_docs docs_now old_words words_now zero le even within are words h =
-    let e : i ≡ i + 0 = omega arith in
-    subst (λ n. HasDocWords head docs c n at before old_docs (docs_now ++ take 0 ds) old_words (words_now ++ take 0 ws)) e
-    (subst (λ xs. HasDocWords head docs c i at before old_docs xs old_words (words_now ++ take 0 ws)) (sym (append-nil docs_now))
-    (subst (λ xs. HasDocWords head docs c i at before old_docs docs_now old_words xs) (sym (append-nil words_now)) h))
-rows_until head docs c i at before ds ws old_docs docs_now old_words words_now (suc j) le even within are words h =
-    let ih = rows_until head docs c i at before ds ws old_docs docs_now old_words words_now j (omega (arith, le)) even within are words h in
-    let d = are j (omega (arith, le)) in
-    let w = words j (omega (arith, le, even)) in
-    let gap = d.0.1 in
-    let sum = d.0.2 in
-    let on = row_added head docs c (i + j) (place_after c.gaps at j) (doc_after c.gaps at before j) d.0.0 (place_after c.gaps at (suc j)) (get_or ds j 0) (get_or ws j 0) old_docs (docs_now ++ take j ds) old_words (words_now ++ take j ws)
-    (omega (arith, le, within)) gap sum d.1 w.0 w.1 ih in
-    let one : suc j ≡ j + 1 = omega arith in
-    let more_docs : (docs_now ++ take j ds) ++ get_or ds j 0 ∷ [] ≡ docs_now ++ take (suc j) ds = append_assoc docs_now (take j ds) (get_or ds j 0 ∷ []) ∙ ap (λ xs. docs_now ++ xs) (sym (ap (λ n. take n ds) one ∙ take_more ds j 0 (omega (arith, le)))) in
-    let more_words : (words_now ++ take j ws) ++ get_or ws j 0 ∷ [] ≡ words_now ++ take (suc j) ws = append_assoc words_now (take j ws) (get_or ws j 0 ∷ []) ∙ ap (λ xs. words_now ++ xs) (sym (ap (λ n. take n ws) one ∙ take_more ws j 0 (omega (arith, le, even)))) in
-    let row : i + j + 1 ≡ i + suc j = omega arith in
-    let doc : get_or ds j 0 ≡ doc_after c.gaps at before (suc j) = sum ∙ sym (doc_on c.gaps at before j d.0.0 (place_after c.gaps at (suc j)) gap) in
-    subst (λ n. HasDocWords head docs c n (place_after c.gaps at (suc j)) (doc_after c.gaps at before (suc j)) old_docs (docs_now ++ take (suc j) ds) old_words (words_now ++ take (suc j) ws)) row
-    (subst (λ x. HasDocWords head docs c (i + j + 1) (place_after c.gaps at (suc j)) x old_docs (docs_now ++ take (suc j) ds) old_words (words_now ++ take (suc j) ws)) doc
-    (subst (λ xs. HasDocWords head docs c (i + j + 1) (place_after c.gaps at (suc j)) (get_or ds j 0) old_docs xs old_words (words_now ++ take (suc j) ws)) more_docs
-    (subst (λ xs. HasDocWords head docs c (i + j + 1) (place_after c.gaps at (suc j)) (get_or ds j 0) old_docs ((docs_now ++ take j ds) ++ get_or ds j 0 ∷ []) old_words xs) more_words on)))
-
--- the whole run
-pub run_added : (head : BlockHead) (docs : ℕ) (c : BlockColumns) (i at before : ℕ) (ds ws old_docs docs_now docs_then old_words words_now words_then : List ℕ) (k next rows doc : ℕ)
-    → length ds ≡ suc k → length ws ≡ length ds → rows ≡ i + length ds → i + length ds ≤ head.rows → doc ≡ get_or ds k 0 → docs_then ≡ docs_now ++ ds → words_then ≡ words_now ++ ws
-    → HasDocs c.gaps at before docs ds next → AreWords head.lo head.words c.words i ws → HasDocWords head docs c i at before old_docs docs_now old_words words_now
-    → HasDocWords head docs c rows next doc old_docs docs_then old_words words_then
-run_added head docs c i at before ds ws old_docs docs_now docs_then old_words words_now words_then k next rows doc len even rows_is within doc_is docs_is words_is has words h =
-    let n = length ds in
-    let all = rows_until head docs c i at before ds ws old_docs docs_now old_words words_now n (omega arith) even within has.are words h in
-    let d = has.are k (omega (arith, len)) in
-    let last : doc_after c.gaps at before n ≡ doc = ap (doc_after c.gaps at before) len ∙ doc_on c.gaps at before k d.0.0 (place_after c.gaps at (suc k)) d.0.1 ∙ sym d.0.2 ∙ sym doc_is in
-    let whole_docs : docs_now ++ take n ds ≡ docs_then = ap (λ xs. docs_now ++ xs) (take_all n ds (omega arith)) ∙ sym docs_is in
-    let whole_words : words_now ++ take n ws ≡ words_then = ap (λ xs. words_now ++ xs) (take_all n ws (omega (arith, even))) ∙ sym words_is in
-    subst (λ x. HasDocWords head docs c x next doc old_docs docs_then old_words words_then) (sym rows_is)
-    (subst (λ x. HasDocWords head docs c (i + n) x doc old_docs docs_then old_words words_then) (sym has.next_is)
-    (subst (λ x. HasDocWords head docs c (i + n) (place_after c.gaps at n) x old_docs docs_then old_words words_then) last
-    (subst (λ xs. HasDocWords head docs c (i + n) (place_after c.gaps at n) (doc_after c.gaps at before n) old_docs xs old_words words_then) whole_docs
-    (subst (λ xs. HasDocWords head docs c (i + n) (place_after c.gaps at n) (doc_after c.gaps at before n) old_docs (docs_now ++ take n ds) old_words xs) whole_words all))))
-
-pub doc_words_all : (head : BlockHead) (docs : ℕ) (bytes : List ℕ) (c : BlockColumns) (i at before : ℕ) (old_docs docs_now old_words words_now : List ℕ) → c ≡ block_columns head bytes → head.rows ≤ i
-    → HasDocWords head docs c i at before old_docs docs_now old_words words_now → AddsDocWords head docs bytes old_docs docs_now old_words words_now
-unfolding rows_read
-doc_words_all head docs bytes c i at before old_docs docs_now old_words words_now is le h =
+pub doc_words_all : (head : BlockHead) (docs : ℕ) (bytes : List ℕ) (c : BlockColumns) (ds ws : List ℕ) (next : ℕ) → c ≡ block_columns head bytes → length ds ≡ head.rows → length ws ≡ head.rows
+    → HasDocs c.gaps 0 0 docs ds next → AreWords head.lo head.words c.words 0 ws → HasDocWords head docs bytes ds ws
+doc_words_all head docs bytes c ds ws next is long even has words =
+    let n = head.rows in
+    let h = first_rows head docs c ds ws n (omega (arith, long)) (even ∙ sym long) (omega (arith, long)) has.are words in
     let all : h.done ≡ rows_read head bytes =
-    sym (h.rows ∙ ap (λ (x : List Item). h.done ++ map item_row x) (items_end head c i at h.last le) ∙ append-nil h.done) ∙ ap (λ x. map item_row (block_items head x)) is in
+    sym (h.rows ∙ ap (λ (x : List Item). h.done ++ map item_row x) (items_end head c n (place_after c.gaps 0 n) h.last (omega arith)) ∙ append-nil h.done) ∙ rows_cut head bytes c is in
     record {
-      docs_are = h.docs_are ∙ ap (λ (xs : List Post). old_docs ++ map (λ p. p.doc) xs) all;
-      words_are = h.words_are ∙ ap (λ (xs : List Post). old_words ++ map (λ p. p.word) xs) all;
+      docs_are = sym (take_all n ds (omega (arith, long))) ∙ h.docs_are ∙ ap (map (λ (p : Post). p.doc)) all;
+      words_are = sym (take_all n ws (omega (arith, even))) ∙ h.words_are ∙ ap (map (λ (p : Post). p.word)) all;
       listable = subst (All (IsListable head docs)) all h.listable;
     }
+
+pub refilled : (n : ℕ) (out items : List ℕ) → length items ≡ n → length out ≡ n → take n (out ++ drop (length out) items) ≡ out
+refilled n out items long same = ap (λ (xs : List ℕ). take n (out ++ xs)) (drop_all (length out) items (omega (arith, long, same))) ∙ ap (take n) (append-nil out) ∙ take_all n out (omega (arith, same))
+
+pub docs_there : (r : Option ℕ) (P : ℕ → Type 0) → is_some r ≡ true → IfSome r P → (next : ℕ) × P next
+docs_there (Some next) P e h = (next, h)
+docs_there None P e h = absurd (cc)

@@ -2,15 +2,17 @@
 --
 --   Each P xs i          a fact of each of the first i numbers; each_more: of one more
 --   DocsTo               what the loops over the gap column know; docs_start, docs_more, docs_all: their steps
+--   docs_joined          the documents of some rows, and of the rows behind them; docs_none, docs_put, doc_behind: the steps of a loop that joins them
 --   short_here           a byte below 128 is a code
---   pair_here            a code of one byte or two
+--   two_here             a code of two bytes
 --   IsRun, is_run        a run of rows that keep the rules, from the facts of its columns
 --   pushes_run           what is known behind it: what is known behind each of its rows, one by one
-use Rattle.std.proofs.Common.{◌≡◌, ℕ, zero, suc, ◌+◌, ◌-◌, ◌*◌, ◌/◌, ◌%◌, ◌<◌, ◌≤◌, Bool, true, false, ◌&&◌, ◌||◌, ltb, List, [], ◌∷◌, ◌++◌, length, get_or, set, take, drop, Option, Some, refl, sym, ap, subst, ◌∙◌, append_assoc, arith, inl, inr}
+use Rattle.std.proofs.Common.{◌≡◌, ℕ, zero, suc, ◌+◌, ◌-◌, ◌*◌, ◌/◌, ◌%◌, ◌<◌, ◌≤◌, Bool, true, false, ◌&&◌, ◌||◌, ltb, List, [], ◌∷◌, ◌++◌, length, get_or, set, take, drop, Option, Some, refl, sym, ap, ap₂, subst, ◌∙◌, append_assoc, arith, inl, inr}
 use Rattle.std.specs.Int.{w16, w32, from_be_bytes}
 use Rattle.std.specs.Option.{unwrap_or}
 use Rattle.std.proofs.lemmas.Bool.{cases_eq, cases_lt, lt-ltb, le-ltb, ltb-true, and_parts, and_from, or_cases}
-use Rattle.std.proofs.lemmas.List.{get_or-set_same, get_or-set_other, drop_more, append-nil, take_more, take_all, get_or-take, get_or-drop}
+use Rattle.std.proofs.lemmas.List.{get_or_append_left, get_or-append_right, length-append, length-take, get_or-set_same, get_or-set_other, drop_more, append-nil, take_more, take_all, get_or-take, get_or-drop}
+use Rattle.std.proofs.lemmas.Slice.{take-put_mid}
 use Rattle.cs_base.specs.index.GapCode.{code, code_in, first_code}
 use Rattle.cs_base.specs.declared.index.block.BlockHead.{BlockHead}
 use Rattle.cs_base.specs.declared.content.doc.Post.{Post}
@@ -18,11 +20,12 @@ use Rattle.cs_cols.specs.Held.{posts_of, AreEven}
 use Rattle.cs_cols.proofs.Columns.{posts-length, posts-at}
 use Rattle.cs_gaps.proofs.CodesLemmas.{first_found}
 use Rattle.cs_model.specs.Scores.{SCORES}
-use Rattle.cs_model_index.specs.BlockRules.{row_at, is_scored, is_after, BlockColumns}
+use Rattle.cs_model_index.specs.BlockRules.{gap_len, gap_number, row_at, is_scored, is_after, BlockColumns}
 use Rattle.cs_block.specs.Reading.{GapHere}
 use Rattle.cs_block.specs.Pass.{HasPushed}
 use Rattle.cs_block.specs.Runs.{place_after, doc_after, HasGap, HaveDocs, HasDocs, AreWords, ArePositions, is_position, AreScores, is_score, AreOnward, AreAscending, row_in}
 use Rattle.cs_block.proofs.PassLemmas.{pushes_on, Tests}
+use borrow.Rule.Slice.PartMut.{put_mid}
 
 -- ---- a column that is filled
 
@@ -81,6 +84,67 @@ docs_all gaps at before docs ds i next doc e below h = record {
   within = h.inside;
 }
 
+-- codes behind others
+places_joined : (gaps : List ℕ) (at n m : ℕ) → place_after gaps (place_after gaps at n) m ≡ place_after gaps at (n + m)
+unfolding place_after
+places_joined gaps at n zero = ap (place_after gaps at) (omega arith)
+places_joined gaps at n (suc m) =
+    let one : suc (n + m) ≡ n + suc m = omega arith in
+    ap (λ (x : ℕ). x + gap_len (drop x gaps)) (places_joined gaps at n m) ∙ ap (place_after gaps at) one
+
+sums_joined : (gaps : List ℕ) (at before n m : ℕ) → doc_after gaps (place_after gaps at n) (doc_after gaps at before n) m ≡ doc_after gaps at before (n + m)
+unfolding doc_after
+sums_joined gaps at before n zero = ap (doc_after gaps at before) (omega arith)
+sums_joined gaps at before n (suc m) =
+    let one : suc (n + m) ≡ n + suc m = omega arith in
+    ap₂ (λ (x y : ℕ). x + gap_number (drop y gaps)) (sums_joined gaps at before n m) (places_joined gaps at n m) ∙ ap (doc_after gaps at before) one
+
+gap_joined : (gaps : List ℕ) (at before n m d : ℕ) → HasGap gaps (place_after gaps at n) (doc_after gaps at before n) m d → HasGap gaps at before (n + m) d
+gap_joined gaps at before n m d h =
+    let one : n + suc m ≡ suc (n + m) = omega arith in
+    let behind = places_joined gaps at n (suc m) ∙ ap (place_after gaps at) one in
+    (h.0, subst (λ (x : ℕ). GapHere gaps x h.0 (place_after gaps at (suc (n + m)))) (places_joined gaps at n m) (subst (GapHere gaps (place_after gaps (place_after gaps at n) m) h.0) behind h.1), h.2 ∙ ap (λ (x : ℕ). x + h.0) (sums_joined gaps at before n m))
+
+-- the documents of some rows, and of the rows behind them
+pub docs_joined : (gaps : List ℕ) (at before docs : ℕ) (ds es : List ℕ) (next doc behind : ℕ) → doc ≡ doc_after gaps at before (length ds)
+    → HasDocs gaps at before docs ds next → HasDocs gaps next doc docs es behind → HasDocs gaps at before docs (ds ++ es) behind
+docs_joined gaps at before docs ds es next doc behind is h more =
+    let n = length ds in
+    let from_here = subst (λ (x : ℕ). HasDocs gaps x (doc_after gaps at before n) docs es behind) h.next_is (subst (λ (x : ℕ). HasDocs gaps next x docs es behind) is more) in
+    let long = length-append ds es in
+    record {
+      are = λ j lt. elim (cases_lt j n) [
+        | inl less ↦ subst (λ (x : ℕ). HasGap gaps at before j x × (x < docs)) (sym (get_or_append_left ds es 0 j less)) (h.are j less)
+        | inr ge ↦
+            let m = j - n in
+            let there : n + m ≡ j = omega (arith, ge) in
+            let same : get_or (ds ++ es) j 0 ≡ get_or es m 0 = get_or-append_right ds es n j 0 refl ge in
+            let f = from_here.are m (omega (arith, lt, long, ge)) in
+            subst (λ (x : ℕ). HasGap gaps at before j x × (x < docs)) (sym same) (subst (λ (x : ℕ). HasGap gaps at before x (get_or es m 0)) there (gap_joined gaps at before n m (get_or es m 0) f.0), f.1)
+      ];
+      next_is = from_here.next_is ∙ places_joined gaps at n (length es) ∙ ap (place_after gaps at) (sym long);
+      within = from_here.within;
+    }
+
+pub docs_none : (gaps : List ℕ) (at before docs : ℕ) → at ≤ length gaps → HasDocs gaps at before docs [] at
+unfolding place_after
+docs_none gaps at before docs le = record { are = λ j lt. absurd (omega (arith, lt)); next_is = refl; within = le }
+
+-- a column whose first rows are filled, and the next ones written
+pub docs_put : (gaps : List ℕ) (at before docs : ℕ) (out es : List ℕ) (i k next doc behind : ℕ) → i ≤ length out → doc ≡ doc_after gaps at before i
+    → HasDocs gaps at before docs (take i out) next → HasDocs gaps next doc docs es behind → HasDocs gaps at before docs (take (i + length es) (put_mid i k out es)) behind
+docs_put gaps at before docs out es i k next doc behind inside is h more =
+    let long : length (take i out) ≡ i = omega (arith, length-take i out, inside) in
+    subst (λ (xs : List ℕ). HasDocs gaps at before docs xs behind) (sym (take-put_mid i k out es (i + length es) refl inside))
+    (docs_joined gaps at before docs (take i out) es next doc behind (is ∙ ap (doc_after gaps at before) (sym long)) h more)
+
+-- the document behind some rows is that of the last of them
+pub doc_behind : (gaps : List ℕ) (at before docs : ℕ) (ds : List ℕ) (k : ℕ) → length ds ≡ k + 1 → HaveDocs gaps at before docs ds → get_or ds k 0 ≡ doc_after gaps at before (length ds)
+doc_behind gaps at before docs ds k len h =
+    let last = (h k (omega (arith, len))).0 in
+    let one : suc k ≡ length ds = omega (arith, len) in
+    last.2 ∙ sym (doc_on gaps at before k last.0 (place_after gaps at (suc k)) last.1) ∙ ap (doc_after gaps at before) one
+
 pub docs_onward : (gaps : List ℕ) (at before docs : ℕ) (ds : List ℕ) → HaveDocs gaps at before docs ds → AreOnward ds
 docs_onward gaps at before docs ds h = λ j lt.
     (let here = (h j (omega arith)).0 in
@@ -112,7 +176,7 @@ pair_code a b n long byte some lt e =
     let digit : n % 128 + 128 ≡ a = omega arith in
     rw (le-ltb n 128 large, quotient, digit, lt-ltb b 128 lt) refl
 
-two_here : (gaps : List ℕ) (at n next : ℕ) → at + 1 < length gaps → 128 ≤ get_or gaps at 0 → get_or gaps at 0 < 256 → 0 < get_or gaps (at + 1) 0 → get_or gaps (at + 1) 0 < 128
+pub two_here : (gaps : List ℕ) (at n next : ℕ) → at + 1 < length gaps → 128 ≤ get_or gaps at 0 → get_or gaps at 0 < 256 → 0 < get_or gaps (at + 1) 0 → get_or gaps (at + 1) 0 < 128
     → n + 128 ≡ get_or gaps at 0 + 128 * get_or gaps (at + 1) 0 → next ≡ at + 2 → GapHere gaps at n next
 two_here gaps at n next inside long byte some lt e is =
     let a = get_or gaps at 0 in
@@ -126,22 +190,6 @@ two_here gaps at n next inside long byte some lt e is =
       within = omega arith;
       below = omega arith;
     }
-
--- one byte or two, as the test says
-pub pair_here : (gaps : List ℕ) (at n next : ℕ) → at + 1 < length gaps → get_or gaps at 0 < 256
-    → (ltb (get_or gaps at 0) 128 || (ltb 0 (get_or gaps (at + 1) 0) && ltb (get_or gaps (at + 1) 0) 128)) ≡ true
-    → (get_or gaps at 0 < 128 → n ≡ get_or gaps at 0) → (128 ≤ get_or gaps at 0 → n + 128 ≡ get_or gaps at 0 + 128 * get_or gaps (at + 1) 0)
-    → (get_or gaps at 0 < 128 → next ≡ at + 1) → (128 ≤ get_or gaps at 0 → next ≡ at + 2) → GapHere gaps at n next
-pair_here gaps at n next inside byte test one two one_on two_on =
-    let a = get_or gaps at 0 in
-    let b = get_or gaps (at + 1) 0 in
-    elim (cases_lt a 128) [
-      | inl lt ↦ subst (λ (x : ℕ). GapHere gaps at x next) (sym (one lt)) (short_here gaps at next (one_on lt) (omega arith) lt)
-      | inr ge ↦ elim (or_cases (ltb a 128) (ltb 0 b && ltb b 128) test) [
-        | inl e ↦ absurd (let lt = ltb-true a 128 e in omega arith)
-        | inr e ↦ let p = and_parts (ltb 0 b) (ltb b 128) e in two_here gaps at n next inside ge byte (ltb-true 0 b p.0) (ltb-true b 128 p.1) (two ge) (two_on ge)
-      ]
-    ]
 
 -- ---- a run, row by row
 

@@ -1,28 +1,58 @@
-//! The documents of a run, from the gap column: in a loop without a jump where each code has one byte, or one or two.
+//! The documents of rows, from the gap column: some rows at a time, without a jump where each of their codes has one byte.
 ghost use Rattle.std.specs.Prelude.{◌≡◌, ℕ, ◌+◌, ◌*◌, ◌^◌, ◌<◌, ◌≤◌, ◌&&◌, ◌||◌, true, nat_lt, length, IfSome, slice_index_or};
+ghost use Rattle.cs_block.specs.Reading.{GapHere};
 ghost use Rattle.cs_block.specs.Runs.{HasDocs};
-ghost use Rattle.cs_block.specs.declared.runs.TheConstants.{RUN};
+ghost use Rattle.cs_block.specs.declared.run_docs.TheConstants.{STEP};
 
 use crate::columns::gap_here;
 
-// Behind a document below this one, the sums of a run whose codes have one byte or two stay below 2^32.
+// Behind a document below this one, the sums of so many rows whose codes have one byte or two stay below 2^32.
 const FAR: u32 = 1 << 31;
+
+// So many rows at a time are looked at together: few enough that most have codes of one byte alone.
+const STEP: usize = 32;
 
 /// The documents of as many rows as there is room for, and the place behind their gap codes, if the codes
 /// stand there and each document is below `docs`. `before` is the document of the row in front.
 pub fn docs_in(gaps: &[u8], at: usize, before: u32, docs: u32, out: &mut [u32]) -> Option<usize>
     requires within { at ≤ length gaps.now }
-    requires few { length out.old ≤ RUN }
 
     ensures { IfSome result (λ next. HasDocs gaps.now at before docs out.new next) }
 {
-    let rows = out.len();
-    let left = gaps.len() - at;
-    if before < FAR && rows <= left && are_short(gaps, at, rows) {
+    let mut next = at;
+    let mut doc = before;
+    let mut i = 0;
+    while STEP <= out.len() - i {
+        next = step_docs(gaps, next, doc, docs, &mut out[i..i + STEP])?;
+        i += STEP;
+        doc = out[i - 1];
+    }
+    step_docs(gaps, next, doc, docs, &mut out[i..])
+}
+
+// The same of few rows.
+#[inline]
+fn step_docs(gaps: &[u8], at: usize, before: u32, docs: u32, out: &mut [u32]) -> Option<usize>
+    requires within { at ≤ length gaps.now }
+    requires few { length out.old ≤ STEP }
+
+    ensures { IfSome result (λ next. HasDocs gaps.now at before docs out.new next) }
+{
+    if before < FAR && out.len() <= gaps.len() - at && are_short(gaps, at, out.len()) {
         return short_docs(gaps, at, before, docs, out);
     }
+    mixed_docs(gaps, at, before, docs, out)
+}
+
+// The same where a code has more than one byte.
+fn mixed_docs(gaps: &[u8], at: usize, before: u32, docs: u32, out: &mut [u32]) -> Option<usize>
+    requires within { at ≤ length gaps.now }
+    requires few { length out.old ≤ STEP }
+
+    ensures { IfSome result (λ next. HasDocs gaps.now at before docs out.new next) }
+{
     if before < FAR
-        && 2 * rows <= left
+        && 2 * out.len() <= gaps.len() - at
         && let Some(next) = pair_docs(gaps, at, before, docs, out)
     {
         return Some(next);
@@ -31,6 +61,7 @@ pub fn docs_in(gaps: &[u8], at: usize, before: u32, docs: u32, out: &mut [u32]) 
 }
 
 // Whether each of so many bytes is a code.
+#[inline]
 fn are_short(gaps: &[u8], at: usize, rows: usize) -> bool
     requires { at + rows ≤ length gaps.now }
 
@@ -44,6 +75,7 @@ fn are_short(gaps: &[u8], at: usize, rows: usize) -> bool
 }
 
 // The same where each code has one byte.
+#[inline]
 fn short_docs(gaps: &[u8], at: usize, before: u32, docs: u32, out: &mut [u32]) -> Option<usize>
     requires within { at + length out.old ≤ length gaps.now }
     requires fits { before + 128 * length out.old < 2 ^ 32 }
@@ -69,49 +101,39 @@ fn pair_docs(gaps: &[u8], at: usize, before: u32, docs: u32, out: &mut [u32]) ->
 
     ensures { IfSome result (λ next. HasDocs gaps.now at before docs out.new next) }
 {
-    let mut holds = true;
     let mut doc = before;
     let mut next = at;
     for i in 0..out.len() {
-        let first = gaps[next];
-        let second = gaps[next + 1];
-        holds &= is_pair(first, second);
-        doc += pair_number(first, second);
+        let (n, behind) = pair_here(gaps, next)?;
+        doc += n;
         out[i] = doc;
-        next += pair_len(first);
+        next = behind;
     }
-    if !holds || doc >= docs {
+    if doc >= docs {
         return None;
     }
     Some(next)
 }
 
-// Whether a code of one byte or two begins with these two bytes.
+// The number whose code stands at a place of the gap column, and the place behind it, if it has one byte or two.
 #[inline]
-fn is_pair(first: u8, second: u8) -> bool
-    ensures { result ≡ (nat_lt first 128 || (nat_lt 0 second && nat_lt second 128)) }
-{
-    (first < 128) | ((0 < second) & (second < 128))
-}
+fn pair_here(gaps: &[u8], at: usize) -> Option<(u32, usize)>
+    requires { at + 1 < length gaps.now }
 
-// The number of that code.
-#[inline]
-fn pair_number(first: u8, second: u8) -> u32
-    ensures one { first < 128 → result ≡ first }
-    ensures two { 128 ≤ first → result + 128 ≡ first + 128 * second }
-    ensures few { result < 2 ^ 15 }
+    ensures is { IfSome result (λ p. GapHere gaps.now at p.0 p.1) }
+    ensures few { IfSome result (λ p. p.0 < 2 ^ 15) }
+    ensures near { IfSome result (λ p. p.1 ≤ at + 2) }
 {
-    u32::from(first % 128) + u32::from(first / 128) * (128 * u32::from(second))
-}
-
-// The bytes of that code.
-#[inline]
-fn pair_len(first: u8) -> usize
-    ensures one { first < 128 → result ≡ 1 }
-    ensures two { 128 ≤ first → result ≡ 2 }
-    ensures most { result ≤ 2 }
-{
-    1 + usize::from(first / 128)
+    let first = gaps[at];
+    if first < 128 {
+        return Some((u32::from(first), at + 1));
+    }
+    let second = gaps[at + 1];
+    if second == 0 || second >= 128 {
+        return None;
+    }
+    let n = u32::from(first) - 128 + 128 * u32::from(second);
+    Some((n, at + 2))
 }
 
 // The same for all codes, one by one.

@@ -15,7 +15,7 @@ use cs_base::{BlockHead, Post};
 use cs_cols::Cols;
 
 /// A run has so many rows at most.
-pub const RUN: usize = 256;
+const RUN: usize = 256;
 
 /// How far the rows of a block are read.
 #[derive(Clone, Copy)]
@@ -82,7 +82,6 @@ fn push_run(
     requires shaped { IsShaped head.now head.now.len }
     requires sized { HasColumns head.now (seen_columns columns.now) }
     requires some { 0 < length run_docs.old }
-    requires few { length run_docs.old ≤ RUN }
     requires words { length run_words.old ≡ length run_docs.old }
     requires positions { length run_positions.old ≡ length run_docs.old }
     requires rows { from.rows + length run_docs.old ≤ head.now.rows }

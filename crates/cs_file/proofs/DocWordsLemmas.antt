@@ -10,7 +10,7 @@ use Rattle.std.proofs.lemmas.List.Elements.{All-map, All-weaker}
 use Rattle.cs_base.specs.declared.index.block.BlockHead.{BlockHead}
 use Rattle.cs_base.specs.declared.content.doc.Post.{Post}
 use Rattle.cs_cols.specs.Held.{AreEven, posts_of}
-use Rattle.cs_block.specs.DocWords.{AddsDocWords, IsListable}
+use Rattle.cs_block.specs.DocWords.{HasDocWords, IsListable}
 use Rattle.cs_block.proofs.LawsLemmas.{unique}
 use Rattle.cs_model.specs.Scores.{SCORES}
 use Rattle.cs_model_index.specs.BlockRules.{IsBlock, is_scored, rows_read}
@@ -29,7 +29,7 @@ gathered_posts [] = refl
 gathered_posts (p ∷ rows) = ap (λ xs. p ∷ xs) (gathered_posts rows)
 
 pub decoded_doc_words : (head : BlockHead) (docs : ℕ) (bytes : List ℕ) (rows posts : List Post) (docs_now words_now : List ℕ) → docs < 2 ^ 32 → IsShaped head (length bytes) → IsBlock SCORES head docs rows bytes → posts ≡ rows
-    → docs_now ≡ map (λ p. p.doc) posts → words_now ≡ map (λ p. p.word) posts → AddsDocWords head docs bytes [] docs_now [] words_now
+    → docs_now ≡ map (λ p. p.doc) posts → words_now ≡ map (λ p. p.word) posts → HasDocWords head docs bytes docs_now words_now
 decoded_doc_words head docs bytes rows posts docs_now words_now few shaped block same are_docs are_words =
     let all : posts ≡ rows_read head bytes = same ∙ sym (unique head docs rows bytes few shaped block).1 in
     let own : rows ≡ rows_read head bytes = sym (unique head docs rows bytes few shaped block).1 in
@@ -41,7 +41,7 @@ decoded_doc_words head docs bytes rows posts docs_now words_now few shaped block
       listable = subst (All (IsListable head docs)) own (λ k d lt. record { doc = in_docs k d lt; from = (in_words k d lt).0; word = (in_words k d lt).1 });
     }
 
-pub words_even : (head : BlockHead) (docs : ℕ) (bytes docs_now words_now : List ℕ) → AddsDocWords head docs bytes [] docs_now [] words_now → length words_now ≡ length docs_now
+pub words_even : (head : BlockHead) (docs : ℕ) (bytes docs_now words_now : List ℕ) → HasDocWords head docs bytes docs_now words_now → length words_now ≡ length docs_now
 words_even head docs bytes docs_now words_now h =
     ap length h.words_are ∙ length-map (rows_read head bytes) (λ (p : Post). p.word) ∙ sym (ap length h.docs_are ∙ length-map (rows_read head bytes) (λ (p : Post). p.doc))
 
@@ -51,17 +51,17 @@ module _ (i : IndexView) (told : Option (List ℕ)) (k : ℕ) (placed : Placed) 
       let within = subst (λ (x : BlockHead). x.lo + x.words ≤ length i.words) (sym (h.head_is placed.head)) (head_within i h.index k placed.head h.known) in
       All-weaker (IsListable placed.head placed.docs) (λ p. (p.doc < i.docs) × (p.word < length i.words)) (λ p l. let below = l.word in (subst (λ n. p.doc < n) h.docs_are l.doc, omega (arith, below, within))) (rows_read placed.head read) listable
 
-  pub docs_known : (docs_now words_now : List ℕ) → AddsDocWords placed.head placed.docs read [] docs_now [] words_now → All (λ d. d < i.docs) docs_now
+  pub docs_known : (docs_now words_now : List ℕ) → HasDocWords placed.head placed.docs read docs_now words_now → All (λ d. d < i.docs) docs_now
   docs_known docs_now words_now added =
       subst (All (λ d. d < i.docs)) (sym added.docs_are) (All-map (λ d. d < i.docs) (λ (p : Post). p.doc) (rows_read placed.head read)
       (All-weaker (λ p. (p.doc < i.docs) × (p.word < length i.words)) (λ p. p.doc < i.docs) (λ p l. l.0) (rows_read placed.head read) (known_rows added.listable)))
 
-  pub words_known : (docs_now words_now : List ℕ) → AddsDocWords placed.head placed.docs read [] docs_now [] words_now → All (λ w. w < length i.words) words_now
+  pub words_known : (docs_now words_now : List ℕ) → HasDocWords placed.head placed.docs read docs_now words_now → All (λ w. w < length i.words) words_now
   words_known docs_now words_now added =
       subst (All (λ w. w < length i.words)) (sym added.words_are) (All-map (λ w. w < length i.words) (λ (p : Post). p.word) (rows_read placed.head read)
       (All-weaker (λ p. (p.doc < i.docs) × (p.word < length i.words)) (λ p. p.word < length i.words) (λ p l. l.1) (rows_read placed.head read) (known_rows added.listable)))
 
-  pub doc_words_stood : (b : List ℕ) (docs_now words_now : List ℕ) → told ≡ Some b → StandsFor b i → AddsDocWords placed.head placed.docs read [] docs_now [] words_now → AreOf (block_posts b k) docs_now words_now
+  pub doc_words_stood : (b : List ℕ) (docs_now words_now : List ℕ) → told ≡ Some b → StandsFor b i → HasDocWords placed.head placed.docs read docs_now words_now → AreOf (block_posts b k) docs_now words_now
   doc_words_stood b docs_now words_now t s added =
       let all = read_there i told k placed read h b t s in
       (added.docs_are ∙ ap (map (λ (p : Post). p.doc)) all, added.words_are ∙ ap (map (λ (p : Post). p.word)) all)

@@ -6,13 +6,13 @@
 --   AreColumns placed read docs words positions scores, HasPosts placed read f      columns have the posts of a block whose bytes were read
 --   DecodesAt at broken r     the answer where this is the first rule that a block at a place breaks, if there is one
 --   ReadsText bytes at r      the text of these bytes, or that rule 9 is broken at the place
-use Rattle.std.specs.Prelude.{◌≡◌, ℕ, ◌^◌, ◌<◌, true, false, List, [], length, slice_index_or, Option, None, Some, Result, Ok, Err}
+use Rattle.std.specs.Prelude.{◌≡◌, ℕ, ◌^◌, ◌<◌, true, false, List, length, slice_index_or, Option, None, Some, Result, Ok, Err}
 use Rattle.std.specs.Option.{ForSome, option_map}
 use Rattle.std.specs.Str.{is_utf8}
 use Rattle.cs_base.specs.declared.index.block.BlockHead.{BlockHead}
 use Rattle.cs_base.specs.declared.index.block.Broken.{Broken}
 use Rattle.cs_base.specs.outside.Outside.{part}
-use Rattle.cs_block.specs.DocWords.{AddsDocWords}
+use Rattle.cs_block.specs.DocWords.{HasDocWords}
 use Rattle.cs_block.specs.Positions.{HasPositions}
 use Rattle.cs_model_index.specs.BlockRules.{broken_at}
 use Rattle.cs_model_index.specs.FileRules.{in_file}
@@ -35,7 +35,7 @@ pub record IsPlaced (i : IndexView) (told : Option (List ℕ)) (k : ℕ) (placed
 
 -- each column is as long as the block has rows
 pub record AreColumns (placed : Placed) (read docs words positions scores : List ℕ) : Type 0 where
-  pub listed : AddsDocWords placed.head placed.docs read [] docs [] words
+  pub listed : HasDocWords placed.head placed.docs read docs words
   pub scored : HasPositions placed.head read positions scores
 
 -- these are four of its fields

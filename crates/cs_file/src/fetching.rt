@@ -1,12 +1,12 @@
 //! Reading blocks and titles of an opened index.
-ghost use Rattle.std.specs.Prelude.{◌≡◌, ◌<◌, ◌≤◌, ◌+◌, ◌*◌, ◌^◌, ◌++◌, ℕ, List, [], false, true, length, Err, IfOk, IfErr, OnOk, OnErr, All};
+ghost use Rattle.std.specs.Prelude.{◌≡◌, ◌<◌, ◌≤◌, ◌+◌, ◌*◌, ◌^◌, ◌++◌, ℕ, List, false, true, length, Err, IfOk, IfErr, OnOk, OnErr, All};
 ghost use Rattle.std.specs.List.{sum_by};
 ghost use Rattle.std.specs.Option.{ForSome};
 ghost use Rattle.cs_base.specs.declared.content.doc.Post.{Post};
 ghost use Rattle.cs_base.specs.declared.content.limits.TheConstants.{MAX_WORDS};
 ghost use Rattle.cs_base.specs.outside.Causes.{ReadsWithin};
 ghost use Rattle.cs_base.specs.outside.Outside.{part};
-ghost use Rattle.cs_block.specs.DocWords.{AddsDocWords};
+ghost use Rattle.cs_block.specs.DocWords.{HasDocWords};
 ghost use Rattle.cs_model.specs.Scores.{SCORES};
 ghost use Rattle.cs_model_index.specs.BlockRules.{IsBlock, judged};
 ghost use Rattle.cs_model_index.specs.Blocks.{IsShaped};
@@ -281,11 +281,9 @@ fn read_columns(placed: &Placed, into: &mut Fetched) -> Result<bool, Memory>
 fn list_columns(placed: &Placed, into: &mut Fetched) -> Result<bool, Memory>
     requires shaped { IsShaped placed.now.head (length into.old.bytes.items) }
 
-    ensures ok { IfOk result (λ whole. whole ≡ true → AddsDocWords placed.now.head placed.now.docs into.old.bytes.items [] into.new.docs.items [] into.new.words.items) }
+    ensures ok { IfOk result (λ whole. whole ≡ true → HasDocWords placed.now.head placed.now.docs into.old.bytes.items into.new.docs.items into.new.words.items) }
     ensures bytes { into.new.bytes ≡ into.old.bytes }
 {
-    into.docs.truncate(0);
-    into.words.truncate(0);
     let whole = read_doc_words(
         &into.bytes,
         &placed.head,
@@ -302,7 +300,7 @@ fn doc_words_at(alloc: Global, placed: &Placed, into: &mut Fetched) -> Result<()
     requires places { placed.now.at < 2 ^ 63 }
     requires few { placed.now.docs < 2 ^ 32 }
 
-    ensures ok { OnOk result (AddsDocWords placed.now.head placed.now.docs into.old.bytes.items [] into.new.docs.items [] into.new.words.items) }
+    ensures ok { OnOk result (HasDocWords placed.now.head placed.now.docs into.old.bytes.items into.new.docs.items into.new.words.items) }
     ensures exact { IfErr result (λ fault. DecodesAt placed.now.at (judged SCORES placed.now.head placed.now.docs into.old.bytes.items) (Err fault)) }
     ensures unread { is_read_of_fetch result ≡ false }
 {
