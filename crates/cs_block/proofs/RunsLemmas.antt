@@ -7,10 +7,10 @@
 --   two_here             a code of two bytes
 --   IsRun, is_run        a run of rows that keep the rules, from the facts of its columns
 --   pushes_run           what is known behind it: what is known behind each of its rows, one by one
-use Rattle.std.proofs.Common.{◌≡◌, ℕ, zero, suc, ◌+◌, ◌-◌, ◌*◌, ◌/◌, ◌%◌, ◌<◌, ◌≤◌, Bool, true, false, ◌&&◌, ◌||◌, ltb, List, [], ◌∷◌, ◌++◌, length, get_or, set, take, drop, Option, Some, refl, sym, ap, ap₂, subst, ◌∙◌, append_assoc, arith, inl, inr}
+use Rattle.std.proofs.Common.{◌≡◌, ℕ, zero, suc, ◌+◌, ◌-◌, ◌*◌, ◌/◌, ◌%◌, ◌<◌, ◌≤◌, Bool, true, false, ltb, List, [], ◌∷◌, ◌++◌, length, get_or, set, take, drop, Option, Some, refl, sym, ap, ap₂, subst, ◌∙◌, append_assoc, arith, inl, inr}
 use Rattle.std.specs.Int.{w16, w32, from_be_bytes}
 use Rattle.std.specs.Option.{unwrap_or}
-use Rattle.std.proofs.lemmas.Bool.{cases_eq, cases_lt, lt-ltb, le-ltb, ltb-true, and_parts, and_from, or_cases}
+use Rattle.std.proofs.lemmas.Bool.{cases_eq, cases_lt, lt-ltb, le-ltb, and_from}
 use Rattle.std.proofs.lemmas.List.{get_or_append_left, get_or-append_right, length-append, length-take, get_or-set_same, get_or-set_other, drop_more, append-nil, take_more, take_all, get_or-take, get_or-drop}
 use Rattle.std.proofs.lemmas.Slice.{take-put_mid}
 use Rattle.cs_base.specs.index.GapCode.{code, code_in, first_code}
