@@ -57,23 +57,31 @@ first_rows head docs c ds ws (suc j) le even within are words =
     let from_none : 0 + j ≡ j = omega arith in
     let word_is : get_or ws j 0 ≡ row.word = w.0 ∙ ap (λ (x : ℕ). head.lo + from_be_bytes w16 (take 2 (drop (2 * x) c.words))) from_none in
     let one : j + 1 ≡ suc j = omega arith in
+    let from_next : ℕ → List Item = λ i. items_from head c i next (Some row) in
+    let put : List ℕ → ℕ → List ℕ = λ xs x. xs ++ x ∷ [] in
+    let more_docs = ap (λ (x : ℕ). take x ds) (sym one) ∙ take_more ds j 0 (omega (arith, le)) in
+    let more_words = ap (λ (x : ℕ). take x ws) (sym one) ∙ take_more ws j 0 (omega (arith, le, even)) in
+    let here : IsListable head docs row = record { doc = omega (arith, doc_is, below); from = omega arith; word = omega (arith, word_is, in_words) } in
+    let one_more = All-cons (IsListable head docs) row [] here (All-nil (IsListable head docs)) in
     record {
       done = h.done ++ row ∷ [];
       last = Some row;
       before = doc_on c.gaps 0 0 j n next gap ∙ ap (λ (x : ℕ). x + n) h.before;
-      rows = h.rows ∙ ap (λ (x : List Item). h.done ++ map item_row x) split ∙ sym (append_assoc h.done (row ∷ []) (map item_row rest)) ∙ ap (λ (x : ℕ). (h.done ++ row ∷ []) ++ map item_row (items_from head c x next (Some row))) one;
-      docs_are = ap (λ (x : ℕ). take x ds) (sym one) ∙ take_more ds j 0 (omega (arith, le)) ∙ ap₂ (λ (xs : List ℕ) (x : ℕ). xs ++ x ∷ []) h.docs_are doc_is ∙ sym (map-append (λ (p : Post). p.doc) h.done (row ∷ []));
-      words_are = ap (λ (x : ℕ). take x ws) (sym one) ∙ take_more ws j 0 (omega (arith, le, even)) ∙ ap₂ (λ (xs : List ℕ) (x : ℕ). xs ++ x ∷ []) h.words_are word_is ∙ sym (map-append (λ (p : Post). p.word) h.done (row ∷ []));
-      listable = All-append (IsListable head docs) h.done (row ∷ []) h.listable (All-cons (IsListable head docs) row [] (record { doc = omega (arith, doc_is, below); from = omega arith; word = omega (arith, word_is, in_words) }) (All-nil (IsListable head docs)));
+      rows = h.rows ∙ ap (λ (x : List Item). h.done ++ map item_row x) split ∙ sym (append_assoc h.done (row ∷ []) (map item_row rest))
+          ∙ ap (λ (i : ℕ). (h.done ++ row ∷ []) ++ map item_row (from_next i)) one;
+      docs_are = more_docs ∙ ap₂ put h.docs_are doc_is ∙ sym (map-append (λ (p : Post). p.doc) h.done (row ∷ []));
+      words_are = more_words ∙ ap₂ put h.words_are word_is ∙ sym (map-append (λ (p : Post). p.word) h.done (row ∷ []));
+      listable = All-append (IsListable head docs) h.done (row ∷ []) h.listable one_more;
     }
 
-pub doc_words_all : (head : BlockHead) (docs : ℕ) (bytes : List ℕ) (c : BlockColumns) (ds ws : List ℕ) (next : ℕ) → c ≡ block_columns head bytes → length ds ≡ head.rows → length ws ≡ head.rows
-    → HasDocs c.gaps 0 0 docs ds next → AreWords head.lo head.words c.words 0 ws → HasDocWords head docs bytes ds ws
+pub doc_words_all : (head : BlockHead) (docs : ℕ) (bytes : List ℕ) (c : BlockColumns) (ds ws : List ℕ) (next : ℕ) → c ≡ block_columns head bytes
+    → length ds ≡ head.rows → length ws ≡ head.rows → HasDocs c.gaps 0 0 docs ds next → AreWords head.lo head.words c.words 0 ws → HasDocWords head docs bytes ds ws
 doc_words_all head docs bytes c ds ws next is long even has words =
     let n = head.rows in
     let h = first_rows head docs c ds ws n (omega (arith, long)) (even ∙ sym long) (omega (arith, long)) has.are words in
-    let all : h.done ≡ rows_read head bytes =
-    sym (h.rows ∙ ap (λ (x : List Item). h.done ++ map item_row x) (items_end head c n (place_after c.gaps 0 n) h.last (omega arith)) ∙ append-nil h.done) ∙ rows_cut head bytes c is in
+    let ended = items_end head c n (place_after c.gaps 0 n) h.last (omega arith) in
+    let whole = h.rows ∙ ap (λ (x : List Item). h.done ++ map item_row x) ended ∙ append-nil h.done in
+    let all : h.done ≡ rows_read head bytes = sym whole ∙ rows_cut head bytes c is in
     record {
       docs_are = sym (take_all n ds (omega (arith, long))) ∙ h.docs_are ∙ ap (map (λ (p : Post). p.doc)) all;
       words_are = sym (take_all n ws (omega (arith, even))) ∙ h.words_are ∙ ap (map (λ (p : Post). p.word)) all;
@@ -81,7 +89,9 @@ doc_words_all head docs bytes c ds ws next is long even has words =
     }
 
 pub refilled : (n : ℕ) (out items : List ℕ) → length items ≡ n → length out ≡ n → take n (out ++ drop (length out) items) ≡ out
-refilled n out items long same = ap (λ (xs : List ℕ). take n (out ++ xs)) (drop_all (length out) items (omega (arith, long, same))) ∙ ap (take n) (append-nil out) ∙ take_all n out (omega (arith, same))
+refilled n out items long same =
+    let none = drop_all (length out) items (omega (arith, long, same)) in
+    ap (λ (xs : List ℕ). take n (out ++ xs)) none ∙ ap (take n) (append-nil out) ∙ take_all n out (omega (arith, same))
 
 pub docs_there : (r : Option ℕ) (P : ℕ → Type 0) → is_some r ≡ true → IfSome r P → (next : ℕ) × P next
 docs_there (Some next) P e h = (next, h)

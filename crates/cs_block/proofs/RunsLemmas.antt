@@ -103,14 +103,17 @@ gap_joined : (gaps : List ℕ) (at before n m d : ℕ) → HasGap gaps (place_af
 gap_joined gaps at before n m d h =
     let one : n + suc m ≡ suc (n + m) = omega arith in
     let behind = places_joined gaps at n (suc m) ∙ ap (place_after gaps at) one in
-    (h.0, subst (λ (x : ℕ). GapHere gaps x h.0 (place_after gaps at (suc (n + m)))) (places_joined gaps at n m) (subst (GapHere gaps (place_after gaps (place_after gaps at n) m) h.0) behind h.1), h.2 ∙ ap (λ (x : ℕ). x + h.0) (sums_joined gaps at before n m))
+    let there = subst (GapHere gaps (place_after gaps (place_after gaps at n) m) h.0) behind h.1 in
+    let here = subst (λ (x : ℕ). GapHere gaps x h.0 (place_after gaps at (suc (n + m)))) (places_joined gaps at n m) there in
+    (h.0, here, h.2 ∙ ap (λ (x : ℕ). x + h.0) (sums_joined gaps at before n m))
 
 -- the documents of some rows, and of the rows behind them
 pub docs_joined : (gaps : List ℕ) (at before docs : ℕ) (ds es : List ℕ) (next doc behind : ℕ) → doc ≡ doc_after gaps at before (length ds)
     → HasDocs gaps at before docs ds next → HasDocs gaps next doc docs es behind → HasDocs gaps at before docs (ds ++ es) behind
 docs_joined gaps at before docs ds es next doc behind is h more =
     let n = length ds in
-    let from_here = subst (λ (x : ℕ). HasDocs gaps x (doc_after gaps at before n) docs es behind) h.next_is (subst (λ (x : ℕ). HasDocs gaps next x docs es behind) is more) in
+    let behind_doc = subst (λ (x : ℕ). HasDocs gaps next x docs es behind) is more in
+    let from_here = subst (λ (x : ℕ). HasDocs gaps x (doc_after gaps at before n) docs es behind) h.next_is behind_doc in
     let long = length-append ds es in
     record {
       are = λ j lt. elim (cases_lt j n) [
@@ -120,7 +123,8 @@ docs_joined gaps at before docs ds es next doc behind is h more =
             let there : n + m ≡ j = omega (arith, ge) in
             let same : get_or (ds ++ es) j 0 ≡ get_or es m 0 = get_or-append_right ds es n j 0 refl ge in
             let f = from_here.are m (omega (arith, lt, long, ge)) in
-            subst (λ (x : ℕ). HasGap gaps at before j x × (x < docs)) (sym same) (subst (λ (x : ℕ). HasGap gaps at before x (get_or es m 0)) there (gap_joined gaps at before n m (get_or es m 0) f.0), f.1)
+            let gap = subst (λ (x : ℕ). HasGap gaps at before x (get_or es m 0)) there (gap_joined gaps at before n m (get_or es m 0) f.0) in
+            subst (λ (x : ℕ). HasGap gaps at before j x × (x < docs)) (sym same) (gap, f.1)
       ];
       next_is = from_here.next_is ∙ places_joined gaps at n (length es) ∙ ap (place_after gaps at) (sym long);
       within = from_here.within;
@@ -132,14 +136,16 @@ docs_none gaps at before docs le = record { are = λ j lt. absurd (omega (arith,
 
 -- a column whose first rows are filled, and the next ones written
 pub docs_put : (gaps : List ℕ) (at before docs : ℕ) (out es : List ℕ) (i k next doc behind : ℕ) → i ≤ length out → doc ≡ doc_after gaps at before i
-    → HasDocs gaps at before docs (take i out) next → HasDocs gaps next doc docs es behind → HasDocs gaps at before docs (take (i + length es) (put_mid i k out es)) behind
+    → HasDocs gaps at before docs (take i out) next → HasDocs gaps next doc docs es behind
+    → HasDocs gaps at before docs (take (i + length es) (put_mid i k out es)) behind
 docs_put gaps at before docs out es i k next doc behind inside is h more =
     let long : length (take i out) ≡ i = omega (arith, length-take i out, inside) in
     subst (λ (xs : List ℕ). HasDocs gaps at before docs xs behind) (sym (take-put_mid i k out es (i + length es) refl inside))
     (docs_joined gaps at before docs (take i out) es next doc behind (is ∙ ap (doc_after gaps at before) (sym long)) h more)
 
 -- the document behind some rows is that of the last of them
-pub doc_behind : (gaps : List ℕ) (at before docs : ℕ) (ds : List ℕ) (k : ℕ) → length ds ≡ k + 1 → HaveDocs gaps at before docs ds → get_or ds k 0 ≡ doc_after gaps at before (length ds)
+pub doc_behind : (gaps : List ℕ) (at before docs : ℕ) (ds : List ℕ) (k : ℕ) → length ds ≡ k + 1 → HaveDocs gaps at before docs ds
+    → get_or ds k 0 ≡ doc_after gaps at before (length ds)
 doc_behind gaps at before docs ds k len h =
     let last = (h k (omega (arith, len))).0 in
     let one : suc k ≡ length ds = omega (arith, len) in

@@ -1,5 +1,5 @@
 //! Counting the documents of words over rows that come in pieces.
-ghost use Rattle.std.specs.Prelude.{◌≡◌, ◌+◌, ◌++◌, ◌<◌, ◌≤◌, ◌&&◌, [], ◌∷◌, false, nat_le, nat_lt, List, map, length, take, slice_index_or, IfOk, All};
+ghost use Rattle.std.specs.Prelude.{◌≡◌, ◌+◌, ◌++◌, ◌<◌, ◌≤◌, [], ◌∷◌, true, false, Bool, List, map, length, take, slice_index_or, IfOk, All};
 ghost use Rattle.cs_base.specs.declared.content.doc.Post.{Post};
 ghost use Rattle.cs_base.specs.declared.content.limits.TheConstants.{MAX_DOCS, MAX_WORDS};
 ghost use Rattle.cs_tables.specs.Listings.{post_table};
@@ -102,31 +102,22 @@ fn see_rows(low: u32, high: u32, marks: &mut [Mark], docs: &[u32], words: &[u32]
     ensures sized { length marks.new ≡ length marks.old }
 {
     for i in 0..docs.len() {
-        see_row(low, high, marks, docs[i], words[i], listed);
+        let doc = docs[i];
+        if listed[doc as usize] {
+            see_row(low, high, marks, doc, words[i]);
+        }
     }
 }
 
-// Counts one row.
+// Counts one row in a document that is listed.
 #[inline]
-fn see_row(low: u32, high: u32, marks: &mut [Mark], doc: u32, word: u32, listed: &[bool])
+fn see_row(low: u32, high: u32, marks: &mut [Mark], doc: u32, word: u32)
     requires sized { low + length marks.old ≡ high }
-    requires known { doc < length listed.now }
 
-    ensures counted { (p : Post) → doc ≡ p.doc → word ≡ p.word → Counts low high listed.now (p ∷ []) marks.old marks.new }
+    ensures counted { (listed : List Bool) (p : Post) → doc ≡ p.doc → word ≡ p.word → slice_index_or listed doc false ≡ true → Counts low high listed (p ∷ []) marks.old marks.new }
     ensures sized { length marks.new ≡ length marks.old }
 {
-    if !is_chosen(low, high, doc, word, listed) {
-        return;
+    if low <= word && word < high {
+        marks[(word - low) as usize].see(doc);
     }
-    marks[(word - low) as usize].see(doc);
-}
-
-// Whether a row is counted.
-#[inline]
-fn is_chosen(low: u32, high: u32, doc: u32, word: u32, listed: &[bool]) -> bool
-    requires { doc < length listed.now }
-
-    ensures { result ≡ ((nat_le low word && nat_lt word high) && slice_index_or listed.now doc false) }
-{
-    (low <= word) & (word < high) & listed[doc as usize]
 }

@@ -21,9 +21,12 @@ returns c =
     let docs_all : length ds ≡ doc_len = c.docs_in.auto.out ∙ c.deref_mut.ensures.len in
     let words_all : length ws ≡ word_len = c.words_in.auto.out ∙ c.deref_mut-2.ensures.len in
     let there = docs_there c.docs_in.result (HasDocs columns.gaps 0 0 docs ds) (c.is_none.ensures ∙ ap not c.if-is_none.false) c.docs_in.ensures in
+    let docs_len = docs_all ∙ c.in_ok-resize.ensures.len in
+    let words_len = words_all ∙ c.in_ok-resize-2.ensures.len in
+    let words_now = take word_len (ws ++ drop (length ws) word_items) in
     record {
       ok = λ e.
-          subst (λ xs. HasDocWords head docs c.args.bytes.now xs (take word_len (ws ++ drop (length ws) word_items))) (sym (refilled doc_len ds doc_items docs_long docs_all))
-          (subst (HasDocWords head docs c.args.bytes.now ds) (sym (refilled word_len ws word_items words_long words_all))
-          (doc_words_all head docs c.args.bytes.now columns ds ws there.0 c.cut-columns.ensures.value (docs_all ∙ c.in_ok-resize.ensures.len) (words_all ∙ c.in_ok-resize-2.ensures.len) there.1 (c.words_in.ensures e)));
+          let has = doc_words_all head docs c.args.bytes.now columns ds ws there.0 c.cut-columns.ensures.value docs_len words_len there.1 (c.words_in.ensures e) in
+          subst (λ xs. HasDocWords head docs c.args.bytes.now xs words_now) (sym (refilled doc_len ds doc_items docs_long docs_all))
+          (subst (HasDocWords head docs c.args.bytes.now ds) (sym (refilled word_len ws word_items words_long words_all)) has);
     }
