@@ -11,8 +11,7 @@ use Rattle.std.proofs.lemmas.List.Elements.{All-from_get_or}
 use Rattle.std.proofs.lemmas.Map.Keys.{Less-from_sorted}
 use Rattle.std.proofs.lemmas.Bool.Decides.{nat_tests}
 use Rattle.cs_base.specs.declared.content.doc.Post.{Post}
-use Rattle.cs_base.specs.declared.content.doc.Scored.{Scored}
-use Rattle.cs_base.specs.content.Orders.{by_place, by_doc}
+use Rattle.cs_base.specs.content.Orders.{by_place}
 use Rattle.cs_base.specs.declared.content.limits.TheConstants.{MAX_DISTANCE}
 use Rattle.cs_meet.specs.Places.{is_before, Splits, Ahead}
 
@@ -79,10 +78,6 @@ rises_window x y h = grind (arith, nat_tests)
 
 pub rises_past : (x y : Post) → by_place x y ≡ Less → IsUpTo x.doc (x.pos + 1) y.doc (y.pos + 1)
 rises_past x y h = grind (arith, nat_tests)
-
--- and so does the start of a document
-pub rises_by_doc : (x y : Scored) → by_doc x y ≡ Less → IsUpTo x.doc 0 y.doc 0
-rises_by_doc x y h = grind (arith, nat_tests)
 
 module _ {B : Type 0} (R : B → B → Ordering) (doc pos : B → ℕ) (rises : (x y : B) → R x y ≡ Less → IsUpTo (doc x) (pos x) (doc y) (pos y)) (a : List Post) (b : List B) where
   pub ahead_more : (n j : ℕ) (x : B) → IsStrictlySortedBy R b → j < length b → x ≡ get_or b j x → Splits a n (doc x) (pos x) → Ahead doc pos a b n (j + 1)
