@@ -42,7 +42,6 @@ stayed = (dropped Words, (dropped usize, tt))
 module _ {M : Type 1} {𝓤 : Ura M} (𝓛 : Logic 𝓤) (at_mem : Memory → SProp 𝓤) (run : Routine → Fun 𝓤) where
   walks : (C : Calls 𝓤 𝓛.H) (Λ : Loops 𝓤 𝓛.H) → Walks 𝓛 F.ended stayed (WpFn 𝓤 𝓛.H C Λ code.function) (F.clauses 𝓛 at_mem run)
   walks C Λ z =
-      let vss = z.0.4 in
       let v = z.0.3.0 in
       let c = z.0.3.1.0 in
       let p = v.ptr in
@@ -55,6 +54,7 @@ module _ {M : Type 1} {𝓤 : Ura M} (𝓛 : Logic 𝓤) (at_mem : Memory → SP
       let places : N.Denot = record { ptr = p +ₚ 8 * c; cap = c } in
       let scores : S.Denot = record { ptr = p +ₚ 12 * c; cap = c } in
       let block : B.Denot = record { ptr = p; cap = c } in
+      let vss = z.0.4 in
       let held = F.clauses 𝓛 at_mem run in
       let Post = (walk_of 𝓛 F.ended stayed held).post z in
       begins 𝓛 F.ended stayed held z Asked (id⊢ 𝓤 _) (λ asked.
