@@ -7,6 +7,7 @@ use Rattle.std.specs.List.{list_any, filter}
 use Rattle.std.specs.List.Sorted.{IsStrictlySortedBy}
 use Rattle.std.proofs.lemmas.List.{drop_more, get_or_default, drop_all}
 use Rattle.std.proofs.lemmas.List.Folds.{list_any_none}
+use Rattle.std.proofs.lemmas.List.Kept.{IsStrictlySortedBy-filter}
 use Rattle.std.proofs.lemmas.List.Elements.{All-from_get_or}
 use Rattle.std.proofs.lemmas.Map.Keys.{Less-from_sorted}
 use Rattle.std.proofs.lemmas.Bool.Decides.{nat_tests}
@@ -58,6 +59,10 @@ filter_skip p whole done b j n told on within none =
 -- all are judged
 pub filter_all : {X : Type 0} (p : X → Bool) (whole done b : List X) (j : ℕ) → whole ≡ done ++ filter p (drop j b) → length b ≤ j → done ≡ whole
 filter_all p whole done b j told l = sym (told ∙ ap (λ r. done ++ filter p r) (drop_all j b l) ∙ append-nil done)
+
+-- and what is left of a sorted list is sorted
+pub filter_sorted : {X : Type 0} (R : X → X → Ordering) (p : X → Bool) (done b : List X) (j : ℕ) → IsStrictlySortedBy R b → filter p b ≡ done ++ filter p (drop j b) → length b ≤ j → IsStrictlySortedBy R done
+filter_sorted R p done b j up told past = rw (filter_all p (filter p b) done b j told past) (IsStrictlySortedBy-filter R p b up)
 
 -- x asks for an earlier place than y, or the same
 abbrev pub IsUpTo : ℕ → ℕ → ℕ → ℕ → Type 0

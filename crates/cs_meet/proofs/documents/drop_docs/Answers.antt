@@ -1,11 +1,10 @@
 use Rattle.std.proofs.Common.{◌≡◌, ◌∙◌, arith, not, get_or, ap}
 use Rattle.std.specs.List.{list_any}
 use Rattle.std.proofs.lemmas.List.{get_or_default}
-use Rattle.std.proofs.lemmas.List.Kept.{IsStrictlySortedBy-filter}
 use Rattle.cs_base.specs.declared.content.doc.Scored.{Scored}
 use Rattle.cs_meet.specs.Filters.{is_of}
 use Rattle.cs_base.specs.content.Orders.{by_doc}
-use Rattle.cs_meet.proofs.Passes.{filter_more, filter_all}
+use Rattle.cs_meet.proofs.Passes.{filter_more, filter_sorted}
 use Rattle.cs_meet.proofs.Listed.{listed_more, scored_rises}
 use Rattle.cs_meet.proofs.Ascent.{docs_dont_fall, doc_has_row}
 use Rattle.cs_meet.proofs.documents.drop_docs.Goals as goal
@@ -36,7 +35,6 @@ loop-scored-preserved c =
 
 pub returns-clause-sorted : goal.returns-clause-sorted
 returns-clause-sorted c =
-    let base = c.args.base.now in
     let rows = c.args.rows.now.posts in
-    let all = filter_all (λ x. not (list_any (is_of x) rows)) _ c.loop-scored.kept.items base c.loop-scored.scored-index c.loop-scored.invariant.told (omega arith) in
-    rw (c.from_vec.ensures, all) (IsStrictlySortedBy-filter by_doc (λ x. not (list_any (is_of x) rows)) base c.requires.base_sorted)
+    rw c.from_vec.ensures
+    (filter_sorted by_doc (λ h. not (list_any (is_of h) rows)) c.loop-scored.kept.items c.args.base.now c.loop-scored.scored-index c.requires.base_sorted c.loop-scored.invariant.told (omega arith))

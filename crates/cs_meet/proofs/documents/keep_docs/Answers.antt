@@ -1,10 +1,9 @@
 use Rattle.std.proofs.Common.{◌+◌, arith}
 use Rattle.std.specs.List.{list_any}
 use Rattle.std.proofs.lemmas.Map.Keys.{non_decreasing_from_sorted}
-use Rattle.std.proofs.lemmas.List.Kept.{IsStrictlySortedBy-filter}
 use Rattle.cs_base.specs.content.Orders.{by_place}
 use Rattle.cs_meet.specs.Filters.{is_of_doc}
-use Rattle.cs_meet.proofs.Passes.{filter_more, filter_skip, filter_all}
+use Rattle.cs_meet.proofs.Passes.{filter_more, filter_skip, filter_sorted}
 use Rattle.cs_meet.proofs.Listed.{listed_more, listed_on, post_rises}
 use Rattle.cs_meet.proofs.documents.keep_docs.Goals as goal
 
@@ -35,7 +34,4 @@ loop-j-preserved c =
 
 pub returns-clause-sorted : goal.returns-clause-sorted
 returns-clause-sorted c =
-    let docs = c.args.docs.now in
-    let rows = c.args.rows.now.posts in
-    let all = filter_all (λ r. list_any (is_of_doc r) docs) _ c.loop-j.found.posts rows c.loop-j.j c.loop-j.invariant.told (omega arith) in
-    rw all (IsStrictlySortedBy-filter by_place (λ r. list_any (is_of_doc r) docs) rows c.requires.rows_sorted)
+    filter_sorted by_place (λ r. list_any (is_of_doc r) c.args.docs.now) c.loop-j.found.posts c.args.rows.now.posts c.loop-j.j c.requires.rows_sorted c.loop-j.invariant.told (omega arith)
