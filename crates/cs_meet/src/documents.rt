@@ -16,6 +16,9 @@ use std::alloc::Global;
 // How far behind a place a document is looked at first.
 const NEAR_DOCS: usize = 4;
 
+// The first step behind those that are near.
+const FIRST_LEAP: usize = 2 * NEAR_DOCS;
+
 /// The rows whose document is one of `docs`.
 pub fn keep_docs(alloc: Global, rows: &Cols, docs: &[u32]) -> Result<Cols, Memory>
     requires rows_sorted { AreSorted rows.now.posts }
@@ -78,8 +81,10 @@ fn skip_docs(docs: &[u32], from: usize, doc: u32) -> usize
 {
     if !reaches_below(docs, from, 1, doc) {
         from
-    } else if docs.len() - from <= NEAR_DOCS || docs[from + NEAR_DOCS] < doc {
-        leap_docs(docs, from + 1, doc)
+    } else if reaches_below(docs, from + 1, NEAR_DOCS, doc) {
+        leap_docs(docs, from + 1 + NEAR_DOCS, doc)
+    } else if docs.len() - from <= NEAR_DOCS {
+        search_docs(docs, from + 1, docs.len(), doc)
     } else {
         from + 1 + near_below(docs, from, doc)
     }
@@ -110,7 +115,7 @@ fn leap_docs(docs: &[u32], from: usize, doc: u32) -> usize
     ensures { SplitsDocs docs.now result doc }
 {
     let mut lo = from;
-    let mut step = NEAR_DOCS;
+    let mut step = FIRST_LEAP;
     while reaches_below(docs, lo, step, doc) {
         lo += step;
         step *= 2;

@@ -26,15 +26,16 @@ loop-j-preserved c =
     let behind : c.from-pos.result + 1 ≡ row.pos + 1 = omega arith in
     let window = subst (λ p. Splits a c.skip_to-lo.result row.doc p) first c.skip_to-lo.ensures.splits in
     let past = subst (λ p. Splits a c.skip_to-hi.result row.doc p) behind c.skip_to-hi.ensures.splits in
+    let j = c.loop-j.j in
     let next = c.next_near-j.ensures in
-    let more = filter_more (λ r. list_any (is_near r) a) _ c.loop-j.found.posts b c.loop-j.j row c.has_neighbour.result c.loop-j.invariant.told (omega arith) c.get-row.ensures c.has_neighbour.ensures in
+    let more = filter_more (λ r. list_any (is_near r) a) _ c.loop-j.found.posts b j row c.has_neighbour.result c.loop-j.invariant.told (omega arith) c.get-row.ensures c.has_neighbour.ensures in
     record {
       told = rw c.add_where.ensures.posts
-          (filter_skip (λ r. list_any (is_near r) a) _ _ b (c.loop-j.j + 1) c.next_near-j.result more next.onward next.within next.none);
-      first = ahead_on by_place (λ r. r.doc) (λ r. max (r.pos - MAX_DISTANCE) 1) rises_window a b c.skip_to-lo.result (c.loop-j.j + 1) c.next_near-j.result next.onward
-          (ahead_more by_place (λ r. r.doc) (λ r. max (r.pos - MAX_DISTANCE) 1) rises_window a b c.skip_to-lo.result c.loop-j.j row c.requires.b_sorted (omega arith) c.get-row.ensures window);
-      behind = ahead_on by_place (λ r. r.doc) (λ r. r.pos + 1) rises_past a b c.skip_to-hi.result (c.loop-j.j + 1) c.next_near-j.result next.onward
-          (ahead_more by_place (λ r. r.doc) (λ r. r.pos + 1) rises_past a b c.skip_to-hi.result c.loop-j.j row c.requires.b_sorted (omega arith) c.get-row.ensures past);
+          (filter_skip (λ r. list_any (is_near r) a) _ _ b (j + 1) c.next_near-j.result more next.onward next.within next.none);
+      first = ahead_on by_place (λ r. r.doc) (λ r. max (r.pos - MAX_DISTANCE) 1) rises_window a b c.skip_to-lo.result (j + 1) c.next_near-j.result next.onward
+          (ahead_more by_place (λ r. r.doc) (λ r. max (r.pos - MAX_DISTANCE) 1) rises_window a b c.skip_to-lo.result j row c.requires.b_sorted (omega arith) c.get-row.ensures window);
+      behind = ahead_on by_place (λ r. r.doc) (λ r. r.pos + 1) rises_past a b c.skip_to-hi.result (j + 1) c.next_near-j.result next.onward
+          (ahead_more by_place (λ r. r.doc) (λ r. r.pos + 1) rises_past a b c.skip_to-hi.result j row c.requires.b_sorted (omega arith) c.get-row.ensures past);
       room = omega arith;
     }
 
