@@ -39,7 +39,8 @@ posts-length ds ws ps ss h = sym (length-map (posts_of ds ws ps ss) (λ p. p.doc
 -- for the tactics of a function
 pub ruleset lengths = (posts-length)
 
-pub held_length : (ds ws ps ss : List ℕ) (room : ℕ) (h : Held) → AreEven ds ws ps ss → record { posts = posts_of ds ws ps ss; room = room } ≡ h → length h.posts ≡ length ds
+pub held_length : (ds ws ps ss : List ℕ) (room : ℕ) (h : Held) → AreEven ds ws ps ss
+    → record { posts = posts_of ds ws ps ss; room = room } ≡ h → length h.posts ≡ length ds
 held_length ds ws ps ss room h even is = ap (λ (x : Held). length x.posts) (sym is) ∙ posts-length ds ws ps ss even
 
 module _ (ds ws ps ss : List ℕ) (h : AreEven ds ws ps ss) (i : ℕ) (e : Post) (l : i < length ds) where

@@ -93,7 +93,8 @@ module _ {M : Type 1} {𝓤 : Ura M} (𝓛 : Logic 𝓤) (F : Ended) (hs : Stays
 
   -- a walk begins with the parameters and, behind them, the tokens; what is asked is known
   pub begins : (z : (walk_of 𝓛 F hs held).Ghost) {P : SProp 𝓤} (Asked : Type 0) → ent 𝓤 ((held z.0.0 z.0.3).requires z.1) (fact 𝓤 Asked)
-      → (Asked → Seq (Go {0}) 𝓛 (‵ (owns (types_at F.signature.params z.0.0) z.0.3 z.0.4) ∷ raw (alive 𝓛 F.signature z.0.0 z.0.1) ∷ []) (prop P)) → ent 𝓤 ((walk_of 𝓛 F hs held).pre z) P
+      → (Asked → Seq (Go {0}) 𝓛 (‵ (owns (types_at F.signature.params z.0.0) z.0.3 z.0.4) ∷ raw (alive 𝓛 F.signature z.0.0 z.0.1) ∷ []) (prop P))
+      → ent 𝓤 ((walk_of 𝓛 F hs held).pre z) P
   begins z Asked asks k =
       qed 𝓛 ((raw (alive 𝓛 F.signature z.0.0 z.0.1) ⊛ ‵ (owns (types_at F.signature.params z.0.0) z.0.3 z.0.4)) ∷ raw ((held z.0.0 z.0.3).requires z.1) ∷ []) ∵
       move ! (1 ∷ []) $ use1 𝓛 (raw (fact 𝓤 Asked)) asks $ heard ! Asked (λ asked. split ! $ move ! (1 ∷ []) $ k asked)

@@ -69,7 +69,8 @@ module _ {B : Type 0} (R : B → B → Ordering) (doc : B → ℕ) (rises : (x y
     within = split.within;
     below = λ m e from in_b k h.
         let later : doc x ≤ doc (get_or b m e) =
-        subst (λ y. doc y ≤ doc (get_or b m e)) (sym (is ∙ get_or_default b j x e l)) (rises (get_or b j e) (get_or b m e) (Less-from_sorted R b j m e up (omega arith) in_b)) in
+        subst (λ y. doc y ≤ doc (get_or b m e)) (sym (is ∙ get_or_default b j x e l))
+        (rises (get_or b j e) (get_or b m e) (Less-from_sorted R b j m e up (omega arith) in_b)) in
         let less = split.below k h in
         omega (arith, later, less);
   }

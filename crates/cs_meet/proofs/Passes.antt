@@ -61,7 +61,8 @@ pub filter_all : {X : Type 0} (p : X → Bool) (whole done b : List X) (j : ℕ)
 filter_all p whole done b j told l = sym (told ∙ ap (λ r. done ++ filter p r) (drop_all j b l) ∙ append-nil done)
 
 -- and what is left of a sorted list is sorted
-pub filter_sorted : {X : Type 0} (R : X → X → Ordering) (p : X → Bool) (done b : List X) (j : ℕ) → IsStrictlySortedBy R b → filter p b ≡ done ++ filter p (drop j b) → length b ≤ j → IsStrictlySortedBy R done
+pub filter_sorted : {X : Type 0} (R : X → X → Ordering) (p : X → Bool) (done b : List X) (j : ℕ)
+    → IsStrictlySortedBy R b → filter p b ≡ done ++ filter p (drop j b) → length b ≤ j → IsStrictlySortedBy R done
 filter_sorted R p done b j up told past = rw (filter_all p (filter p b) done b j told past) (IsStrictlySortedBy-filter R p b up)
 
 -- x asks for an earlier place than y, or the same

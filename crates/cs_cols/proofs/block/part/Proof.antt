@@ -82,5 +82,6 @@ pub part_spec : {M : Type 1} → stated.statement M
 unfolding tables_of
 part_spec 𝓤 𝓛 𝓜 𝓡 wired =
     let 𝓣 : Tables 𝓤 𝓛.H = tables_of 𝓤 𝓛.H 𝓜 (tables 𝓤 𝓛.H 𝓜 𝓡 𝓡.env) in
-    by_walk 𝓛 F.ended stayed (F.clauses 𝓛 𝓜.mem 𝓡.returns) (Goes-blank 𝓛 0 (plain (λ _. Words)) yes (λ κs x f. tt), (Goes-blank 𝓛 0 (plain (λ _. usize)) yes (λ κs x f. tt), tt)) #self code.function 𝓣 (code.unfolded 𝓤 𝓛.H 𝓜 𝓡 wired)
-    (walks 𝓛 𝓜.mem 𝓡.returns 𝓣.C 𝓣.Λ)
+    by_walk 𝓛 F.ended stayed (F.clauses 𝓛 𝓜.mem 𝓡.returns)
+    (Goes-blank 𝓛 0 (plain (λ _. Words)) yes (λ κs x f. tt), (Goes-blank 𝓛 0 (plain (λ _. usize)) yes (λ κs x f. tt), tt))
+    #self code.function 𝓣 (code.unfolded 𝓤 𝓛.H 𝓜 𝓡 wired) (walks 𝓛 𝓜.mem 𝓡.returns 𝓣.C 𝓣.Λ)

@@ -79,5 +79,6 @@ unfolding tables_of
 whole_spec 𝓤 𝓛 𝓜 𝓡 wired =
     let 𝓣 : Tables 𝓤 𝓛.H = tables_of 𝓤 𝓛.H 𝓜 (tables 𝓤 𝓛.H 𝓜 𝓡 𝓡.env) in
     let number = Goes-blank 𝓛 0 (plain (λ _. NumberRoom.the_row)) yes (λ κs x f. tt) in
-    by_walk 𝓛 F.ended stayed (F.clauses 𝓛 𝓜.mem 𝓡.returns) (number, (number, (number, (Goes-blank 𝓛 0 (plain (λ _. ByteRoom.the_row)) yes (λ κs x f. tt), (Goes-blank 𝓛 0 (plain (λ _. Block.the_row)) yes (λ κs x f. tt), tt))))) #self code.function 𝓣 (code.unfolded 𝓤 𝓛.H 𝓜 𝓡 wired)
-    (walks 𝓛 𝓜.mem 𝓡.returns 𝓣.C 𝓣.Λ)
+    by_walk 𝓛 F.ended stayed (F.clauses 𝓛 𝓜.mem 𝓡.returns)
+    (number, (number, (number, (Goes-blank 𝓛 0 (plain (λ _. ByteRoom.the_row)) yes (λ κs x f. tt), (Goes-blank 𝓛 0 (plain (λ _. Block.the_row)) yes (λ κs x f. tt), tt)))))
+    #self code.function 𝓣 (code.unfolded 𝓤 𝓛.H 𝓜 𝓡 wired) (walks 𝓛 𝓜.mem 𝓡.returns 𝓣.C 𝓣.Λ)

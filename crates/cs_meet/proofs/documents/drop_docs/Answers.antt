@@ -27,8 +27,10 @@ loop-scored-preserved c =
     let is : h ≡ get_or base j h = get_or_default base j blank h c.loop-scored-test.true in
     record {
       told = rw c.keep_where.ensures.items
-          (filter_more (λ x. not (list_any (is_of x) rows)) _ c.loop-scored.kept.items base j h (not c.is_listed.result) c.loop-scored.invariant.told c.loop-scored-test.true is (ap not (c.is_listed.ensures ∙ rw c.docs-docs.ensures (doc_has_row h rows))));
-      ahead = listed_more by_doc (λ x. x.doc) scored_rises c.docs-docs.result.now base c.skip_docs-i.result j h c.requires.base_sorted c.loop-scored-test.true is c.skip_docs-i.ensures;
+          (filter_more (λ x. not (list_any (is_of x) rows)) _ c.loop-scored.kept.items base j h (not c.is_listed.result)
+          c.loop-scored.invariant.told c.loop-scored-test.true is (ap not (c.is_listed.ensures ∙ rw c.docs-docs.ensures (doc_has_row h rows))));
+      ahead = listed_more by_doc (λ x. x.doc) scored_rises c.docs-docs.result.now base c.skip_docs-i.result j h
+          c.requires.base_sorted c.loop-scored-test.true is c.skip_docs-i.ensures;
       few = omega arith;
       room = omega arith;
     }
@@ -37,4 +39,5 @@ pub returns-clause-sorted : goal.returns-clause-sorted
 returns-clause-sorted c =
     let rows = c.args.rows.now.posts in
     rw c.from_vec.ensures
-    (filter_sorted by_doc (λ h. not (list_any (is_of h) rows)) c.loop-scored.kept.items c.args.base.now c.loop-scored.scored-index c.requires.base_sorted c.loop-scored.invariant.told (omega arith))
+    (filter_sorted by_doc (λ h. not (list_any (is_of h) rows)) c.loop-scored.kept.items c.args.base.now c.loop-scored.scored-index
+    c.requires.base_sorted c.loop-scored.invariant.told (omega arith))

@@ -15,7 +15,8 @@ is_listed-requires-clause-sorted c = non_decreasing_from_sorted c.args.docs.now 
 
 pub next_listed-j-requires-clause-ahead : goal.next_listed-j-requires-clause-ahead
 next_listed-j-requires-clause-ahead c =
-    listed_more by_place (λ r. r.doc) post_rises c.args.docs.now c.args.rows.now.posts c.skip_docs-i.result c.loop-j.j c.get-row.result c.requires.rows_sorted (omega arith) c.get-row.ensures c.skip_docs-i.ensures
+    listed_more by_place (λ r. r.doc) post_rises c.args.docs.now c.args.rows.now.posts c.skip_docs-i.result c.loop-j.j c.get-row.result
+    c.requires.rows_sorted (omega arith) c.get-row.ensures c.skip_docs-i.ensures
 
 pub loop-j-preserved : goal.loop-j-preserved
 loop-j-preserved c =
@@ -28,10 +29,12 @@ loop-j-preserved c =
     record {
       told = rw c.add_where.ensures.posts (filter_skip (λ r. list_any (is_of_doc r) docs) _ _ rows (j + 1) c.next_listed-j.result more next.onward next.within next.none);
       ahead = listed_on by_place (λ r. r.doc) post_rises docs rows c.skip_docs-i.result (j + 1) c.next_listed-j.result next.onward
-          (listed_more by_place (λ r. r.doc) post_rises docs rows c.skip_docs-i.result j row c.requires.rows_sorted (omega arith) c.get-row.ensures c.skip_docs-i.ensures);
+          (listed_more by_place (λ r. r.doc) post_rises docs rows c.skip_docs-i.result j row
+          c.requires.rows_sorted (omega arith) c.get-row.ensures c.skip_docs-i.ensures);
       room = omega arith;
     }
 
 pub returns-clause-sorted : goal.returns-clause-sorted
 returns-clause-sorted c =
-    filter_sorted by_place (λ r. list_any (is_of_doc r) c.args.docs.now) c.loop-j.found.posts c.args.rows.now.posts c.loop-j.j c.requires.rows_sorted c.loop-j.invariant.told (omega arith)
+    filter_sorted by_place (λ r. list_any (is_of_doc r) c.args.docs.now) c.loop-j.found.posts c.args.rows.now.posts c.loop-j.j
+    c.requires.rows_sorted c.loop-j.invariant.told (omega arith)

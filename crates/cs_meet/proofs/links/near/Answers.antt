@@ -41,4 +41,5 @@ loop-j-preserved c =
 
 pub returns-clause-sorted : goal.returns-clause-sorted
 returns-clause-sorted c =
-    filter_sorted by_place (λ r. list_any (is_near r) c.args.a.now.posts) c.loop-j.found.posts c.args.b.now.posts c.loop-j.j c.requires.b_sorted c.loop-j.invariant.told (omega arith)
+    filter_sorted by_place (λ r. list_any (is_near r) c.args.a.now.posts) c.loop-j.found.posts c.args.b.now.posts c.loop-j.j
+    c.requires.b_sorted c.loop-j.invariant.told (omega arith)

@@ -21,7 +21,8 @@ returns-clause-ok c =
     let now = ap (λ (h : Held). h.room) c.drop.view_is in
     let s = c.self.inside in
     let held = held_length s.docs.items s.words.items s.places.items s.scores.items _ _ c.self.invariant.0 c.self.view_is in
-    omega (arith, now, held, docs_long _ _ c.docs.ensures, s.docs.ok.0, c.in_ok-more.ensures.1, c.max-cap.ensures, c.in-Some.ensures.1, c.len-len.ensures, c.extend_reserved.ensures.room)
+    let left = c.extend_reserved.ensures.room in
+    omega (arith, now, left, held, docs_long _ _ c.docs.ensures, s.docs.ok.0, c.in_ok-more.ensures.1, c.max-cap.ensures, c.in-Some.ensures.1, c.len-len.ensures)
 
 pub returns-clause-posts : goal.returns-clause-posts
 returns-clause-posts c =
