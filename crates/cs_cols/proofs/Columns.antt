@@ -4,6 +4,8 @@
 --   columns        the posts' documents, words, positions and scores are the columns
 --   columns-back   the posts of those columns are the posts
 --   posts-length   there are as many posts as documents
+--   lengths        that, for the tactics of a function
+--   held_length    so are there where the posts are what callers see
 --   posts-at       the post at a place is made of the columns' entries there
 --   posts-append   more entries at the end of each column are posts at the end
 --   posts-push     an entry at the end of each column is a post at the end
@@ -13,7 +15,7 @@ use Rattle.std.proofs.Common.{◌≡◌, ℕ, zero, suc, ◌<◌, List, [], ◌�
 use Rattle.std.specs.Prelude.{map, min}
 use Rattle.std.proofs.lemmas.List.{length-map, length-take, get_or-map}
 use Rattle.cs_base.specs.declared.content.doc.Post.{Post}
-use Rattle.cs_cols.specs.Held.{posts_of, AreEven}
+use Rattle.cs_cols.specs.Held.{Held, posts_of, AreEven}
 
 -- the post of a document, a word, a position and a score
 abbrev pub post : ℕ → ℕ → ℕ → ℕ → Post
@@ -33,6 +35,13 @@ columns (d ∷ ds) (w ∷ ws) (p ∷ ps) (s ∷ ss) h =
 
 pub posts-length : (ds ws ps ss : List ℕ) → AreEven ds ws ps ss → length (posts_of ds ws ps ss) ≡ length ds
 posts-length ds ws ps ss h = sym (length-map (posts_of ds ws ps ss) (λ p. p.doc)) ∙ ap length (columns ds ws ps ss h).0
+
+-- for the tactics of a function
+pub ruleset lengths = (posts-length)
+
+pub held_length : (ds ws ps ss : List ℕ) (room : ℕ) (h : Held) → AreEven ds ws ps ss
+    → record { posts = posts_of ds ws ps ss; room = room } ≡ h → length h.posts ≡ length ds
+held_length ds ws ps ss room h even is = ap (λ (x : Held). length x.posts) (sym is) ∙ posts-length ds ws ps ss even
 
 module _ (ds ws ps ss : List ℕ) (h : AreEven ds ws ps ss) (i : ℕ) (e : Post) (l : i < length ds) where
   inside : i < length (posts_of ds ws ps ss)

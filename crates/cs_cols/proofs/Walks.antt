@@ -4,19 +4,34 @@
 --   plainly        a struct by its fields alone: what it owns does not read its name
 --   tells          what is owned is one machine value, of its type
 --   none_made, none_had, one_made, one_had, five_made     structs of no field, of one and of five, made and taken apart
+--   dropped        nothing is had at exit of a parameter that the function uses up
+--   begins         a walk begins with the parameters and, behind them, the tokens; what is asked is known
+--   by_walk        a function meets its contract where its code is walked
 use Rattle.std.proofs.Common.{◌≡◌, List, [], ◌∷◌, refl}
 use lib.Dec.{T}
 use seplogic.Ra.Ura.{Ura}
-use mir.Syntax.{given as dict_at}
+use mir.Syntax.{Fn, Callee, given as dict_at}
 use mir.Val.{Val, vstruct, vcons, vnil, has_ty, WT}
 use base.Fml.{ftrue}
+use base.Logic.{SProp, ent}
+use prog.Wp.{Closed, WpFn, Tables}
+use contract.Monad.{fact}
+use sound.WpLaws.{WpFn-mono}
 use types.Logic.{Logic}
-use types.Kit.{Goal, Seq, Step, step, Item, ‵, ◌$◌, move, drop, fsplit, fjoin, fpick, fpack, feq_l, feq_i}
-use denote.RattleType.{RattleType, Valss}
+use types.Kit.{Goal, Seq, Step, step, Item, Go, ‵, raw, prop, ◌⊛◌, ◌$◌, ◌∵◌, !, qed, move, drop, use1, split, fsplit, fjoin, fpick, fpack, feq_l, feq_i}
+use denote.RattleType.{RattleType, Valss, owns}
+use denote.Exit.{yes}
+use denote.Signature.{plain, types_at}
 use denote.Param.{layout}
 use denote.Param.Laws.{Laws}
-use denote.Steps.{nothing}
+use denote.Steps.{nothing, heard}
 use denote.Struct.Struct.{Struct, within}
+use denote.Triple.Clauses.{Clauses, Ended, closing}
+use denote.Triple.Entry.{alive}
+use denote.Triple.Spec.{triple_of}
+use denote.Triple.Statement.{Triple}
+use denote.Triple.Table.{entered}
+use denote.Triple.Walked.{Stay, Stays, AllGo, Walks, stay_dropped, walk_of, walk_Meets}
 use Rattle.std.proofs.alloc.Calls.{handle_tells}
 
 -- a machine value of the row's type
@@ -68,3 +83,25 @@ module _ {M : Type 1} {𝓤 : Ura M} {𝓛 : Logic 𝓤} {K : Type 0} {Γ : List
       feq_i t (List Val) (five a b c d e ∷ []) (five a b c d e ∷ []) refl $ fjoin t $
       fpack t (Valss (R ∷ S ∷ U ∷ V ∷ W ∷ [])) (within (record { name = []; args = []; types = []; fields = R ∷ S ∷ U ∷ V ∷ W ∷ [] }) (r, (s, (u, (v, (w, tt))))) (five a b c d e ∷ []))
       (a ∷ [], (b ∷ [], (c ∷ [], (d ∷ [], (e ∷ [], tt))))) $ k)
+
+-- nothing is had at exit of a parameter that the function uses up
+abbrev pub dropped : (R : RattleType) → Stay {n = 0} (plain (λ _. R)) yes
+dropped R = stay_dropped (plain (λ _. R)) yes
+
+module _ {M : Type 1} {𝓤 : Ura M} (𝓛 : Logic 𝓤) (F : Ended) (hs : Stays F.signature.params F.kept) (held : Clauses 𝓤 F) where
+  open 𝓛 use {H}
+
+  -- a walk begins with the parameters and, behind them, the tokens; what is asked is known
+  pub begins : (z : (walk_of 𝓛 F hs held).Ghost) {P : SProp 𝓤} (Asked : Type 0) → ent 𝓤 ((held z.0.0 z.0.3).requires z.1) (fact 𝓤 Asked)
+      → (Asked → Seq (Go {0}) 𝓛 (‵ (owns (types_at F.signature.params z.0.0) z.0.3 z.0.4) ∷ raw (alive 𝓛 F.signature z.0.0 z.0.1) ∷ []) (prop P))
+      → ent 𝓤 ((walk_of 𝓛 F hs held).pre z) P
+  begins z Asked asks k =
+      qed 𝓛 ((raw (alive 𝓛 F.signature z.0.0 z.0.1) ⊛ ‵ (owns (types_at F.signature.params z.0.0) z.0.3 z.0.4)) ∷ raw ((held z.0.0 z.0.3).requires z.1) ∷ []) ∵
+      move ! (1 ∷ []) $ use1 𝓛 (raw (fact 𝓤 Asked)) asks $ heard ! Asked (λ asked. split ! $ move ! (1 ∷ []) $ k asked)
+
+  -- a function meets its contract where its code is walked
+  pub by_walk : AllGo 𝓛 F.signature.lifetimes F.signature.params F.kept hs → (key : Callee) (code : Fn) (𝓣 : Tables 𝓤 H) → Closed 𝓤 H 𝓣.C 𝓣.Λ key code
+      → Walks 𝓛 F hs (WpFn 𝓤 H 𝓣.C 𝓣.Λ code) held → Triple 𝓤 (𝓣.C key) (triple_of 𝓛 F.signature (closing 𝓛 F held))
+  by_walk gone key code 𝓣 closed walks =
+      entered 𝓤 H (triple_of 𝓛 F.signature (closing 𝓛 F held)) 𝓣.C 𝓣.Λ key code closed
+      (walk_Meets 𝓛 F hs gone held (WpFn 𝓤 H 𝓣.C 𝓣.Λ code) (WpFn-mono 𝓤 H 𝓛.laws 𝓣 code) walks)

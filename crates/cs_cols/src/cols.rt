@@ -127,6 +127,7 @@ impl Cols {
 
     /// The post at `i`, counted from 0.
     #[inline]
+    #[tactic(auto, using(crate::proofs::Columns::lengths))]
     pub fn get(&self, i: usize) -> Post
         requires { i < length self.now.posts }
         ensures { result ≡ slice_index_or self.now.posts i result }

@@ -6,10 +6,9 @@ use Rattle.std.proofs.lemmas.Map.Keys.{Less-from_sorted}
 use Rattle.std.proofs.lemmas.Bool.Decides.{nat_tests}
 use Rattle.std.proofs.lemmas.List.Folds.{list_any_at}
 use Rattle.cs_base.specs.declared.content.doc.Post.{Post}
-use Rattle.cs_base.specs.declared.content.doc.Scored.{Scored}
 use Rattle.cs_base.specs.content.Orders.{by_place, AreSorted}
 use Rattle.cs_base.specs.declared.content.limits.TheConstants.{MAX_DISTANCE}
-use Rattle.cs_meet.specs.Filters.{stands_behind, is_near, is_of}
+use Rattle.cs_meet.specs.Filters.{stands_behind, is_near}
 use Rattle.cs_meet.specs.Places.{is_before, Splits, Ahead, near_at}
 use Rattle.cs_meet.proofs.Passes.{none_at, IsUpTo, up_to}
 
@@ -69,12 +68,6 @@ before_isnt_behind r x h = grind (arith, nat_tests)
 
 pub later_isnt_behind : (r x y : Post) → IsUpTo x.doc x.pos y.doc y.pos → is_before x r.doc (r.pos - 1) ≡ false → stands_behind r x ≡ false → stands_behind r y ≡ false
 later_isnt_behind r x y up stop other = grind (arith, nat_tests)
-
-pub before_isnt_of : (h : Scored) (x : Post) → is_before x h.doc 0 ≡ true → is_of h x ≡ false
-before_isnt_of h x b = grind (arith, nat_tests)
-
-pub later_isnt_of : (h : Scored) (x y : Post) → IsUpTo x.doc x.pos y.doc y.pos → is_before x h.doc 0 ≡ false → is_of h x ≡ false → is_of h y ≡ false
-later_isnt_of h x y up stop other = grind (arith, nat_tests)
 
 -- r stands before the place behind x, y comes later
 pub far_isnt_behind : (r x y : Post) → IsUpTo x.doc x.pos y.doc y.pos → is_before r x.doc (x.pos + 1) ≡ true → stands_behind r y ≡ false

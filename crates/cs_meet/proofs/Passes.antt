@@ -7,12 +7,12 @@ use Rattle.std.specs.List.{list_any, filter}
 use Rattle.std.specs.List.Sorted.{IsStrictlySortedBy}
 use Rattle.std.proofs.lemmas.List.{drop_more, get_or_default, drop_all}
 use Rattle.std.proofs.lemmas.List.Folds.{list_any_none}
+use Rattle.std.proofs.lemmas.List.Kept.{IsStrictlySortedBy-filter}
 use Rattle.std.proofs.lemmas.List.Elements.{All-from_get_or}
 use Rattle.std.proofs.lemmas.Map.Keys.{Less-from_sorted}
 use Rattle.std.proofs.lemmas.Bool.Decides.{nat_tests}
 use Rattle.cs_base.specs.declared.content.doc.Post.{Post}
-use Rattle.cs_base.specs.declared.content.doc.Scored.{Scored}
-use Rattle.cs_base.specs.content.Orders.{by_place, by_doc}
+use Rattle.cs_base.specs.content.Orders.{by_place}
 use Rattle.cs_base.specs.declared.content.limits.TheConstants.{MAX_DISTANCE}
 use Rattle.cs_meet.specs.Places.{is_before, Splits, Ahead}
 
@@ -60,6 +60,11 @@ filter_skip p whole done b j n told on within none =
 pub filter_all : {X : Type 0} (p : X → Bool) (whole done b : List X) (j : ℕ) → whole ≡ done ++ filter p (drop j b) → length b ≤ j → done ≡ whole
 filter_all p whole done b j told l = sym (told ∙ ap (λ r. done ++ filter p r) (drop_all j b l) ∙ append-nil done)
 
+-- and what is left of a sorted list is sorted
+pub filter_sorted : {X : Type 0} (R : X → X → Ordering) (p : X → Bool) (done b : List X) (j : ℕ)
+    → IsStrictlySortedBy R b → filter p b ≡ done ++ filter p (drop j b) → length b ≤ j → IsStrictlySortedBy R done
+filter_sorted R p done b j up told past = rw (filter_all p (filter p b) done b j told past) (IsStrictlySortedBy-filter R p b up)
+
 -- x asks for an earlier place than y, or the same
 abbrev pub IsUpTo : ℕ → ℕ → ℕ → ℕ → Type 0
 IsUpTo d p e q = (d < e) ⊎ ((d ≡ e) × (p ≤ q))
@@ -79,10 +84,6 @@ rises_window x y h = grind (arith, nat_tests)
 
 pub rises_past : (x y : Post) → by_place x y ≡ Less → IsUpTo x.doc (x.pos + 1) y.doc (y.pos + 1)
 rises_past x y h = grind (arith, nat_tests)
-
--- and so does the start of a document
-pub rises_by_doc : (x y : Scored) → by_doc x y ≡ Less → IsUpTo x.doc 0 y.doc 0
-rises_by_doc x y h = grind (arith, nat_tests)
 
 module _ {B : Type 0} (R : B → B → Ordering) (doc pos : B → ℕ) (rises : (x y : B) → R x y ≡ Less → IsUpTo (doc x) (pos x) (doc y) (pos y)) (a : List Post) (b : List B) where
   pub ahead_more : (n j : ℕ) (x : B) → IsStrictlySortedBy R b → j < length b → x ≡ get_or b j x → Splits a n (doc x) (pos x) → Ahead doc pos a b n (j + 1)

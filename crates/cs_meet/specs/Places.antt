@@ -6,7 +6,7 @@
 --   Splits posts n d p       n is the first place that isn't before position p of document d
 --   Ahead doc pos a b i j    the first i posts of a are before the place that each entry of b from j on asks for
 --   AllBelow docs n d        the first n documents are less than d
---   AheadOfRows docs rows i j    the first i documents are less than those of the rows from j on
+--   AheadOf doc docs b i j   the first i documents are less than the document of each entry of b from j on
 --   SplitsDocs docs n d      n is the first place whose document isn't less than d
 --   AllLess posts n r        the first n posts come before r, by document, position and word
 --   SplitsBefore posts n r   n is the first place that doesn't come before r
@@ -70,7 +70,7 @@ pub record SplitsBefore (posts : List Post) (n : ℕ) (r : Post) : Type 0 where
 abbrev pub KeepsOrder : List Post → List Post → List Post → Post → Type 0
 KeepsOrder old left new r = (rest : List Post) → AreSorted (old ++ left) → AreSorted (old ++ r ∷ rest) → AreSorted (new ++ r ∷ rest)
 
--- the first i documents are less than those of the rows from j on
-pub record AheadOfRows (docs : List ℕ) (rows : List Post) (i j : ℕ) : Type 0 where
+-- the first i documents are less than the document of each entry of b from j on
+pub record AheadOf {B : Type 0} (doc : B → ℕ) (docs : List ℕ) (b : List B) (i j : ℕ) : Type 0 where
   pub within : i ≤ length docs
-  pub below : (m : ℕ) (e : Post) → j ≤ m → m < length rows → AllBelow docs i (slice_index_or rows m e).doc
+  pub below : (m : ℕ) (e : B) → j ≤ m → m < length b → AllBelow docs i (doc (slice_index_or b m e))

@@ -1,16 +1,23 @@
 //! Rows by their documents, and documents by their rows.
-ghost use Rattle.std.specs.Prelude.{◌≡◌, ℕ, true, false, slice_index, slice_index_or, ◌+◌, ◌-◌, ◌^◌, ◌≤◌, ◌<◌, [], ◌∷◌, ◌++◌, length, if◌then◌else◌, IfOk};
+ghost use Rattle.std.specs.Prelude.{◌≡◌, ℕ, true, false, slice_index, slice_index_or, ◌==◌, ◌+◌, ◌-◌, ◌^◌, ◌≤◌, ◌<◌, [], ◌∷◌, ◌++◌, length, if◌then◌else◌, IfOk};
 ghost use Rattle.std.specs.List.{list_any};
+ghost use Rattle.std.specs.List.Sorted.{IsNonDecreasing};
 ghost use Rattle.std.specs.Vec.{vec_len, vec_capacity};
 ghost use Rattle.cs_base.specs.declared.content.doc.Post.{Post};
-ghost use Rattle.cs_meet.specs.Filters.{keep_docs, drop_docs, is_of_doc, is_of};
+ghost use Rattle.cs_meet.specs.Filters.{keep_docs, drop_docs, is_of_doc};
 ghost use Rattle.cs_base.specs.content.Orders.{AreDocs, AreByDoc, docs_of, AreSorted};
-ghost use Rattle.cs_meet.specs.Places.{Splits, AllBelow, SplitsDocs, AheadOfRows};
+ghost use Rattle.cs_meet.specs.Places.{AllBelow, SplitsDocs, AheadOf};
 
-use crate::skip::{add_where, pass_over, skip_to};
+use crate::skip::{add_where, pass_over};
 use cs_base::{Memory, Post, Scored, Seq};
 use cs_cols::Cols;
 use std::alloc::Global;
+
+// How far behind a place a document is looked at first.
+const NEAR_DOCS: usize = 4;
+
+// The first step behind those that are near.
+const FIRST_LEAP: usize = 2 * NEAR_DOCS;
 
 /// The rows whose document is one of `docs`.
 pub fn keep_docs(alloc: Global, rows: &Cols, docs: &[u32]) -> Result<Cols, Memory>
@@ -27,7 +34,7 @@ pub fn keep_docs(alloc: Global, rows: &Cols, docs: &[u32]) -> Result<Cols, Memor
     while j < rows.len() {
         let row = rows.get(j);
         i = skip_docs(docs, i, row.doc);
-        add_where(&mut found, is_listed(docs, i, row), row);
+        add_where(&mut found, is_listed(docs, i, row.doc), row);
         j = next_listed(docs, i, rows, j + 1);
     }
     Ok(found)
@@ -54,25 +61,61 @@ pub fn drop_docs(alloc: Global, base: &[Scored], rows: &Cols) -> Result<Seq<Scor
     ensures sorted { IfOk result (λ kept. AreByDoc kept) }
 {
     let mut kept = Vec::with_capacity(alloc, base.len())?;
+    let docs = rows.docs();
     let mut i = 0;
     for scored in base {
-        i = skip_to(rows, i, scored.doc, 0);
-        keep_where(&mut kept, !has_row(rows, i, *scored), *scored);
+        i = skip_docs(docs, i, scored.doc);
+        keep_where(&mut kept, !is_listed(docs, i, scored.doc), *scored);
     }
     Ok(Seq::from_vec(kept))
 }
 
-// The first place from `from` on whose document isn't less than `doc`, by doubling and then halving.
+// The first place from `from` on whose document isn't less than `doc`. Near places are found without a loop.
 #[inline]
 fn skip_docs(docs: &[u32], from: usize, doc: u32) -> usize
-    requires sorted { AreDocs docs.now }
+    requires sorted { IsNonDecreasing docs.now }
+    requires within { from ≤ length docs.now }
+    requires below { AllBelow docs.now from doc }
+
+    ensures { SplitsDocs docs.now result doc }
+{
+    if !reaches_below(docs, from, 1, doc) {
+        from
+    } else if reaches_below(docs, from + 1, NEAR_DOCS, doc) {
+        leap_docs(docs, from + 1 + NEAR_DOCS, doc)
+    } else if docs.len() - from <= NEAR_DOCS {
+        search_docs(docs, from + 1, docs.len(), doc)
+    } else {
+        from + 1 + near_below(docs, from, doc)
+    }
+}
+
+// How many of the documents behind `from` are less than `doc`, where the one `NEAR_DOCS` behind isn't. It has no branch,
+// since nothing tells beforehand which way one would go.
+#[inline]
+fn near_below(docs: &[u32], from: usize, doc: u32) -> usize
+    requires sorted { IsNonDecreasing docs.now }
+    requires below { AllBelow docs.now (from + 1) doc }
+    requires within { from + NEAR_DOCS < length docs.now }
+    requires stop { doc ≤ slice_index docs.now (from + NEAR_DOCS) }
+
+    ensures { SplitsDocs docs.now (from + 1 + result) doc }
+{
+    usize::from(docs[from + 1] < doc)
+        + usize::from(docs[from + 2] < doc)
+        + usize::from(docs[from + 3] < doc)
+}
+
+// The first place from `from` on whose document isn't less than `doc`, by doubling and then halving.
+fn leap_docs(docs: &[u32], from: usize, doc: u32) -> usize
+    requires sorted { IsNonDecreasing docs.now }
     requires within { from ≤ length docs.now }
     requires below { AllBelow docs.now from doc }
 
     ensures { SplitsDocs docs.now result doc }
 {
     let mut lo = from;
-    let mut step = 1;
+    let mut step = FIRST_LEAP;
     while reaches_below(docs, lo, step, doc) {
         lo += step;
         step *= 2;
@@ -97,7 +140,7 @@ fn reaches_below(docs: &[u32], from: usize, step: usize, doc: u32) -> bool
 
 // The first place from `from` on whose document isn't less than `doc`, at most `end`, by halving.
 fn search_docs(docs: &[u32], from: usize, end: usize, doc: u32) -> usize
-    requires sorted { AreDocs docs.now }
+    requires sorted { IsNonDecreasing docs.now }
     requires order { from ≤ end }
     requires within { end ≤ length docs.now }
     requires below { AllBelow docs.now from doc }
@@ -124,7 +167,7 @@ fn next_listed(docs: &[u32], i: usize, rows: &Cols, from: usize) -> usize
     requires docs_sorted { AreDocs docs.now }
     requires rows_sorted { AreSorted rows.now.posts }
     requires within { from ≤ length rows.now.posts }
-    requires ahead { AheadOfRows docs.now rows.now.posts i from }
+    requires ahead { AheadOf (λ r. r.doc) docs.now rows.now.posts i from }
 
     ensures onward { from ≤ result }
     ensures within { result ≤ length rows.now.posts }
@@ -137,33 +180,15 @@ fn next_listed(docs: &[u32], i: usize, rows: &Cols, from: usize) -> usize
     }
 }
 
-// Whether the row's document is listed, where `i` is the first place that isn't less than it.
+// Whether the document is listed, where `i` is the first place that isn't less than it.
 #[inline]
-fn is_listed(docs: &[u32], i: usize, row: Post) -> bool
-    requires sorted { AreDocs docs.now }
-    requires splits { SplitsDocs docs.now i row.doc }
+fn is_listed(docs: &[u32], i: usize, doc: u32) -> bool
+    requires sorted { IsNonDecreasing docs.now }
+    requires splits { SplitsDocs docs.now i doc }
 
-    ensures { result ≡ list_any (is_of_doc row) docs.now }
+    ensures { result ≡ list_any (λ d. d == doc) docs.now }
 {
-    i < docs.len() && docs[i] == row.doc
-}
-
-// Whether a document has a row, where `i` is the first place that isn't before the document.
-#[inline]
-fn has_row(rows: &Cols, i: usize, scored: Scored) -> bool
-    requires sorted { AreSorted rows.now.posts }
-    requires splits { Splits rows.now.posts i scored.doc 0 }
-
-    ensures { result ≡ list_any (is_of scored) rows.now.posts }
-{
-    i < rows.len() && is_row_of(scored, rows.get(i))
-}
-
-#[inline]
-fn is_row_of(scored: Scored, row: Post) -> bool
-    ensures { result ≡ is_of scored row }
-{
-    row.doc == scored.doc
+    i < docs.len() && docs[i] == doc
 }
 
 // Adds a scored document at the end, in the room that there is, where the test held.

@@ -1,38 +1,33 @@
 -- `house_bytes` hands the room to `lodge`. Assumes `Logic`.
 use Rattle.std.proofs.Common.{◌≡◌, ℕ, ◌*◌, ◌^◌, ◌<◌, List, [], ◌∷◌, ◌++◌, refl, sym, ap, ◌∙◌, subst, arith, Vec}
 use seplogic.Ra.Ura.{Ura}
-use mir.Syntax.{Fn, Callee, a_type, seq, assign, place, rv_opd, copy, return, w64}
+use mir.Syntax.{Callee, a_type, seq, assign, place, rv_opd, copy, return, w64}
 use mir.Val.{Val, vint, vptr}
-use base.Logic.{SProp, ent, never, id⊢}
+use base.Logic.{SProp, never, id⊢}
 use prog.Memory.{Memory}
 use prog.Routine.{Routine}
 use prog.Wp.{Calls, Loops, WpFn, Tables}
-use contract.Monad.{Fun, fact}
+use contract.Monad.{Fun}
 use contract.Running.{tables, tables_of}
-use sound.WpLaws.{WpFn-mono, fm_of, FmC}
+use sound.WpLaws.{fm_of, FmC}
 use types.Logic.{Logic}
-use types.Kit.{‵, raw, ◌⊛◌, some, later, given, prop, at_ret, ◌$◌, ◌∵◌, !, qed, move, drop, use1, split, pick, learn, fsplit, fjoin, feq_l, flt_l, regoal, rewrite, suffices, await, done}
+use types.Kit.{‵, raw, some, later, given, prop, at_ret, ◌$◌, !, move, drop, use1, pick, learn, fsplit, fjoin, feq_l, flt_l, regoal, rewrite, suffices, await, done}
 use types.Run.{enter, returns, first, blocks, exec, of_opd, lit, and_then, no_more}
 use types.ByLocal.{alloc_all, pass_all, free_all, look_at, get, sets, lands_last, env}
 use denote.Exit.{yes}
-use denote.RattleType.{owns}
 use denote.Builtin.{u8, usize}
 use denote.Param.{layouts}
 use denote.RawPtr.{RawPtr, ptr_val, room_for, in_a_block}
-use denote.Signature.{plain, types_at}
-use denote.Steps.{only, nothing, heard}
+use denote.Signature.{plain}
+use denote.Steps.{only, nothing}
 use denote.Triple.Call.{calls_at_last}
-use denote.Triple.Clauses.{Clauses, Ended, closing}
-use denote.Triple.Entry.{alive}
-use denote.Triple.Spec.{Meets, triple_of}
 use denote.Triple.Statement.{Triple}
-use denote.Triple.Table.{entered}
-use denote.Triple.Walked.{says, Stays, stay_dropped, walk_of, ends_at, walk_Meets}
+use denote.Triple.Walked.{says, Stays, Walks, walk_of, ends_at}
 use Rattle.std.proofs.alloc.Calls.{Goes-blank}
 use Rattle.std_alloc.specs.declared.vec.lodged.Lodged.{Lodged}
 use Rattle.std_alloc.specs.contracts.vec.lodge.Key.{name as callee_name}
 use Rattle.std_alloc.proofs.vec.lodge.Met as callee
-use Rattle.cs_cols.proofs.Walks.{Good, none, tells, none_had}
+use Rattle.cs_cols.proofs.Walks.{Good, none, tells, none_had, dropped, begins, by_walk}
 use Rattle.cs_cols.proofs.Lodging.{byte, Column, column-laws, entries, Lodges, at_lodge, IsLodged, lodge_goes, lodge_gives}
 use Rattle.cs_cols.specs.contracts.rooms.ByteRoom as Room
 use Rattle.cs_cols.specs.contracts.rooms.house_bytes as F
@@ -43,68 +38,49 @@ use Rattle.cs_cols.proofs.rooms.house_bytes.Code as code
 abbrev key : Callee
 key = callee_name (layouts (a_type ∷ []) (u8, tt))
 
-abbrev function : Fn
-function = code.function
-
-abbrev ended : Ended
-ended = F.ended
-
-abbrev stayed : Stays ended.signature.params ended.kept
-stayed = (stay_dropped (plain (λ _. RawPtr)) yes, (stay_dropped (plain (λ _. usize)) yes, (stay_dropped (plain (λ _. Room.the_row)) yes, tt)))
+abbrev stayed : Stays F.ended.signature.params F.ended.kept
+stayed = (dropped RawPtr, (dropped usize, (dropped Room.the_row, tt)))
 
 module _ {M : Type 1} {𝓤 : Ura M} (𝓛 : Logic 𝓤) (at_mem : Memory → SProp 𝓤) (run : Routine → Fun 𝓤) where
-  open 𝓛 use {H}
-
-  abbrev held : Clauses 𝓤 ended
-  held = F.clauses 𝓛 at_mem run
-
-  module _ (C : Calls 𝓤 H) (Λ : Loops 𝓤 H) (framed : FmC 𝓤 H 𝓛.laws C) (called : Triple 𝓤 (C key) (Lodges byte 𝓛 at_mem run)) (z : (walk_of 𝓛 ended stayed held).Ghost) where
-    abbrev Post : Val → SProp 𝓤
-    Post = (walk_of 𝓛 ended stayed held).post z
-
-    abbrev toks : SProp 𝓤
-    toks = alive 𝓛 ended.signature z.0.0 z.0.1
-
-    walks : ent 𝓤 ((walk_of 𝓛 ended stayed held).pre z) (WpFn 𝓤 H C Λ function ((walk_of 𝓛 ended stayed held).args z) Post)
-    walks =
-        let a = z.0.3 in
-        let vss = z.0.4 in
-        let p = a.0 in
-        let n = a.1.0 in
-        let room = a.1.1.0 in
-        let Asked = (room.ptr ≡ p) × (room.cap ≡ n) × (0 < n) × (n < 2 ^ 63) in
-        qed 𝓛 ((raw toks ⊛ ‵ (owns (types_at ended.signature.params z.0.0) a vss)) ∷ raw (fact 𝓤 Asked) ∷ []) ∵
-        move ! (1 ∷ []) $ heard ! Asked (λ asked. split ! $ move ! (1 ∷ []) $
-        fsplit ! $ feq_l ! (λ is₀. fsplit ! $ fsplit ! $ feq_l ! (λ is₁. flt_l ! (λ fits. fsplit ! $ fsplit ! $ none_had ! vss.1.1.0 (λ is₂. move ! (1 ∷ []) $ drop ! $
-        rewrite ! 0 (λ k. ‵ (room_for (entries byte k) room.ptr)) asked.1 refl $
-        rewrite ! 0 (λ r. ‵ (room_for (entries byte n) r)) asked.0 refl $ in_a_block ! p (λ r. room_for (entries byte n) r) (id⊢ 𝓤 (never 𝓤)) (λ b o at.
-        let y = at_lodge byte 𝓛 at_mem run b o n in
-        let small : n < 2 ^ 63 = let few = asked.3 in omega arith in
-        let fit : n * 1 < 2 ^ 63 = let few = asked.3 in omega arith in
-        regoal ! (λ (us : List Val). prop (WpFn 𝓤 H C Λ function (us ++ (vss.1.0 ++ (vss.1.1.0 ++ []))) Post)) (is₀ ∙ ap (λ r. ptr_val r ∷ []) at) refl $
-        regoal ! (λ (us : List Val). prop (WpFn 𝓤 H C Λ function ((vptr b o ∷ []) ++ (us ++ (vss.1.1.0 ++ []))) Post)) is₁ refl $
-        regoal ! (λ (us : List Val). prop (WpFn 𝓤 H C Λ function ((vptr b o ∷ []) ++ ((vint w64 n ∷ []) ++ (us ++ []))) Post)) is₂ refl $
-        enter ! C Λ function (vptr b o ∷ vint w64 n ∷ none ∷ []) Post $ alloc_all ! (λ l. pass_all ! refl ((tt, tt), ((tt, record { fits = fits }), ((tt, tt), tt))) $
-        first ! $ blocks ! $ sets ! (of_opd ! (get ! refl)) refl (tt, tt) $ use1 𝓛 (raw ((Lodges byte 𝓛 at_mem run).pre y)) (lodge_goes byte 𝓛 at_mem run b o n asked.2 small fit) $
-        calls_at_last ! framed (Lodges byte 𝓛 at_mem run) called y (and_then ! (get ! refl) (and_then ! (lit ! tt) (and_then ! (get ! refl) (no_more !)))) (λ v.
-        use1 𝓛 (later (some (λ (r : Vec ℕ Lodged). given (IsLodged byte 𝓛 at_mem run b o n r) (‵ ((Column byte).own_val r (v ∷ [])))))) (lodge_gives byte 𝓛 at_mem run b o n v) $
-        await ! tt $ pick ! (λ r. learn ! (λ is. tells ! (Column byte) (column-laws byte) r (v ∷ []) (λ u same good.
-        let fine : Good (Column byte) v = subst (Good (Column byte)) (sym (ap only same)) good in
-        rewrite ! 0 (λ t. ‵ ((Column byte).own_val r (t ∷ []))) (sym (ap only same)) refl $ lands_last ! refl fine $
-        exec ! C Λ (env function.locals l) (seq (assign (place 0 []) (rv_opd (copy (place 4 [])))) return) (at_ret (env function.locals l) Post) $
-        sets ! (of_opd ! (get ! refl)) refl fine $
-        returns ! (look_at ! 0 refl) $ free_all ! refl $
-        suffices ! _ (ends_at 𝓛 ended stayed held z v r (tt, (tt, (tt, tt))) (tt, (tt, (tt, tt)))) $ says ! (is.0, is.1, is.2, is.3 ∙ sym at) $
-        nothing ! $ nothing ! $ fjoin ! $ nothing ! $ fjoin ! $ nothing ! $ fjoin ! $ move ! (2 ∷ 0 ∷ 1 ∷ []) $ done !)))))))))))
-
-  meets : (𝓣 : Tables 𝓤 H) → Triple 𝓤 (𝓣.C key) (Lodges byte 𝓛 at_mem run) → Meets 𝓛 ended.signature (WpFn 𝓤 H 𝓣.C 𝓣.Λ function) (closing 𝓛 ended held)
-  meets 𝓣 called =
-      walk_Meets 𝓛 ended stayed (Goes-blank 𝓛 0 (plain (λ _. RawPtr)) yes (λ κs x f. tt), (Goes-blank 𝓛 0 (plain (λ _. usize)) yes (λ κs x f. tt), (Goes-blank 𝓛 0 (plain (λ _. Room.the_row)) yes (λ κs x f. tt), tt))) held
-      (WpFn 𝓤 H 𝓣.C 𝓣.Λ function) (WpFn-mono 𝓤 H 𝓛.laws 𝓣 function) (walks 𝓣.C 𝓣.Λ (fm_of 𝓤 H 𝓛.laws 𝓣) called)
+  walks : (C : Calls 𝓤 𝓛.H) (Λ : Loops 𝓤 𝓛.H) → FmC 𝓤 𝓛.H 𝓛.laws C → Triple 𝓤 (C key) (Lodges byte 𝓛 at_mem run)
+      → Walks 𝓛 F.ended stayed (WpFn 𝓤 𝓛.H C Λ code.function) (F.clauses 𝓛 at_mem run)
+  walks C Λ framed called z =
+      let vss = z.0.4 in
+      let p = z.0.3.0 in
+      let n = z.0.3.1.0 in
+      let room = z.0.3.1.1.0 in
+      let Asked = (room.ptr ≡ p) × (room.cap ≡ n) × (0 < n) × (n < 2 ^ 63) in
+      let held = F.clauses 𝓛 at_mem run in
+      let Post = (walk_of 𝓛 F.ended stayed held).post z in
+      begins 𝓛 F.ended stayed held z Asked (id⊢ 𝓤 _) (λ asked.
+      fsplit ! $ feq_l ! (λ is₀. fsplit ! $ fsplit ! $ feq_l ! (λ is₁. flt_l ! (λ fits. fsplit ! $ fsplit ! $ none_had ! vss.1.1.0 (λ is₂. move ! (1 ∷ []) $ drop ! $
+      rewrite ! 0 (λ k. ‵ (room_for (entries byte k) room.ptr)) asked.1 refl $
+      rewrite ! 0 (λ r. ‵ (room_for (entries byte n) r)) asked.0 refl $ in_a_block ! p (λ r. room_for (entries byte n) r) (id⊢ 𝓤 (never 𝓤)) (λ b o at.
+      let y = at_lodge byte 𝓛 at_mem run b o n in
+      let small : n < 2 ^ 63 = let few = asked.3 in omega arith in
+      let fit : n * 1 < 2 ^ 63 = let few = asked.3 in omega arith in
+      regoal ! (λ (us : List Val). prop (WpFn 𝓤 𝓛.H C Λ code.function (us ++ (vss.1.0 ++ (vss.1.1.0 ++ []))) Post)) (is₀ ∙ ap (λ r. ptr_val r ∷ []) at) refl $
+      regoal ! (λ (us : List Val). prop (WpFn 𝓤 𝓛.H C Λ code.function ((vptr b o ∷ []) ++ (us ++ (vss.1.1.0 ++ []))) Post)) is₁ refl $
+      regoal ! (λ (us : List Val). prop (WpFn 𝓤 𝓛.H C Λ code.function ((vptr b o ∷ []) ++ ((vint w64 n ∷ []) ++ (us ++ []))) Post)) is₂ refl $
+      enter ! C Λ code.function (vptr b o ∷ vint w64 n ∷ none ∷ []) Post $ alloc_all ! (λ l. pass_all ! refl ((tt, tt), ((tt, record { fits = fits }), ((tt, tt), tt))) $
+      first ! $ blocks ! $ sets ! (of_opd ! (get ! refl)) refl (tt, tt) $ use1 𝓛 (raw ((Lodges byte 𝓛 at_mem run).pre y)) (lodge_goes byte 𝓛 at_mem run b o n asked.2 small fit) $
+      calls_at_last ! framed (Lodges byte 𝓛 at_mem run) called y (and_then ! (get ! refl) (and_then ! (lit ! tt) (and_then ! (get ! refl) (no_more !)))) (λ v.
+      use1 𝓛 (later (some (λ (r : Vec ℕ Lodged). given (IsLodged byte 𝓛 at_mem run b o n r) (‵ ((Column byte).own_val r (v ∷ [])))))) (lodge_gives byte 𝓛 at_mem run b o n v) $
+      await ! tt $ pick ! (λ r. learn ! (λ is. tells ! (Column byte) (column-laws byte) r (v ∷ []) (λ u same good.
+      let fine : Good (Column byte) v = subst (Good (Column byte)) (sym (ap only same)) good in
+      rewrite ! 0 (λ t. ‵ ((Column byte).own_val r (t ∷ []))) (sym (ap only same)) refl $ lands_last ! refl fine $
+      exec ! C Λ (env (code.function).locals l) (seq (assign (place 0 []) (rv_opd (copy (place 4 [])))) return) (at_ret (env (code.function).locals l) Post) $
+      sets ! (of_opd ! (get ! refl)) refl fine $
+      returns ! (look_at ! 0 refl) $ free_all ! refl $
+      suffices ! _ (ends_at 𝓛 F.ended stayed held z v r (tt, (tt, (tt, tt))) (tt, (tt, (tt, tt)))) $ says ! (is.0, is.1, is.2, is.3 ∙ sym at) $
+      nothing ! $ nothing ! $ fjoin ! $ nothing ! $ fjoin ! $ nothing ! $ fjoin ! $ move ! (2 ∷ 0 ∷ 1 ∷ []) $ done !)))))))))))
 
 pub house_bytes_spec : {M : Type 1} → stated.statement M
 unfolding tables_of
 house_bytes_spec 𝓤 𝓛 𝓜 𝓡 wired =
     let 𝓣 : Tables 𝓤 𝓛.H = tables_of 𝓤 𝓛.H 𝓜 (tables 𝓤 𝓛.H 𝓜 𝓡 𝓡.env) in
-    entered 𝓤 𝓛.H (triple_of 𝓛 ended.signature (closing 𝓛 ended (held 𝓛 𝓜.mem 𝓡.returns))) 𝓣.C 𝓣.Λ #self function
-    (code.unfolded 𝓤 𝓛.H 𝓜 𝓡 wired) (meets 𝓛 𝓜.mem 𝓡.returns 𝓣 (callee.met 𝓤 𝓛 𝓜 𝓡 (code.calls-std_alloc::vec::lodge 𝓡.env wired) u8 byte.laws))
+    by_walk 𝓛 F.ended stayed (F.clauses 𝓛 𝓜.mem 𝓡.returns)
+    (Goes-blank 𝓛 0 (plain (λ _. RawPtr)) yes (λ κs x f. tt), (Goes-blank 𝓛 0 (plain (λ _. usize)) yes (λ κs x f. tt), (Goes-blank 𝓛 0 (plain (λ _. Room.the_row)) yes (λ κs x f. tt), tt)))
+    #self code.function 𝓣 (code.unfolded 𝓤 𝓛.H 𝓜 𝓡 wired)
+    (walks 𝓛 𝓜.mem 𝓡.returns 𝓣.C 𝓣.Λ (fm_of 𝓤 𝓛.H 𝓛.laws 𝓣)
+    (callee.met 𝓤 𝓛 𝓜 𝓡 (code.calls-std_alloc::vec::lodge 𝓡.env wired) u8 byte.laws))

@@ -1,10 +1,9 @@
 use Rattle.std.proofs.Common.{◌≡◌, ◌+◌, ◌-◌, arith, subst}
 use Rattle.std.specs.List.{list_any}
-use Rattle.std.proofs.lemmas.List.Kept.{IsStrictlySortedBy-filter}
 use Rattle.cs_base.specs.content.Orders.{by_place}
 use Rattle.cs_meet.specs.Filters.{stands_behind}
 use Rattle.cs_meet.specs.Places.{Splits}
-use Rattle.cs_meet.proofs.Passes.{filter_more, filter_skip, filter_all, ahead_more, ahead_on, rises_behind}
+use Rattle.cs_meet.proofs.Passes.{filter_more, filter_skip, filter_sorted, ahead_more, ahead_on, rises_behind}
 use Rattle.cs_meet.proofs.links.follow.Goals as goal
 
 pub next_behind-j-requires-clause-ahead : goal.next_behind-j-requires-clause-ahead
@@ -35,7 +34,5 @@ loop-j-preserved c =
 
 pub returns-clause-sorted : goal.returns-clause-sorted
 returns-clause-sorted c =
-    let a = c.args.a.now.posts in
-    let b = c.args.b.now.posts in
-    let all = filter_all (λ r. list_any (stands_behind r) a) _ c.loop-j.found.posts b c.loop-j.j c.loop-j.invariant.told (omega arith) in
-    rw all (IsStrictlySortedBy-filter by_place (λ r. list_any (stands_behind r) a) b c.requires.b_sorted)
+    filter_sorted by_place (λ r. list_any (stands_behind r) c.args.a.now.posts) c.loop-j.found.posts c.args.b.now.posts c.loop-j.j
+    c.requires.b_sorted c.loop-j.invariant.told (omega arith)

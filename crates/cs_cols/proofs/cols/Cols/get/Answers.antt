@@ -4,38 +4,6 @@ use Rattle.cs_cols.specs.Held.{Held}
 use Rattle.cs_cols.proofs.Columns.{posts-length, posts-at, post}
 use Rattle.cs_cols.proofs.cols.Cols.get.Goals as goal
 
-pub index-requires : goal.index-requires
-index-requires c =
-    let s = c.self.inside in
-    let n = posts-length s.docs.items s.words.items s.places.items s.scores.items c.self.invariant.0 in
-    let are = ap (λ (h : Held). length h.posts) c.self.view_is in
-    let ok = s.docs.ok in
-    omega (arith, n, are)
-
-pub index-requires-2 : goal.index-requires-2
-index-requires-2 c =
-    let s = c.self.inside in
-    let n = posts-length s.docs.items s.words.items s.places.items s.scores.items c.self.invariant.0 in
-    let are = ap (λ (h : Held). length h.posts) c.self.view_is in
-    let ok = s.words.ok in
-    omega (arith, n, are)
-
-pub index-requires-3 : goal.index-requires-3
-index-requires-3 c =
-    let s = c.self.inside in
-    let n = posts-length s.docs.items s.words.items s.places.items s.scores.items c.self.invariant.0 in
-    let are = ap (λ (h : Held). length h.posts) c.self.view_is in
-    let ok = s.places.ok in
-    omega (arith, n, are)
-
-pub index-requires-4 : goal.index-requires-4
-index-requires-4 c =
-    let s = c.self.inside in
-    let n = posts-length s.docs.items s.words.items s.places.items s.scores.items c.self.invariant.0 in
-    let are = ap (λ (h : Held). length h.posts) c.self.view_is in
-    let ok = s.scores.ok in
-    omega (arith, n, are)
-
 pub returns : goal.returns
 returns c =
     let s = c.self.inside in

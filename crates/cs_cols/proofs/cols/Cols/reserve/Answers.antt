@@ -1,36 +1,28 @@
-use Rattle.std.proofs.Common.{◌∙◌, ap, arith, length}
+use Rattle.std.proofs.Common.{◌≡◌, ◌∙◌, ℕ, List, ap, arith, length}
+use Rattle.std.specs.Prelude.{map}
 use Rattle.std.proofs.lemmas.List.{length-map}
+use Rattle.cs_base.specs.declared.content.doc.Post.{Post}
 use Rattle.cs_cols.specs.Held.{Held}
-use Rattle.cs_cols.proofs.Columns.{columns-back, posts-length}
+use Rattle.cs_cols.proofs.Columns.{columns-back, held_length}
 use Rattle.cs_cols.proofs.cols.Cols.reserve.Goals as goal
+
+-- as many documents as posts are added
+docs_long : (posts : List Post) (ds : List ℕ) → ds ≡ map (λ p. p.doc) posts → length ds ≡ length posts
+docs_long posts ds are = ap length are ∙ length-map posts (λ p. p.doc)
 
 pub extend_reserved-requires-clause-room : goal.extend_reserved-requires-clause-room
 extend_reserved-requires-clause-room c =
     let s = c.self.inside in
-    let are = ap (λ (h : Held). length h.posts) c.self.view_is in
-    let n = posts-length s.docs.items s.words.items s.places.items s.scores.items c.self.invariant.0 in
-    let ok = s.docs.ok.0 in
-    let fits = c.in_ok-more.ensures.1 in
-    let cap = c.max-cap.ensures in
-    let wanted = c.in-Some.ensures.1 in
-    let len = c.len-len.ensures in
-    let long = ap length c.docs.ensures ∙ length-map c.args.self.now.posts (λ p. p.doc) in
-    omega (arith, are, n, ok, fits, cap, wanted, len, long)
+    let held = held_length s.docs.items s.words.items s.places.items s.scores.items _ _ c.self.invariant.0 c.self.view_is in
+    omega (arith, held, docs_long _ _ c.docs.ensures, s.docs.ok.0, c.in_ok-more.ensures.1, c.max-cap.ensures, c.in-Some.ensures.1, c.len-len.ensures)
 
 pub returns-clause-ok : goal.returns-clause-ok
 returns-clause-ok c =
-    let s = c.self.inside in
-    let are = ap (λ (h : Held). length h.posts) c.self.view_is in
-    let n = posts-length s.docs.items s.words.items s.places.items s.scores.items c.self.invariant.0 in
-    let ok = s.docs.ok.0 in
-    let fits = c.in_ok-more.ensures.1 in
-    let cap = c.max-cap.ensures in
-    let wanted = c.in-Some.ensures.1 in
-    let len = c.len-len.ensures in
-    let long = ap length c.docs.ensures ∙ length-map c.args.self.now.posts (λ p. p.doc) in
-    let left = c.extend_reserved.ensures.room in
     let now = ap (λ (h : Held). h.room) c.drop.view_is in
-    omega (arith, are, n, ok, fits, cap, wanted, len, long, left, now)
+    let s = c.self.inside in
+    let held = held_length s.docs.items s.words.items s.places.items s.scores.items _ _ c.self.invariant.0 c.self.view_is in
+    let left = c.extend_reserved.ensures.room in
+    omega (arith, now, left, held, docs_long _ _ c.docs.ensures, s.docs.ok.0, c.in_ok-more.ensures.1, c.max-cap.ensures, c.in-Some.ensures.1, c.len-len.ensures)
 
 pub returns-clause-posts : goal.returns-clause-posts
 returns-clause-posts c =

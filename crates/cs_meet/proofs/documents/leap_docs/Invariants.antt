@@ -1,6 +1,6 @@
 use Rattle.std.proofs.Common.{◌≤◌, ◌-◌, length}
 use Rattle.cs_meet.specs.Places.{AllBelow}
-use Rattle.cs_meet.proofs.documents.skip_docs.Given as goal
+use Rattle.cs_meet.proofs.documents.leap_docs.Given as goal
 
 abbrev pub invariant-loop-lo : goal.invariant-loop-lo
 invariant-loop-lo l = record {

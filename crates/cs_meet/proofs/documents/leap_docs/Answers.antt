@@ -1,6 +1,6 @@
 use Rattle.std.proofs.Common.{◌+◌, ◌-◌, arith}
 use Rattle.cs_meet.proofs.Listed.{below_through}
-use Rattle.cs_meet.proofs.documents.skip_docs.Goals as goal
+use Rattle.cs_meet.proofs.documents.leap_docs.Goals as goal
 
 pub overflow_add-lo : goal.overflow_add-lo
 overflow_add-lo c =
