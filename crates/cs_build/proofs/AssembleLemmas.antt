@@ -23,7 +23,7 @@ use Rattle.cs_model_index.specs.Numbered.{numbered, HasWord}
 use Rattle.cs_model_index.proofs.CorpusLemmas.{known_words}
 use Rattle.cs_vocab.specs.Ranges.{AreNumbers}
 use Rattle.cs_build.specs.Building.{corpus_of_rows}
-use Rattle.cs_build.specs.Runs.{AreParted, AreSpans, CountsRows, runs_from, is_within, posts_by, run_head}
+use Rattle.cs_build.specs.WordRuns.{AreParted, AreSpans, CountsRows, runs_from, is_within, posts_by, run_head}
 use Rattle.cs_build.specs.declared.parting.Run.{Run}
 use Rattle.cs_build.proofs.FillLemmas.{posts_many}
 use Rattle.cs_build.proofs.PartLemmas.{numbered_posts, blocks_are, rows_counted, heads_are, all_inside, spans_are, few_runs, filled_parts, some_words}

@@ -16,7 +16,7 @@ use Rattle.std.proofs.lemmas.List.Elements.{filter-append}
 use Rattle.cs_base.specs.declared.content.doc.Post.{Post}
 use Rattle.cs_base.specs.declared.content.doc.Row.{Row}
 use Rattle.cs_cols.specs.declared.cols.Cols.{Cols}
-use Rattle.cs_build.specs.Runs.{has_word, AreSpans, places_from, posts_by, is_within, CountsRows, IsPushed, AreFilled}
+use Rattle.cs_build.specs.WordRuns.{has_word, AreSpans, places_from, posts_by, is_within, CountsRows, IsPushed, AreFilled}
 use Rattle.cs_build.specs.declared.parting.Run.{Run}
 
 -- ---- the run of a word

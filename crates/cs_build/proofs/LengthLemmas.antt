@@ -31,36 +31,30 @@ pub code_2 : (n : ℕ) → 2 ^ 7 ≤ n → n < 2 ^ 14 → length (code n) ≡ 2
 unfolding code
 code_2 n l h = let a = long_code 3 n l in let b = short_code 3 (n / 128) (omega (arith, h)) in omega (arith, a, b)
 
-pub code_3 : (n : ℕ) → 2 ^ 14 ≤ n → n < 2 ^ 21 → length (code n) ≡ 3
+-- two, and three, bytes in front of what is left
+two_on : (n : ℕ) → 2 ^ 14 ≤ n → length (code n) ≡ 2 + length (code_in 2 (n / 128 / 128))
 unfolding code
-code_3 n l h =
-    let a = long_code 3 n (omega (arith, l)) in
-    let b = long_code 2 (n / 128) (omega (arith, l)) in
-    let c = short_code 2 (n / 128 / 128) (omega (arith, h)) in
-    omega (arith, a, b, c)
+two_on n l = let a = long_code 3 n (omega (arith, l)) in let b = long_code 2 (n / 128) (omega (arith, l)) in omega (arith, a, b)
+
+three_on : (n : ℕ) → 2 ^ 21 ≤ n → length (code n) ≡ 3 + length (code_in 1 (n / 128 / 128 / 128))
+three_on n l = let a = two_on n (omega (arith, l)) in let b = long_code 1 (n / 128 / 128) (omega (arith, l)) in omega (arith, a, b)
+
+pub code_3 : (n : ℕ) → 2 ^ 14 ≤ n → n < 2 ^ 21 → length (code n) ≡ 3
+code_3 n l h = let a = two_on n l in let b = short_code 2 (n / 128 / 128) (omega (arith, h)) in omega (arith, a, b)
 
 pub code_4 : (n : ℕ) → 2 ^ 21 ≤ n → n < 2 ^ 28 → length (code n) ≡ 4
-unfolding code
-code_4 n l h =
-    let a = long_code 3 n (omega (arith, l)) in
-    let b = long_code 2 (n / 128) (omega (arith, l)) in
-    let c = long_code 1 (n / 128 / 128) (omega (arith, l)) in
-    let d = short_code 1 (n / 128 / 128 / 128) (omega (arith, h)) in
-    omega (arith, a, b, c, d)
+code_4 n l h = let a = three_on n l in let b = short_code 1 (n / 128 / 128 / 128) (omega (arith, h)) in omega (arith, a, b)
 
 last_code : (n : ℕ) → length (code_in 0 n) ≡ 1
 unfolding code_in
 last_code n = refl
 
 pub code_5 : (n : ℕ) → 2 ^ 28 ≤ n → length (code n) ≡ 5
-unfolding code
 code_5 n l =
-    let a = long_code 3 n (omega (arith, l)) in
-    let b = long_code 2 (n / 128) (omega (arith, l)) in
-    let c = long_code 1 (n / 128 / 128) (omega (arith, l)) in
-    let d = long_code 0 (n / 128 / 128 / 128) (omega (arith, l)) in
-    let e = last_code (n / 128 / 128 / 128 / 128) in
-    omega (arith, a, b, c, d, e)
+    let a = three_on n (omega (arith, l)) in
+    let b = long_code 0 (n / 128 / 128 / 128) (omega (arith, l)) in
+    let c = last_code (n / 128 / 128 / 128 / 128) in
+    omega (arith, a, b, c)
 
 -- at most as many bytes as may be used, and at least one
 pub few_bytes : (k n : ℕ) → (1 ≤ length (code_in k n)) × (length (code_in k n) ≤ k + 1)

@@ -30,7 +30,7 @@ use Rattle.cs_model_index.specs.Partitions.{is_facet}
 use Rattle.cs_build.specs.BuildLaws.{CollectionsKeepLimits}
 use Rattle.cs_build.proofs.TextPartLemmas.{before-utf8, after-utf8, facet_pieces-utf8}
 use Rattle.cs_build.proofs.TitleLemmas.{titles_few}
-use Rattle.cs_build.proofs.WordLemmas.{IsCut, IsKept, cut_words, cut_slug, kept_plain, kept_facet}
+use Rattle.cs_build.proofs.WordCharacters.{IsCut, IsKept, cut_words, cut_slug, kept_plain, kept_facet}
 
 -- ---- lines
 

@@ -1,4 +1,4 @@
 pub mod BuildLaws
 pub mod Building
 pub mod Ordering
-pub mod Runs
+pub mod WordRuns

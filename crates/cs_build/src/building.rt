@@ -10,7 +10,7 @@ ghost use Rattle.cs_model_index.specs.Layout.{title_bytes};
 ghost use Rattle.cs_model_index.specs.declared.limits.TheConstants.{MAX_TARGET};
 ghost use Rattle.cs_file.specs.Writable.{CanBeWritten};
 ghost use Rattle.cs_build.specs.Building.{corpus_from, corpus_of_rows, KeepLimits};
-ghost use Rattle.cs_build.specs.Runs.{AreParted};
+ghost use Rattle.cs_build.specs.WordRuns.{AreParted};
 ghost use Rattle.cs_vocab.specs.Ranges.{AreNumbers, IsBelow};
 
 use crate::fault::BuildFault;

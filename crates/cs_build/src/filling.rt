@@ -4,7 +4,7 @@ ghost use Rattle.std.specs.List.{All, AllByRecursion};
 ghost use Rattle.cs_base.specs.declared.content.limits.TheConstants.{MAX_ROWS};
 ghost use Rattle.cs_vocab.specs.Ranges.{IsBelow};
 ghost use Rattle.cs_cols.specs.declared.cols.Cols.{Cols};
-ghost use Rattle.cs_build.specs.Runs.{AreSpans, AreFilled, CountsRows, IsPushed, is_within, places_from, posts_by};
+ghost use Rattle.cs_build.specs.WordRuns.{AreSpans, AreFilled, CountsRows, IsPushed, is_within, places_from, posts_by};
 
 use crate::parting::Run;
 use cs_base::{Memory, Post, Row};

@@ -4,7 +4,7 @@ ghost use Rattle.std.specs.List.{AllByRecursion, zip};
 ghost use Rattle.cs_base.specs.declared.content.limits.TheConstants.{MAX_ROWS};
 ghost use Rattle.cs_base.specs.index.GapCode.{code};
 ghost use Rattle.cs_model_index.specs.Blocks.{block_bytes};
-ghost use Rattle.cs_build.specs.Runs.{run_head};
+ghost use Rattle.cs_build.specs.WordRuns.{run_head};
 
 use crate::parting::{Run, begins_as_facet};
 use cs_base::{BlockHead, Memory};

@@ -7,7 +7,7 @@ ghost use Rattle.cs_vocab.specs.Ranges.{IsBelow};
 ghost use Rattle.cs_model_index.specs.Numbered.{word_at};
 ghost use Rattle.cs_model_index.specs.Partitions.{Count, is_alike, is_facet, kind_of, is_full};
 ghost use Rattle.cs_model_index.specs.declared.limits.TheConstants.{MAX_TARGET};
-ghost use Rattle.cs_build.specs.Runs.{AreCounts, AreParted, AreCountsBy};
+ghost use Rattle.cs_build.specs.WordRuns.{AreCounts, AreParted, AreCountsBy};
 
 use cs_base::Memory;
 use cs_model_index::MAX_BLOCK_WORDS;

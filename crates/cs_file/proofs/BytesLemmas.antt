@@ -10,7 +10,7 @@ use Rattle.std.proofs.lemmas.List.{take_all}
 use Rattle.std.proofs.lemmas.List.Elements.{All-nil, All-append}
 use Rattle.cs_base.specs.outside.Outside.{part}
 use Rattle.cs_file.specs.Opening.{AreBytes}
-use Rattle.cs_file.proofs.PiecesLemmas.{two_parts}
+use Rattle.cs_file.proofs.FilledPieces.{two_parts}
 
 pub bytes_by : (b bytes : List ℕ) (at n : ℕ) → bytes ≡ part b at n → All (λ x. x < 2 ^ 8) bytes → AreBytes b at n
 bytes_by b bytes at n is small = subst (λ (x : List ℕ). All (λ y. y < 2 ^ 8) x) is small

@@ -8,7 +8,6 @@ use Rattle.std.proofs.Common.{◌≡◌, ℕ, zero, suc, ◌+◌, ◌-◌, ◌*�
 use Rattle.std.specs.Prelude.{All}
 use Rattle.std.specs.List.{list_all}
 use Rattle.std.specs.Int.{w32, from_be_bytes}
-use Rattle.std.specs.Option.{option_or}
 use Rattle.std.proofs.lemmas.Bool.{and_parts, eqb-true, and_from}
 use Rattle.std.proofs.lemmas.List.{append-nil, append_assoc}
 use Rattle.std.proofs.lemmas.List.Elements.{All-nil, All-cons}
@@ -17,7 +16,7 @@ use Rattle.cs_base.specs.declared.index.block.Broken.{Broken}
 use Rattle.cs_base.specs.outside.Outside.{part}
 use Rattle.cs_model.proofs.FirstLemmas.{unless_none}
 use Rattle.cs_model.specs.First.{first_reason}
-use Rattle.cs_model_index.specs.FileRules.{laid, is_joined, is_of_one_kind, is_sized, tried}
+use Rattle.cs_model_index.specs.FileRules.{laid, is_joined, is_of_one_kind, is_sized}
 use Rattle.cs_model_index.specs.Layout.{Header}
 use Rattle.cs_model_index.specs.Numbered.{word_at}
 use Rattle.cs_model_index.specs.Partitions.{is_facet}
@@ -26,6 +25,7 @@ use Rattle.cs_model_index.specs.declared.limits.TheConstants.{HEADER_BYTES, ENTR
 use Rattle.cs_model_index.proofs.NumbersLemmas.{heads_count}
 use Rattle.cs_file.specs.Opening.{IsHeaderOf, HasHeads, bad_joint, bad_size, directory_judged, directory_stage, heads_of, file_words}
 use Rattle.cs_file.proofs.LaidLemmas.{all_hold, held_anywhere}
+use Rattle.cs_file.proofs.StagesLemmas.{or_parts, tried_none}
 
 -- ---- heads
 number_behind : (bytes : List ℕ) (at n : ℕ) → number_at (drop at bytes) n ≡ number_at bytes (at + n)
@@ -94,14 +94,6 @@ heads_are b h ws bytes is words at =
     ∙ ap (λ (x : List (List ℕ)). heads_in x h.blocks (part b (directory_at h) (directory_len h))) (sym words) ∙ ap (heads_in ws h.blocks) (sym at))
 
 -- ---- what the rules say
-tried_none : (n : ℕ) (o : Option ℕ) → tried n o ≡ None → o ≡ None
-tried_none n None e = refl
-tried_none n (Some at) e = absurd cc
-
-or_parts : (o p : Option ℕ) → option_or o p ≡ None → (o ≡ None) × (p ≡ None)
-or_parts None p e = (refl, e)
-or_parts (Some x) p e = absurd cc
-
 three_none : (o p q : Option Broken) → first_reason (o ∷ p ∷ q ∷ []) ≡ None → (o ≡ None) × (p ≡ None) × (q ≡ None)
 three_none None None None e = (refl, refl, refl)
 three_none None None (Some x) e = absurd cc

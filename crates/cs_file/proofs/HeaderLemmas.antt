@@ -23,7 +23,7 @@ use Rattle.cs_model_index.specs.Sections.{number_at, header_of, size_by}
 use Rattle.cs_model_index.specs.declared.limits.TheConstants.{HEADER_BYTES}
 use Rattle.cs_file.specs.declared.fault.OpenFault.{OpenFault}
 use Rattle.cs_file.specs.Opening.{Refuses, IsHeader, IsHeaderOf, header_stage, header_judged}
-use Rattle.cs_file.proofs.StagesLemmas.{refuses_first, refuses_rest, none_of_all, first_none}
+use Rattle.cs_file.proofs.StagesLemmas.{first_none, none_of_all, refuses_first, refuses_rest, tried_none}
 
 -- ---- rules 2 to 4
 abbrev magic_break : List ℕ → Option ℕ
@@ -63,10 +63,6 @@ header_fine bytes size p q s is none this fine last end =
     none_of_all (tried 2 (magic_break bytes)) (others bytes size) (ap (tried 2) (sym is) ∙ none)
     (none_of_all (tried 3 (field_break bytes)) (tried 4 (size_break bytes size) ∷ []) (ap (tried 3) (sym this) ∙ fine)
     (none_of_all (tried 4 (size_break bytes size)) [] (ap (tried 4) (sym last) ∙ end) refl))
-
-tried_none : (n : ℕ) (o : Option ℕ) → tried n o ≡ None → o ≡ None
-tried_none n None e = refl
-tried_none n (Some at) e = absurd cc
 
 -- ---- the numbers
 all_none : {R : Type 0} (rs : List (Option R)) → first_reason rs ≡ None → AllByRecursion (λ o. o ≡ None) rs

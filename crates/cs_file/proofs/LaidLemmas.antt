@@ -3,13 +3,16 @@
 --   before_start, before_on       the value before the first, and before the next
 --   Rest holds size first xs i at       the first break among the items from number i on, which lies at `at`, is that of all
 --   rest_start, rest_on, rest_broken, rest_end        the steps of a search from the left
+--   RestOfEven, even_start, even_on, even_broken, even_end      the same of items of one size, where item i lies at first + size * i
 --   all_hold             where no item breaks a rule, each keeps it
 --   held_anywhere        and so it does wherever the values lie
-use Rattle.std.proofs.Common.{◌≡◌, ℕ, zero, suc, ◌+◌, ◌<◌, ◌≤◌, ◌&&◌, Bool, true, false, not, cond, List, [], ◌∷◌, length, get_or, drop, Option, Some, None, refl, sym, ap, ◌∙◌, arith}
+use Rattle.std.proofs.Common.{◌≡◌, ℕ, zero, suc, ◌+◌, ◌*◌, ◌<◌, ◌≤◌, ◌&&◌, Bool, true, false, not, cond, List, [], ◌∷◌, length, get_or, slice_index_or, drop, Option, Some, None, refl, sym, ap, subst, ◌∙◌, add-one, arith}
 use Rattle.std.specs.Prelude.{find}
 use Rattle.std.specs.List.{list_all, slice_get}
 use Rattle.std.specs.Option.{option_map}
 use Rattle.std.proofs.lemmas.Bool.{and_from}
+use Rattle.std.proofs.lemmas.List.{get_or_default}
+use Rattle.std.proofs.Math.Nat.{mul-suc}
 use Rattle.cs_model_index.specs.FileRules.{Placed, laid, place_of_item, break_of}
 use Rattle.cs_file.specs.Opening.{before}
 
@@ -76,6 +79,33 @@ rest_broken holds size first xs i at x lt e breaks h =
 pub rest_end : {X : Type 0} (holds : Placed X → Bool) (size : X → ℕ) (first : ℕ) (xs : List X) (i at : ℕ) → length xs ≤ i → Rest holds size first xs i at → None ≡ break_of holds (laid size first None xs)
 unfolding Rest laid break_of
 rest_end holds size first xs i at le h = ap (λ l. break_of holds (laid size at (before xs i) l)) (sym (nothing_left xs i le)) ∙ h
+
+-- ---- items of one size
+pub RestOfEven : {X : Type 0} → (Placed X → Bool) → ℕ → ℕ → List X → ℕ → Type 0
+RestOfEven holds size first xs i = Rest holds (λ x. size) first xs i (first + size * i)
+
+module _ {X : Type 0} (holds : Placed X → Bool) (size first : ℕ) (xs : List X) where
+  pub even_start : RestOfEven holds size first xs 0
+  unfolding RestOfEven
+  even_start = subst (Rest holds (λ x. size) first xs 0) (let none : first ≡ first + size * 0 = omega arith in none) (rest_start holds (λ x. size) first xs)
+
+  -- item i, and whether it was found to hold
+  pub even_on : (i : ℕ) (d : X) (b : Bool) → i < length xs → b ≡ holds (record { value = slice_index_or xs i d; last = before xs i; next = slice_get (drop (suc i) xs) 0; at = first + size * i }) → b ≡ true
+      → RestOfEven holds size first xs i → RestOfEven holds size first xs (i + 1)
+  unfolding RestOfEven
+  even_on i d b lt is keeps h =
+      let more : size * (i + 1) ≡ size * i + size = ap (λ n. size * n) (add-one i) ∙ mul-suc size i in
+      rest_on holds (λ x. size) first xs i (first + size * i) _ (slice_index_or xs i d) lt (get_or_default xs i d (slice_index_or xs i d) lt) (omega (arith, more)) (sym is ∙ keeps) h
+
+  pub even_broken : (i n : ℕ) (d : X) (b : Bool) → i < length xs → n ≡ size → b ≡ holds (record { value = slice_index_or xs i d; last = before xs i; next = slice_get (drop (suc i) xs) 0; at = first + size * i }) → b ≡ false
+      → RestOfEven holds size first xs i → Some (first + n * i) ≡ break_of holds (laid (λ x. size) first None xs)
+  unfolding RestOfEven
+  even_broken i n d b lt same is breaks h =
+      ap (λ k. Some (first + k * i)) same ∙ rest_broken holds (λ x. size) first xs i (first + size * i) (slice_index_or xs i d) lt (get_or_default xs i d (slice_index_or xs i d) lt) (sym is ∙ breaks) h
+
+  pub even_end : (i : ℕ) → length xs ≤ i → RestOfEven holds size first xs i → None ≡ break_of holds (laid (λ x. size) first None xs)
+  unfolding RestOfEven
+  even_end i le h = rest_end holds (λ x. size) first xs i (first + size * i) le h
 
 -- ---- all items
 found_none : {X : Type 0} (b : Bool) (i : Placed X) (o : Option (Placed X)) → option_map place_of_item (cond (not b) (Some i) o) ≡ None → (b ≡ true) × (option_map place_of_item o ≡ None)

@@ -9,7 +9,7 @@ use Rattle.std.proofs.lemmas.List.{take_all, take_more}
 use Rattle.cs_base.specs.outside.Outside.{GrewByPrefix}
 use Rattle.cs_model_index.specs.Layout.{number_bytes, offsets_from, offset_bytes}
 use Rattle.cs_file.specs.Putting.{HasPut}
-use Rattle.cs_file.proofs.PutLemmas.{put_on, fails_on, fails_first}
+use Rattle.cs_file.proofs.SinkPuts.{put_on, fails_on, fails_first}
 
 -- the last of some offsets is where their titles end
 offsets_on : (at : ℕ) (ts : List (List ℕ)) (t : List ℕ) → offsets_from at (ts ++ t ∷ []) ≡ offsets_from at ts ++ (at + length (flat_map (λ t. t) ts) + length t) ∷ []

@@ -30,7 +30,7 @@ use Rattle.cs_file.specs.Opening.{AreBytes, Refuses, IsHeaderOf, blocks_of, bloc
 use Rattle.cs_file.specs.Parting.{part_by, parts_by}
 use Rattle.cs_file.proofs.BytesLemmas.{more_bytes, bytes_at}
 use Rattle.cs_file.proofs.FetchLemmas.{nothing}
-use Rattle.cs_file.proofs.MarksLemmas.{any_posts, count_posts}
+use Rattle.cs_file.proofs.MarkedNumbers.{any_posts, count_posts}
 use Rattle.cs_file.proofs.PostsLemmas.{block_words}
 use Rattle.cs_file.proofs.StagesLemmas.{refuses_at}
 use Rattle.cs_file.proofs.StoodLemmas.{blocks_start, block_from}

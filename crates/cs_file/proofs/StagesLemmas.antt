@@ -4,20 +4,33 @@
 --   none_of_all                      where no stage finds one, none is broken
 --   judged_along, caused_along   an answer that passes a fault on
 --   judges_by            a stage by another name
+--   tried_none, or_parts     a rule that was tried holds where nothing is found, and two tests find nothing where neither does
 --   on_ok                what holds anyhow holds of an Ok
 --   if_ok_both           two facts of an Ok together
 --   two_first, two_last, three_first, three_second, three_last     of two or three rules, the fault of the first, and the answer of a later one
 use Rattle.std.proofs.Common.{◌≡◌, ℕ, false, true≢false, arith, List, [], ◌∷◌, Option, Some, None, Result, Ok, Err, refl, sym, ap, subst, ◌∙◌}
+use Rattle.std.specs.Option.{option_or}
 use Rattle.std.specs.Result.{IsErrAnd, IfOk, OnOk}
 use Rattle.cs_base.specs.declared.index.block.Broken.{Broken}
 use Rattle.cs_model.specs.First.{first_reason}
 use Rattle.cs_model_index.specs.BlockRules.{broken_at}
+use Rattle.cs_model_index.specs.FileRules.{tried}
 use Rattle.cs_file.specs.declared.fault.OpenFault.{OpenFault}
 use Rattle.cs_file.specs.declared.fault.OpenFault.TheVariants as opens
 use Rattle.cs_file.specs.Answers.{is_read_of_open}
 use Rattle.cs_file.specs.Indexes.{CausedReads}
 use Rattle.cs_file.specs.Opening.{Refuses, Judges}
 
+-- ---- what is known of a rule that was tried
+pub tried_none : (n : ℕ) (o : Option ℕ) → tried n o ≡ None → o ≡ None
+tried_none n None e = refl
+tried_none n (Some at) e = absurd cc
+
+pub or_parts : (o p : Option ℕ) → option_or o p ≡ None → (o ≡ None) × (p ≡ None)
+or_parts None p e = (refl, e)
+or_parts (Some x) p e = absurd cc
+
+-- ---- stages
 pub refuses_at : (o p : Option Broken) (e : OpenFault) → ((b : Broken) → o ≡ Some b → p ≡ Some b) → Refuses o e → Refuses p e
 refuses_at o p (opens.Damaged rule at) same h = same (broken_at rule at) h
 refuses_at o p opens.Read same h = tt

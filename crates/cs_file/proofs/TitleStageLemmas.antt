@@ -8,7 +8,6 @@
 --   titles_begun, titles_on, title_refused, titles_done    the steps of reading the titles one by one
 --   title_bytes_begun, title_bytes_on, title_bytes_all     and of their bytes
 use Rattle.std.proofs.Common.{◌≡◌, ℕ, suc, ◌+◌, ◌-◌, ◌*◌, ◌<◌, ◌≤◌, Bool, true, false, List, [], ◌∷◌, ◌++◌, length, get_or, take, drop, Option, Some, None, refl, sym, ap, subst, ◌∙◌, arith, length-take, length-drop, drop-drop}
-use Rattle.std.specs.Option.{option_or}
 use Rattle.std.specs.Str.{is_utf8}
 use Rattle.std.proofs.lemmas.Bool.{eqb-true}
 use Rattle.std.proofs.lemmas.Option.{unwrap_or-slice_get}
@@ -26,7 +25,7 @@ use Rattle.cs_file.specs.Opening.{AreBytes, Refuses, IsHeaderOf, HasOffsets, bad
 use Rattle.cs_file.proofs.BytesLemmas.{no_bytes, more_bytes, bytes_at}
 use Rattle.cs_file.proofs.LaidLemmas.{Rest, rest_start, rest_on, rest_broken, rest_end, all_hold, held_anywhere}
 use Rattle.cs_file.proofs.OffsetsLemmas.{onward_zero, onward_next, onward_end, title_at_index}
-use Rattle.cs_file.proofs.StagesLemmas.{refuses_at}
+use Rattle.cs_file.proofs.StagesLemmas.{or_parts, refuses_at, tried_none}
 use Rattle.cs_file.proofs.TitlesLemmas.{titles_start, within_part, titles_count}
 
 -- ---- numbers
@@ -69,14 +68,6 @@ own_offsets b = ap (λ (x : List ℕ). numbers_in ((header_of b).docs + 1) (take
 
 pub offsets_are : (b : List ℕ) (h : Header) (bytes : List ℕ) → IsHeaderOf b h → bytes ≡ part b (offsets_at h) (offsets_len h) → numbers_in (h.docs + 1) bytes ≡ offsets_of b
 offsets_are b h bytes is at = sym (own_offsets b ∙ ap (λ (x : Header). numbers_in (x.docs + 1) (part b (offsets_at x) (offsets_len x))) is.numbers ∙ ap (numbers_in (h.docs + 1)) (sym at))
-
-tried_none : (n : ℕ) (o : Option ℕ) → tried n o ≡ None → o ≡ None
-tried_none n None e = refl
-tried_none n (Some at) e = absurd cc
-
-or_parts : (o p : Option ℕ) → option_or o p ≡ None → (o ≡ None) × (p ≡ None)
-or_parts None p e = (refl, e)
-or_parts (Some x) p e = absurd cc
 
 pub has_offsets : (h : Header) (os bytes : List ℕ) → os ≡ numbers_in (h.docs + 1) bytes → tried 8 (bad_offset h os) ≡ None → HasOffsets h os
 unfolding bad_offset

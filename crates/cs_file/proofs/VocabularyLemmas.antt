@@ -23,6 +23,7 @@ use Rattle.cs_model_index.specs.Sections.{header_of, vocabulary_at, vocabulary_i
 use Rattle.cs_model_index.proofs.SectionLemmas.{words_written}
 use Rattle.cs_file.specs.Opening.{IsHeaderOf, HasVocabulary, vocabulary_stage, words_judged, file_words}
 use Rattle.cs_file.proofs.LaidLemmas.{all_hold}
+use Rattle.cs_file.proofs.StagesLemmas.{tried_none}
 
 abbrev items : List (List ℕ) → List (Placed (List ℕ))
 items ws = laid word_size vocabulary_at None ws
@@ -97,10 +98,6 @@ words_hold at last (x ∷ ws) h =
     All-cons (λ w. is_word w ≡ true) x ws p.0 (words_hold (at + word_size x) (Some x) ws p.1)
 
 -- ---- what the rules say
-tried_none : (n : ℕ) (o : Option ℕ) → tried n o ≡ None → o ≡ None
-tried_none n None e = refl
-tried_none n (Some at) e = absurd cc
-
 two_none : (o p : Option Broken) → first_reason (o ∷ p ∷ []) ≡ None → (o ≡ None) × (p ≡ None)
 two_none None None e = (refl, refl)
 two_none None (Some x) e = absurd cc

@@ -176,7 +176,8 @@ fn has_sums(heads: &[BlockHead], header: &Header) -> bool
 
     ensures { result ≡ (sum_by (λ h. h.rows) heads.now == header.now.rows && sum_by (λ h. h.len) heads.now == header.now.blocks_len) }
 {
-    rows_in(heads) == u64::from(header.rows) && bytes_in(heads) == u64::from(header.blocks_len)
+    let (rows, bytes) = sums_of(heads);
+    rows == u64::from(header.rows) && bytes == u64::from(header.blocks_len)
 }
 
 fn bad_shape(heads: &[BlockHead], first: u64) -> Option<u64>
@@ -202,26 +203,23 @@ fn is_sized(head: &BlockHead) -> bool
     head.words <= head.rows && 8 * rows <= len && len <= 12 * rows
 }
 
-fn rows_in(heads: &[BlockHead]) -> u64
+// How many rows, and how many bytes, all blocks have.
+fn sums_of(heads: &[BlockHead]) -> (u64, u64)
     requires { length heads.now ≤ MAX_WORDS }
 
-    ensures { result ≡ sum_by (λ h. h.rows) heads.now }
+    ensures rows { result.0 ≡ sum_by (λ h. h.rows) heads.now }
+    ensures bytes { result.1 ≡ sum_by (λ h. h.len) heads.now }
 {
-    let mut sum: u64 = 0;
+    let mut rows: u64 = 0;
+    let mut bytes: u64 = 0;
     for head in heads {
-        sum += u64::from(head.rows);
+        let BlockHead {
+            rows: more,
+            len,
+            ..
+        } = *head;
+        rows += u64::from(more);
+        bytes += u64::from(len);
     }
-    sum
-}
-
-fn bytes_in(heads: &[BlockHead]) -> u64
-    requires { length heads.now ≤ MAX_WORDS }
-
-    ensures { result ≡ sum_by (λ h. h.len) heads.now }
-{
-    let mut sum: u64 = 0;
-    for head in heads {
-        sum += u64::from(head.len);
-    }
-    sum
+    (rows, bytes)
 }

@@ -67,7 +67,7 @@ fn cut_words(alloc: Global, bytes: &[u8], count: u32) -> Result<Seq<Word>, OpenF
 }
 
 // Where the word ends whose length byte stands at a place, if one does with its word.
-#[tactic(auto, using(crate::proofs::CutLemmas::front_at, crate::proofs::CutLemmas::front_end))]
+#[tactic(auto, using(crate::proofs::VocabularyCuts::front_at, crate::proofs::VocabularyCuts::front_end))]
 fn word_end(bytes: &[u8], at: usize) -> Option<usize>
     requires { at ≤ length bytes.now }
 

@@ -17,7 +17,7 @@ use Rattle.cs_model_index.specs.Layout.{title_bytes}
 use Rattle.cs_model_index.specs.Numbered.{post_of}
 use Rattle.cs_model_index.specs.Partitions.{is_facet}
 use Rattle.cs_build.proofs.LimitLemmas.{on_ok, has_limits}
-use Rattle.cs_build.proofs.ListingLemmas.{same_words}
+use Rattle.cs_build.proofs.MadeLemmas.{same_words}
 use Rattle.cs_build.proofs.WritableLemmas.{can_be_written}
 use Rattle.cs_build.proofs.building.image.Goals as goal
 

@@ -1,5 +1,5 @@
 use Rattle.std.proofs.Common.{sym, subst}
-use Rattle.cs_build.specs.Runs.{AreCountsBy}
+use Rattle.cs_build.specs.WordRuns.{AreCountsBy}
 use Rattle.cs_model_index.specs.Images.{count_in}
 use Rattle.cs_build.proofs.PartLemmas.{agree}
 use Rattle.cs_build.proofs.building.runs_of.Goals as goal

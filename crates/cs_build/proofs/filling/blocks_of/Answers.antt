@@ -2,7 +2,7 @@ use Rattle.std.proofs.Common.{◌≤◌, ◌+◌, take, sym, ap, subst, ◌∙�
 use Rattle.std.proofs.lemmas.List.{take_all, with_items_is}
 use Rattle.std.proofs.lemmas.List.Elements.{All-get_or}
 use Rattle.cs_vocab.specs.Ranges.{IsBelow}
-use Rattle.cs_build.specs.Runs.{AreFilled, posts_by}
+use Rattle.cs_build.specs.WordRuns.{AreFilled, posts_by}
 use Rattle.cs_build.proofs.FillLemmas.{place_at, places_many, filled_many, posts_many, post_at, roomy, pushed, all_posts}
 use Rattle.cs_build.proofs.filling.blocks_of.Goals as goal
 

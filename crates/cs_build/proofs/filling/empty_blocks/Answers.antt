@@ -1,6 +1,6 @@
 use Rattle.std.proofs.Common.{◌≡◌, [], ◌∷◌, ◌++◌, sym, subst, ◌∙◌, take, get_or, arith}
 use Rattle.std.proofs.lemmas.List.{take_all, take_more}
-use Rattle.cs_build.specs.Runs.{AreFilled}
+use Rattle.cs_build.specs.WordRuns.{AreFilled}
 use Rattle.cs_build.specs.declared.parting.Run.{Run}
 use Rattle.cs_build.proofs.FillLemmas.{one_block}
 use Rattle.cs_build.proofs.filling.empty_blocks.Goals as goal

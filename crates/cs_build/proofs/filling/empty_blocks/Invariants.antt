@@ -1,5 +1,5 @@
 use Rattle.std.proofs.Common.{take, []}
-use Rattle.cs_build.specs.Runs.{AreFilled}
+use Rattle.cs_build.specs.WordRuns.{AreFilled}
 use Rattle.cs_build.proofs.filling.empty_blocks.Given as goal
 
 abbrev pub invariant-loop-run : goal.invariant-loop-run

@@ -1,6 +1,6 @@
 use Rattle.std.proofs.Common.{◌+◌, ◌++◌, refl, sym, ap, subst, ◌∙◌, append-nil, arith, get_or}
 use Rattle.std.proofs.lemmas.List.{drop_all}
-use Rattle.cs_build.specs.Runs.{places_from}
+use Rattle.cs_build.specs.WordRuns.{places_from}
 use Rattle.cs_build.proofs.FillLemmas.{NextPlaces, span_ends, next_places}
 use Rattle.cs_build.proofs.filling.places_of.Goals as goal
 

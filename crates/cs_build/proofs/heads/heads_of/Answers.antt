@@ -4,8 +4,8 @@ use Rattle.std.proofs.lemmas.List.{take_all}
 use Rattle.cs_base.specs.declared.index.block.BlockHead.{BlockHead}
 use Rattle.cs_cols.specs.declared.cols.Cols.{Cols}
 use Rattle.cs_model_index.specs.Partitions.{is_facet}
-use Rattle.cs_build.specs.Runs.{run_head}
-use Rattle.cs_build.proofs.HeadLemmas.{head_is, head_more, pairs_many}
+use Rattle.cs_build.specs.WordRuns.{run_head}
+use Rattle.cs_build.proofs.RunHeads.{head_is, head_more, pairs_many}
 use Rattle.cs_build.proofs.heads.heads_of.Goals as goal
 
 pub loop-i-preserved : goal.loop-i-preserved

@@ -1,6 +1,6 @@
 use Rattle.std.proofs.Common.{◌≡◌, map, take}
 use Rattle.std.specs.List.{zip}
-use Rattle.cs_build.specs.Runs.{run_head}
+use Rattle.cs_build.specs.WordRuns.{run_head}
 use Rattle.cs_build.proofs.heads.heads_of.Given as goal
 
 abbrev pub invariant-loop-i : goal.invariant-loop-i

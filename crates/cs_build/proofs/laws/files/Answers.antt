@@ -3,7 +3,7 @@ use Rattle.cs_model_index.proofs.AcceptedLemmas.{files_follow_blocks}
 use Rattle.cs_model_index.proofs.ImageLimits.{files_accepted}
 use Rattle.cs_model_index.proofs.ReadCorpora.{corpora_read}
 use Rattle.cs_model_index.proofs.ReadImages.{images_read}
-use Rattle.cs_build.proofs.FileLemmas.{files_of_collections}
+use Rattle.cs_build.proofs.CollectionFiles.{files_of_collections}
 use Rattle.cs_build.proofs.laws.files.Goals as goal
 
 pub returns-clause-accepted : goal.returns-clause-accepted

@@ -5,7 +5,7 @@ use Rattle.std.proofs.lemmas.Grind.{get_or_default_zero}
 use Rattle.std.proofs.lemmas.List.{take_all}
 use Rattle.std.proofs.lemmas.List.Elements.{All-get_or}
 use Rattle.cs_vocab.specs.Ranges.{IsBelow}
-use Rattle.cs_build.proofs.CountLemmas.{AreCounted, few_counted, none_counted, one_counted}
+use Rattle.cs_build.proofs.NumberCounts.{AreCounted, few_counted, none_counted, one_counted}
 use Rattle.cs_build.proofs.parting.counts_of.Goals as goal
 
 pub index_mut-requires : goal.index_mut-requires

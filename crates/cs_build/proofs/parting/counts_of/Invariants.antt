@@ -1,4 +1,4 @@
-use Rattle.cs_build.proofs.CountLemmas.{AreCounted}
+use Rattle.cs_build.proofs.NumberCounts.{AreCounted}
 use Rattle.cs_build.proofs.parting.counts_of.Given as goal
 
 abbrev pub invariant-loop-number : goal.invariant-loop-number

@@ -1,8 +1,8 @@
 use Rattle.std.proofs.Common.{◌+◌, ◌<◌, ◌∷◌, [], ◌++◌, sym, ◌∙◌, subst, arith, ap, length}
 use Rattle.std.proofs.lemmas.Bool.Decides.{nat_tests}
-use Rattle.cs_build.specs.Runs.{AreParted}
+use Rattle.cs_build.specs.WordRuns.{AreParted}
 use Rattle.cs_build.specs.declared.parting.Run.{Run}
-use Rattle.cs_build.proofs.CutLemmas.{IsCutting, begun, longer_run, next_run, last_run}
+use Rattle.cs_build.proofs.PartitionCuts.{IsCutting, begun, longer_run, next_run, last_run}
 use Rattle.cs_build.proofs.parting.parted.Goals as goal
 use Rattle.cs_build.proofs.parting.parted.Goals.{then-has_room, else-has_room+in_ok-push}
 

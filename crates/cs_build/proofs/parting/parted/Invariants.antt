@@ -1,7 +1,7 @@
 use Rattle.std.proofs.Common.{◌<◌, length}
 use Rattle.cs_model_index.specs.Partitions.{Count}
-use Rattle.cs_build.specs.Runs.{AreCountsBy}
-use Rattle.cs_build.proofs.CutLemmas.{IsCutting}
+use Rattle.cs_build.specs.WordRuns.{AreCountsBy}
+use Rattle.cs_build.proofs.PartitionCuts.{IsCutting}
 use Rattle.cs_build.proofs.parting.parted.Given as goal
 
 abbrev pub invariant-loop-n : goal.invariant-loop-n

@@ -1,8 +1,7 @@
-use Rattle.std.proofs.Common.{◌+◌, ◌*◌}
 use Rattle.cs_model_index.specs.FileRules.{is_of_one_kind}
 use Rattle.cs_model_index.specs.declared.limits.TheConstants.{ENTRY_BYTES}
-use Rattle.cs_file.proofs.LaidLemmas.{Rest}
+use Rattle.cs_file.proofs.LaidLemmas.{RestOfEven}
 use Rattle.cs_file.proofs.directory.bad_kind.Given as goal
 
 abbrev pub invariant-loop-i : goal.invariant-loop-i
-invariant-loop-i l = Rest (λ i. is_of_one_kind l.words i.value) (λ h. ENTRY_BYTES) l.first l.heads l.i (l.first + 16 * l.i)
+invariant-loop-i l = RestOfEven (λ i. is_of_one_kind l.words i.value) ENTRY_BYTES l.first l.heads l.i

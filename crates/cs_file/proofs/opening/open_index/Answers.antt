@@ -1,16 +1,82 @@
-use Rattle.std.proofs.Common.{◌≡◌, sym, ap, subst, ◌∙◌, List, None, refl}
+use Rattle.std.proofs.Common.{◌≡◌, sym, ap, subst, ◌∙◌, ℕ, List, Some, None, refl}
 use Rattle.std.specs.Prelude.{All}
 use Rattle.cs_base.specs.declared.index.block.BlockHead.{BlockHead}
 use Rattle.cs_model_index.specs.Blocks.{IsShaped}
 use Rattle.cs_model_index.specs.FileRules.{tried}
+use Rattle.cs_model_index.specs.Layout.{Header}
 use Rattle.cs_model_index.specs.Sections.{directory_at}
 use Rattle.cs_file.specs.HeaderView.{seen_header}
 use Rattle.cs_file.specs.Indexes.{IndexView}
-use Rattle.cs_file.specs.Opening.{Refuses, blocks_of, HasHeads, HasVocabulary}
+use Rattle.cs_file.specs.Opening.{Refuses, blocks_of, blocks_stage, directory_stage, header_stage, parting_stage, titles_stage, vocabulary_stage, HasHeads, HasVocabulary}
 use Rattle.cs_file.specs.Parting.{parts_by}
-use Rattle.cs_file.proofs.OpenLemmas.{in_header, in_vocabulary, in_titles, in_directory, in_blocks, in_parting, damaged_along, Kept, index_kept, shaped_heads, few_rows, AllRead, index_is, stands_for, fits_store}
-use Rattle.cs_file.proofs.PartsLemmas.{part_breaks, parting_is}
+use Rattle.cs_file.proofs.OpeningStages.{in_header, in_vocabulary, in_titles, in_directory, in_blocks, in_parting, damaged_along, Kept, index_kept, shaped_heads, few_rows, AllRead, index_is, stands_for, fits_store}
+use Rattle.cs_file.proofs.BlockParts.{part_breaks, parting_is}
+use Rattle.cs_file.proofs.opening.open_index.Given as given
 use Rattle.cs_file.proofs.opening.open_index.Goals as goal
+use Rattle.cs_file.proofs.opening.open_index.Goals.{In_ok-parts, After-bad_part-place, After-blocks_at}
+
+-- each section was read, and its stage finds nothing
+record Passed (b : List ℕ) (h : Header) : Type 0 where
+  read : AllRead b h
+  header : header_stage b ≡ None
+  vocabulary : vocabulary_stage b ≡ None
+  titles : titles_stage b ≡ None
+  directory : directory_stage b ≡ None
+  blocks : blocks_stage b ≡ None
+
+passed : (g : given.Over) (c : In_ok-parts g) (b : List ℕ) → g.S.Store.bytes c.args.store.now ≡ Some b → Passed b (seen_header c.in_ok-header.header)
+passed g c b t =
+    let t1 = c.in_ok-header.ensures.bytes ∙ t in
+    let t2 = c.in_ok-words.ensures.bytes ∙ t1 in
+    let t3 = c.in_ok-offsets.ensures.bytes ∙ t2 in
+    let t4 = c.in_ok-heads.ensures.bytes ∙ t3 in
+    record {
+      read = record {
+        header = c.in_ok-header.ensures.small b t;
+        vocabulary = c.in_ok-words.ensures.small b t1;
+        offsets = c.in_ok-offsets.ensures.small b t2;
+        titles = c.in_ok-offsets.ensures.texts b t2;
+        directory = c.in_ok-heads.ensures.small b t3;
+        blocks = c.in_ok-parts.ensures.small b t4;
+      };
+      header = c.in_ok-header.ensures.exact b t;
+      vocabulary = c.in_ok-words.ensures.exact b t1;
+      titles = c.in_ok-offsets.ensures.exact b t2;
+      directory = c.in_ok-heads.ensures.exact b t3;
+      blocks = c.in_ok-parts.ensures.exact b t4;
+    }
+
+-- rule 18, by what is kept of each block
+parting : (g : given.Over) (c : After-bad_part-place g) (b : List ℕ) → g.S.Store.bytes c.args.store.now ≡ Some b → parting_stage b ≡ tried 18 c.bad_part-place.result
+parting g c b t =
+    let t1 = c.in_ok-header.ensures.bytes ∙ t in
+    let t3 = c.in_ok-offsets.ensures.bytes ∙ c.in_ok-words.ensures.bytes ∙ t1 in
+    let h = seen_header c.in_ok-header.header in
+    let heads = c.as_slice-2.ensures ∙ c.in_ok-heads.ensures.heads b t3 in
+    let parts = c.in_ok-parts.ensures.parts b (c.in_ok-heads.ensures.bytes ∙ t3) ∙ ap (λ hs. parts_by hs (blocks_of b)) heads in
+    let found : c.bad_part-place.result ≡ part_breaks h.target c.in_ok-words.words (directory_at h) None c.in_ok-parts.parts.items =
+    c.bad_part-place.ensures ∙ ap (λ ws. part_breaks h.target ws c.directory_at.result None c.deref.result.now) c.as_slice-3.ensures
+    ∙ ap (λ n. part_breaks h.target c.in_ok-words.words n None c.deref.result.now) c.directory_at.ensures.value ∙ ap (part_breaks h.target c.in_ok-words.words (directory_at h) None) c.deref.ensures.value in
+    parting_is b h c.in_ok-words.words c.in_ok-parts.parts.items (c.in_ok-header.ensures.told b t) (c.in_ok-words.ensures.words b t1) parts ∙ ap (tried 18) (sym found)
+
+-- what is kept, and that it goes by the rules of its sections
+abbrev view : (g : given.Over) → After-blocks_at g → IndexView
+view g c = record { docs = c.in_ok-header.header.docs; words = c.from_words.result; offsets = c.in_ok-offsets.offsets; heads = c.in_ok-heads.heads; target = c.in_ok-header.header.target; titles_at = c.titles_at.result; blocks_at = c.blocks_at.result }
+
+kept : (g : given.Over) (c : After-blocks_at g) → Kept (seen_header c.in_ok-header.header) (view g c)
+kept g c =
+    let h = seen_header c.in_ok-header.header in
+    let words = c.from_words.ensures in
+    record {
+      header = c.in_ok-header.ensures.ranges;
+      words = subst (HasVocabulary h) (sym words) c.in_ok-words.ensures.ruled;
+      offsets = c.in_ok-offsets.ensures.ruled;
+      heads = subst (λ ws. HasHeads h ws c.in_ok-heads.heads) (c.as_slice.ensures ∙ sym words) c.in_ok-heads.ensures.ruled;
+      docs = refl;
+      target = refl;
+      titles_place = c.titles_at.ensures.value;
+      blocks_place = c.blocks_at.ensures.value;
+    }
 
 pub returns-in_err-header-clause-damaged : goal.returns-in_err-header-clause-damaged
 returns-in_err-header-clause-damaged g c = λ b t. damaged_along b c.in_err-header.field-0.0 c.from_residual.result (in_header b c.in_err-header.field-0.0 (c.in_err-header.ensures.exact b t)) c.from_residual.ensures.1
@@ -51,79 +117,28 @@ read_blocks-requires-clause-rows g c = few_rows (seen_header c.in_ok-header.head
 
 pub returns-in_err-tried-clause-damaged : goal.returns-in_err-tried-clause-damaged
 returns-in_err-tried-clause-damaged g c = λ b t.
-    let t1 = c.in_ok-header.ensures.bytes ∙ t in
-    let t2 = c.in_ok-words.ensures.bytes ∙ t1 in
-    let t3 = c.in_ok-offsets.ensures.bytes ∙ t2 in
-    let t4 = c.in_ok-heads.ensures.bytes ∙ t3 in
-    let h = seen_header c.in_ok-header.header in
-    let is = c.in_ok-header.ensures.told b t in
-    let heads = c.as_slice-2.ensures ∙ c.in_ok-heads.ensures.heads b t3 in
-    let parts = c.in_ok-parts.ensures.parts b t4 ∙ ap (λ hs. parts_by hs (blocks_of b)) heads in
-    let stage = parting_is b h c.in_ok-words.words c.in_ok-parts.parts.items is (c.in_ok-words.ensures.words b t1) parts in
-    let found : c.bad_part-place.result ≡ part_breaks h.target c.in_ok-words.words (directory_at h) None c.in_ok-parts.parts.items =
-    c.bad_part-place.ensures ∙ ap (λ ws. part_breaks h.target ws c.directory_at.result None c.deref.result.now) c.as_slice-3.ensures
-    ∙ ap (λ n. part_breaks h.target c.in_ok-words.words n None c.deref.result.now) c.directory_at.ensures.value ∙ ap (part_breaks h.target c.in_ok-words.words (directory_at h) None) c.deref.ensures.value in
-    let refused = subst (λ o. Refuses o c.in_err-tried.field-0.0) (ap (tried 18) found ∙ sym stage) c.in_err-tried.ensures.judged in
-    damaged_along b c.in_err-tried.field-0.0 c.from_residual-in_err-tried.result (in_parting b c.in_err-tried.field-0.0 (c.in_ok-header.ensures.exact b t) (c.in_ok-words.ensures.exact b t1) (c.in_ok-offsets.ensures.exact b t2) (c.in_ok-heads.ensures.exact b t3) (c.in_ok-parts.ensures.exact b t4) refused) c.from_residual-in_err-tried.ensures.1
+    let from = goal.at.returns-in_err-tried-clause-damaged g c in
+    let p = passed g from.In_ok-parts b t in
+    let refused = subst (λ o. Refuses o c.in_err-tried.field-0.0) (sym (parting g from.After-bad_part-place b t)) c.in_err-tried.ensures.judged in
+    damaged_along b c.in_err-tried.field-0.0 c.from_residual-in_err-tried.result (in_parting b c.in_err-tried.field-0.0 p.header p.vocabulary p.titles p.directory p.blocks refused) c.from_residual-in_err-tried.ensures.1
 
--- what is kept
 pub invariant_of-result : goal.invariant_of-result
-invariant_of-result g c =
-    let h = seen_header c.in_ok-header.header in
-    let i : IndexView = record { docs = c.in_ok-header.header.docs; words = c.from_words.result; offsets = c.in_ok-offsets.offsets; heads = c.in_ok-heads.heads; target = c.in_ok-header.header.target; titles_at = c.titles_at.result; blocks_at = c.blocks_at.result } in
-    let words = c.from_words.ensures in
-    let kept : Kept h i = record {
-      header = c.in_ok-header.ensures.ranges;
-      words = subst (HasVocabulary h) (sym words) c.in_ok-words.ensures.ruled;
-      offsets = c.in_ok-offsets.ensures.ruled;
-      heads = subst (λ ws. HasHeads h ws c.in_ok-heads.heads) (c.as_slice.ensures ∙ sym words) c.in_ok-heads.ensures.ruled;
-      docs = refl;
-      target = refl;
-      titles_place = c.titles_at.ensures.value;
-      blocks_place = c.blocks_at.ensures.value;
-    } in
-    index_kept h i kept
+invariant_of-result g c = let all = (goal.at.invariant_of-result g c).After-blocks_at in index_kept (seen_header c.in_ok-header.header) (view g all) (kept g all)
 
 pub returns-clause-ok : goal.returns-clause-ok
 returns-clause-ok g c = λ b t.
+    let from = goal.at.returns-clause-ok g c in
+    let p = passed g from.In_ok-parts b t in
     let t1 = c.in_ok-header.ensures.bytes ∙ t in
     let t2 = c.in_ok-words.ensures.bytes ∙ t1 in
-    let t3 = c.in_ok-offsets.ensures.bytes ∙ t2 in
-    let t4 = c.in_ok-heads.ensures.bytes ∙ t3 in
     let h = seen_header c.in_ok-header.header in
+    let i = view g from.After-blocks_at in
     let is = c.in_ok-header.ensures.told b t in
-    let heads = c.as_slice-2.ensures ∙ c.in_ok-heads.ensures.heads b t3 in
-    let parts = c.in_ok-parts.ensures.parts b t4 ∙ ap (λ hs. parts_by hs (blocks_of b)) heads in
-    let stage = parting_is b h c.in_ok-words.words c.in_ok-parts.parts.items is (c.in_ok-words.ensures.words b t1) parts in
-    let found : c.bad_part-place.result ≡ part_breaks h.target c.in_ok-words.words (directory_at h) None c.in_ok-parts.parts.items =
-    c.bad_part-place.ensures ∙ ap (λ ws. part_breaks h.target ws c.directory_at.result None c.deref.result.now) c.as_slice-3.ensures
-    ∙ ap (λ n. part_breaks h.target c.in_ok-words.words n None c.deref.result.now) c.directory_at.ensures.value ∙ ap (part_breaks h.target c.in_ok-words.words (directory_at h) None) c.deref.ensures.value in
-    let i : IndexView = record { docs = c.in_ok-header.header.docs; words = c.from_words.result; offsets = c.in_ok-offsets.offsets; heads = c.in_ok-heads.heads; target = c.in_ok-header.header.target; titles_at = c.titles_at.result; blocks_at = c.blocks_at.result } in
-    let own = index_is b h i is refl (c.from_words.ensures ∙ c.in_ok-words.ensures.words b t1) (c.in_ok-offsets.ensures.offsets b t2) (c.in_ok-heads.ensures.heads b t3) refl c.titles_at.ensures.value c.blocks_at.ensures.value in
-    let read : AllRead b h = record {
-      header = c.in_ok-header.ensures.small b t;
-      vocabulary = c.in_ok-words.ensures.small b t1;
-      offsets = c.in_ok-offsets.ensures.small b t2;
-      titles = c.in_ok-offsets.ensures.texts b t2;
-      directory = c.in_ok-heads.ensures.small b t3;
-      blocks = c.in_ok-parts.ensures.small b t4;
-    } in
-    stands_for b h i is read (c.in_ok-header.ensures.exact b t) (c.in_ok-words.ensures.exact b t1) (c.in_ok-offsets.ensures.exact b t2) (c.in_ok-heads.ensures.exact b t3) (c.in_ok-parts.ensures.exact b t4) (stage ∙ ap (tried 18) (sym found) ∙ c.in_ok-tried.ensures.judged) own
+    let own = index_is b h i is refl (c.from_words.ensures ∙ c.in_ok-words.ensures.words b t1) (c.in_ok-offsets.ensures.offsets b t2) (c.in_ok-heads.ensures.heads b (c.in_ok-offsets.ensures.bytes ∙ t2)) refl c.titles_at.ensures.value c.blocks_at.ensures.value in
+    stands_for b h i is p.read p.header p.vocabulary p.titles p.directory p.blocks (parting g from.After-bad_part-place b t ∙ c.in_ok-tried.ensures.judged) own
 
 pub returns-clause-fits : goal.returns-clause-fits
 returns-clause-fits g c =
-    let h = seen_header c.in_ok-header.header in
-    let i : IndexView = record { docs = c.in_ok-header.header.docs; words = c.from_words.result; offsets = c.in_ok-offsets.offsets; heads = c.in_ok-heads.heads; target = c.in_ok-header.header.target; titles_at = c.titles_at.result; blocks_at = c.blocks_at.result } in
-    let words = c.from_words.ensures in
-    let kept : Kept h i = record {
-      header = c.in_ok-header.ensures.ranges;
-      words = subst (HasVocabulary h) (sym words) c.in_ok-words.ensures.ruled;
-      offsets = c.in_ok-offsets.ensures.ruled;
-      heads = subst (λ ws. HasHeads h ws c.in_ok-heads.heads) (c.as_slice.ensures ∙ sym words) c.in_ok-heads.ensures.ruled;
-      docs = refl;
-      target = refl;
-      titles_place = c.titles_at.ensures.value;
-      blocks_place = c.blocks_at.ensures.value;
-    } in
+    let all = (goal.at.returns-clause-fits g c).After-blocks_at in
     let same = c.in_ok-parts.ensures.bytes ∙ c.in_ok-heads.ensures.bytes ∙ c.in_ok-offsets.ensures.bytes ∙ c.in_ok-words.ensures.bytes ∙ c.in_ok-header.ensures.bytes in
-    λ b t. fits_store _ h i c.in_ok-header.ensures.told kept b (sym same ∙ t)
+    λ b t. fits_store _ (seen_header c.in_ok-header.header) (view g all) c.in_ok-header.ensures.told (kept g all) b (sym same ∙ t)

@@ -3,7 +3,7 @@ use Rattle.std.proofs.lemmas.List.{get_or_default}
 use Rattle.cs_model_index.specs.declared.limits.TheConstants.{ENTRY_BYTES}
 use Rattle.cs_file.specs.Parting.{keeps_part, no_part}
 use Rattle.cs_file.proofs.LaidLemmas.{Rest, rest_start, rest_on, rest_broken, rest_end}
-use Rattle.cs_file.proofs.PartsLemmas.{next_is}
+use Rattle.cs_file.proofs.BlockParts.{next_is}
 use Rattle.cs_file.proofs.parts.bad_part.Goals as goal
 
 pub loop-i-init : goal.loop-i-init

@@ -1,6 +1,6 @@
 use Rattle.std.proofs.Common.{sym, subst, ◌∙◌}
 use Rattle.cs_file.specs.Parting.{HasMarks}
-use Rattle.cs_file.proofs.MarksLemmas.{whole_is}
+use Rattle.cs_file.proofs.MarkedNumbers.{whole_is}
 use Rattle.cs_file.proofs.parts.part_of.Goals as goal
 
 pub returns-clause-whole : goal.returns-clause-whole

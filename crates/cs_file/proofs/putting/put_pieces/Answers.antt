@@ -1,6 +1,6 @@
 use Rattle.std.proofs.Common.{◌≡◌, ◌++◌, refl, ap, ◌∙◌, take, take-append-drop}
 use Rattle.cs_base.proofs.GrewLemmas.{grew_twice, on_err}
-use Rattle.cs_file.proofs.PutLemmas.{piece_told, piece_fails}
+use Rattle.cs_file.proofs.SinkPuts.{piece_told, piece_fails}
 use Rattle.cs_file.proofs.putting.put_pieces.Goals as goal
 
 pub loop-rest-preserved : goal.loop-rest-preserved

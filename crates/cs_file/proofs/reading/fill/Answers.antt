@@ -1,5 +1,5 @@
 use Rattle.std.proofs.Common.{◌-◌, ◌≤◌, length, ◌∙◌, arith, refl}
-use Rattle.cs_file.proofs.PiecesLemmas.{begun, one_more, piece_len, still_within, all_read}
+use Rattle.cs_file.proofs.FilledPieces.{begun, one_more, piece_len, still_within, all_read}
 use Rattle.cs_file.proofs.reading.fill.Goals as goal
 
 pub loop-done-init : goal.loop-done-init

@@ -1,5 +1,5 @@
 use Rattle.std.proofs.Common.{◌≡◌, ◌-◌, ◌≤◌, length}
-use Rattle.cs_file.proofs.PiecesLemmas.{HasRead}
+use Rattle.cs_file.proofs.FilledPieces.{HasRead}
 use Rattle.cs_file.proofs.reading.fill.Given as goal
 
 abbrev pub invariant-loop-done : goal.invariant-loop-done

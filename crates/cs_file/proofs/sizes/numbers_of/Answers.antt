@@ -6,7 +6,7 @@ use Rattle.cs_base.specs.declared.index.block.BlockHead.{BlockHead}
 use Rattle.cs_cols.specs.declared.cols.Cols.{Cols}
 use Rattle.cs_model_index.specs.Layout.{header_numbers, header_of_image, title_bytes}
 use Rattle.cs_file.specs.Writable.{BlockFits, CanBeWritten}
-use Rattle.cs_file.proofs.SizeLemmas.{blocks_len_is, rows_counted, same_numbers}
+use Rattle.cs_file.proofs.SectionSizes.{blocks_len_is, rows_counted, same_numbers}
 use Rattle.cs_file.proofs.sizes.numbers_of.Goals as goal
 
 pub blocks_len-requires : goal.blocks_len-requires

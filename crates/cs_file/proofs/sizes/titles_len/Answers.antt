@@ -1,5 +1,5 @@
 use Rattle.std.proofs.Common.{length, ap, arith}
-use Rattle.cs_file.proofs.SizeLemmas.{longer, titles_joined}
+use Rattle.cs_file.proofs.SectionSizes.{longer, titles_joined}
 use Rattle.cs_file.proofs.sizes.titles_len.Goals as goal
 
 pub overflow_cast-bytes : goal.overflow_cast-bytes

@@ -2,7 +2,7 @@ use Rattle.std.proofs.Common.{◌<◌, [], ◌∷◌, length, ap, ◌∙◌, ari
 use Rattle.std.specs.Prelude.{flat_map}
 use Rattle.std.proofs.lemmas.List.{take_all}
 use Rattle.cs_model_index.specs.Layout.{vocabulary_bytes}
-use Rattle.cs_file.proofs.SizeLemmas.{longer}
+use Rattle.cs_file.proofs.SectionSizes.{longer}
 use Rattle.cs_file.proofs.sizes.vocabulary_len.Goals as goal
 
 pub loop-n-preserved : goal.loop-n-preserved

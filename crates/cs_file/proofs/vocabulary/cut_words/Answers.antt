@@ -1,7 +1,7 @@
 use Rattle.std.proofs.Common.{sym, ap, subst, ◌∙◌}
 use Rattle.cs_model_index.specs.FileRules.{tried}
 use Rattle.cs_file.specs.Opening.{Refuses}
-use Rattle.cs_file.proofs.CutLemmas.{cuts_on, cut_short, cut_over, cut_all}
+use Rattle.cs_file.proofs.VocabularyCuts.{cuts_on, cut_short, cut_over, cut_all}
 use Rattle.cs_file.proofs.vocabulary.cut_words.Goals as goal
 
 pub returns-in_default-clause-exact : goal.returns-in_default-clause-exact

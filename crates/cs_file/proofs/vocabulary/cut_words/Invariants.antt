@@ -1,4 +1,4 @@
-use Rattle.cs_file.proofs.CutLemmas.{HasCut}
+use Rattle.cs_file.proofs.VocabularyCuts.{HasCut}
 use Rattle.cs_file.proofs.vocabulary.cut_words.Given as goal
 
 abbrev pub invariant-loop : goal.invariant-loop

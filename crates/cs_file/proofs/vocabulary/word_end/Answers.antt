@@ -1,6 +1,6 @@
 use Rattle.std.proofs.Common.{◌+◌, sym, ap, arith}
 use Rattle.std.specs.Option.{option_map}
-use Rattle.cs_file.proofs.CutLemmas.{front_end}
+use Rattle.cs_file.proofs.VocabularyCuts.{front_end}
 use Rattle.cs_file.proofs.vocabulary.word_end.Goals as goal
 
 pub returns-then-at-bytes-clause-value : goal.returns-then-at-bytes-clause-value

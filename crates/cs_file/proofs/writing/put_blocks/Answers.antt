@@ -8,8 +8,8 @@ use Rattle.cs_base.proofs.GrewLemmas.{on_err}
 use Rattle.cs_model_index.specs.Blocks.{block_bytes}
 use Rattle.cs_model_index.specs.Layout.{blocks_bytes}
 use Rattle.cs_file.specs.Writable.{BlockFits}
-use Rattle.cs_file.proofs.PutLemmas.{item_put, item_fails, items_put}
-use Rattle.cs_file.proofs.SizeLemmas.{pair_at, pairs_many}
+use Rattle.cs_file.proofs.SinkPuts.{item_put, item_fails, items_put}
+use Rattle.cs_file.proofs.SectionSizes.{pair_at, pairs_many}
 use Rattle.cs_file.proofs.writing.put_blocks.Goals as goal
 
 pub put_block-requires : goal.put_block-requires

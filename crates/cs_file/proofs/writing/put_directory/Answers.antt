@@ -2,7 +2,7 @@ use Rattle.std.proofs.Common.{refl, arith, ◌∙◌}
 use Rattle.std.specs.Prelude.{false}
 use Rattle.cs_base.proofs.GrewLemmas.{on_err}
 use Rattle.cs_model_index.specs.Layout.{entry_bytes, directory_bytes}
-use Rattle.cs_file.proofs.PutLemmas.{item_put, item_fails, items_put}
+use Rattle.cs_file.proofs.SinkPuts.{item_put, item_fails, items_put}
 use Rattle.cs_file.proofs.writing.put_directory.Goals as goal
 
 pub loop-head-preserved : goal.loop-head-preserved

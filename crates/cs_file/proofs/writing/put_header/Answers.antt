@@ -1,7 +1,7 @@
 use Rattle.std.specs.Prelude.{flat_map}
 use Rattle.cs_base.proofs.GrewLemmas.{on_err}
 use Rattle.cs_model_index.specs.Layout.{MAGIC, number_bytes, header_numbers, header_of_image, header_bytes}
-use Rattle.cs_file.proofs.PutLemmas.{then_ok, then_err, put_on, fails_first, fails_on}
+use Rattle.cs_file.proofs.SinkPuts.{then_ok, then_err, put_on, fails_first, fails_on}
 use Rattle.cs_file.proofs.writing.put_header.Goals as goal
 
 pub returns-in_err-put_bytes-clause-err : goal.returns-in_err-put_bytes-clause-err

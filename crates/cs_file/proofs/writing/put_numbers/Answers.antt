@@ -1,7 +1,7 @@
 use Rattle.std.proofs.Common.{refl, arith, ◌∙◌}
 use Rattle.cs_base.proofs.GrewLemmas.{on_err}
 use Rattle.cs_model_index.specs.Layout.{number_bytes}
-use Rattle.cs_file.proofs.PutLemmas.{item_put, item_fails, items_put}
+use Rattle.cs_file.proofs.SinkPuts.{item_put, item_fails, items_put}
 use Rattle.cs_file.proofs.writing.put_numbers.Goals as goal
 
 pub loop-number-preserved : goal.loop-number-preserved

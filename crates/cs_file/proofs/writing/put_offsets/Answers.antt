@@ -1,7 +1,7 @@
 use Rattle.std.proofs.Common.{◌+◌, length, refl, ap, ◌∙◌, arith}
 use Rattle.cs_base.proofs.GrewLemmas.{on_err}
 use Rattle.cs_file.proofs.OffsetLemmas.{first_number, first_fails, offset_put, offset_fails, all_offsets}
-use Rattle.cs_file.proofs.SizeLemmas.{longer, titles_joined}
+use Rattle.cs_file.proofs.SectionSizes.{longer, titles_joined}
 use Rattle.cs_file.proofs.writing.put_offsets.Goals as goal
 
 pub returns-in_err-put_bytes-clause-err : goal.returns-in_err-put_bytes-clause-err

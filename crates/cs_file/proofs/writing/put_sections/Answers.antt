@@ -6,7 +6,7 @@ use Rattle.cs_cols.specs.declared.cols.Cols.{Cols}
 use Rattle.cs_model_index.specs.Images.{Image}
 use Rattle.cs_model_index.specs.Layout.{file, header_bytes, header_of_image, vocabulary_bytes, offset_bytes, title_bytes, directory_bytes, blocks_bytes}
 use Rattle.cs_file.specs.Putting.{HasPut}
-use Rattle.cs_file.proofs.PutLemmas.{then_ok, then_err, put_on, fails_first, fails_on}
+use Rattle.cs_file.proofs.SinkPuts.{then_ok, then_err, put_on, fails_first, fails_on}
 use Rattle.cs_file.proofs.writing.put_sections.Goals as goal
 
 -- the sections of an image's file, by what was lent of it

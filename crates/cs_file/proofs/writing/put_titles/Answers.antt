@@ -1,6 +1,6 @@
 use Rattle.std.proofs.Common.{refl, arith, ◌∙◌, []}
 use Rattle.cs_base.proofs.GrewLemmas.{on_err}
-use Rattle.cs_file.proofs.PutLemmas.{item_put, item_fails, items_put, as_titles, titles_fail}
+use Rattle.cs_file.proofs.SinkPuts.{item_put, item_fails, items_put, as_titles, titles_fail}
 use Rattle.cs_file.proofs.writing.put_titles.Goals as goal
 
 pub loop-title-preserved : goal.loop-title-preserved

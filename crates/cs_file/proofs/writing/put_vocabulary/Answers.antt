@@ -1,7 +1,7 @@
 use Rattle.std.proofs.Common.{refl, sym, ap, arith, ◌∙◌, length, get_or, [], ◌∷◌}
 use Rattle.cs_base.proofs.GrewLemmas.{on_err}
 use Rattle.cs_model_index.specs.Layout.{vocabulary_bytes}
-use Rattle.cs_file.proofs.PutLemmas.{item_put, item_fails, items_put}
+use Rattle.cs_file.proofs.SinkPuts.{item_put, item_fails, items_put}
 use Rattle.cs_file.proofs.writing.put_vocabulary.Goals as goal
 
 pub loop-n-preserved : goal.loop-n-preserved

@@ -1,6 +1,6 @@
 use Rattle.std.proofs.Common.{◌∷◌, []}
 use Rattle.cs_base.proofs.GrewLemmas.{on_err}
-use Rattle.cs_file.proofs.PutLemmas.{then_ok, then_err, put_on, fails_first, fails_on}
+use Rattle.cs_file.proofs.SinkPuts.{then_ok, then_err, put_on, fails_first, fails_on}
 use Rattle.cs_file.proofs.writing.put_word.Goals as goal
 
 pub returns-in_err-put_bytes-clause-err : goal.returns-in_err-put_bytes-clause-err

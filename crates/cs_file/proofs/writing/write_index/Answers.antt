@@ -1,7 +1,7 @@
 use Rattle.std.proofs.Common.{◌++◌, subst}
 use Rattle.cs_base.specs.outside.Outside.{GrewByPrefix}
 use Rattle.cs_model_index.specs.Layout.{file}
-use Rattle.cs_file.proofs.PutLemmas.{then_err, put_begun}
+use Rattle.cs_file.proofs.SinkPuts.{then_err, put_begun}
 use Rattle.cs_file.proofs.writing.write_index.Goals as goal
 
 pub returns-clause-err : goal.returns-clause-err

@@ -15,7 +15,7 @@ use Rattle.cs_model_index.specs.Layout.{title_bytes}
 use Rattle.cs_model_index.specs.declared.limits.TheConstants.{TARGET as BLOCK_ROWS}
 use Rattle.cs_model_index.proofs.ImageLemmas.{titles_listed}
 use Rattle.cs_build.proofs.CollectionLemmas.{collection_is, collection_made}
-use Rattle.cs_build.proofs.FileLemmas.{files_of_collections}
+use Rattle.cs_build.proofs.CollectionFiles.{files_of_collections}
 use Rattle.cs_build.proofs.TitleLemmas.{titles_few}
 use Rattle.cs_top.proofs.collection.image_of.Goals as goal
 

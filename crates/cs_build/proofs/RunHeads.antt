@@ -9,7 +9,7 @@ use Rattle.cs_cols.specs.declared.cols.Cols.{Cols}
 use Rattle.cs_model_index.specs.Blocks.{block_bytes}
 use Rattle.cs_model_index.specs.Numbered.{word_at}
 use Rattle.cs_model_index.specs.Partitions.{is_facet}
-use Rattle.cs_build.specs.Runs.{run_head}
+use Rattle.cs_build.specs.WordRuns.{run_head}
 use Rattle.cs_build.specs.declared.parting.Run.{Run}
 
 pub pairs_many : (runs : List Run) (bs : List (List Post)) → length (zip runs bs) ≤ length runs

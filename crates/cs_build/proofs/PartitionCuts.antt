@@ -17,7 +17,7 @@ use Rattle.cs_model.specs.Words.{is_filled}
 use Rattle.cs_model_index.specs.Numbered.{word_at}
 use Rattle.cs_model_index.specs.Partitions.{Count, kind_of, is_alike, is_one_kind, rows_of_run, is_light, is_run, is_full, is_ended, IsPartition}
 use Rattle.cs_model_index.specs.declared.limits.TheConstants.{MAX_BLOCK_WORDS}
-use Rattle.cs_build.specs.Runs.{runs_from, AreParted}
+use Rattle.cs_build.specs.WordRuns.{runs_from, AreParted}
 use Rattle.cs_build.specs.declared.parting.Run.{Run}
 
 abbrev Part : Type 0

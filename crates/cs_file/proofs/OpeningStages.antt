@@ -138,47 +138,25 @@ all_lens : (i : IndexView) → sum_by (λ h. h.len) (take (length i.heads) i.hea
 all_lens i = ap (sum_by (λ h. h.len)) (take_all (length i.heads) i.heads (omega arith))
 
 pub index_kept : (h : Header) (i : IndexView) → Kept h i → IsIndex i
-index_kept h i k =
-    let docs = k.docs in
-    let few_docs = k.header.docs in
-    let few_words = k.header.words in
-    let few_blocks = k.header.blocks in
-    let count = k.words.count in
-    let len = k.words.len in
-    let offsets = k.offsets.count in
-    let end = k.offsets.end in
-    let blocks = k.heads.count in
-    let titles = k.titles_place in
-    let place = k.blocks_place in
-    let rows = k.heads.rows in
-    let few_rows = k.header.rows in
-    let vocabulary = k.header.vocabulary in
-    let texts = k.header.titles in
-    let bytes = k.heads.bytes in
-    let small = k.header.postings in
-    let lens = all_lens i in
-    let target = k.target in
-    let from = k.header.target_from in
-    let to = k.header.target_to in
-    record {
-      few_docs = omega (arith, docs, few_docs);
-      few_words = omega (arith, count, few_words);
-      words = k.words.words;
-      ascending = k.words.ascending;
-      target_from = omega (arith, target, from);
-      target_to = omega (arith, target, to);
-      offsets = omega (arith, offsets, docs);
-      onward = k.offsets.onward;
-      joined = k.heads.joined;
-      end = k.heads.end ∙ sym count;
-      kinds = k.heads.kinds;
-      facets = k.heads.facets;
-      sized = k.heads.sized;
-      few_rows = omega (arith, rows, few_rows);
-      titles_place = omega (arith, titles, len, docs);
-      blocks_place = omega (arith, titles, place, end, blocks);
-      small = omega (arith, place, few_docs, few_words, few_blocks, vocabulary, texts, small, bytes, lens);
-    }
+index_kept h i k = record {
+  few_docs = omega (arith, k.docs, k.header.docs);
+  few_words = omega (arith, k.words.count, k.header.words);
+  words = k.words.words;
+  ascending = k.words.ascending;
+  target_from = omega (arith, k.target, k.header.target_from);
+  target_to = omega (arith, k.target, k.header.target_to);
+  offsets = omega (arith, k.offsets.count, k.docs);
+  onward = k.offsets.onward;
+  joined = k.heads.joined;
+  end = k.heads.end ∙ sym k.words.count;
+  kinds = k.heads.kinds;
+  facets = k.heads.facets;
+  sized = k.heads.sized;
+  few_rows = omega (arith, k.heads.rows, k.header.rows);
+  titles_place = omega (arith, k.titles_place, k.words.len, k.docs);
+  blocks_place = omega (arith, k.titles_place, k.blocks_place, k.offsets.end, k.heads.count);
+  small = omega (arith, k.blocks_place, k.header.docs, k.header.words, k.header.blocks, k.header.vocabulary, k.header.titles, k.header.postings, k.heads.bytes, all_lens i);
+}
 
 -- ---- the heads
 -- heads by the rules, as a part of an index
