@@ -16,6 +16,7 @@ pub mod PiecesLemmas
 pub mod PostingsLemmas
 pub mod PostsLemmas
 pub mod PutLemmas
+pub mod ScoredLemmas
 pub mod SizeLemmas
 pub mod StagesLemmas
 pub mod StoodLemmas

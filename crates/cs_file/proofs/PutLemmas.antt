@@ -9,9 +9,7 @@
 --   fails_on        what was put before goes in front
 --   item_put, item_fails      one more item of a list, and one whose put fails
 use Rattle.std.proofs.Common.{◌≡◌, ℕ, suc, ◌+◌, ◌<◌, ◌≤◌, List, [], ◌∷◌, ◌++◌, length, take, drop, get_or, append_assoc, append-nil, drop-cons, refl, sym, ◌∙◌, ap, subst}
-use Rattle.std.specs.Prelude.{Option, Some, None, Result, Ok, Err, OnOk, OnErr, flat_map}
-use Rattle.std.specs.Option.{option_map}
-use Rattle.std.proofs.Math.Seq.{take-append_seam, take-append-add, take-length}
+use Rattle.std.specs.Prelude.{Option, Result, Ok, Err, OnOk, OnErr, flat_map}
 use Rattle.std.proofs.lemmas.Grind.{flat_map-append}
 use Rattle.std.proofs.lemmas.List.{take_all, take_more, take-append-drop}
 use Rattle.std.proofs.lemmas.List.Concat.{flat_map-cons}
