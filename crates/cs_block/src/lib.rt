@@ -25,4 +25,4 @@ pub use decoding::{decode, decode_reserved};
 pub use doc_words::read_doc_words;
 pub use encoding::encode;
 pub use fault::BlockFault;
-pub use positions::read_positions;
+pub use positions::{read_positions, read_scores};

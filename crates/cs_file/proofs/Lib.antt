@@ -14,6 +14,7 @@ pub mod OffsetsLemmas
 pub mod OpeningStages
 pub mod PostingsLemmas
 pub mod PostsLemmas
+pub mod ScoredLemmas
 pub mod SectionSizes
 pub mod SinkPuts
 pub mod StagesLemmas

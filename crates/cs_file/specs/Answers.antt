@@ -6,6 +6,7 @@
 --   is_read_of_open r, is_read_of_fetch r, is_sink r, is_changed_of_fetch r      the answer is a failed read, a failed sink, a change
 --   HasBlock i told k old new      posts were added that are those of block k, read of the bytes that the store tells
 --   AreOf posts docs words         the documents and the words of posts
+--   AreScoredOf posts docs words scores      with their scores
 --   posts_in f              the posts of a block that was read into columns
 --   IsRanged i p            the numbers of a post are in range
 --   BreaksBlock i told k rule at, IsChangeOfBlock i told k e     the first rule that the bytes of block k break, with its place in the file
@@ -66,6 +67,10 @@ pub record HasBlock (i : IndexView) (told : Option (List ℕ)) (k : ℕ) (old ne
 -- one of each for each post
 abbrev pub AreOf : List Post → List ℕ → List ℕ → Type 0
 AreOf posts docs words = (docs ≡ map (λ p. p.doc) posts) × (words ≡ map (λ p. p.word) posts)
+
+-- the same with scores
+abbrev pub AreScoredOf : List Post → List ℕ → List ℕ → List ℕ → Type 0
+AreScoredOf posts docs words scores = AreOf posts docs words × (scores ≡ map (λ p. p.score) posts)
 
 -- of columns that aren't even as many as the shortest has
 abbrev pub posts_in : Fetched → List Post

@@ -4,6 +4,7 @@
 --
 --   IsPlaced i told k placed read      the bytes of block k were read, and what is known of it
 --   AreColumns placed read docs words positions scores, HasPosts placed read f      columns have the posts of a block whose bytes were read
+--   HasScored placed read f            columns have the documents, words and scores of its posts
 --   DecodesAt at broken r     the answer where this is the first rule that a block at a place breaks, if there is one
 --   ReadsText bytes at r      the text of these bytes, or that rule 9 is broken at the place
 use Rattle.std.specs.Prelude.{◌≡◌, ℕ, ◌^◌, ◌<◌, true, false, List, length, slice_index_or, Option, None, Some, Result, Ok, Err}
@@ -13,7 +14,7 @@ use Rattle.cs_base.specs.declared.index.block.BlockHead.{BlockHead}
 use Rattle.cs_base.specs.declared.index.block.Broken.{Broken}
 use Rattle.cs_base.specs.outside.Outside.{part}
 use Rattle.cs_block.specs.DocWords.{HasDocWords}
-use Rattle.cs_block.specs.Positions.{HasPositions}
+use Rattle.cs_block.specs.Positions.{HasPositions, HasScores}
 use Rattle.cs_model_index.specs.BlockRules.{broken_at}
 use Rattle.cs_model_index.specs.FileRules.{in_file}
 use Rattle.cs_file.specs.Indexes.{IndexView, IsIndex, block_place}
@@ -41,6 +42,11 @@ pub record AreColumns (placed : Placed) (read docs words positions scores : List
 -- these are four of its fields
 abbrev pub HasPosts : Placed → List ℕ → Fetched → Type 0
 HasPosts placed read f = AreColumns placed read f.docs.items f.words.items f.positions.items f.scores.items
+
+-- the documents, words and scores of a block whose bytes were read
+pub record HasScored (placed : Placed) (read : List ℕ) (f : Fetched) : Type 0 where
+  pub listed : HasDocWords placed.head placed.docs read f.docs.items f.words.items
+  pub scored : HasScores placed.head read f.scores.items
 
 -- Ok where no rule is broken; memory may always run out, and a failed read says nothing
 abbrev pub DecodesAt : ℕ → Option Broken → Result (Unit {0}) FetchFault → Type 0

@@ -4,6 +4,7 @@ ghost use Rattle.std.specs.List.{sum_by};
 ghost use Rattle.std.specs.Option.{ForSome};
 ghost use Rattle.cs_base.specs.declared.content.doc.Post.{Post};
 ghost use Rattle.cs_base.specs.declared.content.limits.TheConstants.{MAX_WORDS};
+ghost use Rattle.cs_base.specs.declared.content.scores.TheConstants.{TITLE_SCORE};
 ghost use Rattle.cs_base.specs.outside.Causes.{ReadsWithin};
 ghost use Rattle.cs_base.specs.outside.Outside.{part};
 ghost use Rattle.cs_block.specs.DocWords.{HasDocWords};
@@ -11,8 +12,8 @@ ghost use Rattle.cs_model.specs.Scores.{SCORES};
 ghost use Rattle.cs_model_index.specs.BlockRules.{IsBlock, judged};
 ghost use Rattle.cs_model_index.specs.Blocks.{IsShaped};
 ghost use Rattle.cs_cols.specs.Held.{AreEven};
-ghost use Rattle.cs_file.specs.Answers.{AreOf, HasBlock, IsChangeOfBlock, IsChangeOfTitle, IsRanged, is_read_of_fetch, is_changed_of_fetch, posts_in};
-ghost use Rattle.cs_file.specs.Fetching.{DecodesAt, HasPosts, IsPlaced, ReadsText};
+ghost use Rattle.cs_file.specs.Answers.{AreOf, HasBlock, IsChangeOfBlock, IsChangeOfTitle, IsRanged, AreScoredOf, is_read_of_fetch, is_changed_of_fetch, posts_in};
+ghost use Rattle.cs_file.specs.Fetching.{DecodesAt, HasPosts, HasScored, IsPlaced, ReadsText};
 ghost use Rattle.cs_file.specs.Indexes.{StandsFor, Fits, CausedReads, block_place, block_posts, title_in, title_place, title_len};
 
 use crate::fault::FetchFault;
@@ -20,7 +21,7 @@ use crate::fetched::Fetched;
 use crate::index::Index;
 use crate::reading::{fit, read_at_once};
 use cs_base::{BlockHead, Memory, Store, Text};
-use cs_block::{BlockFault, decode, read_doc_words, read_positions};
+use cs_block::{BlockFault, decode, read_doc_words, read_positions, read_scores};
 use cs_cols::Cols;
 use std::alloc::Global;
 
@@ -88,6 +89,36 @@ impl Index {
     {
         let placed = self.read_block(store, k, &mut into.bytes)?;
         posts_at(alloc, &placed, into)
+    }
+
+    /// Reads the documents, the words and the scores of the posts of block `k` in place of those that `into` holds, from the store
+    /// from which the index was opened. Positions aren't looked at. Where it fails `into` holds anything.
+    pub fn fetch_scored<S: Store>(
+        &self,
+        alloc: Global,
+        store: &mut S,
+        k: u32,
+        into: &mut Fetched,
+    ) -> Result<(), FetchFault>
+        requires in_range { k < length self.now.heads }
+        requires fits { Fits (S.bytes store.old) self.now }
+
+        // over every store they are in range, and over one that tells they are read there
+        ensures words_even { OnOk result (length into.new.words.items ≡ length into.new.docs.items) }
+        ensures scores_even { OnOk result (length into.new.scores.items ≡ length into.new.docs.items) }
+        ensures docs { OnOk result (All (λ d. d < self.now.docs) into.new.docs.items) }
+        ensures words { OnOk result (All (λ w. w < length self.now.words) into.new.words.items) }
+        ensures scores { OnOk result (All (λ s. s ≤ TITLE_SCORE) into.new.scores.items) }
+        ensures stood { ForSome (S.bytes store.old) (λ b. StandsFor b self.now → OnOk result (AreScoredOf (block_posts b k) into.new.docs.items into.new.words.items into.new.scores.items)) }
+        ensures changed { IfErr result (IsChangeOfBlock self.now (S.bytes store.old) k) }
+        ensures unchanged { ForSome (S.bytes store.old) (λ b. StandsFor b self.now → is_changed_of_fetch result ≡ false) }
+        ensures bytes { S.bytes store.new ≡ S.bytes store.old }
+        ensures lent { S.lent store.new ≡ S.lent store.old }
+        ensures reads { ReadsWithin 1 (S.reads store.old) (S.reads store.new) }
+        ensures caused { CausedReads (is_read_of_fetch result) (S.faults store.old) (S.faults store.new) }
+    {
+        let placed = self.read_block(store, k, &mut into.bytes)?;
+        scored_at(alloc, &placed, into)
     }
 
     /// Reads the documents and the words of the posts of block `k` in place of those that `into` holds, from the store from
@@ -291,6 +322,36 @@ fn list_columns(placed: &Placed, into: &mut Fetched) -> Result<bool, Memory>
         &mut into.docs,
         &mut into.words,
     )?;
+    Ok(whole)
+}
+
+// The same of documents, words and scores alone.
+fn scored_at(alloc: Global, placed: &Placed, into: &mut Fetched) -> Result<(), FetchFault>
+    requires shaped { IsShaped placed.now.head (length into.old.bytes.items) }
+    requires places { placed.now.at < 2 ^ 63 }
+    requires few { placed.now.docs < 2 ^ 32 }
+
+    ensures ok { OnOk result (HasScored placed.now into.old.bytes.items into.new) }
+    ensures exact { IfErr result (λ fault. DecodesAt placed.now.at (judged SCORES placed.now.head placed.now.docs into.old.bytes.items) (Err fault)) }
+    ensures unread { is_read_of_fetch result ≡ false }
+{
+    if score_columns(placed, into)? {
+        return Ok(());
+    }
+    decode_columns(alloc, placed, into)
+}
+
+// Puts the documents, words and scores of a block, whose bytes were read, into columns. False where one isn't in range.
+fn score_columns(placed: &Placed, into: &mut Fetched) -> Result<bool, Memory>
+    requires shaped { IsShaped placed.now.head (length into.old.bytes.items) }
+
+    ensures ok { IfOk result (λ whole. whole ≡ true → HasScored placed.now into.old.bytes.items into.new) }
+    ensures bytes { into.new.bytes ≡ into.old.bytes }
+{
+    if !list_columns(placed, into)? {
+        return Ok(false);
+    }
+    let whole = read_scores(&into.bytes, &placed.head, &mut into.scores)?;
     Ok(whole)
 }
 
