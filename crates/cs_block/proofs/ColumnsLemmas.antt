@@ -15,7 +15,7 @@ use Rattle.cs_base.specs.declared.content.doc.Post.{Post}
 use Rattle.cs_gaps.proofs.CodesLemmas.{IsBytes, first_found, found_first}
 use Rattle.cs_model_index.specs.Blocks.{gap_column, word_column, position_column, score_column}
 use Rattle.cs_model_index.specs.BlockRules.{gap_number, gap_len, codes_break, item_row, doc_before, row_at, items_in}
-use Rattle.cs_block.specs.Spelling.{HasSpelling}
+use Rattle.cs_block.specs.BlockSpelling.{HasSpelling}
 use Rattle.cs_gaps.proofs.CodesLemmas.{IsBytes-drop}
 
 pub IsBytes-take : (n : ℕ) (bytes : List ℕ) → IsBytes bytes → IsBytes (take n bytes)

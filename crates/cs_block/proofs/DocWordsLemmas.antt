@@ -13,7 +13,7 @@ use Rattle.cs_base.specs.declared.content.doc.Post.{Post}
 use Rattle.cs_model_index.specs.BlockRules.{BlockColumns, Item, block_columns, block_items, doc_before, item_row, row_at, rows_read}
 use Rattle.cs_block.specs.DocWords.{HasDocWords, IsListable}
 use Rattle.cs_block.specs.Pass.{items_from}
-use Rattle.cs_block.specs.Runs.{AreWords, HasDocs, HaveDocs, doc_after, place_after}
+use Rattle.cs_block.specs.RowRuns.{AreWords, HasDocs, HaveDocs, doc_after, place_after}
 use Rattle.cs_block.proofs.ItemsLemmas.{items_end, items_on, items_start, rows_cut}
 use Rattle.cs_block.proofs.RunsLemmas.{doc_on}
 

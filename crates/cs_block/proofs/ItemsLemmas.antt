@@ -22,7 +22,7 @@ use Rattle.cs_model.specs.Scores.{SCORES}
 use Rattle.cs_model_index.specs.BlockRules.{codes_break, Item, item_row, doc_before, row_at, items_in, gap_bytes, Rule, rules, in_docs, in_words, in_kind, in_order, first_break, broken_at, first_broken, BlockColumns, block_items, block_columns, judged_columns, judged, rows_read}
 use Rattle.cs_model.proofs.FirstLemmas.{first-cons}
 use Rattle.cs_block.specs.Pass.{items_from, Keeps}
-use Rattle.cs_block.specs.Reading.{GapHere}
+use Rattle.cs_block.specs.BlockReading.{GapHere}
 use Rattle.cs_block.proofs.ColumnsLemmas.{items_step, codes_step}
 
 pub left_from : (gaps : List ℕ) (at n next : ℕ) (h : GapHere gaps at n next) → drop (length (code n)) (drop at gaps) ≡ drop next gaps

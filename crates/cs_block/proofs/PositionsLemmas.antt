@@ -13,7 +13,7 @@ use Rattle.cs_base.specs.declared.content.doc.Post.{Post}
 use Rattle.cs_model.specs.Scores.{SCORES}
 use Rattle.cs_model_index.specs.BlockRules.{BlockColumns, block_columns, block_items, doc_before, gap_len, gap_number, is_scored, item_row, items_in, row_at, rows_read}
 use Rattle.cs_block.specs.Positions.{HasPositions, HasScores}
-use Rattle.cs_block.specs.Runs.{ArePositions, AreScores, is_position, is_score}
+use Rattle.cs_block.specs.RowRuns.{ArePositions, AreScores, is_position, is_score}
 
 -- the positions and the scores of rows, each of a kind
 record AreAlong (facet : Bool) (ps ss : List ℕ) (rs : List Post) : Type 0 where

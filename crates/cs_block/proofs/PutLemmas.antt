@@ -10,7 +10,7 @@ use Rattle.std.proofs.lemmas.List.{append-nil, take-append-le, length-take, take
 use Rattle.cs_base.specs.index.GapCode.{code}
 use Rattle.cs_base.specs.declared.content.doc.Post.{Post}
 use Rattle.cs_model_index.specs.Blocks.{gap_column, word_column, position_column, score_column, block_bytes}
-use Rattle.cs_block.specs.Spelling.{HasWords, IsAscending}
+use Rattle.cs_block.specs.BlockSpelling.{HasWords, IsAscending}
 
 -- all that is to stand there is what stands there and a rest; and what stood there first still does
 pub record IsPutting (all first now rest : List ℕ) : Type 0 where

@@ -20,7 +20,7 @@ use Rattle.cs_base.proofs.MembersLemmas.{all_then}
 use Rattle.cs_model.specs.Scores.{SCORES}
 use Rattle.cs_model_index.specs.Blocks.{AreWritable}
 use Rattle.cs_model_index.specs.BlockRules.{doc_before, is_after, is_scored, keeps, in_docs, in_kind}
-use Rattle.cs_block.specs.Spelling.{HasSpelling, IsAscending, HasWords}
+use Rattle.cs_block.specs.BlockSpelling.{HasSpelling, IsAscending, HasWords}
 
 -- ---- rows in order
 

@@ -21,10 +21,10 @@ use Rattle.cs_cols.proofs.Columns.{posts-length, posts-at}
 use Rattle.cs_gaps.proofs.CodesLemmas.{first_found}
 use Rattle.cs_model.specs.Scores.{SCORES}
 use Rattle.cs_model_index.specs.BlockRules.{gap_len, gap_number, row_at, is_scored, is_after, BlockColumns}
-use Rattle.cs_block.specs.Reading.{GapHere}
+use Rattle.cs_block.specs.BlockReading.{GapHere}
 use Rattle.cs_block.specs.Pass.{HasPushed}
-use Rattle.cs_block.specs.Runs.{place_after, doc_after, HasGap, HaveDocs, HasDocs, AreWords, ArePositions, is_position, AreScores, is_score, AreOnward, AreAscending, row_in}
-use Rattle.cs_block.proofs.PassLemmas.{pushes_on, Tests}
+use Rattle.cs_block.specs.RowRuns.{place_after, doc_after, HasGap, HaveDocs, HasDocs, AreWords, ArePositions, is_position, AreScores, is_score, AreOnward, AreAscending, row_in}
+use Rattle.cs_block.proofs.RulePasses.{pushes_on, Tests}
 use borrow.Rule.Slice.PartMut.{put_mid}
 
 -- ---- a column that is filled

@@ -7,7 +7,7 @@ use Rattle.std.specs.List.{All}
 use Rattle.cs_base.specs.declared.index.block.BlockHead.{BlockHead}
 use Rattle.cs_model.specs.Scores.{SCORES}
 use Rattle.cs_model_index.specs.BlockRules.{is_scored, rows_read}
-use Rattle.cs_block.specs.Runs.{AreScores}
+use Rattle.cs_block.specs.RowRuns.{AreScores}
 
 -- the rows are those that are read of any bytes
 pub record HasPositions (head : BlockHead) (bytes positions scores : List ℕ) : Type 0 where

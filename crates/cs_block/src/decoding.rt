@@ -6,7 +6,7 @@ ghost use Rattle.cs_base.specs.declared.content.doc.Post.{Post};
 ghost use Rattle.cs_model.specs.Scores.{SCORES};
 ghost use Rattle.cs_model_index.specs.Blocks.{IsShaped};
 ghost use Rattle.cs_model_index.specs.BlockRules.{IsBlock, item_row, block_items, judged, judged_columns};
-ghost use Rattle.cs_block.specs.Reading.{Decodes, HasColumns};
+ghost use Rattle.cs_block.specs.BlockReading.{Decodes, HasColumns};
 ghost use Rattle.cs_block.specs.ColumnsView.{seen_columns};
 
 use crate::columns::{Columns, cut, gap_here, row_of};

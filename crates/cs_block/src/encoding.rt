@@ -1,7 +1,7 @@
 //! Writing a block.
 ghost use Rattle.std.specs.Prelude.{◌≡◌, ℕ, ◌+◌, ◌<◌, ◌≤◌, ◌^◌, ◌++◌, length, OnOk, OnErr, take};
 ghost use Rattle.cs_model_index.specs.Blocks.{AreWritable, block_bytes, gap_column, position_column, score_column, word_column};
-ghost use Rattle.cs_block.specs.Spelling.{HasWords, IsAscending};
+ghost use Rattle.cs_block.specs.BlockSpelling.{HasWords, IsAscending};
 
 use cs_base::Memory;
 use cs_cols::Cols;

@@ -4,7 +4,7 @@ ghost use Rattle.std.specs.Option.{option_map, option_or};
 ghost use Rattle.cs_model.specs.Scores.{SCORES};
 ghost use Rattle.cs_model_index.specs.Blocks.{IsShaped};
 ghost use Rattle.cs_model_index.specs.BlockRules.{block_items, broken_at, codes_break, first_broken, judged_columns, rules};
-ghost use Rattle.cs_block.specs.Reading.{HasColumns};
+ghost use Rattle.cs_block.specs.BlockReading.{HasColumns};
 ghost use Rattle.cs_block.specs.ColumnsView.{seen_columns};
 
 use crate::columns::{Columns, gap_here, row_of};

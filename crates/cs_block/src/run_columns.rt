@@ -3,7 +3,7 @@ ghost use Rattle.std.specs.Prelude.{◌≡◌, ℕ, ◌+◌, ◌*◌, ◌<◌, �
 ghost use Rattle.std.specs.Ordering.{is_lt};
 ghost use Rattle.cs_base.specs.content.Orders.{by_place};
 ghost use Rattle.cs_base.specs.declared.content.limits.TheConstants.{MAX_WORDS};
-ghost use Rattle.cs_block.specs.Runs.{AreWords, ArePositions, AreScores, AreOnward, AreAscending};
+ghost use Rattle.cs_block.specs.RowRuns.{AreWords, ArePositions, AreScores, AreOnward, AreAscending};
 
 use crate::columns::{half_at, number_at};
 use cs_base::{FACET_SCORE, MAX_POSITION, TEXT_SCORE, TITLE_SCORE};

@@ -2,9 +2,9 @@
 ghost use Rattle.std.specs.Prelude.{◌≡◌, ◌+◌, ◌≤◌, ◌<◌, List, length, IfSome, IfNone};
 ghost use Rattle.cs_base.specs.declared.content.doc.Post.{Post};
 ghost use Rattle.cs_model_index.specs.Blocks.{IsShaped};
-ghost use Rattle.cs_block.specs.Reading.{HasColumns};
+ghost use Rattle.cs_block.specs.BlockReading.{HasColumns};
 ghost use Rattle.cs_block.specs.ColumnsView.{seen_columns};
-ghost use Rattle.cs_block.specs.Runs.{row_in};
+ghost use Rattle.cs_block.specs.RowRuns.{row_in};
 ghost use Rattle.cs_block.specs.Pass.{HasPushed};
 
 use crate::columns::Columns;

@@ -16,7 +16,7 @@ use Rattle.std.proofs.lemmas.List.Elements.{filter-append}
 use Rattle.cs_base.specs.declared.content.doc.Post.{Post}
 use Rattle.cs_base.specs.declared.content.doc.Row.{Row}
 use Rattle.cs_cols.specs.declared.cols.Cols.{Cols}
-use Rattle.cs_build.specs.WordRuns.{has_word, AreSpans, places_from, posts_by, is_within, CountsRows, IsPushed, AreFilled}
+use Rattle.cs_build.specs.WordRuns.{has_word, AreSpans, run_places_from, posts_by, is_within, CountsRows, IsPushed, AreFilled}
 use Rattle.cs_build.specs.declared.parting.Run.{Run}
 
 -- ---- the run of a word
@@ -42,7 +42,7 @@ none_before lo end n (run ∷ runs) s h = (has_not lo run.words n run.lo s.0 h, 
 
 pub record HasPlace (k lo : ℕ) (runs : List Run) (n : ℕ) : Type 0 where
   pub j : ℕ
-  pub at : get_or (places_from k runs) (n - lo) 0 ≡ k + j
+  pub at : get_or (run_places_from k runs) (n - lo) 0 ≡ k + j
   pub only : IsOnly runs j n
   pub inside : j < length runs
 
@@ -62,7 +62,7 @@ only_place k lo end n (run ∷ runs) s h l =
     elim (cases_lt n (lo + run.words)) [
       | inl less ↦ record {
         j = 0;
-        at = get_within run.words k (n - lo) (places_from (k + 1) runs) (omega (arith, less, h)) ∙ omega arith;
+        at = get_within run.words k (n - lo) (run_places_from (k + 1) runs) (omega (arith, less, h)) ∙ omega arith;
         only = (has_it lo run.words n run.lo s.0 h less, none_before (lo + run.words) end n runs s.1 less);
         inside = omega arith;
       }
@@ -70,7 +70,7 @@ only_place k lo end n (run ∷ runs) s h l =
           let p = only_place (k + 1) (lo + run.words) end n runs s.1 more l in
           record {
             j = suc p.j;
-            at = get_behind run.words k (n - lo) (places_from (k + 1) runs) (omega (arith, more)) ∙ ap (λ i. get_or (places_from (k + 1) runs) i 0) (omega (arith, more)) ∙ p.at ∙ omega arith;
+            at = get_behind run.words k (n - lo) (run_places_from (k + 1) runs) (omega (arith, more)) ∙ ap (λ i. get_or (run_places_from (k + 1) runs) i 0) (omega (arith, more)) ∙ p.at ∙ omega arith;
             only = (has_not_past lo run.words n run.lo s.0 more, p.only);
             inside = omega (arith, p.inside);
           }
@@ -81,14 +81,14 @@ spans_on : (lo end : ℕ) (runs : List Run) → AreSpans lo runs end → lo ≤ 
 spans_on lo end [] s = omega (arith, s)
 spans_on lo end (run ∷ runs) s = let rest = spans_on (lo + run.words) end runs s.1 in omega (arith, rest)
 
-pub places_many : (k lo end : ℕ) (runs : List Run) → AreSpans lo runs end → length (places_from k runs) + lo ≡ end
+pub places_many : (k lo end : ℕ) (runs : List Run) → AreSpans lo runs end → length (run_places_from k runs) + lo ≡ end
 places_many k lo end [] s = omega (arith, s)
 places_many k lo end (run ∷ runs) s =
     let rest = places_many (k + 1) (lo + run.words) end runs s.1 in
-    omega (arith, rest, length-append (replicate run.words k) (places_from (k + 1) runs), length-replicate run.words k)
+    omega (arith, rest, length-append (replicate run.words k) (run_places_from (k + 1) runs), length-replicate run.words k)
 
 pub record NextPlaces (places : List ℕ) (i words : ℕ) (runs : List Run) : Type 0 where
-  pub told : places ++ places_from i (drop i runs) ≡ places_from 0 runs
+  pub told : places ++ run_places_from i (drop i runs) ≡ run_places_from 0 runs
   pub spans : AreSpans (length places) (drop i runs) words
 
 next_run : (runs : List Run) (i : ℕ) (d : Run) → i < length runs → drop i runs ≡ get_or runs i d ∷ drop (i + 1) runs
@@ -108,8 +108,8 @@ next_places places new i words n len runs d l is many e p =
     let more : n - len ≡ run.words = omega (arith, is, many, s.0) in
     let told : new ≡ places ++ replicate run.words i = e ∙ ap (λ x. x ++ replicate (n - len) i) all ∙ ap (λ k. places ++ replicate k i) more in
     record {
-      told = ap (λ x. x ++ places_from (i + 1) (drop (i + 1) runs)) told ∙ append_assoc places (replicate run.words i) (places_from (i + 1) (drop (i + 1) runs))
-          ∙ ap (λ rs. places ++ places_from i rs) (sym (next_run runs i d l)) ∙ p.told;
+      told = ap (λ x. x ++ run_places_from (i + 1) (drop (i + 1) runs)) told ∙ append_assoc places (replicate run.words i) (run_places_from (i + 1) (drop (i + 1) runs))
+          ∙ ap (λ rs. places ++ run_places_from i rs) (sym (next_run runs i d l)) ∙ p.told;
       spans = subst (λ k. AreSpans k (drop (i + 1) runs) words) (sym (ap length told ∙ length-append places (replicate run.words i) ∙ ap (λ k. length places + k) (length-replicate run.words i))) s.1;
     }
 
@@ -118,10 +118,10 @@ pub record IsPlaced (runs : List Run) (n k : ℕ) : Type 0 where
   pub only : IsOnly runs k n
   pub inside : k < length runs
 
-pub placed : (runs : List Run) (words n k : ℕ) → AreSpans 0 runs words → n < words → k ≡ get_or (places_from 0 runs) n 0 → IsPlaced runs n k
+pub placed : (runs : List Run) (words n k : ℕ) → AreSpans 0 runs words → n < words → k ≡ get_or (run_places_from 0 runs) n 0 → IsPlaced runs n k
 placed runs words n k s l e =
     let p = only_place 0 0 words n runs s (omega arith) l in
-    let same : p.j ≡ k = omega (arith, p.at, e, ap (λ (m : ℕ). get_or (places_from 0 runs) m 0) (let z : n - 0 ≡ n = omega arith in z)) in
+    let same : p.j ≡ k = omega (arith, p.at, e, ap (λ (m : ℕ). get_or (run_places_from 0 runs) m 0) (let z : n - 0 ≡ n = omega arith in z)) in
     record { only = subst (λ j. IsOnly runs j n) same p.only; inside = omega (arith, same, p.inside) }
 
 -- ---- post by post
@@ -222,7 +222,7 @@ get_default (x ∷ xs) zero a b l = refl
 get_default (x ∷ xs) (suc i) a b l = get_default xs i a b (omega (arith, l))
 
 -- the place of a word that is read
-pub place_at : (runs : List Run) (words n : ℕ) (places : List ℕ) (k : ℕ) → AreSpans 0 runs words → n < words → places ≡ places_from 0 runs → k ≡ get_or places n k → IsPlaced runs n k
+pub place_at : (runs : List Run) (words n : ℕ) (places : List ℕ) (k : ℕ) → AreSpans 0 runs words → n < words → places ≡ run_places_from 0 runs → k ≡ get_or places n k → IsPlaced runs n k
 place_at runs words n places k s l e is =
     let many : n < length places = omega (arith, ap length e, places_many 0 0 words runs s, l) in
     placed runs words n k s l (is ∙ get_default places n k 0 many ∙ ap (λ xs. get_or xs n 0) e)

@@ -8,7 +8,7 @@
 --   AreParted target ws count runs     these runs are the partition of the words
 --   has_word run n             word number n is one of the run's
 --   AreSpans lo runs end       runs lie one behind the other from word number lo up to `end`, which is left out
---   places_from k runs         for each word the index of its run, the first run having the index k
+--   run_places_from k runs         for each word the index of its run, the first run having the index k
 --   posts_by rows numbers      the posts of rows, by the numbers of their words
 --   is_within run p            the post's word is one of the run's
 --   CountsRows posts run       the run has as many rows as there are posts of its words
@@ -58,9 +58,9 @@ AreSpans lo [] end = lo ≡ end
 AreSpans lo (run ∷ runs) end = (run.lo ≡ lo) × AreSpans (lo + run.words) runs end
 
 -- of no runs none
-abbrev pub places_from : ℕ → List Run → List ℕ
-places_from k [] = []
-places_from k (run ∷ runs) = replicate run.words k ++ places_from (k + 1) runs
+abbrev pub run_places_from : ℕ → List Run → List ℕ
+run_places_from k [] = []
+run_places_from k (run ∷ runs) = replicate run.words k ++ run_places_from (k + 1) runs
 
 -- ---- blocks
 -- as many as there are of both

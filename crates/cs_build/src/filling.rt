@@ -4,7 +4,7 @@ ghost use Rattle.std.specs.List.{All, AllByRecursion};
 ghost use Rattle.cs_base.specs.declared.content.limits.TheConstants.{MAX_ROWS};
 ghost use Rattle.cs_vocab.specs.Ranges.{IsBelow};
 ghost use Rattle.cs_cols.specs.declared.cols.Cols.{Cols};
-ghost use Rattle.cs_build.specs.WordRuns.{AreSpans, AreFilled, CountsRows, IsPushed, is_within, places_from, posts_by};
+ghost use Rattle.cs_build.specs.WordRuns.{AreSpans, AreFilled, CountsRows, IsPushed, is_within, run_places_from, posts_by};
 
 use crate::parting::Run;
 use cs_base::{Memory, Post, Row};
@@ -48,7 +48,7 @@ fn places_of(alloc: Global, runs: &[Run], words: u32) -> Result<Vec<u32>, Memory
     requires spans { AreSpans 0 runs.now words }
     requires few { length runs.now ≤ words }
 
-    ensures { IfOk result (λ places. places.items ≡ places_from 0 runs.now) }
+    ensures { IfOk result (λ places. places.items ≡ run_places_from 0 runs.now) }
 {
     let mut places = Vec::with_capacity(alloc, words as usize)?;
     for (i, run) in runs.iter().enumerate() {

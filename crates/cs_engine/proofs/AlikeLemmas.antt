@@ -13,7 +13,7 @@ use Rattle.cs_base.specs.content.Orders.{by_rank}
 use Rattle.cs_base.specs.declared.content.doc.Post.{Post}
 use Rattle.cs_base.specs.declared.content.doc.Scored.{Scored}
 use Rattle.cs_base.proofs.MembersLemmas.{members-alike}
-use Rattle.cs_tables.specs.Listings.{completion, with_word, post_table}
+use Rattle.cs_tables.specs.TableListings.{completion, with_word, post_table}
 use Rattle.cs_tables.specs.Marks.{counted_word, post_words}
 use Rattle.cs_tables.proofs.TablesLemmas.{table-is}
 

@@ -31,7 +31,7 @@ use Rattle.cs_model_kept.specs.Entries.{base_of, scored_hits}
 use Rattle.cs_model_kept.specs.Entries as kept
 use Rattle.cs_model_kept.proofs.EntryLemmas.{listed_base}
 use Rattle.cs_tables.specs.declared.tables.Completion.{Completion as Numbered}
-use Rattle.cs_tables.specs.Listings.{post_table}
+use Rattle.cs_tables.specs.TableListings.{post_table}
 use Rattle.cs_engine.specs.Reading.{stock_of, AreWithin, IsWithin, HasRows}
 use Rattle.cs_engine.specs.Steps.{AreFound, IsBaseOf, IsHitOf}
 use Rattle.cs_model_index.specs.Numbered.{rows_at}

@@ -41,7 +41,7 @@ use Rattle.cs_model_index.specs.Images.{image_posts}
 use Rattle.cs_model_index.specs.Sections.{image_of}
 use Rattle.cs_model_kept.specs.Due.{met_prefix}
 use Rattle.cs_tables.specs.declared.tables.Completion.{Completion as Numbered}
-use Rattle.cs_tables.specs.Listings.{with_word, post_table}
+use Rattle.cs_tables.specs.TableListings.{with_word, post_table}
 use Rattle.cs_tables.specs.WordCounts.{AreCountable, HasCounted, WordCountsView, chosen, is_chosen}
 use Rattle.cs_engine.specs.Asking.{division}
 use Rattle.cs_engine.specs.Counting.{AreListed, counted_rows, in_listed}

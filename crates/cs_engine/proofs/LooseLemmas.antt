@@ -18,7 +18,7 @@ use Rattle.cs_model_kept.specs.Entries.{entry_of, listed_count}
 use Rattle.cs_model_kept.specs.KeptList.{kept_fresh}
 use Rattle.cs_model_kept.specs.declared.limits.TheConstants.{MAX_ENTRY_SIZE}
 use Rattle.cs_rank.specs.DocScores.{scores}
-use Rattle.cs_tables.specs.Listings.{post_table}
+use Rattle.cs_tables.specs.TableListings.{post_table}
 use Rattle.cs_tables.specs.declared.tables.Table.{Table}
 use Rattle.cs_engine.specs.Counting.{AreListed, in_listed}
 use Rattle.cs_engine.specs.Keeping.{FitsQuery, IsEntryOver, entry_with}

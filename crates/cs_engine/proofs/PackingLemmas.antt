@@ -27,7 +27,7 @@ use Rattle.cs_base.specs.content.Orders.{AreSorted, by_place}
 use Rattle.cs_base.specs.declared.content.doc.Post.{Post}
 use Rattle.cs_base.proofs.MembersLemmas.{again}
 use Rattle.cs_base.proofs.OrdersLemmas.{Less-from_lt}
-use Rattle.cs_file.specs.Answers.{IsRanged}
+use Rattle.cs_file.specs.CallAnswers.{IsRanged}
 use Rattle.cs_file.specs.Indexes.{AreMet, IndexView, IsIndex, StandsFor, block_posts}
 use Rattle.cs_file.proofs.StoodLemmas.{stood_count}
 use Rattle.cs_meet.specs.Filters.{shares_place}

@@ -31,7 +31,7 @@ use Rattle.cs_model.specs.Corpus.{Corpus}
 use Rattle.cs_model.specs.Replies.{Reply, Shown, HitShown, FacetShown}
 use Rattle.cs_model.specs.Requests.{Request, reply_of, reply_to, shown_of, hit_shown, facet_shown}
 use Rattle.cs_tables.specs.declared.tables.Completion.{Completion as Numbered}
-use Rattle.cs_tables.specs.Listings.{post_table}
+use Rattle.cs_tables.specs.TableListings.{post_table}
 use Rattle.cs_model_index.specs.Numbered.{word_at, row_of, rows_at}
 use Rattle.cs_model_kept.specs.Entries.{scored_hits}
 use Rattle.cs_engine.specs.Stocked.{Stock, corpus_in, base_hits, docs_in, named_at, shown_at, named_rows, named_rows_in, facet_at, title_at, IsStocked}

@@ -29,7 +29,7 @@ use Rattle.cs_docs.proofs.TextLemmas.{All-members}
 use Rattle.cs_model.specs.Answers.{by_count, table_of}
 use Rattle.cs_model.specs.Answers as rows
 use Rattle.cs_tables.specs.declared.tables.Completion.{Completion}
-use Rattle.cs_tables.specs.Listings.{by_docs, post_table, with_word, post_completion}
+use Rattle.cs_tables.specs.TableListings.{by_docs, post_table, with_word, post_completion}
 use Rattle.cs_model_index.specs.Numbered.{word_at, row_of, rows_at}
 use Rattle.cs_engine.specs.Stocked.{named_at}
 use Rattle.cs_vocab.proofs.RangesLemmas.{three_ways}

@@ -19,7 +19,7 @@ use Rattle.cs_base.specs.declared.content.doc.Scored.{Scored}
 use Rattle.cs_base.specs.declared.content.query.Query.{Query, out-Query}
 use Rattle.cs_file.specs.Indexes.{IndexView}
 use Rattle.cs_rank.specs.DocScores.{greatest, of_doc}
-use Rattle.cs_tables.specs.Listings.{post_table}
+use Rattle.cs_tables.specs.TableListings.{post_table}
 use Rattle.cs_tables.specs.declared.tables.Table.{Table}
 use Rattle.cs_tables.specs.WordCounts.{AreCountable, is_chosen}
 use Rattle.cs_engine.specs.Counting.{AreListed, in_listed}

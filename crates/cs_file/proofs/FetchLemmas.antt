@@ -28,8 +28,8 @@ use Rattle.cs_model.specs.Scores.{SCORES}
 use Rattle.cs_model_index.specs.BlockRules.{judged, IsBlock, broken_at, rows_read}
 use Rattle.cs_model_index.specs.FileRules.{in_file}
 use Rattle.cs_model_index.specs.Blocks.{IsShaped}
-use Rattle.cs_file.specs.Answers.{HasBlock, IsChangeOfBlock, IsChangeOfTitle, is_changed_of_fetch}
-use Rattle.cs_file.specs.Fetching.{DecodesAt, IsPlaced, ReadsText}
+use Rattle.cs_file.specs.CallAnswers.{HasBlock, IsChangeOfBlock, IsChangeOfTitle, is_changed_of_fetch}
+use Rattle.cs_file.specs.Fetching.{DecodesAt, IsBlockRead, ReadsText}
 use Rattle.cs_file.specs.declared.fault.FetchFault.{FetchFault}
 use Rattle.cs_file.specs.declared.fault.FetchFault.TheVariants as fetches
 use Rattle.cs_file.specs.declared.fetching.Placed.{Placed}
@@ -95,7 +95,7 @@ abbrev pub nothing : BlockHead
 nothing = record { lo = 0; words = 0; rows = 0; len = 0; facet = false }
 
 pub block_read : (i own : IndexView) (told : Option (List ℕ)) (k : ℕ) (hs : List BlockHead) (at : ℕ) (read : List ℕ) → own ≡ i → IsIndex i → hs ≡ own.heads → k < length i.heads → at ≡ block_place i k
-    → length read ≡ (get_or hs k nothing).len → ForSome told (λ b. read ≡ part b at (get_or hs k nothing).len) → IsPlaced i told k (record { head = get_or hs k nothing; docs = own.docs; at = at }) read
+    → length read ≡ (get_or hs k nothing).len → ForSome told (λ b. read ≡ part b at (get_or hs k nothing).len) → IsBlockRead i told k (record { head = get_or hs k nothing; docs = own.docs; at = at }) read
 block_read i own told k hs at read seen index same known at_is long is = record {
   index = index;
   known = known;
@@ -107,7 +107,7 @@ block_read i own told k hs at read seen index same known at_is long is = record 
   read_is = is;
 }
 
-module _ (i : IndexView) (told : Option (List ℕ)) (k : ℕ) (placed : Placed) (read : List ℕ) (h : IsPlaced i told k placed read) where
+module _ (i : IndexView) (told : Option (List ℕ)) (k : ℕ) (placed : Placed) (read : List ℕ) (h : IsBlockRead i told k placed read) where
   -- the same, with the block's head and place themselves
   there : (d : BlockHead) → ForSome told (λ b. read ≡ part b (block_place i k) (get_or i.heads k d).len)
   there d = λ b t. h.read_is b t ∙ ap (λ (n : ℕ). part b n placed.head.len) h.at_is ∙ ap (λ (x : BlockHead). part b (block_place i k) x.len) (h.head_is d)

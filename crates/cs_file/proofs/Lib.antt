@@ -1,7 +1,7 @@
 pub mod BlockParts
 pub mod BytesLemmas
 pub mod DirectoryLemmas
-pub mod DocWordsLemmas
+pub mod FetchedWords
 pub mod FetchLemmas
 pub mod FilledPieces
 pub mod HeaderLemmas

@@ -24,7 +24,7 @@ use Rattle.cs_model_index.specs.FileRules.{header_rules, vocabulary_rules, title
 use Rattle.cs_model_index.specs.Layout.{Header}
 use Rattle.cs_model_index.specs.Sections.{header_of, contents_of, vocabulary_at, offsets_at, titles_at, directory_at, blocks_at, size_by}
 use Rattle.cs_model_index.specs.declared.limits.TheConstants.{HEADER_BYTES, NUMBER_BYTES, ENTRY_BYTES}
-use Rattle.cs_file.specs.Answers.{IsDamageOf}
+use Rattle.cs_file.specs.CallAnswers.{IsDamageOf}
 use Rattle.cs_file.specs.declared.fault.OpenFault.{OpenFault}
 use Rattle.cs_file.specs.declared.fault.OpenFault.TheVariants as opens
 use Rattle.cs_file.specs.Indexes.{IndexView, IsIndex, index_of, StandsFor, Fits}

@@ -12,15 +12,15 @@ use Rattle.std.proofs.lemmas.List.{get_or_default, length-map}
 use Rattle.std.proofs.lemmas.List.Elements.{recursion_from_All}
 use Rattle.cs_base.specs.declared.content.doc.Post.{Post}
 use Rattle.cs_base.specs.declared.content.scores.TheConstants.{TITLE_SCORE}
-use Rattle.cs_block.specs.Runs.{AreScores, is_position, is_score}
+use Rattle.cs_block.specs.RowRuns.{AreScores, is_position, is_score}
 use Rattle.cs_model.specs.Scores.{SCORES}
 use Rattle.cs_model_index.specs.BlockRules.{is_scored, rows_read}
-use Rattle.cs_file.specs.Answers.{AreScoredOf}
-use Rattle.cs_file.specs.Fetching.{HasPosts, HasScored, IsPlaced}
+use Rattle.cs_file.specs.CallAnswers.{AreScoredOf}
+use Rattle.cs_file.specs.Fetching.{HasPosts, HasScored, IsBlockRead}
 use Rattle.cs_file.specs.declared.fetched.Fetched.{Fetched}
 use Rattle.cs_file.specs.declared.fetching.Placed.{Placed}
 use Rattle.cs_file.specs.Indexes.{IndexView, StandsFor, block_posts}
-use Rattle.cs_file.proofs.DocWordsLemmas.{doc_words_stood}
+use Rattle.cs_file.proofs.FetchedWords.{doc_words_stood}
 use Rattle.cs_file.proofs.FetchLemmas.{read_there}
 
 score_here : (facet : Bool) (p : Post) → is_scored SCORES facet p ≡ true → is_score facet p.score ≡ true
@@ -56,7 +56,7 @@ scores_even placed read f has =
     let rows = rows_read placed.head read in
     ap length has.scored.scores_are ∙ length-map rows (λ (p : Post). p.score) ∙ sym (ap length has.listed.docs_are ∙ length-map rows (λ (p : Post). p.doc))
 
-pub scored_stood : (i : IndexView) (told : Option (List ℕ)) (k : ℕ) (placed : Placed) (read : List ℕ) → IsPlaced i told k placed read → (b : List ℕ) (f : Fetched) → told ≡ Some b → StandsFor b i → HasScored placed read f
+pub scored_stood : (i : IndexView) (told : Option (List ℕ)) (k : ℕ) (placed : Placed) (read : List ℕ) → IsBlockRead i told k placed read → (b : List ℕ) (f : Fetched) → told ≡ Some b → StandsFor b i → HasScored placed read f
     → AreScoredOf (block_posts b k) f.docs.items f.words.items f.scores.items
 scored_stood i told k placed read h b f t s has =
     (doc_words_stood i told k placed read h b f.docs.items f.words.items t s has.listed, has.scored.scores_are ∙ ap (map (λ (p : Post). p.score)) (read_there i told k placed read h b t s))

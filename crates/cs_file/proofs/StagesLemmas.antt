@@ -17,7 +17,7 @@ use Rattle.cs_model_index.specs.BlockRules.{broken_at}
 use Rattle.cs_model_index.specs.FileRules.{tried}
 use Rattle.cs_file.specs.declared.fault.OpenFault.{OpenFault}
 use Rattle.cs_file.specs.declared.fault.OpenFault.TheVariants as opens
-use Rattle.cs_file.specs.Answers.{is_read_of_open}
+use Rattle.cs_file.specs.CallAnswers.{is_read_of_open}
 use Rattle.cs_file.specs.Indexes.{CausedReads}
 use Rattle.cs_file.specs.Opening.{Refuses, Judges}
 

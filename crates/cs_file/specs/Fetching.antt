@@ -2,7 +2,7 @@
 --
 -- Source: this engine's own.
 --
---   IsPlaced i told k placed read      the bytes of block k were read, and what is known of it
+--   IsBlockRead i told k placed read      the bytes of block k were read, and what is known of it
 --   AreColumns placed read docs words positions scores, HasPosts placed read f      columns have the posts of a block whose bytes were read
 --   HasScored placed read f            columns have the documents, words and scores of its posts
 --   DecodesAt at broken r     the answer where this is the first rule that a block at a place breaks, if there is one
@@ -24,7 +24,7 @@ use Rattle.cs_file.specs.declared.fetched.Fetched.{Fetched}
 use Rattle.cs_file.specs.declared.fetching.Placed.{Placed}
 
 -- of a store that tells, they are its bytes at the block's place
-pub record IsPlaced (i : IndexView) (told : Option (List ℕ)) (k : ℕ) (placed : Placed) (read : List ℕ) : Type 0 where
+pub record IsBlockRead (i : IndexView) (told : Option (List ℕ)) (k : ℕ) (placed : Placed) (read : List ℕ) : Type 0 where
   pub index : IsIndex i
   pub known : k < length i.heads
   pub small : placed.at < 2 ^ 63

@@ -1,4 +1,4 @@
-pub mod Answers
+pub mod CallAnswers
 pub mod Fetching
 pub mod HeaderView
 pub mod Indexes

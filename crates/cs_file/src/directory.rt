@@ -6,7 +6,7 @@ ghost use Rattle.cs_base.specs.declared.content.limits.TheConstants.{MAX_WORDS};
 ghost use Rattle.cs_model_index.specs.FileRules.{break_of, is_joined, is_of_one_kind, is_sized, laid, last_value, tried, words_end};
 ghost use Rattle.cs_model_index.specs.Sections.{directory_at, head_in, heads_in};
 ghost use Rattle.cs_model_index.specs.declared.limits.TheConstants.{ENTRY_BYTES};
-ghost use Rattle.cs_file.specs.Answers.{is_read_of_open};
+ghost use Rattle.cs_file.specs.CallAnswers.{is_read_of_open};
 ghost use Rattle.cs_file.specs.HeaderView.{seen_header};
 ghost use Rattle.cs_file.specs.Indexes.{CausedReads};
 ghost use Rattle.cs_file.specs.Opening.{AreBytes, Judges, IsHeader, HasHeader, HasHeads, bad_joint, bad_size, before, directory_stage, directory_judged, heads_of, file_words};

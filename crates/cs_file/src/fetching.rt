@@ -12,8 +12,8 @@ ghost use Rattle.cs_model.specs.Scores.{SCORES};
 ghost use Rattle.cs_model_index.specs.BlockRules.{IsBlock, judged};
 ghost use Rattle.cs_model_index.specs.Blocks.{IsShaped};
 ghost use Rattle.cs_cols.specs.Held.{AreEven};
-ghost use Rattle.cs_file.specs.Answers.{AreOf, HasBlock, IsChangeOfBlock, IsChangeOfTitle, IsRanged, AreScoredOf, is_read_of_fetch, is_changed_of_fetch, posts_in};
-ghost use Rattle.cs_file.specs.Fetching.{DecodesAt, HasPosts, HasScored, IsPlaced, ReadsText};
+ghost use Rattle.cs_file.specs.CallAnswers.{AreOf, HasBlock, IsChangeOfBlock, IsChangeOfTitle, IsRanged, AreScoredOf, is_read_of_fetch, is_changed_of_fetch, posts_in};
+ghost use Rattle.cs_file.specs.Fetching.{DecodesAt, HasPosts, HasScored, IsBlockRead, ReadsText};
 ghost use Rattle.cs_file.specs.Indexes.{StandsFor, Fits, CausedReads, block_place, block_posts, title_in, title_place, title_len};
 
 use crate::fault::FetchFault;
@@ -187,7 +187,7 @@ impl Index {
         requires in_range { k < length self.now.heads }
         requires fits { Fits (S.bytes store.old) self.now }
 
-        ensures ok { IfOk result (λ placed. IsPlaced self.now (S.bytes store.old) k placed bytes.new.items) }
+        ensures ok { IfOk result (λ placed. IsBlockRead self.now (S.bytes store.old) k placed bytes.new.items) }
         ensures unchanged { is_changed_of_fetch result ≡ false }
         ensures bytes { S.bytes store.new ≡ S.bytes store.old }
         ensures lent { S.lent store.new ≡ S.lent store.old }

@@ -5,7 +5,7 @@ ghost use Rattle.cs_model.specs.First.{first_reason};
 ghost use Rattle.cs_model_index.specs.FileRules.{field_breaks};
 ghost use Rattle.cs_model_index.specs.Sections.{number_at, header_of, offsets_at, titles_at, directory_at, blocks_at, size_by};
 ghost use Rattle.cs_model_index.specs.declared.limits.TheConstants.{HEADER_BYTES};
-ghost use Rattle.cs_file.specs.Answers.{is_read_of_open};
+ghost use Rattle.cs_file.specs.CallAnswers.{is_read_of_open};
 ghost use Rattle.cs_file.specs.HeaderView.{seen_header};
 ghost use Rattle.cs_file.specs.Indexes.{CausedReads};
 ghost use Rattle.cs_file.specs.Opening.{AreBytes, Judges, IsHeader, HasHeader, header_stage, header_judged};

@@ -3,7 +3,7 @@ ghost use Rattle.std.specs.Prelude.{◌≡◌, ◌+◌, ◌≤◌, false, length
 ghost use Rattle.cs_model.specs.First.{unless};
 ghost use Rattle.cs_model_index.specs.FileRules.{tried};
 ghost use Rattle.cs_model_index.specs.Sections.{number_at};
-ghost use Rattle.cs_file.specs.Answers.{is_read_of_open};
+ghost use Rattle.cs_file.specs.CallAnswers.{is_read_of_open};
 ghost use Rattle.cs_file.specs.Opening.{Judges};
 
 use crate::fault::OpenFault;

@@ -1,7 +1,7 @@
 //! Opening an index file.
 ghost use Rattle.std.specs.Prelude.{◌≡◌, IfOk, IfErr};
 ghost use Rattle.std.specs.Option.{ForSome};
-ghost use Rattle.cs_file.specs.Answers.{IsDamageOf, is_read_of_open};
+ghost use Rattle.cs_file.specs.CallAnswers.{IsDamageOf, is_read_of_open};
 ghost use Rattle.cs_file.specs.Indexes.{StandsFor, Fits, CausedReads};
 
 use crate::directory::read_directory;

@@ -9,7 +9,7 @@ ghost use Rattle.cs_model_index.specs.BlockRules.{judged, rows_read};
 ghost use Rattle.cs_model_index.specs.Blocks.{IsShaped};
 ghost use Rattle.cs_model_index.specs.FileRules.{in_file};
 ghost use Rattle.cs_model_index.specs.Sections.{blocks_at};
-ghost use Rattle.cs_file.specs.Answers.{is_read_of_open};
+ghost use Rattle.cs_file.specs.CallAnswers.{is_read_of_open};
 ghost use Rattle.cs_file.specs.HeaderView.{seen_header};
 ghost use Rattle.cs_file.specs.Indexes.{CausedReads};
 ghost use Rattle.cs_file.specs.Opening.{AreBytes, Judges, IsHeader, HasHeader, blocks_of, blocks_stage, heads_of};

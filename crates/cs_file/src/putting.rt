@@ -1,7 +1,7 @@
 //! Bytes that go into a sink, gathered so that few puts are made.
 ghost use Rattle.std.specs.Prelude.{◌≡◌, [], ◌++◌, OnOk, OnErr};
 ghost use Rattle.cs_base.specs.outside.Outside.{Grew, GrewByPrefix};
-ghost use Rattle.cs_file.specs.Answers.{is_sink};
+ghost use Rattle.cs_file.specs.CallAnswers.{is_sink};
 ghost use Rattle.cs_file.specs.Indexes.{CausedReads};
 ghost use Rattle.cs_file.specs.Putting.{HasPut};
 

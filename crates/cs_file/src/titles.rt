@@ -8,7 +8,7 @@ ghost use Rattle.cs_model.specs.First.{unless};
 ghost use Rattle.cs_model_index.specs.FileRules.{break_of, is_onward, laid, last_offset_at, last_value, tried};
 ghost use Rattle.cs_model_index.specs.Sections.{numbers_in, offsets_at, titles_at};
 ghost use Rattle.cs_model_index.specs.declared.limits.TheConstants.{NUMBER_BYTES};
-ghost use Rattle.cs_file.specs.Answers.{is_read_of_open};
+ghost use Rattle.cs_file.specs.CallAnswers.{is_read_of_open};
 ghost use Rattle.cs_file.specs.HeaderView.{seen_header};
 ghost use Rattle.cs_file.specs.Indexes.{CausedReads};
 ghost use Rattle.cs_file.specs.Opening.{AreBytes, Judges, IsHeader, HasHeader, HasOffsets, before, bad_offset, bad_title, offsets_of, titles_stage};

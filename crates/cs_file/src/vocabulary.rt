@@ -7,7 +7,7 @@ ghost use Rattle.cs_model.specs.Words.{is_filled, is_word_char};
 ghost use Rattle.cs_model_index.specs.FileRules.{break_of, follows, is_named_value, is_plain_word, is_value_char, is_word, laid, tried, word_size, words_break};
 ghost use Rattle.cs_model_index.specs.Sections.{vocabulary_at, vocabulary_in};
 ghost use Rattle.cs_file.specs.declared.fault.OpenFault.{OpenFault};
-ghost use Rattle.cs_file.specs.Answers.{is_read_of_open};
+ghost use Rattle.cs_file.specs.CallAnswers.{is_read_of_open};
 ghost use Rattle.cs_file.specs.HeaderView.{seen_header};
 ghost use Rattle.cs_file.specs.Indexes.{CausedReads};
 ghost use Rattle.cs_file.specs.Opening.{AreBytes, Judges, IsHeader, HasHeader, HasVocabulary, before, front_word, vocabulary_stage, words_judged, file_words};

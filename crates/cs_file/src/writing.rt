@@ -4,7 +4,7 @@ ghost use Rattle.std.specs.List.{flat_map, zip};
 ghost use Rattle.cs_base.specs.outside.Outside.{Grew, GrewByPrefix};
 ghost use Rattle.cs_model_index.specs.Blocks.{AreWritable, block_bytes};
 ghost use Rattle.cs_model_index.specs.Layout.{file, number_bytes, header_bytes, header_of_image, vocabulary_bytes, offset_bytes, title_bytes, entry_bytes, directory_bytes, blocks_bytes};
-ghost use Rattle.cs_file.specs.Answers.{is_sink};
+ghost use Rattle.cs_file.specs.CallAnswers.{is_sink};
 ghost use Rattle.cs_file.specs.Indexes.{CausedReads};
 ghost use Rattle.cs_file.specs.Putting.{HasPut};
 ghost use Rattle.cs_file.specs.Writable.{CanBeWritten, BlockFits};

@@ -4,7 +4,7 @@ use Rattle.std.proofs.lemmas.List.{get_or_default}
 use Rattle.std.proofs.lemmas.Bool.Decides.{nat_tests}
 use Rattle.cs_base.specs.declared.content.doc.Post.{Post}
 use Rattle.cs_base.specs.content.Orders.{AreSorted}
-use Rattle.cs_meet.specs.Places.{is_before, AllBefore}
+use Rattle.cs_meet.specs.RowPlaces.{is_before, AllBefore}
 use Rattle.cs_meet.proofs.Passes.{IsUpTo}
 use Rattle.cs_meet.proofs.Judged.{in_turn}
 

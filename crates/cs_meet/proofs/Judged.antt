@@ -9,7 +9,7 @@ use Rattle.cs_base.specs.declared.content.doc.Post.{Post}
 use Rattle.cs_base.specs.content.Orders.{by_place, AreSorted}
 use Rattle.cs_base.specs.declared.content.limits.TheConstants.{MAX_DISTANCE}
 use Rattle.cs_meet.specs.Filters.{stands_behind, is_near}
-use Rattle.cs_meet.specs.Places.{is_before, Splits, Ahead, near_at}
+use Rattle.cs_meet.specs.RowPlaces.{is_before, Splits, Ahead, near_at}
 use Rattle.cs_meet.proofs.Passes.{none_at, IsUpTo, up_to}
 
 -- where k is at least n, the post at k is at the place of the post at n or behind it

@@ -13,7 +13,7 @@ use Rattle.cs_base.specs.declared.content.doc.Post.{Post}
 use Rattle.cs_base.specs.declared.content.doc.Scored.{Scored}
 use Rattle.cs_base.specs.content.Orders.{by_place, by_doc, AreDocs}
 use Rattle.cs_meet.specs.Filters.{is_of_doc}
-use Rattle.cs_meet.specs.Places.{AllBelow, SplitsDocs, AheadOf, is_before}
+use Rattle.cs_meet.specs.RowPlaces.{AllBelow, SplitsDocs, AheadOf, is_before}
 use Rattle.cs_meet.proofs.Passes.{none_at}
 
 -- where the document at n is less than d, the first n + 1 are

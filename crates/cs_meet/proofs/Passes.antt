@@ -14,7 +14,7 @@ use Rattle.std.proofs.lemmas.Bool.Decides.{nat_tests}
 use Rattle.cs_base.specs.declared.content.doc.Post.{Post}
 use Rattle.cs_base.specs.content.Orders.{by_place}
 use Rattle.cs_base.specs.declared.content.limits.TheConstants.{MAX_DISTANCE}
-use Rattle.cs_meet.specs.Places.{is_before, Splits, Ahead}
+use Rattle.cs_meet.specs.RowPlaces.{is_before, Splits, Ahead}
 
 -- no place passes
 pub none_at : {X : Type 0} (p : X → Bool) (xs : List X) (d : X) → ((k : ℕ) → k < length xs → p (get_or xs k d) ≡ false) → list_any p xs ≡ false

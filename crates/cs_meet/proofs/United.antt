@@ -14,7 +14,7 @@ use Rattle.cs_base.specs.declared.content.doc.Post.{Post}
 use Rattle.cs_base.specs.content.Orders.{by_place, AreSorted}
 use Rattle.cs_base.proofs.OrdersLemmas.{by_place_total, Comes, comes_first, less-from_comes}
 use Rattle.cs_meet.specs.Filters.{shares_place, missing}
-use Rattle.cs_meet.specs.Places.{AllLess, SplitsBefore, KeepsOrder}
+use Rattle.cs_meet.specs.RowPlaces.{AllLess, SplitsBefore, KeepsOrder}
 use Rattle.cs_meet.proofs.Passes.{none_at, next_is}
 use Rattle.cs_meet.proofs.Ordered.{sorted_back, sorted_insert, sorted_remove, below_first, nothing_below}
 

@@ -6,7 +6,7 @@ ghost use Rattle.std.specs.Vec.{vec_len, vec_capacity};
 ghost use Rattle.cs_base.specs.declared.content.doc.Post.{Post};
 ghost use Rattle.cs_meet.specs.Filters.{keep_docs, drop_docs, is_of_doc};
 ghost use Rattle.cs_base.specs.content.Orders.{AreDocs, AreByDoc, docs_of, AreSorted};
-ghost use Rattle.cs_meet.specs.Places.{AllBelow, SplitsDocs, AheadOf};
+ghost use Rattle.cs_meet.specs.RowPlaces.{AllBelow, SplitsDocs, AheadOf};
 
 use crate::skip::{add_where, pass_over};
 use cs_base::{Memory, Post, Scored, Seq};

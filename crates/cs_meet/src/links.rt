@@ -3,7 +3,7 @@ ghost use Rattle.std.specs.Prelude.{◌≡◌, ℕ, ◌+◌, ◌-◌, ◌<◌, �
 ghost use Rattle.std.specs.List.{list_any};
 ghost use Rattle.cs_meet.specs.Filters.{follow, near, stands_behind, is_near};
 ghost use Rattle.cs_base.specs.content.Orders.{AreSorted};
-ghost use Rattle.cs_meet.specs.Places.{Ahead, Splits, near_at};
+ghost use Rattle.cs_meet.specs.RowPlaces.{Ahead, Splits, near_at};
 ghost use Rattle.cs_base.specs.declared.content.doc.Post.{Post};
 ghost use Rattle.cs_base.specs.declared.content.limits.TheConstants.{MAX_DISTANCE};
 

@@ -2,7 +2,7 @@
 ghost use Rattle.std.specs.Prelude.{◌≡◌, ℕ, ◌+◌, ◌-◌, ◌≤◌, ◌<◌, ◌^◌, [], ◌∷◌, ◌++◌, true, false, length, slice_index_or, if◌then◌else◌};
 ghost use Rattle.cs_base.specs.declared.content.doc.Post.{Post};
 ghost use Rattle.cs_base.specs.content.Orders.{AreSorted};
-ghost use Rattle.cs_meet.specs.Places.{AllBefore, Splits, IsNotBefore, is_before};
+ghost use Rattle.cs_meet.specs.RowPlaces.{AllBefore, Splits, IsNotBefore, is_before};
 
 use cs_base::Post;
 use cs_cols::Cols;

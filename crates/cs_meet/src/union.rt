@@ -3,7 +3,7 @@ ghost use Rattle.std.specs.Prelude.{◌≡◌, ◌+◌, ◌≤◌, ◌++◌, len
 ghost use Rattle.std.specs.List.{list_any};
 ghost use Rattle.cs_base.specs.content.Orders.{AreSorted};
 ghost use Rattle.cs_meet.specs.Filters.{IsUnion, shares_place};
-ghost use Rattle.cs_meet.specs.Places.{AllLess, SplitsBefore, KeepsOrder};
+ghost use Rattle.cs_meet.specs.RowPlaces.{AllLess, SplitsBefore, KeepsOrder};
 
 use crate::skip::add_where;
 use cs_base::{Memory, Post};

@@ -17,7 +17,7 @@ use Rattle.cs_base.specs.declared.content.doc.Scored.{Scored}
 use Rattle.cs_base.proofs.OrdersLemmas.{by_rank_total, by_rank_exact}
 use Rattle.cs_base.proofs.MembersLemmas.{listed_itself, listing-rises}
 use Rattle.cs_rank.specs.Kept.{IsFull, HasBest, is_behind}
-use Rattle.cs_rank.proofs.Places.{place, pushed, take-placed, unmoved, still_full, take_rises, take_again, full_at_last}
+use Rattle.cs_rank.proofs.ScorePlaces.{place, pushed, take-placed, unmoved, still_full, take_rises, take_again, full_at_last}
 
 -- the first n of the listing with one more, by the first n of the listing
 more_alike : (room : ℕ) (s : Scored) (seen kept : List Scored) → take room (members_in by_rank seen) ≡ take room (members_in by_rank kept) → take room (members_in by_rank (seen ++ s ∷ [])) ≡ take room (place by_rank s (members_in by_rank kept))

@@ -2,5 +2,5 @@ pub mod Climbs
 pub mod GroupsLemmas
 pub mod KeptLemmas
 pub mod Lookups
-pub mod Places
+pub mod ScorePlaces
 pub mod Puts

@@ -29,7 +29,7 @@ use Rattle.cs_base.specs.declared.content.doc.Scored.{Scored}
 use Rattle.cs_base.proofs.OrdersLemmas.{by_rank_total, by_rank_exact}
 use Rattle.cs_base.proofs.MembersLemmas.{listing-rises, none_listed}
 use Rattle.cs_rank.specs.Kept.{first_of}
-use Rattle.cs_rank.proofs.Places.{place, pushed, picked, keys_put, take_again, take_rises}
+use Rattle.cs_rank.proofs.ScorePlaces.{place, pushed, picked, keys_put, take_again, take_rises}
 use Rattle.cs_rank.proofs.KeptLemmas.{itself}
 
 module _ {X : Type 0} (R : X → X → Ordering) (o : IsTotalOrder R) where

@@ -2,4 +2,4 @@ pub mod MarksLemmas
 pub mod Samples
 pub mod TablesLemmas
 pub mod WordCountsLemmas
-pub mod WordsLemmas
+pub mod CountedWords

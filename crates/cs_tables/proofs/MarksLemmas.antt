@@ -20,10 +20,10 @@ use Rattle.cs_base.specs.declared.content.doc.Post.{Post}
 use Rattle.cs_base.specs.declared.content.limits.TheConstants.{MAX_DOCS}
 use Rattle.cs_rank.proofs.Climbs.{Climbs, fresh, fresh-listed, docs_climb}
 use Rattle.cs_rank.proofs.GroupsLemmas.{nothing_listed}
-use Rattle.cs_rank.proofs.Places.{take_rises}
+use Rattle.cs_rank.proofs.ScorePlaces.{take_rises}
 use Rattle.cs_tables.specs.declared.counts.Mark.{Mark}
 use Rattle.cs_tables.specs.declared.counts.TheConstants.{NO_DOC}
-use Rattle.cs_tables.specs.Listings.{with_word, doc_count}
+use Rattle.cs_tables.specs.TableListings.{with_word, doc_count}
 use Rattle.cs_tables.specs.Marks.{saw, sees, mark_of}
 
 -- a word's mark looks at its own rows

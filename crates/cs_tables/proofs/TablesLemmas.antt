@@ -21,8 +21,8 @@ use Rattle.cs_base.specs.declared.content.doc.Scored.{Scored}
 use Rattle.cs_base.proofs.MembersLemmas.{members_are, is_member-listed, listing-rises, none_listed}
 use Rattle.cs_base.proofs.OrdersLemmas.{by_rank_total, by_rank_exact}
 use Rattle.cs_tables.specs.declared.tables.Completion.{Completion}
-use Rattle.cs_tables.specs.Listings.{by_docs, post_table, completion, post_completion}
-use Rattle.cs_tables.proofs.WordsLemmas.{eq_is}
+use Rattle.cs_tables.specs.TableListings.{by_docs, post_table, completion, post_completion}
+use Rattle.cs_tables.proofs.CountedWords.{eq_is}
 use Rattle.cs_tables.specs.Marks.{counted_word, post_words}
 
 pub by_docs_total : IsTotalOrder by_docs

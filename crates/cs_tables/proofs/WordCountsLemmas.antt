@@ -27,15 +27,15 @@ use Rattle.cs_base.specs.declared.content.doc.Scored.{Scored}
 use Rattle.cs_base.specs.declared.content.limits.TheConstants.{MAX_DOCS}
 use Rattle.cs_base.proofs.MembersLemmas.{is_member-listed}
 use Rattle.cs_base.proofs.OrdersLemmas.{by_rank_total, by_rank_exact}
-use Rattle.cs_rank.proofs.Places.{take_rises}
+use Rattle.cs_rank.proofs.ScorePlaces.{take_rises}
 use Rattle.cs_tables.specs.declared.counts.Mark.{Mark}
 use Rattle.cs_tables.specs.declared.counts.TheConstants.{NO_DOC}
 use Rattle.cs_tables.specs.declared.tables.Completion.{Completion}
-use Rattle.cs_tables.specs.Listings.{completion, with_word}
+use Rattle.cs_tables.specs.TableListings.{completion, with_word}
 use Rattle.cs_tables.specs.Marks.{collected, counted_word, mark_of, saw, post_words}
 use Rattle.cs_tables.specs.WordCounts.{AreCountable, Counts, HasCounted, HasWordMarks, WordCountsView, chosen, is_chosen}
 use Rattle.cs_tables.proofs.MarksLemmas.{fold_push, word_marked, word_docs_few}
-use Rattle.cs_tables.proofs.WordsLemmas.{collected_words}
+use Rattle.cs_tables.proofs.CountedWords.{collected_words}
 
 -- ---- listings
 module _ {X : Type 0} (R : X → X → Ordering) (o : IsTotalOrder R) (exact : IsAntisymmetric R) (P : X → Type 0) where

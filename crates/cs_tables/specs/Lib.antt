@@ -1,4 +1,4 @@
-pub mod Listings
+pub mod TableListings
 pub mod Marks
 pub mod Sample
 pub mod WordCounts

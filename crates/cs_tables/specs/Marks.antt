@@ -11,7 +11,7 @@ use Rattle.std.specs.Ordering.{nat_cmp}
 use Rattle.cs_base.specs.content.Members.{members_in}
 use Rattle.cs_base.specs.declared.content.doc.Post.{Post}
 use Rattle.cs_base.specs.declared.content.doc.Scored.{Scored}
-use Rattle.cs_tables.specs.Listings.{doc_count, with_word}
+use Rattle.cs_tables.specs.TableListings.{doc_count, with_word}
 use Rattle.cs_tables.specs.declared.counts.Mark.{Mark}
 use Rattle.cs_tables.specs.declared.counts.TheConstants.{NO_DOC}
 

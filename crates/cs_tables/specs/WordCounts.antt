@@ -14,7 +14,7 @@ use Rattle.std.specs.List.{All}
 use Rattle.cs_base.specs.content.Orders.{AreSorted}
 use Rattle.cs_base.specs.declared.content.doc.Post.{Post}
 use Rattle.cs_base.specs.declared.content.limits.TheConstants.{MAX_DOCS}
-use Rattle.cs_tables.specs.Listings.{with_word}
+use Rattle.cs_tables.specs.TableListings.{with_word}
 use Rattle.cs_tables.specs.Marks.{mark_of}
 use Rattle.cs_tables.specs.declared.counts.Mark.{Mark}
 

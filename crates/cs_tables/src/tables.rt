@@ -2,7 +2,7 @@
 ghost use Rattle.std.specs.Prelude.{◌≡◌, ◌<◌, IfOk, All, length, take, map};
 ghost use Rattle.cs_base.specs.content.Orders.{AreSorted};
 ghost use Rattle.cs_base.specs.declared.content.limits.TheConstants.{MAX_DOCS, MAX_WORDS};
-ghost use Rattle.cs_tables.specs.Listings.{post_table, completion};
+ghost use Rattle.cs_tables.specs.TableListings.{post_table, completion};
 
 use crate::counts::counts;
 use cs_base::{Memory, Scored, Seq};

@@ -2,7 +2,7 @@
 ghost use Rattle.std.specs.Prelude.{◌≡◌, ◌+◌, ◌++◌, ◌<◌, ◌≤◌, [], ◌∷◌, true, false, Bool, List, map, length, take, slice_index_or, IfOk, All};
 ghost use Rattle.cs_base.specs.declared.content.doc.Post.{Post};
 ghost use Rattle.cs_base.specs.declared.content.limits.TheConstants.{MAX_DOCS, MAX_WORDS};
-ghost use Rattle.cs_tables.specs.Listings.{post_table};
+ghost use Rattle.cs_tables.specs.TableListings.{post_table};
 ghost use Rattle.cs_tables.specs.WordCounts.{AreCountable, Counts, HasCounted, chosen};
 
 use crate::counts::{BLANK, Mark, collect};

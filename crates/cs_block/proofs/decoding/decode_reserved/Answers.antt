@@ -3,7 +3,7 @@ use Rattle.cs_base.specs.declared.content.doc.Post.{Post}
 use Rattle.cs_model_index.specs.BlockRules.{rows_read}
 use Rattle.cs_block.proofs.LawsLemmas.{accepted, unique}
 use Rattle.cs_block.proofs.ItemsLemmas.{judged_cut, rows_cut}
-use Rattle.cs_block.proofs.PassLemmas.{none-from_test}
+use Rattle.cs_block.proofs.RulePasses.{none-from_test}
 use Rattle.cs_block.proofs.decoding.decode_reserved.Goals as goal
 
 pub returns-in-Some-clause-exact : goal.returns-in-Some-clause-exact

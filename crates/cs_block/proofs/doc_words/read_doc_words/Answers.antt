@@ -1,7 +1,7 @@
 use Rattle.std.proofs.Common.{◌≡◌, ◌++◌, length, take, drop, sym, ap, subst, ◌∙◌, not}
 use Rattle.cs_block.specs.ColumnsView.{seen_columns}
 use Rattle.cs_block.specs.DocWords.{HasDocWords}
-use Rattle.cs_block.specs.Runs.{HasDocs}
+use Rattle.cs_block.specs.RowRuns.{HasDocs}
 use Rattle.cs_block.proofs.DocWordsLemmas.{doc_words_all, docs_there, refilled}
 use Rattle.cs_block.proofs.doc_words.read_doc_words.Goals as goal
 

@@ -1,6 +1,6 @@
 use Rattle.std.proofs.Common.{◌++◌, drop}
 use Rattle.cs_model_index.specs.Blocks.{gap_column}
-use Rattle.cs_block.specs.Spelling.{IsAscending}
+use Rattle.cs_block.specs.BlockSpelling.{IsAscending}
 use Rattle.cs_block.proofs.PutLemmas.{IsPutting}
 use Rattle.cs_block.proofs.encoding.put_gaps.Given as goal
 

@@ -1,6 +1,6 @@
 use Rattle.std.proofs.Common.{◌++◌, drop}
 use Rattle.cs_model_index.specs.Blocks.{word_column}
-use Rattle.cs_block.specs.Spelling.{HasWords}
+use Rattle.cs_block.specs.BlockSpelling.{HasWords}
 use Rattle.cs_block.proofs.PutLemmas.{IsPutting}
 use Rattle.cs_block.proofs.encoding.put_words.Given as goal
 

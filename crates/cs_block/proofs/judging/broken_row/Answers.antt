@@ -1,5 +1,5 @@
 use Rattle.std.proofs.Common.{sym, ◌∙◌, arith}
-use Rattle.cs_block.proofs.PassLemmas.{judging, judges_on, judged_all, too_late, stuck}
+use Rattle.cs_block.proofs.RulePasses.{judging, judges_on, judged_all, too_late, stuck}
 use Rattle.cs_block.proofs.judging.broken_row.Goals as goal
 
 pub loop-i-init : goal.loop-i-init

@@ -2,7 +2,7 @@ use Rattle.std.proofs.Common.{rules, ◌≡◌, true, ◌++◌, length, take, dr
 use Rattle.std.proofs.lemmas.List.{append-nil, drop_all, take_all}
 use Rattle.cs_block.specs.ColumnsView.{seen_columns}
 use Rattle.cs_block.specs.Positions.{HasPositions}
-use Rattle.cs_block.specs.Runs.{AreScores}
+use Rattle.cs_block.specs.RowRuns.{AreScores}
 use Rattle.cs_block.proofs.PositionsLemmas.{positions_all}
 use Rattle.cs_block.proofs.positions.read_positions.Goals as goal
 

@@ -1,7 +1,7 @@
 use Rattle.std.proofs.Common.{◌≡◌, ℕ, suc, ◌<◌, true}
 use Rattle.std.specs.Ordering.{is_lt}
 use Rattle.cs_base.specs.content.Orders.{by_place}
-use Rattle.cs_block.specs.Runs.{unscored}
+use Rattle.cs_block.specs.RowRuns.{unscored}
 use Rattle.cs_block.proofs.run_columns.are_ascending.Given as goal
 
 abbrev pub invariant-loop-i : goal.invariant-loop-i

@@ -1,7 +1,7 @@
 use Rattle.std.proofs.Common.{◌≡◌, ℕ, ◌+◌, ◌-◌, ◌≤◌, List, ◌++◌, length, take, drop, refl, sym, ap, subst, ◌∙◌, arith}
 use Rattle.std.proofs.lemmas.List.{get_or-take, length-append, length-drop, length-take, take_all}
 use Rattle.std.proofs.lemmas.Option.{IfSome_then}
-use Rattle.cs_block.specs.Runs.{HasDocs, doc_after}
+use Rattle.cs_block.specs.RowRuns.{HasDocs, doc_after}
 use Rattle.cs_block.specs.declared.run_docs.TheConstants.{STEP}
 use Rattle.cs_block.proofs.RunsLemmas.{doc_behind, docs_none, docs_put}
 use Rattle.cs_block.proofs.run_docs.docs_in.Goals as goal

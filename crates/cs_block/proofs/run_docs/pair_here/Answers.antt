@@ -1,5 +1,5 @@
 use Rattle.std.proofs.Common.{◌+◌, ◌-◌, ◌*◌, ◌<◌, get_or, refl, sym, subst, arith}
-use Rattle.cs_block.specs.Reading.{GapHere}
+use Rattle.cs_block.specs.BlockReading.{GapHere}
 use Rattle.cs_block.proofs.RunsLemmas.{short_here, two_here}
 use Rattle.cs_block.proofs.run_docs.pair_here.Goals as goal
 

@@ -1,5 +1,5 @@
 use Rattle.std.proofs.Common.{◌≡◌, ℕ, ◌+◌, length, arith, subst}
-use Rattle.cs_block.specs.Runs.{HasDocs}
+use Rattle.cs_block.specs.RowRuns.{HasDocs}
 use Rattle.cs_block.proofs.RunsLemmas.{DocsTo, docs_start, docs_more, docs_all, short_here}
 use Rattle.cs_block.proofs.run_docs.short_docs.Goals as goal
 

@@ -4,7 +4,7 @@ use Rattle.cs_base.specs.declared.content.doc.Post.{Post}
 use Rattle.cs_model_index.specs.BlockRules.{is_after}
 use Rattle.cs_block.specs.ColumnsView.{seen_columns}
 use Rattle.cs_block.specs.Pass.{HasPushed}
-use Rattle.cs_block.specs.Runs.{row_in}
+use Rattle.cs_block.specs.RowRuns.{row_in}
 use Rattle.cs_block.proofs.RunsLemmas.{docs_onward, is_run, pushes_run}
 use Rattle.cs_block.proofs.runs.push_run.Goals as goal
 

@@ -1,4 +1,4 @@
-use Rattle.cs_block.proofs.PassLemmas.{pushing}
+use Rattle.cs_block.proofs.RulePasses.{pushing}
 use Rattle.cs_block.proofs.runs.push_runs.Goals as goal
 
 pub loop-reached-init : goal.loop-reached-init

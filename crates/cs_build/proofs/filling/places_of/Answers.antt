@@ -1,6 +1,6 @@
 use Rattle.std.proofs.Common.{◌+◌, ◌++◌, refl, sym, ap, subst, ◌∙◌, append-nil, arith, get_or}
 use Rattle.std.proofs.lemmas.List.{drop_all}
-use Rattle.cs_build.specs.WordRuns.{places_from}
+use Rattle.cs_build.specs.WordRuns.{run_places_from}
 use Rattle.cs_build.proofs.FillLemmas.{NextPlaces, span_ends, next_places}
 use Rattle.cs_build.proofs.filling.places_of.Goals as goal
 
@@ -19,4 +19,4 @@ loop-i-preserved c =
 
 pub returns : goal.returns
 returns c =
-    sym (append-nil c.loop-i.places.items) ∙ sym (ap (λ rs. c.loop-i.places.items ++ places_from c.loop-i.i rs) (drop_all c.loop-i.i c.args.runs.now (omega (arith, c.loop-i-test.false)))) ∙ c.loop-i.invariant.told
+    sym (append-nil c.loop-i.places.items) ∙ sym (ap (λ rs. c.loop-i.places.items ++ run_places_from c.loop-i.i rs) (drop_all c.loop-i.i c.args.runs.now (omega (arith, c.loop-i-test.false)))) ∙ c.loop-i.invariant.told

@@ -2,7 +2,7 @@ use Rattle.std.proofs.Common.{◌≡◌, ◌++◌, ◌∙◌, [], ap, sym, arith
 use Rattle.std.specs.Prelude.{filter}
 use Rattle.std.proofs.lemmas.List.{append-nil, drop_all}
 use Rattle.cs_cols.proofs.Columns.{posts-length}
-use Rattle.cs_file.specs.Answers.{posts_in}
+use Rattle.cs_file.specs.CallAnswers.{posts_in}
 use Rattle.cs_tables.specs.WordCounts.{is_chosen}
 use Rattle.cs_engine.specs.Packing.{key_of}
 use Rattle.cs_engine.proofs.packing.pack.Goals as goal

@@ -2,7 +2,7 @@ use Rattle.std.proofs.Common.{◌≡◌, ◌+◌, ◌<◌, ◌++◌, ap, ◌∙�
 use Rattle.std.specs.Prelude.{filter, if◌then◌else◌}
 use Rattle.std.specs.Int.{from_bool}
 use Rattle.cs_cols.proofs.Columns.{posts-length}
-use Rattle.cs_file.specs.Answers.{posts_in}
+use Rattle.cs_file.specs.CallAnswers.{posts_in}
 use Rattle.cs_tables.specs.WordCounts.{is_chosen}
 use Rattle.cs_engine.specs.Packing.{IsPacked, key_of}
 use Rattle.cs_engine.proofs.PackingLemmas.{at_most_one, at_place, counts_one, packs_on}

@@ -1,6 +1,6 @@
 use Rattle.std.proofs.Common.{◌≡◌, ◌+◌, ◌≤◌, ◌++◌, map, take, drop}
 use Rattle.std.specs.Prelude.{filter}
-use Rattle.cs_file.specs.Answers.{posts_in}
+use Rattle.cs_file.specs.CallAnswers.{posts_in}
 use Rattle.cs_tables.specs.WordCounts.{is_chosen}
 use Rattle.cs_engine.specs.Packing.{key_of}
 use Rattle.cs_engine.proofs.packing.pack_run.Given as goal

@@ -1,4 +1,4 @@
-use Rattle.cs_file.specs.Answers.{posts_in}
+use Rattle.cs_file.specs.CallAnswers.{posts_in}
 use Rattle.cs_tables.specs.WordCounts.{is_chosen}
 use Rattle.cs_engine.proofs.PackingLemmas.{keys_more, known_posts, packed_posts, within_posts}
 use Rattle.cs_engine.proofs.reading.pack_block.Goals as goal

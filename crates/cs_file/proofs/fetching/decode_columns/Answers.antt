@@ -2,7 +2,7 @@ use Rattle.std.proofs.Common.{List, ◌++◌, ◌∙◌, ap, subst}
 use Rattle.cs_base.specs.declared.content.doc.Post.{Post}
 use Rattle.cs_model.specs.Scores.{SCORES}
 use Rattle.cs_model_index.specs.BlockRules.{IsBlock}
-use Rattle.cs_file.proofs.DocWordsLemmas.{decoded_posts}
+use Rattle.cs_file.proofs.FetchedWords.{decoded_posts}
 use Rattle.cs_file.proofs.fetching.decode_columns.Goals as goal
 
 pub returns-clause-ok : goal.returns-clause-ok

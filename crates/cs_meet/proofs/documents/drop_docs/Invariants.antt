@@ -1,7 +1,7 @@
 use Rattle.std.proofs.Common.{◌≡◌, ◌≤◌, ◌++◌, length, drop}
 use Rattle.std.specs.Vec.{vec_len, vec_capacity}
 use Rattle.cs_meet.specs.Filters.{drop_docs}
-use Rattle.cs_meet.specs.Places.{AheadOf}
+use Rattle.cs_meet.specs.RowPlaces.{AheadOf}
 use Rattle.cs_meet.proofs.documents.drop_docs.Given as goal
 
 abbrev pub invariant-loop-scored : goal.invariant-loop-scored

@@ -1,6 +1,6 @@
 use Rattle.std.proofs.Common.{◌≡◌, ◌+◌, ◌-◌, ◌≤◌, ◌++◌, length, drop}
 use Rattle.cs_meet.specs.Filters.{keep_docs}
-use Rattle.cs_meet.specs.Places.{AheadOf}
+use Rattle.cs_meet.specs.RowPlaces.{AheadOf}
 use Rattle.cs_meet.proofs.documents.keep_docs.Given as goal
 
 abbrev pub invariant-loop-j : goal.invariant-loop-j

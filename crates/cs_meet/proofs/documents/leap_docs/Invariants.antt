@@ -1,5 +1,5 @@
 use Rattle.std.proofs.Common.{◌≤◌, ◌-◌, length}
-use Rattle.cs_meet.specs.Places.{AllBelow}
+use Rattle.cs_meet.specs.RowPlaces.{AllBelow}
 use Rattle.cs_meet.proofs.documents.leap_docs.Given as goal
 
 abbrev pub invariant-loop-lo : goal.invariant-loop-lo

@@ -2,7 +2,7 @@ use Rattle.std.proofs.Common.{◌≡◌, ◌+◌, ◌-◌, arith, subst}
 use Rattle.std.specs.List.{list_any}
 use Rattle.cs_base.specs.content.Orders.{by_place}
 use Rattle.cs_meet.specs.Filters.{stands_behind}
-use Rattle.cs_meet.specs.Places.{Splits}
+use Rattle.cs_meet.specs.RowPlaces.{Splits}
 use Rattle.cs_meet.proofs.Passes.{filter_more, filter_skip, filter_sorted, ahead_more, ahead_on, rises_behind}
 use Rattle.cs_meet.proofs.links.follow.Goals as goal
 

@@ -1,7 +1,7 @@
 use Rattle.std.proofs.Common.{◌≡◌, ◌+◌, ◌-◌, ◌≤◌, ◌++◌, length, drop}
 use Rattle.cs_base.specs.declared.content.doc.Post.{Post}
 use Rattle.cs_meet.specs.Filters.{follow}
-use Rattle.cs_meet.specs.Places.{Ahead}
+use Rattle.cs_meet.specs.RowPlaces.{Ahead}
 use Rattle.cs_meet.proofs.links.follow.Given as goal
 
 abbrev pub invariant-loop-j : goal.invariant-loop-j

@@ -4,7 +4,7 @@ use Rattle.std.specs.List.{list_any}
 use Rattle.cs_base.specs.content.Orders.{by_place}
 use Rattle.cs_base.specs.declared.content.limits.TheConstants.{MAX_DISTANCE}
 use Rattle.cs_meet.specs.Filters.{is_near}
-use Rattle.cs_meet.specs.Places.{Splits}
+use Rattle.cs_meet.specs.RowPlaces.{Splits}
 use Rattle.cs_meet.proofs.Passes.{filter_more, filter_skip, filter_sorted, ahead_more, ahead_on, rises_window, rises_past}
 use Rattle.cs_meet.proofs.links.near.Goals as goal
 

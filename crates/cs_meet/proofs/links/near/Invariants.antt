@@ -3,7 +3,7 @@ use Rattle.std.specs.Prelude.{max}
 use Rattle.cs_base.specs.declared.content.doc.Post.{Post}
 use Rattle.cs_base.specs.declared.content.limits.TheConstants.{MAX_DISTANCE}
 use Rattle.cs_meet.specs.Filters.{near}
-use Rattle.cs_meet.specs.Places.{Ahead}
+use Rattle.cs_meet.specs.RowPlaces.{Ahead}
 use Rattle.cs_meet.proofs.links.near.Given as goal
 
 abbrev pub invariant-loop-j : goal.invariant-loop-j

@@ -1,7 +1,7 @@
 use Rattle.std.proofs.Common.{◌≡◌, ◌+◌, ◌-◌, arith, subst, ℕ, ◌≤◌, ◌<◌, true, get_or}
 use Rattle.cs_base.specs.declared.content.doc.Post.{Post}
 use Rattle.cs_meet.specs.Filters.{stands_behind}
-use Rattle.cs_meet.specs.Places.{is_before}
+use Rattle.cs_meet.specs.RowPlaces.{is_before}
 use Rattle.cs_meet.proofs.Judged.{none_until, none_left, before_isnt_behind, far_isnt_behind}
 use Rattle.cs_meet.proofs.links.next_behind.Goals as goal
 

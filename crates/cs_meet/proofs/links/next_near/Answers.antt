@@ -3,7 +3,7 @@ use Rattle.std.specs.Prelude.{max}
 use Rattle.cs_base.specs.declared.content.doc.Post.{Post}
 use Rattle.cs_base.specs.declared.content.limits.TheConstants.{MAX_DISTANCE}
 use Rattle.cs_meet.specs.Filters.{is_near}
-use Rattle.cs_meet.specs.Places.{is_before}
+use Rattle.cs_meet.specs.RowPlaces.{is_before}
 use Rattle.cs_meet.proofs.Judged.{none_until, none_left, early_isnt_near, far_isnt_near}
 use Rattle.cs_meet.proofs.links.next_near.Goals as goal
 

@@ -1,5 +1,5 @@
 use Rattle.std.proofs.Common.{◌≤◌, ◌-◌, length}
-use Rattle.cs_meet.specs.Places.{AllBefore, IsNotBefore}
+use Rattle.cs_meet.specs.RowPlaces.{AllBefore, IsNotBefore}
 use Rattle.cs_meet.proofs.skip.search_between.Given as goal
 
 abbrev pub invariant-loop-lo : goal.invariant-loop-lo

@@ -1,5 +1,5 @@
 use Rattle.std.proofs.Common.{◌≤◌, ◌-◌, length}
-use Rattle.cs_meet.specs.Places.{AllBefore}
+use Rattle.cs_meet.specs.RowPlaces.{AllBefore}
 use Rattle.cs_meet.proofs.skip.skip_to.Given as goal
 
 abbrev pub invariant-loop-lo : goal.invariant-loop-lo

@@ -1,5 +1,5 @@
 use Rattle.std.proofs.Common.{◌≡◌, ◌+◌, ◌-◌, ◌≤◌, ◌++◌, length, drop}
-use Rattle.cs_meet.specs.Places.{AllLess, KeepsOrder}
+use Rattle.cs_meet.specs.RowPlaces.{AllLess, KeepsOrder}
 use Rattle.cs_meet.proofs.union.take_until.Given as goal
 
 abbrev pub invariant-loop-at : goal.invariant-loop-at

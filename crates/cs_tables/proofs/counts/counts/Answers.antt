@@ -4,7 +4,7 @@ use Rattle.cs_base.specs.declared.content.doc.Post.{Post}
 use Rattle.cs_base.specs.declared.content.limits.TheConstants.{MAX_DOCS, MAX_WORDS}
 use Rattle.cs_tables.specs.Marks.{collected}
 use Rattle.cs_tables.proofs.MarksLemmas.{each, has_room, in_range, seen_more}
-use Rattle.cs_tables.proofs.WordsLemmas.{counts-are, words_within}
+use Rattle.cs_tables.proofs.CountedWords.{counts-are, words_within}
 use Rattle.cs_tables.proofs.counts.counts.Goals as goal
 
 pub word_range-low-requires : goal.word_range-low-requires

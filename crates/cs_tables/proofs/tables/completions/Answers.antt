@@ -2,7 +2,7 @@ use Rattle.std.proofs.Common.{◌∙◌, ap, sym, length, take, map}
 use Rattle.std.specs.List.{take-map}
 use Rattle.cs_base.specs.content.Members.{members_in}
 use Rattle.cs_base.specs.content.Orders.{by_rank}
-use Rattle.cs_tables.specs.Listings.{completion}
+use Rattle.cs_tables.specs.TableListings.{completion}
 use Rattle.cs_tables.proofs.TablesLemmas.{table-is, table_total}
 use Rattle.cs_tables.proofs.tables.completions.Goals as goal
 

@@ -1,5 +1,5 @@
 use Rattle.std.proofs.Common.{◌≡◌, map, take}
-use Rattle.cs_tables.specs.Listings.{completion}
+use Rattle.cs_tables.specs.TableListings.{completion}
 use Rattle.cs_tables.proofs.tables.completions_of.Given as goal
 
 abbrev pub invariant-loop-counted : goal.invariant-loop-counted

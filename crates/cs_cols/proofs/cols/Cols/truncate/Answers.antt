@@ -1,7 +1,7 @@
 use Rattle.std.proofs.Common.{◌∙◌, ap, take}
 use Rattle.cs_cols.specs.Held.{Held}
 use Rattle.cs_cols.proofs.Columns.{even-take, posts-take}
-use Rattle.cs_cols.proofs.Placed.{placed-kept}
+use Rattle.cs_cols.proofs.PlacedLemmas.{placed-kept}
 use Rattle.cs_cols.proofs.cols.Cols.truncate.Goals as goal
 
 pub invariant_of-self : goal.invariant_of-self

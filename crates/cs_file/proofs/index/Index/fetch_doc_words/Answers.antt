@@ -1,6 +1,6 @@
 use Rattle.std.proofs.lemmas.Result.{on_ok_weaker}
 use Rattle.cs_file.proofs.FetchLemmas.{fault_changed, fault_unchanged, few_docs, shaped_read}
-use Rattle.cs_file.proofs.DocWordsLemmas.{doc_words_stood, docs_known, words_even, words_known}
+use Rattle.cs_file.proofs.FetchedWords.{doc_words_stood, docs_known, words_even, words_known}
 use Rattle.cs_file.proofs.index.Index.fetch_doc_words.Goals as goal
 
 pub doc_words_at-requires-clause-shaped : goal.doc_words_at-requires-clause-shaped

@@ -1,6 +1,6 @@
 use Rattle.std.proofs.lemmas.Result.{on_ok_weaker}
 use Rattle.cs_file.proofs.FetchLemmas.{fault_changed, fault_unchanged, few_docs, shaped_read}
-use Rattle.cs_file.proofs.DocWordsLemmas.{posts_even, posts_ranged, posts_stood}
+use Rattle.cs_file.proofs.FetchedWords.{posts_even, posts_ranged, posts_stood}
 use Rattle.cs_file.proofs.index.Index.fetch_posts.Goals as goal
 
 pub posts_at-requires-clause-shaped : goal.posts_at-requires-clause-shaped

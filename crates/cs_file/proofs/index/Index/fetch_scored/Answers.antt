@@ -1,6 +1,6 @@
 use Rattle.std.proofs.lemmas.Result.{on_ok_weaker}
 use Rattle.cs_file.proofs.FetchLemmas.{fault_changed, fault_unchanged, few_docs, shaped_read}
-use Rattle.cs_file.proofs.DocWordsLemmas.{docs_known, words_even, words_known}
+use Rattle.cs_file.proofs.FetchedWords.{docs_known, words_even, words_known}
 use Rattle.cs_file.proofs.ScoredLemmas.{scored_stood, scores_even, scores_small}
 use Rattle.cs_file.proofs.index.Index.fetch_scored.Goals as goal
 

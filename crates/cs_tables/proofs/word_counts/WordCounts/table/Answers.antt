@@ -4,7 +4,7 @@ use Rattle.std.specs.Prelude.{All}
 use Rattle.cs_base.specs.content.Members.{members_in}
 use Rattle.cs_base.specs.content.Orders.{by_rank}
 use Rattle.cs_tables.specs.declared.tables.Completion.{Completion}
-use Rattle.cs_tables.specs.Listings.{completion}
+use Rattle.cs_tables.specs.TableListings.{completion}
 use Rattle.cs_tables.specs.Marks.{collected}
 use Rattle.cs_tables.specs.WordCounts.{WordCountsView}
 use Rattle.cs_tables.proofs.TablesLemmas.{table-is, table_total}

@@ -15,7 +15,7 @@ use Rattle.cs_base.specs.declared.index.block.Broken.{Broken}
 use Rattle.cs_base.specs.declared.content.doc.Post.{Post}
 use Rattle.cs_model.specs.Scores.{SCORES}
 use Rattle.cs_model_index.specs.BlockRules.{codes_break, Item, item_row, doc_before, row_at, gap_bytes, rules, in_docs, in_words, in_kind, in_order, is_scored, is_after, first_break, first_broken, BlockColumns, block_items, judged_columns}
-use Rattle.cs_block.specs.Reading.{GapHere}
+use Rattle.cs_block.specs.BlockReading.{GapHere}
 use Rattle.cs_block.specs.Pass.{items_from, HasJudged, HasPushed}
 use Rattle.cs_block.proofs.ItemsLemmas.{bad_on, bad_here, bad_over, bad_done, items_on, items_end, items_start, keeps_on, keeps_end, keeps_start, keeps_found, or_broken, in_turn}
 

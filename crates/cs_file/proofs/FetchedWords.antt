@@ -15,8 +15,8 @@ use Rattle.cs_block.proofs.LawsLemmas.{unique}
 use Rattle.cs_model.specs.Scores.{SCORES}
 use Rattle.cs_model_index.specs.BlockRules.{IsBlock, is_scored, rows_read}
 use Rattle.cs_model_index.specs.Blocks.{IsShaped}
-use Rattle.cs_file.specs.Answers.{AreOf, IsRanged, posts_in}
-use Rattle.cs_file.specs.Fetching.{AreColumns, HasPosts, IsPlaced}
+use Rattle.cs_file.specs.CallAnswers.{AreOf, IsRanged, posts_in}
+use Rattle.cs_file.specs.Fetching.{AreColumns, HasPosts, IsBlockRead}
 use Rattle.cs_file.specs.declared.fetched.Fetched.{Fetched}
 use Rattle.cs_file.specs.declared.fetching.Placed.{Placed}
 use Rattle.cs_file.specs.Indexes.{IndexView, StandsFor, block_posts}
@@ -45,7 +45,7 @@ pub words_even : (head : BlockHead) (docs : ℕ) (bytes docs_now words_now : Lis
 words_even head docs bytes docs_now words_now h =
     ap length h.words_are ∙ length-map (rows_read head bytes) (λ (p : Post). p.word) ∙ sym (ap length h.docs_are ∙ length-map (rows_read head bytes) (λ (p : Post). p.doc))
 
-module _ (i : IndexView) (told : Option (List ℕ)) (k : ℕ) (placed : Placed) (read : List ℕ) (h : IsPlaced i told k placed read) where
+module _ (i : IndexView) (told : Option (List ℕ)) (k : ℕ) (placed : Placed) (read : List ℕ) (h : IsBlockRead i told k placed read) where
   known_rows : All (IsListable placed.head placed.docs) (rows_read placed.head read) → All (λ p. (p.doc < i.docs) × (p.word < length i.words)) (rows_read placed.head read)
   known_rows listable =
       let within = subst (λ (x : BlockHead). x.lo + x.words ≤ length i.words) (sym (h.head_is placed.head)) (head_within i h.index k placed.head h.known) in

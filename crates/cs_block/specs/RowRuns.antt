@@ -22,7 +22,7 @@ use Rattle.cs_base.specs.declared.content.doc.Post.{Post}
 use Rattle.cs_base.specs.declared.content.limits.TheConstants.{MAX_POSITION}
 use Rattle.cs_base.specs.declared.content.scores.TheConstants.{TITLE_SCORE, FACET_SCORE, TEXT_SCORE}
 use Rattle.cs_model_index.specs.BlockRules.{gap_len, gap_number}
-use Rattle.cs_block.specs.Reading.{GapHere}
+use Rattle.cs_block.specs.BlockReading.{GapHere}
 
 -- ---- the gap column
 

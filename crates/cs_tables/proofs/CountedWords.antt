@@ -21,7 +21,7 @@ use Rattle.cs_base.proofs.OrdersLemmas.{Less-from_lt}
 use Rattle.cs_base.specs.declared.content.limits.TheConstants.{MAX_DOCS}
 use Rattle.cs_rank.proofs.GroupsLemmas.{nothing_listed}
 use Rattle.cs_tables.specs.declared.counts.Mark.{Mark}
-use Rattle.cs_tables.specs.Listings.{with_word, doc_count}
+use Rattle.cs_tables.specs.TableListings.{with_word, doc_count}
 use Rattle.cs_tables.specs.Marks.{kept, collected, mark_of, counted_word, post_words}
 use Rattle.cs_tables.proofs.MarksLemmas.{word_marked, word_sorted}
 
