@@ -70,7 +70,7 @@ pub fn drop_docs(alloc: Global, base: &[Scored], rows: &Cols) -> Result<Seq<Scor
     Ok(Seq::from_vec(kept))
 }
 
-// The first place from `from` on whose document isn't less than `doc`. Near places are found without a loop.
+// The first place from `from` on whose document isn't less than `doc`.
 #[inline]
 fn skip_docs(docs: &[u32], from: usize, doc: u32) -> usize
     requires sorted { IsNonDecreasing docs.now }
@@ -79,31 +79,44 @@ fn skip_docs(docs: &[u32], from: usize, doc: u32) -> usize
 
     ensures { SplitsDocs docs.now result doc }
 {
-    if !reaches_below(docs, from, 1, doc) {
-        from
-    } else if reaches_below(docs, from + 1, NEAR_DOCS, doc) {
-        leap_docs(docs, from + 1 + NEAR_DOCS, doc)
-    } else if docs.len() - from <= NEAR_DOCS {
-        search_docs(docs, from + 1, docs.len(), doc)
+    if reaches_below(docs, from, 1, doc) {
+        skip_on(docs, from + 1, doc)
     } else {
-        from + 1 + near_below(docs, from, doc)
+        from
     }
 }
 
-// How many of the documents behind `from` are less than `doc`, where the one `NEAR_DOCS` behind isn't. It has no branch,
-// since nothing tells beforehand which way one would go.
+// The same where the place is most often near, and then found without a loop.
+fn skip_on(docs: &[u32], from: usize, doc: u32) -> usize
+    requires sorted { IsNonDecreasing docs.now }
+    requires within { from ≤ length docs.now }
+    requires below { AllBelow docs.now from doc }
+
+    ensures { SplitsDocs docs.now result doc }
+{
+    if reaches_below(docs, from, NEAR_DOCS, doc) {
+        leap_docs(docs, from + NEAR_DOCS, doc)
+    } else if docs.len() - from < NEAR_DOCS {
+        search_docs(docs, from, docs.len(), doc)
+    } else {
+        from + near_below(docs, from, doc)
+    }
+}
+
+// How many of the documents from `from` on are less than `doc`, where the last of the next `NEAR_DOCS` isn't. It has no
+// branch, since nothing tells beforehand which way one would go.
 #[inline]
 fn near_below(docs: &[u32], from: usize, doc: u32) -> usize
     requires sorted { IsNonDecreasing docs.now }
-    requires below { AllBelow docs.now (from + 1) doc }
-    requires within { from + NEAR_DOCS < length docs.now }
-    requires stop { doc ≤ slice_index docs.now (from + NEAR_DOCS) }
+    requires within { from + NEAR_DOCS ≤ length docs.now }
+    requires below { AllBelow docs.now from doc }
+    requires stop { doc ≤ slice_index docs.now (from + (NEAR_DOCS - 1)) }
 
-    ensures { SplitsDocs docs.now (from + 1 + result) doc }
+    ensures { SplitsDocs docs.now (from + result) doc }
 {
-    usize::from(docs[from + 1] < doc)
+    usize::from(docs[from] < doc)
+        + usize::from(docs[from + 1] < doc)
         + usize::from(docs[from + 2] < doc)
-        + usize::from(docs[from + 3] < doc)
 }
 
 // The first place from `from` on whose document isn't less than `doc`, by doubling and then halving.

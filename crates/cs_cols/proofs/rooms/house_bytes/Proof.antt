@@ -45,11 +45,11 @@ module _ {M : Type 1} {𝓤 : Ura M} (𝓛 : Logic 𝓤) (at_mem : Memory → SP
   walks : (C : Calls 𝓤 𝓛.H) (Λ : Loops 𝓤 𝓛.H) → FmC 𝓤 𝓛.H 𝓛.laws C → Triple 𝓤 (C key) (Lodges byte 𝓛 at_mem run)
       → Walks 𝓛 F.ended stayed (WpFn 𝓤 𝓛.H C Λ code.function) (F.clauses 𝓛 at_mem run)
   walks C Λ framed called z =
-      let vss = z.0.4 in
       let p = z.0.3.0 in
       let n = z.0.3.1.0 in
       let room = z.0.3.1.1.0 in
       let Asked = (room.ptr ≡ p) × (room.cap ≡ n) × (0 < n) × (n < 2 ^ 63) in
+      let vss = z.0.4 in
       let held = F.clauses 𝓛 at_mem run in
       let Post = (walk_of 𝓛 F.ended stayed held).post z in
       begins 𝓛 F.ended stayed held z Asked (id⊢ 𝓤 _) (λ asked.
