@@ -4,13 +4,13 @@
 --   DocsTo               what the loops over the gap column know; docs_start, docs_more, docs_all: their steps
 --   docs_joined          the documents of some rows, and of the rows behind them; docs_none, docs_put, doc_behind: the steps of a loop that joins them
 --   short_here           a byte below 128 is a code
---   two_here             a code of two bytes
+--   pair_here            a code of one byte or two
 --   IsRun, is_run        a run of rows that keep the rules, from the facts of its columns
 --   pushes_run           what is known behind it: what is known behind each of its rows, one by one
-use Rattle.std.proofs.Common.{◌≡◌, ℕ, zero, suc, ◌+◌, ◌-◌, ◌*◌, ◌/◌, ◌%◌, ◌<◌, ◌≤◌, Bool, true, false, ltb, List, [], ◌∷◌, ◌++◌, length, get_or, set, take, drop, Option, Some, refl, sym, ap, ap₂, subst, ◌∙◌, append_assoc, arith, inl, inr}
+use Rattle.std.proofs.Common.{◌≡◌, ℕ, zero, suc, ◌+◌, ◌-◌, ◌*◌, ◌/◌, ◌%◌, ◌<◌, ◌≤◌, Bool, true, false, ◌&&◌, ◌||◌, ltb, List, [], ◌∷◌, ◌++◌, length, get_or, set, take, drop, Option, Some, refl, sym, ap, ap₂, subst, ◌∙◌, append_assoc, arith, inl, inr}
 use Rattle.std.specs.Int.{w16, w32, from_be_bytes}
 use Rattle.std.specs.Option.{unwrap_or}
-use Rattle.std.proofs.lemmas.Bool.{cases_eq, cases_lt, lt-ltb, le-ltb, and_from}
+use Rattle.std.proofs.lemmas.Bool.{cases_eq, cases_lt, lt-ltb, le-ltb, ltb-true, and_parts, and_from, or_cases}
 use Rattle.std.proofs.lemmas.List.{get_or_append_left, get_or-append_right, length-append, length-take, get_or-set_same, get_or-set_other, drop_more, append-nil, take_more, take_all, get_or-take, get_or-drop}
 use Rattle.std.proofs.lemmas.Slice.{take-put_mid}
 use Rattle.cs_base.specs.index.GapCode.{code, code_in, first_code}
@@ -182,7 +182,7 @@ pair_code a b n long byte some lt e =
     let digit : n % 128 + 128 ≡ a = omega arith in
     rw (le-ltb n 128 large, quotient, digit, lt-ltb b 128 lt) refl
 
-pub two_here : (gaps : List ℕ) (at n next : ℕ) → at + 1 < length gaps → 128 ≤ get_or gaps at 0 → get_or gaps at 0 < 256 → 0 < get_or gaps (at + 1) 0 → get_or gaps (at + 1) 0 < 128
+two_here : (gaps : List ℕ) (at n next : ℕ) → at + 1 < length gaps → 128 ≤ get_or gaps at 0 → get_or gaps at 0 < 256 → 0 < get_or gaps (at + 1) 0 → get_or gaps (at + 1) 0 < 128
     → n + 128 ≡ get_or gaps at 0 + 128 * get_or gaps (at + 1) 0 → next ≡ at + 2 → GapHere gaps at n next
 two_here gaps at n next inside long byte some lt e is =
     let a = get_or gaps at 0 in
@@ -196,6 +196,22 @@ two_here gaps at n next inside long byte some lt e is =
       within = omega arith;
       below = omega arith;
     }
+
+-- one byte or two, as the test says
+pub pair_here : (gaps : List ℕ) (at n next : ℕ) → at + 1 < length gaps → get_or gaps at 0 < 256
+    → (ltb (get_or gaps at 0) 128 || (ltb 0 (get_or gaps (at + 1) 0) && ltb (get_or gaps (at + 1) 0) 128)) ≡ true
+    → (get_or gaps at 0 < 128 → n ≡ get_or gaps at 0) → (128 ≤ get_or gaps at 0 → n + 128 ≡ get_or gaps at 0 + 128 * get_or gaps (at + 1) 0)
+    → (get_or gaps at 0 < 128 → next ≡ at + 1) → (128 ≤ get_or gaps at 0 → next ≡ at + 2) → GapHere gaps at n next
+pair_here gaps at n next inside byte test one two one_on two_on =
+    let a = get_or gaps at 0 in
+    let b = get_or gaps (at + 1) 0 in
+    elim (cases_lt a 128) [
+      | inl lt ↦ subst (λ (x : ℕ). GapHere gaps at x next) (sym (one lt)) (short_here gaps at next (one_on lt) (omega arith) lt)
+      | inr ge ↦ elim (or_cases (ltb a 128) (ltb 0 b && ltb b 128) test) [
+        | inl e ↦ absurd (let lt = ltb-true a 128 e in omega arith)
+        | inr e ↦ let p = and_parts (ltb 0 b) (ltb b 128) e in two_here gaps at n next inside ge byte (ltb-true 0 b p.0) (ltb-true b 128 p.1) (two ge) (two_on ge)
+      ]
+    ]
 
 -- ---- a run, row by row
 

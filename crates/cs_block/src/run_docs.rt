@@ -1,7 +1,7 @@
-//! The documents of rows, from the gap column: some rows at a time, without a jump where each of their codes has one byte.
+//! The documents of rows, from the gap column: some rows at a time, in a loop without a jump where each of their codes has one
+//! byte, or one or two.
 ghost use Rattle.std.specs.Prelude.{◌≡◌, ℕ, ◌+◌, ◌*◌, ◌^◌, ◌<◌, ◌≤◌, ◌&&◌, ◌||◌, true, nat_lt, length, IfSome, slice_index_or};
-ghost use Rattle.cs_block.specs.BlockReading.{GapHere};
-ghost use Rattle.cs_block.specs.RowRuns.{HasDocs};
+ghost use Rattle.cs_block.specs.Runs.{HasDocs};
 ghost use Rattle.cs_block.specs.declared.run_docs.TheConstants.{STEP};
 
 use crate::columns::gap_here;
@@ -10,7 +10,7 @@ use crate::columns::gap_here;
 const FAR: u32 = 1 << 31;
 
 // So many rows at a time are looked at together: few enough that most have codes of one byte alone.
-const STEP: usize = 32;
+const STEP: usize = 16;
 
 /// The documents of as many rows as there is room for, and the place behind their gap codes, if the codes
 /// stand there and each document is below `docs`. `before` is the document of the row in front.
@@ -101,39 +101,49 @@ fn pair_docs(gaps: &[u8], at: usize, before: u32, docs: u32, out: &mut [u32]) ->
 
     ensures { IfSome result (λ next. HasDocs gaps.now at before docs out.new next) }
 {
+    let mut holds = true;
     let mut doc = before;
     let mut next = at;
     for i in 0..out.len() {
-        let (n, behind) = pair_here(gaps, next)?;
-        doc += n;
+        let first = gaps[next];
+        let second = gaps[next + 1];
+        holds &= is_pair(first, second);
+        doc += pair_number(first, second);
         out[i] = doc;
-        next = behind;
+        next += pair_len(first);
     }
-    if doc >= docs {
+    if !holds || doc >= docs {
         return None;
     }
     Some(next)
 }
 
-// The number whose code stands at a place of the gap column, and the place behind it, if it has one byte or two.
+// Whether a code of one byte or two begins with these two bytes.
 #[inline]
-fn pair_here(gaps: &[u8], at: usize) -> Option<(u32, usize)>
-    requires { at + 1 < length gaps.now }
-
-    ensures is { IfSome result (λ p. GapHere gaps.now at p.0 p.1) }
-    ensures few { IfSome result (λ p. p.0 < 2 ^ 15) }
-    ensures near { IfSome result (λ p. p.1 ≤ at + 2) }
+fn is_pair(first: u8, second: u8) -> bool
+    ensures { result ≡ (nat_lt first 128 || (nat_lt 0 second && nat_lt second 128)) }
 {
-    let first = gaps[at];
-    if first < 128 {
-        return Some((u32::from(first), at + 1));
-    }
-    let second = gaps[at + 1];
-    if second == 0 || second >= 128 {
-        return None;
-    }
-    let n = u32::from(first) - 128 + 128 * u32::from(second);
-    Some((n, at + 2))
+    (first < 128) | ((0 < second) & (second < 128))
+}
+
+// The number of that code.
+#[inline]
+fn pair_number(first: u8, second: u8) -> u32
+    ensures one { first < 128 → result ≡ first }
+    ensures two { 128 ≤ first → result + 128 ≡ first + 128 * second }
+    ensures few { result < 2 ^ 15 }
+{
+    u32::from(first % 128) + u32::from(first / 128) * (128 * u32::from(second))
+}
+
+// The bytes of that code.
+#[inline]
+fn pair_len(first: u8) -> usize
+    ensures one { first < 128 → result ≡ 1 }
+    ensures two { 128 ≤ first → result ≡ 2 }
+    ensures most { result ≤ 2 }
+{
+    1 + usize::from(first / 128)
 }
 
 // The same for all codes, one by one.
