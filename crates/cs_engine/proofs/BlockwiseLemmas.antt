@@ -3,9 +3,9 @@
 --   whole_block, many_more, many_all      blocks that lie within the range have that many posts of it
 --   scored_more         the scores of one block more
 --   hits_found, table_found      what is found are the documents and the table of the posts of the range
-use Rattle.std.proofs.Common.{◌≡◌, ℕ, zero, suc, ◌+◌, ◌-◌, ◌*◌, ◌<◌, ◌≤◌, ◌&&◌, Bool, true, false, cond, List, [], ◌∷◌, ◌++◌, length, get_or, take, drop, map, replicate, refl, sym, ap, subst, ◌∙◌, arith, length-append, if◌then◌else◌}
+use Rattle.std.proofs.Common.{◌≡◌, ℕ, suc, ◌+◌, ◌<◌, ◌≤◌, ◌&&◌, Bool, true, false, cond, List, [], ◌∷◌, ◌++◌, length, get_or, replicate, refl, sym, ap, subst, ◌∙◌, arith, length-append}
 use Rattle.std.specs.Prelude.{All, filter, nat_le, nat_lt}
-use Rattle.std.specs.List.{AllByRecursion, Contains, list_any}
+use Rattle.std.specs.List.{AllByRecursion, list_any}
 use Rattle.std.proofs.lemmas.Bool.{and_from, and_parts, leb-true}
 use Rattle.std.proofs.lemmas.Bool.Decides.{nat_tests}
 use Rattle.std.proofs.lemmas.List.{get_or-replicate}
@@ -15,7 +15,6 @@ use Rattle.cs_base.specs.declared.content.doc.Base.TheVariants as base
 use Rattle.cs_base.specs.declared.content.doc.Post.{Post}
 use Rattle.cs_base.specs.declared.content.doc.Scored.{Scored}
 use Rattle.cs_base.specs.declared.index.block.BlockHead.{BlockHead}
-use Rattle.cs_base.proofs.ListsLemmas.{filter_alike}
 use Rattle.cs_file.specs.Indexes.{IndexView, IsIndex, StandsFor, AreMet, block_posts}
 use Rattle.cs_file.proofs.PostsLemmas.{block_docs, block_words, posts_between}
 use Rattle.cs_file.proofs.StoodLemmas.{stood_block, stood_count}
@@ -25,10 +24,10 @@ use Rattle.cs_model_kept.specs.declared.limits.TheConstants.{MAX_ENTRY_SIZE}
 use Rattle.cs_rank.specs.DocScores.{best_row, scores, with_base}
 use Rattle.cs_tables.specs.Listings.{post_table}
 use Rattle.cs_tables.specs.WordCounts.{chosen, is_chosen}
-use Rattle.cs_engine.specs.Blockwise.{AreMany, rows_within}
-use Rattle.cs_engine.specs.Counting.{AreListed, counted_rows, in_listed}
+use Rattle.cs_engine.specs.Blockwise.{rows_within}
+use Rattle.cs_engine.specs.Counting.{AreListed, counted_rows}
 use Rattle.cs_engine.specs.Loose.{HasBestScores, hits_in}
-use Rattle.cs_engine.specs.Reading.{AreWithin, IsWithin, by_post, run_of, stock_of}
+use Rattle.cs_engine.specs.Reading.{IsWithin, by_post, run_of, stock_of}
 use Rattle.cs_engine.specs.Stocked.{is_between}
 use Rattle.cs_engine.proofs.AlikeLemmas.{any_filter}
 use Rattle.cs_engine.proofs.BestLemmas.{alike_scores, hits_are, map_same}

@@ -9,7 +9,7 @@
 --   in_rows, run_known, ordered_within, ordered_passed, ordered_told     what is brought into order of it
 --   as_they_come        and what isn't
 --   keys_among, keys_between     what holds of each of the rows
-use Rattle.std.proofs.Common.{◌≡◌, ℕ, zero, suc, ◌+◌, ◌-◌, ◌*◌, ◌/◌, ◌%◌, ◌<◌, ◌≤◌, ◌==◌, ◌&&◌, ◌||◌, Bool, true, false, true≢false, cond, List, [], ◌∷◌, ◌++◌, length, get_or, take, drop, map, Option, None, refl, sym, ap, ap₂, subst, ◌∙◌, arith, set, append_assoc, length-take, if◌then◌else◌}
+use Rattle.std.proofs.Common.{◌≡◌, ℕ, zero, suc, ◌+◌, ◌-◌, ◌*◌, ◌/◌, ◌%◌, ◌<◌, ◌≤◌, ◌==◌, ◌&&◌, ◌||◌, Bool, true, false, true≢false, cond, List, [], ◌∷◌, ◌++◌, length, get_or, take, drop, map, Option, refl, sym, ap, ap₂, subst, ◌∙◌, arith, set, append_assoc, length-take, if◌then◌else◌}
 use Rattle.std.specs.Prelude.{All, filter, flat_map, nat_le, nat_lt}
 use Rattle.std.specs.Int.{from_bool}
 use Rattle.std.specs.List.{AllByRecursion, Contains, list_any}

@@ -37,7 +37,6 @@ use Rattle.cs_model.specs.Answers as answers
 use Rattle.cs_model_kept.specs.Entries.{Entry, EntryOf, entry_at, entry_after, hits_of, is_begun, is_hit, over, without}
 use Rattle.cs_model_kept.specs.Entries as kept
 use Rattle.cs_rank.specs.DocScores.{IsBase, best_row, greatest, of_doc, scores, with_base}
-use Rattle.cs_rank.specs.DocScores as rank
 use Rattle.cs_engine.specs.Reading.{AreWithin, IsWithin}
 use Rattle.cs_engine.specs.Steps.{docs_after, posts_hits, posts_after, with_no_score, IsHitOf, IsBaseOf, EntryFits, IsStep, is_in_base, most}
 use Rattle.cs_model_index.specs.Numbered.{row_of, rows_at}

@@ -1,8 +1,7 @@
-use Rattle.std.proofs.Common.{◌≡◌, ◌+◌, ◌<◌, ◌∙◌, refl, ap, sym, subst, arith, length, map, take, set, get_or}
+use Rattle.std.proofs.Common.{◌≡◌, ◌+◌, ◌<◌, refl, sym, subst, arith, length, map, take, set, get_or}
 use Rattle.std.proofs.lemmas.List.{get_or_default}
 use Rattle.cs_cols.proofs.Columns.{post, posts-length}
 use Rattle.cs_file.specs.Answers.{posts_in}
-use Rattle.cs_tables.specs.WordCounts.{is_chosen}
 use Rattle.cs_engine.specs.Packing.{IsPacked, key_of}
 use Rattle.cs_engine.proofs.PackingLemmas.{at_place, packs_placed, place_known, placed_on}
 use Rattle.cs_engine.proofs.packing.pack_run.Goals as goal
