@@ -1,7 +1,7 @@
 //! The documents of rows, from the gap column: some rows at a time, in a loop without a jump where each of their codes has one
 //! byte, or one or two.
 ghost use Rattle.std.specs.Prelude.{◌≡◌, ℕ, ◌+◌, ◌*◌, ◌^◌, ◌<◌, ◌≤◌, ◌&&◌, ◌||◌, true, nat_lt, length, IfSome, slice_index_or};
-ghost use Rattle.cs_block.specs.Runs.{HasDocs};
+ghost use Rattle.cs_block.specs.RowRuns.{HasDocs};
 ghost use Rattle.cs_block.specs.declared.run_docs.TheConstants.{STEP};
 
 use crate::columns::gap_here;

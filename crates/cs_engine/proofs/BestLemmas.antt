@@ -1,10 +1,13 @@
 -- The table of documents: row by row, and the hits that are read off it.
 --
 --   raised_more, raised_all      rows are noted one after the other
+--   raised_where, raised_row, raised_rows     and those that pass a test
 --   hits_more, hits_all          the hits of the table
 --   hits_are                     are the documents of the rows with their scores
 --   small_score, best_small      which are small
+--   map_same                     functions that agree
 --   alike_scores                 which depend on the rows' members alone
+--   hits_fit                     they are in range
 --   written_back                 a table that was lent
 use Rattle.std.proofs.Common.{◌≡◌, ℕ, zero, suc, ◌+◌, ◌-◌, ◌≤◌, ◌<◌, ◌==◌, ◌&&◌, ◌||◌, Bool, true, false, List, [], ◌∷◌, ◌++◌, map, take, drop, length, get_or, cond, refl, sym, ◌∙◌, ap, subst, arith, append-nil, length-set}
 use Rattle.std.specs.Prelude.{max, nat_lt, nat_le, All, filter, slice_index, slice_set}
@@ -15,19 +18,24 @@ use Rattle.std.specs.declared.cmp.Ordering.TheVariants.{Less}
 use Rattle.std.specs.Cmp.{nat_cmp_total}
 use Rattle.std.specs.FinMap.{nat_cmp-IsAntisymmetric}
 use Rattle.std.proofs.lemmas.Bool.Decides.{nat_tests}
-use Rattle.std.proofs.lemmas.List.{get_or-set_same, get_or-set_other, take_all, append_assoc, drop_all, map-append}
-use Rattle.std.proofs.lemmas.List.Elements.{All-filter, All-map, filter-append, recursion_from_All}
+use Rattle.std.proofs.lemmas.List.{get_or-set_same, get_or-map, get_or-set_other, get_or_default, length-map, take_all, take_more, append_assoc, drop_all, map-append}
+use Rattle.std.proofs.lemmas.List.Elements.{All-filter, All-from_recursion, All-map, filter-append, recursion_from_All}
 use Rattle.std.proofs.lemmas.List.Kept.{IsStrictlySortedBy-filter}
-use Rattle.cs_base.specs.content.Orders.{docs_of}
+use Rattle.cs_base.specs.content.Orders.{AreByDoc, docs_of}
+use Rattle.cs_base.specs.declared.content.doc.Base.TheVariants as base
 use Rattle.cs_base.specs.declared.content.doc.Base.{Base}
 use Rattle.cs_base.specs.declared.content.doc.Post.{Post}
 use Rattle.cs_base.specs.declared.content.doc.Scored.{Scored}
 use Rattle.cs_base.proofs.MembersLemmas.{members_are, members-alike}
 use Rattle.cs_base.proofs.OrdersLemmas.{Less-from_lt}
+use Rattle.cs_base.specs.declared.content.scores.TheConstants.{MAX_ROW_SCORE}
+use Rattle.cs_file.specs.CallAnswers.{AreScoredOf}
 use Rattle.cs_rank.specs.DocScores.{greatest, of_doc, best_row, scores, with_base}
 use Rattle.cs_meet.proofs.Passes.{next_is}
 use Rattle.cs_engine.specs.Loose.{best_of, HasBestScores, hits_in}
 use Rattle.cs_engine.specs.Packing.{post_of_key}
+use Rattle.cs_engine.specs.Steps.{IsBaseOf, IsHitOf}
+use Rattle.cs_engine.specs.Stocked.{is_between}
 use Rattle.cs_engine.proofs.AlikeLemmas.{any_filter}
 use Rattle.cs_engine.proofs.FoundLemmas.{greatest_small}
 use Rattle.cs_engine.proofs.KeysLemmas.{one_more}
@@ -85,6 +93,53 @@ raised_more seen keys best i row v l at in_best is has =
 
 pub raised_all : (seen : List Post) (keys best : List ℕ) (i : ℕ) → length keys ≤ i → HasBestScores (seen ++ map post_of_key (take i keys)) best → HasBestScores (seen ++ map post_of_key keys) best
 raised_all seen keys best i l has = subst (λ ks. HasBestScores (seen ++ map post_of_key ks) best) (take_all i keys l) has
+
+-- a row is noted where it passes a test
+pub raised_where : (t : Post → Bool) (seen rows : List Post) (best : List ℕ) (i : ℕ) (p : Post) (v : ℕ) → i < length rows → p ≡ get_or rows i p → p.doc < length best → v ≡ max (slice_index best p.doc) (cond (t p) (p.score + 1) 0)
+    → HasBestScores (seen ++ filter t (take i rows)) best → HasBestScores (seen ++ filter t (take (i + 1) rows)) (slice_set best p.doc v)
+raised_where t seen rows best i p v lt at in_best is has =
+    let longer : filter t (take (i + 1) rows) ≡ filter t (take i rows) ++ cond (t p) (p ∷ []) [] =
+    ap (filter t) (take_more rows i p lt ∙ ap (λ x. take i rows ++ x ∷ []) (sym at)) ∙ filter-append t (take i rows) (p ∷ []) in
+    elim (t p) as (λ b. v ≡ max (slice_index best p.doc) (cond b (p.score + 1) 0) → filter t (take (i + 1) rows) ≡ filter t (take i rows) ++ cond b (p ∷ []) [] → HasBestScores (seen ++ filter t (take (i + 1) rows)) (slice_set best p.doc v)) [
+      | true ↦ λ e more.
+          subst (λ xs. HasBestScores xs (slice_set best p.doc v)) (append_assoc seen (filter t (take i rows)) (p ∷ []) ∙ ap (λ xs. seen ++ xs) (sym more)) (raised (seen ++ filter t (take i rows)) best p v in_best e has)
+      | false ↦ λ e more.
+          let stays : v ≡ slice_index best p.doc = omega (arith, e) in
+          subst (λ xs. HasBestScores (seen ++ xs) (slice_set best p.doc v)) (sym (more ∙ append-nil (filter t (take i rows)))) (set_again (seen ++ filter t (take i rows)) best p.doc v in_best stays has)
+    ] is longer
+  where
+    set_again : (seen : List Post) (best : List ℕ) (d v : ℕ) → d < length best → v ≡ slice_index best d → HasBestScores seen best → HasBestScores seen (slice_set best d v)
+    set_again seen best d v l same has e m =
+        let long = length-set best d v in
+        elim (d == e) as (λ b. (d == e) ≡ b → slice_index (slice_set best d v) e ≡ best_of seen e) [
+          | true ↦ λ is.
+              let one : d ≡ e = same_number d e is in
+              ap (slice_index (slice_set best d v)) (sym one) ∙ get_or-set_same best d v 0 l ∙ same ∙ has d l ∙ ap (best_of seen) one
+          | false ↦ λ is. get_or-set_other best d e v 0 (λ f. other_number d e is (sym f)) ∙ has e (omega (arith, m, long))
+        ] refl
+
+-- the step of the loop over columns
+pub raised_row : (lo hi : ℕ) (seen rows : List Post) (docs words scores best : List ℕ) (i v : ℕ) → AreScoredOf rows docs words scores → i < length docs → slice_index docs i < length best
+    → v ≡ max (slice_index best (slice_index docs i)) (cond (nat_le lo (slice_index words i) && nat_lt (slice_index words i) hi) (slice_index scores i + 1) 0)
+    → HasBestScores (seen ++ filter (is_between lo hi) (take i rows)) best → HasBestScores (seen ++ filter (is_between lo hi) (take (i + 1) rows)) (slice_set best (slice_index docs i) v)
+raised_row lo hi seen rows docs words scores best i v are lt below is has =
+    let none : Post = record { doc = 0; word = 0; pos = 0; score = 0 } in
+    let p = get_or rows i none in
+    let long : length docs ≡ length rows = ap length are.0.0 ∙ length-map rows (λ (p : Post). p.doc) in
+    let inside : i < length rows = omega (arith, lt, long) in
+    let d : slice_index docs i ≡ p.doc = ap (λ l. get_or l i 0) are.0.0 ∙ get_or-map (λ (p : Post). p.doc) rows i none 0 inside in
+    let w : slice_index words i ≡ p.word = ap (λ l. get_or l i 0) are.0.1 ∙ get_or-map (λ (p : Post). p.word) rows i none 0 inside in
+    let s : slice_index scores i ≡ p.score = ap (λ l. get_or l i 0) are.1 ∙ get_or-map (λ (p : Post). p.score) rows i none 0 inside in
+    let value : v ≡ max (slice_index best p.doc) (cond (is_between lo hi p) (p.score + 1) 0) =
+    is ∙ ap (λ n. max (slice_index best n) (cond (nat_le lo (slice_index words i) && nat_lt (slice_index words i) hi) (slice_index scores i + 1) 0)) d
+    ∙ ap (λ n. max (slice_index best p.doc) (cond (nat_le lo n && nat_lt n hi) (slice_index scores i + 1) 0)) w ∙ ap (λ n. max (slice_index best p.doc) (cond (is_between lo hi p) (n + 1) 0)) s in
+    subst (λ n. HasBestScores (seen ++ filter (is_between lo hi) (take (i + 1) rows)) (slice_set best n v)) (sym d)
+    (raised_where (is_between lo hi) seen rows best i p v inside (get_or_default rows i none p inside) (subst (λ n. n < length best) d below) value has)
+
+pub raised_rows : (lo hi : ℕ) (seen rows : List Post) (docs words scores best : List ℕ) (i : ℕ) → AreScoredOf rows docs words scores → length docs ≤ i → HasBestScores (seen ++ filter (is_between lo hi) (take i rows)) best → HasBestScores (seen ++ filter (is_between lo hi) rows) best
+raised_rows lo hi seen rows docs words scores best i are le has =
+    let long : length docs ≡ length rows = ap length are.0.0 ∙ length-map rows (λ (p : Post). p.doc) in
+    subst (λ rs. HasBestScores (seen ++ filter (is_between lo hi) rs) best) (take_all i rows (omega (arith, le, long))) has
 
 -- a number has little room for a score
 pub small_score : (k : ℕ) → (post_of_key k).score < 8
@@ -251,15 +306,15 @@ pub hits_are : (seen : List Post) (best : List ℕ) → HasBestScores seen best 
 hits_are seen best has inside =
     read_off seen 0 best (λ i l. let e : i ≡ 0 + i = omega arith in has i l ∙ ap (best_of seen) e) ∙ ap (map (best_row seen)) (docs_are seen (length best) inside)
 
-map_same : {X : Type 0} (f g : ℕ → X) → ((w : ℕ) → f w ≡ g w) → (ws : List ℕ) → map f ws ≡ map g ws
+pub map_same : {X : Type 0} (f g : ℕ → X) → ((w : ℕ) → f w ≡ g w) → (ws : List ℕ) → map f ws ≡ map g ws
 map_same f g h [] = refl
 map_same f g h (w ∷ ws) = ap (λ x. x ∷ map f ws) (h w) ∙ ap (λ l. g w ∷ l) (map_same f g h ws)
 
 -- each is small
-pub best_small : (keys : List ℕ) → All (λ h. h.score ≤ 255) (map (best_row (map post_of_key keys)) (docs_of (map post_of_key keys)))
+pub best_small : (keys : List ℕ) → All (λ h. h.score ≤ MAX_ROW_SCORE) (map (best_row (map post_of_key keys)) (docs_of (map post_of_key keys)))
 best_small keys =
     let rows = map post_of_key keys in
-    All-map (λ h. h.score ≤ 255) (best_row rows) (docs_of rows) (λ k d l. greatest_small (of_doc (get_or (docs_of rows) k d) rows) (recursion_from_All (λ p. p.score ≤ 255) (of_doc (get_or (docs_of rows) k d) rows) (All-filter (λ p. p.doc == get_or (docs_of rows) k d) (λ p. p.score ≤ 255) rows (All-map (λ p. p.score ≤ 255) post_of_key keys (λ j e m. let s = small_score (get_or keys j e) in omega (arith, s))))))
+    All-map (λ h. h.score ≤ MAX_ROW_SCORE) (best_row rows) (docs_of rows) (λ k d l. greatest_small (of_doc (get_or (docs_of rows) k d) rows) (recursion_from_All (λ p. p.score ≤ MAX_ROW_SCORE) (of_doc (get_or (docs_of rows) k d) rows) (All-filter (λ p. p.doc == get_or (docs_of rows) k d) (λ p. p.score ≤ MAX_ROW_SCORE) rows (All-map (λ p. p.score ≤ MAX_ROW_SCORE) post_of_key keys (λ j e m. let s = small_score (get_or keys j e) in omega (arith, s))))))
 
 -- ---- rows with the same members
 score_over : (rows : List Post) (d k : ℕ) → nat_lt k (greatest (map (λ p. p.score) (of_doc d rows))) ≡ list_any (λ p. (p.doc == d) && nat_lt k p.score) rows
@@ -273,6 +328,43 @@ alike_scores b xs ys a =
     (λ d. ap (λ n. with_base b (record { doc = d; score = n })) (same_tests _ _ (λ k. score_over xs d k ∙ a _ ∙ sym (score_over ys d k)))) (docs_of xs)
     ∙ ap (map (λ d. with_base b (best_row ys d)))
     (members-alike nat_cmp nat_cmp_total nat_cmp-IsAntisymmetric (map (λ p. p.doc) xs) (map (λ p. p.doc) ys) (λ q. any_map (eq_by_cmp nat_cmp q) (λ p. p.doc) xs ∙ a _ ∙ sym (any_map (eq_by_cmp nat_cmp q) (λ p. p.doc) ys)))
+
+-- ---- the hits of a table are in range
+later_hits : (x a : ℕ) (bs : List ℕ) → x < a → AllByRecursion (λ h. nat_cmp x h.doc ≡ Less) (hits_in a bs)
+unfolding hits_in
+later_hits x a [] l = tt
+later_hits x a (v ∷ bs) l =
+    let rest = later_hits x (a + 1) bs (omega (arith, l)) in
+    elim (nat_lt 0 v) as (λ t. AllByRecursion (λ (h : Scored). nat_cmp x h.doc ≡ Less) (cond t (record { doc = a; score = v - 1 } ∷ hits_in (a + 1) bs) (hits_in (a + 1) bs))) [
+      | true ↦ (Less-from_lt x a l, rest)
+      | false ↦ rest
+    ]
+
+hits_rise : (a : ℕ) (bs : List ℕ) → AreByDoc (hits_in a bs)
+unfolding hits_in IsStrictlySortedBy
+hits_rise a [] = tt
+hits_rise a (v ∷ bs) =
+    let rest = hits_rise (a + 1) bs in
+    elim (nat_lt 0 v) as (λ t. AreByDoc (cond t (record { doc = a; score = v - 1 } ∷ hits_in (a + 1) bs) (hits_in (a + 1) bs))) [
+      | true ↦ (later_hits a (a + 1) bs (omega arith), rest)
+      | false ↦ rest
+    ]
+
+hits_small : (docs bound a : ℕ) (bs : List ℕ) → a + length bs ≤ docs → AllByRecursion (λ v. v ≤ bound) bs → AllByRecursion (IsHitOf docs bound) (hits_in a bs)
+unfolding hits_in
+hits_small docs bound a [] le h = tt
+hits_small docs bound a (v ∷ bs) le h =
+    let rest = hits_small docs bound (a + 1) bs (omega (arith, le)) h.1 in
+    let low = h.0 in
+    elim (nat_lt 0 v) as (λ t. AllByRecursion (IsHitOf docs bound) (cond t (record { doc = a; score = v - 1 } ∷ hits_in (a + 1) bs) (hits_in (a + 1) bs))) [
+      | true ↦ (record { doc = omega (arith, le); score = omega (arith, low) }, rest)
+      | false ↦ rest
+    ]
+
+pub hits_fit : (docs bound : ℕ) (best : List ℕ) (hits : List Scored) → length best ≡ docs → All (λ v. v ≤ bound) best → hits ≡ hits_in 0 best → IsBaseOf docs bound (base.Listed hits)
+hits_fit docs bound best hits long small are =
+    subst (λ hs. IsBaseOf docs bound (base.Listed hs)) (sym are)
+    (hits_rise 0 best, All-from_recursion (IsHitOf docs bound) (hits_in 0 best) (hits_small docs bound 0 best (omega (arith, long)) (recursion_from_All (λ v. v ≤ bound) best small)))
 
 -- a vector that a slice was lent of
 pub written_back : (n : ℕ) (a b : List ℕ) → length a ≡ length b → n ≡ length b → take n (a ++ drop (length a) b) ≡ a

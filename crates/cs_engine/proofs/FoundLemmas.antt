@@ -18,6 +18,7 @@ use Rattle.cs_base.specs.declared.content.doc.Base.TheVariants as base
 use Rattle.cs_base.specs.declared.content.doc.Post.{Post}
 use Rattle.cs_base.specs.declared.content.doc.Scored.{Scored}
 use Rattle.cs_base.specs.declared.content.query.Part.{Part, out-Part}
+use Rattle.cs_base.specs.declared.content.scores.TheConstants.{MAX_ROW_SCORE}
 use Rattle.cs_meet.specs.Filters.{keep_docs, drop_docs, is_of}
 use Rattle.cs_base.specs.content.Orders.{by_doc, AreDocs, AreByDoc}
 use Rattle.cs_meet.specs.Filters as meet
@@ -77,7 +78,7 @@ found_small bound d (x ∷ hs) h =
       | false ↦ found_small bound d hs h.1
     ]
 
-pub greatest_small : (ps : List Post) → AllByRecursion (λ p. p.score ≤ 255) ps → greatest (map (λ p. p.score) ps) ≤ 255
+pub greatest_small : (ps : List Post) → AllByRecursion (λ p. p.score ≤ MAX_ROW_SCORE) ps → greatest (map (λ p. p.score) ps) ≤ MAX_ROW_SCORE
 greatest_small [] h = omega arith
 greatest_small (p ∷ ps) h = (let rest = greatest_small ps h.1 in omega (arith, rest, h.0))
 

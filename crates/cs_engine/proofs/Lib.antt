@@ -2,6 +2,7 @@ pub mod AlikeLemmas
 pub mod AnsweringLemmas
 pub mod AtomsLemmas
 pub mod BestLemmas
+pub mod BlockwiseLemmas
 pub mod ColonLemmas
 pub mod CountingLemmas
 pub mod DistinctLemmas

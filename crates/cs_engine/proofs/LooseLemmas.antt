@@ -1,8 +1,8 @@
 -- The reply to a query whose last part asks for some words, from the rows of that part in any order.
 --
 --   chosen_entry, entry_fits     the entry of the rows in order
---   is_large                     where it is larger than may be kept
---   loose_table                  the table of rows in any order is that of the query
+--   large_entry, is_large        where it is larger than may be kept
+--   chosen_table, loose_table    the table of rows, in order and in any order, is that of the query
 use Rattle.std.proofs.Common.{◌≡◌, ℕ, ◌+◌, ◌-◌, ◌<◌, Bool, true, List, length, take, refl, sym, ap, subst, ◌∙◌, arith, if◌then◌else◌}
 use Rattle.std.specs.Prelude.{All, filter, nat_lt}
 use Rattle.std.proofs.lemmas.Bool.Decides.{nat_tests}
@@ -52,17 +52,25 @@ module _ (i : IndexView) (q : Query) (hits : Base) (lo hi : ℕ) (asks : AreLast
     pub chosen_entry : (posts : List Post) → posts ≡ filter (in_listed listed) (filter (is_between lo hi) (stock_of b).posts) → IsEntryOver b i q (entry_with hits posts)
     chosen_entry posts are = subst (IsEntryOver b i q) (sym (listed_entry i hits listed has b stands is lo hi posts are)) by
 
+    pub large_entry : (posts : List Post) → posts ≡ filter (in_listed listed) (filter (is_between lo hi) (stock_of b).posts) → MAX_ENTRY_SIZE < length posts + listed_count hits → kept_fresh (entry_of (file_corpus b) q) ≡ kept.TooLarge
+    large_entry posts are lt =
+        sym (fresh_is b i q (entry_with hits posts) (chosen_entry posts are))
+        ∙ ap (λ x. if x then kept.TooLarge else kept.Kept) (large_true MAX_ENTRY_SIZE (length posts + listed_count hits) lt)
+
+    pub chosen_table : (posts : List Post) → posts ≡ filter (in_listed listed) (filter (is_between lo hi) (stock_of b).posts) → (cut : ℕ) (found : List Scored) (t : Table) → found ≡ scores hits posts → t.first ≡ take cut (post_table posts) → t.total ≡ length (post_table posts)
+        → IsTableFor i b q cut (base.Listed found) t
+    chosen_table posts are cut found t found_are first total = record {
+      posts = posts;
+      found = found_by_entry i q (entry_with hits posts) true (sym asks.positive) (base.Listed found) (ap base.Listed found_are) b stands is (chosen_entry posts are);
+      within = subst (AreWithin i) (sym are) (kept_within i (in_listed listed) (filter (is_between lo hi) (stock_of b).posts) (kept_within i (is_between lo hi) (stock_of b).posts (stock_within b i stands is)));
+      first = first;
+      total = total;
+    }
+
     module _ (rows : List Post) (a : AreAlike (stock_of b) lo hi listed rows) where
       pub is_large : MAX_ENTRY_SIZE < length rows + listed_count hits → kept_fresh (entry_of (file_corpus b) q) ≡ kept.TooLarge
-      is_large lt =
-          sym (fresh_is b i q (entry_with hits chosen) (chosen_entry chosen refl))
-          ∙ ap (λ x. if x then kept.TooLarge else kept.Kept) (large_true MAX_ENTRY_SIZE (length chosen + listed_count hits) (subst (λ n. MAX_ENTRY_SIZE < n + listed_count hits) a.long lt))
+      is_large lt = large_entry chosen refl (subst (λ n. MAX_ENTRY_SIZE < n + listed_count hits) a.long lt)
 
       pub loose_table : (cut : ℕ) (found : List Scored) (t : Table) → found ≡ scores hits rows → t.first ≡ take cut (post_table rows) → t.total ≡ length (post_table rows) → IsTableFor i b q cut (base.Listed found) t
-      loose_table cut found t are first total = record {
-        posts = chosen;
-        found = found_by_entry i q (entry_with hits chosen) true (sym asks.positive) (base.Listed found) (ap base.Listed (are ∙ alike_scores hits rows chosen a.alike)) b stands is (chosen_entry chosen refl);
-        within = kept_within i (in_listed listed) (filter (is_between lo hi) (stock_of b).posts) (kept_within i (is_between lo hi) (stock_of b).posts (stock_within b i stands is));
-        first = first ∙ ap (take cut) (table_alike rows chosen a.alike);
-        total = total ∙ ap length (table_alike rows chosen a.alike);
-      }
+      loose_table cut found t are first total =
+          chosen_table chosen refl cut found t (are ∙ alike_scores hits rows chosen a.alike) (first ∙ ap (take cut) (table_alike rows chosen a.alike)) (total ∙ ap length (table_alike rows chosen a.alike))

@@ -3,13 +3,13 @@
 --   unkeyed             a packed post is the post of its number
 --   ordered_is          what is left of sorted numbers is in order, and loses no member
 --   packed_posts, within_posts, known_posts     posts that are read are packed, and in range
---   at_place, packs_on, packs_run     numbers of a run of posts, one post more, and of a run more
+--   at_place, chooses_on, place_known, placed_on, packs_placed, packs_run     places of a run of posts, one post more, the numbers of posts at them, and of a run more
 --   no_keys, keys_more  numbers of no block, and of one block more
 --   gathered            what is gathered of a run of blocks
---   ordered_within, ordered_passed, ordered_told     what is brought into order of it
+--   in_rows, run_known, ordered_within, ordered_passed, ordered_told     what is brought into order of it
 --   as_they_come        and what isn't
 --   keys_among, keys_between     what holds of each of the rows
-use Rattle.std.proofs.Common.{◌≡◌, ℕ, zero, suc, ◌+◌, ◌-◌, ◌*◌, ◌/◌, ◌%◌, ◌<◌, ◌≤◌, ◌==◌, ◌&&◌, ◌||◌, Bool, true, false, true≢false, cond, List, [], ◌∷◌, ◌++◌, length, get_or, take, drop, map, Option, None, refl, sym, ap, ap₂, subst, ◌∙◌, arith, set, append_assoc, if◌then◌else◌}
+use Rattle.std.proofs.Common.{◌≡◌, ℕ, zero, suc, ◌+◌, ◌-◌, ◌*◌, ◌/◌, ◌%◌, ◌<◌, ◌≤◌, ◌==◌, ◌&&◌, ◌||◌, Bool, true, false, true≢false, cond, List, [], ◌∷◌, ◌++◌, length, get_or, take, drop, map, Option, refl, sym, ap, ap₂, subst, ◌∙◌, arith, set, append_assoc, length-take, if◌then◌else◌}
 use Rattle.std.specs.Prelude.{All, filter, flat_map, nat_le, nat_lt}
 use Rattle.std.specs.Int.{from_bool}
 use Rattle.std.specs.List.{AllByRecursion, Contains, list_any}
@@ -19,7 +19,7 @@ use Rattle.std.specs.declared.cmp.Ordering.{Ordering}
 use Rattle.std.specs.declared.cmp.Ordering.TheVariants.{Less, Equal}
 use Rattle.std.proofs.lemmas.Bool.{and_parts, eq-eqb, eqb-true, leb-true, ltb-false, ltb-true}
 use Rattle.std.proofs.lemmas.Bool.Decides.{nat_tests}
-use Rattle.std.proofs.lemmas.List.{map-append, drop_more, take-set, take_more_set}
+use Rattle.std.proofs.lemmas.List.{map-append, drop_more, get_or-take, get_or_default, take-set, take_more, take_more_set}
 use Rattle.std.proofs.lemmas.List.Elements.{All-nil, All-append, All-contains, All-filter, All-from_recursion, All-map, All-weaker, Contains-append_left, Contains-append_right, Contains-get_or, filter_passes, recursion_from_All}
 use Rattle.std.proofs.lemmas.List.Kept.{IsStrictlySortedBy-filter}
 use Rattle.std.proofs.lemmas.List.Sorted.{All-permutation, IsPermutation-map, list_any-IsPermutation}
@@ -35,7 +35,7 @@ use Rattle.cs_model.specs.Scores.{SCORES}
 use Rattle.cs_tables.specs.WordCounts.{AreCountable, is_chosen}
 use Rattle.cs_model_index.specs.BlockRules.{is_scored}
 use Rattle.cs_model_index.specs.Sections.{image_of}
-use Rattle.cs_engine.specs.Packing.{HasKeys, IsOrdered, IsPacked, apart, key_of, place_of_key, post_of_key}
+use Rattle.cs_engine.specs.Packing.{HasKeys, ArePlacedAt, IsOrdered, IsPacked, apart, key_of, place_of_key, post_of_key}
 use Rattle.cs_engine.specs.Counting.{in_listed}
 use Rattle.cs_engine.specs.Loose.{AreAlike, AreGathered}
 use Rattle.cs_engine.specs.Reading.{AreWithin, IsWithin, WhereStood, run_of, stock_of}
@@ -285,20 +285,53 @@ packs_run old now run rest here added run_is = ap (λ xs. xs ++ rest) added ∙ 
 none_more : (n : ℕ) → n + 0 ≡ n
 none_more n = omega arith
 
--- of one post more the number is put behind those that were chosen, and counts where it is chosen too
-pub packs_on : (t : Post → Bool) (posts : List Post) (i : ℕ) (p : Post) (run : List ℕ) (n m : ℕ) (whole : List ℕ) → i < length posts → p ≡ get_or posts i p → n < length run → m ≡ n + (if t p then 1 else 0)
-    → take n run ++ map key_of (filter t (drop i posts)) ≡ whole → take m (set run n (key_of p)) ++ map key_of (filter t (drop (i + 1) posts)) ≡ whole
-packs_on t posts i p run n m whole lt is room count h =
+-- of one post more the place is put behind those that were chosen, and counts where the post is chosen too
+pub chooses_on : (t : Post → Bool) (posts : List Post) (d : Post) (from i : ℕ) (places : List ℕ) (n m : ℕ) → i < length posts → n < length places → m ≡ n + (if t (get_or posts i d) then 1 else 0)
+    → ArePlacedAt posts d from i t (take n places) → ArePlacedAt posts d from (i + 1) t (take m (set places n i))
+chooses_on t posts d from i places n m lt room count h =
+    let p = get_or posts i d in
+    let at : ℕ → Post = λ i. get_or posts i d in
     let rest = drop (i + 1) posts in
-    let split : drop i posts ≡ p ∷ rest = drop_more posts i p lt ∙ ap (λ q. q ∷ rest) (sym is) in
-    elim (t p) as (λ b. t p ≡ b → m ≡ n + cond b 1 0 → take m (set run n (key_of p)) ++ map key_of (filter t rest) ≡ whole) [
-      | true ↦ λ e at.
-          ap (λ x. take x (set run n (key_of p)) ++ map key_of (filter t rest)) at ∙ ap (λ xs. xs ++ map key_of (filter t rest)) (take_more_set run n (key_of p) room) ∙ append_assoc (take n run) (key_of p ∷ []) (map key_of (filter t rest))
-          ∙ ap (λ b. take n run ++ map key_of (cond b (p ∷ filter t rest) (filter t rest))) (sym e) ∙ ap (λ xs. take n run ++ map key_of (filter t xs)) (sym split) ∙ h
-      | false ↦ λ e at.
-          ap (λ x. take x (set run n (key_of p)) ++ map key_of (filter t rest)) (at ∙ none_more n) ∙ ap (λ xs. xs ++ map key_of (filter t rest)) (take-set run n (key_of p))
-          ∙ ap (λ b. take n run ++ map key_of (cond b (p ∷ filter t rest) (filter t rest))) (sym e) ∙ ap (λ xs. take n run ++ map key_of (filter t xs)) (sym split) ∙ h
+    let split : drop i posts ≡ p ∷ rest = drop_more posts i d lt in
+    elim (t p) as (λ b. t p ≡ b → m ≡ n + cond b 1 0 → ArePlacedAt posts d from (i + 1) t (take m (set places n i))) [
+      | true ↦ λ e many.
+          let longer : take m (set places n i) ≡ take n places ++ i ∷ [] = ap (λ x. take x (set places n i)) many ∙ take_more_set places n i room in
+          record {
+            known = subst (All (λ i. i < length posts)) (sym longer) (All-append (λ i. i < length posts) (take n places) (i ∷ []) h.known (All-from_recursion (λ i. i < length posts) (i ∷ []) (lt, tt)));
+            are = ap (λ xs. map at xs ++ filter t rest) longer ∙ ap (λ xs. xs ++ filter t rest) (map-append at (take n places) (i ∷ [])) ∙ append_assoc (map at (take n places)) (p ∷ []) (filter t rest)
+                ∙ ap (λ b. map at (take n places) ++ cond b (p ∷ filter t rest) (filter t rest)) (sym e) ∙ ap (λ xs. map at (take n places) ++ filter t xs) (sym split) ∙ h.are;
+          }
+      | false ↦ λ e many.
+          let same : take m (set places n i) ≡ take n places = ap (λ x. take x (set places n i)) (many ∙ none_more n) ∙ take-set places n i in
+          record {
+            known = subst (All (λ i. i < length posts)) (sym same) h.known;
+            are = ap (λ xs. map at xs ++ filter t rest) same ∙ ap (λ b. map at (take n places) ++ cond b (p ∷ filter t rest) (filter t rest)) (sym e) ∙ ap (λ xs. map at (take n places) ++ filter t xs) (sym split) ∙ h.are;
+          }
     ] refl count
+
+-- each place has a post
+pub place_known : (posts : List Post) (d : Post) (from to : ℕ) (t : Post → Bool) (n k at : ℕ) (places : List ℕ) → ArePlacedAt posts d from to t (take n places) → k < n → n ≤ length places → at ≡ get_or places k at → at < length posts
+place_known posts d from to t n k at places h lt le is =
+    subst (λ x. x < length posts) (get_or-take n places k at lt ∙ sym is) (h.known k at (omega (arith, lt, le, length-take n places)))
+
+-- the number of one post more
+pub placed_on : (posts : List Post) (d : Post) (places run : List ℕ) (k at : ℕ) (p : Post) → k < length places → at ≡ get_or places k at → at < length posts → p ≡ get_or posts at p → k < length run
+    → take k run ≡ map (λ i. key_of (get_or posts i d)) (take k places) → take (k + 1) (set run k (key_of p)) ≡ map (λ i. key_of (get_or posts i d)) (take (k + 1) places)
+placed_on posts d places run k at p lt is known same room h =
+    let f : ℕ → ℕ = λ i. key_of (get_or posts i d) in
+    let one : key_of p ≡ f (get_or places k at) = ap key_of (same ∙ get_or_default posts at p d known) ∙ ap f is in
+    take_more_set run k (key_of p) room ∙ ap₂ (λ xs x. xs ++ x ∷ []) h one ∙ sym (ap (map f) (take_more places k at lt) ∙ map-append f (take k places) (get_or places k at ∷ []))
+
+-- the numbers of the posts at these places
+pub packs_placed : (posts : List Post) (d : Post) (from to : ℕ) (t : Post → Bool) (places run : List ℕ) → ArePlacedAt posts d from to t places → run ≡ map (λ i. key_of (get_or posts i d)) places
+    → run ++ map key_of (filter t (drop to posts)) ≡ map key_of (filter t (drop from posts))
+packs_placed posts d from to t places run h are =
+    let at : ℕ → Post = λ i. get_or posts i d in
+    ap (λ xs. xs ++ map key_of (filter t (drop to posts))) (are ∙ map_through places) ∙ sym (map-append key_of (map at places) (filter t (drop to posts))) ∙ ap (map key_of) h.are
+  where
+    map_through : (ns : List ℕ) → map (λ i. key_of (get_or posts i d)) ns ≡ map key_of (map (λ i. get_or posts i d) ns)
+    map_through [] = refl
+    map_through (n ∷ ns) = ap (λ xs. key_of (get_or posts n d) ∷ xs) (map_through ns)
 
 pub no_keys : (i : IndexView) (told : Option (List ℕ)) (first : ℕ) (t : Post → Bool) (keys : List ℕ) → keys ≡ [] → HasKeys i told first first t keys
 no_keys i told first t keys none = record {
@@ -324,7 +357,7 @@ keys_more i told first k t old new read index le lt added packed within block h 
       ap₂ (λ x y. x ++ y) (h.run b is stands) (ap (filter t) (block b is stands)) ∙ sym (flat_more (filter t) (image_of b).blocks first k le (omega (arith, lt, count)));
 }
 
-in_rows : (P : Post → Type 0) (rows posts : List Post) → All (Contains rows) posts → All P rows → All P posts
+pub in_rows : (P : Post → Type 0) (rows posts : List Post) → All (Contains rows) posts → All P rows → All P posts
 in_rows P rows posts among h = λ k d lt. All-contains P rows (get_or posts k d) h (among k d lt)
 
 pub ordered_within : (i : IndexView) (rows posts : List Post) → All (IsWithin i.docs (length i.words)) rows → IsOrdered rows posts → AreWithin i posts
@@ -352,7 +385,7 @@ module _ (P : Post → Type 0) (t : Post → Bool) where
       All-append P (filter t b) (flat_map (filter t) (take n bs)) (All-filter t P b (λ k d lt. h (get_or b k d) (Contains-append_left b (flat_map (λ block. block) bs) (get_or b k d) (Contains-get_or b k d lt))))
       (taken n bs (λ x c. h x (Contains-append_right b (flat_map (λ block. block) bs) x c)))
 
-run_known : (b : List ℕ) (i : IndexView) → StandsFor b i → IsIndex i → (first last : ℕ) (t : Post → Bool) → All (Contains (stock_of b).posts) (run_of (image_of b).blocks first last t)
+pub run_known : (b : List ℕ) (i : IndexView) → StandsFor b i → IsIndex i → (first last : ℕ) (t : Post → Bool) → All (Contains (stock_of b).posts) (run_of (image_of b).blocks first last t)
 run_known b i s is first last t =
     let P : Post → Type 0 = Contains (stock_of b).posts in
     taken P t (last - first) (drop first (image_of b).blocks) (dropped P t first (image_of b).blocks (from_file b i s is))

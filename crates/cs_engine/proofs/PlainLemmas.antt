@@ -17,6 +17,7 @@ use Rattle.cs_base.specs.declared.content.query.Chain.{Chain, out-Chain}
 use Rattle.cs_base.specs.declared.content.query.Linked.{Linked}
 use Rattle.cs_base.specs.declared.content.query.Part.{Part, out-Part}
 use Rattle.cs_base.proofs.ListsLemmas.{any_through}
+use Rattle.cs_base.specs.declared.content.scores.TheConstants.{MAX_ROW_SCORE}
 use Rattle.cs_file.specs.Indexes.{IndexView, IsIndex, StandsFor, is_met}
 use Rattle.cs_model.specs.Answers.{PartRows, LinkedRows, atom_rows, begins, chain_rows, chained, linked_rows, part_rows, query_parts, rows_of_atom, rows_of_chain, rows_of_linked, rows_of_part}
 use Rattle.cs_model.specs.Corpus.{Corpus}
@@ -129,10 +130,10 @@ module _ (i : IndexView) (hits : Base) (listed : List Bool) (has : AreListed i.d
   listed_base p base.All h lt passes = refl
   listed_base p (base.Listed hs) h lt passes = sym (any_through (λ h. h.doc) (λ d. d == p.doc) hs) ∙ sym (h.each p.doc lt) ∙ passes
 
-  pub listed_fits : (rows : List Post) → AreWithin i rows → All (λ p. in_listed listed p ≡ true) rows → (n : ℕ) → IsBaseOf i.docs (255 * n) hits → EntryFits i true (n + 1) (record { base = hits; rows = rows })
+  pub listed_fits : (rows : List Post) → AreWithin i rows → All (λ p. in_listed listed p ≡ true) rows → (n : ℕ) → IsBaseOf i.docs (MAX_ROW_SCORE * n) hits → EntryFits i true (n + 1) (record { base = hits; rows = rows })
   listed_fits rows w passed n fits = record {
     parts = λ e. omega arith;
     rows = w;
-    base = (let e : n ≡ n + 1 - 1 = omega arith in subst (λ m. IsBaseOf i.docs (255 * m) hits) e fits);
+    base = (let e : n ≡ n + 1 - 1 = omega arith in subst (λ m. IsBaseOf i.docs (MAX_ROW_SCORE * m) hits) e fits);
     in_base = λ k d l. listed_base (get_or rows k d) hits has (w.within k d l).doc (passed k d l);
   }

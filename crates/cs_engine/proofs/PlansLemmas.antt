@@ -16,8 +16,10 @@ use Rattle.cs_base.specs.declared.content.doc.Base.{Base}
 use Rattle.cs_base.specs.declared.content.doc.Base.TheVariants as base
 use Rattle.cs_base.specs.declared.content.doc.Post.{Post}
 use Rattle.cs_base.specs.declared.content.key.Keys.{Keys}
+use Rattle.cs_base.specs.declared.content.limits.TheConstants.{MAX_PARTS}
 use Rattle.cs_base.specs.declared.content.query.Part.{Part, out-Part}
 use Rattle.cs_base.specs.declared.content.query.Query.{Query, out-Query, out-roll-Query}
+use Rattle.cs_base.specs.declared.content.scores.TheConstants.{MAX_ROW_SCORE}
 use Rattle.cs_base.specs.declared.index.plan.Plan.{Plan}
 use Rattle.cs_base.specs.declared.index.plan.Plan.TheVariants.{Fresh}
 use Rattle.cs_base.proofs.ListsLemmas.{filter_alike}
@@ -95,10 +97,10 @@ module _ (q : Query) where
   pub ends_first : (positive : Bool) → positive ≡ end_positive first → positive ≡ last_is_positive (before_last q)
   ends_first positive ends = ends ∙ sym (ap end_positive first_are)
 
-  pub first_in : (i : IndexView) (e : EntryOf Post) (positive : Bool) (hits : Base) → FitsQuery i (before_last q) e → positive ≡ end_positive first → hits ≡ posts_hits positive e.base e.rows → IsBaseOf i.docs (255 * (length ps - 1)) hits
+  pub first_in : (i : IndexView) (e : EntryOf Post) (positive : Bool) (hits : Base) → FitsQuery i (before_last q) e → positive ≡ end_positive first → hits ≡ posts_hits positive e.base e.rows → IsBaseOf i.docs (MAX_ROW_SCORE * (length ps - 1)) hits
   first_in i e positive hits fits ends are =
       let many : length (out-Query (before_last q)).parts ≡ length ps - 1 = ap length first_are ∙ (let l = length-take (length ps - 1) ps in omega (arith, l)) in
-      subst (IsBaseOf i.docs (255 * (length ps - 1))) (sym are) (hits_in i positive (length ps - 1) e (subst (λ n. EntryFits i positive n e) many (subst (λ p. EntryFits i p (length (out-Query (before_last q)).parts) e) (sym (ends_first positive ends)) fits)))
+      subst (IsBaseOf i.docs (MAX_ROW_SCORE * (length ps - 1))) (sym are) (hits_in i positive (length ps - 1) e (subst (λ n. EntryFits i positive n e) many (subst (λ p. EntryFits i p (length (out-Query (before_last q)).parts) e) (sym (ends_first positive ends)) fits)))
 
   -- the last part says whether the query ends in a positive one
   pub ends_last : (n : ℕ) (x : Part) → length ps ≡ n + 1 → x ≡ get_or ps n x → last_is_positive q ≡ not (out-Part x).excluded
@@ -165,10 +167,10 @@ module _ (q : Query) (parts : List Part) (are : parts ≡ (out-Query q).parts) (
 
 -- ---- hits by the query's own entry
 module _ (i : IndexView) (q : Query) (e : EntryOf Post) (positive : Bool) (ends : positive ≡ last_is_positive q) (hits : Base) (are : hits ≡ posts_hits positive e.base e.rows) where
-  pub hits_are_in : FitsQuery i q e → length (out-Query q).parts ≤ 16 → IsBaseOf i.docs (255 * 16) hits
+  pub hits_are_in : FitsQuery i q e → length (out-Query q).parts ≤ MAX_PARTS → IsBaseOf i.docs (MAX_ROW_SCORE * MAX_PARTS) hits
   hits_are_in fits few =
       let n = length (out-Query q).parts in
-      base_weaker i.docs (255 * n) (255 * 16) hits (omega (arith, few)) (subst (IsBaseOf i.docs (255 * n)) (sym are) (hits_in i positive n e (subst (λ p. EntryFits i p n e) (sym ends) fits)))
+      base_weaker i.docs (MAX_ROW_SCORE * n) (MAX_ROW_SCORE * MAX_PARTS) hits (omega (arith, few)) (subst (IsBaseOf i.docs (MAX_ROW_SCORE * n)) (sym are) (hits_in i positive n e (subst (λ p. EntryFits i p n e) (sym ends) fits)))
 
   pub found_by_entry : (b : List ℕ) → StandsFor b i → IsIndex i → IsEntryOver b i q e → AreFound (stock_of b) q hits e.rows
   found_by_entry b stands is own =

@@ -16,6 +16,7 @@ use Rattle.std.specs.Cmp.{nat_cmp_total}
 use Rattle.std.specs.FinMap.{nat_cmp-IsAntisymmetric}
 use Rattle.std.proofs.lemmas.List.Elements.{All-nil, All-filter, All-map, All-weaker, recursion_from_All, filter_passes}
 use Rattle.std.proofs.lemmas.List.Kept.{IsStrictlySortedBy-filter}
+use Rattle.cs_base.specs.declared.content.limits.TheConstants.{MAX_PARTS}
 use Rattle.cs_base.specs.content.Members.{members_in}
 use Rattle.cs_base.specs.content.Orders.{AreDocs, AreByDoc, by_doc, docs_of}
 use Rattle.cs_base.specs.declared.content.doc.Base.{Base}
@@ -26,6 +27,7 @@ use Rattle.cs_base.specs.declared.content.doc.Scored.{Scored}
 use Rattle.cs_base.proofs.MembersLemmas.{listing-rises}
 use Rattle.cs_base.proofs.ListsLemmas.{all_of, map_alike, filter_through, filter_alike, any_through}
 use Rattle.cs_base.specs.content.Bases.{base_score}
+use Rattle.cs_base.specs.declared.content.scores.TheConstants.{MAX_ROW_SCORE}
 use Rattle.cs_docs.proofs.TextLemmas.{All-members}
 use Rattle.cs_file.specs.Indexes.{IndexView}
 use Rattle.cs_meet.specs.Filters.{keep_docs, drop_docs, is_of}
@@ -35,7 +37,6 @@ use Rattle.cs_model.specs.Answers as answers
 use Rattle.cs_model_kept.specs.Entries.{Entry, EntryOf, entry_at, entry_after, hits_of, is_begun, is_hit, over, without}
 use Rattle.cs_model_kept.specs.Entries as kept
 use Rattle.cs_rank.specs.DocScores.{IsBase, best_row, greatest, of_doc, scores, with_base}
-use Rattle.cs_rank.specs.DocScores as rank
 use Rattle.cs_engine.specs.Reading.{AreWithin, IsWithin}
 use Rattle.cs_engine.specs.Steps.{docs_after, posts_hits, posts_after, with_no_score, IsHitOf, IsBaseOf, EntryFits, IsStep, is_in_base, most}
 use Rattle.cs_model_index.specs.Numbered.{row_of, rows_at}
@@ -68,11 +69,11 @@ base_small docs bound d (base.Listed hs) h = found_small bound d hs (recursion_f
 below : (i : IndexView) (posts : List Post) → All (IsWithin i.docs (length i.words)) posts → All (λ d. d < i.docs) (docs_of posts)
 below i posts within = All-members nat_cmp nat_cmp_total nat_cmp-IsAntisymmetric (λ d. d < i.docs) (map (λ p. p.doc) posts) (All-map (λ d. d < i.docs) (λ p. p.doc) posts (All-weaker (IsWithin i.docs (length i.words)) (λ p. p.doc < i.docs) (λ p h. h.doc) posts within))
 
-best_small : (i : IndexView) (posts : List Post) → All (IsWithin i.docs (length i.words)) posts → (d : ℕ) → greatest (map (λ p. p.score) (of_doc d posts)) ≤ 255
+best_small : (i : IndexView) (posts : List Post) → All (IsWithin i.docs (length i.words)) posts → (d : ℕ) → greatest (map (λ p. p.score) (of_doc d posts)) ≤ MAX_ROW_SCORE
 best_small i posts within d =
-    greatest_small (of_doc d posts) (recursion_from_All (λ p. p.score ≤ 255) (of_doc d posts) (All-filter (λ p. p.doc == d) (λ p. p.score ≤ 255) posts (All-weaker (IsWithin i.docs (length i.words)) (λ p. p.score ≤ 255) (λ p h. h.score) posts within)))
+    greatest_small (of_doc d posts) (recursion_from_All (λ p. p.score ≤ MAX_ROW_SCORE) (of_doc d posts) (All-filter (λ p. p.doc == d) (λ p. p.score ≤ MAX_ROW_SCORE) posts (All-weaker (IsWithin i.docs (length i.words)) (λ p. p.score ≤ MAX_ROW_SCORE) (λ p h. h.score) posts within)))
 
-pub most_small : (positive : Bool) (n : ℕ) → n ≤ 16 → most positive n ≤ 2 ^ 20
+pub most_small : (positive : Bool) (n : ℕ) → n ≤ MAX_PARTS → most positive n ≤ 2 ^ 20
 most_small true n l = omega (arith, l)
 most_small false n l = omega (arith, l)
 
@@ -80,18 +81,18 @@ pub nothing_fits : (i : IndexView) (e : EntryOf Post) → e ≡ record { base = 
 nothing_fits i e is = subst (EntryFits i false 0) (sym is) (record { parts = λ f. absurd (true≢false (sym f)); rows = none_within i; base = tt; in_base = All-nil _ })
 
 -- the scores of rows in any order over a base in range
-pub scores_in : (i : IndexView) (n : ℕ) (b : Base) (rows : List Post) → 1 ≤ n → IsBaseOf i.docs (255 * (n - 1)) b → All (IsWithin i.docs (length i.words)) rows → IsBaseOf i.docs (255 * n) (base.Listed (scores b rows))
+pub scores_in : (i : IndexView) (n : ℕ) (b : Base) (rows : List Post) → 1 ≤ n → IsBaseOf i.docs (MAX_ROW_SCORE * (n - 1)) b → All (IsWithin i.docs (length i.words)) rows → IsBaseOf i.docs (MAX_ROW_SCORE * n) (base.Listed (scores b rows))
 scores_in i n b rows some fits within = (
   scored_rise (λ d. with_base b (best_row rows d)) (λ d. refl) (docs_of rows) (listing-rises nat_cmp (map (λ p. p.doc) rows)),
-  All-map (IsHitOf i.docs (255 * n)) (λ d. with_base b (best_row rows d)) (docs_of rows) (λ k d l.
+  All-map (IsHitOf i.docs (MAX_ROW_SCORE * n)) (λ d. with_base b (best_row rows d)) (docs_of rows) (λ k d l.
       let at = get_or (docs_of rows) k d in
-      let low = base_small i.docs (255 * (n - 1)) at b fits in
+      let low = base_small i.docs (MAX_ROW_SCORE * (n - 1)) at b fits in
       let best = best_small i rows within at in
       record { doc = below i rows within k d l; score = omega (arith, low, best, some) }),
 )
 
 -- the hits of an entry in range
-pub hits_in : (i : IndexView) (positive : Bool) (n : ℕ) (e : EntryOf Post) → EntryFits i positive n e → IsBaseOf i.docs (255 * n) (posts_hits positive e.base e.rows)
+pub hits_in : (i : IndexView) (positive : Bool) (n : ℕ) (e : EntryOf Post) → EntryFits i positive n e → IsBaseOf i.docs (MAX_ROW_SCORE * n) (posts_hits positive e.base e.rows)
 hits_in i false n e fits = fits.base
 hits_in i true n e fits = scores_in i n e.base e.rows (fits.parts refl) fits.base fits.rows.within
 
@@ -149,22 +150,22 @@ in_hits : (docs bound : ℕ) (b : Base) (posts : List Post) → All (λ p. p.doc
 in_hits docs bound base.All posts h = λ k d l. refl
 in_hits docs bound (base.Listed hs) posts h = λ k d l. sym (any_through (λ (h : Scored). h.doc) (meet.is_of_doc (get_or (keep_docs posts (docs_in docs (base.Listed hs))) k d)) hs) ∙ filter_passes (λ r. list_any (meet.is_of_doc r) (map (λ h. h.doc) hs)) posts k d l
 
-pub step_within : (i : IndexView) (b : Base) (excluded : Bool) (posts : List Post) → AreWithin i posts → (n : ℕ) → IsBaseOf i.docs (255 * n) b → EntryFits i (not excluded) (n + 1) (posts_after i.docs b excluded posts)
+pub step_within : (i : IndexView) (b : Base) (excluded : Bool) (posts : List Post) → AreWithin i posts → (n : ℕ) → IsBaseOf i.docs (MAX_ROW_SCORE * n) b → EntryFits i (not excluded) (n + 1) (posts_after i.docs b excluded posts)
 step_within i b true posts w n fits =
-    let all = listed_in i.docs (255 * n) b fits in
+    let all = listed_in i.docs (MAX_ROW_SCORE * n) b fits in
     let keeps : Scored → Bool = λ h. not (list_any (is_of h) posts) in
     record {
       parts = λ e. omega arith;
       rows = none_within i;
-      base = base_weaker i.docs (255 * n) (255 * (n + 1)) (base.Listed (drop_docs (base_hits i.docs b) posts)) (omega arith) (IsStrictlySortedBy-filter by_doc keeps (base_hits i.docs b) all.0, All-filter keeps (IsHitOf i.docs (255 * n)) (base_hits i.docs b) all.1);
+      base = base_weaker i.docs (MAX_ROW_SCORE * n) (MAX_ROW_SCORE * (n + 1)) (base.Listed (drop_docs (base_hits i.docs b) posts)) (omega arith) (IsStrictlySortedBy-filter by_doc keeps (base_hits i.docs b) all.0, All-filter keeps (IsHitOf i.docs (MAX_ROW_SCORE * n)) (base_hits i.docs b) all.1);
       in_base = All-nil _;
     }
 step_within i b false posts w n fits =
     record {
       parts = λ e. omega arith;
       rows = kept_within i (λ r. list_any (meet.is_of_doc r) (docs_in i.docs b)) posts w;
-      base = (let e : n ≡ n + 1 - 1 = omega arith in subst (λ m. IsBaseOf i.docs (255 * m) b) e fits);
-      in_base = in_hits i.docs (255 * n) b posts (All-weaker (IsWithin i.docs (length i.words)) (λ p. p.doc < i.docs) (λ p h. h.doc) posts w.within);
+      base = (let e : n ≡ n + 1 - 1 = omega arith in subst (λ m. IsBaseOf i.docs (MAX_ROW_SCORE * m) b) e fits);
+      in_base = in_hits i.docs (MAX_ROW_SCORE * n) b posts (All-weaker (IsWithin i.docs (length i.words)) (λ p. p.doc < i.docs) (λ p h. h.doc) posts w.within);
     }
 
 pub known_docs : (i : IndexView) (posts : List Post) → AreWithin i posts → All (λ p. p.doc < i.docs) posts

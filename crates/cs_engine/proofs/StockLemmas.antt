@@ -29,6 +29,7 @@ use Rattle.std.proofs.lemmas.Str.{IsUtf8-from_is_utf8}
 use Rattle.cs_base.specs.content.Orders.{by_row, by_place, AreSorted}
 use Rattle.cs_base.specs.declared.content.doc.Post.{Post}
 use Rattle.cs_base.specs.declared.content.doc.Row.{Row}
+use Rattle.cs_base.specs.declared.content.scores.TheConstants.{MAX_ROW_SCORE}
 use Rattle.cs_base.specs.declared.index.block.BlockHead.{BlockHead}
 use Rattle.cs_base.proofs.MembersLemmas.{all_then, members_are, is_member-listed, listing-rises}
 use Rattle.cs_base.proofs.OrdersLemmas.{by_row_total, by_row_exact, by_place_total}
@@ -108,7 +109,7 @@ unfolding keeps
 kept_all holds P f last [] e = tt
 kept_all holds P f last (r ∷ rs) e = let p = and_parts (holds last r) (keeps holds (Some r) rs) e in (f last r p.0, kept_all holds P f (Some r) rs p.1)
 
-small_score : (facet : Bool) (r : Post) → is_scored SCORES facet r ≡ true → r.score ≤ 255
+small_score : (facet : Bool) (r : Post) → is_scored SCORES facet r ≡ true → r.score ≤ MAX_ROW_SCORE
 small_score true r h = grind (arith, nat_tests)
 small_score false r h = grind (arith, nat_tests)
 
@@ -118,7 +119,7 @@ block_within i is k d lt rs bytes block =
     let docs = block_docs h i.docs rs bytes block in
     let words = block_words h i.docs rs bytes block in
     let to = head_within i is k d lt in
-    let small = All-from_recursion (λ r. r.score ≤ 255) rs (kept_all (in_kind SCORES h).holds (λ r. r.score ≤ 255) (λ last r e. small_score h.facet r e) None rs block.meets.1.1.0) in
+    let small = All-from_recursion (λ r. r.score ≤ MAX_ROW_SCORE) rs (kept_all (in_kind SCORES h).holds (λ r. r.score ≤ MAX_ROW_SCORE) (λ last r e. small_score h.facet r e) None rs block.meets.1.1.0) in
     record {
       sorted = block.writable.sorted;
       within = λ j e l. record { doc = docs j e l; word = (let w = words j e l in omega (arith, w.1, to)); score = small j e l };

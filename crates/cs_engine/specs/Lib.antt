@@ -1,4 +1,5 @@
 pub mod Asking
+pub mod Blockwise
 pub mod Counting
 pub mod Keeping
 pub mod Loose

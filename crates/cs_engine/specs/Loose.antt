@@ -17,6 +17,7 @@ use Rattle.cs_base.specs.declared.content.doc.Base.{Base}
 use Rattle.cs_base.specs.declared.content.doc.Post.{Post}
 use Rattle.cs_base.specs.declared.content.doc.Scored.{Scored}
 use Rattle.cs_base.specs.declared.content.query.Query.{Query, out-Query}
+use Rattle.cs_base.specs.declared.content.scores.TheConstants.{MAX_ROW_SCORE}
 use Rattle.cs_file.specs.Indexes.{IndexView}
 use Rattle.cs_rank.specs.DocScores.{greatest, of_doc}
 use Rattle.cs_tables.specs.TableListings.{post_table}
@@ -70,7 +71,7 @@ pub record AreLastWords (i : IndexView) (q : Query) (hits : Base) (lo hi : ℕ) 
   pub positive : last_is_positive q ≡ true
   pub ordered : lo ≤ hi
   pub within : hi ≤ length i.words
-  pub base : IsBaseOf i.docs (255 * (length (out-Query q).parts - 1)) hits
+  pub base : IsBaseOf i.docs (MAX_ROW_SCORE * (length (out-Query q).parts - 1)) hits
 
 -- its base are the hits, and its rows are those of these words in them
 abbrev pub IsEntryByWords : List ℕ → IndexView → Query → Base → ℕ → ℕ → Type 0

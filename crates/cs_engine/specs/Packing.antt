@@ -7,10 +7,11 @@
 --   place_of_key key       the number without the score
 --   post_of_key key        the post of a number
 --   apart last keys        the numbers whose place isn't that of the one before; last is the place before the first
+--   ArePlacedAt posts d from to t places    the places of the posts from number from up to `to` that pass a test
 --   IsOrdered rows posts   the members of rows, in order, each place once
 --   HasKeys i told first k t keys    numbers of posts in the range of an index that pass a test; of a store that tells, of a run of its
 --                          blocks
-use Rattle.std.specs.Prelude.{◌≡◌, ℕ, ◌+◌, ◌*◌, ◌/◌, ◌%◌, ◌<◌, ◌==◌, Bool, true, List, [], ◌∷◌, length, map, Option, if◌then◌else◌}
+use Rattle.std.specs.Prelude.{◌≡◌, ℕ, ◌+◌, ◌*◌, ◌/◌, ◌%◌, ◌<◌, ◌==◌, Bool, true, List, [], ◌∷◌, ◌++◌, length, map, filter, drop, slice_index_or, Option, if◌then◌else◌}
 use Rattle.std.specs.List.{All, Contains, list_any}
 use Rattle.cs_base.specs.content.Orders.{AreSorted}
 use Rattle.cs_base.specs.declared.content.doc.Post.{Post}
@@ -43,6 +44,11 @@ post_of_key key = record { doc = place_of_key key / WORD_ROOM / POSITION_ROOM; w
 abbrev pub apart : ℕ → List ℕ → List ℕ
 apart last [] = []
 apart last (k ∷ keys) = if place_of_key k == last then apart (place_of_key k) keys else k ∷ apart (place_of_key k) keys
+
+-- none where from is to; d stands where a place has no post, which none of these is
+pub record ArePlacedAt (posts : List Post) (d : Post) (from to : ℕ) (t : Post → Bool) (places : List ℕ) : Type 0 where
+  pub known : All (λ i. i < length posts) places
+  pub are : map (λ i. slice_index_or posts i d) places ++ filter t (drop to posts) ≡ filter t (drop from posts)
 
 -- where posts that share a place are the same, no member is lost
 pub record IsOrdered (rows posts : List Post) : Type 0 where

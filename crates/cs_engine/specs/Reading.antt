@@ -19,6 +19,7 @@ use Rattle.cs_base.specs.content.Members.{members_in}
 use Rattle.cs_base.specs.content.Orders.{AreSorted, by_place}
 use Rattle.cs_base.specs.declared.content.doc.Post.{Post}
 use Rattle.cs_base.specs.declared.content.doc.Row.{Row}
+use Rattle.cs_base.specs.declared.content.scores.TheConstants.{MAX_ROW_SCORE}
 use Rattle.cs_file.specs.Indexes.{IndexView, StandsFor}
 use Rattle.cs_model_index.specs.Images.{image_posts}
 use Rattle.cs_model_index.specs.Sections.{image_of}
@@ -41,7 +42,7 @@ WhereStood told i P = ForSome told (λ b. StandsFor b i → P b)
 pub record IsWithin (docs words : ℕ) (p : Post) : Type 0 where
   pub doc : p.doc < docs
   pub word : p.word < words
-  pub score : p.score ≤ 255
+  pub score : p.score ≤ MAX_ROW_SCORE
 
 -- whatever the store tells; so are no posts
 pub record AreWithin (i : IndexView) (posts : List Post) : Type 0 where

@@ -24,6 +24,7 @@ use Rattle.cs_base.specs.declared.content.doc.Post.{Post}
 use Rattle.cs_base.specs.declared.content.doc.Scored.{Scored}
 use Rattle.cs_base.specs.declared.content.query.Query.{Query, out-Query}
 use Rattle.cs_base.specs.declared.content.query.Part.{Part, out-Part}
+use Rattle.cs_base.specs.declared.content.scores.TheConstants.{MAX_ROW_SCORE}
 use Rattle.cs_file.specs.Indexes.{IndexView}
 use Rattle.cs_meet.specs.Filters.{keep_docs, drop_docs}
 use Rattle.cs_model.specs.Answers.{PartRows, pairs, parts_of}
@@ -62,7 +63,7 @@ IsBaseOf docs bound (base.Listed hs) = AreByDoc hs × All (IsHitOf docs bound) h
 
 -- a positive last part doesn't count; of no part 0
 abbrev pub most : Bool → ℕ → ℕ
-most positive n = 255 * (if positive then n - 1 else n)
+most positive n = MAX_ROW_SCORE * (if positive then n - 1 else n)
 
 -- a base that stands for all has each document
 abbrev pub is_in_base : Base → Post → Bool

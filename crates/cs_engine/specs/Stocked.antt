@@ -36,6 +36,7 @@ use Rattle.cs_base.specs.declared.content.query.Link.{Link}
 use Rattle.cs_base.specs.declared.content.query.Link.TheVariants.{Phrase, Near}
 use Rattle.cs_base.specs.content.Orders.{AreSorted}
 use Rattle.cs_base.specs.declared.content.limits.TheConstants.{MAX_DOCS, MAX_WORDS}
+use Rattle.cs_base.specs.declared.content.scores.TheConstants.{MAX_ROW_SCORE}
 use Rattle.cs_meet.specs.Filters.{follow, near}
 use Rattle.cs_model.specs.Answers.{Completion, begins, is_listed, table_of}
 use Rattle.cs_model.specs.Collection.{named}
@@ -60,7 +61,7 @@ corpus_in s = record { titles = by_number s.titles; rows = rows_at s.words s.pos
 pub record IsKnown (s : Stock) (p : Post) : Type 0 where
   pub doc : p.doc < length s.titles
   pub word : p.word < length s.words
-  pub score : p.score ≤ 255
+  pub score : p.score ≤ MAX_ROW_SCORE
 
 -- words ascend and are texts, posts ascend and are known, and there aren't too many
 pub record IsStocked (s : Stock) : Type 0 where

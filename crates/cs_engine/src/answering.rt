@@ -2,6 +2,7 @@
 ghost use Rattle.std.specs.Prelude.{◌≡◌, ◌+◌, ◌*◌, ◌≤◌, ◌<◌, [], false, length, map, IfOk};
 ghost use Rattle.std.specs.List.{All};
 ghost use Rattle.cs_base.specs.declared.content.doc.Base.{Base};
+ghost use Rattle.cs_base.specs.declared.content.scores.TheConstants.{MAX_ROW_SCORE};
 ghost use Rattle.cs_base.specs.outside.Causes.{ReadsWithin};
 ghost use Rattle.cs_base.specs.declared.content.limits.TheConstants.{MAX_PARTS};
 ghost use Rattle.cs_file.specs.Indexes.{IsIndex, Fits, CausedReads};
@@ -37,7 +38,7 @@ pub(crate) fn reply_of<S: Store>(
     hits: Base,
     table: Table,
 ) -> Result<Reply, AskFault>
-    requires base { IsBaseOf index.now.docs (255 * MAX_PARTS) hits }
+    requires base { IsBaseOf index.now.docs (MAX_ROW_SCORE * MAX_PARTS) hits }
     requires table { All (λ w. w.word < length index.now.words) table.first }
     requires index { IsIndex index.now }
     requires fits { Fits (S.bytes store.old) index.now }
@@ -72,7 +73,7 @@ fn shown_facets<S: Store>(
     base: &Base,
     request: &Request,
 ) -> Result<Seq<FacetShown>, AskFault>
-    requires base { IsBaseOf index.now.docs (255 * MAX_PARTS) base.now }
+    requires base { IsBaseOf index.now.docs (MAX_ROW_SCORE * MAX_PARTS) base.now }
     requires index { IsIndex index.now }
     requires fits { Fits (S.bytes store.old) index.now }
 

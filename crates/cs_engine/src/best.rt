@@ -1,12 +1,19 @@
 //! The best score of each document, over rows in any order.
-ghost use Rattle.std.specs.Prelude.{◌≡◌, ◌+◌, ◌-◌, ◌<◌, ◌++◌, ◌∷◌, ◌^◌, [], List, IfOk, OnOk, length, map, nat_lt, if◌then◌else◌};
+ghost use Rattle.std.specs.Prelude.{◌≡◌, ◌+◌, ◌-◌, ◌*◌, ◌<◌, ◌≤◌, ◌++◌, ◌∷◌, ◌^◌, [], List, IfOk, OnOk, filter, length, map, nat_lt, if◌then◌else◌};
 ghost use Rattle.std.specs.List.{All};
 ghost use Rattle.cs_base.specs.declared.content.doc.Post.{Post};
+ghost use Rattle.cs_base.specs.declared.content.doc.Base.TheVariants as base;
+ghost use Rattle.cs_base.specs.declared.content.limits.TheConstants.{MAX_PARTS};
+ghost use Rattle.cs_base.specs.declared.content.scores.TheConstants.{MAX_ROW_SCORE, TITLE_SCORE};
+ghost use Rattle.cs_file.specs.CallAnswers.{AreScoredOf};
 ghost use Rattle.cs_rank.specs.DocScores.{IsBase, best_row, scores};
 ghost use Rattle.cs_base.specs.content.Orders.{docs_of};
 ghost use Rattle.cs_engine.specs.Loose.{HasBestScores, hits_in};
 ghost use Rattle.cs_engine.specs.Packing.{post_of_key};
+ghost use Rattle.cs_engine.specs.Steps.{IsBaseOf};
+ghost use Rattle.cs_engine.specs.Stocked.{is_between};
 
+use crate::between::is_in;
 use crate::packing::post_of;
 use cs_base::{Base, Memory, Scored, Seq};
 use cs_rank::add_base;
@@ -46,8 +53,8 @@ fn best_scores(alloc: Global, docs: u32, keys: &[u64]) -> Result<Vec<Scored>, Me
     Ok(hits)
 }
 
-// A table of no rows.
-fn zeros(alloc: Global, docs: u32) -> Result<Vec<u8>, Memory>
+/// A table of no rows.
+pub(crate) fn zeros(alloc: Global, docs: u32) -> Result<Vec<u8>, Memory>
     ensures none { IfOk result (λ v. HasBestScores [] v.items) }
     ensures long { IfOk result (λ v. length v.items ≡ docs) }
 {
@@ -69,11 +76,46 @@ fn raise_all(best: &mut [u8], keys: &[u64])
     }
 }
 
-// The documents that have an entry, with their scores.
-fn hits_in(alloc: Global, best: &[u8]) -> Result<Vec<Scored>, Memory>
+/// Notes the scores of rows, of which these are the documents, words and scores: of those whose word's number is `words.0` or more
+/// and below `words.1`.
+pub(crate) fn raise_rows(
+    best: &mut [u8],
+    words: (u32, u32),
+    docs: &[u32],
+    row_words: &[u32],
+    scores: &[u8],
+)
+    requires words_even { length row_words.now ≡ length docs.now }
+    requires scores_even { length scores.now ≡ length docs.now }
+    requires known { All (λ d. d < length best.old) docs.now }
+    requires small { All (λ s. s ≤ TITLE_SCORE) scores.now }
+
+    ensures best { (rows : List Post) → AreScoredOf rows docs.now row_words.now scores.now → (seen : List Post) → HasBestScores seen best.old → HasBestScores (seen ++ filter (is_between words.0 words.1) rows) best.new }
+    ensures len { length best.new ≡ length best.old }
+{
+    let (lo, hi) = words;
+    for i in 0..docs.len() {
+        let at = docs[i] as usize;
+        best[at] = best[at].max(entry_of(is_in(row_words[i], lo, hi), scores[i]));
+    }
+}
+
+// What a row of this score gives its document, where it counts.
+#[inline]
+fn entry_of(counts: bool, score: u8) -> u8
+    requires { score ≤ TITLE_SCORE }
+
+    ensures { result ≡ (if counts then score + 1 else 0) }
+{
+    if counts { score + 1 } else { 0 }
+}
+
+/// The documents that have an entry, with their scores.
+pub(crate) fn hits_in(alloc: Global, best: &[u8]) -> Result<Vec<Scored>, Memory>
     requires { length best.now < 2 ^ 32 }
 
-    ensures { IfOk result (λ v. v.items ≡ hits_in 0 best.now) }
+    ensures hits { IfOk result (λ v. v.items ≡ hits_in 0 best.now) }
+    ensures fit { IfOk result (λ v. IsBaseOf (length best.now) (MAX_ROW_SCORE * MAX_PARTS) (base.Listed v.items)) }
 {
     let mut hits = Vec::new(alloc);
     for (doc, entry) in best.iter().enumerate() {

@@ -1,9 +1,8 @@
 //! Posts whose word lies between two others, and those of them in listed documents.
-ghost use Rattle.std.specs.Prelude.{◌≡◌, ◌<◌, ◌&&◌, nat_le, nat_lt, filter, length, IfOk};
-ghost use Rattle.cs_tables.specs.WordCounts.{is_chosen};
+ghost use Rattle.std.specs.Prelude.{◌≡◌, ◌<◌, ◌&&◌, false, nat_le, nat_lt, filter, length, slice_index_or, IfOk};
 ghost use Rattle.cs_engine.specs.Stocked.{is_between};
 
-use cs_base::{Memory, Post};
+use cs_base::Memory;
 use cs_cols::Cols;
 use std::alloc::Global;
 
@@ -42,12 +41,12 @@ pub(crate) fn is_in(word: u32, lo: u32, hi: u32) -> bool
     (lo <= word) & (word < hi)
 }
 
-/// Whether a post's word is one of these and its document is listed.
+/// Whether a word's number is `lo` or more and below `hi`, and a document is listed.
 #[inline]
-pub(crate) fn is_chosen(post: Post, lo: u32, hi: u32, listed: &[bool]) -> bool
-    requires { post.doc < length listed.now }
+pub(crate) fn is_chosen(doc: u32, word: u32, lo: u32, hi: u32, listed: &[bool]) -> bool
+    requires { doc < length listed.now }
 
-    ensures { result ≡ is_chosen lo hi listed.now post }
+    ensures { result ≡ ((nat_le lo word && nat_lt word hi) && slice_index_or listed.now doc false) }
 {
-    is_in(post.word, lo, hi) & listed[post.doc as usize]
+    is_in(word, lo, hi) & listed[doc as usize]
 }

@@ -3,6 +3,7 @@ ghost use Rattle.std.specs.Prelude.{◌≡◌, ◌≤◌, ◌<◌, ◌*◌, ◌+
 ghost use Rattle.std.specs.List.{All};
 ghost use Rattle.cs_base.specs.declared.content.doc.Post.{Post};
 ghost use Rattle.cs_base.specs.declared.content.limits.TheConstants.{MAX_PARTS, MAX_WORDS};
+ghost use Rattle.cs_base.specs.declared.content.scores.TheConstants.{MAX_ROW_SCORE};
 ghost use Rattle.cs_base.specs.outside.Causes.{ReadsWithin};
 ghost use Rattle.cs_file.specs.Indexes.{IsIndex, Fits, CausedReads, block_posts, is_met};
 ghost use Rattle.cs_tables.specs.TableListings.{post_table};
@@ -23,7 +24,7 @@ use std::alloc::Global;
 
 /// Which documents a base lists, by document.
 pub(crate) fn listed_docs(alloc: Global, docs: u32, base: &Base) -> Result<Vec<bool>, Memory>
-    requires base { IsBaseOf docs (255 * MAX_PARTS) base.now }
+    requires base { IsBaseOf docs (MAX_ROW_SCORE * MAX_PARTS) base.now }
 
     ensures { IfOk result (λ v. AreListed docs base.now v.items) }
 {

@@ -7,6 +7,7 @@
 mod answering;
 mod best;
 mod between;
+mod blockwise;
 mod counting;
 mod engine;
 mod entries;

@@ -1,7 +1,9 @@
 //! The reply to a query whose last part asks for the words from one number up to another. Where its own entry is too large, its rows
 //! are brought into no order.
-ghost use Rattle.std.specs.Prelude.{◌≡◌, ◌+◌, ◌*◌, ◌≤◌, false, filter, length, IfOk, IfSome};
+ghost use Rattle.std.specs.Prelude.{◌≡◌, ◌+◌, ◌*◌, ◌≤◌, false, true, filter, length, IfOk, IfSome};
+ghost use Rattle.cs_base.specs.declared.content.doc.Base.TheVariants as base;
 ghost use Rattle.cs_base.specs.declared.content.limits.TheConstants.{MAX_PARTS};
+ghost use Rattle.cs_base.specs.declared.content.scores.TheConstants.{MAX_ROW_SCORE};
 ghost use Rattle.cs_base.specs.outside.Causes.{ReadsWithin};
 ghost use Rattle.cs_file.specs.Indexes.{IsIndex, Fits, CausedReads, is_met};
 ghost use Rattle.cs_model.specs.Parameters.{HoldsLimits};
@@ -11,6 +13,7 @@ ghost use Rattle.cs_model_kept.specs.Due.{met_of_facets};
 ghost use Rattle.cs_model_kept.specs.Entries.{listed_count};
 ghost use Rattle.cs_query.specs.RequestView.{asked};
 ghost use Rattle.cs_engine.specs.Asking.{division, is_read, is_changed, titles_asked, titles_read};
+ghost use Rattle.cs_engine.specs.Blockwise.{AreMany};
 ghost use Rattle.cs_engine.specs.Keeping.{FitsQuery, IsAnsweredOver};
 ghost use Rattle.cs_engine.specs.Loose.{AreKeysIn, AreLastWords, IsEntryByWords};
 ghost use Rattle.cs_engine.specs.Reading.{WhereStood};
@@ -18,6 +21,7 @@ ghost use Rattle.cs_engine.specs.Steps.{IsBaseOf};
 
 use crate::answering::reply_of;
 use crate::best::scores_over;
+use crate::blockwise::{are_many, found_in_blocks};
 use crate::counting::{listed_docs, table_of};
 use crate::fault::AskFault;
 use crate::packing::ordered;
@@ -54,6 +58,10 @@ pub(crate) fn answered_by_words<S: Store>(
     ensures reads { ReadsWithin (titles_asked (asked request.now) result + met_of_facets (division index.now) (asked request.now).facets + length (filter (is_met words.0 words.1) index.now.heads)) (S.reads store.old) (S.reads store.new) }
     ensures caused { CausedReads (is_read result) (S.faults store.old) (S.faults store.new) }
 {
+    if fills(index, &hits, words) {
+        let reply = reply_by_blocks(alloc, index, store, request, words)?;
+        return Ok((reply, None));
+    }
     let keys = keys_of_hits(alloc, index, store, &hits, words)?;
     if keys.len() > MAX_ENTRY_SIZE.saturating_sub(size_of(&hits)) {
         let reply = reply_by_keys(alloc, index, store, request, &hits, words, &keys)?;
@@ -75,7 +83,7 @@ fn keys_of_hits<S: Store>(
 ) -> Result<Vec<u64>, AskFault>
     requires ordered { words.0 ≤ words.1 }
     requires in_range { words.1 ≤ length index.now.words }
-    requires base { IsBaseOf index.now.docs (255 * MAX_PARTS) hits.now }
+    requires base { IsBaseOf index.now.docs (MAX_ROW_SCORE * MAX_PARTS) hits.now }
     requires index { IsIndex index.now }
     requires fits { Fits (S.bytes store.old) index.now }
 
@@ -91,6 +99,21 @@ fn keys_of_hits<S: Store>(
     Ok(keys)
 }
 
+// Whether these words are known to have so many rows in the documents of hits that their entry is too large.
+fn fills(index: &Index, hits: &Base, words: (u32, u32)) -> bool
+    requires ordered { words.0 ≤ words.1 }
+    requires in_range { words.1 ≤ length index.now.words }
+    requires index { IsIndex index.now }
+
+    ensures all { result ≡ true → hits.now ≡ base.All }
+    ensures many { result ≡ true → AreMany index.now words.0 words.1 }
+{
+    match hits {
+        Base::All => are_many(index, words),
+        Base::Listed(_) => false,
+    }
+}
+
 // How many documents a base lists; 0 where it stands for all.
 fn size_of(base: &Base) -> usize
     ensures { result ≡ listed_count base.now }
@@ -99,6 +122,31 @@ fn size_of(base: &Base) -> usize
         Base::All => 0,
         Base::Listed(hits) => hits.len(),
     }
+}
+
+// The reply to a query whose only part asks for these words, by their blocks.
+fn reply_by_blocks<S: Store>(
+    alloc: Global,
+    index: &Index,
+    store: &mut S,
+    request: &Request,
+    words: (u32, u32),
+) -> Result<Reply, AskFault>
+    requires asks { AreLastWords index.now request.now.query base.All words.0 words.1 }
+    requires index { IsIndex index.now }
+    requires fits { Fits (S.bytes store.old) index.now }
+
+    ensures told { WhereStood (S.bytes store.old) index.now (λ b. IsEntryByWords b index.now request.now.query base.All words.0 words.1 → IfOk result (λ r. r ≡ reply_of (file_corpus b) (asked request.now))) }
+    ensures few { IfOk result (λ r. length r.hits ≤ request.now.hits) }
+    ensures unchanged { WhereStood (S.bytes store.old) index.now (λ b. is_changed result ≡ false) }
+    ensures bytes { S.bytes store.new ≡ S.bytes store.old }
+    ensures lent { S.lent store.new ≡ S.lent store.old }
+    ensures reads { ReadsWithin (titles_read (asked request.now) result + met_of_facets (division index.now) (asked request.now).facets + length (filter (is_met words.0 words.1) index.now.heads)) (S.reads store.old) (S.reads store.new) }
+    ensures caused { CausedReads (is_read result) (S.faults store.old) (S.faults store.new) }
+{
+    let (found, table) = found_in_blocks(alloc, index, store, words, request.completions)?;
+    let reply = reply_of(alloc, index, store, request, Base::Listed(found), table)?;
+    Ok(reply)
 }
 
 // The reply by the numbers of the last part's rows in the hits before it.

@@ -5,7 +5,7 @@ ghost use Rattle.cs_base.specs.declared.content.doc.Post.{Post};
 ghost use Rattle.cs_cols.specs.Held.{AreEven};
 ghost use Rattle.cs_file.specs.CallAnswers.{posts_in};
 ghost use Rattle.cs_tables.specs.WordCounts.{is_chosen};
-ghost use Rattle.cs_engine.specs.Packing.{IsOrdered, IsPacked, apart, key_of, place_of_key, post_of_key};
+ghost use Rattle.cs_engine.specs.Packing.{ArePlacedAt, IsOrdered, IsPacked, apart, key_of, place_of_key, post_of_key};
 
 use crate::between::is_chosen;
 use cs_base::{Memory, Post};
@@ -52,7 +52,7 @@ pub(crate) fn pack(
     Ok(())
 }
 
-// Puts the numbers of those of some posts to the front of a slice, without a jump, and says how many there are.
+// Puts the numbers of those of some posts to the front of a slice, and says how many there are.
 fn pack_run(
     posts: &Fetched,
     from: usize,
@@ -67,16 +67,44 @@ fn pack_run(
     requires onward { from ≤ to }
     requires within { to ≤ length posts.now.docs.items }
     requires room { to ≤ from + length run.old }
+    requires short { to ≤ from + RUN }
 
     ensures keys { take result run.new ++ map key_of (filter (is_chosen words.0 words.1 listed.now) (drop to (posts_in posts.now))) ≡ map key_of (filter (is_chosen words.0 words.1 listed.now) (drop from (posts_in posts.now))) }
     ensures few { result ≤ length run.new }
 {
+    let mut places = [0usize; RUN];
+    let chosen = choose(posts, from, to, words, listed, &mut places);
+    for k in 0..chosen {
+        run[k] = key_of(post_at(posts, places[k]));
+    }
+    chosen
+}
+
+// Puts the places of those of some posts that are chosen to the front of a slice, without a jump, and says how many there are.
+fn choose(
+    posts: &Fetched,
+    from: usize,
+    to: usize,
+    words: (u32, u32),
+    listed: &[bool],
+    places: &mut [usize],
+) -> usize
+    requires even { AreEven posts.now.docs.items posts.now.words.items posts.now.positions.items posts.now.scores.items }
+    requires known { All (λ p. p.doc < length listed.now) (posts_in posts.now) }
+    requires onward { from ≤ to }
+    requires within { to ≤ length posts.now.docs.items }
+    requires room { to ≤ from + length places.old }
+
+    ensures chosen { (d : Post) → ArePlacedAt (posts_in posts.now) d from to (is_chosen words.0 words.1 listed.now) (take result places.new) }
+    ensures few { result ≤ length places.new }
+    ensures fewer { result + from ≤ to }
+    ensures len { length places.new ≡ length places.old }
+{
     let (lo, hi) = words;
     let mut chosen = 0;
     for i in from..to {
-        let post = post_at(posts, i);
-        run[chosen] = key_of(post);
-        chosen += usize::from(is_chosen(post, lo, hi, listed));
+        places[chosen] = i;
+        chosen += usize::from(is_chosen(posts.docs[i], posts.words[i], lo, hi, listed));
     }
     chosen
 }

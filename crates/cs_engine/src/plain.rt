@@ -2,6 +2,7 @@
 ghost use Rattle.std.specs.Prelude.{◌≡◌, ℕ, ◌+◌, ◌*◌, ◌≤◌, false, true, filter, length, IfOk, IfSome};
 ghost use Rattle.cs_base.specs.declared.content.limits.TheConstants.{MAX_PARTS};
 ghost use Rattle.cs_base.specs.declared.content.query.Part.{out-Part};
+ghost use Rattle.cs_base.specs.declared.content.scores.TheConstants.{MAX_ROW_SCORE};
 ghost use Rattle.cs_base.specs.outside.Causes.{ReadsWithin};
 ghost use Rattle.cs_file.specs.Indexes.{IsIndex, Fits, CausedReads, is_met};
 ghost use Rattle.cs_model.specs.Answers.{rows_of_atom, rows_of_chain, rows_of_part};
@@ -72,12 +73,12 @@ pub(crate) fn extended_by_words<S: Store>(
 ) -> Result<Entry, AskFault>
     requires ordered { words.0 ≤ words.1 }
     requires in_range { words.1 ≤ length index.now.words }
-    requires base { IsBaseOf index.now.docs (255 * MAX_PARTS) hits }
+    requires base { IsBaseOf index.now.docs (MAX_ROW_SCORE * MAX_PARTS) hits }
     requires index { IsIndex index.now }
     requires fits { Fits (S.bytes store.old) index.now }
 
     ensures told { WhereStood (S.bytes store.old) index.now (λ b. IfOk result (λ e. e ≡ posts_after index.now.docs hits false (filter (is_between words.0 words.1) (stock_of b).posts))) }
-    ensures within { IfOk result (λ e. (n : ℕ) → IsBaseOf index.now.docs (255 * n) hits → EntryFits index.now true (n + 1) e) }
+    ensures within { IfOk result (λ e. (n : ℕ) → IsBaseOf index.now.docs (MAX_ROW_SCORE * n) hits → EntryFits index.now true (n + 1) e) }
     ensures unchanged { WhereStood (S.bytes store.old) index.now (λ b. is_changed result ≡ false) }
     ensures bytes { S.bytes store.new ≡ S.bytes store.old }
     ensures lent { S.lent store.new ≡ S.lent store.old }

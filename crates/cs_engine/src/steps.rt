@@ -1,5 +1,6 @@
 //! The entry of a query, part by part.
 ghost use Rattle.std.specs.Prelude.{◌≡◌, ℕ, ◌+◌, ◌*◌, ◌≤◌, false, not, length, map, sum, IfOk};
+ghost use Rattle.cs_base.specs.declared.content.scores.TheConstants.{MAX_ROW_SCORE};
 ghost use Rattle.cs_base.specs.outside.Causes.{ReadsWithin};
 ghost use Rattle.cs_base.specs.declared.content.limits.TheConstants.{MAX_PARTS};
 ghost use Rattle.cs_base.specs.declared.content.query.Query.{Query, out-Query};
@@ -59,12 +60,12 @@ pub(crate) fn extended<S: Store>(
     hits: Base,
     part: &Part,
 ) -> Result<Entry, AskFault>
-    requires base { IsBaseOf index.now.docs (255 * MAX_PARTS) hits }
+    requires base { IsBaseOf index.now.docs (MAX_ROW_SCORE * MAX_PARTS) hits }
     requires index { IsIndex index.now }
     requires fits { Fits (S.bytes store.old) index.now }
 
     ensures told { WhereStood (S.bytes store.old) index.now (λ b. IfOk result (IsStep (stock_of b) hits (rows_of_part (corpus_in (stock_of b)) part.now))) }
-    ensures within { IfOk result (λ e. (n : ℕ) → IsBaseOf index.now.docs (255 * n) hits → EntryFits index.now (not (out-Part part.now).excluded) (n + 1) e) }
+    ensures within { IfOk result (λ e. (n : ℕ) → IsBaseOf index.now.docs (MAX_ROW_SCORE * n) hits → EntryFits index.now (not (out-Part part.now).excluded) (n + 1) e) }
     ensures unchanged { WhereStood (S.bytes store.old) index.now (λ b. is_changed result ≡ false) }
     ensures bytes { S.bytes store.new ≡ S.bytes store.old }
     ensures lent { S.lent store.new ≡ S.lent store.old }

@@ -18,4 +18,4 @@ returns c =
     let is : table ≡ new = c.deref.ensures.value ∙ back in
     let has : HasBestScores rows table = subst (HasBestScores rows) (sym is) (c.raise_all.ensures.best [] (subst (HasBestScores []) (sym c.deref_mut.ensures.value) c.in_ok-best.ensures.none)) in
     let inside = subst (λ n. All (λ (p : Post). p.doc < n) rows) (sym (ap length is ∙ long ∙ c.in_ok-best.ensures.long)) (All-map (λ (p : Post). p.doc < c.args.docs) post_of_key c.args.keys.now c.requires.known) in
-    c.in_ok-hits.ensures ∙ hits_are rows table has inside
+    c.in_ok-hits.ensures.hits ∙ hits_are rows table has inside

@@ -3,6 +3,7 @@ use Rattle.std.specs.Prelude.{All}
 use Rattle.cs_base.specs.content.Orders.{AreByDoc, docs_of}
 use Rattle.cs_base.specs.declared.content.doc.Base.TheVariants.{Listed}
 use Rattle.cs_base.specs.declared.content.doc.Scored.{Scored}
+use Rattle.cs_base.specs.declared.content.scores.TheConstants.{MAX_ROW_SCORE}
 use Rattle.cs_rank.specs.DocScores.{scores, with_base}
 use Rattle.cs_rank.proofs.GroupsLemmas.{base_each, best_rise}
 use Rattle.cs_engine.specs.Packing.{post_of_key}
@@ -13,7 +14,7 @@ pub add_base-requires-clause-best_sorted : goal.add_base-requires-clause-best_so
 add_base-requires-clause-best_sorted c = subst AreByDoc (sym (c.as_slice-in-Listed.ensures.value ∙ c.in_ok-best.ensures)) (best_rise (map post_of_key c.args.keys.now))
 
 pub add_base-requires-clause-small : goal.add_base-requires-clause-small
-add_base-requires-clause-small c = subst (All (λ (h : Scored). h.score ≤ 255)) (sym (c.as_slice-in-Listed.ensures.value ∙ c.in_ok-best.ensures)) (best_small c.args.keys.now)
+add_base-requires-clause-small c = subst (All (λ (h : Scored). h.score ≤ MAX_ROW_SCORE)) (sym (c.as_slice-in-Listed.ensures.value ∙ c.in_ok-best.ensures)) (best_small c.args.keys.now)
 
 pub returns-in_ok-scored-in-Listed : goal.returns-in_ok-scored-in-Listed
 returns-in_ok-scored-in-Listed c =

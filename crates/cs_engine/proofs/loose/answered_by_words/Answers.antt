@@ -1,11 +1,36 @@
-use Rattle.std.proofs.Common.{length, ap, sym, subst, ◌∙◌, arith, true≢false}
-use Rattle.std.specs.Prelude.{IfSome, is_some}
+use Rattle.std.proofs.Common.{length, true, replicate, refl, ap, sym, subst, ◌∙◌, arith, true≢false}
+use Rattle.std.specs.Prelude.{IfSome, filter, is_some}
 use Rattle.std.proofs.lemmas.List.{length-map}
+use Rattle.cs_base.specs.declared.content.doc.Base.TheVariants as base
 use Rattle.cs_engine.specs.Keeping.{FitsQuery, IsEntryOver}
+use Rattle.cs_engine.specs.Loose.{AreLastWords, IsEntryByWords}
 use Rattle.cs_engine.specs.Packing.{key_of}
-use Rattle.cs_engine.proofs.LooseLemmas.{chosen_entry, entry_fits, is_large}
+use Rattle.cs_engine.specs.Reading.{stock_of}
+use Rattle.cs_engine.specs.Stocked.{is_between}
+use Rattle.cs_engine.proofs.CountingLemmas.{all_listed, everywhere}
+use Rattle.cs_engine.proofs.LooseLemmas.{chosen_entry, entry_fits, is_large, large_entry}
 use Rattle.cs_engine.proofs.PackingLemmas.{ordered_passed, ordered_told, ordered_within}
 use Rattle.cs_engine.proofs.loose.answered_by_words.Goals as goal
+
+-- ---- too many rows, as the directory says
+pub returns-then-fills-clause-told : goal.returns-then-fills-clause-told
+returns-then-fills-clause-told g c b is stands by =
+    let i = c.args.index.now in
+    let q = c.args.request.now.query in
+    let lo = c.args.words.0 in
+    let hi = c.args.words.1 in
+    let all = replicate i.docs true in
+    let has = everywhere i.docs all refl in
+    let none = c.fills.ensures.all c.if-fills.true in
+    let asks = subst (λ h. AreLastWords i q h lo hi) none c.requires.asks in
+    let own = subst (λ h. IsEntryByWords b i q h lo hi) none by in
+    record {
+      reply = c.in_ok-reply.ensures.told b is stands own;
+      own = tt;
+      large = λ gone.
+          large_entry i q base.All lo hi asks all has b stands c.requires.index own (filter (is_between lo hi) (stock_of b).posts) (sym (all_listed b i stands c.requires.index lo hi all has))
+          (let many = c.fills.ensures.many c.if-fills.true b stands in omega (arith, many));
+    }
 
 -- ---- too many rows
 pub returns-then-len-saturating_sub-clause-told : goal.returns-then-len-saturating_sub-clause-told
@@ -13,7 +38,7 @@ returns-then-len-saturating_sub-clause-told g c b is stands by =
     let h = c.in_ok-keys.ensures.keys in
     let rows = h.gathered.rows in
     record {
-      reply = c.in_ok-reply.ensures.told b (c.keys_of_hits.ensures.bytes ∙ is) stands by;
+      reply = c.in_ok-reply-2.ensures.told b (c.keys_of_hits.ensures.bytes ∙ is) stands by;
       own = tt;
       large = λ none.
           is_large c.args.index.now c.args.request.now.query c.args.hits c.args.words.0 c.args.words.1 c.requires.asks h.listed h.has b stands c.requires.index by rows (h.gathered.stood b is stands)

@@ -2,7 +2,9 @@ use Rattle.std.proofs.Common.{◌<◌, ◌*◌, length, map, ap, sym, subst, ◌
 use Rattle.std.specs.Prelude.{All}
 use Rattle.std.proofs.lemmas.List.Elements.{All-weaker}
 use Rattle.cs_base.specs.declared.content.doc.Base.TheVariants as base
+use Rattle.cs_base.specs.declared.content.limits.TheConstants.{MAX_PARTS}
 use Rattle.cs_base.specs.declared.content.query.Query.{out-Query}
+use Rattle.cs_base.specs.declared.content.scores.TheConstants.{MAX_ROW_SCORE}
 use Rattle.cs_file.specs.Indexes.{IndexView}
 use Rattle.cs_model.specs.Corpus.{Corpus}
 use Rattle.cs_model.specs.Requests.{reply_of}
@@ -38,7 +40,7 @@ reply_of-requires-clause-base g c =
     let few = c.requires.limits.parts in
     let rows = map post_of_key c.args.keys.now in
     let within = subst (All (IsWithin i.docs (length i.words))) (sym (as_they_come h.rows c.args.keys.now h.are h.packed)) h.within in
-    subst (λ l. IsBaseOf i.docs (255 * 16) (base.Listed l)) (sym c.in_ok-found.ensures) (base_weaker i.docs (255 * n) (255 * 16) (base.Listed (scores c.args.hits.now rows)) (omega (arith, few)) (scores_in i n c.args.hits.now rows c.requires.asks.some c.requires.asks.base within))
+    subst (λ l. IsBaseOf i.docs (MAX_ROW_SCORE * MAX_PARTS) (base.Listed l)) (sym c.in_ok-found.ensures) (base_weaker i.docs (MAX_ROW_SCORE * n) (MAX_ROW_SCORE * MAX_PARTS) (base.Listed (scores c.args.hits.now rows)) (omega (arith, few)) (scores_in i n c.args.hits.now rows c.requires.asks.some c.requires.asks.base within))
 
 pub returns-clause-told : goal.returns-clause-told
 returns-clause-told g c b is stands by =

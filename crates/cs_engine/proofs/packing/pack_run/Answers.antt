@@ -1,39 +1,57 @@
-use Rattle.std.proofs.Common.{◌≡◌, ◌+◌, ◌<◌, ◌++◌, ap, ◌∙◌, sym, subst, arith, length, map, take, drop, set}
-use Rattle.std.specs.Prelude.{filter, if◌then◌else◌}
-use Rattle.std.specs.Int.{from_bool}
-use Rattle.cs_cols.proofs.Columns.{posts-length}
+use Rattle.std.proofs.Common.{◌≡◌, ◌+◌, ◌<◌, refl, sym, subst, arith, length, map, take, set, get_or}
+use Rattle.std.proofs.lemmas.List.{get_or_default}
+use Rattle.cs_cols.proofs.Columns.{post, posts-length}
 use Rattle.cs_file.specs.CallAnswers.{posts_in}
-use Rattle.cs_tables.specs.WordCounts.{is_chosen}
 use Rattle.cs_engine.specs.Packing.{IsPacked, key_of}
-use Rattle.cs_engine.proofs.PackingLemmas.{at_most_one, at_place, counts_one, packs_on}
+use Rattle.cs_engine.proofs.PackingLemmas.{at_place, packs_placed, place_known, placed_on}
 use Rattle.cs_engine.proofs.packing.pack_run.Goals as goal
+
+pub loop-k-init : goal.loop-k-init
+loop-k-init c = λ d. refl
+
+pub post_at-requires-clause-known : goal.post_at-requires-clause-known
+post_at-requires-clause-known c =
+    let f = c.args.posts.now in
+    let places = c.choose-chosen.new.places in
+    let k = c.loop-k.k in
+    let long = posts-length f.docs.items f.words.items f.positions.items f.scores.items c.requires.even in
+    let few = c.choose-chosen.ensures.few in
+    let first = c.choose-chosen.ensures.chosen (post 0 0 0 0) in
+    let known = place_known (posts_in f) (post 0 0 0 0) c.args.from c.args.to _ c.choose-chosen.result k (get_or places k 0) places first c.loop-k-test.true few (get_or_default places k 0 _ (omega (arith, few, c.loop-k-test.true))) in
+    omega (arith, known, long)
 
 pub key_of-requires : goal.key_of-requires
 key_of-requires c =
     let f = c.args.posts.now in
-    let long = posts-length f.docs.items f.words.items f.positions.items f.scores.items c.requires.even in
-    at_place IsPacked (posts_in f) c.loop-i.i c.post_at-post.result (omega (arith, long, c.loop-i-test.true, c.requires.within)) c.post_at-post.ensures c.requires.packed
+    let places = c.choose-chosen.new.places in
+    let k = c.loop-k.k in
+    let few = c.choose-chosen.ensures.few in
+    let first = c.choose-chosen.ensures.chosen (post 0 0 0 0) in
+    let known = place_known (posts_in f) (post 0 0 0 0) c.args.from c.args.to _ c.choose-chosen.result k (get_or places k 0) places first c.loop-k-test.true few (get_or_default places k 0 _ (omega (arith, few, c.loop-k-test.true))) in
+    at_place IsPacked (posts_in f) (get_or places k 0) c.post_at.result known c.post_at.ensures c.requires.packed
 
-pub is_chosen-requires : goal.is_chosen-requires
-is_chosen-requires c =
+pub loop-k-preserved : goal.loop-k-preserved
+loop-k-preserved c = λ d.
     let f = c.args.posts.now in
-    let long = posts-length f.docs.items f.words.items f.positions.items f.scores.items c.requires.even in
-    at_place (λ p. p.doc < length c.args.listed.now) (posts_in f) c.loop-i.i c.post_at-post.result (omega (arith, long, c.loop-i-test.true, c.requires.within)) c.post_at-post.ensures c.requires.known
-
-pub loop-i-preserved : goal.loop-i-preserved
-loop-i-preserved c =
-    let f = c.args.posts.now in
-    let inv = c.loop-i.invariant in
-    let long = posts-length f.docs.items f.words.items f.positions.items f.scores.items c.requires.even in
-    let t = is_chosen c.args.words.0 c.args.words.1 c.args.listed.now in
-    let p = c.post_at-post.result in
+    let places = c.choose-chosen.new.places in
+    let run = c.loop-k.run in
+    let k = c.loop-k.k in
+    let few = c.choose-chosen.ensures.few in
+    let fewer = c.choose-chosen.ensures.fewer in
     let room = c.requires.room in
-    let same : length c.loop-i.run ≡ length c.args.run.now = c.loop-i.auto.run in
-    let count : c.from-chosen.result ≡ (if t p then 1 else 0) = c.from-chosen.ensures ∙ ap from_bool c.is_chosen.ensures ∙ counts_one (t p) in
-    let most = at_most_one (t p) in
-    let on = packs_on t (posts_in f) c.loop-i.i p c.loop-i.run c.loop-i.chosen (c.loop-i.chosen + c.from-chosen.result) _ (omega (arith, long, c.loop-i-test.true, c.requires.within)) c.post_at-post.ensures
-    (omega (arith, inv.few, c.loop-i-test.true, c.requires.within, room, same)) (ap (λ n. c.loop-i.chosen + n) count) inv.keys in
-    record {
-      keys = subst (λ k. take (c.loop-i.chosen + c.from-chosen.result) (set c.loop-i.run c.loop-i.chosen k) ++ map key_of (filter t (drop (c.loop-i.i + 1) (posts_in f))) ≡ map key_of (filter t (drop c.args.from (posts_in f)))) (sym c.key_of.ensures) on;
-      few = omega (arith, inv.few, count, most);
-    }
+    let same : length run ≡ length c.args.run.now = c.loop-k.auto.run in
+    let inside : k < length places = omega (arith, few, c.loop-k-test.true) in
+    let at = get_or_default places k 0 (get_or places k 0) inside in
+    let known = place_known (posts_in f) d c.args.from c.args.to _ c.choose-chosen.result k (get_or places k 0) places (c.choose-chosen.ensures.chosen d) c.loop-k-test.true few at in
+    subst (λ key. take (k + 1) (set run k key) ≡ map (λ i. key_of (get_or (posts_in f) i d)) (take (k + 1) places)) (sym c.key_of.ensures)
+    (placed_on (posts_in f) d places run k (get_or places k 0) c.post_at.result inside at known c.post_at.ensures (omega (arith, fewer, room, same, c.loop-k-test.true)) (c.loop-k.invariant d))
+
+pub returns-clause-keys : goal.returns-clause-keys
+returns-clause-keys c =
+    let f = c.args.posts.now in
+    let places = c.choose-chosen.new.places in
+    let n = c.choose-chosen.result in
+    let none = post 0 0 0 0 in
+    let done : c.loop-k.k ≡ n = omega (arith, c.loop-k-test.false, c.loop-k.auto.k-end) in
+    let keys = subst (λ k. take k c.loop-k.run ≡ map (λ i. key_of (get_or (posts_in f) i none)) (take k places)) done (c.loop-k.invariant none) in
+    packs_placed (posts_in f) none c.args.from c.args.to _ (take n places) (take n c.loop-k.run) (c.choose-chosen.ensures.chosen none) keys

@@ -1,6 +1,8 @@
 use Rattle.std.proofs.Common.{◌≡◌, ◌*◌, length, refl, sym, ap, subst, ◌∙◌, arith}
 use Rattle.std.proofs.lemmas.List.{take_all}
 use Rattle.cs_base.specs.declared.content.doc.Post.{Post}
+use Rattle.cs_base.specs.declared.content.limits.TheConstants.{MAX_PARTS}
+use Rattle.cs_base.specs.declared.content.scores.TheConstants.{MAX_ROW_SCORE}
 use Rattle.cs_model_kept.specs.Due.{met_of_part}
 use Rattle.cs_model_kept.specs.Entries.{EntryOf}
 use Rattle.cs_rank.specs.DocScores.{IsBase}
@@ -38,7 +40,7 @@ extended-requires-clause-base g c =
     let e = c.loop-part.entry in
     let few = c.requires.few in
     let seen : c.in_ok-hits.hits ≡ posts_hits c.loop-part.positive e.base e.rows = c.in_ok-hits.ensures ∙ ap (λ (x : EntryOf Post). posts_hits c.loop-part.positive x.base x.rows) c.entry.view_is in
-    base_weaker i.docs (255 * n) (255 * 16) c.in_ok-hits.hits (omega (arith, few, c.loop-part-test.true)) (subst (IsBaseOf i.docs (255 * n)) (sym seen) (hits_in i c.loop-part.positive n e c.loop-part.invariant.within))
+    base_weaker i.docs (MAX_ROW_SCORE * n) (MAX_ROW_SCORE * MAX_PARTS) c.in_ok-hits.hits (omega (arith, few, c.loop-part-test.true)) (subst (IsBaseOf i.docs (MAX_ROW_SCORE * n)) (sym seen) (hits_in i c.loop-part.positive n e c.loop-part.invariant.within))
 
 pub returns-in_err-entry-clause-reads : goal.returns-in_err-entry-clause-reads
 returns-in_err-entry-clause-reads g c =
@@ -65,7 +67,7 @@ loop-part-preserved g c =
     let later = reads.later in
     let within = reads.within in
     let seen : c.in_ok-hits.hits ≡ posts_hits c.loop-part.positive e.base e.rows = c.in_ok-hits.ensures ∙ ap (λ (x : EntryOf Post). posts_hits c.loop-part.positive x.base x.rows) c.entry.view_is in
-    let fits : IsBaseOf i.docs (255 * n) c.in_ok-hits.hits = subst (IsBaseOf i.docs (255 * n)) (sym seen) (hits_in i c.loop-part.positive n e inv.within) in
+    let fits : IsBaseOf i.docs (MAX_ROW_SCORE * n) c.in_ok-hits.hits = subst (IsBaseOf i.docs (MAX_ROW_SCORE * n)) (sym seen) (hits_in i c.loop-part.positive n e inv.within) in
     record {
       bytes = call.bytes ∙ inv.bytes;
       lent = call.lent ∙ inv.lent;

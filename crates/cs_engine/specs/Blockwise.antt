@@ -1,0 +1,33 @@
+-- What is found of a range of words, straight from their blocks.
+--
+-- Source: this engine's own.
+--
+--   rows_within lo hi h      how many rows a block has, where all its words are from lo up to hi
+--   AreMany i lo hi          over the bytes of an index its posts with a word from lo up to hi are more than an entry may have
+--   HasFound rows cut hits t      the documents of rows with their scores, and the table of the rows, cut
+use Rattle.std.specs.Prelude.{◌≡◌, ℕ, ◌+◌, ◌<◌, ◌&&◌, nat_le, List, length, filter, take, if◌then◌else◌}
+use Rattle.cs_base.specs.declared.content.doc.Base.TheVariants as base
+use Rattle.cs_base.specs.declared.content.doc.Post.{Post}
+use Rattle.cs_base.specs.declared.content.doc.Scored.{Scored}
+use Rattle.cs_base.specs.declared.index.block.BlockHead.{BlockHead}
+use Rattle.cs_file.specs.Indexes.{IndexView, StandsFor}
+use Rattle.cs_model_kept.specs.declared.limits.TheConstants.{MAX_ENTRY_SIZE}
+use Rattle.cs_rank.specs.DocScores.{scores}
+use Rattle.cs_tables.specs.TableListings.{post_table}
+use Rattle.cs_tables.specs.declared.tables.Table.{Table}
+use Rattle.cs_engine.specs.Reading.{stock_of}
+use Rattle.cs_engine.specs.Stocked.{is_between}
+
+-- 0 where a word of it isn't
+abbrev pub rows_within : ℕ → ℕ → BlockHead → ℕ
+rows_within lo hi h = if nat_le lo h.lo && nat_le (h.lo + h.words) hi then h.rows else 0
+
+-- so an entry of them alone is too large
+abbrev pub AreMany : IndexView → ℕ → ℕ → Type 0
+AreMany i lo hi = (b : List ℕ) → StandsFor b i → MAX_ENTRY_SIZE < length (filter (is_between lo hi) (stock_of b).posts)
+
+-- of no rows there are none, and an empty table
+pub record HasFound (rows : List Post) (cut : ℕ) (hits : List Scored) (t : Table) : Type 0 where
+  pub hits_are : hits ≡ scores base.All rows
+  pub first : t.first ≡ take cut (post_table rows)
+  pub total : t.total ≡ length (post_table rows)
