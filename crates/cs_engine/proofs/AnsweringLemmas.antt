@@ -32,13 +32,13 @@ use Rattle.cs_model_kept.specs.Entries as kept
 use Rattle.cs_model_kept.proofs.EntryLemmas.{listed_base}
 use Rattle.cs_tables.specs.declared.tables.Completion.{Completion as Numbered}
 use Rattle.cs_tables.specs.TableListings.{post_table}
-use Rattle.cs_engine.specs.Reading.{stock_of, AreWithin, IsWithin, HasRows}
+use Rattle.cs_engine.specs.IndexReading.{stock_of, AreWithin, IsWithin, HasRows}
 use Rattle.cs_engine.specs.Steps.{AreFound, IsBaseOf, IsHitOf}
 use Rattle.cs_model_index.specs.Numbered.{rows_at}
 use Rattle.cs_engine.specs.Stocked.{Stock, corpus_in, docs_in, facet_at, base_hits, named_rows, shown_at}
 use Rattle.cs_engine.proofs.FoundLemmas.{docs_rise}
 use Rattle.cs_engine.proofs.ReplyLemmas.{facet_kept, first_there, reply_made, table_total, titled, words_shown}
-use Rattle.cs_engine.proofs.StepLemmas.{listed_in, listed_told}
+use Rattle.cs_engine.proofs.PartSteps.{listed_in, listed_told}
 use Rattle.cs_engine.proofs.StockLemmas.{docs_are, stocked, words_are}
 
 module _ (i : IndexView) (is : IsIndex i) where

@@ -27,7 +27,7 @@ use Rattle.cs_tables.specs.WordCounts.{chosen, is_chosen}
 use Rattle.cs_engine.specs.Blockwise.{rows_within}
 use Rattle.cs_engine.specs.Counting.{AreListed, counted_rows}
 use Rattle.cs_engine.specs.Loose.{HasBestScores, hits_in}
-use Rattle.cs_engine.specs.Reading.{IsWithin, by_post, run_of, stock_of}
+use Rattle.cs_engine.specs.IndexReading.{IsWithin, by_post, run_of, stock_of}
 use Rattle.cs_engine.specs.Stocked.{is_between}
 use Rattle.cs_engine.proofs.AlikeLemmas.{any_filter}
 use Rattle.cs_engine.proofs.BestLemmas.{alike_scores, hits_are, map_same}

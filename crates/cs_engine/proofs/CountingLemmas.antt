@@ -45,16 +45,16 @@ use Rattle.cs_tables.specs.TableListings.{with_word, post_table}
 use Rattle.cs_tables.specs.WordCounts.{AreCountable, HasCounted, WordCountsView, chosen, is_chosen}
 use Rattle.cs_engine.specs.Asking.{division}
 use Rattle.cs_engine.specs.Counting.{AreListed, counted_rows, in_listed}
-use Rattle.cs_engine.specs.Reading.{AreWithin, IsWithin, by_post, stock_of}
+use Rattle.cs_engine.specs.IndexReading.{AreWithin, IsWithin, by_post, stock_of}
 use Rattle.cs_engine.specs.Stocked.{docs_in, every, facet_at, is_between, shown_at, IsKnown}
 use Rattle.cs_engine.proofs.AnsweringLemmas.{facet_told, words_as_shown}
 use Rattle.cs_engine.proofs.AlikeLemmas.{any_filter, table_alike}
 use Rattle.cs_engine.proofs.DistinctLemmas.{Apart, apart_append, apart_none, apart_sorted, long_alike}
 use Rattle.cs_engine.proofs.FoundLemmas.{all_kept, every_more}
-use Rattle.cs_engine.proofs.ReadingLemmas.{kept_within}
+use Rattle.cs_engine.proofs.ReadRows.{kept_within}
 use Rattle.cs_engine.proofs.StockLemmas.{by_post_total, by_post_exact, docs_are, stocked, within_block, words_are}
 use Rattle.cs_engine.proofs.TableLemmas.{any_listed}
-use Rattle.cs_engine.proofs.WordsLemmas.{prefix_met, span_found}
+use Rattle.cs_engine.proofs.AskedWords.{prefix_met, span_found}
 use Rattle.cs_vocab.specs.Ranges.{IsRange}
 
 -- ---- which documents are listed

@@ -16,8 +16,8 @@ use Rattle.cs_base.specs.content.Members.{marked, members_in}
 use Rattle.cs_base.specs.content.Orders.{by_place, AreSorted}
 use Rattle.cs_base.specs.declared.content.doc.Post.{Post}
 use Rattle.cs_base.proofs.MembersLemmas.{all_then, is_member-listed, members_are}
-use Rattle.cs_engine.specs.Reading.{by_post}
-use Rattle.cs_engine.proofs.ReadingLemmas.{sooner, still_rise}
+use Rattle.cs_engine.specs.IndexReading.{by_post}
+use Rattle.cs_engine.proofs.ReadRows.{sooner, still_rise}
 use Rattle.cs_engine.proofs.StockLemmas.{by_post_exact, by_post_total}
 
 pub Apart : List Post → Type 0

@@ -26,7 +26,7 @@ use Rattle.cs_model.specs.Answers.{PartRows, rows_of_part}
 use Rattle.cs_rank.specs.DocScores.{greatest}
 use Rattle.cs_engine.specs.Stocked.{Stock, corpus_in, every, docs_in}
 use Rattle.cs_base.proofs.MembersLemmas.{all_then}
-use Rattle.cs_engine.proofs.ListsLemmas.{range_rises, in_range}
+use Rattle.cs_engine.proofs.ListedLemmas.{range_rises, in_range}
 use Rattle.cs_engine.proofs.FoldsLemmas.{part_rows-is}
 use Rattle.cs_engine.proofs.HitsLemmas.{own_docs}
 

@@ -31,7 +31,7 @@ use Rattle.cs_rank.specs.DocScores.{greatest}
 use Rattle.cs_model_index.specs.Numbered.{row_of, rows_at}
 use Rattle.cs_model_kept.specs.Entries.{scored_hits}
 use Rattle.cs_engine.specs.Stocked.{Stock, corpus_in, base_hits, docs_in}
-use Rattle.cs_engine.proofs.ListsLemmas.{keys_numbered, range_rises}
+use Rattle.cs_engine.proofs.ListedLemmas.{keys_numbered, range_rises}
 
 -- ---- one more part
 

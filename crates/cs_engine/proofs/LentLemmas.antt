@@ -28,9 +28,9 @@ use Rattle.cs_model_kept.specs.KeptList.{KeptOf, plan_by, used_entry}
 use Rattle.cs_model_kept.specs.KeptListLaws.{before_last}
 use Rattle.cs_engine.specs.Asking.{titles_asked}
 use Rattle.cs_engine.specs.Keeping.{FitsQuery, HoldsGood, IsEntryOver, KeepsFitting, entry_with}
-use Rattle.cs_engine.specs.Reading.{AreWithin}
+use Rattle.cs_engine.specs.IndexReading.{AreWithin}
 use Rattle.cs_engine.specs.declared.fault.AskFault.{AskFault}
-use Rattle.cs_engine.proofs.KeptLemmas.{extend_fits, extend_told, narrow_fits, narrow_told, narrowed_fits, same_fits, same_told}
+use Rattle.cs_engine.proofs.KeepingLemmas.{extend_fits, extend_told, narrow_fits, narrow_told, narrowed_fits, same_fits, same_told}
 use Rattle.cs_engine.proofs.PlansLemmas.{Viewed, is_used, viewed}
 
 -- ---- what is lent

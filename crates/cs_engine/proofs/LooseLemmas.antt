@@ -23,16 +23,16 @@ use Rattle.cs_tables.specs.declared.tables.Table.{Table}
 use Rattle.cs_engine.specs.Counting.{AreListed, in_listed}
 use Rattle.cs_engine.specs.Keeping.{FitsQuery, IsEntryOver, entry_with}
 use Rattle.cs_engine.specs.Loose.{AreAlike, AreLastWords, IsEntryByWords, IsTableFor}
-use Rattle.cs_engine.specs.Reading.{AreWithin, stock_of}
+use Rattle.cs_engine.specs.IndexReading.{AreWithin, stock_of}
 use Rattle.cs_engine.specs.Steps.{EntryFits, last_is_positive}
 use Rattle.cs_engine.specs.Stocked.{is_between}
 use Rattle.cs_engine.proofs.AlikeLemmas.{table_alike}
 use Rattle.cs_engine.proofs.BestLemmas.{alike_scores}
 use Rattle.cs_engine.proofs.CountingLemmas.{stock_within}
-use Rattle.cs_engine.proofs.KeptLemmas.{fresh_is}
-use Rattle.cs_engine.proofs.PlainLemmas.{listed_entry, listed_fits}
+use Rattle.cs_engine.proofs.KeepingLemmas.{fresh_is}
+use Rattle.cs_engine.proofs.PlainParts.{listed_entry, listed_fits}
 use Rattle.cs_engine.proofs.PlansLemmas.{found_by_entry}
-use Rattle.cs_engine.proofs.ReadingLemmas.{kept_within}
+use Rattle.cs_engine.proofs.ReadRows.{kept_within}
 
 large_true : (m n : ℕ) → m < n → nat_lt m n ≡ true
 large_true m n lt = grind (arith, nat_tests)

@@ -38,11 +38,11 @@ use Rattle.cs_model_index.specs.Sections.{image_of}
 use Rattle.cs_engine.specs.Packing.{HasKeys, ArePlacedAt, IsOrdered, IsPacked, apart, key_of, place_of_key, post_of_key}
 use Rattle.cs_engine.specs.Counting.{in_listed}
 use Rattle.cs_engine.specs.Loose.{AreAlike, AreGathered}
-use Rattle.cs_engine.specs.Reading.{AreWithin, IsWithin, WhereStood, run_of, stock_of}
+use Rattle.cs_engine.specs.IndexReading.{AreWithin, IsWithin, WhereStood, run_of, stock_of}
 use Rattle.cs_engine.specs.Stocked.{is_between}
 use Rattle.cs_engine.specs.declared.packing.TheConstants.{NO_PLACE, POSITION_ROOM, SCORE_ROOM}
 use Rattle.cs_engine.proofs.CountingLemmas.{counted_alike, counted_long, countable, flat_more}
-use Rattle.cs_engine.proofs.ReadingLemmas.{same_posts}
+use Rattle.cs_engine.proofs.ReadRows.{same_posts}
 use Rattle.cs_engine.proofs.StockLemmas.{from_file, stocked}
 use Rattle.cs_engine.proofs.UnionLemmas.{one_post}
 

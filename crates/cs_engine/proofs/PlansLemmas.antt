@@ -40,13 +40,13 @@ use Rattle.cs_engine.specs.Asking.{division}
 use Rattle.cs_engine.specs.Keeping.{FitsQuery, IsEntryOver, entry_with}
 use Rattle.cs_engine.specs.Loose.{IsEntryByWords}
 use Rattle.cs_engine.specs.Plain.{AreWordsOf}
-use Rattle.cs_engine.specs.Reading.{AreWithin, IsWithin, stock_of}
+use Rattle.cs_engine.specs.IndexReading.{AreWithin, IsWithin, stock_of}
 use Rattle.cs_engine.specs.Steps.{AreFound, EntryFits, IsBaseOf, IsStep, end_positive, last_is_positive, posts_after, posts_hits}
 use Rattle.cs_engine.specs.Stocked.{corpus_in, is_between}
 use Rattle.cs_engine.proofs.EvaluationLemmas.{EntrySoFar, ends_read, entry_begins, entry_ends, entry_goes_on, entry_unrolled, hits_by, positive_more}
 use Rattle.cs_engine.proofs.FoundLemmas.{is_excluded}
-use Rattle.cs_engine.proofs.KeptLemmas.{from_stock, in_stock}
-use Rattle.cs_engine.proofs.StepLemmas.{base_weaker, hits_in, nothing_fits, step_told}
+use Rattle.cs_engine.proofs.KeepingLemmas.{from_stock, in_stock}
+use Rattle.cs_engine.proofs.PartSteps.{base_weaker, hits_in, nothing_fits, step_told}
 use Rattle.cs_engine.proofs.StockLemmas.{docs_are}
 
 -- ---- the entry that is lent

@@ -36,7 +36,7 @@ use Rattle.cs_model_index.specs.Numbered.{word_at, row_of, rows_at}
 use Rattle.cs_model_kept.specs.Entries.{scored_hits}
 use Rattle.cs_engine.specs.Stocked.{Stock, corpus_in, base_hits, docs_in, named_at, shown_at, named_rows, named_rows_in, facet_at, title_at, IsStocked}
 use Rattle.cs_engine.proofs.VocabLemmas.{rows_rise}
-use Rattle.cs_engine.proofs.ListsLemmas.{get_numbered}
+use Rattle.cs_engine.proofs.ListedLemmas.{get_numbered}
 use Rattle.cs_engine.proofs.HitsLemmas.{kept_pairs, listed_docs}
 use Rattle.cs_engine.proofs.AtomsLemmas.{words_known}
 use Rattle.cs_engine.proofs.TableLemmas.{table_through, table_known}

@@ -44,7 +44,7 @@ use Rattle.cs_model.specs.Scores.{SCORES}
 use Rattle.cs_model_index.specs.BlockRules.{keeps, is_scored, in_kind, IsBlock}
 use Rattle.cs_model_index.specs.Images.{image_posts}
 use Rattle.cs_model_index.specs.Sections.{contents_of, image_of, file_corpus}
-use Rattle.cs_engine.specs.Reading.{by_post, stock_of, IsWithin, AreWithin}
+use Rattle.cs_engine.specs.IndexReading.{by_post, stock_of, IsWithin, AreWithin}
 use Rattle.cs_model_index.specs.Numbered.{row_of, rows_at}
 use Rattle.cs_engine.specs.Stocked.{corpus_in, IsKnown, IsStocked}
 use Rattle.cs_engine.proofs.TableLemmas.{any_listed}

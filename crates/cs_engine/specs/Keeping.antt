@@ -14,12 +14,12 @@
 --   AreGood b e               over the bytes b of its index an engine keeps under each key the entry of the key's own query
 --   note_plan q a             the plan by which a query is answered from what is kept
 --   became p o                what becomes of a query's own entry behind the plan p; of None, which was kept before or is too large
---   behind a keys p o         the entries that a reply by the plan p leaves, where o is the query's own entry, if it wasn't kept before
+--   entries_behind a keys p o         the entries that a reply by the plan p leaves, where o is the query's own entry, if it wasn't kept before
 --   WasHad n                  an answer was kept before exactly where the plan is Same
 --   fronted q a               the entries that a query leaves where its own isn't kept
 --   IsKeptBehind i q n old new      what is kept after a reply: what was used in front, and before it the query's own entry where it is kept
 --   IsLeftBehind q old new    what is kept after a refusal: the same entries, the used one maybe in front
---   Keeps i q old r new       the one or the other
+--   KeepsAnswers i q old r new       the one or the other
 --   IsAfter b q old r new     what is kept after a reply, over the bytes of the index
 use Rattle.std.specs.Prelude.{◌≡◌, ◌⊎◌, ℕ, false, List, ◌∷◌, length, take, Option, Some, None, is_some, IfSome, Result, Ok, Err, if◌then◌else◌}
 use Rattle.std.specs.List.{All}
@@ -81,9 +81,9 @@ became p None = if is_same p then kept.Had else kept.TooLarge
 became p (Some e) = kept_fresh e
 
 -- the used entry comes to the front, and the query's own before that where it is kept
-abbrev pub behind : AnswerList → Keys → Plan → Option (EntryOf Post) → KeptOf (EntryOf Post)
-behind a keys by_plan None = to_front a.entries (used_key keys by_plan)
-behind a keys by_plan (Some e) = put_in_front a.capacity (kept_fresh e) (keys.same, e) (to_front a.entries (used_key keys by_plan))
+abbrev pub entries_behind : AnswerList → Keys → Plan → Option (EntryOf Post) → KeptOf (EntryOf Post)
+entries_behind a keys by_plan None = to_front a.entries (used_key keys by_plan)
+entries_behind a keys by_plan (Some e) = put_in_front a.capacity (kept_fresh e) (keys.same, e) (to_front a.entries (used_key keys by_plan))
 
 -- an answer that was used for its own query isn't kept a second time, and each other one is kept or too large
 abbrev pub WasHad : Note → Type 0
@@ -105,9 +105,9 @@ abbrev pub IsLeftBehind : Query → AnswerList → AnswerList → Type 0
 IsLeftBehind q old new = (new.entries ≡ old.entries) ⊎ (new.entries ≡ fronted q old)
 
 -- after a reply, and after a refusal; how many there may be stays
-abbrev pub Keeps : IndexView → Query → AnswerList → Result (Reply × Note) AskFault → AnswerList → Type 0
-Keeps i q old (Ok r) new = (new.capacity ≡ old.capacity) × (r.1.plan ≡ note_plan q old) × WasHad r.1 × IsKeptBehind i q r.1.kept old new
-Keeps i q old (Err e) new = (new.capacity ≡ old.capacity) × IsLeftBehind q old new
+abbrev pub KeepsAnswers : IndexView → Query → AnswerList → Result (Reply × Note) AskFault → AnswerList → Type 0
+KeepsAnswers i q old (Ok r) new = (new.capacity ≡ old.capacity) × (r.1.plan ≡ note_plan q old) × WasHad r.1 × IsKeptBehind i q r.1.kept old new
+KeepsAnswers i q old (Err e) new = (new.capacity ≡ old.capacity) × IsLeftBehind q old new
 
 -- ---- over the bytes of the index
 -- with its rows told by the words of the index

@@ -5,6 +5,6 @@ pub mod Keeping
 pub mod Loose
 pub mod Packing
 pub mod Plain
-pub mod Reading
+pub mod IndexReading
 pub mod Steps
 pub mod Stocked

@@ -26,7 +26,7 @@ use Rattle.cs_tables.specs.WordCounts.{AreCountable, is_chosen}
 use Rattle.cs_engine.specs.Counting.{AreListed, in_listed}
 use Rattle.cs_engine.specs.Keeping.{IsEntryOver}
 use Rattle.cs_engine.specs.Packing.{IsPacked, key_of}
-use Rattle.cs_engine.specs.Reading.{AreWithin, IsWithin, WhereStood, stock_of}
+use Rattle.cs_engine.specs.IndexReading.{AreWithin, IsWithin, WhereStood, stock_of}
 use Rattle.cs_engine.specs.Steps.{AreFound, IsBaseOf, last_is_positive, posts_after}
 use Rattle.cs_engine.specs.Stocked.{Stock, is_between}
 

@@ -18,7 +18,7 @@ use Rattle.cs_base.specs.declared.content.doc.Post.{Post}
 use Rattle.cs_base.specs.declared.content.limits.TheConstants.{MAX_DOCS}
 use Rattle.cs_file.specs.Indexes.{IndexView}
 use Rattle.cs_model_index.specs.Sections.{image_of}
-use Rattle.cs_engine.specs.Reading.{IsWithin, WhereStood, run_of}
+use Rattle.cs_engine.specs.IndexReading.{IsWithin, WhereStood, run_of}
 use Rattle.cs_engine.specs.declared.packing.TheConstants.{POSITION_ROOM, WORD_ROOM, SCORE_ROOM}
 
 -- the posts of an index file have room, whatever its numbers of documents and words

@@ -8,7 +8,7 @@ use Rattle.std.specs.Prelude.{ℕ, ◌≤◌, List, filter, length}
 use Rattle.cs_base.specs.declared.content.doc.Row.{Row}
 use Rattle.cs_file.specs.Indexes.{IndexView, StandsFor, is_met}
 use Rattle.cs_model.specs.Corpus.{Corpus}
-use Rattle.cs_engine.specs.Reading.{HasRows, stock_of}
+use Rattle.cs_engine.specs.IndexReading.{HasRows, stock_of}
 use Rattle.cs_engine.specs.Stocked.{corpus_in, is_between}
 
 -- where no word is asked for, lo is hi

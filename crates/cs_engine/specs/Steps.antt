@@ -31,7 +31,7 @@ use Rattle.cs_model.specs.Answers.{PartRows, pairs, parts_of}
 use Rattle.cs_model_kept.specs.Entries.{EntryOf, base_of, entry_at, entry_after, is_begun}
 use Rattle.cs_model_kept.specs.Entries as kept
 use Rattle.cs_rank.specs.DocScores.{scores}
-use Rattle.cs_engine.specs.Reading.{AreWithin}
+use Rattle.cs_engine.specs.IndexReading.{AreWithin}
 use Rattle.cs_model_index.specs.Numbered.{rows_at}
 use Rattle.cs_engine.specs.Stocked.{Stock, base_hits, docs_in, corpus_in}
 

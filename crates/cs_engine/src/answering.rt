@@ -5,7 +5,7 @@ ghost use Rattle.cs_base.specs.declared.content.doc.Base.{Base};
 ghost use Rattle.cs_base.specs.declared.content.scores.TheConstants.{MAX_ROW_SCORE};
 ghost use Rattle.cs_base.specs.outside.Causes.{ReadsWithin};
 ghost use Rattle.cs_base.specs.declared.content.limits.TheConstants.{MAX_PARTS};
-ghost use Rattle.cs_file.specs.Indexes.{IsIndex, Fits, CausedReads};
+ghost use Rattle.cs_file.specs.Indexes.{IsIndex, HasAllBlocks, CausedReads};
 ghost use Rattle.cs_model.specs.Collection.{named};
 ghost use Rattle.cs_model.specs.Requests.{hit_shown, reply_of};
 ghost use Rattle.cs_model_kept.specs.Due.{met_of_facets, met_prefix};
@@ -13,7 +13,7 @@ ghost use Rattle.cs_query.specs.RequestView.{asked};
 ghost use Rattle.cs_engine.specs.Asking.{division, is_read, is_changed, titles_read};
 ghost use Rattle.cs_engine.specs.Counting.{AreListed};
 ghost use Rattle.cs_engine.specs.Loose.{IsTableFor};
-ghost use Rattle.cs_engine.specs.Reading.{WhereStood, stock_of};
+ghost use Rattle.cs_engine.specs.IndexReading.{WhereStood, stock_of};
 ghost use Rattle.cs_engine.specs.Steps.{IsBaseOf};
 ghost use Rattle.cs_engine.specs.Stocked.{corpus_in, facet_at};
 
@@ -41,7 +41,7 @@ pub(crate) fn reply_of<S: Store>(
     requires base { IsBaseOf index.now.docs (MAX_ROW_SCORE * MAX_PARTS) hits }
     requires table { All (λ w. w.word < length index.now.words) table.first }
     requires index { IsIndex index.now }
-    requires fits { Fits (S.bytes store.old) index.now }
+    requires fits { HasAllBlocks (S.bytes store.old) index.now }
 
     ensures told { WhereStood (S.bytes store.old) index.now (λ b. IsTableFor index.now b request.now.query request.now.completions hits table → IfOk result (λ r. r ≡ reply_of (corpus_in (stock_of b)) (asked request.now))) }
     ensures few { IfOk result (λ r. length r.hits ≤ request.now.hits) }
@@ -75,7 +75,7 @@ fn shown_facets<S: Store>(
 ) -> Result<Seq<FacetShown>, AskFault>
     requires base { IsBaseOf index.now.docs (MAX_ROW_SCORE * MAX_PARTS) base.now }
     requires index { IsIndex index.now }
-    requires fits { Fits (S.bytes store.old) index.now }
+    requires fits { HasAllBlocks (S.bytes store.old) index.now }
 
     ensures told { WhereStood (S.bytes store.old) index.now (λ b. IfOk result (λ shown. shown ≡ map (facet_at (stock_of b) base.now request.now.completions) (asked request.now).facets)) }
     ensures unchanged { WhereStood (S.bytes store.old) index.now (λ b. is_changed result ≡ false) }
@@ -107,7 +107,7 @@ fn shown_facet<S: Store>(
 ) -> Result<FacetShown, AskFault>
     requires listed { length listed.now ≡ index.now.docs }
     requires index { IsIndex index.now }
-    requires fits { Fits (S.bytes store.old) index.now }
+    requires fits { HasAllBlocks (S.bytes store.old) index.now }
 
     ensures told { WhereStood (S.bytes store.old) index.now (λ b. IfOk result (λ shown. (base : Base) → AreListed index.now.docs base listed.now → shown ≡ facet_at (stock_of b) base cut name.now)) }
     ensures unchanged { WhereStood (S.bytes store.old) index.now (λ b. is_changed result ≡ false) }
@@ -136,7 +136,7 @@ fn shown_hits<S: Store>(
 ) -> Result<Seq<HitShown>, AskFault>
     requires known { All (λ h. h.doc < index.now.docs) hits.now }
     requires index { IsIndex index.now }
-    requires fits { Fits (S.bytes store.old) index.now }
+    requires fits { HasAllBlocks (S.bytes store.old) index.now }
 
     ensures told { WhereStood (S.bytes store.old) index.now (λ b. IfOk result (λ shown. shown ≡ map (hit_shown (corpus_in (stock_of b))) hits.now)) }
     ensures count { IfOk result (λ shown. length shown ≡ length hits.now) }

@@ -6,12 +6,12 @@ ghost use Rattle.cs_base.specs.declared.content.doc.Post.{Post};
 ghost use Rattle.cs_base.specs.declared.content.limits.TheConstants.{MAX_PARTS};
 ghost use Rattle.cs_base.specs.declared.content.scores.TheConstants.{MAX_ROW_SCORE};
 ghost use Rattle.cs_base.specs.outside.Causes.{ReadsWithin};
-ghost use Rattle.cs_file.specs.Indexes.{IsIndex, Fits, CausedReads, block_posts, is_met};
+ghost use Rattle.cs_file.specs.Indexes.{IsIndex, HasAllBlocks, CausedReads, block_posts, is_met};
 ghost use Rattle.cs_tables.specs.WordCounts.{AreCountable, HasCounted, chosen};
 ghost use Rattle.cs_engine.specs.Asking.{is_read, is_changed};
 ghost use Rattle.cs_engine.specs.Blockwise.{AreMany, HasFound, rows_within};
 ghost use Rattle.cs_engine.specs.Loose.{HasBestScores};
-ghost use Rattle.cs_engine.specs.Reading.{WhereStood, stock_of};
+ghost use Rattle.cs_engine.specs.IndexReading.{WhereStood, stock_of};
 ghost use Rattle.cs_engine.specs.Steps.{IsBaseOf};
 ghost use Rattle.cs_engine.specs.Stocked.{is_between};
 
@@ -65,7 +65,7 @@ pub(crate) fn found_in_blocks<S: Store>(
     requires ordered { words.0 ≤ words.1 }
     requires in_range { words.1 ≤ length index.now.words }
     requires index { IsIndex index.now }
-    requires fits { Fits (S.bytes store.old) index.now }
+    requires fits { HasAllBlocks (S.bytes store.old) index.now }
 
     ensures told { WhereStood (S.bytes store.old) index.now (λ b. IfOk result (λ found. HasFound (filter (is_between words.0 words.1) (stock_of b).posts) cut found.0 found.1)) }
     ensures base { IfOk result (λ found. IsBaseOf index.now.docs (MAX_ROW_SCORE * MAX_PARTS) (base.Listed found.0)) }
@@ -116,7 +116,7 @@ fn add_block<S: Store>(
     requires all { length all.now ≡ index.now.docs }
     requires best { length best.old.items ≡ index.now.docs }
     requires index { IsIndex index.now }
-    requires fits { Fits (S.bytes store.old) index.now }
+    requires fits { HasAllBlocks (S.bytes store.old) index.now }
 
     ensures counted { WhereStood (S.bytes store.old) index.now (λ b. OnOk result ((seen : List Post) → AreCountable (seen ++ chosen counts.old.low counts.old.high all.now (block_posts b k)) → HasCounted seen counts.old → HasCounted (seen ++ chosen counts.old.low counts.old.high all.now (block_posts b k)) counts.new)) }
     ensures low { counts.new.low ≡ counts.old.low }

@@ -5,13 +5,13 @@ ghost use Rattle.cs_base.specs.declared.content.doc.Post.{Post};
 ghost use Rattle.cs_base.specs.declared.content.limits.TheConstants.{MAX_PARTS, MAX_WORDS};
 ghost use Rattle.cs_base.specs.declared.content.scores.TheConstants.{MAX_ROW_SCORE};
 ghost use Rattle.cs_base.specs.outside.Causes.{ReadsWithin};
-ghost use Rattle.cs_file.specs.Indexes.{IsIndex, Fits, CausedReads, block_posts, is_met};
+ghost use Rattle.cs_file.specs.Indexes.{IsIndex, HasAllBlocks, CausedReads, block_posts, is_met};
 ghost use Rattle.cs_tables.specs.TableListings.{post_table};
 ghost use Rattle.cs_tables.specs.WordCounts.{AreCountable, HasCounted, chosen};
 ghost use Rattle.cs_engine.specs.Asking.{is_read, is_changed};
 ghost use Rattle.cs_engine.specs.Counting.{AreListed, AreMarked, in_listed};
 ghost use Rattle.cs_engine.specs.Packing.{post_of_key};
-ghost use Rattle.cs_engine.specs.Reading.{WhereStood, stock_of};
+ghost use Rattle.cs_engine.specs.IndexReading.{WhereStood, stock_of};
 ghost use Rattle.cs_engine.specs.Steps.{IsBaseOf};
 ghost use Rattle.cs_engine.specs.Stocked.{is_between};
 
@@ -66,7 +66,7 @@ pub(crate) fn table_between<S: Store>(
     requires in_range { words.1 ≤ length index.now.words }
     requires listed { length listed.now ≡ index.now.docs }
     requires index { IsIndex index.now }
-    requires fits { Fits (S.bytes store.old) index.now }
+    requires fits { HasAllBlocks (S.bytes store.old) index.now }
 
     ensures told { WhereStood (S.bytes store.old) index.now (λ b. IfOk result (λ t. t.first ≡ take cut (post_table (filter (in_listed listed.now) (filter (is_between words.0 words.1) (stock_of b).posts))))) }
     ensures known { IfOk result (λ t. All (λ w. w.word < length index.now.words) t.first) }
@@ -100,7 +100,7 @@ fn count_block<S: Store>(
     requires in_range { k < length index.now.heads }
     requires listed { length listed.now ≡ index.now.docs }
     requires index { IsIndex index.now }
-    requires fits { Fits (S.bytes store.old) index.now }
+    requires fits { HasAllBlocks (S.bytes store.old) index.now }
 
     ensures told { WhereStood (S.bytes store.old) index.now (λ b. OnOk result ((seen : List Post) → AreCountable (seen ++ chosen counts.old.low counts.old.high listed.now (block_posts b k)) → HasCounted seen counts.old → HasCounted (seen ++ chosen counts.old.low counts.old.high listed.now (block_posts b k)) counts.new)) }
     ensures low { counts.new.low ≡ counts.old.low }

@@ -3,7 +3,7 @@ ghost use Rattle.std.specs.Prelude.{◌≡◌, ◌≤◌, [], None, false, true,
 ghost use Rattle.std.specs.Option.{ForSome};
 ghost use Rattle.cs_base.specs.outside.Causes.{ReadsWithin};
 ghost use Rattle.cs_cache.specs.AnswerList.{answer_list};
-ghost use Rattle.cs_file.specs.Indexes.{Fits, StandsFor, CausedReads};
+ghost use Rattle.cs_file.specs.Indexes.{HasAllBlocks, StandsFor, CausedReads};
 ghost use Rattle.cs_model.specs.Parameters.{HoldsLimits};
 ghost use Rattle.cs_model.specs.Requests.{reply_of};
 ghost use Rattle.cs_model_index.specs.Sections.{file_corpus};
@@ -12,7 +12,7 @@ ghost use Rattle.cs_model_kept.specs.KeptList.{plan_by, is_same};
 ghost use Rattle.cs_model_kept.specs.declared.limits.TheConstants.{MAX_ENTRIES};
 ghost use Rattle.cs_query.specs.RequestView.{asked};
 ghost use Rattle.cs_engine.specs.Asking.{division, is_read, is_changed, titles_asked};
-ghost use Rattle.cs_engine.specs.Keeping.{AreGood, IsAfter, Keeps, became, behind, note_plan};
+ghost use Rattle.cs_engine.specs.Keeping.{AreGood, IsAfter, KeepsAnswers, became, entries_behind, note_plan};
 
 use crate::fault::AskFault;
 use crate::note::Note;
@@ -68,7 +68,7 @@ impl Engine {
         request: &Request,
     ) -> Result<(Reply, Note), AskFault>
         requires limits { HoldsLimits (asked request.now) }
-        requires fits { Fits (S.bytes store.old) self.old.index }
+        requires fits { HasAllBlocks (S.bytes store.old) self.old.index }
 
         // Over bytes that stand for the index, where what is kept is good: the reply is right, and what is kept stays good.
         ensures ok { ForSome (S.bytes store.old) (λ b. StandsFor b self.old.index → AreGood b self.old → IfOk result (λ r. r.0 ≡ reply_of (file_corpus b) (asked request.now))) }
@@ -78,7 +78,7 @@ impl Engine {
 
         // Over each store: how much is shown, what is kept, what is left as it was, how much is read, and why it is refused.
         ensures few { IfOk result (λ r. length r.0.hits ≤ request.now.hits) }
-        ensures keeps { Keeps self.old.index request.now.query self.old.answers result self.new.answers }
+        ensures keeps { KeepsAnswers self.old.index request.now.query self.old.answers result self.new.answers }
         ensures index { self.new.index ≡ self.old.index }
         ensures bytes { S.bytes store.new ≡ S.bytes store.old }
         ensures lent { S.lent store.new ≡ S.lent store.old }
@@ -107,7 +107,7 @@ fn put(answers: &mut Answers, keys: Keys, plan: Plan, entry: Option<Entry>) -> K
     requires own { is_same plan ≡ true → is_some entry ≡ false }
 
     ensures became { result ≡ became plan entry }
-    ensures entries { answers.new.entries ≡ behind answers.old keys plan entry }
+    ensures entries { answers.new.entries ≡ entries_behind answers.old keys plan entry }
     ensures capacity { answers.new.capacity ≡ answers.old.capacity }
 {
     answers.resume(&keys, plan);

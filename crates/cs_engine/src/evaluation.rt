@@ -2,11 +2,11 @@
 ghost use Rattle.std.specs.Prelude.{◌≡◌, false, IfOk};
 ghost use Rattle.cs_base.specs.content.Orders.{AreDocs};
 ghost use Rattle.cs_base.specs.outside.Causes.{ReadsWithin};
-ghost use Rattle.cs_file.specs.Indexes.{IsIndex, Fits, CausedReads};
+ghost use Rattle.cs_file.specs.Indexes.{IsIndex, HasAllBlocks, CausedReads};
 ghost use Rattle.cs_model.specs.Answers.{hits, parts_of, rows_of_atom, rows_of_chain, rows_of_part};
 ghost use Rattle.cs_model_kept.specs.Due.{met_of_atom, met_of_chain, met_of_part, met_of_query};
 ghost use Rattle.cs_engine.specs.Asking.{division, is_read, is_changed};
-ghost use Rattle.cs_engine.specs.Reading.{AreWithin, HasRows, WhereStood, stock_of};
+ghost use Rattle.cs_engine.specs.IndexReading.{AreWithin, HasRows, WhereStood, stock_of};
 ghost use Rattle.cs_engine.specs.Stocked.{corpus_in};
 
 use crate::entries::{agreeing, docs_of_base};
@@ -28,7 +28,7 @@ pub(crate) fn rows_of_part<S: Store>(
     part: &Part,
 ) -> Result<Cols, AskFault>
     requires index { IsIndex index.now }
-    requires fits { Fits (S.bytes store.old) index.now }
+    requires fits { HasAllBlocks (S.bytes store.old) index.now }
 
     ensures told { WhereStood (S.bytes store.old) index.now (λ b. IfOk result (λ c. HasRows (stock_of b) (rows_of_part (corpus_in (stock_of b)) part.now).rows c.posts)) }
     ensures within { IfOk result (λ c. AreWithin index.now c.posts) }
@@ -55,7 +55,7 @@ fn rows_of_chain<S: Store>(
     chain: &Chain,
 ) -> Result<Cols, AskFault>
     requires index { IsIndex index.now }
-    requires fits { Fits (S.bytes store.old) index.now }
+    requires fits { HasAllBlocks (S.bytes store.old) index.now }
 
     ensures told { WhereStood (S.bytes store.old) index.now (λ b. IfOk result (λ c. HasRows (stock_of b) (rows_of_chain (corpus_in (stock_of b)) chain.now) c.posts)) }
     ensures within { IfOk result (λ c. AreWithin index.now c.posts) }
@@ -82,7 +82,7 @@ fn rows_of_atom<S: Store>(
     atom: &Atom,
 ) -> Result<Cols, AskFault>
     requires index { IsIndex index.now }
-    requires fits { Fits (S.bytes store.old) index.now }
+    requires fits { HasAllBlocks (S.bytes store.old) index.now }
 
     ensures told { WhereStood (S.bytes store.old) index.now (λ b. IfOk result (λ c. HasRows (stock_of b) (rows_of_atom (corpus_in (stock_of b)) atom.now) c.posts)) }
     ensures within { IfOk result (λ c. AreWithin index.now c.posts) }
@@ -119,7 +119,7 @@ fn docs_of_hits<S: Store>(
     query: &Query,
 ) -> Result<Vec<u32>, AskFault>
     requires index { IsIndex index.now }
-    requires fits { Fits (S.bytes store.old) index.now }
+    requires fits { HasAllBlocks (S.bytes store.old) index.now }
 
     ensures told { WhereStood (S.bytes store.old) index.now (λ b. IfOk result (λ v. v.items ≡ hits (corpus_in (stock_of b)) (parts_of (corpus_in (stock_of b)) query.now))) }
     ensures sorted { IfOk result (λ v. AreDocs v.items) }

@@ -5,7 +5,7 @@ ghost use Rattle.cs_base.specs.declared.content.doc.Base.TheVariants as base;
 ghost use Rattle.cs_base.specs.declared.content.limits.TheConstants.{MAX_PARTS};
 ghost use Rattle.cs_base.specs.declared.content.scores.TheConstants.{MAX_ROW_SCORE};
 ghost use Rattle.cs_base.specs.outside.Causes.{ReadsWithin};
-ghost use Rattle.cs_file.specs.Indexes.{IsIndex, Fits, CausedReads, is_met};
+ghost use Rattle.cs_file.specs.Indexes.{IsIndex, HasAllBlocks, CausedReads, is_met};
 ghost use Rattle.cs_model.specs.Parameters.{HoldsLimits};
 ghost use Rattle.cs_model.specs.Requests.{reply_of};
 ghost use Rattle.cs_model_index.specs.Sections.{file_corpus};
@@ -16,7 +16,7 @@ ghost use Rattle.cs_engine.specs.Asking.{division, is_read, is_changed, titles_a
 ghost use Rattle.cs_engine.specs.Blockwise.{AreMany};
 ghost use Rattle.cs_engine.specs.Keeping.{FitsQuery, IsAnsweredOver};
 ghost use Rattle.cs_engine.specs.Loose.{AreKeysIn, AreLastWords, IsEntryByWords};
-ghost use Rattle.cs_engine.specs.Reading.{WhereStood};
+ghost use Rattle.cs_engine.specs.IndexReading.{WhereStood};
 ghost use Rattle.cs_engine.specs.Steps.{IsBaseOf};
 
 use crate::answering::reply_of;
@@ -47,7 +47,7 @@ pub(crate) fn answered_by_words<S: Store>(
     requires limits { HoldsLimits (asked request.now) }
     requires asks { AreLastWords index.now request.now.query hits words.0 words.1 }
     requires index { IsIndex index.now }
-    requires fits { Fits (S.bytes store.old) index.now }
+    requires fits { HasAllBlocks (S.bytes store.old) index.now }
 
     ensures told { WhereStood (S.bytes store.old) index.now (λ b. IsEntryByWords b index.now request.now.query hits words.0 words.1 → IfOk result (IsAnsweredOver b index.now (asked request.now))) }
     ensures few { IfOk result (λ a. length a.0.hits ≤ request.now.hits) }
@@ -85,7 +85,7 @@ fn keys_of_hits<S: Store>(
     requires in_range { words.1 ≤ length index.now.words }
     requires base { IsBaseOf index.now.docs (MAX_ROW_SCORE * MAX_PARTS) hits.now }
     requires index { IsIndex index.now }
-    requires fits { Fits (S.bytes store.old) index.now }
+    requires fits { HasAllBlocks (S.bytes store.old) index.now }
 
     ensures keys { IfOk result (λ v. AreKeysIn index.now (S.bytes store.old) hits.now words.0 words.1 v.items) }
     ensures unchanged { WhereStood (S.bytes store.old) index.now (λ b. is_changed result ≡ false) }
@@ -134,7 +134,7 @@ fn reply_by_blocks<S: Store>(
 ) -> Result<Reply, AskFault>
     requires asks { AreLastWords index.now request.now.query base.All words.0 words.1 }
     requires index { IsIndex index.now }
-    requires fits { Fits (S.bytes store.old) index.now }
+    requires fits { HasAllBlocks (S.bytes store.old) index.now }
 
     ensures told { WhereStood (S.bytes store.old) index.now (λ b. IsEntryByWords b index.now request.now.query base.All words.0 words.1 → IfOk result (λ r. r ≡ reply_of (file_corpus b) (asked request.now))) }
     ensures few { IfOk result (λ r. length r.hits ≤ request.now.hits) }
@@ -163,7 +163,7 @@ fn reply_by_keys<S: Store>(
     requires asks { AreLastWords index.now request.now.query hits.now words.0 words.1 }
     requires keys { AreKeysIn index.now (S.bytes store.old) hits.now words.0 words.1 keys.now }
     requires index { IsIndex index.now }
-    requires fits { Fits (S.bytes store.old) index.now }
+    requires fits { HasAllBlocks (S.bytes store.old) index.now }
 
     ensures told { WhereStood (S.bytes store.old) index.now (λ b. IsEntryByWords b index.now request.now.query hits.now words.0 words.1 → IfOk result (λ r. r ≡ reply_of (file_corpus b) (asked request.now))) }
     ensures few { IfOk result (λ r. length r.hits ≤ request.now.hits) }

@@ -4,12 +4,12 @@ ghost use Rattle.cs_base.specs.declared.content.limits.TheConstants.{MAX_PARTS};
 ghost use Rattle.cs_base.specs.declared.content.query.Part.{out-Part};
 ghost use Rattle.cs_base.specs.declared.content.scores.TheConstants.{MAX_ROW_SCORE};
 ghost use Rattle.cs_base.specs.outside.Causes.{ReadsWithin};
-ghost use Rattle.cs_file.specs.Indexes.{IsIndex, Fits, CausedReads, is_met};
+ghost use Rattle.cs_file.specs.Indexes.{IsIndex, HasAllBlocks, CausedReads, is_met};
 ghost use Rattle.cs_model.specs.Answers.{rows_of_atom, rows_of_chain, rows_of_part};
 ghost use Rattle.cs_model_kept.specs.Due.{met_of_atom, met_of_chain, met_of_part};
 ghost use Rattle.cs_engine.specs.Asking.{division, is_read, is_changed};
 ghost use Rattle.cs_engine.specs.Plain.{AreWordsOf};
-ghost use Rattle.cs_engine.specs.Reading.{WhereStood, stock_of};
+ghost use Rattle.cs_engine.specs.IndexReading.{WhereStood, stock_of};
 ghost use Rattle.cs_engine.specs.Steps.{EntryFits, IsBaseOf, posts_after};
 ghost use Rattle.cs_engine.specs.Stocked.{is_between};
 
@@ -75,7 +75,7 @@ pub(crate) fn extended_by_words<S: Store>(
     requires in_range { words.1 ≤ length index.now.words }
     requires base { IsBaseOf index.now.docs (MAX_ROW_SCORE * MAX_PARTS) hits }
     requires index { IsIndex index.now }
-    requires fits { Fits (S.bytes store.old) index.now }
+    requires fits { HasAllBlocks (S.bytes store.old) index.now }
 
     ensures told { WhereStood (S.bytes store.old) index.now (λ b. IfOk result (λ e. e ≡ posts_after index.now.docs hits false (filter (is_between words.0 words.1) (stock_of b).posts))) }
     ensures within { IfOk result (λ e. (n : ℕ) → IsBaseOf index.now.docs (MAX_ROW_SCORE * n) hits → EntryFits index.now true (n + 1) e) }

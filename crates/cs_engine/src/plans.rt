@@ -2,7 +2,7 @@
 ghost use Rattle.std.specs.Prelude.{◌≡◌, ◌+◌, ◌≤◌, false, filter, length, IsSome, IfSome, IfOk};
 ghost use Rattle.cs_base.specs.outside.Causes.{ReadsWithin};
 ghost use Rattle.cs_base.specs.declared.content.query.Query.{out-Query};
-ghost use Rattle.cs_file.specs.Indexes.{IsIndex, Fits, CausedReads};
+ghost use Rattle.cs_file.specs.Indexes.{IsIndex, HasAllBlocks, CausedReads};
 ghost use Rattle.cs_model.specs.Answers.{begins};
 ghost use Rattle.cs_model.specs.Keys.{last_of, last_prefix};
 ghost use Rattle.cs_model.specs.Parameters.{HoldsLimits};
@@ -12,7 +12,7 @@ ghost use Rattle.cs_model_kept.specs.KeptListLaws.{before_last};
 ghost use Rattle.cs_query.specs.RequestView.{asked};
 ghost use Rattle.cs_engine.specs.Asking.{division, is_read, is_changed, titles_asked};
 ghost use Rattle.cs_engine.specs.Keeping.{FitsQuery, IsAnsweredOver, IsEntryOver, entry_with};
-ghost use Rattle.cs_engine.specs.Reading.{AreWithin, WhereStood};
+ghost use Rattle.cs_engine.specs.IndexReading.{AreWithin, WhereStood};
 
 use crate::between::posts_between;
 use crate::entries::{copy_of, hits_of};
@@ -69,7 +69,7 @@ pub(crate) fn answered_by_part<S: Store>(
     requires some { 1 ≤ length (out-Query request.now.query).parts }
     requires before { FitsQuery index.now (before_last request.now.query) (entry_with base.now rows.now.posts) }
     requires index { IsIndex index.now }
-    requires fits { Fits (S.bytes store.old) index.now }
+    requires fits { HasAllBlocks (S.bytes store.old) index.now }
 
     ensures told { WhereStood (S.bytes store.old) index.now (λ b. IsEntryOver b index.now (before_last request.now.query) (entry_with base.now rows.now.posts) → IfOk result (IsAnsweredOver b index.now (asked request.now))) }
     ensures few { IfOk result (λ a. length a.0.hits ≤ request.now.hits) }

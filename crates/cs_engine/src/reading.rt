@@ -2,13 +2,13 @@
 ghost use Rattle.std.specs.Prelude.{◌≡◌, ℕ, ◌+◌, ◌≤◌, ◌<◌, false, true, filter, length, IfOk, OnOk};
 ghost use Rattle.std.specs.List.{All};
 ghost use Rattle.cs_base.specs.outside.Causes.{ReadsWithin};
-ghost use Rattle.cs_file.specs.Indexes.{IsIndex, Fits, CausedReads, is_met};
+ghost use Rattle.cs_file.specs.Indexes.{IsIndex, HasAllBlocks, CausedReads, is_met};
 ghost use Rattle.cs_tables.specs.WordCounts.{is_chosen};
 ghost use Rattle.cs_engine.specs.Asking.{is_read, is_changed};
 ghost use Rattle.cs_engine.specs.Counting.{in_listed};
 ghost use Rattle.cs_engine.specs.Loose.{AreGathered};
 ghost use Rattle.cs_engine.specs.Packing.{HasKeys};
-ghost use Rattle.cs_engine.specs.Reading.{AreWithin, WhereStood, stock_of};
+ghost use Rattle.cs_engine.specs.IndexReading.{AreWithin, WhereStood, stock_of};
 ghost use Rattle.cs_engine.specs.Stocked.{is_between};
 
 use crate::counting::listed_docs;
@@ -30,7 +30,7 @@ pub(crate) fn rows_between<S: Store>(
     requires ordered { lo ≤ hi }
     requires in_range { hi ≤ length index.now.words }
     requires index { IsIndex index.now }
-    requires fits { Fits (S.bytes store.old) index.now }
+    requires fits { HasAllBlocks (S.bytes store.old) index.now }
 
     ensures told { WhereStood (S.bytes store.old) index.now (λ b. IfOk result (λ c. c.posts ≡ filter (is_between lo hi) (stock_of b).posts)) }
     ensures within { IfOk result (λ c. AreWithin index.now c.posts) }
@@ -58,7 +58,7 @@ pub(crate) fn rows_in<S: Store>(
     requires in_range { words.1 ≤ length index.now.words }
     requires listed { length listed.now ≡ index.now.docs }
     requires index { IsIndex index.now }
-    requires fits { Fits (S.bytes store.old) index.now }
+    requires fits { HasAllBlocks (S.bytes store.old) index.now }
 
     ensures told { WhereStood (S.bytes store.old) index.now (λ b. IfOk result (λ c. c.posts ≡ filter (in_listed listed.now) (filter (is_between words.0 words.1) (stock_of b).posts))) }
     ensures within { IfOk result (λ c. AreWithin index.now c.posts) }
@@ -87,7 +87,7 @@ pub(crate) fn keys_in<S: Store>(
     requires in_range { words.1 ≤ length index.now.words }
     requires listed { length listed.now ≡ index.now.docs }
     requires index { IsIndex index.now }
-    requires fits { Fits (S.bytes store.old) index.now }
+    requires fits { HasAllBlocks (S.bytes store.old) index.now }
 
     ensures gathered { IfOk result (λ v. AreGathered index.now (S.bytes store.old) words.0 words.1 listed.now v.items) }
     ensures unchanged { WhereStood (S.bytes store.old) index.now (λ b. is_changed result ≡ false) }
@@ -120,7 +120,7 @@ fn pack_block<S: Store>(
     requires in_range { k < length index.now.heads }
     requires listed { length listed.now ≡ index.now.docs }
     requires index { IsIndex index.now }
-    requires fits { Fits (S.bytes store.old) index.now }
+    requires fits { HasAllBlocks (S.bytes store.old) index.now }
 
     ensures keys { OnOk result ((first : ℕ) → first ≤ k → HasKeys index.now (S.bytes store.old) first k (is_chosen words.0 words.1 listed.now) keys.old.items → HasKeys index.now (S.bytes store.old) first (k + 1) (is_chosen words.0 words.1 listed.now) keys.new.items) }
     ensures unchanged { WhereStood (S.bytes store.old) index.now (λ b. is_changed result ≡ false) }

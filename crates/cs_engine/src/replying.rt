@@ -2,7 +2,7 @@
 ghost use Rattle.std.specs.Prelude.{◌≡◌, ◌+◌, ◌≤◌, Some, false, true, is_some, length, IfSome, IfOk};
 ghost use Rattle.cs_base.specs.declared.index.plan.Kept.TheVariants as kept;
 ghost use Rattle.cs_base.specs.outside.Causes.{ReadsWithin};
-ghost use Rattle.cs_file.specs.Indexes.{IsIndex, Fits, CausedReads};
+ghost use Rattle.cs_file.specs.Indexes.{IsIndex, HasAllBlocks, CausedReads};
 ghost use Rattle.cs_model.specs.Keys.{keys_of};
 ghost use Rattle.cs_model.specs.Parameters.{HoldsLimits};
 ghost use Rattle.cs_model.specs.Requests.{reply_of};
@@ -13,7 +13,7 @@ ghost use Rattle.cs_model_kept.specs.KeptList.{kept_fresh, plan_by, is_same};
 ghost use Rattle.cs_query.specs.RequestView.{asked};
 ghost use Rattle.cs_engine.specs.Asking.{division, is_read, is_changed, titles_asked, titles_read};
 ghost use Rattle.cs_engine.specs.Keeping.{FitsQuery, HoldsGood, IsAnsweredOver, IsEntryOver, KeepsFitting, entry_with};
-ghost use Rattle.cs_engine.specs.Reading.{WhereStood};
+ghost use Rattle.cs_engine.specs.IndexReading.{WhereStood};
 
 use crate::answering::reply_of;
 use crate::entries::{hits_of, nothing_kept};
@@ -42,7 +42,7 @@ pub(crate) fn answered<S: Store>(
     requires keys { keys.now ≡ keys_of request.now.query }
     requires plan { plan ≡ plan_by answers.now.entries keys.now }
     requires kept { KeepsFitting index.now answers.now.entries }
-    requires fits { Fits (S.bytes store.old) index.now }
+    requires fits { HasAllBlocks (S.bytes store.old) index.now }
 
     ensures told { WhereStood (S.bytes store.old) index.now (λ b. HoldsGood b index.now answers.now.entries → IfOk result (λ a. a.0 ≡ reply_of (file_corpus b) (asked request.now))) }
     ensures own { WhereStood (S.bytes store.old) index.now (λ b. HoldsGood b index.now answers.now.entries → IfOk result (λ a. IfSome a.1 (IsEntryOver b index.now request.now.query))) }
@@ -91,7 +91,7 @@ fn fresh<S: Store>(
 ) -> Result<(Reply, Option<Entry>), AskFault>
     requires limits { HoldsLimits (asked request.now) }
     requires index { IsIndex index.now }
-    requires fits { Fits (S.bytes store.old) index.now }
+    requires fits { HasAllBlocks (S.bytes store.old) index.now }
 
     ensures told { WhereStood (S.bytes store.old) index.now (λ b. IfOk result (IsAnsweredOver b index.now (asked request.now))) }
     ensures few { IfOk result (λ a. length a.0.hits ≤ request.now.hits) }
@@ -124,7 +124,7 @@ pub(crate) fn with_reply<S: Store>(
     requires limits { HoldsLimits (asked request.now) }
     requires entry { FitsQuery index.now request.now.query entry }
     requires index { IsIndex index.now }
-    requires fits { Fits (S.bytes store.old) index.now }
+    requires fits { HasAllBlocks (S.bytes store.old) index.now }
 
     ensures told { WhereStood (S.bytes store.old) index.now (λ b. IsEntryOver b index.now request.now.query entry → IfOk result (λ a. a.0 ≡ reply_of (file_corpus b) (asked request.now))) }
     ensures few { IfOk result (λ a. length a.0.hits ≤ request.now.hits) }
@@ -151,7 +151,7 @@ fn by_entry<S: Store>(
     requires limits { HoldsLimits (asked request.now) }
     requires entry { FitsQuery index.now request.now.query (entry_with base.now rows.now.posts) }
     requires index { IsIndex index.now }
-    requires fits { Fits (S.bytes store.old) index.now }
+    requires fits { HasAllBlocks (S.bytes store.old) index.now }
 
     ensures told { WhereStood (S.bytes store.old) index.now (λ b. IsEntryOver b index.now request.now.query (entry_with base.now rows.now.posts) → IfOk result (λ r. r ≡ reply_of (file_corpus b) (asked request.now))) }
     ensures few { IfOk result (λ r. length r.hits ≤ request.now.hits) }

@@ -5,12 +5,12 @@ ghost use Rattle.cs_base.specs.outside.Causes.{ReadsWithin};
 ghost use Rattle.cs_base.specs.declared.content.limits.TheConstants.{MAX_PARTS};
 ghost use Rattle.cs_base.specs.declared.content.query.Query.{Query, out-Query};
 ghost use Rattle.cs_base.specs.declared.content.query.Part.{out-Part};
-ghost use Rattle.cs_file.specs.Indexes.{IsIndex, Fits, CausedReads};
+ghost use Rattle.cs_file.specs.Indexes.{IsIndex, HasAllBlocks, CausedReads};
 ghost use Rattle.cs_model.specs.Answers.{rows_of_part};
 ghost use Rattle.cs_model_kept.specs.Due.{met_of_part};
 ghost use Rattle.cs_model_kept.specs.Entries.{entry_at, entry_of};
 ghost use Rattle.cs_engine.specs.Asking.{division, is_read, is_changed};
-ghost use Rattle.cs_engine.specs.Reading.{WhereStood, stock_of};
+ghost use Rattle.cs_engine.specs.IndexReading.{WhereStood, stock_of};
 ghost use Rattle.cs_engine.specs.Steps.{EntryFits, IsBaseOf, IsStep, end_positive};
 ghost use Rattle.cs_engine.specs.Stocked.{corpus_in};
 
@@ -32,7 +32,7 @@ pub(crate) fn entry_of<S: Store>(
 ) -> Result<Entry, AskFault>
     requires few { length parts.now ≤ MAX_PARTS }
     requires index { IsIndex index.now }
-    requires fits { Fits (S.bytes store.old) index.now }
+    requires fits { HasAllBlocks (S.bytes store.old) index.now }
 
     ensures told { WhereStood (S.bytes store.old) index.now (λ b. IfOk result (λ e. (q : Query) → parts.now ≡ (out-Query q).parts → entry_at (stock_of b).words e ≡ entry_of (corpus_in (stock_of b)) q)) }
     ensures within { IfOk result (λ e. EntryFits index.now (end_positive parts.now) (length parts.now) e) }
@@ -62,7 +62,7 @@ pub(crate) fn extended<S: Store>(
 ) -> Result<Entry, AskFault>
     requires base { IsBaseOf index.now.docs (MAX_ROW_SCORE * MAX_PARTS) hits }
     requires index { IsIndex index.now }
-    requires fits { Fits (S.bytes store.old) index.now }
+    requires fits { HasAllBlocks (S.bytes store.old) index.now }
 
     ensures told { WhereStood (S.bytes store.old) index.now (λ b. IfOk result (IsStep (stock_of b) hits (rows_of_part (corpus_in (stock_of b)) part.now))) }
     ensures within { IfOk result (λ e. (n : ℕ) → IsBaseOf index.now.docs (MAX_ROW_SCORE * n) hits → EntryFits index.now (not (out-Part part.now).excluded) (n + 1) e) }

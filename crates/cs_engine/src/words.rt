@@ -3,12 +3,12 @@ ghost use Rattle.std.specs.Prelude.{◌≡◌, ◌+◌, ◌≤◌, [], false, fi
 ghost use Rattle.std.specs.List.{list_any};
 ghost use Rattle.std.specs.Str.{bytes_eq};
 ghost use Rattle.cs_base.specs.outside.Causes.{ReadsWithin};
-ghost use Rattle.cs_file.specs.Indexes.{IsIndex, Fits, CausedReads};
+ghost use Rattle.cs_file.specs.Indexes.{IsIndex, HasAllBlocks, CausedReads};
 ghost use Rattle.cs_model.specs.Answers.{begins, of_word};
 ghost use Rattle.cs_model.specs.Collection.{named};
 ghost use Rattle.cs_model_kept.specs.Due.{met_prefix, met_word};
 ghost use Rattle.cs_engine.specs.Asking.{division, is_read, is_changed};
-ghost use Rattle.cs_engine.specs.Reading.{AreWithin, HasRows, IsSpanOf, WhereStood, stock_of};
+ghost use Rattle.cs_engine.specs.IndexReading.{AreWithin, HasRows, IsSpanOf, WhereStood, stock_of};
 ghost use Rattle.cs_engine.specs.Stocked.{corpus_in};
 
 use crate::fault::AskFault;
@@ -27,7 +27,7 @@ pub(crate) fn rows_of_prefix<S: Store>(
     prefix: &[u8],
 ) -> Result<Cols, AskFault>
     requires index { IsIndex index.now }
-    requires fits { Fits (S.bytes store.old) index.now }
+    requires fits { HasAllBlocks (S.bytes store.old) index.now }
 
     ensures told { WhereStood (S.bytes store.old) index.now (λ b. IfOk result (λ c. HasRows (stock_of b) (filter (λ r. begins prefix.now r.word) (corpus_in (stock_of b)).rows) c.posts)) }
     ensures within { IfOk result (λ c. AreWithin index.now c.posts) }
@@ -50,7 +50,7 @@ pub(crate) fn rows_of_word<S: Store>(
     word: &[u8],
 ) -> Result<Cols, AskFault>
     requires index { IsIndex index.now }
-    requires fits { Fits (S.bytes store.old) index.now }
+    requires fits { HasAllBlocks (S.bytes store.old) index.now }
 
     ensures told { WhereStood (S.bytes store.old) index.now (λ b. IfOk result (λ c. HasRows (stock_of b) (of_word word.now (corpus_in (stock_of b)).rows) c.posts)) }
     ensures within { IfOk result (λ c. AreWithin index.now c.posts) }
@@ -73,7 +73,7 @@ pub(crate) fn rows_of_facet<S: Store>(
     name: &Text,
 ) -> Result<Cols, AskFault>
     requires index { IsIndex index.now }
-    requires fits { Fits (S.bytes store.old) index.now }
+    requires fits { HasAllBlocks (S.bytes store.old) index.now }
 
     ensures told { WhereStood (S.bytes store.old) index.now (λ b. IfOk result (λ c. HasRows (stock_of b) (filter (λ r. begins (named name.now []) r.word) (corpus_in (stock_of b)).rows) c.posts)) }
     ensures within { IfOk result (λ c. AreWithin index.now c.posts) }

@@ -27,7 +27,7 @@ use Rattle.cs_model_index.specs.declared.limits.TheConstants.{HEADER_BYTES, NUMB
 use Rattle.cs_file.specs.CallAnswers.{IsDamageOf}
 use Rattle.cs_file.specs.declared.fault.OpenFault.{OpenFault}
 use Rattle.cs_file.specs.declared.fault.OpenFault.TheVariants as opens
-use Rattle.cs_file.specs.Indexes.{IndexView, IsIndex, index_of, StandsFor, Fits}
+use Rattle.cs_file.specs.Indexes.{IndexView, IsIndex, index_of, StandsFor, HasAllBlocks}
 use Rattle.cs_file.specs.Opening.{Refuses, AreBytes, IsHeader, IsHeaderOf, HasHeader, HasVocabulary, HasOffsets, HasHeads, header_stage, vocabulary_stage, titles_stage, directory_stage, blocks_stage, parting_stage, file_words, offsets_of, heads_of}
 use Rattle.cs_file.proofs.BytesLemmas.{more_front, all_bytes}
 use Rattle.cs_file.proofs.HeadsLemmas.{head_shaped}
@@ -213,7 +213,7 @@ stands_for b h i is read p q r s t u same = record {
   index = same;
 }
 
-pub fits_store : (told : Option (List ℕ)) (h : Header) (i : IndexView) → HasHeader told h → Kept h i → Fits told i
+pub fits_store : (told : Option (List ℕ)) (h : Header) (i : IndexView) → HasHeader told h → Kept h i → HasAllBlocks told i
 fits_store told h i has k = λ b t.
     let size = (has b t).size in
     let lens = all_lens i in

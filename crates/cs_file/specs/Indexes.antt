@@ -8,7 +8,7 @@
 --   title_place i d, title_len i d      where title d begins, and how many bytes it has
 --   IsIndex i               what an opened index keeps, whatever store it was read from
 --   StandsFor b i           the bytes are an index file, and the index is what is kept of it
---   Fits told i             the store tells nothing, or has all blocks
+--   HasAllBlocks told i             the store tells nothing, or has all blocks
 --   AreMet heads lo hi first last    the blocks from `first` up to `last` are those that hold a word from lo up to hi
 --   block_posts b k, title_in b d    the posts of block k and the title of document d that are read of the bytes
 --   CausedReads read before now      a count of failures rose exactly where the answer is a failed read
@@ -90,8 +90,8 @@ pub record StandsFor (b : List ℕ) (i : IndexView) : Type 0 where
   pub index : i ≡ index_of b
 
 -- the store tells nothing, or has at least as many bytes as titles and blocks need
-abbrev pub Fits : Option (List ℕ) → IndexView → Type 0
-Fits told i = ForSome told (λ b. block_place i (length i.heads) ≤ length b)
+abbrev pub HasAllBlocks : Option (List ℕ) → IndexView → Type 0
+HasAllBlocks told i = ForSome told (λ b. block_place i (length i.heads) ≤ length b)
 
 -- whether a block holds a word from number lo up to hi, hi left out
 abbrev pub is_met : ℕ → ℕ → BlockHead → Bool

@@ -14,7 +14,7 @@ ghost use Rattle.cs_model_index.specs.Blocks.{IsShaped};
 ghost use Rattle.cs_cols.specs.Held.{AreEven};
 ghost use Rattle.cs_file.specs.CallAnswers.{AreOf, HasBlock, IsChangeOfBlock, IsChangeOfTitle, IsRanged, AreScoredOf, is_read_of_fetch, is_changed_of_fetch, posts_in};
 ghost use Rattle.cs_file.specs.Fetching.{DecodesAt, HasPosts, HasScored, IsBlockRead, ReadsText};
-ghost use Rattle.cs_file.specs.Indexes.{StandsFor, Fits, CausedReads, block_place, block_posts, title_in, title_place, title_len};
+ghost use Rattle.cs_file.specs.Indexes.{StandsFor, HasAllBlocks, CausedReads, block_place, block_posts, title_in, title_place, title_len};
 
 use crate::fault::FetchFault;
 use crate::fetched::Fetched;
@@ -46,7 +46,7 @@ impl Index {
         into: &mut Cols,
     ) -> Result<(), FetchFault>
         requires in_range { k < length self.now.heads }
-        requires fits { Fits (S.bytes store.old) self.now }
+        requires fits { HasAllBlocks (S.bytes store.old) self.now }
 
         // over every store the posts are those of a block that keeps the rules, and over one that tells they are read there
         ensures ok { OnOk result (HasBlock self.now (S.bytes store.old) k into.old.posts into.new.posts) }
@@ -74,7 +74,7 @@ impl Index {
         into: &mut Fetched,
     ) -> Result<(), FetchFault>
         requires in_range { k < length self.now.heads }
-        requires fits { Fits (S.bytes store.old) self.now }
+        requires fits { HasAllBlocks (S.bytes store.old) self.now }
 
         // over every store they are in range, and over one that tells they are read there
         ensures even { OnOk result (AreEven into.new.docs.items into.new.words.items into.new.positions.items into.new.scores.items) }
@@ -101,7 +101,7 @@ impl Index {
         into: &mut Fetched,
     ) -> Result<(), FetchFault>
         requires in_range { k < length self.now.heads }
-        requires fits { Fits (S.bytes store.old) self.now }
+        requires fits { HasAllBlocks (S.bytes store.old) self.now }
 
         // over every store they are in range, and over one that tells they are read there
         ensures words_even { OnOk result (length into.new.words.items ≡ length into.new.docs.items) }
@@ -131,7 +131,7 @@ impl Index {
         into: &mut Fetched,
     ) -> Result<(), FetchFault>
         requires in_range { k < length self.now.heads }
-        requires fits { Fits (S.bytes store.old) self.now }
+        requires fits { HasAllBlocks (S.bytes store.old) self.now }
 
         // over every store they are in range, and over one that tells they are read there
         ensures even { OnOk result (length into.new.words.items ≡ length into.new.docs.items) }
@@ -157,7 +157,7 @@ impl Index {
         doc: u32,
     ) -> Result<Text, FetchFault>
         requires in_range { doc < self.now.docs }
-        requires fits { Fits (S.bytes store.old) self.now }
+        requires fits { HasAllBlocks (S.bytes store.old) self.now }
 
         ensures ok { ForSome (S.bytes store.old) (λ b. IfOk result (λ t. t ≡ part b (title_place self.now doc) (title_len self.now doc))) }
         ensures stood { ForSome (S.bytes store.old) (λ b. StandsFor b self.now → IfOk result (λ t. t ≡ title_in b doc)) }
@@ -185,7 +185,7 @@ impl Index {
         bytes: &mut Vec<u8>,
     ) -> Result<Placed, FetchFault>
         requires in_range { k < length self.now.heads }
-        requires fits { Fits (S.bytes store.old) self.now }
+        requires fits { HasAllBlocks (S.bytes store.old) self.now }
 
         ensures ok { IfOk result (λ placed. IsBlockRead self.now (S.bytes store.old) k placed bytes.new.items) }
         ensures unchanged { is_changed_of_fetch result ≡ false }

@@ -2,7 +2,7 @@
 ghost use Rattle.std.specs.Prelude.{◌≡◌, IfOk, IfErr};
 ghost use Rattle.std.specs.Option.{ForSome};
 ghost use Rattle.cs_file.specs.CallAnswers.{IsDamageOf, is_read_of_open};
-ghost use Rattle.cs_file.specs.Indexes.{StandsFor, Fits, CausedReads};
+ghost use Rattle.cs_file.specs.Indexes.{StandsFor, HasAllBlocks, CausedReads};
 
 use crate::directory::read_directory;
 use crate::fault::OpenFault;
@@ -25,7 +25,7 @@ pub fn open_index<S: Store>(alloc: Global, store: &mut S) -> Result<Index, OpenF
     ensures ok { ForSome (S.bytes store.old) (λ b. IfOk result (StandsFor b)) }
     // and it is refused by the first broken rule alone
     ensures damaged { ForSome (S.bytes store.old) (λ b. IfErr result (IsDamageOf b)) }
-    ensures fits { IfOk result (Fits (S.bytes store.new)) }
+    ensures fits { IfOk result (HasAllBlocks (S.bytes store.new)) }
     ensures bytes { S.bytes store.new ≡ S.bytes store.old }
     ensures lent { S.lent store.new ≡ S.lent store.old }
     ensures caused { CausedReads (is_read_of_open result) (S.faults store.old) (S.faults store.new) }

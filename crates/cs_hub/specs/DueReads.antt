@@ -50,7 +50,7 @@ use Rattle.cs_engine.specs.declared.fault.AskFault.{AskFault}
 use Rattle.cs_engine.specs.declared.fault.AskFault.TheVariants as faults
 use Rattle.cs_engine.specs.declared.note.Note.{Note}
 use Rattle.cs_engine.specs.Asking.{division, is_changed, is_read, titles_asked}
-use Rattle.cs_engine.specs.Keeping.{AreGood, EngineView, IsAfter, Keeps, note_plan}
+use Rattle.cs_engine.specs.Keeping.{AreGood, EngineView, IsAfter, KeepsAnswers, note_plan}
 use Rattle.cs_hub.specs.Following.{Slots, left_at}
 use Rattle.cs_hub.specs.Speaking.{Spoke}
 use Rattle.cs_hub.specs.Streams.{RoseBy}
@@ -152,7 +152,7 @@ pub record IsDue (told : Option (List ℕ)) (a : Answered) (old : EngineView) (n
   pub reply : a.1 ≡ reply_in answer
   pub few : titles_asked a.0 answer ≤ a.0.hits
   pub index : new.index ≡ old.index
-  pub keeps : Keeps old.index a.0.query old.answers answer new.answers
+  pub keeps : KeepsAnswers old.index a.0.query old.answers answer new.answers
   pub unchanged : ForSome told (λ b. StandsFor b old.index → is_changed answer ≡ false)
   pub right : ForSome told (λ b. StandsFor b old.index → AreGood b old → IsRightOver b a.0 old answer new)
   pub sum : n ≡ due (division old.index) a.0 (note_plan a.0.query old.answers) (titles_asked a.0 answer)

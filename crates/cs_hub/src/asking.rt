@@ -1,6 +1,6 @@
 //! An engine over the store of its index, as what answers requests.
 ghost use Rattle.std.specs.Prelude.{◌≡◌};
-ghost use Rattle.cs_file.specs.Indexes.{Fits};
+ghost use Rattle.cs_file.specs.Indexes.{HasAllBlocks};
 
 use crate::answerer::Answerer;
 use cs_base::Store;
@@ -14,13 +14,13 @@ pub(crate) struct Asking<'a, S: Store> {
     engine: &'a mut Engine,
     store: &'a mut S,
     /// The store tells nothing, or has the blocks of the index.
-    pub ghost fits: { Fits (S.bytes store.now) engine.now.index },
+    pub ghost fits: { HasAllBlocks (S.bytes store.now) engine.now.index },
 }
 
 impl<'a, S: Store> Asking<'a, S> {
     /// The engine over this store.
     pub fn new(engine: &'a mut Engine, store: &'a mut S) -> Asking<'a, S>
-        requires fits { Fits (S.bytes store.old) engine.old.index }
+        requires fits { HasAllBlocks (S.bytes store.old) engine.old.index }
 
         ensures same_engine { result.engine.ghost_name ≡ engine.entry.ghost_name }
         ensures same_store { result.store.ghost_name ≡ store.entry.ghost_name }

@@ -6,7 +6,7 @@ ghost use Rattle.cs_base.specs.declared.content.limits.TheConstants.{MAX_CONNECT
 ghost use Rattle.cs_base.specs.outside.Causes.{Rose};
 ghost use Rattle.cs_base.specs.outside.Hub.{IsOrderly, listens};
 ghost use Rattle.cs_engine.specs.Keeping.{AreGood};
-ghost use Rattle.cs_file.specs.Indexes.{Fits, StandsFor};
+ghost use Rattle.cs_file.specs.Indexes.{HasAllBlocks, StandsFor};
 ghost use Rattle.cs_model_index.specs.Sections.{file_corpus};
 ghost use Rattle.cs_model.specs.Corpus.{Corpus};
 ghost use Rattle.cs_hub.specs.Ending.{Ends};
@@ -45,7 +45,7 @@ pub fn serve<S: Store, H: Hub>(
     hub: &mut H,
     conns: u32,
 ) -> ServeEnd
-    requires fits { Fits (S.bytes store.old) engine.old.index }
+    requires fits { HasAllBlocks (S.bytes store.old) engine.old.index }
     requires listens { (port : ℕ) × (H.state hub.old ≡ listens port conns) }
     requires orderly { IsOrderly (H.state hub.old) (H.talk hub.old) }
 

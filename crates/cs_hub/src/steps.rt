@@ -4,7 +4,7 @@ ghost use Rattle.std.specs.FinSet as set;
 ghost use Rattle.std.specs.Option.{ForSome};
 ghost use Rattle.cs_base.specs.outside.Hub.{IsLive, IsOrderly};
 ghost use Rattle.cs_engine.specs.Keeping.{AreGood};
-ghost use Rattle.cs_file.specs.Indexes.{Fits, StandsFor};
+ghost use Rattle.cs_file.specs.Indexes.{HasAllBlocks, StandsFor};
 ghost use Rattle.cs_model.specs.Corpus.{Corpus};
 ghost use Rattle.cs_model_index.specs.Sections.{file_corpus};
 ghost use Rattle.cs_hub.specs.Asked.{AsksAsSent};
@@ -33,7 +33,7 @@ impl Core {
         event: Event,
         piece: &[u8],
     )
-        requires fits { Fits (S.bytes store.old) engine.old.index }
+        requires fits { HasAllBlocks (S.bytes store.old) engine.old.index }
         requires live { HasLiveBut self.old (H.state hub.old) event }
         requires whole { IsWhole event piece.now }
 

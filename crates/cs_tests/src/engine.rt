@@ -1,6 +1,6 @@
 //! What no clause says: that an engine answers where there is memory, and goes on from what it kept.
 ghost use Rattle.std.specs.Prelude.{◌≡◌, Some};
-ghost use Rattle.cs_file.specs.Indexes.{Fits};
+ghost use Rattle.cs_file.specs.Indexes.{HasAllBlocks};
 
 use cs_base::{Kept, MemStore, Plan, Seq};
 use cs_engine::{Engine, Note};
@@ -17,7 +17,7 @@ fn answer(
     store: &mut MemStore,
     text: &str,
 ) -> Result<(Reply, Note), Fail>
-    requires fits { Fits (Some store.old.bytes) engine.old.index }
+    requires fits { HasAllBlocks (Some store.old.bytes) engine.old.index }
 
     ensures bytes { store.new.bytes ≡ store.old.bytes }
     ensures index { engine.new.index ≡ engine.old.index }

@@ -15,7 +15,7 @@ use Rattle.cs_model.proofs.OutputLemmas.{length-one_each}
 use Rattle.cs_base.specs.outside.Outside.{File, Held, IsHeld, file_bytes, size_of}
 use Rattle.cs_base.proofs.GrewLemmas.{grew_begun}
 use Rattle.cs_engine.specs.Keeping.{EngineView, AreGood}
-use Rattle.cs_file.specs.Indexes.{IndexView, Fits, StandsFor}
+use Rattle.cs_file.specs.Indexes.{IndexView, HasAllBlocks, StandsFor}
 use Rattle.cs_model_index.specs.Sections.{file_corpus}
 use Rattle.cs_top.specs.Answering.{AnswersOver, FileView, IsReplayed, IsThere, MayAnswer, bytes_there}
 use Rattle.cs_top.specs.CommandLine.{Ending, done, usage, refused, damaged, absent, failed, no_memory, script_refused, changed}
@@ -112,10 +112,10 @@ module _ (e : EngineView) (f : FileView) (held : Option Held) where
   over_held h name size q is st good = (held_bytes h name, ap (λ x. bytes_there x held) q ∙ ap (λ x. file_bytes x name) is, st, good, refl)
 
 module _ (i : IndexView) (f : FileView) (held : Option Held) where
-  pub there_made : (b s : List ℕ) → f ≡ record { made = Some s; name = []; size = 0 } → s ≡ b → Fits (Some b) i → IsThere i f held
+  pub there_made : (b s : List ℕ) → f ≡ record { made = Some s; name = []; size = 0 } → s ≡ b → HasAllBlocks (Some b) i → IsThere i f held
   there_made b s e p fits = record {
     sized = λ none. let wrong : Some s ≡ None = sym (ap (λ x. x.made) e) ∙ none in absurd cc;
-    fits = subst (λ o. Fits o i) (sym (ap (λ x. bytes_there x held) e ∙ ap (λ x. Some x) p)) fits;
+    fits = subst (λ o. HasAllBlocks o i) (sym (ap (λ x. bytes_there x held) e ∙ ap (λ x. Some x) p)) fits;
   }
 
   pub some_made : (s : List ℕ) → f ≡ record { made = Some s; name = []; size = 0 } → is_some f.made ≡ true

@@ -21,7 +21,7 @@ use Rattle.std.proofs.lemmas.List.Sums.{sum_by-append, sum_by-cons}
 use Rattle.cs_base.specs.declared.content.query.Query.{Query}
 use Rattle.cs_base.specs.declared.index.plan.Plan.{Plan}
 use Rattle.cs_base.specs.declared.index.plan.Plan.TheVariants.{Same, Narrow, Extend, Fresh}
-use Rattle.cs_engine.specs.Keeping.{AreGood, EngineView, IsAfter, Keeps}
+use Rattle.cs_engine.specs.Keeping.{AreGood, EngineView, IsAfter, KeepsAnswers}
 use Rattle.cs_engine.specs.declared.note.Note.{Note}
 use Rattle.cs_file.specs.Indexes.{StandsFor}
 use Rattle.cs_model.specs.Answers.{hits, parts_of}
@@ -124,7 +124,7 @@ asked_none b e c stands good none room few = record {
   counts = none_added (file_corpus b) c few;
 }
 
-module _ (b : List ℕ) (qs : List Query) (q : Query) (old new : EngineView) (r : Reply × Note) (c : Counts) (h : HasAsked b qs old c) (keeps : Keeps old.index q old.answers (Ok r) new.answers) where
+module _ (b : List ℕ) (qs : List Query) (q : Query) (old new : EngineView) (r : Reply × Note) (c : Counts) (h : HasAsked b qs old c) (keeps : KeepsAnswers old.index q old.answers (Ok r) new.answers) where
   plan_is : r.1.plan ≡ plan (kept_after (file_corpus b) [] qs) q
   unfolding plan
   plan_is = keeps.1 ∙ sym (numbers_plan_alike old.index.words old.answers.entries (keys_of q)) ∙ ap (λ held. plan_by held (keys_of q)) h.kept

@@ -20,7 +20,7 @@ use Rattle.std.specs.Option.{option_or}
 use Rattle.cs_base.specs.outside.Causes.{Rose}
 use Rattle.cs_base.specs.outside.Outside.{Held, file_bytes}
 use Rattle.cs_engine.specs.Keeping.{EngineView, AreGood}
-use Rattle.cs_file.specs.Indexes.{IndexView, Fits, StandsFor}
+use Rattle.cs_file.specs.Indexes.{IndexView, HasAllBlocks, StandsFor}
 use Rattle.cs_model.specs.Corpus.{Corpus}
 use Rattle.cs_model.specs.Outputs.{MayPut, IsAnswer, memory_text, read_text}
 use Rattle.cs_model.specs.Parameters.{request_refusal}
@@ -46,7 +46,7 @@ bytes_there f held = option_or f.made (file_bytes held f.name)
 -- a file that is held has this size, and the bytes fit the index
 pub record IsThere (i : IndexView) (f : FileView) (held : Option Held) : Type 0 where
   pub sized : f.made ≡ None → HasSize held f.name f.size
-  pub fits : Fits (bytes_there f held) i
+  pub fits : HasAllBlocks (bytes_there f held) i
 
 -- the bytes are told, they stand for the index, what is kept of answers is good over them, and this is their corpus; of files that
 -- don't tell there is no such corpus

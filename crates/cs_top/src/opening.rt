@@ -2,7 +2,7 @@
 ghost use Rattle.std.specs.Prelude.{◌≡◌, ℕ, List, [], Some, IfErr, IfOk, OnOk};
 ghost use Rattle.cs_base.specs.outside.Outside.{file_bytes};
 ghost use Rattle.cs_engine.specs.Keeping.{AreGood};
-ghost use Rattle.cs_file.specs.Indexes.{Fits, StandsFor};
+ghost use Rattle.cs_file.specs.Indexes.{HasAllBlocks, StandsFor};
 ghost use Rattle.cs_file.specs.Writable.{CanBeWritten};
 ghost use Rattle.cs_model_index.specs.FileRules.{IsIndexFile};
 ghost use Rattle.cs_model_index.specs.Layout.{file};
@@ -30,7 +30,7 @@ pub(crate) fn open<'a, F: Files>(
     ensures ok { OfBytes (F.held files.old) name.now (λ b. IfOk result (λ e. StandsFor b e.index)) }
     ensures good { (b : List ℕ) → IfOk result (AreGood b) }
     ensures damaged { OfBytes (F.held files.old) name.now (λ b. IfErr result (IsDamage b)) }
-    ensures fits { IfOk result (λ e. Fits (file_bytes (F.held files.new) name.now) e.index) }
+    ensures fits { IfOk result (λ e. HasAllBlocks (file_bytes (F.held files.new) name.now) e.index) }
     ensures kind { IfErr result IsOfIndex }
     ensures quiet { OnOk result (F.faults files.new ≡ F.faults files.old) }
     ensures caused { IfErr result (λ s. CausedBy (stop_ending s) (F.faults files.old) (F.faults files.new)) }
@@ -52,7 +52,7 @@ fn open_file<'a, F: Files>(
 
     ensures ok { OfBytes (F.held files.old) name.now (λ b. IfOk result (StandsFor b)) }
     ensures damaged { OfBytes (F.held files.old) name.now (λ b. IfErr result (IsDamage b)) }
-    ensures fits { IfOk result (Fits (file_bytes (F.held files.new) name.now)) }
+    ensures fits { IfOk result (HasAllBlocks (file_bytes (F.held files.new) name.now)) }
     ensures kind { IfErr result IsOfIndex }
     ensures quiet { OnOk result (F.faults files.new ≡ F.faults files.old) }
     ensures caused { IfErr result (λ s. CausedBy (stop_ending s) (F.faults files.old) (F.faults files.new)) }
@@ -83,7 +83,7 @@ pub(crate) fn open_image(alloc: Global, image: Image) -> Result<(Engine, MemStor
 
     ensures bytes { IfOk result (λ p. p.1.bytes ≡ file image) }
     ensures stands { IfOk result (λ p. StandsFor (file image) p.0.index) }
-    ensures fits { IfOk result (λ p. Fits (Some (file image)) p.0.index) }
+    ensures fits { IfOk result (λ p. HasAllBlocks (Some (file image)) p.0.index) }
     ensures empty { IfOk result (λ p. (p.0.answers.entries ≡ []) × (p.0.answers.capacity ≡ MAX_ENTRIES)) }
     ensures good { (b : List ℕ) → IfOk result (λ p. AreGood b p.0) }
 {
@@ -99,7 +99,7 @@ fn open_bytes(alloc: Global, image: Image) -> Result<(Index, MemStore), Memory>
 
     ensures bytes { IfOk result (λ p. p.1.bytes ≡ file image) }
     ensures stands { IfOk result (λ p. StandsFor (file image) p.0) }
-    ensures fits { IfOk result (λ p. Fits (Some (file image)) p.0) }
+    ensures fits { IfOk result (λ p. HasAllBlocks (Some (file image)) p.0) }
 {
     let bytes = file_of(alloc, image)?;
     let mut store = MemStore::new(bytes);

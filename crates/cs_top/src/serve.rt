@@ -7,7 +7,7 @@ ghost use Rattle.cs_base.specs.outside.Hub.{IsOrderly, listens};
 ghost use Rattle.cs_base.specs.outside.Outside.{GrewByPrefix, file_bytes};
 ghost use Rattle.cs_base.specs.declared.content.limits.TheConstants.{MAX_PORT_DIGITS, MAX_PORT, MAX_CONNECTIONS_DIGITS, MAX_CONNECTIONS};
 ghost use Rattle.cs_engine.specs.Keeping.{AreGood};
-ghost use Rattle.cs_file.specs.Indexes.{Fits, StandsFor};
+ghost use Rattle.cs_file.specs.Indexes.{HasAllBlocks, StandsFor};
 ghost use Rattle.cs_hub.specs.Following.{AreServed};
 ghost use Rattle.cs_hub.specs.Speaking.{AreUnbroken};
 ghost use Rattle.cs_model_index.specs.Sections.{file_corpus};
@@ -63,7 +63,7 @@ fn prepare<'a, F: Files>(
     ensures stands { OfBytes (F.held files.old) index.now (λ b. IfOk result (λ p. StandsFor b p.0.index)) }
     ensures good { (b : List ℕ) → IfOk result (λ p. AreGood b p.0) }
     ensures ready { ForSome (F.held files.old) (λ h. OnOk result (CanServe h index.now)) }
-    ensures fits { IfOk result (λ p. Fits (file_bytes (F.held files.new) index.now) p.0.index) }
+    ensures fits { IfOk result (λ p. HasAllBlocks (file_bytes (F.held files.new) index.now) p.0.index) }
     ensures ends { IfErr result (λ s. (p : List ℕ) → (n : List ℕ) → (w : Wrote) → (net : Listened) → IsUntouched w net → net.now ≡ net.before → ServeEnds (stop_ending s) index.now p n w net) }
     ensures told { ForSome (F.held files.old) (λ h. IfErr result (λ s. (p : List ℕ) → (n : List ℕ) → (before : ℕ) → (now : ℕ) → (w : Wrote) → (net : Listened) → IsUntouched w net → net.now ≡ net.before → ServeTold (stop_ending s) h index.now p n before now w net)) }
     ensures quiet { OnOk result (F.faults files.new ≡ F.faults files.old) }
@@ -113,7 +113,7 @@ fn serve_file<F: Files, H: Hub>(
     conns: u32,
 ) -> ServeEnd
     requires size { HasSize (F.held files.old) name.now size }
-    requires fits { Fits (file_bytes (F.held files.old) name.now) engine.old.index }
+    requires fits { HasAllBlocks (file_bytes (F.held files.old) name.now) engine.old.index }
     requires listens { (port : ℕ) × (H.state hub.old ≡ listens port conns) }
     requires orderly { IsOrderly (H.state hub.old) (H.talk hub.old) }
 

@@ -2,7 +2,7 @@
 ghost use Rattle.std.specs.Prelude.{◌≡◌, ◌≤◌, ◌+◌, ◌++◌, ◌∷◌, ◌^◌, [], ℕ, List, All, IfOk, OnOk, Some, length, map, true};
 ghost use Rattle.cs_base.specs.declared.content.query.Query.{Query};
 ghost use Rattle.cs_base.specs.declared.content.limits.TheConstants.{MAX_TRIAL, MAX_TRIAL_DIGITS};
-ghost use Rattle.cs_file.specs.Indexes.{Fits, StandsFor};
+ghost use Rattle.cs_file.specs.Indexes.{HasAllBlocks, StandsFor};
 ghost use Rattle.cs_file.specs.Writable.{CanBeWritten};
 ghost use Rattle.cs_model.specs.Parameters.{HoldsLimits};
 ghost use Rattle.cs_model_index.specs.FileRules.{IsIndexFile};
@@ -107,7 +107,7 @@ fn ask_all(
 ) -> Result<(), Memory>
     requires limits { All (λ r. HoldsLimits (asked r)) requests.now }
     requires stands { StandsFor store.old.bytes engine.old.index }
-    requires fits { Fits (Some store.old.bytes) engine.old.index }
+    requires fits { HasAllBlocks (Some store.old.bytes) engine.old.index }
     requires few { length requests.now ≤ 2 ^ 16 }
     requires none { AreFew 0 counts.old }
 
@@ -130,7 +130,7 @@ fn ask_one(
 ) -> Result<(), Memory>
     requires limits { HoldsLimits (asked request.now) }
     requires stands { StandsFor store.old.bytes engine.old.index }
-    requires fits { Fits (Some store.old.bytes) engine.old.index }
+    requires fits { HasAllBlocks (Some store.old.bytes) engine.old.index }
     requires few { AreFew (2 ^ 16) counts.old }
 
     ensures asked { (qs : List Query) → HasAsked store.old.bytes qs engine.old counts.old → OnOk result (HasAsked store.new.bytes (qs ++ request.now.query ∷ []) engine.new counts.new) }
@@ -153,7 +153,7 @@ fn answer(
 ) -> Result<(Reply, Note), Memory>
     requires limits { HoldsLimits (asked request.now) }
     requires stands { StandsFor store.old.bytes engine.old.index }
-    requires fits { Fits (Some store.old.bytes) engine.old.index }
+    requires fits { HasAllBlocks (Some store.old.bytes) engine.old.index }
 
     ensures asked { (qs : List Query) → (c : Counts) → HasAsked store.old.bytes qs engine.old c → IfOk result (λ r. HasAsked store.new.bytes (qs ++ request.now.query ∷ []) engine.new (with_reply r.1.plan r.0.total_hits c)) }
     ensures index { engine.new.index ≡ engine.old.index }

@@ -8,7 +8,7 @@ use Rattle.cs_file.specs.Indexes.{IndexView}
 use Rattle.cs_model.specs.Requests.{hit_shown}
 use Rattle.cs_query.specs.RequestView.{asked}
 use Rattle.cs_tables.specs.declared.tables.Completion.{Completion}
-use Rattle.cs_engine.specs.Reading.{stock_of}
+use Rattle.cs_engine.specs.IndexReading.{stock_of}
 use Rattle.cs_engine.specs.Stocked.{corpus_in, shown_at}
 use Rattle.cs_engine.proofs.AnsweringLemmas.{hits_few, index_texts, reply_told, shown_in, words_as_shown}
 use Rattle.cs_engine.proofs.answering.reply_of.Goals as goal

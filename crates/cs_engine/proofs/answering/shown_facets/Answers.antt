@@ -4,7 +4,7 @@ use Rattle.cs_model.specs.Collection.{named}
 use Rattle.cs_model_kept.specs.Due.{met_prefix}
 use Rattle.cs_engine.specs.Asking.{division}
 use Rattle.cs_engine.specs.Counting.{AreListed}
-use Rattle.cs_engine.specs.Reading.{stock_of}
+use Rattle.cs_engine.specs.IndexReading.{stock_of}
 use Rattle.cs_engine.specs.Stocked.{facet_at}
 use Rattle.cs_engine.proofs.AnsweringLemmas.{shown_more}
 use Rattle.cs_engine.proofs.EvaluationLemmas.{next_left}

@@ -4,7 +4,7 @@ use Rattle.cs_model.specs.Collection.{named}
 use Rattle.cs_model_kept.specs.Due.{met_of_facets, met_prefix}
 use Rattle.cs_query.specs.RequestView.{asked}
 use Rattle.cs_engine.specs.Asking.{division}
-use Rattle.cs_engine.specs.Reading.{WhereStood, stock_of}
+use Rattle.cs_engine.specs.IndexReading.{WhereStood, stock_of}
 use Rattle.cs_engine.specs.Stocked.{facet_at}
 use Rattle.cs_engine.proofs.answering.shown_facets.Given as goal
 

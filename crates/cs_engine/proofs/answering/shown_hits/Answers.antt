@@ -1,7 +1,7 @@
 use Rattle.std.proofs.Common.{◌+◌, ap, length, get_or, refl, ◌∙◌, arith, length-append}
 use Rattle.cs_base.specs.declared.content.doc.Scored.{Scored}
 use Rattle.cs_model.specs.Requests.{hit_shown}
-use Rattle.cs_engine.specs.Reading.{stock_of}
+use Rattle.cs_engine.specs.IndexReading.{stock_of}
 use Rattle.cs_engine.specs.Stocked.{corpus_in}
 use Rattle.cs_engine.proofs.AnsweringLemmas.{shown_more, title_told}
 use Rattle.cs_engine.proofs.answering.shown_hits.Goals as goal

@@ -1,6 +1,6 @@
 use Rattle.std.proofs.Common.{◌≡◌, ◌+◌, ◌++◌, ◌≤◌, map, drop, length}
 use Rattle.cs_model.specs.Requests.{hit_shown}
-use Rattle.cs_engine.specs.Reading.{WhereStood, stock_of}
+use Rattle.cs_engine.specs.IndexReading.{WhereStood, stock_of}
 use Rattle.cs_engine.specs.Stocked.{corpus_in}
 use Rattle.cs_engine.proofs.answering.shown_hits.Given as goal
 

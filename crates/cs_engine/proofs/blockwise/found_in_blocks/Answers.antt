@@ -8,12 +8,12 @@ use Rattle.cs_file.specs.Indexes.{IndexView, block_posts}
 use Rattle.cs_tables.specs.WordCounts.{AreCountable, HasCounted, chosen}
 use Rattle.cs_engine.specs.Counting.{AreListed, counted_rows}
 use Rattle.cs_engine.specs.Loose.{HasBestScores, hits_in}
-use Rattle.cs_engine.specs.Reading.{run_of}
+use Rattle.cs_engine.specs.IndexReading.{run_of}
 use Rattle.cs_engine.specs.Steps.{IsBaseOf}
 use Rattle.cs_engine.specs.Stocked.{is_between}
 use Rattle.cs_engine.proofs.BlockwiseLemmas.{hits_found, scored_more, table_found}
 use Rattle.cs_engine.proofs.CountingLemmas.{block_counted, countable}
-use Rattle.cs_engine.proofs.ReadingLemmas.{met_count}
+use Rattle.cs_engine.proofs.ReadRows.{met_count}
 use Rattle.cs_engine.proofs.blockwise.found_in_blocks.Goals as goal
 
 pub returns-in_err-add_block-clause-reads : goal.returns-in_err-add_block-clause-reads

@@ -3,7 +3,7 @@ use Rattle.cs_model_index.specs.Sections.{image_of}
 use Rattle.cs_tables.specs.WordCounts.{HasCounted}
 use Rattle.cs_engine.specs.Counting.{counted_rows}
 use Rattle.cs_engine.specs.Loose.{HasBestScores}
-use Rattle.cs_engine.specs.Reading.{WhereStood, run_of}
+use Rattle.cs_engine.specs.IndexReading.{WhereStood, run_of}
 use Rattle.cs_engine.specs.Stocked.{is_between}
 use Rattle.cs_engine.proofs.blockwise.found_in_blocks.Given as goal
 

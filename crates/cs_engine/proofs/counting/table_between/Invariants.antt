@@ -2,7 +2,7 @@ use Rattle.std.proofs.Common.{◌≡◌, ◌+◌, ◌≤◌}
 use Rattle.cs_model_index.specs.Sections.{image_of}
 use Rattle.cs_tables.specs.WordCounts.{HasCounted}
 use Rattle.cs_engine.specs.Counting.{counted_rows}
-use Rattle.cs_engine.specs.Reading.{WhereStood}
+use Rattle.cs_engine.specs.IndexReading.{WhereStood}
 use Rattle.cs_engine.proofs.counting.table_between.Given as goal
 
 abbrev pub invariant-loop-k : goal.invariant-loop-k

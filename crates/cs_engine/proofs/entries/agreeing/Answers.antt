@@ -4,7 +4,7 @@ use Rattle.cs_base.specs.declared.content.doc.Base.TheVariants as base
 use Rattle.cs_base.specs.declared.content.doc.Scored.{Scored}
 use Rattle.cs_rank.specs.DocScores.{IsBase}
 use Rattle.cs_engine.specs.Steps.{docs_after, with_no_score}
-use Rattle.cs_engine.proofs.StepLemmas.{left_base, unscored_base, unscored_docs}
+use Rattle.cs_engine.proofs.PartSteps.{left_base, unscored_base, unscored_docs}
 use Rattle.cs_engine.proofs.entries.agreeing.Goals as goal
 
 pub returns-then-excluded-clause-base : goal.returns-then-excluded-clause-base

@@ -8,12 +8,12 @@ use Rattle.cs_file.specs.Indexes.{IndexView}
 use Rattle.cs_join.specs.Shared.{shares_word, shared}
 use Rattle.cs_model_kept.specs.Due.{met_of_chain, met_of_linked, met_of_part}
 use Rattle.cs_engine.specs.Asking.{division}
-use Rattle.cs_engine.specs.Reading.{AreWithin, stock_of}
+use Rattle.cs_engine.specs.IndexReading.{AreWithin, stock_of}
 use Rattle.cs_engine.specs.Steps.{docs_after}
 use Rattle.cs_engine.specs.Stocked.{docs_in}
 use Rattle.cs_engine.proofs.EvaluationLemmas.{docs_begin, docs_go_on, docs_end, met_linked-is, met_part-is, met_query-is, next_left, part_begins, part_goes_on, part_ends, chain_goes_on, chain_ends, linked_within, joined_rows}
-use Rattle.cs_engine.proofs.ReadingLemmas.{kept_within, none_within, united_within}
-use Rattle.cs_engine.proofs.StepLemmas.{base_sorted, known_docs}
+use Rattle.cs_engine.proofs.ReadRows.{kept_within, none_within, united_within}
+use Rattle.cs_engine.proofs.PartSteps.{base_sorted, known_docs}
 use Rattle.cs_engine.proofs.StockLemmas.{docs_are, stocked}
 use Rattle.cs_engine.proofs.evaluation.+evaluation.Goals as goal
 

@@ -3,7 +3,7 @@ use Rattle.std.specs.Prelude.{sum}
 use Rattle.cs_model_kept.specs.Due.{met_of_chain, met_of_linked, met_of_part, met_of_query}
 use Rattle.cs_rank.specs.DocScores.{IsBase}
 use Rattle.cs_engine.specs.Asking.{division}
-use Rattle.cs_engine.specs.Reading.{AreWithin, WhereStood, stock_of}
+use Rattle.cs_engine.specs.IndexReading.{AreWithin, WhereStood, stock_of}
 use Rattle.cs_engine.proofs.EvaluationLemmas.{DocsSoFar, RowsSoFar, LinkedSoFar}
 use Rattle.cs_engine.proofs.evaluation.+evaluation.Given as goal
 

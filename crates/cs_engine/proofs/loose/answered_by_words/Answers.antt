@@ -5,7 +5,7 @@ use Rattle.cs_base.specs.declared.content.doc.Base.TheVariants as base
 use Rattle.cs_engine.specs.Keeping.{FitsQuery, IsEntryOver}
 use Rattle.cs_engine.specs.Loose.{AreLastWords, IsEntryByWords}
 use Rattle.cs_engine.specs.Packing.{key_of}
-use Rattle.cs_engine.specs.Reading.{stock_of}
+use Rattle.cs_engine.specs.IndexReading.{stock_of}
 use Rattle.cs_engine.specs.Stocked.{is_between}
 use Rattle.cs_engine.proofs.CountingLemmas.{all_listed, everywhere}
 use Rattle.cs_engine.proofs.LooseLemmas.{chosen_entry, entry_fits, is_large, large_entry}

@@ -4,7 +4,7 @@ use Rattle.cs_base.specs.declared.content.doc.Base.TheVariants as base
 use Rattle.cs_model.specs.Corpus.{Corpus}
 use Rattle.cs_model.specs.Requests.{reply_of}
 use Rattle.cs_query.specs.RequestView.{asked}
-use Rattle.cs_engine.specs.Reading.{stock_of}
+use Rattle.cs_engine.specs.IndexReading.{stock_of}
 use Rattle.cs_engine.specs.Stocked.{is_between}
 use Rattle.cs_engine.proofs.CountingLemmas.{all_listed, everywhere}
 use Rattle.cs_engine.proofs.LooseLemmas.{chosen_table}

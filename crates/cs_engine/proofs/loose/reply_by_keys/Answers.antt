@@ -12,11 +12,11 @@ use Rattle.cs_query.specs.RequestView.{asked}
 use Rattle.cs_rank.specs.DocScores.{scores}
 use Rattle.cs_engine.specs.Loose.{AreAlike}
 use Rattle.cs_engine.specs.Packing.{post_of_key}
-use Rattle.cs_engine.specs.Reading.{IsWithin, stock_of}
+use Rattle.cs_engine.specs.IndexReading.{IsWithin, stock_of}
 use Rattle.cs_engine.specs.Steps.{IsBaseOf}
 use Rattle.cs_engine.proofs.LooseLemmas.{loose_table}
 use Rattle.cs_engine.proofs.PackingLemmas.{as_they_come, keys_among, keys_between}
-use Rattle.cs_engine.proofs.StepLemmas.{base_weaker, scores_in}
+use Rattle.cs_engine.proofs.PartSteps.{base_weaker, scores_in}
 use Rattle.cs_engine.proofs.StockLemmas.{stock_corpus}
 use Rattle.cs_engine.proofs.loose.reply_by_keys.Goals as goal
 

@@ -3,9 +3,9 @@ use Rattle.std.specs.Prelude.{All, filter}
 use Rattle.cs_base.specs.declared.content.doc.Post.{Post}
 use Rattle.cs_file.specs.Indexes.{IndexView}
 use Rattle.cs_engine.specs.Counting.{AreListed, in_listed}
-use Rattle.cs_engine.specs.Reading.{stock_of}
+use Rattle.cs_engine.specs.IndexReading.{stock_of}
 use Rattle.cs_engine.specs.Stocked.{is_between}
-use Rattle.cs_engine.proofs.PlainLemmas.{listed_entry, listed_fits}
+use Rattle.cs_engine.proofs.PlainParts.{listed_entry, listed_fits}
 use Rattle.cs_engine.proofs.plain.extended_by_words.Goals as goal
 
 pub returns-clause-told : goal.returns-clause-told

@@ -1,8 +1,8 @@
 use Rattle.std.proofs.Common.{◌∙◌, arith}
 use Rattle.cs_model_kept.proofs.DueLemmas.{met_exact_atom}
 use Rattle.cs_engine.specs.Asking.{division}
-use Rattle.cs_engine.proofs.PlainLemmas.{exact_words, prefix_words}
-use Rattle.cs_engine.proofs.WordsLemmas.{word_met}
+use Rattle.cs_engine.proofs.PlainParts.{exact_words, prefix_words}
+use Rattle.cs_engine.proofs.AskedWords.{word_met}
 use Rattle.cs_engine.proofs.plain.words_of_atom.Goals as goal
 
 pub returns-in-Prefix : goal.returns-in-Prefix

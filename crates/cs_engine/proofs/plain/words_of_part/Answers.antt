@@ -1,5 +1,5 @@
 use Rattle.std.proofs.Common.{arith}
-use Rattle.cs_engine.proofs.PlainLemmas.{one_chain, part_words}
+use Rattle.cs_engine.proofs.PlainParts.{one_chain, part_words}
 use Rattle.cs_engine.proofs.plain.words_of_part.Goals as goal
 
 pub returns-in-len1-clause-words : goal.returns-in-len1-clause-words

@@ -3,7 +3,7 @@ use Rattle.std.specs.Prelude.{filter}
 use Rattle.cs_base.specs.declared.content.doc.Base.TheVariants as base
 use Rattle.cs_file.specs.Indexes.{IndexView}
 use Rattle.cs_engine.specs.Counting.{AreListed, in_listed}
-use Rattle.cs_engine.specs.Reading.{stock_of}
+use Rattle.cs_engine.specs.IndexReading.{stock_of}
 use Rattle.cs_engine.specs.Stocked.{is_between}
 use Rattle.cs_engine.proofs.CountingLemmas.{all_listed}
 use Rattle.cs_engine.proofs.reading.rows_between.Goals as goal

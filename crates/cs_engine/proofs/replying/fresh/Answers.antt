@@ -9,7 +9,7 @@ use Rattle.cs_query.specs.RequestView.{asked}
 use Rattle.cs_engine.specs.Asking.{division}
 use Rattle.cs_engine.specs.Keeping.{FitsQuery, IsEntryOver}
 use Rattle.cs_engine.proofs.EvaluationLemmas.{met_query-is}
-use Rattle.cs_engine.proofs.KeptLemmas.{from_stock}
+use Rattle.cs_engine.proofs.KeepingLemmas.{from_stock}
 use Rattle.cs_engine.proofs.LentLemmas.{err_due}
 use Rattle.cs_engine.proofs.PlansLemmas.{first_parts, nothing_over, nothing_own, parts_met}
 use Rattle.cs_engine.proofs.replying.fresh.Goals as goal

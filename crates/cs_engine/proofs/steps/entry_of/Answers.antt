@@ -7,10 +7,10 @@ use Rattle.cs_model_kept.specs.Due.{met_of_part}
 use Rattle.cs_model_kept.specs.Entries.{EntryOf}
 use Rattle.cs_rank.specs.DocScores.{IsBase}
 use Rattle.cs_engine.specs.Asking.{division}
-use Rattle.cs_engine.specs.Reading.{stock_of}
+use Rattle.cs_engine.specs.IndexReading.{stock_of}
 use Rattle.cs_engine.specs.Steps.{EntryFits, IsBaseOf, end_positive, posts_hits}
 use Rattle.cs_engine.proofs.EvaluationLemmas.{next_left, positive_more, entry_begins, entry_goes_on, entry_ends}
-use Rattle.cs_engine.proofs.StepLemmas.{base_in, base_weaker, hits_in, most_small, nothing_fits}
+use Rattle.cs_engine.proofs.PartSteps.{base_in, base_weaker, hits_in, most_small, nothing_fits}
 use Rattle.cs_engine.proofs.steps.entry_of.Goals as goal
 
 -- ---- the entry of a query

@@ -2,7 +2,7 @@ use Rattle.std.proofs.Common.{◌≡◌, ◌+◌, ◌≤◌, map, take, drop}
 use Rattle.std.specs.Prelude.{sum}
 use Rattle.cs_model_kept.specs.Due.{met_of_part}
 use Rattle.cs_engine.specs.Asking.{division}
-use Rattle.cs_engine.specs.Reading.{WhereStood, stock_of}
+use Rattle.cs_engine.specs.IndexReading.{WhereStood, stock_of}
 use Rattle.cs_engine.specs.Steps.{EntryFits, end_positive}
 use Rattle.cs_engine.proofs.EvaluationLemmas.{EntrySoFar}
 use Rattle.cs_engine.proofs.steps.entry_of.Given as goal

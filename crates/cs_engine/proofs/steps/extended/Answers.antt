@@ -3,11 +3,11 @@ use Rattle.std.specs.Prelude.{filter}
 use Rattle.cs_base.specs.declared.content.query.Part.{out-Part}
 use Rattle.cs_file.specs.Indexes.{IndexView}
 use Rattle.cs_model.specs.Answers.{rows_of_part}
-use Rattle.cs_engine.specs.Reading.{stock_of}
+use Rattle.cs_engine.specs.IndexReading.{stock_of}
 use Rattle.cs_engine.specs.Steps.{EntryFits, IsStep, posts_after}
 use Rattle.cs_engine.specs.Stocked.{corpus_in, is_between}
 use Rattle.cs_engine.proofs.FoundLemmas.{is_excluded}
-use Rattle.cs_engine.proofs.StepLemmas.{step_told, step_within}
+use Rattle.cs_engine.proofs.PartSteps.{step_told, step_within}
 use Rattle.cs_engine.proofs.StockLemmas.{docs_are}
 use Rattle.cs_engine.proofs.steps.extended.Goals as goal
 

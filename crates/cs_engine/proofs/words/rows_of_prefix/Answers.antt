@@ -1,6 +1,6 @@
 use Rattle.std.proofs.Common.{arith}
 use Rattle.cs_model.specs.Answers.{begins}
-use Rattle.cs_engine.proofs.WordsLemmas.{prefix_met, span_found}
+use Rattle.cs_engine.proofs.AskedWords.{prefix_met, span_found}
 use Rattle.cs_engine.proofs.words.rows_of_prefix.Goals as goal
 
 pub returns-in_err-rows-clause-reads : goal.returns-in_err-rows-clause-reads

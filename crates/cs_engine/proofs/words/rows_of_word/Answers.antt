@@ -1,6 +1,6 @@
 use Rattle.std.proofs.Common.{arith}
 use Rattle.std.specs.Str.{bytes_eq}
-use Rattle.cs_engine.proofs.WordsLemmas.{word_met, span_found}
+use Rattle.cs_engine.proofs.AskedWords.{word_met, span_found}
 use Rattle.cs_engine.proofs.words.rows_of_word.Goals as goal
 
 pub returns-in_err-rows-clause-reads : goal.returns-in_err-rows-clause-reads

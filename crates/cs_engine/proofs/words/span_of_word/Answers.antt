@@ -1,9 +1,9 @@
 use Rattle.std.proofs.Common.{ℕ, List, true≢false, ap, sym, subst, ◌∙◌}
 use Rattle.std.specs.Str.{bytes_eq}
 use Rattle.cs_file.specs.Indexes.{IndexView}
-use Rattle.cs_engine.specs.Reading.{IsSpanOf}
+use Rattle.cs_engine.specs.IndexReading.{IsSpanOf}
 use Rattle.cs_vocab.specs.Ranges.{IsWordAt}
-use Rattle.cs_engine.proofs.WordsLemmas.{word_span, word_there, no_span}
+use Rattle.cs_engine.proofs.AskedWords.{word_span, word_there, no_span}
 use Rattle.cs_engine.proofs.words.span_of_word.Goals as goal
 
 pub returns-in-Some-clause-span : goal.returns-in-Some-clause-span

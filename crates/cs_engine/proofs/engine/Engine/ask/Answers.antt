@@ -4,7 +4,7 @@ use Rattle.cs_file.specs.Indexes.{StandsFor}
 use Rattle.cs_model_index.specs.Sections.{file_corpus}
 use Rattle.cs_model_kept.specs.KeptList.{after, kept_at}
 use Rattle.cs_engine.specs.Keeping.{HoldsGood, IsKeptBehind, KeepsFitting, note_plan}
-use Rattle.cs_engine.proofs.KeptLemmas.{after_is, behind_fits, good_behind, is_note_plan, kept_behind, kept_is, was_had}
+use Rattle.cs_engine.proofs.KeepingLemmas.{after_is, behind_fits, good_behind, is_note_plan, kept_behind, kept_is, was_had}
 use Rattle.cs_engine.proofs.engine.Engine.ask.Goals as goal
 
 pub invariant_of-self : goal.invariant_of-self

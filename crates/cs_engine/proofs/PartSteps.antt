@@ -37,14 +37,14 @@ use Rattle.cs_model.specs.Answers as answers
 use Rattle.cs_model_kept.specs.Entries.{Entry, EntryOf, entry_at, entry_after, hits_of, is_begun, is_hit, over, without}
 use Rattle.cs_model_kept.specs.Entries as kept
 use Rattle.cs_rank.specs.DocScores.{IsBase, best_row, greatest, of_doc, scores, with_base}
-use Rattle.cs_engine.specs.Reading.{AreWithin, IsWithin}
+use Rattle.cs_engine.specs.IndexReading.{AreWithin, IsWithin}
 use Rattle.cs_engine.specs.Steps.{docs_after, posts_hits, posts_after, with_no_score, IsHitOf, IsBaseOf, EntryFits, IsStep, is_in_base, most}
 use Rattle.cs_model_index.specs.Numbered.{row_of, rows_at}
 use Rattle.cs_engine.specs.Stocked.{Stock, corpus_in, every, base_hits, docs_in}
 use Rattle.cs_engine.proofs.FoundLemmas.{docs_rise, every_rises, scored_rise, found_small, greatest_small}
 use Rattle.cs_engine.proofs.HitsLemmas.{ds_rise, greatest_of, hits_excluded, hits_positive, kept_docs, own_docs}
-use Rattle.cs_engine.proofs.ListsLemmas.{keys_numbered, range_below}
-use Rattle.cs_engine.proofs.ReadingLemmas.{kept_within, none_within}
+use Rattle.cs_engine.proofs.ListedLemmas.{keys_numbered, range_below}
+use Rattle.cs_engine.proofs.ReadRows.{kept_within, none_within}
 
 -- ---- in range
 pub base_in : (docs bound : ℕ) (b : Base) → bound ≤ 2 ^ 20 → IsBaseOf docs bound b → IsBase b

@@ -19,7 +19,7 @@ use Rattle.cs_model.specs.Answers.{begins}
 use Rattle.cs_model_kept.specs.Due.{block_words, met_prefix, met_word}
 use Rattle.cs_vocab.specs.Ranges.{IsWordAt, IsRange}
 use Rattle.cs_engine.specs.Asking.{division}
-use Rattle.cs_engine.specs.Reading.{stock_of, HasRows, IsSpanOf}
+use Rattle.cs_engine.specs.IndexReading.{stock_of, HasRows, IsSpanOf}
 use Rattle.cs_model_index.specs.Numbered.{word_at, rows_at}
 use Rattle.cs_engine.specs.Stocked.{corpus_in, is_between, IsSpan}
 use Rattle.cs_engine.proofs.AtomsLemmas.{span_word, span_none, span_rows, picked_between, words_known}

@@ -51,11 +51,11 @@ use Rattle.cs_model_kept.proofs.NarrowLemmas.{entries_narrow}
 use Rattle.cs_model_kept.proofs.PlanLemmas.{plans_serve}
 use Rattle.cs_model_kept.proofs.ShorterQueries.{shorter_stays}
 use Rattle.cs_model_kept.proofs.TypedLemmas.{none_some}
-use Rattle.cs_engine.specs.Keeping.{FitsQuery, HoldsGood, IsEntryOver, IsKeptBehind, IsKeptEntry, KeepsFitting, became, behind, entry_with, fronted, note_plan}
-use Rattle.cs_engine.specs.Reading.{stock_of}
+use Rattle.cs_engine.specs.Keeping.{FitsQuery, HoldsGood, IsEntryOver, IsKeptBehind, IsKeptEntry, KeepsFitting, became, entries_behind, entry_with, fronted, note_plan}
+use Rattle.cs_engine.specs.IndexReading.{stock_of}
 use Rattle.cs_engine.specs.Steps.{EntryFits, end_positive, is_in_base, last_is_positive}
 use Rattle.cs_engine.specs.Stocked.{corpus_in}
-use Rattle.cs_engine.proofs.ReadingLemmas.{kept_within}
+use Rattle.cs_engine.proofs.ReadRows.{kept_within}
 use Rattle.cs_engine.proofs.StockLemmas.{stock_corpus, words_are}
 
 -- ---- what is found
@@ -205,7 +205,7 @@ module _ (i : IndexView) (q : Query) (g : IsOfGrammar q) (a : AnswerList) (keys 
   own_entry : (e : EntryOf Post) → FitsQuery i q e → IsKeptEntry i (keys.same, e)
   own_entry e fits = record { query = q; of_grammar = g; key = own_key; fits = fits }
 
-  pub behind_fits : KeepsFitting i a.entries → (o : Option (EntryOf Post)) → IfSome o (FitsQuery i q) → KeepsFitting i (behind a keys by_plan o)
+  pub behind_fits : KeepsFitting i a.entries → (o : Option (EntryOf Post)) → IfSome o (FitsQuery i q) → KeepsFitting i (entries_behind a keys by_plan o)
   behind_fits fit None own = front_fits i a.entries (used_key keys by_plan) fit
   behind_fits fit (Some e) own = put_fits i a.capacity (kept_fresh e) (keys.same, e) front (own_entry e own) (front_fits i a.entries (used_key keys by_plan) fit)
 
@@ -218,7 +218,7 @@ module _ (i : IndexView) (q : Query) (g : IsOfGrammar q) (a : AnswerList) (keys 
   )
   put_behind kept.TooLarge e own new h = h ∙ is_fronted
 
-  pub kept_behind : (o : Option (EntryOf Post)) → IfSome o (FitsQuery i q) → (new : AnswerList) → new.entries ≡ behind a keys by_plan o → IsKeptBehind i q (became by_plan o) a new
+  pub kept_behind : (o : Option (EntryOf Post)) → IfSome o (FitsQuery i q) → (new : AnswerList) → new.entries ≡ entries_behind a keys by_plan o → IsKeptBehind i q (became by_plan o) a new
   kept_behind None own new h = elim (is_same by_plan) as (λ s. IsKeptBehind i q (if s then kept.Had else kept.TooLarge) a new) [
     | true ↦ h ∙ is_fronted
     | false ↦ h ∙ is_fronted
@@ -274,9 +274,9 @@ module _ (b : List ℕ) (i : IndexView) (q : Query) (g : IsOfGrammar q) (a : Ans
   fronts_alike : kept_at ws (to_front a.entries (used_key keys by_plan)) ≡ now
   fronts_alike = sym (numbers_front_alike ws a.entries (used_key keys by_plan)) ∙ ap (λ x. to_front held (used_key x by_plan)) are ∙ ap (λ p. to_front held (used_key (keys_of q) p)) plan_is
 
-  pub after_is : (o : Option (EntryOf Post)) → IfSome o (IsEntryOver b i q) → kept_at ws (behind a keys by_plan o) ≡ after held a.capacity q (became by_plan o) k
+  pub after_is : (o : Option (EntryOf Post)) → IfSome o (IsEntryOver b i q) → kept_at ws (entries_behind a keys by_plan o) ≡ after held a.capacity q (became by_plan o) k
   unfolding after
-  after_is None own = elim (is_same by_plan) as (λ s. kept_at ws (behind a keys by_plan None) ≡ after held a.capacity q (if s then kept.Had else kept.TooLarge) k) [
+  after_is None own = elim (is_same by_plan) as (λ s. kept_at ws (entries_behind a keys by_plan None) ≡ after held a.capacity q (if s then kept.Had else kept.TooLarge) k) [
     | true ↦ fronts_alike
     | false ↦ fronts_alike
   ]
@@ -295,5 +295,5 @@ module _ (b : List ℕ) (i : IndexView) (q : Query) (g : IsOfGrammar q) (a : Ans
   is_new None h was same = absurd (not_kept (is_same by_plan) was)
   is_new (Some e) h was same = true≢false (h (ap is_same (plan_is ∙ same)))
 
-  pub good_behind : HoldsGood b i a.entries → (o : Option (EntryOf Post)) → (is_same by_plan ≡ true → is_some o ≡ false) → IfSome o (IsEntryOver b i q) → HoldsGood b i (behind a keys by_plan o)
+  pub good_behind : HoldsGood b i a.entries → (o : Option (EntryOf Post)) → (is_same by_plan ≡ true → is_some o ≡ false) → IfSome o (IsEntryOver b i q) → HoldsGood b i (entries_behind a keys by_plan o)
   good_behind good o h own = subst (GoodFor k) (sym (after_is o own)) (lists_stay_good k held a.capacity q (became by_plan o) good g (is_new o h))

@@ -29,15 +29,15 @@ use Rattle.cs_vocab.specs.Ranges.{IsRange}
 use Rattle.cs_engine.specs.Asking.{division}
 use Rattle.cs_engine.specs.Counting.{AreListed, in_listed}
 use Rattle.cs_engine.specs.Plain.{AreWordsOf}
-use Rattle.cs_engine.specs.Reading.{AreWithin, HasRows, IsSpanOf, stock_of}
+use Rattle.cs_engine.specs.IndexReading.{AreWithin, HasRows, IsSpanOf, stock_of}
 use Rattle.cs_engine.specs.Steps.{EntryFits, IsBaseOf, is_in_base, posts_after}
 use Rattle.cs_engine.specs.Stocked.{corpus_in, is_between}
 use Rattle.cs_engine.proofs.CountingLemmas.{listed_kept, stock_within}
 use Rattle.cs_engine.proofs.EvaluationLemmas.{met_part-is, part_begins, part_ends, part_goes_on}
-use Rattle.cs_engine.proofs.ReadingLemmas.{kept_within}
+use Rattle.cs_engine.proofs.ReadRows.{kept_within}
 use Rattle.cs_engine.proofs.StockLemmas.{stocked}
 use Rattle.cs_engine.proofs.UnionLemmas.{with_nothing}
-use Rattle.cs_engine.proofs.WordsLemmas.{prefix_met, span_found}
+use Rattle.cs_engine.proofs.AskedWords.{prefix_met, span_found}
 
 -- ---- atoms
 pub prefix_words : (i : IndexView) → IsIndex i → (a : Atom) (p bytes : List ℕ) (lo hi : ℕ) → a ≡ Prefix p → bytes ≡ p → IsRange i.words bytes lo hi → AreWordsOf i (met_of_atom (division i) a) (λ k. rows_of_atom k a) lo hi

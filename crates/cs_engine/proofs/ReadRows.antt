@@ -19,7 +19,7 @@ use Rattle.cs_base.specs.declared.index.block.BlockHead.{BlockHead}
 use Rattle.cs_base.proofs.MembersLemmas.{all_then, members_are}
 use Rattle.cs_file.specs.Indexes.{IndexView, AreMet, is_met}
 use Rattle.cs_meet.specs.Filters.{IsUnion, missing}
-use Rattle.cs_engine.specs.Reading.{by_post, IsWithin, AreWithin}
+use Rattle.cs_engine.specs.IndexReading.{by_post, IsWithin, AreWithin}
 use Rattle.cs_engine.proofs.StockLemmas.{by_post_total, by_post_exact}
 
 -- ---- what always holds
