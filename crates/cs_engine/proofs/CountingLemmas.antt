@@ -51,7 +51,7 @@ use Rattle.cs_engine.proofs.AnsweringLemmas.{facet_told, words_as_shown}
 use Rattle.cs_engine.proofs.AlikeLemmas.{any_filter, table_alike}
 use Rattle.cs_engine.proofs.DistinctLemmas.{Apart, apart_append, apart_none, apart_sorted, long_alike}
 use Rattle.cs_engine.proofs.FoundLemmas.{all_kept, every_more}
-use Rattle.cs_engine.proofs.ReadRows.{kept_within}
+use Rattle.cs_engine.proofs.RowsInRange.{kept_within}
 use Rattle.cs_engine.proofs.StockLemmas.{by_post_total, by_post_exact, docs_are, stocked, within_block, words_are}
 use Rattle.cs_engine.proofs.TableLemmas.{any_listed}
 use Rattle.cs_engine.proofs.AskedWords.{prefix_met, span_found}

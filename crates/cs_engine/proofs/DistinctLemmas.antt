@@ -17,7 +17,7 @@ use Rattle.cs_base.specs.content.Orders.{by_place, AreSorted}
 use Rattle.cs_base.specs.declared.content.doc.Post.{Post}
 use Rattle.cs_base.proofs.MembersLemmas.{all_then, is_member-listed, members_are}
 use Rattle.cs_engine.specs.IndexReading.{by_post}
-use Rattle.cs_engine.proofs.ReadRows.{sooner, still_rise}
+use Rattle.cs_engine.proofs.RowsInRange.{sooner, still_rise}
 use Rattle.cs_engine.proofs.StockLemmas.{by_post_exact, by_post_total}
 
 pub Apart : List Post → Type 0

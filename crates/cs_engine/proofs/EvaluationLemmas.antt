@@ -47,7 +47,7 @@ use Rattle.cs_engine.specs.Steps.{IsStep, docs_after, posts_hits}
 use Rattle.cs_model_index.specs.Numbered.{rows_at}
 use Rattle.cs_engine.specs.Stocked.{Stock, corpus_in, docs_in, linked_posts, IsKnown, IsPicked, IsStocked}
 use Rattle.cs_engine.proofs.AtomsLemmas.{picked_again}
-use Rattle.cs_engine.proofs.ReadRows.{kept_within}
+use Rattle.cs_engine.proofs.RowsInRange.{kept_within}
 use Rattle.cs_engine.proofs.FoldsLemmas.{part_rows-is}
 use Rattle.cs_engine.proofs.HitsLemmas.{own_docs}
 use Rattle.cs_engine.proofs.FoundLemmas.{is_excluded}

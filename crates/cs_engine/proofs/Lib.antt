@@ -18,7 +18,7 @@ pub mod LooseLemmas
 pub mod PackingLemmas
 pub mod PlainParts
 pub mod PlansLemmas
-pub mod ReadRows
+pub mod RowsInRange
 pub mod ReplyLemmas
 pub mod PartSteps
 pub mod StockLemmas

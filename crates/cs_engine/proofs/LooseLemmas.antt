@@ -32,7 +32,7 @@ use Rattle.cs_engine.proofs.CountingLemmas.{stock_within}
 use Rattle.cs_engine.proofs.KeepingLemmas.{fresh_is}
 use Rattle.cs_engine.proofs.PlainParts.{listed_entry, listed_fits}
 use Rattle.cs_engine.proofs.PlansLemmas.{found_by_entry}
-use Rattle.cs_engine.proofs.ReadRows.{kept_within}
+use Rattle.cs_engine.proofs.RowsInRange.{kept_within}
 
 large_true : (m n : ℕ) → m < n → nat_lt m n ≡ true
 large_true m n lt = grind (arith, nat_tests)

@@ -42,7 +42,7 @@ use Rattle.cs_engine.specs.IndexReading.{AreWithin, IsWithin, WhereStood, run_of
 use Rattle.cs_engine.specs.Stocked.{is_between}
 use Rattle.cs_engine.specs.declared.packing.TheConstants.{NO_PLACE, POSITION_ROOM, SCORE_ROOM}
 use Rattle.cs_engine.proofs.CountingLemmas.{counted_alike, counted_long, countable, flat_more}
-use Rattle.cs_engine.proofs.ReadRows.{same_posts}
+use Rattle.cs_engine.proofs.RowsInRange.{same_posts}
 use Rattle.cs_engine.proofs.StockLemmas.{from_file, stocked}
 use Rattle.cs_engine.proofs.UnionLemmas.{one_post}
 

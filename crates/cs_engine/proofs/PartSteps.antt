@@ -44,7 +44,7 @@ use Rattle.cs_engine.specs.Stocked.{Stock, corpus_in, every, base_hits, docs_in}
 use Rattle.cs_engine.proofs.FoundLemmas.{docs_rise, every_rises, scored_rise, found_small, greatest_small}
 use Rattle.cs_engine.proofs.HitsLemmas.{ds_rise, greatest_of, hits_excluded, hits_positive, kept_docs, own_docs}
 use Rattle.cs_engine.proofs.ListedLemmas.{keys_numbered, range_below}
-use Rattle.cs_engine.proofs.ReadRows.{kept_within, none_within}
+use Rattle.cs_engine.proofs.RowsInRange.{kept_within, none_within}
 
 -- ---- in range
 pub base_in : (docs bound : ℕ) (b : Base) → bound ≤ 2 ^ 20 → IsBaseOf docs bound b → IsBase b

@@ -34,7 +34,7 @@ use Rattle.cs_engine.specs.Steps.{EntryFits, IsBaseOf, is_in_base, posts_after}
 use Rattle.cs_engine.specs.Stocked.{corpus_in, is_between}
 use Rattle.cs_engine.proofs.CountingLemmas.{listed_kept, stock_within}
 use Rattle.cs_engine.proofs.EvaluationLemmas.{met_part-is, part_begins, part_ends, part_goes_on}
-use Rattle.cs_engine.proofs.ReadRows.{kept_within}
+use Rattle.cs_engine.proofs.RowsInRange.{kept_within}
 use Rattle.cs_engine.proofs.StockLemmas.{stocked}
 use Rattle.cs_engine.proofs.UnionLemmas.{with_nothing}
 use Rattle.cs_engine.proofs.AskedWords.{prefix_met, span_found}

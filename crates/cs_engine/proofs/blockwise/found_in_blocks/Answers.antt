@@ -13,7 +13,7 @@ use Rattle.cs_engine.specs.Steps.{IsBaseOf}
 use Rattle.cs_engine.specs.Stocked.{is_between}
 use Rattle.cs_engine.proofs.BlockwiseLemmas.{hits_found, scored_more, table_found}
 use Rattle.cs_engine.proofs.CountingLemmas.{block_counted, countable}
-use Rattle.cs_engine.proofs.ReadRows.{met_count}
+use Rattle.cs_engine.proofs.RowsInRange.{met_count}
 use Rattle.cs_engine.proofs.blockwise.found_in_blocks.Goals as goal
 
 pub returns-in_err-add_block-clause-reads : goal.returns-in_err-add_block-clause-reads

@@ -3,7 +3,7 @@ use Rattle.cs_model_index.specs.Sections.{image_of}
 use Rattle.cs_tables.specs.WordCounts.{HasCounted}
 use Rattle.cs_engine.specs.Counting.{counted_rows}
 use Rattle.cs_engine.proofs.CountingLemmas.{block_counted, countable, table_told}
-use Rattle.cs_engine.proofs.ReadRows.{met_count}
+use Rattle.cs_engine.proofs.RowsInRange.{met_count}
 use Rattle.cs_engine.proofs.counting.table_between.Goals as goal
 
 pub returns-in_err-count_block-clause-reads : goal.returns-in_err-count_block-clause-reads

@@ -12,7 +12,7 @@ use Rattle.cs_engine.specs.IndexReading.{AreWithin, stock_of}
 use Rattle.cs_engine.specs.Steps.{docs_after}
 use Rattle.cs_engine.specs.Stocked.{docs_in}
 use Rattle.cs_engine.proofs.EvaluationLemmas.{docs_begin, docs_go_on, docs_end, met_linked-is, met_part-is, met_query-is, next_left, part_begins, part_goes_on, part_ends, chain_goes_on, chain_ends, linked_within, joined_rows}
-use Rattle.cs_engine.proofs.ReadRows.{kept_within, none_within, united_within}
+use Rattle.cs_engine.proofs.RowsInRange.{kept_within, none_within, united_within}
 use Rattle.cs_engine.proofs.PartSteps.{base_sorted, known_docs}
 use Rattle.cs_engine.proofs.StockLemmas.{docs_are, stocked}
 use Rattle.cs_engine.proofs.evaluation.+evaluation.Goals as goal

@@ -2,7 +2,7 @@ use Rattle.std.proofs.Common.{◌≡◌, refl, ◌∙◌, ◌+◌, subst, sym, a
 use Rattle.cs_tables.specs.WordCounts.{is_chosen}
 use Rattle.cs_engine.specs.Packing.{HasKeys}
 use Rattle.cs_engine.proofs.PackingLemmas.{gathered, no_keys}
-use Rattle.cs_engine.proofs.ReadRows.{met_count}
+use Rattle.cs_engine.proofs.RowsInRange.{met_count}
 use Rattle.cs_engine.proofs.reading.keys_in.Goals as goal
 
 pub loop-k-init : goal.loop-k-init
