@@ -22,7 +22,7 @@ use Rattle.cs_model_serving.specs.Responses.{Response, memory_bytes}
 use Rattle.cs_model_serving.specs.Connections.{Left, StandsLive, reads, changes}
 use Rattle.cs_model_serving.proofs.CountLemmas.{reads-append, changes-append}
 use Rattle.cs_hub.specs.Streams.{bytes_at, bytes_on, ended_at, ended_on, sum_below}
-use Rattle.cs_hub.specs.Following.{Slots, left_at, HasLive, IsRight, AreRight, StaysRight, IsOther, LeavesOthers}
+use Rattle.cs_hub.specs.HubFollowing.{Slots, left_at, HasLive, IsRight, AreRight, StaysRight, IsOther, LeavesOthers}
 use Rattle.cs_hub.specs.Rounds.{Acted, Greets, Heeds, KeepsCame}
 use Rattle.cs_hub.specs.Speaking.{Did, Spoke, Said}
 use Rattle.cs_hub.proofs.SpeakLemmas.{itself, by_conn, same_conn, spoke_nothing, rose_none}

@@ -28,7 +28,7 @@ use Rattle.cs_model_serving.specs.Connections.{Left}
 use Rattle.cs_hub.specs.declared.rounds.Round.{Round}
 use Rattle.cs_hub.specs.declared.rounds.Round.TheVariants as round
 use Rattle.cs_hub.specs.Streams.{RoseBy}
-use Rattle.cs_hub.specs.Following.{Slots, left_at, Follows}
+use Rattle.cs_hub.specs.HubFollowing.{Slots, left_at, Follows}
 use Rattle.cs_hub.specs.Speaking.{Starved}
 use Rattle.cs_hub.specs.Turns.{Received}
 

@@ -2,7 +2,7 @@
 ghost use Rattle.std.specs.Prelude.{◌≡◌, ◌<◌, ◌≤◌, ◌⊎◌, ℕ, None, true, false, length, is_some};
 ghost use Rattle.cs_base.specs.outside.Hub.{came_of, IsOrderly};
 ghost use Rattle.cs_model.specs.Corpus.{Corpus};
-ghost use Rattle.cs_hub.specs.Following.{HasLive, IsWhole, left_at};
+ghost use Rattle.cs_hub.specs.HubFollowing.{HasLive, IsWhole, left_at};
 ghost use Rattle.cs_hub.specs.Rounds.{Counted, HasBytes, OpensBelow, StaysServed, Went};
 ghost use Rattle.cs_hub.specs.Speaking.{BreaksBy};
 

@@ -23,7 +23,7 @@ use Rattle.cs_model.specs.Requests.{Request, reply_of}
 use Rattle.cs_top.specs.Answering.{CameCounts, Costs, FileView, HasReply, HasText, MayAnswer, came_of, line_bytes}
 use Rattle.cs_top.specs.CommandLine.{failed, CausedBy}
 use Rattle.cs_top.specs.Met.{Wrote}
-use Rattle.cs_top.specs.Scripts.{Passes, StopsAt}
+use Rattle.cs_top.specs.ScriptEndings.{Passes, StopsAt}
 use Rattle.cs_top.specs.Views.{of_script, stop_ending}
 use Rattle.cs_top.specs.declared.lines.ScriptStop.{ScriptStop}
 use Rattle.cs_top.specs.declared.lines.ScriptStop.TheVariants as scripts

@@ -4,6 +4,7 @@
 --   bytes_there f held         the bytes that it tells; None where the files don't tell
 --   IsThere i f held           a file that fits the index
 --   AnswersOver e f held k     k is the corpus of an index file that stands for the engine's index, and what the engine keeps is good
+--   StaysOver e e' f f' h h'    what a corpus is answered over is so still, with the same index, file and files
 --   IsReplayed k l t           t may be put for the line over an index file: its text, the memory text, or in a reply's place that of a
 --                              failed read
 --   MayAnswer f k              what may be put for a line over this file
@@ -52,6 +53,13 @@ pub record IsThere (i : IndexView) (f : FileView) (held : Option Held) : Type 0 
 -- don't tell there is no such corpus
 abbrev pub AnswersOver : EngineView → FileView → Option Held → Corpus → Type 0
 AnswersOver e f held k = (b : List ℕ) × (bytes_there f held ≡ Some b) × StandsFor b e.index × AreGood b e × (k ≡ file_corpus b)
+
+-- where it answered over a corpus it still does; the index, the file and what is held are the same in any case
+pub record StaysOver (e e' : EngineView) (f f' : FileView) (held held' : Option Held) : Type 0 where
+  pub stays : (k : Corpus) → AnswersOver e f held k → AnswersOver e' f' held' k
+  pub engine : e'.index ≡ e.index
+  pub file : f' ≡ f
+  pub files : held' ≡ held
 
 -- an answer to the line, or in the place of a reply the text of a failed read; a refused line has its own text
 abbrev pub IsReplayed : Corpus → MayPut

@@ -27,7 +27,7 @@ use Rattle.std.specs.FinSet as set
 use Rattle.cs_base.specs.outside.Causes.{Rose}
 use Rattle.cs_base.specs.outside.Hub.{Listening, Talk, listens, sent_on, silent}
 use Rattle.cs_base.specs.outside.Outside.{Grew, GrewByPrefix, Held, IsHeld}
-use Rattle.cs_hub.specs.Following.{AreServed}
+use Rattle.cs_hub.specs.HubFollowing.{AreServed}
 use Rattle.cs_hub.specs.Speaking.{AreUnbroken}
 use Rattle.cs_hub.specs.Streams.{bytes_on}
 use Rattle.cs_model.specs.Corpus.{Corpus}

@@ -6,7 +6,7 @@ ghost use Rattle.cs_docs.specs.Refusals.{reason_text};
 ghost use Rattle.cs_model.specs.Collection.{without_mark};
 ghost use Rattle.cs_model.specs.Outputs.{fault_words, line_fault};
 ghost use Rattle.cs_top.specs.Met.{HasSize, OfBytes};
-ghost use Rattle.cs_top.specs.Scripts.{IsFirstLine};
+ghost use Rattle.cs_top.specs.ScriptEndings.{IsFirstLine};
 ghost use Rattle.cs_top.specs.Views.{fault_seen};
 
 use cs_base::{Failed, Files, MAX_SCRIPT_LINE_BYTES};

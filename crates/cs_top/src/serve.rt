@@ -8,7 +8,7 @@ ghost use Rattle.cs_base.specs.outside.Outside.{GrewByPrefix, file_bytes};
 ghost use Rattle.cs_base.specs.declared.content.limits.TheConstants.{MAX_PORT_DIGITS, MAX_PORT, MAX_CONNECTIONS_DIGITS, MAX_CONNECTIONS};
 ghost use Rattle.cs_engine.specs.Keeping.{AreGood};
 ghost use Rattle.cs_file.specs.Indexes.{Fits, StandsFor};
-ghost use Rattle.cs_hub.specs.Following.{AreServed};
+ghost use Rattle.cs_hub.specs.HubFollowing.{AreServed};
 ghost use Rattle.cs_hub.specs.Speaking.{AreUnbroken};
 ghost use Rattle.cs_model_index.specs.Sections.{file_corpus};
 ghost use Rattle.cs_top.specs.CommandLine.{CausedBy, is_number};

@@ -5,7 +5,7 @@ ghost use Rattle.cs_model.specs.Outputs.{script_lines};
 ghost use Rattle.cs_top.specs.Answering.{AnswersOver, CameCounts, IsThere, MayAnswer, worst};
 ghost use Rattle.cs_top.specs.CommandLine.{done};
 ghost use Rattle.cs_top.specs.Met.{HasSize, OfBytes, wrote};
-ghost use Rattle.cs_top.specs.Scripts.{ScriptCaused, ScriptEnds, ShortTally, Tally, Reaches, EndsAt};
+ghost use Rattle.cs_top.specs.ScriptEndings.{ScriptCaused, ScriptEnds, ShortTally, Tally, Reaches, EndsAt};
 ghost use Rattle.cs_top.specs.Views.{of_script, stop_ending};
 
 mod answers;

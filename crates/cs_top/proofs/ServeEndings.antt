@@ -17,7 +17,7 @@ use Rattle.std.specs.Option.{ForSome, option_map, unwrap_or}
 use Rattle.cs_base.specs.outside.Causes.{Rose}
 use Rattle.cs_base.specs.outside.Hub.{Listening, Talk, sent_on}
 use Rattle.cs_base.specs.outside.Outside.{Grew, Held}
-use Rattle.cs_hub.specs.Following.{AreServed, left_at}
+use Rattle.cs_hub.specs.HubFollowing.{AreServed, left_at}
 use Rattle.cs_hub.specs.Speaking.{AreUnbroken}
 use Rattle.cs_hub.specs.Streams.{RoseBy, bytes_on, sum_below}
 use Rattle.cs_hub.proofs.ServedLemmas.{changes_cons, reads_cons}
