@@ -60,7 +60,7 @@ use Rattle.cs_hub.specs.HubFollowing.{Slots, left_at}
 use Rattle.cs_hub.specs.Responding.{response, IsJudgedSo}
 use Rattle.cs_hub.specs.Speaking.{Said, Spoke, Starved}
 use Rattle.cs_hub.specs.Streams.{RoseBy}
-use Rattle.cs_hub.specs.Turns.{Delivered, IsHeld, IsTurnedAway, IsSent, Replied}
+use Rattle.cs_hub.specs.Turns.{Delivered, HoldsBytes, IsTurnedAway, IsSent, Replied}
 use Rattle.cs_hub.specs.declared.answer.Answer.{Answer}
 use Rattle.cs_hub.specs.declared.reading.Turn.{Turn}
 use Rattle.cs_hub.specs.declared.reading.Turn.TheVariants as turns
@@ -326,7 +326,7 @@ module _ {K : Type 0} (Leaves : K → Request → Result Reply AskFault → K �
   starved_stops : (c : ℕ) (b : List ℕ) (s : K) (talk talk' : Option Talk) → Starved c talk talk' → AsksAsSent Leaves false (requests_on b) s s (SentBefore c b talk talk')
   starved_stops c b s talk talk' h = record { asks = asks_none (requests_on b) s; sent = want_before c b h.0 talk talk' h.1 }
 
-  pub turned_held : (c : ℕ) (u r u' : List ℕ) (turn : Turn) (s : K) (talk talk' : Option Talk) → frame (u ++ r) ≡ framed.More → IsHeld c u r turn u' talk talk' → AsksBy Leaves c u r turn s s talk talk'
+  pub turned_held : (c : ℕ) (u r u' : List ℕ) (turn : Turn) (s : K) (talk talk' : Option Talk) → frame (u ++ r) ≡ framed.More → HoldsBytes c u r turn u' talk talk' → AsksBy Leaves c u r turn s s talk talk'
   turned_held c u r u' (turns.Next i) s talk talk' f h = absurd h
   turned_held c u r u' turns.Holds s talk talk' f h = (heads-more (u ++ r) f, refl, h.1)
   turned_held c u r u' turns.Stops s talk talk' f h = starved_stops c (u ++ r) s talk talk' h

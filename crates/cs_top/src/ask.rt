@@ -5,7 +5,7 @@ ghost use Rattle.cs_model.specs.Corpus.{corpus};
 ghost use Rattle.cs_top.specs.ScriptRuns.{AskEnds, AskStops, AskTold, IsReady};
 ghost use Rattle.cs_top.specs.CommandLine.{Caused, CausedBy};
 ghost use Rattle.cs_top.specs.Filed.{HasFile, IsFiled};
-ghost use Rattle.cs_top.specs.Met.{HasSize, OfBytes, Wrote, wrote};
+ghost use Rattle.cs_top.specs.Met.{HasToldSize, OfBytes, Wrote, wrote};
 ghost use Rattle.cs_top.specs.Views.{ended, stop_ending};
 
 use crate::answering::IndexFile;
@@ -52,7 +52,7 @@ fn prepare<'a, F: Files>(
     ensures ready { ForSome (F.held files.old) (λ h. OnOk result (IsReady h collection.now script.now)) }
     ensures ok { OfBytes (F.held files.old) collection.now (λ b. IfOk result (λ p. IsFiled (corpus b) p.0)) }
     ensures file { IfOk result (λ p. HasFile p.0) }
-    ensures size { IfOk result (λ p. HasSize (F.held files.old) script.now p.1) }
+    ensures size { IfOk result (λ p. HasToldSize (F.held files.old) script.now p.1) }
     ensures stops { ForSome (F.held files.old) (λ h. IfErr result (λ s. AskStops (stop_ending s) h collection.now script.now)) }
     ensures ends { IfErr result (λ s. (w : Wrote) → w.new ≡ w.old → AskEnds (stop_ending s) collection.now script.now w) }
     ensures quiet { OnOk result (F.faults files.new ≡ F.faults files.old) }

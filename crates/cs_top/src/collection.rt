@@ -6,7 +6,7 @@ ghost use Rattle.cs_model.specs.Collection.{refusal_words};
 ghost use Rattle.cs_model.specs.Corpus.{corpus, refusal};
 ghost use Rattle.cs_top.specs.CommandLine.{CausedBy};
 ghost use Rattle.cs_top.specs.Filed.{HasFile, IsFiled};
-ghost use Rattle.cs_top.specs.Met.{HasSize, OfBytes};
+ghost use Rattle.cs_top.specs.Met.{HasToldSize, OfBytes};
 ghost use Rattle.cs_top.specs.Trial.{HasSizes};
 ghost use Rattle.cs_top.specs.Views.{IsCollectionCause, IsStopCause, IsOfCollection, collection_refusal_of, stop_ending};
 
@@ -61,7 +61,7 @@ pub(crate) fn read_image<'a, F: Files>(
     name: &str,
     size: u64,
 ) -> Result<Image, RunStop<'a>>
-    requires size { HasSize (F.held files.old) name.now size }
+    requires size { HasToldSize (F.held files.old) name.now size }
 
     ensures ok { OfBytes (F.held files.old) name.now (λ b. IfOk result (IsFiled (corpus b))) }
     ensures accepted { OfBytes (F.held files.old) name.now (λ b. OnOk result (refusal b ≡ None)) }

@@ -7,7 +7,7 @@ ghost use Rattle.cs_model_index.specs.Layout.{file};
 ghost use Rattle.cs_model_kept.specs.declared.limits.TheConstants.{MAX_ENTRIES};
 ghost use Rattle.cs_top.specs.CommandLine.{CausedBy};
 ghost use Rattle.cs_top.specs.Filed.{HasFile};
-ghost use Rattle.cs_top.specs.Met.{HasSize, OfBytes};
+ghost use Rattle.cs_top.specs.Met.{HasToldSize, OfBytes};
 ghost use Rattle.cs_top.specs.Views.{IsDamage, IsOfIndex, stop_ending};
 
 use crate::ending::RunStop;
@@ -24,7 +24,7 @@ pub(crate) fn open<'a, F: Files>(
     name: &str,
     size: u64,
 ) -> Result<Engine, RunStop<'a>>
-    requires size { HasSize (F.held files.old) name.now size }
+    requires size { HasToldSize (F.held files.old) name.now size }
 
     ensures ok { OfBytes (F.held files.old) name.now (λ b. IfOk result (λ e. StandsFor b e.index)) }
     ensures good { (b : List ℕ) → IfOk result (AreGood b) }

@@ -9,7 +9,7 @@ ghost use Rattle.cs_model.specs.Parameters.{HoldsLimits};
 ghost use Rattle.cs_model.specs.Replies.{reply_text};
 ghost use Rattle.cs_query.specs.RequestView.{asked};
 ghost use Rattle.cs_query.specs.declared.request.ReqFault.{ReqFault};
-ghost use Rattle.cs_top.specs.Answering.{AnswersOver, CameCounts, HasReply, HasText, IsThere, MayAnswer, StaysOver, came_of, line_bytes};
+ghost use Rattle.cs_top.specs.Answering.{AnswersOver, CameCounts, HasReply, HasText, IsThere, MayAnswer, StaysOver, came_of_answer, line_bytes};
 ghost use Rattle.cs_top.specs.CommandLine.{CausedBy};
 ghost use Rattle.cs_top.specs.declared.script.answers.Answer.TheVariants as answers;
 ghost use Rattle.cs_top.specs.Met.{wrote};
@@ -87,7 +87,7 @@ pub(crate) fn answer_line<F: Files, O: Sink>(
 // Puts an answer, and says what came of the line.
 fn put_answer<O: Sink>(out: &mut O, answer: &Answer) -> Result<Came, ScriptStop>
     ensures ok { OnOk result (Grew (O.written out.old) (line_bytes answer.now) (O.written out.new)) }
-    ensures came { IfOk result (λ c. c ≡ came_of answer.now) }
+    ensures came { IfOk result (λ c. c ≡ came_of_answer answer.now) }
     ensures err { OnErr result (GrewByPrefix (O.written out.old) (line_bytes answer.now) (O.written out.new)) }
     ensures kind { IfErr result (λ s. s ≡ ScriptStop.Failed) }
     ensures quiet { OnOk result (O.faults out.new ≡ O.faults out.old) }
@@ -141,11 +141,11 @@ fn answer_params<F: Files>(
 ) -> Answer
     requires there { IsThere engine.old.index file.old (F.held files.old) }
 
-    ensures unchanged { (k : Corpus) → AnswersOver engine.old file.old (F.held files.old) k → came_of result ≢ Came.Changed }
+    ensures unchanged { (k : Corpus) → AnswersOver engine.old file.old (F.held files.old) k → came_of_answer result ≢ Came.Changed }
     ensures text { (k : Corpus) → AnswersOver engine.old file.old (F.held files.old) k → HasText (MayAnswer file.old k) line.now result }
-    ensures unread { is_some file.old.made ≡ true → came_of result ≢ Came.Read }
+    ensures unread { is_some file.old.made ≡ true → came_of_answer result ≢ Came.Read }
     ensures over { StaysOver engine.old engine.new file.old file.new (F.held files.old) (F.held files.new) }
-    ensures counts { CameCounts (came_of result) (F.faults files.old) (F.faults files.new) }
+    ensures counts { CameCounts (came_of_answer result) (F.faults files.old) (F.faults files.new) }
 {
     match request(alloc, line) {
         Ok(wanted) => answer_request(alloc, engine, file, files, &wanted),
@@ -164,11 +164,11 @@ fn answer_request<F: Files>(
     requires limits { HoldsLimits (asked wanted.now) }
     requires there { IsThere engine.old.index file.old (F.held files.old) }
 
-    ensures unchanged { (k : Corpus) → AnswersOver engine.old file.old (F.held files.old) k → came_of result ≢ Came.Changed }
+    ensures unchanged { (k : Corpus) → AnswersOver engine.old file.old (F.held files.old) k → came_of_answer result ≢ Came.Changed }
     ensures text { (k : Corpus) → AnswersOver engine.old file.old (F.held files.old) k → HasReply k (asked wanted.now) result }
-    ensures unread { is_some file.old.made ≡ true → came_of result ≢ Came.Read }
+    ensures unread { is_some file.old.made ≡ true → came_of_answer result ≢ Came.Read }
     ensures over { StaysOver engine.old engine.new file.old file.new (F.held files.old) (F.held files.new) }
-    ensures counts { CameCounts (came_of result) (F.faults files.old) (F.faults files.new) }
+    ensures counts { CameCounts (came_of_answer result) (F.faults files.old) (F.faults files.new) }
 {
     match respond(alloc, engine, file, files, wanted) {
         Ok((reply, _)) => text_or_memory(reply_line(alloc, &reply)),

@@ -39,8 +39,14 @@ told : (g : given.Over) (c : After-answer_script g) (h : Held) → g.F.Files.hel
 told g c h held e ts script =
     let some = some_made c.in_ok-engine.engine.index c.made-file.result (g.F.Files.held c.prepare.new.files)
     c.in_ok-engine.store.bytes c.made-file.ensures in
-    inr (c.in_ok-image.ensures.ready h held, (ts, ends_by (MayAnswer c.made-file.result (k g c h)) (IsAnswer (k g c h))
-    (made_only c.made-file.result (k g c h) some) e (script_lines (held_bytes h c.args.script.now)) ts (w g c) script))
+    inr (
+      c.in_ok-image.ensures.ready h held,
+      (
+        ts,
+        ends_by (MayAnswer c.made-file.result (k g c h)) (IsAnswer (k g c h))
+            (made_only c.made-file.result (k g c h) some) e (script_lines (held_bytes h c.args.script.now)) ts (w g c) script,
+      ),
+    )
 
 pub answer_script-requires-clause-there : goal.answer_script-requires-clause-there
 answer_script-requires-clause-there g c =

@@ -54,7 +54,7 @@ returns-clause-ok c = let made = (goal.at.returns-clause-ok c).In_ok-image in re
 pub returns-clause-file : goal.returns-clause-file
 returns-clause-file c = record {
   writable = c.in_ok-image.ensures.writable
-  (subst (λ docs. length (title_bytes (map title_of docs)) < 2 ^ 32) (sym c.in_ok-docs.ensures.ok) (titles_few c.args.bytes.now c.in_ok-docs.ensures.accepted));
+      (subst (λ docs. length (title_bytes (map title_of docs)) < 2 ^ 32) (sym c.in_ok-docs.ensures.ok) (titles_few c.args.bytes.now c.in_ok-docs.ensures.accepted));
   whole = (filed (goal.at.returns-clause-file c).In_ok-image).0;
 }
 

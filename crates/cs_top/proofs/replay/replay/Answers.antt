@@ -47,7 +47,7 @@ is_open g c h held =
       calm = c.in_ok-engine.ensures.quiet ∙ c.in_ok-script_size.ensures.quiet ∙ c.in_ok-size.ensures.quiet;
       able = ((held_by _ _ (c.in_ok-size.ensures.ok h held), held_by _ _ (c.in_ok-script_size.ensures.ok h first)), stands.accepted);
       over = over_held c.in_ok-engine.engine c.held-file.result (g.F.Files.held c.open.new.files) h i c.in_ok-size.size
-      c.held-file.ensures third stands (c.in_ok-engine.ensures.good (held_bytes h i));
+          c.held-file.ensures third stands (c.in_ok-engine.ensures.good (held_bytes h i));
     }
 
 -- how the script ended is how the run ended
