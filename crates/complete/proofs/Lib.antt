@@ -1,4 +1,4 @@
 pub mod AppendsLemmas
+pub mod LaterWords
 pub mod StreamsLemmas
 pub mod TurnsLemmas
-pub mod WordsLemmas

@@ -10,7 +10,7 @@ use Rattle.std.specs.Cmp.{unsigned_tied}
 use Rattle.std.proofs.lemmas.Cmp.{nat_cmp_total}
 use Rattle.cs_base.specs.outside.Hub.{Conns, Listening, IsLive, IsOrderly, Talk, Happens}
 use Rattle.cs_base.specs.declared.outside.hub.Event.TheVariants.{Piece, Ended}
-use Rattle.complete.specs.Turns.{live_of, telling}
+use Rattle.complete.specs.OneConnection.{live_of, telling}
 
 -- whether the connection that is present is this one
 abbrev is_at : Option ℕ → ℕ → Bool

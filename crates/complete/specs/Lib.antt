@@ -1,2 +1,2 @@
+pub mod OneConnection
 pub mod System
-pub mod Turns

@@ -69,7 +69,7 @@ impl<'a, R: Net + Clock + Drop> TcpHub<'a, R> {
 }
 
 impl<R: Net + Clock + Drop> Hub for TcpHub<'_, R> {
-    ghost use Rattle.complete.specs.Turns.{telling};
+    ghost use Rattle.complete.specs.OneConnection.{telling};
 
     ghost state = { λ h. telling h.port h.conns h.opened (option_map (λ p. p.number) h.present) };
 

@@ -16,11 +16,11 @@ use Rattle.cs_base.specs.declared.content.limits.TheConstants.{MAX_CONNECTION_BY
 use Rattle.cs_base.specs.outside.Hub.{Listening, Conns, Talk}
 use Rattle.cs_model.specs.Corpus.{Corpus}
 use Rattle.cs_model_serving.specs.Connections.{Left}
-use Rattle.cs_hub.specs.Following.{Slots, left_at, HasLive}
+use Rattle.cs_hub.specs.HubFollowing.{Slots, left_at, HasLive}
 use Rattle.cs_hub.specs.Rounds.{weight, to_come, Acted, closed_unless}
 use Rattle.cs_hub.specs.Turns.{Received}
 use Rattle.cs_hub.proofs.SpeakLemmas.{itself, by_conn}
-use Rattle.cs_hub.proofs.SlotLemmas.{set_at, unset_at, none_there, padded_at, set_weight, padded_weight, held_within}
+use Rattle.cs_hub.proofs.ConnectionSlots.{set_at, unset_at, none_there, padded_at, set_weight, padded_weight, held_within}
 
 in_gone : (s : Conns) (c d : ℕ) → set.contains (set.remove s c) d ≡ (not (d == c) && set.contains s d)
 in_gone s c d = set.contains-remove nat_cmp_total s c d ∙ ap (λ b. not b && set.contains s d) (unsigned_tied d c)

@@ -9,6 +9,7 @@
 --   asked_both, enough_both, memory_both      heads behind heads
 --   in_turn_both                  requests behind requests
 --   asks_none, asks_nothing, asks_one, asks_whole, asks_less, asks_no_bytes      none, none of none, one; where less is claimed; none of no bytes
+--   is_piece, unasked             an event that is no piece asks nothing
 --   asks_params, refused_params, asks_head, refused_head      what parameters and a head ask
 --   asks_below, asks_all, asks_sent, starved_for      how many answers there are; what was asked for one head, by what was sent
 --   turned_goes, turned_stops     a head was answered
@@ -28,6 +29,8 @@ use Rattle.std.proofs.lemmas.List.Elements.{All-append, All-cons, All-nil}
 use Rattle.std.specs.FinMap as map
 use Rattle.cs_base.specs.declared.content.limits.TheConstants.{MAX_CONNECTION_BYTES}
 use Rattle.cs_base.specs.declared.memory.Memory.{Memory}
+use Rattle.cs_base.specs.declared.outside.hub.Event.{Event}
+use Rattle.cs_base.specs.declared.outside.hub.Event.TheVariants as events
 use Rattle.cs_base.specs.outside.Causes.{ReadsWithin}
 use Rattle.cs_base.specs.outside.Hub.{Talk}
 use Rattle.cs_engine.specs.Asking.{is_read, titles_asked}
@@ -52,19 +55,19 @@ use Rattle.cs_model_serving.specs.Responses.{Response, all_bytes, memory_bytes, 
 use Rattle.cs_query.specs.declared.request.ReqFault.{ReqFault}
 use Rattle.cs_query.specs.declared.request.ReqFault.TheVariants as faults
 use Rattle.cs_hub.specs.Asked.{InTurn, AsksOf, AsksAsSent, AsksAlong, AsksBy, SentFor, Standing, EngineLeaves}
-use Rattle.cs_hub.specs.DueReads.{Answered, AnswersWithin, AreDue, HasMemory, SentBefore, bytes_behind, closes_behind, heads_on, read_failures, is_want, reply_in, requests_by, requests_in, requests_of, requests_on, requests_to}
-use Rattle.cs_hub.specs.Following.{Slots, left_at}
+use Rattle.cs_hub.specs.DueReads.{Answered, AnswersWithin, AreDue, HasMemory, SentAt, SentBefore, bytes_behind, bytes_to_answer, closes_behind, goes_on, heads_on, read_failures, is_want, reply_in, requests_by, requests_in, requests_of, requests_on, requests_to}
+use Rattle.cs_hub.specs.HubFollowing.{Slots, left_at}
 use Rattle.cs_hub.specs.Responding.{response, IsJudgedSo}
 use Rattle.cs_hub.specs.Speaking.{Said, Spoke, Starved}
 use Rattle.cs_hub.specs.Streams.{RoseBy}
-use Rattle.cs_hub.specs.Turns.{Delivered, IsHeld, IsTurnedAway, IsSent, Replied}
+use Rattle.cs_hub.specs.Turns.{Delivered, HoldsBytes, IsTurnedAway, IsSent, Replied}
 use Rattle.cs_hub.specs.declared.answer.Answer.{Answer}
 use Rattle.cs_hub.specs.declared.reading.Turn.{Turn}
 use Rattle.cs_hub.specs.declared.reading.Turn.TheVariants as turns
-use Rattle.cs_hub.proofs.HeadsLemmas.{closes_by, heads-closes, heads-goes_on, heads-head, heads-long, heads-more, requests-none}
+use Rattle.cs_hub.proofs.UnreadHeads.{closes_by, heads-closes, heads-goes_on, heads-head, heads-long, heads-more, requests-none}
 use Rattle.cs_hub.proofs.ServedLemmas.{bytes_both}
 use Rattle.cs_hub.proofs.SpeakLemmas.{itself, rose_both, rose_none, rose_one, spoke_both, spoke_nothing}
-use Rattle.cs_hub.proofs.SlotLemmas.{set_at}
+use Rattle.cs_hub.proofs.ConnectionSlots.{set_at}
 use Rattle.cs_hub.proofs.TurnLemmas.{head_bytes, behind_head}
 
 -- ---- requests
@@ -175,6 +178,13 @@ memory_both xs ys b left P cut h (inr p) = inr p
 pub by_nothing : (P : Type 0) → false ≡ true → P
 by_nothing P e = absurd cc
 
+-- the event is a piece
+abbrev pub is_piece : Event → Bool
+is_piece (events.Opened c) = false
+is_piece (events.Piece c n) = true
+is_piece (events.Ended c) = false
+is_piece events.Over = false
+
 module _ {K : Type 0} (Leaves : K → Request → Result Reply AskFault → K → Type 0) where
   pub in_turn_both : (xs ys : List Answered) (s t u : K) → InTurn Leaves xs s t → InTurn Leaves ys t u → InTurn Leaves (xs ++ ys) s u
   in_turn_both [] ys s t u h k = subst (λ x. InTurn Leaves ys x u) h k
@@ -213,6 +223,13 @@ module _ {K : Type 0} (Leaves : K → Request → Result Reply AskFault → K �
 
   pub asks_no_bytes : (whole : Bool) (s : K) (Sent : List Answered → Type 0) → Sent [] → AsksAsSent Leaves whole (requests_on []) s s Sent
   asks_no_bytes whole s Sent h = subst (λ l. AsksAsSent Leaves whole l s s Sent) (sym requests-none) (record { asks = asks_nothing whole s; sent = h })
+
+  pub unasked : (old new : Slots) (v : Event) (piece : List ℕ) (s : K) (talk talk' : Option Talk) → is_piece v ≡ false
+      → AsksAsSent Leaves (goes_on new v) (requests_on (bytes_to_answer old v piece)) s s (SentAt v (bytes_to_answer old v piece) talk talk')
+  unasked old new (events.Opened c) piece s talk talk' none = asks_no_bytes true s (λ xs. xs ≡ []) refl
+  unasked old new (events.Piece c n) piece s talk talk' none = absurd cc
+  unasked old new (events.Ended c) piece s talk talk' none = asks_no_bytes true s (λ xs. xs ≡ []) refl
+  unasked old new events.Over piece s talk talk' none = asks_no_bytes true s (λ xs. xs ≡ []) refl
 
   -- no more answers than requests
   asks_below : (whole : Bool) (qs : List Request) (s t : K) (a : AsksOf Leaves whole qs s t) → length a.answered ≤ length qs
@@ -309,7 +326,7 @@ module _ {K : Type 0} (Leaves : K → Request → Result Reply AskFault → K �
   starved_stops : (c : ℕ) (b : List ℕ) (s : K) (talk talk' : Option Talk) → Starved c talk talk' → AsksAsSent Leaves false (requests_on b) s s (SentBefore c b talk talk')
   starved_stops c b s talk talk' h = record { asks = asks_none (requests_on b) s; sent = want_before c b h.0 talk talk' h.1 }
 
-  pub turned_held : (c : ℕ) (u r u' : List ℕ) (turn : Turn) (s : K) (talk talk' : Option Talk) → frame (u ++ r) ≡ framed.More → IsHeld c u r turn u' talk talk' → AsksBy Leaves c u r turn s s talk talk'
+  pub turned_held : (c : ℕ) (u r u' : List ℕ) (turn : Turn) (s : K) (talk talk' : Option Talk) → frame (u ++ r) ≡ framed.More → HoldsBytes c u r turn u' talk talk' → AsksBy Leaves c u r turn s s talk talk'
   turned_held c u r u' (turns.Next i) s talk talk' f h = absurd h
   turned_held c u r u' turns.Holds s talk talk' f h = (heads-more (u ++ r) f, refl, h.1)
   turned_held c u r u' turns.Stops s talk talk' f h = starved_stops c (u ++ r) s talk talk' h

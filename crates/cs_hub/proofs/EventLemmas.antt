@@ -1,6 +1,6 @@
 -- After each event the core follows the hub.
 --
---   bytes_on-push, ended_on-push      what came on one connection, with one event more
+--   bytes_that_came-push, ended_on-push      what came on one connection, with one event more
 --   sum_at, sum_new                   sums over connections, of which one has another value
 --   piece_stays, opened_stays, ended_stays, over_stays      the core follows the hub after each event
 --   others_by, piece_others, opened_others, ended_others    the others stay as they are
@@ -21,17 +21,17 @@ use Rattle.cs_model.specs.Corpus.{Corpus}
 use Rattle.cs_model_serving.specs.Responses.{Response, memory_bytes}
 use Rattle.cs_model_serving.specs.Connections.{Left, StandsLive, reads, changes}
 use Rattle.cs_model_serving.proofs.CountLemmas.{reads-append, changes-append}
-use Rattle.cs_hub.specs.Streams.{bytes_at, bytes_on, ended_at, ended_on, sum_below}
-use Rattle.cs_hub.specs.Following.{Slots, left_at, HasLive, IsRight, AreRight, StaysRight, IsOther, LeavesOthers}
+use Rattle.cs_hub.specs.Streams.{bytes_at, bytes_that_came, ended_at, ended_on, sum_below}
+use Rattle.cs_hub.specs.HubFollowing.{Slots, left_at, HasLive, IsRight, AreRight, StaysRight, IsOther, LeavesOthers}
 use Rattle.cs_hub.specs.Rounds.{Acted, Greets, Heeds, KeepsCame}
 use Rattle.cs_hub.specs.Speaking.{Did, Spoke, Said}
 use Rattle.cs_hub.proofs.SpeakLemmas.{itself, by_conn, same_conn, spoke_nothing, rose_none}
 use Rattle.cs_hub.proofs.RightLemmas.{Advances, after_piece, right_as, fresh_right, refused_right, cut_right, let_go, or_true, or_false}
 
 -- ---- what came on one connection, with one event more
-pub bytes_on-push : (c : ℕ) (es : List Came) (e : Came) → bytes_on c (es ++ e ∷ []) ≡ bytes_on c es ++ bytes_at c e.event e.bytes
-bytes_on-push c [] e = append-nil (bytes_at c e.event e.bytes)
-bytes_on-push c (x ∷ es) e = ap (λ l. bytes_at c x.event x.bytes ++ l) (bytes_on-push c es e) ∙ sym (append_assoc (bytes_at c x.event x.bytes) (bytes_on c es) (bytes_at c e.event e.bytes))
+pub bytes_that_came-push : (c : ℕ) (es : List Came) (e : Came) → bytes_that_came c (es ++ e ∷ []) ≡ bytes_that_came c es ++ bytes_at c e.event e.bytes
+bytes_that_came-push c [] e = append-nil (bytes_at c e.event e.bytes)
+bytes_that_came-push c (x ∷ es) e = ap (λ l. bytes_at c x.event x.bytes ++ l) (bytes_that_came-push c es e) ∙ sym (append_assoc (bytes_at c x.event x.bytes) (bytes_that_came c es) (bytes_at c e.event e.bytes))
 
 or_assoc : (a b c : Bool) → (a || (b || c)) ≡ ((a || b) || c)
 or_assoc true b c = refl
@@ -93,12 +93,12 @@ pub record IsOf (c : ℕ) (e : Came) (s0 s : Listening) : Type 0 where
 
 -- how a connection stands by what a hub tells
 abbrev pub RightAt : Corpus → Slots → Listening → Talk → (ℕ → List Response) → ℕ → Type 0
-RightAt k core s t sent d = IsRight k (bytes_on d t.came) (sent_on t d) (set.contains t.broken d) (ended_on d t.came || s.over) (left_at core d) (sent d)
+RightAt k core s t sent d = IsRight k (bytes_that_came d t.came) (sent_on t d) (set.contains t.broken d) (ended_on d t.came || s.over) (left_at core d) (sent d)
 
 module _ (k : Corpus) (core core' : Slots) (c : ℕ) (x : Option Left) (s0 s s' : Listening) (t0 u : Talk) (e : Came) (more : List ℕ) (fails : Bool) (sent : ℕ → List Response) (own : List Response)
     (acted : Acted core core' c x s s') (did : Did c more fails (hears e t0) u) (own_event : IsOf c e s0 s)
     (before : (d : ℕ) → d < s0.opened → RightAt k core s0 t0 sent d)
-    (here : c < s.opened → IsRight k (bytes_on c t0.came ++ bytes_at c e.event e.bytes) (sent_on t0 c ++ more) (fails || set.contains t0.broken c) ((ended_on c t0.came || ended_at c e.event) || s.over) x own) where
+    (here : c < s.opened → IsRight k (bytes_that_came c t0.came ++ bytes_at c e.event e.bytes) (sent_on t0 c ++ more) (fails || set.contains t0.broken c) ((ended_on c t0.came || ended_at c e.event) || s.over) x own) where
   over_is : s'.over ≡ s.over
   over_is = ap (λ (y : Listening). y.over) acted.same
 
@@ -107,17 +107,17 @@ module _ (k : Corpus) (core core' : Slots) (c : ℕ) (x : Option Left) (s0 s s' 
 
   at_own : c < s.opened → RightAt k core' s' u (with_own c own sent) c
   at_own less =
-      subst (λ l. IsRight k (bytes_on c u.came) (sent_on u c) (set.contains u.broken c) (ended_on c u.came || s'.over) (left_at core' c) l) (sym (own_at c own sent))
-      (right_as k _ (bytes_on c u.came) _ (sent_on u c) _ (set.contains u.broken c) _ (ended_on c u.came || s'.over) x (left_at core' c) own
-      (ap (bytes_on c) did.came ∙ bytes_on-push c t0.came e) did.own did.whole
+      subst (λ l. IsRight k (bytes_that_came c u.came) (sent_on u c) (set.contains u.broken c) (ended_on c u.came || s'.over) (left_at core' c) l) (sym (own_at c own sent))
+      (right_as k _ (bytes_that_came c u.came) _ (sent_on u c) _ (set.contains u.broken c) _ (ended_on c u.came || s'.over) x (left_at core' c) own
+      (ap (bytes_that_came c) did.came ∙ bytes_that_came-push c t0.came e) did.own did.whole
       (ap (λ l. ended_on c l || s'.over) did.came ∙ ap (λ b. b || s'.over) (ended_on-push c t0.came e) ∙ ap (λ b. (ended_on c t0.came || ended_at c e.event) || b) over_is)
       (acted.sets c ∙ ap (λ b. cond b x (left_at core c)) (itself c)) (here less))
 
   at_other : (d : ℕ) → (d == c) ≡ false → d < s.opened → RightAt k core' s' u (with_own c own sent) d
   at_other d other less =
-      subst (λ l. IsRight k (bytes_on d u.came) (sent_on u d) (set.contains u.broken d) (ended_on d u.came || s'.over) (left_at core' d) l) (sym (other_at c d own sent other))
-      (right_as k (bytes_on d t0.came) (bytes_on d u.came) (sent_on t0 d) (sent_on u d) (set.contains t0.broken d) (set.contains u.broken d) (ended_on d t0.came || s0.over) (ended_on d u.came || s'.over) (left_at core d) (left_at core' d) (sent d)
-      (ap (bytes_on d) did.came ∙ bytes_on-push d t0.came e ∙ ap (λ l. bytes_on d t0.came ++ l) (own_event.silent d other).0 ∙ append-nil (bytes_on d t0.came))
+      subst (λ l. IsRight k (bytes_that_came d u.came) (sent_on u d) (set.contains u.broken d) (ended_on d u.came || s'.over) (left_at core' d) l) (sym (other_at c d own sent other))
+      (right_as k (bytes_that_came d t0.came) (bytes_that_came d u.came) (sent_on t0 d) (sent_on u d) (set.contains t0.broken d) (set.contains u.broken d) (ended_on d t0.came || s0.over) (ended_on d u.came || s'.over) (left_at core d) (left_at core' d) (sent d)
+      (ap (bytes_that_came d) did.came ∙ bytes_that_came-push d t0.came e ∙ ap (λ l. bytes_that_came d t0.came ++ l) (own_event.silent d other).0 ∙ append-nil (bytes_that_came d t0.came))
       (did.others d other).0 (did.others d other).1
       (ap (λ l. ended_on d l || s'.over) did.came ∙ ap (λ b. b || s'.over) (ended_on-push d t0.came e ∙ ap (λ b. ended_on d t0.came || b) (own_event.silent d other).1 ∙ or_false (ended_on d t0.came)) ∙ ap (λ b. ended_on d t0.came || b) (over_is ∙ own_event.over))
       (acted.sets d ∙ ap (λ b. cond b x (left_at core d)) other) (before d (own_event.opened d less other)))
@@ -168,10 +168,10 @@ piece_stays Told k over core core' c n piece s s' m o talk talk' whole d live or
               })
               a.right
               (λ less.
-              right_as k (bytes_on c t0.came ++ piece) _ (sent_on t0 c ++ w.1.more) (sent_on t0 c ++ w.1.more) (w.0 || set.contains t0.broken c) (w.0 || set.contains t0.broken c) (ended_on c t0.came || s0.over) _ d.kept d.kept (a.sent c ++ x.sent)
-              (ap (λ l. bytes_on c t0.came ++ l) bytes) refl refl
+              right_as k (bytes_that_came c t0.came ++ piece) _ (sent_on t0 c ++ w.1.more) (sent_on t0 c ++ w.1.more) (w.0 || set.contains t0.broken c) (w.0 || set.contains t0.broken c) (ended_on c t0.came || s0.over) _ d.kept d.kept (a.sent c ++ x.sent)
+              (ap (λ l. bytes_that_came c t0.came ++ l) bytes) refl refl
               (ap (λ b. b || s.over) (or_false (ended_on c t0.came)) ∙ ap (λ (y : Listening). ended_on c t0.came || y.over) p.4) refl
-              (piece_here k (bytes_on c t0.came) (sent_on t0 c) piece (set.contains t0.broken c) (ended_on c t0.came || s0.over) (left_at core c) d.old d.kept w.0 w.1.more (a.sent c) x.sent d.was (a.right c (subst (λ (y : Listening). c < y.opened) p.4 less)) x.meets x.unchanged))
+              (piece_here k (bytes_that_came c t0.came) (sent_on t0 c) piece (set.contains t0.broken c) (ended_on c t0.came || s0.over) (left_at core c) d.old d.kept w.0 w.1.more (a.sent c) x.sent d.was (a.right c (subst (λ (y : Listening). c < y.opened) p.4 less)) x.meets x.unchanged))
               (i + reads x.sent)
               (let q = sum_at s.opened c (reads x.sent) (λ d. reads (a.sent d)) (λ d. reads (with_own c (a.sent c ++ x.sent) a.sent d)) (λ d other. ap reads (other_at c d (a.sent c ++ x.sent) a.sent other)) (let z = reads-append (a.sent c) x.sent in omega (arith, z, ap reads (own_at c (a.sent c ++ x.sent) a.sent))) in
               let f : sum_below s.opened (λ d. reads (a.sent d)) ≤ i = subst (λ (y : Listening). sum_below y.opened (λ d. reads (a.sent d)) ≤ i) (sym p.4) a.few in
@@ -191,12 +191,12 @@ silent_one c (Piece d n) bytes h = (ap (λ b. cond b bytes []) (unequal c d h), 
 silent_one c (Ended d) bytes h = (refl, unequal c d h)
 silent_one c Over bytes h = (refl, refl)
 
-silent_before : (c : ℕ) (es : List Came) → All (λ e. IsNotOf c e.event) es → (bytes_on c es ≡ []) × (ended_on c es ≡ false)
+silent_before : (c : ℕ) (es : List Came) → All (λ e. IsNotOf c e.event) es → (bytes_that_came c es ≡ []) × (ended_on c es ≡ false)
 silent_before c [] h = (refl, refl)
 silent_before c (e ∷ es) h =
     let one = silent_one c e.event e.bytes (All-head (λ (e : Came). IsNotOf c e.event) e es h) in
     let more = silent_before c es (All-tail (λ (e : Came). IsNotOf c e.event) e es h) in
-    (ap (λ l. l ++ bytes_on c es) one.0 ∙ more.0, ap (λ b. b || ended_on c es) one.1 ∙ more.1)
+    (ap (λ l. l ++ bytes_that_came c es) one.0 ∙ more.0, ap (λ b. b || ended_on c es) one.1 ∙ more.1)
 
 below_next : (d c n m : ℕ) → m ≡ n + 1 → d < m → (d == c) ≡ false → c ≡ n → d < n
 below_next d c n m e less other is = grind (arith, nat_tests)
@@ -242,7 +242,7 @@ opened_stays k core core' c piece s s' m talk talk' greets live orderly = record
               a.right
               (λ less.
               right_as k [] _ g.1.more _ g.1.fails _ false _ g.0 g.0 []
-              (append-nil (bytes_on c t0.came) ∙ silent.0) (ap (λ l. l ++ g.1.more) fresh.1) (or_false_is g.1.fails (set.contains t0.broken c) fresh.2)
+              (append-nil (bytes_that_came c t0.came) ∙ silent.0) (ap (λ l. l ++ g.1.more) fresh.1) (or_false_is g.1.fails (set.contains t0.broken c) fresh.2)
               (ap (λ b. (b || false) || s.over) silent.1 ∙ ap (λ (y : Listening). y.over) p.3 ∙ p.0) refl (g.1.stands k))
               (i + 0)
               (let q = sum_new s0.opened s.opened c (λ d. reads (a.sent d)) (λ d. reads (with_own c [] a.sent d)) (λ d other. ap reads (other_at c d [] a.sent other)) (ap reads (own_at c [] a.sent)) p.1 (ap (λ (y : Listening). y.opened) p.3) in
@@ -272,10 +272,10 @@ ended_stays k core core' c piece s m talk acted live = record {
               })
               a.right
               (λ less.
-              right_as k (bytes_on c t0.came) _ (sent_on t0 c) _ (set.contains t0.broken c) _ true _ None None (a.sent c)
-              (append-nil (bytes_on c t0.came)) (append-nil (sent_on t0 c)) refl
+              right_as k (bytes_that_came c t0.came) _ (sent_on t0 c) _ (set.contains t0.broken c) _ true _ None None (a.sent c)
+              (append-nil (bytes_that_came c t0.came)) (append-nil (sent_on t0 c)) refl
               (ap (λ b. (ended_on c t0.came || b) || s.over) (itself c) ∙ ap (λ b. b || s.over) (or_true (ended_on c t0.came))) refl
-              (let_go k (bytes_on c t0.came) (sent_on t0 c) (set.contains t0.broken c) (ended_on c t0.came || s0.over) (left_at core c) (a.sent c) (a.right c (subst (λ (y : Listening). c < y.opened) p.2 less))))
+              (let_go k (bytes_that_came c t0.came) (sent_on t0 c) (set.contains t0.broken c) (ended_on c t0.came || s0.over) (left_at core c) (a.sent c) (a.right c (subst (λ (y : Listening). c < y.opened) p.2 less))))
               (i + 0)
               (let q = sum_at s.opened c 0 (λ d. reads (a.sent d)) (λ d. reads (with_own c (a.sent c) a.sent d)) (λ d other. ap reads (other_at c d (a.sent c) a.sent other)) (omega (arith, ap reads (own_at c (a.sent c) a.sent))) in
               let f : sum_below s.opened (λ d. reads (a.sent d)) ≤ i = subst (λ (y : Listening). sum_below y.opened (λ d. reads (a.sent d)) ≤ i) (sym p.2) a.few in
@@ -295,10 +295,10 @@ over_right k core core' s0 s s' t0 u piece i a did same p q none =
     record {
       sent = a.sent;
       right = λ d less.
-          right_as k (bytes_on d t0.came) (bytes_on d u.came) (sent_on t0 d) (sent_on u d) (set.contains t0.broken d) (set.contains u.broken d) true (ended_on d u.came || s'.over) None (left_at core' d) (a.sent d)
-          (ap (bytes_on d) did.came ∙ bytes_on-push d t0.came e ∙ append-nil (bytes_on d t0.came)) (same d).0 (same d).1
+          right_as k (bytes_that_came d t0.came) (bytes_that_came d u.came) (sent_on t0 d) (sent_on u d) (set.contains t0.broken d) (set.contains u.broken d) true (ended_on d u.came || s'.over) None (left_at core' d) (a.sent d)
+          (ap (bytes_that_came d) did.came ∙ bytes_that_came-push d t0.came e ∙ append-nil (bytes_that_came d t0.came)) (same d).0 (same d).1
           (ap (λ b. ended_on d u.came || b) over ∙ or_true (ended_on d u.came)) (none d)
-          (let_go k (bytes_on d t0.came) (sent_on t0 d) (set.contains t0.broken d) (ended_on d t0.came || s0.over) (left_at core d) (a.sent d) (a.right d (subst (λ n. d < n) opened less)));
+          (let_go k (bytes_that_came d t0.came) (sent_on t0 d) (set.contains t0.broken d) (ended_on d t0.came || s0.over) (left_at core d) (a.sent d) (a.right d (subst (λ n. d < n) opened less)));
       few = let f = a.few in let g = ap (λ n. sum_below n (λ d. reads (a.sent d))) opened in omega (arith, f, g);
     }
 

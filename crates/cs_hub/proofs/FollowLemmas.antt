@@ -2,8 +2,10 @@
 --
 --   starts        before anything was opened the core of no slots follows it
 --   served_none   nothing was served then, and no count rose
+--   IsGoodOver        an engine over bytes that stand for its index, where what it keeps is good, with their corpus
+--   over_same     it is so by other names of the bytes and the engine
 --   good_after    what is kept of answers is good after it was answered from
-use Rattle.std.proofs.Common.{◌≡◌, ℕ, ◌+◌, ◌-◌, ◌^◌, ◌≤◌, List, [], sym, ◌∙◌, ap, subst, arith}
+use Rattle.std.proofs.Common.{◌≡◌, ℕ, ◌+◌, ◌-◌, ◌^◌, ◌≤◌, List, [], refl, sym, ◌∙◌, ap, subst, arith}
 use Rattle.std.specs.Prelude.{Option, Some, min}
 use Rattle.std.specs.Ordering.{nat_cmp}
 use Rattle.std.specs.FinSet as set
@@ -15,7 +17,7 @@ use Rattle.cs_model.specs.Corpus.{Corpus}
 use Rattle.cs_model_index.specs.Sections.{file_corpus}
 use Rattle.cs_model_serving.specs.Connections.{reads}
 use Rattle.cs_hub.specs.Streams.{sum_below}
-use Rattle.cs_hub.specs.Following.{Follows, AreServed}
+use Rattle.cs_hub.specs.HubFollowing.{Follows, AreServed}
 
 pub starts : (k : Corpus) (s : Listening) (talk : Option Talk) (port conns : ℕ) → s ≡ listens port conns → IsOrderly s talk → Follows k [] s talk 0
 starts k s talk port conns e o = record {
@@ -31,6 +33,14 @@ starts k s talk port conns e o = record {
 pub served_none : (k : Corpus) (s : Listening) (talk : Option Talk) (port conns n : ℕ) → s ≡ listens port conns → IsOrderly s talk → AreServed k s talk n n
 served_none k s talk port conns n e o = record { core = []; failed = 0; follows = starts k s talk port conns e o; rose = let l : min (n + 0) (2 ^ 64 - 1) ≤ n = omega arith in l }
 
+abbrev pub IsGoodOver : Option (List ℕ) → EngineView → Corpus → Type 0
+IsGoodOver told e k = (x : List ℕ) × (told ≡ Some x) × StandsFor x e.index × AreGood x e × (k ≡ file_corpus x)
+
+pub over_same : (told told' : Option (List ℕ)) (b : List ℕ) (e e' : EngineView) → told' ≡ told → e' ≡ e
+    → told ≡ Some b → StandsFor b e.index → AreGood b e → IsGoodOver told' e' (file_corpus b)
+over_same told told' b e e' same own is stands good =
+    (b, same ∙ is, subst (λ x. StandsFor b x.index) (sym own) stands, subst (AreGood b) (sym own) good, refl)
+
 -- what an engine that was answered over these bytes keeps is good after it as well
-pub good_after : (told told' : Option (List ℕ)) (b : List ℕ) (e : EngineView) → told ≡ Some b → told' ≡ told → (x : List ℕ) × (told' ≡ Some x) × StandsFor x e.index × AreGood x e × (file_corpus b ≡ file_corpus x) → AreGood b e
+pub good_after : (told told' : Option (List ℕ)) (b : List ℕ) (e : EngineView) → told ≡ Some b → told' ≡ told → IsGoodOver told' e (file_corpus b) → AreGood b e
 good_after told told' b e is same h = subst (λ l. AreGood l e) (same_Some h.0 b (sym h.1 ∙ same ∙ is)) h.3

@@ -17,7 +17,7 @@ use Rattle.cs_model_serving.specs.Connections.{Served, Left, serve, answers, is_
 use Rattle.cs_model_serving.specs.ServingLaws.{answers_before}
 use Rattle.cs_model_serving.proofs.FrameLemmas.{take_both, frame-nil}
 use Rattle.cs_model_serving.proofs.ServeLemmas.{serve-goes_on, serve-more}
-use Rattle.cs_hub.specs.Following.{HasCause, IsRight}
+use Rattle.cs_hub.specs.HubFollowing.{HasCause, IsRight}
 use Rattle.cs_hub.specs.Speaking.{IsServed, IsCutShort, IsMet, IsEnded, Says}
 use Rattle.cs_hub.specs.Turns.{HoldsOn, Received}
 use Rattle.cs_hub.proofs.ServedLemmas.{all_nil, zip_going, served_both, ended_behind, plain}

@@ -18,7 +18,7 @@ use Rattle.cs_base.specs.outside.Hub.{Came, Talk, Listening, IsOrderly, Happens,
 use Rattle.cs_model.specs.Corpus.{Corpus}
 use Rattle.cs_model_serving.specs.Connections.{Left}
 use Rattle.cs_hub.specs.Streams.{RoseBy}
-use Rattle.cs_hub.specs.Following.{Slots, left_at, HasLive, HasLiveBut, Follows, AreServed}
+use Rattle.cs_hub.specs.HubFollowing.{Slots, left_at, HasLive, HasLiveBut, Follows, AreServed}
 use Rattle.cs_hub.specs.Rounds.{KeepsCame, came_by, StaysServed, still, weight}
 use Rattle.cs_hub.proofs.SpeakLemmas.{itself, in_after, rose_both, rose_none}
 use Rattle.cs_hub.proofs.ActLemmas.{gone_at}

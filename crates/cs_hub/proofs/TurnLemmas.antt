@@ -30,7 +30,7 @@ use Rattle.cs_hub.specs.declared.answer.Answer.{Answer}
 use Rattle.cs_hub.specs.Responding.{response}
 use Rattle.cs_hub.specs.Streams.{RoseBy}
 use Rattle.cs_hub.specs.Speaking.{Said, Spoke, Starved, IsCutShort, IsEnded, Says}
-use Rattle.cs_hub.specs.Turns.{IsGiven, Delivered, IsSent, Replied, IsOne, IsHeld, IsTurnedAway, GoesOn, Stops, Turned}
+use Rattle.cs_hub.specs.Turns.{IsGiven, Delivered, IsSent, Replied, IsOne, HoldsBytes, IsTurnedAway, GoesOn, Stops, Turned}
 use Rattle.cs_hub.proofs.SpeakLemmas.{rose_none}
 use Rattle.cs_hub.proofs.ServedLemmas.{all_nil, zip_same, same_closing, plain, reads_cons, changes_cons}
 
@@ -254,7 +254,7 @@ module _ (Over : Corpus → Type 0) (c : ℕ) (u r u' : List ℕ) (skip end used
 pub turned_long : (Over : Corpus → Type 0) (c : ℕ) (b : List ℕ) (m : ℕ) (talk talk' : Option Talk) → frame b ≡ framed.TooLong → IsTurnedAway c talk talk' → Stops Over c b m m talk talk'
 turned_long Over c b m talk talk' f h = refused_stops Over c b m talk talk' (λ k. serve-too_long k b f) h
 
-pub turned_held : (Over : Corpus → Type 0) (c : ℕ) (u r u' : List ℕ) (turn : Turn) (m : ℕ) (talk talk' : Option Talk) → frame (u ++ r) ≡ framed.More → IsHeld c u r turn u' talk talk' → Turned Over c u r turn u' m m talk talk'
+pub turned_held : (Over : Corpus → Type 0) (c : ℕ) (u r u' : List ℕ) (turn : Turn) (m : ℕ) (talk talk' : Option Talk) → frame (u ++ r) ≡ framed.More → HoldsBytes c u r turn u' talk talk' → Turned Over c u r turn u' m m talk talk'
 turned_held Over c u r u' (Next i) m talk talk' f h = absurd h
 turned_held Over c u r u' Holds m talk talk' f h = record { waits = f; kept = h.0; untold = h.1; same = refl }
 turned_held Over c u r u' Closes m talk talk' f h = starves Over c (u ++ r) m m talk talk' (omega arith) h

@@ -51,7 +51,7 @@ use Rattle.cs_engine.specs.declared.fault.AskFault.TheVariants as faults
 use Rattle.cs_engine.specs.declared.note.Note.{Note}
 use Rattle.cs_engine.specs.Asking.{division, is_changed, is_read, titles_asked}
 use Rattle.cs_engine.specs.Keeping.{AreGood, EngineView, IsAfter, KeepsAnswers, note_plan}
-use Rattle.cs_hub.specs.Following.{Slots, left_at}
+use Rattle.cs_hub.specs.HubFollowing.{Slots, left_at}
 use Rattle.cs_hub.specs.Speaking.{Spoke}
 use Rattle.cs_hub.specs.Streams.{RoseBy}
 

@@ -1,7 +1,7 @@
 pub mod Asked
 pub mod DueReads
 pub mod Ending
-pub mod Following
+pub mod HubFollowing
 pub mod Responding
 pub mod Rounds
 pub mod Speaking

@@ -9,7 +9,7 @@
 --   Lightens e core core'            what an event adds to the weight at most, and what it takes away at least
 --   KeepsCame talk talk'             no event came
 --   HasBytes, OpensBelow             what an event of a hub keeps: its piece fits the buffer, a number is below the room
---   Counted e opened r               how the loop goes on after an event, by how many connections were opened
+--   GoesOnAfter e opened r               how the loop goes on after an event, by how many connections were opened
 --   still conns opened core          what is left to come over all connections
 --   came_by talk                     how many events came
 --   Went                             how a round went
@@ -28,7 +28,7 @@ use Rattle.cs_model_serving.specs.Connections.{Left}
 use Rattle.cs_hub.specs.declared.rounds.Round.{Round}
 use Rattle.cs_hub.specs.declared.rounds.Round.TheVariants as round
 use Rattle.cs_hub.specs.Streams.{RoseBy}
-use Rattle.cs_hub.specs.Following.{Slots, left_at, Follows}
+use Rattle.cs_hub.specs.HubFollowing.{Slots, left_at, Follows}
 use Rattle.cs_hub.specs.Speaking.{Starved}
 use Rattle.cs_hub.specs.Turns.{Received}
 
@@ -104,11 +104,11 @@ OpensBelow (Ended c) conns = Unit {0}
 OpensBelow Over conns = Unit {0}
 
 -- one more was opened, or as many as before, or nothing more comes
-abbrev pub Counted : Event → ℕ → Round → Type 0
-Counted (Opened c) opened r = r ≡ round.Goes (c + 1)
-Counted (Piece c n) opened r = r ≡ round.Goes opened
-Counted (Ended c) opened r = r ≡ round.Goes opened
-Counted Over opened r = r ≡ round.Over
+abbrev pub GoesOnAfter : Event → ℕ → Round → Type 0
+GoesOnAfter (Opened c) opened r = r ≡ round.Goes (c + 1)
+GoesOnAfter (Piece c n) opened r = r ≡ round.Goes opened
+GoesOnAfter (Ended c) opened r = r ≡ round.Goes opened
+GoesOnAfter Over opened r = r ≡ round.Over
 
 -- 0 where all were opened and none is kept
 abbrev pub still : ℕ → ℕ → Slots → ℕ

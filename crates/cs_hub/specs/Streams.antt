@@ -3,7 +3,7 @@
 -- Source: this engine's own.
 --
 --   bytes_at c event bytes   the bytes that an event brings on connection c; none where it is of another one, or no piece
---   bytes_on c came          the bytes that came on it, in order; none where no piece did
+--   bytes_that_came c came          the bytes that came on it, in order; none where no piece did
 --   ended_at c event         the event ends connection c
 --   ended_on c came          one of the events did; none of no events
 --   RoseBy n before now      a count of failures rose by at least n, or stands at its last value
@@ -22,9 +22,9 @@ bytes_at c (Ended d) bytes = []
 bytes_at c Over bytes = []
 
 -- the bytes of its pieces, one behind the other; of no events none
-abbrev pub bytes_on : ℕ → List Came → List ℕ
-bytes_on c [] = []
-bytes_on c (e ∷ es) = bytes_at c e.event e.bytes ++ bytes_on c es
+abbrev pub bytes_that_came : ℕ → List Came → List ℕ
+bytes_that_came c [] = []
+bytes_that_came c (e ∷ es) = bytes_at c e.event e.bytes ++ bytes_that_came c es
 
 -- the event is the end of this connection, as Over isn't
 abbrev pub ended_at : ℕ → Event → Bool

@@ -7,7 +7,7 @@
 --   IsSent                   the same of what may be a response, or want of memory
 --   Replied                  the same of the response to a head, or memory ran out
 --   IsOne                    one response was sent, and later bytes are served behind it
---   IsHeld, IsTurnedAway     what was done where no head ends: the bytes were kept, or more can't come
+--   HoldsBytes, IsTurnedAway     what was done where no head ends: the bytes were kept, or more can't come
 --   GoesOn, Kept, Stops      what a turn did: a head was answered; none ends there; the connection is to be closed
 --   Turned                   these by what the turn gave
 --   HoldsOn, Holds           all that is served was sent, and the connection goes on
@@ -97,10 +97,10 @@ pub record Kept (unread rest unread' : List ℕ) (before now : ℕ) (talk talk' 
   pub same : now ≡ before
 
 -- bytes in which no head ends were kept, or memory ran out
-abbrev pub IsHeld : ℕ → List ℕ → List ℕ → Turn → List ℕ → Option Talk → Option Talk → Type 0
-IsHeld c unread rest (turns.Next n) unread' talk talk' = ⊥
-IsHeld c unread rest turns.Holds unread' talk talk' = (unread' ≡ unread ++ rest) × (talk' ≡ talk)
-IsHeld c unread rest turns.Stops unread' talk talk' = Starved c talk talk'
+abbrev pub HoldsBytes : ℕ → List ℕ → List ℕ → Turn → List ℕ → Option Talk → Option Talk → Type 0
+HoldsBytes c unread rest (turns.Next n) unread' talk talk' = ⊥
+HoldsBytes c unread rest turns.Holds unread' talk talk' = (unread' ≡ unread ++ rest) × (talk' ≡ talk)
+HoldsBytes c unread rest turns.Stops unread' talk talk' = Starved c talk talk'
 
 -- the response where no head ends was sent, or memory ran out
 abbrev pub IsTurnedAway : ℕ → Option Talk → Option Talk → Type 0

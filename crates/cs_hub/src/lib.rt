@@ -1,7 +1,7 @@
 //! The serving core: connections of a hub, cut anywhere and in any order, answered one by one over an engine.
 //!
 //! What a connection is to be sent stands in `Connections` of `cs_model_serving`; how the core stands beside a hub in
-//! `specs/Following.antt`. Nothing here knows a socket or a file.
+//! `specs/HubFollowing.antt`. Nothing here knows a socket or a file.
 #![tactic(auto)]
 
 mod answer;

@@ -8,7 +8,7 @@ ghost use Rattle.cs_model_serving.specs.Responses.{response_to, too_long};
 ghost use Rattle.cs_hub.specs.Asked.{AsksAsSent, AsksBy, SentFor};
 ghost use Rattle.cs_hub.specs.DueReads.{closes_behind, requests_in};
 ghost use Rattle.cs_hub.specs.Speaking.{Calm};
-ghost use Rattle.cs_hub.specs.Turns.{IsOpen, Replied, Turned, IsHeld, IsTurnedAway, IsSent};
+ghost use Rattle.cs_hub.specs.Turns.{IsOpen, Replied, Turned, HoldsBytes, IsTurnedAway, IsSent};
 
 use crate::answer::Answer;
 use crate::answerer::Answerer;
@@ -112,7 +112,7 @@ impl Reading {
         requires live { IsLive (H.state hub.old) conn }
         requires seen { IsOpen (self.old ++ rest.now) seen }
 
-        ensures held { IsHeld conn self.old rest.now result self.new (H.talk hub.old) (H.talk hub.new) }
+        ensures held { HoldsBytes conn self.old rest.now result self.new (H.talk hub.old) (H.talk hub.new) }
         ensures calm { Calm (H.state hub.old) (H.state hub.new) (H.faults hub.old) (H.faults hub.new) (H.send_faults hub.old) (H.send_faults hub.new) (H.talk hub.old) (H.talk hub.new) }
     {
         match self.unread.extend_from_slice(rest) {

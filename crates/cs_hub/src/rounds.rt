@@ -2,8 +2,8 @@
 ghost use Rattle.std.specs.Prelude.{◌≡◌, ◌<◌, ◌≤◌, ◌⊎◌, ℕ, None, true, false, length, is_some};
 ghost use Rattle.cs_base.specs.outside.Hub.{came_of, IsOrderly};
 ghost use Rattle.cs_model.specs.Corpus.{Corpus};
-ghost use Rattle.cs_hub.specs.Following.{HasLive, IsWhole, left_at};
-ghost use Rattle.cs_hub.specs.Rounds.{Counted, HasBytes, OpensBelow, StaysServed, Went};
+ghost use Rattle.cs_hub.specs.HubFollowing.{HasLive, IsWhole, left_at};
+ghost use Rattle.cs_hub.specs.Rounds.{GoesOnAfter, HasBytes, OpensBelow, StaysServed, Went};
 ghost use Rattle.cs_hub.specs.Speaking.{BreaksBy};
 
 use crate::answerer::Answerer;
@@ -88,7 +88,7 @@ fn piece_of(event: Event, buffer: &[u8]) -> &[u8]
 fn counted(event: Event, opened: u32, conns: u32) -> Round
     requires { OpensBelow event conns }
 
-    ensures { Counted event opened result }
+    ensures { GoesOnAfter event opened result }
 {
     match event {
         Event::Opened(conn) => Round::Goes(conn + 1),

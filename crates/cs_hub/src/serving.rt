@@ -10,7 +10,7 @@ ghost use Rattle.cs_file.specs.Indexes.{HasAllBlocks, StandsFor};
 ghost use Rattle.cs_model_index.specs.Sections.{file_corpus};
 ghost use Rattle.cs_model.specs.Corpus.{Corpus};
 ghost use Rattle.cs_hub.specs.Ending.{Ends};
-ghost use Rattle.cs_hub.specs.Following.{AreServed};
+ghost use Rattle.cs_hub.specs.HubFollowing.{AreServed};
 ghost use Rattle.cs_hub.specs.Rounds.{came_by};
 ghost use Rattle.cs_hub.specs.Speaking.{AreUnbroken};
 

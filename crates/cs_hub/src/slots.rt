@@ -1,6 +1,6 @@
 //! The live connections.
 ghost use Rattle.std.specs.Prelude.{◌≡◌, ◌≤◌, ◌^◌, ◌<◌, ◌++◌, ℕ, None, Some, [], true, false, length, is_some, replicate, slice_set};
-ghost use Rattle.cs_hub.specs.Following.{left_at};
+ghost use Rattle.cs_hub.specs.HubFollowing.{left_at};
 
 use crate::line::Line;
 use std::alloc::Global;

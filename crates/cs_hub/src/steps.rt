@@ -9,7 +9,7 @@ ghost use Rattle.cs_model.specs.Corpus.{Corpus};
 ghost use Rattle.cs_model_index.specs.Sections.{file_corpus};
 ghost use Rattle.cs_hub.specs.Asked.{AsksAsSent};
 ghost use Rattle.cs_hub.specs.DueReads.{AnswersWithin, SentAt, SentBefore, bytes_behind, bytes_to_answer, goes_on, requests_on};
-ghost use Rattle.cs_hub.specs.Following.{HasLive, HasLiveBut, IsWhole, LeavesOthers, StaysRight, left_at};
+ghost use Rattle.cs_hub.specs.HubFollowing.{HasLive, HasLiveBut, IsWhole, LeavesOthers, StaysRight, left_at};
 ghost use Rattle.cs_hub.specs.Rounds.{Greets, Heeds, Lightens, KeepsCame, closed_unless};
 ghost use Rattle.cs_hub.specs.Speaking.{BreaksBy, Starved};
 

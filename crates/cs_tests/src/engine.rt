@@ -1,14 +1,24 @@
 //! What no clause says: that an engine answers where there is memory, and goes on from what it kept.
-ghost use Rattle.std.specs.Prelude.{◌≡◌, Some};
+ghost use Rattle.std.specs.Prelude.{◌≡◌, IfOk, Some};
 ghost use Rattle.cs_file.specs.Indexes.{HasAllBlocks};
 
-use cs_base::{Kept, MemStore, Plan, Seq};
+use cs_base::{Kept, MemStore, Plan, Seq, Store};
 use cs_engine::{Engine, Note};
 use cs_file::open_index;
 use cs_query::{Reply, Request, parse};
 use cs_worked::ONE_DOCUMENT;
 use std::alloc::Global;
 use std::test::Fail;
+
+/// An engine over the index file in a store, with room for four answers.
+pub(crate) fn engine_over<S: Store>(alloc: Global, store: &mut S) -> Result<Engine, Fail>
+    ensures fits { IfOk result (λ e. HasAllBlocks (S.bytes store.new) e.index) }
+{
+    let Ok(index) = open_index(alloc, store) else {
+        return Err(Fail::new("no index"));
+    };
+    Ok(Engine::new(alloc, index, 4)?)
+}
 
 // The reply to a query, without facets.
 fn answer(
@@ -42,10 +52,7 @@ fn answer(
 fn each_request_goes_on_from_those_before(rt: HostRuntime) -> Result<(), Fail> {
     let alloc = rt.alloc();
     let mut store = MemStore::new(ONE_DOCUMENT.file.to_vec(alloc)?);
-    let Ok(index) = open_index(alloc, &mut store) else {
-        return Err(Fail::new("no index"));
-    };
-    let mut engine = Engine::new(alloc, index, 4)?;
+    let mut engine = engine_over(alloc, &mut store)?;
     for (text, plan, kept, words, hits, score) in [
         ("a", Plan::Fresh, Kept::Kept, 2, 1, 4),
         ("ab", Plan::Narrow { cut: 1 }, Kept::Kept, 1, 1, 4),

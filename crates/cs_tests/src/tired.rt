@@ -1,8 +1,8 @@
 //! What no clause says: of two equal requests the first one's read fails, and the second has its reply.
 use crate::commands::built;
+use crate::engine::engine_over;
 use cs_base::{Hub, Plan, ScriptHub, Scripted, Seq, TiredStore};
-use cs_engine::{AskFault, Engine};
-use cs_file::open_index;
+use cs_engine::AskFault;
 use cs_http::request;
 use cs_hub::{ServeEnd, serve};
 use cs_worked::{FAILED_READ, THREE_DOCUMENTS, TYPED};
@@ -22,10 +22,7 @@ fn tired(alloc: Global) -> Result<TiredStore, Fail> {
 fn a_failed_read_is_that_of_one_request(rt: HostRuntime) -> Result<(), Fail> {
     let alloc = rt.alloc();
     let mut store = tired(alloc)?;
-    let Ok(index) = open_index(alloc, &mut store) else {
-        return Err(Fail::new("no index"));
-    };
-    let mut engine = Engine::new(alloc, index, 4)?;
+    let mut engine = engine_over(alloc, &mut store)?;
     let heads = format!(in alloc; "{}{}", TYPED.head, TYPED.head)?;
     let bytes = Seq::from_vec(heads.into_bytes());
     let mut events = Seq::new(alloc);
@@ -46,10 +43,7 @@ fn a_failed_read_is_that_of_one_request(rt: HostRuntime) -> Result<(), Fail> {
 fn the_plan_behind_a_failed_read_is_fresh(rt: HostRuntime) -> Result<(), Fail> {
     let alloc = rt.alloc();
     let mut store = tired(alloc)?;
-    let Ok(index) = open_index(alloc, &mut store) else {
-        return Err(Fail::new("no index"));
-    };
-    let mut engine = Engine::new(alloc, index, 4)?;
+    let mut engine = engine_over(alloc, &mut store)?;
     store.fail_at(1);
     let Ok(request) = request(alloc, b"q=typ") else {
         return Err(Fail::new("no request"));

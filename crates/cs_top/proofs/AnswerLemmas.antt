@@ -20,10 +20,10 @@ use Rattle.cs_model.specs.Outputs.{MayPut, line_fault, memory_text, read_text, t
 use Rattle.cs_model.specs.Parameters.{request_of, request_refusal}
 use Rattle.cs_model.specs.Replies.{reply_text}
 use Rattle.cs_model.specs.Requests.{Request, reply_of}
-use Rattle.cs_top.specs.Answering.{CameCounts, Costs, FileView, HasReply, HasText, MayAnswer, came_of, line_bytes}
+use Rattle.cs_top.specs.Answering.{CameCounts, Costs, FileView, HasReply, HasText, MayAnswer, came_of_answer, line_bytes}
 use Rattle.cs_top.specs.CommandLine.{failed, CausedBy}
 use Rattle.cs_top.specs.Met.{Wrote}
-use Rattle.cs_top.specs.Scripts.{Passes, StopsAt}
+use Rattle.cs_top.specs.ScriptEndings.{Passes, StopsAt}
 use Rattle.cs_top.specs.Views.{of_script, stop_ending}
 use Rattle.cs_top.specs.declared.lines.ScriptStop.{ScriptStop}
 use Rattle.cs_top.specs.declared.lines.ScriptStop.TheVariants as scripts
@@ -37,17 +37,17 @@ use Rattle.cs_top.proofs.MemoryText.{memory_apart, reply_apart}
 plain_costs : (n m : ℕ) (t : List ℕ) → n ≤ m → t ≢ read_text → Costs came.Answered n m t
 plain_costs n m t later other = record { later = later; read = λ e. absurd (other e); clean = λ h. other; unchanged = λ e. cc e }
 
-pub has_costs : (A : MayPut) (l : List ℕ) (a : Answer) (n m : ℕ) → A l memory_text → HasText A l a → CameCounts (came_of a) n m → (t : List ℕ) × (line_bytes a ≡ t ++ 10 ∷ []) × A l t × Costs (came_of a) n m t
+pub has_costs : (A : MayPut) (l : List ℕ) (a : Answer) (n m : ℕ) → A l memory_text → HasText A l a → CameCounts (came_of_answer a) n m → (t : List ℕ) × (line_bytes a ≡ t ++ 10 ∷ []) × A l t × Costs (came_of_answer a) n m t
 has_costs A l (answers.Text b) n m memory (t, is, a, other) c = (t, is, a, plain_costs n m t c.later other)
 has_costs A l answers.Memory n m memory h c = (memory_text, refl, memory, plain_costs n m memory_text c.later memory_apart)
 has_costs A l answers.Read n m memory h c = (read_text, refl, h, record { later = c.later; read = λ e. c.read refl; clean = λ low. absurd (low refl); unchanged = λ e. cc e })
 has_costs A l (answers.Changed b) n m memory h c = absurd h
 
-module _ (f : FileView) (k : Corpus) (l : ℕ × List ℕ) (a : Answer) (n m : ℕ) (some : l.1 ≢ []) (read : line_fault l ≡ None) (h : HasText (MayAnswer f k) l.1 a) (c : CameCounts (came_of a) n m) where
-  text_there : (t : List ℕ) × (line_bytes a ≡ t ++ 10 ∷ []) × MayAnswer f k l.1 t × Costs (came_of a) n m t
+module _ (f : FileView) (k : Corpus) (l : ℕ × List ℕ) (a : Answer) (n m : ℕ) (some : l.1 ≢ []) (read : line_fault l ≡ None) (h : HasText (MayAnswer f k) l.1 a) (c : CameCounts (came_of_answer a) n m) where
+  text_there : (t : List ℕ) × (line_bytes a ≡ t ++ 10 ∷ []) × MayAnswer f k l.1 t × Costs (came_of_answer a) n m t
   text_there = has_costs (MayAnswer f k) l.1 a n m (inl (inr refl)) h c
 
-  pub passes : (old new : Option (List ℕ)) → Grew old (line_bytes a) new → Passes (MayAnswer f k) l old new (came_of a) n m
+  pub passes : (old new : Option (List ℕ)) → Grew old (line_bytes a) new → Passes (MayAnswer f k) l old new (came_of_answer a) n m
   passes old new g =
       let x = text_there in
       inr (some, read, (x.0, x.2, x.3, subst (λ b. Grew old b new) x.1 g))
@@ -55,15 +55,15 @@ module _ (f : FileView) (k : Corpus) (l : ℕ × List ℕ) (a : Answer) (n m : �
   pub stops_there : (w : Wrote) → GrewByPrefix w.old (line_bytes a) w.new → Rose w.before w.now → StopsAt (MayAnswer f k) failed l w n m
   stops_there w g rose =
       let x = text_there in
-      (some, read, rose, (came_of a, x.0, x.2, x.3, subst (λ b. GrewByPrefix w.old b w.new) x.1 g))
+      (some, read, rose, (came_of_answer a, x.0, x.2, x.3, subst (λ b. GrewByPrefix w.old b w.new) x.1 g))
 
 none_there : (o : Option (List ℕ)) → (is_some o ≡ true → ⊥) → o ≡ None
 none_there None never = refl
 none_there (Some b) never = absurd (never refl)
 
-module _ (f : FileView) (k : Corpus) (l : ℕ × List ℕ) (a : Answer) (n m : ℕ) (some : l.1 ≢ []) (read : line_fault l ≡ None) (h : HasText (MayAnswer f k) l.1 a) (c : CameCounts (came_of a) n m) where
+module _ (f : FileView) (k : Corpus) (l : ℕ × List ℕ) (a : Answer) (n m : ℕ) (some : l.1 ≢ []) (read : line_fault l ≡ None) (h : HasText (MayAnswer f k) l.1 a) (c : CameCounts (came_of_answer a) n m) where
   -- a line whose answer was put
-  pub line_ok : {E : Type 0} (r : Result Came E) (old new : Option (List ℕ)) → OnOk r (Grew old (line_bytes a) new) → IfOk r (λ x. x ≡ came_of a) → IfOk r (λ came. Passes (MayAnswer f k) l old new came n m)
+  pub line_ok : {E : Type 0} (r : Result Came E) (old new : Option (List ℕ)) → OnOk r (Grew old (line_bytes a) new) → IfOk r (λ x. x ≡ came_of_answer a) → IfOk r (λ came. Passes (MayAnswer f k) l old new came n m)
   line_ok (Ok x) old new g is = subst (λ y. Passes (MayAnswer f k) l old new y n m) (sym is) (passes f k l a n m some read h c old new g)
   line_ok (Err e) old new g is = tt
 
@@ -92,7 +92,7 @@ refusal_is f k p e (Ok b) a cause whole none is other =
 refusal_is f k p e (Err x) a cause whole none is other = subst (HasText (MayAnswer f k) p) (sym none) tt
 
 -- the reply to a request, as the answer to its line
-pub reply_is : (f : FileView) (k : Corpus) (p : List ℕ) (r : Request) (a : Answer) → request_refusal p ≡ None → r ≡ request_of p → HasReply k r a → (is_some f.made ≡ true → came_of a ≢ came.Read) → HasText (MayAnswer f k) p a
+pub reply_is : (f : FileView) (k : Corpus) (p : List ℕ) (r : Request) (a : Answer) → request_refusal p ≡ None → r ≡ request_of p → HasReply k r a → (is_some f.made ≡ true → came_of_answer a ≢ came.Read) → HasText (MayAnswer f k) p a
 reply_is f k p r (answers.Text b) accepted is h unread = (reply_text (reply_of k r), h, inl (inl (sym (request_text k p r accepted is))), reply_apart (reply_of k r))
 reply_is f k p r answers.Memory accepted is h unread = tt
 reply_is f k p r answers.Read accepted is h unread = inr (none_there f.made (λ e. unread e refl), inr (accepted, refl))

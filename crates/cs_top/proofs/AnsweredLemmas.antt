@@ -15,7 +15,7 @@ use Rattle.cs_model.proofs.OutputLemmas.{one_each-push, answers-first, put_of-pu
 use Rattle.cs_top.specs.Answering.{Costs, worst}
 use Rattle.cs_top.specs.CommandLine.{Ending, done, usage, refused, damaged, absent, failed, no_memory, script_refused, changed}
 use Rattle.cs_top.specs.Met.{Wrote}
-use Rattle.cs_top.specs.Scripts.{ScriptEnds, ShortTally, Tally, StopsAt, Reaches, EndsAt}
+use Rattle.cs_top.specs.ScriptEndings.{ScriptEnds, ShortTally, Tally, StopsAt, Reaches, EndsAt}
 use Rattle.cs_top.specs.declared.lines.Place.{Place}
 use Rattle.cs_top.specs.declared.script.Came.{Came}
 use Rattle.cs_top.specs.declared.script.Came.TheVariants.{Answered}

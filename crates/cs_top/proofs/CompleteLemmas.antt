@@ -12,11 +12,11 @@ use Rattle.cs_top.specs.ScriptRuns.{AskStops, AskTold, CanAsk, CanReplay, Replay
 use Rattle.cs_top.specs.Build.{BuildStops, BuildTold, BuildWrites, CanBuild}
 use Rattle.cs_top.specs.CommandLine.{Command, build, ask, replay, serve, trial, Ending, done, usage, refused, damaged, absent, failed, no_memory, script_refused, changed, status, Caused, CausedBy}
 use Rattle.cs_top.specs.Met.{Listened, Met, Wrote, held_bytes}
-use Rattle.cs_top.specs.Runs.{Completes, Ran}
-use Rattle.cs_top.specs.Scripts.{ScriptEnds, IsReadable}
+use Rattle.cs_top.specs.CommandRuns.{Completes, Ran}
+use Rattle.cs_top.specs.ScriptEndings.{ScriptEnds, IsReadable}
 use Rattle.cs_top.specs.Serve.{CanServe, ServeCaused, ServeEnds, ServeStops, ServeTold}
 use Rattle.cs_top.specs.Trial.{TrialEnds}
-use Rattle.cs_top.proofs.ServeLemmas.{served_all}
+use Rattle.cs_top.proofs.ServeEndings.{served_all}
 
 missing : (f : Option File) → IsHeld f → f ≡ None → ⊥
 missing None held none = held

@@ -2,13 +2,13 @@ pub mod AnswerLemmas
 pub mod AnsweredLemmas
 pub mod BuildLemmas
 pub mod CompleteLemmas
-pub mod Examples
+pub mod CommandLineExamples
 pub mod LineTexts
 pub mod MemoryText
 pub mod SaysLemmas
 pub mod ScriptLemmas
-pub mod ServeLemmas
+pub mod ServeEndings
 pub mod TallyLemmas
-pub mod StepLemmas
+pub mod LinesAtPlaces
 pub mod TrialLemmas
 pub mod WindowLemmas

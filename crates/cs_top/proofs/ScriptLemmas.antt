@@ -21,7 +21,7 @@ use Rattle.cs_top.specs.Answering.{AnswersOver, FileView, IsReplayed, IsThere, M
 use Rattle.cs_top.specs.CommandLine.{Ending, done, usage, refused, damaged, absent, failed, no_memory, script_refused, changed}
 use Rattle.cs_top.specs.Met.{Wrote, held_bytes}
 use Rattle.cs_top.specs.ScriptRuns.{ReplayScript}
-use Rattle.cs_top.specs.Scripts.{ScriptEnds, ShortTally, Tally}
+use Rattle.cs_top.specs.ScriptEndings.{ScriptEnds, ShortTally, Tally}
 use Rattle.cs_top.specs.Views.{of_script, stop_ending}
 use Rattle.cs_top.specs.declared.lines.ScriptStop.{ScriptStop}
 use Rattle.cs_top.specs.declared.lines.ScriptStop.TheVariants as scripts

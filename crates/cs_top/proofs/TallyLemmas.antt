@@ -13,7 +13,7 @@ use Rattle.cs_model.proofs.OutputLemmas.{failed_reads-push}
 use Rattle.cs_top.specs.Answering.{CameCounts, Costs, worst}
 use Rattle.cs_top.specs.CommandLine.{failed, script_refused}
 use Rattle.cs_top.specs.Met.{Wrote}
-use Rattle.cs_top.specs.Scripts.{ShortTally, Tally}
+use Rattle.cs_top.specs.ScriptEndings.{ShortTally, Tally}
 use Rattle.cs_top.specs.declared.script.Came.{Came}
 use Rattle.cs_top.specs.declared.script.Came.TheVariants.{Answered, Read, Changed}
 

@@ -13,7 +13,7 @@ use Rattle.cs_base.specs.declared.content.limits.TheConstants.{MAX_SCRIPT_LINE_B
 use Rattle.cs_base.specs.outside.Outside.{File, size_of, bytes_of}
 use Rattle.cs_docs.specs.Lines.{Shows}
 use Rattle.cs_docs.proofs.LinesLemmas.{line_at, last_line}
-use Rattle.cs_top.specs.Scripts.{IsFirstLine}
+use Rattle.cs_top.specs.ScriptEndings.{IsFirstLine}
 
 stripped : (l : List ℕ) (t : Bool) → length l ≤ length (cond t (take (length l - 1) l) l) + 1
 stripped l true = grind (arith, common_steps)

@@ -4,6 +4,7 @@
 --   bytes_there f held         the bytes that it tells; None where the files don't tell
 --   IsThere i f held           a file that fits the index
 --   AnswersOver e f held k     k is the corpus of an index file that stands for the engine's index, and what the engine keeps is good
+--   StaysOver e e' f f' h h'    what a corpus is answered over is so still, with the same index, file and files
 --   IsReplayed k l t           t may be put for the line over an index file: its text, the memory text, or in a reply's place that of a
 --                              failed read
 --   MayAnswer f k              what may be put for a line over this file
@@ -11,7 +12,7 @@
 --   worst a b                  what came of some lines and of more
 --   CameCounts came before now     a count of failures rose where a failed read came, and else stayed
 --   Costs came before now t    a count rose where the text is that of a failed read, and that is said to have come
---   came_of a                  what comes of a line by what is put for it
+--   came_of_answer a                  what comes of a line by what is put for it
 --   line_bytes a               what is put for it, with its line ending
 --   HasText A l a              what is put for a line has a text by A; no change is put
 --   HasReply k r a             what is put for a request has the text of its reply, or of a failed read
@@ -27,7 +28,7 @@ use Rattle.cs_model.specs.Parameters.{request_refusal}
 use Rattle.cs_model.specs.Replies.{reply_text}
 use Rattle.cs_model.specs.Requests.{Request, reply_of}
 use Rattle.cs_model_index.specs.Sections.{file_corpus}
-use Rattle.cs_top.specs.Met.{HasSize}
+use Rattle.cs_top.specs.Met.{HasToldSize}
 use Rattle.cs_top.specs.declared.script.Came.{Came}
 use Rattle.cs_top.specs.declared.script.Came.TheVariants.{Answered, Read, Changed}
 use Rattle.cs_top.specs.declared.script.answers.Answer.{Answer}
@@ -45,13 +46,20 @@ bytes_there f held = option_or f.made (file_bytes held f.name)
 
 -- a file that is held has this size, and the bytes fit the index
 pub record IsThere (i : IndexView) (f : FileView) (held : Option Held) : Type 0 where
-  pub sized : f.made ≡ None → HasSize held f.name f.size
+  pub sized : f.made ≡ None → HasToldSize held f.name f.size
   pub fits : HasAllBlocks (bytes_there f held) i
 
 -- the bytes are told, they stand for the index, what is kept of answers is good over them, and this is their corpus; of files that
 -- don't tell there is no such corpus
 abbrev pub AnswersOver : EngineView → FileView → Option Held → Corpus → Type 0
 AnswersOver e f held k = (b : List ℕ) × (bytes_there f held ≡ Some b) × StandsFor b e.index × AreGood b e × (k ≡ file_corpus b)
+
+-- where it answered over a corpus it still does; the index, the file and what is held are the same in any case
+pub record StaysOver (e e' : EngineView) (f f' : FileView) (held held' : Option Held) : Type 0 where
+  pub stays : (k : Corpus) → AnswersOver e f held k → AnswersOver e' f' held' k
+  pub engine : e'.index ≡ e.index
+  pub file : f' ≡ f
+  pub files : held' ≡ held
 
 -- an answer to the line, or in the place of a reply the text of a failed read; a refused line has its own text
 abbrev pub IsReplayed : Corpus → MayPut
@@ -82,11 +90,11 @@ pub record Costs (came : Came) (before now : ℕ) (t : List ℕ) : Type 0 where
   pub unchanged : came ≢ Changed
 
 -- by what is put for it
-abbrev pub came_of : Answer → Came
-came_of (answers.Text b) = Answered
-came_of answers.Memory = Answered
-came_of answers.Read = Read
-came_of (answers.Changed b) = Changed
+abbrev pub came_of_answer : Answer → Came
+came_of_answer (answers.Text b) = Answered
+came_of_answer answers.Memory = Answered
+came_of_answer answers.Read = Read
+came_of_answer (answers.Changed b) = Changed
 
 -- where there is no memory for a text, that of want of memory
 abbrev pub line_bytes : Answer → List ℕ

@@ -1,10 +1,11 @@
 pub mod Answering
 pub mod Build
 pub mod CommandLine
+pub mod CommandRuns
+pub mod Filed
 pub mod Met
-pub mod Runs
+pub mod ScriptEndings
 pub mod ScriptRuns
-pub mod Scripts
 pub mod Serve
 pub mod Trial
 pub mod Views

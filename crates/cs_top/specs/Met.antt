@@ -7,7 +7,7 @@
 --   LeavesAll m            files, out and hub are as they were
 --   held_bytes h name      what a file holds; no bytes where it isn't held
 --   OfBytes held name P    over files that tell, P holds of what the file holds
---   HasSize held name n    over files that tell, the file is held and has n bytes
+--   HasToldSize held name n    over files that tell, the file is held and has n bytes
 use Rattle.std.specs.Prelude.{◌≡◌, ℕ, List, Option, Some}
 use Rattle.std.specs.Option.{ForSome}
 use Rattle.std.specs.FinMap as map
@@ -90,5 +90,5 @@ abbrev pub OfBytes : Option Held → List ℕ → (List ℕ → Type 0) → Type
 OfBytes held name P = ForSome held (λ h. P (held_bytes h name))
 
 -- the file is held and has n bytes, maybe none; nothing is said over files that don't tell
-abbrev pub HasSize : Option Held → List ℕ → ℕ → Type 0
-HasSize held name n = ForSome held (λ h. size_of (map.get h name) ≡ Some n)
+abbrev pub HasToldSize : Option Held → List ℕ → ℕ → Type 0
+HasToldSize held name n = ForSome held (λ h. size_of (map.get h name) ≡ Some n)

@@ -25,7 +25,7 @@ use Rattle.cs_model.specs.Corpus.{corpus, refusal, Corpus}
 use Rattle.cs_model.specs.Outputs.{IsAnswer, script_lines, PutAll, failed_reads, readable_lines}
 use Rattle.cs_top.specs.CommandLine.{Ending, usage, refused, absent, damaged, changed, failed, no_memory, Caused, done, script_refused}
 use Rattle.cs_top.specs.Met.{Met, Wrote, held_bytes}
-use Rattle.cs_top.specs.Scripts.{ScriptEnds, IsReadable}
+use Rattle.cs_top.specs.ScriptEndings.{ScriptEnds, IsReadable}
 use Rattle.cs_base.specs.outside.Causes.{Rose}
 use Rattle.cs_hub.specs.Streams.{RoseBy}
 use Rattle.cs_model_index.specs.BlockRules.{broken_at}

@@ -27,9 +27,9 @@ use Rattle.std.specs.FinSet as set
 use Rattle.cs_base.specs.outside.Causes.{Rose}
 use Rattle.cs_base.specs.outside.Hub.{Listening, Talk, listens, sent_on, silent}
 use Rattle.cs_base.specs.outside.Outside.{Grew, GrewByPrefix, Held, IsHeld}
-use Rattle.cs_hub.specs.Following.{AreServed}
+use Rattle.cs_hub.specs.HubFollowing.{AreServed}
 use Rattle.cs_hub.specs.Speaking.{AreUnbroken}
-use Rattle.cs_hub.specs.Streams.{bytes_on}
+use Rattle.cs_hub.specs.Streams.{bytes_that_came}
 use Rattle.cs_model.specs.Corpus.{Corpus}
 use Rattle.cs_model.specs.Parameters.{number_of}
 use Rattle.cs_model_index.specs.BlockRules.{broken_at}
@@ -129,11 +129,11 @@ IsExact k b s =
 
 -- so it is on each opened connection on which no send failed
 abbrev pub AreExact : Corpus → Listening → Talk → Type 0
-AreExact k s t = (c : ℕ) → c < s.opened → set.contains t.broken c ≡ false → IsExact k (bytes_on c t.came) (sent_on t c)
+AreExact k s t = (c : ℕ) → c < s.opened → set.contains t.broken c ≡ false → IsExact k (bytes_that_came c t.came) (sent_on t c)
 
 -- so it is on each opened connection, by the corpus of the index file; nothing is said over a hub that doesn't tell its talk
 abbrev pub ServesAll : Held → List ℕ → Listened → Type 0
-ServesAll h i net = ForSome net.talk_now (λ t. (c : ℕ) → c < net.state_now.opened → IsExact (file_corpus (held_bytes h i)) (bytes_on c t.came) (sent_on t c))
+ServesAll h i net = ForSome net.talk_now (λ t. (c : ℕ) → c < net.state_now.opened → IsExact (file_corpus (held_bytes h i)) (bytes_that_came c t.came) (sent_on t c))
 
 -- how it ended: a refusal by its cause; done, and where it failed while it served, each connection stands right
 abbrev pub ServeTold : Ending → Held → List ℕ → List ℕ → List ℕ → ℕ → ℕ → Wrote → Listened → Type 0

@@ -1,14 +1,11 @@
 //! `ask COLLECTION SCRIPT`: a script that is answered over a collection, with its index file in memory.
 ghost use Rattle.std.specs.Prelude.{◌≡◌, IfOk, IfErr, OnOk};
 ghost use Rattle.std.specs.Option.{ForSome};
-ghost use Rattle.cs_file.specs.Writable.{CanBeWritten};
 ghost use Rattle.cs_model.specs.Corpus.{corpus};
-ghost use Rattle.cs_model_index.specs.FileRules.{IsIndexFile};
-ghost use Rattle.cs_model_index.specs.Layout.{file};
-ghost use Rattle.cs_model_index.specs.Sections.{file_corpus};
 ghost use Rattle.cs_top.specs.ScriptRuns.{AskEnds, AskStops, AskTold, IsReady};
 ghost use Rattle.cs_top.specs.CommandLine.{Caused, CausedBy};
-ghost use Rattle.cs_top.specs.Met.{HasSize, OfBytes, Wrote, wrote};
+ghost use Rattle.cs_top.specs.Filed.{HasFile, IsFiled};
+ghost use Rattle.cs_top.specs.Met.{HasToldSize, OfBytes, Wrote, wrote};
 ghost use Rattle.cs_top.specs.Views.{ended, stop_ending};
 
 use crate::answering::IndexFile;
@@ -53,10 +50,9 @@ fn prepare<'a, F: Files>(
     files: &mut F,
 ) -> Result<(Image, u64), RunStop<'a>>
     ensures ready { ForSome (F.held files.old) (λ h. OnOk result (IsReady h collection.now script.now)) }
-    ensures corpus { OfBytes (F.held files.old) collection.now (λ b. IfOk result (λ p. file_corpus (file p.0) ≡ corpus b)) }
-    ensures writable { IfOk result (λ p. CanBeWritten p.0) }
-    ensures whole { IfOk result (λ p. IsIndexFile (file p.0)) }
-    ensures size { IfOk result (λ p. HasSize (F.held files.old) script.now p.1) }
+    ensures ok { OfBytes (F.held files.old) collection.now (λ b. IfOk result (λ p. IsFiled (corpus b) p.0)) }
+    ensures file { IfOk result (λ p. HasFile p.0) }
+    ensures size { IfOk result (λ p. HasToldSize (F.held files.old) script.now p.1) }
     ensures stops { ForSome (F.held files.old) (λ h. IfErr result (λ s. AskStops (stop_ending s) h collection.now script.now)) }
     ensures ends { IfErr result (λ s. (w : Wrote) → w.new ≡ w.old → AskEnds (stop_ending s) collection.now script.now w) }
     ensures quiet { OnOk result (F.faults files.new ≡ F.faults files.old) }

@@ -2,16 +2,11 @@
 ghost use Rattle.std.specs.Prelude.{◌≡◌, None, IfOk, IfErr, OnOk};
 ghost use Rattle.std.specs.Option.{option_map};
 ghost use Rattle.cs_docs.specs.Refusals.{reason_text};
-ghost use Rattle.cs_file.specs.Writable.{CanBeWritten};
-ghost use Rattle.cs_model_index.specs.FileRules.{IsIndexFile};
-ghost use Rattle.cs_model_index.specs.Images.{IsImage};
-ghost use Rattle.cs_model_index.specs.Layout.{file};
-ghost use Rattle.cs_model_index.specs.Sections.{file_corpus};
-ghost use Rattle.cs_model_index.specs.declared.limits.TheConstants.{TARGET as BLOCK_ROWS};
 ghost use Rattle.cs_model.specs.Collection.{refusal_words};
 ghost use Rattle.cs_model.specs.Corpus.{corpus, refusal};
 ghost use Rattle.cs_top.specs.CommandLine.{CausedBy};
-ghost use Rattle.cs_top.specs.Met.{HasSize, OfBytes};
+ghost use Rattle.cs_top.specs.Filed.{HasFile, IsFiled};
+ghost use Rattle.cs_top.specs.Met.{HasToldSize, OfBytes};
 ghost use Rattle.cs_top.specs.Trial.{HasSizes};
 ghost use Rattle.cs_top.specs.Views.{IsCollectionCause, IsStopCause, IsOfCollection, collection_refusal_of, stop_ending};
 
@@ -66,14 +61,12 @@ pub(crate) fn read_image<'a, F: Files>(
     name: &str,
     size: u64,
 ) -> Result<Image, RunStop<'a>>
-    requires size { HasSize (F.held files.old) name.now size }
+    requires size { HasToldSize (F.held files.old) name.now size }
 
-    ensures ok { OfBytes (F.held files.old) name.now (λ b. IfOk result (IsImage (corpus b) BLOCK_ROWS)) }
+    ensures ok { OfBytes (F.held files.old) name.now (λ b. IfOk result (IsFiled (corpus b))) }
     ensures accepted { OfBytes (F.held files.old) name.now (λ b. OnOk result (refusal b ≡ None)) }
     ensures cause { OfBytes (F.held files.old) name.now (λ b. IfErr result (λ s. IsStopCause b s)) }
-    ensures writable { IfOk result CanBeWritten }
-    ensures whole { IfOk result (λ i. IsIndexFile (file i)) }
-    ensures corpus { OfBytes (F.held files.old) name.now (λ b. IfOk result (λ i. file_corpus (file i) ≡ corpus b)) }
+    ensures file { IfOk result HasFile }
     ensures kind { IfErr result IsOfCollection }
     ensures quiet { OnOk result (F.faults files.new ≡ F.faults files.old) }
     ensures caused { IfErr result (λ s. CausedBy (stop_ending s) (F.faults files.old) (F.faults files.new)) }
@@ -91,10 +84,9 @@ pub(crate) fn read_image<'a, F: Files>(
 
 /// The image of a collection that is accepted.
 pub(crate) fn image_of(alloc: Global, bytes: &[u8]) -> Result<Imaged, CollectionFault>
-    ensures ok { IfOk result (λ i. IsImage (corpus bytes.now) BLOCK_ROWS i.image) }
+    ensures ok { IfOk result (λ i. IsFiled (corpus bytes.now) i.image) }
     ensures accepted { OnOk result (refusal bytes.now ≡ None) }
-    ensures writable { IfOk result (λ i. CanBeWritten i.image) }
-    ensures whole { IfOk result (λ i. IsIndexFile (file i.image) × (file_corpus (file i.image) ≡ corpus bytes.now)) }
+    ensures file { IfOk result (λ i. HasFile i.image) }
     ensures sizes { IfOk result (λ i. HasSizes (corpus bytes.now) i.documents i.rows) }
 
     // Each fault but want of memory is the first refusal.

@@ -3,7 +3,7 @@ ghost use Rattle.std.specs.Prelude.{◌≡◌, map};
 ghost use Rattle.std.specs.String.{string_bytes};
 ghost use Rattle.cs_top.specs.CommandLine.{command_of, Ending, status, line_of, SaysLine};
 ghost use Rattle.cs_top.specs.Met.{met, wrote};
-ghost use Rattle.cs_top.specs.Runs.{Completes, Ran};
+ghost use Rattle.cs_top.specs.CommandRuns.{Completes, Ran};
 ghost use Rattle.cs_top.specs.Views.{ended};
 
 use crate::ask::ask;

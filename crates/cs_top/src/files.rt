@@ -3,7 +3,7 @@ ghost use Rattle.std.specs.Prelude.{◌≡◌, Some, IfOk, IfErr, OnOk};
 ghost use Rattle.std.specs.Option.{ForSome};
 ghost use Rattle.std.specs.FinMap as fin;
 ghost use Rattle.cs_top.specs.CommandLine.{CausedBy};
-ghost use Rattle.cs_top.specs.Met.{HasSize, OfBytes};
+ghost use Rattle.cs_top.specs.Met.{HasToldSize, OfBytes};
 ghost use Rattle.cs_top.specs.Views.{IsAbsence, IsDevice, IsMissing, stop_ending};
 
 use crate::ending::RunStop;
@@ -12,7 +12,7 @@ use std::alloc::Global;
 
 /// The size of a file that should be held.
 pub(crate) fn size_of<'a, F: Files>(files: &mut F, name: &'a str) -> Result<u64, RunStop<'a>>
-    ensures ok { IfOk result (λ n. HasSize (F.held files.old) name.now n) }
+    ensures ok { IfOk result (λ n. HasToldSize (F.held files.old) name.now n) }
     ensures missing { ForSome (F.held files.old) (λ h. IfErr result (λ s. IsMissing s (fin.get h name.now))) }
     ensures absence { IfErr result (λ s. IsAbsence s name.now) }
     ensures quiet { OnOk result (F.faults files.new ≡ F.faults files.old) }
@@ -33,7 +33,7 @@ pub(crate) fn read_all<'a, F: Files>(
     name: &str,
     size: u64,
 ) -> Result<Vec<u8>, RunStop<'a>>
-    requires { HasSize (F.held files.old) name.now size }
+    requires { HasToldSize (F.held files.old) name.now size }
 
     ensures ok { OfBytes (F.held files.old) name.now (λ bytes. IfOk result (λ b. b.items ≡ bytes)) }
     ensures same { F.held files.new ≡ F.held files.old }

@@ -1,6 +1,6 @@
 //! The commands of the program: all that it does, over the outside that it is handed.
 //!
-//! `run` is the one call. What it does stands in `specs/Runs.antt`, over the definitions of `cs_model`.
+//! `run` is the one call. What it does stands in `specs/CommandRuns.antt`, over the definitions of `cs_model`.
 #![tactic(auto)]
 
 mod answering;

@@ -5,8 +5,8 @@ ghost use Rattle.cs_base.specs.outside.Causes.{Counted};
 ghost use Rattle.cs_docs.specs.Refusals.{reason_text};
 ghost use Rattle.cs_model.specs.Collection.{without_mark};
 ghost use Rattle.cs_model.specs.Outputs.{fault_words, line_fault};
-ghost use Rattle.cs_top.specs.Met.{HasSize, OfBytes};
-ghost use Rattle.cs_top.specs.Scripts.{IsFirstLine};
+ghost use Rattle.cs_top.specs.Met.{HasToldSize, OfBytes};
+ghost use Rattle.cs_top.specs.ScriptEndings.{IsFirstLine};
 ghost use Rattle.cs_top.specs.Views.{fault_seen};
 
 use cs_base::{Failed, Files, MAX_SCRIPT_LINE_BYTES};
@@ -80,7 +80,7 @@ pub(crate) struct Place {
 
 /// The place of a file's first line: behind the mark EF BB BF, if it stands in front.
 pub(crate) fn first_place<F: Files>(files: &mut F, name: &str, size: u64) -> Result<u64, Failed>
-    requires size { HasSize (F.held files.old) name.now size }
+    requires size { HasToldSize (F.held files.old) name.now size }
 
     ensures mark { OfBytes (F.held files.old) name.now (λ b. IfOk result (λ at. without_mark b ≡ drop at b)) }
     ensures within { IfOk result (λ at. at ≤ size) }
@@ -104,7 +104,7 @@ pub(crate) fn read_line<F: Files>(
     at: u64,
     buffer: &mut [u8],
 ) -> Result<(usize, u64), Failed>
-    requires size { HasSize (F.held files.old) name.now size }
+    requires size { HasToldSize (F.held files.old) name.now size }
     requires within { at < size }
     requires room { length buffer.old ≡ WINDOW_BYTES }
 

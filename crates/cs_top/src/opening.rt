@@ -3,12 +3,11 @@ ghost use Rattle.std.specs.Prelude.{◌≡◌, ℕ, List, [], Some, IfErr, IfOk,
 ghost use Rattle.cs_base.specs.outside.Outside.{file_bytes};
 ghost use Rattle.cs_engine.specs.Keeping.{AreGood};
 ghost use Rattle.cs_file.specs.Indexes.{HasAllBlocks, StandsFor};
-ghost use Rattle.cs_file.specs.Writable.{CanBeWritten};
-ghost use Rattle.cs_model_index.specs.FileRules.{IsIndexFile};
 ghost use Rattle.cs_model_index.specs.Layout.{file};
 ghost use Rattle.cs_model_kept.specs.declared.limits.TheConstants.{MAX_ENTRIES};
 ghost use Rattle.cs_top.specs.CommandLine.{CausedBy};
-ghost use Rattle.cs_top.specs.Met.{HasSize, OfBytes};
+ghost use Rattle.cs_top.specs.Filed.{HasFile};
+ghost use Rattle.cs_top.specs.Met.{HasToldSize, OfBytes};
 ghost use Rattle.cs_top.specs.Views.{IsDamage, IsOfIndex, stop_ending};
 
 use crate::ending::RunStop;
@@ -25,7 +24,7 @@ pub(crate) fn open<'a, F: Files>(
     name: &str,
     size: u64,
 ) -> Result<Engine, RunStop<'a>>
-    requires size { HasSize (F.held files.old) name.now size }
+    requires size { HasToldSize (F.held files.old) name.now size }
 
     ensures ok { OfBytes (F.held files.old) name.now (λ b. IfOk result (λ e. StandsFor b e.index)) }
     ensures good { (b : List ℕ) → IfOk result (AreGood b) }
@@ -36,31 +35,9 @@ pub(crate) fn open<'a, F: Files>(
     ensures caused { IfErr result (λ s. CausedBy (stop_ending s) (F.faults files.old) (F.faults files.new)) }
     ensures files { F.held files.new ≡ F.held files.old }
 {
-    let index = open_file(alloc, files, name, size)?;
-    let engine = engine_of(alloc, index)?;
-    Ok(engine)
-}
-
-// The index of an index file of this size.
-fn open_file<'a, F: Files>(
-    alloc: Global,
-    files: &mut F,
-    name: &str,
-    size: u64,
-) -> Result<Index, RunStop<'a>>
-    requires size { HasSize (F.held files.old) name.now size }
-
-    ensures ok { OfBytes (F.held files.old) name.now (λ b. IfOk result (StandsFor b)) }
-    ensures damaged { OfBytes (F.held files.old) name.now (λ b. IfErr result (IsDamage b)) }
-    ensures fits { IfOk result (HasAllBlocks (file_bytes (F.held files.new) name.now)) }
-    ensures kind { IfErr result IsOfIndex }
-    ensures quiet { OnOk result (F.faults files.new ≡ F.faults files.old) }
-    ensures caused { IfErr result (λ s. CausedBy (stop_ending s) (F.faults files.old) (F.faults files.new)) }
-    ensures files { F.held files.new ≡ F.held files.old }
-{
     let mut store = FileStore::new(files, name, size);
     match open_index(alloc, &mut store) {
-        Ok(index) => Ok(index),
+        Ok(index) => Ok(engine_of(alloc, index)?),
         Err(OpenFault::Damaged { rule, at }) => Err(RunStop::Damaged { rule, at }),
         Err(OpenFault::Read) => Err(RunStop::Failed),
         Err(OpenFault::Memory) => Err(RunStop::Memory),
@@ -78,8 +55,7 @@ fn engine_of(alloc: Global, index: Index) -> Result<Engine, Memory>
 
 /// The engine over the index file of an image, with nothing kept, and that file.
 pub(crate) fn open_image(alloc: Global, image: Image) -> Result<(Engine, MemStore), Memory>
-    requires writable { CanBeWritten image }
-    requires whole { IsIndexFile (file image) }
+    requires { HasFile image }
 
     ensures bytes { IfOk result (λ p. p.1.bytes ≡ file image) }
     ensures stands { IfOk result (λ p. StandsFor (file image) p.0.index) }
@@ -94,8 +70,7 @@ pub(crate) fn open_image(alloc: Global, image: Image) -> Result<(Engine, MemStor
 
 // The index of the file of an image, and that file.
 fn open_bytes(alloc: Global, image: Image) -> Result<(Index, MemStore), Memory>
-    requires writable { CanBeWritten image }
-    requires whole { IsIndexFile (file image) }
+    requires { HasFile image }
 
     ensures bytes { IfOk result (λ p. p.1.bytes ≡ file image) }
     ensures stands { IfOk result (λ p. StandsFor (file image) p.0) }
@@ -112,9 +87,9 @@ fn open_bytes(alloc: Global, image: Image) -> Result<(Index, MemStore), Memory>
 
 // The bytes of the index file of an image.
 fn file_of(alloc: Global, image: Image) -> Result<Vec<u8>, Memory>
-    requires writable { CanBeWritten image }
+    requires { HasFile image }
 
-    ensures ok { IfOk result (λ b. b.items ≡ file image) }
+    ensures { IfOk result (λ b. b.items ≡ file image) }
 {
     let mut sink = MemSink::new(alloc);
     match write_index(alloc, &image, &mut sink) {

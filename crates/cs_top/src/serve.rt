@@ -8,11 +8,11 @@ ghost use Rattle.cs_base.specs.outside.Outside.{GrewByPrefix, file_bytes};
 ghost use Rattle.cs_base.specs.declared.content.limits.TheConstants.{MAX_PORT_DIGITS, MAX_PORT, MAX_CONNECTIONS_DIGITS, MAX_CONNECTIONS};
 ghost use Rattle.cs_engine.specs.Keeping.{AreGood};
 ghost use Rattle.cs_file.specs.Indexes.{HasAllBlocks, StandsFor};
-ghost use Rattle.cs_hub.specs.Following.{AreServed};
+ghost use Rattle.cs_hub.specs.HubFollowing.{AreServed};
 ghost use Rattle.cs_hub.specs.Speaking.{AreUnbroken};
 ghost use Rattle.cs_model_index.specs.Sections.{file_corpus};
 ghost use Rattle.cs_top.specs.CommandLine.{CausedBy, is_number};
-ghost use Rattle.cs_top.specs.Met.{HasSize, Listened, OfBytes, Wrote, listened, wrote};
+ghost use Rattle.cs_top.specs.Met.{HasToldSize, Listened, OfBytes, Wrote, listened, wrote};
 ghost use Rattle.cs_top.specs.Serve.{CanServe, HasToldPort, HasStopped, IsListening, IsUntouched, ServeCaused, ServeEnds, ServeTold, serving_line};
 ghost use Rattle.cs_top.specs.Views.{ended, stop_ending};
 
@@ -59,7 +59,7 @@ fn prepare<'a, F: Files>(
     files: &mut F,
     index: &'a str,
 ) -> Result<(Engine, u64), RunStop<'a>>
-    ensures size { IfOk result (λ p. HasSize (F.held files.old) index.now p.1) }
+    ensures size { IfOk result (λ p. HasToldSize (F.held files.old) index.now p.1) }
     ensures stands { OfBytes (F.held files.old) index.now (λ b. IfOk result (λ p. StandsFor b p.0.index)) }
     ensures good { (b : List ℕ) → IfOk result (λ p. AreGood b p.0) }
     ensures ready { ForSome (F.held files.old) (λ h. OnOk result (CanServe h index.now)) }
@@ -112,7 +112,7 @@ fn serve_file<F: Files, H: Hub>(
     hub: &mut H,
     conns: u32,
 ) -> ServeEnd
-    requires size { HasSize (F.held files.old) name.now size }
+    requires size { HasToldSize (F.held files.old) name.now size }
     requires fits { HasAllBlocks (file_bytes (F.held files.old) name.now) engine.old.index }
     requires listens { (port : ℕ) × (H.state hub.old ≡ listens port conns) }
     requires orderly { IsOrderly (H.state hub.old) (H.talk hub.old) }

@@ -3,16 +3,11 @@ ghost use Rattle.std.specs.Prelude.{◌≡◌, ◌≤◌, ◌+◌, ◌++◌, ◌
 ghost use Rattle.cs_base.specs.declared.content.query.Query.{Query};
 ghost use Rattle.cs_base.specs.declared.content.limits.TheConstants.{MAX_TRIAL, MAX_TRIAL_DIGITS};
 ghost use Rattle.cs_file.specs.Indexes.{HasAllBlocks, StandsFor};
-ghost use Rattle.cs_file.specs.Writable.{CanBeWritten};
 ghost use Rattle.cs_model.specs.Parameters.{HoldsLimits};
-ghost use Rattle.cs_model_index.specs.FileRules.{IsIndexFile};
-ghost use Rattle.cs_model_index.specs.Images.{IsImage};
-ghost use Rattle.cs_model_index.specs.Layout.{file};
-ghost use Rattle.cs_model_index.specs.Sections.{file_corpus};
-ghost use Rattle.cs_model_index.specs.declared.limits.TheConstants.{TARGET as BLOCK_ROWS};
 ghost use Rattle.cs_model_trial.specs.Summary.{IsSummary, trial_corpus};
 ghost use Rattle.cs_query.specs.RequestView.{asked};
 ghost use Rattle.cs_top.specs.CommandLine.{CausedBy, is_number};
+ghost use Rattle.cs_top.specs.Filed.{HasFile, IsFiled};
 ghost use Rattle.cs_top.specs.Met.{wrote};
 ghost use Rattle.cs_top.specs.Trial.{AreFew, HasAsked, HasSizes, TrialEnds, sizes_of, with_reply};
 ghost use Rattle.cs_top.specs.Views.{ended};
@@ -68,9 +63,8 @@ fn summary_of(alloc: Global, n: u32) -> Result<Vec<u8>, Memory>
 fn imaged(alloc: Global, n: u32) -> Result<Imaged, Memory>
     requires most { n ≤ MAX_TRIAL }
 
-    ensures ok { IfOk result (λ i. IsImage (trial_corpus n) BLOCK_ROWS i.image) }
-    ensures writable { IfOk result (λ i. CanBeWritten i.image) }
-    ensures whole { IfOk result (λ i. IsIndexFile (file i.image) × (file_corpus (file i.image) ≡ trial_corpus n)) }
+    ensures ok { IfOk result (λ i. IsFiled (trial_corpus n) i.image) }
+    ensures file { IfOk result (λ i. HasFile i.image) }
     ensures sizes { IfOk result (λ i. HasSizes (trial_corpus n) i.documents i.rows) }
 {
     let bytes = collection(alloc, n)?;

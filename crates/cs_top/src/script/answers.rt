@@ -9,11 +9,11 @@ ghost use Rattle.cs_model.specs.Parameters.{HoldsLimits};
 ghost use Rattle.cs_model.specs.Replies.{reply_text};
 ghost use Rattle.cs_query.specs.RequestView.{asked};
 ghost use Rattle.cs_query.specs.declared.request.ReqFault.{ReqFault};
-ghost use Rattle.cs_top.specs.Answering.{AnswersOver, CameCounts, HasReply, HasText, IsThere, MayAnswer, came_of, line_bytes};
+ghost use Rattle.cs_top.specs.Answering.{AnswersOver, CameCounts, HasReply, HasText, IsThere, MayAnswer, StaysOver, came_of_answer, line_bytes};
 ghost use Rattle.cs_top.specs.CommandLine.{CausedBy};
 ghost use Rattle.cs_top.specs.declared.script.answers.Answer.TheVariants as answers;
 ghost use Rattle.cs_top.specs.Met.{wrote};
-ghost use Rattle.cs_top.specs.Scripts.{Passes, StopsAt};
+ghost use Rattle.cs_top.specs.ScriptEndings.{Passes, StopsAt};
 ghost use Rattle.cs_top.specs.Views.{of_script, stop_ending};
 
 use crate::answering::{IndexFile, respond};
@@ -66,10 +66,7 @@ pub(crate) fn answer_line<F: Files, O: Sink>(
     ensures err { (k : Corpus) → AnswersOver engine.old file.old (F.held files.old) k → IfErr result (λ s. StopsAt (MayAnswer file.old k) (stop_ending (of_script s)) (number, line.now)
         (wrote O.written O.faults out.old out.new) (F.faults files.old) (F.faults files.new)) }
     ensures unchanged { (k : Corpus) → AnswersOver engine.old file.old (F.held files.old) k → IfOk result (λ came. came ≢ Came.Changed) }
-    ensures stays { (k : Corpus) → AnswersOver engine.old file.old (F.held files.old) k → AnswersOver engine.new file.new (F.held files.new) k }
-    ensures engine { engine.new.index ≡ engine.old.index }
-    ensures file { file.new ≡ file.old }
-    ensures files { F.held files.new ≡ F.held files.old }
+    ensures over { StaysOver engine.old engine.new file.old file.new (F.held files.old) (F.held files.new) }
     ensures counts { IfOk result (λ came. CameCounts came (F.faults files.old) (F.faults files.new)) }
     ensures later { F.faults files.old ≤ F.faults files.new }
     ensures unread { is_some file.old.made ≡ true → IfOk result (λ came. came ≢ Came.Read) }
@@ -90,7 +87,7 @@ pub(crate) fn answer_line<F: Files, O: Sink>(
 // Puts an answer, and says what came of the line.
 fn put_answer<O: Sink>(out: &mut O, answer: &Answer) -> Result<Came, ScriptStop>
     ensures ok { OnOk result (Grew (O.written out.old) (line_bytes answer.now) (O.written out.new)) }
-    ensures came { IfOk result (λ c. c ≡ came_of answer.now) }
+    ensures came { IfOk result (λ c. c ≡ came_of_answer answer.now) }
     ensures err { OnErr result (GrewByPrefix (O.written out.old) (line_bytes answer.now) (O.written out.new)) }
     ensures kind { IfErr result (λ s. s ≡ ScriptStop.Failed) }
     ensures quiet { OnOk result (O.faults out.new ≡ O.faults out.old) }
@@ -144,14 +141,11 @@ fn answer_params<F: Files>(
 ) -> Answer
     requires there { IsThere engine.old.index file.old (F.held files.old) }
 
-    ensures unchanged { (k : Corpus) → AnswersOver engine.old file.old (F.held files.old) k → came_of result ≢ Came.Changed }
+    ensures unchanged { (k : Corpus) → AnswersOver engine.old file.old (F.held files.old) k → came_of_answer result ≢ Came.Changed }
     ensures text { (k : Corpus) → AnswersOver engine.old file.old (F.held files.old) k → HasText (MayAnswer file.old k) line.now result }
-    ensures unread { is_some file.old.made ≡ true → came_of result ≢ Came.Read }
-    ensures stays { (k : Corpus) → AnswersOver engine.old file.old (F.held files.old) k → AnswersOver engine.new file.new (F.held files.new) k }
-    ensures engine { engine.new.index ≡ engine.old.index }
-    ensures file { file.new ≡ file.old }
-    ensures files { F.held files.new ≡ F.held files.old }
-    ensures counts { CameCounts (came_of result) (F.faults files.old) (F.faults files.new) }
+    ensures unread { is_some file.old.made ≡ true → came_of_answer result ≢ Came.Read }
+    ensures over { StaysOver engine.old engine.new file.old file.new (F.held files.old) (F.held files.new) }
+    ensures counts { CameCounts (came_of_answer result) (F.faults files.old) (F.faults files.new) }
 {
     match request(alloc, line) {
         Ok(wanted) => answer_request(alloc, engine, file, files, &wanted),
@@ -170,14 +164,11 @@ fn answer_request<F: Files>(
     requires limits { HoldsLimits (asked wanted.now) }
     requires there { IsThere engine.old.index file.old (F.held files.old) }
 
-    ensures unchanged { (k : Corpus) → AnswersOver engine.old file.old (F.held files.old) k → came_of result ≢ Came.Changed }
+    ensures unchanged { (k : Corpus) → AnswersOver engine.old file.old (F.held files.old) k → came_of_answer result ≢ Came.Changed }
     ensures text { (k : Corpus) → AnswersOver engine.old file.old (F.held files.old) k → HasReply k (asked wanted.now) result }
-    ensures unread { is_some file.old.made ≡ true → came_of result ≢ Came.Read }
-    ensures stays { (k : Corpus) → AnswersOver engine.old file.old (F.held files.old) k → AnswersOver engine.new file.new (F.held files.new) k }
-    ensures engine { engine.new.index ≡ engine.old.index }
-    ensures file { file.new ≡ file.old }
-    ensures files { F.held files.new ≡ F.held files.old }
-    ensures counts { CameCounts (came_of result) (F.faults files.old) (F.faults files.new) }
+    ensures unread { is_some file.old.made ≡ true → came_of_answer result ≢ Came.Read }
+    ensures over { StaysOver engine.old engine.new file.old file.new (F.held files.old) (F.held files.new) }
+    ensures counts { CameCounts (came_of_answer result) (F.faults files.old) (F.faults files.new) }
 {
     match respond(alloc, engine, file, files, wanted) {
         Ok((reply, _)) => text_or_memory(reply_line(alloc, &reply)),

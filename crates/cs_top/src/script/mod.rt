@@ -4,8 +4,8 @@ ghost use Rattle.cs_model.specs.Corpus.{Corpus};
 ghost use Rattle.cs_model.specs.Outputs.{script_lines};
 ghost use Rattle.cs_top.specs.Answering.{AnswersOver, CameCounts, IsThere, MayAnswer, worst};
 ghost use Rattle.cs_top.specs.CommandLine.{done};
-ghost use Rattle.cs_top.specs.Met.{HasSize, OfBytes, wrote};
-ghost use Rattle.cs_top.specs.Scripts.{ScriptCaused, ScriptEnds, ShortTally, Tally, Reaches, EndsAt};
+ghost use Rattle.cs_top.specs.Met.{HasToldSize, OfBytes, wrote};
+ghost use Rattle.cs_top.specs.ScriptEndings.{ScriptCaused, ScriptEnds, ShortTally, Tally, Reaches, EndsAt};
 ghost use Rattle.cs_top.specs.Views.{of_script, stop_ending};
 
 mod answers;
@@ -52,7 +52,7 @@ pub(crate) fn answer_script<F: Files, O: Sink>(
     size: u64,
     out: &mut O,
 ) -> Result<Came, ScriptStop>
-    requires size { HasSize (F.held files.old) script.now size }
+    requires size { HasToldSize (F.held files.old) script.now size }
     requires there { IsThere engine.old.index file.old (F.held files.old) }
 
     ensures whole { (k : Corpus) → AnswersOver engine.old file.old (F.held files.old) k → OfBytes (F.held files.old) script.now (λ b. IfOk result (λ came. (ts : List (List ℕ))
@@ -90,7 +90,7 @@ fn answer_next<F: Files, O: Sink>(
     place: Place,
     out: &mut O,
 ) -> Result<(Place, Came), ScriptStop>
-    requires size { HasSize (F.held files.old) script.now size }
+    requires size { HasToldSize (F.held files.old) script.now size }
     requires there { IsThere engine.old.index file.old (F.held files.old) }
     requires within { place.at < size }
     requires numbered { place.number ≤ place.at }

@@ -1,4 +1,4 @@
-use Rattle.cs_hub.proofs.HeadsLemmas.{heads-served}
+use Rattle.cs_hub.proofs.UnreadHeads.{heads-served}
 use Rattle.cs_hub.proofs.laws.heads_are_served.Goals as goal
 
 pub returns : goal.returns

@@ -1,7 +1,7 @@
 use Rattle.std.proofs.Common.{rules, ◌++◌, sym, ◌∙◌, subst, arith}
 use Rattle.cs_base.specs.outside.Hub.{IsLive}
 use Rattle.cs_hub.specs.Turns.{Along}
-use Rattle.cs_hub.proofs.LineLemmas.{along_start, along_next, along_hold, along_stop, calm_still, calm_on}
+use Rattle.cs_hub.proofs.PieceTurns.{along_start, along_next, along_hold, along_stop, calm_still, calm_on}
 use Rattle.std.proofs.Common.{drop}
 use Rattle.std.specs.Prelude.{true}
 use Rattle.cs_hub.proofs.AskedLemmas.{along_start as asked_start, along_next as asked_next, along_hold as asked_hold, along_stop as asked_stop}

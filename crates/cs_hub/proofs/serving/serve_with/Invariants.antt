@@ -2,7 +2,7 @@ use Rattle.std.proofs.Common.{◌≡◌, ◌≤◌, ◌+◌, ◌*◌, false}
 use Rattle.cs_base.specs.declared.content.limits.TheConstants.{MAX_CONNECTION_BYTES}
 use Rattle.cs_base.specs.outside.Hub.{IsOrderly}
 use Rattle.cs_model.specs.Corpus.{Corpus}
-use Rattle.cs_hub.specs.Following.{HasLive}
+use Rattle.cs_hub.specs.HubFollowing.{HasLive}
 use Rattle.cs_hub.specs.Rounds.{still, came_by}
 use Rattle.cs_hub.specs.Speaking.{BreaksBy}
 use Rattle.cs_hub.proofs.RoundLemmas.{ServedBy}

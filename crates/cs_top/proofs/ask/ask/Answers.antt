@@ -1,17 +1,52 @@
-use Rattle.std.proofs.Common.{◌≢◌, ◌∙◌, ℕ, List, inr, refl, sym, subst}
-use Rattle.cs_model.specs.Corpus.{corpus}
+use Rattle.std.proofs.Common.{◌≡◌, ◌≢◌, ◌∙◌, ℕ, List, inr, refl, sym, subst}
+use Rattle.std.specs.Prelude.{Some}
+use Rattle.cs_base.specs.outside.Outside.{Held}
+use Rattle.cs_model.specs.Corpus.{Corpus, corpus}
 use Rattle.cs_model.specs.Outputs.{IsAnswer, script_lines}
 use Rattle.cs_model_index.specs.Layout.{file}
-use Rattle.cs_top.specs.Answering.{MayAnswer}
+use Rattle.cs_top.specs.Answering.{AnswersOver, MayAnswer}
 use Rattle.cs_top.specs.ScriptRuns.{AskTold}
-use Rattle.cs_top.specs.CommandLine.{done}
-use Rattle.cs_top.specs.Met.{held_bytes, wrote}
+use Rattle.cs_top.specs.CommandLine.{Ending, done}
+use Rattle.cs_top.specs.Met.{Wrote, held_bytes, wrote}
 use Rattle.cs_top.specs.Views.{of_script, stop_ending}
 use Rattle.cs_model_index.specs.Sections.{file_corpus}
-use Rattle.cs_top.specs.Scripts.{ScriptEnds, ShortTally, Tally}
+use Rattle.cs_top.specs.ScriptEndings.{ScriptEnds, ShortTally, Tally}
 use Rattle.cs_top.specs.declared.script.Came.TheVariants.{Answered, Read, Changed}
 use Rattle.cs_top.proofs.ScriptLemmas.{ends_by, err_there, made_only, ok_there, over_made, some_made, there_made}
+use Rattle.cs_top.proofs.ask.ask.Given as given
 use Rattle.cs_top.proofs.ask.ask.Goals as goal
+use Rattle.cs_top.proofs.ask.ask.Goals.{After-answer_script}
+
+-- over files that hold h: the corpus of the collection, and what was put
+abbrev k : (g : given.Over) → After-answer_script g → Held → Corpus
+k g c h = corpus (held_bytes h c.args.collection.now)
+
+abbrev w : (g : given.Over) → After-answer_script g → Wrote
+w g c = wrote g.O.Sink.written g.O.Sink.faults c.args.out.now c.answer_script.new.out
+
+-- the engine answers over the collection
+over : (g : given.Over) (c : After-answer_script g) (h : Held) → g.F.Files.held c.args.files.now ≡ Some h
+    → AnswersOver c.in_ok-engine.engine c.made-file.result (g.F.Files.held c.prepare.new.files) (k g c h)
+over g c h held =
+    over_made c.in_ok-engine.engine c.made-file.result (g.F.Files.held c.prepare.new.files) (file c.in_ok-image.image)
+    c.in_ok-engine.store.bytes (k g c h) c.made-file.ensures c.in_ok-engine.ensures.bytes c.in_ok-engine.ensures.stands
+    (c.in_ok-engine.ensures.good (file c.in_ok-image.image))
+    (sym (c.in_ok-image.ensures.ok h held).corpus)
+
+-- how the script ended is how the run ended: over an index file in memory each text is an answer
+told : (g : given.Over) (c : After-answer_script g) (h : Held) → g.F.Files.held c.args.files.now ≡ Some h → (e : Ending) (ts : List (List ℕ))
+    → ScriptEnds (MayAnswer c.made-file.result (k g c h)) e (script_lines (held_bytes h c.args.script.now)) ts (w g c) → AskTold e h c.args.collection.now c.args.script.now (w g c)
+told g c h held e ts script =
+    let some = some_made c.in_ok-engine.engine.index c.made-file.result (g.F.Files.held c.prepare.new.files)
+    c.in_ok-engine.store.bytes c.made-file.ensures in
+    inr (
+      c.in_ok-image.ensures.ready h held,
+      (
+        ts,
+        ends_by (MayAnswer c.made-file.result (k g c h)) (IsAnswer (k g c h))
+            (made_only c.made-file.result (k g c h) some) e (script_lines (held_bytes h c.args.script.now)) ts (w g c) script,
+      ),
+    )
 
 pub answer_script-requires-clause-there : goal.answer_script-requires-clause-there
 answer_script-requires-clause-there g c =
@@ -30,33 +65,23 @@ unreachable-requires-in-Ok-Changed g c =
 
 pub returns-in-Ok-Answered-clause-told : goal.returns-in-Ok-Answered-clause-told
 returns-in-Ok-Answered-clause-told g c h held =
-    let k = corpus (held_bytes h c.args.collection.now) in
-    let f = c.made-file.result in
-    let w = wrote g.O.Sink.written g.O.Sink.faults c.args.out.now c.answer_script.new.out in
-    let ls = script_lines (held_bytes h c.args.script.now) in
+    let met = (goal.at.returns-in-Ok-Answered-clause-told g c).After-answer_script in
     let fb = g.F.Files.faults c.prepare.new.files in
     let fn = g.F.Files.faults c.answer_script.new.files in
-    let over = over_made c.in_ok-engine.engine f (g.F.Files.held c.prepare.new.files) (file c.in_ok-image.image) c.in_ok-engine.store.bytes k c.made-file.ensures c.in_ok-engine.ensures.bytes c.in_ok-engine.ensures.stands (c.in_ok-engine.ensures.good (file c.in_ok-image.image))
-    (sym (c.in_ok-image.ensures.corpus h held)) in
-    let some = some_made c.in_ok-engine.engine.index f (g.F.Files.held c.prepare.new.files) c.in_ok-engine.store.bytes c.made-file.ensures in
-    let whole = ok_there c.answer_script.result c.in-Ok-Answered.field-0 Answered (λ came. (ts : List (List ℕ)) × ScriptEnds (MayAnswer f k) done ls ts w × Tally came fb fn ts) c.in-Ok-Answered.is c.in-Ok-Answered.field-0-is
-    (c.answer_script.ensures.whole k over h (c.in_ok-image.ensures.files ∙ held)) in
-    inr (c.in_ok-image.ensures.ready h held, (whole.0, ends_by (MayAnswer f k) (IsAnswer k) (made_only f k some) done ls whole.0 w whole.1))
+    let whole = ok_there c.answer_script.result c.in-Ok-Answered.field-0 Answered (λ came. (ts : List (List ℕ))
+    × ScriptEnds (MayAnswer c.made-file.result (k g met h)) done (script_lines (held_bytes h c.args.script.now)) ts (w g met)
+    × Tally came fb fn ts) c.in-Ok-Answered.is c.in-Ok-Answered.field-0-is
+    (c.answer_script.ensures.whole (k g met h) (over g met h held) h (c.in_ok-image.ensures.files ∙ held)) in
+    told g met h held done whole.0 whole.1
 
 pub returns-clause-told : goal.returns-clause-told
 returns-clause-told g c h held =
-    let k = corpus (held_bytes h c.args.collection.now) in
-    let f = c.made-file.result in
-    let e = stop_ending (of_script c.in-Err.stop) in
-    let w = wrote g.O.Sink.written g.O.Sink.faults c.args.out.now c.answer_script.new.out in
-    let ls = script_lines (held_bytes h c.args.script.now) in
+    let met = (goal.at.returns-clause-told g c).After-answer_script in
     let fb = g.F.Files.faults c.prepare.new.files in
     let fn = g.F.Files.faults c.answer_script.new.files in
-    let over = over_made c.in_ok-engine.engine f (g.F.Files.held c.prepare.new.files) (file c.in_ok-image.image) c.in_ok-engine.store.bytes k c.made-file.ensures c.in_ok-engine.ensures.bytes c.in_ok-engine.ensures.stands (c.in_ok-engine.ensures.good (file c.in_ok-image.image))
-    (sym (c.in_ok-image.ensures.corpus h held)) in
-    let some = some_made c.in_ok-engine.engine.index f (g.F.Files.held c.prepare.new.files) c.in_ok-engine.store.bytes c.made-file.ensures in
-    let short = err_there c.answer_script.result c.in-Err.stop (λ s. (ts : List (List ℕ)) × ScriptEnds (MayAnswer f k) (stop_ending (of_script s)) ls ts w × ShortTally (stop_ending (of_script s)) w fb fn ts) c.in-Err.is
-    (c.answer_script.ensures.short k over h (c.in_ok-image.ensures.files ∙ held)) in
-    let all : AskTold e h c.args.collection.now c.args.script.now w =
-    inr (c.in_ok-image.ensures.ready h held, (short.0, ends_by (MayAnswer f k) (IsAnswer k) (made_only f k some) e ls short.0 w short.1)) in
-    subst (λ x. AskTold (stop_ending x) h c.args.collection.now c.args.script.now w) (sym c.from.ensures) all
+    let short = err_there c.answer_script.result c.in-Err.stop (λ s. (ts : List (List ℕ))
+    × ScriptEnds (MayAnswer c.made-file.result (k g met h)) (stop_ending (of_script s)) (script_lines (held_bytes h c.args.script.now)) ts (w g met)
+    × ShortTally (stop_ending (of_script s)) (w g met) fb fn ts) c.in-Err.is
+    (c.answer_script.ensures.short (k g met h) (over g met h held) h (c.in_ok-image.ensures.files ∙ held)) in
+    let all = told g met h held (stop_ending (of_script c.in-Err.stop)) short.0 short.1 in
+    subst (λ x. AskTold (stop_ending x) h c.args.collection.now c.args.script.now (w g met)) (sym c.from.ensures) all

@@ -1,9 +1,9 @@
 use Rattle.std.proofs.Common.{◌+◌, refl, rules, subst}
 use Rattle.cs_top.specs.Answering.{MayAnswer}
 use Rattle.cs_top.specs.Met.{held_bytes, wrote}
-use Rattle.cs_top.specs.Scripts.{EndsAt, Reaches}
+use Rattle.cs_top.specs.ScriptEndings.{EndsAt, Reaches}
 use Rattle.cs_top.specs.Views.{of_script, stop_ending}
-use Rattle.cs_top.proofs.StepLemmas.{ends_at, over_at, reaches_by}
+use Rattle.cs_top.proofs.LinesAtPlaces.{ends_at, over_at, reaches_by}
 use Rattle.cs_top.proofs.script.answer_next.Goals as goal
 
 pub returns-in_err-came-clause-err : goal.returns-in_err-came-clause-err
@@ -32,4 +32,4 @@ pub returns-clause-unchanged : goal.returns-clause-unchanged
 returns-clause-unchanged g c k over = c.in_ok-came.ensures.unchanged k (over_at c.args.engine.now c.args.file.now _ _ k c.in_ok-len.ensures.same over)
 
 pub returns-clause-stays : goal.returns-clause-stays
-returns-clause-stays g c k over = c.in_ok-came.ensures.stays k (over_at c.args.engine.now c.args.file.now _ _ k c.in_ok-len.ensures.same over)
+returns-clause-stays g c k over = c.in_ok-came.ensures.over.stays k (over_at c.args.engine.now c.args.file.now _ _ k c.in_ok-len.ensures.same over)

@@ -8,12 +8,12 @@ use Rattle.cs_model.specs.Words.{is_filled}
 use Rattle.cs_top.specs.Answering.{CameCounts, MayAnswer}
 use Rattle.cs_top.specs.CommandLine.{failed}
 use Rattle.cs_top.specs.Met.{held_bytes, wrote}
-use Rattle.cs_top.specs.Scripts.{ScriptEnds, ShortTally, EndsAt, Reaches}
+use Rattle.cs_top.specs.ScriptEndings.{ScriptEnds, ShortTally, EndsAt, Reaches}
 use Rattle.cs_top.specs.declared.script.Came.TheVariants.{Read, Changed}
 use Rattle.cs_top.specs.Views.{of_script, stop_ending}
 use Rattle.cs_top.proofs.AnsweredLemmas.{HasAnswered, at_start, lines_at, unread, goes_on, ends_here, ends_done}
 use Rattle.cs_top.proofs.TallyLemmas.{counts_more, not_changed, not_read}
-use Rattle.cs_top.proofs.StepLemmas.{over_at}
+use Rattle.cs_top.proofs.LinesAtPlaces.{over_at}
 use Rattle.cs_top.proofs.WindowLemmas.{held_size}
 use Rattle.cs_top.proofs.script.answer_script.Goals as goal
 

@@ -1,9 +1,9 @@
 use Rattle.std.proofs.Common.{◌∙◌, ap, inr, refl, subst}
 use Rattle.cs_base.specs.outside.Causes.{Rose}
-use Rattle.cs_hub.specs.Following.{AreServed}
+use Rattle.cs_hub.specs.HubFollowing.{AreServed}
 use Rattle.cs_model_index.specs.Sections.{file_corpus}
 use Rattle.cs_top.specs.Met.{held_bytes, listened, wrote}
-use Rattle.cs_top.proofs.ServeLemmas.{serving_by}
+use Rattle.cs_top.proofs.ServeEndings.{serving_by}
 use Rattle.cs_top.proofs.serve.serve.Goals as goal
 
 pub returns-in-Done-clause-told : goal.returns-in-Done-clause-told

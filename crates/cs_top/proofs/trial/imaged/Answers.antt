@@ -1,22 +1,13 @@
-use Rattle.std.proofs.Common.{◌≡◌, ◌∙◌, subst}
+use Rattle.std.proofs.Common.{◌∙◌, subst}
 use Rattle.cs_model.specs.Corpus.{corpus}
-use Rattle.cs_model_index.specs.FileRules.{IsIndexFile}
-use Rattle.cs_model_index.specs.Images.{IsImage}
-use Rattle.cs_model_index.specs.Layout.{file}
-use Rattle.cs_model_index.specs.Sections.{file_corpus}
-use Rattle.cs_model_index.specs.declared.limits.TheConstants.{TARGET}
 use Rattle.cs_model_trial.specs.Summary.{trial_corpus}
+use Rattle.cs_top.specs.Filed.{IsFiled}
 use Rattle.cs_top.specs.Trial.{HasSizes}
 use Rattle.cs_top.proofs.trial.imaged.Goals as goal
 
 pub returns-in-Ok-clause-ok : goal.returns-in-Ok-clause-ok
 unfolding trial_corpus
-returns-in-Ok-clause-ok c = subst (λ x. IsImage (corpus x) TARGET c.in-Ok.imaged.image) (c.deref.ensures.value ∙ c.in_ok-bytes.ensures) c.in-Ok.ensures.ok
-
-pub returns-in-Ok-clause-whole : goal.returns-in-Ok-clause-whole
-unfolding trial_corpus
-returns-in-Ok-clause-whole c =
-    subst (λ x. IsIndexFile (file c.in-Ok.imaged.image) × (file_corpus (file c.in-Ok.imaged.image) ≡ corpus x)) (c.deref.ensures.value ∙ c.in_ok-bytes.ensures) c.in-Ok.ensures.whole
+returns-in-Ok-clause-ok c = subst (λ x. IsFiled (corpus x) c.in-Ok.imaged.image) (c.deref.ensures.value ∙ c.in_ok-bytes.ensures) c.in-Ok.ensures.ok
 
 pub returns-in-Ok-clause-sizes : goal.returns-in-Ok-clause-sizes
 unfolding trial_corpus

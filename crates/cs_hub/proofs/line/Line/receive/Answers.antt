@@ -1,7 +1,7 @@
 use Rattle.std.specs.Prelude.{true, false}
 use Rattle.cs_hub.proofs.AskedLemmas.{asks_counted, asks_less}
 use Rattle.cs_hub.specs.DueReads.{SentBefore}
-use Rattle.cs_hub.proofs.LineLemmas.{full, kept, shut}
+use Rattle.cs_hub.proofs.PieceTurns.{full, kept, shut}
 use Rattle.cs_hub.proofs.line.Line.receive.Goals as goal
 
 pub returns-else-taken-lt-MAX_CONNECTION_BYTES-clause-received : goal.returns-else-taken-lt-MAX_CONNECTION_BYTES-clause-received

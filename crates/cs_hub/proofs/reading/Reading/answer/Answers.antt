@@ -1,6 +1,6 @@
 use Rattle.std.proofs.Common.{arith, ◌≡◌, ◌++◌, length, slice_range, ap}
 use Rattle.std.proofs.lemmas.Grind.{common_steps}
-use Rattle.cs_hub.proofs.ReadingLemmas.{open_none}
+use Rattle.cs_hub.proofs.UnreadBytes.{open_none}
 use Rattle.cs_hub.proofs.TurnLemmas.{replied_by}
 use Rattle.std.proofs.Common.{subst}
 use Rattle.cs_model_serving.specs.Heads.{judge}

@@ -1,5 +1,5 @@
 use Rattle.std.proofs.Common.{rules}
-use Rattle.cs_hub.proofs.ReadingLemmas.{open_none}
+use Rattle.cs_hub.proofs.UnreadBytes.{open_none}
 use Rattle.cs_hub.proofs.reading.Reading.new.Goals as goal
 
 pub invariant_of-result : goal.invariant_of-result

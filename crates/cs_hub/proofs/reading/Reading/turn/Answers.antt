@@ -1,5 +1,5 @@
 use Rattle.std.proofs.Common.{arith, ◌≡◌, ◌++◌, ◌-◌, length, ap}
-use Rattle.cs_hub.proofs.ReadingLemmas.{span_of, span_front}
+use Rattle.cs_hub.proofs.UnreadBytes.{span_of, span_front}
 use Rattle.cs_hub.proofs.TurnLemmas.{found_head, found_more, found_long, turned_goes, turned_stops, turned_long, turned_held}
 use Rattle.cs_hub.proofs.AskedLemmas.{replied_open, turned_goes as asked_goes, turned_stops as asked_stops, turned_held as asked_held, turned_long as asked_long}
 use Rattle.cs_hub.proofs.reading.Reading.turn.Goals as goal

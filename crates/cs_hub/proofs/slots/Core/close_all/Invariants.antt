@@ -1,7 +1,7 @@
 use Rattle.std.proofs.Common.{◌≡◌, ◌<◌, ℕ, length}
 use Rattle.std.specs.Prelude.{None}
 use Rattle.cs_base.specs.outside.Hub.{IsOrderly}
-use Rattle.cs_hub.specs.Following.{left_at, HasLive}
+use Rattle.cs_hub.specs.HubFollowing.{left_at, HasLive}
 use Rattle.cs_hub.proofs.slots.Core.close_all.Given as goal
 
 abbrev pub invariant-loop-conn : goal.invariant-loop-conn

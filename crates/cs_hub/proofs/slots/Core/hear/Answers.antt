@@ -2,7 +2,7 @@ use Rattle.std.proofs.Common.{sym, ◌∙◌, ap, subst, slice_set}
 use Rattle.std.proofs.lemmas.List.{set-set}
 use Rattle.std.specs.Prelude.{None}
 use Rattle.cs_hub.specs.Turns.{Received}
-use Rattle.cs_hub.proofs.SlotLemmas.{held_within}
+use Rattle.cs_hub.proofs.ConnectionSlots.{held_within}
 use Rattle.cs_hub.proofs.AskedLemmas.{asks_of_line}
 use Rattle.cs_hub.proofs.ActLemmas.{heeds_acted, heeds_lighter}
 use Rattle.cs_hub.proofs.slots.Core.hear.Goals as goal

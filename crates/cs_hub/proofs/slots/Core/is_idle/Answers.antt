@@ -1,7 +1,7 @@
 use Rattle.std.proofs.Common.{◌≡◌, arith, ◌<◌, ◌==◌, ℕ, false, subst}
 use Rattle.std.proofs.lemmas.Bool.Decides.{nat_tests}
 use Rattle.cs_hub.specs.Rounds.{live_count}
-use Rattle.cs_hub.proofs.SlotLemmas.{some_held}
+use Rattle.cs_hub.proofs.ConnectionSlots.{some_held}
 use Rattle.cs_hub.proofs.slots.Core.is_idle.Goals as goal
 
 above_zero : (n m : ℕ) → n ≡ m → (n == 0) ≡ false → 0 < m

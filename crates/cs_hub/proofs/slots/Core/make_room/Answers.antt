@@ -1,9 +1,9 @@
 use Rattle.std.proofs.Common.{arith, ◌≡◌, ◌++◌, [], ◌∷◌, ℕ, suc, length, ◌∙◌, ap, append_assoc, length-append}
 use Rattle.std.specs.Prelude.{None, replicate}
 use Rattle.std.proofs.lemmas.Grind.{common_steps}
-use Rattle.cs_hub.specs.Following.{Slots}
+use Rattle.cs_hub.specs.HubFollowing.{Slots}
 use Rattle.cs_hub.specs.Rounds.{live_count}
-use Rattle.cs_hub.proofs.SlotLemmas.{replicate-push, padded_count}
+use Rattle.cs_hub.proofs.ConnectionSlots.{replicate-push, padded_count}
 use Rattle.cs_hub.proofs.slots.Core.make_room.Goals as goal
 
 one_more : (xs ys : Slots) (n : ℕ) → ys ≡ xs ++ replicate n None → (m : ℕ) × (ys ++ None ∷ [] ≡ xs ++ replicate m None)

@@ -1,20 +1,15 @@
-use Rattle.std.proofs.Common.{ap, refl, rules, subst, sym, ◌∙◌}
-use Rattle.cs_engine.specs.Keeping.{AreGood}
-use Rattle.cs_file.specs.Indexes.{StandsFor}
+use Rattle.std.proofs.Common.{ap, refl, rules, ◌∙◌}
 use Rattle.cs_model_index.specs.Sections.{file_corpus}
 use Rattle.cs_hub.specs.DueReads.{bytes_to_answer, goes_on, requests_on}
 use Rattle.cs_hub.proofs.AskedLemmas.{standing, stands_so, within_for}
-use Rattle.cs_hub.proofs.FollowLemmas.{good_after}
+use Rattle.cs_hub.proofs.FollowLemmas.{good_after, over_same}
 use Rattle.cs_hub.proofs.slots.Core.step.Goals as goal
 
 pub returns-clause-good : goal.returns-clause-good
 returns-clause-good g c = λ b told stands good.
-    let same = c.new-asking.ensures.engine in
-    let kept = c.new-asking.ensures.store in
-    let lent = c.step_with.ensures.lent in
-    let now = good_after (g.S.Store.bytes c.args.store.now) _ b c.step_with.new.answerer.engine.now told (ap (λ l. l.1.1.0) lent ∙ ap g.S.Store.bytes kept)
-    (c.step_with.ensures.still (file_corpus b) (b, ap g.S.Store.bytes kept ∙ told, subst (λ e. StandsFor b e.index) (sym same) stands, subst (AreGood b) (sym same) good, refl)) in
-    search (now, rules)
+    let kept = ap g.S.Store.bytes c.new-asking.ensures.store in
+    let over = c.step_with.ensures.still (file_corpus b) (over_same _ _ b c.args.engine.now _ kept c.new-asking.ensures.engine told stands good) in
+    search (good_after _ _ b c.step_with.new.answerer.engine.now told (ap (λ l. l.1.1.0) c.step_with.ensures.lent ∙ kept) over, rules)
 
 pub returns-clause-reads : goal.returns-clause-reads
 returns-clause-reads g c =

@@ -1,12 +1,12 @@
-use Rattle.std.proofs.Common.{◌≡◌, refl, sym, subst}
-use Rattle.std.specs.Prelude.{[], None, true}
+use Rattle.std.proofs.Common.{ap, sym, subst}
+use Rattle.std.specs.Prelude.{None}
 use Rattle.cs_base.specs.declared.outside.hub.Event.{Event}
 use Rattle.cs_base.specs.declared.outside.hub.Event.TheVariants.{Opened, Piece, Ended}
 use Rattle.cs_hub.specs.Asked.{AsksAsSent}
 use Rattle.cs_hub.specs.DueReads.{SentAt, bytes_to_answer, goes_on, requests_on}
-use Rattle.cs_hub.specs.Following.{HasLiveBut, IsWhole, StaysRight}
+use Rattle.cs_hub.specs.HubFollowing.{HasLiveBut, IsWhole, StaysRight}
 use Rattle.cs_hub.proofs.ActLemmas.{acted_live, ended_acted}
-use Rattle.cs_hub.proofs.AskedLemmas.{asks_no_bytes}
+use Rattle.cs_hub.proofs.AskedLemmas.{is_piece, unasked}
 use Rattle.cs_hub.proofs.EventLemmas.{greeted, opened_stays, piece_stays, ended_stays, over_stays}
 use Rattle.cs_hub.proofs.slots.Core.step_with.Goals as goal
 
@@ -60,18 +60,18 @@ returns-in-Over-clause-follows g c = λ k over.
 
 pub returns-in-Opened-clause-asked : goal.returns-in-Opened-clause-asked
 returns-in-Opened-clause-asked g c =
-    let kept = g.A.Answerer.kept c.args.answerer.now in
-    subst (λ (v : Event). AsksAsSent g.A.Answerer.leaves (goes_on c.open.new.self v) (requests_on (bytes_to_answer c.args.self.now v c.args.piece.now)) kept kept (SentAt v (bytes_to_answer c.args.self.now v c.args.piece.now) (g.H.Hub.talk c.args.hub.now) (g.H.Hub.talk c.open.new.hub))) (sym c.in-Opened.is) (asks_no_bytes g.A.Answerer.leaves true kept (λ xs. xs ≡ []) refl)
+    unasked g.A.Answerer.leaves c.args.self.now c.open.new.self c.args.event c.args.piece.now (g.A.Answerer.kept c.args.answerer.now)
+    (g.H.Hub.talk c.args.hub.now) (g.H.Hub.talk c.open.new.hub) (ap is_piece c.in-Opened.is)
 
 pub returns-in-Ended-clause-asked : goal.returns-in-Ended-clause-asked
 returns-in-Ended-clause-asked g c =
-    let kept = g.A.Answerer.kept c.args.answerer.now in
-    subst (λ (v : Event). AsksAsSent g.A.Answerer.leaves (goes_on c.forget.new.self v) (requests_on (bytes_to_answer c.args.self.now v c.args.piece.now)) kept kept (SentAt v (bytes_to_answer c.args.self.now v c.args.piece.now) (g.H.Hub.talk c.args.hub.now) (g.H.Hub.talk c.args.hub.now))) (sym c.in-Ended.is) (asks_no_bytes g.A.Answerer.leaves true kept (λ xs. xs ≡ []) refl)
+    unasked g.A.Answerer.leaves c.args.self.now c.forget.new.self c.args.event c.args.piece.now (g.A.Answerer.kept c.args.answerer.now)
+    (g.H.Hub.talk c.args.hub.now) (g.H.Hub.talk c.args.hub.now) (ap is_piece c.in-Ended.is)
 
 pub returns-in-Over-clause-asked : goal.returns-in-Over-clause-asked
 returns-in-Over-clause-asked g c =
-    let kept = g.A.Answerer.kept c.args.answerer.now in
-    subst (λ (v : Event). AsksAsSent g.A.Answerer.leaves (goes_on c.close_all.new.self v) (requests_on (bytes_to_answer c.args.self.now v c.args.piece.now)) kept kept (SentAt v (bytes_to_answer c.args.self.now v c.args.piece.now) (g.H.Hub.talk c.args.hub.now) (g.H.Hub.talk c.close_all.new.hub))) (sym c.in-Over.is) (asks_no_bytes g.A.Answerer.leaves true kept (λ xs. xs ≡ []) refl)
+    unasked g.A.Answerer.leaves c.args.self.now c.close_all.new.self c.args.event c.args.piece.now (g.A.Answerer.kept c.args.answerer.now)
+    (g.H.Hub.talk c.args.hub.now) (g.H.Hub.talk c.close_all.new.hub) (ap is_piece c.in-Over.is)
 
 pub returns-in-Piece-clause-asked : goal.returns-in-Piece-clause-asked
 returns-in-Piece-clause-asked g c =

@@ -1,6 +1,6 @@
 use Rattle.std.proofs.Common.{◌≢◌, sym}
 use Rattle.cs_top.specs.Met.{wrote}
-use Rattle.cs_top.specs.Answering.{came_of}
+use Rattle.cs_top.specs.Answering.{came_of_answer}
 use Rattle.cs_top.specs.declared.script.Came.TheVariants.{Changed}
 use Rattle.cs_top.proofs.AnswerLemmas.{line_err, line_ok, said_came, some_bytes}
 use Rattle.cs_top.proofs.script.answers.answer_line.Goals as goal
@@ -17,4 +17,4 @@ returns-clause-err g c k over =
     (wrote g.O.Sink.written g.O.Sink.faults c.args.out.now c.put_answer.new.out) c.put_answer.ensures.err c.put_answer.ensures.kind c.put_answer.ensures.caused
 
 pub returns-clause-unchanged : goal.returns-clause-unchanged
-returns-clause-unchanged g c k over = said_came c.put_answer.result (came_of c.answer_params-answer.result) (λ x. x ≢ Changed) c.put_answer.ensures.came (c.answer_params-answer.ensures.unchanged k over)
+returns-clause-unchanged g c k over = said_came c.put_answer.result (came_of_answer c.answer_params-answer.result) (λ x. x ≢ Changed) c.put_answer.ensures.came (c.answer_params-answer.ensures.unchanged k over)

@@ -10,7 +10,7 @@ use Rattle.std.proofs.lemmas.List.{get_or-set_same, get_or-set_other, set-get_or
 use Rattle.std.proofs.lemmas.List.Sums.{sum_by-set, sum_by-append, sum_by-cons}
 use Rattle.std.proofs.lemmas.List.Folds.{sum_by-replicate}
 use Rattle.cs_model_serving.specs.Connections.{Left}
-use Rattle.cs_hub.specs.Following.{Slots, left_at}
+use Rattle.cs_hub.specs.HubFollowing.{Slots, left_at}
 use Rattle.cs_hub.specs.Rounds.{live_count, one_live, weight, to_come}
 use Rattle.cs_hub.proofs.SpeakLemmas.{itself, by_conn, differs}
 

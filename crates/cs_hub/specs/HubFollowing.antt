@@ -25,7 +25,7 @@ use Rattle.cs_base.specs.declared.outside.hub.Event.TheVariants.{Opened, Piece, 
 use Rattle.cs_model.specs.Corpus.{Corpus}
 use Rattle.cs_model_serving.specs.Responses.{Response}
 use Rattle.cs_model_serving.specs.Connections.{Left, StandsBy, IsStopped, is_finished, reads, changes}
-use Rattle.cs_hub.specs.Streams.{bytes_on, ended_on, RoseBy, sum_below}
+use Rattle.cs_hub.specs.Streams.{bytes_that_came, ended_on, RoseBy, sum_below}
 
 -- ---- what is kept
 -- what is kept of each connection at its number; None of one that isn't live
@@ -79,7 +79,7 @@ pub record IsRight (k : Corpus) (b s : List ℕ) (broken ended : Bool) (left : O
 -- all these responses at most n say Read
 pub record AreRight (k : Corpus) (core : Slots) (s : Listening) (t : Talk) (n : ℕ) : Type 0 where
   pub sent : ℕ → List Response
-  pub right : (c : ℕ) → c < s.opened → IsRight k (bytes_on c t.came) (sent_on t c) (set.contains t.broken c) (ended_on c t.came || s.over) (left_at core c) (sent c)
+  pub right : (c : ℕ) → c < s.opened → IsRight k (bytes_that_came c t.came) (sent_on t c) (set.contains t.broken c) (ended_on c t.came || s.over) (left_at core c) (sent c)
   pub few : sum_below s.opened (λ c. reads (sent c)) ≤ n
 
 -- the core follows a hub for the corpus: it keeps the live connections, and over a hub that tells its talk each opened one is

@@ -10,7 +10,7 @@ use Rattle.cs_base.specs.declared.content.limits.TheConstants.{MAX_SCRIPT_LINE_B
 use Rattle.cs_model.specs.Outputs.{MayPut, line_fault, script_line_too_long}
 use Rattle.cs_top.specs.CommandLine.{Ending, done, usage, refused, damaged, absent, failed, no_memory, script_refused, changed}
 use Rattle.cs_top.specs.Met.{Wrote}
-use Rattle.cs_top.specs.Scripts.{StopsAt, IsFirstLine, EndsAt, Passes, Reaches}
+use Rattle.cs_top.specs.ScriptEndings.{StopsAt, IsFirstLine, EndsAt, Passes, Reaches}
 use Rattle.cs_top.specs.declared.lines.Place.{Place}
 use Rattle.cs_top.specs.declared.script.Came.{Came}
 use Rattle.cs_top.proofs.LineTexts.{fault-too_long}

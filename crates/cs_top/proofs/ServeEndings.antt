@@ -17,9 +17,9 @@ use Rattle.std.specs.Option.{ForSome, option_map, unwrap_or}
 use Rattle.cs_base.specs.outside.Causes.{Rose}
 use Rattle.cs_base.specs.outside.Hub.{Listening, Talk, sent_on}
 use Rattle.cs_base.specs.outside.Outside.{Grew, Held}
-use Rattle.cs_hub.specs.Following.{AreServed, left_at}
+use Rattle.cs_hub.specs.HubFollowing.{AreServed, left_at}
 use Rattle.cs_hub.specs.Speaking.{AreUnbroken}
-use Rattle.cs_hub.specs.Streams.{RoseBy, bytes_on, sum_below}
+use Rattle.cs_hub.specs.Streams.{RoseBy, bytes_that_came, sum_below}
 use Rattle.cs_hub.proofs.ServedLemmas.{changes_cons, reads_cons}
 use Rattle.cs_model.specs.Corpus.{Corpus}
 use Rattle.cs_model.specs.Parameters.{number_of}
@@ -102,8 +102,8 @@ exact_all k s talk before now h calm t told c opened whole =
     let right = h.follows.right t told in
     let none : sum_below s.opened (λ d. reads (right.sent d)) ≡ 0 = let few = right.few in let n = none_rose h.failed before now h.rose calm in omega (arith, few, n) in
     let one = right.right c opened in
-    exact_one k (bytes_on c t.came) (sent_on t c) (right.sent c) (each_none s.opened (λ d. reads (right.sent d)) c opened none) one.unchanged (left_at h.core c)
-    (subst (λ x. StandsBy k (bytes_on c t.came) (sent_on t c) x (left_at h.core c) (right.sent c)) whole one.stands)
+    exact_one k (bytes_that_came c t.came) (sent_on t c) (right.sent c) (each_none s.opened (λ d. reads (right.sent d)) c opened none) one.unchanged (left_at h.core c)
+    (subst (λ x. StandsBy k (bytes_that_came c t.came) (sent_on t c) x (left_at h.core c) (right.sent c)) whole one.stands)
 
 pub served_all : (h : Held) (i p n : List ℕ) (before now : ℕ) (w : Wrote) (net : Listened) → IsServing p n w net → AreAnswered h i before now net → ¬ Rose before now → ¬ Rose net.sends_before net.sends_now → ServesAll h i net
 served_all h i p n before now w net serving right calm sent t told c opened =

@@ -1,0 +1,24 @@
+-- The image of a corpus, as the commands make it.
+--
+-- Source: this engine's own.
+--
+--   HasFile i        it can be written, and its bytes are an index file
+--   IsFiled k i      it is an image of the corpus, for the target of index files, and of its bytes that corpus is read
+use Rattle.std.specs.Prelude.{◌≡◌}
+use Rattle.cs_file.specs.Writable.{CanBeWritten}
+use Rattle.cs_model.specs.Corpus.{Corpus}
+use Rattle.cs_model_index.specs.FileRules.{IsIndexFile}
+use Rattle.cs_model_index.specs.Images.{Image, IsImage}
+use Rattle.cs_model_index.specs.Layout.{file}
+use Rattle.cs_model_index.specs.Sections.{file_corpus}
+use Rattle.cs_model_index.specs.declared.limits.TheConstants.{TARGET}
+
+-- each of its numbers has room, and the bytes are accepted, those of an empty corpus too
+pub record HasFile (i : Image) : Type 0 where
+  pub writable : CanBeWritten i
+  pub whole : IsIndexFile (file i)
+
+-- what is searched is what was imaged; of an empty corpus it is empty
+pub record IsFiled (k : Corpus) (i : Image) : Type 0 where
+  pub image : IsImage k TARGET i
+  pub corpus : file_corpus (file i) ≡ k
