@@ -9,7 +9,7 @@
 --   Lightens e core core'            what an event adds to the weight at most, and what it takes away at least
 --   KeepsCame talk talk'             no event came
 --   HasBytes, OpensBelow             what an event of a hub keeps: its piece fits the buffer, a number is below the room
---   GoesOnAfter e opened r               how the loop goes on after an event, by how many connections were opened
+--   GoesOnAfter e opened r           how the loop goes on after an event, by how many connections were opened
 --   still conns opened core          what is left to come over all connections
 --   came_by talk                     how many events came
 --   Went                             how a round went

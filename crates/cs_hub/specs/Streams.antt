@@ -3,7 +3,7 @@
 -- Source: this engine's own.
 --
 --   bytes_at c event bytes   the bytes that an event brings on connection c; none where it is of another one, or no piece
---   bytes_that_came c came          the bytes that came on it, in order; none where no piece did
+--   bytes_that_came c came    the bytes that came on it, in order; none where no piece did
 --   ended_at c event         the event ends connection c
 --   ended_on c came          one of the events did; none of no events
 --   RoseBy n before now      a count of failures rose by at least n, or stands at its last value

@@ -7,7 +7,7 @@
 --   IsSent                   the same of what may be a response, or want of memory
 --   Replied                  the same of the response to a head, or memory ran out
 --   IsOne                    one response was sent, and later bytes are served behind it
---   HoldsBytes, IsTurnedAway     what was done where no head ends: the bytes were kept, or more can't come
+--   HoldsBytes, IsTurnedAway what was done where no head ends: the bytes were kept, or more can't come
 --   GoesOn, Kept, Stops      what a turn did: a head was answered; none ends there; the connection is to be closed
 --   Turned                   these by what the turn gave
 --   HoldsOn, Holds           all that is served was sent, and the connection goes on

@@ -12,7 +12,7 @@
 --   worst a b                  what came of some lines and of more
 --   CameCounts came before now     a count of failures rose where a failed read came, and else stayed
 --   Costs came before now t    a count rose where the text is that of a failed read, and that is said to have come
---   came_of_answer a                  what comes of a line by what is put for it
+--   came_of_answer a           what comes of a line by what is put for it
 --   line_bytes a               what is put for it, with its line ending
 --   HasText A l a              what is put for a line has a text by A; no change is put
 --   HasReply k r a             what is put for a request has the text of its reply, or of a failed read
