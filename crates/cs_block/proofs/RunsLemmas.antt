@@ -16,7 +16,7 @@ use Rattle.std.proofs.lemmas.Slice.{take-put_mid}
 use Rattle.cs_base.specs.index.GapCode.{code, code_in, first_code}
 use Rattle.cs_base.specs.declared.index.block.BlockHead.{BlockHead}
 use Rattle.cs_base.specs.declared.content.doc.Post.{Post}
-use Rattle.cs_cols.specs.Held.{posts_of, AreEven}
+use Rattle.cs_cols.specs.HeldPosts.{posts_of, AreEven}
 use Rattle.cs_cols.proofs.Columns.{posts-length, posts-at}
 use Rattle.cs_gaps.proofs.CodesLemmas.{first_found}
 use Rattle.cs_model.specs.Scores.{SCORES}

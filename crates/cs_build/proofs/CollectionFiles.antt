@@ -7,7 +7,7 @@ use Rattle.cs_base.specs.declared.content.doc.Doc.{Doc}
 use Rattle.cs_base.specs.declared.content.doc.Row.{Row}
 use Rattle.cs_base.specs.declared.content.limits.TheConstants.{MAX_ROWS, MAX_WORDS}
 use Rattle.cs_block.proofs.LawsLemmas.{unique}
-use Rattle.cs_docs.proofs.AcceptedLemmas.{few_documents}
+use Rattle.cs_docs.proofs.AcceptedCollections.{few_documents}
 use Rattle.cs_docs.proofs.CorpusLaws.{corpus_is}
 use Rattle.cs_model.specs.Collection.{docs_refusal, documents, too_many_rows, too_many_words}
 use Rattle.cs_model.specs.Corpus.{corpus, distinct_words, refusal, rows_of, rows_refusal}

@@ -14,8 +14,8 @@ use Rattle.cs_base.specs.declared.content.doc.Row.{Row}
 use Rattle.cs_base.specs.declared.content.limits.TheConstants.{MAX_COLLECTION_BYTES, MAX_LINE_BYTES, MAX_DOC_WORDS, MAX_POSITION, MAX_DOCS}
 use Rattle.cs_base.specs.declared.content.scores.TheConstants.{TITLE_SCORE, FACET_SCORE, TEXT_SCORE, BEHIND_TITLE}
 use Rattle.cs_base.proofs.OrdersLemmas.{by_row_total, by_row_exact}
-use Rattle.cs_docs.specs.Pieces.{IsNamed, AreNamed, CanBeListed}
-use Rattle.cs_docs.proofs.AcceptedLemmas.{accepted_docs}
+use Rattle.cs_docs.specs.FacetPieces.{IsNamed, AreNamed, CanBeListed}
+use Rattle.cs_docs.proofs.AcceptedCollections.{accepted_docs}
 use Rattle.cs_docs.proofs.TextLemmas.{All-members}
 use Rattle.cs_model.specs.Collection.{DocLine, columns, doc_lines, docs_refusal, document, documents, facet_pieces, facet_word, facet_words, is_equals, is_tab, line_refusal, line_too_long, named, not_utf8, piece_name, piece_refusal, piece_value, too_large, too_many_docs, word_count, words_too_many}
 use Rattle.cs_model.specs.Corpus.{doc_rows, facet_rows, placed, rows_of, text_rows, title_of, title_rows}

@@ -8,7 +8,7 @@ use Rattle.std.specs.List.{concat, slice_split, onto_first, position_or_len, sta
 use Rattle.std.specs.Str.Lines.{lines, lines_of_parts, strip_carriage_return}
 use Rattle.std.proofs.lemmas.Bool.Decides.{nat_tests}
 use Rattle.cs_base.specs.declared.content.limits.TheConstants.{MAX_COLLECTION_BYTES}
-use Rattle.cs_docs.specs.Reading.{documents_from}
+use Rattle.cs_docs.specs.LinesRead.{documents_from}
 use Rattle.cs_model.specs.Collection.{document, doc_line, is_tab, line_refusal, doc_lines, too_large, without_mark}
 use Rattle.cs_model.specs.Corpus.{title_of}
 use Rattle.cs_model.specs.First.{unless}

@@ -1,7 +1,7 @@
 //! Why a collection's rows make no image.
 ghost use Rattle.std.specs.Prelude.{◌≡◌};
 ghost use Rattle.std.specs.Option.{option_map};
-ghost use Rattle.cs_docs.specs.Refusals.{reason_text};
+ghost use Rattle.cs_docs.specs.FaultRefusals.{reason_text};
 ghost use Rattle.cs_model.specs.Collection.{refusal_words};
 ghost use Rattle.cs_build.specs.Building.{build_refusal_of};
 

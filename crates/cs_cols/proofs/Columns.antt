@@ -15,7 +15,7 @@ use Rattle.std.proofs.Common.{◌≡◌, ℕ, zero, suc, ◌<◌, List, [], ◌�
 use Rattle.std.specs.Prelude.{map, min}
 use Rattle.std.proofs.lemmas.List.{length-map, length-take, get_or-map}
 use Rattle.cs_base.specs.declared.content.doc.Post.{Post}
-use Rattle.cs_cols.specs.Held.{Held, posts_of, AreEven}
+use Rattle.cs_cols.specs.HeldPosts.{HeldPosts, posts_of, AreEven}
 
 -- the post of a document, a word, a position and a score
 abbrev pub post : ℕ → ℕ → ℕ → ℕ → Post
@@ -39,9 +39,9 @@ posts-length ds ws ps ss h = sym (length-map (posts_of ds ws ps ss) (λ p. p.doc
 -- for the tactics of a function
 pub ruleset lengths = (posts-length)
 
-pub held_length : (ds ws ps ss : List ℕ) (room : ℕ) (h : Held) → AreEven ds ws ps ss
+pub held_length : (ds ws ps ss : List ℕ) (room : ℕ) (h : HeldPosts) → AreEven ds ws ps ss
     → record { posts = posts_of ds ws ps ss; room = room } ≡ h → length h.posts ≡ length ds
-held_length ds ws ps ss room h even is = ap (λ (x : Held). length x.posts) (sym is) ∙ posts-length ds ws ps ss even
+held_length ds ws ps ss room h even is = ap (λ (x : HeldPosts). length x.posts) (sym is) ∙ posts-length ds ws ps ss even
 
 module _ (ds ws ps ss : List ℕ) (h : AreEven ds ws ps ss) (i : ℕ) (e : Post) (l : i < length ds) where
   inside : i < length (posts_of ds ws ps ss)

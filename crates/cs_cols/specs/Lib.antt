@@ -1,4 +1,4 @@
 pub mod Block
-pub mod Held
+pub mod HeldPosts
 pub mod Placed
 pub mod Rooms

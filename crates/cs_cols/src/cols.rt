@@ -38,10 +38,10 @@ pub struct Cols {
 impl Model for Cols {
     ghost use Rattle.std.specs.Prelude.{◌-◌};
     ghost use Rattle.std_alloc.specs.Vec.{vec_len, vec_capacity};
-    ghost use Rattle.cs_cols.specs.Held.{Held, posts_of, AreEven};
+    ghost use Rattle.cs_cols.specs.HeldPosts.{HeldPosts, posts_of, AreEven};
     ghost use Rattle.cs_cols.specs.Placed.{ArePlaced};
 
-    ghost Value = { Held };
+    ghost Value = { HeldPosts };
 
     ghost view = { λ c. record { posts = posts_of c.docs.items c.words.items c.places.items c.scores.items; room = vec_capacity c.docs - vec_len c.docs } };
 
@@ -69,7 +69,7 @@ impl Drop for Cols {
 }
 
 impl Cols {
-    ghost use Rattle.cs_cols.specs.Held.{AreEven, posts_of};
+    ghost use Rattle.cs_cols.specs.HeldPosts.{AreEven, posts_of};
 
     /// No posts. It takes no memory, and keeps the allocator for later calls.
     pub fn new(alloc: Global) -> Cols

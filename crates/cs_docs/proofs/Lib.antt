@@ -1,9 +1,9 @@
-pub mod AcceptedLemmas
+pub mod AcceptedCollections
 pub mod CorpusLaws
 pub mod LinesLemmas
 pub mod ListingLemmas
-pub mod PiecesLemmas
+pub mod FacetPiecesLemmas
 pub mod PlainLaws
 pub mod PlainLemmas
-pub mod SlugLemmas
+pub mod ShortSlugs
 pub mod TextLemmas

@@ -15,9 +15,9 @@ use Rattle.cs_model.specs.Words.{is_filled}
 use Rattle.cs_model.specs.First.{first_reason}
 use Rattle.cs_docs.specs.declared.fault.DocFault.{DocFault}
 use Rattle.cs_docs.specs.Lines.{Shows}
-use Rattle.cs_docs.specs.Refusals.{refusal_of, IsCauseOf, refusal_from}
+use Rattle.cs_docs.specs.FaultRefusals.{refusal_of, IsCauseOf, refusal_from}
 use Rattle.cs_model.proofs.FirstLemmas.{first-append_some}
-use Rattle.cs_docs.specs.Reading.{doc_lines_from, documents_from}
+use Rattle.cs_docs.specs.LinesRead.{doc_lines_from, documents_from}
 
 -- behind the first part there are further ones
 more_parts : (x : List ℕ) (ps : List (List ℕ)) → 0 < length ps → lines_of_parts (x ∷ ps) ≡ strip_carriage_return x ∷ lines_of_parts ps

@@ -15,8 +15,8 @@ use Rattle.cs_model.specs.Words.{is_filled, words}
 use Rattle.cs_model.specs.First.{first_reason}
 use Rattle.cs_model.specs.Scores.{SCORES}
 use Rattle.cs_docs.specs.Listing.{listed_rows}
-use Rattle.cs_docs.specs.Reading.{doc_lines_from, documents_from, title_only}
-use Rattle.cs_docs.specs.Refusals.{refusal_from}
+use Rattle.cs_docs.specs.LinesRead.{doc_lines_from, documents_from, title_only}
+use Rattle.cs_docs.specs.FaultRefusals.{refusal_from}
 use Rattle.cs_docs.proofs.ListingLemmas.{rows_listed, listed_title}
 use Rattle.cs_docs.proofs.PlainLemmas.{plain_documents, titles_of_plain, IsPart, AreParts, IsTitleOnly, IsTitleOnly-line, IsAscii-plain, title_of-line, few_words, no_words, plain_lines, plain_length, plain_parts, unmarked, length_of_lines}
 

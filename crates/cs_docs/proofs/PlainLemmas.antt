@@ -18,7 +18,7 @@ use Rattle.cs_model.specs.Ascii.{is_ascii_gap, ascii_norm}
 use Rattle.cs_model.specs.Collection.{is_plain, is_plain_byte, without_mark, is_tab, document, documents, doc_line, DocLine}
 use Rattle.cs_model.specs.Words.{is_filled, words}
 use Rattle.cs_model.proofs.AsciiLemmas.{words-ascii}
-use Rattle.cs_docs.specs.Reading.{documents_from}
+use Rattle.cs_docs.specs.LinesRead.{documents_from}
 
 -- ---- parts of a text: each byte passes what all of them pass, and none is longer than the whole
 

@@ -1,5 +1,5 @@
 pub mod Lines
 pub mod Listing
-pub mod Pieces
-pub mod Reading
-pub mod Refusals
+pub mod FacetPieces
+pub mod LinesRead
+pub mod FaultRefusals

@@ -5,8 +5,8 @@ ghost use Rattle.std.specs.Str.{is_utf8};
 ghost use Rattle.cs_model.specs.Collection.{is_tab, not_utf8, line_too_long, words_too_many, line_refusal};
 ghost use Rattle.cs_model.specs.First.{unless, first_reason};
 ghost use Rattle.cs_model.specs.Words.{words};
-ghost use Rattle.cs_docs.specs.Reading.{doc_of, numbered_line, documents_from};
-ghost use Rattle.cs_docs.specs.Refusals.{IsCauseOf, refusal_from};
+ghost use Rattle.cs_docs.specs.LinesRead.{doc_of, numbered_line, documents_from};
+ghost use Rattle.cs_docs.specs.FaultRefusals.{IsCauseOf, refusal_from};
 
 use crate::fault::DocFault;
 use crate::pieces::check_facets;

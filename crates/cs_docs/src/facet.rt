@@ -4,7 +4,7 @@ ghost use Rattle.std.specs.List.{All, filter_map};
 ghost use Rattle.std.specs.Str.{IsUtf8};
 ghost use Rattle.cs_model.specs.Collection.{facet_pieces, facet_words, facet_word, named};
 ghost use Rattle.cs_model.specs.Words.{is_filled};
-ghost use Rattle.cs_docs.specs.Pieces.{AreNamed};
+ghost use Rattle.cs_docs.specs.FacetPieces.{AreNamed};
 
 use crate::pieces::{cut_at_equals, cut_piece};
 use cs_base::{MAX_NAME_BYTES, MAX_PLAIN_WORD_BYTES, Memory, Word};

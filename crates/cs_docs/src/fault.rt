@@ -2,7 +2,7 @@
 ghost use Rattle.std.specs.Prelude.{◌≡◌};
 ghost use Rattle.std.specs.Option.{option_map};
 ghost use Rattle.cs_model.specs.Collection.{in_line, refusal_words};
-ghost use Rattle.cs_docs.specs.Refusals.{refusal_of, rows_refusal_of, reason_text};
+ghost use Rattle.cs_docs.specs.FaultRefusals.{refusal_of, rows_refusal_of, reason_text};
 
 use cs_base::Memory;
 use thiserror::Error;

@@ -4,7 +4,7 @@ ghost use Rattle.std.specs.List.{flat_map, enumerate_from};
 ghost use Rattle.cs_model.specs.Collection.{is_plain, documents, doc_lines, docs_refusal};
 ghost use Rattle.cs_model.specs.Corpus.{rows_of, title_rows, corpus, IsCorpus};
 ghost use Rattle.cs_model.specs.Scores.{SCORES};
-ghost use Rattle.cs_docs.specs.Reading.{title_only};
+ghost use Rattle.cs_docs.specs.LinesRead.{title_only};
 
 /// A plain collection is accepted as far as its documents go, each line that has bytes is the title
 /// of a document without facets and text, and the rows are those of the titles' words.

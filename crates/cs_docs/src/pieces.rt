@@ -4,8 +4,8 @@ ghost use Rattle.std.specs.List.{prefix_len, before_first, after_first, list_any
 ghost use Rattle.cs_model.specs.Collection.{piece_refusal, facet_pieces, is_space, is_equals, piece_value, without_spaces_behind};
 ghost use Rattle.cs_model.specs.Words.{is_filled};
 ghost use Rattle.cs_model.specs.First.{first_reason};
-ghost use Rattle.cs_docs.specs.Pieces.{is_semicolon, one_piece};
-ghost use Rattle.cs_docs.specs.Refusals.{IsCauseOf};
+ghost use Rattle.cs_docs.specs.FacetPieces.{is_semicolon, one_piece};
+ghost use Rattle.cs_docs.specs.FaultRefusals.{IsCauseOf};
 
 use crate::fault::DocFault;
 use cs_text::{has_name_form, norm};

@@ -2,7 +2,7 @@
 ghost use Rattle.std.specs.Prelude.{◌≡◌, ℕ, Some, None, IfOk, IfErr, OnOk, IsErrOf, ◌<◌, ◌≤◌, ◌∷◌, length};
 ghost use Rattle.std.specs.Str.Lines.{lines, strip_carriage_return};
 ghost use Rattle.cs_model.specs.Collection.{documents, docs_refusal, without_mark, too_large, not_utf8, line_too_long, words_too_many, bad_facet, bad_name, too_many_docs};
-ghost use Rattle.cs_docs.specs.Refusals.{IsCauseOf};
+ghost use Rattle.cs_docs.specs.FaultRefusals.{IsCauseOf};
 
 use crate::document::push_document;
 use crate::fault::DocFault;

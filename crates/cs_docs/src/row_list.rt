@@ -6,7 +6,7 @@ ghost use Rattle.cs_model.specs.Collection.{documents, docs_refusal, facet_piece
 ghost use Rattle.cs_model.specs.Corpus.{rows_of, placed};
 ghost use Rattle.cs_model.specs.Words.{words};
 ghost use Rattle.cs_docs.specs.Listing.{listed_doc, listed_facets, HasUtf8Word};
-ghost use Rattle.cs_docs.specs.Pieces.{AreNamed, CanBeListed};
+ghost use Rattle.cs_docs.specs.FacetPieces.{AreNamed, CanBeListed};
 
 use crate::facet::facet_words;
 use crate::fault::RowsFault;

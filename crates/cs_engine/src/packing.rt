@@ -2,7 +2,7 @@
 ghost use Rattle.std.specs.Prelude.{◌≡◌, ◌+◌, ◌<◌, ◌≤◌, ◌++◌, List, length, map, filter, take, drop, slice_index_or, IfOk, OnOk};
 ghost use Rattle.std.specs.List.{All};
 ghost use Rattle.cs_base.specs.declared.content.doc.Post.{Post};
-ghost use Rattle.cs_cols.specs.Held.{AreEven};
+ghost use Rattle.cs_cols.specs.HeldPosts.{AreEven};
 ghost use Rattle.cs_file.specs.CallAnswers.{posts_in};
 ghost use Rattle.cs_tables.specs.WordCounts.{is_chosen};
 ghost use Rattle.cs_engine.specs.Packing.{ArePlacedAt, IsOrdered, IsPacked, apart, key_of, place_of_key, post_of_key};

@@ -9,7 +9,7 @@ use Rattle.std.proofs.lemmas.List.{length-map}
 use Rattle.std.proofs.lemmas.List.Elements.{All-map, All-weaker}
 use Rattle.cs_base.specs.declared.index.block.BlockHead.{BlockHead}
 use Rattle.cs_base.specs.declared.content.doc.Post.{Post}
-use Rattle.cs_cols.specs.Held.{AreEven, posts_of}
+use Rattle.cs_cols.specs.HeldPosts.{AreEven, posts_of}
 use Rattle.cs_block.specs.DocWords.{HasDocWords, IsListable}
 use Rattle.cs_block.proofs.LawsLemmas.{unique}
 use Rattle.cs_model.specs.Scores.{SCORES}

@@ -17,7 +17,7 @@ use Rattle.std.specs.Str.{is_utf8}
 use Rattle.cs_base.specs.outside.Outside.{part}
 use Rattle.cs_base.specs.declared.index.block.BlockHead.{BlockHead}
 use Rattle.cs_base.specs.declared.content.doc.Post.{Post}
-use Rattle.cs_cols.specs.Held.{posts_of}
+use Rattle.cs_cols.specs.HeldPosts.{posts_of}
 use Rattle.cs_model.specs.Scores.{SCORES}
 use Rattle.cs_model_index.specs.BlockRules.{judged, IsBlock, broken_at, is_scored}
 use Rattle.cs_model_index.specs.FileRules.{in_file, damage}

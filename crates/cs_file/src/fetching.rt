@@ -11,7 +11,7 @@ ghost use Rattle.cs_block.specs.DocWords.{HasDocWords};
 ghost use Rattle.cs_model.specs.Scores.{SCORES};
 ghost use Rattle.cs_model_index.specs.BlockRules.{IsBlock, judged};
 ghost use Rattle.cs_model_index.specs.Blocks.{IsShaped};
-ghost use Rattle.cs_cols.specs.Held.{AreEven};
+ghost use Rattle.cs_cols.specs.HeldPosts.{AreEven};
 ghost use Rattle.cs_file.specs.CallAnswers.{AreOf, HasBlock, IsChangeOfBlock, IsChangeOfTitle, IsRanged, AreScoredOf, is_read_of_fetch, is_changed_of_fetch, posts_in};
 ghost use Rattle.cs_file.specs.Fetching.{DecodesAt, HasPosts, HasScored, IsBlockRead, ReadsText};
 ghost use Rattle.cs_file.specs.Indexes.{StandsFor, HasAllBlocks, CausedReads, block_place, block_posts, title_in, title_place, title_len};

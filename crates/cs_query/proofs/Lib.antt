@@ -1,4 +1,4 @@
-pub mod Joined
+pub mod JoinedEntries
 pub mod Lasts
 pub mod Narrowing
 pub mod Prefixes

@@ -23,7 +23,7 @@ use Rattle.cs_model.proofs.PieceTokens.{chars_some}
 use Rattle.cs_model.proofs.SizeLemmas.{encodes-append}
 use Rattle.cs_model.proofs.KeyLemmas.{left_more, left_stop, left_empty}
 use Rattle.cs_model.specs.Collection.{is_colon}
-use Rattle.cs_text.proofs.PiecesLemmas.{some_length, nil_from_test}
+use Rattle.cs_text.proofs.WordPiecesLemmas.{some_length, nil_from_test}
 use Rattle.cs_text.proofs.SplitLemmas.{scalars_back}
 use Rattle.cs_query.specs.Printing.{Continues}
 

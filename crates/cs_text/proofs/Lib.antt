@@ -1,6 +1,6 @@
 pub mod CutLemmas
 pub mod Digits
-pub mod PiecesLemmas
+pub mod WordPiecesLemmas
 pub mod SlugLemmas
 pub mod SplitLemmas
 pub mod Utf8Lemmas

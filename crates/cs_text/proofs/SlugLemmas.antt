@@ -5,8 +5,8 @@ use Rattle.std.specs.List.{join_with_byte}
 use Rattle.std.specs.Prelude.{Some, None}
 use Rattle.std.specs.Str.{chars}
 use Rattle.cs_model.specs.Words.{is_filled, cut, slug_of}
-use Rattle.cs_text.specs.Pieces.{words_in, joined_with}
-use Rattle.cs_text.proofs.PiecesLemmas.{AllSome, AllSome-words_in, words_in-append, words_in-some, none_length}
+use Rattle.cs_text.specs.WordPieces.{words_in, joined_with}
+use Rattle.cs_text.proofs.WordPiecesLemmas.{AllSome, AllSome-words_in, words_in-append, words_in-some, none_length}
 
 joined_with-none : (bs : List ℕ) → joined_with bs [] ≡ bs
 joined_with-none bs = refl

@@ -1,7 +1,7 @@
 //! Pieces of a text between gaps, and what becomes of them.
 ghost use Rattle.std.specs.Prelude.{◌≡◌, ◌≤◌, ◌++◌, [], ◌∷◌, OnOk, OnErr, chars, length};
 ghost use Rattle.cs_model.specs.Words.{cut};
-ghost use Rattle.cs_text.specs.Pieces.{words_in, ascii_words_in};
+ghost use Rattle.cs_text.specs.WordPieces.{words_in, ascii_words_in};
 
 use cs_base::{MAX_PLAIN_WORD_BYTES, Memory, Seq, Word};
 use std::alloc::Global;

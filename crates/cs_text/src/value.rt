@@ -2,7 +2,7 @@
 ghost use Rattle.std.specs.Prelude.{◌≡◌, IfOk, OnOk, [], ◌∷◌, chars, string_bytes};
 ghost use Rattle.std.specs.List.{join_with_byte};
 ghost use Rattle.cs_model.specs.Words.{slug, words_of};
-ghost use Rattle.cs_text.specs.Pieces.{words_in, joined_with};
+ghost use Rattle.cs_text.specs.WordPieces.{words_in, joined_with};
 
 use crate::character::is_gap;
 use crate::key_text::key_of;

@@ -26,7 +26,7 @@ use Rattle.cs_model.specs.Corpus.{refusal}
 use Rattle.cs_model.specs.Outputs.{ScriptFault, script_line_too_long, script_line_not_utf8}
 use Rattle.cs_model_index.specs.BlockRules.{broken_at}
 use Rattle.cs_model_index.specs.FileRules.{damage}
-use Rattle.cs_docs.specs.Refusals.{refusal_of, rows_refusal_of, words_said}
+use Rattle.cs_docs.specs.FaultRefusals.{refusal_of, rows_refusal_of, words_said}
 use Rattle.cs_build.specs.Building.{build_refusal_of}
 use Rattle.cs_top.specs.CommandLine.{Command, build, ask, replay, serve, trial, is_number, Ending, done, usage, refused, damaged, absent, failed, no_memory, script_refused, changed}
 use Rattle.cs_top.specs.Answering.{FileView}

@@ -1,7 +1,7 @@
 //! A collection that is read, and made into the corpus that is searched.
 ghost use Rattle.std.specs.Prelude.{◌≡◌, None, IfOk, IfErr, OnOk};
 ghost use Rattle.std.specs.Option.{option_map};
-ghost use Rattle.cs_docs.specs.Refusals.{reason_text};
+ghost use Rattle.cs_docs.specs.FaultRefusals.{reason_text};
 ghost use Rattle.cs_model.specs.Collection.{refusal_words};
 ghost use Rattle.cs_model.specs.Corpus.{corpus, refusal};
 ghost use Rattle.cs_top.specs.CommandLine.{CausedBy};

@@ -1,6 +1,6 @@
 //! How a run ends: its status, and what is said of it.
 ghost use Rattle.std.specs.Prelude.{◌≡◌, ◌++◌, ◌∷◌, []};
-ghost use Rattle.cs_docs.specs.Refusals.{reason_text};
+ghost use Rattle.cs_docs.specs.FaultRefusals.{reason_text};
 ghost use Rattle.cs_top.specs.CommandLine.{status, line_of, SaysLine};
 ghost use Rattle.cs_top.specs.Met.{wrote};
 ghost use Rattle.cs_top.specs.Views.{collection_ending, collection_refusal_of, ended, said_text, stop_ending};

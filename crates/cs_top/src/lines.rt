@@ -2,7 +2,7 @@
 ghost use Rattle.std.specs.Prelude.{◌≡◌, ◌<◌, ◌≤◌, IfOk, length, take, drop};
 ghost use Rattle.std.specs.Option.{option_map};
 ghost use Rattle.cs_base.specs.outside.Causes.{Counted};
-ghost use Rattle.cs_docs.specs.Refusals.{reason_text};
+ghost use Rattle.cs_docs.specs.FaultRefusals.{reason_text};
 ghost use Rattle.cs_model.specs.Collection.{without_mark};
 ghost use Rattle.cs_model.specs.Outputs.{fault_words, line_fault};
 ghost use Rattle.cs_top.specs.Met.{HasToldSize, OfBytes};

@@ -3,7 +3,7 @@ ghost use Rattle.std.specs.Prelude.{◌++◌, ◌∷◌, [], OnOk, OnErr};
 ghost use Rattle.std.specs.List.{flat_map};
 ghost use Rattle.cs_base.specs.outside.Causes.{Counted};
 ghost use Rattle.cs_base.specs.outside.Outside.{Grew, GrewByPrefix};
-ghost use Rattle.cs_docs.specs.Refusals.{words_said};
+ghost use Rattle.cs_docs.specs.FaultRefusals.{words_said};
 ghost use Rattle.cs_top.specs.Views.{said_text};
 ghost use Rattle.cs_top.specs.declared.said.Said.TheVariants as TheSaid;
 

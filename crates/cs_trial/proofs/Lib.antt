@@ -1,6 +1,6 @@
 pub mod DrawsLemmas
 pub mod WordsLemmas
-pub mod LinesLemmas
+pub mod TrialLineLemmas
 pub mod TypingLemmas
-pub mod AcceptedLemmas
-pub mod TypedLemmas
+pub mod NoneRefused
+pub mod TypedTexts

@@ -17,7 +17,7 @@ use Rattle.cs_model_trial.specs.Generator.{next_state, behind, drawn, draws, wor
 use Rattle.cs_model_trial.specs.Sessions.{session_draws, text_word, typed_texts, session_at, session}
 use Rattle.cs_model_trial.specs.declared.sizes.TheConstants.{WORDS}
 use Rattle.cs_trial.proofs.DrawsLemmas.{behind_more, behind_sum, drawn_at}
-use Rattle.cs_trial.proofs.LinesLemmas.{text_draws, flat_map_more}
+use Rattle.cs_trial.proofs.TrialLineLemmas.{text_draws, flat_map_more}
 
 fourth : (x : ℕ) → behind 4 x ≡ next_state (behind 3 x)
 fourth x = behind_more 3 x

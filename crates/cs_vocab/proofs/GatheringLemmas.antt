@@ -14,7 +14,7 @@ use Rattle.cs_base.specs.content.Members.{members_in}
 use Rattle.cs_base.proofs.MembersLemmas.{members-alike}
 use Rattle.cs_vocab.specs.Ranges.{IsWordAt, AreNumbers}
 use Rattle.cs_vocab.specs.Gathering.{HasTaken}
-use Rattle.cs_vocab.proofs.NumbersLemmas.{numbers_kept, numbers_more}
+use Rattle.cs_vocab.proofs.WordNumberLemmas.{numbers_kept, numbers_more}
 
 abbrev listed : List (List ℕ) → List (List ℕ)
 listed ws = members_in (slice_cmp nat_cmp) ws

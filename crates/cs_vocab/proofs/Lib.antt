@@ -1,4 +1,4 @@
 pub mod GatheringLemmas
-pub mod NumbersLemmas
+pub mod WordNumberLemmas
 pub mod RangesLemmas
 pub mod SortedRefs

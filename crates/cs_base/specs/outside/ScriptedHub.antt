@@ -9,7 +9,7 @@
 --   comes s room es      the event, with its bytes, that the first event of a script is
 --   left_behind room es  what is left of the script behind it
 --   becomes e s          what every hub tells behind event e
---   played, listened, sent_all, cut_off, hung_up  such a hub behind what a call did
+--   played, listening_anew, sent_all, cut_off, hung_up    such a hub behind what a call did
 --   next_called, send_called                      a call more of `listen` or `next`, or of `send`, was made
 --   next_missed                                   one of `listen` or `next` was made, and failed
 --   listening_code, came_code, talk_code, script_code      these as pairs, from which they are read back
@@ -98,8 +98,8 @@ played room s =
     record s { hub = becomes came.event s.hub; talk = hears came s.talk; left = left_behind room events }
 
 -- behind a `listen`: it begins anew with nothing opened and a silent talk, and what is left of the script stays
-abbrev pub listened : ℕ → ℕ → ScriptState → ScriptState
-listened port conns s = record s { hub = listens port conns; talk = silent }
+abbrev pub listening_anew : ℕ → ℕ → ScriptState → ScriptState
+listening_anew port conns s = record s { hub = listens port conns; talk = silent }
 
 -- behind a `send` of all the bytes, which may be none
 abbrev pub sent_all : ℕ → List ℕ → ScriptState → ScriptState

@@ -155,7 +155,7 @@ impl Hub for ScriptHub {
     ghost use Rattle.cs_base.specs.outside.Causes.{Counted};
     ghost use Rattle.cs_base.specs.outside.FailingCalls.{fails_next};
     ghost use Rattle.cs_base.specs.outside.Hub.{IsLive};
-    ghost use Rattle.cs_base.specs.outside.ScriptedHub.{listened, hung_up, sent_all, next_called, next_missed};
+    ghost use Rattle.cs_base.specs.outside.ScriptedHub.{listening_anew, hung_up, sent_all, next_called, next_missed};
 
     ghost state = { λ h. h.hub };
 
@@ -169,7 +169,7 @@ impl Hub for ScriptHub {
     fn listen(&mut self, port: u16, conns: u32) -> Result<(), Failed>
         ensures due { fails_next self.old.next_calls ≡ true → IsErr result }
         ensures not_due { fails_next self.old.next_calls ≡ false → IsOk result }
-        ensures ok { OnOk result (self.new ≡ next_called (listened port conns self.old)) }
+        ensures ok { OnOk result (self.new ≡ next_called (listening_anew port conns self.old)) }
         ensures err { OnErr result (self.new ≡ next_missed self.old) }
         ensures counted { Counted self.old.faults self.new.faults result }
         ensures orderly { IsOrderly self.new.hub (Some self.new.talk) }

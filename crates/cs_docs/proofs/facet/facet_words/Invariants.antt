@@ -2,7 +2,7 @@ use Rattle.std.proofs.Common.{◌≡◌, ◌++◌, length}
 use Rattle.std.specs.List.{All}
 use Rattle.std.specs.Str.{IsUtf8}
 use Rattle.cs_model.specs.Collection.{facet_words, facet_pieces}
-use Rattle.cs_docs.specs.Pieces.{AreNamed}
+use Rattle.cs_docs.specs.FacetPieces.{AreNamed}
 use Rattle.cs_docs.proofs.facet.facet_words.Given as goal
 
 abbrev pub invariant-loop-rest : goal.invariant-loop-rest

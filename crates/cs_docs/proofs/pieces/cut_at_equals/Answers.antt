@@ -1,7 +1,7 @@
 use Rattle.std.proofs.Common.{None, lit<}
 use Rattle.std.proofs.lemmas.Str.Pattern.{split_once_first}
 use Rattle.cs_model.specs.Collection.{is_equals}
-use Rattle.cs_docs.proofs.PiecesLemmas.{none_passes}
+use Rattle.cs_docs.proofs.FacetPiecesLemmas.{none_passes}
 use Rattle.cs_docs.proofs.pieces.cut_at_equals.Goals as goal
 
 pub returns-in_default : goal.returns-in_default

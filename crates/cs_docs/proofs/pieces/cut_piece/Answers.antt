@@ -1,8 +1,8 @@
 use Rattle.std.proofs.Common.{ap, ◌∙◌, sym}
 use Rattle.std.specs.List.{after_first}
 use Rattle.cs_model.specs.Collection.{without_spaces, without_spaces_behind}
-use Rattle.cs_docs.specs.Pieces.{is_semicolon, one_piece}
-use Rattle.cs_docs.proofs.PiecesLemmas.{pieces_next}
+use Rattle.cs_docs.specs.FacetPieces.{is_semicolon, one_piece}
+use Rattle.cs_docs.proofs.FacetPiecesLemmas.{pieces_next}
 use Rattle.cs_docs.proofs.pieces.cut_piece.Goals as goal
 
 pub returns-clause-pieces : goal.returns-clause-pieces

@@ -1,6 +1,6 @@
 use Rattle.std.proofs.Common.{rules, Some, None, sym, ap, ◌∙◌, drop, lit<}
 use Rattle.std.proofs.lemmas.Str.Pattern.{strip_prefix_char}
-use Rattle.cs_docs.proofs.PiecesLemmas.{front_space, no_front_space}
+use Rattle.cs_docs.proofs.FacetPiecesLemmas.{front_space, no_front_space}
 use Rattle.cs_docs.proofs.pieces.without_spaces_before.Goals as goal
 
 pub loop-after-preserved : goal.loop-after-preserved

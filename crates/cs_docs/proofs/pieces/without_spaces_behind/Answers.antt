@@ -1,6 +1,6 @@
 use Rattle.std.proofs.Common.{rules, Some, None, sym, ◌∙◌, lit<}
 use Rattle.std.proofs.lemmas.Str.Pattern.{strip_suffix_char}
-use Rattle.cs_docs.proofs.PiecesLemmas.{behind_space, no_space_behind}
+use Rattle.cs_docs.proofs.FacetPiecesLemmas.{behind_space, no_space_behind}
 use Rattle.cs_docs.proofs.pieces.without_spaces_behind.Goals as goal
 
 pub loop-before-preserved : goal.loop-before-preserved

@@ -3,8 +3,8 @@ use Rattle.std.specs.Prelude.{None}
 use Rattle.std.proofs.lemmas.Bool.Decides.{nat_tests}
 use Rattle.std.specs.Str.Lines.{lines}
 use Rattle.cs_model.specs.Collection.{docs_refusal}
-use Rattle.cs_docs.specs.Refusals.{IsCauseOf, refusal_from}
-use Rattle.cs_docs.proofs.AcceptedLemmas.{few_documents}
+use Rattle.cs_docs.specs.FaultRefusals.{IsCauseOf, refusal_from}
+use Rattle.cs_docs.proofs.AcceptedCollections.{few_documents}
 use Rattle.cs_docs.proofs.LinesLemmas.{cause_next}
 use Rattle.cs_docs.proofs.reader.read_docs.Goals as goal
 

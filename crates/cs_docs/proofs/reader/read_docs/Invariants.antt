@@ -2,8 +2,8 @@ use Rattle.std.proofs.Common.{◌≡◌, ◌+◌, ◌≤◌, ◌++◌, length}
 use Rattle.std.specs.Str.Lines.{lines}
 use Rattle.cs_base.specs.declared.content.limits.TheConstants.{MAX_COLLECTION_BYTES}
 use Rattle.cs_model.specs.Collection.{documents, docs_refusal}
-use Rattle.cs_docs.specs.Reading.{documents_from}
-use Rattle.cs_docs.specs.Refusals.{refusal_from}
+use Rattle.cs_docs.specs.LinesRead.{documents_from}
+use Rattle.cs_docs.specs.FaultRefusals.{refusal_from}
 use Rattle.cs_docs.proofs.reader.read_docs.Given as goal
 
 abbrev pub invariant-loop-rest : goal.invariant-loop-rest

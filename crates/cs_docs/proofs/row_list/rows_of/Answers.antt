@@ -6,8 +6,8 @@ use Rattle.cs_base.specs.declared.content.doc.Doc.{Doc}
 use Rattle.cs_base.specs.declared.content.doc.Row.{Row}
 use Rattle.cs_model.specs.Corpus.{rows_of}
 use Rattle.cs_docs.specs.Listing.{listed_doc, listed_rows, HasUtf8Word}
-use Rattle.cs_docs.specs.Pieces.{CanBeListed}
-use Rattle.cs_docs.proofs.AcceptedLemmas.{accepted_docs, few_docs}
+use Rattle.cs_docs.specs.FacetPieces.{CanBeListed}
+use Rattle.cs_docs.proofs.AcceptedCollections.{accepted_docs, few_docs}
 use Rattle.cs_docs.proofs.ListingLemmas.{listed_next, rows_listed}
 use Rattle.cs_docs.proofs.row_list.rows_of.Goals as goal
 

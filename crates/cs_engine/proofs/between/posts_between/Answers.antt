@@ -1,6 +1,6 @@
 use Rattle.cs_engine.proofs.between.posts_between.Goals as goal
 use Rattle.cs_engine.proofs.between.posts_between.Goals.{then-is_in, else-is_in}
-use Rattle.cs_cols.specs.Held.{Held}
+use Rattle.cs_cols.specs.HeldPosts.{HeldPosts}
 use Rattle.std.proofs.Common.{◌≡◌, ◌<◌, ◌&&◌, Bool, ◌++◌, ◌+◌, ◌∷◌, [], ◌∙◌, sym, ap, length, drop, get_or, arith, true, false, length-append}
 use Rattle.std.specs.Prelude.{filter, nat_le, nat_lt}
 use Rattle.std.proofs.lemmas.List.{length-map, get_or_default}
@@ -30,10 +30,10 @@ loop-i-preserved c =
           let x = w.get.result in
           let passes : true ≡ test x = sym w.if-is_in.true ∙ c.is_in.ensures
           ∙ ap (λ n. nat_le c.args.lo n && nat_lt n c.args.hi) (word_in posts c.words-words.result.now c.loop-i.i x c.words-words.ensures within w.get.ensures) in
-          let is : c.if-is_in.found.posts ≡ c.loop-i.found.posts ++ x ∷ [] = ap (λ (h : Held). h.posts) w.found-is ∙ w.push_reserved.ensures.posts in
+          let is : c.if-is_in.found.posts ≡ c.loop-i.found.posts ++ x ∷ [] = ap (λ (h : HeldPosts). h.posts) w.found-is ∙ w.push_reserved.ensures.posts in
           record {
             told = filter_more test (filter test posts) c.loop-i.found.posts posts c.loop-i.i x true c.loop-i.invariant.told within w.get.ensures passes ∙ ap (λ l. l ++ filter test (drop (c.loop-i.i + 1) posts)) (sym is);
-            room = omega (arith, c.loop-i.invariant.room, ap length is, length-append c.loop-i.found.posts (x ∷ []), ap (λ (h : Held). h.room) w.found-is, w.push_reserved.ensures.room);
+            room = omega (arith, c.loop-i.invariant.room, ap length is, length-append c.loop-i.found.posts (x ∷ []), ap (λ (h : HeldPosts). h.room) w.found-is, w.push_reserved.ensures.room);
           }
       | else-is_in w ↦
           let x = get_or posts c.loop-i.i blank in
@@ -41,7 +41,7 @@ loop-i-preserved c =
           let fails : false ≡ test x = sym w.if-is_in.false ∙ c.is_in.ensures
           ∙ ap (λ n. nat_le c.args.lo n && nat_lt n c.args.hi) (word_in posts c.words-words.result.now c.loop-i.i x c.words-words.ensures within at) in
           record {
-            told = filter_more test (filter test posts) c.loop-i.found.posts posts c.loop-i.i x false c.loop-i.invariant.told within at fails ∙ ap (λ (h : Held). h.posts ++ filter test (drop (c.loop-i.i + 1) posts)) (sym w.found-is);
-            room = omega (arith, c.loop-i.invariant.room, ap (λ (h : Held). length h.posts) w.found-is, ap (λ (h : Held). h.room) w.found-is);
+            told = filter_more test (filter test posts) c.loop-i.found.posts posts c.loop-i.i x false c.loop-i.invariant.told within at fails ∙ ap (λ (h : HeldPosts). h.posts ++ filter test (drop (c.loop-i.i + 1) posts)) (sym w.found-is);
+            room = omega (arith, c.loop-i.invariant.room, ap (λ (h : HeldPosts). length h.posts) w.found-is, ap (λ (h : HeldPosts). h.room) w.found-is);
           }
     ]

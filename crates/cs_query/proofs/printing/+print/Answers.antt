@@ -1,4 +1,4 @@
-use Rattle.cs_query.proofs.Joined.{parts_start, part_starts}
+use Rattle.cs_query.proofs.JoinedEntries.{parts_start, part_starts}
 use Rattle.cs_query.proofs.printing.+print.Goals as goal
 
 pub put_parts-loop-i-init : goal.put_parts-loop-i-init

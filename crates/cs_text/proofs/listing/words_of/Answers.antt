@@ -2,7 +2,7 @@ use Rattle.std.proofs.Common.{rules, ap, ◌∙◌}
 use borrow.Author.Tests.{tests}
 use Rattle.std.proofs.lemmas.Iterator.Consumers.{YieldsList-end, YieldsList-at}
 use Rattle.cs_model.specs.Words.{is_gap}
-use Rattle.cs_text.specs.Pieces.{words_in}
+use Rattle.cs_text.specs.WordPieces.{words_in}
 use Rattle.cs_text.proofs.SplitLemmas.{YieldsList-from_str_split_at}
 use Rattle.cs_text.proofs.listing.words_of.Goals as goal
 

@@ -1,6 +1,6 @@
 use Rattle.std.proofs.Common.{◌≡◌, map}
 use Rattle.std.specs.Str.{chars}
-use Rattle.cs_text.specs.Pieces.{words_in}
+use Rattle.cs_text.specs.WordPieces.{words_in}
 use Rattle.cs_text.proofs.listing.words_of.Given as goal
 
 abbrev pub invariant-loop-piece : goal.invariant-loop-piece

@@ -6,7 +6,7 @@ use Rattle.std.proofs.lemmas.Str.{chars-IsAscii}
 use Rattle.cs_model.specs.Ascii.{is_ascii_gap}
 use Rattle.cs_model.specs.Words.{words_of}
 use Rattle.cs_model.proofs.AsciiLemmas.{words_of-ascii, AllAscii-from_IsAscii}
-use Rattle.cs_text.specs.Pieces.{ascii_words_in}
+use Rattle.cs_text.specs.WordPieces.{ascii_words_in}
 use Rattle.cs_text.proofs.listing.words_of_ascii.Goals as goal
 
 pub returns : goal.returns

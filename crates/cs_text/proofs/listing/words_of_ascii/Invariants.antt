@@ -1,5 +1,5 @@
 use Rattle.std.proofs.Common.{◌≡◌, map}
-use Rattle.cs_text.specs.Pieces.{ascii_words_in}
+use Rattle.cs_text.specs.WordPieces.{ascii_words_in}
 use Rattle.cs_text.proofs.listing.words_of_ascii.Given as goal
 
 abbrev pub invariant-loop-piece : goal.invariant-loop-piece

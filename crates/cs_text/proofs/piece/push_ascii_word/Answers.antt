@@ -1,6 +1,6 @@
 use Rattle.std.proofs.Common.{◌++◌, ◌∷◌, [], take, sym, ap, ◌∙◌}
 use Rattle.cs_base.specs.declared.content.limits.TheConstants.{MAX_PLAIN_WORD_BYTES}
-use Rattle.cs_text.proofs.PiecesLemmas.{ascii_words_in-some, take-min}
+use Rattle.cs_text.proofs.WordPiecesLemmas.{ascii_words_in-some, take-min}
 use Rattle.cs_text.proofs.piece.push_ascii_word.Goals as goal
 
 pub returns-clause-ok : goal.returns-clause-ok

@@ -1,8 +1,8 @@
 use Rattle.std.proofs.Common.{◌≡◌, ◌≤◌, ◌++◌, ◌∷◌, [], length, sym, ap, ◌∙◌, append-nil}
 use Rattle.std.specs.Str.{chars}
-use Rattle.cs_text.specs.Pieces.{words_in}
+use Rattle.cs_text.specs.WordPieces.{words_in}
 use Rattle.cs_text.proofs.CutLemmas.{some_chars}
-use Rattle.cs_text.proofs.PiecesLemmas.{words_in-empty, words_in-some, some_length}
+use Rattle.cs_text.proofs.WordPiecesLemmas.{words_in-empty, words_in-some, some_length}
 use Rattle.cs_text.proofs.piece.push_word.Goals as goal
 
 pub returns-then-is_empty-clause-ok : goal.returns-then-is_empty-clause-ok

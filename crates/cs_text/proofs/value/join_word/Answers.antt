@@ -4,9 +4,9 @@ use Rattle.std.specs.Bool.{◌==◌}
 use Rattle.std.specs.String.{string_bytes, string_len}
 use Rattle.std.proofs.lemmas.Str.{encode_ascii}
 use Rattle.cs_model.specs.Words.{cut}
-use Rattle.cs_text.specs.Pieces.{joined_with}
+use Rattle.cs_text.specs.WordPieces.{joined_with}
 use Rattle.cs_text.proofs.CutLemmas.{some_chars}
-use Rattle.cs_text.proofs.PiecesLemmas.{words_in-empty, words_in-some, some_length, nil_from_test}
+use Rattle.cs_text.proofs.WordPiecesLemmas.{words_in-empty, words_in-some, some_length, nil_from_test}
 use Rattle.cs_text.proofs.SlugLemmas.{joined_with-next}
 use Rattle.cs_text.proofs.value.join_word.Goals.{then-not-is_empty+in_ok-push, else-not-is_empty}
 use Rattle.cs_text.proofs.value.join_word.Goals as goal

@@ -5,7 +5,7 @@ use Rattle.std.specs.List.{join_with_byte}
 use Rattle.std.proofs.lemmas.Iterator.Consumers.{YieldsList-end, YieldsList-at}
 use Rattle.std.proofs.lemmas.List.{map-append}
 use Rattle.cs_model.specs.Words.{is_gap}
-use Rattle.cs_text.specs.Pieces.{words_in, joined_with}
+use Rattle.cs_text.specs.WordPieces.{words_in, joined_with}
 use Rattle.cs_text.proofs.SlugLemmas.{joined_with-piece}
 use Rattle.cs_text.proofs.SplitLemmas.{YieldsList-from_str_split_at}
 use Rattle.cs_text.proofs.value.joined_words.Goals as goal

@@ -1,7 +1,7 @@
 use Rattle.std.proofs.Common.{◌≡◌, map, string_bytes}
 use Rattle.std.specs.Str.{chars}
 use Rattle.std.specs.List.{join_with_byte}
-use Rattle.cs_text.specs.Pieces.{words_in}
+use Rattle.cs_text.specs.WordPieces.{words_in}
 use Rattle.cs_text.proofs.value.joined_words.Given as goal
 
 abbrev pub invariant-loop-piece : goal.invariant-loop-piece

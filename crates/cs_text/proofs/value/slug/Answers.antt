@@ -6,7 +6,7 @@ use Rattle.std.specs.Str.{chars}
 use Rattle.std.specs.String.{string_bytes, string_len}
 use Rattle.cs_model.specs.KeyText.{norm}
 use Rattle.cs_model.specs.Words.{words, words_of, is_gap, cut}
-use Rattle.cs_text.proofs.PiecesLemmas.{AllSome-words_in}
+use Rattle.cs_text.proofs.WordPiecesLemmas.{AllSome-words_in}
 use Rattle.cs_text.proofs.SlugLemmas.{slug_of-none, slug_of-some}
 use Rattle.cs_text.proofs.value.slug.Goals as goal
 

@@ -1,7 +1,7 @@
 use Rattle.std.proofs.Common.{◌≡◌, ◌∙◌, ap, arith}
 use Rattle.std.specs.List.{flat_map, range_with_len}
 use Rattle.cs_model_trial.specs.Generator.{collection, line_draws, line_count, trial_line}
-use Rattle.cs_trial.proofs.LinesLemmas.{lines_more, line_behind}
+use Rattle.cs_trial.proofs.TrialLineLemmas.{lines_more, line_behind}
 use Rattle.cs_trial.proofs.lines.collection.Goals as goal
 
 pub loop-preserved : goal.loop-preserved

@@ -1,6 +1,6 @@
 use Rattle.std.proofs.Common.{◌∙◌, ap}
 use Rattle.cs_model_trial.specs.Generator.{behind, next_state}
-use Rattle.cs_trial.proofs.LinesLemmas.{line_is, behind_line}
+use Rattle.cs_trial.proofs.TrialLineLemmas.{line_is, behind_line}
 use Rattle.cs_trial.proofs.lines.put_line.Goals as goal
 
 pub returns-clause-bytes : goal.returns-clause-bytes

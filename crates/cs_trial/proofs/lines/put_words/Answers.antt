@@ -2,7 +2,7 @@ use Rattle.std.proofs.Common.{◌∙◌, ◌++◌, sym, ap, append-nil, refl}
 use Rattle.cs_model_trial.specs.Generator.{behind, draws, drawn, next_state, word}
 use Rattle.cs_model_trial.specs.declared.sizes.TheConstants.{WORDS}
 use Rattle.cs_trial.proofs.DrawsLemmas.{behind_more}
-use Rattle.cs_trial.proofs.LinesLemmas.{put_more}
+use Rattle.cs_trial.proofs.TrialLineLemmas.{put_more}
 use Rattle.cs_trial.proofs.lines.put_words.Goals as goal
 
 pub loop-i-init : goal.loop-i-init

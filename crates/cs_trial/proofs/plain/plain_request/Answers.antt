@@ -7,7 +7,7 @@ use Rattle.cs_model.specs.Collection.{has_name_form}
 use Rattle.cs_model.specs.Refusals.{Bad, Limit}
 use Rattle.cs_model.proofs.PartsLemmas.{few_parts}
 use Rattle.cs_trial.specs.Typed.{IsTyped}
-use Rattle.cs_trial.proofs.AcceptedLemmas.{none_refused}
+use Rattle.cs_trial.proofs.NoneRefused.{none_refused}
 use Rattle.cs_trial.proofs.plain.plain_request.Goals as goal
 
 pub unreachable-requires : goal.unreachable-requires

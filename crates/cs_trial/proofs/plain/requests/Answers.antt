@@ -4,7 +4,7 @@ use Rattle.cs_model.specs.Parameters.{HoldsLimits}
 use Rattle.cs_model_trial.specs.Sessions.{plain_request}
 use Rattle.cs_query.specs.declared.request.Request.{Request}
 use Rattle.cs_query.specs.RequestView.{asked}
-use Rattle.cs_trial.proofs.TypedLemmas.{typed_at, one_more}
+use Rattle.cs_trial.proofs.TypedTexts.{typed_at, one_more}
 use Rattle.cs_trial.proofs.plain.requests.Goals as goal
 
 pub plain_request-requires : goal.plain_request-requires

@@ -1,7 +1,7 @@
 use Rattle.std.proofs.Common.{◌≡◌, ◌+◌, [], take, get_or, sym, subst, ◌∙◌}
 use Rattle.std.proofs.lemmas.List.{get_or_default}
 use Rattle.cs_vocab.specs.Ranges.{AreNumbers}
-use Rattle.cs_vocab.proofs.NumbersLemmas.{is_listed, numbers_more}
+use Rattle.cs_vocab.proofs.WordNumberLemmas.{is_listed, numbers_more}
 use Rattle.cs_vocab.proofs.numbered.numbers_of.Goals as goal
 
 pub number_of-requires : goal.number_of-requires

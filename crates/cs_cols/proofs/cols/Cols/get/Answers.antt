@@ -1,6 +1,6 @@
 use Rattle.std.proofs.Common.{◌≡◌, ◌<◌, ◌∙◌, ap, arith, length, get_or}
 use Rattle.std.proofs.lemmas.List.{get_or_read}
-use Rattle.cs_cols.specs.Held.{Held}
+use Rattle.cs_cols.specs.HeldPosts.{HeldPosts}
 use Rattle.cs_cols.proofs.Columns.{posts-length, posts-at, post}
 use Rattle.cs_cols.proofs.cols.Cols.get.Goals as goal
 
@@ -13,7 +13,7 @@ returns c =
     let ss = s.scores.items in
     let even = c.self.invariant.0 in
     let n = posts-length ds ws ps ss even in
-    let are = ap (λ (h : Held). length h.posts) c.self.view_is in
+    let are = ap (λ (h : HeldPosts). length h.posts) c.self.view_is in
     let short : c.args.i < length ds = omega (arith, n, are) in
     let made = post c.index.result.now c.index-2.result.now c.index-3.result.now c.index-4.result.now in
     let d : c.index.result.now ≡ get_or ds c.args.i 0 = get_or_read ds c.args.i _ short c.index.ensures 0 in

@@ -2,7 +2,7 @@ use Rattle.std.proofs.Common.{◌≡◌, ◌∙◌, ℕ, List, ap, arith, length
 use Rattle.std.specs.Prelude.{map}
 use Rattle.std.proofs.lemmas.List.{length-map}
 use Rattle.cs_base.specs.declared.content.doc.Post.{Post}
-use Rattle.cs_cols.specs.Held.{Held}
+use Rattle.cs_cols.specs.HeldPosts.{HeldPosts}
 use Rattle.cs_cols.proofs.Columns.{columns-back, held_length}
 use Rattle.cs_cols.proofs.cols.Cols.reserve.Goals as goal
 
@@ -18,7 +18,7 @@ extend_reserved-requires-clause-room c =
 
 pub returns-clause-ok : goal.returns-clause-ok
 returns-clause-ok c =
-    let now = ap (λ (h : Held). h.room) c.drop.view_is in
+    let now = ap (λ (h : HeldPosts). h.room) c.drop.view_is in
     let s = c.self.inside in
     let held = held_length s.docs.items s.words.items s.places.items s.scores.items _ _ c.self.invariant.0 c.self.view_is in
     let left = c.extend_reserved.ensures.room in
@@ -26,13 +26,13 @@ returns-clause-ok c =
 
 pub returns-clause-posts : goal.returns-clause-posts
 returns-clause-posts c =
-    ap (λ (h : Held). h.posts) c.drop.view_is ∙ c.extend_reserved.ensures.posts
+    ap (λ (h : HeldPosts). h.posts) c.drop.view_is ∙ c.extend_reserved.ensures.posts
     ∙ rw (c.in_ok-more.ensures.0, c.docs.ensures, c.words.ensures, c.places.ensures, c.scores.ensures) (columns-back c.args.self.now.posts)
 
 pub returns-clause-room : goal.returns-clause-room
 returns-clause-room c =
     let most = returns-clause-ok c in
-    let had = ap (λ (h : Held). h.room) c.self.view_is in
+    let had = ap (λ (h : HeldPosts). h.room) c.self.view_is in
     let few = c.if-n-cap.false in
     let len = c.len-len.ensures in
     let cap = c.capacity-cap.ensures in

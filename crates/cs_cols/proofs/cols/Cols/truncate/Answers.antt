@@ -1,5 +1,5 @@
 use Rattle.std.proofs.Common.{◌∙◌, ap, take}
-use Rattle.cs_cols.specs.Held.{Held}
+use Rattle.cs_cols.specs.HeldPosts.{HeldPosts}
 use Rattle.cs_cols.proofs.Columns.{even-take, posts-take}
 use Rattle.cs_cols.proofs.PlacedLemmas.{placed-kept}
 use Rattle.cs_cols.proofs.cols.Cols.truncate.Goals as goal
@@ -18,4 +18,4 @@ pub returns-clause-posts : goal.returns-clause-posts
 returns-clause-posts c =
     rw (c.truncate_column.ensures.items, c.truncate_column-2.ensures.items, c.truncate_column-3.ensures.items, c.truncate_column-4.ensures.items)
     (posts-take c.args.n c.self.inside.docs.items c.self.inside.words.items c.self.inside.places.items c.self.inside.scores.items
-    ∙ ap (λ (h : Held). take c.args.n h.posts) c.self.view_is)
+    ∙ ap (λ (h : HeldPosts). take c.args.n h.posts) c.self.view_is)

@@ -1,7 +1,7 @@
 use Rattle.std.proofs.Common.{◌≡◌, ℕ, List, map, slice_index, sym, ap, subst, ◌∙◌}
 use Rattle.cs_base.specs.declared.content.doc.Row.{Row}
 use Rattle.cs_vocab.specs.Ranges.{AreNumbers}
-use Rattle.cs_vocab.proofs.NumbersLemmas.{through_numbers}
+use Rattle.cs_vocab.proofs.WordNumberLemmas.{through_numbers}
 use Rattle.cs_vocab.proofs.numbered.Numbered.of.Goals as goal
 
 pub returns-clause-numbers : goal.returns-clause-numbers

@@ -13,8 +13,8 @@ use Rattle.cs_model.specs.Collection.{piece_refusal, line_refusal, docs_refusal,
 use Rattle.cs_model.specs.Words.{is_filled}
 use Rattle.cs_model.specs.First.{unless, first_reason}
 use Rattle.cs_model.proofs.FirstLemmas.{none_first, none_rest, unless_none}
-use Rattle.cs_docs.specs.Pieces.{IsNamed, AreNamed, CanBeListed}
-use Rattle.cs_docs.specs.Reading.{doc_lines_from}
+use Rattle.cs_docs.specs.FacetPieces.{IsNamed, AreNamed, CanBeListed}
+use Rattle.cs_docs.specs.LinesRead.{doc_lines_from}
 use Rattle.cs_docs.proofs.PlainLemmas.{length_documents_of_lines}
 
 -- ---- nothing is refused

@@ -14,7 +14,7 @@ use Rattle.cs_docs.specs.declared.fault.DocFault.TheVariants.{TooLarge, NotUtf8,
 use Rattle.cs_docs.specs.declared.fault.RowsFault.{RowsFault}
 use Rattle.cs_docs.specs.declared.fault.RowsFault.TheVariants as rows
 use Rattle.cs_docs.specs.declared.fault.Reason.{Reason}
-use Rattle.cs_docs.specs.Reading.{doc_lines_from}
+use Rattle.cs_docs.specs.LinesRead.{doc_lines_from}
 
 abbrev pub refusal_of : DocFault → Option CollectionRefusal
 refusal_of TooLarge = Some too_large

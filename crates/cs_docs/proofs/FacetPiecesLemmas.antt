@@ -9,7 +9,7 @@ use Rattle.std.proofs.lemmas.List.Splits.{slice_split_first, slice_split_none}
 use Rattle.std.proofs.lemmas.List.Sums.{fails_before_first}
 use Rattle.cs_model.specs.Collection.{is_space, without_spaces, without_spaces_behind, facet_pieces}
 use Rattle.cs_model.specs.Words.{is_filled}
-use Rattle.cs_docs.specs.Pieces.{one_piece, is_semicolon}
+use Rattle.cs_docs.specs.FacetPieces.{one_piece, is_semicolon}
 
 -- ---- spaces
 

@@ -10,7 +10,7 @@ use Rattle.std.proofs.lemmas.List.Elements.{filter-append}
 use Rattle.std.proofs.lemmas.Str.{chars-nil}
 use Rattle.cs_base.specs.declared.content.limits.TheConstants.{MAX_PLAIN_WORD_BYTES}
 use Rattle.cs_model.specs.Words.{is_filled, cut}
-use Rattle.cs_text.specs.Pieces.{words_in, ascii_words_in}
+use Rattle.cs_text.specs.WordPieces.{words_in, ascii_words_in}
 use Rattle.cs_text.proofs.CutLemmas.{cut-some}
 
 pub some_length : (n : ℕ) → (n == 0) ≡ false → 1 ≤ n

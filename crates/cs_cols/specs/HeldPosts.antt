@@ -1,13 +1,13 @@
 -- What callers see of columns of posts, and how the columns stand for it.
 --
---   Held                   posts in their order, and how many more there is room for
+--   HeldPosts              posts in their order, and how many more there is room for
 --   posts_of ds ws ps ss   the posts whose documents, words, positions and scores these are; a column that is longer than another has no say behind its end
 --   AreEven ds ws ps ss    the four columns are equally long
 use Rattle.std.specs.Prelude.{◌≡◌, ℕ, List, [], ◌∷◌, length}
 use Rattle.cs_base.specs.declared.content.doc.Post.{Post}
 
 -- posts in their order, and how many more there is room for
-pub record Held : Type 0 where
+pub record HeldPosts : Type 0 where
   pub posts : List Post
   pub room : ℕ
 
