@@ -34,7 +34,7 @@ use Rattle.cs_model.specs.Corpus.{Corpus, titles_of, doc_rows, rows_of, corpus}
 use Rattle.cs_model.specs.Grammar.{query_of}
 use Rattle.cs_model.specs.Answers.{PartRows, begins, greatest_score, parts_of}
 use Rattle.cs_model.specs.Replies.{Reply, Shown, HitShown, reply_text}
-use Rattle.cs_model.specs.Requests.{Request, reply_of}
+use Rattle.cs_model.specs.Requests.{Request, by_default, reply_of}
 use Rattle.cs_model.specs.Faults.{bad_text}
 use Rattle.cs_model.specs.Refusals.{Bad}
 use Rattle.cs_model.specs.Parameters.{parameter, bad_query, request_refusal, request_of}
@@ -154,7 +154,7 @@ parts-prefix = simp (query_rolled, part_listed, chain_rolled, prefix_rows) refl
 -- ---- replies
 -- a query alone, with the defaults
 abbrev asks : List ℕ → Request
-asks text = record { query = query_of text; hits = 10; completions = 10; offset = 0; facets = [] }
+asks text = by_default (query_of text)
 
 abbrev shown : ℕ → List ℕ → Shown
 shown docs word = record { docs = docs; word = word }
@@ -271,14 +271,14 @@ reply-open_join = answered (asks (codes "author[")) ∙ simp (query_rolled, part
 
 -- ---- cuts and facets
 abbrev one_behind : Request
-one_behind = record { query = query_of []; hits = 1; completions = 10; offset = 1; facets = [] }
+one_behind = record (asks []) { hits = 1; offset = 1 }
 
 -- one hit behind the first is shown, and all are counted
 reply-window : reply_of worked one_behind ≡ record { completions = []; facets = []; hits = second 0 ∷ []; total_completions = 0; total_hits = 3 }
 reply-window = answered one_behind ∙ simp (query_rolled, titles-are, titles-found) refl
 
 abbrev with_facets : Request
-with_facets = record { query = query_of (codes "search"); hits = 10; completions = 10; offset = 0; facets = codes "author" ∷ codes "zzz" ∷ [] }
+with_facets = record (asks (codes "search")) { facets = codes "author" ∷ codes "zzz" ∷ [] }
 
 -- a facet's words over the hits; of a name that no document has there is none
 reply-facets : reply_of worked with_facets ≡ record {

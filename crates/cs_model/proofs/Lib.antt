@@ -7,6 +7,7 @@ pub mod CanonicalLemmas
 pub mod CanonicalReading
 pub mod ClassLemmas
 pub mod CollectionExamples
+pub mod DefaultRequests
 pub mod FineTokens
 pub mod FirstLemmas
 pub mod FittingLemmas

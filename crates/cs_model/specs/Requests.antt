@@ -4,6 +4,7 @@
 --
 --   Request                  the query; how many hits are shown; how many completions, and words of each facet table, are
 --                            shown; how many hits are left out in front; the names of the facets asked
+--   by_default q             what a query asks alone: the defaults, no hit left out in front, and no facet
 --   shown_of c               a completion as it is shown
 --   hit_shown k h            a hit with its title; the empty text where the corpus has no such document
 --   facet_shown k ps cut n   the table of the facet n, cut to so many words
@@ -14,6 +15,7 @@
 use Rattle.std.specs.Prelude.{ℕ, List, [], map, length, take, drop}
 use Rattle.std.specs.Option.{unwrap_or}
 use Rattle.std.specs.FinMap as map
+use Rattle.cs_base.specs.declared.content.limits.TheConstants.{DEFAULT_HITS, DEFAULT_COMPLETIONS}
 use Rattle.cs_base.specs.declared.content.query.Query.{Query}
 use Rattle.cs_base.specs.declared.content.doc.Scored.{Scored}
 use Rattle.cs_model.specs.Corpus.{Corpus}
@@ -27,6 +29,10 @@ pub record Request : Type 0 where
   pub completions : ℕ
   pub offset : ℕ
   pub facets : List (List ℕ)
+
+-- what a query asks where nothing else is said, the empty query too
+abbrev pub by_default : Query → Request
+by_default q = record { query = q; hits = DEFAULT_HITS; completions = DEFAULT_COMPLETIONS; offset = 0; facets = [] }
 
 -- ---- replies
 -- a completion as it is shown, a facet's word without its leading colon

@@ -11,7 +11,7 @@ use Rattle.cs_base.specs.declared.content.query.Part.{out-roll-Part}
 use Rattle.cs_base.specs.declared.content.query.Chain.{out-roll-Chain}
 use Rattle.cs_model.specs.Words.{is_word_char}
 use Rattle.cs_model.specs.Grammar.{query_of}
-use Rattle.cs_model.specs.Requests.{Request}
+use Rattle.cs_model.specs.Requests.{Request, by_default}
 use Rattle.cs_model_kept.specs.Due.{Division, due}
 use Rattle.cs_model_kept.proofs.DueLemmas.{met_query, met_part, met_chain, met_linked, met_prefix_atom, met_exact_atom, met_join_atom}
 
@@ -30,7 +30,7 @@ division = record {
 }
 
 abbrev asks : List ℕ → List (List ℕ) → Request
-asks text facets = record { query = query_of text; hits = 10; completions = 10; offset = 0; facets = facets }
+asks text facets = record (by_default (query_of text)) { facets = facets }
 
 -- ---- letter by letter
 -- the one block of plain words, and three titles

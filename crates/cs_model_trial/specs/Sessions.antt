@@ -16,11 +16,10 @@
 use Rattle.std.specs.Prelude.{ℕ, ◌+◌, ◌*◌, ◌%◌, List, [], ◌∷◌, ◌++◌, map, take, length, slice_index_or}
 use Rattle.std.specs.List.{flat_map, range_with_len}
 use Rattle.std.specs.Str.{chars}
-use Rattle.cs_base.specs.declared.content.limits.TheConstants.{DEFAULT_HITS, DEFAULT_COMPLETIONS}
 use Rattle.cs_base.specs.declared.content.query.Query.{Query}
 use Rattle.cs_model.specs.Grammar.{query_of}
 use Rattle.cs_model.specs.KeyText.{norm}
-use Rattle.cs_model.specs.Requests.{Request}
+use Rattle.cs_model.specs.Requests.{Request, by_default}
 use Rattle.cs_model_trial.specs.declared.sizes.TheConstants.{TEXT_WORDS, SESSIONS, TYPED_LETTERS}
 use Rattle.cs_model_trial.specs.Generator.{behind, draws, word, line_bounds, line_draws, text_of, line_count}
 
@@ -58,7 +57,7 @@ texts n = flat_map (session n) (range_with_len 0 SESSIONS)
 
 -- what a text asks: the query of its key text, with the defaults and without facets
 abbrev pub plain_request : List ℕ → Request
-plain_request text = record { query = query_of (chars (norm text)); hits = DEFAULT_HITS; completions = DEFAULT_COMPLETIONS; offset = 0; facets = [] }
+plain_request text = by_default (query_of (chars (norm text)))
 
 -- the queries of trial n, in the order in which they are asked
 abbrev pub queries : ℕ → List Query

@@ -3,7 +3,8 @@ ghost use Rattle.std.specs.Prelude.{◌≡◌};
 ghost use Rattle.cs_query.specs.ParamNames.{param_name};
 
 use crate::Which;
-use cs_base::{Memory, Query, Seq, Text};
+use cs_base::{DEFAULT_COMPLETIONS, DEFAULT_HITS, Memory, Query, Seq, Text};
+use std::alloc::Global;
 
 /// Why a string of parameters is no request.
 #[derive(Clone, Copy, Debug, PartialEq, Eq)]
@@ -80,4 +81,23 @@ pub struct Request {
     pub offset: u32,
     /// The names of the facets asked, each once, in byte order.
     pub facets: Seq<Text>,
+}
+
+impl Request {
+    ghost use Rattle.std.specs.Prelude.{◌≡◌};
+    ghost use Rattle.cs_model.specs.Requests.{by_default};
+    ghost use Rattle.cs_query.specs.RequestView.{asked};
+
+    /// What a query asks where nothing else is said: the defaults, no hit left out in front, and no facet.
+    pub fn by_default(alloc: Global, query: Query) -> Self
+        ensures { asked result ≡ by_default query }
+    {
+        Request {
+            query,
+            hits: DEFAULT_HITS,
+            completions: DEFAULT_COMPLETIONS,
+            offset: 0,
+            facets: Seq::new(alloc),
+        }
+    }
 }

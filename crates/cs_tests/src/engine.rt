@@ -2,7 +2,7 @@
 ghost use Rattle.std.specs.Prelude.{◌≡◌, IfOk, Some};
 ghost use Rattle.cs_file.specs.Indexes.{HasAllBlocks};
 
-use cs_base::{Kept, MemStore, Plan, Seq, Store};
+use cs_base::{Kept, MemStore, Plan, Store};
 use cs_engine::{Engine, Note};
 use cs_file::open_index;
 use cs_query::{Reply, Request, parse};
@@ -35,13 +35,7 @@ fn answer(
     let Ok(query) = parse(alloc, text) else {
         return Err(Fail::new("no query"));
     };
-    let request = Request {
-        query,
-        hits: 10,
-        completions: 10,
-        offset: 0,
-        facets: Seq::new(alloc),
-    };
+    let request = Request::by_default(alloc, query);
     match engine.ask(alloc, store, &request) {
         Ok(answered) => Ok(answered),
         Err(_) => Err(Fail::new("no reply")),

@@ -8,7 +8,7 @@ ghost use Rattle.cs_query.specs.RequestView.{asked};
 ghost use Rattle.cs_trial.specs.Typed.{IsTyped};
 
 use crate::typing::texts;
-use cs_base::{DEFAULT_COMPLETIONS, DEFAULT_HITS, Memory, Seq, Text};
+use cs_base::{Memory, Text};
 use cs_query::{QueryFault, Request, parse};
 use std::alloc::Global;
 
@@ -41,11 +41,5 @@ fn plain_request(alloc: Global, text: &Text) -> Result<Request, Memory>
         Err(QueryFault::Bad { .. }) => unreachable!(),
         Err(QueryFault::Limit { .. }) => unreachable!(),
     };
-    Ok(Request {
-        query,
-        hits: DEFAULT_HITS,
-        completions: DEFAULT_COMPLETIONS,
-        offset: 0,
-        facets: Seq::new(alloc),
-    })
+    Ok(Request::by_default(alloc, query))
 }
