@@ -6,7 +6,7 @@
 use Rattle.std.proofs.Common.{◌≡◌, ℕ, zero, suc, ◌+◌, ◌≤◌, List, [], ◌∷◌, ◌++◌, map, length, take, refl, ap, ◌∙◌, sym, Bool, true, false, not, arith, length-append, None}
 use Rattle.std.specs.Char.{encode_utf8}
 use Rattle.std.proofs.lemmas.Bool.{lt-ltb}
-use Rattle.cs_base.specs.declared.content.limits.TheConstants.{MAX_DEPTH, MAX_PLAIN_WORD_BYTES, MAX_QUERY_BYTES}
+use Rattle.cs_base.specs.declared.content.limits.TheConstants.{MAX_ATOMS, MAX_DEPTH, MAX_PARTS, MAX_PLAIN_WORD_BYTES, MAX_QUERY_BYTES}
 use Rattle.cs_model.specs.declared.kinds.Class.{Class}
 use Rattle.cs_model.specs.declared.kinds.Class.TheVariants as c
 use Rattle.cs_model.specs.declared.kinds.Tie.{Tie}
@@ -42,8 +42,8 @@ size_between (LinkedBy l) f ts = omega arith
 -- ---- limits
 -- the pieces are within the limits of parts and atoms
 pub record Few (ps : List Piece) : Type 0 where
-  pub parts : parts_in (map step_of ps) ≤ 16
-  pub atoms : atoms_in (map step_of ps) ≤ 32
+  pub parts : parts_in (map step_of ps) ≤ MAX_PARTS
+  pub atoms : atoms_in (map step_of ps) ≤ MAX_ATOMS
 
 pub few_before : (p : Piece) (ps : List Piece) → Few (p ∷ ps) → Few ps
 few_before (Plain t w) ps f = record { parts = omega (arith, f.parts); atoms = omega (arith, f.atoms) }
@@ -139,7 +139,7 @@ word_fine w (Open ∷ ts) h = refl
 word_fine w (Close ∷ ts) h = cc
 
 -- a word behind pieces, for an atom that takes n bytes
-fine_word : (t : Tie) (w : List ℕ) (ps : List Piece) (n : ℕ) → IsWord w → TieFits t ps → Well ps → Few (Plain t w ∷ ps) → size (Word w ∷ between_toks t (fresh ps) (toks ps)) + n + open_in ps ≤ 1024
+fine_word : (t : Tie) (w : List ℕ) (ps : List Piece) (n : ℕ) → IsWord w → TieFits t ps → Well ps → Few (Plain t w ∷ ps) → size (Word w ∷ between_toks t (fresh ps) (toks ps)) + n + open_in ps ≤ MAX_QUERY_BYTES
     → Fine (toks ps) → Fine (Word w ∷ between_toks t (fresh ps) (toks ps))
 fine_word t w ps n hw k h few s fine = (
   passes_as (Word w ∷ between_toks t (fresh ps) (toks ps)) (Plain t w ∷ ps) (steps_toks (Plain t w ∷ ps) ((k, hw), h)) ((k, hw), h) few
@@ -174,7 +174,7 @@ close_fine ps h o =
 
 -- the text within the limit, and room for the brackets that are open
 abbrev pub Fitting : List Piece → Type 0
-Fitting ps = size (toks ps) + open_in ps ≤ 1024
+Fitting ps = size (toks ps) + open_in ps ≤ MAX_QUERY_BYTES
 
 before_size : (t : Tie) (ps : List Piece) → size (toks ps) ≤ size (between_toks t (fresh ps) (toks ps))
 before_size t ps = omega (arith, size_between t (fresh ps) (toks ps))

@@ -7,6 +7,7 @@ use Rattle.std.specs.Prelude.{◌&&◌, ◌==◌, nat_lt, if◌then◌else◌, e
 use Rattle.std.specs.Str.{chars}
 use Rattle.std.proofs.lemmas.Bool.{not-false, ltb-true}
 use Rattle.std.proofs.lemmas.Str.{encodes-chars}
+use Rattle.cs_base.specs.declared.content.limits.TheConstants.{MAX_DEPTH}
 use Rattle.cs_base.specs.declared.content.query.Link.TheVariants.{Near}
 use Rattle.cs_base.specs.declared.content.query.Atom.{Prefix, Exact}
 use Rattle.cs_model.specs.declared.kinds.Spot.{Spot}
@@ -139,7 +140,7 @@ deep_same ts p = ap (λ ss. length (reading ss).open_now) (sym p.same) ∙ (prin
 open_cost : (n : List ℕ) → IsWord n → encode_utf8_all (chars n ++ 91 ∷ []) ≡ n ++ 91 ∷ []
 open_cost n h = sign_behind (chars n) 91 open_alone ∙ ap (λ l. l ++ 91 ∷ []) (encodes-chars n h.utf8)
 
-open_pieced : (n : List ℕ) (ts : List Token) → IsNameWord n → depth (Open ∷ Word n ∷ ts) ≤ 3 → opens ts ≡ true → Pieced ts → Pieced (Open ∷ Word n ∷ ts)
+open_pieced : (n : List ℕ) (ts : List Token) → IsNameWord n → depth (Open ∷ Word n ∷ ts) ≤ MAX_DEPTH → opens ts ≡ true → Pieced ts → Pieced (Open ∷ Word n ∷ ts)
 open_pieced n ts h d o p =
     let le = more_cost (tie ts) p.pieces (chars n ++ 91 ∷ []) (n ++ 91 ∷ []) (size ts) (length n + 1) (p.tied o) (open_cost n h.word) (omega (arith, length-append n (91 ∷ []))) in
     record {

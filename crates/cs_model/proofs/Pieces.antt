@@ -11,6 +11,7 @@
 use Rattle.std.specs.Prelude.{◌≡◌, ℕ, ◌+◌, ◌-◌, ◌≤◌, List, [], ◌∷◌, ◌++◌, Bool, true, false, ◌||◌, ◌==◌, length}
 use Rattle.std.specs.List.{list_all}
 use Rattle.std.specs.Str.{chars, IsUtf8}
+use Rattle.cs_base.specs.declared.content.limits.TheConstants.{MAX_PLAIN_WORD_BYTES}
 use Rattle.cs_base.specs.declared.content.query.Atom.{Prefix, Exact}
 use Rattle.cs_model.specs.declared.kinds.Tie.{Tie}
 use Rattle.cs_model.specs.declared.kinds.Tie.TheVariants.{Begins, Alternative, Linked as LinkedBy}
@@ -41,7 +42,7 @@ pub record IsWord (w : List ℕ) : Type 0 where
   pub utf8 : IsUtf8 w
   pub letters : list_all is_word_char (chars w) ≡ true
   pub some : 1 ≤ length w
-  pub short : length w ≤ 120
+  pub short : length w ≤ MAX_PLAIN_WORD_BYTES
 
 abbrev pub is_value_char : ℕ → Bool
 is_value_char x = is_word_char x || x == 95
@@ -49,7 +50,7 @@ is_value_char x = is_word_char x || x == 95
 pub record IsValue (v : List ℕ) : Type 0 where
   pub utf8 : IsUtf8 v
   pub letters : list_all is_value_char (chars v) ≡ true
-  pub short : length v ≤ 120
+  pub short : length v ≤ MAX_PLAIN_WORD_BYTES
 
 abbrev pub fresh : List Piece → Bool
 fresh [] = true
