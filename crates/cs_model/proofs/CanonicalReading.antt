@@ -9,12 +9,12 @@ use Rattle.std.specs.Str.{chars, IsUtf8, all_scalars}
 use Rattle.std.proofs.lemmas.Bool.{and_from, and_parts}
 use Rattle.std.proofs.lemmas.List.{take_all}
 use Rattle.std.proofs.lemmas.Str.{chars-encodes, encodes-chars, scalars-chars}
-use Rattle.cs_base.specs.declared.content.query.Link.TheVariants.{Phrase, Near}
+use Rattle.cs_base.specs.declared.content.query.Link.TheVariants.{Phrase}
 use Rattle.cs_base.specs.declared.content.query.Part.{Part}
 use Rattle.cs_base.specs.declared.content.query.Query.{roll-Query}
 use Rattle.cs_model.specs.declared.kinds.Level.{Level}
 use Rattle.cs_model.specs.declared.kinds.Tie.{Tie}
-use Rattle.cs_model.specs.declared.kinds.Tie.TheVariants.{Begins, Alternative, Linked as LinkedBy}
+use Rattle.cs_model.specs.declared.kinds.Tie.TheVariants.{Begins, Linked as LinkedBy}
 use Rattle.cs_model.specs.Tokens.{tokens, size}
 use Rattle.cs_model.specs.Grammar.{Reading, reading, steps, leave, all_closed, query_of}
 use Rattle.cs_model.specs.Refusals.{IsAccepted, verdict, depth, parts_in, atoms_in}
@@ -90,12 +90,9 @@ scalars_append (x ∷ xs) ys h k =
 
 between_scalars : (t : Tie) (f : Bool) → all_scalars (between t f) ≡ true
 between_scalars (Begins true) true = refl
-between_scalars (Begins true) false = refl
 between_scalars (Begins false) true = refl
-between_scalars (Begins false) false = refl
-between_scalars Alternative f = refl
 between_scalars (LinkedBy Phrase) f = refl
-between_scalars (LinkedBy Near) f = refl
+between_scalars t f = refl
 
 word_scalars : (w : List ℕ) → IsWord w → all_scalars (chars w) ≡ true
 word_scalars w h = scalars-chars w h.utf8

@@ -6,7 +6,7 @@
 use Rattle.std.proofs.Common.{◌≡◌, ℕ, zero, suc, ◌+◌, ◌≤◌, List, [], ◌∷◌, ◌++◌, map, length, take, refl, ap, ◌∙◌, sym, Bool, true, false, not, arith, length-append, None}
 use Rattle.std.specs.Char.{encode_utf8}
 use Rattle.std.proofs.lemmas.Bool.{lt-ltb}
-use Rattle.cs_base.specs.declared.content.limits.TheConstants.{MAX_DEPTH, MAX_PLAIN_WORD_BYTES, MAX_QUERY_BYTES}
+use Rattle.cs_base.specs.declared.content.limits.TheConstants.{MAX_ATOMS, MAX_DEPTH, MAX_PARTS, MAX_PLAIN_WORD_BYTES, MAX_QUERY_BYTES}
 use Rattle.cs_model.specs.declared.kinds.Class.{Class}
 use Rattle.cs_model.specs.declared.kinds.Class.TheVariants as c
 use Rattle.cs_model.specs.declared.kinds.Tie.{Tie}
@@ -42,8 +42,8 @@ size_between (LinkedBy l) f ts = omega arith
 -- ---- limits
 -- the pieces are within the limits of parts and atoms
 pub record Few (ps : List Piece) : Type 0 where
-  pub parts : parts_in (map step_of ps) ≤ 16
-  pub atoms : atoms_in (map step_of ps) ≤ 32
+  pub parts : parts_in (map step_of ps) ≤ MAX_PARTS
+  pub atoms : atoms_in (map step_of ps) ≤ MAX_ATOMS
 
 pub few_before : (p : Piece) (ps : List Piece) → Few (p ∷ ps) → Few ps
 few_before (Plain t w) ps f = record { parts = omega (arith, f.parts); atoms = omega (arith, f.atoms) }
@@ -55,12 +55,9 @@ few_before Closes ps f = record { parts = f.parts; atoms = f.atoms }
 
 shallow : (ps : List Piece) → Well ps → open_in ps ≤ MAX_DEPTH
 shallow [] h = omega arith
-shallow (Plain t w ∷ ps) h = shallow ps h.1
-shallow (Whole t w ∷ ps) h = shallow ps h.1
-shallow (Valued t n v ∷ ps) h = shallow ps h.1
-shallow (WholeValued t n v ∷ ps) h = shallow ps h.1
 shallow (Opens t n ∷ ps) h = omega (arith, h.0.2)
 shallow (Closes ∷ ps) h = omega (arith, shallow ps h.1)
+shallow (p ∷ ps) h = shallow ps h.1
 
 -- tokens with the steps of such pieces pass, where none is refused and they aren't too long
 passes_as : (ts : List Token) (ps : List Piece) → steps ts ≡ map step_of ps → Well ps → Few ps → refused ts ≡ false → newest ts ≤ MAX_PLAIN_WORD_BYTES → size ts + open_in ps ≤ MAX_QUERY_BYTES → Passes ts
@@ -78,21 +75,13 @@ passes_as ts ps e h f r n s =
 -- ---- what stands between atoms
 gap_fine : (ps : List Piece) → refused (Gap 1 ∷ toks ps) ≡ false
 gap_fine [] = refl
-gap_fine (Plain t w ∷ ps) = refl
-gap_fine (Whole t w ∷ ps) = refl
-gap_fine (Valued t n v ∷ ps) = refl
-gap_fine (WholeValued t n v ∷ ps) = refl
-gap_fine (Opens t n ∷ ps) = refl
 gap_fine (Closes ∷ ps) = refl
+gap_fine (p ∷ ps) = refl
 
 run_fine : (r : List ℕ) (ps : List Piece) → refused (Run r ∷ toks ps) ≡ false
 run_fine r [] = refl
-run_fine r (Plain t w ∷ ps) = refl
-run_fine r (Whole t w ∷ ps) = refl
-run_fine r (Valued t n v ∷ ps) = refl
-run_fine r (WholeValued t n v ∷ ps) = refl
-run_fine r (Opens t n ∷ ps) = refl
 run_fine r (Closes ∷ ps) = refl
+run_fine r (p ∷ ps) = refl
 
 minus_fine : (f : Bool) (ps : List Piece) → refused (Run (45 ∷ []) ∷ space_toks f (toks ps)) ≡ false
 minus_fine true ps = run_fine (45 ∷ []) ps
@@ -100,12 +89,8 @@ minus_fine false ps = refl
 
 bar_fine : (ps : List Piece) → fresh ps ≡ false → refused (Bar ∷ toks ps) ≡ false
 bar_fine [] h = cc
-bar_fine (Plain t w ∷ ps) h = refl
-bar_fine (Whole t w ∷ ps) h = refl
-bar_fine (Valued t n v ∷ ps) h = refl
-bar_fine (WholeValued t n v ∷ ps) h = refl
 bar_fine (Opens t n ∷ ps) h = cc
-bar_fine (Closes ∷ ps) h = refl
+bar_fine (p ∷ ps) h = refl
 
 space_passes : (f : Bool) (ps : List Piece) → Well ps → Few ps → cost ps + length (between (Begins false) f) + open_in ps ≤ MAX_QUERY_BYTES → Fine (toks ps) → Fine (space_toks f (toks ps))
 space_passes true ps h f s t = t
@@ -128,18 +113,12 @@ between_fine (LinkedBy l) ps f h k few s t = (passes_as (Run (link_text l) ∷ t
 -- ---- atoms
 word_fine : (w : List ℕ) (ts : List Token) → opens ts ≡ true → refused (Word w ∷ ts) ≡ false
 word_fine w [] h = refl
-word_fine w (Word u ∷ ts) h = refl
-word_fine w (Value v ∷ ts) h = refl
-word_fine w (Run r ∷ ts) h = refl
-word_fine w (Gap n ∷ ts) h = refl
 word_fine w (Dollar ∷ ts) h = cc
-word_fine w (Bar ∷ ts) h = refl
-word_fine w (Colon ∷ ts) h = refl
-word_fine w (Open ∷ ts) h = refl
 word_fine w (Close ∷ ts) h = cc
+word_fine w (t ∷ ts) h = refl
 
 -- a word behind pieces, for an atom that takes n bytes
-fine_word : (t : Tie) (w : List ℕ) (ps : List Piece) (n : ℕ) → IsWord w → TieFits t ps → Well ps → Few (Plain t w ∷ ps) → size (Word w ∷ between_toks t (fresh ps) (toks ps)) + n + open_in ps ≤ 1024
+fine_word : (t : Tie) (w : List ℕ) (ps : List Piece) (n : ℕ) → IsWord w → TieFits t ps → Well ps → Few (Plain t w ∷ ps) → size (Word w ∷ between_toks t (fresh ps) (toks ps)) + n + open_in ps ≤ MAX_QUERY_BYTES
     → Fine (toks ps) → Fine (Word w ∷ between_toks t (fresh ps) (toks ps))
 fine_word t w ps n hw k h few s fine = (
   passes_as (Word w ∷ between_toks t (fresh ps) (toks ps)) (Plain t w ∷ ps) (steps_toks (Plain t w ∷ ps) ((k, hw), h)) ((k, hw), h) few
@@ -174,7 +153,7 @@ close_fine ps h o =
 
 -- the text within the limit, and room for the brackets that are open
 abbrev pub Fitting : List Piece → Type 0
-Fitting ps = size (toks ps) + open_in ps ≤ 1024
+Fitting ps = size (toks ps) + open_in ps ≤ MAX_QUERY_BYTES
 
 before_size : (t : Tie) (ps : List Piece) → size (toks ps) ≤ size (between_toks t (fresh ps) (toks ps))
 before_size t ps = omega (arith, size_between t (fresh ps) (toks ps))

@@ -7,6 +7,7 @@ use Rattle.std.specs.Prelude.{◌&&◌, ◌==◌, nat_lt, if◌then◌else◌, e
 use Rattle.std.specs.Str.{chars}
 use Rattle.std.proofs.lemmas.Bool.{not-false, ltb-true}
 use Rattle.std.proofs.lemmas.Str.{encodes-chars}
+use Rattle.cs_base.specs.declared.content.limits.TheConstants.{MAX_DEPTH}
 use Rattle.cs_base.specs.declared.content.query.Link.TheVariants.{Near}
 use Rattle.cs_base.specs.declared.content.query.Atom.{Prefix, Exact}
 use Rattle.cs_model.specs.declared.kinds.Spot.{Spot}
@@ -19,7 +20,7 @@ use Rattle.cs_model.specs.Grammar.{Leaf, Enter, Leave, spot, tie, run_tie, front
 use Rattle.cs_model.specs.Refusals.{takes_bar, depth}
 use Rattle.cs_model.proofs.Pieces.{Piece, Plain, Whole, Valued, WholeValued, Opens, Closes, step_of, IsWord, IsValue, IsNameWord, fresh, linkable, TieFits, open_in, Well, space, between, told}
 use Rattle.cs_model.proofs.PieceTokens.{opens}
-use Rattle.cs_model.proofs.PieceText.{between_bytes, sign_behind, facet_bytes, dollar_alone, open_alone, close_alone, printed}
+use Rattle.cs_model.proofs.PieceText.{between_bytes, sign_behind, facet_bytes, dollar_alone, open_alone, close_alone, linked_behind, printed}
 use Rattle.cs_model.proofs.PassedTokens.{Kept}
 use Rattle.cs_model.proofs.SizeLemmas.{encodes-append}
 
@@ -72,34 +73,40 @@ more_cost t ps xs bytes n m h e le =
       ap length (between_bytes t (fresh ps)),
     )
 
+-- pieces with the steps of the tokens, which are no longer
+record Covers (ts : List Token) (ps : List Piece) : Type 0 where
+  same : map step_of ps ≡ steps ts
+  well : Well ps
+  small : cost ps ≤ size ts
+
+-- tokens that end in an atom, behind which a link may stand
+behind_atom : (ts : List Token) (ps : List Piece) → Covers ts ps → spot ts ≡ BehindAtom → opens ts ≡ false → linkable ps ≡ true → Pieced ts
+behind_atom ts ps c at shut link = record {
+  pieces = ps;
+  same = c.same;
+  well = c.well;
+  small = c.small;
+  linked = λ e. link;
+  behind = λ e. linked_behind ps link;
+  room = λ e. absurd (let no : BehindAtom ≡ Front = sym at ∙ e in cc);
+  fits = λ e. no_false (sym shut ∙ e);
+  tied = λ e. no_false (sym shut ∙ e);
+}
+
 word_pieced : (w : List ℕ) (ts : List Token) → IsWord w → opens ts ≡ true → Pieced ts → Pieced (Word w ∷ ts)
-word_pieced w ts h o p = record {
-  pieces = Plain (tie ts) w ∷ p.pieces;
+word_pieced w ts h o p = behind_atom (Word w ∷ ts) (Plain (tie ts) w ∷ p.pieces) (record {
   same = ap (λ ss. Leaf (tie ts) (Prefix w) ∷ ss) p.same;
   well = ((p.fits o, h), p.well);
   small = more_cost (tie ts) p.pieces (chars w) w (size ts) (length w) (p.tied o) (encodes-chars w h.utf8) (omega arith);
-  linked = λ e. refl;
-  behind = λ e. refl;
-  room = λ e. absurd (let no : BehindAtom ≡ Front = e in cc);
-  fits = λ e. no_false e;
-  tied = λ e. no_false e;
-}
+}) refl refl refl
 
 exact_cost : (w : List ℕ) → IsWord w → encode_utf8_all (chars w ++ 36 ∷ []) ≡ w ++ 36 ∷ []
 exact_cost w h = sign_behind (chars w) 36 dollar_alone ∙ ap (λ l. l ++ 36 ∷ []) (encodes-chars w h.utf8)
 
 exact_pieced : (w : List ℕ) (ts : List Token) → IsWord w → opens ts ≡ true → Pieced ts → Pieced (Dollar ∷ Word w ∷ ts)
-exact_pieced w ts h o p = record {
-  pieces = Whole (tie ts) w ∷ p.pieces;
-  same = ap (λ ss. Leaf (tie ts) (Exact w) ∷ ss) p.same;
-  well = ((p.fits o, h), p.well);
-  small = let le = more_cost (tie ts) p.pieces (chars w ++ 36 ∷ []) (w ++ 36 ∷ []) (size ts) (length w + 1) (p.tied o) (exact_cost w h) (omega (arith, length-append w (36 ∷ []))) in omega (arith, le);
-  linked = λ e. refl;
-  behind = λ e. refl;
-  room = λ e. absurd (let no : BehindAtom ≡ Front = e in cc);
-  fits = λ e. no_false e;
-  tied = λ e. no_false e;
-}
+exact_pieced w ts h o p =
+    let le = more_cost (tie ts) p.pieces (chars w ++ 36 ∷ []) (w ++ 36 ∷ []) (size ts) (length w + 1) (p.tied o) (exact_cost w h) (omega (arith, length-append w (36 ∷ []))) in
+    behind_atom (Dollar ∷ Word w ∷ ts) (Whole (tie ts) w ∷ p.pieces) (record { same = ap (λ ss. Leaf (tie ts) (Exact w) ∷ ss) p.same; well = ((p.fits o, h), p.well); small = omega (arith, le) }) refl refl refl
 
 value_pieced : (v n : List ℕ) (ts : List Token) → IsNameWord n → IsValue v → opens ts ≡ true → Pieced ts → Pieced (Value v ∷ Colon ∷ Word n ∷ ts)
 value_pieced v n ts h hv o p = record {
@@ -118,18 +125,11 @@ exact_value_cost : (n v : List ℕ) → IsWord n → IsValue v → encode_utf8_a
 exact_value_cost n v h hv = sign_behind (chars n ++ 58 ∷ chars v) 36 dollar_alone ∙ ap (λ l. l ++ 36 ∷ []) (facet_bytes n v h hv)
 
 exact_value_pieced : (v n : List ℕ) (ts : List Token) → IsNameWord n → IsValue v → 1 ≤ length v → opens ts ≡ true → Pieced ts → Pieced (Dollar ∷ Value v ∷ Colon ∷ Word n ∷ ts)
-exact_value_pieced v n ts h hv some o p = record {
-  pieces = WholeValued (tie ts) n v ∷ p.pieces;
-  same = ap (λ ss. Leaf (tie ts) (Exact (named n v)) ∷ ss) p.same;
-  well = ((p.fits o, h, hv, some), p.well);
-  small = let le = more_cost (tie ts) p.pieces ((chars n ++ 58 ∷ chars v) ++ 36 ∷ []) ((n ++ 58 ∷ v) ++ 36 ∷ []) (size ts) (length n + 1 + length v + 1) (p.tied o) (exact_value_cost n v h.word hv)
-      (omega (arith, length-append (n ++ 58 ∷ v) (36 ∷ []), length-append n (58 ∷ v))) in omega (arith, le);
-  linked = λ e. refl;
-  behind = λ e. refl;
-  room = λ e. absurd (let no : BehindAtom ≡ Front = e in cc);
-  fits = λ e. no_false e;
-  tied = λ e. no_false e;
-}
+exact_value_pieced v n ts h hv some o p =
+    let le = more_cost (tie ts) p.pieces ((chars n ++ 58 ∷ chars v) ++ 36 ∷ []) ((n ++ 58 ∷ v) ++ 36 ∷ []) (size ts) (length n + 1 + length v + 1) (p.tied o) (exact_value_cost n v h.word hv)
+    (omega (arith, length-append (n ++ 58 ∷ v) (36 ∷ []), length-append n (58 ∷ v))) in
+    behind_atom (Dollar ∷ Value v ∷ Colon ∷ Word n ∷ ts) (WholeValued (tie ts) n v ∷ p.pieces)
+    (record { same = ap (λ ss. Leaf (tie ts) (Exact (named n v)) ∷ ss) p.same; well = ((p.fits o, h, hv, some), p.well); small = omega (arith, le) }) refl refl refl
 
 -- ---- brackets
 -- the brackets that are open behind tokens and behind their pieces
@@ -139,7 +139,7 @@ deep_same ts p = ap (λ ss. length (reading ss).open_now) (sym p.same) ∙ (prin
 open_cost : (n : List ℕ) → IsWord n → encode_utf8_all (chars n ++ 91 ∷ []) ≡ n ++ 91 ∷ []
 open_cost n h = sign_behind (chars n) 91 open_alone ∙ ap (λ l. l ++ 91 ∷ []) (encodes-chars n h.utf8)
 
-open_pieced : (n : List ℕ) (ts : List Token) → IsNameWord n → depth (Open ∷ Word n ∷ ts) ≤ 3 → opens ts ≡ true → Pieced ts → Pieced (Open ∷ Word n ∷ ts)
+open_pieced : (n : List ℕ) (ts : List Token) → IsNameWord n → depth (Open ∷ Word n ∷ ts) ≤ MAX_DEPTH → opens ts ≡ true → Pieced ts → Pieced (Open ∷ Word n ∷ ts)
 open_pieced n ts h d o p =
     let le = more_cost (tie ts) p.pieces (chars n ++ 91 ∷ []) (n ++ 91 ∷ []) (size ts) (length n + 1) (p.tied o) (open_cost n h.word) (omega (arith, length-append n (91 ∷ []))) in
     record {
@@ -155,17 +155,11 @@ open_pieced n ts h d o p =
     }
 
 close_pieced : (ts : List Token) → 0 < depth ts → Pieced ts → Pieced (Close ∷ ts)
-close_pieced ts d p = record {
-  pieces = Closes ∷ p.pieces;
+close_pieced ts d p = behind_atom (Close ∷ ts) (Closes ∷ p.pieces) (record {
   same = ap (λ ss. Leave ∷ ss) p.same;
   well = (omega (arith, d, deep_same ts p), p.well);
   small = omega (arith, p.small, ap length (sign_behind (told p.pieces) 93 close_alone), length-append (encode_utf8_all (told p.pieces)) (93 ∷ []));
-  linked = λ e. refl;
-  behind = λ e. refl;
-  room = λ e. absurd (let no : BehindAtom ≡ Front = e in cc);
-  fits = λ e. no_false e;
-  tied = λ e. no_false e;
-}
+}) refl refl refl
 
 -- ---- tokens that only tie
 gap_pieced : (n : ℕ) (ts : List Token) → 1 ≤ n → Pieced ts → Pieced (Gap n ∷ ts)
@@ -181,31 +175,26 @@ gap_pieced n ts some p = record {
   tied = λ e. omega (arith, p.small, some, begins_cost (fresh p.pieces));
 }
 
-colon_pieced : (ts : List Token) → Pieced ts → Pieced (Colon ∷ ts)
-colon_pieced ts p = record {
+-- a token that adds no piece, and behind which no link stands
+elsewhere : (ts us : List Token) (p : Pieced ts) → steps us ≡ steps ts → size ts ≤ size us → spot us ≡ Elsewhere → takes_bar us ≡ false
+    → TieFits (tie us) p.pieces × (cost p.pieces + length (between (tie us) (fresh p.pieces)) ≤ size us) → Pieced us
+elsewhere ts us p same long at bar tied = record {
   pieces = p.pieces;
-  same = p.same;
+  same = p.same ∙ sym same;
   well = p.well;
-  small = omega (arith, p.small);
-  linked = λ e. absurd (let no : Elsewhere ≡ BehindAtom = e in cc);
-  behind = λ e. no_false e;
-  room = λ e. absurd (let no : Elsewhere ≡ Front = e in cc);
-  fits = λ e. tt;
-  tied = λ e. omega (arith, p.small, begins_cost (fresh p.pieces));
+  small = omega (arith, p.small, long);
+  linked = λ e. absurd (let no : Elsewhere ≡ BehindAtom = sym at ∙ e in cc);
+  behind = λ e. no_false (sym bar ∙ e);
+  room = λ e. absurd (let no : Elsewhere ≡ Front = sym at ∙ e in cc);
+  fits = λ e. tied.0;
+  tied = λ e. tied.1;
 }
 
+colon_pieced : (ts : List Token) → Pieced ts → Pieced (Colon ∷ ts)
+colon_pieced ts p = elsewhere ts (Colon ∷ ts) p refl (omega arith) refl refl (tt, omega (arith, p.small, begins_cost (fresh p.pieces)))
+
 bar_pieced : (ts : List Token) → takes_bar ts ≡ true → Pieced ts → Pieced (Bar ∷ ts)
-bar_pieced ts h p = record {
-  pieces = p.pieces;
-  same = p.same;
-  well = p.well;
-  small = omega (arith, p.small);
-  linked = λ e. absurd (let no : Elsewhere ≡ BehindAtom = e in cc);
-  behind = λ e. no_false e;
-  room = λ e. absurd (let no : Elsewhere ≡ Front = e in cc);
-  fits = λ e. p.behind h;
-  tied = λ e. omega (arith, p.small);
-}
+bar_pieced ts h p = elsewhere ts (Bar ∷ ts) p refl (omega arith) refl refl (p.behind h, omega (arith, p.small))
 
 -- a run, by where it stands
 record RunTied (ts : List Token) (p : Pieced ts) (t : Tie) (r : List ℕ) : Type 0 where
@@ -242,17 +231,7 @@ run_tied ts p r Elsewhere h e = positive_tied ts p r h
 run_pieced : (r : List ℕ) (ts : List Token) → 1 ≤ length r → Pieced ts → Pieced (Run r ∷ ts)
 run_pieced r ts h p =
     let t = run_tied ts p r (spot ts) h refl in
-    record {
-      pieces = p.pieces;
-      same = p.same;
-      well = p.well;
-      small = omega (arith, p.small);
-      linked = λ e. absurd (let no : Elsewhere ≡ BehindAtom = e in cc);
-      behind = λ e. no_false e;
-      room = λ e. absurd (let no : Elsewhere ≡ Front = e in cc);
-      fits = λ e. t.fits;
-      tied = λ e. t.tied;
-    }
+    elsewhere ts (Run r ∷ ts) p refl (omega arith) refl refl (t.fits, t.tied)
 
 -- ---- all tokens
 some_value : (x : ℕ) (v : List ℕ) → 1 ≤ length (x ∷ v)

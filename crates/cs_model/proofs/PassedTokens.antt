@@ -31,10 +31,10 @@ use Rattle.cs_model.proofs.PieceTokens.{opens}
 -- ---- verdicts
 pub record Passes (ts : List Token) : Type 0 where
   pub fine : refused ts ≡ false
-  pub small : size ts + depth ts ≤ 1024
-  pub short : newest ts ≤ 120
-  pub parts : parts_in (steps ts) ≤ 16
-  pub atoms : atoms_in (steps ts) ≤ 32
+  pub small : size ts + depth ts ≤ MAX_QUERY_BYTES
+  pub short : newest ts ≤ MAX_PLAIN_WORD_BYTES
+  pub parts : parts_in (steps ts) ≤ MAX_PARTS
+  pub atoms : atoms_in (steps ts) ≤ MAX_ATOMS
   pub shallow : depth ts ≤ MAX_DEPTH
 
 pub passes : (ts : List Token) → verdict ts ≡ None → Passes ts

@@ -12,7 +12,7 @@ use Rattle.std.specs.Str.{chars}
 use Rattle.std.proofs.lemmas.Bool.{and_parts, eqb-true}
 use Rattle.std.proofs.lemmas.List.{append-nil}
 use Rattle.std.proofs.lemmas.Str.{encodes-chars, chars_past_char}
-use Rattle.cs_base.specs.declared.content.query.Link.TheVariants.{Phrase, Near}
+use Rattle.cs_base.specs.declared.content.query.Link.TheVariants.{Phrase}
 use Rattle.cs_base.specs.declared.content.query.Part.{Part}
 use Rattle.cs_base.specs.declared.content.query.Atom.{Atom, Prefix, Exact}
 use Rattle.cs_model.specs.declared.kinds.Level.{Level}
@@ -67,12 +67,9 @@ sign_behind xs c e = encodes-append xs (c ∷ []) ∙ ap (λ t. encode_utf8_all 
 pub between_bytes : (t : Tie) (f : Bool) → encode_utf8_all (between t f) ≡ between t f
 unfolding encode_utf8
 between_bytes (Begins true) true = refl
-between_bytes (Begins true) false = refl
 between_bytes (Begins false) true = refl
-between_bytes (Begins false) false = refl
-between_bytes Alternative f = refl
 between_bytes (LinkedBy Phrase) f = refl
-between_bytes (LinkedBy Near) f = refl
+between_bytes t f = refl
 
 pub facet_bytes : (n v : List ℕ) → IsWord n → IsValue v → encode_utf8_all (chars n ++ 58 ∷ chars v) ≡ n ++ 58 ∷ v
 facet_bytes n v hn hv =
@@ -110,14 +107,10 @@ pub record Printed (ps : List Piece) (r : Reading) : Type 0 where
   pub levels : LevelsTake r.open_now
   pub deep : length r.open_now ≡ open_in ps
 
-linked_behind : (ps : List Piece) → linkable ps ≡ true → fresh ps ≡ false
+pub linked_behind : (ps : List Piece) → linkable ps ≡ true → fresh ps ≡ false
 linked_behind [] h = cc
-linked_behind (Plain t w ∷ ps) h = refl
-linked_behind (Whole t w ∷ ps) h = refl
-linked_behind (Valued t n v ∷ ps) h = refl
-linked_behind (WholeValued t n v ∷ ps) h = refl
 linked_behind (Opens t n ∷ ps) h = cc
-linked_behind (Closes ∷ ps) h = refl
+linked_behind (p ∷ ps) h = refl
 
 pub takes : (t : Tie) (ps : List Piece) (r : Reading) → Printed ps r → TieFits t ps → Takes t r.parts
 takes (Begins e) ps r p h = tt

@@ -3,7 +3,7 @@
 --   after-append        characters behind characters
 --   tokens_told         the tokens of the text of pieces
 --   steps_toks          their steps
-use Rattle.std.proofs.Common.{◌≡◌, ℕ, ◌≤◌, List, [], ◌∷◌, ◌++◌, map, length, refl, ap, ◌∙◌, sym, subst, append_assoc, Bool, true, false, arith}
+use Rattle.std.proofs.Common.{◌≡◌, ℕ, ◌≤◌, List, [], ◌∷◌, ◌++◌, map, length, refl, ap, ◌∙◌, sym, subst, append_assoc, Bool, true, false, not, arith}
 use Rattle.std.specs.Prelude.{◌||◌, ◌==◌, encode_utf8_all}
 use Rattle.std.proofs.lemmas.Bool.{and_parts, eqb-true}
 use Rattle.std.specs.Char.{encode_utf8}
@@ -16,8 +16,9 @@ use Rattle.cs_model.specs.declared.kinds.Class.TheVariants as c
 use Rattle.cs_model.specs.declared.kinds.Tie.{Tie}
 use Rattle.cs_model.specs.declared.kinds.Tie.TheVariants.{Begins, Alternative, Linked as LinkedBy}
 use Rattle.cs_model.specs.Words.{is_word_char}
-use Rattle.cs_model.specs.Tokens.{Token, Word, Value, Run, Gap, Dollar, Bar, Colon, Open, Close, class_of, grown, with_next, tokens_after, tokens}
+use Rattle.cs_model.specs.Tokens.{Token, Word, Value, Dollar, Colon, Close, class_of, grown, with_next, tokens_after, tokens}
 use Rattle.cs_model.specs.Grammar.{Step, steps, tie}
+use Rattle.cs_model.specs.Refusals.{takes_bar}
 use Rattle.cs_model.proofs.Pieces.{Piece, Plain, Whole, Valued, WholeValued, Opens, Closes, step_of, IsWord, IsValue, is_value_char, fresh, TieFits, Well, between, told, between_toks, toks}
 
 -- ---- lists of characters
@@ -26,18 +27,9 @@ after-append ts [] ys = refl
 after-append ts (x ∷ xs) ys = after-append (with_next x ts) xs ys
 
 -- ---- words
--- a word begins behind these tokens
+-- a word begins behind these tokens: those behind which no bar may stand
 abbrev pub opens : List Token → Bool
-opens [] = true
-opens (Word w ∷ ts) = false
-opens (Value v ∷ ts) = false
-opens (Run r ∷ ts) = true
-opens (Gap n ∷ ts) = true
-opens (Dollar ∷ ts) = false
-opens (Bar ∷ ts) = true
-opens (Colon ∷ ts) = true
-opens (Open ∷ ts) = true
-opens (Close ∷ ts) = false
+opens ts = not (takes_bar ts)
 
 pub letter : (x : ℕ) → is_word_char x ≡ true → class_of x ≡ c.Letter
 letter x h = rw h refl
@@ -50,16 +42,12 @@ grows (x ∷ w) u ts h =
     ∙ ap (λ v. Word v ∷ ts) (append_assoc u (encode_utf8 x) (encode_utf8_all w))
 
 pub first_letter : (x : List ℕ) (ts : List Token) → opens ts ≡ true → grown c.Letter x ts ≡ Word x ∷ ts
-first_letter x [] h = refl
 first_letter x (Word w ∷ ts) h = cc
-first_letter x (Value w ∷ ts) h = cc
-first_letter x (Run r ∷ ts) h = refl
-first_letter x (Gap n ∷ ts) h = refl
+first_letter x (Value v ∷ ts) h = cc
 first_letter x (Dollar ∷ ts) h = cc
-first_letter x (Bar ∷ ts) h = refl
-first_letter x (Colon ∷ ts) h = refl
-first_letter x (Open ∷ ts) h = refl
 first_letter x (Close ∷ ts) h = cc
+first_letter x [] h = refl
+first_letter x (t ∷ ts) h = refl
 
 letters_put : (cs : List ℕ) (ts : List Token) → list_all is_word_char cs ≡ true → 1 ≤ length cs → opens ts ≡ true → tokens_after ts cs ≡ Word (encode_utf8_all cs) ∷ ts
 letters_put [] ts h some o = absurd (omega (arith, some))
@@ -101,80 +89,38 @@ pub value_put : (v : List ℕ) (ts : List Token) → IsValue v → tokens_after 
 value_put v ts h = value_grows (chars v) [] ts h.letters ∙ ap (λ u. Value u ∷ ts) (encodes-chars v h.utf8)
 
 -- ---- what stands between atoms
-between_put : (t : Tie) (ps : List Piece) → TieFits t ps → tokens_after (toks ps) (between t (fresh ps)) ≡ between_toks t (fresh ps) (toks ps)
+-- the signs of a tie give its tokens, and these tie so
+abbrev IsPut : Tie → List Piece → Type 0
+IsPut t ps = (tokens_after (toks ps) (between t (fresh ps)) ≡ between_toks t (fresh ps) (toks ps)) × (tie (between_toks t (fresh ps) (toks ps)) ≡ t)
+
+is_put : (t : Tie) (ps : List Piece) → TieFits t ps → IsPut t ps
 unfolding is_word_char encode_utf8
-between_put (Begins true) [] h = refl
-between_put (Begins true) (Plain u w ∷ ps) h = refl
-between_put (Begins true) (Whole u w ∷ ps) h = refl
-between_put (Begins true) (Valued u n v ∷ ps) h = refl
-between_put (Begins true) (WholeValued u n v ∷ ps) h = refl
-between_put (Begins true) (Opens u n ∷ ps) h = refl
-between_put (Begins true) (Closes ∷ ps) h = refl
-between_put (Begins false) [] h = refl
-between_put (Begins false) (Plain u w ∷ ps) h = refl
-between_put (Begins false) (Whole u w ∷ ps) h = refl
-between_put (Begins false) (Valued u n v ∷ ps) h = refl
-between_put (Begins false) (WholeValued u n v ∷ ps) h = refl
-between_put (Begins false) (Opens u n ∷ ps) h = refl
-between_put (Begins false) (Closes ∷ ps) h = refl
-between_put Alternative ps h = refl
-between_put (LinkedBy Phrase) [] h = cc
-between_put (LinkedBy Phrase) (Plain u w ∷ ps) h = refl
-between_put (LinkedBy Phrase) (Whole u w ∷ ps) h = refl
-between_put (LinkedBy Phrase) (Valued u n v ∷ ps) h = cc
-between_put (LinkedBy Phrase) (WholeValued u n v ∷ ps) h = refl
-between_put (LinkedBy Phrase) (Opens u n ∷ ps) h = cc
-between_put (LinkedBy Phrase) (Closes ∷ ps) h = refl
-between_put (LinkedBy Near) [] h = cc
-between_put (LinkedBy Near) (Plain u w ∷ ps) h = refl
-between_put (LinkedBy Near) (Whole u w ∷ ps) h = refl
-between_put (LinkedBy Near) (Valued u n v ∷ ps) h = cc
-between_put (LinkedBy Near) (WholeValued u n v ∷ ps) h = refl
-between_put (LinkedBy Near) (Opens u n ∷ ps) h = cc
-between_put (LinkedBy Near) (Closes ∷ ps) h = refl
+is_put (Begins true) [] h = (refl, refl)
+is_put (Begins true) (Closes ∷ ps) h = (refl, refl)
+is_put (Begins true) (p ∷ ps) h = (refl, refl)
+is_put (Begins false) [] h = (refl, refl)
+is_put (Begins false) (Closes ∷ ps) h = (refl, refl)
+is_put (Begins false) (p ∷ ps) h = (refl, refl)
+is_put Alternative ps h = (refl, refl)
+is_put (LinkedBy Phrase) [] h = (cc, cc)
+is_put (LinkedBy Phrase) (Valued u n v ∷ ps) h = (cc, cc)
+is_put (LinkedBy Phrase) (Opens u n ∷ ps) h = (cc, cc)
+is_put (LinkedBy Phrase) (p ∷ ps) h = (refl, refl)
+is_put (LinkedBy Near) [] h = (cc, cc)
+is_put (LinkedBy Near) (Valued u n v ∷ ps) h = (cc, cc)
+is_put (LinkedBy Near) (Opens u n ∷ ps) h = (cc, cc)
+is_put (LinkedBy Near) (p ∷ ps) h = (refl, refl)
 
 pub between_opens : (t : Tie) (ps : List Piece) → opens (between_toks t (fresh ps) (toks ps)) ≡ true
 between_opens (Begins true) ps = refl
 between_opens (Begins false) [] = refl
-between_opens (Begins false) (Plain u w ∷ ps) = refl
-between_opens (Begins false) (Whole u w ∷ ps) = refl
-between_opens (Begins false) (Valued u n v ∷ ps) = refl
-between_opens (Begins false) (WholeValued u n v ∷ ps) = refl
-between_opens (Begins false) (Opens u n ∷ ps) = refl
 between_opens (Begins false) (Closes ∷ ps) = refl
+between_opens (Begins false) (p ∷ ps) = refl
 between_opens Alternative ps = refl
 between_opens (LinkedBy l) ps = refl
 
 pub between_ties : (t : Tie) (ps : List Piece) → TieFits t ps → tie (between_toks t (fresh ps) (toks ps)) ≡ t
-between_ties (Begins true) [] h = refl
-between_ties (Begins true) (Plain u w ∷ ps) h = refl
-between_ties (Begins true) (Whole u w ∷ ps) h = refl
-between_ties (Begins true) (Valued u n v ∷ ps) h = refl
-between_ties (Begins true) (WholeValued u n v ∷ ps) h = refl
-between_ties (Begins true) (Opens u n ∷ ps) h = refl
-between_ties (Begins true) (Closes ∷ ps) h = refl
-between_ties (Begins false) [] h = refl
-between_ties (Begins false) (Plain u w ∷ ps) h = refl
-between_ties (Begins false) (Whole u w ∷ ps) h = refl
-between_ties (Begins false) (Valued u n v ∷ ps) h = refl
-between_ties (Begins false) (WholeValued u n v ∷ ps) h = refl
-between_ties (Begins false) (Opens u n ∷ ps) h = refl
-between_ties (Begins false) (Closes ∷ ps) h = refl
-between_ties Alternative ps h = refl
-between_ties (LinkedBy Phrase) [] h = cc
-between_ties (LinkedBy Phrase) (Plain u w ∷ ps) h = refl
-between_ties (LinkedBy Phrase) (Whole u w ∷ ps) h = refl
-between_ties (LinkedBy Phrase) (Valued u n v ∷ ps) h = cc
-between_ties (LinkedBy Phrase) (WholeValued u n v ∷ ps) h = refl
-between_ties (LinkedBy Phrase) (Opens u n ∷ ps) h = cc
-between_ties (LinkedBy Phrase) (Closes ∷ ps) h = refl
-between_ties (LinkedBy Near) [] h = cc
-between_ties (LinkedBy Near) (Plain u w ∷ ps) h = refl
-between_ties (LinkedBy Near) (Whole u w ∷ ps) h = refl
-between_ties (LinkedBy Near) (Valued u n v ∷ ps) h = cc
-between_ties (LinkedBy Near) (WholeValued u n v ∷ ps) h = refl
-between_ties (LinkedBy Near) (Opens u n ∷ ps) h = cc
-between_ties (LinkedBy Near) (Closes ∷ ps) h = refl
+between_ties t ps h = (is_put t ps h).1
 
 -- they are no step
 pub between_steps : (t : Tie) (f : Bool) (ts : List Token) → steps (between_toks t f ts) ≡ steps ts
@@ -202,7 +148,7 @@ atom_put t ps xs us h e p =
     after-append [] (told ps) (between t (fresh ps) ++ xs)
     ∙ ap (λ vs. tokens_after vs (between t (fresh ps) ++ xs)) e
     ∙ after-append (toks ps) (between t (fresh ps)) xs
-    ∙ ap (λ vs. tokens_after vs xs) (between_put t ps h) ∙ p
+    ∙ ap (λ vs. tokens_after vs xs) ((is_put t ps h).0) ∙ p
 
 pub tokens_told : (ps : List Piece) → Well ps → tokens (told ps) ≡ toks ps
 unfolding is_word_char

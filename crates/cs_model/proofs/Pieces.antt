@@ -8,9 +8,10 @@
 --   Well ps                  the steps of some accepted text, perhaps with more brackets closed
 --   told ps                  their canonical text, as characters
 --   toks ps                  the tokens of that text
-use Rattle.std.specs.Prelude.{◌≡◌, ℕ, ◌+◌, ◌-◌, ◌≤◌, List, [], ◌∷◌, ◌++◌, Bool, true, false, ◌||◌, ◌==◌, length}
+use Rattle.std.specs.Prelude.{◌≡◌, ℕ, ◌+◌, ◌-◌, ◌≤◌, ◌<◌, List, [], ◌∷◌, ◌++◌, Bool, true, false, ◌||◌, ◌==◌, length}
 use Rattle.std.specs.List.{list_all}
 use Rattle.std.specs.Str.{chars, IsUtf8}
+use Rattle.cs_base.specs.declared.content.limits.TheConstants.{MAX_DEPTH, MAX_PLAIN_WORD_BYTES}
 use Rattle.cs_base.specs.declared.content.query.Atom.{Prefix, Exact}
 use Rattle.cs_model.specs.declared.kinds.Tie.{Tie}
 use Rattle.cs_model.specs.declared.kinds.Tie.TheVariants.{Begins, Alternative, Linked as LinkedBy}
@@ -41,7 +42,7 @@ pub record IsWord (w : List ℕ) : Type 0 where
   pub utf8 : IsUtf8 w
   pub letters : list_all is_word_char (chars w) ≡ true
   pub some : 1 ≤ length w
-  pub short : length w ≤ 120
+  pub short : length w ≤ MAX_PLAIN_WORD_BYTES
 
 abbrev pub is_value_char : ℕ → Bool
 is_value_char x = is_word_char x || x == 95
@@ -49,26 +50,19 @@ is_value_char x = is_word_char x || x == 95
 pub record IsValue (v : List ℕ) : Type 0 where
   pub utf8 : IsUtf8 v
   pub letters : list_all is_value_char (chars v) ≡ true
-  pub short : length v ≤ 120
+  pub short : length v ≤ MAX_PLAIN_WORD_BYTES
 
 abbrev pub fresh : List Piece → Bool
 fresh [] = true
 fresh (Opens t n ∷ ps) = true
-fresh (Plain t w ∷ ps) = false
-fresh (Whole t w ∷ ps) = false
-fresh (Valued t n v ∷ ps) = false
-fresh (WholeValued t n v ∷ ps) = false
-fresh (Closes ∷ ps) = false
+fresh (p ∷ ps) = false
 
 -- a value, which may go on, isn't followed by a link
 abbrev pub linkable : List Piece → Bool
 linkable [] = false
 linkable (Opens t n ∷ ps) = false
-linkable (Plain t w ∷ ps) = true
-linkable (Whole t w ∷ ps) = true
 linkable (Valued t n v ∷ ps) = false
-linkable (WholeValued t n v ∷ ps) = true
-linkable (Closes ∷ ps) = true
+linkable (p ∷ ps) = true
 
 abbrev pub TieFits : Tie → List Piece → Type 0
 TieFits (Begins e) ps = Unit {0}
@@ -79,11 +73,8 @@ TieFits (LinkedBy l) ps = linkable ps ≡ true
 abbrev pub open_in : List Piece → ℕ
 open_in [] = 0
 open_in (Opens t n ∷ ps) = open_in ps + 1
-open_in (Plain t w ∷ ps) = open_in ps
-open_in (Whole t w ∷ ps) = open_in ps
-open_in (Valued t n v ∷ ps) = open_in ps
-open_in (WholeValued t n v ∷ ps) = open_in ps
 open_in (Closes ∷ ps) = open_in ps - 1
+open_in (p ∷ ps) = open_in ps
 
 -- a name, as a word and in its form
 pub record IsNameWord (n : List ℕ) : Type 0 where
@@ -96,7 +87,7 @@ Fits (Plain t w) ps = TieFits t ps × IsWord w
 Fits (Whole t w) ps = TieFits t ps × IsWord w
 Fits (Valued t n v) ps = TieFits t ps × IsNameWord n × IsValue v
 Fits (WholeValued t n v) ps = TieFits t ps × IsNameWord n × IsValue v × (1 ≤ length v)
-Fits (Opens t n) ps = TieFits t ps × IsNameWord n × (open_in ps ≤ 2)
+Fits (Opens t n) ps = TieFits t ps × IsNameWord n × (open_in ps < MAX_DEPTH)
 Fits Closes ps = 1 ≤ open_in ps
 
 abbrev pub Well : List Piece → Type 0

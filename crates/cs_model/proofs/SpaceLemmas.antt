@@ -33,40 +33,27 @@ FromWord (Word w ∷ []) = Unit {0}
 FromWord (t ∷ []) = ⊥
 FromWord (t ∷ u ∷ us) = FromWord (u ∷ us)
 
-from_grown : (k : Class) (x : List ℕ) (us : List Token) → FromWord us → FromWord (grown k x us)
-from_grown k x [] h = absurd h
-from_grown c.Letter x (Word w ∷ us) h = h
-from_grown c.Letter x (Value v ∷ us) h = h
-from_grown c.Letter x (t ∷ us) h = h
-from_grown c.Dot x (Run r ∷ us) h = h
-from_grown c.Dot x (t ∷ us) h = h
-from_grown c.Joiner x (Value v ∷ us) h = h
-from_grown c.Joiner x (Run r ∷ us) h = h
-from_grown c.Joiner x (t ∷ us) h = h
-from_grown c.Other x (Gap n ∷ us) h = h
-from_grown c.Other x (t ∷ us) h = h
-from_grown k x (t ∷ us) h = h
-
 module _ (m : ℕ) (bs : List Token) where
-  grown_over : (k : Class) (x : List ℕ) (us : List Token) → FromWord us → grown k x (us ++ Gap m ∷ bs) ≡ grown k x us ++ Gap m ∷ bs
+  grown_over : (k : Class) (x : List ℕ) (us : List Token) → FromWord us → (grown k x (us ++ Gap m ∷ bs) ≡ grown k x us ++ Gap m ∷ bs) × FromWord (grown k x us)
   grown_over k x [] h = absurd h
-  grown_over c.Letter x (Word w ∷ us) h = refl
-  grown_over c.Letter x (Value v ∷ us) h = refl
-  grown_over c.Letter x (t ∷ us) h = refl
-  grown_over c.Dot x (Run r ∷ us) h = refl
-  grown_over c.Dot x (t ∷ us) h = refl
-  grown_over c.Joiner x (Value v ∷ us) h = refl
-  grown_over c.Joiner x (Run r ∷ us) h = refl
-  grown_over c.Joiner x (t ∷ us) h = refl
-  grown_over c.Other x (Gap n ∷ us) h = refl
-  grown_over c.Other x (t ∷ us) h = refl
-  grown_over k x (t ∷ us) h = refl
+  grown_over c.Letter x (Word w ∷ us) h = (refl, h)
+  grown_over c.Letter x (Value v ∷ us) h = (refl, h)
+  grown_over c.Letter x (t ∷ us) h = (refl, h)
+  grown_over c.Dot x (Run r ∷ us) h = (refl, h)
+  grown_over c.Dot x (t ∷ us) h = (refl, h)
+  grown_over c.Joiner x (Value v ∷ us) h = (refl, h)
+  grown_over c.Joiner x (Run r ∷ us) h = (refl, h)
+  grown_over c.Joiner x (t ∷ us) h = (refl, h)
+  grown_over c.Other x (Gap n ∷ us) h = (refl, h)
+  grown_over c.Other x (t ∷ us) h = (refl, h)
+  grown_over k x (t ∷ us) h = (refl, h)
 
   after_over : (ds : List ℕ) (us : List Token) → FromWord us → (tokens_after (us ++ Gap m ∷ bs) ds ≡ tokens_after us ds ++ Gap m ∷ bs) × FromWord (tokens_after us ds)
   after_over [] us h = (refl, h)
   after_over (x ∷ ds) us h =
-      let r = after_over ds (with_next x us) (from_grown (class_of x) (encode_utf8 x) us h) in
-      (ap (λ ts. tokens_after ts ds) (grown_over (class_of x) (encode_utf8 x) us h) ∙ r.0, r.1)
+      let g = grown_over (class_of x) (encode_utf8 x) us h in
+      let r = after_over ds (with_next x us) g.1 in
+      (ap (λ ts. tokens_after ts ds) g.0 ∙ r.0, r.1)
 
   -- ---- steps
   spot_over : (us : List Token) → spot (us ++ Gap m ∷ bs) ≡ spot us
