@@ -3,11 +3,12 @@ use crate::bounds::READ_WAIT;
 use crate::connection::Connection;
 use crate::tcp::TcpHub;
 use cs_base::{Event, Failed, Hub};
-use cs_worked::TYPED;
 use std::io::{self, ErrorKind, Read, Write};
 use std::net::{OpenStream, Shutdown, TcpStream};
 use std::test::Fail;
 use std::time::Duration;
+
+const REQUEST: &[u8] = b"GET /search?q=typ HTTP/1.1\r\n\r\n";
 
 const RESPONSE: &[u8] = b"HTTP/1.1 200 OK\r\nContent-Length: 2\r\n\r\n{}";
 
@@ -16,7 +17,7 @@ fn a_client_that_ends_its_side_reads_its_response(rt: HostRuntime) -> Result<(),
     let mut hub = TcpHub::new(&rt);
     assert_eq!(rt; hub.listen(0, 1), Ok(()));
     let mut client = TcpStream::connect(&rt, hub.address()?)?;
-    client.write_all(TYPED.head.as_bytes())?;
+    client.write_all(REQUEST)?;
     client.shutdown(Shutdown::Write)?;
     let mut into = [0u8; 64];
     assert_eq!(rt; hub.next(&mut into), Ok(Event::Opened(0)));
@@ -25,7 +26,7 @@ fn a_client_that_ends_its_side_reads_its_response(rt: HostRuntime) -> Result<(),
     };
     assert_eq!(rt; hub.send(conn, RESPONSE), Ok(()));
     assert_eq!(rt; conn, 0);
-    assert_eq!(rt; &into[..count], TYPED.head.as_bytes());
+    assert_eq!(rt; &into[..count], REQUEST);
     assert_eq!(rt; hub.next(&mut into), Ok(Event::Ended(0)));
     hub.close(0);
     let mut response = String::new(rt.alloc());
@@ -75,7 +76,7 @@ fn an_answered_connection_yields_to_one_that_waits(rt: HostRuntime) -> Result<()
     let mut hub = TcpHub::new(&rt);
     assert_eq!(rt; hub.listen(0, 2), Ok(()));
     let mut kept = TcpStream::connect(&rt, hub.address()?)?;
-    kept.write_all(TYPED.head.as_bytes())?;
+    kept.write_all(REQUEST)?;
     let mut into = [0u8; 64];
     assert_eq!(rt; hub.next(&mut into), Ok(Event::Opened(0)));
     let Ok(Event::Piece(conn, _)) = hub.next(&mut into) else {
@@ -83,10 +84,10 @@ fn an_answered_connection_yields_to_one_that_waits(rt: HostRuntime) -> Result<()
     };
     assert_eq!(rt; hub.send(conn, RESPONSE), Ok(()));
     let mut waiting = TcpStream::connect(&rt, hub.address()?)?;
-    waiting.write_all(TYPED.head.as_bytes())?;
+    waiting.write_all(REQUEST)?;
     assert_eq!(rt; hub.next(&mut into), Ok(Event::Ended(0)));
     assert_eq!(rt; hub.next(&mut into), Ok(Event::Opened(1)));
-    assert_eq!(rt; hub.next(&mut into), Ok(Event::Piece(1, TYPED.head.len())));
+    assert_eq!(rt; hub.next(&mut into), Ok(Event::Piece(1, REQUEST.len())));
     Ok(())
 }
 

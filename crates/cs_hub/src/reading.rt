@@ -4,7 +4,7 @@ ghost use Rattle.cs_base.specs.outside.Hub.{IsLive};
 ghost use Rattle.cs_http.specs.Looking.{IsPlaced, IsBelowLimit, look_of};
 ghost use Rattle.cs_model.specs.Corpus.{Corpus};
 ghost use Rattle.cs_model_serving.specs.Heads.{judge};
-ghost use Rattle.cs_model_serving.specs.Responses.{response_to, too_long};
+ghost use Rattle.cs_model_serving.specs.Responses.{response_to};
 ghost use Rattle.cs_hub.specs.Asked.{AsksAsSent, AsksBy, SentFor};
 ghost use Rattle.cs_hub.specs.DueReads.{closes_behind, requests_in};
 ghost use Rattle.cs_hub.specs.Speaking.{Calm};
