@@ -6,9 +6,10 @@
 --   is_member-listed   a member of the listing is a member of the set
 --   listing-rises      a listing strictly ascends, as the keys of each finite map do (keys-rise)
 --   none_listed        of no members the listing is empty
+--   any_listed         some member of a listing passes a test where some member of the list does
 --   all_then           what follows for one follows for each of a list
 --   filter_listed      some members of a listing, picked by a test, are a listing
-use Rattle.std.proofs.Common.{◌≡◌, Bool, true, false, ◌&&◌, ◌||◌, List, [], ◌∷◌, T, cond, refl, sym, ◌∙◌, ap, subst}
+use Rattle.std.proofs.Common.{◌≡◌, Bool, true, false, ◌&&◌, ◌||◌, List, [], ◌∷◌, T, cond, refl, sym, ◌∙◌, ap, subst, true≢false}
 use Rattle.std.specs.Prelude.{Option, Some, None, map}
 use Rattle.std.specs.Option.{is_some}
 use Rattle.std.specs.List.{list_any, filter, AllByRecursion, dedup, dedup_from}
@@ -17,7 +18,8 @@ use Rattle.std.specs.List.Sorted.{IsStrictlySortedBy, IsSorted, IsPermutation}
 use Rattle.std.specs.Ordering.{eq_by_cmp, is_lt}
 use Rattle.std.specs.declared.cmp.Ordering.{Ordering}
 use Rattle.std.specs.declared.cmp.Ordering.TheVariants.{Less, Equal, Greater}
-use Rattle.std.specs.Cmp.{IsTotalOrder, Equal-is}
+use Rattle.std.specs.Cmp.{IsTotalOrder, Equal-is, tied_itself, both_ways}
+use Rattle.std.proofs.lemmas.Bool.{or_right}
 use Rattle.std.proofs.lemmas.List.Sorted.{list_any-IsPermutation}
 use Rattle.std.proofs.lemmas.List.Kept.{IsStrictlySortedBy-dedup, IsStrictlySortedBy-filter}
 use Rattle.std.proofs.lemmas.List.Filters.{dedup_is}
@@ -129,6 +131,31 @@ module _ {X : Type 0} (R : X → X → Ordering) where
   -- some of the members of a listing, picked by a test, are a listing
   pub filter_listed : IsTotalOrder R → IsAntisymmetric R → (p : X → Bool) (xs : List X) → filter p (members_in R xs) ≡ members_in R (filter p (members_in R xs))
   filter_listed o exact p xs = listed_itself o exact (filter p (members_in R xs)) (IsStrictlySortedBy-filter R p (members_in R xs) (listing-rises xs))
+
+-- ---- tests of members
+module _ {X : Type 0} (R : X → X → Ordering) (o : IsTotalOrder R) (exact : IsAntisymmetric R) where
+  any_at : (t : X → Bool) (x : X) (ys : List X) → t x ≡ true → list_any (eq_by_cmp R x) ys ≡ true → list_any t ys ≡ true
+  any_at t x [] e m = absurd (true≢false (sym m))
+  any_at t x (y ∷ ys) e m =
+      elim (eq_by_cmp R x y) as (λ s. eq_by_cmp R x y ≡ s → (s || list_any (eq_by_cmp R x) ys) ≡ true → (t y || list_any t ys) ≡ true) [
+        | true ↦ λ s _. ap (λ z. t z || list_any t ys) (sym (exact x y ((Equal-is (R x y)).0 s))) ∙ ap (λ b. b || list_any t ys) e
+        | false ↦ λ s r. or_right (t y) _ (any_at t x ys e r)
+      ] refl m
+
+  any_among : (t : X → Bool) (xs ys : List X) → ((q : X) → list_any (eq_by_cmp R q) xs ≡ true → list_any (eq_by_cmp R q) ys ≡ true) → list_any t xs ≡ true → list_any t ys ≡ true
+  any_among t [] ys h e = absurd (true≢false (sym e))
+  any_among t (x ∷ xs) ys h e =
+      elim (t x) as (λ s. t x ≡ s → (s || list_any t xs) ≡ true → list_any t ys ≡ true) [
+        | true ↦ λ s _. any_at t x ys s (h x (ap (λ b. b || list_any (eq_by_cmp R x) xs) ((Equal-is (R x x)).1 (tied_itself o x))))
+        | false ↦ λ s r. any_among t xs ys (λ q m. h q (or_right (eq_by_cmp R q x) _ m)) r
+      ] refl e
+
+  -- a test passes on a listing where it does on the list
+  pub any_listed : (t : X → Bool) (xs : List X) → list_any t (members_in R xs) ≡ list_any t xs
+  any_listed t xs =
+      both_ways _ _
+      (any_among t (members_in R xs) xs (λ q m. sym (is_member-listed R o xs q) ∙ m))
+      (any_among t xs (members_in R xs) (λ q m. is_member-listed R o xs q ∙ m))
 
 -- a test that is made twice counts once
 pub again : (a b : Bool) → (a || b) ≡ (a || (a || b))

@@ -6,6 +6,7 @@
 --   none_made, none_had, one_made, one_had, five_made     structs of no field, of one and of five, made and taken apart
 --   dropped        nothing is had at exit of a parameter that the function uses up
 --   begins         a walk begins with the parameters and, behind them, the tokens; what is asked is known
+--   AsCaller       what the walk of a function shows that calls another one, by the contract of that one
 --   by_walk        a function meets its contract where its code is walked
 use Rattle.std.proofs.Common.{◌≡◌, List, [], ◌∷◌, refl}
 use lib.Dec.{T}
@@ -14,9 +15,9 @@ use mir.Syntax.{Fn, Callee, given as dict_at}
 use mir.Val.{Val, vstruct, vcons, vnil, has_ty, WT}
 use base.Fml.{ftrue}
 use base.Logic.{SProp, ent}
-use prog.Wp.{Closed, WpFn, Tables}
+use prog.Wp.{Calls, Closed, Loops, WpFn, Tables}
 use contract.Monad.{fact}
-use sound.WpLaws.{WpFn-mono}
+use sound.WpLaws.{FmC, WpFn-mono}
 use types.Logic.{Logic}
 use types.Kit.{Goal, Seq, Step, step, Item, Go, ‵, raw, prop, ◌⊛◌, ◌$◌, ◌∵◌, !, qed, move, drop, use1, split, fsplit, fjoin, fpick, fpack, feq_l, feq_i}
 use denote.RattleType.{RattleType, Valss, owns}
@@ -29,7 +30,7 @@ use denote.Struct.Struct.{Struct, within}
 use denote.Triple.Clauses.{Clauses, Ended, closing}
 use denote.Triple.Entry.{alive}
 use denote.Triple.Spec.{triple_of}
-use denote.Triple.Statement.{Triple}
+use denote.Triple.Statement.{Contract, Triple}
 use denote.Triple.Table.{entered}
 use denote.Triple.Walked.{Stay, Stays, AllGo, Walks, stay_dropped, walk_of, walk_Meets}
 use Rattle.std.proofs.alloc.Calls.{handle_tells}
@@ -98,6 +99,10 @@ module _ {M : Type 1} {𝓤 : Ura M} (𝓛 : Logic 𝓤) (F : Ended) (hs : Stays
   begins z Asked asks k =
       qed 𝓛 ((raw (alive 𝓛 F.signature z.0.0 z.0.1) ⊛ ‵ (owns (types_at F.signature.params z.0.0) z.0.3 z.0.4)) ∷ raw ((held z.0.0 z.0.3).requires z.1) ∷ []) ∵
       move ! (1 ∷ []) $ use1 𝓛 (raw (fact 𝓤 Asked)) asks $ heard ! Asked (λ asked. split ! $ move ! (1 ∷ []) $ k asked)
+
+  -- what the walk of a function shows that calls another one, by the contract of that one
+  abbrev pub AsCaller : Callee → Contract 𝓤 → Fn → Type 2
+  AsCaller callee asked code = (C : Calls 𝓤 H) (Λ : Loops 𝓤 H) → FmC 𝓤 H 𝓛.laws C → Triple 𝓤 (C callee) asked → Walks 𝓛 F hs (WpFn 𝓤 H C Λ code) held
 
   -- a function meets its contract where its code is walked
   pub by_walk : AllGo 𝓛 F.signature.lifetimes F.signature.params F.kept hs → (key : Callee) (code : Fn) (𝓣 : Tables 𝓤 H) → Closed 𝓤 H 𝓣.C 𝓣.Λ key code

@@ -1,5 +1,5 @@
 -- Rows that are listed document by document are in their order, and are the rows of the documents.
-use Rattle.std.proofs.Common.{◌≡◌, ℕ, ◌+◌, ◌<◌, ◌≤◌, Bool, true, false, ◌&&◌, ◌||◌, List, [], ◌∷◌, ◌++◌, length, map, drop, get_or, refl, sym, ap, ◌∙◌, arith, append-nil, add-one, drop-cons, subst, true≢false}
+use Rattle.std.proofs.Common.{◌≡◌, ℕ, ◌+◌, ◌<◌, ◌≤◌, Bool, true, false, ◌&&◌, ◌||◌, List, [], ◌∷◌, ◌++◌, length, map, drop, get_or, refl, sym, ap, ◌∙◌, arith, append-nil, add-one, drop-cons, subst}
 use Rattle.std.specs.List.{AllByRecursion, list_any, flat_map, enumerate_from}
 use Rattle.std.specs.List.Sorted.{IsStrictlySortedBy}
 use Rattle.std.specs.Ordering.{nat_cmp, ordering_then, eq_by_cmp, is_eq}
@@ -15,7 +15,7 @@ use Rattle.cs_base.specs.declared.content.doc.Doc.{Doc}
 use Rattle.cs_base.specs.declared.content.doc.Row.{Row}
 use Rattle.cs_base.specs.declared.content.scores.TheConstants.{TITLE_SCORE, FACET_SCORE, TEXT_SCORE, BEHIND_TITLE}
 use Rattle.cs_base.proofs.MembersLemmas.{all_then, members_are, is_member-listed, listing-rises}
-use Rattle.cs_base.proofs.OrdersLemmas.{Less-from_lt, by_row_total, by_row_exact}
+use Rattle.cs_base.proofs.OrdersLemmas.{Less-from_lt, by_row_total, by_row_exact, rows_up}
 use Rattle.cs_model.specs.Collection.{facet_words}
 use Rattle.cs_model.specs.Corpus.{placed, title_rows, text_rows, facet_rows, doc_rows, rows_of}
 use Rattle.cs_model.specs.Words.{words}
@@ -148,25 +148,8 @@ sorted-spots d (doc ∷ docs) =
     sorted-append by_spot (listed_doc (d, doc)) (listed_rows (d + 1) docs) (sorted-doc d doc) (sorted-spots (d + 1) docs)
     (below-from by_spot (λ r. r.doc ≡ d) (λ s. d + 1 ≤ s.doc) (λ r s p q. earlier_doc r s (omega (arith, p, q))) (listed_doc (d, doc)) (listed_rows (d + 1) docs) (of_doc d doc) (from_docs (d + 1) docs))
 
-before : (a b o e : Ordering) → ordering_then a (ordering_then b o) ≡ Less → ordering_then a (ordering_then b (ordering_then o e)) ≡ Less
-before Less b o e h = refl
-before Greater b o e h = h
-before Equal Less o e h = refl
-before Equal Greater o e h = h
-before Equal Equal Less e h = refl
-before Equal Equal Greater e h = h
-before Equal Equal Equal e h = absurd (true≢false (ap is_eq h))
-
-spot-row : (r s : Row) → by_spot r s ≡ Less → by_row r s ≡ Less
-spot-row r s h = before (nat_cmp r.doc s.doc) (nat_cmp r.pos s.pos) (slice_cmp nat_cmp r.word s.word) (nat_cmp r.score s.score) h
-
-rise_as_rows : (rows : List Row) → IsStrictlySortedBy by_spot rows → IsStrictlySortedBy by_row rows
-unfolding IsStrictlySortedBy
-rise_as_rows [] h = tt
-rise_as_rows (r ∷ rows) h = (all_then (λ s. by_spot r s ≡ Less) (λ s. by_row r s ≡ Less) (spot-row r) rows h.0, rise_as_rows rows h.1)
-
 sorted-rows : (d : ℕ) (docs : List Doc) → IsStrictlySortedBy by_row (listed_rows d docs)
-sorted-rows d docs = rise_as_rows (listed_rows d docs) (sorted-spots d docs)
+sorted-rows d docs = rows_up (listed_rows d docs) (sorted-spots d docs)
 
 -- ---- the same rows
 

@@ -58,7 +58,8 @@ record EndsIn (text : List ℕ) (other : List ℕ → List ℕ) (p : List ℕ) :
   whole : text ≡ front ++ word_text p
   changed : (w : List ℕ) → other w ≡ front ++ word_text w
 
-prefix_of : (z : Atom-F Atom Chain Linked Part Query) (p : List ℕ) → prefix_in z ≡ Some p → z ≡ Atom-F.Prefix p
+-- an atom with a prefix is that prefix
+pub prefix_of : (z : Atom-F Atom Chain Linked Part Query) (p : List ℕ) → prefix_in z ≡ Some p → z ≡ Atom-F.Prefix p
 prefix_of (Atom-F.Prefix r) p h = ap Atom-F.Prefix (unsome r p h)
   where
     unsome : (a b : List ℕ) → Some a ≡ Some b → a ≡ b
@@ -107,16 +108,17 @@ chain_ends c p h =
     record { front = e.front; whole = chain_shape c ∙ e.whole; changed = e.changed }
 
 -- ---- parts
-abbrev ending : List ℕ → Chain → Chain
+abbrev pub ending : List ℕ → Chain → Chain
 ending w c = ended_by w (out-Chain c).first (out-Chain c).rest
 
-record OneChain (excluded : Bool) (chains : List Chain) (p : List ℕ) : Type 0 where
-  positive : excluded ≡ false
-  chain : Chain
-  one : chains ≡ chain ∷ []
-  ends : chain_prefix chain ≡ Some p
+-- chains of a part with one alternative, which ends in a prefix
+pub record OneChain (excluded : Bool) (chains : List Chain) (p : List ℕ) : Type 0 where
+  pub positive : excluded ≡ false
+  pub chain : Chain
+  pub one : chains ≡ chain ∷ []
+  pub ends : chain_prefix chain ≡ Some p
 
-one_chain_of : (e : Bool) (cs : List Chain) (p : List ℕ) → (if e then None else chains_prefix cs) ≡ Some p → OneChain e cs p
+pub one_chain_of : (e : Bool) (cs : List Chain) (p : List ℕ) → (if e then None else chains_prefix cs) ≡ Some p → OneChain e cs p
 one_chain_of true cs p h = absurd (let no : None ≡ Some p = h in cc)
 one_chain_of false [] p h = absurd (let no : None ≡ Some p = h in cc)
 one_chain_of false (c ∷ []) p h = record { positive = refl; chain = c; one = refl; ends = h }

@@ -18,7 +18,7 @@ use Rattle.std.proofs.lemmas.Bool.Decides.{nat_tests}
 use Rattle.std.proofs.lemmas.Cmp.{nat_cmp_total}
 use Rattle.std.proofs.lemmas.List.{map-append, length-map, append-nil}
 use Rattle.std.proofs.lemmas.List.Folds.{list_any-append}
-use Rattle.cs_base.proofs.MembersLemmas.{members-alike, is_member-listed}
+use Rattle.cs_base.proofs.MembersLemmas.{members-alike, is_member-listed, any_listed}
 use Rattle.cs_base.proofs.OrdersLemmas.{by_row_total, by_row_exact}
 use Rattle.cs_base.specs.content.Members.{members_in}
 use Rattle.cs_base.specs.content.Orders.{by_row}
@@ -33,7 +33,7 @@ use Rattle.cs_model.specs.Words.{words}
 use Rattle.cs_model_index.proofs.ImageLemmas.{titles_listed}
 use Rattle.cs_model_changes.specs.Changes.{Change, added, deleted, Changing, applied, first_behind, started, now, IsGone}
 use Rattle.cs_model_changes.specs.Joined.{joined}
-use Rattle.cs_model_changes.proofs.JoinedLemmas.{all_rows, any_listed, joined_are_corpora, numbered, rows_apart}
+use Rattle.cs_model_changes.proofs.JoinedLemmas.{all_rows, joined_are_corpora, numbered, rows_apart}
 
 -- ---- additions
 abbrev over : List Doc → Changing

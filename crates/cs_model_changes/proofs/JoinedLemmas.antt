@@ -1,23 +1,19 @@
 -- The corpus of documents and further ones is their two corpora joined.
 --
---   any_listed          some member of a listing passes a test where some member of the set does
 --   numbered            documents and further ones, with their numbers
 --   rows_apart          the rows of documents and further ones, before they are listed
 --   joined_are_corpora  the law
-use Rattle.std.proofs.Common.{◌≡◌, ℕ, suc, ◌+◌, ◌||◌, Bool, true, false, true≢false, List, [], ◌∷◌, ◌++◌, map, length, refl, sym, ◌∙◌, ap, arith}
+use Rattle.std.proofs.Common.{◌≡◌, ℕ, suc, ◌+◌, ◌||◌, Bool, List, [], ◌∷◌, ◌++◌, map, length, refl, sym, ◌∙◌, ap, arith}
 use Rattle.std.specs.Prelude.{flat_map}
 use Rattle.std.specs.List.{list_any, enumerate_from}
 use Rattle.std.specs.Ordering.{nat_cmp, eq_by_cmp}
-use Rattle.std.specs.Cmp.{IsTotalOrder, Equal-is, tied_itself}
-use Rattle.std.specs.declared.cmp.Ordering.{Ordering}
-use Rattle.std.specs.FinMap.{IsAntisymmetric, entries, from_entries, len, len-entries}
+use Rattle.std.specs.FinMap.{entries, from_entries, len, len-entries}
 use Rattle.std.proofs.lemmas.List.{map-append, length-map}
 use Rattle.std.proofs.lemmas.List.Folds.{list_any-append}
 use Rattle.std.proofs.lemmas.List.FromFn.{length-enumerate_from}
 use Rattle.std.proofs.lemmas.Grind.{flat_map-append}
-use Rattle.cs_base.proofs.MembersLemmas.{members-alike, is_member-listed}
+use Rattle.cs_base.proofs.MembersLemmas.{members-alike, is_member-listed, any_listed}
 use Rattle.cs_base.proofs.OrdersLemmas.{by_row_total, by_row_exact}
-use Rattle.cs_base.specs.content.Members.{members_in}
 use Rattle.cs_base.specs.content.Orders.{by_row}
 use Rattle.cs_base.specs.declared.content.doc.Doc.{Doc}
 use Rattle.cs_base.specs.declared.content.doc.Row.{Row}
@@ -29,39 +25,6 @@ use Rattle.cs_model.specs.Scores.{SCORES}
 use Rattle.cs_model.specs.Words.{words}
 use Rattle.cs_model_index.proofs.ImageLemmas.{titles_listed}
 use Rattle.cs_model_changes.specs.Joined.{joined, later_row, later_title}
-
--- ---- listings
-or_right : (a b : Bool) → b ≡ true → (a || b) ≡ true
-or_right true b h = refl
-or_right false b h = h
-
-both_ways : (a b : Bool) → (a ≡ true → b ≡ true) → (b ≡ true → a ≡ true) → a ≡ b
-both_ways true b h k = sym (h refl)
-both_ways false true h k = k refl
-both_ways false false h k = refl
-
-module _ {X : Type 0} (R : X → X → Ordering) (o : IsTotalOrder R) (exact : IsAntisymmetric R) where
-  any_at : (t : X → Bool) (x : X) (ys : List X) → t x ≡ true → list_any (eq_by_cmp R x) ys ≡ true → list_any t ys ≡ true
-  any_at t x [] e m = absurd (true≢false (sym m))
-  any_at t x (y ∷ ys) e m =
-      elim (eq_by_cmp R x y) as (λ s. eq_by_cmp R x y ≡ s → (s || list_any (eq_by_cmp R x) ys) ≡ true → (t y || list_any t ys) ≡ true) [
-        | true ↦ λ s _. ap (λ z. t z || list_any t ys) (sym (exact x y ((Equal-is (R x y)).0 s))) ∙ ap (λ b. b || list_any t ys) e
-        | false ↦ λ s r. or_right (t y) _ (any_at t x ys e r)
-      ] refl m
-
-  any_among : (t : X → Bool) (xs ys : List X) → ((q : X) → list_any (eq_by_cmp R q) xs ≡ true → list_any (eq_by_cmp R q) ys ≡ true) → list_any t xs ≡ true → list_any t ys ≡ true
-  any_among t [] ys h e = absurd (true≢false (sym e))
-  any_among t (x ∷ xs) ys h e =
-      elim (t x) as (λ s. t x ≡ s → (s || list_any t xs) ≡ true → list_any t ys ≡ true) [
-        | true ↦ λ s _. any_at t x ys s (h x (ap (λ b. b || list_any (eq_by_cmp R x) xs) ((Equal-is (R x x)).1 (tied_itself o x))))
-        | false ↦ λ s r. any_among t xs ys (λ q m. h q (or_right (eq_by_cmp R q x) _ m)) r
-      ] refl e
-
-  pub any_listed : (t : X → Bool) (xs : List X) → list_any t (members_in R xs) ≡ list_any t xs
-  any_listed t xs =
-      both_ways _ _
-      (any_among t (members_in R xs) xs (λ q m. sym (is_member-listed R o xs q) ∙ m))
-      (any_among t xs (members_in R xs) (λ q m. is_member-listed R o xs q ∙ m))
 
 -- ---- numbers
 pub numbered : {X : Type 0} (a : ℕ) (xs ys : List X) → enumerate_from a (xs ++ ys) ≡ enumerate_from a xs ++ enumerate_from (a + length xs) ys

@@ -1,56 +1,34 @@
 -- The image of a corpus keeps its rows: each stands in the block of the run that has its word.
 --
---   rows_up           rows in order by document, position and word are in order by all four
 --   listed_word       a word is listed exactly where some row has it
 --   known_words       each row's word is among the words of the rows
 --   kept              what holds of each holds of each that is kept
 --   rows_of_runs      the rows of the blocks are those of the runs
 --   same_members      they are all rows
 --   corpora_are_kept  the law
-use Rattle.std.proofs.Common.{◌≡◌, ℕ, ◌&&◌, ◌||◌, Bool, true, false, true≢false, cond, List, [], ◌∷◌, ◌++◌, map, refl, sym, ◌∙◌, ap, subst}
+use Rattle.std.proofs.Common.{◌≡◌, ℕ, ◌&&◌, ◌||◌, Bool, true, false, cond, List, [], ◌∷◌, ◌++◌, map, refl, sym, ◌∙◌, ap, subst}
 use Rattle.std.specs.Prelude.{filter, flat_map}
 use Rattle.std.specs.List.{AllByRecursion, list_any}
-use Rattle.std.specs.List.Sorted.{IsStrictlySortedBy}
-use Rattle.std.specs.Ordering.{nat_cmp, eq_by_cmp, is_lt, ordering_then}
+use Rattle.std.specs.Ordering.{nat_cmp, eq_by_cmp}
 use Rattle.std.specs.Cmp.{Equal-is}
 use Rattle.std.specs.Cmp.Lexicographic.{slice_cmp}
-use Rattle.std.specs.declared.cmp.Ordering.{Ordering}
-use Rattle.std.specs.declared.cmp.Ordering.TheVariants.{Less, Equal, Greater}
 use Rattle.std.specs.Str.{bytes_eq}
+use Rattle.std.proofs.lemmas.Bool.{or_right}
 use Rattle.std.proofs.lemmas.Cmp.{nat_list_cmp_total}
 use Rattle.std.proofs.lemmas.List.{map-append}
 use Rattle.std.proofs.lemmas.List.Folds.{list_any-append}
 use Rattle.std.proofs.lemmas.Map.Text.{is_eq-slice_cmp}
 use Rattle.std.proofs.lemmas.Slice.Eq.{bytes_eq-Decides}
 use Rattle.cs_base.proofs.MembersLemmas.{members_are, is_member-listed}
-use Rattle.cs_base.proofs.OrdersLemmas.{by_row_total, by_row_exact}
+use Rattle.cs_base.proofs.OrdersLemmas.{by_row_total, by_row_exact, rows_up}
 use Rattle.cs_base.specs.content.Members.{members_in}
-use Rattle.cs_base.specs.content.Orders.{by_row, by_spot}
+use Rattle.cs_base.specs.content.Orders.{by_row}
 use Rattle.cs_base.specs.declared.content.doc.Row.{Row}
 use Rattle.cs_base.proofs.ListsLemmas.{any_through}
 use Rattle.cs_model.specs.Corpus.{Corpus, by_number, distinct_words, IsCorpus}
 use Rattle.cs_model_index.proofs.NumberedLemmas.{rows_of_numbered}
 use Rattle.cs_model_index.specs.Images.{Image, block_of, image_rows, image_corpus, IsImage}
 use Rattle.cs_model_index.specs.Numbered.{rows_at, HasWord}
-
--- ---- order
-spot_less : (a b c e : Ordering) → ordering_then a (ordering_then b c) ≡ Less → ordering_then a (ordering_then b (ordering_then c e)) ≡ Less
-spot_less Less b c e h = refl
-spot_less Greater b c e h = h
-spot_less Equal Less c e h = refl
-spot_less Equal Greater c e h = h
-spot_less Equal Equal Less e h = refl
-spot_less Equal Equal Greater e h = h
-spot_less Equal Equal Equal e h = absurd (true≢false (ap is_lt (sym h)))
-
-rest_up : (r : Row) (rows : List Row) → AllByRecursion (λ s. by_spot r s ≡ Less) rows → AllByRecursion (λ s. by_row r s ≡ Less) rows
-rest_up r [] h = tt
-rest_up r (s ∷ rows) h = (spot_less (nat_cmp r.doc s.doc) (nat_cmp r.pos s.pos) (slice_cmp nat_cmp r.word s.word) (nat_cmp r.score s.score) h.0, rest_up r rows h.1)
-
-pub rows_up : (rows : List Row) → IsStrictlySortedBy by_spot rows → IsStrictlySortedBy by_row rows
-unfolding IsStrictlySortedBy
-rows_up [] h = tt
-rows_up (r ∷ rows) h = (rest_up r rows h.0, rows_up rows h.1)
 
 -- ---- words
 pub any_alike : {X : Type 0} (p q : X → Bool) (xs : List X) → ((x : X) → p x ≡ q x) → list_any p xs ≡ list_any q xs
@@ -65,10 +43,6 @@ listed_word rows w =
     ∙ is_member-listed (slice_cmp nat_cmp) nat_list_cmp_total listed w
     ∙ any_alike (eq_by_cmp (slice_cmp nat_cmp) w) (bytes_eq w) listed (is_eq-slice_cmp w)
     ∙ any_through (λ r. r.word) (bytes_eq w) rows
-
-or_right : (a b : Bool) → b ≡ true → (a || b) ≡ true
-or_right true b h = refl
-or_right false b h = h
 
 each_known : (ws : List (List ℕ)) (rows : List Row) → ((w : List ℕ) → list_any (λ r. bytes_eq w r.word) rows ≡ true → list_any (bytes_eq w) ws ≡ true) → AllByRecursion (HasWord ws) rows
 each_known ws [] h = tt

@@ -25,7 +25,7 @@ use Rattle.std.proofs.lemmas.List.Folds.{list_any-append}
 use Rattle.std.proofs.lemmas.Map.Keys.{Less-from_sorted}
 use Rattle.std.proofs.lemmas.Slice.Eq.{bytes_eq-Decides}
 use Rattle.cs_base.proofs.MembersLemmas.{listed_itself, all_then}
-use Rattle.cs_base.proofs.OrdersLemmas.{by_row_total, by_row_exact, lt-from_Less}
+use Rattle.cs_base.proofs.OrdersLemmas.{by_row_total, by_row_exact, lt-from_Less, rows_up}
 use Rattle.cs_base.specs.content.Members.{members_in}
 use Rattle.cs_base.specs.content.Orders.{by_place, by_row, by_spot}
 use Rattle.cs_base.specs.declared.content.doc.Post.{Post}
@@ -38,7 +38,6 @@ use Rattle.cs_model_index.specs.Images.{block_of, count_in, head_of, heads_from}
 use Rattle.cs_model_index.specs.Numbered.{word_at, word_number, row_of, rows_at, numbered, HasWord}
 use Rattle.cs_model_index.specs.Partitions.{is_alike, is_ended, is_facet, is_full, is_light, is_one_kind, is_run, rows_of_run}
 use Rattle.cs_model_index.specs.declared.limits.TheConstants.{MAX_BLOCK_WORDS}
-use Rattle.cs_model_index.proofs.CorpusLemmas.{rows_up}
 use Rattle.cs_model_index.proofs.Listings.{same_tests, listed_each, any_listed, filter_members, all_both}
 use Rattle.cs_model_index.proofs.NumberedLemmas.{word_of_number, number_of_word, number_below, numbered_of_rows}
 use Rattle.cs_model_index.proofs.ReadBlocks.{IsRead, AreRead}

@@ -34,16 +34,15 @@ use Rattle.cs_base.specs.declared.content.query.Chain.{Chain, roll-Chain, out-Ch
 use Rattle.cs_base.specs.declared.content.query.Linked.{Linked, out-Linked, roll-out-Linked}
 use Rattle.cs_base.specs.declared.content.query.Atom.{Atom, Prefix, roll-Atom, out-Atom, roll-out-Atom}
 use Rattle.cs_base.specs.declared.content.query.Atom.TheVariants.{rolls-Prefix}
-use Rattle.cs_base.specs.declared.content.query.Atom.TheOpen.{Atom-F}
 use Rattle.cs_base.proofs.MembersLemmas.{members_are, is_member-listed, listing-rises}
 use Rattle.cs_base.proofs.OrdersLemmas.{by_row_total, by_row_exact}
 use Rattle.cs_base.proofs.ListsLemmas.{all_stay}
 use Rattle.cs_model.specs.Answers.{PartRows, LinkedRows, begins, chained, is_linked, linked_to, parts_of, rows_of_atom, rows_of_chain, rows_of_linked, rows_of_part, union_of}
 use Rattle.cs_model.specs.Corpus.{Corpus}
 use Rattle.cs_model.specs.Grammar.{on_last, with_chains}
-use Rattle.cs_model.specs.Keys.{last_of, prefix_in, last_atom, chain_prefix, chains_prefix, part_prefix, relinked, ended_by, with_prefix, shorter, is_left, shorter_words}
+use Rattle.cs_model.specs.Keys.{last_of, prefix_in, last_atom, chain_prefix, part_prefix, relinked, ended_by, with_prefix, shorter, is_left, shorter_words}
 use Rattle.cs_model.proofs.AnswersLemmas.{query_rolled, part_rolled, chain_rolled, linked_rolled, prefix_rows}
-use Rattle.cs_model.proofs.KeyLemmas.{on_last-append, last_split}
+use Rattle.cs_model.proofs.KeyLemmas.{on_last-append, last_split, prefix_of, ending, one_chain_of}
 use Rattle.cs_model.proofs.SizeLemmas.{encodes-append}
 use Rattle.cs_model_kept.specs.Entries.{Entry, scored_hits, base_of, entry, entry_of, is_begun, is_hit, without, entry_after}
 use Rattle.cs_model_kept.specs.KeptLaws.{EntriesNarrow}
@@ -127,14 +126,6 @@ module _ (k : Corpus) where
     same : own ≡ filter keeps (beginning p)
     changed : (v : List ℕ) → other v ≡ filter keeps (beginning v)
 
-  prefix_of : (z : Atom-F Atom Chain Linked Part Query) (p : List ℕ) → prefix_in z ≡ Some p → z ≡ Atom-F.Prefix p
-  prefix_of (Atom-F.Prefix r) p h = ap Atom-F.Prefix (unsome r p h)
-    where
-      unsome : (a b : List ℕ) → Some a ≡ Some b → a ≡ b
-      unsome a b e = cc
-  prefix_of (Atom-F.Exact w) p h = absurd (let no : None ≡ Some p = h in cc)
-  prefix_of (Atom-F.Join n q) p h = absurd (let no : None ≡ Some p = h in cc)
-
   atom_told : (a : Atom) (p : List ℕ) → prefix_in (out-Atom a) ≡ Some p → rows_of_atom k a ≡ beginning p
   atom_told a p h = ap (rows_of_atom k) (sym (roll-out-Atom a) ∙ ap roll-Atom (prefix_of (out-Atom a) p h) ∙ rolls-Prefix p) ∙ prefix_rows k p
 
@@ -180,27 +171,12 @@ module _ (k : Corpus) where
       let s = last_split (l ∷ ls) m.0 m.1 in
       linked_told a (l ∷ ls) s.0 m.0 p s.1 (ap (λ o. prefix_in (out-Atom (last_atom a o))) (sym m.1) ∙ h)
 
-  abbrev ending : List ℕ → Chain → Chain
-  ending w c = ended_by w (out-Chain c).first (out-Chain c).rest
-
   chain_told : (c : Chain) (p : List ℕ) → chain_prefix c ≡ Some p → Told (rows_of_chain k c) (λ v. rows_of_chain k (ending v c)) p
   chain_told c p h =
       let t = atoms_told (out-Chain c).first (out-Chain c).rest p h in
       record { keeps = t.keeps; same = ap (rows_of_chain k) (sym (roll-out-Chain c)) ∙ chain_rolled k (out-Chain c).first (out-Chain c).rest ∙ t.same; changed = t.changed }
 
   -- ---- parts
-  record OneChain (excluded : Bool) (chains : List Chain) (p : List ℕ) : Type 0 where
-    positive : excluded ≡ false
-    chain : Chain
-    one : chains ≡ chain ∷ []
-    ends : chain_prefix chain ≡ Some p
-
-  one_chain_of : (e : Bool) (cs : List Chain) (p : List ℕ) → (if e then None else chains_prefix cs) ≡ Some p → OneChain e cs p
-  one_chain_of true cs p h = absurd (let no : None ≡ Some p = h in cc)
-  one_chain_of false [] p h = absurd (let no : None ≡ Some p = h in cc)
-  one_chain_of false (c ∷ []) p h = record { positive = refl; chain = c; one = refl; ends = h }
-  one_chain_of false (c ∷ d ∷ cs) p h = absurd (let no : None ≡ Some p = h in cc)
-
   abbrev read : Bool → List Row → PartRows
   read excluded rows = record { excluded = excluded; rows = rows }
 

@@ -2,39 +2,35 @@
 --
 --   table-is        the table, by the counted words
 --   table_total     how many words it has
-use Rattle.std.proofs.Common.{◌≡◌, ℕ, ◌+◌, Bool, true, false, ◌||◌, cond, List, [], ◌∷◌, map, length, refl, sym, ◌∙◌, ap, arith, true≢false}
+use Rattle.std.proofs.Common.{◌≡◌, ℕ, ◌+◌, false, ◌||◌, cond, List, [], ◌∷◌, map, length, refl, sym, ◌∙◌, ap, arith}
 use Rattle.std.specs.List.{AllByRecursion, list_any}
 use Rattle.std.specs.List.Sorted.{IsStrictlySortedBy}
-use Rattle.std.specs.Ordering.{nat_cmp, eq_by_cmp, flip_args, is_eq, ordering_then}
+use Rattle.std.specs.Ordering.{nat_cmp, eq_by_cmp, is_eq, ordering_then}
 use Rattle.std.specs.declared.cmp.Ordering.{Ordering}
 use Rattle.std.specs.declared.cmp.Ordering.TheVariants.{Less, Equal, Greater}
-use Rattle.std.specs.FinMap.{FinMap, IsAntisymmetric, len, entries, insert, from_entries, contains_key, len-insert, len-entries, contains_key-keys}
-use Rattle.std.specs.Cmp.{IsTotalOrder, nat_cmp_total, both_ways}
-use Rattle.std.proofs.lemmas.Cmp.{then_total, on_total, back_total, tied_itself}
-use Rattle.std.proofs.lemmas.Map.Lookups.{exact_pairs, exact_unsigned}
-use Rattle.std.proofs.lemmas.Bool.{or_right}
+use Rattle.std.specs.FinMap.{FinMap, IsAntisymmetric, len, entries, insert, from_entries, contains_key, len-insert, len-entries, contains_key-keys, nat_cmp-IsAntisymmetric}
+use Rattle.std.specs.Cmp.{IsTotalOrder, nat_cmp_total}
+use Rattle.std.proofs.lemmas.Cmp.{then_total, on_total, back_total}
 use Rattle.std.proofs.lemmas.List.{length-map}
 use Rattle.cs_base.specs.content.Members.{marked, members_in}
 use Rattle.cs_base.specs.content.Orders.{by_rank}
 use Rattle.cs_base.specs.declared.content.doc.Post.{Post}
 use Rattle.cs_base.specs.declared.content.doc.Scored.{Scored}
-use Rattle.cs_base.proofs.MembersLemmas.{members_are, is_member-listed, listing-rises, none_listed}
+use Rattle.cs_base.proofs.MembersLemmas.{members_are, is_member-listed, listing-rises, none_listed, any_listed}
+use Rattle.cs_base.proofs.ListsLemmas.{any_through}
 use Rattle.cs_base.proofs.OrdersLemmas.{by_rank_total, by_rank_exact}
 use Rattle.cs_tables.specs.declared.tables.Completion.{Completion}
 use Rattle.cs_tables.specs.TableListings.{by_docs, post_table, completion, post_completion}
-use Rattle.cs_tables.proofs.CountedWords.{eq_is}
 use Rattle.cs_tables.specs.Marks.{counted_word, post_words}
+
+abbrev scored_of : Completion → Scored
+scored_of c = record { doc = c.word; score = c.docs }
 
 pub by_docs_total : IsTotalOrder by_docs
 by_docs_total = then_total (on_total (λ c. c.docs) (back_total nat_cmp_total)) (on_total (λ c. c.word) nat_cmp_total)
 
 pub by_docs_exact : IsAntisymmetric by_docs
-by_docs_exact a b h =
-    ap (λ (p : ℕ × ℕ). let c : Completion = record { word = p.1; docs = p.0 } in c)
-    (exact_pairs (flip_args nat_cmp) nat_cmp (λ x y e. sym (exact_unsigned y x e)) exact_unsigned (a.docs, a.word) (b.docs, b.word) h)
-
-abbrev scored_of : Completion → Scored
-scored_of c = record { doc = c.word; score = c.docs }
+by_docs_exact a b h = ap completion (by_rank_exact (scored_of a) (scored_of b) h)
 
 abbrev counted : List Post → List Scored
 counted rows = map (counted_word rows) (post_words rows)
@@ -53,34 +49,6 @@ any_as : (q : Completion) (hs : List Scored) → list_any (eq_by_cmp by_docs q) 
 any_as q [] = refl
 any_as q (h ∷ hs) = ap (λ b. eq_by_cmp by_rank (scored_of q) h || b) (any_as q hs)
 
--- a test that one member passes
-any_at : (t : ℕ → Bool) (x : ℕ) (ys : List ℕ) → t x ≡ true → list_any (eq_by_cmp nat_cmp x) ys ≡ true → list_any t ys ≡ true
-any_at t x [] e h = absurd (true≢false (sym h))
-any_at t x (y ∷ ys) e h =
-    elim (eq_by_cmp nat_cmp x y) as (λ s. eq_by_cmp nat_cmp x y ≡ s → (s || list_any (eq_by_cmp nat_cmp x) ys) ≡ true → (t y || list_any t ys) ≡ true) [
-      | true ↦ λ s _. ap (λ z. t z || list_any t ys) (sym (eq_is x y s)) ∙ ap (λ b. b || list_any t ys) e
-      | false ↦ λ s r. or_right (t y) _ (any_at t x ys e r)
-    ] refl h
-
-any_through : (t : ℕ → Bool) (xs ys : List ℕ) → ((q : ℕ) → list_any (eq_by_cmp nat_cmp q) xs ≡ true → list_any (eq_by_cmp nat_cmp q) ys ≡ true) → list_any t xs ≡ true → list_any t ys ≡ true
-any_through t [] ys h e = absurd (true≢false (sym e))
-any_through t (x ∷ xs) ys h e =
-    elim (t x) as (λ s. t x ≡ s → (s || list_any t xs) ≡ true → list_any t ys ≡ true) [
-      | true ↦ λ s _. any_at t x ys s (h x (ap (λ b. b || list_any (eq_by_cmp nat_cmp x) xs) ((ap is_eq (tied_itself nat_cmp_total x)))))
-      | false ↦ λ s r. any_through t xs ys (λ q m. h q (or_right (eq_by_cmp nat_cmp q x) _ m)) r
-    ] refl e
-
--- a test holds of a member of the listing where it holds of one of the list
-any_listed : (t : ℕ → Bool) (xs : List ℕ) → list_any t (members_in nat_cmp xs) ≡ list_any t xs
-any_listed t xs =
-    both_ways _ _
-    (any_through t (members_in nat_cmp xs) xs (λ q m. sym (is_member-listed nat_cmp nat_cmp_total xs q) ∙ m))
-    (any_through t xs (members_in nat_cmp xs) (λ q m. is_member-listed nat_cmp nat_cmp_total xs q ∙ m))
-
-any_map : (t : Scored → Bool) (f : ℕ → Scored) (xs : List ℕ) → list_any t (map f xs) ≡ list_any (λ x. t (f x)) xs
-any_map t f [] = refl
-any_map t f (x ∷ xs) = ap (λ b. t (f x) || b) (any_map t f xs)
-
 any_rows : (all : List Post) (q : Completion) (rows : List Post) → list_any (λ x. eq_by_cmp by_rank (scored_of q) (counted_word all x)) (map (λ p. p.word) rows) ≡ list_any (eq_by_cmp by_docs q) (map (λ p. post_completion all p.word) rows)
 any_rows all q [] = refl
 any_rows all q (p ∷ rows) = ap (λ b. eq_by_cmp by_docs q (post_completion all p.word) || b) (any_rows all q rows)
@@ -91,8 +59,8 @@ table-is rows =
     (rise_as _ (listing-rises by_rank (counted rows)))
     (λ q. any_as q (members_in by_rank (counted rows))
     ∙ is_member-listed by_rank by_rank_total (counted rows) (scored_of q)
-    ∙ any_map (eq_by_cmp by_rank (scored_of q)) (counted_word rows) (post_words rows)
-    ∙ any_listed (λ x. eq_by_cmp by_rank (scored_of q) (counted_word rows x)) (map (λ p. p.word) rows)
+    ∙ any_through (counted_word rows) (eq_by_cmp by_rank (scored_of q)) (post_words rows)
+    ∙ any_listed nat_cmp nat_cmp_total nat_cmp-IsAntisymmetric (λ x. eq_by_cmp by_rank (scored_of q) (counted_word rows x)) (map (λ p. p.word) rows)
     ∙ any_rows rows q rows)
 
 never : (o : Ordering) → is_eq (ordering_then o Less) ≡ false

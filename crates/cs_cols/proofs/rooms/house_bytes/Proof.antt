@@ -6,10 +6,10 @@ use mir.Val.{Val, vint, vptr}
 use base.Logic.{SProp, never, id⊢}
 use prog.Memory.{Memory}
 use prog.Routine.{Routine}
-use prog.Wp.{Calls, Loops, WpFn, Tables}
+use prog.Wp.{WpFn, Tables}
 use contract.Monad.{Fun}
 use contract.Running.{tables, tables_of}
-use sound.WpLaws.{fm_of, FmC}
+use sound.WpLaws.{fm_of}
 use types.Logic.{Logic}
 use types.Kit.{‵, raw, some, later, given, prop, at_ret, ◌$◌, !, move, drop, use1, pick, learn, fsplit, fjoin, feq_l, flt_l, regoal, rewrite, suffices, await, done}
 use types.Run.{enter, returns, first, blocks, exec, of_opd, lit, and_then, no_more}
@@ -21,13 +21,12 @@ use denote.RawPtr.{RawPtr, ptr_val, room_for, in_a_block}
 use denote.Signature.{plain}
 use denote.Steps.{only, nothing}
 use denote.Triple.Call.{calls_at_last}
-use denote.Triple.Statement.{Triple}
-use denote.Triple.Walked.{says, Stays, Walks, walk_of, ends_at}
+use denote.Triple.Walked.{says, Stays, walk_of, ends_at}
 use Rattle.std.proofs.alloc.Calls.{Goes-blank}
 use Rattle.std_alloc.specs.declared.vec.lodged.Lodged.{Lodged}
 use Rattle.std_alloc.specs.contracts.vec.lodge.Key.{name as callee_name}
 use Rattle.std_alloc.proofs.vec.lodge.Met as callee
-use Rattle.cs_cols.proofs.Walks.{Good, none, tells, none_had, dropped, begins, by_walk}
+use Rattle.cs_cols.proofs.Walks.{Good, none, tells, none_had, dropped, begins, AsCaller, by_walk}
 use Rattle.cs_cols.proofs.Lodging.{byte, Column, column-laws, entries, Lodges, at_lodge, IsLodged, lodge_goes, lodge_gives}
 use Rattle.cs_cols.specs.contracts.rooms.ByteRoom as Room
 use Rattle.cs_cols.specs.contracts.rooms.house_bytes as F
@@ -42,8 +41,7 @@ abbrev stayed : Stays F.ended.signature.params F.ended.kept
 stayed = (dropped RawPtr, (dropped usize, (dropped Room.the_row, tt)))
 
 module _ {M : Type 1} {𝓤 : Ura M} (𝓛 : Logic 𝓤) (at_mem : Memory → SProp 𝓤) (run : Routine → Fun 𝓤) where
-  walks : (C : Calls 𝓤 𝓛.H) (Λ : Loops 𝓤 𝓛.H) → FmC 𝓤 𝓛.H 𝓛.laws C → Triple 𝓤 (C key) (Lodges byte 𝓛 at_mem run)
-      → Walks 𝓛 F.ended stayed (WpFn 𝓤 𝓛.H C Λ code.function) (F.clauses 𝓛 at_mem run)
+  walks : AsCaller 𝓛 F.ended stayed (F.clauses 𝓛 at_mem run) key (Lodges byte 𝓛 at_mem run) code.function
   walks C Λ framed called z =
       let p = z.0.3.0 in
       let n = z.0.3.1.0 in

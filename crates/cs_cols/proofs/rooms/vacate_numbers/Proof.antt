@@ -6,10 +6,10 @@ use mir.Val.{Val, vint}
 use base.Logic.{SProp, id⊢}
 use prog.Memory.{Memory}
 use prog.Routine.{Routine}
-use prog.Wp.{Calls, Loops, WpFn, Tables}
+use prog.Wp.{WpFn, Tables}
 use contract.Monad.{Fun}
 use contract.Running.{tables, tables_of}
-use sound.WpLaws.{fm_of, FmC}
+use sound.WpLaws.{fm_of}
 use types.Logic.{Logic}
 use types.Kit.{‵, raw, later, given, prop, ◌$◌, !, move, drop, use1, learn, fsplit, fjoin, regoal, suffices, await, done}
 use types.Part.{agg}
@@ -22,12 +22,11 @@ use denote.RawPtr.{room_for}
 use denote.Signature.{plain}
 use denote.Steps.{nothing}
 use denote.Triple.Call.{calls_at}
-use denote.Triple.Statement.{Triple}
-use denote.Triple.Walked.{says, Stays, Walks, walk_of, ends_at}
+use denote.Triple.Walked.{says, Stays, walk_of, ends_at}
 use Rattle.std.proofs.alloc.Calls.{Goes-blank}
 use Rattle.std_alloc.specs.contracts.vec.lodged.Vec+T+Lodged.dislodge.Key.{name as callee_name}
 use Rattle.std_alloc.proofs.vec.lodged.Vec+T+Lodged.dislodge.Met as callee
-use Rattle.cs_cols.proofs.Walks.{none, tells, none_made, dropped, begins, by_walk}
+use Rattle.cs_cols.proofs.Walks.{none, tells, none_made, dropped, begins, AsCaller, by_walk}
 use Rattle.cs_cols.proofs.Lodging.{number, Column, column-laws, entries, Dislodges, at_dislodge, dislodge_goes, dislodge_gives}
 use Rattle.cs_cols.specs.contracts.rooms.NumberRoom as Room
 use Rattle.cs_cols.specs.contracts.rooms.vacate_numbers as F
@@ -42,8 +41,7 @@ abbrev stayed : Stays F.ended.signature.params F.ended.kept
 stayed = (dropped (Column number), tt)
 
 module _ {M : Type 1} {𝓤 : Ura M} (𝓛 : Logic 𝓤) (at_mem : Memory → SProp 𝓤) (run : Routine → Fun 𝓤) where
-  walks : (C : Calls 𝓤 𝓛.H) (Λ : Loops 𝓤 𝓛.H) → FmC 𝓤 𝓛.H 𝓛.laws C → Triple 𝓤 (C key) (Dislodges number 𝓛 at_mem run)
-      → Walks 𝓛 F.ended stayed (WpFn 𝓤 𝓛.H C Λ code.function) (F.clauses 𝓛 at_mem run)
+  walks : AsCaller 𝓛 F.ended stayed (F.clauses 𝓛 at_mem run) key (Dislodges number 𝓛 at_mem run) code.function
   walks C Λ framed called z =
       let vss = z.0.4 in
       let v = z.0.3.0 in
