@@ -170,7 +170,7 @@ abbrev third : ℕ → HitShown
 third score = record { doc = 2; score = score; title = codes "Typed lambda calculi" }
 
 -- a reply of which nothing is cut
-abbrev whole : List Shown → List HitShown → Reply
+abbrev pub whole : List Shown → List HitShown → Reply
 whole completions hits = record { completions = completions; facets = []; hits = hits; total_completions = length completions; total_hits = length hits }
 
 answered : (r : Request) → reply_of worked r ≡ listed_reply worked (parts_of worked r.query) r
@@ -292,10 +292,10 @@ unfolding is_word_char encode_utf8
 reply-facets = answered with_facets ∙ simp (query_rolled, part_listed, chain_rolled, prefix_rows, titles-are, titles-found) refl
 
 -- ---- the empty collection
-abbrev nothing : Corpus
+abbrev pub nothing : Corpus
 nothing = record { titles = titles_of []; rows = [] }
 
-corpus-nothing : corpus [] ≡ nothing
+pub corpus-nothing : corpus [] ≡ nothing
 corpus-nothing = ap (λ rows. record { titles = titles_of []; rows = rows }) (members-listed by_row by_row_total [])
 
 titles-none : entries (titles_of []) ≡ []
@@ -306,7 +306,7 @@ none_stay [] = refl
 none_stay (r ∷ rows) = none_stay rows
 
 -- every request that asks no facet is answered by nothing
-reply-nothing : (r : Request) → r.facets ≡ [] → reply_of nothing r ≡ whole [] []
+pub reply-nothing : (r : Request) → r.facets ≡ [] → reply_of nothing r ≡ whole [] []
 unfolding reply_of
 reply-nothing r h = reply-listed nothing (parts_of nothing r.query) r ∙ simp (titles-none, none_stay, take-nil, drop-nil, h) refl
 

@@ -1,29 +1,21 @@
 -- What is answered to worked bytes, byte for byte: the definitions computed.
-use Rattle.std.proofs.Common.{◌≡◌, true, false, Bool, List, ℕ, [], ◌∷◌, ◌++◌, refl, ap, ◌∙◌, codes, filter, replicate}
-use Rattle.std.proofs.Math.Seq.{take-nil, drop-nil}
+use Rattle.std.proofs.Common.{◌≡◌, true, false, Bool, List, ℕ, [], ◌∷◌, ◌++◌, refl, ap, ◌∙◌, codes, replicate}
 use Rattle.std.specs.Fmt.{digits}
-use Rattle.std.specs.FinMap.{entries}
-use Rattle.std.specs.Ordering.{nat_cmp}
 use Rattle.std.specs.Str.{chars, is_utf8}
 use Rattle.std.specs.Str.Lossy.{utf8_lossy, utf8_valid_len}
-use Rattle.std.proofs.lemmas.Cmp.{nat_cmp_total}
 use Rattle.form_urlencoded.specs.Form.{raw_pairs, split}
 use Rattle.percent_encoding.specs.Percent.{percent_decode}
 use Rattle.json.specs.Print.{escape_byte}
 use Rattle.caseless.proofs.Computing.{caseless}
 use Rattle.httparse.specs.Grammar.{is_token_byte, trim_ows, print_request}
-use Rattle.cs_base.proofs.OrdersLemmas.{by_row_total}
-use Rattle.cs_base.specs.content.Orders.{by_row}
 use Rattle.cs_model.specs.KeyText.{norm}
 use Rattle.cs_model.specs.Words.{is_word_char}
-use Rattle.cs_model.specs.Corpus.{Corpus, titles_of, corpus}
-use Rattle.cs_model.specs.Answers.{parts_of}
+use Rattle.cs_model.specs.Corpus.{Corpus, corpus}
 use Rattle.cs_model.specs.Faults.{error_text, bad_text}
 use Rattle.cs_model.specs.Parameters.{parameter, request_refusal, request_of}
-use Rattle.cs_model.specs.Replies.{Reply, reply_text}
+use Rattle.cs_model.specs.Replies.{reply_text}
 use Rattle.cs_model.specs.Requests.{Request, reply_of}
-use Rattle.cs_model.proofs.AnswersLemmas.{reply-listed}
-use Rattle.cs_model.proofs.ListedMembers.{entries-sorted, members-listed}
+use Rattle.cs_model.proofs.AnswersExamples.{corpus-nothing, reply-nothing}
 use Rattle.cs_model_serving.specs.Framing.{frame}
 use Rattle.cs_model_serving.specs.HeadReader.{line_text, line_end, is_valid, read_head}
 use Rattle.cs_model_serving.specs.Heads.{judge}
@@ -83,26 +75,6 @@ unfolding wrapped digits
 bytes-long = refl
 
 -- ---- a reply, over the empty collection
-abbrev nothing : Corpus
-nothing = record { titles = titles_of []; rows = [] }
-
-corpus-nothing : corpus [] ≡ nothing
-corpus-nothing = ap (λ rows. record { titles = titles_of []; rows = rows }) (members-listed by_row by_row_total [])
-
-titles-none : entries (titles_of []) ≡ []
-titles-none = entries-sorted nat_cmp nat_cmp_total []
-
-none_stay : {X : Type 0} (xs : List X) → filter (λ _. false) xs ≡ []
-none_stay [] = refl
-none_stay (x ∷ xs) = none_stay xs
-
-abbrev no_reply : Reply
-no_reply = record { completions = []; facets = []; hits = []; total_completions = 0; total_hits = 0 }
-
-reply-nothing : (r : Request) → r.facets ≡ [] → reply_of nothing r ≡ no_reply
-unfolding reply_of
-reply-nothing r h = reply-listed nothing (parts_of nothing r.query) r ∙ simp (titles-none, none_stay, take-nil, drop-nil, h) refl
-
 abbrev found_nothing : List ℕ
 found_nothing = codes "{\"completions\":[],\"facets\":{},\"hits\":[],\"total\":{\"completions\":0,\"hits\":0}}"
 

@@ -3,7 +3,7 @@
 --   HasRead cs i r      the reader r stands behind i characters of cs, and none of them is refused
 --   one_more, at_stop, at_end     the steps of the loop
 use Rattle.std.proofs.Common.{◌≡◌, ℕ, ◌<◌, ◌≤◌, ◌+◌, List, [], length, take, get_or, refl, ap, ◌∙◌, sym, arith, Some, None, Err}
-use Rattle.std.proofs.lemmas.List.{take_more, take_all, length-take, length-reverse}
+use Rattle.std.proofs.lemmas.List.{get_or_default, take_more, take_all, length-take, length-reverse}
 use Rattle.std.proofs.lemmas.List.Sums.{fold_push}
 use borrow.Author.Count.{below_more}
 use Rattle.cs_base.specs.declared.content.query.Query.{Query}
@@ -68,9 +68,18 @@ pub record HasRead (cs : List ℕ) (i at : ℕ) (r : Reader) : Type 0 where
 next_tokens : (cs : List ℕ) (i at x : ℕ) (r : Reader) (h : HasRead cs i at r) → i < length cs → x ≡ get_or cs i 0 → tokens (take (i + 1) cs) ≡ with_next x (held r.tail h.follows.0)
 next_tokens cs i at x r h within same = tokens_more cs i within ∙ ap (λ y. with_next y (tokens (take i cs))) (sym same) ∙ ap (with_next x) h.follows.1
 
-pub one_more : (cs : List ℕ) (i at x : ℕ) (r next : Reader) (h : HasRead cs i at r) → i < length cs → x ≡ get_or cs i 0
+-- x comes at place i
+abbrev ComesAt : List ℕ → ℕ → ℕ → Type 0
+ComesAt cs i x = (i < length cs) × (x ≡ get_or cs i x)
+
+stands_at : (cs : List ℕ) (i x : ℕ) → ComesAt cs i x → x ≡ get_or cs i 0
+stands_at cs i x t = t.1 ∙ sym (get_or_default cs i 0 x t.0)
+
+pub one_more : (cs : List ℕ) (i at x : ℕ) (r next : Reader) (h : HasRead cs i at r) → ComesAt cs i x
     → StandsBehindAll (with_next x (held r.tail h.follows.0)) next → HasRead cs (i + 1) (at + length (encode_utf8 x)) next
-one_more cs i at x r next h within same f =
+one_more cs i at x r next h t f =
+    let within : i < length cs = t.0 in
+    let same : x ≡ get_or cs i 0 = stands_at cs i x t in
     let follows : StandsBehindAll (tokens (take (i + 1) cs)) next = (f.0, next_tokens cs i at x r h within same ∙ f.1, f.2) in
     let long : length (encode_utf8 x) ≡ length (encode_utf8 (get_or cs i 0)) = ap (λ y. length (encode_utf8 y)) same in
     record {
@@ -80,21 +89,21 @@ one_more cs i at x r next h within same f =
       bytes = ap size (tokens_more cs i within) ∙ size_next (get_or cs i 0) (tokens (take i cs)) ∙ omega (arith, h.bytes, long);
     }
 
-at_fault : (cs : List ℕ) (i at x : ℕ) (r : Reader) (fault : QueryRefusal) (h : HasRead cs i at r) → i < length cs → x ≡ get_or cs i 0
+at_fault : (cs : List ℕ) (i at x : ℕ) (r : Reader) (fault : QueryRefusal) (h : HasRead cs i at r) → ComesAt cs i x
     → verdict (with_next x (held r.tail h.follows.0)) ≡ Some fault → IsRefused cs at fault
-at_fault cs i at x r fault h within same v = record {
+at_fault cs i at x r fault h t v = record {
   count = i;
-  within = within;
+  within = t.0;
   place = h.place;
   before = accepted_front cs i h.accepted;
-  here = ap verdict (next_tokens cs i at x r h within same) ∙ v;
+  here = ap verdict (next_tokens cs i at x r h t.0 (stands_at cs i x t)) ∙ v;
 }
 
-pub at_stop : (cs : List ℕ) (i at x : ℕ) (r : Reader) (s : Stop) (h : HasRead cs i at r) → i < length cs → x ≡ get_or cs i 0
+pub at_stop : (cs : List ℕ) (i at x : ℕ) (r : Reader) (s : Stop) (h : HasRead cs i at r) → ComesAt cs i x
     → JudgesTokens (with_next x (held r.tail h.follows.0)) (Err s) → Answers cs (Err (fault_at at s))
-at_stop cs i at x r stops.Bad h within same v = at_fault cs i at x r Bad h within same v
-at_stop cs i at x r (stops.Limit which) h within same v = at_fault cs i at x r (Limit which) h within same v
-at_stop cs i at x r stops.Memory h within same v = tt
+at_stop cs i at x r stops.Bad h t v = at_fault cs i at x r Bad h t v
+at_stop cs i at x r (stops.Limit which) h t v = at_fault cs i at x r (Limit which) h t v
+at_stop cs i at x r stops.Memory h t v = tt
 
 pub at_end : (cs : List ℕ) (i at : ℕ) (r : Reader) (q : Query) → length cs ≤ i → HasRead cs i at r
     → ((rest : List Token) → StandsBehind rest r → q ≡ query_of_tokens (held r.tail rest)) → IsAccepted cs × (q ≡ query_of cs)

@@ -3,16 +3,10 @@ use Rattle.cs_meet.proofs.Halving.{all_through}
 use Rattle.cs_meet.proofs.skip.skip_to.Goals as goal
 
 pub overflow_add-lo : goal.overflow_add-lo
-overflow_add-lo c =
-    let there = c.reaches_before.ensures.there c.loop-lo-test.true in
-    let small = c.reaches_before.ensures.small in
-    omega arith
+overflow_add-lo c = omega (arith, c.reaches_before.ensures.there c.loop-lo-test.true, c.reaches_before.ensures.small)
 
 pub overflow_mul-step : goal.overflow_mul-step
-overflow_mul-step c =
-    let there = c.reaches_before.ensures.there c.loop-lo-test.true in
-    let small = c.reaches_before.ensures.small in
-    omega arith
+overflow_mul-step c = omega (arith, c.reaches_before.ensures.there c.loop-lo-test.true, c.reaches_before.ensures.small)
 
 pub loop-lo-preserved : goal.loop-lo-preserved
 loop-lo-preserved c =
