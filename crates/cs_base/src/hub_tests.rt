@@ -14,11 +14,13 @@ fn piece(alloc: Global, conn: u32, bytes: &[u8]) -> Result<Scripted, Fail> {
 // Two connections: a request that comes in two pieces, and between them a head without end on the other one.
 fn two_connections(alloc: Global) -> Result<ScriptHub, Fail> {
     let mut events = Seq::new(alloc);
-    events.push(Scripted::Opened)?;
-    events.push(Scripted::Opened)?;
+    for _ in 0..2 {
+        events.push(Scripted::Opened)?;
+    }
     events.push(piece(alloc, 0, b"GET /search?q= HT")?)?;
-    events.push(piece(alloc, 1, &[b'a'; 4096])?)?;
-    events.push(piece(alloc, 1, &[b'a'; 4096])?)?;
+    for _ in 0..2 {
+        events.push(piece(alloc, 1, &[b'a'; 4096])?)?;
+    }
     events.push(piece(alloc, 0, b"TP/1.1\r\n\r\n")?)?;
     events.push(Scripted::Ended { conn: 0 })?;
     Ok(ScriptHub::new(alloc, events))
@@ -37,40 +39,42 @@ fn comes(hub: &mut ScriptHub, buffer: &mut [u8], event: Event, bytes: &[u8]) -> 
     Ok(())
 }
 
+// The hub of two connections once both are opened, which comes first.
+fn both_opened(alloc: Global, buffer: &mut [u8]) -> Result<ScriptHub, Fail>
+    requires { 0 < length buffer.old }
+{
+    let mut hub = two_connections(alloc)?;
+    hub.listen(8080, 2)?;
+    comes(&mut hub, buffer, Event::Opened(0), b"")?;
+    comes(&mut hub, buffer, Event::Opened(1), b"")?;
+    Ok(hub)
+}
+
+// That the end of the request comes, then that of its connection, and then nothing.
+fn the_rest_comes(hub: &mut ScriptHub, buffer: &mut [u8]) -> Result<(), Fail>
+    requires { 0 < length buffer.old }
+{
+    comes(hub, buffer, Event::Piece(0, 10), b"TP/1.1\r\n\r\n")?;
+    comes(hub, buffer, Event::Ended(0), b"")?;
+    comes(hub, buffer, Event::Over, b"")?;
+    comes(hub, buffer, Event::Over, b"")
+}
+
 #[test]
 fn events_come_in_order(rt: HostRuntime) -> Result<(), Fail> {
-    let mut hub = two_connections(rt.alloc())?;
     let mut buffer = [0; 4096];
-    hub.listen(8080, 2)?;
-    comes(&mut hub, &mut buffer, Event::Opened(0), b"")?;
-    comes(&mut hub, &mut buffer, Event::Opened(1), b"")?;
-    comes(
-        &mut hub,
-        &mut buffer,
-        Event::Piece(0, 17),
-        b"GET /search?q= HT",
-    )?;
+    let mut hub = both_opened(rt.alloc(), &mut buffer)?;
+    let begun = b"GET /search?q= HT";
+    comes(&mut hub, &mut buffer, Event::Piece(0, 17), begun)?;
     comes(&mut hub, &mut buffer, Event::Piece(1, 4096), &[b'a'; 4096])?;
     comes(&mut hub, &mut buffer, Event::Piece(1, 4096), &[b'a'; 4096])?;
-    comes(
-        &mut hub,
-        &mut buffer,
-        Event::Piece(0, 10),
-        b"TP/1.1\r\n\r\n",
-    )?;
-    comes(&mut hub, &mut buffer, Event::Ended(0), b"")?;
-    comes(&mut hub, &mut buffer, Event::Over, b"")?;
-    comes(&mut hub, &mut buffer, Event::Over, b"")?;
-    Ok(())
+    the_rest_comes(&mut hub, &mut buffer)
 }
 
 #[test]
 fn long_pieces_come_in_parts(rt: HostRuntime) -> Result<(), Fail> {
-    let mut hub = two_connections(rt.alloc())?;
     let mut buffer = [0; 16];
-    hub.listen(8080, 2)?;
-    comes(&mut hub, &mut buffer, Event::Opened(0), b"")?;
-    comes(&mut hub, &mut buffer, Event::Opened(1), b"")?;
+    let mut hub = both_opened(rt.alloc(), &mut buffer)?;
     comes(
         &mut hub,
         &mut buffer,
@@ -81,15 +85,7 @@ fn long_pieces_come_in_parts(rt: HostRuntime) -> Result<(), Fail> {
     for _ in 0..512 {
         comes(&mut hub, &mut buffer, Event::Piece(1, 16), &[b'a'; 16])?;
     }
-    comes(
-        &mut hub,
-        &mut buffer,
-        Event::Piece(0, 10),
-        b"TP/1.1\r\n\r\n",
-    )?;
-    comes(&mut hub, &mut buffer, Event::Ended(0), b"")?;
-    comes(&mut hub, &mut buffer, Event::Over, b"")?;
-    Ok(())
+    the_rest_comes(&mut hub, &mut buffer)
 }
 
 #[test]
