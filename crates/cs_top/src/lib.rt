@@ -20,3 +20,6 @@ mod trial;
 mod words;
 
 pub use command::run;
+
+/// The version of the program, which nothing prints.
+pub const VERSION: &str = "0.1.0";
