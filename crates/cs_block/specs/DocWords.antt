@@ -35,7 +35,8 @@ pub record IsFront (head : BlockHead) (gaps words : List ℕ) : Type 0 where
 -- whatever its positions and scores are
 abbrev pub BreaksFirst : BlockHead → ℕ → List ℕ → List ℕ → Broken → Type 0
 BreaksFirst head docs gaps words broken =
-    (positions scores : List ℕ) → judged_columns SCORES head docs (record { gaps = gaps; words = words; positions = positions; scores = scores }) ≡ Some broken
+    (positions scores : List ℕ)
+    → judged_columns SCORES head docs (record { gaps = gaps; words = words; positions = positions; scores = scores }) ≡ Some broken
 
 -- each is in range; bytes may be left over behind the gaps
 abbrev pub ListsFront : BlockHead → ℕ → List ℕ → List ℕ → List ℕ → List ℕ → Type 0

@@ -7,6 +7,7 @@ ghost use Rattle.cs_block.specs.BlockReading.{Decodes};
 ghost use Rattle.cs_block.specs.DocWords.{HasDocWords, HasFront, IsFront, ListsFront, front_bytes};
 
 use crate::fault::BlockFault;
+use crate::judging::bad_code;
 use crate::listing::list_rows;
 use crate::run_columns::words_in;
 use crate::run_docs::docs_in;
@@ -74,6 +75,12 @@ fn list_front(
     let (words, _) = rest.split_at(2 * head.rows as usize);
     if are_listed(gaps, words, head, docs, row_docs, row_words) {
         return None;
+    }
+    if let Some(at) = bad_code(gaps, head.rows) {
+        return Some(Broken {
+            n: 13,
+            at: at as u32,
+        });
     }
     list_rows(gaps, words, head, docs, row_docs, row_words)
 }

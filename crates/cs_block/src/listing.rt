@@ -4,37 +4,12 @@ ghost use Rattle.cs_model_index.specs.BlockRules.{codes_break};
 ghost use Rattle.cs_block.specs.DocWords.{BreaksFirst, IsFront, ListsFront};
 
 use crate::columns::{gap_here, half_at};
-use crate::judging::{bad_code, keep, or_rule};
+use crate::judging::{keep, or_rule};
 use cs_base::{BlockHead, Broken};
 
-/// Puts the documents and the words of all rows into two slices that are as long. Where the gaps or the words break a rule, from
-/// 13 to 15, the first such rule is told, with anything in the slices.
+/// Puts the documents and the words of all rows into two slices that are as long, over a gap column that holds. Where one isn't in
+/// range, the first broken rule is told, 14 or 15, with anything in the slices.
 pub fn list_rows(
-    gaps: &[u8],
-    words: &[u8],
-    head: &BlockHead,
-    docs: u32,
-    row_docs: &mut [u32],
-    row_words: &mut [u32],
-) -> Option<Broken>
-    requires front { IsFront head.now gaps.now words.now }
-    requires room_docs { length row_docs.old ≡ head.now.rows }
-    requires room_words { length row_words.old ≡ head.now.rows }
-
-    ensures broken { IfSome result (BreaksFirst head.now docs gaps.now words.now) }
-    ensures listed { IfNone result (ListsFront head.now docs gaps.now words.now row_docs.new row_words.new) }
-{
-    if let Some(at) = bad_code(gaps, head.rows) {
-        return Some(Broken {
-            n: 13,
-            at: at as u32,
-        });
-    }
-    list_coded(gaps, words, head, docs, row_docs, row_words)
-}
-
-// The same over a gap column that holds.
-fn list_coded(
     gaps: &[u8],
     words: &[u8],
     head: &BlockHead,

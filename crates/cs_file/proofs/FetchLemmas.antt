@@ -5,7 +5,7 @@
 --   same_posts          over bytes that stand for the index they are its posts
 --   never_broken        and no rule is broken there
 --   title_within        a title's bytes lie before the blocks
---   block_at, told_within, shaped_at      what is known of a block's place and its head
+--   block_at, shaped_at, told_within      what is known of a block's place and its head
 --   front_read          what is known where the bytes in front of its positions were read
 --   shaped_read, few_docs, block_by, stood_rows, stood_by, read_there, unchanged_by, changed_by      the clauses of a fetch, from that and from what decoding
 --                       answers
@@ -13,7 +13,8 @@
 --   fault_along         of one that passes a fault on
 --   TitleRead, title_read, TitleSpan, title_span       the same of a title
 --   title_by, title_stood, title_unchanged, title_changed        the clauses of a title, from that and from whether it is text
-use Rattle.std.proofs.Common.{◌≡◌, ℕ, ◌+◌, ◌-◌, ◌<◌, ◌≤◌, ◌^◌, false, true≢false, List, [], ◌++◌, length, get_or, take, drop, Option, Some, None, Result, Ok, Err, refl, sym, ap, subst, ◌∙◌, arith}
+use Rattle.std.proofs.Common.{◌≡◌, ℕ, ◌+◌, ◌-◌, ◌<◌, ◌≤◌, ◌^◌, false, true≢false, List, [], ◌++◌, length, get_or, take, drop}
+use Rattle.std.proofs.Common.{Option, Some, None, Result, Ok, Err, refl, sym, ap, subst, ◌∙◌, arith}
 use Rattle.std.specs.Option.{ForSome, option_map, unwrap_or}
 use Rattle.std.specs.Prelude.{IfErr, IfOk, IsErrAnd, replicate}
 use Rattle.std.specs.Str.{is_utf8}
@@ -97,8 +98,8 @@ unbroken_answer at o (Err fetches.Memory) h e = refl
 abbrev pub nothing : BlockHead
 nothing = record { lo = 0; words = 0; rows = 0; len = 0; facet = false }
 
-pub block_at : (i own : IndexView) (k : ℕ) (hs : List BlockHead) (at : ℕ) → own ≡ i → IsIndex i → hs ≡ own.heads → k < length i.heads → at ≡ block_place i k
-    → IsBlockAt i k (record { head = get_or hs k nothing; docs = own.docs; at = at })
+pub block_at : (i own : IndexView) (k : ℕ) (hs : List BlockHead) (at : ℕ) → own ≡ i → IsIndex i → hs ≡ own.heads
+    → k < length i.heads → at ≡ block_place i k → IsBlockAt i k (record { head = get_or hs k nothing; docs = own.docs; at = at })
 block_at i own k hs at seen index same known at_is = record {
   index = index;
   known = known;
@@ -108,6 +109,10 @@ block_at i own k hs at seen index same known at_is = record {
   at_is = at_is;
 }
 
+pub shaped_at : (i : IndexView) (k : ℕ) (placed : Placed) → IsBlockAt i k placed → IsShaped placed.head placed.head.len
+shaped_at i k placed stands =
+    subst (λ (x : BlockHead). IsShaped x x.len) (sym (stands.head_is placed.head)) (head_shaped i stands.index k placed.head stands.known)
+
 module _ (i : IndexView) (told : Option (List ℕ)) (k : ℕ) (placed : Placed) (stands : IsBlockAt i k placed) (fits : HasAllBlocks told i) where
   -- a block lies within what a store tells
   pub told_within : ForSome told (λ b. placed.at + placed.head.len ≤ length b)
@@ -116,14 +121,12 @@ module _ (i : IndexView) (told : Option (List ℕ)) (k : ℕ) (placed : Placed) 
       let one = block_within i k placed.head stands.known in
       omega (arith, all, one, stands.at_is, ap (λ (x : BlockHead). x.len) (stands.head_is placed.head))
 
-  pub shaped_at : IsShaped placed.head placed.head.len
-  shaped_at = subst (λ (x : BlockHead). IsShaped x x.len) (sym (stands.head_is placed.head)) (head_shaped i stands.index k placed.head stands.known)
-
-  pub front_read : (read : List ℕ) → length read ≡ front_bytes placed.head → ForSome told (λ b. read ≡ part b placed.at (front_bytes placed.head)) → IsFrontRead i told k placed read
+  pub front_read : (read : List ℕ) → length read ≡ front_bytes placed.head → ForSome told (λ b. read ≡ part b placed.at (front_bytes placed.head))
+      → IsFrontRead i told k placed read
   front_read read long is = elim told as (λ o. told ≡ o → IsFrontRead i told k placed read) [
     | None ↦ λ e.
-        (let zeros = replicate (placed.head.len - front_bytes placed.head) 0 in
-        let shape = shaped_at in
+        (let shape = shaped_at i k placed stands in
+        let zeros = replicate (placed.head.len - front_bytes placed.head) 0 in
         let least = shape.least in
         record {
           long = long;
@@ -138,7 +141,7 @@ module _ (i : IndexView) (told : Option (List ℕ)) (k : ℕ) (placed : Placed) 
     | Some b ↦ λ e.
         (let n = front_bytes placed.head in
         let len = placed.head.len in
-        let shape = shaped_at in
+        let shape = shaped_at i k placed stands in
         let least = shape.least in
         let within = told_within b e in
         let rest = drop placed.at b in
@@ -157,25 +160,30 @@ module _ (i : IndexView) (told : Option (List ℕ)) (k : ℕ) (placed : Placed) 
 module _ (i : IndexView) (told : Option (List ℕ)) (k : ℕ) (placed : Placed) (read : List ℕ) (h : IsBlockRead i told k placed read) where
   -- the same, with the block's head and place themselves
   there : (d : BlockHead) → ForSome told (λ b. read ≡ part b (block_place i k) (get_or i.heads k d).len)
-  there d = λ b t. h.read_is b t ∙ ap (λ (n : ℕ). part b n placed.head.len) h.stands.at_is ∙ ap (λ (x : BlockHead). part b (block_place i k) x.len) (h.stands.head_is d)
+  there d = λ b t. h.read_is b t ∙ ap (λ (n : ℕ). part b n placed.head.len) h.stands.at_is
+      ∙ ap (λ (x : BlockHead). part b (block_place i k) x.len) (h.stands.head_is d)
 
   long_there : (d : BlockHead) → length read ≡ (get_or i.heads k d).len
   long_there d = h.long ∙ ap (λ (x : BlockHead). x.len) (h.stands.head_is d)
 
   block_there : (d : BlockHead) (rows : List Post) → IsBlock SCORES placed.head placed.docs rows read → IsBlock SCORES (get_or i.heads k d) i.docs rows read
-  block_there d rows block = subst (λ (x : BlockHead). IsBlock SCORES x i.docs rows read) (h.stands.head_is d) (subst (λ (n : ℕ). IsBlock SCORES placed.head n rows read) h.stands.docs_are block)
+  block_there d rows block = subst (λ (x : BlockHead). IsBlock SCORES x i.docs rows read) (h.stands.head_is d)
+      (subst (λ (n : ℕ). IsBlock SCORES placed.head n rows read) h.stands.docs_are block)
 
   pub shaped_read : IsShaped placed.head (length read)
-  shaped_read = subst (λ (n : ℕ). IsShaped placed.head n) (sym h.long) (subst (λ (x : BlockHead). IsShaped x x.len) (sym (h.stands.head_is placed.head)) (head_shaped i h.stands.index k placed.head h.stands.known))
+  shaped_read = subst (λ (n : ℕ). IsShaped placed.head n) (sym h.long) (shaped_at i k placed h.stands)
 
   pub few_docs : placed.docs < 2 ^ 32
   few_docs = let index = h.stands.index in let most = index.few_docs in omega (arith, most, h.stands.docs_are)
 
   pub block_by : (rows old new : List Post) → IsBlock SCORES placed.head placed.docs rows read → new ≡ old ++ rows → HasBlock i told k old new
-  block_by rows old new block added = has_block i told k placed.head rows old new read h.stands.known (block_there placed.head rows block) added (there placed.head)
+  block_by rows old new block added =
+      has_block i told k placed.head rows old new read h.stands.known (block_there placed.head rows block) added (there placed.head)
 
   pub stood_rows : (b : List ℕ) (rows : List Post) → told ≡ Some b → StandsFor b i → IsBlock SCORES placed.head placed.docs rows read → rows ≡ block_posts b k
-  stood_rows b rows t s block = same_posts b i s h.stands.index k placed.head rows read h.stands.known (long_there placed.head) (there placed.head b t) (block_there placed.head rows block)
+  stood_rows b rows t s block =
+      same_posts b i s h.stands.index k placed.head rows read h.stands.known (long_there placed.head)
+      (there placed.head b t) (block_there placed.head rows block)
 
   pub stood_by : (b : List ℕ) (rows old new : List Post) → told ≡ Some b → StandsFor b i → IsBlock SCORES placed.head placed.docs rows read → new ≡ old ++ rows → new ≡ old ++ block_posts b k
   stood_by b rows old new t s block added = added ∙ ap (λ (x : List Post). old ++ x) (stood_rows b rows t s block)
@@ -183,13 +191,18 @@ module _ (i : IndexView) (told : Option (List ℕ)) (k : ℕ) (placed : Placed) 
   -- the rows that are read of these bytes, whatever keeps them
   pub read_there : (b : List ℕ) → told ≡ Some b → StandsFor b i → rows_read placed.head read ≡ block_posts b k
   read_there b t s =
-      let own = subst (IsBlock SCORES (get_or i.heads k placed.head) i.docs (block_posts b k)) (sym (there placed.head b t)) (stood_block b i s h.stands.index k placed.head h.stands.known) in
-      let block = subst (λ (n : ℕ). IsBlock SCORES placed.head n (block_posts b k) read) (sym h.stands.docs_are) (subst (λ (x : BlockHead). IsBlock SCORES x i.docs (block_posts b k) read) (sym (h.stands.head_is placed.head)) own) in
+      let rows = block_posts b k in
+      let stood = stood_block b i s h.stands.index k placed.head h.stands.known in
+      let own = subst (IsBlock SCORES (get_or i.heads k placed.head) i.docs rows) (sym (there placed.head b t)) stood in
+      let here = subst (λ (x : BlockHead). IsBlock SCORES x i.docs rows read) (sym (h.stands.head_is placed.head)) own in
+      let block = subst (λ (n : ℕ). IsBlock SCORES placed.head n rows read) (sym h.stands.docs_are) here in
       (unique placed.head placed.docs (block_posts b k) read few_docs shaped_read block).1
 
   pub unchanged_by : (b : List ℕ) (result : Result (Unit {0}) FetchFault) → told ≡ Some b → StandsFor b i → DecodesAt placed.at (judged SCORES placed.head placed.docs read) result → is_changed_of_fetch result ≡ false
   unchanged_by b result t s answer =
-      unbroken_answer placed.at (judged SCORES placed.head placed.docs read) result answer (ap (λ (x : BlockHead). judged SCORES x placed.docs read) (h.stands.head_is placed.head) ∙ ap (λ (n : ℕ). judged SCORES (get_or i.heads k placed.head) n read) h.stands.docs_are
+      unbroken_answer placed.at (judged SCORES placed.head placed.docs read) result answer
+      (ap (λ (x : BlockHead). judged SCORES x placed.docs read) (h.stands.head_is placed.head)
+      ∙ ap (λ (n : ℕ). judged SCORES (get_or i.heads k placed.head) n read) h.stands.docs_are
       ∙ never_broken b i s h.stands.index k placed.head read h.stands.known (long_there placed.head) (there placed.head b t))
 
   -- the answer as a fault of the call

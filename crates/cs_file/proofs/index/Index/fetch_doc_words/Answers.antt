@@ -4,7 +4,7 @@ use Rattle.cs_file.proofs.FetchedWords.{doc_words_stood, docs_known, words_even,
 use Rattle.cs_file.proofs.index.Index.fetch_doc_words.Goals as goal
 
 pub doc_words_at-requires-clause-shaped : goal.doc_words_at-requires-clause-shaped
-doc_words_at-requires-clause-shaped g c = shaped_at c.args.self.now _ c.args.k c.in_ok-placed.placed c.in_ok-placed.ensures.ok.whole.stands c.requires.fits
+doc_words_at-requires-clause-shaped g c = shaped_at c.args.self.now c.args.k c.in_ok-placed.placed c.in_ok-placed.ensures.ok.whole.stands
 
 pub doc_words_at-requires-clause-places : goal.doc_words_at-requires-clause-places
 doc_words_at-requires-clause-places g c = c.in_ok-placed.ensures.ok.whole.stands.small

@@ -4,12 +4,12 @@ use Rattle.cs_file.proofs.FetchLemmas.{front_read, shaped_at, told_within}
 use Rattle.cs_file.proofs.index.Index.read_front.Goals as goal
 
 pub front_len-requires : goal.front_len-requires
-front_len-requires g c = shaped_at c.args.self.now (g.S.Store.bytes c.args.store.now) c.args.k c.placed-placed.result c.placed-placed.ensures c.requires.fits
+front_len-requires g c = shaped_at c.args.self.now c.args.k c.placed-placed.result c.placed-placed.ensures
 
 pub read_over-requires : goal.read_over-requires
 read_over-requires g c =
     let told = g.S.Store.bytes c.args.store.now in
-    let shape = shaped_at c.args.self.now told c.args.k c.placed-placed.result c.placed-placed.ensures c.requires.fits in
+    let shape = shaped_at c.args.self.now c.args.k c.placed-placed.result c.placed-placed.ensures in
     let least = shape.least in
     record { within = λ b t. let within = told_within c.args.self.now told c.args.k c.placed-placed.result c.placed-placed.ensures c.requires.fits b t in omega (arith, within, least, c.front_len.ensures) }
 
