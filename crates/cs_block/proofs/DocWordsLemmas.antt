@@ -1,12 +1,10 @@
 -- The documents and the words of a block's rows, read from their columns alone.
 --
 --   doc_words_all    they are those of all rows, where each is in range
---   docs_there       documents that are there, where the call doesn't answer none
---   refilled         a vector whose slice was lent whole holds what was written there
-use Rattle.std.proofs.Common.{◌≡◌, ℕ, zero, suc, ◌+◌, ◌*◌, ◌≤◌, true, List, [], ◌∷◌, ◌++◌, length, get_or, map, take, drop, Option, Some, None, refl, sym, ap, ap₂, subst, ◌∙◌, append_assoc, arith}
-use Rattle.std.specs.Prelude.{All, IfSome, is_some}
+use Rattle.std.proofs.Common.{◌≡◌, ℕ, zero, suc, ◌+◌, ◌*◌, ◌≤◌, List, [], ◌∷◌, ◌++◌, length, get_or, map, take, drop, Option, Some, None, refl, sym, ap, ap₂, subst, ◌∙◌, append_assoc, arith}
+use Rattle.std.specs.Prelude.{All}
 use Rattle.std.specs.Int.{w16, from_be_bytes}
-use Rattle.std.proofs.lemmas.List.{append-nil, drop_all, map-append, take_all, take_more}
+use Rattle.std.proofs.lemmas.List.{append-nil, map-append, take_all, take_more}
 use Rattle.std.proofs.lemmas.List.Elements.{All-nil, All-cons, All-append}
 use Rattle.cs_base.specs.declared.index.block.BlockHead.{BlockHead}
 use Rattle.cs_base.specs.declared.content.doc.Post.{Post}
@@ -87,12 +85,3 @@ doc_words_all head docs bytes c ds ws next is long even has words =
       words_are = sym (take_all n ws (omega (arith, even))) ∙ h.words_are ∙ ap (map (λ (p : Post). p.word)) all;
       listable = subst (All (IsListable head docs)) all h.listable;
     }
-
-pub refilled : (n : ℕ) (out items : List ℕ) → length items ≡ n → length out ≡ n → take n (out ++ drop (length out) items) ≡ out
-refilled n out items long same =
-    let none = drop_all (length out) items (omega (arith, long, same)) in
-    ap (λ (xs : List ℕ). take n (out ++ xs)) none ∙ ap (take n) (append-nil out) ∙ take_all n out (omega (arith, same))
-
-pub docs_there : (r : Option ℕ) (P : ℕ → Type 0) → is_some r ≡ true → IfSome r P → (next : ℕ) × P next
-docs_there (Some next) P e h = (next, h)
-docs_there None P e h = absurd (cc)

@@ -1,31 +1,104 @@
 //! Reading the documents and the words of a block's rows, without positions and scores.
-ghost use Rattle.std.specs.Prelude.{◌≡◌, true, length, IfOk};
+ghost use Rattle.std.specs.Prelude.{◌≡◌, ◌≤◌, true, List, ℕ, length, Some, Err, IfErr, IfNone, IfSome, OnOk};
+ghost use Rattle.cs_model.specs.Scores.{SCORES};
+ghost use Rattle.cs_model_index.specs.BlockRules.{judged};
 ghost use Rattle.cs_model_index.specs.Blocks.{IsShaped};
-ghost use Rattle.cs_block.specs.DocWords.{HasDocWords};
+ghost use Rattle.cs_block.specs.BlockReading.{Decodes};
+ghost use Rattle.cs_block.specs.DocWords.{HasDocWords, HasFront, IsFront, ListsFront, front_bytes};
 
-use crate::columns::cut;
+use crate::fault::BlockFault;
+use crate::judging::bad_code;
+use crate::listing::list_rows;
 use crate::run_columns::words_in;
 use crate::run_docs::docs_in;
-use cs_base::{BlockHead, Memory};
+use cs_base::{BlockHead, Broken, Memory};
 
-/// Puts the documents and the words of a block's rows into two columns, in place of what these hold. False, with anything in
-/// them, where a code doesn't stand or a document or a word isn't in range, which never comes of bytes that keep the rules.
+/// How many bytes of a block stand in front of its positions: those of its documents and words.
+pub fn front_len(head: &BlockHead) -> u32
+    requires { IsShaped head.now head.now.len }
+
+    ensures { result ≡ front_bytes head.now }
+{
+    head.len - 5 * head.rows
+}
+
+/// Puts the documents and the words of a block's rows into two columns, in place of what these hold. They stand in front of its
+/// positions, so `bytes` may be as few as `front_len` says, of those with which the block begins. The fault is the rule that they
+/// break first, from 13 to 15, and so the block does, or that memory ran out; then the columns hold anything.
 pub fn read_doc_words(
     bytes: &[u8],
     head: &BlockHead,
     docs: u32,
     into_docs: &mut Vec<u32>,
     into_words: &mut Vec<u32>,
-) -> Result<bool, Memory>
-    requires shaped { IsShaped head.now (length bytes.now) }
+) -> Result<(), BlockFault>
+    requires shaped { IsShaped head.now head.now.len }
+    requires front { front_bytes head.now ≤ length bytes.now }
 
-    ensures ok { IfOk result (λ whole. whole ≡ true → HasDocWords head.now docs bytes.now into_docs.new.items into_words.new.items) }
+    // of each block that begins so
+    ensures ok { OnOk result ((block : List ℕ) → HasFront head.now bytes.now block → HasDocWords head.now docs block into_docs.new.items into_words.new.items) }
+    ensures exact { IfErr result (λ fault. (block : List ℕ) → HasFront head.now bytes.now block → Decodes (Err fault) (judged SCORES head.now docs block)) }
 {
-    let columns = cut(bytes, head);
-    into_docs.resize(head.rows as usize, 0)?;
-    into_words.resize(head.rows as usize, 0)?;
-    if docs_in(columns.gaps, 0, 0, docs, into_docs).is_none() {
-        return Ok(false);
+    fit(into_docs, head.rows)?;
+    fit(into_words, head.rows)?;
+    if let Some(broken) = list_front(bytes, head, docs, into_docs, into_words) {
+        return Err(BlockFault::from(broken));
     }
-    Ok(words_in(columns.words, 0, head.lo, head.words, into_words))
+    Ok(())
+}
+
+// Makes a column so long, to be written over.
+fn fit(column: &mut Vec<u32>, rows: u32) -> Result<(), Memory>
+    ensures { OnOk result (length column.new.items ≡ rows) }
+{
+    column.resize(rows as usize, 0)?;
+    Ok(())
+}
+
+// The same into slices that are as long, and what is broken, if something is.
+fn list_front(
+    bytes: &[u8],
+    head: &BlockHead,
+    docs: u32,
+    row_docs: &mut [u32],
+    row_words: &mut [u32],
+) -> Option<Broken>
+    requires shaped { IsShaped head.now head.now.len }
+    requires front { front_bytes head.now ≤ length bytes.now }
+    requires room_docs { length row_docs.old ≡ head.now.rows }
+    requires room_words { length row_words.old ≡ head.now.rows }
+
+    ensures broken { IfSome result (λ broken. (block : List ℕ) → HasFront head.now bytes.now block → judged SCORES head.now docs block ≡ Some broken) }
+    ensures listed { IfNone result ((block : List ℕ) → HasFront head.now bytes.now block → HasDocWords head.now docs block row_docs.new row_words.new) }
+{
+    let (gaps, rest) = bytes.split_at((head.len - 7 * head.rows) as usize);
+    let (words, _) = rest.split_at(2 * head.rows as usize);
+    if are_listed(gaps, words, head, docs, row_docs, row_words) {
+        return None;
+    }
+    if let Some(at) = bad_code(gaps, head.rows) {
+        return Some(Broken {
+            n: 13,
+            at: at as u32,
+        });
+    }
+    list_rows(gaps, words, head, docs, row_docs, row_words)
+}
+
+// The same column by column, with anything in the slices where something is out of range.
+fn are_listed(
+    gaps: &[u8],
+    words: &[u8],
+    head: &BlockHead,
+    docs: u32,
+    row_docs: &mut [u32],
+    row_words: &mut [u32],
+) -> bool
+    requires front { IsFront head.now gaps.now words.now }
+    requires room_words { length row_words.old ≡ head.now.rows }
+
+    ensures { result ≡ true → ListsFront head.now docs gaps.now words.now row_docs.new row_words.new }
+{
+    docs_in(gaps, 0, 0, docs, row_docs).is_some()
+        && words_in(words, 0, head.lo, head.words, row_words)
 }

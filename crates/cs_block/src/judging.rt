@@ -27,8 +27,8 @@ pub fn judge(columns: &Columns<'_>, head: &BlockHead, docs: u32) -> Option<Broke
     broken_row(columns, head, docs)
 }
 
-// The first place of the gap column where a code should stand and doesn't, or a byte is left over.
-fn bad_code(gaps: &[u8], rows: u32) -> Option<usize>
+/// The first place of the gap column where a code should stand and doesn't, or a byte is left over.
+pub fn bad_code(gaps: &[u8], rows: u32) -> Option<usize>
     ensures value { result ≡ codes_break rows 0 gaps.now }
     ensures within { IfSome result (λ at. at ≤ length gaps.now) }
 {
@@ -87,8 +87,8 @@ fn broken_row(columns: &Columns<'_>, head: &BlockHead, docs: u32) -> Option<Brok
     )
 }
 
-// The first place kept, or this one where the rule doesn't hold.
-fn keep(found: Option<u32>, holds: bool, at: u32) -> Option<u32>
+/// The first place kept, or this one where the rule doesn't hold.
+pub fn keep(found: Option<u32>, holds: bool, at: u32) -> Option<u32>
     ensures { result ≡ option_or found (cond holds None (Some at)) }
 {
     match found {
@@ -97,8 +97,8 @@ fn keep(found: Option<u32>, holds: bool, at: u32) -> Option<u32>
     }
 }
 
-// A rule that is broken at a place goes before the others.
-fn or_rule(n: u8, at: Option<u32>, other: Option<Broken>) -> Option<Broken>
+/// A rule that is broken at a place goes before the others.
+pub fn or_rule(n: u8, at: Option<u32>, other: Option<Broken>) -> Option<Broken>
     ensures { result ≡ option_or (option_map (broken_at n) at) other }
 {
     match at {

@@ -12,6 +12,7 @@ mod encoding;
 mod fault;
 mod judging;
 pub mod laws;
+mod listing;
 mod positions;
 mod rules;
 mod run_columns;
@@ -22,7 +23,7 @@ mod tests;
 
 pub use cs_base::{BlockHead, Broken};
 pub use decoding::{decode, decode_reserved};
-pub use doc_words::read_doc_words;
+pub use doc_words::{front_len, read_doc_words};
 pub use encoding::encode;
 pub use fault::BlockFault;
 pub use positions::{read_positions, read_scores};

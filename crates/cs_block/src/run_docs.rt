@@ -1,20 +1,34 @@
-//! The documents of rows, from the gap column: some rows at a time, in a loop without a jump where each of their codes has one
-//! byte, or one or two.
+//! The documents of rows, from the gap column: all at once where each of their codes has one byte, else some rows at a time, in a
+//! loop without a jump where each of theirs has one byte, or one or two.
 ghost use Rattle.std.specs.Prelude.{◌≡◌, ℕ, ◌+◌, ◌*◌, ◌^◌, ◌<◌, ◌≤◌, ◌&&◌, ◌||◌, true, nat_lt, length, IfSome, slice_index_or};
 ghost use Rattle.cs_block.specs.RowRuns.{HasDocs};
 ghost use Rattle.cs_block.specs.declared.run_docs.TheConstants.{STEP};
 
 use crate::columns::gap_here;
+use cs_base::MAX_ROWS;
 
-// Behind a document below this one, the sums of so many rows whose codes have one byte or two stay below 2^32.
+// Behind a document below this one, the sums of as many rows as a collection has stay below 2^32 where their codes have one byte,
+// and those of `STEP` rows where they have one byte or two.
 const FAR: u32 = 1 << 31;
 
-// So many rows at a time are looked at together: few enough that most have codes of one byte alone.
+// Where not all rows have codes of one byte, so many at a time are looked at together: few enough that most of these have.
 const STEP: usize = 16;
 
 /// The documents of as many rows as there is room for, and the place behind their gap codes, if the codes
 /// stand there and each document is below `docs`. `before` is the document of the row in front.
 pub fn docs_in(gaps: &[u8], at: usize, before: u32, docs: u32, out: &mut [u32]) -> Option<usize>
+    requires within { at ≤ length gaps.now }
+
+    ensures { IfSome result (λ next. HasDocs gaps.now at before docs out.new next) }
+{
+    if are_short(gaps, at, before, out.len()) {
+        return short_docs(gaps, at, before, docs, out);
+    }
+    stepped_docs(gaps, at, before, docs, out)
+}
+
+// The same, some rows at a time.
+fn stepped_docs(gaps: &[u8], at: usize, before: u32, docs: u32, out: &mut [u32]) -> Option<usize>
     requires within { at ≤ length gaps.now }
 
     ensures { IfSome result (λ next. HasDocs gaps.now at before docs out.new next) }
@@ -38,7 +52,7 @@ fn step_docs(gaps: &[u8], at: usize, before: u32, docs: u32, out: &mut [u32]) ->
 
     ensures { IfSome result (λ next. HasDocs gaps.now at before docs out.new next) }
 {
-    if before < FAR && out.len() <= gaps.len() - at && are_short(gaps, at, out.len()) {
+    if are_short(gaps, at, before, out.len()) {
         return short_docs(gaps, at, before, docs, out);
     }
     mixed_docs(gaps, at, before, docs, out)
@@ -60,9 +74,21 @@ fn mixed_docs(gaps: &[u8], at: usize, before: u32, docs: u32, out: &mut [u32]) -
     long_docs(gaps, at, before, docs, out)
 }
 
+// Whether the codes of so many rows have one byte each. It may say no of rows whose documents are far behind.
+#[inline]
+fn are_short(gaps: &[u8], at: usize, before: u32, rows: usize) -> bool
+    requires { at ≤ length gaps.now }
+
+    ensures within { result ≡ true → at + rows ≤ length gaps.now }
+    ensures fits { result ≡ true → before + 128 * rows < 2 ^ 32 }
+    ensures short { result ≡ true → (j : ℕ) → j < rows → slice_index_or gaps.now (at + j) 0 < 128 }
+{
+    before < FAR && rows <= MAX_ROWS && rows <= gaps.len() - at && are_codes(gaps, at, rows)
+}
+
 // Whether each of so many bytes is a code.
 #[inline]
-fn are_short(gaps: &[u8], at: usize, rows: usize) -> bool
+fn are_codes(gaps: &[u8], at: usize, rows: usize) -> bool
     requires { at + rows ≤ length gaps.now }
 
     ensures { result ≡ true → (j : ℕ) → j < rows → slice_index_or gaps.now (at + j) 0 < 128 }

@@ -1,5 +1,7 @@
 //! A worked block, written and read, and the rule and the place of each damage to it.
-use crate::{BlockFault, Broken, decode, decode_reserved, encode, read_doc_words, read_positions};
+use crate::{
+    BlockFault, Broken, decode, decode_reserved, encode, front_len, read_doc_words, read_positions,
+};
 use cs_base::BlockHead;
 use cs_cols::Cols;
 use std::test::Fail;
@@ -47,17 +49,28 @@ fn the_worked_block_is_decoded_and_encoded(rt: HostRuntime) -> Result<(), Fail> 
 }
 
 #[test]
-fn documents_and_words_are_read_alone(rt: HostRuntime) -> Result<(), Fail> {
+fn documents_and_words_are_read_of_the_front_alone(rt: HostRuntime) -> Result<(), Fail> {
     let mut docs = Vec::new(rt.alloc());
     let mut words = Vec::new(rt.alloc());
-    assert!(rt; read_doc_words(&BLOCK, &HEAD, 1, &mut docs, &mut words)?);
+    let len = front_len(&HEAD) as usize;
+    assert_eq!(rt; len, 9);
+    let answer = read_doc_words(&BLOCK[..len], &HEAD, 1, &mut docs, &mut words);
+    assert_eq!(rt; answer, Ok(()));
     assert_eq!(rt; docs.as_slice(), [0, 0, 0].as_slice());
     assert_eq!(rt; words.as_slice(), [2, 3, 1].as_slice());
     let none = (24, 0);
-    // a code that is cut, a document that isn't there, a word of another block
-    for change in [(2, 0x80), (2, 1), (4, 3)] {
-        let bytes = damaged([change, none]);
-        assert!(rt; !read_doc_words(&bytes, &HEAD, 1, &mut docs, &mut words)?);
+    for (changes, n, at) in [
+        // a code that is cut, a document that isn't there, a word of another block
+        ([(2, 0x80), none], 13, 2),
+        ([(2, 1), none], 14, 2),
+        ([(4, 3), none], 15, 3),
+        // of two rules the first, of two places the first
+        ([(2, 1), (4, 3)], 14, 2),
+        ([(6, 3), (8, 3)], 15, 5),
+    ] {
+        let bytes = damaged(changes);
+        let answer = read_doc_words(&bytes[..len], &HEAD, 1, &mut docs, &mut words);
+        assert_eq!(rt; answer, Err(BlockFault::Rule { n, at }), "{n} at {at}");
     }
     Ok(())
 }

@@ -81,7 +81,7 @@ pub(crate) fn table_between<S: Store>(
     let mut counts = WordCounts::new(alloc, lo, hi)?;
     let mut block = Fetched::new(alloc);
     for k in first..last {
-        count_block(alloc, index, store, k, listed, &mut block, &mut counts)?;
+        count_block(index, store, k, listed, &mut block, &mut counts)?;
     }
     let table = counts.table(alloc, cut)?;
     Ok(table)
@@ -89,7 +89,6 @@ pub(crate) fn table_between<S: Store>(
 
 // Counts the rows of block `k`, which is read once.
 fn count_block<S: Store>(
-    alloc: Global,
     index: &Index,
     store: &mut S,
     k: u32,
@@ -111,7 +110,7 @@ fn count_block<S: Store>(
     ensures reads { ReadsWithin 1 (S.reads store.old) (S.reads store.new) }
     ensures caused { CausedReads (is_read result) (S.faults store.old) (S.faults store.new) }
 {
-    index.fetch_doc_words(alloc, store, k, block)?;
+    index.fetch_doc_words(store, k, block)?;
     counts.add(&block.docs, &block.words, listed);
     Ok(())
 }

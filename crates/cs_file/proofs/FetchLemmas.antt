@@ -5,35 +5,39 @@
 --   same_posts          over bytes that stand for the index they are its posts
 --   never_broken        and no rule is broken there
 --   title_within        a title's bytes lie before the blocks
---   block_read          what is known where a block's bytes were read
+--   block_at, shaped_at, told_within      what is known of a block's place and its head
+--   front_read          what is known where the bytes in front of its positions were read
 --   shaped_read, few_docs, block_by, stood_rows, stood_by, read_there, unchanged_by, changed_by      the clauses of a fetch, from that and from what decoding
 --                       answers
 --   fault_unchanged, fault_changed      of one that decodes only where a test fails
+--   fault_along         of one that passes a fault on
 --   TitleRead, title_read, TitleSpan, title_span       the same of a title
 --   title_by, title_stood, title_unchanged, title_changed        the clauses of a title, from that and from whether it is text
-use Rattle.std.proofs.Common.{◌≡◌, ℕ, ◌+◌, ◌-◌, ◌<◌, ◌≤◌, ◌^◌, false, true≢false, List, ◌++◌, length, get_or, take, Option, Some, None, Result, Ok, Err, refl, sym, ap, subst, ◌∙◌, arith}
-use Rattle.std.specs.Option.{ForSome, option_map}
-use Rattle.std.specs.Prelude.{IfErr, IfOk}
+use Rattle.std.proofs.Common.{◌≡◌, ℕ, ◌+◌, ◌-◌, ◌<◌, ◌≤◌, ◌^◌, false, true≢false, List, [], ◌++◌, length, get_or, take, drop}
+use Rattle.std.proofs.Common.{Option, Some, None, Result, Ok, Err, refl, sym, ap, subst, ◌∙◌, arith}
+use Rattle.std.specs.Option.{ForSome, option_map, unwrap_or}
+use Rattle.std.specs.Prelude.{IfErr, IfOk, IsErrAnd, replicate}
 use Rattle.std.specs.Str.{is_utf8}
 use Rattle.std.proofs.lemmas.Option.{none-some}
 use Rattle.std.specs.List.{sum_by}
-use Rattle.std.proofs.lemmas.List.{get_or_default, take_all}
+use Rattle.std.proofs.lemmas.List.{get_or_default, length-append, length-drop, length-replicate, length-take, take-append-le, take-take, take_all}
 use Rattle.std.proofs.lemmas.List.Sums.{sum_by_more_le}
 use Rattle.cs_base.specs.declared.index.block.BlockHead.{BlockHead}
 use Rattle.cs_base.specs.declared.index.block.Broken.{Broken}
 use Rattle.cs_base.specs.declared.content.doc.Post.{Post}
 use Rattle.cs_base.specs.outside.Outside.{part}
+use Rattle.cs_block.specs.DocWords.{HasFront, front_bytes}
 use Rattle.cs_block.proofs.LawsLemmas.{unique}
 use Rattle.cs_model.specs.Scores.{SCORES}
 use Rattle.cs_model_index.specs.BlockRules.{judged, IsBlock, broken_at, rows_read}
 use Rattle.cs_model_index.specs.FileRules.{in_file}
 use Rattle.cs_model_index.specs.Blocks.{IsShaped}
 use Rattle.cs_file.specs.CallAnswers.{HasBlock, IsChangeOfBlock, IsChangeOfTitle, is_changed_of_fetch}
-use Rattle.cs_file.specs.Fetching.{DecodesAt, IsBlockRead, ReadsText}
+use Rattle.cs_file.specs.Fetching.{DecodesAt, IsBlockAt, IsBlockRead, IsFrontRead, ReadsText}
 use Rattle.cs_file.specs.declared.fault.FetchFault.{FetchFault}
 use Rattle.cs_file.specs.declared.fault.FetchFault.TheVariants as fetches
 use Rattle.cs_file.specs.declared.fetching.Placed.{Placed}
-use Rattle.cs_file.specs.Indexes.{IndexView, IsIndex, StandsFor, block_place, block_posts, title_in, title_place, title_len}
+use Rattle.cs_file.specs.Indexes.{HasAllBlocks, IndexView, IsIndex, StandsFor, block_place, block_posts, title_in, title_place, title_len}
 use Rattle.cs_file.proofs.HeadsLemmas.{head_shaped}
 use Rattle.cs_file.proofs.OffsetsLemmas.{spans}
 use Rattle.cs_file.proofs.StoodLemmas.{stood_block}
@@ -94,41 +98,92 @@ unbroken_answer at o (Err fetches.Memory) h e = refl
 abbrev pub nothing : BlockHead
 nothing = record { lo = 0; words = 0; rows = 0; len = 0; facet = false }
 
-pub block_read : (i own : IndexView) (told : Option (List ℕ)) (k : ℕ) (hs : List BlockHead) (at : ℕ) (read : List ℕ) → own ≡ i → IsIndex i → hs ≡ own.heads → k < length i.heads → at ≡ block_place i k
-    → length read ≡ (get_or hs k nothing).len → ForSome told (λ b. read ≡ part b at (get_or hs k nothing).len) → IsBlockRead i told k (record { head = get_or hs k nothing; docs = own.docs; at = at }) read
-block_read i own told k hs at read seen index same known at_is long is = record {
+pub block_at : (i own : IndexView) (k : ℕ) (hs : List BlockHead) (at : ℕ) → own ≡ i → IsIndex i → hs ≡ own.heads
+    → k < length i.heads → at ≡ block_place i k → IsBlockAt i k (record { head = get_or hs k nothing; docs = own.docs; at = at })
+block_at i own k hs at seen index same known at_is = record {
   index = index;
   known = known;
   small = (let few = index.small in let within = block_within i k nothing known in omega (arith, few, within, at_is));
   head_is = λ d. ap (λ xs. get_or xs k nothing) (same ∙ ap (λ (v : IndexView). v.heads) seen) ∙ get_or_default i.heads k nothing d known;
   docs_are = ap (λ (v : IndexView). v.docs) seen;
   at_is = at_is;
-  long = long;
-  read_is = is;
 }
+
+pub shaped_at : (i : IndexView) (k : ℕ) (placed : Placed) → IsBlockAt i k placed → IsShaped placed.head placed.head.len
+shaped_at i k placed stands =
+    subst (λ (x : BlockHead). IsShaped x x.len) (sym (stands.head_is placed.head)) (head_shaped i stands.index k placed.head stands.known)
+
+module _ (i : IndexView) (told : Option (List ℕ)) (k : ℕ) (placed : Placed) (stands : IsBlockAt i k placed) (fits : HasAllBlocks told i) where
+  -- a block lies within what a store tells
+  pub told_within : ForSome told (λ b. placed.at + placed.head.len ≤ length b)
+  told_within b t =
+      let all = fits b t in
+      let one = block_within i k placed.head stands.known in
+      omega (arith, all, one, stands.at_is, ap (λ (x : BlockHead). x.len) (stands.head_is placed.head))
+
+  pub front_read : (read : List ℕ) → length read ≡ front_bytes placed.head → ForSome told (λ b. read ≡ part b placed.at (front_bytes placed.head))
+      → IsFrontRead i told k placed read
+  front_read read long is = elim told as (λ o. told ≡ o → IsFrontRead i told k placed read) [
+    | None ↦ λ e.
+        (let shape = shaped_at i k placed stands in
+        let zeros = replicate (placed.head.len - front_bytes placed.head) 0 in
+        let least = shape.least in
+        record {
+          long = long;
+          block = read ++ zeros;
+          whole = record {
+            stands = stands;
+            long = omega (arith, least, long, length-append read zeros, length-replicate {A = ℕ} (placed.head.len - front_bytes placed.head) 0);
+            read_is = λ b t. absurd (none-some b (sym e ∙ t));
+          };
+          same = take-append-le (front_bytes placed.head) read zeros (omega (arith, long));
+        })
+    | Some b ↦ λ e.
+        (let n = front_bytes placed.head in
+        let len = placed.head.len in
+        let shape = shaped_at i k placed stands in
+        let least = shape.least in
+        let within = told_within b e in
+        let rest = drop placed.at b in
+        record {
+          long = long;
+          block = part b placed.at len;
+          whole = record {
+            stands = stands;
+            long = omega (arith, within, length-take len rest, length-drop placed.at b);
+            read_is = λ other t. ap (λ (x : List ℕ). part x placed.at len) (ap (λ (o : Option (List ℕ)). unwrap_or o []) (sym e ∙ t));
+          };
+          same = take-take n len rest (omega (arith, least)) ∙ sym (take-take n n rest (omega arith)) ∙ ap (take n) (sym (is b e));
+        })
+  ] refl
 
 module _ (i : IndexView) (told : Option (List ℕ)) (k : ℕ) (placed : Placed) (read : List ℕ) (h : IsBlockRead i told k placed read) where
   -- the same, with the block's head and place themselves
   there : (d : BlockHead) → ForSome told (λ b. read ≡ part b (block_place i k) (get_or i.heads k d).len)
-  there d = λ b t. h.read_is b t ∙ ap (λ (n : ℕ). part b n placed.head.len) h.at_is ∙ ap (λ (x : BlockHead). part b (block_place i k) x.len) (h.head_is d)
+  there d = λ b t. h.read_is b t ∙ ap (λ (n : ℕ). part b n placed.head.len) h.stands.at_is
+      ∙ ap (λ (x : BlockHead). part b (block_place i k) x.len) (h.stands.head_is d)
 
   long_there : (d : BlockHead) → length read ≡ (get_or i.heads k d).len
-  long_there d = h.long ∙ ap (λ (x : BlockHead). x.len) (h.head_is d)
+  long_there d = h.long ∙ ap (λ (x : BlockHead). x.len) (h.stands.head_is d)
 
   block_there : (d : BlockHead) (rows : List Post) → IsBlock SCORES placed.head placed.docs rows read → IsBlock SCORES (get_or i.heads k d) i.docs rows read
-  block_there d rows block = subst (λ (x : BlockHead). IsBlock SCORES x i.docs rows read) (h.head_is d) (subst (λ (n : ℕ). IsBlock SCORES placed.head n rows read) h.docs_are block)
+  block_there d rows block = subst (λ (x : BlockHead). IsBlock SCORES x i.docs rows read) (h.stands.head_is d)
+      (subst (λ (n : ℕ). IsBlock SCORES placed.head n rows read) h.stands.docs_are block)
 
   pub shaped_read : IsShaped placed.head (length read)
-  shaped_read = subst (λ (n : ℕ). IsShaped placed.head n) (sym h.long) (subst (λ (x : BlockHead). IsShaped x x.len) (sym (h.head_is placed.head)) (head_shaped i h.index k placed.head h.known))
+  shaped_read = subst (λ (n : ℕ). IsShaped placed.head n) (sym h.long) (shaped_at i k placed h.stands)
 
   pub few_docs : placed.docs < 2 ^ 32
-  few_docs = let index = h.index in let most = index.few_docs in omega (arith, most, h.docs_are)
+  few_docs = let index = h.stands.index in let most = index.few_docs in omega (arith, most, h.stands.docs_are)
 
   pub block_by : (rows old new : List Post) → IsBlock SCORES placed.head placed.docs rows read → new ≡ old ++ rows → HasBlock i told k old new
-  block_by rows old new block added = has_block i told k placed.head rows old new read h.known (block_there placed.head rows block) added (there placed.head)
+  block_by rows old new block added =
+      has_block i told k placed.head rows old new read h.stands.known (block_there placed.head rows block) added (there placed.head)
 
   pub stood_rows : (b : List ℕ) (rows : List Post) → told ≡ Some b → StandsFor b i → IsBlock SCORES placed.head placed.docs rows read → rows ≡ block_posts b k
-  stood_rows b rows t s block = same_posts b i s h.index k placed.head rows read h.known (long_there placed.head) (there placed.head b t) (block_there placed.head rows block)
+  stood_rows b rows t s block =
+      same_posts b i s h.stands.index k placed.head rows read h.stands.known (long_there placed.head)
+      (there placed.head b t) (block_there placed.head rows block)
 
   pub stood_by : (b : List ℕ) (rows old new : List Post) → told ≡ Some b → StandsFor b i → IsBlock SCORES placed.head placed.docs rows read → new ≡ old ++ rows → new ≡ old ++ block_posts b k
   stood_by b rows old new t s block added = added ∙ ap (λ (x : List Post). old ++ x) (stood_rows b rows t s block)
@@ -136,14 +191,19 @@ module _ (i : IndexView) (told : Option (List ℕ)) (k : ℕ) (placed : Placed) 
   -- the rows that are read of these bytes, whatever keeps them
   pub read_there : (b : List ℕ) → told ≡ Some b → StandsFor b i → rows_read placed.head read ≡ block_posts b k
   read_there b t s =
-      let own = subst (IsBlock SCORES (get_or i.heads k placed.head) i.docs (block_posts b k)) (sym (there placed.head b t)) (stood_block b i s h.index k placed.head h.known) in
-      let block = subst (λ (n : ℕ). IsBlock SCORES placed.head n (block_posts b k) read) (sym h.docs_are) (subst (λ (x : BlockHead). IsBlock SCORES x i.docs (block_posts b k) read) (sym (h.head_is placed.head)) own) in
+      let rows = block_posts b k in
+      let stood = stood_block b i s h.stands.index k placed.head h.stands.known in
+      let own = subst (IsBlock SCORES (get_or i.heads k placed.head) i.docs rows) (sym (there placed.head b t)) stood in
+      let here = subst (λ (x : BlockHead). IsBlock SCORES x i.docs rows read) (sym (h.stands.head_is placed.head)) own in
+      let block = subst (λ (n : ℕ). IsBlock SCORES placed.head n rows read) (sym h.stands.docs_are) here in
       (unique placed.head placed.docs (block_posts b k) read few_docs shaped_read block).1
 
   pub unchanged_by : (b : List ℕ) (result : Result (Unit {0}) FetchFault) → told ≡ Some b → StandsFor b i → DecodesAt placed.at (judged SCORES placed.head placed.docs read) result → is_changed_of_fetch result ≡ false
   unchanged_by b result t s answer =
-      unbroken_answer placed.at (judged SCORES placed.head placed.docs read) result answer (ap (λ (x : BlockHead). judged SCORES x placed.docs read) (h.head_is placed.head) ∙ ap (λ (n : ℕ). judged SCORES (get_or i.heads k placed.head) n read) h.docs_are
-      ∙ never_broken b i s h.index k placed.head read h.known (long_there placed.head) (there placed.head b t))
+      unbroken_answer placed.at (judged SCORES placed.head placed.docs read) result answer
+      (ap (λ (x : BlockHead). judged SCORES x placed.docs read) (h.stands.head_is placed.head)
+      ∙ ap (λ (n : ℕ). judged SCORES (get_or i.heads k placed.head) n read) h.stands.docs_are
+      ∙ never_broken b i s h.stands.index k placed.head read h.stands.known (long_there placed.head) (there placed.head b t))
 
   -- the answer as a fault of the call
   pub changed_by : (result : Result (Unit {0}) FetchFault) → DecodesAt placed.at (judged SCORES placed.head placed.docs read) result → IfErr result (IsChangeOfBlock i told k)
@@ -152,9 +212,9 @@ module _ (i : IndexView) (told : Option (List ℕ)) (k : ℕ) (placed : Placed) 
   changed_by (Err fetches.Memory) answer = tt
   changed_by (Err (fetches.Changed rule place)) answer = record {
     bytes = read;
-    broken = λ d. ap (λ (n : ℕ). option_map (in_file n) (judged SCORES (get_or i.heads k d) i.docs read)) (sym h.at_is)
-        ∙ ap (λ (n : ℕ). option_map (in_file placed.at) (judged SCORES (get_or i.heads k d) n read)) (sym h.docs_are)
-        ∙ ap (λ (x : BlockHead). option_map (in_file placed.at) (judged SCORES x placed.docs read)) (sym (h.head_is d)) ∙ answer;
+    broken = λ d. ap (λ (n : ℕ). option_map (in_file n) (judged SCORES (get_or i.heads k d) i.docs read)) (sym h.stands.at_is)
+        ∙ ap (λ (n : ℕ). option_map (in_file placed.at) (judged SCORES (get_or i.heads k d) n read)) (sym h.stands.docs_are)
+        ∙ ap (λ (x : BlockHead). option_map (in_file placed.at) (judged SCORES x placed.docs read)) (sym (h.stands.head_is d)) ∙ answer;
     read = λ d. there d;
   }
 
@@ -166,6 +226,11 @@ module _ (i : IndexView) (told : Option (List ℕ)) (k : ℕ) (placed : Placed) 
   pub fault_changed : (result : Result (Unit {0}) FetchFault) → IfErr result (λ e. DecodesAt placed.at (judged SCORES placed.head placed.docs read) (Err e)) → IfErr result (IsChangeOfBlock i told k)
   fault_changed (Ok u) answer = tt
   fault_changed (Err e) answer = changed_by (Err e) answer
+
+-- a fault that is passed on
+pub fault_along : {T : Type 0} (P : FetchFault → Type 0) (e : FetchFault) (r : Result T FetchFault) → P e → IsErrAnd r (λ x. x ≡ e) → IfErr r P
+fault_along P e (Ok x) h is = absurd is
+fault_along P e (Err x) h is = subst P (sym is) h
 
 -- ---- titles
 -- what is known where the title's bytes were read

@@ -48,8 +48,13 @@ words_even head docs bytes docs_now words_now h =
 module _ (i : IndexView) (told : Option (List ℕ)) (k : ℕ) (placed : Placed) (read : List ℕ) (h : IsBlockRead i told k placed read) where
   known_rows : All (IsListable placed.head placed.docs) (rows_read placed.head read) → All (λ p. (p.doc < i.docs) × (p.word < length i.words)) (rows_read placed.head read)
   known_rows listable =
-      let within = subst (λ (x : BlockHead). x.lo + x.words ≤ length i.words) (sym (h.head_is placed.head)) (head_within i h.index k placed.head h.known) in
-      All-weaker (IsListable placed.head placed.docs) (λ p. (p.doc < i.docs) × (p.word < length i.words)) (λ p l. let below = l.word in (subst (λ n. p.doc < n) h.docs_are l.doc, omega (arith, below, within))) (rows_read placed.head read) listable
+      let head = placed.head in
+      let known : Post → Type 0 = λ p. (p.doc < i.docs) × (p.word < length i.words) in
+      let all = head_within i h.stands.index k head h.stands.known in
+      let within = subst (λ (x : BlockHead). x.lo + x.words ≤ length i.words) (sym (h.stands.head_is head)) all in
+      let one : (p : Post) → IsListable head placed.docs p → known p
+      = λ p l. (let below = l.word in (subst (λ n. p.doc < n) h.stands.docs_are l.doc, omega (arith, below, within))) in
+      All-weaker (IsListable head placed.docs) known one (rows_read head read) listable
 
   pub docs_known : (docs_now words_now : List ℕ) → HasDocWords placed.head placed.docs read docs_now words_now → All (λ d. d < i.docs) docs_now
   docs_known docs_now words_now added =

@@ -1,5 +1,5 @@
 //! Reading blocks and titles of an opened index.
-ghost use Rattle.std.specs.Prelude.{◌≡◌, ◌<◌, ◌≤◌, ◌+◌, ◌*◌, ◌^◌, ◌++◌, ℕ, List, false, true, length, Err, IfOk, IfErr, OnOk, OnErr, All};
+ghost use Rattle.std.specs.Prelude.{◌≡◌, ◌<◌, ◌≤◌, ◌+◌, ◌*◌, ◌^◌, ◌++◌, ℕ, List, Option, false, length, Err, IfOk, IfErr, OnOk, OnErr, All};
 ghost use Rattle.std.specs.List.{sum_by};
 ghost use Rattle.std.specs.Option.{ForSome};
 ghost use Rattle.cs_base.specs.declared.content.doc.Post.{Post};
@@ -7,13 +7,15 @@ ghost use Rattle.cs_base.specs.declared.content.limits.TheConstants.{MAX_WORDS};
 ghost use Rattle.cs_base.specs.declared.content.scores.TheConstants.{TITLE_SCORE};
 ghost use Rattle.cs_base.specs.outside.Causes.{ReadsWithin};
 ghost use Rattle.cs_base.specs.outside.Outside.{part};
-ghost use Rattle.cs_block.specs.DocWords.{HasDocWords};
+ghost use Rattle.cs_base.specs.declared.index.block.Broken.{Broken};
+ghost use Rattle.cs_block.specs.BlockReading.{Decodes};
+ghost use Rattle.cs_block.specs.DocWords.{HasDocWords, HasFront, front_bytes};
 ghost use Rattle.cs_model.specs.Scores.{SCORES};
 ghost use Rattle.cs_model_index.specs.BlockRules.{IsBlock, judged};
 ghost use Rattle.cs_model_index.specs.Blocks.{IsShaped};
 ghost use Rattle.cs_cols.specs.HeldPosts.{AreEven};
 ghost use Rattle.cs_file.specs.CallAnswers.{AreOf, HasBlock, IsChangeOfBlock, IsChangeOfTitle, IsRanged, AreScoredOf, is_read_of_fetch, is_changed_of_fetch, posts_in};
-ghost use Rattle.cs_file.specs.Fetching.{DecodesAt, HasPosts, HasScored, IsBlockRead, ReadsText};
+ghost use Rattle.cs_file.specs.Fetching.{DecodesAt, HasPosts, HasScored, IsBlockAt, IsBlockRead, IsFrontRead, ReadsText};
 ghost use Rattle.cs_file.specs.Indexes.{StandsFor, HasAllBlocks, CausedReads, block_place, block_posts, title_in, title_place, title_len};
 
 use crate::fault::FetchFault;
@@ -21,7 +23,7 @@ use crate::fetched::Fetched;
 use crate::index::Index;
 use crate::reading::{fit, read_at_once};
 use cs_base::{BlockHead, Memory, Store, Text};
-use cs_block::{BlockFault, decode, read_doc_words, read_positions, read_scores};
+use cs_block::{BlockFault, decode, front_len, read_doc_words, read_positions, read_scores};
 use cs_cols::Cols;
 use std::alloc::Global;
 
@@ -122,10 +124,9 @@ impl Index {
     }
 
     /// Reads the documents and the words of the posts of block `k` in place of those that `into` holds, from the store from
-    /// which the index was opened. Positions and scores aren't looked at. Where it fails `into` holds anything.
+    /// which the index was opened. Positions and scores aren't read. Where it fails `into` holds anything.
     pub fn fetch_doc_words<S: Store>(
         &self,
-        alloc: Global,
         store: &mut S,
         k: u32,
         into: &mut Fetched,
@@ -145,8 +146,8 @@ impl Index {
         ensures reads { ReadsWithin 1 (S.reads store.old) (S.reads store.new) }
         ensures caused { CausedReads (is_read_of_fetch result) (S.faults store.old) (S.faults store.new) }
     {
-        let placed = self.read_block(store, k, &mut into.bytes)?;
-        doc_words_at(alloc, &placed, into)
+        let placed = self.read_front(store, k, &mut into.bytes)?;
+        doc_words_at(&placed, into)
     }
 
     /// The title of a document, read from the store from which the index was opened.
@@ -194,14 +195,44 @@ impl Index {
         ensures reads { ReadsWithin 1 (S.reads store.old) (S.reads store.new) }
         ensures caused { CausedReads (is_read_of_fetch result) (S.faults store.old) (S.faults store.new) }
     {
-        let head = self.heads.as_slice()[k as usize];
-        let at = self.block_at(k);
-        read_over(store, at, head.len, bytes)?;
-        Ok(Placed {
-            head,
+        let placed = self.placed(k);
+        read_over(store, placed.at, placed.head.len, bytes)?;
+        Ok(placed)
+    }
+
+    // Reads the bytes of block `k` that stand in front of its positions, in place of others.
+    fn read_front<S: Store>(
+        &self,
+        store: &mut S,
+        k: u32,
+        bytes: &mut Vec<u8>,
+    ) -> Result<Placed, FetchFault>
+        requires in_range { k < length self.now.heads }
+        requires fits { HasAllBlocks (S.bytes store.old) self.now }
+
+        ensures ok { IfOk result (λ placed. IsFrontRead self.now (S.bytes store.old) k placed bytes.new.items) }
+        ensures unchanged { is_changed_of_fetch result ≡ false }
+        ensures bytes { S.bytes store.new ≡ S.bytes store.old }
+        ensures lent { S.lent store.new ≡ S.lent store.old }
+        ensures reads { ReadsWithin 1 (S.reads store.old) (S.reads store.new) }
+        ensures caused { CausedReads (is_read_of_fetch result) (S.faults store.old) (S.faults store.new) }
+    {
+        let placed = self.placed(k);
+        read_over(store, placed.at, front_len(&placed.head), bytes)?;
+        Ok(placed)
+    }
+
+    // What is known of block `k`.
+    fn placed(&self, k: u32) -> Placed
+        requires { k < length self.now.heads }
+
+        ensures { IsBlockAt self.now k result }
+    {
+        Placed {
+            head: self.heads.as_slice()[k as usize],
             docs: self.docs,
-            at,
-        })
+            at: self.block_at(k),
+        }
     }
 
     // The place of block `k`, in bytes from the file's first.
@@ -264,16 +295,28 @@ fn decode_at(bytes: &[u8], placed: &Placed, into: &mut Cols) -> Result<(), Fetch
 {
     match decode(bytes, &placed.head, placed.docs, into) {
         Ok(()) => Ok(()),
-        Err(BlockFault::Memory) => Err(FetchFault::Memory),
-        Err(BlockFault::Rule { n, at }) => Err(FetchFault::Changed {
-            rule: n,
-            at: placed.at + u64::from(at),
-        }),
+        Err(fault) => Err(file_fault(fault, placed.at)),
     }
 }
 
-// Puts the posts of a block, whose bytes were read, into columns. Where one isn't in range, the block is decoded, which says what
-// is broken.
+// A fault of a block's bytes, which begin at a place of the file.
+fn file_fault(fault: BlockFault, at: u64) -> FetchFault
+    requires places { at < 2 ^ 63 }
+
+    ensures exact { (broken : Option Broken) → Decodes (Err fault) broken → DecodesAt at broken (Err result) }
+    ensures unread { is_read_of_fetch {T = Unit {0}} (Err result) ≡ false }
+{
+    match fault {
+        BlockFault::Memory => FetchFault::Memory,
+        BlockFault::Rule { n, at: within } => FetchFault::Changed {
+            rule: n,
+            at: at + u64::from(within),
+        },
+    }
+}
+
+// Puts the posts of a block, whose bytes were read, into columns. Where a position or a score isn't in range, the block is decoded,
+// which says what is broken.
 fn posts_at(alloc: Global, placed: &Placed, into: &mut Fetched) -> Result<(), FetchFault>
     requires shaped { IsShaped placed.now.head (length into.old.bytes.items) }
     requires places { placed.now.at < 2 ^ 63 }
@@ -283,46 +326,17 @@ fn posts_at(alloc: Global, placed: &Placed, into: &mut Fetched) -> Result<(), Fe
     ensures exact { IfErr result (λ fault. DecodesAt placed.now.at (judged SCORES placed.now.head placed.now.docs into.old.bytes.items) (Err fault)) }
     ensures unread { is_read_of_fetch result ≡ false }
 {
-    if read_columns(placed, into)? {
-        return Ok(());
-    }
-    decode_columns(alloc, placed, into)
-}
-
-// Puts the posts of a block, whose bytes were read, into columns. False where one isn't in range.
-fn read_columns(placed: &Placed, into: &mut Fetched) -> Result<bool, Memory>
-    requires shaped { IsShaped placed.now.head (length into.old.bytes.items) }
-
-    ensures ok { IfOk result (λ whole. whole ≡ true → HasPosts placed.now into.old.bytes.items into.new) }
-    ensures bytes { into.new.bytes ≡ into.old.bytes }
-{
-    if !list_columns(placed, into)? {
-        return Ok(false);
-    }
+    doc_words_at(placed, into)?;
     let whole = read_positions(
         &into.bytes,
         &placed.head,
         &mut into.positions,
         &mut into.scores,
     )?;
-    Ok(whole)
-}
-
-// Puts the documents and words of a block, whose bytes were read, into columns. False where one isn't in range.
-fn list_columns(placed: &Placed, into: &mut Fetched) -> Result<bool, Memory>
-    requires shaped { IsShaped placed.now.head (length into.old.bytes.items) }
-
-    ensures ok { IfOk result (λ whole. whole ≡ true → HasDocWords placed.now.head placed.now.docs into.old.bytes.items into.new.docs.items into.new.words.items) }
-    ensures bytes { into.new.bytes ≡ into.old.bytes }
-{
-    let whole = read_doc_words(
-        &into.bytes,
-        &placed.head,
-        placed.docs,
-        &mut into.docs,
-        &mut into.words,
-    )?;
-    Ok(whole)
+    if whole {
+        return Ok(());
+    }
+    decode_columns(alloc, placed, into)
 }
 
 // The same of documents, words and scores alone.
@@ -335,40 +349,36 @@ fn scored_at(alloc: Global, placed: &Placed, into: &mut Fetched) -> Result<(), F
     ensures exact { IfErr result (λ fault. DecodesAt placed.now.at (judged SCORES placed.now.head placed.now.docs into.old.bytes.items) (Err fault)) }
     ensures unread { is_read_of_fetch result ≡ false }
 {
-    if score_columns(placed, into)? {
+    doc_words_at(placed, into)?;
+    if read_scores(&into.bytes, &placed.head, &mut into.scores)? {
         return Ok(());
     }
     decode_columns(alloc, placed, into)
 }
 
-// Puts the documents, words and scores of a block, whose bytes were read, into columns. False where one isn't in range.
-fn score_columns(placed: &Placed, into: &mut Fetched) -> Result<bool, Memory>
-    requires shaped { IsShaped placed.now.head (length into.old.bytes.items) }
+// Puts the documents and the words of the posts of a block into columns. Its bytes were read, or those in front of its positions.
+fn doc_words_at(placed: &Placed, into: &mut Fetched) -> Result<(), FetchFault>
+    requires shaped { IsShaped placed.now.head placed.now.head.len }
+    requires front { front_bytes placed.now.head ≤ length into.old.bytes.items }
+    requires places { placed.now.at < 2 ^ 63 }
 
-    ensures ok { IfOk result (λ whole. whole ≡ true → HasScored placed.now into.old.bytes.items into.new) }
+    // of each block that begins so
+    ensures ok { OnOk result ((block : List ℕ) → HasFront placed.now.head into.old.bytes.items block → HasDocWords placed.now.head placed.now.docs block into.new.docs.items into.new.words.items) }
+    ensures exact { IfErr result (λ fault. (block : List ℕ) → HasFront placed.now.head into.old.bytes.items block → DecodesAt placed.now.at (judged SCORES placed.now.head placed.now.docs block) (Err fault)) }
+    ensures unread { is_read_of_fetch result ≡ false }
     ensures bytes { into.new.bytes ≡ into.old.bytes }
 {
-    if !list_columns(placed, into)? {
-        return Ok(false);
+    let listed = read_doc_words(
+        &into.bytes,
+        &placed.head,
+        placed.docs,
+        &mut into.docs,
+        &mut into.words,
+    );
+    match listed {
+        Ok(()) => Ok(()),
+        Err(fault) => Err(file_fault(fault, placed.at)),
     }
-    let whole = read_scores(&into.bytes, &placed.head, &mut into.scores)?;
-    Ok(whole)
-}
-
-// The same of documents and words alone.
-fn doc_words_at(alloc: Global, placed: &Placed, into: &mut Fetched) -> Result<(), FetchFault>
-    requires shaped { IsShaped placed.now.head (length into.old.bytes.items) }
-    requires places { placed.now.at < 2 ^ 63 }
-    requires few { placed.now.docs < 2 ^ 32 }
-
-    ensures ok { OnOk result (HasDocWords placed.now.head placed.now.docs into.old.bytes.items into.new.docs.items into.new.words.items) }
-    ensures exact { IfErr result (λ fault. DecodesAt placed.now.at (judged SCORES placed.now.head placed.now.docs into.old.bytes.items) (Err fault)) }
-    ensures unread { is_read_of_fetch result ≡ false }
-{
-    if list_columns(placed, into)? {
-        return Ok(());
-    }
-    decode_columns(alloc, placed, into)
 }
 
 // Puts the posts of a block, whose bytes were read, into columns by decoding it.

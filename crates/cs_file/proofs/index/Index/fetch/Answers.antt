@@ -11,7 +11,7 @@ decode_at-requires-clause-shaped g c =
     shaped_read c.args.self.now told c.args.k c.in_ok-placed.placed c.deref.result.now h
 
 pub decode_at-requires-clause-places : goal.decode_at-requires-clause-places
-decode_at-requires-clause-places g c = c.in_ok-placed.ensures.ok.small
+decode_at-requires-clause-places g c = c.in_ok-placed.ensures.ok.stands.small
 
 pub returns-clause-ok : goal.returns-clause-ok
 returns-clause-ok g c =

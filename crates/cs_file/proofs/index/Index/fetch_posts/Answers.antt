@@ -10,7 +10,7 @@ pub posts_at-requires-clause-few : goal.posts_at-requires-clause-few
 posts_at-requires-clause-few g c = few_docs c.args.self.now _ c.args.k c.in_ok-placed.placed _ c.in_ok-placed.ensures.ok
 
 pub posts_at-requires-clause-places : goal.posts_at-requires-clause-places
-posts_at-requires-clause-places g c = c.in_ok-placed.ensures.ok.small
+posts_at-requires-clause-places g c = c.in_ok-placed.ensures.ok.stands.small
 
 pub returns-clause-even : goal.returns-clause-even
 returns-clause-even g c = on_ok_weaker c.posts_at.result (posts_even c.in_ok-placed.placed c.read_block.new.bytes.items c.posts_at.new.into) c.posts_at.ensures.ok

@@ -11,7 +11,7 @@ pub scored_at-requires-clause-few : goal.scored_at-requires-clause-few
 scored_at-requires-clause-few g c = few_docs c.args.self.now _ c.args.k c.in_ok-placed.placed _ c.in_ok-placed.ensures.ok
 
 pub scored_at-requires-clause-places : goal.scored_at-requires-clause-places
-scored_at-requires-clause-places g c = c.in_ok-placed.ensures.ok.small
+scored_at-requires-clause-places g c = c.in_ok-placed.ensures.ok.stands.small
 
 pub returns-clause-words_even : goal.returns-clause-words_even
 returns-clause-words_even g c = on_ok_weaker c.scored_at.result (λ has. words_even c.in_ok-placed.placed.head c.in_ok-placed.placed.docs c.read_block.new.bytes.items _ _ has.listed) c.scored_at.ensures.ok

@@ -4,7 +4,7 @@ use Rattle.std.proofs.lemmas.Option.{IfSome_then}
 use Rattle.cs_block.specs.RowRuns.{HasDocs, doc_after}
 use Rattle.cs_block.specs.declared.run_docs.TheConstants.{STEP}
 use Rattle.cs_block.proofs.RunsLemmas.{doc_behind, docs_none, docs_put}
-use Rattle.cs_block.proofs.run_docs.docs_in.Goals as goal
+use Rattle.cs_block.proofs.run_docs.stepped_docs.Goals as goal
 use borrow.Rule.Slice.PartMut.{put_mid, post_of}
 
 pub loop-out-init : goal.loop-out-init

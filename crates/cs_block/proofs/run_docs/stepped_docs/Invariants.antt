@@ -1,6 +1,6 @@
 use Rattle.std.proofs.Common.{◌≡◌, ◌-◌, ◌≤◌, length, take}
 use Rattle.cs_block.specs.RowRuns.{HasDocs, doc_after}
-use Rattle.cs_block.proofs.run_docs.docs_in.Given as goal
+use Rattle.cs_block.proofs.run_docs.stepped_docs.Given as goal
 
 abbrev pub invariant-loop-out : goal.invariant-loop-out
 invariant-loop-out l = record {
