@@ -5,18 +5,19 @@
 --   added_on         the row at one place more is added
 --   rows_added       the rows at the places of some rows, and those behind
 --   docs_below       documents that are there are below the collection's
-use Rattle.std.proofs.Common.{◌≡◌, ℕ, zero, suc, ◌+◌, ◌-◌, ◌*◌, ◌<◌, ◌≤◌, Bool, true, false, cond, List, [], ◌∷◌, ◌++◌, length, get_or, set, map, take, drop, Option, Some, None, refl, sym, ap, ap₂, subst, ◌∙◌, append_assoc, arith, inl, inr, if◌then◌else◌}
-use Rattle.std.specs.Prelude.{All, filter}
+--   sought_all       the rows of a block that is whole that are in listed documents are those that are sought, where all are of the block
+use Rattle.std.proofs.Common.{◌≡◌, ℕ, zero, suc, ◌+◌, ◌-◌, ◌*◌, ◌<◌, ◌≤◌, ◌&&◌, Bool, true, false, cond, List, [], ◌∷◌, ◌++◌, length, get_or, set, map, take, drop, Option, Some, None, refl, sym, ap, ap₂, subst, ◌∙◌, append_assoc, arith, inl, inr, if◌then◌else◌}
+use Rattle.std.specs.Prelude.{All, filter, nat_le, nat_lt}
 use Rattle.std.specs.Int.{from_bool}
-use Rattle.std.proofs.lemmas.Bool.{cases_eq}
+use Rattle.std.proofs.lemmas.Bool.{and_from, cases_eq, le-leb, lt-ltb}
 use Rattle.std.proofs.lemmas.List.{append-nil, drop_more, get_or-append_right, get_or_append_left, get_or_default, length-append, map-append, take-set, take_more, take_more_set}
-use Rattle.std.proofs.lemmas.List.Elements.{All-append, All-from_recursion, All-nil}
+use Rattle.std.proofs.lemmas.List.Elements.{All-append, All-from_recursion, All-head, All-nil, All-tail, All-weaker}
 use Rattle.cs_base.specs.declared.index.block.BlockHead.{BlockHead}
 use Rattle.cs_base.specs.declared.content.doc.Post.{Post}
 use Rattle.cs_model_index.specs.BlockRules.{BlockColumns, Item, block_columns, block_items, doc_before, item_row, row_at, rows_read}
 use Rattle.cs_block.specs.Pass.{items_from}
 use Rattle.cs_block.specs.RowRuns.{HasDocs, HaveDocs, doc_after, place_after}
-use Rattle.cs_block.specs.Sought.{ArePlacedAt, AreRowsOf, row_with}
+use Rattle.cs_block.specs.Sought.{ArePlacedAt, AreRowsOf, IsOfBlock, is_sought, passes, row_with}
 use Rattle.cs_block.proofs.ItemsLemmas.{items_end, items_on, items_start, rows_cut}
 use Rattle.cs_block.proofs.RunsLemmas.{doc_on}
 
@@ -141,3 +142,37 @@ added_on head c ds rows d are old now new places k row lt known is added h =
 
 pub docs_below : (gaps : List ℕ) (at before docs : ℕ) (ds : List ℕ) (next : ℕ) → HasDocs gaps at before docs ds next → All (λ d. d < docs) ds
 docs_below gaps at before docs ds next has = λ j d lt. subst (λ x. x < docs) (get_or_default ds j 0 d lt) (has.are j lt).1
+
+-- ---- a block whose words are all sought
+and_false : (b : Bool) → (b && false) ≡ false
+and_false true = refl
+and_false false = refl
+
+words_from : (head : BlockHead) (c : BlockColumns) (ds : List ℕ) (rows : List Post) → AreRowsOf head c ds rows → All (λ p. head.lo ≤ p.word) rows
+words_from head c ds rows are = λ j d lt. let long = are.long in subst (λ p. head.lo ≤ p.word) (sym (are.each j d (omega (arith, lt, long)))) (omega arith)
+
+same_filter : (lo hi : ℕ) (listed : List Bool) (rows : List Post) → All (λ p. lo ≤ p.word) rows → All (λ p. p.word < hi) (filter (passes true lo hi listed) rows) → filter (passes true lo hi listed) rows ≡ filter (is_sought lo hi listed) rows
+same_filter lo hi listed [] from below = refl
+same_filter lo hi listed (p ∷ rows) from below =
+    let t = is_sought lo hi listed in
+    let met : Post → Bool = passes true lo hi listed in
+    let between : Bool = nat_le lo p.word && nat_lt p.word hi in
+    let rest = same_filter lo hi listed rows (All-tail (λ q. lo ≤ q.word) p rows from) in
+    elim (met p) as (λ b. All (λ q. q.word < hi) (cond b (p ∷ filter met rows) (filter met rows)) → cond b (p ∷ filter met rows) (filter met rows) ≡ cond (between && b) (p ∷ filter t rows) (filter t rows)) [
+      | true ↦ λ all.
+          let low = All-head (λ q. lo ≤ q.word) p rows from in
+          let high = All-head (λ q. q.word < hi) p (filter met rows) all in
+          let inside : between ≡ true = and_from (nat_le lo p.word) (nat_lt p.word hi) (le-leb lo p.word low) (lt-ltb p.word hi high) in
+          ap (λ xs. p ∷ xs) (rest (All-tail (λ q. q.word < hi) p (filter met rows) all)) ∙ ap (λ b. cond (b && true) (p ∷ filter t rows) (filter t rows)) (sym inside)
+      | false ↦ λ all. rest all ∙ ap (λ b. cond b (p ∷ filter t rows) (filter t rows)) (sym (and_false between))
+    ] below
+
+pub sought_all : (head : BlockHead) (c : BlockColumns) (ds : List ℕ) (whole : Bool) (lo hi : ℕ) (listed : List Bool) (rows posts : List Post) → AreRowsOf head c ds rows → (whole ≡ true → (lo ≤ head.lo) × (head.lo + head.words ≤ hi))
+    → posts ≡ filter (passes whole lo hi listed) rows → All (IsOfBlock head) posts → posts ≡ filter (is_sought lo hi listed) rows
+sought_all head c ds false lo hi listed rows posts are inside is own = is
+sought_all head c ds true lo hi listed rows posts are inside is own =
+    let within = inside refl in
+    let from = within.0 in
+    let upto = within.1 in
+    is ∙ same_filter lo hi listed rows (All-weaker (λ p. head.lo ≤ p.word) (λ p. lo ≤ p.word) (λ p h. omega (arith, h, from)) rows (words_from head c ds rows are))
+    (subst (All (λ p. p.word < hi)) is (All-weaker (IsOfBlock head) (λ p. p.word < hi) (λ p h. let below = h.word in omega (arith, below, upto)) posts own))

@@ -4,8 +4,10 @@
 --   row_with head c ds i          row i of columns, where ds are the documents
 --   AreRowsOf head c ds rows      the rows of columns
 --   ArePlacedAt rows d from to t places    the places of the rows from number from up to `to` that pass a test
+--   IsOfBlock head p      a row of the block's words and of its kind
+--   passes whole lo hi listed p      a row is sought, where the words of a block that is whole are taken for these
 --   HasSought head bytes lo hi listed rows      they are those of all rows that are sought, each of the block's kind
-use Rattle.std.specs.Prelude.{◌≡◌, ℕ, ◌*◌, ◌<◌, ◌&&◌, Bool, true, false, nat_le, nat_lt, List, ◌++◌, length, map, filter, drop, slice_index_or}
+use Rattle.std.specs.Prelude.{◌≡◌, ℕ, ◌+◌, ◌*◌, ◌<◌, ◌&&◌, Bool, true, false, nat_le, nat_lt, List, ◌++◌, length, map, filter, drop, slice_index_or, if◌then◌else◌}
 use Rattle.std.specs.List.{All}
 use Rattle.cs_base.specs.declared.content.doc.Post.{Post}
 use Rattle.cs_base.specs.declared.index.block.BlockHead.{BlockHead}
@@ -29,6 +31,15 @@ pub record AreRowsOf (head : BlockHead) (c : BlockColumns) (ds : List ℕ) (rows
 pub record ArePlacedAt (rows : List Post) (d : Post) (from to : ℕ) (t : Post → Bool) (places : List ℕ) : Type 0 where
   pub known : All (λ i. i < length rows) places
   pub are : map (λ i. slice_index_or rows i d) places ++ filter t (drop to rows) ≡ filter t (drop from rows)
+
+-- what rules 15 and 16 say
+pub record IsOfBlock (head : BlockHead) (p : Post) : Type 0 where
+  pub word : p.word < head.lo + head.words
+  pub scored : is_scored SCORES head.facet p ≡ true
+
+-- of a block that isn't whole it is the test itself
+abbrev pub passes : Bool → ℕ → ℕ → List Bool → Post → Bool
+passes whole lo hi listed p = if whole then slice_index_or listed p.doc false else is_sought lo hi listed p
 
 -- the rows are those that are read of any bytes
 pub record HasSought (head : BlockHead) (bytes : List ℕ) (lo hi : ℕ) (listed : List Bool) (rows : List Post) : Type 0 where

@@ -27,7 +27,7 @@ loop-i-preserved c =
     record {
       found = λ rows are d.
           let long = are.long in
-          finds_on t rows d c.args.from i c.loop-i.places n (n + c.from-found.result) (omega (arith, long, short)) room (many ∙ ap (λ p. n + (if t p then 1 else 0)) (sym (are.each i d short))) (inv.found rows are d);
+          finds_on t rows d c.args.span.0 i c.loop-i.places n (n + c.from-found.result) (omega (arith, long, short)) room (many ∙ ap (λ p. n + (if t p then 1 else 0)) (sym (are.each i d short))) (inv.found rows are d);
       known = known_on (λ x. x < length docs) c.loop-i.places n (n + c.from-found.result) i (t row) many room short inv.known;
       few = omega (arith, inv.few, count, most);
       len = length-set c.loop-i.places n i ∙ inv.len;
