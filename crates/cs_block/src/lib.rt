@@ -18,6 +18,7 @@ mod rules;
 mod run_columns;
 mod run_docs;
 mod runs;
+mod sought;
 #[cfg(test)]
 mod tests;
 
@@ -27,3 +28,4 @@ pub use doc_words::{front_len, read_doc_words};
 pub use encoding::encode;
 pub use fault::BlockFault;
 pub use positions::{read_positions, read_scores};
+pub use sought::{is_sought, read_sought};

@@ -17,6 +17,7 @@ pub mod PostsLemmas
 pub mod ScoredLemmas
 pub mod SectionSizes
 pub mod SinkPuts
+pub mod SoughtPosts
 pub mod StagesLemmas
 pub mod StoodLemmas
 pub mod TitleStageLemmas

@@ -29,13 +29,13 @@ use std::alloc::Global;
 
 /// What is known of a block whose bytes are read.
 #[derive(Clone, Copy)]
-struct Placed {
+pub(crate) struct Placed {
     /// What the directory says of it.
-    head: BlockHead,
+    pub(crate) head: BlockHead,
     /// The documents of the collection are those below this one.
-    docs: u32,
+    pub(crate) docs: u32,
     /// Its place, in bytes from the file's first.
-    at: u64,
+    pub(crate) at: u64,
 }
 
 impl Index {
@@ -178,8 +178,8 @@ impl Index {
         text_at(bytes, at)
     }
 
-    // Reads the bytes of block `k` in place of others.
-    fn read_block<S: Store>(
+    /// Reads the bytes of block `k` in place of others.
+    pub(crate) fn read_block<S: Store>(
         &self,
         store: &mut S,
         k: u32,
@@ -283,8 +283,8 @@ fn read_over<S: Store>(
     }
 }
 
-// Adds the posts of a block.
-fn decode_at(bytes: &[u8], placed: &Placed, into: &mut Cols) -> Result<(), FetchFault>
+/// Adds the posts of a block.
+pub(crate) fn decode_at(bytes: &[u8], placed: &Placed, into: &mut Cols) -> Result<(), FetchFault>
     requires shaped { IsShaped placed.now.head (length bytes.now) }
     requires places { placed.now.at < 2 ^ 63 }
 

@@ -1,0 +1,44 @@
+use Rattle.std.proofs.Common.{◌≡◌, ◌++◌, length, sym, ap, subst, ◌∙◌, not, true}
+use Rattle.std.specs.List.{All}
+use Rattle.std.specs.Prelude.{filter}
+use Rattle.std.proofs.lemmas.List.Elements.{All-nil, All-weaker}
+use Rattle.cs_model.specs.Scores.{SCORES}
+use Rattle.cs_model_index.specs.BlockRules.{is_scored, rows_read}
+use Rattle.cs_block.specs.ColumnsView.{seen_columns}
+use Rattle.cs_block.specs.RowRuns.{HasDocs}
+use Rattle.cs_block.specs.Sought.{AreRowsOf, IsOfBlock, passes}
+use Rattle.cs_block.proofs.DocWordsLemmas.{docs_there, refilled}
+use Rattle.cs_block.proofs.SoughtLemmas.{rows_listed, sought_all}
+use Rattle.cs_block.proofs.sought.read_sought.Goals as goal
+
+pub returns : goal.returns
+returns c =
+    let head = c.args.head.now in
+    let bytes = c.args.bytes.now in
+    let columns = seen_columns c.cut-columns.result in
+    let docs = length c.args.listed.now in
+    let ds = c.docs_in.new.out in
+    let items = c.resize.new.self.items in
+    let len = c.resize.new.self.len in
+    let long : length items ≡ len = sym (ap length c.deref_mut.ensures.value) ∙ c.deref_mut.ensures.len in
+    let all : length ds ≡ len = c.docs_in.auto.out ∙ c.deref_mut.ensures.len in
+    let there = docs_there c.docs_in.result (HasDocs columns.gaps 0 0 docs ds) (c.is_none.ensures ∙ ap not c.if-is_none.false) c.docs_in.ensures in
+    let same = c.deref.ensures.value ∙ refilled len ds items long all in
+    let rows = rows_read head bytes in
+    let are : AreRowsOf head columns c.deref.result.now rows =
+    subst (λ xs. AreRowsOf head columns xs rows) (sym same) (rows_listed head docs bytes columns ds there.0 c.cut-columns.ensures.value (all ∙ c.in_ok-resize.ensures.len) there.1) in
+    let put = c.in_ok-kept.ensures in
+    let lo = c.args.words.0 in
+    let hi = c.args.words.1 in
+    let listed = c.args.listed.now in
+    let posts = c.add_sought.new.into.items in
+    let whole = c.is_inside-whole.result in
+    let added = put.added rows are ∙ ap (λ xs. xs ++ filter (passes whole lo hi listed) rows) c.truncate.ensures.items in
+    record {
+      ok = λ e.
+          let own = put.kept e (subst (All (IsOfBlock head)) (sym c.truncate.ensures.items) (All-nil (IsOfBlock head))) in
+          record {
+            are = sought_all head columns c.deref.result.now whole lo hi listed rows posts are c.is_inside-whole.ensures added own;
+            scored = All-weaker (IsOfBlock head) (λ p. is_scored SCORES head.facet p ≡ true) (λ p h. h.scored) posts own;
+          };
+    }

@@ -1,0 +1,47 @@
+-- Reading those rows of a block that are sought: of some words, in listed documents.
+--
+--   is_sought lo hi listed p      the word of a row is one of these, and its document is listed
+--   row_with head c ds i          row i of columns, where ds are the documents
+--   AreRowsOf head c ds rows      the rows of columns
+--   ArePlacedAt rows d from to t places    the places of the rows from number from up to `to` that pass a test
+--   IsOfBlock head p      a row of the block's words and of its kind
+--   passes whole lo hi listed p      a row is sought, where the words of a block that is whole are taken for these
+--   HasSought head bytes lo hi listed rows      they are those of all rows that are sought, each of the block's kind
+use Rattle.std.specs.Prelude.{◌≡◌, ℕ, ◌+◌, ◌*◌, ◌<◌, ◌&&◌, Bool, true, false, nat_le, nat_lt, List, ◌++◌, length, map, filter, drop, slice_index_or, if◌then◌else◌}
+use Rattle.std.specs.List.{All}
+use Rattle.cs_base.specs.declared.content.doc.Post.{Post}
+use Rattle.cs_base.specs.declared.index.block.BlockHead.{BlockHead}
+use Rattle.cs_model.specs.Scores.{SCORES}
+use Rattle.cs_model_index.specs.BlockRules.{BlockColumns, is_scored, row_at, rows_read}
+
+-- a document behind the last of the list isn't listed
+abbrev pub is_sought : ℕ → ℕ → List Bool → Post → Bool
+is_sought lo hi listed p = (nat_le lo p.word && nat_lt p.word hi) && slice_index_or listed p.doc false
+
+-- document 0 where there is none of that number
+abbrev pub row_with : BlockHead → BlockColumns → List ℕ → ℕ → Post
+row_with head c ds i = row_at head.lo (slice_index_or ds i 0) (drop (2 * i) c.words) (drop (4 * i) c.positions) (drop i c.scores)
+
+-- one for each document
+pub record AreRowsOf (head : BlockHead) (c : BlockColumns) (ds : List ℕ) (rows : List Post) : Type 0 where
+  pub long : length rows ≡ length ds
+  pub each : (i : ℕ) (d : Post) → i < length ds → slice_index_or rows i d ≡ row_with head c ds i
+
+-- none where from is to; d stands where a place has no row, which none of these is
+pub record ArePlacedAt (rows : List Post) (d : Post) (from to : ℕ) (t : Post → Bool) (places : List ℕ) : Type 0 where
+  pub known : All (λ i. i < length rows) places
+  pub are : map (λ i. slice_index_or rows i d) places ++ filter t (drop to rows) ≡ filter t (drop from rows)
+
+-- what rules 15 and 16 say
+pub record IsOfBlock (head : BlockHead) (p : Post) : Type 0 where
+  pub word : p.word < head.lo + head.words
+  pub scored : is_scored SCORES head.facet p ≡ true
+
+-- of a block that isn't whole it is the test itself
+abbrev pub passes : Bool → ℕ → ℕ → List Bool → Post → Bool
+passes whole lo hi listed p = if whole then slice_index_or listed p.doc false else is_sought lo hi listed p
+
+-- the rows are those that are read of any bytes
+pub record HasSought (head : BlockHead) (bytes : List ℕ) (lo hi : ℕ) (listed : List Bool) (rows : List Post) : Type 0 where
+  pub are : rows ≡ filter (is_sought lo hi listed) (rows_read head bytes)
+  pub scored : All (λ p. is_scored SCORES head.facet p ≡ true) rows

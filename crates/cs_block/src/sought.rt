@@ -1,0 +1,216 @@
+//! Reading those rows of a block that are sought: of some words, in listed documents. Of the others no position and no score is
+//! looked at.
+ghost use Rattle.std.specs.Prelude.{◌≡◌, ◌+◌, ◌*◌, ◌^◌, ◌<◌, ◌≤◌, ◌&&◌, ◌++◌, false, true, nat_le, nat_lt, List, length, map, take, filter, slice_index_or, IfOk};
+ghost use Rattle.std.specs.List.{All};
+ghost use Rattle.cs_base.specs.declared.content.doc.Post.{Post};
+ghost use Rattle.cs_base.specs.declared.index.block.BlockHead.{BlockHead};
+ghost use Rattle.cs_base.specs.declared.content.limits.TheConstants.{MAX_WORDS};
+ghost use Rattle.cs_model_index.specs.Blocks.{IsShaped};
+ghost use Rattle.cs_model_index.specs.BlockRules.{BlockColumns};
+ghost use Rattle.cs_block.specs.BlockReading.{HasColumns};
+ghost use Rattle.cs_block.specs.ColumnsView.{seen_columns};
+ghost use Rattle.cs_block.specs.Sought.{ArePlacedAt, AreRowsOf, HasSought, IsOfBlock, is_sought, passes};
+
+use crate::columns::{Columns, cut, half_at, row_of};
+use crate::rules::{is_in_words, is_scored};
+use crate::run_docs::docs_in;
+use cs_base::{BlockHead, Memory, Post};
+
+/// So many rows at most are looked at in one loop.
+const SPAN: usize = 256;
+
+/// Puts the rows of a block in listed documents whose word's number is `words.0` or more and below `words.1` into a list, and the
+/// documents of all rows into a column, in place of what these hold. False, with anything in them, where a code doesn't stand, a
+/// document isn't in range, or a row that is sought isn't of the block's kind, which never comes of bytes that keep the rules.
+pub fn read_sought(
+    bytes: &[u8],
+    head: &BlockHead,
+    words: (u32, u32),
+    listed: &[bool],
+    docs: &mut Vec<u32>,
+    into: &mut Vec<Post>,
+) -> Result<bool, Memory>
+    requires shaped { IsShaped head.now (length bytes.now) }
+    requires few { length listed.now < 2 ^ 32 }
+
+    ensures ok { IfOk result (λ whole. whole ≡ true → HasSought head.now bytes.now words.0 words.1 listed.now into.new.items) }
+{
+    let columns = cut(bytes, head);
+    docs.resize(head.rows as usize, 0)?;
+    if docs_in(columns.gaps, 0, 0, listed.len() as u32, docs).is_none() {
+        return Ok(false);
+    }
+    into.truncate(0);
+    let whole = is_inside(head, words);
+    let kept = add_sought(&columns, head, whole, docs, words, listed, into)?;
+    Ok(kept)
+}
+
+/// Whether a word's number is `lo` or more and below `hi`, and a document is listed.
+#[inline]
+pub fn is_sought(doc: u32, word: u32, lo: u32, hi: u32, listed: &[bool]) -> bool
+    requires { doc < length listed.now }
+
+    ensures { result ≡ ((nat_le lo word && nat_lt word hi) && slice_index_or listed.now doc false) }
+{
+    (lo <= word) & (word < hi) & listed[doc as usize]
+}
+
+// Whether each word of a block is one of these.
+fn is_inside(head: &BlockHead, words: (u32, u32)) -> bool
+    requires { head.now.lo + head.now.words ≤ MAX_WORDS }
+
+    ensures { result ≡ true → (words.0 ≤ head.now.lo) × (head.now.lo + head.now.words ≤ words.1) }
+{
+    words.0 <= head.lo && head.lo + head.words <= words.1
+}
+
+// Adds the rows that are sought, some rows at a time, and says whether all of them are of the block's kind and have its words. Where the
+// block is whole words aren't looked at before.
+fn add_sought(
+    columns: &Columns<'_>,
+    head: &BlockHead,
+    whole: bool,
+    docs: &[u32],
+    words: (u32, u32),
+    listed: &[bool],
+    into: &mut Vec<Post>,
+) -> Result<bool, Memory>
+    requires words { head.now.lo + head.now.words ≤ MAX_WORDS }
+    requires sized { HasColumns head.now (seen_columns columns.now) }
+    requires long { length docs.now ≡ head.now.rows }
+    requires known { All (λ d. d < length listed.now) docs.now }
+
+    ensures added { IfOk result (λ kept. (rows : List Post) → AreRowsOf head.now (seen_columns columns.now) docs.now rows → into.new.items ≡ into.old.items ++ filter (passes whole words.0 words.1 listed.now) rows) }
+    ensures kept { IfOk result (λ kept. kept ≡ true → All (IsOfBlock head.now) into.old.items → All (IsOfBlock head.now) into.new.items) }
+{
+    let mut places = [0usize; SPAN];
+    let mut kept = true;
+    let mut from = 0;
+    while from < docs.len() {
+        let to = from + SPAN.min(docs.len() - from);
+        let found = find_rows(
+            columns,
+            head,
+            whole,
+            docs,
+            (from, to),
+            words,
+            listed,
+            &mut places,
+        );
+        kept &= add_rows(columns, head, docs, &places[..found], into)?;
+        from = to;
+    }
+    Ok(kept)
+}
+
+// Puts the places of those of some rows that pass to the front of a slice, and says how many there are.
+fn find_rows(
+    columns: &Columns<'_>,
+    head: &BlockHead,
+    whole: bool,
+    docs: &[u32],
+    span: (usize, usize),
+    words: (u32, u32),
+    listed: &[bool],
+    places: &mut [usize],
+) -> usize
+    requires words { head.now.lo + head.now.words ≤ MAX_WORDS }
+    requires sized { HasColumns head.now (seen_columns columns.now) }
+    requires long { length docs.now ≡ head.now.rows }
+    requires known { All (λ d. d < length listed.now) docs.now }
+    requires onward { span.0 ≤ span.1 }
+    requires within { span.1 ≤ length docs.now }
+    requires room { span.1 ≤ span.0 + length places.old }
+
+    ensures found { (rows : List Post) → AreRowsOf head.now (seen_columns columns.now) docs.now rows → (d : Post) → ArePlacedAt rows d span.0 span.1 (passes whole words.0 words.1 listed.now) (take result places.new) }
+    ensures known { All (λ i. i < length docs.now) (take result places.new) }
+    ensures few { result ≤ length places.new }
+    ensures len { length places.new ≡ length places.old }
+{
+    if whole {
+        return find_listed(docs, span.0, span.1, listed, places);
+    }
+    find_sought(columns, head, docs, span, words, listed, places)
+}
+
+// The same of those in listed documents, without a jump.
+fn find_listed(docs: &[u32], from: usize, to: usize, listed: &[bool], places: &mut [usize]) -> usize
+    requires known { All (λ d. d < length listed.now) docs.now }
+    requires onward { from ≤ to }
+    requires within { to ≤ length docs.now }
+    requires room { to ≤ from + length places.old }
+
+    ensures found { (head : BlockHead) (columns : BlockColumns) (rows : List Post) → AreRowsOf head columns docs.now rows → (d : Post) → ArePlacedAt rows d from to (λ p. slice_index_or listed.now p.doc false) (take result places.new) }
+    ensures known { All (λ i. i < length docs.now) (take result places.new) }
+    ensures few { result ≤ length places.new }
+    ensures len { length places.new ≡ length places.old }
+{
+    let mut found = 0;
+    for i in from..to {
+        places[found] = i;
+        found += usize::from(listed[docs[i] as usize]);
+    }
+    found
+}
+
+// The same of those that are sought.
+fn find_sought(
+    columns: &Columns<'_>,
+    head: &BlockHead,
+    docs: &[u32],
+    span: (usize, usize),
+    words: (u32, u32),
+    listed: &[bool],
+    places: &mut [usize],
+) -> usize
+    requires lo { head.now.lo ≤ MAX_WORDS }
+    requires sized { HasColumns head.now (seen_columns columns.now) }
+    requires long { length docs.now ≡ head.now.rows }
+    requires known { All (λ d. d < length listed.now) docs.now }
+    requires onward { span.0 ≤ span.1 }
+    requires within { span.1 ≤ length docs.now }
+    requires room { span.1 ≤ span.0 + length places.old }
+
+    ensures found { (rows : List Post) → AreRowsOf head.now (seen_columns columns.now) docs.now rows → (d : Post) → ArePlacedAt rows d span.0 span.1 (is_sought words.0 words.1 listed.now) (take result places.new) }
+    ensures known { All (λ i. i < length docs.now) (take result places.new) }
+    ensures few { result ≤ length places.new }
+    ensures len { length places.new ≡ length places.old }
+{
+    let (lo, hi) = words;
+    let (from, to) = span;
+    let mut found = 0;
+    for i in from..to {
+        places[found] = i;
+        let word = head.lo + half_at(columns.words, 2 * i);
+        found += usize::from(is_sought(docs[i], word, lo, hi, listed));
+    }
+    found
+}
+
+// Adds the rows at these places, and says whether all of them are of the block's kind and have its words.
+fn add_rows(
+    columns: &Columns<'_>,
+    head: &BlockHead,
+    docs: &[u32],
+    places: &[usize],
+    into: &mut Vec<Post>,
+) -> Result<bool, Memory>
+    requires words { head.now.lo + head.now.words ≤ MAX_WORDS }
+    requires sized { HasColumns head.now (seen_columns columns.now) }
+    requires long { length docs.now ≡ head.now.rows }
+    requires known { All (λ i. i < length docs.now) places.now }
+
+    ensures added { IfOk result (λ kept. (rows : List Post) → AreRowsOf head.now (seen_columns columns.now) docs.now rows → (d : Post) → into.new.items ≡ into.old.items ++ map (λ i. slice_index_or rows i d) places.now) }
+    ensures kept { IfOk result (λ kept. kept ≡ true → All (IsOfBlock head.now) into.old.items → All (IsOfBlock head.now) into.new.items) }
+{
+    into.reserve(places.len())?;
+    let mut kept = true;
+    for place in places {
+        let row = row_of(columns, head.lo, docs[*place], *place);
+        kept &= is_in_words(head, row) & is_scored(head.facet, row);
+        into.push_reserved(row);
+    }
+    Ok(kept)
+}

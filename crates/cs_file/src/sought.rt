@@ -1,0 +1,168 @@
+//! Reading those posts of a block that are sought: of some words, in listed documents.
+ghost use Rattle.std.specs.Prelude.{◌≡◌, ◌<◌, ◌≤◌, ◌^◌, ◌++◌, false, true, filter, length, Err, IfOk, IfErr, OnOk};
+ghost use Rattle.std.specs.List.{All};
+ghost use Rattle.std.specs.Option.{ForSome};
+ghost use Rattle.cs_base.specs.outside.Causes.{ReadsWithin};
+ghost use Rattle.cs_block.specs.Sought.{HasSought, is_sought};
+ghost use Rattle.cs_model.specs.Scores.{SCORES};
+ghost use Rattle.cs_model_index.specs.BlockRules.{judged};
+ghost use Rattle.cs_model_index.specs.Blocks.{IsShaped};
+ghost use Rattle.cs_file.specs.CallAnswers.{IsChangeOfBlock, IsRanged, is_read_of_fetch, is_changed_of_fetch};
+ghost use Rattle.cs_file.specs.Fetching.{DecodesAt};
+ghost use Rattle.cs_file.specs.Indexes.{StandsFor, HasAllBlocks, CausedReads, block_posts};
+
+use crate::fault::FetchFault;
+use crate::fetching::{Placed, decode_at};
+use crate::index::Index;
+use cs_base::{Memory, Post, Store};
+use cs_block::{is_sought, read_sought};
+use cs_cols::Cols;
+use std::alloc::Global;
+
+/// The posts of a block that are sought, in memory that is used again for the next block.
+#[derive(Drop)]
+pub struct Sought {
+    /// The posts.
+    pub posts: Vec<Post>,
+    /// The documents of all posts of the block.
+    pub(crate) docs: Vec<u32>,
+    /// The block's bytes.
+    pub(crate) bytes: Vec<u8>,
+}
+
+impl Sought {
+    /// Nothing yet. It takes no memory, and keeps the allocator for later calls.
+    pub fn new(alloc: Global) -> Sought {
+        Sought {
+            posts: Vec::new(alloc),
+            docs: Vec::new(alloc),
+            bytes: Vec::new(alloc),
+        }
+    }
+}
+
+impl Index {
+    /// Reads the posts of block `k` in listed documents whose word's number is `words.0` or more and below `words.1`, in place of those
+    /// that `into` holds, from the store from which the index was opened. That they are in order isn't looked at, and of other posts
+    /// no position and no score. Where it fails `into` holds anything.
+    pub fn fetch_sought<S: Store>(
+        &self,
+        alloc: Global,
+        store: &mut S,
+        k: u32,
+        words: (u32, u32),
+        listed: &[bool],
+        into: &mut Sought,
+    ) -> Result<(), FetchFault>
+        requires in_range { k < length self.now.heads }
+        requires words { words.1 ≤ length self.now.words }
+        requires listed { length listed.now ≡ self.now.docs }
+        requires fits { HasAllBlocks (S.bytes store.old) self.now }
+
+        // over every store they are in range and sought, and over one that tells they are all that are read there
+        ensures ranged { OnOk result (All (IsRanged self.now) into.new.posts.items) }
+        ensures sought { OnOk result (All (λ p. is_sought words.0 words.1 listed.now p ≡ true) into.new.posts.items) }
+        ensures stood { ForSome (S.bytes store.old) (λ b. StandsFor b self.now → OnOk result (into.new.posts.items ≡ filter (is_sought words.0 words.1 listed.now) (block_posts b k))) }
+        ensures changed { IfErr result (IsChangeOfBlock self.now (S.bytes store.old) k) }
+        ensures unchanged { ForSome (S.bytes store.old) (λ b. StandsFor b self.now → is_changed_of_fetch result ≡ false) }
+        ensures bytes { S.bytes store.new ≡ S.bytes store.old }
+        ensures lent { S.lent store.new ≡ S.lent store.old }
+        ensures reads { ReadsWithin 1 (S.reads store.old) (S.reads store.new) }
+        ensures caused { CausedReads (is_read_of_fetch result) (S.faults store.old) (S.faults store.new) }
+    {
+        let placed = self.read_block(store, k, &mut into.bytes)?;
+        sought_at(alloc, &placed, words, listed, into)
+    }
+}
+
+// Puts the posts of a block that are sought, whose bytes were read, into a list. Where a test fails the block is decoded, which says
+// what is broken.
+fn sought_at(
+    alloc: Global,
+    placed: &Placed,
+    words: (u32, u32),
+    listed: &[bool],
+    into: &mut Sought,
+) -> Result<(), FetchFault>
+    requires shaped { IsShaped placed.now.head (length into.old.bytes.items) }
+    requires places { placed.now.at < 2 ^ 63 }
+    requires few { placed.now.docs < 2 ^ 32 }
+    requires listed { length listed.now ≡ placed.now.docs }
+
+    ensures ok { OnOk result (HasSought placed.now.head into.old.bytes.items words.0 words.1 listed.now into.new.posts.items) }
+    ensures exact { IfErr result (λ fault. DecodesAt placed.now.at (judged SCORES placed.now.head placed.now.docs into.old.bytes.items) (Err fault)) }
+    ensures unread { is_read_of_fetch result ≡ false }
+{
+    if seek_posts(placed, words, listed, into)? {
+        return Ok(());
+    }
+    decode_sought(alloc, placed, words, listed, into)
+}
+
+// The same, but false where a test fails.
+fn seek_posts(
+    placed: &Placed,
+    words: (u32, u32),
+    listed: &[bool],
+    into: &mut Sought,
+) -> Result<bool, Memory>
+    requires shaped { IsShaped placed.now.head (length into.old.bytes.items) }
+    requires few { length listed.now < 2 ^ 32 }
+
+    ensures ok { IfOk result (λ whole. whole ≡ true → HasSought placed.now.head into.old.bytes.items words.0 words.1 listed.now into.new.posts.items) }
+    ensures bytes { into.new.bytes ≡ into.old.bytes }
+{
+    let whole = read_sought(
+        &into.bytes,
+        &placed.head,
+        words,
+        listed,
+        &mut into.docs,
+        &mut into.posts,
+    )?;
+    Ok(whole)
+}
+
+// The same by decoding the block.
+fn decode_sought(
+    alloc: Global,
+    placed: &Placed,
+    words: (u32, u32),
+    listed: &[bool],
+    into: &mut Sought,
+) -> Result<(), FetchFault>
+    requires shaped { IsShaped placed.now.head (length into.old.bytes.items) }
+    requires places { placed.now.at < 2 ^ 63 }
+    requires few { placed.now.docs < 2 ^ 32 }
+    requires listed { length listed.now ≡ placed.now.docs }
+
+    ensures ok { OnOk result (HasSought placed.now.head into.old.bytes.items words.0 words.1 listed.now into.new.posts.items) }
+    ensures exact { DecodesAt placed.now.at (judged SCORES placed.now.head placed.now.docs into.old.bytes.items) result }
+    ensures unread { is_read_of_fetch result ≡ false }
+{
+    let mut rows = Cols::new(alloc);
+    decode_at(&into.bytes, placed, &mut rows)?;
+    into.posts.truncate(0);
+    seek_rows(&rows, words, listed, &mut into.posts)?;
+    Ok(())
+}
+
+// Adds the posts that are sought of some.
+fn seek_rows(
+    rows: &Cols,
+    words: (u32, u32),
+    listed: &[bool],
+    posts: &mut Vec<Post>,
+) -> Result<(), Memory>
+    requires { All (λ p. p.doc < length listed.now) rows.now.posts }
+
+    ensures { OnOk result (posts.new.items ≡ posts.old.items ++ filter (is_sought words.0 words.1 listed.now) rows.now.posts) }
+{
+    for i in 0..rows.len() {
+        let post = rows.get(i);
+        if is_sought(post.doc, post.word, words.0, words.1, listed) {
+            posts.push(post)?;
+        }
+    }
+    Ok(())
+}
