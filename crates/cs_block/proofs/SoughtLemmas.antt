@@ -4,20 +4,22 @@
 --   no_places, finds_on, known_on     places of rows, and of one row more
 --   added_on         the row at one place more is added
 --   rows_added       the rows at the places of some rows, and those behind
+--   docs_there       documents that are there, where the call doesn't answer none
+--   refilled         a vector whose slice was lent whole holds what was written there
 --   docs_below       documents that are there are below the collection's
 --   sought_all       the rows of a block that is whole that are in listed documents are those that are sought, where all are of the block
 use Rattle.std.proofs.Common.{◌≡◌, ℕ, zero, suc, ◌+◌, ◌-◌, ◌*◌, ◌<◌, ◌≤◌, ◌&&◌, Bool, true, false, cond, List, [], ◌∷◌, ◌++◌, length, get_or, set, map, take, drop, Option, Some, None, refl, sym, ap, ap₂, subst, ◌∙◌, append_assoc, arith, inl, inr, if◌then◌else◌}
-use Rattle.std.specs.Prelude.{All, filter, nat_le, nat_lt}
+use Rattle.std.specs.Prelude.{All, IfSome, filter, is_some, nat_le, nat_lt}
 use Rattle.std.specs.Int.{from_bool}
 use Rattle.std.proofs.lemmas.Bool.{and_from, cases_eq, le-leb, lt-ltb}
-use Rattle.std.proofs.lemmas.List.{append-nil, drop_more, get_or-append_right, get_or_append_left, get_or_default, length-append, map-append, take-set, take_more, take_more_set}
+use Rattle.std.proofs.lemmas.List.{append-nil, drop_all, drop_more, get_or-append_right, get_or_append_left, get_or_default, length-append, map-append, take-set, take_all, take_more, take_more_set}
 use Rattle.std.proofs.lemmas.List.Elements.{All-append, All-from_recursion, All-head, All-nil, All-tail, All-weaker}
 use Rattle.cs_base.specs.declared.index.block.BlockHead.{BlockHead}
 use Rattle.cs_base.specs.declared.content.doc.Post.{Post}
 use Rattle.cs_model_index.specs.BlockRules.{BlockColumns, Item, block_columns, block_items, doc_before, item_row, row_at, rows_read}
 use Rattle.cs_block.specs.Pass.{items_from}
 use Rattle.cs_block.specs.RowRuns.{HasDocs, HaveDocs, doc_after, place_after}
-use Rattle.cs_block.specs.Sought.{ArePlacedAt, AreRowsOf, IsOfBlock, is_sought, passes, row_with}
+use Rattle.cs_block.specs.Sought.{ArePlacesOf, AreRowsOf, IsOfBlock, is_sought, passes, row_with}
 use Rattle.cs_block.proofs.ItemsLemmas.{items_end, items_on, items_start, rows_cut}
 use Rattle.cs_block.proofs.RunsLemmas.{doc_on}
 
@@ -95,18 +97,18 @@ at_most_one false = omega arith
 none_more : (n : ℕ) → n + 0 ≡ n
 none_more n = omega arith
 
-pub no_places : (t : Post → Bool) (rows : List Post) (d : Post) (from : ℕ) (places : List ℕ) → ArePlacedAt rows d from from t (take 0 places)
+pub no_places : (t : Post → Bool) (rows : List Post) (d : Post) (from : ℕ) (places : List ℕ) → ArePlacesOf rows d from from t (take 0 places)
 no_places t rows d from places = record { known = All-nil (λ i. i < length rows); are = refl }
 
 -- of one row more the place is put behind those that were found, and counts where the row passes too
 pub finds_on : (t : Post → Bool) (rows : List Post) (d : Post) (from i : ℕ) (places : List ℕ) (n m : ℕ) → i < length rows → n < length places → m ≡ n + (if t (get_or rows i d) then 1 else 0)
-    → ArePlacedAt rows d from i t (take n places) → ArePlacedAt rows d from (i + 1) t (take m (set places n i))
+    → ArePlacesOf rows d from i t (take n places) → ArePlacesOf rows d from (i + 1) t (take m (set places n i))
 finds_on t rows d from i places n m lt room count h =
     let p = get_or rows i d in
     let at : ℕ → Post = λ i. get_or rows i d in
     let rest = drop (i + 1) rows in
     let split : drop i rows ≡ p ∷ rest = drop_more rows i d lt in
-    elim (t p) as (λ b. t p ≡ b → m ≡ n + cond b 1 0 → ArePlacedAt rows d from (i + 1) t (take m (set places n i))) [
+    elim (t p) as (λ b. t p ≡ b → m ≡ n + cond b 1 0 → ArePlacesOf rows d from (i + 1) t (take m (set places n i))) [
       | true ↦ λ e many.
           let longer : take m (set places n i) ≡ take n places ++ i ∷ [] = ap (λ x. take x (set places n i)) many ∙ take_more_set places n i room in
           record {
@@ -176,3 +178,13 @@ sought_all head c ds true lo hi listed rows posts are inside is own =
     let upto = within.1 in
     is ∙ same_filter lo hi listed rows (All-weaker (λ p. head.lo ≤ p.word) (λ p. lo ≤ p.word) (λ p h. omega (arith, h, from)) rows (words_from head c ds rows are))
     (subst (All (λ p. p.word < hi)) is (All-weaker (IsOfBlock head) (λ p. p.word < hi) (λ p h. let below = h.word in omega (arith, below, upto)) posts own))
+
+-- ---- the documents of all rows
+pub refilled : (n : ℕ) (out items : List ℕ) → length items ≡ n → length out ≡ n → take n (out ++ drop (length out) items) ≡ out
+refilled n out items long same =
+    let none = drop_all (length out) items (omega (arith, long, same)) in
+    ap (λ (xs : List ℕ). take n (out ++ xs)) none ∙ ap (take n) (append-nil out) ∙ take_all n out (omega (arith, same))
+
+pub docs_there : (r : Option ℕ) (P : ℕ → Type 0) → is_some r ≡ true → IfSome r P → (next : ℕ) × P next
+docs_there (Some next) P e h = (next, h)
+docs_there None P e h = absurd (cc)

@@ -3,7 +3,7 @@
 --   is_sought lo hi listed p      the word of a row is one of these, and its document is listed
 --   row_with head c ds i          row i of columns, where ds are the documents
 --   AreRowsOf head c ds rows      the rows of columns
---   ArePlacedAt rows d from to t places    the places of the rows from number from up to `to` that pass a test
+--   ArePlacesOf rows d from to t places    the places of the rows from number from up to `to` that pass a test
 --   IsOfBlock head p      a row of the block's words and of its kind
 --   passes whole lo hi listed p      a row is sought, where the words of a block that is whole are taken for these
 --   HasSought head bytes lo hi listed rows      they are those of all rows that are sought, each of the block's kind
@@ -28,7 +28,7 @@ pub record AreRowsOf (head : BlockHead) (c : BlockColumns) (ds : List ℕ) (rows
   pub each : (i : ℕ) (d : Post) → i < length ds → slice_index_or rows i d ≡ row_with head c ds i
 
 -- none where from is to; d stands where a place has no row, which none of these is
-pub record ArePlacedAt (rows : List Post) (d : Post) (from to : ℕ) (t : Post → Bool) (places : List ℕ) : Type 0 where
+pub record ArePlacesOf (rows : List Post) (d : Post) (from to : ℕ) (t : Post → Bool) (places : List ℕ) : Type 0 where
   pub known : All (λ i. i < length rows) places
   pub are : map (λ i. slice_index_or rows i d) places ++ filter t (drop to rows) ≡ filter t (drop from rows)
 

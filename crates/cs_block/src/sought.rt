@@ -9,7 +9,7 @@ ghost use Rattle.cs_model_index.specs.Blocks.{IsShaped};
 ghost use Rattle.cs_model_index.specs.BlockRules.{BlockColumns};
 ghost use Rattle.cs_block.specs.BlockReading.{HasColumns};
 ghost use Rattle.cs_block.specs.ColumnsView.{seen_columns};
-ghost use Rattle.cs_block.specs.Sought.{ArePlacedAt, AreRowsOf, HasSought, IsOfBlock, is_sought, passes};
+ghost use Rattle.cs_block.specs.Sought.{ArePlacesOf, AreRowsOf, HasSought, IsOfBlock, is_sought, passes};
 
 use crate::columns::{Columns, cut, half_at, row_of};
 use crate::rules::{is_in_words, is_scored};
@@ -124,7 +124,7 @@ fn find_rows(
     requires within { span.1 ≤ length docs.now }
     requires room { span.1 ≤ span.0 + length places.old }
 
-    ensures found { (rows : List Post) → AreRowsOf head.now (seen_columns columns.now) docs.now rows → (d : Post) → ArePlacedAt rows d span.0 span.1 (passes whole words.0 words.1 listed.now) (take result places.new) }
+    ensures found { (rows : List Post) → AreRowsOf head.now (seen_columns columns.now) docs.now rows → (d : Post) → ArePlacesOf rows d span.0 span.1 (passes whole words.0 words.1 listed.now) (take result places.new) }
     ensures known { All (λ i. i < length docs.now) (take result places.new) }
     ensures few { result ≤ length places.new }
     ensures len { length places.new ≡ length places.old }
@@ -142,7 +142,7 @@ fn find_listed(docs: &[u32], from: usize, to: usize, listed: &[bool], places: &m
     requires within { to ≤ length docs.now }
     requires room { to ≤ from + length places.old }
 
-    ensures found { (head : BlockHead) (columns : BlockColumns) (rows : List Post) → AreRowsOf head columns docs.now rows → (d : Post) → ArePlacedAt rows d from to (λ p. slice_index_or listed.now p.doc false) (take result places.new) }
+    ensures found { (head : BlockHead) (columns : BlockColumns) (rows : List Post) → AreRowsOf head columns docs.now rows → (d : Post) → ArePlacesOf rows d from to (λ p. slice_index_or listed.now p.doc false) (take result places.new) }
     ensures known { All (λ i. i < length docs.now) (take result places.new) }
     ensures few { result ≤ length places.new }
     ensures len { length places.new ≡ length places.old }
@@ -173,7 +173,7 @@ fn find_sought(
     requires within { span.1 ≤ length docs.now }
     requires room { span.1 ≤ span.0 + length places.old }
 
-    ensures found { (rows : List Post) → AreRowsOf head.now (seen_columns columns.now) docs.now rows → (d : Post) → ArePlacedAt rows d span.0 span.1 (is_sought words.0 words.1 listed.now) (take result places.new) }
+    ensures found { (rows : List Post) → AreRowsOf head.now (seen_columns columns.now) docs.now rows → (d : Post) → ArePlacesOf rows d span.0 span.1 (is_sought words.0 words.1 listed.now) (take result places.new) }
     ensures known { All (λ i. i < length docs.now) (take result places.new) }
     ensures few { result ≤ length places.new }
     ensures len { length places.new ≡ length places.old }

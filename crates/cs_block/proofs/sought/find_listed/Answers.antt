@@ -1,7 +1,7 @@
 use Rattle.std.proofs.Common.{◌≡◌, ◌+◌, ◌<◌, Bool, false, ap, ◌∙◌, sym, subst, arith, length, length-set, take, get_or}
 use Rattle.std.specs.Prelude.{if◌then◌else◌}
 use Rattle.cs_base.specs.declared.content.doc.Post.{Post}
-use Rattle.cs_block.specs.Sought.{ArePlacedAt}
+use Rattle.cs_block.specs.Sought.{ArePlacesOf}
 use Rattle.cs_block.proofs.SoughtLemmas.{at_most_one, counts_one, finds_on, known_on}
 use Rattle.cs_block.proofs.sought.find_listed.Goals as goal
 
@@ -32,4 +32,4 @@ pub returns-clause-found : goal.returns-clause-found
 returns-clause-found c = λ head columns rows are d.
     let up = c.requires.onward in
     let done : c.loop-i.i ≡ c.args.to = omega (arith, c.loop-i-test.false, c.loop-i.auto.i-end, up) in
-    subst (λ i. ArePlacedAt rows d c.args.from i (λ (p : Post). get_or c.args.listed.now p.doc false) (take c.loop-i.found c.loop-i.places)) done (c.loop-i.invariant.found head columns rows are d)
+    subst (λ i. ArePlacesOf rows d c.args.from i (λ (p : Post). get_or c.args.listed.now p.doc false) (take c.loop-i.found c.loop-i.places)) done (c.loop-i.invariant.found head columns rows are d)

@@ -7,8 +7,7 @@ use Rattle.cs_model_index.specs.BlockRules.{is_scored, rows_read}
 use Rattle.cs_block.specs.ColumnsView.{seen_columns}
 use Rattle.cs_block.specs.RowRuns.{HasDocs}
 use Rattle.cs_block.specs.Sought.{AreRowsOf, IsOfBlock, passes}
-use Rattle.cs_block.proofs.DocWordsLemmas.{docs_there, refilled}
-use Rattle.cs_block.proofs.SoughtLemmas.{rows_listed, sought_all}
+use Rattle.cs_block.proofs.SoughtLemmas.{docs_there, refilled, rows_listed, sought_all}
 use Rattle.cs_block.proofs.sought.read_sought.Goals as goal
 
 pub returns : goal.returns

@@ -11,7 +11,7 @@ pub sought_at-requires-clause-few : goal.sought_at-requires-clause-few
 sought_at-requires-clause-few g c = few_docs c.args.self.now _ c.args.k c.in_ok-placed.placed _ c.in_ok-placed.ensures.ok
 
 pub sought_at-requires-clause-places : goal.sought_at-requires-clause-places
-sought_at-requires-clause-places g c = c.in_ok-placed.ensures.ok.small
+sought_at-requires-clause-places g c = c.in_ok-placed.ensures.ok.stands.small
 
 pub returns-clause-sought : goal.returns-clause-sought
 returns-clause-sought g c =
