@@ -6,7 +6,7 @@
 --   hits_are                     are the documents of the rows with their scores
 --   small_score, best_small      which are small
 --   map_same                     functions that agree
---   alike_scores                 which depend on the rows' members alone
+--   alike_best, alike_scores     which depend on the rows' members alone
 --   hits_fit                     they are in range
 --   written_back                 a table that was lent
 use Rattle.std.proofs.Common.{◌≡◌, ℕ, zero, suc, ◌+◌, ◌-◌, ◌≤◌, ◌<◌, ◌==◌, ◌&&◌, ◌||◌, Bool, true, false, List, [], ◌∷◌, ◌++◌, map, take, drop, length, get_or, cond, refl, sym, ◌∙◌, ap, subst, arith, append-nil, length-set}
@@ -35,7 +35,6 @@ use Rattle.cs_meet.proofs.Passes.{next_is}
 use Rattle.cs_engine.specs.Loose.{best_of, HasBestScores, hits_in}
 use Rattle.cs_engine.specs.Packing.{post_of_key}
 use Rattle.cs_engine.specs.Steps.{IsBaseOf, IsHitOf}
-use Rattle.cs_engine.specs.Stocked.{is_between}
 use Rattle.cs_engine.proofs.AlikeLemmas.{any_filter}
 use Rattle.cs_engine.proofs.FoundLemmas.{greatest_small}
 use Rattle.cs_engine.proofs.KeysLemmas.{one_more}
@@ -118,11 +117,11 @@ raised_where t seen rows best i p v lt at in_best is has =
           | false ↦ λ is. get_or-set_other best d e v 0 (λ f. other_number d e is (sym f)) ∙ has e (omega (arith, m, long))
         ] refl
 
--- the step of the loop over columns
-pub raised_row : (lo hi : ℕ) (seen rows : List Post) (docs words scores best : List ℕ) (i v : ℕ) → AreScoredOf rows docs words scores → i < length docs → slice_index docs i < length best
-    → v ≡ max (slice_index best (slice_index docs i)) (cond (nat_le lo (slice_index words i) && nat_lt (slice_index words i) hi) (slice_index scores i + 1) 0)
-    → HasBestScores (seen ++ filter (is_between lo hi) (take i rows)) best → HasBestScores (seen ++ filter (is_between lo hi) (take (i + 1) rows)) (slice_set best (slice_index docs i) v)
-raised_row lo hi seen rows docs words scores best i v are lt below is has =
+-- the step of the loop over columns, where a test looks at document and word
+pub raised_row : (t : ℕ → ℕ → Bool) (seen rows : List Post) (docs words scores best : List ℕ) (i v : ℕ) → AreScoredOf rows docs words scores → i < length docs → slice_index docs i < length best
+    → v ≡ max (slice_index best (slice_index docs i)) (cond (t (slice_index docs i) (slice_index words i)) (slice_index scores i + 1) 0)
+    → HasBestScores (seen ++ filter (λ p. t p.doc p.word) (take i rows)) best → HasBestScores (seen ++ filter (λ p. t p.doc p.word) (take (i + 1) rows)) (slice_set best (slice_index docs i) v)
+raised_row t seen rows docs words scores best i v are lt below is has =
     let none : Post = record { doc = 0; word = 0; pos = 0; score = 0 } in
     let p = get_or rows i none in
     let long : length docs ≡ length rows = ap length are.0.0 ∙ length-map rows (λ (p : Post). p.doc) in
@@ -130,16 +129,16 @@ raised_row lo hi seen rows docs words scores best i v are lt below is has =
     let d : slice_index docs i ≡ p.doc = ap (λ l. get_or l i 0) are.0.0 ∙ get_or-map (λ (p : Post). p.doc) rows i none 0 inside in
     let w : slice_index words i ≡ p.word = ap (λ l. get_or l i 0) are.0.1 ∙ get_or-map (λ (p : Post). p.word) rows i none 0 inside in
     let s : slice_index scores i ≡ p.score = ap (λ l. get_or l i 0) are.1 ∙ get_or-map (λ (p : Post). p.score) rows i none 0 inside in
-    let value : v ≡ max (slice_index best p.doc) (cond (is_between lo hi p) (p.score + 1) 0) =
-    is ∙ ap (λ n. max (slice_index best n) (cond (nat_le lo (slice_index words i) && nat_lt (slice_index words i) hi) (slice_index scores i + 1) 0)) d
-    ∙ ap (λ n. max (slice_index best p.doc) (cond (nat_le lo n && nat_lt n hi) (slice_index scores i + 1) 0)) w ∙ ap (λ n. max (slice_index best p.doc) (cond (is_between lo hi p) (n + 1) 0)) s in
-    subst (λ n. HasBestScores (seen ++ filter (is_between lo hi) (take (i + 1) rows)) (slice_set best n v)) (sym d)
-    (raised_where (is_between lo hi) seen rows best i p v inside (get_or_default rows i none p inside) (subst (λ n. n < length best) d below) value has)
+    let value : v ≡ max (slice_index best p.doc) (cond (t p.doc p.word) (p.score + 1) 0) =
+    is ∙ ap (λ n. max (slice_index best n) (cond (t n (slice_index words i)) (slice_index scores i + 1) 0)) d
+    ∙ ap (λ n. max (slice_index best p.doc) (cond (t p.doc n) (slice_index scores i + 1) 0)) w ∙ ap (λ n. max (slice_index best p.doc) (cond (t p.doc p.word) (n + 1) 0)) s in
+    subst (λ n. HasBestScores (seen ++ filter (λ p. t p.doc p.word) (take (i + 1) rows)) (slice_set best n v)) (sym d)
+    (raised_where (λ p. t p.doc p.word) seen rows best i p v inside (get_or_default rows i none p inside) (subst (λ n. n < length best) d below) value has)
 
-pub raised_rows : (lo hi : ℕ) (seen rows : List Post) (docs words scores best : List ℕ) (i : ℕ) → AreScoredOf rows docs words scores → length docs ≤ i → HasBestScores (seen ++ filter (is_between lo hi) (take i rows)) best → HasBestScores (seen ++ filter (is_between lo hi) rows) best
-raised_rows lo hi seen rows docs words scores best i are le has =
+pub raised_rows : (t : Post → Bool) (seen rows : List Post) (docs words scores best : List ℕ) (i : ℕ) → AreScoredOf rows docs words scores → length docs ≤ i → HasBestScores (seen ++ filter t (take i rows)) best → HasBestScores (seen ++ filter t rows) best
+raised_rows t seen rows docs words scores best i are le has =
     let long : length docs ≡ length rows = ap length are.0.0 ∙ length-map rows (λ (p : Post). p.doc) in
-    subst (λ rs. HasBestScores (seen ++ filter (is_between lo hi) rs) best) (take_all i rows (omega (arith, le, long))) has
+    subst (λ rs. HasBestScores (seen ++ filter t rs) best) (take_all i rows (omega (arith, le, long))) has
 
 -- a number has little room for a score
 pub small_score : (k : ℕ) → (post_of_key k).score < 8
@@ -321,6 +320,10 @@ score_over : (rows : List Post) (d k : ℕ) → nat_lt k (greatest (map (λ p. p
 score_over rows d k =
     greatest_over k (map (λ (p : Post). p.score) (of_doc d rows)) ∙ any_map (nat_lt k) (λ (p : Post). p.score) (of_doc d rows)
     ∙ any_filter (λ (p : Post). nat_lt k p.score) (λ (p : Post). p.doc == d) rows
+
+-- the table depends on the rows' members alone
+pub alike_best : (xs ys : List Post) (best : List ℕ) → ((t : Post → Bool) → list_any t xs ≡ list_any t ys) → HasBestScores xs best → HasBestScores ys best
+alike_best xs ys best a has d l = has d l ∙ same_tests _ _ (λ k. best_over xs d k ∙ a _ ∙ sym (best_over ys d k))
 
 pub alike_scores : (b : Base) (xs ys : List Post) → ((t : Post → Bool) → list_any t xs ≡ list_any t ys) → scores b xs ≡ scores b ys
 alike_scores b xs ys a =

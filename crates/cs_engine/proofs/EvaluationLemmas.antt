@@ -3,7 +3,8 @@
 --   is_join              the rows of a join
 --   met_linked-is, met_part-is, met_query-is      the blocks of a level by those of what it holds
 --   next_left            what is left, with the next in front
---   entry_begins, entry_goes_on, entry_ends     the entry of the parts so far
+--   entry_begins, entry_by_hits, entry_ends     the entry of the parts so far
+--   hits_go_on, hits_end        their hits
 --   part_begins, part_goes_on, part_ends        the rows of the alternatives so far
 --   chain_goes_on, chain_ends     the rows that the links so far lead to
 --   linked_within        what is linked is in range
@@ -43,7 +44,7 @@ use Rattle.cs_model_kept.specs.Entries.{Entry, EntryOf, base_of, entry, entry_at
 use Rattle.cs_model_kept.specs.Entries as kept
 use Rattle.cs_model_kept.proofs.EntryLemmas.{ends_more, extended_is, hits_are, listed_base, parts_read}
 use Rattle.cs_engine.specs.IndexReading.{AreWithin, HasRows}
-use Rattle.cs_engine.specs.Steps.{IsStep, docs_after, posts_hits}
+use Rattle.cs_engine.specs.Steps.{AreHitsBehind, IsStep, docs_after, posts_hits}
 use Rattle.cs_model_index.specs.Numbered.{rows_at}
 use Rattle.cs_engine.specs.Stocked.{Stock, corpus_in, docs_in, linked_posts, IsKnown, IsPicked, IsStocked}
 use Rattle.cs_engine.proofs.AtomsLemmas.{picked_again}
@@ -120,12 +121,26 @@ module _ (s : Stock) (ps : List Part) where
   pub entry_begins : (e : EntryOf Post) → e ≡ record { base = base.All; rows = [] } → EntrySoFar 0 e
   entry_begins e is = ap (entry_at s.words) is
 
-  pub entry_goes_on : (i : ℕ) (x : Part) → i < length ps → x ≡ get_or ps i x → (positive : Bool) (was now : EntryOf Post) (hits : Base) → positive ≡ positive_by (take i ps) → EntrySoFar i was → hits ≡ posts_hits positive was.base was.rows → IsStep s hits (rows_of_part k x) now → EntrySoFar (i + 1) now
-  entry_goes_on i x l at positive was now hits ends so_far hits_are step =
+  -- the hits of the parts so far
+  abbrev pub HitsSoFar : ℕ → Base → Type 0
+  HitsSoFar i hits = hits ≡ base_of k (map (rows_of_part k) (take i ps))
+
+  pub entry_by_hits : (i : ℕ) (x : Part) → i < length ps → x ≡ get_or ps i x → (hits : Base) (e : EntryOf Post) → HitsSoFar i hits → IsStep s hits (rows_of_part k x) e → EntrySoFar (i + 1) e
+  entry_by_hits i x l at hits e so_far step =
       let done = map (rows_of_part k) (take i ps) in
-      let own : hits ≡ kept.hits_of (kept.ends_positive done) (entry k done) = hits_are ∙ hits_told s.words positive was ∙ ap (λ b. kept.hits_of b (entry_at s.words was)) (ends ∙ ends_read k (take i ps)) ∙ ap (kept.hits_of (kept.ends_positive done)) so_far in
+      let own : hits ≡ kept.hits_of (kept.ends_positive done) (entry k done) = so_far ∙ sym (hits_are k done) in
       step ∙ ap (λ b. kept.entry_after (kept.is_begun b) (kept.listed k b) (rows_of_part k x)) own
       ∙ sym (extended_is k done (rows_of_part k x)) ∙ ap (entry k) (sym (read_more k ps i x l at))
+
+  pub hits_go_on : (i : ℕ) (x : Part) → i < length ps → x ≡ get_or ps i x → (was now : Base) → HitsSoFar i was → AreHitsBehind s was (rows_of_part k x) now → HitsSoFar (i + 1) now
+  hits_go_on i x l at was now so_far behind =
+      let done = map (rows_of_part k) (take i ps) in
+      let p = rows_of_part k x in
+      let all = map (rows_of_part k) (take (i + 1) ps) in
+      behind.are ∙ hits_by s all (not p.excluded) behind.e (sym (ends_more done p) ∙ ap kept.ends_positive (sym (read_more k ps i x l at))) (entry_by_hits i x l at was behind.e so_far behind.step)
+
+  pub hits_end : (q : Query) (i : ℕ) (hits : Base) → ps ≡ (out-Query q).parts → length ps ≤ i → HitsSoFar i hits → hits ≡ base_of k (parts_of k q)
+  hits_end q i hits are l so_far = so_far ∙ ap (λ xs. base_of k (map (rows_of_part k) xs)) (take_all i ps l ∙ are) ∙ ap (base_of k) (sym (parts_read k q))
 
   pub entry_ends : (q : Query) (i : ℕ) (e : EntryOf Post) → ps ≡ (out-Query q).parts → length ps ≤ i → EntrySoFar i e → entry_at s.words e ≡ entry_of k q
   unfolding entry_of

@@ -1,6 +1,7 @@
 pub mod AlikeLemmas
 pub mod AnsweringLemmas
 pub mod AtomsLemmas
+pub mod BehindLemmas
 pub mod BestLemmas
 pub mod BlockwiseLemmas
 pub mod ColonLemmas
@@ -26,3 +27,4 @@ pub mod TableLemmas
 pub mod UnionLemmas
 pub mod VocabLemmas
 pub mod AskedWords
+pub mod WalkLemmas

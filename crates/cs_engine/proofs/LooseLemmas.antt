@@ -2,9 +2,10 @@
 --
 --   chosen_entry, entry_fits     the entry of the rows in order
 --   large_entry, is_large        where it is larger than may be kept
---   chosen_table, loose_table    the table of rows, in order and in any order, is that of the query
-use Rattle.std.proofs.Common.{◌≡◌, ℕ, ◌+◌, ◌-◌, ◌<◌, Bool, true, List, length, take, refl, sym, ap, subst, ◌∙◌, arith, if◌then◌else◌}
+--   chosen_table, loose_table, found_table    the table of rows, in order, in any order and by blocks, is that of the query
+use Rattle.std.proofs.Common.{◌≡◌, ℕ, ◌+◌, ◌-◌, ◌<◌, Bool, true, false, List, length, take, refl, sym, ap, subst, ◌∙◌, arith, if◌then◌else◌}
 use Rattle.std.specs.Prelude.{All, filter, nat_lt}
+use Rattle.std.specs.List.{list_any}
 use Rattle.std.proofs.lemmas.Bool.Decides.{nat_tests}
 use Rattle.cs_base.specs.declared.content.doc.Base.{Base}
 use Rattle.cs_base.specs.declared.content.doc.Base.TheVariants as base
@@ -20,12 +21,14 @@ use Rattle.cs_model_kept.specs.declared.limits.TheConstants.{MAX_ENTRY_SIZE}
 use Rattle.cs_rank.specs.DocScores.{scores}
 use Rattle.cs_tables.specs.TableListings.{post_table}
 use Rattle.cs_tables.specs.declared.tables.Table.{Table}
+use Rattle.cs_meet.specs.Filters.{is_of_doc}
+use Rattle.cs_engine.specs.Blockwise.{HasFound}
 use Rattle.cs_engine.specs.Counting.{AreListed, in_listed}
 use Rattle.cs_engine.specs.Keeping.{FitsQuery, IsEntryOver, entry_with}
 use Rattle.cs_engine.specs.Loose.{AreAlike, AreLastWords, IsEntryByWords, IsTableFor}
 use Rattle.cs_engine.specs.IndexReading.{AreWithin, stock_of}
-use Rattle.cs_engine.specs.Steps.{EntryFits, last_is_positive}
-use Rattle.cs_engine.specs.Stocked.{is_between}
+use Rattle.cs_engine.specs.Steps.{EntryFits, last_is_positive, posts_after}
+use Rattle.cs_engine.specs.Stocked.{docs_in, is_between}
 use Rattle.cs_engine.proofs.AlikeLemmas.{table_alike}
 use Rattle.cs_engine.proofs.BestLemmas.{alike_scores}
 use Rattle.cs_engine.proofs.CountingLemmas.{stock_within}
@@ -74,3 +77,16 @@ module _ (i : IndexView) (q : Query) (hits : Base) (lo hi : ℕ) (asks : AreLast
       pub loose_table : (cut : ℕ) (found : List Scored) (t : Table) → found ≡ scores hits rows → t.first ≡ take cut (post_table rows) → t.total ≡ length (post_table rows) → IsTableFor i b q cut (base.Listed found) t
       loose_table cut found t are first total =
           chosen_table chosen refl cut found t (are ∙ alike_scores hits rows chosen a.alike) (first ∙ ap (take cut) (table_alike rows chosen a.alike)) (total ∙ ap length (table_alike rows chosen a.alike))
+
+-- what is found by blocks
+pub found_table : (i : IndexView) (q : Query) (hits : Base) (lo hi : ℕ) → AreLastWords i q hits lo hi → (b : List ℕ) → StandsFor b i → IsIndex i → IsEntryByWords b i q hits lo hi → (cut : ℕ) (found : List Scored) (t : Table)
+    → HasFound hits (posts_after i.docs hits false (filter (is_between lo hi) (stock_of b).posts)).rows cut found t → IsTableFor i b q cut (base.Listed found) t
+found_table i q hits lo hi asks b stands is by cut found t f =
+    let posts = filter (is_between lo hi) (stock_of b).posts in
+    record {
+      posts = (posts_after i.docs hits false posts).rows;
+      found = found_by_entry i q (posts_after i.docs hits false posts) true (sym asks.positive) (base.Listed found) (ap base.Listed f.hits_are) b stands is by;
+      within = kept_within i (λ r. list_any (is_of_doc r) (docs_in i.docs hits)) posts (kept_within i (is_between lo hi) (stock_of b).posts (stock_within b i stands is));
+      first = f.first;
+      total = f.total;
+    }

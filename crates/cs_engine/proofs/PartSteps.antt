@@ -1,6 +1,6 @@
 -- One part more: the hits of an entry, and the entry behind a part.
 --
---   base_in, scores_in     a base in range is one for scores, and so are scores over it
+--   base_in, base_small, scores_in     a base in range is one for scores, each of which is small, and so are scores over it
 --   hits_in                the hits of an entry in range
 --   hits_told              the hits of posts are those of the rows that they stand for
 --   listed_told            the hits of a base, as a list
@@ -62,7 +62,7 @@ pub listed_in : (docs bound : ℕ) (b : Base) → IsBaseOf docs bound b → AreB
 listed_in docs bound base.All h = (every_rises docs, every_in docs bound)
 listed_in docs bound (base.Listed hs) h = h
 
-base_small : (docs bound d : ℕ) (b : Base) → IsBaseOf docs bound b → base_score b d ≤ bound
+pub base_small : (docs bound d : ℕ) (b : Base) → IsBaseOf docs bound b → base_score b d ≤ bound
 base_small docs bound d base.All h = omega arith
 base_small docs bound d (base.Listed hs) h = found_small bound d hs (recursion_from_All (λ h. h.score ≤ bound) hs (All-weaker (IsHitOf docs bound) (λ h. h.score ≤ bound) (λ x at. at.score) hs h.1))
 

@@ -29,7 +29,7 @@ use Rattle.cs_model.specs.Keys.{keys_of, last_of}
 use Rattle.cs_model.specs.Refusals.{IsOfGrammar}
 use Rattle.cs_model_index.specs.Numbered.{word_at}
 use Rattle.cs_model_kept.specs.Due.{Division, met_of_last, met_of_part}
-use Rattle.cs_model_kept.specs.Entries.{Entry, EntryOf, entry, entry_at, entry_of}
+use Rattle.cs_model_kept.specs.Entries.{Entry, EntryOf, base_of}
 use Rattle.cs_model_kept.specs.Entries as kept
 use Rattle.cs_model_kept.specs.KeptList.{KeptOf, plan_by, used_entry}
 use Rattle.cs_model_kept.specs.KeptListLaws.{before_last}
@@ -41,9 +41,9 @@ use Rattle.cs_engine.specs.Keeping.{FitsQuery, IsEntryOver, entry_with}
 use Rattle.cs_engine.specs.Loose.{IsEntryByWords}
 use Rattle.cs_engine.specs.Plain.{AreWordsOf}
 use Rattle.cs_engine.specs.IndexReading.{AreWithin, IsWithin, stock_of}
-use Rattle.cs_engine.specs.Steps.{AreFound, EntryFits, IsBaseOf, IsStep, end_positive, last_is_positive, posts_after, posts_hits}
+use Rattle.cs_engine.specs.Steps.{AreFound, AreHitsOver, EntryFits, IsBaseOf, IsStep, end_positive, last_is_positive, posts_after, posts_hits}
 use Rattle.cs_engine.specs.Stocked.{corpus_in, is_between}
-use Rattle.cs_engine.proofs.EvaluationLemmas.{EntrySoFar, ends_read, entry_begins, entry_ends, entry_goes_on, entry_unrolled, hits_by, positive_more}
+use Rattle.cs_engine.proofs.EvaluationLemmas.{ends_read, entry_begins, entry_by_hits, entry_ends, entry_unrolled, hits_by, positive_more}
 use Rattle.cs_engine.proofs.FoundLemmas.{is_excluded}
 use Rattle.cs_engine.proofs.KeepingLemmas.{from_stock, in_stock}
 use Rattle.cs_engine.proofs.PartSteps.{base_weaker, hits_in, nothing_fits, step_told}
@@ -118,27 +118,22 @@ module _ (q : Query) where
   pub first_parts : (firsts : List Part) → firsts ≡ take (length ps - 1) ps → firsts ≡ (out-Query (before_last q)).parts
   first_parts firsts are = are ∙ sym first_are
 
-  module _ (b : List ℕ) (i : IndexView) (stands : StandsFor b i) (is : IsIndex i) (was now : EntryOf Post) where
-    so_far : IsEntryOver b i (before_last q) was → EntrySoFar (stock_of b) ps (length ps - 1) was
-    so_far own =
-        let k = corpus_in (stock_of b) in
-        in_stock b i stands is (before_last q) was own ∙ entry_unrolled k (before_last q) ∙ ap (entry k) (parts_read k (before_last q))
-        ∙ ap (λ xs. entry k (map (rows_of_part k) xs)) first_are
-
-    pub more_told : (n : ℕ) (x : Part) (positive : Bool) (hits : Base) → length ps ≡ n + 1 → x ≡ get_or ps n x → positive ≡ end_positive (take n ps) → hits ≡ posts_hits positive was.base was.rows → IsEntryOver b i (before_last q) was
-        → IsStep (stock_of b) hits (rows_of_part (corpus_in (stock_of b)) x) now → IsEntryOver b i q now
-    more_told n x positive hits many at ends hits_are own step =
-        let here : length ps - 1 ≡ n = omega (arith, many) in
-        from_stock b i stands is q now (entry_ends (stock_of b) ps q (n + 1) now refl (omega (arith, many))
-        (entry_goes_on (stock_of b) ps n x (omega (arith, many)) at positive was now hits ends (subst (λ m. EntrySoFar (stock_of b) ps m was) here (so_far own)) hits_are step))
+  -- the entry of one part more
+  pub more_told : (b : List ℕ) (i : IndexView) → StandsFor b i → IsIndex i → (n : ℕ) (x : Part) (hits : Base) (now : EntryOf Post) → length ps ≡ n + 1 → x ≡ get_or ps n x → AreHitsOver b (before_last q) hits
+      → IsStep (stock_of b) hits (rows_of_part (corpus_in (stock_of b)) x) now → IsEntryOver b i q now
+  more_told b i stands is n x hits now many at over step =
+      let k = corpus_in (stock_of b) in
+      let here : length ps - 1 ≡ n = omega (arith, many) in
+      let so_far : hits ≡ base_of k (map (rows_of_part k) (take n ps)) = over ∙ ap (base_of k) (parts_read k (before_last q)) ∙ ap (λ xs. base_of k (map (rows_of_part k) xs)) first_are ∙ ap (λ m. base_of k (map (rows_of_part k) (take m ps))) here in
+      from_stock b i stands is q now (entry_ends (stock_of b) ps q (n + 1) now refl (omega (arith, many)) (entry_by_hits (stock_of b) ps n x (omega (arith, many)) at hits now so_far step))
 
 -- the entry by the words that the last part asks for
-pub more_by_words : (q : Query) (b : List ℕ) (i : IndexView) → StandsFor b i → IsIndex i → (was : EntryOf Post) (n : ℕ) (x : Part) (positive : Bool) (hits : Base) (lo hi : ℕ) → length (out-Query q).parts ≡ n + 1 → x ≡ get_or (out-Query q).parts n x → positive ≡ end_positive (take n (out-Query q).parts)
-    → hits ≡ posts_hits positive was.base was.rows → (out-Part x).excluded ≡ false → AreWordsOf i (met_of_part (division i) x) (λ k. (rows_of_part k x).rows) lo hi → IsEntryOver b i (before_last q) was → IsEntryByWords b i q hits lo hi
-more_by_words q b i stands is was n x positive hits lo hi many at ends hits_are last asks own =
+pub more_by_words : (q : Query) (b : List ℕ) (i : IndexView) → StandsFor b i → IsIndex i → (n : ℕ) (x : Part) (hits : Base) (lo hi : ℕ) → length (out-Query q).parts ≡ n + 1 → x ≡ get_or (out-Query q).parts n x → AreHitsOver b (before_last q) hits
+    → (out-Part x).excluded ≡ false → AreWordsOf i (met_of_part (division i) x) (λ k. (rows_of_part k x).rows) lo hi → IsEntryByWords b i q hits lo hi
+more_by_words q b i stands is n x hits lo hi many at over last asks =
     let s = stock_of b in
     let posts = filter (is_between lo hi) s.posts in
-    more_told q b i stands is was (posts_after i.docs hits false posts) n x positive hits many at ends hits_are own
+    more_told q b i stands is n x hits (posts_after i.docs hits false posts) many at over
     (step_told s i.docs hits (rows_of_part (corpus_in s) x) posts (docs_are b i stands is) (asks.posts b stands).is false (is_excluded s x ∙ last))
 
 -- what is read for the last part and for those before it

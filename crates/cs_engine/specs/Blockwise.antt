@@ -4,9 +4,9 @@
 --
 --   rows_within lo hi h      how many rows a block has, where all its words are from lo up to hi
 --   AreMany i lo hi          over the bytes of an index its posts with a word from lo up to hi are more than an entry may have
---   HasFound rows cut hits t      the documents of rows with their scores, and the table of the rows, cut
+--   HasFound b rows cut hits t      the documents of rows with their scores over a base, and the table of the rows, cut
 use Rattle.std.specs.Prelude.{◌≡◌, ℕ, ◌+◌, ◌<◌, ◌&&◌, nat_le, List, length, filter, take, if◌then◌else◌}
-use Rattle.cs_base.specs.declared.content.doc.Base.TheVariants as base
+use Rattle.cs_base.specs.declared.content.doc.Base.{Base}
 use Rattle.cs_base.specs.declared.content.doc.Post.{Post}
 use Rattle.cs_base.specs.declared.content.doc.Scored.{Scored}
 use Rattle.cs_base.specs.declared.index.block.BlockHead.{BlockHead}
@@ -27,7 +27,7 @@ abbrev pub AreMany : IndexView → ℕ → ℕ → Type 0
 AreMany i lo hi = (b : List ℕ) → StandsFor b i → MAX_ENTRY_SIZE < length (filter (is_between lo hi) (stock_of b).posts)
 
 -- of no rows there are none, and an empty table
-pub record HasFound (rows : List Post) (cut : ℕ) (hits : List Scored) (t : Table) : Type 0 where
-  pub hits_are : hits ≡ scores base.All rows
+pub record HasFound (b : Base) (rows : List Post) (cut : ℕ) (hits : List Scored) (t : Table) : Type 0 where
+  pub hits_are : hits ≡ scores b rows
   pub first : t.first ≡ take cut (post_table rows)
   pub total : t.total ≡ length (post_table rows)

@@ -15,6 +15,8 @@
 --   last_is_positive q              whether the last part of a query is positive
 --   AreFound s q hits posts         the hits of the query q, and posts that stand for its pairs
 --   IsStep s hits p e               e is the entry of a query of these hits and of the part p
+--   AreHitsOver b q hits            over the bytes of an index the hits of the query q
+--   AreHitsBehind s hits p next     next are the hits of a query of these hits and of the part p
 use Rattle.std.specs.Prelude.{◌≡◌, ℕ, ◌-◌, ◌*◌, ◌≤◌, ◌<◌, Bool, true, false, not, ◌==◌, List, [], map, fold, if◌then◌else◌}
 use Rattle.std.specs.List.{All, list_any}
 use Rattle.cs_base.specs.content.Orders.{AreByDoc, docs_of}
@@ -31,7 +33,7 @@ use Rattle.cs_model.specs.Answers.{PartRows, pairs, parts_of}
 use Rattle.cs_model_kept.specs.Entries.{EntryOf, base_of, entry_at, entry_after, is_begun}
 use Rattle.cs_model_kept.specs.Entries as kept
 use Rattle.cs_rank.specs.DocScores.{scores}
-use Rattle.cs_engine.specs.IndexReading.{AreWithin}
+use Rattle.cs_engine.specs.IndexReading.{AreWithin, stock_of}
 use Rattle.cs_model_index.specs.Numbered.{rows_at}
 use Rattle.cs_engine.specs.Stocked.{Stock, base_hits, docs_in, corpus_in}
 
@@ -93,3 +95,13 @@ IsStep s hits p e = entry_at s.words e ≡ entry_after (is_begun hits) (kept.lis
 pub record AreFound (s : Stock) (q : Query) (hits : Base) (posts : List Post) : Type 0 where
   pub base : hits ≡ base_of (corpus_in s) (parts_of (corpus_in s) q)
   pub rows : rows_at s.words posts ≡ pairs (corpus_in s) (parts_of (corpus_in s) q)
+
+-- with their scores; All of a query without a part
+abbrev pub AreHitsOver : List ℕ → Query → Base → Type 0
+AreHitsOver b q hits = hits ≡ base_of (corpus_in (stock_of b)) (parts_of (corpus_in (stock_of b)) q)
+
+-- those of its entry
+pub record AreHitsBehind (s : Stock) (hits : Base) (p : PartRows) (next : Base) : Type 0 where
+  pub e : EntryOf Post
+  pub step : IsStep s hits p e
+  pub are : next ≡ posts_hits (not p.excluded) e.base e.rows

@@ -1,19 +1,18 @@
 //! The best score of each document, over rows in any order.
-ghost use Rattle.std.specs.Prelude.{◌≡◌, ◌+◌, ◌-◌, ◌*◌, ◌<◌, ◌≤◌, ◌++◌, ◌∷◌, ◌^◌, [], List, IfOk, OnOk, filter, length, map, nat_lt, if◌then◌else◌};
+ghost use Rattle.std.specs.Prelude.{◌≡◌, ◌+◌, ◌-◌, ◌<◌, ◌≤◌, ◌++◌, ◌∷◌, ◌^◌, [], List, IfOk, OnOk, filter, length, map, nat_lt, if◌then◌else◌};
 ghost use Rattle.std.specs.List.{All};
 ghost use Rattle.cs_base.specs.declared.content.doc.Post.{Post};
 ghost use Rattle.cs_base.specs.declared.content.doc.Base.TheVariants as base;
-ghost use Rattle.cs_base.specs.declared.content.limits.TheConstants.{MAX_PARTS};
 ghost use Rattle.cs_base.specs.declared.content.scores.TheConstants.{MAX_ROW_SCORE, TITLE_SCORE};
 ghost use Rattle.cs_file.specs.CallAnswers.{AreScoredOf};
-ghost use Rattle.cs_rank.specs.DocScores.{IsBase, best_row, scores};
-ghost use Rattle.cs_base.specs.content.Orders.{docs_of};
+ghost use Rattle.cs_rank.specs.DocScores.{IsBase, best_row, scores, with_base};
+ghost use Rattle.cs_base.specs.content.Orders.{AreByDoc, docs_of};
 ghost use Rattle.cs_engine.specs.Loose.{HasBestScores, hits_in};
 ghost use Rattle.cs_engine.specs.Packing.{post_of_key};
 ghost use Rattle.cs_engine.specs.Steps.{IsBaseOf};
-ghost use Rattle.cs_engine.specs.Stocked.{is_between};
+ghost use Rattle.cs_tables.specs.WordCounts.{is_chosen};
 
-use crate::between::is_in;
+use crate::between::is_chosen;
 use crate::packing::post_of;
 use cs_base::{Base, Memory, Scored, Seq};
 use cs_rank::add_base;
@@ -32,10 +31,26 @@ pub(crate) fn scores_over(
     ensures { IfOk result (λ hits. hits ≡ scores base.now (map post_of_key keys.now)) }
 {
     let best = best_scores(alloc, docs, keys)?;
+    let scored = scored_over(alloc, base, best)?;
+    Ok(scored)
+}
+
+/// Scored documents, each with what a base gave it added to its score.
+pub(crate) fn scored_over(
+    alloc: Global,
+    base: &Base,
+    found: Vec<Scored>,
+) -> Result<Seq<Scored>, Memory>
+    requires base { IsBase base.now }
+    requires sorted { AreByDoc found.items }
+    requires small { All (λ h. h.score ≤ MAX_ROW_SCORE) found.items }
+
+    ensures { IfOk result (λ hits. hits ≡ map (with_base base.now) found.items) }
+{
     match base {
-        Base::All => Ok(Seq::from_vec(best)),
+        Base::All => Ok(Seq::from_vec(found)),
         Base::Listed(listed) => {
-            let scored = add_base(alloc, listed.as_slice(), best.as_slice())?;
+            let scored = add_base(alloc, listed.as_slice(), found.as_slice())?;
             Ok(Seq::from_vec(scored))
         }
     }
@@ -76,11 +91,12 @@ fn raise_all(best: &mut [u8], keys: &[u64])
     }
 }
 
-/// Notes the scores of rows, of which these are the documents, words and scores: of those whose word's number is `words.0` or more
-/// and below `words.1`.
-pub(crate) fn raise_rows(
+/// Notes the scores of rows, of which these are the documents, words and scores: of those in listed documents whose word's number is
+/// `words.0` or more and below `words.1`.
+pub(crate) fn raise_chosen(
     best: &mut [u8],
     words: (u32, u32),
+    listed: &[bool],
     docs: &[u32],
     row_words: &[u32],
     scores: &[u8],
@@ -88,15 +104,17 @@ pub(crate) fn raise_rows(
     requires words_even { length row_words.now ≡ length docs.now }
     requires scores_even { length scores.now ≡ length docs.now }
     requires known { All (λ d. d < length best.old) docs.now }
+    requires long { length listed.now ≡ length best.old }
     requires small { All (λ s. s ≤ TITLE_SCORE) scores.now }
 
-    ensures best { (rows : List Post) → AreScoredOf rows docs.now row_words.now scores.now → (seen : List Post) → HasBestScores seen best.old → HasBestScores (seen ++ filter (is_between words.0 words.1) rows) best.new }
+    ensures best { (rows : List Post) → AreScoredOf rows docs.now row_words.now scores.now → (seen : List Post) → HasBestScores seen best.old → HasBestScores (seen ++ filter (is_chosen words.0 words.1 listed.now) rows) best.new }
     ensures len { length best.new ≡ length best.old }
 {
     let (lo, hi) = words;
     for i in 0..docs.len() {
         let at = docs[i] as usize;
-        best[at] = best[at].max(entry_of(is_in(row_words[i], lo, hi), scores[i]));
+        let counts = is_chosen(docs[i], row_words[i], lo, hi, listed);
+        best[at] = best[at].max(entry_of(counts, scores[i]));
     }
 }
 
@@ -115,7 +133,7 @@ pub(crate) fn hits_in(alloc: Global, best: &[u8]) -> Result<Vec<Scored>, Memory>
     requires { length best.now < 2 ^ 32 }
 
     ensures hits { IfOk result (λ v. v.items ≡ hits_in 0 best.now) }
-    ensures fit { IfOk result (λ v. IsBaseOf (length best.now) (MAX_ROW_SCORE * MAX_PARTS) (base.Listed v.items)) }
+    ensures fit { IfOk result (λ v. IsBaseOf (length best.now) MAX_ROW_SCORE (base.Listed v.items)) }
 {
     let mut hits = Vec::new(alloc);
     for (doc, entry) in best.iter().enumerate() {

@@ -1,5 +1,5 @@
 //! The hits and the table of a range of words, scored and counted block by block as they are read.
-ghost use Rattle.std.specs.Prelude.{◌≡◌, ℕ, ◌+◌, ◌*◌, ◌^◌, ◌≤◌, ◌<◌, ◌++◌, List, false, true, filter, length, IfOk, OnOk};
+ghost use Rattle.std.specs.Prelude.{◌≡◌, ◌+◌, ◌-◌, ◌*◌, ◌^◌, ◌≤◌, ◌<◌, ◌++◌, List, false, true, filter, length, IfOk, OnOk};
 ghost use Rattle.std.specs.List.{All};
 ghost use Rattle.cs_base.specs.declared.content.doc.Base.TheVariants as base;
 ghost use Rattle.cs_base.specs.declared.content.doc.Post.{Post};
@@ -7,15 +7,15 @@ ghost use Rattle.cs_base.specs.declared.content.limits.TheConstants.{MAX_PARTS};
 ghost use Rattle.cs_base.specs.declared.content.scores.TheConstants.{MAX_ROW_SCORE};
 ghost use Rattle.cs_base.specs.outside.Causes.{ReadsWithin};
 ghost use Rattle.cs_file.specs.Indexes.{IsIndex, HasAllBlocks, CausedReads, block_posts, is_met};
-ghost use Rattle.cs_tables.specs.WordCounts.{AreCountable, HasCounted, chosen};
+ghost use Rattle.cs_tables.specs.WordCounts.{AreCountable, HasCounted, chosen, is_chosen};
 ghost use Rattle.cs_engine.specs.Asking.{is_read, is_changed};
 ghost use Rattle.cs_engine.specs.Blockwise.{AreMany, HasFound, rows_within};
 ghost use Rattle.cs_engine.specs.Loose.{HasBestScores};
 ghost use Rattle.cs_engine.specs.IndexReading.{WhereStood, stock_of};
-ghost use Rattle.cs_engine.specs.Steps.{IsBaseOf};
+ghost use Rattle.cs_engine.specs.Steps.{IsBaseOf, posts_after};
 ghost use Rattle.cs_engine.specs.Stocked.{is_between};
 
-use crate::best::{hits_in, raise_rows, zeros};
+use crate::best::{hits_in, raise_chosen, scored_over, zeros};
 use crate::counting::listed_docs;
 use crate::fault::AskFault;
 use cs_base::{Base, BlockHead, Scored, Seq, Store};
@@ -53,21 +53,23 @@ fn rows_within(head: &BlockHead, words: (u32, u32)) -> u64
     0
 }
 
-/// The documents of the rows of these words with their scores, and the table of these rows. Each block that holds such a word is
-/// read once.
+/// The documents of hits that have a row of these words, with their scores, and the table of these rows in them. Each block that holds
+/// such a word is read once.
 pub(crate) fn found_in_blocks<S: Store>(
     alloc: Global,
     index: &Index,
     store: &mut S,
+    hits: &Base,
     words: (u32, u32),
     cut: u32,
 ) -> Result<(Seq<Scored>, Table), AskFault>
     requires ordered { words.0 ≤ words.1 }
     requires in_range { words.1 ≤ length index.now.words }
+    requires base { IsBaseOf index.now.docs (MAX_ROW_SCORE * (MAX_PARTS - 1)) hits.now }
     requires index { IsIndex index.now }
     requires fits { HasAllBlocks (S.bytes store.old) index.now }
 
-    ensures told { WhereStood (S.bytes store.old) index.now (λ b. IfOk result (λ found. HasFound (filter (is_between words.0 words.1) (stock_of b).posts) cut found.0 found.1)) }
+    ensures told { WhereStood (S.bytes store.old) index.now (λ b. IfOk result (λ found. HasFound hits.now (posts_after index.now.docs hits.now false (filter (is_between words.0 words.1) (stock_of b).posts)).rows cut found.0 found.1)) }
     ensures base { IfOk result (λ found. IsBaseOf index.now.docs (MAX_ROW_SCORE * MAX_PARTS) (base.Listed found.0)) }
     ensures known { IfOk result (λ found. All (λ w. w.word < length index.now.words) found.1.first) }
     ensures unchanged { WhereStood (S.bytes store.old) index.now (λ b. is_changed result ≡ false) }
@@ -78,7 +80,7 @@ pub(crate) fn found_in_blocks<S: Store>(
 {
     let (lo, hi) = words;
     let (first, last) = index.blocks(lo, hi);
-    let all = listed_docs(alloc, index.docs, &Base::All)?;
+    let listed = listed_docs(alloc, index.docs, hits)?;
     let mut counts = WordCounts::new(alloc, lo, hi)?;
     let mut best = zeros(alloc, index.docs)?;
     let mut block = Fetched::new(alloc);
@@ -89,39 +91,40 @@ pub(crate) fn found_in_blocks<S: Store>(
             store,
             k,
             words,
-            &all,
+            &listed,
             &mut block,
             &mut counts,
             &mut best,
         )?;
     }
-    let hits = hits_in(alloc, &best)?;
+    let found = hits_in(alloc, &best)?;
+    let scored = scored_over(alloc, hits, found)?;
     let table = counts.table(alloc, cut)?;
-    Ok((Seq::from_vec(hits), table))
+    Ok((scored, table))
 }
 
-// Counts and scores the rows of these words in block `k`, which is read once.
+// Counts and scores the rows of these words in listed documents of block `k`, which is read once.
 fn add_block<S: Store>(
     alloc: Global,
     index: &Index,
     store: &mut S,
     k: u32,
     words: (u32, u32),
-    all: &[bool],
+    listed: &[bool],
     block: &mut Fetched,
     counts: &mut WordCounts,
     best: &mut Vec<u8>,
 ) -> Result<(), AskFault>
     requires in_range { k < length index.now.heads }
-    requires all { length all.now ≡ index.now.docs }
+    requires listed { length listed.now ≡ index.now.docs }
     requires best { length best.old.items ≡ index.now.docs }
     requires index { IsIndex index.now }
     requires fits { HasAllBlocks (S.bytes store.old) index.now }
 
-    ensures counted { WhereStood (S.bytes store.old) index.now (λ b. OnOk result ((seen : List Post) → AreCountable (seen ++ chosen counts.old.low counts.old.high all.now (block_posts b k)) → HasCounted seen counts.old → HasCounted (seen ++ chosen counts.old.low counts.old.high all.now (block_posts b k)) counts.new)) }
+    ensures counted { WhereStood (S.bytes store.old) index.now (λ b. OnOk result ((seen : List Post) → AreCountable (seen ++ chosen counts.old.low counts.old.high listed.now (block_posts b k)) → HasCounted seen counts.old → HasCounted (seen ++ chosen counts.old.low counts.old.high listed.now (block_posts b k)) counts.new)) }
     ensures low { counts.new.low ≡ counts.old.low }
     ensures high { counts.new.high ≡ counts.old.high }
-    ensures scored { WhereStood (S.bytes store.old) index.now (λ b. OnOk result ((seen : List Post) → HasBestScores seen best.old.items → HasBestScores (seen ++ filter (is_between words.0 words.1) (block_posts b k)) best.new.items)) }
+    ensures scored { WhereStood (S.bytes store.old) index.now (λ b. OnOk result ((seen : List Post) → HasBestScores seen best.old.items → HasBestScores (seen ++ filter (is_chosen words.0 words.1 listed.now) (block_posts b k)) best.new.items)) }
     ensures len { length best.new.items ≡ length best.old.items }
     ensures unchanged { WhereStood (S.bytes store.old) index.now (λ b. is_changed result ≡ false) }
     ensures bytes { S.bytes store.new ≡ S.bytes store.old }
@@ -130,7 +133,14 @@ fn add_block<S: Store>(
     ensures caused { CausedReads (is_read result) (S.faults store.old) (S.faults store.new) }
 {
     index.fetch_scored(alloc, store, k, block)?;
-    counts.add(&block.docs, &block.words, all);
-    raise_rows(best, words, &block.docs, &block.words, &block.scores);
+    counts.add_rows(&block.docs, &block.words, listed);
+    raise_chosen(
+        best,
+        words,
+        listed,
+        &block.docs,
+        &block.words,
+        &block.scores,
+    );
     Ok(())
 }

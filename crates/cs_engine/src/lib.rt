@@ -23,6 +23,7 @@ mod plans;
 mod reading;
 mod replies;
 mod replying;
+mod scored;
 mod steps;
 mod words;
 

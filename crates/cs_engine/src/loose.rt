@@ -59,7 +59,7 @@ pub(crate) fn answered_by_words<S: Store>(
     ensures caused { CausedReads (is_read result) (S.faults store.old) (S.faults store.new) }
 {
     if fills(index, &hits, words) {
-        let reply = reply_by_blocks(alloc, index, store, request, words)?;
+        let reply = reply_by_blocks(alloc, index, store, request, &hits, words)?;
         return Ok((reply, None));
     }
     let keys = keys_of_hits(alloc, index, store, &hits, words)?;
@@ -124,19 +124,21 @@ fn size_of(base: &Base) -> usize
     }
 }
 
-// The reply to a query whose only part asks for these words, by their blocks.
+// The reply to a query whose last part asks for these words, by their blocks and the hits of the parts before it.
 fn reply_by_blocks<S: Store>(
     alloc: Global,
     index: &Index,
     store: &mut S,
     request: &Request,
+    hits: &Base,
     words: (u32, u32),
 ) -> Result<Reply, AskFault>
-    requires asks { AreLastWords index.now request.now.query base.All words.0 words.1 }
+    requires limits { HoldsLimits (asked request.now) }
+    requires asks { AreLastWords index.now request.now.query hits.now words.0 words.1 }
     requires index { IsIndex index.now }
     requires fits { HasAllBlocks (S.bytes store.old) index.now }
 
-    ensures told { WhereStood (S.bytes store.old) index.now (λ b. IsEntryByWords b index.now request.now.query base.All words.0 words.1 → IfOk result (λ r. r ≡ reply_of (file_corpus b) (asked request.now))) }
+    ensures told { WhereStood (S.bytes store.old) index.now (λ b. IsEntryByWords b index.now request.now.query hits.now words.0 words.1 → IfOk result (λ r. r ≡ reply_of (file_corpus b) (asked request.now))) }
     ensures few { IfOk result (λ r. length r.hits ≤ request.now.hits) }
     ensures unchanged { WhereStood (S.bytes store.old) index.now (λ b. is_changed result ≡ false) }
     ensures bytes { S.bytes store.new ≡ S.bytes store.old }
@@ -144,7 +146,7 @@ fn reply_by_blocks<S: Store>(
     ensures reads { ReadsWithin (titles_read (asked request.now) result + met_of_facets (division index.now) (asked request.now).facets + length (filter (is_met words.0 words.1) index.now.heads)) (S.reads store.old) (S.reads store.new) }
     ensures caused { CausedReads (is_read result) (S.faults store.old) (S.faults store.new) }
 {
-    let (found, table) = found_in_blocks(alloc, index, store, words, request.completions)?;
+    let (found, table) = found_in_blocks(alloc, index, store, hits, words, request.completions)?;
     let reply = reply_of(alloc, index, store, request, Base::Listed(found), table)?;
     Ok(reply)
 }

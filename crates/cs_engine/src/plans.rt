@@ -1,6 +1,7 @@
-//! A query by a kept entry: its own entry where a letter more is typed, and the reply to it and one part more.
-ghost use Rattle.std.specs.Prelude.{◌≡◌, ◌+◌, ◌≤◌, false, filter, length, IsSome, IfSome, IfOk};
+//! A query by a kept entry or by hits: its own entry where a letter more is typed, and the reply to it and one part more.
+ghost use Rattle.std.specs.Prelude.{◌≡◌, ◌+◌, ◌-◌, ◌*◌, ◌≤◌, false, filter, length, IsSome, IfSome, IfOk};
 ghost use Rattle.cs_base.specs.outside.Causes.{ReadsWithin};
+ghost use Rattle.cs_base.specs.declared.content.scores.TheConstants.{MAX_ROW_SCORE};
 ghost use Rattle.cs_base.specs.declared.content.query.Query.{out-Query};
 ghost use Rattle.cs_file.specs.Indexes.{IsIndex, HasAllBlocks, CausedReads};
 ghost use Rattle.cs_model.specs.Answers.{begins};
@@ -13,6 +14,7 @@ ghost use Rattle.cs_query.specs.RequestView.{asked};
 ghost use Rattle.cs_engine.specs.Asking.{division, is_read, is_changed, titles_asked};
 ghost use Rattle.cs_engine.specs.Keeping.{FitsQuery, IsAnsweredOver, IsEntryOver, entry_with};
 ghost use Rattle.cs_engine.specs.IndexReading.{AreWithin, WhereStood};
+ghost use Rattle.cs_engine.specs.Steps.{AreHitsOver, IsBaseOf};
 
 use crate::between::posts_between;
 use crate::entries::{copy_of, hits_of};
@@ -81,9 +83,37 @@ pub(crate) fn answered_by_part<S: Store>(
     ensures caused { CausedReads (is_read result) (S.faults store.old) (S.faults store.new) }
 {
     let parts = request.query.parts.as_slice();
-    let last = parts.len() - 1;
-    let positive = end_positive(&parts[..last]);
+    let positive = end_positive(&parts[..parts.len() - 1]);
     let hits = hits_of(alloc, positive, base, rows)?;
+    answered_by_hits(alloc, index, store, request, hits)
+}
+
+/// The reply to a query by the hits of its parts before the last, whose atoms are read, and the query's own entry; None where that is
+/// too large.
+pub(crate) fn answered_by_hits<S: Store>(
+    alloc: Global,
+    index: &Index,
+    store: &mut S,
+    request: &Request,
+    hits: Base,
+) -> Result<(Reply, Option<Entry>), AskFault>
+    requires limits { HoldsLimits (asked request.now) }
+    requires some { 1 ≤ length (out-Query request.now.query).parts }
+    requires base { IsBaseOf index.now.docs (MAX_ROW_SCORE * (length (out-Query request.now.query).parts - 1)) hits }
+    requires index { IsIndex index.now }
+    requires fits { HasAllBlocks (S.bytes store.old) index.now }
+
+    ensures told { WhereStood (S.bytes store.old) index.now (λ b. AreHitsOver b (before_last request.now.query) hits → IfOk result (IsAnsweredOver b index.now (asked request.now))) }
+    ensures few { IfOk result (λ a. length a.0.hits ≤ request.now.hits) }
+    ensures within { IfOk result (λ a. IfSome a.1 (FitsQuery index.now request.now.query)) }
+    ensures unchanged { WhereStood (S.bytes store.old) index.now (λ b. is_changed result ≡ false) }
+    ensures bytes { S.bytes store.new ≡ S.bytes store.old }
+    ensures lent { S.lent store.new ≡ S.lent store.old }
+    ensures reads { ReadsWithin (titles_asked (asked request.now) result + met_of_facets (division index.now) (asked request.now).facets + met_of_last (division index.now) (last_of (out-Query request.now.query).parts)) (S.reads store.old) (S.reads store.new) }
+    ensures caused { CausedReads (is_read result) (S.faults store.old) (S.faults store.new) }
+{
+    let parts = request.query.parts.as_slice();
+    let last = parts.len() - 1;
     if let Some(words) = words_of_part(index, &parts[last]) {
         let answered = answered_by_words(alloc, index, store, request, hits, words)?;
         return Ok(answered);

@@ -18,8 +18,8 @@ ghost use Rattle.cs_engine.specs.IndexReading.{WhereStood};
 use crate::answering::reply_of;
 use crate::entries::{hits_of, nothing_kept};
 use crate::fault::AskFault;
-use crate::plans::{answered_by_part, narrowed};
-use crate::steps::{end_positive, entry_of};
+use crate::plans::{answered_by_hits, answered_by_part, narrowed};
+use crate::steps::{end_positive, hits_of_parts};
 use cs_base::{Base, Keys, Plan, Store};
 use cs_cache::{Answers, Entry};
 use cs_cols::Cols;
@@ -108,8 +108,8 @@ fn fresh<S: Store>(
         let answered = with_reply(alloc, index, store, request, entry)?;
         return Ok(answered);
     }
-    let first = entry_of(alloc, index, store, &parts[..parts.len() - 1])?;
-    let answered = answered_by_part(alloc, index, store, request, &first.base, &first.rows)?;
+    let hits = hits_of_parts(alloc, index, store, &parts[..parts.len() - 1])?;
+    let answered = answered_by_hits(alloc, index, store, request, hits)?;
     Ok(answered)
 }
 

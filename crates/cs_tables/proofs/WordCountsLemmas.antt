@@ -4,7 +4,7 @@
 --   front_countable      what stands before countable rows is
 --   counted_nothing      the marks of no rows
 --   one_counted          the marks behind one row of one of the words
---   row_counted, row_passed     behind one row
+--   row_counted, row_passed, row_where     behind one row
 --   rows_counted         behind one row more
 --   piece_counted, row_seen     what is counted behind a piece more, and behind one row
 --   words_counted        the words that are collected are those of the rows
@@ -16,7 +16,7 @@ use Rattle.std.specs.Ordering.{eq_by_cmp, is_eq}
 use Rattle.std.specs.declared.cmp.Ordering.{Ordering}
 use Rattle.std.specs.Cmp.{IsTotalOrder, Equal-is, tied_itself}
 use Rattle.std.specs.FinMap.{IsAntisymmetric}
-use Rattle.std.proofs.lemmas.Bool.{and_parts, leb-true, ltb-true, or_left, or_right, eqb-true, eq-eqb, ne_eqb}
+use Rattle.std.proofs.lemmas.Bool.{and_from, and_parts, le-leb, leb-true, lt-ltb, ltb-true, or_left, or_right, eqb-true, eq-eqb, ne_eqb}
 use Rattle.std.proofs.lemmas.Grind.{get_or-set_at}
 use Rattle.std.proofs.lemmas.List.{length-map, take_more, take-append-le, drop_all, get_or_default, get_or-replicate}
 use Rattle.std.proofs.lemmas.List.Elements.{All-nil, All-cons, All-append, All-from_recursion, All-take, All-drop, All-map, recursion_from_All, filter-append}
@@ -143,6 +143,28 @@ module _ (low high : ℕ) (listed : List Bool) where
       let range = and_parts (nat_le low word) (nat_lt word high) (and_parts (nat_le low word && nat_lt word high) _ in_it).0 in
       subst (λ rows. HasWordMarks low rows (set marks (word - low) now)) (sym one)
       (one_counted low high marks doc word now sized (leb-true low word range.0) (ltb-true word high range.1) saws p d w seen (subst AreCountable one c) h)
+
+  -- a row of one of the words, which is chosen where its document is listed
+  pub row_where : (marks : List Mark) (doc word : ℕ) (now : Mark) → low + length marks ≡ high → low ≤ word → word < high
+      → ((get_or marks (word - low) unread).docs < NO_DOC → now ≡ cond (slice_index_or listed doc false) (saw (get_or marks (word - low) unread) doc) (get_or marks (word - low) unread))
+      → (p : Post) → doc ≡ p.doc → word ≡ p.word → Counts low high listed (p ∷ []) marks (set marks (word - low) now)
+  row_where marks doc word now sized from upto saws p d w =
+      let range : (nat_le low word && nat_lt word high) ≡ true = and_from _ _ (le-leb low word from) (lt-ltb word high upto) in
+      let m = get_or marks (word - low) unread in
+      elim (slice_index_or listed doc false) as (λ b. slice_index_or listed doc false ≡ b → (m.docs < NO_DOC → now ≡ cond b (saw m doc) m) → Counts low high listed (p ∷ []) marks (set marks (word - low) now)) [
+        | true ↦ λ e seen_so. row_counted marks doc word now sized (and_from _ _ range e) seen_so p d w
+        | false ↦ λ e stays. λ seen c h.
+            let out : ((nat_le low word && nat_lt word high) && slice_index_or listed doc false) ≡ false = ap₂ (λ x y. x && y) range e in
+            let inside : word - low < length marks = omega (arith, sized, from, upto) in
+            let before = front_countable seen (chosen low high listed (p ∷ [])) c in
+            let same = stays (has_room (low + (word - low)) seen m before (h (word - low) unread inside)) in
+            subst (λ ms. HasWordMarks low (seen ++ chosen low high listed (p ∷ [])) ms) (sym (set_again marks (word - low) now inside same)) (row_passed marks doc word out p d w seen c h)
+      ] refl saws
+    where
+      set_again : (ms : List Mark) (j : ℕ) (n : Mark) → j < length ms → n ≡ get_or ms j unread → set ms j n ≡ ms
+      set_again [] j n lt e = absurd (omega (arith, lt))
+      set_again (m ∷ ms) zero n lt e = ap (λ x. x ∷ ms) e
+      set_again (m ∷ ms) (suc j) n lt e = ap (λ l. m ∷ l) (set_again ms j n (omega (arith, lt)) e)
 
   -- one piece behind another
   pieces_counted : (a b : List Post) (m0 m1 m2 : List Mark) → Counts low high listed a m0 m1 → Counts low high listed b m1 m2 → Counts low high listed (a ++ b) m0 m2

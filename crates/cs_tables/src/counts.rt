@@ -1,7 +1,7 @@
 //! How many documents have each word.
 //!
 //! A counted word is a `Scored`: its number stands for the document and the number of documents for the score.
-ghost use Rattle.std.specs.Prelude.{◌≡◌, ◌<◌, ◌≤◌, ◌^◌, ◌+◌, ◌++◌, ◌-◌, map, IfOk, OnOk, All, length, slice_index, EachIndex};
+ghost use Rattle.std.specs.Prelude.{◌≡◌, ◌<◌, ◌≤◌, ◌^◌, ◌+◌, ◌++◌, ◌-◌, map, IfOk, OnOk, All, length, slice_index, EachIndex, if◌then◌else◌};
 ghost use Rattle.cs_base.specs.content.Orders.{AreSorted};
 ghost use Rattle.cs_base.specs.declared.content.limits.TheConstants.{MAX_DOCS, MAX_WORDS};
 ghost use Rattle.cs_tables.specs.Marks.{saw, kept, collected, counted_word, post_words};
@@ -38,6 +38,16 @@ impl Mark {
             self.last = doc;
             self.docs = self.docs.saturating_add(1);
         }
+    }
+
+    /// The same where the row counts, and nothing where it doesn't, without a jump.
+    #[inline]
+    pub(crate) fn see_where(&mut self, doc: u32, counts: bool)
+        ensures { self.old.docs < 2 ^ 32 - 1 → self.new ≡ (if counts then saw self.old doc else self.old) }
+    {
+        let is_next = counts & (self.last != doc);
+        self.docs = self.docs.wrapping_add(u32::from(is_next));
+        self.last = if is_next { doc } else { self.last };
     }
 }
 

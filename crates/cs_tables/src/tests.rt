@@ -56,12 +56,14 @@ fn a_word_counts_once_in_a_document(rt: HostRuntime) -> Result<(), Fail> {
 fn rows_that_come_in_pieces_count_in_listed_documents(rt: HostRuntime) -> Result<(), Fail> {
     let mut counts = WordCounts::new(rt.alloc(), 20, 25)?;
     counts.add(&[0, 1, 1, 2], &[20, 20, 20, 19], &[true, true, true]);
-    counts.add(&[0, 1, 2, 2], &[24, 24, 24, 25], &[true, false, true]);
+    counts.add_rows(&[0, 1, 2, 2], &[24, 24, 24, 25], &[true, false, true]);
+    counts.add_rows(&[0, 0, 1], &[22, 22, 22], &[true, false, true]);
     let table = counts.table(rt.alloc(), 5)?;
     let first = table.first.as_slice();
-    assert!(rt; table.total == 2 && first.len() == 2);
+    assert!(rt; table.total == 3 && first.len() == 3);
     assert!(rt; first[0].word == 20 && first[0].docs == 2);
     assert!(rt; first[1].word == 24 && first[1].docs == 2);
+    assert!(rt; first[2].word == 22 && first[2].docs == 1);
     Ok(())
 }
 

@@ -61,6 +61,19 @@ impl WordCounts {
         see_rows(low, high, &mut self.marks, docs, words, listed);
     }
 
+    /// Counts rows as `add` does. It is the faster one where all words are counted and a document may have a word often.
+    pub fn add_rows(&mut self, docs: &[u32], words: &[u32], listed: &[bool])
+        requires even { length words.now ≡ length docs.now }
+        requires known { All (λ d. d < length listed.now) docs.now }
+
+        ensures counted { (rows : List Post) → docs.now ≡ map (λ p. p.doc) rows → words.now ≡ map (λ p. p.word) rows → (seen : List Post) → AreCountable (seen ++ chosen self.old.low self.old.high listed.now rows) → HasCounted seen self.old → HasCounted (seen ++ chosen self.old.low self.old.high listed.now rows) self.new }
+        ensures low { self.new.low ≡ self.old.low }
+        ensures high { self.new.high ≡ self.old.high }
+    {
+        let (low, high) = (self.low, self.high);
+        see_mixed(low, high, &mut self.marks, docs, words, listed);
+    }
+
     /// Counts one row more, of one of these words.
     #[inline]
     pub fn see(&mut self, doc: u32, word: u32)
@@ -119,5 +132,49 @@ fn see_row(low: u32, high: u32, marks: &mut [Mark], doc: u32, word: u32)
 {
     if low <= word && word < high {
         marks[(word - low) as usize].see(doc);
+    }
+}
+
+// Whether all of some words are from `low` up to `high`, without a jump.
+fn are_within(words: &[u32], low: u32, high: u32) -> bool
+    ensures { result ≡ true → All (λ w. (low ≤ w) × (w < high)) words.now }
+{
+    let mut all = true;
+    for word in words {
+        all &= (low <= *word) & (*word < high);
+    }
+    all
+}
+
+// Counts rows in the marks of the words from `low` up to `high`, without a jump where all their words are among these.
+fn see_mixed(low: u32, high: u32, marks: &mut [Mark], docs: &[u32], words: &[u32], listed: &[bool])
+    requires sized { low + length marks.old ≡ high }
+    requires even { length words.now ≡ length docs.now }
+    requires known { All (λ d. d < length listed.now) docs.now }
+
+    ensures counted { (rows : List Post) → docs.now ≡ map (λ p. p.doc) rows → words.now ≡ map (λ p. p.word) rows → Counts low high listed.now rows marks.old marks.new }
+    ensures sized { length marks.new ≡ length marks.old }
+{
+    if are_within(words, low, high) {
+        see_own(low, high, marks, docs, words, listed);
+    } else {
+        see_rows(low, high, marks, docs, words, listed);
+    }
+}
+
+// Counts rows, all of the words from `low` up to `high`, in the marks of these words.
+fn see_own(low: u32, high: u32, marks: &mut [Mark], docs: &[u32], words: &[u32], listed: &[bool])
+    requires sized { low + length marks.old ≡ high }
+    requires even { length words.now ≡ length docs.now }
+    requires known { All (λ d. d < length listed.now) docs.now }
+    requires own { All (λ w. (low ≤ w) × (w < high)) words.now }
+
+    ensures counted { (rows : List Post) → docs.now ≡ map (λ p. p.doc) rows → words.now ≡ map (λ p. p.word) rows → Counts low high listed.now rows marks.old marks.new }
+    ensures sized { length marks.new ≡ length marks.old }
+{
+    for i in 0..docs.len() {
+        let doc = docs[i];
+        let at = (words[i] - low) as usize;
+        marks[at].see_where(doc, listed[doc as usize]);
     }
 }

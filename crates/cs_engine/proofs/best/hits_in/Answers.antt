@@ -1,6 +1,5 @@
-use Rattle.std.proofs.Common.{◌*◌, length, refl, arith}
+use Rattle.std.proofs.Common.{length, refl, arith}
 use Rattle.std.proofs.lemmas.List.{get_or_default}
-use Rattle.cs_base.specs.declared.content.limits.TheConstants.{MAX_PARTS}
 use Rattle.cs_base.specs.declared.content.scores.TheConstants.{MAX_ROW_SCORE}
 use Rattle.cs_engine.proofs.BestLemmas.{hits_more, hits_all, hits_fit}
 use Rattle.cs_engine.proofs.best.hits_in.Goals as goal
@@ -14,4 +13,4 @@ returns-clause-hits c = hits_all _ c.loop-doc.hits.items c.args.best.now c.loop-
 pub returns-clause-fit : goal.returns-clause-fit
 returns-clause-fit c =
     let best = c.args.best.now in
-    hits_fit (length best) (MAX_ROW_SCORE * MAX_PARTS) best _ refl (λ j d lt. let byte = c.type_inv.best j in omega (arith, byte, get_or_default best j d 0 lt)) (hits_all _ c.loop-doc.hits.items best c.loop-doc.doc (omega arith) c.loop-doc.invariant)
+    hits_fit (length best) MAX_ROW_SCORE best _ refl (λ j d lt. let byte = c.type_inv.best j in omega (arith, byte, get_or_default best j d 0 lt)) (hits_all _ c.loop-doc.hits.items best c.loop-doc.doc (omega arith) c.loop-doc.invariant)

@@ -3,42 +3,34 @@ use Rattle.cs_model_index.specs.Sections.{image_of}
 use Rattle.cs_tables.specs.WordCounts.{HasCounted}
 use Rattle.cs_engine.specs.Counting.{counted_rows}
 use Rattle.cs_engine.proofs.CountingLemmas.{block_counted, countable, table_told}
-use Rattle.cs_engine.proofs.RowsInRange.{met_count}
+use Rattle.cs_engine.proofs.WalkLemmas.{walk_ends, walk_goes_on, walk_stops}
 use Rattle.cs_engine.proofs.counting.table_between.Goals as goal
 
 pub returns-in_err-count_block-clause-reads : goal.returns-in_err-count_block-clause-reads
 returns-in_err-count_block-clause-reads g c =
-    let met = met_count c.args.index.now.heads c.args.words.0 c.args.words.1 c.blocks-first.result.0 c.blocks-first.result.1 c.blocks-first.ensures in
-    let inv = c.loop-k.invariant in
-    let reads = c.count_block.ensures.reads in
-    record { later = (let l = reads.later in omega (arith, l, inv.later)); within = (let w = reads.within in omega (arith, w, met, inv.reads, c.loop-k-test.true)) }
+    walk_stops g.S.Store.bytes g.S.Store.lent g.S.Store.reads g.S.Store.faults c.args.store.now c.blocks-first.result.0 c.loop-k.store c.loop-k.k c.loop-k.invariant.walk c.count_block.new.store
+    c.args.index.now.heads c.args.words.0 c.args.words.1 c.blocks-first.result.1 c.blocks-first.ensures c.loop-k-test.true c.count_block.ensures.reads
 
 pub loop-k-preserved : goal.loop-k-preserved
 loop-k-preserved g c =
     let inv = c.loop-k.invariant in
-    let met = c.blocks-first.ensures in
-    let reads = c.count_block.ensures.reads in
-    let within = met.within in
+    let call = c.count_block.ensures in
+    let within = c.blocks-first.ensures.within in
     record {
-      bytes = c.count_block.ensures.bytes ∙ inv.bytes;
-      lent = c.count_block.ensures.lent ∙ inv.lent;
-      later = (let l = reads.later in omega (arith, l, inv.later));
-      reads = (let w = reads.within in omega (arith, w, inv.reads));
-      quiet = c.in_ok-count_block.ensures.caused.quiet refl ∙ inv.quiet;
-      from = omega (arith, inv.from);
-      low = c.count_block.ensures.low ∙ inv.low;
-      high = c.count_block.ensures.high ∙ inv.high;
+      walk = walk_goes_on g.S.Store.bytes g.S.Store.lent g.S.Store.reads g.S.Store.faults c.args.store.now c.blocks-first.result.0 c.loop-k.store c.loop-k.k inv.walk c.count_block.new.store
+          call.bytes call.lent call.reads (c.in_ok-count_block.ensures.caused.quiet refl);
+      low = call.low ∙ inv.low;
+      high = call.high ∙ inv.high;
       told = λ b is stands.
           block_counted b c.args.index.now stands c.requires.index c.blocks-first.result.0 c.loop-k.k c.args.words.0 c.args.words.1 c.args.listed.now c.loop-k.counts c.count_block.new.counts
-          inv.from (omega (arith, within, c.loop-k-test.true)) inv.low inv.high (c.in_ok-count_block.ensures.told b (inv.bytes ∙ is) stands) (inv.told b is stands);
+          inv.walk.from (omega (arith, within, c.loop-k-test.true)) inv.low inv.high (c.in_ok-count_block.ensures.told b (inv.walk.bytes ∙ is) stands) (inv.told b is stands);
     }
 
 pub returns-in_err-table-clause-reads : goal.returns-in_err-table-clause-reads
 returns-in_err-table-clause-reads g c =
-    let met = met_count c.args.index.now.heads c.args.words.0 c.args.words.1 c.blocks-first.result.0 c.blocks-first.result.1 c.blocks-first.ensures in
-    let inv = c.loop-k.invariant in
     let up = c.blocks-first.ensures.ordered in
-    record { later = inv.later; within = omega (arith, met, inv.reads, up, c.loop-k.auto.k-end) }
+    walk_ends g.S.Store.bytes g.S.Store.lent g.S.Store.reads g.S.Store.faults c.args.store.now c.blocks-first.result.0 c.loop-k.store c.loop-k.k c.loop-k.invariant.walk
+    c.args.index.now.heads c.args.words.0 c.args.words.1 c.blocks-first.result.1 c.blocks-first.ensures (omega (arith, up, c.loop-k.auto.k-end))
 
 pub returns-clause-told : goal.returns-clause-told
 returns-clause-told g c b is stands =
@@ -57,7 +49,6 @@ returns-clause-told g c b is stands =
 
 pub returns-clause-reads : goal.returns-clause-reads
 returns-clause-reads g c =
-    let met = met_count c.args.index.now.heads c.args.words.0 c.args.words.1 c.blocks-first.result.0 c.blocks-first.result.1 c.blocks-first.ensures in
-    let inv = c.loop-k.invariant in
     let up = c.blocks-first.ensures.ordered in
-    record { later = inv.later; within = omega (arith, met, inv.reads, up, c.loop-k.auto.k-end) }
+    walk_ends g.S.Store.bytes g.S.Store.lent g.S.Store.reads g.S.Store.faults c.args.store.now c.blocks-first.result.0 c.loop-k.store c.loop-k.k c.loop-k.invariant.walk
+    c.args.index.now.heads c.args.words.0 c.args.words.1 c.blocks-first.result.1 c.blocks-first.ensures (omega (arith, up, c.loop-k.auto.k-end))

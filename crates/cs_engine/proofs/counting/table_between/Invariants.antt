@@ -1,18 +1,14 @@
-use Rattle.std.proofs.Common.{◌≡◌, ◌+◌, ◌≤◌}
+use Rattle.std.proofs.Common.{◌≡◌}
 use Rattle.cs_model_index.specs.Sections.{image_of}
 use Rattle.cs_tables.specs.WordCounts.{HasCounted}
 use Rattle.cs_engine.specs.Counting.{counted_rows}
 use Rattle.cs_engine.specs.IndexReading.{WhereStood}
+use Rattle.cs_engine.proofs.WalkLemmas.{Walk}
 use Rattle.cs_engine.proofs.counting.table_between.Given as goal
 
 abbrev pub invariant-loop-k : goal.invariant-loop-k
 invariant-loop-k g l = record {
-  bytes : g.S.Store.bytes l.store ≡ g.S.Store.bytes l.fn.store;
-  lent : g.S.Store.lent l.store ≡ g.S.Store.lent l.fn.store;
-  later : g.S.Store.reads l.fn.store ≤ g.S.Store.reads l.store;
-  reads : g.S.Store.reads l.store + l.first ≤ g.S.Store.reads l.fn.store + l.k;
-  quiet : g.S.Store.faults l.store ≡ g.S.Store.faults l.fn.store;
-  from : l.first ≤ l.k;
+  walk : Walk g.S.Store.bytes g.S.Store.lent g.S.Store.reads g.S.Store.faults l.fn.store l.store l.first l.k;
   low : l.counts.low ≡ l.lo;
   high : l.counts.high ≡ l.hi;
   told : WhereStood (g.S.Store.bytes l.fn.store) l.index (λ b. HasCounted (counted_rows (image_of b).blocks l.first l.k l.lo l.hi l.listed) l.counts);

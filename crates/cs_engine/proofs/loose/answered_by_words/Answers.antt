@@ -25,7 +25,7 @@ returns-then-fills-clause-told g c b is stands by =
     let asks = subst (λ h. AreLastWords i q h lo hi) none c.requires.asks in
     let own = subst (λ h. IsEntryByWords b i q h lo hi) none by in
     record {
-      reply = c.in_ok-reply.ensures.told b is stands own;
+      reply = c.in_ok-reply.ensures.told b is stands by;
       own = tt;
       large = λ gone.
           large_entry i q base.All lo hi asks all has b stands c.requires.index own (filter (is_between lo hi) (stock_of b).posts) (sym (all_listed b i stands c.requires.index lo hi all has))

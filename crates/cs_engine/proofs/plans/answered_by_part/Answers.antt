@@ -1,149 +1,25 @@
-use Rattle.std.proofs.Common.{◌≡◌, ◌-◌, List, length, take, get_or, not, sym, ap, subst, ◌∙◌, arith, true≢false}
-use Rattle.std.specs.Prelude.{IfSome, is_some}
+use Rattle.std.proofs.Common.{◌≡◌, ◌-◌, List, length, take, ap, ◌∙◌}
 use Rattle.cs_base.specs.declared.content.query.Part.{Part}
 use Rattle.cs_base.specs.declared.content.query.Query.{out-Query}
-use Rattle.cs_model.proofs.PartsLemmas.{few_parts}
 use Rattle.cs_model_kept.specs.KeptListLaws.{before_last}
-use Rattle.cs_model_kept.proofs.FirstParts.{first_parts_stay}
-use Rattle.cs_query.specs.RequestView.{asked}
-use Rattle.cs_engine.specs.Asking.{division}
-use Rattle.cs_engine.specs.Keeping.{FitsQuery, IsEntryOver, entry_with}
+use Rattle.cs_engine.specs.Keeping.{entry_with}
 use Rattle.cs_engine.specs.Steps.{end_positive}
-use Rattle.cs_engine.proofs.LentLemmas.{err_due}
-use Rattle.cs_engine.proofs.PlansLemmas.{ends_first, ends_last, first_in, hits_are_in, last_met, more_by_words, more_fits, more_told}
+use Rattle.cs_engine.proofs.PlansLemmas.{ends_first, first_in, found_by_entry}
 use Rattle.cs_engine.proofs.plans.answered_by_part.Goals as goal
 
--- ---- a part that asks for some words
-pub answered_by_words-requires-clause-asks : goal.answered_by_words-requires-clause-asks
-answered_by_words-requires-clause-asks g c =
+pub answered_by_hits-requires-clause-base : goal.answered_by_hits-requires-clause-base
+answered_by_hits-requires-clause-base g c =
     let q = c.args.request.now.query in
     let ps = (out-Query q).parts in
-    let x = c.index-parts-last.result in
     let p = c.end_positive-positive.result in
-    let some = c.requires.some in
-    let asks = c.in-Some.ensures.words in
     let ends : p ≡ end_positive (take (length ps - 1) ps) = c.end_positive-positive.ensures ∙ ap (λ (xs : List Part). end_positive (take (length xs - 1) xs)) c.as_slice-parts.ensures in
-    let at : x ≡ get_or ps (length ps - 1) x = c.index-parts-last.is ∙ ap (λ (xs : List Part). get_or xs (length xs - 1) x) c.as_slice-parts.ensures in
-    record {
-      some = some;
-      positive = ends_last q (length ps - 1) x (omega (arith, some)) at ∙ ap not c.in-Some.ensures.positive;
-      ordered = asks.ordered;
-      within = asks.within;
-      base = first_in q c.args.index.now (entry_with c.args.base.now c.args.rows.now.posts) p c.in_ok-hits.hits c.requires.before ends c.in_ok-hits.ensures;
-    }
-
-pub returns-in_err-answered-clause-reads : goal.returns-in_err-answered-clause-reads
-returns-in_err-answered-clause-reads g c =
-    let ps = (out-Query c.args.request.now.query).parts in
-    let x = c.index-parts-last.result in
-    let at : x ≡ get_or ps (length ps - 1) x = c.index-parts-last.is ∙ ap (λ (xs : List Part). get_or xs (length xs - 1) x) c.as_slice-parts.ensures in
-    let met = last_met (division c.args.index.now) ps x c.requires.some at in
-    let few = c.in-Some.ensures.words.few in
-    let reads = c.in_err-answered.ensures.reads in
-    let due = err_due (asked c.args.request.now) c.from_residual-in_err-answered.result c.from_residual-in_err-answered.ensures.0 in
-    record { later = reads.later; within = (let w = reads.within in omega (arith, w, met, few, due)) }
-
-pub returns-in-Some-clause-told : goal.returns-in-Some-clause-told
-returns-in-Some-clause-told g c b is stands own =
-    let q = c.args.request.now.query in
-    let ps = (out-Query q).parts in
-    let x = c.index-parts-last.result in
-    let p = c.end_positive-positive.result in
-    let some = c.requires.some in
-    let ends : p ≡ end_positive (take (length ps - 1) ps) = c.end_positive-positive.ensures ∙ ap (λ (xs : List Part). end_positive (take (length xs - 1) xs)) c.as_slice-parts.ensures in
-    let at : x ≡ get_or ps (length ps - 1) x = c.index-parts-last.is ∙ ap (λ (xs : List Part). get_or xs (length xs - 1) x) c.as_slice-parts.ensures in
-    c.in_ok-answered.ensures.told b is stands
-    (more_by_words q b c.args.index.now stands c.requires.index (entry_with c.args.base.now c.args.rows.now.posts) (length ps - 1) x p c.in_ok-hits.hits c.in-Some.words.0 c.in-Some.words.1 (omega (arith, some)) at ends c.in_ok-hits.ensures
-    c.in-Some.ensures.positive c.in-Some.ensures.words own)
-
-pub returns-in-Some-clause-reads : goal.returns-in-Some-clause-reads
-returns-in-Some-clause-reads g c =
-    let ps = (out-Query c.args.request.now.query).parts in
-    let x = c.index-parts-last.result in
-    let at : x ≡ get_or ps (length ps - 1) x = c.index-parts-last.is ∙ ap (λ (xs : List Part). get_or xs (length xs - 1) x) c.as_slice-parts.ensures in
-    let met = last_met (division c.args.index.now) ps x c.requires.some at in
-    let few = c.in-Some.ensures.words.few in
-    let reads = c.in_ok-answered.ensures.reads in
-    record { later = reads.later; within = (let w = reads.within in omega (arith, w, met, few)) }
-
--- ---- another part
-pub extended-requires-clause-base : goal.extended-requires-clause-base
-extended-requires-clause-base g c =
-    let q = c.args.request.now.query in
-    let e = entry_with c.args.base.now c.args.rows.now.posts in
-    let p = c.end_positive-positive.result in
-    let ps = (out-Query q).parts in
-    let ends : p ≡ end_positive (take (length ps - 1) ps) = c.end_positive-positive.ensures ∙ ap (λ (xs : List Part). end_positive (take (length xs - 1) xs)) c.as_slice-parts.ensures in
-    hits_are_in c.args.index.now (before_last q) e p (ends_first q p ends) c.in_ok-hits.hits c.in_ok-hits.ensures c.requires.before (few_parts (before_last q) (first_parts_stay q c.requires.limits.query))
-
-pub returns-in_err-entry-clause-reads : goal.returns-in_err-entry-clause-reads
-returns-in_err-entry-clause-reads g c =
-    let ps = (out-Query c.args.request.now.query).parts in
-    let x = c.index-parts-last-2.result in
-    let at : x ≡ get_or ps (length ps - 1) x = c.index-parts-last-2.is ∙ ap (λ (xs : List Part). get_or xs (length xs - 1) x) c.as_slice-parts.ensures in
-    let met = last_met (division c.args.index.now) ps x c.requires.some at in
-    let reads = c.extended.ensures.reads in
-    record { later = reads.later; within = (let w = reads.within in omega (arith, w, met)) }
-
-pub with_reply-requires-clause-entry : goal.with_reply-requires-clause-entry
-with_reply-requires-clause-entry g c =
-    let q = c.args.request.now.query in
-    let ps = (out-Query q).parts in
-    let x = c.index-parts-last-2.result in
-    let p = c.end_positive-positive.result in
-    let some = c.requires.some in
-    let ends : p ≡ end_positive (take (length ps - 1) ps) = c.end_positive-positive.ensures ∙ ap (λ (xs : List Part). end_positive (take (length xs - 1) xs)) c.as_slice-parts.ensures in
-    let at : x ≡ get_or ps (length ps - 1) x = c.index-parts-last-2.is ∙ ap (λ (xs : List Part). get_or xs (length xs - 1) x) c.as_slice-parts.ensures in
-    more_fits q c.args.index.now (length ps - 1) x c.in_ok-entry.entry (omega (arith, some)) at
-    (c.in_ok-entry.ensures.within (length ps - 1) (first_in q c.args.index.now (entry_with c.args.base.now c.args.rows.now.posts) p c.in_ok-hits.hits c.requires.before ends c.in_ok-hits.ensures))
-
-pub returns-in_err-answered-2-clause-reads : goal.returns-in_err-answered-2-clause-reads
-returns-in_err-answered-2-clause-reads g c =
-    let ps = (out-Query c.args.request.now.query).parts in
-    let x = c.index-parts-last-2.result in
-    let at : x ≡ get_or ps (length ps - 1) x = c.index-parts-last-2.is ∙ ap (λ (xs : List Part). get_or xs (length xs - 1) x) c.as_slice-parts.ensures in
-    let met = last_met (division c.args.index.now) ps x c.requires.some at in
-    let first = c.extended.ensures.reads in
-    let then = c.in_err-answered-2.ensures.reads in
-    let due = err_due (asked c.args.request.now) c.from_residual-in_err-answered-2.result c.from_residual-in_err-answered-2.ensures.0 in
-    record { later = (let l = first.later in let m = then.later in omega (arith, l, m)); within = (let v = first.within in let w = then.within in omega (arith, v, w, met, due)) }
+    first_in q c.args.index.now (entry_with c.args.base.now c.args.rows.now.posts) p c.in_ok-hits.hits c.requires.before ends c.in_ok-hits.ensures
 
 pub returns-clause-told : goal.returns-clause-told
 returns-clause-told g c b is stands own =
     let q = c.args.request.now.query in
-    let i = c.args.index.now in
     let ps = (out-Query q).parts in
-    let x = c.index-parts-last-2.result in
     let p = c.end_positive-positive.result in
-    let some = c.requires.some in
     let ends : p ≡ end_positive (take (length ps - 1) ps) = c.end_positive-positive.ensures ∙ ap (λ (xs : List Part). end_positive (take (length xs - 1) xs)) c.as_slice-parts.ensures in
-    let at : x ≡ get_or ps (length ps - 1) x = c.index-parts-last-2.is ∙ ap (λ (xs : List Part). get_or xs (length xs - 1) x) c.as_slice-parts.ensures in
-    let over = more_told q b i stands c.requires.index (entry_with c.args.base.now c.args.rows.now.posts) c.in_ok-entry.entry (length ps - 1) x p c.in_ok-hits.hits (omega (arith, some)) at ends c.in_ok-hits.ensures own (c.in_ok-entry.ensures.told b is stands) in
-    record {
-      reply = c.in_ok-answered-2.ensures.told b (c.extended.ensures.bytes ∙ is) stands over;
-      own = subst (λ o. IfSome o (IsEntryOver b i q)) (sym c.in_ok-answered-2.ensures.same) over;
-      large = λ none. absurd (true≢false (ap is_some (sym c.in_ok-answered-2.ensures.same) ∙ none));
-    }
-
-pub returns-clause-within : goal.returns-clause-within
-returns-clause-within g c =
-    let q = c.args.request.now.query in
-    let ps = (out-Query q).parts in
-    let x = c.index-parts-last-2.result in
-    let p = c.end_positive-positive.result in
-    let some = c.requires.some in
-    let ends : p ≡ end_positive (take (length ps - 1) ps) = c.end_positive-positive.ensures ∙ ap (λ (xs : List Part). end_positive (take (length xs - 1) xs)) c.as_slice-parts.ensures in
-    let at : x ≡ get_or ps (length ps - 1) x = c.index-parts-last-2.is ∙ ap (λ (xs : List Part). get_or xs (length xs - 1) x) c.as_slice-parts.ensures in
-    subst (λ o. IfSome o (FitsQuery c.args.index.now q)) (sym c.in_ok-answered-2.ensures.same)
-    (more_fits q c.args.index.now (length ps - 1) x c.in_ok-entry.entry (omega (arith, some)) at
-    (c.in_ok-entry.ensures.within (length ps - 1) (first_in q c.args.index.now (entry_with c.args.base.now c.args.rows.now.posts) p c.in_ok-hits.hits c.requires.before ends c.in_ok-hits.ensures)))
-
-pub returns-clause-reads : goal.returns-clause-reads
-returns-clause-reads g c =
-    let ps = (out-Query c.args.request.now.query).parts in
-    let x = c.index-parts-last-2.result in
-    let at : x ≡ get_or ps (length ps - 1) x = c.index-parts-last-2.is ∙ ap (λ (xs : List Part). get_or xs (length xs - 1) x) c.as_slice-parts.ensures in
-    let met = last_met (division c.args.index.now) ps x c.requires.some at in
-    let first = c.extended.ensures.reads in
-    let then = c.in_ok-answered-2.ensures.reads in
-    record { later = (let l = first.later in let m = then.later in omega (arith, l, m)); within = (let v = first.within in let w = then.within in omega (arith, v, w, met)) }
+    let found = found_by_entry c.args.index.now (before_last q) (entry_with c.args.base.now c.args.rows.now.posts) p (ends_first q p ends) c.in_ok-hits.hits c.in_ok-hits.ensures b stands c.requires.index own in
+    c.answered_by_hits.ensures.told b is stands found.base

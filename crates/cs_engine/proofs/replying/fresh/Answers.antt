@@ -1,15 +1,16 @@
-use Rattle.std.proofs.Common.{◌-◌, ◌≤◌, ◌∙◌, List, length, map, take, sym, ap, subst, arith, true≢false}
+use Rattle.std.proofs.Common.{◌≡◌, ◌-◌, ◌*◌, ◌≤◌, ◌∙◌, List, length, length-take, map, take, sym, ap, subst, arith, true≢false}
 use Rattle.std.specs.Prelude.{IfSome, is_some, sum}
 use Rattle.std.proofs.lemmas.Grind.{common_steps}
 use Rattle.cs_base.specs.declared.content.query.Part.{Part}
+use Rattle.cs_base.specs.declared.content.scores.TheConstants.{MAX_ROW_SCORE}
 use Rattle.cs_model.specs.Keys.{last_of}
 use Rattle.cs_model_kept.specs.Due.{met_of_last, met_of_part}
 use Rattle.cs_model_kept.specs.KeptListLaws.{before_last}
 use Rattle.cs_query.specs.RequestView.{asked}
 use Rattle.cs_engine.specs.Asking.{division}
 use Rattle.cs_engine.specs.Keeping.{FitsQuery, IsEntryOver}
+use Rattle.cs_engine.specs.Steps.{IsBaseOf}
 use Rattle.cs_engine.proofs.EvaluationLemmas.{met_query-is}
-use Rattle.cs_engine.proofs.KeepingLemmas.{from_stock}
 use Rattle.cs_engine.proofs.LentLemmas.{err_due}
 use Rattle.cs_engine.proofs.PlansLemmas.{first_parts, nothing_over, nothing_own, parts_met}
 use Rattle.cs_engine.proofs.replying.fresh.Goals as goal
@@ -35,15 +36,15 @@ returns-then-is_empty-clause-within g c =
     (nothing_own c.args.request.now.query c.as_slice-parts.result.now c.as_slice-parts.ensures (grind (arith, common_steps)) c.nothing_kept-entry.result c.nothing_kept-entry.ensures c.args.index.now)
 
 -- ---- the parts before the last, and that one
-pub returns-in_err-first-clause-reads : goal.returns-in_err-first-clause-reads
-returns-in_err-first-clause-reads g c =
+pub returns-in_err-hits-clause-reads : goal.returns-in_err-hits-clause-reads
+returns-in_err-hits-clause-reads g c =
     let v = division c.args.index.now in
     let q = c.args.request.now.query in
     let parts = c.as_slice-parts.result.now in
     let some : 1 ≤ length parts = grind (arith, common_steps) in
     let all = met_query-is v q ∙ ap (λ (xs : List Part). sum (map (met_of_part v) xs)) (sym c.as_slice-parts.ensures) in
     let met = parts_met v parts some in
-    let reads = c.entry_of.ensures.reads in
+    let reads = c.hits_of_parts.ensures.reads in
     record { later = reads.later; within = (let w = reads.within in omega (arith, w, met, all)) }
 
 pub returns-in_err-answered-2-clause-reads : goal.returns-in_err-answered-2-clause-reads
@@ -55,18 +56,23 @@ returns-in_err-answered-2-clause-reads g c =
     let all = met_query-is v q ∙ ap (λ (xs : List Part). sum (map (met_of_part v) xs)) (sym c.as_slice-parts.ensures) in
     let met = parts_met v parts some in
     let last = ap (λ (xs : List Part). met_of_last v (last_of xs)) c.as_slice-parts.ensures in
-    let first = c.entry_of.ensures.reads in
+    let first = c.hits_of_parts.ensures.reads in
     let then = c.in_err-answered-2.ensures.reads in
     let due = err_due (asked c.args.request.now) c.from_residual-in_err-answered-2.result c.from_residual-in_err-answered-2.ensures.0 in
     record { later = (let l = first.later in let m = then.later in omega (arith, l, m)); within = (let a = first.within in let w = then.within in omega (arith, a, w, met, all, last, due)) }
+
+pub answered_by_hits-requires-clause-base : goal.answered_by_hits-requires-clause-base
+answered_by_hits-requires-clause-base g c =
+    let parts = c.as_slice-parts.result.now in
+    let many : length (take (length parts - 1) parts) ≡ length parts - 1 = (let l = length-take (length parts - 1) parts in omega (arith, l)) in
+    let are = many ∙ ap (λ (xs : List Part). length xs - 1) c.as_slice-parts.ensures in
+    subst (λ n. IsBaseOf c.args.index.now.docs (MAX_ROW_SCORE * n) c.in_ok-hits.hits) are c.in_ok-hits.ensures.within
 
 pub returns-clause-told : goal.returns-clause-told
 returns-clause-told g c b is stands =
     let q = c.args.request.now.query in
     let are = ap (λ (xs : List Part). take (length xs - 1) xs) c.as_slice-parts.ensures in
-    c.in_ok-answered-2.ensures.told b (c.entry_of.ensures.bytes ∙ is) stands
-    (subst (IsEntryOver b c.args.index.now (before_last q)) (sym c.first.view_is)
-    (from_stock b c.args.index.now stands c.requires.index (before_last q) c.in_ok-first.first (c.in_ok-first.ensures.told b is stands (before_last q) (first_parts q _ are))))
+    c.in_ok-answered-2.ensures.told b (c.hits_of_parts.ensures.bytes ∙ is) stands (c.in_ok-hits.ensures.told b is stands (before_last q) (first_parts q _ are))
 
 pub returns-clause-reads : goal.returns-clause-reads
 returns-clause-reads g c =
@@ -77,6 +83,6 @@ returns-clause-reads g c =
     let all = met_query-is v q ∙ ap (λ (xs : List Part). sum (map (met_of_part v) xs)) (sym c.as_slice-parts.ensures) in
     let met = parts_met v parts some in
     let last = ap (λ (xs : List Part). met_of_last v (last_of xs)) c.as_slice-parts.ensures in
-    let first = c.entry_of.ensures.reads in
+    let first = c.hits_of_parts.ensures.reads in
     let then = c.in_ok-answered-2.ensures.reads in
     record { later = (let l = first.later in let m = then.later in omega (arith, l, m)); within = (let a = first.within in let w = then.within in omega (arith, a, w, met, all, last)) }

@@ -2,12 +2,12 @@ use Rattle.std.proofs.Common.{◌≡◌, ◌++◌, List, take, length}
 use Rattle.std.specs.Prelude.{filter}
 use Rattle.cs_base.specs.declared.content.doc.Post.{Post}
 use Rattle.cs_file.specs.CallAnswers.{AreScoredOf}
+use Rattle.cs_tables.specs.WordCounts.{is_chosen}
 use Rattle.cs_engine.specs.Loose.{HasBestScores}
-use Rattle.cs_engine.specs.Stocked.{is_between}
-use Rattle.cs_engine.proofs.best.raise_rows.Given as goal
+use Rattle.cs_engine.proofs.best.raise_chosen.Given as goal
 
 abbrev pub invariant-loop-i : goal.invariant-loop-i
 invariant-loop-i l = record {
-  best : (rows : List Post) → AreScoredOf rows l.docs l.row_words l.scores → (seen : List Post) → HasBestScores seen l.fn.best → HasBestScores (seen ++ filter (is_between l.lo l.hi) (take l.i rows)) l.best;
+  best : (rows : List Post) → AreScoredOf rows l.docs l.row_words l.scores → (seen : List Post) → HasBestScores seen l.fn.best → HasBestScores (seen ++ filter (is_chosen l.lo l.hi l.listed) (take l.i rows)) l.best;
   len : length l.best ≡ length l.fn.best;
 }
