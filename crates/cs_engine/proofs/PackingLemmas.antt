@@ -2,8 +2,7 @@
 --
 --   unkeyed             a packed post is the post of its number
 --   ordered_is          what is left of sorted numbers is in order, and loses no member
---   packed_posts, within_posts, known_posts     posts that are read are packed, and in range
---   at_place, chooses_on, place_known, placed_on, packs_placed, packs_run     places of a run of posts, one post more, the numbers of posts at them, and of a run more
+--   packed_posts, within_posts     posts that are read are packed, and in range
 --   no_keys, keys_more  numbers of no block, and of one block more
 --   gathered            what is gathered of a run of blocks
 --   in_rows, run_known, ordered_within, ordered_passed, ordered_told     what is brought into order of it
@@ -35,7 +34,7 @@ use Rattle.cs_model.specs.Scores.{SCORES}
 use Rattle.cs_tables.specs.WordCounts.{AreCountable, is_chosen}
 use Rattle.cs_model_index.specs.BlockRules.{is_scored}
 use Rattle.cs_model_index.specs.Sections.{image_of}
-use Rattle.cs_engine.specs.Packing.{HasKeys, ArePlacedAt, IsOrdered, IsPacked, apart, key_of, place_of_key, post_of_key}
+use Rattle.cs_engine.specs.Packing.{AreFrom, HasKeys, IsOrdered, IsPacked, apart, key_of, place_of_key, post_of_key}
 use Rattle.cs_engine.specs.Counting.{in_listed}
 use Rattle.cs_engine.specs.Loose.{AreAlike, AreGathered}
 use Rattle.cs_engine.specs.IndexReading.{AreWithin, IsWithin, WhereStood, run_of, stock_of}
@@ -264,75 +263,6 @@ within_posts i read ranged = λ j e l.
     let score = room.score in
     record { doc = p.doc; word = p.word; score = omega (arith, score) }
 
-pub known_posts : (i : IndexView) (n : ℕ) → n ≡ i.docs → (read : List Post) → All (IsRanged i) read → All (λ p. p.doc < n) read
-known_posts i n same read ranged = λ j e l. let p = ranged j e l in let doc = p.doc in omega (arith, doc, same)
-
-pub at_place : (P : Post → Type 0) (posts : List Post) (i : ℕ) (p : Post) → i < length posts → p ≡ get_or posts i p → All P posts → P p
-at_place P posts i p lt is all = subst P (sym is) (all i p lt)
-
-pub counts_one : (b : Bool) → from_bool b ≡ (if b then 1 else 0)
-counts_one true = refl
-counts_one false = refl
-
-pub at_most_one : (b : Bool) → (if b then 1 else 0) ≤ 1
-at_most_one true = omega arith
-at_most_one false = omega arith
-
--- behind a run what is left comes behind what was added
-pub packs_run : (old now run rest here : List ℕ) → now ≡ old ++ run → run ++ rest ≡ here → now ++ rest ≡ old ++ here
-packs_run old now run rest here added run_is = ap (λ xs. xs ++ rest) added ∙ append_assoc old run rest ∙ ap (λ xs. old ++ xs) run_is
-
-none_more : (n : ℕ) → n + 0 ≡ n
-none_more n = omega arith
-
--- of one post more the place is put behind those that were chosen, and counts where the post is chosen too
-pub chooses_on : (t : Post → Bool) (posts : List Post) (d : Post) (from i : ℕ) (places : List ℕ) (n m : ℕ) → i < length posts → n < length places → m ≡ n + (if t (get_or posts i d) then 1 else 0)
-    → ArePlacedAt posts d from i t (take n places) → ArePlacedAt posts d from (i + 1) t (take m (set places n i))
-chooses_on t posts d from i places n m lt room count h =
-    let p = get_or posts i d in
-    let at : ℕ → Post = λ i. get_or posts i d in
-    let rest = drop (i + 1) posts in
-    let split : drop i posts ≡ p ∷ rest = drop_more posts i d lt in
-    elim (t p) as (λ b. t p ≡ b → m ≡ n + cond b 1 0 → ArePlacedAt posts d from (i + 1) t (take m (set places n i))) [
-      | true ↦ λ e many.
-          let longer : take m (set places n i) ≡ take n places ++ i ∷ [] = ap (λ x. take x (set places n i)) many ∙ take_more_set places n i room in
-          record {
-            known = subst (All (λ i. i < length posts)) (sym longer) (All-append (λ i. i < length posts) (take n places) (i ∷ []) h.known (All-from_recursion (λ i. i < length posts) (i ∷ []) (lt, tt)));
-            are = ap (λ xs. map at xs ++ filter t rest) longer ∙ ap (λ xs. xs ++ filter t rest) (map-append at (take n places) (i ∷ [])) ∙ append_assoc (map at (take n places)) (p ∷ []) (filter t rest)
-                ∙ ap (λ b. map at (take n places) ++ cond b (p ∷ filter t rest) (filter t rest)) (sym e) ∙ ap (λ xs. map at (take n places) ++ filter t xs) (sym split) ∙ h.are;
-          }
-      | false ↦ λ e many.
-          let same : take m (set places n i) ≡ take n places = ap (λ x. take x (set places n i)) (many ∙ none_more n) ∙ take-set places n i in
-          record {
-            known = subst (All (λ i. i < length posts)) (sym same) h.known;
-            are = ap (λ xs. map at xs ++ filter t rest) same ∙ ap (λ b. map at (take n places) ++ cond b (p ∷ filter t rest) (filter t rest)) (sym e) ∙ ap (λ xs. map at (take n places) ++ filter t xs) (sym split) ∙ h.are;
-          }
-    ] refl count
-
--- each place has a post
-pub place_known : (posts : List Post) (d : Post) (from to : ℕ) (t : Post → Bool) (n k at : ℕ) (places : List ℕ) → ArePlacedAt posts d from to t (take n places) → k < n → n ≤ length places → at ≡ get_or places k at → at < length posts
-place_known posts d from to t n k at places h lt le is =
-    subst (λ x. x < length posts) (get_or-take n places k at lt ∙ sym is) (h.known k at (omega (arith, lt, le, length-take n places)))
-
--- the number of one post more
-pub placed_on : (posts : List Post) (d : Post) (places run : List ℕ) (k at : ℕ) (p : Post) → k < length places → at ≡ get_or places k at → at < length posts → p ≡ get_or posts at p → k < length run
-    → take k run ≡ map (λ i. key_of (get_or posts i d)) (take k places) → take (k + 1) (set run k (key_of p)) ≡ map (λ i. key_of (get_or posts i d)) (take (k + 1) places)
-placed_on posts d places run k at p lt is known same room h =
-    let f : ℕ → ℕ = λ i. key_of (get_or posts i d) in
-    let one : key_of p ≡ f (get_or places k at) = ap key_of (same ∙ get_or_default posts at p d known) ∙ ap f is in
-    take_more_set run k (key_of p) room ∙ ap₂ (λ xs x. xs ++ x ∷ []) h one ∙ sym (ap (map f) (take_more places k at lt) ∙ map-append f (take k places) (get_or places k at ∷ []))
-
--- the numbers of the posts at these places
-pub packs_placed : (posts : List Post) (d : Post) (from to : ℕ) (t : Post → Bool) (places run : List ℕ) → ArePlacedAt posts d from to t places → run ≡ map (λ i. key_of (get_or posts i d)) places
-    → run ++ map key_of (filter t (drop to posts)) ≡ map key_of (filter t (drop from posts))
-packs_placed posts d from to t places run h are =
-    let at : ℕ → Post = λ i. get_or posts i d in
-    ap (λ xs. xs ++ map key_of (filter t (drop to posts))) (are ∙ map_through places) ∙ sym (map-append key_of (map at places) (filter t (drop to posts))) ∙ ap (map key_of) h.are
-  where
-    map_through : (ns : List ℕ) → map (λ i. key_of (get_or posts i d)) ns ≡ map key_of (map (λ i. get_or posts i d) ns)
-    map_through [] = refl
-    map_through (n ∷ ns) = ap (λ xs. key_of (get_or posts n d) ∷ xs) (map_through ns)
-
 pub no_keys : (i : IndexView) (told : Option (List ℕ)) (first : ℕ) (t : Post → Bool) (keys : List ℕ) → keys ≡ [] → HasKeys i told first first t keys
 no_keys i told first t keys none = record {
   rows = [];
@@ -343,18 +273,18 @@ no_keys i told first t keys none = record {
   run = λ b is stands. (let e : 0 ≡ first - first = omega arith in ap (λ n. flat_map (filter t) (take n (drop first (image_of b).blocks))) e);
 }
 
--- of a block that is read the posts that pass are added
-pub keys_more : (i : IndexView) (told : Option (List ℕ)) (first k : ℕ) (t : Post → Bool) (old new : List ℕ) (read : List Post) → IsIndex i → first ≤ k → k < length i.heads → new ≡ old ++ map key_of (filter t read) → All IsPacked read → All (IsWithin i.docs (length i.words)) read
-    → WhereStood told i (λ b. read ≡ block_posts b k) → HasKeys i told first k t old → HasKeys i told first (k + 1) t new
-keys_more i told first k t old new read index le lt added packed within block h = record {
-  rows = h.rows ++ filter t read;
-  are = added ∙ ap (λ xs. xs ++ map key_of (filter t read)) h.are ∙ sym (map-append key_of h.rows (filter t read));
-  packed = All-append IsPacked h.rows (filter t read) h.packed (All-filter t IsPacked read packed);
-  within = All-append (IsWithin i.docs (length i.words)) h.rows (filter t read) h.within (All-filter t (IsWithin i.docs (length i.words)) read within);
-  passed = All-append (λ p. t p ≡ true) h.rows (filter t read) h.passed (filter_passes t read);
+-- of a block more the posts that pass are added
+pub keys_more : (i : IndexView) (told : Option (List ℕ)) (first k : ℕ) (t : Post → Bool) (old new : List ℕ) (posts : List Post) → first ≤ k → k < length i.heads → new ≡ old ++ map key_of posts → AreFrom i told k t posts
+    → HasKeys i told first k t old → HasKeys i told first (k + 1) t new
+keys_more i told first k t old new posts le lt added from h = record {
+  rows = h.rows ++ posts;
+  are = added ∙ ap (λ xs. xs ++ map key_of posts) h.are ∙ sym (map-append key_of h.rows posts);
+  packed = All-append IsPacked h.rows posts h.packed from.packed;
+  within = All-append (IsWithin i.docs (length i.words)) h.rows posts h.within from.within;
+  passed = All-append (λ p. t p ≡ true) h.rows posts h.passed from.passed;
   run = λ b is stands.
       let count = stood_count b i stands in
-      ap₂ (λ x y. x ++ y) (h.run b is stands) (ap (filter t) (block b is stands)) ∙ sym (flat_more (filter t) (image_of b).blocks first k le (omega (arith, lt, count)));
+      ap₂ (λ x y. x ++ y) (h.run b is stands) (from.read b is stands) ∙ sym (flat_more (filter t) (image_of b).blocks first k le (omega (arith, lt, count)));
 }
 
 pub in_rows : (P : Post → Type 0) (rows posts : List Post) → All (Contains rows) posts → All P rows → All P posts

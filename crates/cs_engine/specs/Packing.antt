@@ -7,8 +7,8 @@
 --   place_of_key key       the number without the score
 --   post_of_key key        the post of a number
 --   apart last keys        the numbers whose place isn't that of the one before; last is the place before the first
---   ArePlacedAt posts d from to t places    the places of the posts from number from up to `to` that pass a test
 --   IsOrdered rows posts   the members of rows, in order, each place once
+--   AreFrom i told k t posts       posts in the range of an index that pass a test; of a store that tells, those of a block
 --   HasKeys i told first k t keys    numbers of posts in the range of an index that pass a test; of a store that tells, of a run of its
 --                          blocks
 use Rattle.std.specs.Prelude.{◌≡◌, ℕ, ◌+◌, ◌*◌, ◌/◌, ◌%◌, ◌<◌, ◌==◌, Bool, true, List, [], ◌∷◌, ◌++◌, length, map, filter, drop, slice_index_or, Option, if◌then◌else◌}
@@ -16,7 +16,7 @@ use Rattle.std.specs.List.{All, Contains, list_any}
 use Rattle.cs_base.specs.content.Orders.{AreSorted}
 use Rattle.cs_base.specs.declared.content.doc.Post.{Post}
 use Rattle.cs_base.specs.declared.content.limits.TheConstants.{MAX_DOCS}
-use Rattle.cs_file.specs.Indexes.{IndexView}
+use Rattle.cs_file.specs.Indexes.{IndexView, block_posts}
 use Rattle.cs_model_index.specs.Sections.{image_of}
 use Rattle.cs_engine.specs.IndexReading.{IsWithin, WhereStood, run_of}
 use Rattle.cs_engine.specs.declared.packing.TheConstants.{POSITION_ROOM, WORD_ROOM, SCORE_ROOM}
@@ -45,16 +45,18 @@ abbrev pub apart : ℕ → List ℕ → List ℕ
 apart last [] = []
 apart last (k ∷ keys) = if place_of_key k == last then apart (place_of_key k) keys else k ∷ apart (place_of_key k) keys
 
--- none where from is to; d stands where a place has no post, which none of these is
-pub record ArePlacedAt (posts : List Post) (d : Post) (from to : ℕ) (t : Post → Bool) (places : List ℕ) : Type 0 where
-  pub known : All (λ i. i < length posts) places
-  pub are : map (λ i. slice_index_or posts i d) places ++ filter t (drop to posts) ≡ filter t (drop from posts)
-
 -- where posts that share a place are the same, no member is lost
 pub record IsOrdered (rows posts : List Post) : Type 0 where
   pub sorted : AreSorted posts
   pub among : All (Contains rows) posts
   pub alike : (all : List Post) → AreSorted all → All (Contains all) rows → (t : Post → Bool) → list_any t posts ≡ list_any t rows
+
+-- none where no post of the block passes
+pub record AreFrom (i : IndexView) (told : Option (List ℕ)) (k : ℕ) (t : Post → Bool) (posts : List Post) : Type 0 where
+  pub packed : All IsPacked posts
+  pub within : All (IsWithin i.docs (length i.words)) posts
+  pub passed : All (λ p. t p ≡ true) posts
+  pub read : WhereStood told i (λ b. posts ≡ filter t (block_posts b k))
 
 -- none where first is k
 pub record HasKeys (i : IndexView) (told : Option (List ℕ)) (first k : ℕ) (t : Post → Bool) (keys : List ℕ) : Type 0 where

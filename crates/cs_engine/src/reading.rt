@@ -16,7 +16,7 @@ use crate::fault::AskFault;
 use crate::packing::{ordered, pack};
 use cs_base::{Base, Store};
 use cs_cols::Cols;
-use cs_file::{Fetched, Index};
+use cs_file::{Index, Sought};
 use std::alloc::Global;
 
 /// The rows whose word's number is `lo` or more and below `hi`, in order. Each block that holds such a word is read once.
@@ -99,7 +99,7 @@ pub(crate) fn keys_in<S: Store>(
     let (lo, hi) = words;
     let (first, last) = index.blocks(lo, hi);
     let mut keys = Vec::new(alloc);
-    let mut block = Fetched::new(alloc);
+    let mut block = Sought::new(alloc);
     for k in first..last {
         pack_block(alloc, index, store, k, words, listed, &mut block, &mut keys)?;
     }
@@ -114,10 +114,11 @@ fn pack_block<S: Store>(
     k: u32,
     words: (u32, u32),
     listed: &[bool],
-    block: &mut Fetched,
+    block: &mut Sought,
     keys: &mut Vec<u64>,
 ) -> Result<(), AskFault>
     requires in_range { k < length index.now.heads }
+    requires in_words { words.1 ≤ length index.now.words }
     requires listed { length listed.now ≡ index.now.docs }
     requires index { IsIndex index.now }
     requires fits { HasAllBlocks (S.bytes store.old) index.now }
@@ -129,7 +130,7 @@ fn pack_block<S: Store>(
     ensures reads { ReadsWithin 1 (S.reads store.old) (S.reads store.new) }
     ensures caused { CausedReads (is_read result) (S.faults store.old) (S.faults store.new) }
 {
-    index.fetch_posts(alloc, store, k, block)?;
-    pack(block, words, listed, keys)?;
+    index.fetch_sought(alloc, store, k, words, listed, block)?;
+    pack(&block.posts, keys)?;
     Ok(())
 }

@@ -1,15 +1,10 @@
-use Rattle.std.proofs.Common.{◌≡◌, ◌-◌, ◌≤◌, ◌++◌, length, map, drop}
-use Rattle.std.specs.Prelude.{filter}
-use Rattle.cs_file.specs.CallAnswers.{posts_in}
-use Rattle.cs_tables.specs.WordCounts.{is_chosen}
+use Rattle.std.proofs.Common.{◌≡◌, ◌+◌, ◌≤◌, ◌++◌, length, map, take}
+use Rattle.std.specs.Vec.{vec_len, vec_capacity}
 use Rattle.cs_engine.specs.Packing.{key_of}
 use Rattle.cs_engine.proofs.packing.pack.Given as goal
 
-abbrev pub invariant-loop-from : goal.invariant-loop-from
-invariant-loop-from l = record {
-  keys : l.keys.items ++ map key_of (filter (is_chosen l.words.0 l.words.1 l.listed) (drop l.from (posts_in l.posts))) ≡ l.fn.keys.items ++ map key_of (filter (is_chosen l.words.0 l.words.1 l.listed) (posts_in l.posts));
-  within : l.from ≤ length l.posts.docs.items;
+abbrev pub invariant-loop-post : goal.invariant-loop-post
+invariant-loop-post l = record {
+  keys : l.keys.items ≡ l.fn.keys.items ++ map key_of (take l.post-index l.posts);
+  room : vec_len l.keys + length l.posts ≤ vec_capacity l.keys + l.post-index;
 }
-
-abbrev pub decreases-loop-from : goal.decreases-loop-from
-decreases-loop-from l = length l.posts.docs.items - l.from
