@@ -4,4 +4,4 @@ use Rattle.cs_model.proofs.DefaultRequests.{default_holds}
 use Rattle.cs_tests.proofs.engine.answer.Goals as goal
 
 pub ask-requires-clause-limits : goal.ask-requires-clause-limits
-ask-requires-clause-limits c = subst HoldsLimits (sym c.by_default.ensures) (default_holds c.in-Ok.query c.in-Ok.ensures.grammar)
+ask-requires-clause-limits c = subst HoldsLimits (sym c.by_default-request.ensures) (default_holds c.in-Ok.query c.in-Ok.ensures.grammar)
