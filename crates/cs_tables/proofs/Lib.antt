@@ -3,3 +3,4 @@ pub mod Samples
 pub mod TablesLemmas
 pub mod WordCountsLemmas
 pub mod CountedWords
+pub mod PlacesLemmas

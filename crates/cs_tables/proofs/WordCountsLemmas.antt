@@ -5,6 +5,7 @@
 --   counted_nothing      the marks of no rows
 --   one_counted          the marks behind one row of one of the words
 --   row_counted, row_passed, row_where     behind one row
+--   pieces_counted       behind one piece and another
 --   rows_counted         behind one row more
 --   piece_counted, row_seen     what is counted behind a piece more, and behind one row
 --   words_counted        the words that are collected are those of the rows
@@ -167,7 +168,7 @@ module _ (low high : ℕ) (listed : List Bool) where
       set_again (m ∷ ms) (suc j) n lt e = ap (λ l. m ∷ l) (set_again ms j n (omega (arith, lt)) e)
 
   -- one piece behind another
-  pieces_counted : (a b : List Post) (m0 m1 m2 : List Mark) → Counts low high listed a m0 m1 → Counts low high listed b m1 m2 → Counts low high listed (a ++ b) m0 m2
+  pub pieces_counted : (a b : List Post) (m0 m1 m2 : List Mark) → Counts low high listed a m0 m1 → Counts low high listed b m1 m2 → Counts low high listed (a ++ b) m0 m2
   pieces_counted a b m0 m1 m2 first second seen c h =
       let f = chosen low high listed in
       let both : seen ++ f (a ++ b) ≡ (seen ++ f a) ++ f b = ap (λ rows. seen ++ rows) (filter-append (is_chosen low high listed) a b) ∙ sym (append_assoc seen (f a) (f b)) in

@@ -5,11 +5,14 @@
 --   WordCountsView                      the words from one number up to another, and the mark of each
 --   is_chosen low high listed p    the word of a row is one of these, and its document is listed
 --   chosen low high listed rows    the rows that are counted
+--   is_listed listed p             the document of a row is listed
+--   ArePlacesOfListed listed rows d from to places     the places of the rows in listed documents, from one place up to another
+--   IsListedAt listed docs i       the document that stands there is listed
 --   AreCountable rows              the rows of each word are in order, and their documents are few
 --   HasWordMarks low rows marks    the marks of the words from low on are those after these rows
 --   Counts low high listed rows old new     the marks after these rows more, whatever rows came before
 --   HasCounted rows t              what is counted after these rows, all of words that are counted
-use Rattle.std.specs.Prelude.{◌≡◌, ℕ, ◌+◌, ◌<◌, ◌≤◌, ◌&&◌, Bool, false, nat_le, nat_lt, List, ◌++◌, filter, length, slice_index_or}
+use Rattle.std.specs.Prelude.{◌≡◌, ℕ, ◌+◌, ◌<◌, ◌≤◌, ◌&&◌, Bool, true, false, nat_le, nat_lt, List, ◌++◌, drop, filter, length, map, slice_index_or}
 use Rattle.std.specs.List.{All}
 use Rattle.cs_base.specs.content.Orders.{AreSorted}
 use Rattle.cs_base.specs.declared.content.doc.Post.{Post}
@@ -31,6 +34,18 @@ is_chosen low high listed p = (nat_le low p.word && nat_lt p.word high) && slice
 -- of no rows none
 abbrev pub chosen : ℕ → ℕ → List Bool → List Post → List Post
 chosen low high listed rows = filter (is_chosen low high listed) rows
+
+-- a document behind the last of the list isn't listed
+abbrev pub is_listed : List Bool → Post → Bool
+is_listed listed p = slice_index_or listed p.doc false
+
+-- none where from is to; d stands where a place has no row, which none of these is
+abbrev pub ArePlacesOfListed : List Bool → List Post → Post → ℕ → ℕ → List ℕ → Type 0
+ArePlacesOfListed listed rows d from to places = map (λ i. slice_index_or rows i d) places ++ filter (is_listed listed) (drop to rows) ≡ filter (is_listed listed) (drop from rows)
+
+-- a place behind the last document isn't one
+abbrev pub IsListedAt : List Bool → List ℕ → ℕ → Type 0
+IsListedAt listed docs i = (i < length docs) × (slice_index_or listed (slice_index_or docs i 0) false ≡ true)
 
 -- rows of different words may come in any order; no rows are countable
 pub record AreCountable (rows : List Post) : Type 0 where

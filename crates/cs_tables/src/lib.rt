@@ -9,7 +9,7 @@ mod tables;
 mod word_counts;
 
 pub use tables::{Completion, Table, completions};
-pub use word_counts::WordCounts;
+pub use word_counts::{WordCounts, are_within};
 
 #[cfg(test)]
 mod tests;

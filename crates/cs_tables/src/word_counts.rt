@@ -3,7 +3,7 @@ ghost use Rattle.std.specs.Prelude.{◌≡◌, ◌+◌, ◌++◌, ◌<◌, ◌�
 ghost use Rattle.cs_base.specs.declared.content.doc.Post.{Post};
 ghost use Rattle.cs_base.specs.declared.content.limits.TheConstants.{MAX_DOCS, MAX_WORDS};
 ghost use Rattle.cs_tables.specs.TableListings.{post_table};
-ghost use Rattle.cs_tables.specs.WordCounts.{AreCountable, Counts, HasCounted, chosen};
+ghost use Rattle.cs_tables.specs.WordCounts.{ArePlacesOfListed, AreCountable, Counts, HasCounted, IsListedAt, chosen};
 
 use crate::counts::{BLANK, Mark, collect};
 use crate::tables::{Table, completions_of};
@@ -11,6 +11,9 @@ use cs_base::{Memory, Seq};
 use cs_rank::top;
 use std::alloc::Global;
 use std::marker::Model;
+
+// So many rows at most are looked at in one loop.
+const SPAN: usize = 256;
 
 /// The words from one number up to another, each with the number of documents that it has in the rows so far.
 ///
@@ -105,7 +108,7 @@ impl WordCounts {
     }
 }
 
-// Counts rows in the marks of the words from `low` up to `high`.
+// Counts rows in the marks of the words from `low` up to `high`, some rows at a time.
 fn see_rows(low: u32, high: u32, marks: &mut [Mark], docs: &[u32], words: &[u32], listed: &[bool])
     requires sized { low + length marks.old ≡ high }
     requires even { length words.now ≡ length docs.now }
@@ -114,11 +117,56 @@ fn see_rows(low: u32, high: u32, marks: &mut [Mark], docs: &[u32], words: &[u32]
     ensures counted { (rows : List Post) → docs.now ≡ map (λ p. p.doc) rows → words.now ≡ map (λ p. p.word) rows → Counts low high listed.now rows marks.old marks.new }
     ensures sized { length marks.new ≡ length marks.old }
 {
-    for i in 0..docs.len() {
-        let doc = docs[i];
-        if listed[doc as usize] {
-            see_row(low, high, marks, doc, words[i]);
-        }
+    let mut places = [0usize; SPAN];
+    let mut from = 0;
+    while from < docs.len() {
+        let to = from + SPAN.min(docs.len() - from);
+        let found = find_listed(docs, from, to, listed, &mut places);
+        see_places(low, high, marks, docs, words, listed, &places[..found]);
+        from = to;
+    }
+}
+
+// Puts the places of those of some rows that are in listed documents to the front of a slice, without a jump, and says how many there
+// are.
+fn find_listed(docs: &[u32], from: usize, to: usize, listed: &[bool], places: &mut [usize]) -> usize
+    requires known { All (λ d. d < length listed.now) docs.now }
+    requires onward { from ≤ to }
+    requires within { to ≤ length docs.now }
+    requires room { to ≤ from + length places.old }
+
+    ensures found { (rows : List Post) → docs.now ≡ map (λ p. p.doc) rows → (d : Post) → ArePlacesOfListed listed.now rows d from to (take result places.new) }
+    ensures known { All (IsListedAt listed.now docs.now) (take result places.new) }
+    ensures few { result ≤ length places.new }
+    ensures len { length places.new ≡ length places.old }
+{
+    let mut found = 0;
+    for i in from..to {
+        places[found] = i;
+        found += usize::from(listed[docs[i] as usize]);
+    }
+    found
+}
+
+// Counts the rows at these places, all of them in listed documents.
+fn see_places(
+    low: u32,
+    high: u32,
+    marks: &mut [Mark],
+    docs: &[u32],
+    words: &[u32],
+    listed: &[bool],
+    places: &[usize],
+)
+    requires sized { low + length marks.old ≡ high }
+    requires even { length words.now ≡ length docs.now }
+    requires known { All (IsListedAt listed.now docs.now) places.now }
+
+    ensures counted { (rows : List Post) → docs.now ≡ map (λ p. p.doc) rows → words.now ≡ map (λ p. p.word) rows → (d : Post) → Counts low high listed.now (map (λ i. slice_index_or rows i d) places.now) marks.old marks.new }
+    ensures sized { length marks.new ≡ length marks.old }
+{
+    for place in places {
+        see_row(low, high, marks, docs[*place], words[*place]);
     }
 }
 
@@ -135,8 +183,8 @@ fn see_row(low: u32, high: u32, marks: &mut [Mark], doc: u32, word: u32)
     }
 }
 
-// Whether all of some words are from `low` up to `high`, without a jump.
-fn are_within(words: &[u32], low: u32, high: u32) -> bool
+/// Whether all of some words are from number `low` up to `high`, which is left out. Each is looked at, without a jump.
+pub fn are_within(words: &[u32], low: u32, high: u32) -> bool
     ensures { result ≡ true → All (λ w. (low ≤ w) × (w < high)) words.now }
 {
     let mut all = true;

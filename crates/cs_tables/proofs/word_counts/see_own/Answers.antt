@@ -1,4 +1,4 @@
-use Rattle.std.proofs.Common.{◌≡◌, ◌∙◌, List, [], ◌∷◌, ap, subst, length, length-set, take, take_all, get_or, arith}
+use Rattle.std.proofs.Common.{◌≡◌, ◌∙◌, List, ap, subst, length, length-set, take, take_all, get_or, arith}
 use Rattle.std.proofs.lemmas.List.{length-map}
 use Rattle.cs_base.specs.declared.content.doc.Post.{Post}
 use Rattle.cs_tables.specs.WordCounts.{Counts}

@@ -1,43 +1,25 @@
-use Rattle.std.proofs.Common.{◌≡◌, ◌∙◌, ◌&&◌, nat_le, nat_lt, List, [], ◌∷◌, ap, sym, subst, length, take, take_all, get_or, arith}
-use Rattle.std.proofs.lemmas.Bool.{and_right}
+use Rattle.std.proofs.Common.{◌+◌, ◌∙◌, ap, arith, length, take}
 use Rattle.std.proofs.lemmas.List.{length-map}
 use Rattle.cs_base.specs.declared.content.doc.Post.{Post}
-use Rattle.cs_tables.specs.WordCounts.{Counts}
-use Rattle.cs_tables.specs.declared.counts.Mark.{Mark}
-use Rattle.cs_tables.proofs.WordCountsLemmas.{row_passed, rows_counted}
+use Rattle.cs_cols.proofs.Columns.{post}
+use Rattle.cs_tables.proofs.PlacesLemmas.{counted_all, counted_on}
 use Rattle.cs_tables.proofs.word_counts.see_rows.Goals as goal
-use Rattle.cs_tables.proofs.word_counts.see_rows.Goals.{then-listed-doc, else-listed-doc}
 
-pub loop-i-preserved : goal.loop-i-preserved
-loop-i-preserved c =
-    let low = c.args.low in
-    let high = c.args.high in
-    let listed = c.args.listed.now in
-    let docs = c.args.docs.now in
-    let words = c.args.words.now in
-    let i = c.loop-i.i in
-    let before = c.loop-i.marks in
-    let now = c.if-listed-doc.marks in
-    let one : (p : Post) → get_or docs i 0 ≡ p.doc → get_or words i 0 ≡ p.word → Counts low high listed (p ∷ []) before now =
-    λ p d w. elim c.if-listed-doc.branch [
-      | then-listed-doc b ↦
-          let seen = b.see_row.ensures.counted listed p d w b.if-listed-doc.true in
-          subst (λ (ms : List Mark). Counts low high listed (p ∷ []) before ms) (sym b.marks-is) seen
-      | else-listed-doc b ↦
-          let out = and_right (nat_le low (get_or words i 0) && nat_lt (get_or words i 0) high) _ b.if-listed-doc.false in
-          subst (λ (ms : List Mark). Counts low high listed (p ∷ []) before ms) (sym b.marks-is)
-          (row_passed low high listed before (get_or docs i 0) (get_or words i 0) out p d w)
-    ] in
-    let sized : length now ≡ length before = elim c.if-listed-doc.branch [
-      | then-listed-doc b ↦ ap length b.marks-is ∙ b.see_row.ensures.sized
-      | else-listed-doc b ↦ ap length b.marks-is
-    ] in
+pub loop-from-preserved : goal.loop-from-preserved
+loop-from-preserved c =
+    let inv = c.loop-from.invariant in
+    let from = c.loop-from.from in
+    let none = post 0 0 0 0 in
+    let places = take c.find_listed-found.result c.find_listed-found.new.places in
     record {
-      counted = λ rows d w. rows_counted low high listed rows docs words i c.args.marks.now before now d w c.loop-i-test.true (c.loop-i.invariant.counted rows d w) one;
-      sized = sized ∙ c.loop-i.invariant.sized;
+      counted = λ rows d w.
+          counted_on c.args.low c.args.high c.args.listed.now rows none from (from + c.min.result) places c.args.marks.now c.loop-from.marks c.see_places.new.marks
+          (c.find_listed-found.ensures.found rows d none) (c.see_places.ensures.counted rows d w none) (inv.counted rows d w);
+      sized = c.see_places.ensures.sized ∙ inv.sized;
+      within = omega (arith, c.min.ensures, c.loop-from-test.true);
     }
 
 pub returns-clause-counted : goal.returns-clause-counted
 returns-clause-counted c = λ rows d w.
-    let whole : take c.loop-i.i rows ≡ rows = take_all c.loop-i.i rows (omega (arith, ap length d, length-map rows (λ (p : Post). p.doc))) in
-    subst (λ (xs : List Post). Counts c.args.low c.args.high c.args.listed.now xs c.args.marks.now c.loop-i.marks) whole (c.loop-i.invariant.counted rows d w)
+    counted_all c.args.low c.args.high c.args.listed.now rows c.loop-from.from c.args.marks.now c.loop-from.marks
+    (omega (arith, c.loop-from-test.false, ap length d, length-map rows (λ (p : Post). p.doc))) (c.loop-from.invariant.counted rows d w)
