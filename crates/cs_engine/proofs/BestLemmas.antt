@@ -9,6 +9,7 @@
 --   alike_best, alike_scores     which depend on the rows' members alone
 --   hits_fit                     they are in range
 --   written_back                 a table that was lent
+--   own_chosen                   where all words are of some, the rows in listed documents are those that are chosen
 use Rattle.std.proofs.Common.{◌≡◌, ℕ, zero, suc, ◌+◌, ◌-◌, ◌≤◌, ◌<◌, ◌==◌, ◌&&◌, ◌||◌, Bool, true, false, List, [], ◌∷◌, ◌++◌, map, take, drop, length, get_or, cond, refl, sym, ◌∙◌, ap, subst, arith, append-nil, length-set}
 use Rattle.std.specs.Prelude.{max, nat_lt, nat_le, All, filter, slice_index, slice_set}
 use Rattle.std.specs.List.{list_any, range_with_len, AllByRecursion}
@@ -17,6 +18,7 @@ use Rattle.std.specs.Ordering.{nat_cmp, eq_by_cmp}
 use Rattle.std.specs.declared.cmp.Ordering.TheVariants.{Less}
 use Rattle.std.specs.Cmp.{nat_cmp_total}
 use Rattle.std.specs.FinMap.{nat_cmp-IsAntisymmetric}
+use Rattle.std.proofs.lemmas.Bool.{and_from, le-leb, lt-ltb}
 use Rattle.std.proofs.lemmas.Bool.Decides.{nat_tests}
 use Rattle.std.proofs.lemmas.List.{get_or-set_same, get_or-map, get_or-set_other, get_or_default, length-map, take_all, take_more, append_assoc, drop_all, map-append}
 use Rattle.std.proofs.lemmas.List.Elements.{All-filter, All-from_recursion, All-map, filter-append, recursion_from_All}
@@ -32,6 +34,7 @@ use Rattle.cs_base.specs.declared.content.scores.TheConstants.{MAX_ROW_SCORE}
 use Rattle.cs_file.specs.CallAnswers.{AreScoredOf}
 use Rattle.cs_rank.specs.DocScores.{greatest, of_doc, best_row, scores, with_base}
 use Rattle.cs_meet.proofs.Passes.{next_is}
+use Rattle.cs_tables.specs.WordCounts.{is_chosen, is_listed}
 use Rattle.cs_engine.specs.Loose.{best_of, HasBestScores, hits_in}
 use Rattle.cs_engine.specs.Packing.{post_of_key}
 use Rattle.cs_engine.specs.Steps.{IsBaseOf, IsHitOf}
@@ -373,3 +376,14 @@ hits_fit docs bound best hits long small are =
 pub written_back : (n : ℕ) (a b : List ℕ) → length a ≡ length b → n ≡ length b → take n (a ++ drop (length a) b) ≡ a
 written_back n a b l m =
     ap (λ r. take n (a ++ r)) (drop_all (length a) b (omega (arith, l))) ∙ ap (take n) (append-nil a) ∙ take_all n a (omega (arith, l, m))
+
+own_rows : (lo hi : ℕ) (listed : List Bool) (rows : List Post) → AllByRecursion (λ w. (lo ≤ w) × (w < hi)) (map (λ p. p.word) rows) → filter (is_listed listed) rows ≡ filter (is_chosen lo hi listed) rows
+own_rows lo hi listed [] own = refl
+own_rows lo hi listed (p ∷ rows) own =
+    let rest = filter (is_chosen lo hi listed) rows in
+    let range : (nat_le lo p.word && nat_lt p.word hi) ≡ true = and_from _ _ (le-leb lo p.word own.0.0) (lt-ltb p.word hi own.0.1) in
+    ap (λ xs. cond (is_listed listed p) (p ∷ xs) xs) (own_rows lo hi listed rows own.1) ∙ ap (λ b. cond (b && is_listed listed p) (p ∷ rest) rest) (sym range)
+
+pub own_chosen : (lo hi : ℕ) (listed : List Bool) (rows : List Post) (docs words scores : List ℕ) → AreScoredOf rows docs words scores → All (λ w. (lo ≤ w) × (w < hi)) words → filter (is_listed listed) rows ≡ filter (is_chosen lo hi listed) rows
+own_chosen lo hi listed rows docs words scores are own =
+    own_rows lo hi listed rows (recursion_from_All (λ w. (lo ≤ w) × (w < hi)) (map (λ p. p.word) rows) (subst (All (λ w. (lo ≤ w) × (w < hi))) are.0.1 own))

@@ -1,5 +1,5 @@
 //! The best score of each document, over rows in any order.
-ghost use Rattle.std.specs.Prelude.{◌≡◌, ◌+◌, ◌-◌, ◌<◌, ◌≤◌, ◌++◌, ◌∷◌, ◌^◌, [], List, IfOk, OnOk, filter, length, map, nat_lt, if◌then◌else◌};
+ghost use Rattle.std.specs.Prelude.{◌≡◌, ◌+◌, ◌-◌, ◌<◌, ◌≤◌, ◌++◌, ◌∷◌, ◌^◌, [], ℕ, List, IfOk, OnOk, filter, length, map, nat_lt, if◌then◌else◌};
 ghost use Rattle.std.specs.List.{All};
 ghost use Rattle.cs_base.specs.declared.content.doc.Post.{Post};
 ghost use Rattle.cs_base.specs.declared.content.doc.Base.TheVariants as base;
@@ -10,12 +10,13 @@ ghost use Rattle.cs_base.specs.content.Orders.{AreByDoc, docs_of};
 ghost use Rattle.cs_engine.specs.Loose.{HasBestScores, hits_in};
 ghost use Rattle.cs_engine.specs.Packing.{post_of_key};
 ghost use Rattle.cs_engine.specs.Steps.{IsBaseOf};
-ghost use Rattle.cs_tables.specs.WordCounts.{is_chosen};
+ghost use Rattle.cs_tables.specs.WordCounts.{is_chosen, is_listed};
 
 use crate::between::is_chosen;
 use crate::packing::post_of;
 use cs_base::{Base, Memory, Scored, Seq};
 use cs_rank::add_base;
+use cs_tables::are_within;
 use std::alloc::Global;
 
 /// Each document of some rows, of which these are the numbers in any order, with its score over a base, by document ascending.
@@ -92,8 +93,50 @@ fn raise_all(best: &mut [u8], keys: &[u64])
 }
 
 /// Notes the scores of rows, of which these are the documents, words and scores: of those in listed documents whose word's number is
-/// `words.0` or more and below `words.1`.
+/// `words.0` or more and below `words.1`. Where all words are of these, they aren't looked at again.
 pub(crate) fn raise_chosen(
+    best: &mut [u8],
+    words: (u32, u32),
+    listed: &[bool],
+    docs: &[u32],
+    row_words: &[u32],
+    scores: &[u8],
+)
+    requires words_even { length row_words.now ≡ length docs.now }
+    requires scores_even { length scores.now ≡ length docs.now }
+    requires known { All (λ d. d < length best.old) docs.now }
+    requires long { length listed.now ≡ length best.old }
+    requires small { All (λ s. s ≤ TITLE_SCORE) scores.now }
+
+    ensures best { (rows : List Post) → AreScoredOf rows docs.now row_words.now scores.now → (seen : List Post) → HasBestScores seen best.old → HasBestScores (seen ++ filter (is_chosen words.0 words.1 listed.now) rows) best.new }
+    ensures len { length best.new ≡ length best.old }
+{
+    let (lo, hi) = words;
+    if are_within(row_words, lo, hi) {
+        raise_listed(best, listed, docs, scores);
+    } else {
+        raise_between(best, words, listed, docs, row_words, scores);
+    }
+}
+
+// The same of rows in listed documents, whatever their words are.
+fn raise_listed(best: &mut [u8], listed: &[bool], docs: &[u32], scores: &[u8])
+    requires scores_even { length scores.now ≡ length docs.now }
+    requires known { All (λ d. d < length best.old) docs.now }
+    requires long { length listed.now ≡ length best.old }
+    requires small { All (λ s. s ≤ TITLE_SCORE) scores.now }
+
+    ensures best { (rows : List Post) (words : List ℕ) → AreScoredOf rows docs.now words scores.now → (seen : List Post) → HasBestScores seen best.old → HasBestScores (seen ++ filter (is_listed listed.now) rows) best.new }
+    ensures len { length best.new ≡ length best.old }
+{
+    for i in 0..docs.len() {
+        let at = docs[i] as usize;
+        best[at] = best[at].max(entry_of(listed[at], scores[i]));
+    }
+}
+
+// The same of rows in listed documents whose word's number is `words.0` or more and below `words.1`.
+fn raise_between(
     best: &mut [u8],
     words: (u32, u32),
     listed: &[bool],
