@@ -34,7 +34,7 @@ use Rattle.cs_base.specs.declared.content.scores.TheConstants.{MAX_ROW_SCORE}
 use Rattle.cs_file.specs.CallAnswers.{AreScoredOf}
 use Rattle.cs_rank.specs.DocScores.{greatest, of_doc, best_row, scores, with_base}
 use Rattle.cs_meet.proofs.Passes.{next_is}
-use Rattle.cs_tables.specs.WordCounts.{is_chosen, is_listed}
+use Rattle.cs_tables.specs.WordCounts.{is_chosen, is_of_listed}
 use Rattle.cs_engine.specs.Loose.{best_of, HasBestScores, hits_in}
 use Rattle.cs_engine.specs.Packing.{post_of_key}
 use Rattle.cs_engine.specs.Steps.{IsBaseOf, IsHitOf}
@@ -377,13 +377,13 @@ pub written_back : (n : ℕ) (a b : List ℕ) → length a ≡ length b → n �
 written_back n a b l m =
     ap (λ r. take n (a ++ r)) (drop_all (length a) b (omega (arith, l))) ∙ ap (take n) (append-nil a) ∙ take_all n a (omega (arith, l, m))
 
-own_rows : (lo hi : ℕ) (listed : List Bool) (rows : List Post) → AllByRecursion (λ w. (lo ≤ w) × (w < hi)) (map (λ p. p.word) rows) → filter (is_listed listed) rows ≡ filter (is_chosen lo hi listed) rows
+own_rows : (lo hi : ℕ) (listed : List Bool) (rows : List Post) → AllByRecursion (λ w. (lo ≤ w) × (w < hi)) (map (λ p. p.word) rows) → filter (is_of_listed listed) rows ≡ filter (is_chosen lo hi listed) rows
 own_rows lo hi listed [] own = refl
 own_rows lo hi listed (p ∷ rows) own =
     let rest = filter (is_chosen lo hi listed) rows in
     let range : (nat_le lo p.word && nat_lt p.word hi) ≡ true = and_from _ _ (le-leb lo p.word own.0.0) (lt-ltb p.word hi own.0.1) in
-    ap (λ xs. cond (is_listed listed p) (p ∷ xs) xs) (own_rows lo hi listed rows own.1) ∙ ap (λ b. cond (b && is_listed listed p) (p ∷ rest) rest) (sym range)
+    ap (λ xs. cond (is_of_listed listed p) (p ∷ xs) xs) (own_rows lo hi listed rows own.1) ∙ ap (λ b. cond (b && is_of_listed listed p) (p ∷ rest) rest) (sym range)
 
-pub own_chosen : (lo hi : ℕ) (listed : List Bool) (rows : List Post) (docs words scores : List ℕ) → AreScoredOf rows docs words scores → All (λ w. (lo ≤ w) × (w < hi)) words → filter (is_listed listed) rows ≡ filter (is_chosen lo hi listed) rows
+pub own_chosen : (lo hi : ℕ) (listed : List Bool) (rows : List Post) (docs words scores : List ℕ) → AreScoredOf rows docs words scores → All (λ w. (lo ≤ w) × (w < hi)) words → filter (is_of_listed listed) rows ≡ filter (is_chosen lo hi listed) rows
 own_chosen lo hi listed rows docs words scores are own =
     own_rows lo hi listed rows (recursion_from_All (λ w. (lo ≤ w) × (w < hi)) (map (λ p. p.word) rows) (subst (All (λ w. (lo ≤ w) × (w < hi))) are.0.1 own))

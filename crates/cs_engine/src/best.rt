@@ -10,7 +10,7 @@ ghost use Rattle.cs_base.specs.content.Orders.{AreByDoc, docs_of};
 ghost use Rattle.cs_engine.specs.Loose.{HasBestScores, hits_in};
 ghost use Rattle.cs_engine.specs.Packing.{post_of_key};
 ghost use Rattle.cs_engine.specs.Steps.{IsBaseOf};
-ghost use Rattle.cs_tables.specs.WordCounts.{is_chosen, is_listed};
+ghost use Rattle.cs_tables.specs.WordCounts.{is_chosen, is_of_listed};
 
 use crate::between::is_chosen;
 use crate::packing::post_of;
@@ -126,7 +126,7 @@ fn raise_listed(best: &mut [u8], listed: &[bool], docs: &[u32], scores: &[u8])
     requires long { length listed.now ≡ length best.old }
     requires small { All (λ s. s ≤ TITLE_SCORE) scores.now }
 
-    ensures best { (rows : List Post) (words : List ℕ) → AreScoredOf rows docs.now words scores.now → (seen : List Post) → HasBestScores seen best.old → HasBestScores (seen ++ filter (is_listed listed.now) rows) best.new }
+    ensures best { (rows : List Post) (words : List ℕ) → AreScoredOf rows docs.now words scores.now → (seen : List Post) → HasBestScores seen best.old → HasBestScores (seen ++ filter (is_of_listed listed.now) rows) best.new }
     ensures len { length best.new ≡ length best.old }
 {
     for i in 0..docs.len() {

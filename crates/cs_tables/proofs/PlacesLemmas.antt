@@ -13,7 +13,7 @@ use Rattle.std.proofs.lemmas.List.{append-nil, drop_all, drop_more, get_or-map, 
 use Rattle.std.proofs.lemmas.List.Elements.{All-append, All-from_recursion}
 use Rattle.cs_base.specs.declared.content.doc.Post.{Post}
 use Rattle.cs_tables.specs.declared.counts.Mark.{Mark}
-use Rattle.cs_tables.specs.WordCounts.{AreCountable, ArePlacesOfListed, Counts, HasWordMarks, chosen, is_chosen, is_listed}
+use Rattle.cs_tables.specs.WordCounts.{AreCountable, ArePlacesOfListed, Counts, HasWordMarks, chosen, is_chosen, is_of_listed}
 use Rattle.cs_tables.proofs.WordCountsLemmas.{pieces_counted}
 
 pub counts_one : (b : Bool) → from_bool b ≡ (if b then 1 else 0)
@@ -28,10 +28,10 @@ none_more : (n : ℕ) → n + 0 ≡ n
 none_more n = omega arith
 
 -- of one row more the place is put behind those that were found, and counts where the row's document is listed too
-pub finds_on : (listed : List Bool) (rows : List Post) (d : Post) (from i : ℕ) (places : List ℕ) (n m : ℕ) → i < length rows → n < length places → m ≡ n + (if is_listed listed (get_or rows i d) then 1 else 0)
+pub finds_on : (listed : List Bool) (rows : List Post) (d : Post) (from i : ℕ) (places : List ℕ) (n m : ℕ) → i < length rows → n < length places → m ≡ n + (if is_of_listed listed (get_or rows i d) then 1 else 0)
     → ArePlacesOfListed listed rows d from i (take n places) → ArePlacesOfListed listed rows d from (i + 1) (take m (set places n i))
 finds_on listed rows d from i places n m lt room count h =
-    let t = is_listed listed in
+    let t = is_of_listed listed in
     let p = get_or rows i d in
     let at : ℕ → Post = λ i. get_or rows i d in
     let rest = drop (i + 1) rows in
@@ -57,12 +57,12 @@ field_at f column rows i d lt is = ap (λ xs. get_or xs i 0) is ∙ get_or-map f
 
 module _ (low high : ℕ) (listed : List Bool) where
   -- rows in other documents don't count
-  listed_chosen : (rows : List Post) → chosen low high listed (filter (is_listed listed) rows) ≡ chosen low high listed rows
+  listed_chosen : (rows : List Post) → chosen low high listed (filter (is_of_listed listed) rows) ≡ chosen low high listed rows
   listed_chosen [] = refl
   listed_chosen (p ∷ rows) =
-      let rest = filter (is_listed listed) rows in
+      let rest = filter (is_of_listed listed) rows in
       let within : Bool = nat_le low p.word && nat_lt p.word high in
-      elim (is_listed listed p) as (λ b. is_listed listed p ≡ b → chosen low high listed (cond b (p ∷ rest) rest) ≡ chosen low high listed (p ∷ rows)) [
+      elim (is_of_listed listed p) as (λ b. is_of_listed listed p ≡ b → chosen low high listed (cond b (p ∷ rest) rest) ≡ chosen low high listed (p ∷ rows)) [
         | true ↦ λ e. ap (λ xs. cond (is_chosen low high listed p) (p ∷ xs) xs) (listed_chosen rows)
         | false ↦ λ e. listed_chosen rows ∙ ap (λ b. cond b (p ∷ chosen low high listed rows) (chosen low high listed rows)) (sym (ap (λ b. within && b) e ∙ and_false within))
       ] refl
@@ -73,7 +73,7 @@ module _ (low high : ℕ) (listed : List Bool) where
 
   pub record CountedUpTo (rows : List Post) (from : ℕ) (m0 m1 : List Mark) : Type 0 where
     pub done : List Post
-    pub are : done ++ filter (is_listed listed) (drop from rows) ≡ filter (is_listed listed) rows
+    pub are : done ++ filter (is_of_listed listed) (drop from rows) ≡ filter (is_of_listed listed) rows
     pub counts : Counts low high listed done m0 m1
 
   pub nothing_counted : (m : List Mark) → Counts low high listed [] m m
@@ -86,7 +86,7 @@ module _ (low high : ℕ) (listed : List Bool) where
       → Counts low high listed (map (λ i. get_or rows i d) places) m1 m2 → CountedUpTo rows from m0 m1 → CountedUpTo rows to m0 m2
   counted_on rows d from to places m0 m1 m2 placed here before =
       let at = map (λ i. get_or rows i d) places in
-      let rest = filter (is_listed listed) (drop to rows) in
+      let rest = filter (is_of_listed listed) (drop to rows) in
       record {
         done = before.done ++ at;
         are = append_assoc before.done at rest ∙ ap (λ xs. before.done ++ xs) placed ∙ before.are;
@@ -95,6 +95,6 @@ module _ (low high : ℕ) (listed : List Bool) where
 
   pub counted_all : (rows : List Post) (from : ℕ) (m0 m1 : List Mark) → length rows ≤ from → CountedUpTo rows from m0 m1 → Counts low high listed rows m0 m1
   counted_all rows from m0 m1 past up seen c h =
-      let all : up.done ≡ filter (is_listed listed) rows = sym (append-nil up.done) ∙ ap (λ xs. up.done ++ filter (is_listed listed) xs) (sym (drop_all from rows past)) ∙ up.are in
+      let all : up.done ≡ filter (is_of_listed listed) rows = sym (append-nil up.done) ∙ ap (λ xs. up.done ++ filter (is_of_listed listed) xs) (sym (drop_all from rows past)) ∙ up.are in
       let same : chosen low high listed up.done ≡ chosen low high listed rows = ap (chosen low high listed) all ∙ listed_chosen rows in
       subst (λ xs. HasWordMarks low (seen ++ xs) m1) same (up.counts seen (subst (λ xs. AreCountable (seen ++ xs)) (sym same) c) h)

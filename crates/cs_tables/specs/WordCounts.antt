@@ -5,7 +5,7 @@
 --   WordCountsView                      the words from one number up to another, and the mark of each
 --   is_chosen low high listed p    the word of a row is one of these, and its document is listed
 --   chosen low high listed rows    the rows that are counted
---   is_listed listed p             the document of a row is listed
+--   is_of_listed listed p          the document of a row is listed
 --   ArePlacesOfListed listed rows d from to places     the places of the rows in listed documents, from one place up to another
 --   IsListedAt listed docs i       the document that stands there is listed
 --   AreCountable rows              the rows of each word are in order, and their documents are few
@@ -36,12 +36,12 @@ abbrev pub chosen : ℕ → ℕ → List Bool → List Post → List Post
 chosen low high listed rows = filter (is_chosen low high listed) rows
 
 -- a document behind the last of the list isn't listed
-abbrev pub is_listed : List Bool → Post → Bool
-is_listed listed p = slice_index_or listed p.doc false
+abbrev pub is_of_listed : List Bool → Post → Bool
+is_of_listed listed p = slice_index_or listed p.doc false
 
 -- none where from is to; d stands where a place has no row, which none of these is
 abbrev pub ArePlacesOfListed : List Bool → List Post → Post → ℕ → ℕ → List ℕ → Type 0
-ArePlacesOfListed listed rows d from to places = map (λ i. slice_index_or rows i d) places ++ filter (is_listed listed) (drop to rows) ≡ filter (is_listed listed) (drop from rows)
+ArePlacesOfListed listed rows d from to places = map (λ i. slice_index_or rows i d) places ++ filter (is_of_listed listed) (drop to rows) ≡ filter (is_of_listed listed) (drop from rows)
 
 -- a place behind the last document isn't one
 abbrev pub IsListedAt : List Bool → List ℕ → ℕ → Type 0

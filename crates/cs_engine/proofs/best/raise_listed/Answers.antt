@@ -1,6 +1,6 @@
 use Rattle.std.proofs.Common.{◌≡◌, ℕ, ◌<◌, ◌+◌, ◌∙◌, cond, Bool, false, length, get_or, arith, length-set}
 use Rattle.std.specs.Prelude.{max, slice_index}
-use Rattle.cs_tables.specs.WordCounts.{is_listed}
+use Rattle.cs_tables.specs.WordCounts.{is_of_listed}
 use Rattle.cs_engine.proofs.BestLemmas.{raised_row, raised_rows}
 use Rattle.cs_engine.proofs.best.raise_listed.Goals as goal
 
@@ -22,4 +22,4 @@ loop-i-preserved c =
 
 pub returns-clause-best : goal.returns-clause-best
 returns-clause-best c = λ rows words are seen has.
-    raised_rows (is_listed c.args.listed.now) seen rows c.args.docs.now words c.args.scores.now c.loop-i.best c.loop-i.i are (omega (arith, c.loop-i-test.false)) (c.loop-i.invariant.best rows words are seen has)
+    raised_rows (is_of_listed c.args.listed.now) seen rows c.args.docs.now words c.args.scores.now c.loop-i.best c.loop-i.i are (omega (arith, c.loop-i-test.false)) (c.loop-i.invariant.best rows words are seen has)
