@@ -1,6 +1,6 @@
 //! Tables of completions: the words of some rows, with the number of documents that have each.
 //!
-//! What a table is stands in `specs/Listings.antt`. A table's order is that of hits, with a word in the place
+//! What a table is stands in `specs/TableListings.antt`. A table's order is that of hits, with a word in the place
 //! of the document and its number of documents in the place of the score.
 #![tactic(auto)]
 
