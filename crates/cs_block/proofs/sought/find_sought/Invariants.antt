@@ -1,14 +1,13 @@
-use Rattle.std.proofs.Common.{◌≡◌, ◌+◌, ◌<◌, ◌≤◌, List, length, take}
-use Rattle.std.specs.List.{All}
-use Rattle.cs_base.specs.declared.content.doc.Post.{Post}
+use Rattle.std.proofs.Common.{◌≡◌, ◌+◌, ◌-◌, ◌≤◌, length, take}
+use Rattle.std.specs.Prelude.{filter}
+use Rattle.std.specs.List.{range_with_len}
 use Rattle.cs_block.specs.ColumnsView.{seen_columns}
-use Rattle.cs_block.specs.Sought.{ArePlacesOf, AreRowsOf, is_sought}
+use Rattle.cs_block.specs.Sought.{is_sought, row_with}
 use Rattle.cs_block.proofs.sought.find_sought.Given as goal
 
 abbrev pub invariant-loop-i : goal.invariant-loop-i
 invariant-loop-i l = record {
-  found : (rows : List Post) → AreRowsOf l.head (seen_columns l.columns) l.docs rows → (d : Post) → ArePlacesOf rows d l.from l.i (is_sought l.lo l.hi l.listed) (take l.found l.places);
-  known : All (λ i. i < length l.docs) (take l.found l.places);
+  found : take l.found l.places ≡ filter (λ i. is_sought l.lo l.hi l.listed (row_with l.head (seen_columns l.columns) l.docs i)) (range_with_len l.from (l.i - l.from));
   few : l.found + l.from ≤ l.i;
   len : length l.places ≡ length l.fn.places;
 }
