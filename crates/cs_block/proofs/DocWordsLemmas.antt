@@ -20,7 +20,8 @@ from_none : (k : ℕ) → 0 + k ≡ k
 from_none k = omega arith
 
 pub doc_words_all : (head : BlockHead) (docs : ℕ) (bytes : List ℕ) (c : BlockColumns) (ds ws : List ℕ) (next : ℕ) → c ≡ block_columns head bytes
-    → length ds ≡ head.rows → length ws ≡ head.rows → HasDocs c.gaps 0 0 docs ds next → AreWords head.lo head.words c.words 0 ws → HasDocWords head docs bytes ds ws
+    → length ds ≡ head.rows → length ws ≡ head.rows → HasDocs c.gaps 0 0 docs ds next → AreWords head.lo head.words c.words 0 ws
+    → HasDocWords head docs bytes ds ws
 doc_words_all head docs bytes c ds ws next is long even has words =
     let n = length ds in
     let row = row_with head c ds in
@@ -38,7 +39,9 @@ doc_words_all head docs bytes c ds ws next is long even has words =
     (let here : get_or numbers j d ≡ j = get_or-range_with_len 0 n j d (omega (arith, lt, length-range_with_len 0 n)) ∙ from_none j in
     subst (λ k. IsListable head docs (row k)) (sym here) (listable j (omega (arith, lt, length-range_with_len 0 n)))) in
     record {
-      docs_are = fill_by_all (λ k. (row k).doc) ds n 0 refl (λ k lt. refl) ∙ sym (map-map (λ (p : Post). p.doc) row numbers) ∙ ap (map (λ (p : Post). p.doc)) (sym all);
-      words_are = fill_by_all (λ k. (row k).word) ws n 0 (even ∙ sym long) word_is ∙ sym (map-map (λ (p : Post). p.word) row numbers) ∙ ap (map (λ (p : Post). p.word)) (sym all);
+      docs_are = fill_by_all (λ k. (row k).doc) ds n 0 refl (λ k lt. refl) ∙ sym (map-map (λ (p : Post). p.doc) row numbers)
+          ∙ ap (map (λ (p : Post). p.doc)) (sym all);
+      words_are = fill_by_all (λ k. (row k).word) ws n 0 (even ∙ sym long) word_is ∙ sym (map-map (λ (p : Post). p.word) row numbers)
+          ∙ ap (map (λ (p : Post). p.word)) (sym all);
       listable = subst (All (IsListable head docs)) (sym all) (All-map (IsListable head docs) row numbers in_range);
     }

@@ -7,7 +7,8 @@
 --   refilled         a vector whose slice was lent whole holds what was written there
 --   docs_below       documents that are there are below the collection's
 --   sought_all       the rows of a block that is whole that are in listed documents are those that are sought, where all are of the block
-use Rattle.std.proofs.Common.{◌≡◌, ℕ, zero, suc, ◌+◌, ◌-◌, ◌<◌, ◌≤◌, ◌&&◌, Bool, true, false, cond, List, [], ◌∷◌, ◌++◌, length, get_or, set, map, take, drop, Option, Some, None, refl, sym, ap, ap₂, subst, ◌∙◌, append_assoc, arith}
+use Rattle.std.proofs.Common.{◌≡◌, ℕ, zero, suc, ◌+◌, ◌-◌, ◌<◌, ◌≤◌, ◌&&◌, Bool, true, false, cond, List, [], ◌∷◌, ◌++◌, length, get_or, set, map, take, drop}
+use Rattle.std.proofs.Common.{Option, Some, None, refl, sym, ap, ap₂, subst, ◌∙◌, append_assoc, arith}
 use Rattle.std.specs.Prelude.{All, IfSome, filter, is_some, nat_le, nat_lt}
 use Rattle.std.specs.Int.{from_bool}
 use Rattle.std.specs.List.{range_with_len}
@@ -25,11 +26,16 @@ use Rattle.cs_block.specs.Sought.{IsOfBlock, is_sought, passes, row_with, rows_w
 from_none : (a : ℕ) → a + 0 ≡ a
 from_none a = omega arith
 
+none_before : (a : ℕ) → 0 + a ≡ a
+none_before a = omega arith
+
 range_joined : (a n m : ℕ) → range_with_len a (n + m) ≡ range_with_len a n ++ range_with_len (a + n) m
-range_joined a zero m = ap (λ (x : ℕ). range_with_len x m) (sym (from_none a))
+range_joined a zero m = ap (range_with_len a) (none_before m) ∙ ap (λ (x : ℕ). range_with_len x m) (sym (from_none a))
 range_joined a (suc n) m =
+    let longer : suc n + m ≡ suc (n + m) = omega arith in
     let next : a + 1 + n ≡ a + suc n = omega arith in
-    ap (λ (xs : List ℕ). a ∷ xs) (range_joined (a + 1) n m ∙ ap (λ (x : ℕ). range_with_len (a + 1) n ++ range_with_len x m) next)
+    ap (range_with_len a) longer
+    ∙ ap (λ (xs : List ℕ). a ∷ xs) (range_joined (a + 1) n m ∙ ap (λ (x : ℕ). range_with_len (a + 1) n ++ range_with_len x m) next)
 
 range_more : (a i : ℕ) → a ≤ i → range_with_len a (i + 1 - a) ≡ range_with_len a (i - a) ++ i ∷ []
 range_more a i le =
@@ -70,7 +76,8 @@ pub added_on : (row : ℕ → Post) (old now new : List Post) (places : List ℕ
 added_on row old now new places k r lt is added h =
     let front = map row (take k places) in
     let here = row (get_or places k 0) in
-    let more : map row (take (k + 1) places) ≡ front ++ here ∷ [] = ap (map row) (take_more places k 0 lt) ∙ map-append row (take k places) (get_or places k 0 ∷ []) in
+    let more : map row (take (k + 1) places) ≡ front ++ here ∷ [] = ap (map row) (take_more places k 0 lt)
+    ∙ map-append row (take k places) (get_or places k 0 ∷ []) in
     added ∙ ap₂ (λ xs x. xs ++ x ∷ []) h is ∙ append_assoc old front (here ∷ []) ∙ ap (λ xs. old ++ xs) (sym more)
 
 -- those at the places that pass are those that pass at the places
@@ -90,8 +97,10 @@ rows_on t row old now new from to places le are added h =
     let front = map row (range_with_len 0 from) in
     let behind = map row (range_with_len from (to - from)) in
     let all : from + (to - from) ≡ to = omega (arith, le) in
-    let joined = ap (λ (n : ℕ). range_with_len 0 n) (sym all) ∙ range_joined 0 from (to - from) in
-    let rows : map row (range_with_len 0 to) ≡ front ++ behind = ap (map row) joined ∙ map-append row (range_with_len 0 from) (range_with_len from (to - from)) in
+    let joined = ap (range_with_len 0) (sym all) ∙ range_joined 0 from (to - from)
+    ∙ ap (λ (x : ℕ). range_with_len 0 from ++ range_with_len x (to - from)) (none_before from) in
+    let rows : map row (range_with_len 0 to) ≡ front ++ behind = ap (map row) joined
+    ∙ map-append row (range_with_len 0 from) (range_with_len from (to - from)) in
     let some = ap (map row) are ∙ kept_at t row (range_with_len from (to - from)) in
     added ∙ ap₂ (λ xs ys. xs ++ ys) h some ∙ append_assoc old (filter t front) (filter t behind)
     ∙ ap (λ xs. old ++ xs) (sym (filter-append t front behind) ∙ ap (filter t) (sym rows))
@@ -107,24 +116,28 @@ and_false false = refl
 words_from : (head : BlockHead) (c : BlockColumns) (ds : List ℕ) → All (λ p. head.lo ≤ p.word) (rows_with head c ds)
 words_from head c ds = All-map (λ p. head.lo ≤ p.word) (row_with head c ds) (range_with_len 0 (length ds)) (λ j d lt. omega arith)
 
-same_filter : (lo hi : ℕ) (listed : List Bool) (rows : List Post) → All (λ p. lo ≤ p.word) rows → All (λ p. p.word < hi) (filter (passes true lo hi listed) rows) → filter (passes true lo hi listed) rows ≡ filter (is_sought lo hi listed) rows
+same_filter : (lo hi : ℕ) (listed : List Bool) (rows : List Post) → All (λ p. lo ≤ p.word) rows
+    → All (λ p. p.word < hi) (filter (passes true lo hi listed) rows) → filter (passes true lo hi listed) rows ≡ filter (is_sought lo hi listed) rows
 same_filter lo hi listed [] from below = refl
 same_filter lo hi listed (p ∷ rows) from below =
     let t = is_sought lo hi listed in
     let met : Post → Bool = passes true lo hi listed in
     let between : Bool = nat_le lo p.word && nat_lt p.word hi in
     let rest = same_filter lo hi listed rows (All-tail (λ q. lo ≤ q.word) p rows from) in
-    elim (met p) as (λ b. All (λ q. q.word < hi) (cond b (p ∷ filter met rows) (filter met rows)) → cond b (p ∷ filter met rows) (filter met rows) ≡ cond (between && b) (p ∷ filter t rows) (filter t rows)) [
+    elim (met p) as (λ b. All (λ q. q.word < hi) (cond b (p ∷ filter met rows) (filter met rows))
+    → cond b (p ∷ filter met rows) (filter met rows) ≡ cond (between && b) (p ∷ filter t rows) (filter t rows)) [
       | true ↦ λ all.
           let low = All-head (λ q. lo ≤ q.word) p rows from in
           let high = All-head (λ q. q.word < hi) p (filter met rows) all in
           let inside : between ≡ true = and_from (nat_le lo p.word) (nat_lt p.word hi) (le-leb lo p.word low) (lt-ltb p.word hi high) in
-          ap (λ xs. p ∷ xs) (rest (All-tail (λ q. q.word < hi) p (filter met rows) all)) ∙ ap (λ b. cond (b && true) (p ∷ filter t rows) (filter t rows)) (sym inside)
+          ap (λ xs. p ∷ xs) (rest (All-tail (λ q. q.word < hi) p (filter met rows) all))
+          ∙ ap (λ b. cond (b && true) (p ∷ filter t rows) (filter t rows)) (sym inside)
       | false ↦ λ all. rest all ∙ ap (λ b. cond b (p ∷ filter t rows) (filter t rows)) (sym (and_false between))
     ] below
 
 pub sought_all : (head : BlockHead) (c : BlockColumns) (ds : List ℕ) (whole : Bool) (lo hi : ℕ) (listed : List Bool) (posts : List Post)
-    → (whole ≡ true → (lo ≤ head.lo) × (head.lo + head.words ≤ hi)) → posts ≡ filter (passes whole lo hi listed) (rows_with head c ds) → All (IsOfBlock head) posts
+    → (whole ≡ true → (lo ≤ head.lo) × (head.lo + head.words ≤ hi)) → posts ≡ filter (passes whole lo hi listed) (rows_with head c ds)
+    → All (IsOfBlock head) posts
     → posts ≡ filter (is_sought lo hi listed) (rows_with head c ds)
 sought_all head c ds false lo hi listed posts inside is own = is
 sought_all head c ds true lo hi listed posts inside is own =

@@ -75,7 +75,8 @@ fn add_sought(
 ) -> Result<bool, Memory>
     requires { CanBeSought head.now (seen_columns columns.now) docs.now listed.now }
 
-    ensures added { IfOk result (λ kept. into.new.items ≡ into.old.items ++ filter (passes whole words.0 words.1 listed.now) (rows_with head.now (seen_columns columns.now) docs.now)) }
+    ensures added { IfOk result (λ kept. into.new.items ≡ into.old.items
+        ++ filter (passes whole words.0 words.1 listed.now) (rows_with head.now (seen_columns columns.now) docs.now)) }
     ensures kept { IfOk result (λ kept. kept ≡ true → All (IsOfBlock head.now) into.old.items → All (IsOfBlock head.now) into.new.items) }
 {
     let mut places = [0usize; SPAN];
@@ -113,7 +114,8 @@ fn find_rows(
     requires known { CanBeSought head.now (seen_columns columns.now) docs.now listed.now }
     requires span { IsSpan span.0 span.1 (length docs.now) (length places.old) }
 
-    ensures found { take result places.new ≡ filter (λ i. passes whole words.0 words.1 listed.now (row_with head.now (seen_columns columns.now) docs.now i)) (range_with_len span.0 (span.1 - span.0)) }
+    ensures found { take result places.new ≡ filter (λ i. passes whole words.0 words.1 listed.now (row_with head.now (seen_columns columns.now) docs.now i))
+        (range_with_len span.0 (span.1 - span.0)) }
     ensures few { result ≤ length places.new }
     ensures len { length places.new ≡ length places.old }
 {
@@ -153,7 +155,8 @@ fn find_sought(
     requires known { CanBeSought head.now (seen_columns columns.now) docs.now listed.now }
     requires span { IsSpan span.0 span.1 (length docs.now) (length places.old) }
 
-    ensures found { take result places.new ≡ filter (λ i. is_sought words.0 words.1 listed.now (row_with head.now (seen_columns columns.now) docs.now i)) (range_with_len span.0 (span.1 - span.0)) }
+    ensures found { take result places.new ≡ filter (λ i. is_sought words.0 words.1 listed.now (row_with head.now (seen_columns columns.now) docs.now i))
+        (range_with_len span.0 (span.1 - span.0)) }
     ensures few { result ≤ length places.new }
     ensures len { length places.new ≡ length places.old }
 {

@@ -22,7 +22,8 @@ words_even head docs bytes ds ws h =
     ap length h.words_are ∙ length-map rows (λ (p : Post). p.word) ∙ sym (ap length h.docs_are ∙ length-map rows (λ (p : Post). p.doc))
 
 module _ {i : IndexView} {told : Option (List ℕ)} {k : ℕ} {placed : Placed} {read : List ℕ} (h : BlockRead i told k placed read) where
-  known_rows : All (IsListable placed.head placed.docs) (rows_read placed.head read) → All (λ p. (p.doc < i.docs) × (p.word < length i.words)) (rows_read placed.head read)
+  known_rows : All (IsListable placed.head placed.docs) (rows_read placed.head read)
+      → All (λ p. (p.doc < i.docs) × (p.word < length i.words)) (rows_read placed.head read)
   known_rows listable =
       let head = placed.head in
       let known : Post → Type 0 = λ p. (p.doc < i.docs) × (p.word < length i.words) in
@@ -44,7 +45,8 @@ module _ {i : IndexView} {told : Option (List ℕ)} {k : ℕ} {placed : Placed} 
       subst (All (λ w. w < length i.words)) (sym added.words_are) (All-map (λ w. w < length i.words) (λ (p : Post). p.word) rows
       (All-weaker (λ p. (p.doc < i.docs) × (p.word < length i.words)) (λ p. p.word < length i.words) (λ p l. l.1) rows (known_rows added.listable)))
 
-  pub doc_words_stood : (b : List ℕ) (ds ws : List ℕ) → told ≡ Some b → StandsFor b i → HasDocWords placed.head placed.docs read ds ws → AreOf (block_posts b k) ds ws
+  pub doc_words_stood : (b : List ℕ) (ds ws : List ℕ) → told ≡ Some b → StandsFor b i → HasDocWords placed.head placed.docs read ds ws
+      → AreOf (block_posts b k) ds ws
   doc_words_stood b ds ws t s added =
       let all = read_there h b t s in
       (added.docs_are ∙ ap (map (λ (p : Post). p.doc)) all, added.words_are ∙ ap (map (λ (p : Post). p.word)) all)

@@ -60,6 +60,7 @@ scores_even placed read f has =
     ap length has.scored.scores_are ∙ length-map rows (λ (p : Post). p.score) ∙ sym (ap length has.listed.docs_are ∙ length-map rows (λ (p : Post). p.doc))
 
 pub scored_stood : {i : IndexView} {told : Option (List ℕ)} {k : ℕ} {placed : Placed} {read : List ℕ} → BlockRead i told k placed read
-    → (b : List ℕ) (f : Fetched) → told ≡ Some b → StandsFor b i → HasScored placed read f → AreScoredOf (block_posts b k) f.docs.items f.words.items f.scores.items
+    → (b : List ℕ) (f : Fetched) → told ≡ Some b → StandsFor b i → HasScored placed read f
+    → AreScoredOf (block_posts b k) f.docs.items f.words.items f.scores.items
 scored_stood h b f t s has =
     (doc_words_stood h b f.docs.items f.words.items t s has.listed, has.scored.scores_are ∙ ap (map (λ (p : Post). p.score)) (read_there h b t s))

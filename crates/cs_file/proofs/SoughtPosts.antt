@@ -30,7 +30,8 @@ listed_within listed d h = elim (cases_lt d (length listed)) [
 ]
 
 module _ (lo hi : ℕ) (listed : List Bool) where
-  pub passed : {head : BlockHead} {read : List ℕ} {posts : List Post} → HasSought head read lo hi listed posts → All (λ p. is_sought lo hi listed p ≡ true) posts
+  pub passed : {head : BlockHead} {read : List ℕ} {posts : List Post} → HasSought head read lo hi listed posts
+      → All (λ p. is_sought lo hi listed p ≡ true) posts
   passed {head} {read} has = subst (All (λ p. is_sought lo hi listed p ≡ true)) (sym has.are) (filter_passes (is_sought lo hi listed) (rows_read head read))
 
   pub sought_ranged : (i : IndexView) {head : BlockHead} {read : List ℕ} {posts : List Post} → length listed ≡ i.docs → hi ≤ length i.words
@@ -57,6 +58,7 @@ module _ (lo hi : ℕ) (listed : List Bool) where
       }
 
 -- the documents of a block that was decoded are listed or not
-pub decoded_known : (head : BlockHead) (docs : ℕ) (read : List ℕ) (listed : List Bool) (rows : List Post) → length listed ≡ docs → IsBlock SCORES head docs rows read
+pub decoded_known : (head : BlockHead) (docs : ℕ) (read : List ℕ) (listed : List Bool) (rows : List Post) → length listed ≡ docs
+    → IsBlock SCORES head docs rows read
     → All (λ p. p.doc < length listed) rows
 decoded_known head docs read listed rows long block = λ j d lt. let below = block_docs head docs rows read block j d lt in omega (arith, below, long)

@@ -54,7 +54,8 @@ impl Index {
         ensures docs { OnOk result (All (λ d. d < self.now.docs) into.new.docs.items) }
         ensures words { OnOk result (All (λ w. w < length self.now.words) into.new.words.items) }
         ensures scores { OnOk result (All (λ s. s ≤ TITLE_SCORE) into.new.scores.items) }
-        ensures stood { ForSome (S.bytes store.old) (λ b. StandsFor b self.now → OnOk result (AreScoredOf (block_posts b k) into.new.docs.items into.new.words.items into.new.scores.items)) }
+        ensures stood { ForSome (S.bytes store.old) (λ b. StandsFor b self.now
+            → OnOk result (AreScoredOf (block_posts b k) into.new.docs.items into.new.words.items into.new.scores.items)) }
         ensures changed { IfErr result (IsChangeOfBlock self.now (S.bytes store.old) k) }
         ensures unchanged { ForSome (S.bytes store.old) (λ b. StandsFor b self.now → is_changed_of_fetch result ≡ false) }
         ensures bytes { S.bytes store.new ≡ S.bytes store.old }
@@ -82,7 +83,8 @@ impl Index {
         ensures even { OnOk result (length into.new.words.items ≡ length into.new.docs.items) }
         ensures docs { OnOk result (All (λ d. d < self.now.docs) into.new.docs.items) }
         ensures words { OnOk result (All (λ w. w < length self.now.words) into.new.words.items) }
-        ensures stood { ForSome (S.bytes store.old) (λ b. StandsFor b self.now → OnOk result (AreOf (block_posts b k) into.new.docs.items into.new.words.items)) }
+        ensures stood { ForSome (S.bytes store.old) (λ b. StandsFor b self.now
+            → OnOk result (AreOf (block_posts b k) into.new.docs.items into.new.words.items)) }
         ensures changed { IfErr result (IsChangeOfBlock self.now (S.bytes store.old) k) }
         ensures unchanged { ForSome (S.bytes store.old) (λ b. StandsFor b self.now → is_changed_of_fetch result ≡ false) }
         ensures bytes { S.bytes store.new ≡ S.bytes store.old }
@@ -240,7 +242,8 @@ fn doc_words_at(placed: &Placed, into: &mut Fetched) -> Result<(), FetchFault>
     requires front { front_bytes placed.now.head ≤ length into.old.bytes.items }
 
     // of each block that begins so
-    ensures ok { OnOk result ((block : List ℕ) → HasFront placed.now.head into.old.bytes.items block → HasDocWords placed.now.head placed.now.docs block into.new.docs.items into.new.words.items) }
+    ensures ok { OnOk result ((block : List ℕ) → HasFront placed.now.head into.old.bytes.items block
+        → HasDocWords placed.now.head placed.now.docs block into.new.docs.items into.new.words.items) }
     ensures exact { IfErr result (λ fault. (block : List ℕ) → HasFront placed.now.head into.old.bytes.items block → IsFaultOf placed.now block fault) }
     ensures unread { is_read_of_fetch result ≡ false }
     ensures bytes { into.new.bytes ≡ into.old.bytes }

@@ -59,7 +59,8 @@ impl Index {
         // over every store they are in range and sought, and over one that tells they are all that are read there
         ensures ranged { OnOk result (All (IsRanged self.now) into.new.posts.items) }
         ensures sought { OnOk result (All (λ p. is_sought words.0 words.1 listed.now p ≡ true) into.new.posts.items) }
-        ensures stood { ForSome (S.bytes store.old) (λ b. StandsFor b self.now → OnOk result (into.new.posts.items ≡ filter (is_sought words.0 words.1 listed.now) (block_posts b k))) }
+        ensures stood { ForSome (S.bytes store.old) (λ b. StandsFor b self.now
+            → OnOk result (into.new.posts.items ≡ filter (is_sought words.0 words.1 listed.now) (block_posts b k))) }
         ensures changed { IfErr result (IsChangeOfBlock self.now (S.bytes store.old) k) }
         ensures unchanged { ForSome (S.bytes store.old) (λ b. StandsFor b self.now → is_changed_of_fetch result ≡ false) }
         ensures bytes { S.bytes store.new ≡ S.bytes store.old }

@@ -11,7 +11,8 @@ returns-in_default-clause-listed c =
     let head = c.args.head.now in
     let more : s.i < head.rows = omega arith in
     let none = c.in_default.ensures in
-    absurd (never_stuck head c.args.docs c.args.gaps.now c.args.words.now s.i s.at s.before s.bad_word s.row_docs s.row_words c.requires.codes more none s.invariant)
+    absurd (never_stuck head c.args.docs c.args.gaps.now c.args.words.now s.i s.at s.before s.bad_word s.row_docs s.row_words c.requires.codes more none
+    s.invariant)
 
 pub overflow_add-doc : goal.overflow_add-doc
 overflow_add-doc c = let few = (c.loop-i.invariant.judging [] []).judged.before_below in let below = c.in-Some.ensures.below in omega arith
@@ -38,7 +39,8 @@ loop-i-preserved c =
     let word = head.lo + c.half_at.result in
     let row : IsNextRow head docs gaps words s.i s.at s.before gap.n gap.next doc word
     = record { more = omega arith; gap = gap.ensures; sum = omega arith; below = omega arith; word_is = ap (λ x. head.lo + x) c.half_at.ensures.value } in
-    lists_on head docs gaps words s.i s.at s.before gap.n gap.next doc word s.bad_word bad.result s.row_docs s.row_words row bad.ensures (omega arith) (omega arith) s.invariant
+    lists_on head docs gaps words s.i s.at s.before gap.n gap.next doc word s.bad_word bad.result s.row_docs s.row_words row bad.ensures (omega arith)
+    (omega arith) s.invariant
 
 pub returns-clause-broken : goal.returns-clause-broken
 returns-clause-broken c =

@@ -11,10 +11,12 @@ loop-i-init c = record {
 
 pub loop-i-preserved : goal.loop-i-preserved
 loop-i-preserved c = record {
-  made = docs_more c.args.gaps.now c.args.at c.args.before c.loop-i.out c.loop-i.i c.loop-i.next c.loop-i.doc c.in-Some.n c.in-Some.behind _ (omega arith) c.in-Some.ensures (omega arith) c.loop-i.invariant.made;
+  made = docs_more c.args.gaps.now c.args.at c.args.before c.loop-i.out c.loop-i.i c.loop-i.next c.loop-i.doc c.in-Some.n c.in-Some.behind _ (omega arith)
+      c.in-Some.ensures (omega arith) c.loop-i.invariant.made;
   below = λ _. omega arith;
   small = omega arith;
 }
 
 pub returns : goal.returns
-returns c = docs_all c.args.gaps.now c.args.at c.args.before c.args.docs c.loop-i.out c.loop-i.i c.loop-i.next c.loop-i.doc (omega arith) c.loop-i.invariant.below c.loop-i.invariant.made
+returns c = docs_all c.args.gaps.now c.args.at c.args.before c.args.docs c.loop-i.out c.loop-i.i c.loop-i.next c.loop-i.doc (omega arith)
+    c.loop-i.invariant.below c.loop-i.invariant.made

@@ -1,4 +1,4 @@
-use Rattle.std.proofs.Common.{◌≡◌, ◌+◌, ◌&&◌, true, [], ◌∷◌, ◌∙◌, sym, subst, arith}
+use Rattle.std.proofs.Common.{◌+◌, ◌&&◌, [], ◌∷◌, ◌∙◌, sym, subst, arith}
 use Rattle.std.specs.List.{All}
 use Rattle.std.proofs.lemmas.Bool.{and_parts, ltb-true}
 use Rattle.std.proofs.lemmas.List.Elements.{All-append, All-from_recursion}
@@ -20,7 +20,12 @@ loop-place-preserved c =
       kept = λ e all.
           let both = and_parts c.loop-place.kept (c.is_in_words.result && c.is_scored.result) e in
           let own = and_parts c.is_in_words.result c.is_scored.result both.1 in
-          let here : IsOfBlock head row = record { word = ltb-true row.word (head.lo + head.words) (sym c.is_in_words.ensures ∙ own.0); scored = sym c.is_scored.ensures ∙ own.1 } in
-          subst (All (IsOfBlock head)) (sym c.push_reserved.ensures.items) (All-append (IsOfBlock head) c.loop-place.into.items (row ∷ []) (inv.kept both.0 all) (All-from_recursion (IsOfBlock head) (row ∷ []) (here, tt)));
+          let here : IsOfBlock head row = record {
+            word = ltb-true row.word (head.lo + head.words) (sym c.is_in_words.ensures ∙ own.0);
+            scored = sym c.is_scored.ensures ∙ own.1;
+          } in
+          subst (All (IsOfBlock head)) (sym c.push_reserved.ensures.items)
+          (All-append (IsOfBlock head) c.loop-place.into.items (row ∷ []) (inv.kept both.0 all)
+          (All-from_recursion (IsOfBlock head) (row ∷ []) (here, tt)));
       room = omega (arith, inv.room, c.push_reserved.ensures.len, c.push_reserved.ensures.capacity);
     }

@@ -1,9 +1,19 @@
-use Rattle.std.proofs.Common.{◌+◌, take, arith}
+use Rattle.std.proofs.Common.{◌+◌, ◌≤◌, ℕ, Bool, length, take, arith}
 use Rattle.std.proofs.lemmas.Bool.{and_parts}
 use Rattle.cs_block.specs.ColumnsView.{seen_columns}
 use Rattle.cs_block.specs.Sought.{passes, row_with}
 use Rattle.cs_block.proofs.SoughtLemmas.{places_within, rows_on}
 use Rattle.cs_block.proofs.sought.add_sought.Goals as goal
+
+pub add_rows-requires-clause-known : goal.add_rows-requires-clause-known
+add_rows-requires-clause-known c =
+    let row = row_with c.args.head.now (seen_columns c.args.columns.now) c.args.docs.now in
+    let t : ℕ → Bool = λ i. passes c.args.whole c.args.words.0 c.args.words.1 c.args.listed.now (row i) in
+    let places = take c.find_rows-found.result c.find_rows-found.new.places in
+    let from = c.loop-from.from in
+    let docs = length c.args.docs.now in
+    let within : from + c.min.result ≤ docs = omega (arith, c.min.ensures, c.loop-from-test.true) in
+    places_within t from (from + c.min.result) docs places (omega arith) within c.find_rows-found.ensures.found
 
 pub loop-from-preserved : goal.loop-from-preserved
 loop-from-preserved c =

@@ -1,4 +1,4 @@
-use Rattle.std.proofs.Common.{◌≡◌, ℕ, ◌+◌, ◌-◌, ◌<◌, Bool, false, ap, ◌∙◌, sym, subst, arith, length, length-set, take, get_or}
+use Rattle.std.proofs.Common.{◌≡◌, ℕ, ◌+◌, ◌-◌, ◌<◌, Bool, false, ap, ◌∙◌, subst, arith, length, length-set, take, get_or}
 use Rattle.std.specs.Prelude.{filter}
 use Rattle.std.specs.List.{range_with_len}
 use Rattle.cs_block.proofs.SoughtLemmas.{at_most_one, finds_on}
@@ -16,7 +16,7 @@ loop-i-preserved c =
     let fits = span.fits in
     let room : n < length c.loop-i.places = omega (arith, inv.few, inv.len, c.loop-i-test.true, fits) in
     record {
-      found = finds_on t c.args.from i n (n + one) c.loop-i.places c.loop-i.auto.i-start room (ap (λ x. n + x) c.from-found.ensures) inv.found;
+      found = finds_on t c.args.from i n (n + one) c.loop-i.places c.loop-i.auto.i room (ap (λ x. n + x) c.from-found.ensures) inv.found;
       few = omega (arith, inv.few, c.from-found.ensures, most);
       len = length-set c.loop-i.places n i ∙ inv.len;
     }

@@ -24,7 +24,7 @@ loop-i-preserved c =
     let fits = c.requires.span.fits in
     let room : n < length c.loop-i.places = omega (arith, inv.few, inv.len, c.loop-i-test.true, fits) in
     record {
-      found = finds_on t c.args.span.0 i n (n + one) c.loop-i.places c.loop-i.auto.i-start room (ap (λ x. n + x) count) inv.found;
+      found = finds_on t c.args.span.0 i n (n + one) c.loop-i.places c.loop-i.auto.i room (ap (λ x. n + x) count) inv.found;
       few = omega (arith, inv.few, count, most);
       len = length-set c.loop-i.places n i ∙ inv.len;
     }

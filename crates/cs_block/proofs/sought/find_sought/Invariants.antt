@@ -7,7 +7,8 @@ use Rattle.cs_block.proofs.sought.find_sought.Given as goal
 
 abbrev pub invariant-loop-i : goal.invariant-loop-i
 invariant-loop-i l = record {
-  found : take l.found l.places ≡ filter (λ i. is_sought l.lo l.hi l.listed (row_with l.head (seen_columns l.columns) l.docs i)) (range_with_len l.from (l.i - l.from));
+  found : take l.found l.places ≡ filter (λ i. is_sought l.lo l.hi l.listed (row_with l.head (seen_columns l.columns) l.docs i))
+      (range_with_len l.from (l.i - l.from));
   few : l.found + l.from ≤ l.i;
   len : length l.places ≡ length l.fn.places;
 }

@@ -37,7 +37,8 @@ returns c =
       ok = λ e.
           let own = put.kept e (subst (All (IsOfBlock head)) (sym c.truncate.ensures.items) (All-nil (IsOfBlock head))) in
           record {
-            are = sought_all head columns c.deref.result.now whole lo hi listed posts c.is_inside-whole.ensures added own ∙ ap (filter (is_sought lo hi listed)) rows;
+            are = sought_all head columns c.deref.result.now whole lo hi listed posts c.is_inside-whole.ensures added own
+                ∙ ap (filter (is_sought lo hi listed)) rows;
             scored = All-weaker (IsOfBlock head) (λ p. is_scored SCORES head.facet p ≡ true) (λ p h. h.scored) posts own;
           };
     }

@@ -51,4 +51,5 @@ pub returns-clause-unchanged : goal.returns-clause-unchanged
 returns-clause-unchanged g c = λ b t s.
     let read = front_read c.placed-placed.ensures c.requires.fits (c.in_ok-read_over.ensures.long ∙ c.front_len.ensures)
     (λ b t. c.in_ok-read_over.ensures.ok b t ∙ ap (part b c.placed-placed.result.at) c.front_len.ensures) in
-    fault_unchanged read.whole b c.doc_words_at.result t s (IfErr-weaker c.doc_words_at.result _ _ (λ fault has. has read.block read.same) c.doc_words_at.ensures.exact)
+    fault_unchanged read.whole b c.doc_words_at.result t s
+    (IfErr-weaker c.doc_words_at.result _ _ (λ fault has. has read.block read.same) c.doc_words_at.ensures.exact)
