@@ -8,7 +8,7 @@
 --   IsFaultAt at broken e     the fault where this is the first rule that a block at a place breaks, if there is one
 --   IsFaultOf placed bytes e     the same of the bytes of a block
 --   ReadsText bytes at r      the text of these bytes, or that rule 9 is broken at the place
-use Rattle.std.specs.Prelude.{◌≡◌, ℕ, ◌^◌, ◌<◌, true, false, List, slice_index_or, Option, Some, Result, Ok, Err}
+use Rattle.std.specs.Prelude.{◌≡◌, ℕ, ◌^◌, ◌<◌, true, false, List, length, slice_index_or, Option, Some, Result, Ok, Err}
 use Rattle.std.specs.Option.{option_map}
 use Rattle.std.specs.Str.{is_utf8}
 use Rattle.cs_base.specs.declared.index.block.BlockHead.{BlockHead}

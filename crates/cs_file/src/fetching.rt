@@ -19,7 +19,7 @@ use crate::fault::FetchFault;
 use crate::fetched::Fetched;
 use crate::index::Index;
 use crate::reading::{fit, read_at_once};
-use cs_base::{BlockHead, Store, Text};
+use cs_base::{BlockHead, Memory, Store, Text};
 use cs_block::{BlockFault, decode, front_len, read_doc_words, read_scores};
 use cs_cols::Cols;
 use std::alloc::Global;
@@ -231,8 +231,16 @@ fn scored_at(alloc: Global, placed: &Placed, into: &mut Fetched) -> Result<(), F
         return Ok(());
     }
     let rows = decode_at(alloc, &into.bytes, placed)?;
-    into.scores.truncate(0);
-    into.scores.extend_from_slice(rows.scores())?;
+    put_all(&mut into.scores, rows.scores())?;
+    Ok(())
+}
+
+// Puts scores into a column in place of what it holds.
+fn put_all(column: &mut Vec<u8>, scores: &[u8]) -> Result<(), Memory>
+    ensures { OnOk result (column.new.items ≡ scores.now) }
+{
+    column.truncate(0);
+    column.extend_from_slice(scores)?;
     Ok(())
 }
 
