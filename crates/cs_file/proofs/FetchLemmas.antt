@@ -230,13 +230,13 @@ title_span i own d os from seen is same lt from_is =
     let within = title_within i is d lt in
     record { onward = omega (arith, up, a, b); at_is = omega (arith, a, t); len_is = omega (arith, a, b); within = omega (arith, within, a, b, t) }
 
-pub title_found : (i own : IndexView) (told : Option (List ℕ)) (d : ℕ) (os : List ℕ) (from : ℕ) (read : List ℕ) → own ≡ i → IsIndex i → os ≡ own.offsets
+pub title_found : {i own : IndexView} {told : Option (List ℕ)} {d : ℕ} {os : List ℕ} {from : ℕ} {read : List ℕ} → own ≡ i → IsIndex own → os ≡ own.offsets
     → d < i.docs → from ≡ get_or os d 0 → ForSome told (λ b. read ≡ part b (own.titles_at + from) (get_or os (d + 1) 0 - get_or os d 0))
     → TitleRead i told d (own.titles_at + from) read
-title_found i own told d os from read seen is same lt from_is found =
+title_found {i} {own} {told} {d} {os} {from} seen is same lt from_is found =
     let at = own.titles_at + from in
     let to = get_or os (d + 1) 0 in
-    let span = title_span i own d os from seen is same lt from_is in
+    let span = title_span i own d os from seen (subst IsIndex seen is) same lt from_is in
     record {
       at_is = span.at_is;
       read_is = λ b t. found b t ∙ ap (λ (n : ℕ). part b at (to - n)) (sym from_is) ∙ ap (λ (n : ℕ). part b n (to - from)) span.at_is

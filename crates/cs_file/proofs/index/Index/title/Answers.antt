@@ -21,32 +21,22 @@ read_over-requires g c =
 
 pub returns-clause-ok : goal.returns-clause-ok
 returns-clause-ok g c =
-    let is = subst IsIndex c.self.view_is c.self.invariant in
-    let read = title_found c.args.self.now _ _ c.args.doc c.as_slice-offsets.result.now c.from.result _ c.self.view_is is c.as_slice-offsets.ensures
-    c.requires.in_range
-    c.from.ensures c.in_ok-read_over.ensures.ok in
+    let read = title_found c.self.view_is c.self.invariant c.as_slice-offsets.ensures c.requires.in_range c.from.ensures c.in_ok-read_over.ensures.ok in
     title_by read c.text_at.result c.text_at.ensures.exact
 
 pub returns-clause-stood : goal.returns-clause-stood
 returns-clause-stood g c = λ b t s.
     let is = subst IsIndex c.self.view_is c.self.invariant in
-    let read = title_found c.args.self.now _ _ c.args.doc c.as_slice-offsets.result.now c.from.result _ c.self.view_is is c.as_slice-offsets.ensures
-    c.requires.in_range
-    c.from.ensures c.in_ok-read_over.ensures.ok in
+    let read = title_found c.self.view_is c.self.invariant c.as_slice-offsets.ensures c.requires.in_range c.from.ensures c.in_ok-read_over.ensures.ok in
     title_stood read b c.text_at.result t s is c.requires.in_range c.text_at.ensures.exact
 
 pub returns-clause-changed : goal.returns-clause-changed
 returns-clause-changed g c =
-    let is = subst IsIndex c.self.view_is c.self.invariant in
-    let read = title_found c.args.self.now _ _ c.args.doc c.as_slice-offsets.result.now c.from.result _ c.self.view_is is c.as_slice-offsets.ensures
-    c.requires.in_range
-    c.from.ensures c.in_ok-read_over.ensures.ok in
+    let read = title_found c.self.view_is c.self.invariant c.as_slice-offsets.ensures c.requires.in_range c.from.ensures c.in_ok-read_over.ensures.ok in
     title_changed read c.text_at.result c.text_at.ensures.exact
 
 pub returns-clause-unchanged : goal.returns-clause-unchanged
 returns-clause-unchanged g c = λ b t s.
     let is = subst IsIndex c.self.view_is c.self.invariant in
-    let read = title_found c.args.self.now _ _ c.args.doc c.as_slice-offsets.result.now c.from.result _ c.self.view_is is c.as_slice-offsets.ensures
-    c.requires.in_range
-    c.from.ensures c.in_ok-read_over.ensures.ok in
+    let read = title_found c.self.view_is c.self.invariant c.as_slice-offsets.ensures c.requires.in_range c.from.ensures c.in_ok-read_over.ensures.ok in
     title_unchanged read b c.text_at.result t s is c.requires.in_range c.text_at.ensures.exact
