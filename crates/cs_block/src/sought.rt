@@ -100,7 +100,7 @@ fn add_sought(
     Ok(kept)
 }
 
-// Puts the places of those of some rows that pass to the front of a slice, and says how many there are.
+// Puts the places of those of some rows that pass to the front of a slice, without a jump, and says how many there are.
 fn find_rows(
     columns: &Columns<'_>,
     head: &BlockHead,
@@ -119,13 +119,21 @@ fn find_rows(
     ensures few { result ≤ length places.new }
     ensures len { length places.new ≡ length places.old }
 {
+    let (lo, hi) = words;
+    let (from, to) = span;
     if whole {
-        return find_listed(docs, span.0, span.1, listed, places);
+        return find_listed(docs, from, to, listed, places);
     }
-    find_sought(columns, head, docs, span, words, listed, places)
+    let mut found = 0;
+    for i in from..to {
+        places[found] = i;
+        let word = head.lo + half_at(columns.words, 2 * i);
+        found += usize::from(is_sought(docs[i], word, lo, hi, listed));
+    }
+    found
 }
 
-// The same of those in listed documents, without a jump.
+// The same of those in listed documents.
 fn find_listed(docs: &[u32], from: usize, to: usize, listed: &[bool], places: &mut [usize]) -> usize
     requires known { All (λ d. d < length listed.now) docs.now }
     requires span { IsSpan from to (length docs.now) (length places.old) }
@@ -138,35 +146,6 @@ fn find_listed(docs: &[u32], from: usize, to: usize, listed: &[bool], places: &m
     for i in from..to {
         places[found] = i;
         found += usize::from(listed[docs[i] as usize]);
-    }
-    found
-}
-
-// The same of those that are sought.
-fn find_sought(
-    columns: &Columns<'_>,
-    head: &BlockHead,
-    docs: &[u32],
-    span: (usize, usize),
-    words: (u32, u32),
-    listed: &[bool],
-    places: &mut [usize],
-) -> usize
-    requires known { CanBeSought head.now (seen_columns columns.now) docs.now listed.now }
-    requires span { IsSpan span.0 span.1 (length docs.now) (length places.old) }
-
-    ensures found { take result places.new ≡ filter (λ i. is_sought words.0 words.1 listed.now (row_with head.now (seen_columns columns.now) docs.now i))
-        (range_with_len span.0 (span.1 - span.0)) }
-    ensures few { result ≤ length places.new }
-    ensures len { length places.new ≡ length places.old }
-{
-    let (lo, hi) = words;
-    let (from, to) = span;
-    let mut found = 0;
-    for i in from..to {
-        places[found] = i;
-        let word = head.lo + half_at(columns.words, 2 * i);
-        found += usize::from(is_sought(docs[i], word, lo, hi, listed));
     }
     found
 }
