@@ -77,7 +77,8 @@ unfolding judged codes_break items_in first_break first_code looked_at value_of 
 judged-left_over = refl
 
 -- the first of two rows has both bytes of the gaps, so that the second finds the column's end
-judged-column_end : judged SCORES (facet_head 2 16) 129 (128 ∷ 1 ∷ 0 ∷ 0 ∷ 0 ∷ 0 ∷ 0 ∷ 0 ∷ 0 ∷ 0 ∷ 0 ∷ 0 ∷ 0 ∷ 0 ∷ 2 ∷ 2 ∷ []) ≡ Some (record { n = 13; at = 2 })
+judged-column_end : judged SCORES (facet_head 2 16) 129 (128 ∷ 1 ∷ 0 ∷ 0 ∷ 0 ∷ 0 ∷ 0 ∷ 0 ∷ 0 ∷ 0 ∷ 0 ∷ 0 ∷ 0 ∷ 0 ∷ 2 ∷ 2 ∷ [])
+    ≡ Some (record { n = 13; at = 2 })
 unfolding judged codes_break items_in first_break first_code looked_at value_of code code_in
 judged-column_end = refl
 

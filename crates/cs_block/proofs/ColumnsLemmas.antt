@@ -4,7 +4,8 @@
 --   items_step   one item, where its gap, its row and the rest of the gaps are known
 --   codes_step   one gap code of the column
 --   again        the columns of rows that have a spelling hold, and are read as these rows
-use Rattle.std.proofs.Common.{◌≡◌, ℕ, zero, suc, ◌+◌, ◌-◌, ◌*◌, Bool, true, false, cond, List, [], ◌∷◌, ◌++◌, length, map, get_or, take, drop, Option, Some, None, refl, sym, ap, ◌∙◌, arith, inl, inr}
+use Rattle.std.proofs.Common.{◌≡◌, ℕ, zero, suc, ◌+◌, ◌-◌, ◌*◌, Bool, true, false, cond, List, [], ◌∷◌, ◌++◌, length, map, get_or, take, drop, Option, Some}
+use Rattle.std.proofs.Common.{None, refl, sym, ap, ◌∙◌, arith, inl, inr}
 use Rattle.std.specs.Int.{w16, w32, to_be_bytes, from_be_bytes}
 use Rattle.std.specs.Option.{is_some, unwrap_or}
 use Rattle.std.proofs.lemmas.Bool.{cases_lt}
@@ -66,15 +67,19 @@ one_more lo k before n gaps words positions scores rs sized is back =
     let positions_len = sized.positions_len in
     let half = from_be_bytes w16 (take 2 words) in
     let word_num : lo + half - lo ≡ half = omega arith in
-    let half_back : to_be_bytes w16 half ≡ take 2 words = be_bytes_2 (take 2 words) _ (omega (arith, length-take 2 words)) (IsBytes-take 2 words sized.words_fit) refl in
-    let pos_back : to_be_bytes w32 (from_be_bytes w32 (take 4 positions)) ≡ take 4 positions = be_bytes_4 (take 4 positions) _ (omega (arith, length-take 4 positions)) (IsBytes-take 4 positions sized.positions_fit) refl in
+    let half_back : to_be_bytes w16 half ≡ take 2 words =
+    be_bytes_2 (take 2 words) _ (omega (arith, length-take 2 words)) (IsBytes-take 2 words sized.words_fit) refl in
+    let pos_back : to_be_bytes w32 (from_be_bytes w32 (take 4 positions)) ≡ take 4 positions =
+    be_bytes_4 (take 4 positions) _ (omega (arith, length-take 4 positions)) (IsBytes-take 4 positions sized.positions_fit) refl in
     let wf = IsBytes-take 2 words sized.words_fit in
     let pf = IsBytes-take 4 positions sized.positions_fit in
     record {
       count = ap suc back.count;
       gaps_are = t.1 ∙ ap (λ (x : List ℕ). code n ++ x) back.gaps_are ∙ ap (λ (x : ℕ). code x ++ gap_column (before + n) rs) (sym gap_num);
-      words_are = sym (take-append-drop 2 words) ∙ ap (λ (x : List ℕ). take 2 words ++ x) back.words_are ∙ ap (λ (x : List ℕ). x ++ word_column lo rs) (sym half_back ∙ ap (to_be_bytes w16) (sym word_num));
-      positions_are = sym (take-append-drop 4 positions) ∙ ap (λ (x : List ℕ). take 4 positions ++ x) back.positions_are ∙ ap (λ (x : List ℕ). x ++ position_column rs) (sym pos_back);
+      words_are = sym (take-append-drop 2 words) ∙ ap (λ (x : List ℕ). take 2 words ++ x) back.words_are
+          ∙ ap (λ (x : List ℕ). x ++ word_column lo rs) (sym half_back ∙ ap (to_be_bytes w16) (sym word_num));
+      positions_are = sym (take-append-drop 4 positions) ∙ ap (λ (x : List ℕ). take 4 positions ++ x) back.positions_are
+          ∙ ap (λ (x : List ℕ). x ++ position_column rs) (sym pos_back);
       scores_are = first_score k scores sized.scores_len ∙ ap (λ (x : List ℕ). get_or scores 0 0 ∷ x) back.scores_are;
       fits = (
         record {
@@ -89,7 +94,8 @@ one_more lo k before n gaps words positions scores rs sized is back =
       );
     }
 
-pub AreSized-rest : (k len : ℕ) (gaps words positions scores : List ℕ) → AreSized (suc k) gaps words positions scores → AreSized k (drop len gaps) (drop 2 words) (drop 4 positions) (drop 1 scores)
+pub AreSized-rest : (k len : ℕ) (gaps words positions scores : List ℕ) → AreSized (suc k) gaps words positions scores
+    → AreSized k (drop len gaps) (drop 2 words) (drop 4 positions) (drop 1 scores)
 AreSized-rest k len gaps words positions scores h =
     let w = h.words_len in
     let p = h.positions_len in
@@ -108,7 +114,8 @@ unfolding codes_break
 break_none at [] e = refl
 break_none at (b ∷ bytes) e = absurd cc
 
-pub reads : (k lo : ℕ) (last : Option Post) (index at : ℕ) (gaps words positions scores : List ℕ) → AreSized k gaps words positions scores → codes_break k at gaps ≡ None
+pub reads : (k lo : ℕ) (last : Option Post) (index at : ℕ) (gaps words positions scores : List ℕ) → AreSized k gaps words positions scores
+    → codes_break k at gaps ≡ None
     → ReadsBack lo k (doc_before last) gaps words positions scores (map item_row (items_in lo k last index at gaps words positions scores))
 unfolding items_in codes_break gap_column word_column position_column score_column HasSpelling
 reads zero lo last index at gaps words positions scores sized e = record {
@@ -125,24 +132,29 @@ reads (suc k) lo last index at gaps words positions scores sized e =
     let g = guard_none (is_some (first_code gaps)) (codes_break k (at + len) (drop len gaps)) at e in
     let is : first_code gaps ≡ Some n = some_is (first_code gaps) g.0 in
     let row = row_at lo (doc_before last + n) words positions scores in
-    let back = reads k lo (Some row) (index + 1) (at + len) (drop len gaps) (drop 2 words) (drop 4 positions) (drop 1 scores) (AreSized-rest k len gaps words positions scores sized) g.1 in
-    one_more lo k (doc_before last) n gaps words positions scores (map item_row (items_in lo k (Some row) (index + 1) (at + len) (drop len gaps) (drop 2 words) (drop 4 positions) (drop 1 scores))) sized is back
+    let back = reads k lo (Some row) (index + 1) (at + len) (drop len gaps) (drop 2 words) (drop 4 positions) (drop 1 scores)
+    (AreSized-rest k len gaps words positions scores sized) g.1 in
+    one_more lo k (doc_before last) n gaps words positions scores
+    (map item_row (items_in lo k (Some row) (index + 1) (at + len) (drop len gaps) (drop 2 words) (drop 4 positions) (drop 1 scores))) sized is back
 
 -- ---- one item, where its gap, its row and the rest of the gaps are known
 pub items_step : (lo k : ℕ) (last : Option Post) (index at n : ℕ) (gaps rest words positions scores : List ℕ) (row : Post)
     → first_code gaps ≡ Some n → drop (length (code n)) gaps ≡ rest → row_at lo (doc_before last + n) words positions scores ≡ row
     → items_in lo (suc k) last index at gaps words positions scores
-    ≡ record { row = row; last = last; index = index; gap_at = at } ∷ items_in lo k (Some row) (index + 1) (at + length (code n)) rest (drop 2 words) (drop 4 positions) (drop 1 scores)
+    ≡ record { row = row; last = last; index = index; gap_at = at } ∷ items_in lo k (Some row) (index + 1) (at + length (code n)) rest (drop 2 words)
+    (drop 4 positions) (drop 1 scores)
 unfolding items_in
 items_step lo k last index at n gaps rest words positions scores row is left same = rw (is, left, same) refl
 
-pub codes_step : (k at n : ℕ) (gaps rest : List ℕ) → first_code gaps ≡ Some n → drop (length (code n)) gaps ≡ rest → codes_break (suc k) at gaps ≡ codes_break k (at + length (code n)) rest
+pub codes_step : (k at n : ℕ) (gaps rest : List ℕ) → first_code gaps ≡ Some n → drop (length (code n)) gaps ≡ rest
+    → codes_break (suc k) at gaps ≡ codes_break k (at + length (code n)) rest
 unfolding codes_break
 codes_step k at n gaps rest is left = rw (is, left) refl
 
 -- ---- from rows to bytes and back to the rows
 
-same_row : (lo doc : ℕ) (words positions scores : List ℕ) (r : Post) → doc ≡ r.doc → lo + from_be_bytes w16 (take 2 words) ≡ r.word → from_be_bytes w32 (take 4 positions) ≡ r.pos → get_or scores 0 0 ≡ r.score → row_at lo doc words positions scores ≡ r
+same_row : (lo doc : ℕ) (words positions scores : List ℕ) (r : Post) → doc ≡ r.doc → lo + from_be_bytes w16 (take 2 words) ≡ r.word
+    → from_be_bytes w32 (take 4 positions) ≡ r.pos → get_or scores 0 0 ≡ r.score → row_at lo doc words positions scores ≡ r
 same_row lo doc words positions scores r a b c d = rw (a, b, c, d) refl
 
 pub again : (lo : ℕ) (last : Option Post) (index at : ℕ) (rs : List Post) → HasSpelling lo (doc_before last) rs
@@ -158,11 +170,14 @@ again lo last index at (r ∷ rs) fits =
     let below = f.word_below in
     let is : first_code (code d ++ gap_column r.doc rs) ≡ Some d = first_found d (gap_column r.doc rs) f.gap in
     let left : drop (length (code d)) (code d ++ gap_column r.doc rs) ≡ gap_column r.doc rs = drop_at (code d) (gap_column r.doc rs) (length (code d)) refl in
-    let word : lo + from_be_bytes w16 (to_be_bytes w16 (r.word - lo)) ≡ r.word = ap (λ (x : ℕ). lo + x) (from_be_bytes-to_be_bytes_2 (r.word - lo) (omega arith)) ∙ omega arith in
+    let word : lo + from_be_bytes w16 (to_be_bytes w16 (r.word - lo)) ≡ r.word =
+    ap (λ (x : ℕ). lo + x) (from_be_bytes-to_be_bytes_2 (r.word - lo) (omega arith)) ∙ omega arith in
     let same : row_at lo (doc_before last + d) (word_column lo (r ∷ rs)) (position_column (r ∷ rs)) (score_column (r ∷ rs)) ≡ r =
-    same_row lo (doc_before last + d) (word_column lo (r ∷ rs)) (position_column (r ∷ rs)) (score_column (r ∷ rs)) r (omega arith) word (from_be_bytes-to_be_bytes_4 r.pos f.pos) refl in
+    same_row lo (doc_before last + d) (word_column lo (r ∷ rs)) (position_column (r ∷ rs)) (score_column (r ∷ rs)) r (omega arith) word
+    (from_be_bytes-to_be_bytes_4 r.pos f.pos) refl in
     let t = again lo (Some r) (index + 1) (at + length (code d)) rs fits.1 in
-    let step = items_step lo (length rs) last index at d (code d ++ gap_column r.doc rs) (gap_column r.doc rs) (word_column lo (r ∷ rs)) (position_column (r ∷ rs)) (score_column (r ∷ rs)) r is left same in (
+    let step = items_step lo (length rs) last index at d (code d ++ gap_column r.doc rs) (gap_column r.doc rs) (word_column lo (r ∷ rs))
+    (position_column (r ∷ rs)) (score_column (r ∷ rs)) r is left same in (
       codes_step (length rs) at d (code d ++ gap_column r.doc rs) (gap_column r.doc rs) is left ∙ t.0,
       ap (map item_row) step ∙ ap (λ (x : List Post). r ∷ x) t.1,
     )

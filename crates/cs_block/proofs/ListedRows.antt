@@ -16,11 +16,10 @@ use Rattle.cs_base.specs.declared.index.block.BlockHead.{BlockHead}
 use Rattle.cs_base.specs.declared.index.block.Broken.{Broken}
 use Rattle.cs_base.specs.declared.content.doc.Post.{Post}
 use Rattle.cs_model.specs.Scores.{SCORES}
-use Rattle.cs_model_index.specs.BlockRules.{BlockColumns, block_columns, broken_at, codes_break, gap_bytes, is_after, is_scored, judged, judged_columns, row_at}
+use Rattle.cs_model_index.specs.BlockRules.{BlockColumns, block_columns, broken_at, codes_break, gap_bytes, is_after, is_scored, judged, row_at}
 use Rattle.cs_block.specs.BlockReading.{GapHere}
-use Rattle.cs_block.specs.DocWords.{BreaksFirst, HasDocWords, HasFront, ListsFront, front_bytes}
+use Rattle.cs_block.specs.DocWords.{BreaksFirst, HasDocWords, HasFront, ListsFront}
 use Rattle.cs_block.specs.Pass.{HasJudged}
-use Rattle.cs_block.specs.RowRuns.{AreWords, HasDocs}
 use Rattle.cs_block.proofs.DocWordsLemmas.{doc_words_all}
 use Rattle.cs_block.proofs.ItemsLemmas.{judged_at_code, judged_at_row, judged_cut, or_broken}
 use Rattle.cs_block.proofs.RulePasses.{judged_all, judges_on, judging, stuck, too_late}

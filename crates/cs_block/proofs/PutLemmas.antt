@@ -33,13 +33,15 @@ put_all all first now rest e h = sym (h.told ∙ ap (λ (x : List ℕ). now ++ x
 pub row_split : (rs : List Post) (i : ℕ) (r : Post) → r ≡ slice_index_or rs i r → i < length rs → drop i rs ≡ r ∷ drop (i + 1) rs
 row_split rs i r is lt = drop_more rs i r lt ∙ ap (λ (x : Post). x ∷ drop (i + 1) rs) (sym is)
 
-pub gaps_split : (before : ℕ) (r : Post) (here left : List Post) → here ≡ r ∷ left → IsAscending before here → (gap_column before here ≡ code (r.doc - before) ++ gap_column r.doc left) × (before ≤ r.doc) × IsAscending r.doc left
+pub gaps_split : (before : ℕ) (r : Post) (here left : List Post) → here ≡ r ∷ left → IsAscending before here
+    → (gap_column before here ≡ code (r.doc - before) ++ gap_column r.doc left) × (before ≤ r.doc) × IsAscending r.doc left
 unfolding gap_column IsAscending
 gaps_split before r here left e h =
     let p : (before ≤ r.doc) × IsAscending r.doc left = subst (IsAscending before) e h in
     (ap (gap_column before) e, p.0, p.1)
 
-pub words_split : (lo : ℕ) (r : Post) (here left : List Post) → here ≡ r ∷ left → HasWords lo here → (word_column lo here ≡ to_be_bytes w16 (r.word - lo) ++ word_column lo left) × (lo ≤ r.word) × (r.word < lo + 2 ^ 16) × HasWords lo left
+pub words_split : (lo : ℕ) (r : Post) (here left : List Post) → here ≡ r ∷ left → HasWords lo here
+    → (word_column lo here ≡ to_be_bytes w16 (r.word - lo) ++ word_column lo left) × (lo ≤ r.word) × (r.word < lo + 2 ^ 16) × HasWords lo left
 unfolding word_column HasWords
 words_split lo r here left e h =
     let p : (lo ≤ r.word) × (r.word < lo + 2 ^ 16) × HasWords lo left = subst (HasWords lo) e h in
@@ -75,6 +77,7 @@ kept_twice a b c p q =
     let le : length a ≤ length b = omega (arith, ap length p, length-take (length a) b) in
     sym (take-take (length a) (length b) c le) ∙ ap (take (length a)) q ∙ p
 
-pub block_put : (first a b c d : List ℕ) (rs : List Post) (lo : ℕ) → a ≡ first ++ gap_column 0 rs → b ≡ a ++ word_column lo rs → c ≡ b ++ position_column rs → d ≡ c ++ score_column rs → d ≡ first ++ block_bytes rs lo
+pub block_put : (first a b c d : List ℕ) (rs : List Post) (lo : ℕ) → a ≡ first ++ gap_column 0 rs → b ≡ a ++ word_column lo rs → c ≡ b ++ position_column rs
+    → d ≡ c ++ score_column rs → d ≡ first ++ block_bytes rs lo
 unfolding block_bytes
 block_put first a b c d rs lo p q r s = s ∙ rw (r, q, p) (simp append_assoc)

@@ -59,8 +59,10 @@ onward : (last : Option Post) (r : Post) → is_after last r ≡ true → doc_be
 onward None r h = omega arith
 onward (Some p) r h = onward_by p r (comes-from_lt p r h)
 
-spelling_by : (head : BlockHead) (docs : ℕ) (last : Option Post) (rs : List Post) → docs < 2 ^ 32 → AllByRecursion (λ r. (head.lo ≤ r.word) × (r.word < head.lo + 2 ^ 16)) rs
-    → keeps (in_docs docs).holds last rs ≡ true → keeps (in_kind SCORES head).holds last rs ≡ true → keeps is_after last rs ≡ true → HasSpelling head.lo (doc_before last) rs
+spelling_by : (head : BlockHead) (docs : ℕ) (last : Option Post) (rs : List Post) → docs < 2 ^ 32
+    → AllByRecursion (λ r. (head.lo ≤ r.word) × (r.word < head.lo + 2 ^ 16)) rs
+    → keeps (in_docs docs).holds last rs ≡ true → keeps (in_kind SCORES head).holds last rs ≡ true → keeps is_after last rs ≡ true
+    → HasSpelling head.lo (doc_before last) rs
 unfolding keeps HasSpelling
 spelling_by head docs last [] few w d s o = tt
 spelling_by head docs last (r ∷ rs) few w d s o =
@@ -68,8 +70,10 @@ spelling_by head docs last (r ∷ rs) few w d s o =
     let sp = and_parts (is_scored SCORES head.facet r) (keeps (in_kind SCORES head).holds (Some r) rs) s in
     let op = and_parts (is_after last r) (keeps is_after (Some r) rs) o in
     let below : r.doc < docs = ltb-true r.doc docs dp.0 in
-    let small = scored_small head.facet r sp.0 in
-    (record { onward = onward last r op.0; gap = omega arith; word_from = w.0.0; word_below = w.0.1; pos = small.0; score = small.1 }, spelling_by head docs (Some r) rs few w.1 dp.1 sp.1 op.1)
+    let small = scored_small head.facet r sp.0 in (
+      record { onward = onward last r op.0; gap = omega arith; word_from = w.0.0; word_below = w.0.1; pos = small.0; score = small.1 },
+      spelling_by head docs (Some r) rs few w.1 dp.1 sp.1 op.1,
+    )
 
 pub spelling_from : (head : BlockHead) (docs : ℕ) (rs : List Post) → docs < 2 ^ 32 → All (λ r. (head.lo ≤ r.word) × (r.word < head.lo + 2 ^ 16)) rs
     → keeps (in_docs docs).holds None rs ≡ true → keeps (in_kind SCORES head).holds None rs ≡ true → keeps is_after None rs ≡ true → HasSpelling head.lo 0 rs

@@ -4,7 +4,8 @@
 --   pushing, pushes_on    the steps of a loop that adds rows
 --   stops_at_code, stops_at_doc, stops_at_row    where it stops a rule is broken
 --   ends, pushed_all    where it ends no rule on rows is broken, and all rows are added
-use Rattle.std.proofs.Common.{◌≡◌, ℕ, ◌+◌, ◌-◌, ◌*◌, ◌<◌, ◌≤◌, Bool, true, false, ◌&&◌, cond, ltb, eqb, List, [], ◌∷◌, ◌++◌, length, map, drop, Option, Some, None, refl, sym, ap, ◌∙◌, append_assoc, arith, inl, inr}
+use Rattle.std.proofs.Common.{◌≡◌, ℕ, ◌+◌, ◌-◌, ◌*◌, ◌<◌, ◌≤◌, Bool, true, false, ◌&&◌, cond, ltb, eqb, List, [], ◌∷◌, ◌++◌, length, map, drop, Option, Some}
+use Rattle.std.proofs.Common.{None, refl, sym, ap, ◌∙◌, append_assoc, arith, inl, inr}
 use Rattle.std.specs.Option.{option_or, is_none}
 use Rattle.std.proofs.lemmas.Bool.{and_parts, and_cases, eq-eqb, cases_lt, lt-ltb, le-ltb, ne_eqb}
 use Rattle.std.proofs.lemmas.Option.{none-some}
@@ -14,10 +15,12 @@ use Rattle.cs_base.specs.declared.index.block.BlockHead.{BlockHead}
 use Rattle.cs_base.specs.declared.index.block.Broken.{Broken}
 use Rattle.cs_base.specs.declared.content.doc.Post.{Post}
 use Rattle.cs_model.specs.Scores.{SCORES}
-use Rattle.cs_model_index.specs.BlockRules.{codes_break, Item, item_row, doc_before, row_at, gap_bytes, rules, in_docs, in_words, in_kind, in_order, is_scored, is_after, first_break, first_broken, BlockColumns, block_items, judged_columns}
+use Rattle.cs_model_index.specs.BlockRules.{codes_break, Item, item_row, doc_before, row_at, gap_bytes, rules, in_docs, in_words, in_kind, in_order}
+use Rattle.cs_model_index.specs.BlockRules.{is_scored, is_after, first_break, first_broken, BlockColumns, block_items, judged_columns}
 use Rattle.cs_block.specs.BlockReading.{GapHere}
 use Rattle.cs_block.specs.Pass.{items_from, HasJudged, HasPushed}
-use Rattle.cs_block.proofs.ItemsLemmas.{bad_on, bad_here, bad_over, bad_done, items_on, items_end, items_start, keeps_on, keeps_end, keeps_start, keeps_found, or_broken, in_turn}
+use Rattle.cs_block.proofs.ItemsLemmas.{bad_on, bad_here, bad_over, bad_done, items_on, items_end, items_start, keeps_on, keeps_end, keeps_start, keeps_found}
+use Rattle.cs_block.proofs.ItemsLemmas.{or_broken, in_turn}
 
 -- ---- the loop over the rows
 
@@ -38,9 +41,11 @@ pub is_row : (head : BlockHead) (docs : ℕ) (c : BlockColumns) (i at n : ℕ) (
     → HasJudged head docs c i at last before word score order
     → row ≡ row_at head.lo (before + n) (drop (2 * i) c.words) (drop (4 * i) c.positions) (drop i c.scores)
     → row ≡ row_at head.lo (doc_before last + n) (drop (2 * i) c.words) (drop (4 * i) c.positions) (drop i c.scores)
-is_row head docs c i at n last before word score order row h is = is ∙ ap (λ (x : ℕ). row_at head.lo (x + n) (drop (2 * i) c.words) (drop (4 * i) c.positions) (drop i c.scores)) h.before_is
+is_row head docs c i at n last before word score order row h is = is
+    ∙ ap (λ (x : ℕ). row_at head.lo (x + n) (drop (2 * i) c.words) (drop (4 * i) c.positions) (drop i c.scores)) h.before_is
 
-pub judges_on : (head : BlockHead) (docs : ℕ) (c : BlockColumns) (i at n next : ℕ) (last : Option Post) (before doc : ℕ) (word score order word' score' order' : Option ℕ) (worded held after : Bool) (row : Post)
+pub judges_on : (head : BlockHead) (docs : ℕ) (c : BlockColumns) (i at n next : ℕ) (last : Option Post) (before doc : ℕ)
+    (word score order word' score' order' : Option ℕ) (worded held after : Bool) (row : Post)
     → i < head.rows → GapHere c.gaps at n next → doc ≡ before + n → doc < docs
     → row ≡ row_at head.lo doc (drop (2 * i) c.words) (drop (4 * i) c.positions) (drop i c.scores)
     → worded ≡ ltb row.word (head.lo + head.words) → word' ≡ option_or word (cond worded None (Some (gap_bytes head + 2 * i)))
@@ -52,7 +57,8 @@ judges_on head docs c i at n next last before doc word score order word' score' 
     let all = block_items head c in
     let here = items_from head c i at last in
     let rest = items_from head c (i + 1) next (Some row) in
-    let is' : row ≡ row_at head.lo (before + n) (drop (2 * i) c.words) (drop (4 * i) c.positions) (drop i c.scores) = is ∙ ap (λ (x : ℕ). row_at head.lo x (drop (2 * i) c.words) (drop (4 * i) c.positions) (drop i c.scores)) sum in
+    let is' : row ≡ row_at head.lo (before + n) (drop (2 * i) c.words) (drop (4 * i) c.positions) (drop i c.scores) = is
+    ∙ ap (λ (x : ℕ). row_at head.lo x (drop (2 * i) c.words) (drop (4 * i) c.positions) (drop i c.scores)) sum in
     let split : here ≡ item ∷ rest = items_on head c i at n next last row lt gap (is_row head docs c i at n last before word score order row h is') in
     let doc_is : row.doc ≡ doc = ap (λ (r : Post). r.doc) is in
     let in_time : ltb row.doc docs ≡ true = lt-ltb row.doc docs (omega arith) in
@@ -63,8 +69,10 @@ judges_on head docs c i at n next last before doc word score order word' score' 
       before_is = refl;
       before_below = omega arith;
       docs_kept = keeps_on (in_docs docs) all None None item here rest split none h.docs_kept;
-      words_kept = keeps_on (in_words head) all word word' item here rest split (w ∙ ap (λ (b : Bool). option_or word (cond b None (Some (gap_bytes head + 2 * i)))) hw) h.words_kept;
-      scores_kept = keeps_on (in_kind SCORES head) all score score' item here rest split (s ∙ ap (λ (b : Bool). option_or score (cond b None (Some (gap_bytes head + 2 * head.rows + 4 * i)))) hs) h.scores_kept;
+      words_kept = keeps_on (in_words head) all word word' item here rest split
+          (w ∙ ap (λ (b : Bool). option_or word (cond b None (Some (gap_bytes head + 2 * i)))) hw) h.words_kept;
+      scores_kept = keeps_on (in_kind SCORES head) all score score' item here rest split
+          (s ∙ ap (λ (b : Bool). option_or score (cond b None (Some (gap_bytes head + 2 * head.rows + 4 * i)))) hs) h.scores_kept;
       order_kept = keeps_on in_order all order order' item here rest split (o ∙ ap (λ (b : Bool). option_or order (cond b None (Some at))) ho) h.order_kept;
     }
 
@@ -78,7 +86,8 @@ too_late head docs c i at n next last before word score order lt gap late h =
     let broken = keeps_found (in_docs docs) (block_items head c) item _ _ split (le-ltb (before + n) docs late) h.docs_kept in
     in_turn head docs (block_items head c) ∙ rw broken refl
 
-pub judged_all : (head : BlockHead) (docs : ℕ) (c : BlockColumns) (i at : ℕ) (last : Option Post) (before : ℕ) (word score order : Option ℕ) (r17 r16 r15 : Option Broken)
+pub judged_all : (head : BlockHead) (docs : ℕ) (c : BlockColumns) (i at : ℕ) (last : Option Post) (before : ℕ) (word score order : Option ℕ)
+    (r17 r16 r15 : Option Broken)
     → head.rows ≤ i → HasJudged head docs c i at last before word score order
     → r17 ≡ or_broken 17 order None → r16 ≡ or_broken 16 score r17 → r15 ≡ or_broken 15 word r16
     → r15 ≡ first_broken (rules SCORES head docs) (block_items head c)
@@ -89,14 +98,18 @@ judged_all head docs c i at last before word score order r17 r16 r15 le h a b d 
     let s = keeps_end (in_kind SCORES head) all score _ done h.scores_kept in
     let o = keeps_end in_order all order _ done h.order_kept in
     let e = keeps_end (in_docs docs) all None _ done h.docs_kept in
-    d ∙ ap (or_broken 15 word) (b ∙ ap (or_broken 16 score) a) ∙ rw (w, s, o) (ap (λ (x : Option ℕ). or_broken 14 x (or_broken 15 (first_break (in_words head) all) (or_broken 16 (first_break (in_kind SCORES head) all) (or_broken 17 (first_break in_order all) None)))) e) ∙ sym (in_turn head docs all)
+    d ∙ ap (or_broken 15 word) (b ∙ ap (or_broken 16 score) a)
+    ∙ rw (w, s, o) (ap (λ (x : Option ℕ). or_broken 14 x
+    (or_broken 15 (first_break (in_words head) all)
+    (or_broken 16 (first_break (in_kind SCORES head) all) (or_broken 17 (first_break in_order all) None)))) e) ∙ sym (in_turn head docs all)
 
 pub stuck : (rows i at : ℕ) (gaps : List ℕ) → i < rows → first_code (drop at gaps) ≡ None → codes_break (rows - i) at (drop at gaps) ≡ None → ⊥
 stuck rows i at gaps lt none h = none-some at (sym h ∙ bad_here rows i at gaps lt none)
 
 -- ---- the loop that adds the rows
 
-pub pushing : (head : BlockHead) (docs : ℕ) (c : BlockColumns) (first : List Post) (room : ℕ) → head.rows ≤ room → HasPushed head docs c 0 0 None 0 first first room
+pub pushing : (head : BlockHead) (docs : ℕ) (c : BlockColumns) (first : List Post) (room : ℕ) → head.rows ≤ room
+    → HasPushed head docs c 0 0 None 0 first first room
 pushing head docs c first room le = record {
   judged = judging head docs c;
   told = ap (λ (x : List Item). first ++ map item_row x) (sym (items_start head c));
@@ -108,7 +121,8 @@ pushing head docs c first room le = record {
 abbrev pub Tests : BlockHead → Option Post → Post → Bool
 Tests head last row = ltb row.word (head.lo + head.words) && (is_scored SCORES head.facet row && is_after last row)
 
-pub pushes_on : (head : BlockHead) (docs : ℕ) (c : BlockColumns) (i at n next : ℕ) (last : Option Post) (before doc : ℕ) (row : Post) (first now then : List Post) (room left : ℕ)
+pub pushes_on : (head : BlockHead) (docs : ℕ) (c : BlockColumns) (i at n next : ℕ) (last : Option Post) (before doc : ℕ) (row : Post)
+    (first now then : List Post) (room left : ℕ)
     → i < head.rows → GapHere c.gaps at n next → doc ≡ before + n → doc < docs
     → row ≡ row_at head.lo doc (drop (2 * i) c.words) (drop (4 * i) c.positions) (drop i c.scores)
     → Tests head last row ≡ true → then ≡ now ++ row ∷ [] → room ≤ left + 1
@@ -120,13 +134,16 @@ pushes_on head docs c i at n next last before doc row first now then room left l
     let none_score : None ≡ option_or None (cond true None (Some (gap_bytes head + 2 * head.rows + 4 * i))) = refl in
     let none_order : None ≡ option_or None (cond true None (Some at)) = refl in
     let item : Item = record { row = row; last = last; index = i; gap_at = at } in
-    let is' : row ≡ row_at head.lo (before + n) (drop (2 * i) c.words) (drop (4 * i) c.positions) (drop i c.scores) = is ∙ ap (λ (x : ℕ). row_at head.lo x (drop (2 * i) c.words) (drop (4 * i) c.positions) (drop i c.scores)) sum in
+    let is' : row ≡ row_at head.lo (before + n) (drop (2 * i) c.words) (drop (4 * i) c.positions) (drop i c.scores) = is
+    ∙ ap (λ (x : ℕ). row_at head.lo x (drop (2 * i) c.words) (drop (4 * i) c.positions) (drop i c.scores)) sum in
     let rest = items_from head c (i + 1) next (Some row) in
-    let split : items_from head c i at last ≡ item ∷ rest = items_on head c i at n next last row lt gap (is_row head docs c i at n last before None None None row h.judged is') in
+    let split : items_from head c i at last ≡ item ∷ rest =
+    items_on head c i at n next last row lt gap (is_row head docs c i at n last before None None None row h.judged is') in
     let len : length first ≤ length now = omega (arith, ap length h.kept, length-take (length first) now) in
     let room_left = h.room_left in
     record {
-      judged = judges_on head docs c i at n next last before doc None None None None None None true true true row lt gap sum below is (sym p.0) none_word (sym q.0) none_score (sym q.1) none_order h.judged;
+      judged = judges_on head docs c i at n next last before doc None None None None None None true true true row lt gap sum below is (sym p.0) none_word
+          (sym q.0) none_score (sym q.1) none_order h.judged;
       told = h.told ∙ ap (λ (x : List Item). now ++ map item_row x) split ∙ rw added (sym (append_assoc now (row ∷ []) (map item_row rest)));
       kept = rw added (take-append-le (length first) now (row ∷ []) len ∙ h.kept);
       room_left = omega arith;
@@ -144,15 +161,19 @@ or_broken_late n (Some at) other e = refl
 or_broken_here : (n at : ℕ) (o : Option ℕ) (other : Option Broken) → o ≡ Some at → is_none (or_broken n o other) ≡ false
 or_broken_here n at o other e = rw e refl
 
-pub stops_at_code : (head : BlockHead) (docs : ℕ) (c : BlockColumns) (i at : ℕ) (last : Option Post) (before : ℕ) (word score order : Option ℕ) → i < head.rows → first_code (drop at c.gaps) ≡ None
+pub stops_at_code : (head : BlockHead) (docs : ℕ) (c : BlockColumns) (i at : ℕ) (last : Option Post) (before : ℕ) (word score order : Option ℕ)
+    → i < head.rows → first_code (drop at c.gaps) ≡ None
     → HasJudged head docs c i at last before word score order → is_none (judged_columns SCORES head docs c) ≡ false
 stops_at_code head docs c i at last before word score order lt none h =
-    or_broken_here 13 at (codes_break head.rows 0 c.gaps) (first_broken (rules SCORES head docs) (block_items head c)) (sym h.codes ∙ bad_here head.rows i at c.gaps lt none)
+    or_broken_here 13 at (codes_break head.rows 0 c.gaps) (first_broken (rules SCORES head docs) (block_items head c))
+    (sym h.codes ∙ bad_here head.rows i at c.gaps lt none)
 
 pub stops_at_doc : (head : BlockHead) (docs : ℕ) (c : BlockColumns) (i at n next : ℕ) (last : Option Post) (before : ℕ) (word score order : Option ℕ)
-    → i < head.rows → GapHere c.gaps at n next → docs ≤ before + n → HasJudged head docs c i at last before word score order → is_none (judged_columns SCORES head docs c) ≡ false
+    → i < head.rows → GapHere c.gaps at n next → docs ≤ before + n → HasJudged head docs c i at last before word score order
+    → is_none (judged_columns SCORES head docs c) ≡ false
 stops_at_doc head docs c i at n next last before word score order lt gap late h =
-    or_broken_late 13 (codes_break head.rows 0 c.gaps) (first_broken (rules SCORES head docs) (block_items head c)) (none_false _ _ (too_late head docs c i at n next last before word score order lt gap late h))
+    or_broken_late 13 (codes_break head.rows 0 c.gaps) (first_broken (rules SCORES head docs) (block_items head c))
+    (none_false _ _ (too_late head docs c i at n next last before word score order lt gap late h))
 
 pub stops_at_row : (head : BlockHead) (docs : ℕ) (c : BlockColumns) (i at n next : ℕ) (last : Option Post) (before doc : ℕ) (row : Post)
     → i < head.rows → GapHere c.gaps at n next → doc ≡ before + n
@@ -161,9 +182,11 @@ pub stops_at_row : (head : BlockHead) (docs : ℕ) (c : BlockColumns) (i at n ne
 stops_at_row head docs c i at n next last before doc row lt gap sum is failed h =
     let all = block_items head c in
     let item : Item = record { row = row; last = last; index = i; gap_at = at } in
-    let is' : row ≡ row_at head.lo (before + n) (drop (2 * i) c.words) (drop (4 * i) c.positions) (drop i c.scores) = is ∙ ap (λ (x : ℕ). row_at head.lo x (drop (2 * i) c.words) (drop (4 * i) c.positions) (drop i c.scores)) sum in
+    let is' : row ≡ row_at head.lo (before + n) (drop (2 * i) c.words) (drop (4 * i) c.positions) (drop i c.scores) = is
+    ∙ ap (λ (x : ℕ). row_at head.lo x (drop (2 * i) c.words) (drop (4 * i) c.positions) (drop i c.scores)) sum in
     let rest = items_from head c (i + 1) next (Some row) in
-    let split : items_from head c i at last ≡ item ∷ rest = items_on head c i at n next last row lt gap (is_row head docs c i at n last before None None None row h is') in
+    let split : items_from head c i at last ≡ item ∷ rest =
+    items_on head c i at n next last row lt gap (is_row head docs c i at n last before None None None row h is') in
     let orders = or_broken 17 (first_break in_order all) None in
     let scores = or_broken 16 (first_break (in_kind SCORES head) all) orders in
     let words = or_broken 15 (first_break (in_words head) all) scores in
@@ -171,21 +194,27 @@ stops_at_row head docs c i at n next last before doc row lt gap sum is failed h 
       | inl word ↦ or_broken_here 15 _ _ scores (keeps_found (in_words head) all item _ rest split word h.words_kept)
       | inr more ↦ or_broken_late 15 (first_break (in_words head) all) scores (elim (and_cases (is_scored SCORES head.facet row) (is_after last row) more) [
         | inl score ↦ or_broken_here 16 _ _ orders (keeps_found (in_kind SCORES head) all item _ rest split score h.scores_kept)
-        | inr order ↦ or_broken_late 16 (first_break (in_kind SCORES head) all) orders (or_broken_here 17 _ _ None (keeps_found in_order all item _ rest split order h.order_kept))
+        | inr order ↦ or_broken_late 16 (first_break (in_kind SCORES head) all) orders
+            (or_broken_here 17 _ _ None (keeps_found in_order all item _ rest split order h.order_kept))
       ])
     ] in
-    or_broken_late 13 (codes_break head.rows 0 c.gaps) (first_broken (rules SCORES head docs) all) (ap is_none (in_turn head docs all) ∙ or_broken_late 14 (first_break (in_docs docs) all) words broken)
+    or_broken_late 13 (codes_break head.rows 0 c.gaps) (first_broken (rules SCORES head docs) all)
+    (ap is_none (in_turn head docs all) ∙ or_broken_late 14 (first_break (in_docs docs) all) words broken)
 
-pub ends_whole : (head : BlockHead) (docs : ℕ) (c : BlockColumns) (i at : ℕ) (last : Option Post) (before : ℕ) → head.rows ≤ i → at ≡ length c.gaps → HasJudged head docs c i at last before None None None → is_none (judged_columns SCORES head docs c) ≡ true
+pub ends_whole : (head : BlockHead) (docs : ℕ) (c : BlockColumns) (i at : ℕ) (last : Option Post) (before : ℕ) → head.rows ≤ i → at ≡ length c.gaps
+    → HasJudged head docs c i at last before None None None → is_none (judged_columns SCORES head docs c) ≡ true
 ends_whole head docs c i at last before le end h =
     let codes : codes_break head.rows 0 c.gaps ≡ None = sym h.codes ∙ bad_done head.rows i at c.gaps le (omega arith) in
     rw codes (ap is_none (sym (judged_all head docs c i at last before None None None None None None le h refl refl refl)))
 
-pub ends_early : (head : BlockHead) (docs : ℕ) (c : BlockColumns) (i at : ℕ) (last : Option Post) (before : ℕ) → head.rows ≤ i → at < length c.gaps → HasJudged head docs c i at last before None None None → is_none (judged_columns SCORES head docs c) ≡ false
+pub ends_early : (head : BlockHead) (docs : ℕ) (c : BlockColumns) (i at : ℕ) (last : Option Post) (before : ℕ) → head.rows ≤ i → at < length c.gaps
+    → HasJudged head docs c i at last before None None None → is_none (judged_columns SCORES head docs c) ≡ false
 ends_early head docs c i at last before le lt h =
-    or_broken_here 13 at (codes_break head.rows 0 c.gaps) (first_broken (rules SCORES head docs) (block_items head c)) (sym h.codes ∙ bad_over head.rows i at c.gaps le lt)
+    or_broken_here 13 at (codes_break head.rows 0 c.gaps) (first_broken (rules SCORES head docs) (block_items head c))
+    (sym h.codes ∙ bad_over head.rows i at c.gaps le lt)
 
-pub ends : (head : BlockHead) (docs : ℕ) (c : BlockColumns) (i at : ℕ) (last : Option Post) (before : ℕ) → head.rows ≤ i → HasJudged head docs c i at last before None None None → eqb at (length c.gaps) ≡ is_none (judged_columns SCORES head docs c)
+pub ends : (head : BlockHead) (docs : ℕ) (c : BlockColumns) (i at : ℕ) (last : Option Post) (before : ℕ) → head.rows ≤ i
+    → HasJudged head docs c i at last before None None None → eqb at (length c.gaps) ≡ is_none (judged_columns SCORES head docs c)
 ends head docs c i at last before le h =
     let within = h.within in
     elim (cases_lt at (length c.gaps)) [
@@ -195,9 +224,11 @@ ends head docs c i at last before le h =
           eq-eqb at (length c.gaps) end ∙ sym (ends_whole head docs c i at last before le end h)
     ]
 
-pub pushed_all : (head : BlockHead) (docs : ℕ) (c : BlockColumns) (i at : ℕ) (last : Option Post) (before : ℕ) (first now : List Post) (room : ℕ) → head.rows ≤ i → HasPushed head docs c i at last before first now room
+pub pushed_all : (head : BlockHead) (docs : ℕ) (c : BlockColumns) (i at : ℕ) (last : Option Post) (before : ℕ) (first now : List Post) (room : ℕ)
+    → head.rows ≤ i → HasPushed head docs c i at last before first now room
     → now ≡ first ++ map item_row (block_items head c)
-pushed_all head docs c i at last before first now room le h = sym (h.told ∙ ap (λ (x : List Item). now ++ map item_row x) (items_end head c i at last le) ∙ append-nil now)
+pushed_all head docs c i at last before first now room le h =
+    sym (h.told ∙ ap (λ (x : List Item). now ++ map item_row x) (items_end head c i at last le) ∙ append-nil now)
 
 pub none-from_test : (o : Option Broken) → is_none o ≡ true → o ≡ None
 none-from_test None e = refl

@@ -7,11 +7,13 @@
 --   pair_here            a code of one byte or two
 --   IsRun, is_run        a run of rows that keep the rules, from the facts of its columns
 --   pushes_run           what is known behind it: what is known behind each of its rows, one by one
-use Rattle.std.proofs.Common.{◌≡◌, ℕ, zero, suc, ◌+◌, ◌-◌, ◌*◌, ◌/◌, ◌%◌, ◌<◌, ◌≤◌, Bool, true, false, ◌&&◌, ◌||◌, ltb, List, [], ◌∷◌, ◌++◌, length, get_or, set, take, drop, Option, Some, refl, sym, ap, ap₂, subst, ◌∙◌, append_assoc, arith, inl, inr}
+use Rattle.std.proofs.Common.{◌≡◌, ℕ, zero, suc, ◌+◌, ◌-◌, ◌*◌, ◌/◌, ◌%◌, ◌<◌, ◌≤◌, Bool, true, false, ◌&&◌, ◌||◌, ltb, List, [], ◌∷◌, ◌++◌, length, get_or}
+use Rattle.std.proofs.Common.{set, take, drop, Option, Some, refl, sym, ap, ap₂, subst, ◌∙◌, append_assoc, arith, inl, inr}
 use Rattle.std.specs.Int.{w16, w32, from_be_bytes}
 use Rattle.std.specs.Option.{unwrap_or}
 use Rattle.std.proofs.lemmas.Bool.{cases_eq, cases_lt, lt-ltb, le-ltb, ltb-true, and_parts, and_from, or_cases}
-use Rattle.std.proofs.lemmas.List.{get_or_append_left, get_or-append_right, length-append, length-take, get_or-set_same, get_or-set_other, drop_more, append-nil, take_more, take_all, get_or-take, get_or-drop}
+use Rattle.std.proofs.lemmas.List.{get_or_append_left, get_or-append_right, length-append, length-take, get_or-set_same, get_or-set_other, drop_more}
+use Rattle.std.proofs.lemmas.List.{append-nil, take_more, take_all, get_or-take, get_or-drop}
 use Rattle.std.proofs.lemmas.Slice.{take-put_mid}
 use Rattle.cs_base.specs.index.GapCode.{code, code_in, first_code}
 use Rattle.cs_base.specs.declared.index.block.BlockHead.{BlockHead}
@@ -23,7 +25,8 @@ use Rattle.cs_model.specs.Scores.{SCORES}
 use Rattle.cs_model_index.specs.BlockRules.{gap_len, gap_number, row_at, is_scored, is_after, BlockColumns}
 use Rattle.cs_block.specs.BlockReading.{GapHere}
 use Rattle.cs_block.specs.Pass.{HasPushed}
-use Rattle.cs_block.specs.RowRuns.{place_after, doc_after, HasGap, HaveDocs, HasDocs, AreWords, ArePositions, is_position, AreScores, is_score, AreOnward, AreAscending, row_in}
+use Rattle.cs_block.specs.RowRuns.{place_after, doc_after, HasGap, HaveDocs, HasDocs, AreWords, ArePositions, is_position, AreScores, is_score, AreOnward}
+use Rattle.cs_block.specs.RowRuns.{AreAscending, row_in}
 use Rattle.cs_block.proofs.RulePasses.{pushes_on, Tests}
 use borrow.Rule.Slice.PartMut.{put_mid}
 
@@ -46,7 +49,8 @@ place_on gaps at j n next h =
     let e : unwrap_or (first_code (drop (place_after gaps at j) gaps)) 0 ≡ n = ap (λ (o : Option ℕ). unwrap_or o 0) h.is in
     ap (λ (x : ℕ). place_after gaps at j + length (code x)) e ∙ sym h.behind
 
-pub doc_on : (gaps : List ℕ) (at before j n next : ℕ) → GapHere gaps (place_after gaps at j) n next → doc_after gaps at before (suc j) ≡ doc_after gaps at before j + n
+pub doc_on : (gaps : List ℕ) (at before j n next : ℕ) → GapHere gaps (place_after gaps at j) n next
+    → doc_after gaps at before (suc j) ≡ doc_after gaps at before j + n
 unfolding doc_after
 doc_on gaps at before j n next h =
     let e : unwrap_or (first_code (drop (place_after gaps at j) gaps)) 0 ≡ n = ap (λ (o : Option ℕ). unwrap_or o 0) h.is in
@@ -69,15 +73,18 @@ docs_more gaps at before ds i next doc n behind more lt gap sum h =
     let on : place_after gaps at (suc i) ≡ behind = place_on gaps at i n behind here in
     let made : more ≡ doc_after gaps at before i + n = sum ∙ ap (λ (x : ℕ). x + n) h.doc_is in
     let one : suc i ≡ i + 1 = omega arith in
-    let old : (j : ℕ) → j < i → HasGap gaps at before j (get_or ds j 0) × (get_or ds j 0 ≤ more) = λ j less. (let f = h.each j less in let below = f.1 in (f.0, omega arith)) in
+    let old : (j : ℕ) → j < i → HasGap gaps at before j (get_or ds j 0) × (get_or ds j 0 ≤ more) =
+    λ j less. (let f = h.each j less in let below = f.1 in (f.0, omega arith)) in
     record {
       next_is = sym on ∙ ap (place_after gaps at) one;
       inside = gap.within;
       doc_is = made ∙ sym (doc_on gaps at before i n behind here) ∙ ap (doc_after gaps at before) one;
-      each = each_more (λ j d. HasGap gaps at before j d × (d ≤ more)) ds i more lt ((n, subst (λ (x : ℕ). GapHere gaps (place_after gaps at i) n x) (sym on) here, made), omega arith) old;
+      each = each_more (λ j d. HasGap gaps at before j d × (d ≤ more)) ds i more lt
+          ((n, subst (λ (x : ℕ). GapHere gaps (place_after gaps at i) n x) (sym on) here, made), omega arith) old;
     }
 
-pub docs_all : (gaps : List ℕ) (at before docs : ℕ) (ds : List ℕ) (i next doc : ℕ) → length ds ≡ i → (0 < i → doc < docs) → DocsTo gaps at before ds i next doc → HasDocs gaps at before docs ds next
+pub docs_all : (gaps : List ℕ) (at before docs : ℕ) (ds : List ℕ) (i next doc : ℕ) → length ds ≡ i → (0 < i → doc < docs)
+    → DocsTo gaps at before ds i next doc → HasDocs gaps at before docs ds next
 docs_all gaps at before docs ds i next doc e below h = record {
   are = λ j lt. (let f = h.each j (omega arith) in let most = f.1 in let late = below (omega arith) in (f.0, omega arith));
   next_is = h.next_is ∙ ap (place_after gaps at) (sym e);
@@ -182,14 +189,16 @@ pair_code a b n long byte some lt e =
     let digit : n % 128 + 128 ≡ a = omega arith in
     rw (le-ltb n 128 large, quotient, digit, lt-ltb b 128 lt) refl
 
-two_here : (gaps : List ℕ) (at n next : ℕ) → at + 1 < length gaps → 128 ≤ get_or gaps at 0 → get_or gaps at 0 < 256 → 0 < get_or gaps (at + 1) 0 → get_or gaps (at + 1) 0 < 128
+two_here : (gaps : List ℕ) (at n next : ℕ) → at + 1 < length gaps → 128 ≤ get_or gaps at 0 → get_or gaps at 0 < 256 → 0 < get_or gaps (at + 1) 0
+    → get_or gaps (at + 1) 0 < 128
     → n + 128 ≡ get_or gaps at 0 + 128 * get_or gaps (at + 1) 0 → next ≡ at + 2 → GapHere gaps at n next
 two_here gaps at n next inside long byte some lt e is =
     let a = get_or gaps at 0 in
     let b = get_or gaps (at + 1) 0 in
     let c = pair_code a b n long byte some lt e in
     let rest = drop (at + 1 + 1) gaps in
-    let front : drop at gaps ≡ code n ++ rest = drop_more gaps at 0 (omega arith) ∙ ap (λ (x : List ℕ). a ∷ x) (drop_more gaps (at + 1) 0 inside) ∙ ap (λ (x : List ℕ). x ++ rest) (sym c) in
+    let front : drop at gaps ≡ code n ++ rest = drop_more gaps at 0 (omega arith) ∙ ap (λ (x : List ℕ). a ∷ x) (drop_more gaps (at + 1) 0 inside)
+    ∙ ap (λ (x : List ℕ). x ++ rest) (sym c) in
     record {
       is = ap first_code front ∙ first_found n rest (omega arith);
       behind = is ∙ ap (λ (x : List ℕ). at + length x) (sym c);
@@ -209,7 +218,8 @@ pair_here gaps at n next inside byte test one two one_on two_on =
       | inl lt ↦ subst (λ (x : ℕ). GapHere gaps at x next) (sym (one lt)) (short_here gaps at next (one_on lt) (omega arith) lt)
       | inr ge ↦ elim (or_cases (ltb a 128) (ltb 0 b && ltb b 128) test) [
         | inl e ↦ absurd (let lt = ltb-true a 128 e in omega arith)
-        | inr e ↦ let p = and_parts (ltb 0 b) (ltb b 128) e in two_here gaps at n next inside ge byte (ltb-true 0 b p.0) (ltb-true b 128 p.1) (two ge) (two_on ge)
+        | inr e ↦ let p = and_parts (ltb 0 b) (ltb b 128) e in two_here gaps at n next inside ge byte (ltb-true 0 b p.0) (ltb-true b 128 p.1) (two ge)
+            (two_on ge)
       ]
     ]
 
@@ -237,26 +247,32 @@ pub record IsRun (head : BlockHead) (docs : ℕ) (c : BlockColumns) (i at before
   pub front : is_after last (row_in ds ws ps ss 0) ≡ true
   pub ascending : AreAscending ds ws ps
 
-behind_last : (head : BlockHead) (docs : ℕ) (c : BlockColumns) (i at before : ℕ) (last : Option Post) (ds ws ps ss : List ℕ) (j : ℕ) → j < length ds → IsRun head docs c i at before last ds ws ps ss → is_after (last_in last ds ws ps ss j) (row_in ds ws ps ss j) ≡ true
+behind_last : (head : BlockHead) (docs : ℕ) (c : BlockColumns) (i at before : ℕ) (last : Option Post) (ds ws ps ss : List ℕ) (j : ℕ) → j < length ds
+    → IsRun head docs c i at before last ds ws ps ss → is_after (last_in last ds ws ps ss j) (row_in ds ws ps ss j) ≡ true
 unfolding last_in
 behind_last head docs c i at before last ds ws ps ss zero lt h = h.front
 behind_last head docs c i at before last ds ws ps ss (suc j) lt h = h.ascending j lt
 
-posts_more : (ds ws ps ss : List ℕ) (j : ℕ) → AreEven ds ws ps ss → j < length ds → take (suc j) (posts_of ds ws ps ss) ≡ take j (posts_of ds ws ps ss) ++ row_in ds ws ps ss j ∷ []
+posts_more : (ds ws ps ss : List ℕ) (j : ℕ) → AreEven ds ws ps ss → j < length ds
+    → take (suc j) (posts_of ds ws ps ss) ≡ take j (posts_of ds ws ps ss) ++ row_in ds ws ps ss j ∷ []
 posts_more ds ws ps ss j even lt =
     let rs = posts_of ds ws ps ss in
     let row = row_in ds ws ps ss j in
     let one : suc j ≡ j + 1 = omega arith in
-    ap (λ (x : ℕ). take x rs) one ∙ take_more rs j row (omega (arith, posts-length ds ws ps ss even)) ∙ ap (λ (x : Post). take j rs ++ x ∷ []) (sym (posts-at ds ws ps ss even j row lt))
+    ap (λ (x : ℕ). take x rs) one ∙ take_more rs j row (omega (arith, posts-length ds ws ps ss even))
+    ∙ ap (λ (x : Post). take j rs ++ x ∷ []) (sym (posts-at ds ws ps ss even j row lt))
 
 row_is : (head : BlockHead) (docs : ℕ) (c : BlockColumns) (i at before : ℕ) (ds ws ps ss : List ℕ) (j : ℕ) → IsRow head docs c i at before ds ws ps ss j
     → row_in ds ws ps ss j ≡ row_at head.lo (get_or ds j 0) (drop (2 * (i + j)) c.words) (drop (4 * (i + j)) c.positions) (drop (i + j) c.scores)
 row_is head docs c i at before ds ws ps ss j h = rw (h.word, h.pos, h.score) refl
 
-record Until (head : BlockHead) (docs : ℕ) (c : BlockColumns) (i at before : ℕ) (last : Option Post) (ds ws ps ss : List ℕ) (first now : List Post) (room k : ℕ) : Type 0 where
-  pub pushed : HasPushed head docs c (i + k) (place_after c.gaps at k) (last_in last ds ws ps ss k) (doc_after c.gaps at before k) first (now ++ take k (posts_of ds ws ps ss)) (room - k)
+record Until (head : BlockHead) (docs : ℕ) (c : BlockColumns) (i at before : ℕ) (last : Option Post) (ds ws ps ss : List ℕ) (first now : List Post)
+    (room k : ℕ) : Type 0 where
+  pub pushed : HasPushed head docs c (i + k) (place_after c.gaps at k) (last_in last ds ws ps ss k) (doc_after c.gaps at before k) first
+      (now ++ take k (posts_of ds ws ps ss)) (room - k)
 
-pushes_until : (head : BlockHead) (docs : ℕ) (c : BlockColumns) (i at before : ℕ) (last : Option Post) (ds ws ps ss : List ℕ) (first now : List Post) (room k : ℕ)
+pushes_until : (head : BlockHead) (docs : ℕ) (c : BlockColumns) (i at before : ℕ) (last : Option Post) (ds ws ps ss : List ℕ) (first now : List Post)
+    (room k : ℕ)
     → k ≤ length ds → length ds ≤ room → IsRun head docs c i at before last ds ws ps ss → HasPushed head docs c i at last before first now room
     → Until head docs c i at before last ds ws ps ss first now room k
 unfolding place_after doc_after last_in
@@ -279,19 +295,25 @@ pushes_until head docs c i at before last ds ws ps ss first now room (suc j) le 
     let sum = is.gap.2 in
     let within = run.within in
     let in_words : ltb row.word (head.lo + head.words) ≡ true = lt-ltb row.word (head.lo + head.words) is.in_words in
-    let met : Tests head (last_in last ds ws ps ss j) row ≡ true = and_from _ _ in_words (and_from _ _ is.scored (behind_last head docs c i at before last ds ws ps ss j lt run)) in
-    let added : now ++ take (suc j) rs ≡ (now ++ take j rs) ++ row ∷ [] = ap (λ (x : List Post). now ++ x) (posts_more ds ws ps ss j run.even lt) ∙ sym (append_assoc now (take j rs) (row ∷ [])) in
-    let on = pushes_on head docs c (i + j) (place_after c.gaps at j) n (place_after c.gaps at (suc j)) (last_in last ds ws ps ss j) (doc_after c.gaps at before j) (get_or ds j 0) row first (now ++ take j rs) (now ++ take (suc j) rs) (room - j) (room - suc j)
+    let met : Tests head (last_in last ds ws ps ss j) row ≡ true =
+    and_from _ _ in_words (and_from _ _ is.scored (behind_last head docs c i at before last ds ws ps ss j lt run)) in
+    let added : now ++ take (suc j) rs ≡ (now ++ take j rs) ++ row ∷ [] = ap (λ (x : List Post). now ++ x) (posts_more ds ws ps ss j run.even lt)
+    ∙ sym (append_assoc now (take j rs) (row ∷ [])) in
+    let on = pushes_on head docs c (i + j) (place_after c.gaps at j) n (place_after c.gaps at (suc j)) (last_in last ds ws ps ss j)
+    (doc_after c.gaps at before j) (get_or ds j 0) row first (now ++ take j rs) (now ++ take (suc j) rs) (room - j) (room - suc j)
     (omega arith) gap sum is.below (row_is head docs c i at before ds ws ps ss j is) met added (omega arith) ih.pushed in
     let one_row : i + j + 1 ≡ i + suc j = omega arith in
     let doc : row.doc ≡ doc_after c.gaps at before (suc j) = sum ∙ sym (doc_on c.gaps at before j n (place_after c.gaps at (suc j)) gap) in
     record {
-      pushed = subst (λ (x : ℕ). HasPushed head docs c x (place_after c.gaps at (suc j)) (Some row) (doc_after c.gaps at before (suc j)) first (now ++ take (suc j) rs) (room - suc j)) one_row
-          (subst (λ (x : ℕ). HasPushed head docs c (i + j + 1) (place_after c.gaps at (suc j)) (Some row) x first (now ++ take (suc j) rs) (room - suc j)) doc on);
+      pushed = subst (λ (x : ℕ). HasPushed head docs c x (place_after c.gaps at (suc j)) (Some row) (doc_after c.gaps at before (suc j)) first
+          (now ++ take (suc j) rs) (room - suc j)) one_row
+          (subst (λ (x : ℕ). HasPushed head docs c (i + j + 1) (place_after c.gaps at (suc j)) (Some row) x first (now ++ take (suc j) rs) (room - suc j))
+          doc on);
     }
 
 -- the whole run: its last row is the one behind which the next run stands
-pub pushes_run : (head : BlockHead) (docs : ℕ) (c : BlockColumns) (i at before : ℕ) (last : Option Post) (ds ws ps ss : List ℕ) (first now then : List Post) (room left k next rows : ℕ)
+pub pushes_run : (head : BlockHead) (docs : ℕ) (c : BlockColumns) (i at before : ℕ) (last : Option Post) (ds ws ps ss : List ℕ) (first now then : List Post)
+    (room left k next rows : ℕ)
     → length ds ≡ suc k → rows ≡ i + length ds → next ≡ place_after c.gaps at (length ds) → then ≡ now ++ posts_of ds ws ps ss → room ≤ left + length ds
     → length ds ≤ room → IsRun head docs c i at before last ds ws ps ss → HasPushed head docs c i at last before first now room
     → HasPushed head docs c rows next (Some (row_in ds ws ps ss k)) (get_or ds k 0) first then left
@@ -299,20 +321,25 @@ unfolding last_in
 pushes_run head docs c i at before last ds ws ps ss first now then room left k next rows len rows_is next_is added less fits run h =
     let u = pushes_until head docs c i at before last ds ws ps ss first now room (suc k) (omega arith) fits run h in
     let is = run.rows k (omega arith) in
-    let all : take (suc k) (posts_of ds ws ps ss) ≡ posts_of ds ws ps ss = take_all (suc k) (posts_of ds ws ps ss) (omega (arith, posts-length ds ws ps ss run.even)) in
+    let all : take (suc k) (posts_of ds ws ps ss) ≡ posts_of ds ws ps ss =
+    take_all (suc k) (posts_of ds ws ps ss) (omega (arith, posts-length ds ws ps ss run.even)) in
     let doc : doc_after c.gaps at before (suc k) ≡ get_or ds k 0 = doc_on c.gaps at before k is.gap.0 (place_after c.gaps at (suc k)) is.gap.1 ∙ sym is.gap.2 in
     let rows' : i + suc k ≡ rows = omega arith in
     let next' : place_after c.gaps at (suc k) ≡ next = ap (place_after c.gaps at) (sym len) ∙ sym next_is in
     let then' : now ++ take (suc k) (posts_of ds ws ps ss) ≡ then = ap (λ (x : List Post). now ++ x) all ∙ sym added in
-    let a = subst (λ (x : ℕ). HasPushed head docs c x (place_after c.gaps at (suc k)) (Some (row_in ds ws ps ss k)) (doc_after c.gaps at before (suc k)) first (now ++ take (suc k) (posts_of ds ws ps ss)) (room - suc k)) rows' u.pushed in
-    let b = subst (λ (x : ℕ). HasPushed head docs c rows x (Some (row_in ds ws ps ss k)) (doc_after c.gaps at before (suc k)) first (now ++ take (suc k) (posts_of ds ws ps ss)) (room - suc k)) next' a in
-    let d = subst (λ (x : ℕ). HasPushed head docs c rows next (Some (row_in ds ws ps ss k)) x first (now ++ take (suc k) (posts_of ds ws ps ss)) (room - suc k)) doc b in
+    let a = subst (λ (x : ℕ). HasPushed head docs c x (place_after c.gaps at (suc k)) (Some (row_in ds ws ps ss k)) (doc_after c.gaps at before (suc k))
+    first (now ++ take (suc k) (posts_of ds ws ps ss)) (room - suc k)) rows' u.pushed in
+    let b = subst (λ (x : ℕ). HasPushed head docs c rows x (Some (row_in ds ws ps ss k)) (doc_after c.gaps at before (suc k)) first
+    (now ++ take (suc k) (posts_of ds ws ps ss)) (room - suc k)) next' a in
+    let d = subst (λ (x : ℕ). HasPushed head docs c rows next (Some (row_in ds ws ps ss k)) x first (now ++ take (suc k) (posts_of ds ws ps ss))
+    (room - suc k)) doc b in
     let e = subst (λ (x : List Post). HasPushed head docs c rows next (Some (row_in ds ws ps ss k)) (get_or ds k 0) first x (room - suc k)) then' d in
     let left_over = e.room_left in
     record { judged = e.judged; told = e.told; kept = e.kept; room_left = omega arith }
 
 -- the facts of the columns are those of the rows
-scored_by : (facet : Bool) (ds ws ps ss : List ℕ) (j : ℕ) → is_position facet (get_or ps j 0) ≡ true → is_score facet (get_or ss j 0) ≡ true → is_scored SCORES facet (row_in ds ws ps ss j) ≡ true
+scored_by : (facet : Bool) (ds ws ps ss : List ℕ) (j : ℕ) → is_position facet (get_or ps j 0) ≡ true → is_score facet (get_or ss j 0) ≡ true
+    → is_scored SCORES facet (row_in ds ws ps ss j) ≡ true
 scored_by true ds ws ps ss j p s = and_from (is_position true (get_or ps j 0)) (is_score true (get_or ss j 0)) p s
 scored_by false ds ws ps ss j p s = and_from (is_position false (get_or ps j 0)) (is_score false (get_or ss j 0)) p s
 
@@ -323,7 +350,8 @@ score_at scores i n j lt =
 
 pub is_run : (head : BlockHead) (docs : ℕ) (c : BlockColumns) (i at before : ℕ) (last : Option Post) (ds ws ps ss : List ℕ) (n : ℕ)
     → length ds ≡ n → length ws ≡ n → length ps ≡ n → length ss ≡ n → i + n ≤ head.rows → ss ≡ take n (drop i c.scores)
-    → HaveDocs c.gaps at before docs ds → AreWords head.lo head.words c.words i ws → ArePositions head.facet c.positions i ps → AreScores head.facet ss → AreAscending ds ws ps
+    → HaveDocs c.gaps at before docs ds → AreWords head.lo head.words c.words i ws → ArePositions head.facet c.positions i ps → AreScores head.facet ss
+    → AreAscending ds ws ps
     → is_after last (row_in ds ws ps ss 0) ≡ true → IsRun head docs c i at before last ds ws ps ss
 is_run head docs c i at before last ds ws ps ss n ld lw lp ls within cut_out are_docs are_words are_positions are_scores ascending front = record {
   even = (omega arith, omega arith, omega arith);

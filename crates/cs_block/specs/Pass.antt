@@ -9,7 +9,8 @@ use Rattle.std.specs.Option.{option_or}
 use Rattle.cs_base.specs.declared.index.block.BlockHead.{BlockHead}
 use Rattle.cs_base.specs.declared.content.doc.Post.{Post}
 use Rattle.cs_model.specs.Scores.{SCORES}
-use Rattle.cs_model_index.specs.BlockRules.{codes_break, Item, item_row, doc_before, items_in, Rule, in_docs, in_words, in_kind, in_order, first_break, BlockColumns, block_items}
+use Rattle.cs_model_index.specs.BlockRules.{codes_break, Item, item_row, doc_before, items_in, Rule, in_docs, in_words, in_kind, in_order, first_break}
+use Rattle.cs_model_index.specs.BlockRules.{BlockColumns, block_items}
 
 -- behind the last row none
 unfoldable pub items_from : BlockHead → BlockColumns → ℕ → ℕ → Option Post → List Item
@@ -31,7 +32,8 @@ pub record HasJudged (head : BlockHead) (docs : ℕ) (c : BlockColumns) (i at : 
   pub order_kept : Keeps in_order (block_items head c) order (items_from head c i at last)
 
 -- the first i rows, each of which keeps the rules; what was added to `first` and what is left make all rows
-pub record HasPushed (head : BlockHead) (docs : ℕ) (c : BlockColumns) (i at : ℕ) (last : Option Post) (before : ℕ) (first now : List Post) (room : ℕ) : Type 0 where
+pub record HasPushed (head : BlockHead) (docs : ℕ) (c : BlockColumns) (i at : ℕ) (last : Option Post) (before : ℕ) (first now : List Post) (room : ℕ) : Type
+    0 where
   pub judged : HasJudged head docs c i at last before None None None
   pub told : first ++ map item_row (block_items head c) ≡ now ++ map item_row (items_from head c i at last)
   pub kept : take (length first) now ≡ first

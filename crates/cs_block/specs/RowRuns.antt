@@ -14,7 +14,8 @@
 --   unscored ds ws ps j            its place among rows: it without its score, which has no say in the order
 --   AreOnward ds                   no document below the one before it
 --   AreAscending ds ws ps          each row behind the one before it
-use Rattle.std.specs.Prelude.{◌≡◌, ℕ, zero, suc, ◌+◌, ◌*◌, ◌<◌, ◌≤◌, ◌&&◌, ◌||◌, ◌==◌, nat_le, true, Bool, List, length, take, drop, slice_index_or, if◌then◌else◌}
+use Rattle.std.specs.Prelude.{◌≡◌, ℕ, zero, suc, ◌+◌, ◌*◌, ◌<◌, ◌≤◌, ◌&&◌, ◌||◌, ◌==◌, nat_le, true, Bool, List, length, take, drop, slice_index_or}
+use Rattle.std.specs.Prelude.{if◌then◌else◌}
 use Rattle.std.specs.Int.{w16, w32, from_be_bytes}
 use Rattle.std.specs.Ordering.{is_lt}
 use Rattle.cs_base.specs.content.Orders.{by_place}
@@ -54,7 +55,8 @@ pub record HasDocs (gaps : List ℕ) (at before docs : ℕ) (ds : List ℕ) (nex
 
 -- also of no words
 abbrev pub AreWords : ℕ → ℕ → List ℕ → ℕ → List ℕ → Type 0
-AreWords lo words bytes first ws = (j : ℕ) → j < length ws → (slice_index_or ws j 0 ≡ lo + from_be_bytes w16 (take 2 (drop (2 * (first + j)) bytes))) × (slice_index_or ws j 0 < lo + words)
+AreWords lo words bytes first ws = (j : ℕ) → j < length ws
+    → (slice_index_or ws j 0 ≡ lo + from_be_bytes w16 (take 2 (drop (2 * (first + j)) bytes))) × (slice_index_or ws j 0 < lo + words)
 
 -- that of a facet word is 0
 abbrev pub is_position : Bool → ℕ → Bool
@@ -62,7 +64,8 @@ is_position facet p = if facet then p == 0 else (nat_le 1 p && nat_le p MAX_POSI
 
 -- also of no positions
 abbrev pub ArePositions : Bool → List ℕ → ℕ → List ℕ → Type 0
-ArePositions facet bytes first ps = (j : ℕ) → j < length ps → (slice_index_or ps j 0 ≡ from_be_bytes w32 (take 4 (drop (4 * (first + j)) bytes))) × (is_position facet (slice_index_or ps j 0) ≡ true)
+ArePositions facet bytes first ps = (j : ℕ) → j < length ps
+    → (slice_index_or ps j 0 ≡ from_be_bytes w32 (take 4 (drop (4 * (first + j)) bytes))) × (is_position facet (slice_index_or ps j 0) ≡ true)
 
 -- a facet word has one, any other word one of two
 abbrev pub is_score : Bool → ℕ → Bool

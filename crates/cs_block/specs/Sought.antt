@@ -1,18 +1,21 @@
 -- Reading those rows of a block that are sought: of some words, in listed documents.
 --
 --   is_sought lo hi listed p      the word of a row is one of these, and its document is listed
---   row_with head c ds i          row i of columns, where ds are the documents
---   AreRowsOf head c ds rows      the rows of columns
---   ArePlacesOf rows d from to t places    the places of the rows from number from up to `to` that pass a test
+--   row_with head c ds i, rows_with head c ds     row i of columns, where ds are the documents; all rows
+--   CanBeSought head c ds listed      columns of a block, whose documents are those of its rows, each listed or not
+--   IsSpan from to rows room      the rows from number `from` up to `to` are some of so many, for whose places there is room
 --   IsOfBlock head p      a row of the block's words and of its kind
 --   passes whole lo hi listed p      a row is sought, where the words of a block that is whole are taken for these
 --   HasSought head bytes lo hi listed rows      they are those of all rows that are sought, each of the block's kind
-use Rattle.std.specs.Prelude.{◌≡◌, ℕ, ◌+◌, ◌*◌, ◌<◌, ◌&&◌, Bool, true, false, nat_le, nat_lt, List, ◌++◌, length, map, filter, drop, slice_index_or, if◌then◌else◌}
-use Rattle.std.specs.List.{All}
+use Rattle.std.specs.Prelude.{◌≡◌, ℕ, ◌+◌, ◌*◌, ◌<◌, ◌≤◌, ◌&&◌, Bool, true, false, nat_le, nat_lt, List, length, map, filter, drop, slice_index_or}
+use Rattle.std.specs.Prelude.{if◌then◌else◌}
+use Rattle.std.specs.List.{All, range_with_len}
 use Rattle.cs_base.specs.declared.content.doc.Post.{Post}
+use Rattle.cs_base.specs.declared.content.limits.TheConstants.{MAX_WORDS}
 use Rattle.cs_base.specs.declared.index.block.BlockHead.{BlockHead}
 use Rattle.cs_model.specs.Scores.{SCORES}
 use Rattle.cs_model_index.specs.BlockRules.{BlockColumns, is_scored, row_at, rows_read}
+use Rattle.cs_block.specs.BlockReading.{HasColumns}
 
 -- a document behind the last of the list isn't listed
 abbrev pub is_sought : ℕ → ℕ → List Bool → Post → Bool
@@ -23,14 +26,21 @@ abbrev pub row_with : BlockHead → BlockColumns → List ℕ → ℕ → Post
 row_with head c ds i = row_at head.lo (slice_index_or ds i 0) (drop (2 * i) c.words) (drop (4 * i) c.positions) (drop i c.scores)
 
 -- one for each document
-pub record AreRowsOf (head : BlockHead) (c : BlockColumns) (ds : List ℕ) (rows : List Post) : Type 0 where
-  pub long : length rows ≡ length ds
-  pub each : (i : ℕ) (d : Post) → i < length ds → slice_index_or rows i d ≡ row_with head c ds i
+abbrev pub rows_with : BlockHead → BlockColumns → List ℕ → List Post
+rows_with head c ds = map (row_with head c ds) (range_with_len 0 (length ds))
 
--- none where from is to; d stands where a place has no row, which none of these is
-pub record ArePlacesOf (rows : List Post) (d : Post) (from to : ℕ) (t : Post → Bool) (places : List ℕ) : Type 0 where
-  pub known : All (λ i. i < length rows) places
-  pub are : map (λ i. slice_index_or rows i d) places ++ filter t (drop to rows) ≡ filter t (drop from rows)
+-- also of no rows
+pub record CanBeSought (head : BlockHead) (c : BlockColumns) (ds : List ℕ) (listed : List Bool) : Type 0 where
+  pub words : head.lo + head.words ≤ MAX_WORDS
+  pub sized : HasColumns head c
+  pub long : length ds ≡ head.rows
+  pub known : All (λ d. d < length listed) ds
+
+-- none where from is to
+pub record IsSpan (from to rows room : ℕ) : Type 0 where
+  pub onward : from ≤ to
+  pub within : to ≤ rows
+  pub fits : to ≤ from + room
 
 -- what rules 15 and 16 say
 pub record IsOfBlock (head : BlockHead) (p : Post) : Type 0 where

@@ -9,7 +9,7 @@ ghost use Rattle.cs_model_index.specs.BlockRules.{IsBlock, item_row, block_items
 ghost use Rattle.cs_block.specs.BlockReading.{Decodes, HasColumns};
 ghost use Rattle.cs_block.specs.ColumnsView.{seen_columns};
 
-use crate::columns::{Columns, cut, gap_here, row_of};
+use crate::columns::{Columns, cut, doc_here, row_of};
 use crate::fault::BlockFault;
 use crate::judging::judge;
 use crate::rules::keeps_rules;
@@ -81,14 +81,10 @@ fn push_rows(columns: &Columns<'_>, head: &BlockHead, docs: u32, into: &mut Cols
     let mut before = reached.before;
     let mut at = reached.at;
     for i in reached.rows..head.rows {
-        let Some((n, next)) = gap_here(columns.gaps, at) else {
+        let Some((doc, next)) = doc_here(columns.gaps, at, before, docs) else {
             return false;
         };
-        let doc = u64::from(before) + u64::from(n);
-        if doc >= u64::from(docs) {
-            return false;
-        }
-        let row = row_of(columns, head.lo, doc as u32, i as usize);
+        let row = row_of(columns, head.lo, doc, i as usize);
         if !keeps_rules(head, last, row) {
             return false;
         }

@@ -7,7 +7,7 @@ ghost use Rattle.cs_model_index.specs.BlockRules.{block_items, broken_at, codes_
 ghost use Rattle.cs_block.specs.BlockReading.{HasColumns};
 ghost use Rattle.cs_block.specs.ColumnsView.{seen_columns};
 
-use crate::columns::{Columns, gap_here, row_of};
+use crate::columns::{Columns, doc_here, gap_here, row_of};
 use crate::rules::{is_after, is_in_words, is_scored};
 use cs_base::{BlockHead, Broken, Post};
 
@@ -62,17 +62,13 @@ fn broken_row(columns: &Columns<'_>, head: &BlockHead, docs: u32) -> Option<Brok
     let mut before: u32 = 0;
     let mut at = 0;
     for i in 0..head.rows {
-        let Some((n, next)) = gap_here(columns.gaps, at) else {
-            return None;
-        };
-        let doc = u64::from(before) + u64::from(n);
-        if doc >= u64::from(docs) {
+        let Some((doc, next)) = doc_here(columns.gaps, at, before, docs) else {
             return Some(Broken {
                 n: 14,
                 at: at as u32,
             });
-        }
-        let row = row_of(columns, head.lo, doc as u32, i as usize);
+        };
+        let row = row_of(columns, head.lo, doc, i as usize);
         bad_word = keep(bad_word, is_in_words(head, row), words_at + 2 * i);
         bad_score = keep(bad_score, is_scored(head.facet, row), positions_at + 4 * i);
         bad_order = keep(bad_order, is_after(last, row), at as u32);

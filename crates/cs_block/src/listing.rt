@@ -3,7 +3,7 @@ ghost use Rattle.std.specs.Prelude.{◌≡◌, length, None, IfNone, IfSome};
 ghost use Rattle.cs_model_index.specs.BlockRules.{codes_break};
 ghost use Rattle.cs_block.specs.DocWords.{BreaksFirst, IsFront, ListsFront};
 
-use crate::columns::{gap_here, half_at};
+use crate::columns::{doc_here, half_at};
 use crate::judging::{keep, or_rule};
 use cs_base::{BlockHead, Broken};
 
@@ -30,25 +30,21 @@ pub fn list_rows(
     let mut before: u32 = 0;
     let mut at = 0;
     for i in 0..row_docs.len() {
-        let Some((n, next)) = gap_here(gaps, at) else {
-            return None;
-        };
-        let doc = u64::from(before) + u64::from(n);
-        if doc >= u64::from(docs) {
+        let Some((doc, next)) = doc_here(gaps, at, before, docs) else {
             return Some(Broken {
                 n: 14,
                 at: at as u32,
             });
-        }
+        };
         let word = head.lo + half_at(words, 2 * i);
         bad_word = keep(
             bad_word,
             word < head.lo + head.words,
             words_at + 2 * i as u32,
         );
-        before = doc as u32;
-        row_docs[i] = before;
+        row_docs[i] = doc;
         row_words[i] = word;
+        before = doc;
         at = next;
     }
     or_rule(15, bad_word, None)

@@ -101,7 +101,8 @@ pub fn are_ascending(docs: &[u32], words: &[u32], positions: &[u32]) -> bool
 fn is_later(doc: u32, pos: u32, word: u32, next_doc: u32, next_pos: u32, next_word: u32) -> bool
     requires { doc ≤ next_doc }
 
-    ensures { result ≡ is_lt (by_place (record { doc = doc; word = word; pos = pos; score = 0 }) (record { doc = next_doc; word = next_word; pos = next_pos; score = 0 })) }
+    ensures { result ≡ is_lt (by_place (record { doc = doc; word = word; pos = pos; score = 0 })
+        (record { doc = next_doc; word = next_word; pos = next_pos; score = 0 })) }
 {
     (doc < next_doc) | (pos < next_pos) | ((pos == next_pos) & (word < next_word))
 }

@@ -4,7 +4,7 @@ ghost use Rattle.std.specs.Prelude.{◌≡◌, ℕ, ◌+◌, ◌*◌, ◌^◌, �
 ghost use Rattle.cs_block.specs.RowRuns.{HasDocs};
 ghost use Rattle.cs_block.specs.declared.run_docs.TheConstants.{STEP};
 
-use crate::columns::gap_here;
+use crate::columns::doc_here;
 use cs_base::MAX_ROWS;
 
 // Behind a document below this one, the sums of as many rows as a collection has stay below 2^32 where their codes have one byte,
@@ -181,15 +181,11 @@ fn long_docs(gaps: &[u8], at: usize, before: u32, docs: u32, out: &mut [u32]) ->
     let mut doc = before;
     let mut next = at;
     for i in 0..out.len() {
-        let Some((n, behind)) = gap_here(gaps, next) else {
+        let Some((here, behind)) = doc_here(gaps, next, doc, docs) else {
             return None;
         };
-        let sum = u64::from(doc) + u64::from(n);
-        if sum >= u64::from(docs) {
-            return None;
-        }
-        doc = sum as u32;
-        out[i] = doc;
+        out[i] = here;
+        doc = here;
         next = behind;
     }
     Some(next)

@@ -88,7 +88,9 @@ fn push_run(
     requires within { from.at ≤ length columns.now.gaps.now }
     requires room { length run_docs.old ≤ into.old.room }
 
-    ensures pushed { IfSome result (λ next. (first : List Post) → HasPushed head.now docs (seen_columns columns.now) from.rows from.at from.last from.before first into.old.posts into.old.room → HasPushed head.now docs (seen_columns columns.now) next.rows next.at next.last next.before first into.new.posts into.new.room) }
+    ensures pushed { IfSome result (λ next. (first : List Post)
+        → HasPushed head.now docs (seen_columns columns.now) from.rows from.at from.last from.before first into.old.posts into.old.room
+        → HasPushed head.now docs (seen_columns columns.now) next.rows next.at next.last next.before first into.new.posts into.new.room) }
     ensures rows { IfSome result (λ next. next.rows ≡ from.rows + length run_docs.old) }
     ensures kept { IfNone result (into.new ≡ into.old) }
 {

@@ -1,15 +1,12 @@
 //! Reading those rows of a block that are sought: of some words, in listed documents. Of the others no position and no score is
 //! looked at.
-ghost use Rattle.std.specs.Prelude.{◌≡◌, ◌+◌, ◌*◌, ◌^◌, ◌<◌, ◌≤◌, ◌&&◌, ◌++◌, false, true, nat_le, nat_lt, List, length, map, take, filter, slice_index_or, IfOk};
-ghost use Rattle.std.specs.List.{All};
-ghost use Rattle.cs_base.specs.declared.content.doc.Post.{Post};
-ghost use Rattle.cs_base.specs.declared.index.block.BlockHead.{BlockHead};
+ghost use Rattle.std.specs.Prelude.{◌≡◌, ◌+◌, ◌-◌, ◌^◌, ◌<◌, ◌≤◌, ◌&&◌, ◌++◌, false, true, nat_le, nat_lt, length, map, take, filter, slice_index_or, IfOk};
+ghost use Rattle.std.specs.List.{All, range_with_len};
 ghost use Rattle.cs_base.specs.declared.content.limits.TheConstants.{MAX_WORDS};
 ghost use Rattle.cs_model_index.specs.Blocks.{IsShaped};
-ghost use Rattle.cs_model_index.specs.BlockRules.{BlockColumns};
 ghost use Rattle.cs_block.specs.BlockReading.{HasColumns};
 ghost use Rattle.cs_block.specs.ColumnsView.{seen_columns};
-ghost use Rattle.cs_block.specs.Sought.{ArePlacesOf, AreRowsOf, HasSought, IsOfBlock, is_sought, passes};
+ghost use Rattle.cs_block.specs.Sought.{CanBeSought, HasSought, IsOfBlock, IsSpan, is_sought, passes, row_with, rows_with};
 
 use crate::columns::{Columns, cut, half_at, row_of};
 use crate::rules::{is_in_words, is_scored};
@@ -76,12 +73,10 @@ fn add_sought(
     listed: &[bool],
     into: &mut Vec<Post>,
 ) -> Result<bool, Memory>
-    requires words { head.now.lo + head.now.words ≤ MAX_WORDS }
-    requires sized { HasColumns head.now (seen_columns columns.now) }
-    requires long { length docs.now ≡ head.now.rows }
-    requires known { All (λ d. d < length listed.now) docs.now }
+    requires { CanBeSought head.now (seen_columns columns.now) docs.now listed.now }
 
-    ensures added { IfOk result (λ kept. (rows : List Post) → AreRowsOf head.now (seen_columns columns.now) docs.now rows → into.new.items ≡ into.old.items ++ filter (passes whole words.0 words.1 listed.now) rows) }
+    ensures added { IfOk result (λ kept. into.new.items ≡ into.old.items
+        ++ filter (passes whole words.0 words.1 listed.now) (rows_with head.now (seen_columns columns.now) docs.now)) }
     ensures kept { IfOk result (λ kept. kept ≡ true → All (IsOfBlock head.now) into.old.items → All (IsOfBlock head.now) into.new.items) }
 {
     let mut places = [0usize; SPAN];
@@ -105,7 +100,7 @@ fn add_sought(
     Ok(kept)
 }
 
-// Puts the places of those of some rows that pass to the front of a slice, and says how many there are.
+// Puts the places of those of some rows that pass to the front of a slice, without a jump, and says how many there are.
 fn find_rows(
     columns: &Columns<'_>,
     head: &BlockHead,
@@ -116,34 +111,34 @@ fn find_rows(
     listed: &[bool],
     places: &mut [usize],
 ) -> usize
-    requires words { head.now.lo + head.now.words ≤ MAX_WORDS }
-    requires sized { HasColumns head.now (seen_columns columns.now) }
-    requires long { length docs.now ≡ head.now.rows }
-    requires known { All (λ d. d < length listed.now) docs.now }
-    requires onward { span.0 ≤ span.1 }
-    requires within { span.1 ≤ length docs.now }
-    requires room { span.1 ≤ span.0 + length places.old }
+    requires known { CanBeSought head.now (seen_columns columns.now) docs.now listed.now }
+    requires span { IsSpan span.0 span.1 (length docs.now) (length places.old) }
 
-    ensures found { (rows : List Post) → AreRowsOf head.now (seen_columns columns.now) docs.now rows → (d : Post) → ArePlacesOf rows d span.0 span.1 (passes whole words.0 words.1 listed.now) (take result places.new) }
-    ensures known { All (λ i. i < length docs.now) (take result places.new) }
+    ensures found { take result places.new ≡ filter (λ i. passes whole words.0 words.1 listed.now (row_with head.now (seen_columns columns.now) docs.now i))
+        (range_with_len span.0 (span.1 - span.0)) }
     ensures few { result ≤ length places.new }
     ensures len { length places.new ≡ length places.old }
 {
+    let (lo, hi) = words;
+    let (from, to) = span;
     if whole {
-        return find_listed(docs, span.0, span.1, listed, places);
+        return find_listed(docs, from, to, listed, places);
     }
-    find_sought(columns, head, docs, span, words, listed, places)
+    let mut found = 0;
+    for i in from..to {
+        places[found] = i;
+        let word = head.lo + half_at(columns.words, 2 * i);
+        found += usize::from(is_sought(docs[i], word, lo, hi, listed));
+    }
+    found
 }
 
-// The same of those in listed documents, without a jump.
+// The same of those in listed documents.
 fn find_listed(docs: &[u32], from: usize, to: usize, listed: &[bool], places: &mut [usize]) -> usize
     requires known { All (λ d. d < length listed.now) docs.now }
-    requires onward { from ≤ to }
-    requires within { to ≤ length docs.now }
-    requires room { to ≤ from + length places.old }
+    requires span { IsSpan from to (length docs.now) (length places.old) }
 
-    ensures found { (head : BlockHead) (columns : BlockColumns) (rows : List Post) → AreRowsOf head columns docs.now rows → (d : Post) → ArePlacesOf rows d from to (λ p. slice_index_or listed.now p.doc false) (take result places.new) }
-    ensures known { All (λ i. i < length docs.now) (take result places.new) }
+    ensures found { take result places.new ≡ filter (λ i. slice_index_or listed.now (slice_index_or docs.now i 0) false) (range_with_len from (to - from)) }
     ensures few { result ≤ length places.new }
     ensures len { length places.new ≡ length places.old }
 {
@@ -151,40 +146,6 @@ fn find_listed(docs: &[u32], from: usize, to: usize, listed: &[bool], places: &m
     for i in from..to {
         places[found] = i;
         found += usize::from(listed[docs[i] as usize]);
-    }
-    found
-}
-
-// The same of those that are sought.
-fn find_sought(
-    columns: &Columns<'_>,
-    head: &BlockHead,
-    docs: &[u32],
-    span: (usize, usize),
-    words: (u32, u32),
-    listed: &[bool],
-    places: &mut [usize],
-) -> usize
-    requires lo { head.now.lo ≤ MAX_WORDS }
-    requires sized { HasColumns head.now (seen_columns columns.now) }
-    requires long { length docs.now ≡ head.now.rows }
-    requires known { All (λ d. d < length listed.now) docs.now }
-    requires onward { span.0 ≤ span.1 }
-    requires within { span.1 ≤ length docs.now }
-    requires room { span.1 ≤ span.0 + length places.old }
-
-    ensures found { (rows : List Post) → AreRowsOf head.now (seen_columns columns.now) docs.now rows → (d : Post) → ArePlacesOf rows d span.0 span.1 (is_sought words.0 words.1 listed.now) (take result places.new) }
-    ensures known { All (λ i. i < length docs.now) (take result places.new) }
-    ensures few { result ≤ length places.new }
-    ensures len { length places.new ≡ length places.old }
-{
-    let (lo, hi) = words;
-    let (from, to) = span;
-    let mut found = 0;
-    for i in from..to {
-        places[found] = i;
-        let word = head.lo + half_at(columns.words, 2 * i);
-        found += usize::from(is_sought(docs[i], word, lo, hi, listed));
     }
     found
 }
@@ -202,7 +163,7 @@ fn add_rows(
     requires long { length docs.now ≡ head.now.rows }
     requires known { All (λ i. i < length docs.now) places.now }
 
-    ensures added { IfOk result (λ kept. (rows : List Post) → AreRowsOf head.now (seen_columns columns.now) docs.now rows → (d : Post) → into.new.items ≡ into.old.items ++ map (λ i. slice_index_or rows i d) places.now) }
+    ensures added { IfOk result (λ kept. into.new.items ≡ into.old.items ++ map (row_with head.now (seen_columns columns.now) docs.now) places.now) }
     ensures kept { IfOk result (λ kept. kept ≡ true → All (IsOfBlock head.now) into.old.items → All (IsOfBlock head.now) into.new.items) }
 {
     into.reserve(places.len())?;

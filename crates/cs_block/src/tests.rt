@@ -1,6 +1,6 @@
 //! A worked block, written and read, and the rule and the place of each damage to it.
 use crate::{
-    BlockFault, Broken, decode, decode_reserved, encode, front_len, read_doc_words, read_positions,
+    BlockFault, Broken, decode, decode_reserved, encode, front_len, read_doc_words, read_scores,
 };
 use cs_base::BlockHead;
 use cs_cols::Cols;
@@ -76,20 +76,14 @@ fn documents_and_words_are_read_of_the_front_alone(rt: HostRuntime) -> Result<()
 }
 
 #[test]
-fn positions_and_scores_are_read_alone(rt: HostRuntime) -> Result<(), Fail> {
-    let mut positions = Vec::new(rt.alloc());
+fn scores_are_read_alone(rt: HostRuntime) -> Result<(), Fail> {
     let mut scores = Vec::new(rt.alloc());
-    assert!(rt; read_positions(&BLOCK, &HEAD, &mut positions, &mut scores)?);
-    assert_eq!(rt; positions.as_slice(), [1, 10, 11].as_slice());
+    assert!(rt; read_scores(&BLOCK, &HEAD, &mut scores)?);
     assert_eq!(rt; scores.as_slice(), [4, 1, 1].as_slice());
-    // the position of a facet, a position past the last, the score of a facet
-    for changes in [
-        [(12, 0), (24, 0)],
-        [(14, 1), (15, 0x87)],
-        [(23, 2), (24, 0)],
-    ] {
-        let bytes = damaged(changes);
-        assert!(rt; !read_positions(&bytes, &HEAD, &mut positions, &mut scores)?);
+    // the score of a facet, no score
+    for score in [2, 3] {
+        let bytes = damaged([(23, score), (24, 0)]);
+        assert!(rt; !read_scores(&bytes, &HEAD, &mut scores)?);
     }
     Ok(())
 }

@@ -4,7 +4,8 @@
 --   parts_count          there is a part for each head
 --   parting_is           the stage, by the parts
 --   next_is              the part behind another one
-use Rattle.std.proofs.Common.{◌≡◌, ℕ, zero, suc, ◌+◌, ◌&&◌, Bool, true, false, not, cond, List, [], ◌∷◌, length, take, drop, map, Option, Some, None, refl, sym, ap, ◌∙◌, arith}
+use Rattle.std.proofs.Common.{◌≡◌, ℕ, zero, suc, ◌+◌, ◌&&◌, Bool, true, false, not, cond, List, [], ◌∷◌, length, take, drop, map, Option, Some, None, refl}
+use Rattle.std.proofs.Common.{sym, ap, ◌∙◌, arith}
 use Rattle.std.specs.Prelude.{find}
 use Rattle.std.specs.List.{slice_get, zip}
 use Rattle.std.specs.Option.{option_map}
@@ -23,11 +24,13 @@ use Rattle.cs_file.specs.Opening.{IsHeaderOf, blocks_of, heads_of, parting_stage
 use Rattle.cs_file.specs.Parting.{part_by, parts_by, is_closed_by, keeps_part}
 
 -- ---- rows
-items_count : (lo k : ℕ) (last : Option Post) (index at : ℕ) (gaps words positions scores : List ℕ) → length (map item_row (items_in lo k last index at gaps words positions scores)) ≡ k
+items_count : (lo k : ℕ) (last : Option Post) (index at : ℕ) (gaps words positions scores : List ℕ)
+    → length (map item_row (items_in lo k last index at gaps words positions scores)) ≡ k
 unfolding items_in
 items_count lo zero last index at gaps words positions scores = refl
 items_count lo (suc k) last index at gaps words positions scores =
-    ap suc (items_count lo k (Some (row_at lo (doc_before last + gap_number gaps) words positions scores)) (index + 1) (at + gap_len gaps) (drop (gap_len gaps) gaps) (drop 2 words) (drop 4 positions) (drop 1 scores))
+    ap suc (items_count lo k (Some (row_at lo (doc_before last + gap_number gaps) words positions scores)) (index + 1) (at + gap_len gaps)
+    (drop (gap_len gaps) gaps) (drop 2 words) (drop 4 positions) (drop 1 scores))
 
 pub rows_count : (h : BlockHead) (bytes : List ℕ) → length (rows_read h bytes) ≡ h.rows
 unfolding rows_read
@@ -39,11 +42,13 @@ unfolding parts_by blocks_in
 parts_count [] bytes = refl
 parts_count (h ∷ hs) bytes = ap suc (parts_count hs (drop h.len bytes))
 
-break_cons : {X : Type 0} (holds : Placed X → Bool) (i : Placed X) (items : List (Placed X)) → break_of holds (i ∷ items) ≡ cond (holds i) (break_of holds items) (Some i.at)
+break_cons : {X : Type 0} (holds : Placed X → Bool) (i : Placed X) (items : List (Placed X))
+    → break_of holds (i ∷ items) ≡ cond (holds i) (break_of holds items) (Some i.at)
 unfolding break_of
 break_cons holds i items = step (holds i) i (find (λ j. not (holds j)) items)
   where
-    step : {X : Type 0} (b : Bool) (i : Placed X) (o : Option (Placed X)) → option_map place_of_item (cond (not b) (Some i) o) ≡ cond b (option_map place_of_item o) (Some i.at)
+    step : {X : Type 0} (b : Bool) (i : Placed X) (o : Option (Placed X))
+        → option_map place_of_item (cond (not b) (Some i) o) ≡ cond b (option_map place_of_item o) (Some i.at)
     step true i o = refl
     step false i o = refl
 
@@ -54,13 +59,16 @@ abbrev pub part_breaks : ℕ → List (List ℕ) → ℕ → Option BlockPart �
 part_breaks target ws at last parts = break_of (λ i. keeps_part target ws i.value i.next) (laid (λ (p : BlockPart). ENTRY_BYTES) at last parts)
 
 -- the test of one block, and of its part
-same_test : (target : ℕ) (ws : List (List ℕ)) (h : BlockHead) (posts : List Post) (last : Option Block) (at : ℕ) (hs : List BlockHead) (bytes : List ℕ) → length posts ≡ h.rows
-    → is_parted target ws (record { value = (h, posts); last = last; next = slice_get (zip hs (blocks_in hs bytes)) 0; at = at }) ≡ keeps_part target ws (part_by h posts) (slice_get (parts_by hs (blocks_in hs bytes)) 0)
+same_test : (target : ℕ) (ws : List (List ℕ)) (h : BlockHead) (posts : List Post) (last : Option Block) (at : ℕ) (hs : List BlockHead) (bytes : List ℕ)
+    → length posts ≡ h.rows
+    → is_parted target ws (record { value = (h, posts); last = last; next = slice_get (zip hs (blocks_in hs bytes)) 0; at = at })
+    ≡ keeps_part target ws (part_by h posts) (slice_get (parts_by hs (blocks_in hs bytes)) 0)
 unfolding parts_by blocks_in
 same_test target ws h posts last at [] bytes len = ap (λ (n : ℕ). has_rows (h, posts) && (is_light target h.words n && true)) len
 same_test target ws h posts last at (g ∷ hs) bytes len =
     let block : List Post = rows_read g (take g.len bytes) in
-    let closed : ℕ → Bool = λ n. has_rows (h, posts) && (is_light target h.words n && is_closed_by target ws (record (part_by h posts) { head = record h { rows = n } }) (Some (part_by g block))) in
+    let closed : ℕ → Bool = λ n. has_rows (h, posts)
+    && (is_light target h.words n && is_closed_by target ws (record (part_by h posts) { head = record h { rows = n } }) (Some (part_by g block))) in
     ap closed len
 
 same_breaks : (target : ℕ) (ws : List (List ℕ)) (at : ℕ) (last : Option Block) (before : Option BlockPart) (hs : List BlockHead) (bytes : List ℕ)
@@ -75,16 +83,20 @@ same_breaks target ws at last before (h ∷ hs) bytes =
     let i : Placed Block = record { value = value; last = last; next = slice_get (zip hs blocks) 0; at = at } in
     let j : Placed BlockPart = record { value = part_by h posts; last = before; next = slice_get (parts_by hs blocks) 0; at = at } in
     break_cons (is_parted target ws) i (laid (λ (p : Block). ENTRY_BYTES) (at + ENTRY_BYTES) (Some value) (zip hs blocks))
-    ∙ ap (λ (b : Bool). cond b (block_breaks target ws (at + ENTRY_BYTES) (Some value) hs blocks) (Some at)) (same_test target ws h posts last at hs rest (rows_count h (take h.len bytes)))
-    ∙ ap (λ (o : Option ℕ). cond (keeps_part target ws (part_by h posts) (slice_get (parts_by hs blocks) 0)) o (Some at)) (same_breaks target ws (at + ENTRY_BYTES) (Some value) (Some (part_by h posts)) hs rest)
-    ∙ sym (break_cons (λ i. keeps_part target ws i.value i.next) j (laid (λ (p : BlockPart). ENTRY_BYTES) (at + ENTRY_BYTES) (Some (part_by h posts)) (parts_by hs blocks)))
+    ∙ ap (λ (b : Bool). cond b (block_breaks target ws (at + ENTRY_BYTES) (Some value) hs blocks) (Some at))
+    (same_test target ws h posts last at hs rest (rows_count h (take h.len bytes)))
+    ∙ ap (λ (o : Option ℕ). cond (keeps_part target ws (part_by h posts) (slice_get (parts_by hs blocks) 0)) o (Some at))
+    (same_breaks target ws (at + ENTRY_BYTES) (Some value) (Some (part_by h posts)) hs rest)
+    ∙ sym (break_cons (λ i. keeps_part target ws i.value i.next) j
+    (laid (λ (p : BlockPart). ENTRY_BYTES) (at + ENTRY_BYTES) (Some (part_by h posts)) (parts_by hs blocks)))
 
 -- ---- the stage
 own_blocks : (b : List ℕ) → blocks_of b ≡ blocks_in (heads_of b) (contents_of b).bytes.blocks
 unfolding blocks_of heads_of
 own_blocks b = refl
 
-own_stage : (b : List ℕ) → parting_stage b ≡ first_reason (tried 18 (block_breaks (header_of b).target (file_words b) (directory_at (header_of b)) None (heads_of b) (blocks_of b)) ∷ [])
+own_stage : (b : List ℕ) → parting_stage b ≡ first_reason
+    (tried 18 (block_breaks (header_of b).target (file_words b) (directory_at (header_of b)) None (heads_of b) (blocks_of b)) ∷ [])
 unfolding parting_stage file_words heads_of blocks_of
 own_stage b = refl
 
@@ -92,7 +104,8 @@ only : (o : Option Broken) → first_reason (o ∷ []) ≡ o
 only None = refl
 only (Some x) = refl
 
-pub parting_is : (b : List ℕ) (h : Header) (ws : List (List ℕ)) (parts : List BlockPart) → IsHeaderOf b h → ws ≡ file_words b → parts ≡ parts_by (heads_of b) (blocks_of b) → parting_stage b ≡ tried 18 (part_breaks h.target ws (directory_at h) None parts)
+pub parting_is : (b : List ℕ) (h : Header) (ws : List (List ℕ)) (parts : List BlockPart) → IsHeaderOf b h → ws ≡ file_words b
+    → parts ≡ parts_by (heads_of b) (blocks_of b) → parting_stage b ≡ tried 18 (part_breaks h.target ws (directory_at h) None parts)
 parting_is b h ws parts is words are =
     let bytes = (contents_of b).bytes.blocks in
     own_stage b ∙ only (tried 18 (block_breaks (header_of b).target (file_words b) (directory_at (header_of b)) None (heads_of b) (blocks_of b)))

@@ -21,7 +21,8 @@ no_bytes b at = All-nil (λ y. y < 2 ^ 8)
 pub more_bytes : (b : List ℕ) (at n m : ℕ) → AreBytes b at n → AreBytes b (at + n) m → AreBytes b at (n + m)
 more_bytes b at n m first rest =
     let behind : part b (at + n) m ≡ take m (drop n (drop at b)) = ap (take m) (sym (drop-drop n at b)) in
-    subst (λ (x : List ℕ). All (λ y. y < 2 ^ 8) x) (two_parts n m (drop at b)) (All-append (λ y. y < 2 ^ 8) (part b at n) (take m (drop n (drop at b))) first (subst (λ (x : List ℕ). All (λ y. y < 2 ^ 8) x) behind rest))
+    subst (λ (x : List ℕ). All (λ y. y < 2 ^ 8) x) (two_parts n m (drop at b))
+    (All-append (λ y. y < 2 ^ 8) (part b at n) (take m (drop n (drop at b))) first (subst (λ (x : List ℕ). All (λ y. y < 2 ^ 8) x) behind rest))
 
 pub bytes_at : (b : List ℕ) (at there n m : ℕ) → at ≡ there → n ≡ m → AreBytes b at n → AreBytes b there m
 bytes_at b at there n m p q h = subst (λ (x : ℕ). AreBytes b x m) p (subst (λ (x : ℕ). AreBytes b at x) q h)

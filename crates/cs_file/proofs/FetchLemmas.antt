@@ -1,17 +1,14 @@
 -- What a fetched block and a title that was read are.
 --
 --   block_within        a block's bytes lie within the bytes of all blocks
---   has_block           rows by the rules that were added are those of the block
---   same_posts          over bytes that stand for the index they are its posts
---   never_broken        and no rule is broken there
+--   never_broken        over bytes that stand for the index no rule is broken there
 --   title_within        a title's bytes lie before the blocks
---   block_at, shaped_at, told_within      what is known of a block's place and its head
---   front_read          what is known where the bytes in front of its positions were read
---   shaped_read, few_docs, block_by, stood_rows, stood_by, read_there, unchanged_by, changed_by      the clauses of a fetch, from that and from what decoding
---                       answers
---   fault_unchanged, fault_changed      of one that decodes only where a test fails
+--   block_at, judged_at, told_within      what is known of a block's place and its head
+--   BlockRead, block_read, can_judge      what is known where a block's bytes were read
+--   FrontRead, front_read      the same of the bytes in front of its positions
+--   read_there, fault_unchanged, fault_changed      clauses of a fetch, from that and from what its bytes break
 --   fault_along         of one that passes a fault on
---   TitleRead, title_read, TitleSpan, title_span       the same of a title
+--   TitleRead, TitleSpan, title_span, title_found       the same of a title
 --   title_by, title_stood, title_unchanged, title_changed        the clauses of a title, from that and from whether it is text
 use Rattle.std.proofs.Common.{◌≡◌, ℕ, ◌+◌, ◌-◌, ◌<◌, ◌≤◌, ◌^◌, false, true≢false, List, [], ◌++◌, length, get_or, take, drop}
 use Rattle.std.proofs.Common.{Option, Some, None, Result, Ok, Err, refl, sym, ap, subst, ◌∙◌, arith}
@@ -24,7 +21,6 @@ use Rattle.std.proofs.lemmas.List.{get_or_default, length-append, length-drop, l
 use Rattle.std.proofs.lemmas.List.Sums.{sum_by_more_le}
 use Rattle.cs_base.specs.declared.index.block.BlockHead.{BlockHead}
 use Rattle.cs_base.specs.declared.index.block.Broken.{Broken}
-use Rattle.cs_base.specs.declared.content.doc.Post.{Post}
 use Rattle.cs_base.specs.outside.Outside.{part}
 use Rattle.cs_block.specs.DocWords.{HasFront, front_bytes}
 use Rattle.cs_block.proofs.LawsLemmas.{unique}
@@ -32,8 +28,8 @@ use Rattle.cs_model.specs.Scores.{SCORES}
 use Rattle.cs_model_index.specs.BlockRules.{judged, IsBlock, broken_at, rows_read}
 use Rattle.cs_model_index.specs.FileRules.{in_file}
 use Rattle.cs_model_index.specs.Blocks.{IsShaped}
-use Rattle.cs_file.specs.CallAnswers.{HasBlock, IsChangeOfBlock, IsChangeOfTitle, is_changed_of_fetch}
-use Rattle.cs_file.specs.Fetching.{DecodesAt, IsBlockAt, IsBlockRead, IsFrontRead, ReadsText}
+use Rattle.cs_file.specs.CallAnswers.{IsChangeOfBlock, IsChangeOfTitle, is_changed_of_fetch}
+use Rattle.cs_file.specs.Fetching.{CanBeJudged, IsBlockAt, IsFaultAt, IsFaultOf, ReadsText}
 use Rattle.cs_file.specs.declared.fault.FetchFault.{FetchFault}
 use Rattle.cs_file.specs.declared.fault.FetchFault.TheVariants as fetches
 use Rattle.cs_file.specs.declared.fetching.Placed.{Placed}
@@ -46,32 +42,12 @@ use Rattle.cs_file.proofs.TitlesLemmas.{stood_title}
 pub block_within : (i : IndexView) (k : ℕ) (d : BlockHead) → k < length i.heads → block_place i k + (get_or i.heads k d).len ≤ block_place i (length i.heads)
 block_within i k d lt =
     let one = sum_by_more_le (λ (h : BlockHead). h.len) i.heads k d lt in
-    let all : sum_by (λ h. h.len) (take (length i.heads) i.heads) ≡ sum_by (λ h. h.len) i.heads = ap (sum_by (λ h. h.len)) (take_all (length i.heads) i.heads (omega arith)) in
+    let all : sum_by (λ h. h.len) (take (length i.heads) i.heads) ≡ sum_by (λ h. h.len) i.heads
+    = ap (sum_by (λ h. h.len)) (take_all (length i.heads) i.heads (omega arith)) in
     omega (arith, one, all)
 
-pub has_block : (i : IndexView) (told : Option (List ℕ)) (k : ℕ) (d : BlockHead) (rows old new : List Post) (read : List ℕ) → k < length i.heads
-    → IsBlock SCORES (get_or i.heads k d) i.docs rows read → new ≡ old ++ rows → ForSome told (λ b. read ≡ part b (block_place i k) (get_or i.heads k d).len) → HasBlock i told k old new
-has_block i told k d rows old new read lt block added is = record {
-  rows = rows;
-  bytes = read;
-  added = added;
-  block = λ e. subst (λ (h : BlockHead). IsBlock SCORES h i.docs rows read) (get_or_default i.heads k d e lt) block;
-  read = λ e. subst (λ (h : BlockHead). ForSome told (λ b. read ≡ part b (block_place i k) h.len)) (get_or_default i.heads k d e lt) is;
-}
-
--- the posts of two readings of the same bytes
-pub same_posts : (b : List ℕ) (i : IndexView) → StandsFor b i → IsIndex i → (k : ℕ) (d : BlockHead) (rows : List Post) (read : List ℕ) → k < length i.heads → length read ≡ (get_or i.heads k d).len
-    → read ≡ part b (block_place i k) (get_or i.heads k d).len → IsBlock SCORES (get_or i.heads k d) i.docs rows read → rows ≡ block_posts b k
-same_posts b i s is k d rows read lt len at block =
-    let h = get_or i.heads k d in
-    let few = is.few_docs in
-    let small : i.docs < 2 ^ 32 = omega (arith, few) in
-    let shaped : IsShaped h (length read) = subst (IsShaped h) (sym len) (head_shaped i is k d lt) in
-    let own = subst (IsBlock SCORES h i.docs (block_posts b k)) (sym at) (stood_block b i s is k d lt) in
-    sym (unique h i.docs rows read small shaped block).1 ∙ (unique h i.docs (block_posts b k) read small shaped own).1
-
-pub never_broken : (b : List ℕ) (i : IndexView) → StandsFor b i → IsIndex i → (k : ℕ) (d : BlockHead) (read : List ℕ) → k < length i.heads → length read ≡ (get_or i.heads k d).len
-    → read ≡ part b (block_place i k) (get_or i.heads k d).len → judged SCORES (get_or i.heads k d) i.docs read ≡ None
+pub never_broken : (b : List ℕ) (i : IndexView) → StandsFor b i → IsIndex i → (k : ℕ) (d : BlockHead) (read : List ℕ) → k < length i.heads
+    → length read ≡ (get_or i.heads k d).len → read ≡ part b (block_place i k) (get_or i.heads k d).len → judged SCORES (get_or i.heads k d) i.docs read ≡ None
 never_broken b i s is k d read lt len at =
     let h = get_or i.heads k d in
     let few = is.few_docs in
@@ -88,12 +64,11 @@ title_within i is d lt =
     let c = sp.blocks in
     omega (arith, a, b, c)
 
--- what decoding answers where no rule is broken
-unbroken_answer : (at : ℕ) (o : Option Broken) (r : Result (Unit {0}) FetchFault) → DecodesAt at o r → o ≡ None → is_changed_of_fetch r ≡ false
-unbroken_answer at o (Ok u) h e = refl
-unbroken_answer at o (Err (fetches.Changed rule there)) h e = absurd (none-some (broken_at rule there) (sym (ap (option_map (in_file at)) e) ∙ h))
-unbroken_answer at o (Err fetches.Read) h e = refl
-unbroken_answer at o (Err fetches.Memory) h e = refl
+-- what a fault says where no rule is broken
+unbroken_fault : (at : ℕ) (o : Option Broken) (e : FetchFault) → IsFaultAt at o e → o ≡ None → is_changed_of_fetch {T = Unit {0}} (Err e) ≡ false
+unbroken_fault at o (fetches.Changed rule there) h none = absurd (none-some (broken_at rule there) (sym (ap (option_map (in_file at)) none) ∙ h))
+unbroken_fault at o fetches.Read h none = refl
+unbroken_fault at o fetches.Memory h none = refl
 
 abbrev pub nothing : BlockHead
 nothing = record { lo = 0; words = 0; rows = 0; len = 0; facet = false }
@@ -109,11 +84,35 @@ block_at i own k hs at seen index same known at_is = record {
   at_is = at_is;
 }
 
-pub shaped_at : (i : IndexView) (k : ℕ) (placed : Placed) → IsBlockAt i k placed → IsShaped placed.head placed.head.len
-shaped_at i k placed stands =
-    subst (λ (x : BlockHead). IsShaped x x.len) (sym (stands.head_is placed.head)) (head_shaped i stands.index k placed.head stands.known)
+-- where the bytes of block k were read; of a store that tells, they are its bytes at the block's place
+pub record BlockRead (i : IndexView) (told : Option (List ℕ)) (k : ℕ) (placed : Placed) (read : List ℕ) : Type 0 where
+  pub stands : IsBlockAt i k placed
+  pub long : length read ≡ placed.head.len
+  pub read_is : ForSome told (λ b. read ≡ part b placed.at placed.head.len)
 
-module _ (i : IndexView) (told : Option (List ℕ)) (k : ℕ) (placed : Placed) (stands : IsBlockAt i k placed) (fits : HasAllBlocks told i) where
+-- where those in front of its positions were read: some block begins so; of a store that tells, it is the one at the place
+pub record FrontRead (i : IndexView) (told : Option (List ℕ)) (k : ℕ) (placed : Placed) (read : List ℕ) : Type 0 where
+  pub long : length read ≡ front_bytes placed.head
+  pub block : List ℕ
+  pub whole : BlockRead i told k placed block
+  pub same : HasFront placed.head read block
+
+module _ {i : IndexView} {k : ℕ} {placed : Placed} (stands : IsBlockAt i k placed) where
+  pub judged_at : CanBeJudged placed placed.head.len
+  judged_at =
+      let index = stands.index in
+      let most = index.few_docs in
+      record {
+        shaped = subst (λ (x : BlockHead). IsShaped x x.len) (sym (stands.head_is placed.head)) (head_shaped i index k placed.head stands.known);
+        small = stands.small;
+        few = omega (arith, most, stands.docs_are);
+      }
+
+  pub block_read : {told : Option (List ℕ)} {read : List ℕ} → length read ≡ placed.head.len → ForSome told (λ b. read ≡ part b placed.at placed.head.len)
+      → BlockRead i told k placed read
+  block_read long is = record { stands = stands; long = long; read_is = is }
+
+module _ {i : IndexView} {told : Option (List ℕ)} {k : ℕ} {placed : Placed} (stands : IsBlockAt i k placed) (fits : HasAllBlocks told i) where
   -- a block lies within what a store tells
   pub told_within : ForSome told (λ b. placed.at + placed.head.len ≤ length b)
   told_within b t =
@@ -121,11 +120,11 @@ module _ (i : IndexView) (told : Option (List ℕ)) (k : ℕ) (placed : Placed) 
       let one = block_within i k placed.head stands.known in
       omega (arith, all, one, stands.at_is, ap (λ (x : BlockHead). x.len) (stands.head_is placed.head))
 
-  pub front_read : (read : List ℕ) → length read ≡ front_bytes placed.head → ForSome told (λ b. read ≡ part b placed.at (front_bytes placed.head))
-      → IsFrontRead i told k placed read
-  front_read read long is = elim told as (λ o. told ≡ o → IsFrontRead i told k placed read) [
+  pub front_read : {read : List ℕ} → length read ≡ front_bytes placed.head → ForSome told (λ b. read ≡ part b placed.at (front_bytes placed.head))
+      → FrontRead i told k placed read
+  front_read {read} long is = elim told as (λ o. told ≡ o → FrontRead i told k placed read) [
     | None ↦ λ e.
-        (let shape = shaped_at i k placed stands in
+        (let shape = (judged_at stands).shaped in
         let zeros = replicate (placed.head.len - front_bytes placed.head) 0 in
         let least = shape.least in
         record {
@@ -141,7 +140,7 @@ module _ (i : IndexView) (told : Option (List ℕ)) (k : ℕ) (placed : Placed) 
     | Some b ↦ λ e.
         (let n = front_bytes placed.head in
         let len = placed.head.len in
-        let shape = shaped_at i k placed stands in
+        let shape = (judged_at stands).shaped in
         let least = shape.least in
         let within = told_within b e in
         let rest = drop placed.at b in
@@ -157,36 +156,14 @@ module _ (i : IndexView) (told : Option (List ℕ)) (k : ℕ) (placed : Placed) 
         })
   ] refl
 
-module _ (i : IndexView) (told : Option (List ℕ)) (k : ℕ) (placed : Placed) (read : List ℕ) (h : IsBlockRead i told k placed read) where
+module _ {i : IndexView} {told : Option (List ℕ)} {k : ℕ} {placed : Placed} {read : List ℕ} (h : BlockRead i told k placed read) where
   -- the same, with the block's head and place themselves
   there : (d : BlockHead) → ForSome told (λ b. read ≡ part b (block_place i k) (get_or i.heads k d).len)
   there d = λ b t. h.read_is b t ∙ ap (λ (n : ℕ). part b n placed.head.len) h.stands.at_is
       ∙ ap (λ (x : BlockHead). part b (block_place i k) x.len) (h.stands.head_is d)
 
-  long_there : (d : BlockHead) → length read ≡ (get_or i.heads k d).len
-  long_there d = h.long ∙ ap (λ (x : BlockHead). x.len) (h.stands.head_is d)
-
-  block_there : (d : BlockHead) (rows : List Post) → IsBlock SCORES placed.head placed.docs rows read → IsBlock SCORES (get_or i.heads k d) i.docs rows read
-  block_there d rows block = subst (λ (x : BlockHead). IsBlock SCORES x i.docs rows read) (h.stands.head_is d)
-      (subst (λ (n : ℕ). IsBlock SCORES placed.head n rows read) h.stands.docs_are block)
-
-  pub shaped_read : IsShaped placed.head (length read)
-  shaped_read = subst (λ (n : ℕ). IsShaped placed.head n) (sym h.long) (shaped_at i k placed h.stands)
-
-  pub few_docs : placed.docs < 2 ^ 32
-  few_docs = let index = h.stands.index in let most = index.few_docs in omega (arith, most, h.stands.docs_are)
-
-  pub block_by : (rows old new : List Post) → IsBlock SCORES placed.head placed.docs rows read → new ≡ old ++ rows → HasBlock i told k old new
-  block_by rows old new block added =
-      has_block i told k placed.head rows old new read h.stands.known (block_there placed.head rows block) added (there placed.head)
-
-  pub stood_rows : (b : List ℕ) (rows : List Post) → told ≡ Some b → StandsFor b i → IsBlock SCORES placed.head placed.docs rows read → rows ≡ block_posts b k
-  stood_rows b rows t s block =
-      same_posts b i s h.stands.index k placed.head rows read h.stands.known (long_there placed.head)
-      (there placed.head b t) (block_there placed.head rows block)
-
-  pub stood_by : (b : List ℕ) (rows old new : List Post) → told ≡ Some b → StandsFor b i → IsBlock SCORES placed.head placed.docs rows read → new ≡ old ++ rows → new ≡ old ++ block_posts b k
-  stood_by b rows old new t s block added = added ∙ ap (λ (x : List Post). old ++ x) (stood_rows b rows t s block)
+  pub can_judge : CanBeJudged placed (length read)
+  can_judge = subst (CanBeJudged placed) (sym h.long) (judged_at h.stands)
 
   -- the rows that are read of these bytes, whatever keeps them
   pub read_there : (b : List ℕ) → told ≡ Some b → StandsFor b i → rows_read placed.head read ≡ block_posts b k
@@ -196,36 +173,32 @@ module _ (i : IndexView) (told : Option (List ℕ)) (k : ℕ) (placed : Placed) 
       let own = subst (IsBlock SCORES (get_or i.heads k placed.head) i.docs rows) (sym (there placed.head b t)) stood in
       let here = subst (λ (x : BlockHead). IsBlock SCORES x i.docs rows read) (sym (h.stands.head_is placed.head)) own in
       let block = subst (λ (n : ℕ). IsBlock SCORES placed.head n rows read) (sym h.stands.docs_are) here in
-      (unique placed.head placed.docs (block_posts b k) read few_docs shaped_read block).1
+      (unique placed.head placed.docs rows read can_judge.few can_judge.shaped block).1
 
-  pub unchanged_by : (b : List ℕ) (result : Result (Unit {0}) FetchFault) → told ≡ Some b → StandsFor b i → DecodesAt placed.at (judged SCORES placed.head placed.docs read) result → is_changed_of_fetch result ≡ false
-  unchanged_by b result t s answer =
-      unbroken_answer placed.at (judged SCORES placed.head placed.docs read) result answer
-      (ap (λ (x : BlockHead). judged SCORES x placed.docs read) (h.stands.head_is placed.head)
+  -- no rule is broken where they are those of the index
+  keeps_rules : (b : List ℕ) → told ≡ Some b → StandsFor b i → judged SCORES placed.head placed.docs read ≡ None
+  keeps_rules b t s =
+      let long = h.long ∙ ap (λ (x : BlockHead). x.len) (h.stands.head_is placed.head) in
+      ap (λ (x : BlockHead). judged SCORES x placed.docs read) (h.stands.head_is placed.head)
       ∙ ap (λ (n : ℕ). judged SCORES (get_or i.heads k placed.head) n read) h.stands.docs_are
-      ∙ never_broken b i s h.stands.index k placed.head read h.stands.known (long_there placed.head) (there placed.head b t))
+      ∙ never_broken b i s h.stands.index k placed.head read h.stands.known long (there placed.head b t)
 
-  -- the answer as a fault of the call
-  pub changed_by : (result : Result (Unit {0}) FetchFault) → DecodesAt placed.at (judged SCORES placed.head placed.docs read) result → IfErr result (IsChangeOfBlock i told k)
-  changed_by (Ok u) answer = tt
-  changed_by (Err fetches.Read) answer = tt
-  changed_by (Err fetches.Memory) answer = tt
-  changed_by (Err (fetches.Changed rule place)) answer = record {
+  pub fault_unchanged : (b : List ℕ) (result : Result (Unit {0}) FetchFault) → told ≡ Some b → StandsFor b i → IfErr result (IsFaultOf placed read)
+      → is_changed_of_fetch result ≡ false
+  fault_unchanged b (Ok u) t s answer = refl
+  fault_unchanged b (Err e) t s answer = unbroken_fault placed.at (judged SCORES placed.head placed.docs read) e answer (keeps_rules b t s)
+
+  pub fault_changed : (result : Result (Unit {0}) FetchFault) → IfErr result (IsFaultOf placed read) → IfErr result (IsChangeOfBlock i told k)
+  fault_changed (Ok u) answer = tt
+  fault_changed (Err fetches.Read) answer = tt
+  fault_changed (Err fetches.Memory) answer = tt
+  fault_changed (Err (fetches.Changed rule place)) answer = record {
     bytes = read;
     broken = λ d. ap (λ (n : ℕ). option_map (in_file n) (judged SCORES (get_or i.heads k d) i.docs read)) (sym h.stands.at_is)
         ∙ ap (λ (n : ℕ). option_map (in_file placed.at) (judged SCORES (get_or i.heads k d) n read)) (sym h.stands.docs_are)
         ∙ ap (λ (x : BlockHead). option_map (in_file placed.at) (judged SCORES x placed.docs read)) (sym (h.stands.head_is d)) ∙ answer;
     read = λ d. there d;
   }
-
-  -- the same of a call that decodes only where a test fails
-  pub fault_unchanged : (b : List ℕ) (result : Result (Unit {0}) FetchFault) → told ≡ Some b → StandsFor b i → IfErr result (λ e. DecodesAt placed.at (judged SCORES placed.head placed.docs read) (Err e)) → is_changed_of_fetch result ≡ false
-  fault_unchanged b (Ok u) t s answer = refl
-  fault_unchanged b (Err e) t s answer = unchanged_by b (Err e) t s answer
-
-  pub fault_changed : (result : Result (Unit {0}) FetchFault) → IfErr result (λ e. DecodesAt placed.at (judged SCORES placed.head placed.docs read) (Err e)) → IfErr result (IsChangeOfBlock i told k)
-  fault_changed (Ok u) answer = tt
-  fault_changed (Err e) answer = changed_by (Err e) answer
 
 -- a fault that is passed on
 pub fault_along : {T : Type 0} (P : FetchFault → Type 0) (e : FetchFault) (r : Result T FetchFault) → P e → IsErrAnd r (λ x. x ≡ e) → IfErr r P
@@ -245,7 +218,8 @@ pub record TitleSpan (i : IndexView) (d at from to : ℕ) : Type 0 where
   pub len_is : to - from ≡ title_len i d
   pub within : at + (to - from) ≤ block_place i (length i.heads)
 
-pub title_span : (i own : IndexView) (d : ℕ) (os : List ℕ) (from : ℕ) → own ≡ i → IsIndex i → os ≡ own.offsets → d < i.docs → from ≡ get_or os d 0 → TitleSpan i d (own.titles_at + from) from (get_or os (d + 1) 0)
+pub title_span : (i own : IndexView) (d : ℕ) (os : List ℕ) (from : ℕ) → own ≡ i → IsIndex i → os ≡ own.offsets → d < i.docs → from ≡ get_or os d 0
+    → TitleSpan i d (own.titles_at + from) from (get_or os (d + 1) 0)
 title_span i own d os from seen is same lt from_is =
     let sp = spans i is d lt in
     let all : os ≡ i.offsets = same ∙ ap (λ (v : IndexView). v.offsets) seen in
@@ -256,36 +230,46 @@ title_span i own d os from seen is same lt from_is =
     let within = title_within i is d lt in
     record { onward = omega (arith, up, a, b); at_is = omega (arith, a, t); len_is = omega (arith, a, b); within = omega (arith, within, a, b, t) }
 
-pub title_read : (i : IndexView) (told : Option (List ℕ)) (d at from to here : ℕ) (read : List ℕ) → TitleSpan i d at from to → from ≡ here → ForSome told (λ b. read ≡ part b at (to - here)) → TitleRead i told d at read
-title_read i told d at from to here read span same is = record {
-  at_is = span.at_is;
-  read_is = λ b t. is b t ∙ ap (λ (n : ℕ). part b at (to - n)) (sym same) ∙ ap (λ (n : ℕ). part b n (to - from)) span.at_is ∙ ap (part b (title_place i d)) span.len_is;
-}
+pub title_found : {i own : IndexView} {told : Option (List ℕ)} {d : ℕ} {os : List ℕ} {from : ℕ} {read : List ℕ} → own ≡ i → IsIndex own → os ≡ own.offsets
+    → d < i.docs → from ≡ get_or os d 0 → ForSome told (λ b. read ≡ part b (own.titles_at + from) (get_or os (d + 1) 0 - get_or os d 0))
+    → TitleRead i told d (own.titles_at + from) read
+title_found {i} {own} {told} {d} {os} {from} seen is same lt from_is found =
+    let at = own.titles_at + from in
+    let to = get_or os (d + 1) 0 in
+    let span = title_span i own d os from seen (subst IsIndex seen is) same lt from_is in
+    record {
+      at_is = span.at_is;
+      read_is = λ b t. found b t ∙ ap (λ (n : ℕ). part b at (to - n)) (sym from_is) ∙ ap (λ (n : ℕ). part b n (to - from)) span.at_is
+          ∙ ap (part b (title_place i d)) span.len_is;
+    }
 
-pub title_by : (i : IndexView) (told : Option (List ℕ)) (d at : ℕ) (read : List ℕ) (r : Result (List ℕ) FetchFault) → TitleRead i told d at read → ReadsText read at r → ForSome told (λ b. IfOk r (λ t. t ≡ part b (title_place i d) (title_len i d)))
-title_by i told d at read (Ok text) h answer = λ b t. answer.0 ∙ h.read_is b t
-title_by i told d at read (Err e) h answer = λ b t. tt
+module _ {i : IndexView} {told : Option (List ℕ)} {d at : ℕ} {read : List ℕ} (h : TitleRead i told d at read) where
+  pub title_by : (r : Result (List ℕ) FetchFault) → ReadsText read at r → ForSome told (λ b. IfOk r (λ t. t ≡ part b (title_place i d) (title_len i d)))
+  title_by (Ok text) answer = λ b t. answer.0 ∙ h.read_is b t
+  title_by (Err e) answer = λ b t. tt
 
-pub title_changed : (i : IndexView) (told : Option (List ℕ)) (d at : ℕ) (read : List ℕ) (r : Result (List ℕ) FetchFault) → TitleRead i told d at read → ReadsText read at r → IfErr r (IsChangeOfTitle i told d)
-title_changed i told d at read (Ok text) h answer = tt
-title_changed i told d at read (Err fetches.Read) h answer = tt
-title_changed i told d at read (Err fetches.Memory) h answer = tt
-title_changed i told d at read (Err (fetches.Changed rule place)) h answer = record {
-  bytes = read;
-  broken = answer.0;
-  rule_is = answer.1;
-  place = answer.2 ∙ h.at_is;
-  read = h.read_is;
-}
+  pub title_changed : (r : Result (List ℕ) FetchFault) → ReadsText read at r → IfErr r (IsChangeOfTitle i told d)
+  title_changed (Ok text) answer = tt
+  title_changed (Err fetches.Read) answer = tt
+  title_changed (Err fetches.Memory) answer = tt
+  title_changed (Err (fetches.Changed rule place)) answer = record {
+    bytes = read;
+    broken = answer.0;
+    rule_is = answer.1;
+    place = answer.2 ∙ h.at_is;
+    read = h.read_is;
+  }
 
-pub title_stood : (b : List ℕ) (i : IndexView) (told : Option (List ℕ)) (d at : ℕ) (read : List ℕ) (r : Result (List ℕ) FetchFault) → told ≡ Some b → StandsFor b i → IsIndex i → d < i.docs → TitleRead i told d at read → ReadsText read at r → IfOk r (λ t. t ≡ title_in b d)
-title_stood b i told d at read (Ok text) t s is lt h answer = answer.0 ∙ h.read_is b t ∙ sym (stood_title b i s is d lt).bytes
-title_stood b i told d at read (Err e) t s is lt h answer = tt
+  pub title_stood : (b : List ℕ) (r : Result (List ℕ) FetchFault) → told ≡ Some b → StandsFor b i → IsIndex i → d < i.docs → ReadsText read at r
+      → IfOk r (λ t. t ≡ title_in b d)
+  title_stood b (Ok text) t s is lt answer = answer.0 ∙ h.read_is b t ∙ sym (stood_title b i s is d lt).bytes
+  title_stood b (Err e) t s is lt answer = tt
 
-pub title_unchanged : (b : List ℕ) (i : IndexView) (told : Option (List ℕ)) (d at : ℕ) (read : List ℕ) (r : Result (List ℕ) FetchFault) → told ≡ Some b → StandsFor b i → IsIndex i → d < i.docs → TitleRead i told d at read → ReadsText read at r → is_changed_of_fetch r ≡ false
-title_unchanged b i told d at read (Ok text) t s is lt h answer = refl
-title_unchanged b i told d at read (Err fetches.Read) t s is lt h answer = refl
-title_unchanged b i told d at read (Err fetches.Memory) t s is lt h answer = refl
-title_unchanged b i told d at read (Err (fetches.Changed rule place)) t s is lt h answer =
-    let same : read ≡ title_in b d = h.read_is b t ∙ sym (stood_title b i s is d lt).bytes in
-    absurd (true≢false (sym (ap is_utf8 same ∙ (stood_title b i s is d lt).text) ∙ answer.0))
+  pub title_unchanged : (b : List ℕ) (r : Result (List ℕ) FetchFault) → told ≡ Some b → StandsFor b i → IsIndex i → d < i.docs → ReadsText read at r
+      → is_changed_of_fetch r ≡ false
+  title_unchanged b (Ok text) t s is lt answer = refl
+  title_unchanged b (Err fetches.Read) t s is lt answer = refl
+  title_unchanged b (Err fetches.Memory) t s is lt answer = refl
+  title_unchanged b (Err (fetches.Changed rule place)) t s is lt answer =
+      let same : read ≡ title_in b d = h.read_is b t ∙ sym (stood_title b i s is d lt).bytes in
+      absurd (true≢false (sym (ap is_utf8 same ∙ (stood_title b i s is d lt).text) ∙ answer.0))

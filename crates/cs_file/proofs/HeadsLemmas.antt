@@ -8,7 +8,8 @@
 --   head_shaped           a head that goes with so many bytes
 --   few_heads             there are no more blocks than words
 --   met_between           the blocks between two places where the blocks are parted are those that hold some words
-use Rattle.std.proofs.Common.{◌≡◌, ℕ, zero, suc, ◌+◌, ◌-◌, ◌<◌, ◌≤◌, ◌&&◌, Bool, true, false, List, [], ◌∷◌, length, get_or, Option, Some, None, refl, sym, ap, subst, ◌∙◌, arith, inl, inr}
+use Rattle.std.proofs.Common.{◌≡◌, ℕ, zero, suc, ◌+◌, ◌-◌, ◌<◌, ◌≤◌, ◌&&◌, Bool, true, false, List, [], ◌∷◌, length, get_or, Option, Some, None, refl, sym}
+use Rattle.std.proofs.Common.{ap, subst, ◌∙◌, arith, inl, inr}
 use Rattle.std.specs.Prelude.{nat_le, nat_lt}
 use Rattle.std.specs.List.{list_all, slice_get}
 use Rattle.std.specs.List.Sorted.{IsPartitionedBy, IsPartitionPoint}
@@ -26,7 +27,8 @@ pub AreJoined : ℕ → List BlockHead → Type 0
 AreJoined lo [] = Unit {0}
 AreJoined lo (h ∷ hs) = (h.lo ≡ lo) × (1 ≤ h.words) × AreJoined (h.lo + h.words) hs
 
-joined_from : (at : ℕ) (last : Option BlockHead) (hs : List BlockHead) → list_all (λ p. is_joined p.last p.value) (laid (λ h. ENTRY_BYTES) at last hs) ≡ true → AreJoined (words_end last) hs
+joined_from : (at : ℕ) (last : Option BlockHead) (hs : List BlockHead) → list_all (λ p. is_joined p.last p.value) (laid (λ h. ENTRY_BYTES) at last hs) ≡ true
+    → AreJoined (words_end last) hs
 unfolding AreJoined laid
 joined_from at last [] e = tt
 joined_from at last (h ∷ hs) e =
@@ -74,14 +76,16 @@ stands lo (h ∷ hs) (suc k) d j lt =
     let from : h.lo + h.words ≤ (get_or hs k d).lo = rest.from in
     record { from = omega (arith, j.0, from); filled = rest.filled; to = rest.to }
 
-next_at : (lo : ℕ) (hs : List BlockHead) (k : ℕ) (d : BlockHead) → AreJoined lo hs → suc k < length hs → (get_or hs (suc k) d).lo ≡ (get_or hs k d).lo + (get_or hs k d).words
+next_at : (lo : ℕ) (hs : List BlockHead) (k : ℕ) (d : BlockHead) → AreJoined lo hs → suc k < length hs
+    → (get_or hs (suc k) d).lo ≡ (get_or hs k d).lo + (get_or hs k d).words
 unfolding AreJoined
 next_at lo [] k d j lt = absurd (omega arith)
 next_at lo (h ∷ []) k d j lt = absurd (omega arith)
 next_at lo (h ∷ g ∷ hs) zero d j lt = j.2.0
 next_at lo (h ∷ g ∷ hs) (suc k) d j lt = next_at (h.lo + h.words) (g ∷ hs) k d j.2 (omega arith)
 
-rise_at : (lo : ℕ) (hs : List BlockHead) (k l : ℕ) (d : BlockHead) → AreJoined lo hs → k < l → l < length hs → (get_or hs k d).lo + (get_or hs k d).words ≤ (get_or hs l d).lo
+rise_at : (lo : ℕ) (hs : List BlockHead) (k l : ℕ) (d : BlockHead) → AreJoined lo hs → k < l → l < length hs
+    → (get_or hs k d).lo + (get_or hs k d).words ≤ (get_or hs l d).lo
 unfolding AreJoined
 rise_at lo [] k l d j up lt = absurd (omega arith)
 rise_at lo (h ∷ hs) k zero d j up lt = absurd (omega arith)
@@ -89,18 +93,21 @@ rise_at lo (h ∷ hs) zero (suc l) d j up lt = (stands (h.lo + h.words) hs l d j
 rise_at lo (h ∷ hs) (suc k) (suc l) d j up lt = rise_at (h.lo + h.words) hs k l d j.2 (omega arith) (omega arith)
 
 -- ---- the heads of an index
-pub heads_next : (i : IndexView) → IsIndex i → (k : ℕ) (d : BlockHead) → k + 1 < length i.heads → (get_or i.heads (k + 1) d).lo ≡ (get_or i.heads k d).lo + (get_or i.heads k d).words
+pub heads_next : (i : IndexView) → IsIndex i → (k : ℕ) (d : BlockHead) → k + 1 < length i.heads
+    → (get_or i.heads (k + 1) d).lo ≡ (get_or i.heads k d).lo + (get_or i.heads k d).words
 heads_next i is k d lt =
     let one : k + 1 ≡ suc k = omega arith in
     ap (λ (n : ℕ). (get_or i.heads n d).lo) one ∙ next_at 0 i.heads k d (joined_heads i is) (omega arith)
 
-pub heads_rise : (i : IndexView) → IsIndex i → (k l : ℕ) (d : BlockHead) → k < l → l < length i.heads → (get_or i.heads k d).lo + (get_or i.heads k d).words ≤ (get_or i.heads l d).lo
+pub heads_rise : (i : IndexView) → IsIndex i → (k l : ℕ) (d : BlockHead) → k < l → l < length i.heads
+    → (get_or i.heads k d).lo + (get_or i.heads k d).words ≤ (get_or i.heads l d).lo
 heads_rise i is k l d up lt = rise_at 0 i.heads k l d (joined_heads i is) up lt
 
 pub head_filled : (i : IndexView) → IsIndex i → (k : ℕ) (d : BlockHead) → k < length i.heads → 1 ≤ (get_or i.heads k d).words
 head_filled i is k d lt = (stands 0 i.heads k d (joined_heads i is) lt).filled
 
-pub head_within : (i : IndexView) → IsIndex i → (k : ℕ) (d : BlockHead) → k < length i.heads → (get_or i.heads k d).lo + (get_or i.heads k d).words ≤ length i.words
+pub head_within : (i : IndexView) → IsIndex i → (k : ℕ) (d : BlockHead) → k < length i.heads
+    → (get_or i.heads k d).lo + (get_or i.heads k d).words ≤ length i.words
 head_within i is k d lt =
     let to : (get_or i.heads k d).lo + (get_or i.heads k d).words ≤ end_by 0 i.heads = (stands 0 i.heads k d (joined_heads i is) lt).to in
     let end : end_by 0 i.heads ≡ length i.words = sym (end_is i.heads) ∙ is.end in
@@ -122,7 +129,8 @@ head_shaped i is k d lt =
 filled_by : (lo : ℕ) (hs : List BlockHead) → AreJoined lo hs → lo + length hs ≤ end_by lo hs
 unfolding AreJoined end_by
 filled_by lo [] j = omega arith
-filled_by lo (h ∷ hs) j = let rest : h.lo + h.words + length hs ≤ end_by (h.lo + h.words) hs = filled_by (h.lo + h.words) hs j.2 in omega (arith, j.0, j.1, rest)
+filled_by lo (h ∷ hs) j = let rest : h.lo + h.words + length hs ≤ end_by (h.lo + h.words) hs =
+    filled_by (h.lo + h.words) hs j.2 in omega (arith, j.0, j.1, rest)
 
 pub few_heads : (i : IndexView) → IsIndex i → length i.heads ≤ length i.words
 few_heads i is =

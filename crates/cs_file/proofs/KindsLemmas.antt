@@ -2,7 +2,8 @@
 --
 --   least_drop, least_take      at most so many, from one on that may not be there
 --   kind_plain, kind_front      the kind of a word, by where the next colon stands
-use Rattle.std.proofs.Common.{◌≡◌, ℕ, zero, suc, ◌+◌, ◌<◌, ◌≤◌, Bool, true, false, cond, not, eqb, List, [], ◌∷◌, length, get_or, take, drop, min, refl, sym, ap, ◌∙◌, arith, inl, inr}
+use Rattle.std.proofs.Common.{◌≡◌, ℕ, zero, suc, ◌+◌, ◌<◌, ◌≤◌, Bool, true, false, cond, not, eqb, List, [], ◌∷◌, length, get_or, take, drop, min, refl, sym}
+use Rattle.std.proofs.Common.{ap, ◌∙◌, arith, inl, inr}
 use Rattle.std.specs.List.{before_first, position_or_len}
 use Rattle.std.proofs.lemmas.Bool.{cases_lt}
 use Rattle.std.proofs.lemmas.List.{take_all}
@@ -26,7 +27,8 @@ pub least_take : {X : Type 0} (xs : List X) (n : ℕ) → take (min n (length xs
 least_take xs n =
     elim (cases_lt n (length xs)) [
       | inl lt ↦ let e : min n (length xs) ≡ n = omega arith in ap (λ (k : ℕ). take k xs) e
-      | inr le ↦ let e : min n (length xs) ≡ length xs = omega arith in ap (λ (k : ℕ). take k xs) e ∙ take_all (length xs) xs (omega arith) ∙ sym (take_all n xs le)
+      | inr le ↦ let e : min n (length xs) ≡ length xs = omega arith in ap (λ (k : ℕ). take k xs) e ∙ take_all (length xs) xs (omega arith)
+          ∙ sym (take_all n xs le)
     ]
 
 -- ---- the kind of a word
@@ -38,7 +40,8 @@ kind_plain (b ∷ w) e = ap (λ (x : Bool). cond x (b ∷ before_first is_colon 
 abbrev pub NoColon : List ℕ → ℕ → Type 0
 NoColon w end = (k : ℕ) → 1 ≤ k → k < end → eqb (get_or w k 0) 58 ≡ false
 
-front : (w : List ℕ) (n : ℕ) → n ≤ length w → ((k : ℕ) → k < n → eqb (get_or w k 0) 58 ≡ false) → (n < length w → eqb (get_or w n 0) 58 ≡ true) → before_first is_colon w ≡ take n w
+front : (w : List ℕ) (n : ℕ) → n ≤ length w → ((k : ℕ) → k < n → eqb (get_or w k 0) 58 ≡ false) → (n < length w → eqb (get_or w n 0) 58 ≡ true)
+    → before_first is_colon w ≡ take n w
 front [] zero le none here = refl
 front [] (suc n) le none here = absurd (omega arith)
 front (b ∷ w) zero le none here = ap (λ (x : Bool). take (cond (not x) (1 + position_or_len is_colon w) 0) (b ∷ w)) (here (omega arith))
@@ -48,8 +51,10 @@ front (b ∷ w) (suc n) le none here =
     ∙ ap (λ (k : ℕ). take k (b ∷ w)) more
     ∙ ap (λ (x : List ℕ). b ∷ x) (front w n (omega arith) (λ k lt. none (suc k) (omega arith)) (λ lt. here (omega arith)))
 
-pub kind_front : (w : List ℕ) (end : ℕ) → is_facet w ≡ true → 1 ≤ end → end ≤ length w → NoColon w end → (end < length w → eqb (get_or w end 0) 58 ≡ true) → take end w ≡ kind_of w
+pub kind_front : (w : List ℕ) (end : ℕ) → is_facet w ≡ true → 1 ≤ end → end ≤ length w → NoColon w end → (end < length w → eqb (get_or w end 0) 58 ≡ true)
+    → take end w ≡ kind_of w
 kind_front [] end e low le none here = absurd (omega arith)
 kind_front (b ∷ w) zero e low le none here = absurd (omega arith)
 kind_front (b ∷ w) (suc n) e low le none here =
-    sym (ap (λ (x : Bool). cond x (b ∷ before_first is_colon w) []) e ∙ ap (λ (x : List ℕ). b ∷ x) (front w n (omega arith) (λ k lt. none (suc k) (omega arith) (omega arith)) (λ lt. here (omega arith))))
+    sym (ap (λ (x : Bool). cond x (b ∷ before_first is_colon w) []) e
+    ∙ ap (λ (x : List ℕ). b ∷ x) (front w n (omega arith) (λ k lt. none (suc k) (omega arith) (omega arith)) (λ lt. here (omega arith))))

@@ -6,7 +6,8 @@
 --   RestOfEven, even_start, even_on, even_broken, even_end      the same of items of one size, where item i lies at first + size * i
 --   all_hold             where no item breaks a rule, each keeps it
 --   held_anywhere        and so it does wherever the values lie
-use Rattle.std.proofs.Common.{◌≡◌, ℕ, zero, suc, ◌+◌, ◌*◌, ◌<◌, ◌≤◌, ◌&&◌, Bool, true, false, not, cond, List, [], ◌∷◌, length, get_or, slice_index_or, drop, Option, Some, None, refl, sym, ap, subst, ◌∙◌, add-one, arith}
+use Rattle.std.proofs.Common.{◌≡◌, ℕ, zero, suc, ◌+◌, ◌*◌, ◌<◌, ◌≤◌, ◌&&◌, Bool, true, false, not, cond, List, [], ◌∷◌, length, get_or, slice_index_or, drop}
+use Rattle.std.proofs.Common.{Option, Some, None, refl, sym, ap, subst, ◌∙◌, add-one, arith}
 use Rattle.std.specs.Prelude.{find}
 use Rattle.std.specs.List.{list_all, slice_get}
 use Rattle.std.specs.Option.{option_map}
@@ -38,10 +39,12 @@ rest_start holds size first xs = refl
 
 -- one item and what is laid behind it
 split : {X : Type 0} (size : X → ℕ) (at : ℕ) (last : Option X) (xs : List X) (i : ℕ) (x : X) → i < length xs → x ≡ get_or xs i x
-    → laid size at last (drop i xs) ≡ record { value = x; last = last; next = slice_get (drop (suc i) xs) 0; at = at } ∷ laid size (at + size x) (Some x) (drop (suc i) xs)
+    → laid size at last (drop i xs) ≡ record { value = x; last = last; next = slice_get (drop (suc i) xs) 0; at = at } ∷ laid size (at + size x) (Some x)
+    (drop (suc i) xs)
 unfolding laid
 split size at last [] i x lt e = absurd (omega arith)
-split size at last (y ∷ xs) zero x lt e = ap (λ z. record { value = z; last = last; next = slice_get xs 0; at = at } ∷ laid size (at + size z) (Some z) xs) (sym e)
+split size at last (y ∷ xs) zero x lt e = ap (λ z. record { value = z; last = last; next = slice_get xs 0; at = at } ∷ laid size (at + size z) (Some z) xs)
+    (sym e)
 split size at last (y ∷ xs) (suc i) x lt e = split size at last xs i x (omega arith) e
 
 found : {X : Type 0} (holds : Placed X → Bool) (i : Placed X) (items : List (Placed X)) → holds i ≡ false → break_of holds (i ∷ items) ≡ Some i.at
@@ -58,25 +61,31 @@ nothing_left [] (suc i) le = refl
 nothing_left (x ∷ xs) zero le = absurd (omega arith)
 nothing_left (x ∷ xs) (suc i) le = nothing_left xs i (omega arith)
 
-pub rest_on : {X : Type 0} (holds : Placed X → Bool) (size : X → ℕ) (first : ℕ) (xs : List X) (i at next : ℕ) (x : X) → i < length xs → x ≡ get_or xs i x → next ≡ at + size x
-    → holds (record { value = x; last = before xs i; next = slice_get (drop (suc i) xs) 0; at = at }) ≡ true → Rest holds size first xs i at → Rest holds size first xs (i + 1) next
+pub rest_on : {X : Type 0} (holds : Placed X → Bool) (size : X → ℕ) (first : ℕ) (xs : List X) (i at next : ℕ) (x : X) → i < length xs → x ≡ get_or xs i x
+    → next ≡ at + size x
+    → holds (record { value = x; last = before xs i; next = slice_get (drop (suc i) xs) 0; at = at }) ≡ true → Rest holds size first xs i at
+    → Rest holds size first xs (i + 1) next
 unfolding Rest
 rest_on holds size first xs i at next x lt e sum keeps h =
     let one : i + 1 ≡ suc i = omega arith in
     ap (λ (n : ℕ). break_of holds (laid size n (before xs (i + 1)) (drop (i + 1) xs))) sum
     ∙ ap (λ (l : Option _). break_of holds (laid size (at + size x) l (drop (i + 1) xs))) (before_on xs i x lt e)
     ∙ ap (λ (n : ℕ). break_of holds (laid size (at + size x) (Some x) (drop n xs))) one
-    ∙ sym (passed holds (record { value = x; last = before xs i; next = slice_get (drop (suc i) xs) 0; at = at }) (laid size (at + size x) (Some x) (drop (suc i) xs)) keeps)
+    ∙ sym (passed holds (record { value = x; last = before xs i; next = slice_get (drop (suc i) xs) 0; at = at })
+    (laid size (at + size x) (Some x) (drop (suc i) xs)) keeps)
     ∙ ap (break_of holds) (sym (split size at (before xs i) xs i x lt e)) ∙ h
 
 pub rest_broken : {X : Type 0} (holds : Placed X → Bool) (size : X → ℕ) (first : ℕ) (xs : List X) (i at : ℕ) (x : X) → i < length xs → x ≡ get_or xs i x
-    → holds (record { value = x; last = before xs i; next = slice_get (drop (suc i) xs) 0; at = at }) ≡ false → Rest holds size first xs i at → Some at ≡ break_of holds (laid size first None xs)
+    → holds (record { value = x; last = before xs i; next = slice_get (drop (suc i) xs) 0; at = at }) ≡ false → Rest holds size first xs i at
+    → Some at ≡ break_of holds (laid size first None xs)
 unfolding Rest
 rest_broken holds size first xs i at x lt e breaks h =
-    sym (found holds (record { value = x; last = before xs i; next = slice_get (drop (suc i) xs) 0; at = at }) (laid size (at + size x) (Some x) (drop (suc i) xs)) breaks)
+    sym (found holds (record { value = x; last = before xs i; next = slice_get (drop (suc i) xs) 0; at = at })
+    (laid size (at + size x) (Some x) (drop (suc i) xs)) breaks)
     ∙ ap (break_of holds) (sym (split size at (before xs i) xs i x lt e)) ∙ h
 
-pub rest_end : {X : Type 0} (holds : Placed X → Bool) (size : X → ℕ) (first : ℕ) (xs : List X) (i at : ℕ) → length xs ≤ i → Rest holds size first xs i at → None ≡ break_of holds (laid size first None xs)
+pub rest_end : {X : Type 0} (holds : Placed X → Bool) (size : X → ℕ) (first : ℕ) (xs : List X) (i at : ℕ) → length xs ≤ i → Rest holds size first xs i at
+    → None ≡ break_of holds (laid size first None xs)
 unfolding Rest laid break_of
 rest_end holds size first xs i at le h = ap (λ l. break_of holds (laid size at (before xs i) l)) (sym (nothing_left xs i le)) ∙ h
 
@@ -90,25 +99,30 @@ module _ {X : Type 0} (holds : Placed X → Bool) (size first : ℕ) (xs : List 
   even_start = subst (Rest holds (λ x. size) first xs 0) (let none : first ≡ first + size * 0 = omega arith in none) (rest_start holds (λ x. size) first xs)
 
   -- item i, and whether it was found to hold
-  pub even_on : (i : ℕ) (d : X) (b : Bool) → i < length xs → b ≡ holds (record { value = slice_index_or xs i d; last = before xs i; next = slice_get (drop (suc i) xs) 0; at = first + size * i }) → b ≡ true
+  pub even_on : (i : ℕ) (d : X) (b : Bool) → i < length xs
+      → b ≡ holds (record { value = slice_index_or xs i d; last = before xs i; next = slice_get (drop (suc i) xs) 0; at = first + size * i }) → b ≡ true
       → RestOfEven holds size first xs i → RestOfEven holds size first xs (i + 1)
   unfolding RestOfEven
   even_on i d b lt is keeps h =
       let more : size * (i + 1) ≡ size * i + size = ap (λ n. size * n) (add-one i) ∙ mul-suc size i in
-      rest_on holds (λ x. size) first xs i (first + size * i) _ (slice_index_or xs i d) lt (get_or_default xs i d (slice_index_or xs i d) lt) (omega (arith, more)) (sym is ∙ keeps) h
+      rest_on holds (λ x. size) first xs i (first + size * i) _ (slice_index_or xs i d) lt (get_or_default xs i d (slice_index_or xs i d) lt)
+      (omega (arith, more)) (sym is ∙ keeps) h
 
-  pub even_broken : (i n : ℕ) (d : X) (b : Bool) → i < length xs → n ≡ size → b ≡ holds (record { value = slice_index_or xs i d; last = before xs i; next = slice_get (drop (suc i) xs) 0; at = first + size * i }) → b ≡ false
+  pub even_broken : (i n : ℕ) (d : X) (b : Bool) → i < length xs → n ≡ size
+      → b ≡ holds (record { value = slice_index_or xs i d; last = before xs i; next = slice_get (drop (suc i) xs) 0; at = first + size * i }) → b ≡ false
       → RestOfEven holds size first xs i → Some (first + n * i) ≡ break_of holds (laid (λ x. size) first None xs)
   unfolding RestOfEven
   even_broken i n d b lt same is breaks h =
-      ap (λ k. Some (first + k * i)) same ∙ rest_broken holds (λ x. size) first xs i (first + size * i) (slice_index_or xs i d) lt (get_or_default xs i d (slice_index_or xs i d) lt) (sym is ∙ breaks) h
+      ap (λ k. Some (first + k * i)) same ∙ rest_broken holds (λ x. size) first xs i (first + size * i) (slice_index_or xs i d) lt
+      (get_or_default xs i d (slice_index_or xs i d) lt) (sym is ∙ breaks) h
 
   pub even_end : (i : ℕ) → length xs ≤ i → RestOfEven holds size first xs i → None ≡ break_of holds (laid (λ x. size) first None xs)
   unfolding RestOfEven
   even_end i le h = rest_end holds (λ x. size) first xs i (first + size * i) le h
 
 -- ---- all items
-found_none : {X : Type 0} (b : Bool) (i : Placed X) (o : Option (Placed X)) → option_map place_of_item (cond (not b) (Some i) o) ≡ None → (b ≡ true) × (option_map place_of_item o ≡ None)
+found_none : {X : Type 0} (b : Bool) (i : Placed X) (o : Option (Placed X)) → option_map place_of_item (cond (not b) (Some i) o) ≡ None
+    → (b ≡ true) × (option_map place_of_item o ≡ None)
 found_none true i o e = (refl, e)
 found_none false i o e = absurd cc
 
@@ -120,7 +134,8 @@ all_hold holds (i ∷ items) e =
     and_from (holds i) (list_all holds items) p.0 (all_hold holds items p.1)
 
 -- of a test that doesn't ask where an item lies
-pub held_anywhere : {X : Type 0} (holds : Option X → X → Bool) (size : X → ℕ) (at there : ℕ) (last : Option X) (xs : List X) → list_all (λ i. holds i.last i.value) (laid size at last xs) ≡ list_all (λ i. holds i.last i.value) (laid size there last xs)
+pub held_anywhere : {X : Type 0} (holds : Option X → X → Bool) (size : X → ℕ) (at there : ℕ) (last : Option X) (xs : List X)
+    → list_all (λ i. holds i.last i.value) (laid size at last xs) ≡ list_all (λ i. holds i.last i.value) (laid size there last xs)
 unfolding laid
 held_anywhere holds size at there last [] = refl
 held_anywhere holds size at there last (x ∷ xs) = ap (λ (b : Bool). holds last x && b) (held_anywhere holds size (at + size x) (there + size x) (Some x) xs)

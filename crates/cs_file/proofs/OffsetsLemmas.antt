@@ -20,7 +20,8 @@ Onward at last os = list_all (λ p. is_onward p.last p.value) (laid (λ o. NUMBE
 
 onward_rest : (at : ℕ) (last : Option ℕ) (o : ℕ) (os : List ℕ) → Onward at last (o ∷ os) → Onward (at + NUMBER_BYTES) (Some o) os
 unfolding laid
-onward_rest at last o os h = (and_parts (is_onward last o) (list_all (λ p. is_onward p.last p.value) (laid (λ o. NUMBER_BYTES) (at + NUMBER_BYTES) (Some o) os)) h).1
+onward_rest at last o os h = (and_parts (is_onward last o)
+    (list_all (λ p. is_onward p.last p.value) (laid (λ o. NUMBER_BYTES) (at + NUMBER_BYTES) (Some o) os)) h).1
 
 onward_first : (at : ℕ) (p o : ℕ) (os : List ℕ) → Onward at (Some p) (o ∷ os) → p ≤ o
 unfolding laid
@@ -31,7 +32,8 @@ onward_first at p o os h =
 pub onward_zero : (at : ℕ) (os : List ℕ) → Onward at None os → 0 < length os → get_or os 0 0 ≡ 0
 unfolding laid
 onward_zero at [] h lt = absurd (omega arith)
-onward_zero at (o ∷ os) h lt = eqb-true _ _ (and_parts (is_onward None o) (list_all (λ p. is_onward p.last p.value) (laid (λ o. NUMBER_BYTES) (at + NUMBER_BYTES) (Some o) os)) h).0
+onward_zero at (o ∷ os) h lt = eqb-true _ _ (and_parts (is_onward None o)
+    (list_all (λ p. is_onward p.last p.value) (laid (λ o. NUMBER_BYTES) (at + NUMBER_BYTES) (Some o) os)) h).0
 
 pub onward_next : (at : ℕ) (last : Option ℕ) (os : List ℕ) (k : ℕ) → Onward at last os → suc k < length os → get_or os k 0 ≤ get_or os (suc k) 0
 onward_next at last [] k h lt = absurd (omega arith)
@@ -56,7 +58,8 @@ onward_end at last os k h lt =
     omega (arith, far, there, same)
 
 -- ---- titles
-pub title_at_index : (os bytes : List ℕ) (d : ℕ) → suc d < length os → get_or (titles_in os bytes) d [] ≡ title_between bytes (get_or os d 0, get_or os (suc d) 0)
+pub title_at_index : (os bytes : List ℕ) (d : ℕ) → suc d < length os
+    → get_or (titles_in os bytes) d [] ≡ title_between bytes (get_or os d 0, get_or os (suc d) 0)
 title_at_index [] bytes d lt = absurd (omega arith)
 title_at_index (o ∷ []) bytes d lt = absurd (omega arith)
 title_at_index (o ∷ p ∷ os) bytes zero lt = refl

@@ -9,7 +9,8 @@
 --   AllRead, read_whole           where all bytes were read, all are below 256
 --   index_is, stands_for          over a store that tells it stands for the bytes
 --   fits_store         and the blocks lie within them
-use Rattle.std.proofs.Common.{◌≡◌, ℕ, ◌+◌, ◌*◌, ◌<◌, ◌≤◌, ◌^◌, List, [], ◌∷◌, ◌++◌, length, take, Option, Some, None, Result, Ok, Err, refl, sym, ap, subst, ◌∙◌, arith}
+use Rattle.std.proofs.Common.{◌≡◌, ℕ, ◌+◌, ◌*◌, ◌<◌, ◌≤◌, ◌^◌, List, [], ◌∷◌, ◌++◌, length, take, Option, Some, None, Result, Ok, Err, refl, sym, ap, subst}
+use Rattle.std.proofs.Common.{◌∙◌, arith}
 use Rattle.std.specs.Prelude.{All, IfErr}
 use Rattle.std.specs.List.{sum_by}
 use Rattle.std.specs.Result.{IsErrAnd}
@@ -28,7 +29,8 @@ use Rattle.cs_file.specs.CallAnswers.{IsDamageOf}
 use Rattle.cs_file.specs.declared.fault.OpenFault.{OpenFault}
 use Rattle.cs_file.specs.declared.fault.OpenFault.TheVariants as opens
 use Rattle.cs_file.specs.Indexes.{IndexView, IsIndex, index_of, StandsFor, HasAllBlocks}
-use Rattle.cs_file.specs.Opening.{Refuses, AreBytes, IsHeader, IsHeaderOf, HasHeader, HasVocabulary, HasOffsets, HasHeads, header_stage, vocabulary_stage, titles_stage, directory_stage, blocks_stage, parting_stage, file_words, offsets_of, heads_of}
+use Rattle.cs_file.specs.Opening.{Refuses, AreBytes, IsHeader, IsHeaderOf, HasHeader, HasVocabulary, HasOffsets, HasHeads, header_stage, vocabulary_stage}
+use Rattle.cs_file.specs.Opening.{titles_stage, directory_stage, blocks_stage, parting_stage, file_words, offsets_of, heads_of}
 use Rattle.cs_file.proofs.BytesLemmas.{more_front, all_bytes}
 use Rattle.cs_file.proofs.HeadsLemmas.{head_shaped}
 use Rattle.cs_file.proofs.StagesLemmas.{refuses_first}
@@ -61,7 +63,8 @@ behind o p e = ap (λ (x : Option Broken). first_reason (x ∷ p ∷ [])) e ∙ 
 abbrev then : Option Broken → Option Broken → Option Broken
 then o p = first_reason (o ∷ p ∷ [])
 
-pub damage_is : (b : List ℕ) → damage b ≡ then (header_stage b) (then (vocabulary_stage b) (then (titles_stage b) (then (directory_stage b) (then (blocks_stage b) (parting_stage b)))))
+pub damage_is : (b : List ℕ) → damage b ≡ then (header_stage b)
+    (then (vocabulary_stage b) (then (titles_stage b) (then (directory_stage b) (then (blocks_stage b) (parting_stage b)))))
 unfolding damage header_stage vocabulary_stage titles_stage directory_stage blocks_stage parting_stage
 damage_is b =
     let r = contents_of b in
@@ -72,7 +75,8 @@ damage_is b =
     let vs = vocabulary_rules r in
     joined (header_rules b (header_of b)) (vs ++ (ts ++ (ds ++ (x ∷ ps))))
     ∙ ap (then (header_stage b)) (joined vs (ts ++ (ds ++ (x ∷ ps)))
-    ∙ ap (then (vocabulary_stage b)) (joined ts (ds ++ (x ∷ ps)) ∙ ap (then (titles_stage b)) (joined ds (x ∷ ps) ∙ ap (then (directory_stage b)) (one_more x ps))))
+    ∙ ap (then (vocabulary_stage b)) (joined ts (ds ++ (x ∷ ps))
+    ∙ ap (then (titles_stage b)) (joined ds (x ∷ ps) ∙ ap (then (directory_stage b)) (one_more x ps))))
 
 -- ---- faults
 along : (b : List ℕ) (e : OpenFault) → Refuses (damage b) e → IsDamageOf b e
@@ -81,19 +85,24 @@ along b opens.Read h = tt
 along b opens.Memory h = tt
 
 -- where the stages before it found no broken rule, the rest is all
-from_vocabulary : (b : List ℕ) → header_stage b ≡ None → damage b ≡ then (vocabulary_stage b) (then (titles_stage b) (then (directory_stage b) (then (blocks_stage b) (parting_stage b))))
+from_vocabulary : (b : List ℕ) → header_stage b ≡ None
+    → damage b ≡ then (vocabulary_stage b) (then (titles_stage b) (then (directory_stage b) (then (blocks_stage b) (parting_stage b))))
 from_vocabulary b p = damage_is b ∙ behind (header_stage b) _ p
 
-from_titles : (b : List ℕ) → header_stage b ≡ None → vocabulary_stage b ≡ None → damage b ≡ then (titles_stage b) (then (directory_stage b) (then (blocks_stage b) (parting_stage b)))
+from_titles : (b : List ℕ) → header_stage b ≡ None → vocabulary_stage b ≡ None
+    → damage b ≡ then (titles_stage b) (then (directory_stage b) (then (blocks_stage b) (parting_stage b)))
 from_titles b p q = from_vocabulary b p ∙ behind (vocabulary_stage b) _ q
 
-from_directory : (b : List ℕ) → header_stage b ≡ None → vocabulary_stage b ≡ None → titles_stage b ≡ None → damage b ≡ then (directory_stage b) (then (blocks_stage b) (parting_stage b))
+from_directory : (b : List ℕ) → header_stage b ≡ None → vocabulary_stage b ≡ None → titles_stage b ≡ None
+    → damage b ≡ then (directory_stage b) (then (blocks_stage b) (parting_stage b))
 from_directory b p q r = from_titles b p q ∙ behind (titles_stage b) _ r
 
-from_blocks : (b : List ℕ) → header_stage b ≡ None → vocabulary_stage b ≡ None → titles_stage b ≡ None → directory_stage b ≡ None → damage b ≡ then (blocks_stage b) (parting_stage b)
+from_blocks : (b : List ℕ) → header_stage b ≡ None → vocabulary_stage b ≡ None → titles_stage b ≡ None → directory_stage b ≡ None
+    → damage b ≡ then (blocks_stage b) (parting_stage b)
 from_blocks b p q r s = from_directory b p q r ∙ behind (directory_stage b) _ s
 
-from_parting : (b : List ℕ) → header_stage b ≡ None → vocabulary_stage b ≡ None → titles_stage b ≡ None → directory_stage b ≡ None → blocks_stage b ≡ None → damage b ≡ parting_stage b
+from_parting : (b : List ℕ) → header_stage b ≡ None → vocabulary_stage b ≡ None → titles_stage b ≡ None → directory_stage b ≡ None → blocks_stage b ≡ None
+    → damage b ≡ parting_stage b
 from_parting b p q r s t = from_blocks b p q r s ∙ behind (blocks_stage b) _ t
 
 -- the fault of the first of two
@@ -109,13 +118,16 @@ in_vocabulary b e p h = first_of b (vocabulary_stage b) _ e (from_vocabulary b p
 pub in_titles : (b : List ℕ) (e : OpenFault) → header_stage b ≡ None → vocabulary_stage b ≡ None → Refuses (titles_stage b) e → IsDamageOf b e
 in_titles b e p q h = first_of b (titles_stage b) _ e (from_titles b p q) h
 
-pub in_directory : (b : List ℕ) (e : OpenFault) → header_stage b ≡ None → vocabulary_stage b ≡ None → titles_stage b ≡ None → Refuses (directory_stage b) e → IsDamageOf b e
+pub in_directory : (b : List ℕ) (e : OpenFault) → header_stage b ≡ None → vocabulary_stage b ≡ None → titles_stage b ≡ None → Refuses (directory_stage b) e
+    → IsDamageOf b e
 in_directory b e p q r h = first_of b (directory_stage b) _ e (from_directory b p q r) h
 
-pub in_blocks : (b : List ℕ) (e : OpenFault) → header_stage b ≡ None → vocabulary_stage b ≡ None → titles_stage b ≡ None → directory_stage b ≡ None → Refuses (blocks_stage b) e → IsDamageOf b e
+pub in_blocks : (b : List ℕ) (e : OpenFault) → header_stage b ≡ None → vocabulary_stage b ≡ None → titles_stage b ≡ None → directory_stage b ≡ None
+    → Refuses (blocks_stage b) e → IsDamageOf b e
 in_blocks b e p q r s h = first_of b (blocks_stage b) _ e (from_blocks b p q r s) h
 
-pub in_parting : (b : List ℕ) (e : OpenFault) → header_stage b ≡ None → vocabulary_stage b ≡ None → titles_stage b ≡ None → directory_stage b ≡ None → blocks_stage b ≡ None → Refuses (parting_stage b) e → IsDamageOf b e
+pub in_parting : (b : List ℕ) (e : OpenFault) → header_stage b ≡ None → vocabulary_stage b ≡ None → titles_stage b ≡ None → directory_stage b ≡ None
+    → blocks_stage b ≡ None → Refuses (parting_stage b) e → IsDamageOf b e
 in_parting b e p q r s t h = along b e (subst (λ (x : Option Broken). Refuses x e) (sym (from_parting b p q r s t)) h)
 
 pub damaged_along : {T : Type 0} (b : List ℕ) (e : OpenFault) (r : Result T OpenFault) → IsDamageOf b e → IsErrAnd r (λ x. x ≡ e) → IfErr r (IsDamageOf b)
@@ -155,7 +167,18 @@ index_kept h i k = record {
   few_rows = omega (arith, k.heads.rows, k.header.rows);
   titles_place = omega (arith, k.titles_place, k.words.len, k.docs);
   blocks_place = omega (arith, k.titles_place, k.blocks_place, k.offsets.end, k.heads.count);
-  small = omega (arith, k.blocks_place, k.header.docs, k.header.words, k.header.blocks, k.header.vocabulary, k.header.titles, k.header.postings, k.heads.bytes, all_lens i);
+  small = omega (
+    arith,
+    k.blocks_place,
+    k.header.docs,
+    k.header.words,
+    k.header.blocks,
+    k.header.vocabulary,
+    k.header.titles,
+    k.header.postings,
+    k.heads.bytes,
+    all_lens i,
+  );
 }
 
 -- ---- the heads
@@ -163,10 +186,12 @@ index_kept h i k = record {
 abbrev view_of : Header → List (List ℕ) → List ℕ → List BlockHead → IndexView
 view_of h ws os hs = record { docs = h.docs; words = ws; offsets = os; heads = hs; target = h.target; titles_at = titles_at h; blocks_at = blocks_at h }
 
-pub kept_view : (h : Header) (ws : List (List ℕ)) (os : List ℕ) (hs : List BlockHead) → IsHeader h → HasVocabulary h ws → HasOffsets h os → HasHeads h ws hs → Kept h (view_of h ws os hs)
+pub kept_view : (h : Header) (ws : List (List ℕ)) (os : List ℕ) (hs : List BlockHead) → IsHeader h → HasVocabulary h ws → HasOffsets h os → HasHeads h ws hs
+    → Kept h (view_of h ws os hs)
 kept_view h ws os hs a b c d = record { header = a; words = b; offsets = c; heads = d; docs = refl; target = refl; titles_place = refl; blocks_place = refl }
 
-pub shaped_heads : (h : Header) (ws : List (List ℕ)) (os : List ℕ) (hs : List BlockHead) → IsHeader h → HasVocabulary h ws → HasOffsets h os → HasHeads h ws hs → All (λ x. IsShaped x x.len) hs
+pub shaped_heads : (h : Header) (ws : List (List ℕ)) (os : List ℕ) (hs : List BlockHead) → IsHeader h → HasVocabulary h ws → HasOffsets h os
+    → HasHeads h ws hs → All (λ x. IsShaped x x.len) hs
 shaped_heads h ws os hs a b c d = head_shaped (view_of h ws os hs) (index_kept h (view_of h ws os hs) (kept_view h ws os hs a b c d))
 
 pub few_rows : (h : Header) (ws : List (List ℕ)) (hs : List BlockHead) → IsHeader h → HasHeads h ws hs → All (λ x. x.rows ≤ MAX_ROWS) hs
@@ -195,18 +220,24 @@ read_whole b h is r =
     all_bytes b (size_by h) is.size (more_front b (blocks_at h) h.blocks_len four r.blocks)
 
 -- ---- the index of bytes
-same_index : (docs docs' target target' t t' p p' : ℕ) (ws ws' : List (List ℕ)) (os os' : List ℕ) (hs hs' : List BlockHead) → docs ≡ docs' → ws ≡ ws' → os ≡ os' → hs ≡ hs' → target ≡ target' → t ≡ t' → p ≡ p'
-    → let x : IndexView = record { docs = docs; words = ws; offsets = os; heads = hs; target = target; titles_at = t; blocks_at = p } in let y : IndexView = record { docs = docs'; words = ws'; offsets = os'; heads = hs'; target = target'; titles_at = t'; blocks_at = p' } in x ≡ y
+same_index : (docs docs' target target' t t' p p' : ℕ) (ws ws' : List (List ℕ)) (os os' : List ℕ) (hs hs' : List BlockHead) → docs ≡ docs' → ws ≡ ws'
+    → os ≡ os' → hs ≡ hs' → target ≡ target' → t ≡ t' → p ≡ p'
+    → let x : IndexView = record { docs = docs; words = ws; offsets = os; heads = hs; target = target; titles_at = t; blocks_at = p } in let y : IndexView =
+    record { docs = docs'; words = ws'; offsets = os'; heads = hs'; target = target'; titles_at = t'; blocks_at = p' } in x ≡ y
 same_index docs docs' target target' t t' p p' ws ws' os os' hs hs' a b c d e f g = rw (a, b, c, d, e, f, g) refl
 
-pub index_is : (b : List ℕ) (h : Header) (i : IndexView) → IsHeaderOf b h → i.docs ≡ h.docs → i.words ≡ file_words b → i.offsets ≡ offsets_of b → i.heads ≡ heads_of b → i.target ≡ h.target → i.titles_at ≡ titles_at h → i.blocks_at ≡ blocks_at h → i ≡ index_of b
+pub index_is : (b : List ℕ) (h : Header) (i : IndexView) → IsHeaderOf b h → i.docs ≡ h.docs → i.words ≡ file_words b → i.offsets ≡ offsets_of b
+    → i.heads ≡ heads_of b → i.target ≡ h.target → i.titles_at ≡ titles_at h → i.blocks_at ≡ blocks_at h → i ≡ index_of b
 unfolding index_of file_words offsets_of heads_of
 index_is b h i is docs words offsets heads target titles blocks =
     let back : h ≡ header_of b = sym is.numbers in
-    same_index i.docs (header_of b).docs i.target (header_of b).target i.titles_at (titles_at (header_of b)) i.blocks_at (blocks_at (header_of b)) i.words _ i.offsets _ i.heads _
-    (docs ∙ ap (λ (x : Header). x.docs) back) words offsets heads (target ∙ ap (λ (x : Header). x.target) back) (titles ∙ ap titles_at back) (blocks ∙ ap blocks_at back)
+    same_index i.docs (header_of b).docs i.target (header_of b).target i.titles_at (titles_at (header_of b)) i.blocks_at (blocks_at (header_of b)) i.words _
+    i.offsets _ i.heads _
+    (docs ∙ ap (λ (x : Header). x.docs) back) words offsets heads (target ∙ ap (λ (x : Header). x.target) back) (titles ∙ ap titles_at back)
+    (blocks ∙ ap blocks_at back)
 
-pub stands_for : (b : List ℕ) (h : Header) (i : IndexView) → IsHeaderOf b h → AllRead b h → header_stage b ≡ None → vocabulary_stage b ≡ None → titles_stage b ≡ None → directory_stage b ≡ None → blocks_stage b ≡ None → parting_stage b ≡ None → i ≡ index_of b → StandsFor b i
+pub stands_for : (b : List ℕ) (h : Header) (i : IndexView) → IsHeaderOf b h → AllRead b h → header_stage b ≡ None → vocabulary_stage b ≡ None
+    → titles_stage b ≡ None → directory_stage b ≡ None → blocks_stage b ≡ None → parting_stage b ≡ None → i ≡ index_of b → StandsFor b i
 stands_for b h i is read p q r s t u same = record {
   bytes = read_whole b h is read;
   accepted = from_parting b p q r s t ∙ u;

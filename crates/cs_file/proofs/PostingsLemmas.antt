@@ -6,7 +6,8 @@
 --   reading, reads_on, read_refused, read_all       its steps
 --   at_next, at_within   the place of a block
 --   block_bytes_on, block_bytes_all      the bytes of the blocks
-use Rattle.std.proofs.Common.{◌≡◌, ℕ, zero, suc, ◌+◌, ◌<◌, ◌≤◌, ◌^◌, List, [], ◌∷◌, ◌++◌, length, get_or, drop, map, Option, Some, None, refl, sym, ap, subst, ◌∙◌, arith, drop-drop}
+use Rattle.std.proofs.Common.{◌≡◌, ℕ, zero, suc, ◌+◌, ◌<◌, ◌≤◌, ◌^◌, List, [], ◌∷◌, ◌++◌, length, get_or, drop, map, Option, Some, None, refl, sym, ap, subst}
+use Rattle.std.proofs.Common.{◌∙◌, arith, drop-drop}
 use Rattle.std.specs.Prelude.{All, count_by, ◌==◌}
 use Rattle.std.specs.List.{sum_by, list_all, list_any, range_with_len}
 use Rattle.std.specs.Option.{option_map, option_or}
@@ -36,7 +37,8 @@ use Rattle.cs_file.proofs.StagesLemmas.{refuses_at}
 use Rattle.cs_file.proofs.StoodLemmas.{blocks_start, block_from}
 
 -- ---- one block
-pub read_rows : (head : BlockHead) (docs : ℕ) (rows : List Post) (bytes : List ℕ) → docs < 2 ^ 32 → IsShaped head (length bytes) → IsBlock SCORES head docs rows bytes → rows ≡ rows_read head bytes
+pub read_rows : (head : BlockHead) (docs : ℕ) (rows : List Post) (bytes : List ℕ) → docs < 2 ^ 32 → IsShaped head (length bytes)
+    → IsBlock SCORES head docs rows bytes → rows ≡ rows_read head bytes
 read_rows head docs rows bytes few shaped block = sym (unique head docs rows bytes few shaped block).1
 
 -- the posts that decoding added to none, and their words
@@ -44,24 +46,31 @@ pub record Decoded (head : BlockHead) (docs : ℕ) (bytes : List ℕ) (posts : L
   pub block : IsBlock SCORES head docs posts bytes
   pub words_are : words ≡ map (λ p. p.word) posts
 
-pub decoded : (head : BlockHead) (docs : ℕ) (bytes : List ℕ) (rows old posts : List Post) (words : List ℕ) → old ≡ [] → IsBlock SCORES head docs rows bytes → posts ≡ old ++ rows → words ≡ map (λ p. p.word) posts → Decoded head docs bytes posts words
+pub decoded : (head : BlockHead) (docs : ℕ) (bytes : List ℕ) (rows old posts : List Post) (words : List ℕ) → old ≡ [] → IsBlock SCORES head docs rows bytes
+    → posts ≡ old ++ rows → words ≡ map (λ p. p.word) posts → Decoded head docs bytes posts words
 decoded head docs bytes rows old posts words none block added are =
     let same : posts ≡ rows = added ∙ ap (λ (x : List Post). x ++ rows) none in
     record { block = subst (λ (x : List Post). IsBlock SCORES head docs x bytes) (sym same) block; words_are = are }
 
-pub decoded_few : (head : BlockHead) (docs : ℕ) (bytes : List ℕ) (posts : List Post) (words : List ℕ) → Decoded head docs bytes posts words → length words ≡ head.rows
+pub decoded_few : (head : BlockHead) (docs : ℕ) (bytes : List ℕ) (posts : List Post) (words : List ℕ) → Decoded head docs bytes posts words
+    → length words ≡ head.rows
 decoded_few head docs bytes posts words d = ap length d.words_are ∙ length-map posts (λ p. p.word) ∙ d.block.count
 
-pub decoded_within : (head : BlockHead) (docs : ℕ) (bytes : List ℕ) (posts : List Post) (words : List ℕ) → Decoded head docs bytes posts words → All (λ w. (head.lo ≤ w) × (w < head.lo + head.words)) words
+pub decoded_within : (head : BlockHead) (docs : ℕ) (bytes : List ℕ) (posts : List Post) (words : List ℕ) → Decoded head docs bytes posts words
+    → All (λ w. (head.lo ≤ w) × (w < head.lo + head.words)) words
 decoded_within head docs bytes posts words d =
-    subst (λ (ws : List ℕ). All (λ w. (head.lo ≤ w) × (w < head.lo + head.words)) ws) (sym d.words_are) (All-map (λ w. (head.lo ≤ w) × (w < head.lo + head.words)) (λ p. p.word) posts (block_words head docs posts bytes d.block))
+    subst (λ (ws : List ℕ). All (λ w. (head.lo ≤ w) × (w < head.lo + head.words)) ws) (sym d.words_are)
+    (All-map (λ w. (head.lo ≤ w) × (w < head.lo + head.words)) (λ p. p.word) posts (block_words head docs posts bytes d.block))
 
-pub part_is : (head : BlockHead) (docs : ℕ) (bytes : List ℕ) (posts : List Post) (words : List ℕ) (p : BlockPart) → docs < 2 ^ 32 → IsShaped head (length bytes) → Decoded head docs bytes posts words → p.head ≡ head
-    → p.whole ≡ list_all (λ n. list_any (λ w. w == n) words) (range_with_len head.lo head.words) → p.first ≡ count_by (λ w. w == head.lo) words → p ≡ part_by head (rows_read head bytes)
+pub part_is : (head : BlockHead) (docs : ℕ) (bytes : List ℕ) (posts : List Post) (words : List ℕ) (p : BlockPart) → docs < 2 ^ 32
+    → IsShaped head (length bytes) → Decoded head docs bytes posts words → p.head ≡ head
+    → p.whole ≡ list_all (λ n. list_any (λ w. w == n) words) (range_with_len head.lo head.words) → p.first ≡ count_by (λ w. w == head.lo) words
+    → p ≡ part_by head (rows_read head bytes)
 part_is head docs bytes posts words p few shaped d h w f =
     let rows : posts ≡ rows_read head bytes = read_rows head docs posts bytes few shaped d.block in
     let whole : p.whole ≡ list_all (λ n. list_any (λ post. post.word == n) posts) (range_with_len head.lo head.words) =
-    w ∙ ap (λ (ws : List ℕ). list_all (λ n. list_any (λ w. w == n) ws) (range_with_len head.lo head.words)) d.words_are ∙ any_posts posts (range_with_len head.lo head.words) in
+    w ∙ ap (λ (ws : List ℕ). list_all (λ n. list_any (λ w. w == n) ws) (range_with_len head.lo head.words)) d.words_are
+    ∙ any_posts posts (range_with_len head.lo head.words) in
     let first : p.first ≡ count_by (λ post. post.word == head.lo) posts = f ∙ ap (count_by (λ w. w == head.lo)) d.words_are ∙ count_posts head.lo posts in
     same_part p (part_by head posts) h whole first ∙ ap (part_by head) rows
   where
@@ -82,11 +91,14 @@ pub record BlocksRead (b : List ℕ) (h : Header) (heads : List BlockHead) (i at
   pub told : blocks_break h.docs at (drop i heads) (drop at b) ≡ blocks_stage b
   pub parts_are : parts ++ parts_by (drop i heads) (blocks_in (drop i heads) (drop at b)) ≡ parts_by heads (blocks_of b)
 
-pub reading : (b : List ℕ) (h : Header) (heads : List BlockHead) (at : ℕ) (parts : List BlockPart) → IsHeaderOf b h → heads ≡ heads_of b → at ≡ blocks_at h → parts ≡ [] → BlocksRead b h heads 0 at parts
+pub reading : (b : List ℕ) (h : Header) (heads : List BlockHead) (at : ℕ) (parts : List BlockPart) → IsHeaderOf b h → heads ≡ heads_of b → at ≡ blocks_at h
+    → parts ≡ [] → BlocksRead b h heads 0 at parts
 reading b h heads at parts is own place none = record {
-  told = ap (λ (n : ℕ). blocks_break h.docs n heads (drop n b)) place ∙ ap (λ (x : List BlockHead). blocks_break h.docs (blocks_at h) x (drop (blocks_at h) b)) own
+  told = ap (λ (n : ℕ). blocks_break h.docs n heads (drop n b)) place
+      ∙ ap (λ (x : List BlockHead). blocks_break h.docs (blocks_at h) x (drop (blocks_at h) b)) own
       ∙ ap (λ (x : Header). blocks_break x.docs (blocks_at x) (heads_of b) (drop (blocks_at x) b)) (sym is.numbers) ∙ sym (own_stage b);
-  parts_are = ap (λ (x : List BlockPart). x ++ parts_by heads (blocks_in heads (drop at b))) none ∙ ap (λ (n : ℕ). parts_by heads (blocks_in heads (drop n b))) place
+  parts_are = ap (λ (x : List BlockPart). x ++ parts_by heads (blocks_in heads (drop at b))) none
+      ∙ ap (λ (n : ℕ). parts_by heads (blocks_in heads (drop n b))) place
       ∙ ap (λ (x : List BlockHead). parts_by heads (blocks_in x (drop (blocks_at h) b))) own
       ∙ ap (λ (x : Header). parts_by heads (blocks_in (heads_of b) (drop (blocks_at x) b))) (sym is.numbers) ∙ ap (parts_by heads) (sym (own_blocks b));
 }
@@ -100,9 +112,11 @@ head_first heads i lt = let one : i + 1 ≡ suc i = omega arith in behind heads 
     behind (x ∷ hs) (suc i) lt = behind hs i (omega arith)
 
 break_first : (docs at : ℕ) (x : BlockHead) (hs : List BlockHead) (b : List ℕ)
-    → blocks_break docs at (x ∷ hs) (drop at b) ≡ option_or (option_map (in_file at) (judged SCORES x docs (part b at x.len))) (blocks_break docs (at + x.len) hs (drop (at + x.len) b))
+    → blocks_break docs at (x ∷ hs) (drop at b) ≡ option_or (option_map (in_file at) (judged SCORES x docs (part b at x.len)))
+    (blocks_break docs (at + x.len) hs (drop (at + x.len) b))
 unfolding blocks_break
-break_first docs at x hs b = ap (λ (y : List ℕ). option_or (option_map (in_file at) (judged SCORES x docs (part b at x.len))) (blocks_break docs (at + x.len) hs y)) (drop-drop x.len at b)
+break_first docs at x hs b = ap (λ (y : List ℕ). option_or (option_map (in_file at) (judged SCORES x docs (part b at x.len)))
+    (blocks_break docs (at + x.len) hs y)) (drop-drop x.len at b)
 
 parts_first : (at : ℕ) (x : BlockHead) (hs : List BlockHead) (b : List ℕ)
     → parts_by (x ∷ hs) (blocks_in (x ∷ hs) (drop at b)) ≡ part_by x (rows_read x (part b at x.len)) ∷ parts_by hs (blocks_in hs (drop (at + x.len) b))
@@ -118,23 +132,28 @@ reads_on b h heads i at parts now p lt fine is added r =
     let hs = drop (i + 1) heads in
     let rest = parts_by hs (blocks_in hs (drop (at + x.len) b)) in
     let here : parts_by (drop i heads) (blocks_in (drop i heads) (drop at b)) ≡ p ∷ rest =
-    ap (λ (y : List BlockHead). parts_by y (blocks_in y (drop at b))) (head_first heads i lt) ∙ parts_first at x hs b ∙ ap (λ (q : BlockPart). q ∷ rest) (sym is) in
+    ap (λ (y : List BlockHead). parts_by y (blocks_in y (drop at b))) (head_first heads i lt) ∙ parts_first at x hs b
+    ∙ ap (λ (q : BlockPart). q ∷ rest) (sym is) in
     record {
-      told = ap (λ (o : Option Broken). option_or o (blocks_break h.docs (at + x.len) hs (drop (at + x.len) b))) (sym fine) ∙ sym (break_first h.docs at x hs b) ∙ ap (λ (y : List BlockHead). blocks_break h.docs at y (drop at b)) (sym (head_first heads i lt)) ∙ r.told;
-      parts_are = ap (λ (y : List BlockPart). y ++ rest) added ∙ append_assoc parts (p ∷ []) rest ∙ ap (λ (y : List BlockPart). parts ++ y) (sym here) ∙ r.parts_are;
+      told = ap (λ (o : Option Broken). option_or o (blocks_break h.docs (at + x.len) hs (drop (at + x.len) b))) (sym fine)
+          ∙ sym (break_first h.docs at x hs b) ∙ ap (λ (y : List BlockHead). blocks_break h.docs at y (drop at b)) (sym (head_first heads i lt)) ∙ r.told;
+      parts_are = ap (λ (y : List BlockPart). y ++ rest) added ∙ append_assoc parts (p ∷ []) rest ∙ ap (λ (y : List BlockPart). parts ++ y) (sym here)
+          ∙ r.parts_are;
     }
 
 or_some : (o p : Option Broken) (x : Broken) → o ≡ Some x → option_or o p ≡ Some x
 or_some o p x e = ap (λ (y : Option Broken). option_or y p) e
 
 pub read_refused : (b : List ℕ) (h : Header) (heads : List BlockHead) (i at : ℕ) (parts : List BlockPart) (e : OpenFault) → i < length heads
-    → Refuses (option_map (in_file at) (judged SCORES (get_or heads i nothing) h.docs (part b at (get_or heads i nothing).len))) e → BlocksRead b h heads i at parts → Refuses (blocks_stage b) e
+    → Refuses (option_map (in_file at) (judged SCORES (get_or heads i nothing) h.docs (part b at (get_or heads i nothing).len))) e
+    → BlocksRead b h heads i at parts → Refuses (blocks_stage b) e
 read_refused b h heads i at parts e lt refused r =
     let x = get_or heads i nothing in
     let hs = drop (i + 1) heads in
     let found = option_map (in_file at) (judged SCORES x h.docs (part b at x.len)) in
     let later = blocks_break h.docs (at + x.len) hs (drop (at + x.len) b) in
-    let stage : blocks_stage b ≡ option_or found later = sym r.told ∙ ap (λ (y : List BlockHead). blocks_break h.docs at y (drop at b)) (head_first heads i lt) ∙ break_first h.docs at x hs b in
+    let stage : blocks_stage b ≡ option_or found later = sym r.told
+    ∙ ap (λ (y : List BlockHead). blocks_break h.docs at y (drop at b)) (head_first heads i lt) ∙ break_first h.docs at x hs b in
     refuses_at found (blocks_stage b) e (λ y s. stage ∙ or_some found later y s) refused
 
 nothing_left : (heads : List BlockHead) (i : ℕ) → length heads ≤ i → drop i heads ≡ []
@@ -151,26 +170,34 @@ no_parts : (bytes : List ℕ) → parts_by [] (blocks_in [] bytes) ≡ []
 unfolding parts_by blocks_in
 no_parts bytes = refl
 
-pub read_all : (b : List ℕ) (h : Header) (heads : List BlockHead) (i at : ℕ) (parts : List BlockPart) → length heads ≤ i → BlocksRead b h heads i at parts → (blocks_stage b ≡ None) × (parts ≡ parts_by heads (blocks_of b))
+pub read_all : (b : List ℕ) (h : Header) (heads : List BlockHead) (i at : ℕ) (parts : List BlockPart) → length heads ≤ i → BlocksRead b h heads i at parts
+    → (blocks_stage b ≡ None) × (parts ≡ parts_by heads (blocks_of b))
 read_all b h heads i at parts le r =
     let end = nothing_left heads i le in (
       sym r.told ∙ ap (λ (y : List BlockHead). blocks_break h.docs at y (drop at b)) end ∙ no_break h.docs at (drop at b),
-      sym (append-nil parts) ∙ ap (λ (y : List BlockPart). parts ++ y) (sym (no_parts (drop at b))) ∙ ap (λ (y : List BlockHead). parts ++ parts_by y (blocks_in y (drop at b))) (sym end) ∙ r.parts_are,
+      sym (append-nil parts) ∙ ap (λ (y : List BlockPart). parts ++ y) (sym (no_parts (drop at b)))
+          ∙ ap (λ (y : List BlockHead). parts ++ parts_by y (blocks_in y (drop at b))) (sym end) ∙ r.parts_are,
     )
 
 -- the place of the next block, and that of the first one's end
-pub at_next : (heads : List BlockHead) (first i at : ℕ) → i < length heads → at ≡ first + block_from heads i → at + (get_or heads i nothing).len ≡ first + block_from heads (i + 1)
+pub at_next : (heads : List BlockHead) (first i at : ℕ) → i < length heads → at ≡ first + block_from heads i
+    → at + (get_or heads i nothing).len ≡ first + block_from heads (i + 1)
 at_next heads first i at lt is = let more = sum_by_more (λ (h : BlockHead). h.len) heads i nothing lt in omega (arith, is, more)
 
-pub at_within : (heads : List BlockHead) (first i at : ℕ) → i < length heads → at ≡ first + block_from heads i → at + (get_or heads i nothing).len ≤ first + sum_by (λ h. h.len) heads
+pub at_within : (heads : List BlockHead) (first i at : ℕ) → i < length heads → at ≡ first + block_from heads i
+    → at + (get_or heads i nothing).len ≤ first + sum_by (λ h. h.len) heads
 at_within heads first i at lt is = let more = sum_by_more_le (λ (h : BlockHead). h.len) heads i nothing lt in omega (arith, is, more)
 
 -- ---- the bytes of the blocks
-pub block_bytes_on : (b : List ℕ) (heads : List BlockHead) (first i at : ℕ) → i < length heads → at ≡ first + block_from heads i → AreBytes b first (block_from heads i) → AreBytes b at (get_or heads i nothing).len → AreBytes b first (block_from heads (i + 1))
+pub block_bytes_on : (b : List ℕ) (heads : List BlockHead) (first i at : ℕ) → i < length heads → at ≡ first + block_from heads i
+    → AreBytes b first (block_from heads i) → AreBytes b at (get_or heads i nothing).len → AreBytes b first (block_from heads (i + 1))
 block_bytes_on b heads first i at lt is done here =
     let more = sum_by_more (λ (h : BlockHead). h.len) heads i nothing lt in
     bytes_at b first first (block_from heads i + (get_or heads i nothing).len) (block_from heads (i + 1)) refl (sym more)
-    (more_bytes b first (block_from heads i) (get_or heads i nothing).len done (bytes_at b at (first + block_from heads i) (get_or heads i nothing).len (get_or heads i nothing).len is refl here))
+    (more_bytes b first (block_from heads i) (get_or heads i nothing).len done
+    (bytes_at b at (first + block_from heads i) (get_or heads i nothing).len (get_or heads i nothing).len is refl here))
 
-pub block_bytes_all : (b : List ℕ) (heads : List BlockHead) (first i len : ℕ) → length heads ≤ i → sum_by (λ h. h.len) heads ≡ len → AreBytes b first (block_from heads i) → AreBytes b first len
-block_bytes_all b heads first i len le sum done = bytes_at b first first (block_from heads i) len refl (ap (sum_by (λ h. h.len)) (take_all i heads le) ∙ sum) done
+pub block_bytes_all : (b : List ℕ) (heads : List BlockHead) (first i len : ℕ) → length heads ≤ i → sum_by (λ h. h.len) heads ≡ len
+    → AreBytes b first (block_from heads i) → AreBytes b first len
+block_bytes_all b heads first i len le sum done =
+    bytes_at b first first (block_from heads i) len refl (ap (sum_by (λ h. h.len)) (take_all i heads le) ∙ sum) done

@@ -6,7 +6,8 @@
 --   posts_between          the posts of all blocks that have such words are those of the blocks met
 --   posts_known            each post of the image has a word of the vocabulary and a document below the index's
 --   rows_between           the rows whose words begin with a text are those of the words' numbers
-use Rattle.std.proofs.Common.{◌≡◌, ℕ, suc, ◌+◌, ◌-◌, ◌<◌, ◌≤◌, ◌&&◌, Bool, true, false, true≢false, cond, List, [], ◌∷◌, ◌++◌, length, get_or, take, drop, Option, Some, None, refl, sym, ap, ◌∙◌, arith, length-take, length-drop, take-append-drop, get_or-drop, get_or-take}
+use Rattle.std.proofs.Common.{◌≡◌, ℕ, suc, ◌+◌, ◌-◌, ◌<◌, ◌≤◌, ◌&&◌, Bool, true, false, true≢false, cond, List, [], ◌∷◌, ◌++◌, length, get_or, take, drop}
+use Rattle.std.proofs.Common.{Option, Some, None, refl, sym, ap, ◌∙◌, arith, length-take, length-drop, take-append-drop, get_or-drop, get_or-take}
 use Rattle.std.specs.Prelude.{All, filter, flat_map, nat_le, nat_lt}
 use Rattle.std.proofs.lemmas.Bool.{and_parts, and_from, leb-true, ltb-true, lt-ltb, false_from_ne_true}
 use Rattle.std.proofs.lemmas.Grind.{flat_map-append}
@@ -26,7 +27,8 @@ use Rattle.cs_file.proofs.HeadsLemmas.{head_within}
 use Rattle.cs_file.proofs.StoodLemmas.{stood, stood_count, stood_block}
 
 -- ---- the posts of a block
-kept_all : (holds : Option Post → Post → Bool) (P : Post → Type 0) → ((last : Option Post) (r : Post) → holds last r ≡ true → P r) → (last : Option Post) (rs : List Post) → keeps holds last rs ≡ true → All P rs
+kept_all : (holds : Option Post → Post → Bool) (P : Post → Type 0) → ((last : Option Post) (r : Post) → holds last r ≡ true → P r)
+    → (last : Option Post) (rs : List Post) → keeps holds last rs ≡ true → All P rs
 unfolding keeps
 kept_all holds P f last [] e = All-nil P
 kept_all holds P f last (r ∷ rs) e =
@@ -36,12 +38,14 @@ kept_all holds P f last (r ∷ rs) e =
 pub block_docs : (h : BlockHead) (docs : ℕ) (rs : List Post) (bytes : List ℕ) → IsBlock SCORES h docs rs bytes → All (λ p. p.doc < docs) rs
 block_docs h docs rs bytes b = kept_all (in_docs docs).holds (λ p. p.doc < docs) (λ last r e. ltb-true _ _ e) None rs b.meets.0
 
-pub block_words : (h : BlockHead) (docs : ℕ) (rs : List Post) (bytes : List ℕ) → IsBlock SCORES h docs rs bytes → All (λ p. (h.lo ≤ p.word) × (p.word < h.lo + h.words)) rs
+pub block_words : (h : BlockHead) (docs : ℕ) (rs : List Post) (bytes : List ℕ) → IsBlock SCORES h docs rs bytes
+    → All (λ p. (h.lo ≤ p.word) × (p.word < h.lo + h.words)) rs
 block_words h docs rs bytes b =
     let below = kept_all (in_words h).holds (λ p. p.word < h.lo + h.words) (λ last r e. ltb-true _ _ e) None rs b.meets.1.0 in
     λ k d lt. ((b.writable.words k d lt).0, below k d lt)
 
-pub block_scored : (h : BlockHead) (docs : ℕ) (rs : List Post) (bytes : List ℕ) → IsBlock SCORES h docs rs bytes → All (λ p. is_scored SCORES h.facet p ≡ true) rs
+pub block_scored : (h : BlockHead) (docs : ℕ) (rs : List Post) (bytes : List ℕ) → IsBlock SCORES h docs rs bytes
+    → All (λ p. is_scored SCORES h.facet p ≡ true) rs
 block_scored h docs rs bytes b = kept_all (in_kind SCORES h).holds (λ p. is_scored SCORES h.facet p ≡ true) (λ last r e. e) None rs b.meets.1.1.0
 
 -- ---- the posts of some words
@@ -80,11 +84,14 @@ flat_cut f bs first last up within h =
     let there : get_or (take first bs) k [] ≡ get_or bs k [] = get_or-take first bs k [] early in
     ap f there ∙ h k (omega (arith, l1, lt)) (ap (λ (x : Bool). x && nat_lt k last) (lt-leb' k first early))) in
     let back : flat_map f behind ≡ [] = flat_none f behind (λ k lt.
-    let there : get_or behind k [] ≡ get_or bs (first + (last - first + k)) [] = get_or-drop (last - first) rest k [] ∙ get_or-drop first bs (last - first + k) [] in
+    let there : get_or behind k [] ≡ get_or bs (first + (last - first + k)) [] = get_or-drop (last - first) rest k []
+    ∙ get_or-drop first bs (last - first + k) [] in
     let late : last ≤ first + (last - first + k) = omega (arith, up) in
-    ap f there ∙ h (first + (last - first + k)) (omega (arith, l2, l3, lt, up)) (ap (λ (x : Bool). nat_le first (first + (last - first + k)) && x) (le-ltb' _ _ late) ∙ and_right (nat_le first (first + (last - first + k))))) in
+    ap f there ∙ h (first + (last - first + k)) (omega (arith, l2, l3, lt, up))
+    (ap (λ (x : Bool). nat_le first (first + (last - first + k)) && x) (le-ltb' _ _ late) ∙ and_right (nat_le first (first + (last - first + k))))) in
     ap (flat_map f) (sym (take-append-drop first bs)) ∙ flat_map-append f (take first bs) rest ∙ ap (λ (x : List Post). x ++ flat_map f rest) front
-    ∙ ap (flat_map f) (sym (take-append-drop (last - first) rest)) ∙ flat_map-append f met behind ∙ ap (λ (x : List Post). flat_map f met ++ x) back ∙ append-nil (flat_map f met)
+    ∙ ap (flat_map f) (sym (take-append-drop (last - first) rest)) ∙ flat_map-append f met behind ∙ ap (λ (x : List Post). flat_map f met ++ x) back
+    ∙ append-nil (flat_map f met)
   where
     lt-leb' : (k n : ℕ) → k < n → nat_le n k ≡ false
     lt-leb' k n lt = false_from_ne_true _ (λ e. let le = leb-true _ _ e in omega (arith, lt, le))
@@ -102,7 +109,8 @@ met_by lo hi h p from to none = false_from_ne_true _ (λ e.
     let q = and_parts (nat_le lo p.word) (nat_lt p.word hi) e in
     let a = leb-true _ _ q.0 in
     let b = ltb-true _ _ q.1 in
-    let met : is_met lo hi h ≡ true = and_from _ _ (lt-ltb lo (h.lo + h.words) (omega (arith, a, to))) (and_from _ _ (lt-ltb h.lo hi (omega (arith, b, from))) (lt-ltb lo hi (omega (arith, a, b)))) in
+    let met : is_met lo hi h ≡ true = and_from _ _ (lt-ltb lo (h.lo + h.words) (omega (arith, a, to)))
+    (and_from _ _ (lt-ltb h.lo hi (omega (arith, b, from))) (lt-ltb lo hi (omega (arith, a, b)))) in
     true≢false (sym met ∙ none))
 
 pub posts_between : (b : List ℕ) (i : IndexView) → StandsFor b i → IsIndex i → (lo hi first last : ℕ) → AreMet i.heads lo hi first last
@@ -137,13 +145,15 @@ posts_known b i s is =
     let to = head_within i is k none lt' in
     λ j d l. (omega (arith, (words j d l).1, to), docs j d l))
 
-filter_rows : (ws : List (List ℕ)) (p : List ℕ) (t : Post → Bool) (posts : List Post) → All (λ q. begins p (row_of ws q).word ≡ t q) posts → filter (λ r. begins p r.word) (rows_at ws posts) ≡ rows_at ws (filter t posts)
+filter_rows : (ws : List (List ℕ)) (p : List ℕ) (t : Post → Bool) (posts : List Post) → All (λ q. begins p (row_of ws q).word ≡ t q) posts
+    → filter (λ r. begins p r.word) (rows_at ws posts) ≡ rows_at ws (filter t posts)
 filter_rows ws p t [] all = refl
 filter_rows ws p t (q ∷ posts) all =
     let rest = filter_rows ws p t posts (All-tail (λ q. begins p (row_of ws q).word ≡ t q) q posts all) in
     let here : begins p (row_of ws q).word ≡ t q = All-head (λ q. begins p (row_of ws q).word ≡ t q) q posts all in
     ap (λ (b : Bool). cond b (row_of ws q ∷ filter (λ r. begins p r.word) (rows_at ws posts)) (filter (λ r. begins p r.word) (rows_at ws posts))) here
-    ∙ elim (t q) as (λ b. cond b (row_of ws q ∷ filter (λ r. begins p r.word) (rows_at ws posts)) (filter (λ r. begins p r.word) (rows_at ws posts)) ≡ rows_at ws (cond b (q ∷ filter t posts) (filter t posts))) [
+    ∙ elim (t q) as (λ b. cond b (row_of ws q ∷ filter (λ r. begins p r.word) (rows_at ws posts)) (filter (λ r. begins p r.word) (rows_at ws posts))
+    ≡ rows_at ws (cond b (q ∷ filter t posts) (filter t posts))) [
       | true ↦ ap (λ x. row_of ws q ∷ x) rest
       | false ↦ rest
     ]

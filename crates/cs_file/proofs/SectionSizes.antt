@@ -33,10 +33,12 @@ pub record IsLonger {X : Type 0} (f : X → List ℕ) (xs : List X) (i : ℕ) (d
 pub longer : {X : Type 0} (f : X → List ℕ) (xs : List X) (i : ℕ) (d : X) → i < length xs → IsLonger f xs i d
 longer f xs i d l =
     let one : flat_map f (take (i + 1) xs) ≡ flat_map f (take i xs) ++ f (get_or xs i d) =
-    ap (flat_map f) (take_more xs i d l) ∙ flat_map-append f (take i xs) (get_or xs i d ∷ []) ∙ ap (λ x. flat_map f (take i xs) ++ x) (flat_map-cons f (get_or xs i d) [] ∙ append-nil (f (get_or xs i d))) in
+    ap (flat_map f) (take_more xs i d l) ∙ flat_map-append f (take i xs) (get_or xs i d ∷ [])
+    ∙ ap (λ x. flat_map f (take i xs) ++ x) (flat_map-cons f (get_or xs i d) [] ∙ append-nil (f (get_or xs i d))) in
     record { now = ap length one ∙ length-append (flat_map f (take i xs)) (f (get_or xs i d)); within = length-flat_map-take f xs i d l }
 
-pub blocks_len_is : (hs : List BlockHead) (bs : List (List Post)) → length hs ≡ length bs → AllByRecursion BlockFits (zip hs bs) → length (blocks_bytes hs bs) ≡ sum_by (λ h. h.len) hs
+pub blocks_len_is : (hs : List BlockHead) (bs : List (List Post)) → length hs ≡ length bs → AllByRecursion BlockFits (zip hs bs)
+    → length (blocks_bytes hs bs) ≡ sum_by (λ h. h.len) hs
 unfolding blocks_bytes
 blocks_len_is [] [] e fit = refl
 blocks_len_is [] (b ∷ bs) e fit = absurd (omega (arith, e))
@@ -50,7 +52,8 @@ pub record IsPair (hs : List BlockHead) (bs : List Cols) (i : ℕ) (h : BlockHea
   pub inside : i < length (zip hs (map (λ c. c.posts) bs))
   pub at : get_or (zip hs (map (λ c. c.posts) bs)) i (h, x.posts) ≡ (get_or hs i h, x.posts)
 
-pub pair_at : (hs : List BlockHead) (bs : List Cols) (i : ℕ) (h : BlockHead) (x : Cols) → length hs ≡ length bs → i < length hs → x ≡ get_or bs i x → IsPair hs bs i h x
+pub pair_at : (hs : List BlockHead) (bs : List Cols) (i : ℕ) (h : BlockHead) (x : Cols) → length hs ≡ length bs → i < length hs → x ≡ get_or bs i x
+    → IsPair hs bs i h x
 pair_at hs bs i h x e l is =
     let posts : List (List Post) = map (λ c. c.posts) bs in
     let many : length posts ≡ length bs = length-map bs (λ (c : Cols). c.posts) in
@@ -58,7 +61,8 @@ pair_at hs bs i h x e l is =
     record {
       inside = omega (arith, length-zip hs posts, l, inside);
       at = get_or-zip hs posts i (h, x.posts) l inside
-          ∙ ap (λ (y : List Post). (get_or hs i h, y)) (get_or-map (λ (c : Cols). c.posts) bs i x x.posts (omega (arith, l, e)) ∙ ap (λ (c : Cols). c.posts) (sym is));
+          ∙ ap (λ (y : List Post). (get_or hs i h, y)) (get_or-map (λ (c : Cols). c.posts) bs i x x.posts (omega (arith, l, e))
+          ∙ ap (λ (c : Cols). c.posts) (sym is));
     }
 
 -- no more pairs than heads
@@ -68,7 +72,9 @@ pairs_many hs bs = omega (arith, length-zip hs bs)
 -- rows are counted block by block
 pub rows_counted : (bs : List Cols) → sum_by (λ b. length b.posts) bs ≡ sum_by (λ (block : List Post). length block) (map (λ c. c.posts) bs)
 rows_counted [] = refl
-rows_counted (b ∷ bs) = sum_by-cons (λ (b : Cols). length b.posts) b bs ∙ ap (λ (n : ℕ). length b.posts + n) (rows_counted bs) ∙ sym (sum_by-cons (λ (block : List Post). length block) b.posts (map (λ c. c.posts) bs))
+rows_counted (b ∷ bs) = sum_by-cons (λ (b : Cols). length b.posts) b bs ∙ ap (λ (n : ℕ). length b.posts + n) (rows_counted bs)
+    ∙ sym (sum_by-cons (λ (block : List Post). length block) b.posts (map (λ c. c.posts) bs))
 
-pub same_numbers : (a b c d e f g k z a1 b1 c1 d1 e1 f1 g1 k1 z1 : ℕ) → a ≡ a1 → b ≡ b1 → c ≡ c1 → d ≡ d1 → e ≡ e1 → f ≡ f1 → g ≡ g1 → k ≡ k1 → z ≡ z1 → a ∷ b ∷ c ∷ d ∷ e ∷ f ∷ g ∷ k ∷ z ∷ [] ≡ a1 ∷ b1 ∷ c1 ∷ d1 ∷ e1 ∷ f1 ∷ g1 ∷ k1 ∷ z1 ∷ []
+pub same_numbers : (a b c d e f g k z a1 b1 c1 d1 e1 f1 g1 k1 z1 : ℕ) → a ≡ a1 → b ≡ b1 → c ≡ c1 → d ≡ d1 → e ≡ e1 → f ≡ f1 → g ≡ g1 → k ≡ k1 → z ≡ z1
+    → a ∷ b ∷ c ∷ d ∷ e ∷ f ∷ g ∷ k ∷ z ∷ [] ≡ a1 ∷ b1 ∷ c1 ∷ d1 ∷ e1 ∷ f1 ∷ g1 ∷ k1 ∷ z1 ∷ []
 same_numbers a b c d e f g k z a1 b1 c1 d1 e1 f1 g1 k1 z1 p q r s t u v x y = rw (p, q, r, s, t, u, v, x, y) refl

@@ -8,7 +8,8 @@
 --   fails_first     a put that fails leaves some first bytes of what was to come
 --   fails_on        what was put before goes in front
 --   item_put, item_fails      one more item of a list, and one whose put fails
-use Rattle.std.proofs.Common.{◌≡◌, ℕ, suc, ◌+◌, ◌<◌, ◌≤◌, List, [], ◌∷◌, ◌++◌, length, take, drop, get_or, append_assoc, append-nil, drop-cons, refl, sym, ◌∙◌, ap, subst}
+use Rattle.std.proofs.Common.{◌≡◌, ℕ, suc, ◌+◌, ◌<◌, ◌≤◌, List, [], ◌∷◌, ◌++◌, length, take, drop, get_or, append_assoc, append-nil, drop-cons, refl, sym}
+use Rattle.std.proofs.Common.{◌∙◌, ap, subst}
 use Rattle.std.specs.Prelude.{Option, Result, Ok, Err, OnOk, OnErr, flat_map}
 use Rattle.std.proofs.lemmas.Grind.{flat_map-append}
 use Rattle.std.proofs.lemmas.List.{take_all, take_more, take-append-drop}
@@ -68,7 +69,8 @@ module _ (w : Option (List ℕ)) (h : List ℕ) where
 
   pub fails_on : (a b : List ℕ) (v u : Option (List ℕ)) (k : List ℕ) → HasPut w h a v k → GrewByPrefix v (k ++ b) u → GrewByPrefix w (h ++ (a ++ b)) u
   fails_on a b v u k p g =
-      subst (λ x. GrewByPrefix w x u) (sym (append_assoc p.put k b) ∙ ap (λ x. x ++ b) p.told ∙ append_assoc h a b) (grew_then_begun w p.put (k ++ b) v u p.grew g)
+      subst (λ x. GrewByPrefix w x u) (sym (append_assoc p.put k b) ∙ ap (λ x. x ++ b) p.told ∙ append_assoc h a b)
+      (grew_then_begun w p.put (k ++ b) v u p.grew g)
 
   -- without a put at all, as where memory runs out
   pub fails_quietly : (b : List ℕ) → GrewByPrefix w (h ++ b) w
@@ -76,20 +78,25 @@ module _ (w : Option (List ℕ)) (h : List ℕ) where
 
   -- ---- items of a list
   module _ {X : Type 0} (f : X → List ℕ) (xs : List X) (i : ℕ) (d : X) where
-    pub item_put : (v u : Option (List ℕ)) (k m b : List ℕ) → i < length xs → b ≡ f (get_or xs i d) → HasPut w h (flat_map f (take i xs)) v k → HasPut v k b u m → HasPut w h (flat_map f (take (i + 1) xs)) u m
+    pub item_put : (v u : Option (List ℕ)) (k m b : List ℕ) → i < length xs → b ≡ f (get_or xs i d) → HasPut w h (flat_map f (take i xs)) v k
+        → HasPut v k b u m → HasPut w h (flat_map f (take (i + 1) xs)) u m
     item_put v u k m b l e p other =
         let q : HasPut v k (f (get_or xs i d)) u m = subst (λ x. HasPut v k x u m) e other in
         let one : flat_map f (take (i + 1) xs) ≡ flat_map f (take i xs) ++ f (get_or xs i d) =
-        ap (flat_map f) (take_more xs i d l) ∙ flat_map-append f (take i xs) (get_or xs i d ∷ []) ∙ ap (λ x. flat_map f (take i xs) ++ x) (flat_map-cons f (get_or xs i d) [] ∙ append-nil (f (get_or xs i d))) in
+        ap (flat_map f) (take_more xs i d l) ∙ flat_map-append f (take i xs) (get_or xs i d ∷ [])
+        ∙ ap (λ x. flat_map f (take i xs) ++ x) (flat_map-cons f (get_or xs i d) [] ∙ append-nil (f (get_or xs i d))) in
         subst (λ b. HasPut w h b u m) (sym one) (put_on (flat_map f (take i xs)) (f (get_or xs i d)) v u k m p q)
 
-    pub item_fails : (v u : Option (List ℕ)) (k b : List ℕ) → i < length xs → b ≡ f (get_or xs i d) → HasPut w h (flat_map f (take i xs)) v k → GrewByPrefix v (k ++ b) u → GrewByPrefix w (h ++ flat_map f xs) u
+    pub item_fails : (v u : Option (List ℕ)) (k b : List ℕ) → i < length xs → b ≡ f (get_or xs i d) → HasPut w h (flat_map f (take i xs)) v k
+        → GrewByPrefix v (k ++ b) u → GrewByPrefix w (h ++ flat_map f xs) u
     item_fails v u k b l e p fails =
         let g : GrewByPrefix v (k ++ f (get_or xs i d)) u = subst (λ x. GrewByPrefix v (k ++ x) u) e fails in
         let whole : flat_map f (take i xs) ++ (f (get_or xs i d) ++ flat_map f (drop (suc i) xs)) ≡ flat_map f xs =
-        ap (λ x. flat_map f (take i xs) ++ flat_map f x) (sym (drop-cons xs i d l)) ∙ sym (flat_map-append f (take i xs) (drop i xs)) ∙ ap (flat_map f) (take-append-drop i xs) in
+        ap (λ x. flat_map f (take i xs) ++ flat_map f x) (sym (drop-cons xs i d l)) ∙ sym (flat_map-append f (take i xs) (drop i xs))
+        ∙ ap (flat_map f) (take-append-drop i xs) in
         let rest : List ℕ = flat_map f (drop (suc i) xs) in
-        let g' : GrewByPrefix v (k ++ (f (get_or xs i d) ++ rest)) u = subst (λ x. GrewByPrefix v x u) (append_assoc k (f (get_or xs i d)) rest) (begun v (k ++ f (get_or xs i d)) rest u g) in
+        let g' : GrewByPrefix v (k ++ (f (get_or xs i d) ++ rest)) u =
+        subst (λ x. GrewByPrefix v x u) (append_assoc k (f (get_or xs i d)) rest) (begun v (k ++ f (get_or xs i d)) rest u g) in
         subst (λ b. GrewByPrefix w (h ++ b) u) whole (fails_on (flat_map f (take i xs)) (f (get_or xs i d) ++ rest) v u k p g')
 
     -- all items were put
@@ -101,8 +108,10 @@ titles_joined : (ts : List (List ℕ)) → flat_map (λ t. t) ts ≡ title_bytes
 titles_joined [] = refl
 titles_joined (t ∷ ts) = ap (λ x. t ++ x) (titles_joined ts)
 
-pub as_titles : (ts : List (List ℕ)) (w : Option (List ℕ)) (h : List ℕ) (v : Option (List ℕ)) (k : List ℕ) → HasPut w h (flat_map (λ t. t) ts) v k → HasPut w h (title_bytes ts) v k
+pub as_titles : (ts : List (List ℕ)) (w : Option (List ℕ)) (h : List ℕ) (v : Option (List ℕ)) (k : List ℕ) → HasPut w h (flat_map (λ t. t) ts) v k
+    → HasPut w h (title_bytes ts) v k
 as_titles ts w h v k p = subst (λ x. HasPut w h x v k) (titles_joined ts) p
 
-pub titles_fail : (ts : List (List ℕ)) (w : Option (List ℕ)) (h : List ℕ) (u : Option (List ℕ)) → GrewByPrefix w (h ++ flat_map (λ t. t) ts) u → GrewByPrefix w (h ++ title_bytes ts) u
+pub titles_fail : (ts : List (List ℕ)) (w : Option (List ℕ)) (h : List ℕ) (u : Option (List ℕ)) → GrewByPrefix w (h ++ flat_map (λ t. t) ts) u
+    → GrewByPrefix w (h ++ title_bytes ts) u
 titles_fail ts w h u g = subst (λ x. GrewByPrefix w (h ++ x) u) (titles_joined ts) g

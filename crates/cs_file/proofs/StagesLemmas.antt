@@ -60,7 +60,8 @@ pub judges_by : {T : Type 0} (o p : Option Broken) (r : Result T OpenFault) → 
 judges_by o p r same h = subst (λ (x : Option Broken). Judges x r) (sym same) h
 
 -- a fault that is no failed read is passed on, where no read failed
-pub caused_along : {T : Type 0} (e : OpenFault) (r : Result T OpenFault) (before now : ℕ) → is_read_of_open {T = T} (Err e) ≡ false → IsErrAnd r (λ x. x ≡ e) → now ≡ before → CausedReads (is_read_of_open r) before now
+pub caused_along : {T : Type 0} (e : OpenFault) (r : Result T OpenFault) (before now : ℕ) → is_read_of_open {T = T} (Err e) ≡ false → IsErrAnd r (λ x. x ≡ e)
+    → now ≡ before → CausedReads (is_read_of_open r) before now
 caused_along e (Ok x) before now unread is same = absurd is
 caused_along {T} e (Err x) before now unread is same =
     let no : is_read_of_open {T = T} (Err x) ≡ false = ap (λ (y : OpenFault). is_read_of_open {T = T} (Err y)) is ∙ unread in
@@ -75,7 +76,8 @@ on_ok (Ok x) P p = p
 on_ok (Err e) P p = tt
 
 -- two rules, one tried behind the other
-pub two_first : {T : Type 0} (o p : Option Broken) (e : OpenFault) (r : Result T OpenFault) → Refuses o e → IsErrAnd r (λ x. x ≡ e) → Judges (first_reason (o ∷ p ∷ [])) r
+pub two_first : {T : Type 0} (o p : Option Broken) (e : OpenFault) (r : Result T OpenFault) → Refuses o e → IsErrAnd r (λ x. x ≡ e)
+    → Judges (first_reason (o ∷ p ∷ [])) r
 two_first o p e r h is = judged_along (first_reason (o ∷ p ∷ [])) e r (refuses_first o (p ∷ []) e h) is
 
 only : (o : Option Broken) → first_reason (o ∷ []) ≡ o
@@ -86,10 +88,12 @@ pub two_last : {T : Type 0} (o p : Option Broken) (r : Result T OpenFault) → o
 two_last o p r none h = judges_by (first_reason (o ∷ p ∷ [])) p r (first_none o (p ∷ []) none ∙ only p) h
 
 -- three rules, one tried behind the other
-pub three_first : {T : Type 0} (o p q : Option Broken) (e : OpenFault) (r : Result T OpenFault) → Refuses o e → IsErrAnd r (λ x. x ≡ e) → Judges (first_reason (o ∷ p ∷ q ∷ [])) r
+pub three_first : {T : Type 0} (o p q : Option Broken) (e : OpenFault) (r : Result T OpenFault) → Refuses o e → IsErrAnd r (λ x. x ≡ e)
+    → Judges (first_reason (o ∷ p ∷ q ∷ [])) r
 three_first o p q e r h is = judged_along (first_reason (o ∷ p ∷ q ∷ [])) e r (refuses_first o (p ∷ q ∷ []) e h) is
 
-pub three_second : {T : Type 0} (o p q : Option Broken) (e : OpenFault) (r : Result T OpenFault) → o ≡ None → Refuses p e → IsErrAnd r (λ x. x ≡ e) → Judges (first_reason (o ∷ p ∷ q ∷ [])) r
+pub three_second : {T : Type 0} (o p q : Option Broken) (e : OpenFault) (r : Result T OpenFault) → o ≡ None → Refuses p e → IsErrAnd r (λ x. x ≡ e)
+    → Judges (first_reason (o ∷ p ∷ q ∷ [])) r
 three_second o p q e r none h is = judged_along (first_reason (o ∷ p ∷ q ∷ [])) e r (refuses_rest o (p ∷ q ∷ []) e none (refuses_first p (q ∷ []) e h)) is
 
 pub three_last : {T : Type 0} (o p q : Option Broken) (r : Result T OpenFault) → o ≡ None → p ≡ None → Judges q r → Judges (first_reason (o ∷ p ∷ q ∷ [])) r

@@ -9,7 +9,8 @@
 --   posts_in, stood_block      block k is a block by its head, in the bytes at its place
 --   block_words, block_docs    its words are those of its head, and its documents are below the index's
 --   posts_between      the posts of all blocks with a word from one number up to another are those of the blocks that hold such a word
-use Rattle.std.proofs.Common.{◌≡◌, ℕ, zero, suc, ◌+◌, ◌<◌, ◌≤◌, ◌^◌, List, [], ◌∷◌, length, get_or, take, drop, Option, Some, None, refl, sym, ap, subst, ◌∙◌, arith, length-take, length-drop, drop-drop}
+use Rattle.std.proofs.Common.{◌≡◌, ℕ, zero, suc, ◌+◌, ◌<◌, ◌≤◌, ◌^◌, List, [], ◌∷◌, length, get_or, take, drop, Option, Some, None, refl, sym, ap, subst, ◌∙◌}
+use Rattle.std.proofs.Common.{arith, length-take, length-drop, drop-drop}
 use Rattle.std.specs.List.{sum_by}
 use Rattle.std.specs.Option.{option_map, option_or}
 use Rattle.std.proofs.lemmas.List.Sums.{sum_by-cons}
@@ -71,7 +72,8 @@ shaped_first h hs s = s 0 h (omega arith)
 abbrev pub block_from : List BlockHead → ℕ → ℕ
 block_from hs k = sum_by (λ h. h.len) (take k hs)
 
-pub block_stands : (docs at : ℕ) (hs : List BlockHead) (bytes : List ℕ) (k : ℕ) (d : BlockHead) → docs < 2 ^ 32 → IsBytes bytes → AreShaped hs → sum_by (λ h. h.len) hs ≡ length bytes → blocks_break docs at hs bytes ≡ None → k < length hs
+pub block_stands : (docs at : ℕ) (hs : List BlockHead) (bytes : List ℕ) (k : ℕ) (d : BlockHead) → docs < 2 ^ 32 → IsBytes bytes → AreShaped hs
+    → sum_by (λ h. h.len) hs ≡ length bytes → blocks_break docs at hs bytes ≡ None → k < length hs
     → IsBlock SCORES (get_or hs k d) docs (get_or (blocks_in hs bytes) k []) (take (get_or hs k d).len (drop (block_from hs k) bytes))
 unfolding blocks_break blocks_in
 block_stands docs at [] bytes k d few fits shaped sum e lt = absurd (omega arith)
@@ -86,7 +88,8 @@ block_stands docs at (h ∷ hs) bytes (suc k) d few fits shaped sum e lt =
     let left : sum_by (λ h. h.len) hs ≡ length (drop h.len bytes) = omega (arith, parts, sum, length-drop h.len bytes) in
     let rest = block_stands docs (at + h.len) hs (drop h.len bytes) k d few (IsBytes-drop h.len bytes fits) (shaped_rest h hs shaped) left p.1 (omega arith) in
     let front : h.len + block_from hs k ≡ block_from (h ∷ hs) (suc k) = sym (sum_by-cons (λ (h : BlockHead). h.len) h (take k hs)) in
-    let there : drop (block_from hs k) (drop h.len bytes) ≡ drop (block_from (h ∷ hs) (suc k)) bytes = drop-drop (block_from hs k) h.len bytes ∙ ap (λ (n : ℕ). drop n bytes) front in
+    let there : drop (block_from hs k) (drop h.len bytes) ≡ drop (block_from (h ∷ hs) (suc k)) bytes = drop-drop (block_from hs k) h.len bytes
+    ∙ ap (λ (n : ℕ). drop n bytes) front in
     subst (λ (x : List ℕ). IsBlock SCORES (get_or hs k d) docs (get_or (blocks_in hs (drop h.len bytes)) k []) (take (get_or hs k d).len x)) there rest
 
 -- ---- an index and its bytes
@@ -141,11 +144,17 @@ stood_block b i s is k d lt =
     let docs_few : (header_of b).docs ≤ MAX_DOCS = hold.values.fields.docs in
     let shaped : AreShaped hs = subst (λ (x : List BlockHead). AreShaped x) same (head_shaped i is) in
     let sum : sum_by (λ h. h.len) hs ≡ length bytes = hold.values.bytes_sum ∙ sym sized.blocks in
-    let one = block_stands (header_of b).docs (blocks_at (header_of b)) hs bytes k d (omega (arith, docs_few)) (subst IsBytes (sym start) (IsBytes-drop (blocks_at (header_of b)) b fits)) shaped sum hold.blocks (subst (λ (x : List BlockHead). k < length x) same lt) in
+    let one = block_stands (header_of b).docs (blocks_at (header_of b)) hs bytes k d (omega (arith, docs_few))
+    (subst IsBytes (sym start) (IsBytes-drop (blocks_at (header_of b)) b fits)) shaped sum hold.blocks
+    (subst (λ (x : List BlockHead). k < length x) same lt) in
     let there : drop (block_from hs k) bytes ≡ drop (block_place i k) b =
     ap (drop (block_from hs k)) start ∙ drop-drop (block_from hs k) (blocks_at (header_of b)) b
     ∙ ap (λ (n : ℕ). drop (n + block_from hs k) b) (sym st.blocks_at) ∙ ap (λ (x : List BlockHead). drop (i.blocks_at + block_from x k) b) (sym same) in
-    let in_bytes = subst (λ (x : List ℕ). IsBlock SCORES (get_or hs k d) (header_of b).docs (get_or (blocks_in hs bytes) k []) (take (get_or hs k d).len x)) there one in
-    let at_docs = subst (λ (n : ℕ). IsBlock SCORES (get_or hs k d) n (get_or (blocks_in hs bytes) k []) (part b (block_place i k) (get_or hs k d).len)) (sym st.docs) in_bytes in
-    let at_heads = subst (λ (x : List BlockHead). IsBlock SCORES (get_or x k d) i.docs (get_or (blocks_in hs bytes) k []) (part b (block_place i k) (get_or x k d).len)) (sym same) at_docs in
-    subst (λ (x : List (List Post)). IsBlock SCORES (get_or i.heads k d) i.docs (get_or x k []) (part b (block_place i k) (get_or i.heads k d).len)) (sym (image_blocks b)) at_heads
+    let in_bytes = subst (λ (x : List ℕ). IsBlock SCORES (get_or hs k d) (header_of b).docs (get_or (blocks_in hs bytes) k []) (take (get_or hs k d).len x))
+    there one in
+    let at_docs = subst (λ (n : ℕ). IsBlock SCORES (get_or hs k d) n (get_or (blocks_in hs bytes) k []) (part b (block_place i k) (get_or hs k d).len))
+    (sym st.docs) in_bytes in
+    let at_heads = subst (λ (x : List BlockHead). IsBlock SCORES (get_or x k d) i.docs (get_or (blocks_in hs bytes) k [])
+    (part b (block_place i k) (get_or x k d).len)) (sym same) at_docs in
+    subst (λ (x : List (List Post)). IsBlock SCORES (get_or i.heads k d) i.docs (get_or x k []) (part b (block_place i k) (get_or i.heads k d).len))
+    (sym (image_blocks b)) at_heads

@@ -5,7 +5,8 @@
 --   within_part      some of the first bytes from a place on
 --   titles_count     there is one title less than there are offsets
 --   stood_title      title d, and that it is UTF-8
-use Rattle.std.proofs.Common.{◌≡◌, ℕ, zero, suc, ◌+◌, ◌-◌, ◌<◌, ◌≤◌, true, List, [], ◌∷◌, length, get_or, take, drop, Option, Some, None, refl, sym, ap, subst, ◌∙◌, arith, drop-drop}
+use Rattle.std.proofs.Common.{◌≡◌, ℕ, zero, suc, ◌+◌, ◌-◌, ◌<◌, ◌≤◌, true, List, [], ◌∷◌, length, get_or, take, drop, Option, Some, None, refl, sym, ap}
+use Rattle.std.proofs.Common.{subst, ◌∙◌, arith, drop-drop}
 use Rattle.std.specs.List.{AllByRecursion}
 use Rattle.std.specs.Option.{unwrap_or}
 use Rattle.std.specs.Str.{is_utf8}
@@ -18,7 +19,8 @@ use Rattle.cs_file.specs.Indexes.{IndexView, IsIndex, StandsFor, titles_end, tit
 use Rattle.cs_file.proofs.OffsetsLemmas.{title_at_index, spans}
 use Rattle.cs_file.proofs.StoodLemmas.{stood}
 
-pub all_laid : {X : Type 0} (P : X → Type 0) (size : X → ℕ) (at : ℕ) (last : Option X) (xs : List X) (k : ℕ) (d : X) → AllByRecursion (λ i. P i.value) (laid size at last xs) → k < length xs → P (get_or xs k d)
+pub all_laid : {X : Type 0} (P : X → Type 0) (size : X → ℕ) (at : ℕ) (last : Option X) (xs : List X) (k : ℕ) (d : X)
+    → AllByRecursion (λ i. P i.value) (laid size at last xs) → k < length xs → P (get_or xs k d)
 unfolding laid
 all_laid P size at last [] k d h lt = absurd (omega arith)
 all_laid P size at last (x ∷ xs) zero d h lt = h.0
@@ -39,7 +41,8 @@ image_titles b = refl
 pub within_part : (n from at len : ℕ) (b : List ℕ) → from + n ≤ len → take n (drop from (take len (drop at b))) ≡ part b (at + from) n
 within_part n from at len b le =
     let e : from + (len - from) ≡ len = omega arith in
-    ap (λ (x : ℕ). take n (drop from (take x (drop at b)))) (sym e) ∙ ap (take n) (drop-take from (len - from) (drop at b)) ∙ take-take n (len - from) (drop from (drop at b)) (omega arith) ∙ ap (take n) (drop-drop from at b)
+    ap (λ (x : ℕ). take n (drop from (take x (drop at b)))) (sym e) ∙ ap (take n) (drop-take from (len - from) (drop at b))
+    ∙ take-take n (len - from) (drop from (drop at b)) (omega arith) ∙ ap (take n) (drop-drop from at b)
 
 pub titles_count : (os bytes : List ℕ) → length (titles_in os bytes) ≡ length os - 1
 titles_count [] bytes = refl
@@ -65,12 +68,15 @@ stood_title b i s is d lt =
     let n = title_len i d in
     let from = get_or i.offsets d 0 in
     let at_own : get_or r.titles d [] ≡ take n (drop from r.bytes.titles) =
-    title_at_index r.offsets r.bytes.titles d lt' ∙ ap (λ (os : List ℕ). take (get_or os (suc d) 0 - get_or os d 0) (drop (get_or os d 0) r.bytes.titles)) (sym offsets)
+    title_at_index r.offsets r.bytes.titles d lt'
+    ∙ ap (λ (os : List ℕ). take (get_or os (suc d) 0 - get_or os d 0) (drop (get_or os d 0) r.bytes.titles)) (sym offsets)
     ∙ ap (λ (x : ℕ). take (get_or i.offsets x 0 - from) (drop from r.bytes.titles)) (sym one) in
     let there : get_or r.titles d [] ≡ part b (titles_at (header_of b) + from) n =
-    at_own ∙ ap (λ (x : List ℕ). take n (drop from x)) (titles_start b) ∙ within_part n from (titles_at (header_of b)) (header_of b).titles_len b (omega (arith, a, c, end)) in
+    at_own ∙ ap (λ (x : List ℕ). take n (drop from x)) (titles_start b)
+    ∙ within_part n from (titles_at (header_of b)) (header_of b).titles_len b (omega (arith, a, c, end)) in
     let count : length r.titles ≡ length r.offsets - 1 = titles_count r.offsets r.bytes.titles in
     record {
       bytes = ap (λ (ts : List (List ℕ)). get_or ts d []) (image_titles b) ∙ there ∙ ap (λ (x : ℕ). part b (x + from) n) (sym st.titles_at);
-      text = ap (λ (ts : List (List ℕ)). is_utf8 (get_or ts d [])) (image_titles b) ∙ all_laid (λ t. is_utf8 t ≡ true) (λ t. length t) (titles_at (header_of b)) None r.titles d [] st.hold.values.texts (omega (arith, count, lt'));
+      text = ap (λ (ts : List (List ℕ)). is_utf8 (get_or ts d [])) (image_titles b)
+          ∙ all_laid (λ t. is_utf8 t ≡ true) (λ t. length t) (titles_at (header_of b)) None r.titles d [] st.hold.values.texts (omega (arith, count, lt'));
     }

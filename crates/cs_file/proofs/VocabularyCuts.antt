@@ -3,7 +3,8 @@
 --   front_at, front_end   where the word at a place ends, by its length byte
 --   HasCut                what is known behind the first words
 --   cutting, cuts_on, cut_short, cut_over, cut_all      its steps
-use Rattle.std.proofs.Common.{◌≡◌, ℕ, zero, suc, ◌+◌, ◌-◌, ◌<◌, ◌≤◌, ◌&&◌, Bool, true, false, cond, List, [], ◌∷◌, ◌++◌, length, get_or, take, drop, Option, Some, None, refl, sym, ap, ◌∙◌, arith, length-drop, drop-drop}
+use Rattle.std.proofs.Common.{◌≡◌, ℕ, zero, suc, ◌+◌, ◌-◌, ◌<◌, ◌≤◌, ◌&&◌, Bool, true, false, cond, List, [], ◌∷◌, ◌++◌, length, get_or, take, drop, Option}
+use Rattle.std.proofs.Common.{Some, None, refl, sym, ap, ◌∙◌, arith, length-drop, drop-drop}
 use Rattle.std.specs.Prelude.{nat_le}
 use Rattle.std.specs.Option.{option_map}
 use Rattle.std.proofs.lemmas.List.{append-nil, append_assoc}
@@ -15,7 +16,8 @@ use Rattle.cs_file.specs.Opening.{front_word}
 
 -- ---- one word
 front_here : (xs : List ℕ) (at : ℕ) → at < length xs
-    → front_word (drop at xs) ≡ cond (nat_le 1 (get_or xs at 0) && (nat_le (get_or xs at 0) MAX_WORD_BYTES && nat_le (get_or xs at 0) (length (drop (suc at) xs)))) (Some (1 + get_or xs at 0)) None
+    → front_word (drop at xs) ≡ cond (nat_le 1 (get_or xs at 0)
+    && (nat_le (get_or xs at 0) MAX_WORD_BYTES && nat_le (get_or xs at 0) (length (drop (suc at) xs)))) (Some (1 + get_or xs at 0)) None
 unfolding front_word
 front_here [] at lt = absurd (omega arith)
 front_here (x ∷ xs) zero lt = refl
@@ -29,10 +31,12 @@ front_past (x ∷ xs) zero le = absurd (omega arith)
 front_past (x ∷ xs) (suc at) le = front_past xs at (omega arith)
 
 pub front_at : (xs : List ℕ) (at : ℕ) → at < length xs
-    → front_word (drop at xs) ≡ cond (nat_le 1 (get_or xs at 0) && (nat_le (get_or xs at 0) MAX_WORD_BYTES && nat_le (get_or xs at 0) (length xs - at - 1))) (Some (1 + get_or xs at 0)) None
+    → front_word (drop at xs) ≡ cond (nat_le 1 (get_or xs at 0) && (nat_le (get_or xs at 0) MAX_WORD_BYTES && nat_le (get_or xs at 0) (length xs - at - 1)))
+    (Some (1 + get_or xs at 0)) None
 front_at xs at lt =
     let len : length (drop (suc at) xs) ≡ length xs - at - 1 = omega (arith, length-drop (suc at) xs) in
-    front_here xs at lt ∙ ap (λ (n : ℕ). cond (nat_le 1 (get_or xs at 0) && (nat_le (get_or xs at 0) MAX_WORD_BYTES && nat_le (get_or xs at 0) n)) (Some (1 + get_or xs at 0)) None) len
+    front_here xs at lt ∙ ap (λ (n : ℕ). cond (nat_le 1 (get_or xs at 0) && (nat_le (get_or xs at 0) MAX_WORD_BYTES && nat_le (get_or xs at 0) n))
+    (Some (1 + get_or xs at 0)) None) len
 
 pub front_end : (xs : List ℕ) (at : ℕ) → length xs ≤ at → front_word (drop at xs) ≡ None
 front_end xs at le = front_past xs at le
@@ -55,7 +59,8 @@ front_reads k at (x ∷ xs) n e =
           let one : suc x ≡ n = omega (arith, is) in
           let rest : drop x xs ≡ drop n (x ∷ xs) = ap (λ (m : ℕ). drop m (x ∷ xs)) one in
           record {
-            broken = ap (λ (b : Bool). cond b (words_break k (at + 1 + x) (drop x xs)) (Some at)) t ∙ ap (λ (m : ℕ). words_break k m (drop x xs)) next ∙ ap (words_break k (at + n)) rest;
+            broken = ap (λ (b : Bool). cond b (words_break k (at + 1 + x) (drop x xs)) (Some at)) t ∙ ap (λ (m : ℕ). words_break k m (drop x xs)) next
+                ∙ ap (words_break k (at + n)) rest;
             word = ap (λ (m : ℕ). take m xs ∷ vocabulary_in k (drop x xs)) less ∙ ap (λ (y : List ℕ). take (n - 1) xs ∷ vocabulary_in k y) rest;
           }
       | false ↦ λ t s. absurd (none-some n s)
@@ -105,7 +110,8 @@ here : (at end : ℕ) (o : Option ℕ) → Some end ≡ option_map (λ n. at + n
 here at end None e = absurd (none-some end (sym e))
 here at end (Some n) e = (n, refl, cc)
 
-pub cuts_on : (bytes : List ℕ) (count done at end : ℕ) (words now : List (List ℕ)) → done < count → Some end ≡ option_map (λ n. at + n) (front_word (drop at bytes)) → at + 2 ≤ end → end ≤ length bytes
+pub cuts_on : (bytes : List ℕ) (count done at end : ℕ) (words now : List (List ℕ)) → done < count
+    → Some end ≡ option_map (λ n. at + n) (front_word (drop at bytes)) → at + 2 ≤ end → end ≤ length bytes
     → now ≡ words ++ take (end - (at + 1)) (drop (at + 1) bytes) ∷ [] → HasCut bytes count done at words → HasCut bytes count (done + 1) end now
 cuts_on bytes count done at end words now lt e far within added h =
     let p = here at end (front_word (drop at bytes)) e in
@@ -119,10 +125,14 @@ cuts_on bytes count done at end words now lt e far within added h =
     let rest = vocabulary_in (count - (done + 1)) (drop end bytes) in
     let last = take (end - (at + 1)) (drop (at + 1) bytes) in
     let joined : now ++ rest ≡ words ++ last ∷ rest = ap (λ (x : List (List ℕ)). x ++ rest) added ∙ append_assoc words (last ∷ []) rest in
-    let word : take (n - 1) (drop 1 (drop at bytes)) ≡ take (end - (at + 1)) (drop (at + 1) bytes) = ap (λ (m : ℕ). take m (drop 1 (drop at bytes))) size ∙ ap (take (end - (at + 1))) (drop-drop 1 at bytes) in
+    let word : take (n - 1) (drop 1 (drop at bytes)) ≡ take (end - (at + 1)) (drop (at + 1) bytes) = ap (λ (m : ℕ). take m (drop 1 (drop at bytes))) size
+    ∙ ap (take (end - (at + 1))) (drop-drop 1 at bytes) in
     record {
-      told = ap (λ (m : ℕ). words_break (count - (done + 1)) m (drop end bytes)) (sym place) ∙ ap (words_break (count - (done + 1)) (vocabulary_at + at + n)) (sym there) ∙ sym f.broken ∙ ap (λ (k : ℕ). words_break k (vocabulary_at + at) (drop at bytes)) (sym left) ∙ h.told;
-      words_are = joined ∙ ap (λ (w : List ℕ). words ++ w ∷ rest) (sym word) ∙ ap (λ (x : List ℕ). words ++ take (n - 1) (drop 1 (drop at bytes)) ∷ vocabulary_in (count - (done + 1)) x) (sym there)
+      told = ap (λ (m : ℕ). words_break (count - (done + 1)) m (drop end bytes)) (sym place)
+          ∙ ap (words_break (count - (done + 1)) (vocabulary_at + at + n)) (sym there) ∙ sym f.broken
+          ∙ ap (λ (k : ℕ). words_break k (vocabulary_at + at) (drop at bytes)) (sym left) ∙ h.told;
+      words_are = joined ∙ ap (λ (w : List ℕ). words ++ w ∷ rest) (sym word)
+          ∙ ap (λ (x : List ℕ). words ++ take (n - 1) (drop 1 (drop at bytes)) ∷ vocabulary_in (count - (done + 1)) x) (sym there)
           ∙ ap (λ (x : List (List ℕ)). words ++ x) (sym f.word) ∙ ap (λ (k : ℕ). words ++ vocabulary_in k (drop at bytes)) (sym left) ∙ h.words_are;
       within = within;
     }
@@ -131,19 +141,26 @@ none_here : (at : ℕ) (o : Option ℕ) → None ≡ option_map (λ n. at + n) o
 none_here at None e = refl
 none_here at (Some n) e = absurd (none-some (at + n) e)
 
-pub cut_short : (bytes : List ℕ) (count done at : ℕ) (words : List (List ℕ)) → done < count → None ≡ option_map (λ n. at + n) (front_word (drop at bytes)) → HasCut bytes count done at words → words_break count vocabulary_at bytes ≡ Some (vocabulary_at + at)
+pub cut_short : (bytes : List ℕ) (count done at : ℕ) (words : List (List ℕ)) → done < count → None ≡ option_map (λ n. at + n) (front_word (drop at bytes))
+    → HasCut bytes count done at words → words_break count vocabulary_at bytes ≡ Some (vocabulary_at + at)
 cut_short bytes count done at words lt e h =
     let left : count - done ≡ suc (count - (done + 1)) = omega arith in
-    sym h.told ∙ ap (λ (k : ℕ). words_break k (vocabulary_at + at) (drop at bytes)) left ∙ front_breaks (count - (done + 1)) (vocabulary_at + at) (drop at bytes) (none_here at (front_word (drop at bytes)) e)
+    sym h.told ∙ ap (λ (k : ℕ). words_break k (vocabulary_at + at) (drop at bytes)) left
+    ∙ front_breaks (count - (done + 1)) (vocabulary_at + at) (drop at bytes) (none_here at (front_word (drop at bytes)) e)
 
-pub cut_over : (bytes : List ℕ) (count done at : ℕ) (words : List (List ℕ)) → count ≤ done → at < length bytes → HasCut bytes count done at words → words_break count vocabulary_at bytes ≡ Some (vocabulary_at + at)
+pub cut_over : (bytes : List ℕ) (count done at : ℕ) (words : List (List ℕ)) → count ≤ done → at < length bytes → HasCut bytes count done at words
+    → words_break count vocabulary_at bytes ≡ Some (vocabulary_at + at)
 cut_over bytes count done at words le lt h =
     let left : count - done ≡ 0 = omega arith in
-    sym h.told ∙ ap (λ (k : ℕ). words_break k (vocabulary_at + at) (drop at bytes)) left ∙ over_breaks (vocabulary_at + at) (drop at bytes) (omega (arith, length-drop at bytes))
+    sym h.told ∙ ap (λ (k : ℕ). words_break k (vocabulary_at + at) (drop at bytes)) left
+    ∙ over_breaks (vocabulary_at + at) (drop at bytes) (omega (arith, length-drop at bytes))
 
-pub cut_all : (bytes : List ℕ) (count done at : ℕ) (words : List (List ℕ)) → count ≤ done → length bytes ≤ at → HasCut bytes count done at words → (words_break count vocabulary_at bytes ≡ None) × (words ≡ vocabulary_in count bytes)
+pub cut_all : (bytes : List ℕ) (count done at : ℕ) (words : List (List ℕ)) → count ≤ done → length bytes ≤ at → HasCut bytes count done at words
+    → (words_break count vocabulary_at bytes ≡ None) × (words ≡ vocabulary_in count bytes)
 cut_all bytes count done at words le past h =
     let left : count - done ≡ 0 = omega arith in (
-      sym h.told ∙ ap (λ (k : ℕ). words_break k (vocabulary_at + at) (drop at bytes)) left ∙ none_break (vocabulary_at + at) (drop at bytes) (omega (arith, length-drop at bytes)),
-      sym (sym h.words_are ∙ ap (λ (k : ℕ). words ++ vocabulary_in k (drop at bytes)) left ∙ ap (λ (x : List (List ℕ)). words ++ x) (no_words (drop at bytes)) ∙ append-nil words),
+      sym h.told ∙ ap (λ (k : ℕ). words_break k (vocabulary_at + at) (drop at bytes)) left
+          ∙ none_break (vocabulary_at + at) (drop at bytes) (omega (arith, length-drop at bytes)),
+      sym (sym h.words_are ∙ ap (λ (k : ℕ). words ++ vocabulary_in k (drop at bytes)) left
+          ∙ ap (λ (x : List (List ℕ)). words ++ x) (no_words (drop at bytes)) ∙ append-nil words),
     )

@@ -43,18 +43,22 @@ unfolding vocabulary_stage words_judged
 own_stage b =
     let v = part b vocabulary_at (header_of b).vocabulary_len in
     let ws = vocabulary_in (header_of b).words v in
-    joined (tried 5 (words_break (header_of b).words vocabulary_at v)) (tried 6 (break_of (λ i. is_word i.value) (items ws))) (tried 7 (break_of (λ i. follows i.last i.value) (items ws)))
+    joined (tried 5 (words_break (header_of b).words vocabulary_at v)) (tried 6 (break_of (λ i. is_word i.value) (items ws)))
+    (tried 7 (break_of (λ i. follows i.last i.value) (items ws)))
 
 pub vocabulary_is : (b : List ℕ) (h : Header) (bytes : List ℕ) → IsHeaderOf b h → bytes ≡ part b vocabulary_at h.vocabulary_len
     → vocabulary_stage b ≡ first_reason (tried 5 (words_break h.words vocabulary_at bytes) ∷ words_judged (vocabulary_in h.words bytes) ∷ [])
-vocabulary_is b h bytes is at = own_stage b ∙ ap (λ (x : Header). stage_by x.words (part b vocabulary_at x.vocabulary_len)) is.numbers ∙ ap (stage_by h.words) (sym at)
+vocabulary_is b h bytes is at = own_stage b ∙ ap (λ (x : Header). stage_by x.words (part b vocabulary_at x.vocabulary_len)) is.numbers
+    ∙ ap (stage_by h.words) (sym at)
 
 own_words : (b : List ℕ) → file_words b ≡ vocabulary_in (header_of b).words (part b vocabulary_at (header_of b).vocabulary_len)
 unfolding file_words
 own_words b = refl
 
-pub words_are : (b : List ℕ) (h : Header) (bytes : List ℕ) → IsHeaderOf b h → bytes ≡ part b vocabulary_at h.vocabulary_len → vocabulary_in h.words bytes ≡ file_words b
-words_are b h bytes is at = sym (own_words b ∙ ap (λ (x : Header). vocabulary_in x.words (part b vocabulary_at x.vocabulary_len)) is.numbers ∙ ap (vocabulary_in h.words) (sym at))
+pub words_are : (b : List ℕ) (h : Header) (bytes : List ℕ) → IsHeaderOf b h → bytes ≡ part b vocabulary_at h.vocabulary_len
+    → vocabulary_in h.words bytes ≡ file_words b
+words_are b h bytes is at = sym (own_words b ∙ ap (λ (x : Header). vocabulary_in x.words (part b vocabulary_at x.vocabulary_len)) is.numbers
+    ∙ ap (vocabulary_in h.words) (sym at))
 
 -- ---- words in order
 less_from : (o : Ordering) → is_lt o ≡ true → o ≡ Less
@@ -66,7 +70,8 @@ abbrev Ascend : ℕ → Option (List ℕ) → List (List ℕ) → Type 0
 Ascend at last ws = list_all (λ i. follows i.last i.value) (laid word_size at last ws) ≡ true
 
 -- all of them are greater than one that the first of them follows
-above : (at : ℕ) (v : List ℕ) (ws : List (List ℕ)) (w : List ℕ) → slice_cmp nat_cmp v w ≡ Less → Ascend at (Some w) ws → AllByRecursion (λ y. slice_cmp nat_cmp v y ≡ Less) ws
+above : (at : ℕ) (v : List ℕ) (ws : List (List ℕ)) (w : List ℕ) → slice_cmp nat_cmp v w ≡ Less → Ascend at (Some w) ws
+    → AllByRecursion (λ y. slice_cmp nat_cmp v y ≡ Less) ws
 unfolding laid
 above at v [] w lt h = tt
 above at v (x ∷ ws) w lt h =
@@ -74,7 +79,8 @@ above at v (x ∷ ws) w lt h =
     let next : slice_cmp nat_cmp v x ≡ Less = nat_list_cmp_total.trans v w x lt (less_from _ p.0) in
     (next, above (at + word_size x) v ws x next p.1)
 
-sorted_behind : (at : ℕ) (v : List ℕ) (ws : List (List ℕ)) → Ascend at (Some v) ws → AllByRecursion (λ y. slice_cmp nat_cmp v y ≡ Less) ws × IsStrictlySortedBy (slice_cmp nat_cmp) ws
+sorted_behind : (at : ℕ) (v : List ℕ) (ws : List (List ℕ)) → Ascend at (Some v) ws
+    → AllByRecursion (λ y. slice_cmp nat_cmp v y ≡ Less) ws × IsStrictlySortedBy (slice_cmp nat_cmp) ws
 unfolding laid IsStrictlySortedBy
 sorted_behind at v [] h = (tt, tt)
 sorted_behind at v (x ∷ ws) h =
@@ -90,7 +96,8 @@ sorted_from at last (x ∷ ws) h =
     let p = and_parts (follows last x) (list_all (λ i. follows i.last i.value) (laid word_size (at + word_size x) (Some x) ws)) h in
     sorted_behind (at + word_size x) x ws p.1
 
-words_hold : (at : ℕ) (last : Option (List ℕ)) (ws : List (List ℕ)) → list_all (λ i. is_word i.value) (laid word_size at last ws) ≡ true → All (λ w. is_word w ≡ true) ws
+words_hold : (at : ℕ) (last : Option (List ℕ)) (ws : List (List ℕ)) → list_all (λ i. is_word i.value) (laid word_size at last ws) ≡ true
+    → All (λ w. is_word w ≡ true) ws
 unfolding laid
 words_hold at last [] h = All-nil (λ w. is_word w ≡ true)
 words_hold at last (x ∷ ws) h =
@@ -103,7 +110,8 @@ two_none None None e = (refl, refl)
 two_none None (Some x) e = absurd cc
 two_none (Some x) p e = absurd cc
 
-pub has_vocabulary : (h : Header) (ws : List (List ℕ)) (bytes : List ℕ) → length bytes ≡ h.vocabulary_len → tried 5 (words_break h.words vocabulary_at bytes) ≡ None → ws ≡ vocabulary_in h.words bytes → words_judged ws ≡ None → HasVocabulary h ws
+pub has_vocabulary : (h : Header) (ws : List (List ℕ)) (bytes : List ℕ) → length bytes ≡ h.vocabulary_len
+    → tried 5 (words_break h.words vocabulary_at bytes) ≡ None → ws ≡ vocabulary_in h.words bytes → words_judged ws ≡ None → HasVocabulary h ws
 unfolding words_judged
 has_vocabulary h ws bytes len stand is judged =
     let read = words_written h.words vocabulary_at bytes (tried_none 5 _ stand) in
@@ -115,5 +123,6 @@ has_vocabulary h ws bytes len stand is judged =
       ascending = sorted_from vocabulary_at None ws (all_hold (λ i. follows i.last i.value) (items ws) (tried_none 7 _ p.1));
     }
 
-pub words_count : (h : Header) (ws : List (List ℕ)) (bytes : List ℕ) → tried 5 (words_break h.words vocabulary_at bytes) ≡ None → ws ≡ vocabulary_in h.words bytes → length ws ≡ h.words
+pub words_count : (h : Header) (ws : List (List ℕ)) (bytes : List ℕ) → tried 5 (words_break h.words vocabulary_at bytes) ≡ None
+    → ws ≡ vocabulary_in h.words bytes → length ws ≡ h.words
 words_count h ws bytes stand is = ap length is ∙ (words_written h.words vocabulary_at bytes (tried_none 5 _ stand)).count

@@ -4,22 +4,19 @@
 --
 --   IsDamageOf b e          the fault of opening, if it is damage, is the first broken rule of the bytes with its place
 --   is_read_of_open r, is_read_of_fetch r, is_sink r, is_changed_of_fetch r      the answer is a failed read, a failed sink, a change
---   HasBlock i told k old new      posts were added that are those of block k, read of the bytes that the store tells
 --   AreOf posts docs words         the documents and the words of posts
 --   AreScoredOf posts docs words scores      with their scores
---   posts_in f              the posts of a block that was read into columns
 --   IsRanged i p            the numbers of a post are in range
 --   BreaksBlock i told k rule at, IsChangeOfBlock i told k e     the first rule that the bytes of block k break, with its place in the file
 --   BreaksTitle i told d rule at, IsChangeOfTitle i told d e     the bytes of title d aren't text
-use Rattle.std.specs.Prelude.{◌≡◌, ℕ, ◌<◌, Bool, true, false, List, ◌++◌, length, map, Option, Some, Result, Err, slice_index_or}
+use Rattle.std.specs.Prelude.{◌≡◌, ℕ, ◌<◌, Bool, true, false, List, length, map, Option, Some, Result, Err, slice_index_or}
 use Rattle.std.specs.Option.{ForSome, option_map}
 use Rattle.std.specs.Str.{is_utf8}
 use Rattle.cs_base.specs.outside.Outside.{part}
 use Rattle.cs_base.specs.declared.index.block.BlockHead.{BlockHead}
 use Rattle.cs_base.specs.declared.content.doc.Post.{Post}
-use Rattle.cs_cols.specs.HeldPosts.{posts_of}
 use Rattle.cs_model.specs.Scores.{SCORES}
-use Rattle.cs_model_index.specs.BlockRules.{judged, IsBlock, broken_at, is_scored}
+use Rattle.cs_model_index.specs.BlockRules.{judged, broken_at, is_scored}
 use Rattle.cs_model_index.specs.FileRules.{in_file, damage}
 use Rattle.cs_file.specs.Indexes.{IndexView, block_place, title_place, title_len}
 use Rattle.cs_file.specs.declared.fault.OpenFault.{OpenFault}
@@ -27,7 +24,6 @@ use Rattle.cs_file.specs.declared.fault.OpenFault.TheVariants as opens
 use Rattle.cs_file.specs.declared.fault.FetchFault.{FetchFault}
 use Rattle.cs_file.specs.declared.fault.FetchFault.TheVariants as fetches
 use Rattle.cs_file.specs.declared.fault.WriteFault.{WriteFault}
-use Rattle.cs_file.specs.declared.fetched.Fetched.{Fetched}
 use Rattle.cs_file.specs.declared.fault.WriteFault.TheVariants as writes
 
 -- of a failed read and of want of memory nothing is said
@@ -56,14 +52,6 @@ abbrev pub is_sink : {T : Type 0} → Result T WriteFault → Bool
 is_sink (Err writes.Sink) = true
 is_sink _ = false
 
--- rows that are a block by the index's head were added; of a store that tells, a block of its bytes at that place
-pub record HasBlock (i : IndexView) (told : Option (List ℕ)) (k : ℕ) (old new : List Post) : Type 0 where
-  pub rows : List Post
-  pub bytes : List ℕ
-  pub added : new ≡ old ++ rows
-  pub block : (d : BlockHead) → IsBlock SCORES (slice_index_or i.heads k d) i.docs rows bytes
-  pub read : (d : BlockHead) → ForSome told (λ b. bytes ≡ part b (block_place i k) (slice_index_or i.heads k d).len)
-
 -- one of each for each post
 abbrev pub AreOf : List Post → List ℕ → List ℕ → Type 0
 AreOf posts docs words = (docs ≡ map (λ p. p.doc) posts) × (words ≡ map (λ p. p.word) posts)
@@ -71,10 +59,6 @@ AreOf posts docs words = (docs ≡ map (λ p. p.doc) posts) × (words ≡ map (�
 -- the same with scores
 abbrev pub AreScoredOf : List Post → List ℕ → List ℕ → List ℕ → Type 0
 AreScoredOf posts docs words scores = AreOf posts docs words × (scores ≡ map (λ p. p.score) posts)
-
--- of columns that aren't even as many as the shortest has
-abbrev pub posts_in : Fetched → List Post
-posts_in f = posts_of f.docs.items f.words.items f.positions.items f.scores.items
 
 -- a document and a word of the index, with the position and the score of a facet word or of any other
 pub record IsRanged (i : IndexView) (p : Post) : Type 0 where

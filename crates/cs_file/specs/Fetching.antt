@@ -3,21 +3,21 @@
 -- Source: this engine's own.
 --
 --   IsBlockAt i k placed      what is known of block k
---   IsBlockRead i told k placed read      the bytes of block k were read
---   IsFrontRead i told k placed read      those in front of its positions were read
---   AreColumns placed read docs words positions scores, HasPosts placed read f      columns have the posts of a block whose bytes were read
---   HasScored placed read f            columns have the documents, words and scores of its posts
---   DecodesAt at broken r     the answer where this is the first rule that a block at a place breaks, if there is one
+--   CanBeJudged placed len    a block of so many bytes can be read by its rules
+--   HasScored placed read f   columns have the documents, words and scores of the posts of a block whose bytes were read
+--   IsFaultAt at broken e     the fault where this is the first rule that a block at a place breaks, if there is one
+--   IsFaultOf placed bytes e     the same of the bytes of a block
 --   ReadsText bytes at r      the text of these bytes, or that rule 9 is broken at the place
-use Rattle.std.specs.Prelude.{◌≡◌, ℕ, ◌^◌, ◌<◌, true, false, List, length, slice_index_or, Option, None, Some, Result, Ok, Err}
-use Rattle.std.specs.Option.{ForSome, option_map}
+use Rattle.std.specs.Prelude.{◌≡◌, ℕ, ◌^◌, ◌<◌, true, false, List, length, slice_index_or, Option, Some, Result, Ok, Err}
+use Rattle.std.specs.Option.{option_map}
 use Rattle.std.specs.Str.{is_utf8}
 use Rattle.cs_base.specs.declared.index.block.BlockHead.{BlockHead}
 use Rattle.cs_base.specs.declared.index.block.Broken.{Broken}
-use Rattle.cs_base.specs.outside.Outside.{part}
-use Rattle.cs_block.specs.DocWords.{HasDocWords, HasFront, front_bytes}
-use Rattle.cs_block.specs.Positions.{HasPositions, HasScores}
-use Rattle.cs_model_index.specs.BlockRules.{broken_at}
+use Rattle.cs_block.specs.BlockScores.{HasScores}
+use Rattle.cs_block.specs.DocWords.{HasDocWords}
+use Rattle.cs_model.specs.Scores.{SCORES}
+use Rattle.cs_model_index.specs.BlockRules.{broken_at, judged}
+use Rattle.cs_model_index.specs.Blocks.{IsShaped}
 use Rattle.cs_model_index.specs.FileRules.{in_file}
 use Rattle.cs_file.specs.Indexes.{IndexView, IsIndex, block_place}
 use Rattle.cs_file.specs.declared.fault.FetchFault.{FetchFault}
@@ -34,39 +34,26 @@ pub record IsBlockAt (i : IndexView) (k : ℕ) (placed : Placed) : Type 0 where
   pub docs_are : placed.docs ≡ i.docs
   pub at_is : placed.at ≡ block_place i k
 
--- of a store that tells, they are its bytes at the block's place
-pub record IsBlockRead (i : IndexView) (told : Option (List ℕ)) (k : ℕ) (placed : Placed) (read : List ℕ) : Type 0 where
-  pub stands : IsBlockAt i k placed
-  pub long : length read ≡ placed.head.len
-  pub read_is : ForSome told (λ b. read ≡ part b placed.at placed.head.len)
-
--- some block begins so; of a store that tells, it is the one at the place
-pub record IsFrontRead (i : IndexView) (told : Option (List ℕ)) (k : ℕ) (placed : Placed) (read : List ℕ) : Type 0 where
-  pub long : length read ≡ front_bytes placed.head
-  pub block : List ℕ
-  pub whole : IsBlockRead i told k placed block
-  pub same : HasFront placed.head read block
-
--- each column is as long as the block has rows
-pub record AreColumns (placed : Placed) (read docs words positions scores : List ℕ) : Type 0 where
-  pub listed : HasDocWords placed.head placed.docs read docs words
-  pub scored : HasPositions placed.head read positions scores
-
--- these are four of its fields
-abbrev pub HasPosts : Placed → List ℕ → Fetched → Type 0
-HasPosts placed read f = AreColumns placed read f.docs.items f.words.items f.positions.items f.scores.items
+-- its head fits the bytes, and its place and the documents have as many bits as their numbers
+pub record CanBeJudged (placed : Placed) (len : ℕ) : Type 0 where
+  pub shaped : IsShaped placed.head len
+  pub small : placed.at < 2 ^ 63
+  pub few : placed.docs < 2 ^ 32
 
 -- the documents, words and scores of a block whose bytes were read
 pub record HasScored (placed : Placed) (read : List ℕ) (f : Fetched) : Type 0 where
   pub listed : HasDocWords placed.head placed.docs read f.docs.items f.words.items
   pub scored : HasScores placed.head read f.scores.items
 
--- Ok where no rule is broken; memory may always run out, and a failed read says nothing
-abbrev pub DecodesAt : ℕ → Option Broken → Result (Unit {0}) FetchFault → Type 0
-DecodesAt at broken (Ok u) = broken ≡ None
-DecodesAt at broken (Err (fetches.Changed rule there)) = option_map (in_file at) broken ≡ Some (broken_at rule there)
-DecodesAt at broken (Err fetches.Read) = Unit {0}
-DecodesAt at broken (Err fetches.Memory) = Unit {0}
+-- of a failed read and of want of memory nothing is said
+abbrev pub IsFaultAt : ℕ → Option Broken → FetchFault → Type 0
+IsFaultAt at broken (fetches.Changed rule there) = option_map (in_file at) broken ≡ Some (broken_at rule there)
+IsFaultAt at broken fetches.Read = Unit {0}
+IsFaultAt at broken fetches.Memory = Unit {0}
+
+-- where the bytes keep the rules it is none of a change
+abbrev pub IsFaultOf : Placed → List ℕ → FetchFault → Type 0
+IsFaultOf placed bytes e = IsFaultAt placed.at (judged SCORES placed.head placed.docs bytes) e
 
 -- no bytes are the empty text
 abbrev pub ReadsText : List ℕ → ℕ → Result (List ℕ) FetchFault → Type 0

@@ -6,4 +6,14 @@ use Rattle.cs_file.specs.declared.header.Header.{Header as Numbers}
 
 -- the last number, which the rules ask to be 0, isn't kept
 abbrev pub seen_header : Numbers → Header
-seen_header h = record { docs = h.docs; words = h.words; rows = h.rows; blocks = h.blocks; target = h.target; vocabulary_len = h.vocabulary_len; titles_len = h.titles_len; blocks_len = h.blocks_len; spare = 0 }
+seen_header h = record {
+  docs = h.docs;
+  words = h.words;
+  rows = h.rows;
+  blocks = h.blocks;
+  target = h.target;
+  vocabulary_len = h.vocabulary_len;
+  titles_len = h.titles_len;
+  blocks_len = h.blocks_len;
+  spare = 0;
+}

@@ -12,7 +12,8 @@
 --   AreMet heads lo hi first last    the blocks from `first` up to `last` are those that hold a word from lo up to hi
 --   block_posts b k, title_in b d    the posts of block k and the title of document d that are read of the bytes
 --   CausedReads read before now      a count of failures rose exactly where the answer is a failed read
-use Rattle.std.specs.Prelude.{◌≡◌, ℕ, ◌+◌, ◌-◌, ◌*◌, ◌≤◌, ◌<◌, ◌^◌, Bool, true, false, ◌&&◌, nat_lt, nat_le, List, [], length, take, slice_index_or, All, Option, None}
+use Rattle.std.specs.Prelude.{◌≡◌, ℕ, ◌+◌, ◌-◌, ◌*◌, ◌≤◌, ◌<◌, ◌^◌, Bool, true, false, ◌&&◌, nat_lt, nat_le, List, [], length, take, slice_index_or, All}
+use Rattle.std.specs.Prelude.{Option, None}
 use Rattle.std.specs.List.{list_all, sum_by}
 use Rattle.std.specs.List.Sorted.{IsStrictlySortedBy}
 use Rattle.std.specs.Option.{ForSome, unwrap_or}
@@ -44,7 +45,15 @@ pub record IndexView : Type 0 where
 unfoldable pub index_of : List ℕ → IndexView
 index_of b =
     let r = contents_of b in
-    record { docs = r.header.docs; words = r.words; offsets = r.offsets; heads = r.heads; target = r.header.target; titles_at = titles_at r.header; blocks_at = blocks_at r.header }
+    record {
+      docs = r.header.docs;
+      words = r.words;
+      offsets = r.offsets;
+      heads = r.heads;
+      target = r.header.target;
+      titles_at = titles_at r.header;
+      blocks_at = blocks_at r.header;
+    }
 
 -- where the titles end among their bytes; 0 where there is no offset
 abbrev pub titles_end : IndexView → ℕ

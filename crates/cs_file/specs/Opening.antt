@@ -20,7 +20,8 @@
 --   bad_offset h os, bad_title b     where rules 8 and 9 are broken
 --   header_judged bytes size         rules 2 to 4 of the header's bytes
 --   file_words b, offsets_of b, file_titles b, heads_of b, blocks_of b       what is read of the bytes
-use Rattle.std.specs.Prelude.{◌≡◌, ℕ, zero, suc, ◌+◌, true, All, if◌then◌else◌, ◌<◌, ◌≤◌, ◌^◌, ◌==◌, ◌&&◌, List, [], ◌∷◌, length, take, Option, None, Some, Result, MatchResult}
+use Rattle.std.specs.Prelude.{◌≡◌, ℕ, zero, suc, ◌+◌, true, All, if◌then◌else◌, ◌<◌, ◌≤◌, ◌^◌, ◌==◌, ◌&&◌, List, [], ◌∷◌, length, take, Option, None, Some}
+use Rattle.std.specs.Prelude.{Result, MatchResult}
 use Rattle.std.specs.List.{list_all, slice_get, sum_by}
 use Rattle.std.specs.List.Sorted.{IsStrictlySortedBy}
 use Rattle.std.specs.Option.{ForSome, option_or, unwrap_or}
@@ -34,7 +35,9 @@ use Rattle.cs_base.specs.outside.Outside.{part}
 use Rattle.cs_base.specs.declared.content.limits.TheConstants.{MAX_DOCS, MAX_WORDS, MAX_ROWS}
 use Rattle.cs_model.specs.First.{unless, first_reason}
 use Rattle.cs_model_index.specs.BlockRules.{broken_at}
-use Rattle.cs_model_index.specs.FileRules.{laid, last_value, words_end, is_joined, is_of_one_kind, is_sized, break_of, is_onward, last_offset_at, tried, field_breaks, is_length, is_word, word_size, follows, header_rules, vocabulary_rules, title_rules, directory_rules, blocks_break, parting_rules}
+use Rattle.cs_model_index.specs.FileRules.{laid, last_value, words_end, is_joined, is_of_one_kind, is_sized, break_of, is_onward, last_offset_at, tried}
+use Rattle.cs_model_index.specs.FileRules.{field_breaks, is_length, is_word, word_size, follows, header_rules, vocabulary_rules, title_rules, directory_rules}
+use Rattle.cs_model_index.specs.FileRules.{blocks_break, parting_rules}
 use Rattle.cs_model_index.specs.Layout.{Header, MAGIC, vocabulary_bytes}
 use Rattle.cs_model_index.specs.Numbered.{word_at}
 use Rattle.cs_model_index.specs.Partitions.{is_facet}
@@ -144,7 +147,8 @@ header_stage b = first_reason (header_rules b (header_of b))
 -- rules 2 to 4 of the first bytes of a file of some size
 unfoldable pub header_judged : List ℕ → ℕ → Option Broken
 header_judged bytes size =
-    first_reason (tried 2 (unless (bytes_eq (take 8 bytes) MAGIC) 0) ∷ tried 3 (first_reason (field_breaks (header_of bytes))) ∷ tried 4 (unless (size == size_by (header_of bytes)) size) ∷ [])
+    first_reason (tried 2 (unless (bytes_eq (take 8 bytes) MAGIC) 0) ∷ tried 3 (first_reason (field_breaks (header_of bytes)))
+    ∷ tried 4 (unless (size == size_by (header_of bytes)) size) ∷ [])
 
 -- rules 5 to 7
 unfoldable pub vocabulary_stage : List ℕ → Option Broken
@@ -162,7 +166,8 @@ titles_stage b = first_reason (title_rules (contents_of b))
 
 -- where rule 8 is broken by some offsets
 unfoldable pub bad_offset : Header → List ℕ → Option ℕ
-bad_offset h os = option_or (break_of (λ i. is_onward i.last i.value) (laid (λ o. NUMBER_BYTES) (offsets_at h) None os)) (unless (unwrap_or (last_value os) 0 == h.titles_len) (last_offset_at h))
+bad_offset h os = option_or (break_of (λ i. is_onward i.last i.value) (laid (λ o. NUMBER_BYTES) (offsets_at h) None os))
+    (unless (unwrap_or (last_value os) 0 == h.titles_len) (last_offset_at h))
 
 -- where rule 9 is broken by the titles of bytes
 unfoldable pub bad_title : List ℕ → Option ℕ
@@ -174,15 +179,19 @@ directory_stage b = first_reason (directory_rules (contents_of b))
 
 -- where rule 10 is broken by some heads
 unfoldable pub bad_joint : Header → List BlockHead → Option ℕ
-bad_joint h hs = option_or (break_of (λ i. is_joined i.last i.value) (laid (λ h. ENTRY_BYTES) (directory_at h) None hs)) (unless (words_end (last_value hs) == h.words) (blocks_at h))
+bad_joint h hs = option_or (break_of (λ i. is_joined i.last i.value) (laid (λ h. ENTRY_BYTES) (directory_at h) None hs))
+    (unless (words_end (last_value hs) == h.words) (blocks_at h))
 
 -- where rule 12 is broken by them
 unfoldable pub bad_size : Header → List BlockHead → Option ℕ
-bad_size h hs = option_or (break_of (λ i. is_sized i.value) (laid (λ h. ENTRY_BYTES) (directory_at h) None hs)) (unless (sum_by (λ h. h.rows) hs == h.rows && sum_by (λ h. h.len) hs == h.blocks_len) (blocks_at h))
+bad_size h hs = option_or (break_of (λ i. is_sized i.value) (laid (λ h. ENTRY_BYTES) (directory_at h) None hs))
+    (unless (sum_by (λ h. h.rows) hs == h.rows && sum_by (λ h. h.len) hs == h.blocks_len) (blocks_at h))
 
 -- rules 10 to 12 of heads over some words
 unfoldable pub directory_judged : Header → List (List ℕ) → List BlockHead → Option Broken
-directory_judged h ws hs = first_reason (tried 10 (bad_joint h hs) ∷ tried 11 (break_of (λ i. is_of_one_kind ws i.value) (laid (λ h. ENTRY_BYTES) (directory_at h) None hs)) ∷ tried 12 (bad_size h hs) ∷ [])
+directory_judged h ws hs =
+    first_reason (tried 10 (bad_joint h hs)
+    ∷ tried 11 (break_of (λ i. is_of_one_kind ws i.value) (laid (λ h. ENTRY_BYTES) (directory_at h) None hs)) ∷ tried 12 (bad_size h hs) ∷ [])
 
 -- rules 13 to 17
 unfoldable pub blocks_stage : List ℕ → Option Broken

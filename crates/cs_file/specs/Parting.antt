@@ -18,7 +18,11 @@ use Rattle.cs_file.specs.declared.part.BlockPart.{BlockPart}
 
 -- of a block of no words each word has a row, and the first has none
 abbrev pub part_by : BlockHead → List Post → BlockPart
-part_by h posts = record { head = h; whole = list_all (λ n. list_any (λ post. post.word == n) posts) (range_with_len h.lo h.words); first = count_by (λ post. post.word == h.lo) posts }
+part_by h posts = record {
+  head = h;
+  whole = list_all (λ n. list_any (λ post. post.word == n) posts) (range_with_len h.lo h.words);
+  first = count_by (λ post. post.word == h.lo) posts;
+}
 
 -- one for each head that has a block
 unfoldable pub parts_by : List BlockHead → List (List Post) → List BlockPart

@@ -9,7 +9,8 @@ ghost use Rattle.cs_model_index.specs.declared.limits.TheConstants.{ENTRY_BYTES}
 ghost use Rattle.cs_file.specs.CallAnswers.{is_read_of_open};
 ghost use Rattle.cs_file.specs.HeaderView.{seen_header};
 ghost use Rattle.cs_file.specs.Indexes.{CausedReads};
-ghost use Rattle.cs_file.specs.Opening.{AreBytes, Judges, IsHeader, HasHeader, HasHeads, bad_joint, bad_size, before, directory_stage, directory_judged, heads_of, file_words};
+ghost use Rattle.cs_file.specs.Opening.{AreBytes, Judges, IsHeader, HasHeader, HasHeads, bad_joint, bad_size, before, directory_stage, directory_judged};
+ghost use Rattle.cs_file.specs.Opening.{heads_of, file_words};
 
 use crate::fault::OpenFault;
 use crate::header::Header;

@@ -1,15 +1,13 @@
 //! What a block is read into.
 use std::alloc::Global;
 
-/// The posts of a block, column by column, in memory that is used again for the next block.
+/// The posts of a block without their positions, column by column, in memory that is used again for the next block.
 #[derive(Drop)]
 pub struct Fetched {
     /// The documents, post by post.
     pub docs: Vec<u32>,
     /// The words' numbers.
     pub words: Vec<u32>,
-    /// The positions.
-    pub positions: Vec<u32>,
     /// The scores.
     pub scores: Vec<u8>,
     /// The block's bytes.
@@ -22,7 +20,6 @@ impl Fetched {
         Fetched {
             docs: Vec::new(alloc),
             words: Vec::new(alloc),
-            positions: Vec::new(alloc),
             scores: Vec::new(alloc),
             bytes: Vec::new(alloc),
         }

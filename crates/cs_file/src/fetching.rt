@@ -1,8 +1,7 @@
 //! Reading blocks and titles of an opened index.
-ghost use Rattle.std.specs.Prelude.{◌≡◌, ◌<◌, ◌≤◌, ◌+◌, ◌*◌, ◌^◌, ◌++◌, ℕ, List, Option, false, length, Err, IfOk, IfErr, OnOk, OnErr, All};
+ghost use Rattle.std.specs.Prelude.{◌≡◌, ◌<◌, ◌≤◌, ◌+◌, ◌^◌, ℕ, List, Option, false, length, Err, IfOk, IfErr, OnOk, All};
 ghost use Rattle.std.specs.List.{sum_by};
 ghost use Rattle.std.specs.Option.{ForSome};
-ghost use Rattle.cs_base.specs.declared.content.doc.Post.{Post};
 ghost use Rattle.cs_base.specs.declared.content.limits.TheConstants.{MAX_WORDS};
 ghost use Rattle.cs_base.specs.declared.content.scores.TheConstants.{TITLE_SCORE};
 ghost use Rattle.cs_base.specs.outside.Causes.{ReadsWithin};
@@ -11,11 +10,9 @@ ghost use Rattle.cs_base.specs.declared.index.block.Broken.{Broken};
 ghost use Rattle.cs_block.specs.BlockReading.{Decodes};
 ghost use Rattle.cs_block.specs.DocWords.{HasDocWords, HasFront, front_bytes};
 ghost use Rattle.cs_model.specs.Scores.{SCORES};
-ghost use Rattle.cs_model_index.specs.BlockRules.{IsBlock, judged};
-ghost use Rattle.cs_model_index.specs.Blocks.{IsShaped};
-ghost use Rattle.cs_cols.specs.HeldPosts.{AreEven};
-ghost use Rattle.cs_file.specs.CallAnswers.{AreOf, HasBlock, IsChangeOfBlock, IsChangeOfTitle, IsRanged, AreScoredOf, is_read_of_fetch, is_changed_of_fetch, posts_in};
-ghost use Rattle.cs_file.specs.Fetching.{DecodesAt, HasPosts, HasScored, IsBlockAt, IsBlockRead, IsFrontRead, ReadsText};
+ghost use Rattle.cs_model_index.specs.BlockRules.{IsBlock};
+ghost use Rattle.cs_file.specs.CallAnswers.{AreOf, AreScoredOf, IsChangeOfBlock, IsChangeOfTitle, is_read_of_fetch, is_changed_of_fetch};
+ghost use Rattle.cs_file.specs.Fetching.{CanBeJudged, HasScored, IsBlockAt, IsFaultAt, IsFaultOf, ReadsText};
 ghost use Rattle.cs_file.specs.Indexes.{StandsFor, HasAllBlocks, CausedReads, block_place, block_posts, title_in, title_place, title_len};
 
 use crate::fault::FetchFault;
@@ -23,7 +20,7 @@ use crate::fetched::Fetched;
 use crate::index::Index;
 use crate::reading::{fit, read_at_once};
 use cs_base::{BlockHead, Memory, Store, Text};
-use cs_block::{BlockFault, decode, front_len, read_doc_words, read_positions, read_scores};
+use cs_block::{BlockFault, decode, front_len, read_doc_words, read_scores};
 use cs_cols::Cols;
 use std::alloc::Global;
 
@@ -39,60 +36,6 @@ pub(crate) struct Placed {
 }
 
 impl Index {
-    /// Adds the posts of block `k` at the end, read from the store from which the index was opened.
-    pub fn fetch<S: Store>(
-        &self,
-        alloc: Global,
-        store: &mut S,
-        k: u32,
-        into: &mut Cols,
-    ) -> Result<(), FetchFault>
-        requires in_range { k < length self.now.heads }
-        requires fits { HasAllBlocks (S.bytes store.old) self.now }
-
-        // over every store the posts are those of a block that keeps the rules, and over one that tells they are read there
-        ensures ok { OnOk result (HasBlock self.now (S.bytes store.old) k into.old.posts into.new.posts) }
-        ensures stood { ForSome (S.bytes store.old) (λ b. StandsFor b self.now → OnOk result (into.new.posts ≡ into.old.posts ++ block_posts b k)) }
-        ensures changed { IfErr result (IsChangeOfBlock self.now (S.bytes store.old) k) }
-        ensures err { OnErr result (into.new.posts ≡ into.old.posts) }
-        ensures unchanged { ForSome (S.bytes store.old) (λ b. StandsFor b self.now → is_changed_of_fetch result ≡ false) }
-        ensures bytes { S.bytes store.new ≡ S.bytes store.old }
-        ensures lent { S.lent store.new ≡ S.lent store.old }
-        ensures reads { ReadsWithin 1 (S.reads store.old) (S.reads store.new) }
-        ensures caused { CausedReads (is_read_of_fetch result) (S.faults store.old) (S.faults store.new) }
-    {
-        let mut bytes = Vec::new(alloc);
-        let placed = self.read_block(store, k, &mut bytes)?;
-        decode_at(&bytes, &placed, into)
-    }
-
-    /// Reads the posts of block `k` in place of what `into` holds, from the store from which the index was opened. That they
-    /// are in order isn't looked at. Where it fails `into` holds anything.
-    pub fn fetch_posts<S: Store>(
-        &self,
-        alloc: Global,
-        store: &mut S,
-        k: u32,
-        into: &mut Fetched,
-    ) -> Result<(), FetchFault>
-        requires in_range { k < length self.now.heads }
-        requires fits { HasAllBlocks (S.bytes store.old) self.now }
-
-        // over every store they are in range, and over one that tells they are read there
-        ensures even { OnOk result (AreEven into.new.docs.items into.new.words.items into.new.positions.items into.new.scores.items) }
-        ensures ranged { OnOk result (All (IsRanged self.now) (posts_in into.new)) }
-        ensures stood { ForSome (S.bytes store.old) (λ b. StandsFor b self.now → OnOk result (posts_in into.new ≡ block_posts b k)) }
-        ensures changed { IfErr result (IsChangeOfBlock self.now (S.bytes store.old) k) }
-        ensures unchanged { ForSome (S.bytes store.old) (λ b. StandsFor b self.now → is_changed_of_fetch result ≡ false) }
-        ensures bytes { S.bytes store.new ≡ S.bytes store.old }
-        ensures lent { S.lent store.new ≡ S.lent store.old }
-        ensures reads { ReadsWithin 1 (S.reads store.old) (S.reads store.new) }
-        ensures caused { CausedReads (is_read_of_fetch result) (S.faults store.old) (S.faults store.new) }
-    {
-        let placed = self.read_block(store, k, &mut into.bytes)?;
-        posts_at(alloc, &placed, into)
-    }
-
     /// Reads the documents, the words and the scores of the posts of block `k` in place of those that `into` holds, from the store
     /// from which the index was opened. Positions aren't looked at. Where it fails `into` holds anything.
     pub fn fetch_scored<S: Store>(
@@ -111,7 +54,8 @@ impl Index {
         ensures docs { OnOk result (All (λ d. d < self.now.docs) into.new.docs.items) }
         ensures words { OnOk result (All (λ w. w < length self.now.words) into.new.words.items) }
         ensures scores { OnOk result (All (λ s. s ≤ TITLE_SCORE) into.new.scores.items) }
-        ensures stood { ForSome (S.bytes store.old) (λ b. StandsFor b self.now → OnOk result (AreScoredOf (block_posts b k) into.new.docs.items into.new.words.items into.new.scores.items)) }
+        ensures stood { ForSome (S.bytes store.old) (λ b. StandsFor b self.now
+            → OnOk result (AreScoredOf (block_posts b k) into.new.docs.items into.new.words.items into.new.scores.items)) }
         ensures changed { IfErr result (IsChangeOfBlock self.now (S.bytes store.old) k) }
         ensures unchanged { ForSome (S.bytes store.old) (λ b. StandsFor b self.now → is_changed_of_fetch result ≡ false) }
         ensures bytes { S.bytes store.new ≡ S.bytes store.old }
@@ -119,7 +63,8 @@ impl Index {
         ensures reads { ReadsWithin 1 (S.reads store.old) (S.reads store.new) }
         ensures caused { CausedReads (is_read_of_fetch result) (S.faults store.old) (S.faults store.new) }
     {
-        let placed = self.read_block(store, k, &mut into.bytes)?;
+        let placed = self.placed(k);
+        read_over(store, placed.at, placed.head.len, &mut into.bytes)?;
         scored_at(alloc, &placed, into)
     }
 
@@ -138,7 +83,8 @@ impl Index {
         ensures even { OnOk result (length into.new.words.items ≡ length into.new.docs.items) }
         ensures docs { OnOk result (All (λ d. d < self.now.docs) into.new.docs.items) }
         ensures words { OnOk result (All (λ w. w < length self.now.words) into.new.words.items) }
-        ensures stood { ForSome (S.bytes store.old) (λ b. StandsFor b self.now → OnOk result (AreOf (block_posts b k) into.new.docs.items into.new.words.items)) }
+        ensures stood { ForSome (S.bytes store.old) (λ b. StandsFor b self.now
+            → OnOk result (AreOf (block_posts b k) into.new.docs.items into.new.words.items)) }
         ensures changed { IfErr result (IsChangeOfBlock self.now (S.bytes store.old) k) }
         ensures unchanged { ForSome (S.bytes store.old) (λ b. StandsFor b self.now → is_changed_of_fetch result ≡ false) }
         ensures bytes { S.bytes store.new ≡ S.bytes store.old }
@@ -146,7 +92,8 @@ impl Index {
         ensures reads { ReadsWithin 1 (S.reads store.old) (S.reads store.new) }
         ensures caused { CausedReads (is_read_of_fetch result) (S.faults store.old) (S.faults store.new) }
     {
-        let placed = self.read_front(store, k, &mut into.bytes)?;
+        let placed = self.placed(k);
+        read_over(store, placed.at, front_len(&placed.head), &mut into.bytes)?;
         doc_words_at(&placed, into)
     }
 
@@ -178,52 +125,8 @@ impl Index {
         text_at(bytes, at)
     }
 
-    /// Reads the bytes of block `k` in place of others.
-    pub(crate) fn read_block<S: Store>(
-        &self,
-        store: &mut S,
-        k: u32,
-        bytes: &mut Vec<u8>,
-    ) -> Result<Placed, FetchFault>
-        requires in_range { k < length self.now.heads }
-        requires fits { HasAllBlocks (S.bytes store.old) self.now }
-
-        ensures ok { IfOk result (λ placed. IsBlockRead self.now (S.bytes store.old) k placed bytes.new.items) }
-        ensures unchanged { is_changed_of_fetch result ≡ false }
-        ensures bytes { S.bytes store.new ≡ S.bytes store.old }
-        ensures lent { S.lent store.new ≡ S.lent store.old }
-        ensures reads { ReadsWithin 1 (S.reads store.old) (S.reads store.new) }
-        ensures caused { CausedReads (is_read_of_fetch result) (S.faults store.old) (S.faults store.new) }
-    {
-        let placed = self.placed(k);
-        read_over(store, placed.at, placed.head.len, bytes)?;
-        Ok(placed)
-    }
-
-    // Reads the bytes of block `k` that stand in front of its positions, in place of others.
-    fn read_front<S: Store>(
-        &self,
-        store: &mut S,
-        k: u32,
-        bytes: &mut Vec<u8>,
-    ) -> Result<Placed, FetchFault>
-        requires in_range { k < length self.now.heads }
-        requires fits { HasAllBlocks (S.bytes store.old) self.now }
-
-        ensures ok { IfOk result (λ placed. IsFrontRead self.now (S.bytes store.old) k placed bytes.new.items) }
-        ensures unchanged { is_changed_of_fetch result ≡ false }
-        ensures bytes { S.bytes store.new ≡ S.bytes store.old }
-        ensures lent { S.lent store.new ≡ S.lent store.old }
-        ensures reads { ReadsWithin 1 (S.reads store.old) (S.reads store.new) }
-        ensures caused { CausedReads (is_read_of_fetch result) (S.faults store.old) (S.faults store.new) }
-    {
-        let placed = self.placed(k);
-        read_over(store, placed.at, front_len(&placed.head), bytes)?;
-        Ok(placed)
-    }
-
-    // What is known of block `k`.
-    fn placed(&self, k: u32) -> Placed
+    /// What is known of block `k`.
+    pub(crate) fn placed(&self, k: u32) -> Placed
         requires { k < length self.now.heads }
 
         ensures { IsBlockAt self.now k result }
@@ -259,8 +162,8 @@ fn bytes_of(heads: &[BlockHead]) -> u64
     sum
 }
 
-// Reads so many bytes from a place in place of others, by one read.
-fn read_over<S: Store>(
+/// Reads so many bytes from a place in place of others, by one read.
+pub(crate) fn read_over<S: Store>(
     store: &mut S,
     at: u64,
     len: u32,
@@ -283,18 +186,17 @@ fn read_over<S: Store>(
     }
 }
 
-/// Adds the posts of a block.
-pub(crate) fn decode_at(bytes: &[u8], placed: &Placed, into: &mut Cols) -> Result<(), FetchFault>
-    requires shaped { IsShaped placed.now.head (length bytes.now) }
-    requires places { placed.now.at < 2 ^ 63 }
+/// The posts of a block, whose bytes were read, by decoding it: where a test on some columns fails, this says what is broken.
+pub(crate) fn decode_at(alloc: Global, bytes: &[u8], placed: &Placed) -> Result<Cols, FetchFault>
+    requires { CanBeJudged placed.now (length bytes.now) }
 
-    ensures ok { OnOk result ((rows : List Post) × IsBlock SCORES placed.now.head placed.now.docs rows bytes.now × (into.new.posts ≡ into.old.posts ++ rows)) }
-    ensures exact { DecodesAt placed.now.at (judged SCORES placed.now.head placed.now.docs bytes.now) result }
-    ensures err { OnErr result (into.new.posts ≡ into.old.posts) }
+    ensures ok { IfOk result (λ rows. IsBlock SCORES placed.now.head placed.now.docs rows.posts bytes.now) }
+    ensures exact { IfErr result (λ fault. IsFaultOf placed.now bytes.now fault) }
     ensures unread { is_read_of_fetch result ≡ false }
 {
-    match decode(bytes, &placed.head, placed.docs, into) {
-        Ok(()) => Ok(()),
+    let mut rows = Cols::new(alloc);
+    match decode(bytes, &placed.head, placed.docs, &mut rows) {
+        Ok(()) => Ok(rows),
         Err(fault) => Err(file_fault(fault, placed.at)),
     }
 }
@@ -303,7 +205,7 @@ pub(crate) fn decode_at(bytes: &[u8], placed: &Placed, into: &mut Cols) -> Resul
 fn file_fault(fault: BlockFault, at: u64) -> FetchFault
     requires places { at < 2 ^ 63 }
 
-    ensures exact { (broken : Option Broken) → Decodes (Err fault) broken → DecodesAt at broken (Err result) }
+    ensures exact { (broken : Option Broken) → Decodes (Err fault) broken → IsFaultAt at broken result }
     ensures unread { is_read_of_fetch {T = Unit {0}} (Err result) ≡ false }
 {
     match fault {
@@ -315,56 +217,42 @@ fn file_fault(fault: BlockFault, at: u64) -> FetchFault
     }
 }
 
-// Puts the posts of a block, whose bytes were read, into columns. Where a position or a score isn't in range, the block is decoded,
-// which says what is broken.
-fn posts_at(alloc: Global, placed: &Placed, into: &mut Fetched) -> Result<(), FetchFault>
-    requires shaped { IsShaped placed.now.head (length into.old.bytes.items) }
-    requires places { placed.now.at < 2 ^ 63 }
-    requires few { placed.now.docs < 2 ^ 32 }
-
-    ensures ok { OnOk result (HasPosts placed.now into.old.bytes.items into.new) }
-    ensures exact { IfErr result (λ fault. DecodesAt placed.now.at (judged SCORES placed.now.head placed.now.docs into.old.bytes.items) (Err fault)) }
-    ensures unread { is_read_of_fetch result ≡ false }
-{
-    doc_words_at(placed, into)?;
-    let whole = read_positions(
-        &into.bytes,
-        &placed.head,
-        &mut into.positions,
-        &mut into.scores,
-    )?;
-    if whole {
-        return Ok(());
-    }
-    decode_columns(alloc, placed, into)
-}
-
-// The same of documents, words and scores alone.
+// Puts the documents, the words and the scores of the posts of a block, whose bytes were read, into columns. Where a score isn't of
+// the block's kind, the block is decoded.
 fn scored_at(alloc: Global, placed: &Placed, into: &mut Fetched) -> Result<(), FetchFault>
-    requires shaped { IsShaped placed.now.head (length into.old.bytes.items) }
-    requires places { placed.now.at < 2 ^ 63 }
-    requires few { placed.now.docs < 2 ^ 32 }
+    requires { CanBeJudged placed.now (length into.old.bytes.items) }
 
     ensures ok { OnOk result (HasScored placed.now into.old.bytes.items into.new) }
-    ensures exact { IfErr result (λ fault. DecodesAt placed.now.at (judged SCORES placed.now.head placed.now.docs into.old.bytes.items) (Err fault)) }
+    ensures exact { IfErr result (λ fault. IsFaultOf placed.now into.old.bytes.items fault) }
     ensures unread { is_read_of_fetch result ≡ false }
 {
     doc_words_at(placed, into)?;
     if read_scores(&into.bytes, &placed.head, &mut into.scores)? {
         return Ok(());
     }
-    decode_columns(alloc, placed, into)
+    let rows = decode_at(alloc, &into.bytes, placed)?;
+    put_all(&mut into.scores, rows.scores())?;
+    Ok(())
+}
+
+// Puts scores into a column in place of what it holds.
+fn put_all(column: &mut Vec<u8>, scores: &[u8]) -> Result<(), Memory>
+    ensures { OnOk result (column.new.items ≡ scores.now) }
+{
+    column.truncate(0);
+    column.extend_from_slice(scores)?;
+    Ok(())
 }
 
 // Puts the documents and the words of the posts of a block into columns. Its bytes were read, or those in front of its positions.
 fn doc_words_at(placed: &Placed, into: &mut Fetched) -> Result<(), FetchFault>
-    requires shaped { IsShaped placed.now.head placed.now.head.len }
+    requires judged { CanBeJudged placed.now placed.now.head.len }
     requires front { front_bytes placed.now.head ≤ length into.old.bytes.items }
-    requires places { placed.now.at < 2 ^ 63 }
 
     // of each block that begins so
-    ensures ok { OnOk result ((block : List ℕ) → HasFront placed.now.head into.old.bytes.items block → HasDocWords placed.now.head placed.now.docs block into.new.docs.items into.new.words.items) }
-    ensures exact { IfErr result (λ fault. (block : List ℕ) → HasFront placed.now.head into.old.bytes.items block → DecodesAt placed.now.at (judged SCORES placed.now.head placed.now.docs block) (Err fault)) }
+    ensures ok { OnOk result ((block : List ℕ) → HasFront placed.now.head into.old.bytes.items block
+        → HasDocWords placed.now.head placed.now.docs block into.new.docs.items into.new.words.items) }
+    ensures exact { IfErr result (λ fault. (block : List ℕ) → HasFront placed.now.head into.old.bytes.items block → IsFaultOf placed.now block fault) }
     ensures unread { is_read_of_fetch result ≡ false }
     ensures bytes { into.new.bytes ≡ into.old.bytes }
 {
@@ -379,34 +267,6 @@ fn doc_words_at(placed: &Placed, into: &mut Fetched) -> Result<(), FetchFault>
         Ok(()) => Ok(()),
         Err(fault) => Err(file_fault(fault, placed.at)),
     }
-}
-
-// Puts the posts of a block, whose bytes were read, into columns by decoding it.
-fn decode_columns(alloc: Global, placed: &Placed, into: &mut Fetched) -> Result<(), FetchFault>
-    requires shaped { IsShaped placed.now.head (length into.old.bytes.items) }
-    requires places { placed.now.at < 2 ^ 63 }
-    requires few { placed.now.docs < 2 ^ 32 }
-
-    ensures ok { OnOk result (HasPosts placed.now into.old.bytes.items into.new) }
-    ensures exact { DecodesAt placed.now.at (judged SCORES placed.now.head placed.now.docs into.old.bytes.items) result }
-    ensures unread { is_read_of_fetch result ≡ false }
-{
-    let mut rows = Cols::new(alloc);
-    decode_at(&into.bytes, placed, &mut rows)?;
-    put_all(&mut into.docs, rows.docs())?;
-    put_all(&mut into.words, rows.words())?;
-    put_all(&mut into.positions, rows.places())?;
-    put_all(&mut into.scores, rows.scores())?;
-    Ok(())
-}
-
-// Puts numbers into a column in place of what it holds.
-fn put_all<T: Copy>(column: &mut Vec<T>, numbers: &[T]) -> Result<(), Memory>
-    ensures { OnOk result (column.new.items ≡ numbers.now) }
-{
-    column.truncate(0);
-    column.extend_from_slice(numbers)?;
-    Ok(())
 }
 
 // The text of a title that stands at a place of the file.

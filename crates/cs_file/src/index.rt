@@ -30,9 +30,11 @@ impl Model for Index {
 
     ghost Value = { IndexView };
 
-    ghost view = { λ i. record { docs = i.docs; words = i.words; offsets = i.offsets; heads = i.heads; target = i.target; titles_at = i.titles_at; blocks_at = i.blocks_at } };
+    ghost view = { λ i.
+        record { docs = i.docs; words = i.words; offsets = i.offsets; heads = i.heads; target = i.target; titles_at = i.titles_at; blocks_at = i.blocks_at } };
 
-    ghost invariant = { λ i. IsIndex (record { docs = i.docs; words = i.words; offsets = i.offsets; heads = i.heads; target = i.target; titles_at = i.titles_at; blocks_at = i.blocks_at }) };
+    ghost invariant = { λ i. IsIndex
+        (record { docs = i.docs; words = i.words; offsets = i.offsets; heads = i.heads; target = i.target; titles_at = i.titles_at; blocks_at = i.blocks_at }) };
 }
 
 impl Index {

@@ -1,18 +1,15 @@
 //! Reading those posts of a block that are sought: of some words, in listed documents.
-ghost use Rattle.std.specs.Prelude.{◌≡◌, ◌<◌, ◌≤◌, ◌^◌, ◌++◌, false, true, filter, length, Err, IfOk, IfErr, OnOk};
+ghost use Rattle.std.specs.Prelude.{◌≡◌, ◌<◌, ◌≤◌, ◌++◌, false, true, filter, length, IfErr, OnOk};
 ghost use Rattle.std.specs.List.{All};
 ghost use Rattle.std.specs.Option.{ForSome};
 ghost use Rattle.cs_base.specs.outside.Causes.{ReadsWithin};
 ghost use Rattle.cs_block.specs.Sought.{HasSought, is_sought};
-ghost use Rattle.cs_model.specs.Scores.{SCORES};
-ghost use Rattle.cs_model_index.specs.BlockRules.{judged};
-ghost use Rattle.cs_model_index.specs.Blocks.{IsShaped};
 ghost use Rattle.cs_file.specs.CallAnswers.{IsChangeOfBlock, IsRanged, is_read_of_fetch, is_changed_of_fetch};
-ghost use Rattle.cs_file.specs.Fetching.{DecodesAt};
+ghost use Rattle.cs_file.specs.Fetching.{CanBeJudged, IsFaultOf};
 ghost use Rattle.cs_file.specs.Indexes.{StandsFor, HasAllBlocks, CausedReads, block_posts};
 
 use crate::fault::FetchFault;
-use crate::fetching::{Placed, decode_at};
+use crate::fetching::{Placed, decode_at, read_over};
 use crate::index::Index;
 use cs_base::{Memory, Post, Store};
 use cs_block::{is_sought, read_sought};
@@ -62,7 +59,8 @@ impl Index {
         // over every store they are in range and sought, and over one that tells they are all that are read there
         ensures ranged { OnOk result (All (IsRanged self.now) into.new.posts.items) }
         ensures sought { OnOk result (All (λ p. is_sought words.0 words.1 listed.now p ≡ true) into.new.posts.items) }
-        ensures stood { ForSome (S.bytes store.old) (λ b. StandsFor b self.now → OnOk result (into.new.posts.items ≡ filter (is_sought words.0 words.1 listed.now) (block_posts b k))) }
+        ensures stood { ForSome (S.bytes store.old) (λ b. StandsFor b self.now
+            → OnOk result (into.new.posts.items ≡ filter (is_sought words.0 words.1 listed.now) (block_posts b k))) }
         ensures changed { IfErr result (IsChangeOfBlock self.now (S.bytes store.old) k) }
         ensures unchanged { ForSome (S.bytes store.old) (λ b. StandsFor b self.now → is_changed_of_fetch result ≡ false) }
         ensures bytes { S.bytes store.new ≡ S.bytes store.old }
@@ -70,13 +68,13 @@ impl Index {
         ensures reads { ReadsWithin 1 (S.reads store.old) (S.reads store.new) }
         ensures caused { CausedReads (is_read_of_fetch result) (S.faults store.old) (S.faults store.new) }
     {
-        let placed = self.read_block(store, k, &mut into.bytes)?;
+        let placed = self.placed(k);
+        read_over(store, placed.at, placed.head.len, &mut into.bytes)?;
         sought_at(alloc, &placed, words, listed, into)
     }
 }
 
-// Puts the posts of a block that are sought, whose bytes were read, into a list. Where a test fails the block is decoded, which says
-// what is broken.
+// Puts the posts of a block that are sought, whose bytes were read, into a list. Where a test fails the block is decoded.
 fn sought_at(
     alloc: Global,
     placed: &Placed,
@@ -84,64 +82,25 @@ fn sought_at(
     listed: &[bool],
     into: &mut Sought,
 ) -> Result<(), FetchFault>
-    requires shaped { IsShaped placed.now.head (length into.old.bytes.items) }
-    requires places { placed.now.at < 2 ^ 63 }
-    requires few { placed.now.docs < 2 ^ 32 }
+    requires judged { CanBeJudged placed.now (length into.old.bytes.items) }
     requires listed { length listed.now ≡ placed.now.docs }
 
     ensures ok { OnOk result (HasSought placed.now.head into.old.bytes.items words.0 words.1 listed.now into.new.posts.items) }
-    ensures exact { IfErr result (λ fault. DecodesAt placed.now.at (judged SCORES placed.now.head placed.now.docs into.old.bytes.items) (Err fault)) }
+    ensures exact { IfErr result (λ fault. IsFaultOf placed.now into.old.bytes.items fault) }
     ensures unread { is_read_of_fetch result ≡ false }
 {
-    if seek_posts(placed, words, listed, into)? {
-        return Ok(());
-    }
-    decode_sought(alloc, placed, words, listed, into)
-}
-
-// The same, but false where a test fails.
-fn seek_posts(
-    placed: &Placed,
-    words: (u32, u32),
-    listed: &[bool],
-    into: &mut Sought,
-) -> Result<bool, Memory>
-    requires shaped { IsShaped placed.now.head (length into.old.bytes.items) }
-    requires few { length listed.now < 2 ^ 32 }
-
-    ensures ok { IfOk result (λ whole. whole ≡ true → HasSought placed.now.head into.old.bytes.items words.0 words.1 listed.now into.new.posts.items) }
-    ensures bytes { into.new.bytes ≡ into.old.bytes }
-{
-    let whole = read_sought(
+    let head = &placed.head;
+    if read_sought(
         &into.bytes,
-        &placed.head,
+        head,
         words,
         listed,
         &mut into.docs,
         &mut into.posts,
-    )?;
-    Ok(whole)
-}
-
-// The same by decoding the block.
-fn decode_sought(
-    alloc: Global,
-    placed: &Placed,
-    words: (u32, u32),
-    listed: &[bool],
-    into: &mut Sought,
-) -> Result<(), FetchFault>
-    requires shaped { IsShaped placed.now.head (length into.old.bytes.items) }
-    requires places { placed.now.at < 2 ^ 63 }
-    requires few { placed.now.docs < 2 ^ 32 }
-    requires listed { length listed.now ≡ placed.now.docs }
-
-    ensures ok { OnOk result (HasSought placed.now.head into.old.bytes.items words.0 words.1 listed.now into.new.posts.items) }
-    ensures exact { DecodesAt placed.now.at (judged SCORES placed.now.head placed.now.docs into.old.bytes.items) result }
-    ensures unread { is_read_of_fetch result ≡ false }
-{
-    let mut rows = Cols::new(alloc);
-    decode_at(&into.bytes, placed, &mut rows)?;
+    )? {
+        return Ok(());
+    }
+    let rows = decode_at(alloc, &into.bytes, placed)?;
     into.posts.truncate(0);
     seek_rows(&rows, words, listed, &mut into.posts)?;
     Ok(())

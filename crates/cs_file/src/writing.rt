@@ -3,7 +3,8 @@ ghost use Rattle.std.specs.Prelude.{◌≡◌, ◌∷◌, ◌++◌, ◌≤◌, �
 ghost use Rattle.std.specs.List.{flat_map, zip};
 ghost use Rattle.cs_base.specs.outside.Outside.{Grew, GrewByPrefix};
 ghost use Rattle.cs_model_index.specs.Blocks.{AreWritable, block_bytes};
-ghost use Rattle.cs_model_index.specs.Layout.{file, number_bytes, header_bytes, header_of_image, vocabulary_bytes, offset_bytes, title_bytes, entry_bytes, directory_bytes, blocks_bytes};
+ghost use Rattle.cs_model_index.specs.Layout.{file, number_bytes, header_bytes, header_of_image, vocabulary_bytes, offset_bytes, title_bytes, entry_bytes};
+ghost use Rattle.cs_model_index.specs.Layout.{directory_bytes, blocks_bytes};
 ghost use Rattle.cs_file.specs.CallAnswers.{is_sink};
 ghost use Rattle.cs_file.specs.Indexes.{CausedReads};
 ghost use Rattle.cs_file.specs.Putting.{HasPut};
@@ -165,8 +166,10 @@ fn put_blocks<S: Sink>(
     requires one_each { length heads.now ≡ length blocks.now }
     requires fit { All BlockFits (zip heads.now (map (λ c. c.posts) blocks.now)) }
 
-    ensures ok { OnOk result (HasPut (S.written out.old) held.old.items (blocks_bytes heads.now (map (λ c. c.posts) blocks.now)) (S.written out.new) held.new.items) }
-    ensures err { OnErr result (GrewByPrefix (S.written out.old) (held.old.items ++ blocks_bytes heads.now (map (λ c. c.posts) blocks.now)) (S.written out.new)) }
+    ensures ok { OnOk result (HasPut (S.written out.old) held.old.items (blocks_bytes heads.now (map (λ c. c.posts) blocks.now))
+        (S.written out.new) held.new.items) }
+    ensures err { OnErr result (GrewByPrefix (S.written out.old) (held.old.items ++ blocks_bytes heads.now (map (λ c. c.posts) blocks.now))
+        (S.written out.new)) }
     ensures lent { S.lent out.new ≡ S.lent out.old }
     ensures caused { CausedReads (is_sink result) (S.faults out.old) (S.faults out.new) }
 {

@@ -1,4 +1,4 @@
-use Rattle.std.proofs.Common.{rules, ◌≡◌, ◌<◌, ◌^◌, arith, ◌∙◌}
+use Rattle.std.proofs.Common.{rules, ◌<◌, ◌^◌, arith, ◌∙◌}
 use Rattle.std.proofs.lemmas.Option.{IfSome_then}
 use Rattle.cs_block.proofs.ListedRows.{broken_code, cut_by, front_broken, front_listed, none_then}
 use Rattle.cs_block.proofs.doc_words.list_front.Goals as goal
@@ -40,4 +40,5 @@ returns-clause-listed c =
     let cut = cut_by head c.args.bytes.now _ _ _ c.split_at.ensures.front c.split_at.ensures.back c.split_at-2.ensures.front in
     let many_docs = c.list_rows.auto.row_docs ∙ c.are_listed.auto.row_docs ∙ c.requires.room_docs in
     let many_words = c.list_rows.auto.row_words ∙ c.are_listed.auto.row_words ∙ c.requires.room_words in
-    none_then c.list_rows.result _ _ (front_listed head c.args.docs c.args.bytes.now _ _ cut now.row_docs now.row_words many_docs many_words) c.list_rows.ensures.listed
+    none_then c.list_rows.result _ _ (front_listed head c.args.docs c.args.bytes.now _ _ cut now.row_docs now.row_words many_docs many_words)
+    c.list_rows.ensures.listed

@@ -1,29 +1,22 @@
-use Rattle.std.proofs.Common.{◌≡◌, ◌+◌, ◌<◌, [], length, ap, arith}
+use Rattle.std.proofs.Common.{◌≡◌, ◌+◌, ◌<◌, length, ap, arith, inl, inr}
 use Rattle.cs_block.proofs.ListedRows.{IsNextRow, broken_doc, broken_word, listed_all, listing, lists_on, never_stuck}
 use Rattle.cs_block.proofs.listing.list_rows.Goals as goal
 
 pub loop-i-init : goal.loop-i-init
 loop-i-init c = listing c.args.head.now c.args.docs c.args.gaps.now c.args.words.now c.args.row_docs.now c.args.row_words.now
 
-pub returns-in_default-clause-listed : goal.returns-in_default-clause-listed
-returns-in_default-clause-listed c =
+pub returns-in_default-clause-broken : goal.returns-in_default-clause-broken
+returns-in_default-clause-broken c =
     let s = c.loop-i in
     let head = c.args.head.now in
+    let docs = c.args.docs in
+    let gaps = c.args.gaps.now in
+    let words = c.args.words.now in
     let more : s.i < head.rows = omega arith in
-    let none = c.in_default.ensures in
-    absurd (never_stuck head c.args.docs c.args.gaps.now c.args.words.now s.i s.at s.before s.bad_word s.row_docs s.row_words c.requires.codes more none s.invariant)
-
-pub overflow_add-doc : goal.overflow_add-doc
-overflow_add-doc c = let few = (c.loop-i.invariant.judging [] []).judged.before_below in let below = c.in-Some.ensures.below in omega arith
-
-pub returns-then-doc-from-clause-broken : goal.returns-then-doc-from-clause-broken
-returns-then-doc-from-clause-broken c =
-    let s = c.loop-i in
-    let head = c.args.head.now in
-    let gap = c.in-Some in
-    let more : s.i < head.rows = omega arith in
-    broken_doc head c.args.docs c.args.gaps.now c.args.words.now s.i s.at s.before gap.n gap.next s.bad_word s.row_docs s.row_words
-    c.requires.codes more gap.ensures (omega arith) s.invariant
+    elim c.in_default.ensures [
+      | inl none ↦ absurd (never_stuck head docs gaps words s.i s.at s.before s.bad_word s.row_docs s.row_words c.requires.codes more none s.invariant)
+      | inr late ↦ broken_doc head docs gaps words s.i s.at s.before late.0 late.1 s.bad_word s.row_docs s.row_words c.requires.codes more late.2 late.3 s.invariant
+    ]
 
 pub loop-i-preserved : goal.loop-i-preserved
 loop-i-preserved c =
@@ -32,13 +25,14 @@ loop-i-preserved c =
     let docs = c.args.docs in
     let gaps = c.args.gaps.now in
     let words = c.args.words.now in
-    let gap = c.in-Some in
+    let found = c.in-Some in
+    let here = found.ensures in
     let bad = c.keep-bad_word in
-    let doc = c.from.result + c.from-in-loop-i.result in
     let word = head.lo + c.half_at.result in
-    let row : IsNextRow head docs gaps words s.i s.at s.before gap.n gap.next doc word
-    = record { more = omega arith; gap = gap.ensures; sum = omega arith; below = omega arith; word_is = ap (λ x. head.lo + x) c.half_at.ensures.value } in
-    lists_on head docs gaps words s.i s.at s.before gap.n gap.next doc word s.bad_word bad.result s.row_docs s.row_words row bad.ensures (omega arith) (omega arith) s.invariant
+    let row : IsNextRow head docs gaps words s.i s.at s.before here.n found.next found.doc word
+    = record { more = omega arith; gap = here.gap; sum = here.sum; below = here.below; word_is = ap (λ x. head.lo + x) c.half_at.ensures.value } in
+    lists_on head docs gaps words s.i s.at s.before here.n found.next found.doc word s.bad_word bad.result s.row_docs s.row_words row bad.ensures
+    (omega arith) (omega arith) s.invariant
 
 pub returns-clause-broken : goal.returns-clause-broken
 returns-clause-broken c =

@@ -10,11 +10,16 @@ loop-i-init c = record {
 }
 
 pub loop-i-preserved : goal.loop-i-preserved
-loop-i-preserved c = record {
-  made = docs_more c.args.gaps.now c.args.at c.args.before c.loop-i.out c.loop-i.i c.loop-i.next c.loop-i.doc c.in-Some.n c.in-Some.behind _ (omega arith) c.in-Some.ensures (omega arith) c.loop-i.invariant.made;
-  below = λ _. omega arith;
-  small = omega arith;
-}
+loop-i-preserved c =
+    let here = c.in-Some.ensures in
+    let below = here.below in
+    record {
+      made = docs_more c.args.gaps.now c.args.at c.args.before c.loop-i.out c.loop-i.i c.loop-i.next c.loop-i.doc here.n c.in-Some.behind _ (omega arith)
+          here.gap here.sum c.loop-i.invariant.made;
+      below = λ _. below;
+      small = omega (arith, below);
+    }
 
 pub returns : goal.returns
-returns c = docs_all c.args.gaps.now c.args.at c.args.before c.args.docs c.loop-i.out c.loop-i.i c.loop-i.next c.loop-i.doc (omega arith) c.loop-i.invariant.below c.loop-i.invariant.made
+returns c = docs_all c.args.gaps.now c.args.at c.args.before c.args.docs c.loop-i.out c.loop-i.i c.loop-i.next c.loop-i.doc (omega arith)
+    c.loop-i.invariant.below c.loop-i.invariant.made

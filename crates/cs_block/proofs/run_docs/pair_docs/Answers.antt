@@ -25,12 +25,15 @@ loop-i-preserved c =
     record {
       made = λ e.
           (let p = and_parts c.loop-i.holds c.is_pair-holds.result e in
-          let gap = pair_here gaps next number behind inside byte (sym c.is_pair-holds.ensures ∙ p.1) c.pair_number-doc.ensures.one c.pair_number-doc.ensures.two
+          let gap = pair_here gaps next number behind inside byte (sym c.is_pair-holds.ensures ∙ p.1) c.pair_number-doc.ensures.one
+          c.pair_number-doc.ensures.two
           (λ lt. ap (λ (x : ℕ). next + x) (c.pair_len-next.ensures.one lt)) (λ ge. ap (λ (x : ℕ). next + x) (c.pair_len-next.ensures.two ge)) in
-          docs_more gaps c.args.at c.args.before c.loop-i.out c.loop-i.i next c.loop-i.doc number behind _ (omega arith) gap (omega arith) (c.loop-i.invariant.made p.0));
+          docs_more gaps c.args.at c.args.before c.loop-i.out c.loop-i.i next c.loop-i.doc number behind _ (omega arith) gap (omega arith)
+          (c.loop-i.invariant.made p.0));
       small = omega arith;
       far = omega arith;
     }
 
 pub returns : goal.returns
-returns c = docs_all c.args.gaps.now c.args.at c.args.before c.args.docs c.loop-i.out c.loop-i.i c.loop-i.next c.loop-i.doc (omega arith) (λ _. omega arith) (c.loop-i.invariant.made c.if-not-holds.false)
+returns c = docs_all c.args.gaps.now c.args.at c.args.before c.args.docs c.loop-i.out c.loop-i.i c.loop-i.next c.loop-i.doc (omega arith) (λ _. omega arith)
+    (c.loop-i.invariant.made c.if-not-holds.false)

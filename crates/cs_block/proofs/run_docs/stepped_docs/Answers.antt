@@ -28,7 +28,8 @@ loop-out-preserved c =
     let behind = post_of i k out in
     let long : i + STEP ≤ length now = omega (arith, full, length-append (take i out) (es ++ behind), length-append es behind, length-take i out, inside) in
     let first : take (i + length es) now ≡ take (i + STEP) now = ap (λ (n : ℕ). take (i + n) now) full in
-    let put = docs_put gaps at before docs out es i k c.loop-out.next c.loop-out.doc c.in_ok-next.next inside c.loop-out.invariant.doc_is c.loop-out.invariant.made c.in_ok-next.ensures in
+    let put = docs_put gaps at before docs out es i k c.loop-out.next c.loop-out.doc c.in_ok-next.next inside c.loop-out.invariant.doc_is
+    c.loop-out.invariant.made c.in_ok-next.ensures in
     let made = subst (λ (xs : List ℕ). HasDocs gaps at before docs xs c.in_ok-next.next) first put in
     let many : length (take (i + STEP) now) ≡ i + STEP = omega (arith, length-take (i + STEP) now, long) in
     let end = i + STEP - 1 in
@@ -51,7 +52,16 @@ returns c =
     let now = put_mid i k out es in
     let behind = post_of i k out in
     let long = length-append (take i out) (es ++ behind) in
-    let few : length now ≤ i + length es = omega (arith, rest, inside, long, length-append es behind, length-take i out, length-drop k (drop i out), length-drop i out) in
+    let few : length now ≤ i + length es = omega (
+      arith,
+      rest,
+      inside,
+      long,
+      length-append es behind,
+      length-take i out,
+      length-drop k (drop i out),
+      length-drop i out,
+    ) in
     let whole : take (i + length es) now ≡ now = take_all (i + length es) now few in
     let first = c.loop-out.invariant in
     IfSome_then c.step_docs-2.result c.step_docs-2.ensures (λ next more.

@@ -1,15 +1,13 @@
-use Rattle.std.proofs.Common.{◌≡◌, ◌+◌, ◌≤◌, ◌++◌, true, List, length, map, take}
-use Rattle.std.specs.Prelude.{slice_index_or}
+use Rattle.std.proofs.Common.{◌≡◌, ◌+◌, ◌≤◌, ◌++◌, true, length, map, take}
 use Rattle.std.specs.List.{All}
 use Rattle.std.specs.Vec.{vec_len, vec_capacity}
-use Rattle.cs_base.specs.declared.content.doc.Post.{Post}
 use Rattle.cs_block.specs.ColumnsView.{seen_columns}
-use Rattle.cs_block.specs.Sought.{AreRowsOf, IsOfBlock}
+use Rattle.cs_block.specs.Sought.{IsOfBlock, row_with}
 use Rattle.cs_block.proofs.sought.add_rows.Given as goal
 
 abbrev pub invariant-loop-place : goal.invariant-loop-place
 invariant-loop-place l = record {
-  added : (rows : List Post) → AreRowsOf l.head (seen_columns l.columns) l.docs rows → (d : Post) → l.into.items ≡ l.fn.into.items ++ map (λ i. slice_index_or rows i d) (take l.place-index l.places);
+  added : l.into.items ≡ l.fn.into.items ++ map (row_with l.head (seen_columns l.columns) l.docs) (take l.place-index l.places);
   kept : l.kept ≡ true → All (IsOfBlock l.head) l.fn.into.items → All (IsOfBlock l.head) l.into.items;
   room : vec_len l.into + length l.places ≤ vec_capacity l.into + l.place-index;
 }

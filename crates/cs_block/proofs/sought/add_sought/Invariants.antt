@@ -1,14 +1,14 @@
-use Rattle.std.proofs.Common.{◌≡◌, ◌-◌, ◌≤◌, ◌++◌, true, List, length, drop}
+use Rattle.std.proofs.Common.{◌≡◌, ◌-◌, ◌≤◌, ◌++◌, true, length, map}
 use Rattle.std.specs.Prelude.{filter}
-use Rattle.std.specs.List.{All}
-use Rattle.cs_base.specs.declared.content.doc.Post.{Post}
+use Rattle.std.specs.List.{All, range_with_len}
 use Rattle.cs_block.specs.ColumnsView.{seen_columns}
-use Rattle.cs_block.specs.Sought.{AreRowsOf, IsOfBlock, passes}
+use Rattle.cs_block.specs.Sought.{IsOfBlock, passes, row_with}
 use Rattle.cs_block.proofs.sought.add_sought.Given as goal
 
 abbrev pub invariant-loop-from : goal.invariant-loop-from
 invariant-loop-from l = record {
-  added : (rows : List Post) → AreRowsOf l.head (seen_columns l.columns) l.docs rows → l.into.items ++ filter (passes l.whole l.words.0 l.words.1 l.listed) (drop l.from rows) ≡ l.fn.into.items ++ filter (passes l.whole l.words.0 l.words.1 l.listed) rows;
+  added : l.into.items ≡ l.fn.into.items ++ filter (passes l.whole l.words.0 l.words.1 l.listed)
+      (map (row_with l.head (seen_columns l.columns) l.docs) (range_with_len 0 l.from));
   kept : l.kept ≡ true → All (IsOfBlock l.head) l.fn.into.items → All (IsOfBlock l.head) l.into.items;
   within : l.from ≤ length l.docs;
 }

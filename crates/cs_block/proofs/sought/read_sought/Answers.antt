@@ -6,8 +6,9 @@ use Rattle.cs_model.specs.Scores.{SCORES}
 use Rattle.cs_model_index.specs.BlockRules.{is_scored, rows_read}
 use Rattle.cs_block.specs.ColumnsView.{seen_columns}
 use Rattle.cs_block.specs.RowRuns.{HasDocs}
-use Rattle.cs_block.specs.Sought.{AreRowsOf, IsOfBlock, passes}
-use Rattle.cs_block.proofs.SoughtLemmas.{docs_there, refilled, rows_listed, sought_all}
+use Rattle.cs_block.specs.Sought.{IsOfBlock, is_sought, passes, rows_with}
+use Rattle.cs_block.proofs.KnownRows.{rows_known}
+use Rattle.cs_block.proofs.SoughtLemmas.{docs_there, refilled, sought_all}
 use Rattle.cs_block.proofs.sought.read_sought.Goals as goal
 
 pub returns : goal.returns
@@ -23,21 +24,21 @@ returns c =
     let all : length ds ≡ len = c.docs_in.auto.out ∙ c.deref_mut.ensures.len in
     let there = docs_there c.docs_in.result (HasDocs columns.gaps 0 0 docs ds) (c.is_none.ensures ∙ ap not c.if-is_none.false) c.docs_in.ensures in
     let same = c.deref.ensures.value ∙ refilled len ds items long all in
-    let rows = rows_read head bytes in
-    let are : AreRowsOf head columns c.deref.result.now rows =
-    subst (λ xs. AreRowsOf head columns xs rows) (sym same) (rows_listed head docs bytes columns ds there.0 c.cut-columns.ensures.value (all ∙ c.in_ok-resize.ensures.len) there.1) in
+    let known = rows_known head docs bytes columns ds there.0 c.cut-columns.ensures.value (all ∙ c.in_ok-resize.ensures.len) there.1 in
+    let rows : rows_with head columns c.deref.result.now ≡ rows_read head bytes = ap (rows_with head columns) same ∙ sym known in
     let put = c.in_ok-kept.ensures in
     let lo = c.args.words.0 in
     let hi = c.args.words.1 in
     let listed = c.args.listed.now in
     let posts = c.add_sought.new.into.items in
     let whole = c.is_inside-whole.result in
-    let added = put.added rows are ∙ ap (λ xs. xs ++ filter (passes whole lo hi listed) rows) c.truncate.ensures.items in
+    let added = put.added ∙ ap (λ xs. xs ++ filter (passes whole lo hi listed) (rows_with head columns c.deref.result.now)) c.truncate.ensures.items in
     record {
       ok = λ e.
           let own = put.kept e (subst (All (IsOfBlock head)) (sym c.truncate.ensures.items) (All-nil (IsOfBlock head))) in
           record {
-            are = sought_all head columns c.deref.result.now whole lo hi listed rows posts are c.is_inside-whole.ensures added own;
+            are = sought_all head columns c.deref.result.now whole lo hi listed posts c.is_inside-whole.ensures added own
+                ∙ ap (filter (is_sought lo hi listed)) rows;
             scored = All-weaker (IsOfBlock head) (λ p. is_scored SCORES head.facet p ≡ true) (λ p h. h.scored) posts own;
           };
     }

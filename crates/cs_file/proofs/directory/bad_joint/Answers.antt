@@ -15,5 +15,7 @@ returns c =
     let h = seen_header c.args.header.now in
     let end = words_end (last_value hs) in
     let first = c.bad_start.ensures ∙ ap (λ n. break_of (λ i. is_joined i.last i.value) (laid (λ h. ENTRY_BYTES) n None hs)) c.directory_at.ensures.value in
-    let last = c.unless.ensures ∙ ap (λ n. unless (n == c.from.result) c.blocks_at.result) c.last_end.ensures ∙ ap (λ n. unless (end == n) c.blocks_at.result) c.from.ensures ∙ ap (unless (end == h.words)) c.blocks_at.ensures.value in
-    c.or.ensures ∙ ap (λ o. option_or o c.unless.result) first ∙ ap (option_or (break_of (λ i. is_joined i.last i.value) (laid (λ h. ENTRY_BYTES) (directory_at h) None hs))) last
+    let last = c.unless.ensures ∙ ap (λ n. unless (n == c.from.result) c.blocks_at.result) c.last_end.ensures
+    ∙ ap (λ n. unless (end == n) c.blocks_at.result) c.from.ensures ∙ ap (unless (end == h.words)) c.blocks_at.ensures.value in
+    c.or.ensures ∙ ap (λ o. option_or o c.unless.result) first
+    ∙ ap (option_or (break_of (λ i. is_joined i.last i.value) (laid (λ h. ENTRY_BYTES) (directory_at h) None hs))) last

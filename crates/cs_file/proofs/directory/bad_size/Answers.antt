@@ -17,4 +17,5 @@ returns c =
     let sums = sum_by (λ h. h.rows) hs == h.rows && sum_by (λ h. h.len) hs == h.blocks_len in
     let first = c.bad_shape.ensures ∙ ap (λ n. break_of (λ i. is_sized i.value) (laid (λ h. ENTRY_BYTES) n None hs)) c.directory_at.ensures.value in
     let last = c.unless.ensures ∙ ap (λ b. unless b c.blocks_at.result) c.has_sums-sums.ensures ∙ ap (unless sums) c.blocks_at.ensures.value in
-    c.or.ensures ∙ ap (λ o. option_or o c.unless.result) first ∙ ap (option_or (break_of (λ i. is_sized i.value) (laid (λ h. ENTRY_BYTES) (directory_at h) None hs))) last
+    c.or.ensures ∙ ap (λ o. option_or o c.unless.result) first
+    ∙ ap (option_or (break_of (λ i. is_sized i.value) (laid (λ h. ENTRY_BYTES) (directory_at h) None hs))) last

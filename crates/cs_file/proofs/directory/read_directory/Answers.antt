@@ -12,7 +12,8 @@ returns-in_err-bytes-clause-exact g c = λ b t. judged_along _ _ c.from_residual
 
 pub judge_heads-requires-clause-blocks : goal.judge_heads-requires-clause-blocks
 judge_heads-requires-clause-blocks g c =
-    let count = ap length c.deref-2.ensures.value ∙ ap length c.in_ok-heads.ensures ∙ heads_count c.args.words.now c.args.header.now.blocks c.deref.result.now in
+    let count = ap length c.deref-2.ensures.value ∙ ap length c.in_ok-heads.ensures
+    ∙ heads_count c.args.words.now c.args.header.now.blocks c.deref.result.now in
     let few = c.requires.ranges.blocks in
     let most = c.requires.ranges.words in
     omega (arith, count, few, most)
@@ -24,8 +25,10 @@ returns-in_err-judge_heads-clause-exact g c = λ b t.
     let at = c.deref.ensures.value ∙ c.in_ok-bytes.ensures.ok b t ∙ ap (λ n. part b n (16 * h.blocks)) c.directory_at.ensures.value in
     let own = c.in_ok-heads.ensures ∙ heads_are b h c.args.words.now c.deref.result.now is (c.requires.words b t) at in
     let stage = directory_is b h c.args.words.now c.in_ok-heads.heads.items is (c.requires.words b t) own in
-    let refused = subst (λ hs. Refuses (directory_judged h c.args.words.now hs) c.in_err-judge_heads.field-0.0) c.deref-2.ensures.value c.in_err-judge_heads.ensures.exact in
-    judges_by _ _ c.from_residual-in_err-judge_heads.result stage (judged_along _ c.in_err-judge_heads.field-0.0 c.from_residual-in_err-judge_heads.result refused c.from_residual-in_err-judge_heads.ensures.1)
+    let refused = subst (λ hs. Refuses (directory_judged h c.args.words.now hs) c.in_err-judge_heads.field-0.0) c.deref-2.ensures.value
+    c.in_err-judge_heads.ensures.exact in
+    judges_by _ _ c.from_residual-in_err-judge_heads.result stage
+    (judged_along _ c.in_err-judge_heads.field-0.0 c.from_residual-in_err-judge_heads.result refused c.from_residual-in_err-judge_heads.ensures.1)
 
 pub returns-clause-exact : goal.returns-clause-exact
 returns-clause-exact g c = λ b t.
@@ -45,4 +48,6 @@ returns-clause-heads g c = λ b t.
 pub returns-clause-ruled : goal.returns-clause-ruled
 returns-clause-ruled g c =
     let h = seen_header c.args.header.now in
-    subst (HasHeads h c.args.words.now) (sym c.from_vec.ensures) (has_heads h c.args.words.now c.in_ok-heads.heads.items c.deref.result.now c.in_ok-heads.ensures (ap (directory_judged h c.args.words.now) (sym c.deref-2.ensures.value) ∙ c.in_ok-judge_heads.ensures.exact))
+    subst (HasHeads h c.args.words.now) (sym c.from_vec.ensures)
+    (has_heads h c.args.words.now c.in_ok-heads.heads.items c.deref.result.now c.in_ok-heads.ensures
+    (ap (directory_judged h c.args.words.now) (sym c.deref-2.ensures.value) ∙ c.in_ok-judge_heads.ensures.exact))

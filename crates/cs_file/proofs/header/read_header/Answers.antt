@@ -11,22 +11,28 @@ use Rattle.cs_file.proofs.header.read_header.Goals as goal
 pub returns-in_err-tried-clause-exact : goal.returns-in_err-tried-clause-exact
 returns-in_err-tried-clause-exact g c = λ b t.
     let short = c.unless.ensures ∙ ap (λ n. unless (nat_le n c.in-Ok.size) c.in-Ok.size) c.from.ensures in
-    judged_along _ _ c.from_residual.result (refused_short b c.in-Ok.size c.unless.result _ (c.in-Ok.ensures.ok b t) short c.in_err-tried.ensures.judged) c.from_residual.ensures.1
+    judged_along _ _ c.from_residual.result (refused_short b c.in-Ok.size c.unless.result _ (c.in-Ok.ensures.ok b t) short c.in_err-tried.ensures.judged)
+    c.from_residual.ensures.1
 
 pub returns-in_err-tried-clause-caused : goal.returns-in_err-tried-clause-caused
-returns-in_err-tried-clause-caused g c = caused_along _ c.from_residual.result _ _ c.in_err-tried.ensures.unread c.from_residual.ensures.1 c.in-Ok.ensures.counted.quiet
+returns-in_err-tried-clause-caused g c = caused_along _ c.from_residual.result _ _ c.in_err-tried.ensures.unread c.from_residual.ensures.1
+    c.in-Ok.ensures.counted.quiet
 
 pub returns-in_err-bytes-clause-exact : goal.returns-in_err-bytes-clause-exact
-returns-in_err-bytes-clause-exact g c = λ b t. judged_along _ _ c.from_residual-in_err-bytes.result (c.in_err-bytes.ensures.err _) c.from_residual-in_err-bytes.ensures.1
+returns-in_err-bytes-clause-exact g c = λ b t. judged_along _ _ c.from_residual-in_err-bytes.result (c.in_err-bytes.ensures.err _)
+    c.from_residual-in_err-bytes.ensures.1
 
 pub returns-clause-exact : goal.returns-clause-exact
 returns-clause-exact g c = λ b t.
     let short = c.unless.ensures ∙ ap (λ n. unless (nat_le n c.in-Ok.size) c.in-Ok.size) c.from.ensures in
     let at = c.deref.ensures.value ∙ c.in_ok-bytes.ensures.ok b (c.in-Ok.ensures.same ∙ t) in
-    judges_by _ _ c.judge_header.result (rest_is b c.deref.result.now c.in-Ok.size c.unless.result (c.in-Ok.ensures.ok b t) short c.in_ok-tried.ensures.judged at) c.judge_header.ensures.exact
+    judges_by _ _ c.judge_header.result (rest_is b c.deref.result.now c.in-Ok.size c.unless.result (c.in-Ok.ensures.ok b t) short
+    c.in_ok-tried.ensures.judged at) c.judge_header.ensures.exact
 
 pub returns-clause-told : goal.returns-clause-told
 returns-clause-told g c =
-    if_ok_both c.judge_header.result (λ h. header_of c.deref.result.now ≡ seen_header h) (λ h. c.in-Ok.size ≡ size_by (seen_header h)) (λ h. HasHeader (g.S.Store.bytes c.args.store.now) (seen_header h))
-    (λ h numbers size b t. header_told b c.deref.result.now c.in-Ok.size (seen_header h) (c.in-Ok.ensures.ok b t) (c.deref.ensures.value ∙ c.in_ok-bytes.ensures.ok b (c.in-Ok.ensures.same ∙ t)) numbers size)
+    if_ok_both c.judge_header.result (λ h. header_of c.deref.result.now ≡ seen_header h) (λ h. c.in-Ok.size ≡ size_by (seen_header h))
+    (λ h. HasHeader (g.S.Store.bytes c.args.store.now) (seen_header h))
+    (λ h numbers size b t. header_told b c.deref.result.now c.in-Ok.size (seen_header h) (c.in-Ok.ensures.ok b t)
+    (c.deref.ensures.value ∙ c.in_ok-bytes.ensures.ok b (c.in-Ok.ensures.same ∙ t)) numbers size)
     c.judge_header.ensures.numbers c.judge_header.ensures.size

@@ -7,9 +7,11 @@ use Rattle.cs_model_index.specs.Layout.{Header}
 use Rattle.cs_model_index.specs.Sections.{directory_at}
 use Rattle.cs_file.specs.HeaderView.{seen_header}
 use Rattle.cs_file.specs.Indexes.{IndexView}
-use Rattle.cs_file.specs.Opening.{Refuses, blocks_of, blocks_stage, directory_stage, header_stage, parting_stage, titles_stage, vocabulary_stage, HasHeads, HasVocabulary}
+use Rattle.cs_file.specs.Opening.{Refuses, blocks_of, blocks_stage, directory_stage, header_stage, parting_stage, titles_stage, vocabulary_stage, HasHeads}
+use Rattle.cs_file.specs.Opening.{HasVocabulary}
 use Rattle.cs_file.specs.Parting.{parts_by}
-use Rattle.cs_file.proofs.OpeningStages.{in_header, in_vocabulary, in_titles, in_directory, in_blocks, in_parting, damaged_along, Kept, index_kept, shaped_heads, few_rows, AllRead, index_is, stands_for, fits_store}
+use Rattle.cs_file.proofs.OpeningStages.{in_header, in_vocabulary, in_titles, in_directory, in_blocks, in_parting, damaged_along, Kept, index_kept}
+use Rattle.cs_file.proofs.OpeningStages.{shaped_heads, few_rows, AllRead, index_is, stands_for, fits_store}
 use Rattle.cs_file.proofs.BlockParts.{part_breaks, parting_is}
 use Rattle.cs_file.proofs.opening.open_index.Given as given
 use Rattle.cs_file.proofs.opening.open_index.Goals as goal
@@ -47,7 +49,8 @@ passed g c b t =
     }
 
 -- rule 18, by what is kept of each block
-parting : (g : given.Over) (c : After-bad_part-place g) (b : List ℕ) → g.S.Store.bytes c.args.store.now ≡ Some b → parting_stage b ≡ tried 18 c.bad_part-place.result
+parting : (g : given.Over) (c : After-bad_part-place g) (b : List ℕ) → g.S.Store.bytes c.args.store.now ≡ Some b
+    → parting_stage b ≡ tried 18 c.bad_part-place.result
 parting g c b t =
     let t1 = c.in_ok-header.ensures.bytes ∙ t in
     let t3 = c.in_ok-offsets.ensures.bytes ∙ c.in_ok-words.ensures.bytes ∙ t1 in
@@ -56,12 +59,22 @@ parting g c b t =
     let parts = c.in_ok-parts.ensures.parts b (c.in_ok-heads.ensures.bytes ∙ t3) ∙ ap (λ hs. parts_by hs (blocks_of b)) heads in
     let found : c.bad_part-place.result ≡ part_breaks h.target c.in_ok-words.words (directory_at h) None c.in_ok-parts.parts.items =
     c.bad_part-place.ensures ∙ ap (λ ws. part_breaks h.target ws c.directory_at.result None c.deref.result.now) c.as_slice-3.ensures
-    ∙ ap (λ n. part_breaks h.target c.in_ok-words.words n None c.deref.result.now) c.directory_at.ensures.value ∙ ap (part_breaks h.target c.in_ok-words.words (directory_at h) None) c.deref.ensures.value in
-    parting_is b h c.in_ok-words.words c.in_ok-parts.parts.items (c.in_ok-header.ensures.told b t) (c.in_ok-words.ensures.words b t1) parts ∙ ap (tried 18) (sym found)
+    ∙ ap (λ n. part_breaks h.target c.in_ok-words.words n None c.deref.result.now) c.directory_at.ensures.value
+    ∙ ap (part_breaks h.target c.in_ok-words.words (directory_at h) None) c.deref.ensures.value in
+    parting_is b h c.in_ok-words.words c.in_ok-parts.parts.items (c.in_ok-header.ensures.told b t) (c.in_ok-words.ensures.words b t1) parts
+    ∙ ap (tried 18) (sym found)
 
 -- what is kept, and that it goes by the rules of its sections
 abbrev view : (g : given.Over) → After-blocks_at g → IndexView
-view g c = record { docs = c.in_ok-header.header.docs; words = c.from_words.result; offsets = c.in_ok-offsets.offsets; heads = c.in_ok-heads.heads; target = c.in_ok-header.header.target; titles_at = c.titles_at.result; blocks_at = c.blocks_at.result }
+view g c = record {
+  docs = c.in_ok-header.header.docs;
+  words = c.from_words.result;
+  offsets = c.in_ok-offsets.offsets;
+  heads = c.in_ok-heads.heads;
+  target = c.in_ok-header.header.target;
+  titles_at = c.titles_at.result;
+  blocks_at = c.blocks_at.result;
+}
 
 kept : (g : given.Over) (c : After-blocks_at g) → Kept (seen_header c.in_ok-header.header) (view g c)
 kept g c =
@@ -79,25 +92,31 @@ kept g c =
     }
 
 pub returns-in_err-header-clause-damaged : goal.returns-in_err-header-clause-damaged
-returns-in_err-header-clause-damaged g c = λ b t. damaged_along b c.in_err-header.field-0.0 c.from_residual.result (in_header b c.in_err-header.field-0.0 (c.in_err-header.ensures.exact b t)) c.from_residual.ensures.1
+returns-in_err-header-clause-damaged g c = λ b t. damaged_along b c.in_err-header.field-0.0 c.from_residual.result
+    (in_header b c.in_err-header.field-0.0 (c.in_err-header.ensures.exact b t)) c.from_residual.ensures.1
 
 pub returns-in_err-words-clause-damaged : goal.returns-in_err-words-clause-damaged
 returns-in_err-words-clause-damaged g c = λ b t.
     let t1 = c.in_ok-header.ensures.bytes ∙ t in
-    damaged_along b c.in_err-words.field-0.0 c.from_residual-in_err-words.result (in_vocabulary b c.in_err-words.field-0.0 (c.in_ok-header.ensures.exact b t) (c.in_err-words.ensures.exact b t1)) c.from_residual-in_err-words.ensures.1
+    damaged_along b c.in_err-words.field-0.0 c.from_residual-in_err-words.result
+    (in_vocabulary b c.in_err-words.field-0.0 (c.in_ok-header.ensures.exact b t) (c.in_err-words.ensures.exact b t1)) c.from_residual-in_err-words.ensures.1
 
 pub returns-in_err-offsets-clause-damaged : goal.returns-in_err-offsets-clause-damaged
 returns-in_err-offsets-clause-damaged g c = λ b t.
     let t1 = c.in_ok-header.ensures.bytes ∙ t in
     let t2 = c.in_ok-words.ensures.bytes ∙ t1 in
-    damaged_along b c.in_err-offsets.field-0.0 c.from_residual-in_err-offsets.result (in_titles b c.in_err-offsets.field-0.0 (c.in_ok-header.ensures.exact b t) (c.in_ok-words.ensures.exact b t1) (c.in_err-offsets.ensures.exact b t2)) c.from_residual-in_err-offsets.ensures.1
+    damaged_along b c.in_err-offsets.field-0.0 c.from_residual-in_err-offsets.result
+    (in_titles b c.in_err-offsets.field-0.0 (c.in_ok-header.ensures.exact b t) (c.in_ok-words.ensures.exact b t1) (c.in_err-offsets.ensures.exact b t2))
+    c.from_residual-in_err-offsets.ensures.1
 
 pub returns-in_err-heads-clause-damaged : goal.returns-in_err-heads-clause-damaged
 returns-in_err-heads-clause-damaged g c = λ b t.
     let t1 = c.in_ok-header.ensures.bytes ∙ t in
     let t2 = c.in_ok-words.ensures.bytes ∙ t1 in
     let t3 = c.in_ok-offsets.ensures.bytes ∙ t2 in
-    damaged_along b c.in_err-heads.field-0.0 c.from_residual-in_err-heads.result (in_directory b c.in_err-heads.field-0.0 (c.in_ok-header.ensures.exact b t) (c.in_ok-words.ensures.exact b t1) (c.in_ok-offsets.ensures.exact b t2) (c.in_err-heads.ensures.exact b t3)) c.from_residual-in_err-heads.ensures.1
+    damaged_along b c.in_err-heads.field-0.0 c.from_residual-in_err-heads.result
+    (in_directory b c.in_err-heads.field-0.0 (c.in_ok-header.ensures.exact b t) (c.in_ok-words.ensures.exact b t1) (c.in_ok-offsets.ensures.exact b t2)
+    (c.in_err-heads.ensures.exact b t3)) c.from_residual-in_err-heads.ensures.1
 
 pub returns-in_err-parts-clause-damaged : goal.returns-in_err-parts-clause-damaged
 returns-in_err-parts-clause-damaged g c = λ b t.
@@ -105,25 +124,33 @@ returns-in_err-parts-clause-damaged g c = λ b t.
     let t2 = c.in_ok-words.ensures.bytes ∙ t1 in
     let t3 = c.in_ok-offsets.ensures.bytes ∙ t2 in
     let t4 = c.in_ok-heads.ensures.bytes ∙ t3 in
-    damaged_along b c.in_err-parts.field-0.0 c.from_residual-in_err-parts.result (in_blocks b c.in_err-parts.field-0.0 (c.in_ok-header.ensures.exact b t) (c.in_ok-words.ensures.exact b t1) (c.in_ok-offsets.ensures.exact b t2) (c.in_ok-heads.ensures.exact b t3) (c.in_err-parts.ensures.exact b t4)) c.from_residual-in_err-parts.ensures.1
+    damaged_along b c.in_err-parts.field-0.0 c.from_residual-in_err-parts.result
+    (in_blocks b c.in_err-parts.field-0.0 (c.in_ok-header.ensures.exact b t) (c.in_ok-words.ensures.exact b t1) (c.in_ok-offsets.ensures.exact b t2)
+    (c.in_ok-heads.ensures.exact b t3) (c.in_err-parts.ensures.exact b t4)) c.from_residual-in_err-parts.ensures.1
 
 pub read_blocks-requires-clause-shaped : goal.read_blocks-requires-clause-shaped
 read_blocks-requires-clause-shaped g c =
     subst (λ (hs : List BlockHead). All (λ x. IsShaped x x.len) hs) (sym c.as_slice-2.ensures)
-    (shaped_heads (seen_header c.in_ok-header.header) c.in_ok-words.words c.in_ok-offsets.offsets c.in_ok-heads.heads c.in_ok-header.ensures.ranges c.in_ok-words.ensures.ruled c.in_ok-offsets.ensures.ruled (subst (λ ws. HasHeads (seen_header c.in_ok-header.header) ws c.in_ok-heads.heads) c.as_slice.ensures c.in_ok-heads.ensures.ruled))
+    (shaped_heads (seen_header c.in_ok-header.header) c.in_ok-words.words c.in_ok-offsets.offsets c.in_ok-heads.heads c.in_ok-header.ensures.ranges
+    c.in_ok-words.ensures.ruled c.in_ok-offsets.ensures.ruled
+    (subst (λ ws. HasHeads (seen_header c.in_ok-header.header) ws c.in_ok-heads.heads) c.as_slice.ensures c.in_ok-heads.ensures.ruled))
 
 pub read_blocks-requires-clause-rows : goal.read_blocks-requires-clause-rows
-read_blocks-requires-clause-rows g c = few_rows (seen_header c.in_ok-header.header) c.in_ok-words.words c.as_slice-2.result.now c.in_ok-header.ensures.ranges (subst (HasHeads (seen_header c.in_ok-header.header) c.in_ok-words.words) (sym c.as_slice-2.ensures) (subst (λ ws. HasHeads (seen_header c.in_ok-header.header) ws c.in_ok-heads.heads) c.as_slice.ensures c.in_ok-heads.ensures.ruled))
+read_blocks-requires-clause-rows g c = few_rows (seen_header c.in_ok-header.header) c.in_ok-words.words c.as_slice-2.result.now c.in_ok-header.ensures.ranges
+    (subst (HasHeads (seen_header c.in_ok-header.header) c.in_ok-words.words) (sym c.as_slice-2.ensures)
+    (subst (λ ws. HasHeads (seen_header c.in_ok-header.header) ws c.in_ok-heads.heads) c.as_slice.ensures c.in_ok-heads.ensures.ruled))
 
 pub returns-in_err-tried-clause-damaged : goal.returns-in_err-tried-clause-damaged
 returns-in_err-tried-clause-damaged g c = λ b t.
     let from = goal.at.returns-in_err-tried-clause-damaged g c in
     let p = passed g from.In_ok-parts b t in
     let refused = subst (λ o. Refuses o c.in_err-tried.field-0.0) (sym (parting g from.After-bad_part-place b t)) c.in_err-tried.ensures.judged in
-    damaged_along b c.in_err-tried.field-0.0 c.from_residual-in_err-tried.result (in_parting b c.in_err-tried.field-0.0 p.header p.vocabulary p.titles p.directory p.blocks refused) c.from_residual-in_err-tried.ensures.1
+    damaged_along b c.in_err-tried.field-0.0 c.from_residual-in_err-tried.result
+    (in_parting b c.in_err-tried.field-0.0 p.header p.vocabulary p.titles p.directory p.blocks refused) c.from_residual-in_err-tried.ensures.1
 
 pub invariant_of-result : goal.invariant_of-result
-invariant_of-result g c = let all = (goal.at.invariant_of-result g c).After-blocks_at in index_kept (seen_header c.in_ok-header.header) (view g all) (kept g all)
+invariant_of-result g c = let all = (goal.at.invariant_of-result g c).After-blocks_at in index_kept (seen_header c.in_ok-header.header) (view g all)
+    (kept g all)
 
 pub returns-clause-ok : goal.returns-clause-ok
 returns-clause-ok g c = λ b t.
@@ -134,11 +161,13 @@ returns-clause-ok g c = λ b t.
     let h = seen_header c.in_ok-header.header in
     let i = view g from.After-blocks_at in
     let is = c.in_ok-header.ensures.told b t in
-    let own = index_is b h i is refl (c.from_words.ensures ∙ c.in_ok-words.ensures.words b t1) (c.in_ok-offsets.ensures.offsets b t2) (c.in_ok-heads.ensures.heads b (c.in_ok-offsets.ensures.bytes ∙ t2)) refl c.titles_at.ensures.value c.blocks_at.ensures.value in
+    let own = index_is b h i is refl (c.from_words.ensures ∙ c.in_ok-words.ensures.words b t1) (c.in_ok-offsets.ensures.offsets b t2)
+    (c.in_ok-heads.ensures.heads b (c.in_ok-offsets.ensures.bytes ∙ t2)) refl c.titles_at.ensures.value c.blocks_at.ensures.value in
     stands_for b h i is p.read p.header p.vocabulary p.titles p.directory p.blocks (parting g from.After-bad_part-place b t ∙ c.in_ok-tried.ensures.judged) own
 
 pub returns-clause-fits : goal.returns-clause-fits
 returns-clause-fits g c =
     let all = (goal.at.returns-clause-fits g c).After-blocks_at in
-    let same = c.in_ok-parts.ensures.bytes ∙ c.in_ok-heads.ensures.bytes ∙ c.in_ok-offsets.ensures.bytes ∙ c.in_ok-words.ensures.bytes ∙ c.in_ok-header.ensures.bytes in
+    let same = c.in_ok-parts.ensures.bytes ∙ c.in_ok-heads.ensures.bytes ∙ c.in_ok-offsets.ensures.bytes ∙ c.in_ok-words.ensures.bytes
+    ∙ c.in_ok-header.ensures.bytes in
     λ b t. fits_store _ (seen_header c.in_ok-header.header) (view g all) c.in_ok-header.ensures.told (kept g all) b (sym same ∙ t)

@@ -9,7 +9,8 @@ use Rattle.cs_file.proofs.postings.read_blocks.Goals as goal
 
 pub loop-i-init : goal.loop-i-init
 loop-i-init g c = record {
-  told = λ b t. reading b (seen_header c.args.header.now) c.args.heads.now c.blocks_at-at.result c.in_ok-parts.parts.items (c.requires.told b t) (c.requires.heads b t) c.blocks_at-at.ensures.value c.in_ok-parts.ensures;
+  told = λ b t. reading b (seen_header c.args.header.now) c.args.heads.now c.blocks_at-at.result c.in_ok-parts.parts.items (c.requires.told b t)
+      (c.requires.heads b t) c.blocks_at-at.ensures.value c.in_ok-parts.ensures;
   small = λ b t. no_bytes b (blocks_at (seen_header c.args.header.now));
   place = omega (arith, c.blocks_at-at.ensures.value);
   count = ap length c.in_ok-parts.ensures;
@@ -20,7 +21,9 @@ loop-i-init g c = record {
 
 pub returns-in_err-part-clause-exact : goal.returns-in_err-part-clause-exact
 returns-in_err-part-clause-exact g c = λ b t.
-    judged_along _ _ c.from_residual-in_err-part.result (read_refused b (seen_header c.args.header.now) c.args.heads.now c.loop-i.i c.loop-i.at c.loop-i.parts.items c.in_err-part.field-0.0 c.loop-i-test.true (c.in_err-part.ensures.exact b (c.loop-i.invariant.same ∙ t)) (c.loop-i.invariant.told b t))
+    judged_along _ _ c.from_residual-in_err-part.result
+    (read_refused b (seen_header c.args.header.now) c.args.heads.now c.loop-i.i c.loop-i.at c.loop-i.parts.items c.in_err-part.field-0.0
+    c.loop-i-test.true (c.in_err-part.ensures.exact b (c.loop-i.invariant.same ∙ t)) (c.loop-i.invariant.told b t))
     c.from_residual-in_err-part.ensures.1
 
 pub loop-i-preserved : goal.loop-i-preserved
@@ -31,8 +34,11 @@ loop-i-preserved g c =
     let next : c.loop-i.at + (slice_index_or hs c.loop-i.i nothing).len ≡ c.loop-i.at + c.from-at.result = ap (λ n. c.loop-i.at + n) (sym len) in
     record {
       told = λ b t. subst (λ n. BlocksRead b h hs (c.loop-i.i + 1) n c.push_part.new.parts.items) next
-          (reads_on b h hs c.loop-i.i c.loop-i.at c.loop-i.parts.items c.push_part.new.parts.items c.in_ok-part.part c.loop-i-test.true (c.in_ok-part.ensures.exact b (c.loop-i.invariant.same ∙ t)) (c.in_ok-part.ensures.part b (c.loop-i.invariant.same ∙ t)) c.in_ok-push_part.ensures (c.loop-i.invariant.told b t));
-      small = λ b t. block_bytes_on b hs (blocks_at h) c.loop-i.i c.loop-i.at c.loop-i-test.true c.loop-i.invariant.place (c.loop-i.invariant.small b t) (c.in_ok-part.ensures.small b (c.loop-i.invariant.same ∙ t));
+          (reads_on b h hs c.loop-i.i c.loop-i.at c.loop-i.parts.items c.push_part.new.parts.items c.in_ok-part.part c.loop-i-test.true
+          (c.in_ok-part.ensures.exact b (c.loop-i.invariant.same ∙ t)) (c.in_ok-part.ensures.part b (c.loop-i.invariant.same ∙ t))
+          c.in_ok-push_part.ensures (c.loop-i.invariant.told b t));
+      small = λ b t. block_bytes_on b hs (blocks_at h) c.loop-i.i c.loop-i.at c.loop-i-test.true c.loop-i.invariant.place (c.loop-i.invariant.small b t)
+          (c.in_ok-part.ensures.small b (c.loop-i.invariant.same ∙ t));
       place = sym next ∙ at_next hs _ c.loop-i.i c.loop-i.at c.loop-i-test.true c.loop-i.invariant.place;
       count = ap length c.in_ok-push_part.ensures ∙ length-append c.loop-i.parts.items (c.in_ok-part.part ∷ []) ∙ ap (λ n. n + 1) c.loop-i.invariant.count;
       same = c.in_ok-part.ensures.bytes ∙ c.loop-i.invariant.same;
@@ -41,10 +47,13 @@ loop-i-preserved g c =
     }
 
 pub returns-clause-exact : goal.returns-clause-exact
-returns-clause-exact g c = λ b t. (read_all b (seen_header c.args.header.now) c.args.heads.now c.loop-i.i c.loop-i.at c.loop-i.parts.items c.loop-i-test.false (c.loop-i.invariant.told b t)).0
+returns-clause-exact g c = λ b t. (read_all b (seen_header c.args.header.now) c.args.heads.now c.loop-i.i c.loop-i.at c.loop-i.parts.items
+    c.loop-i-test.false (c.loop-i.invariant.told b t)).0
 
 pub returns-clause-parts : goal.returns-clause-parts
-returns-clause-parts g c = λ b t. (read_all b (seen_header c.args.header.now) c.args.heads.now c.loop-i.i c.loop-i.at c.loop-i.parts.items c.loop-i-test.false (c.loop-i.invariant.told b t)).1
+returns-clause-parts g c = λ b t. (read_all b (seen_header c.args.header.now) c.args.heads.now c.loop-i.i c.loop-i.at c.loop-i.parts.items
+    c.loop-i-test.false (c.loop-i.invariant.told b t)).1
 
 pub returns-clause-small : goal.returns-clause-small
-returns-clause-small g c = λ b t. block_bytes_all b c.args.heads.now (blocks_at (seen_header c.args.header.now)) c.loop-i.i c.args.header.now.blocks_len c.loop-i-test.false c.requires.bytes (c.loop-i.invariant.small b t)
+returns-clause-small g c = λ b t. block_bytes_all b c.args.heads.now (blocks_at (seen_header c.args.header.now)) c.loop-i.i c.args.header.now.blocks_len
+    c.loop-i-test.false c.requires.bytes (c.loop-i.invariant.small b t)

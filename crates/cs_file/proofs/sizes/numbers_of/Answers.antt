@@ -21,7 +21,9 @@ returns c =
     let r = subst CanBeWritten (sym c.image.view_is) c.requires in
     let posts = map (λ (b : Cols). b.posts) c.image.inside.blocks in
     let is = blocks_len_is c.image.inside.heads posts r.one_each (recursion_from_All BlockFits (zip c.image.inside.heads posts) r.blocks) in
-    subst (λ i. c.len.result ∷ c.len-2.result ∷ c.rows_in.result ∷ c.len-3.result ∷ c.image.inside.target ∷ c.vocabulary_len.result ∷ c.titles_len.result ∷ c.blocks_len.result ∷ 0 ∷ [] ≡ header_numbers (header_of_image i)) c.image.view_is (
+    let lens : List ℕ = c.vocabulary_len.result ∷ c.titles_len.result ∷ c.blocks_len.result ∷ 0 ∷ [] in
+    let numbers : List ℕ = c.len.result ∷ c.len-2.result ∷ c.rows_in.result ∷ c.len-3.result ∷ c.image.inside.target ∷ lens in
+    subst (λ i. numbers ≡ header_numbers (header_of_image i)) c.image.view_is (
     same_numbers _ _ _ _ _ _ _ _ _ _ _ _ _ _ _ _ _ _
     c.len.ensures
     c.len-2.ensures.value

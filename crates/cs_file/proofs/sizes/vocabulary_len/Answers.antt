@@ -17,4 +17,5 @@ loop-n-preserved c =
 pub returns : goal.returns
 unfolding vocabulary_bytes
 returns c =
-    c.loop-n.invariant.told ∙ ap (λ ws. length (flat_map (λ w. length w ∷ w) ws)) (take_all c.loop-n.n c.args.words.now (omega (arith, c.loop-n-test.false, c.len-n-end.ensures.value)))
+    c.loop-n.invariant.told ∙ ap (λ ws. length (flat_map (λ w. length w ∷ w) ws))
+    (take_all c.loop-n.n c.args.words.now (omega (arith, c.loop-n-test.false, c.len-n-end.ensures.value)))

@@ -7,11 +7,18 @@ use Rattle.cs_model_index.specs.Sections.{titles_at}
 use Rattle.cs_file.specs.HeaderView.{seen_header}
 use Rattle.cs_file.specs.Opening.{Refuses}
 use Rattle.cs_file.proofs.StagesLemmas.{judged_along}
-use Rattle.cs_file.proofs.TitleStageLemmas.{title_bytes_begun, title_bytes_on, title_bytes_all, title_lies, title_told, titles_begun, titles_on, title_refused, titles_done}
+use Rattle.cs_file.proofs.TitleStageLemmas.{title_bytes_begun, title_bytes_on, title_bytes_all, title_lies, title_told, titles_begun, titles_on}
+use Rattle.cs_file.proofs.TitleStageLemmas.{title_refused, titles_done}
 use Rattle.cs_file.proofs.titles.judge_titles.Goals as goal
 
 pub loop-doc-init : goal.loop-doc-init
-loop-doc-init g c = record { told = λ b t. titles_begun b (seen_header c.args.header.now) c.args.offsets.now c.requires.ruled; small = λ b t. title_bytes_begun b (seen_header c.args.header.now) c.args.offsets.now c.requires.ruled; same = refl; lent = refl; quiet = refl }
+loop-doc-init g c = record {
+  told = λ b t. titles_begun b (seen_header c.args.header.now) c.args.offsets.now c.requires.ruled;
+  small = λ b t. title_bytes_begun b (seen_header c.args.header.now) c.args.offsets.now c.requires.ruled;
+  same = refl;
+  lent = refl;
+  quiet = refl;
+}
 
 pub overflow_sub-len : goal.overflow_sub-len
 overflow_sub-len g c = (title_lies (seen_header c.args.header.now) c.args.offsets.now c.loop-doc.doc c.requires.ruled c.loop-doc-test.true).onward
@@ -19,7 +26,8 @@ overflow_sub-len g c = (title_lies (seen_header c.args.header.now) c.args.offset
 pub judge_title-requires-clause-within : goal.judge_title-requires-clause-within
 judge_title-requires-clause-within g c = λ b t.
     let h = seen_header c.args.header.now in
-    let told = title_told b h c.args.offsets.now c.loop-doc.doc (c.requires.told b (sym c.loop-doc.invariant.same ∙ t)) (c.requires.offsets b (sym c.loop-doc.invariant.same ∙ t)) c.requires.ruled c.loop-doc-test.true in
+    let told = title_told b h c.args.offsets.now c.loop-doc.doc (c.requires.told b (sym c.loop-doc.invariant.same ∙ t))
+    (c.requires.offsets b (sym c.loop-doc.invariant.same ∙ t)) c.requires.ruled c.loop-doc-test.true in
     let within = told.within in
     omega (arith, within, c.titles_at-first.ensures.value, c.from.ensures)
 
@@ -29,11 +37,14 @@ returns-in_err-judge_title-clause-exact g c = λ b t.
     let os = c.args.offsets.now in
     let d = c.loop-doc.doc in
     let len = slice_index_or os (d + 1) 0 - slice_index_or os d 0 in
-    let at : c.titles_at-first.result + c.from.result ≡ titles_at h + slice_index_or os d 0 = ap (λ n. n + c.from.result) c.titles_at-first.ensures.value ∙ ap (λ n. titles_at h + n) c.from.ensures in
+    let at : c.titles_at-first.result + c.from.result ≡ titles_at h + slice_index_or os d 0 = ap (λ n. n + c.from.result) c.titles_at-first.ensures.value
+    ∙ ap (λ n. titles_at h + n) c.from.ensures in
     let is = c.requires.told b t in
     let told = title_told b h os d is (c.requires.offsets b t) c.requires.ruled c.loop-doc-test.true in
-    let refused = subst (λ n. Refuses (tried 9 (unless (is_utf8 (part b n len)) n)) c.in_err-judge_title.field-0.0) at (c.in_err-judge_title.ensures.exact b (c.loop-doc.invariant.same ∙ t)) in
-    judged_along _ _ c.from_residual.result (title_refused b h os d (titles_at h + slice_index_or os d 0) c.in_err-judge_title.field-0.0 is told refl (c.loop-doc.invariant.told b t) refused) c.from_residual.ensures.1
+    let refused = subst (λ n. Refuses (tried 9 (unless (is_utf8 (part b n len)) n)) c.in_err-judge_title.field-0.0) at
+    (c.in_err-judge_title.ensures.exact b (c.loop-doc.invariant.same ∙ t)) in
+    judged_along _ _ c.from_residual.result (title_refused b h os d (titles_at h + slice_index_or os d 0) c.in_err-judge_title.field-0.0 is told refl
+    (c.loop-doc.invariant.told b t) refused) c.from_residual.ensures.1
 
 pub loop-doc-preserved : goal.loop-doc-preserved
 loop-doc-preserved g c =
@@ -41,20 +52,25 @@ loop-doc-preserved g c =
     let os = c.args.offsets.now in
     let d = c.loop-doc.doc in
     let len = slice_index_or os (d + 1) 0 - slice_index_or os d 0 in
-    let at : c.titles_at-first.result + c.from.result ≡ titles_at h + slice_index_or os d 0 = ap (λ n. n + c.from.result) c.titles_at-first.ensures.value ∙ ap (λ n. titles_at h + n) c.from.ensures in
+    let at : c.titles_at-first.result + c.from.result ≡ titles_at h + slice_index_or os d 0 = ap (λ n. n + c.from.result) c.titles_at-first.ensures.value
+    ∙ ap (λ n. titles_at h + n) c.from.ensures in
     record {
       told = λ b t.
           let told = title_told b h os d (c.requires.told b t) (c.requires.offsets b t) c.requires.ruled c.loop-doc-test.true in
           let fine = ap (λ n. tried 9 (unless (is_utf8 (part b n len)) n)) (sym at) ∙ c.in_ok-judge_title.ensures.exact b (c.loop-doc.invariant.same ∙ t) in
-          titles_on b h os d (titles_at h + slice_index_or os d 0) (title_lies h os d c.requires.ruled c.loop-doc-test.true) told fine (c.loop-doc.invariant.told b t);
-      small = λ b t. title_bytes_on b h os d _ (title_lies h os d c.requires.ruled c.loop-doc-test.true) at (c.loop-doc.invariant.small b t) (c.in_ok-judge_title.ensures.small b (c.loop-doc.invariant.same ∙ t));
+          titles_on b h os d (titles_at h + slice_index_or os d 0) (title_lies h os d c.requires.ruled c.loop-doc-test.true) told fine
+          (c.loop-doc.invariant.told b t);
+      small = λ b t. title_bytes_on b h os d _ (title_lies h os d c.requires.ruled c.loop-doc-test.true) at (c.loop-doc.invariant.small b t)
+          (c.in_ok-judge_title.ensures.small b (c.loop-doc.invariant.same ∙ t));
       same = c.in_ok-judge_title.ensures.bytes ∙ c.loop-doc.invariant.same;
       lent = c.in_ok-judge_title.ensures.lent ∙ c.loop-doc.invariant.lent;
       quiet = c.in_ok-judge_title.ensures.caused.quiet refl ∙ c.loop-doc.invariant.quiet;
     }
 
 pub returns-clause-exact : goal.returns-clause-exact
-returns-clause-exact g c = λ b t. titles_done b (seen_header c.args.header.now) c.args.offsets.now c.loop-doc.doc (c.requires.told b t) (c.requires.offsets b t) c.requires.ruled c.loop-doc-test.false (c.loop-doc.invariant.told b t)
+returns-clause-exact g c = λ b t. titles_done b (seen_header c.args.header.now) c.args.offsets.now c.loop-doc.doc (c.requires.told b t)
+    (c.requires.offsets b t) c.requires.ruled c.loop-doc-test.false (c.loop-doc.invariant.told b t)
 
 pub returns-clause-small : goal.returns-clause-small
-returns-clause-small g c = λ b t. title_bytes_all b (seen_header c.args.header.now) c.args.offsets.now c.loop-doc.doc c.requires.ruled (omega arith) (c.loop-doc.invariant.small b t)
+returns-clause-small g c = λ b t. title_bytes_all b (seen_header c.args.header.now) c.args.offsets.now c.loop-doc.doc c.requires.ruled (omega arith)
+    (c.loop-doc.invariant.small b t)

@@ -9,7 +9,9 @@ use Rattle.cs_file.proofs.titles.judge_titles.Given as goal
 
 abbrev pub invariant-loop-doc : goal.invariant-loop-doc
 invariant-loop-doc g l = record {
-  told : ForSome (g.S.Store.bytes l.initial.store) (λ b. Rest (λ i. is_utf8 i.value) (λ t. length t) (titles_at (seen_header l.header)) (file_titles b) l.doc (titles_at (seen_header l.header) + slice_index_or l.offsets l.doc 0));
+  told : ForSome (g.S.Store.bytes l.initial.store)
+      (λ b. Rest (λ i. is_utf8 i.value) (λ t. length t) (titles_at (seen_header l.header)) (file_titles b) l.doc
+      (titles_at (seen_header l.header) + slice_index_or l.offsets l.doc 0));
   small : ForSome (g.S.Store.bytes l.initial.store) (λ b. AreBytes b (titles_at (seen_header l.header)) (slice_index_or l.offsets l.doc 0));
   same : g.S.Store.bytes l.store ≡ g.S.Store.bytes l.initial.store;
   lent : g.S.Store.lent l.store ≡ g.S.Store.lent l.initial.store;

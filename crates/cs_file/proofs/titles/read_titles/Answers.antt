@@ -23,10 +23,12 @@ read g c b t =
 abbrev steps : (g : given.Over) → In_ok-offsets g → Option Broken
 steps g c = tried 8 (bad_offset (seen_header c.args.header.now) c.in_ok-offsets.offsets.items)
 
-stage : (g : given.Over) (c : In_ok-offsets g) (b : List ℕ) → g.S.Store.bytes c.args.store.now ≡ Some b → titles_stage b ≡ first_reason (steps g c ∷ tried 9 (bad_title b) ∷ [])
+stage : (g : given.Over) (c : In_ok-offsets g) (b : List ℕ) → g.S.Store.bytes c.args.store.now ≡ Some b
+    → titles_stage b ≡ first_reason (steps g c ∷ tried 9 (bad_title b) ∷ [])
 stage g c b t = titles_is b (seen_header c.args.header.now) c.in_ok-offsets.offsets.items (c.requires.told b t) (read g c b t)
 
-found : (g : given.Over) (c : After-bad_offset g) → tried 8 c.bad_offset.result ≡ tried 8 (bad_offset (seen_header c.args.header.now) c.in_ok-offsets.offsets.items)
+found : (g : given.Over) (c : After-bad_offset g)
+    → tried 8 c.bad_offset.result ≡ tried 8 (bad_offset (seen_header c.args.header.now) c.in_ok-offsets.offsets.items)
 found g c = ap (tried 8) (c.bad_offset.ensures ∙ ap (bad_offset (seen_header c.args.header.now)) c.deref-2.ensures.value)
 
 pub returns-in_err-bytes-clause-exact : goal.returns-in_err-bytes-clause-exact
@@ -43,7 +45,8 @@ returns-in_err-tried-clause-exact g c = λ b t.
     let from = goal.at.returns-in_err-tried-clause-exact g c in
     let refused = subst (λ o. Refuses o c.in_err-tried.field-0.0) (found g from.After-bad_offset) c.in_err-tried.ensures.judged in
     judges_by _ _ c.from_residual-in_err-tried.result (stage g from.In_ok-offsets b t)
-    (two_first (steps g from.In_ok-offsets) (tried 9 (bad_title b)) c.in_err-tried.field-0.0 c.from_residual-in_err-tried.result refused c.from_residual-in_err-tried.ensures.1)
+    (two_first (steps g from.In_ok-offsets) (tried 9 (bad_title b)) c.in_err-tried.field-0.0 c.from_residual-in_err-tried.result refused
+    c.from_residual-in_err-tried.ensures.1)
 
 pub judge_titles-requires-clause-ruled : goal.judge_titles-requires-clause-ruled
 judge_titles-requires-clause-ruled g c =
@@ -61,14 +64,16 @@ returns-in_err-judge_titles-clause-exact g c = λ b t.
     let fine = sym (found g from.After-bad_offset) ∙ c.in_ok-tried.ensures.judged in
     judges_by _ _ c.from_residual-in_err-judge_titles.result (stage g from.In_ok-offsets b t)
     (two_last (steps g from.In_ok-offsets) (tried 9 (bad_title b)) c.from_residual-in_err-judge_titles.result fine
-    (judged_along _ _ c.from_residual-in_err-judge_titles.result (c.in_err-judge_titles.ensures.exact b (c.in_ok-bytes.ensures.bytes ∙ t)) c.from_residual-in_err-judge_titles.ensures.1))
+    (judged_along _ _ c.from_residual-in_err-judge_titles.result (c.in_err-judge_titles.ensures.exact b (c.in_ok-bytes.ensures.bytes ∙ t))
+    c.from_residual-in_err-judge_titles.ensures.1))
 
 pub returns-clause-exact : goal.returns-clause-exact
 returns-clause-exact g c = λ b t.
     let from = goal.at.returns-clause-exact g c in
     let fine = sym (found g from.After-bad_offset) ∙ c.in_ok-tried.ensures.judged in
     let last = tried 9 (bad_title b) in
-    stage g from.In_ok-offsets b t ∙ none_of_all (steps g from.In_ok-offsets) (last ∷ []) fine (none_of_all last [] (c.in_ok-judge_titles.ensures.exact b (c.in_ok-bytes.ensures.bytes ∙ t)) refl)
+    stage g from.In_ok-offsets b t ∙ none_of_all (steps g from.In_ok-offsets) (last ∷ []) fine
+    (none_of_all last [] (c.in_ok-judge_titles.ensures.exact b (c.in_ok-bytes.ensures.bytes ∙ t)) refl)
 
 pub returns-clause-offsets : goal.returns-clause-offsets
 returns-clause-offsets g c = λ b t. c.from_vec.ensures ∙ read g (goal.at.returns-clause-offsets g c).In_ok-offsets b t

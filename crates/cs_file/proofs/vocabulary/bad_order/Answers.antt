@@ -8,7 +8,8 @@ use Rattle.cs_file.proofs.vocabulary.bad_order.Goals as goal
 
 pub loop-i-init : goal.loop-i-init
 loop-i-init c = record {
-  rest = subst (λ n. Rest (λ i. follows i.last i.value) word_size vocabulary_at c.args.words.now 0 n) (sym c.from-at.ensures) (rest_start (λ i. follows i.last i.value) word_size vocabulary_at c.args.words.now);
+  rest = subst (λ n. Rest (λ i. follows i.last i.value) word_size vocabulary_at c.args.words.now 0 n) (sym c.from-at.ensures)
+      (rest_start (λ i. follows i.last i.value) word_size vocabulary_at c.args.words.now);
   small = omega (arith, c.from-at.ensures);
 }
 
@@ -26,8 +27,10 @@ loop-i-preserved c =
     let few = c.bytes.ensures.few in
     let len = ap length c.bytes.ensures.value in
     record {
-      rest = rest_on (λ i. follows i.last i.value) word_size vocabulary_at ws c.loop-i.i c.loop-i.at _ c.index-words-i.result c.loop-i-test.true c.index-words-i.is
-          (ap (λ n. c.loop-i.at + (1 + n)) len) (ap (follows (before ws c.loop-i.i)) word ∙ sym c.follows.ensures ∙ c.if-not-follows.false) c.loop-i.invariant.rest;
+      rest = rest_on (λ i. follows i.last i.value) word_size vocabulary_at ws c.loop-i.i c.loop-i.at _ c.index-words-i.result c.loop-i-test.true
+          c.index-words-i.is
+          (ap (λ n. c.loop-i.at + (1 + n)) len) (ap (follows (before ws c.loop-i.i)) word ∙ sym c.follows.ensures ∙ c.if-not-follows.false)
+          c.loop-i.invariant.rest;
       small = omega (arith, few, len);
     }
 

@@ -11,13 +11,15 @@ pub returns-in-Some : goal.returns-in-Some
 returns-in-Some c =
     let w = c.args.word.now in
     let here = strip_prefix_char 58 c.in-Ok.text.now (Some c.in-Some.rest) c.in-Some.ensures.cases (lit< tt) in
-    named_is w c.in-Some.rest.now c.is_named_value.result (is_utf8-from_IsUtf8 w c.in-Ok.ensures.cases.1) (sym c.in-Ok.ensures.cases.0 ∙ here) c.is_named_value.ensures
+    named_is w c.in-Some.rest.now c.is_named_value.result (is_utf8-from_IsUtf8 w c.in-Ok.ensures.cases.1) (sym c.in-Ok.ensures.cases.0 ∙ here)
+    c.is_named_value.ensures
 
 pub returns-in-None : goal.returns-in-None
 returns-in-None c =
     let w = c.args.word.now in
     let none = strip_prefix_char 58 c.in-Ok.text.now None c.in-None.ensures.cases (lit< tt) in
-    plain_is w c.is_plain_word.result (is_utf8-from_IsUtf8 w c.in-Ok.ensures.cases.1) (λ rest e. none rest (c.in-Ok.ensures.cases.0 ∙ e)) (c.is_plain_word.ensures ∙ ap is_plain_word c.in-Ok.ensures.cases.0)
+    plain_is w c.is_plain_word.result (is_utf8-from_IsUtf8 w c.in-Ok.ensures.cases.1) (λ rest e. none rest (c.in-Ok.ensures.cases.0 ∙ e))
+    (c.is_plain_word.ensures ∙ ap is_plain_word c.in-Ok.ensures.cases.0)
 
 pub returns-in-Err : goal.returns-in-Err
 returns-in-Err c =

@@ -20,9 +20,11 @@ cutting g c = tried 5 (words_break c.args.header.now.words vocabulary_at c.deref
 abbrev judging : (g : given.Over) → After-deref g → Option Broken
 judging g c = words_judged (vocabulary_in c.args.header.now.words c.deref.result.now)
 
-stage : (g : given.Over) (c : After-deref g) (b : List ℕ) → g.S.Store.bytes c.args.store.now ≡ Some b → vocabulary_stage b ≡ first_reason (cutting g c ∷ judging g c ∷ [])
+stage : (g : given.Over) (c : After-deref g) (b : List ℕ) → g.S.Store.bytes c.args.store.now ≡ Some b
+    → vocabulary_stage b ≡ first_reason (cutting g c ∷ judging g c ∷ [])
 stage g c b t =
-    vocabulary_is b (seen_header c.args.header.now) c.deref.result.now (c.requires.told b t) (c.deref.ensures.value ∙ c.in_ok-bytes.ensures.ok b t ∙ ap (λ n. part b n c.args.header.now.vocabulary_len) c.from.ensures)
+    vocabulary_is b (seen_header c.args.header.now) c.deref.result.now (c.requires.told b t)
+    (c.deref.ensures.value ∙ c.in_ok-bytes.ensures.ok b t ∙ ap (λ n. part b n c.args.header.now.vocabulary_len) c.from.ensures)
 
 pub returns-in_err-bytes-clause-exact : goal.returns-in_err-bytes-clause-exact
 returns-in_err-bytes-clause-exact g c = λ b t. judged_along _ _ c.from_residual.result (c.in_err-bytes.ensures.err _) c.from_residual.ensures.1
@@ -30,11 +32,13 @@ returns-in_err-bytes-clause-exact g c = λ b t. judged_along _ _ c.from_residual
 pub returns-in_err-words-clause-exact : goal.returns-in_err-words-clause-exact
 returns-in_err-words-clause-exact g c = λ b t.
     let read = (goal.at.returns-in_err-words-clause-exact g c).After-deref in
-    judges_by _ _ c.from_residual-in_err-words.result (stage g read b t) (two_first (cutting g read) (judging g read) _ c.from_residual-in_err-words.result c.in_err-words.ensures.exact c.from_residual-in_err-words.ensures.1)
+    judges_by _ _ c.from_residual-in_err-words.result (stage g read b t)
+    (two_first (cutting g read) (judging g read) _ c.from_residual-in_err-words.result c.in_err-words.ensures.exact c.from_residual-in_err-words.ensures.1)
 
 pub judge_words-requires : goal.judge_words-requires
 judge_words-requires g c =
-    let count = words_count (seen_header c.args.header.now) c.as_slice.result.now c.deref.result.now c.in_ok-words.ensures.exact (c.as_slice.ensures ∙ c.in_ok-words.ensures.words) in
+    let count = words_count (seen_header c.args.header.now) c.as_slice.result.now c.deref.result.now c.in_ok-words.ensures.exact
+    (c.as_slice.ensures ∙ c.in_ok-words.ensures.words) in
     let few = c.requires.ranges.words in
     record { few = omega (arith, count, few) }
 
@@ -44,13 +48,16 @@ returns-in_err-judge_words-clause-exact g c = λ b t.
     let words = c.as_slice.ensures ∙ c.in_ok-words.ensures.words in
     let refused = subst (λ ws. Refuses (words_judged ws) c.in_err-judge_words.field-0.0) words c.in_err-judge_words.ensures.exact in
     judges_by _ _ c.from_residual-in_err-judge_words.result (stage g read b t)
-    (two_last (cutting g read) (judging g read) c.from_residual-in_err-judge_words.result c.in_ok-words.ensures.exact (judged_along (judging g read) c.in_err-judge_words.field-0.0 c.from_residual-in_err-judge_words.result refused c.from_residual-in_err-judge_words.ensures.1))
+    (two_last (cutting g read) (judging g read) c.from_residual-in_err-judge_words.result c.in_ok-words.ensures.exact
+    (judged_along (judging g read) c.in_err-judge_words.field-0.0 c.from_residual-in_err-judge_words.result refused
+    c.from_residual-in_err-judge_words.ensures.1))
 
 pub returns-clause-exact : goal.returns-clause-exact
 returns-clause-exact g c = λ b t.
     let read = (goal.at.returns-clause-exact g c).After-deref in
     let words = c.as_slice.ensures ∙ c.in_ok-words.ensures.words in
-    stage g read b t ∙ none_of_all (cutting g read) (judging g read ∷ []) c.in_ok-words.ensures.exact (none_of_all (judging g read) [] (ap words_judged (sym words) ∙ c.in_ok-judge_words.ensures.exact) refl)
+    stage g read b t ∙ none_of_all (cutting g read) (judging g read ∷ []) c.in_ok-words.ensures.exact
+    (none_of_all (judging g read) [] (ap words_judged (sym words) ∙ c.in_ok-judge_words.ensures.exact) refl)
 
 pub returns-clause-words : goal.returns-clause-words
 returns-clause-words g c = λ b t.
@@ -59,7 +66,8 @@ returns-clause-words g c = λ b t.
 
 pub returns-clause-ruled : goal.returns-clause-ruled
 returns-clause-ruled g c =
-    has_vocabulary (seen_header c.args.header.now) c.in_ok-words.words c.deref.result.now (ap length c.deref.ensures.value ∙ c.in_ok-bytes.ensures.long) c.in_ok-words.ensures.exact c.in_ok-words.ensures.words
+    has_vocabulary (seen_header c.args.header.now) c.in_ok-words.words c.deref.result.now (ap length c.deref.ensures.value ∙ c.in_ok-bytes.ensures.long)
+    c.in_ok-words.ensures.exact c.in_ok-words.ensures.words
     (ap words_judged (sym c.as_slice.ensures) ∙ c.in_ok-judge_words.ensures.exact)
 
 pub returns-clause-small : goal.returns-clause-small

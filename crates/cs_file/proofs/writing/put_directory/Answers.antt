@@ -8,7 +8,8 @@ use Rattle.cs_file.proofs.writing.put_directory.Goals as goal
 pub loop-head-preserved : goal.loop-head-preserved
 loop-head-preserved g c =
     record {
-      told = item_put _ _ entry_bytes c.args.heads.now c.loop-head.head-index (record { lo = 0; words = 0; rows = 0; len = 0; facet = false }) _ _ _ _ _ c.loop-head-test.true refl c.loop-head.invariant.told c.in_ok-put_numbers.ensures.ok;
+      told = item_put _ _ entry_bytes c.args.heads.now c.loop-head.head-index (record { lo = 0; words = 0; rows = 0; len = 0; facet = false }) _ _ _ _ _
+          c.loop-head-test.true refl c.loop-head.invariant.told c.in_ok-put_numbers.ensures.ok;
       quiet = c.in_ok-put_numbers.ensures.caused.quiet refl ∙ c.loop-head.invariant.quiet;
       lent = c.in_ok-put_numbers.ensures.lent ∙ c.loop-head.invariant.lent;
     }
@@ -16,8 +17,11 @@ loop-head-preserved g c =
 pub returns-in_err-put_numbers-clause-err : goal.returns-in_err-put_numbers-clause-err
 unfolding directory_bytes
 returns-in_err-put_numbers-clause-err g c =
-    on_err c.from_residual.result _ (item_fails _ _ entry_bytes c.args.heads.now c.loop-head.head-index (record { lo = 0; words = 0; rows = 0; len = 0; facet = false }) _ _ _ _ c.loop-head-test.true refl c.loop-head.invariant.told c.in_err-put_numbers.ensures.err)
+    on_err c.from_residual.result _ (item_fails _ _ entry_bytes c.args.heads.now c.loop-head.head-index
+    (record { lo = 0; words = 0; rows = 0; len = 0; facet = false }) _ _ _ _ c.loop-head-test.true refl c.loop-head.invariant.told
+    c.in_err-put_numbers.ensures.err)
 
 pub returns-clause-ok : goal.returns-clause-ok
 unfolding directory_bytes
-returns-clause-ok g c = items_put _ _ entry_bytes c.args.heads.now c.loop-head.head-index (record { lo = 0; words = 0; rows = 0; len = 0; facet = false }) _ _ (omega arith) c.loop-head.invariant.told
+returns-clause-ok g c = items_put _ _ entry_bytes c.args.heads.now c.loop-head.head-index (record { lo = 0; words = 0; rows = 0; len = 0; facet = false }) _
+    _ (omega arith) c.loop-head.invariant.told

@@ -5,7 +5,8 @@ use Rattle.cs_file.proofs.SectionSizes.{longer, titles_joined}
 use Rattle.cs_file.proofs.writing.put_offsets.Goals as goal
 
 pub returns-in_err-put_bytes-clause-err : goal.returns-in_err-put_bytes-clause-err
-returns-in_err-put_bytes-clause-err g c = on_err c.from_residual.result _ (first_fails _ _ c.args.titles.now _ (rw c.to_be_bytes.ensures at c.in_err-put_bytes.ensures.err))
+returns-in_err-put_bytes-clause-err g c = on_err c.from_residual.result _
+    (first_fails _ _ c.args.titles.now _ (rw c.to_be_bytes.ensures at c.in_err-put_bytes.ensures.err))
 
 pub loop-title-init : goal.loop-title-init
 loop-title-init g c = record {
@@ -29,7 +30,9 @@ pub loop-title-preserved : goal.loop-title-preserved
 loop-title-preserved g c =
     let k = longer (λ t. t) c.args.titles.now c.loop-title.title-index c.title-item.result c.loop-title-test.true in
     record {
-      told = offset_put _ _ c.args.titles.now c.loop-title.title-index c.title-item.result _ _ _ (c.loop-title.at + c.len.result) c.loop-title-test.true (omega (arith, c.loop-title.invariant.at, c.len.ensures, ap length c.title-item.is)) c.loop-title.invariant.told _ (rw c.to_be_bytes-in-loop-title.ensures at c.in_ok-put_bytes-2.ensures.ok);
+      told = offset_put _ _ c.args.titles.now c.loop-title.title-index c.title-item.result _ _ _ (c.loop-title.at + c.len.result) c.loop-title-test.true
+          (omega (arith, c.loop-title.invariant.at, c.len.ensures, ap length c.title-item.is)) c.loop-title.invariant.told _
+          (rw c.to_be_bytes-in-loop-title.ensures at c.in_ok-put_bytes-2.ensures.ok);
       at = omega (arith, k.now, ap length c.title-item.is, c.loop-title.invariant.at, c.len.ensures);
       quiet = c.in_ok-put_bytes-2.ensures.caused.quiet refl ∙ c.loop-title.invariant.quiet;
       lent = c.in_ok-put_bytes-2.ensures.lent ∙ c.loop-title.invariant.lent;
@@ -37,7 +40,10 @@ loop-title-preserved g c =
 
 pub returns-in_err-put_bytes-2-clause-err : goal.returns-in_err-put_bytes-2-clause-err
 returns-in_err-put_bytes-2-clause-err g c =
-    on_err c.from_residual-in_err-put_bytes-2.result _ (offset_fails _ _ c.args.titles.now c.loop-title.title-index c.title-item.result _ _ _ (c.loop-title.at + c.len.result) c.loop-title-test.true (omega (arith, c.loop-title.invariant.at, c.len.ensures, ap length c.title-item.is)) c.loop-title.invariant.told (rw c.to_be_bytes-in-loop-title.ensures at c.in_err-put_bytes-2.ensures.err))
+    on_err c.from_residual-in_err-put_bytes-2.result _
+    (offset_fails _ _ c.args.titles.now c.loop-title.title-index c.title-item.result _ _ _ (c.loop-title.at + c.len.result) c.loop-title-test.true
+    (omega (arith, c.loop-title.invariant.at, c.len.ensures, ap length c.title-item.is)) c.loop-title.invariant.told
+    (rw c.to_be_bytes-in-loop-title.ensures at c.in_err-put_bytes-2.ensures.err))
 
 pub returns-clause-ok : goal.returns-clause-ok
 returns-clause-ok g c = all_offsets c.args.titles.now c.loop-title.title-index _ _ _ _ (omega arith) c.loop-title.invariant.told

@@ -10,32 +10,77 @@ use Rattle.cs_file.proofs.SinkPuts.{then_ok, then_err, put_on, fails_first, fail
 use Rattle.cs_file.proofs.writing.put_sections.Goals as goal
 
 -- the sections of an image's file, by what was lent of it
-whole : (i : Image) (ws titles : List (List ℕ)) (heads : List BlockHead) (blocks : List Cols) (target : ℕ) (ts : List (List ℕ)) (hs : List BlockHead) (bs : List Cols)
-    → let view : Image = record { titles = titles; words = ws; heads = heads; blocks = map (λ (b : Cols). b.posts) blocks; target = target } in view ≡ i → ts ≡ titles → hs ≡ heads → bs ≡ blocks
-    → header_bytes (header_of_image i) ++ (vocabulary_bytes ws ++ (offset_bytes ts ++ (title_bytes ts ++ (directory_bytes hs ++ blocks_bytes hs (map (λ (b : Cols). b.posts) bs))))) ≡ file i
+whole : {i : Image} {ws titles : List (List ℕ)} {heads : List BlockHead} {blocks : List Cols} {target : ℕ} {ts : List (List ℕ)} {hs : List BlockHead}
+    {bs : List Cols}
+    → let view : Image = record { titles = titles; words = ws; heads = heads; blocks = map (λ (b : Cols). b.posts) blocks; target = target } in view ≡ i
+    → ts ≡ titles → hs ≡ heads → bs ≡ blocks
+    → header_bytes (header_of_image i) ++ (vocabulary_bytes ws
+    ++ (offset_bytes ts ++ (title_bytes ts ++ (directory_bytes hs ++ blocks_bytes hs (map (λ (b : Cols). b.posts) bs))))) ≡ file i
 unfolding file
-whole i ws titles heads blocks target ts hs bs e f g h =
-    rw (f, g, h) (ap (λ (k : Image). header_bytes (header_of_image i) ++ (vocabulary_bytes k.words ++ (offset_bytes k.titles ++ (title_bytes k.titles ++ (directory_bytes k.heads ++ blocks_bytes k.heads k.blocks))))) e)
+whole {i} e f g h =
+    rw (f, g, h) (ap (λ (k : Image). header_bytes (header_of_image i)
+    ++ (vocabulary_bytes k.words ++ (offset_bytes k.titles ++ (title_bytes k.titles ++ (directory_bytes k.heads ++ blocks_bytes k.heads k.blocks))))) e)
 
 pub returns-in_err-put_header-clause-err : goal.returns-in_err-put_header-clause-err
-returns-in_err-put_header-clause-err g c = on_err c.from_residual.result _ (subst (λ b. GrewByPrefix (g.S.Sink.written c.args.out.now) (c.args.held.now.items ++ b) (g.S.Sink.written c.put_header.new.out)) (whole c.args.image.now c.image.inside.words c.image.inside.titles c.image.inside.heads c.image.inside.blocks c.image.inside.target c.as_slice-titles.result.now c.as_slice-heads.result.now c.as_slice-blocks.result.now c.image.view_is c.as_slice-titles.ensures c.as_slice-heads.ensures c.as_slice-blocks.ensures) (fails_first _ _ (header_bytes (header_of_image c.args.image.now)) ((vocabulary_bytes c.image.inside.words) ++ ((offset_bytes c.as_slice-titles.result.now) ++ ((title_bytes c.as_slice-titles.result.now) ++ ((directory_bytes c.as_slice-heads.result.now) ++ (blocks_bytes c.as_slice-heads.result.now (map (λ (b : Cols). b.posts) c.as_slice-blocks.result.now)))))) _ c.in_err-put_header.ensures.err))
+returns-in_err-put_header-clause-err g c =
+    let is = whole c.image.view_is c.as_slice-titles.ensures c.as_slice-heads.ensures c.as_slice-blocks.ensures in
+    let grew = λ (b : List ℕ). GrewByPrefix (g.S.Sink.written c.args.out.now) (c.args.held.now.items ++ b) (g.S.Sink.written c.put_header.new.out) in
+    on_err c.from_residual.result _ (subst grew is (fails_first _ _ (header_bytes (header_of_image c.args.image.now)) _ _ c.in_err-put_header.ensures.err))
 
 pub returns-in_err-put_vocabulary-clause-err : goal.returns-in_err-put_vocabulary-clause-err
-returns-in_err-put_vocabulary-clause-err g c = on_err c.from_residual-in_err-put_vocabulary.result _ (subst (λ b. GrewByPrefix (g.S.Sink.written c.args.out.now) (c.args.held.now.items ++ b) (g.S.Sink.written c.put_vocabulary.new.out)) (whole c.args.image.now c.image.inside.words c.image.inside.titles c.image.inside.heads c.image.inside.blocks c.image.inside.target c.as_slice-titles.result.now c.as_slice-heads.result.now c.as_slice-blocks.result.now c.image.view_is c.as_slice-titles.ensures c.as_slice-heads.ensures c.as_slice-blocks.ensures) (fails_on _ _ (header_bytes (header_of_image c.args.image.now)) ((vocabulary_bytes c.image.inside.words) ++ ((offset_bytes c.as_slice-titles.result.now) ++ ((title_bytes c.as_slice-titles.result.now) ++ ((directory_bytes c.as_slice-heads.result.now) ++ (blocks_bytes c.as_slice-heads.result.now (map (λ (b : Cols). b.posts) c.as_slice-blocks.result.now)))))) _ _ _ c.in_ok-put_header.ensures.ok (fails_first _ _ (vocabulary_bytes c.image.inside.words) ((offset_bytes c.as_slice-titles.result.now) ++ ((title_bytes c.as_slice-titles.result.now) ++ ((directory_bytes c.as_slice-heads.result.now) ++ (blocks_bytes c.as_slice-heads.result.now (map (λ (b : Cols). b.posts) c.as_slice-blocks.result.now))))) _ c.in_err-put_vocabulary.ensures.err)))
+returns-in_err-put_vocabulary-clause-err g c =
+    let is = whole c.image.view_is c.as_slice-titles.ensures c.as_slice-heads.ensures c.as_slice-blocks.ensures in
+    let grew = λ (b : List ℕ). GrewByPrefix (g.S.Sink.written c.args.out.now) (c.args.held.now.items ++ b) (g.S.Sink.written c.put_vocabulary.new.out) in
+    on_err c.from_residual-in_err-put_vocabulary.result _
+    (subst grew is (fails_on _ _ _ _ _ _ _ c.in_ok-put_header.ensures.ok
+    (fails_first _ _ (vocabulary_bytes c.image.inside.words) _ _ c.in_err-put_vocabulary.ensures.err)))
 
 pub returns-in_err-put_offsets-clause-err : goal.returns-in_err-put_offsets-clause-err
-returns-in_err-put_offsets-clause-err g c = on_err c.from_residual-in_err-put_offsets.result _ (subst (λ b. GrewByPrefix (g.S.Sink.written c.args.out.now) (c.args.held.now.items ++ b) (g.S.Sink.written c.put_offsets.new.out)) (whole c.args.image.now c.image.inside.words c.image.inside.titles c.image.inside.heads c.image.inside.blocks c.image.inside.target c.as_slice-titles.result.now c.as_slice-heads.result.now c.as_slice-blocks.result.now c.image.view_is c.as_slice-titles.ensures c.as_slice-heads.ensures c.as_slice-blocks.ensures) (fails_on _ _ (header_bytes (header_of_image c.args.image.now)) ((vocabulary_bytes c.image.inside.words) ++ ((offset_bytes c.as_slice-titles.result.now) ++ ((title_bytes c.as_slice-titles.result.now) ++ ((directory_bytes c.as_slice-heads.result.now) ++ (blocks_bytes c.as_slice-heads.result.now (map (λ (b : Cols). b.posts) c.as_slice-blocks.result.now)))))) _ _ _ c.in_ok-put_header.ensures.ok (fails_on _ _ (vocabulary_bytes c.image.inside.words) ((offset_bytes c.as_slice-titles.result.now) ++ ((title_bytes c.as_slice-titles.result.now) ++ ((directory_bytes c.as_slice-heads.result.now) ++ (blocks_bytes c.as_slice-heads.result.now (map (λ (b : Cols). b.posts) c.as_slice-blocks.result.now))))) _ _ _ c.in_ok-put_vocabulary.ensures.ok (fails_first _ _ (offset_bytes c.as_slice-titles.result.now) ((title_bytes c.as_slice-titles.result.now) ++ ((directory_bytes c.as_slice-heads.result.now) ++ (blocks_bytes c.as_slice-heads.result.now (map (λ (b : Cols). b.posts) c.as_slice-blocks.result.now)))) _ c.in_err-put_offsets.ensures.err))))
+returns-in_err-put_offsets-clause-err g c =
+    let is = whole c.image.view_is c.as_slice-titles.ensures c.as_slice-heads.ensures c.as_slice-blocks.ensures in
+    let grew = λ (b : List ℕ). GrewByPrefix (g.S.Sink.written c.args.out.now) (c.args.held.now.items ++ b) (g.S.Sink.written c.put_offsets.new.out) in
+    on_err c.from_residual-in_err-put_offsets.result _
+    (subst grew is (fails_on _ _ _ _ _ _ _ c.in_ok-put_header.ensures.ok
+    (fails_on _ _ _ _ _ _ _ c.in_ok-put_vocabulary.ensures.ok
+    (fails_first _ _ (offset_bytes c.as_slice-titles.result.now) _ _ c.in_err-put_offsets.ensures.err))))
 
 pub returns-in_err-put_titles-clause-err : goal.returns-in_err-put_titles-clause-err
-returns-in_err-put_titles-clause-err g c = on_err c.from_residual-in_err-put_titles.result _ (subst (λ b. GrewByPrefix (g.S.Sink.written c.args.out.now) (c.args.held.now.items ++ b) (g.S.Sink.written c.put_titles.new.out)) (whole c.args.image.now c.image.inside.words c.image.inside.titles c.image.inside.heads c.image.inside.blocks c.image.inside.target c.as_slice-titles.result.now c.as_slice-heads.result.now c.as_slice-blocks.result.now c.image.view_is c.as_slice-titles.ensures c.as_slice-heads.ensures c.as_slice-blocks.ensures) (fails_on _ _ (header_bytes (header_of_image c.args.image.now)) ((vocabulary_bytes c.image.inside.words) ++ ((offset_bytes c.as_slice-titles.result.now) ++ ((title_bytes c.as_slice-titles.result.now) ++ ((directory_bytes c.as_slice-heads.result.now) ++ (blocks_bytes c.as_slice-heads.result.now (map (λ (b : Cols). b.posts) c.as_slice-blocks.result.now)))))) _ _ _ c.in_ok-put_header.ensures.ok (fails_on _ _ (vocabulary_bytes c.image.inside.words) ((offset_bytes c.as_slice-titles.result.now) ++ ((title_bytes c.as_slice-titles.result.now) ++ ((directory_bytes c.as_slice-heads.result.now) ++ (blocks_bytes c.as_slice-heads.result.now (map (λ (b : Cols). b.posts) c.as_slice-blocks.result.now))))) _ _ _ c.in_ok-put_vocabulary.ensures.ok (fails_on _ _ (offset_bytes c.as_slice-titles.result.now) ((title_bytes c.as_slice-titles.result.now) ++ ((directory_bytes c.as_slice-heads.result.now) ++ (blocks_bytes c.as_slice-heads.result.now (map (λ (b : Cols). b.posts) c.as_slice-blocks.result.now)))) _ _ _ c.in_ok-put_offsets.ensures.ok (fails_first _ _ (title_bytes c.as_slice-titles.result.now) ((directory_bytes c.as_slice-heads.result.now) ++ (blocks_bytes c.as_slice-heads.result.now (map (λ (b : Cols). b.posts) c.as_slice-blocks.result.now))) _ c.in_err-put_titles.ensures.err)))))
+returns-in_err-put_titles-clause-err g c =
+    let is = whole c.image.view_is c.as_slice-titles.ensures c.as_slice-heads.ensures c.as_slice-blocks.ensures in
+    let grew = λ (b : List ℕ). GrewByPrefix (g.S.Sink.written c.args.out.now) (c.args.held.now.items ++ b) (g.S.Sink.written c.put_titles.new.out) in
+    on_err c.from_residual-in_err-put_titles.result _
+    (subst grew is (fails_on _ _ _ _ _ _ _ c.in_ok-put_header.ensures.ok
+    (fails_on _ _ _ _ _ _ _ c.in_ok-put_vocabulary.ensures.ok
+    (fails_on _ _ _ _ _ _ _ c.in_ok-put_offsets.ensures.ok (fails_first _ _ (title_bytes c.as_slice-titles.result.now) _ _ c.in_err-put_titles.ensures.err)))))
 
 pub returns-in_err-put_directory-clause-err : goal.returns-in_err-put_directory-clause-err
-returns-in_err-put_directory-clause-err g c = on_err c.from_residual-in_err-put_directory.result _ (subst (λ b. GrewByPrefix (g.S.Sink.written c.args.out.now) (c.args.held.now.items ++ b) (g.S.Sink.written c.put_directory.new.out)) (whole c.args.image.now c.image.inside.words c.image.inside.titles c.image.inside.heads c.image.inside.blocks c.image.inside.target c.as_slice-titles.result.now c.as_slice-heads.result.now c.as_slice-blocks.result.now c.image.view_is c.as_slice-titles.ensures c.as_slice-heads.ensures c.as_slice-blocks.ensures) (fails_on _ _ (header_bytes (header_of_image c.args.image.now)) ((vocabulary_bytes c.image.inside.words) ++ ((offset_bytes c.as_slice-titles.result.now) ++ ((title_bytes c.as_slice-titles.result.now) ++ ((directory_bytes c.as_slice-heads.result.now) ++ (blocks_bytes c.as_slice-heads.result.now (map (λ (b : Cols). b.posts) c.as_slice-blocks.result.now)))))) _ _ _ c.in_ok-put_header.ensures.ok (fails_on _ _ (vocabulary_bytes c.image.inside.words) ((offset_bytes c.as_slice-titles.result.now) ++ ((title_bytes c.as_slice-titles.result.now) ++ ((directory_bytes c.as_slice-heads.result.now) ++ (blocks_bytes c.as_slice-heads.result.now (map (λ (b : Cols). b.posts) c.as_slice-blocks.result.now))))) _ _ _ c.in_ok-put_vocabulary.ensures.ok (fails_on _ _ (offset_bytes c.as_slice-titles.result.now) ((title_bytes c.as_slice-titles.result.now) ++ ((directory_bytes c.as_slice-heads.result.now) ++ (blocks_bytes c.as_slice-heads.result.now (map (λ (b : Cols). b.posts) c.as_slice-blocks.result.now)))) _ _ _ c.in_ok-put_offsets.ensures.ok (fails_on _ _ (title_bytes c.as_slice-titles.result.now) ((directory_bytes c.as_slice-heads.result.now) ++ (blocks_bytes c.as_slice-heads.result.now (map (λ (b : Cols). b.posts) c.as_slice-blocks.result.now))) _ _ _ c.in_ok-put_titles.ensures.ok (fails_first _ _ (directory_bytes c.as_slice-heads.result.now) (blocks_bytes c.as_slice-heads.result.now (map (λ (b : Cols). b.posts) c.as_slice-blocks.result.now)) _ c.in_err-put_directory.ensures.err))))))
+returns-in_err-put_directory-clause-err g c =
+    let is = whole c.image.view_is c.as_slice-titles.ensures c.as_slice-heads.ensures c.as_slice-blocks.ensures in
+    let grew = λ (b : List ℕ). GrewByPrefix (g.S.Sink.written c.args.out.now) (c.args.held.now.items ++ b) (g.S.Sink.written c.put_directory.new.out) in
+    on_err c.from_residual-in_err-put_directory.result _
+    (subst grew is (fails_on _ _ _ _ _ _ _ c.in_ok-put_header.ensures.ok
+    (fails_on _ _ _ _ _ _ _ c.in_ok-put_vocabulary.ensures.ok
+    (fails_on _ _ _ _ _ _ _ c.in_ok-put_offsets.ensures.ok
+    (fails_on _ _ _ _ _ _ _ c.in_ok-put_titles.ensures.ok
+    (fails_first _ _ (directory_bytes c.as_slice-heads.result.now) _ _ c.in_err-put_directory.ensures.err))))))
 
 pub returns-clause-ok : goal.returns-clause-ok
 returns-clause-ok g c =
-    then_ok c.put_blocks.result _ _ (λ q. subst (λ b. HasPut (g.S.Sink.written c.args.out.now) c.args.held.now.items b (g.S.Sink.written c.put_blocks.new.out) c.put_blocks.new.held.items) (whole c.args.image.now c.image.inside.words c.image.inside.titles c.image.inside.heads c.image.inside.blocks c.image.inside.target c.as_slice-titles.result.now c.as_slice-heads.result.now c.as_slice-blocks.result.now c.image.view_is c.as_slice-titles.ensures c.as_slice-heads.ensures c.as_slice-blocks.ensures) (put_on _ _ (header_bytes (header_of_image c.args.image.now)) ((vocabulary_bytes c.image.inside.words) ++ ((offset_bytes c.as_slice-titles.result.now) ++ ((title_bytes c.as_slice-titles.result.now) ++ ((directory_bytes c.as_slice-heads.result.now) ++ (blocks_bytes c.as_slice-heads.result.now (map (λ (b : Cols). b.posts) c.as_slice-blocks.result.now)))))) _ _ _ _ c.in_ok-put_header.ensures.ok (put_on _ _ (vocabulary_bytes c.image.inside.words) ((offset_bytes c.as_slice-titles.result.now) ++ ((title_bytes c.as_slice-titles.result.now) ++ ((directory_bytes c.as_slice-heads.result.now) ++ (blocks_bytes c.as_slice-heads.result.now (map (λ (b : Cols). b.posts) c.as_slice-blocks.result.now))))) _ _ _ _ c.in_ok-put_vocabulary.ensures.ok (put_on _ _ (offset_bytes c.as_slice-titles.result.now) ((title_bytes c.as_slice-titles.result.now) ++ ((directory_bytes c.as_slice-heads.result.now) ++ (blocks_bytes c.as_slice-heads.result.now (map (λ (b : Cols). b.posts) c.as_slice-blocks.result.now)))) _ _ _ _ c.in_ok-put_offsets.ensures.ok (put_on _ _ (title_bytes c.as_slice-titles.result.now) ((directory_bytes c.as_slice-heads.result.now) ++ (blocks_bytes c.as_slice-heads.result.now (map (λ (b : Cols). b.posts) c.as_slice-blocks.result.now))) _ _ _ _ c.in_ok-put_titles.ensures.ok (put_on _ _ (directory_bytes c.as_slice-heads.result.now) (blocks_bytes c.as_slice-heads.result.now (map (λ (b : Cols). b.posts) c.as_slice-blocks.result.now)) _ _ _ _ c.in_ok-put_directory.ensures.ok q)))))) c.put_blocks.ensures.ok
+    let is = whole c.image.view_is c.as_slice-titles.ensures c.as_slice-heads.ensures c.as_slice-blocks.ensures in
+    let now = g.S.Sink.written c.put_blocks.new.out in
+    let put = λ (b : List ℕ). HasPut (g.S.Sink.written c.args.out.now) c.args.held.now.items b now c.put_blocks.new.held.items in
+    then_ok c.put_blocks.result _ _ (λ q. subst put is
+    (put_on _ _ _ _ _ _ _ _ c.in_ok-put_header.ensures.ok
+    (put_on _ _ _ _ _ _ _ _ c.in_ok-put_vocabulary.ensures.ok
+    (put_on _ _ _ _ _ _ _ _ c.in_ok-put_offsets.ensures.ok
+    (put_on _ _ _ _ _ _ _ _ c.in_ok-put_titles.ensures.ok (put_on _ _ _ _ _ _ _ _ c.in_ok-put_directory.ensures.ok q)))))) c.put_blocks.ensures.ok
 
 pub returns-clause-err : goal.returns-clause-err
 returns-clause-err g c =
-    then_err c.put_blocks.result _ _ (λ q. subst (λ b. GrewByPrefix (g.S.Sink.written c.args.out.now) (c.args.held.now.items ++ b) (g.S.Sink.written c.put_blocks.new.out)) (whole c.args.image.now c.image.inside.words c.image.inside.titles c.image.inside.heads c.image.inside.blocks c.image.inside.target c.as_slice-titles.result.now c.as_slice-heads.result.now c.as_slice-blocks.result.now c.image.view_is c.as_slice-titles.ensures c.as_slice-heads.ensures c.as_slice-blocks.ensures) (fails_on _ _ (header_bytes (header_of_image c.args.image.now)) ((vocabulary_bytes c.image.inside.words) ++ ((offset_bytes c.as_slice-titles.result.now) ++ ((title_bytes c.as_slice-titles.result.now) ++ ((directory_bytes c.as_slice-heads.result.now) ++ (blocks_bytes c.as_slice-heads.result.now (map (λ (b : Cols). b.posts) c.as_slice-blocks.result.now)))))) _ _ _ c.in_ok-put_header.ensures.ok (fails_on _ _ (vocabulary_bytes c.image.inside.words) ((offset_bytes c.as_slice-titles.result.now) ++ ((title_bytes c.as_slice-titles.result.now) ++ ((directory_bytes c.as_slice-heads.result.now) ++ (blocks_bytes c.as_slice-heads.result.now (map (λ (b : Cols). b.posts) c.as_slice-blocks.result.now))))) _ _ _ c.in_ok-put_vocabulary.ensures.ok (fails_on _ _ (offset_bytes c.as_slice-titles.result.now) ((title_bytes c.as_slice-titles.result.now) ++ ((directory_bytes c.as_slice-heads.result.now) ++ (blocks_bytes c.as_slice-heads.result.now (map (λ (b : Cols). b.posts) c.as_slice-blocks.result.now)))) _ _ _ c.in_ok-put_offsets.ensures.ok (fails_on _ _ (title_bytes c.as_slice-titles.result.now) ((directory_bytes c.as_slice-heads.result.now) ++ (blocks_bytes c.as_slice-heads.result.now (map (λ (b : Cols). b.posts) c.as_slice-blocks.result.now))) _ _ _ c.in_ok-put_titles.ensures.ok (fails_on _ _ (directory_bytes c.as_slice-heads.result.now) (blocks_bytes c.as_slice-heads.result.now (map (λ (b : Cols). b.posts) c.as_slice-blocks.result.now)) _ _ _ c.in_ok-put_directory.ensures.ok q)))))) c.put_blocks.ensures.err
+    let is = whole c.image.view_is c.as_slice-titles.ensures c.as_slice-heads.ensures c.as_slice-blocks.ensures in
+    let grew = λ (b : List ℕ). GrewByPrefix (g.S.Sink.written c.args.out.now) (c.args.held.now.items ++ b) (g.S.Sink.written c.put_blocks.new.out) in
+    then_err c.put_blocks.result _ _ (λ q. subst grew is
+    (fails_on _ _ _ _ _ _ _ c.in_ok-put_header.ensures.ok
+    (fails_on _ _ _ _ _ _ _ c.in_ok-put_vocabulary.ensures.ok
+    (fails_on _ _ _ _ _ _ _ c.in_ok-put_offsets.ensures.ok
+    (fails_on _ _ _ _ _ _ _ c.in_ok-put_titles.ensures.ok (fails_on _ _ _ _ _ _ _ c.in_ok-put_directory.ensures.ok q)))))) c.put_blocks.ensures.err

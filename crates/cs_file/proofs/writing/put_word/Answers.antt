@@ -7,7 +7,9 @@ pub returns-in_err-put_bytes-clause-err : goal.returns-in_err-put_bytes-clause-e
 returns-in_err-put_bytes-clause-err g c = on_err c.from_residual.result _ (fails_first _ _ (c.args.len ∷ []) c.args.word.now _ c.in_err-put_bytes.ensures.err)
 
 pub returns-clause-ok : goal.returns-clause-ok
-returns-clause-ok g c = then_ok c.put_bytes-2.result _ _ (put_on _ _ (c.args.len ∷ []) c.args.word.now _ _ _ _ c.in_ok-put_bytes.ensures.ok) c.put_bytes-2.ensures.ok
+returns-clause-ok g c = then_ok c.put_bytes-2.result _ _ (put_on _ _ (c.args.len ∷ []) c.args.word.now _ _ _ _ c.in_ok-put_bytes.ensures.ok)
+    c.put_bytes-2.ensures.ok
 
 pub returns-clause-err : goal.returns-clause-err
-returns-clause-err g c = then_err c.put_bytes-2.result _ _ (fails_on _ _ (c.args.len ∷ []) c.args.word.now _ _ _ c.in_ok-put_bytes.ensures.ok) c.put_bytes-2.ensures.err
+returns-clause-err g c = then_err c.put_bytes-2.result _ _ (fails_on _ _ (c.args.len ∷ []) c.args.word.now _ _ _ c.in_ok-put_bytes.ensures.ok)
+    c.put_bytes-2.ensures.err

@@ -37,6 +37,7 @@ returns c =
     (subst (λ (x : List BlockHead). IsPartitionedBy (λ h. nat_lt h.lo hi) x) (sym same) (begins_are_parted _ is hi)) (λ a r f k. search rules) in
     let len : length hs ≡ length own = ap length same in
     subst (λ (x : List BlockHead). AreMet x lo hi first last) seen
-    (met_between _ is lo hi first last (omega arith) (omega (arith, len, c.partition_point-first.ensures.bound)) (omega (arith, len, c.partition_point-last.ensures.bound))
+    (met_between _ is lo hi first last (omega arith) (omega (arith, len, c.partition_point-first.ensures.bound))
+    (omega (arith, len, c.partition_point-last.ensures.bound))
     (subst (λ (x : List BlockHead). IsPartitionPoint (λ h. nat_le (h.lo + h.words) lo ≡ true) (λ h. nat_le (h.lo + h.words) lo ≡ false) x first) same ends)
     (subst (λ (x : List BlockHead). IsPartitionPoint (λ h. nat_lt h.lo hi ≡ true) (λ h. nat_lt h.lo hi ≡ false) x last) same begins))
