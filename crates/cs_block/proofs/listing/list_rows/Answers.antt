@@ -15,7 +15,8 @@ returns-in_default-clause-broken c =
     let more : s.i < head.rows = omega arith in
     elim c.in_default.ensures [
       | inl none ↦ absurd (never_stuck head docs gaps words s.i s.at s.before s.bad_word s.row_docs s.row_words c.requires.codes more none s.invariant)
-      | inr late ↦ broken_doc head docs gaps words s.i s.at s.before late.0 late.1 s.bad_word s.row_docs s.row_words c.requires.codes more late.2 late.3 s.invariant
+      | inr late ↦ broken_doc head docs gaps words s.i s.at s.before late.0 late.1 s.bad_word s.row_docs s.row_words c.requires.codes more late.2
+          late.3 s.invariant
     ]
 
 pub loop-i-preserved : goal.loop-i-preserved

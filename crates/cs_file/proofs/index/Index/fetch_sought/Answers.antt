@@ -1,4 +1,3 @@
-use Rattle.std.proofs.Common.{◌∙◌}
 use Rattle.std.proofs.lemmas.Result.{on_ok_weaker}
 use Rattle.cs_file.proofs.FetchLemmas.{block_read, can_judge, fault_changed, fault_unchanged, told_within}
 use Rattle.cs_file.proofs.SoughtPosts.{passed, sought_ranged, sought_stood}
