@@ -8,7 +8,8 @@ add-requires-clause-even g c = ap length c.deref-2.ensures.value ∙ c.in_ok-fet
 
 pub add-requires-clause-known : goal.add-requires-clause-known
 add-requires-clause-known g c =
-    subst (λ n. All (λ d. d < n) c.deref.result.now) (sym c.requires.listed) (subst (All (λ d. d < c.args.index.now.docs)) (sym c.deref.ensures.value) c.in_ok-fetch_doc_words.ensures.docs)
+    subst (λ n. All (λ d. d < n) c.deref.result.now) (sym c.requires.listed)
+    (subst (All (λ d. d < c.args.index.now.docs)) (sym c.deref.ensures.value) c.in_ok-fetch_doc_words.ensures.docs)
 
 pub returns-clause-told : goal.returns-clause-told
 returns-clause-told g c b is stands =
