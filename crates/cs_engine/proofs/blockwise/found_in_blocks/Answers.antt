@@ -1,4 +1,4 @@
-use Rattle.std.proofs.Common.{◌≡◌, ℕ, ◌*◌, ◌-◌, ◌+◌, ◌++◌, Bool, List, sym, ◌∙◌, ap, subst, take, length, map, arith}
+use Rattle.std.proofs.Common.{◌≡◌, ℕ, ◌*◌, ◌-◌, ◌++◌, Bool, List, sym, ◌∙◌, ap, subst, take, length, map, arith}
 use Rattle.std.specs.Prelude.{filter}
 use Rattle.cs_base.specs.declared.content.doc.Base.TheVariants as base
 use Rattle.cs_base.specs.declared.content.doc.Post.{Post}
