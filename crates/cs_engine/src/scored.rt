@@ -1,13 +1,11 @@
 //! The hits of a query and one part more that asks for a range of words: the best score of each document is noted as its rows are read.
-ghost use Rattle.std.specs.Prelude.{◌≡◌, ℕ, ◌+◌, ◌*◌, ◌<◌, ◌++◌, List, false, filter, length, IfOk, OnOk};
+ghost use Rattle.std.specs.Prelude.{◌≡◌, ℕ, ◌+◌, ◌*◌, false, filter, length, IfOk};
 ghost use Rattle.cs_base.specs.declared.content.doc.Base.TheVariants as base;
-ghost use Rattle.cs_base.specs.declared.content.doc.Post.{Post};
 ghost use Rattle.cs_base.specs.declared.content.limits.TheConstants.{MAX_PARTS};
 ghost use Rattle.cs_base.specs.declared.content.scores.TheConstants.{MAX_ROW_SCORE};
 ghost use Rattle.cs_base.specs.outside.Causes.{ReadsWithin};
-ghost use Rattle.cs_file.specs.Indexes.{block_posts, is_met};
+ghost use Rattle.cs_file.specs.Indexes.{is_met};
 ghost use Rattle.cs_rank.specs.DocScores.{scores};
-ghost use Rattle.cs_tables.specs.WordCounts.{is_chosen};
 ghost use Rattle.cs_engine.specs.Asking.{is_read, is_changed};
 ghost use Rattle.cs_engine.specs.Counting.{in_listed};
 ghost use Rattle.cs_engine.specs.Loose.{HasBestScores};
@@ -48,7 +46,7 @@ pub(crate) fn hits_by_words<S: Store>(
     Ok(scored)
 }
 
-// The best score of each listed document, over its rows of these words, block by block.
+// The best score of each listed document, over its rows of these words, block by block. Each block that holds such a word is read once.
 fn best_in_blocks<S: Store>(
     alloc: Global,
     index: &Index,
@@ -70,35 +68,8 @@ fn best_in_blocks<S: Store>(
     let mut best = zeros(alloc, index.docs)?;
     let mut block = Fetched::new(alloc);
     for k in first..last {
-        raise_block(alloc, index, store, k, words, listed, &mut block, &mut best)?;
+        index.fetch_scored(alloc, store, k, &mut block)?;
+        raise_rows(&mut best, words, listed, &block);
     }
     Ok(best)
-}
-
-// Notes the scores of the rows of these words in listed documents of block `k`, which is read once.
-fn raise_block<S: Store>(
-    alloc: Global,
-    index: &Index,
-    store: &mut S,
-    k: u32,
-    words: (u32, u32),
-    listed: &[bool],
-    block: &mut Fetched,
-    best: &mut Vec<u8>,
-) -> Result<(), AskFault>
-    requires in_range { k < length index.now.heads }
-    requires listed { length listed.now ≡ index.now.docs }
-    requires best { length best.old.items ≡ index.now.docs }
-    requires opened { IsOpened (S.bytes store.old) index.now }
-
-    ensures scored { WhereStood (S.bytes store.old) index.now
-        (λ b. OnOk result ((seen : List Post) → HasBestScores seen best.old.items
-        → HasBestScores (seen ++ filter (is_chosen words.0 words.1 listed.now) (block_posts b k)) best.new.items)) }
-    ensures len { length best.new.items ≡ length best.old.items }
-    ensures store { OnlyReads S.bytes S.lent S.faults index.now store.old store.new (is_read result) (is_changed result) }
-    ensures reads { ReadsWithin 1 (S.reads store.old) (S.reads store.new) }
-{
-    index.fetch_scored(alloc, store, k, block)?;
-    raise_rows(best, words, listed, block);
-    Ok(())
 }
