@@ -1,5 +1,5 @@
-use Rattle.std.proofs.Common.{◌≡◌, ℕ, ◌*◌, ◌-◌, ◌++◌, Bool, List, sym, ◌∙◌, ap, subst, take, length, map, arith}
-use Rattle.std.specs.Prelude.{filter}
+use Rattle.std.proofs.Common.{◌≡◌, ◌<◌, ℕ, ◌*◌, ◌-◌, ◌++◌, Bool, List, refl, sym, ◌∙◌, ap, subst, take, length, map, arith}
+use Rattle.std.specs.Prelude.{All, filter}
 use Rattle.cs_base.specs.declared.content.doc.Base.TheVariants as base
 use Rattle.cs_base.specs.declared.content.doc.Post.{Post}
 use Rattle.cs_base.specs.declared.content.limits.TheConstants.{MAX_PARTS}
@@ -19,39 +19,56 @@ use Rattle.cs_engine.proofs.BehindLemmas.{best_found, best_more, rows_are, score
 use Rattle.cs_engine.proofs.WalkLemmas.{walk_ends, walk_goes_on, walk_stops}
 use Rattle.cs_engine.proofs.blockwise.found_in_blocks.Goals as goal
 
-pub add_block-requires-clause-listed : goal.add_block-requires-clause-listed
-add_block-requires-clause-listed g c = ap length c.deref.ensures.value ∙ c.in_ok-listed.ensures.long ∙ ap (λ (x : IndexView). x.docs) c.index.view_is
+pub add_rows-requires-clause-even : goal.add_rows-requires-clause-even
+add_rows-requires-clause-even g c = ap length c.deref-in-loop-k.ensures.value ∙ c.in_ok-fetch_scored.ensures.words_even ∙ sym (ap length c.deref.ensures.value)
 
-pub returns-in_err-add_block-clause-reads : goal.returns-in_err-add_block-clause-reads
-returns-in_err-add_block-clause-reads g c = walk_stops c.loop-k.invariant.walk c.blocks-first.ensures c.loop-k-test.true c.add_block.ensures.reads
+pub add_rows-requires-clause-known : goal.add_rows-requires-clause-known
+add_rows-requires-clause-known g c =
+    let long = ap length c.deref-in-loop-k-2.ensures.value ∙ c.in_ok-listed.ensures.long ∙ ap (λ (x : IndexView). x.docs) c.index.view_is in
+    subst (λ n. All (λ d. d < n) c.deref.result.now) (sym long)
+    (subst (All (λ d. d < c.args.index.now.docs)) (sym c.deref.ensures.value) c.in_ok-fetch_scored.ensures.docs)
+
+pub raise_rows-requires-clause-known : goal.raise_rows-requires-clause-known
+raise_rows-requires-clause-known g c =
+    subst (λ n. All (λ d. d < n) c.fetch_scored.new.into.docs.items) (sym c.loop-k.invariant.len) c.in_ok-fetch_scored.ensures.docs
+
+pub raise_rows-requires-clause-long : goal.raise_rows-requires-clause-long
+raise_rows-requires-clause-long g c =
+    ap length c.deref-in-loop-k-3.ensures.value ∙ c.in_ok-listed.ensures.long ∙ ap (λ (x : IndexView). x.docs) c.index.view_is ∙ sym c.loop-k.invariant.len
+
+pub returns-in_err-fetch_scored-clause-reads : goal.returns-in_err-fetch_scored-clause-reads
+returns-in_err-fetch_scored-clause-reads g c = walk_stops c.loop-k.invariant.walk c.blocks-first.ensures c.loop-k-test.true c.fetch_scored.ensures.reads
 
 pub loop-k-preserved : goal.loop-k-preserved
 loop-k-preserved g c =
     let lo = c.args.words.0 in
     let hi = c.args.words.1 in
     let listed = c.in_ok-listed.listed.items in
-    let call = c.add_block.ensures in
     let inv = c.loop-k.invariant in
-    let within = c.blocks-first.ensures.within in
+    let read = c.in_ok-fetch_scored.ensures in
+    let below : c.loop-k.k < length c.args.index.now.heads = omega (arith, c.blocks-first.ensures.within, c.loop-k-test.true) in
     let Steps : List ℕ → List Bool → Type 0 = λ b l. (seen : List Post)
     → AreCountable (seen ++ chosen c.loop-k.counts.low c.loop-k.counts.high l (block_posts b c.loop-k.k)) → HasCounted seen c.loop-k.counts
-    → HasCounted (seen ++ chosen c.loop-k.counts.low c.loop-k.counts.high l (block_posts b c.loop-k.k)) c.add_block.new.counts in
+    → HasCounted (seen ++ chosen c.loop-k.counts.low c.loop-k.counts.high l (block_posts b c.loop-k.k)) c.add_rows.new.self in
     let Scores : List ℕ → List Bool → Type 0 = λ b l. (seen : List Post) → HasBestScores seen c.loop-k.best.items
-    → HasBestScores (seen ++ filter (is_chosen lo hi l) (block_posts b c.loop-k.k)) c.add_block.new.best.items in
+    → HasBestScores (seen ++ filter (is_chosen lo hi l) (block_posts b c.loop-k.k)) c.raise_rows.new.best.items in
     record {
-      walk = walk_goes_on inv.walk c.in_ok-add_block.ensures.store c.in_ok-add_block.ensures.reads;
-      low = call.low ∙ inv.low;
-      high = call.high ∙ inv.high;
+      walk = walk_goes_on inv.walk (record { unchanged = λ b is stands. refl; bytes = read.bytes; lent = read.lent; caused = read.caused }) read.reads;
+      low = c.add_rows.ensures.low ∙ inv.low;
+      high = c.add_rows.ensures.high ∙ inv.high;
       told = λ b is stands.
-          block_counted b c.args.index.now stands c.requires.opened.index c.blocks-first.result.0 c.loop-k.k lo hi listed c.loop-k.counts c.add_block.new.counts
-          c.loop-k.auto.k (omega (arith, within, c.loop-k-test.true)) inv.low inv.high
-          (subst (Steps b) c.deref.ensures.value (c.in_ok-add_block.ensures.counted b (inv.walk.store.bytes ∙ is) stands)) (inv.told b is stands);
+          let posts = read.stood b (inv.walk.store.bytes ∙ is) stands in
+          block_counted b c.args.index.now stands c.requires.opened.index c.blocks-first.result.0 c.loop-k.k lo hi listed c.loop-k.counts c.add_rows.new.self
+          c.loop-k.auto.k below inv.low inv.high
+          (subst (Steps b) c.deref-in-loop-k-2.ensures.value
+          (c.add_rows.ensures.counted (block_posts b c.loop-k.k) (c.deref.ensures.value ∙ posts.0.0) (c.deref-in-loop-k.ensures.value ∙ posts.0.1)))
+          (inv.told b is stands);
       scored = λ b is stands.
           best_more b c.args.index.now stands c.requires.opened.index lo hi listed c.blocks-first.result.0 c.loop-k.k c.loop-k.best.items
-          c.add_block.new.best.items
-          c.loop-k.auto.k (omega (arith, within, c.loop-k-test.true))
-          (subst (Scores b) c.deref.ensures.value (c.in_ok-add_block.ensures.scored b (inv.walk.store.bytes ∙ is) stands)) (inv.scored b is stands);
-      len = call.len ∙ inv.len;
+          c.raise_rows.new.best.items c.loop-k.auto.k below
+          (subst (Scores b) c.deref-in-loop-k-3.ensures.value
+          (c.raise_rows.ensures.best (block_posts b c.loop-k.k) (read.stood b (inv.walk.store.bytes ∙ is) stands))) (inv.scored b is stands);
+      len = c.raise_rows.ensures.len ∙ inv.len;
     }
 
 pub scored_in-requires-clause-base : goal.scored_in-requires-clause-base

@@ -1,4 +1,6 @@
-use Rattle.std.proofs.Common.{◌≡◌, ◌∙◌, ap, subst, take, arith}
+use Rattle.std.proofs.Common.{◌≡◌, ◌<◌, refl, ◌∙◌, ap, subst, sym, length, take, arith}
+use Rattle.std.specs.Prelude.{All}
+use Rattle.cs_file.specs.Indexes.{block_posts}
 use Rattle.cs_model_index.specs.Sections.{image_of}
 use Rattle.cs_tables.specs.WordCounts.{HasCounted}
 use Rattle.cs_engine.specs.Counting.{counted_rows}
@@ -6,20 +8,31 @@ use Rattle.cs_engine.proofs.CountingLemmas.{block_counted, countable, table_told
 use Rattle.cs_engine.proofs.WalkLemmas.{walk_ends, walk_goes_on, walk_stops}
 use Rattle.cs_engine.proofs.counting.table_between.Goals as goal
 
-pub returns-in_err-count_block-clause-reads : goal.returns-in_err-count_block-clause-reads
-returns-in_err-count_block-clause-reads g c = walk_stops c.loop-k.invariant.walk c.blocks-first.ensures c.loop-k-test.true c.count_block.ensures.reads
+pub returns-in_err-fetch_doc_words-clause-reads : goal.returns-in_err-fetch_doc_words-clause-reads
+returns-in_err-fetch_doc_words-clause-reads g c = walk_stops c.loop-k.invariant.walk c.blocks-first.ensures c.loop-k-test.true c.fetch_doc_words.ensures.reads
+
+pub add-requires-clause-even : goal.add-requires-clause-even
+add-requires-clause-even g c = ap length c.deref-in-loop-k.ensures.value ∙ c.in_ok-fetch_doc_words.ensures.even ∙ sym (ap length c.deref.ensures.value)
+
+pub add-requires-clause-known : goal.add-requires-clause-known
+add-requires-clause-known g c =
+    subst (λ n. All (λ d. d < n) c.deref.result.now) (sym c.requires.listed)
+    (subst (All (λ d. d < c.args.index.now.docs)) (sym c.deref.ensures.value) c.in_ok-fetch_doc_words.ensures.docs)
 
 pub loop-k-preserved : goal.loop-k-preserved
-loop-k-preserved g c = record {
-  walk = walk_goes_on c.loop-k.invariant.walk c.in_ok-count_block.ensures.store c.in_ok-count_block.ensures.reads;
-  low = c.count_block.ensures.low ∙ c.loop-k.invariant.low;
-  high = c.count_block.ensures.high ∙ c.loop-k.invariant.high;
-  told = λ b is stands.
-      block_counted b c.args.index.now stands c.requires.opened.index c.blocks-first.result.0 c.loop-k.k c.args.words.0 c.args.words.1 c.args.listed.now
-      c.loop-k.counts c.count_block.new.counts
-      c.loop-k.auto.k (omega (arith, c.blocks-first.ensures.within, c.loop-k-test.true)) c.loop-k.invariant.low c.loop-k.invariant.high
-      (c.in_ok-count_block.ensures.told b (c.loop-k.invariant.walk.store.bytes ∙ is) stands) (c.loop-k.invariant.told b is stands);
-}
+loop-k-preserved g c =
+    let inv = c.loop-k.invariant in
+    let read = c.in_ok-fetch_doc_words.ensures in
+    record {
+      walk = walk_goes_on inv.walk (record { unchanged = λ b is stands. refl; bytes = read.bytes; lent = read.lent; caused = read.caused }) read.reads;
+      low = c.add.ensures.low ∙ inv.low;
+      high = c.add.ensures.high ∙ inv.high;
+      told = λ b is stands.
+          let posts = read.stood b (inv.walk.store.bytes ∙ is) stands in
+          block_counted b c.args.index.now stands c.requires.opened.index c.blocks-first.result.0 c.loop-k.k c.args.words.0 c.args.words.1 c.args.listed.now
+          c.loop-k.counts c.add.new.self c.loop-k.auto.k (omega (arith, c.blocks-first.ensures.within, c.loop-k-test.true)) inv.low inv.high
+          (c.add.ensures.counted (block_posts b c.loop-k.k) (c.deref.ensures.value ∙ posts.0) (c.deref-in-loop-k.ensures.value ∙ posts.1)) (inv.told b is stands);
+    }
 
 pub returns-in_err-table-clause-reads : goal.returns-in_err-table-clause-reads
 returns-in_err-table-clause-reads g c = walk_ends c.loop-k.invariant.walk c.blocks-first.ensures c.loop-k.auto.k-end
