@@ -1,13 +1,11 @@
 //! The rows of a range of words, read from the blocks of an index.
-ghost use Rattle.std.specs.Prelude.{◌≡◌, ℕ, ◌+◌, ◌≤◌, ◌<◌, true, filter, length, IfOk, OnOk};
+ghost use Rattle.std.specs.Prelude.{◌≡◌, true, filter, length, IfOk};
 ghost use Rattle.std.specs.List.{All};
 ghost use Rattle.cs_base.specs.outside.Causes.{ReadsWithin};
 ghost use Rattle.cs_file.specs.Indexes.{is_met};
-ghost use Rattle.cs_tables.specs.WordCounts.{is_chosen};
 ghost use Rattle.cs_engine.specs.Asking.{is_read, is_changed};
 ghost use Rattle.cs_engine.specs.Counting.{in_listed};
 ghost use Rattle.cs_engine.specs.Loose.{AreGathered};
-ghost use Rattle.cs_engine.specs.Packing.{HasKeys};
 ghost use Rattle.cs_engine.specs.IndexReading.{AreWithin, IsOpened, IsWordRange, OnlyReads, WhereStood, stock_of};
 ghost use Rattle.cs_engine.specs.Stocked.{is_between};
 
@@ -87,33 +85,8 @@ pub(crate) fn keys_in<S: Store>(
     let mut keys = Vec::new(alloc);
     let mut block = Sought::new(alloc);
     for k in first..last {
-        pack_block(alloc, index, store, k, words, listed, &mut block, &mut keys)?;
+        index.fetch_sought(alloc, store, k, words, listed, &mut block)?;
+        pack(&block.posts, &mut keys)?;
     }
     Ok(keys)
-}
-
-// Adds the numbers of the rows of these words in listed documents of block `k`, which is read once.
-fn pack_block<S: Store>(
-    alloc: Global,
-    index: &Index,
-    store: &mut S,
-    k: u32,
-    words: (u32, u32),
-    listed: &[bool],
-    block: &mut Sought,
-    keys: &mut Vec<u64>,
-) -> Result<(), AskFault>
-    requires in_range { k < length index.now.heads }
-    requires in_words { words.1 ≤ length index.now.words }
-    requires listed { length listed.now ≡ index.now.docs }
-    requires opened { IsOpened (S.bytes store.old) index.now }
-
-    ensures keys { OnOk result ((first : ℕ) → first ≤ k → HasKeys index.now (S.bytes store.old) first k (is_chosen words.0 words.1 listed.now) keys.old.items
-        → HasKeys index.now (S.bytes store.old) first (k + 1) (is_chosen words.0 words.1 listed.now) keys.new.items) }
-    ensures store { OnlyReads S.bytes S.lent S.faults index.now store.old store.new (is_read result) (is_changed result) }
-    ensures reads { ReadsWithin 1 (S.reads store.old) (S.reads store.new) }
-{
-    index.fetch_sought(alloc, store, k, words, listed, block)?;
-    pack(&block.posts, keys)?;
-    Ok(())
 }
