@@ -31,7 +31,8 @@ loop-k-preserved g c =
           let posts = read.stood b (inv.walk.store.bytes ∙ is) stands in
           block_counted b c.args.index.now stands c.requires.opened.index c.blocks-first.result.0 c.loop-k.k c.args.words.0 c.args.words.1 c.args.listed.now
           c.loop-k.counts c.add.new.self c.loop-k.auto.k (omega (arith, c.blocks-first.ensures.within, c.loop-k-test.true)) inv.low inv.high
-          (c.add.ensures.counted (block_posts b c.loop-k.k) (c.deref.ensures.value ∙ posts.0) (c.deref-in-loop-k.ensures.value ∙ posts.1)) (inv.told b is stands);
+          (c.add.ensures.counted (block_posts b c.loop-k.k) (c.deref.ensures.value ∙ posts.0) (c.deref-in-loop-k.ensures.value ∙ posts.1))
+          (inv.told b is stands);
     }
 
 pub returns-in_err-table-clause-reads : goal.returns-in_err-table-clause-reads

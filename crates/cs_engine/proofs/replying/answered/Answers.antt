@@ -24,7 +24,8 @@ by_entry-requires-clause-entry g c =
 
 pub returns-in_err-reply-in-Same-clause-reads : goal.returns-in_err-reply-in-Same-clause-reads
 returns-in_err-reply-in-Same-clause-reads g c =
-    kept_reads_err (division c.args.index.now) (asked c.args.request.now) c.args.plan c.from_residual.result c.from_residual.ensures.0 c.in_err-reply-in-Same.ensures.reads
+    kept_reads_err (division c.args.index.now)
+    (asked c.args.request.now) c.args.plan c.from_residual.result c.from_residual.ensures.0 c.in_err-reply-in-Same.ensures.reads
 
 pub returns-in_ok-reply-in-Same-clause-told : goal.returns-in_ok-reply-in-Same-clause-told
 returns-in_ok-reply-in-Same-clause-told g c b is stands good =
@@ -89,7 +90,8 @@ returns-in_ok-answered-in-Narrow-clause-within g c =
 
 pub returns-in_ok-answered-in-Narrow-clause-reads : goal.returns-in_ok-answered-in-Narrow-clause-reads
 returns-in_ok-answered-in-Narrow-clause-reads g c =
-    kept_reads (division c.args.index.now) (asked c.args.request.now) c.args.plan (length c.in_ok-answered-in-Narrow.answered.0.hits) c.in_ok-answered-in-Narrow.ensures.reads
+    kept_reads (division c.args.index.now) (asked c.args.request.now) c.args.plan
+    (length c.in_ok-answered-in-Narrow.answered.0.hits) c.in_ok-answered-in-Narrow.ensures.reads
 
 -- ---- a part more
 pub view-view-requires-in-Extend : goal.view-view-requires-in-Extend
