@@ -42,10 +42,12 @@ module _ (xs ys : List Post) (alike : (t : Post → Bool) → list_any t xs ≡ 
       members-alike nat_cmp nat_cmp_total nat_cmp-IsAntisymmetric (map f xs) (map f ys)
       (λ q. any_map (eq_by_cmp nat_cmp q) f xs ∙ alike (λ p. eq_by_cmp nat_cmp q (f p)) ∙ sym (any_map (eq_by_cmp nat_cmp q) f ys))
 
-counted_alike : (xs ys : List Post) → ((t : Post → Bool) → list_any t xs ≡ list_any t ys) → map (counted_word xs) (post_words xs) ≡ map (counted_word ys) (post_words ys)
+counted_alike : (xs ys : List Post) → ((t : Post → Bool) → list_any t xs ≡ list_any t ys)
+    → map (counted_word xs) (post_words xs) ≡ map (counted_word ys) (post_words ys)
 counted_alike xs ys alike =
     map_same (counted_word xs) (counted_word ys)
-    (λ w. ap (λ ds. let s : Scored = record { doc = w; score = length ds } in s) (members_alike (with_word w xs) (with_word w ys) (filter_alike xs ys alike (λ p. p.word == w)) (λ p. p.doc))) (post_words xs)
+    (λ w. ap (λ ds. let s : Scored = record { doc = w; score = length ds } in s)
+    (members_alike (with_word w xs) (with_word w ys) (filter_alike xs ys alike (λ p. p.word == w)) (λ p. p.doc))) (post_words xs)
     ∙ ap (map (counted_word ys)) (members_alike xs ys alike (λ p. p.word))
 
 pub table_alike : (xs ys : List Post) → ((t : Post → Bool) → list_any t xs ≡ list_any t ys) → post_table xs ≡ post_table ys

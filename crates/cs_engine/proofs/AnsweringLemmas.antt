@@ -27,7 +27,7 @@ use Rattle.cs_meet.specs.Filters.{keep_docs}
 use Rattle.cs_model.specs.Answers.{parts_of, table_of}
 use Rattle.cs_model.specs.Replies.{Reply, Shown, HitShown, FacetShown}
 use Rattle.cs_model.specs.Requests.{Request, hit_shown, reply_of, shown_of}
-use Rattle.cs_model_kept.specs.Entries.{base_of, scored_hits}
+use Rattle.cs_model_kept.specs.Entries.{scored_hits}
 use Rattle.cs_model_kept.specs.Entries as kept
 use Rattle.cs_model_kept.proofs.EntryLemmas.{listed_base}
 use Rattle.cs_tables.specs.declared.tables.Completion.{Completion as Numbered}
@@ -43,25 +43,32 @@ use Rattle.cs_engine.proofs.StockLemmas.{docs_are, stocked, words_are}
 
 module _ (i : IndexView) (is : IsIndex i) where
   pub few_docs : (posts : List Post) → AreWithin i posts → All (λ p. p.doc < 2 ^ 20) posts
-  few_docs posts w = All-weaker (IsWithin i.docs (length i.words)) (λ p. p.doc < 2 ^ 20) (λ p h. let d = h.doc in let few = is.few_docs in omega (arith, d, few)) posts w.within
+  few_docs posts w = All-weaker (IsWithin i.docs (length i.words)) (λ p. p.doc < 2 ^ 20)
+      (λ p h. let d = h.doc in let few = is.few_docs in omega (arith, d, few)) posts w.within
 
   pub few_words : (posts : List Post) → AreWithin i posts → All (λ p. p.word < 2 ^ 22) posts
-  few_words posts w = All-weaker (IsWithin i.docs (length i.words)) (λ p. p.word < 2 ^ 22) (λ p h. let d = h.word in let few = is.few_words in omega (arith, d, few)) posts w.within
+  few_words posts w = All-weaker (IsWithin i.docs (length i.words)) (λ p. p.word < 2 ^ 22)
+      (λ p h. let d = h.word in let few = is.few_words in omega (arith, d, few)) posts w.within
 
   pub index_texts : All IsUtf8 i.words
   index_texts = λ k d l. IsUtf8-from_is_utf8 (get_or i.words k d) (and_parts (is_utf8 (get_or i.words k d)) _ (is.words k d l)).0
 
   pub words_there : (posts : List Post) → AreWithin i posts → AllByRecursion (λ p. p.word < length i.words) posts
-  words_there posts w = recursion_from_All (λ p. p.word < length i.words) posts (All-weaker (IsWithin i.docs (length i.words)) (λ p. p.word < length i.words) (λ p h. h.word) posts w.within)
+  words_there posts w = recursion_from_All (λ p. p.word < length i.words) posts
+      (All-weaker (IsWithin i.docs (length i.words)) (λ p. p.word < length i.words) (λ p h. h.word) posts w.within)
 
-  pub first_in : (posts : List Post) → AreWithin i posts → (cut : ℕ) (first : List Numbered) → first ≡ take cut (post_table posts) → All (λ c. c.word < length i.words) first
+  pub first_in : (posts : List Post) → AreWithin i posts → (cut : ℕ) (first : List Numbered) → first ≡ take cut (post_table posts)
+      → All (λ c. c.word < length i.words) first
   first_in posts w cut first are = first_there i.words is.ascending posts (words_there posts w) cut first are
 
-  pub shown_in : (bound : ℕ) (b : Base) (n : ℕ) (all : List Scored) (o h : ℕ) → n ≡ i.docs → all ≡ base_hits n b → IsBaseOf i.docs bound b → (first : List Scored) → first ≡ take h (drop o (members_in by_rank all)) → All (λ h. h.doc < i.docs) first
+  pub shown_in : (bound : ℕ) (b : Base) (n : ℕ) (all : List Scored) (o h : ℕ) → n ≡ i.docs → all ≡ base_hits n b → IsBaseOf i.docs bound b
+      → (first : List Scored) → first ≡ take h (drop o (members_in by_rank all)) → All (λ h. h.doc < i.docs) first
   shown_in bound b n all o h same are fits first is_first =
       let P : Scored → Type 0 = λ h. h.doc < i.docs in
-      let each : All P all = subst (All P) (sym (are ∙ ap (λ m. base_hits m b) same)) (All-weaker (IsHitOf i.docs bound) P (λ x at. at.doc) (base_hits i.docs b) (listed_in i.docs bound b fits).1) in
-      subst (All P) (sym is_first) (All-take P h (drop o (members_in by_rank all)) (All-drop P o (members_in by_rank all) (All-members by_rank by_rank_total by_rank_exact P all each)))
+      let each : All P all = subst (All P) (sym (are ∙ ap (λ m. base_hits m b) same))
+      (All-weaker (IsHitOf i.docs bound) P (λ x at. at.doc) (base_hits i.docs b) (listed_in i.docs bound b fits).1) in
+      subst (All P) (sym is_first) (All-take P h (drop o (members_in by_rank all))
+      (All-drop P o (members_in by_rank all) (All-members by_rank by_rank_total by_rank_exact P all each)))
 
   ascend_few : (lo n d : ℕ) (ds : List ℕ) → lo ≤ d → AreDocs (d ∷ ds) → AllByRecursion (λ x. x < n) (d ∷ ds) → length (d ∷ ds) + lo ≤ n
   unfolding IsStrictlySortedBy
@@ -79,7 +86,8 @@ module _ (i : IndexView) (is : IsIndex i) where
   hits_few bound b n all same are fits =
       let ls = base_hits i.docs b in
       let in_all = listed_in i.docs bound b fits in
-      let few = docs_few i.docs (map (λ h. h.doc) ls) (docs_rise ls in_all.0) (All-map (λ d. d < i.docs) (λ h. h.doc) ls (All-weaker (IsHitOf i.docs bound) (λ h. h.doc < i.docs) (λ x at. at.doc) ls in_all.1)) in
+      let few = docs_few i.docs (map (λ h. h.doc) ls) (docs_rise ls in_all.0)
+      (All-map (λ d. d < i.docs) (λ h. h.doc) ls (All-weaker (IsHitOf i.docs bound) (λ h. h.doc < i.docs) (λ x at. at.doc) ls in_all.1)) in
       let most = is.few_docs in
       omega (arith, few, most, length-map ls (λ (h : Scored). h.doc), ap length (are ∙ ap (λ m. base_hits m b) same))
 
@@ -90,25 +98,35 @@ module _ (b : List ℕ) (i : IndexView) (stands : StandsFor b i) (is : IsIndex i
   own_words : (posts : List Post) → AreWithin i posts → AllByRecursion (λ p. p.word < length s.words) posts
   own_words posts w = subst (λ ws. AllByRecursion (λ (p : Post). p.word < length ws) posts) (words_are b i stands is) (words_there i is posts w)
 
-  pub words_as_shown : (posts : List Post) → AreWithin i posts → (ws : List (List ℕ)) → ws ≡ i.words → (cut : ℕ) (first : List Numbered) → first ≡ take cut (post_table posts) → (shown : List Shown) → shown ≡ map (shown_at ws) first → shown ≡ map shown_of (take cut (table_of (rows_at s.words posts)))
+  pub words_as_shown : (posts : List Post) → AreWithin i posts → (ws : List (List ℕ)) → ws ≡ i.words → (cut : ℕ) (first : List Numbered)
+      → first ≡ take cut (post_table posts) → (shown : List Shown) → shown ≡ map (shown_at ws) first
+      → shown ≡ map shown_of (take cut (table_of (rows_at s.words posts)))
   words_as_shown posts w ws same cut first are shown shown_is =
-      shown_is ∙ ap (λ x. map (shown_at x) first) (same ∙ words_are b i stands is) ∙ words_shown s (stocked b i stands is) posts cut first (own_words posts w) are
+      shown_is ∙ ap (λ x. map (shown_at x) first) (same ∙ words_are b i stands is)
+      ∙ words_shown s (stocked b i stands is) posts cut first (own_words posts w) are
 
   pub total_told : (posts : List Post) → AreWithin i posts → length (post_table posts) ≡ length (table_of (rows_at s.words posts))
   total_told posts w = table_total s (stocked b i stands is) posts (own_words posts w)
 
-  pub facet_told : (base : Base) (cut : ℕ) (name copied : List ℕ) (rows posts : List Post) (n : ℕ) (words : List Shown) → copied ≡ name → HasRows s (named_rows s name) rows → n ≡ i.docs → posts ≡ keep_docs rows (docs_in n base)
-      → words ≡ map shown_of (take cut (table_of (rows_at s.words posts))) → ◌≡◌ {A = FacetShown} (record { name = copied; table = words }) (facet_at s base cut name)
+  pub facet_told : (base : Base) (cut : ℕ) (name copied : List ℕ) (rows posts : List Post) (n : ℕ) (words : List Shown) → copied ≡ name
+      → HasRows s (named_rows s name) rows → n ≡ i.docs → posts ≡ keep_docs rows (docs_in n base)
+      → words ≡ map shown_of (take cut (table_of (rows_at s.words posts)))
+      → ◌≡◌ {A = FacetShown} (record { name = copied; table = words }) (facet_at s base cut name)
   facet_told base cut name copied rows posts n words same has docs are words_is =
-      let of_rows = facet_kept s (stocked b i stands is) base name rows posts has.is (are ∙ ap (λ m. keep_docs rows (docs_in m base)) (docs ∙ docs_are b i stands is)) in
+      let of_rows = facet_kept s (stocked b i stands is) base name rows posts has.is
+      (are ∙ ap (λ m. keep_docs rows (docs_in m base)) (docs ∙ docs_are b i stands is)) in
       ap (λ m. let f : FacetShown = record { name = m; table = words } in f) same
-      ∙ ap (λ (t : List Shown). let f : FacetShown = record { name = name; table = t } in f) (words_is ∙ ap (λ rs. map shown_of (take cut (table_of rs))) of_rows)
+      ∙ ap (λ (t : List Shown). let f : FacetShown = record { name = name; table = t } in f)
+      (words_is ∙ ap (λ rs. map shown_of (take cut (table_of rs))) of_rows)
 
-  pub title_told : (h : Scored) (title : List ℕ) → h.doc < i.docs → title ≡ title_in b h.doc → ◌≡◌ {A = HitShown} (record { doc = h.doc; score = h.score; title = title }) (hit_shown (corpus_in s) h)
+  pub title_told : (h : Scored) (title : List ℕ) → h.doc < i.docs → title ≡ title_in b h.doc
+      → ◌≡◌ {A = HitShown} (record { doc = h.doc; score = h.score; title = title }) (hit_shown (corpus_in s) h)
   title_told h title l is_title =
-      ap (λ t. let x : HitShown = record { doc = h.doc; score = h.score; title = t } in x) (is_title ∙ sym (titled s.titles h.doc [] (subst (λ n. h.doc < n) (docs_are b i stands is) l)))
+      ap (λ t. let x : HitShown = record { doc = h.doc; score = h.score; title = t } in x)
+      (is_title ∙ sym (titled s.titles h.doc [] (subst (λ n. h.doc < n) (docs_are b i stands is) l)))
 
-  pub reply_told : (r : Request) (hits : Base) (posts : List Post) → AreFound s r.query hits posts → AreWithin i posts → (c : List Shown) (f : List FacetShown) (h : List HitShown) (tc th : ℕ) (all : List Scored)
+  pub reply_told : (r : Request) (hits : Base) (posts : List Post) → AreFound s r.query hits posts → AreWithin i posts
+      → (c : List Shown) (f : List FacetShown) (h : List HitShown) (tc th : ℕ) (all : List Scored)
       → c ≡ map shown_of (take r.completions (table_of (rows_at s.words posts)))
       → f ≡ map (facet_at s hits r.completions) r.facets
       → h ≡ map (hit_shown (corpus_in s)) (take r.hits (drop r.offset (members_in by_rank all)))
@@ -120,14 +138,17 @@ module _ (b : List ℕ) (i : IndexView) (stands : StandsFor b i) (is : IsIndex i
       let k = corpus_in s in
       let ps = parts_of k r.query in
       let here : all ≡ base_hits (length s.titles) hits = are ∙ ap (λ m. base_hits m hits) (docs ∙ docs_are b i stands is) in
-      let lists : base_hits (length s.titles) hits ≡ scored_hits k ps = listed_told s (length s.titles) hits refl ∙ ap (kept.listed k) found.base ∙ listed_base k ps in
+      let lists : base_hits (length s.titles) hits ≡ scored_hits k ps = listed_told s (length s.titles) hits refl ∙ ap (kept.listed k) found.base
+      ∙ listed_base k ps in
       reply_made s (stocked b i stands is) ps hits posts lists found.rows r refl c f h tc th
       c_is f_is (h_is ∙ ap (λ hs. map (hit_shown k) (take r.hits (drop r.offset (members_in by_rank hs)))) here)
       (tc_is ∙ total_told posts w) (th_is ∙ ap length here)
 
 -- one more is shown
-pub shown_more : {X Y : Type 0} (f : X → Y) (whole shown now : List Y) (xs : List X) (i : ℕ) (d : X) (y : Y) → i < length xs → y ≡ f (get_or xs i d) → now ≡ shown ++ y ∷ [] → whole ≡ shown ++ map f (drop i xs) → whole ≡ now ++ map f (drop (i + 1) xs)
+pub shown_more : {X Y : Type 0} (f : X → Y) (whole shown now : List Y) (xs : List X) (i : ℕ) (d : X) (y : Y) → i < length xs → y ≡ f (get_or xs i d)
+    → now ≡ shown ++ y ∷ [] → whole ≡ shown ++ map f (drop i xs) → whole ≡ now ++ map f (drop (i + 1) xs)
 shown_more f whole shown now xs i d y l is more so_far =
     let x = get_or xs i d in
     so_far ∙ ap (λ r. shown ++ map f r) (next_is xs i x l (get_or_default xs i d x l))
-    ∙ sym (append_assoc shown (f x ∷ []) (map f (drop (i + 1) xs))) ∙ ap (λ z. (shown ++ z ∷ []) ++ map f (drop (i + 1) xs)) (sym is) ∙ ap (λ l. l ++ map f (drop (i + 1) xs)) (sym more)
+    ∙ sym (append_assoc shown (f x ∷ []) (map f (drop (i + 1) xs))) ∙ ap (λ z. (shown ++ z ∷ []) ++ map f (drop (i + 1) xs)) (sym is)
+    ∙ ap (λ l. l ++ map f (drop (i + 1) xs)) (sym more)

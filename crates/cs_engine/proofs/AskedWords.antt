@@ -3,7 +3,8 @@
 --   word_span, no_span      a word that is there, and one that isn't
 --   span_found              the posts between two numbers stand for the rows that pass the test
 --   prefix_met, word_met    how many blocks hold such words
-use Rattle.std.proofs.Common.{◌≡◌, ℕ, suc, ◌+◌, ◌-◌, ◌<◌, ◌≤◌, ◌&&◌, max, Bool, true, false, cond, List, [], ◌∷◌, length, get_or, drop, refl, sym, ap, subst, ◌∙◌, arith, length-take, length-drop, get_or-drop, get_or-take, if◌then◌else◌}
+use Rattle.std.proofs.Common.{◌≡◌, ℕ, suc, ◌+◌, ◌-◌, ◌<◌, ◌≤◌, ◌&&◌, max, Bool, true, false, cond, List, [], ◌∷◌, length, get_or, drop, refl, sym, ap}
+use Rattle.std.proofs.Common.{subst, ◌∙◌, arith, length-take, length-drop, get_or-drop, get_or-take, if◌then◌else◌}
 use Rattle.std.specs.Prelude.{All, filter, nat_le, nat_lt}
 use Rattle.std.specs.List.{AllByRecursion, list_any}
 use Rattle.std.specs.Str.{bytes_eq}
@@ -35,13 +36,15 @@ no_span ws w none = record { ordered = omega arith; within = omega arith; holds 
 pub word_there : (ws : List (List ℕ)) (n : ℕ) (w : List ℕ) → IsWordAt ws n w → list_any (bytes_eq w) ws ≡ true
 word_there ws n w at = list_any_at (bytes_eq w) ws n [] at.0 (ap (bytes_eq w) at.1 ∙ name_itself w)
 
-pub span_found : (b : List ℕ) (i : IndexView) → StandsFor b i → IsIndex i → (test : List ℕ → Bool) (lo hi : ℕ) → IsSpan i.words test lo hi → (posts : List Post) → posts ≡ filter (is_between lo hi) (stock_of b).posts
+pub span_found : (b : List ℕ) (i : IndexView) → StandsFor b i → IsIndex i → (test : List ℕ → Bool) (lo hi : ℕ) → IsSpan i.words test lo hi → (posts : List Post)
+    → posts ≡ filter (is_between lo hi) (stock_of b).posts
     → HasRows (stock_of b) (filter (λ r. test r.word) (corpus_in (stock_of b)).rows) posts
 span_found b i s is test lo hi span posts are =
     let st = stocked b i s is in
     let own = subst (λ ws. IsSpan ws test lo hi) (words_are b i s is) span in
     record {
-      is = ap (λ ps. rows_at (stock_of b).words ps) are ∙ span_rows (stock_of b).words test lo hi (stock_of b).posts own (words_known (stock_of b) (stock_of b).posts st.known);
+      is = ap (λ ps. rows_at (stock_of b).words ps) are
+          ∙ span_rows (stock_of b).words test lo hi (stock_of b).posts own (words_known (stock_of b) (stock_of b).posts st.known);
       picked = picked_between (stock_of b) (is_between lo hi) posts st are;
     }
 
@@ -76,7 +79,8 @@ met_parts lo hi h e = (low lo hi h.lo (h.lo + h.words) e, middle lo hi h.lo (h.l
 in_turn : (lo n hi : ℕ) → lo ≤ n → n < hi → (nat_le lo n && nat_lt n hi) ≡ true
 in_turn lo n hi a b = grind (arith, nat_tests)
 
-pub prefix_met : (i : IndexView) → IsIndex i → (p : List ℕ) (lo hi : ℕ) → IsRange i.words p lo hi → length (filter (is_met lo hi) i.heads) ≤ met_prefix (division i) p
+pub prefix_met : (i : IndexView) → IsIndex i → (p : List ℕ) (lo hi : ℕ) → IsRange i.words p lo hi
+    → length (filter (is_met lo hi) i.heads) ≤ met_prefix (division i) p
 prefix_met i is p lo hi range = filter_less (is_met lo hi) (λ h. list_any (begins p) (block_words (division i) h)) i.heads (λ k d l e.
     let h = get_or i.heads k d in
     let met = met_parts lo hi h e in
@@ -90,14 +94,16 @@ prefix_met i is p lo hi range = filter_less (is_met lo hi) (λ h. list_any (begi
     let place : n - h.lo < h.words = omega (arith, met.0, filled) in
     let l1 = length-take h.words (drop h.lo i.words) in
     let l2 = length-drop h.lo i.words in
-    let there : get_or (block_words (division i) h) (n - h.lo) [] ≡ word_at i.words n = get_or-take h.words (drop h.lo i.words) (n - h.lo) [] place ∙ get_or-drop h.lo i.words (n - h.lo) [] ∙ ap (word_at i.words) at in
+    let there : get_or (block_words (division i) h) (n - h.lo) [] ≡ word_at i.words n = get_or-take h.words (drop h.lo i.words) (n - h.lo) [] place
+    ∙ get_or-drop h.lo i.words (n - h.lo) [] ∙ ap (word_at i.words) at in
     list_any_at (begins p) (block_words (division i) h) (n - h.lo) [] (omega (arith, l1, l2, place, ends)) (ap (begins p) there ∙ own))
 
 -- blocks that lie one behind the other
 abbrev AreApart : List BlockHead → Type 0
 AreApart hs = (k l : ℕ) (d : BlockHead) → k < l → l < length hs → (get_or hs k d).lo + (get_or hs k d).words ≤ (get_or hs l d).lo
 
-none_met : (a lo hi : ℕ) (hs : List BlockHead) → hi ≤ a → ((k : ℕ) (d : BlockHead) → k < length hs → a ≤ (get_or hs k d).lo) → length (filter (is_met lo hi) hs) ≤ 0
+none_met : (a lo hi : ℕ) (hs : List BlockHead) → hi ≤ a → ((k : ℕ) (d : BlockHead) → k < length hs → a ≤ (get_or hs k d).lo)
+    → length (filter (is_met lo hi) hs) ≤ 0
 none_met a lo hi [] l from = omega arith
 none_met a lo hi (h ∷ hs) l from =
     elim (is_met lo hi h) as (λ e. is_met lo hi h ≡ e → length (cond e (h ∷ filter (is_met lo hi) hs) (filter (is_met lo hi) hs)) ≤ 0) [
@@ -124,7 +130,8 @@ empty_met lo hi (h ∷ hs) same =
       | false ↦ λ e. empty_met lo hi hs same
     ] refl
 
-pub word_met : (i : IndexView) → IsIndex i → (w : List ℕ) (lo hi : ℕ) → hi ≤ lo + 1 → (list_any (bytes_eq w) i.words ≡ false → lo ≡ hi) → length (filter (is_met lo hi) i.heads) ≤ met_word (division i) w
+pub word_met : (i : IndexView) → IsIndex i → (w : List ℕ) (lo hi : ℕ) → hi ≤ lo + 1 → (list_any (bytes_eq w) i.words ≡ false → lo ≡ hi)
+    → length (filter (is_met lo hi) i.heads) ≤ met_word (division i) w
 word_met i is w lo hi short none =
     elim (list_any (bytes_eq w) i.words) as (λ e. list_any (bytes_eq w) i.words ≡ e → length (filter (is_met lo hi) i.heads) ≤ (if e then 1 else 0)) [
       | true ↦ λ e. one_met lo hi i.heads (heads_rise i is) short

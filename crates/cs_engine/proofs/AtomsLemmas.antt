@@ -36,7 +36,8 @@ late n m h = grind (arith, nat_tests)
 here : (n m : ℕ) → m ≡ n → (nat_le n m && nat_lt m (n + 1)) ≡ true
 here n m h = grind (arith, nat_tests)
 
-pub span_word : (ws : List (List ℕ)) → IsStrictlySortedBy (slice_cmp nat_cmp) ws → (n : ℕ) (w : List ℕ) → IsWordAt ws n w → IsSpan ws (λ v. bytes_eq v w) n (n + 1)
+pub span_word : (ws : List (List ℕ)) → IsStrictlySortedBy (slice_cmp nat_cmp) ws → (n : ℕ) (w : List ℕ) → IsWordAt ws n w
+    → IsSpan ws (λ v. bytes_eq v w) n (n + 1)
 span_word ws up n w at m l =
     subst (λ x. bytes_eq (word_at ws m) x ≡ (nat_le n m && nat_lt m (n + 1))) at.1
     (three_ways m n
@@ -56,9 +57,11 @@ pub span_none : (ws : List (List ℕ)) (w : List ℕ) → list_any (bytes_eq w) 
 span_none ws w h m l =
     name_sym (word_at ws m) w ∙ none_at ws w m h l ∙ sym (none_between m)
 
-pub span_rows : (ws : List (List ℕ)) (test : List ℕ → Bool) (lo hi : ℕ) (posts : List Post) → IsSpan ws test lo hi → AllByRecursion (λ p. p.word < length ws) posts → rows_at ws (filter (is_between lo hi) posts) ≡ filter (λ r. test r.word) (rows_at ws posts)
+pub span_rows : (ws : List (List ℕ)) (test : List ℕ → Bool) (lo hi : ℕ) (posts : List Post) → IsSpan ws test lo hi
+    → AllByRecursion (λ p. p.word < length ws) posts → rows_at ws (filter (is_between lo hi) posts) ≡ filter (λ r. test r.word) (rows_at ws posts)
 span_rows ws test lo hi posts span known =
-    ap (rows_at ws) (filter_alike (is_between lo hi) (λ p. test (word_at ws p.word)) posts (all_then (λ p. p.word < length ws) (λ p. is_between lo hi p ≡ test (word_at ws p.word)) (λ p l. sym (span p.word l)) posts known))
+    ap (rows_at ws) (filter_alike (is_between lo hi) (λ p. test (word_at ws p.word)) posts
+    (all_then (λ p. p.word < length ws) (λ p. is_between lo hi p ≡ test (word_at ws p.word)) (λ p l. sym (span p.word l)) posts known))
     ∙ filter_through (row_of ws) (λ r. test r.word) posts
 
 pub words_known : (s : Stock) (posts : List Post) → All (IsKnown s) posts → AllByRecursion (λ p. p.word < length s.words) posts
@@ -81,17 +84,22 @@ picked_again s p posts found picked is =
 
 -- ---- counting
 
-counted_words : (lo hi : ℕ) (posts : List Post) → length (filter (is_between lo hi) posts) ≡ length (filter (λ w. nat_le lo w && nat_lt w hi) (map (λ p. p.word) posts))
+counted_words : (lo hi : ℕ) (posts : List Post)
+    → length (filter (is_between lo hi) posts) ≡ length (filter (λ w. nat_le lo w && nat_lt w hi) (map (λ p. p.word) posts))
 counted_words lo hi [] = refl
 counted_words lo hi (p ∷ posts) =
-    elim (is_between lo hi p) as (λ b. length (cond b (p ∷ filter (is_between lo hi) posts) (filter (is_between lo hi) posts)) ≡ length (cond b (p.word ∷ filter (λ w. nat_le lo w && nat_lt w hi) (map (λ p. p.word) posts)) (filter (λ w. nat_le lo w && nat_lt w hi) (map (λ p. p.word) posts)))) [
+    elim (is_between lo hi p) as (λ b. length (cond b (p ∷ filter (is_between lo hi) posts) (filter (is_between lo hi) posts)) ≡ length
+    (cond b (p.word ∷ filter (λ w. nat_le lo w && nat_lt w hi) (map (λ p. p.word) posts))
+    (filter (λ w. nat_le lo w && nat_lt w hi) (map (λ p. p.word) posts)))) [
       | true ↦ ap suc (counted_words lo hi posts)
       | false ↦ counted_words lo hi posts
     ]
 
-pub counted_between : (lo hi : ℕ) (posts : List Post) (words : List ℕ) → words ≡ map (λ p. p.word) posts → length (filter (is_between lo hi) posts) ≡ length (filter (λ w. nat_le lo w && nat_lt w hi) words)
+pub counted_between : (lo hi : ℕ) (posts : List Post) (words : List ℕ) → words ≡ map (λ p. p.word) posts
+    → length (filter (is_between lo hi) posts) ≡ length (filter (λ w. nat_le lo w && nat_lt w hi) words)
 counted_between lo hi posts words is = counted_words lo hi posts ∙ ap (λ ws. length (filter (λ w. nat_le lo w && nat_lt w hi) ws)) (sym is)
 
 -- the word that stands at a post's place
-pub word_in : (posts : List Post) (words : List ℕ) (i : ℕ) (p : Post) → words ≡ map (λ p. p.word) posts → i < length posts → p ≡ get_or posts i p → get_or words i 0 ≡ p.word
+pub word_in : (posts : List Post) (words : List ℕ) (i : ℕ) (p : Post) → words ≡ map (λ p. p.word) posts → i < length posts → p ≡ get_or posts i p
+    → get_or words i 0 ≡ p.word
 word_in posts words i p is l at = ap (λ ws. get_or ws i 0) is ∙ get_or-map (λ p. p.word) posts i p 0 l ∙ ap (λ (q : Post). q.word) (sym at)

@@ -6,7 +6,8 @@
 --   best_found       after all blocks they are those of the rows that are asked for
 --   scored_are       the hits of that table
 --   behind_words     are those behind the part
-use Rattle.std.proofs.Common.{◌≡◌, ℕ, ◌+◌, ◌*◌, ◌<◌, ◌≤◌, ◌^◌, Bool, true, false, not, List, [], ◌∷◌, ◌++◌, length, map, get_or, refl, sym, ap, subst, ◌∙◌, arith, if◌then◌else◌}
+use Rattle.std.proofs.Common.{◌≡◌, ℕ, ◌+◌, ◌*◌, ◌<◌, ◌≤◌, ◌^◌, Bool, true, false, not, List, [], ◌∷◌, ◌++◌, length, map, get_or, refl, sym, ap, subst, ◌∙◌}
+use Rattle.std.proofs.Common.{arith, if◌then◌else◌}
 use Rattle.std.specs.Prelude.{All, filter}
 use Rattle.std.specs.List.{AllByRecursion}
 use Rattle.std.specs.List.Sorted.{IsStrictlySortedBy}
@@ -49,7 +50,8 @@ none_added (h ∷ found) =
     let e : 0 + h.score ≡ h.score = omega arith in
     ap (λ n. let s : Scored = record { doc = h.doc; score = n } in s ∷ map (with_base base.All) found) e ∙ ap (λ l. h ∷ l) (none_added found)
 
-later_as : (b : Base) (h : Scored) (hs : List Scored) → AllByRecursion (λ y. by_doc h y ≡ Less) hs → AllByRecursion (λ y. by_doc (with_base b h) y ≡ Less) (map (with_base b) hs)
+later_as : (b : Base) (h : Scored) (hs : List Scored) → AllByRecursion (λ y. by_doc h y ≡ Less) hs
+    → AllByRecursion (λ y. by_doc (with_base b h) y ≡ Less) (map (with_base b) hs)
 later_as b h [] up = tt
 later_as b h (x ∷ hs) up = (up.0, later_as b h hs up.1)
 
@@ -58,7 +60,8 @@ unfolding IsStrictlySortedBy
 over_rises b [] up = tt
 over_rises b (h ∷ hs) up = (later_as b h hs up.0, over_rises b hs up.1)
 
-pub over_in : (docs n : ℕ) (b : Base) (found : List Scored) → IsBaseOf docs (MAX_ROW_SCORE * n) b → IsBaseOf docs MAX_ROW_SCORE (base.Listed found) → IsBaseOf docs (MAX_ROW_SCORE * (n + 1)) (base.Listed (map (with_base b) found))
+pub over_in : (docs n : ℕ) (b : Base) (found : List Scored) → IsBaseOf docs (MAX_ROW_SCORE * n) b → IsBaseOf docs MAX_ROW_SCORE (base.Listed found)
+    → IsBaseOf docs (MAX_ROW_SCORE * (n + 1)) (base.Listed (map (with_base b) found))
 over_in docs n b found fits has = (
   over_rises b found has.0,
   All-map (IsHitOf docs (MAX_ROW_SCORE * (n + 1))) (with_base b) found (λ k d l.
@@ -83,32 +86,43 @@ module _ (b : List ℕ) (i : IndexView) (stands : StandsFor b i) (is : IsIndex i
   abbrev run : ℕ → ℕ → List Post
   run first k = run_of (image_of b).blocks first k (is_chosen lo hi listed)
 
-  pub best_more : (first k : ℕ) (old new : List ℕ) → first ≤ k → k < length i.heads → ((seen : List Post) → HasBestScores seen old → HasBestScores (seen ++ filter (is_chosen lo hi listed) (block_posts b k)) new)
-      → HasBestScores (run_of (image_of b).blocks first k (is_chosen lo hi listed)) old → HasBestScores (run_of (image_of b).blocks first (k + 1) (is_chosen lo hi listed)) new
+  pub best_more : (first k : ℕ) (old new : List ℕ) → first ≤ k → k < length i.heads
+      → ((seen : List Post) → HasBestScores seen old → HasBestScores (seen ++ filter (is_chosen lo hi listed) (block_posts b k)) new)
+      → HasBestScores (run_of (image_of b).blocks first k (is_chosen lo hi listed)) old
+      → HasBestScores (run_of (image_of b).blocks first (k + 1) (is_chosen lo hi listed)) new
   best_more first k old new le lt step h =
       let count = stood_count b i stands in
-      subst (λ rs. HasBestScores rs new) (sym (flat_more (filter (is_chosen lo hi listed)) (image_of b).blocks first k le (omega (arith, lt, count)))) (step (run first k) h)
+      subst (λ rs. HasBestScores rs new) (sym (flat_more (filter (is_chosen lo hi listed)) (image_of b).blocks first k le (omega (arith, lt, count))))
+      (step (run first k) h)
 
-  pub best_found : (first last : ℕ) (best : List ℕ) → AreMet i.heads lo hi first last → HasBestScores (run_of (image_of b).blocks first last (is_chosen lo hi listed)) best → HasBestScores (filter (in_listed listed) (filter (is_between lo hi) (stock_of b).posts)) best
+  pub best_found : (first last : ℕ) (best : List ℕ) → AreMet i.heads lo hi first last
+      → HasBestScores (run_of (image_of b).blocks first last (is_chosen lo hi listed)) best
+      → HasBestScores (filter (in_listed listed) (filter (is_between lo hi) (stock_of b).posts)) best
   best_found first last best met has = alike_best (run first last) rows best (counted_alike b i stands is first last lo hi listed met) has
 
   module _ (hits : Base) (lists : AreListed i.docs hits listed) where
     asked_within : AreWithin i asked
     asked_within = kept_within i (is_between lo hi) (stock_of b).posts (stock_within b i stands is)
 
-    pub rows_are : filter (in_listed listed) (filter (is_between lo hi) (stock_of b).posts) ≡ (posts_after i.docs hits false (filter (is_between lo hi) (stock_of b).posts)).rows
+    pub rows_are : filter (in_listed listed)
+        (filter (is_between lo hi) (stock_of b).posts) ≡ (posts_after i.docs hits false (filter (is_between lo hi) (stock_of b).posts)).rows
     rows_are = listed_kept b i stands is hits listed asked lists asked_within
 
-    pub scored_are : (best : List ℕ) (found next : List Scored) → length best ≡ i.docs → HasBestScores (filter (in_listed listed) (filter (is_between lo hi) (stock_of b).posts)) best → found ≡ hits_in 0 best → next ≡ map (with_base hits) found
+    pub scored_are : (best : List ℕ) (next : List Scored) → length best ≡ i.docs
+        → HasBestScores (filter (in_listed listed) (filter (is_between lo hi) (stock_of b).posts)) best
+        → next ≡ map (with_base hits) (hits_in 0 best)
         → next ≡ scores hits (posts_after i.docs hits false (filter (is_between lo hi) (stock_of b).posts)).rows
-    scored_are best found next long has found_is next_is =
+    scored_are best next long has next_is =
         let w = kept_within i (in_listed listed) asked asked_within in
-        let known : All (λ p. p.doc < length best) rows = All-weaker (IsWithin i.docs (length i.words)) (λ p. p.doc < length best) (λ p h. let doc = h.doc in omega (arith, doc, long)) rows w.within in
-        next_is ∙ ap (map (with_base hits)) (found_is ∙ hits_are rows best has known) ∙ base_each hits rows (docs_of rows) ∙ ap (scores hits) rows_are
+        let known : All (λ p. p.doc < length best) rows = All-weaker (IsWithin i.docs (length i.words)) (λ p. p.doc < length best)
+        (λ p h. let doc = h.doc in omega (arith, doc, long)) rows w.within in
+        next_is ∙ ap (map (with_base hits)) (hits_are rows best has known) ∙ base_each hits rows (docs_of rows) ∙ ap (scores hits) rows_are
 
 -- ---- the hits behind the part
-pub behind_words : (b : List ℕ) (i : IndexView) → StandsFor b i → IsIndex i → (x : Part) (hits : Base) (lo hi : ℕ) (next : List Scored) → (out-Part x).excluded ≡ false → AreWordsOf i (met_of_part (division i) x) (λ k. (rows_of_part k x).rows) lo hi
-    → next ≡ scores hits (posts_after i.docs hits false (filter (is_between lo hi) (stock_of b).posts)).rows → AreHitsBehind (stock_of b) hits (rows_of_part (corpus_in (stock_of b)) x) (base.Listed next)
+pub behind_words : (b : List ℕ) (i : IndexView) → StandsFor b i → IsIndex i → (x : Part) (hits : Base) (lo hi : ℕ) (next : List Scored)
+    → (out-Part x).excluded ≡ false → AreWordsOf i (met_of_part (division i) x) (λ k. (rows_of_part k x).rows) lo hi
+    → next ≡ scores hits (posts_after i.docs hits false (filter (is_between lo hi) (stock_of b).posts)).rows
+    → AreHitsBehind (stock_of b) hits (rows_of_part (corpus_in (stock_of b)) x) (base.Listed next)
 behind_words b i stands is x hits lo hi next positive asks next_is =
     let s = stock_of b in
     let posts = filter (is_between lo hi) s.posts in

@@ -4,13 +4,13 @@
 --   raised_where, raised_row, raised_rows     and those that pass a test
 --   hits_more, hits_all          the hits of the table
 --   hits_are                     are the documents of the rows with their scores
---   small_score, best_small      which are small
 --   map_same                     functions that agree
 --   alike_best, alike_scores     which depend on the rows' members alone
 --   hits_fit                     they are in range
 --   written_back                 a table that was lent
 --   own_chosen                   where all words are of some, the rows in listed documents are those that are chosen
-use Rattle.std.proofs.Common.{◌≡◌, ℕ, zero, suc, ◌+◌, ◌-◌, ◌≤◌, ◌<◌, ◌==◌, ◌&&◌, ◌||◌, Bool, true, false, List, [], ◌∷◌, ◌++◌, map, take, drop, length, get_or, cond, refl, sym, ◌∙◌, ap, subst, arith, append-nil, length-set}
+use Rattle.std.proofs.Common.{◌≡◌, ℕ, zero, suc, ◌+◌, ◌-◌, ◌≤◌, ◌<◌, ◌==◌, ◌&&◌, ◌||◌, Bool, true, false, List, [], ◌∷◌, ◌++◌, map, take, drop, length}
+use Rattle.std.proofs.Common.{get_or, cond, refl, sym, ◌∙◌, ap, subst, arith, append-nil, length-set}
 use Rattle.std.specs.Prelude.{max, nat_lt, nat_le, All, filter, slice_index, slice_set}
 use Rattle.std.specs.List.{list_any, range_with_len, AllByRecursion}
 use Rattle.std.specs.List.Sorted.{IsStrictlySortedBy}
@@ -20,8 +20,9 @@ use Rattle.std.specs.Cmp.{nat_cmp_total}
 use Rattle.std.specs.FinMap.{nat_cmp-IsAntisymmetric}
 use Rattle.std.proofs.lemmas.Bool.{and_from, le-leb, lt-ltb}
 use Rattle.std.proofs.lemmas.Bool.Decides.{nat_tests}
-use Rattle.std.proofs.lemmas.List.{get_or-set_same, get_or-map, get_or-set_other, get_or_default, length-map, take_all, take_more, append_assoc, drop_all, map-append}
-use Rattle.std.proofs.lemmas.List.Elements.{All-filter, All-from_recursion, All-map, filter-append, recursion_from_All}
+use Rattle.std.proofs.lemmas.List.{get_or-set_same, get_or-map, get_or-set_other, get_or_default, length-map, take_all, take_more, append_assoc, drop_all}
+use Rattle.std.proofs.lemmas.List.{map-append}
+use Rattle.std.proofs.lemmas.List.Elements.{All-from_recursion, filter-append, recursion_from_All}
 use Rattle.std.proofs.lemmas.List.Kept.{IsStrictlySortedBy-filter}
 use Rattle.cs_base.specs.content.Orders.{AreByDoc, docs_of}
 use Rattle.cs_base.specs.declared.content.doc.Base.TheVariants as base
@@ -30,7 +31,6 @@ use Rattle.cs_base.specs.declared.content.doc.Post.{Post}
 use Rattle.cs_base.specs.declared.content.doc.Scored.{Scored}
 use Rattle.cs_base.proofs.MembersLemmas.{members_are, members-alike}
 use Rattle.cs_base.proofs.OrdersLemmas.{Less-from_lt}
-use Rattle.cs_base.specs.declared.content.scores.TheConstants.{MAX_ROW_SCORE}
 use Rattle.cs_file.specs.CallAnswers.{AreScoredOf}
 use Rattle.cs_rank.specs.DocScores.{greatest, of_doc, best_row, scores, with_base}
 use Rattle.cs_meet.proofs.Passes.{next_is}
@@ -39,7 +39,6 @@ use Rattle.cs_engine.specs.Loose.{best_of, HasBestScores, hits_in}
 use Rattle.cs_engine.specs.Packing.{post_of_key}
 use Rattle.cs_engine.specs.Steps.{IsBaseOf, IsHitOf}
 use Rattle.cs_engine.proofs.AlikeLemmas.{any_filter}
-use Rattle.cs_engine.proofs.FoundLemmas.{greatest_small}
 use Rattle.cs_engine.proofs.KeysLemmas.{one_more}
 
 any_map : {X Y : Type 0} (t : Y → Bool) (f : X → Y) (xs : List X) → list_any t (map f xs) ≡ list_any (λ x. t (f x)) xs
@@ -60,8 +59,10 @@ given d p = cond (p.doc == d) (p.score + 1) 0
 best_push : (seen : List Post) (p : Post) (d : ℕ) → best_of (seen ++ p ∷ []) d ≡ max (best_of seen d) (given d p)
 best_push seen p d =
     ap (λ l. greatest (map (λ (p : Post). p.score + 1) l)) (filter-append (λ (p : Post). p.doc == d) seen (p ∷ []))
-    ∙ elim (p.doc == d) as (λ b. greatest (map (λ (p : Post). p.score + 1) (of_doc d seen ++ cond b (p ∷ []) [])) ≡ max (best_of seen d) (cond b (p.score + 1) 0)) [
-      | true ↦ ap greatest (map-append (λ (p : Post). p.score + 1) (of_doc d seen) (p ∷ [])) ∙ greatest_push (map (λ (p : Post). p.score + 1) (of_doc d seen)) (p.score + 1)
+    ∙ elim (p.doc == d) as (λ b. greatest (map (λ (p : Post). p.score + 1) (of_doc d seen ++ cond b (p ∷ []) [])) ≡ max (best_of seen d)
+    (cond b (p.score + 1) 0)) [
+      | true ↦ ap greatest (map-append (λ (p : Post). p.score + 1) (of_doc d seen) (p ∷ []))
+          ∙ greatest_push (map (λ (p : Post). p.score + 1) (of_doc d seen)) (p.score + 1)
       | false ↦ ap (λ l. greatest (map (λ (p : Post). p.score + 1) l)) (append-nil (of_doc d seen)) ∙ omega arith
     ]
 
@@ -72,13 +73,15 @@ other_number : (x y : ℕ) → (x == y) ≡ false → x ≡ y → ⊥
 other_number x y h e = grind (arith, nat_tests)
 
 -- one post is noted
-pub raised : (seen : List Post) (best : List ℕ) (p : Post) (v : ℕ) → p.doc < length best → v ≡ max (slice_index best p.doc) (p.score + 1) → HasBestScores seen best → HasBestScores (seen ++ p ∷ []) (slice_set best p.doc v)
+pub raised : (seen : List Post) (best : List ℕ) (p : Post) (v : ℕ) → p.doc < length best → v ≡ max (slice_index best p.doc) (p.score + 1)
+    → HasBestScores seen best → HasBestScores (seen ++ p ∷ []) (slice_set best p.doc v)
 raised seen best p v l is has d m =
     let long = length-set best p.doc v in
     elim (p.doc == d) as (λ b. (p.doc == d) ≡ b → slice_index (slice_set best p.doc v) d ≡ best_of (seen ++ p ∷ []) d) [
       | true ↦ λ e.
           let same : p.doc ≡ d = same_number p.doc d e in
-          ap (slice_index (slice_set best p.doc v)) (sym same) ∙ get_or-set_same best p.doc v 0 l ∙ is ∙ ap (λ x. max x (p.score + 1)) (has p.doc l ∙ ap (best_of seen) same)
+          ap (slice_index (slice_set best p.doc v)) (sym same) ∙ get_or-set_same best p.doc v 0 l ∙ is
+          ∙ ap (λ x. max x (p.score + 1)) (has p.doc l ∙ ap (best_of seen) same)
           ∙ sym (best_push seen p d ∙ ap (λ b. max (best_of seen d) (cond b (p.score + 1) 0)) e)
       | false ↦ λ e.
           let zero_max : max (best_of seen d) 0 ≡ best_of seen d = omega arith in
@@ -87,30 +90,38 @@ raised seen best p v l is has d m =
     ] refl
 
 -- the step of the loop
-pub raised_more : (seen : List Post) (keys best : List ℕ) (i : ℕ) (row : Post) (v : ℕ) → i < length keys → row ≡ post_of_key (get_or keys i 0) → row.doc < length best → v ≡ max (slice_index best row.doc) (row.score + 1)
+pub raised_more : (seen : List Post) (keys best : List ℕ) (i : ℕ) (row : Post) (v : ℕ) → i < length keys → row ≡ post_of_key (get_or keys i 0)
+    → row.doc < length best → v ≡ max (slice_index best row.doc) (row.score + 1)
     → HasBestScores (seen ++ map post_of_key (take i keys)) best → HasBestScores (seen ++ map post_of_key (take (i + 1) keys)) (slice_set best row.doc v)
 raised_more seen keys best i row v l at in_best is has =
-    let longer : (seen ++ map post_of_key (take i keys)) ++ row ∷ [] ≡ seen ++ map post_of_key (take (i + 1) keys) = append_assoc seen (map post_of_key (take i keys)) (row ∷ []) ∙ ap (λ r. seen ++ r) (sym (one_more keys i row l at)) in
+    let longer : (seen ++ map post_of_key (take i keys)) ++ row ∷ [] ≡ seen ++ map post_of_key (take (i + 1) keys) = append_assoc seen
+    (map post_of_key (take i keys)) (row ∷ []) ∙ ap (λ r. seen ++ r) (sym (one_more keys i row l at)) in
     subst (λ s. HasBestScores s (slice_set best row.doc v)) longer (raised (seen ++ map post_of_key (take i keys)) best row v in_best is has)
 
-pub raised_all : (seen : List Post) (keys best : List ℕ) (i : ℕ) → length keys ≤ i → HasBestScores (seen ++ map post_of_key (take i keys)) best → HasBestScores (seen ++ map post_of_key keys) best
+pub raised_all : (seen : List Post) (keys best : List ℕ) (i : ℕ) → length keys ≤ i → HasBestScores (seen ++ map post_of_key (take i keys)) best
+    → HasBestScores (seen ++ map post_of_key keys) best
 raised_all seen keys best i l has = subst (λ ks. HasBestScores (seen ++ map post_of_key ks) best) (take_all i keys l) has
 
 -- a row is noted where it passes a test
-pub raised_where : (t : Post → Bool) (seen rows : List Post) (best : List ℕ) (i : ℕ) (p : Post) (v : ℕ) → i < length rows → p ≡ get_or rows i p → p.doc < length best → v ≡ max (slice_index best p.doc) (cond (t p) (p.score + 1) 0)
+pub raised_where : (t : Post → Bool) (seen rows : List Post) (best : List ℕ) (i : ℕ) (p : Post) (v : ℕ) → i < length rows → p ≡ get_or rows i p
+    → p.doc < length best → v ≡ max (slice_index best p.doc) (cond (t p) (p.score + 1) 0)
     → HasBestScores (seen ++ filter t (take i rows)) best → HasBestScores (seen ++ filter t (take (i + 1) rows)) (slice_set best p.doc v)
 raised_where t seen rows best i p v lt at in_best is has =
     let longer : filter t (take (i + 1) rows) ≡ filter t (take i rows) ++ cond (t p) (p ∷ []) [] =
     ap (filter t) (take_more rows i p lt ∙ ap (λ x. take i rows ++ x ∷ []) (sym at)) ∙ filter-append t (take i rows) (p ∷ []) in
-    elim (t p) as (λ b. v ≡ max (slice_index best p.doc) (cond b (p.score + 1) 0) → filter t (take (i + 1) rows) ≡ filter t (take i rows) ++ cond b (p ∷ []) [] → HasBestScores (seen ++ filter t (take (i + 1) rows)) (slice_set best p.doc v)) [
+    elim (t p) as (λ b. v ≡ max (slice_index best p.doc) (cond b (p.score + 1) 0) → filter t (take (i + 1) rows) ≡ filter t (take i rows) ++ cond b (p ∷ []) []
+    → HasBestScores (seen ++ filter t (take (i + 1) rows)) (slice_set best p.doc v)) [
       | true ↦ λ e more.
-          subst (λ xs. HasBestScores xs (slice_set best p.doc v)) (append_assoc seen (filter t (take i rows)) (p ∷ []) ∙ ap (λ xs. seen ++ xs) (sym more)) (raised (seen ++ filter t (take i rows)) best p v in_best e has)
+          subst (λ xs. HasBestScores xs (slice_set best p.doc v)) (append_assoc seen (filter t (take i rows)) (p ∷ []) ∙ ap (λ xs. seen ++ xs) (sym more))
+          (raised (seen ++ filter t (take i rows)) best p v in_best e has)
       | false ↦ λ e more.
           let stays : v ≡ slice_index best p.doc = omega (arith, e) in
-          subst (λ xs. HasBestScores (seen ++ xs) (slice_set best p.doc v)) (sym (more ∙ append-nil (filter t (take i rows)))) (set_again (seen ++ filter t (take i rows)) best p.doc v in_best stays has)
+          subst (λ xs. HasBestScores (seen ++ xs) (slice_set best p.doc v)) (sym (more ∙ append-nil (filter t (take i rows))))
+          (set_again (seen ++ filter t (take i rows)) best p.doc v in_best stays has)
     ] is longer
   where
-    set_again : (seen : List Post) (best : List ℕ) (d v : ℕ) → d < length best → v ≡ slice_index best d → HasBestScores seen best → HasBestScores seen (slice_set best d v)
+    set_again : (seen : List Post) (best : List ℕ) (d v : ℕ) → d < length best → v ≡ slice_index best d → HasBestScores seen best
+        → HasBestScores seen (slice_set best d v)
     set_again seen best d v l same has e m =
         let long = length-set best d v in
         elim (d == e) as (λ b. (d == e) ≡ b → slice_index (slice_set best d v) e ≡ best_of seen e) [
@@ -121,9 +132,11 @@ raised_where t seen rows best i p v lt at in_best is has =
         ] refl
 
 -- the step of the loop over columns, where a test looks at document and word
-pub raised_row : (t : ℕ → ℕ → Bool) (seen rows : List Post) (docs words scores best : List ℕ) (i v : ℕ) → AreScoredOf rows docs words scores → i < length docs → slice_index docs i < length best
+pub raised_row : (t : ℕ → ℕ → Bool) (seen rows : List Post) (docs words scores best : List ℕ) (i v : ℕ) → AreScoredOf rows docs words scores → i < length docs
+    → slice_index docs i < length best
     → v ≡ max (slice_index best (slice_index docs i)) (cond (t (slice_index docs i) (slice_index words i)) (slice_index scores i + 1) 0)
-    → HasBestScores (seen ++ filter (λ p. t p.doc p.word) (take i rows)) best → HasBestScores (seen ++ filter (λ p. t p.doc p.word) (take (i + 1) rows)) (slice_set best (slice_index docs i) v)
+    → HasBestScores (seen ++ filter (λ p. t p.doc p.word) (take i rows)) best
+    → HasBestScores (seen ++ filter (λ p. t p.doc p.word) (take (i + 1) rows)) (slice_set best (slice_index docs i) v)
 raised_row t seen rows docs words scores best i v are lt below is has =
     let none : Post = record { doc = 0; word = 0; pos = 0; score = 0 } in
     let p = get_or rows i none in
@@ -134,18 +147,16 @@ raised_row t seen rows docs words scores best i v are lt below is has =
     let s : slice_index scores i ≡ p.score = ap (λ l. get_or l i 0) are.1 ∙ get_or-map (λ (p : Post). p.score) rows i none 0 inside in
     let value : v ≡ max (slice_index best p.doc) (cond (t p.doc p.word) (p.score + 1) 0) =
     is ∙ ap (λ n. max (slice_index best n) (cond (t n (slice_index words i)) (slice_index scores i + 1) 0)) d
-    ∙ ap (λ n. max (slice_index best p.doc) (cond (t p.doc n) (slice_index scores i + 1) 0)) w ∙ ap (λ n. max (slice_index best p.doc) (cond (t p.doc p.word) (n + 1) 0)) s in
+    ∙ ap (λ n. max (slice_index best p.doc) (cond (t p.doc n) (slice_index scores i + 1) 0)) w
+    ∙ ap (λ n. max (slice_index best p.doc) (cond (t p.doc p.word) (n + 1) 0)) s in
     subst (λ n. HasBestScores (seen ++ filter (λ p. t p.doc p.word) (take (i + 1) rows)) (slice_set best n v)) (sym d)
     (raised_where (λ p. t p.doc p.word) seen rows best i p v inside (get_or_default rows i none p inside) (subst (λ n. n < length best) d below) value has)
 
-pub raised_rows : (t : Post → Bool) (seen rows : List Post) (docs words scores best : List ℕ) (i : ℕ) → AreScoredOf rows docs words scores → length docs ≤ i → HasBestScores (seen ++ filter t (take i rows)) best → HasBestScores (seen ++ filter t rows) best
+pub raised_rows : (t : Post → Bool) (seen rows : List Post) (docs words scores best : List ℕ) (i : ℕ) → AreScoredOf rows docs words scores → length docs ≤ i
+    → HasBestScores (seen ++ filter t (take i rows)) best → HasBestScores (seen ++ filter t rows) best
 raised_rows t seen rows docs words scores best i are le has =
     let long : length docs ≡ length rows = ap length are.0.0 ∙ length-map rows (λ (p : Post). p.doc) in
     subst (λ rs. HasBestScores (seen ++ filter t rs) best) (take_all i rows (omega (arith, le, long))) has
-
--- a number has little room for a score
-pub small_score : (k : ℕ) → (post_of_key k).score < 8
-small_score k = omega arith
 
 -- ---- the hits of the table
 
@@ -153,11 +164,13 @@ settle : (t : Bool) (done rest : List Scored) (x : Scored) → done ++ cond t (x
 settle true done rest x = sym (append_assoc done (x ∷ []) rest)
 settle false done rest x = ap (λ l. l ++ rest) (sym (append-nil done))
 
-pub hits_more : (whole done now : List Scored) (best : List ℕ) (d b : ℕ) → d < length best → b ≡ get_or best d b → now ≡ done ++ cond (nat_lt 0 b) (record { doc = d; score = b - 1 } ∷ []) []
+pub hits_more : (whole done now : List Scored) (best : List ℕ) (d b : ℕ) → d < length best → b ≡ get_or best d b
+    → now ≡ done ++ cond (nat_lt 0 b) (record { doc = d; score = b - 1 } ∷ []) []
     → whole ≡ done ++ hits_in d (drop d best) → whole ≡ now ++ hits_in (d + 1) (drop (d + 1) best)
 unfolding hits_in
 hits_more whole done now best d b l is told left =
-    left ∙ ap (λ r. done ++ hits_in d r) (next_is best d b l is) ∙ settle (nat_lt 0 b) done (hits_in (d + 1) (drop (d + 1) best)) (record { doc = d; score = b - 1 })
+    left ∙ ap (λ r. done ++ hits_in d r) (next_is best d b l is)
+    ∙ settle (nat_lt 0 b) done (hits_in (d + 1) (drop (d + 1) best)) (record { doc = d; score = b - 1 })
     ∙ ap (λ l. l ++ hits_in (d + 1) (drop (d + 1) best)) (sym told)
 
 pub hits_all : (whole done : List Scored) (best : List ℕ) (d : ℕ) → length best ≤ d → whole ≡ done ++ hits_in d (drop d best) → done ≡ whole
@@ -296,7 +309,8 @@ docs_are seen n inside =
     (IsStrictlySortedBy-filter nat_cmp _ (range_with_len 0 n) (range_rises 0 n))
     (λ q. any_filter (eq_by_cmp nat_cmp q) (λ d. nat_lt 0 (best_of seen d)) (range_with_len 0 n) ∙ any_range q (λ d. nat_lt 0 (best_of seen d)) 0 n
     ∙ ap (λ b. (nat_le 0 q && nat_lt q (0 + n)) && b) (has_entry seen q)
-    ∙ elim (nat_lt q n) as (λ b. nat_lt q n ≡ b → ((nat_le 0 q && nat_lt q (0 + n)) && list_any (λ (p : Post). eq_by_cmp nat_cmp q p.doc) seen) ≡ list_any (λ (p : Post). eq_by_cmp nat_cmp q p.doc) seen) [
+    ∙ elim (nat_lt q n) as (λ b. nat_lt q n ≡ b
+    → ((nat_le 0 q && nat_lt q (0 + n)) && list_any (λ (p : Post). eq_by_cmp nat_cmp q p.doc) seen) ≡ list_any (λ (p : Post). eq_by_cmp nat_cmp q p.doc) seen) [
       | true ↦ λ e. ap (λ b. b && list_any (λ (p : Post). eq_by_cmp nat_cmp q p.doc) seen) (inside_test q n e)
       | false ↦ λ e. let none = absent seen n q (recursion_from_All (λ (p : Post). p.doc < n) seen inside) (not_less q n e) in
           ap (λ b. b && list_any (λ (p : Post). eq_by_cmp nat_cmp q p.doc) seen) (outside_test q n e) ∙ sym none
@@ -304,19 +318,15 @@ docs_are seen n inside =
     ∙ sym (any_map (eq_by_cmp nat_cmp q) (λ (p : Post). p.doc) seen))
 
 -- the hits that are read off the table are the documents of the posts with their scores
-pub hits_are : (seen : List Post) (best : List ℕ) → HasBestScores seen best → All (λ p. p.doc < length best) seen → hits_in 0 best ≡ map (best_row seen) (docs_of seen)
+pub hits_are : (seen : List Post) (best : List ℕ) → HasBestScores seen best → All (λ p. p.doc < length best) seen
+    → hits_in 0 best ≡ map (best_row seen) (docs_of seen)
 hits_are seen best has inside =
-    read_off seen 0 best (λ i l. let e : i ≡ 0 + i = omega arith in has i l ∙ ap (best_of seen) e) ∙ ap (map (best_row seen)) (docs_are seen (length best) inside)
+    read_off seen 0 best (λ i l. let e : i ≡ 0 + i = omega arith in has i l ∙ ap (best_of seen) e)
+    ∙ ap (map (best_row seen)) (docs_are seen (length best) inside)
 
 pub map_same : {X : Type 0} (f g : ℕ → X) → ((w : ℕ) → f w ≡ g w) → (ws : List ℕ) → map f ws ≡ map g ws
 map_same f g h [] = refl
 map_same f g h (w ∷ ws) = ap (λ x. x ∷ map f ws) (h w) ∙ ap (λ l. g w ∷ l) (map_same f g h ws)
-
--- each is small
-pub best_small : (keys : List ℕ) → All (λ h. h.score ≤ MAX_ROW_SCORE) (map (best_row (map post_of_key keys)) (docs_of (map post_of_key keys)))
-best_small keys =
-    let rows = map post_of_key keys in
-    All-map (λ h. h.score ≤ MAX_ROW_SCORE) (best_row rows) (docs_of rows) (λ k d l. greatest_small (of_doc (get_or (docs_of rows) k d) rows) (recursion_from_All (λ p. p.score ≤ MAX_ROW_SCORE) (of_doc (get_or (docs_of rows) k d) rows) (All-filter (λ p. p.doc == get_or (docs_of rows) k d) (λ p. p.score ≤ MAX_ROW_SCORE) rows (All-map (λ p. p.score ≤ MAX_ROW_SCORE) post_of_key keys (λ j e m. let s = small_score (get_or keys j e) in omega (arith, s))))))
 
 -- ---- rows with the same members
 score_over : (rows : List Post) (d k : ℕ) → nat_lt k (greatest (map (λ p. p.score) (of_doc d rows))) ≡ list_any (λ p. (p.doc == d) && nat_lt k p.score) rows
@@ -333,7 +343,8 @@ alike_scores b xs ys a =
     map_same (λ d. with_base b (best_row xs d)) (λ d. with_base b (best_row ys d))
     (λ d. ap (λ n. with_base b (record { doc = d; score = n })) (same_tests _ _ (λ k. score_over xs d k ∙ a _ ∙ sym (score_over ys d k)))) (docs_of xs)
     ∙ ap (map (λ d. with_base b (best_row ys d)))
-    (members-alike nat_cmp nat_cmp_total nat_cmp-IsAntisymmetric (map (λ p. p.doc) xs) (map (λ p. p.doc) ys) (λ q. any_map (eq_by_cmp nat_cmp q) (λ p. p.doc) xs ∙ a _ ∙ sym (any_map (eq_by_cmp nat_cmp q) (λ p. p.doc) ys)))
+    (members-alike nat_cmp nat_cmp_total nat_cmp-IsAntisymmetric (map (λ p. p.doc) xs) (map (λ p. p.doc) ys)
+    (λ q. any_map (eq_by_cmp nat_cmp q) (λ p. p.doc) xs ∙ a _ ∙ sym (any_map (eq_by_cmp nat_cmp q) (λ p. p.doc) ys)))
 
 -- ---- the hits of a table are in range
 later_hits : (x a : ℕ) (bs : List ℕ) → x < a → AllByRecursion (λ h. nat_cmp x h.doc ≡ Less) (hits_in a bs)
@@ -341,7 +352,8 @@ unfolding hits_in
 later_hits x a [] l = tt
 later_hits x a (v ∷ bs) l =
     let rest = later_hits x (a + 1) bs (omega (arith, l)) in
-    elim (nat_lt 0 v) as (λ t. AllByRecursion (λ (h : Scored). nat_cmp x h.doc ≡ Less) (cond t (record { doc = a; score = v - 1 } ∷ hits_in (a + 1) bs) (hits_in (a + 1) bs))) [
+    elim (nat_lt 0 v) as (λ t. AllByRecursion (λ (h : Scored). nat_cmp x h.doc ≡ Less)
+    (cond t (record { doc = a; score = v - 1 } ∷ hits_in (a + 1) bs) (hits_in (a + 1) bs))) [
       | true ↦ (Less-from_lt x a l, rest)
       | false ↦ rest
     ]
@@ -367,23 +379,31 @@ hits_small docs bound a (v ∷ bs) le h =
       | false ↦ rest
     ]
 
-pub hits_fit : (docs bound : ℕ) (best : List ℕ) (hits : List Scored) → length best ≡ docs → All (λ v. v ≤ bound) best → hits ≡ hits_in 0 best → IsBaseOf docs bound (base.Listed hits)
+pub hits_fit : (docs bound : ℕ) (best : List ℕ) (hits : List Scored) → length best ≡ docs → All (λ v. v ≤ bound) best → hits ≡ hits_in 0 best
+    → IsBaseOf docs bound (base.Listed hits)
 hits_fit docs bound best hits long small are =
-    subst (λ hs. IsBaseOf docs bound (base.Listed hs)) (sym are)
-    (hits_rise 0 best, All-from_recursion (IsHitOf docs bound) (hits_in 0 best) (hits_small docs bound 0 best (omega (arith, long)) (recursion_from_All (λ v. v ≤ bound) best small)))
+    subst (λ hs. IsBaseOf docs bound (base.Listed hs)) (sym are) (
+      hits_rise 0 best,
+      All-from_recursion (IsHitOf docs bound) (hits_in 0 best)
+          (hits_small docs bound 0 best (omega (arith, long)) (recursion_from_All (λ v. v ≤ bound) best small)),
+    )
 
 -- a vector that a slice was lent of
 pub written_back : (n : ℕ) (a b : List ℕ) → length a ≡ length b → n ≡ length b → take n (a ++ drop (length a) b) ≡ a
 written_back n a b l m =
     ap (λ r. take n (a ++ r)) (drop_all (length a) b (omega (arith, l))) ∙ ap (take n) (append-nil a) ∙ take_all n a (omega (arith, l, m))
 
-own_rows : (lo hi : ℕ) (listed : List Bool) (rows : List Post) → AllByRecursion (λ w. (lo ≤ w) × (w < hi)) (map (λ p. p.word) rows) → filter (is_of_listed listed) rows ≡ filter (is_chosen lo hi listed) rows
+own_rows : (lo hi : ℕ) (listed : List Bool) (rows : List Post) → AllByRecursion (λ w. (lo ≤ w) × (w < hi)) (map (λ p. p.word) rows)
+    → filter (is_of_listed listed) rows ≡ filter (is_chosen lo hi listed) rows
 own_rows lo hi listed [] own = refl
 own_rows lo hi listed (p ∷ rows) own =
     let rest = filter (is_chosen lo hi listed) rows in
     let range : (nat_le lo p.word && nat_lt p.word hi) ≡ true = and_from _ _ (le-leb lo p.word own.0.0) (lt-ltb p.word hi own.0.1) in
-    ap (λ xs. cond (is_of_listed listed p) (p ∷ xs) xs) (own_rows lo hi listed rows own.1) ∙ ap (λ b. cond (b && is_of_listed listed p) (p ∷ rest) rest) (sym range)
+    ap (λ xs. cond (is_of_listed listed p) (p ∷ xs) xs) (own_rows lo hi listed rows own.1)
+    ∙ ap (λ b. cond (b && is_of_listed listed p) (p ∷ rest) rest) (sym range)
 
-pub own_chosen : (lo hi : ℕ) (listed : List Bool) (rows : List Post) (docs words scores : List ℕ) → AreScoredOf rows docs words scores → All (λ w. (lo ≤ w) × (w < hi)) words → filter (is_of_listed listed) rows ≡ filter (is_chosen lo hi listed) rows
+pub own_chosen : (lo hi : ℕ) (listed : List Bool) (rows : List Post) (docs words scores : List ℕ) → AreScoredOf rows docs words scores → All (λ w. (lo ≤ w) × (w < hi)) words
+    → filter (is_of_listed listed) rows ≡ filter (is_chosen lo hi listed) rows
 own_chosen lo hi listed rows docs words scores are own =
-    own_rows lo hi listed rows (recursion_from_All (λ w. (lo ≤ w) × (w < hi)) (map (λ p. p.word) rows) (subst (All (λ w. (lo ≤ w) × (w < hi))) are.0.1 own))
+    own_rows lo hi listed rows
+    (recursion_from_All (λ w. (lo ≤ w) × (w < hi)) (map (λ p. p.word) rows) (subst (All (λ w. (lo ≤ w) × (w < hi))) are.0.1 own))

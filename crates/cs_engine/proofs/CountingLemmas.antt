@@ -9,7 +9,9 @@
 --   listed_kept, all_listed     the rows in listed documents
 --   facet_counted        the table of a facet
 --   facet_met            the blocks that hold a facet's words
-use Rattle.std.proofs.Common.{◌≡◌, ◌≢◌, ℕ, zero, suc, ◌+◌, ◌-◌, ◌<◌, ◌≤◌, ◌==◌, ◌&&◌, ◌||◌, Bool, true, false, cond, List, [], ◌∷◌, ◌++◌, length, get_or, take, drop, map, replicate, refl, sym, ap, ap₂, subst, ◌∙◌, arith, append-nil, length-take, length-drop, get_or-drop, get_or-take}
+use Rattle.std.proofs.Common.{◌≡◌, ◌≢◌, ℕ, zero, suc, ◌+◌, ◌-◌, ◌<◌, ◌≤◌, ◌==◌, ◌&&◌, ◌||◌, Bool, true, false, cond, List, [], ◌∷◌, ◌++◌, length, get_or}
+use Rattle.std.proofs.Common.{take, drop, map, replicate, refl, sym, ap, ap₂, subst, ◌∙◌, arith, append-nil, length-take, length-drop, get_or-drop}
+use Rattle.std.proofs.Common.{get_or-take}
 use Rattle.std.specs.Prelude.{All, filter, flat_map, nat_lt}
 use Rattle.std.specs.List.{list_any}
 use Rattle.std.specs.List.Sorted.{IsStrictlySortedBy}
@@ -27,7 +29,7 @@ use Rattle.cs_base.specs.declared.content.doc.Post.{Post}
 use Rattle.cs_base.specs.declared.content.doc.Scored.{Scored}
 use Rattle.cs_base.specs.declared.content.limits.TheConstants.{MAX_DOCS}
 use Rattle.cs_base.specs.declared.index.block.BlockHead.{BlockHead}
-use Rattle.cs_base.proofs.MembersLemmas.{all_then}
+use Rattle.cs_base.proofs.MembersLemmas.{any_listed, all_then}
 use Rattle.cs_base.proofs.ListsLemmas.{filter_twice, filter_alike}
 use Rattle.cs_file.specs.Indexes.{IndexView, IsIndex, StandsFor, AreMet, block_posts, is_met}
 use Rattle.cs_file.proofs.HeadsLemmas.{heads_rise}
@@ -53,7 +55,6 @@ use Rattle.cs_engine.proofs.DistinctLemmas.{Apart, apart_append, apart_none, apa
 use Rattle.cs_engine.proofs.FoundLemmas.{all_kept, every_more}
 use Rattle.cs_engine.proofs.RowsInRange.{kept_within}
 use Rattle.cs_engine.proofs.StockLemmas.{by_post_total, by_post_exact, docs_are, stocked, within_block, words_are}
-use Rattle.cs_engine.proofs.TableLemmas.{any_listed}
 use Rattle.cs_engine.proofs.AskedWords.{prefix_met, span_found}
 use Rattle.cs_vocab.specs.Ranges.{IsRange}
 
@@ -94,14 +95,16 @@ everywhere docs all are = record {
 
 -- ---- one block
 -- what is made of the blocks from number first up to k, and of one block more
-pub flat_more : (f : List Post → List Post) (bs : List (List Post)) (first k : ℕ) → first ≤ k → k < length bs → flat_map f (take (k + 1 - first) (drop first bs)) ≡ flat_map f (take (k - first) (drop first bs)) ++ f (get_or bs k [])
+pub flat_more : (f : List Post → List Post) (bs : List (List Post)) (first k : ℕ) → first ≤ k → k < length bs
+    → flat_map f (take (k + 1 - first) (drop first bs)) ≡ flat_map f (take (k - first) (drop first bs)) ++ f (get_or bs k [])
 flat_more f bs first k le lt =
     let rest = drop first bs in
     let e : k + 1 - first ≡ (k - first) + 1 = omega (arith, le) in
     let inside : k - first < length rest = omega (arith, lt, le, length-drop first bs) in
     let at : first + (k - first) ≡ k = omega (arith, le) in
     let there : get_or rest (k - first) [] ≡ get_or bs k [] = get_or-drop first bs (k - first) [] ∙ ap (λ n. get_or bs n []) at in
-    ap (λ n. flat_map f (take n rest)) e ∙ ap (flat_map f) (take_more rest (k - first) [] inside) ∙ flat_map-append f (take (k - first) rest) (get_or rest (k - first) [] ∷ [])
+    ap (λ n. flat_map f (take n rest)) e ∙ ap (flat_map f) (take_more rest (k - first) [] inside)
+    ∙ flat_map-append f (take (k - first) rest) (get_or rest (k - first) [] ∷ [])
     ∙ ap (λ x. flat_map f (take (k - first) rest) ++ x) (append-nil (f (get_or rest (k - first) [])) ∙ ap f there)
 
 -- ---- rows of many blocks
@@ -112,11 +115,13 @@ sorted_nil = tt
 no_word : (w : ℕ) (xs : List Post) → All (λ p. p.word == w ≡ false) xs → with_word w xs ≡ []
 no_word w [] h = refl
 no_word w (x ∷ xs) h =
-    ap (λ b. cond b (x ∷ with_word w xs) (with_word w xs)) (All-head (λ p. p.word == w ≡ false) x xs h) ∙ no_word w xs (All-tail (λ p. p.word == w ≡ false) x xs h)
+    ap (λ b. cond b (x ∷ with_word w xs) (with_word w xs)) (All-head (λ p. p.word == w ≡ false) x xs h)
+    ∙ no_word w xs (All-tail (λ p. p.word == w ≡ false) x xs h)
 
 flat_all : (P : Post → Type 0) (t : Post → Bool) (bs : List (List Post)) → ((k : ℕ) → k < length bs → All P (get_or bs k [])) → All P (flat_map (filter t) bs)
 flat_all P t [] h = All-nil P
-flat_all P t (b ∷ bs) h = All-append P (filter t b) (flat_map (filter t) bs) (All-filter t P b (h 0 (omega arith))) (flat_all P t bs (λ k lt. h (suc k) (omega (arith, lt))))
+flat_all P t (b ∷ bs) h = All-append P (filter t b) (flat_map (filter t) bs) (All-filter t P b (h 0 (omega arith)))
+    (flat_all P t bs (λ k lt. h (suc k) (omega (arith, lt))))
 
 -- each block is in order, with words from one number up to another, and a later block has later words
 record AreParted (bs : List (List Post)) (from to : ℕ → ℕ) : Type 0 where
@@ -148,15 +153,20 @@ words_in_order t (b ∷ bs) from to p w =
           let lt = ltb-true w (to 0) e in
           let high : All (λ p. to 0 ≤ p.word) rest = flat_all (λ p. to 0 ≤ p.word) t bs (λ k l.
           let up = p.later 0 (suc k) (omega arith) (omega (arith, l)) in
-          All-weaker (λ p. (from (suc k) ≤ p.word) × (p.word < to (suc k))) (λ p. to 0 ≤ p.word) (λ x h. omega (arith, h.0, up)) (get_or bs k []) (p.words (suc k) (omega (arith, l)))) in
-          let none : with_word w rest ≡ [] = no_word w rest (All-weaker (λ p. to 0 ≤ p.word) (λ p. p.word == w ≡ false) (λ x h. apart_from w (to 0) lt x h) rest high) in
+          All-weaker (λ p. (from (suc k) ≤ p.word) × (p.word < to (suc k))) (λ p. to 0 ≤ p.word) (λ x h. omega (arith, h.0, up)) (get_or bs k [])
+          (p.words (suc k) (omega (arith, l)))) in
+          let none : with_word w rest ≡ [] = no_word w rest
+          (All-weaker (λ p. to 0 ≤ p.word) (λ p. p.word == w ≡ false) (λ x h. apart_from w (to 0) lt x h) rest high) in
           subst AreSorted (sym (both ∙ ap (λ l. with_word w here ++ l) none ∙ append-nil (with_word w here)))
           (IsStrictlySortedBy-filter by_place (λ p. p.word == w) here (IsStrictlySortedBy-filter by_place t b (p.sorted 0 (omega arith))))
       | false ↦ λ e.
           let le = ltb-false w (to 0) e in
-          let low : All (λ p. p.word < to 0) here = All-filter t (λ p. p.word < to 0) b (All-weaker (λ p. (from 0 ≤ p.word) × (p.word < to 0)) (λ p. p.word < to 0) (λ x h. h.1) b (p.words 0 (omega arith))) in
-          let none : with_word w here ≡ [] = no_word w here (All-weaker (λ p. p.word < to 0) (λ p. p.word == w ≡ false) (λ x h. apart_to w (to 0) le x h) here low) in
-          subst AreSorted (sym (both ∙ ap (λ l. l ++ with_word w rest) none)) (words_in_order t bs (λ k. from (suc k)) (λ k. to (suc k)) (parted_rest b bs from to p) w)
+          let low : All (λ p. p.word < to 0) here = All-filter t (λ p. p.word < to 0) b
+          (All-weaker (λ p. (from 0 ≤ p.word) × (p.word < to 0)) (λ p. p.word < to 0) (λ x h. h.1) b (p.words 0 (omega arith))) in
+          let none : with_word w here ≡ [] = no_word w here
+          (All-weaker (λ p. p.word < to 0) (λ p. p.word == w ≡ false) (λ x h. apart_to w (to 0) le x h) here low) in
+          subst AreSorted (sym (both ∙ ap (λ l. l ++ with_word w rest) none))
+          (words_in_order t bs (λ k. from (suc k)) (λ k. to (suc k)) (parted_rest b bs from to p) w)
     ] refl
 
 blocks_apart : (t : Post → Bool) (bs : List (List Post)) (from to : ℕ → ℕ) → AreParted bs from to → Apart (flat_map (filter t) bs)
@@ -164,11 +174,14 @@ blocks_apart t [] from to p = apart_none
 blocks_apart t (b ∷ bs) from to p =
     let here = filter t b in
     let rest = flat_map (filter t) bs in
-    let low : All (λ p. p.word < to 0) here = All-filter t (λ p. p.word < to 0) b (All-weaker (λ p. (from 0 ≤ p.word) × (p.word < to 0)) (λ p. p.word < to 0) (λ x h. h.1) b (p.words 0 (omega arith))) in
+    let low : All (λ p. p.word < to 0) here = All-filter t (λ p. p.word < to 0) b
+    (All-weaker (λ p. (from 0 ≤ p.word) × (p.word < to 0)) (λ p. p.word < to 0) (λ x h. h.1) b (p.words 0 (omega arith))) in
     let high : All (λ p. to 0 ≤ p.word) rest = flat_all (λ p. to 0 ≤ p.word) t bs (λ k l.
     let up = p.later 0 (suc k) (omega arith) (omega (arith, l)) in
-    All-weaker (λ p. (from (suc k) ≤ p.word) × (p.word < to (suc k))) (λ p. to 0 ≤ p.word) (λ x h. omega (arith, h.0, up)) (get_or bs k []) (p.words (suc k) (omega (arith, l)))) in
-    apart_append (to 0) here rest (apart_sorted here (IsStrictlySortedBy-filter by_place t b (p.sorted 0 (omega arith)))) (blocks_apart t bs (λ k. from (suc k)) (λ k. to (suc k)) (parted_rest b bs from to p))
+    All-weaker (λ p. (from (suc k) ≤ p.word) × (p.word < to (suc k))) (λ p. to 0 ≤ p.word) (λ x h. omega (arith, h.0, up)) (get_or bs k [])
+    (p.words (suc k) (omega (arith, l)))) in
+    apart_append (to 0) here rest (apart_sorted here (IsStrictlySortedBy-filter by_place t b (p.sorted 0 (omega arith))))
+    (blocks_apart t bs (λ k. from (suc k)) (λ k. to (suc k)) (parted_rest b bs from to p))
     (recursion_from_All (λ p. p.word < to 0) here low) (recursion_from_All (λ p. to 0 ≤ p.word) rest high)
 
 module _ (b : List ℕ) (i : IndexView) (stands : StandsFor b i) (is : IsIndex i) where
@@ -179,7 +192,8 @@ module _ (b : List ℕ) (i : IndexView) (stands : StandsFor b i) (is : IsIndex i
   none = record { lo = 0; words = 0; rows = 0; len = 0; facet = false }
 
   -- the blocks from number first up to last
-  cut_at : (first last k : ℕ) → first ≤ last → last ≤ length i.heads → k < length (take (last - first) (drop first blocks)) → (get_or (take (last - first) (drop first blocks)) k [] ≡ block_posts b (first + k)) × (first + k < last)
+  cut_at : (first last k : ℕ) → first ≤ last → last ≤ length i.heads → k < length (take (last - first) (drop first blocks))
+      → (get_or (take (last - first) (drop first blocks)) k [] ≡ block_posts b (first + k)) × (first + k < last)
   cut_at first last k le within lt =
       let count = stood_count b i stands in
       let l1 = length-drop first blocks in
@@ -187,36 +201,46 @@ module _ (b : List ℕ) (i : IndexView) (stands : StandsFor b i) (is : IsIndex i
       let inside : k < last - first = omega (arith, lt, l1, l2) in
       (get_or-take (last - first) (drop first blocks) k [] inside ∙ get_or-drop first blocks k [], omega (arith, inside, le))
 
-  parted : (first last : ℕ) → first ≤ last → last ≤ length i.heads → AreParted (take (last - first) (drop first blocks)) (λ k. (get_or i.heads (first + k) none).lo) (λ k. (get_or i.heads (first + k) none).lo + (get_or i.heads (first + k) none).words)
+  parted : (first last : ℕ) → first ≤ last → last ≤ length i.heads
+      → AreParted (take (last - first) (drop first blocks)) (λ k. (get_or i.heads (first + k) none).lo)
+      (λ k. (get_or i.heads (first + k) none).lo + (get_or i.heads (first + k) none).words)
   parted first last le within = record {
-    sorted = λ k lt. let at = cut_at first last k le within lt in subst AreSorted (sym at.0) (within_block b i stands is (first + k) (omega (arith, at.1, within))).sorted;
+    sorted = λ k lt. let at = cut_at first last k le within lt in
+        subst AreSorted (sym at.0) (within_block b i stands is (first + k) (omega (arith, at.1, within))).sorted;
     words = λ k lt.
         let at = cut_at first last k le within lt in
         let l : first + k < length i.heads = omega (arith, at.1, within) in
         let h = get_or i.heads (first + k) none in
-        subst (All (λ p. (h.lo ≤ p.word) × (p.word < h.lo + h.words))) (sym at.0) (block_words h i.docs (block_posts b (first + k)) _ (stood_block b i stands is (first + k) none l));
-    later = λ j k up lt. let at = cut_at first last k le within lt in heads_rise i is (first + j) (first + k) none (omega (arith, up)) (omega (arith, at.1, within));
+        subst (All (λ p. (h.lo ≤ p.word) × (p.word < h.lo + h.words))) (sym at.0)
+        (block_words h i.docs (block_posts b (first + k)) _ (stood_block b i stands is (first + k) none l));
+    later = λ j k up lt. let at = cut_at first last k le within lt in
+        heads_rise i is (first + j) (first + k) none (omega (arith, up)) (omega (arith, at.1, within));
   }
 
-  pub countable : (first last lo hi : ℕ) (listed : List Bool) → first ≤ last → last ≤ length i.heads → AreCountable (counted_rows blocks first last lo hi listed)
+  pub countable : (first last lo hi : ℕ) (listed : List Bool) → first ≤ last → last ≤ length i.heads
+      → AreCountable (counted_rows blocks first last lo hi listed)
   countable first last lo hi listed le within = record {
     ordered = words_in_order (is_chosen lo hi listed) (take (last - first) (drop first blocks)) _ _ (parted first last le within);
     few_docs = flat_all (λ p. p.doc < MAX_DOCS) (is_chosen lo hi listed) (take (last - first) (drop first blocks)) (λ k lt.
         let at = cut_at first last k le within lt in
         let few = is.few_docs in
-        subst (All (λ p. p.doc < MAX_DOCS)) (sym at.0) (All-weaker (IsWithin i.docs (length i.words)) (λ p. p.doc < MAX_DOCS) (λ x h. let d = h.doc in omega (arith, d, few)) (block_posts b (first + k)) (within_block b i stands is (first + k) (omega (arith, at.1, within))).within));
+        subst (All (λ p. p.doc < MAX_DOCS)) (sym at.0)
+        (All-weaker (IsWithin i.docs (length i.words)) (λ p. p.doc < MAX_DOCS) (λ x h. let d = h.doc in omega (arith, d, few)) (block_posts b (first + k))
+        (within_block b i stands is (first + k) (omega (arith, at.1, within))).within));
   }
 
   -- one block more is counted
   pub block_counted : (first k lo hi : ℕ) (listed : List Bool) (old new : WordCountsView) → first ≤ k → k < length i.heads → old.low ≡ lo → old.high ≡ hi
-      → ((seen : List Post) → AreCountable (seen ++ chosen old.low old.high listed (block_posts b k)) → HasCounted seen old → HasCounted (seen ++ chosen old.low old.high listed (block_posts b k)) new)
+      → ((seen : List Post) → AreCountable (seen ++ chosen old.low old.high listed (block_posts b k)) → HasCounted seen old
+      → HasCounted (seen ++ chosen old.low old.high listed (block_posts b k)) new)
       → HasCounted (counted_rows blocks first k lo hi listed) old → HasCounted (counted_rows blocks first (k + 1) lo hi listed) new
   block_counted first k lo hi listed old new le lt low high step h =
       let count = stood_count b i stands in
       let more = flat_more (chosen lo hi listed) blocks first k le (omega (arith, lt, count)) in
       let all = countable first (k + 1) lo hi listed (omega (arith, le)) (omega (arith, lt)) in
       let seen = counted_rows blocks first k lo hi listed in
-      let Steps : ℕ → ℕ → Type 0 = λ l u. AreCountable (seen ++ chosen l u listed (block_posts b k)) → HasCounted (seen ++ chosen l u listed (block_posts b k)) new in
+      let Steps : ℕ → ℕ → Type 0 = λ l u. AreCountable (seen ++ chosen l u listed (block_posts b k))
+      → HasCounted (seen ++ chosen l u listed (block_posts b k)) new in
       let own : Steps lo hi = subst (Steps lo) high (subst (λ l. Steps l old.high) low (λ few. step seen few h)) in
       subst (λ rows. HasCounted rows new) (sym more) (own (subst AreCountable more all))
 
@@ -225,27 +249,33 @@ module _ (b : List ℕ) (i : IndexView) (stands : StandsFor b i) (is : IsIndex i
   flat_twice p q (b ∷ bs) = ap₂ (λ x y. x ++ y) (filter_twice p q b) (flat_twice p q bs) ∙ sym (filter-append q (filter p b) (flat_map (filter p) bs))
 
   -- the posts that are counted have the members of those asked for
-  pub counted_alike : (first last lo hi : ℕ) (listed : List Bool) → AreMet i.heads lo hi first last → (t : Post → Bool) → list_any t (counted_rows blocks first last lo hi listed) ≡ list_any t (filter (in_listed listed) (filter (is_between lo hi) (stock_of b).posts))
+  pub counted_alike : (first last lo hi : ℕ) (listed : List Bool) → AreMet i.heads lo hi first last → (t : Post → Bool)
+      → list_any t (counted_rows blocks first last lo hi listed) ≡ list_any t (filter (in_listed listed) (filter (is_between lo hi) (stock_of b).posts))
   counted_alike first last lo hi listed met t =
       let p = is_between lo hi in
       let q = in_listed listed in
       let all = image_posts (image_of b) in
-      let whole : counted_rows blocks first last lo hi listed ≡ filter q (filter p all) = flat_twice p q (take (last - first) (drop first blocks)) ∙ ap (filter q) (sym (posts_between b i stands is lo hi first last met)) in
+      let whole : counted_rows blocks first last lo hi listed ≡ filter q (filter p all) = flat_twice p q (take (last - first) (drop first blocks))
+      ∙ ap (filter q) (sym (posts_between b i stands is lo hi first last met)) in
       ap (list_any t) whole ∙ any_filter t q (filter p all) ∙ any_filter (λ x. q x && t x) p all
       ∙ sym (any_listed by_post by_post_total by_post_exact (λ x. p x && (q x && t x)) all)
       ∙ sym (any_filter t q (filter p (stock_of b).posts) ∙ any_filter (λ x. q x && t x) p (stock_of b).posts)
 
   -- and there are as many
-  pub counted_long : (first last lo hi : ℕ) (listed : List Bool) → AreMet i.heads lo hi first last → length (counted_rows blocks first last lo hi listed) ≡ length (filter (in_listed listed) (filter (is_between lo hi) (stock_of b).posts))
+  pub counted_long : (first last lo hi : ℕ) (listed : List Bool) → AreMet i.heads lo hi first last
+      → length (counted_rows blocks first last lo hi listed) ≡ length (filter (in_listed listed) (filter (is_between lo hi) (stock_of b).posts))
   counted_long first last lo hi listed met =
       let up = (stocked b i stands is).sorted in
       long_alike (counted_rows blocks first last lo hi listed) (filter (in_listed listed) (filter (is_between lo hi) (stock_of b).posts))
       (blocks_apart (is_chosen lo hi listed) (take (last - first) (drop first blocks)) _ _ (parted first last met.ordered met.within))
-      (IsStrictlySortedBy-filter by_place (in_listed listed) (filter (is_between lo hi) (stock_of b).posts) (IsStrictlySortedBy-filter by_place (is_between lo hi) (stock_of b).posts up))
+      (IsStrictlySortedBy-filter by_place (in_listed listed) (filter (is_between lo hi) (stock_of b).posts)
+      (IsStrictlySortedBy-filter by_place (is_between lo hi) (stock_of b).posts up))
       (counted_alike first last lo hi listed met)
 
-  pub table_told : (first last lo hi : ℕ) (listed : List Bool) → AreMet i.heads lo hi first last → post_table (counted_rows blocks first last lo hi listed) ≡ post_table (filter (in_listed listed) (filter (is_between lo hi) (stock_of b).posts))
-  table_told first last lo hi listed met = table_alike (counted_rows blocks first last lo hi listed) (filter (in_listed listed) (filter (is_between lo hi) (stock_of b).posts)) (counted_alike first last lo hi listed met)
+  pub table_told : (first last lo hi : ℕ) (listed : List Bool) → AreMet i.heads lo hi first last
+      → post_table (counted_rows blocks first last lo hi listed) ≡ post_table (filter (in_listed listed) (filter (is_between lo hi) (stock_of b).posts))
+  table_told first last lo hi listed met = table_alike (counted_rows blocks first last lo hi listed)
+      (filter (in_listed listed) (filter (is_between lo hi) (stock_of b).posts)) (counted_alike first last lo hi listed met)
 
   -- the posts that are read of an index file are in its range
   pub stock_within : AreWithin i (stock_of b).posts
@@ -255,37 +285,48 @@ module _ (b : List ℕ) (i : IndexView) (stands : StandsFor b i) (is : IsIndex i
       let words = ap length (words_are b i stands is) in
       record {
         sorted = st.sorted;
-        within = All-weaker (IsKnown (stock_of b)) (IsWithin i.docs (length i.words)) (λ x h. let doc = h.doc in let word = h.word in record { doc = omega (arith, doc, docs); word = omega (arith, word, words); score = h.score }) (stock_of b).posts st.known;
+        within = All-weaker (IsKnown (stock_of b)) (IsWithin i.docs (length i.words))
+            (λ x h. let doc = h.doc in let word = h.word in record { doc = omega (arith, doc, docs); word = omega (arith, word, words); score = h.score })
+            (stock_of b).posts st.known;
       }
 
-  pub listed_kept : (base : Base) (listed : List Bool) (posts : List Post) → AreListed i.docs base listed → AreWithin i posts → filter (in_listed listed) posts ≡ keep_docs posts (docs_in i.docs base)
+  pub listed_kept : (base : Base) (listed : List Bool) (posts : List Post) → AreListed i.docs base listed → AreWithin i posts
+      → filter (in_listed listed) posts ≡ keep_docs posts (docs_in i.docs base)
   listed_kept base listed posts has w =
       filter_alike (in_listed listed) (λ p. is_listed (docs_in i.docs base) p.doc) posts
-      (all_then (IsWithin i.docs (length i.words)) (λ p. in_listed listed p ≡ is_listed (docs_in i.docs base) p.doc) (λ p h. has.each p.doc h.doc) posts (recursion_from_All (IsWithin i.docs (length i.words)) posts w.within))
+      (all_then (IsWithin i.docs (length i.words)) (λ p. in_listed listed p ≡ is_listed (docs_in i.docs base) p.doc) (λ p h. has.each p.doc h.doc) posts
+      (recursion_from_All (IsWithin i.docs (length i.words)) posts w.within))
 
   -- of all documents each post is in one
-  pub all_listed : (lo hi : ℕ) (all : List Bool) → AreListed i.docs base.All all → filter (in_listed all) (filter (is_between lo hi) (stock_of b).posts) ≡ filter (is_between lo hi) (stock_of b).posts
+  pub all_listed : (lo hi : ℕ) (all : List Bool) → AreListed i.docs base.All all
+      → filter (in_listed all) (filter (is_between lo hi) (stock_of b).posts) ≡ filter (is_between lo hi) (stock_of b).posts
   all_listed lo hi all has =
       let asked = filter (is_between lo hi) (stock_of b).posts in
       let w = kept_within i (is_between lo hi) (stock_of b).posts stock_within in
-      listed_kept base.All all asked has w ∙ sym (all_kept i.docs asked (All-weaker (IsWithin i.docs (length i.words)) (λ p. p.doc < i.docs) (λ p h. h.doc) asked w.within))
+      listed_kept base.All all asked has w ∙ sym (all_kept i.docs asked
+      (All-weaker (IsWithin i.docs (length i.words)) (λ p. p.doc < i.docs) (λ p h. h.doc) asked w.within))
 
   -- the posts that a facet counts
   abbrev facet_posts : ℕ → ℕ → List Bool → List Post
   facet_posts lo hi listed = filter (in_listed listed) (filter (is_between lo hi) (stock_of b).posts)
 
   -- what is shown of them is the facet's table
-  pub facet_counted : (base : Base) (cut : ℕ) (name copied prefix : List ℕ) (lo hi : ℕ) (listed : List Bool) (ws : List (List ℕ)) (first : List Numbered) (shown : List Shown) → copied ≡ name → prefix ≡ named name [] → IsRange i.words prefix lo hi → AreListed i.docs base listed
-      → ws ≡ i.words → first ≡ take cut (post_table (facet_posts lo hi listed)) → shown ≡ map (shown_at ws) first → ◌≡◌ {A = FacetShown} (record { name = copied; table = shown }) (facet_at (stock_of b) base cut name)
+  pub facet_counted : (base : Base) (cut : ℕ) (name copied prefix : List ℕ) (lo hi : ℕ) (listed : List Bool) (ws : List (List ℕ)) (first : List Numbered)
+      (shown : List Shown) → copied ≡ name → prefix ≡ named name [] → IsRange i.words prefix lo hi → AreListed i.docs base listed
+      → ws ≡ i.words → first ≡ take cut (post_table (facet_posts lo hi listed)) → shown ≡ map (shown_at ws) first
+      → ◌≡◌ {A = FacetShown} (record { name = copied; table = shown }) (facet_at (stock_of b) base cut name)
   facet_counted base cut name copied prefix lo hi listed ws first shown same prefix_is range has words first_is shown_is =
       let asked = filter (is_between lo hi) (stock_of b).posts in
       let within = kept_within i (is_between lo hi) (stock_of b).posts stock_within in
       let own = subst (λ p. IsRange i.words p lo hi) prefix_is range in
       let rows = span_found b i stands is (begins (named name [])) lo hi own.holds asked refl in
       let kept = listed_kept base listed asked has within in
-      let table_is = words_as_shown b i stands is (facet_posts lo hi listed) (kept_within i (in_listed listed) asked within) ws words cut first first_is shown shown_is in
+      let table_is = words_as_shown b i stands is (facet_posts lo hi listed)
+      (kept_within i (in_listed listed) asked within) ws words cut first first_is shown shown_is in
       facet_told b i stands is base cut name copied asked (facet_posts lo hi listed) i.docs shown same rows refl kept table_is
 
 -- the blocks that hold a facet's words
-pub facet_met : (i : IndexView) → IsIndex i → (name bytes prefix : List ℕ) (lo hi : ℕ) → bytes ≡ prefix → prefix ≡ named name [] → IsRange i.words bytes lo hi → length (filter (is_met lo hi) i.heads) ≤ met_prefix (division i) (named name [])
-facet_met i is name bytes prefix lo hi read asked range = subst (λ p. length (filter (is_met lo hi) i.heads) ≤ met_prefix (division i) p) (read ∙ asked) (prefix_met i is bytes lo hi range)
+pub facet_met : (i : IndexView) → IsIndex i → (name bytes prefix : List ℕ) (lo hi : ℕ) → bytes ≡ prefix → prefix ≡ named name [] → IsRange i.words bytes lo hi
+    → length (filter (is_met lo hi) i.heads) ≤ met_prefix (division i) (named name [])
+facet_met i is name bytes prefix lo hi read asked range = subst (λ p. length (filter (is_met lo hi) i.heads) ≤ met_prefix (division i) p) (read ∙ asked)
+    (prefix_met i is bytes lo hi range)

@@ -44,14 +44,19 @@ words_apart m x y low high =
       | false ↦ λ e. refl
     ] refl
 
-from_both : (x : Post) (xs ys : List Post) → AllByRecursion (λ y. eq_by_cmp by_post x y ≡ false) xs → AllByRecursion (λ y. eq_by_cmp by_post x y ≡ false) ys → AllByRecursion (λ y. eq_by_cmp by_post x y ≡ false) (xs ++ ys)
+from_both : (x : Post) (xs ys : List Post) → AllByRecursion (λ y. eq_by_cmp by_post x y ≡ false) xs → AllByRecursion (λ y. eq_by_cmp by_post x y ≡ false) ys
+    → AllByRecursion (λ y. eq_by_cmp by_post x y ≡ false) (xs ++ ys)
 from_both x [] ys h k = k
 from_both x (y ∷ xs) ys h k = (h.0, from_both x xs ys h.1 k)
 
-pub apart_append : (m : ℕ) (xs ys : List Post) → Apart xs → Apart ys → AllByRecursion (λ p. p.word < m) xs → AllByRecursion (λ p. m ≤ p.word) ys → Apart (xs ++ ys)
+pub apart_append : (m : ℕ) (xs ys : List Post) → Apart xs → Apart ys → AllByRecursion (λ p. p.word < m) xs → AllByRecursion (λ p. m ≤ p.word) ys
+    → Apart (xs ++ ys)
 unfolding Apart
 apart_append m [] ys a b low high = b
-apart_append m (x ∷ xs) ys a b low high = (from_both x xs ys a.0 (all_then (λ p. m ≤ p.word) (λ y. eq_by_cmp by_post x y ≡ false) (λ y h. words_apart m x y low.0 h) ys high), apart_append m xs ys a.1 b low.1 high)
+apart_append m (x ∷ xs) ys a b low high = (
+  from_both x xs ys a.0 (all_then (λ p. m ≤ p.word) (λ y. eq_by_cmp by_post x y ≡ false) (λ y h. words_apart m x y low.0 h) ys high),
+  apart_append m xs ys a.1 b low.1 high,
+)
 
 -- ---- how many there are
 none_tied : (t : Post → Bool) (xs : List Post) → AllByRecursion (λ y. t y ≡ false) xs → list_any t xs ≡ false
@@ -72,4 +77,5 @@ listed_long xs h =
     omega (arith, length-map (entries m) (λ e. e.0), len-entries m, keys_long xs h)
 
 pub long_alike : (xs ys : List Post) → Apart xs → AreSorted ys → ((t : Post → Bool) → list_any t xs ≡ list_any t ys) → length xs ≡ length ys
-long_alike xs ys apart up alike = sym (listed_long xs apart) ∙ ap length (sym (members_are by_post by_post_total by_post_exact ys xs (still_rise ys up) (λ q. sym (alike (eq_by_cmp by_post q)))))
+long_alike xs ys apart up alike = sym (listed_long xs apart)
+    ∙ ap length (sym (members_are by_post by_post_total by_post_exact ys xs (still_rise ys up) (λ q. sym (alike (eq_by_cmp by_post q)))))

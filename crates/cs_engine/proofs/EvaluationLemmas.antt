@@ -1,8 +1,7 @@
 -- The loops over parts, alternatives and links of a query.
 --
 --   is_join              the rows of a join
---   met_linked-is, met_part-is, met_query-is      the blocks of a level by those of what it holds
---   next_left            what is left, with the next in front
+--   linked_reads, met_part-is, met_query-is      the blocks of a level by those of what it holds
 --   entry_begins, entry_by_hits, entry_ends     the entry of the parts so far
 --   hits_go_on, hits_end        their hits
 --   part_begins, part_goes_on, part_ends        the rows of the alternatives so far
@@ -10,8 +9,9 @@
 --   linked_within        what is linked is in range
 --   joined_rows          the rows of a join, by those of its name
 --   docs_begin, docs_go_on, docs_end      the documents of the parts so far
-use Rattle.std.proofs.Common.{◌≡◌, ℕ, ◌+◌, ◌<◌, ◌≤◌, Bool, false, not, List, [], ◌∷◌, ◌++◌, length, map, take, drop, get_or, refl, sym, ap, subst, ◌∙◌}
+use Rattle.std.proofs.Common.{◌≡◌, ℕ, ◌+◌, ◌<◌, ◌≤◌, Bool, false, not, List, [], ◌∷◌, ◌++◌, length, map, take, drop, get_or, refl, sym, ap, subst, ◌∙◌, arith}
 use Rattle.std.specs.Prelude.{sum, fold}
+use Rattle.cs_base.specs.outside.Causes.{ReadsWithin}
 use Rattle.cs_base.specs.declared.content.query.Link.{Link}
 use Rattle.cs_base.specs.declared.content.query.Link.TheVariants.{Phrase, Near}
 use Rattle.cs_file.specs.Indexes.{IndexView}
@@ -20,7 +20,7 @@ use Rattle.cs_join.proofs.JoinLemmas.{joins_are_shared}
 use Rattle.std.proofs.lemmas.List.{append-nil, append_assoc, take_all, drop_all, take_more, map-append}
 use Rattle.std.specs.List.{list_any}
 use Rattle.std.proofs.lemmas.List.Elements.{All-weaker, All-from_recursion}
-use Rattle.std.proofs.lemmas.List.Sums.{sum_by-cons, fold-append}
+use Rattle.std.proofs.lemmas.List.Sums.{fold-append}
 use Rattle.cs_base.specs.content.Orders.{AreSorted}
 use Rattle.cs_base.specs.declared.content.doc.Base.{Base}
 use Rattle.cs_base.specs.declared.content.doc.Base.TheVariants as base
@@ -34,13 +34,14 @@ use Rattle.cs_base.specs.declared.content.query.Atom.{Atom, roll-Atom}
 use Rattle.cs_base.specs.declared.content.query.Atom.TheVariants.{Join}
 use Rattle.cs_base.specs.declared.content.query.Atom.TheOpen.{Atom-F}
 use Rattle.cs_base.specs.declared.content.query.Atom.TheFolds.{fold-roll-Atom, fold_out-Linked, fold_out-Part, fold_out-Query}
-use Rattle.cs_meet.proofs.Passes.{next_is}
 use Rattle.cs_meet.specs.Filters.{IsUnion, stands_behind, is_near}
-use Rattle.cs_model.specs.Answers.{PartRows, LinkedRows, atom_rows, chain_rows, chained, hits, linked_rows, part_rows, parts_of, query_parts, rows_of_atom, rows_of_chain, rows_of_linked, rows_of_part, scored, union_of}
+use Rattle.cs_model.specs.Answers.{PartRows, LinkedRows, atom_rows, chain_rows, chained, hits, linked_rows, part_rows, parts_of, query_parts, rows_of_atom}
+use Rattle.cs_model.specs.Answers.{rows_of_chain, rows_of_linked, rows_of_part, scored, union_of}
 use Rattle.cs_model.specs.Collection.{named}
 use Rattle.cs_model.specs.Corpus.{Corpus}
-use Rattle.cs_model_kept.specs.Due.{Division, atom_met, chain_met, linked_met, part_met, query_met, met_of_atom, met_of_chain, met_of_linked, met_of_part, met_of_query}
-use Rattle.cs_model_kept.specs.Entries.{Entry, EntryOf, base_of, entry, entry_at, entry_of, scored_hits}
+use Rattle.cs_model_kept.specs.Due.{Division, atom_met, chain_met, linked_met, part_met, query_met, met_of_atom, met_of_chain, met_of_linked, met_of_part}
+use Rattle.cs_model_kept.specs.Due.{met_of_query}
+use Rattle.cs_model_kept.specs.Entries.{EntryOf, base_of, entry, entry_at, entry_of}
 use Rattle.cs_model_kept.specs.Entries as kept
 use Rattle.cs_model_kept.proofs.EntryLemmas.{ends_more, extended_is, hits_are, listed_base, parts_read}
 use Rattle.cs_engine.specs.IndexReading.{AreWithin, HasRows}
@@ -59,11 +60,15 @@ use Rattle.cs_engine.proofs.UnionLemmas.{no_chains, one_more_chain, one_more_lin
 module _ (k : Corpus) where
   pub is_join : (name : List ℕ) (inner : Query) → rows_of_atom k (Join name inner) ≡ atom_rows k (Atom-F.Join name (parts_of k inner))
   unfolding roll-Atom denote.Hole.Carrier.roll
-  is_join name inner = fold-roll-Atom (List Row) (List Row) LinkedRows PartRows (List PartRows) (atom_rows k) chain_rows linked_rows part_rows query_parts (Atom-F.Join name inner)
+  is_join name inner = fold-roll-Atom (List Row) (List Row) LinkedRows PartRows (List PartRows) (atom_rows k) chain_rows linked_rows part_rows query_parts
+      (Atom-F.Join name inner)
 
 module _ (v : Division) where
-  pub met_linked-is : (l : Linked) → met_of_linked v l ≡ met_of_atom v (out-Linked l).atom
+  met_linked-is : (l : Linked) → met_of_linked v l ≡ met_of_atom v (out-Linked l).atom
   met_linked-is l = fold_out-Linked ℕ ℕ ℕ ℕ ℕ (atom_met v) chain_met linked_met part_met query_met l
+
+  pub linked_reads : (l : Linked) {before now : ℕ} → ReadsWithin (met_of_atom v (out-Linked l).atom) before now → ReadsWithin (met_of_linked v l) before now
+  linked_reads l reads = record { later = reads.later; within = (let w = reads.within in let own = met_linked-is l in omega (arith, w, own)) }
 
   pub met_part-is : (p : Part) → met_of_part v p ≡ sum (map (met_of_chain v) (out-Part p).chains)
   met_part-is p = fold_out-Part ℕ ℕ ℕ ℕ ℕ (atom_met v) chain_met linked_met part_met query_met p
@@ -71,16 +76,13 @@ module _ (v : Division) where
   pub met_query-is : (q : Query) → met_of_query v q ≡ sum (map (met_of_part v) (out-Query q).parts)
   met_query-is q = fold_out-Query ℕ ℕ ℕ ℕ ℕ (atom_met v) chain_met linked_met part_met query_met q
 
--- what is left, with the next in front
-pub next_left : {X : Type 0} (f : X → ℕ) (xs : List X) (i : ℕ) (x : X) → i < length xs → x ≡ get_or xs i x → sum (map f (drop i xs)) ≡ f x + sum (map f (drop (i + 1) xs))
-next_left f xs i x l is = ap (λ r. sum (map f r)) (next_is xs i x l is) ∙ sum_by-cons (λ n. n) (f x) (map f (drop (i + 1) xs))
-
 -- ---- parts
 abbrev positive_by : List Part → Bool
 positive_by ps = fold (λ before p. not (out-Part p).excluded) false ps
 
 pub positive_more : (ps : List Part) (i : ℕ) (x : Part) → i < length ps → x ≡ get_or ps i x → positive_by (take (i + 1) ps) ≡ not (out-Part x).excluded
-positive_more ps i x l at = ap positive_by (take_more ps i x l ∙ ap (λ y. take i ps ++ y ∷ []) (sym at)) ∙ fold-append (λ before p. not (out-Part p).excluded) false (take i ps) (x ∷ [])
+positive_more ps i x l at = ap positive_by (take_more ps i x l ∙ ap (λ y. take i ps ++ y ∷ []) (sym at))
+    ∙ fold-append (λ before p. not (out-Part p).excluded) false (take i ps) (x ∷ [])
 
 module _ (k : Corpus) where
   excluded_is : (p : Part) → (rows_of_part k p).excluded ≡ (out-Part p).excluded
@@ -90,26 +92,33 @@ module _ (k : Corpus) where
   read ps = map (rows_of_part k) ps
 
   read_more : (ps : List Part) (i : ℕ) (x : Part) → i < length ps → x ≡ get_or ps i x → read (take (i + 1) ps) ≡ read (take i ps) ++ rows_of_part k x ∷ []
-  read_more ps i x l at = ap read (take_more ps i x l) ∙ map-append (rows_of_part k) (take i ps) (get_or ps i x ∷ []) ∙ ap (λ y. read (take i ps) ++ rows_of_part k y ∷ []) (sym at)
+  read_more ps i x l at = ap read (take_more ps i x l) ∙ map-append (rows_of_part k) (take i ps) (get_or ps i x ∷ [])
+      ∙ ap (λ y. read (take i ps) ++ rows_of_part k y ∷ []) (sym at)
 
   -- whether the parts so far end in a positive one
-  ends_from : (b : Bool) (done ps : List Part) → b ≡ kept.ends_positive (read done) → fold (λ before p. not (out-Part p).excluded) b ps ≡ kept.ends_positive (read (done ++ ps))
+  ends_from : (b : Bool) (done ps : List Part) → b ≡ kept.ends_positive (read done)
+      → fold (λ before p. not (out-Part p).excluded) b ps ≡ kept.ends_positive (read (done ++ ps))
   ends_from b done [] is = is ∙ ap (λ l. kept.ends_positive (read l)) (sym (append-nil done))
   ends_from b done (p ∷ ps) is =
-      ends_from (not (out-Part p).excluded) (done ++ p ∷ []) ps (ap not (sym (excluded_is p)) ∙ sym (ends_more (read done) (rows_of_part k p)) ∙ ap kept.ends_positive (sym (map-append (rows_of_part k) done (p ∷ []))))
+      ends_from (not (out-Part p).excluded) (done ++ p ∷ []) ps
+      (ap not (sym (excluded_is p)) ∙ sym (ends_more (read done) (rows_of_part k p))
+      ∙ ap kept.ends_positive (sym (map-append (rows_of_part k) done (p ∷ []))))
       ∙ ap (λ l. kept.ends_positive (read l)) (append_assoc done (p ∷ []) ps)
 
   pub ends_read : (ps : List Part) → positive_by ps ≡ kept.ends_positive (read ps)
   ends_read ps = ends_from false [] ps refl
 
 -- the hits of parts by their entry
-pub hits_by : (s : Stock) (ps : List PartRows) (positive : Bool) (e : EntryOf Post) → positive ≡ kept.ends_positive ps → entry_at s.words e ≡ entry (corpus_in s) ps → posts_hits positive e.base e.rows ≡ base_of (corpus_in s) ps
-hits_by s ps positive e ends is = hits_told s.words positive e ∙ ap (λ b. kept.hits_of b (entry_at s.words e)) ends ∙ ap (kept.hits_of (kept.ends_positive ps)) is ∙ hits_are (corpus_in s) ps
+pub hits_by : (s : Stock) (ps : List PartRows) (positive : Bool) (e : EntryOf Post) → positive ≡ kept.ends_positive ps
+    → entry_at s.words e ≡ entry (corpus_in s) ps → posts_hits positive e.base e.rows ≡ base_of (corpus_in s) ps
+hits_by s ps positive e ends is = hits_told s.words positive e ∙ ap (λ b. kept.hits_of b (entry_at s.words e)) ends
+    ∙ ap (kept.hits_of (kept.ends_positive ps)) is ∙ hits_are (corpus_in s) ps
 
 -- and their documents
 pub docs_by : (s : Stock) (n : ℕ) (ps : List PartRows) (b : Base) → n ≡ length s.titles → b ≡ base_of (corpus_in s) ps → docs_in n b ≡ hits (corpus_in s) ps
 docs_by s n ps b same is =
-    ap (map (λ h. h.doc)) (listed_told s n b same ∙ ap (kept.listed (corpus_in s)) is ∙ listed_base (corpus_in s) ps) ∙ own_docs (scored ps) (λ d. refl) (hits (corpus_in s) ps)
+    ap (map (λ h. h.doc)) (listed_told s n b same ∙ ap (kept.listed (corpus_in s)) is ∙ listed_base (corpus_in s) ps)
+    ∙ own_docs (scored ps) (λ d. refl) (hits (corpus_in s) ps)
 
 module _ (s : Stock) (ps : List Part) where
   abbrev k : Corpus
@@ -125,19 +134,22 @@ module _ (s : Stock) (ps : List Part) where
   abbrev pub HitsSoFar : ℕ → Base → Type 0
   HitsSoFar i hits = hits ≡ base_of k (map (rows_of_part k) (take i ps))
 
-  pub entry_by_hits : (i : ℕ) (x : Part) → i < length ps → x ≡ get_or ps i x → (hits : Base) (e : EntryOf Post) → HitsSoFar i hits → IsStep s hits (rows_of_part k x) e → EntrySoFar (i + 1) e
+  pub entry_by_hits : (i : ℕ) (x : Part) → i < length ps → x ≡ get_or ps i x → (hits : Base) (e : EntryOf Post) → HitsSoFar i hits
+      → IsStep s hits (rows_of_part k x) e → EntrySoFar (i + 1) e
   entry_by_hits i x l at hits e so_far step =
       let done = map (rows_of_part k) (take i ps) in
       let own : hits ≡ kept.hits_of (kept.ends_positive done) (entry k done) = so_far ∙ sym (hits_are k done) in
       step ∙ ap (λ b. kept.entry_after (kept.is_begun b) (kept.listed k b) (rows_of_part k x)) own
       ∙ sym (extended_is k done (rows_of_part k x)) ∙ ap (entry k) (sym (read_more k ps i x l at))
 
-  pub hits_go_on : (i : ℕ) (x : Part) → i < length ps → x ≡ get_or ps i x → (was now : Base) → HitsSoFar i was → AreHitsBehind s was (rows_of_part k x) now → HitsSoFar (i + 1) now
+  pub hits_go_on : (i : ℕ) (x : Part) → i < length ps → x ≡ get_or ps i x → (was now : Base) → HitsSoFar i was → AreHitsBehind s was (rows_of_part k x) now
+      → HitsSoFar (i + 1) now
   hits_go_on i x l at was now so_far behind =
       let done = map (rows_of_part k) (take i ps) in
       let p = rows_of_part k x in
       let all = map (rows_of_part k) (take (i + 1) ps) in
-      behind.are ∙ hits_by s all (not p.excluded) behind.e (sym (ends_more done p) ∙ ap kept.ends_positive (sym (read_more k ps i x l at))) (entry_by_hits i x l at was behind.e so_far behind.step)
+      behind.are ∙ hits_by s all (not p.excluded) behind.e (sym (ends_more done p) ∙ ap kept.ends_positive (sym (read_more k ps i x l at)))
+      (entry_by_hits i x l at was behind.e so_far behind.step)
 
   pub hits_end : (q : Query) (i : ℕ) (hits : Base) → ps ≡ (out-Query q).parts → length ps ≤ i → HitsSoFar i hits → hits ≡ base_of k (parts_of k q)
   hits_end q i hits are l so_far = so_far ∙ ap (λ xs. base_of k (map (rows_of_part k) xs)) (take_all i ps l ∙ are) ∙ ap (base_of k) (sym (parts_read k q))
@@ -157,13 +169,16 @@ module _ (s : Stock) (chains : List Chain) where
   pub part_begins : (found : List Post) → found ≡ [] → RowsSoFar 0 found
   part_begins found is = let h = no_chains s found is in record { is = h.0; picked = h.1 }
 
-  pub part_goes_on : IsStocked s → (i : ℕ) (x : Chain) → i < length chains → x ≡ get_or chains i x → (found next now : List Post) → RowsSoFar i found → HasRows s (rows_of_chain ks x) next → IsUnion found next now → AreSorted now → RowsSoFar (i + 1) now
+  pub part_goes_on : IsStocked s → (i : ℕ) (x : Chain) → i < length chains → x ≡ get_or chains i x → (found next now : List Post) → RowsSoFar i found
+      → HasRows s (rows_of_chain ks x) next → IsUnion found next now → AreSorted now → RowsSoFar (i + 1) now
   part_goes_on stocked i x l at found next now so_far more union up =
       let h = one_more_chain s chains i x found next now stocked l at so_far.is so_far.picked more.is more.picked union up in
       record { is = h.0; picked = h.1 }
 
-  pub part_ends : (p : Part) → chains ≡ (out-Part p).chains → (i : ℕ) (found : List Post) → length chains ≤ i → RowsSoFar i found → HasRows s (rows_of_part ks p).rows found
-  part_ends p are i found l so_far = subst (λ rows. HasRows s rows found) (ap (λ cs. union_of (map (rows_of_chain ks) cs)) (take_all i chains l ∙ are) ∙ sym (ap (λ (r : PartRows). r.rows) (part_rows-is ks p))) so_far
+  pub part_ends : (p : Part) → chains ≡ (out-Part p).chains → (i : ℕ) (found : List Post) → length chains ≤ i → RowsSoFar i found
+      → HasRows s (rows_of_part ks p).rows found
+  part_ends p are i found l so_far = subst (λ rows. HasRows s rows found)
+      (ap (λ cs. union_of (map (rows_of_chain ks) cs)) (take_all i chains l ∙ are) ∙ sym (ap (λ (r : PartRows). r.rows) (part_rows-is ks p))) so_far
 
 -- ---- links
 module _ (s : Stock) (c : Chain) (links : List Linked) where
@@ -174,7 +189,8 @@ module _ (s : Stock) (c : Chain) (links : List Linked) where
     pub rows : rows_of_chain kl c ≡ chained (rows_at s.words found) (map (rows_of_linked kl) (drop i links))
     pub picked : IsPicked s found
 
-  pub chain_goes_on : (i : ℕ) (x : Linked) → i < length links → x ≡ get_or links i x → (found next now : List Post) → LinkedSoFar i found → HasRows s (rows_of_atom kl (out-Linked x).atom) next → now ≡ linked_posts (out-Linked x).link found next → LinkedSoFar (i + 1) now
+  pub chain_goes_on : (i : ℕ) (x : Linked) → i < length links → x ≡ get_or links i x → (found next now : List Post) → LinkedSoFar i found
+      → HasRows s (rows_of_atom kl (out-Linked x).atom) next → now ≡ linked_posts (out-Linked x).link found next → LinkedSoFar (i + 1) now
   chain_goes_on i x l at found next now so_far more are =
       let h = one_more_link s links i x (rows_of_chain kl c) found next now l at so_far.rows more.is more.picked are in
       record { rows = h.0; picked = h.1 }
@@ -191,11 +207,14 @@ linked_within i Phrase a b c w is = subst (AreWithin i) (sym is) (kept_within i 
 linked_within i Near a b c w is = subst (AreWithin i) (sym is) (kept_within i (λ r. list_any (is_near r) a) b w)
 
 -- ---- joins
-pub joined_rows : (s : Stock) → IsStocked s → (a : Atom) (name : List ℕ) (inner : Query) → a ≡ Join name inner → (posts now : List Post) (docs : List ℕ) → HasRows s (atom_rows (corpus_in s) (Atom-F.Prefix (named name []))) posts
+pub joined_rows : (s : Stock) → IsStocked s → (a : Atom) (name : List ℕ) (inner : Query) → a ≡ Join name inner → (posts now : List Post) (docs : List ℕ)
+    → HasRows s (atom_rows (corpus_in s) (Atom-F.Prefix (named name []))) posts
     → docs ≡ hits (corpus_in s) (parts_of (corpus_in s) inner) → now ≡ shared posts docs → HasRows s (rows_of_atom (corpus_in s) a) now
 joined_rows s stocked a name inner is posts now docs has are now_is = record {
   is = ap (rows_at s.words) (now_is ∙ ap (shared posts) are)
-      ∙ joins_are_shared (corpus_in s) name (parts_of (corpus_in s) inner) s.words posts stocked.words (All-weaker (IsKnown s) (λ p. p.word < length s.words) (λ p h. h.word) posts (All-from_recursion (IsKnown s) posts (picked_known s posts stocked has.picked.among))) has.is
+      ∙ joins_are_shared (corpus_in s) name (parts_of (corpus_in s) inner) s.words posts stocked.words
+      (All-weaker (IsKnown s) (λ p. p.word < length s.words) (λ p h. h.word) posts
+      (All-from_recursion (IsKnown s) posts (picked_known s posts stocked has.picked.among))) has.is
       ∙ sym (is_join (corpus_in s) name inner) ∙ ap (rows_of_atom (corpus_in s)) (sym is);
   picked = picked_again s (shares_word docs posts) posts now has.picked now_is;
 }
@@ -215,10 +234,12 @@ module _ (s : Stock) (ps : List Part) where
   pub docs_begin : (n : ℕ) → n ≡ length s.titles → DocsSoFar n 0 base.All
   docs_begin n same = docs_by s n [] base.All same refl
 
-  pub docs_go_on : (n i : ℕ) (x : Part) → i < length ps → x ≡ get_or ps i x → (was now : Base) (posts : List Post) → DocsSoFar n i was → HasRows s (rows_of_part kd x).rows posts → docs_in n now ≡ docs_after n was (out-Part x).excluded posts → DocsSoFar n (i + 1) now
+  pub docs_go_on : (n i : ℕ) (x : Part) → i < length ps → x ≡ get_or ps i x → (was now : Base) (posts : List Post) → DocsSoFar n i was
+      → HasRows s (rows_of_part kd x).rows posts → docs_in n now ≡ docs_after n was (out-Part x).excluded posts → DocsSoFar n (i + 1) now
   docs_go_on n i x l at was now posts so_far has is =
       let done = map (rows_of_part kd) (take i ps) in
-      is ∙ docs_more s done (rows_of_part kd x) posts has.is n was so_far (out-Part x).excluded (is_excluded s x) ∙ ap (hits kd) (sym (read_more kd ps i x l at))
+      is ∙ docs_more s done (rows_of_part kd x) posts has.is n was so_far (out-Part x).excluded (is_excluded s x)
+      ∙ ap (hits kd) (sym (read_more kd ps i x l at))
 
   pub docs_end : (q : Query) (n i : ℕ) (b : Base) → ps ≡ (out-Query q).parts → length ps ≤ i → DocsSoFar n i b → docs_in n b ≡ hits kd (parts_of kd q)
   docs_end q n i b are l so_far = so_far ∙ ap (λ xs. hits kd (map (rows_of_part kd) xs)) (take_all i ps l ∙ are) ∙ ap (hits kd) (sym (parts_read kd q))

@@ -6,7 +6,8 @@ use Rattle.cs_base.specs.declared.content.doc.Row.{Row}
 use Rattle.cs_base.specs.declared.content.query.Atom.TheFolds.{fold_out-Linked, fold_out-Part}
 use Rattle.cs_base.specs.declared.content.query.Linked.{Linked, out-Linked}
 use Rattle.cs_base.specs.declared.content.query.Part.{Part, out-Part}
-use Rattle.cs_model.specs.Answers.{PartRows, LinkedRows, atom_rows, chain_rows, linked_rows, part_rows, query_parts, rows_of_atom, rows_of_linked, rows_of_chain, rows_of_part, union_of}
+use Rattle.cs_model.specs.Answers.{PartRows, LinkedRows, atom_rows, chain_rows, linked_rows, part_rows, query_parts, rows_of_atom, rows_of_linked}
+use Rattle.cs_model.specs.Answers.{rows_of_chain, rows_of_part, union_of}
 use Rattle.cs_model.specs.Corpus.{Corpus}
 
 module _ (k : Corpus) where

@@ -19,7 +19,7 @@ use Rattle.cs_base.specs.declared.content.doc.Post.{Post}
 use Rattle.cs_base.specs.declared.content.doc.Scored.{Scored}
 use Rattle.cs_base.specs.declared.content.query.Part.{Part, out-Part}
 use Rattle.cs_base.specs.declared.content.scores.TheConstants.{MAX_ROW_SCORE}
-use Rattle.cs_meet.specs.Filters.{keep_docs, drop_docs, is_of}
+use Rattle.cs_meet.specs.Filters.{keep_docs}
 use Rattle.cs_base.specs.content.Orders.{by_doc, AreDocs, AreByDoc}
 use Rattle.cs_meet.specs.Filters as meet
 use Rattle.cs_model.specs.Answers.{PartRows, rows_of_part}
@@ -47,7 +47,8 @@ unfolding IsStrictlySortedBy
 docs_rise [] up = tt
 docs_rise (h ∷ hs) up = (later_docs h hs up.0, docs_rise hs up.1)
 
-later_scored : (f : ℕ → Scored) → ((d : ℕ) → (f d).doc ≡ d) → (d : ℕ) (ds : List ℕ) → AllByRecursion (λ e. nat_cmp d e ≡ Less) ds → AllByRecursion (λ x. by_doc (f d) x ≡ Less) (map f ds)
+later_scored : (f : ℕ → Scored) → ((d : ℕ) → (f d).doc ≡ d) → (d : ℕ) (ds : List ℕ) → AllByRecursion (λ e. nat_cmp d e ≡ Less) ds
+    → AllByRecursion (λ x. by_doc (f d) x ≡ Less) (map f ds)
 later_scored f h d [] up = tt
 later_scored f h d (e ∷ ds) up = (ap (λ x. nat_cmp x (f e).doc) (h d) ∙ ap (nat_cmp d) (h e) ∙ up.0, later_scored f h d ds up.1)
 
@@ -66,11 +67,14 @@ stays p (r ∷ rows) h = ap (λ b. cond b (r ∷ filter p rows) (filter p rows))
 pub all_kept : (n : ℕ) (rows : List Post) → All (λ p. p.doc < n) rows → rows ≡ keep_docs rows (docs_in n base.All)
 all_kept n rows known =
     sym (ap (keep_docs rows) (own_docs with_no_score (λ d. refl) (range_with_len 0 n))
-    ∙ stays (λ r. list_any (meet.is_of_doc r) (range_with_len 0 n)) rows (all_then (λ p. p.doc < n) (λ r. list_any (meet.is_of_doc r) (range_with_len 0 n) ≡ true) (λ r l. in_range 0 n r.doc (omega arith) (omega (arith, l))) rows (recursion_from_All (λ p. p.doc < n) rows known)))
+    ∙ stays (λ r. list_any (meet.is_of_doc r) (range_with_len 0 n)) rows
+    (all_then (λ p. p.doc < n) (λ r. list_any (meet.is_of_doc r) (range_with_len 0 n) ≡ true) (λ r l. in_range 0 n r.doc (omega arith) (omega (arith, l))) rows
+    (recursion_from_All (λ p. p.doc < n) rows known)))
 
 -- ---- scores stay small
 
-pub found_small : (bound d : ℕ) (hs : List Scored) → AllByRecursion (λ h. h.score ≤ bound) hs → unwrap_or (option_map (λ (h : Scored). h.score) (find (λ h. h.doc == d) hs)) 0 ≤ bound
+pub found_small : (bound d : ℕ) (hs : List Scored) → AllByRecursion (λ h. h.score ≤ bound) hs
+    → unwrap_or (option_map (λ (h : Scored). h.score) (find (λ h. h.doc == d) hs)) 0 ≤ bound
 found_small bound d [] h = omega arith
 found_small bound d (x ∷ hs) h =
     elim (x.doc == d) as (λ b. unwrap_or (option_map (λ (h : Scored). h.score) (cond b (Some x) (find (λ h. h.doc == d) hs))) 0 ≤ bound) [

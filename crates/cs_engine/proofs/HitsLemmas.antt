@@ -5,7 +5,8 @@
 --   hits_positive, hits_excluded      the hits that one more part leaves
 --   kept_docs         the documents of the rows in the hits so far
 --   listed_docs       a base that lists the hits so far has their documents
-use Rattle.std.proofs.Common.{◌≡◌, ℕ, ◌==◌, ◌&&◌, ◌||◌, max, Bool, true, false, not, List, [], ◌∷◌, ◌++◌, length, map, get_or, refl, sym, ◌∙◌, ap, subst, if◌then◌else◌}
+use Rattle.std.proofs.Common.{◌≡◌, ℕ, ◌==◌, ◌&&◌, ◌||◌, max, Bool, true, false, not, List, [], ◌∷◌, ◌++◌, length, map, get_or, refl, sym, ◌∙◌, ap, subst}
+use Rattle.std.proofs.Common.{if◌then◌else◌}
 use Rattle.std.specs.Prelude.{filter}
 use Rattle.std.specs.List.{All, AllByRecursion, list_any, list_all}
 use Rattle.std.specs.List.Sorted.{IsStrictlySortedBy}
@@ -23,7 +24,7 @@ use Rattle.cs_base.specs.declared.content.doc.Post.{Post}
 use Rattle.cs_base.specs.declared.content.doc.Scored.{Scored}
 use Rattle.cs_base.proofs.MembersLemmas.{all_then, members_are}
 use Rattle.cs_base.proofs.ListsLemmas.{all_of, filter_twice, and_true, same_number, itself, number_tie, any_tie, filter_through, filter_alike, any_through}
-use Rattle.cs_meet.specs.Filters.{keep_docs, drop_docs, is_of}
+use Rattle.cs_meet.specs.Filters.{keep_docs}
 use Rattle.cs_meet.specs.Filters as meet
 use Rattle.cs_model.specs.Answers.{PartRows, in_doc, is_listed, agrees, hits, pairs, last_rows, greatest_score, scored}
 use Rattle.cs_model.specs.Corpus.{Corpus}
@@ -40,7 +41,8 @@ all_one d done p = list_all-append (agrees d) done (p ∷ []) ∙ ap (λ b. list
 
 pub hits_more : (k : Corpus) (done : List PartRows) (p : PartRows) → hits k (done ++ p ∷ []) ≡ filter (λ d. agrees d p) (hits k done)
 hits_more k done p =
-    filter_alike (λ d. list_all (agrees d) (done ++ p ∷ [])) (λ d. list_all (agrees d) done && agrees d p) (keys k.titles) (all_of (λ d. list_all (agrees d) (done ++ p ∷ []) ≡ (list_all (agrees d) done && agrees d p)) (λ d. all_one d done p) (keys k.titles))
+    filter_alike (λ d. list_all (agrees d) (done ++ p ∷ [])) (λ d. list_all (agrees d) done && agrees d p) (keys k.titles)
+    (all_of (λ d. list_all (agrees d) (done ++ p ∷ []) ≡ (list_all (agrees d) done && agrees d p)) (λ d. all_one d done p) (keys k.titles))
     ∙ filter_twice (λ d. list_all (agrees d) done) (λ d. agrees d p) (keys k.titles)
 
 last_more : (done : List PartRows) (p : PartRows) → last_rows (done ++ p ∷ []) ≡ last_rows (p ∷ [])
@@ -73,7 +75,9 @@ module _ (ws : List (List ℕ)) (posts : List Post) where
       let kept = keep_docs posts ds in
       sym (members_are nat_cmp nat_cmp_total nat_cmp-IsAntisymmetric (filter t ds) (map (λ p. p.doc) kept) (IsStrictlySortedBy-filter nat_cmp t ds up) (λ q.
       let is_q : (k : ℕ) → eq_by_cmp nat_cmp q k ≡ true → t k ≡ t q = λ k e. ap t (same_number k q (sym (number_tie q k) ∙ e)) in
-      let in_q : (p : Post) → eq_by_cmp nat_cmp q p.doc ≡ true → list_any (meet.is_of_doc p) ds ≡ list_any (λ e. e == q) ds = λ p e. ap (λ x. list_any (λ y. y == x) ds) (same_number p.doc q (sym (number_tie q p.doc) ∙ e)) in
+      let in_q : (p : Post) → eq_by_cmp nat_cmp q p.doc ≡ true
+      → list_any (meet.is_of_doc p) ds ≡ list_any (λ e. e == q) ds = λ p e. ap (λ x. list_any (λ y. y == x) ds)
+      (same_number p.doc q (sym (number_tie q p.doc) ∙ e)) in
       any-filter_same (eq_by_cmp nat_cmp q) t (t q) is_q ds
       ∙ ap (λ b. t q && b) (any_tie q ds)
       ∙ and_comm (t q) (list_any (λ e. e == q) ds)
@@ -89,7 +93,8 @@ module _ (ws : List (List ℕ)) (posts : List Post) where
 pub ds_rise : (s : Stock) (done : List PartRows) → AreDocs (hits (corpus_in s) done)
 ds_rise s done =
     let ks = keys (corpus_in s).titles in
-    IsStrictlySortedBy-filter nat_cmp (λ d. list_all (agrees d) done) ks (subst (IsStrictlySortedBy nat_cmp) (sym (keys_numbered s.titles)) (range_rises 0 (length s.titles)))
+    IsStrictlySortedBy-filter nat_cmp (λ d. list_all (agrees d) done) ks
+    (subst (IsStrictlySortedBy nat_cmp) (sym (keys_numbered s.titles)) (range_rises 0 (length s.titles)))
 
 module _ (s : Stock) (done : List PartRows) (p : PartRows) (posts : List Post) (is : rows_at s.words posts ≡ p.rows) where
   abbrev k : Corpus

@@ -8,7 +8,8 @@
 --   behind_fits, kept_behind     what is left behind a reply fits, and is what a request keeps
 --   was_had              an entry was had exactly by the plan Same
 --   kept_is, after_is, good_behind       over the bytes it is the list after the query, and stays good
-use Rattle.std.proofs.Common.{◌≡◌, ℕ, ◌<◌, ◌==◌, Bool, true, false, true≢false, not, List, [], ◌∷◌, length, map, take, cond, get_or, refl, sym, ap, subst, ◌∙◌, arith, Option, Some, None, IsSome, suc, if◌then◌else◌}
+use Rattle.std.proofs.Common.{◌≡◌, ℕ, ◌<◌, ◌==◌, Bool, true, false, true≢false, not, List, [], ◌∷◌, length, map, take, cond, get_or, refl, sym, ap, subst}
+use Rattle.std.proofs.Common.{◌∙◌, arith, Option, Some, None, IsSome, suc, if◌then◌else◌}
 use Rattle.std.specs.Prelude.{All, filter, find, fold, is_some, nat_lt, IfSome}
 use Rattle.std.specs.Option.{option_map, option_and_then, unwrap_or}
 use Rattle.std.specs.List.{AllByRecursion, Contains}
@@ -42,7 +43,8 @@ use Rattle.cs_model_index.specs.Numbered.{rows_at, row_of, word_at}
 use Rattle.cs_model_index.specs.Sections.{file_corpus}
 use Rattle.cs_model_kept.specs.declared.limits.TheConstants.{MAX_ENTRY_SIZE}
 use Rattle.cs_model_kept.specs.Entries.{Entry, EntryOf, entry_at, entry_of, entry_size}
-use Rattle.cs_model_kept.specs.KeptList.{GoodFor, KeptOf, KeptList, after, found, kept_at, kept_by, kept_fresh, plan, plan_by, put_in_front, to_front, used_entry, used_key, is_same}
+use Rattle.cs_model_kept.specs.KeptList.{GoodFor, KeptOf, KeptList, after, found, kept_at, kept_by, kept_fresh, plan, plan_by, put_in_front, to_front}
+use Rattle.cs_model_kept.specs.KeptList.{used_entry, used_key, is_same}
 use Rattle.cs_model_kept.specs.KeptListLaws.{Finds, Serves, before_last}
 use Rattle.cs_model_kept.proofs.FirstParts.{first_parts_stay}
 use Rattle.cs_model_kept.proofs.HeldLemmas.{numbers_front_alike, numbers_keep_alike, numbers_plan_alike, numbers_put_alike, numbers_use_alike}
@@ -51,7 +53,8 @@ use Rattle.cs_model_kept.proofs.NarrowLemmas.{entries_narrow}
 use Rattle.cs_model_kept.proofs.PlanLemmas.{plans_serve}
 use Rattle.cs_model_kept.proofs.ShorterQueries.{shorter_stays}
 use Rattle.cs_model_kept.proofs.TypedLemmas.{none_some}
-use Rattle.cs_engine.specs.Keeping.{FitsQuery, HoldsGood, IsEntryOver, IsKeptBehind, IsKeptEntry, KeepsFitting, became, entries_behind, entry_with, fronted, note_plan}
+use Rattle.cs_engine.specs.Keeping.{FitsQuery, HoldsGood, IsEntryOver, IsKeptBehind, IsKeptEntry, KeepsFitting, became, entries_behind, entry_with, fronted}
+use Rattle.cs_engine.specs.Keeping.{note_plan}
 use Rattle.cs_engine.specs.IndexReading.{stock_of}
 use Rattle.cs_engine.specs.Steps.{EntryFits, end_positive, is_in_base, last_is_positive}
 use Rattle.cs_engine.specs.Stocked.{corpus_in}
@@ -88,12 +91,18 @@ prefix_fits : (i : IndexView) (q : Query) (w : List ℕ) (e : EntryOf Post) → 
 prefix_fits i q w e fits =
     let change : List Chain → List Chain = on_last (λ c. ended_by w (out-Chain c).first (out-Chain c).rest) in
     let is = out-roll-Query (record { parts = on_last (with_chains change) (out-Query q).parts }) in
-    let many : length (out-Query (with_prefix w q)).parts ≡ length (out-Query q).parts = ap (λ x. length x.parts) is ∙ length_changed (with_chains change) (out-Query q).parts in
+    let many : length (out-Query (with_prefix w q)).parts ≡ length (out-Query q).parts = ap (λ x. length x.parts) is
+    ∙ length_changed (with_chains change) (out-Query q).parts in
     let ends : last_is_positive (with_prefix w q) ≡ last_is_positive q = ap (λ x. end_positive x.parts) is ∙ ends_changed change false (out-Query q).parts in
     subst (λ n. EntryFits i (last_is_positive q) n e) many (subst (λ b. EntryFits i b (length (out-Query (with_prefix w q)).parts) e) ends fits)
 
 pub narrowed_fits : (i : IndexView) (q : Query) (t : Post → Bool) (e : EntryOf Post) → FitsQuery i q e → FitsQuery i q (entry_with e.base (filter t e.rows))
-narrowed_fits i q t e fits = record { parts = fits.parts; rows = kept_within i t e.rows fits.rows; base = fits.base; in_base = All-filter t (λ p. is_in_base e.base p ≡ true) e.rows fits.in_base }
+narrowed_fits i q t e fits = record {
+  parts = fits.parts;
+  rows = kept_within i t e.rows fits.rows;
+  base = fits.base;
+  in_base = All-filter t (λ p. is_in_base e.base p ≡ true) e.rows fits.in_base;
+}
 
 -- ---- over each store
 module _ (i : IndexView) (held : KeptOf (EntryOf Post)) (fit : KeepsFitting i held) where
@@ -110,14 +119,17 @@ module _ (i : IndexView) (held : KeptOf (EntryOf Post)) (fit : KeepsFitting i he
     pub extend_fits : used_entry held (keys_of q) Extend ≡ Some e → (1 < length (out-Query q).parts) × FitsQuery i (before_last q) e.1
     extend_fits h = cases (nat_lt 1 (length (out-Query q).parts)) refl h
       where
-        cases : (b : Bool) → nat_lt 1 (length (out-Query q).parts) ≡ b → option_and_then (found held) (if b then Some (canonical (before_last q)) else None) ≡ Some e → (1 < length (out-Query q).parts) × FitsQuery i (before_last q) e.1
+        cases : (b : Bool) → nat_lt 1 (length (out-Query q).parts) ≡ b
+            → option_and_then (found held) (if b then Some (canonical (before_last q)) else None) ≡ Some e
+            → (1 < length (out-Query q).parts) × FitsQuery i (before_last q) e.1
         cases true l h = (grind (arith, nat_tests), found_fits (canonical (before_last q)) e (before_last q) h refl (first_parts_stay q g))
         cases false l h = none_some e h
 
     pub narrow_fits : (cut : ℕ) → used_entry held (keys_of q) (Narrow cut) ≡ Some e → IsSome (last_prefix q) × FitsQuery i q e.1
     narrow_fits cut h = by_prefix (last_prefix q) refl h
       where
-        by_found : (p : List ℕ) → last_prefix q ≡ Some p → (o : Option Narrower) → find (λ n. n.cut == cut) (map (narrower q) (shorter_words p)) ≡ o → option_and_then (found held) (option_map (λ n. n.key) o) ≡ Some e → FitsQuery i q e.1
+        by_found : (p : List ℕ) → last_prefix q ≡ Some p → (o : Option Narrower) → find (λ n. n.cut == cut) (map (narrower q) (shorter_words p)) ≡ o
+            → option_and_then (found held) (option_map (λ n. n.key) o) ≡ Some e → FitsQuery i q e.1
         by_found p l None is h = none_some e h
         by_found p l (Some n) is h =
             let P : Narrower → Type 0 = λ n. (w : List ℕ) × Contains (shorter_words p) w × (n ≡ narrower q w) in
@@ -126,7 +138,8 @@ module _ (i : IndexView) (held : KeptOf (EntryOf Post)) (fit : KeepsFitting i he
             let f = find_all P (λ n. n.cut == cut) (map (narrower q) ws) n (recursion_from_All P (map (narrower q) ws) each) is in
             prefix_fits i q f.0.0 e.1 (found_fits n.key e (with_prefix f.0.0 q) h (ap (λ (x : Narrower). x.key) f.0.2) (shorter_stays q p f.0.0 g l f.0.1).0)
 
-        by_prefix : (o : Option (List ℕ)) → last_prefix q ≡ o → option_and_then (found held) (option_map (λ n. n.key) (find (λ n. n.cut == cut) (narrowers q o))) ≡ Some e → IsSome o × FitsQuery i q e.1
+        by_prefix : (o : Option (List ℕ)) → last_prefix q ≡ o
+            → option_and_then (found held) (option_map (λ n. n.key) (find (λ n. n.cut == cut) (narrowers q o))) ≡ Some e → IsSome o × FitsQuery i q e.1
         by_prefix None l h = none_some e h
         by_prefix (Some p) l h = (refl, by_found p l (find (λ n. n.cut == cut) (map (narrower q) (shorter_words p))) refl h)
 
@@ -142,10 +155,12 @@ module _ (k : Corpus) (ws : List (List ℕ)) (held : KeptOf (EntryOf Post)) (q :
   abbrev told : KeptList
   told = kept_at ws held
 
-  finds_told : (by_plan : Plan) (r : Query) (e : List ℕ × EntryOf Post) → Finds k told q by_plan r → used_entry held (keys_of q) by_plan ≡ Some e → entry_at ws e.1 ≡ entry_of k r
+  finds_told : (by_plan : Plan) (r : Query) (e : List ℕ × EntryOf Post) → Finds k told q by_plan r → used_entry held (keys_of q) by_plan ≡ Some e
+      → entry_at ws e.1 ≡ entry_of k r
   finds_told by_plan r e f used =
       let through : Some (e.0, entry_at ws e.1) ≡ Some (canonical r, entry_of k r) =
-      ap (option_map (λ x. (x.0, entry_at ws x.1))) (sym used) ∙ sym (numbers_use_alike ws held (keys_of q) by_plan) ∙ ap (option_and_then (found told)) f.key ∙ f.entry in
+      ap (option_map (λ x. (x.0, entry_at ws x.1))) (sym used) ∙ sym (numbers_use_alike ws held (keys_of q) by_plan) ∙ ap (option_and_then (found told)) f.key
+      ∙ f.entry in
       ap (λ (x : List ℕ × Entry). x.1) (unsome (e.0, entry_at ws e.1) (canonical r, entry_of k r) through)
 
 module _ (b : List ℕ) (i : IndexView) (held : KeptOf (EntryOf Post)) (good : HoldsGood b i held) (q : Query) (g : IsOfGrammar q) where
@@ -154,7 +169,8 @@ module _ (b : List ℕ) (i : IndexView) (held : KeptOf (EntryOf Post)) (good : H
 
   serves_by : (by_plan : Plan) → by_plan ≡ plan_by held (keys_of q) → Serves c (kept_at i.words held) q by_plan
   unfolding plan
-  serves_by by_plan is = subst (Serves c (kept_at i.words held) q) (numbers_plan_alike i.words held (keys_of q) ∙ sym is) (plans_serve c (kept_at i.words held) q good g)
+  serves_by by_plan is = subst (Serves c (kept_at i.words held) q) (numbers_plan_alike i.words held (keys_of q) ∙ sym is)
+      (plans_serve c (kept_at i.words held) q good g)
 
   module _ (e : List ℕ × EntryOf Post) where
     pub same_told : Same ≡ plan_by held (keys_of q) → used_entry held (keys_of q) Same ≡ Some e → IsEntryOver b i q e.1
@@ -163,7 +179,8 @@ module _ (b : List ℕ) (i : IndexView) (held : KeptOf (EntryOf Post)) (good : H
     pub extend_told : Extend ≡ plan_by held (keys_of q) → used_entry held (keys_of q) Extend ≡ Some e → IsEntryOver b i (before_last q) e.1
     extend_told is used = finds_told c i.words held q Extend (before_last q) e (serves_by Extend is).3 used
 
-    pub narrow_told : (cut : ℕ) → Narrow cut ≡ plan_by held (keys_of q) → used_entry held (keys_of q) (Narrow cut) ≡ Some e → (p : List ℕ) → last_prefix q ≡ Some p → IsEntryOver b i q (entry_with e.1.base (filter (λ post. begins p (word_at i.words post.word)) e.1.rows))
+    pub narrow_told : (cut : ℕ) → Narrow cut ≡ plan_by held (keys_of q) → used_entry held (keys_of q) (Narrow cut) ≡ Some e → (p : List ℕ)
+        → last_prefix q ≡ Some p → IsEntryOver b i q (entry_with e.1.base (filter (λ post. begins p (word_at i.words post.word)) e.1.rows))
     narrow_told cut is used p typed =
         let s = serves_by (Narrow cut) is in
         let same : s.0 ≡ p = unsome s.0 p (sym s.2 ∙ typed) in
@@ -174,7 +191,8 @@ module _ (b : List ℕ) (i : IndexView) (held : KeptOf (EntryOf Post)) (good : H
         ∙ ap (λ (x : Entry). filter (λ r. begins p r.word) x.rows) own
         ∙ ap (λ v. filter (λ r. begins v r.word) (entry_of c (with_prefix s.1 q)).rows) (sym same) ∙ sym law.0 in
         let base : e.1.base ≡ (entry_of c q).base = ap (λ (x : Entry). x.base) own ∙ sym law.1 in
-        ap (λ (rs : List Row). let x : Entry = record { base = e.1.base; rows = rs } in x) rows ∙ ap (λ (x : Base). let y : Entry = record { base = x; rows = (entry_of c q).rows } in y) base
+        ap (λ (rs : List Row). let x : Entry = record { base = e.1.base; rows = rs } in x) rows
+        ∙ ap (λ (x : Base). let y : Entry = record { base = x; rows = (entry_of c q).rows } in y) base
 
 -- ---- what is left behind a reply
 front_fits : (i : IndexView) (held : KeptOf (EntryOf Post)) (o : Option (List ℕ)) → KeepsFitting i held → KeepsFitting i (to_front held o)
@@ -184,12 +202,14 @@ front_fits i held (Some key) fit =
     let b : List ℕ × EntryOf Post → Bool = λ e. not (bytes_eq e.0 key) in
     All-append (IsKeptEntry i) (filter a held) (filter b held) (All-filter a (IsKeptEntry i) held fit) (All-filter b (IsKeptEntry i) held fit)
 
-put_fits : (i : IndexView) (room : ℕ) (was : Kept) (e : List ℕ × EntryOf Post) (held : KeptOf (EntryOf Post)) → IsKeptEntry i e → KeepsFitting i held → KeepsFitting i (put_in_front room was e held)
+put_fits : (i : IndexView) (room : ℕ) (was : Kept) (e : List ℕ × EntryOf Post) (held : KeptOf (EntryOf Post)) → IsKeptEntry i e → KeepsFitting i held
+    → KeepsFitting i (put_in_front room was e held)
 put_fits i room kept.Had e held own fit = fit
 put_fits i room kept.Kept e held own fit = All-take (IsKeptEntry i) room (e ∷ held) (All-cons (IsKeptEntry i) e held own fit)
 put_fits i room kept.TooLarge e held own fit = fit
 
-module _ (i : IndexView) (q : Query) (g : IsOfGrammar q) (a : AnswerList) (keys : Keys) (are : keys ≡ keys_of q) (by_plan : Plan) (is : by_plan ≡ plan_by a.entries keys) where
+module _ (i : IndexView) (q : Query) (g : IsOfGrammar q) (a : AnswerList) (keys : Keys) (are : keys ≡ keys_of q) (by_plan : Plan)
+    (is : by_plan ≡ plan_by a.entries keys) where
   abbrev front : KeptOf (EntryOf Post)
   front = to_front a.entries (used_key keys by_plan)
 
@@ -207,9 +227,11 @@ module _ (i : IndexView) (q : Query) (g : IsOfGrammar q) (a : AnswerList) (keys 
 
   pub behind_fits : KeepsFitting i a.entries → (o : Option (EntryOf Post)) → IfSome o (FitsQuery i q) → KeepsFitting i (entries_behind a keys by_plan o)
   behind_fits fit None own = front_fits i a.entries (used_key keys by_plan) fit
-  behind_fits fit (Some e) own = put_fits i a.capacity (kept_fresh e) (keys.same, e) front (own_entry e own) (front_fits i a.entries (used_key keys by_plan) fit)
+  behind_fits fit (Some e) own = put_fits i a.capacity (kept_fresh e) (keys.same, e) front (own_entry e own)
+      (front_fits i a.entries (used_key keys by_plan) fit)
 
-  put_behind : (was : Kept) (e : EntryOf Post) → FitsQuery i q e → (new : AnswerList) → new.entries ≡ put_in_front a.capacity was (keys.same, e) front → IsKeptBehind i q was a new
+  put_behind : (was : Kept) (e : EntryOf Post) → FitsQuery i q e → (new : AnswerList) → new.entries ≡ put_in_front a.capacity was (keys.same, e) front
+      → IsKeptBehind i q was a new
   put_behind kept.Had e own new h = h ∙ is_fronted
   put_behind kept.Kept e own new h = (
     e,
@@ -218,7 +240,8 @@ module _ (i : IndexView) (q : Query) (g : IsOfGrammar q) (a : AnswerList) (keys 
   )
   put_behind kept.TooLarge e own new h = h ∙ is_fronted
 
-  pub kept_behind : (o : Option (EntryOf Post)) → IfSome o (FitsQuery i q) → (new : AnswerList) → new.entries ≡ entries_behind a keys by_plan o → IsKeptBehind i q (became by_plan o) a new
+  pub kept_behind : (o : Option (EntryOf Post)) → IfSome o (FitsQuery i q) → (new : AnswerList) → new.entries ≡ entries_behind a keys by_plan o
+      → IsKeptBehind i q (became by_plan o) a new
   kept_behind None own new h = elim (is_same by_plan) as (λ s. IsKeptBehind i q (if s then kept.Had else kept.TooLarge) a new) [
     | true ↦ h ∙ is_fronted
     | false ↦ h ∙ is_fronted
@@ -232,7 +255,8 @@ never_had e h = cases (nat_lt MAX_ENTRY_SIZE (entry_size e)) h
     cases true h = cc
     cases false h = cc
 
-pub was_had : (by_plan : Plan) (o : Option (EntryOf Post)) → (is_same by_plan ≡ true → is_some o ≡ false) → (by_plan ≡ Same → became by_plan o ≡ kept.Had) × (became by_plan o ≡ kept.Had → by_plan ≡ Same)
+pub was_had : (by_plan : Plan) (o : Option (EntryOf Post)) → (is_same by_plan ≡ true → is_some o ≡ false)
+    → (by_plan ≡ Same → became by_plan o ≡ kept.Had) × (became by_plan o ≡ kept.Had → by_plan ≡ Same)
 was_had Same None h = (λ _. refl, λ _. refl)
 was_had (Narrow cut) None h = (λ same. absurd (let no : Narrow cut ≡ Same = same in cc), λ had. absurd (let no : kept.TooLarge ≡ kept.Had = had in cc))
 was_had Extend None h = (λ same. absurd (let no : Extend ≡ Same = same in cc), λ had. absurd (let no : kept.TooLarge ≡ kept.Had = had in cc))
@@ -244,7 +268,9 @@ module _ (b : List ℕ) (i : IndexView) (q : Query) where
   pub fresh_is : (e : EntryOf Post) → IsEntryOver b i q e → kept_fresh e ≡ kept_fresh (entry_of (file_corpus b) q)
   fresh_is e own = sym (numbers_keep_alike i.words e) ∙ ap (λ (x : Entry). kept_fresh x) own
 
-  pub kept_is : (by_plan : Plan) (o : Option (EntryOf Post)) → (is_same by_plan ≡ true → is_some o ≡ false) → (is_some o ≡ false → is_same by_plan ≡ false → kept_fresh (entry_of (file_corpus b) q) ≡ kept.TooLarge) → IfSome o (IsEntryOver b i q) → became by_plan o ≡ kept_by by_plan (entry_of (file_corpus b) q)
+  pub kept_is : (by_plan : Plan) (o : Option (EntryOf Post)) → (is_same by_plan ≡ true → is_some o ≡ false)
+      → (is_some o ≡ false → is_same by_plan ≡ false → kept_fresh (entry_of (file_corpus b) q) ≡ kept.TooLarge) → IfSome o (IsEntryOver b i q)
+      → became by_plan o ≡ kept_by by_plan (entry_of (file_corpus b) q)
   kept_is Same None h large own = refl
   kept_is Same (Some e) h large own = absurd (true≢false (h refl))
   kept_is (Narrow cut) None h large own = sym (large refl refl)
@@ -254,7 +280,8 @@ module _ (b : List ℕ) (i : IndexView) (q : Query) where
   kept_is Fresh None h large own = sym (large refl refl)
   kept_is Fresh (Some e) h large own = fresh_is e own
 
-module _ (b : List ℕ) (i : IndexView) (q : Query) (g : IsOfGrammar q) (a : AnswerList) (keys : Keys) (are : keys ≡ keys_of q) (by_plan : Plan) (is : by_plan ≡ plan_by a.entries keys) where
+module _ (b : List ℕ) (i : IndexView) (q : Query) (g : IsOfGrammar q) (a : AnswerList) (keys : Keys) (are : keys ≡ keys_of q) (by_plan : Plan)
+    (is : by_plan ≡ plan_by a.entries keys) where
   abbrev ws : List (List ℕ)
   ws = i.words
 
@@ -272,14 +299,17 @@ module _ (b : List ℕ) (i : IndexView) (q : Query) (g : IsOfGrammar q) (a : Ans
   now = to_front held (used_key (keys_of q) (plan held q))
 
   fronts_alike : kept_at ws (to_front a.entries (used_key keys by_plan)) ≡ now
-  fronts_alike = sym (numbers_front_alike ws a.entries (used_key keys by_plan)) ∙ ap (λ x. to_front held (used_key x by_plan)) are ∙ ap (λ p. to_front held (used_key (keys_of q) p)) plan_is
+  fronts_alike = sym (numbers_front_alike ws a.entries (used_key keys by_plan)) ∙ ap (λ x. to_front held (used_key x by_plan)) are
+      ∙ ap (λ p. to_front held (used_key (keys_of q) p)) plan_is
 
-  pub after_is : (o : Option (EntryOf Post)) → IfSome o (IsEntryOver b i q) → kept_at ws (entries_behind a keys by_plan o) ≡ after held a.capacity q (became by_plan o) k
+  pub after_is : (o : Option (EntryOf Post)) → IfSome o (IsEntryOver b i q)
+      → kept_at ws (entries_behind a keys by_plan o) ≡ after held a.capacity q (became by_plan o) k
   unfolding after
-  after_is None own = elim (is_same by_plan) as (λ s. kept_at ws (entries_behind a keys by_plan None) ≡ after held a.capacity q (if s then kept.Had else kept.TooLarge) k) [
-    | true ↦ fronts_alike
-    | false ↦ fronts_alike
-  ]
+  after_is None own = elim (is_same by_plan)
+      as (λ s. kept_at ws (entries_behind a keys by_plan None) ≡ after held a.capacity q (if s then kept.Had else kept.TooLarge) k) [
+        | true ↦ fronts_alike
+        | false ↦ fronts_alike
+      ]
   after_is (Some e) own =
       let was = kept_fresh e in
       sym (numbers_put_alike ws (to_front a.entries (used_key keys by_plan)) a.capacity was keys.same e)
@@ -295,5 +325,6 @@ module _ (b : List ℕ) (i : IndexView) (q : Query) (g : IsOfGrammar q) (a : Ans
   is_new None h was same = absurd (not_kept (is_same by_plan) was)
   is_new (Some e) h was same = true≢false (h (ap is_same (plan_is ∙ same)))
 
-  pub good_behind : HoldsGood b i a.entries → (o : Option (EntryOf Post)) → (is_same by_plan ≡ true → is_some o ≡ false) → IfSome o (IsEntryOver b i q) → HoldsGood b i (entries_behind a keys by_plan o)
+  pub good_behind : HoldsGood b i a.entries → (o : Option (EntryOf Post)) → (is_same by_plan ≡ true → is_some o ≡ false) → IfSome o (IsEntryOver b i q)
+      → HoldsGood b i (entries_behind a keys by_plan o)
   good_behind good o h own = subst (GoodFor k) (sym (after_is o own)) (lists_stay_good k held a.capacity q (became by_plan o) good g (is_new o h))

@@ -2,9 +2,9 @@
 --
 --   same_lent, extend_lent, narrow_lent      the entry that is lent is in range, and over the bytes the one that the plan speaks of
 --   narrow_typed         a prefix is being typed, and the rows that are lent are in range
---   due_reads            the reads for a query's parts and those behind them
---   all_reads            all of them at once
---   err_due              where there is no reply
+--   err_due              the titles that may be read where there is no reply
+--   kept_reads, all_reads      the reads of a plan that reads no part, and of one that reads some
+--   kept_reads_err, all_reads_err      the same where there is no reply
 use Rattle.std.proofs.Common.{◌≡◌, ℕ, ◌+◌, ◌<◌, List, length, refl, sym, ap, subst, ◌∙◌, arith, Option, Some, None, IsSome}
 use Rattle.std.specs.Prelude.{filter, IfSome, Result, Ok, Err}
 use Rattle.std.specs.Result.{IsErr}
@@ -32,9 +32,11 @@ use Rattle.cs_engine.specs.IndexReading.{AreWithin}
 use Rattle.cs_engine.specs.declared.fault.AskFault.{AskFault}
 use Rattle.cs_engine.proofs.KeepingLemmas.{extend_fits, extend_told, narrow_fits, narrow_told, narrowed_fits, same_fits, same_told}
 use Rattle.cs_engine.proofs.PlansLemmas.{Viewed, is_used, viewed}
+use Rattle.cs_engine.proofs.WalkLemmas.{within_more}
 
 -- ---- what is lent
-module _ (i : IndexView) (held : KeptOf (EntryOf Post)) (fit : KeepsFitting i held) (q : Query) (g : IsOfGrammar q) (keys : Keys) (are : keys ≡ keys_of q) (by_plan : Plan) (is : by_plan ≡ plan_by held keys) (base : Base) (rows : List Post)
+module _ (i : IndexView) (held : KeptOf (EntryOf Post)) (fit : KeepsFitting i held) (q : Query) (g : IsOfGrammar q) (keys : Keys) (are : keys ≡ keys_of q)
+    (by_plan : Plan) (is : by_plan ≡ plan_by held keys) (base : Base) (rows : List Post)
     (b : IfSome (used_entry held keys by_plan) (λ e. base ≡ e.1.base)) (r : IfSome (used_entry held keys by_plan) (λ e. rows ≡ e.1.rows)) where
   abbrev lent : EntryOf Post
   lent = entry_with base rows
@@ -58,7 +60,8 @@ module _ (i : IndexView) (held : KeptOf (EntryOf Post)) (fit : KeepsFitting i he
         λ bytes good. subst (IsEntryOver bytes i q) v.same (same_told bytes i held good q g v.kept (plan_of Same same) v.found),
       )
 
-  pub extend_lent : by_plan ≡ Extend → (1 < length (out-Query q).parts) × FitsQuery i (before_last q) lent × ((bytes : List ℕ) → HoldsGood bytes i held → IsEntryOver bytes i (before_last q) lent)
+  pub extend_lent : by_plan ≡ Extend → (1 < length (out-Query q).parts) × FitsQuery i
+      (before_last q) lent × ((bytes : List ℕ) → HoldsGood bytes i held → IsEntryOver bytes i (before_last q) lent)
   extend_lent same =
       let v = lent_by Extend same (λ f. let no : Extend ≡ Fresh = f in cc) in
       let fits = extend_fits i held fit q g v.kept v.found in (
@@ -76,18 +79,21 @@ module _ (i : IndexView) (held : KeptOf (EntryOf Post)) (fit : KeepsFitting i he
       let fits = narrow_fits i held fit q g v.kept cut v.found in
       (fits.0, (subst (FitsQuery i q) v.same fits.1).rows)
 
-  pub narrow_lent : (cut : ℕ) → by_plan ≡ Narrow cut → (e : EntryOf Post) → e.base ≡ base → IfSome (last_prefix q) (λ p. e.rows ≡ filter (λ post. begins p (word_at i.words post.word)) rows)
+  pub narrow_lent : (cut : ℕ) → by_plan ≡ Narrow cut → (e : EntryOf Post) → e.base ≡ base
+      → IfSome (last_prefix q) (λ p. e.rows ≡ filter (λ post. begins p (word_at i.words post.word)) rows)
       → FitsQuery i q e × ((bytes : List ℕ) → HoldsGood bytes i held → IsEntryOver bytes i q e)
   narrow_lent cut same e base_is rows_are = cases (last_prefix q) refl (narrow_typed cut same).0 rows_are
     where
-      cases : (o : Option (List ℕ)) → last_prefix q ≡ o → IsSome o → IfSome o (λ p. e.rows ≡ filter (λ post. begins p (word_at i.words post.word)) rows) → FitsQuery i q e × ((bytes : List ℕ) → HoldsGood bytes i held → IsEntryOver bytes i q e)
+      cases : (o : Option (List ℕ)) → last_prefix q ≡ o → IsSome o → IfSome o (λ p. e.rows ≡ filter (λ post. begins p (word_at i.words post.word)) rows)
+          → FitsQuery i q e × ((bytes : List ℕ) → HoldsGood bytes i held → IsEntryOver bytes i q e)
       cases None typed some h = absurd cc
       cases (Some p) typed some h =
           let v = lent_by (Narrow cut) same (not_fresh cut) in
           let keeps : Post → _ = λ post. begins p (word_at i.words post.word) in
           let fits = (narrow_fits i held fit q g v.kept cut v.found).1 in
           let whole : entry_with v.kept.1.base (filter keeps v.kept.1.rows) ≡ e =
-          ap (λ (x : EntryOf Post). entry_with x.base (filter keeps x.rows)) v.same ∙ ap (entry_with base) (sym h) ∙ ap (λ x. entry_with x e.rows) (sym base_is) in (
+          ap (λ (x : EntryOf Post). entry_with x.base (filter keeps x.rows)) v.same ∙ ap (entry_with base) (sym h)
+          ∙ ap (λ x. entry_with x e.rows) (sym base_is) in (
             subst (FitsQuery i q) whole (narrowed_fits i q keeps v.kept.1 fits),
             λ bytes good. subst (IsEntryOver bytes i q) whole (narrow_told bytes i held good q g v.kept cut (plan_of (Narrow cut) same) v.found p typed),
           )
@@ -97,25 +103,27 @@ due_is : (v : Division) (r : Request) (by_plan : Plan) (titles : ℕ) → due v 
 unfolding due
 due_is v r by_plan titles = refl
 
-pub due_reads : (v : Division) (r : Request) (by_plan own : Plan) (titles before mid now : ℕ) → by_plan ≡ own → ReadsWithin (met_by v r.query own) before mid → ReadsWithin (titles + met_of_facets v r.facets) mid now → ReadsWithin (due v r by_plan titles) before now
-due_reads v r by_plan own titles before mid now same a b =
-    let all = due_is v r by_plan titles ∙ ap (λ p. titles + met_of_facets v r.facets + met_by v r.query p) same in
-    let a_later = a.later in
-    let a_within = a.within in
-    let b_later = b.later in
-    let b_within = b.within in
-    record { later = omega (arith, a_later, b_later); within = omega (arith, a_within, b_within, all) }
-
-pub all_reads : (v : Division) (r : Request) (by_plan own : Plan) (titles before now : ℕ) → by_plan ≡ own → ReadsWithin (titles + met_of_facets v r.facets + met_by v r.query own) before now → ReadsWithin (due v r by_plan titles) before now
-all_reads v r by_plan own titles before now same a =
-    let all = due_is v r by_plan titles ∙ ap (λ p. titles + met_of_facets v r.facets + met_by v r.query p) same in
-    let a_later = a.later in
-    let a_within = a.within in
-    record { later = a_later; within = omega (arith, a_within, all) }
-
-pub no_reads : (n now : ℕ) → ReadsWithin n now now
-no_reads n now = record { later = omega arith; within = omega arith }
-
 pub err_due : {T : Type 0} (q : Request) (r : Result (Reply × T) AskFault) → IsErr r → titles_asked q r ≡ q.hits
 err_due q (Ok r) h = absurd cc
 err_due q (Err e) h = refl
+
+module _ (v : Division) (q : Request) (by_plan : Plan) {before now : ℕ} where
+  pub kept_reads : (titles : ℕ) → ReadsWithin (titles + met_of_facets v q.facets) before now → ReadsWithin (due v q by_plan titles) before now
+  kept_reads titles a = let all = due_is v q by_plan titles in within_more a (omega (arith, all))
+
+  pub all_reads : (own : Plan) → by_plan ≡ own → (titles : ℕ) → ReadsWithin (titles + met_of_facets v q.facets + met_by v q.query own) before now
+      → ReadsWithin (due v q by_plan titles) before now
+  all_reads own same titles a =
+      let all = due_is v q by_plan titles ∙ ap (λ p. titles + met_of_facets v q.facets + met_by v q.query p) same in
+      within_more a (omega (arith, all))
+
+  module _ {T : Type 0} (r : Result (Reply × T) AskFault) (is : IsErr r) where
+    told_due : ReadsWithin (due v q by_plan q.hits) before now → ReadsWithin (due v q by_plan (titles_asked q r)) before now
+    told_due = subst (λ t. ReadsWithin (due v q by_plan t) before now) (sym (err_due q r is))
+
+    pub kept_reads_err : ReadsWithin (q.hits + met_of_facets v q.facets) before now → ReadsWithin (due v q by_plan (titles_asked q r)) before now
+    kept_reads_err a = told_due (kept_reads q.hits a)
+
+    pub all_reads_err : (own : Plan) → by_plan ≡ own → ReadsWithin (q.hits + met_of_facets v q.facets + met_by v q.query own) before now
+        → ReadsWithin (due v q by_plan (titles_asked q r)) before now
+    all_reads_err own same a = told_due (all_reads own same q.hits a)

@@ -2,7 +2,7 @@
 --
 --   chosen_entry, entry_fits     the entry of the rows in order
 --   large_entry, is_large        where it is larger than may be kept
---   chosen_table, loose_table, found_table    the table of rows, in order, in any order and by blocks, is that of the query
+--   loose_table, found_table    the table of rows, in any order and by blocks, is that of the query
 use Rattle.std.proofs.Common.{◌≡◌, ℕ, ◌+◌, ◌-◌, ◌<◌, Bool, true, false, List, length, take, refl, sym, ap, subst, ◌∙◌, arith, if◌then◌else◌}
 use Rattle.std.specs.Prelude.{All, filter, nat_lt}
 use Rattle.std.specs.List.{list_any}
@@ -40,32 +40,39 @@ use Rattle.cs_engine.proofs.RowsInRange.{kept_within}
 large_true : (m n : ℕ) → m < n → nat_lt m n ≡ true
 large_true m n lt = grind (arith, nat_tests)
 
-module _ (i : IndexView) (q : Query) (hits : Base) (lo hi : ℕ) (asks : AreLastWords i q hits lo hi) (listed : List Bool) (has : AreListed i.docs hits listed) where
+module _ (i : IndexView) (q : Query) (hits : Base) (lo hi : ℕ) (asks : AreLastWords i q hits lo hi) (listed : List Bool)
+    (has : AreListed i.docs hits listed) where
   pub entry_fits : (rows : List Post) → AreWithin i rows → All (λ p. in_listed listed p ≡ true) rows → FitsQuery i q (entry_with hits rows)
   entry_fits rows w passed =
       let n = length (out-Query q).parts in
       let many : n - 1 + 1 ≡ n = (let some = asks.some in omega (arith, some)) in
       let fits = listed_fits i hits listed has rows w passed (n - 1) asks.base in
-      subst (λ m. EntryFits i (last_is_positive q) m (entry_with hits rows)) many (subst (λ p. EntryFits i p (n - 1 + 1) (entry_with hits rows)) (sym asks.positive) fits)
+      subst (λ m. EntryFits i (last_is_positive q) m (entry_with hits rows)) many
+      (subst (λ p. EntryFits i p (n - 1 + 1) (entry_with hits rows)) (sym asks.positive) fits)
 
   module _ (b : List ℕ) (stands : StandsFor b i) (is : IsIndex i) (by : IsEntryByWords b i q hits lo hi) where
     abbrev chosen : List Post
     chosen = filter (in_listed listed) (filter (is_between lo hi) (stock_of b).posts)
 
-    pub chosen_entry : (posts : List Post) → posts ≡ filter (in_listed listed) (filter (is_between lo hi) (stock_of b).posts) → IsEntryOver b i q (entry_with hits posts)
+    pub chosen_entry : (posts : List Post) → posts ≡ filter (in_listed listed) (filter (is_between lo hi) (stock_of b).posts)
+        → IsEntryOver b i q (entry_with hits posts)
     chosen_entry posts are = subst (IsEntryOver b i q) (sym (listed_entry i hits listed has b stands is lo hi posts are)) by
 
-    pub large_entry : (posts : List Post) → posts ≡ filter (in_listed listed) (filter (is_between lo hi) (stock_of b).posts) → MAX_ENTRY_SIZE < length posts + listed_count hits → kept_fresh (entry_of (file_corpus b) q) ≡ kept.TooLarge
+    pub large_entry : (posts : List Post) → posts ≡ filter (in_listed listed) (filter (is_between lo hi) (stock_of b).posts)
+        → MAX_ENTRY_SIZE < length posts + listed_count hits → kept_fresh (entry_of (file_corpus b) q) ≡ kept.TooLarge
     large_entry posts are lt =
         sym (fresh_is b i q (entry_with hits posts) (chosen_entry posts are))
         ∙ ap (λ x. if x then kept.TooLarge else kept.Kept) (large_true MAX_ENTRY_SIZE (length posts + listed_count hits) lt)
 
-    pub chosen_table : (posts : List Post) → posts ≡ filter (in_listed listed) (filter (is_between lo hi) (stock_of b).posts) → (cut : ℕ) (found : List Scored) (t : Table) → found ≡ scores hits posts → t.first ≡ take cut (post_table posts) → t.total ≡ length (post_table posts)
+    chosen_table : (posts : List Post) → posts ≡ filter (in_listed listed) (filter (is_between lo hi) (stock_of b).posts)
+        → (cut : ℕ) (found : List Scored) (t : Table) → found ≡ scores hits posts → t.first ≡ take cut (post_table posts) → t.total ≡ length (post_table posts)
         → IsTableFor i b q cut (base.Listed found) t
     chosen_table posts are cut found t found_are first total = record {
       posts = posts;
-      found = found_by_entry i q (entry_with hits posts) true (sym asks.positive) (base.Listed found) (ap base.Listed found_are) b stands is (chosen_entry posts are);
-      within = subst (AreWithin i) (sym are) (kept_within i (in_listed listed) (filter (is_between lo hi) (stock_of b).posts) (kept_within i (is_between lo hi) (stock_of b).posts (stock_within b i stands is)));
+      found = found_by_entry i q (entry_with hits posts) true (sym asks.positive) (base.Listed found) (ap base.Listed found_are) b stands is
+          (chosen_entry posts are);
+      within = subst (AreWithin i) (sym are) (kept_within i (in_listed listed) (filter (is_between lo hi) (stock_of b).posts)
+          (kept_within i (is_between lo hi) (stock_of b).posts (stock_within b i stands is)));
       first = first;
       total = total;
     }
@@ -74,19 +81,23 @@ module _ (i : IndexView) (q : Query) (hits : Base) (lo hi : ℕ) (asks : AreLast
       pub is_large : MAX_ENTRY_SIZE < length rows + listed_count hits → kept_fresh (entry_of (file_corpus b) q) ≡ kept.TooLarge
       is_large lt = large_entry chosen refl (subst (λ n. MAX_ENTRY_SIZE < n + listed_count hits) a.long lt)
 
-      pub loose_table : (cut : ℕ) (found : List Scored) (t : Table) → found ≡ scores hits rows → t.first ≡ take cut (post_table rows) → t.total ≡ length (post_table rows) → IsTableFor i b q cut (base.Listed found) t
+      pub loose_table : (cut : ℕ) (found : List Scored) (t : Table) → found ≡ scores hits rows → t.first ≡ take cut (post_table rows)
+          → t.total ≡ length (post_table rows) → IsTableFor i b q cut (base.Listed found) t
       loose_table cut found t are first total =
-          chosen_table chosen refl cut found t (are ∙ alike_scores hits rows chosen a.alike) (first ∙ ap (take cut) (table_alike rows chosen a.alike)) (total ∙ ap length (table_alike rows chosen a.alike))
+          chosen_table chosen refl cut found t (are ∙ alike_scores hits rows chosen a.alike) (first ∙ ap (take cut) (table_alike rows chosen a.alike))
+          (total ∙ ap length (table_alike rows chosen a.alike))
 
 -- what is found by blocks
-pub found_table : (i : IndexView) (q : Query) (hits : Base) (lo hi : ℕ) → AreLastWords i q hits lo hi → (b : List ℕ) → StandsFor b i → IsIndex i → IsEntryByWords b i q hits lo hi → (cut : ℕ) (found : List Scored) (t : Table)
+pub found_table : (i : IndexView) (q : Query) (hits : Base) (lo hi : ℕ) → AreLastWords i q hits lo hi → (b : List ℕ) → StandsFor b i → IsIndex i
+    → IsEntryByWords b i q hits lo hi → (cut : ℕ) (found : List Scored) (t : Table)
     → HasFound hits (posts_after i.docs hits false (filter (is_between lo hi) (stock_of b).posts)).rows cut found t → IsTableFor i b q cut (base.Listed found) t
 found_table i q hits lo hi asks b stands is by cut found t f =
     let posts = filter (is_between lo hi) (stock_of b).posts in
     record {
       posts = (posts_after i.docs hits false posts).rows;
       found = found_by_entry i q (posts_after i.docs hits false posts) true (sym asks.positive) (base.Listed found) (ap base.Listed f.hits_are) b stands is by;
-      within = kept_within i (λ r. list_any (is_of_doc r) (docs_in i.docs hits)) posts (kept_within i (is_between lo hi) (stock_of b).posts (stock_within b i stands is));
+      within = kept_within i (λ r. list_any (is_of_doc r) (docs_in i.docs hits)) posts
+          (kept_within i (is_between lo hi) (stock_of b).posts (stock_within b i stands is));
       first = f.first;
       total = f.total;
     }

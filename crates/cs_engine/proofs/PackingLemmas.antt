@@ -8,9 +8,9 @@
 --   in_rows, run_known, ordered_within, ordered_passed, ordered_told     what is brought into order of it
 --   as_they_come        and what isn't
 --   keys_among, keys_between     what holds of each of the rows
-use Rattle.std.proofs.Common.{◌≡◌, ℕ, zero, suc, ◌+◌, ◌-◌, ◌*◌, ◌/◌, ◌%◌, ◌<◌, ◌≤◌, ◌==◌, ◌&&◌, ◌||◌, Bool, true, false, true≢false, cond, List, [], ◌∷◌, ◌++◌, length, get_or, take, drop, map, Option, refl, sym, ap, ap₂, subst, ◌∙◌, arith, set, append_assoc, length-take, if◌then◌else◌}
+use Rattle.std.proofs.Common.{◌≡◌, ℕ, zero, suc, ◌+◌, ◌-◌, ◌*◌, ◌/◌, ◌%◌, ◌<◌, ◌≤◌, ◌==◌, ◌&&◌, ◌||◌, Bool, true, false, true≢false, cond, List, [], ◌∷◌}
+use Rattle.std.proofs.Common.{◌++◌, length, get_or, take, drop, map, Option, refl, sym, ap, ap₂, subst, ◌∙◌, arith}
 use Rattle.std.specs.Prelude.{All, filter, flat_map, nat_le, nat_lt}
-use Rattle.std.specs.Int.{from_bool}
 use Rattle.std.specs.List.{AllByRecursion, Contains, list_any}
 use Rattle.std.specs.List.Sorted.{IsPermutation, IsSorted, IsStrictlySortedBy}
 use Rattle.std.specs.Ordering.{is_lt, nat_cmp, ordering_then}
@@ -18,8 +18,9 @@ use Rattle.std.specs.declared.cmp.Ordering.{Ordering}
 use Rattle.std.specs.declared.cmp.Ordering.TheVariants.{Less, Equal}
 use Rattle.std.proofs.lemmas.Bool.{and_parts, eq-eqb, eqb-true, leb-true, ltb-false, ltb-true}
 use Rattle.std.proofs.lemmas.Bool.Decides.{nat_tests}
-use Rattle.std.proofs.lemmas.List.{map-append, drop_more, get_or-take, get_or_default, take-set, take_more, take_more_set}
-use Rattle.std.proofs.lemmas.List.Elements.{All-nil, All-append, All-contains, All-filter, All-from_recursion, All-map, All-weaker, Contains-append_left, Contains-append_right, Contains-get_or, filter_passes, recursion_from_All}
+use Rattle.std.proofs.lemmas.List.{map-append}
+use Rattle.std.proofs.lemmas.List.Elements.{All-nil, All-append, All-contains, All-filter, All-from_recursion, All-map, All-weaker, Contains-append_left}
+use Rattle.std.proofs.lemmas.List.Elements.{Contains-append_right, Contains-get_or, recursion_from_All}
 use Rattle.std.proofs.lemmas.List.Kept.{IsStrictlySortedBy-filter}
 use Rattle.std.proofs.lemmas.List.Sorted.{All-permutation, IsPermutation-map, list_any-IsPermutation}
 use Rattle.cs_base.specs.content.Orders.{AreSorted, by_place}
@@ -27,7 +28,7 @@ use Rattle.cs_base.specs.declared.content.doc.Post.{Post}
 use Rattle.cs_base.proofs.MembersLemmas.{again}
 use Rattle.cs_base.proofs.OrdersLemmas.{Less-from_lt}
 use Rattle.cs_file.specs.CallAnswers.{IsRanged}
-use Rattle.cs_file.specs.Indexes.{AreMet, IndexView, IsIndex, StandsFor, block_posts}
+use Rattle.cs_file.specs.Indexes.{AreMet, IndexView, IsIndex, StandsFor}
 use Rattle.cs_file.proofs.StoodLemmas.{stood_count}
 use Rattle.cs_meet.specs.Filters.{shares_place}
 use Rattle.cs_model.specs.Scores.{SCORES}
@@ -37,7 +38,7 @@ use Rattle.cs_model_index.specs.Sections.{image_of}
 use Rattle.cs_engine.specs.Packing.{AreFrom, HasKeys, IsOrdered, IsPacked, apart, key_of, place_of_key, post_of_key}
 use Rattle.cs_engine.specs.Counting.{in_listed}
 use Rattle.cs_engine.specs.Loose.{AreAlike, AreGathered}
-use Rattle.cs_engine.specs.IndexReading.{AreWithin, IsWithin, WhereStood, run_of, stock_of}
+use Rattle.cs_engine.specs.IndexReading.{AreWithin, IsWithin, run_of, stock_of}
 use Rattle.cs_engine.specs.Stocked.{is_between}
 use Rattle.cs_engine.specs.declared.packing.TheConstants.{NO_PLACE, POSITION_ROOM, SCORE_ROOM}
 use Rattle.cs_engine.proofs.CountingLemmas.{counted_alike, counted_long, countable, flat_more}
@@ -74,7 +75,8 @@ unkeyed p h =
     let pos : (post_of_key (key_of p)).pos ≡ p.pos = ap (λ n. n % 131072) spots ∙ spot_back p.doc p.pos h.pos in
     let word : (post_of_key (key_of p)).word ≡ p.word = ap (λ n. n % 4194304) at ∙ word_back spot p.word h.word in
     let score : (post_of_key (key_of p)).score ≡ p.score = back place p.score h.score in
-    ap (λ d. let q : Post = record { doc = d; word = (post_of_key (key_of p)).word; pos = (post_of_key (key_of p)).pos; score = (post_of_key (key_of p)).score } in q) doc
+    ap (λ d. let q : Post = record { doc = d; word = (post_of_key (key_of p)).word; pos = (post_of_key (key_of p)).pos; score = (post_of_key (key_of p)).score }
+    in q) doc
     ∙ ap (λ w. let q : Post = record { doc = p.doc; word = w; pos = (post_of_key (key_of p)).pos; score = (post_of_key (key_of p)).score } in q) word
     ∙ ap (λ x. let q : Post = record { doc = p.doc; word = p.word; pos = x; score = (post_of_key (key_of p)).score } in q) pos
     ∙ ap (λ s. let q : Post = record { doc = p.doc; word = p.word; pos = p.pos; score = s } in q) score
@@ -105,7 +107,8 @@ spot_later a b lt le = (omega (arith, lt, le), omega (arith, lt, le))
 
 spots_less : (a b : ℕ) (r : Ordering) → a < b → ordering_then (nat_cmp (a / 131072) (b / 131072)) (ordering_then (nat_cmp (a % 131072) (b % 131072)) r) ≡ Less
 spots_less a b r lt =
-    elim (nat_lt (a / 131072) (b / 131072)) as (λ c. nat_lt (a / 131072) (b / 131072) ≡ c → ordering_then (nat_cmp (a / 131072) (b / 131072)) (ordering_then (nat_cmp (a % 131072) (b % 131072)) r) ≡ Less) [
+    elim (nat_lt (a / 131072) (b / 131072)) as (λ c. nat_lt (a / 131072) (b / 131072) ≡ c
+    → ordering_then (nat_cmp (a / 131072) (b / 131072)) (ordering_then (nat_cmp (a % 131072) (b % 131072)) r) ≡ Less) [
       | true ↦ λ e. less_then (a / 131072) (b / 131072) _ (ltb-true _ _ e)
       | false ↦ λ e. let s = spot_later a b lt (ltb-false _ _ e) in tied_then (a / 131072) (b / 131072) _ s.0 ∙ less_then (a % 131072) (b % 131072) r s.1
     ] refl
@@ -153,12 +156,14 @@ above n l [] le up = tt
 above n l (k ∷ ks) le up =
     let on = later_place k l up.0 in
     let rest = above n k ks (omega (arith, le, on)) up.1 in
-    elim (place_of_key k == place_of_key l) as (λ b. place_of_key k == place_of_key l ≡ b → AllByRecursion (λ k. n < place_of_key k) (cond b (apart (place_of_key k) ks) (k ∷ apart (place_of_key k) ks))) [
+    elim (place_of_key k == place_of_key l) as (λ b. place_of_key k == place_of_key l ≡ b
+    → AllByRecursion (λ k. n < place_of_key k) (cond b (apart (place_of_key k) ks) (k ∷ apart (place_of_key k) ks))) [
       | true ↦ λ e. rest
       | false ↦ λ e. let lt = not_same (place_of_key k) (place_of_key l) on e in (omega (arith, le, lt), rest)
     ] refl
 
-all_later : (l : ℕ) (ks : List ℕ) → AllByRecursion (λ k. place_of_key l < place_of_key k) ks → AllByRecursion (λ p. by_place (post_of_key l) p ≡ Less) (map post_of_key ks)
+all_later : (l : ℕ) (ks : List ℕ) → AllByRecursion (λ k. place_of_key l < place_of_key k) ks
+    → AllByRecursion (λ p. by_place (post_of_key l) p ≡ Less) (map post_of_key ks)
 all_later l [] h = tt
 all_later l (k ∷ ks) h = (places_less l k h.0, all_later l ks h.1)
 
@@ -187,23 +192,30 @@ all_three a b c p q r = rw (p, q, r) refl
 
 shared : (k l : ℕ) → place_of_key k ≡ place_of_key l → shares_place (post_of_key k) (post_of_key l) ≡ true
 shared k l same =
-    all_three _ _ _ (eq-eqb (post_of_key l).doc (post_of_key k).doc (ap (λ n. n / 4194304 / 131072) (sym same))) (eq-eqb (post_of_key l).pos (post_of_key k).pos (ap (λ n. n / 4194304 % 131072) (sym same)))
+    all_three _ _ _ (eq-eqb (post_of_key l).doc (post_of_key k).doc (ap (λ n. n / 4194304 / 131072) (sym same)))
+    (eq-eqb (post_of_key l).pos (post_of_key k).pos (ap (λ n. n / 4194304 % 131072) (sym same)))
     (eq-eqb (post_of_key l).word (post_of_key k).word (ap (λ n. n % 4194304) (sym same)))
 
 module _ (all : List Post) (up : AreSorted all) (t : Post → Bool) where
-  any_behind : (l : ℕ) (ks : List ℕ) → Contains all (post_of_key l) → AllByRecursion (Contains all) (map post_of_key ks) → (t (post_of_key l) || list_any t (map post_of_key (apart (place_of_key l) ks))) ≡ (t (post_of_key l) || list_any t (map post_of_key ks))
+  any_behind : (l : ℕ) (ks : List ℕ) → Contains all (post_of_key l) → AllByRecursion (Contains all) (map post_of_key ks)
+      → (t (post_of_key l) || list_any t (map post_of_key (apart (place_of_key l) ks))) ≡ (t (post_of_key l) || list_any t (map post_of_key ks))
   any_behind l [] at h = refl
   any_behind l (k ∷ ks) at h =
       let rest = any_behind k ks h.0 h.1 in
-      elim (place_of_key k == place_of_key l) as (λ b. place_of_key k == place_of_key l ≡ b → (t (post_of_key l) || list_any t (map post_of_key (cond b (apart (place_of_key k) ks) (k ∷ apart (place_of_key k) ks)))) ≡ (t (post_of_key l) || (t (post_of_key k) || list_any t (map post_of_key ks)))) [
+      elim (place_of_key k == place_of_key l) as (λ b. place_of_key k == place_of_key l ≡ b
+      → (t (post_of_key l) || list_any t (map post_of_key (cond b (apart (place_of_key k) ks) (k ∷ apart (place_of_key k) ks)))) ≡ (t
+      (post_of_key l) || (t (post_of_key k) || list_any t (map post_of_key ks)))) [
         | true ↦ λ e.
-            let same : post_of_key k ≡ post_of_key l = one_post all up (post_of_key k) (post_of_key l) h.0 at (shared k l (eqb-true (place_of_key k) (place_of_key l) e)) in
-            ap (λ p. t p || list_any t (map post_of_key (apart (place_of_key k) ks))) (sym same) ∙ rest ∙ again (t (post_of_key k)) (list_any t (map post_of_key ks)) ∙ ap (λ p. t p || (t (post_of_key k) || list_any t (map post_of_key ks))) same
+            let same : post_of_key k ≡ post_of_key l = one_post all up (post_of_key k) (post_of_key l) h.0 at
+            (shared k l (eqb-true (place_of_key k) (place_of_key l) e)) in
+            ap (λ p. t p || list_any t (map post_of_key (apart (place_of_key k) ks))) (sym same) ∙ rest
+            ∙ again (t (post_of_key k)) (list_any t (map post_of_key ks)) ∙ ap (λ p. t p || (t (post_of_key k) || list_any t (map post_of_key ks))) same
         | false ↦ λ e. ap (λ b. t (post_of_key l) || b) rest
       ] refl
 
 first_apart : (k : ℕ) (ks : List ℕ) → place_of_key k < NO_PLACE → apart NO_PLACE (k ∷ ks) ≡ k ∷ apart (place_of_key k) ks
-first_apart k ks lt = let away : place_of_key k == NO_PLACE ≡ false = grind (arith, nat_tests) in ap (λ b. cond b (apart (place_of_key k) ks) (k ∷ apart (place_of_key k) ks)) away
+first_apart k ks lt = let away : place_of_key k == NO_PLACE ≡ false = grind (arith, nat_tests) in
+    ap (λ b. cond b (apart (place_of_key k) ks) (k ∷ apart (place_of_key k) ks)) away
 
 sorted_nil : AreSorted []
 unfolding IsStrictlySortedBy
@@ -214,24 +226,34 @@ unfolding IsStrictlySortedBy
 all_rise [] small up = sorted_nil
 all_rise (k ∷ ks) small up =
     let on = ups k ks up in
-    subst (λ xs. AreSorted (map post_of_key xs)) (sym (first_apart k ks small.0)) (all_later k (apart (place_of_key k) ks) (above (place_of_key k) k ks (omega arith) on), rises k ks on)
+    subst (λ xs. AreSorted (map post_of_key xs)) (sym (first_apart k ks small.0))
+    (all_later k (apart (place_of_key k) ks) (above (place_of_key k) k ks (omega arith) on), rises k ks on)
 
-pub any_apart : (all : List Post) → AreSorted all → (t : Post → Bool) (ks : List ℕ) → AllByRecursion (λ k. place_of_key k < NO_PLACE) ks → AllByRecursion (Contains all) (map post_of_key ks) → list_any t (map post_of_key (apart NO_PLACE ks)) ≡ list_any t (map post_of_key ks)
+pub any_apart : (all : List Post) → AreSorted all → (t : Post → Bool) (ks : List ℕ) → AllByRecursion (λ k. place_of_key k < NO_PLACE) ks
+    → AllByRecursion (Contains all) (map post_of_key ks) → list_any t (map post_of_key (apart NO_PLACE ks)) ≡ list_any t (map post_of_key ks)
 any_apart all up t [] small h = refl
 any_apart all up t (k ∷ ks) small h = ap (λ xs. list_any t (map post_of_key xs)) (first_apart k ks small.0) ∙ any_behind all up t k ks h.0 h.1
 
-pub ordered_is : (rows : List Post) (keys ks : List ℕ) (posts : List Post) → keys ≡ map key_of rows → All IsPacked rows → IsPermutation keys ks → IsSorted nat_cmp ks → posts ≡ map post_of_key (apart NO_PLACE ks) → IsOrdered rows posts
+pub ordered_is : (rows : List Post) (keys ks : List ℕ) (posts : List Post) → keys ≡ map key_of rows → All IsPacked rows → IsPermutation keys ks
+    → IsSorted nat_cmp ks → posts ≡ map post_of_key (apart NO_PLACE ks) → IsOrdered rows posts
 ordered_is rows keys ks posts are packed moved up is =
     let each = recursion_from_All IsPacked rows packed in
     let perm = subst (λ xs. IsPermutation xs ks) are moved in
-    let small = recursion_from_All (λ k. place_of_key k < NO_PLACE) ks (All-permutation (λ k. place_of_key k < NO_PLACE) (map key_of rows) ks perm (All-from_recursion (λ k. place_of_key k < NO_PLACE) (map key_of rows) (small_keys rows each))) in
-    let posts_perm : IsPermutation rows (map post_of_key ks) = subst (λ xs. IsPermutation xs (map post_of_key ks)) (all_unkeyed rows each) (IsPermutation-map post_of_key (map key_of rows) ks perm) in
+    let small = recursion_from_All (λ k. place_of_key k < NO_PLACE) ks
+    (All-permutation (λ k. place_of_key k < NO_PLACE) (map key_of rows) ks perm
+    (All-from_recursion (λ k. place_of_key k < NO_PLACE) (map key_of rows) (small_keys rows each))) in
+    let posts_perm : IsPermutation rows (map post_of_key ks) = subst (λ xs. IsPermutation xs (map post_of_key ks)) (all_unkeyed rows each)
+    (IsPermutation-map post_of_key (map key_of rows) ks perm) in
     record {
       sorted = subst AreSorted (sym is) (all_rise ks small up);
-      among = subst (All (Contains rows)) (sym is) (All-from_recursion (Contains rows) (map post_of_key (apart NO_PLACE ks)) (each_apart (Contains rows) NO_PLACE ks (recursion_from_All (Contains rows) (map post_of_key ks) (All-permutation (Contains rows) rows (map post_of_key ks) posts_perm (λ k d lt. Contains-get_or rows k d lt)))));
+      among = subst (All (Contains rows)) (sym is)
+          (All-from_recursion (Contains rows) (map post_of_key (apart NO_PLACE ks))
+          (each_apart (Contains rows) NO_PLACE ks (recursion_from_All (Contains rows) (map post_of_key ks)
+          (All-permutation (Contains rows) rows (map post_of_key ks) posts_perm (λ k d lt. Contains-get_or rows k d lt)))));
       alike = λ all all_up in_all t.
           ap (list_any t) is
-          ∙ any_apart all all_up t ks small (recursion_from_All (Contains all) (map post_of_key ks) (All-permutation (Contains all) rows (map post_of_key ks) posts_perm in_all))
+          ∙ any_apart all all_up t ks small (recursion_from_All (Contains all) (map post_of_key ks)
+          (All-permutation (Contains all) rows (map post_of_key ks) posts_perm in_all))
           ∙ sym (list_any-IsPermutation t rows (map post_of_key ks) posts_perm);
     }
 
@@ -274,7 +296,8 @@ no_keys i told first t keys none = record {
 }
 
 -- of a block more the posts that pass are added
-pub keys_more : (i : IndexView) (told : Option (List ℕ)) (first k : ℕ) (t : Post → Bool) (old new : List ℕ) (posts : List Post) → first ≤ k → k < length i.heads → new ≡ old ++ map key_of posts → AreFrom i told k t posts
+pub keys_more : (i : IndexView) (told : Option (List ℕ)) (first k : ℕ) (t : Post → Bool) (old new : List ℕ) (posts : List Post) → first ≤ k → k < length i.heads
+    → new ≡ old ++ map key_of posts → AreFrom i told k t posts
     → HasKeys i told first k t old → HasKeys i told first (k + 1) t new
 keys_more i told first k t old new posts le lt added from h = record {
   rows = h.rows ++ posts;
@@ -297,13 +320,16 @@ listed_too : (a b : Bool) → (a && b) ≡ true → b ≡ true
 listed_too true b h = h
 listed_too false b h = absurd (true≢false (sym h))
 
-pub ordered_passed : (lo hi : ℕ) (listed : List Bool) (rows posts : List Post) → All (λ p. is_chosen lo hi listed p ≡ true) rows → IsOrdered rows posts → All (λ p. in_listed listed p ≡ true) posts
+pub ordered_passed : (lo hi : ℕ) (listed : List Bool) (rows posts : List Post) → All (λ p. is_chosen lo hi listed p ≡ true) rows → IsOrdered rows posts
+    → All (λ p. in_listed listed p ≡ true) posts
 ordered_passed lo hi listed rows posts passed o =
-    All-weaker (λ p. is_chosen lo hi listed p ≡ true) (λ p. in_listed listed p ≡ true) (λ p h. listed_too (is_between lo hi p) (in_listed listed p) h) posts (in_rows (λ p. is_chosen lo hi listed p ≡ true) rows posts o.among passed)
+    All-weaker (λ p. is_chosen lo hi listed p ≡ true) (λ p. in_listed listed p ≡ true) (λ p h. listed_too (is_between lo hi p) (in_listed listed p) h) posts
+    (in_rows (λ p. is_chosen lo hi listed p ≡ true) rows posts o.among passed)
 
 -- each post of a run is one of the stock
 module _ (P : Post → Type 0) (t : Post → Bool) where
-  dropped : (n : ℕ) (bs : List (List Post)) → ((x : Post) → Contains (flat_map (λ block. block) bs) x → P x) → (x : Post) → Contains (flat_map (λ block. block) (drop n bs)) x → P x
+  dropped : (n : ℕ) (bs : List (List Post)) → ((x : Post) → Contains (flat_map (λ block. block) bs) x → P x) → (x : Post)
+      → Contains (flat_map (λ block. block) (drop n bs)) x → P x
   dropped zero bs h = h
   dropped (suc n) [] h = h
   dropped (suc n) (b ∷ bs) h = dropped n bs (λ x c. h x (Contains-append_right b (flat_map (λ block. block) bs) x c))
@@ -312,16 +338,19 @@ module _ (P : Post → Type 0) (t : Post → Bool) where
   taken zero bs h = All-nil P
   taken (suc n) [] h = All-nil P
   taken (suc n) (b ∷ bs) h =
-      All-append P (filter t b) (flat_map (filter t) (take n bs)) (All-filter t P b (λ k d lt. h (get_or b k d) (Contains-append_left b (flat_map (λ block. block) bs) (get_or b k d) (Contains-get_or b k d lt))))
+      All-append P (filter t b) (flat_map (filter t) (take n bs))
+      (All-filter t P b (λ k d lt. h (get_or b k d) (Contains-append_left b (flat_map (λ block. block) bs) (get_or b k d) (Contains-get_or b k d lt))))
       (taken n bs (λ x c. h x (Contains-append_right b (flat_map (λ block. block) bs) x c)))
 
-pub run_known : (b : List ℕ) (i : IndexView) → StandsFor b i → IsIndex i → (first last : ℕ) (t : Post → Bool) → All (Contains (stock_of b).posts) (run_of (image_of b).blocks first last t)
+pub run_known : (b : List ℕ) (i : IndexView) → StandsFor b i → IsIndex i → (first last : ℕ) (t : Post → Bool)
+    → All (Contains (stock_of b).posts) (run_of (image_of b).blocks first last t)
 run_known b i s is first last t =
     let P : Post → Type 0 = Contains (stock_of b).posts in
     taken P t (last - first) (drop first (image_of b).blocks) (dropped P t first (image_of b).blocks (from_file b i s is))
 
 -- what is gathered of the blocks that hold such words
-pub gathered : (i : IndexView) → IsIndex i → (told : Option (List ℕ)) (first last lo hi : ℕ) (listed : List Bool) (keys : List ℕ) → AreMet i.heads lo hi first last → HasKeys i told first last (is_chosen lo hi listed) keys → AreGathered i told lo hi listed keys
+pub gathered : (i : IndexView) → IsIndex i → (told : Option (List ℕ)) (first last lo hi : ℕ) (listed : List Bool) (keys : List ℕ)
+    → AreMet i.heads lo hi first last → HasKeys i told first last (is_chosen lo hi listed) keys → AreGathered i told lo hi listed keys
 gathered i is told first last lo hi listed keys met h = record {
   rows = h.rows;
   are = h.are;
@@ -338,7 +367,8 @@ gathered i is told first last lo hi listed keys met h = record {
       };
 }
 
-pub ordered_told : (b : List ℕ) (i : IndexView) → StandsFor b i → IsIndex i → (lo hi : ℕ) (listed : List Bool) (rows posts : List Post) → AreAlike (stock_of b) lo hi listed rows → IsOrdered rows posts
+pub ordered_told : (b : List ℕ) (i : IndexView) → StandsFor b i → IsIndex i → (lo hi : ℕ) (listed : List Bool) (rows posts : List Post)
+    → AreAlike (stock_of b) lo hi listed rows → IsOrdered rows posts
     → posts ≡ filter (in_listed listed) (filter (is_between lo hi) (stock_of b).posts)
 ordered_told b i s is lo hi listed rows posts a o =
     let all = (stock_of b).posts in
@@ -352,12 +382,16 @@ pub as_they_come : (rows : List Post) (keys : List ℕ) → keys ≡ map key_of 
 as_they_come rows keys are packed = ap (map post_of_key) are ∙ all_unkeyed rows (recursion_from_All IsPacked rows packed)
 
 -- what holds of each of the rows
-pub keys_among : (P : Post → Type 0) (rows : List Post) (keys : List ℕ) → keys ≡ map key_of rows → All IsPacked rows → All P rows → All (λ k. P (post_of_key k)) keys
+pub keys_among : (P : Post → Type 0) (rows : List Post) (keys : List ℕ) → keys ≡ map key_of rows → All IsPacked rows → All P rows
+    → All (λ k. P (post_of_key k)) keys
 keys_among P rows keys are packed h =
-    subst (All (λ k. P (post_of_key k))) (sym are) (All-map (λ k. P (post_of_key k)) key_of rows (λ k d l. subst P (sym (unkeyed (get_or rows k d) (packed k d l))) (h k d l)))
+    subst (All (λ k. P (post_of_key k))) (sym are)
+    (All-map (λ k. P (post_of_key k)) key_of rows (λ k d l. subst P (sym (unkeyed (get_or rows k d) (packed k d l))) (h k d l)))
 
-pub keys_between : (lo hi : ℕ) (listed : List Bool) (rows : List Post) (keys : List ℕ) → keys ≡ map key_of rows → All IsPacked rows → All (λ p. is_chosen lo hi listed p ≡ true) rows → All (λ k. (lo ≤ (post_of_key k).word) × ((post_of_key k).word < hi)) keys
+pub keys_between : (lo hi : ℕ) (listed : List Bool) (rows : List Post) (keys : List ℕ) → keys ≡ map key_of rows → All IsPacked rows
+    → All (λ p. is_chosen lo hi listed p ≡ true) rows → All (λ k. (lo ≤ (post_of_key k).word) × ((post_of_key k).word < hi)) keys
 keys_between lo hi listed rows keys are packed passed =
-    keys_among (λ p. (lo ≤ p.word) × (p.word < hi)) rows keys are packed (All-weaker (λ p. is_chosen lo hi listed p ≡ true) (λ p. (lo ≤ p.word) × (p.word < hi)) (λ p h.
+    keys_among (λ p. (lo ≤ p.word) × (p.word < hi)) rows keys are packed
+    (All-weaker (λ p. is_chosen lo hi listed p ≡ true) (λ p. (lo ≤ p.word) × (p.word < hi)) (λ p h.
     let both = and_parts (nat_le lo p.word) (nat_lt p.word hi) (and_parts (nat_le lo p.word && nat_lt p.word hi) (in_listed listed p) h).0 in
     (leb-true lo p.word both.0, ltb-true p.word hi both.1)) rows passed)

@@ -8,7 +8,8 @@
 --   step_within            and it is in range
 --   known_docs                 the documents of posts
 --   docs_more, unscored_docs, base_sorted     the documents of a base, without scores
-use Rattle.std.proofs.Common.{◌≡◌, ℕ, ◌+◌, ◌-◌, ◌*◌, ◌<◌, ◌≤◌, ◌^◌, ◌==◌, Bool, true, false, true≢false, not, List, [], ◌∷◌, ◌++◌, length, map, get_or, refl, sym, ap, subst, ◌∙◌, arith, if◌then◌else◌}
+use Rattle.std.proofs.Common.{◌≡◌, ℕ, ◌+◌, ◌-◌, ◌*◌, ◌<◌, ◌≤◌, ◌^◌, ◌==◌, Bool, true, false, true≢false, not, List, [], ◌∷◌, ◌++◌, length, map, get_or}
+use Rattle.std.proofs.Common.{refl, sym, ap, subst, ◌∙◌, arith, if◌then◌else◌}
 use Rattle.std.specs.Prelude.{All, filter}
 use Rattle.std.specs.List.{list_any, range_with_len}
 use Rattle.std.specs.Ordering.{nat_cmp}
@@ -16,7 +17,6 @@ use Rattle.std.specs.Cmp.{nat_cmp_total}
 use Rattle.std.specs.FinMap.{nat_cmp-IsAntisymmetric}
 use Rattle.std.proofs.lemmas.List.Elements.{All-nil, All-filter, All-map, All-weaker, recursion_from_All, filter_passes}
 use Rattle.std.proofs.lemmas.List.Kept.{IsStrictlySortedBy-filter}
-use Rattle.cs_base.specs.declared.content.limits.TheConstants.{MAX_PARTS}
 use Rattle.cs_base.specs.content.Members.{members_in}
 use Rattle.cs_base.specs.content.Orders.{AreDocs, AreByDoc, by_doc, docs_of}
 use Rattle.cs_base.specs.declared.content.doc.Base.{Base}
@@ -34,11 +34,11 @@ use Rattle.cs_meet.specs.Filters.{keep_docs, drop_docs, is_of}
 use Rattle.cs_meet.specs.Filters as meet
 use Rattle.cs_model.specs.Answers.{PartRows, hits, in_doc, greatest_score}
 use Rattle.cs_model.specs.Answers as answers
-use Rattle.cs_model_kept.specs.Entries.{Entry, EntryOf, entry_at, entry_after, hits_of, is_begun, is_hit, over, without}
+use Rattle.cs_model_kept.specs.Entries.{Entry, EntryOf, entry_at, hits_of, is_begun, is_hit, over, without}
 use Rattle.cs_model_kept.specs.Entries as kept
 use Rattle.cs_rank.specs.DocScores.{IsBase, best_row, greatest, of_doc, scores, with_base}
 use Rattle.cs_engine.specs.IndexReading.{AreWithin, IsWithin}
-use Rattle.cs_engine.specs.Steps.{docs_after, posts_hits, posts_after, with_no_score, IsHitOf, IsBaseOf, EntryFits, IsStep, is_in_base, most}
+use Rattle.cs_engine.specs.Steps.{docs_after, posts_hits, posts_after, with_no_score, IsHitOf, IsBaseOf, EntryFits, IsStep, is_in_base}
 use Rattle.cs_model_index.specs.Numbered.{row_of, rows_at}
 use Rattle.cs_engine.specs.Stocked.{Stock, corpus_in, every, base_hits, docs_in}
 use Rattle.cs_engine.proofs.FoundLemmas.{docs_rise, every_rises, scored_rise, found_small, greatest_small}
@@ -56,7 +56,8 @@ base_weaker docs m n base.All l h = tt
 base_weaker docs m n (base.Listed hs) l h = (h.0, λ k d e. let at = h.1 k d e in record { doc = at.doc; score = (let s = at.score in omega (arith, s, l)) })
 
 every_in : (docs bound : ℕ) → All (IsHitOf docs bound) (every docs)
-every_in docs bound = All-map (IsHitOf docs bound) (λ (d : ℕ). let h : Scored = record { doc = d; score = 0 } in h) (range_with_len 0 docs) (λ k d l. record { doc = range_below docs k d l; score = omega arith })
+every_in docs bound = All-map (IsHitOf docs bound) (λ (d : ℕ). let h : Scored = record { doc = d; score = 0 } in h) (range_with_len 0 docs)
+    (λ k d l. record { doc = range_below docs k d l; score = omega arith })
 
 pub listed_in : (docs bound : ℕ) (b : Base) → IsBaseOf docs bound b → AreByDoc (base_hits docs b) × All (IsHitOf docs bound) (base_hits docs b)
 listed_in docs bound base.All h = (every_rises docs, every_in docs bound)
@@ -64,24 +65,27 @@ listed_in docs bound (base.Listed hs) h = h
 
 pub base_small : (docs bound d : ℕ) (b : Base) → IsBaseOf docs bound b → base_score b d ≤ bound
 base_small docs bound d base.All h = omega arith
-base_small docs bound d (base.Listed hs) h = found_small bound d hs (recursion_from_All (λ h. h.score ≤ bound) hs (All-weaker (IsHitOf docs bound) (λ h. h.score ≤ bound) (λ x at. at.score) hs h.1))
+base_small docs bound d (base.Listed hs) h = found_small bound d hs
+    (recursion_from_All (λ h. h.score ≤ bound) hs (All-weaker (IsHitOf docs bound) (λ h. h.score ≤ bound) (λ x at. at.score) hs h.1))
 
 below : (i : IndexView) (posts : List Post) → All (IsWithin i.docs (length i.words)) posts → All (λ d. d < i.docs) (docs_of posts)
-below i posts within = All-members nat_cmp nat_cmp_total nat_cmp-IsAntisymmetric (λ d. d < i.docs) (map (λ p. p.doc) posts) (All-map (λ d. d < i.docs) (λ p. p.doc) posts (All-weaker (IsWithin i.docs (length i.words)) (λ p. p.doc < i.docs) (λ p h. h.doc) posts within))
+below i posts within = All-members nat_cmp nat_cmp_total nat_cmp-IsAntisymmetric (λ d. d < i.docs) (map (λ p. p.doc) posts)
+    (All-map (λ d. d < i.docs) (λ p. p.doc) posts (All-weaker (IsWithin i.docs (length i.words)) (λ p. p.doc < i.docs) (λ p h. h.doc) posts within))
 
-best_small : (i : IndexView) (posts : List Post) → All (IsWithin i.docs (length i.words)) posts → (d : ℕ) → greatest (map (λ p. p.score) (of_doc d posts)) ≤ MAX_ROW_SCORE
+best_small : (i : IndexView) (posts : List Post) → All (IsWithin i.docs (length i.words)) posts → (d : ℕ)
+    → greatest (map (λ p. p.score) (of_doc d posts)) ≤ MAX_ROW_SCORE
 best_small i posts within d =
-    greatest_small (of_doc d posts) (recursion_from_All (λ p. p.score ≤ MAX_ROW_SCORE) (of_doc d posts) (All-filter (λ p. p.doc == d) (λ p. p.score ≤ MAX_ROW_SCORE) posts (All-weaker (IsWithin i.docs (length i.words)) (λ p. p.score ≤ MAX_ROW_SCORE) (λ p h. h.score) posts within)))
-
-pub most_small : (positive : Bool) (n : ℕ) → n ≤ MAX_PARTS → most positive n ≤ 2 ^ 20
-most_small true n l = omega (arith, l)
-most_small false n l = omega (arith, l)
+    greatest_small (of_doc d posts) (recursion_from_All (λ p. p.score ≤ MAX_ROW_SCORE) (of_doc d posts)
+    (All-filter (λ p. p.doc == d) (λ p. p.score ≤ MAX_ROW_SCORE) posts
+    (All-weaker (IsWithin i.docs (length i.words)) (λ p. p.score ≤ MAX_ROW_SCORE) (λ p h. h.score) posts within)))
 
 pub nothing_fits : (i : IndexView) (e : EntryOf Post) → e ≡ record { base = base.All; rows = [] } → EntryFits i false 0 e
-nothing_fits i e is = subst (EntryFits i false 0) (sym is) (record { parts = λ f. absurd (true≢false (sym f)); rows = none_within i; base = tt; in_base = All-nil _ })
+nothing_fits i e is = subst (EntryFits i false 0) (sym is)
+    (record { parts = λ f. absurd (true≢false (sym f)); rows = none_within i; base = tt; in_base = All-nil _ })
 
 -- the scores of rows in any order over a base in range
-pub scores_in : (i : IndexView) (n : ℕ) (b : Base) (rows : List Post) → 1 ≤ n → IsBaseOf i.docs (MAX_ROW_SCORE * (n - 1)) b → All (IsWithin i.docs (length i.words)) rows → IsBaseOf i.docs (MAX_ROW_SCORE * n) (base.Listed (scores b rows))
+pub scores_in : (i : IndexView) (n : ℕ) (b : Base) (rows : List Post) → 1 ≤ n → IsBaseOf i.docs (MAX_ROW_SCORE * (n - 1)) b
+    → All (IsWithin i.docs (length i.words)) rows → IsBaseOf i.docs (MAX_ROW_SCORE * n) (base.Listed (scores b rows))
 scores_in i n b rows some fits within = (
   scored_rise (λ d. with_base b (best_row rows d)) (λ d. refl) (docs_of rows) (listing-rises nat_cmp (map (λ p. p.doc) rows)),
   All-map (IsHitOf i.docs (MAX_ROW_SCORE * n)) (λ d. with_base b (best_row rows d)) (docs_of rows) (λ k d l.
@@ -92,7 +96,8 @@ scores_in i n b rows some fits within = (
 )
 
 -- the hits of an entry in range
-pub hits_in : (i : IndexView) (positive : Bool) (n : ℕ) (e : EntryOf Post) → EntryFits i positive n e → IsBaseOf i.docs (MAX_ROW_SCORE * n) (posts_hits positive e.base e.rows)
+pub hits_in : (i : IndexView) (positive : Bool) (n : ℕ) (e : EntryOf Post) → EntryFits i positive n e
+    → IsBaseOf i.docs (MAX_ROW_SCORE * n) (posts_hits positive e.base e.rows)
 hits_in i false n e fits = fits.base
 hits_in i true n e fits = scores_in i n e.base e.rows (fits.parts refl) fits.base fits.rows.within
 
@@ -104,10 +109,14 @@ rows_docs ws (p ∷ ps) = ap (λ l. p.doc ∷ l) (rows_docs ws ps)
 over_told : (ws : List (List ℕ)) (b : Base) (posts : List Post) → scores b posts ≡ over b (rows_at ws posts)
 over_told ws base.All posts =
     ap (map (λ d. with_base base.All (best_row posts d))) (ap (members_in nat_cmp) (sym (rows_docs ws posts)))
-    ∙ map_alike _ _ (answers.row_docs (rows_at ws posts)) (all_of _ (λ d. ap (λ (n : ℕ). let h : Scored = record { doc = d; score = 0 + n } in h) (greatest_of ws (of_doc d posts) ∙ ap greatest_score (filter_through (row_of ws) (in_doc d) posts))) (answers.row_docs (rows_at ws posts)))
+    ∙ map_alike _ _ (answers.row_docs (rows_at ws posts))
+    (all_of _ (λ d. ap (λ (n : ℕ). let h : Scored = record { doc = d; score = 0 + n } in h)
+    (greatest_of ws (of_doc d posts) ∙ ap greatest_score (filter_through (row_of ws) (in_doc d) posts))) (answers.row_docs (rows_at ws posts)))
 over_told ws (base.Listed hs) posts =
     ap (map (λ d. with_base (base.Listed hs) (best_row posts d))) (ap (members_in nat_cmp) (sym (rows_docs ws posts)))
-    ∙ map_alike _ _ (answers.row_docs (rows_at ws posts)) (all_of _ (λ d. ap (λ (n : ℕ). let h : Scored = record { doc = d; score = base_score (base.Listed hs) d + n } in h) (greatest_of ws (of_doc d posts) ∙ ap greatest_score (filter_through (row_of ws) (in_doc d) posts))) (answers.row_docs (rows_at ws posts)))
+    ∙ map_alike _ _ (answers.row_docs (rows_at ws posts))
+    (all_of _ (λ d. ap (λ (n : ℕ). let h : Scored = record { doc = d; score = base_score (base.Listed hs) d + n } in h)
+    (greatest_of ws (of_doc d posts) ∙ ap greatest_score (filter_through (row_of ws) (in_doc d) posts))) (answers.row_docs (rows_at ws posts)))
 
 pub hits_told : (ws : List (List ℕ)) (positive : Bool) (e : EntryOf Post) → posts_hits positive e.base e.rows ≡ hits_of positive (entry_at ws e)
 hits_told ws true e = ap base.Listed (over_told ws e.base e.rows)
@@ -125,22 +134,26 @@ module _ (s : Stock) (n : ℕ) (b : Base) (p : PartRows) (posts : List Post) (sa
   dropped : drop_docs (base_hits n b) posts ≡ without p.rows outs
   dropped =
       ap (λ l. drop_docs l posts) (listed_told s n b same)
-      ∙ filter_alike (λ h. not (list_any (is_of h) posts)) (λ h. not (list_any (in_doc h.doc) p.rows)) outs (all_of _ (λ h. ap not (sym (any_through (row_of s.words) (in_doc h.doc) posts) ∙ ap (list_any (in_doc h.doc)) is)) outs)
+      ∙ filter_alike (λ h. not (list_any (is_of h) posts)) (λ h. not (list_any (in_doc h.doc) p.rows)) outs
+      (all_of _ (λ h. ap not (sym (any_through (row_of s.words) (in_doc h.doc) posts) ∙ ap (list_any (in_doc h.doc)) is)) outs)
 
   kept_told : rows_at s.words (keep_docs posts (docs_in n b)) ≡ filter (is_hit outs) p.rows
   kept_told =
       ap (λ l. rows_at s.words (keep_docs posts (map (λ h. h.doc) l))) (listed_told s n b same)
-      ∙ ap (rows_at s.words) (filter_alike (λ r. list_any (meet.is_of_doc r) (map (λ h. h.doc) outs)) (λ r. is_hit outs (row_of s.words r)) posts (all_of _ (λ r. any_through (λ (h : Scored). h.doc) (meet.is_of_doc r) outs) posts))
+      ∙ ap (rows_at s.words) (filter_alike (λ r. list_any (meet.is_of_doc r) (map (λ h. h.doc) outs)) (λ r. is_hit outs (row_of s.words r)) posts
+      (all_of _ (λ r. any_through (λ (h : Scored). h.doc) (meet.is_of_doc r) outs) posts))
       ∙ filter_through (row_of s.words) (is_hit outs) posts ∙ ap (filter (is_hit outs)) is
 
   pub step_told : (excluded : Bool) → p.excluded ≡ excluded → IsStep s b p (posts_after n b excluded posts)
   step_told true e =
       ap (λ (l : List Scored). let x : Entry = record { base = base.Listed l; rows = [] } in x) dropped
-      ∙ ap (λ x. if x then record { base = base.Listed (without p.rows outs); rows = [] } else record { base = if is_begun b then base.Listed outs else base.All; rows = filter (is_hit outs) p.rows }) (sym e)
+      ∙ ap (λ x. if x then record { base = base.Listed (without p.rows outs); rows = [] }
+      else record { base = if is_begun b then base.Listed outs else base.All; rows = filter (is_hit outs) p.rows }) (sym e)
   step_told false e =
       ap (λ (l : List Row). let x : Entry = record { base = b; rows = l } in x) kept_told
       ∙ ap (λ (x : Base). let y : Entry = record { base = x; rows = filter (is_hit outs) p.rows } in y) (own b)
-      ∙ ap (λ x. if x then record { base = base.Listed (without p.rows outs); rows = [] } else record { base = if is_begun b then base.Listed outs else base.All; rows = filter (is_hit outs) p.rows }) (sym e)
+      ∙ ap (λ x. if x then record { base = base.Listed (without p.rows outs); rows = [] }
+      else record { base = if is_begun b then base.Listed outs else base.All; rows = filter (is_hit outs) p.rows }) (sym e)
     where
       own : (b : Base) → b ≡ (if is_begun b then base.Listed (kept.listed (corpus_in s) b) else base.All)
       own base.All = refl
@@ -148,16 +161,20 @@ module _ (s : Stock) (n : ℕ) (b : Base) (p : PartRows) (posts : List Post) (sa
 
 in_hits : (docs bound : ℕ) (b : Base) (posts : List Post) → All (λ p. p.doc < docs) posts → All (λ p. is_in_base b p ≡ true) (keep_docs posts (docs_in docs b))
 in_hits docs bound base.All posts h = λ k d l. refl
-in_hits docs bound (base.Listed hs) posts h = λ k d l. sym (any_through (λ (h : Scored). h.doc) (meet.is_of_doc (get_or (keep_docs posts (docs_in docs (base.Listed hs))) k d)) hs) ∙ filter_passes (λ r. list_any (meet.is_of_doc r) (map (λ h. h.doc) hs)) posts k d l
+in_hits docs bound (base.Listed hs) posts h = λ k d l.
+    sym (any_through (λ (h : Scored). h.doc) (meet.is_of_doc (get_or (keep_docs posts (docs_in docs (base.Listed hs))) k d)) hs)
+    ∙ filter_passes (λ r. list_any (meet.is_of_doc r) (map (λ h. h.doc) hs)) posts k d l
 
-pub step_within : (i : IndexView) (b : Base) (excluded : Bool) (posts : List Post) → AreWithin i posts → (n : ℕ) → IsBaseOf i.docs (MAX_ROW_SCORE * n) b → EntryFits i (not excluded) (n + 1) (posts_after i.docs b excluded posts)
+pub step_within : (i : IndexView) (b : Base) (excluded : Bool) (posts : List Post) → AreWithin i posts → (n : ℕ) → IsBaseOf i.docs (MAX_ROW_SCORE * n) b
+    → EntryFits i (not excluded) (n + 1) (posts_after i.docs b excluded posts)
 step_within i b true posts w n fits =
     let all = listed_in i.docs (MAX_ROW_SCORE * n) b fits in
     let keeps : Scored → Bool = λ h. not (list_any (is_of h) posts) in
     record {
       parts = λ e. omega arith;
       rows = none_within i;
-      base = base_weaker i.docs (MAX_ROW_SCORE * n) (MAX_ROW_SCORE * (n + 1)) (base.Listed (drop_docs (base_hits i.docs b) posts)) (omega arith) (IsStrictlySortedBy-filter by_doc keeps (base_hits i.docs b) all.0, All-filter keeps (IsHitOf i.docs (MAX_ROW_SCORE * n)) (base_hits i.docs b) all.1);
+      base = base_weaker i.docs (MAX_ROW_SCORE * n) (MAX_ROW_SCORE * (n + 1)) (base.Listed (drop_docs (base_hits i.docs b) posts)) (omega arith)
+          (IsStrictlySortedBy-filter by_doc keeps (base_hits i.docs b) all.0, All-filter keeps (IsHitOf i.docs (MAX_ROW_SCORE * n)) (base_hits i.docs b) all.1);
       in_base = All-nil _;
     }
 step_within i b false posts w n fits =
@@ -172,10 +189,12 @@ pub known_docs : (i : IndexView) (posts : List Post) → AreWithin i posts → A
 known_docs i posts w = All-weaker (IsWithin i.docs (length i.words)) (λ p. p.doc < i.docs) (λ p h. h.doc) posts w.within
 
 -- ---- hits without their scores
-module _ (s : Stock) (done : List PartRows) (p : PartRows) (posts : List Post) (is : rows_at s.words posts ≡ p.rows) (n : ℕ) (b : Base) (lists : docs_in n b ≡ hits (corpus_in s) done) where
+module _ (s : Stock) (done : List PartRows) (p : PartRows) (posts : List Post) (is : rows_at s.words posts ≡ p.rows) (n : ℕ) (b : Base)
+    (lists : docs_in n b ≡ hits (corpus_in s) done) where
   dropped_docs : map (λ h. h.doc) (drop_docs (base_hits n b) posts) ≡ filter (λ d. not (list_any (in_doc d) (rows_at s.words posts))) (docs_in n b)
   dropped_docs =
-      ap (map (λ (h : Scored). h.doc)) (filter_alike (λ h. not (list_any (is_of h) posts)) (λ h. not (list_any (in_doc h.doc) (rows_at s.words posts))) (base_hits n b) (all_of _ (λ h. ap not (sym (any_through (row_of s.words) (in_doc h.doc) posts))) (base_hits n b)))
+      ap (map (λ (h : Scored). h.doc)) (filter_alike (λ h. not (list_any (is_of h) posts)) (λ h. not (list_any (in_doc h.doc) (rows_at s.words posts)))
+      (base_hits n b) (all_of _ (λ h. ap not (sym (any_through (row_of s.words) (in_doc h.doc) posts))) (base_hits n b)))
       ∙ filter_through (λ (h : Scored). h.doc) (λ d. not (list_any (in_doc d) (rows_at s.words posts))) (base_hits n b)
 
   pub docs_more : (excluded : Bool) → p.excluded ≡ excluded → docs_after n b excluded posts ≡ hits (corpus_in s) (done ++ p ∷ [])

@@ -1,28 +1,26 @@
 -- Parts that ask for the words from one number up to another.
 --
 --   prefix_words, exact_words      those of an atom
---   chain_words, part_words        those of a chain of one atom, and of a part of one chain
+--   part_words        those of a part of one chain
 --   listed_entry, listed_fits      the entry of one part more, by the rows in listed documents
-use Rattle.std.proofs.Common.{◌≡◌, ℕ, ◌+◌, ◌-◌, ◌*◌, ◌<◌, ◌≤◌, ◌==◌, Bool, true, false, List, [], ◌∷◌, length, map, get_or, Option, None, Some, refl, sym, ap, subst, ◌∙◌, arith}
+use Rattle.std.proofs.Common.{◌≡◌, ℕ, ◌+◌, ◌-◌, ◌*◌, ◌<◌, ◌≤◌, ◌==◌, Bool, true, false, List, [], ◌∷◌, length, map, get_or, Option, None, Some, refl, sym}
+use Rattle.std.proofs.Common.{ap, subst, ◌∙◌, arith}
 use Rattle.std.specs.Prelude.{All, IfSome, filter, sum}
 use Rattle.std.specs.Str.{bytes_eq}
 use Rattle.cs_base.specs.declared.content.doc.Base.{Base}
 use Rattle.cs_base.specs.declared.content.doc.Base.TheVariants as base
 use Rattle.cs_base.specs.declared.content.doc.Post.{Post}
-use Rattle.cs_base.specs.declared.content.doc.Row.{Row}
 use Rattle.cs_base.specs.declared.content.query.Atom.{Atom}
 use Rattle.cs_base.specs.declared.content.query.Atom.TheVariants.{Prefix, Exact}
-use Rattle.cs_base.specs.declared.content.query.Atom.TheFolds.{fold_out-Chain}
-use Rattle.cs_base.specs.declared.content.query.Chain.{Chain, out-Chain}
-use Rattle.cs_base.specs.declared.content.query.Linked.{Linked}
+use Rattle.cs_base.specs.declared.content.query.Chain.{Chain}
 use Rattle.cs_base.specs.declared.content.query.Part.{Part, out-Part}
 use Rattle.cs_base.proofs.ListsLemmas.{any_through}
 use Rattle.cs_base.specs.declared.content.scores.TheConstants.{MAX_ROW_SCORE}
 use Rattle.cs_file.specs.Indexes.{IndexView, IsIndex, StandsFor, is_met}
-use Rattle.cs_model.specs.Answers.{PartRows, LinkedRows, atom_rows, begins, chain_rows, chained, linked_rows, part_rows, query_parts, rows_of_atom, rows_of_chain, rows_of_linked, rows_of_part}
-use Rattle.cs_model.specs.Corpus.{Corpus}
+use Rattle.cs_model.specs.Answers.{begins, rows_of_atom}
+use Rattle.cs_model.specs.Answers.{rows_of_chain, rows_of_part}
 use Rattle.cs_model.proofs.AnswersLemmas.{prefix_rows, exact_rows}
-use Rattle.cs_model_kept.specs.Due.{atom_met, chain_met, linked_met, part_met, query_met, met_of_atom, met_of_chain, met_of_linked, met_of_part}
+use Rattle.cs_model_kept.specs.Due.{met_of_atom, met_of_chain, met_of_part}
 use Rattle.cs_model_kept.specs.Entries.{EntryOf}
 use Rattle.cs_model_kept.proofs.DueLemmas.{met_prefix_atom}
 use Rattle.cs_vocab.specs.Ranges.{IsRange}
@@ -40,18 +38,23 @@ use Rattle.cs_engine.proofs.UnionLemmas.{with_nothing}
 use Rattle.cs_engine.proofs.AskedWords.{prefix_met, span_found}
 
 -- ---- atoms
-pub prefix_words : (i : IndexView) → IsIndex i → (a : Atom) (p bytes : List ℕ) (lo hi : ℕ) → a ≡ Prefix p → bytes ≡ p → IsRange i.words bytes lo hi → AreWordsOf i (met_of_atom (division i) a) (λ k. rows_of_atom k a) lo hi
+pub prefix_words : (i : IndexView) → IsIndex i → (a : Atom) (p bytes : List ℕ) (lo hi : ℕ) → a ≡ Prefix p → bytes ≡ p → IsRange i.words bytes lo hi
+    → AreWordsOf i (met_of_atom (division i) a) (λ k. rows_of_atom k a) lo hi
 prefix_words i is a p bytes lo hi a_is same range = record {
   ordered = range.ordered;
   within = range.within;
-  few = (let own = ap (met_of_atom (division i)) (a_is ∙ ap Prefix (sym same)) ∙ met_prefix_atom (division i) bytes in omega (arith, own, prefix_met i is bytes lo hi range));
+  few = (let own = ap (met_of_atom (division i)) (a_is ∙ ap Prefix (sym same)) ∙ met_prefix_atom (division i) bytes in
+      omega (arith, own, prefix_met i is bytes lo hi range));
   posts = λ b stands.
       let k = corpus_in (stock_of b) in
-      subst (λ rows. HasRows (stock_of b) rows (filter (is_between lo hi) (stock_of b).posts)) (sym (ap (rows_of_atom k) (a_is ∙ ap Prefix (sym same)) ∙ prefix_rows k bytes))
+      subst (λ rows. HasRows (stock_of b) rows (filter (is_between lo hi) (stock_of b).posts))
+      (sym (ap (rows_of_atom k) (a_is ∙ ap Prefix (sym same)) ∙ prefix_rows k bytes))
       (span_found b i stands is (begins bytes) lo hi range.holds (filter (is_between lo hi) (stock_of b).posts) refl);
 }
 
-pub exact_words : (i : IndexView) → IsIndex i → (a : Atom) (w bytes : List ℕ) (lo hi : ℕ) → a ≡ Exact w → bytes ≡ w → IsSpanOf i.words (λ v. bytes_eq v bytes) lo hi → length (filter (is_met lo hi) i.heads) ≤ met_of_atom (division i) (Exact bytes) → AreWordsOf i (met_of_atom (division i) a) (λ k. rows_of_atom k a) lo hi
+pub exact_words : (i : IndexView) → IsIndex i → (a : Atom) (w bytes : List ℕ) (lo hi : ℕ) → a ≡ Exact w → bytes ≡ w
+    → IsSpanOf i.words (λ v. bytes_eq v bytes) lo hi → length (filter (is_met lo hi) i.heads) ≤ met_of_atom (division i) (Exact bytes)
+    → AreWordsOf i (met_of_atom (division i) a) (λ k. rows_of_atom k a) lo hi
 exact_words i is a w bytes lo hi a_is same span few =
     let own : a ≡ Exact bytes = a_is ∙ ap Exact (sym same) in
     record {
@@ -65,43 +68,14 @@ exact_words i is a w bytes lo hi a_is same span few =
     }
 
 -- ---- chains and parts
-module _ (k : Corpus) where
-  chain_is : (c : Chain) → rows_of_chain k c ≡ chained (rows_of_atom k (out-Chain c).first) (map (rows_of_linked k) (out-Chain c).rest)
-  chain_is c = fold_out-Chain (List Row) (List Row) LinkedRows PartRows (List PartRows) (atom_rows k) chain_rows linked_rows part_rows query_parts c
-
-  pub one_atom : (c : Chain) → (out-Chain c).rest ≡ [] → rows_of_chain k c ≡ rows_of_atom k (out-Chain c).first
-  one_atom c none = chain_is c ∙ ap (λ ls. chained (rows_of_atom k (out-Chain c).first) (map (rows_of_linked k) ls)) none
-
 pub one_chain : (chains : List Chain) (c : Chain) → length chains ≡ 1 → c ≡ get_or chains 0 c → chains ≡ c ∷ []
 one_chain [] c one at = absurd (omega (arith, one))
 one_chain (d ∷ []) c one at = ap (λ x. x ∷ []) (sym at)
 one_chain (d ∷ e ∷ chains) c one at = absurd (omega (arith, one))
 
--- its rows and what may be read are the same
-same_words : (i : IndexView) (m n : ℕ) (f g : Corpus → List Row) → m ≡ n → ((k : Corpus) → f k ≡ g k) → (o : Option (ℕ × ℕ)) → IfSome o (λ w. AreWordsOf i m f w.0 w.1) → IfSome o (λ w. AreWordsOf i n g w.0 w.1)
-same_words i m n f g few same None h = h
-same_words i m n f g few same (Some w) h = record {
-  ordered = h.ordered;
-  within = h.within;
-  few = (let l = h.few in omega (arith, l, few));
-  posts = λ b stands. subst (λ rows. HasRows (stock_of b) rows (filter (is_between w.0 w.1) (stock_of b).posts)) (same (corpus_in (stock_of b))) (h.posts b stands);
-}
-
-pub chain_words : (i : IndexView) (c : Chain) (rest : List Linked) → rest ≡ (out-Chain c).rest → length rest ≡ 0 → (o : Option (ℕ × ℕ)) → IfSome o (λ w. AreWordsOf i (met_of_atom (division i) (out-Chain c).first) (λ k. rows_of_atom k (out-Chain c).first) w.0 w.1) → IfSome o (λ w. AreWordsOf i (met_of_chain (division i) c) (λ k. rows_of_chain k c) w.0 w.1)
-chain_words i c rest are none o h =
-    let v = division i in
-    let nothing : (out-Chain c).rest ≡ [] = sym are ∙ empty_list rest none in
-    let met : met_of_chain v c ≡ met_of_atom v (out-Chain c).first = fold_out-Chain ℕ ℕ ℕ ℕ ℕ (atom_met v) chain_met linked_met part_met query_met c ∙ ap (λ ls. met_of_atom v (out-Chain c).first + sum (map (met_of_linked v) ls)) nothing ∙ plus_none (met_of_atom v (out-Chain c).first) in
-    same_words i (met_of_atom v (out-Chain c).first) (met_of_chain v c) (λ k. rows_of_atom k (out-Chain c).first) (λ k. rows_of_chain k c) (sym met) (λ k. sym (one_atom k c nothing)) o h
-  where
-    empty_list : (ls : List Linked) → length ls ≡ 0 → ls ≡ []
-    empty_list [] e = refl
-    empty_list (l ∷ ls) e = absurd (omega (arith, e))
-
-    plus_none : (n : ℕ) → n + sum [] ≡ n
-    plus_none n = omega arith
-
-pub part_words : (i : IndexView) → IsIndex i → (p : Part) (c : Chain) (chains : List Chain) → chains ≡ (out-Part p).chains → chains ≡ c ∷ [] → (o : Option (ℕ × ℕ)) → IfSome o (λ w. AreWordsOf i (met_of_chain (division i) c) (λ k. rows_of_chain k c) w.0 w.1) → IfSome o (λ w. AreWordsOf i (met_of_part (division i) p) (λ k. (rows_of_part k p).rows) w.0 w.1)
+pub part_words : (i : IndexView) → IsIndex i → (p : Part) (c : Chain) (chains : List Chain) → chains ≡ (out-Part p).chains → chains ≡ c ∷ []
+    → (o : Option (ℕ × ℕ)) → IfSome o (λ w. AreWordsOf i (met_of_chain (division i) c) (λ k. rows_of_chain k c) w.0 w.1)
+    → IfSome o (λ w. AreWordsOf i (met_of_part (division i) p) (λ k. (rows_of_part k p).rows) w.0 w.1)
 part_words i is p c chains are one None h = h
 part_words i is p c chains are one (Some w) h =
     let v = division i in
@@ -115,22 +89,27 @@ part_words i is p c chains are one (Some w) h =
           let s = stock_of b in
           let has = h.posts b stands in
           let posts = filter (is_between w.0 w.1) s.posts in
-          part_ends s (c ∷ []) p (sym own) 1 posts (omega arith) (part_goes_on s (c ∷ []) (stocked b i stands is) 0 c (omega arith) refl [] posts posts (part_begins s (c ∷ []) [] refl) has (with_nothing [] posts refl) has.picked.sorted);
+          part_ends s (c ∷ []) p (sym own) 1 posts (omega arith)
+          (part_goes_on s (c ∷ []) (stocked b i stands is) 0 c (omega arith) refl [] posts posts (part_begins s (c ∷ []) [] refl) has
+          (with_nothing [] posts refl) has.picked.sorted);
     }
 
 -- ---- the entry
 module _ (i : IndexView) (hits : Base) (listed : List Bool) (has : AreListed i.docs hits listed) where
-  pub listed_entry : (b : List ℕ) → StandsFor b i → IsIndex i → (lo hi : ℕ) (rows : List Post) → rows ≡ filter (in_listed listed) (filter (is_between lo hi) (stock_of b).posts)
+  pub listed_entry : (b : List ℕ) → StandsFor b i → IsIndex i → (lo hi : ℕ) (rows : List Post)
+      → rows ≡ filter (in_listed listed) (filter (is_between lo hi) (stock_of b).posts)
       → ◌≡◌ {A = EntryOf Post} (record { base = hits; rows = rows }) (posts_after i.docs hits false (filter (is_between lo hi) (stock_of b).posts))
   listed_entry b stands is lo hi rows are =
       let asked = filter (is_between lo hi) (stock_of b).posts in
-      ap (λ (l : List Post). let e : EntryOf Post = record { base = hits; rows = l } in e) (are ∙ listed_kept b i stands is hits listed asked has (kept_within i (is_between lo hi) (stock_of b).posts (stock_within b i stands is)))
+      ap (λ (l : List Post). let e : EntryOf Post = record { base = hits; rows = l } in e)
+      (are ∙ listed_kept b i stands is hits listed asked has (kept_within i (is_between lo hi) (stock_of b).posts (stock_within b i stands is)))
 
   listed_base : (p : Post) (b : Base) → AreListed i.docs b listed → p.doc < i.docs → in_listed listed p ≡ true → is_in_base b p ≡ true
   listed_base p base.All h lt passes = refl
   listed_base p (base.Listed hs) h lt passes = sym (any_through (λ h. h.doc) (λ d. d == p.doc) hs) ∙ sym (h.each p.doc lt) ∙ passes
 
-  pub listed_fits : (rows : List Post) → AreWithin i rows → All (λ p. in_listed listed p ≡ true) rows → (n : ℕ) → IsBaseOf i.docs (MAX_ROW_SCORE * n) hits → EntryFits i true (n + 1) (record { base = hits; rows = rows })
+  pub listed_fits : (rows : List Post) → AreWithin i rows → All (λ p. in_listed listed p ≡ true) rows → (n : ℕ) → IsBaseOf i.docs (MAX_ROW_SCORE * n) hits
+      → EntryFits i true (n + 1) (record { base = hits; rows = rows })
   listed_fits rows w passed n fits = record {
     parts = λ e. omega arith;
     rows = w;

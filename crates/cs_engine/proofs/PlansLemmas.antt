@@ -3,11 +3,13 @@
 --   viewed               the entry that is lent
 --   is_used              each plan but Fresh uses one
 --   narrowed_rows        the rows of the words from one number up to another are those of the prefix that has these words
+--   IsLast q x, is_last      the part x is the last one of the query q
 --   ends_first, ends_last, first_in, more_told, more_fits, last_met      one part more
---   first_fits, first_parts, more_by_words, parts_met      the entry of the first parts, and of all by the last one's words
+--   first_parts, more_by_words, all_met      the entry of the first parts, and of all by the last one's words
 --   nothing_own, nothing_over        the entry of a query without a part
 --   hits_are_in, found_by_entry      the hits of the query's own entry
-use Rattle.std.proofs.Common.{◌≡◌, ℕ, ◌+◌, ◌-◌, ◌*◌, ◌≤◌, Bool, false, not, List, [], ◌∷◌, length, map, take, get_or, refl, sym, ap, subst, ◌∙◌, arith, length-take, Option, Some, None, IsSome, suc}
+use Rattle.std.proofs.Common.{◌≡◌, ℕ, ◌+◌, ◌-◌, ◌*◌, ◌≤◌, Bool, false, not, List, [], ◌∷◌, length, map, take, get_or, refl, sym, ap, subst, ◌∙◌, arith}
+use Rattle.std.proofs.Common.{length-take, Option, Some, None, IsSome, suc}
 use Rattle.std.specs.Prelude.{filter, sum, IfSome}
 use Rattle.std.proofs.lemmas.List.{take_all}
 use Rattle.std.proofs.lemmas.List.Elements.{All-weaker, recursion_from_All}
@@ -28,7 +30,7 @@ use Rattle.cs_model.specs.Answers.{begins, parts_of, rows_of_part}
 use Rattle.cs_model.specs.Keys.{keys_of, last_of}
 use Rattle.cs_model.specs.Refusals.{IsOfGrammar}
 use Rattle.cs_model_index.specs.Numbered.{word_at}
-use Rattle.cs_model_kept.specs.Due.{Division, met_of_last, met_of_part}
+use Rattle.cs_model_kept.specs.Due.{Division, met_of_last, met_of_part, met_of_query}
 use Rattle.cs_model_kept.specs.Entries.{Entry, EntryOf, base_of}
 use Rattle.cs_model_kept.specs.Entries as kept
 use Rattle.cs_model_kept.specs.KeptList.{KeptOf, plan_by, used_entry}
@@ -43,7 +45,7 @@ use Rattle.cs_engine.specs.Plain.{AreWordsOf}
 use Rattle.cs_engine.specs.IndexReading.{AreWithin, IsWithin, stock_of}
 use Rattle.cs_engine.specs.Steps.{AreFound, AreHitsOver, EntryFits, IsBaseOf, IsStep, end_positive, last_is_positive, posts_after, posts_hits}
 use Rattle.cs_engine.specs.Stocked.{corpus_in, is_between}
-use Rattle.cs_engine.proofs.EvaluationLemmas.{ends_read, entry_begins, entry_by_hits, entry_ends, entry_unrolled, hits_by, positive_more}
+use Rattle.cs_engine.proofs.EvaluationLemmas.{ends_read, entry_begins, entry_by_hits, entry_ends, entry_unrolled, hits_by, met_query-is, positive_more}
 use Rattle.cs_engine.proofs.FoundLemmas.{is_excluded}
 use Rattle.cs_engine.proofs.KeepingLemmas.{from_stock, in_stock}
 use Rattle.cs_engine.proofs.PartSteps.{base_weaker, hits_in, nothing_fits, step_told}
@@ -55,7 +57,8 @@ pub record Viewed (o : Option (List ℕ × EntryOf Post)) (e : EntryOf Post) : T
   pub found : o ≡ Some kept
   pub same : kept.1 ≡ e
 
-pub viewed : (o : Option (List ℕ × EntryOf Post)) → IsSome o → (base : Base) (rows : List Post) → IfSome o (λ e. base ≡ e.1.base) → IfSome o (λ e. rows ≡ e.1.rows) → Viewed o (entry_with base rows)
+pub viewed : (o : Option (List ℕ × EntryOf Post)) → IsSome o → (base : Base) (rows : List Post) → IfSome o (λ e. base ≡ e.1.base)
+    → IfSome o (λ e. rows ≡ e.1.rows) → Viewed o (entry_with base rows)
 viewed None some base rows b r = absurd cc
 viewed (Some e) some base rows b r = record {
   kept = e;
@@ -63,25 +66,38 @@ viewed (Some e) some base rows b r = record {
   same = ap (λ x. entry_with x e.1.rows) (sym b) ∙ ap (entry_with base) (sym r);
 }
 
-pub is_used : (held : KeptOf (EntryOf Post)) (q : Query) → IsOfGrammar q → (keys : Keys) → keys ≡ keys_of q → (by_plan : Plan) → by_plan ≡ plan_by held keys → ¬ (by_plan ≡ Fresh) → IsSome (used_entry held keys by_plan)
+pub is_used : (held : KeptOf (EntryOf Post)) (q : Query) → IsOfGrammar q → (keys : Keys) → keys ≡ keys_of q → (by_plan : Plan) → by_plan ≡ plan_by held keys
+    → ¬ (by_plan ≡ Fresh) → IsSome (used_entry held keys by_plan)
 is_used held q g keys are by_plan is other =
     let own : by_plan ≡ plan_by held (keys_of q) = is ∙ ap (plan_by held) are in
-    subst (λ k. IsSome (used_entry held k by_plan)) (sym are) (subst (λ p. IsSome (used_entry held (keys_of q) p)) (sym own) (plans_are_held held q g (λ fresh. other (own ∙ fresh))))
+    subst (λ k. IsSome (used_entry held k by_plan)) (sym are)
+    (subst (λ p. IsSome (used_entry held (keys_of q) p)) (sym own) (plans_are_held held q g (λ fresh. other (own ∙ fresh))))
 
 -- ---- a letter more
-pub narrowed_rows : (i : IndexView) (p : List ℕ) (lo hi : ℕ) (posts : List Post) → IsRange i.words p lo hi → AreWithin i posts → filter (is_between lo hi) posts ≡ filter (λ post. begins p (word_at i.words post.word)) posts
+pub narrowed_rows : (i : IndexView) (p : List ℕ) (lo hi : ℕ) (posts : List Post) → IsRange i.words p lo hi → AreWithin i posts
+    → filter (is_between lo hi) posts ≡ filter (λ post. begins p (word_at i.words post.word)) posts
 narrowed_rows i p lo hi posts range w =
     let same : Post → Type 0 = λ x. is_between lo hi x ≡ begins p (word_at i.words x.word) in
-    filter_alike (is_between lo hi) (λ x. begins p (word_at i.words x.word)) posts (recursion_from_All same posts (All-weaker (IsWithin i.docs (length i.words)) same (λ x at. sym (range.holds x.word at.word)) posts w.within))
+    filter_alike (is_between lo hi) (λ x. begins p (word_at i.words x.word)) posts
+    (recursion_from_All same posts (All-weaker (IsWithin i.docs (length i.words)) same (λ x at. sym (range.holds x.word at.word)) posts w.within))
 
 -- ---- a part more
 last_is : (ps : List Part) (p : Part) → 1 ≤ length ps → p ≡ get_or ps (length ps - 1) p → last_of ps ≡ Some p
 last_is [] p some at = absurd (omega (arith, some))
 last_is (x ∷ []) p some at = let first : length (x ∷ []) - 1 ≡ 0 = omega arith in ap Some (sym (at ∙ ap (λ n. get_or (x ∷ []) n p) first))
-last_is (x ∷ y ∷ ys) p some at = let more : length (x ∷ y ∷ ys) - 1 ≡ suc (length (y ∷ ys) - 1) = omega arith in last_is (y ∷ ys) p (omega arith) (at ∙ ap (λ n. get_or (x ∷ y ∷ ys) n p) more)
+last_is (x ∷ y ∷ ys) p some at = let more : length (x ∷ y ∷ ys) - 1 ≡ suc (length (y ∷ ys) - 1) = omega arith in
+    last_is (y ∷ ys) p (omega arith) (at ∙ ap (λ n. get_or (x ∷ y ∷ ys) n p) more)
 
-pub last_met : (v : Division) (ps : List Part) (p : Part) → 1 ≤ length ps → p ≡ get_or ps (length ps - 1) p → met_of_last v (last_of ps) ≡ met_of_part v p
-last_met v ps p some at = ap (met_of_last v) (last_is ps p some at)
+pub record IsLast (q : Query) (x : Part) : Type 0 where
+  pub some : 1 ≤ length (out-Query q).parts
+  pub at : x ≡ get_or (out-Query q).parts (length (out-Query q).parts - 1) x
+
+pub is_last : {q : Query} {parts : List Part} {x : Part} → 1 ≤ length (out-Query q).parts → parts ≡ (out-Query q).parts → x ≡ get_or parts (length parts - 1) x
+    → IsLast q x
+is_last {x = x} some are at = record { some = some; at = at ∙ ap (λ (xs : List Part). get_or xs (length xs - 1) x) are }
+
+pub last_met : (v : Division) {q : Query} {x : Part} → IsLast q x → met_of_last v (last_of (out-Query q).parts) ≡ met_of_part v x
+last_met v {q = q} {x = x} l = ap (met_of_last v) (last_is (out-Query q).parts x l.some l.at)
 
 module _ (q : Query) where
   abbrev ps : List Part
@@ -97,49 +113,60 @@ module _ (q : Query) where
   pub ends_first : (positive : Bool) → positive ≡ end_positive first → positive ≡ last_is_positive (before_last q)
   ends_first positive ends = ends ∙ sym (ap end_positive first_are)
 
-  pub first_in : (i : IndexView) (e : EntryOf Post) (positive : Bool) (hits : Base) → FitsQuery i (before_last q) e → positive ≡ end_positive first → hits ≡ posts_hits positive e.base e.rows → IsBaseOf i.docs (MAX_ROW_SCORE * (length ps - 1)) hits
+  pub first_in : (i : IndexView) (e : EntryOf Post) (positive : Bool) (hits : Base) → FitsQuery i (before_last q) e → positive ≡ end_positive first
+      → hits ≡ posts_hits positive e.base e.rows → IsBaseOf i.docs (MAX_ROW_SCORE * (length ps - 1)) hits
   first_in i e positive hits fits ends are =
-      let many : length (out-Query (before_last q)).parts ≡ length ps - 1 = ap length first_are ∙ (let l = length-take (length ps - 1) ps in omega (arith, l)) in
-      subst (IsBaseOf i.docs (MAX_ROW_SCORE * (length ps - 1))) (sym are) (hits_in i positive (length ps - 1) e (subst (λ n. EntryFits i positive n e) many (subst (λ p. EntryFits i p (length (out-Query (before_last q)).parts) e) (sym (ends_first positive ends)) fits)))
+      let many : length (out-Query (before_last q)).parts ≡ length ps - 1 = ap length first_are
+      ∙ (let l = length-take (length ps - 1) ps in omega (arith, l)) in
+      subst (IsBaseOf i.docs (MAX_ROW_SCORE * (length ps - 1))) (sym are)
+      (hits_in i positive (length ps - 1) e (subst (λ n. EntryFits i positive n e) many
+      (subst (λ p. EntryFits i p (length (out-Query (before_last q)).parts) e) (sym (ends_first positive ends)) fits)))
 
   -- the last part says whether the query ends in a positive one
-  pub ends_last : (n : ℕ) (x : Part) → length ps ≡ n + 1 → x ≡ get_or ps n x → last_is_positive q ≡ not (out-Part x).excluded
-  ends_last n x many at = sym (sym (positive_more ps n x (omega (arith, many)) at) ∙ ap end_positive (take_all (n + 1) ps (omega (arith, many))))
+  pub ends_last : (x : Part) → IsLast q x → last_is_positive q ≡ not (out-Part x).excluded
+  ends_last x l =
+      let some = l.some in
+      let n = length ps - 1 in
+      sym (sym (positive_more ps n x (omega (arith, some)) l.at) ∙ ap end_positive (take_all (n + 1) ps (omega (arith, some))))
 
-  pub more_fits : (i : IndexView) (n : ℕ) (x : Part) (e : EntryOf Post) → length ps ≡ n + 1 → x ≡ get_or ps n x → EntryFits i (not (out-Part x).excluded) (n + 1) e → FitsQuery i q e
-  more_fits i n x e many at fits =
-      let ends = sym (ends_last n x many at) in
-      subst (λ m. EntryFits i (last_is_positive q) m e) (sym many) (subst (λ b. EntryFits i b (n + 1) e) ends fits)
-
-  -- the entry of the first parts is that of the query without its last one
-  pub first_fits : (i : IndexView) (firsts : List Part) (e : EntryOf Post) → firsts ≡ take (length ps - 1) ps → EntryFits i (end_positive firsts) (length firsts) e → FitsQuery i (before_last q) e
-  first_fits i firsts e are fits = subst (λ xs. EntryFits i (end_positive xs) (length xs) e) (are ∙ sym first_are) fits
+  pub more_fits : (i : IndexView) (x : Part) (e : EntryOf Post) → IsLast q x → EntryFits i (not (out-Part x).excluded) (length ps - 1 + 1) e → FitsQuery i q e
+  more_fits i x e l fits =
+      let some = l.some in
+      let many : length ps - 1 + 1 ≡ length ps = omega (arith, some) in
+      subst (λ m. EntryFits i (last_is_positive q) m e) many (subst (λ b. EntryFits i b (length ps - 1 + 1) e) (sym (ends_last x l)) fits)
 
   pub first_parts : (firsts : List Part) → firsts ≡ take (length ps - 1) ps → firsts ≡ (out-Query (before_last q)).parts
   first_parts firsts are = are ∙ sym first_are
 
   -- the entry of one part more
-  pub more_told : (b : List ℕ) (i : IndexView) → StandsFor b i → IsIndex i → (n : ℕ) (x : Part) (hits : Base) (now : EntryOf Post) → length ps ≡ n + 1 → x ≡ get_or ps n x → AreHitsOver b (before_last q) hits
+  pub more_told : (b : List ℕ) (i : IndexView) → StandsFor b i → IsIndex i → (x : Part) (hits : Base) (now : EntryOf Post) → IsLast q x
+      → AreHitsOver b (before_last q) hits
       → IsStep (stock_of b) hits (rows_of_part (corpus_in (stock_of b)) x) now → IsEntryOver b i q now
-  more_told b i stands is n x hits now many at over step =
+  more_told b i stands is x hits now l over step =
       let k = corpus_in (stock_of b) in
-      let here : length ps - 1 ≡ n = omega (arith, many) in
-      let so_far : hits ≡ base_of k (map (rows_of_part k) (take n ps)) = over ∙ ap (base_of k) (parts_read k (before_last q)) ∙ ap (λ xs. base_of k (map (rows_of_part k) xs)) first_are ∙ ap (λ m. base_of k (map (rows_of_part k) (take m ps))) here in
-      from_stock b i stands is q now (entry_ends (stock_of b) ps q (n + 1) now refl (omega (arith, many)) (entry_by_hits (stock_of b) ps n x (omega (arith, many)) at hits now so_far step))
+      let n = length ps - 1 in
+      let some = l.some in
+      let so_far : hits ≡ base_of k (map (rows_of_part k) (take n ps)) = over ∙ ap (base_of k) (parts_read k (before_last q))
+      ∙ ap (λ xs. base_of k (map (rows_of_part k) xs)) first_are in
+      from_stock b i stands is q now (entry_ends (stock_of b) ps q (n + 1) now refl (omega (arith, some))
+      (entry_by_hits (stock_of b) ps n x (omega (arith, some)) l.at hits now so_far step))
 
 -- the entry by the words that the last part asks for
-pub more_by_words : (q : Query) (b : List ℕ) (i : IndexView) → StandsFor b i → IsIndex i → (n : ℕ) (x : Part) (hits : Base) (lo hi : ℕ) → length (out-Query q).parts ≡ n + 1 → x ≡ get_or (out-Query q).parts n x → AreHitsOver b (before_last q) hits
+pub more_by_words : (q : Query) (b : List ℕ) (i : IndexView) → StandsFor b i → IsIndex i → (x : Part) (hits : Base) (lo hi : ℕ) → IsLast q x
+    → AreHitsOver b (before_last q) hits
     → (out-Part x).excluded ≡ false → AreWordsOf i (met_of_part (division i) x) (λ k. (rows_of_part k x).rows) lo hi → IsEntryByWords b i q hits lo hi
-more_by_words q b i stands is n x hits lo hi many at over last asks =
+more_by_words q b i stands is x hits lo hi l over last asks =
     let s = stock_of b in
     let posts = filter (is_between lo hi) s.posts in
-    more_told q b i stands is n x hits (posts_after i.docs hits false posts) many at over
+    more_told q b i stands is x hits (posts_after i.docs hits false posts) l over
     (step_told s i.docs hits (rows_of_part (corpus_in s) x) posts (docs_are b i stands is) (asks.posts b stands).is false (is_excluded s x ∙ last))
 
 -- what is read for the last part and for those before it
-pub parts_met : (v : Division) (ps : List Part) → 1 ≤ length ps → sum (map (met_of_part v) (take (length ps - 1) ps)) + met_of_last v (last_of ps) ≡ sum (map (met_of_part v) ps)
+parts_met : (v : Division) (ps : List Part) → 1 ≤ length ps
+    → sum (map (met_of_part v) (take (length ps - 1) ps)) + met_of_last v (last_of ps) ≡ sum (map (met_of_part v) ps)
 parts_met v [] some = absurd (omega (arith, some))
-parts_met v (x ∷ []) some = let none : length (x ∷ []) - 1 ≡ 0 = omega arith in let one = sum_by-cons (λ n. n) (met_of_part v x) [] in ap (λ n. sum (map (met_of_part v) (take n (x ∷ []))) + met_of_part v x) none ∙ omega (arith, one)
+parts_met v (x ∷ []) some = let none : length (x ∷ []) - 1 ≡ 0 = omega arith in let one = sum_by-cons (λ n. n) (met_of_part v x) [] in
+    ap (λ n. sum (map (met_of_part v) (take n (x ∷ []))) + met_of_part v x) none ∙ omega (arith, one)
 parts_met v (x ∷ y ∷ ys) some =
     let f = met_of_part v in
     let more : length (x ∷ y ∷ ys) - 1 ≡ suc (length (y ∷ ys) - 1) = omega arith in
@@ -148,8 +175,14 @@ parts_met v (x ∷ y ∷ ys) some =
     let whole = sum_by-cons (λ n. n) (f x) (map f (y ∷ ys)) in
     ap (λ n. sum (map f (take n (x ∷ y ∷ ys))) + met_of_last v (last_of (y ∷ ys))) more ∙ omega (arith, rest, front, whole)
 
+pub all_met : (v : Division) (q : Query) (parts : List Part) → parts ≡ (out-Query q).parts → 1 ≤ length parts
+    → sum (map (met_of_part v) (take (length parts - 1) parts)) + met_of_last v (last_of (out-Query q).parts) ≡ met_of_query v q
+all_met v q parts are some = ap (λ (xs : List Part). sum (map (met_of_part v) (take (length parts - 1) parts)) + met_of_last v (last_of xs)) (sym are)
+    ∙ parts_met v parts some ∙ ap (λ (xs : List Part). sum (map (met_of_part v) xs)) are ∙ sym (met_query-is v q)
+
 -- ---- queries without a part
-module _ (q : Query) (parts : List Part) (are : parts ≡ (out-Query q).parts) (none : length parts ≡ 0) (e : EntryOf Post) (is_nothing : e ≡ record { base = base.All; rows = [] }) where
+module _ (q : Query) (parts : List Part) (are : parts ≡ (out-Query q).parts) (none : length parts ≡ 0) (e : EntryOf Post)
+    (is_nothing : e ≡ record { base = base.All; rows = [] }) where
   pub nothing_own : (i : IndexView) → FitsQuery i q e
   nothing_own i = subst (λ xs. EntryFits i (end_positive xs) (length xs) e) (sym (no_parts parts none) ∙ are) (nothing_fits i e is_nothing)
     where
@@ -158,14 +191,17 @@ module _ (q : Query) (parts : List Part) (are : parts ≡ (out-Query q).parts) (
       no_parts (x ∷ xs) h = absurd (omega (arith, h))
 
   pub nothing_over : (b : List ℕ) (i : IndexView) → StandsFor b i → IsIndex i → IsEntryOver b i q e
-  nothing_over b i stands is = from_stock b i stands is q e (entry_ends (stock_of b) parts q 0 e are (omega (arith, none)) (entry_begins (stock_of b) parts e is_nothing))
+  nothing_over b i stands is = from_stock b i stands is q e
+      (entry_ends (stock_of b) parts q 0 e are (omega (arith, none)) (entry_begins (stock_of b) parts e is_nothing))
 
 -- ---- hits by the query's own entry
-module _ (i : IndexView) (q : Query) (e : EntryOf Post) (positive : Bool) (ends : positive ≡ last_is_positive q) (hits : Base) (are : hits ≡ posts_hits positive e.base e.rows) where
+module _ (i : IndexView) (q : Query) (e : EntryOf Post) (positive : Bool) (ends : positive ≡ last_is_positive q) (hits : Base)
+    (are : hits ≡ posts_hits positive e.base e.rows) where
   pub hits_are_in : FitsQuery i q e → length (out-Query q).parts ≤ MAX_PARTS → IsBaseOf i.docs (MAX_ROW_SCORE * MAX_PARTS) hits
   hits_are_in fits few =
       let n = length (out-Query q).parts in
-      base_weaker i.docs (MAX_ROW_SCORE * n) (MAX_ROW_SCORE * MAX_PARTS) hits (omega (arith, few)) (subst (IsBaseOf i.docs (MAX_ROW_SCORE * n)) (sym are) (hits_in i positive n e (subst (λ p. EntryFits i p n e) (sym ends) fits)))
+      base_weaker i.docs (MAX_ROW_SCORE * n) (MAX_ROW_SCORE * MAX_PARTS) hits (omega (arith, few))
+      (subst (IsBaseOf i.docs (MAX_ROW_SCORE * n)) (sym are) (hits_in i positive n e (subst (λ p. EntryFits i p n e) (sym ends) fits)))
 
   pub found_by_entry : (b : List ℕ) → StandsFor b i → IsIndex i → IsEntryOver b i q e → AreFound (stock_of b) q hits e.rows
   found_by_entry b stands is own =

@@ -52,13 +52,17 @@ take_all_of P (suc n) [] h = tt
 take_all_of P (suc n) (x ∷ xs) h = (h.0, take_all_of P n xs h.1)
 
 -- the first words of a table are there
-pub first_there : (ws : List (List ℕ)) → IsStrictlySortedBy (slice_cmp nat_cmp) ws → (posts : List Post) → AllByRecursion (λ p. p.word < length ws) posts → (cut : ℕ) (first : List Numbered) → first ≡ take cut (post_table posts) → All (λ c. c.word < length ws) first
+pub first_there : (ws : List (List ℕ)) → IsStrictlySortedBy (slice_cmp nat_cmp) ws → (posts : List Post) → AllByRecursion (λ p. p.word < length ws) posts
+    → (cut : ℕ) (first : List Numbered) → first ≡ take cut (post_table posts) → All (λ c. c.word < length ws) first
 first_there ws up posts known cut first is =
-    subst (All (λ c. c.word < length ws)) (sym is) (All-from_recursion (λ c. c.word < length ws) (take cut (post_table posts)) (take_all_of (λ c. c.word < length ws) cut (post_table posts) (table_known ws up posts known)))
+    subst (All (λ c. c.word < length ws)) (sym is)
+    (All-from_recursion (λ c. c.word < length ws) (take cut (post_table posts))
+    (take_all_of (λ c. c.word < length ws) cut (post_table posts) (table_known ws up posts known)))
 
 module _ (s : Stock) (kept : IsStocked s) where
   -- the first words of a table, as they are shown
-  pub words_shown : (posts : List Post) (cut : ℕ) (first : List Numbered) → AllByRecursion (λ p. p.word < length s.words) posts → first ≡ take cut (post_table posts) → map (shown_at s.words) first ≡ map shown_of (take cut (table_of (rows_at s.words posts)))
+  pub words_shown : (posts : List Post) (cut : ℕ) (first : List Numbered) → AllByRecursion (λ p. p.word < length s.words) posts
+      → first ≡ take cut (post_table posts) → map (shown_at s.words) first ≡ map shown_of (take cut (table_of (rows_at s.words posts)))
   words_shown posts cut first known is =
       ap (map (shown_at s.words)) is
       ∙ sym (through (take cut (post_table posts)))
@@ -68,15 +72,19 @@ module _ (s : Stock) (kept : IsStocked s) where
       through [] = refl
       through (c ∷ cs) = ap (λ l. shown_at s.words c ∷ l) (through cs)
 
-  pub table_total : (posts : List Post) → AllByRecursion (λ p. p.word < length s.words) posts → length (post_table posts) ≡ length (table_of (rows_at s.words posts))
+  pub table_total : (posts : List Post) → AllByRecursion (λ p. p.word < length s.words) posts
+      → length (post_table posts) ≡ length (table_of (rows_at s.words posts))
   table_total posts known = sym (length-map (post_table posts) (named_at s.words)) ∙ ap length (table_through s.words kept.words posts known)
 
   -- the rows of a facet in the documents of a base
-  pub facet_kept : (b : Base) (name : List ℕ) (posts found : List Post) → rows_at s.words posts ≡ named_rows s name → found ≡ keep_docs posts (docs_in (length s.titles) b) → rows_at s.words found ≡ named_rows_in s b name
+  pub facet_kept : (b : Base) (name : List ℕ) (posts found : List Post) → rows_at s.words posts ≡ named_rows s name
+      → found ≡ keep_docs posts (docs_in (length s.titles) b) → rows_at s.words found ≡ named_rows_in s b name
   facet_kept b name posts found is kept_is =
-      ap (rows_at s.words) kept_is ∙ filter_through (row_of s.words) (λ r. is_listed (docs_in (length s.titles) b) r.doc) posts ∙ ap (filter (λ r. is_listed (docs_in (length s.titles) b) r.doc)) is
+      ap (rows_at s.words) kept_is ∙ filter_through (row_of s.words) (λ r. is_listed (docs_in (length s.titles) b) r.doc) posts
+      ∙ ap (filter (λ r. is_listed (docs_in (length s.titles) b) r.doc)) is
 
-module _ (s : Stock) (kept : IsStocked s) (ps : List PartRows) (b : Base) (posts : List Post) (lists : base_hits (length s.titles) b ≡ scored_hits (corpus_in s) ps) where
+module _ (s : Stock) (kept : IsStocked s) (ps : List PartRows) (b : Base) (posts : List Post)
+    (lists : base_hits (length s.titles) b ≡ scored_hits (corpus_in s) ps) where
   abbrev k : Corpus
   k = corpus_in s
 
@@ -90,7 +98,9 @@ module _ (s : Stock) (kept : IsStocked s) (ps : List PartRows) (b : Base) (posts
     facet_is : rows_at s.words asked_posts ≡ (facet_part k name).rows
     facet_is =
         asked_is
-        ∙ listed_itself by_row by_row_total by_row_exact (named_rows s name) (IsStrictlySortedBy-filter by_row (λ r. begins (named name []) r.word) (rows_at s.words s.posts) (rows_rise s.words kept.words s.posts (words_known s s.posts kept.known) kept.sorted))
+        ∙ listed_itself by_row by_row_total by_row_exact (named_rows s name)
+        (IsStrictlySortedBy-filter by_row (λ r. begins (named name []) r.word) (rows_at s.words s.posts)
+        (rows_rise s.words kept.words s.posts (words_known s s.posts kept.known) kept.sorted))
         ∙ ap (members_in by_row) (sym (append-nil (named_rows s name)))
 
     facet_pairs : named_rows_in s b name ≡ pairs k (ps ++ facet_part k name ∷ [])
@@ -104,7 +114,8 @@ module _ (s : Stock) (kept : IsStocked s) (ps : List PartRows) (b : Base) (posts
       map_alike (facet_at s b cut) (facet_shown k ps cut) names (all_of (λ name. facet_at s b cut name ≡ facet_shown k ps cut name) (λ name.
       ap (λ (rows : List Row). let f : FacetShown = record { name = name; table = map shown_of (take cut (table_of rows)) } in f) (facet_pairs name)) names)
 
-  pub reply_made : rows_at s.words posts ≡ pairs k ps → (r : Request) → ps ≡ answers.parts_of k r.query → (c : List Shown) (f : List FacetShown) (h : List HitShown) (tc th : ℕ)
+  pub reply_made : rows_at s.words posts ≡ pairs k ps → (r : Request) → ps ≡ answers.parts_of k r.query
+      → (c : List Shown) (f : List FacetShown) (h : List HitShown) (tc th : ℕ)
       → c ≡ map shown_of (take r.completions (table_of (rows_at s.words posts)))
       → f ≡ map (facet_at s b r.completions) r.facets
       → h ≡ map (hit_shown k) (take r.hits (drop r.offset (members_in by_rank (base_hits (length s.titles) b))))
@@ -113,14 +124,18 @@ module _ (s : Stock) (kept : IsStocked s) (ps : List PartRows) (b : Base) (posts
       → ◌≡◌ {A = Reply} (record { completions = c; facets = f; hits = h; total_completions = tc; total_hits = th }) (reply_of k r)
   unfolding reply_of
   reply_made pairs_are r parts c f h tc th c_is f_is h_is tc_is th_is =
-      let by : List Shown → List FacetShown → List HitShown → ℕ → ℕ → Reply = λ c f h tc th. record { completions = c; facets = f; hits = h; total_completions = tc; total_hits = th } in
+      let by : List Shown → List FacetShown → List HitShown → ℕ → ℕ
+      → Reply = λ c f h tc th. record { completions = c; facets = f; hits = h; total_completions = tc; total_hits = th } in
       let c2 : c ≡ map shown_of (take r.completions (answers.table k ps)) = c_is ∙ ap (λ rows. map shown_of (take r.completions (table_of rows))) pairs_are in
       let f2 : f ≡ map (facet_shown k ps r.completions) r.facets = f_is ∙ facets_are r.completions r.facets in
-      let h2 : h ≡ map (hit_shown k) (take r.hits (drop r.offset (ranked k ps))) = h_is ∙ ap (λ hs. map (hit_shown k) (take r.hits (drop r.offset (members_in by_rank hs)))) lists in
+      let h2 : h ≡ map (hit_shown k) (take r.hits (drop r.offset (ranked k ps))) = h_is
+      ∙ ap (λ hs. map (hit_shown k) (take r.hits (drop r.offset (members_in by_rank hs)))) lists in
       let tc2 : tc ≡ length (answers.table k ps) = tc_is ∙ ap (λ rows. length (table_of rows)) pairs_are in
       let th2 : th ≡ length (hits k ps) = th_is ∙ ap length lists ∙ length-map (hits k ps) (answers.scored ps) in
       ap (λ x. by x f h tc th) c2 ∙ ap (λ x. by (map shown_of (take r.completions (answers.table k ps))) x h tc th) f2
       ∙ ap (λ x. by (map shown_of (take r.completions (answers.table k ps))) (map (facet_shown k ps r.completions) r.facets) x tc th) h2
-      ∙ ap (λ x. by (map shown_of (take r.completions (answers.table k ps))) (map (facet_shown k ps r.completions) r.facets) (map (hit_shown k) (take r.hits (drop r.offset (ranked k ps)))) x th) tc2
-      ∙ ap (λ x. by (map shown_of (take r.completions (answers.table k ps))) (map (facet_shown k ps r.completions) r.facets) (map (hit_shown k) (take r.hits (drop r.offset (ranked k ps)))) (length (answers.table k ps)) x) th2
+      ∙ ap (λ x. by (map shown_of (take r.completions (answers.table k ps))) (map (facet_shown k ps r.completions) r.facets)
+      (map (hit_shown k) (take r.hits (drop r.offset (ranked k ps)))) x th) tc2
+      ∙ ap (λ x. by (map shown_of (take r.completions (answers.table k ps))) (map (facet_shown k ps r.completions) r.facets)
+      (map (hit_shown k) (take r.hits (drop r.offset (ranked k ps)))) (length (answers.table k ps)) x) th2
       ∙ ap (λ qs. reply_to k qs r) parts

@@ -3,7 +3,8 @@
 --   kept_within, united_within     posts that are cut and united are in order and in range
 --   same_posts       posts in order with the same members are the same
 --   met_count        how many blocks are met
-use Rattle.std.proofs.Common.{◌≡◌, ℕ, zero, suc, ◌-◌, ◌<◌, ◌≤◌, ◌&&◌, Bool, true, false, cond, List, [], ◌∷◌, ◌++◌, length, get_or, refl, sym, ap, subst, ◌∙◌, arith}
+use Rattle.std.proofs.Common.{◌≡◌, ℕ, zero, suc, ◌-◌, ◌<◌, ◌≤◌, ◌&&◌, Bool, true, false, cond, List, [], ◌∷◌, ◌++◌, length, get_or, refl, sym, ap, subst}
+use Rattle.std.proofs.Common.{◌∙◌, arith}
 use Rattle.std.specs.Prelude.{filter, nat_le, nat_lt}
 use Rattle.std.specs.List.{list_any}
 use Rattle.std.specs.List.Sorted.{IsStrictlySortedBy}
@@ -24,7 +25,10 @@ use Rattle.cs_engine.proofs.StockLemmas.{by_post_total, by_post_exact}
 
 -- ---- what always holds
 pub kept_within : (i : IndexView) (t : Post → Bool) (posts : List Post) → AreWithin i posts → AreWithin i (filter t posts)
-kept_within i t posts h = record { sorted = IsStrictlySortedBy-filter by_place t posts h.sorted; within = All-filter t (IsWithin i.docs (length i.words)) posts h.within }
+kept_within i t posts h = record {
+  sorted = IsStrictlySortedBy-filter by_place t posts h.sorted;
+  within = All-filter t (IsWithin i.docs (length i.words)) posts h.within;
+}
 
 pub united_within : (i : IndexView) (a b c : List Post) → AreWithin i a → AreWithin i b → IsUnion a b c → AreSorted c → AreWithin i c
 united_within i a b c in_a in_b union up =
@@ -53,7 +57,8 @@ same_posts xs ys up_x up_y alike =
     ∙ sym (members_are by_post by_post_total by_post_exact ys ys (still_rise ys up_y) (λ q. refl))
 
 -- ---- how many blocks are met
-count_from : {X : Type 0} (p : X → Bool) (xs : List X) (first last : ℕ) → first ≤ last → last ≤ length xs → ((k : ℕ) (d : X) → first ≤ k → k < last → p (get_or xs k d) ≡ true) → last - first ≤ length (filter p xs)
+count_from : {X : Type 0} (p : X → Bool) (xs : List X) (first last : ℕ) → first ≤ last → last ≤ length xs
+    → ((k : ℕ) (d : X) → first ≤ k → k < last → p (get_or xs k d) ≡ true) → last - first ≤ length (filter p xs)
 count_from p [] first last up within h = omega (arith, within)
 count_from p (x ∷ xs) first zero up within h = omega arith
 count_from p (x ∷ xs) zero (suc last) up within h =
@@ -72,4 +77,5 @@ in_turn first k last a b = grind (arith, nat_tests)
 
 pub met_count : (heads : List BlockHead) (lo hi first last : ℕ) → AreMet heads lo hi first last → last - first ≤ length (filter (is_met lo hi) heads)
 met_count heads lo hi first last met =
-    count_from (is_met lo hi) heads first last met.ordered met.within (λ k d a b. (let w = met.within in met.met k d (omega (arith, b, w))) ∙ in_turn first k last a b)
+    count_from (is_met lo hi) heads first last met.ordered met.within
+    (λ k d a b. (let w = met.within in met.met k d (omega (arith, b, w))) ∙ in_turn first k last a b)

@@ -6,7 +6,8 @@
 --   one_post_of       of the posts of a file one alone has a document, position and word
 --   stocked           what is read of an index file is a stock
 --   stock_corpus      its corpus is that of the file
-use Rattle.std.proofs.Common.{◌≡◌, ℕ, suc, ◌+◌, ◌-◌, ◌<◌, ◌≤◌, ◌==◌, ◌&&◌, Bool, true, false, true≢false, List, [], ◌∷◌, length, get_or, drop, Option, Some, None, refl, sym, ap, subst, ◌∙◌, arith, inl, inr}
+use Rattle.std.proofs.Common.{◌≡◌, ℕ, suc, ◌+◌, ◌-◌, ◌<◌, ◌≤◌, ◌==◌, ◌&&◌, Bool, true, false, true≢false, List, [], ◌∷◌, length, get_or, drop, Option, Some}
+use Rattle.std.proofs.Common.{None, refl, sym, ap, subst, ◌∙◌, arith, inl, inr}
 use Rattle.std.specs.Prelude.{All, flat_map}
 use Rattle.std.specs.List.{AllByRecursion, Contains, zip}
 use Rattle.std.specs.List.Sorted.{IsStrictlySortedBy}
@@ -31,7 +32,7 @@ use Rattle.cs_base.specs.declared.content.doc.Post.{Post}
 use Rattle.cs_base.specs.declared.content.doc.Row.{Row}
 use Rattle.cs_base.specs.declared.content.scores.TheConstants.{MAX_ROW_SCORE}
 use Rattle.cs_base.specs.declared.index.block.BlockHead.{BlockHead}
-use Rattle.cs_base.proofs.MembersLemmas.{all_then, members_are, is_member-listed, listing-rises}
+use Rattle.cs_base.proofs.MembersLemmas.{any_listed, all_then, members_are, is_member-listed, listing-rises}
 use Rattle.cs_base.proofs.OrdersLemmas.{by_row_total, by_row_exact, by_place_total}
 use Rattle.cs_base.proofs.ListsLemmas.{same_number, any_through}
 use Rattle.cs_file.specs.Indexes.{IndexView, IsIndex, StandsFor, block_posts}
@@ -47,7 +48,6 @@ use Rattle.cs_model_index.specs.Sections.{contents_of, image_of, file_corpus}
 use Rattle.cs_engine.specs.IndexReading.{by_post, stock_of, IsWithin, AreWithin}
 use Rattle.cs_model_index.specs.Numbered.{row_of, rows_at}
 use Rattle.cs_engine.specs.Stocked.{corpus_in, IsKnown, IsStocked}
-use Rattle.cs_engine.proofs.TableLemmas.{any_listed}
 use Rattle.cs_engine.proofs.UnionLemmas.{one_post}
 use Rattle.cs_engine.proofs.VocabLemmas.{rows_rise}
 
@@ -100,11 +100,13 @@ unfolding IsStrictlySortedBy
 places_rise [] up one = tt
 places_rise (x ∷ xs) up one =
     let less = All-from_recursion (λ y. by_post x y ≡ Less) xs up.0 in
-    let each : All (λ y. by_place x y ≡ Less) xs = λ k d l. place_less x (get_or xs k d) (less k d l) (one x (get_or xs k d) (Contains-get_or (x ∷ xs) 0 x (omega arith)) (Contains-get_or (x ∷ xs) (suc k) d (omega (arith, l)))) in
+    let each : All (λ y. by_place x y ≡ Less) xs = λ k d l. place_less x (get_or xs k d) (less k d l)
+    (one x (get_or xs k d) (Contains-get_or (x ∷ xs) 0 x (omega arith)) (Contains-get_or (x ∷ xs) (suc k) d (omega (arith, l)))) in
     (recursion_from_All (λ y. by_place x y ≡ Less) xs each, places_rise xs up.1 (one_rest x xs one))
 
 -- ---- the posts of a block
-pub kept_all : (holds : Option Post → Post → Bool) (P : Post → Type 0) → ((last : Option Post) (r : Post) → holds last r ≡ true → P r) → (last : Option Post) (rs : List Post) → keeps holds last rs ≡ true → AllByRecursion P rs
+pub kept_all : (holds : Option Post → Post → Bool) (P : Post → Type 0) → ((last : Option Post) (r : Post) → holds last r ≡ true → P r)
+    → (last : Option Post) (rs : List Post) → keeps holds last rs ≡ true → AllByRecursion P rs
 unfolding keeps
 kept_all holds P f last [] e = tt
 kept_all holds P f last (r ∷ rs) e = let p = and_parts (holds last r) (keeps holds (Some r) rs) e in (f last r p.0, kept_all holds P f (Some r) rs p.1)
@@ -113,13 +115,15 @@ small_score : (facet : Bool) (r : Post) → is_scored SCORES facet r ≡ true �
 small_score true r h = grind (arith, nat_tests)
 small_score false r h = grind (arith, nat_tests)
 
-pub block_within : (i : IndexView) → IsIndex i → (k : ℕ) (d : BlockHead) → k < length i.heads → (rs : List Post) (bytes : List ℕ) → IsBlock SCORES (get_or i.heads k d) i.docs rs bytes → AreWithin i rs
+pub block_within : (i : IndexView) → IsIndex i → (k : ℕ) (d : BlockHead) → k < length i.heads → (rs : List Post) (bytes : List ℕ)
+    → IsBlock SCORES (get_or i.heads k d) i.docs rs bytes → AreWithin i rs
 block_within i is k d lt rs bytes block =
     let h = get_or i.heads k d in
     let docs = block_docs h i.docs rs bytes block in
     let words = block_words h i.docs rs bytes block in
     let to = head_within i is k d lt in
-    let small = All-from_recursion (λ r. r.score ≤ MAX_ROW_SCORE) rs (kept_all (in_kind SCORES h).holds (λ r. r.score ≤ MAX_ROW_SCORE) (λ last r e. small_score h.facet r e) None rs block.meets.1.1.0) in
+    let small = All-from_recursion (λ r. r.score ≤ MAX_ROW_SCORE) rs
+    (kept_all (in_kind SCORES h).holds (λ r. r.score ≤ MAX_ROW_SCORE) (λ last r e. small_score h.facet r e) None rs block.meets.1.1.0) in
     record {
       sorted = block.writable.sorted;
       within = λ j e l. record { doc = docs j e l; word = (let w = words j e l in omega (arith, w.1, to)); score = small j e l };
@@ -152,10 +156,12 @@ module _ (b : List ℕ) (i : IndexView) (s : StandsFor b i) (is : IsIndex i) whe
       let (k, l, at) = in_block (image_of b).blocks x c in
       All-contains (IsWithin i.docs (length i.words)) (block_posts b k) x (within_block k (at_block k l)).within at
 
-  words_of : (k : ℕ) → k < length i.heads → (x : Post) → Contains (block_posts b k) x → ((get_or i.heads k none).lo ≤ x.word) × (x.word < (get_or i.heads k none).lo + (get_or i.heads k none).words)
+  words_of : (k : ℕ) → k < length i.heads → (x : Post) → Contains (block_posts b k) x
+      → ((get_or i.heads k none).lo ≤ x.word) × (x.word < (get_or i.heads k none).lo + (get_or i.heads k none).words)
   words_of k l x at =
       let h = get_or i.heads k none in
-      All-contains (λ p. (h.lo ≤ p.word) × (p.word < h.lo + h.words)) (block_posts b k) x (block_words h i.docs (block_posts b k) _ (stood_block b i s is k none l)) at
+      All-contains (λ p. (h.lo ≤ p.word) × (p.word < h.lo + h.words)) (block_posts b k) x
+      (block_words h i.docs (block_posts b k) _ (stood_block b i s is k none l)) at
 
   same_word : (x y : Post) → shares_place x y ≡ true → y.word ≡ x.word
   same_word x y same =
@@ -185,13 +191,15 @@ module _ (b : List ℕ) (i : IndexView) (s : StandsFor b i) (is : IsIndex i) whe
   pub in_file : (x : Post) → Contains (stock_of b).posts x → Contains all x
   in_file x (k, l, at) =
       Contains-from_any (λ p q e. by_post_exact p q ((Equal-is (by_post p q)).0 e)) x all
-      (sym (is_member-listed by_post by_post_total all x) ∙ list_any_at (eq_by_cmp by_post x) (stock_of b).posts k x l (ap (eq_by_cmp by_post x) at ∙ (Equal-is (by_post x x)).1 (tied_itself by_post_total x)))
+      (sym (is_member-listed by_post by_post_total all x)
+      ∙ list_any_at (eq_by_cmp by_post x) (stock_of b).posts k x l (ap (eq_by_cmp by_post x) at ∙ (Equal-is (by_post x x)).1 (tied_itself by_post_total x)))
 
   -- and back
   pub from_file : (x : Post) → Contains all x → Contains (stock_of b).posts x
   from_file x (k, l, at) =
       Contains-from_any (λ p q e. by_post_exact p q ((Equal-is (by_post p q)).0 e)) x (stock_of b).posts
-      (is_member-listed by_post by_post_total all x ∙ list_any_at (eq_by_cmp by_post x) all k x l (ap (eq_by_cmp by_post x) at ∙ (Equal-is (by_post x x)).1 (tied_itself by_post_total x)))
+      (is_member-listed by_post by_post_total all x
+      ∙ list_any_at (eq_by_cmp by_post x) all k x l (ap (eq_by_cmp by_post x) at ∙ (Equal-is (by_post x x)).1 (tied_itself by_post_total x)))
 
   pub words_are : i.words ≡ (stock_of b).words
   words_are = (stood b i s).words
@@ -233,7 +241,8 @@ module _ (b : List ℕ) (i : IndexView) (s : StandsFor b i) (is : IsIndex i) whe
   stock_corpus =
       let st = stocked in
       let ws = (stock_of b).words in
-      let known = all_then (IsKnown (stock_of b)) (λ p. p.word < length ws) (λ p h. h.word) (stock_of b).posts (recursion_from_All (IsKnown (stock_of b)) (stock_of b).posts st.known) in
+      let known = all_then (IsKnown (stock_of b)) (λ p. p.word < length ws) (λ p h. h.word) (stock_of b).posts
+      (recursion_from_All (IsKnown (stock_of b)) (stock_of b).posts st.known) in
       ap (λ (rows : List Row). let k : Corpus = record { titles = by_number (image_of b).titles; rows = rows } in k)
       (members_are by_row by_row_total by_row_exact (rows_at ws (stock_of b).posts) (rows_at ws all) (rows_rise ws st.words (stock_of b).posts known st.sorted)
       (λ q. any_through (row_of ws) (eq_by_cmp by_row q) (stock_of b).posts

@@ -1,19 +1,17 @@
 -- Tables through the vocabulary.
 --
---   any_listed       a test passes on a listing where it does on the list
 --   table_through    the table of posts, each word in place of its number, is the table of their rows
 --   table_known      its words are there
-use Rattle.std.proofs.Common.{◌≡◌, ℕ, ◌<◌, ◌==◌, ◌||◌, Bool, true, false, true≢false, List, [], ◌∷◌, length, map, refl, sym, ◌∙◌, ap, arith}
+use Rattle.std.proofs.Common.{◌≡◌, ℕ, ◌<◌, ◌==◌, ◌||◌, true, false, List, [], ◌∷◌, length, map, refl, sym, ◌∙◌, ap, arith}
 use Rattle.std.specs.List.{AllByRecursion, list_any}
 use Rattle.std.specs.List.Sorted.{IsStrictlySortedBy}
 use Rattle.std.specs.Ordering.{nat_cmp, ordering_then, eq_by_cmp, flip_args}
-use Rattle.std.specs.Cmp.{IsTotalOrder, Equal-is, tied_itself, both_ways}
+use Rattle.std.specs.Cmp.{IsTotalOrder}
 use Rattle.std.specs.Cmp.Lexicographic.{slice_cmp}
 use Rattle.std.specs.FinMap.{IsAntisymmetric}
 use Rattle.std.specs.Str.{bytes_eq}
 use Rattle.std.specs.declared.cmp.Ordering.{Ordering}
 use Rattle.std.specs.declared.cmp.Ordering.TheVariants.{Less, Equal, Greater}
-use Rattle.std.proofs.lemmas.Bool.{or_right}
 use Rattle.std.proofs.lemmas.Bool.Decides.{nat_tests}
 use Rattle.std.proofs.lemmas.Cmp.{then_total, on_total, back_total, nat_cmp_total, nat_list_cmp_total}
 use Rattle.std.proofs.lemmas.List.Elements.{All-from_recursion, recursion_from_All}
@@ -22,7 +20,7 @@ use Rattle.std.proofs.lemmas.Slice.Eq.{bytes_eq-Decides}
 use Rattle.cs_base.specs.content.Members.{members_in}
 use Rattle.cs_base.specs.declared.content.doc.Post.{Post}
 use Rattle.cs_base.specs.declared.content.doc.Row.{Row}
-use Rattle.cs_base.proofs.MembersLemmas.{all_then, members_are, is_member-listed, listing-rises}
+use Rattle.cs_base.proofs.MembersLemmas.{all_then, any_listed, members_are, listing-rises}
 use Rattle.cs_base.proofs.NameMaps.{name_sym}
 use Rattle.cs_base.proofs.ListsLemmas.{filter_through, filter_alike, any_through}
 use Rattle.cs_docs.proofs.TextLemmas.{All-members}
@@ -35,37 +33,6 @@ use Rattle.cs_engine.specs.Stocked.{named_at}
 use Rattle.cs_vocab.proofs.RangesLemmas.{three_ways}
 use Rattle.cs_tables.proofs.TablesLemmas.{by_docs_total, by_docs_exact}
 use Rattle.cs_engine.proofs.VocabLemmas.{apart, is_less, less_word}
-
--- ---- listings
-
-module _ {X : Type 0} (R : X → X → Ordering) (o : IsTotalOrder R) (exact : IsAntisymmetric R) where
-  same : (q x : X) → eq_by_cmp R q x ≡ true → q ≡ x
-  same q x e = exact q x ((Equal-is (R q x)).0 e)
-
-  own : (x : X) → eq_by_cmp R x x ≡ true
-  own x = (Equal-is (R x x)).1 (tied_itself o x)
-
-  any_at : (t : X → Bool) (x : X) (ys : List X) → t x ≡ true → list_any (eq_by_cmp R x) ys ≡ true → list_any t ys ≡ true
-  any_at t x [] e m = absurd (true≢false (sym m))
-  any_at t x (y ∷ ys) e m =
-      elim (eq_by_cmp R x y) as (λ s. eq_by_cmp R x y ≡ s → (s || list_any (eq_by_cmp R x) ys) ≡ true → (t y || list_any t ys) ≡ true) [
-        | true ↦ λ s _. ap (λ z. t z || list_any t ys) (sym (same x y s)) ∙ ap (λ b. b || list_any t ys) e
-        | false ↦ λ s r. or_right (t y) _ (any_at t x ys e r)
-      ] refl m
-
-  any_among : (t : X → Bool) (xs ys : List X) → ((q : X) → list_any (eq_by_cmp R q) xs ≡ true → list_any (eq_by_cmp R q) ys ≡ true) → list_any t xs ≡ true → list_any t ys ≡ true
-  any_among t [] ys h e = absurd (true≢false (sym e))
-  any_among t (x ∷ xs) ys h e =
-      elim (t x) as (λ s. t x ≡ s → (s || list_any t xs) ≡ true → list_any t ys ≡ true) [
-        | true ↦ λ s _. any_at t x ys s (h x (ap (λ b. b || list_any (eq_by_cmp R x) xs) (own x)))
-        | false ↦ λ s r. any_among t xs ys (λ q m. h q (or_right (eq_by_cmp R q x) _ m)) r
-      ] refl e
-
-  pub any_listed : (t : X → Bool) (xs : List X) → list_any t (members_in R xs) ≡ list_any t xs
-  any_listed t xs =
-      both_ways _ _
-      (any_among t (members_in R xs) xs (λ q m. sym (is_member-listed R o xs q) ∙ m))
-      (any_among t xs (members_in R xs) (λ q m. is_member-listed R o xs q ∙ m))
 
 -- ---- orders
 
@@ -95,7 +62,8 @@ module _ (ws : List (List ℕ)) (up : IsStrictlySortedBy (slice_cmp nat_cmp) ws)
       (λ h. (bytes_eq-Decides (word_at ws m) (word_at ws n)).1 (ap (word_at ws) h) ∙ sym (equal_numbers m n h))
       (λ h. name_sym (word_at ws m) (word_at ws n) ∙ apart (word_at ws n) (word_at ws m) (less_word ws up n m h k) ∙ sym (is_over m n h))
 
-  below_named : (o : Ordering) (m n : ℕ) → n < length ws → ordering_then o (nat_cmp m n) ≡ Less → ordering_then o (slice_cmp nat_cmp (word_at ws m) (word_at ws n)) ≡ Less
+  below_named : (o : Ordering) (m n : ℕ) → n < length ws → ordering_then o (nat_cmp m n) ≡ Less
+      → ordering_then o (slice_cmp nat_cmp (word_at ws m) (word_at ws n)) ≡ Less
   below_named Less m n l h = refl
   below_named Greater m n l h = h
   below_named Equal m n l h = less_word ws up m n (is_less m n h) l
@@ -103,7 +71,8 @@ module _ (ws : List (List ℕ)) (up : IsStrictlySortedBy (slice_cmp nat_cmp) ws)
   abbrev IsThere : Completion → Type 0
   IsThere c = c.word < length ws
 
-  rest_named : (c : Completion) (cs : List Completion) → AllByRecursion IsThere cs → AllByRecursion (λ d. by_docs c d ≡ Less) cs → AllByRecursion (λ d. by_count (named_at ws c) d ≡ Less) (map (named_at ws) cs)
+  rest_named : (c : Completion) (cs : List Completion) → AllByRecursion IsThere cs → AllByRecursion (λ d. by_docs c d ≡ Less) cs
+      → AllByRecursion (λ d. by_count (named_at ws c) d ≡ Less) (map (named_at ws) cs)
   rest_named c [] l h = tt
   rest_named c (d ∷ cs) l h = (below_named (nat_cmp d.docs c.docs) c.word d.word l.0 h.0, rest_named c cs l.1 h.1)
 
@@ -119,7 +88,9 @@ module _ (ws : List (List ℕ)) (up : IsStrictlySortedBy (slice_cmp nat_cmp) ws)
   module _ (ps : List Post) (known : AllByRecursion (λ p. p.word < length ws) ps) where
     of_word_through : (n : ℕ) → n < length ws → rows_at ws (with_word n ps) ≡ rows.of_word (word_at ws n) (rows_at ws ps)
     of_word_through n l =
-        ap (rows_at ws) (filter_alike (λ p. p.word == n) (λ p. bytes_eq (word_at ws p.word) (word_at ws n)) ps (all_then (λ p. p.word < length ws) (λ p. (p.word == n) ≡ bytes_eq (word_at ws p.word) (word_at ws n)) (λ p k. sym (same_word p.word n k l)) ps known))
+        ap (rows_at ws) (filter_alike (λ p. p.word == n) (λ p. bytes_eq (word_at ws p.word) (word_at ws n)) ps
+        (all_then (λ p. p.word < length ws) (λ p. (p.word == n) ≡ bytes_eq (word_at ws p.word) (word_at ws n))
+        (λ p k. sym (same_word p.word n k l)) ps known))
         ∙ filter_through (row_of ws) (λ r. bytes_eq r.word (word_at ws n)) ps
 
     completion_through : (n : ℕ) → n < length ws → named_at ws (post_completion ps n) ≡ rows.completion_of (rows_at ws ps) (word_at ws n)
@@ -137,18 +108,22 @@ module _ (ws : List (List ℕ)) (up : IsStrictlySortedBy (slice_cmp nat_cmp) ws)
     -- the words of the table are there
     pub table_known : AllByRecursion (λ c. c.word < length ws) (post_table ps)
     table_known =
-        recursion_from_All IsThere (post_table ps) (All-members by_docs by_docs_total by_docs_exact IsThere listed_words (All-from_recursion IsThere listed_words (there ps known)))
+        recursion_from_All IsThere (post_table ps)
+        (All-members by_docs by_docs_total by_docs_exact IsThere listed_words (All-from_recursion IsThere listed_words (there ps known)))
 
     any_named : (q : rows.Completion) (qs : List Post) → AllByRecursion (λ p. p.word < length ws) qs
-        → list_any (λ c. eq_by_cmp by_count q (named_at ws c)) (map (λ p. post_completion ps p.word) qs) ≡ list_any (eq_by_cmp by_count q) (map (λ r. rows.completion_of (rows_at ws ps) r.word) (rows_at ws qs))
+        → list_any (λ c. eq_by_cmp by_count q (named_at ws c)) (map (λ p. post_completion ps p.word) qs) ≡ list_any (eq_by_cmp by_count q)
+        (map (λ r. rows.completion_of (rows_at ws ps) r.word) (rows_at ws qs))
     any_named q [] l = refl
     any_named q (p ∷ qs) l =
-        ap (λ c. eq_by_cmp by_count q c || list_any (λ c. eq_by_cmp by_count q (named_at ws c)) (map (λ p. post_completion ps p.word) qs)) (completion_through p.word l.0)
+        ap (λ c. eq_by_cmp by_count q c || list_any (λ c. eq_by_cmp by_count q (named_at ws c)) (map (λ p. post_completion ps p.word) qs))
+        (completion_through p.word l.0)
         ∙ ap (λ b. eq_by_cmp by_count q (rows.completion_of (rows_at ws ps) (word_at ws p.word)) || b) (any_named q qs l.1)
 
     pub table_through : map (named_at ws) (post_table ps) ≡ table_of (rows_at ws ps)
     table_through =
-        members_are by_count by_count_total by_count_exact (map (named_at ws) (post_table ps)) (map (λ r. rows.completion_of (rows_at ws ps) r.word) (rows_at ws ps))
+        members_are by_count by_count_total by_count_exact (map (named_at ws) (post_table ps))
+        (map (λ r. rows.completion_of (rows_at ws ps) r.word) (rows_at ws ps))
         (rise_named (post_table ps) table_known (listing-rises by_docs listed_words))
         (λ q.
         any_through (named_at ws) (eq_by_cmp by_count q) (post_table ps)

@@ -4,7 +4,8 @@
 --   united           what unites two lists of picked posts stands for the listing of their rows
 --   united_more      one more list goes into a listing
 --   linked_phrase, linked_near    links of rows are links of posts
-use Rattle.std.proofs.Common.{◌≡◌, ℕ, ◌+◌, ◌-◌, ◌<◌, ◌==◌, ◌&&◌, ◌||◌, Bool, true, false, true≢false, not, List, [], ◌∷◌, ◌++◌, length, map, take, drop, drop-cons, add-one, get_or, cond, append-nil, refl, sym, ◌∙◌, ap, subst, arith}
+use Rattle.std.proofs.Common.{◌≡◌, ℕ, ◌+◌, ◌-◌, ◌<◌, ◌==◌, ◌&&◌, ◌||◌, Bool, true, false, true≢false, not, List, [], ◌∷◌, ◌++◌, length, map, take, drop}
+use Rattle.std.proofs.Common.{drop-cons, add-one, get_or, cond, append-nil, refl, sym, ◌∙◌, ap, subst, arith}
 use Rattle.std.specs.Prelude.{nat_lt, nat_le}
 use Rattle.std.specs.List.{All, AllByRecursion, Contains, list_any, flat_map}
 use Rattle.std.specs.List.Sorted.{IsPermutation, IsStrictlySortedBy}
@@ -61,7 +62,8 @@ module _ (x y : Post) (same : shares_place x y ≡ true) where
   word_same = (and_parts (y.pos == x.pos) _ (and_parts (y.doc == x.doc) _ same).1).1
 
   tied_on : by_place y x ≡ Equal
-  tied_on = tied (nat_cmp y.doc x.doc) (nat_cmp y.pos x.pos) (nat_cmp y.word x.word) (tie_numbers _ _ doc_same) (tie_numbers _ _ pos_same) (tie_numbers _ _ word_same)
+  tied_on = tied (nat_cmp y.doc x.doc) (nat_cmp y.pos x.pos) (nat_cmp y.word x.word) (tie_numbers _ _ doc_same) (tie_numbers _ _ pos_same)
+      (tie_numbers _ _ word_same)
 
   tied_over : by_place x y ≡ Equal
   tied_over = tied (nat_cmp x.doc y.doc) (nat_cmp x.pos y.pos) (nat_cmp x.word y.word) (tie_back _ _ doc_same) (tie_back _ _ pos_same) (tie_back _ _ word_same)
@@ -73,14 +75,19 @@ pub one_post : (posts : List Post) → AreSorted posts → (x y : Post) → Cont
 one_post posts up x y (i, i_in, at_x) (j, j_in, at_y) same =
     let at_y' : get_or posts j x ≡ y = get_or_default posts j x y j_in ∙ at_y in
     three_ways i j
-    (λ h. absurd (true≢false (not_both (by_place x y) (ap (λ p. by_place p y) (sym at_x) ∙ ap (by_place (get_or posts i x)) (sym at_y') ∙ Less-from_sorted by_place posts i j x up h j_in) (tied_over x y same))))
+    (λ h. absurd (true≢false (not_both (by_place x y)
+    (ap (λ p. by_place p y) (sym at_x) ∙ ap (by_place (get_or posts i x)) (sym at_y') ∙ Less-from_sorted by_place posts i j x up h j_in)
+    (tied_over x y same))))
     (λ h. sym at_x ∙ ap (λ k. get_or posts k x) h ∙ at_y')
-    (λ h. absurd (true≢false (not_both (by_place y x) (ap (λ p. by_place p x) (sym at_y') ∙ ap (by_place (get_or posts j x)) (sym at_x) ∙ Less-from_sorted by_place posts j i x up h i_in) (tied_on x y same))))
+    (λ h. absurd (true≢false (not_both (by_place y x)
+    (ap (λ p. by_place p x) (sym at_y') ∙ ap (by_place (get_or posts j x)) (sym at_x) ∙ Less-from_sorted by_place posts j i x up h i_in)
+    (tied_on x y same))))
 
 -- ---- unions
 
 module _ (posts : List Post) (up : AreSorted posts) (test : Post → Bool) where
-  untested : (x : Post) (a : List Post) → Contains posts x → AllByRecursion (Contains posts) a → list_any (shares_place x) a ≡ true → list_any test a ≡ false → test x ≡ false
+  untested : (x : Post) (a : List Post) → Contains posts x → AllByRecursion (Contains posts) a → list_any (shares_place x) a ≡ true → list_any test a ≡ false
+      → test x ≡ false
   untested x [] inside all shared none = absurd (true≢false (sym shared))
   untested x (y ∷ a) inside all shared none =
       elim (test y) as (λ t. test y ≡ t → (t || list_any test a) ≡ false → test x ≡ false) [
@@ -91,15 +98,18 @@ module _ (posts : List Post) (up : AreSorted posts) (test : Post → Bool) where
         ] refl shared
       ] refl none
 
-  any_missing : (a b : List Post) → AllByRecursion (Contains posts) a → AllByRecursion (Contains posts) b → list_any test a ≡ false → list_any test (missing a b) ≡ list_any test b
+  any_missing : (a b : List Post) → AllByRecursion (Contains posts) a → AllByRecursion (Contains posts) b → list_any test a ≡ false
+      → list_any test (missing a b) ≡ list_any test b
   any_missing a [] all_a all_b none = refl
   any_missing a (x ∷ b) all_a all_b none =
-      elim (list_any (shares_place x) a) as (λ s. list_any (shares_place x) a ≡ s → list_any test (cond (not s) (x ∷ missing a b) (missing a b)) ≡ (test x || list_any test b)) [
+      elim (list_any (shares_place x) a) as (λ s. list_any (shares_place x) a ≡ s
+      → list_any test (cond (not s) (x ∷ missing a b) (missing a b)) ≡ (test x || list_any test b)) [
         | true ↦ λ s. any_missing a b all_a all_b.1 none ∙ sym (ap (λ t. t || list_any test b) (untested x a all_b.0 all_a s none))
         | false ↦ λ s. ap (λ t. test x || t) (any_missing a b all_a all_b.1 none)
       ] refl
 
-  pub any_united : (a b : List Post) → AllByRecursion (Contains posts) a → AllByRecursion (Contains posts) b → list_any test (a ++ missing a b) ≡ list_any test (a ++ b)
+  pub any_united : (a b : List Post) → AllByRecursion (Contains posts) a → AllByRecursion (Contains posts) b
+      → list_any test (a ++ missing a b) ≡ list_any test (a ++ b)
   any_united a b all_a all_b =
       list_any-append test a (missing a b)
       ∙ elim (list_any test a) as (λ t. list_any test a ≡ t → (t || list_any test (missing a b)) ≡ (t || list_any test b)) [
@@ -119,10 +129,12 @@ pub picked_words : (s : Stock) (posts : List Post) → IsStocked s → All (Cont
 picked_words s posts kept among =
     all_then (IsKnown s) (λ p. p.word < length s.words) (λ p h. h.word) posts (picked_known s posts kept among)
 
-pub united : (s : Stock) (a b c : List Post) → IsStocked s → IsPicked s a → IsPicked s b → IsUnion a b c → AreSorted c → (rows_at s.words c ≡ members_in by_row (rows_at s.words a ++ rows_at s.words b)) × IsPicked s c
+pub united : (s : Stock) (a b c : List Post) → IsStocked s → IsPicked s a → IsPicked s b → IsUnion a b c → AreSorted c
+    → (rows_at s.words c ≡ members_in by_row (rows_at s.words a ++ rows_at s.words b)) × IsPicked s c
 united s a b c kept in_a in_b union up =
     let posts = s.posts in
-    let among : All (Contains posts) c = All-permutation (Contains posts) (a ++ missing a b) c union (All-append (Contains posts) a (missing a b) in_a.among (All-filter _ (Contains posts) b in_b.among)) in
+    let among : All (Contains posts) c = All-permutation (Contains posts) (a ++ missing a b) c union
+    (All-append (Contains posts) a (missing a b) in_a.among (All-filter _ (Contains posts) b in_b.among)) in
     let all_a = recursion_from_All (Contains posts) a in_a.among in
     let all_b = recursion_from_All (Contains posts) b in_b.among in (
       members_are by_row by_row_total by_row_exact (rows_at s.words c) (rows_at s.words a ++ rows_at s.words b)
@@ -137,11 +149,13 @@ united s a b c kept in_a in_b union up =
     )
 
 -- one more list of rows
-pub united_more : (found next : List Row) (chains : List (List Row)) → found ≡ union_of chains → members_in by_row (found ++ next) ≡ union_of (chains ++ next ∷ [])
+pub united_more : (found next : List Row) (chains : List (List Row)) → found ≡ union_of chains
+    → members_in by_row (found ++ next) ≡ union_of (chains ++ next ∷ [])
 united_more found next chains is =
     members-alike by_row by_row_total by_row_exact (found ++ next) (flat_map (λ rows. rows) (chains ++ next ∷ [])) (λ q.
     list_any-append (eq_by_cmp by_row q) found next
-    ∙ ap (λ b. b || list_any (eq_by_cmp by_row q) next) (ap (list_any (eq_by_cmp by_row q)) is ∙ is_member-listed by_row by_row_total (flat_map (λ rows. rows) chains) q)
+    ∙ ap (λ b. b || list_any (eq_by_cmp by_row q) next)
+    (ap (list_any (eq_by_cmp by_row q)) is ∙ is_member-listed by_row by_row_total (flat_map (λ rows. rows) chains) q)
     ∙ sym (list_any-append (eq_by_cmp by_row q) (flat_map (λ rows. rows) chains) next)
     ∙ ap (list_any (eq_by_cmp by_row q)) (sym (last_piece chains)))
   where
@@ -159,7 +173,9 @@ linked_phrase ws a b =
     each [] = tt
     each (r ∷ b) = (sym (any_through (row_of ws) (is_linked Phrase (row_of ws r)) a), each b)
 
-near_is : (d e p q : ℕ) → ((e == d) && (nat_lt 0 q && (nat_lt 0 p && (nat_lt 0 ((q - p) + (p - q)) && nat_le ((q - p) + (p - q)) 8)))) ≡ ((e == d) && ((nat_lt 0 q && nat_lt 0 p) && (not (q == p) && (nat_le q (p + 8) && nat_le p (q + 8)))))
+near_is : (d e p q : ℕ) → ((e == d) && (nat_lt 0
+    q && (nat_lt 0 p && (nat_lt 0 ((q - p) + (p - q)) && nat_le ((q - p) + (p - q)) 8)))) ≡ ((e == d) && ((nat_lt 0 q && nat_lt 0 p) && (not
+    (q == p) && (nat_le q (p + 8) && nat_le p (q + 8)))))
 near_is d e p q = grind (arith, nat_tests)
 
 pub linked_near : (ws : List (List ℕ)) (a b : List Post) → rows_at ws (near a b) ≡ linked_to Near (rows_at ws a) (rows_at ws b)
@@ -169,13 +185,15 @@ linked_near ws a b =
   where
     each_post : (r : Post) (a : List Post) → list_any (is_near r) a ≡ list_any (λ x. is_linked Near (row_of ws r) (row_of ws x)) a
     each_post r [] = refl
-    each_post r (x ∷ a) = ap (λ t. t || list_any (is_near r) a) (near_is r.doc x.doc r.pos x.pos) ∙ ap (λ t. is_linked Near (row_of ws r) (row_of ws x) || t) (each_post r a)
+    each_post r (x ∷ a) = ap (λ t. t || list_any (is_near r) a) (near_is r.doc x.doc r.pos x.pos)
+        ∙ ap (λ t. is_linked Near (row_of ws r) (row_of ws x) || t) (each_post r a)
 
     each : (b : List Post) → AllByRecursion (λ r. list_any (is_near r) a ≡ list_any (is_linked Near (row_of ws r)) (rows_at ws a)) b
     each [] = tt
     each (r ∷ b) = (each_post r a ∙ sym (any_through (row_of ws) (is_linked Near (row_of ws r)) a), each b)
 
-pub linked : (s : Stock) (link : Link) (a b c : List Post) → IsPicked s b → c ≡ linked_posts link a b → (rows_at s.words c ≡ linked_to link (rows_at s.words a) (rows_at s.words b)) × IsPicked s c
+pub linked : (s : Stock) (link : Link) (a b c : List Post) → IsPicked s b → c ≡ linked_posts link a b
+    → (rows_at s.words c ≡ linked_to link (rows_at s.words a) (rows_at s.words b)) × IsPicked s c
 linked s Phrase a b c picked is = (ap (rows_at s.words) is ∙ linked_phrase s.words a b, picked_again s _ b c picked is)
 linked s Near a b c picked is = (ap (rows_at s.words) is ∙ linked_near s.words a b, picked_again s _ b c picked is)
 
@@ -203,7 +221,8 @@ nothing_listed = listed_itself by_row by_row_total by_row_exact [] none_rise
 pub no_chains : (s : Stock) (found : List Post) → found ≡ [] → (rows_at s.words found ≡ union_of []) × IsPicked s found
 no_chains s found is = (ap (rows_at s.words) is ∙ nothing_listed, subst (IsPicked s) (sym is) (record { sorted = nothing_sorted; among = All-nil _ }))
 
-pub one_more_chain : (s : Stock) (chains : List Chain) (i : ℕ) (x : Chain) (found next now : List Post) → IsStocked s → i < length chains → x ≡ get_or chains i x
+pub one_more_chain : (s : Stock) (chains : List Chain) (i : ℕ) (x : Chain) (found next now : List Post) → IsStocked s → i < length chains
+    → x ≡ get_or chains i x
     → rows_at s.words found ≡ union_of (map (rows_of_chain (corpus_in s)) (take i chains)) → IsPicked s found
     → rows_at s.words next ≡ rows_of_chain (corpus_in s) x → IsPicked s next
     → IsUnion found next now → AreSorted now
@@ -213,11 +232,13 @@ one_more_chain s chains i x found next now kept l at is picked next_is next_pick
     let f : Chain → List Row = rows_of_chain (corpus_in s) in
     let more : map f (take (i + 1) chains) ≡ map f (take i chains) ++ f x ∷ [] =
     ap (map f) (take_more chains i x l) ∙ map-append f (take i chains) (get_or chains i x ∷ []) ∙ ap (λ y. map f (take i chains) ++ f y ∷ []) (sym at) in (
-      all.0 ∙ ap (λ rows. members_in by_row (rows_at s.words found ++ rows)) next_is ∙ united_more (rows_at s.words found) (f x) (map f (take i chains)) is ∙ ap union_of (sym more),
+      all.0 ∙ ap (λ rows. members_in by_row (rows_at s.words found ++ rows)) next_is ∙ united_more (rows_at s.words found) (f x) (map f (take i chains)) is
+          ∙ ap union_of (sym more),
       all.1,
     )
 
-pub one_more_link : (s : Stock) (links : List Linked) (i : ℕ) (x : Linked) (whole : List Row) (found next now : List Post) → i < length links → x ≡ get_or links i x
+pub one_more_link : (s : Stock) (links : List Linked) (i : ℕ) (x : Linked) (whole : List Row) (found next now : List Post) → i < length links
+    → x ≡ get_or links i x
     → whole ≡ chained (rows_at s.words found) (map (rows_of_linked (corpus_in s)) (drop i links))
     → rows_at s.words next ≡ rows_of_atom (corpus_in s) (out-Linked x).atom → IsPicked s next
     → now ≡ linked_posts (out-Linked x).link found next
@@ -226,8 +247,10 @@ one_more_link s links i x whole found next now l at is next_is next_picked now_i
     let f : Linked → LinkedRows = rows_of_linked (corpus_in s) in
     let link = (out-Linked x).link in
     let last = linked s link found next now next_picked now_is in
-    let here : f x ≡ record { link = link; rows = rows_at s.words next } = linked_rows-is (corpus_in s) x ∙ ap (λ (rows : List Row). let r : LinkedRows = record { link = link; rows = rows } in r) (sym next_is) in
-    let rest : drop i links ≡ x ∷ drop (i + 1) links = drop-cons links i x l ∙ ap (λ n. get_or links i x ∷ drop n links) (sym (add-one i)) ∙ ap (λ y. y ∷ drop (i + 1) links) (sym at) in (
+    let here : f x ≡ record { link = link; rows = rows_at s.words next } = linked_rows-is (corpus_in s) x
+    ∙ ap (λ (rows : List Row). let r : LinkedRows = record { link = link; rows = rows } in r) (sym next_is) in
+    let rest : drop i links ≡ x ∷ drop (i + 1) links = drop-cons links i x l ∙ ap (λ n. get_or links i x ∷ drop n links) (sym (add-one i))
+    ∙ ap (λ y. y ∷ drop (i + 1) links) (sym at) in (
       is ∙ ap (λ xs. chained (rows_at s.words found) (map f xs)) rest
           ∙ ap (λ y. chained (linked_to y.link (rows_at s.words found) y.rows) (map f (drop (i + 1) links))) here
           ∙ ap (λ rows. chained rows (map f (drop (i + 1) links))) (sym last.0),

@@ -27,13 +27,15 @@ is_less x y h = grind (arith, nat_tests)
 -- a word is no other one that comes before it
 pub apart : (v w : List ℕ) → slice_cmp nat_cmp v w ≡ Less → bytes_eq v w ≡ false
 apart v w h =
-    false_from_ne_true _ (λ e. true≢false (sym (ap is_lt h) ∙ ap (λ x. is_lt (slice_cmp nat_cmp v x)) (sym ((bytes_eq-Decides v w).0 e)) ∙ ap is_lt (tied_itself nat_list_cmp_total v)))
+    false_from_ne_true _ (λ e. true≢false (sym (ap is_lt h) ∙ ap (λ x. is_lt (slice_cmp nat_cmp v x)) (sym ((bytes_eq-Decides v w).0 e))
+    ∙ ap is_lt (tied_itself nat_list_cmp_total v)))
 
 module _ (ws : List (List ℕ)) (up : IsStrictlySortedBy (slice_cmp nat_cmp) ws) where
   pub less_word : (m n : ℕ) → m < n → n < length ws → slice_cmp nat_cmp (word_at ws m) (word_at ws n) ≡ Less
   less_word m n h l = Less-from_sorted (slice_cmp nat_cmp) ws m n [] up h l
 
-  through : (a b e : Ordering) (m n : ℕ) → n < length ws → ordering_then a (ordering_then b (nat_cmp m n)) ≡ Less → ordering_then a (ordering_then b (ordering_then (slice_cmp nat_cmp (word_at ws m) (word_at ws n)) e)) ≡ Less
+  through : (a b e : Ordering) (m n : ℕ) → n < length ws → ordering_then a (ordering_then b (nat_cmp m n)) ≡ Less
+      → ordering_then a (ordering_then b (ordering_then (slice_cmp nat_cmp (word_at ws m) (word_at ws n)) e)) ≡ Less
   through Less b e m n l h = refl
   through Greater b e m n l h = h
   through Equal Less e m n l h = refl
@@ -46,7 +48,8 @@ module _ (ws : List (List ℕ)) (up : IsStrictlySortedBy (slice_cmp nat_cmp) ws)
   abbrev pub HasWord : Post → Type 0
   HasWord p = p.word < length ws
 
-  rest_rise : (p : Post) (ps : List Post) → AllByRecursion HasWord ps → AllByRecursion (λ q. by_place p q ≡ Less) ps → AllByRecursion (λ r. by_row (row_of ws p) r ≡ Less) (rows_at ws ps)
+  rest_rise : (p : Post) (ps : List Post) → AllByRecursion HasWord ps → AllByRecursion (λ q. by_place p q ≡ Less) ps
+      → AllByRecursion (λ r. by_row (row_of ws p) r ≡ Less) (rows_at ws ps)
   rest_rise p [] l h = tt
   rest_rise p (q ∷ ps) l h = (row_less p q l.0 h.0, rest_rise p ps l.1 h.1)
 

@@ -25,7 +25,8 @@ counted_rows blocks first last lo hi listed = flat_map (chosen lo hi listed) (ta
 
 -- of no hits they are the same
 abbrev pub AreMarked : List Scored → List Bool → List Bool → Type 0
-AreMarked hits old new = (length new ≡ length old) × ((d : ℕ) → d < length new → slice_index_or new d false ≡ (slice_index_or old d false || is_listed (map (λ h. h.doc) hits) d))
+AreMarked hits old new = (length new ≡ length old) × ((d : ℕ) → d < length new
+    → slice_index_or new d false ≡ (slice_index_or old d false || is_listed (map (λ h. h.doc) hits) d))
 
 -- All lists each of them
 pub record AreListed (docs : ℕ) (b : Base) (listed : List Bool) : Type 0 where

@@ -11,7 +11,8 @@
 --   AreLastWords i q hits lo hi      the last part of a query is positive and asks for these words, and hits are in range as those before it
 --   IsEntryByWords b i q hits lo hi  over the bytes of an index the own entry of a query is that of these hits and words
 --   IsTableFor i b q cut hits t      over the bytes of an index a table is that of a query of these hits, cut
-use Rattle.std.specs.Prelude.{◌≡◌, ℕ, ◌+◌, ◌-◌, ◌*◌, ◌≤◌, ◌<◌, Bool, true, false, nat_lt, List, [], ◌∷◌, length, map, filter, take, slice_index, Option, if◌then◌else◌}
+use Rattle.std.specs.Prelude.{◌≡◌, ℕ, ◌+◌, ◌-◌, ◌*◌, ◌≤◌, ◌<◌, Bool, true, false, nat_lt, List, [], ◌∷◌, length, map, filter, take, slice_index, Option}
+use Rattle.std.specs.Prelude.{if◌then◌else◌}
 use Rattle.std.specs.List.{All, Contains, list_any}
 use Rattle.cs_base.specs.declared.content.doc.Base.{Base}
 use Rattle.cs_base.specs.declared.content.doc.Post.{Post}

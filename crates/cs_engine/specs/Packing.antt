@@ -11,7 +11,8 @@
 --   AreFrom i told k t posts       posts in the range of an index that pass a test; of a store that tells, those of a block
 --   HasKeys i told first k t keys    numbers of posts in the range of an index that pass a test; of a store that tells, of a run of its
 --                          blocks
-use Rattle.std.specs.Prelude.{◌≡◌, ℕ, ◌+◌, ◌*◌, ◌/◌, ◌%◌, ◌<◌, ◌==◌, Bool, true, List, [], ◌∷◌, ◌++◌, length, map, filter, drop, slice_index_or, Option, if◌then◌else◌}
+use Rattle.std.specs.Prelude.{◌≡◌, ℕ, ◌+◌, ◌*◌, ◌/◌, ◌%◌, ◌<◌, ◌==◌, Bool, true, List, [], ◌∷◌, length, map, filter, Option}
+use Rattle.std.specs.Prelude.{if◌then◌else◌}
 use Rattle.std.specs.List.{All, Contains, list_any}
 use Rattle.cs_base.specs.content.Orders.{AreSorted}
 use Rattle.cs_base.specs.declared.content.doc.Post.{Post}
@@ -38,7 +39,12 @@ place_of_key key = key / SCORE_ROOM
 
 -- every number has one
 abbrev pub post_of_key : ℕ → Post
-post_of_key key = record { doc = place_of_key key / WORD_ROOM / POSITION_ROOM; word = place_of_key key % WORD_ROOM; pos = place_of_key key / WORD_ROOM % POSITION_ROOM; score = key % SCORE_ROOM }
+post_of_key key = record {
+  doc = place_of_key key / WORD_ROOM / POSITION_ROOM;
+  word = place_of_key key % WORD_ROOM;
+  pos = place_of_key key / WORD_ROOM % POSITION_ROOM;
+  score = key % SCORE_ROOM;
+}
 
 -- of ascending numbers the first of each place
 abbrev pub apart : ℕ → List ℕ → List ℕ

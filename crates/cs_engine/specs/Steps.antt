@@ -43,7 +43,8 @@ posts_hits positive b posts = if positive then base.Listed (scores b posts) else
 
 -- an excluded part takes hits away and leaves no posts, and a positive one leaves its posts in the hits
 abbrev pub posts_after : ℕ → Base → Bool → List Post → EntryOf Post
-posts_after n hits excluded posts = if excluded then record { base = base.Listed (drop_docs (base_hits n hits) posts); rows = [] } else record { base = hits; rows = keep_docs posts (docs_in n hits) }
+posts_after n hits excluded posts = if excluded then record { base = base.Listed (drop_docs (base_hits n hits) posts); rows = [] }
+    else record { base = hits; rows = keep_docs posts (docs_in n hits) }
 
 -- as of a query without a positive part
 abbrev pub with_no_score : ℕ → Scored

@@ -1,11 +1,10 @@
 //! Replies, from the hits of a query and its rows in them.
-ghost use Rattle.std.specs.Prelude.{◌≡◌, ◌+◌, ◌*◌, ◌≤◌, ◌<◌, [], false, length, map, IfOk};
+ghost use Rattle.std.specs.Prelude.{◌≡◌, ◌+◌, ◌*◌, ◌≤◌, ◌<◌, [], length, map, IfOk};
 ghost use Rattle.std.specs.List.{All};
 ghost use Rattle.cs_base.specs.declared.content.doc.Base.{Base};
 ghost use Rattle.cs_base.specs.declared.content.scores.TheConstants.{MAX_ROW_SCORE};
 ghost use Rattle.cs_base.specs.outside.Causes.{ReadsWithin};
 ghost use Rattle.cs_base.specs.declared.content.limits.TheConstants.{MAX_PARTS};
-ghost use Rattle.cs_file.specs.Indexes.{IsIndex, HasAllBlocks, CausedReads};
 ghost use Rattle.cs_model.specs.Collection.{named};
 ghost use Rattle.cs_model.specs.Requests.{hit_shown, reply_of};
 ghost use Rattle.cs_model_kept.specs.Due.{met_of_facets, met_prefix};
@@ -13,7 +12,7 @@ ghost use Rattle.cs_query.specs.RequestView.{asked};
 ghost use Rattle.cs_engine.specs.Asking.{division, is_read, is_changed, titles_read};
 ghost use Rattle.cs_engine.specs.Counting.{AreListed};
 ghost use Rattle.cs_engine.specs.Loose.{IsTableFor};
-ghost use Rattle.cs_engine.specs.IndexReading.{WhereStood, stock_of};
+ghost use Rattle.cs_engine.specs.IndexReading.{IsOpened, OnlyReads, WhereStood, stock_of};
 ghost use Rattle.cs_engine.specs.Steps.{IsBaseOf};
 ghost use Rattle.cs_engine.specs.Stocked.{corpus_in, facet_at};
 
@@ -40,16 +39,15 @@ pub(crate) fn reply_of<S: Store>(
 ) -> Result<Reply, AskFault>
     requires base { IsBaseOf index.now.docs (MAX_ROW_SCORE * MAX_PARTS) hits }
     requires table { All (λ w. w.word < length index.now.words) table.first }
-    requires index { IsIndex index.now }
-    requires fits { HasAllBlocks (S.bytes store.old) index.now }
+    requires opened { IsOpened (S.bytes store.old) index.now }
 
-    ensures told { WhereStood (S.bytes store.old) index.now (λ b. IsTableFor index.now b request.now.query request.now.completions hits table → IfOk result (λ r. r ≡ reply_of (corpus_in (stock_of b)) (asked request.now))) }
+    ensures told { WhereStood (S.bytes store.old) index.now
+        (λ b. IsTableFor index.now b request.now.query request.now.completions hits table
+        → IfOk result (λ r. r ≡ reply_of (corpus_in (stock_of b)) (asked request.now))) }
     ensures few { IfOk result (λ r. length r.hits ≤ request.now.hits) }
-    ensures unchanged { WhereStood (S.bytes store.old) index.now (λ b. is_changed result ≡ false) }
-    ensures bytes { S.bytes store.new ≡ S.bytes store.old }
-    ensures lent { S.lent store.new ≡ S.lent store.old }
-    ensures reads { ReadsWithin (titles_read (asked request.now) result + met_of_facets (division index.now) (asked request.now).facets) (S.reads store.old) (S.reads store.new) }
-    ensures caused { CausedReads (is_read result) (S.faults store.old) (S.faults store.new) }
+    ensures store { OnlyReads S.bytes S.lent S.faults index.now store.old store.new (is_read result) (is_changed result) }
+    ensures reads { ReadsWithin (titles_read (asked request.now) result + met_of_facets (division index.now) (asked request.now).facets) (S.reads store.old)
+        (S.reads store.new) }
 {
     let shown = shown_words(alloc, &index.words, table.first.as_slice())?;
     let facets = shown_facets(alloc, index, store, &hits, request)?;
@@ -74,15 +72,12 @@ fn shown_facets<S: Store>(
     request: &Request,
 ) -> Result<Seq<FacetShown>, AskFault>
     requires base { IsBaseOf index.now.docs (MAX_ROW_SCORE * MAX_PARTS) base.now }
-    requires index { IsIndex index.now }
-    requires fits { HasAllBlocks (S.bytes store.old) index.now }
+    requires opened { IsOpened (S.bytes store.old) index.now }
 
-    ensures told { WhereStood (S.bytes store.old) index.now (λ b. IfOk result (λ shown. shown ≡ map (facet_at (stock_of b) base.now request.now.completions) (asked request.now).facets)) }
-    ensures unchanged { WhereStood (S.bytes store.old) index.now (λ b. is_changed result ≡ false) }
-    ensures bytes { S.bytes store.new ≡ S.bytes store.old }
-    ensures lent { S.lent store.new ≡ S.lent store.old }
+    ensures told { WhereStood (S.bytes store.old) index.now
+        (λ b. IfOk result (λ shown. shown ≡ map (facet_at (stock_of b) base.now request.now.completions) (asked request.now).facets)) }
+    ensures store { OnlyReads S.bytes S.lent S.faults index.now store.old store.new (is_read result) (is_changed result) }
     ensures reads { ReadsWithin (met_of_facets (division index.now) (asked request.now).facets) (S.reads store.old) (S.reads store.new) }
-    ensures caused { CausedReads (is_read result) (S.faults store.old) (S.faults store.new) }
 {
     let mut shown = Seq::new(alloc);
     if request.facets.as_slice().is_empty() {
@@ -106,15 +101,12 @@ fn shown_facet<S: Store>(
     cut: u32,
 ) -> Result<FacetShown, AskFault>
     requires listed { length listed.now ≡ index.now.docs }
-    requires index { IsIndex index.now }
-    requires fits { HasAllBlocks (S.bytes store.old) index.now }
+    requires opened { IsOpened (S.bytes store.old) index.now }
 
-    ensures told { WhereStood (S.bytes store.old) index.now (λ b. IfOk result (λ shown. (base : Base) → AreListed index.now.docs base listed.now → shown ≡ facet_at (stock_of b) base cut name.now)) }
-    ensures unchanged { WhereStood (S.bytes store.old) index.now (λ b. is_changed result ≡ false) }
-    ensures bytes { S.bytes store.new ≡ S.bytes store.old }
-    ensures lent { S.lent store.new ≡ S.lent store.old }
+    ensures told { WhereStood (S.bytes store.old) index.now
+        (λ b. IfOk result (λ shown. (base : Base) → AreListed index.now.docs base listed.now → shown ≡ facet_at (stock_of b) base cut name.now)) }
+    ensures store { OnlyReads S.bytes S.lent S.faults index.now store.old store.new (is_read result) (is_changed result) }
     ensures reads { ReadsWithin (met_prefix (division index.now) (named name.now [])) (S.reads store.old) (S.reads store.new) }
-    ensures caused { CausedReads (is_read result) (S.faults store.old) (S.faults store.new) }
 {
     let prefix = named_word(alloc, name.as_str(), "")?;
     let words = index.range(prefix.as_str().as_bytes());
@@ -135,16 +127,12 @@ fn shown_hits<S: Store>(
     hits: &[Scored],
 ) -> Result<Seq<HitShown>, AskFault>
     requires known { All (λ h. h.doc < index.now.docs) hits.now }
-    requires index { IsIndex index.now }
-    requires fits { HasAllBlocks (S.bytes store.old) index.now }
+    requires opened { IsOpened (S.bytes store.old) index.now }
 
     ensures told { WhereStood (S.bytes store.old) index.now (λ b. IfOk result (λ shown. shown ≡ map (hit_shown (corpus_in (stock_of b))) hits.now)) }
     ensures count { IfOk result (λ shown. length shown ≡ length hits.now) }
-    ensures unchanged { WhereStood (S.bytes store.old) index.now (λ b. is_changed result ≡ false) }
-    ensures bytes { S.bytes store.new ≡ S.bytes store.old }
-    ensures lent { S.lent store.new ≡ S.lent store.old }
+    ensures store { OnlyReads S.bytes S.lent S.faults index.now store.old store.new (is_read result) (is_changed result) }
     ensures reads { ReadsWithin (length hits.now) (S.reads store.old) (S.reads store.new) }
-    ensures caused { CausedReads (is_read result) (S.faults store.old) (S.faults store.new) }
 {
     let mut shown = Seq::new(alloc);
     for hit in hits {

@@ -1,12 +1,12 @@
 //! The best score of each document, over rows in any order.
-ghost use Rattle.std.specs.Prelude.{◌≡◌, ◌+◌, ◌-◌, ◌<◌, ◌≤◌, ◌++◌, ◌∷◌, ◌^◌, [], ℕ, List, IfOk, OnOk, filter, length, map, nat_lt, if◌then◌else◌};
+ghost use Rattle.std.specs.Prelude.{◌≡◌, ◌+◌, ◌-◌, ◌<◌, ◌≤◌, ◌++◌, ◌∷◌, ◌*◌, ◌^◌, [], ℕ, List, IfOk, OnOk, filter, length, map, nat_lt, if◌then◌else◌};
 ghost use Rattle.std.specs.List.{All};
 ghost use Rattle.cs_base.specs.declared.content.doc.Post.{Post};
 ghost use Rattle.cs_base.specs.declared.content.doc.Base.TheVariants as base;
 ghost use Rattle.cs_base.specs.declared.content.scores.TheConstants.{MAX_ROW_SCORE, TITLE_SCORE};
 ghost use Rattle.cs_file.specs.CallAnswers.{AreScoredOf};
-ghost use Rattle.cs_rank.specs.DocScores.{IsBase, best_row, scores, with_base};
-ghost use Rattle.cs_base.specs.content.Orders.{AreByDoc, docs_of};
+ghost use Rattle.cs_rank.specs.DocScores.{IsBase, scores, with_base};
+ghost use Rattle.cs_base.specs.content.Orders.{AreByDoc};
 ghost use Rattle.cs_engine.specs.Loose.{HasBestScores, hits_in};
 ghost use Rattle.cs_engine.specs.Packing.{post_of_key};
 ghost use Rattle.cs_engine.specs.Steps.{IsBaseOf};
@@ -15,6 +15,7 @@ ghost use Rattle.cs_tables.specs.WordCounts.{is_chosen, is_of_listed};
 use crate::between::is_chosen;
 use crate::packing::post_of;
 use cs_base::{Base, Memory, Scored, Seq};
+use cs_file::Fetched;
 use cs_rank::add_base;
 use cs_tables::are_within;
 use std::alloc::Global;
@@ -31,17 +32,28 @@ pub(crate) fn scores_over(
 
     ensures { IfOk result (λ hits. hits ≡ scores base.now (map post_of_key keys.now)) }
 {
-    let best = best_scores(alloc, docs, keys)?;
-    let scored = scored_over(alloc, base, best)?;
+    let mut best = zeros(alloc, docs)?;
+    raise_all(&mut best, keys);
+    let scored = scored_in(alloc, base, &best)?;
     Ok(scored)
 }
 
-/// Scored documents, each with what a base gave it added to its score.
-pub(crate) fn scored_over(
-    alloc: Global,
-    base: &Base,
-    found: Vec<Scored>,
-) -> Result<Seq<Scored>, Memory>
+/// The documents that have an entry, each with what hits gave it added to its score.
+pub(crate) fn scored_in(alloc: Global, hits: &Base, best: &[u8]) -> Result<Seq<Scored>, Memory>
+    requires base { IsBase hits.now }
+    requires few { length best.now < 2 ^ 32 }
+
+    ensures scored { IfOk result (λ scored. scored ≡ map (with_base hits.now) (hits_in 0 best.now)) }
+    ensures within { IfOk result (λ scored. (n : ℕ) → IsBaseOf (length best.now) (MAX_ROW_SCORE * n) hits.now
+        → IsBaseOf (length best.now) (MAX_ROW_SCORE * (n + 1)) (base.Listed scored)) }
+{
+    let found = hits_in(alloc, best)?;
+    let scored = scored_over(alloc, hits, found)?;
+    Ok(scored)
+}
+
+// Scored documents, each with what a base gave it added to its score.
+fn scored_over(alloc: Global, base: &Base, found: Vec<Scored>) -> Result<Seq<Scored>, Memory>
     requires base { IsBase base.now }
     requires sorted { AreByDoc found.items }
     requires small { All (λ h. h.score ≤ MAX_ROW_SCORE) found.items }
@@ -55,18 +67,6 @@ pub(crate) fn scored_over(
             Ok(Seq::from_vec(scored))
         }
     }
-}
-
-// Each document of the rows with the greatest score of its rows.
-fn best_scores(alloc: Global, docs: u32, keys: &[u64]) -> Result<Vec<Scored>, Memory>
-    requires known { All (λ k. (post_of_key k).doc < docs) keys.now }
-
-    ensures { IfOk result (λ v. v.items ≡ map (best_row (map post_of_key keys.now)) (docs_of (map post_of_key keys.now))) }
-{
-    let mut best = zeros(alloc, docs)?;
-    raise_all(&mut best, keys);
-    let hits = hits_in(alloc, &best)?;
-    Ok(hits)
 }
 
 /// A table of no rows.
@@ -92,9 +92,30 @@ fn raise_all(best: &mut [u8], keys: &[u64])
     }
 }
 
-/// Notes the scores of rows, of which these are the documents, words and scores: of those in listed documents whose word's number is
-/// `words.0` or more and below `words.1`. Where all words are of these, they aren't looked at again.
-pub(crate) fn raise_chosen(
+/// Notes the scores of the rows of a block: of those in listed documents whose word's number is `words.0` or more and below `words.1`.
+pub(crate) fn raise_rows(best: &mut Vec<u8>, words: (u32, u32), listed: &[bool], block: &Fetched)
+    requires words_even { length block.now.words.items ≡ length block.now.docs.items }
+    requires scores_even { length block.now.scores.items ≡ length block.now.docs.items }
+    requires known { All (λ d. d < length best.old.items) block.now.docs.items }
+    requires long { length listed.now ≡ length best.old.items }
+    requires small { All (λ s. s ≤ TITLE_SCORE) block.now.scores.items }
+
+    ensures best { (rows : List Post) → AreScoredOf rows block.now.docs.items block.now.words.items block.now.scores.items → (seen : List Post)
+        → HasBestScores seen best.old.items → HasBestScores (seen ++ filter (is_chosen words.0 words.1 listed.now) rows) best.new.items }
+    ensures len { length best.new.items ≡ length best.old.items }
+{
+    raise_chosen(
+        best,
+        words,
+        listed,
+        &block.docs,
+        &block.words,
+        &block.scores,
+    );
+}
+
+// The same, by the documents, words and scores of the rows. Where all words are of these, they aren't looked at again.
+fn raise_chosen(
     best: &mut [u8],
     words: (u32, u32),
     listed: &[bool],
@@ -108,7 +129,8 @@ pub(crate) fn raise_chosen(
     requires long { length listed.now ≡ length best.old }
     requires small { All (λ s. s ≤ TITLE_SCORE) scores.now }
 
-    ensures best { (rows : List Post) → AreScoredOf rows docs.now row_words.now scores.now → (seen : List Post) → HasBestScores seen best.old → HasBestScores (seen ++ filter (is_chosen words.0 words.1 listed.now) rows) best.new }
+    ensures best { (rows : List Post) → AreScoredOf rows docs.now row_words.now scores.now → (seen : List Post) → HasBestScores seen best.old
+        → HasBestScores (seen ++ filter (is_chosen words.0 words.1 listed.now) rows) best.new }
     ensures len { length best.new ≡ length best.old }
 {
     let (lo, hi) = words;
@@ -126,7 +148,8 @@ fn raise_listed(best: &mut [u8], listed: &[bool], docs: &[u32], scores: &[u8])
     requires long { length listed.now ≡ length best.old }
     requires small { All (λ s. s ≤ TITLE_SCORE) scores.now }
 
-    ensures best { (rows : List Post) (words : List ℕ) → AreScoredOf rows docs.now words scores.now → (seen : List Post) → HasBestScores seen best.old → HasBestScores (seen ++ filter (is_of_listed listed.now) rows) best.new }
+    ensures best { (rows : List Post) (words : List ℕ) → AreScoredOf rows docs.now words scores.now → (seen : List Post)
+        → HasBestScores seen best.old → HasBestScores (seen ++ filter (is_of_listed listed.now) rows) best.new }
     ensures len { length best.new ≡ length best.old }
 {
     for i in 0..docs.len() {
@@ -150,7 +173,8 @@ fn raise_between(
     requires long { length listed.now ≡ length best.old }
     requires small { All (λ s. s ≤ TITLE_SCORE) scores.now }
 
-    ensures best { (rows : List Post) → AreScoredOf rows docs.now row_words.now scores.now → (seen : List Post) → HasBestScores seen best.old → HasBestScores (seen ++ filter (is_chosen words.0 words.1 listed.now) rows) best.new }
+    ensures best { (rows : List Post) → AreScoredOf rows docs.now row_words.now scores.now → (seen : List Post) → HasBestScores seen best.old
+        → HasBestScores (seen ++ filter (is_chosen words.0 words.1 listed.now) rows) best.new }
     ensures len { length best.new ≡ length best.old }
 {
     let (lo, hi) = words;
@@ -171,8 +195,8 @@ fn entry_of(counts: bool, score: u8) -> u8
     if counts { score + 1 } else { 0 }
 }
 
-/// The documents that have an entry, with their scores.
-pub(crate) fn hits_in(alloc: Global, best: &[u8]) -> Result<Vec<Scored>, Memory>
+// The documents that have an entry, with their scores.
+fn hits_in(alloc: Global, best: &[u8]) -> Result<Vec<Scored>, Memory>
     requires { length best.now < 2 ^ 32 }
 
     ensures hits { IfOk result (λ v. v.items ≡ hits_in 0 best.now) }

@@ -1,21 +1,18 @@
 //! The hits and the table of a range of words, scored and counted block by block as they are read.
-ghost use Rattle.std.specs.Prelude.{◌≡◌, ◌+◌, ◌-◌, ◌*◌, ◌^◌, ◌≤◌, ◌<◌, ◌++◌, List, false, true, filter, length, IfOk, OnOk};
+ghost use Rattle.std.specs.Prelude.{◌≡◌, ◌-◌, ◌*◌, ◌^◌, ◌<◌, false, true, filter, length, IfOk};
 ghost use Rattle.std.specs.List.{All};
 ghost use Rattle.cs_base.specs.declared.content.doc.Base.TheVariants as base;
-ghost use Rattle.cs_base.specs.declared.content.doc.Post.{Post};
 ghost use Rattle.cs_base.specs.declared.content.limits.TheConstants.{MAX_PARTS};
 ghost use Rattle.cs_base.specs.declared.content.scores.TheConstants.{MAX_ROW_SCORE};
 ghost use Rattle.cs_base.specs.outside.Causes.{ReadsWithin};
-ghost use Rattle.cs_file.specs.Indexes.{IsIndex, HasAllBlocks, CausedReads, block_posts, is_met};
-ghost use Rattle.cs_tables.specs.WordCounts.{AreCountable, HasCounted, chosen, is_chosen};
+ghost use Rattle.cs_file.specs.Indexes.{IsIndex, is_met};
 ghost use Rattle.cs_engine.specs.Asking.{is_read, is_changed};
 ghost use Rattle.cs_engine.specs.Blockwise.{AreMany, HasFound, rows_within};
-ghost use Rattle.cs_engine.specs.Loose.{HasBestScores};
-ghost use Rattle.cs_engine.specs.IndexReading.{WhereStood, stock_of};
+ghost use Rattle.cs_engine.specs.IndexReading.{IsOpened, IsWordRange, OnlyReads, WhereStood, stock_of};
 ghost use Rattle.cs_engine.specs.Steps.{IsBaseOf, posts_after};
 ghost use Rattle.cs_engine.specs.Stocked.{is_between};
 
-use crate::best::{hits_in, raise_chosen, scored_over, zeros};
+use crate::best::{raise_rows, scored_in, zeros};
 use crate::counting::listed_docs;
 use crate::fault::AskFault;
 use cs_base::{Base, BlockHead, Scored, Seq, Store};
@@ -26,8 +23,7 @@ use std::alloc::Global;
 
 /// Whether the blocks of these words alone have more rows than an entry may.
 pub(crate) fn are_many(index: &Index, words: (u32, u32)) -> bool
-    requires ordered { words.0 ≤ words.1 }
-    requires in_range { words.1 ≤ length index.now.words }
+    requires words { IsWordRange index.now words.0 words.1 }
     requires index { IsIndex index.now }
 
     ensures { result ≡ true → AreMany index.now words.0 words.1 }
@@ -63,20 +59,17 @@ pub(crate) fn found_in_blocks<S: Store>(
     words: (u32, u32),
     cut: u32,
 ) -> Result<(Seq<Scored>, Table), AskFault>
-    requires ordered { words.0 ≤ words.1 }
-    requires in_range { words.1 ≤ length index.now.words }
+    requires words { IsWordRange index.now words.0 words.1 }
     requires base { IsBaseOf index.now.docs (MAX_ROW_SCORE * (MAX_PARTS - 1)) hits.now }
-    requires index { IsIndex index.now }
-    requires fits { HasAllBlocks (S.bytes store.old) index.now }
+    requires opened { IsOpened (S.bytes store.old) index.now }
 
-    ensures told { WhereStood (S.bytes store.old) index.now (λ b. IfOk result (λ found. HasFound hits.now (posts_after index.now.docs hits.now false (filter (is_between words.0 words.1) (stock_of b).posts)).rows cut found.0 found.1)) }
+    ensures told { WhereStood (S.bytes store.old) index.now
+        (λ b. IfOk result (λ found. HasFound hits.now
+        (posts_after index.now.docs hits.now false (filter (is_between words.0 words.1) (stock_of b).posts)).rows cut found.0 found.1)) }
     ensures base { IfOk result (λ found. IsBaseOf index.now.docs (MAX_ROW_SCORE * MAX_PARTS) (base.Listed found.0)) }
     ensures known { IfOk result (λ found. All (λ w. w.word < length index.now.words) found.1.first) }
-    ensures unchanged { WhereStood (S.bytes store.old) index.now (λ b. is_changed result ≡ false) }
-    ensures bytes { S.bytes store.new ≡ S.bytes store.old }
-    ensures lent { S.lent store.new ≡ S.lent store.old }
+    ensures store { OnlyReads S.bytes S.lent S.faults index.now store.old store.new (is_read result) (is_changed result) }
     ensures reads { ReadsWithin (length (filter (is_met words.0 words.1) index.now.heads)) (S.reads store.old) (S.reads store.new) }
-    ensures caused { CausedReads (is_read result) (S.faults store.old) (S.faults store.new) }
 {
     let (lo, hi) = words;
     let (first, last) = index.blocks(lo, hi);
@@ -85,62 +78,11 @@ pub(crate) fn found_in_blocks<S: Store>(
     let mut best = zeros(alloc, index.docs)?;
     let mut block = Fetched::new(alloc);
     for k in first..last {
-        add_block(
-            alloc,
-            index,
-            store,
-            k,
-            words,
-            &listed,
-            &mut block,
-            &mut counts,
-            &mut best,
-        )?;
+        index.fetch_scored(alloc, store, k, &mut block)?;
+        counts.add_rows(&block.docs, &block.words, &listed);
+        raise_rows(&mut best, words, &listed, &block);
     }
-    let found = hits_in(alloc, &best)?;
-    let scored = scored_over(alloc, hits, found)?;
+    let scored = scored_in(alloc, hits, &best)?;
     let table = counts.table(alloc, cut)?;
     Ok((scored, table))
-}
-
-// Counts and scores the rows of these words in listed documents of block `k`, which is read once.
-fn add_block<S: Store>(
-    alloc: Global,
-    index: &Index,
-    store: &mut S,
-    k: u32,
-    words: (u32, u32),
-    listed: &[bool],
-    block: &mut Fetched,
-    counts: &mut WordCounts,
-    best: &mut Vec<u8>,
-) -> Result<(), AskFault>
-    requires in_range { k < length index.now.heads }
-    requires listed { length listed.now ≡ index.now.docs }
-    requires best { length best.old.items ≡ index.now.docs }
-    requires index { IsIndex index.now }
-    requires fits { HasAllBlocks (S.bytes store.old) index.now }
-
-    ensures counted { WhereStood (S.bytes store.old) index.now (λ b. OnOk result ((seen : List Post) → AreCountable (seen ++ chosen counts.old.low counts.old.high listed.now (block_posts b k)) → HasCounted seen counts.old → HasCounted (seen ++ chosen counts.old.low counts.old.high listed.now (block_posts b k)) counts.new)) }
-    ensures low { counts.new.low ≡ counts.old.low }
-    ensures high { counts.new.high ≡ counts.old.high }
-    ensures scored { WhereStood (S.bytes store.old) index.now (λ b. OnOk result ((seen : List Post) → HasBestScores seen best.old.items → HasBestScores (seen ++ filter (is_chosen words.0 words.1 listed.now) (block_posts b k)) best.new.items)) }
-    ensures len { length best.new.items ≡ length best.old.items }
-    ensures unchanged { WhereStood (S.bytes store.old) index.now (λ b. is_changed result ≡ false) }
-    ensures bytes { S.bytes store.new ≡ S.bytes store.old }
-    ensures lent { S.lent store.new ≡ S.lent store.old }
-    ensures reads { ReadsWithin 1 (S.reads store.old) (S.reads store.new) }
-    ensures caused { CausedReads (is_read result) (S.faults store.old) (S.faults store.new) }
-{
-    index.fetch_scored(alloc, store, k, block)?;
-    counts.add_rows(&block.docs, &block.words, listed);
-    raise_chosen(
-        best,
-        words,
-        listed,
-        &block.docs,
-        &block.words,
-        &block.scores,
-    );
-    Ok(())
 }

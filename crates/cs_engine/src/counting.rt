@@ -1,17 +1,16 @@
 //! The words of a range, counted block by block in the documents of a base.
-ghost use Rattle.std.specs.Prelude.{◌≡◌, ◌≤◌, ◌<◌, ◌*◌, ◌++◌, [], List, false, true, filter, length, map, take, IfOk, OnOk};
+ghost use Rattle.std.specs.Prelude.{◌≡◌, ◌≤◌, ◌<◌, ◌*◌, [], filter, length, map, take, IfOk};
 ghost use Rattle.std.specs.List.{All};
-ghost use Rattle.cs_base.specs.declared.content.doc.Post.{Post};
 ghost use Rattle.cs_base.specs.declared.content.limits.TheConstants.{MAX_PARTS, MAX_WORDS};
 ghost use Rattle.cs_base.specs.declared.content.scores.TheConstants.{MAX_ROW_SCORE};
 ghost use Rattle.cs_base.specs.outside.Causes.{ReadsWithin};
-ghost use Rattle.cs_file.specs.Indexes.{IsIndex, HasAllBlocks, CausedReads, block_posts, is_met};
+ghost use Rattle.cs_file.specs.Indexes.{is_met};
 ghost use Rattle.cs_tables.specs.TableListings.{post_table};
-ghost use Rattle.cs_tables.specs.WordCounts.{AreCountable, HasCounted, chosen};
+ghost use Rattle.cs_tables.specs.WordCounts.{AreCountable, HasCounted};
 ghost use Rattle.cs_engine.specs.Asking.{is_read, is_changed};
 ghost use Rattle.cs_engine.specs.Counting.{AreListed, AreMarked, in_listed};
 ghost use Rattle.cs_engine.specs.Packing.{post_of_key};
-ghost use Rattle.cs_engine.specs.IndexReading.{WhereStood, stock_of};
+ghost use Rattle.cs_engine.specs.IndexReading.{IsOpened, IsWordRange, OnlyReads, WhereStood, stock_of};
 ghost use Rattle.cs_engine.specs.Steps.{IsBaseOf};
 ghost use Rattle.cs_engine.specs.Stocked.{is_between};
 
@@ -62,57 +61,26 @@ pub(crate) fn table_between<S: Store>(
     listed: &[bool],
     cut: u32,
 ) -> Result<Table, AskFault>
-    requires ordered { words.0 ≤ words.1 }
-    requires in_range { words.1 ≤ length index.now.words }
+    requires words { IsWordRange index.now words.0 words.1 }
     requires listed { length listed.now ≡ index.now.docs }
-    requires index { IsIndex index.now }
-    requires fits { HasAllBlocks (S.bytes store.old) index.now }
+    requires opened { IsOpened (S.bytes store.old) index.now }
 
-    ensures told { WhereStood (S.bytes store.old) index.now (λ b. IfOk result (λ t. t.first ≡ take cut (post_table (filter (in_listed listed.now) (filter (is_between words.0 words.1) (stock_of b).posts))))) }
+    ensures told { WhereStood (S.bytes store.old) index.now
+        (λ b. IfOk result (λ t. t.first ≡ take cut (post_table (filter (in_listed listed.now) (filter (is_between words.0 words.1) (stock_of b).posts))))) }
     ensures known { IfOk result (λ t. All (λ w. w.word < length index.now.words) t.first) }
-    ensures unchanged { WhereStood (S.bytes store.old) index.now (λ b. is_changed result ≡ false) }
-    ensures bytes { S.bytes store.new ≡ S.bytes store.old }
-    ensures lent { S.lent store.new ≡ S.lent store.old }
+    ensures store { OnlyReads S.bytes S.lent S.faults index.now store.old store.new (is_read result) (is_changed result) }
     ensures reads { ReadsWithin (length (filter (is_met words.0 words.1) index.now.heads)) (S.reads store.old) (S.reads store.new) }
-    ensures caused { CausedReads (is_read result) (S.faults store.old) (S.faults store.new) }
 {
     let (lo, hi) = words;
     let (first, last) = index.blocks(lo, hi);
     let mut counts = WordCounts::new(alloc, lo, hi)?;
     let mut block = Fetched::new(alloc);
     for k in first..last {
-        count_block(index, store, k, listed, &mut block, &mut counts)?;
+        index.fetch_doc_words(store, k, &mut block)?;
+        counts.add(&block.docs, &block.words, listed);
     }
     let table = counts.table(alloc, cut)?;
     Ok(table)
-}
-
-// Counts the rows of block `k`, which is read once.
-fn count_block<S: Store>(
-    index: &Index,
-    store: &mut S,
-    k: u32,
-    listed: &[bool],
-    block: &mut Fetched,
-    counts: &mut WordCounts,
-) -> Result<(), AskFault>
-    requires in_range { k < length index.now.heads }
-    requires listed { length listed.now ≡ index.now.docs }
-    requires index { IsIndex index.now }
-    requires fits { HasAllBlocks (S.bytes store.old) index.now }
-
-    ensures told { WhereStood (S.bytes store.old) index.now (λ b. OnOk result ((seen : List Post) → AreCountable (seen ++ chosen counts.old.low counts.old.high listed.now (block_posts b k)) → HasCounted seen counts.old → HasCounted (seen ++ chosen counts.old.low counts.old.high listed.now (block_posts b k)) counts.new)) }
-    ensures low { counts.new.low ≡ counts.old.low }
-    ensures high { counts.new.high ≡ counts.old.high }
-    ensures unchanged { WhereStood (S.bytes store.old) index.now (λ b. is_changed result ≡ false) }
-    ensures bytes { S.bytes store.new ≡ S.bytes store.old }
-    ensures lent { S.lent store.new ≡ S.lent store.old }
-    ensures reads { ReadsWithin 1 (S.reads store.old) (S.reads store.new) }
-    ensures caused { CausedReads (is_read result) (S.faults store.old) (S.faults store.new) }
-{
-    index.fetch_doc_words(store, k, block)?;
-    counts.add(&block.docs, &block.words, listed);
-    Ok(())
 }
 
 /// The table of rows of the words from number `words.0` up to `words.1`, of which these are the numbers, those of one word in order.

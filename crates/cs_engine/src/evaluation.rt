@@ -1,12 +1,11 @@
 //! The rows of a part, read from its atoms up.
-ghost use Rattle.std.specs.Prelude.{◌≡◌, false, IfOk};
+ghost use Rattle.std.specs.Prelude.{◌≡◌, IfOk};
 ghost use Rattle.cs_base.specs.content.Orders.{AreDocs};
 ghost use Rattle.cs_base.specs.outside.Causes.{ReadsWithin};
-ghost use Rattle.cs_file.specs.Indexes.{IsIndex, HasAllBlocks, CausedReads};
 ghost use Rattle.cs_model.specs.Answers.{hits, parts_of, rows_of_atom, rows_of_chain, rows_of_part};
 ghost use Rattle.cs_model_kept.specs.Due.{met_of_atom, met_of_chain, met_of_part, met_of_query};
 ghost use Rattle.cs_engine.specs.Asking.{division, is_read, is_changed};
-ghost use Rattle.cs_engine.specs.IndexReading.{AreWithin, HasRows, WhereStood, stock_of};
+ghost use Rattle.cs_engine.specs.IndexReading.{AreWithin, HasRows, IsOpened, OnlyReads, WhereStood, stock_of};
 ghost use Rattle.cs_engine.specs.Stocked.{corpus_in};
 
 use crate::entries::{agreeing, docs_of_base};
@@ -27,16 +26,13 @@ pub(crate) fn rows_of_part<S: Store>(
     store: &mut S,
     part: &Part,
 ) -> Result<Cols, AskFault>
-    requires index { IsIndex index.now }
-    requires fits { HasAllBlocks (S.bytes store.old) index.now }
+    requires opened { IsOpened (S.bytes store.old) index.now }
 
-    ensures told { WhereStood (S.bytes store.old) index.now (λ b. IfOk result (λ c. HasRows (stock_of b) (rows_of_part (corpus_in (stock_of b)) part.now).rows c.posts)) }
+    ensures told { WhereStood (S.bytes store.old) index.now
+        (λ b. IfOk result (λ c. HasRows (stock_of b) (rows_of_part (corpus_in (stock_of b)) part.now).rows c.posts)) }
     ensures within { IfOk result (λ c. AreWithin index.now c.posts) }
-    ensures unchanged { WhereStood (S.bytes store.old) index.now (λ b. is_changed result ≡ false) }
-    ensures bytes { S.bytes store.new ≡ S.bytes store.old }
-    ensures lent { S.lent store.new ≡ S.lent store.old }
+    ensures store { OnlyReads S.bytes S.lent S.faults index.now store.old store.new (is_read result) (is_changed result) }
     ensures reads { ReadsWithin (met_of_part (division index.now) part.now) (S.reads store.old) (S.reads store.new) }
-    ensures caused { CausedReads (is_read result) (S.faults store.old) (S.faults store.new) }
 {
     let mut found = Cols::new(alloc);
     for chain in part.chains.as_slice() {
@@ -54,16 +50,13 @@ fn rows_of_chain<S: Store>(
     store: &mut S,
     chain: &Chain,
 ) -> Result<Cols, AskFault>
-    requires index { IsIndex index.now }
-    requires fits { HasAllBlocks (S.bytes store.old) index.now }
+    requires opened { IsOpened (S.bytes store.old) index.now }
 
-    ensures told { WhereStood (S.bytes store.old) index.now (λ b. IfOk result (λ c. HasRows (stock_of b) (rows_of_chain (corpus_in (stock_of b)) chain.now) c.posts)) }
+    ensures told { WhereStood (S.bytes store.old) index.now
+        (λ b. IfOk result (λ c. HasRows (stock_of b) (rows_of_chain (corpus_in (stock_of b)) chain.now) c.posts)) }
     ensures within { IfOk result (λ c. AreWithin index.now c.posts) }
-    ensures unchanged { WhereStood (S.bytes store.old) index.now (λ b. is_changed result ≡ false) }
-    ensures bytes { S.bytes store.new ≡ S.bytes store.old }
-    ensures lent { S.lent store.new ≡ S.lent store.old }
+    ensures store { OnlyReads S.bytes S.lent S.faults index.now store.old store.new (is_read result) (is_changed result) }
     ensures reads { ReadsWithin (met_of_chain (division index.now) chain.now) (S.reads store.old) (S.reads store.new) }
-    ensures caused { CausedReads (is_read result) (S.faults store.old) (S.faults store.new) }
 {
     let mut found = rows_of_atom(alloc, index, store, &chain.first)?;
     for linked in chain.rest.as_slice() {
@@ -81,16 +74,13 @@ fn rows_of_atom<S: Store>(
     store: &mut S,
     atom: &Atom,
 ) -> Result<Cols, AskFault>
-    requires index { IsIndex index.now }
-    requires fits { HasAllBlocks (S.bytes store.old) index.now }
+    requires opened { IsOpened (S.bytes store.old) index.now }
 
-    ensures told { WhereStood (S.bytes store.old) index.now (λ b. IfOk result (λ c. HasRows (stock_of b) (rows_of_atom (corpus_in (stock_of b)) atom.now) c.posts)) }
+    ensures told { WhereStood (S.bytes store.old) index.now
+        (λ b. IfOk result (λ c. HasRows (stock_of b) (rows_of_atom (corpus_in (stock_of b)) atom.now) c.posts)) }
     ensures within { IfOk result (λ c. AreWithin index.now c.posts) }
-    ensures unchanged { WhereStood (S.bytes store.old) index.now (λ b. is_changed result ≡ false) }
-    ensures bytes { S.bytes store.new ≡ S.bytes store.old }
-    ensures lent { S.lent store.new ≡ S.lent store.old }
+    ensures store { OnlyReads S.bytes S.lent S.faults index.now store.old store.new (is_read result) (is_changed result) }
     ensures reads { ReadsWithin (met_of_atom (division index.now) atom.now) (S.reads store.old) (S.reads store.new) }
-    ensures caused { CausedReads (is_read result) (S.faults store.old) (S.faults store.new) }
 {
     match atom {
         Atom::Prefix(prefix) => {
@@ -118,16 +108,13 @@ fn docs_of_hits<S: Store>(
     store: &mut S,
     query: &Query,
 ) -> Result<Vec<u32>, AskFault>
-    requires index { IsIndex index.now }
-    requires fits { HasAllBlocks (S.bytes store.old) index.now }
+    requires opened { IsOpened (S.bytes store.old) index.now }
 
-    ensures told { WhereStood (S.bytes store.old) index.now (λ b. IfOk result (λ v. v.items ≡ hits (corpus_in (stock_of b)) (parts_of (corpus_in (stock_of b)) query.now))) }
+    ensures told { WhereStood (S.bytes store.old) index.now
+        (λ b. IfOk result (λ v. v.items ≡ hits (corpus_in (stock_of b)) (parts_of (corpus_in (stock_of b)) query.now))) }
     ensures sorted { IfOk result (λ v. AreDocs v.items) }
-    ensures unchanged { WhereStood (S.bytes store.old) index.now (λ b. is_changed result ≡ false) }
-    ensures bytes { S.bytes store.new ≡ S.bytes store.old }
-    ensures lent { S.lent store.new ≡ S.lent store.old }
+    ensures store { OnlyReads S.bytes S.lent S.faults index.now store.old store.new (is_read result) (is_changed result) }
     ensures reads { ReadsWithin (met_of_query (division index.now) query.now) (S.reads store.old) (S.reads store.new) }
-    ensures caused { CausedReads (is_read result) (S.faults store.old) (S.faults store.new) }
 {
     let mut hits = Base::All;
     for part in query.parts.as_slice() {

@@ -1,11 +1,11 @@
 //! The reply to a query whose last part asks for the words from one number up to another. Where its own entry is too large, its rows
 //! are brought into no order.
-ghost use Rattle.std.specs.Prelude.{◌≡◌, ◌+◌, ◌*◌, ◌≤◌, false, true, filter, length, IfOk, IfSome};
+ghost use Rattle.std.specs.Prelude.{◌≡◌, ◌+◌, ◌*◌, ◌≤◌, true, filter, length, IfOk, IfSome};
 ghost use Rattle.cs_base.specs.declared.content.doc.Base.TheVariants as base;
 ghost use Rattle.cs_base.specs.declared.content.limits.TheConstants.{MAX_PARTS};
 ghost use Rattle.cs_base.specs.declared.content.scores.TheConstants.{MAX_ROW_SCORE};
 ghost use Rattle.cs_base.specs.outside.Causes.{ReadsWithin};
-ghost use Rattle.cs_file.specs.Indexes.{IsIndex, HasAllBlocks, CausedReads, is_met};
+ghost use Rattle.cs_file.specs.Indexes.{IsIndex, is_met};
 ghost use Rattle.cs_model.specs.Parameters.{HoldsLimits};
 ghost use Rattle.cs_model.specs.Requests.{reply_of};
 ghost use Rattle.cs_model_index.specs.Sections.{file_corpus};
@@ -16,7 +16,7 @@ ghost use Rattle.cs_engine.specs.Asking.{division, is_read, is_changed, titles_a
 ghost use Rattle.cs_engine.specs.Blockwise.{AreMany};
 ghost use Rattle.cs_engine.specs.Keeping.{FitsQuery, IsAnsweredOver};
 ghost use Rattle.cs_engine.specs.Loose.{AreKeysIn, AreLastWords, IsEntryByWords};
-ghost use Rattle.cs_engine.specs.IndexReading.{WhereStood};
+ghost use Rattle.cs_engine.specs.IndexReading.{IsOpened, IsWordRange, OnlyReads, WhereStood};
 ghost use Rattle.cs_engine.specs.Steps.{IsBaseOf};
 
 use crate::answering::reply_of;
@@ -46,17 +46,15 @@ pub(crate) fn answered_by_words<S: Store>(
 ) -> Result<(Reply, Option<Entry>), AskFault>
     requires limits { HoldsLimits (asked request.now) }
     requires asks { AreLastWords index.now request.now.query hits words.0 words.1 }
-    requires index { IsIndex index.now }
-    requires fits { HasAllBlocks (S.bytes store.old) index.now }
+    requires opened { IsOpened (S.bytes store.old) index.now }
 
-    ensures told { WhereStood (S.bytes store.old) index.now (λ b. IsEntryByWords b index.now request.now.query hits words.0 words.1 → IfOk result (IsAnsweredOver b index.now (asked request.now))) }
+    ensures told { WhereStood (S.bytes store.old) index.now
+        (λ b. IsEntryByWords b index.now request.now.query hits words.0 words.1 → IfOk result (IsAnsweredOver b index.now (asked request.now))) }
     ensures few { IfOk result (λ a. length a.0.hits ≤ request.now.hits) }
     ensures within { IfOk result (λ a. IfSome a.1 (FitsQuery index.now request.now.query)) }
-    ensures unchanged { WhereStood (S.bytes store.old) index.now (λ b. is_changed result ≡ false) }
-    ensures bytes { S.bytes store.new ≡ S.bytes store.old }
-    ensures lent { S.lent store.new ≡ S.lent store.old }
-    ensures reads { ReadsWithin (titles_asked (asked request.now) result + met_of_facets (division index.now) (asked request.now).facets + length (filter (is_met words.0 words.1) index.now.heads)) (S.reads store.old) (S.reads store.new) }
-    ensures caused { CausedReads (is_read result) (S.faults store.old) (S.faults store.new) }
+    ensures store { OnlyReads S.bytes S.lent S.faults index.now store.old store.new (is_read result) (is_changed result) }
+    ensures reads { ReadsWithin (titles_asked (asked request.now) result + met_of_facets (division index.now) (asked request.now).facets + length
+        (filter (is_met words.0 words.1) index.now.heads)) (S.reads store.old) (S.reads store.new) }
 {
     if fills(index, &hits, words) {
         let reply = reply_by_blocks(alloc, index, store, request, &hits, words)?;
@@ -81,18 +79,13 @@ fn keys_of_hits<S: Store>(
     hits: &Base,
     words: (u32, u32),
 ) -> Result<Vec<u64>, AskFault>
-    requires ordered { words.0 ≤ words.1 }
-    requires in_range { words.1 ≤ length index.now.words }
+    requires words { IsWordRange index.now words.0 words.1 }
     requires base { IsBaseOf index.now.docs (MAX_ROW_SCORE * MAX_PARTS) hits.now }
-    requires index { IsIndex index.now }
-    requires fits { HasAllBlocks (S.bytes store.old) index.now }
+    requires opened { IsOpened (S.bytes store.old) index.now }
 
     ensures keys { IfOk result (λ v. AreKeysIn index.now (S.bytes store.old) hits.now words.0 words.1 v.items) }
-    ensures unchanged { WhereStood (S.bytes store.old) index.now (λ b. is_changed result ≡ false) }
-    ensures bytes { S.bytes store.new ≡ S.bytes store.old }
-    ensures lent { S.lent store.new ≡ S.lent store.old }
+    ensures store { OnlyReads S.bytes S.lent S.faults index.now store.old store.new (is_read result) (is_changed result) }
     ensures reads { ReadsWithin (length (filter (is_met words.0 words.1) index.now.heads)) (S.reads store.old) (S.reads store.new) }
-    ensures caused { CausedReads (is_read result) (S.faults store.old) (S.faults store.new) }
 {
     let listed = listed_docs(alloc, index.docs, hits)?;
     let keys = keys_in(alloc, index, store, words, &listed)?;
@@ -101,8 +94,7 @@ fn keys_of_hits<S: Store>(
 
 // Whether these words are known to have so many rows in the documents of hits that their entry is too large.
 fn fills(index: &Index, hits: &Base, words: (u32, u32)) -> bool
-    requires ordered { words.0 ≤ words.1 }
-    requires in_range { words.1 ≤ length index.now.words }
+    requires words { IsWordRange index.now words.0 words.1 }
     requires index { IsIndex index.now }
 
     ensures all { result ≡ true → hits.now ≡ base.All }
@@ -135,16 +127,14 @@ fn reply_by_blocks<S: Store>(
 ) -> Result<Reply, AskFault>
     requires limits { HoldsLimits (asked request.now) }
     requires asks { AreLastWords index.now request.now.query hits.now words.0 words.1 }
-    requires index { IsIndex index.now }
-    requires fits { HasAllBlocks (S.bytes store.old) index.now }
+    requires opened { IsOpened (S.bytes store.old) index.now }
 
-    ensures told { WhereStood (S.bytes store.old) index.now (λ b. IsEntryByWords b index.now request.now.query hits.now words.0 words.1 → IfOk result (λ r. r ≡ reply_of (file_corpus b) (asked request.now))) }
+    ensures told { WhereStood (S.bytes store.old) index.now
+        (λ b. IsEntryByWords b index.now request.now.query hits.now words.0 words.1 → IfOk result (λ r. r ≡ reply_of (file_corpus b) (asked request.now))) }
     ensures few { IfOk result (λ r. length r.hits ≤ request.now.hits) }
-    ensures unchanged { WhereStood (S.bytes store.old) index.now (λ b. is_changed result ≡ false) }
-    ensures bytes { S.bytes store.new ≡ S.bytes store.old }
-    ensures lent { S.lent store.new ≡ S.lent store.old }
-    ensures reads { ReadsWithin (titles_read (asked request.now) result + met_of_facets (division index.now) (asked request.now).facets + length (filter (is_met words.0 words.1) index.now.heads)) (S.reads store.old) (S.reads store.new) }
-    ensures caused { CausedReads (is_read result) (S.faults store.old) (S.faults store.new) }
+    ensures store { OnlyReads S.bytes S.lent S.faults index.now store.old store.new (is_read result) (is_changed result) }
+    ensures reads { ReadsWithin (titles_read (asked request.now) result + met_of_facets (division index.now) (asked request.now).facets + length
+        (filter (is_met words.0 words.1) index.now.heads)) (S.reads store.old) (S.reads store.new) }
 {
     let (found, table) = found_in_blocks(alloc, index, store, hits, words, request.completions)?;
     let reply = reply_of(alloc, index, store, request, Base::Listed(found), table)?;
@@ -164,16 +154,14 @@ fn reply_by_keys<S: Store>(
     requires limits { HoldsLimits (asked request.now) }
     requires asks { AreLastWords index.now request.now.query hits.now words.0 words.1 }
     requires keys { AreKeysIn index.now (S.bytes store.old) hits.now words.0 words.1 keys.now }
-    requires index { IsIndex index.now }
-    requires fits { HasAllBlocks (S.bytes store.old) index.now }
+    requires opened { IsOpened (S.bytes store.old) index.now }
 
-    ensures told { WhereStood (S.bytes store.old) index.now (λ b. IsEntryByWords b index.now request.now.query hits.now words.0 words.1 → IfOk result (λ r. r ≡ reply_of (file_corpus b) (asked request.now))) }
+    ensures told { WhereStood (S.bytes store.old) index.now
+        (λ b. IsEntryByWords b index.now request.now.query hits.now words.0 words.1 → IfOk result (λ r. r ≡ reply_of (file_corpus b) (asked request.now))) }
     ensures few { IfOk result (λ r. length r.hits ≤ request.now.hits) }
-    ensures unchanged { WhereStood (S.bytes store.old) index.now (λ b. is_changed result ≡ false) }
-    ensures bytes { S.bytes store.new ≡ S.bytes store.old }
-    ensures lent { S.lent store.new ≡ S.lent store.old }
-    ensures reads { ReadsWithin (titles_read (asked request.now) result + met_of_facets (division index.now) (asked request.now).facets) (S.reads store.old) (S.reads store.new) }
-    ensures caused { CausedReads (is_read result) (S.faults store.old) (S.faults store.new) }
+    ensures store { OnlyReads S.bytes S.lent S.faults index.now store.old store.new (is_read result) (is_changed result) }
+    ensures reads { ReadsWithin (titles_read (asked request.now) result + met_of_facets (division index.now) (asked request.now).facets) (S.reads store.old)
+        (S.reads store.new) }
 {
     let found = scores_over(alloc, index.docs, hits, keys)?;
     let table = table_of(alloc, words, keys, request.completions)?;

@@ -1,8 +1,8 @@
 //! Rows brought into one order by one sort of numbers.
-ghost use Rattle.std.specs.Prelude.{◌≡◌, ◌+◌, ◌<◌, ◌≤◌, ◌++◌, List, length, map, filter, take, drop, slice_index_or, IfOk, OnOk};
+ghost use Rattle.std.specs.Prelude.{◌≡◌, ◌+◌, ◌++◌, List, map, IfOk, OnOk};
 ghost use Rattle.std.specs.List.{All};
 ghost use Rattle.cs_base.specs.declared.content.doc.Post.{Post};
-ghost use Rattle.cs_engine.specs.Packing.{IsOrdered, IsPacked, apart, key_of, place_of_key, post_of_key};
+ghost use Rattle.cs_engine.specs.Packing.{IsOrdered, IsPacked, apart, key_of, post_of_key};
 
 use cs_base::{Memory, Post};
 use cs_cols::Cols;

@@ -1,9 +1,8 @@
 //! A query by a kept entry or by hits: its own entry where a letter more is typed, and the reply to it and one part more.
-ghost use Rattle.std.specs.Prelude.{◌≡◌, ◌+◌, ◌-◌, ◌*◌, ◌≤◌, false, filter, length, IsSome, IfSome, IfOk};
+ghost use Rattle.std.specs.Prelude.{◌≡◌, ◌+◌, ◌-◌, ◌*◌, ◌≤◌, filter, length, IsSome, IfSome, IfOk};
 ghost use Rattle.cs_base.specs.outside.Causes.{ReadsWithin};
 ghost use Rattle.cs_base.specs.declared.content.scores.TheConstants.{MAX_ROW_SCORE};
 ghost use Rattle.cs_base.specs.declared.content.query.Query.{out-Query};
-ghost use Rattle.cs_file.specs.Indexes.{IsIndex, HasAllBlocks, CausedReads};
 ghost use Rattle.cs_model.specs.Answers.{begins};
 ghost use Rattle.cs_model.specs.Keys.{last_of, last_prefix};
 ghost use Rattle.cs_model.specs.Parameters.{HoldsLimits};
@@ -13,7 +12,7 @@ ghost use Rattle.cs_model_kept.specs.KeptListLaws.{before_last};
 ghost use Rattle.cs_query.specs.RequestView.{asked};
 ghost use Rattle.cs_engine.specs.Asking.{division, is_read, is_changed, titles_asked};
 ghost use Rattle.cs_engine.specs.Keeping.{FitsQuery, IsAnsweredOver, IsEntryOver, entry_with};
-ghost use Rattle.cs_engine.specs.IndexReading.{AreWithin, WhereStood};
+ghost use Rattle.cs_engine.specs.IndexReading.{AreWithin, IsOpened, OnlyReads, WhereStood};
 ghost use Rattle.cs_engine.specs.Steps.{AreHitsOver, IsBaseOf};
 
 use crate::between::posts_between;
@@ -43,7 +42,8 @@ pub(crate) fn narrowed(
     requires within { AreWithin index.now rows.now.posts }
 
     ensures base { IfOk result (λ e. e.base ≡ base.now) }
-    ensures rows { IfOk result (λ e. IfSome (last_prefix query.now) (λ p. e.rows ≡ filter (λ post. begins p (word_at index.now.words post.word)) rows.now.posts)) }
+    ensures rows { IfOk result (λ e. IfSome (last_prefix query.now)
+        (λ p. e.rows ≡ filter (λ post. begins p (word_at index.now.words post.word)) rows.now.posts)) }
 {
     let Some(prefix) = last_prefix(query) else {
         unreachable!()
@@ -70,17 +70,16 @@ pub(crate) fn answered_by_part<S: Store>(
     requires limits { HoldsLimits (asked request.now) }
     requires some { 1 ≤ length (out-Query request.now.query).parts }
     requires before { FitsQuery index.now (before_last request.now.query) (entry_with base.now rows.now.posts) }
-    requires index { IsIndex index.now }
-    requires fits { HasAllBlocks (S.bytes store.old) index.now }
+    requires opened { IsOpened (S.bytes store.old) index.now }
 
-    ensures told { WhereStood (S.bytes store.old) index.now (λ b. IsEntryOver b index.now (before_last request.now.query) (entry_with base.now rows.now.posts) → IfOk result (IsAnsweredOver b index.now (asked request.now))) }
+    ensures told { WhereStood (S.bytes store.old) index.now
+        (λ b. IsEntryOver b index.now (before_last request.now.query) (entry_with base.now rows.now.posts)
+        → IfOk result (IsAnsweredOver b index.now (asked request.now))) }
     ensures few { IfOk result (λ a. length a.0.hits ≤ request.now.hits) }
     ensures within { IfOk result (λ a. IfSome a.1 (FitsQuery index.now request.now.query)) }
-    ensures unchanged { WhereStood (S.bytes store.old) index.now (λ b. is_changed result ≡ false) }
-    ensures bytes { S.bytes store.new ≡ S.bytes store.old }
-    ensures lent { S.lent store.new ≡ S.lent store.old }
-    ensures reads { ReadsWithin (titles_asked (asked request.now) result + met_of_facets (division index.now) (asked request.now).facets + met_of_last (division index.now) (last_of (out-Query request.now.query).parts)) (S.reads store.old) (S.reads store.new) }
-    ensures caused { CausedReads (is_read result) (S.faults store.old) (S.faults store.new) }
+    ensures store { OnlyReads S.bytes S.lent S.faults index.now store.old store.new (is_read result) (is_changed result) }
+    ensures reads { ReadsWithin (titles_asked (asked request.now) result + met_of_facets (division index.now) (asked request.now).facets + met_of_last
+        (division index.now) (last_of (out-Query request.now.query).parts)) (S.reads store.old) (S.reads store.new) }
 {
     let parts = request.query.parts.as_slice();
     let positive = end_positive(&parts[..parts.len() - 1]);
@@ -100,25 +99,24 @@ pub(crate) fn answered_by_hits<S: Store>(
     requires limits { HoldsLimits (asked request.now) }
     requires some { 1 ≤ length (out-Query request.now.query).parts }
     requires base { IsBaseOf index.now.docs (MAX_ROW_SCORE * (length (out-Query request.now.query).parts - 1)) hits }
-    requires index { IsIndex index.now }
-    requires fits { HasAllBlocks (S.bytes store.old) index.now }
+    requires opened { IsOpened (S.bytes store.old) index.now }
 
-    ensures told { WhereStood (S.bytes store.old) index.now (λ b. AreHitsOver b (before_last request.now.query) hits → IfOk result (IsAnsweredOver b index.now (asked request.now))) }
+    ensures told { WhereStood (S.bytes store.old) index.now
+        (λ b. AreHitsOver b (before_last request.now.query) hits → IfOk result (IsAnsweredOver b index.now (asked request.now))) }
     ensures few { IfOk result (λ a. length a.0.hits ≤ request.now.hits) }
     ensures within { IfOk result (λ a. IfSome a.1 (FitsQuery index.now request.now.query)) }
-    ensures unchanged { WhereStood (S.bytes store.old) index.now (λ b. is_changed result ≡ false) }
-    ensures bytes { S.bytes store.new ≡ S.bytes store.old }
-    ensures lent { S.lent store.new ≡ S.lent store.old }
-    ensures reads { ReadsWithin (titles_asked (asked request.now) result + met_of_facets (division index.now) (asked request.now).facets + met_of_last (division index.now) (last_of (out-Query request.now.query).parts)) (S.reads store.old) (S.reads store.new) }
-    ensures caused { CausedReads (is_read result) (S.faults store.old) (S.faults store.new) }
+    ensures store { OnlyReads S.bytes S.lent S.faults index.now store.old store.new (is_read result) (is_changed result) }
+    ensures reads { ReadsWithin (titles_asked (asked request.now) result + met_of_facets (division index.now) (asked request.now).facets + met_of_last
+        (division index.now) (last_of (out-Query request.now.query).parts)) (S.reads store.old) (S.reads store.new) }
 {
     let parts = request.query.parts.as_slice();
     let last = parts.len() - 1;
-    if let Some(words) = words_of_part(index, &parts[last]) {
+    let part = &parts[last];
+    if let Some(words) = words_of_part(index, part) {
         let answered = answered_by_words(alloc, index, store, request, hits, words)?;
         return Ok(answered);
     }
-    let entry = extended(alloc, index, store, hits, &parts[last])?;
+    let entry = extended(alloc, index, store, hits, part)?;
     let answered = with_reply(alloc, index, store, request, entry)?;
     Ok(answered)
 }

@@ -1,14 +1,12 @@
 //! The rows of a range of words, read from the blocks of an index.
-ghost use Rattle.std.specs.Prelude.{◌≡◌, ℕ, ◌+◌, ◌≤◌, ◌<◌, false, true, filter, length, IfOk, OnOk};
+ghost use Rattle.std.specs.Prelude.{◌≡◌, true, filter, length, IfOk};
 ghost use Rattle.std.specs.List.{All};
 ghost use Rattle.cs_base.specs.outside.Causes.{ReadsWithin};
-ghost use Rattle.cs_file.specs.Indexes.{IsIndex, HasAllBlocks, CausedReads, is_met};
-ghost use Rattle.cs_tables.specs.WordCounts.{is_chosen};
+ghost use Rattle.cs_file.specs.Indexes.{is_met};
 ghost use Rattle.cs_engine.specs.Asking.{is_read, is_changed};
 ghost use Rattle.cs_engine.specs.Counting.{in_listed};
 ghost use Rattle.cs_engine.specs.Loose.{AreGathered};
-ghost use Rattle.cs_engine.specs.Packing.{HasKeys};
-ghost use Rattle.cs_engine.specs.IndexReading.{AreWithin, WhereStood, stock_of};
+ghost use Rattle.cs_engine.specs.IndexReading.{AreWithin, IsOpened, IsWordRange, OnlyReads, WhereStood, stock_of};
 ghost use Rattle.cs_engine.specs.Stocked.{is_between};
 
 use crate::counting::listed_docs;
@@ -27,18 +25,13 @@ pub(crate) fn rows_between<S: Store>(
     lo: u32,
     hi: u32,
 ) -> Result<Cols, AskFault>
-    requires ordered { lo ≤ hi }
-    requires in_range { hi ≤ length index.now.words }
-    requires index { IsIndex index.now }
-    requires fits { HasAllBlocks (S.bytes store.old) index.now }
+    requires words { IsWordRange index.now lo hi }
+    requires opened { IsOpened (S.bytes store.old) index.now }
 
     ensures told { WhereStood (S.bytes store.old) index.now (λ b. IfOk result (λ c. c.posts ≡ filter (is_between lo hi) (stock_of b).posts)) }
     ensures within { IfOk result (λ c. AreWithin index.now c.posts) }
-    ensures unchanged { WhereStood (S.bytes store.old) index.now (λ b. is_changed result ≡ false) }
-    ensures bytes { S.bytes store.new ≡ S.bytes store.old }
-    ensures lent { S.lent store.new ≡ S.lent store.old }
+    ensures store { OnlyReads S.bytes S.lent S.faults index.now store.old store.new (is_read result) (is_changed result) }
     ensures reads { ReadsWithin (length (filter (is_met lo hi) index.now.heads)) (S.reads store.old) (S.reads store.new) }
-    ensures caused { CausedReads (is_read result) (S.faults store.old) (S.faults store.new) }
 {
     let all = listed_docs(alloc, index.docs, &Base::All)?;
     let rows = rows_in(alloc, index, store, (lo, hi), &all)?;
@@ -54,20 +47,16 @@ pub(crate) fn rows_in<S: Store>(
     words: (u32, u32),
     listed: &[bool],
 ) -> Result<Cols, AskFault>
-    requires ordered { words.0 ≤ words.1 }
-    requires in_range { words.1 ≤ length index.now.words }
+    requires words { IsWordRange index.now words.0 words.1 }
     requires listed { length listed.now ≡ index.now.docs }
-    requires index { IsIndex index.now }
-    requires fits { HasAllBlocks (S.bytes store.old) index.now }
+    requires opened { IsOpened (S.bytes store.old) index.now }
 
-    ensures told { WhereStood (S.bytes store.old) index.now (λ b. IfOk result (λ c. c.posts ≡ filter (in_listed listed.now) (filter (is_between words.0 words.1) (stock_of b).posts))) }
+    ensures told { WhereStood (S.bytes store.old) index.now
+        (λ b. IfOk result (λ c. c.posts ≡ filter (in_listed listed.now) (filter (is_between words.0 words.1) (stock_of b).posts))) }
     ensures within { IfOk result (λ c. AreWithin index.now c.posts) }
     ensures listed { IfOk result (λ c. All (λ p. in_listed listed.now p ≡ true) c.posts) }
-    ensures unchanged { WhereStood (S.bytes store.old) index.now (λ b. is_changed result ≡ false) }
-    ensures bytes { S.bytes store.new ≡ S.bytes store.old }
-    ensures lent { S.lent store.new ≡ S.lent store.old }
+    ensures store { OnlyReads S.bytes S.lent S.faults index.now store.old store.new (is_read result) (is_changed result) }
     ensures reads { ReadsWithin (length (filter (is_met words.0 words.1) index.now.heads)) (S.reads store.old) (S.reads store.new) }
-    ensures caused { CausedReads (is_read result) (S.faults store.old) (S.faults store.new) }
 {
     let keys = keys_in(alloc, index, store, words, listed)?;
     let rows = ordered(alloc, keys)?;
@@ -83,54 +72,21 @@ pub(crate) fn keys_in<S: Store>(
     words: (u32, u32),
     listed: &[bool],
 ) -> Result<Vec<u64>, AskFault>
-    requires ordered { words.0 ≤ words.1 }
-    requires in_range { words.1 ≤ length index.now.words }
+    requires words { IsWordRange index.now words.0 words.1 }
     requires listed { length listed.now ≡ index.now.docs }
-    requires index { IsIndex index.now }
-    requires fits { HasAllBlocks (S.bytes store.old) index.now }
+    requires opened { IsOpened (S.bytes store.old) index.now }
 
     ensures gathered { IfOk result (λ v. AreGathered index.now (S.bytes store.old) words.0 words.1 listed.now v.items) }
-    ensures unchanged { WhereStood (S.bytes store.old) index.now (λ b. is_changed result ≡ false) }
-    ensures bytes { S.bytes store.new ≡ S.bytes store.old }
-    ensures lent { S.lent store.new ≡ S.lent store.old }
+    ensures store { OnlyReads S.bytes S.lent S.faults index.now store.old store.new (is_read result) (is_changed result) }
     ensures reads { ReadsWithin (length (filter (is_met words.0 words.1) index.now.heads)) (S.reads store.old) (S.reads store.new) }
-    ensures caused { CausedReads (is_read result) (S.faults store.old) (S.faults store.new) }
 {
     let (lo, hi) = words;
     let (first, last) = index.blocks(lo, hi);
     let mut keys = Vec::new(alloc);
     let mut block = Sought::new(alloc);
     for k in first..last {
-        pack_block(alloc, index, store, k, words, listed, &mut block, &mut keys)?;
+        index.fetch_sought(alloc, store, k, words, listed, &mut block)?;
+        pack(&block.posts, &mut keys)?;
     }
     Ok(keys)
-}
-
-// Adds the numbers of the rows of these words in listed documents of block `k`, which is read once.
-fn pack_block<S: Store>(
-    alloc: Global,
-    index: &Index,
-    store: &mut S,
-    k: u32,
-    words: (u32, u32),
-    listed: &[bool],
-    block: &mut Sought,
-    keys: &mut Vec<u64>,
-) -> Result<(), AskFault>
-    requires in_range { k < length index.now.heads }
-    requires in_words { words.1 ≤ length index.now.words }
-    requires listed { length listed.now ≡ index.now.docs }
-    requires index { IsIndex index.now }
-    requires fits { HasAllBlocks (S.bytes store.old) index.now }
-
-    ensures keys { OnOk result ((first : ℕ) → first ≤ k → HasKeys index.now (S.bytes store.old) first k (is_chosen words.0 words.1 listed.now) keys.old.items → HasKeys index.now (S.bytes store.old) first (k + 1) (is_chosen words.0 words.1 listed.now) keys.new.items) }
-    ensures unchanged { WhereStood (S.bytes store.old) index.now (λ b. is_changed result ≡ false) }
-    ensures bytes { S.bytes store.new ≡ S.bytes store.old }
-    ensures lent { S.lent store.new ≡ S.lent store.old }
-    ensures reads { ReadsWithin 1 (S.reads store.old) (S.reads store.new) }
-    ensures caused { CausedReads (is_read result) (S.faults store.old) (S.faults store.new) }
-{
-    index.fetch_sought(alloc, store, k, words, listed, block)?;
-    pack(&block.posts, keys)?;
-    Ok(())
 }

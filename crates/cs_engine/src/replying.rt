@@ -2,7 +2,7 @@
 ghost use Rattle.std.specs.Prelude.{◌≡◌, ◌+◌, ◌≤◌, Some, false, true, is_some, length, IfSome, IfOk};
 ghost use Rattle.cs_base.specs.declared.index.plan.Kept.TheVariants as kept;
 ghost use Rattle.cs_base.specs.outside.Causes.{ReadsWithin};
-ghost use Rattle.cs_file.specs.Indexes.{IsIndex, HasAllBlocks, CausedReads};
+ghost use Rattle.cs_file.specs.Indexes.{HasAllBlocks};
 ghost use Rattle.cs_model.specs.Keys.{keys_of};
 ghost use Rattle.cs_model.specs.Parameters.{HoldsLimits};
 ghost use Rattle.cs_model.specs.Requests.{reply_of};
@@ -13,7 +13,7 @@ ghost use Rattle.cs_model_kept.specs.KeptList.{kept_fresh, plan_by, is_same};
 ghost use Rattle.cs_query.specs.RequestView.{asked};
 ghost use Rattle.cs_engine.specs.Asking.{division, is_read, is_changed, titles_asked, titles_read};
 ghost use Rattle.cs_engine.specs.Keeping.{FitsQuery, HoldsGood, IsAnsweredOver, IsEntryOver, KeepsFitting, entry_with};
-ghost use Rattle.cs_engine.specs.IndexReading.{WhereStood};
+ghost use Rattle.cs_engine.specs.IndexReading.{IsOpened, OnlyReads, WhereStood};
 
 use crate::answering::reply_of;
 use crate::entries::{hits_of, nothing_kept};
@@ -44,17 +44,19 @@ pub(crate) fn answered<S: Store>(
     requires kept { KeepsFitting index.now answers.now.entries }
     requires fits { HasAllBlocks (S.bytes store.old) index.now }
 
-    ensures told { WhereStood (S.bytes store.old) index.now (λ b. HoldsGood b index.now answers.now.entries → IfOk result (λ a. a.0 ≡ reply_of (file_corpus b) (asked request.now))) }
-    ensures own { WhereStood (S.bytes store.old) index.now (λ b. HoldsGood b index.now answers.now.entries → IfOk result (λ a. IfSome a.1 (IsEntryOver b index.now request.now.query))) }
+    ensures told { WhereStood (S.bytes store.old) index.now
+        (λ b. HoldsGood b index.now answers.now.entries → IfOk result (λ a. a.0 ≡ reply_of (file_corpus b) (asked request.now))) }
+    ensures own { WhereStood (S.bytes store.old) index.now
+        (λ b. HoldsGood b index.now answers.now.entries → IfOk result (λ a. IfSome a.1 (IsEntryOver b index.now request.now.query))) }
     ensures few { IfOk result (λ a. length a.0.hits ≤ request.now.hits) }
     ensures within { IfOk result (λ a. IfSome a.1 (FitsQuery index.now request.now.query)) }
     ensures had { IfOk result (λ a. is_same plan ≡ true → is_some a.1 ≡ false) }
-    ensures large { WhereStood (S.bytes store.old) index.now (λ b. HoldsGood b index.now answers.now.entries → IfOk result (λ a. is_some a.1 ≡ false → is_same plan ≡ false → kept_fresh (entry_of (file_corpus b) request.now.query) ≡ kept.TooLarge)) }
-    ensures unchanged { WhereStood (S.bytes store.old) index.now (λ b. is_changed result ≡ false) }
-    ensures bytes { S.bytes store.new ≡ S.bytes store.old }
-    ensures lent { S.lent store.new ≡ S.lent store.old }
-    ensures reads { ReadsWithin (due (division index.now) (asked request.now) plan (titles_asked (asked request.now) result)) (S.reads store.old) (S.reads store.new) }
-    ensures caused { CausedReads (is_read result) (S.faults store.old) (S.faults store.new) }
+    ensures large { WhereStood (S.bytes store.old) index.now
+        (λ b. HoldsGood b index.now answers.now.entries
+        → IfOk result (λ a. is_some a.1 ≡ false → is_same plan ≡ false → kept_fresh (entry_of (file_corpus b) request.now.query) ≡ kept.TooLarge)) }
+    ensures store { OnlyReads S.bytes S.lent S.faults index.now store.old store.new (is_read result) (is_changed result) }
+    ensures reads { ReadsWithin (due (division index.now) (asked request.now) plan (titles_asked (asked request.now) result)) (S.reads store.old)
+        (S.reads store.new) }
 {
     // the type of an index says what it keeps where a field of it is read
     let _ = &index.docs;
@@ -90,17 +92,14 @@ fn fresh<S: Store>(
     request: &Request,
 ) -> Result<(Reply, Option<Entry>), AskFault>
     requires limits { HoldsLimits (asked request.now) }
-    requires index { IsIndex index.now }
-    requires fits { HasAllBlocks (S.bytes store.old) index.now }
+    requires opened { IsOpened (S.bytes store.old) index.now }
 
     ensures told { WhereStood (S.bytes store.old) index.now (λ b. IfOk result (IsAnsweredOver b index.now (asked request.now))) }
     ensures few { IfOk result (λ a. length a.0.hits ≤ request.now.hits) }
     ensures within { IfOk result (λ a. IfSome a.1 (FitsQuery index.now request.now.query)) }
-    ensures unchanged { WhereStood (S.bytes store.old) index.now (λ b. is_changed result ≡ false) }
-    ensures bytes { S.bytes store.new ≡ S.bytes store.old }
-    ensures lent { S.lent store.new ≡ S.lent store.old }
-    ensures reads { ReadsWithin (titles_asked (asked request.now) result + met_of_facets (division index.now) (asked request.now).facets + met_of_query (division index.now) request.now.query) (S.reads store.old) (S.reads store.new) }
-    ensures caused { CausedReads (is_read result) (S.faults store.old) (S.faults store.new) }
+    ensures store { OnlyReads S.bytes S.lent S.faults index.now store.old store.new (is_read result) (is_changed result) }
+    ensures reads { ReadsWithin (titles_asked (asked request.now) result + met_of_facets (division index.now) (asked request.now).facets + met_of_query
+        (division index.now) request.now.query) (S.reads store.old) (S.reads store.new) }
 {
     let parts = request.query.parts.as_slice();
     if parts.is_empty() {
@@ -123,17 +122,15 @@ pub(crate) fn with_reply<S: Store>(
 ) -> Result<(Reply, Option<Entry>), AskFault>
     requires limits { HoldsLimits (asked request.now) }
     requires entry { FitsQuery index.now request.now.query entry }
-    requires index { IsIndex index.now }
-    requires fits { HasAllBlocks (S.bytes store.old) index.now }
+    requires opened { IsOpened (S.bytes store.old) index.now }
 
-    ensures told { WhereStood (S.bytes store.old) index.now (λ b. IsEntryOver b index.now request.now.query entry → IfOk result (λ a. a.0 ≡ reply_of (file_corpus b) (asked request.now))) }
+    ensures told { WhereStood (S.bytes store.old) index.now
+        (λ b. IsEntryOver b index.now request.now.query entry → IfOk result (λ a. a.0 ≡ reply_of (file_corpus b) (asked request.now))) }
     ensures few { IfOk result (λ a. length a.0.hits ≤ request.now.hits) }
     ensures same { IfOk result (λ a. a.1 ≡ Some entry) }
-    ensures unchanged { WhereStood (S.bytes store.old) index.now (λ b. is_changed result ≡ false) }
-    ensures bytes { S.bytes store.new ≡ S.bytes store.old }
-    ensures lent { S.lent store.new ≡ S.lent store.old }
-    ensures reads { ReadsWithin (titles_asked (asked request.now) result + met_of_facets (division index.now) (asked request.now).facets) (S.reads store.old) (S.reads store.new) }
-    ensures caused { CausedReads (is_read result) (S.faults store.old) (S.faults store.new) }
+    ensures store { OnlyReads S.bytes S.lent S.faults index.now store.old store.new (is_read result) (is_changed result) }
+    ensures reads { ReadsWithin (titles_asked (asked request.now) result + met_of_facets (division index.now) (asked request.now).facets) (S.reads store.old)
+        (S.reads store.new) }
 {
     let reply = by_entry(alloc, index, store, request, &entry.base, &entry.rows)?;
     Ok((reply, Some(entry)))
@@ -150,16 +147,15 @@ fn by_entry<S: Store>(
 ) -> Result<Reply, AskFault>
     requires limits { HoldsLimits (asked request.now) }
     requires entry { FitsQuery index.now request.now.query (entry_with base.now rows.now.posts) }
-    requires index { IsIndex index.now }
-    requires fits { HasAllBlocks (S.bytes store.old) index.now }
+    requires opened { IsOpened (S.bytes store.old) index.now }
 
-    ensures told { WhereStood (S.bytes store.old) index.now (λ b. IsEntryOver b index.now request.now.query (entry_with base.now rows.now.posts) → IfOk result (λ r. r ≡ reply_of (file_corpus b) (asked request.now))) }
+    ensures told { WhereStood (S.bytes store.old) index.now
+        (λ b. IsEntryOver b index.now request.now.query (entry_with base.now rows.now.posts)
+        → IfOk result (λ r. r ≡ reply_of (file_corpus b) (asked request.now))) }
     ensures few { IfOk result (λ r. length r.hits ≤ request.now.hits) }
-    ensures unchanged { WhereStood (S.bytes store.old) index.now (λ b. is_changed result ≡ false) }
-    ensures bytes { S.bytes store.new ≡ S.bytes store.old }
-    ensures lent { S.lent store.new ≡ S.lent store.old }
-    ensures reads { ReadsWithin (titles_read (asked request.now) result + met_of_facets (division index.now) (asked request.now).facets) (S.reads store.old) (S.reads store.new) }
-    ensures caused { CausedReads (is_read result) (S.faults store.old) (S.faults store.new) }
+    ensures store { OnlyReads S.bytes S.lent S.faults index.now store.old store.new (is_read result) (is_changed result) }
+    ensures reads { ReadsWithin (titles_read (asked request.now) result + met_of_facets (division index.now) (asked request.now).facets) (S.reads store.old)
+        (S.reads store.new) }
 {
     let positive = end_positive(request.query.parts.as_slice());
     let hits = hits_of(alloc, positive, base, rows)?;

@@ -1,21 +1,19 @@
 //! The hits of a query and one part more that asks for a range of words: the best score of each document is noted as its rows are read.
-ghost use Rattle.std.specs.Prelude.{◌≡◌, ℕ, ◌+◌, ◌*◌, ◌≤◌, ◌<◌, ◌++◌, List, false, filter, length, IfOk, OnOk};
+ghost use Rattle.std.specs.Prelude.{◌≡◌, ℕ, ◌+◌, ◌*◌, false, filter, length, IfOk};
 ghost use Rattle.cs_base.specs.declared.content.doc.Base.TheVariants as base;
-ghost use Rattle.cs_base.specs.declared.content.doc.Post.{Post};
 ghost use Rattle.cs_base.specs.declared.content.limits.TheConstants.{MAX_PARTS};
 ghost use Rattle.cs_base.specs.declared.content.scores.TheConstants.{MAX_ROW_SCORE};
 ghost use Rattle.cs_base.specs.outside.Causes.{ReadsWithin};
-ghost use Rattle.cs_file.specs.Indexes.{IsIndex, HasAllBlocks, CausedReads, block_posts, is_met};
+ghost use Rattle.cs_file.specs.Indexes.{is_met};
 ghost use Rattle.cs_rank.specs.DocScores.{scores};
-ghost use Rattle.cs_tables.specs.WordCounts.{is_chosen};
 ghost use Rattle.cs_engine.specs.Asking.{is_read, is_changed};
 ghost use Rattle.cs_engine.specs.Counting.{in_listed};
 ghost use Rattle.cs_engine.specs.Loose.{HasBestScores};
-ghost use Rattle.cs_engine.specs.IndexReading.{WhereStood, stock_of};
+ghost use Rattle.cs_engine.specs.IndexReading.{IsOpened, IsWordRange, OnlyReads, WhereStood, stock_of};
 ghost use Rattle.cs_engine.specs.Steps.{IsBaseOf, posts_after};
 ghost use Rattle.cs_engine.specs.Stocked.{is_between};
 
-use crate::best::{hits_in, raise_chosen, scored_over, zeros};
+use crate::best::{raise_rows, scored_in, zeros};
 use crate::counting::listed_docs;
 use crate::fault::AskFault;
 use cs_base::{Base, Scored, Seq, Store};
@@ -30,28 +28,25 @@ pub(crate) fn hits_by_words<S: Store>(
     hits: &Base,
     words: (u32, u32),
 ) -> Result<Seq<Scored>, AskFault>
-    requires ordered { words.0 ≤ words.1 }
-    requires in_range { words.1 ≤ length index.now.words }
+    requires words { IsWordRange index.now words.0 words.1 }
     requires base { IsBaseOf index.now.docs (MAX_ROW_SCORE * MAX_PARTS) hits.now }
-    requires index { IsIndex index.now }
-    requires fits { HasAllBlocks (S.bytes store.old) index.now }
+    requires opened { IsOpened (S.bytes store.old) index.now }
 
-    ensures told { WhereStood (S.bytes store.old) index.now (λ b. IfOk result (λ next. next ≡ scores hits.now (posts_after index.now.docs hits.now false (filter (is_between words.0 words.1) (stock_of b).posts)).rows)) }
-    ensures within { IfOk result (λ next. (n : ℕ) → IsBaseOf index.now.docs (MAX_ROW_SCORE * n) hits.now → IsBaseOf index.now.docs (MAX_ROW_SCORE * (n + 1)) (base.Listed next)) }
-    ensures unchanged { WhereStood (S.bytes store.old) index.now (λ b. is_changed result ≡ false) }
-    ensures bytes { S.bytes store.new ≡ S.bytes store.old }
-    ensures lent { S.lent store.new ≡ S.lent store.old }
+    ensures told { WhereStood (S.bytes store.old) index.now
+        (λ b. IfOk result (λ next. next ≡ scores hits.now
+        (posts_after index.now.docs hits.now false (filter (is_between words.0 words.1) (stock_of b).posts)).rows)) }
+    ensures within { IfOk result (λ next. (n : ℕ) → IsBaseOf index.now.docs (MAX_ROW_SCORE * n) hits.now
+        → IsBaseOf index.now.docs (MAX_ROW_SCORE * (n + 1)) (base.Listed next)) }
+    ensures store { OnlyReads S.bytes S.lent S.faults index.now store.old store.new (is_read result) (is_changed result) }
     ensures reads { ReadsWithin (length (filter (is_met words.0 words.1) index.now.heads)) (S.reads store.old) (S.reads store.new) }
-    ensures caused { CausedReads (is_read result) (S.faults store.old) (S.faults store.new) }
 {
     let listed = listed_docs(alloc, index.docs, hits)?;
     let best = best_in_blocks(alloc, index, store, words, &listed)?;
-    let found = hits_in(alloc, &best)?;
-    let scored = scored_over(alloc, hits, found)?;
+    let scored = scored_in(alloc, hits, &best)?;
     Ok(scored)
 }
 
-// The best score of each listed document, over its rows of these words, block by block.
+// The best score of each listed document, over its rows of these words, block by block. Each block that holds such a word is read once.
 fn best_in_blocks<S: Store>(
     alloc: Global,
     index: &Index,
@@ -59,62 +54,22 @@ fn best_in_blocks<S: Store>(
     words: (u32, u32),
     listed: &[bool],
 ) -> Result<Vec<u8>, AskFault>
-    requires ordered { words.0 ≤ words.1 }
-    requires in_range { words.1 ≤ length index.now.words }
+    requires words { IsWordRange index.now words.0 words.1 }
     requires listed { length listed.now ≡ index.now.docs }
-    requires index { IsIndex index.now }
-    requires fits { HasAllBlocks (S.bytes store.old) index.now }
+    requires opened { IsOpened (S.bytes store.old) index.now }
 
-    ensures told { WhereStood (S.bytes store.old) index.now (λ b. IfOk result (λ best. HasBestScores (filter (in_listed listed.now) (filter (is_between words.0 words.1) (stock_of b).posts)) best.items)) }
+    ensures told { WhereStood (S.bytes store.old) index.now
+        (λ b. IfOk result (λ best. HasBestScores (filter (in_listed listed.now) (filter (is_between words.0 words.1) (stock_of b).posts)) best.items)) }
     ensures long { IfOk result (λ best. length best.items ≡ index.now.docs) }
-    ensures unchanged { WhereStood (S.bytes store.old) index.now (λ b. is_changed result ≡ false) }
-    ensures bytes { S.bytes store.new ≡ S.bytes store.old }
-    ensures lent { S.lent store.new ≡ S.lent store.old }
+    ensures store { OnlyReads S.bytes S.lent S.faults index.now store.old store.new (is_read result) (is_changed result) }
     ensures reads { ReadsWithin (length (filter (is_met words.0 words.1) index.now.heads)) (S.reads store.old) (S.reads store.new) }
-    ensures caused { CausedReads (is_read result) (S.faults store.old) (S.faults store.new) }
 {
     let (first, last) = index.blocks(words.0, words.1);
     let mut best = zeros(alloc, index.docs)?;
     let mut block = Fetched::new(alloc);
     for k in first..last {
-        raise_block(alloc, index, store, k, words, listed, &mut block, &mut best)?;
+        index.fetch_scored(alloc, store, k, &mut block)?;
+        raise_rows(&mut best, words, listed, &block);
     }
     Ok(best)
-}
-
-// Notes the scores of the rows of these words in listed documents of block `k`, which is read once.
-fn raise_block<S: Store>(
-    alloc: Global,
-    index: &Index,
-    store: &mut S,
-    k: u32,
-    words: (u32, u32),
-    listed: &[bool],
-    block: &mut Fetched,
-    best: &mut Vec<u8>,
-) -> Result<(), AskFault>
-    requires in_range { k < length index.now.heads }
-    requires listed { length listed.now ≡ index.now.docs }
-    requires best { length best.old.items ≡ index.now.docs }
-    requires index { IsIndex index.now }
-    requires fits { HasAllBlocks (S.bytes store.old) index.now }
-
-    ensures scored { WhereStood (S.bytes store.old) index.now (λ b. OnOk result ((seen : List Post) → HasBestScores seen best.old.items → HasBestScores (seen ++ filter (is_chosen words.0 words.1 listed.now) (block_posts b k)) best.new.items)) }
-    ensures len { length best.new.items ≡ length best.old.items }
-    ensures unchanged { WhereStood (S.bytes store.old) index.now (λ b. is_changed result ≡ false) }
-    ensures bytes { S.bytes store.new ≡ S.bytes store.old }
-    ensures lent { S.lent store.new ≡ S.lent store.old }
-    ensures reads { ReadsWithin 1 (S.reads store.old) (S.reads store.new) }
-    ensures caused { CausedReads (is_read result) (S.faults store.old) (S.faults store.new) }
-{
-    index.fetch_scored(alloc, store, k, block)?;
-    raise_chosen(
-        best,
-        words,
-        listed,
-        &block.docs,
-        &block.words,
-        &block.scores,
-    );
-    Ok(())
 }

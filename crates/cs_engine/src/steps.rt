@@ -1,15 +1,14 @@
 //! The hits of a query, part by part, and the entry of a query and one part more.
-ghost use Rattle.std.specs.Prelude.{◌≡◌, ℕ, ◌+◌, ◌*◌, ◌≤◌, false, not, length, map, sum, IfOk};
+ghost use Rattle.std.specs.Prelude.{◌≡◌, ℕ, ◌+◌, ◌*◌, ◌≤◌, not, length, map, sum, IfOk};
 ghost use Rattle.cs_base.specs.declared.content.scores.TheConstants.{MAX_ROW_SCORE};
 ghost use Rattle.cs_base.specs.outside.Causes.{ReadsWithin};
 ghost use Rattle.cs_base.specs.declared.content.limits.TheConstants.{MAX_PARTS};
 ghost use Rattle.cs_base.specs.declared.content.query.Query.{Query, out-Query};
 ghost use Rattle.cs_base.specs.declared.content.query.Part.{out-Part};
-ghost use Rattle.cs_file.specs.Indexes.{IsIndex, HasAllBlocks, CausedReads};
 ghost use Rattle.cs_model.specs.Answers.{rows_of_part};
 ghost use Rattle.cs_model_kept.specs.Due.{met_of_part};
 ghost use Rattle.cs_engine.specs.Asking.{division, is_read, is_changed};
-ghost use Rattle.cs_engine.specs.IndexReading.{WhereStood, stock_of};
+ghost use Rattle.cs_engine.specs.IndexReading.{IsOpened, OnlyReads, WhereStood, stock_of};
 ghost use Rattle.cs_engine.specs.Steps.{AreHitsBehind, AreHitsOver, EntryFits, IsBaseOf, IsStep, end_positive};
 ghost use Rattle.cs_engine.specs.Stocked.{corpus_in};
 
@@ -31,16 +30,12 @@ pub(crate) fn hits_of_parts<S: Store>(
     parts: &[Part],
 ) -> Result<Base, AskFault>
     requires few { length parts.now ≤ MAX_PARTS }
-    requires index { IsIndex index.now }
-    requires fits { HasAllBlocks (S.bytes store.old) index.now }
+    requires opened { IsOpened (S.bytes store.old) index.now }
 
     ensures told { WhereStood (S.bytes store.old) index.now (λ b. IfOk result (λ hits. (q : Query) → parts.now ≡ (out-Query q).parts → AreHitsOver b q hits)) }
     ensures within { IfOk result (IsBaseOf index.now.docs (MAX_ROW_SCORE * length parts.now)) }
-    ensures unchanged { WhereStood (S.bytes store.old) index.now (λ b. is_changed result ≡ false) }
-    ensures bytes { S.bytes store.new ≡ S.bytes store.old }
-    ensures lent { S.lent store.new ≡ S.lent store.old }
+    ensures store { OnlyReads S.bytes S.lent S.faults index.now store.old store.new (is_read result) (is_changed result) }
     ensures reads { ReadsWithin (sum (map (met_of_part (division index.now)) parts.now)) (S.reads store.old) (S.reads store.new) }
-    ensures caused { CausedReads (is_read result) (S.faults store.old) (S.faults store.new) }
 {
     let mut hits = Base::All;
     for part in parts {
@@ -58,16 +53,13 @@ fn hits_behind<S: Store>(
     part: &Part,
 ) -> Result<Base, AskFault>
     requires base { IsBaseOf index.now.docs (MAX_ROW_SCORE * MAX_PARTS) hits }
-    requires index { IsIndex index.now }
-    requires fits { HasAllBlocks (S.bytes store.old) index.now }
+    requires opened { IsOpened (S.bytes store.old) index.now }
 
-    ensures told { WhereStood (S.bytes store.old) index.now (λ b. IfOk result (AreHitsBehind (stock_of b) hits (rows_of_part (corpus_in (stock_of b)) part.now))) }
+    ensures told { WhereStood (S.bytes store.old) index.now
+        (λ b. IfOk result (AreHitsBehind (stock_of b) hits (rows_of_part (corpus_in (stock_of b)) part.now))) }
     ensures within { IfOk result (λ next. (n : ℕ) → IsBaseOf index.now.docs (MAX_ROW_SCORE * n) hits → IsBaseOf index.now.docs (MAX_ROW_SCORE * (n + 1)) next) }
-    ensures unchanged { WhereStood (S.bytes store.old) index.now (λ b. is_changed result ≡ false) }
-    ensures bytes { S.bytes store.new ≡ S.bytes store.old }
-    ensures lent { S.lent store.new ≡ S.lent store.old }
+    ensures store { OnlyReads S.bytes S.lent S.faults index.now store.old store.new (is_read result) (is_changed result) }
     ensures reads { ReadsWithin (met_of_part (division index.now) part.now) (S.reads store.old) (S.reads store.new) }
-    ensures caused { CausedReads (is_read result) (S.faults store.old) (S.faults store.new) }
 {
     if let Some(words) = words_of_part(index, part) {
         let scored = hits_by_words(alloc, index, store, &hits, words)?;
@@ -87,16 +79,13 @@ pub(crate) fn extended<S: Store>(
     part: &Part,
 ) -> Result<Entry, AskFault>
     requires base { IsBaseOf index.now.docs (MAX_ROW_SCORE * MAX_PARTS) hits }
-    requires index { IsIndex index.now }
-    requires fits { HasAllBlocks (S.bytes store.old) index.now }
+    requires opened { IsOpened (S.bytes store.old) index.now }
 
     ensures told { WhereStood (S.bytes store.old) index.now (λ b. IfOk result (IsStep (stock_of b) hits (rows_of_part (corpus_in (stock_of b)) part.now))) }
-    ensures within { IfOk result (λ e. (n : ℕ) → IsBaseOf index.now.docs (MAX_ROW_SCORE * n) hits → EntryFits index.now (not (out-Part part.now).excluded) (n + 1) e) }
-    ensures unchanged { WhereStood (S.bytes store.old) index.now (λ b. is_changed result ≡ false) }
-    ensures bytes { S.bytes store.new ≡ S.bytes store.old }
-    ensures lent { S.lent store.new ≡ S.lent store.old }
+    ensures within { IfOk result (λ e. (n : ℕ) → IsBaseOf index.now.docs (MAX_ROW_SCORE * n) hits
+        → EntryFits index.now (not (out-Part part.now).excluded) (n + 1) e) }
+    ensures store { OnlyReads S.bytes S.lent S.faults index.now store.old store.new (is_read result) (is_changed result) }
     ensures reads { ReadsWithin (met_of_part (division index.now) part.now) (S.reads store.old) (S.reads store.new) }
-    ensures caused { CausedReads (is_read result) (S.faults store.old) (S.faults store.new) }
 {
     let rows = rows_of_part(alloc, index, store, part)?;
     let entry = entry_after(alloc, index.docs, hits, part.excluded, rows)?;

@@ -3,12 +3,12 @@ ghost use Rattle.std.specs.Prelude.{◌≡◌, ◌+◌, ◌≤◌, [], false, fi
 ghost use Rattle.std.specs.List.{list_any};
 ghost use Rattle.std.specs.Str.{bytes_eq};
 ghost use Rattle.cs_base.specs.outside.Causes.{ReadsWithin};
-ghost use Rattle.cs_file.specs.Indexes.{IsIndex, HasAllBlocks, CausedReads};
+ghost use Rattle.cs_file.specs.Indexes.{IsIndex};
 ghost use Rattle.cs_model.specs.Answers.{begins, of_word};
 ghost use Rattle.cs_model.specs.Collection.{named};
 ghost use Rattle.cs_model_kept.specs.Due.{met_prefix, met_word};
 ghost use Rattle.cs_engine.specs.Asking.{division, is_read, is_changed};
-ghost use Rattle.cs_engine.specs.IndexReading.{AreWithin, HasRows, IsSpanOf, WhereStood, stock_of};
+ghost use Rattle.cs_engine.specs.IndexReading.{AreWithin, HasRows, IsOpened, IsSpanOf, OnlyReads, WhereStood, stock_of};
 ghost use Rattle.cs_engine.specs.Stocked.{corpus_in};
 
 use crate::fault::AskFault;
@@ -26,16 +26,13 @@ pub(crate) fn rows_of_prefix<S: Store>(
     store: &mut S,
     prefix: &[u8],
 ) -> Result<Cols, AskFault>
-    requires index { IsIndex index.now }
-    requires fits { HasAllBlocks (S.bytes store.old) index.now }
+    requires opened { IsOpened (S.bytes store.old) index.now }
 
-    ensures told { WhereStood (S.bytes store.old) index.now (λ b. IfOk result (λ c. HasRows (stock_of b) (filter (λ r. begins prefix.now r.word) (corpus_in (stock_of b)).rows) c.posts)) }
+    ensures told { WhereStood (S.bytes store.old) index.now
+        (λ b. IfOk result (λ c. HasRows (stock_of b) (filter (λ r. begins prefix.now r.word) (corpus_in (stock_of b)).rows) c.posts)) }
     ensures within { IfOk result (λ c. AreWithin index.now c.posts) }
-    ensures unchanged { WhereStood (S.bytes store.old) index.now (λ b. is_changed result ≡ false) }
-    ensures bytes { S.bytes store.new ≡ S.bytes store.old }
-    ensures lent { S.lent store.new ≡ S.lent store.old }
+    ensures store { OnlyReads S.bytes S.lent S.faults index.now store.old store.new (is_read result) (is_changed result) }
     ensures reads { ReadsWithin (met_prefix (division index.now) prefix.now) (S.reads store.old) (S.reads store.new) }
-    ensures caused { CausedReads (is_read result) (S.faults store.old) (S.faults store.new) }
 {
     let (lo, hi) = index.range(prefix);
     let rows = rows_between(alloc, index, store, lo, hi)?;
@@ -49,16 +46,13 @@ pub(crate) fn rows_of_word<S: Store>(
     store: &mut S,
     word: &[u8],
 ) -> Result<Cols, AskFault>
-    requires index { IsIndex index.now }
-    requires fits { HasAllBlocks (S.bytes store.old) index.now }
+    requires opened { IsOpened (S.bytes store.old) index.now }
 
-    ensures told { WhereStood (S.bytes store.old) index.now (λ b. IfOk result (λ c. HasRows (stock_of b) (of_word word.now (corpus_in (stock_of b)).rows) c.posts)) }
+    ensures told { WhereStood (S.bytes store.old) index.now
+        (λ b. IfOk result (λ c. HasRows (stock_of b) (of_word word.now (corpus_in (stock_of b)).rows) c.posts)) }
     ensures within { IfOk result (λ c. AreWithin index.now c.posts) }
-    ensures unchanged { WhereStood (S.bytes store.old) index.now (λ b. is_changed result ≡ false) }
-    ensures bytes { S.bytes store.new ≡ S.bytes store.old }
-    ensures lent { S.lent store.new ≡ S.lent store.old }
+    ensures store { OnlyReads S.bytes S.lent S.faults index.now store.old store.new (is_read result) (is_changed result) }
     ensures reads { ReadsWithin (met_word (division index.now) word.now) (S.reads store.old) (S.reads store.new) }
-    ensures caused { CausedReads (is_read result) (S.faults store.old) (S.faults store.new) }
 {
     let (lo, hi) = span_of_word(index, word);
     let rows = rows_between(alloc, index, store, lo, hi)?;
@@ -72,16 +66,13 @@ pub(crate) fn rows_of_facet<S: Store>(
     store: &mut S,
     name: &Text,
 ) -> Result<Cols, AskFault>
-    requires index { IsIndex index.now }
-    requires fits { HasAllBlocks (S.bytes store.old) index.now }
+    requires opened { IsOpened (S.bytes store.old) index.now }
 
-    ensures told { WhereStood (S.bytes store.old) index.now (λ b. IfOk result (λ c. HasRows (stock_of b) (filter (λ r. begins (named name.now []) r.word) (corpus_in (stock_of b)).rows) c.posts)) }
+    ensures told { WhereStood (S.bytes store.old) index.now
+        (λ b. IfOk result (λ c. HasRows (stock_of b) (filter (λ r. begins (named name.now []) r.word) (corpus_in (stock_of b)).rows) c.posts)) }
     ensures within { IfOk result (λ c. AreWithin index.now c.posts) }
-    ensures unchanged { WhereStood (S.bytes store.old) index.now (λ b. is_changed result ≡ false) }
-    ensures bytes { S.bytes store.new ≡ S.bytes store.old }
-    ensures lent { S.lent store.new ≡ S.lent store.old }
+    ensures store { OnlyReads S.bytes S.lent S.faults index.now store.old store.new (is_read result) (is_changed result) }
     ensures reads { ReadsWithin (met_prefix (division index.now) (named name.now [])) (S.reads store.old) (S.reads store.new) }
-    ensures caused { CausedReads (is_read result) (S.faults store.old) (S.faults store.new) }
 {
     let prefix = named_word(alloc, name.as_str(), "")?;
     let rows = rows_of_prefix(alloc, index, store, prefix.as_str().as_bytes())?;

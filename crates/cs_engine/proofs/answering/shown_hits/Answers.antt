@@ -1,9 +1,10 @@
-use Rattle.std.proofs.Common.{◌+◌, ap, length, get_or, refl, ◌∙◌, arith, length-append}
+use Rattle.std.proofs.Common.{◌+◌, ap, length, get_or, refl, ◌∙◌, length-append}
 use Rattle.cs_base.specs.declared.content.doc.Scored.{Scored}
 use Rattle.cs_model.specs.Requests.{hit_shown}
 use Rattle.cs_engine.specs.IndexReading.{stock_of}
 use Rattle.cs_engine.specs.Stocked.{corpus_in}
 use Rattle.cs_engine.proofs.AnsweringLemmas.{shown_more, title_told}
+use Rattle.cs_engine.proofs.WalkLemmas.{walk_goes_on}
 use Rattle.cs_engine.proofs.answering.shown_hits.Goals as goal
 
 abbrev none : Scored
@@ -12,22 +13,16 @@ none = record { doc = 0; score = 0 }
 pub loop-hit-preserved : goal.loop-hit-preserved
 loop-hit-preserved g c =
     let inv = c.loop-hit.invariant in
-    let call = c.title.ensures in
+    let call = c.in_ok-title.ensures in
     let i = c.loop-hit.hit-index in
     let hits = c.args.hits.now in
     let h : Scored = get_or hits i none in
-    let reads = call.reads in
-    let later = reads.later in
-    let within = reads.within in
     record {
-      bytes = call.bytes ∙ inv.bytes;
-      lent = call.lent ∙ inv.lent;
-      later = omega (arith, inv.later, later);
-      reads = omega (arith, inv.reads, within);
-      quiet = c.in_ok-title.ensures.caused.quiet refl ∙ inv.quiet;
+      walk = walk_goes_on inv.walk (record { unchanged = λ b is stands. refl; bytes = call.bytes; lent = call.lent; caused = call.caused }) call.reads;
       count = ap length c.in_ok-push.ensures.ok ∙ length-append c.loop-hit.shown _ ∙ ap (λ n. n + 1) inv.count;
       told = λ b is stands.
           shown_more (hit_shown (corpus_in (stock_of b))) _ c.loop-hit.shown c.push.new.self hits i none _ c.loop-hit-test.true
-          (title_told b c.args.index.now stands c.requires.index h c.in_ok-title.title (c.requires.known i none c.loop-hit-test.true) (c.in_ok-title.ensures.stood b (inv.bytes ∙ is) stands))
+          (title_told b c.args.index.now stands c.requires.opened.index h c.in_ok-title.title (c.requires.known i none c.loop-hit-test.true)
+          (c.in_ok-title.ensures.stood b (inv.walk.store.bytes ∙ is) stands))
           c.in_ok-push.ensures.ok (inv.told b is stands);
     }

@@ -11,9 +11,11 @@ loop-key-preserved c =
     let inside : row.doc < length c.loop-key.best = omega (arith, below, ap (λ (x : Post). x.doc) c.post_of-row.ensures, c.loop-key.invariant.len) in
     let is : c.max.result ≡ max (slice_index c.loop-key.best row.doc) (row.score + 1) = omega (arith, c.max.ensures) in
     record {
-      best = λ seen has. raised_more seen c.args.keys.now c.loop-key.best c.loop-key.key-index row c.max.result c.loop-key-test.true c.post_of-row.ensures inside is (c.loop-key.invariant.best seen has);
+      best = λ seen has. raised_more seen c.args.keys.now c.loop-key.best c.loop-key.key-index row c.max.result c.loop-key-test.true c.post_of-row.ensures
+          inside is (c.loop-key.invariant.best seen has);
       len = length-set c.loop-key.best row.doc c.max.result ∙ c.loop-key.invariant.len;
     }
 
 pub returns-clause-best : goal.returns-clause-best
-returns-clause-best c = λ seen has. raised_all seen c.args.keys.now c.loop-key.best c.loop-key.key-index (omega (arith, c.loop-key-test.false)) (c.loop-key.invariant.best seen has)
+returns-clause-best c = λ seen has. raised_all seen c.args.keys.now c.loop-key.best c.loop-key.key-index (omega (arith, c.loop-key-test.false))
+    (c.loop-key.invariant.best seen has)

@@ -16,13 +16,17 @@ loop-i-preserved c =
     let t : ℕ → ℕ → Bool = λ d w. (nat_le lo w && nat_lt w hi) && get_or c.args.listed.now d false in
     let below = c.requires.known i 0 c.loop-i-test.true in
     let inside : slice_index docs i < length best = omega (arith, below, c.loop-i.invariant.len) in
-    let entry : c.entry_of.result ≡ cond (t (slice_index docs i) (slice_index words i)) (slice_index scores i + 1) 0 = c.entry_of.ensures ∙ ap (λ b. cond b (slice_index scores i + 1) 0) c.is_chosen-counts.ensures in
-    let is : c.max.result ≡ max (slice_index best (slice_index docs i)) (cond (t (slice_index docs i) (slice_index words i)) (slice_index scores i + 1) 0) = omega (arith, c.max.ensures, entry) in
+    let entry : c.entry_of.result ≡ cond (t (slice_index docs i) (slice_index words i)) (slice_index scores i + 1) 0 = c.entry_of.ensures
+    ∙ ap (λ b. cond b (slice_index scores i + 1) 0) c.is_chosen-counts.ensures in
+    let is : c.max.result ≡ max (slice_index best (slice_index docs i))
+    (cond (t (slice_index docs i) (slice_index words i)) (slice_index scores i + 1) 0) = omega (arith, c.max.ensures, entry) in
     record {
-      best = λ rows are seen has. raised_row t seen rows docs words scores best i c.max.result are c.loop-i-test.true inside is (c.loop-i.invariant.best rows are seen has);
+      best = λ rows are seen has. raised_row t seen rows docs words scores best i c.max.result are c.loop-i-test.true inside is
+          (c.loop-i.invariant.best rows are seen has);
       len = length-set best (slice_index docs i) c.max.result ∙ c.loop-i.invariant.len;
     }
 
 pub returns-clause-best : goal.returns-clause-best
 returns-clause-best c = λ rows are seen has.
-    raised_rows (is_chosen c.args.words.0 c.args.words.1 c.args.listed.now) seen rows c.args.docs.now c.args.row_words.now c.args.scores.now c.loop-i.best c.loop-i.i are (omega (arith, c.loop-i-test.false)) (c.loop-i.invariant.best rows are seen has)
+    raised_rows (is_chosen c.args.words.0 c.args.words.1 c.args.listed.now) seen rows c.args.docs.now c.args.row_words.now c.args.scores.now c.loop-i.best
+    c.loop-i.i are (omega (arith, c.loop-i-test.false)) (c.loop-i.invariant.best rows are seen has)

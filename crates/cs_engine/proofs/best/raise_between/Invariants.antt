@@ -8,6 +8,7 @@ use Rattle.cs_engine.proofs.best.raise_between.Given as goal
 
 abbrev pub invariant-loop-i : goal.invariant-loop-i
 invariant-loop-i l = record {
-  best : (rows : List Post) → AreScoredOf rows l.docs l.row_words l.scores → (seen : List Post) → HasBestScores seen l.fn.best → HasBestScores (seen ++ filter (is_chosen l.lo l.hi l.listed) (take l.i rows)) l.best;
+  best : (rows : List Post) → AreScoredOf rows l.docs l.row_words l.scores → (seen : List Post) → HasBestScores seen l.fn.best
+      → HasBestScores (seen ++ filter (is_chosen l.lo l.hi l.listed) (take l.i rows)) l.best;
   len : length l.best ≡ length l.fn.best;
 }

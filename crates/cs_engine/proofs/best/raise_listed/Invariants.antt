@@ -8,6 +8,7 @@ use Rattle.cs_engine.proofs.best.raise_listed.Given as goal
 
 abbrev pub invariant-loop-i : goal.invariant-loop-i
 invariant-loop-i l = record {
-  best : (rows : List Post) (words : List ℕ) → AreScoredOf rows l.docs words l.scores → (seen : List Post) → HasBestScores seen l.fn.best → HasBestScores (seen ++ filter (is_of_listed l.listed) (take l.i rows)) l.best;
+  best : (rows : List Post) (words : List ℕ) → AreScoredOf rows l.docs words l.scores → (seen : List Post) → HasBestScores seen l.fn.best
+      → HasBestScores (seen ++ filter (is_of_listed l.listed) (take l.i rows)) l.best;
   len : length l.best ≡ length l.fn.best;
 }

@@ -1,4 +1,4 @@
-use Rattle.std.proofs.Common.{◌≡◌, ◌≤◌, ◌∙◌, ap, sym, subst, map}
+use Rattle.std.proofs.Common.{◌≤◌, ◌∙◌, ap, sym, subst, map}
 use Rattle.std.specs.Prelude.{All}
 use Rattle.cs_base.specs.content.Orders.{AreByDoc}
 use Rattle.cs_base.specs.declared.content.doc.Base.TheVariants as base
@@ -19,5 +19,6 @@ add_base-requires-clause-small c = subst (All (λ (h : Scored). h.score ≤ MAX_
 
 pub returns-in_ok-scored-in-Listed : goal.returns-in_ok-scored-in-Listed
 returns-in_ok-scored-in-Listed c =
-    c.from_vec-in-Listed.ensures ∙ c.in_ok-scored-in-Listed.ensures ∙ ap (map (with_base (base.Listed c.as_slice.result.now))) c.as_slice-in-Listed.ensures.value
+    c.from_vec-in-Listed.ensures ∙ c.in_ok-scored-in-Listed.ensures
+    ∙ ap (map (with_base (base.Listed c.as_slice.result.now))) c.as_slice-in-Listed.ensures.value
     ∙ ap (λ b. map (with_base b) c.args.found.items) (ap base.Listed c.as_slice.ensures ∙ sym c.in-Listed.is)

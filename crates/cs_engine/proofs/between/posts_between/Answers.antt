@@ -17,7 +17,12 @@ loop-i-init c =
     let none : c.reserve.new.self.posts ≡ [] = c.reserve.ensures.posts ∙ c.new-found.ensures in
     record {
       told = sym (ap (λ xs. xs ++ filter (is_between c.args.lo c.args.hi) c.args.posts.now.posts) none);
-      room = omega (arith, counted_between c.args.lo c.args.hi c.args.posts.now.posts c.words-words.result.now c.words-words.ensures, c.count_between.ensures, c.in_ok-reserve.ensures.ok);
+      room = omega (
+        arith,
+        counted_between c.args.lo c.args.hi c.args.posts.now.posts c.words-words.result.now c.words-words.ensures,
+        c.count_between.ensures,
+        c.in_ok-reserve.ensures.ok,
+      );
     }
 
 pub loop-i-preserved : goal.loop-i-preserved
@@ -29,11 +34,20 @@ loop-i-preserved c =
       | then-is_in w ↦
           let x = w.get.result in
           let passes : true ≡ test x = sym w.if-is_in.true ∙ c.is_in.ensures
-          ∙ ap (λ n. nat_le c.args.lo n && nat_lt n c.args.hi) (word_in posts c.words-words.result.now c.loop-i.i x c.words-words.ensures within w.get.ensures) in
+          ∙ ap (λ n. nat_le c.args.lo n && nat_lt n c.args.hi)
+          (word_in posts c.words-words.result.now c.loop-i.i x c.words-words.ensures within w.get.ensures) in
           let is : c.if-is_in.found.posts ≡ c.loop-i.found.posts ++ x ∷ [] = ap (λ (h : HeldPosts). h.posts) w.found-is ∙ w.push_reserved.ensures.posts in
           record {
-            told = filter_more test (filter test posts) c.loop-i.found.posts posts c.loop-i.i x true c.loop-i.invariant.told within w.get.ensures passes ∙ ap (λ l. l ++ filter test (drop (c.loop-i.i + 1) posts)) (sym is);
-            room = omega (arith, c.loop-i.invariant.room, ap length is, length-append c.loop-i.found.posts (x ∷ []), ap (λ (h : HeldPosts). h.room) w.found-is, w.push_reserved.ensures.room);
+            told = filter_more test (filter test posts) c.loop-i.found.posts posts c.loop-i.i x true c.loop-i.invariant.told within w.get.ensures passes
+                ∙ ap (λ l. l ++ filter test (drop (c.loop-i.i + 1) posts)) (sym is);
+            room = omega (
+              arith,
+              c.loop-i.invariant.room,
+              ap length is,
+              length-append c.loop-i.found.posts (x ∷ []),
+              ap (λ (h : HeldPosts). h.room) w.found-is,
+              w.push_reserved.ensures.room,
+            );
           }
       | else-is_in w ↦
           let x = get_or posts c.loop-i.i blank in
@@ -41,7 +55,8 @@ loop-i-preserved c =
           let fails : false ≡ test x = sym w.if-is_in.false ∙ c.is_in.ensures
           ∙ ap (λ n. nat_le c.args.lo n && nat_lt n c.args.hi) (word_in posts c.words-words.result.now c.loop-i.i x c.words-words.ensures within at) in
           record {
-            told = filter_more test (filter test posts) c.loop-i.found.posts posts c.loop-i.i x false c.loop-i.invariant.told within at fails ∙ ap (λ (h : HeldPosts). h.posts ++ filter test (drop (c.loop-i.i + 1) posts)) (sym w.found-is);
+            told = filter_more test (filter test posts) c.loop-i.found.posts posts c.loop-i.i x false c.loop-i.invariant.told within at fails
+                ∙ ap (λ (h : HeldPosts). h.posts ++ filter test (drop (c.loop-i.i + 1) posts)) (sym w.found-is);
             room = omega (arith, c.loop-i.invariant.room, ap (λ (h : HeldPosts). length h.posts) w.found-is, ap (λ (h : HeldPosts). h.room) w.found-is);
           }
     ]

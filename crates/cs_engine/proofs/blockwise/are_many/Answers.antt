@@ -14,7 +14,8 @@ loop-k-preserved c =
     let heads = c.as_slice-heads.ensures ∙ ap (λ (x : IndexView). x.heads) c.index.view_is in
     record {
       rows = λ b stands.
-          many_more b c.args.index.now stands c.requires.index c.args.words.0 c.args.words.1 c.blocks-first.result.0 c.loop-k.k c.loop-k.rows c.rows_within-rows.result c.as_slice-heads.result.now _ heads inv.from
+          many_more b c.args.index.now stands c.requires.index c.args.words.0 c.args.words.1 c.blocks-first.result.0 c.loop-k.k c.loop-k.rows
+          c.rows_within-rows.result c.as_slice-heads.result.now _ heads inv.from
           (omega (arith, within, c.loop-k-test.true)) c.rows_within-rows.ensures.rows (inv.rows b stands);
       small = (let small = inv.small in omega (arith, few, small));
       from = omega (arith, inv.from);
@@ -25,5 +26,8 @@ returns c = λ yes b stands.
     let met = c.blocks-first.ensures in
     let up = met.ordered in
     let done : c.loop-k.k ≡ c.blocks-first.result.1 = omega (arith, c.loop-k-test.false, c.loop-k.auto.k-end, up) in
-    let many = subst (λ k. c.loop-k.rows ≤ length (counted_rows (image_of b).blocks c.blocks-first.result.0 k c.args.words.0 c.args.words.1 (replicate c.args.index.now.docs true))) done (c.loop-k.invariant.rows b stands) in
-    many_all b c.args.index.now stands c.requires.index c.args.words.0 c.args.words.1 c.blocks-first.result.0 c.blocks-first.result.1 c.loop-k.rows met (ltb-true _ _ yes) many
+    let many = subst (λ k. c.loop-k.rows ≤ length
+    (counted_rows (image_of b).blocks c.blocks-first.result.0 k c.args.words.0 c.args.words.1 (replicate c.args.index.now.docs true))) done
+    (c.loop-k.invariant.rows b stands) in
+    many_all b c.args.index.now stands c.requires.index c.args.words.0 c.args.words.1 c.blocks-first.result.0 c.blocks-first.result.1 c.loop-k.rows met
+    (ltb-true _ _ yes) many

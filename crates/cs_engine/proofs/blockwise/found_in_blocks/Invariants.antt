@@ -9,10 +9,11 @@ use Rattle.cs_engine.proofs.blockwise.found_in_blocks.Given as goal
 
 abbrev pub invariant-loop-k : goal.invariant-loop-k
 invariant-loop-k g l = record {
-  walk : Walk g.S.Store.bytes g.S.Store.lent g.S.Store.reads g.S.Store.faults l.fn.store l.store l.first l.k;
+  walk : Walk g.S.Store.bytes g.S.Store.lent g.S.Store.faults g.S.Store.reads l.index l.fn.store l.store l.first l.k;
   low : l.counts.low ≡ l.lo;
   high : l.counts.high ≡ l.hi;
   told : WhereStood (g.S.Store.bytes l.fn.store) l.index (λ b. HasCounted (counted_rows (image_of b).blocks l.first l.k l.lo l.hi l.listed.items) l.counts);
-  scored : WhereStood (g.S.Store.bytes l.fn.store) l.index (λ b. HasBestScores (run_of (image_of b).blocks l.first l.k (is_chosen l.lo l.hi l.listed.items)) l.best.items);
+  scored : WhereStood (g.S.Store.bytes l.fn.store) l.index
+      (λ b. HasBestScores (run_of (image_of b).blocks l.first l.k (is_chosen l.lo l.hi l.listed.items)) l.best.items);
   len : length l.best.items ≡ l.index.docs;
 }

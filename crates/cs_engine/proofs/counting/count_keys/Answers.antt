@@ -27,5 +27,6 @@ loop-key-preserved c = record {
 
 pub returns-clause-counted : goal.returns-clause-counted
 returns-clause-counted c few none =
-    let whole : take c.loop-key.key-index c.args.keys.now ≡ c.args.keys.now = take_all c.loop-key.key-index c.args.keys.now (omega (arith, c.loop-key-test.false)) in
+    let whole : take c.loop-key.key-index c.args.keys.now ≡ c.args.keys.now = take_all c.loop-key.key-index c.args.keys.now
+    (omega (arith, c.loop-key-test.false)) in
     subst (λ ks. HasCounted (map post_of_key ks) c.loop-key.counts) whole (c.loop-key.invariant.counted few none)

@@ -8,7 +8,7 @@ use Rattle.cs_engine.proofs.counting.table_between.Given as goal
 
 abbrev pub invariant-loop-k : goal.invariant-loop-k
 invariant-loop-k g l = record {
-  walk : Walk g.S.Store.bytes g.S.Store.lent g.S.Store.reads g.S.Store.faults l.fn.store l.store l.first l.k;
+  walk : Walk g.S.Store.bytes g.S.Store.lent g.S.Store.faults g.S.Store.reads l.index l.fn.store l.store l.first l.k;
   low : l.counts.low ≡ l.lo;
   high : l.counts.high ≡ l.hi;
   told : WhereStood (g.S.Store.bytes l.fn.store) l.index (λ b. HasCounted (counted_rows (image_of b).blocks l.first l.k l.lo l.hi l.listed) l.counts);

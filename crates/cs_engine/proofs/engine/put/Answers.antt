@@ -8,4 +8,7 @@ use Rattle.cs_engine.proofs.engine.put.Goals as goal
 pub keep-requires : goal.keep-requires
 keep-requires c =
     let other : ¬ (c.args.plan ≡ Same) = λ same. true≢false (ap is_some (sym c.in-Some.is) ∙ c.requires.own (ap is_same same)) in
-    record { new = ap (λ xs. is_held xs c.args.keys.same) c.resume.ensures.entries ∙ others_are_new c.args.answers.now.entries (used_key c.args.keys c.args.plan) c.args.keys (λ same. other (c.requires.plan ∙ same)) }
+    record {
+      new = ap (λ xs. is_held xs c.args.keys.same) c.resume.ensures.entries
+          ∙ others_are_new c.args.answers.now.entries (used_key c.args.keys c.args.plan) c.args.keys (λ same. other (c.requires.plan ∙ same));
+    }

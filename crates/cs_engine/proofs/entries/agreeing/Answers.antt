@@ -8,7 +8,8 @@ use Rattle.cs_engine.proofs.PartSteps.{left_base, unscored_base, unscored_docs}
 use Rattle.cs_engine.proofs.entries.agreeing.Goals as goal
 
 pub returns-then-excluded-clause-base : goal.returns-then-excluded-clause-base
-returns-then-excluded-clause-base c = subst (λ (l : List Scored). IsBase (base.Listed l)) (sym c.in_ok-left.ensures) (left_base c.args.docs c.args.hits.now c.args.rows.posts c.requires.base)
+returns-then-excluded-clause-base c = subst (λ (l : List Scored). IsBase (base.Listed l)) (sym c.in_ok-left.ensures)
+    (left_base c.args.docs c.args.hits.now c.args.rows.posts c.requires.base)
 
 pub returns-clause-docs : goal.returns-clause-docs
 returns-clause-docs c =
@@ -18,4 +19,5 @@ returns-clause-docs c =
 
 pub returns-clause-base : goal.returns-clause-base
 returns-clause-base c =
-    subst (λ (l : List Scored). IsBase (base.Listed l)) (sym (c.in_ok-listed.ensures ∙ ap (map with_no_score) c.deref.ensures.value)) (unscored_base c.in_ok-numbers.numbers.items c.in_ok-numbers.ensures.sorted)
+    subst (λ (l : List Scored). IsBase (base.Listed l)) (sym (c.in_ok-listed.ensures ∙ ap (map with_no_score) c.deref.ensures.value))
+    (unscored_base c.in_ok-numbers.numbers.items c.in_ok-numbers.ensures.sorted)

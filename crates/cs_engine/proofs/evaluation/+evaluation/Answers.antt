@@ -1,91 +1,70 @@
-use Rattle.std.proofs.Common.{◌≡◌, ◌<◌, map, refl, sym, ap, subst, ◌∙◌, arith}
-use Rattle.std.specs.Prelude.{All, sum}
+use Rattle.std.proofs.Common.{◌≡◌, ◌<◌, sym, ap, subst, ◌∙◌, arith}
+use Rattle.std.specs.Prelude.{All}
 use Rattle.cs_base.specs.content.Orders.{AreDocs}
 use Rattle.cs_base.specs.declared.content.doc.Post.{Post}
 use Rattle.cs_base.specs.declared.content.query.Part.{out-Part}
 use Rattle.cs_base.specs.declared.content.query.Linked.{out-Linked}
 use Rattle.cs_file.specs.Indexes.{IndexView}
 use Rattle.cs_join.specs.Shared.{shares_word, shared}
-use Rattle.cs_model_kept.specs.Due.{met_of_chain, met_of_linked, met_of_part}
 use Rattle.cs_engine.specs.Asking.{division}
 use Rattle.cs_engine.specs.IndexReading.{AreWithin, stock_of}
 use Rattle.cs_engine.specs.Steps.{docs_after}
 use Rattle.cs_engine.specs.Stocked.{docs_in}
-use Rattle.cs_engine.proofs.EvaluationLemmas.{docs_begin, docs_go_on, docs_end, met_linked-is, met_part-is, met_query-is, next_left, part_begins, part_goes_on, part_ends, chain_goes_on, chain_ends, linked_within, joined_rows}
+use Rattle.cs_engine.proofs.EvaluationLemmas.{docs_begin, docs_go_on, docs_end, linked_reads, met_part-is, met_query-is, part_begins, part_goes_on}
+use Rattle.cs_engine.proofs.EvaluationLemmas.{part_ends, chain_goes_on, chain_ends, linked_within, joined_rows}
 use Rattle.cs_engine.proofs.RowsInRange.{kept_within, none_within, united_within}
 use Rattle.cs_engine.proofs.PartSteps.{base_sorted, known_docs}
 use Rattle.cs_engine.proofs.StockLemmas.{docs_are, stocked}
+use Rattle.cs_engine.proofs.WalkLemmas.{list_begins, list_goes_on, list_stops}
 use Rattle.cs_engine.proofs.evaluation.+evaluation.Goals as goal
 
 -- ---- the documents of hits
 pub docs_of_hits-loop-part-init : goal.docs_of_hits-loop-part-init
 docs_of_hits-loop-part-init g t c =
-    let v = division c.args.index.now in
-    let met = met_query-is v c.args.query.now ∙ ap (λ xs. sum (map (met_of_part v) xs)) (sym c.as_slice-part-items.ensures) in
     record {
-      bytes = refl;
-      lent = refl;
-      later = omega arith;
-      reads = omega (arith, met);
-      quiet = refl;
+      walk = list_begins (met_query-is (division c.args.index.now) c.args.query.now) c.as_slice-part-items.ensures;
       base = tt;
-      told = λ b is stands. docs_begin (stock_of b) c.as_slice-part-items.result.now c.args.index.now.docs (docs_are b c.args.index.now stands c.requires.index);
+      told = λ b is stands. docs_begin (stock_of b) c.as_slice-part-items.result.now c.args.index.now.docs
+          (docs_are b c.args.index.now stands c.requires.opened.index);
     }
 
 pub docs_of_hits-agreeing-requires-clause-known : goal.docs_of_hits-agreeing-requires-clause-known
 docs_of_hits-agreeing-requires-clause-known g t c =
     let docs = ap (λ (x : IndexView). x.docs) c.index.view_is in
-    subst (λ m. All (λ (p : Post). p.doc < m) c.in_ok-rows.rows.posts) (sym docs) (known_docs c.args.index.now c.in_ok-rows.rows.posts c.in_ok-rows.ensures.within)
+    subst (λ m. All (λ (p : Post). p.doc < m) c.in_ok-rows.rows.posts) (sym docs)
+    (known_docs c.args.index.now c.in_ok-rows.rows.posts c.in_ok-rows.ensures.within)
 
 pub docs_of_hits-returns-in_err-rows-clause-reads : goal.docs_of_hits-returns-in_err-rows-clause-reads
 docs_of_hits-returns-in_err-rows-clause-reads g t c =
-    let v = division c.args.index.now in
-    let inv = c.loop-part.invariant in
-    let left = next_left (met_of_part v) c.as_slice-part-items.result.now c.loop-part.part-index c.part-item.result c.loop-part-test.true c.part-item.is in
-    let reads = c.rows_of_part.ensures.reads in
-    let later = reads.later in
-    let within = reads.within in
-    record { later = omega (arith, inv.later, later); within = omega (arith, inv.reads, left, within) }
+    list_stops c.loop-part.invariant.walk c.loop-part-test.true c.part-item.is c.rows_of_part.ensures.reads
 
 pub docs_of_hits-returns-in_err-hits-clause-reads : goal.docs_of_hits-returns-in_err-hits-clause-reads
 docs_of_hits-returns-in_err-hits-clause-reads g t c =
-    let v = division c.args.index.now in
-    let inv = c.loop-part.invariant in
-    let left = next_left (met_of_part v) c.as_slice-part-items.result.now c.loop-part.part-index c.part-item.result c.loop-part-test.true c.part-item.is in
-    let reads = c.rows_of_part.ensures.reads in
-    let later = reads.later in
-    let within = reads.within in
-    record { later = omega (arith, inv.later, later); within = omega (arith, inv.reads, left, within) }
+    list_stops c.loop-part.invariant.walk c.loop-part-test.true c.part-item.is c.rows_of_part.ensures.reads
 
 pub docs_of_hits-loop-part-preserved : goal.docs_of_hits-loop-part-preserved
 docs_of_hits-loop-part-preserved g t c =
     let i = c.args.index.now in
-    let v = division i in
     let n = c.loop-part.part-index in
     let inv = c.loop-part.invariant in
-    let call = c.rows_of_part.ensures in
     let items = c.as_slice-part-items.result.now in
     let x = c.part-item.result in
-    let left = next_left (met_of_part v) items n x c.loop-part-test.true c.part-item.is in
-    let reads = call.reads in
-    let later = reads.later in
-    let within = reads.within in
     let docs = ap (λ (x : IndexView). x.docs) c.index.view_is in
     record {
-      bytes = call.bytes ∙ inv.bytes;
-      lent = call.lent ∙ inv.lent;
-      later = omega (arith, inv.later, later);
-      reads = omega (arith, inv.reads, left, within);
-      quiet = c.in_ok-rows.ensures.caused.quiet refl ∙ inv.quiet;
+      walk = list_goes_on inv.walk c.loop-part-test.true c.part-item.is c.in_ok-rows.ensures.store c.in_ok-rows.ensures.reads;
       base = c.in_ok-hits.ensures.base;
-      told = λ b is stands. docs_go_on (stock_of b) items i.docs n x c.loop-part-test.true c.part-item.is c.loop-part.hits c.in_ok-hits.hits c.in_ok-rows.rows.posts (inv.told b is stands) (c.in_ok-rows.ensures.told b (inv.bytes ∙ is) stands) (subst (λ m. docs_in m c.in_ok-hits.hits ≡ docs_after m c.loop-part.hits (out-Part x).excluded c.in_ok-rows.rows.posts) docs c.in_ok-hits.ensures.docs);
+      told = λ b is stands. docs_go_on (stock_of b) items i.docs n x c.loop-part-test.true c.part-item.is c.loop-part.hits c.in_ok-hits.hits
+          c.in_ok-rows.rows.posts (inv.told b is stands) (c.in_ok-rows.ensures.told b (inv.walk.store.bytes ∙ is) stands)
+          (subst (λ m. docs_in m c.in_ok-hits.hits ≡ docs_after m c.loop-part.hits (out-Part x).excluded c.in_ok-rows.rows.posts) docs
+          c.in_ok-hits.ensures.docs);
     }
 
 pub docs_of_hits-returns-clause-told : goal.docs_of_hits-returns-clause-told
 docs_of_hits-returns-clause-told g t c b is stands =
     let docs = ap (λ (x : IndexView). x.docs) c.index.view_is in
     c.in_ok-docs.ensures ∙ ap (λ m. docs_in m c.loop-part.hits) docs
-    ∙ docs_end (stock_of b) c.as_slice-part-items.result.now c.args.query.now c.args.index.now.docs c.loop-part.part-index c.loop-part.hits c.as_slice-part-items.ensures (omega (arith, c.loop-part-test.false)) (c.loop-part.invariant.told b is stands)
+    ∙ docs_end (stock_of b) c.as_slice-part-items.result.now c.args.query.now c.args.index.now.docs c.loop-part.part-index c.loop-part.hits
+    c.as_slice-part-items.ensures (omega (arith, c.loop-part-test.false)) (c.loop-part.invariant.told b is stands)
 
 pub docs_of_hits-returns-clause-sorted : goal.docs_of_hits-returns-clause-sorted
 docs_of_hits-returns-clause-sorted g t c = subst AreDocs (sym c.in_ok-docs.ensures) (base_sorted _ c.loop-part.hits c.loop-part.invariant.base)
@@ -94,124 +73,86 @@ docs_of_hits-returns-clause-sorted g t c = subst AreDocs (sym c.in_ok-docs.ensur
 pub rows_of_atom-returns-in_ok-kept-in-Join-clause-told : goal.rows_of_atom-returns-in_ok-kept-in-Join-clause-told
 rows_of_atom-returns-in_ok-kept-in-Join-clause-told g t c b is stands =
     let s = stock_of b in
-    joined_rows s (stocked b c.args.index.now stands c.requires.index) c.args.atom.now c.in-Join.name c.in-Join.inner c.in-Join.is c.in_ok-rows-in-Join.rows.posts c.in_ok-kept-in-Join.kept.posts c.in_ok-docs-in-Join.docs.items
-    (c.in_ok-rows-in-Join.ensures.told b (c.docs_of_hits.ensures.bytes ∙ is) stands) (c.in_ok-docs-in-Join.ensures.told b is stands) (c.in_ok-kept-in-Join.ensures.ok ∙ ap (shared c.in_ok-rows-in-Join.rows.posts) c.as_slice.ensures.value)
+    joined_rows s (stocked b c.args.index.now stands c.requires.opened.index) c.args.atom.now c.in-Join.name c.in-Join.inner c.in-Join.is
+    c.in_ok-rows-in-Join.rows.posts c.in_ok-kept-in-Join.kept.posts c.in_ok-docs-in-Join.docs.items
+    (c.in_ok-rows-in-Join.ensures.told b (c.docs_of_hits.ensures.store.bytes ∙ is) stands) (c.in_ok-docs-in-Join.ensures.told b is stands)
+    (c.in_ok-kept-in-Join.ensures.ok ∙ ap (shared c.in_ok-rows-in-Join.rows.posts) c.as_slice.ensures.value)
 
 pub rows_of_atom-returns-in_ok-kept-in-Join-clause-within : goal.rows_of_atom-returns-in_ok-kept-in-Join-clause-within
 rows_of_atom-returns-in_ok-kept-in-Join-clause-within g t c =
     let i = c.args.index.now in
-    subst (AreWithin i) (sym c.in_ok-kept-in-Join.ensures.ok) (kept_within i (shares_word _ c.in_ok-rows-in-Join.rows.posts) c.in_ok-rows-in-Join.rows.posts c.in_ok-rows-in-Join.ensures.within)
+    subst (AreWithin i) (sym c.in_ok-kept-in-Join.ensures.ok)
+    (kept_within i (shares_word _ c.in_ok-rows-in-Join.rows.posts) c.in_ok-rows-in-Join.rows.posts c.in_ok-rows-in-Join.ensures.within)
 
 -- ---- links
 pub rows_of_chain-returns-in_err-next-clause-reads : goal.rows_of_chain-returns-in_err-next-clause-reads
 rows_of_chain-returns-in_err-next-clause-reads g t c =
-    let v = division c.args.index.now in
-    let inv = c.loop-linked.invariant in
-    let left = next_left (met_of_linked v) c.as_slice-linked-items.result.now c.loop-linked.linked-index c.linked-item.result c.loop-linked-test.true c.linked-item.is in
-    let own = met_linked-is v c.linked-item.result in
-    let reads = c.rows_of_atom-in-loop-linked.ensures.reads in
-    let later = reads.later in
-    let within = reads.within in
-    record { later = omega (arith, inv.later, later); within = omega (arith, inv.reads, left, within, own) }
+    list_stops c.loop-linked.invariant.walk c.loop-linked-test.true c.linked-item.is
+    (linked_reads (division c.args.index.now) c.linked-item.result c.rows_of_atom-in-loop-linked.ensures.reads)
 
 pub rows_of_chain-returns-in_err-found-2-clause-reads : goal.rows_of_chain-returns-in_err-found-2-clause-reads
 rows_of_chain-returns-in_err-found-2-clause-reads g t c =
-    let v = division c.args.index.now in
-    let inv = c.loop-linked.invariant in
-    let left = next_left (met_of_linked v) c.as_slice-linked-items.result.now c.loop-linked.linked-index c.linked-item.result c.loop-linked-test.true c.linked-item.is in
-    let own = met_linked-is v c.linked-item.result in
-    let reads = c.rows_of_atom-in-loop-linked.ensures.reads in
-    let later = reads.later in
-    let within = reads.within in
-    record { later = omega (arith, inv.later, later); within = omega (arith, inv.reads, left, within, own) }
+    list_stops c.loop-linked.invariant.walk c.loop-linked-test.true c.linked-item.is
+    (linked_reads (division c.args.index.now) c.linked-item.result c.rows_of_atom-in-loop-linked.ensures.reads)
 
 pub rows_of_chain-loop-linked-preserved : goal.rows_of_chain-loop-linked-preserved
 rows_of_chain-loop-linked-preserved g t c =
     let i = c.args.index.now in
-    let v = division i in
     let n = c.loop-linked.linked-index in
     let inv = c.loop-linked.invariant in
-    let call = c.rows_of_atom-in-loop-linked.ensures in
     let items = c.as_slice-linked-items.result.now in
     let x = c.linked-item.result in
-    let left = next_left (met_of_linked v) items n x c.loop-linked-test.true c.linked-item.is in
-    let own = met_linked-is v x in
-    let reads = call.reads in
-    let later = reads.later in
-    let within = reads.within in
     record {
-      bytes = call.bytes ∙ inv.bytes;
-      lent = call.lent ∙ inv.lent;
-      later = omega (arith, inv.later, later);
-      reads = omega (arith, inv.reads, left, within, own);
-      quiet = c.in_ok-next.ensures.caused.quiet refl ∙ inv.quiet;
-      within = linked_within i (out-Linked x).link c.loop-linked.found.posts c.in_ok-next.next.posts c.in_ok-found-2.found.posts c.in_ok-next.ensures.within c.in_ok-found-2.ensures;
-      told = λ b is stands. chain_goes_on (stock_of b) c.args.chain.now items n x c.loop-linked-test.true c.linked-item.is c.loop-linked.found.posts c.in_ok-next.next.posts c.in_ok-found-2.found.posts (inv.told b is stands) (c.in_ok-next.ensures.told b (inv.bytes ∙ is) stands) c.in_ok-found-2.ensures;
+      walk = list_goes_on inv.walk c.loop-linked-test.true c.linked-item.is c.in_ok-next.ensures.store
+          (linked_reads (division c.args.index.now) x c.in_ok-next.ensures.reads);
+      within = linked_within i (out-Linked x).link c.loop-linked.found.posts c.in_ok-next.next.posts c.in_ok-found-2.found.posts c.in_ok-next.ensures.within
+          c.in_ok-found-2.ensures;
+      told = λ b is stands. chain_goes_on (stock_of b) c.args.chain.now items n x c.loop-linked-test.true c.linked-item.is c.loop-linked.found.posts
+          c.in_ok-next.next.posts c.in_ok-found-2.found.posts (inv.told b is stands)
+          (c.in_ok-next.ensures.told b (inv.walk.store.bytes ∙ is) stands) c.in_ok-found-2.ensures;
     }
 
 pub rows_of_chain-returns-clause-told : goal.rows_of_chain-returns-clause-told
 rows_of_chain-returns-clause-told g t c b is stands =
-    chain_ends (stock_of b) c.args.chain.now c.as_slice-linked-items.result.now c.loop-linked.linked-index c.loop-linked.found.posts (omega (arith, c.loop-linked-test.false)) (c.loop-linked.invariant.told b is stands)
+    chain_ends (stock_of b) c.args.chain.now c.as_slice-linked-items.result.now c.loop-linked.linked-index c.loop-linked.found.posts
+    (omega (arith, c.loop-linked-test.false)) (c.loop-linked.invariant.told b is stands)
 
 -- ---- alternatives
 pub rows_of_part-loop-chain-init : goal.rows_of_part-loop-chain-init
 rows_of_part-loop-chain-init g t c =
     let i = c.args.index.now in
-    let v = division i in
-    let met = met_part-is v c.args.part.now ∙ ap (λ xs. sum (map (met_of_chain v) xs)) (sym c.as_slice-chain-items.ensures) in
     record {
-      bytes = refl;
-      lent = refl;
-      later = omega arith;
-      reads = omega (arith, met);
-      quiet = refl;
+      walk = list_begins (met_part-is (division i) c.args.part.now) c.as_slice-chain-items.ensures;
       within = subst (AreWithin i) (sym c.new-found.ensures) (none_within i);
       told = λ b is stands. part_begins (stock_of b) c.as_slice-chain-items.result.now c.new-found.result.posts c.new-found.ensures;
     }
 
 pub rows_of_part-returns-in_err-next-clause-reads : goal.rows_of_part-returns-in_err-next-clause-reads
 rows_of_part-returns-in_err-next-clause-reads g t c =
-    let v = division c.args.index.now in
-    let inv = c.loop-chain.invariant in
-    let left = next_left (met_of_chain v) c.as_slice-chain-items.result.now c.loop-chain.chain-index c.chain-item.result c.loop-chain-test.true c.chain-item.is in
-    let reads = c.rows_of_chain.ensures.reads in
-    let later = reads.later in
-    let within = reads.within in
-    record { later = omega (arith, inv.later, later); within = omega (arith, inv.reads, left, within) }
+    list_stops c.loop-chain.invariant.walk c.loop-chain-test.true c.chain-item.is c.rows_of_chain.ensures.reads
 
 pub rows_of_part-returns-in_err-found-clause-reads : goal.rows_of_part-returns-in_err-found-clause-reads
 rows_of_part-returns-in_err-found-clause-reads g t c =
-    let v = division c.args.index.now in
-    let inv = c.loop-chain.invariant in
-    let left = next_left (met_of_chain v) c.as_slice-chain-items.result.now c.loop-chain.chain-index c.chain-item.result c.loop-chain-test.true c.chain-item.is in
-    let reads = c.rows_of_chain.ensures.reads in
-    let later = reads.later in
-    let within = reads.within in
-    record { later = omega (arith, inv.later, later); within = omega (arith, inv.reads, left, within) }
+    list_stops c.loop-chain.invariant.walk c.loop-chain-test.true c.chain-item.is c.rows_of_chain.ensures.reads
 
 pub rows_of_part-loop-chain-preserved : goal.rows_of_part-loop-chain-preserved
 rows_of_part-loop-chain-preserved g t c =
     let i = c.args.index.now in
-    let v = division i in
     let n = c.loop-chain.chain-index in
     let inv = c.loop-chain.invariant in
-    let call = c.rows_of_chain.ensures in
     let items = c.as_slice-chain-items.result.now in
     let x = c.chain-item.result in
-    let left = next_left (met_of_chain v) items n x c.loop-chain-test.true c.chain-item.is in
-    let reads = call.reads in
-    let later = reads.later in
-    let within = reads.within in
     record {
-      bytes = call.bytes ∙ inv.bytes;
-      lent = call.lent ∙ inv.lent;
-      later = omega (arith, inv.later, later);
-      reads = omega (arith, inv.reads, left, within);
-      quiet = c.in_ok-next.ensures.caused.quiet refl ∙ inv.quiet;
-      within = united_within i c.loop-chain.found.posts c.in_ok-next.next.posts c.in_ok-found.found.posts inv.within c.in_ok-next.ensures.within c.in_ok-found.ensures.ok c.in_ok-found.ensures.sorted;
-      told = λ b is stands. part_goes_on (stock_of b) items (stocked b i stands c.requires.index) n x c.loop-chain-test.true c.chain-item.is c.loop-chain.found.posts c.in_ok-next.next.posts c.in_ok-found.found.posts (inv.told b is stands) (c.in_ok-next.ensures.told b (inv.bytes ∙ is) stands) c.in_ok-found.ensures.ok c.in_ok-found.ensures.sorted;
+      walk = list_goes_on inv.walk c.loop-chain-test.true c.chain-item.is c.in_ok-next.ensures.store c.in_ok-next.ensures.reads;
+      within = united_within i c.loop-chain.found.posts c.in_ok-next.next.posts c.in_ok-found.found.posts inv.within c.in_ok-next.ensures.within
+          c.in_ok-found.ensures.ok c.in_ok-found.ensures.sorted;
+      told = λ b is stands. part_goes_on (stock_of b) items
+          (stocked b i stands c.requires.opened.index) n x c.loop-chain-test.true c.chain-item.is c.loop-chain.found.posts c.in_ok-next.next.posts
+          c.in_ok-found.found.posts (inv.told b is stands)
+          (c.in_ok-next.ensures.told b (inv.walk.store.bytes ∙ is) stands) c.in_ok-found.ensures.ok c.in_ok-found.ensures.sorted;
     }
 
 pub rows_of_part-returns-clause-told : goal.rows_of_part-returns-clause-told
 rows_of_part-returns-clause-told g t c b is stands =
-    part_ends (stock_of b) c.as_slice-chain-items.result.now c.args.part.now c.as_slice-chain-items.ensures c.loop-chain.chain-index c.loop-chain.found.posts (omega (arith, c.loop-chain-test.false)) (c.loop-chain.invariant.told b is stands)
+    part_ends (stock_of b) c.as_slice-chain-items.result.now c.args.part.now c.as_slice-chain-items.ensures c.loop-chain.chain-index c.loop-chain.found.posts
+    (omega (arith, c.loop-chain-test.false)) (c.loop-chain.invariant.told b is stands)

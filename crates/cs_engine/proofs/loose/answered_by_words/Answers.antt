@@ -28,7 +28,8 @@ returns-then-fills-clause-told g c b is stands by =
       reply = c.in_ok-reply.ensures.told b is stands by;
       own = tt;
       large = λ gone.
-          large_entry i q base.All lo hi asks all has b stands c.requires.index own (filter (is_between lo hi) (stock_of b).posts) (sym (all_listed b i stands c.requires.index lo hi all has))
+          large_entry i q base.All lo hi asks all has b stands c.requires.opened.index own (filter (is_between lo hi) (stock_of b).posts)
+          (sym (all_listed b i stands c.requires.opened.index lo hi all has))
           (let many = c.fills.ensures.many c.if-fills.true b stands in omega (arith, many));
     }
 
@@ -38,11 +39,20 @@ returns-then-len-saturating_sub-clause-told g c b is stands by =
     let h = c.in_ok-keys.ensures.keys in
     let rows = h.gathered.rows in
     record {
-      reply = c.in_ok-reply-2.ensures.told b (c.keys_of_hits.ensures.bytes ∙ is) stands by;
+      reply = c.in_ok-reply-2.ensures.told b (c.keys_of_hits.ensures.store.bytes ∙ is) stands by;
       own = tt;
       large = λ none.
-          is_large c.args.index.now c.args.request.now.query c.args.hits c.args.words.0 c.args.words.1 c.requires.asks h.listed h.has b stands c.requires.index by rows (h.gathered.stood b is stands)
-          (omega (arith, c.if-len-saturating_sub.true, c.len.ensures, c.saturating_sub.ensures, c.size_of.ensures, ap length h.gathered.are, length-map rows key_of));
+          is_large c.args.index.now c.args.request.now.query c.args.hits c.args.words.0 c.args.words.1 c.requires.asks h.listed h.has b stands
+          c.requires.opened.index by rows (h.gathered.stood b is stands)
+          (omega (
+            arith,
+            c.if-len-saturating_sub.true,
+            c.len.ensures,
+            c.saturating_sub.ensures,
+            c.size_of.ensures,
+            ap length h.gathered.are,
+            length-map rows key_of,
+          ));
     }
 
 -- ---- rows in order
@@ -53,7 +63,8 @@ with_reply-requires-clause-entry g c =
     let r = h.gathered in
     let o = c.in_ok-rows.ensures r.rows r.are r.packed in
     let rows = c.in_ok-rows.rows.posts in
-    entry_fits i c.args.request.now.query c.args.hits c.args.words.0 c.args.words.1 c.requires.asks h.listed h.has rows (ordered_within i r.rows rows r.within o) (ordered_passed c.args.words.0 c.args.words.1 h.listed r.rows rows r.passed o)
+    entry_fits i c.args.request.now.query c.args.hits c.args.words.0 c.args.words.1 c.requires.asks h.listed h.has rows
+    (ordered_within i r.rows rows r.within o) (ordered_passed c.args.words.0 c.args.words.1 h.listed r.rows rows r.passed o)
 
 pub returns-clause-told : goal.returns-clause-told
 returns-clause-told g c b is stands by =
@@ -62,9 +73,10 @@ returns-clause-told g c b is stands by =
     let r = h.gathered in
     let o = c.in_ok-rows.ensures r.rows r.are r.packed in
     let rows = c.in_ok-rows.rows.posts in
-    let own = chosen_entry i c.args.request.now.query c.args.hits c.args.words.0 c.args.words.1 c.requires.asks h.listed h.has b stands c.requires.index by rows (ordered_told b i stands c.requires.index c.args.words.0 c.args.words.1 h.listed r.rows rows (r.stood b is stands) o) in
+    let own = chosen_entry i c.args.request.now.query c.args.hits c.args.words.0 c.args.words.1 c.requires.asks h.listed h.has b stands c.requires.opened.index
+    by rows (ordered_told b i stands c.requires.opened.index c.args.words.0 c.args.words.1 h.listed r.rows rows (r.stood b is stands) o) in
     record {
-      reply = c.in_ok-answered.ensures.told b (c.keys_of_hits.ensures.bytes ∙ is) stands own;
+      reply = c.in_ok-answered.ensures.told b (c.keys_of_hits.ensures.store.bytes ∙ is) stands own;
       own = subst (λ e. IfSome e (IsEntryOver b i c.args.request.now.query)) (sym c.in_ok-answered.ensures.same) own;
       large = λ none. absurd (true≢false (ap is_some (sym c.in_ok-answered.ensures.same) ∙ none));
     }
@@ -77,4 +89,5 @@ returns-clause-within g c =
     let o = c.in_ok-rows.ensures r.rows r.are r.packed in
     let rows = c.in_ok-rows.rows.posts in
     subst (λ e. IfSome e (FitsQuery i c.args.request.now.query)) (sym c.in_ok-answered.ensures.same)
-    (entry_fits i c.args.request.now.query c.args.hits c.args.words.0 c.args.words.1 c.requires.asks h.listed h.has rows (ordered_within i r.rows rows r.within o) (ordered_passed c.args.words.0 c.args.words.1 h.listed r.rows rows r.passed o))
+    (entry_fits i c.args.request.now.query c.args.hits c.args.words.0 c.args.words.1 c.requires.asks h.listed h.has rows
+    (ordered_within i r.rows rows r.within o) (ordered_passed c.args.words.0 c.args.words.1 h.listed r.rows rows r.passed o))

@@ -18,6 +18,7 @@ found_in_blocks-requires-clause-base g c =
 
 pub returns-clause-told : goal.returns-clause-told
 returns-clause-told g c b is stands by =
-    c.in_ok-reply.ensures.told b (c.found_in_blocks.ensures.bytes ∙ is) stands
-    (found_table c.args.index.now c.args.request.now.query c.args.hits.now c.args.words.0 c.args.words.1 c.requires.asks b stands c.requires.index by c.args.request.now.completions _ _ (c.in_ok-found.ensures.told b is stands))
-    ∙ ap (λ (k : Corpus). reply_of k (asked c.args.request.now)) (stock_corpus b c.args.index.now stands c.requires.index)
+    c.in_ok-reply.ensures.told b (c.found_in_blocks.ensures.store.bytes ∙ is) stands
+    (found_table c.args.index.now c.args.request.now.query c.args.hits.now c.args.words.0 c.args.words.1 c.requires.asks b stands c.requires.opened.index by
+    c.args.request.now.completions _ _ (c.in_ok-found.ensures.told b is stands))
+    ∙ ap (λ (k : Corpus). reply_of k (asked c.args.request.now)) (stock_corpus b c.args.index.now stands c.requires.opened.index)

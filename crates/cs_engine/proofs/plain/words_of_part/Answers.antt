@@ -8,4 +8,5 @@ returns-in-len1-clause-words c =
     let x = c.chain-item.result in
     let some = c.in-len1.len_at_least in
     let few = c.in-len1.len_below in
-    part_words c.args.index.now c.requires.index c.args.part.now x items c.as_slice.ensures (one_chain items x (omega (arith, some, few)) c.chain-item.is) c.words_of_chain.result c.words_of_chain.ensures
+    part_words c.args.index.now c.requires.index c.args.part.now x items c.as_slice.ensures
+    (one_chain items x (omega (arith, some, few)) c.chain-item.is) c.words_of_chain.result c.words_of_chain.ensures

@@ -1,7 +1,6 @@
-use Rattle.std.proofs.Common.{◌≡◌, ◌-◌, ◌*◌, List, length, get_or, not, sym, ap, subst, ◌∙◌, arith, true≢false}
+use Rattle.std.proofs.Common.{◌-◌, ◌*◌, length, not, sym, ap, subst, ◌∙◌, arith, true≢false}
 use Rattle.std.specs.Prelude.{IfSome, is_some}
 use Rattle.cs_base.specs.declared.content.limits.TheConstants.{MAX_PARTS}
-use Rattle.cs_base.specs.declared.content.query.Part.{Part}
 use Rattle.cs_base.specs.declared.content.query.Query.{out-Query}
 use Rattle.cs_base.specs.declared.content.scores.TheConstants.{MAX_ROW_SCORE}
 use Rattle.cs_query.specs.RequestView.{asked}
@@ -9,21 +8,20 @@ use Rattle.cs_engine.specs.Asking.{division}
 use Rattle.cs_engine.specs.Keeping.{FitsQuery, IsEntryOver}
 use Rattle.cs_engine.proofs.LentLemmas.{err_due}
 use Rattle.cs_engine.proofs.PartSteps.{base_weaker}
-use Rattle.cs_engine.proofs.PlansLemmas.{ends_last, last_met, more_by_words, more_fits, more_told}
+use Rattle.cs_engine.proofs.PlansLemmas.{ends_last, is_last, last_met, more_by_words, more_fits, more_told}
+use Rattle.cs_engine.proofs.WalkLemmas.{within_both, within_more}
 use Rattle.cs_engine.proofs.plans.answered_by_hits.Goals as goal
 
 -- ---- a part that asks for some words
 pub answered_by_words-requires-clause-asks : goal.answered_by_words-requires-clause-asks
 answered_by_words-requires-clause-asks g c =
     let q = c.args.request.now.query in
-    let ps = (out-Query q).parts in
     let x = c.index-parts-last.result in
-    let some = c.requires.some in
+    let last = is_last {q = q} c.requires.some c.as_slice-parts.ensures c.index-parts-last.is in
     let asks = c.in-Some.ensures.words in
-    let at : x ≡ get_or ps (length ps - 1) x = c.index-parts-last.is ∙ ap (λ (xs : List Part). get_or xs (length xs - 1) x) c.as_slice-parts.ensures in
     record {
-      some = some;
-      positive = ends_last q (length ps - 1) x (omega (arith, some)) at ∙ ap not c.in-Some.ensures.positive;
+      some = c.requires.some;
+      positive = ends_last q x last ∙ ap not c.in-Some.ensures.positive;
       ordered = asks.ordered;
       within = asks.within;
       base = c.requires.base;
@@ -31,34 +29,25 @@ answered_by_words-requires-clause-asks g c =
 
 pub returns-in_err-answered-clause-reads : goal.returns-in_err-answered-clause-reads
 returns-in_err-answered-clause-reads g c =
-    let ps = (out-Query c.args.request.now.query).parts in
-    let x = c.index-parts-last.result in
-    let at : x ≡ get_or ps (length ps - 1) x = c.index-parts-last.is ∙ ap (λ (xs : List Part). get_or xs (length xs - 1) x) c.as_slice-parts.ensures in
-    let met = last_met (division c.args.index.now) ps x c.requires.some at in
+    let met = last_met (division c.args.index.now) (is_last {q = c.args.request.now.query} c.requires.some c.as_slice-parts.ensures c.index-parts-last.is) in
     let few = c.in-Some.ensures.words.few in
-    let reads = c.in_err-answered.ensures.reads in
     let due = err_due (asked c.args.request.now) c.from_residual.result c.from_residual.ensures.0 in
-    record { later = reads.later; within = (let w = reads.within in omega (arith, w, met, few, due)) }
+    within_more c.in_err-answered.ensures.reads (omega (arith, met, few, due))
 
 pub returns-in-Some-clause-told : goal.returns-in-Some-clause-told
 returns-in-Some-clause-told g c b is stands over =
     let q = c.args.request.now.query in
-    let ps = (out-Query q).parts in
     let x = c.index-parts-last.result in
-    let some = c.requires.some in
-    let at : x ≡ get_or ps (length ps - 1) x = c.index-parts-last.is ∙ ap (λ (xs : List Part). get_or xs (length xs - 1) x) c.as_slice-parts.ensures in
+    let last = is_last {q = q} c.requires.some c.as_slice-parts.ensures c.index-parts-last.is in
     c.in_ok-answered.ensures.told b is stands
-    (more_by_words q b c.args.index.now stands c.requires.index (length ps - 1) x c.args.hits c.in-Some.words.0 c.in-Some.words.1 (omega (arith, some)) at over c.in-Some.ensures.positive c.in-Some.ensures.words)
+    (more_by_words q b c.args.index.now stands c.requires.opened.index x c.args.hits c.in-Some.words.0 c.in-Some.words.1 last over c.in-Some.ensures.positive
+    c.in-Some.ensures.words)
 
 pub returns-in-Some-clause-reads : goal.returns-in-Some-clause-reads
 returns-in-Some-clause-reads g c =
-    let ps = (out-Query c.args.request.now.query).parts in
-    let x = c.index-parts-last.result in
-    let at : x ≡ get_or ps (length ps - 1) x = c.index-parts-last.is ∙ ap (λ (xs : List Part). get_or xs (length xs - 1) x) c.as_slice-parts.ensures in
-    let met = last_met (division c.args.index.now) ps x c.requires.some at in
+    let met = last_met (division c.args.index.now) (is_last {q = c.args.request.now.query} c.requires.some c.as_slice-parts.ensures c.index-parts-last.is) in
     let few = c.in-Some.ensures.words.few in
-    let reads = c.in_ok-answered.ensures.reads in
-    record { later = reads.later; within = (let w = reads.within in omega (arith, w, met, few)) }
+    within_more c.in_ok-answered.ensures.reads (omega (arith, met, few))
 
 -- ---- another part
 pub extended-requires-clause-base : goal.extended-requires-clause-base
@@ -69,44 +58,31 @@ extended-requires-clause-base g c =
 
 pub returns-in_err-entry-clause-reads : goal.returns-in_err-entry-clause-reads
 returns-in_err-entry-clause-reads g c =
-    let ps = (out-Query c.args.request.now.query).parts in
-    let x = c.index-parts-last-2.result in
-    let at : x ≡ get_or ps (length ps - 1) x = c.index-parts-last-2.is ∙ ap (λ (xs : List Part). get_or xs (length xs - 1) x) c.as_slice-parts.ensures in
-    let met = last_met (division c.args.index.now) ps x c.requires.some at in
-    let reads = c.extended.ensures.reads in
-    record { later = reads.later; within = (let w = reads.within in omega (arith, w, met)) }
+    let met = last_met (division c.args.index.now) (is_last {q = c.args.request.now.query} c.requires.some c.as_slice-parts.ensures c.index-parts-last.is) in
+    within_more c.extended.ensures.reads (omega (arith, met))
 
 pub with_reply-requires-clause-entry : goal.with_reply-requires-clause-entry
 with_reply-requires-clause-entry g c =
     let q = c.args.request.now.query in
-    let ps = (out-Query q).parts in
-    let x = c.index-parts-last-2.result in
-    let some = c.requires.some in
-    let at : x ≡ get_or ps (length ps - 1) x = c.index-parts-last-2.is ∙ ap (λ (xs : List Part). get_or xs (length xs - 1) x) c.as_slice-parts.ensures in
-    more_fits q c.args.index.now (length ps - 1) x c.in_ok-entry.entry (omega (arith, some)) at (c.in_ok-entry.ensures.within (length ps - 1) c.requires.base)
+    let x = c.index-parts-last.result in
+    let last = is_last {q = q} c.requires.some c.as_slice-parts.ensures c.index-parts-last.is in
+    more_fits q c.args.index.now x c.in_ok-entry.entry last (c.in_ok-entry.ensures.within (length (out-Query q).parts - 1) c.requires.base)
 
 pub returns-in_err-answered-2-clause-reads : goal.returns-in_err-answered-2-clause-reads
 returns-in_err-answered-2-clause-reads g c =
-    let ps = (out-Query c.args.request.now.query).parts in
-    let x = c.index-parts-last-2.result in
-    let at : x ≡ get_or ps (length ps - 1) x = c.index-parts-last-2.is ∙ ap (λ (xs : List Part). get_or xs (length xs - 1) x) c.as_slice-parts.ensures in
-    let met = last_met (division c.args.index.now) ps x c.requires.some at in
-    let first = c.extended.ensures.reads in
-    let then = c.in_err-answered-2.ensures.reads in
+    let met = last_met (division c.args.index.now) (is_last {q = c.args.request.now.query} c.requires.some c.as_slice-parts.ensures c.index-parts-last.is) in
     let due = err_due (asked c.args.request.now) c.from_residual-in_err-answered-2.result c.from_residual-in_err-answered-2.ensures.0 in
-    record { later = (let l = first.later in let m = then.later in omega (arith, l, m)); within = (let v = first.within in let w = then.within in omega (arith, v, w, met, due)) }
+    within_both c.extended.ensures.reads c.in_err-answered-2.ensures.reads (omega (arith, met, due))
 
 pub returns-clause-told : goal.returns-clause-told
 returns-clause-told g c b is stands over =
     let q = c.args.request.now.query in
     let i = c.args.index.now in
-    let ps = (out-Query q).parts in
-    let x = c.index-parts-last-2.result in
-    let some = c.requires.some in
-    let at : x ≡ get_or ps (length ps - 1) x = c.index-parts-last-2.is ∙ ap (λ (xs : List Part). get_or xs (length xs - 1) x) c.as_slice-parts.ensures in
-    let own = more_told q b i stands c.requires.index (length ps - 1) x c.args.hits c.in_ok-entry.entry (omega (arith, some)) at over (c.in_ok-entry.ensures.told b is stands) in
+    let x = c.index-parts-last.result in
+    let last = is_last {q = q} c.requires.some c.as_slice-parts.ensures c.index-parts-last.is in
+    let own = more_told q b i stands c.requires.opened.index x c.args.hits c.in_ok-entry.entry last over (c.in_ok-entry.ensures.told b is stands) in
     record {
-      reply = c.in_ok-answered-2.ensures.told b (c.extended.ensures.bytes ∙ is) stands own;
+      reply = c.in_ok-answered-2.ensures.told b (c.extended.ensures.store.bytes ∙ is) stands own;
       own = subst (λ o. IfSome o (IsEntryOver b i q)) (sym c.in_ok-answered-2.ensures.same) own;
       large = λ none. absurd (true≢false (ap is_some (sym c.in_ok-answered-2.ensures.same) ∙ none));
     }
@@ -114,19 +90,12 @@ returns-clause-told g c b is stands over =
 pub returns-clause-within : goal.returns-clause-within
 returns-clause-within g c =
     let q = c.args.request.now.query in
-    let ps = (out-Query q).parts in
-    let x = c.index-parts-last-2.result in
-    let some = c.requires.some in
-    let at : x ≡ get_or ps (length ps - 1) x = c.index-parts-last-2.is ∙ ap (λ (xs : List Part). get_or xs (length xs - 1) x) c.as_slice-parts.ensures in
+    let x = c.index-parts-last.result in
+    let last = is_last {q = q} c.requires.some c.as_slice-parts.ensures c.index-parts-last.is in
     subst (λ o. IfSome o (FitsQuery c.args.index.now q)) (sym c.in_ok-answered-2.ensures.same)
-    (more_fits q c.args.index.now (length ps - 1) x c.in_ok-entry.entry (omega (arith, some)) at (c.in_ok-entry.ensures.within (length ps - 1) c.requires.base))
+    (more_fits q c.args.index.now x c.in_ok-entry.entry last (c.in_ok-entry.ensures.within (length (out-Query q).parts - 1) c.requires.base))
 
 pub returns-clause-reads : goal.returns-clause-reads
 returns-clause-reads g c =
-    let ps = (out-Query c.args.request.now.query).parts in
-    let x = c.index-parts-last-2.result in
-    let at : x ≡ get_or ps (length ps - 1) x = c.index-parts-last-2.is ∙ ap (λ (xs : List Part). get_or xs (length xs - 1) x) c.as_slice-parts.ensures in
-    let met = last_met (division c.args.index.now) ps x c.requires.some at in
-    let first = c.extended.ensures.reads in
-    let then = c.in_ok-answered-2.ensures.reads in
-    record { later = (let l = first.later in let m = then.later in omega (arith, l, m)); within = (let v = first.within in let w = then.within in omega (arith, v, w, met)) }
+    let met = last_met (division c.args.index.now) (is_last {q = c.args.request.now.query} c.requires.some c.as_slice-parts.ensures c.index-parts-last.is) in
+    within_both c.extended.ensures.reads c.in_ok-answered-2.ensures.reads (omega (arith, met))

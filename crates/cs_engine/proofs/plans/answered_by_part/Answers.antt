@@ -12,7 +12,8 @@ answered_by_hits-requires-clause-base g c =
     let q = c.args.request.now.query in
     let ps = (out-Query q).parts in
     let p = c.end_positive-positive.result in
-    let ends : p ≡ end_positive (take (length ps - 1) ps) = c.end_positive-positive.ensures ∙ ap (λ (xs : List Part). end_positive (take (length xs - 1) xs)) c.as_slice-parts.ensures in
+    let ends : p ≡ end_positive (take (length ps - 1) ps) = c.end_positive-positive.ensures
+    ∙ ap (λ (xs : List Part). end_positive (take (length xs - 1) xs)) c.as_slice-parts.ensures in
     first_in q c.args.index.now (entry_with c.args.base.now c.args.rows.now.posts) p c.in_ok-hits.hits c.requires.before ends c.in_ok-hits.ensures
 
 pub returns-clause-told : goal.returns-clause-told
@@ -20,6 +21,8 @@ returns-clause-told g c b is stands own =
     let q = c.args.request.now.query in
     let ps = (out-Query q).parts in
     let p = c.end_positive-positive.result in
-    let ends : p ≡ end_positive (take (length ps - 1) ps) = c.end_positive-positive.ensures ∙ ap (λ (xs : List Part). end_positive (take (length xs - 1) xs)) c.as_slice-parts.ensures in
-    let found = found_by_entry c.args.index.now (before_last q) (entry_with c.args.base.now c.args.rows.now.posts) p (ends_first q p ends) c.in_ok-hits.hits c.in_ok-hits.ensures b stands c.requires.index own in
+    let ends : p ≡ end_positive (take (length ps - 1) ps) = c.end_positive-positive.ensures
+    ∙ ap (λ (xs : List Part). end_positive (take (length xs - 1) xs)) c.as_slice-parts.ensures in
+    let found = found_by_entry c.args.index.now (before_last q) (entry_with c.args.base.now c.args.rows.now.posts) p
+    (ends_first q p ends) c.in_ok-hits.hits c.in_ok-hits.ensures b stands c.requires.opened.index own in
     c.answered_by_hits.ensures.told b is stands found.base

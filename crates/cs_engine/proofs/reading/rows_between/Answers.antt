@@ -15,4 +15,4 @@ pub returns-clause-told : goal.returns-clause-told
 returns-clause-told g c b is stands =
     let listed = subst (λ n. AreListed n base.All c.in_ok-all.all.items) (ap (λ (x : IndexView). x.docs) c.index.view_is) c.in_ok-all.ensures in
     c.in_ok-rows.ensures.told b is stands ∙ ap (λ l. filter (in_listed l) (filter (is_between c.args.lo c.args.hi) (stock_of b).posts)) c.deref.ensures.value
-    ∙ all_listed b c.args.index.now stands c.requires.index c.args.lo c.args.hi c.in_ok-all.all.items listed
+    ∙ all_listed b c.args.index.now stands c.requires.opened.index c.args.lo c.args.hi c.in_ok-all.all.items listed

@@ -2,120 +2,159 @@ use Rattle.std.proofs.Common.{◌≡◌, ◌∙◌, sym, subst, arith, length}
 use Rattle.std.specs.Prelude.{IfSome}
 use Rattle.cs_base.specs.declared.index.plan.Plan.TheVariants.{Same, Narrow, Extend, Fresh}
 use Rattle.cs_query.specs.RequestView.{asked}
-use Rattle.cs_engine.specs.Asking.{division, titles_asked}
+use Rattle.cs_engine.specs.Asking.{division}
 use Rattle.cs_engine.specs.Keeping.{FitsQuery, IsEntryOver}
-use Rattle.cs_engine.proofs.LentLemmas.{due_reads, err_due, all_reads, extend_lent, narrow_lent, narrow_typed, no_reads, same_lent}
+use Rattle.cs_engine.proofs.LentLemmas.{all_reads, all_reads_err, extend_lent, kept_reads, kept_reads_err, narrow_lent, narrow_typed, same_lent}
 use Rattle.cs_engine.proofs.PlansLemmas.{is_used}
 use Rattle.cs_engine.proofs.replying.answered.Goals as goal
 
 -- ---- the query's own entry
 pub view-view-requires : goal.view-view-requires
 view-view-requires g c =
-    record { held = is_used c.args.answers.now.entries c.args.request.now.query c.requires.limits.query c.args.keys.now c.requires.keys c.args.plan c.requires.plan (λ f. let no : Same ≡ Fresh = sym c.in-Same.is ∙ f in cc) }
+    record {
+      held = is_used c.args.answers.now.entries c.args.request.now.query c.requires.limits.query c.args.keys.now c.requires.keys c.args.plan
+          c.requires.plan (λ f. let no : Same ≡ Fresh = sym c.in-Same.is ∙ f in cc);
+    }
 
 pub by_entry-requires-clause-entry : goal.by_entry-requires-clause-entry
 by_entry-requires-clause-entry g c =
-    (same_lent c.args.index.now c.args.answers.now.entries c.requires.kept c.args.request.now.query c.requires.limits.query c.args.keys.now c.requires.keys c.args.plan c.requires.plan c.view-view.result.base.now c.view-view.result.rows.now.posts
+    (same_lent c.args.index.now c.args.answers.now.entries c.requires.kept c.args.request.now.query c.requires.limits.query c.args.keys.now c.requires.keys
+    c.args.plan c.requires.plan c.view-view.result.base.now c.view-view.result.rows.now.posts
     c.view-view.ensures.base c.view-view.ensures.rows c.in-Same.is).0
 
 pub returns-in_err-reply-in-Same-clause-reads : goal.returns-in_err-reply-in-Same-clause-reads
 returns-in_err-reply-in-Same-clause-reads g c =
-    due_reads (division c.args.index.now) (asked c.args.request.now) c.args.plan Same (titles_asked (asked c.args.request.now) c.from_residual.result) _ (g.S.Store.reads c.args.store.now) _ c.in-Same.is (no_reads 0 _) (let r = c.in_err-reply-in-Same.ensures.reads in let w = r.within in let e = err_due (asked c.args.request.now) c.from_residual.result c.from_residual.ensures.0 in record { later = r.later; within = omega (arith, w, e) })
+    kept_reads_err (division c.args.index.now)
+    (asked c.args.request.now) c.args.plan c.from_residual.result c.from_residual.ensures.0 c.in_err-reply-in-Same.ensures.reads
 
 pub returns-in_ok-reply-in-Same-clause-told : goal.returns-in_ok-reply-in-Same-clause-told
 returns-in_ok-reply-in-Same-clause-told g c b is stands good =
-    c.in_ok-reply-in-Same.ensures.told b is stands ((same_lent c.args.index.now c.args.answers.now.entries c.requires.kept c.args.request.now.query c.requires.limits.query c.args.keys.now c.requires.keys c.args.plan c.requires.plan c.view-view.result.base.now c.view-view.result.rows.now.posts
+    c.in_ok-reply-in-Same.ensures.told b is stands
+    ((same_lent c.args.index.now c.args.answers.now.entries c.requires.kept c.args.request.now.query c.requires.limits.query c.args.keys.now c.requires.keys
+    c.args.plan c.requires.plan c.view-view.result.base.now c.view-view.result.rows.now.posts
     c.view-view.ensures.base c.view-view.ensures.rows c.in-Same.is).1 b good)
 
 pub returns-in_ok-reply-in-Same-clause-reads : goal.returns-in_ok-reply-in-Same-clause-reads
 returns-in_ok-reply-in-Same-clause-reads g c =
-    due_reads (division c.args.index.now) (asked c.args.request.now) c.args.plan Same (length c.in_ok-reply-in-Same.reply.hits) _ (g.S.Store.reads c.args.store.now) _ c.in-Same.is (no_reads 0 _) (c.in_ok-reply-in-Same.ensures.reads)
+    kept_reads (division c.args.index.now) (asked c.args.request.now) c.args.plan (length c.in_ok-reply-in-Same.reply.hits) c.in_ok-reply-in-Same.ensures.reads
 
 -- ---- a letter more
 pub view-view-requires-in-Narrow : goal.view-view-requires-in-Narrow
 view-view-requires-in-Narrow g c =
-    record { held = is_used c.args.answers.now.entries c.args.request.now.query c.requires.limits.query c.args.keys.now c.requires.keys c.args.plan c.requires.plan (λ f. let no : Narrow c.in-Narrow.cut ≡ Fresh = sym c.in-Narrow.is ∙ f in cc) }
+    record {
+      held = is_used c.args.answers.now.entries c.args.request.now.query c.requires.limits.query c.args.keys.now c.requires.keys c.args.plan
+          c.requires.plan (λ f. let no : Narrow c.in-Narrow.cut ≡ Fresh = sym c.in-Narrow.is ∙ f in cc);
+    }
 
 pub narrowed-requires-clause-within : goal.narrowed-requires-clause-within
 narrowed-requires-clause-within g c =
-    (narrow_typed c.args.index.now c.args.answers.now.entries c.requires.kept c.args.request.now.query c.requires.limits.query c.args.keys.now c.requires.keys c.args.plan c.requires.plan c.view-view-in-Narrow.result.base.now c.view-view-in-Narrow.result.rows.now.posts
+    (narrow_typed c.args.index.now c.args.answers.now.entries c.requires.kept c.args.request.now.query c.requires.limits.query c.args.keys.now c.requires.keys
+    c.args.plan c.requires.plan c.view-view-in-Narrow.result.base.now c.view-view-in-Narrow.result.rows.now.posts
     c.view-view-in-Narrow.ensures.base c.view-view-in-Narrow.ensures.rows c.in-Narrow.cut c.in-Narrow.is).1
 
 pub with_reply-requires-clause-entry : goal.with_reply-requires-clause-entry
 with_reply-requires-clause-entry g c =
-    (narrow_lent c.args.index.now c.args.answers.now.entries c.requires.kept c.args.request.now.query c.requires.limits.query c.args.keys.now c.requires.keys c.args.plan c.requires.plan c.view-view-in-Narrow.result.base.now c.view-view-in-Narrow.result.rows.now.posts
-    c.view-view-in-Narrow.ensures.base c.view-view-in-Narrow.ensures.rows c.in-Narrow.cut c.in-Narrow.is c.in_ok-entry-in-Narrow.entry c.in_ok-entry-in-Narrow.ensures.base c.in_ok-entry-in-Narrow.ensures.rows).0
+    (narrow_lent c.args.index.now c.args.answers.now.entries c.requires.kept c.args.request.now.query c.requires.limits.query c.args.keys.now c.requires.keys
+    c.args.plan c.requires.plan c.view-view-in-Narrow.result.base.now c.view-view-in-Narrow.result.rows.now.posts
+    c.view-view-in-Narrow.ensures.base c.view-view-in-Narrow.ensures.rows c.in-Narrow.cut c.in-Narrow.is c.in_ok-entry-in-Narrow.entry
+    c.in_ok-entry-in-Narrow.ensures.base c.in_ok-entry-in-Narrow.ensures.rows).0
 
 pub returns-in_err-answered-in-Narrow-clause-reads : goal.returns-in_err-answered-in-Narrow-clause-reads
 returns-in_err-answered-in-Narrow-clause-reads g c =
-    due_reads (division c.args.index.now) (asked c.args.request.now) c.args.plan (Narrow c.in-Narrow.cut) (titles_asked (asked c.args.request.now) c.from_residual-in_err-answered-in-Narrow.result) _ (g.S.Store.reads c.args.store.now) _ c.in-Narrow.is (no_reads 0 _) (let r = c.in_err-answered-in-Narrow.ensures.reads in let w = r.within in let e = err_due (asked c.args.request.now) c.from_residual-in_err-answered-in-Narrow.result c.from_residual-in_err-answered-in-Narrow.ensures.0 in record { later = r.later; within = omega (arith, w, e) })
+    kept_reads_err (division c.args.index.now) (asked c.args.request.now) c.args.plan
+    c.from_residual-in_err-answered-in-Narrow.result c.from_residual-in_err-answered-in-Narrow.ensures.0 c.in_err-answered-in-Narrow.ensures.reads
 
 pub returns-in_ok-answered-in-Narrow-clause-told : goal.returns-in_ok-answered-in-Narrow-clause-told
 returns-in_ok-answered-in-Narrow-clause-told g c b is stands good =
-    c.in_ok-answered-in-Narrow.ensures.told b is stands ((narrow_lent c.args.index.now c.args.answers.now.entries c.requires.kept c.args.request.now.query c.requires.limits.query c.args.keys.now c.requires.keys c.args.plan c.requires.plan c.view-view-in-Narrow.result.base.now c.view-view-in-Narrow.result.rows.now.posts
-    c.view-view-in-Narrow.ensures.base c.view-view-in-Narrow.ensures.rows c.in-Narrow.cut c.in-Narrow.is c.in_ok-entry-in-Narrow.entry c.in_ok-entry-in-Narrow.ensures.base c.in_ok-entry-in-Narrow.ensures.rows).1 b good)
+    c.in_ok-answered-in-Narrow.ensures.told b is stands
+    ((narrow_lent c.args.index.now c.args.answers.now.entries c.requires.kept c.args.request.now.query c.requires.limits.query c.args.keys.now
+    c.requires.keys c.args.plan c.requires.plan c.view-view-in-Narrow.result.base.now c.view-view-in-Narrow.result.rows.now.posts
+    c.view-view-in-Narrow.ensures.base c.view-view-in-Narrow.ensures.rows c.in-Narrow.cut c.in-Narrow.is c.in_ok-entry-in-Narrow.entry
+    c.in_ok-entry-in-Narrow.ensures.base c.in_ok-entry-in-Narrow.ensures.rows).1 b good)
 
 pub returns-in_ok-answered-in-Narrow-clause-own : goal.returns-in_ok-answered-in-Narrow-clause-own
 returns-in_ok-answered-in-Narrow-clause-own g c b is stands good =
-    subst (λ o. IfSome o (IsEntryOver b c.args.index.now c.args.request.now.query)) (sym c.in_ok-answered-in-Narrow.ensures.same) ((narrow_lent c.args.index.now c.args.answers.now.entries c.requires.kept c.args.request.now.query c.requires.limits.query c.args.keys.now c.requires.keys c.args.plan c.requires.plan c.view-view-in-Narrow.result.base.now c.view-view-in-Narrow.result.rows.now.posts
-    c.view-view-in-Narrow.ensures.base c.view-view-in-Narrow.ensures.rows c.in-Narrow.cut c.in-Narrow.is c.in_ok-entry-in-Narrow.entry c.in_ok-entry-in-Narrow.ensures.base c.in_ok-entry-in-Narrow.ensures.rows).1 b good)
+    subst (λ o. IfSome o (IsEntryOver b c.args.index.now c.args.request.now.query)) (sym c.in_ok-answered-in-Narrow.ensures.same)
+    ((narrow_lent c.args.index.now c.args.answers.now.entries c.requires.kept c.args.request.now.query c.requires.limits.query c.args.keys.now
+    c.requires.keys c.args.plan c.requires.plan c.view-view-in-Narrow.result.base.now c.view-view-in-Narrow.result.rows.now.posts
+    c.view-view-in-Narrow.ensures.base c.view-view-in-Narrow.ensures.rows c.in-Narrow.cut c.in-Narrow.is c.in_ok-entry-in-Narrow.entry
+    c.in_ok-entry-in-Narrow.ensures.base c.in_ok-entry-in-Narrow.ensures.rows).1 b good)
 
 pub returns-in_ok-answered-in-Narrow-clause-within : goal.returns-in_ok-answered-in-Narrow-clause-within
 returns-in_ok-answered-in-Narrow-clause-within g c =
-    subst (λ o. IfSome o (FitsQuery c.args.index.now c.args.request.now.query)) (sym c.in_ok-answered-in-Narrow.ensures.same) (narrow_lent c.args.index.now c.args.answers.now.entries c.requires.kept c.args.request.now.query c.requires.limits.query c.args.keys.now c.requires.keys c.args.plan c.requires.plan c.view-view-in-Narrow.result.base.now c.view-view-in-Narrow.result.rows.now.posts
-    c.view-view-in-Narrow.ensures.base c.view-view-in-Narrow.ensures.rows c.in-Narrow.cut c.in-Narrow.is c.in_ok-entry-in-Narrow.entry c.in_ok-entry-in-Narrow.ensures.base c.in_ok-entry-in-Narrow.ensures.rows).0
+    subst (λ o. IfSome o (FitsQuery c.args.index.now c.args.request.now.query)) (sym c.in_ok-answered-in-Narrow.ensures.same)
+    (narrow_lent c.args.index.now c.args.answers.now.entries c.requires.kept c.args.request.now.query c.requires.limits.query c.args.keys.now
+    c.requires.keys c.args.plan c.requires.plan c.view-view-in-Narrow.result.base.now c.view-view-in-Narrow.result.rows.now.posts
+    c.view-view-in-Narrow.ensures.base c.view-view-in-Narrow.ensures.rows c.in-Narrow.cut c.in-Narrow.is c.in_ok-entry-in-Narrow.entry
+    c.in_ok-entry-in-Narrow.ensures.base c.in_ok-entry-in-Narrow.ensures.rows).0
 
 pub returns-in_ok-answered-in-Narrow-clause-reads : goal.returns-in_ok-answered-in-Narrow-clause-reads
 returns-in_ok-answered-in-Narrow-clause-reads g c =
-    due_reads (division c.args.index.now) (asked c.args.request.now) c.args.plan (Narrow c.in-Narrow.cut) (length c.in_ok-answered-in-Narrow.answered.0.hits) _ (g.S.Store.reads c.args.store.now) _ c.in-Narrow.is (no_reads 0 _) (c.in_ok-answered-in-Narrow.ensures.reads)
+    kept_reads (division c.args.index.now) (asked c.args.request.now) c.args.plan
+    (length c.in_ok-answered-in-Narrow.answered.0.hits) c.in_ok-answered-in-Narrow.ensures.reads
 
 -- ---- a part more
 pub view-view-requires-in-Extend : goal.view-view-requires-in-Extend
 view-view-requires-in-Extend g c =
-    record { held = is_used c.args.answers.now.entries c.args.request.now.query c.requires.limits.query c.args.keys.now c.requires.keys c.args.plan c.requires.plan (λ f. let no : Extend ≡ Fresh = sym c.in-Extend.is ∙ f in cc) }
+    record {
+      held = is_used c.args.answers.now.entries c.args.request.now.query c.requires.limits.query c.args.keys.now c.requires.keys c.args.plan
+          c.requires.plan (λ f. let no : Extend ≡ Fresh = sym c.in-Extend.is ∙ f in cc);
+    }
 
 pub answered_by_part-requires-clause-some : goal.answered_by_part-requires-clause-some
 answered_by_part-requires-clause-some g c =
-    let several = (extend_lent c.args.index.now c.args.answers.now.entries c.requires.kept c.args.request.now.query c.requires.limits.query c.args.keys.now c.requires.keys c.args.plan c.requires.plan c.view-view-in-Extend.result.base.now c.view-view-in-Extend.result.rows.now.posts
+    let several = (extend_lent c.args.index.now c.args.answers.now.entries c.requires.kept c.args.request.now.query c.requires.limits.query c.args.keys.now
+    c.requires.keys c.args.plan c.requires.plan c.view-view-in-Extend.result.base.now c.view-view-in-Extend.result.rows.now.posts
     c.view-view-in-Extend.ensures.base c.view-view-in-Extend.ensures.rows c.in-Extend.is).0 in
     omega (arith, several)
 
 pub answered_by_part-requires-clause-before : goal.answered_by_part-requires-clause-before
 answered_by_part-requires-clause-before g c =
-    (extend_lent c.args.index.now c.args.answers.now.entries c.requires.kept c.args.request.now.query c.requires.limits.query c.args.keys.now c.requires.keys c.args.plan c.requires.plan c.view-view-in-Extend.result.base.now c.view-view-in-Extend.result.rows.now.posts
+    (extend_lent c.args.index.now c.args.answers.now.entries c.requires.kept c.args.request.now.query c.requires.limits.query c.args.keys.now c.requires.keys
+    c.args.plan c.requires.plan c.view-view-in-Extend.result.base.now c.view-view-in-Extend.result.rows.now.posts
     c.view-view-in-Extend.ensures.base c.view-view-in-Extend.ensures.rows c.in-Extend.is).1
 
 pub returns-in_err-answered-in-Extend-clause-reads : goal.returns-in_err-answered-in-Extend-clause-reads
 returns-in_err-answered-in-Extend-clause-reads g c =
-    all_reads (division c.args.index.now) (asked c.args.request.now) c.args.plan Extend (titles_asked (asked c.args.request.now) c.from_residual-in_err-answered-in-Extend.result) _ _ c.in-Extend.is (let r = c.in_err-answered-in-Extend.ensures.reads in let w = r.within in let e = err_due (asked c.args.request.now) c.from_residual-in_err-answered-in-Extend.result c.from_residual-in_err-answered-in-Extend.ensures.0 in record { later = r.later; within = omega (arith, w, e) })
+    all_reads_err (division c.args.index.now) (asked c.args.request.now) c.args.plan c.from_residual-in_err-answered-in-Extend.result
+    c.from_residual-in_err-answered-in-Extend.ensures.0 Extend c.in-Extend.is c.in_err-answered-in-Extend.ensures.reads
 
 pub returns-in_ok-answered-in-Extend-clause-told : goal.returns-in_ok-answered-in-Extend-clause-told
 returns-in_ok-answered-in-Extend-clause-told g c b is stands good =
-    (c.in_ok-answered-in-Extend.ensures.told b is stands ((extend_lent c.args.index.now c.args.answers.now.entries c.requires.kept c.args.request.now.query c.requires.limits.query c.args.keys.now c.requires.keys c.args.plan c.requires.plan c.view-view-in-Extend.result.base.now c.view-view-in-Extend.result.rows.now.posts
+    (c.in_ok-answered-in-Extend.ensures.told b is stands
+    ((extend_lent c.args.index.now c.args.answers.now.entries c.requires.kept c.args.request.now.query c.requires.limits.query c.args.keys.now
+    c.requires.keys c.args.plan c.requires.plan c.view-view-in-Extend.result.base.now c.view-view-in-Extend.result.rows.now.posts
     c.view-view-in-Extend.ensures.base c.view-view-in-Extend.ensures.rows c.in-Extend.is).2 b good)).reply
 
 pub returns-in_ok-answered-in-Extend-clause-own : goal.returns-in_ok-answered-in-Extend-clause-own
 returns-in_ok-answered-in-Extend-clause-own g c b is stands good =
-    (c.in_ok-answered-in-Extend.ensures.told b is stands ((extend_lent c.args.index.now c.args.answers.now.entries c.requires.kept c.args.request.now.query c.requires.limits.query c.args.keys.now c.requires.keys c.args.plan c.requires.plan c.view-view-in-Extend.result.base.now c.view-view-in-Extend.result.rows.now.posts
+    (c.in_ok-answered-in-Extend.ensures.told b is stands
+    ((extend_lent c.args.index.now c.args.answers.now.entries c.requires.kept c.args.request.now.query c.requires.limits.query c.args.keys.now
+    c.requires.keys c.args.plan c.requires.plan c.view-view-in-Extend.result.base.now c.view-view-in-Extend.result.rows.now.posts
     c.view-view-in-Extend.ensures.base c.view-view-in-Extend.ensures.rows c.in-Extend.is).2 b good)).own
 
 pub returns-in_ok-answered-in-Extend-clause-large : goal.returns-in_ok-answered-in-Extend-clause-large
 returns-in_ok-answered-in-Extend-clause-large g c b is stands good none other =
-    (c.in_ok-answered-in-Extend.ensures.told b is stands ((extend_lent c.args.index.now c.args.answers.now.entries c.requires.kept c.args.request.now.query c.requires.limits.query c.args.keys.now c.requires.keys c.args.plan c.requires.plan c.view-view-in-Extend.result.base.now c.view-view-in-Extend.result.rows.now.posts
+    (c.in_ok-answered-in-Extend.ensures.told b is stands
+    ((extend_lent c.args.index.now c.args.answers.now.entries c.requires.kept c.args.request.now.query c.requires.limits.query c.args.keys.now
+    c.requires.keys c.args.plan c.requires.plan c.view-view-in-Extend.result.base.now c.view-view-in-Extend.result.rows.now.posts
     c.view-view-in-Extend.ensures.base c.view-view-in-Extend.ensures.rows c.in-Extend.is).2 b good)).large none
 
 pub returns-in_ok-answered-in-Extend-clause-reads : goal.returns-in_ok-answered-in-Extend-clause-reads
 returns-in_ok-answered-in-Extend-clause-reads g c =
-    all_reads (division c.args.index.now) (asked c.args.request.now) c.args.plan Extend (length c.in_ok-answered-in-Extend.answered.0.hits) _ _ c.in-Extend.is c.in_ok-answered-in-Extend.ensures.reads
+    all_reads (division c.args.index.now) (asked c.args.request.now) c.args.plan Extend c.in-Extend.is (length c.in_ok-answered-in-Extend.answered.0.hits)
+    c.in_ok-answered-in-Extend.ensures.reads
 
 -- ---- all parts
 pub returns-in_err-answered-in-Fresh-clause-reads : goal.returns-in_err-answered-in-Fresh-clause-reads
 returns-in_err-answered-in-Fresh-clause-reads g c =
-    all_reads (division c.args.index.now) (asked c.args.request.now) c.args.plan Fresh (titles_asked (asked c.args.request.now) c.from_residual-in_err-answered-in-Fresh.result) _ _ c.in-Fresh.is (let r = c.in_err-answered-in-Fresh.ensures.reads in let w = r.within in let e = err_due (asked c.args.request.now) c.from_residual-in_err-answered-in-Fresh.result c.from_residual-in_err-answered-in-Fresh.ensures.0 in record { later = r.later; within = omega (arith, w, e) })
+    all_reads_err (division c.args.index.now) (asked c.args.request.now) c.args.plan c.from_residual-in_err-answered-in-Fresh.result
+    c.from_residual-in_err-answered-in-Fresh.ensures.0 Fresh c.in-Fresh.is c.in_err-answered-in-Fresh.ensures.reads
 
 pub returns-in_ok-answered-in-Fresh-clause-reads : goal.returns-in_ok-answered-in-Fresh-clause-reads
 returns-in_ok-answered-in-Fresh-clause-reads g c =
-    all_reads (division c.args.index.now) (asked c.args.request.now) c.args.plan Fresh (length c.in_ok-answered-in-Fresh.answered.0.hits) _ _ c.in-Fresh.is c.in_ok-answered-in-Fresh.ensures.reads
+    all_reads (division c.args.index.now) (asked c.args.request.now) c.args.plan Fresh c.in-Fresh.is (length c.in_ok-answered-in-Fresh.answered.0.hits)
+    c.in_ok-answered-in-Fresh.ensures.reads
 
 pub returns-in_ok-answered-in-Fresh-clause-told : goal.returns-in_ok-answered-in-Fresh-clause-told
 returns-in_ok-answered-in-Fresh-clause-told g c b is stands good = (c.in_ok-answered-in-Fresh.ensures.told b is stands).reply

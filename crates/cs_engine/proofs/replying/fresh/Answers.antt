@@ -1,29 +1,29 @@
-use Rattle.std.proofs.Common.{◌≡◌, ◌-◌, ◌*◌, ◌≤◌, ◌∙◌, List, length, length-take, map, take, sym, ap, subst, arith, true≢false}
-use Rattle.std.specs.Prelude.{IfSome, is_some, sum}
+use Rattle.std.proofs.Common.{◌≡◌, ◌-◌, ◌*◌, ◌∙◌, List, length, length-take, take, sym, ap, subst, arith, true≢false}
+use Rattle.std.specs.Prelude.{IfSome, is_some}
 use Rattle.std.proofs.lemmas.Grind.{common_steps}
 use Rattle.cs_base.specs.declared.content.query.Part.{Part}
 use Rattle.cs_base.specs.declared.content.scores.TheConstants.{MAX_ROW_SCORE}
-use Rattle.cs_model.specs.Keys.{last_of}
-use Rattle.cs_model_kept.specs.Due.{met_of_last, met_of_part}
 use Rattle.cs_model_kept.specs.KeptListLaws.{before_last}
 use Rattle.cs_query.specs.RequestView.{asked}
 use Rattle.cs_engine.specs.Asking.{division}
 use Rattle.cs_engine.specs.Keeping.{FitsQuery, IsEntryOver}
 use Rattle.cs_engine.specs.Steps.{IsBaseOf}
-use Rattle.cs_engine.proofs.EvaluationLemmas.{met_query-is}
 use Rattle.cs_engine.proofs.LentLemmas.{err_due}
-use Rattle.cs_engine.proofs.PlansLemmas.{first_parts, nothing_over, nothing_own, parts_met}
+use Rattle.cs_engine.proofs.PlansLemmas.{all_met, first_parts, nothing_over, nothing_own}
+use Rattle.cs_engine.proofs.WalkLemmas.{within_both, within_more}
 use Rattle.cs_engine.proofs.replying.fresh.Goals as goal
 
 -- ---- no part
 pub with_reply-requires-clause-entry : goal.with_reply-requires-clause-entry
 with_reply-requires-clause-entry g c =
-    nothing_own c.args.request.now.query c.as_slice-parts.result.now c.as_slice-parts.ensures (grind (arith, common_steps)) c.nothing_kept-entry.result c.nothing_kept-entry.ensures c.args.index.now
+    nothing_own c.args.request.now.query c.as_slice-parts.result.now c.as_slice-parts.ensures
+    (grind (arith, common_steps)) c.nothing_kept-entry.result c.nothing_kept-entry.ensures c.args.index.now
 
 pub returns-then-is_empty-clause-told : goal.returns-then-is_empty-clause-told
 returns-then-is_empty-clause-told g c b is stands =
     let q = c.args.request.now.query in
-    let over = nothing_over q c.as_slice-parts.result.now c.as_slice-parts.ensures (grind (arith, common_steps)) c.nothing_kept-entry.result c.nothing_kept-entry.ensures b c.args.index.now stands c.requires.index in
+    let over = nothing_over q c.as_slice-parts.result.now c.as_slice-parts.ensures
+    (grind (arith, common_steps)) c.nothing_kept-entry.result c.nothing_kept-entry.ensures b c.args.index.now stands c.requires.opened.index in
     record {
       reply = c.in_ok-answered.ensures.told b is stands over;
       own = subst (λ o. IfSome o (IsEntryOver b c.args.index.now q)) (sym c.in_ok-answered.ensures.same) over;
@@ -33,33 +33,20 @@ returns-then-is_empty-clause-told g c b is stands =
 pub returns-then-is_empty-clause-within : goal.returns-then-is_empty-clause-within
 returns-then-is_empty-clause-within g c =
     subst (λ o. IfSome o (FitsQuery c.args.index.now c.args.request.now.query)) (sym c.in_ok-answered.ensures.same)
-    (nothing_own c.args.request.now.query c.as_slice-parts.result.now c.as_slice-parts.ensures (grind (arith, common_steps)) c.nothing_kept-entry.result c.nothing_kept-entry.ensures c.args.index.now)
+    (nothing_own c.args.request.now.query c.as_slice-parts.result.now c.as_slice-parts.ensures
+    (grind (arith, common_steps)) c.nothing_kept-entry.result c.nothing_kept-entry.ensures c.args.index.now)
 
 -- ---- the parts before the last, and that one
 pub returns-in_err-hits-clause-reads : goal.returns-in_err-hits-clause-reads
 returns-in_err-hits-clause-reads g c =
-    let v = division c.args.index.now in
-    let q = c.args.request.now.query in
-    let parts = c.as_slice-parts.result.now in
-    let some : 1 ≤ length parts = grind (arith, common_steps) in
-    let all = met_query-is v q ∙ ap (λ (xs : List Part). sum (map (met_of_part v) xs)) (sym c.as_slice-parts.ensures) in
-    let met = parts_met v parts some in
-    let reads = c.hits_of_parts.ensures.reads in
-    record { later = reads.later; within = (let w = reads.within in omega (arith, w, met, all)) }
+    let met = all_met (division c.args.index.now) c.args.request.now.query c.as_slice-parts.result.now c.as_slice-parts.ensures (grind (arith, common_steps)) in
+    within_more c.hits_of_parts.ensures.reads (omega (arith, met))
 
 pub returns-in_err-answered-2-clause-reads : goal.returns-in_err-answered-2-clause-reads
 returns-in_err-answered-2-clause-reads g c =
-    let v = division c.args.index.now in
-    let q = c.args.request.now.query in
-    let parts = c.as_slice-parts.result.now in
-    let some : 1 ≤ length parts = grind (arith, common_steps) in
-    let all = met_query-is v q ∙ ap (λ (xs : List Part). sum (map (met_of_part v) xs)) (sym c.as_slice-parts.ensures) in
-    let met = parts_met v parts some in
-    let last = ap (λ (xs : List Part). met_of_last v (last_of xs)) c.as_slice-parts.ensures in
-    let first = c.hits_of_parts.ensures.reads in
-    let then = c.in_err-answered-2.ensures.reads in
+    let met = all_met (division c.args.index.now) c.args.request.now.query c.as_slice-parts.result.now c.as_slice-parts.ensures (grind (arith, common_steps)) in
     let due = err_due (asked c.args.request.now) c.from_residual-in_err-answered-2.result c.from_residual-in_err-answered-2.ensures.0 in
-    record { later = (let l = first.later in let m = then.later in omega (arith, l, m)); within = (let a = first.within in let w = then.within in omega (arith, a, w, met, all, last, due)) }
+    within_both c.hits_of_parts.ensures.reads c.in_err-answered-2.ensures.reads (omega (arith, met, due))
 
 pub answered_by_hits-requires-clause-base : goal.answered_by_hits-requires-clause-base
 answered_by_hits-requires-clause-base g c =
@@ -72,17 +59,10 @@ pub returns-clause-told : goal.returns-clause-told
 returns-clause-told g c b is stands =
     let q = c.args.request.now.query in
     let are = ap (λ (xs : List Part). take (length xs - 1) xs) c.as_slice-parts.ensures in
-    c.in_ok-answered-2.ensures.told b (c.hits_of_parts.ensures.bytes ∙ is) stands (c.in_ok-hits.ensures.told b is stands (before_last q) (first_parts q _ are))
+    c.in_ok-answered-2.ensures.told b (c.hits_of_parts.ensures.store.bytes ∙ is) stands
+    (c.in_ok-hits.ensures.told b is stands (before_last q) (first_parts q _ are))
 
 pub returns-clause-reads : goal.returns-clause-reads
 returns-clause-reads g c =
-    let v = division c.args.index.now in
-    let q = c.args.request.now.query in
-    let parts = c.as_slice-parts.result.now in
-    let some : 1 ≤ length parts = grind (arith, common_steps) in
-    let all = met_query-is v q ∙ ap (λ (xs : List Part). sum (map (met_of_part v) xs)) (sym c.as_slice-parts.ensures) in
-    let met = parts_met v parts some in
-    let last = ap (λ (xs : List Part). met_of_last v (last_of xs)) c.as_slice-parts.ensures in
-    let first = c.hits_of_parts.ensures.reads in
-    let then = c.in_ok-answered-2.ensures.reads in
-    record { later = (let l = first.later in let m = then.later in omega (arith, l, m)); within = (let a = first.within in let w = then.within in omega (arith, a, w, met, all, last)) }
+    let met = all_met (division c.args.index.now) c.args.request.now.query c.as_slice-parts.result.now c.as_slice-parts.ensures (grind (arith, common_steps)) in
+    within_both c.hits_of_parts.ensures.reads c.in_ok-answered-2.ensures.reads (omega (arith, met))

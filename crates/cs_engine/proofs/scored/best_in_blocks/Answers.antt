@@ -1,29 +1,32 @@
-use Rattle.std.proofs.Common.{◌≡◌, refl, ◌∙◌, subst, arith}
+use Rattle.std.proofs.Common.{◌≡◌, ◌<◌, ◌∙◌, refl, sym, subst, arith}
+use Rattle.std.specs.Prelude.{All}
+use Rattle.cs_file.specs.Indexes.{block_posts}
 use Rattle.cs_model_index.specs.Sections.{image_of}
 use Rattle.cs_tables.specs.WordCounts.{is_chosen}
 use Rattle.cs_engine.specs.Loose.{HasBestScores}
 use Rattle.cs_engine.specs.IndexReading.{run_of}
 use Rattle.cs_engine.proofs.BehindLemmas.{best_found, best_more}
-use Rattle.cs_engine.proofs.WalkLemmas.{walk_begins, walk_ends, walk_goes_on, walk_stops}
+use Rattle.cs_engine.proofs.WalkLemmas.{walk_ends, walk_goes_on, walk_stops}
 use Rattle.cs_engine.proofs.scored.best_in_blocks.Goals as goal
 
-pub returns-in_err-raise_block-clause-reads : goal.returns-in_err-raise_block-clause-reads
-returns-in_err-raise_block-clause-reads g c =
-    walk_stops g.S.Store.bytes g.S.Store.lent g.S.Store.reads g.S.Store.faults c.args.store.now c.blocks-first.result.0 c.loop-k.store c.loop-k.k c.loop-k.invariant.walk c.raise_block.new.store
-    c.args.index.now.heads c.args.words.0 c.args.words.1 c.blocks-first.result.1 c.blocks-first.ensures c.loop-k-test.true c.raise_block.ensures.reads
+pub returns-in_err-fetch_scored-clause-reads : goal.returns-in_err-fetch_scored-clause-reads
+returns-in_err-fetch_scored-clause-reads g c = walk_stops c.loop-k.invariant.walk c.blocks-first.ensures c.loop-k-test.true c.fetch_scored.ensures.reads
+
+pub raise_rows-requires-clause-known : goal.raise_rows-requires-clause-known
+raise_rows-requires-clause-known g c =
+    subst (λ n. All (λ d. d < n) c.fetch_scored.new.into.docs.items) (sym c.loop-k.invariant.len) c.in_ok-fetch_scored.ensures.docs
 
 pub loop-k-preserved : goal.loop-k-preserved
 loop-k-preserved g c =
     let inv = c.loop-k.invariant in
-    let call = c.raise_block.ensures in
-    let within = c.blocks-first.ensures.within in
+    let read = c.in_ok-fetch_scored.ensures in
     record {
-      walk = walk_goes_on g.S.Store.bytes g.S.Store.lent g.S.Store.reads g.S.Store.faults c.args.store.now c.blocks-first.result.0 c.loop-k.store c.loop-k.k inv.walk c.raise_block.new.store
-          call.bytes call.lent call.reads (c.in_ok-raise_block.ensures.caused.quiet refl);
+      walk = walk_goes_on inv.walk (record { unchanged = λ b is stands. refl; bytes = read.bytes; lent = read.lent; caused = read.caused }) read.reads;
       scored = λ b is stands.
-          best_more b c.args.index.now stands c.requires.index c.args.words.0 c.args.words.1 c.args.listed.now c.blocks-first.result.0 c.loop-k.k c.loop-k.best.items c.raise_block.new.best.items
-          inv.walk.from (omega (arith, within, c.loop-k-test.true)) (c.in_ok-raise_block.ensures.scored b (inv.walk.bytes ∙ is) stands) (inv.scored b is stands);
-      len = call.len ∙ inv.len;
+          best_more b c.args.index.now stands c.requires.opened.index c.args.words.0 c.args.words.1 c.args.listed.now c.blocks-first.result.0 c.loop-k.k
+          c.loop-k.best.items c.raise_rows.new.best.items c.loop-k.auto.k (omega (arith, c.blocks-first.ensures.within, c.loop-k-test.true))
+          (c.raise_rows.ensures.best (block_posts b c.loop-k.k) (read.stood b (inv.walk.store.bytes ∙ is) stands)) (inv.scored b is stands);
+      len = c.raise_rows.ensures.len ∙ inv.len;
     }
 
 pub returns-clause-told : goal.returns-clause-told
@@ -36,11 +39,8 @@ returns-clause-told g c b is stands =
     let listed = c.args.listed.now in
     let up = met.ordered in
     let done : c.loop-k.k ≡ last = omega (arith, c.loop-k-test.false, c.loop-k.auto.k-end, up) in
-    best_found b c.args.index.now stands c.requires.index lo hi listed first last c.loop-k.best.items met
+    best_found b c.args.index.now stands c.requires.opened.index lo hi listed first last c.loop-k.best.items met
     (subst (λ k. HasBestScores (run_of (image_of b).blocks first k (is_chosen lo hi listed)) c.loop-k.best.items) done (c.loop-k.invariant.scored b is stands))
 
 pub returns-clause-reads : goal.returns-clause-reads
-returns-clause-reads g c =
-    let up = c.blocks-first.ensures.ordered in
-    walk_ends g.S.Store.bytes g.S.Store.lent g.S.Store.reads g.S.Store.faults c.args.store.now c.blocks-first.result.0 c.loop-k.store c.loop-k.k c.loop-k.invariant.walk
-    c.args.index.now.heads c.args.words.0 c.args.words.1 c.blocks-first.result.1 c.blocks-first.ensures (omega (arith, up, c.loop-k.auto.k-end))
+returns-clause-reads g c = walk_ends c.loop-k.invariant.walk c.blocks-first.ensures c.loop-k.auto.k-end

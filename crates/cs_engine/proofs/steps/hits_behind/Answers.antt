@@ -1,4 +1,4 @@
-use Rattle.std.proofs.Common.{◌≡◌, ◌*◌, ◌+◌, ◌≤◌, not, sym, ap, subst, ◌∙◌, arith}
+use Rattle.std.proofs.Common.{◌*◌, ◌+◌, not, sym, ap, subst, ◌∙◌}
 use Rattle.cs_base.specs.content.Orders.{AreSorted}
 use Rattle.cs_base.specs.declared.content.doc.Post.{Post}
 use Rattle.cs_base.specs.declared.content.limits.TheConstants.{MAX_PARTS}
@@ -13,18 +13,18 @@ use Rattle.cs_engine.specs.Stocked.{corpus_in}
 use Rattle.cs_engine.proofs.FoundLemmas.{is_excluded}
 use Rattle.cs_engine.proofs.PartSteps.{base_in, hits_in}
 use Rattle.cs_engine.proofs.BehindLemmas.{behind_words, most_more}
+use Rattle.cs_engine.proofs.WalkLemmas.{within_more}
 use Rattle.cs_engine.proofs.steps.hits_behind.Goals as goal
 
 -- ---- a part that asks for some words
 pub returns-in-Some-clause-told : goal.returns-in-Some-clause-told
 returns-in-Some-clause-told g c b is stands =
-    behind_words b c.args.index.now stands c.requires.index c.args.part.now c.args.hits c.in-Some.words.0 c.in-Some.words.1 c.in_ok-scored.scored c.in-Some.ensures.positive c.in-Some.ensures.words (c.in_ok-scored.ensures.told b is stands)
+    behind_words b c.args.index.now stands c.requires.opened.index c.args.part.now c.args.hits c.in-Some.words.0 c.in-Some.words.1 c.in_ok-scored.scored
+    c.in-Some.ensures.positive c.in-Some.ensures.words (c.in_ok-scored.ensures.told b is stands)
 
 pub returns-in-Some-clause-reads : goal.returns-in-Some-clause-reads
 returns-in-Some-clause-reads g c =
-    let few = c.in-Some.ensures.words.few in
-    let reads = c.in_ok-scored.ensures.reads in
-    record { later = reads.later; within = (let w = reads.within in omega (arith, w, few)) }
+    within_more c.in_ok-scored.ensures.reads c.in-Some.ensures.words.few
 
 -- ---- another part
 pub hits_of-requires-clause-base : goal.hits_of-requires-clause-base

@@ -1,21 +1,16 @@
 use Rattle.std.proofs.Common.{◌≡◌, ◌*◌, length, refl, subst, ◌∙◌, arith}
 use Rattle.cs_base.specs.declared.content.limits.TheConstants.{MAX_PARTS}
 use Rattle.cs_base.specs.declared.content.scores.TheConstants.{MAX_ROW_SCORE}
-use Rattle.cs_model_kept.specs.Due.{met_of_part}
-use Rattle.cs_engine.specs.Asking.{division}
 use Rattle.cs_engine.specs.IndexReading.{stock_of}
 use Rattle.cs_engine.specs.Steps.{IsBaseOf}
-use Rattle.cs_engine.proofs.EvaluationLemmas.{hits_end, hits_go_on, next_left}
+use Rattle.cs_engine.proofs.EvaluationLemmas.{hits_end, hits_go_on}
 use Rattle.cs_engine.proofs.PartSteps.{base_weaker}
+use Rattle.cs_engine.proofs.WalkLemmas.{list_begins, list_goes_on, list_stops}
 use Rattle.cs_engine.proofs.steps.hits_of_parts.Goals as goal
 
 pub loop-part-init : goal.loop-part-init
 loop-part-init g c = record {
-  bytes = refl;
-  lent = refl;
-  later = omega arith;
-  reads = omega arith;
-  quiet = refl;
+  walk = list_begins refl refl;
   within = tt;
   told = λ b is stands. refl;
 }
@@ -23,42 +18,27 @@ loop-part-init g c = record {
 pub hits_behind-requires-clause-base : goal.hits_behind-requires-clause-base
 hits_behind-requires-clause-base g c =
     let few = c.requires.few in
-    base_weaker c.args.index.now.docs (MAX_ROW_SCORE * c.loop-part.part-index) (MAX_ROW_SCORE * MAX_PARTS) c.loop-part.hits (omega (arith, few, c.loop-part-test.true)) c.loop-part.invariant.within
+    base_weaker c.args.index.now.docs (MAX_ROW_SCORE * c.loop-part.part-index) (MAX_ROW_SCORE * MAX_PARTS) c.loop-part.hits
+    (omega (arith, few, c.loop-part-test.true)) c.loop-part.invariant.within
 
 pub returns-in_err-hits-clause-reads : goal.returns-in_err-hits-clause-reads
 returns-in_err-hits-clause-reads g c =
-    let v = division c.args.index.now in
-    let inv = c.loop-part.invariant in
-    let left = next_left (met_of_part v) c.args.parts.now c.loop-part.part-index c.part-item.result c.loop-part-test.true c.part-item.is in
-    let reads = c.hits_behind.ensures.reads in
-    let later = reads.later in
-    let within = reads.within in
-    record { later = omega (arith, inv.later, later); within = omega (arith, inv.reads, left, within) }
+    list_stops c.loop-part.invariant.walk c.loop-part-test.true c.part-item.is c.hits_behind.ensures.reads
 
 pub loop-part-preserved : goal.loop-part-preserved
 loop-part-preserved g c =
-    let v = division c.args.index.now in
     let n = c.loop-part.part-index in
     let inv = c.loop-part.invariant in
-    let call = c.hits_behind.ensures in
-    let items = c.args.parts.now in
-    let x = c.part-item.result in
-    let left = next_left (met_of_part v) items n x c.loop-part-test.true c.part-item.is in
-    let reads = call.reads in
-    let later = reads.later in
-    let within = reads.within in
     record {
-      bytes = call.bytes ∙ inv.bytes;
-      lent = call.lent ∙ inv.lent;
-      later = omega (arith, inv.later, later);
-      reads = omega (arith, inv.reads, left, within);
-      quiet = c.in_ok-hits.ensures.caused.quiet refl ∙ inv.quiet;
+      walk = list_goes_on inv.walk c.loop-part-test.true c.part-item.is c.in_ok-hits.ensures.store c.in_ok-hits.ensures.reads;
       within = c.in_ok-hits.ensures.within n inv.within;
-      told = λ b is stands. hits_go_on (stock_of b) items n x c.loop-part-test.true c.part-item.is c.loop-part.hits c.in_ok-hits.hits (inv.told b is stands) (c.in_ok-hits.ensures.told b (inv.bytes ∙ is) stands);
+      told = λ b is stands. hits_go_on (stock_of b) c.args.parts.now n c.part-item.result c.loop-part-test.true c.part-item.is c.loop-part.hits
+          c.in_ok-hits.hits (inv.told b is stands) (c.in_ok-hits.ensures.told b (inv.walk.store.bytes ∙ is) stands);
     }
 
 pub returns-clause-told : goal.returns-clause-told
-returns-clause-told g c b is stands q are = hits_end (stock_of b) c.args.parts.now q c.loop-part.part-index c.loop-part.hits are (omega (arith, c.loop-part-test.false)) (c.loop-part.invariant.told b is stands)
+returns-clause-told g c b is stands q are = hits_end (stock_of b) c.args.parts.now q c.loop-part.part-index c.loop-part.hits are
+    (omega (arith, c.loop-part-test.false)) (c.loop-part.invariant.told b is stands)
 
 pub returns-clause-within : goal.returns-clause-within
 returns-clause-within g c =

@@ -9,12 +9,14 @@ use Rattle.cs_engine.proofs.words.span_of_word.Goals as goal
 pub returns-in-Some-clause-span : goal.returns-in-Some-clause-span
 returns-in-Some-clause-span c =
     let same = ap (λ (x : IndexView). x.words) c.index.view_is in
-    word_span c.args.index.now c.requires.index c.in-Some.n c.args.word.now (subst (λ (ws : List (List ℕ)). IsWordAt ws c.in-Some.n c.args.word.now) same c.in-Some.ensures.found)
+    word_span c.args.index.now c.requires.index c.in-Some.n c.args.word.now
+    (subst (λ (ws : List (List ℕ)). IsWordAt ws c.in-Some.n c.args.word.now) same c.in-Some.ensures.found)
 
 pub returns-in-Some-clause-none : goal.returns-in-Some-clause-none
 returns-in-Some-clause-none c none =
     let same = ap (λ (x : IndexView). x.words) c.index.view_is in
-    absurd (true≢false (sym (word_there c.args.index.now.words c.in-Some.n c.args.word.now (subst (λ (ws : List (List ℕ)). IsWordAt ws c.in-Some.n c.args.word.now) same c.in-Some.ensures.found)) ∙ none))
+    absurd (true≢false (sym (word_there c.args.index.now.words c.in-Some.n c.args.word.now
+    (subst (λ (ws : List (List ℕ)). IsWordAt ws c.in-Some.n c.args.word.now) same c.in-Some.ensures.found)) ∙ none))
 
 pub returns-in-None-clause-span : goal.returns-in-None-clause-span
 returns-in-None-clause-span c =

@@ -1,41 +1,40 @@
 use Rattle.std.proofs.Common.{◌≡◌, ◌<◌, ◌≤◌, ◌++◌, ap, length, sym, subst, ◌∙◌, arith}
 use Rattle.std.specs.Prelude.{All, filter}
 use Rattle.cs_base.specs.declared.content.scores.TheConstants.{TITLE_SCORE}
-use Rattle.cs_file.specs.Indexes.{block_posts}
 use Rattle.cs_tables.specs.WordCounts.{is_chosen}
 use Rattle.cs_engine.specs.Loose.{HasBestScores}
 use Rattle.cs_engine.proofs.BestLemmas.{written_back}
-use Rattle.cs_engine.proofs.scored.raise_block.Goals as goal
+use Rattle.cs_engine.proofs.best.raise_rows.Goals as goal
 
 pub raise_chosen-requires-clause-words_even : goal.raise_chosen-requires-clause-words_even
-raise_chosen-requires-clause-words_even g c = ap length c.deref-2.ensures.value ∙ c.in_ok-fetch_scored.ensures.words_even ∙ sym (ap length c.deref.ensures.value)
+raise_chosen-requires-clause-words_even c = ap length c.deref-2.ensures.value ∙ c.requires.words_even ∙ sym (ap length c.deref.ensures.value)
 
 pub raise_chosen-requires-clause-scores_even : goal.raise_chosen-requires-clause-scores_even
-raise_chosen-requires-clause-scores_even g c = ap length c.deref-3.ensures.value ∙ c.in_ok-fetch_scored.ensures.scores_even ∙ sym (ap length c.deref.ensures.value)
+raise_chosen-requires-clause-scores_even c = ap length c.deref-3.ensures.value ∙ c.requires.scores_even ∙ sym (ap length c.deref.ensures.value)
 
 pub raise_chosen-requires-clause-known : goal.raise_chosen-requires-clause-known
-raise_chosen-requires-clause-known g c =
+raise_chosen-requires-clause-known c =
     subst (All (λ d. d < length c.deref_mut.result.now)) (sym c.deref.ensures.value)
-    (subst (λ n. All (λ d. d < n) c.fetch_scored.new.into.docs.items) (sym (ap length c.deref_mut.ensures.value ∙ c.requires.best)) c.in_ok-fetch_scored.ensures.docs)
+    (subst (λ n. All (λ d. d < n) c.args.block.now.docs.items) (sym (ap length c.deref_mut.ensures.value)) c.requires.known)
 
 pub raise_chosen-requires-clause-long : goal.raise_chosen-requires-clause-long
-raise_chosen-requires-clause-long g c = c.requires.listed ∙ sym (ap length c.deref_mut.ensures.value ∙ c.requires.best)
+raise_chosen-requires-clause-long c = c.requires.long ∙ sym (ap length c.deref_mut.ensures.value)
 
 pub raise_chosen-requires-clause-small : goal.raise_chosen-requires-clause-small
-raise_chosen-requires-clause-small g c = subst (All (λ s. s ≤ TITLE_SCORE)) (sym c.deref-3.ensures.value) c.in_ok-fetch_scored.ensures.scores
+raise_chosen-requires-clause-small c = subst (All (λ s. s ≤ TITLE_SCORE)) (sym c.deref-3.ensures.value) c.requires.small
 
-pub returns-clause-scored : goal.returns-clause-scored
-returns-clause-scored g c b is stands = λ seen has.
-    let read = c.in_ok-fetch_scored.ensures.stood b is stands in
+pub returns-clause-best : goal.returns-clause-best
+returns-clause-best c rows are seen has =
     let new = c.raise_chosen.new.best in
     let old = c.args.best.now.items in
     let long : length new ≡ length old = c.raise_chosen.ensures.len ∙ ap length c.deref_mut.ensures.value in
     let back = written_back c.args.best.now.len new old long (omega (arith, c.deref_mut.ensures.len, ap length c.deref_mut.ensures.value)) in
-    subst (HasBestScores (seen ++ filter (is_chosen c.args.words.0 c.args.words.1 c.args.listed.now) (block_posts b c.args.k))) (sym back)
-    (c.raise_chosen.ensures.best (block_posts b c.args.k) ((c.deref.ensures.value ∙ read.0.0, c.deref-2.ensures.value ∙ read.0.1), c.deref-3.ensures.value ∙ read.1) seen (subst (HasBestScores seen) (sym c.deref_mut.ensures.value) has))
+    subst (HasBestScores (seen ++ filter (is_chosen c.args.words.0 c.args.words.1 c.args.listed.now) rows)) (sym back)
+    (c.raise_chosen.ensures.best rows ((c.deref.ensures.value ∙ are.0.0, c.deref-2.ensures.value ∙ are.0.1), c.deref-3.ensures.value ∙ are.1) seen
+    (subst (HasBestScores seen) (sym c.deref_mut.ensures.value) has))
 
 pub returns-clause-len : goal.returns-clause-len
-returns-clause-len g c =
+returns-clause-len c =
     let new = c.raise_chosen.new.best in
     let old = c.args.best.now.items in
     let long : length new ≡ length old = c.raise_chosen.ensures.len ∙ ap length c.deref_mut.ensures.value in
