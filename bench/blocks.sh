@@ -14,30 +14,12 @@ mkdir -p "$dir"
 cd "$dir"
 
 cat > blocks.cpp <<'CPP'
-#include <algorithm>
-#include <cstdint>
-#include <cstdio>
-#include <cstdlib>
-#include <string>
-#include <vector>
-using std::vector;
-using u8 = uint8_t;
-using u32 = uint32_t;
-using u64 = uint64_t;
+#include "columns.h"
 
-struct Cols {
-    vector<u32> docs, words, places;
-    vector<u8> scores;
-    size_t size() const { return docs.size(); }
-    void reserve(size_t n) { docs.reserve(n); words.reserve(n); places.reserve(n); scores.reserve(n); }
-    void resize(size_t n) { docs.resize(n); words.resize(n); places.resize(n); scores.resize(n); }
-    void push(u32 doc, u32 word, u32 place, u8 score) { docs.push_back(doc); words.push_back(word); places.push_back(place); scores.push_back(score); }
-};
 struct Head { u32 lo, words, rows, len; bool facet; };
 struct Broken { u32 n, at; };
 
 // ---- the block
-static u32 next(u64 &x) { x = x * 6364136223846793005u + 1442695040888963407u; return x >> 33; }
 static void put_gap(vector<u8> &out, u32 n) {
     while (n >= 128) { out.push_back(n % 128 + 128); n /= 128; }
     out.push_back(n);
@@ -120,21 +102,24 @@ static Broken decode(const vector<u8> &bytes, const Head &h, u32 docs, Cols &int
 }
 
 // ---- no rule
+static inline u32 known_gap(const u8 *&p) {
+    u32 n = *p++;
+    if (n >= 128) {
+        n -= 128;
+        for (int shift = 7;; shift += 7) {
+            const u32 b = *p++;
+            n |= b % 128 << shift;
+            if (b < 128) break;
+        }
+    }
+    return n;
+}
 static void decode_unchecked(const vector<u8> &bytes, const Head &h, Cols &into) {
     const u8 *p = bytes.data(), *words = p + h.len - 7 * h.rows, *places = words + 2 * h.rows, *scores = places + 4 * h.rows;
     into.reserve(into.size() + h.rows);
     u32 doc = 0;
     for (u32 i = 0; i < h.rows; i++) {
-        u32 n = *p++;
-        if (n >= 128) {
-            n -= 128;
-            for (int shift = 7;; shift += 7) {
-                const u32 b = *p++;
-                n |= b % 128 << shift;
-                if (b < 128) break;
-            }
-        }
-        doc += n;
+        doc += known_gap(p);
         into.push(doc, h.lo + be16(words + 2 * i), be32(places + 4 * i), scores[i]);
     }
 }
@@ -147,16 +132,7 @@ static void decode_columns(const vector<u8> &bytes, const Head &h, Cols &into) {
     u32 *docs = into.docs.data() + first, *numbers = into.words.data() + first, *positions = into.places.data() + first;
     u32 doc = 0;
     for (u32 i = 0; i < h.rows; i++) {
-        u32 n = *p++;
-        if (n >= 128) {
-            n -= 128;
-            for (int shift = 7;; shift += 7) {
-                const u32 b = *p++;
-                n |= b % 128 << shift;
-                if (b < 128) break;
-            }
-        }
-        doc += n;
+        doc += known_gap(p);
         docs[i] = doc;
     }
     for (u32 i = 0; i < h.rows; i++) numbers[i] = h.lo + be16(words + 2 * i);
@@ -183,37 +159,27 @@ int main(int, char **v) {
     printf("%llu %u\n", (unsigned long long)sum, head.len);
 }
 CPP
-g++ -O2 -std=c++17 -o blocks blocks.cpp
+g++ -O2 -std=c++17 -I "$here/bench" -o blocks blocks.cpp
 
-python3 - "$here/crates/timed/out/timed" ./blocks <<'PY'
-import os, subprocess, sys
+PYTHONPATH="$here/bench" python3 -B - "$here/crates/timed/out/timed" ./blocks <<'PY'
+import sys
+from passes import pass_of, run
 ours, plain = sys.argv[1:]
-
-def run(program, rows, stride, times):
-    p = subprocess.Popen(program + [str(times), str(rows), str(stride)], stdout=subprocess.PIPE, text=True)
-    out = p.stdout.read().split()
-    _, status, used = os.wait4(p.pid, 0)
-    assert status == 0, (program, rows, stride, status)
-    return out, used.ru_utime + used.ru_stime
-
-def each(program, rows, stride, n):
-    out, one = run(program, rows, stride, 1)
-    more, many = run(program, rows, stride, n + 1)
-    return out, more, (many - one) / n
 
 print('nanoseconds a row; behind them how many times those of C++')
 print(f'{"rows":>8} {"stride":>8} {"bytes":>8} {"decode":>9} {"rules":>9} {"rows":>9} {"columns":>9} {"rules":>6} {"rows":>6} {"columns":>7}')
 for rows, stride, n in ((8192, 1, 8000), (8192, 100, 8000), (8192, 170, 8000), (64, 1, 800000)):
-    programs = ([ours, 'decode'], [plain, 'rules'], [plain, 'rows'], [plain, 'columns'])
+    programs = ((ours, 'decode'), (plain, 'rules'), (plain, 'rows'), (plain, 'columns'))
     times = ([], [], [], [])
     for _ in range(9):
         outs = []
-        for k, program in enumerate(programs):
-            a, more, t = each(program, rows, stride, n)
+        for k, (program, form) in enumerate(programs):
+            a, more, t = pass_of(program, form, rows, stride, n)
             outs.append((a[0], more[0]))
             times[k].append(t)
         assert outs[0] == outs[1] == outs[2] == outs[3], (rows, stride, outs)
-    bytes_ = run([plain, 'rules'], rows, stride, 1)[0][1]
+    bytes_ = run(plain, 'rules', rows, stride, 1)[0][1]
     mine, *theirs = (sorted(t)[4] * 1e9 / rows for t in times)
-    print(f'{rows:8} {stride:8} {bytes_:>8} {mine:9.2f} ' + ' '.join(f'{t:9.2f}' for t in theirs) + ' ' + ' '.join(f'{mine / t:6.2f}' for t in theirs), flush=True)
+    all_times = ' '.join(f'{t:9.2f}' for t in (mine, *theirs))
+    print(f'{rows:8} {stride:8} {bytes_:>8} {all_times} ' + ' '.join(f'{mine / t:6.2f}' for t in theirs), flush=True)
 PY

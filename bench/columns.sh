@@ -14,29 +14,11 @@ mkdir -p "$dir"
 cd "$dir"
 
 cat > columns.cpp <<'CPP'
-#include <algorithm>
-#include <cstdint>
-#include <cstdio>
-#include <cstdlib>
-#include <string>
-#include <vector>
-using std::vector;
-using u8 = uint8_t;
-using u32 = uint32_t;
-using u64 = uint64_t;
+#include "columns.h"
 
-struct Cols {
-    vector<u32> docs, words, places;
-    vector<u8> scores;
-    size_t size() const { return docs.size(); }
-    void reserve(size_t n) { docs.reserve(n); words.reserve(n); places.reserve(n); scores.reserve(n); }
-    void push(u32 doc, u32 word, u32 place, u8 score) { docs.push_back(doc); words.push_back(word); places.push_back(place); scores.push_back(score); }
-    void push(const Cols &from, size_t i) { push(from.docs[i], from.words[i], from.places[i], from.scores[i]); }
-};
 struct Scored { u32 doc, score; };
 
 // ---- the inputs
-static u32 next(u64 &x) { x = x * 6364136223846793005u + 1442695040888963407u; return x >> 33; }
 static Cols posts(u32 count, u64 x) {
     Cols made;
     made.reserve(count);
@@ -232,23 +214,12 @@ int main(int, char **v) {
     printf("%llu %zu\n", (unsigned long long)sum, read);
 }
 CPP
-g++ -O2 -std=c++17 -o columns columns.cpp
+g++ -O2 -std=c++17 -I "$here/bench" -o columns columns.cpp
 
-python3 - "$here/crates/timed/out/timed" ./columns <<'PY'
-import os, subprocess, sys
+PYTHONPATH="$here/bench" python3 -B - "$here/crates/timed/out/timed" ./columns <<'PY'
+import sys
+from passes import pass_of
 ours, plain = sys.argv[1:]
-
-def run(program, call, rows, other, times):
-    p = subprocess.Popen([program, call, str(times), str(rows), str(other)], stdout=subprocess.PIPE, text=True)
-    out = p.stdout.read().split()
-    _, status, used = os.wait4(p.pid, 0)
-    assert status == 0, (program, call, status)
-    return out, used.ru_utime + used.ru_stime
-
-def each(program, call, rows, other, n):
-    out, one = run(program, call, rows, other, 1)
-    more, many = run(program, call, rows, other, n + 1)
-    return out, more, (many - one) / n
 
 million, thousand = 1_000_000, 1_000
 cases = []
@@ -264,12 +235,13 @@ print(f'{"call":12} {"rows":>8} {"other":>8} {"ours us":>9} {"C++ us":>9} {"ours
 for call, rows, other, n in cases:
     times = ([], [])
     for _ in range(5):
-        a, a_more, t = each(ours, call, rows, other, n)
+        a, a_more, t = pass_of(ours, call, rows, other, n)
         times[0].append(t)
-        b, b_more, t = each(plain, call, rows, other, n)
+        b, b_more, t = pass_of(plain, call, rows, other, n)
         times[1].append(t)
         assert a[0] == b[0] and a_more[0] == b_more[0], (call, rows, other, a, b)
     read = int(b[1])
     mine, theirs = (sorted(t)[2] for t in times)
-    print(f'{call:12} {rows:8} {other:8} {mine * 1e6:9.1f} {theirs * 1e6:9.1f} {mine * 1e9 / read:12.2f} {theirs * 1e9 / read:11.2f} {mine / theirs:6.2f}', flush=True)
+    by_pass = f'{mine * 1e6:9.1f} {theirs * 1e6:9.1f} {mine * 1e9 / read:12.2f} {theirs * 1e9 / read:11.2f}'
+    print(f'{call:12} {rows:8} {other:8} {by_pass} {mine / theirs:6.2f}', flush=True)
 PY

@@ -124,7 +124,7 @@ run() { /usr/bin/time -f '%U %S %M' -o used "$@" >printed; awk '{printf "%.2f %.
 pass() { # PROGRAM FILE
     one=$(run "$1" collection 1 "$2")
     three=$(run "$1" collection 3 "$2")
-    echo "$(cat printed): $(awk "BEGIN{split(\"$one\",a,\" \");split(\"$three\",b,\" \");printf \"%.2f s a pass, whole process %.2f s, peak %d MiB\", (b[1]-a[1])/2, a[1], a[2]}")"
+    echo "$(cat printed): $(echo "$one $three" | awk '{printf "%.2f s a pass, whole process %.2f s, peak %d MiB", ($3 - $1) / 2, $1, $2}')"
 }
 ready() { run "$ask" ask "$1" empty.txt | awk '{printf "whole process %.2f s, peak %d MiB\n", $1, $2}'; }
 for round in 1 2 3; do

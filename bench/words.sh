@@ -15,7 +15,8 @@ cd "$dir"
 python3 - <<'PY'
 import os, random
 random.seed(7)
-ascii_words = [''.join(random.choice('etaoinshrdlucmfwypvbgkjqxz') for _ in range(random.choice([1, 2, 3, 3, 4, 4, 5, 5, 6, 7, 8, 9, 11]))) for _ in range(20000)]
+lengths = [1, 2, 3, 3, 4, 4, 5, 5, 6, 7, 8, 9, 11]
+ascii_words = [''.join(random.choice('etaoinshrdlucmfwypvbgkjqxz') for _ in range(random.choice(lengths))) for _ in range(20000)]
 latin = 'aàâäbcçdeéèêëfghiîïjklmnñoôöpqrstuùûüvwxyzß'
 greek = 'αάβγδεέζηήθιίκλμνξοόπρσςτυύφχψωώ'
 cyrillic = 'абвгдеёжзийклмнопрстуфхцчшщъыьэюя'

@@ -1,5 +1,5 @@
 //! The system's files as the files that the program meets.
-ghost use Rattle.std.specs.Prelude.{◌≡◌, ◌↔◌, length, IsTrue, IfOk, IfErr, IsErr, OnOk, Ok, Some, None};
+ghost use Rattle.std.specs.Prelude.{◌≡◌, ◌≢◌, ◌↔◌, length, IsTrue, IfOk, IfErr, IsErr, OnOk, Ok, Some, None};
 ghost use Rattle.std.specs.FinMap as map;
 ghost use Rattle.std.specs.Option.{ForSome};
 ghost use Rattle.std.specs.String.{string_bytes};
@@ -15,14 +15,15 @@ use crate::whole::write_whole;
 use cs_base::{Failed, Files, MemFiles};
 use std::alloc::Global;
 use std::fs::{File, Metadata, OpenFile, OpenOptions};
-use std::io::{self, ErrorKind, Read, Seek, SeekFrom};
+use std::io::{self, ErrorKind};
+use std::os::unix::fs::FileExt;
 use std::{fs, rt};
 
 /// The system's files. A name is a path. A regular file is read in pieces and written; a stream, as a pipe or a device, is read
 /// whole when its size is asked, and never written; a folder fails.
 ///
-/// They tell nothing of their content. The file that was last read or written stays open under its
-/// name, so a file that is read in pieces is opened once.
+/// They tell nothing of their content. The last two files that were read or written stay open under their names, so two that are
+/// read in pieces by turns, as a script and an index file, are each opened once.
 #[derive(Drop)]
 pub struct DiskFiles<'a, R: rt::Files + Drop> {
     disk: Disk<'a, R>,
@@ -38,7 +39,8 @@ impl<'a, R: rt::Files + Drop> DiskFiles<'a, R> {
             disk: Disk {
                 rt,
                 alloc,
-                opened: None,
+                last: None,
+                earlier: None,
                 streams: MemFiles::new(alloc),
             },
             faults: Faults::none(),
@@ -46,7 +48,10 @@ impl<'a, R: rt::Files + Drop> DiskFiles<'a, R> {
     }
 }
 
-impl<R: rt::Files + Drop> Files for DiskFiles<'_, R> {
+impl<R: rt::Files + Drop> Files for DiskFiles<'_, R>
+where
+    R::File: FileExt,
+{
     ghost use Rattle.std.specs.Prelude.{None};
 
     ghost held = { λ _. None };
@@ -97,16 +102,22 @@ enum Found {
     Stream,
 }
 
-// The system's files, with its own answers, and the bytes of the streams that were read.
+// The system's files, with its own answers.
 #[derive(Drop)]
 struct Disk<'a, R: rt::Files + Drop> {
     rt: &'a R,
     alloc: Global,
-    opened: Option<Opened<R::File>>,
+    // The file that was last used, and the one before it.
+    last: Option<Opened<R::File>>,
+    earlier: Option<Opened<R::File>>,
+    // The bytes of the streams that were read.
     streams: MemFiles,
 }
 
-impl<R: rt::Files + Drop> Disk<'_, R> {
+impl<R: rt::Files + Drop> Disk<'_, R>
+where
+    R::File: FileExt,
+{
     // The size of a stream is that of the bytes that are kept of it, and each of the first call.
     fn size(&mut self, name: &str) -> io::Result<Option<u64>>
         ensures kept { ForSome (map.get self.new.streams.held name.now) (λ f. IfOk result (λ n. n ≡ Some (length f.bytes))) }
@@ -138,15 +149,15 @@ impl<R: rt::Files + Drop> Disk<'_, R> {
         if let Some(bytes) = self.streams.bytes(name) {
             return lend(bytes, at, out);
         }
-        let mut opened = self.open(name, Access::Read)?;
-        opened.file.seek(SeekFrom::Start(at))?;
-        opened.file.read_exact(out)?;
-        self.opened = Some(opened);
+        let opened = self.open(name, Access::Read)?;
+        opened.file.read_exact_at(out, at)?;
+        self.keep_open(opened);
         Ok(())
     }
 
     fn create(&mut self, name: &str) -> io::Result<()> {
-        self.opened = None;
+        self.last = None;
+        self.earlier = None;
         if found_of(fs::metadata(self.rt, name))? == Found::Stream {
             return Err(ErrorKind::Unsupported.into());
         }
@@ -156,12 +167,12 @@ impl<R: rt::Files + Drop> Disk<'_, R> {
 
     // Over a file whose content is known, exactly these bytes came to it.
     fn append(&mut self, name: &str, bytes: &[u8]) -> io::Result<()>
-        ensures { OnOk result (ForSome self.old.opened (λ o. o.access ≡ Access.Append → string_bytes o.name ≡ name.now
-            → ForSome self.new.opened (λ p. Appends (R.File.contents o.file) (R.File.contents p.file) bytes.now))) }
+        ensures { OnOk result (ForSome self.old.last (λ o. o.access ≡ Access.Append → string_bytes o.name ≡ name.now
+            → ForSome self.new.last (λ p. Appends (R.File.contents o.file) (R.File.contents p.file) bytes.now))) }
     {
         let mut opened = self.open(name, Access::Append)?;
         write_whole(&mut opened.file, bytes)?;
-        self.opened = Some(opened);
+        self.keep_open(opened);
         Ok(())
     }
 
@@ -169,26 +180,54 @@ impl<R: rt::Files + Drop> Disk<'_, R> {
         self.open(name, Access::Append)?.file.sync_all()
     }
 
-    // Takes the open file where it is this one, and opens it elsewhere.
+    // Takes the file where it is one of those that are open, and opens it elsewhere.
     fn open(&mut self, name: &str, access: Access) -> io::Result<Opened<R::File>>
         ensures right { IfOk result (λ o. (o.access ≡ access) × (string_bytes o.name ≡ name.now)) }
-        ensures kept { ForSome self.old.opened (λ o. o.access ≡ access → string_bytes o.name ≡ name.now → result ≡ Ok o) }
+        ensures kept { ForSome self.old.last (λ o. o.access ≡ access → string_bytes o.name ≡ name.now → result ≡ Ok o) }
+        ensures earlier { ForSome self.old.last (λ p. string_bytes p.name ≢ name.now
+            → ForSome self.old.earlier (λ o. o.access ≡ access → string_bytes o.name ≡ name.now
+            → (result ≡ Ok o) × (self.new.last ≡ Some p))) }
         ensures streams { self.new.streams ≡ self.old.streams }
     {
-        match self.opened.take() {
-            Some(opened) if opened.access == access && opened.name.as_str() == name => Ok(opened),
-            _ => {
-                let mut options = OpenOptions::new();
-                match access {
-                    Access::Read => options.read(true),
-                    Access::Append => options.append(true),
-                };
-                let file = options.open(self.rt, name)?;
-                let name = String::from_str(self.alloc, name)?;
-                Ok(Opened { name, access, file })
-            }
+        if let Some(opened) = take_right(&mut self.last, name, access) {
+            return Ok(opened);
+        }
+        if let Some(opened) = take_right(&mut self.earlier, name, access) {
+            return Ok(opened);
+        }
+        let mut options = OpenOptions::new();
+        match access {
+            Access::Read => options.read(true),
+            Access::Append => options.append(true),
+        };
+        let file = options.open(self.rt, name)?;
+        let name = String::from_str(self.alloc, name)?;
+        Ok(Opened { name, access, file })
+    }
+
+    // Leaves a file open, and the one that was used before it.
+    fn keep_open(&mut self, opened: Opened<R::File>)
+        ensures last { self.new.last ≡ Some opened }
+        ensures earlier { ForSome self.old.last (λ o. self.new.earlier ≡ Some o) }
+        ensures streams { self.new.streams ≡ self.old.streams }
+    {
+        if let Some(last) = self.last.replace(opened) {
+            self.earlier = Some(last);
         }
     }
+}
+
+// Takes a file where it is open under this name and for this access.
+fn take_right<F: Drop>(
+    slot: &mut Option<Opened<F>>,
+    name: &str,
+    access: Access,
+) -> Option<Opened<F>>
+    ensures right { ForSome result (λ o. (slot.old ≡ Some o) × (o.access ≡ access) × (string_bytes o.name ≡ name.now)) }
+    ensures kept { ForSome slot.old (λ o. o.access ≡ access → string_bytes o.name ≡ name.now → result ≡ Some o) }
+    ensures left { result ≡ None → slot.new ≡ slot.old }
+{
+    slot.take_if(|opened| opened.access == access && opened.name.as_str() == name)
 }
 
 // What a name stands for, by what the system says of it.

@@ -9,16 +9,21 @@ use std::alloc::{AllocError, Global};
 use std::env::Args;
 use std::fs;
 use std::fs::{File, OpenFile, OpenOptions};
-use std::io::ErrorKind;
+use std::io::{self, ErrorKind};
 use std::process::ExitCode;
 use std::test::Fail;
+
+// Makes a folder that holds nothing.
+fn make_empty(rt: &HostRuntime, folder: &str) -> io::Result<()> {
+    let _ = fs::remove_dir_all(rt, folder);
+    fs::create_dir(rt, folder)
+}
 
 #[test]
 fn what_is_appended_is_read_in_pieces(rt: HostRuntime) -> Result<(), Fail> {
     const FOLDER: &str = "complete_pieces_test";
     const NAME: &str = "complete_pieces_test/a";
-    let _ = fs::remove_dir_all(&rt, FOLDER);
-    fs::create_dir(&rt, FOLDER)?;
+    make_empty(&rt, FOLDER)?;
     let mut files = DiskFiles::new(rt.alloc(), &rt);
     assert_eq!(rt; files.size(NAME), Ok(None));
     assert_eq!(rt; files.create(NAME), Ok(()));
@@ -45,8 +50,7 @@ fn a_folder_a_short_file_and_a_lost_name_fail(rt: HostRuntime) -> Result<(), Fai
     const FOLDER: &str = "complete_failures_test";
     const NAME: &str = "complete_failures_test/a";
     const OTHER: &str = "complete_failures_test/b";
-    let _ = fs::remove_dir_all(&rt, FOLDER);
-    fs::create_dir(&rt, FOLDER)?;
+    make_empty(&rt, FOLDER)?;
     fs::write(&rt, NAME, "short")?;
     fs::write(&rt, OTHER, "lost")?;
     let mut files = DiskFiles::new(rt.alloc(), &rt);
@@ -69,11 +73,33 @@ fn a_folder_a_short_file_and_a_lost_name_fail(rt: HostRuntime) -> Result<(), Fai
 }
 
 #[test]
+fn two_files_that_are_read_by_turns_stay_open(rt: HostRuntime) -> Result<(), Fail> {
+    const FOLDER: &str = "complete_turns_test";
+    const FIRST: &str = "complete_turns_test/a";
+    const SECOND: &str = "complete_turns_test/b";
+    const THIRD: &str = "complete_turns_test/c";
+    make_empty(&rt, FOLDER)?;
+    let mut files = DiskFiles::new(rt.alloc(), &rt);
+    let mut piece = [0u8; 4];
+    for name in [THIRD, FIRST, SECOND] {
+        fs::write(&rt, name, "kept")?;
+        assert_eq!(rt; files.read_at(name, 0, &mut piece), Ok(()), "{name}");
+    }
+    fs::remove_file(&rt, FIRST)?;
+    fs::remove_file(&rt, SECOND)?;
+    for name in [FIRST, SECOND, FIRST, THIRD, FIRST] {
+        assert_eq!(rt; files.read_at(name, 0, &mut piece), Ok(()), "{name}");
+    }
+    assert_eq!(rt; files.read_at(SECOND, 0, &mut piece), Err(Failed));
+    fs::remove_dir_all(&rt, FOLDER)?;
+    Ok(())
+}
+
+#[test]
 fn a_sink_hands_on_all_bytes_or_fails(rt: HostRuntime) -> Result<(), Fail> {
     const FOLDER: &str = "complete_sink_test";
     const NAME: &str = "complete_sink_test/a";
-    let _ = fs::remove_dir_all(&rt, FOLDER);
-    fs::create_dir(&rt, FOLDER)?;
+    make_empty(&rt, FOLDER)?;
     let mut sink = Standard::new(File::create(&rt, NAME)?);
     assert_eq!(rt; sink.put(b"one line\n"), Ok(()));
     assert_eq!(rt; sink.put(b""), Ok(()));
@@ -89,8 +115,7 @@ fn a_file_of_more_than_32_bits_has_its_size(rt: HostRuntime) -> Result<(), Fail>
     const FOLDER: &str = "complete_large_test";
     const NAME: &str = "complete_large_test/a";
     const SIZE: u64 = (1 << 32) + 9;
-    let _ = fs::remove_dir_all(&rt, FOLDER);
-    fs::create_dir(&rt, FOLDER)?;
+    make_empty(&rt, FOLDER)?;
     fs::write(&rt, NAME, "first")?;
     OpenOptions::new()
         .write(true)

@@ -34,28 +34,36 @@ gone_at s c d = in_gone s c d ∙ gone_case (d == c) (set.contains s d)
 
 -- a value that is there already
 there_at : (f : ℕ → Bool) (c d : ℕ) (b : Bool) → f c ≡ b → f d ≡ cond (d == c) b (f d)
-there_at f c d b h = by_conn (λ d. f d ≡ cond (d == c) b (f d)) c d (h ∙ sym (ap (λ x. cond x b (f c)) (itself c))) (λ other. sym (ap (λ x. cond x b (f d)) other))
+there_at f c d b h =
+    by_conn (λ d. f d ≡ cond (d == c) b (f d)) c d (h ∙ sym (ap (λ x. cond x b (f c)) (itself c))) (λ other. sym (ap (λ x. cond x b (f d)) other))
 
 -- ---- one slot
-acted_set : (core : Slots) (c : ℕ) (x : Option Left) (s : Listening) → c < length core → set.contains s.live c ≡ true → Acted core (slice_set core c x) c x s (closed_unless (is_some x) c s)
+acted_set : (core : Slots) (c : ℕ) (x : Option Left) (s : Listening) → c < length core → set.contains s.live c ≡ true
+    → Acted core (slice_set core c x) c x s (closed_unless (is_some x) c s)
 acted_set core c (Some l) s h live = record { sets = λ d. set_at core c d (Some l) h; live = λ d. there_at (set.contains s.live) c d true live; same = refl }
 acted_set core c None s h live = record { sets = λ d. set_at core c d None h; live = λ d. gone_at s.live c d; same = refl }
 
 acted_as : (core core' now : Slots) (c : ℕ) (x : Option Left) (s s' t : Listening) → now ≡ core' → t ≡ s' → Acted core core' c x s s' → Acted core now c x s t
 acted_as core core' now c x s s' t e f h = subst (λ k. Acted core k c x s t) (sym e) (subst (λ u. Acted core core' c x s u) (sym f) h)
 
-pub acted_live : (core core' : Slots) (c : ℕ) (x : Option Left) (s s' : Listening) → ((d : ℕ) → (d == c) ≡ false → is_some (left_at core d) ≡ set.contains s.live d) → Acted core core' c x s s' → HasLive core' s'
-acted_live core core' c x s s' h a = λ d. ap is_some (a.sets d) ∙ by_conn (λ d. is_some (cond (d == c) x (left_at core d)) ≡ cond (d == c) (is_some x) (set.contains s.live d)) c d
+pub acted_live : (core core' : Slots) (c : ℕ) (x : Option Left) (s s' : Listening)
+    → ((d : ℕ) → (d == c) ≡ false → is_some (left_at core d) ≡ set.contains s.live d) → Acted core core' c x s s' → HasLive core' s'
+acted_live core core' c x s s' h a =
+    λ d. ap is_some (a.sets d) ∙ by_conn (λ d. is_some (cond (d == c) x (left_at core d)) ≡ cond (d == c) (is_some x) (set.contains s.live d)) c d
     (ap (λ b. is_some (cond b x (left_at core c))) (itself c) ∙ sym (ap (λ b. cond b (is_some x) (set.contains s.live c)) (itself c)))
-    (λ other. ap (λ b. is_some (cond b x (left_at core d))) other ∙ h d other ∙ sym (ap (λ b. cond b (is_some x) (set.contains s.live d)) other)) ∙ sym (a.live d)
+    (λ other. ap (λ b. is_some (cond b x (left_at core d))) other ∙ h d other ∙ sym (ap (λ b. cond b (is_some x) (set.contains s.live d)) other))
+    ∙ sym (a.live d)
 
 -- ---- a piece
-pub heeds_acted : (core core1 core' : Slots) (c : ℕ) (kept : Option Left) (s s1 s' : Listening) → core1 ≡ slice_set core c None → core' ≡ slice_set core1 c kept → s1 ≡ s → s' ≡ closed_unless (is_some kept) c s1
+pub heeds_acted : (core core1 core' : Slots) (c : ℕ) (kept : Option Left) (s s1 s' : Listening) → core1 ≡ slice_set core c None → core' ≡ slice_set core1 c kept
+    → s1 ≡ s → s' ≡ closed_unless (is_some kept) c s1
     → c < length core → set.contains s.live c ≡ true → Acted core core' c kept s s'
 heeds_acted core core1 core' c kept s s1 s' e f g i h live =
-    acted_as core (slice_set core c kept) core' c kept s (closed_unless (is_some kept) c s) s' (f ∙ ap (λ k. slice_set k c kept) e ∙ set-set core c None kept) (i ∙ ap (closed_unless (is_some kept) c) g) (acted_set core c kept s h live)
+    acted_as core (slice_set core c kept) core' c kept s (closed_unless (is_some kept) c s) s' (f ∙ ap (λ k. slice_set k c kept) e ∙ set-set core c None kept)
+    (i ∙ ap (closed_unless (is_some kept) c) g) (acted_set core c kept s h live)
 
-pub heeds_lighter : (Over : Corpus → Type 0) (core core' : Slots) (c : ℕ) (old : Left) (piece : List ℕ) (kept : Option Left) (m n : ℕ) (talk talk' : Option Talk) → core' ≡ slice_set core c kept → left_at core c ≡ Some old → old.taken < MAX_CONNECTION_BYTES → 0 < length piece
+pub heeds_lighter : (Over : Corpus → Type 0) (core core' : Slots) (c : ℕ) (old : Left) (piece : List ℕ) (kept : Option Left) (m n : ℕ)
+    (talk talk' : Option Talk) → core' ≡ slice_set core c kept → left_at core c ≡ Some old → old.taken < MAX_CONNECTION_BYTES → 0 < length piece
     → Received Over c old piece kept m n talk talk' → weight core' < weight core
 heeds_lighter Over core core' c old piece (Some l) m n talk talk' e was room some r =
     let w = set_weight core c (Some l) (held_within core c (ap is_some was)) in
@@ -65,21 +73,24 @@ heeds_lighter Over core core' c old piece None m n talk talk' e was room some r 
     omega (arith, w, ap weight e, ap to_come was, room)
 
 -- ---- a connection that opens
-pub greets_kept : (core mid core' : Slots) (c n : ℕ) (l : Left) (s : Listening) → mid ≡ core ++ replicate n None → core' ≡ slice_set mid c (Some l) → c < length mid → set.contains s.live c ≡ true → Acted core core' c (Some l) s s
+pub greets_kept : (core mid core' : Slots) (c n : ℕ) (l : Left) (s : Listening) → mid ≡ core ++ replicate n None → core' ≡ slice_set mid c (Some l)
+    → c < length mid → set.contains s.live c ≡ true → Acted core core' c (Some l) s s
 greets_kept core mid core' c n l s e f h live = record {
   sets = λ d. ap (λ k. left_at k d) f ∙ set_at mid c d (Some l) h ∙ ap (cond (d == c) (Some l)) (ap (λ k. left_at k d) e ∙ padded_at core n d);
   live = λ d. there_at (set.contains s.live) c d true live;
   same = refl;
 }
 
-pub greets_refused : (core core' : Slots) (c n : ℕ) (s s' : Listening) → core' ≡ core ++ replicate n None → left_at core c ≡ None → s' ≡ record s { live = set.remove s.live c } → Acted core core' c None s s'
+pub greets_refused : (core core' : Slots) (c n : ℕ) (s s' : Listening) → core' ≡ core ++ replicate n None → left_at core c ≡ None
+    → s' ≡ record s { live = set.remove s.live c } → Acted core core' c None s s'
 greets_refused core core' c n s s' e none f = record {
   sets = λ d. ap (λ k. left_at k d) e ∙ padded_at core n d ∙ none_there core c d none;
   live = λ d. ap (λ (t : Listening). set.contains t.live d) f ∙ gone_at s.live c d;
   same = f ∙ ap (λ (t : Listening). let u : Listening = record s { live = t.live } in u) (sym f);
 }
 
-pub greets_lighter : (core mid core' : Slots) (c n : ℕ) (l : Left) → mid ≡ core ++ replicate n None → core' ≡ slice_set mid c (Some l) → c < length mid → weight core' ≤ weight core + (MAX_CONNECTION_BYTES + 1)
+pub greets_lighter : (core mid core' : Slots) (c n : ℕ) (l : Left) → mid ≡ core ++ replicate n None → core' ≡ slice_set mid c (Some l) → c < length mid
+    → weight core' ≤ weight core + (MAX_CONNECTION_BYTES + 1)
 greets_lighter core mid core' c n l e f h =
     let w = set_weight mid c (Some l) h in
     let p = padded_weight core n in
@@ -87,7 +98,8 @@ greets_lighter core mid core' c n l e f h =
 
 -- ---- a connection that ended
 pub ended_acted : (core core' : Slots) (c : ℕ) (s : Listening) → core' ≡ slice_set core c None → set.contains s.live c ≡ false → Acted core core' c None s s
-ended_acted core core' c s e gone = record { sets = λ d. ap (λ k. left_at k d) e ∙ unset_at core c d; live = λ d. there_at (set.contains s.live) c d false gone; same = refl }
+ended_acted core core' c s e gone =
+    record { sets = λ d. ap (λ k. left_at k d) e ∙ unset_at core c d; live = λ d. there_at (set.contains s.live) c d false gone; same = refl }
 
 came_at : (x : Option Left) → is_some x ≡ true → 0 < to_come x
 came_at (Some l) h = omega arith
@@ -100,14 +112,17 @@ ended_lighter core core' c e held =
     omega (arith, w, p, ap weight e)
 
 -- ---- the end of all
-some_live : (core : Slots) (s : Listening) → HasLive core s → (c : ℕ) → Acted core (slice_set core c None) c None s (closed_unless (not (is_some (left_at core c))) c s)
+some_live : (core : Slots) (s : Listening) → HasLive core s → (c : ℕ)
+    → Acted core (slice_set core c None) c None s (closed_unless (not (is_some (left_at core c))) c s)
 some_live core s h c =
     elim (is_some (left_at core c)) as (λ b. is_some (left_at core c) ≡ b → Acted core (slice_set core c None) c None s (closed_unless (not b) c s)) [
       | true ↦ λ e. record { sets = λ d. unset_at core c d; live = λ d. gone_at s.live c d; same = refl }
       | false ↦ λ e. record { sets = λ d. unset_at core c d; live = λ d. there_at (set.contains s.live) c d false (sym (h c) ∙ e); same = refl }
     ] refl
 
-pub shut_live : (core core' : Slots) (c : ℕ) (b : Bool) (s s' : Listening) → HasLive core s → core' ≡ slice_set core c None → b ≡ is_some (left_at core c) → s' ≡ closed_unless (not b) c s → HasLive core' s'
+pub shut_live : (core core' : Slots) (c : ℕ) (b : Bool) (s s' : Listening) → HasLive core s → core' ≡ slice_set core c None → b ≡ is_some (left_at core c)
+    → s' ≡ closed_unless (not b) c s → HasLive core' s'
 shut_live core core' c b s s' h e is f =
     acted_live core core' c None s s' (λ d other. h d)
-    (acted_as core (slice_set core c None) core' c None s (closed_unless (not (is_some (left_at core c))) c s) s' e (f ∙ ap (λ x. closed_unless (not x) c s) is) (some_live core s h c))
+    (acted_as core (slice_set core c None) core' c None s (closed_unless (not (is_some (left_at core c))) c s) s' e (f ∙ ap (λ x. closed_unless (not x) c s) is)
+    (some_live core s h c))

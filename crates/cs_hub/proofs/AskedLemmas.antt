@@ -20,7 +20,8 @@
 --   few_titles, read_in           one answer of an engine
 --   standing, stands_so           how an engine stands
 --   within_due, within_for        an engine asked so reads no more than is due
-use Rattle.std.proofs.Common.{◌≡◌, ℕ, ◌+◌, ◌-◌, ◌≤◌, Bool, true, false, List, [], ◌∷◌, ◌++◌, length, take, drop, slice_range, refl, sym, ◌∙◌, ap, ap₂, subst, arith, append_assoc, append-nil, inl, inr, length-append}
+use Rattle.std.proofs.Common.{◌≡◌, ℕ, ◌+◌, ◌-◌, ◌≤◌, Bool, true, false, List, [], ◌∷◌, ◌++◌, length, take, drop, slice_range, refl, sym, ◌∙◌, ap, ap₂, subst}
+use Rattle.std.proofs.Common.{arith, append_assoc, append-nil, inl, inr, length-append}
 use Rattle.std.specs.Prelude.{◌⊎◌, suc, ◌<◌, not, cond, slice_set, is_some, Option, Some, None, Result, Ok, Err, IfOk, is_ok}
 use Rattle.std.proofs.Math.Seq.{take-append-add}
 use Rattle.std.proofs.lemmas.Grind.{flat_map-append}
@@ -55,7 +56,8 @@ use Rattle.cs_model_serving.specs.Responses.{Response, all_bytes, memory_bytes, 
 use Rattle.cs_query.specs.declared.request.ReqFault.{ReqFault}
 use Rattle.cs_query.specs.declared.request.ReqFault.TheVariants as faults
 use Rattle.cs_hub.specs.Asked.{InTurn, AsksOf, AsksAsSent, AsksAlong, AsksBy, SentFor, Standing, EngineLeaves}
-use Rattle.cs_hub.specs.DueReads.{Answered, AnswersWithin, AreDue, HasMemory, SentAt, SentBefore, bytes_behind, bytes_to_answer, closes_behind, goes_on, heads_on, read_failures, is_want, reply_in, requests_by, requests_in, requests_of, requests_on, requests_to}
+use Rattle.cs_hub.specs.DueReads.{Answered, AnswersWithin, AreDue, HasMemory, SentAt, SentBefore, bytes_behind, bytes_to_answer, closes_behind, goes_on}
+use Rattle.cs_hub.specs.DueReads.{heads_on, read_failures, is_want, reply_in, requests_by, requests_in, requests_of, requests_on, requests_to}
 use Rattle.cs_hub.specs.HubFollowing.{Slots, left_at}
 use Rattle.cs_hub.specs.Responding.{response, IsJudgedSo}
 use Rattle.cs_hub.specs.Speaking.{Said, Spoke, Starved}
@@ -101,11 +103,13 @@ pub some_refused : (c : ℕ) (talk talk' : Option Talk) → IsTurnedAway c talk 
 some_refused c talk talk' (inl h) = some_delivered c too_long h.0 talk talk' h.1
 some_refused c talk talk' (inr h) = some_starved c talk talk' h
 
-whole_by : (c : ℕ) (r : Response) (goes : Bool) (talk talk' : Option Talk) → Delivered c r goes talk talk' → goes ≡ true → Spoke c (response_bytes r) false talk talk'
+whole_by : (c : ℕ) (r : Response) (goes : Bool) (talk talk' : Option Talk) → Delivered c r goes talk talk' → goes ≡ true
+    → Spoke c (response_bytes r) false talk talk'
 whole_by c r true talk talk' h on = h.1
 whole_by c r false talk talk' h on = absurd cc
 
-pub replied_open : (Over : Corpus → Type 0) (c : ℕ) (right : Corpus → Response) (goes : Bool) (m n : ℕ) (talk talk' : Option Talk) → goes ≡ true → Replied Over c right goes m n talk talk' → (r : Response) × Spoke c (response_bytes r) false talk talk'
+pub replied_open : (Over : Corpus → Type 0) (c : ℕ) (right : Corpus → Response) (goes : Bool) (m n : ℕ) (talk talk' : Option Talk) → goes ≡ true
+    → Replied Over c right goes m n talk talk' → (r : Response) × Spoke c (response_bytes r) false talk talk'
 replied_open Over c right goes m n talk talk' on (inl h) = (h.0, whole_by c h.0 goes talk talk' h.2 on)
 replied_open Over c right goes m n talk talk' on (inr h) = absurd (let x : true ≡ false = sym on ∙ h.0 in cc)
 
@@ -125,32 +129,42 @@ want_before c b true talk talk' h = record { sent = []; part = memory_bytes; fai
 want_before c b false talk talk' h = record { sent = []; part = take h.0 memory_bytes; fails = true; spoke = h.1; enough = omega arith; all = inr (inl refl) }
 
 -- ---- one head
-want_for : (c : ℕ) (goes : Bool) (h : List ℕ) (whole : Bool) (talk talk' : Option Talk) (xs : List Answered) → Said c memory_bytes whole talk talk' → SentFor c goes h talk talk' xs
+want_for : (c : ℕ) (goes : Bool) (h : List ℕ) (whole : Bool) (talk talk' : Option Talk) (xs : List Answered) → Said c memory_bytes whole talk talk'
+    → SentFor c goes h talk talk' xs
 want_for c goes h true talk talk' xs said = record { part = memory_bytes; fails = false; spoke = said; all = inr (inr refl) }
 want_for c goes h false talk talk' xs said = record { part = take said.0 memory_bytes; fails = true; spoke = said.1; all = inr (inl refl) }
 
-sent_for : (c : ℕ) (r : Response) (goes : Bool) (h : List ℕ) (talk talk' : Option Talk) (xs : List Answered) → HasMemory xs → length xs ≡ length (requests_in (judge h)) → r.closes ≡ closes_behind (judge h) → Delivered c r goes talk talk' → SentFor c goes h talk talk' xs
-sent_for c r true h talk talk' xs memory all closes d = record { part = response_bytes r; fails = false; spoke = d.1; all = inl (memory, all, sym closes ∙ d.0) }
-sent_for c r false h talk talk' xs memory all closes (inl d) = record { part = response_bytes r; fails = false; spoke = d.1; all = inl (memory, all, sym closes ∙ d.0) }
-sent_for c r false h talk talk' xs memory all closes (inr (inl d)) = record { part = take d.0 (response_bytes r); fails = true; spoke = d.1; all = inr (inl refl) }
+sent_for : (c : ℕ) (r : Response) (goes : Bool) (h : List ℕ) (talk talk' : Option Talk) (xs : List Answered) → HasMemory xs
+    → length xs ≡ length (requests_in (judge h)) → r.closes ≡ closes_behind (judge h) → Delivered c r goes talk talk' → SentFor c goes h talk talk' xs
+sent_for c r true h talk talk' xs memory all closes d =
+    record { part = response_bytes r; fails = false; spoke = d.1; all = inl (memory, all, sym closes ∙ d.0) }
+sent_for c r false h talk talk' xs memory all closes (inl d) =
+    record { part = response_bytes r; fails = false; spoke = d.1; all = inl (memory, all, sym closes ∙ d.0) }
+sent_for c r false h talk talk' xs memory all closes (inr (inl d)) =
+    record { part = take d.0 (response_bytes r); fails = true; spoke = d.1; all = inr (inl refl) }
 sent_for c r false h talk talk' xs memory all closes (inr (inr s)) = want_for c false h s.0 talk talk' xs s.1
 
 -- the first head, behind which the connection is to be closed
-all_stop : (c : ℕ) (goes : Bool) (h b : List ℕ) (talk talk' : Option Talk) (xs : List Answered) (P : Type 0) → goes ≡ false → (closes_behind (judge h) ≡ true → heads_on b ≡ h ∷ [])
-    → (HasMemory xs × (length xs ≡ length (requests_in (judge h))) × (closes_behind (judge h) ≡ not goes)) ⊎ P → (HasMemory xs × (length xs ≡ length (requests_on b))) ⊎ P
+all_stop : (c : ℕ) (goes : Bool) (h b : List ℕ) (talk talk' : Option Talk) (xs : List Answered) (P : Type 0) → goes ≡ false
+    → (closes_behind (judge h) ≡ true → heads_on b ≡ h ∷ [])
+    → (HasMemory xs × (length xs ≡ length (requests_in (judge h))) × (closes_behind (judge h) ≡ not goes)) ⊎ P
+    → (HasMemory xs × (length xs ≡ length (requests_on b))) ⊎ P
 all_stop c goes h b talk talk' xs P off alone (inl k) =
     let one = alone (k.2 ∙ ap not off) in
     inl (k.0, k.1 ∙ sym (ap length (append-nil (requests_in (judge h)))) ∙ sym (ap (λ l. length (requests_to l)) one))
 all_stop c goes h b talk talk' xs P off alone (inr p) = inr p
 
-before_stop : (c : ℕ) (goes : Bool) (h b : List ℕ) (later : List (List ℕ)) (talk talk' : Option Talk) (xs : List Answered) → goes ≡ false → length xs ≤ length (requests_in (judge h)) → heads_on b ≡ h ∷ later → (closes_behind (judge h) ≡ true → heads_on b ≡ h ∷ []) → SentFor c goes h talk talk' xs
+before_stop : (c : ℕ) (goes : Bool) (h b : List ℕ) (later : List (List ℕ)) (talk talk' : Option Talk) (xs : List Answered) → goes ≡ false
+    → length xs ≤ length (requests_in (judge h)) → heads_on b ≡ h ∷ later → (closes_behind (judge h) ≡ true → heads_on b ≡ h ∷ [])
+    → SentFor c goes h talk talk' xs
     → SentBefore c b talk talk' xs
 before_stop c goes h b later talk talk' xs off few is alone s = record {
   sent = [];
   part = s.part;
   fails = s.fails;
   spoke = s.spoke;
-  enough = let first = ap (λ l. length (requests_to (take 1 l))) is in let one = ap length (append-nil (requests_in (judge h))) in omega (arith, few, first, one);
+  enough = let first = ap (λ l. length (requests_to (take 1 l))) is in let one = ap length (append-nil (requests_in (judge h))) in
+      omega (arith, few, first, one);
   all = all_stop c goes h b talk talk' xs ((s.fails ≡ true) ⊎ (s.part ≡ memory_bytes)) off alone s.all;
 }
 
@@ -158,19 +172,23 @@ before_stop c goes h b later talk talk' xs off few is alone s = record {
 asked_both : (hs ks : List (List ℕ)) → requests_to (hs ++ ks) ≡ requests_to hs ++ requests_to ks
 asked_both hs ks = flat_map-append (λ h. requests_in (judge h)) hs ks
 
-enough_both : (hs left all : List (List ℕ)) (xs ys : List Answered) (m n total : ℕ) → all ≡ hs ++ left → requests_to hs ≡ requests_of xs → length hs ≡ m → total ≡ m + n → length ys ≤ length (requests_to (take (n + 1) left))
+enough_both : (hs left all : List (List ℕ)) (xs ys : List Answered) (m n total : ℕ) → all ≡ hs ++ left → requests_to hs ≡ requests_of xs → length hs ≡ m
+    → total ≡ m + n → length ys ≤ length (requests_to (take (n + 1) left))
     → length (xs ++ ys) ≤ length (requests_to (take (total + 1) all))
 enough_both hs left all xs ys m n total cut asked each sum few =
     let first : take (total + 1) all ≡ hs ++ take (n + 1) left =
-    ap (take (total + 1)) cut ∙ ap (λ i. take i (hs ++ left)) (let e : total + 1 ≡ length hs + (n + 1) = omega (arith, each, sum) in e) ∙ take-append-add hs left (n + 1) in
+    ap (take (total + 1)) cut ∙ ap (λ i. take i (hs ++ left)) (let e : total + 1 ≡ length hs + (n + 1) = omega (arith, each, sum) in e)
+    ∙ take-append-add hs left (n + 1) in
     let whole : length (requests_to (take (total + 1) all)) ≡ length (requests_to hs) + length (requests_to (take (n + 1) left)) =
     ap (λ l. length (requests_to l)) first ∙ ap length (asked_both hs (take (n + 1) left)) ∙ length-append (requests_to hs) (requests_to (take (n + 1) left)) in
     let front : length (requests_to hs) ≡ length xs = ap length asked ∙ requests_length xs in
     omega (arith, whole, front, few, length-append xs ys)
 
-memory_both : (xs ys : List Answered) (b left : List ℕ) (P : Type 0) → requests_on b ≡ requests_of xs ++ requests_on left → HasMemory xs → (HasMemory ys × (length ys ≡ length (requests_on left))) ⊎ P → (HasMemory (xs ++ ys) × (length (xs ++ ys) ≡ length (requests_on b))) ⊎ P
+memory_both : (xs ys : List Answered) (b left : List ℕ) (P : Type 0) → requests_on b ≡ requests_of xs ++ requests_on left → HasMemory xs
+    → (HasMemory ys × (length ys ≡ length (requests_on left))) ⊎ P → (HasMemory (xs ++ ys) × (length (xs ++ ys) ≡ length (requests_on b))) ⊎ P
 memory_both xs ys b left P cut h (inl k) =
-    let count : length (xs ++ ys) ≡ length (requests_on b) = omega (arith, length-append xs ys, requests_length xs, k.1, ap length cut, length-append (requests_of xs) (requests_on left)) in
+    let count : length (xs ++ ys) ≡ length (requests_on b) =
+    omega (arith, length-append xs ys, requests_length xs, k.1, ap length cut, length-append (requests_of xs) (requests_on left)) in
     inl (All-append (λ (a : Answered). is_want a.1 ≡ false) xs ys h k.0, count)
 memory_both xs ys b left P cut h (inr p) = inr p
 
@@ -197,7 +215,8 @@ module _ {K : Type 0} (Leaves : K → Request → Result Reply AskFault → K �
   abbrev pub asks_nothing : (whole : Bool) (s : K) → AsksOf Leaves whole [] s s
   asks_nothing whole s = record { answered = []; later = []; cut = refl; in_turn = refl; all = λ e. (refl, All-nil (λ (a : Answered). is_want a.1 ≡ false)) }
 
-  pub asks_one : (whole : Bool) (q : Request) (r : Result Reply AskFault) (s t : K) → Leaves s q r t → (whole ≡ true → is_want r ≡ false) → AsksOf Leaves whole (q ∷ []) s t
+  pub asks_one : (whole : Bool) (q : Request) (r : Result Reply AskFault) (s t : K) → Leaves s q r t → (whole ≡ true → is_want r ≡ false)
+      → AsksOf Leaves whole (q ∷ []) s t
   asks_one whole q r s t h memory = record {
     answered = (q, r) ∷ [];
     later = [];
@@ -206,10 +225,12 @@ module _ {K : Type 0} (Leaves : K → Request → Result Reply AskFault → K �
     all = λ e. (refl, All-cons (λ (a : Answered). is_want a.1 ≡ false) (q, r) [] (memory e) (All-nil (λ (a : Answered). is_want a.1 ≡ false)));
   }
 
-  abbrev pub asks_whole : (whole less : Bool) (qs : List Request) (s t : K) → (less ≡ true → whole ≡ true) → AsksOf Leaves whole qs s t → AsksOf Leaves less qs s t
+  abbrev pub asks_whole : (whole less : Bool) (qs : List Request) (s t : K) → (less ≡ true → whole ≡ true) → AsksOf Leaves whole qs s t
+      → AsksOf Leaves less qs s t
   asks_whole whole less qs s t h a = record { answered = a.answered; later = a.later; cut = a.cut; in_turn = a.in_turn; all = λ e. a.all (h e) }
 
-  pub asks_less : (whole : Bool) (qs : List Request) (s t : K) (Sent : List Answered → Type 0) → AsksAsSent Leaves whole qs s t Sent → AsksAsSent Leaves false qs s t Sent
+  pub asks_less : (whole : Bool) (qs : List Request) (s t : K) (Sent : List Answered → Type 0) → AsksAsSent Leaves whole qs s t Sent
+      → AsksAsSent Leaves false qs s t Sent
   asks_less whole qs s t Sent a = record { asks = asks_whole whole false qs s t (λ e. absurd cc) a.asks; sent = a.sent }
 
   abbrev asks_some : (qs more all : List Request) (s t : K) → all ≡ qs ++ more → (whole : Bool) → AsksOf Leaves whole qs s t → AsksOf Leaves false all s t
@@ -240,10 +261,12 @@ module _ {K : Type 0} (Leaves : K → Request → Result Reply AskFault → K �
   asks_all qs s t a = omega (arith, ap length a.cut, length-append (requests_of a.answered) a.later, requests_length a.answered, ap length (a.all refl).0)
 
   -- ---- parameters and heads
-  pub asks_params : (whole : Bool) (p : List ℕ) (q : Request) (s t : K) → request_refusal p ≡ None → q ≡ request_of p → AsksOf Leaves whole (q ∷ []) s t → AsksOf Leaves whole (requests_by p (request_refusal p)) s t
+  pub asks_params : (whole : Bool) (p : List ℕ) (q : Request) (s t : K) → request_refusal p ≡ None → q ≡ request_of p → AsksOf Leaves whole (q ∷ []) s t
+      → AsksOf Leaves whole (requests_by p (request_refusal p)) s t
   asks_params whole p q s t none is h = subst (λ r. AsksOf Leaves whole (requests_by p r) s t) (sym none) (subst (λ x. AsksOf Leaves whole (x ∷ []) s t) is h)
 
-  by_refusal : (whole : Bool) (p : List ℕ) (r : RequestRefusal) (s : K) → request_refusal p ≡ Some r → AsksOf Leaves whole (requests_by p (request_refusal p)) s s
+  by_refusal : (whole : Bool) (p : List ℕ) (r : RequestRefusal) (s : K) → request_refusal p ≡ Some r
+      → AsksOf Leaves whole (requests_by p (request_refusal p)) s s
   by_refusal whole p r s e = subst (λ o. AsksOf Leaves whole (requests_by p o) s s) (sym e) (asks_nothing whole s)
 
   -- where memory ran out there is no response
@@ -255,24 +278,30 @@ module _ {K : Type 0} (Leaves : K → Request → Result Reply AskFault → K �
   never P (Ok a) f h = f h
   never P (Err e) f h = tt
 
-  pub refused_params : (p : List ℕ) (fault : ReqFault) (result : Result Answer Memory) (s : K) → IsCause p fault → IfOk result (λ a. fault ≡ faults.Memory → ⊥) → AsksOf Leaves (is_ok result) (requests_by p (request_refusal p)) s s
+  pub refused_params : (p : List ℕ) (fault : ReqFault) (result : Result Answer Memory) (s : K) → IsCause p fault → IfOk result (λ a. fault ≡ faults.Memory → ⊥)
+      → AsksOf Leaves (is_ok result) (requests_by p (request_refusal p)) s s
   refused_params p (faults.BadParam which) result s cause h = by_refusal (is_ok result) p _ s cause
   refused_params p (faults.Bad at) result s cause h = by_refusal (is_ok result) p _ s cause
   refused_params p (faults.Limit at which) result s cause h = by_refusal (is_ok result) p _ s cause
-  refused_params p faults.Memory result s cause h = for_memory result (requests_by p (request_refusal p)) s (never (faults.Memory ≡ faults.Memory → ⊥) result (λ f. f refl) h)
+  refused_params p faults.Memory result s cause h =
+      for_memory result (requests_by p (request_refusal p)) s (never (faults.Memory ≡ faults.Memory → ⊥) result (λ f. f refl) h)
 
-  pub asks_head : (whole : Bool) (bytes p : List ℕ) (close : Bool) (s t : K) → judge bytes ≡ asks p close → AsksOf Leaves whole (requests_by p (request_refusal p)) s t → AsksOf Leaves whole (requests_in (judge bytes)) s t
+  pub asks_head : (whole : Bool) (bytes p : List ℕ) (close : Bool) (s t : K) → judge bytes ≡ asks p close
+      → AsksOf Leaves whole (requests_by p (request_refusal p)) s t → AsksOf Leaves whole (requests_in (judge bytes)) s t
   asks_head whole bytes p close s t e h = subst (λ j. AsksOf Leaves whole (requests_in j) s t) (sym e) h
 
-  pub refused_head : (j : Judgement) (fault : HeadFault) (result : Result Answer Memory) (s : K) → IsHeadCause j fault → IfOk result (λ a. fault ≡ heads.Memory → ⊥) → AsksOf Leaves (is_ok result) (requests_in j) s s
+  pub refused_head : (j : Judgement) (fault : HeadFault) (result : Result Answer Memory) (s : K) → IsHeadCause j fault
+      → IfOk result (λ a. fault ≡ heads.Memory → ⊥) → AsksOf Leaves (is_ok result) (requests_in j) s s
   refused_head j heads.NotHead result s cause h = subst (λ x. AsksOf Leaves (is_ok result) (requests_in x) s s) (sym cause) (asks_nothing (is_ok result) s)
   refused_head j heads.Body result s cause h = subst (λ x. AsksOf Leaves (is_ok result) (requests_in x) s s) (sym cause) (asks_nothing (is_ok result) s)
   refused_head j (heads.Path close) result s cause h = subst (λ x. AsksOf Leaves (is_ok result) (requests_in x) s s) (sym cause) (asks_nothing (is_ok result) s)
-  refused_head j (heads.Method close) result s cause h = subst (λ x. AsksOf Leaves (is_ok result) (requests_in x) s s) (sym cause) (asks_nothing (is_ok result) s)
+  refused_head j (heads.Method close) result s cause h =
+      subst (λ x. AsksOf Leaves (is_ok result) (requests_in x) s s) (sym cause) (asks_nothing (is_ok result) s)
   refused_head j heads.Memory result s cause h = for_memory result (requests_in j) s (never (heads.Memory ≡ heads.Memory → ⊥) result (λ f. f refl) h)
 
   -- what was sent of one head's response
-  pub asks_sent : (c : ℕ) (answer : Result Answer Memory) (goes : Bool) (h : List ℕ) (s t : K) (talk talk' : Option Talk) → IfOk answer (λ a. a.close ≡ closes_behind (judge h)) → IsSent c answer goes talk talk' → AsksOf Leaves (is_ok answer) (requests_in (judge h)) s t
+  pub asks_sent : (c : ℕ) (answer : Result Answer Memory) (goes : Bool) (h : List ℕ) (s t : K) (talk talk' : Option Talk)
+      → IfOk answer (λ a. a.close ≡ closes_behind (judge h)) → IsSent c answer goes talk talk' → AsksOf Leaves (is_ok answer) (requests_in (judge h)) s t
       → AsksAsSent Leaves goes (requests_in (judge h)) s t (SentFor c goes h talk talk')
   asks_sent c (Ok x) goes h s t talk talk' closes sent a = record {
     asks = asks_whole true goes (requests_in (judge h)) s t (λ e. refl) a;
@@ -284,26 +313,32 @@ module _ {K : Type 0} (Leaves : K → Request → Result Reply AskFault → K �
   }
 
   -- no memory was there for its bytes
-  pub starved_for : (c : ℕ) (goes : Bool) (h : List ℕ) (s : K) (talk talk' : Option Talk) → Starved c talk talk' → AsksAsSent Leaves false (requests_in (judge h)) s s (SentFor c goes h talk talk')
+  pub starved_for : (c : ℕ) (goes : Bool) (h : List ℕ) (s : K) (talk talk' : Option Talk) → Starved c talk talk'
+      → AsksAsSent Leaves false (requests_in (judge h)) s s (SentFor c goes h talk talk')
   starved_for c goes h s talk talk' starved = record { asks = asks_none (requests_in (judge h)) s; sent = want_for c goes h starved.0 talk talk' [] starved.1 }
 
   -- ---- turns
-  module _ (c : ℕ) (u r : List ℕ) (skip end used : ℕ) (goes : Bool) (s t : K) (talk talk' : Option Talk) (found : frame (u ++ r) ≡ framed.Head skip end) (total : length u + used ≡ end) (within : used ≤ length r) (front : skip ≤ end)
-      (a : AsksAsSent Leaves goes (requests_in (judge (slice_range (u ++ take used r) skip (length (u ++ take used r))))) s t (SentFor c goes (slice_range (u ++ take used r) skip (length (u ++ take used r))) talk talk')) where
+  module _ (c : ℕ) (u r : List ℕ) (skip end used : ℕ) (goes : Bool) (s t : K) (talk talk' : Option Talk) (found : frame (u ++ r) ≡ framed.Head skip end)
+      (total : length u + used ≡ end) (within : used ≤ length r) (front : skip ≤ end)
+      (a : AsksAsSent Leaves goes (requests_in (judge (slice_range (u ++ take used r) skip (length (u ++ take used r))))) s t
+      (SentFor c goes (slice_range (u ++ take used r) skip (length (u ++ take used r))) talk talk')) where
     -- the head's own bytes, of which some were unread
     abbrev own : List ℕ
     own = slice_range (u ++ take used r) skip (length (u ++ take used r))
 
-    pub turned_goes : goes ≡ true → closes_behind (judge own) ≡ false → (x : Response) × Spoke c (response_bytes x) false talk talk' → AsksAlong Leaves c (u ++ r) (drop used r) s t talk talk'
+    pub turned_goes : goes ≡ true → closes_behind (judge own) ≡ false → (x : Response) × Spoke c (response_bytes x) false talk talk'
+        → AsksAlong Leaves c (u ++ r) (drop used r) s t talk talk'
     turned_goes on stays said =
         let is = head_bytes u r skip end used total within front in
         let e : heads_on (u ++ r) ≡ own ∷ heads_on (drop end (u ++ r)) =
-        subst (λ x. heads_on (u ++ r) ≡ x ∷ heads_on (drop end (u ++ r))) (sym is) (heads-goes_on (u ++ r) skip end found (subst (λ x. closes_behind (judge x) ≡ false) is stays)) in
+        subst (λ x. heads_on (u ++ r) ≡ x ∷ heads_on (drop end (u ++ r))) (sym is)
+        (heads-goes_on (u ++ r) skip end found (subst (λ x. closes_behind (judge x) ≡ false) is stays)) in
         record {
           heads = own ∷ [];
           cut = e ∙ ap (λ l. own ∷ heads_on l) (behind_head u r end used total);
           answered = a.asks.answered;
-          asked = append-nil (requests_in (judge own)) ∙ a.asks.cut ∙ ap (λ l. requests_of a.asks.answered ++ l) (a.asks.all on).0 ∙ append-nil (requests_of a.asks.answered);
+          asked = append-nil (requests_in (judge own)) ∙ a.asks.cut ∙ ap (λ l. requests_of a.asks.answered ++ l) (a.asks.all on).0
+              ∙ append-nil (requests_of a.asks.answered);
           in_turn = a.asks.in_turn;
           memory = (a.asks.all on).1;
           sent = said.0 ∷ [];
@@ -323,22 +358,38 @@ module _ {K : Type 0} (Leaves : K → Request → Result Reply AskFault → K �
           sent = before_stop c goes own (u ++ r) x.0 talk talk' a.asks.answered off (asks_below goes (requests_in (judge own)) s t a.asks) heads alone a.sent;
         }
 
-  starved_stops : (c : ℕ) (b : List ℕ) (s : K) (talk talk' : Option Talk) → Starved c talk talk' → AsksAsSent Leaves false (requests_on b) s s (SentBefore c b talk talk')
+  starved_stops : (c : ℕ) (b : List ℕ) (s : K) (talk talk' : Option Talk) → Starved c talk talk'
+      → AsksAsSent Leaves false (requests_on b) s s (SentBefore c b talk talk')
   starved_stops c b s talk talk' h = record { asks = asks_none (requests_on b) s; sent = want_before c b h.0 talk talk' h.1 }
 
-  pub turned_held : (c : ℕ) (u r u' : List ℕ) (turn : Turn) (s : K) (talk talk' : Option Talk) → frame (u ++ r) ≡ framed.More → HoldsBytes c u r turn u' talk talk' → AsksBy Leaves c u r turn s s talk talk'
+  pub turned_held : (c : ℕ) (u r u' : List ℕ) (turn : Turn) (s : K) (talk talk' : Option Talk) → frame (u ++ r) ≡ framed.More
+      → HoldsBytes c u r turn u' talk talk' → AsksBy Leaves c u r turn s s talk talk'
   turned_held c u r u' (turns.Next i) s talk talk' f h = absurd h
   turned_held c u r u' turns.Holds s talk talk' f h = (heads-more (u ++ r) f, refl, h.1)
   turned_held c u r u' turns.Stops s talk talk' f h = starved_stops c (u ++ r) s talk talk' h
 
-  pub turned_long : (c : ℕ) (b : List ℕ) (s : K) (talk talk' : Option Talk) → frame b ≡ framed.TooLong → IsTurnedAway c talk talk' → AsksAsSent Leaves false (requests_on b) s s (SentBefore c b talk talk')
-  turned_long c b s talk talk' f h = record { asks = asks_none (requests_on b) s; sent = before_none c b talk talk' (heads-long b f) (some_refused c talk talk' h) }
+  pub turned_long : (c : ℕ) (b : List ℕ) (s : K) (talk talk' : Option Talk) → frame b ≡ framed.TooLong → IsTurnedAway c talk talk'
+      → AsksAsSent Leaves false (requests_on b) s s (SentBefore c b talk talk')
+  turned_long c b s talk talk' f h =
+      record { asks = asks_none (requests_on b) s; sent = before_none c b talk talk' (heads-long b f) (some_refused c talk talk' h) }
 
   -- ---- the way through the bytes
   pub along_start : (c : ℕ) (b : List ℕ) (s : K) (talk : Option Talk) → AsksAlong Leaves c b b s s talk talk
-  along_start c b s talk = record { heads = []; cut = refl; answered = []; asked = refl; in_turn = refl; memory = All-nil (λ (a : Answered). is_want a.1 ≡ false); sent = []; spoke = spoke_nothing c talk; each = refl }
+  along_start c b s talk =
+      record {
+        heads = [];
+        cut = refl;
+        answered = [];
+        asked = refl;
+        in_turn = refl;
+        memory = All-nil (λ (a : Answered). is_want a.1 ≡ false);
+        sent = [];
+        spoke = spoke_nothing c talk;
+        each = refl;
+      }
 
-  pub along_both : (c : ℕ) (b left last : List ℕ) (s t v : K) (talk mid talk' : Option Talk) → AsksAlong Leaves c b left s t talk mid → AsksAlong Leaves c left last t v mid talk' → AsksAlong Leaves c b last s v talk talk'
+  pub along_both : (c : ℕ) (b left last : List ℕ) (s t v : K) (talk mid talk' : Option Talk) → AsksAlong Leaves c b left s t talk mid
+      → AsksAlong Leaves c left last t v mid talk' → AsksAlong Leaves c b last s v talk talk'
   along_both c b left last s t v talk mid talk' h k = record {
     heads = h.heads ++ k.heads;
     cut = h.cut ∙ ap (λ l. h.heads ++ l) k.cut ∙ sym (append_assoc h.heads k.heads (heads_on last));
@@ -347,15 +398,19 @@ module _ {K : Type 0} (Leaves : K → Request → Result Reply AskFault → K �
     in_turn = in_turn_both h.answered k.answered s t v h.in_turn k.in_turn;
     memory = All-append (λ (a : Answered). is_want a.1 ≡ false) h.answered k.answered h.memory k.memory;
     sent = h.sent ++ k.sent;
-    spoke = subst (λ l. Spoke c l false talk talk') (sym (bytes_both h.sent k.sent)) (spoke_both c (all_bytes h.sent) (all_bytes k.sent) false talk mid talk' h.spoke k.spoke);
+    spoke = subst (λ l. Spoke c l false talk talk') (sym (bytes_both h.sent k.sent))
+        (spoke_both c (all_bytes h.sent) (all_bytes k.sent) false talk mid talk' h.spoke k.spoke);
     each = omega (arith, h.each, k.each, length-append h.heads k.heads, length-append h.sent k.sent);
   }
 
-  pub along_next : (c : ℕ) (b left u u' later : List ℕ) (s t v : K) (talk mid talk' : Option Talk) → u' ≡ [] → later ≡ left → AsksAlong Leaves c b u s t talk mid → AsksAlong Leaves c u left t v mid talk' → AsksAlong Leaves c b (u' ++ later) s v talk talk'
+  pub along_next : (c : ℕ) (b left u u' later : List ℕ) (s t v : K) (talk mid talk' : Option Talk) → u' ≡ [] → later ≡ left
+      → AsksAlong Leaves c b u s t talk mid → AsksAlong Leaves c u left t v mid talk' → AsksAlong Leaves c b (u' ++ later) s v talk talk'
   along_next c b left u u' later s t v talk mid talk' empty is h k =
-      subst (λ l. AsksAlong Leaves c b (l ++ later) s v talk talk') (sym empty) (subst (λ l. AsksAlong Leaves c b l s v talk talk') (sym is) (along_both c b u left s t v talk mid talk' h k))
+      subst (λ l. AsksAlong Leaves c b (l ++ later) s v talk talk') (sym empty)
+      (subst (λ l. AsksAlong Leaves c b l s v talk talk') (sym is) (along_both c b u left s t v talk mid talk' h k))
 
-  pub along_hold : (c : ℕ) (whole : Bool) (b left : List ℕ) (s t u : K) (talk mid talk' : Option Talk) → AsksAlong Leaves c b left s t talk mid → (heads_on left ≡ []) × (u ≡ t) × (talk' ≡ mid) → AsksAsSent Leaves whole (requests_on b) s u (SentBefore c b talk talk')
+  pub along_hold : (c : ℕ) (whole : Bool) (b left : List ℕ) (s t u : K) (talk mid talk' : Option Talk) → AsksAlong Leaves c b left s t talk mid
+      → (heads_on left ≡ []) × (u ≡ t) × (talk' ≡ mid) → AsksAsSent Leaves whole (requests_on b) s u (SentBefore c b talk talk')
   along_hold c whole b left s t u talk mid talk' h end =
       let all : heads_on b ≡ h.heads = h.cut ∙ ap (λ l. h.heads ++ l) end.0 ∙ append-nil h.heads in
       let asked : requests_on b ≡ requests_of h.answered = ap requests_to all ∙ h.asked in
@@ -373,20 +428,24 @@ module _ {K : Type 0} (Leaves : K → Request → Result Reply AskFault → K �
           sent = h.sent;
           part = [];
           fails = false;
-          spoke = subst (λ l. Spoke c l false talk talk') (sym (append-nil (all_bytes h.sent))) (subst (Spoke c (all_bytes h.sent) false talk) (sym end.2) h.spoke);
+          spoke = subst (λ l. Spoke c l false talk talk') (sym (append-nil (all_bytes h.sent)))
+              (subst (Spoke c (all_bytes h.sent) false talk) (sym end.2) h.spoke);
           enough = omega (arith, count, ap (λ l. length (requests_to l)) first);
           all = inl (h.memory, count);
         };
       }
 
-  pub along_stop : (c : ℕ) (b left : List ℕ) (s t u : K) (talk mid talk' : Option Talk) → AsksAlong Leaves c b left s t talk mid → AsksAsSent Leaves false (requests_on left) t u (SentBefore c left mid talk') → AsksAsSent Leaves false (requests_on b) s u (SentBefore c b talk talk')
+  pub along_stop : (c : ℕ) (b left : List ℕ) (s t u : K) (talk mid talk' : Option Talk) → AsksAlong Leaves c b left s t talk mid
+      → AsksAsSent Leaves false (requests_on left) t u (SentBefore c left mid talk') → AsksAsSent Leaves false (requests_on b) s u (SentBefore c b talk talk')
   along_stop c b left s t u talk mid talk' h a =
-      let cut : requests_on b ≡ requests_of h.answered ++ requests_on left = ap requests_to h.cut ∙ asked_both h.heads (heads_on left) ∙ ap (λ l. l ++ requests_on left) h.asked in
+      let cut : requests_on b ≡ requests_of h.answered ++ requests_on left =
+      ap requests_to h.cut ∙ asked_both h.heads (heads_on left) ∙ ap (λ l. l ++ requests_on left) h.asked in
       record {
         asks = record {
           answered = h.answered ++ a.asks.answered;
           later = a.asks.later;
-          cut = cut ∙ ap (λ l. requests_of h.answered ++ l) a.asks.cut ∙ sym (append_assoc (requests_of h.answered) (requests_of a.asks.answered) a.asks.later) ∙ ap (λ l. l ++ a.asks.later) (sym (requests_both h.answered a.asks.answered));
+          cut = cut ∙ ap (λ l. requests_of h.answered ++ l) a.asks.cut ∙ sym (append_assoc (requests_of h.answered) (requests_of a.asks.answered) a.asks.later)
+              ∙ ap (λ l. l ++ a.asks.later) (sym (requests_both h.answered a.asks.answered));
           in_turn = in_turn_both h.answered a.asks.answered s t u h.in_turn a.asks.in_turn;
           all = λ e. absurd cc;
         };
@@ -394,28 +453,40 @@ module _ {K : Type 0} (Leaves : K → Request → Result Reply AskFault → K �
           sent = h.sent ++ a.sent.sent;
           part = a.sent.part;
           fails = a.sent.fails;
-          spoke = subst (λ l. Spoke c l a.sent.fails talk talk') (sym (ap (λ l. l ++ a.sent.part) (bytes_both h.sent a.sent.sent) ∙ append_assoc (all_bytes h.sent) (all_bytes a.sent.sent) a.sent.part))
+          spoke = subst (λ l. Spoke c l a.sent.fails talk talk')
+              (sym (ap (λ l. l ++ a.sent.part) (bytes_both h.sent a.sent.sent) ∙ append_assoc (all_bytes h.sent) (all_bytes a.sent.sent) a.sent.part))
               (spoke_both c (all_bytes h.sent) (all_bytes a.sent.sent ++ a.sent.part) a.sent.fails talk mid talk' h.spoke a.sent.spoke);
-          enough = enough_both h.heads (heads_on left) (heads_on b) h.answered a.asks.answered (length h.sent) (length a.sent.sent) (length (h.sent ++ a.sent.sent)) h.cut h.asked h.each (length-append h.sent a.sent.sent) a.sent.enough;
+          enough = enough_both h.heads (heads_on left) (heads_on b) h.answered a.asks.answered (length h.sent) (length a.sent.sent)
+              (length (h.sent ++ a.sent.sent)) h.cut h.asked h.each (length-append h.sent a.sent.sent) a.sent.enough;
           all = memory_both h.answered a.asks.answered b left ((a.sent.fails ≡ true) ⊎ (a.sent.part ≡ memory_bytes)) cut h.memory a.sent.all;
         };
       }
 
   -- ---- a piece
-  pub asks_counted : (whole : Bool) (old : Left) (taken : ℕ) (unread piece counted : List ℕ) (s t : K) (Sent : List ℕ → List Answered → Type 0) → record { taken = taken; unread = unread } ≡ old → counted ≡ take (MAX_CONNECTION_BYTES - taken) piece
-      → AsksAsSent Leaves whole (requests_on (unread ++ counted)) s t (Sent (unread ++ counted)) → AsksAsSent Leaves whole (requests_on (old.unread ++ take (MAX_CONNECTION_BYTES - old.taken) piece)) s t (Sent (old.unread ++ take (MAX_CONNECTION_BYTES - old.taken) piece))
+  pub asks_counted : (whole : Bool) (old : Left) (taken : ℕ) (unread piece counted : List ℕ) (s t : K) (Sent : List ℕ → List Answered → Type 0)
+      → record { taken = taken; unread = unread } ≡ old → counted ≡ take (MAX_CONNECTION_BYTES - taken) piece
+      → AsksAsSent Leaves whole (requests_on (unread ++ counted)) s t (Sent (unread ++ counted))
+      → AsksAsSent Leaves whole (requests_on (old.unread ++ take (MAX_CONNECTION_BYTES - old.taken) piece)) s t
+      (Sent (old.unread ++ take (MAX_CONNECTION_BYTES - old.taken) piece))
   asks_counted whole old taken unread piece counted s t Sent is e a =
-      subst (λ (l : Left). AsksAsSent Leaves whole (requests_on (l.unread ++ take (MAX_CONNECTION_BYTES - l.taken) piece)) s t (Sent (l.unread ++ take (MAX_CONNECTION_BYTES - l.taken) piece))) is (subst (λ x. AsksAsSent Leaves whole (requests_on (unread ++ x)) s t (Sent (unread ++ x))) e a)
+      subst (λ (l : Left). AsksAsSent Leaves whole (requests_on (l.unread ++ take (MAX_CONNECTION_BYTES - l.taken) piece)) s t
+      (Sent (l.unread ++ take (MAX_CONNECTION_BYTES - l.taken) piece))) is
+      (subst (λ x. AsksAsSent Leaves whole (requests_on (unread ++ x)) s t (Sent (unread ++ x))) e a)
 
   -- a connection that was kept, and is put back or not
-  pub asks_of_line : (c : ℕ) (core core' : Slots) (l : Left) (piece : List ℕ) (kept : Option Left) (s t : K) (talk mid talk' : Option Talk) → core' ≡ slice_set core c kept → c < length core → Some l ≡ left_at core c → talk' ≡ mid
-      → AsksAsSent Leaves (is_some kept) (requests_on (l.unread ++ take (MAX_CONNECTION_BYTES - l.taken) piece)) s t (SentBefore c (l.unread ++ take (MAX_CONNECTION_BYTES - l.taken) piece) talk mid)
-      → AsksAsSent Leaves (is_some (left_at core' c)) (requests_on (bytes_behind (left_at core c) piece)) s t (SentBefore c (bytes_behind (left_at core c) piece) talk talk')
+  pub asks_of_line : (c : ℕ) (core core' : Slots) (l : Left) (piece : List ℕ) (kept : Option Left) (s t : K) (talk mid talk' : Option Talk)
+      → core' ≡ slice_set core c kept → c < length core → Some l ≡ left_at core c → talk' ≡ mid
+      → AsksAsSent Leaves (is_some kept) (requests_on (l.unread ++ take (MAX_CONNECTION_BYTES - l.taken) piece)) s t
+      (SentBefore c (l.unread ++ take (MAX_CONNECTION_BYTES - l.taken) piece) talk mid)
+      → AsksAsSent Leaves (is_some (left_at core' c)) (requests_on (bytes_behind (left_at core c) piece)) s t
+      (SentBefore c (bytes_behind (left_at core c) piece) talk talk')
   asks_of_line c core core' l piece kept s t talk mid talk' is within was same a =
       let at : left_at core' c ≡ kept = ap (λ k. left_at k c) is ∙ set_at core c c kept within ∙ ap (λ b. cond b kept (left_at core c)) (itself c) in
-      subst (λ x. AsksAsSent Leaves (is_some x) (requests_on (bytes_behind (left_at core c) piece)) s t (SentBefore c (bytes_behind (left_at core c) piece) talk talk')) (sym at)
+      subst (λ x. AsksAsSent Leaves (is_some x) (requests_on (bytes_behind (left_at core c) piece)) s t
+      (SentBefore c (bytes_behind (left_at core c) piece) talk talk')) (sym at)
       (subst (λ x. AsksAsSent Leaves (is_some kept) (requests_on (bytes_behind x piece)) s t (SentBefore c (bytes_behind x piece) talk talk')) was
-      (subst (λ x. AsksAsSent Leaves (is_some kept) (requests_on (l.unread ++ take (MAX_CONNECTION_BYTES - l.taken) piece)) s t (SentBefore c (l.unread ++ take (MAX_CONNECTION_BYTES - l.taken) piece) talk x)) (sym same) a))
+      (subst (λ x. AsksAsSent Leaves (is_some kept) (requests_on (l.unread ++ take (MAX_CONNECTION_BYTES - l.taken) piece)) s t
+      (SentBefore c (l.unread ++ take (MAX_CONNECTION_BYTES - l.taken) piece) talk x)) (sym same) a))
 
 -- ---- an engine
 -- a count of reads that rose twice
@@ -435,14 +506,16 @@ pub record SumOf (xs : List Answered) (s t : Standing) : Type 0 where
 
 sum_of : (xs : List Answered) (s t : Standing) → InTurn EngineLeaves xs s t → SumOf xs s t
 sum_of [] s t h =
-    subst (λ (x : Standing). SumOf [] s x) (sym h) (record { n = 0; are_due = (refl, refl); reads = record { later = omega arith; within = omega arith }; rose = rose_none s.faults s.faults (omega arith) })
+    subst (λ (x : Standing). SumOf [] s x) (sym h) (record
+    { n = 0; are_due = (refl, refl); reads = record { later = omega arith; within = omega arith }; rose = rose_none s.faults s.faults (omega arith) })
 sum_of (a ∷ xs) s t h =
     let others = sum_of xs h.0 t h.2 in
     record {
       n = h.1.n + others.n;
       are_due = (h.1.n, others.n, h.0.engine, refl, h.1.is_due, subst (λ x. AreDue x xs h.0.engine others.n t.engine) h.1.told others.are_due);
       reads = reads_both h.1.n others.n s.reads h.0.reads t.reads h.1.reads others.reads;
-      rose = rose_both (cond (is_read a.1) 1 0) (read_failures xs) s.faults h.0.faults t.faults (caused_rose (is_read a.1) s.faults h.0.faults h.1.caused) others.rose;
+      rose = rose_both (cond (is_read a.1) 1 0) (read_failures xs) s.faults h.0.faults t.faults
+          (caused_rose (is_read a.1) s.faults h.0.faults h.1.caused) others.rose;
     }
 
 abbrev pub standing : Option (List ℕ) → EngineView → ℕ → ℕ → Standing
@@ -454,13 +527,25 @@ stands_so b b' e e' m m' n n' h i j k = ap (λ x. standing x e m n) h ∙ ap (λ
 abbrev Within : Bool → List Request → (List Answered → Type 0) → Standing → Standing → Type 0
 Within whole qs Sent s t = AnswersWithin s.told whole qs s.engine t.engine s.reads t.reads s.faults t.faults Sent
 
-within_due : (whole : Bool) (qs : List Request) (s t : Standing) (Sent : List Answered → Type 0) → AsksAsSent EngineLeaves whole qs s t Sent → Within whole qs Sent s t
+within_due : (whole : Bool) (qs : List Request) (s t : Standing) (Sent : List Answered → Type 0) → AsksAsSent EngineLeaves whole qs s t Sent
+    → Within whole qs Sent s t
 within_due whole qs s t Sent a =
     let sum = sum_of a.asks.answered s t a.asks.in_turn in
-    record { answered = a.asks.answered; later = a.asks.later; cut = a.asks.cut; all = a.asks.all; n = sum.n; are_due = sum.are_due; reads = sum.reads; rose = sum.rose; sent = a.sent }
+    record {
+      answered = a.asks.answered;
+      later = a.asks.later;
+      cut = a.asks.cut;
+      all = a.asks.all;
+      n = sum.n;
+      are_due = sum.are_due;
+      reads = sum.reads;
+      rose = sum.rose;
+      sent = a.sent;
+    }
 
 -- the same of an engine and counts that are these
-pub within_for : (whole : Bool) (qs : List Request) (s t : Standing) (told : Option (List ℕ)) (old new : EngineView) (before now failed failed' : ℕ) (Sent : List Answered → Type 0) → s ≡ standing told old before failed → t ≡ standing t.told new now failed'
+pub within_for : (whole : Bool) (qs : List Request) (s t : Standing) (told : Option (List ℕ)) (old new : EngineView) (before now failed failed' : ℕ)
+    (Sent : List Answered → Type 0) → s ≡ standing told old before failed → t ≡ standing t.told new now failed'
     → AsksAsSent EngineLeaves whole qs s t Sent → AnswersWithin told whole qs old new before now failed failed' Sent
 within_for whole qs s t told old new before now failed failed' Sent e f a =
     subst (λ x. Within whole qs Sent x (standing t.told new now failed')) e (subst (Within whole qs Sent s) f (within_due whole qs s t Sent a))
@@ -470,8 +555,10 @@ open_by : (c : ℕ) (r : Response) (goes : Bool) (talk talk' : Option Talk) → 
 open_by c r true talk talk' h on = h.0
 open_by c r false talk talk' h on = absurd cc
 
-pub sent_open : (c : ℕ) (bytes other : List ℕ) (answer : Result Answer Memory) (goes : Bool) (talk talk' : Option Talk) → bytes ≡ other → IfOk answer (λ a. a.close ≡ closes_behind (judge bytes)) → IsSent c answer goes talk talk' → goes ≡ true → closes_behind (judge other) ≡ false
-sent_open c bytes other (Ok a) goes talk talk' e closes h on = ap (λ l. closes_behind (judge l)) (sym e) ∙ sym closes ∙ open_by c (response a) goes talk talk' h on
+pub sent_open : (c : ℕ) (bytes other : List ℕ) (answer : Result Answer Memory) (goes : Bool) (talk talk' : Option Talk) → bytes ≡ other
+    → IfOk answer (λ a. a.close ≡ closes_behind (judge bytes)) → IsSent c answer goes talk talk' → goes ≡ true → closes_behind (judge other) ≡ false
+sent_open c bytes other (Ok a) goes talk talk' e closes h on =
+    ap (λ l. closes_behind (judge l)) (sym e) ∙ sym closes ∙ open_by c (response a) goes talk talk' h on
 sent_open c bytes other (Err x) goes talk talk' e closes h on = absurd (let y : true ≡ false = sym on ∙ h.0 in cc)
 
 -- some corpus

@@ -26,7 +26,9 @@ set_at xs c d x h = by_conn (λ d. left_at (slice_set xs c x) d ≡ cond (d == c
     (λ other. get_or-set_other xs c d x None (differs d c other) ∙ sym (ap (λ b. cond b x (left_at xs d)) other))
 
 pub none_there : (core : Slots) (c d : ℕ) → left_at core c ≡ None → left_at core d ≡ cond (d == c) None (left_at core d)
-none_there core c d h = by_conn (λ d. left_at core d ≡ cond (d == c) None (left_at core d)) c d (h ∙ sym (ap (λ x. cond x None (left_at core c)) (itself c))) (λ other. sym (ap (λ x. cond x None (left_at core d)) other))
+none_there core c d h =
+    by_conn (λ d. left_at core d ≡ cond (d == c) None (left_at core d)) c d (h ∙ sym (ap (λ x. cond x None (left_at core c)) (itself c)))
+    (λ other. sym (ap (λ x. cond x None (left_at core d)) other))
 
 -- where nothing is, nothing is taken out
 pub unset_at : (xs : Slots) (c d : ℕ) → left_at (slice_set xs c None) d ≡ cond (d == c) None (left_at xs d)

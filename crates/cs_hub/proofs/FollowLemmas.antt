@@ -31,7 +31,8 @@ starts k s talk port conns e o = record {
 }
 
 pub served_none : (k : Corpus) (s : Listening) (talk : Option Talk) (port conns n : ℕ) → s ≡ listens port conns → IsOrderly s talk → AreServed k s talk n n
-served_none k s talk port conns n e o = record { core = []; failed = 0; follows = starts k s talk port conns e o; rose = let l : min (n + 0) (2 ^ 64 - 1) ≤ n = omega arith in l }
+served_none k s talk port conns n e o =
+    record { core = []; failed = 0; follows = starts k s talk port conns e o; rose = let l : min (n + 0) (2 ^ 64 - 1) ≤ n = omega arith in l }
 
 abbrev pub IsGoodOver : Option (List ℕ) → EngineView → Corpus → Type 0
 IsGoodOver told e k = (x : List ℕ) × (told ≡ Some x) × StandsFor x e.index × AreGood x e × (k ≡ file_corpus x)

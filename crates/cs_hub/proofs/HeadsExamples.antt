@@ -35,10 +35,12 @@ heads-two = refl
 
 -- neither a head that is refused nor parameters that are ask anything
 requests-refused : requests_on (other_path ++ bad_query) ≡ []
-unfolding heads_on frame judge read_head line_text line_end is_valid is_token_byte trim_ows print_request is_utf8 chars lib.Utf8.encode request_refusal parameter raw_pairs split percent_decode utf8_lossy utf8_valid_len norm caseless is_word_char
+unfolding heads_on frame judge read_head line_text line_end is_valid is_token_byte trim_ows print_request is_utf8 chars lib.Utf8.encode request_refusal
+    parameter raw_pairs split percent_decode utf8_lossy utf8_valid_len norm caseless is_word_char
 requests-refused = refl
 
 -- one before the head that closes the connection, its own, and none behind it
 requests-closing : requests_on (ask_nothing ++ other_path ++ ask_last ++ ask_nothing) ≡ request_of (codes "q=") ∷ request_of (codes "h=1") ∷ []
-unfolding heads_on frame judge read_head line_text line_end is_valid is_token_byte trim_ows print_request is_utf8 chars lib.Utf8.encode request_refusal parameter raw_pairs split percent_decode utf8_lossy utf8_valid_len norm caseless is_word_char
+unfolding heads_on frame judge read_head line_text line_end is_valid is_token_byte trim_ows print_request is_utf8 chars lib.Utf8.encode request_refusal
+    parameter raw_pairs split percent_decode utf8_lossy utf8_valid_len norm caseless is_word_char
 requests-closing = refl

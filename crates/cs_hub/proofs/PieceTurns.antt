@@ -4,7 +4,8 @@
 --   calm_on                                            what the hub keeps
 --   full                                               a piece with which the limit is reached
 --   shut, kept                                         one after which the connection is to be closed, or goes on
-use Rattle.std.proofs.Common.{◌≡◌, inl, inr, ℕ, ◌+◌, ◌-◌, ◌<◌, ◌≤◌, Bool, false, List, [], ◌∷◌, ◌++◌, length, take, drop, refl, sym, ◌∙◌, ap, subst, append_assoc, append-nil, arith}
+use Rattle.std.proofs.Common.{◌≡◌, inl, inr, ℕ, ◌+◌, ◌-◌, ◌<◌, ◌≤◌, Bool, false, List, [], ◌∷◌, ◌++◌, length, take, drop, refl, sym, ◌∙◌, ap, subst}
+use Rattle.std.proofs.Common.{append_assoc, append-nil, arith}
 use Rattle.std.specs.Prelude.{Option, Some, None, All}
 use Rattle.std.proofs.lemmas.List.{length-take}
 use Rattle.cs_base.specs.declared.content.limits.TheConstants.{MAX_CONNECTION_BYTES}
@@ -34,29 +35,40 @@ along_start Over c b m talk = record {
 }
 
 regroup : (xs : List Response) (r : Response) (s : Served) → answers_before xs (answers_on r s) ≡ answers_before (xs ++ r ∷ []) s
-regroup xs r s = ap (λ (l : List Response). let y : Served = record { responses = l; rest = s.rest; done = s.done } in y) (sym (append_assoc xs (r ∷ []) s.responses))
+regroup xs r s =
+    ap (λ (l : List Response). let y : Served = record { responses = l; rest = s.rest; done = s.done } in y) (sym (append_assoc xs (r ∷ []) s.responses))
 
-one_more : (k : Corpus) (b left later : List ℕ) (x y : List ℕ) (xs ys : List Response) → IsAlong k b left x xs → IsOne k left later y ys → IsAlong k b later (x ++ y) (xs ++ ys)
+one_more : (k : Corpus) (b left later : List ℕ) (x y : List ℕ) (xs ys : List Response) → IsAlong k b left x xs → IsOne k left later y ys
+    → IsAlong k b later (x ++ y) (xs ++ ys)
 one_more k b left later x y xs ys h o = record {
   first = h.first ++ o.right ∷ [];
   each = subst (λ l. AllZip MayReplace (h.first ++ o.right ∷ []) (xs ++ l)) (sym o.is) (zip_both h.first (o.right ∷ []) xs (o.r ∷ []) h.each (o.replaces, tt));
-  bytes = subst (λ l. x ++ y ≡ all_bytes (xs ++ l)) (sym o.is) (subst (λ l. x ++ l ≡ all_bytes (xs ++ o.r ∷ [])) (sym o.bytes) (ap (λ l. l ++ response_bytes o.r) h.bytes ∙ ap (λ l. all_bytes xs ++ l) (sym (append-nil (response_bytes o.r))) ∙ sym (bytes_both xs (o.r ∷ []))));
-  going = subst (λ l. All (λ r. r.closes ≡ false) (xs ++ l)) (sym o.is) (All-append (λ r. r.closes ≡ false) xs (o.r ∷ []) h.going (All-cons (λ r. r.closes ≡ false) o.r [] o.going (all_nil (λ r. r.closes ≡ false))));
+  bytes = subst (λ l. x ++ y ≡ all_bytes (xs ++ l)) (sym o.is) (subst (λ l. x ++ l ≡ all_bytes (xs ++ o.r ∷ [])) (sym o.bytes)
+      (ap (λ l. l ++ response_bytes o.r) h.bytes ∙ ap (λ l. all_bytes xs ++ l) (sym (append-nil (response_bytes o.r))) ∙ sym (bytes_both xs (o.r ∷ []))));
+  going = subst (λ l. All (λ r. r.closes ≡ false) (xs ++ l)) (sym o.is)
+      (All-append (λ r. r.closes ≡ false) xs (o.r ∷ []) h.going (All-cons (λ r. r.closes ≡ false) o.r [] o.going (all_nil (λ r. r.closes ≡ false))));
   joined = h.joined ∙ ap (answers_before h.first) o.joined ∙ regroup h.first o.right (serve k later);
 }
 
-pub along_next : (Over Later : Corpus → Type 0) (c used : ℕ) (b unread rest unread' : List ℕ) (m n o : ℕ) (talk mid talk' : Option Talk) → ((k : Corpus) → Over k → Later k)
-    → Along Over c b (unread ++ rest) m n talk mid → GoesOn Later c used unread rest unread' n o mid talk' → Along Over c b (unread' ++ drop used rest) m o talk talk'
+pub along_next : (Over Later : Corpus → Type 0) (c used : ℕ) (b unread rest unread' : List ℕ) (m n o : ℕ) (talk mid talk' : Option Talk)
+    → ((k : Corpus) → Over k → Later k)
+    → Along Over c b (unread ++ rest) m n talk mid → GoesOn Later c used unread rest unread' n o mid talk'
+    → Along Over c b (unread' ++ drop used rest) m o talk talk'
 along_next Over Later c used b unread rest unread' m n o talk mid talk' still h s =
     subst (λ u. Along Over c b (u ++ drop used rest) m o talk talk') (sym s.emptied)
-    (says_both Over Later c false (λ k more sent. IsAlong k b (unread ++ rest) more sent) (λ k more sent. IsOne k (unread ++ rest) (drop used rest) more sent) (λ k more sent. IsAlong k b (drop used rest) more sent) m n o talk mid talk' still
+    (says_both Over Later c false (λ k more sent. IsAlong k b (unread ++ rest) more sent) (λ k more sent. IsOne k (unread ++ rest) (drop used rest) more sent)
+    (λ k more sent. IsAlong k b (drop used rest) more sent) m n o talk mid talk' still
     (λ k x y xs ys. one_more k b (unread ++ rest) (drop used rest) x y xs ys) h s.says)
 
-all_held : (k : Corpus) (b left unread' more : List ℕ) (sent : List Response) → serve k left ≡ waits left → unread' ≡ left → IsAlong k b left more sent → HoldsOn k b unread' more sent
+all_held : (k : Corpus) (b left unread' more : List ℕ) (sent : List Response) → serve k left ≡ waits left → unread' ≡ left → IsAlong k b left more sent
+    → HoldsOn k b unread' more sent
 all_held k b left unread' more sent waiting kept h =
     let all : serve k b ≡ answers_before h.first (waits left) = h.joined ∙ ap (answers_before h.first) waiting in
     record {
-      served = record { each = subst (λ l. AllZip MayReplace l sent) (sym (ap (λ (a : Served). a.responses) all ∙ append-nil h.first)) h.each; bytes = h.bytes };
+      served = record {
+        each = subst (λ l. AllZip MayReplace l sent) (sym (ap (λ (a : Served). a.responses) all ∙ append-nil h.first)) h.each;
+        bytes = h.bytes;
+      };
       going = ap (λ (a : Served). a.done) all;
       rest = kept ∙ sym (ap (λ (a : Served). a.rest) all);
     }
@@ -75,15 +87,18 @@ along_hold Over c b unread rest unread' m n o talk mid talk' h s =
       };
     }))
 
-all_stopped : (k : Corpus) (b left : List ℕ) (fails : Bool) (x y : List ℕ) (xs ys : List Response) → IsAlong k b left x xs → IsEnded (serve k left) y fails ys → IsEnded (serve k b) (x ++ y) fails (xs ++ ys)
+all_stopped : (k : Corpus) (b left : List ℕ) (fails : Bool) (x y : List ℕ) (xs ys : List Response) → IsAlong k b left x xs → IsEnded (serve k left) y fails ys
+    → IsEnded (serve k b) (x ++ y) fails (xs ++ ys)
 all_stopped k b left fails x y xs ys h e =
-    subst (λ a. IsEnded a (x ++ y) fails (xs ++ ys)) (sym h.joined) (ended_behind h.first (serve k left) fails x y xs ys (record { each = h.each; bytes = h.bytes }) h.going e)
+    subst (λ a. IsEnded a (x ++ y) fails (xs ++ ys)) (sym h.joined)
+    (ended_behind h.first (serve k left) fails x y xs ys (record { each = h.each; bytes = h.bytes }) h.going e)
 
 pub along_stop : (Over Later : Corpus → Type 0) (c : ℕ) (b left : List ℕ) (m n o : ℕ) (talk mid talk' : Option Talk) → ((k : Corpus) → Over k → Later k)
     → Along Over c b left m n talk mid → Stops Later c left n o mid talk' → Stops Over c b m o talk talk'
 along_stop Over Later c b left m n o talk mid talk' still h s = (
   s.0,
-  says_both Over Later c s.0 (λ k more sent. IsAlong k b left more sent) (λ k more sent. IsEnded (serve k left) more s.0 sent) (λ k more sent. IsEnded (serve k b) more s.0 sent) m n o talk mid talk' still
+  says_both Over Later c s.0 (λ k more sent. IsAlong k b left more sent) (λ k more sent. IsEnded (serve k left) more s.0 sent)
+      (λ k more sent. IsEnded (serve k b) more s.0 sent) m n o talk mid talk' still
       (λ k x y xs ys. all_stopped k b left s.0 x y xs ys) h s.1,
 )
 
@@ -91,7 +106,8 @@ along_stop Over Later c b left m n o talk mid talk' still h s = (
 pub calm_still : (s : Listening) (faults sends : ℕ) (talk : Option Talk) → Calm s s faults faults sends sends talk talk
 calm_still s faults sends talk = record { state = refl; faults = refl; breaks = breaks_none sends talk; orderly = λ h. h }
 
-pub calm_on : (s s' s'' : Listening) (m n p i j l : ℕ) (talk talk' talk'' : Option Talk) → Calm s s' m n i j talk talk' → Calm s' s'' n p j l talk' talk'' → Calm s s'' m p i l talk talk''
+pub calm_on : (s s' s'' : Listening) (m n p i j l : ℕ) (talk talk' talk'' : Option Talk) → Calm s s' m n i j talk talk' → Calm s' s'' n p j l talk' talk''
+    → Calm s s'' m p i l talk talk''
 calm_on s s' s'' m n p i j l talk talk' talk'' h k = record {
   state = k.state ∙ h.state;
   faults = k.faults ∙ h.faults;
@@ -100,7 +116,8 @@ calm_on s s' s'' m n p i j l talk talk' talk'' h k = record {
 }
 
 -- ---- the limit
-pub full : (Over : Corpus → Type 0) (c : ℕ) (old : Left) (taken : ℕ) (unread piece counted unread' : List ℕ) (m n : ℕ) (talk talk' : Option Talk) → record { taken = taken; unread = unread } ≡ old → counted ≡ take (MAX_CONNECTION_BYTES - taken) piece
+pub full : (Over : Corpus → Type 0) (c : ℕ) (old : Left) (taken : ℕ) (unread piece counted unread' : List ℕ) (m n : ℕ) (talk talk' : Option Talk)
+    → record { taken = taken; unread = unread } ≡ old → counted ≡ take (MAX_CONNECTION_BYTES - taken) piece
     → MAX_CONNECTION_BYTES ≤ taken + length counted → Holds Over c (unread ++ counted) unread' m n talk talk' → Received Over c old piece None m n talk talk'
 full Over c old taken unread piece counted unread' m n talk talk' is e limit h =
     subst (λ (l : Left). Received Over c l piece None m n talk talk') is
@@ -111,13 +128,16 @@ full Over c old taken unread piece counted unread' m n talk talk' is e limit h =
     ))
 
 -- ---- below the limit, and where it doesn't matter
-pub shut : (Over : Corpus → Type 0) (c : ℕ) (old : Left) (taken : ℕ) (unread piece counted : List ℕ) (m n : ℕ) (talk talk' : Option Talk) → record { taken = taken; unread = unread } ≡ old → counted ≡ take (MAX_CONNECTION_BYTES - taken) piece
+pub shut : (Over : Corpus → Type 0) (c : ℕ) (old : Left) (taken : ℕ) (unread piece counted : List ℕ) (m n : ℕ) (talk talk' : Option Talk)
+    → record { taken = taken; unread = unread } ≡ old → counted ≡ take (MAX_CONNECTION_BYTES - taken) piece
     → Stops Over c (unread ++ counted) m n talk talk' → Received Over c old piece None m n talk talk'
 shut Over c old taken unread piece counted m n talk talk' is e h =
     subst (λ (l : Left). Received Over c l piece None m n talk talk') is (inl (subst (λ x. Stops Over c (unread ++ x) m n talk talk') e h))
 
-pub kept : (Over : Corpus → Type 0) (c : ℕ) (old : Left) (taken : ℕ) (unread piece counted unread' : List ℕ) (m n : ℕ) (talk talk' : Option Talk) → record { taken = taken; unread = unread } ≡ old → counted ≡ take (MAX_CONNECTION_BYTES - taken) piece
-    → taken + length counted < MAX_CONNECTION_BYTES → Holds Over c (unread ++ counted) unread' m n talk talk' → Received Over c old piece (Some (record { taken = taken + length counted; unread = unread' })) m n talk talk'
+pub kept : (Over : Corpus → Type 0) (c : ℕ) (old : Left) (taken : ℕ) (unread piece counted unread' : List ℕ) (m n : ℕ) (talk talk' : Option Talk)
+    → record { taken = taken; unread = unread } ≡ old → counted ≡ take (MAX_CONNECTION_BYTES - taken) piece
+    → taken + length counted < MAX_CONNECTION_BYTES → Holds Over c (unread ++ counted) unread' m n talk talk'
+    → Received Over c old piece (Some (record { taken = taken + length counted; unread = unread' })) m n talk talk'
 kept Over c old taken unread piece counted unread' m n talk talk' is e below h =
     subst (λ (l : Left). Received Over c l piece (Some (record { taken = taken + length counted; unread = unread' })) m n talk talk') is (
       subst (λ x. Holds Over c (unread ++ x) unread' m n talk talk') e h,

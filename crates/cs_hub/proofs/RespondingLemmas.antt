@@ -3,7 +3,8 @@
 --   itself_given                     the response itself, which is no 500
 --   given_refused, given_asked       that to parameters: a refusal, or what a request gives
 --   given_searched, given_judged     that to a head: what its parameters give, or a refusal
-use Rattle.std.proofs.Common.{◌≡◌, inl, ℕ, ◌+◌, ◌≤◌, ◌==◌, Bool, false, not, ◌&&◌, cond, List, [], ◌∷◌, Option, Some, None, codes, refl, sym, ◌∙◌, ap, subst, arith}
+use Rattle.std.proofs.Common.{◌≡◌, inl, ℕ, ◌+◌, ◌≤◌, ◌==◌, Bool, false, not, ◌&&◌, cond, List, [], ◌∷◌, Option, Some, None, codes, refl, sym, ◌∙◌, ap, subst}
+use Rattle.std.proofs.Common.{arith}
 use Rattle.std.specs.Str.{bytes_eq}
 use Rattle.cs_http.specs.declared.heads.HeadFault.{HeadFault}
 use Rattle.cs_http.specs.Judging.{IsHeadCause}
@@ -51,25 +52,30 @@ params_counts k p close =
     let r = to_params k p close in
     (ap (λ t. t && bytes_eq r.body (error_text (codes "read"))) h, ap (λ t. t && not (says_read r)) h)
 
-pub given_refused : (Over : Corpus → Type 0) (p : List ℕ) (fault : ReqFault) (close : Bool) (r : Response) (m : ℕ) → IsCause p fault → IsRefusedSo fault close r → IsGiven Over (λ k. to_params k p close) r m m
+pub given_refused : (Over : Corpus → Type 0) (p : List ℕ) (fault : ReqFault) (close : Bool) (r : Response) (m : ℕ) → IsCause p fault → IsRefusedSo fault close r
+    → IsGiven Over (λ k. to_params k p close) r m m
 given_refused Over p fault close r m cause h = λ k over.
     let e : r ≡ to_params k p close = h k p cause in
     let counts = params_counts k p close in
     itself_given (to_params k p close) r m m e (ap says_read e ∙ counts.0) (ap says_changed e ∙ counts.1) (omega arith)
 
 -- where the parameters aren't refused, the response is that to their request
-pub given_params : (k : Corpus) (p : List ℕ) (q : Request) (close : Bool) → request_refusal p ≡ None → q ≡ request_of p → replied k q close ≡ to_params k p close
+pub given_params : (k : Corpus) (p : List ℕ) (q : Request) (close : Bool) → request_refusal p ≡ None → q ≡ request_of p
+    → replied k q close ≡ to_params k p close
 given_params k p q close none e =
     ap (λ q. replied k q close) e ∙ sym (ap (λ r. let y : Response = record { status = status_by r; closes = close; body = text_by k p r } in y) none)
 
-pub given_asked : (Over : Corpus → Type 0) (p : List ℕ) (q : Request) (close : Bool) (r : Response) (m n : ℕ) → request_refusal p ≡ None → q ≡ request_of p → IsGiven Over (λ k. replied k q close) r m n → IsGiven Over (λ k. to_params k p close) r m n
+pub given_asked : (Over : Corpus → Type 0) (p : List ℕ) (q : Request) (close : Bool) (r : Response) (m n : ℕ) → request_refusal p ≡ None → q ≡ request_of p
+    → IsGiven Over (λ k. replied k q close) r m n → IsGiven Over (λ k. to_params k p close) r m n
 given_asked Over p q close r m n none e h = λ k over. subst (λ x. IsFor x r m n) (given_params k p q close none e) (h k over)
 
 -- ---- heads
-pub given_searched : (Over : Corpus → Type 0) (bytes p : List ℕ) (close : Bool) (r : Response) (m n : ℕ) → judge bytes ≡ asks p close → IsGiven Over (λ k. to_params k p close) r m n → IsGiven Over (λ k. response_to k bytes) r m n
+pub given_searched : (Over : Corpus → Type 0) (bytes p : List ℕ) (close : Bool) (r : Response) (m n : ℕ) → judge bytes ≡ asks p close
+    → IsGiven Over (λ k. to_params k p close) r m n → IsGiven Over (λ k. response_to k bytes) r m n
 given_searched Over bytes p close r m n e h = λ k over. subst (λ x. IsFor x r m n) (sym (is_response k bytes (asks p close) e)) (h k over)
 
-pub given_judged : (Over : Corpus → Type 0) (bytes : List ℕ) (fault : HeadFault) (r : Response) (m : ℕ) → IsHeadCause (judge bytes) fault → IsJudgedSo fault r → IsGiven Over (λ k. response_to k bytes) r m m
+pub given_judged : (Over : Corpus → Type 0) (bytes : List ℕ) (fault : HeadFault) (r : Response) (m : ℕ) → IsHeadCause (judge bytes) fault → IsJudgedSo fault r
+    → IsGiven Over (λ k. response_to k bytes) r m m
 given_judged Over bytes fault r m cause h = λ k over.
     let e : r ≡ response_to k bytes = h k (judge bytes) cause ∙ sym (is_response k bytes (judge bytes) refl) in
     let counts = answer_counts k bytes in

@@ -33,7 +33,8 @@ nothing None h = refl
 nothing (Some l) h = absurd cc
 
 -- before its step the core's connections are the live ones but for the event's own
-pub before_step : (core : Slots) (s s' : Listening) (talk : Option Talk) (room : ℕ) (e : Event) → HasLive core s → IsOrderly s talk → Happens s room e s' → HasLiveBut core s' e
+pub before_step : (core : Slots) (s s' : Listening) (talk : Option Talk) (room : ℕ) (e : Event) → HasLive core s → IsOrderly s talk → Happens s room e s'
+    → HasLiveBut core s' e
 before_step core s s' talk room (Opened c) h o p =
     let closed : set.contains s.live c ≡ false = not_live (set.contains s.live c) (λ live. absurd (omega (arith, o.live c live, p.1))) in
     subst (λ x. HasLiveBut core x (Opened c)) (sym p.3) (
@@ -70,7 +71,8 @@ pub record ServedBy (k : Corpus) (core : Slots) (s : Listening) (talk : Option T
   pub follows : Follows k core s talk failed
   pub rose : RoseBy failed before now
 
-pub goes_on : (k : Corpus) (core core' : Slots) (s s' : Listening) (talk talk' : Option Talk) (m n o : ℕ) → ServedBy k core s talk m n → StaysServed k core core' s s' talk talk' n o → ServedBy k core' s' talk' m o
+pub goes_on : (k : Corpus) (core core' : Slots) (s s' : Listening) (talk talk' : Option Talk) (m n o : ℕ) → ServedBy k core s talk m n
+    → StaysServed k core core' s s' talk talk' n o → ServedBy k core' s' talk' m o
 goes_on k core core' s s' talk talk' m n o h f =
     let x = f h.failed h.follows in
     record { failed = h.failed + x.0; follows = x.1; rose = rose_both h.failed x.0 m n o h.rose x.2 }
@@ -83,15 +85,20 @@ pub none_live : (core : Slots) (s : Listening) → HasLive core s → ((d : ℕ)
 none_live core s h none = λ d. sym (h d) ∙ ap is_some (none d)
 
 -- ---- the start
-pub at_start : (k : Corpus) (core : Slots) (s : Listening) (talk : Option Talk) (port conns m : ℕ) → core ≡ [] → s ≡ listens port conns → IsOrderly s talk → ServedBy k core s talk m m
-at_start k core s talk port conns m none e o = subst (λ x. ServedBy k x s talk m m) (sym none) (record { failed = 0; follows = starts k s talk port conns e o; rose = rose_none m m (omega arith) })
+pub at_start : (k : Corpus) (core : Slots) (s : Listening) (talk : Option Talk) (port conns m : ℕ) → core ≡ [] → s ≡ listens port conns → IsOrderly s talk
+    → ServedBy k core s talk m m
+at_start k core s talk port conns m none e o =
+    subst (λ x. ServedBy k x s talk m m) (sym none) (record { failed = 0; follows = starts k s talk port conns e o; rose = rose_none m m (omega arith) })
 
 pub start_live : (core : Slots) (s : Listening) (port conns : ℕ) → core ≡ [] → s ≡ listens port conns → HasLive core s
-start_live core s port conns none e = subst (λ x. HasLive x s) (sym none) (λ d. sym (ap (λ (y : Listening). set.contains y.live d) e ∙ set.contains-empty nat_cmp d))
+start_live core s port conns none e =
+    subst (λ x. HasLive x s) (sym none) (λ d. sym (ap (λ (y : Listening). set.contains y.live d) e ∙ set.contains-empty nat_cmp d))
 
 pub start_still : (core : Slots) (conns : ℕ) → core ≡ [] → still conns 0 core ≡ conns * (MAX_CONNECTION_BYTES + 2)
 start_still core conns none = let w = ap weight none in omega (arith, w)
 
 -- less is left to come, by the numbers that the loop keeps
-pub less_left : (conns opened count room was : ℕ) (core core' : Slots) → room ≡ conns → was ≡ opened → still room count core' < still room was core → still conns count core' < still conns opened core
-less_left conns opened count room was core core' e f h = subst (λ i. still i count core' < still i opened core) e (subst (λ i. still room count core' < still room i core) f h)
+pub less_left : (conns opened count room was : ℕ) (core core' : Slots) → room ≡ conns → was ≡ opened → still room count core' < still room was core
+    → still conns count core' < still conns opened core
+less_left conns opened count room was core core' e f h =
+    subst (λ i. still i count core' < still i opened core) e (subst (λ i. still room count core' < still room i core) f h)

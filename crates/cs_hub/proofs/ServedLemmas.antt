@@ -5,7 +5,8 @@
 --   zip_going                    what stands in the place of responses that close nothing closes nothing
 --   served_both, cut_behind, met_behind, ended_behind     responses behind some first ones
 --   plain                        no response that is served says Read or Changed, and while the connection goes on none closes it
-use Rattle.std.proofs.Common.{◌≡◌, inl, inr, ℕ, suc, ◌+◌, Bool, true, false, List, [], ◌∷◌, ◌++◌, length, drop, slice_range, append_assoc, refl, sym, ◌∙◌, ap, ap₂, subst, arith}
+use Rattle.std.proofs.Common.{◌≡◌, inl, inr, ℕ, suc, ◌+◌, Bool, true, false, List, [], ◌∷◌, ◌++◌, length, drop, slice_range, append_assoc, refl, sym, ◌∙◌, ap}
+use Rattle.std.proofs.Common.{ap₂, subst, arith}
 use Prim.Native.Nat.{zero}
 use Rattle.std.specs.Prelude.{All, cond}
 use Rattle.std.specs.List.{AllZip}
@@ -46,7 +47,8 @@ zip_going [] [] h g = all_nil (λ r. r.closes ≡ false)
 zip_going [] (s ∷ sent) h g = absurd h
 zip_going (r ∷ rs) [] h g = absurd h
 zip_going (r ∷ rs) (s ∷ sent) h g =
-    All-cons (λ r. r.closes ≡ false) s sent (same_closing r s h.0 ∙ All-head (λ r. r.closes ≡ false) r rs g) (zip_going rs sent h.1 (All-tail (λ r. r.closes ≡ false) r rs g))
+    All-cons (λ r. r.closes ≡ false) s sent (same_closing r s h.0 ∙ All-head (λ r. r.closes ≡ false) r rs g)
+    (zip_going rs sent h.1 (All-tail (λ r. r.closes ≡ false) r rs g))
 
 pub bytes_both : (xs ys : List Response) → all_bytes (xs ++ ys) ≡ all_bytes xs ++ all_bytes ys
 bytes_both xs ys = flat_map-append response_bytes xs ys
@@ -58,21 +60,25 @@ served_both ps qs x y xs ys h k = record {
   bytes = ap₂ (λ a b. a ++ b) h.bytes k.bytes ∙ sym (bytes_both xs ys);
 }
 
-pub cut_behind : (ps qs : List Response) (x y : List ℕ) (xs ys : List Response) → IsServed ps x xs → All (λ r. r.closes ≡ false) xs → IsCutShort qs y ys → IsCutShort (ps ++ qs) (x ++ y) (xs ++ ys)
+pub cut_behind : (ps qs : List Response) (x y : List ℕ) (xs ys : List Response) → IsServed ps x xs → All (λ r. r.closes ≡ false) xs → IsCutShort qs y ys
+    → IsCutShort (ps ++ qs) (x ++ y) (xs ++ ys)
 cut_behind ps qs x y xs ys h going k = record {
   first = ps ++ k.first;
   later = k.later;
   cut = ap (λ l. ps ++ l) k.cut ∙ sym (append_assoc ps k.first k.later);
   each = zip_both ps k.first xs ys h.each k.each;
   going = All-append (λ r. r.closes ≡ false) xs ys going k.going;
-  bytes = ap₂ (λ a b. a ++ b) h.bytes k.bytes ∙ sym (append_assoc (all_bytes xs) (all_bytes ys) memory_bytes) ∙ ap (λ l. l ++ memory_bytes) (sym (bytes_both xs ys));
+  bytes = ap₂ (λ a b. a ++ b) h.bytes k.bytes ∙ sym (append_assoc (all_bytes xs) (all_bytes ys) memory_bytes)
+      ∙ ap (λ l. l ++ memory_bytes) (sym (bytes_both xs ys));
 }
 
-pub met_behind : (ps qs : List Response) (x y : List ℕ) (xs ys : List Response) → IsServed ps x xs → All (λ r. r.closes ≡ false) xs → IsMet qs y ys → IsMet (ps ++ qs) (x ++ y) (xs ++ ys)
+pub met_behind : (ps qs : List Response) (x y : List ℕ) (xs ys : List Response) → IsServed ps x xs → All (λ r. r.closes ≡ false) xs → IsMet qs y ys
+    → IsMet (ps ++ qs) (x ++ y) (xs ++ ys)
 met_behind ps qs x y xs ys h going (inl k) = inl (served_both ps qs x y xs ys h k)
 met_behind ps qs x y xs ys h going (inr k) = inr (cut_behind ps qs x y xs ys h going k)
 
-pub ended_behind : (ps : List Response) (a : Served) (fails : Bool) (x y : List ℕ) (xs ys : List Response) → IsServed ps x xs → All (λ r. r.closes ≡ false) xs → IsEnded a y fails ys → IsEnded (answers_before ps a) (x ++ y) fails (xs ++ ys)
+pub ended_behind : (ps : List Response) (a : Served) (fails : Bool) (x y : List ℕ) (xs ys : List Response) → IsServed ps x xs → All (λ r. r.closes ≡ false) xs
+    → IsEnded a y fails ys → IsEnded (answers_before ps a) (x ++ y) fails (xs ++ ys)
 ended_behind ps a false x y xs ys h going (inl k) = inl (served_both ps a.responses x y xs ys h k.0, k.1)
 ended_behind ps a false x y xs ys h going (inr k) = inr (cut_behind ps a.responses x y xs ys h going k)
 ended_behind ps a true x y xs ys h going k =
@@ -98,7 +104,8 @@ none_more : (n : ℕ) (b : Bool) (m : ℕ) → n ≡ cond b 1 0 + m → b ≡ fa
 none_more n true m h e z = absurd cc
 none_more n false m h e z = omega (arith, h, z)
 
-answered_plain : (close : Bool) (r : Response) (rest : List ℕ) (later : List ℕ → Served) → r.closes ≡ close → says_read r ≡ false → says_changed r ≡ false → IsPlain (later rest) → IsPlain (answered_by close r rest later)
+answered_plain : (close : Bool) (r : Response) (rest : List ℕ) (later : List ℕ → Served) → r.closes ≡ close → says_read r ≡ false → says_changed r ≡ false
+    → IsPlain (later rest) → IsPlain (answered_by close r rest later)
 answered_plain true r rest later closes read changed h = record {
   reads = none_more (reads (r ∷ [])) (says_read r) (reads []) (reads_cons r []) read refl;
   changes = none_more (changes (r ∷ [])) (says_changed r) (changes []) (changes_cons r []) changed refl;
@@ -106,7 +113,8 @@ answered_plain true r rest later closes read changed h = record {
 }
 answered_plain false r rest later closes read changed h = record {
   reads = none_more (reads (r ∷ (later rest).responses)) (says_read r) (reads (later rest).responses) (reads_cons r (later rest).responses) read h.reads;
-  changes = none_more (changes (r ∷ (later rest).responses)) (says_changed r) (changes (later rest).responses) (changes_cons r (later rest).responses) changed h.changes;
+  changes = none_more (changes (r ∷ (later rest).responses)) (says_changed r) (changes (later rest).responses) (changes_cons r (later rest).responses)
+      changed h.changes;
   going = λ e. All-cons (λ r. r.closes ≡ false) r (later rest).responses closes (h.going e);
 }
 

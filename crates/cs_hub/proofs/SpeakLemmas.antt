@@ -47,7 +47,8 @@ pick false x o = refl
 
 sent_after : (t : Talk) (c : ℕ) (b : List ℕ) (d : ℕ) → sent_on (sends c b t) d ≡ cond (d == c) (sent_on t c ++ b) (sent_on t d)
 sent_after t c b d =
-    ap (λ o. unwrap_or o []) (map.get-insert nat_cmp_total t.sent c (sent_on t c ++ b) d ∙ ap (λ x. cond x (Some (sent_on t c ++ b)) (map.get t.sent d)) (unsigned_tied d c))
+    ap (λ o. unwrap_or o []) (map.get-insert nat_cmp_total t.sent c (sent_on t c ++ b) d
+    ∙ ap (λ x. cond x (Some (sent_on t c ++ b)) (map.get t.sent d)) (unsigned_tied d c))
     ∙ pick (d == c) (sent_on t c ++ b) (map.get t.sent d)
 
 -- who is in a set with one connection more
@@ -92,11 +93,13 @@ pub spoke_nothing : (c : ℕ) (talk : Option Talk) → Spoke c [] false talk tal
 spoke_nothing c None = tt
 spoke_nothing c (Some t) = did_nothing c t
 
-pub spoke_by : (c : ℕ) (more : List ℕ) (fails : Bool) (f : Talk → Talk) (talk talk' : Option Talk) → ((t : Talk) → Did c more fails t (f t)) → talk' ≡ option_map f talk → Spoke c more fails talk talk'
+pub spoke_by : (c : ℕ) (more : List ℕ) (fails : Bool) (f : Talk → Talk) (talk talk' : Option Talk) → ((t : Talk) → Did c more fails t (f t))
+    → talk' ≡ option_map f talk → Spoke c more fails talk talk'
 spoke_by c more fails f None talk' h e = subst (Spoke c more fails None) (sym e) tt
 spoke_by c more fails f (Some t) talk' h e = subst (Spoke c more fails (Some t)) (sym e) (h t)
 
-pub spoke_both : (c : ℕ) (x y : List ℕ) (fails : Bool) (talk mid talk' : Option Talk) → Spoke c x false talk mid → Spoke c y fails mid talk' → Spoke c (x ++ y) fails talk talk'
+pub spoke_both : (c : ℕ) (x y : List ℕ) (fails : Bool) (talk mid talk' : Option Talk) → Spoke c x false talk mid → Spoke c y fails mid talk'
+    → Spoke c (x ++ y) fails talk talk'
 spoke_both c x y fails None None None h k = tt
 spoke_both c x y fails None None (Some v) h k = absurd k
 spoke_both c x y fails None (Some u) talk' h k = absurd h
@@ -139,7 +142,8 @@ breaks_both m n o talk mid talk' h k = record {
 }
 
 -- by a change of the talk that breaks none
-pub breaks_by : (m n : ℕ) (f : Talk → Talk) (talk talk' : Option Talk) → n ≡ m → ((t : Talk) → (f t).broken ≡ t.broken) → talk' ≡ option_map f talk → BreaksBy m n talk talk'
+pub breaks_by : (m n : ℕ) (f : Talk → Talk) (talk talk' : Option Talk) → n ≡ m → ((t : Talk) → (f t).broken ≡ t.broken) → talk' ≡ option_map f talk
+    → BreaksBy m n talk talk'
 breaks_by m n f None talk' e same is = record { later = omega (arith, e); unbroken = λ calm. ap (option_map (λ t. t.broken)) is }
 breaks_by m n f (Some t) talk' e same is = record { later = omega (arith, e); unbroken = λ calm. ap (option_map (λ t. t.broken)) is ∙ ap Some (same t) }
 
@@ -164,11 +168,14 @@ unbroken_as (Some t) u is h = λ c. ap (λ b. set.contains b c) (same_Some u.bro
 fresh_unbroken : (s : Listening) (talk : Option Talk) (port conns : ℕ) → s ≡ listens port conns → IsOrderly s talk → ForSome talk AreUnbroken
 fresh_unbroken s talk port conns e o = λ t at c. (o.fresh t at c (let l : s.opened ≤ c = omega (arith, ap (λ (y : Listening). y.opened) e) in l)).2
 
-pub none_broken : (m n port conns : ℕ) (s : Listening) (talk talk' : Option Talk) → s ≡ listens port conns → IsOrderly s talk → BreaksBy m n talk talk' → (Rose m n → ⊥) → ForSome talk' AreUnbroken
-none_broken m n port conns s talk talk' e o h calm = λ u at. unbroken_as talk u (ap (option_map (λ t. t.broken)) (sym at) ∙ h.unbroken calm) (fresh_unbroken s talk port conns e o)
+pub none_broken : (m n port conns : ℕ) (s : Listening) (talk talk' : Option Talk) → s ≡ listens port conns → IsOrderly s talk → BreaksBy m n talk talk'
+    → (Rose m n → ⊥) → ForSome talk' AreUnbroken
+none_broken m n port conns s talk talk' e o h calm =
+    λ u at. unbroken_as talk u (ap (option_map (λ t. t.broken)) (sym at) ∙ h.unbroken calm) (fresh_unbroken s talk port conns e o)
 
 -- ---- what is said
-counted_both : (P Q R : List Response → Type 0) (m n o : ℕ) → ((xs ys : List Response) → P xs → Q ys → R (xs ++ ys)) → IsCounted P m n → IsCounted Q n o → IsCounted R m o
+counted_both : (P Q R : List Response → Type 0) (m n o : ℕ) → ((xs ys : List Response) → P xs → Q ys → R (xs ++ ys)) → IsCounted P m n → IsCounted Q n o
+    → IsCounted R m o
 counted_both P Q R m n o join h k = record {
   sent = h.sent ++ k.sent;
   meets = join h.sent k.sent h.meets k.meets;
@@ -177,11 +184,13 @@ counted_both P Q R m n o join h k = record {
 }
 
 -- more is said behind what was said, where those that were answered over still are
-pub says_both : (Over Later : Corpus → Type 0) (c : ℕ) (fails : Bool) (P Q R : Corpus → List ℕ → List Response → Type 0) (m n o : ℕ) (talk mid talk' : Option Talk)
+pub says_both : (Over Later : Corpus → Type 0) (c : ℕ) (fails : Bool) (P Q R : Corpus → List ℕ → List Response → Type 0) (m n o : ℕ)
+    (talk mid talk' : Option Talk)
     → ((k : Corpus) → Over k → Later k) → ((k : Corpus) (x y : List ℕ) (xs ys : List Response) → P k x xs → Q k y ys → R k (x ++ y) (xs ++ ys))
     → Says Over c false P m n talk mid → Says Later c fails Q n o mid talk' → Says Over c fails R m o talk talk'
 says_both Over Later c fails P Q R m n o talk mid talk' still join h s = record {
   more = h.more ++ s.more;
   spoke = spoke_both c h.more s.more fails talk mid talk' h.spoke s.spoke;
-  counted = λ k over. counted_both (P k h.more) (Q k s.more) (R k (h.more ++ s.more)) m n o (join k h.more s.more) (h.counted k over) (s.counted k (still k over));
+  counted = λ k over. counted_both (P k h.more) (Q k s.more) (R k (h.more ++ s.more)) m n o (join k h.more s.more) (h.counted k over)
+      (s.counted k (still k over));
 }

@@ -7,7 +7,8 @@
 --   replied_goes, replied_stops      the same of the response to a head
 --   found_head, found_more, found_long    what looking found, as framing
 --   head_bytes        the bytes of a head, some of which were unread
-use Rattle.std.proofs.Common.{ap₂, ◌≡◌, ◌⊎◌, inl, inr, ℕ, ◌+◌, ◌-◌, ◌<◌, ◌≤◌, Bool, true, false, List, [], ◌∷◌, ◌++◌, length, take, drop, slice_range, append_assoc, append-nil, refl, sym, ◌∙◌, ap, subst, arith, length-append, length-drop}
+use Rattle.std.proofs.Common.{ap₂, ◌≡◌, ◌⊎◌, inl, inr, ℕ, ◌+◌, ◌-◌, ◌<◌, ◌≤◌, Bool, true, false, List, [], ◌∷◌, ◌++◌, length, take, drop, slice_range}
+use Rattle.std.proofs.Common.{append_assoc, append-nil, refl, sym, ◌∙◌, ap, subst, arith, length-append, length-drop}
 use Rattle.std.specs.Prelude.{Option, cond, not, ◌&&◌, Result, Ok, Err, IfOk}
 use Rattle.std.specs.List.{AllZip}
 use Rattle.std.proofs.lemmas.List.{take-append-drop, take-append-le, drop-append-le, length-take-le}
@@ -38,7 +39,8 @@ use Rattle.cs_hub.proofs.ServedLemmas.{all_nil, zip_same, same_closing, plain, r
 cut_none : (rs : List Response) → IsCutShort rs memory_bytes []
 cut_none rs = record { first = []; later = rs; cut = refl; each = tt; going = all_nil (λ r. r.closes ≡ false); bytes = refl }
 
-starves_by : (Over : Corpus → Type 0) (c : ℕ) (b : List ℕ) (whole : Bool) (m n : ℕ) (talk talk' : Option Talk) → m ≤ n → Said c memory_bytes whole talk talk' → Stops Over c b m n talk talk'
+starves_by : (Over : Corpus → Type 0) (c : ℕ) (b : List ℕ) (whole : Bool) (m n : ℕ) (talk talk' : Option Talk) → m ≤ n → Said c memory_bytes whole talk talk'
+    → Stops Over c b m n talk talk'
 starves_by Over c b true m n talk talk' later said = (
   false,
   record {
@@ -54,7 +56,10 @@ starves_by Over c b false m n talk talk' later said = (
     spoke = said.1;
     counted = λ k over. record {
       sent = [];
-      meets = (drop said.0 memory_bytes, inr (subst (λ l. IsCutShort (serve k b).responses l []) (sym (take-append-drop said.0 memory_bytes)) (cut_none (serve k b).responses)));
+      meets = (
+        drop said.0 memory_bytes,
+        inr (subst (λ l. IsCutShort (serve k b).responses l []) (sym (take-append-drop said.0 memory_bytes)) (cut_none (serve k b).responses)),
+      );
       unchanged = refl;
       rose = rose_none m n later;
     };
@@ -66,7 +71,8 @@ starves Over c b m n talk talk' later s = starves_by Over c b s.0 m n talk talk'
 
 -- ---- one response
 -- the first that is served, and the others
-tail_of : (close : Bool) (q : Response) (rest : List ℕ) (later : List ℕ → Served) → (others : List Response) × ((answered_by close q rest later).responses ≡ q ∷ others)
+tail_of : (close : Bool) (q : Response) (rest : List ℕ) (later : List ℕ → Served) → (others : List Response)
+    × ((answered_by close q rest later).responses ≡ q ∷ others)
 tail_of true q rest later = ([], refl)
 tail_of false q rest later = ((later rest).responses, refl)
 
@@ -103,10 +109,14 @@ module _ (Over : Corpus → Type 0) (c : ℕ) (b rest : List ℕ) (right : Corpu
   others k = let t = tail_of (right k).closes (right k) rest (serve k) in (t.0, ap (λ (a : Served). a.responses) (served k) ∙ t.1)
 
   none_read : (k : Corpus) → reads (others k).0 ≡ 0
-  none_read k = none_in (reads (right k ∷ (others k).0)) (reads (others k).0) (says_read (right k)) (sym (ap reads (others k).1) ∙ (plain k b).reads) (reads_cons (right k) (others k).0)
+  none_read k =
+      none_in (reads (right k ∷ (others k).0)) (reads (others k).0) (says_read (right k)) (sym (ap reads (others k).1) ∙ (plain k b).reads)
+      (reads_cons (right k) (others k).0)
 
   none_changed : (k : Corpus) → changes (others k).0 ≡ 0
-  none_changed k = none_in (changes (right k ∷ (others k).0)) (changes (others k).0) (says_changed (right k)) (sym (ap changes (others k).1) ∙ (plain k b).changes) (changes_cons (right k) (others k).0)
+  none_changed k =
+      none_in (changes (right k ∷ (others k).0)) (changes (others k).0) (says_changed (right k)) (sym (ap changes (others k).1) ∙ (plain k b).changes)
+      (changes_cons (right k) (others k).0)
 
   same_reads : (k : Corpus) → reads (r ∷ []) ≡ reads (r ∷ (others k).0)
   same_reads k = let x = reads_cons r [] in let y = reads_cons r (others k).0 in let z = none_read k in omega (arith, x, y, z)
@@ -119,7 +129,8 @@ module _ (Over : Corpus → Type 0) (c : ℕ) (b rest : List ℕ) (right : Corpu
     drop count (response_bytes r) ++ all_bytes (others k).0,
     inl (record {
       each = subst (λ l. AllZip MayReplace l (r ∷ (others k).0)) (sym (others k).1) ((given k over).replaces, zip_same (others k).0);
-      bytes = sym (append_assoc (take count (response_bytes r)) (drop count (response_bytes r)) (all_bytes (others k).0)) ∙ ap (λ l. l ++ all_bytes (others k).0) (take-append-drop count (response_bytes r));
+      bytes = sym (append_assoc (take count (response_bytes r)) (drop count (response_bytes r)) (all_bytes (others k).0))
+          ∙ ap (λ l. l ++ all_bytes (others k).0) (take-append-drop count (response_bytes r));
     }),
   )
 
@@ -149,23 +160,27 @@ module _ (Over : Corpus → Type 0) (c : ℕ) (b rest : List ℕ) (right : Corpu
   one_stops (inr (inr s)) = starves Over c b m n talk talk' later s
 
 -- ---- what was sent
-closes_so : (c : ℕ) (r : Response) (close : Bool) (talk talk' : Option Talk) → r.closes ≡ close → Spoke c (response_bytes r) false talk talk' → Delivered c r (not close) talk talk'
+closes_so : (c : ℕ) (r : Response) (close : Bool) (talk talk' : Option Talk) → r.closes ≡ close → Spoke c (response_bytes r) false talk talk'
+    → Delivered c r (not close) talk talk'
 closes_so c r true talk talk' is h = inl (is, h)
 closes_so c r false talk talk' is h = (is, h)
 
 -- a response goes on where it was sent whole and doesn't close the connection
-pub delivered_by : (c : ℕ) (r : Response) (text : List ℕ) (whole : Bool) (talk talk' : Option Talk) → text ≡ response_bytes r → Said c text whole talk talk' → Delivered c r (whole && not r.closes) talk talk'
+pub delivered_by : (c : ℕ) (r : Response) (text : List ℕ) (whole : Bool) (talk talk' : Option Talk) → text ≡ response_bytes r → Said c text whole talk talk'
+    → Delivered c r (whole && not r.closes) talk talk'
 delivered_by c r text true talk talk' is h = closes_so c r r.closes talk talk' refl (subst (λ t. Spoke c t false talk talk') is h)
 delivered_by c r text false talk talk' is h = inr (inl (h.0, subst (λ t. Spoke c (take h.0 t) true talk talk') is h.1))
 
 -- ---- the response to a head
-pub replied_goes : (Over : Corpus → Type 0) (c : ℕ) (b rest : List ℕ) (right : Corpus → Response) (goes : Bool) (m n : ℕ) (talk talk' : Option Talk) → ((k : Corpus) → serve k b ≡ answered (right k) rest (serve k)) → m ≤ n → goes ≡ true
+pub replied_goes : (Over : Corpus → Type 0) (c : ℕ) (b rest : List ℕ) (right : Corpus → Response) (goes : Bool) (m n : ℕ) (talk talk' : Option Talk)
+    → ((k : Corpus) → serve k b ≡ answered (right k) rest (serve k)) → m ≤ n → goes ≡ true
     → Replied Over c right goes m n talk talk' → Says Over c false (λ k more sent. IsOne k b rest more sent) m n talk talk'
 replied_goes Over c b rest right true m n talk talk' served later is (inl h) = one_goes Over c b rest right served h.0 m n talk talk' later h.1 h.2
 replied_goes Over c b rest right true m n talk talk' served later is (inr h) = absurd (let x : true ≡ false = h.0 in cc)
 replied_goes Over c b rest right false m n talk talk' served later is h = absurd cc
 
-pub replied_stops : (Over : Corpus → Type 0) (c : ℕ) (b rest : List ℕ) (right : Corpus → Response) (goes : Bool) (m n : ℕ) (talk talk' : Option Talk) → ((k : Corpus) → serve k b ≡ answered (right k) rest (serve k)) → m ≤ n → goes ≡ false
+pub replied_stops : (Over : Corpus → Type 0) (c : ℕ) (b rest : List ℕ) (right : Corpus → Response) (goes : Bool) (m n : ℕ) (talk talk' : Option Talk)
+    → ((k : Corpus) → serve k b ≡ answered (right k) rest (serve k)) → m ≤ n → goes ≡ false
     → Replied Over c right goes m n talk talk' → Stops Over c b m n talk talk'
 replied_stops Over c b rest right true m n talk talk' served later is h = absurd cc
 replied_stops Over c b rest right false m n talk talk' served later is (inl h) = one_stops Over c b rest right served h.0 m n talk talk' later h.1 h.2
@@ -175,11 +190,14 @@ replied_stops Over c b rest right false m n talk talk' served later is (inr h) =
 given_long : (Over : Corpus → Type 0) (m : ℕ) → IsGiven Over (λ k. too_long) too_long m m
 given_long Over m = λ k over. record { replaces = inl refl; unchanged = refl; rose = rose_none m m (omega arith) }
 
-long_by : (Over : Corpus → Type 0) (c : ℕ) (b : List ℕ) (goes : Bool) (m : ℕ) (talk talk' : Option Talk) → ((k : Corpus) → serve k b ≡ answered too_long b (serve k)) → Delivered c too_long goes talk talk' → Stops Over c b m m talk talk'
+long_by : (Over : Corpus → Type 0) (c : ℕ) (b : List ℕ) (goes : Bool) (m : ℕ) (talk talk' : Option Talk)
+    → ((k : Corpus) → serve k b ≡ answered too_long b (serve k)) → Delivered c too_long goes talk talk' → Stops Over c b m m talk talk'
 long_by Over c b true m talk talk' served d = absurd (let x : true ≡ false = d.0 in cc)
 long_by Over c b false m talk talk' served d = one_stops Over c b b (λ k. too_long) served too_long m m talk talk' (omega arith) (given_long Over m) d
 
-pub refused_stops : (Over : Corpus → Type 0) (c : ℕ) (b : List ℕ) (m : ℕ) (talk talk' : Option Talk) → ((k : Corpus) → serve k b ≡ answered too_long b (serve k)) → ((goes : Bool) × Delivered c too_long goes talk talk') ⊎ Starved c talk talk' → Stops Over c b m m talk talk'
+pub refused_stops : (Over : Corpus → Type 0) (c : ℕ) (b : List ℕ) (m : ℕ) (talk talk' : Option Talk)
+    → ((k : Corpus) → serve k b ≡ answered too_long b (serve k)) → ((goes : Bool) × Delivered c too_long goes talk talk') ⊎ Starved c talk talk'
+    → Stops Over c b m m talk talk'
 refused_stops Over c b m talk talk' served (inl d) = long_by Over c b d.0 m talk talk' served d.1
 refused_stops Over c b m talk talk' served (inr s) = starves Over c b m m talk talk' (omega arith) s
 
@@ -215,7 +233,8 @@ range-front a more skip n e h =
     ∙ take-append-le (n - skip) (drop skip a) more (omega (arith, e, h, length-drop skip a))
 
 -- of these some were unread, and so many came with the piece
-pub head_bytes : (u r : List ℕ) (skip end used : ℕ) → length u + used ≡ end → used ≤ length r → skip ≤ end → slice_range (u ++ take used r) skip (length (u ++ take used r)) ≡ slice_range (u ++ r) skip end
+pub head_bytes : (u r : List ℕ) (skip end used : ℕ) → length u + used ≡ end → used ≤ length r → skip ≤ end
+    → slice_range (u ++ take used r) skip (length (u ++ take used r)) ≡ slice_range (u ++ r) skip end
 head_bytes u r skip end used e h less =
     let n : length (u ++ take used r) ≡ end = omega (arith, length-append u (take used r), length-take-le used r h, e) in
     ap (slice_range (u ++ take used r) skip) n
@@ -226,13 +245,15 @@ pub behind_head : (u r : List ℕ) (end used : ℕ) → length u + used ≡ end 
 behind_head u r end used e = ap (λ n. drop n (u ++ r)) (sym e) ∙ drop-append-add u r used
 
 -- ---- a reply
-pub replied_by : (Over : Corpus → Type 0) (c : ℕ) (head other : List ℕ) (reply : Result Answer Memory) (goes : Bool) (m n : ℕ) (talk talk' : Option Talk) → head ≡ other → IfOk reply (λ a. IsGiven Over (λ k. response_to k head) (response a) m n) → IsSent c reply goes talk talk'
+pub replied_by : (Over : Corpus → Type 0) (c : ℕ) (head other : List ℕ) (reply : Result Answer Memory) (goes : Bool) (m n : ℕ) (talk talk' : Option Talk)
+    → head ≡ other → IfOk reply (λ a. IsGiven Over (λ k. response_to k head) (response a) m n) → IsSent c reply goes talk talk'
     → Replied Over c (λ k. response_to k other) goes m n talk talk'
 replied_by Over c head other (Ok a) goes m n talk talk' e h sent = inl (response a, subst (λ l. IsGiven Over (λ k. response_to k l) (response a) m n) e h, sent)
 replied_by Over c head other (Err x) goes m n talk talk' e h sent = inr sent
 
 -- ---- turns
-served_by : (k : Corpus) (u r : List ℕ) (skip end used : ℕ) → frame (u ++ r) ≡ framed.Head skip end → length u + used ≡ end → used ≤ length r → skip ≤ end → serve k (u ++ r) ≡ answered (response_to k (slice_range (u ++ take used r) skip (length (u ++ take used r)))) (drop used r) (serve k)
+served_by : (k : Corpus) (u r : List ℕ) (skip end used : ℕ) → frame (u ++ r) ≡ framed.Head skip end → length u + used ≡ end → used ≤ length r → skip ≤ end
+    → serve k (u ++ r) ≡ answered (response_to k (slice_range (u ++ take used r) skip (length (u ++ take used r)))) (drop used r) (serve k)
 served_by k u r skip end used f total within front =
     serve-head k (u ++ r) skip end f
     ∙ ap₂ (λ h l. answered (response_to k h) l (serve k)) (sym (head_bytes u r skip end used total within front)) (behind_head u r end used total)
@@ -245,16 +266,21 @@ module _ (Over : Corpus → Type 0) (c : ℕ) (u r u' : List ℕ) (skip end used
     some = some;
     within = within;
     emptied = empty;
-    says = replied_goes Over c (u ++ r) (drop used r) (λ k. response_to k (slice_range (u ++ take used r) skip (length (u ++ take used r)))) goes m n talk talk' (λ k. served_by k u r skip end used f total within front) later is h;
+    says = replied_goes Over c (u ++ r) (drop used r) (λ k. response_to k (slice_range (u ++ take used r) skip (length (u ++ take used r)))) goes m n talk talk'
+        (λ k. served_by k u r skip end used f total within front) later is h;
   }
 
   pub turned_stops : goes ≡ false → Stops Over c (u ++ r) m n talk talk'
-  turned_stops is = replied_stops Over c (u ++ r) (drop used r) (λ k. response_to k (slice_range (u ++ take used r) skip (length (u ++ take used r)))) goes m n talk talk' (λ k. served_by k u r skip end used f total within front) later is h
+  turned_stops is =
+      replied_stops Over c (u ++ r) (drop used r) (λ k. response_to k (slice_range (u ++ take used r) skip (length (u ++ take used r)))) goes m n talk talk'
+      (λ k. served_by k u r skip end used f total within front) later is h
 
-pub turned_long : (Over : Corpus → Type 0) (c : ℕ) (b : List ℕ) (m : ℕ) (talk talk' : Option Talk) → frame b ≡ framed.TooLong → IsTurnedAway c talk talk' → Stops Over c b m m talk talk'
+pub turned_long : (Over : Corpus → Type 0) (c : ℕ) (b : List ℕ) (m : ℕ) (talk talk' : Option Talk) → frame b ≡ framed.TooLong → IsTurnedAway c talk talk'
+    → Stops Over c b m m talk talk'
 turned_long Over c b m talk talk' f h = refused_stops Over c b m talk talk' (λ k. serve-too_long k b f) h
 
-pub turned_held : (Over : Corpus → Type 0) (c : ℕ) (u r u' : List ℕ) (turn : Turn) (m : ℕ) (talk talk' : Option Talk) → frame (u ++ r) ≡ framed.More → HoldsBytes c u r turn u' talk talk' → Turned Over c u r turn u' m m talk talk'
+pub turned_held : (Over : Corpus → Type 0) (c : ℕ) (u r u' : List ℕ) (turn : Turn) (m : ℕ) (talk talk' : Option Talk) → frame (u ++ r) ≡ framed.More
+    → HoldsBytes c u r turn u' talk talk' → Turned Over c u r turn u' m m talk talk'
 turned_held Over c u r u' (Next i) m talk talk' f h = absurd h
 turned_held Over c u r u' Holds m talk talk' f h = record { waits = f; kept = h.0; untold = h.1; same = refl }
 turned_held Over c u r u' Closes m talk talk' f h = starves Over c (u ++ r) m m talk talk' (omega arith) h

@@ -35,7 +35,8 @@ pub record Span (u r : List ℕ) (skip end used : ℕ) : Type 0 where
   pub within : used ≤ length r
   pub some : 0 < used
 
-pub span_of : (u r : List ℕ) (held skip end : ℕ) → Head skip end ≡ look_of (u ++ r) → (length u < end) × (end ≤ length u + length r) → held ≡ length u → Span u r skip end (end - held)
+pub span_of : (u r : List ℕ) (held skip end : ℕ) → Head skip end ≡ look_of (u ++ r) → (length u < end) × (end ≤ length u + length r) → held ≡ length u
+    → Span u r skip end (end - held)
 span_of u r held skip end found placed e =
     let w = (frame-within (u ++ r) skip end (found_head (u ++ r) skip end found)).0 in
     record {

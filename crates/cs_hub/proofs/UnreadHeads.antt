@@ -4,7 +4,8 @@
 --   heads-served      what is served of bytes is the responses to these heads, and maybe that to a head that is too long
 --   heads-more, heads-long, heads-head, heads-goes_on, heads-closes    the heads, by what framing found
 --   requests-none     no bytes ask nothing
-use Rattle.std.proofs.Common.{◌≡◌, ◌⊎◌, inl, inr, ℕ, suc, ◌<◌, ◌≤◌, Bool, true, false, cond, List, [], ◌∷◌, ◌++◌, map, length, drop, slice_range, refl, sym, ◌∙◌, ap, subst, arith, length-drop}
+use Rattle.std.proofs.Common.{◌≡◌, ◌⊎◌, inl, inr, ℕ, suc, ◌<◌, ◌≤◌, Bool, true, false, cond, List, [], ◌∷◌, ◌++◌, map, length, drop, slice_range, refl, sym}
+use Rattle.std.proofs.Common.{◌∙◌, ap, subst, arith, length-drop}
 use Prim.Native.Nat.{zero}
 use Rattle.cs_model.specs.Corpus.{Corpus}
 use Rattle.cs_model_serving.specs.declared.framed.Framed.{Framed}
@@ -21,10 +22,12 @@ use Rattle.cs_hub.specs.DueReads.{closes_behind, heads_among, heads_framed, head
 abbrev Agree : List ℕ → (List ℕ → List (List ℕ)) → (List ℕ → List (List ℕ)) → Type 0
 Agree b later other = (rest : List ℕ) → length rest < length b → later rest ≡ other rest
 
-framed_same : (b : List ℕ) (f : Framed) (later other : List ℕ → List (List ℕ)) → frame b ≡ f → Agree b later other → heads_framed b f later ≡ heads_framed b f other
+framed_same : (b : List ℕ) (f : Framed) (later other : List ℕ → List (List ℕ)) → frame b ≡ f → Agree b later other
+    → heads_framed b f later ≡ heads_framed b f other
 framed_same b (Head skip end) later other h agree =
     let w = (frame-within b skip end h).0 in
-    ap (λ l. slice_range b skip end ∷ cond (closes_behind (judge (slice_range b skip end))) [] l) (agree (drop end b) (omega (arith, w.text, w.within, length-drop end b)))
+    ap (λ l. slice_range b skip end ∷ cond (closes_behind (judge (slice_range b skip end))) [] l)
+    (agree (drop end b) (omega (arith, w.text, w.within, length-drop end b)))
 framed_same b More later other h agree = refl
 framed_same b TooLong later other h agree = refl
 
@@ -39,7 +42,8 @@ Enough n = (m : ℕ) (b : List ℕ) → length b ≤ n → length b ≤ m → he
 enough : (n : ℕ) → Enough n
 enough zero m b p q = sym (none_among m b p)
 enough (suc n) zero b p q = none_among (suc n) b q
-enough (suc n) (suc m) b p q = framed_same b (frame b) (heads_among n) (heads_among m) refl (λ rest less. enough n m rest (omega (arith, less, p)) (omega (arith, less, q)))
+enough (suc n) (suc m) b p q =
+    framed_same b (frame b) (heads_among n) (heads_among m) refl (λ rest less. enough n m rest (omega (arith, less, p)) (omega (arith, less, q)))
 
 pub heads-framed : (b : List ℕ) → heads_on b ≡ heads_framed b (frame b) heads_on
 unfolding heads_on
@@ -59,15 +63,20 @@ pub requests-none : requests_on [] ≡ []
 requests-none = ap requests_to (heads-more [] frame-nil)
 
 pub heads-head : (b : List ℕ) (skip end : ℕ) → frame b ≡ Head skip end → (later : List (List ℕ)) × (heads_on b ≡ slice_range b skip end ∷ later)
-heads-head b skip end h = (cond (closes_behind (judge (slice_range b skip end))) [] (heads_on (drop end b)), heads-framed b ∙ ap (λ f. heads_framed b f heads_on) h)
+heads-head b skip end h =
+    (cond (closes_behind (judge (slice_range b skip end))) [] (heads_on (drop end b)), heads-framed b ∙ ap (λ f. heads_framed b f heads_on) h)
 
-heads-by : (b : List ℕ) (skip end : ℕ) (closes : Bool) → frame b ≡ Head skip end → closes_behind (judge (slice_range b skip end)) ≡ closes → heads_on b ≡ slice_range b skip end ∷ cond closes [] (heads_on (drop end b))
-heads-by b skip end closes h is = heads-framed b ∙ ap (λ f. heads_framed b f heads_on) h ∙ ap (λ x. slice_range b skip end ∷ cond x [] (heads_on (drop end b))) is
+heads-by : (b : List ℕ) (skip end : ℕ) (closes : Bool) → frame b ≡ Head skip end → closes_behind (judge (slice_range b skip end)) ≡ closes
+    → heads_on b ≡ slice_range b skip end ∷ cond closes [] (heads_on (drop end b))
+heads-by b skip end closes h is =
+    heads-framed b ∙ ap (λ f. heads_framed b f heads_on) h ∙ ap (λ x. slice_range b skip end ∷ cond x [] (heads_on (drop end b))) is
 
-pub heads-goes_on : (b : List ℕ) (skip end : ℕ) → frame b ≡ Head skip end → closes_behind (judge (slice_range b skip end)) ≡ false → heads_on b ≡ slice_range b skip end ∷ heads_on (drop end b)
+pub heads-goes_on : (b : List ℕ) (skip end : ℕ) → frame b ≡ Head skip end → closes_behind (judge (slice_range b skip end)) ≡ false
+    → heads_on b ≡ slice_range b skip end ∷ heads_on (drop end b)
 heads-goes_on b skip end h is = heads-by b skip end false h is
 
-pub heads-closes : (b : List ℕ) (skip end : ℕ) → frame b ≡ Head skip end → closes_behind (judge (slice_range b skip end)) ≡ true → heads_on b ≡ slice_range b skip end ∷ []
+pub heads-closes : (b : List ℕ) (skip end : ℕ) → frame b ≡ Head skip end → closes_behind (judge (slice_range b skip end)) ≡ true
+    → heads_on b ≡ slice_range b skip end ∷ []
 heads-closes b skip end h is = heads-by b skip end true h is
 
 -- ---- what is served
@@ -83,11 +92,13 @@ closes_as k h = closes_by k (judge h)
 abbrev pub AreFor : Corpus → List Response → List (List ℕ) → Type 0
 AreFor k rs hs = (later : List Response) × (rs ≡ map (response_to k) hs ++ later) × ((later ≡ []) ⊎ (later ≡ too_long ∷ []))
 
-one_head : (k : Corpus) (h rest : List ℕ) (close : Bool) (later : List ℕ → Served) (heads : List ℕ → List (List ℕ)) → AreFor k (later rest).responses (heads rest) → AreFor k (answered_by close (response_to k h) rest later).responses (h ∷ cond close [] (heads rest))
+one_head : (k : Corpus) (h rest : List ℕ) (close : Bool) (later : List ℕ → Served) (heads : List ℕ → List (List ℕ))
+    → AreFor k (later rest).responses (heads rest) → AreFor k (answered_by close (response_to k h) rest later).responses (h ∷ cond close [] (heads rest))
 one_head k h rest true later heads ih = ([], refl, inl refl)
 one_head k h rest false later heads ih = (ih.0, ap (λ l. response_to k h ∷ l) ih.1, ih.2)
 
-found_head : (k : Corpus) (b : List ℕ) (f : Framed) (later : List ℕ → Served) (heads : List ℕ → List (List ℕ)) → ((rest : List ℕ) → AreFor k (later rest).responses (heads rest)) → AreFor k (framed k b f later).responses (heads_framed b f heads)
+found_head : (k : Corpus) (b : List ℕ) (f : Framed) (later : List ℕ → Served) (heads : List ℕ → List (List ℕ))
+    → ((rest : List ℕ) → AreFor k (later rest).responses (heads rest)) → AreFor k (framed k b f later).responses (heads_framed b f heads)
 found_head k b (Head skip end) later heads ih =
     let h = slice_range b skip end in
     subst (λ close. AreFor k (answered (response_to k h) (drop end b) later).responses (h ∷ cond close [] (heads (drop end b)))) (closes_as k h)

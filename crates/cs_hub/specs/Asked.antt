@@ -40,12 +40,14 @@ pub record AsksOf {K : Type 0} (Leaves : K → Request → Result Reply AskFault
   pub all : whole ≡ true → (later ≡ []) × HasMemory answered
 
 -- so many were asked as what was sent between the two states allows
-pub record AsksAsSent {K : Type 0} (Leaves : K → Request → Result Reply AskFault → K → Type 0) (whole : Bool) (qs : List Request) (s t : K) (Sent : List Answered → Type 0) : Type 0 where
+pub record AsksAsSent {K : Type 0} (Leaves : K → Request → Result Reply AskFault → K → Type 0) (whole : Bool) (qs : List Request) (s t : K)
+    (Sent : List Answered → Type 0) : Type 0 where
   pub asks : AsksOf Leaves whole qs s t
   pub sent : Sent asks.answered
 
 -- the heads of the bytes that are left come behind these, and only whole responses were sent, one to each head
-pub record AsksAlong {K : Type 0} (Leaves : K → Request → Result Reply AskFault → K → Type 0) (c : ℕ) (b left : List ℕ) (s t : K) (talk talk' : Option Talk) : Type 0 where
+pub record AsksAlong {K : Type 0} (Leaves : K → Request → Result Reply AskFault → K → Type 0) (c : ℕ) (b left : List ℕ) (s t : K)
+    (talk talk' : Option Talk) : Type 0 where
   pub heads : List (List ℕ)
   pub cut : heads_on b ≡ heads ++ heads_on left
   pub answered : List Answered
@@ -62,7 +64,8 @@ pub record SentFor (c : ℕ) (goes : Bool) (h : List ℕ) (talk talk' : Option T
   pub part : List ℕ
   pub fails : Bool
   pub spoke : Spoke c part fails talk talk'
-  pub all : (HasMemory answered × (length answered ≡ length (requests_in (judge h))) × (closes_behind (judge h) ≡ not goes)) ⊎ (fails ≡ true) ⊎ (part ≡ memory_bytes)
+  pub all : (HasMemory answered × (length answered ≡ length (requests_in (judge h))) × (closes_behind (judge h) ≡ not goes)) ⊎ (fails ≡ true)
+      ⊎ (part ≡ memory_bytes)
 
 -- a head was answered; or no head ends there, and nothing was asked or sent; or the connection is to be closed
 abbrev pub AsksBy : {K : Type 0} → (K → Request → Result Reply AskFault → K → Type 0) → ℕ → List ℕ → List ℕ → Turn → K → K → Option Talk → Option Talk → Type 0

@@ -25,7 +25,8 @@
 --   SentBefore c b xs       behind a response that wasn't sent whole on the connection c nothing was asked of the bytes b
 --   SentAt event b xs       the same where the event is a piece
 --   AnswersWithin           some first requests were answered, and no more was read than is due for them
-use Rattle.std.specs.Prelude.{◌≡◌, ◌⊎◌, ℕ, suc, ◌+◌, ◌-◌, ◌≤◌, Bool, true, false, cond, List, [], ◌∷◌, ◌++◌, map, length, take, drop, slice_range, All, Option, Some, None, is_some, Result, Ok, Err, IfOk}
+use Rattle.std.specs.Prelude.{◌≡◌, ◌⊎◌, ℕ, suc, ◌+◌, ◌-◌, ◌≤◌, Bool, true, false, cond, List, [], ◌∷◌, ◌++◌, map, length, take, drop, slice_range, All, Option}
+use Rattle.std.specs.Prelude.{Some, None, is_some, Result, Ok, Err, IfOk}
 use Prim.Native.Nat.{zero}
 use Rattle.std.specs.List.{flat_map}
 use Rattle.std.specs.Option.{ForSome}
@@ -188,7 +189,8 @@ SentAt Over b talk talk' answered = answered ≡ []
 
 -- some first ones of these requests were answered, as many as were sent; where `whole` all of them and none met want of memory. No
 -- more was read than is due for them, and no more answers are failed reads than the count of failures rose by
-pub record AnswersWithin (told : Option (List ℕ)) (whole : Bool) (qs : List Request) (old new : EngineView) (before now failed failed' : ℕ) (Sent : List Answered → Type 0) : Type 0 where
+pub record AnswersWithin (told : Option (List ℕ)) (whole : Bool) (qs : List Request) (old new : EngineView) (before now failed failed' : ℕ)
+    (Sent : List Answered → Type 0) : Type 0 where
   pub answered : List Answered
   pub later : List Request
   pub cut : qs ≡ requests_of answered ++ later

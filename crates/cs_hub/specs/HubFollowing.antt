@@ -45,7 +45,8 @@ HasLive core s = (d : ℕ) → is_some (left_at core d) ≡ set.contains s.live 
 abbrev pub HasLiveBut : Slots → Listening → Event → Type 0
 HasLiveBut core s (Opened c) = IsLive s c × (left_at core c ≡ None) × ((d : ℕ) → (d == c) ≡ false → is_some (left_at core d) ≡ set.contains s.live d)
 HasLiveBut core s (Piece c n) = IsLive s c × HasLive core s
-HasLiveBut core s (Ended c) = (set.contains s.live c ≡ false) × (is_some (left_at core c) ≡ true) × ((d : ℕ) → (d == c) ≡ false → is_some (left_at core d) ≡ set.contains s.live d)
+HasLiveBut core s (Ended c) =
+    (set.contains s.live c ≡ false) × (is_some (left_at core c) ≡ true) × ((d : ℕ) → (d == c) ≡ false → is_some (left_at core d) ≡ set.contains s.live d)
 HasLiveBut core s Over = HasLive core s
 
 -- ---- events
@@ -79,7 +80,8 @@ pub record IsRight (k : Corpus) (b s : List ℕ) (broken ended : Bool) (left : O
 -- all these responses at most n say Read
 pub record AreRight (k : Corpus) (core : Slots) (s : Listening) (t : Talk) (n : ℕ) : Type 0 where
   pub sent : ℕ → List Response
-  pub right : (c : ℕ) → c < s.opened → IsRight k (bytes_that_came c t.came) (sent_on t c) (set.contains t.broken c) (ended_on c t.came || s.over) (left_at core c) (sent c)
+  pub right : (c : ℕ) → c < s.opened → IsRight k (bytes_that_came c t.came) (sent_on t c) (set.contains t.broken c) (ended_on c t.came || s.over)
+      (left_at core c) (sent c)
   pub few : sum_below s.opened (λ c. reads (sent c)) ≤ n
 
 -- the core follows a hub for the corpus: it keeps the live connections, and over a hub that tells its talk each opened one is
@@ -98,7 +100,8 @@ pub record AreServed (k : Corpus) (s : Listening) (talk : Option Talk) (before n
 
 -- a step keeps this: where the core followed the hub before the event came, it follows it after the step, and the responses that
 -- the step sent say Read at most as often as the count of failures rose
-pub record StaysRight (k : Corpus) (core core' : Slots) (event : Event) (piece : List ℕ) (heard s' : Listening) (told talk' : Option Talk) (before now : ℕ) : Type 0 where
+pub record StaysRight (k : Corpus) (core core' : Slots) (event : Event) (piece : List ℕ) (heard s' : Listening) (told talk' : Option Talk)
+    (before now : ℕ) : Type 0 where
   pub stays : (s : Listening) (talk : Option Talk) (room n : ℕ) → Follows k core s talk n → Heard s talk room event piece heard told
       → (more : ℕ) × Follows k core' s' talk' (n + more) × RoseBy more before now
 
@@ -114,4 +117,5 @@ IsOther Over d = ⊥
 pub record LeavesOthers (event : Event) (core core' : Slots) (s s' : Listening) (talk talk' : Option Talk) : Type 0 where
   pub left : (d : ℕ) → IsOther event d → left_at core' d ≡ left_at core d
   pub live : (d : ℕ) → IsOther event d → set.contains s'.live d ≡ set.contains s.live d
-  pub sent : ForSome talk (λ t. ForSome talk' (λ u. (d : ℕ) → IsOther event d → (sent_on u d ≡ sent_on t d) × (set.contains u.broken d ≡ set.contains t.broken d)))
+  pub sent : ForSome talk (λ t. ForSome talk' (λ u. (d : ℕ) → IsOther event d → (sent_on u d ≡ sent_on t d)
+      × (set.contains u.broken d ≡ set.contains t.broken d)))

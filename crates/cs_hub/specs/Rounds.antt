@@ -70,7 +70,8 @@ Greets core core' c s s' talk talk' =
     ⊎ (Acted core core' c None s s' × Starved c talk talk')
 
 -- what was kept of the connection, and what is kept of it now
-pub record Heeds (Over : Corpus → Type 0) (core core' : Slots) (c : ℕ) (piece : List ℕ) (s s' : Listening) (before now : ℕ) (talk talk' : Option Talk) : Type 0 where
+pub record Heeds (Over : Corpus → Type 0) (core core' : Slots) (c : ℕ) (piece : List ℕ) (s s' : Listening) (before now : ℕ)
+    (talk talk' : Option Talk) : Type 0 where
   pub old : Left
   pub was : left_at core c ≡ Some old
   pub kept : Option Left
@@ -121,10 +122,13 @@ came_by (Some t) = length t.came
 
 -- an event came, and less is left to come; or nothing more comes and no connection is live; or the hub failed, and nothing changed
 abbrev pub Went : Round → Listening → Listening → Option Talk → Option Talk → ℕ → ℕ → Slots → Slots → Type 0
-Went (round.Goes n) s s' talk talk' faults faults' core core' = (s'.opened ≡ n) × (faults' ≡ faults) × (still s.conns n core' < still s.conns s.opened core) × (n ≤ s.conns) × (s'.over ≡ s.over) × (came_by talk' ≤ came_by talk + 1)
-Went round.Over s s' talk talk' faults faults' core core' = (s'.over ≡ true) × (faults' ≡ faults) × ((c : ℕ) → set.contains s'.live c ≡ false) × (came_by talk' ≤ came_by talk + 1)
+Went (round.Goes n) s s' talk talk' faults faults' core core' = (s'.opened ≡ n) × (faults' ≡ faults) × (still s.conns n core' < still s.conns s.opened core)
+    × (n ≤ s.conns) × (s'.over ≡ s.over) × (came_by talk' ≤ came_by talk + 1)
+Went round.Over s s' talk talk' faults faults' core core' =
+    (s'.over ≡ true) × (faults' ≡ faults) × ((c : ℕ) → set.contains s'.live c ≡ false) × (came_by talk' ≤ came_by talk + 1)
 Went round.Failed s s' talk talk' faults faults' core core' = Rose faults faults' × (s' ≡ s) × (core' ≡ core) × (talk' ≡ talk)
 
 -- where the core followed the hub before the round, it follows it after it, and the count of failures rose by as many as say Read
 abbrev pub StaysServed : Corpus → Slots → Slots → Listening → Listening → Option Talk → Option Talk → ℕ → ℕ → Type 0
-StaysServed k core core' s s' talk talk' before now = (n : ℕ) → Follows k core s talk n → (more : ℕ) × Follows k core' s' talk' (n + more) × RoseBy more before now
+StaysServed k core core' s s' talk talk' before now =
+    (n : ℕ) → Follows k core s talk n → (more : ℕ) × Follows k core' s' talk' (n + more) × RoseBy more before now

@@ -110,7 +110,8 @@ pub record IsCounted (P : List Response → Type 0) (before now : ℕ) : Type 0 
 
 -- these bytes more were sent on the connection; by each corpus that is answered over they are what P says, where P may say it
 -- of no bytes
-pub record Says (Over : Corpus → Type 0) (c : ℕ) (fails : Bool) (P : Corpus → List ℕ → List Response → Type 0) (before now : ℕ) (talk talk' : Option Talk) : Type 0 where
+pub record Says (Over : Corpus → Type 0) (c : ℕ) (fails : Bool) (P : Corpus → List ℕ → List Response → Type 0) (before now : ℕ)
+    (talk talk' : Option Talk) : Type 0 where
   pub more : List ℕ
   pub spoke : Spoke c more fails talk talk'
   pub counted : (k : Corpus) → Over k → IsCounted (P k more) before now

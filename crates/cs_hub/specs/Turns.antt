@@ -14,7 +14,8 @@
 --   Reads                    what the bytes of a piece did, by whether the connection goes on
 --   Received                 what a piece did, by what is kept of the connection
 --   IsAlong, Along           on the way through the bytes, some first responses were sent
-use Rattle.std.specs.Prelude.{◌≡◌, ◌⊎◌, ℕ, ◌+◌, ◌-◌, ◌<◌, ◌≤◌, Bool, true, false, List, [], ◌∷◌, ◌++◌, length, take, drop, All, Option, Some, None, Result, Ok, Err}
+use Rattle.std.specs.Prelude.{◌≡◌, ◌⊎◌, ℕ, ◌+◌, ◌-◌, ◌<◌, ◌≤◌, Bool, true, false, List, [], ◌∷◌, ◌++◌, length, take, drop, All, Option, Some, None, Result, Ok}
+use Rattle.std.specs.Prelude.{Err}
 use Rattle.std.specs.List.{AllZip}
 use Rattle.cs_base.specs.declared.content.limits.TheConstants.{MAX_CONNECTION_BYTES, MAX_HEAD_BYTES}
 use Rattle.cs_base.specs.outside.Hub.{Talk}
@@ -136,10 +137,12 @@ Reads Over c b false unread' before now talk talk' = Stops Over c b before now t
 -- by a response, for want of memory, by a failed send or because the limit was reached
 abbrev pub Received : (Corpus → Type 0) → ℕ → Left → List ℕ → Option Left → ℕ → ℕ → Option Talk → Option Talk → Type 0
 Received Over c old piece (Some l) before now talk talk' =
-    Holds Over c (old.unread ++ take (MAX_CONNECTION_BYTES - old.taken) piece) l.unread before now talk talk' × (l.taken ≡ old.taken + length piece) × (l.taken < MAX_CONNECTION_BYTES)
+    Holds Over c (old.unread ++ take (MAX_CONNECTION_BYTES - old.taken) piece) l.unread before now talk talk' × (l.taken ≡ old.taken + length piece)
+    × (l.taken < MAX_CONNECTION_BYTES)
 Received Over c old piece None before now talk talk' =
     Stops Over c (old.unread ++ take (MAX_CONNECTION_BYTES - old.taken) piece) before now talk talk'
-    ⊎ ((unread' : List ℕ) × Holds Over c (old.unread ++ take (MAX_CONNECTION_BYTES - old.taken) piece) unread' before now talk talk' × (MAX_CONNECTION_BYTES ≤ old.taken + length piece))
+    ⊎ ((unread' : List ℕ) × Holds Over c (old.unread ++ take (MAX_CONNECTION_BYTES - old.taken) piece) unread' before now talk talk'
+    × (MAX_CONNECTION_BYTES ≤ old.taken + length piece))
 
 -- ---- on the way
 -- some first responses to b were met, after which the connection goes on, and the others are served of the bytes that are left

@@ -45,7 +45,13 @@ impl<S: Store> Answerer for Asking<'_, S> {
 
     ghost Lent = { GName × (GName × (Option (List ℕ) × (S.Lent × (IndexView × ℕ)))) };
 
-    ghost lent = { λ a. (a.engine.ghost_name, (a.store.ghost_name, (S.bytes a.store.now, (S.lent a.store.now, (a.engine.now.index, a.engine.now.answers.capacity))))) };
+    ghost lent = { λ a. (
+      a.engine.ghost_name,
+      (
+        a.store.ghost_name,
+        (S.bytes a.store.now, (S.lent a.store.now, (a.engine.now.index, a.engine.now.answers.capacity))),
+      ),
+    ) };
 
     ghost Kept = { Standing };
 

@@ -7,5 +7,6 @@ ghost use Rattle.cs_hub.specs.DueReads.{heads_on};
 
 /// What is served of bytes is the response to each of their heads in order, and behind them maybe that to a head that is too long.
 pub fn heads_are_served()
-    ensures { (k : Corpus) (b : List ℕ) → (later : List Response) × ((serve k b).responses ≡ map (response_to k) (heads_on b) ++ later) × ((later ≡ []) ⊎ (later ≡ too_long ∷ [])) }
+    ensures { (k : Corpus) (b : List ℕ) → (later : List Response) × ((serve k b).responses ≡ map (response_to k) (heads_on b) ++ later)
+        × ((later ≡ []) ⊎ (later ≡ too_long ∷ [])) }
 {}

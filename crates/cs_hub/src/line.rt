@@ -58,13 +58,16 @@ impl Line {
     ) -> Option<Line>
         requires live { IsLive (H.state hub.old) conn }
 
-        ensures received { Received (A.answers answerer.old) conn self piece.now result (A.faults answerer.old) (A.faults answerer.new) (H.talk hub.old) (H.talk hub.new) }
+        ensures received { Received (A.answers answerer.old) conn self piece.now result (A.faults answerer.old) (A.faults answerer.new) (H.talk hub.old)
+            (H.talk hub.new) }
         ensures room { self.taken < MOST }
-        ensures asked { AsksAsSent A.leaves (is_some result) (requests_on (self.unread ++ take (MOST - self.taken) piece.now)) (A.kept answerer.old) (A.kept answerer.new) (SentBefore conn (self.unread ++ take (MOST - self.taken) piece.now) (H.talk hub.old) (H.talk hub.new)) }
+        ensures asked { AsksAsSent A.leaves (is_some result) (requests_on (self.unread ++ take (MOST - self.taken) piece.now)) (A.kept answerer.old)
+            (A.kept answerer.new) (SentBefore conn (self.unread ++ take (MOST - self.taken) piece.now) (H.talk hub.old) (H.talk hub.new)) }
         ensures still { (k : Corpus) → A.answers answerer.old k → A.answers answerer.new k }
         ensures lent { A.lent answerer.new ≡ A.lent answerer.old }
         ensures later { A.faults answerer.old ≤ A.faults answerer.new }
-        ensures calm { Calm (H.state hub.old) (H.state hub.new) (H.faults hub.old) (H.faults hub.new) (H.send_faults hub.old) (H.send_faults hub.new) (H.talk hub.old) (H.talk hub.new) }
+        ensures calm { Calm (H.state hub.old) (H.state hub.new) (H.faults hub.old) (H.faults hub.new) (H.send_faults hub.old) (H.send_faults hub.new)
+            (H.talk hub.old) (H.talk hub.new) }
     {
         let Line { mut reading, taken } = self;
         let counted = first_of(piece, MAX_CONNECTION_BYTES - taken);
@@ -91,12 +94,15 @@ fn read_on<A: Answerer, H: Hub>(
 ) -> bool
     requires live { IsLive (H.state hub.old) conn }
 
-    ensures reads { Reads (A.answers answerer.old) conn (reading.old ++ piece.now) result reading.new (A.faults answerer.old) (A.faults answerer.new) (H.talk hub.old) (H.talk hub.new) }
-    ensures asked { AsksAsSent A.leaves result (requests_on (reading.old ++ piece.now)) (A.kept answerer.old) (A.kept answerer.new) (SentBefore conn (reading.old ++ piece.now) (H.talk hub.old) (H.talk hub.new)) }
+    ensures reads { Reads (A.answers answerer.old) conn (reading.old ++ piece.now) result reading.new (A.faults answerer.old) (A.faults answerer.new)
+        (H.talk hub.old) (H.talk hub.new) }
+    ensures asked { AsksAsSent A.leaves result (requests_on (reading.old ++ piece.now)) (A.kept answerer.old) (A.kept answerer.new)
+        (SentBefore conn (reading.old ++ piece.now) (H.talk hub.old) (H.talk hub.new)) }
     ensures still { (k : Corpus) → A.answers answerer.old k → A.answers answerer.new k }
     ensures lent { A.lent answerer.new ≡ A.lent answerer.old }
     ensures later { A.faults answerer.old ≤ A.faults answerer.new }
-    ensures calm { Calm (H.state hub.old) (H.state hub.new) (H.faults hub.old) (H.faults hub.new) (H.send_faults hub.old) (H.send_faults hub.new) (H.talk hub.old) (H.talk hub.new) }
+    ensures calm { Calm (H.state hub.old) (H.state hub.new) (H.faults hub.old) (H.faults hub.new) (H.send_faults hub.old) (H.send_faults hub.new)
+        (H.talk hub.old) (H.talk hub.new) }
 {
     let mut rest = piece;
     loop {

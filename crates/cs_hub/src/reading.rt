@@ -73,12 +73,14 @@ impl Reading {
     ) -> Turn
         requires live { IsLive (H.state hub.old) conn }
 
-        ensures turned { Turned (A.answers answerer.old) conn self.old rest.now result self.new (A.faults answerer.old) (A.faults answerer.new) (H.talk hub.old) (H.talk hub.new) }
+        ensures turned { Turned (A.answers answerer.old) conn self.old rest.now result self.new (A.faults answerer.old) (A.faults answerer.new) (H.talk hub.old)
+            (H.talk hub.new) }
         ensures asked { AsksBy A.leaves conn self.old rest.now result (A.kept answerer.old) (A.kept answerer.new) (H.talk hub.old) (H.talk hub.new) }
         ensures still { (k : Corpus) → A.answers answerer.old k → A.answers answerer.new k }
         ensures lent { A.lent answerer.new ≡ A.lent answerer.old }
         ensures later { A.faults answerer.old ≤ A.faults answerer.new }
-        ensures calm { Calm (H.state hub.old) (H.state hub.new) (H.faults hub.old) (H.faults hub.new) (H.send_faults hub.old) (H.send_faults hub.new) (H.talk hub.old) (H.talk hub.new) }
+        ensures calm { Calm (H.state hub.old) (H.state hub.new) (H.faults hub.old) (H.faults hub.new) (H.send_faults hub.old) (H.send_faults hub.new)
+            (H.talk hub.old) (H.talk hub.new) }
     {
         let held = self.unread.len();
         match self.look(rest) {
@@ -113,7 +115,8 @@ impl Reading {
         requires seen { IsOpen (self.old ++ rest.now) seen }
 
         ensures held { HoldsBytes conn self.old rest.now result self.new (H.talk hub.old) (H.talk hub.new) }
-        ensures calm { Calm (H.state hub.old) (H.state hub.new) (H.faults hub.old) (H.faults hub.new) (H.send_faults hub.old) (H.send_faults hub.new) (H.talk hub.old) (H.talk hub.new) }
+        ensures calm { Calm (H.state hub.old) (H.state hub.new) (H.faults hub.old) (H.faults hub.new) (H.send_faults hub.old) (H.send_faults hub.new)
+            (H.talk hub.old) (H.talk hub.new) }
     {
         match self.unread.extend_from_slice(rest) {
             Ok(()) => {
@@ -140,14 +143,18 @@ impl Reading {
         requires live { IsLive (H.state hub.old) conn }
         requires within { skip ≤ length (self.old ++ end.now) }
 
-        ensures replied { Replied (A.answers answerer.old) conn (λ k. response_to k (slice_range (self.old ++ end.now) skip (length (self.old ++ end.now)))) result (A.faults answerer.old) (A.faults answerer.new) (H.talk hub.old) (H.talk hub.new) }
+        ensures replied { Replied (A.answers answerer.old) conn (λ k. response_to k (slice_range (self.old ++ end.now) skip (length (self.old ++ end.now))))
+            result (A.faults answerer.old) (A.faults answerer.new) (H.talk hub.old) (H.talk hub.new) }
         ensures emptied { result ≡ true → self.new ≡ [] }
-        ensures asked { AsksAsSent A.leaves result (requests_in (judge (slice_range (self.old ++ end.now) skip (length (self.old ++ end.now))))) (A.kept answerer.old) (A.kept answerer.new) (SentFor conn result (slice_range (self.old ++ end.now) skip (length (self.old ++ end.now))) (H.talk hub.old) (H.talk hub.new)) }
+        ensures asked { AsksAsSent A.leaves result (requests_in (judge (slice_range (self.old ++ end.now) skip (length (self.old ++ end.now)))))
+            (A.kept answerer.old) (A.kept answerer.new) (SentFor conn result (slice_range (self.old ++ end.now) skip (length (self.old ++ end.now)))
+            (H.talk hub.old) (H.talk hub.new)) }
         ensures going { result ≡ true → closes_behind (judge (slice_range (self.old ++ end.now) skip (length (self.old ++ end.now)))) ≡ false }
         ensures still { (k : Corpus) → A.answers answerer.old k → A.answers answerer.new k }
         ensures lent { A.lent answerer.new ≡ A.lent answerer.old }
         ensures later { A.faults answerer.old ≤ A.faults answerer.new }
-        ensures calm { Calm (H.state hub.old) (H.state hub.new) (H.faults hub.old) (H.faults hub.new) (H.send_faults hub.old) (H.send_faults hub.new) (H.talk hub.old) (H.talk hub.new) }
+        ensures calm { Calm (H.state hub.old) (H.state hub.new) (H.faults hub.old) (H.faults hub.new) (H.send_faults hub.old) (H.send_faults hub.new)
+            (H.talk hub.old) (H.talk hub.new) }
     {
         if self.unread.extend_from_slice(end).is_err() {
             starve(hub, conn);
@@ -165,7 +172,8 @@ fn send<H: Hub>(alloc: Global, hub: &mut H, conn: u32, answer: Result<Answer, Me
     requires live { IsLive (H.state hub.old) conn }
 
     ensures sent { IsSent conn answer result (H.talk hub.old) (H.talk hub.new) }
-    ensures calm { Calm (H.state hub.old) (H.state hub.new) (H.faults hub.old) (H.faults hub.new) (H.send_faults hub.old) (H.send_faults hub.new) (H.talk hub.old) (H.talk hub.new) }
+    ensures calm { Calm (H.state hub.old) (H.state hub.new) (H.faults hub.old) (H.faults hub.new) (H.send_faults hub.old) (H.send_faults hub.new)
+        (H.talk hub.old) (H.talk hub.new) }
 {
     match answer {
         Ok(answer) => deliver(alloc, hub, conn, &answer),
@@ -181,7 +189,8 @@ fn refuse<H: Hub>(alloc: Global, hub: &mut H, conn: u32)
     requires live { IsLive (H.state hub.old) conn }
 
     ensures refused { IsTurnedAway conn (H.talk hub.old) (H.talk hub.new) }
-    ensures calm { Calm (H.state hub.old) (H.state hub.new) (H.faults hub.old) (H.faults hub.new) (H.send_faults hub.old) (H.send_faults hub.new) (H.talk hub.old) (H.talk hub.new) }
+    ensures calm { Calm (H.state hub.old) (H.state hub.new) (H.faults hub.old) (H.faults hub.new) (H.send_faults hub.old) (H.send_faults hub.new)
+        (H.talk hub.old) (H.talk hub.new) }
 {
     match answer_too_long(alloc) {
         Ok(answer) => {

@@ -25,7 +25,8 @@ pub(crate) fn answer_head<A: Answerer>(
     answerer: &mut A,
     bytes: &[u8],
 ) -> Result<Answer, Memory>
-    ensures ok { IfOk result (λ a. IsGiven (A.answers answerer.old) (λ k. response_to k bytes.now) (response a) (A.faults answerer.old) (A.faults answerer.new)) }
+    ensures ok { IfOk result (λ a. IsGiven (A.answers answerer.old) (λ k. response_to k bytes.now) (response a) (A.faults answerer.old)
+        (A.faults answerer.new)) }
     ensures close { IfOk result (λ a. a.close ≡ closes_behind (judge bytes.now)) }
     ensures asked { AsksOf A.leaves (is_ok result) (requests_in (judge bytes.now)) (A.kept answerer.old) (A.kept answerer.new) }
     ensures still { (k : Corpus) → A.answers answerer.old k → A.answers answerer.new k }
@@ -79,7 +80,8 @@ fn answer_params<A: Answerer>(
     params: &[u8],
     close: bool,
 ) -> Result<Answer, Memory>
-    ensures ok { IfOk result (λ a. IsGiven (A.answers answerer.old) (λ k. to_params k params.now close) (response a) (A.faults answerer.old) (A.faults answerer.new)) }
+    ensures ok { IfOk result (λ a. IsGiven (A.answers answerer.old) (λ k. to_params k params.now close) (response a) (A.faults answerer.old)
+        (A.faults answerer.new)) }
     ensures close { IfOk result (λ a. a.close ≡ close) }
     ensures asked { AsksOf A.leaves (is_ok result) (requests_by params.now (request_refusal params.now)) (A.kept answerer.old) (A.kept answerer.new) }
     ensures still { (k : Corpus) → A.answers answerer.old k → A.answers answerer.new k }
@@ -120,7 +122,8 @@ fn reply_to<A: Answerer>(
 ) -> Result<Answer, Memory>
     requires limits { HoldsLimits (asked request.now) }
 
-    ensures ok { IfOk result (λ a. IsGiven (A.answers answerer.old) (λ k. replied k (asked request.now) close) (response a) (A.faults answerer.old) (A.faults answerer.new)) }
+    ensures ok { IfOk result (λ a. IsGiven (A.answers answerer.old) (λ k. replied k (asked request.now) close) (response a) (A.faults answerer.old)
+        (A.faults answerer.new)) }
     ensures close { IfOk result (λ a. a.close ≡ close) }
     ensures asked { AsksOf A.leaves (is_ok result) (asked request.now ∷ []) (A.kept answerer.old) (A.kept answerer.new) }
     ensures still { (k : Corpus) → A.answers answerer.old k → A.answers answerer.new k }

@@ -50,7 +50,9 @@ pub(crate) fn take_turn<A: Answerer, H: Hub>(
     requires conns { (H.state hub.old).conns ≡ conns }
     requires most { opened ≤ conns }
 
-    ensures served { (k : Corpus) → A.answers answerer.old k → StaysServed k core.old core.new (H.state hub.old) (H.state hub.new) (H.talk hub.old) (H.talk hub.new) (A.faults answerer.old) (A.faults answerer.new) }
+    ensures served { (k : Corpus) → A.answers answerer.old k
+        → StaysServed k core.old core.new (H.state hub.old) (H.state hub.new) (H.talk hub.old) (H.talk hub.new) (A.faults answerer.old)
+        (A.faults answerer.new) }
     ensures went { Went result (H.state hub.old) (H.state hub.new) (H.talk hub.old) (H.talk hub.new) (H.faults hub.old) (H.faults hub.new) core.old core.new }
     ensures live { HasLive core.new (H.state hub.new) }
     ensures orderly { IsOrderly (H.state hub.new) (H.talk hub.new) }

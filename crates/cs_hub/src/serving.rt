@@ -50,14 +50,18 @@ pub fn serve<S: Store, H: Hub>(
     requires orderly { IsOrderly (H.state hub.old) (H.talk hub.old) }
 
     // Over bytes that stand for the index, where what is kept is good: each opened connection is right, and what is kept stays good.
-    ensures served { ForSome (S.bytes store.old) (λ b. StandsFor b engine.old.index → AreGood b engine.old → AreServed (file_corpus b) (H.state hub.new) (H.talk hub.new) (S.faults store.old) (S.faults store.new)) }
+    ensures served { ForSome (S.bytes store.old) (λ b. StandsFor b engine.old.index → AreGood b engine.old
+        → AreServed (file_corpus b) (H.state hub.new) (H.talk hub.new) (S.faults store.old) (S.faults store.new)) }
     ensures good { ForSome (S.bytes store.old) (λ b. StandsFor b engine.old.index → AreGood b engine.old → AreGood b engine.new) }
 
     // Want of memory comes before the first event.
-    ensures done { result ≡ ServeEnd.Done → ((c : ℕ) → set.contains (H.state hub.new).live c ≡ false) × (((H.state hub.new).opened ≡ conns) ⊎ ((H.state hub.new).over ≡ true)) }
+    ensures done { result ≡ ServeEnd.Done → ((c : ℕ) → set.contains (H.state hub.new).live c ≡ false)
+        × (((H.state hub.new).opened ≡ conns) ⊎ ((H.state hub.new).over ≡ true)) }
     ensures hub_failed { result ≡ ServeEnd.HubFailed → Rose (H.faults hub.old) (H.faults hub.new) }
-    ensures only_before_the_end { result ≡ ServeEnd.HubFailed → ((H.state hub.new).over ≡ false) × (((H.state hub.new).opened < conns) ⊎ ((c : ℕ) × (set.contains (H.state hub.new).live c ≡ true))) }
-    ensures memory { result ≡ ServeEnd.Memory → (H.state hub.new ≡ H.state hub.old) × (H.talk hub.new ≡ H.talk hub.old) × (S.faults store.new ≡ S.faults store.old) × (H.send_faults hub.new ≡ H.send_faults hub.old) }
+    ensures only_before_the_end { result ≡ ServeEnd.HubFailed → ((H.state hub.new).over ≡ false)
+        × (((H.state hub.new).opened < conns) ⊎ ((c : ℕ) × (set.contains (H.state hub.new).live c ≡ true))) }
+    ensures memory { result ≡ ServeEnd.Memory → (H.state hub.new ≡ H.state hub.old) × (H.talk hub.new ≡ H.talk hub.old)
+        × (S.faults store.new ≡ S.faults store.old) × (H.send_faults hub.new ≡ H.send_faults hub.old) }
     ensures quiet { result ≢ ServeEnd.HubFailed → H.faults hub.new ≡ H.faults hub.old }
     ensures hub_later { H.faults hub.old ≤ H.faults hub.new }
 
@@ -95,7 +99,8 @@ pub(crate) fn serve_over<A: Answerer, H: Hub>(
     ensures ends { Ends result conns (H.state hub.old) (H.state hub.new) (H.faults hub.old) (H.faults hub.new) }
     ensures sends_later { H.send_faults hub.old ≤ H.send_faults hub.new }
     ensures unbroken { ¬ Rose (H.send_faults hub.old) (H.send_faults hub.new) → ForSome (H.talk hub.new) AreUnbroken }
-    ensures memory { result ≡ ServeEnd.Memory → (H.state hub.new ≡ H.state hub.old) × (H.talk hub.new ≡ H.talk hub.old) × (A.faults answerer.new ≡ A.faults answerer.old) × (H.send_faults hub.new ≡ H.send_faults hub.old) }
+    ensures memory { result ≡ ServeEnd.Memory → (H.state hub.new ≡ H.state hub.old) × (H.talk hub.new ≡ H.talk hub.old)
+        × (A.faults answerer.new ≡ A.faults answerer.old) × (H.send_faults hub.new ≡ H.send_faults hub.old) }
     ensures events { came_by (H.talk hub.new) ≤ came_by (H.talk hub.old) + conns * (MAX_CONNECTION_BYTES + 2) + 1 }
     ensures still { (k : Corpus) → A.answers answerer.old k → A.answers answerer.new k }
     ensures lent { A.lent answerer.new ≡ A.lent answerer.old }

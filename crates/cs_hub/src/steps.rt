@@ -39,7 +39,9 @@ impl Core {
 
         // Over bytes that stand for the index, where what is kept is good: where the core followed the hub before the event, it follows
         // it after the step, and what is kept stays good.
-        ensures follows { ForSome (S.bytes store.old) (λ b. StandsFor b engine.old.index → AreGood b engine.old → StaysRight (file_corpus b) self.old self.new event piece.now (H.state hub.old) (H.state hub.new) (H.talk hub.old) (H.talk hub.new) (S.faults store.old) (S.faults store.new)) }
+        ensures follows { ForSome (S.bytes store.old) (λ b. StandsFor b engine.old.index → AreGood b engine.old
+            → StaysRight (file_corpus b) self.old self.new event piece.now (H.state hub.old) (H.state hub.new) (H.talk hub.old) (H.talk hub.new)
+            (S.faults store.old) (S.faults store.new)) }
         ensures good { ForSome (S.bytes store.old) (λ b. StandsFor b engine.old.index → AreGood b engine.old → AreGood b engine.new) }
         ensures live { HasLive self.new (H.state hub.new) }
         ensures over { event ≡ Event.Over → (c : ℕ) → left_at self.new c ≡ None }
@@ -54,7 +56,9 @@ impl Core {
         ensures lighter { Lightens event self.old self.new }
 
         // How much is read for the requests that are answered, over every store and hub.
-        ensures reads { AnswersWithin (S.bytes store.old) (goes_on self.new event) (requests_on (bytes_to_answer self.old event piece.now)) engine.old engine.new (S.reads store.old) (S.reads store.new) (S.faults store.old) (S.faults store.new) (SentAt event (bytes_to_answer self.old event piece.now) (H.talk hub.old) (H.talk hub.new)) }
+        ensures reads { AnswersWithin (S.bytes store.old) (goes_on self.new event) (requests_on (bytes_to_answer self.old event piece.now)) engine.old
+            engine.new (S.reads store.old) (S.reads store.new) (S.faults store.old) (S.faults store.new)
+            (SentAt event (bytes_to_answer self.old event piece.now) (H.talk hub.old) (H.talk hub.new)) }
 
         ensures index { engine.new.index ≡ engine.old.index }
         ensures capacity { engine.new.answers.capacity ≡ engine.old.answers.capacity }
@@ -78,7 +82,9 @@ impl Core {
         requires live { HasLiveBut self.old (H.state hub.old) event }
         requires whole { IsWhole event piece.now }
 
-        ensures follows { (k : Corpus) → A.answers answerer.old k → StaysRight k self.old self.new event piece.now (H.state hub.old) (H.state hub.new) (H.talk hub.old) (H.talk hub.new) (A.faults answerer.old) (A.faults answerer.new) }
+        ensures follows { (k : Corpus) → A.answers answerer.old k
+            → StaysRight k self.old self.new event piece.now (H.state hub.old) (H.state hub.new) (H.talk hub.old) (H.talk hub.new) (A.faults answerer.old)
+            (A.faults answerer.new) }
         ensures live { HasLive self.new (H.state hub.new) }
         ensures over { event ≡ Event.Over → (c : ℕ) → left_at self.new c ≡ None }
         ensures others { LeavesOthers event self.old self.new (H.state hub.old) (H.state hub.new) (H.talk hub.old) (H.talk hub.new) }
@@ -88,7 +94,8 @@ impl Core {
         ensures breaks { BreaksBy (H.send_faults hub.old) (H.send_faults hub.new) (H.talk hub.old) (H.talk hub.new) }
         ensures orderly { IsOrderly (H.state hub.old) (H.talk hub.old) → IsOrderly (H.state hub.new) (H.talk hub.new) }
         ensures lighter { Lightens event self.old self.new }
-        ensures asked { AsksAsSent A.leaves (goes_on self.new event) (requests_on (bytes_to_answer self.old event piece.now)) (A.kept answerer.old) (A.kept answerer.new) (SentAt event (bytes_to_answer self.old event piece.now) (H.talk hub.old) (H.talk hub.new)) }
+        ensures asked { AsksAsSent A.leaves (goes_on self.new event) (requests_on (bytes_to_answer self.old event piece.now)) (A.kept answerer.old)
+            (A.kept answerer.new) (SentAt event (bytes_to_answer self.old event piece.now) (H.talk hub.old) (H.talk hub.new)) }
         ensures still { (k : Corpus) → A.answers answerer.old k → A.answers answerer.new k }
         ensures lent { A.lent answerer.new ≡ A.lent answerer.old }
         ensures later { A.faults answerer.old ≤ A.faults answerer.new }
@@ -132,12 +139,14 @@ impl Core {
         requires held { is_some (left_at self.old conn) ≡ true }
         requires some { 0 < length piece.now }
 
-        ensures heeds { Heeds (A.answers answerer.old) self.old self.new conn piece.now (H.state hub.old) (H.state hub.new) (A.faults answerer.old) (A.faults answerer.new) (H.talk hub.old) (H.talk hub.new) }
+        ensures heeds { Heeds (A.answers answerer.old) self.old self.new conn piece.now (H.state hub.old) (H.state hub.new) (A.faults answerer.old)
+            (A.faults answerer.new) (H.talk hub.old) (H.talk hub.new) }
         ensures faults { H.faults hub.new ≡ H.faults hub.old }
         ensures breaks { BreaksBy (H.send_faults hub.old) (H.send_faults hub.new) (H.talk hub.old) (H.talk hub.new) }
         ensures orderly { IsOrderly (H.state hub.old) (H.talk hub.old) → IsOrderly (H.state hub.new) (H.talk hub.new) }
         ensures lighter { Lightens (Event.Piece conn (length piece.now)) self.old self.new }
-        ensures asked { AsksAsSent A.leaves (is_some (left_at self.new conn)) (requests_on (bytes_behind (left_at self.old conn) piece.now)) (A.kept answerer.old) (A.kept answerer.new) (SentBefore conn (bytes_behind (left_at self.old conn) piece.now) (H.talk hub.old) (H.talk hub.new)) }
+        ensures asked { AsksAsSent A.leaves (is_some (left_at self.new conn)) (requests_on (bytes_behind (left_at self.old conn) piece.now))
+            (A.kept answerer.old) (A.kept answerer.new) (SentBefore conn (bytes_behind (left_at self.old conn) piece.now) (H.talk hub.old) (H.talk hub.new)) }
         ensures still { (k : Corpus) → A.answers answerer.old k → A.answers answerer.new k }
         ensures lent { A.lent answerer.new ≡ A.lent answerer.old }
         ensures later { A.faults answerer.old ≤ A.faults answerer.new }

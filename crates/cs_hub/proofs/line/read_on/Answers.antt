@@ -10,8 +10,10 @@ use Rattle.cs_hub.proofs.line.read_on.Goals as goal
 pub loop-used-init : goal.loop-used-init
 loop-used-init g c = record {
   live = c.requires.live;
-  along = along_start (g.A.Answerer.answers c.args.answerer.now) c.args.conn (c.args.reading.now ++ c.args.piece.now) (g.A.Answerer.faults c.args.answerer.now) (g.H.Hub.talk c.args.hub.now);
-  asked = asked_start g.A.Answerer.leaves c.args.conn (c.args.reading.now ++ c.args.piece.now) (g.A.Answerer.kept c.args.answerer.now) (g.H.Hub.talk c.args.hub.now);
+  along = along_start (g.A.Answerer.answers c.args.answerer.now) c.args.conn (c.args.reading.now ++ c.args.piece.now) (g.A.Answerer.faults c.args.answerer.now)
+      (g.H.Hub.talk c.args.hub.now);
+  asked = asked_start g.A.Answerer.leaves c.args.conn (c.args.reading.now ++ c.args.piece.now) (g.A.Answerer.kept c.args.answerer.now)
+      (g.H.Hub.talk c.args.hub.now);
   still = λ k h. h;
   lent = search rules;
   later = omega arith;
@@ -27,33 +29,47 @@ loop-used-preserved g c =
     let then = g.H.Hub.talk c.turn.new.hub in
     record {
       live = subst (λ s. IsLive s c.args.conn) (sym c.in-Next.ensures.calm.state) c.loop-used.invariant.live;
-      along = subst (λ r. Along over c.args.conn (c.args.reading.now ++ c.args.piece.now) (c.turn.new.self ++ r) before after talk then) (sym c.behind-rest.ensures)
-          (along_next over (g.A.Answerer.answers c.loop-used.answerer) c.args.conn c.in-Next.used (c.args.reading.now ++ c.args.piece.now) c.loop-used.reading c.loop-used.rest.now c.turn.new.self before (g.A.Answerer.faults c.loop-used.answerer) after talk (g.H.Hub.talk c.loop-used.hub) then
+      along = subst (λ r. Along over c.args.conn (c.args.reading.now ++ c.args.piece.now) (c.turn.new.self ++ r) before after talk then)
+          (sym c.behind-rest.ensures)
+          (along_next over (g.A.Answerer.answers c.loop-used.answerer) c.args.conn c.in-Next.used (c.args.reading.now ++ c.args.piece.now) c.loop-used.reading
+          c.loop-used.rest.now c.turn.new.self before (g.A.Answerer.faults c.loop-used.answerer) after talk (g.H.Hub.talk c.loop-used.hub) then
           c.loop-used.invariant.still c.loop-used.invariant.along c.in-Next.ensures.turned);
-      asked = asked_next g.A.Answerer.leaves c.args.conn (c.args.reading.now ++ c.args.piece.now) (drop c.in-Next.used c.loop-used.rest.now) (c.loop-used.reading ++ c.loop-used.rest.now) c.turn.new.self c.behind-rest.result.now (g.A.Answerer.kept c.args.answerer.now) (g.A.Answerer.kept c.loop-used.answerer) (g.A.Answerer.kept c.turn.new.answerer) talk (g.H.Hub.talk c.loop-used.hub) then
+      asked = asked_next g.A.Answerer.leaves c.args.conn (c.args.reading.now ++ c.args.piece.now) (drop c.in-Next.used c.loop-used.rest.now)
+          (c.loop-used.reading ++ c.loop-used.rest.now) c.turn.new.self c.behind-rest.result.now (g.A.Answerer.kept c.args.answerer.now)
+          (g.A.Answerer.kept c.loop-used.answerer) (g.A.Answerer.kept c.turn.new.answerer) talk (g.H.Hub.talk c.loop-used.hub) then
           c.in-Next.ensures.turned.emptied c.behind-rest.ensures c.loop-used.invariant.asked c.in-Next.ensures.asked;
       still = λ k h. c.in-Next.ensures.still k (c.loop-used.invariant.still k h);
       lent = c.in-Next.ensures.lent ∙ c.loop-used.invariant.lent;
       later = omega (arith, c.in-Next.ensures.later, c.loop-used.invariant.later);
-      calm = calm_on (g.H.Hub.state c.args.hub.now) (g.H.Hub.state c.loop-used.hub) (g.H.Hub.state c.turn.new.hub) (g.H.Hub.faults c.args.hub.now) (g.H.Hub.faults c.loop-used.hub) (g.H.Hub.faults c.turn.new.hub) (g.H.Hub.send_faults c.args.hub.now) (g.H.Hub.send_faults c.loop-used.hub) (g.H.Hub.send_faults c.turn.new.hub) talk (g.H.Hub.talk c.loop-used.hub) then c.loop-used.invariant.calm c.in-Next.ensures.calm;
+      calm = calm_on (g.H.Hub.state c.args.hub.now) (g.H.Hub.state c.loop-used.hub) (g.H.Hub.state c.turn.new.hub) (g.H.Hub.faults c.args.hub.now)
+          (g.H.Hub.faults c.loop-used.hub) (g.H.Hub.faults c.turn.new.hub) (g.H.Hub.send_faults c.args.hub.now) (g.H.Hub.send_faults c.loop-used.hub)
+          (g.H.Hub.send_faults c.turn.new.hub) talk (g.H.Hub.talk c.loop-used.hub) then c.loop-used.invariant.calm c.in-Next.ensures.calm;
     }
 
 pub returns-in-Holds-clause-reads : goal.returns-in-Holds-clause-reads
 returns-in-Holds-clause-reads g c =
-    along_hold (g.A.Answerer.answers c.args.answerer.now) c.args.conn (c.args.reading.now ++ c.args.piece.now) c.loop-used.reading c.loop-used.rest.now c.turn.new.self (g.A.Answerer.faults c.args.answerer.now) (g.A.Answerer.faults c.loop-used.answerer) (g.A.Answerer.faults c.turn.new.answerer)
+    along_hold (g.A.Answerer.answers c.args.answerer.now) c.args.conn (c.args.reading.now ++ c.args.piece.now) c.loop-used.reading c.loop-used.rest.now
+    c.turn.new.self (g.A.Answerer.faults c.args.answerer.now) (g.A.Answerer.faults c.loop-used.answerer) (g.A.Answerer.faults c.turn.new.answerer)
     (g.H.Hub.talk c.args.hub.now) (g.H.Hub.talk c.loop-used.hub) (g.H.Hub.talk c.turn.new.hub) c.loop-used.invariant.along c.in-Holds.ensures.turned
 
 pub returns-in-Stops-clause-reads : goal.returns-in-Stops-clause-reads
 returns-in-Stops-clause-reads g c =
-    along_stop (g.A.Answerer.answers c.args.answerer.now) (g.A.Answerer.answers c.loop-used.answerer) c.args.conn (c.args.reading.now ++ c.args.piece.now) (c.loop-used.reading ++ c.loop-used.rest.now) (g.A.Answerer.faults c.args.answerer.now) (g.A.Answerer.faults c.loop-used.answerer) (g.A.Answerer.faults c.turn.new.answerer)
-    (g.H.Hub.talk c.args.hub.now) (g.H.Hub.talk c.loop-used.hub) (g.H.Hub.talk c.turn.new.hub) c.loop-used.invariant.still c.loop-used.invariant.along c.in-Stops.ensures.turned
+    along_stop (g.A.Answerer.answers c.args.answerer.now) (g.A.Answerer.answers c.loop-used.answerer) c.args.conn (c.args.reading.now ++ c.args.piece.now)
+    (c.loop-used.reading ++ c.loop-used.rest.now) (g.A.Answerer.faults c.args.answerer.now) (g.A.Answerer.faults c.loop-used.answerer)
+    (g.A.Answerer.faults c.turn.new.answerer)
+    (g.H.Hub.talk c.args.hub.now) (g.H.Hub.talk c.loop-used.hub) (g.H.Hub.talk c.turn.new.hub) c.loop-used.invariant.still c.loop-used.invariant.along
+    c.in-Stops.ensures.turned
 
 pub returns-in-Holds-clause-asked : goal.returns-in-Holds-clause-asked
 returns-in-Holds-clause-asked g c =
-    asked_hold g.A.Answerer.leaves c.args.conn true (c.args.reading.now ++ c.args.piece.now) (c.loop-used.reading ++ c.loop-used.rest.now) (g.A.Answerer.kept c.args.answerer.now) (g.A.Answerer.kept c.loop-used.answerer) (g.A.Answerer.kept c.turn.new.answerer) (g.H.Hub.talk c.args.hub.now) (g.H.Hub.talk c.loop-used.hub) (g.H.Hub.talk c.turn.new.hub)
+    asked_hold g.A.Answerer.leaves c.args.conn true (c.args.reading.now ++ c.args.piece.now) (c.loop-used.reading ++ c.loop-used.rest.now)
+    (g.A.Answerer.kept c.args.answerer.now) (g.A.Answerer.kept c.loop-used.answerer) (g.A.Answerer.kept c.turn.new.answerer) (g.H.Hub.talk c.args.hub.now)
+    (g.H.Hub.talk c.loop-used.hub) (g.H.Hub.talk c.turn.new.hub)
     c.loop-used.invariant.asked c.in-Holds.ensures.asked
 
 pub returns-in-Stops-clause-asked : goal.returns-in-Stops-clause-asked
 returns-in-Stops-clause-asked g c =
-    asked_stop g.A.Answerer.leaves c.args.conn (c.args.reading.now ++ c.args.piece.now) (c.loop-used.reading ++ c.loop-used.rest.now) (g.A.Answerer.kept c.args.answerer.now) (g.A.Answerer.kept c.loop-used.answerer) (g.A.Answerer.kept c.turn.new.answerer) (g.H.Hub.talk c.args.hub.now) (g.H.Hub.talk c.loop-used.hub) (g.H.Hub.talk c.turn.new.hub)
+    asked_stop g.A.Answerer.leaves c.args.conn (c.args.reading.now ++ c.args.piece.now) (c.loop-used.reading ++ c.loop-used.rest.now)
+    (g.A.Answerer.kept c.args.answerer.now) (g.A.Answerer.kept c.loop-used.answerer) (g.A.Answerer.kept c.turn.new.answerer) (g.H.Hub.talk c.args.hub.now)
+    (g.H.Hub.talk c.loop-used.hub) (g.H.Hub.talk c.turn.new.hub)
     c.loop-used.invariant.asked c.in-Stops.ensures.asked

@@ -17,27 +17,35 @@ returns-in-Ok-clause-ok g c =
     let over = g.A.Answerer.answers c.args.answerer.now in
     let before = g.A.Answerer.faults c.args.answerer.now in
     let after = g.A.Answerer.faults c.answer_params.new.answerer in
-    IfOk-weaker c.answer_params.result (λ a. IsGiven over (λ k. to_params k c.as_slice.result.now c.in-Ok.asked.close) (response a) before after) (λ a. IsGiven over (λ k. response_to k c.args.bytes.now) (response a) before after)
-    (λ a h. given_searched over c.args.bytes.now c.in-Ok.asked.params c.in-Ok.asked.close (response a) before after c.in-Ok.ensures.ok (subst (λ p. IsGiven over (λ k. to_params k p c.in-Ok.asked.close) (response a) before after) c.as_slice.ensures h)) c.answer_params.ensures.ok
+    IfOk-weaker c.answer_params.result (λ a. IsGiven over (λ k. to_params k c.as_slice.result.now c.in-Ok.asked.close) (response a) before after)
+    (λ a. IsGiven over (λ k. response_to k c.args.bytes.now) (response a) before after)
+    (λ a h. given_searched over c.args.bytes.now c.in-Ok.asked.params c.in-Ok.asked.close (response a) before after c.in-Ok.ensures.ok
+    (subst (λ p. IsGiven over (λ k. to_params k p c.in-Ok.asked.close) (response a) before after) c.as_slice.ensures h)) c.answer_params.ensures.ok
 
 pub returns-in-Err-clause-ok : goal.returns-in-Err-clause-ok
 returns-in-Err-clause-ok g c =
     let over = g.A.Answerer.answers c.args.answerer.now in
     let before = g.A.Answerer.faults c.args.answerer.now in
-    IfOk-weaker c.refuse_head.result (λ a. IsJudgedSo c.in-Err.fault (response a)) (λ a. IsGiven over (λ k. response_to k c.args.bytes.now) (response a) before before)
+    IfOk-weaker c.refuse_head.result (λ a. IsJudgedSo c.in-Err.fault (response a))
+    (λ a. IsGiven over (λ k. response_to k c.args.bytes.now) (response a) before before)
     (λ a h. given_judged over c.args.bytes.now c.in-Err.fault (response a) before c.in-Err.ensures.err h) c.refuse_head.ensures.judged
 
 pub returns-in-Ok-clause-asked : goal.returns-in-Ok-clause-asked
 returns-in-Ok-clause-asked g c =
-    asks_head g.A.Answerer.leaves (is_ok c.answer_params.result) c.args.bytes.now c.in-Ok.asked.params c.in-Ok.asked.close (g.A.Answerer.kept c.args.answerer.now) (g.A.Answerer.kept c.answer_params.new.answerer) c.in-Ok.ensures.ok
-    (subst (λ p. AsksOf g.A.Answerer.leaves (is_ok c.answer_params.result) (requests_by p (request_refusal p)) (g.A.Answerer.kept c.args.answerer.now) (g.A.Answerer.kept c.answer_params.new.answerer)) c.as_slice.ensures c.answer_params.ensures.asked)
+    asks_head g.A.Answerer.leaves (is_ok c.answer_params.result) c.args.bytes.now c.in-Ok.asked.params c.in-Ok.asked.close
+    (g.A.Answerer.kept c.args.answerer.now) (g.A.Answerer.kept c.answer_params.new.answerer) c.in-Ok.ensures.ok
+    (subst (λ p. AsksOf g.A.Answerer.leaves (is_ok c.answer_params.result) (requests_by p (request_refusal p)) (g.A.Answerer.kept c.args.answerer.now)
+    (g.A.Answerer.kept c.answer_params.new.answerer)) c.as_slice.ensures c.answer_params.ensures.asked)
 
 pub returns-in-Err-clause-asked : goal.returns-in-Err-clause-asked
-returns-in-Err-clause-asked g c = refused_head g.A.Answerer.leaves (judge c.args.bytes.now) c.in-Err.fault c.refuse_head.result (g.A.Answerer.kept c.args.answerer.now) c.in-Err.ensures.err c.refuse_head.ensures.told
+returns-in-Err-clause-asked g c =
+    refused_head g.A.Answerer.leaves (judge c.args.bytes.now) c.in-Err.fault c.refuse_head.result (g.A.Answerer.kept c.args.answerer.now) c.in-Err.ensures.err
+    c.refuse_head.ensures.told
 
 pub returns-in-Ok-clause-close : goal.returns-in-Ok-clause-close
 returns-in-Ok-clause-close g c =
-    IfOk-weaker c.answer_params.result (λ a. a.close ≡ c.in-Ok.asked.close) (λ a. a.close ≡ closes_behind (judge c.args.bytes.now)) (λ a h. h ∙ sym (ap closes_behind c.in-Ok.ensures.ok)) c.answer_params.ensures.close
+    IfOk-weaker c.answer_params.result (λ a. a.close ≡ c.in-Ok.asked.close) (λ a. a.close ≡ closes_behind (judge c.args.bytes.now))
+    (λ a h. h ∙ sym (ap closes_behind c.in-Ok.ensures.ok)) c.answer_params.ensures.close
 
 pub returns-in-Err-clause-close : goal.returns-in-Err-clause-close
 returns-in-Err-clause-close g c =

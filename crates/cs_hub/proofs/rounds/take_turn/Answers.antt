@@ -6,7 +6,8 @@ use Rattle.cs_hub.proofs.rounds.take_turn.Goals as goal
 
 pub step_with-requires-clause-live : goal.step_with-requires-clause-live
 step_with-requires-clause-live g c =
-    before_step c.args.core.now (g.H.Hub.state c.args.hub.now) (g.H.Hub.state c.next.new.self) (g.H.Hub.talk c.args.hub.now) (length c.args.buffer.now) c.in-Ok.event c.requires.live c.requires.orderly c.in-Ok.ensures.event
+    before_step c.args.core.now (g.H.Hub.state c.args.hub.now) (g.H.Hub.state c.next.new.self) (g.H.Hub.talk c.args.hub.now) (length c.args.buffer.now)
+    c.in-Ok.event c.requires.live c.requires.orderly c.in-Ok.ensures.event
 
 pub returns-in-Ok-clause-served : goal.returns-in-Ok-clause-served
 returns-in-Ok-clause-served g c = λ k over n h.

@@ -13,6 +13,10 @@ returns-after-say-clause-delivered g c =
     let talk = g.H.Hub.talk c.args.hub.now in
     let told = g.H.Hub.talk c.say.new.hub in
     let goes : c.if-say.result ≡ (c.say.result && not a.close) =
-    elim c.if-say.branch [ then-say w ↦ w.result-is ∙ ap (λ b. b && not a.close) (sym w.if-say.true) | else-say w ↦ w.result-is ∙ w.if-say.false ∙ ap (λ b. b && not a.close) (sym w.if-say.false) ] in
+    elim c.if-say.branch [
+      | then-say w ↦ w.result-is ∙ ap (λ b. b && not a.close) (sym w.if-say.true)
+      | else-say w ↦ w.result-is ∙ w.if-say.false ∙ ap (λ b. b && not a.close) (sym w.if-say.false)
+    ] in
     subst (λ b. Delivered c.args.conn (response a) b talk told) (sym goes)
-    (delivered_by c.args.conn (response a) c.as_slice-in-Ok.result.now c.say.result talk told (c.as_slice-in-Ok.ensures.value ∙ c.in-Ok.ensures.ok ∙ ap (wrapped a.status a.close) c.as_slice.ensures.value) c.say.ensures.said)
+    (delivered_by c.args.conn (response a) c.as_slice-in-Ok.result.now c.say.result talk told
+    (c.as_slice-in-Ok.ensures.value ∙ c.in-Ok.ensures.ok ∙ ap (wrapped a.status a.close) c.as_slice.ensures.value) c.say.ensures.said)

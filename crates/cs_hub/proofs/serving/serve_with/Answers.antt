@@ -11,7 +11,8 @@ loop-alloc-init g c =
     let e = c.requires.listens.1 in
     let none = c.new-core.ensures in
     record {
-      served = λ k over. at_start k c.new-core.result s (g.H.Hub.talk c.args.hub.now) port c.args.conns (g.A.Answerer.faults c.args.answerer.now) none e c.requires.orderly;
+      served = λ k over. at_start k c.new-core.result s (g.H.Hub.talk c.args.hub.now) port c.args.conns (g.A.Answerer.faults c.args.answerer.now) none e
+          c.requires.orderly;
       live = start_live c.new-core.result s port c.args.conns none e;
       orderly = c.requires.orderly;
       opened = ap (λ (y : Listening). y.opened) e;
@@ -34,7 +35,9 @@ loop-alloc-preserved g c =
     let r = c.in-Goes.ensures in
     let less = less_left c.args.conns c.loop-alloc.opened c.in-Goes.count s.conns s.opened c.loop-alloc.core c.take_turn.new.core i.room i.opened r.went.2 in
     record {
-      served = λ k over. goes_on k c.loop-alloc.core c.take_turn.new.core s (g.H.Hub.state c.take_turn.new.hub) (g.H.Hub.talk c.loop-alloc.hub) (g.H.Hub.talk c.take_turn.new.hub) (g.A.Answerer.faults c.args.answerer.now) (g.A.Answerer.faults c.loop-alloc.answerer) (g.A.Answerer.faults c.take_turn.new.answerer) (i.served k over) (r.served k (i.still_over k over));
+      served = λ k over. goes_on k c.loop-alloc.core c.take_turn.new.core s (g.H.Hub.state c.take_turn.new.hub) (g.H.Hub.talk c.loop-alloc.hub)
+          (g.H.Hub.talk c.take_turn.new.hub) (g.A.Answerer.faults c.args.answerer.now) (g.A.Answerer.faults c.loop-alloc.answerer)
+          (g.A.Answerer.faults c.take_turn.new.answerer) (i.served k over) (r.served k (i.still_over k over));
       live = r.live;
       orderly = r.orderly;
       opened = r.went.0;
@@ -43,7 +46,8 @@ loop-alloc-preserved g c =
       port = r.port ∙ i.port;
       going = r.went.4 ∙ i.going;
       quiet = r.went.1 ∙ i.quiet;
-      breaks = breaks_both (g.H.Hub.send_faults c.args.hub.now) (g.H.Hub.send_faults c.loop-alloc.hub) (g.H.Hub.send_faults c.take_turn.new.hub) (g.H.Hub.talk c.args.hub.now) (g.H.Hub.talk c.loop-alloc.hub) (g.H.Hub.talk c.take_turn.new.hub) i.breaks r.breaks;
+      breaks = breaks_both (g.H.Hub.send_faults c.args.hub.now) (g.H.Hub.send_faults c.loop-alloc.hub) (g.H.Hub.send_faults c.take_turn.new.hub)
+          (g.H.Hub.talk c.args.hub.now) (g.H.Hub.talk c.loop-alloc.hub) (g.H.Hub.talk c.take_turn.new.hub) i.breaks r.breaks;
       events = omega (arith, less, r.went.5, i.events);
       still_over = λ k over. r.still k (i.still_over k over);
       lent = r.lent ∙ i.lent;
@@ -55,5 +59,8 @@ returns-in-Over-clause-served g c = λ k over.
     let i = c.loop-alloc.invariant in
     let s = g.H.Hub.state c.loop-alloc.hub in
     let r = c.in-Over.ensures in
-    served_by k c.take_turn.new.core (g.H.Hub.state c.take_turn.new.hub) (g.H.Hub.talk c.take_turn.new.hub) (g.A.Answerer.faults c.args.answerer.now) (g.A.Answerer.faults c.take_turn.new.answerer)
-    (goes_on k c.loop-alloc.core c.take_turn.new.core s (g.H.Hub.state c.take_turn.new.hub) (g.H.Hub.talk c.loop-alloc.hub) (g.H.Hub.talk c.take_turn.new.hub) (g.A.Answerer.faults c.args.answerer.now) (g.A.Answerer.faults c.loop-alloc.answerer) (g.A.Answerer.faults c.take_turn.new.answerer) (i.served k over) (r.served k (i.still_over k over)))
+    served_by k c.take_turn.new.core (g.H.Hub.state c.take_turn.new.hub) (g.H.Hub.talk c.take_turn.new.hub) (g.A.Answerer.faults c.args.answerer.now)
+    (g.A.Answerer.faults c.take_turn.new.answerer)
+    (goes_on k c.loop-alloc.core c.take_turn.new.core s (g.H.Hub.state c.take_turn.new.hub) (g.H.Hub.talk c.loop-alloc.hub) (g.H.Hub.talk c.take_turn.new.hub)
+    (g.A.Answerer.faults c.args.answerer.now) (g.A.Answerer.faults c.loop-alloc.answerer) (g.A.Answerer.faults c.take_turn.new.answerer) (i.served k over)
+    (r.served k (i.still_over k over)))

@@ -10,7 +10,8 @@ use Rattle.cs_hub.proofs.serving.serve_with.Given as goal
 
 abbrev pub invariant-loop-alloc : goal.invariant-loop-alloc
 invariant-loop-alloc g l = record {
-  served : (k : Corpus) → g.A.Answerer.answers l.initial.answerer k → ServedBy k l.core (g.H.Hub.state l.hub) (g.H.Hub.talk l.hub) (g.A.Answerer.faults l.initial.answerer) (g.A.Answerer.faults l.answerer);
+  served : (k : Corpus) → g.A.Answerer.answers l.initial.answerer k
+      → ServedBy k l.core (g.H.Hub.state l.hub) (g.H.Hub.talk l.hub) (g.A.Answerer.faults l.initial.answerer) (g.A.Answerer.faults l.answerer);
   live : HasLive l.core (g.H.Hub.state l.hub);
   orderly : IsOrderly (g.H.Hub.state l.hub) (g.H.Hub.talk l.hub);
   opened : (g.H.Hub.state l.hub).opened ≡ l.opened;

@@ -12,21 +12,30 @@ returns-clause-heeds g c = record {
   old = c.in-Some.line;
   was = sym c.in-Some.ensures.value;
   kept = c.receive-kept.result;
-  received = subst (λ t. Received (g.A.Answerer.answers c.args.answerer.now) c.args.conn c.in-Some.line c.args.piece.now c.receive-kept.result (g.A.Answerer.faults c.args.answerer.now) (g.A.Answerer.faults c.receive-kept.new.answerer) (g.H.Hub.talk c.args.hub.now) t) (sym c.settle.ensures.talk) c.receive-kept.ensures.received;
-  acted = heeds_acted c.args.self.now c.take.new.self c.settle.new.self c.args.conn c.receive-kept.result (g.H.Hub.state c.args.hub.now) (g.H.Hub.state c.receive-kept.new.hub) (g.H.Hub.state c.settle.new.hub)
-      c.take.ensures.taken c.settle.ensures.core c.receive-kept.ensures.calm.state c.settle.ensures.state (held_within c.args.self.now c.args.conn c.requires.held) c.requires.live;
+  received = subst (λ t. Received (g.A.Answerer.answers c.args.answerer.now) c.args.conn c.in-Some.line c.args.piece.now c.receive-kept.result
+      (g.A.Answerer.faults c.args.answerer.now) (g.A.Answerer.faults c.receive-kept.new.answerer) (g.H.Hub.talk c.args.hub.now) t) (sym c.settle.ensures.talk)
+      c.receive-kept.ensures.received;
+  acted = heeds_acted c.args.self.now c.take.new.self c.settle.new.self c.args.conn c.receive-kept.result (g.H.Hub.state c.args.hub.now)
+      (g.H.Hub.state c.receive-kept.new.hub) (g.H.Hub.state c.settle.new.hub)
+      c.take.ensures.taken c.settle.ensures.core c.receive-kept.ensures.calm.state c.settle.ensures.state
+      (held_within c.args.self.now c.args.conn c.requires.held) c.requires.live;
 }
 
 pub returns-clause-lighter : goal.returns-clause-lighter
 returns-clause-lighter g c =
-    heeds_lighter (g.A.Answerer.answers c.args.answerer.now) c.args.self.now c.settle.new.self c.args.conn c.in-Some.line c.args.piece.now c.receive-kept.result (g.A.Answerer.faults c.args.answerer.now) (g.A.Answerer.faults c.receive-kept.new.answerer) (g.H.Hub.talk c.args.hub.now) (g.H.Hub.talk c.receive-kept.new.hub)
-    (c.settle.ensures.core ∙ ap (λ k. slice_set k c.args.conn c.receive-kept.result) c.take.ensures.taken ∙ set-set c.args.self.now c.args.conn None c.receive-kept.result)
+    heeds_lighter (g.A.Answerer.answers c.args.answerer.now) c.args.self.now c.settle.new.self c.args.conn c.in-Some.line c.args.piece.now c.receive-kept.result
+    (g.A.Answerer.faults c.args.answerer.now) (g.A.Answerer.faults c.receive-kept.new.answerer) (g.H.Hub.talk c.args.hub.now)
+    (g.H.Hub.talk c.receive-kept.new.hub)
+    (c.settle.ensures.core ∙ ap (λ k. slice_set k c.args.conn c.receive-kept.result) c.take.ensures.taken
+    ∙ set-set c.args.self.now c.args.conn None c.receive-kept.result)
     (sym c.in-Some.ensures.value) c.receive-kept.ensures.room c.requires.some c.receive-kept.ensures.received
 
 pub returns-clause-asked : goal.returns-clause-asked
 returns-clause-asked g c =
     let now = g.A.Answerer.kept c.args.answerer.now in
     let then = g.A.Answerer.kept c.receive-kept.new.answerer in
-    asks_of_line g.A.Answerer.leaves c.args.conn c.args.self.now c.settle.new.self c.in-Some.line c.args.piece.now c.receive-kept.result now then (g.H.Hub.talk c.args.hub.now) (g.H.Hub.talk c.receive-kept.new.hub) (g.H.Hub.talk c.settle.new.hub)
-    (c.settle.ensures.core ∙ ap (λ k. slice_set k c.args.conn c.receive-kept.result) c.take.ensures.taken ∙ set-set c.args.self.now c.args.conn None c.receive-kept.result)
+    asks_of_line g.A.Answerer.leaves c.args.conn c.args.self.now c.settle.new.self c.in-Some.line c.args.piece.now c.receive-kept.result now then
+    (g.H.Hub.talk c.args.hub.now) (g.H.Hub.talk c.receive-kept.new.hub) (g.H.Hub.talk c.settle.new.hub)
+    (c.settle.ensures.core ∙ ap (λ k. slice_set k c.args.conn c.receive-kept.result) c.take.ensures.taken
+    ∙ set-set c.args.self.now c.args.conn None c.receive-kept.result)
     (held_within c.args.self.now c.args.conn c.requires.held) c.in-Some.ensures.value c.settle.ensures.talk c.receive-kept.ensures.asked

@@ -17,6 +17,15 @@ loop-self-preserved c =
     let more = one_more xs ys c.loop-self.invariant.padded.0 c.loop-self.invariant.padded.1 in
     record {
       padded = (more.0, pushed ∙ more.1);
-      count = c.loop-self.invariant.count ∙ (let e : live_count ys ≡ live_count (ys ++ replicate 1 None) = omega (arith, padded_count ys 1) in e) ∙ ap live_count (let e : ys ++ replicate 1 None ≡ c.push.new.self.items = cc pushed in e);
-      small = omega (arith, ap length pushed, length-append ys (None ∷ []), c.len.ensures, c.loop-self-test.true, c.ranges.conn, c.loop-self.self-inside.slots.ok);
+      count = c.loop-self.invariant.count ∙ (let e : live_count ys ≡ live_count (ys ++ replicate 1 None) = omega (arith, padded_count ys 1) in e)
+          ∙ ap live_count (let e : ys ++ replicate 1 None ≡ c.push.new.self.items = cc pushed in e);
+      small = omega (
+        arith,
+        ap length pushed,
+        length-append ys (None ∷ []),
+        c.len.ensures,
+        c.loop-self-test.true,
+        c.ranges.conn,
+        c.loop-self.self-inside.slots.ok,
+      );
     }

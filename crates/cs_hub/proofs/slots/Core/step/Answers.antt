@@ -16,5 +16,7 @@ returns-clause-reads g c =
     let before = c.new-asking.result in
     let then = c.step_with.new.answerer in
     within_for (goes_on c.step_with.new.self c.args.event) (requests_on (bytes_to_answer c.args.self.now c.args.event c.args.piece.now))
-    (standing (g.S.Store.bytes before.store.now) before.engine.now (g.S.Store.reads before.store.now) (g.S.Store.faults before.store.now)) (standing (g.S.Store.bytes then.store.now) then.engine.now (g.S.Store.reads then.store.now) (g.S.Store.faults then.store.now))
-    _ _ _ _ _ _ _ _ (stands_so _ _ _ _ _ _ _ _ (search rules) (search rules) (search rules) (search rules)) (stands_so _ _ _ _ _ _ _ _ refl (search rules) (search rules) (search rules)) c.step_with.ensures.asked
+    (standing (g.S.Store.bytes before.store.now) before.engine.now (g.S.Store.reads before.store.now) (g.S.Store.faults before.store.now))
+    (standing (g.S.Store.bytes then.store.now) then.engine.now (g.S.Store.reads then.store.now) (g.S.Store.faults then.store.now))
+    _ _ _ _ _ _ _ _ (stands_so _ _ _ _ _ _ _ _ (search rules) (search rules) (search rules) (search rules))
+    (stands_so _ _ _ _ _ _ _ _ refl (search rules) (search rules) (search rules)) c.step_with.ensures.asked

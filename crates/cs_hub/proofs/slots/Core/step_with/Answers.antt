@@ -31,11 +31,15 @@ returns-in-Piece-clause-follows g c = λ k over.
     let told = g.H.Hub.talk c.hear.new.hub in
     let before = g.A.Answerer.faults c.args.answerer.now in
     let after = g.A.Answerer.faults c.hear.new.answerer in
-    let whole : IsWhole (Piece c.in-Piece.conn c.in-Piece.field-1) c.args.piece.now = subst (λ (v : Event). IsWhole v c.args.piece.now) c.in-Piece.is c.requires.whole in
-    let but : HasLiveBut c.args.self.now now (Piece c.in-Piece.conn c.in-Piece.field-1) = subst (HasLiveBut c.args.self.now now) c.in-Piece.is c.requires.live in
+    let whole : IsWhole (Piece c.in-Piece.conn c.in-Piece.field-1) c.args.piece.now =
+    subst (λ (v : Event). IsWhole v c.args.piece.now) c.in-Piece.is c.requires.whole in
+    let but : HasLiveBut c.args.self.now now (Piece c.in-Piece.conn c.in-Piece.field-1) =
+    subst (HasLiveBut c.args.self.now now) c.in-Piece.is c.requires.live in
     subst (λ (v : Event). StaysRight k c.args.self.now c.hear.new.self v c.args.piece.now now then talk told before after) (sym c.in-Piece.is)
-    (piece_stays (g.A.Answerer.answers c.args.answerer.now) k over c.args.self.now c.hear.new.self c.in-Piece.conn c.in-Piece.field-1 c.args.piece.now now then before after talk told whole.0 c.hear.ensures.heeds
-    (acted_live c.args.self.now c.hear.new.self c.in-Piece.conn c.hear.ensures.heeds.kept now then (λ d other. but.1 d) c.hear.ensures.heeds.acted) c.hear.ensures.orderly)
+    (piece_stays (g.A.Answerer.answers c.args.answerer.now) k over c.args.self.now c.hear.new.self c.in-Piece.conn c.in-Piece.field-1 c.args.piece.now now then
+    before after talk told whole.0 c.hear.ensures.heeds
+    (acted_live c.args.self.now c.hear.new.self c.in-Piece.conn c.hear.ensures.heeds.kept now then (λ d other. but.1 d) c.hear.ensures.heeds.acted)
+    c.hear.ensures.orderly)
 
 pub returns-in-Ended-clause-follows : goal.returns-in-Ended-clause-follows
 returns-in-Ended-clause-follows g c = λ k over.
@@ -56,7 +60,8 @@ returns-in-Over-clause-follows g c = λ k over.
     let told = g.H.Hub.talk c.close_all.new.hub in
     let count = g.A.Answerer.faults c.args.answerer.now in
     subst (λ (v : Event). StaysRight k c.args.self.now c.close_all.new.self v c.args.piece.now now then talk told count count) (sym c.in-Over.is)
-    (over_stays k c.args.self.now c.close_all.new.self c.args.piece.now now then count talk told c.close_all.ensures.talk c.close_all.ensures.same c.close_all.ensures.none c.close_all.ensures.live c.close_all.ensures.orderly)
+    (over_stays k c.args.self.now c.close_all.new.self c.args.piece.now now then count talk told c.close_all.ensures.talk c.close_all.ensures.same
+    c.close_all.ensures.none c.close_all.ensures.live c.close_all.ensures.orderly)
 
 pub returns-in-Opened-clause-asked : goal.returns-in-Opened-clause-asked
 returns-in-Opened-clause-asked g c =
@@ -77,4 +82,6 @@ pub returns-in-Piece-clause-asked : goal.returns-in-Piece-clause-asked
 returns-in-Piece-clause-asked g c =
     let now = g.A.Answerer.kept c.args.answerer.now in
     let then = g.A.Answerer.kept c.hear.new.answerer in
-    subst (λ (v : Event). AsksAsSent g.A.Answerer.leaves (goes_on c.hear.new.self v) (requests_on (bytes_to_answer c.args.self.now v c.args.piece.now)) now then (SentAt v (bytes_to_answer c.args.self.now v c.args.piece.now) (g.H.Hub.talk c.args.hub.now) (g.H.Hub.talk c.hear.new.hub))) (sym c.in-Piece.is) c.hear.ensures.asked
+    subst (λ (v : Event). AsksAsSent g.A.Answerer.leaves (goes_on c.hear.new.self v) (requests_on (bytes_to_answer c.args.self.now v c.args.piece.now)) now then
+    (SentAt v (bytes_to_answer c.args.self.now v c.args.piece.now) (g.H.Hub.talk c.args.hub.now) (g.H.Hub.talk c.hear.new.hub))) (sym c.in-Piece.is)
+    c.hear.ensures.asked
