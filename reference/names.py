@@ -15,7 +15,7 @@ EXCUSED = {
 }
 
 DEFINITION = re.compile(r"^\s*(?:abbrev pub|unfoldable pub|pub record|pub data|pub)\s+([^\s:{(]+)")
-OPEN_RECORD = re.compile(r"^(?:abbrev |unfoldable )?(?:pub )?(?:record|data)\b.*\bwhere\s*$")
+OPEN_RECORD = re.compile(r"^(?:abbrev |unfoldable )?(?:pub )?(?:record|data)\b")
 TYPE = re.compile(r"^pub (?:struct|enum|trait|type|union)\s+(\w+)")
 
 

@@ -22,7 +22,7 @@ use Rattle.cs_vocab.specs.Ranges.{IsWordAt, IsRange}
 use Rattle.cs_engine.specs.Asking.{division}
 use Rattle.cs_engine.specs.IndexReading.{stock_of, HasRows, IsSpanOf}
 use Rattle.cs_model_index.specs.Numbered.{word_at, rows_at}
-use Rattle.cs_engine.specs.Stocked.{corpus_in, is_between, IsSpan}
+use Rattle.cs_engine.specs.Stocked.{corpus_in, is_between, HoldsBetween}
 use Rattle.cs_engine.proofs.AtomsLemmas.{span_word, span_none, span_rows, picked_between, words_known}
 use Rattle.cs_engine.proofs.StockLemmas.{stocked, words_are}
 
@@ -36,12 +36,12 @@ no_span ws w none = record { ordered = omega arith; within = omega arith; holds 
 pub word_there : (ws : List (List ℕ)) (n : ℕ) (w : List ℕ) → IsWordAt ws n w → list_any (bytes_eq w) ws ≡ true
 word_there ws n w at = list_any_at (bytes_eq w) ws n [] at.0 (ap (bytes_eq w) at.1 ∙ name_itself w)
 
-pub span_found : (b : List ℕ) (i : IndexView) → StandsFor b i → IsIndex i → (test : List ℕ → Bool) (lo hi : ℕ) → IsSpan i.words test lo hi → (posts : List Post)
+pub span_found : (b : List ℕ) (i : IndexView) → StandsFor b i → IsIndex i → (test : List ℕ → Bool) (lo hi : ℕ) → HoldsBetween i.words test lo hi → (posts : List Post)
     → posts ≡ filter (is_between lo hi) (stock_of b).posts
     → HasRows (stock_of b) (filter (λ r. test r.word) (corpus_in (stock_of b)).rows) posts
 span_found b i s is test lo hi span posts are =
     let st = stocked b i s is in
-    let own = subst (λ ws. IsSpan ws test lo hi) (words_are b i s is) span in
+    let own = subst (λ ws. HoldsBetween ws test lo hi) (words_are b i s is) span in
     record {
       is = ap (λ ps. rows_at (stock_of b).words ps) are
           ∙ span_rows (stock_of b).words test lo hi (stock_of b).posts own (words_known (stock_of b) (stock_of b).posts st.known);

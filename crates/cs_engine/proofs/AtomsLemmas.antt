@@ -20,7 +20,7 @@ use Rattle.cs_base.specs.content.Orders.{by_place}
 use Rattle.cs_base.specs.declared.content.doc.Post.{Post}
 use Rattle.cs_vocab.specs.Ranges.{IsWordAt}
 use Rattle.cs_model_index.specs.Numbered.{word_at, row_of, rows_at}
-use Rattle.cs_engine.specs.Stocked.{Stock, IsKnown, IsStocked, IsPicked, IsSpan, is_between}
+use Rattle.cs_engine.specs.Stocked.{Stock, IsKnown, IsStocked, IsPicked, HoldsBetween, is_between}
 use Rattle.cs_base.proofs.MembersLemmas.{all_then}
 use Rattle.cs_base.proofs.NameMaps.{name_itself, name_sym}
 use Rattle.cs_base.proofs.ListsLemmas.{filter_through, filter_alike}
@@ -37,7 +37,7 @@ here : (n m : ℕ) → m ≡ n → (nat_le n m && nat_lt m (n + 1)) ≡ true
 here n m h = grind (arith, nat_tests)
 
 pub span_word : (ws : List (List ℕ)) → IsStrictlySortedBy (slice_cmp nat_cmp) ws → (n : ℕ) (w : List ℕ) → IsWordAt ws n w
-    → IsSpan ws (λ v. bytes_eq v w) n (n + 1)
+    → HoldsBetween ws (λ v. bytes_eq v w) n (n + 1)
 span_word ws up n w at m l =
     subst (λ x. bytes_eq (word_at ws m) x ≡ (nat_le n m && nat_lt m (n + 1))) at.1
     (three_ways m n
@@ -53,11 +53,11 @@ none_at [] w m h l = absurd (omega arith)
 none_at (v ∷ ws) w zero h l = (or_parts (bytes_eq w v) (list_any (bytes_eq w) ws) h).0
 none_at (v ∷ ws) w (suc m) h l = none_at ws w m (or_parts (bytes_eq w v) (list_any (bytes_eq w) ws) h).1 (omega arith)
 
-pub span_none : (ws : List (List ℕ)) (w : List ℕ) → list_any (bytes_eq w) ws ≡ false → IsSpan ws (λ v. bytes_eq v w) 0 0
+pub span_none : (ws : List (List ℕ)) (w : List ℕ) → list_any (bytes_eq w) ws ≡ false → HoldsBetween ws (λ v. bytes_eq v w) 0 0
 span_none ws w h m l =
     name_sym (word_at ws m) w ∙ none_at ws w m h l ∙ sym (none_between m)
 
-pub span_rows : (ws : List (List ℕ)) (test : List ℕ → Bool) (lo hi : ℕ) (posts : List Post) → IsSpan ws test lo hi
+pub span_rows : (ws : List (List ℕ)) (test : List ℕ → Bool) (lo hi : ℕ) (posts : List Post) → HoldsBetween ws test lo hi
     → AllByRecursion (λ p. p.word < length ws) posts → rows_at ws (filter (is_between lo hi) posts) ≡ filter (λ r. test r.word) (rows_at ws posts)
 span_rows ws test lo hi posts span known =
     ap (rows_at ws) (filter_alike (is_between lo hi) (λ p. test (word_at ws p.word)) posts

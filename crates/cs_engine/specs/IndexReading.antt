@@ -27,7 +27,7 @@ use Rattle.cs_file.specs.Indexes.{CausedReads, HasAllBlocks, IndexView, IsIndex,
 use Rattle.cs_model_index.specs.Images.{image_posts}
 use Rattle.cs_model_index.specs.Sections.{image_of}
 use Rattle.cs_model_index.specs.Numbered.{rows_at}
-use Rattle.cs_engine.specs.Stocked.{Stock, IsPicked, IsSpan}
+use Rattle.cs_engine.specs.Stocked.{Stock, IsPicked, HoldsBetween}
 
 -- the score comes last, which the other three determine in an index
 abbrev pub by_post : Post → Post → Ordering
@@ -85,4 +85,4 @@ run_of blocks first last t = flat_map (filter t) (take (last - first) (drop firs
 pub record IsSpanOf (ws : List (List ℕ)) (test : List ℕ → Bool) (lo hi : ℕ) : Type 0 where
   pub ordered : lo ≤ hi
   pub within : hi ≤ length ws
-  pub holds : IsSpan ws test lo hi
+  pub holds : HoldsBetween ws test lo hi

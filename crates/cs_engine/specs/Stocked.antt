@@ -7,7 +7,7 @@
 --   IsKnown s p            the post's document and word are there
 --   IsStocked s            what always holds of what is read of an index
 --   IsPicked s posts       posts are some of the stock's, in order
---   IsSpan ws test lo hi   the words that pass a test are those from number lo up to hi, hi left out
+--   HoldsBetween ws test lo hi   the words that pass a test are those from number lo up to hi, hi left out
 --   is_between lo hi p     the post's word is one of these
 --   named_rows s n         the rows of the facet words of a name
 --   linked_posts link a b  the posts of b that are linked to a post of a
@@ -83,8 +83,8 @@ abbrev pub is_between : ℕ → ℕ → Post → Bool
 is_between lo hi p = nat_le lo p.word && nat_lt p.word hi
 
 -- where no word passes, lo is hi or more
-abbrev pub IsSpan : List (List ℕ) → (List ℕ → Bool) → ℕ → ℕ → Type 0
-IsSpan ws test lo hi = (n : ℕ) → n < length ws → test (word_at ws n) ≡ (nat_le lo n && nat_lt n hi)
+abbrev pub HoldsBetween : List (List ℕ) → (List ℕ → Bool) → ℕ → ℕ → Type 0
+HoldsBetween ws test lo hi = (n : ℕ) → n < length ws → test (word_at ws n) ≡ (nat_le lo n && nat_lt n hi)
 
 -- the words that begin with a colon, the name and a colon
 abbrev pub named_rows : Stock → List ℕ → List Row
