@@ -4,13 +4,15 @@
 --   within_more, within_both    what is read is within more, and of two calls within the sum
 --   Walk            after some reads, each at most one: first before them, and k behind them
 --   walk_goes_on    after one more
+--   walk_reads      what was read so far
+--   rest_stops, rest_ends     what was read up to a block
 --   walk_stops      what was read where the next block fails
 --   walk_ends       what was read of all blocks
 --   ListWalk        after the first n members of a list, of which x reads f x blocks at most
 --   list_begins     before the first
 --   list_goes_on    after one more
 --   list_stops      what was read where the next one fails
-use Rattle.std.proofs.Common.{◌≡◌, ℕ, ◌+◌, ◌<◌, ◌≤◌, false, List, length, map, drop, get_or, Option, refl, sym, ap, ◌∙◌, arith}
+use Rattle.std.proofs.Common.{◌≡◌, ℕ, ◌+◌, ◌-◌, ◌<◌, ◌≤◌, false, List, length, map, drop, get_or, Option, refl, sym, ap, ◌∙◌, arith}
 use Rattle.std.specs.Prelude.{filter, sum}
 use Rattle.std.proofs.lemmas.List.Sums.{sum_by-cons}
 use Rattle.cs_base.specs.declared.index.block.BlockHead.{BlockHead}
@@ -70,6 +72,15 @@ module _ {S L : Type 0} {tells : S → Option (List ℕ)} {lends : S → L} {fai
     later = (let l = one.later in omega (arith, l, w.later));
     reads = (let r = one.within in omega (arith, r, w.reads));
   }
+
+  pub walk_reads : ReadsWithin (k - first) (counts old) (counts now)
+  walk_reads = record { later = w.later; within = omega (arith, w.reads) }
+
+  pub rest_stops : {next : S} {last : ℕ} → k < last → ReadsWithin 1 (counts now) (counts next) → ReadsWithin (last - first) (counts old) (counts next)
+  rest_stops lt one = record { later = (let l = one.later in omega (arith, l, w.later)); within = (let r = one.within in omega (arith, r, w.reads, lt)) }
+
+  pub rest_ends : {last : ℕ} → (first ≤ last → k ≤ last) → first ≤ last → ReadsWithin (last - first) (counts old) (counts now)
+  rest_ends end up = record { later = w.later; within = (let le = end up in omega (arith, w.reads, le)) }
 
   module _ {heads : List BlockHead} {lo hi last : ℕ} (met : AreMet heads lo hi first last) where
     pub walk_stops : {next : S} → k < last → ReadsWithin 1 (counts now) (counts next)

@@ -20,24 +20,6 @@ use cs_rank::add_base;
 use cs_tables::are_within;
 use std::alloc::Global;
 
-/// Each document of some rows, of which these are the numbers in any order, with its score over a base, by document ascending.
-pub(crate) fn scores_over(
-    alloc: Global,
-    docs: u32,
-    base: &Base,
-    keys: &[u64],
-) -> Result<Seq<Scored>, Memory>
-    requires base { IsBase base.now }
-    requires known { All (λ k. (post_of_key k).doc < docs) keys.now }
-
-    ensures { IfOk result (λ hits. hits ≡ scores base.now (map post_of_key keys.now)) }
-{
-    let mut best = zeros(alloc, docs)?;
-    raise_all(&mut best, keys);
-    let scored = scored_in(alloc, base, &best)?;
-    Ok(scored)
-}
-
 /// The documents that have an entry, each with what hits gave it added to its score.
 pub(crate) fn scored_in(alloc: Global, hits: &Base, best: &[u8]) -> Result<Seq<Scored>, Memory>
     requires base { IsBase hits.now }
@@ -78,7 +60,17 @@ pub(crate) fn zeros(alloc: Global, docs: u32) -> Result<Vec<u8>, Memory>
     Ok(table)
 }
 
-// Notes the scores of rows: by document the greatest one and one more.
+/// Notes the scores of rows, of which these are the numbers: by document the greatest one and one more.
+pub(crate) fn raise_keys(best: &mut Vec<u8>, keys: &[u64])
+    requires { All (λ k. (post_of_key k).doc < length best.old.items) keys.now }
+
+    ensures best { (seen : List Post) → HasBestScores seen best.old.items → HasBestScores (seen ++ map post_of_key keys.now) best.new.items }
+    ensures len { length best.new.items ≡ length best.old.items }
+{
+    raise_all(best, keys);
+}
+
+// The same.
 fn raise_all(best: &mut [u8], keys: &[u64])
     requires { All (λ k. (post_of_key k).doc < length best.old) keys.now }
 

@@ -8,13 +8,16 @@ ghost use Rattle.cs_base.specs.outside.Causes.{ReadsWithin};
 ghost use Rattle.cs_file.specs.Indexes.{IsIndex, is_met};
 ghost use Rattle.cs_engine.specs.Asking.{is_read, is_changed};
 ghost use Rattle.cs_engine.specs.Blockwise.{AreMany, HasFound, rows_within};
+ghost use Rattle.cs_engine.specs.Counting.{AreListed};
+ghost use Rattle.cs_engine.specs.Gathering.{HasGathered};
 ghost use Rattle.cs_engine.specs.IndexReading.{IsOpened, IsWordRange, OnlyReads, WhereStood, stock_of};
 ghost use Rattle.cs_engine.specs.Steps.{IsBaseOf, posts_after};
 ghost use Rattle.cs_engine.specs.Stocked.{is_between};
 
-use crate::best::{raise_rows, scored_in, zeros};
-use crate::counting::listed_docs;
+use crate::best::{raise_keys, raise_rows, scored_in, zeros};
+use crate::counting::count_keys;
 use crate::fault::AskFault;
+use crate::gathering::Gathered;
 use cs_base::{Base, BlockHead, Scored, Seq, Store};
 use cs_file::{Fetched, Index};
 use cs_model_kept::MAX_ENTRY_SIZE;
@@ -49,18 +52,22 @@ fn rows_within(head: &BlockHead, words: (u32, u32)) -> u64
     0
 }
 
-/// The documents of hits that have a row of these words, with their scores, and the table of these rows in them. Each block that holds
-/// such a word is read once.
-pub(crate) fn found_in_blocks<S: Store>(
+/// The documents of hits that have a row of these words, with their scores, and the table of these rows in them. What was gathered of
+/// the first blocks isn't read again, and each other block that holds such a word is read once.
+pub(crate) fn found_behind<S: Store>(
     alloc: Global,
     index: &Index,
     store: &mut S,
     hits: &Base,
     words: (u32, u32),
+    listed: &[bool],
+    gathered: &Gathered,
     cut: u32,
 ) -> Result<(Seq<Scored>, Table), AskFault>
     requires words { IsWordRange index.now words.0 words.1 }
     requires base { IsBaseOf index.now.docs (MAX_ROW_SCORE * (MAX_PARTS - 1)) hits.now }
+    requires listed { AreListed index.now.docs hits.now listed.now }
+    requires gathered { HasGathered index.now (S.bytes store.old) words.0 words.1 listed.now gathered.now }
     requires opened { IsOpened (S.bytes store.old) index.now }
 
     ensures told { WhereStood (S.bytes store.old) index.now
@@ -69,18 +76,17 @@ pub(crate) fn found_in_blocks<S: Store>(
     ensures base { IfOk result (λ found. IsBaseOf index.now.docs (MAX_ROW_SCORE * MAX_PARTS) (base.Listed found.0)) }
     ensures known { IfOk result (λ found. All (λ w. w.word < length index.now.words) found.1.first) }
     ensures store { OnlyReads S.bytes S.lent S.faults index.now store.old store.new (is_read result) (is_changed result) }
-    ensures reads { ReadsWithin (length (filter (is_met words.0 words.1) index.now.heads)) (S.reads store.old) (S.reads store.new) }
+    ensures reads { ReadsWithin (gathered.now.last - gathered.now.next) (S.reads store.old) (S.reads store.new) }
 {
-    let (lo, hi) = words;
-    let (first, last) = index.blocks(lo, hi);
-    let listed = listed_docs(alloc, index.docs, hits)?;
-    let mut counts = WordCounts::new(alloc, lo, hi)?;
+    let mut counts = WordCounts::new(alloc, words.0, words.1)?;
+    count_keys(&mut counts, &gathered.keys);
     let mut best = zeros(alloc, index.docs)?;
+    raise_keys(&mut best, &gathered.keys);
     let mut block = Fetched::new(alloc);
-    for k in first..last {
+    for k in gathered.next..gathered.last {
         index.fetch_scored(alloc, store, k, &mut block)?;
-        counts.add_rows(&block.docs, &block.words, &listed);
-        raise_rows(&mut best, words, &listed, &block);
+        counts.add_rows(&block.docs, &block.words, listed);
+        raise_rows(&mut best, words, listed, &block);
     }
     let scored = scored_in(alloc, hits, &best)?;
     let table = counts.table(alloc, cut)?;

@@ -83,30 +83,8 @@ pub(crate) fn table_between<S: Store>(
     Ok(table)
 }
 
-/// The table of rows of the words from number `words.0` up to `words.1`, of which these are the numbers, those of one word in order.
-pub(crate) fn table_of(
-    alloc: Global,
-    words: (u32, u32),
-    keys: &[u64],
-    cut: u32,
-) -> Result<Table, Memory>
-    requires ordered { words.0 ≤ words.1 }
-    requires few { words.1 ≤ MAX_WORDS }
-    requires between { All (λ k. (words.0 ≤ (post_of_key k).word) × ((post_of_key k).word < words.1)) keys.now }
-
-    ensures total { IfOk result (λ t. AreCountable (map post_of_key keys.now) → t.total ≡ length (post_table (map post_of_key keys.now))) }
-    ensures first { IfOk result (λ t. AreCountable (map post_of_key keys.now) → t.first ≡ take cut (post_table (map post_of_key keys.now))) }
-    ensures known { IfOk result (λ t. All (λ w. w.word < words.1) t.first) }
-{
-    let (lo, hi) = words;
-    let mut counts = WordCounts::new(alloc, lo, hi)?;
-    count_keys(&mut counts, keys);
-    let table = counts.table(alloc, cut)?;
-    Ok(table)
-}
-
-// Counts the rows that these are the numbers of.
-fn count_keys(counts: &mut WordCounts, keys: &[u64])
+/// Counts the rows that these are the numbers of, those of one word in order.
+pub(crate) fn count_keys(counts: &mut WordCounts, keys: &[u64])
     requires { All (λ k. (counts.old.low ≤ (post_of_key k).word) × ((post_of_key k).word < counts.old.high)) keys.now }
 
     ensures counted { AreCountable (map post_of_key keys.now) → HasCounted [] counts.old → HasCounted (map post_of_key keys.now) counts.new }

@@ -13,6 +13,7 @@ mod engine;
 mod entries;
 mod evaluation;
 mod fault;
+mod gathering;
 mod hits;
 mod loose;
 mod note;

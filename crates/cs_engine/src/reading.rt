@@ -11,10 +11,11 @@ ghost use Rattle.cs_engine.specs.Stocked.{is_between};
 
 use crate::counting::listed_docs;
 use crate::fault::AskFault;
-use crate::packing::{ordered, pack};
+use crate::gathering::gather;
+use crate::packing::ordered;
 use cs_base::{Base, Store};
 use cs_cols::Cols;
-use cs_file::{Index, Sought};
+use cs_file::Index;
 use std::alloc::Global;
 
 /// The rows whose word's number is `lo` or more and below `hi`, in order. Each block that holds such a word is read once.
@@ -63,9 +64,9 @@ pub(crate) fn rows_in<S: Store>(
     Ok(rows)
 }
 
-/// The numbers of the rows in listed documents whose word's number is `words.0` or more and below `words.1`, block by block. Each
-/// block that holds such a word is read once.
-pub(crate) fn keys_in<S: Store>(
+// The numbers of the rows in listed documents whose word's number is `words.0` or more and below `words.1`, block by block. Each
+// block that holds such a word is read once.
+fn keys_in<S: Store>(
     alloc: Global,
     index: &Index,
     store: &mut S,
@@ -80,13 +81,6 @@ pub(crate) fn keys_in<S: Store>(
     ensures store { OnlyReads S.bytes S.lent S.faults index.now store.old store.new (is_read result) (is_changed result) }
     ensures reads { ReadsWithin (length (filter (is_met words.0 words.1) index.now.heads)) (S.reads store.old) (S.reads store.new) }
 {
-    let (lo, hi) = words;
-    let (first, last) = index.blocks(lo, hi);
-    let mut keys = Vec::new(alloc);
-    let mut block = Sought::new(alloc);
-    for k in first..last {
-        index.fetch_sought(alloc, store, k, words, listed, &mut block)?;
-        pack(&block.posts, &mut keys)?;
-    }
-    Ok(keys)
+    let gathered = gather(alloc, index, store, words, listed, usize::MAX)?;
+    Ok(gathered.keys)
 }

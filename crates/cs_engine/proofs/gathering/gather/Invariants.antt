@@ -1,7 +1,7 @@
 use Rattle.cs_tables.specs.WordCounts.{is_chosen}
 use Rattle.cs_engine.specs.Packing.{HasKeys}
 use Rattle.cs_engine.proofs.WalkLemmas.{Walk}
-use Rattle.cs_engine.proofs.reading.keys_in.Given as goal
+use Rattle.cs_engine.proofs.gathering.gather.Given as goal
 
 abbrev pub invariant-loop-k : goal.invariant-loop-k
 invariant-loop-k g l = record {

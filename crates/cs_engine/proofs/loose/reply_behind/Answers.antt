@@ -8,17 +8,17 @@ use Rattle.cs_query.specs.RequestView.{asked}
 use Rattle.cs_engine.proofs.LooseLemmas.{found_table}
 use Rattle.cs_engine.proofs.PartSteps.{base_weaker}
 use Rattle.cs_engine.proofs.StockLemmas.{stock_corpus}
-use Rattle.cs_engine.proofs.loose.reply_by_blocks.Goals as goal
+use Rattle.cs_engine.proofs.loose.reply_behind.Goals as goal
 
-pub found_in_blocks-requires-clause-base : goal.found_in_blocks-requires-clause-base
-found_in_blocks-requires-clause-base g c =
+pub found_behind-requires-clause-base : goal.found_behind-requires-clause-base
+found_behind-requires-clause-base g c =
     let n = length (out-Query c.args.request.now.query).parts in
     let few = c.requires.limits.parts in
     base_weaker c.args.index.now.docs (MAX_ROW_SCORE * (n - 1)) (MAX_ROW_SCORE * (MAX_PARTS - 1)) c.args.hits.now (omega (arith, few)) c.requires.asks.base
 
 pub returns-clause-told : goal.returns-clause-told
 returns-clause-told g c b is stands by =
-    c.in_ok-reply.ensures.told b (c.found_in_blocks.ensures.store.bytes ∙ is) stands
+    c.in_ok-reply.ensures.told b (c.found_behind.ensures.store.bytes ∙ is) stands
     (found_table c.args.index.now c.args.request.now.query c.args.hits.now c.args.words.0 c.args.words.1 c.requires.asks b stands c.requires.opened.index by
     c.args.request.now.completions _ _ (c.in_ok-found.ensures.told b is stands))
     ∙ ap (λ (k : Corpus). reply_of k (asked c.args.request.now)) (stock_corpus b c.args.index.now stands c.requires.opened.index)

@@ -1,11 +1,12 @@
-use Rattle.std.proofs.Common.{◌≡◌, ◌∙◌, ◌++◌, List, ap, map, refl, subst, sym, arith}
+use Rattle.std.proofs.Common.{◌≡◌, ◌-◌, ◌∙◌, ◌++◌, List, ap, map, refl, subst, sym, arith}
 use Rattle.std.specs.Prelude.{All}
 use Rattle.cs_base.specs.declared.content.doc.Post.{Post}
+use Rattle.cs_base.specs.outside.Causes.{ReadsWithin}
 use Rattle.cs_tables.specs.WordCounts.{is_chosen}
 use Rattle.cs_engine.specs.Packing.{HasKeys, IsPacked, key_of}
-use Rattle.cs_engine.proofs.PackingLemmas.{gathered, keys_more, no_keys, packed_posts, within_posts}
-use Rattle.cs_engine.proofs.WalkLemmas.{nothing_read, walk_ends, walk_goes_on, walk_stops}
-use Rattle.cs_engine.proofs.reading.keys_in.Goals as goal
+use Rattle.cs_engine.proofs.PackingLemmas.{keys_more, no_keys, packed_posts, within_posts}
+use Rattle.cs_engine.proofs.WalkLemmas.{nothing_read, walk_ends, walk_goes_on, walk_reads, walk_stops}
+use Rattle.cs_engine.proofs.gathering.gather.Goals as goal
 
 pub loop-k-init : goal.loop-k-init
 loop-k-init g c = record {
@@ -45,18 +46,29 @@ loop-k-preserved g c =
           }) inv.keys;
     }
 
+-- ---- too many
+pub returns-then-len-room-clause-reads : goal.returns-then-len-room-clause-reads
+returns-then-len-room-clause-reads g c = walk_ends c.loop-k.invariant.walk c.blocks-first.ensures c.loop-k.auto.k-end
+
+-- ---- all
 pub returns-clause-gathered : goal.returns-clause-gathered
 returns-clause-gathered g c =
-    let inv = c.loop-k.invariant in
     let met = c.blocks-first.ensures in
-    let first = c.blocks-first.result.0 in
-    let last = c.blocks-first.result.1 in
     let up = met.ordered in
-    let t = is_chosen c.args.words.0 c.args.words.1 c.args.listed.now in
-    let done : c.loop-k.k ≡ last = omega (arith, c.loop-k-test.false, c.loop-k.auto.k-end, up) in
-    let h = subst (λ k. HasKeys c.args.index.now (g.S.Store.bytes c.args.store.now) first k t c.loop-k.keys.items) done inv.keys in
-    gathered c.args.index.now c.requires.opened.index
-    (g.S.Store.bytes c.args.store.now) first last c.args.words.0 c.args.words.1 c.args.listed.now c.loop-k.keys.items met h
+    let done : c.loop-k.k ≡ c.blocks-first.result.1 = omega (arith, c.loop-k-test.false, c.loop-k.auto.k-end, up) in
+    record {
+      met = met;
+      onward = up;
+      upto = omega arith;
+      keys = subst (λ k. HasKeys c.args.index.now (g.S.Store.bytes c.args.store.now) c.blocks-first.result.0 k
+          (is_chosen c.args.words.0 c.args.words.1 c.args.listed.now) c.loop-k.keys.items) done c.loop-k.invariant.keys;
+    }
+
+pub returns-clause-read : goal.returns-clause-read
+returns-clause-read g c =
+    let up = c.blocks-first.ensures.ordered in
+    let done : c.loop-k.k ≡ c.blocks-first.result.1 = omega (arith, c.loop-k-test.false, c.loop-k.auto.k-end, up) in
+    subst (λ k. ReadsWithin (k - c.blocks-first.result.0) (g.S.Store.reads c.args.store.now) (g.S.Store.reads c.loop-k.store)) done (walk_reads c.loop-k.invariant.walk)
 
 pub returns-clause-reads : goal.returns-clause-reads
 returns-clause-reads g c = walk_ends c.loop-k.invariant.walk c.blocks-first.ensures c.loop-k.auto.k-end

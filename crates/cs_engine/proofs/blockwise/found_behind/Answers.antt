@@ -1,0 +1,163 @@
+use Rattle.std.proofs.Common.{◌≡◌, ◌<◌, ◌≤◌, ℕ, ◌*◌, ◌-◌, ◌++◌, [], List, refl, sym, ◌∙◌, ap, subst, take, length, map, arith}
+use Rattle.std.specs.Prelude.{All, filter}
+use Rattle.std.proofs.lemmas.List.Elements.{All-weaker}
+use Rattle.cs_base.specs.declared.content.doc.Base.TheVariants as base
+use Rattle.cs_base.specs.declared.content.doc.Post.{Post}
+use Rattle.cs_base.specs.declared.content.limits.TheConstants.{MAX_PARTS}
+use Rattle.cs_base.specs.declared.content.scores.TheConstants.{MAX_ROW_SCORE}
+use Rattle.cs_file.specs.Indexes.{IndexView, block_posts}
+use Rattle.cs_model_index.specs.Sections.{image_of}
+use Rattle.cs_rank.specs.DocScores.{with_base}
+use Rattle.cs_tables.specs.TableListings.{post_table}
+use Rattle.cs_tables.specs.WordCounts.{AreCountable, HasCounted, chosen, is_chosen}
+use Rattle.cs_engine.specs.Counting.{counted_rows}
+use Rattle.cs_engine.specs.Loose.{HasBestScores, hits_in}
+use Rattle.cs_engine.specs.IndexReading.{IsWithin, run_of}
+use Rattle.cs_engine.specs.Packing.{key_of, post_of_key}
+use Rattle.cs_engine.specs.Steps.{IsBaseOf}
+use Rattle.cs_engine.proofs.CountingLemmas.{block_counted, countable, table_told}
+use Rattle.cs_engine.proofs.PackingLemmas.{as_they_come, keys_among, keys_between}
+use Rattle.cs_engine.proofs.PartSteps.{base_in}
+use Rattle.cs_engine.proofs.BehindLemmas.{best_found, best_more, rows_are, scored_are}
+use Rattle.cs_engine.proofs.WalkLemmas.{nothing_read, rest_ends, rest_stops, walk_goes_on}
+use Rattle.cs_engine.proofs.blockwise.found_behind.Goals as goal
+
+-- ---- what was gathered
+pub count_keys-requires : goal.count_keys-requires
+count_keys-requires g c =
+    let h = c.requires.gathered.keys in
+    let keys = c.deref.result.now in
+    let between = keys_between c.args.words.0 c.args.words.1 c.args.listed.now h.rows keys (c.deref.ensures.value ∙ h.are) h.packed h.passed in
+    subst (λ n. All (λ k. (n ≤ (post_of_key k).word) × ((post_of_key k).word < c.in_ok-counts.counts.high)) keys) (sym c.in_ok-counts.ensures.low)
+    (subst (λ n. All (λ k. (c.args.words.0 ≤ (post_of_key k).word) × ((post_of_key k).word < n)) keys) (sym c.in_ok-counts.ensures.high) between)
+
+pub raise_keys-requires : goal.raise_keys-requires
+raise_keys-requires g c =
+    let i = c.args.index.now in
+    let h = c.requires.gathered.keys in
+    let keys = c.deref-2.result.now in
+    let docs = c.in_ok-best.ensures.long ∙ ap (λ (x : IndexView). x.docs) c.index.view_is in
+    subst (λ n. All (λ k. (post_of_key k).doc < n) keys) (sym docs)
+    (keys_among (λ p. p.doc < i.docs) h.rows keys (c.deref-2.ensures.value ∙ h.are) h.packed
+    (All-weaker (IsWithin i.docs (length i.words)) (λ p. p.doc < i.docs) (λ p w. w.doc) h.rows h.within))
+
+pub loop-k-init : goal.loop-k-init
+loop-k-init g c =
+    let i = c.args.index.now in
+    let from = c.args.gathered.now in
+    let had = c.requires.gathered in
+    let h = had.keys in
+    let lo = c.args.words.0 in
+    let hi = c.args.words.1 in
+    let listed = c.args.listed.now in
+    let upto : from.next ≤ length i.heads = (let u = had.upto in let w = had.met.within in omega (arith, u, w)) in
+    record {
+      walk = record { store = nothing_read; later = omega arith; reads = omega arith };
+      low = c.count_keys.ensures.low ∙ c.in_ok-counts.ensures.low;
+      high = c.count_keys.ensures.high ∙ c.in_ok-counts.ensures.high;
+      told = λ b is stands.
+          let same = ap (map post_of_key) c.deref.ensures.value ∙ as_they_come h.rows from.keys.items h.are h.packed ∙ h.run b is stands in
+          let few = countable b i stands c.requires.opened.index from.first from.next lo hi listed had.onward upto in
+          subst (λ rows. HasCounted rows c.count_keys.new.counts) same
+          (c.count_keys.ensures.counted (subst AreCountable (sym same) few) c.in_ok-counts.ensures.none);
+      scored = λ b is stands.
+          let same = ap (map post_of_key) c.deref-2.ensures.value ∙ as_they_come h.rows from.keys.items h.are h.packed ∙ h.run b is stands in
+          subst (λ rows. HasBestScores rows c.raise_keys.new.best.items) same (c.raise_keys.ensures.best [] c.in_ok-best.ensures.none);
+      len = c.raise_keys.ensures.len ∙ c.in_ok-best.ensures.long ∙ ap (λ (x : IndexView). x.docs) c.index.view_is;
+    }
+
+-- ---- the rest
+pub add_rows-requires-clause-even : goal.add_rows-requires-clause-even
+add_rows-requires-clause-even g c = ap length c.deref-in-loop-k-2.ensures.value ∙ c.in_ok-fetch_scored.ensures.words_even ∙ sym (ap length c.deref-in-loop-k.ensures.value)
+
+pub add_rows-requires-clause-known : goal.add_rows-requires-clause-known
+add_rows-requires-clause-known g c =
+    subst (λ n. All (λ d. d < n) c.deref-in-loop-k.result.now) (sym c.requires.listed.long)
+    (subst (All (λ d. d < c.args.index.now.docs)) (sym c.deref-in-loop-k.ensures.value) c.in_ok-fetch_scored.ensures.docs)
+
+pub raise_rows-requires-clause-known : goal.raise_rows-requires-clause-known
+raise_rows-requires-clause-known g c =
+    subst (λ n. All (λ d. d < n) c.fetch_scored.new.into.docs.items) (sym c.loop-k.invariant.len) c.in_ok-fetch_scored.ensures.docs
+
+pub raise_rows-requires-clause-long : goal.raise_rows-requires-clause-long
+raise_rows-requires-clause-long g c = c.requires.listed.long ∙ sym c.loop-k.invariant.len
+
+pub returns-in_err-fetch_scored-clause-reads : goal.returns-in_err-fetch_scored-clause-reads
+returns-in_err-fetch_scored-clause-reads g c = rest_stops c.loop-k.invariant.walk c.loop-k-test.true c.fetch_scored.ensures.reads
+
+pub loop-k-preserved : goal.loop-k-preserved
+loop-k-preserved g c =
+    let i = c.args.index.now in
+    let from = c.args.gathered.now in
+    let had = c.requires.gathered in
+    let lo = c.args.words.0 in
+    let hi = c.args.words.1 in
+    let listed = c.args.listed.now in
+    let inv = c.loop-k.invariant in
+    let read = c.in_ok-fetch_scored.ensures in
+    let below : c.loop-k.k < length i.heads = (let w = had.met.within in omega (arith, w, c.loop-k-test.true)) in
+    let onward : from.first ≤ c.loop-k.k = (let o = had.onward in omega (arith, o, c.loop-k.auto.k)) in
+    record {
+      walk = walk_goes_on inv.walk (record { unchanged = λ b is stands. refl; bytes = read.bytes; lent = read.lent; caused = read.caused }) read.reads;
+      low = c.add_rows.ensures.low ∙ inv.low;
+      high = c.add_rows.ensures.high ∙ inv.high;
+      told = λ b is stands.
+          let posts = read.stood b (inv.walk.store.bytes ∙ is) stands in
+          block_counted b i stands c.requires.opened.index from.first c.loop-k.k lo hi listed c.loop-k.counts c.add_rows.new.self
+          onward below inv.low inv.high
+          (c.add_rows.ensures.counted (block_posts b c.loop-k.k) (c.deref-in-loop-k.ensures.value ∙ posts.0.0) (c.deref-in-loop-k-2.ensures.value ∙ posts.0.1))
+          (inv.told b is stands);
+      scored = λ b is stands.
+          best_more b i stands c.requires.opened.index lo hi listed from.first c.loop-k.k c.loop-k.best.items
+          c.raise_rows.new.best.items onward below
+          (c.raise_rows.ensures.best (block_posts b c.loop-k.k) (read.stood b (inv.walk.store.bytes ∙ is) stands)) (inv.scored b is stands);
+      len = c.raise_rows.ensures.len ∙ inv.len;
+    }
+
+pub scored_in-requires-clause-base : goal.scored_in-requires-clause-base
+scored_in-requires-clause-base g c = base_in c.args.index.now.docs (MAX_ROW_SCORE * (MAX_PARTS - 1)) c.args.hits.now (omega arith) c.requires.base
+
+pub returns-in_err-scored-clause-reads : goal.returns-in_err-scored-clause-reads
+returns-in_err-scored-clause-reads g c = rest_ends c.loop-k.invariant.walk c.loop-k.auto.k-end c.requires.gathered.upto
+
+pub returns-in_err-table-clause-reads : goal.returns-in_err-table-clause-reads
+returns-in_err-table-clause-reads g c = rest_ends c.loop-k.invariant.walk c.loop-k.auto.k-end c.requires.gathered.upto
+
+pub returns-clause-reads : goal.returns-clause-reads
+returns-clause-reads g c = rest_ends c.loop-k.invariant.walk c.loop-k.auto.k-end c.requires.gathered.upto
+
+pub returns-clause-told : goal.returns-clause-told
+returns-clause-told g c b is stands =
+    let i = c.args.index.now in
+    let inv = c.loop-k.invariant in
+    let had = c.requires.gathered in
+    let met = had.met in
+    let first = c.args.gathered.now.first in
+    let last = c.args.gathered.now.last in
+    let lo = c.args.words.0 in
+    let hi = c.args.words.1 in
+    let listed = c.args.listed.now in
+    let hits = c.args.hits.now in
+    let up = had.upto in
+    let done : c.loop-k.k ≡ last = omega (arith, c.loop-k-test.false, c.loop-k.auto.k-end, up) in
+    let blocks = (image_of b).blocks in
+    let lists = c.requires.listed in
+    let rows = counted_rows blocks first last lo hi listed in
+    let few = countable b i stands c.requires.opened.index first last lo hi listed met.ordered met.within in
+    let counted = subst (λ k. HasCounted (counted_rows blocks first k lo hi listed) c.loop-k.counts) done (inv.told b is stands) in
+    let scored = subst (λ k. HasBestScores (run_of blocks first k (is_chosen lo hi listed)) c.loop-k.best.items) done (inv.scored b is stands) in
+    let table = table_told b i stands c.requires.opened.index first last lo hi listed met
+    ∙ ap post_table (rows_are b i stands c.requires.opened.index lo hi listed hits lists) in
+    record {
+      hits_are = scored_are b i stands c.requires.opened.index lo hi listed hits lists c.loop-k.best.items c.in_ok-scored.scored inv.len
+          (best_found b i stands c.requires.opened.index lo hi listed first last c.loop-k.best.items met scored)
+          (c.in_ok-scored.ensures.scored ∙ ap (λ l. map (with_base hits) (hits_in 0 l)) c.deref-3.ensures.value);
+      first = c.in_ok-table.ensures.first rows few counted ∙ ap (take c.args.cut) table;
+      total = c.in_ok-table.ensures.total rows few counted ∙ ap length table;
+    }
+
+pub returns-clause-base : goal.returns-clause-base
+returns-clause-base g c =
+    let long = ap length c.deref-3.ensures.value ∙ c.loop-k.invariant.len in
+    let before = subst (λ m. IsBaseOf m (MAX_ROW_SCORE * (MAX_PARTS - 1)) c.args.hits.now) (sym long) c.requires.base in
+    subst (λ m. IsBaseOf m (MAX_ROW_SCORE * MAX_PARTS) (base.Listed c.in_ok-scored.scored)) long (c.in_ok-scored.ensures.within (MAX_PARTS - 1) before)

@@ -1,0 +1,20 @@
+use Rattle.std.proofs.Common.{◌≡◌, length}
+use Rattle.cs_model_index.specs.Sections.{image_of}
+use Rattle.cs_tables.specs.WordCounts.{HasCounted, is_chosen}
+use Rattle.cs_engine.specs.Counting.{counted_rows}
+use Rattle.cs_engine.specs.Loose.{HasBestScores}
+use Rattle.cs_engine.specs.IndexReading.{WhereStood, run_of}
+use Rattle.cs_engine.proofs.WalkLemmas.{Walk}
+use Rattle.cs_engine.proofs.blockwise.found_behind.Given as goal
+
+abbrev pub invariant-loop-k : goal.invariant-loop-k
+invariant-loop-k g l = record {
+  walk : Walk g.S.Store.bytes g.S.Store.lent g.S.Store.faults g.S.Store.reads l.index l.fn.store l.store l.gathered.next l.k;
+  low : l.counts.low ≡ l.words.0;
+  high : l.counts.high ≡ l.words.1;
+  told : WhereStood (g.S.Store.bytes l.fn.store) l.index
+      (λ b. HasCounted (counted_rows (image_of b).blocks l.gathered.first l.k l.words.0 l.words.1 l.listed) l.counts);
+  scored : WhereStood (g.S.Store.bytes l.fn.store) l.index
+      (λ b. HasBestScores (run_of (image_of b).blocks l.gathered.first l.k (is_chosen l.words.0 l.words.1 l.listed)) l.best.items);
+  len : length l.best.items ≡ l.index.docs;
+}

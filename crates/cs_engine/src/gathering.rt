@@ -1,0 +1,85 @@
+//! The numbers of the rows of some words, gathered block by block until they are too many.
+ghost use Rattle.std.specs.Prelude.{◌≡◌, ◌-◌, ◌<◌, ◌^◌, ℕ, Bool, List, Option, filter, length, IfOk};
+ghost use Rattle.cs_base.specs.outside.Causes.{ReadsWithin};
+ghost use Rattle.cs_file.specs.Indexes.{is_met};
+ghost use Rattle.cs_engine.specs.Asking.{is_read, is_changed};
+ghost use Rattle.cs_engine.specs.Gathering.{HasGathered};
+ghost use Rattle.cs_engine.specs.IndexReading.{IsOpened, IsWordRange, OnlyReads};
+
+use crate::fault::AskFault;
+use crate::packing::pack;
+use cs_base::Store;
+use cs_file::{Index, Sought};
+use std::alloc::Global;
+
+/// The numbers of rows of some words, of the first blocks that hold such a word, and which blocks these are.
+#[derive(Drop)]
+pub(crate) struct Gathered {
+    /// The numbers, block by block.
+    pub(crate) keys: Vec<u64>,
+    /// The first block that holds such a word.
+    pub(crate) first: u32,
+    /// The block behind the last that was read.
+    pub(crate) next: u32,
+    /// The block behind the last that holds such a word.
+    pub(crate) last: u32,
+}
+
+/// Nothing yet of the rows whose word's number is `words.0` or more and below `words.1`.
+pub(crate) fn nothing_gathered(alloc: Global, index: &Index, words: (u32, u32)) -> Gathered
+    requires { IsWordRange index.now words.0 words.1 }
+
+    ensures gathered { (told : Option (List ℕ)) (listed : List Bool) → HasGathered index.now told words.0 words.1 listed result }
+    ensures none { result.next ≡ result.first }
+{
+    let (first, last) = index.blocks(words.0, words.1);
+    Gathered {
+        keys: Vec::new(alloc),
+        first,
+        next: first,
+        last,
+    }
+}
+
+/// Of the rows in listed documents whose word's number is `words.0` or more and below `words.1`, those of the first blocks, until there
+/// are more than `room`. Each block that holds such a word is read at most once.
+pub(crate) fn gather<S: Store>(
+    alloc: Global,
+    index: &Index,
+    store: &mut S,
+    words: (u32, u32),
+    listed: &[bool],
+    room: usize,
+) -> Result<Gathered, AskFault>
+    requires words { IsWordRange index.now words.0 words.1 }
+    requires listed { length listed.now ≡ index.now.docs }
+    requires opened { IsOpened (S.bytes store.old) index.now }
+
+    ensures gathered { IfOk result (λ g. HasGathered index.now (S.bytes store.old) words.0 words.1 listed.now g) }
+    ensures whole { IfOk result (λ g. g.next < g.last → (room < length g.keys.items) × (length g.keys.items < 2 ^ 64)) }
+    ensures store { OnlyReads S.bytes S.lent S.faults index.now store.old store.new (is_read result) (is_changed result) }
+    ensures read { IfOk result (λ g. ReadsWithin (g.next - g.first) (S.reads store.old) (S.reads store.new)) }
+    ensures reads { ReadsWithin (length (filter (is_met words.0 words.1) index.now.heads)) (S.reads store.old) (S.reads store.new) }
+{
+    let (first, last) = index.blocks(words.0, words.1);
+    let mut keys = Vec::new(alloc);
+    let mut block = Sought::new(alloc);
+    for k in first..last {
+        if keys.len() > room {
+            return Ok(Gathered {
+                keys,
+                first,
+                next: k,
+                last,
+            });
+        }
+        index.fetch_sought(alloc, store, k, words, listed, &mut block)?;
+        pack(&block.posts, &mut keys)?;
+    }
+    Ok(Gathered {
+        keys,
+        first,
+        next: last,
+        last,
+    })
+}
