@@ -330,3 +330,7 @@ pub facet_met : (i : IndexView) → IsIndex i → (name bytes prefix : List ℕ)
     → length (filter (is_met lo hi) i.heads) ≤ met_prefix (division i) (named name [])
 facet_met i is name bytes prefix lo hi read asked range = subst (λ p. length (filter (is_met lo hi) i.heads) ≤ met_prefix (division i) p) (read ∙ asked)
     (prefix_met i is bytes lo hi range)
+
+-- a vector whose slice was lent lists the same documents
+pub listed_in : (i : IndexView) (hits : Base) (items lent : List Bool) {docs : ℕ} → docs ≡ i.docs → AreListed docs hits items → lent ≡ items → AreListed i.docs hits lent
+listed_in i hits items lent same lists is = subst (AreListed i.docs hits) (sym is) (subst (λ n. AreListed n hits items) same lists)

@@ -4,21 +4,22 @@
 --   ordered_is          what is left of sorted numbers is in order, and loses no member
 --   packed_posts, within_posts     posts that are read are packed, and in range
 --   no_keys, keys_more  numbers of no block, and of one block more
---   gathered            what is gathered of a run of blocks
+--   run_alike, run_longer     the posts of a run of blocks
+--   gathered, all_in_room, all_gathered     what is gathered of one
 --   in_rows, run_known, ordered_within, ordered_passed, ordered_told     what is brought into order of it
 --   as_they_come        and what isn't
 --   keys_among, keys_between     what holds of each of the rows
 use Rattle.std.proofs.Common.{◌≡◌, ℕ, zero, suc, ◌+◌, ◌-◌, ◌*◌, ◌/◌, ◌%◌, ◌<◌, ◌≤◌, ◌==◌, ◌&&◌, ◌||◌, Bool, true, false, true≢false, cond, List, [], ◌∷◌}
-use Rattle.std.proofs.Common.{◌++◌, length, get_or, take, drop, map, Option, refl, sym, ap, ap₂, subst, ◌∙◌, arith}
+use Rattle.std.proofs.Common.{◌++◌, ◌^◌, inl, inr, length, get_or, take, drop, map, Option, refl, sym, ap, ap₂, subst, ◌∙◌, arith}
 use Rattle.std.specs.Prelude.{All, filter, flat_map, nat_le, nat_lt}
 use Rattle.std.specs.List.{AllByRecursion, Contains, list_any}
 use Rattle.std.specs.List.Sorted.{IsPermutation, IsSorted, IsStrictlySortedBy}
 use Rattle.std.specs.Ordering.{is_lt, nat_cmp, ordering_then}
 use Rattle.std.specs.declared.cmp.Ordering.{Ordering}
 use Rattle.std.specs.declared.cmp.Ordering.TheVariants.{Less, Equal}
-use Rattle.std.proofs.lemmas.Bool.{and_parts, eq-eqb, eqb-true, leb-true, ltb-false, ltb-true}
+use Rattle.std.proofs.lemmas.Bool.{and_parts, cases_eq, eq-eqb, eqb-true, leb-true, ltb-false, ltb-true}
 use Rattle.std.proofs.lemmas.Bool.Decides.{nat_tests}
-use Rattle.std.proofs.lemmas.List.{map-append}
+use Rattle.std.proofs.lemmas.List.{map-append, length-append}
 use Rattle.std.proofs.lemmas.List.Elements.{All-nil, All-append, All-contains, All-filter, All-from_recursion, All-map, All-weaker, Contains-append_left}
 use Rattle.std.proofs.lemmas.List.Elements.{Contains-append_right, Contains-get_or, recursion_from_All}
 use Rattle.std.proofs.lemmas.List.Kept.{IsStrictlySortedBy-filter}
@@ -35,6 +36,8 @@ use Rattle.cs_model.specs.Scores.{SCORES}
 use Rattle.cs_tables.specs.WordCounts.{AreCountable, is_chosen}
 use Rattle.cs_model_index.specs.BlockRules.{is_scored}
 use Rattle.cs_model_index.specs.Sections.{image_of}
+use Rattle.cs_engine.specs.declared.gathering.Gathered.{Gathered}
+use Rattle.cs_engine.specs.Gathering.{HasGathered}
 use Rattle.cs_engine.specs.Packing.{AreFrom, HasKeys, IsOrdered, IsPacked, apart, key_of, place_of_key, post_of_key}
 use Rattle.cs_engine.specs.Counting.{in_listed}
 use Rattle.cs_engine.specs.Loose.{AreAlike, AreGathered}
@@ -348,6 +351,29 @@ run_known b i s is first last t =
     let P : Post → Type 0 = Contains (stock_of b).posts in
     taken P t (last - first) (drop first (image_of b).blocks) (dropped P t first (image_of b).blocks (from_file b i s is))
 
+pub run_alike : (b : List ℕ) (i : IndexView) → StandsFor b i → IsIndex i → (first last lo hi : ℕ) (listed : List Bool) → AreMet i.heads lo hi first last
+    → AreAlike (stock_of b) lo hi listed (run_of (image_of b).blocks first last (is_chosen lo hi listed))
+run_alike b i stands is first last lo hi listed met = record {
+  among = run_known b i stands is first last (is_chosen lo hi listed);
+  alike = λ t. counted_alike b i stands is first last lo hi listed met t;
+  long = counted_long b i stands is first last lo hi listed met;
+  countable = countable b i stands is first last lo hi listed met.ordered met.within;
+}
+
+longer : (t : Post → Bool) (n m : ℕ) (xs : List (List Post)) → n ≤ m → length (flat_map (filter t) (take n xs)) ≤ length (flat_map (filter t) (take m xs))
+longer t zero m xs le = omega arith
+longer t (suc n) zero xs le = absurd (omega (arith, le))
+longer t (suc n) (suc m) [] le = omega arith
+longer t (suc n) (suc m) (x ∷ xs) le =
+    let rest = longer t n m xs (omega (arith, le)) in
+    let a = length-append (filter t x) (flat_map (filter t) (take n xs)) in
+    let b = length-append (filter t x) (flat_map (filter t) (take m xs)) in
+    omega (arith, rest, a, b)
+
+-- of more blocks there are no fewer posts
+pub run_longer : (t : Post → Bool) (blocks : List (List Post)) (first next last : ℕ) → next ≤ last → length (run_of blocks first next t) ≤ length (run_of blocks first last t)
+run_longer t blocks first next last le = longer t (next - first) (last - first) (drop first blocks) (omega (arith, le))
+
 -- what is gathered of the blocks that hold such words
 pub gathered : (i : IndexView) → IsIndex i → (told : Option (List ℕ)) (first last lo hi : ℕ) (listed : List Bool) (keys : List ℕ)
     → AreMet i.heads lo hi first last → HasKeys i told first last (is_chosen lo hi listed) keys → AreGathered i told lo hi listed keys
@@ -358,14 +384,28 @@ gathered i is told first last lo hi listed keys met h = record {
   within = h.within;
   passed = h.passed;
   stood = λ b tells stands.
-      let run = h.run b tells stands in
-      record {
-        among = subst (All (Contains (stock_of b).posts)) (sym run) (run_known b i stands is first last (is_chosen lo hi listed));
-        alike = λ t. ap (list_any t) run ∙ counted_alike b i stands is first last lo hi listed met t;
-        long = ap length run ∙ counted_long b i stands is first last lo hi listed met;
-        countable = subst AreCountable (sym run) (countable b i stands is first last lo hi listed met.ordered met.within);
-      };
+      subst (AreAlike (stock_of b) lo hi listed) (sym (h.run b tells stands)) (run_alike b i stands is first last lo hi listed met);
 }
+
+-- where there is room for them, all blocks are gathered
+pub all_in_room : (i : IndexView) → IsIndex i → (told : Option (List ℕ)) (lo hi : ℕ) (listed : List Bool) (g : Gathered) (room : ℕ)
+    → HasGathered i told lo hi listed g → (g.next < g.last → (room < length g.keys.items) × (length g.keys.items < 2 ^ 64)) → length g.keys.items ≤ room
+    → AreGathered i told lo hi listed g.keys.items
+all_in_room i is told lo hi listed g room h whole few =
+    let t = is_chosen lo hi listed in
+    let le = h.upto in
+    let end : g.next ≡ g.last = elim (cases_eq g.next g.last) [
+      | inl same ↦ same
+      | inr other ↦ absurd (let w = whole (omega (arith, le, other)) in omega (arith, w.0, few))
+    ] in
+    gathered i is told g.first g.last lo hi listed g.keys.items h.met (subst (λ k. HasKeys i told g.first k t g.keys.items) end h.keys)
+
+-- with room for all numbers there is
+pub all_gathered : (i : IndexView) → IsIndex i → (told : Option (List ℕ)) (lo hi : ℕ) (listed : List Bool) (g : Gathered) → HasGathered i told lo hi listed g
+    → (g.next < g.last → (2 ^ 64 - 1 < length g.keys.items) × (length g.keys.items < 2 ^ 64)) → AreGathered i told lo hi listed g.keys.items
+all_gathered i is told lo hi listed g h whole =
+    let le = h.upto in
+    all_in_room i is told lo hi listed g (length g.keys.items) h (λ more. (let w = whole more in absurd (omega (arith, w.0, w.1)))) (omega arith)
 
 pub ordered_told : (b : List ℕ) (i : IndexView) → StandsFor b i → IsIndex i → (lo hi : ℕ) (listed : List Bool) (rows posts : List Post)
     → AreAlike (stock_of b) lo hi listed rows → IsOrdered rows posts

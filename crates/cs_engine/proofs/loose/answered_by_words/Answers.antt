@@ -1,15 +1,22 @@
-use Rattle.std.proofs.Common.{length, true, replicate, refl, ap, sym, subst, ◌∙◌, arith, true≢false}
+use Rattle.std.proofs.Common.{◌≤◌, length, true, replicate, refl, ap, sym, subst, ◌∙◌, arith, true≢false}
 use Rattle.std.specs.Prelude.{IfSome, filter, is_some}
 use Rattle.std.proofs.lemmas.List.{length-map}
 use Rattle.cs_base.specs.declared.content.doc.Base.TheVariants as base
+use Rattle.cs_file.specs.Indexes.{IndexView}
+use Rattle.cs_model_index.specs.Sections.{image_of}
+use Rattle.cs_tables.specs.WordCounts.{is_chosen}
 use Rattle.cs_engine.specs.Keeping.{FitsQuery, IsEntryOver}
 use Rattle.cs_engine.specs.Loose.{AreLastWords, IsEntryByWords}
 use Rattle.cs_engine.specs.Packing.{key_of}
-use Rattle.cs_engine.specs.IndexReading.{stock_of}
+use Rattle.cs_engine.specs.IndexReading.{run_of, stock_of}
 use Rattle.cs_engine.specs.Stocked.{is_between}
-use Rattle.cs_engine.proofs.CountingLemmas.{all_listed, everywhere}
+use Rattle.cs_engine.proofs.CountingLemmas.{all_listed, everywhere, listed_in}
 use Rattle.cs_engine.proofs.LooseLemmas.{chosen_entry, entry_fits, is_large, large_entry}
-use Rattle.cs_engine.proofs.PackingLemmas.{ordered_passed, ordered_told, ordered_within}
+use Rattle.cs_engine.proofs.LentLemmas.{err_due}
+use Rattle.cs_engine.proofs.RowsInRange.{met_count}
+use Rattle.cs_engine.proofs.WalkLemmas.{within_both, within_more}
+use Rattle.cs_query.specs.RequestView.{asked}
+use Rattle.cs_engine.proofs.PackingLemmas.{all_in_room, ordered_passed, ordered_told, ordered_within, run_alike, run_longer}
 use Rattle.cs_engine.proofs.loose.answered_by_words.Goals as goal
 
 -- ---- too many rows, as the directory says
@@ -33,50 +40,102 @@ returns-then-fills-clause-told g c b is stands by =
           (let many = c.fills.ensures.many c.if-fills.true b stands in omega (arith, many));
     }
 
+pub reply_behind-requires-clause-gathered : goal.reply_behind-requires-clause-gathered
+reply_behind-requires-clause-gathered g c = c.nothing_gathered-none.ensures.gathered (g.S.Store.bytes c.args.store.now) c.deref.result.now
+
+pub returns-in_err-reply-clause-reads : goal.returns-in_err-reply-clause-reads
+returns-in_err-reply-clause-reads g c =
+    let none = c.nothing_gathered-none in
+    let met = (none.ensures.gathered (g.S.Store.bytes c.args.store.now) c.deref.result.now).met in
+    let many = met_count c.args.index.now.heads c.args.words.0 c.args.words.1 none.result.first none.result.last met in
+    let due = err_due (asked c.args.request.now) c.from_residual-in_err-reply.result c.from_residual-in_err-reply.ensures.0 in
+    within_more c.in_err-reply.ensures.reads (omega (arith, due, many, none.ensures.none))
+
+pub returns-then-fills-clause-reads : goal.returns-then-fills-clause-reads
+returns-then-fills-clause-reads g c =
+    let none = c.nothing_gathered-none in
+    let met = (none.ensures.gathered (g.S.Store.bytes c.args.store.now) c.deref.result.now).met in
+    let many = met_count c.args.index.now.heads c.args.words.0 c.args.words.1 none.result.first none.result.last met in
+    within_more c.in_ok-reply.ensures.reads (omega (arith, many, none.ensures.none))
+
 -- ---- too many rows
-pub returns-then-len-saturating_sub-clause-told : goal.returns-then-len-saturating_sub-clause-told
-returns-then-len-saturating_sub-clause-told g c b is stands by =
-    let h = c.in_ok-keys.ensures.keys in
-    let rows = h.gathered.rows in
+pub returns-then-len-room-clause-told : goal.returns-then-len-room-clause-told
+returns-then-len-room-clause-told g c b is stands by =
+    let i = c.args.index.now in
+    let lo = c.args.words.0 in
+    let hi = c.args.words.1 in
+    let listed = c.deref-2.result.now in
+    let from = c.in_ok-gathered.gathered in
+    let had = c.in_ok-gathered.ensures.gathered in
+    let h = had.keys in
+    let has = listed_in i c.args.hits c.in_ok-listed.listed.items listed (ap (λ (x : IndexView). x.docs) c.index.view_is) c.in_ok-listed.ensures c.deref-2.ensures.value in
+    let more = run_longer (is_chosen lo hi listed) (image_of b).blocks from.first from.next from.last had.upto in
     record {
-      reply = c.in_ok-reply-2.ensures.told b (c.keys_of_hits.ensures.store.bytes ∙ is) stands by;
+      reply = c.in_ok-reply-2.ensures.told b (c.gather.ensures.store.bytes ∙ is) stands by;
       own = tt;
       large = λ none.
-          is_large c.args.index.now c.args.request.now.query c.args.hits c.args.words.0 c.args.words.1 c.requires.asks h.listed h.has b stands
-          c.requires.opened.index by rows (h.gathered.stood b is stands)
+          is_large i c.args.request.now.query c.args.hits lo hi c.requires.asks listed has b stands
+          c.requires.opened.index by (run_of (image_of b).blocks from.first from.last (is_chosen lo hi listed))
+          (run_alike b i stands c.requires.opened.index from.first from.last lo hi listed had.met)
           (omega (
             arith,
-            c.if-len-saturating_sub.true,
+            c.if-len-room.true,
             c.len.ensures,
-            c.saturating_sub.ensures,
+            c.saturating_sub-room.ensures,
             c.size_of.ensures,
-            ap length h.gathered.are,
-            length-map rows key_of,
+            ap length h.are,
+            length-map h.rows key_of,
+            ap length (h.run b is stands),
+            more,
           ));
     }
+
+pub returns-in_err-reply-2-clause-reads : goal.returns-in_err-reply-2-clause-reads
+returns-in_err-reply-2-clause-reads g c =
+    let had = c.in_ok-gathered.ensures.gathered in
+    let from = c.in_ok-gathered.gathered in
+    let many = met_count c.args.index.now.heads c.args.words.0 c.args.words.1 from.first from.last had.met in
+    let on = had.onward in
+    let up = had.upto in
+    let due = err_due (asked c.args.request.now) c.from_residual-in_err-reply-2.result c.from_residual-in_err-reply-2.ensures.0 in
+    within_both c.in_ok-gathered.ensures.read c.in_err-reply-2.ensures.reads (omega (arith, due, many, on, up))
+
+pub returns-then-len-room-clause-reads : goal.returns-then-len-room-clause-reads
+returns-then-len-room-clause-reads g c =
+    let had = c.in_ok-gathered.ensures.gathered in
+    let from = c.in_ok-gathered.gathered in
+    let many = met_count c.args.index.now.heads c.args.words.0 c.args.words.1 from.first from.last had.met in
+    let on = had.onward in
+    let up = had.upto in
+    within_both c.in_ok-gathered.ensures.read c.in_ok-reply-2.ensures.reads (omega (arith, many, on, up))
 
 -- ---- rows in order
 pub with_reply-requires-clause-entry : goal.with_reply-requires-clause-entry
 with_reply-requires-clause-entry g c =
     let i = c.args.index.now in
-    let h = c.in_ok-keys.ensures.keys in
-    let r = h.gathered in
-    let o = c.in_ok-rows.ensures r.rows r.are r.packed in
+    let listed = c.deref-2.result.now in
+    let has = listed_in i c.args.hits c.in_ok-listed.listed.items listed (ap (λ (x : IndexView). x.docs) c.index.view_is) c.in_ok-listed.ensures c.deref-2.ensures.value in
+    let h = c.in_ok-gathered.ensures.gathered.keys in
+    let o = c.in_ok-rows.ensures h.rows h.are h.packed in
     let rows = c.in_ok-rows.rows.posts in
-    entry_fits i c.args.request.now.query c.args.hits c.args.words.0 c.args.words.1 c.requires.asks h.listed h.has rows
-    (ordered_within i r.rows rows r.within o) (ordered_passed c.args.words.0 c.args.words.1 h.listed r.rows rows r.passed o)
+    entry_fits i c.args.request.now.query c.args.hits c.args.words.0 c.args.words.1 c.requires.asks listed has rows
+    (ordered_within i h.rows rows h.within o) (ordered_passed c.args.words.0 c.args.words.1 listed h.rows rows h.passed o)
 
 pub returns-clause-told : goal.returns-clause-told
 returns-clause-told g c b is stands by =
     let i = c.args.index.now in
-    let h = c.in_ok-keys.ensures.keys in
-    let r = h.gathered in
+    let listed = c.deref-2.result.now in
+    let has = listed_in i c.args.hits c.in_ok-listed.listed.items listed (ap (λ (x : IndexView). x.docs) c.index.view_is) c.in_ok-listed.ensures c.deref-2.ensures.value in
+    let had = c.in_ok-gathered.ensures.gathered in
+    let few : length c.in_ok-gathered.gathered.keys.items ≤ c.saturating_sub-room.result = omega (arith, c.if-len-room.false, c.len.ensures) in
+    let r = all_in_room i c.requires.opened.index (g.S.Store.bytes c.args.store.now) c.args.words.0 c.args.words.1 listed c.in_ok-gathered.gathered
+    c.saturating_sub-room.result had c.in_ok-gathered.ensures.whole few in
     let o = c.in_ok-rows.ensures r.rows r.are r.packed in
     let rows = c.in_ok-rows.rows.posts in
-    let own = chosen_entry i c.args.request.now.query c.args.hits c.args.words.0 c.args.words.1 c.requires.asks h.listed h.has b stands c.requires.opened.index
-    by rows (ordered_told b i stands c.requires.opened.index c.args.words.0 c.args.words.1 h.listed r.rows rows (r.stood b is stands) o) in
+    let own = chosen_entry i c.args.request.now.query c.args.hits c.args.words.0 c.args.words.1 c.requires.asks listed has b stands c.requires.opened.index
+    by rows (ordered_told b i stands c.requires.opened.index c.args.words.0 c.args.words.1 listed r.rows rows (r.stood b is stands) o) in
     record {
-      reply = c.in_ok-answered.ensures.told b (c.keys_of_hits.ensures.store.bytes ∙ is) stands own;
+      reply = c.in_ok-answered.ensures.told b (c.gather.ensures.store.bytes ∙ is) stands own;
       own = subst (λ e. IfSome e (IsEntryOver b i c.args.request.now.query)) (sym c.in_ok-answered.ensures.same) own;
       large = λ none. absurd (true≢false (ap is_some (sym c.in_ok-answered.ensures.same) ∙ none));
     }
@@ -84,10 +143,11 @@ returns-clause-told g c b is stands by =
 pub returns-clause-within : goal.returns-clause-within
 returns-clause-within g c =
     let i = c.args.index.now in
-    let h = c.in_ok-keys.ensures.keys in
-    let r = h.gathered in
-    let o = c.in_ok-rows.ensures r.rows r.are r.packed in
+    let listed = c.deref-2.result.now in
+    let has = listed_in i c.args.hits c.in_ok-listed.listed.items listed (ap (λ (x : IndexView). x.docs) c.index.view_is) c.in_ok-listed.ensures c.deref-2.ensures.value in
+    let h = c.in_ok-gathered.ensures.gathered.keys in
+    let o = c.in_ok-rows.ensures h.rows h.are h.packed in
     let rows = c.in_ok-rows.rows.posts in
     subst (λ e. IfSome e (FitsQuery i c.args.request.now.query)) (sym c.in_ok-answered.ensures.same)
-    (entry_fits i c.args.request.now.query c.args.hits c.args.words.0 c.args.words.1 c.requires.asks h.listed h.has rows
-    (ordered_within i r.rows rows r.within o) (ordered_passed c.args.words.0 c.args.words.1 h.listed r.rows rows r.passed o))
+    (entry_fits i c.args.request.now.query c.args.hits c.args.words.0 c.args.words.1 c.requires.asks listed has rows
+    (ordered_within i h.rows rows h.within o) (ordered_passed c.args.words.0 c.args.words.1 listed h.rows rows h.passed o))
