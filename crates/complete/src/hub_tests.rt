@@ -12,39 +12,21 @@ const REQUEST: &[u8] = b"GET /search?q=typ HTTP/1.1\r\n\r\n";
 
 const RESPONSE: &[u8] = b"HTTP/1.1 200 OK\r\nContent-Length: 2\r\n\r\n{}";
 
-// Has a hub listen for so many connections, and a client send these bytes on the first one.
-fn client_of(
-    rt: &HostRuntime,
-    hub: &mut TcpHub<'_, HostRuntime>,
-    conns: u32,
-    sent: &[u8],
-) -> Result<TcpStream, Fail> {
-    hub.listen(0, conns)?;
-    let mut client = TcpStream::connect(rt, hub.address()?)?;
-    client.write_all(sent)?;
-    Ok(client)
-}
-
-// The length of the first piece, which comes behind the opening of its connection.
-fn first_piece(hub: &mut TcpHub<'_, HostRuntime>, into: &mut [u8; 64]) -> Result<usize, Fail> {
-    if hub.next(into)? != Event::Opened(0) {
-        return Err(Fail::new("no connection"));
-    }
-    match hub.next(into)? {
-        Event::Piece(0, count) => Ok(count),
-        _ => Err(Fail::new("no piece")),
-    }
-}
-
 #[test]
 fn a_client_that_ends_its_side_reads_its_response(rt: HostRuntime) -> Result<(), Fail> {
     let mut hub = TcpHub::new(&rt);
-    let mut client = client_of(&rt, &mut hub, 1, REQUEST)?;
+    assert_eq!(rt; hub.listen(0, 1), Ok(()));
+    let mut client = TcpStream::connect(&rt, hub.address()?)?;
+    client.write_all(REQUEST)?;
     client.shutdown(Shutdown::Write)?;
     let mut into = [0u8; 64];
-    let count = first_piece(&mut hub, &mut into)?;
-    assert_eq!(rt; into.get(..count), Some(REQUEST));
-    assert_eq!(rt; hub.send(0, RESPONSE), Ok(()));
+    assert_eq!(rt; hub.next(&mut into), Ok(Event::Opened(0)));
+    let Ok(Event::Piece(conn, count)) = hub.next(&mut into) else {
+        return Err(Fail::new("no piece"));
+    };
+    assert_eq!(rt; hub.send(conn, RESPONSE), Ok(()));
+    assert_eq!(rt; conn, 0);
+    assert_eq!(rt; &into[..count], REQUEST);
     assert_eq!(rt; hub.next(&mut into), Ok(Event::Ended(0)));
     hub.close(0);
     let mut response = String::new(rt.alloc());
@@ -72,11 +54,17 @@ fn a_port_in_use_fails_and_ones_own_does_not(rt: HostRuntime) -> Result<(), Fail
 #[test]
 fn unread_bytes_reset_no_response(rt: HostRuntime) -> Result<(), Fail> {
     let mut hub = TcpHub::new(&rt);
-    let mut client = client_of(&rt, &mut hub, 1, &[b'x'; 8192])?;
+    assert_eq!(rt; hub.listen(0, 1), Ok(()));
+    let mut client = TcpStream::connect(&rt, hub.address()?)?;
+    client.write_all(&[b'x'; 8192])?;
     client.shutdown(Shutdown::Write)?;
-    first_piece(&mut hub, &mut [0u8; 64])?;
-    assert_eq!(rt; hub.send(0, RESPONSE), Ok(()));
-    hub.close(0);
+    let mut into = [0u8; 64];
+    assert_eq!(rt; hub.next(&mut into), Ok(Event::Opened(0)));
+    let Ok(Event::Piece(conn, _)) = hub.next(&mut into) else {
+        return Err(Fail::new("no piece"));
+    };
+    assert_eq!(rt; hub.send(conn, RESPONSE), Ok(()));
+    hub.close(conn);
     let mut response = String::new(rt.alloc());
     client.read_to_string(&mut response)?;
     assert_eq!(rt; response.as_bytes(), RESPONSE);
@@ -86,10 +74,15 @@ fn unread_bytes_reset_no_response(rt: HostRuntime) -> Result<(), Fail> {
 #[test]
 fn an_answered_connection_yields_to_one_that_waits(rt: HostRuntime) -> Result<(), Fail> {
     let mut hub = TcpHub::new(&rt);
-    let _kept = client_of(&rt, &mut hub, 2, REQUEST)?;
+    assert_eq!(rt; hub.listen(0, 2), Ok(()));
+    let mut kept = TcpStream::connect(&rt, hub.address()?)?;
+    kept.write_all(REQUEST)?;
     let mut into = [0u8; 64];
-    first_piece(&mut hub, &mut into)?;
-    assert_eq!(rt; hub.send(0, RESPONSE), Ok(()));
+    assert_eq!(rt; hub.next(&mut into), Ok(Event::Opened(0)));
+    let Ok(Event::Piece(conn, _)) = hub.next(&mut into) else {
+        return Err(Fail::new("no piece"));
+    };
+    assert_eq!(rt; hub.send(conn, RESPONSE), Ok(()));
     let mut waiting = TcpStream::connect(&rt, hub.address()?)?;
     waiting.write_all(REQUEST)?;
     assert_eq!(rt; hub.next(&mut into), Ok(Event::Ended(0)));

@@ -5,7 +5,7 @@
 --   hits_more, hits_all          the hits of the table
 --   hits_are                     are the documents of the rows with their scores
 --   map_same                     functions that agree
---   alike_best, alike_scores     which depend on the rows' members alone
+--   alike_best                   which depend on the rows' members alone
 --   hits_fit                     they are in range
 --   written_back                 a table that was lent
 --   own_chosen                   where all words are of some, the rows in listed documents are those that are chosen
@@ -26,13 +26,12 @@ use Rattle.std.proofs.lemmas.List.Elements.{All-from_recursion, filter-append, r
 use Rattle.std.proofs.lemmas.List.Kept.{IsStrictlySortedBy-filter}
 use Rattle.cs_base.specs.content.Orders.{AreByDoc, docs_of}
 use Rattle.cs_base.specs.declared.content.doc.Base.TheVariants as base
-use Rattle.cs_base.specs.declared.content.doc.Base.{Base}
 use Rattle.cs_base.specs.declared.content.doc.Post.{Post}
 use Rattle.cs_base.specs.declared.content.doc.Scored.{Scored}
-use Rattle.cs_base.proofs.MembersLemmas.{members_are, members-alike}
+use Rattle.cs_base.proofs.MembersLemmas.{members_are}
 use Rattle.cs_base.proofs.OrdersLemmas.{Less-from_lt}
 use Rattle.cs_file.specs.CallAnswers.{AreScoredOf}
-use Rattle.cs_rank.specs.DocScores.{greatest, of_doc, best_row, scores, with_base}
+use Rattle.cs_rank.specs.DocScores.{greatest, of_doc, best_row, scores}
 use Rattle.cs_meet.proofs.Passes.{next_is}
 use Rattle.cs_tables.specs.WordCounts.{is_chosen, is_of_listed}
 use Rattle.cs_engine.specs.Loose.{best_of, HasBestScores, hits_in}
@@ -337,14 +336,6 @@ score_over rows d k =
 -- the table depends on the rows' members alone
 pub alike_best : (xs ys : List Post) (best : List ℕ) → ((t : Post → Bool) → list_any t xs ≡ list_any t ys) → HasBestScores xs best → HasBestScores ys best
 alike_best xs ys best a has d l = has d l ∙ same_tests _ _ (λ k. best_over xs d k ∙ a _ ∙ sym (best_over ys d k))
-
-pub alike_scores : (b : Base) (xs ys : List Post) → ((t : Post → Bool) → list_any t xs ≡ list_any t ys) → scores b xs ≡ scores b ys
-alike_scores b xs ys a =
-    map_same (λ d. with_base b (best_row xs d)) (λ d. with_base b (best_row ys d))
-    (λ d. ap (λ n. with_base b (record { doc = d; score = n })) (same_tests _ _ (λ k. score_over xs d k ∙ a _ ∙ sym (score_over ys d k)))) (docs_of xs)
-    ∙ ap (map (λ d. with_base b (best_row ys d)))
-    (members-alike nat_cmp nat_cmp_total nat_cmp-IsAntisymmetric (map (λ p. p.doc) xs) (map (λ p. p.doc) ys)
-    (λ q. any_map (eq_by_cmp nat_cmp q) (λ p. p.doc) xs ∙ a _ ∙ sym (any_map (eq_by_cmp nat_cmp q) (λ p. p.doc) ys)))
 
 -- ---- the hits of a table are in range
 later_hits : (x a : ℕ) (bs : List ℕ) → x < a → AllByRecursion (λ h. nat_cmp x h.doc ≡ Less) (hits_in a bs)

@@ -2,8 +2,8 @@
 --
 --   chosen_entry, entry_fits     the entry of the rows in order
 --   large_entry, is_large        where it is larger than may be kept
---   loose_table, found_table    the table of rows, in any order and by blocks, is that of the query
-use Rattle.std.proofs.Common.{◌≡◌, ℕ, ◌+◌, ◌-◌, ◌<◌, Bool, true, false, List, length, take, refl, sym, ap, subst, ◌∙◌, arith, if◌then◌else◌}
+--   found_table    the table of rows by blocks is that of the query
+use Rattle.std.proofs.Common.{◌≡◌, ℕ, ◌+◌, ◌-◌, ◌<◌, Bool, true, false, List, length, refl, sym, ap, subst, ◌∙◌, arith, if◌then◌else◌}
 use Rattle.std.specs.Prelude.{All, filter, nat_lt}
 use Rattle.std.specs.List.{list_any}
 use Rattle.std.proofs.lemmas.Bool.Decides.{nat_tests}
@@ -18,8 +18,6 @@ use Rattle.cs_model_index.specs.Sections.{file_corpus}
 use Rattle.cs_model_kept.specs.Entries.{entry_of, listed_count}
 use Rattle.cs_model_kept.specs.KeptList.{kept_fresh}
 use Rattle.cs_model_kept.specs.declared.limits.TheConstants.{MAX_ENTRY_SIZE}
-use Rattle.cs_rank.specs.DocScores.{scores}
-use Rattle.cs_tables.specs.TableListings.{post_table}
 use Rattle.cs_tables.specs.declared.tables.Table.{Table}
 use Rattle.cs_meet.specs.Filters.{is_of_doc}
 use Rattle.cs_engine.specs.Blockwise.{HasFound}
@@ -29,8 +27,6 @@ use Rattle.cs_engine.specs.Loose.{AreAlike, AreLastWords, IsEntryByWords, IsTabl
 use Rattle.cs_engine.specs.IndexReading.{AreWithin, stock_of}
 use Rattle.cs_engine.specs.Steps.{EntryFits, last_is_positive, posts_after}
 use Rattle.cs_engine.specs.Stocked.{docs_in, is_between}
-use Rattle.cs_engine.proofs.AlikeLemmas.{table_alike}
-use Rattle.cs_engine.proofs.BestLemmas.{alike_scores}
 use Rattle.cs_engine.proofs.CountingLemmas.{stock_within}
 use Rattle.cs_engine.proofs.KeepingLemmas.{fresh_is}
 use Rattle.cs_engine.proofs.PlainParts.{listed_entry, listed_fits}
@@ -64,28 +60,9 @@ module _ (i : IndexView) (q : Query) (hits : Base) (lo hi : ℕ) (asks : AreLast
         sym (fresh_is b i q (entry_with hits posts) (chosen_entry posts are))
         ∙ ap (λ x. if x then kept.TooLarge else kept.Kept) (large_true MAX_ENTRY_SIZE (length posts + listed_count hits) lt)
 
-    chosen_table : (posts : List Post) → posts ≡ filter (in_listed listed) (filter (is_between lo hi) (stock_of b).posts)
-        → (cut : ℕ) (found : List Scored) (t : Table) → found ≡ scores hits posts → t.first ≡ take cut (post_table posts) → t.total ≡ length (post_table posts)
-        → IsTableFor i b q cut (base.Listed found) t
-    chosen_table posts are cut found t found_are first total = record {
-      posts = posts;
-      found = found_by_entry i q (entry_with hits posts) true (sym asks.positive) (base.Listed found) (ap base.Listed found_are) b stands is
-          (chosen_entry posts are);
-      within = subst (AreWithin i) (sym are) (kept_within i (in_listed listed) (filter (is_between lo hi) (stock_of b).posts)
-          (kept_within i (is_between lo hi) (stock_of b).posts (stock_within b i stands is)));
-      first = first;
-      total = total;
-    }
-
     module _ (rows : List Post) (a : AreAlike (stock_of b) lo hi listed rows) where
       pub is_large : MAX_ENTRY_SIZE < length rows + listed_count hits → kept_fresh (entry_of (file_corpus b) q) ≡ kept.TooLarge
       is_large lt = large_entry chosen refl (subst (λ n. MAX_ENTRY_SIZE < n + listed_count hits) a.long lt)
-
-      pub loose_table : (cut : ℕ) (found : List Scored) (t : Table) → found ≡ scores hits rows → t.first ≡ take cut (post_table rows)
-          → t.total ≡ length (post_table rows) → IsTableFor i b q cut (base.Listed found) t
-      loose_table cut found t are first total =
-          chosen_table chosen refl cut found t (are ∙ alike_scores hits rows chosen a.alike) (first ∙ ap (take cut) (table_alike rows chosen a.alike))
-          (total ∙ ap length (table_alike rows chosen a.alike))
 
 -- what is found by blocks
 pub found_table : (i : IndexView) (q : Query) (hits : Base) (lo hi : ℕ) → AreLastWords i q hits lo hi → (b : List ℕ) → StandsFor b i → IsIndex i

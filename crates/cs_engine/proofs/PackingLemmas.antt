@@ -33,7 +33,7 @@ use Rattle.cs_file.specs.Indexes.{AreMet, IndexView, IsIndex, StandsFor}
 use Rattle.cs_file.proofs.StoodLemmas.{stood_count}
 use Rattle.cs_meet.specs.Filters.{shares_place}
 use Rattle.cs_model.specs.Scores.{SCORES}
-use Rattle.cs_tables.specs.WordCounts.{AreCountable, is_chosen}
+use Rattle.cs_tables.specs.WordCounts.{is_chosen}
 use Rattle.cs_model_index.specs.BlockRules.{is_scored}
 use Rattle.cs_model_index.specs.Sections.{image_of}
 use Rattle.cs_engine.specs.declared.gathering.Gathered.{Gathered}

@@ -7,7 +7,6 @@
 --   hits_in d best           the documents of a table, from d on, that have a row, with their scores
 --   AreAlike s lo hi listed rows     rows in any order are those of a stock with these words in listed documents
 --   AreGathered i told lo hi listed keys     numbers of such rows
---   AreKeysIn i told hits lo hi keys          numbers of such rows in the documents of hits
 --   AreLastWords i q hits lo hi      the last part of a query is positive and asks for these words, and hits are in range as those before it
 --   IsEntryByWords b i q hits lo hi  over the bytes of an index the own entry of a query is that of these hits and words
 --   IsTableFor i b q cut hits t      over the bytes of an index a table is that of a query of these hits, cut
@@ -24,7 +23,7 @@ use Rattle.cs_rank.specs.DocScores.{greatest, of_doc}
 use Rattle.cs_tables.specs.TableListings.{post_table}
 use Rattle.cs_tables.specs.declared.tables.Table.{Table}
 use Rattle.cs_tables.specs.WordCounts.{AreCountable, is_chosen}
-use Rattle.cs_engine.specs.Counting.{AreListed, in_listed}
+use Rattle.cs_engine.specs.Counting.{in_listed}
 use Rattle.cs_engine.specs.Keeping.{IsEntryOver}
 use Rattle.cs_engine.specs.Packing.{IsPacked, key_of}
 use Rattle.cs_engine.specs.IndexReading.{AreWithin, IsWithin, WhereStood, stock_of}
@@ -59,12 +58,6 @@ pub record AreGathered (i : IndexView) (told : Option (List ℕ)) (lo hi : ℕ) 
   pub within : All (IsWithin i.docs (length i.words)) rows
   pub passed : All (λ p. is_chosen lo hi listed p ≡ true) rows
   pub stood : WhereStood told i (λ b. AreAlike (stock_of b) lo hi listed rows)
-
--- those of the documents that the hits list
-pub record AreKeysIn (i : IndexView) (told : Option (List ℕ)) (hits : Base) (lo hi : ℕ) (keys : List ℕ) : Type 0 where
-  pub listed : List Bool
-  pub has : AreListed i.docs hits listed
-  pub gathered : AreGathered i told lo hi listed keys
 
 -- before a query's only part all documents are hits
 pub record AreLastWords (i : IndexView) (q : Query) (hits : Base) (lo hi : ℕ) : Type 0 where

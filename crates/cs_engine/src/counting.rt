@@ -1,7 +1,7 @@
 //! The words of a range, counted block by block in the documents of a base.
 ghost use Rattle.std.specs.Prelude.{◌≡◌, ◌≤◌, ◌<◌, ◌*◌, [], filter, length, map, take, IfOk};
 ghost use Rattle.std.specs.List.{All};
-ghost use Rattle.cs_base.specs.declared.content.limits.TheConstants.{MAX_PARTS, MAX_WORDS};
+ghost use Rattle.cs_base.specs.declared.content.limits.TheConstants.{MAX_PARTS};
 ghost use Rattle.cs_base.specs.declared.content.scores.TheConstants.{MAX_ROW_SCORE};
 ghost use Rattle.cs_base.specs.outside.Causes.{ReadsWithin};
 ghost use Rattle.cs_file.specs.Indexes.{is_met};

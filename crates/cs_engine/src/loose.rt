@@ -2,8 +2,6 @@
 //! are brought into no order.
 ghost use Rattle.std.specs.Prelude.{◌≡◌, ◌+◌, ◌-◌, ◌≤◌, true, filter, length, IfOk, IfSome};
 ghost use Rattle.cs_base.specs.declared.content.doc.Base.TheVariants as base;
-ghost use Rattle.cs_base.specs.declared.content.limits.TheConstants.{MAX_PARTS};
-ghost use Rattle.cs_base.specs.declared.content.scores.TheConstants.{MAX_ROW_SCORE};
 ghost use Rattle.cs_base.specs.outside.Causes.{ReadsWithin};
 ghost use Rattle.cs_file.specs.Indexes.{IsIndex, is_met};
 ghost use Rattle.cs_model.specs.Parameters.{HoldsLimits};
@@ -19,7 +17,6 @@ ghost use Rattle.cs_engine.specs.Counting.{AreListed};
 ghost use Rattle.cs_engine.specs.Gathering.{HasGathered};
 ghost use Rattle.cs_engine.specs.Loose.{AreLastWords, IsEntryByWords};
 ghost use Rattle.cs_engine.specs.IndexReading.{IsOpened, IsWordRange, OnlyReads, WhereStood};
-ghost use Rattle.cs_engine.specs.Steps.{IsBaseOf};
 
 use crate::answering::reply_of;
 use crate::blockwise::{are_many, found_behind};

@@ -1,19 +1,18 @@
-use Rattle.std.proofs.Common.{◌≡◌, ◌<◌, ◌≤◌, ℕ, ◌*◌, ◌-◌, ◌++◌, [], List, refl, sym, ◌∙◌, ap, subst, take, length, map, arith}
-use Rattle.std.specs.Prelude.{All, filter}
+use Rattle.std.proofs.Common.{◌≡◌, ◌<◌, ◌≤◌, ◌*◌, ◌-◌, [], refl, sym, ◌∙◌, ap, subst, take, length, map, arith}
+use Rattle.std.specs.Prelude.{All}
 use Rattle.std.proofs.lemmas.List.Elements.{All-weaker}
 use Rattle.cs_base.specs.declared.content.doc.Base.TheVariants as base
-use Rattle.cs_base.specs.declared.content.doc.Post.{Post}
 use Rattle.cs_base.specs.declared.content.limits.TheConstants.{MAX_PARTS}
 use Rattle.cs_base.specs.declared.content.scores.TheConstants.{MAX_ROW_SCORE}
 use Rattle.cs_file.specs.Indexes.{IndexView, block_posts}
 use Rattle.cs_model_index.specs.Sections.{image_of}
 use Rattle.cs_rank.specs.DocScores.{with_base}
 use Rattle.cs_tables.specs.TableListings.{post_table}
-use Rattle.cs_tables.specs.WordCounts.{AreCountable, HasCounted, chosen, is_chosen}
+use Rattle.cs_tables.specs.WordCounts.{AreCountable, HasCounted, is_chosen}
 use Rattle.cs_engine.specs.Counting.{counted_rows}
 use Rattle.cs_engine.specs.Loose.{HasBestScores, hits_in}
 use Rattle.cs_engine.specs.IndexReading.{IsWithin, run_of}
-use Rattle.cs_engine.specs.Packing.{key_of, post_of_key}
+use Rattle.cs_engine.specs.Packing.{post_of_key}
 use Rattle.cs_engine.specs.Steps.{IsBaseOf}
 use Rattle.cs_engine.proofs.CountingLemmas.{block_counted, countable, table_told}
 use Rattle.cs_engine.proofs.PackingLemmas.{as_they_come, keys_among, keys_between}
