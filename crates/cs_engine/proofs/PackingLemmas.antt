@@ -37,7 +37,7 @@ use Rattle.cs_tables.specs.WordCounts.{is_chosen}
 use Rattle.cs_model_index.specs.BlockRules.{is_scored}
 use Rattle.cs_model_index.specs.Sections.{image_of}
 use Rattle.cs_engine.specs.declared.gathering.Gathered.{Gathered}
-use Rattle.cs_engine.specs.Gathering.{HasGathered}
+use Rattle.cs_engine.specs.GatheredRows.{HasGathered}
 use Rattle.cs_engine.specs.Packing.{AreFrom, HasKeys, IsOrdered, IsPacked, apart, key_of, place_of_key, post_of_key}
 use Rattle.cs_engine.specs.Counting.{in_listed}
 use Rattle.cs_engine.specs.Loose.{AreAlike, AreGathered}

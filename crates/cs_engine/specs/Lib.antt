@@ -8,4 +8,4 @@ pub mod Plain
 pub mod IndexReading
 pub mod Steps
 pub mod Stocked
-pub mod Gathering
+pub mod GatheredRows

@@ -9,7 +9,7 @@ ghost use Rattle.cs_file.specs.Indexes.{IsIndex};
 ghost use Rattle.cs_engine.specs.Asking.{is_read, is_changed};
 ghost use Rattle.cs_engine.specs.Blockwise.{AreMany, HasFound, rows_within};
 ghost use Rattle.cs_engine.specs.Counting.{AreListed};
-ghost use Rattle.cs_engine.specs.Gathering.{HasGathered};
+ghost use Rattle.cs_engine.specs.GatheredRows.{HasGathered};
 ghost use Rattle.cs_engine.specs.IndexReading.{IsOpened, IsWordRange, OnlyReads, WhereStood, stock_of};
 ghost use Rattle.cs_engine.specs.Steps.{IsBaseOf, posts_after};
 ghost use Rattle.cs_engine.specs.Stocked.{is_between};

@@ -3,7 +3,7 @@ ghost use Rattle.std.specs.Prelude.{◌≡◌, ◌-◌, ◌<◌, ◌^◌, ℕ, B
 ghost use Rattle.cs_base.specs.outside.Causes.{ReadsWithin};
 ghost use Rattle.cs_file.specs.Indexes.{is_met};
 ghost use Rattle.cs_engine.specs.Asking.{is_read, is_changed};
-ghost use Rattle.cs_engine.specs.Gathering.{HasGathered};
+ghost use Rattle.cs_engine.specs.GatheredRows.{HasGathered};
 ghost use Rattle.cs_engine.specs.IndexReading.{IsOpened, IsWordRange, OnlyReads};
 
 use crate::fault::AskFault;

@@ -14,7 +14,7 @@ ghost use Rattle.cs_engine.specs.Asking.{division, is_read, is_changed, titles_a
 ghost use Rattle.cs_engine.specs.Blockwise.{AreMany};
 ghost use Rattle.cs_engine.specs.Keeping.{FitsQuery, IsAnsweredOver};
 ghost use Rattle.cs_engine.specs.Counting.{AreListed};
-ghost use Rattle.cs_engine.specs.Gathering.{HasGathered};
+ghost use Rattle.cs_engine.specs.GatheredRows.{HasGathered};
 ghost use Rattle.cs_engine.specs.Loose.{AreLastWords, IsEntryByWords};
 ghost use Rattle.cs_engine.specs.IndexReading.{IsOpened, IsWordRange, OnlyReads, WhereStood};
 
