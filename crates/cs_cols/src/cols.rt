@@ -1,5 +1,5 @@
 //! The columns and their calls.
-ghost use Rattle.std.specs.Prelude.{◌≡◌, ◌+◌, ◌≤◌, ◌<◌, ◌^◌, [], ◌∷◌, ◌++◌, length, map, take, slice_index_or, IfOk, OnOk, OnErr};
+ghost use Rattle.std.specs.Prelude.{◌≡◌, ◌+◌, ◌≤◌, ◌<◌, ◌^◌, [], ◌∷◌, ◌++◌, length, map, take, slice_index_or, IfOk, OnOk, OnErr, IsOk};
 ghost use Rattle.std_alloc.specs.Vec.{vec_len, vec_capacity};
 ghost use Rattle.cs_cols.specs.Placed.{IsInPlace};
 
@@ -181,12 +181,13 @@ impl Cols {
         Ok(copy)
     }
 
-    /// Makes room for `n` more posts.
+    /// Makes room for `n` more posts. Where there is so much, it takes no memory.
     pub fn reserve(&mut self, n: usize) -> Result<(), Memory>
         ensures ok { OnOk result (n ≤ self.new.room) }
         ensures err { OnErr result (self.new ≡ self.old) }
         ensures posts { self.new.posts ≡ self.old.posts }
         ensures room { self.old.room ≤ self.new.room }
+        ensures enough { n ≤ self.old.room → IsOk result × (self.new ≡ self.old) }
     {
         let len = self.docs.len();
         let cap = self.docs.capacity();

@@ -2,7 +2,7 @@
 ghost use Rattle.std.specs.Prelude.{◌≡◌, ◌+◌, ◌-◌, ◌≤◌, ◌<◌, ◌^◌, ◌&&◌, ◌++◌, ◌∷◌, [], false, length, drop, chars, slice_index_or, IfOk, IfSome, OnOk};
 ghost use Rattle.std.specs.List.{list_all};
 ghost use Rattle.std.specs.Option.{ForSome, option_map};
-ghost use Rattle.cs_base.specs.declared.content.limits.TheConstants.{MAX_WORDS, MAX_PLAIN_WORD_BYTES};
+ghost use Rattle.cs_base.specs.declared.content.limits.TheConstants.{MAX_WORDS, MAX_WORD_BYTES, MAX_PLAIN_WORD_BYTES};
 ghost use Rattle.cs_model.specs.Words.{is_filled, is_word_char};
 ghost use Rattle.cs_model_index.specs.FileRules.{break_of, follows, is_named_value, is_plain_word, is_value_char, is_word, laid, tried, word_size, words_break};
 ghost use Rattle.cs_model_index.specs.Sections.{vocabulary_at, vocabulary_in};
@@ -105,7 +105,7 @@ fn room_for(alloc: Global, count: usize) -> Result<Vec<Word>, Memory>
 
 fn push_word(alloc: Global, words: &mut Vec<Word>, bytes: &[u8]) -> Result<(), Memory>
     requires some { 1 ≤ length bytes.now }
-    requires few { length bytes.now ≤ 138 }
+    requires few { length bytes.now ≤ MAX_WORD_BYTES }
 
     ensures { OnOk result (words.new.items ≡ words.old.items ++ bytes.now ∷ []) }
 {

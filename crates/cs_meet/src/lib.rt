@@ -1,7 +1,7 @@
 //! Filters and merges of sorted posts: by documents, by neighbours in a document, and unions.
 //!
 //! Each call goes once over both inputs and asks for memory once, before it begins. What the calls
-//! mean stands in `specs/Filters.antt`; `specs/Places.antt` has what a pass knows on its way.
+//! mean stands in `specs/Filters.antt`; `specs/RowPlaces.antt` has what a pass knows on its way.
 #![tactic(auto)]
 
 mod documents;

@@ -12,6 +12,7 @@ use Rattle.cs_base.specs.declared.content.query.Query.{roll-Query}
 use Rattle.cs_model.specs.KeyText.{norm}
 use Rattle.cs_model.specs.Words.{is_word_char}
 use Rattle.cs_model.specs.Refusals.{Bad}
+use Rattle.cs_model.specs.Requests.{by_default}
 use Rattle.cs_model.specs.Parameters.{parameter, bad_param, bad_query, request_refusal, request_of}
 use Rattle.cs_model.proofs.ListedMembers.{members-listed}
 use lib.Utf8
@@ -52,7 +53,7 @@ unfolding request_of parameter raw_pairs split percent_decode utf8_lossy utf8_va
 request-facets = members-listed (slice_cmp nat_cmp) nat_list_cmp_total (codes "year" ∷ codes "author" ∷ codes "year" ∷ [])
 
 -- the empty query, one hit behind the first
-request-window : request_of (codes "q=&h=1&o=1") ≡ record { query = roll-Query (record { parts = [] }); hits = 1; completions = 10; offset = 1; facets = [] }
+request-window : request_of (codes "q=&h=1&o=1") ≡ record (by_default (roll-Query (record { parts = [] }))) { hits = 1; offset = 1 }
 unfolding request_of parameter raw_pairs split percent_decode utf8_lossy utf8_valid_len is_utf8 chars lib.Utf8.encode norm caseless is_word_char
 request-window = refl
 

@@ -1,6 +1,6 @@
 //! Scores of documents, and the best of them.
 //!
-//! The order of hits is `by_rank` of `cs_base`; what is kept of a longer list stands in `specs/`.
+//! The order of hits is `by_rank` of `cs_base` (`specs/content/Orders.antt`); what is kept of a longer list stands in `specs/`.
 #![tactic(auto)]
 
 mod best;

@@ -47,7 +47,7 @@ impl Word {
     /// The word of these bytes.
     pub fn new(alloc: Global, bytes: &[u8]) -> Result<Word, Memory>
         requires some { 1 ≤ length bytes.now }
-        requires few { length bytes.now ≤ 138 }
+        requires few { length bytes.now ≤ MAX_WORD_BYTES }
 
         ensures ok { IfOk result (λ w. w ≡ bytes.now) }
     {
@@ -63,7 +63,7 @@ impl Word {
     pub fn bytes(&self) -> &[u8]
         ensures value { result.now ≡ self.now }
         ensures some { 1 ≤ length self.now }
-        ensures few { length self.now ≤ 138 }
+        ensures few { length self.now ≤ MAX_WORD_BYTES }
     {
         match &self.form {
             WordForm::InPlace { len, bytes } => &bytes[..*len as usize],

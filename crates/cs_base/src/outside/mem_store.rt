@@ -1,6 +1,6 @@
 //! Stores in memory.
 ghost use Rattle.std.specs.Prelude.{◌≡◌, ◌+◌, ◌-◌, ◌≤◌, length, Ok, OnOk, OnErr, is_err, ◌==◌};
-ghost use Rattle.cs_base.specs.outside.Causes.{Counted, ReadsWithin, one_more};
+ghost use Rattle.cs_base.specs.outside.Causes.{Counted, ReadsWithin, Rose, one_more};
 ghost use Rattle.cs_base.specs.outside.Outside.{part};
 
 use crate::outside::{Failed, Store};
@@ -64,6 +64,7 @@ impl Store for MemStore {
         ensures read { out.new ≡ part self.old.bytes at (length out.old) }
         ensures same { self.new ≡ record self.old { reads = one_more self.old.reads } }
         ensures reads { ReadsWithin 1 self.old.reads self.new.reads }
+        ensures rose { Rose self.old.reads self.new.reads }
     {
         self.reads = self.reads.saturating_add(1);
         let start = at as usize;
@@ -142,6 +143,7 @@ impl Store for TiredStore {
         ensures err { OnErr result (self.new ≡ record { bytes = self.old.bytes; reads = one_more self.old.reads; faults = one_more self.old.faults; fails_at = 0 }) }
         ensures unread { OnErr result (out.new ≡ out.old) }
         ensures reads { ReadsWithin 1 self.old.reads self.new.reads }
+        ensures rose { Rose self.old.reads self.new.reads }
         ensures counted { Counted self.old.faults self.new.faults result }
     {
         let fails = self.fails_at == 1;

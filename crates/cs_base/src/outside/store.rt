@@ -1,7 +1,7 @@
 //! Bytes at places, as those of an index file.
 ghost use Rattle.std.specs.Prelude.{◌≡◌, ℕ, List, Option, ◌+◌, ◌≤◌, length, IfOk, OnOk};
 ghost use Rattle.std.specs.Option.{ForSome};
-ghost use Rattle.cs_base.specs.outside.Causes.{Counted, ReadsWithin};
+ghost use Rattle.cs_base.specs.outside.Causes.{Counted, ReadsWithin, Rose};
 ghost use Rattle.cs_base.specs.outside.Outside.{part};
 
 use crate::outside::Failed;
@@ -11,7 +11,7 @@ pub trait Store {
     /// Its bytes, where it tells them.
     ghost bytes: { Self → Option (List ℕ) };
 
-    /// A count of reads, which a call of `read_at` raises by at most one, up to the last value of u64.
+    /// A count of reads, which each call of `read_at` raises by one, up to the last value of u64.
     ghost reads: { Self → ℕ };
 
     /// A count of failures, which never falls, up to the last value of u64.
@@ -39,5 +39,6 @@ pub trait Store {
         ensures same { bytes self.new ≡ bytes self.old }
         ensures lent { lent self.new ≡ lent self.old }
         ensures reads { ReadsWithin 1 (reads self.old) (reads self.new) }
+        ensures rose { Rose (reads self.old) (reads self.new) }
         ensures counted { Counted (faults self.old) (faults self.new) result };
 }
