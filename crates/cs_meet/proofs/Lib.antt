@@ -5,3 +5,4 @@ pub mod Listed
 pub mod Ordered
 pub mod United
 pub mod Halving
+pub mod Unlike

@@ -1,6 +1,6 @@
 //! Rows by their documents, and documents by their rows.
-ghost use Rattle.std.specs.Prelude.{◌≡◌, ℕ, true, false, slice_index, slice_index_or, ◌==◌, ◌+◌, ◌-◌, ◌^◌, ◌≤◌, ◌<◌, [], ◌∷◌, ◌++◌, length, if◌then◌else◌, IfOk};
-ghost use Rattle.std.specs.List.{list_any};
+ghost use Rattle.std.specs.Prelude.{◌≡◌, ℕ, true, false, nat_eq, List, slice_index, slice_index_or, ◌==◌, ◌+◌, ◌-◌, ◌^◌, ◌≤◌, ◌<◌, [], ◌∷◌, ◌++◌, length, if◌then◌else◌, IfOk};
+ghost use Rattle.std.specs.List.{dedup_from, list_any};
 ghost use Rattle.std.specs.List.Sorted.{IsNonDecreasing};
 ghost use Rattle.std.specs.Vec.{vec_len, vec_capacity};
 ghost use Rattle.cs_base.specs.declared.content.doc.Post.{Post};
@@ -47,9 +47,33 @@ pub fn docs_of(alloc: Global, rows: &Cols) -> Result<Vec<u32>, Memory>
     ensures ok { IfOk result (λ docs. docs.items ≡ docs_of rows.now.posts) }
     ensures sorted { IfOk result (λ docs. AreDocs docs.items) }
 {
-    let mut docs = Vec::from_slice(alloc, rows.docs())?;
-    docs.dedup();
+    let all = rows.docs();
+    let mut docs = Vec::with_capacity(alloc, all.len())?;
+    if all.is_empty() {
+        return Ok(docs);
+    }
+    let mut current = all[0];
+    for i in 1..all.len() {
+        add_unlike(&mut docs, current, all[i]);
+        current = all[i];
+    }
+    docs.push_reserved(current);
     Ok(docs)
+}
+
+// Adds the current document at the end, in the room that there is, and takes it back where the next one is the same. It has no
+// branch, since nothing tells beforehand whether it is.
+#[inline]
+fn add_unlike(docs: &mut Vec<u32>, current: u32, next: u32)
+    requires { vec_len docs.old < vec_capacity docs.old }
+
+    ensures items { (rest : List ℕ) → docs.new.items ++ dedup_from nat_eq next rest ≡ docs.old.items ++ dedup_from nat_eq current (next ∷ rest) }
+    ensures len { vec_len docs.new ≤ vec_len docs.old + 1 }
+    ensures capacity { vec_capacity docs.new ≡ vec_capacity docs.old }
+{
+    docs.push_reserved(current);
+    let kept = docs.len() - usize::from(next == current);
+    docs.truncate(kept);
 }
 
 /// Those of `base` whose document has none of the rows.
