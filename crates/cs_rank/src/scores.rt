@@ -1,5 +1,6 @@
 //! The scores of documents.
-ghost use Rattle.std.specs.Prelude.{◌≡◌, ◌≤◌, ◌<◌, ◌^◌, List, ◌∷◌, ◌++◌, map, length, IfOk, All, slice_index_or};
+ghost use Rattle.std.specs.Prelude.{◌≡◌, ◌+◌, ◌≤◌, ◌<◌, ◌^◌, List, ◌∷◌, ◌++◌, if◌then◌else◌, max, map, length, IfOk, All, slice_index_or};
+ghost use Rattle.std.specs.Vec.{vec_len, vec_capacity};
 ghost use Rattle.cs_base.specs.content.Orders.{docs_of, AreSorted, AreByDoc};
 ghost use Rattle.cs_base.specs.declared.content.doc.Scored.{Scored};
 ghost use Rattle.cs_base.specs.declared.content.doc.Base.TheVariants.{Listed};
@@ -39,16 +40,16 @@ fn best_scores(alloc: Global, rows: &Cols) -> Result<Vec<Scored>, Memory>
 {
     let docs = rows.docs();
     let scores = rows.scores();
-    let mut best = Vec::new(alloc);
+    let mut best = Vec::with_capacity(alloc, docs.len())?;
     if docs.is_empty() {
         return Ok(best);
     }
     let mut current = scored_at(docs, scores, 0);
     for i in 1..docs.len() {
         let next = scored_at(docs, scores, i);
-        current = absorb(&mut best, current, next)?;
+        current = absorb(&mut best, current, next);
     }
-    best.push(current)?;
+    best.push_reserved(current);
     Ok(best)
 }
 
@@ -67,25 +68,39 @@ fn scored_at(docs: &[u32], scores: &[u8], i: usize) -> Scored
     }
 }
 
-// One more row: of the current document, or of the next, and then the current one is done.
+// One more row: of the current document, or of the next, and then the current one is done. The current one is put down in the room that
+// there is, and taken back where the row is of the same document: there is no branch, since nothing tells beforehand whether it is.
 #[inline]
-fn absorb(best: &mut Vec<Scored>, current: Scored, next: Scored) -> Result<Scored, Memory>
+fn absorb(best: &mut Vec<Scored>, current: Scored, next: Scored) -> Scored
+    requires room { vec_len best.old < vec_capacity best.old }
+
     // a row's score is at most the greatest u8
     requires current { current.score ≤ MAX_ROW_SCORE }
     requires next { next.score ≤ MAX_ROW_SCORE }
 
-    ensures ok { IfOk result (λ now. (rest : List Scored) → best.new.items ++ group now rest ≡ best.old.items ++ group current (next ∷ rest)) }
-    ensures now { IfOk result (λ now. now.score ≤ MAX_ROW_SCORE) }
+    ensures groups { (rest : List Scored) → best.new.items ++ group result rest ≡ best.old.items ++ group current (next ∷ rest) }
+    ensures now { result.score ≤ MAX_ROW_SCORE }
     ensures small { All (λ h. h.score ≤ MAX_ROW_SCORE) best.old.items → All (λ h. h.score ≤ MAX_ROW_SCORE) best.new.items }
+    ensures len { vec_len best.new ≤ vec_len best.old + 1 }
+    ensures capacity { vec_capacity best.new ≡ vec_capacity best.old }
 {
-    if next.doc == current.doc {
-        return Ok(Scored {
-            doc: current.doc,
-            score: current.score.max(next.score),
-        });
+    let same = next.doc == current.doc;
+    best.push_reserved(current);
+    let done = best.len() - usize::from(same);
+    best.truncate(done);
+    joined(current, next, same)
+}
+
+// The next one, with the greater score of the two where they are of the same document.
+#[inline]
+fn joined(current: Scored, next: Scored, same: bool) -> Scored
+    ensures { result ≡ (if same then record { doc = next.doc; score = max current.score next.score } else next) }
+{
+    let greater = current.score.max(next.score);
+    Scored {
+        doc: next.doc,
+        score: if same { greater } else { next.score },
     }
-    best.push(current)?;
-    Ok(next)
 }
 
 /// Scored documents, ascending, each with what a base gave it added to its score. A document that the base doesn't list counts there
@@ -102,10 +117,10 @@ pub fn add_base(alloc: Global, listed: &[Scored], best: &[Scored]) -> Result<Vec
     for h in best {
         place = skip_below(listed, place, h.doc);
         let base = score_at(listed, place, h.doc);
-        scored.push(Scored {
+        scored.push_reserved(Scored {
             doc: h.doc,
             score: base + h.score,
-        })?;
+        });
     }
     Ok(scored)
 }
