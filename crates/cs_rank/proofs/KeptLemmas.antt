@@ -1,11 +1,17 @@
 -- How the bounded list goes on standing for the best of all that was offered.
 --
 --   let_go            one that isn't before the worst of enough better ones
+--   all_let_go        each of a span that isn't before it
+--   none_taken        of no more entries nothing changes
+--   takes_more        a span and one entry more
+--   span_taken        the first entries and the span behind them
 --   kept_too          one more that is kept
 --   pruned            what is cut to the room
 --   full_from_last    what is cut to the room knows its worst
-use Rattle.std.proofs.Common.{◌≡◌, ℕ, true, false, List, [], ◌∷◌, ◌++◌, ◌-◌, ◌<◌, length, take, get_or, refl, sym, ◌∙◌, ap, subst, true≢false}
+use Rattle.std.proofs.Common.{◌≡◌, ℕ, true, false, List, [], ◌∷◌, ◌++◌, ◌+◌, ◌-◌, ◌<◌, ◌≤◌, All, length, take, drop, get_or, append_assoc, append-nil, take-add, refl, sym, ◌∙◌, ap, subst, true≢false, arith}
 use Rattle.std.specs.Prelude.{Option, Some, None, MatchOption}
+use Rattle.std.proofs.lemmas.List.{take_more}
+use Rattle.std.proofs.lemmas.List.Elements.{All-head, All-tail}
 use Rattle.std.proofs.lemmas.Bool.{not-true, not-false}
 use Rattle.std.specs.List.Sorted.{IsStrictlySortedBy}
 use Rattle.std.specs.Ordering.{is_lt, is_gt}
@@ -16,7 +22,7 @@ use Rattle.cs_base.specs.content.Orders.{by_rank}
 use Rattle.cs_base.specs.declared.content.doc.Scored.{Scored}
 use Rattle.cs_base.proofs.OrdersLemmas.{by_rank_total, by_rank_exact}
 use Rattle.cs_base.proofs.MembersLemmas.{listed_itself, listing-rises}
-use Rattle.cs_rank.specs.Kept.{IsFull, HasBest, is_behind}
+use Rattle.cs_rank.specs.Kept.{IsFull, HasBest, Takes, TakesAll, is_behind}
 use Rattle.cs_rank.proofs.ScorePlaces.{place, pushed, take-placed, unmoved, still_full, take_rises, take_again, full_at_last}
 
 -- the first n of the listing with one more, by the first n of the listing
@@ -38,6 +44,32 @@ let_go room s seen kept (Some w) e h = record {
   same = more_alike room s seen kept h.same ∙ unmoved by_rank by_rank_total room s w (members_in by_rank kept) h.full (not-true _ e);
   full = h.full;
 }
+
+-- a span of these
+pub all_let_go : (room : ℕ) (span seen kept : List Scored) (worst : Option Scored) → All (λ s. is_behind s worst ≡ true) span → HasBest seen room kept worst → HasBest (seen ++ span) room kept worst
+all_let_go room [] seen kept worst all h = subst (λ xs. HasBest xs room kept worst) (sym (append-nil seen)) h
+all_let_go room (s ∷ span) seen kept worst all h =
+    subst (λ xs. HasBest xs room kept worst) (append_assoc seen (s ∷ []) span)
+    (all_let_go room span (seen ++ s ∷ []) kept worst (All-tail (λ s. is_behind s worst ≡ true) s span all) (let_go room s seen kept worst (All-head (λ s. is_behind s worst ≡ true) s span all) h))
+
+-- of no more entries nothing changes
+pub none_taken : (room : ℕ) (kept : List Scored) (worst : Option Scored) → TakesAll [] room kept worst kept worst
+none_taken room kept worst seen h = subst (λ xs. HasBest xs room kept worst) (sym (append-nil seen)) h
+
+-- a span and one entry more
+pub takes_more : (room i : ℕ) (span first kept now : List Scored) (worst last after : Option Scored) (d : Scored) → i < length span → TakesAll (take i span) room first worst kept last
+    → Takes (get_or span i d) room kept last now after → TakesAll (take (i + 1) span) room first worst now after
+takes_more room i span first kept now worst last after d lt all one seen h =
+    subst (λ xs. HasBest xs room now after) (append_assoc seen (take i span) (get_or span i d ∷ []) ∙ ap (λ xs. seen ++ xs) (sym (take_more span i d lt)))
+    (one (seen ++ take i span) (all seen h))
+
+-- the first entries and the span behind them
+pub span_taken : (room from to : ℕ) (first scored kept now : List Scored) (last after : Option Scored) → from ≤ to → HasBest (first ++ take from scored) room kept last
+    → TakesAll (take (to - from) (drop from scored)) room kept last now after → HasBest (first ++ take to scored) room now after
+span_taken room from to first scored kept now last after up h all =
+    subst (λ xs. HasBest xs room now after)
+    (append_assoc first (take from scored) (take (to - from) (drop from scored)) ∙ ap (λ xs. first ++ xs) (sym (take-add from (to - from) scored) ∙ ap (λ n. take n scored) (let n : from + (to - from) ≡ to = omega arith in n)))
+    (all (first ++ take from scored) h)
 
 full_too : (room : ℕ) (s : Scored) (kept : List Scored) (worst : Option Scored) → is_behind s worst ≡ false → MatchOption worst (Unit {0}) (λ w. IsFull by_rank room w (members_in by_rank kept)) → MatchOption worst (Unit {0}) (λ w. IsFull by_rank room w (members_in by_rank (kept ++ s ∷ [])))
 full_too room s kept None e h = tt

@@ -7,7 +7,7 @@
 --   scores base rows      each document of the rows with its score, ascending
 --   IsBase base           what a base keeps: its documents ascend, and no score is above 2^20
 --   PassedBelow hs n d    the first n of hs are of documents below d
-use Rattle.std.specs.Prelude.{ℕ, ◌+◌, ◌≤◌, ◌^◌, ◌<◌, max, length, slice_index_or, List, [], ◌∷◌, map, All, filter, find, option_map, unwrap_or, ◌==◌}
+use Rattle.std.specs.Prelude.{ℕ, ◌+◌, ◌≤◌, ◌^◌, ◌<◌, max, length, slice_index_or, List, [], ◌∷◌, map, All, filter, ◌==◌}
 use Rattle.cs_base.specs.content.Orders.{AreByDoc, docs_of}
 use Rattle.cs_base.specs.declared.content.doc.Base.{Base}
 use Rattle.cs_base.specs.declared.content.doc.Base.TheVariants as base

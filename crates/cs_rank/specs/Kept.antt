@@ -5,6 +5,7 @@
 --   Ranked                                the best of some documents, best first, and how many are kept at most
 --   first_of room xs                      the best `room` of some documents, best first
 --   Takes s room kept worst now worst'    what `kept` has the best of, `now` has the best of with s besides
+--   TakesAll span room kept worst now worst'    the same with all of a span besides
 --   is_behind s worst                     whether s comes behind `worst`, or is it
 --   HasBest seen room kept worst          kept has the first `room` of seen, and `worst`, where it is told, comes before none of these
 use Rattle.std.specs.Prelude.{◌≡◌, ℕ, ◌≤◌, List, [], ◌∷◌, ◌++◌, length, take, Bool, false, not, Option, None, Some, MatchOption}
@@ -41,6 +42,10 @@ pub record HasBest (seen : List Scored) (room : ℕ) (kept : List Scored) (worst
 -- where `kept` has the best of what was seen, `now` has the best of that and s
 abbrev pub Takes : Scored → ℕ → List Scored → Option Scored → List Scored → Option Scored → Type 0
 Takes s room kept worst now worst' = (seen : List Scored) → HasBest seen room kept worst → HasBest (seen ++ s ∷ []) room now worst'
+
+-- where `kept` has the best of what was seen, `now` has the best of that and of a span; where that is empty the two are alike
+abbrev pub TakesAll : List Scored → ℕ → List Scored → Option Scored → List Scored → Option Scored → Type 0
+TakesAll span room kept worst now worst' = (seen : List Scored) → HasBest seen room kept worst → HasBest (seen ++ span) room now worst'
 
 -- whether s isn't before the last of so many better ones; while none is known, it may be
 abbrev pub is_behind : Scored → Option Scored → Bool

@@ -1,9 +1,9 @@
 //! A bounded list of the best documents.
-ghost use Rattle.std.specs.Prelude.{◌≡◌, ℕ, true, false, List, ◌+◌, ◌-◌, ◌<◌, ◌≤◌, [], ◌∷◌, ◌++◌, IfOk, OnOk, OnErr, length, insert, MatchOption, slice_index_or};
+ghost use Rattle.std.specs.Prelude.{◌≡◌, ℕ, true, false, List, ◌+◌, ◌-◌, ◌<◌, ◌≤◌, [], ◌∷◌, ◌++◌, IfOk, OnOk, OnErr, length, insert, MatchOption, Some, All, slice_index_or};
 ghost use Rattle.std.specs.Vec.{vec_len, vec_capacity};
 ghost use Rattle.cs_base.specs.content.Orders.{by_rank};
 ghost use Rattle.cs_base.specs.declared.content.doc.Scored.{Scored};
-ghost use Rattle.cs_rank.specs.Kept.{IsFull, Takes, is_behind, first_of};
+ghost use Rattle.cs_rank.specs.Kept.{IsFull, Takes, TakesAll, is_behind, first_of};
 ghost use Rattle.cs_rank.specs.declared.best.TheConstants.{MAX_ROOM};
 
 use cs_base::{MAX_OFFSET, MAX_SHOWN, Memory, Scored};
@@ -12,6 +12,9 @@ use std::marker::Model;
 
 /// The most documents that a list keeps: those that a request leaves out in front, and those that it shows.
 pub const MAX_ROOM: usize = MAX_OFFSET as usize + MAX_SHOWN as usize;
+
+// So many entries are looked at together.
+const SPAN: usize = 64;
 
 /// The best of the documents that were offered, best first.
 #[derive(Debug, Drop)]
@@ -124,11 +127,39 @@ fn sift(kept: &mut Vec<Scored>, room: usize, scored: &[Scored])
     ensures capacity { vec_capacity kept.new ≡ vec_capacity kept.old }
 {
     let mut worst = None;
-    for s in scored {
-        if !is_beaten(s, &worst) {
-            worst = keep(kept, room, worst, *s);
+    let mut from = 0;
+    while from < scored.len() {
+        let to = from + SPAN.min(scored.len() - from);
+        worst = sift_span(kept, room, worst, &scored[from..to]);
+        from = to;
+    }
+}
+
+// Adds what may be among the first `room` of a few entries: nothing where each of them may be let go. The answer is the worst then.
+fn sift_span(
+    kept: &mut Vec<Scored>,
+    room: usize,
+    worst: Option<Scored>,
+    span: &[Scored],
+) -> Option<Scored>
+    requires some { 0 < room }
+    requires few { vec_len kept.old < room + room }
+    requires space { room + room ≤ vec_capacity kept.old }
+
+    ensures takes { TakesAll span.now room kept.old.items worst kept.new.items result }
+    ensures few { vec_len kept.new < room + room }
+    ensures capacity { vec_capacity kept.new ≡ vec_capacity kept.old }
+{
+    if are_beaten(span, &worst) {
+        return worst;
+    }
+    let mut last = worst;
+    for s in span {
+        if !is_beaten(s, &last) {
+            last = keep(kept, room, last, *s);
         }
     }
+    last
 }
 
 // Adds one entry, which isn't behind the worst. Once twice as many as `room` are kept, the first `room` alone
@@ -160,6 +191,28 @@ fn is_beaten(s: &Scored, worst: &Option<Scored>) -> bool
         Some(worst) => !s.cmp(worst).is_lt(),
         None => false,
     }
+}
+
+// Whether each of some entries may be let go.
+#[inline]
+fn are_beaten(span: &[Scored], worst: &Option<Scored>) -> bool
+    ensures { result ≡ true → All (λ s. is_behind s worst.now ≡ true) span.now }
+{
+    match worst {
+        Some(worst) => are_behind(span, *worst),
+        None => false,
+    }
+}
+
+// Whether each of some entries comes behind this one, or is it. Each is looked at, without a jump, so that many are at once.
+fn are_behind(span: &[Scored], worst: Scored) -> bool
+    ensures { result ≡ true → All (λ s. is_behind s (Some worst) ≡ true) span.now }
+{
+    let mut behind = true;
+    for s in span {
+        behind &= (s.score < worst.score) | ((s.score == worst.score) & (worst.doc <= s.doc));
+    }
+    behind
 }
 
 // Keeps the first `room` alone, in order, and answers the last of them where they are so many.
