@@ -5,12 +5,13 @@
 --   counted_nothing      the marks of no rows
 --   one_counted          the marks behind one row of one of the words
 --   row_counted, row_passed, row_where     behind one row
+--   one_where            the same where the mark of the word stands apart
 --   pieces_counted       behind one piece and another
 --   rows_counted         behind one row more
 --   piece_counted, row_seen     what is counted behind a piece more, and behind one row
 --   words_counted        the words that are collected are those of the rows
 --   first_below          the first words of a table are among those counted
-use Rattle.std.proofs.Common.{◌≡◌, ◌≢◌, ℕ, zero, suc, ◌+◌, ◌-◌, ◌<◌, ◌≤◌, ◌&&◌, ◌||◌, Bool, true, false, List, [], ◌∷◌, ◌++◌, cond, map, length, take, take_all, drop, replicate, get_or, set, ◌==◌, nat_lt, nat_le, refl, sym, ◌∙◌, ap, ap₂, subst, arith, append_assoc, append-nil, get_or-set_other}
+use Rattle.std.proofs.Common.{◌≡◌, ◌≢◌, ℕ, zero, suc, ◌+◌, ◌-◌, ◌<◌, ◌≤◌, ◌&&◌, ◌||◌, Bool, true, false, List, [], ◌∷◌, ◌++◌, cond, map, length, take, take_all, drop, replicate, get_or, set, ◌==◌, nat_lt, nat_le, refl, sym, ◌∙◌, ap, ap₂, subst, arith, append_assoc, append-nil, get_or-set_other, length-set}
 use Rattle.std.specs.Prelude.{All, slice_index_or}
 use Rattle.std.specs.List.{AllByRecursion, list_any}
 use Rattle.std.specs.Ordering.{eq_by_cmp, is_eq}
@@ -19,7 +20,7 @@ use Rattle.std.specs.Cmp.{IsTotalOrder, Equal-is, tied_itself}
 use Rattle.std.specs.FinMap.{IsAntisymmetric}
 use Rattle.std.proofs.lemmas.Bool.{and_from, and_parts, le-leb, leb-true, lt-ltb, ltb-true, or_left, or_right, eqb-true, eq-eqb, ne_eqb}
 use Rattle.std.proofs.lemmas.Grind.{get_or-set_at}
-use Rattle.std.proofs.lemmas.List.{length-map, take_more, take-append-le, drop_all, get_or_default, get_or-replicate}
+use Rattle.std.proofs.lemmas.List.{get_or-set_same, length-map, set-set, take_more, take-append-le, drop_all, get_or_default, get_or-replicate}
 use Rattle.std.proofs.lemmas.List.Elements.{All-nil, All-cons, All-append, All-from_recursion, All-take, All-drop, All-map, recursion_from_All, filter-append}
 use Rattle.cs_base.specs.content.Members.{members_in}
 use Rattle.cs_base.specs.content.Orders.{AreSorted, by_place, by_rank}
@@ -182,6 +183,16 @@ module _ (low high : ℕ) (listed : List Bool) where
   at_field f [] i d lt = absurd (omega (arith, lt))
   at_field f (p ∷ rows) zero d lt = refl
   at_field f (p ∷ rows) (suc i) d lt = at_field f rows i d (omega (arith, lt))
+
+  -- a row of one of the words, whose mark is written later
+  pub one_where : (marks : List Mark) (doc word : ℕ) (m now : Mark) → low + length marks ≡ high → low ≤ word → word < high
+      → (m.docs < NO_DOC → now ≡ cond (slice_index_or listed doc false) (saw m doc) m)
+      → (p : Post) → doc ≡ p.doc → word ≡ p.word → Counts low high listed (p ∷ []) (set marks (word - low) m) (set marks (word - low) now)
+  one_where marks doc word m now sized from upto saws p d w =
+      let held : get_or (set marks (word - low) m) (word - low) unread ≡ m = get_or-set_same marks (word - low) m unread (omega (arith, sized, from, upto)) in
+      subst (λ ms. Counts low high listed (p ∷ []) (set marks (word - low) m) ms) (set-set marks (word - low) m now)
+      (row_where (set marks (word - low) m) doc word now (ap (λ n. low + n) (length-set marks (word - low) m) ∙ sized) from upto
+      (subst (λ (x : Mark). x.docs < NO_DOC → now ≡ cond (slice_index_or listed doc false) (saw x doc) x) (sym held) saws) p d w)
 
   pub rows_counted : (rows : List Post) (docs words : List ℕ) (i : ℕ) (m0 m1 m2 : List Mark) → docs ≡ map (λ p. p.doc) rows → words ≡ map (λ p. p.word) rows → i < length docs
       → Counts low high listed (take i rows) m0 m1 → ((p : Post) → get_or docs i 0 ≡ p.doc → get_or words i 0 ≡ p.word → Counts low high listed (p ∷ []) m1 m2) → Counts low high listed (take (i + 1) rows) m0 m2

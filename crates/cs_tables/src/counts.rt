@@ -40,14 +40,14 @@ impl Mark {
         }
     }
 
-    /// The same where the row counts, and nothing where it doesn't, without a jump.
+    /// The same where the row counts, and nothing where it doesn't, without a jump. The last document needs no look at the one before.
     #[inline]
     pub(crate) fn see_where(&mut self, doc: u32, counts: bool)
         ensures { self.old.docs < 2 ^ 32 - 1 → self.new ≡ (if counts then saw self.old doc else self.old) }
     {
         let is_next = counts & (self.last != doc);
         self.docs = self.docs.wrapping_add(u32::from(is_next));
-        self.last = if is_next { doc } else { self.last };
+        self.last = if counts { doc } else { self.last };
     }
 }
 

@@ -1,5 +1,5 @@
 //! Counting the documents of words over rows that come in pieces.
-ghost use Rattle.std.specs.Prelude.{◌≡◌, ◌+◌, ◌++◌, ◌<◌, ◌≤◌, [], ◌∷◌, true, false, Bool, List, map, length, take, slice_index_or, IfOk, All};
+ghost use Rattle.std.specs.Prelude.{◌≡◌, ◌+◌, ◌++◌, ◌<◌, ◌≤◌, [], ◌∷◌, true, false, Bool, List, map, length, take, slice_index, slice_index_or, IfOk, All};
 ghost use Rattle.cs_base.specs.declared.content.doc.Post.{Post};
 ghost use Rattle.cs_base.specs.declared.content.limits.TheConstants.{MAX_DOCS, MAX_WORDS};
 ghost use Rattle.cs_tables.specs.TableListings.{post_table};
@@ -212,6 +212,59 @@ fn see_mixed(low: u32, high: u32, marks: &mut [Mark], docs: &[u32], words: &[u32
 
 // Counts rows, all of the words from `low` up to `high`, in the marks of these words.
 fn see_own(low: u32, high: u32, marks: &mut [Mark], docs: &[u32], words: &[u32], listed: &[bool])
+    requires sized { low + length marks.old ≡ high }
+    requires even { length words.now ≡ length docs.now }
+    requires known { All (λ d. d < length listed.now) docs.now }
+    requires own { All (λ w. (low ≤ w) × (w < high)) words.now }
+
+    ensures counted { (rows : List Post) → docs.now ≡ map (λ p. p.doc) rows → words.now ≡ map (λ p. p.word) rows → Counts low high listed.now rows marks.old marks.new }
+    ensures sized { length marks.new ≡ length marks.old }
+{
+    if is_one_word(words) {
+        see_one(low, high, marks, docs, words, listed);
+    } else {
+        see_each(low, high, marks, docs, words, listed);
+    }
+}
+
+// Whether there are words and all are the same. Each is looked at, without a jump, where the first and the last are alike.
+fn is_one_word(words: &[u32]) -> bool
+    ensures some { result ≡ true → 0 < length words.now }
+    ensures one { result ≡ true → All (λ w. w ≡ slice_index words.now 0) words.now }
+{
+    if words.is_empty() || words[0] != words[words.len() - 1] {
+        return false;
+    }
+    let first = words[0];
+    let mut all = true;
+    for word in words {
+        all &= *word == first;
+    }
+    all
+}
+
+// Counts rows, all of one of the words, in its mark, which is read and written once.
+fn see_one(low: u32, high: u32, marks: &mut [Mark], docs: &[u32], words: &[u32], listed: &[bool])
+    requires sized { low + length marks.old ≡ high }
+    requires even { length words.now ≡ length docs.now }
+    requires known { All (λ d. d < length listed.now) docs.now }
+    requires own { All (λ w. (low ≤ w) × (w < high)) words.now }
+    requires some { 0 < length words.now }
+    requires one { All (λ w. w ≡ slice_index words.now 0) words.now }
+
+    ensures counted { (rows : List Post) → docs.now ≡ map (λ p. p.doc) rows → words.now ≡ map (λ p. p.word) rows → Counts low high listed.now rows marks.old marks.new }
+    ensures sized { length marks.new ≡ length marks.old }
+{
+    let at = (words[0] - low) as usize;
+    let mut mark = marks[at];
+    for doc in docs {
+        mark.see_where(*doc, listed[*doc as usize]);
+    }
+    marks[at] = mark;
+}
+
+// Counts rows, each in the mark of its word.
+fn see_each(low: u32, high: u32, marks: &mut [Mark], docs: &[u32], words: &[u32], listed: &[bool])
     requires sized { low + length marks.old ≡ high }
     requires even { length words.now ≡ length docs.now }
     requires known { All (λ d. d < length listed.now) docs.now }

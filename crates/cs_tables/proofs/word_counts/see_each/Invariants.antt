@@ -1,7 +1,7 @@
 use Rattle.std.proofs.Common.{◌≡◌, List, map, take, length}
 use Rattle.cs_base.specs.declared.content.doc.Post.{Post}
 use Rattle.cs_tables.specs.WordCounts.{Counts}
-use Rattle.cs_tables.proofs.word_counts.see_own.Given as goal
+use Rattle.cs_tables.proofs.word_counts.see_each.Given as goal
 
 abbrev pub invariant-loop-i : goal.invariant-loop-i
 invariant-loop-i l = record {

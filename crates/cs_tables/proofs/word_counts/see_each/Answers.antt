@@ -3,7 +3,7 @@ use Rattle.std.proofs.lemmas.List.{length-map}
 use Rattle.cs_base.specs.declared.content.doc.Post.{Post}
 use Rattle.cs_tables.specs.WordCounts.{Counts}
 use Rattle.cs_tables.proofs.WordCountsLemmas.{row_where, rows_counted}
-use Rattle.cs_tables.proofs.word_counts.see_own.Goals as goal
+use Rattle.cs_tables.proofs.word_counts.see_each.Goals as goal
 
 pub loop-i-preserved : goal.loop-i-preserved
 loop-i-preserved c =
