@@ -1,5 +1,5 @@
 //! Rows by their documents, and documents by their rows.
-ghost use Rattle.std.specs.Prelude.{◌≡◌, ℕ, true, false, nat_eq, List, slice_index, slice_index_or, ◌==◌, ◌+◌, ◌-◌, ◌^◌, ◌≤◌, ◌<◌, [], ◌∷◌, ◌++◌, length, if◌then◌else◌, IfOk};
+ghost use Rattle.std.specs.Prelude.{◌≡◌, ℕ, true, false, nat_eq, List, slice_index, slice_index_or, ◌==◌, ◌+◌, ◌-◌, ◌*◌, ◌^◌, ◌≤◌, ◌<◌, [], ◌∷◌, ◌++◌, length, if◌then◌else◌, IfOk};
 ghost use Rattle.std.specs.List.{dedup_from, list_any};
 ghost use Rattle.std.specs.List.Sorted.{IsNonDecreasing};
 ghost use Rattle.std.specs.Vec.{vec_len, vec_capacity};
@@ -18,6 +18,9 @@ const NEAR_DOCS: usize = 4;
 
 // The first step behind those that are near.
 const FIRST_LEAP: usize = 2 * NEAR_DOCS;
+
+// So few documents are counted in place of being searched.
+const FEW_DOCS: usize = 16;
 
 /// The rows whose document is one of `docs`.
 pub fn keep_docs(alloc: Global, rows: &Cols, docs: &[u32]) -> Result<Cols, Memory>
@@ -143,7 +146,7 @@ fn near_below(docs: &[u32], from: usize, doc: u32) -> usize
         + usize::from(docs[from + 2] < doc)
 }
 
-// The first place from `from` on whose document isn't less than `doc`, by doubling and then halving.
+// The first place from `from` on whose document isn't less than `doc`, by doubling and then searching the last step.
 fn leap_docs(docs: &[u32], from: usize, doc: u32) -> usize
     requires sorted { IsNonDecreasing docs.now }
     requires within { from ≤ length docs.now }
@@ -175,7 +178,9 @@ fn reaches_below(docs: &[u32], from: usize, step: usize, doc: u32) -> bool
     step <= docs.len() - from && docs[from + (step - 1)] < doc
 }
 
-// The first place from `from` on whose document isn't less than `doc`, at most `end`, by halving.
+// The first place from `from` on whose document isn't less than `doc`, at most `end`. Each step leaves about a quarter, by three looks that
+// don't wait for one another, and the last few documents are counted: no step has a branch, since nothing tells beforehand which way one
+// would go.
 fn search_docs(docs: &[u32], from: usize, end: usize, doc: u32) -> usize
     requires sorted { IsNonDecreasing docs.now }
     requires order { from ≤ end }
@@ -186,16 +191,60 @@ fn search_docs(docs: &[u32], from: usize, end: usize, doc: u32) -> usize
     ensures { SplitsDocs docs.now result doc }
 {
     let mut lo = from;
-    let mut hi = end;
-    while lo < hi {
-        let middle = lo + (hi - lo) / 2;
-        if docs[middle] < doc {
-            lo = middle + 1;
-        } else {
-            hi = middle;
-        }
+    let mut left = end - from;
+    while left > FEW_DOCS {
+        let quarter = left / 4;
+        lo = skip_quarters(docs, lo, quarter, doc);
+        left -= 3 * quarter;
     }
-    lo
+    search_few(docs, lo, lo + left, doc)
+}
+
+// Goes from `lo` over as many quarters, three at most, as have their last document below `doc`.
+#[inline]
+fn skip_quarters(docs: &[u32], lo: usize, quarter: usize, doc: u32) -> usize
+    requires sorted { IsNonDecreasing docs.now }
+    requires some { 1 ≤ quarter }
+    requires within { lo + 3 * quarter ≤ length docs.now }
+    requires below { AllBelow docs.now lo doc }
+
+    ensures onward { lo ≤ result }
+    ensures within { result ≤ lo + 3 * quarter }
+    ensures below { AllBelow docs.now result doc }
+    ensures stop { result < lo + 3 * quarter → doc ≤ slice_index docs.now (result + (quarter - 1)) }
+{
+    let first = lo + (quarter - 1);
+    let second = first + quarter;
+    let third = second + quarter;
+    lo + step_where(docs[first] < doc, quarter)
+        + step_where(docs[second] < doc, quarter)
+        + step_where(docs[third] < doc, quarter)
+}
+
+// The step where the test held, else nothing.
+#[inline]
+fn step_where(holds: bool, step: usize) -> usize
+    ensures { result ≡ (if holds then step else 0) }
+{
+    if holds { step } else { 0 }
+}
+
+// The first place from `from` on whose document isn't less than `doc`, at most `end`, by counting those that are less.
+#[inline]
+fn search_few(docs: &[u32], from: usize, end: usize, doc: u32) -> usize
+    requires sorted { IsNonDecreasing docs.now }
+    requires order { from ≤ end }
+    requires within { end ≤ length docs.now }
+    requires below { AllBelow docs.now from doc }
+    requires stop { end < length docs.now → doc ≤ slice_index docs.now end }
+
+    ensures { SplitsDocs docs.now result doc }
+{
+    let mut place = from;
+    for i in from..end {
+        place += usize::from(docs[i] < doc);
+    }
+    place
 }
 
 // The first row from `from` on whose document may be listed at `i` or behind.
