@@ -8,11 +8,12 @@
 --   is_of_listed listed p          the document of a row is listed
 --   ArePlacesOfListed listed rows d from to places     the places of the rows in listed documents, from one place up to another
 --   IsListedAt listed docs i       the document that stands there is listed
+--   AreOfOne low high words        there are words, all of them are the same, and that is one of these
 --   AreCountable rows              the rows of each word are in order, and their documents are few
 --   HasWordMarks low rows marks    the marks of the words from low on are those after these rows
 --   Counts low high listed rows old new     the marks after these rows more, whatever rows came before
 --   HasCounted rows t              what is counted after these rows, all of words that are counted
-use Rattle.std.specs.Prelude.{◌≡◌, ℕ, ◌+◌, ◌<◌, ◌≤◌, ◌&&◌, Bool, true, false, nat_le, nat_lt, List, ◌++◌, drop, filter, length, map, slice_index_or}
+use Rattle.std.specs.Prelude.{◌≡◌, ℕ, ◌+◌, ◌<◌, ◌≤◌, ◌&&◌, Bool, true, false, nat_le, nat_lt, List, ◌++◌, drop, filter, length, map, slice_index, slice_index_or}
 use Rattle.std.specs.List.{All}
 use Rattle.cs_base.specs.content.Orders.{AreSorted}
 use Rattle.cs_base.specs.declared.content.doc.Post.{Post}
@@ -46,6 +47,13 @@ ArePlacesOfListed listed rows d from to places = map (λ i. slice_index_or rows 
 -- a place behind the last document isn't one
 abbrev pub IsListedAt : List Bool → List ℕ → ℕ → Type 0
 IsListedAt listed docs i = (i < length docs) × (slice_index_or listed (slice_index_or docs i 0) false ≡ true)
+
+-- no words aren't of one
+pub record AreOfOne (low high : ℕ) (words : List ℕ) : Type 0 where
+  pub some : 0 < length words
+  pub same : All (λ w. w ≡ slice_index words 0) words
+  pub from : low ≤ slice_index words 0
+  pub upto : slice_index words 0 < high
 
 -- rows of different words may come in any order; no rows are countable
 pub record AreCountable (rows : List Post) : Type 0 where

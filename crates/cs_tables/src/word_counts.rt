@@ -3,7 +3,7 @@ ghost use Rattle.std.specs.Prelude.{◌≡◌, ◌+◌, ◌++◌, ◌<◌, ◌�
 ghost use Rattle.cs_base.specs.declared.content.doc.Post.{Post};
 ghost use Rattle.cs_base.specs.declared.content.limits.TheConstants.{MAX_DOCS, MAX_WORDS};
 ghost use Rattle.cs_tables.specs.TableListings.{post_table};
-ghost use Rattle.cs_tables.specs.WordCounts.{ArePlacesOfListed, AreCountable, Counts, HasCounted, IsListedAt, chosen};
+ghost use Rattle.cs_tables.specs.WordCounts.{AreOfOne, ArePlacesOfListed, AreCountable, Counts, HasCounted, IsListedAt, chosen};
 
 use crate::counts::{BLANK, Mark, collect};
 use crate::tables::{Table, completions_of};
@@ -117,12 +117,13 @@ fn see_rows(low: u32, high: u32, marks: &mut [Mark], docs: &[u32], words: &[u32]
     ensures counted { (rows : List Post) → docs.now ≡ map (λ p. p.doc) rows → words.now ≡ map (λ p. p.word) rows → Counts low high listed.now rows marks.old marks.new }
     ensures sized { length marks.new ≡ length marks.old }
 {
+    let one = are_of_one(words, low, high);
     let mut places = [0usize; SPAN];
     let mut from = 0;
     while from < docs.len() {
         let to = from + SPAN.min(docs.len() - from);
         let found = find_listed(docs, from, to, listed, &mut places);
-        see_places(low, high, marks, docs, words, listed, &places[..found]);
+        see_found(one, low, high, marks, docs, words, listed, &places[..found]);
         from = to;
     }
 }
@@ -148,7 +149,59 @@ fn find_listed(docs: &[u32], from: usize, to: usize, listed: &[bool], places: &m
     found
 }
 
-// Counts the rows at these places, all of them in listed documents.
+// Counts the rows at these places, all of them in listed documents: in one mark where all words are the same.
+fn see_found(
+    one: bool,
+    low: u32,
+    high: u32,
+    marks: &mut [Mark],
+    docs: &[u32],
+    words: &[u32],
+    listed: &[bool],
+    places: &[usize],
+)
+    requires one { one ≡ true → AreOfOne low high words.now }
+    requires sized { low + length marks.old ≡ high }
+    requires even { length words.now ≡ length docs.now }
+    requires known { All (IsListedAt listed.now docs.now) places.now }
+
+    ensures counted { (rows : List Post) → docs.now ≡ map (λ p. p.doc) rows → words.now ≡ map (λ p. p.word) rows → (d : Post) → Counts low high listed.now (map (λ i. slice_index_or rows i d) places.now) marks.old marks.new }
+    ensures sized { length marks.new ≡ length marks.old }
+{
+    if one {
+        see_one_at(low, high, marks, docs, words, listed, places);
+    } else {
+        see_places(low, high, marks, docs, words, listed, places);
+    }
+}
+
+// Counts the rows at these places, all of them in listed documents and of one word, in its mark, which is read and written once.
+fn see_one_at(
+    low: u32,
+    high: u32,
+    marks: &mut [Mark],
+    docs: &[u32],
+    words: &[u32],
+    listed: &[bool],
+    places: &[usize],
+)
+    requires one { AreOfOne low high words.now }
+    requires sized { low + length marks.old ≡ high }
+    requires even { length words.now ≡ length docs.now }
+    requires known { All (IsListedAt listed.now docs.now) places.now }
+
+    ensures counted { (rows : List Post) → docs.now ≡ map (λ p. p.doc) rows → words.now ≡ map (λ p. p.word) rows → (d : Post) → Counts low high listed.now (map (λ i. slice_index_or rows i d) places.now) marks.old marks.new }
+    ensures sized { length marks.new ≡ length marks.old }
+{
+    let at = (words[0] - low) as usize;
+    let mut mark = marks[at];
+    for place in places {
+        mark.see_where(docs[*place], true);
+    }
+    marks[at] = mark;
+}
+
+// Counts the rows at these places, all of them in listed documents, each in the mark of its word.
 fn see_places(
     low: u32,
     high: u32,
@@ -220,11 +273,18 @@ fn see_own(low: u32, high: u32, marks: &mut [Mark], docs: &[u32], words: &[u32],
     ensures counted { (rows : List Post) → docs.now ≡ map (λ p. p.doc) rows → words.now ≡ map (λ p. p.word) rows → Counts low high listed.now rows marks.old marks.new }
     ensures sized { length marks.new ≡ length marks.old }
 {
-    if is_one_word(words) {
+    if are_of_one(words, low, high) {
         see_one(low, high, marks, docs, words, listed);
     } else {
         see_each(low, high, marks, docs, words, listed);
     }
+}
+
+// Whether there are words, and all are the same, which is one from `low` up to `high`.
+fn are_of_one(words: &[u32], low: u32, high: u32) -> bool
+    ensures { result ≡ true → AreOfOne low high words.now }
+{
+    is_one_word(words) && low <= words[0] && words[0] < high
 }
 
 // Whether there are words and all are the same. Each is looked at, without a jump, where the first and the last are alike.
@@ -248,9 +308,7 @@ fn see_one(low: u32, high: u32, marks: &mut [Mark], docs: &[u32], words: &[u32],
     requires sized { low + length marks.old ≡ high }
     requires even { length words.now ≡ length docs.now }
     requires known { All (λ d. d < length listed.now) docs.now }
-    requires own { All (λ w. (low ≤ w) × (w < high)) words.now }
-    requires some { 0 < length words.now }
-    requires one { All (λ w. w ≡ slice_index words.now 0) words.now }
+    requires one { AreOfOne low high words.now }
 
     ensures counted { (rows : List Post) → docs.now ≡ map (λ p. p.doc) rows → words.now ≡ map (λ p. p.word) rows → Counts low high listed.now rows marks.old marks.new }
     ensures sized { length marks.new ≡ length marks.old }

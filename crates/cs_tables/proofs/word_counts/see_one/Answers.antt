@@ -15,11 +15,10 @@ loop-doc-preserved c =
     let marks = c.args.marks.now in
     let i = c.loop-doc.doc-index in
     let word = get_or words 0 0 in
-    let own = c.requires.own 0 0 c.requires.some in
-    let same : get_or words i 0 ≡ word = c.requires.one i 0 (omega (arith, c.requires.even, c.loop-doc-test.true)) in
+    let same : get_or words i 0 ≡ word = c.requires.one.same i 0 (omega (arith, c.requires.even, c.loop-doc-test.true)) in
     λ rows d w.
     rows_counted low high listed rows docs words i marks (set marks (word - low) c.loop-doc.mark) (set marks (word - low) c.see_where.new.self) d w c.loop-doc-test.true (c.loop-doc.invariant rows d w)
-    (λ p of_doc of_word. one_where low high listed marks (get_or docs i 0) word c.loop-doc.mark c.see_where.new.self c.requires.sized own.0 own.1 c.see_where.ensures p of_doc (sym same ∙ of_word))
+    (λ p of_doc of_word. one_where low high listed marks (get_or docs i 0) word c.loop-doc.mark c.see_where.new.self c.requires.sized c.requires.one.from c.requires.one.upto c.see_where.ensures p of_doc (sym same ∙ of_word))
 
 pub returns-clause-counted : goal.returns-clause-counted
 returns-clause-counted c = λ rows d w.

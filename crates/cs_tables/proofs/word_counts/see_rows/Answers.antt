@@ -13,9 +13,9 @@ loop-from-preserved c =
     let places = take c.find_listed-found.result c.find_listed-found.new.places in
     record {
       counted = λ rows d w.
-          counted_on c.args.low c.args.high c.args.listed.now rows none from (from + c.min.result) places c.args.marks.now c.loop-from.marks c.see_places.new.marks
-          (c.find_listed-found.ensures.found rows d none) (c.see_places.ensures.counted rows d w none) (inv.counted rows d w);
-      sized = c.see_places.ensures.sized ∙ inv.sized;
+          counted_on c.args.low c.args.high c.args.listed.now rows none from (from + c.min.result) places c.args.marks.now c.loop-from.marks c.see_found.new.marks
+          (c.find_listed-found.ensures.found rows d none) (c.see_found.ensures.counted rows d w none) (inv.counted rows d w);
+      sized = c.see_found.ensures.sized ∙ inv.sized;
       within = omega (arith, c.min.ensures, c.loop-from-test.true);
     }
 
