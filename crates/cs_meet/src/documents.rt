@@ -1,5 +1,5 @@
 //! Rows by their documents, and documents by their rows.
-ghost use Rattle.std.specs.Prelude.{◌≡◌, ℕ, true, false, nat_eq, List, slice_index, slice_index_or, ◌==◌, ◌+◌, ◌-◌, ◌*◌, ◌^◌, ◌≤◌, ◌<◌, [], ◌∷◌, ◌++◌, length, if◌then◌else◌, IfOk};
+ghost use Rattle.std.specs.Prelude.{◌≡◌, ℕ, true, false, nat_eq, List, slice_index, slice_index_or, ◌==◌, ◌+◌, ◌-◌, ◌*◌, ◌^◌, ◌≤◌, ◌<◌, [], ◌∷◌, ◌++◌, length, take, if◌then◌else◌, IfOk};
 ghost use Rattle.std.specs.List.{dedup_from, list_any};
 ghost use Rattle.std.specs.List.Sorted.{IsNonDecreasing};
 ghost use Rattle.std.specs.Vec.{vec_len, vec_capacity};
@@ -51,32 +51,33 @@ pub fn docs_of(alloc: Global, rows: &Cols) -> Result<Vec<u32>, Memory>
     ensures sorted { IfOk result (λ docs. AreDocs docs.items) }
 {
     let all = rows.docs();
-    let mut docs = Vec::with_capacity(alloc, all.len())?;
+    let mut docs = Vec::from_slice(alloc, all)?;
     if all.is_empty() {
         return Ok(docs);
     }
-    let mut current = all[0];
+    let mut last = 0;
     for i in 1..all.len() {
-        add_unlike(&mut docs, current, all[i]);
-        current = all[i];
+        last = put_unlike(&mut docs, last, all[i - 1], all[i]);
     }
-    docs.push_reserved(current);
+    docs.truncate(last + 1);
     Ok(docs)
 }
 
-// Adds the current document at the end, in the room that there is, and takes it back where the next one is the same. It has no
-// branch, since nothing tells beforehand whether it is.
+// Puts the next document behind the current one, which stands at `last`, or in its place where the two are the same. It has no branch,
+// since nothing tells beforehand whether they are.
 #[inline]
-fn add_unlike(docs: &mut Vec<u32>, current: u32, next: u32)
-    requires { vec_len docs.old < vec_capacity docs.old }
+fn put_unlike(docs: &mut Vec<u32>, last: usize, current: u32, next: u32) -> usize
+    requires room { last + 1 < length docs.old.items }
+    requires current { slice_index docs.old.items last ≡ current }
 
-    ensures items { (rest : List ℕ) → docs.new.items ++ dedup_from nat_eq next rest ≡ docs.old.items ++ dedup_from nat_eq current (next ∷ rest) }
-    ensures len { vec_len docs.new ≤ vec_len docs.old + 1 }
-    ensures capacity { vec_capacity docs.new ≡ vec_capacity docs.old }
+    ensures items { (rest : List ℕ) → take result docs.new.items ++ dedup_from nat_eq next rest ≡ take last docs.old.items ++ dedup_from nat_eq current (next ∷ rest) }
+    ensures next { slice_index docs.new.items result ≡ next }
+    ensures near { result ≤ last + 1 }
+    ensures len { length docs.new.items ≡ length docs.old.items }
 {
-    docs.push_reserved(current);
-    let kept = docs.len() - usize::from(next == current);
-    docs.truncate(kept);
+    let place = last + usize::from(next != current);
+    docs[place] = next;
+    place
 }
 
 /// Those of `base` whose document has none of the rows.
