@@ -4,3 +4,4 @@ pub mod KeptLemmas
 pub mod Lookups
 pub mod ScorePlaces
 pub mod Puts
+pub mod Absorbs

@@ -1,17 +1,20 @@
 //! The scores of documents.
-ghost use Rattle.std.specs.Prelude.{◌≡◌, ◌+◌, ◌≤◌, ◌<◌, ◌^◌, List, ◌∷◌, ◌++◌, if◌then◌else◌, max, map, length, IfOk, All, slice_index_or};
+ghost use Rattle.std.specs.Prelude.{◌≡◌, ◌+◌, ◌≤◌, ◌<◌, ◌^◌, List, ◌∷◌, ◌++◌, map, length, take, IfOk, All, slice_index_or};
 ghost use Rattle.std.specs.Vec.{vec_len, vec_capacity};
 ghost use Rattle.cs_base.specs.content.Orders.{docs_of, AreSorted, AreByDoc};
 ghost use Rattle.cs_base.specs.declared.content.doc.Scored.{Scored};
 ghost use Rattle.cs_base.specs.declared.content.doc.Base.TheVariants.{Listed};
 ghost use Rattle.cs_base.specs.content.Bases.{base_score};
 ghost use Rattle.cs_base.specs.declared.content.scores.TheConstants.{MAX_ROW_SCORE};
-ghost use Rattle.cs_rank.specs.Groups.{group};
+ghost use Rattle.cs_rank.specs.Groups.{group, joined};
 ghost use Rattle.cs_rank.specs.DocScores.{best_row, with_base, scores, IsBase, PassedBelow};
 
 use cs_base::{Base, Memory, Scored, Seq};
 use cs_cols::Cols;
 use std::alloc::Global;
+
+// What stands at a place before a document is put there.
+const NOTHING: Scored = Scored { doc: 0, score: 0 };
 
 /// Each document of the rows, ascending, with its score: what the base gave it and the greatest score of its
 /// rows. A document that the base doesn't list counts there as 0.
@@ -40,17 +43,29 @@ fn best_scores(alloc: Global, rows: &Cols) -> Result<Vec<Scored>, Memory>
 {
     let docs = rows.docs();
     let scores = rows.scores();
-    let mut best = Vec::with_capacity(alloc, docs.len())?;
     if docs.is_empty() {
-        return Ok(best);
+        return Ok(Vec::new(alloc));
     }
+    let mut best = room_for(alloc, docs.len())?;
     let mut current = scored_at(docs, scores, 0);
+    best[0] = current;
+    let mut last = 0;
     for i in 1..docs.len() {
         let next = scored_at(docs, scores, i);
-        current = absorb(&mut best, current, next);
+        last = absorb(&mut best, last, current, next);
+        current = joined(current, next);
     }
-    best.push_reserved(current);
+    best.truncate(last + 1);
     Ok(best)
+}
+
+// A list for so many documents.
+fn room_for(alloc: Global, many: usize) -> Result<Vec<Scored>, Memory>
+    ensures len { IfOk result (λ v. length v.items ≡ many) }
+    ensures small { IfOk result (λ v. All (λ h. h.score ≤ MAX_ROW_SCORE) v.items) }
+{
+    let room = vec![in alloc; NOTHING; many]?;
+    Ok(room)
 }
 
 #[inline]
@@ -68,35 +83,39 @@ fn scored_at(docs: &[u32], scores: &[u8], i: usize) -> Scored
     }
 }
 
-// One more row: of the current document, or of the next, and then the current one is done. The current one is put down in the room that
-// there is, and taken back where the row is of the same document: there is no branch, since nothing tells beforehand whether it is.
+// One more row: of the current document, which stands at `last`, or of the next, and then the current one is done. It is put in the place
+// of the current one, or behind it, without a branch, since nothing tells beforehand which.
 #[inline]
-fn absorb(best: &mut Vec<Scored>, current: Scored, next: Scored) -> Scored
-    requires room { vec_len best.old < vec_capacity best.old }
+fn absorb(best: &mut Vec<Scored>, last: usize, current: Scored, next: Scored) -> usize
+    requires room { last + 1 < length best.old.items }
+    requires held { (d : Scored) → slice_index_or best.old.items last d ≡ current }
 
     // a row's score is at most the greatest u8
     requires current { current.score ≤ MAX_ROW_SCORE }
     requires next { next.score ≤ MAX_ROW_SCORE }
 
-    ensures groups { (rest : List Scored) → best.new.items ++ group result rest ≡ best.old.items ++ group current (next ∷ rest) }
-    ensures now { result.score ≤ MAX_ROW_SCORE }
+    ensures groups { (rest : List Scored) → take result best.new.items ++ group (joined current next) rest ≡ take last best.old.items ++ group current (next ∷ rest) }
+    ensures held { (d : Scored) → slice_index_or best.new.items result d ≡ joined current next }
     ensures small { All (λ h. h.score ≤ MAX_ROW_SCORE) best.old.items → All (λ h. h.score ≤ MAX_ROW_SCORE) best.new.items }
-    ensures len { vec_len best.new ≤ vec_len best.old + 1 }
-    ensures capacity { vec_capacity best.new ≡ vec_capacity best.old }
+    ensures near { result ≤ last + 1 }
+    ensures len { length best.new.items ≡ length best.old.items }
 {
-    let same = next.doc == current.doc;
-    best.push_reserved(current);
-    let done = best.len() - usize::from(same);
-    best.truncate(done);
-    joined(current, next, same)
+    let place = last + usize::from(next.doc != current.doc);
+    best[place] = joined(current, next);
+    place
 }
 
 // The next one, with the greater score of the two where they are of the same document.
 #[inline]
-fn joined(current: Scored, next: Scored, same: bool) -> Scored
-    ensures { result ≡ (if same then record { doc = next.doc; score = max current.score next.score } else next) }
+fn joined(current: Scored, next: Scored) -> Scored
+    requires current { current.score ≤ MAX_ROW_SCORE }
+    requires next { next.score ≤ MAX_ROW_SCORE }
+
+    ensures value { result ≡ joined current next }
+    ensures small { result.score ≤ MAX_ROW_SCORE }
 {
     let greater = current.score.max(next.score);
+    let same = next.doc == current.doc;
     Scored {
         doc: next.doc,
         score: if same { greater } else { next.score },
