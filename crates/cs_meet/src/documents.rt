@@ -147,7 +147,9 @@ fn near_below(docs: &[u32], from: usize, doc: u32) -> usize
         + usize::from(docs[from + 2] < doc)
 }
 
-// The first place from `from` on whose document isn't less than `doc`, by doubling and then searching the last step.
+// The first place from `from` on whose document isn't less than `doc`, by doubling and then searching the last step. It is a call of its own,
+// so that the way to near documents stays short.
+#[inline(never)]
 fn leap_docs(docs: &[u32], from: usize, doc: u32) -> usize
     requires sorted { IsNonDecreasing docs.now }
     requires within { from ≤ length docs.now }
@@ -217,17 +219,24 @@ fn skip_quarters(docs: &[u32], lo: usize, quarter: usize, doc: u32) -> usize
     let first = lo + (quarter - 1);
     let second = first + quarter;
     let third = second + quarter;
-    lo + step_where(docs[first] < doc, quarter)
-        + step_where(docs[second] < doc, quarter)
-        + step_where(docs[third] < doc, quarter)
+    let below = usize::from(docs[first] < doc)
+        + usize::from(docs[second] < doc)
+        + usize::from(docs[third] < doc);
+    lo + times(quarter, below)
 }
 
-// The step where the test held, else nothing.
+// So many steps.
 #[inline]
-fn step_where(holds: bool, step: usize) -> usize
-    ensures { result ≡ (if holds then step else 0) }
+fn times(step: usize, many: usize) -> usize
+    requires few { many ≤ 3 }
+    requires small { 3 * step < 2 ^ 64 }
+
+    ensures none { many ≡ 0 → result ≡ 0 }
+    ensures one { many ≡ 1 → result ≡ step }
+    ensures two { many ≡ 2 → result ≡ step + step }
+    ensures three { many ≡ 3 → result ≡ 3 * step }
 {
-    if holds { step } else { 0 }
+    step * many
 }
 
 // The first place from `from` on whose document isn't less than `doc`, at most `end`, by counting those that are less.
