@@ -182,8 +182,7 @@ fn reaches_below(docs: &[u32], from: usize, step: usize, doc: u32) -> bool
 }
 
 // The first place from `from` on whose document isn't less than `doc`, at most `end`. Each step leaves about a quarter, by three looks that
-// don't wait for one another, and the last few documents are counted: no step has a branch, since nothing tells beforehand which way one
-// would go.
+// don't wait for one another, and the last few documents are counted without a branch.
 fn search_docs(docs: &[u32], from: usize, end: usize, doc: u32) -> usize
     requires sorted { IsNonDecreasing docs.now }
     requires order { from ≤ end }
@@ -219,24 +218,17 @@ fn skip_quarters(docs: &[u32], lo: usize, quarter: usize, doc: u32) -> usize
     let first = lo + (quarter - 1);
     let second = first + quarter;
     let third = second + quarter;
-    let below = usize::from(docs[first] < doc)
-        + usize::from(docs[second] < doc)
-        + usize::from(docs[third] < doc);
-    lo + times(quarter, below)
+    lo + step_where(docs[first] < doc, quarter)
+        + step_where(docs[second] < doc, quarter)
+        + step_where(docs[third] < doc, quarter)
 }
 
-// So many steps.
+// The step where the test held, else nothing.
 #[inline]
-fn times(step: usize, many: usize) -> usize
-    requires few { many ≤ 3 }
-    requires small { 3 * step < 2 ^ 64 }
-
-    ensures none { many ≡ 0 → result ≡ 0 }
-    ensures one { many ≡ 1 → result ≡ step }
-    ensures two { many ≡ 2 → result ≡ step + step }
-    ensures three { many ≡ 3 → result ≡ 3 * step }
+fn step_where(holds: bool, step: usize) -> usize
+    ensures { result ≡ (if holds then step else 0) }
 {
-    step * many
+    if holds { step } else { 0 }
 }
 
 // The first place from `from` on whose document isn't less than `doc`, at most `end`, by counting those that are less.
