@@ -1,15 +1,14 @@
 //! The documents of rows, from the gap column: all at once where each of their codes has one byte, else some rows at a time, in a
-//! loop without a jump where each of theirs has one byte, or one or two. Where codes of two bytes are many, more rows are read at
-//! a time.
+//! loop without a jump where each of theirs has one byte, or one or two.
 ghost use Rattle.std.specs.Prelude.{◌≡◌, ℕ, ◌+◌, ◌*◌, ◌^◌, ◌<◌, ◌≤◌, ◌&&◌, ◌||◌, true, nat_lt, length, IfSome, slice_index_or};
 ghost use Rattle.cs_block.specs.RowRuns.{HasDocs};
-ghost use Rattle.cs_block.specs.declared.run_docs.TheConstants.{STEP, LONG_STEPS, STRETCH};
+ghost use Rattle.cs_block.specs.declared.run_docs.TheConstants.{STEP};
 
 use crate::columns::doc_here;
 use cs_base::MAX_ROWS;
 
 // Behind a document below this one, the sums of as many rows as a collection has stay below 2^32 where their codes have one byte,
-// and those of `STRETCH` rows where they have one byte or two.
+// and those of `STEP` rows where they have one byte or two.
 const FAR: u32 = 1 << 31;
 
 // Where not all rows have codes of one byte, so many at a time are looked at together: few enough that most of these have.
@@ -18,7 +17,7 @@ const STEP: usize = 16;
 // Behind so many groups of `STEP` rows in a row that have a longer code each, the next ones are taken to have one too.
 const LONG_STEPS: usize = 3;
 
-// So many rows are a stretch. What is taken of groups holds up to its end, and the next one begins with groups again.
+// Up to the end of a stretch of so many rows. The next one is looked at again.
 const STRETCH: usize = 256;
 
 /// The documents of as many rows as there is room for, and the place behind their gap codes, if the codes
@@ -31,30 +30,12 @@ pub fn docs_in(gaps: &[u8], at: usize, before: u32, docs: u32, out: &mut [u32]) 
     if are_short(gaps, at, before, out.len()) {
         return short_docs(gaps, at, before, docs, out);
     }
-    stretched_docs(gaps, at, before, docs, out)
+    stepped_docs(gaps, at, before, docs, out)
 }
 
-// The same, stretch by stretch.
-fn stretched_docs(gaps: &[u8], at: usize, before: u32, docs: u32, out: &mut [u32]) -> Option<usize>
-    requires within { at ≤ length gaps.now }
-
-    ensures { IfSome result (λ next. HasDocs gaps.now at before docs out.new next) }
-{
-    let mut next = at;
-    let mut doc = before;
-    let mut read = 0;
-    while STRETCH <= out.len() - read {
-        next = stepped_docs(gaps, next, doc, docs, &mut out[read..read + STRETCH])?;
-        read += STRETCH;
-        doc = out[read - 1];
-    }
-    stepped_docs(gaps, next, doc, docs, &mut out[read..])
-}
-
-// The same of a stretch: group by group, and the rest of it at once behind some groups in a row that have longer codes.
+// The same, some rows at a time.
 fn stepped_docs(gaps: &[u8], at: usize, before: u32, docs: u32, out: &mut [u32]) -> Option<usize>
     requires within { at ≤ length gaps.now }
-    requires few { length out.old ≤ STRETCH }
 
     ensures { IfSome result (λ next. HasDocs gaps.now at before docs out.new next) }
 {
@@ -62,34 +43,46 @@ fn stepped_docs(gaps: &[u8], at: usize, before: u32, docs: u32, out: &mut [u32])
     let mut doc = before;
     let mut i = 0;
     let mut long = 0;
-    while STEP <= out.len() - i && long < LONG_STEPS {
-        let behind = step_docs(gaps, next, doc, docs, &mut out[i..i + STEP])?;
-        long = long_steps(long, next, behind);
-        next = behind;
+    while STEP <= out.len() - i {
+        let behind = step_docs(gaps, next, doc, docs, long, &mut out[i..i + STEP])?;
         i += STEP;
+        long = long_steps(long, i, next, behind);
+        next = behind;
         doc = out[i - 1];
     }
-    step_docs(gaps, next, doc, docs, &mut out[i..])
+    step_docs(gaps, next, doc, docs, 0, &mut out[i..])
 }
 
-// How many groups in a row have a longer code, behind one whose codes stand from `at` up to `next`.
+// How many groups of a stretch are taken to have a longer code, in a row, behind one that ends `rows` rows and whose codes stand
+// from `at` up to `next`.
 #[inline]
-fn long_steps(before: usize, at: usize, next: usize) -> usize
-    requires few { before < LONG_STEPS }
-    requires room { at + STEP < 2 ^ 64 }
+fn long_steps(before: usize, rows: usize, at: usize, next: usize) -> usize
+    requires { at + STEP < 2 ^ 64 }
 {
-    if next == at + STEP { 0 } else { before + 1 }
+    let short = before < LONG_STEPS && next == at + STEP;
+    if short || rows % STRETCH == 0 {
+        0
+    } else {
+        before.saturating_add(1)
+    }
 }
 
-// The same of rows of a stretch.
+// The same of few rows, behind so many groups in a row that have a longer code.
 #[inline]
-fn step_docs(gaps: &[u8], at: usize, before: u32, docs: u32, out: &mut [u32]) -> Option<usize>
+fn step_docs(
+    gaps: &[u8],
+    at: usize,
+    before: u32,
+    docs: u32,
+    long: usize,
+    out: &mut [u32],
+) -> Option<usize>
     requires within { at ≤ length gaps.now }
-    requires few { length out.old ≤ STRETCH }
+    requires few { length out.old ≤ STEP }
 
     ensures { IfSome result (λ next. HasDocs gaps.now at before docs out.new next) }
 {
-    if are_short(gaps, at, before, out.len()) {
+    if long < LONG_STEPS && are_short(gaps, at, before, out.len()) {
         return short_docs(gaps, at, before, docs, out);
     }
     mixed_docs(gaps, at, before, docs, out)
@@ -98,7 +91,7 @@ fn step_docs(gaps: &[u8], at: usize, before: u32, docs: u32, out: &mut [u32]) ->
 // The same where a code has more than one byte.
 fn mixed_docs(gaps: &[u8], at: usize, before: u32, docs: u32, out: &mut [u32]) -> Option<usize>
     requires within { at ≤ length gaps.now }
-    requires few { length out.old ≤ STRETCH }
+    requires few { length out.old ≤ STEP }
 
     ensures { IfSome result (λ next. HasDocs gaps.now at before docs out.new next) }
 {
