@@ -14,10 +14,10 @@ const FAR: u32 = 1 << 31;
 // Where not all rows have codes of one byte, so many at a time are looked at together: few enough that most of these have.
 const STEP: usize = 16;
 
-// Behind so many groups of `STEP` rows in a row that have a longer code each, the next ones are taken to have one too.
+// Behind so many groups of `STEP` rows in a row that have a longer code each, the next ones are taken to have one too, unseen.
 const LONG_STEPS: usize = 3;
 
-// Up to the end of a stretch of so many rows. The next one is looked at again.
+// That holds to the end of a stretch of so many rows. The groups of the next one are looked at again.
 const STRETCH: usize = 256;
 
 /// The documents of as many rows as there is room for, and the place behind their gap codes, if the codes
@@ -53,8 +53,8 @@ fn stepped_docs(gaps: &[u8], at: usize, before: u32, docs: u32, out: &mut [u32])
     step_docs(gaps, next, doc, docs, 0, &mut out[i..])
 }
 
-// How many groups of a stretch are taken to have a longer code, in a row, behind one that ends `rows` rows and whose codes stand
-// from `at` up to `next`.
+// How many groups in a row have a longer code, or are taken to have one: as many as before, and one whose codes stand from `at` up
+// to `next`. Behind the last of a stretch there is none. `rows` rows are read.
 #[inline]
 fn long_steps(before: usize, rows: usize, at: usize, next: usize) -> usize
     requires { at + STEP < 2 ^ 64 }
@@ -67,7 +67,7 @@ fn long_steps(before: usize, rows: usize, at: usize, next: usize) -> usize
     }
 }
 
-// The same of few rows, behind so many groups in a row that have a longer code.
+// The same of few rows, behind `long` groups in a row that have a longer code.
 #[inline]
 fn step_docs(
     gaps: &[u8],
