@@ -2,6 +2,8 @@
 //!
 //! One connection is served after the other, so whatever one of them may take, the others may have to wait.
 
+use cs_base::MAX_CONNECTION_BYTES;
+
 /// How long a read waits for a byte. Who opens a connection is about to send; five seconds forgive a busy machine.
 pub const READ_WAIT: u64 = 5_000;
 
@@ -26,7 +28,7 @@ pub const LINGER: u64 = 2_000;
 pub const LINGER_GAP: u64 = 200;
 
 /// How many bytes are still read meanwhile: as many as a connection is answered for.
-pub const LINGER_BYTES: usize = 1 << 20;
+pub const LINGER_BYTES: usize = MAX_CONNECTION_BYTES;
 
 /// How many bytes are read at a time meanwhile.
 pub const LINGER_PIECE: usize = 16_384;

@@ -2,7 +2,8 @@
 --
 --   Each P xs i          a fact of each of the first i numbers; each_more: of one more
 --   DocsTo               what the loops over the gap column know; docs_start, docs_more, docs_all: their steps
---   docs_joined          the documents of some rows, and of the rows behind them; docs_none, docs_put, doc_behind: the steps of a loop that joins them
+--   docs_joined          the documents of some rows, and of the rows behind them; docs_none, docs_put, doc_behind: steps of it
+--   DocsUpTo             what a loop knows that fills a column some rows at a time; up_to_start, up_to_more, up_to_all: its steps
 --   short_here           a byte below 128 is a code
 --   pair_here            a code of one byte or two
 --   IsRun, is_run        a run of rows that keep the rules, from the facts of its columns
@@ -12,8 +13,8 @@ use Rattle.std.proofs.Common.{set, take, drop, Option, Some, refl, sym, ap, ap�
 use Rattle.std.specs.Int.{w16, w32, from_be_bytes}
 use Rattle.std.specs.Option.{unwrap_or}
 use Rattle.std.proofs.lemmas.Bool.{cases_eq, cases_lt, lt-ltb, le-ltb, ltb-true, and_parts, and_from, or_cases}
-use Rattle.std.proofs.lemmas.List.{get_or_append_left, get_or-append_right, length-append, length-take, get_or-set_same, get_or-set_other, drop_more}
-use Rattle.std.proofs.lemmas.List.{append-nil, take_more, take_all, get_or-take, get_or-drop}
+use Rattle.std.proofs.lemmas.List.{get_or_append_left, get_or-append_right, length-append, length-take, length-drop, get_or-set_same, get_or-set_other}
+use Rattle.std.proofs.lemmas.List.{drop_more, append-nil, take_more, take_all, get_or-take, get_or-drop}
 use Rattle.std.proofs.lemmas.Slice.{take-put_mid}
 use Rattle.cs_base.specs.index.GapCode.{code, code_in, first_code}
 use Rattle.cs_base.specs.declared.index.block.BlockHead.{BlockHead}
@@ -28,7 +29,7 @@ use Rattle.cs_block.specs.Pass.{HasPushed}
 use Rattle.cs_block.specs.RowRuns.{place_after, doc_after, HasGap, HaveDocs, HasDocs, AreWords, ArePositions, is_position, AreScores, is_score, AreOnward}
 use Rattle.cs_block.specs.RowRuns.{AreAscending, row_in}
 use Rattle.cs_block.proofs.RulePasses.{pushes_on, Tests}
-use borrow.Rule.Slice.PartMut.{put_mid}
+use borrow.Rule.Slice.PartMut.{put_mid, post_of}
 
 -- ---- a column that is filled
 
@@ -157,6 +158,61 @@ doc_behind gaps at before docs ds k len h =
     let last = (h k (omega (arith, len))).0 in
     let one : suc k ≡ length ds = omega (arith, len) in
     last.2 ∙ sym (doc_on gaps at before k last.0 (place_after gaps at (suc k)) last.1) ∙ ap (doc_after gaps at before) one
+
+-- a column whose first i rows are filled
+pub record DocsUpTo (gaps : List ℕ) (at before docs : ℕ) (out : List ℕ) (i next doc : ℕ) : Type 0 where
+  pub made : HasDocs gaps at before docs (take i out) next
+  pub doc_is : doc ≡ doc_after gaps at before i
+  pub inside : i ≤ length out
+
+pub up_to_start : (gaps : List ℕ) (at before docs : ℕ) (out : List ℕ) → at ≤ length gaps → DocsUpTo gaps at before docs out 0 at before
+unfolding doc_after
+up_to_start gaps at before docs out le = record { made = docs_none gaps at before docs le; doc_is = refl; inside = omega arith }
+
+-- n rows more
+pub up_to_more : (gaps : List ℕ) (at before docs : ℕ) (out es : List ℕ) (i n k next doc behind : ℕ) → k ≡ n → 0 < n → i + n ≤ length out
+    → length es ≡ length (take k (drop i out)) → HasDocs gaps next doc docs es behind → DocsUpTo gaps at before docs out i next doc
+    → DocsUpTo gaps at before docs (put_mid i k out es) (i + n) behind (get_or (put_mid i k out es) (i + n - 1) 0)
+up_to_more gaps at before docs out es i n k next doc behind is some room same more h =
+    let inside = h.inside in
+    let full : length es ≡ n = omega (arith, same, is, length-take k (drop i out), length-drop i out, room, inside) in
+    let now = put_mid i k out es in
+    let rest = post_of i k out in
+    let long : i + n ≤ length now = omega (arith, full, length-append (take i out) (es ++ rest), length-append es rest, length-take i out, inside) in
+    let first : take (i + length es) now ≡ take (i + n) now = ap (λ (x : ℕ). take (i + x) now) full in
+    let put = docs_put gaps at before docs out es i k next doc behind inside h.doc_is h.made more in
+    let made = subst (λ (xs : List ℕ). HasDocs gaps at before docs xs behind) first put in
+    let many : length (take (i + n) now) ≡ i + n = omega (arith, length-take (i + n) now, long) in
+    let end = i + n - 1 in
+    let last = doc_behind gaps at before docs (take (i + n) now) end (omega (arith, many, some)) made.are in
+    record {
+      made = made;
+      doc_is = sym (get_or-take (i + n) now end 0 (omega (arith, some))) ∙ last ∙ ap (doc_after gaps at before) many;
+      inside = long;
+    }
+
+-- all rows that are left
+pub up_to_all : (gaps : List ℕ) (at before docs : ℕ) (out es : List ℕ) (i k next doc behind : ℕ) → k ≡ length out - i
+    → length es ≡ length (take k (drop i out)) → DocsUpTo gaps at before docs out i next doc → HasDocs gaps next doc docs es behind
+    → HasDocs gaps at before docs (put_mid i k out es) behind
+up_to_all gaps at before docs out es i k next doc behind is same h more =
+    let inside = h.inside in
+    let now = put_mid i k out es in
+    let rest = post_of i k out in
+    let few : length now ≤ i + length es = omega (
+      arith,
+      same,
+      is,
+      inside,
+      length-append (take i out) (es ++ rest),
+      length-append es rest,
+      length-take i out,
+      length-take k (drop i out),
+      length-drop k (drop i out),
+      length-drop i out,
+    ) in
+    subst (λ (xs : List ℕ). HasDocs gaps at before docs xs behind) (take_all (i + length es) now few)
+    (docs_put gaps at before docs out es i k next doc behind inside h.doc_is h.made more)
 
 pub docs_onward : (gaps : List ℕ) (at before docs : ℕ) (ds : List ℕ) → HaveDocs gaps at before docs ds → AreOnward ds
 docs_onward gaps at before docs ds h = λ j lt.

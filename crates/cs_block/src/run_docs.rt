@@ -14,6 +14,12 @@ const FAR: u32 = 1 << 31;
 // Where not all rows have codes of one byte, so many at a time are looked at together: few enough that most of these have.
 const STEP: usize = 16;
 
+// Behind so many groups of `STEP` rows in a row that have a longer code each, the next ones are taken to have one too, unseen.
+const LONG_STEPS: usize = 3;
+
+// That holds to the end of a stretch of so many rows. The groups of the next one are looked at again.
+const STRETCH: usize = 256;
+
 /// The documents of as many rows as there is room for, and the place behind their gap codes, if the codes
 /// stand there and each document is below `docs`. `before` is the document of the row in front.
 pub fn docs_in(gaps: &[u8], at: usize, before: u32, docs: u32, out: &mut [u32]) -> Option<usize>
@@ -36,23 +42,47 @@ fn stepped_docs(gaps: &[u8], at: usize, before: u32, docs: u32, out: &mut [u32])
     let mut next = at;
     let mut doc = before;
     let mut i = 0;
+    let mut long = 0;
     while STEP <= out.len() - i {
-        next = step_docs(gaps, next, doc, docs, &mut out[i..i + STEP])?;
+        let behind = step_docs(gaps, next, doc, docs, long, &mut out[i..i + STEP])?;
         i += STEP;
+        long = long_steps(long, i, next, behind);
+        next = behind;
         doc = out[i - 1];
     }
-    step_docs(gaps, next, doc, docs, &mut out[i..])
+    step_docs(gaps, next, doc, docs, 0, &mut out[i..])
 }
 
-// The same of few rows.
+// How many groups in a row have a longer code, or are taken to have one: as many as before, and one whose codes stand from `at` up
+// to `next`. Behind the last of a stretch there is none. `rows` rows are read.
 #[inline]
-fn step_docs(gaps: &[u8], at: usize, before: u32, docs: u32, out: &mut [u32]) -> Option<usize>
+fn long_steps(before: usize, rows: usize, at: usize, next: usize) -> usize
+    requires { at + STEP < 2 ^ 64 }
+{
+    let short = before < LONG_STEPS && next == at + STEP;
+    if short || rows % STRETCH == 0 {
+        0
+    } else {
+        before.saturating_add(1)
+    }
+}
+
+// The same of few rows, behind `long` groups in a row that have a longer code.
+#[inline]
+fn step_docs(
+    gaps: &[u8],
+    at: usize,
+    before: u32,
+    docs: u32,
+    long: usize,
+    out: &mut [u32],
+) -> Option<usize>
     requires within { at ≤ length gaps.now }
     requires few { length out.old ≤ STEP }
 
     ensures { IfSome result (λ next. HasDocs gaps.now at before docs out.new next) }
 {
-    if are_short(gaps, at, before, out.len()) {
+    if long < LONG_STEPS && are_short(gaps, at, before, out.len()) {
         return short_docs(gaps, at, before, docs, out);
     }
     mixed_docs(gaps, at, before, docs, out)

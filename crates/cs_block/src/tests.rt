@@ -1,9 +1,11 @@
 //! A worked block, written and read, and the rule and the place of each damage to it.
+use crate::run_docs::docs_in;
 use crate::{
     BlockFault, Broken, decode, decode_reserved, encode, front_len, read_doc_words, read_scores,
 };
 use cs_base::BlockHead;
 use cs_cols::Cols;
+use cs_gaps::put_gap;
 use std::test::Fail;
 
 // The head of a block of three plain words, 1 to 3, with a row each in document 0.
@@ -154,5 +156,27 @@ fn a_block_is_decoded_in_the_room_that_there_is(rt: HostRuntime) -> Result<(), F
     let broken = decode_reserved(&damaged([(23, 3), (24, 0)]), &HEAD, 1, &mut rows);
     assert_eq!(rt; broken, Err(Broken { n: 16, at: 17 }));
     assert_eq!(rt; rows.len(), 3);
+    Ok(())
+}
+
+#[test]
+fn documents_are_read_whatever_bytes_their_gaps_have(rt: HostRuntime) -> Result<(), Fail> {
+    // of 600 rows so many in a row have a gap of one byte, of two or of three
+    for rows in [1, 5, 50, 200] {
+        let mut gaps = Vec::new(rt.alloc());
+        let mut wanted = Vec::new(rt.alloc());
+        let mut doc: u32 = 0;
+        for i in 0..600u32 {
+            let gap = [1, 200, 20_000][(i / rows % 3) as usize];
+            doc = doc.saturating_add(gap);
+            put_gap(&mut gaps, gap)?;
+            wanted.push(doc)?;
+        }
+        let mut docs = [0u32; 600];
+        let next = docs_in(&gaps, 0, 0, doc.saturating_add(1), &mut docs);
+        assert_eq!(rt; next, Some(gaps.len()), "{rows}");
+        assert_eq!(rt; docs.as_slice(), wanted.as_slice(), "{rows}");
+        assert_eq!(rt; docs_in(&gaps, 0, 0, doc, &mut docs), None, "{rows}");
+    }
     Ok(())
 }

@@ -4,7 +4,7 @@ ghost use Rattle.std.specs.List.{All};
 ghost use Rattle.cs_base.specs.declared.content.doc.Post.{Post};
 ghost use Rattle.cs_engine.specs.Packing.{IsOrdered, IsPacked, apart, key_of, post_of_key};
 
-use cs_base::{Memory, Post};
+use cs_base::{MAX_WORDS, Memory, Post};
 use cs_cols::Cols;
 use std::alloc::Global;
 
@@ -12,7 +12,7 @@ use std::alloc::Global;
 const POSITION_ROOM: u64 = 1 << 17;
 
 /// How many words have room in a number.
-const WORD_ROOM: u64 = 1 << 22;
+const WORD_ROOM: u64 = MAX_WORDS as u64;
 
 /// How many scores have room in a number.
 const SCORE_ROOM: u64 = 1 << 3;

@@ -64,7 +64,7 @@ fn heads(alloc: Global, words: &[Word], bytes: &[u8], count: u32) -> Result<Vec<
 // The head whose entry stands at a place.
 #[tactic(auto, using(crate::proofs::DirectoryLemmas::head_here))]
 fn head_at(words: &[Word], bytes: &[u8], at: usize) -> BlockHead
-    requires { at + 16 ≤ length bytes.now }
+    requires { at + ENTRY_BYTES ≤ length bytes.now }
 
     ensures { result ≡ head_in words.now (drop at bytes.now) }
 {

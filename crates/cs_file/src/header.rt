@@ -17,8 +17,8 @@ use cs_base::{MAX_DOCS, MAX_ROWS, MAX_WORDS, Store};
 use cs_model_index::{ENTRY_BYTES, HEADER_BYTES, MAX_TARGET, NUMBER_BYTES};
 use std::alloc::Global;
 
-// The first bytes of an index file.
-const MAGIC: [u8; 8] = *b"HYBIDX1\n";
+/// The first bytes of each index file.
+pub(crate) const MAGIC: [u8; 8] = *b"HYBIDX1\n";
 
 /// The numbers of a header that keeps the rules. Its last number is 0 then.
 #[derive(Clone, Copy, Drop)]

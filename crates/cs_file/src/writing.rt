@@ -11,6 +11,7 @@ ghost use Rattle.cs_file.specs.Putting.{HasPut};
 ghost use Rattle.cs_file.specs.Writable.{CanBeWritten, BlockFits};
 
 use crate::fault::WriteFault;
+use crate::header::MAGIC;
 use crate::image::Image;
 use crate::putting::{put_bytes, put_full, put_pieces};
 use crate::sizes::numbers_of;
@@ -19,9 +20,6 @@ use cs_block::encode;
 use cs_cols::Cols;
 use cs_vocab::Vocab;
 use std::alloc::Global;
-
-// The first bytes of each index file.
-const MAGIC: [u8; 8] = *b"HYBIDX1\n";
 
 /// Puts the bytes of an image's index file, piece by piece. Where it doesn't put all of them, it put some first ones.
 ///

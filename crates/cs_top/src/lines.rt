@@ -13,6 +13,9 @@ use cs_base::{Failed, Files, MAX_SCRIPT_LINE_BYTES};
 use cs_docs::{BYTE_ORDER_MARK, Reason, first_end};
 use std::str;
 
+/// How many bytes the mark in front of a text has.
+const MARK_BYTES: usize = BYTE_ORDER_MARK.len();
+
 /// The most bytes of a line with CR and LF behind it.
 pub(crate) const WINDOW_BYTES: usize = MAX_SCRIPT_LINE_BYTES + 2;
 
@@ -87,12 +90,16 @@ pub(crate) fn first_place<F: Files>(files: &mut F, name: &str, size: u64) -> Res
     ensures same { F.held files.new ≡ F.held files.old }
     ensures counted { Counted (F.faults files.old) (F.faults files.new) result }
 {
-    if size < 3 {
+    if size < MARK_BYTES as u64 {
         return Ok(0);
     }
-    let mut front = [0u8; 3];
+    let mut front = [0u8; MARK_BYTES];
     files.read_at(name, 0, &mut front)?;
-    Ok(if front == BYTE_ORDER_MARK { 3 } else { 0 })
+    Ok(if front == BYTE_ORDER_MARK {
+        MARK_BYTES as u64
+    } else {
+        0
+    })
 }
 
 /// Reads the line at a place before a file's end into the front of the buffer, and answers its length and the place
