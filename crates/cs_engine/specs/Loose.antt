@@ -5,15 +5,12 @@
 --   best_of rows d           one more than the greatest score of the rows of document d
 --   HasBestScores seen best          a table by document of the rows that were seen
 --   hits_in d best           the documents of a table, from d on, that have a row, with their scores
---   hit_at best d            a document with the score that the table has of it
---   HasEntry best d          a document of the table has a row
---   AreHitsBetween best from to docs     the documents that have a row, from one up to another
 --   AreAlike s lo hi listed rows     rows in any order are those of a stock with these words in listed documents
 --   AreGathered i told lo hi listed keys     numbers of such rows
 --   AreLastWords i q hits lo hi      the last part of a query is positive and asks for these words, and hits are in range as those before it
 --   IsEntryByWords b i q hits lo hi  over the bytes of an index the own entry of a query is that of these hits and words
 --   IsTableFor i b q cut hits t      over the bytes of an index a table is that of a query of these hits, cut
-use Rattle.std.specs.Prelude.{◌≡◌, ℕ, ◌+◌, ◌-◌, ◌*◌, ◌≤◌, ◌<◌, Bool, true, false, nat_lt, List, [], ◌∷◌, ◌++◌, length, map, filter, take, drop, slice_index, Option}
+use Rattle.std.specs.Prelude.{◌≡◌, ℕ, ◌+◌, ◌-◌, ◌*◌, ◌≤◌, ◌<◌, Bool, true, false, nat_lt, List, [], ◌∷◌, length, map, filter, take, slice_index, Option}
 use Rattle.std.specs.Prelude.{if◌then◌else◌}
 use Rattle.std.specs.List.{All, Contains, list_any}
 use Rattle.cs_base.specs.declared.content.doc.Base.{Base}
@@ -45,18 +42,6 @@ HasBestScores seen best = (d : ℕ) → d < length best → slice_index best d �
 unfoldable pub hits_in : ℕ → List ℕ → List Scored
 hits_in d [] = []
 hits_in d (b ∷ bs) = if nat_lt 0 b then record { doc = d; score = b - 1 } ∷ hits_in (d + 1) bs else hits_in (d + 1) bs
-
--- 0 where it has no row
-abbrev pub hit_at : List ℕ → ℕ → Scored
-hit_at best d = record { doc = d; score = slice_index best d - 1 }
-
--- none behind the last
-abbrev pub HasEntry : List ℕ → ℕ → Type 0
-HasEntry best d = (d < length best) × (0 < slice_index best d)
-
--- none where from is to
-abbrev pub AreHitsBetween : List ℕ → ℕ → ℕ → List ℕ → Type 0
-AreHitsBetween best from to docs = map (hit_at best) docs ++ hits_in to (drop to best) ≡ hits_in from (drop from best)
 
 -- the same tests pass on both, there are as many, and the rows of each word are in order
 pub record AreAlike (s : Stock) (lo hi : ℕ) (listed : List Bool) (rows : List Post) : Type 0 where

@@ -7,21 +7,19 @@ ghost use Rattle.cs_base.specs.declared.content.scores.TheConstants.{MAX_ROW_SCO
 ghost use Rattle.cs_file.specs.CallAnswers.{AreScoredOf};
 ghost use Rattle.cs_rank.specs.DocScores.{IsBase, scores, with_base};
 ghost use Rattle.cs_base.specs.content.Orders.{AreByDoc};
-ghost use Rattle.cs_engine.specs.Loose.{AreHitsBetween, HasBestScores, HasEntry, hit_at, hits_in};
+ghost use Rattle.cs_engine.specs.Loose.{HasBestScores, hits_in};
 ghost use Rattle.cs_engine.specs.Packing.{post_of_key};
+ghost use Rattle.cs_engine.specs.Spans.{AreHitsBetween, HasEntry, hit_at};
 ghost use Rattle.cs_engine.specs.Steps.{IsBaseOf};
 ghost use Rattle.cs_tables.specs.WordCounts.{is_chosen, is_of_listed};
 
-use crate::between::is_chosen;
+use crate::between::{SPAN, is_chosen};
 use crate::packing::post_of;
 use cs_base::{Base, Memory, Scored, Seq};
 use cs_file::Fetched;
 use cs_rank::add_base;
 use cs_tables::are_within;
 use std::alloc::Global;
-
-// So many documents at most are looked at in one loop.
-const SPAN: usize = 256;
 
 /// The documents that have an entry, each with what hits gave it added to its score.
 pub(crate) fn scored_in(alloc: Global, hits: &Base, best: &[u8]) -> Result<Seq<Scored>, Memory>

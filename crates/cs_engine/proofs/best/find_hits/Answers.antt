@@ -1,7 +1,7 @@
 use Rattle.std.proofs.Common.{◌≡◌, ◌+◌, ◌<◌, Bool, ap, ◌∙◌, subst, arith, length, length-set, take, get_or, true}
 use Rattle.std.specs.Prelude.{if◌then◌else◌, nat_lt}
 use Rattle.std.proofs.lemmas.Bool.Decides.{nat_tests}
-use Rattle.cs_engine.specs.Loose.{AreHitsBetween, HasEntry}
+use Rattle.cs_engine.specs.Spans.{AreHitsBetween, HasEntry}
 use Rattle.cs_engine.proofs.SpansLemmas.{hits_on}
 use Rattle.cs_tables.proofs.PlacesLemmas.{at_most_one, counts_one, known_on}
 use Rattle.cs_engine.proofs.best.find_hits.Goals as goal

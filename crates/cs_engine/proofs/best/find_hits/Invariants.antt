@@ -1,6 +1,6 @@
 use Rattle.std.proofs.Common.{◌≡◌, ◌+◌, ◌≤◌, length, take}
 use Rattle.std.specs.List.{All}
-use Rattle.cs_engine.specs.Loose.{AreHitsBetween, HasEntry}
+use Rattle.cs_engine.specs.Spans.{AreHitsBetween, HasEntry}
 use Rattle.cs_engine.proofs.best.find_hits.Given as goal
 
 abbrev pub invariant-loop-doc : goal.invariant-loop-doc
