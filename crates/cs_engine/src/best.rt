@@ -1,6 +1,7 @@
 //! The best score of each document, over rows in any order.
-ghost use Rattle.std.specs.Prelude.{◌≡◌, ◌+◌, ◌<◌, ◌≤◌, ◌++◌, ◌*◌, ◌^◌, [], ℕ, true, List, IfOk, OnOk, drop, filter, length, map, take, if◌then◌else◌};
+ghost use Rattle.std.specs.Prelude.{◌≡◌, ◌+◌, ◌<◌, ◌≤◌, ◌++◌, ◌*◌, ◌^◌, [], ℕ, true, List, IfOk, drop, filter, length, map, take, if◌then◌else◌};
 ghost use Rattle.std.specs.List.{All};
+ghost use Rattle.std.specs.Vec.{vec_capacity, vec_len};
 ghost use Rattle.cs_base.specs.declared.content.doc.Post.{Post};
 ghost use Rattle.cs_base.specs.declared.content.doc.Base.TheVariants as base;
 ghost use Rattle.cs_base.specs.declared.content.scores.TheConstants.{MAX_ROW_SCORE, TITLE_SCORE};
@@ -200,33 +201,34 @@ fn hits_in(alloc: Global, best: &[u8]) -> Result<Vec<Scored>, Memory>
     let mut from = 0;
     while from < best.len() {
         let to = from + SPAN.min(best.len() - from);
-        add_hits(&mut hits, best, from, to, &mut places)?;
+        hits = with_span(hits, best, from, to, &mut places)?;
         from = to;
     }
     Ok(hits)
 }
 
-// Adds the hits among the documents from one up to another. Where these have no entry, none is looked at alone.
-fn add_hits(
-    hits: &mut Vec<Scored>,
+// The hits with those among the documents from one up to another behind them. Where these have no entry, none is looked at alone.
+fn with_span(
+    mut hits: Vec<Scored>,
     best: &[u8],
     from: usize,
     to: usize,
     places: &mut [usize],
-) -> Result<(), Memory>
+) -> Result<Vec<Scored>, Memory>
     requires onward { from ≤ to }
     requires within { to ≤ length best.now }
     requires few { length best.now < 2 ^ 32 }
     requires room { to ≤ from + length places.old }
 
-    ensures { OnOk result (hits.new.items ++ hits_in to (drop to best.now) ≡ hits.old.items ++ hits_in from (drop from best.now)) }
+    ensures { IfOk result (λ v. v.items ++ hits_in to (drop to best.now) ≡ hits.items ++ hits_in from (drop from best.now)) }
 {
     if is_bare(&best[from..to]) {
-        return Ok(());
+        return Ok(hits);
     }
     let found = find_hits(best, from, to, places);
-    push_hits(hits, best, &places[..found])?;
-    Ok(())
+    hits.reserve(found)?;
+    let more = with_hits(hits, best, &places[..found]);
+    Ok(more)
 }
 
 // Whether no document has an entry. Each is looked at, without a jump.
@@ -258,18 +260,20 @@ fn find_hits(best: &[u8], from: usize, to: usize, places: &mut [usize]) -> usize
     found
 }
 
-// Adds these documents, all of them with an entry, and their scores.
-fn push_hits(hits: &mut Vec<Scored>, best: &[u8], docs: &[usize]) -> Result<(), Memory>
+// The hits with these documents behind them, all of them with an entry, in the room that there is. The list is a local, so that no
+// hit can lie over where it begins.
+#[inline]
+fn with_hits(mut hits: Vec<Scored>, best: &[u8], docs: &[usize]) -> Vec<Scored>
     requires few { length best.now < 2 ^ 32 }
     requires known { All (HasEntry best.now) docs.now }
+    requires room { vec_len hits + length docs.now ≤ vec_capacity hits }
 
-    ensures { OnOk result (hits.new.items ≡ hits.old.items ++ map (hit_at best.now) docs.now) }
+    ensures { result.items ≡ hits.items ++ map (hit_at best.now) docs.now }
 {
-    hits.reserve(docs.len())?;
     for doc in docs {
         hits.push_reserved(hit_at(best, *doc));
     }
-    Ok(())
+    hits
 }
 
 // A document with the score of its entry.

@@ -6,7 +6,7 @@ use Rattle.cs_engine.proofs.best.hits_in.Goals as goal
 
 pub loop-from-preserved : goal.loop-from-preserved
 loop-from-preserved c =
-    record { told = c.in_ok-add_hits.ensures ∙ c.loop-from.invariant.told; within = omega (arith, c.min.ensures, c.loop-from-test.true) }
+    record { told = c.in_ok-hits.ensures ∙ c.loop-from.invariant.told; within = omega (arith, c.min.ensures, c.loop-from-test.true) }
 
 pub returns-clause-hits : goal.returns-clause-hits
 returns-clause-hits c = hits_all _ c.loop-from.hits.items c.args.best.now c.loop-from.from (omega (arith, c.loop-from-test.false)) (sym c.loop-from.invariant.told)

@@ -1,7 +1,7 @@
 use Rattle.std.proofs.Common.{◌≡◌, ◌+◌, ◌≤◌, ◌++◌, length, map, take}
 use Rattle.std.specs.Vec.{vec_len, vec_capacity}
 use Rattle.cs_engine.specs.Spans.{hit_at}
-use Rattle.cs_engine.proofs.best.push_hits.Given as goal
+use Rattle.cs_engine.proofs.best.with_hits.Given as goal
 
 abbrev pub invariant-loop-doc : goal.invariant-loop-doc
 invariant-loop-doc l = record {
