@@ -6,7 +6,8 @@
 --   place_added      the row of one place more
 --   span_added       the rows of a span behind those so far
 --   span_fits        there is room for them
-use Rattle.std.proofs.Common.{◌≡◌, ℕ, zero, suc, ◌+◌, ◌-◌, ◌<◌, ◌≤◌, true, false, cond, List, [], ◌∷◌, ◌++◌, length, get_or, set, map, take, drop, refl, sym, ap, ◌∙◌, append_assoc, arith, if◌then◌else◌}
+use Rattle.std.proofs.Common.{◌≡◌, ℕ, zero, suc, ◌+◌, ◌-◌, ◌<◌, ◌≤◌, true, false, cond, List, [], ◌∷◌, ◌++◌}
+use Rattle.std.proofs.Common.{length, get_or, set, map, take, drop, refl, sym, ap, ◌∙◌, append_assoc, arith, if◌then◌else◌}
 use Rattle.std.specs.Prelude.{All, filter, nat_lt}
 use Rattle.std.specs.List.{AllByRecursion}
 use Rattle.std.proofs.lemmas.List.{drop-drop, drop_more, get_or_default, map-append, take-set, take_more, take_more_set, length-append, length-drop, length-map}
@@ -100,7 +101,8 @@ span_added lo hi rows d from to places old new found told before =
     let here = map (λ i. get_or rows i d) places in
     before ∙ ap (λ xs. old ++ xs) (sym found) ∙ sym (append_assoc old here (filter t (drop to rows))) ∙ ap (λ xs. xs ++ filter t (drop to rows)) (sym told)
 
-pub span_fits : (lo hi : ℕ) (rows : List Post) (d : Post) (from to : ℕ) (places : List ℕ) (old : List Post) (room : ℕ) → ArePlacesBetween lo hi rows d from to places
+pub span_fits : (lo hi : ℕ) (rows : List Post) (d : Post) (from to : ℕ) (places : List ℕ) (old : List Post) (room : ℕ)
+    → ArePlacesBetween lo hi rows d from to places
     → filter (is_between lo hi) rows ≡ old ++ filter (is_between lo hi) (drop from rows)
     → length (filter (is_between lo hi) rows) ≤ length old + room → length places ≤ room
 span_fits lo hi rows d from to places old room found before fits =

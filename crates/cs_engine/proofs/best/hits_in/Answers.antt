@@ -9,7 +9,8 @@ loop-from-preserved c =
     record { told = c.in_ok-hits.ensures ∙ c.loop-from.invariant.told; within = omega (arith, c.min.ensures, c.loop-from-test.true) }
 
 pub returns-clause-hits : goal.returns-clause-hits
-returns-clause-hits c = hits_all _ c.loop-from.hits.items c.args.best.now c.loop-from.from (omega (arith, c.loop-from-test.false)) (sym c.loop-from.invariant.told)
+returns-clause-hits c =
+    hits_all _ c.loop-from.hits.items c.args.best.now c.loop-from.from (omega (arith, c.loop-from-test.false)) (sym c.loop-from.invariant.told)
 
 pub returns-clause-fit : goal.returns-clause-fit
 returns-clause-fit c =
