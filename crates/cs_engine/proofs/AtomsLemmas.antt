@@ -4,7 +4,7 @@
 --   span_none        no word
 --   span_rows        the posts between two numbers stand for the rows that pass the test
 --   picked_between   they are picked
-use Rattle.std.proofs.Common.{◌≡◌, ℕ, suc, zero, ◌+◌, ◌<◌, ◌&&◌, Bool, true, false, List, [], ◌∷◌, length, map, get_or, cond, refl, sym, ◌∙◌, ap, subst, arith}
+use Rattle.std.proofs.Common.{◌≡◌, ℕ, suc, zero, ◌+◌, ◌<◌, ◌&&◌, Bool, true, false, List, [], ◌∷◌, length, map, cond, refl, sym, ◌∙◌, ap, subst, arith}
 use Rattle.std.specs.Prelude.{filter, nat_lt, nat_le}
 use Rattle.std.specs.List.{All, AllByRecursion, Contains, list_any}
 use Rattle.std.specs.List.Sorted.{IsStrictlySortedBy}
@@ -13,7 +13,6 @@ use Rattle.std.specs.Cmp.Lexicographic.{slice_cmp}
 use Rattle.std.specs.Str.{bytes_eq}
 use Rattle.std.proofs.lemmas.Bool.{or_parts}
 use Rattle.std.proofs.lemmas.Bool.Decides.{nat_tests}
-use Rattle.std.proofs.lemmas.List.{get_or-map}
 use Rattle.std.proofs.lemmas.List.Elements.{All-filter, All-contains_itself, recursion_from_All}
 use Rattle.std.proofs.lemmas.List.Kept.{IsStrictlySortedBy-filter}
 use Rattle.cs_base.specs.content.Orders.{by_place}
@@ -98,8 +97,3 @@ counted_words lo hi (p ∷ posts) =
 pub counted_between : (lo hi : ℕ) (posts : List Post) (words : List ℕ) → words ≡ map (λ p. p.word) posts
     → length (filter (is_between lo hi) posts) ≡ length (filter (λ w. nat_le lo w && nat_lt w hi) words)
 counted_between lo hi posts words is = counted_words lo hi posts ∙ ap (λ ws. length (filter (λ w. nat_le lo w && nat_lt w hi) ws)) (sym is)
-
--- the word that stands at a post's place
-pub word_in : (posts : List Post) (words : List ℕ) (i : ℕ) (p : Post) → words ≡ map (λ p. p.word) posts → i < length posts → p ≡ get_or posts i p
-    → get_or words i 0 ≡ p.word
-word_in posts words i p is l at = ap (λ ws. get_or ws i 0) is ∙ get_or-map (λ p. p.word) posts i p 0 l ∙ ap (λ (q : Post). q.word) (sym at)

@@ -2,7 +2,7 @@
 --
 --   raised_more, raised_all      rows are noted one after the other
 --   raised_where, raised_row, raised_rows     and those that pass a test
---   hits_more, hits_all          the hits of the table
+--   hits_all                     the hits of the table, all of them added
 --   hits_are                     are the documents of the rows with their scores
 --   map_same                     functions that agree
 --   alike_best                   which depend on the rows' members alone
@@ -32,7 +32,6 @@ use Rattle.cs_base.proofs.MembersLemmas.{members_are}
 use Rattle.cs_base.proofs.OrdersLemmas.{Less-from_lt}
 use Rattle.cs_file.specs.CallAnswers.{AreScoredOf}
 use Rattle.cs_rank.specs.DocScores.{greatest, of_doc, best_row, scores}
-use Rattle.cs_meet.proofs.Passes.{next_is}
 use Rattle.cs_tables.specs.WordCounts.{is_chosen, is_of_listed}
 use Rattle.cs_engine.specs.Loose.{best_of, HasBestScores, hits_in}
 use Rattle.cs_engine.specs.Packing.{post_of_key}
@@ -158,19 +157,6 @@ raised_rows t seen rows docs words scores best i are le has =
     subst (λ rs. HasBestScores (seen ++ filter t rs) best) (take_all i rows (omega (arith, le, long))) has
 
 -- ---- the hits of the table
-
-settle : (t : Bool) (done rest : List Scored) (x : Scored) → done ++ cond t (x ∷ rest) rest ≡ (done ++ cond t (x ∷ []) []) ++ rest
-settle true done rest x = sym (append_assoc done (x ∷ []) rest)
-settle false done rest x = ap (λ l. l ++ rest) (sym (append-nil done))
-
-pub hits_more : (whole done now : List Scored) (best : List ℕ) (d b : ℕ) → d < length best → b ≡ get_or best d b
-    → now ≡ done ++ cond (nat_lt 0 b) (record { doc = d; score = b - 1 } ∷ []) []
-    → whole ≡ done ++ hits_in d (drop d best) → whole ≡ now ++ hits_in (d + 1) (drop (d + 1) best)
-unfolding hits_in
-hits_more whole done now best d b l is told left =
-    left ∙ ap (λ r. done ++ hits_in d r) (next_is best d b l is)
-    ∙ settle (nat_lt 0 b) done (hits_in (d + 1) (drop (d + 1) best)) (record { doc = d; score = b - 1 })
-    ∙ ap (λ l. l ++ hits_in (d + 1) (drop (d + 1) best)) (sym told)
 
 pub hits_all : (whole done : List Scored) (best : List ℕ) (d : ℕ) → length best ≤ d → whole ≡ done ++ hits_in d (drop d best) → done ≡ whole
 unfolding hits_in

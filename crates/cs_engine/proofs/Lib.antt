@@ -28,3 +28,4 @@ pub mod UnionLemmas
 pub mod VocabLemmas
 pub mod AskedWords
 pub mod WalkLemmas
+pub mod SpansLemmas

@@ -1,6 +1,7 @@
 //! The best score of each document, over rows in any order.
-ghost use Rattle.std.specs.Prelude.{◌≡◌, ◌+◌, ◌-◌, ◌<◌, ◌≤◌, ◌++◌, ◌∷◌, ◌*◌, ◌^◌, [], ℕ, List, IfOk, OnOk, filter, length, map, nat_lt, if◌then◌else◌};
+ghost use Rattle.std.specs.Prelude.{◌≡◌, ◌+◌, ◌<◌, ◌≤◌, ◌++◌, ◌*◌, ◌^◌, [], ℕ, true, List, IfOk, drop, filter, length, map, take, if◌then◌else◌};
 ghost use Rattle.std.specs.List.{All};
+ghost use Rattle.std.specs.Vec.{vec_capacity, vec_len};
 ghost use Rattle.cs_base.specs.declared.content.doc.Post.{Post};
 ghost use Rattle.cs_base.specs.declared.content.doc.Base.TheVariants as base;
 ghost use Rattle.cs_base.specs.declared.content.scores.TheConstants.{MAX_ROW_SCORE, TITLE_SCORE};
@@ -9,10 +10,11 @@ ghost use Rattle.cs_rank.specs.DocScores.{IsBase, scores, with_base};
 ghost use Rattle.cs_base.specs.content.Orders.{AreByDoc};
 ghost use Rattle.cs_engine.specs.Loose.{HasBestScores, hits_in};
 ghost use Rattle.cs_engine.specs.Packing.{post_of_key};
+ghost use Rattle.cs_engine.specs.Spans.{AreHitsBetween, HasEntry, hit_at};
 ghost use Rattle.cs_engine.specs.Steps.{IsBaseOf};
 ghost use Rattle.cs_tables.specs.WordCounts.{is_chosen, is_of_listed};
 
-use crate::between::is_chosen;
+use crate::between::{SPAN, is_chosen};
 use crate::packing::post_of;
 use cs_base::{Base, Memory, Scored, Seq};
 use cs_file::Fetched;
@@ -195,20 +197,95 @@ fn hits_in(alloc: Global, best: &[u8]) -> Result<Vec<Scored>, Memory>
     ensures fit { IfOk result (λ v. IsBaseOf (length best.now) MAX_ROW_SCORE (base.Listed v.items)) }
 {
     let mut hits = Vec::new(alloc);
-    for (doc, entry) in best.iter().enumerate() {
-        add_hit(&mut hits, doc as u32, *entry)?;
+    let mut places = [0usize; SPAN];
+    let mut from = 0;
+    while from < best.len() {
+        let to = from + SPAN.min(best.len() - from);
+        hits = with_span(hits, best, from, to, &mut places)?;
+        from = to;
     }
     Ok(hits)
 }
 
-fn add_hit(hits: &mut Vec<Scored>, doc: u32, entry: u8) -> Result<(), Memory>
-    ensures { OnOk result (hits.new.items ≡ hits.old.items ++ (if nat_lt 0 entry then record { doc = doc; score = entry - 1 } ∷ [] else [])) }
+// The hits with those among the documents from one up to another behind them. Where these have no entry, none is looked at alone.
+fn with_span(
+    mut hits: Vec<Scored>,
+    best: &[u8],
+    from: usize,
+    to: usize,
+    places: &mut [usize],
+) -> Result<Vec<Scored>, Memory>
+    requires onward { from ≤ to }
+    requires within { to ≤ length best.now }
+    requires few { length best.now < 2 ^ 32 }
+    requires room { to ≤ from + length places.old }
+
+    ensures { IfOk result (λ v. v.items ++ hits_in to (drop to best.now) ≡ hits.items ++ hits_in from (drop from best.now)) }
 {
-    if entry > 0 {
-        hits.push(Scored {
-            doc,
-            score: u32::from(entry) - 1,
-        })?;
+    if is_bare(&best[from..to]) {
+        return Ok(hits);
     }
-    Ok(())
+    let found = find_hits(best, from, to, places);
+    hits.reserve(found)?;
+    let more = with_hits(hits, best, &places[..found]);
+    Ok(more)
+}
+
+// Whether no document has an entry. Each is looked at, without a jump.
+fn is_bare(best: &[u8]) -> bool
+    ensures { result ≡ true → All (λ v. v ≡ 0) best.now }
+{
+    let mut bare = true;
+    for entry in best {
+        bare &= *entry == 0;
+    }
+    bare
+}
+
+// Puts those of some documents that have an entry to the front of a slice, without a jump, and says how many there are.
+fn find_hits(best: &[u8], from: usize, to: usize, places: &mut [usize]) -> usize
+    requires onward { from ≤ to }
+    requires within { to ≤ length best.now }
+    requires room { to ≤ from + length places.old }
+
+    ensures found { AreHitsBetween best.now from to (take result places.new) }
+    ensures known { All (HasEntry best.now) (take result places.new) }
+    ensures few { result ≤ length places.new }
+{
+    let mut found = 0;
+    for doc in from..to {
+        places[found] = doc;
+        found += usize::from(best[doc] > 0);
+    }
+    found
+}
+
+// The hits with these documents behind them, all of them with an entry, in the room that there is. The list is a local, so that no
+// hit can lie over where it begins.
+#[inline]
+fn with_hits(mut hits: Vec<Scored>, best: &[u8], docs: &[usize]) -> Vec<Scored>
+    requires few { length best.now < 2 ^ 32 }
+    requires known { All (HasEntry best.now) docs.now }
+    requires room { vec_len hits + length docs.now ≤ vec_capacity hits }
+
+    ensures { result.items ≡ hits.items ++ map (hit_at best.now) docs.now }
+{
+    for doc in docs {
+        hits.push_reserved(hit_at(best, *doc));
+    }
+    hits
+}
+
+// A document with the score of its entry.
+#[inline]
+fn hit_at(best: &[u8], doc: usize) -> Scored
+    requires few { length best.now < 2 ^ 32 }
+    requires known { HasEntry best.now doc }
+
+    ensures { result ≡ hit_at best.now doc }
+{
+    Scored {
+        doc: doc as u32,
+        score: u32::from(best[doc]) - 1,
+    }
 }

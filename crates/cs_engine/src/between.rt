@@ -1,10 +1,16 @@
 //! Posts whose word lies between two others, and those of them in listed documents.
-ghost use Rattle.std.specs.Prelude.{◌≡◌, ◌<◌, ◌&&◌, false, nat_le, nat_lt, filter, length, slice_index_or, IfOk};
+ghost use Rattle.std.specs.Prelude.{◌≡◌, ◌+◌, ◌++◌, ◌<◌, ◌≤◌, ◌&&◌, false, nat_le, nat_lt, List, filter, length, map, slice_index_or, take, IfOk};
+ghost use Rattle.std.specs.List.{All};
+ghost use Rattle.cs_base.specs.declared.content.doc.Post.{Post};
+ghost use Rattle.cs_engine.specs.Spans.{ArePlacesBetween};
 ghost use Rattle.cs_engine.specs.Stocked.{is_between};
 
 use cs_base::Memory;
 use cs_cols::Cols;
 use std::alloc::Global;
+
+/// So many documents or rows at most are looked at in one loop.
+pub(crate) const SPAN: usize = 256;
 
 /// The posts whose word's number is `lo` or more and below `hi`, in memory that just holds them.
 pub(crate) fn posts_between(alloc: Global, posts: &Cols, lo: u32, hi: u32) -> Result<Cols, Memory>
@@ -13,12 +19,55 @@ pub(crate) fn posts_between(alloc: Global, posts: &Cols, lo: u32, hi: u32) -> Re
     let words = posts.words();
     let mut found = Cols::new(alloc);
     found.reserve(count_between(words, lo, hi))?;
-    for i in 0..words.len() {
-        if is_in(words[i], lo, hi) {
-            found.push_reserved(posts.get(i));
-        }
+    let mut places = [0usize; SPAN];
+    let mut from = 0;
+    while from < words.len() {
+        let to = from + SPAN.min(words.len() - from);
+        let many = find_between(words, from, to, lo, hi, &mut places);
+        push_places(&mut found, posts, &places[..many]);
+        from = to;
     }
     Ok(found)
+}
+
+// Puts the places of those of some rows whose word is one of these to the front of a slice, without a jump, and says how many there
+// are.
+fn find_between(
+    words: &[u32],
+    from: usize,
+    to: usize,
+    lo: u32,
+    hi: u32,
+    places: &mut [usize],
+) -> usize
+    requires onward { from ≤ to }
+    requires within { to ≤ length words.now }
+    requires room { to ≤ from + length places.old }
+
+    ensures found { (rows : List Post) → words.now ≡ map (λ p. p.word) rows → (d : Post)
+        → ArePlacesBetween lo hi rows d from to (take result places.new) }
+    ensures known { All (λ i. i < length words.now) (take result places.new) }
+    ensures few { result ≤ length places.new }
+{
+    let mut found = 0;
+    for i in from..to {
+        places[found] = i;
+        found += usize::from(is_in(words[i], lo, hi));
+    }
+    found
+}
+
+// Adds the posts at these places, in the room that there is.
+fn push_places(found: &mut Cols, posts: &Cols, places: &[usize])
+    requires known { All (λ i. i < length posts.now.posts) places.now }
+    requires room { length places.now ≤ found.old.room }
+
+    ensures posts { (d : Post) → found.new.posts ≡ found.old.posts ++ map (λ i. slice_index_or posts.now.posts i d) places.now }
+    ensures room { found.old.room ≤ found.new.room + length places.now }
+{
+    for place in places {
+        found.push_reserved(posts.get(*place));
+    }
 }
 
 fn count_between(words: &[u32], lo: u32, hi: u32) -> usize

@@ -134,10 +134,10 @@ fn unscored(alloc: Global, numbers: &[u32]) -> Result<Seq<Scored>, Memory>
 {
     let mut listed = Vec::with_capacity(alloc, numbers.len())?;
     for doc in numbers {
-        listed.push(Scored {
+        listed.push_reserved(Scored {
             doc: *doc,
             score: 0,
-        })?;
+        });
     }
     Ok(Seq::from_vec(listed))
 }

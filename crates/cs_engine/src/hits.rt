@@ -35,7 +35,7 @@ pub(crate) fn numbers_of(alloc: Global, hits: &[Scored]) -> Result<Vec<u32>, Mem
 {
     let mut numbers = Vec::with_capacity(alloc, hits.len())?;
     for hit in hits {
-        numbers.push(hit.doc)?;
+        numbers.push_reserved(hit.doc);
     }
     Ok(numbers)
 }
@@ -84,7 +84,7 @@ pub(crate) fn all_docs(alloc: Global, docs: u32) -> Result<Vec<Scored>, Memory>
 {
     let mut all = Vec::with_capacity(alloc, docs as usize)?;
     for doc in 0..docs {
-        all.push(Scored { doc, score: 0 })?;
+        all.push_reserved(Scored { doc, score: 0 });
     }
     Ok(all)
 }

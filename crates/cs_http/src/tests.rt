@@ -1,7 +1,7 @@
 //! What no clause says: that `request` gives requests where there is memory, and that the definitions mean what the
 //! description of the parameters says of its examples.
 use crate::request;
-use cs_base::{Atom, Memory, Text};
+use cs_base::{Atom, MAX_PARTS, Memory, Text};
 use cs_query::{ReqFault, Request};
 use std::alloc::Global;
 use std::process::Abort;
@@ -98,9 +98,25 @@ fn the_query_is_judged_last_by_its_key_text(rt: HostRuntime) -> Result<(), Fail>
         ("q=a||b", "bad 2"),
         ("q=%C3%89:", "bad 3"),
         ("q=%C3:", "bad 3"),
-        ("q=a+a+a+a+a+a+a+a+a+a+a+a+a+a+a+a+a", "limit 32 Parts"),
     ];
     are_answered(&rt, rt.alloc(), ROWS)
+}
+
+#[test]
+fn a_word_behind_the_most_parts_is_refused_at_its_place(rt: HostRuntime) -> Result<(), Fail> {
+    let alloc = rt.alloc();
+    let params = too_many_words(alloc)?;
+    let want = Text::from_string(format!(in alloc; "limit {} Parts", 2 * MAX_PARTS)?);
+    are_answered(&rt, alloc, &[(params.as_str(), want.as_str())])
+}
+
+// A query of one word more than it may have parts.
+fn too_many_words(alloc: Global) -> Result<Text, Memory> {
+    let mut params = Text::from_str(alloc, "q=a")?;
+    for _ in 0..MAX_PARTS {
+        params.push_str("+a")?;
+    }
+    Ok(params)
 }
 
 // Each row is a string of parameters, and its request or its first refusal as `told` writes it.

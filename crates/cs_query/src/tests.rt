@@ -1,7 +1,7 @@
 //! What no clause says: that `parse` gives queries where there is memory, and that the definitions
 //! mean what the language's description says of its examples.
 use crate::{QueryFault, Which, keys, parse, print};
-use cs_base::{Atom, Chain, Key, Link, Memory, Narrower, Query, Text};
+use cs_base::{Atom, Chain, Key, Link, MAX_PARTS, Memory, Narrower, Query, Text};
 use std::alloc::Global;
 use std::process::Abort;
 use std::test::Fail;
@@ -143,7 +143,6 @@ fn texts_are_refused_where_the_description_says(rt: HostRuntime) {
         ("k:v[", 3, None),
         ("\u{E9}:", 3, None),
         ("a[b[c[d[e", 7, Some(Which::Depth)),
-        ("a a a a a a a a a a a a a a a a a", 32, Some(Which::Parts)),
         (
             "a|a|a|a|a|a|a|a|a|a|a|a|a|a|a|a|a|a|a|a|a|a|a|a|a|a|a|a|a|a|a|a|a",
             64,
@@ -158,6 +157,27 @@ fn are_refused(rt: &impl Abort, alloc: Global, rows: &[(&str, u32, Option<Which>
         let want = fault(*at, *which);
         assert_eq!(rt; fault_of(alloc, text), Some(want), "of {text}");
     }
+}
+
+// A query of the most parts, and one of a word more.
+#[test]
+fn a_word_behind_the_most_parts_is_refused(rt: HostRuntime) -> Result<(), Fail> {
+    let alloc = rt.alloc();
+    let most = words(alloc, MAX_PARTS)?;
+    assert_eq!(rt; fault_of(alloc, most.as_str()), None);
+    let more = words(alloc, MAX_PARTS + 1)?;
+    let want = fault(2 * MAX_PARTS as u32, Some(Which::Parts));
+    assert_eq!(rt; fault_of(alloc, more.as_str()), Some(want));
+    Ok(())
+}
+
+// So many words of one letter, at least one.
+fn words(alloc: Global, count: usize) -> Result<Text, Memory> {
+    let mut text = Text::from_str(alloc, "a")?;
+    for _ in 1..count {
+        text.push_str(" a")?;
+    }
+    Ok(text)
 }
 
 // So many of one character behind a text, and the place and the limit.
