@@ -9,3 +9,4 @@ pub mod IndexReading
 pub mod Steps
 pub mod Stocked
 pub mod GatheredRows
+pub mod HeldFacets
