@@ -37,7 +37,7 @@ use Rattle.cs_engine.specs.IndexReading.{AreWithin, IsWithin, run_of, stock_of}
 use Rattle.cs_engine.specs.Steps.{AreHitsBehind, IsBaseOf, IsHitOf, most, posts_after}
 use Rattle.cs_engine.specs.Stocked.{corpus_in, is_between}
 use Rattle.cs_engine.proofs.BestLemmas.{alike_best, hits_are}
-use Rattle.cs_engine.proofs.CountingLemmas.{counted_alike, flat_more, listed_kept, stock_within}
+use Rattle.cs_engine.proofs.CountingLemmas.{counted_alike, flat_more, kept_listed, stock_within}
 use Rattle.cs_engine.proofs.FoundLemmas.{is_excluded}
 use Rattle.cs_engine.proofs.PartSteps.{base_small, step_told}
 use Rattle.cs_engine.proofs.RowsInRange.{kept_within}
@@ -106,7 +106,7 @@ module _ (b : List ℕ) (i : IndexView) (stands : StandsFor b i) (is : IsIndex i
 
     pub rows_are : filter (in_listed listed)
         (filter (is_between lo hi) (stock_of b).posts) ≡ (posts_after i.docs hits false (filter (is_between lo hi) (stock_of b).posts)).rows
-    rows_are = listed_kept b i stands is hits listed asked lists asked_within
+    rows_are = kept_listed i hits listed asked lists asked_within
 
     pub scored_are : (best : List ℕ) (next : List Scored) → length best ≡ i.docs
         → HasBestScores (filter (in_listed listed) (filter (is_between lo hi) (stock_of b).posts)) best

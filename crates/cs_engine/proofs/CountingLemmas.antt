@@ -6,7 +6,7 @@
 --   countable            the rows that are counted are countable
 --   counted_alike, counted_long     they have the members of those asked for, and are as many
 --   table_told           their table
---   listed_kept, all_listed     the rows in listed documents
+--   kept_listed, all_listed     the rows in listed documents
 --   facet_counted        the table of a facet
 --   facet_met            the blocks that hold a facet's words
 use Rattle.std.proofs.Common.{◌≡◌, ◌≢◌, ℕ, zero, suc, ◌+◌, ◌-◌, ◌<◌, ◌≤◌, ◌==◌, ◌&&◌, ◌||◌, Bool, true, false, cond, List, [], ◌∷◌, ◌++◌, length, get_or}
@@ -184,6 +184,14 @@ blocks_apart t (b ∷ bs) from to p =
     (blocks_apart t bs (λ k. from (suc k)) (λ k. to (suc k)) (parted_rest b bs from to p))
     (recursion_from_All (λ p. p.word < to 0) here low) (recursion_from_All (λ p. to 0 ≤ p.word) rest high)
 
+-- posts in listed documents
+pub kept_listed : (i : IndexView) (base : Base) (listed : List Bool) (posts : List Post) → AreListed i.docs base listed → AreWithin i posts
+    → filter (in_listed listed) posts ≡ keep_docs posts (docs_in i.docs base)
+kept_listed i base listed posts has w =
+    filter_alike (in_listed listed) (λ p. is_listed (docs_in i.docs base) p.doc) posts
+    (all_then (IsWithin i.docs (length i.words)) (λ p. in_listed listed p ≡ is_listed (docs_in i.docs base) p.doc) (λ p h. has.each p.doc h.doc) posts
+    (recursion_from_All (IsWithin i.docs (length i.words)) posts w.within))
+
 module _ (b : List ℕ) (i : IndexView) (stands : StandsFor b i) (is : IsIndex i) where
   abbrev blocks : List (List Post)
   blocks = (image_of b).blocks
@@ -290,20 +298,13 @@ module _ (b : List ℕ) (i : IndexView) (stands : StandsFor b i) (is : IsIndex i
             (stock_of b).posts st.known;
       }
 
-  pub listed_kept : (base : Base) (listed : List Bool) (posts : List Post) → AreListed i.docs base listed → AreWithin i posts
-      → filter (in_listed listed) posts ≡ keep_docs posts (docs_in i.docs base)
-  listed_kept base listed posts has w =
-      filter_alike (in_listed listed) (λ p. is_listed (docs_in i.docs base) p.doc) posts
-      (all_then (IsWithin i.docs (length i.words)) (λ p. in_listed listed p ≡ is_listed (docs_in i.docs base) p.doc) (λ p h. has.each p.doc h.doc) posts
-      (recursion_from_All (IsWithin i.docs (length i.words)) posts w.within))
-
   -- of all documents each post is in one
   pub all_listed : (lo hi : ℕ) (all : List Bool) → AreListed i.docs base.All all
       → filter (in_listed all) (filter (is_between lo hi) (stock_of b).posts) ≡ filter (is_between lo hi) (stock_of b).posts
   all_listed lo hi all has =
       let asked = filter (is_between lo hi) (stock_of b).posts in
       let w = kept_within i (is_between lo hi) (stock_of b).posts stock_within in
-      listed_kept base.All all asked has w ∙ sym (all_kept i.docs asked
+      kept_listed i base.All all asked has w ∙ sym (all_kept i.docs asked
       (All-weaker (IsWithin i.docs (length i.words)) (λ p. p.doc < i.docs) (λ p h. h.doc) asked w.within))
 
   -- the posts that a facet counts
@@ -320,7 +321,7 @@ module _ (b : List ℕ) (i : IndexView) (stands : StandsFor b i) (is : IsIndex i
       let within = kept_within i (is_between lo hi) (stock_of b).posts stock_within in
       let own = subst (λ p. IsRange i.words p lo hi) prefix_is range in
       let rows = span_found b i stands is (begins (named name [])) lo hi own.holds asked refl in
-      let kept = listed_kept base listed asked has within in
+      let kept = kept_listed i base listed asked has within in
       let table_is = words_as_shown b i stands is (facet_posts lo hi listed)
       (kept_within i (in_listed listed) asked within) ws words cut first first_is shown shown_is in
       facet_told b i stands is base cut name copied asked (facet_posts lo hi listed) i.docs shown same rows refl kept table_is

@@ -99,7 +99,7 @@ module _ (i : IndexView) (held : KeptOf (EntryOf Post)) (fit : KeepsFitting i he
           )
 
 -- ---- what may be read
-due_is : (v : Division) (r : Request) (by_plan : Plan) (titles : ℕ) → due v r by_plan titles ≡ titles + met_of_facets v r.facets + met_by v r.query by_plan
+pub due_is : (v : Division) (r : Request) (by_plan : Plan) (titles : ℕ) → due v r by_plan titles ≡ titles + met_of_facets v r.facets + met_by v r.query by_plan
 unfolding due
 due_is v r by_plan titles = refl
 
@@ -108,22 +108,20 @@ err_due q (Ok r) h = absurd cc
 err_due q (Err e) h = refl
 
 module _ (v : Division) (q : Request) (by_plan : Plan) {before now : ℕ} where
-  pub kept_reads : (titles : ℕ) → ReadsWithin (titles + met_of_facets v q.facets) before now → ReadsWithin (due v q by_plan titles) before now
-  kept_reads titles a = let all = due_is v q by_plan titles in within_more a (omega (arith, all))
+  pub kept_reads : (titles : ℕ) → ReadsWithin titles before now → ReadsWithin (titles + met_by v q.query by_plan) before now
+  kept_reads titles a = within_more a (omega arith)
 
-  pub all_reads : (own : Plan) → by_plan ≡ own → (titles : ℕ) → ReadsWithin (titles + met_of_facets v q.facets + met_by v q.query own) before now
-      → ReadsWithin (due v q by_plan titles) before now
-  all_reads own same titles a =
-      let all = due_is v q by_plan titles ∙ ap (λ p. titles + met_of_facets v q.facets + met_by v q.query p) same in
-      within_more a (omega (arith, all))
+  pub all_reads : (own : Plan) → by_plan ≡ own → (titles : ℕ) → ReadsWithin (titles + met_by v q.query own) before now
+      → ReadsWithin (titles + met_by v q.query by_plan) before now
+  all_reads own same titles a = subst (λ p. ReadsWithin (titles + met_by v q.query p) before now) (sym same) a
 
   module _ {T : Type 0} (r : Result (Reply × T) AskFault) (is : IsErr r) where
-    told_due : ReadsWithin (due v q by_plan q.hits) before now → ReadsWithin (due v q by_plan (titles_asked q r)) before now
-    told_due = subst (λ t. ReadsWithin (due v q by_plan t) before now) (sym (err_due q r is))
+    told_due : ReadsWithin (q.hits + met_by v q.query by_plan) before now → ReadsWithin (titles_asked q r + met_by v q.query by_plan) before now
+    told_due = subst (λ t. ReadsWithin (t + met_by v q.query by_plan) before now) (sym (err_due q r is))
 
-    pub kept_reads_err : ReadsWithin (q.hits + met_of_facets v q.facets) before now → ReadsWithin (due v q by_plan (titles_asked q r)) before now
+    pub kept_reads_err : ReadsWithin q.hits before now → ReadsWithin (titles_asked q r + met_by v q.query by_plan) before now
     kept_reads_err a = told_due (kept_reads q.hits a)
 
-    pub all_reads_err : (own : Plan) → by_plan ≡ own → ReadsWithin (q.hits + met_of_facets v q.facets + met_by v q.query own) before now
-        → ReadsWithin (due v q by_plan (titles_asked q r)) before now
+    pub all_reads_err : (own : Plan) → by_plan ≡ own → ReadsWithin (q.hits + met_by v q.query own) before now
+        → ReadsWithin (titles_asked q r + met_by v q.query by_plan) before now
     all_reads_err own same a = told_due (all_reads own same q.hits a)

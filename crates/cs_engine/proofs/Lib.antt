@@ -8,6 +8,7 @@ pub mod ColonLemmas
 pub mod CountingLemmas
 pub mod DistinctLemmas
 pub mod EvaluationLemmas
+pub mod FacetLemmas
 pub mod FoldsLemmas
 pub mod FoundLemmas
 pub mod HitsLemmas

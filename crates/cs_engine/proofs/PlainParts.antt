@@ -30,7 +30,7 @@ use Rattle.cs_engine.specs.Plain.{AreWordsOf}
 use Rattle.cs_engine.specs.IndexReading.{AreWithin, HasRows, IsSpanOf, stock_of}
 use Rattle.cs_engine.specs.Steps.{EntryFits, IsBaseOf, is_in_base, posts_after}
 use Rattle.cs_engine.specs.Stocked.{corpus_in, is_between}
-use Rattle.cs_engine.proofs.CountingLemmas.{listed_kept, stock_within}
+use Rattle.cs_engine.proofs.CountingLemmas.{kept_listed, stock_within}
 use Rattle.cs_engine.proofs.EvaluationLemmas.{met_part-is, part_begins, part_ends, part_goes_on}
 use Rattle.cs_engine.proofs.RowsInRange.{kept_within}
 use Rattle.cs_engine.proofs.StockLemmas.{stocked}
@@ -102,7 +102,7 @@ module _ (i : IndexView) (hits : Base) (listed : List Bool) (has : AreListed i.d
   listed_entry b stands is lo hi rows are =
       let asked = filter (is_between lo hi) (stock_of b).posts in
       ap (λ (l : List Post). let e : EntryOf Post = record { base = hits; rows = l } in e)
-      (are ∙ listed_kept b i stands is hits listed asked has (kept_within i (is_between lo hi) (stock_of b).posts (stock_within b i stands is)))
+      (are ∙ kept_listed i hits listed asked has (kept_within i (is_between lo hi) (stock_of b).posts (stock_within b i stands is)))
 
   listed_base : (p : Post) (b : Base) → AreListed i.docs b listed → p.doc < i.docs → in_listed listed p ≡ true → is_in_base b p ≡ true
   listed_base p base.All h lt passes = refl

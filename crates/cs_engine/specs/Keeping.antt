@@ -3,7 +3,7 @@
 --
 -- Source: this engine's own, over `KeptList` of cs_model_kept.
 --
---   EngineView                an opened index, and what is kept of answers
+--   EngineView                an opened index, what is kept of answers, and the facets that are held
 --   entry_with b posts        the entry of this base and these posts
 --   FitsQuery i q e           an entry is in the range of an index, as that of the query q is
 --   IsKeptEntry i e           the key of e is that of a query of the grammar, whose entry fits the index i
@@ -11,7 +11,8 @@
 --   IsEntryOver b i q e       over the bytes b of an index an entry is that of the query q
 --   IsAnsweredOver b i r a    over them an answer has the reply to a request, and its own entry where that isn't too large
 --   HoldsGood b i held        over them each kept entry is that of its key's own query
---   AreGood b e               over the bytes b of its index an engine keeps under each key the entry of the key's own query
+--   AreGood b e               over the bytes b of its index an engine keeps under each key the entry of the key's own query, and holds the
+--                             facets of the index
 --   note_plan q a             the plan by which a query is answered from what is kept
 --   became p o                what becomes of a query's own entry behind the plan p; of None, which was kept before or is too large
 --   entries_behind a keys p o         the entries that a reply by the plan p leaves, where o is the query's own entry, if it wasn't kept before
@@ -41,14 +42,16 @@ use Rattle.cs_model.specs.Requests.{Request, reply_of}
 use Rattle.cs_model_index.specs.Sections.{file_corpus}
 use Rattle.cs_model_kept.specs.Entries.{EntryOf, entry_at, entry_of}
 use Rattle.cs_model_kept.specs.KeptList.{KeptOf, GoodFor, after, kept_at, kept_by, kept_fresh, plan_by, put_in_front, to_front, used_key, is_same}
+use Rattle.cs_engine.specs.HeldFacets.{AreFacetsOver, FacetView}
 use Rattle.cs_engine.specs.Steps.{EntryFits, last_is_positive}
 use Rattle.cs_engine.specs.declared.fault.AskFault.{AskFault}
 use Rattle.cs_engine.specs.declared.note.Note.{Note}
 
--- an index that was opened, and the kept entries with how many there may be; an engine begins with none
+-- an index that was opened, the kept entries with how many there may be, and facets with their rows; an engine begins with none
 pub record EngineView : Type 0 where
   pub index : IndexView
   pub answers : AnswerList
+  pub facets : List FacetView
 
 -- ---- over each store
 -- as it stands; of no posts it has no rows
@@ -124,9 +127,10 @@ pub record IsAnsweredOver (b : List ℕ) (i : IndexView) (r : Request) (a : Repl
 abbrev pub HoldsGood : List ℕ → IndexView → KeptOf (EntryOf Post) → Type 0
 HoldsGood b i held = GoodFor (file_corpus b) (kept_at i.words held)
 
--- under each key stands the entry of the key's own query over the corpus of the bytes; an engine that keeps nothing is good
+-- under each key stands the entry of the key's own query over the corpus of the bytes, and the facets that are held are those of the
+-- bytes; an engine that keeps nothing is good
 abbrev pub AreGood : List ℕ → EngineView → Type 0
-AreGood b e = HoldsGood b e.index e.answers.entries
+AreGood b e = HoldsGood b e.index e.answers.entries × AreFacetsOver b e.facets
 
 -- the entries of the corpus are those that a query leaves, its own kept unless it is too large; nothing is said of a refusal
 abbrev pub IsAfter : List ℕ → Query → EngineView → Result (Reply × Note) AskFault → EngineView → Type 0

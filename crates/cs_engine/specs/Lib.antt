@@ -10,3 +10,4 @@ pub mod Steps
 pub mod Stocked
 pub mod GatheredRows
 pub mod Spans
+pub mod HeldFacets

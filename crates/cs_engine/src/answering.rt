@@ -1,37 +1,37 @@
 //! Replies, from the hits of a query and its rows in them.
-ghost use Rattle.std.specs.Prelude.{◌≡◌, ◌+◌, ◌*◌, ◌≤◌, ◌<◌, [], length, map, IfOk};
+ghost use Rattle.std.specs.Prelude.{◌≡◌, ◌*◌, ◌≤◌, ◌<◌, List, ℕ, length, map, IfOk};
 ghost use Rattle.std.specs.List.{All};
-ghost use Rattle.cs_base.specs.declared.content.doc.Base.{Base};
 ghost use Rattle.cs_base.specs.declared.content.scores.TheConstants.{MAX_ROW_SCORE};
 ghost use Rattle.cs_base.specs.outside.Causes.{ReadsWithin};
 ghost use Rattle.cs_base.specs.declared.content.limits.TheConstants.{MAX_PARTS};
-ghost use Rattle.cs_model.specs.Collection.{named};
+ghost use Rattle.cs_file.specs.Indexes.{IsIndex, StandsFor};
 ghost use Rattle.cs_model.specs.Requests.{hit_shown, reply_of};
-ghost use Rattle.cs_model_kept.specs.Due.{met_of_facets, met_prefix};
 ghost use Rattle.cs_query.specs.RequestView.{asked};
-ghost use Rattle.cs_engine.specs.Asking.{division, is_read, is_changed, titles_read};
+ghost use Rattle.cs_engine.specs.Asking.{is_read, is_changed, titles_read};
 ghost use Rattle.cs_engine.specs.Counting.{AreListed};
+ghost use Rattle.cs_engine.specs.HeldFacets.{AreFacetsOver, HoldsFacets, IsFacet, IsFacetOver, WhereHeld};
 ghost use Rattle.cs_engine.specs.Loose.{IsTableFor};
 ghost use Rattle.cs_engine.specs.IndexReading.{IsOpened, OnlyReads, WhereStood, stock_of};
 ghost use Rattle.cs_engine.specs.Steps.{IsBaseOf};
 ghost use Rattle.cs_engine.specs.Stocked.{corpus_in, facet_at};
 
-use crate::counting::{listed_docs, table_between};
+use crate::counting::listed_docs;
+use crate::facets::{FacetRows, facet_of, facet_table};
 use crate::fault::AskFault;
 use crate::hits::listed;
 use crate::replies::shown_words;
-use cs_base::{Base, Scored, Seq, Store, Text};
+use cs_base::{Base, Memory, Scored, Seq, Store};
 use cs_file::Index;
 use cs_query::{FacetShown, HitShown, Reply, Request};
 use cs_rank::top;
 use cs_tables::Table;
-use cs_text::named_word;
 use std::alloc::Global;
 
 /// The reply to a request, by the hits of its query and the table of the rows of the last part in them.
 pub(crate) fn reply_of<S: Store>(
     alloc: Global,
     index: &Index,
+    held: &[FacetRows],
     store: &mut S,
     request: &Request,
     hits: Base,
@@ -39,18 +39,19 @@ pub(crate) fn reply_of<S: Store>(
 ) -> Result<Reply, AskFault>
     requires base { IsBaseOf index.now.docs (MAX_ROW_SCORE * MAX_PARTS) hits }
     requires table { All (λ w. w.word < length index.now.words) table.first }
+    requires held { HoldsFacets index.now held.now (asked request.now).facets }
     requires opened { IsOpened (S.bytes store.old) index.now }
 
-    ensures told { WhereStood (S.bytes store.old) index.now
+    ensures told { WhereHeld (S.bytes store.old) index.now held.now
         (λ b. IsTableFor index.now b request.now.query request.now.completions hits table
         → IfOk result (λ r. r ≡ reply_of (corpus_in (stock_of b)) (asked request.now))) }
     ensures few { IfOk result (λ r. length r.hits ≤ request.now.hits) }
     ensures store { OnlyReads S.bytes S.lent S.faults index.now store.old store.new (is_read result) (is_changed result) }
-    ensures reads { ReadsWithin (titles_read (asked request.now) result + met_of_facets (division index.now) (asked request.now).facets) (S.reads store.old)
+    ensures reads { ReadsWithin (titles_read (asked request.now) result) (S.reads store.old)
         (S.reads store.new) }
 {
     let shown = shown_words(alloc, &index.words, table.first.as_slice())?;
-    let facets = shown_facets(alloc, index, store, &hits, request)?;
+    let facets = shown_facets(alloc, index, held, &hits, request)?;
     let all = listed(alloc, index.docs, hits)?;
     let first = top(alloc, all.as_slice(), request.offset, request.hits)?;
     let shown_first = shown_hits(alloc, index, store, first.as_slice())?;
@@ -64,20 +65,19 @@ pub(crate) fn reply_of<S: Store>(
 }
 
 // The table of each facet asked.
-fn shown_facets<S: Store>(
+fn shown_facets(
     alloc: Global,
     index: &Index,
-    store: &mut S,
+    held: &[FacetRows],
     base: &Base,
     request: &Request,
-) -> Result<Seq<FacetShown>, AskFault>
+) -> Result<Seq<FacetShown>, Memory>
+    requires index { IsIndex index.now }
     requires base { IsBaseOf index.now.docs (MAX_ROW_SCORE * MAX_PARTS) base.now }
-    requires opened { IsOpened (S.bytes store.old) index.now }
+    requires held { HoldsFacets index.now held.now (asked request.now).facets }
 
-    ensures told { WhereStood (S.bytes store.old) index.now
-        (λ b. IfOk result (λ shown. shown ≡ map (facet_at (stock_of b) base.now request.now.completions) (asked request.now).facets)) }
-    ensures store { OnlyReads S.bytes S.lent S.faults index.now store.old store.new (is_read result) (is_changed result) }
-    ensures reads { ReadsWithin (met_of_facets (division index.now) (asked request.now).facets) (S.reads store.old) (S.reads store.new) }
+    ensures { (b : List ℕ) → StandsFor b index.now → AreFacetsOver b held.now
+        → IfOk result (λ shown. shown ≡ map (facet_at (stock_of b) base.now request.now.completions) (asked request.now).facets) }
 {
     let mut shown = Seq::new(alloc);
     if request.facets.as_slice().is_empty() {
@@ -85,38 +85,33 @@ fn shown_facets<S: Store>(
     }
     let listed = listed_docs(alloc, index.docs, base)?;
     for name in request.facets.as_slice() {
-        let facet = shown_facet(alloc, index, store, name, &listed, request.completions)?;
-        shown.push(facet)?;
+        let facet = facet_of(held, name);
+        shown.push(shown_facet(alloc, index, facet, base, &listed, request.completions)?)?;
     }
     Ok(shown)
 }
 
-// The table of one facet in listed documents.
-fn shown_facet<S: Store>(
+// The table of one facet in the documents that a base lists.
+fn shown_facet(
     alloc: Global,
     index: &Index,
-    store: &mut S,
-    name: &Text,
+    facet: &FacetRows,
+    base: &Base,
     listed: &[bool],
     cut: u32,
-) -> Result<FacetShown, AskFault>
-    requires listed { length listed.now ≡ index.now.docs }
-    requires opened { IsOpened (S.bytes store.old) index.now }
+) -> Result<FacetShown, Memory>
+    requires index { IsIndex index.now }
+    requires facet { IsFacet index.now facet.now }
+    requires base { IsBaseOf index.now.docs (MAX_ROW_SCORE * MAX_PARTS) base.now }
+    requires listed { AreListed index.now.docs base.now listed.now }
 
-    ensures told { WhereStood (S.bytes store.old) index.now
-        (λ b. IfOk result (λ shown. (base : Base) → AreListed index.now.docs base listed.now → shown ≡ facet_at (stock_of b) base cut name.now)) }
-    ensures store { OnlyReads S.bytes S.lent S.faults index.now store.old store.new (is_read result) (is_changed result) }
-    ensures reads { ReadsWithin (met_prefix (division index.now) (named name.now [])) (S.reads store.old) (S.reads store.new) }
+    ensures { (b : List ℕ) → StandsFor b index.now → IsFacetOver b facet.now
+        → IfOk result (λ shown. shown ≡ facet_at (stock_of b) base.now cut facet.now.name) }
 {
-    let prefix = named_word(alloc, name.as_str(), "")?;
-    let words = index.range(prefix.as_str().as_bytes());
-    let table = table_between(alloc, index, store, words, listed, cut)?;
-    let copied = name.copy(alloc)?;
-    let shown = shown_words(alloc, &index.words, table.first.as_slice())?;
-    Ok(FacetShown {
-        name: copied,
-        table: shown,
-    })
+    let table = facet_table(alloc, index, facet, base, listed, cut)?;
+    let name = facet.name().copy(alloc)?;
+    let table = shown_words(alloc, &index.words, table.first.as_slice())?;
+    Ok(FacetShown { name, table })
 }
 
 // Hits with their titles, each of which is read once.

@@ -1,4 +1,4 @@
-//! The words of a range, counted block by block in the documents of a base.
+//! Which documents a base lists, and the words of rows that were gathered, counted.
 ghost use Rattle.std.specs.Prelude.{◌≡◌, ◌≤◌, ◌<◌, ◌*◌, [], filter, length, map, take, IfOk};
 ghost use Rattle.std.specs.List.{All};
 ghost use Rattle.cs_base.specs.declared.content.limits.TheConstants.{MAX_PARTS};
@@ -49,38 +49,6 @@ fn list_all(listed: &mut [bool], hits: &[Scored])
     for hit in hits {
         listed[hit.doc as usize] = true;
     }
-}
-
-/// The table of the words from number `words.0` up to `words.1` by their rows in listed documents. Each block that holds such a
-/// word is read once.
-pub(crate) fn table_between<S: Store>(
-    alloc: Global,
-    index: &Index,
-    store: &mut S,
-    words: (u32, u32),
-    listed: &[bool],
-    cut: u32,
-) -> Result<Table, AskFault>
-    requires words { IsWordRange index.now words.0 words.1 }
-    requires listed { length listed.now ≡ index.now.docs }
-    requires opened { IsOpened (S.bytes store.old) index.now }
-
-    ensures told { WhereStood (S.bytes store.old) index.now
-        (λ b. IfOk result (λ t. t.first ≡ take cut (post_table (filter (in_listed listed.now) (filter (is_between words.0 words.1) (stock_of b).posts))))) }
-    ensures known { IfOk result (λ t. All (λ w. w.word < length index.now.words) t.first) }
-    ensures store { OnlyReads S.bytes S.lent S.faults index.now store.old store.new (is_read result) (is_changed result) }
-    ensures reads { ReadsWithin (length (filter (is_met words.0 words.1) index.now.heads)) (S.reads store.old) (S.reads store.new) }
-{
-    let (lo, hi) = words;
-    let (first, last) = index.blocks(lo, hi);
-    let mut counts = WordCounts::new(alloc, lo, hi)?;
-    let mut block = Fetched::new(alloc);
-    for k in first..last {
-        index.fetch_doc_words(store, k, &mut block)?;
-        counts.add(&block.docs, &block.words, listed);
-    }
-    let table = counts.table(alloc, cut)?;
-    Ok(table)
 }
 
 /// Counts the rows that these are the numbers of, those of one word in order.

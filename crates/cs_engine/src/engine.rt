@@ -14,6 +14,7 @@ ghost use Rattle.cs_query.specs.RequestView.{asked};
 ghost use Rattle.cs_engine.specs.Asking.{division, is_read, is_changed, titles_asked};
 ghost use Rattle.cs_engine.specs.Keeping.{AreGood, IsAfter, KeepsAnswers, became, entries_behind, note_plan};
 
+use crate::facets::{FacetRows, hold_facets};
 use crate::fault::AskFault;
 use crate::note::Note;
 use crate::replying::answered;
@@ -26,39 +27,47 @@ use std::marker::Model;
 
 /// What answers requests over the store of an index, and keeps of its answers what serves the next ones.
 ///
-/// Each entry that it keeps is in the range of the index, whatever store it was read from.
+/// Each entry that it keeps and each facet that it holds is in the range of the index, whatever store it was read from.
 #[derive(Drop)]
 pub struct Engine {
     /// The index that was opened.
     pub index: Index,
     /// What is kept of answers.
     pub answers: Answers,
+    // The facets that were asked, with their rows.
+    facets: Vec<FacetRows>,
 }
 
 impl Model for Engine {
+    ghost use Rattle.std.specs.List.{All};
+    ghost use Rattle.cs_engine.specs.HeldFacets.{IsFacet};
     ghost use Rattle.cs_engine.specs.Keeping.{EngineView, KeepsFitting};
 
     ghost Value = { EngineView };
 
-    ghost view = { λ e. record { index = e.index; answers = e.answers } };
+    ghost view = { λ e. record { index = e.index; answers = e.answers; facets = e.facets.items } };
 
-    ghost invariant = { λ e. KeepsFitting e.index e.answers.entries };
+    ghost invariant = { λ e. KeepsFitting e.index e.answers.entries × All (IsFacet e.index) e.facets.items };
 }
 
 impl Engine {
-    /// The engine of an index, with nothing kept and room for so many answers.
+    /// The engine of an index, with nothing kept and held, and room for so many answers.
     pub fn new(alloc: Global, index: Index, capacity: usize) -> Result<Engine, cs_base::Memory>
         requires some { 1 ≤ capacity }
         requires limit { capacity ≤ MAX_ENTRIES }
 
-        ensures ok { IfOk result (λ e. e ≡ record { index = index; answers = answer_list [] capacity }) }
+        ensures ok { IfOk result (λ e. e ≡ record { index = index; answers = answer_list [] capacity; facets = [] }) }
     {
         let answers = Answers::new(alloc, capacity)?;
-        Ok(Engine { index, answers })
+        Ok(Engine {
+            index,
+            answers,
+            facets: Vec::new(alloc),
+        })
     }
 
-    /// The reply to a request, over the store from which the index was opened, and how it was answered. It goes on from what is kept;
-    /// blocks are read where that doesn't serve.
+    /// The reply to a request, over the store from which the index was opened, and how it was answered. It goes on from what is kept and
+    /// from the facets that are held; blocks are read where that doesn't serve.
     ///
     /// A failed read and a change of the file are told as such, and want of memory too; the same answers are kept then.
     pub fn ask<S: Store>(
@@ -86,11 +95,14 @@ impl Engine {
         ensures caused { CausedReads (is_read result) (S.faults store.old) (S.faults store.new) }
     {
         let keys = keys(alloc, &request.query)?;
+        let names = request.facets.as_slice();
+        hold_facets(alloc, &self.index, store, names, &mut self.facets)?;
         let plan = self.answers.look(&keys);
         let (reply, own) = answered(
             alloc,
             &self.index,
             &self.answers,
+            &self.facets,
             store,
             request,
             &keys,

@@ -12,6 +12,7 @@ mod counting;
 mod engine;
 mod entries;
 mod evaluation;
+mod facets;
 mod fault;
 mod gathering;
 mod hits;

@@ -7,20 +7,21 @@ ghost use Rattle.cs_file.specs.Indexes.{IsIndex, is_met};
 ghost use Rattle.cs_model.specs.Parameters.{HoldsLimits};
 ghost use Rattle.cs_model.specs.Requests.{reply_of};
 ghost use Rattle.cs_model_index.specs.Sections.{file_corpus};
-ghost use Rattle.cs_model_kept.specs.Due.{met_of_facets};
 ghost use Rattle.cs_model_kept.specs.Entries.{listed_count};
 ghost use Rattle.cs_query.specs.RequestView.{asked};
 ghost use Rattle.cs_engine.specs.Asking.{division, is_read, is_changed, titles_asked, titles_read};
 ghost use Rattle.cs_engine.specs.Blockwise.{AreMany};
+ghost use Rattle.cs_engine.specs.HeldFacets.{HoldsFacets, WhereHeld};
 ghost use Rattle.cs_engine.specs.Keeping.{FitsQuery, IsAnsweredOver};
 ghost use Rattle.cs_engine.specs.Counting.{AreListed};
 ghost use Rattle.cs_engine.specs.GatheredRows.{HasGathered};
 ghost use Rattle.cs_engine.specs.Loose.{AreLastWords, IsEntryByWords};
-ghost use Rattle.cs_engine.specs.IndexReading.{IsOpened, IsWordRange, OnlyReads, WhereStood};
+ghost use Rattle.cs_engine.specs.IndexReading.{IsOpened, IsWordRange, OnlyReads};
 
 use crate::answering::reply_of;
 use crate::blockwise::{are_many, found_behind};
 use crate::counting::listed_docs;
+use crate::facets::FacetRows;
 use crate::fault::AskFault;
 use crate::gathering::{Gathered, gather, nothing_gathered};
 use crate::packing::ordered;
@@ -37,6 +38,7 @@ use std::alloc::Global;
 pub(crate) fn answered_by_words<S: Store>(
     alloc: Global,
     index: &Index,
+    held: &[FacetRows],
     store: &mut S,
     request: &Request,
     hits: Base,
@@ -44,33 +46,36 @@ pub(crate) fn answered_by_words<S: Store>(
 ) -> Result<(Reply, Option<Entry>), AskFault>
     requires limits { HoldsLimits (asked request.now) }
     requires asks { AreLastWords index.now request.now.query hits words.0 words.1 }
+    requires held { HoldsFacets index.now held.now (asked request.now).facets }
     requires opened { IsOpened (S.bytes store.old) index.now }
 
-    ensures told { WhereStood (S.bytes store.old) index.now
+    ensures told { WhereHeld (S.bytes store.old) index.now held.now
         (λ b. IsEntryByWords b index.now request.now.query hits words.0 words.1 → IfOk result (IsAnsweredOver b index.now (asked request.now))) }
     ensures few { IfOk result (λ a. length a.0.hits ≤ request.now.hits) }
     ensures within { IfOk result (λ a. IfSome a.1 (FitsQuery index.now request.now.query)) }
     ensures store { OnlyReads S.bytes S.lent S.faults index.now store.old store.new (is_read result) (is_changed result) }
-    ensures reads { ReadsWithin (titles_asked (asked request.now) result + met_of_facets (division index.now) (asked request.now).facets + length
+    ensures reads { ReadsWithin (titles_asked (asked request.now) result + length
         (filter (is_met words.0 words.1) index.now.heads)) (S.reads store.old) (S.reads store.new) }
 {
     let listed = listed_docs(alloc, index.docs, &hits)?;
     if fills(index, &hits, words) {
         let none = nothing_gathered(alloc, index, words);
-        let reply = reply_behind(alloc, index, store, request, &hits, words, &listed, &none)?;
+        let reply = reply_behind(
+            alloc, index, held, store, request, &hits, words, &listed, &none,
+        )?;
         return Ok((reply, None));
     }
     let room = MAX_ENTRY_SIZE.saturating_sub(size_of(&hits));
     let gathered = gather(alloc, index, store, words, &listed, room)?;
     if gathered.keys.len() > room {
         let reply = reply_behind(
-            alloc, index, store, request, &hits, words, &listed, &gathered,
+            alloc, index, held, store, request, &hits, words, &listed, &gathered,
         )?;
         return Ok((reply, None));
     }
     let rows = ordered(alloc, gathered.keys)?;
     let entry = Entry { base: hits, rows };
-    let answered = with_reply(alloc, index, store, request, entry)?;
+    let answered = with_reply(alloc, index, held, store, request, entry)?;
     Ok(answered)
 }
 
@@ -103,6 +108,7 @@ fn size_of(base: &Base) -> usize
 fn reply_behind<S: Store>(
     alloc: Global,
     index: &Index,
+    held: &[FacetRows],
     store: &mut S,
     request: &Request,
     hits: &Base,
@@ -114,13 +120,14 @@ fn reply_behind<S: Store>(
     requires asks { AreLastWords index.now request.now.query hits.now words.0 words.1 }
     requires listed { AreListed index.now.docs hits.now listed.now }
     requires gathered { HasGathered index.now (S.bytes store.old) words.0 words.1 listed.now gathered.now }
+    requires held { HoldsFacets index.now held.now (asked request.now).facets }
     requires opened { IsOpened (S.bytes store.old) index.now }
 
-    ensures told { WhereStood (S.bytes store.old) index.now
+    ensures told { WhereHeld (S.bytes store.old) index.now held.now
         (λ b. IsEntryByWords b index.now request.now.query hits.now words.0 words.1 → IfOk result (λ r. r ≡ reply_of (file_corpus b) (asked request.now))) }
     ensures few { IfOk result (λ r. length r.hits ≤ request.now.hits) }
     ensures store { OnlyReads S.bytes S.lent S.faults index.now store.old store.new (is_read result) (is_changed result) }
-    ensures reads { ReadsWithin (titles_read (asked request.now) result + met_of_facets (division index.now) (asked request.now).facets
+    ensures reads { ReadsWithin (titles_read (asked request.now) result
         + (gathered.now.last - gathered.now.next)) (S.reads store.old) (S.reads store.new) }
 {
     let (found, table) = found_behind(
@@ -133,6 +140,14 @@ fn reply_behind<S: Store>(
         gathered,
         request.completions,
     )?;
-    let reply = reply_of(alloc, index, store, request, Base::Listed(found), table)?;
+    let reply = reply_of(
+        alloc,
+        index,
+        held,
+        store,
+        request,
+        Base::Listed(found),
+        table,
+    )?;
     Ok(reply)
 }

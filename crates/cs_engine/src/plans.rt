@@ -7,16 +7,18 @@ ghost use Rattle.cs_model.specs.Answers.{begins};
 ghost use Rattle.cs_model.specs.Keys.{last_of, last_prefix};
 ghost use Rattle.cs_model.specs.Parameters.{HoldsLimits};
 ghost use Rattle.cs_model_index.specs.Numbered.{word_at};
-ghost use Rattle.cs_model_kept.specs.Due.{met_of_facets, met_of_last};
+ghost use Rattle.cs_model_kept.specs.Due.{met_of_last};
 ghost use Rattle.cs_model_kept.specs.KeptListLaws.{before_last};
 ghost use Rattle.cs_query.specs.RequestView.{asked};
 ghost use Rattle.cs_engine.specs.Asking.{division, is_read, is_changed, titles_asked};
+ghost use Rattle.cs_engine.specs.HeldFacets.{HoldsFacets, WhereHeld};
 ghost use Rattle.cs_engine.specs.Keeping.{FitsQuery, IsAnsweredOver, IsEntryOver, entry_with};
-ghost use Rattle.cs_engine.specs.IndexReading.{AreWithin, IsOpened, OnlyReads, WhereStood};
+ghost use Rattle.cs_engine.specs.IndexReading.{AreWithin, IsOpened, OnlyReads};
 ghost use Rattle.cs_engine.specs.Steps.{AreHitsOver, IsBaseOf};
 
 use crate::between::posts_between;
 use crate::entries::{copy_of, hits_of};
+use crate::facets::FacetRows;
 use crate::fault::AskFault;
 use crate::loose::answered_by_words;
 use crate::plain::words_of_part;
@@ -62,6 +64,7 @@ pub(crate) fn narrowed(
 pub(crate) fn answered_by_part<S: Store>(
     alloc: Global,
     index: &Index,
+    held: &[FacetRows],
     store: &mut S,
     request: &Request,
     base: &Base,
@@ -70,21 +73,22 @@ pub(crate) fn answered_by_part<S: Store>(
     requires limits { HoldsLimits (asked request.now) }
     requires some { 1 ≤ length (out-Query request.now.query).parts }
     requires before { FitsQuery index.now (before_last request.now.query) (entry_with base.now rows.now.posts) }
+    requires held { HoldsFacets index.now held.now (asked request.now).facets }
     requires opened { IsOpened (S.bytes store.old) index.now }
 
-    ensures told { WhereStood (S.bytes store.old) index.now
+    ensures told { WhereHeld (S.bytes store.old) index.now held.now
         (λ b. IsEntryOver b index.now (before_last request.now.query) (entry_with base.now rows.now.posts)
         → IfOk result (IsAnsweredOver b index.now (asked request.now))) }
     ensures few { IfOk result (λ a. length a.0.hits ≤ request.now.hits) }
     ensures within { IfOk result (λ a. IfSome a.1 (FitsQuery index.now request.now.query)) }
     ensures store { OnlyReads S.bytes S.lent S.faults index.now store.old store.new (is_read result) (is_changed result) }
-    ensures reads { ReadsWithin (titles_asked (asked request.now) result + met_of_facets (division index.now) (asked request.now).facets + met_of_last
+    ensures reads { ReadsWithin (titles_asked (asked request.now) result + met_of_last
         (division index.now) (last_of (out-Query request.now.query).parts)) (S.reads store.old) (S.reads store.new) }
 {
     let parts = request.query.parts.as_slice();
     let positive = end_positive(&parts[..parts.len() - 1]);
     let hits = hits_of(alloc, positive, base, rows)?;
-    answered_by_hits(alloc, index, store, request, hits)
+    answered_by_hits(alloc, index, held, store, request, hits)
 }
 
 /// The reply to a query by the hits of its parts before the last, whose atoms are read, and the query's own entry; None where that is
@@ -92,6 +96,7 @@ pub(crate) fn answered_by_part<S: Store>(
 pub(crate) fn answered_by_hits<S: Store>(
     alloc: Global,
     index: &Index,
+    held: &[FacetRows],
     store: &mut S,
     request: &Request,
     hits: Base,
@@ -99,24 +104,25 @@ pub(crate) fn answered_by_hits<S: Store>(
     requires limits { HoldsLimits (asked request.now) }
     requires some { 1 ≤ length (out-Query request.now.query).parts }
     requires base { IsBaseOf index.now.docs (MAX_ROW_SCORE * (length (out-Query request.now.query).parts - 1)) hits }
+    requires held { HoldsFacets index.now held.now (asked request.now).facets }
     requires opened { IsOpened (S.bytes store.old) index.now }
 
-    ensures told { WhereStood (S.bytes store.old) index.now
+    ensures told { WhereHeld (S.bytes store.old) index.now held.now
         (λ b. AreHitsOver b (before_last request.now.query) hits → IfOk result (IsAnsweredOver b index.now (asked request.now))) }
     ensures few { IfOk result (λ a. length a.0.hits ≤ request.now.hits) }
     ensures within { IfOk result (λ a. IfSome a.1 (FitsQuery index.now request.now.query)) }
     ensures store { OnlyReads S.bytes S.lent S.faults index.now store.old store.new (is_read result) (is_changed result) }
-    ensures reads { ReadsWithin (titles_asked (asked request.now) result + met_of_facets (division index.now) (asked request.now).facets + met_of_last
+    ensures reads { ReadsWithin (titles_asked (asked request.now) result + met_of_last
         (division index.now) (last_of (out-Query request.now.query).parts)) (S.reads store.old) (S.reads store.new) }
 {
     let parts = request.query.parts.as_slice();
     let last = parts.len() - 1;
     let part = &parts[last];
     if let Some(words) = words_of_part(index, part) {
-        let answered = answered_by_words(alloc, index, store, request, hits, words)?;
+        let answered = answered_by_words(alloc, index, held, store, request, hits, words)?;
         return Ok(answered);
     }
     let entry = extended(alloc, index, store, hits, part)?;
-    let answered = with_reply(alloc, index, store, request, entry)?;
+    let answered = with_reply(alloc, index, held, store, request, entry)?;
     Ok(answered)
 }

@@ -7,16 +7,18 @@ ghost use Rattle.cs_model.specs.Keys.{keys_of};
 ghost use Rattle.cs_model.specs.Parameters.{HoldsLimits};
 ghost use Rattle.cs_model.specs.Requests.{reply_of};
 ghost use Rattle.cs_model_index.specs.Sections.{file_corpus};
-ghost use Rattle.cs_model_kept.specs.Due.{due, met_of_facets, met_of_query};
+ghost use Rattle.cs_model_kept.specs.Due.{met_by, met_of_query};
 ghost use Rattle.cs_model_kept.specs.Entries.{entry_of};
 ghost use Rattle.cs_model_kept.specs.KeptList.{kept_fresh, plan_by, is_same};
 ghost use Rattle.cs_query.specs.RequestView.{asked};
 ghost use Rattle.cs_engine.specs.Asking.{division, is_read, is_changed, titles_asked, titles_read};
+ghost use Rattle.cs_engine.specs.HeldFacets.{HoldsFacets, WhereHeld};
 ghost use Rattle.cs_engine.specs.Keeping.{FitsQuery, HoldsGood, IsAnsweredOver, IsEntryOver, KeepsFitting, entry_with};
-ghost use Rattle.cs_engine.specs.IndexReading.{IsOpened, OnlyReads, WhereStood};
+ghost use Rattle.cs_engine.specs.IndexReading.{IsOpened, OnlyReads};
 
 use crate::answering::reply_of;
 use crate::entries::{hits_of, nothing_kept};
+use crate::facets::FacetRows;
 use crate::fault::AskFault;
 use crate::plans::{answered_by_hits, answered_by_part, narrowed};
 use crate::steps::{end_positive, hits_of_parts};
@@ -33,6 +35,7 @@ pub(crate) fn answered<S: Store>(
     alloc: Global,
     index: &Index,
     answers: &Answers,
+    held: &[FacetRows],
     store: &mut S,
     request: &Request,
     keys: &Keys,
@@ -42,20 +45,21 @@ pub(crate) fn answered<S: Store>(
     requires keys { keys.now ≡ keys_of request.now.query }
     requires plan { plan ≡ plan_by answers.now.entries keys.now }
     requires kept { KeepsFitting index.now answers.now.entries }
+    requires held { HoldsFacets index.now held.now (asked request.now).facets }
     requires fits { HasAllBlocks (S.bytes store.old) index.now }
 
-    ensures told { WhereStood (S.bytes store.old) index.now
+    ensures told { WhereHeld (S.bytes store.old) index.now held.now
         (λ b. HoldsGood b index.now answers.now.entries → IfOk result (λ a. a.0 ≡ reply_of (file_corpus b) (asked request.now))) }
-    ensures own { WhereStood (S.bytes store.old) index.now
+    ensures own { WhereHeld (S.bytes store.old) index.now held.now
         (λ b. HoldsGood b index.now answers.now.entries → IfOk result (λ a. IfSome a.1 (IsEntryOver b index.now request.now.query))) }
     ensures few { IfOk result (λ a. length a.0.hits ≤ request.now.hits) }
     ensures within { IfOk result (λ a. IfSome a.1 (FitsQuery index.now request.now.query)) }
     ensures had { IfOk result (λ a. is_same plan ≡ true → is_some a.1 ≡ false) }
-    ensures large { WhereStood (S.bytes store.old) index.now
+    ensures large { WhereHeld (S.bytes store.old) index.now held.now
         (λ b. HoldsGood b index.now answers.now.entries
         → IfOk result (λ a. is_some a.1 ≡ false → is_same plan ≡ false → kept_fresh (entry_of (file_corpus b) request.now.query) ≡ kept.TooLarge)) }
     ensures store { OnlyReads S.bytes S.lent S.faults index.now store.old store.new (is_read result) (is_changed result) }
-    ensures reads { ReadsWithin (due (division index.now) (asked request.now) plan (titles_asked (asked request.now) result)) (S.reads store.old)
+    ensures reads { ReadsWithin (titles_asked (asked request.now) result + met_by (division index.now) request.now.query plan) (S.reads store.old)
         (S.reads store.new) }
 {
     // the type of an index says what it keeps where a field of it is read
@@ -63,22 +67,24 @@ pub(crate) fn answered<S: Store>(
     match plan {
         Plan::Same => {
             let view = answers.view(keys, plan);
-            let reply = by_entry(alloc, index, store, request, view.base, view.rows)?;
+            let reply = by_entry(alloc, index, held, store, request, view.base, view.rows)?;
             Ok((reply, None))
         }
         Plan::Narrow { .. } => {
             let view = answers.view(keys, plan);
             let entry = narrowed(alloc, index, &request.query, view.base, view.rows)?;
-            let answered = with_reply(alloc, index, store, request, entry)?;
+            let answered = with_reply(alloc, index, held, store, request, entry)?;
             Ok(answered)
         }
         Plan::Extend => {
             let view = answers.view(keys, plan);
-            let answered = answered_by_part(alloc, index, store, request, view.base, view.rows)?;
+            let answered = answered_by_part(
+                alloc, index, held, store, request, view.base, view.rows,
+            )?;
             Ok(answered)
         }
         Plan::Fresh => {
-            let answered = fresh(alloc, index, store, request)?;
+            let answered = fresh(alloc, index, held, store, request)?;
             Ok(answered)
         }
     }
@@ -88,27 +94,29 @@ pub(crate) fn answered<S: Store>(
 fn fresh<S: Store>(
     alloc: Global,
     index: &Index,
+    held: &[FacetRows],
     store: &mut S,
     request: &Request,
 ) -> Result<(Reply, Option<Entry>), AskFault>
     requires limits { HoldsLimits (asked request.now) }
+    requires held { HoldsFacets index.now held.now (asked request.now).facets }
     requires opened { IsOpened (S.bytes store.old) index.now }
 
-    ensures told { WhereStood (S.bytes store.old) index.now (λ b. IfOk result (IsAnsweredOver b index.now (asked request.now))) }
+    ensures told { WhereHeld (S.bytes store.old) index.now held.now (λ b. IfOk result (IsAnsweredOver b index.now (asked request.now))) }
     ensures few { IfOk result (λ a. length a.0.hits ≤ request.now.hits) }
     ensures within { IfOk result (λ a. IfSome a.1 (FitsQuery index.now request.now.query)) }
     ensures store { OnlyReads S.bytes S.lent S.faults index.now store.old store.new (is_read result) (is_changed result) }
-    ensures reads { ReadsWithin (titles_asked (asked request.now) result + met_of_facets (division index.now) (asked request.now).facets + met_of_query
+    ensures reads { ReadsWithin (titles_asked (asked request.now) result + met_of_query
         (division index.now) request.now.query) (S.reads store.old) (S.reads store.new) }
 {
     let parts = request.query.parts.as_slice();
     if parts.is_empty() {
         let entry = nothing_kept(alloc);
-        let answered = with_reply(alloc, index, store, request, entry)?;
+        let answered = with_reply(alloc, index, held, store, request, entry)?;
         return Ok(answered);
     }
     let hits = hits_of_parts(alloc, index, store, &parts[..parts.len() - 1])?;
-    let answered = answered_by_hits(alloc, index, store, request, hits)?;
+    let answered = answered_by_hits(alloc, index, held, store, request, hits)?;
     Ok(answered)
 }
 
@@ -116,23 +124,25 @@ fn fresh<S: Store>(
 pub(crate) fn with_reply<S: Store>(
     alloc: Global,
     index: &Index,
+    held: &[FacetRows],
     store: &mut S,
     request: &Request,
     entry: Entry,
 ) -> Result<(Reply, Option<Entry>), AskFault>
     requires limits { HoldsLimits (asked request.now) }
     requires entry { FitsQuery index.now request.now.query entry }
+    requires held { HoldsFacets index.now held.now (asked request.now).facets }
     requires opened { IsOpened (S.bytes store.old) index.now }
 
-    ensures told { WhereStood (S.bytes store.old) index.now
+    ensures told { WhereHeld (S.bytes store.old) index.now held.now
         (λ b. IsEntryOver b index.now request.now.query entry → IfOk result (λ a. a.0 ≡ reply_of (file_corpus b) (asked request.now))) }
     ensures few { IfOk result (λ a. length a.0.hits ≤ request.now.hits) }
     ensures same { IfOk result (λ a. a.1 ≡ Some entry) }
     ensures store { OnlyReads S.bytes S.lent S.faults index.now store.old store.new (is_read result) (is_changed result) }
-    ensures reads { ReadsWithin (titles_asked (asked request.now) result + met_of_facets (division index.now) (asked request.now).facets) (S.reads store.old)
+    ensures reads { ReadsWithin (titles_asked (asked request.now) result) (S.reads store.old)
         (S.reads store.new) }
 {
-    let reply = by_entry(alloc, index, store, request, &entry.base, &entry.rows)?;
+    let reply = by_entry(alloc, index, held, store, request, &entry.base, &entry.rows)?;
     Ok((reply, Some(entry)))
 }
 
@@ -140,6 +150,7 @@ pub(crate) fn with_reply<S: Store>(
 fn by_entry<S: Store>(
     alloc: Global,
     index: &Index,
+    held: &[FacetRows],
     store: &mut S,
     request: &Request,
     base: &Base,
@@ -147,19 +158,20 @@ fn by_entry<S: Store>(
 ) -> Result<Reply, AskFault>
     requires limits { HoldsLimits (asked request.now) }
     requires entry { FitsQuery index.now request.now.query (entry_with base.now rows.now.posts) }
+    requires held { HoldsFacets index.now held.now (asked request.now).facets }
     requires opened { IsOpened (S.bytes store.old) index.now }
 
-    ensures told { WhereStood (S.bytes store.old) index.now
+    ensures told { WhereHeld (S.bytes store.old) index.now held.now
         (λ b. IsEntryOver b index.now request.now.query (entry_with base.now rows.now.posts)
         → IfOk result (λ r. r ≡ reply_of (file_corpus b) (asked request.now))) }
     ensures few { IfOk result (λ r. length r.hits ≤ request.now.hits) }
     ensures store { OnlyReads S.bytes S.lent S.faults index.now store.old store.new (is_read result) (is_changed result) }
-    ensures reads { ReadsWithin (titles_read (asked request.now) result + met_of_facets (division index.now) (asked request.now).facets) (S.reads store.old)
+    ensures reads { ReadsWithin (titles_read (asked request.now) result) (S.reads store.old)
         (S.reads store.new) }
 {
     let positive = end_positive(request.query.parts.as_slice());
     let hits = hits_of(alloc, positive, base, rows)?;
     let table = completions(alloc, rows, request.completions)?;
-    let reply = reply_of(alloc, index, store, request, hits, table)?;
+    let reply = reply_of(alloc, index, held, store, request, hits, table)?;
     Ok(reply)
 }

@@ -39,7 +39,7 @@ overflow_cast-result g c =
     omega (arith, c.len.ensures, few)
 
 pub returns-clause-told : goal.returns-clause-told
-returns-clause-told g c b is stands found =
+returns-clause-told g c b is stands over found =
     let i = c.args.index.now in
     let r = asked c.args.request.now in
     let words = ap (λ (x : IndexView). x.words) c.index.view_is in
@@ -47,9 +47,9 @@ returns-clause-told g c b is stands found =
     let posts = found.posts in
     let shown = words_as_shown b i stands c.requires.opened.index posts found.within _ words r.completions c.args.table.first found.first c.in_ok-shown.shown
     (c.in_ok-shown.ensures ∙ ap (map (shown_at _)) c.as_slice.ensures) in
-    let hits = c.in_ok-shown_first.ensures.told b (c.shown_facets.ensures.store.bytes ∙ is) stands
+    let hits = c.in_ok-shown_first.ensures.told b is stands
     ∙ ap (map (hit_shown (corpus_in (stock_of b))))
     (c.as_slice-3.ensures ∙ c.in_ok-first.ensures.ok ∙ ap (λ hs. take r.hits (drop r.offset (members_in by_rank hs))) c.as_slice-2.ensures) in
     reply_told b i stands c.requires.opened.index r c.args.hits posts found.found found.within c.in_ok-shown.shown c.in_ok-facets.facets
     c.in_ok-shown_first.shown_first c.args.table.total c.len.result c.in_ok-all.all
-    shown (c.in_ok-facets.ensures.told b is stands) hits found.total c.len.ensures _ docs c.in_ok-all.ensures
+    shown (c.in_ok-facets.ensures b stands over) hits found.total c.len.ensures _ docs c.in_ok-all.ensures

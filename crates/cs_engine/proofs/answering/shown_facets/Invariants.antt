@@ -1,17 +1,12 @@
-use Rattle.std.proofs.Common.{◌≡◌, ◌++◌, [], map, drop}
-use Rattle.cs_model.specs.Collection.{named}
-use Rattle.cs_model_kept.specs.Due.{met_of_facets, met_prefix}
-use Rattle.cs_query.specs.RequestView.{asked}
-use Rattle.cs_engine.specs.Asking.{division}
-use Rattle.cs_engine.specs.IndexReading.{WhereStood, stock_of}
+use Rattle.std.proofs.Common.{◌≡◌, ◌++◌, ℕ, List, map, drop}
+use Rattle.cs_file.specs.Indexes.{StandsFor}
+use Rattle.cs_engine.specs.HeldFacets.{AreFacetsOver}
+use Rattle.cs_engine.specs.IndexReading.{stock_of}
 use Rattle.cs_engine.specs.Stocked.{facet_at}
-use Rattle.cs_engine.proofs.WalkLemmas.{ListWalk}
 use Rattle.cs_engine.proofs.answering.shown_facets.Given as goal
 
 abbrev pub invariant-loop-name : goal.invariant-loop-name
-invariant-loop-name g l = let v = division l.index in record {
-  walk : ListWalk g.S.Store.bytes g.S.Store.lent g.S.Store.faults g.S.Store.reads
-      l.index (λ n. met_prefix v (named n [])) l.name-items (met_of_facets v (asked l.request).facets) l.fn.store l.store l.name-index;
-  told : WhereStood (g.S.Store.bytes l.fn.store) l.index
-      (λ b. let f = facet_at (stock_of b) l.base l.request.completions in map f l.name-items ≡ l.shown ++ map f (drop l.name-index l.name-items));
+invariant-loop-name l = record {
+  told : (b : List ℕ) → StandsFor b l.index → AreFacetsOver b l.held
+      → (let f = facet_at (stock_of b) l.base l.request.completions in map f l.name-items ≡ l.shown ++ map f (drop l.name-index l.name-items));
 }

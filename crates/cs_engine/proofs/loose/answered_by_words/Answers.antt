@@ -21,7 +21,7 @@ use Rattle.cs_engine.proofs.loose.answered_by_words.Goals as goal
 
 -- ---- too many rows, as the directory says
 pub returns-then-fills-clause-told : goal.returns-then-fills-clause-told
-returns-then-fills-clause-told g c b is stands by =
+returns-then-fills-clause-told g c b is stands held by =
     let i = c.args.index.now in
     let q = c.args.request.now.query in
     let lo = c.args.words.0 in
@@ -32,7 +32,7 @@ returns-then-fills-clause-told g c b is stands by =
     let asks = subst (λ h. AreLastWords i q h lo hi) none c.requires.asks in
     let own = subst (λ h. IsEntryByWords b i q h lo hi) none by in
     record {
-      reply = c.in_ok-reply.ensures.told b is stands by;
+      reply = c.in_ok-reply.ensures.told b is stands held by;
       own = tt;
       large = λ gone.
           large_entry i q base.All lo hi asks all has b stands c.requires.opened.index own (filter (is_between lo hi) (stock_of b).posts)
@@ -60,7 +60,7 @@ returns-then-fills-clause-reads g c =
 
 -- ---- too many rows
 pub returns-then-len-room-clause-told : goal.returns-then-len-room-clause-told
-returns-then-len-room-clause-told g c b is stands by =
+returns-then-len-room-clause-told g c b is stands held by =
     let i = c.args.index.now in
     let lo = c.args.words.0 in
     let hi = c.args.words.1 in
@@ -71,7 +71,7 @@ returns-then-len-room-clause-told g c b is stands by =
     let has = listed_in i c.args.hits c.in_ok-listed.listed.items listed (ap (λ (x : IndexView). x.docs) c.index.view_is) c.in_ok-listed.ensures c.deref-2.ensures.value in
     let more = run_longer (is_chosen lo hi listed) (image_of b).blocks from.first from.next from.last had.upto in
     record {
-      reply = c.in_ok-reply-2.ensures.told b (c.gather.ensures.store.bytes ∙ is) stands by;
+      reply = c.in_ok-reply-2.ensures.told b (c.gather.ensures.store.bytes ∙ is) stands held by;
       own = tt;
       large = λ none.
           is_large i c.args.request.now.query c.args.hits lo hi c.requires.asks listed has b stands
@@ -122,7 +122,7 @@ with_reply-requires-clause-entry g c =
     (ordered_within i h.rows rows h.within o) (ordered_passed c.args.words.0 c.args.words.1 listed h.rows rows h.passed o)
 
 pub returns-clause-told : goal.returns-clause-told
-returns-clause-told g c b is stands by =
+returns-clause-told g c b is stands held by =
     let i = c.args.index.now in
     let listed = c.deref-2.result.now in
     let has = listed_in i c.args.hits c.in_ok-listed.listed.items listed (ap (λ (x : IndexView). x.docs) c.index.view_is) c.in_ok-listed.ensures c.deref-2.ensures.value in
@@ -135,7 +135,7 @@ returns-clause-told g c b is stands by =
     let own = chosen_entry i c.args.request.now.query c.args.hits c.args.words.0 c.args.words.1 c.requires.asks listed has b stands c.requires.opened.index
     by rows (ordered_told b i stands c.requires.opened.index c.args.words.0 c.args.words.1 listed r.rows rows (r.stood b is stands) o) in
     record {
-      reply = c.in_ok-answered.ensures.told b (c.gather.ensures.store.bytes ∙ is) stands own;
+      reply = c.in_ok-answered.ensures.told b (c.gather.ensures.store.bytes ∙ is) stands held own;
       own = subst (λ e. IfSome e (IsEntryOver b i c.args.request.now.query)) (sym c.in_ok-answered.ensures.same) own;
       large = λ none. absurd (true≢false (ap is_some (sym c.in_ok-answered.ensures.same) ∙ none));
     }

@@ -35,11 +35,11 @@ returns-in_err-answered-clause-reads g c =
     within_more c.in_err-answered.ensures.reads (omega (arith, met, few, due))
 
 pub returns-in-Some-clause-told : goal.returns-in-Some-clause-told
-returns-in-Some-clause-told g c b is stands over =
+returns-in-Some-clause-told g c b is stands held over =
     let q = c.args.request.now.query in
     let x = c.index-parts-last.result in
     let last = is_last {q = q} c.requires.some c.as_slice-parts.ensures c.index-parts-last.is in
-    c.in_ok-answered.ensures.told b is stands
+    c.in_ok-answered.ensures.told b is stands held
     (more_by_words q b c.args.index.now stands c.requires.opened.index x c.args.hits c.in-Some.words.0 c.in-Some.words.1 last over c.in-Some.ensures.positive
     c.in-Some.ensures.words)
 
@@ -75,14 +75,14 @@ returns-in_err-answered-2-clause-reads g c =
     within_both c.extended.ensures.reads c.in_err-answered-2.ensures.reads (omega (arith, met, due))
 
 pub returns-clause-told : goal.returns-clause-told
-returns-clause-told g c b is stands over =
+returns-clause-told g c b is stands held over =
     let q = c.args.request.now.query in
     let i = c.args.index.now in
     let x = c.index-parts-last.result in
     let last = is_last {q = q} c.requires.some c.as_slice-parts.ensures c.index-parts-last.is in
     let own = more_told q b i stands c.requires.opened.index x c.args.hits c.in_ok-entry.entry last over (c.in_ok-entry.ensures.told b is stands) in
     record {
-      reply = c.in_ok-answered-2.ensures.told b (c.extended.ensures.store.bytes ∙ is) stands own;
+      reply = c.in_ok-answered-2.ensures.told b (c.extended.ensures.store.bytes ∙ is) stands held own;
       own = subst (λ o. IfSome o (IsEntryOver b i q)) (sym c.in_ok-answered-2.ensures.same) own;
       large = λ none. absurd (true≢false (ap is_some (sym c.in_ok-answered-2.ensures.same) ∙ none));
     }

@@ -17,7 +17,7 @@ answered_by_hits-requires-clause-base g c =
     first_in q c.args.index.now (entry_with c.args.base.now c.args.rows.now.posts) p c.in_ok-hits.hits c.requires.before ends c.in_ok-hits.ensures
 
 pub returns-clause-told : goal.returns-clause-told
-returns-clause-told g c b is stands own =
+returns-clause-told g c b is stands held own =
     let q = c.args.request.now.query in
     let ps = (out-Query q).parts in
     let p = c.end_positive-positive.result in
@@ -25,4 +25,4 @@ returns-clause-told g c b is stands own =
     ∙ ap (λ (xs : List Part). end_positive (take (length xs - 1) xs)) c.as_slice-parts.ensures in
     let found = found_by_entry c.args.index.now (before_last q) (entry_with c.args.base.now c.args.rows.now.posts) p
     (ends_first q p ends) c.in_ok-hits.hits c.in_ok-hits.ensures b stands c.requires.opened.index own in
-    c.answered_by_hits.ensures.told b is stands found.base
+    c.answered_by_hits.ensures.told b is stands held found.base

@@ -28,8 +28,8 @@ returns-in_err-reply-in-Same-clause-reads g c =
     (asked c.args.request.now) c.args.plan c.from_residual.result c.from_residual.ensures.0 c.in_err-reply-in-Same.ensures.reads
 
 pub returns-in_ok-reply-in-Same-clause-told : goal.returns-in_ok-reply-in-Same-clause-told
-returns-in_ok-reply-in-Same-clause-told g c b is stands good =
-    c.in_ok-reply-in-Same.ensures.told b is stands
+returns-in_ok-reply-in-Same-clause-told g c b is stands over good =
+    c.in_ok-reply-in-Same.ensures.told b is stands over
     ((same_lent c.args.index.now c.args.answers.now.entries c.requires.kept c.args.request.now.query c.requires.limits.query c.args.keys.now c.requires.keys
     c.args.plan c.requires.plan c.view-view.result.base.now c.view-view.result.rows.now.posts
     c.view-view.ensures.base c.view-view.ensures.rows c.in-Same.is).1 b good)
@@ -65,15 +65,15 @@ returns-in_err-answered-in-Narrow-clause-reads g c =
     c.from_residual-in_err-answered-in-Narrow.result c.from_residual-in_err-answered-in-Narrow.ensures.0 c.in_err-answered-in-Narrow.ensures.reads
 
 pub returns-in_ok-answered-in-Narrow-clause-told : goal.returns-in_ok-answered-in-Narrow-clause-told
-returns-in_ok-answered-in-Narrow-clause-told g c b is stands good =
-    c.in_ok-answered-in-Narrow.ensures.told b is stands
+returns-in_ok-answered-in-Narrow-clause-told g c b is stands over good =
+    c.in_ok-answered-in-Narrow.ensures.told b is stands over
     ((narrow_lent c.args.index.now c.args.answers.now.entries c.requires.kept c.args.request.now.query c.requires.limits.query c.args.keys.now
     c.requires.keys c.args.plan c.requires.plan c.view-view-in-Narrow.result.base.now c.view-view-in-Narrow.result.rows.now.posts
     c.view-view-in-Narrow.ensures.base c.view-view-in-Narrow.ensures.rows c.in-Narrow.cut c.in-Narrow.is c.in_ok-entry-in-Narrow.entry
     c.in_ok-entry-in-Narrow.ensures.base c.in_ok-entry-in-Narrow.ensures.rows).1 b good)
 
 pub returns-in_ok-answered-in-Narrow-clause-own : goal.returns-in_ok-answered-in-Narrow-clause-own
-returns-in_ok-answered-in-Narrow-clause-own g c b is stands good =
+returns-in_ok-answered-in-Narrow-clause-own g c b is stands over good =
     subst (λ o. IfSome o (IsEntryOver b c.args.index.now c.args.request.now.query)) (sym c.in_ok-answered-in-Narrow.ensures.same)
     ((narrow_lent c.args.index.now c.args.answers.now.entries c.requires.kept c.args.request.now.query c.requires.limits.query c.args.keys.now
     c.requires.keys c.args.plan c.requires.plan c.view-view-in-Narrow.result.base.now c.view-view-in-Narrow.result.rows.now.posts
@@ -120,22 +120,22 @@ returns-in_err-answered-in-Extend-clause-reads g c =
     c.from_residual-in_err-answered-in-Extend.ensures.0 Extend c.in-Extend.is c.in_err-answered-in-Extend.ensures.reads
 
 pub returns-in_ok-answered-in-Extend-clause-told : goal.returns-in_ok-answered-in-Extend-clause-told
-returns-in_ok-answered-in-Extend-clause-told g c b is stands good =
-    (c.in_ok-answered-in-Extend.ensures.told b is stands
+returns-in_ok-answered-in-Extend-clause-told g c b is stands over good =
+    (c.in_ok-answered-in-Extend.ensures.told b is stands over
     ((extend_lent c.args.index.now c.args.answers.now.entries c.requires.kept c.args.request.now.query c.requires.limits.query c.args.keys.now
     c.requires.keys c.args.plan c.requires.plan c.view-view-in-Extend.result.base.now c.view-view-in-Extend.result.rows.now.posts
     c.view-view-in-Extend.ensures.base c.view-view-in-Extend.ensures.rows c.in-Extend.is).2 b good)).reply
 
 pub returns-in_ok-answered-in-Extend-clause-own : goal.returns-in_ok-answered-in-Extend-clause-own
-returns-in_ok-answered-in-Extend-clause-own g c b is stands good =
-    (c.in_ok-answered-in-Extend.ensures.told b is stands
+returns-in_ok-answered-in-Extend-clause-own g c b is stands over good =
+    (c.in_ok-answered-in-Extend.ensures.told b is stands over
     ((extend_lent c.args.index.now c.args.answers.now.entries c.requires.kept c.args.request.now.query c.requires.limits.query c.args.keys.now
     c.requires.keys c.args.plan c.requires.plan c.view-view-in-Extend.result.base.now c.view-view-in-Extend.result.rows.now.posts
     c.view-view-in-Extend.ensures.base c.view-view-in-Extend.ensures.rows c.in-Extend.is).2 b good)).own
 
 pub returns-in_ok-answered-in-Extend-clause-large : goal.returns-in_ok-answered-in-Extend-clause-large
-returns-in_ok-answered-in-Extend-clause-large g c b is stands good none other =
-    (c.in_ok-answered-in-Extend.ensures.told b is stands
+returns-in_ok-answered-in-Extend-clause-large g c b is stands over good none other =
+    (c.in_ok-answered-in-Extend.ensures.told b is stands over
     ((extend_lent c.args.index.now c.args.answers.now.entries c.requires.kept c.args.request.now.query c.requires.limits.query c.args.keys.now
     c.requires.keys c.args.plan c.requires.plan c.view-view-in-Extend.result.base.now c.view-view-in-Extend.result.rows.now.posts
     c.view-view-in-Extend.ensures.base c.view-view-in-Extend.ensures.rows c.in-Extend.is).2 b good)).large none
@@ -157,10 +157,10 @@ returns-in_ok-answered-in-Fresh-clause-reads g c =
     c.in_ok-answered-in-Fresh.ensures.reads
 
 pub returns-in_ok-answered-in-Fresh-clause-told : goal.returns-in_ok-answered-in-Fresh-clause-told
-returns-in_ok-answered-in-Fresh-clause-told g c b is stands good = (c.in_ok-answered-in-Fresh.ensures.told b is stands).reply
+returns-in_ok-answered-in-Fresh-clause-told g c b is stands over good = (c.in_ok-answered-in-Fresh.ensures.told b is stands over).reply
 
 pub returns-in_ok-answered-in-Fresh-clause-own : goal.returns-in_ok-answered-in-Fresh-clause-own
-returns-in_ok-answered-in-Fresh-clause-own g c b is stands good = (c.in_ok-answered-in-Fresh.ensures.told b is stands).own
+returns-in_ok-answered-in-Fresh-clause-own g c b is stands over good = (c.in_ok-answered-in-Fresh.ensures.told b is stands over).own
 
 pub returns-in_ok-answered-in-Fresh-clause-large : goal.returns-in_ok-answered-in-Fresh-clause-large
-returns-in_ok-answered-in-Fresh-clause-large g c b is stands good none other = (c.in_ok-answered-in-Fresh.ensures.told b is stands).large none
+returns-in_ok-answered-in-Fresh-clause-large g c b is stands over good none other = (c.in_ok-answered-in-Fresh.ensures.told b is stands over).large none

@@ -16,10 +16,10 @@ reply_of-requires-clause-base g c =
     (c.end_positive-positive.ensures ∙ ap end_positive c.as_slice.ensures) c.in_ok-hits.hits c.in_ok-hits.ensures c.requires.entry c.requires.limits.parts
 
 pub returns-clause-told : goal.returns-clause-told
-returns-clause-told g c b is stands own =
+returns-clause-told g c b is stands over own =
     let i = c.args.index.now in
     let e = entry_with c.args.base.now c.args.rows.now.posts in
-    c.in_ok-reply.ensures.told b is stands
+    c.in_ok-reply.ensures.told b is stands over
     (record {
       posts = e.rows;
       within = c.requires.entry.rows;

@@ -20,13 +20,13 @@ with_reply-requires-clause-entry g c =
     (grind (arith, common_steps)) c.nothing_kept-entry.result c.nothing_kept-entry.ensures c.args.index.now
 
 pub returns-then-is_empty-clause-told : goal.returns-then-is_empty-clause-told
-returns-then-is_empty-clause-told g c b is stands =
+returns-then-is_empty-clause-told g c b is stands over =
     let q = c.args.request.now.query in
-    let over = nothing_over q c.as_slice-parts.result.now c.as_slice-parts.ensures
+    let own = nothing_over q c.as_slice-parts.result.now c.as_slice-parts.ensures
     (grind (arith, common_steps)) c.nothing_kept-entry.result c.nothing_kept-entry.ensures b c.args.index.now stands c.requires.opened.index in
     record {
-      reply = c.in_ok-answered.ensures.told b is stands over;
-      own = subst (λ o. IfSome o (IsEntryOver b c.args.index.now q)) (sym c.in_ok-answered.ensures.same) over;
+      reply = c.in_ok-answered.ensures.told b is stands over own;
+      own = subst (λ o. IfSome o (IsEntryOver b c.args.index.now q)) (sym c.in_ok-answered.ensures.same) own;
       large = λ none. absurd (true≢false (ap is_some (sym c.in_ok-answered.ensures.same) ∙ none));
     }
 
@@ -56,10 +56,10 @@ answered_by_hits-requires-clause-base g c =
     subst (λ n. IsBaseOf c.args.index.now.docs (MAX_ROW_SCORE * n) c.in_ok-hits.hits) are c.in_ok-hits.ensures.within
 
 pub returns-clause-told : goal.returns-clause-told
-returns-clause-told g c b is stands =
+returns-clause-told g c b is stands over =
     let q = c.args.request.now.query in
     let are = ap (λ (xs : List Part). take (length xs - 1) xs) c.as_slice-parts.ensures in
-    c.in_ok-answered-2.ensures.told b (c.hits_of_parts.ensures.store.bytes ∙ is) stands
+    c.in_ok-answered-2.ensures.told b (c.hits_of_parts.ensures.store.bytes ∙ is) stands over
     (c.in_ok-hits.ensures.told b is stands (before_last q) (first_parts q _ are))
 
 pub returns-clause-reads : goal.returns-clause-reads

@@ -1,0 +1,261 @@
+//! Facets whose rows are held from one request to the next, so that they are read once, and their tables.
+ghost use Rattle.std.specs.Prelude.{◌≡◌, ◌⊎◌, ◌<◌, ◌*◌, [], true, Some, take, filter, length, IfOk, OnOk, OnErr, option_copied, List, ◌∷◌, ◌++◌, ℕ};
+ghost use Rattle.std.specs.List.{All, find};
+ghost use Rattle.std.specs.Str.{bytes_eq};
+ghost use Rattle.cs_base.specs.declared.content.limits.TheConstants.{MAX_PARTS};
+ghost use Rattle.cs_base.specs.declared.content.scores.TheConstants.{MAX_ROW_SCORE};
+ghost use Rattle.cs_base.specs.outside.Causes.{ReadsWithin};
+ghost use Rattle.cs_base.specs.declared.content.doc.Post.{Post};
+ghost use Rattle.cs_file.specs.Indexes.{HasAllBlocks, IsIndex};
+ghost use Rattle.cs_model.specs.Collection.{named};
+ghost use Rattle.cs_model_kept.specs.Due.{met_of_facets, met_prefix};
+ghost use Rattle.cs_tables.specs.TableListings.{post_table};
+ghost use Rattle.cs_tables.specs.WordCounts.{HasCounted};
+ghost use Rattle.cs_engine.specs.Asking.{division, is_read, is_changed};
+ghost use Rattle.cs_engine.specs.Counting.{AreListed, in_listed};
+ghost use Rattle.cs_engine.specs.HeldFacets.{AreFacetsOver, HoldsFacets, IsFacet, IsFacetOver, is_held};
+ghost use Rattle.cs_engine.specs.IndexReading.{IsOpened, OnlyReads, WhereStood};
+ghost use Rattle.cs_engine.specs.Steps.{IsBaseOf};
+ghost use Rattle.cs_engine.specs.Stocked.{is_between};
+
+use crate::fault::AskFault;
+use crate::hits::numbers_of;
+use crate::reading::rows_between;
+use cs_base::{Base, Memory, Store, Text};
+use cs_cols::Cols;
+use cs_file::Index;
+use cs_meet::keep_docs;
+use cs_tables::{Table, WordCounts};
+use cs_text::named_word;
+use std::alloc::Global;
+use std::marker::Model;
+
+// So many rows at most are held when a request begins.
+const MAX_HELD_ROWS: usize = 1 << 21;
+
+// Where a facet has this many times the rows that there are hits, its rows are looked up by the hits.
+const FEW_OF: usize = 32;
+
+/// A facet with its rows.
+#[derive(Drop)]
+pub(crate) struct FacetRows {
+    name: Text,
+    low: u32,
+    high: u32,
+    rows: Cols,
+}
+
+impl Model for FacetRows {
+    ghost use Rattle.cs_engine.specs.HeldFacets.{FacetView};
+
+    ghost Value = { FacetView };
+
+    ghost view = { λ f. record { name = f.name; low = f.low; high = f.high; posts = f.rows.posts } };
+}
+
+impl FacetRows {
+    /// The facet's name.
+    pub(crate) fn name(&self) -> &Text
+        ensures { result.now ≡ self.now.name }
+    {
+        &self.name
+    }
+}
+
+/// Reads the rows of those of some facets that aren't held yet. Where too many rows were held before, these are forgotten.
+pub(crate) fn hold_facets<S: Store>(
+    alloc: Global,
+    index: &Index,
+    store: &mut S,
+    names: &[Text],
+    held: &mut Vec<FacetRows>,
+) -> Result<(), AskFault>
+    requires facets { All (IsFacet index.now) held.old.items }
+    requires fits { HasAllBlocks (S.bytes store.old) index.now }
+
+    ensures facets { All (IsFacet index.now) held.new.items }
+    ensures there { OnOk result (HoldsFacets index.now held.new.items names.now) }
+    ensures told { WhereStood (S.bytes store.old) index.now (λ b. AreFacetsOver b held.old.items → AreFacetsOver b held.new.items) }
+    ensures store { OnlyReads S.bytes S.lent S.faults index.now store.old store.new (is_read result) (is_changed result) }
+    ensures reads { ReadsWithin (met_of_facets (division index.now) names.now) (S.reads store.old) (S.reads store.new) }
+{
+    // the type of an index says what it keeps where a field of it is read
+    let _ = &index.docs;
+    forget_many(held);
+    hold_each(alloc, index, store, names, held)
+}
+
+// Reads the rows of those of some facets that aren't held yet.
+fn hold_each<S: Store>(
+    alloc: Global,
+    index: &Index,
+    store: &mut S,
+    names: &[Text],
+    held: &mut Vec<FacetRows>,
+) -> Result<(), AskFault>
+    requires facets { All (IsFacet index.now) held.old.items }
+    requires opened { IsOpened (S.bytes store.old) index.now }
+
+    ensures facets { All (IsFacet index.now) held.new.items }
+    ensures there { OnOk result (HoldsFacets index.now held.new.items names.now) }
+    ensures told { WhereStood (S.bytes store.old) index.now (λ b. AreFacetsOver b held.old.items → AreFacetsOver b held.new.items) }
+    ensures store { OnlyReads S.bytes S.lent S.faults index.now store.old store.new (is_read result) (is_changed result) }
+    ensures reads { ReadsWithin (met_of_facets (division index.now) names.now) (S.reads store.old) (S.reads store.new) }
+{
+    for name in names {
+        hold_facet(alloc, index, store, name, held)?;
+    }
+    Ok(())
+}
+
+// Forgets all facets where too many rows are held.
+fn forget_many(held: &mut Vec<FacetRows>)
+    ensures { (held.new.items ≡ held.old.items) ⊎ (held.new.items ≡ []) }
+{
+    let mut rows: usize = 0;
+    for facet in held.iter() {
+        rows = rows.saturating_add(facet.rows.len());
+    }
+    if rows > MAX_HELD_ROWS {
+        held.clear();
+    }
+}
+
+// Reads the rows of a facet, where it isn't held yet.
+fn hold_facet<S: Store>(
+    alloc: Global,
+    index: &Index,
+    store: &mut S,
+    name: &Text,
+    held: &mut Vec<FacetRows>,
+) -> Result<(), AskFault>
+    requires opened { IsOpened (S.bytes store.old) index.now }
+
+    ensures facets { All (IsFacet index.now) held.old.items → All (IsFacet index.now) held.new.items }
+    ensures there { OnOk result (is_held held.new.items name.now ≡ true) }
+    ensures others { (n : List ℕ) → is_held held.old.items n ≡ true → is_held held.new.items n ≡ true }
+    ensures told { WhereStood (S.bytes store.old) index.now (λ b. AreFacetsOver b held.old.items → AreFacetsOver b held.new.items) }
+    ensures store { OnlyReads S.bytes S.lent S.faults index.now store.old store.new (is_read result) (is_changed result) }
+    ensures reads { ReadsWithin (met_prefix (division index.now) (named name.now [])) (S.reads store.old) (S.reads store.new) }
+{
+    if is_held(held.as_slice(), name) {
+        return Ok(());
+    }
+    let facet = read_facet(alloc, index, store, name)?;
+    add_facet(held, facet)?;
+    Ok(())
+}
+
+fn add_facet(held: &mut Vec<FacetRows>, facet: FacetRows) -> Result<(), Memory>
+    ensures ok { OnOk result (held.new.items ≡ held.old.items ++ facet ∷ []) }
+    ensures err { OnErr result (held.new.items ≡ held.old.items) }
+{
+    held.push(facet)?;
+    Ok(())
+}
+
+fn is_held(held: &[FacetRows], name: &Text) -> bool
+    ensures { result ≡ is_held held.now name.now }
+{
+    held.iter().any(|facet| facet.name == *name)
+}
+
+// A facet with its rows, in order. Each block that holds such a row is read once.
+fn read_facet<S: Store>(
+    alloc: Global,
+    index: &Index,
+    store: &mut S,
+    name: &Text,
+) -> Result<FacetRows, AskFault>
+    requires opened { IsOpened (S.bytes store.old) index.now }
+
+    ensures name { IfOk result (λ f. f.name ≡ name.now) }
+    ensures facet { IfOk result (IsFacet index.now) }
+    ensures told { WhereStood (S.bytes store.old) index.now (λ b. IfOk result (IsFacetOver b)) }
+    ensures store { OnlyReads S.bytes S.lent S.faults index.now store.old store.new (is_read result) (is_changed result) }
+    ensures reads { ReadsWithin (met_prefix (division index.now) (named name.now [])) (S.reads store.old) (S.reads store.new) }
+{
+    let prefix = named_word(alloc, name.as_str(), "")?;
+    let (low, high) = index.range(prefix.as_str().as_bytes());
+    let rows = rows_between(alloc, index, store, low, high)?;
+    let name = name.copy(alloc)?;
+    Ok(FacetRows {
+        name,
+        low,
+        high,
+        rows,
+    })
+}
+
+/// The facet of a name that is held.
+pub(crate) fn facet_of<'a>(held: &'a [FacetRows], name: &Text) -> &'a FacetRows
+    requires { is_held held.now name.now ≡ true }
+
+    ensures { find (λ f. bytes_eq f.name name.now) held.now ≡ Some result.now }
+{
+    let Some(facet) = find_facet(held, name) else {
+        unreachable!()
+    };
+    facet
+}
+
+fn find_facet<'a>(held: &'a [FacetRows], name: &Text) -> Option<&'a FacetRows>
+    ensures { option_copied result ≡ find (λ f. bytes_eq f.name name.now) held.now }
+{
+    held.iter().find(|facet| facet.name == *name)
+}
+
+/// The table of a facet's rows in the documents that a base lists, which are those of `listed`.
+pub(crate) fn facet_table(
+    alloc: Global,
+    index: &Index,
+    facet: &FacetRows,
+    base: &Base,
+    listed: &[bool],
+    cut: u32,
+) -> Result<Table, Memory>
+    requires index { IsIndex index.now }
+    requires facet { IsFacet index.now facet.now }
+    requires base { IsBaseOf index.now.docs (MAX_ROW_SCORE * MAX_PARTS) base.now }
+    requires listed { AreListed index.now.docs base.now listed.now }
+
+    ensures told { (all : List Post) → facet.now.posts ≡ filter (is_between facet.now.low facet.now.high) all
+        → IfOk result (λ t. t.first ≡ take cut (post_table (filter (in_listed listed.now) facet.now.posts))) }
+    ensures known { IfOk result (λ t. All (λ w. w.word < length index.now.words) t.first) }
+{
+    let counts = counted(alloc, index, facet, base, listed)?;
+    let table = counts.table(alloc, cut)?;
+    Ok(table)
+}
+
+// The words of a facet, counted in the documents that a base lists. Where these are few, the rows are looked up by them.
+fn counted(
+    alloc: Global,
+    index: &Index,
+    facet: &FacetRows,
+    base: &Base,
+    listed: &[bool],
+) -> Result<WordCounts, Memory>
+    requires index { IsIndex index.now }
+    requires facet { IsFacet index.now facet.now }
+    requires base { IsBaseOf index.now.docs (MAX_ROW_SCORE * MAX_PARTS) base.now }
+    requires listed { AreListed index.now.docs base.now listed.now }
+
+    ensures told { (all : List Post) → facet.now.posts ≡ filter (is_between facet.now.low facet.now.high) all
+        → IfOk result (HasCounted (filter (in_listed listed.now) facet.now.posts)) }
+    ensures high { IfOk result (λ t. t.high ≡ facet.now.high) }
+{
+    // the type of an index says what it keeps where a field of it is read
+    let _ = &index.docs;
+    let mut counts = WordCounts::new(alloc, facet.low, facet.high)?;
+    if let Base::Listed(hits) = base {
+        if hits.len() < facet.rows.len() / FEW_OF {
+            let docs = numbers_of(alloc, hits.as_slice())?;
+            let rows = keep_docs(alloc, &facet.rows, &docs)?;
+            counts.add(rows.docs(), rows.words(), listed);
+            return Ok(counts);
+        }
+    }
+    counts.add(facet.rows.docs(), facet.rows.words(), listed);
+    Ok(counts)
+}
