@@ -9,7 +9,7 @@ ghost use Rattle.cs_model.specs.Collection.{named};
 ghost use Rattle.cs_model.specs.Requests.{hit_shown, reply_of};
 ghost use Rattle.cs_model_kept.specs.Due.{met_of_facets, met_prefix};
 ghost use Rattle.cs_query.specs.RequestView.{asked};
-ghost use Rattle.cs_engine.specs.Asking.{division, is_read, is_changed, titles_read};
+ghost use Rattle.cs_engine.specs.Asking.{division, titles_read};
 ghost use Rattle.cs_engine.specs.Counting.{AreListed};
 ghost use Rattle.cs_engine.specs.Loose.{IsTableFor};
 ghost use Rattle.cs_engine.specs.IndexReading.{IsOpened, OnlyReads, WhereStood, stock_of};
@@ -45,7 +45,7 @@ pub(crate) fn reply_of<S: Store>(
         (λ b. IsTableFor index.now b request.now.query request.now.completions hits table
         → IfOk result (λ r. r ≡ reply_of (corpus_in (stock_of b)) (asked request.now))) }
     ensures few { IfOk result (λ r. length r.hits ≤ request.now.hits) }
-    ensures store { OnlyReads S.bytes S.lent S.faults index.now store.old store.new (is_read result) (is_changed result) }
+    ensures store { OnlyReads S.bytes S.lent S.faults index.now store.old store.new result }
     ensures reads { ReadsWithin (titles_read (asked request.now) result + met_of_facets (division index.now) (asked request.now).facets) (S.reads store.old)
         (S.reads store.new) }
 {
@@ -76,7 +76,7 @@ fn shown_facets<S: Store>(
 
     ensures told { WhereStood (S.bytes store.old) index.now
         (λ b. IfOk result (λ shown. shown ≡ map (facet_at (stock_of b) base.now request.now.completions) (asked request.now).facets)) }
-    ensures store { OnlyReads S.bytes S.lent S.faults index.now store.old store.new (is_read result) (is_changed result) }
+    ensures store { OnlyReads S.bytes S.lent S.faults index.now store.old store.new result }
     ensures reads { ReadsWithin (met_of_facets (division index.now) (asked request.now).facets) (S.reads store.old) (S.reads store.new) }
 {
     let mut shown = Seq::new(alloc);
@@ -105,7 +105,7 @@ fn shown_facet<S: Store>(
 
     ensures told { WhereStood (S.bytes store.old) index.now
         (λ b. IfOk result (λ shown. (base : Base) → AreListed index.now.docs base listed.now → shown ≡ facet_at (stock_of b) base cut name.now)) }
-    ensures store { OnlyReads S.bytes S.lent S.faults index.now store.old store.new (is_read result) (is_changed result) }
+    ensures store { OnlyReads S.bytes S.lent S.faults index.now store.old store.new result }
     ensures reads { ReadsWithin (met_prefix (division index.now) (named name.now [])) (S.reads store.old) (S.reads store.new) }
 {
     let prefix = named_word(alloc, name.as_str(), "")?;
@@ -131,7 +131,7 @@ fn shown_hits<S: Store>(
 
     ensures told { WhereStood (S.bytes store.old) index.now (λ b. IfOk result (λ shown. shown ≡ map (hit_shown (corpus_in (stock_of b))) hits.now)) }
     ensures count { IfOk result (λ shown. length shown ≡ length hits.now) }
-    ensures store { OnlyReads S.bytes S.lent S.faults index.now store.old store.new (is_read result) (is_changed result) }
+    ensures store { OnlyReads S.bytes S.lent S.faults index.now store.old store.new result }
     ensures reads { ReadsWithin (length hits.now) (S.reads store.old) (S.reads store.new) }
 {
     let mut shown = Seq::new(alloc);

@@ -5,7 +5,7 @@ use Rattle.cs_model_index.specs.Sections.{image_of}
 use Rattle.cs_tables.specs.WordCounts.{HasCounted}
 use Rattle.cs_engine.specs.Counting.{counted_rows}
 use Rattle.cs_engine.proofs.CountingLemmas.{block_counted, countable, table_told}
-use Rattle.cs_engine.proofs.WalkLemmas.{walk_ends, walk_goes_on, walk_stops}
+use Rattle.cs_engine.proofs.WalkLemmas.{block_change, fails_behind, fetch_fails, hands_on, walk_ends, walk_goes_on, walk_stops}
 use Rattle.cs_engine.proofs.counting.table_between.Goals as goal
 
 pub returns-in_err-fetch_doc_words-clause-reads : goal.returns-in_err-fetch_doc_words-clause-reads
@@ -24,7 +24,7 @@ loop-k-preserved g c =
     let inv = c.loop-k.invariant in
     let read = c.in_ok-fetch_doc_words.ensures in
     record {
-      walk = walk_goes_on inv.walk (record { unchanged = λ b is stands. refl; bytes = read.bytes; lent = read.lent; caused = read.caused }) read.reads;
+      walk = walk_goes_on inv.walk (record { unchanged = λ b is stands. refl; changed = tt; bytes = read.bytes; lent = read.lent; caused = read.caused }) read.reads;
       low = c.add.ensures.low ∙ inv.low;
       high = c.add.ensures.high ∙ inv.high;
       told = λ b is stands.
@@ -56,3 +56,11 @@ returns-clause-told g c b is stands =
 
 pub returns-clause-reads : goal.returns-clause-reads
 returns-clause-reads g c = walk_ends c.loop-k.invariant.walk c.blocks-first.ensures c.loop-k.auto.k-end
+
+pub returns-in_err-fetch_doc_words-clause-store : goal.returns-in_err-fetch_doc_words-clause-store
+returns-in_err-fetch_doc_words-clause-store g c =
+    let read = c.in_err-fetch_doc_words.ensures in
+    let e = c.in_err-fetch_doc_words.field-0.0 in
+    let change = block_change c.args.index.now _ c.loop-k.k e (omega (arith, c.blocks-first.ensures.within, c.loop-k-test.true)) read.changed in
+    hands_on c.from_residual-in_err-fetch_doc_words.result c.from_residual-in_err-fetch_doc_words.ensures.1
+    (fails_behind c.loop-k.invariant.walk.store (fetch_fails e read.unchanged change read.bytes read.lent read.caused))
