@@ -6,14 +6,14 @@
 --   stock_of b                  the titles, words and posts that are read of the bytes of an index file
 --   WhereStood told i P         P holds of the bytes that a store tells, where the index i is what is kept of them
 --   IsOpened told i             the index is one, and a store that tells has all its blocks
---   OnlyReads tells lends fails i old now read changed     what a call leaves of a store, whose answer is a failed read, or a change
+--   OnlyReads tells lends fails i old now r     what a call with this answer leaves of a store, and which change the answer may tell
 --   IsWordRange i lo hi         there are words from number lo up to hi
 --   IsWithin docs words p       the numbers of a post are in range
 --   AreWithin i posts           posts in order, in the range of an index
 --   HasRows s rows posts        posts of the stock that stand for these rows
 --   run_of blocks first last t  the posts that pass a test in the blocks from number first up to last, one block behind the other
 --   IsSpanOf ws test lo hi      the words that pass a test are those from lo up to hi, both within the vocabulary
-use Rattle.std.specs.Prelude.{◌≡◌, ℕ, ◌-◌, ◌≤◌, ◌<◌, Bool, false, List, length, take, drop, filter, flat_map, Option}
+use Rattle.std.specs.Prelude.{◌≡◌, ℕ, ◌-◌, ◌≤◌, ◌<◌, Bool, false, List, length, take, drop, filter, flat_map, Option, Result, IfErr}
 use Rattle.std.specs.List.{All}
 use Rattle.std.specs.Option.{ForSome}
 use Rattle.std.specs.Ordering.{nat_cmp, then_cmp, on}
@@ -27,6 +27,8 @@ use Rattle.cs_file.specs.Indexes.{CausedReads, HasAllBlocks, IndexView, IsIndex,
 use Rattle.cs_model_index.specs.Images.{image_posts}
 use Rattle.cs_model_index.specs.Sections.{image_of}
 use Rattle.cs_model_index.specs.Numbered.{rows_at}
+use Rattle.cs_engine.specs.Asking.{IsChangeIn, is_changed, is_read}
+use Rattle.cs_engine.specs.declared.fault.AskFault.{AskFault}
 use Rattle.cs_engine.specs.Stocked.{Stock, IsPicked, HoldsBetween}
 
 -- the score comes last, which the other three determine in an index
@@ -46,14 +48,15 @@ pub record IsOpened (told : Option (List ℕ)) (i : IndexView) : Type 0 where
   pub index : IsIndex i
   pub fits : HasAllBlocks told i
 
--- its bytes and what is lent to it are as they were, its count of failures rose exactly where the answer is a failed read, and the
--- bytes that it was opened over have not changed
-pub record OnlyReads {S L : Type 0} (tells : S → Option (List ℕ)) (lends : S → L) (fails : S → ℕ) (i : IndexView) (old now : S)
-    (read changed : Bool) : Type 0 where
-  pub unchanged : WhereStood (tells old) i (λ b. changed ≡ false)
+-- its bytes and what is lent to it are as they were, its count of failures rose exactly where the answer is a failed read, and a
+-- change is told only where its bytes break a rule, never of those that it was opened over
+pub record OnlyReads {S L T : Type 0} (tells : S → Option (List ℕ)) (lends : S → L) (fails : S → ℕ) (i : IndexView) (old now : S)
+    (r : Result T AskFault) : Type 0 where
+  pub unchanged : WhereStood (tells old) i (λ b. is_changed r ≡ false)
+  pub changed : IfErr r (IsChangeIn i (tells old))
   pub bytes : tells now ≡ tells old
   pub lent : lends now ≡ lends old
-  pub caused : CausedReads read (fails old) (fails now)
+  pub caused : CausedReads (is_read r) (fails old) (fails now)
 
 -- none where lo is hi
 pub record IsWordRange (i : IndexView) (lo hi : ℕ) : Type 0 where

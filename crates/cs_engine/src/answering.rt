@@ -7,7 +7,7 @@ ghost use Rattle.cs_base.specs.declared.content.limits.TheConstants.{MAX_PARTS};
 ghost use Rattle.cs_file.specs.Indexes.{IsIndex, StandsFor};
 ghost use Rattle.cs_model.specs.Requests.{hit_shown, reply_of};
 ghost use Rattle.cs_query.specs.RequestView.{asked};
-ghost use Rattle.cs_engine.specs.Asking.{is_read, is_changed, titles_read};
+ghost use Rattle.cs_engine.specs.Asking.{titles_read};
 ghost use Rattle.cs_engine.specs.Counting.{AreListed};
 ghost use Rattle.cs_engine.specs.HeldFacets.{AreFacetsOver, HoldsFacets, IsFacet, IsFacetOver, WhereHeld};
 ghost use Rattle.cs_engine.specs.Loose.{IsTableFor};
@@ -46,7 +46,7 @@ pub(crate) fn reply_of<S: Store>(
         (λ b. IsTableFor index.now b request.now.query request.now.completions hits table
         → IfOk result (λ r. r ≡ reply_of (corpus_in (stock_of b)) (asked request.now))) }
     ensures few { IfOk result (λ r. length r.hits ≤ request.now.hits) }
-    ensures store { OnlyReads S.bytes S.lent S.faults index.now store.old store.new (is_read result) (is_changed result) }
+    ensures store { OnlyReads S.bytes S.lent S.faults index.now store.old store.new result }
     ensures reads { ReadsWithin (titles_read (asked request.now) result) (S.reads store.old)
         (S.reads store.new) }
 {
@@ -126,7 +126,7 @@ fn shown_hits<S: Store>(
 
     ensures told { WhereStood (S.bytes store.old) index.now (λ b. IfOk result (λ shown. shown ≡ map (hit_shown (corpus_in (stock_of b))) hits.now)) }
     ensures count { IfOk result (λ shown. length shown ≡ length hits.now) }
-    ensures store { OnlyReads S.bytes S.lent S.faults index.now store.old store.new (is_read result) (is_changed result) }
+    ensures store { OnlyReads S.bytes S.lent S.faults index.now store.old store.new result }
     ensures reads { ReadsWithin (length hits.now) (S.reads store.old) (S.reads store.new) }
 {
     let mut shown = Seq::new(alloc);

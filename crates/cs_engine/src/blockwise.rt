@@ -6,7 +6,6 @@ ghost use Rattle.cs_base.specs.declared.content.limits.TheConstants.{MAX_PARTS};
 ghost use Rattle.cs_base.specs.declared.content.scores.TheConstants.{MAX_ROW_SCORE};
 ghost use Rattle.cs_base.specs.outside.Causes.{ReadsWithin};
 ghost use Rattle.cs_file.specs.Indexes.{IsIndex};
-ghost use Rattle.cs_engine.specs.Asking.{is_read, is_changed};
 ghost use Rattle.cs_engine.specs.Blockwise.{AreMany, HasFound, rows_within};
 ghost use Rattle.cs_engine.specs.Counting.{AreListed};
 ghost use Rattle.cs_engine.specs.GatheredRows.{HasGathered};
@@ -75,7 +74,7 @@ pub(crate) fn found_behind<S: Store>(
         (posts_after index.now.docs hits.now false (filter (is_between words.0 words.1) (stock_of b).posts)).rows cut found.0 found.1)) }
     ensures base { IfOk result (λ found. IsBaseOf index.now.docs (MAX_ROW_SCORE * MAX_PARTS) (base.Listed found.0)) }
     ensures known { IfOk result (λ found. All (λ w. w.word < length index.now.words) found.1.first) }
-    ensures store { OnlyReads S.bytes S.lent S.faults index.now store.old store.new (is_read result) (is_changed result) }
+    ensures store { OnlyReads S.bytes S.lent S.faults index.now store.old store.new result }
     ensures reads { ReadsWithin (gathered.now.last - gathered.now.next) (S.reads store.old) (S.reads store.new) }
 {
     let mut counts = WordCounts::new(alloc, words.0, words.1)?;

@@ -7,7 +7,6 @@ ghost use Rattle.cs_base.specs.outside.Causes.{ReadsWithin};
 ghost use Rattle.cs_file.specs.Indexes.{is_met};
 ghost use Rattle.cs_tables.specs.TableListings.{post_table};
 ghost use Rattle.cs_tables.specs.WordCounts.{AreCountable, HasCounted};
-ghost use Rattle.cs_engine.specs.Asking.{is_read, is_changed};
 ghost use Rattle.cs_engine.specs.Counting.{AreListed, AreMarked, in_listed};
 ghost use Rattle.cs_engine.specs.Packing.{post_of_key};
 ghost use Rattle.cs_engine.specs.IndexReading.{IsOpened, IsWordRange, OnlyReads, WhereStood, stock_of};

@@ -1,5 +1,5 @@
 //! The engine over an opened index.
-ghost use Rattle.std.specs.Prelude.{◌≡◌, ◌≤◌, [], None, false, true, is_some, length, IfOk};
+ghost use Rattle.std.specs.Prelude.{◌≡◌, ◌≤◌, [], None, false, true, is_some, length, IfErr, IfOk};
 ghost use Rattle.std.specs.Option.{ForSome};
 ghost use Rattle.cs_base.specs.outside.Causes.{ReadsWithin};
 ghost use Rattle.cs_cache.specs.AnswerList.{answer_list};
@@ -11,7 +11,7 @@ ghost use Rattle.cs_model_kept.specs.Due.{due};
 ghost use Rattle.cs_model_kept.specs.KeptList.{plan_by, is_same};
 ghost use Rattle.cs_model_kept.specs.declared.limits.TheConstants.{MAX_ENTRIES};
 ghost use Rattle.cs_query.specs.RequestView.{asked};
-ghost use Rattle.cs_engine.specs.Asking.{division, is_read, is_changed, titles_asked};
+ghost use Rattle.cs_engine.specs.Asking.{IsChangeIn, division, is_read, is_changed, titles_asked};
 ghost use Rattle.cs_engine.specs.Keeping.{AreGood, IsAfter, KeepsAnswers, became, entries_behind, note_plan};
 
 use crate::facets::{FacetRows, hold_facets};
@@ -85,7 +85,8 @@ impl Engine {
         ensures after { ForSome (S.bytes store.old) (λ b. StandsFor b self.old.index → AreGood b self.old → IsAfter b request.now.query self.old result self.new) }
         ensures unchanged { ForSome (S.bytes store.old) (λ b. StandsFor b self.old.index → is_changed result ≡ false) }
 
-        // Over each store: how much is shown, what is kept, what is left as it was, how much is read, and why it is refused.
+        // Over each store: how much is shown, what is kept, what is left as it was, how much is read, and why it is refused. A change
+        // that is told is the first rule that the bytes of a block or a title break, with its place.
         ensures few { IfOk result (λ r. length r.0.hits ≤ request.now.hits) }
         ensures keeps { KeepsAnswers self.old.index request.now.query self.old.answers result self.new.answers }
         ensures index { self.new.index ≡ self.old.index }
@@ -93,6 +94,7 @@ impl Engine {
         ensures lent { S.lent store.new ≡ S.lent store.old }
         ensures reads { ReadsWithin (due (division self.old.index) (asked request.now) (note_plan request.now.query self.old.answers) (titles_asked (asked request.now) result)) (S.reads store.old) (S.reads store.new) }
         ensures caused { CausedReads (is_read result) (S.faults store.old) (S.faults store.new) }
+        ensures changed { IfErr result (IsChangeIn self.old.index (S.bytes store.old)) }
     {
         let keys = keys(alloc, &request.query)?;
         let names = request.facets.as_slice();

@@ -4,7 +4,7 @@ ghost use Rattle.cs_base.specs.content.Orders.{AreDocs};
 ghost use Rattle.cs_base.specs.outside.Causes.{ReadsWithin};
 ghost use Rattle.cs_model.specs.Answers.{hits, parts_of, rows_of_atom, rows_of_chain, rows_of_part};
 ghost use Rattle.cs_model_kept.specs.Due.{met_of_atom, met_of_chain, met_of_part, met_of_query};
-ghost use Rattle.cs_engine.specs.Asking.{division, is_read, is_changed};
+ghost use Rattle.cs_engine.specs.Asking.{division};
 ghost use Rattle.cs_engine.specs.IndexReading.{AreWithin, HasRows, IsOpened, OnlyReads, WhereStood, stock_of};
 ghost use Rattle.cs_engine.specs.Stocked.{corpus_in};
 
@@ -31,7 +31,7 @@ pub(crate) fn rows_of_part<S: Store>(
     ensures told { WhereStood (S.bytes store.old) index.now
         (λ b. IfOk result (λ c. HasRows (stock_of b) (rows_of_part (corpus_in (stock_of b)) part.now).rows c.posts)) }
     ensures within { IfOk result (λ c. AreWithin index.now c.posts) }
-    ensures store { OnlyReads S.bytes S.lent S.faults index.now store.old store.new (is_read result) (is_changed result) }
+    ensures store { OnlyReads S.bytes S.lent S.faults index.now store.old store.new result }
     ensures reads { ReadsWithin (met_of_part (division index.now) part.now) (S.reads store.old) (S.reads store.new) }
 {
     let mut found = Cols::new(alloc);
@@ -55,7 +55,7 @@ fn rows_of_chain<S: Store>(
     ensures told { WhereStood (S.bytes store.old) index.now
         (λ b. IfOk result (λ c. HasRows (stock_of b) (rows_of_chain (corpus_in (stock_of b)) chain.now) c.posts)) }
     ensures within { IfOk result (λ c. AreWithin index.now c.posts) }
-    ensures store { OnlyReads S.bytes S.lent S.faults index.now store.old store.new (is_read result) (is_changed result) }
+    ensures store { OnlyReads S.bytes S.lent S.faults index.now store.old store.new result }
     ensures reads { ReadsWithin (met_of_chain (division index.now) chain.now) (S.reads store.old) (S.reads store.new) }
 {
     let mut found = rows_of_atom(alloc, index, store, &chain.first)?;
@@ -79,7 +79,7 @@ fn rows_of_atom<S: Store>(
     ensures told { WhereStood (S.bytes store.old) index.now
         (λ b. IfOk result (λ c. HasRows (stock_of b) (rows_of_atom (corpus_in (stock_of b)) atom.now) c.posts)) }
     ensures within { IfOk result (λ c. AreWithin index.now c.posts) }
-    ensures store { OnlyReads S.bytes S.lent S.faults index.now store.old store.new (is_read result) (is_changed result) }
+    ensures store { OnlyReads S.bytes S.lent S.faults index.now store.old store.new result }
     ensures reads { ReadsWithin (met_of_atom (division index.now) atom.now) (S.reads store.old) (S.reads store.new) }
 {
     match atom {
@@ -113,7 +113,7 @@ fn docs_of_hits<S: Store>(
     ensures told { WhereStood (S.bytes store.old) index.now
         (λ b. IfOk result (λ v. v.items ≡ hits (corpus_in (stock_of b)) (parts_of (corpus_in (stock_of b)) query.now))) }
     ensures sorted { IfOk result (λ v. AreDocs v.items) }
-    ensures store { OnlyReads S.bytes S.lent S.faults index.now store.old store.new (is_read result) (is_changed result) }
+    ensures store { OnlyReads S.bytes S.lent S.faults index.now store.old store.new result }
     ensures reads { ReadsWithin (met_of_query (division index.now) query.now) (S.reads store.old) (S.reads store.new) }
 {
     let mut hits = Base::All;

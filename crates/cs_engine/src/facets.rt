@@ -11,7 +11,7 @@ ghost use Rattle.cs_model.specs.Collection.{named};
 ghost use Rattle.cs_model_kept.specs.Due.{met_of_facets, met_prefix};
 ghost use Rattle.cs_tables.specs.TableListings.{post_table};
 ghost use Rattle.cs_tables.specs.WordCounts.{HasCounted};
-ghost use Rattle.cs_engine.specs.Asking.{division, is_read, is_changed};
+ghost use Rattle.cs_engine.specs.Asking.{division};
 ghost use Rattle.cs_engine.specs.Counting.{AreListed, in_listed};
 ghost use Rattle.cs_engine.specs.HeldFacets.{AreFacetsOver, HoldsFacets, IsFacet, IsFacetOver, is_held};
 ghost use Rattle.cs_engine.specs.IndexReading.{IsOpened, OnlyReads, WhereStood};
@@ -76,7 +76,7 @@ pub(crate) fn hold_facets<S: Store>(
     ensures facets { All (IsFacet index.now) held.new.items }
     ensures there { OnOk result (HoldsFacets index.now held.new.items names.now) }
     ensures told { WhereStood (S.bytes store.old) index.now (λ b. AreFacetsOver b held.old.items → AreFacetsOver b held.new.items) }
-    ensures store { OnlyReads S.bytes S.lent S.faults index.now store.old store.new (is_read result) (is_changed result) }
+    ensures store { OnlyReads S.bytes S.lent S.faults index.now store.old store.new result }
     ensures reads { ReadsWithin (met_of_facets (division index.now) names.now) (S.reads store.old) (S.reads store.new) }
 {
     // the type of an index says what it keeps where a field of it is read
@@ -99,7 +99,7 @@ fn hold_each<S: Store>(
     ensures facets { All (IsFacet index.now) held.new.items }
     ensures there { OnOk result (HoldsFacets index.now held.new.items names.now) }
     ensures told { WhereStood (S.bytes store.old) index.now (λ b. AreFacetsOver b held.old.items → AreFacetsOver b held.new.items) }
-    ensures store { OnlyReads S.bytes S.lent S.faults index.now store.old store.new (is_read result) (is_changed result) }
+    ensures store { OnlyReads S.bytes S.lent S.faults index.now store.old store.new result }
     ensures reads { ReadsWithin (met_of_facets (division index.now) names.now) (S.reads store.old) (S.reads store.new) }
 {
     for name in names {
@@ -135,7 +135,7 @@ fn hold_facet<S: Store>(
     ensures there { OnOk result (is_held held.new.items name.now ≡ true) }
     ensures others { (n : List ℕ) → is_held held.old.items n ≡ true → is_held held.new.items n ≡ true }
     ensures told { WhereStood (S.bytes store.old) index.now (λ b. AreFacetsOver b held.old.items → AreFacetsOver b held.new.items) }
-    ensures store { OnlyReads S.bytes S.lent S.faults index.now store.old store.new (is_read result) (is_changed result) }
+    ensures store { OnlyReads S.bytes S.lent S.faults index.now store.old store.new result }
     ensures reads { ReadsWithin (met_prefix (division index.now) (named name.now [])) (S.reads store.old) (S.reads store.new) }
 {
     if is_held(held.as_slice(), name) {
@@ -172,7 +172,7 @@ fn read_facet<S: Store>(
     ensures name { IfOk result (λ f. f.name ≡ name.now) }
     ensures facet { IfOk result (IsFacet index.now) }
     ensures told { WhereStood (S.bytes store.old) index.now (λ b. IfOk result (IsFacetOver b)) }
-    ensures store { OnlyReads S.bytes S.lent S.faults index.now store.old store.new (is_read result) (is_changed result) }
+    ensures store { OnlyReads S.bytes S.lent S.faults index.now store.old store.new result }
     ensures reads { ReadsWithin (met_prefix (division index.now) (named name.now [])) (S.reads store.old) (S.reads store.new) }
 {
     let prefix = named_word(alloc, name.as_str(), "")?;

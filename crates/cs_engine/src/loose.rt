@@ -9,7 +9,7 @@ ghost use Rattle.cs_model.specs.Requests.{reply_of};
 ghost use Rattle.cs_model_index.specs.Sections.{file_corpus};
 ghost use Rattle.cs_model_kept.specs.Entries.{listed_count};
 ghost use Rattle.cs_query.specs.RequestView.{asked};
-ghost use Rattle.cs_engine.specs.Asking.{division, is_read, is_changed, titles_asked, titles_read};
+ghost use Rattle.cs_engine.specs.Asking.{titles_asked, titles_read};
 ghost use Rattle.cs_engine.specs.Blockwise.{AreMany};
 ghost use Rattle.cs_engine.specs.HeldFacets.{HoldsFacets, WhereHeld};
 ghost use Rattle.cs_engine.specs.Keeping.{FitsQuery, IsAnsweredOver};
@@ -53,7 +53,7 @@ pub(crate) fn answered_by_words<S: Store>(
         (λ b. IsEntryByWords b index.now request.now.query hits words.0 words.1 → IfOk result (IsAnsweredOver b index.now (asked request.now))) }
     ensures few { IfOk result (λ a. length a.0.hits ≤ request.now.hits) }
     ensures within { IfOk result (λ a. IfSome a.1 (FitsQuery index.now request.now.query)) }
-    ensures store { OnlyReads S.bytes S.lent S.faults index.now store.old store.new (is_read result) (is_changed result) }
+    ensures store { OnlyReads S.bytes S.lent S.faults index.now store.old store.new result }
     ensures reads { ReadsWithin (titles_asked (asked request.now) result + length
         (filter (is_met words.0 words.1) index.now.heads)) (S.reads store.old) (S.reads store.new) }
 {
@@ -126,7 +126,7 @@ fn reply_behind<S: Store>(
     ensures told { WhereHeld (S.bytes store.old) index.now held.now
         (λ b. IsEntryByWords b index.now request.now.query hits.now words.0 words.1 → IfOk result (λ r. r ≡ reply_of (file_corpus b) (asked request.now))) }
     ensures few { IfOk result (λ r. length r.hits ≤ request.now.hits) }
-    ensures store { OnlyReads S.bytes S.lent S.faults index.now store.old store.new (is_read result) (is_changed result) }
+    ensures store { OnlyReads S.bytes S.lent S.faults index.now store.old store.new result }
     ensures reads { ReadsWithin (titles_read (asked request.now) result
         + (gathered.now.last - gathered.now.next)) (S.reads store.old) (S.reads store.new) }
 {

@@ -10,7 +10,7 @@ ghost use Rattle.cs_model_index.specs.Numbered.{word_at};
 ghost use Rattle.cs_model_kept.specs.Due.{met_of_last};
 ghost use Rattle.cs_model_kept.specs.KeptListLaws.{before_last};
 ghost use Rattle.cs_query.specs.RequestView.{asked};
-ghost use Rattle.cs_engine.specs.Asking.{division, is_read, is_changed, titles_asked};
+ghost use Rattle.cs_engine.specs.Asking.{division, titles_asked};
 ghost use Rattle.cs_engine.specs.HeldFacets.{HoldsFacets, WhereHeld};
 ghost use Rattle.cs_engine.specs.Keeping.{FitsQuery, IsAnsweredOver, IsEntryOver, entry_with};
 ghost use Rattle.cs_engine.specs.IndexReading.{AreWithin, IsOpened, OnlyReads};
@@ -81,7 +81,7 @@ pub(crate) fn answered_by_part<S: Store>(
         → IfOk result (IsAnsweredOver b index.now (asked request.now))) }
     ensures few { IfOk result (λ a. length a.0.hits ≤ request.now.hits) }
     ensures within { IfOk result (λ a. IfSome a.1 (FitsQuery index.now request.now.query)) }
-    ensures store { OnlyReads S.bytes S.lent S.faults index.now store.old store.new (is_read result) (is_changed result) }
+    ensures store { OnlyReads S.bytes S.lent S.faults index.now store.old store.new result }
     ensures reads { ReadsWithin (titles_asked (asked request.now) result + met_of_last
         (division index.now) (last_of (out-Query request.now.query).parts)) (S.reads store.old) (S.reads store.new) }
 {
@@ -111,7 +111,7 @@ pub(crate) fn answered_by_hits<S: Store>(
         (λ b. AreHitsOver b (before_last request.now.query) hits → IfOk result (IsAnsweredOver b index.now (asked request.now))) }
     ensures few { IfOk result (λ a. length a.0.hits ≤ request.now.hits) }
     ensures within { IfOk result (λ a. IfSome a.1 (FitsQuery index.now request.now.query)) }
-    ensures store { OnlyReads S.bytes S.lent S.faults index.now store.old store.new (is_read result) (is_changed result) }
+    ensures store { OnlyReads S.bytes S.lent S.faults index.now store.old store.new result }
     ensures reads { ReadsWithin (titles_asked (asked request.now) result + met_of_last
         (division index.now) (last_of (out-Query request.now.query).parts)) (S.reads store.old) (S.reads store.new) }
 {

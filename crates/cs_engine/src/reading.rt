@@ -3,7 +3,6 @@ ghost use Rattle.std.specs.Prelude.{◌≡◌, true, filter, length, IfOk};
 ghost use Rattle.std.specs.List.{All};
 ghost use Rattle.cs_base.specs.outside.Causes.{ReadsWithin};
 ghost use Rattle.cs_file.specs.Indexes.{is_met};
-ghost use Rattle.cs_engine.specs.Asking.{is_read, is_changed};
 ghost use Rattle.cs_engine.specs.Counting.{in_listed};
 ghost use Rattle.cs_engine.specs.Loose.{AreGathered};
 ghost use Rattle.cs_engine.specs.IndexReading.{AreWithin, IsOpened, IsWordRange, OnlyReads, WhereStood, stock_of};
@@ -31,7 +30,7 @@ pub(crate) fn rows_between<S: Store>(
 
     ensures told { WhereStood (S.bytes store.old) index.now (λ b. IfOk result (λ c. c.posts ≡ filter (is_between lo hi) (stock_of b).posts)) }
     ensures within { IfOk result (λ c. AreWithin index.now c.posts) }
-    ensures store { OnlyReads S.bytes S.lent S.faults index.now store.old store.new (is_read result) (is_changed result) }
+    ensures store { OnlyReads S.bytes S.lent S.faults index.now store.old store.new result }
     ensures reads { ReadsWithin (length (filter (is_met lo hi) index.now.heads)) (S.reads store.old) (S.reads store.new) }
 {
     let all = listed_docs(alloc, index.docs, &Base::All)?;
@@ -56,7 +55,7 @@ pub(crate) fn rows_in<S: Store>(
         (λ b. IfOk result (λ c. c.posts ≡ filter (in_listed listed.now) (filter (is_between words.0 words.1) (stock_of b).posts))) }
     ensures within { IfOk result (λ c. AreWithin index.now c.posts) }
     ensures listed { IfOk result (λ c. All (λ p. in_listed listed.now p ≡ true) c.posts) }
-    ensures store { OnlyReads S.bytes S.lent S.faults index.now store.old store.new (is_read result) (is_changed result) }
+    ensures store { OnlyReads S.bytes S.lent S.faults index.now store.old store.new result }
     ensures reads { ReadsWithin (length (filter (is_met words.0 words.1) index.now.heads)) (S.reads store.old) (S.reads store.new) }
 {
     let keys = keys_in(alloc, index, store, words, listed)?;
@@ -78,7 +77,7 @@ fn keys_in<S: Store>(
     requires opened { IsOpened (S.bytes store.old) index.now }
 
     ensures gathered { IfOk result (λ v. AreGathered index.now (S.bytes store.old) words.0 words.1 listed.now v.items) }
-    ensures store { OnlyReads S.bytes S.lent S.faults index.now store.old store.new (is_read result) (is_changed result) }
+    ensures store { OnlyReads S.bytes S.lent S.faults index.now store.old store.new result }
     ensures reads { ReadsWithin (length (filter (is_met words.0 words.1) index.now.heads)) (S.reads store.old) (S.reads store.new) }
 {
     let gathered = gather(alloc, index, store, words, listed, usize::MAX)?;

@@ -11,7 +11,7 @@ ghost use Rattle.cs_model_kept.specs.Due.{met_by, met_of_query};
 ghost use Rattle.cs_model_kept.specs.Entries.{entry_of};
 ghost use Rattle.cs_model_kept.specs.KeptList.{kept_fresh, plan_by, is_same};
 ghost use Rattle.cs_query.specs.RequestView.{asked};
-ghost use Rattle.cs_engine.specs.Asking.{division, is_read, is_changed, titles_asked, titles_read};
+ghost use Rattle.cs_engine.specs.Asking.{division, titles_asked, titles_read};
 ghost use Rattle.cs_engine.specs.HeldFacets.{HoldsFacets, WhereHeld};
 ghost use Rattle.cs_engine.specs.Keeping.{FitsQuery, HoldsGood, IsAnsweredOver, IsEntryOver, KeepsFitting, entry_with};
 ghost use Rattle.cs_engine.specs.IndexReading.{IsOpened, OnlyReads};
@@ -58,7 +58,7 @@ pub(crate) fn answered<S: Store>(
     ensures large { WhereHeld (S.bytes store.old) index.now held.now
         (λ b. HoldsGood b index.now answers.now.entries
         → IfOk result (λ a. is_some a.1 ≡ false → is_same plan ≡ false → kept_fresh (entry_of (file_corpus b) request.now.query) ≡ kept.TooLarge)) }
-    ensures store { OnlyReads S.bytes S.lent S.faults index.now store.old store.new (is_read result) (is_changed result) }
+    ensures store { OnlyReads S.bytes S.lent S.faults index.now store.old store.new result }
     ensures reads { ReadsWithin (titles_asked (asked request.now) result + met_by (division index.now) request.now.query plan) (S.reads store.old)
         (S.reads store.new) }
 {
@@ -105,7 +105,7 @@ fn fresh<S: Store>(
     ensures told { WhereHeld (S.bytes store.old) index.now held.now (λ b. IfOk result (IsAnsweredOver b index.now (asked request.now))) }
     ensures few { IfOk result (λ a. length a.0.hits ≤ request.now.hits) }
     ensures within { IfOk result (λ a. IfSome a.1 (FitsQuery index.now request.now.query)) }
-    ensures store { OnlyReads S.bytes S.lent S.faults index.now store.old store.new (is_read result) (is_changed result) }
+    ensures store { OnlyReads S.bytes S.lent S.faults index.now store.old store.new result }
     ensures reads { ReadsWithin (titles_asked (asked request.now) result + met_of_query
         (division index.now) request.now.query) (S.reads store.old) (S.reads store.new) }
 {
@@ -138,7 +138,7 @@ pub(crate) fn with_reply<S: Store>(
         (λ b. IsEntryOver b index.now request.now.query entry → IfOk result (λ a. a.0 ≡ reply_of (file_corpus b) (asked request.now))) }
     ensures few { IfOk result (λ a. length a.0.hits ≤ request.now.hits) }
     ensures same { IfOk result (λ a. a.1 ≡ Some entry) }
-    ensures store { OnlyReads S.bytes S.lent S.faults index.now store.old store.new (is_read result) (is_changed result) }
+    ensures store { OnlyReads S.bytes S.lent S.faults index.now store.old store.new result }
     ensures reads { ReadsWithin (titles_asked (asked request.now) result) (S.reads store.old)
         (S.reads store.new) }
 {
@@ -165,7 +165,7 @@ fn by_entry<S: Store>(
         (λ b. IsEntryOver b index.now request.now.query (entry_with base.now rows.now.posts)
         → IfOk result (λ r. r ≡ reply_of (file_corpus b) (asked request.now))) }
     ensures few { IfOk result (λ r. length r.hits ≤ request.now.hits) }
-    ensures store { OnlyReads S.bytes S.lent S.faults index.now store.old store.new (is_read result) (is_changed result) }
+    ensures store { OnlyReads S.bytes S.lent S.faults index.now store.old store.new result }
     ensures reads { ReadsWithin (titles_read (asked request.now) result) (S.reads store.old)
         (S.reads store.new) }
 {

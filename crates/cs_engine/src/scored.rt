@@ -6,7 +6,6 @@ ghost use Rattle.cs_base.specs.declared.content.scores.TheConstants.{MAX_ROW_SCO
 ghost use Rattle.cs_base.specs.outside.Causes.{ReadsWithin};
 ghost use Rattle.cs_file.specs.Indexes.{is_met};
 ghost use Rattle.cs_rank.specs.DocScores.{scores};
-ghost use Rattle.cs_engine.specs.Asking.{is_read, is_changed};
 ghost use Rattle.cs_engine.specs.Counting.{in_listed};
 ghost use Rattle.cs_engine.specs.Loose.{HasBestScores};
 ghost use Rattle.cs_engine.specs.IndexReading.{IsOpened, IsWordRange, OnlyReads, WhereStood, stock_of};
@@ -37,7 +36,7 @@ pub(crate) fn hits_by_words<S: Store>(
         (posts_after index.now.docs hits.now false (filter (is_between words.0 words.1) (stock_of b).posts)).rows)) }
     ensures within { IfOk result (λ next. (n : ℕ) → IsBaseOf index.now.docs (MAX_ROW_SCORE * n) hits.now
         → IsBaseOf index.now.docs (MAX_ROW_SCORE * (n + 1)) (base.Listed next)) }
-    ensures store { OnlyReads S.bytes S.lent S.faults index.now store.old store.new (is_read result) (is_changed result) }
+    ensures store { OnlyReads S.bytes S.lent S.faults index.now store.old store.new result }
     ensures reads { ReadsWithin (length (filter (is_met words.0 words.1) index.now.heads)) (S.reads store.old) (S.reads store.new) }
 {
     let listed = listed_docs(alloc, index.docs, hits)?;
@@ -61,7 +60,7 @@ fn best_in_blocks<S: Store>(
     ensures told { WhereStood (S.bytes store.old) index.now
         (λ b. IfOk result (λ best. HasBestScores (filter (in_listed listed.now) (filter (is_between words.0 words.1) (stock_of b).posts)) best.items)) }
     ensures long { IfOk result (λ best. length best.items ≡ index.now.docs) }
-    ensures store { OnlyReads S.bytes S.lent S.faults index.now store.old store.new (is_read result) (is_changed result) }
+    ensures store { OnlyReads S.bytes S.lent S.faults index.now store.old store.new result }
     ensures reads { ReadsWithin (length (filter (is_met words.0 words.1) index.now.heads)) (S.reads store.old) (S.reads store.new) }
 {
     let (first, last) = index.blocks(words.0, words.1);

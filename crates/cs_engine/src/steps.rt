@@ -7,7 +7,7 @@ ghost use Rattle.cs_base.specs.declared.content.query.Query.{Query, out-Query};
 ghost use Rattle.cs_base.specs.declared.content.query.Part.{out-Part};
 ghost use Rattle.cs_model.specs.Answers.{rows_of_part};
 ghost use Rattle.cs_model_kept.specs.Due.{met_of_part};
-ghost use Rattle.cs_engine.specs.Asking.{division, is_read, is_changed};
+ghost use Rattle.cs_engine.specs.Asking.{division};
 ghost use Rattle.cs_engine.specs.IndexReading.{IsOpened, OnlyReads, WhereStood, stock_of};
 ghost use Rattle.cs_engine.specs.Steps.{AreHitsBehind, AreHitsOver, EntryFits, IsBaseOf, IsStep, end_positive};
 ghost use Rattle.cs_engine.specs.Stocked.{corpus_in};
@@ -34,7 +34,7 @@ pub(crate) fn hits_of_parts<S: Store>(
 
     ensures told { WhereStood (S.bytes store.old) index.now (λ b. IfOk result (λ hits. (q : Query) → parts.now ≡ (out-Query q).parts → AreHitsOver b q hits)) }
     ensures within { IfOk result (IsBaseOf index.now.docs (MAX_ROW_SCORE * length parts.now)) }
-    ensures store { OnlyReads S.bytes S.lent S.faults index.now store.old store.new (is_read result) (is_changed result) }
+    ensures store { OnlyReads S.bytes S.lent S.faults index.now store.old store.new result }
     ensures reads { ReadsWithin (sum (map (met_of_part (division index.now)) parts.now)) (S.reads store.old) (S.reads store.new) }
 {
     let mut hits = Base::All;
@@ -58,7 +58,7 @@ fn hits_behind<S: Store>(
     ensures told { WhereStood (S.bytes store.old) index.now
         (λ b. IfOk result (AreHitsBehind (stock_of b) hits (rows_of_part (corpus_in (stock_of b)) part.now))) }
     ensures within { IfOk result (λ next. (n : ℕ) → IsBaseOf index.now.docs (MAX_ROW_SCORE * n) hits → IsBaseOf index.now.docs (MAX_ROW_SCORE * (n + 1)) next) }
-    ensures store { OnlyReads S.bytes S.lent S.faults index.now store.old store.new (is_read result) (is_changed result) }
+    ensures store { OnlyReads S.bytes S.lent S.faults index.now store.old store.new result }
     ensures reads { ReadsWithin (met_of_part (division index.now) part.now) (S.reads store.old) (S.reads store.new) }
 {
     if let Some(words) = words_of_part(index, part) {
@@ -84,7 +84,7 @@ pub(crate) fn extended<S: Store>(
     ensures told { WhereStood (S.bytes store.old) index.now (λ b. IfOk result (IsStep (stock_of b) hits (rows_of_part (corpus_in (stock_of b)) part.now))) }
     ensures within { IfOk result (λ e. (n : ℕ) → IsBaseOf index.now.docs (MAX_ROW_SCORE * n) hits
         → EntryFits index.now (not (out-Part part.now).excluded) (n + 1) e) }
-    ensures store { OnlyReads S.bytes S.lent S.faults index.now store.old store.new (is_read result) (is_changed result) }
+    ensures store { OnlyReads S.bytes S.lent S.faults index.now store.old store.new result }
     ensures reads { ReadsWithin (met_of_part (division index.now) part.now) (S.reads store.old) (S.reads store.new) }
 {
     let rows = rows_of_part(alloc, index, store, part)?;

@@ -7,7 +7,7 @@ ghost use Rattle.cs_file.specs.Indexes.{IsIndex};
 ghost use Rattle.cs_model.specs.Answers.{begins, of_word};
 ghost use Rattle.cs_model.specs.Collection.{named};
 ghost use Rattle.cs_model_kept.specs.Due.{met_prefix, met_word};
-ghost use Rattle.cs_engine.specs.Asking.{division, is_read, is_changed};
+ghost use Rattle.cs_engine.specs.Asking.{division};
 ghost use Rattle.cs_engine.specs.IndexReading.{AreWithin, HasRows, IsOpened, IsSpanOf, OnlyReads, WhereStood, stock_of};
 ghost use Rattle.cs_engine.specs.Stocked.{corpus_in};
 
@@ -31,7 +31,7 @@ pub(crate) fn rows_of_prefix<S: Store>(
     ensures told { WhereStood (S.bytes store.old) index.now
         (λ b. IfOk result (λ c. HasRows (stock_of b) (filter (λ r. begins prefix.now r.word) (corpus_in (stock_of b)).rows) c.posts)) }
     ensures within { IfOk result (λ c. AreWithin index.now c.posts) }
-    ensures store { OnlyReads S.bytes S.lent S.faults index.now store.old store.new (is_read result) (is_changed result) }
+    ensures store { OnlyReads S.bytes S.lent S.faults index.now store.old store.new result }
     ensures reads { ReadsWithin (met_prefix (division index.now) prefix.now) (S.reads store.old) (S.reads store.new) }
 {
     let (lo, hi) = index.range(prefix);
@@ -51,7 +51,7 @@ pub(crate) fn rows_of_word<S: Store>(
     ensures told { WhereStood (S.bytes store.old) index.now
         (λ b. IfOk result (λ c. HasRows (stock_of b) (of_word word.now (corpus_in (stock_of b)).rows) c.posts)) }
     ensures within { IfOk result (λ c. AreWithin index.now c.posts) }
-    ensures store { OnlyReads S.bytes S.lent S.faults index.now store.old store.new (is_read result) (is_changed result) }
+    ensures store { OnlyReads S.bytes S.lent S.faults index.now store.old store.new result }
     ensures reads { ReadsWithin (met_word (division index.now) word.now) (S.reads store.old) (S.reads store.new) }
 {
     let (lo, hi) = span_of_word(index, word);
@@ -71,7 +71,7 @@ pub(crate) fn rows_of_facet<S: Store>(
     ensures told { WhereStood (S.bytes store.old) index.now
         (λ b. IfOk result (λ c. HasRows (stock_of b) (filter (λ r. begins (named name.now []) r.word) (corpus_in (stock_of b)).rows) c.posts)) }
     ensures within { IfOk result (λ c. AreWithin index.now c.posts) }
-    ensures store { OnlyReads S.bytes S.lent S.faults index.now store.old store.new (is_read result) (is_changed result) }
+    ensures store { OnlyReads S.bytes S.lent S.faults index.now store.old store.new result }
     ensures reads { ReadsWithin (met_prefix (division index.now) (named name.now [])) (S.reads store.old) (S.reads store.new) }
 {
     let prefix = named_word(alloc, name.as_str(), "")?;

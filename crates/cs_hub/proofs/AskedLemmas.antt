@@ -2,7 +2,6 @@
 --
 --   requests_both, requests_length      the requests of answers
 --   some_said, some_starved, some_delivered, some_refused      what was sent, whatever it was
---   replied_open                  where the connection goes on a whole response was sent
 --   before_none, want_before      nothing was asked: there was no head, or no memory
 --   want_for, sent_for            what was sent for one head
 --   before_stop                   a head behind which the connection is to be closed
@@ -27,6 +26,7 @@ use Rattle.std.proofs.Math.Seq.{take-append-add}
 use Rattle.std.proofs.lemmas.Grind.{flat_map-append}
 use Rattle.std.proofs.lemmas.List.{take_all}
 use Rattle.std.proofs.lemmas.List.Elements.{All-append, All-cons, All-nil}
+use Rattle.std.specs.Result.{IsErr}
 use Rattle.std.specs.FinMap as map
 use Rattle.cs_base.specs.declared.content.limits.TheConstants.{MAX_CONNECTION_BYTES}
 use Rattle.cs_base.specs.declared.memory.Memory.{Memory}
@@ -57,15 +57,16 @@ use Rattle.cs_query.specs.declared.request.ReqFault.{ReqFault}
 use Rattle.cs_query.specs.declared.request.ReqFault.TheVariants as faults
 use Rattle.cs_hub.specs.Asked.{InTurn, AsksOf, AsksAsSent, AsksAlong, AsksBy, SentFor, Standing, EngineLeaves}
 use Rattle.cs_hub.specs.DueReads.{Answered, AnswersWithin, AreDue, HasMemory, SentAt, SentBefore, bytes_behind, bytes_to_answer, closes_behind, goes_on}
-use Rattle.cs_hub.specs.DueReads.{heads_on, read_failures, is_want, reply_in, requests_by, requests_in, requests_of, requests_on, requests_to}
+use Rattle.cs_hub.specs.DueReads.{IsPartOf, IsResponseBy, IsTextBy, SentBy, heads_on, read_failures, is_want, reply_in, requests_by, requests_in, requests_of, requests_on, requests_to}
 use Rattle.cs_hub.specs.HubFollowing.{Slots, left_at}
 use Rattle.cs_hub.specs.Responding.{response, IsJudgedSo}
 use Rattle.cs_hub.specs.Speaking.{Said, Spoke, Starved}
 use Rattle.cs_hub.specs.Streams.{RoseBy}
-use Rattle.cs_hub.specs.Turns.{Delivered, HoldsBytes, IsTurnedAway, IsSent, Replied}
+use Rattle.cs_hub.specs.Turns.{Delivered, HoldsBytes, IsTurnedAway, IsSent}
 use Rattle.cs_hub.specs.declared.answer.Answer.{Answer}
 use Rattle.cs_hub.specs.declared.reading.Turn.{Turn}
 use Rattle.cs_hub.specs.declared.reading.Turn.TheVariants as turns
+use Rattle.cs_hub.proofs.ByLemmas.{are_both, are_one, by_all, by_behind, memory_part, whole_part}
 use Rattle.cs_hub.proofs.UnreadHeads.{closes_by, heads-closes, heads-goes_on, heads-head, heads-long, heads-more, requests-none}
 use Rattle.cs_hub.proofs.ServedLemmas.{bytes_both}
 use Rattle.cs_hub.proofs.SpeakLemmas.{itself, rose_both, rose_none, rose_one, spoke_both, spoke_nothing}
@@ -82,67 +83,117 @@ requests_length [] = refl
 requests_length (a ∷ xs) = ap suc (requests_length xs)
 
 -- ---- what was sent
--- something was sent on the connection, whole or not, perhaps nothing
-abbrev pub Some_said : ℕ → Option Talk → Option Talk → Type 0
-Some_said c talk talk' = (part : List ℕ) × (fails : Bool) × Spoke c part fails talk talk'
+-- a response was sent on the connection, or the memory response, whole or not, perhaps nothing
+abbrev pub Some_said : ℕ → Response → Option Talk → Option Talk → Type 0
+Some_said c r talk talk' =
+    (part : List ℕ) × (fails : Bool) × Spoke c part fails talk talk' × (IsPartOf (response_bytes r) part ⊎ IsPartOf memory_bytes part)
 
-pub some_said : (c : ℕ) (text : List ℕ) (whole : Bool) (talk talk' : Option Talk) → Said c text whole talk talk' → Some_said c talk talk'
-some_said c text true talk talk' h = (text, false, h)
-some_said c text false talk talk' h = (take h.0 text, true, h.1)
+some_said : (c : ℕ) (text : List ℕ) (whole : Bool) (talk talk' : Option Talk) → Said c text whole talk talk'
+    → (part : List ℕ) × (fails : Bool) × Spoke c part fails talk talk' × IsPartOf text part
+some_said c text true talk talk' h = (text, false, h, whole_part text)
+some_said c text false talk talk' h = (take h.0 text, true, h.1, (h.0, refl))
 
-pub some_starved : (c : ℕ) (talk talk' : Option Talk) → Starved c talk talk' → Some_said c talk talk'
-some_starved c talk talk' h = some_said c memory_bytes h.0 talk talk' h.1
+pub some_starved : (c : ℕ) (r : Response) (talk talk' : Option Talk) → Starved c talk talk' → Some_said c r talk talk'
+some_starved c r talk talk' h = let said = some_said c memory_bytes h.0 talk talk' h.1 in (said.0, said.1, said.2, inr said.3)
 
-pub some_delivered : (c : ℕ) (r : Response) (goes : Bool) (talk talk' : Option Talk) → Delivered c r goes talk talk' → Some_said c talk talk'
-some_delivered c r true talk talk' h = (response_bytes r, false, h.1)
-some_delivered c r false talk talk' (inl h) = (response_bytes r, false, h.1)
-some_delivered c r false talk talk' (inr (inl h)) = (take h.0 (response_bytes r), true, h.1)
-some_delivered c r false talk talk' (inr (inr h)) = some_starved c talk talk' h
+pub some_delivered : (c : ℕ) (r : Response) (goes : Bool) (talk talk' : Option Talk) → Delivered c r goes talk talk' → Some_said c r talk talk'
+some_delivered c r true talk talk' h = (response_bytes r, false, h.1, inl (whole_part (response_bytes r)))
+some_delivered c r false talk talk' (inl h) = (response_bytes r, false, h.1, inl (whole_part (response_bytes r)))
+some_delivered c r false talk talk' (inr (inl h)) = (take h.0 (response_bytes r), true, h.1, inl (h.0, refl))
+some_delivered c r false talk talk' (inr (inr h)) = some_starved c r talk talk' h
 
-pub some_refused : (c : ℕ) (talk talk' : Option Talk) → IsTurnedAway c talk talk' → Some_said c talk talk'
+pub some_refused : (c : ℕ) (talk talk' : Option Talk) → IsTurnedAway c talk talk' → Some_said c too_long talk talk'
 some_refused c talk talk' (inl h) = some_delivered c too_long h.0 talk talk' h.1
-some_refused c talk talk' (inr h) = some_starved c talk talk' h
-
-whole_by : (c : ℕ) (r : Response) (goes : Bool) (talk talk' : Option Talk) → Delivered c r goes talk talk' → goes ≡ true
-    → Spoke c (response_bytes r) false talk talk'
-whole_by c r true talk talk' h on = h.1
-whole_by c r false talk talk' h on = absurd cc
-
-pub replied_open : (Over : Corpus → Type 0) (c : ℕ) (right : Corpus → Response) (goes : Bool) (m n : ℕ) (talk talk' : Option Talk) → goes ≡ true
-    → Replied Over c right goes m n talk talk' → (r : Response) × Spoke c (response_bytes r) false talk talk'
-replied_open Over c right goes m n talk talk' on (inl h) = (h.0, whole_by c h.0 goes talk talk' h.2 on)
-replied_open Over c right goes m n talk talk' on (inr h) = absurd (let x : true ≡ false = sym on ∙ h.0 in cc)
+some_refused c talk talk' (inr h) = some_starved c too_long talk talk' h
 
 -- nothing is asked where there is no head
-before_none : (c : ℕ) (b : List ℕ) (talk talk' : Option Talk) → heads_on b ≡ [] → Some_said c talk talk' → SentBefore c b talk talk' []
+before_none : (c : ℕ) (b : List ℕ) (talk talk' : Option Talk) → heads_on b ≡ [] → Some_said c too_long talk talk' → SentBefore c b talk talk' []
 before_none c b talk talk' none h = record {
   sent = [];
   part = h.0;
   fails = h.1;
   spoke = h.2;
+  by = subst (λ l. IsTextBy l [] h.0) (sym none) h.3;
   enough = omega arith;
   all = inl (All-nil (λ (a : Answered). is_want a.1 ≡ false), sym (ap (λ l. length (requests_to l)) none));
 }
 
 want_before : (c : ℕ) (b : List ℕ) (whole : Bool) (talk talk' : Option Talk) → Said c memory_bytes whole talk talk' → SentBefore c b talk talk' []
-want_before c b true talk talk' h = record { sent = []; part = memory_bytes; fails = false; spoke = h; enough = omega arith; all = inr (inr refl) }
-want_before c b false talk talk' h = record { sent = []; part = take h.0 memory_bytes; fails = true; spoke = h.1; enough = omega arith; all = inr (inl refl) }
+want_before c b true talk talk' h = record {
+  sent = [];
+  part = memory_bytes;
+  fails = false;
+  spoke = h;
+  by = memory_part (heads_on b) [] memory_bytes (whole_part memory_bytes);
+  enough = omega arith;
+  all = inr (inr refl);
+}
+want_before c b false talk talk' h = record {
+  sent = [];
+  part = take h.0 memory_bytes;
+  fails = true;
+  spoke = h.1;
+  by = memory_part (heads_on b) [] (take h.0 memory_bytes) (h.0, refl);
+  enough = omega arith;
+  all = inr (inl refl);
+}
 
 -- ---- one head
-want_for : (c : ℕ) (goes : Bool) (h : List ℕ) (whole : Bool) (talk talk' : Option Talk) (xs : List Answered) → Said c memory_bytes whole talk talk'
-    → SentFor c goes h talk talk' xs
-want_for c goes h true talk talk' xs said = record { part = memory_bytes; fails = false; spoke = said; all = inr (inr refl) }
-want_for c goes h false talk talk' xs said = record { part = take said.0 memory_bytes; fails = true; spoke = said.1; all = inr (inl refl) }
+-- nothing follows from what can't be
+pub by_nothing : (P : Type 0) → false ≡ true → P
+by_nothing P e = absurd cc
+
+-- the response was sent whole
+abbrev Whole : ℕ → List ℕ → List Answered → Option Talk → Option Talk → Type 0
+Whole c h xs talk talk' = (r : Response) × IsResponseBy h xs r × Spoke c (response_bytes r) false talk talk'
+
+want_for : (c : ℕ) (h : List ℕ) (whole : Bool) (talk talk' : Option Talk) (xs : List Answered) → Said c memory_bytes whole talk talk'
+    → SentFor c false h talk talk' xs
+want_for c h true talk talk' xs said = record {
+  part = memory_bytes;
+  fails = false;
+  spoke = said;
+  all = inr (inr refl);
+  by = inr (whole_part memory_bytes);
+  whole = by_nothing (Whole c h xs talk talk');
+}
+want_for c h false talk talk' xs said = record {
+  part = take said.0 memory_bytes;
+  fails = true;
+  spoke = said.1;
+  all = inr (inl refl);
+  by = inr (said.0, refl);
+  whole = by_nothing (Whole c h xs talk talk');
+}
 
 sent_for : (c : ℕ) (r : Response) (goes : Bool) (h : List ℕ) (talk talk' : Option Talk) (xs : List Answered) → HasMemory xs
-    → length xs ≡ length (requests_in (judge h)) → r.closes ≡ closes_behind (judge h) → Delivered c r goes talk talk' → SentFor c goes h talk talk' xs
-sent_for c r true h talk talk' xs memory all closes d =
-    record { part = response_bytes r; fails = false; spoke = d.1; all = inl (memory, all, sym closes ∙ d.0) }
-sent_for c r false h talk talk' xs memory all closes (inl d) =
-    record { part = response_bytes r; fails = false; spoke = d.1; all = inl (memory, all, sym closes ∙ d.0) }
-sent_for c r false h talk talk' xs memory all closes (inr (inl d)) =
-    record { part = take d.0 (response_bytes r); fails = true; spoke = d.1; all = inr (inl refl) }
-sent_for c r false h talk talk' xs memory all closes (inr (inr s)) = want_for c false h s.0 talk talk' xs s.1
+    → length xs ≡ length (requests_in (judge h)) → r.closes ≡ closes_behind (judge h) → IsResponseBy h xs r → Delivered c r goes talk talk'
+    → SentFor c goes h talk talk' xs
+sent_for c r true h talk talk' xs memory all closes by d = record {
+  part = response_bytes r;
+  fails = false;
+  spoke = d.1;
+  all = inl (memory, all, sym closes ∙ d.0);
+  by = inl (r, by, whole_part (response_bytes r));
+  whole = λ e. (r, by, d.1);
+}
+sent_for c r false h talk talk' xs memory all closes by (inl d) = record {
+  part = response_bytes r;
+  fails = false;
+  spoke = d.1;
+  all = inl (memory, all, sym closes ∙ d.0);
+  by = inl (r, by, whole_part (response_bytes r));
+  whole = by_nothing (Whole c h xs talk talk');
+}
+sent_for c r false h talk talk' xs memory all closes by (inr (inl d)) = record {
+  part = take d.0 (response_bytes r);
+  fails = true;
+  spoke = d.1;
+  all = inr (inl refl);
+  by = inl (r, by, (d.0, refl));
+  whole = by_nothing (Whole c h xs talk talk');
+}
+sent_for c r false h talk talk' xs memory all closes by (inr (inr s)) = want_for c h s.0 talk talk' xs s.1
 
 -- the first head, behind which the connection is to be closed
 all_stop : (c : ℕ) (goes : Bool) (h b : List ℕ) (talk talk' : Option Talk) (xs : List Answered) (P : Type 0) → goes ≡ false
@@ -163,6 +214,7 @@ before_stop c goes h b later talk talk' xs off few is alone s = record {
   part = s.part;
   fails = s.fails;
   spoke = s.spoke;
+  by = subst (λ l. IsTextBy l xs s.part) (sym is) s.by;
   enough = let first = ap (λ l. length (requests_to (take 1 l))) is in let one = ap length (append-nil (requests_in (judge h))) in
       omega (arith, few, first, one);
   all = all_stop c goes h b talk talk' xs ((s.fails ≡ true) ⊎ (s.part ≡ memory_bytes)) off alone s.all;
@@ -192,16 +244,16 @@ memory_both xs ys b left P cut h (inl k) =
     inl (All-append (λ (a : Answered). is_want a.1 ≡ false) xs ys h k.0, count)
 memory_both xs ys b left P cut h (inr p) = inr p
 
--- nothing follows from what can't be
-pub by_nothing : (P : Type 0) → false ≡ true → P
-by_nothing P e = absurd cc
-
 -- the event is a piece
 abbrev pub is_piece : Event → Bool
 is_piece (events.Opened c) = false
 is_piece (events.Piece c n) = true
 is_piece (events.Ended c) = false
 is_piece events.Over = false
+
+pub none_ok : {T E : Type 0} (r : Result T E) (P : T → Type 0) → IsErr r → IfOk r P
+none_ok (Ok x) P h = absurd cc
+none_ok (Err e) P h = tt
 
 module _ {K : Type 0} (Leaves : K → Request → Result Reply AskFault → K → Type 0) where
   pub in_turn_both : (xs ys : List Answered) (s t u : K) → InTurn Leaves xs s t → InTurn Leaves ys t u → InTurn Leaves (xs ++ ys) s u
@@ -215,14 +267,17 @@ module _ {K : Type 0} (Leaves : K → Request → Result Reply AskFault → K �
   abbrev pub asks_nothing : (whole : Bool) (s : K) → AsksOf Leaves whole [] s s
   asks_nothing whole s = record { answered = []; later = []; cut = refl; in_turn = refl; all = λ e. (refl, All-nil (λ (a : Answered). is_want a.1 ≡ false)) }
 
-  pub asks_one : (whole : Bool) (q : Request) (r : Result Reply AskFault) (s t : K) → Leaves s q r t → (whole ≡ true → is_want r ≡ false)
-      → AsksOf Leaves whole (q ∷ []) s t
-  asks_one whole q r s t h memory = record {
-    answered = (q, r) ∷ [];
-    later = [];
-    cut = refl;
-    in_turn = (t, h, refl);
-    all = λ e. (refl, All-cons (λ (a : Answered). is_want a.1 ≡ false) (q, r) [] (memory e) (All-nil (λ (a : Answered). is_want a.1 ≡ false)));
+  pub asks_one : (whole : Bool) (q : Request) (r : Result Reply AskFault) (s t : K) (Sent : List Answered → Type 0) → Leaves s q r t
+      → (whole ≡ true → is_want r ≡ false) → Sent ((q, r) ∷ []) → AsksAsSent Leaves whole (q ∷ []) s t Sent
+  asks_one whole q r s t Sent h memory sent = record {
+    asks = record {
+      answered = (q, r) ∷ [];
+      later = [];
+      cut = refl;
+      in_turn = (t, h, refl);
+      all = λ e. (refl, All-cons (λ (a : Answered). is_want a.1 ≡ false) (q, r) [] (memory e) (All-nil (λ (a : Answered). is_want a.1 ≡ false)));
+    };
+    sent = sent;
   }
 
   abbrev pub asks_whole : (whole less : Bool) (qs : List Request) (s t : K) → (less ≡ true → whole ≡ true) → AsksOf Leaves whole qs s t
@@ -261,61 +316,74 @@ module _ {K : Type 0} (Leaves : K → Request → Result Reply AskFault → K �
   asks_all qs s t a = omega (arith, ap length a.cut, length-append (requests_of a.answered) a.later, requests_length a.answered, ap length (a.all refl).0)
 
   -- ---- parameters and heads
-  pub asks_params : (whole : Bool) (p : List ℕ) (q : Request) (s t : K) → request_refusal p ≡ None → q ≡ request_of p → AsksOf Leaves whole (q ∷ []) s t
-      → AsksOf Leaves whole (requests_by p (request_refusal p)) s t
-  asks_params whole p q s t none is h = subst (λ r. AsksOf Leaves whole (requests_by p r) s t) (sym none) (subst (λ x. AsksOf Leaves whole (x ∷ []) s t) is h)
+  pub asks_by : (whole : Bool) (qs : List Request) (s t : K) (Sent Other : List Answered → Type 0) → ((xs : List Answered) → Sent xs → Other xs)
+      → AsksAsSent Leaves whole qs s t Sent → AsksAsSent Leaves whole qs s t Other
+  asks_by whole qs s t Sent Other f a = record { asks = a.asks; sent = f a.asks.answered a.sent }
 
-  by_refusal : (whole : Bool) (p : List ℕ) (r : RequestRefusal) (s : K) → request_refusal p ≡ Some r
-      → AsksOf Leaves whole (requests_by p (request_refusal p)) s s
-  by_refusal whole p r s e = subst (λ o. AsksOf Leaves whole (requests_by p o) s s) (sym e) (asks_nothing whole s)
+  pub asks_params : (whole : Bool) (p : List ℕ) (q : Request) (s t : K) (Sent : List Answered → Type 0) → request_refusal p ≡ None → q ≡ request_of p
+      → AsksAsSent Leaves whole (q ∷ []) s t Sent → AsksAsSent Leaves whole (requests_by p (request_refusal p)) s t Sent
+  asks_params whole p q s t Sent none is h =
+      subst (λ r. AsksAsSent Leaves whole (requests_by p r) s t Sent) (sym none) (subst (λ x. AsksAsSent Leaves whole (x ∷ []) s t Sent) is h)
+
+  by_refusal : (whole : Bool) (p : List ℕ) (r : RequestRefusal) (s : K) (Sent : List Answered → Type 0) → request_refusal p ≡ Some r → Sent []
+      → AsksAsSent Leaves whole (requests_by p (request_refusal p)) s s Sent
+  by_refusal whole p r s Sent e h =
+      subst (λ o. AsksAsSent Leaves whole (requests_by p o) s s Sent) (sym e) (record { asks = asks_nothing whole s; sent = h })
 
   -- where memory ran out there is no response
-  for_memory : (result : Result Answer Memory) (qs : List Request) (s : K) → IfOk result (λ a. ⊥) → AsksOf Leaves (is_ok result) qs s s
-  for_memory (Ok a) qs s h = absurd h
-  for_memory (Err e) qs s h = asks_none qs s
+  for_memory : (result : Result Answer Memory) (qs : List Request) (s : K) (Sent : List Answered → Type 0) → IfOk result (λ a. ⊥) → Sent []
+      → AsksAsSent Leaves (is_ok result) qs s s Sent
+  for_memory (Ok a) qs s Sent h k = absurd h
+  for_memory (Err e) qs s Sent h k = record { asks = asks_none qs s; sent = k }
 
   never : (P : Type 0) (result : Result Answer Memory) → (P → ⊥) → IfOk result (λ a. P) → IfOk result (λ a. ⊥)
   never P (Ok a) f h = f h
   never P (Err e) f h = tt
 
-  pub refused_params : (p : List ℕ) (fault : ReqFault) (result : Result Answer Memory) (s : K) → IsCause p fault → IfOk result (λ a. fault ≡ faults.Memory → ⊥)
-      → AsksOf Leaves (is_ok result) (requests_by p (request_refusal p)) s s
-  refused_params p (faults.BadParam which) result s cause h = by_refusal (is_ok result) p _ s cause
-  refused_params p (faults.Bad at) result s cause h = by_refusal (is_ok result) p _ s cause
-  refused_params p (faults.Limit at which) result s cause h = by_refusal (is_ok result) p _ s cause
-  refused_params p faults.Memory result s cause h =
-      for_memory result (requests_by p (request_refusal p)) s (never (faults.Memory ≡ faults.Memory → ⊥) result (λ f. f refl) h)
+  pub refused_params : (p : List ℕ) (fault : ReqFault) (result : Result Answer Memory) (s : K) (Sent : List Answered → Type 0) → IsCause p fault
+      → IfOk result (λ a. fault ≡ faults.Memory → ⊥) → Sent [] → AsksAsSent Leaves (is_ok result) (requests_by p (request_refusal p)) s s Sent
+  refused_params p (faults.BadParam which) result s Sent cause h k = by_refusal (is_ok result) p _ s Sent cause k
+  refused_params p (faults.Bad at) result s Sent cause h k = by_refusal (is_ok result) p _ s Sent cause k
+  refused_params p (faults.Limit at which) result s Sent cause h k = by_refusal (is_ok result) p _ s Sent cause k
+  refused_params p faults.Memory result s Sent cause h k =
+      for_memory result (requests_by p (request_refusal p)) s Sent (never (faults.Memory ≡ faults.Memory → ⊥) result (λ f. f refl) h) k
 
-  pub asks_head : (whole : Bool) (bytes p : List ℕ) (close : Bool) (s t : K) → judge bytes ≡ asks p close
-      → AsksOf Leaves whole (requests_by p (request_refusal p)) s t → AsksOf Leaves whole (requests_in (judge bytes)) s t
-  asks_head whole bytes p close s t e h = subst (λ j. AsksOf Leaves whole (requests_in j) s t) (sym e) h
+  pub asks_head : (whole : Bool) (bytes p : List ℕ) (close : Bool) (s t : K) (Sent : List Answered → Type 0) → judge bytes ≡ asks p close
+      → AsksAsSent Leaves whole (requests_by p (request_refusal p)) s t Sent → AsksAsSent Leaves whole (requests_in (judge bytes)) s t Sent
+  asks_head whole bytes p close s t Sent e h = subst (λ j. AsksAsSent Leaves whole (requests_in j) s t Sent) (sym e) h
 
-  pub refused_head : (j : Judgement) (fault : HeadFault) (result : Result Answer Memory) (s : K) → IsHeadCause j fault
-      → IfOk result (λ a. fault ≡ heads.Memory → ⊥) → AsksOf Leaves (is_ok result) (requests_in j) s s
-  refused_head j heads.NotHead result s cause h = subst (λ x. AsksOf Leaves (is_ok result) (requests_in x) s s) (sym cause) (asks_nothing (is_ok result) s)
-  refused_head j heads.Body result s cause h = subst (λ x. AsksOf Leaves (is_ok result) (requests_in x) s s) (sym cause) (asks_nothing (is_ok result) s)
-  refused_head j (heads.Path close) result s cause h = subst (λ x. AsksOf Leaves (is_ok result) (requests_in x) s s) (sym cause) (asks_nothing (is_ok result) s)
-  refused_head j (heads.Method close) result s cause h =
-      subst (λ x. AsksOf Leaves (is_ok result) (requests_in x) s s) (sym cause) (asks_nothing (is_ok result) s)
-  refused_head j heads.Memory result s cause h = for_memory result (requests_in j) s (never (heads.Memory ≡ heads.Memory → ⊥) result (λ f. f refl) h)
+  refused_so : (whole : Bool) (j k : Judgement) (s : K) (Sent : List Answered → Type 0) → j ≡ k → requests_in k ≡ [] → Sent []
+      → AsksAsSent Leaves whole (requests_in j) s s Sent
+  refused_so whole j k s Sent e none h =
+      subst (λ l. AsksAsSent Leaves whole l s s Sent) (sym (ap requests_in e ∙ none)) (record { asks = asks_nothing whole s; sent = h })
+
+  pub refused_head : (j : Judgement) (fault : HeadFault) (result : Result Answer Memory) (s : K) (Sent : List Answered → Type 0) → IsHeadCause j fault
+      → IfOk result (λ a. fault ≡ heads.Memory → ⊥) → Sent [] → AsksAsSent Leaves (is_ok result) (requests_in j) s s Sent
+  refused_head j heads.NotHead result s Sent cause h k = refused_so (is_ok result) j _ s Sent cause refl k
+  refused_head j heads.Body result s Sent cause h k = refused_so (is_ok result) j _ s Sent cause refl k
+  refused_head j (heads.Path close) result s Sent cause h k = refused_so (is_ok result) j _ s Sent cause refl k
+  refused_head j (heads.Method close) result s Sent cause h k = refused_so (is_ok result) j _ s Sent cause refl k
+  refused_head j heads.Memory result s Sent cause h k =
+      for_memory result (requests_in j) s Sent (never (heads.Memory ≡ heads.Memory → ⊥) result (λ f. f refl) h) k
 
   -- what was sent of one head's response
   pub asks_sent : (c : ℕ) (answer : Result Answer Memory) (goes : Bool) (h : List ℕ) (s t : K) (talk talk' : Option Talk)
-      → IfOk answer (λ a. a.close ≡ closes_behind (judge h)) → IsSent c answer goes talk talk' → AsksOf Leaves (is_ok answer) (requests_in (judge h)) s t
+      → IfOk answer (λ a. a.close ≡ closes_behind (judge h)) → IsSent c answer goes talk talk'
+      → AsksAsSent Leaves (is_ok answer) (requests_in (judge h)) s t (λ xs. IfOk answer (λ a. IsResponseBy h xs (response a)))
       → AsksAsSent Leaves goes (requests_in (judge h)) s t (SentFor c goes h talk talk')
   asks_sent c (Ok x) goes h s t talk talk' closes sent a = record {
-    asks = asks_whole true goes (requests_in (judge h)) s t (λ e. refl) a;
-    sent = sent_for c (response x) goes h talk talk' a.answered (a.all refl).1 (asks_all (requests_in (judge h)) s t a) closes sent;
+    asks = asks_whole true goes (requests_in (judge h)) s t (λ e. refl) a.asks;
+    sent = sent_for c (response x) goes h talk talk' a.asks.answered (a.asks.all refl).1 (asks_all (requests_in (judge h)) s t a.asks) closes a.sent sent;
   }
   asks_sent c (Err e) goes h s t talk talk' closes sent a = record {
-    asks = asks_whole false goes (requests_in (judge h)) s t (λ on. sym sent.0 ∙ on) a;
-    sent = want_for c goes h sent.1.0 talk talk' a.answered sent.1.1;
+    asks = asks_whole false goes (requests_in (judge h)) s t (λ on. sym sent.0 ∙ on) a.asks;
+    sent = subst (λ g. SentFor c g h talk talk' a.asks.answered) (sym sent.0) (want_for c h sent.1.0 talk talk' a.asks.answered sent.1.1);
   }
 
   -- no memory was there for its bytes
-  pub starved_for : (c : ℕ) (goes : Bool) (h : List ℕ) (s : K) (talk talk' : Option Talk) → Starved c talk talk'
-      → AsksAsSent Leaves false (requests_in (judge h)) s s (SentFor c goes h talk talk')
-  starved_for c goes h s talk talk' starved = record { asks = asks_none (requests_in (judge h)) s; sent = want_for c goes h starved.0 talk talk' [] starved.1 }
+  pub starved_for : (c : ℕ) (h : List ℕ) (s : K) (talk talk' : Option Talk) → Starved c talk talk'
+      → AsksAsSent Leaves false (requests_in (judge h)) s s (SentFor c false h talk talk')
+  starved_for c h s talk talk' starved = record { asks = asks_none (requests_in (judge h)) s; sent = want_for c h starved.0 talk talk' [] starved.1 }
 
   -- ---- turns
   module _ (c : ℕ) (u r : List ℕ) (skip end used : ℕ) (goes : Bool) (s t : K) (talk talk' : Option Talk) (found : frame (u ++ r) ≡ framed.Head skip end)
@@ -326,9 +394,9 @@ module _ {K : Type 0} (Leaves : K → Request → Result Reply AskFault → K �
     abbrev own : List ℕ
     own = slice_range (u ++ take used r) skip (length (u ++ take used r))
 
-    pub turned_goes : goes ≡ true → closes_behind (judge own) ≡ false → (x : Response) × Spoke c (response_bytes x) false talk talk'
-        → AsksAlong Leaves c (u ++ r) (drop used r) s t talk talk'
-    turned_goes on stays said =
+    pub turned_goes : goes ≡ true → closes_behind (judge own) ≡ false → AsksAlong Leaves c (u ++ r) (drop used r) s t talk talk'
+    turned_goes on stays =
+        let said = a.sent.whole on in
         let is = head_bytes u r skip end used total within front in
         let e : heads_on (u ++ r) ≡ own ∷ heads_on (drop end (u ++ r)) =
         subst (λ x. heads_on (u ++ r) ≡ x ∷ heads_on (drop end (u ++ r))) (sym is)
@@ -342,8 +410,9 @@ module _ {K : Type 0} (Leaves : K → Request → Result Reply AskFault → K �
           in_turn = a.asks.in_turn;
           memory = (a.asks.all on).1;
           sent = said.0 ∷ [];
-          spoke = subst (λ l. Spoke c l false talk talk') (sym (append-nil (response_bytes said.0))) said.1;
+          spoke = subst (λ l. Spoke c l false talk talk') (sym (append-nil (response_bytes said.0))) said.2;
           each = refl;
+          by = are_one said.0 own a.asks.answered said.1;
         }
 
     pub turned_stops : goes ≡ false → AsksAsSent Leaves false (requests_on (u ++ r)) s t (SentBefore c (u ++ r) talk talk')
@@ -386,6 +455,7 @@ module _ {K : Type 0} (Leaves : K → Request → Result Reply AskFault → K �
         sent = [];
         spoke = spoke_nothing c talk;
         each = refl;
+        by = (refl, refl);
       }
 
   pub along_both : (c : ℕ) (b left last : List ℕ) (s t v : K) (talk mid talk' : Option Talk) → AsksAlong Leaves c b left s t talk mid
@@ -401,6 +471,7 @@ module _ {K : Type 0} (Leaves : K → Request → Result Reply AskFault → K �
     spoke = subst (λ l. Spoke c l false talk talk') (sym (bytes_both h.sent k.sent))
         (spoke_both c (all_bytes h.sent) (all_bytes k.sent) false talk mid talk' h.spoke k.spoke);
     each = omega (arith, h.each, k.each, length-append h.heads k.heads, length-append h.sent k.sent);
+    by = are_both h.sent k.sent h.heads k.heads h.answered k.answered h.by k.by;
   }
 
   pub along_next : (c : ℕ) (b left u u' later : List ℕ) (s t v : K) (talk mid talk' : Option Talk) → u' ≡ [] → later ≡ left
@@ -430,6 +501,7 @@ module _ {K : Type 0} (Leaves : K → Request → Result Reply AskFault → K �
           fails = false;
           spoke = subst (λ l. Spoke c l false talk talk') (sym (append-nil (all_bytes h.sent)))
               (subst (Spoke c (all_bytes h.sent) false talk) (sym end.2) h.spoke);
+          by = subst (λ l. SentBy h.sent l h.answered []) (sym all) (by_all h.sent h.heads h.answered h.by);
           enough = omega (arith, count, ap (λ l. length (requests_to l)) first);
           all = inl (h.memory, count);
         };
@@ -456,6 +528,8 @@ module _ {K : Type 0} (Leaves : K → Request → Result Reply AskFault → K �
           spoke = subst (λ l. Spoke c l a.sent.fails talk talk')
               (sym (ap (λ l. l ++ a.sent.part) (bytes_both h.sent a.sent.sent) ∙ append_assoc (all_bytes h.sent) (all_bytes a.sent.sent) a.sent.part))
               (spoke_both c (all_bytes h.sent) (all_bytes a.sent.sent ++ a.sent.part) a.sent.fails talk mid talk' h.spoke a.sent.spoke);
+          by = subst (λ l. SentBy (h.sent ++ a.sent.sent) l (h.answered ++ a.asks.answered) a.sent.part) (sym h.cut)
+              (by_behind h.sent a.sent.sent h.heads (heads_on left) h.answered a.asks.answered a.sent.part h.by a.sent.by);
           enough = enough_both h.heads (heads_on left) (heads_on b) h.answered a.asks.answered (length h.sent) (length a.sent.sent)
               (length (h.sent ++ a.sent.sent)) h.cut h.asked h.each (length-append h.sent a.sent.sent) a.sent.enough;
           all = memory_both h.answered a.asks.answered b left ((a.sent.fails ≡ true) ⊎ (a.sent.part ≡ memory_bytes)) cut h.memory a.sent.all;

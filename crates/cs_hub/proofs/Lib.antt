@@ -1,5 +1,6 @@
 pub mod ActLemmas
 pub mod AskedLemmas
+pub mod ByLemmas
 pub mod ConnectionSlots
 pub mod EventLemmas
 pub mod FollowLemmas

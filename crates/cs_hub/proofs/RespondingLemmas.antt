@@ -3,6 +3,7 @@
 --   itself_given                     the response itself, which is no 500
 --   given_refused, given_asked       that to parameters: a refusal, or what a request gives
 --   given_searched, given_judged     that to a head: what its parameters give, or a refusal
+--   by_head                          that to a head by the answers to what its parameters ask
 use Rattle.std.proofs.Common.{◌≡◌, inl, ℕ, ◌+◌, ◌≤◌, ◌==◌, Bool, false, not, ◌&&◌, cond, List, [], ◌∷◌, Option, Some, None, codes, refl, sym, ◌∙◌, ap, subst}
 use Rattle.std.proofs.Common.{arith}
 use Rattle.std.specs.Str.{bytes_eq}
@@ -19,9 +20,11 @@ use Rattle.cs_model_serving.specs.Responses.{Response, status_by, response_to, t
 use Rattle.cs_model_serving.specs.Connections.{says_read, says_changed, reads, changes}
 use Rattle.cs_model_serving.proofs.CountLemmas.{answer_counts}
 use Rattle.cs_query.specs.declared.request.ReqFault.{ReqFault}
+use Rattle.cs_hub.specs.DueReads.{Answered, IsBy, IsResponseBy, closes_behind}
 use Rattle.cs_hub.specs.Responding.{IsJudgedSo, IsRefusedSo, replied}
 use Rattle.cs_hub.specs.Streams.{RoseBy}
 use Rattle.cs_hub.specs.Turns.{IsFor, IsGiven}
+use Rattle.cs_hub.proofs.ByLemmas.{by_same}
 use Rattle.cs_hub.proofs.SpeakLemmas.{rose_none}
 use Rattle.cs_hub.proofs.ServedLemmas.{reads_cons, changes_cons}
 
@@ -80,3 +83,10 @@ given_judged Over bytes fault r m cause h = λ k over.
     let e : r ≡ response_to k bytes = h k (judge bytes) cause ∙ sym (is_response k bytes (judge bytes) refl) in
     let counts = answer_counts k bytes in
     itself_given (response_to k bytes) r m m e (ap says_read e ∙ counts.0) (ap says_changed e ∙ counts.1) (omega arith)
+
+-- ---- answers
+pub by_head : (bytes p : List ℕ) (close : Bool) (xs : List Answered) (r : Response) → judge bytes ≡ asks p close → IsBy (λ k. to_params k p close) close xs r
+    → IsResponseBy bytes xs r
+by_head bytes p close xs r e h =
+    by_same (λ k. to_params k p close) (λ k. response_to k bytes) (closes_behind (judge bytes)) xs r (λ k. sym (is_response k bytes (asks p close) e))
+    (subst (λ b. IsBy (λ k. to_params k p close) b xs r) (sym (ap closes_behind e)) h)

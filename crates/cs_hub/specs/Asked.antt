@@ -18,10 +18,11 @@ use Rattle.cs_file.specs.Indexes.{CausedReads}
 use Rattle.cs_model.specs.Replies.{Reply}
 use Rattle.cs_model.specs.Requests.{Request}
 use Rattle.cs_model_serving.specs.Heads.{judge}
-use Rattle.cs_model_serving.specs.Responses.{Response, all_bytes, memory_bytes}
+use Rattle.cs_model_serving.specs.Responses.{Response, all_bytes, memory_bytes, response_bytes}
 use Rattle.cs_hub.specs.declared.reading.Turn.{Turn}
 use Rattle.cs_hub.specs.declared.reading.Turn.TheVariants as turns
-use Rattle.cs_hub.specs.DueReads.{Answered, HasMemory, IsDue, SentBefore, closes_behind, heads_on, requests_in, requests_of, requests_on, requests_to}
+use Rattle.cs_hub.specs.DueReads.{Answered, AreResponsesBy, HasMemory, IsDue, IsResponseBy, IsTextBy, SentBefore}
+use Rattle.cs_hub.specs.DueReads.{closes_behind, heads_on, requests_in, requests_of, requests_on, requests_to}
 use Rattle.cs_hub.specs.Speaking.{Spoke}
 
 module _ {K : Type 0} (Leaves : K → Request → Result Reply AskFault → K → Type 0) where
@@ -57,15 +58,18 @@ pub record AsksAlong {K : Type 0} (Leaves : K → Request → Result Reply AskFa
   pub sent : List Response
   pub spoke : Spoke c (all_bytes sent) false talk talk'
   pub each : length heads ≡ length sent
+  pub by : AreResponsesBy sent heads answered
 
 -- the response was sent whole, behind what the head asks, and the connection is closed behind it unless it goes on; or the send
--- failed, or the memory response was sent
+-- failed, or the memory response was sent. What was sent is by the answers, and where the connection goes on it is whole
 pub record SentFor (c : ℕ) (goes : Bool) (h : List ℕ) (talk talk' : Option Talk) (answered : List Answered) : Type 0 where
   pub part : List ℕ
   pub fails : Bool
   pub spoke : Spoke c part fails talk talk'
   pub all : (HasMemory answered × (length answered ≡ length (requests_in (judge h))) × (closes_behind (judge h) ≡ not goes)) ⊎ (fails ≡ true)
       ⊎ (part ≡ memory_bytes)
+  pub by : IsTextBy (h ∷ []) answered part
+  pub whole : goes ≡ true → (r : Response) × IsResponseBy h answered r × Spoke c (response_bytes r) false talk talk'
 
 -- a head was answered; or no head ends there, and nothing was asked or sent; or the connection is to be closed
 abbrev pub AsksBy : {K : Type 0} → (K → Request → Result Reply AskFault → K → Type 0) → ℕ → List ℕ → List ℕ → Turn → K → K → Option Talk → Option Talk → Type 0

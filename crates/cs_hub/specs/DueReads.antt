@@ -19,6 +19,13 @@
 --   reply_in r              an answer of an engine, without how the reply was made
 --   is_want r, read_failures xs      the answer is want of memory; how many answers are a failed read
 --   IsRightOver b q e r e'  over the bytes b of the index: the right reply, and what is kept behind it
+--   response_by close r     the response by the answer to a request; none by want of memory
+--   IsBy right close xs r   r is the response by the answers to what is asked; where nothing is, the right one over each corpus
+--   IsResponseBy h xs r     the same to a head
+--   IsPartOf text part      some first bytes of a text
+--   IsTextBy hs xs part     some first bytes of the response to the first of some heads by these answers, or of that of memory
+--   AreResponsesBy rs hs xs     the responses to heads, head by head, by the answers to what they ask
+--   SentBy rs hs xs part    such responses to some first heads, and behind them some first bytes of the next one
 --   IsDue told a e n e'     n reads are due for a request of the engine e with this answer, which leaves the engine e'
 --   AreDue told xs e n e'   the same of requests that are asked one after the other
 --   HasMemory xs            none of the answers is want of memory
@@ -26,7 +33,7 @@
 --   SentAt event b xs       the same where the event is a piece
 --   AnswersWithin           some first requests were answered, and no more was read than is due for them
 use Rattle.std.specs.Prelude.{◌≡◌, ◌⊎◌, ℕ, suc, ◌+◌, ◌-◌, ◌≤◌, Bool, true, false, cond, List, [], ◌∷◌, ◌++◌, map, length, take, drop, slice_range, All, Option}
-use Rattle.std.specs.Prelude.{Some, None, is_some, Result, Ok, Err, IfOk}
+use Rattle.std.specs.Prelude.{Some, None, is_some, Result, Ok, Err, IfOk, IfErr}
 use Prim.Native.Nat.{zero}
 use Rattle.std.specs.List.{flat_map}
 use Rattle.std.specs.Option.{ForSome}
@@ -36,8 +43,9 @@ use Rattle.cs_base.specs.declared.outside.hub.Event.TheVariants.{Opened, Piece, 
 use Rattle.cs_base.specs.outside.Causes.{ReadsWithin}
 use Rattle.cs_base.specs.outside.Hub.{Talk}
 use Rattle.cs_file.specs.Indexes.{StandsFor}
+use Rattle.cs_model.specs.Corpus.{Corpus}
 use Rattle.cs_model.specs.Parameters.{RequestRefusal, request_of, request_refusal}
-use Rattle.cs_model.specs.Replies.{Reply}
+use Rattle.cs_model.specs.Replies.{Reply, reply_text}
 use Rattle.cs_model.specs.Requests.{Request, reply_of}
 use Rattle.cs_model_index.specs.Sections.{file_corpus}
 use Rattle.cs_model_kept.specs.Due.{due}
@@ -46,11 +54,11 @@ use Rattle.cs_model_serving.specs.declared.framed.Framed.TheVariants.{Head, More
 use Rattle.cs_model_serving.specs.Connections.{Left}
 use Rattle.cs_model_serving.specs.Framing.{frame}
 use Rattle.cs_model_serving.specs.Heads.{Judgement, refused, asks, judge}
-use Rattle.cs_model_serving.specs.Responses.{Response, all_bytes, memory_bytes, to_refused}
+use Rattle.cs_model_serving.specs.Responses.{Response, all_bytes, index_changed, memory_bytes, read_failed, response_bytes, response_to, to_refused, too_long}
 use Rattle.cs_engine.specs.declared.fault.AskFault.{AskFault}
 use Rattle.cs_engine.specs.declared.fault.AskFault.TheVariants as faults
 use Rattle.cs_engine.specs.declared.note.Note.{Note}
-use Rattle.cs_engine.specs.Asking.{division, is_changed, is_read, titles_asked}
+use Rattle.cs_engine.specs.Asking.{IsChangeIn, division, is_changed, is_read, titles_asked}
 use Rattle.cs_engine.specs.Keeping.{AreGood, EngineView, IsAfter, KeepsAnswers, note_plan}
 use Rattle.cs_hub.specs.HubFollowing.{Slots, left_at}
 use Rattle.cs_hub.specs.Speaking.{Spoke}
@@ -147,7 +155,8 @@ pub record IsRightOver (b : List ℕ) (q : Request) (old : EngineView) (answer :
   pub good : AreGood b new
 
 -- so many reads are due for a request by the plan from what the engine keeps and by the titles of its answer, which are at most as
--- many as hits are asked, and this engine is left behind it; where the store tells the bytes of the index no change is told
+-- many as hits are asked, and this engine is left behind it; where the store tells the bytes of the index no change is told, and
+-- over each store the answer tells a change only by a rule that a block or a title breaks, with its place
 pub record IsDue (told : Option (List ℕ)) (a : Answered) (old : EngineView) (n : ℕ) (new : EngineView) : Type 0 where
   pub answer : Result (Reply × Note) AskFault
   pub reply : a.1 ≡ reply_in answer
@@ -155,6 +164,7 @@ pub record IsDue (told : Option (List ℕ)) (a : Answered) (old : EngineView) (n
   pub index : new.index ≡ old.index
   pub keeps : KeepsAnswers old.index a.0.query old.answers answer new.answers
   pub unchanged : ForSome told (λ b. StandsFor b old.index → is_changed answer ≡ false)
+  pub changed : IfErr answer (IsChangeIn old.index told)
   pub right : ForSome told (λ b. StandsFor b old.index → AreGood b old → IsRightOver b a.0 old answer new)
   pub sum : n ≡ due (division old.index) a.0 (note_plan a.0.query old.answers) (titles_asked a.0 answer)
 
@@ -169,7 +179,47 @@ AreDue told (a ∷ xs) old n new = (one : ℕ) × (others : ℕ) × (mid : Engin
 abbrev pub HasMemory : List Answered → Type 0
 HasMemory xs = All (λ a. is_want a.1 ≡ false) xs
 
--- on the connection whole responses were sent, to the first heads of the bytes, and perhaps bytes behind them. No more was answered
+-- in the place of a reply why there is none: a failed read, or exactly the change that was told
+abbrev pub response_by : Bool → Result Reply AskFault → Option Response
+response_by close (Ok r) = Some (record { status = 200; closes = close; body = reply_text r })
+response_by close (Err faults.Read) = Some (read_failed close)
+response_by close (Err (faults.Changed rule at)) = Some (index_changed rule at close)
+response_by close (Err faults.Memory) = None
+
+-- one request is asked, or nothing is
+abbrev pub IsBy : (Corpus → Response) → Bool → List Answered → Response → Type 0
+IsBy right close [] r = (k : Corpus) → r ≡ right k
+IsBy right close (a ∷ xs) r = (xs ≡ []) × (response_by close a.1 ≡ Some r)
+
+-- by the head's own bytes
+abbrev pub IsResponseBy : List ℕ → List Answered → Response → Type 0
+IsResponseBy h xs r = IsBy (λ k. response_to k h) (closes_behind (judge h)) xs r
+
+-- all or none of them included
+abbrev pub IsPartOf : List ℕ → List ℕ → Type 0
+IsPartOf text part = (n : ℕ) × (part ≡ take n text)
+
+-- where there is no head more, of the response that says so
+abbrev pub IsTextBy : List (List ℕ) → List Answered → List ℕ → Type 0
+IsTextBy [] xs part = IsPartOf (response_bytes too_long) part ⊎ IsPartOf memory_bytes part
+IsTextBy (h ∷ hs) xs part = ((r : Response) × IsResponseBy h xs r × IsPartOf (response_bytes r) part) ⊎ IsPartOf memory_bytes part
+
+-- one response to each head, by as many answers as it asks requests; to no heads none
+abbrev pub AreResponsesBy : List Response → List (List ℕ) → List Answered → Type 0
+AreResponsesBy [] hs xs = (hs ≡ []) × (xs ≡ [])
+AreResponsesBy (r ∷ rs) [] xs = ⊥
+AreResponsesBy (r ∷ rs) (h ∷ hs) xs =
+    (ys : List Answered) × (zs : List Answered) × (xs ≡ ys ++ zs) × IsResponseBy h ys r × AreResponsesBy rs hs zs
+
+-- in the order of the heads; the last answers are those for the bytes behind the responses
+abbrev pub SentBy : List Response → List (List ℕ) → List Answered → List ℕ → Type 0
+SentBy [] hs xs part = IsTextBy hs xs part
+SentBy (r ∷ rs) [] xs part = ⊥
+SentBy (r ∷ rs) (h ∷ hs) xs part =
+    (ys : List Answered) × (zs : List Answered) × (xs ≡ ys ++ zs) × IsResponseBy h ys r × SentBy rs hs zs part
+
+-- on the connection whole responses were sent, to the first heads of the bytes, and perhaps bytes behind them. Each is by the answers
+-- to what its head asks, whatever the store tells. No more was answered
 -- than these heads and the next one ask: so behind a response that wasn't sent whole nothing was. All that the heads ask was
 -- answered, and no answer is want of memory, unless a send failed or the memory response came last
 pub record SentBefore (c : ℕ) (b : List ℕ) (talk talk' : Option Talk) (answered : List Answered) : Type 0 where
@@ -177,6 +227,7 @@ pub record SentBefore (c : ℕ) (b : List ℕ) (talk talk' : Option Talk) (answe
   pub part : List ℕ
   pub fails : Bool
   pub spoke : Spoke c (all_bytes sent ++ part) fails talk talk'
+  pub by : SentBy sent (heads_on b) answered part
   pub enough : length answered ≤ length (requests_to (take (length sent + 1) (heads_on b)))
   pub all : (HasMemory answered × (length answered ≡ length (requests_on b))) ⊎ (fails ≡ true) ⊎ (part ≡ memory_bytes)
 

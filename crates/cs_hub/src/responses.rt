@@ -5,8 +5,8 @@ ghost use Rattle.cs_model.specs.Parameters.{HoldsLimits, request_refusal};
 ghost use Rattle.cs_model_serving.specs.Heads.{judge};
 ghost use Rattle.cs_model_serving.specs.Responses.{response_to, to_params, too_long};
 ghost use Rattle.cs_query.specs.RequestView.{asked};
-ghost use Rattle.cs_hub.specs.Asked.{AsksOf};
-ghost use Rattle.cs_hub.specs.DueReads.{closes_behind, requests_by, requests_in};
+ghost use Rattle.cs_hub.specs.Asked.{AsksAsSent};
+ghost use Rattle.cs_hub.specs.DueReads.{IsBy, IsResponseBy, closes_behind, requests_by, requests_in};
 ghost use Rattle.cs_hub.specs.Responding.{response, IsJudgedSo, IsRefusedSo, replied};
 ghost use Rattle.cs_hub.specs.Turns.{IsGiven};
 
@@ -28,7 +28,8 @@ pub(crate) fn answer_head<A: Answerer>(
     ensures ok { IfOk result (λ a. IsGiven (A.answers answerer.old) (λ k. response_to k bytes.now) (response a) (A.faults answerer.old)
         (A.faults answerer.new)) }
     ensures close { IfOk result (λ a. a.close ≡ closes_behind (judge bytes.now)) }
-    ensures asked { AsksOf A.leaves (is_ok result) (requests_in (judge bytes.now)) (A.kept answerer.old) (A.kept answerer.new) }
+    ensures asked { AsksAsSent A.leaves (is_ok result) (requests_in (judge bytes.now)) (A.kept answerer.old) (A.kept answerer.new)
+        (λ xs. IfOk result (λ a. IsResponseBy bytes.now xs (response a))) }
     ensures still { (k : Corpus) → A.answers answerer.old k → A.answers answerer.new k }
     ensures lent { A.lent answerer.new ≡ A.lent answerer.old }
     ensures later { A.faults answerer.old ≤ A.faults answerer.new }
@@ -83,7 +84,8 @@ fn answer_params<A: Answerer>(
     ensures ok { IfOk result (λ a. IsGiven (A.answers answerer.old) (λ k. to_params k params.now close) (response a) (A.faults answerer.old)
         (A.faults answerer.new)) }
     ensures close { IfOk result (λ a. a.close ≡ close) }
-    ensures asked { AsksOf A.leaves (is_ok result) (requests_by params.now (request_refusal params.now)) (A.kept answerer.old) (A.kept answerer.new) }
+    ensures asked { AsksAsSent A.leaves (is_ok result) (requests_by params.now (request_refusal params.now)) (A.kept answerer.old) (A.kept answerer.new)
+        (λ xs. IfOk result (λ a. IsBy (λ k. to_params k params.now close) close xs (response a))) }
     ensures still { (k : Corpus) → A.answers answerer.old k → A.answers answerer.new k }
     ensures lent { A.lent answerer.new ≡ A.lent answerer.old }
     ensures later { A.faults answerer.old ≤ A.faults answerer.new }
@@ -125,7 +127,8 @@ fn reply_to<A: Answerer>(
     ensures ok { IfOk result (λ a. IsGiven (A.answers answerer.old) (λ k. replied k (asked request.now) close) (response a) (A.faults answerer.old)
         (A.faults answerer.new)) }
     ensures close { IfOk result (λ a. a.close ≡ close) }
-    ensures asked { AsksOf A.leaves (is_ok result) (asked request.now ∷ []) (A.kept answerer.old) (A.kept answerer.new) }
+    ensures asked { AsksAsSent A.leaves (is_ok result) (asked request.now ∷ []) (A.kept answerer.old) (A.kept answerer.new)
+        (λ xs. IfOk result (λ a. IsBy (λ k. replied k (asked request.now) close) close xs (response a))) }
     ensures still { (k : Corpus) → A.answers answerer.old k → A.answers answerer.new k }
     ensures lent { A.lent answerer.new ≡ A.lent answerer.old }
     ensures later { A.faults answerer.old ≤ A.faults answerer.new }

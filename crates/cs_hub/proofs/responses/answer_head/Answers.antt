@@ -1,15 +1,15 @@
-use Rattle.std.proofs.Common.{◌≡◌, sym, ◌∙◌, ap, subst}
+use Rattle.std.proofs.Common.{◌≡◌, [], refl, sym, ◌∙◌, ap, subst}
 use Rattle.std.proofs.lemmas.Result.{IfOk-weaker}
 use Rattle.cs_hub.specs.Responding.{response, IsJudgedSo}
 use Rattle.cs_hub.specs.Turns.{IsGiven}
 use Rattle.cs_model_serving.specs.Responses.{to_params, response_to}
-use Rattle.cs_hub.proofs.RespondingLemmas.{given_searched, given_judged}
-use Rattle.std.specs.Prelude.{is_ok}
+use Rattle.cs_hub.proofs.RespondingLemmas.{by_head, given_searched, given_judged, is_response}
+use Rattle.std.specs.Prelude.{IfOk, is_ok}
 use Rattle.cs_model_serving.specs.Heads.{judge}
 use Rattle.cs_model.specs.Parameters.{request_refusal}
-use Rattle.cs_hub.specs.Asked.{AsksOf}
-use Rattle.cs_hub.specs.DueReads.{requests_by, closes_behind}
-use Rattle.cs_hub.proofs.AskedLemmas.{asks_head, refused_head, refused_close}
+use Rattle.cs_hub.specs.Asked.{AsksAsSent}
+use Rattle.cs_hub.specs.DueReads.{IsBy, IsResponseBy, requests_by, requests_in, closes_behind}
+use Rattle.cs_hub.proofs.AskedLemmas.{asks_by, asks_head, refused_head, refused_close}
 use Rattle.cs_hub.proofs.responses.answer_head.Goals as goal
 
 pub returns-in-Ok-clause-ok : goal.returns-in-Ok-clause-ok
@@ -32,15 +32,28 @@ returns-in-Err-clause-ok g c =
 
 pub returns-in-Ok-clause-asked : goal.returns-in-Ok-clause-asked
 returns-in-Ok-clause-asked g c =
-    asks_head g.A.Answerer.leaves (is_ok c.answer_params.result) c.args.bytes.now c.in-Ok.asked.params c.in-Ok.asked.close
-    (g.A.Answerer.kept c.args.answerer.now) (g.A.Answerer.kept c.answer_params.new.answerer) c.in-Ok.ensures.ok
-    (subst (λ p. AsksOf g.A.Answerer.leaves (is_ok c.answer_params.result) (requests_by p (request_refusal p)) (g.A.Answerer.kept c.args.answerer.now)
-    (g.A.Answerer.kept c.answer_params.new.answerer)) c.as_slice.ensures c.answer_params.ensures.asked)
+    let bytes = c.args.bytes.now in
+    let p = c.in-Ok.asked.params in
+    let close = c.in-Ok.asked.close in
+    let result = c.answer_params.result in
+    let s = g.A.Answerer.kept c.args.answerer.now in
+    let t = g.A.Answerer.kept c.answer_params.new.answerer in
+    asks_by g.A.Answerer.leaves (is_ok result) (requests_in (judge bytes)) s t (λ xs. IfOk result (λ a. IsBy (λ k. to_params k p close) close xs (response a)))
+    (λ xs. IfOk result (λ a. IsResponseBy bytes xs (response a)))
+    (λ xs h. IfOk-weaker result (λ a. IsBy (λ k. to_params k p close) close xs (response a)) (λ a. IsResponseBy bytes xs (response a))
+    (λ a b. by_head bytes p close xs (response a) c.in-Ok.ensures.ok b) h)
+    (asks_head g.A.Answerer.leaves (is_ok result) bytes p close s t _ c.in-Ok.ensures.ok
+    (subst (λ p. AsksAsSent g.A.Answerer.leaves (is_ok result) (requests_by p (request_refusal p)) s t
+    (λ xs. IfOk result (λ a. IsBy (λ k. to_params k p close) close xs (response a)))) c.as_slice.ensures c.answer_params.ensures.asked))
 
 pub returns-in-Err-clause-asked : goal.returns-in-Err-clause-asked
 returns-in-Err-clause-asked g c =
-    refused_head g.A.Answerer.leaves (judge c.args.bytes.now) c.in-Err.fault c.refuse_head.result (g.A.Answerer.kept c.args.answerer.now) c.in-Err.ensures.err
-    c.refuse_head.ensures.told
+    let bytes = c.args.bytes.now in
+    let result = c.refuse_head.result in
+    refused_head g.A.Answerer.leaves (judge bytes) c.in-Err.fault result (g.A.Answerer.kept c.args.answerer.now)
+    (λ xs. IfOk result (λ a. IsResponseBy bytes xs (response a))) c.in-Err.ensures.err c.refuse_head.ensures.told
+    (IfOk-weaker result (λ a. IsJudgedSo c.in-Err.fault (response a)) (λ a. IsResponseBy bytes [] (response a))
+    (λ a h k. h k (judge bytes) c.in-Err.ensures.err ∙ sym (is_response k bytes (judge bytes) refl)) c.refuse_head.ensures.judged)
 
 pub returns-in-Ok-clause-close : goal.returns-in-Ok-clause-close
 returns-in-Ok-clause-close g c =

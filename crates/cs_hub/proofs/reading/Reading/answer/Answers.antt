@@ -34,7 +34,7 @@ returns-clause-asked g c =
 
 pub returns-then-is_err-clause-asked : goal.returns-then-is_err-clause-asked
 returns-then-is_err-clause-asked g c =
-    starved_for g.A.Answerer.leaves c.args.conn _ _ (g.A.Answerer.kept c.args.answerer.now) (g.H.Hub.talk c.args.hub.now) (g.H.Hub.talk c.starve.new.hub)
+    starved_for g.A.Answerer.leaves c.args.conn _ (g.A.Answerer.kept c.args.answerer.now) (g.H.Hub.talk c.args.hub.now) (g.H.Hub.talk c.starve.new.hub)
     c.starve.ensures.starved
 
 pub returns-clause-going : goal.returns-clause-going

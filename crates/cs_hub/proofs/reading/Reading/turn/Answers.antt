@@ -1,7 +1,7 @@
 use Rattle.std.proofs.Common.{arith, ◌≡◌, ◌++◌, ◌-◌, length, ap}
 use Rattle.cs_hub.proofs.UnreadBytes.{span_of, span_front}
 use Rattle.cs_hub.proofs.TurnLemmas.{found_head, found_more, found_long, turned_goes, turned_stops, turned_long, turned_held}
-use Rattle.cs_hub.proofs.AskedLemmas.{replied_open, turned_goes as asked_goes, turned_stops as asked_stops, turned_held as asked_held}
+use Rattle.cs_hub.proofs.AskedLemmas.{turned_goes as asked_goes, turned_stops as asked_stops, turned_held as asked_held}
 use Rattle.cs_hub.proofs.AskedLemmas.{turned_long as asked_long}
 use Rattle.cs_hub.proofs.reading.Reading.turn.Goals as goal
 
@@ -51,8 +51,6 @@ returns-then-answer-clause-asked g c =
     (g.A.Answerer.kept c.args.answerer.now) (g.A.Answerer.kept c.answer.new.answerer) (g.H.Hub.talk c.args.hub.now) (g.H.Hub.talk c.answer.new.hub)
     (found_head (c.args.self.now ++ c.args.rest.now) c.in-Head.skip c.in-Head.end c.in-Head.ensures.found) span.total span.within span.front
     c.answer.ensures.asked c.if-answer.true (c.answer.ensures.going c.if-answer.true)
-    (replied_open (g.A.Answerer.answers c.args.answerer.now) c.args.conn _ c.answer.result (g.A.Answerer.faults c.args.answerer.now)
-    (g.A.Answerer.faults c.answer.new.answerer) (g.H.Hub.talk c.args.hub.now) (g.H.Hub.talk c.answer.new.hub) c.if-answer.true c.answer.ensures.replied)
 
 pub returns-else-answer-clause-asked : goal.returns-else-answer-clause-asked
 returns-else-answer-clause-asked g c =
