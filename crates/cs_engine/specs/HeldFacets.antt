@@ -9,7 +9,7 @@
 --   is_held held n       the facet of a name is held
 --   HoldsFacets i held names     what is held are facets of the index, those of these names among them
 --   WhereHeld told i held P      P holds of the bytes that a store tells, where the index i and the held facets are of them
-use Rattle.std.specs.Prelude.{◌≡◌, ℕ, Bool, true, List, [], filter, length, Option}
+use Rattle.std.specs.Prelude.{◌≡◌, ℕ, Bool, true, List, [], filter, Option}
 use Rattle.std.specs.List.{All, list_any}
 use Rattle.std.specs.Str.{bytes_eq}
 use Rattle.cs_base.specs.declared.content.doc.Post.{Post}

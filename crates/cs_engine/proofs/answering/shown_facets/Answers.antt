@@ -1,9 +1,9 @@
-use Rattle.std.proofs.Common.{◌≡◌, ap, sym, subst, true, ◌∙◌}
+use Rattle.std.proofs.Common.{ap, sym, subst, ◌∙◌}
 use Rattle.cs_base.proofs.NameMaps.{same_name}
 use Rattle.cs_file.specs.Indexes.{IndexView}
 use Rattle.cs_query.specs.RequestView.{asked}
 use Rattle.cs_engine.specs.Counting.{AreListed}
-use Rattle.cs_engine.specs.HeldFacets.{IsFacet, IsFacetOver, is_held}
+use Rattle.cs_engine.specs.HeldFacets.{IsFacet, IsFacetOver}
 use Rattle.cs_engine.specs.IndexReading.{stock_of}
 use Rattle.cs_engine.specs.Stocked.{facet_at}
 use Rattle.cs_engine.proofs.AnsweringLemmas.{shown_more}

@@ -1,4 +1,4 @@
-use Rattle.std.proofs.Common.{◌≡◌, [], ◌<◌, ◌*◌, ap, map, length, sym, subst, ◌∙◌}
+use Rattle.std.proofs.Common.{[], ◌<◌, ◌*◌, ap, map, length, sym, subst, ◌∙◌}
 use Rattle.std.specs.Prelude.{All}
 use Rattle.cs_base.specs.content.Orders.{AreDocs}
 use Rattle.cs_base.specs.declared.content.doc.Post.{Post}

@@ -1,4 +1,4 @@
-use Rattle.std.proofs.Common.{◌≡◌, true, sym, ap, subst, ◌∙◌}
+use Rattle.std.proofs.Common.{sym, ap, subst, ◌∙◌}
 use Rattle.std.specs.Prelude.{All}
 use Rattle.cs_engine.specs.HeldFacets.{IsFacet, IsFacetOver, is_held}
 use Rattle.cs_engine.proofs.FacetLemmas.{all_more, held_last, held_more}

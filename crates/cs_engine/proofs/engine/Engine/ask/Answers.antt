@@ -119,7 +119,7 @@ returns-in_err-hold_facets-clause-reads g c =
     let r = asked c.args.request.now in
     let all = due_is (division c.args.self.now.index) r (note_plan r.query c.args.self.now.answers)
     (titles_asked r c.from_residual-in_err-hold_facets.result) in
-    let same = ap (met_of_facets (division c.self.inside.index)) c.as_slice.ensures ∙ ap (λ (e : Engine). met_of_facets (division e.index) r.facets) c.self.view_is in
+    let same = ap (met_of_facets (division c.self.inside.index)) c.as_slice-names.ensures ∙ ap (λ (e : Engine). met_of_facets (division e.index) r.facets) c.self.view_is in
     within_more c.hold_facets.ensures.reads (omega (arith, all, same))
 
 pub returns-in_err-reply-clause-reads : goal.returns-in_err-reply-clause-reads
@@ -130,7 +130,7 @@ returns-in_err-reply-clause-reads g c =
     c.look-plan.ensures in
     let all = due_seen c.self.view_is r c.look-plan.result plan r.hits in
     let titles = err_due r c.from_residual-in_err-reply.result c.from_residual-in_err-reply.ensures.0 in
-    let names = ap (met_of_facets (division i)) c.as_slice.ensures in
+    let names = ap (met_of_facets (division i)) c.as_slice-names.ensures in
     let whole = ap (λ t. due (division c.args.self.now.index) r (note_plan r.query c.args.self.now.answers) t) titles in
     within_both c.hold_facets.ensures.reads c.in_err-reply.ensures.reads (omega (arith, all, names, whole))
 
@@ -141,5 +141,5 @@ returns-clause-reads g c =
     let plan = is_note_plan i r.query c.requires.limits.query c.self.inside.answers c.in_ok-keys.keys c.in_ok-keys.ensures.ok c.look-plan.result
     c.look-plan.ensures in
     let all = due_seen c.self.view_is r c.look-plan.result plan (length c.in_ok-reply.reply.hits) in
-    let names = ap (met_of_facets (division i)) c.as_slice.ensures in
+    let names = ap (met_of_facets (division i)) c.as_slice-names.ensures in
     within_both c.hold_facets.ensures.reads c.in_ok-reply.ensures.reads (omega (arith, all, names))
