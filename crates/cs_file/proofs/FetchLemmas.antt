@@ -5,24 +5,22 @@
 --   title_within        a title's bytes lie before the blocks
 --   block_at, judged_at, told_within      what is known of a block's place and its head
 --   BlockRead, block_read, can_judge      what is known where a block's bytes were read
---   FrontRead, front_read      the same of the bytes in front of its positions
 --   read_there, fault_unchanged, fault_changed      clauses of a fetch, from that and from what its bytes break
 --   fault_along         of one that passes a fault on
 --   TitleRead, TitleSpan, title_span, title_found       the same of a title
 --   title_by, title_stood, title_unchanged, title_changed        the clauses of a title, from that and from whether it is text
-use Rattle.std.proofs.Common.{◌≡◌, ℕ, ◌+◌, ◌-◌, ◌<◌, ◌≤◌, ◌^◌, false, true≢false, List, [], ◌++◌, length, get_or, take, drop}
+use Rattle.std.proofs.Common.{◌≡◌, ℕ, ◌+◌, ◌-◌, ◌<◌, ◌≤◌, ◌^◌, false, true≢false, List, length, get_or, take}
 use Rattle.std.proofs.Common.{Option, Some, None, Result, Ok, Err, refl, sym, ap, subst, ◌∙◌, arith}
-use Rattle.std.specs.Option.{ForSome, option_map, unwrap_or}
-use Rattle.std.specs.Prelude.{IfErr, IfOk, IsErrAnd, replicate}
+use Rattle.std.specs.Option.{ForSome, option_map}
+use Rattle.std.specs.Prelude.{IfErr, IfOk, IsErrAnd}
 use Rattle.std.specs.Str.{is_utf8}
 use Rattle.std.proofs.lemmas.Option.{none-some}
 use Rattle.std.specs.List.{sum_by}
-use Rattle.std.proofs.lemmas.List.{get_or_default, length-append, length-drop, length-replicate, length-take, take-append-le, take-take, take_all}
+use Rattle.std.proofs.lemmas.List.{get_or_default, take_all}
 use Rattle.std.proofs.lemmas.List.Sums.{sum_by_more_le}
 use Rattle.cs_base.specs.declared.index.block.BlockHead.{BlockHead}
 use Rattle.cs_base.specs.declared.index.block.Broken.{Broken}
 use Rattle.cs_base.specs.outside.Outside.{part}
-use Rattle.cs_block.specs.DocWords.{HasFront, front_bytes}
 use Rattle.cs_block.proofs.LawsLemmas.{unique}
 use Rattle.cs_model.specs.Scores.{SCORES}
 use Rattle.cs_model_index.specs.BlockRules.{judged, IsBlock, broken_at, rows_read}
@@ -90,13 +88,6 @@ pub record BlockRead (i : IndexView) (told : Option (List ℕ)) (k : ℕ) (place
   pub long : length read ≡ placed.head.len
   pub read_is : ForSome told (λ b. read ≡ part b placed.at placed.head.len)
 
--- where those in front of its positions were read: some block begins so; of a store that tells, it is the one at the place
-pub record FrontRead (i : IndexView) (told : Option (List ℕ)) (k : ℕ) (placed : Placed) (read : List ℕ) : Type 0 where
-  pub long : length read ≡ front_bytes placed.head
-  pub block : List ℕ
-  pub whole : BlockRead i told k placed block
-  pub same : HasFront placed.head read block
-
 module _ {i : IndexView} {k : ℕ} {placed : Placed} (stands : IsBlockAt i k placed) where
   pub judged_at : CanBeJudged placed placed.head.len
   judged_at =
@@ -119,42 +110,6 @@ module _ {i : IndexView} {told : Option (List ℕ)} {k : ℕ} {placed : Placed} 
       let all = fits b t in
       let one = block_within i k placed.head stands.known in
       omega (arith, all, one, stands.at_is, ap (λ (x : BlockHead). x.len) (stands.head_is placed.head))
-
-  pub front_read : {read : List ℕ} → length read ≡ front_bytes placed.head → ForSome told (λ b. read ≡ part b placed.at (front_bytes placed.head))
-      → FrontRead i told k placed read
-  front_read {read} long is = elim told as (λ o. told ≡ o → FrontRead i told k placed read) [
-    | None ↦ λ e.
-        (let shape = (judged_at stands).shaped in
-        let zeros = replicate (placed.head.len - front_bytes placed.head) 0 in
-        let least = shape.least in
-        record {
-          long = long;
-          block = read ++ zeros;
-          whole = record {
-            stands = stands;
-            long = omega (arith, least, long, length-append read zeros, length-replicate {A = ℕ} (placed.head.len - front_bytes placed.head) 0);
-            read_is = λ b t. absurd (none-some b (sym e ∙ t));
-          };
-          same = take-append-le (front_bytes placed.head) read zeros (omega (arith, long));
-        })
-    | Some b ↦ λ e.
-        (let n = front_bytes placed.head in
-        let len = placed.head.len in
-        let shape = (judged_at stands).shaped in
-        let least = shape.least in
-        let within = told_within b e in
-        let rest = drop placed.at b in
-        record {
-          long = long;
-          block = part b placed.at len;
-          whole = record {
-            stands = stands;
-            long = omega (arith, within, length-take len rest, length-drop placed.at b);
-            read_is = λ other t. ap (λ (x : List ℕ). part x placed.at len) (ap (λ (o : Option (List ℕ)). unwrap_or o []) (sym e ∙ t));
-          };
-          same = take-take n len rest (omega (arith, least)) ∙ sym (take-take n n rest (omega arith)) ∙ ap (take n) (sym (is b e));
-        })
-  ] refl
 
 module _ {i : IndexView} {told : Option (List ℕ)} {k : ℕ} {placed : Placed} {read : List ℕ} (h : BlockRead i told k placed read) where
   -- the same, with the block's head and place themselves

@@ -20,7 +20,7 @@ use crate::fetched::Fetched;
 use crate::index::Index;
 use crate::reading::{fit, read_at_once};
 use cs_base::{BlockHead, Memory, Store, Text};
-use cs_block::{BlockFault, decode, front_len, read_doc_words, read_scores};
+use cs_block::{BlockFault, decode, read_doc_words, read_scores};
 use cs_cols::Cols;
 use std::alloc::Global;
 
@@ -66,35 +66,6 @@ impl Index {
         let placed = self.placed(k);
         read_over(store, placed.at, placed.head.len, &mut into.bytes)?;
         scored_at(alloc, &placed, into)
-    }
-
-    /// Reads the documents and the words of the posts of block `k` in place of those that `into` holds, from the store from
-    /// which the index was opened. Positions and scores aren't read. Where it fails `into` holds anything.
-    pub fn fetch_doc_words<S: Store>(
-        &self,
-        store: &mut S,
-        k: u32,
-        into: &mut Fetched,
-    ) -> Result<(), FetchFault>
-        requires in_range { k < length self.now.heads }
-        requires fits { HasAllBlocks (S.bytes store.old) self.now }
-
-        // over every store they are in range, and over one that tells they are read there
-        ensures even { OnOk result (length into.new.words.items ≡ length into.new.docs.items) }
-        ensures docs { OnOk result (All (λ d. d < self.now.docs) into.new.docs.items) }
-        ensures words { OnOk result (All (λ w. w < length self.now.words) into.new.words.items) }
-        ensures stood { ForSome (S.bytes store.old) (λ b. StandsFor b self.now
-            → OnOk result (AreOf (block_posts b k) into.new.docs.items into.new.words.items)) }
-        ensures changed { IfErr result (IsChangeOfBlock self.now (S.bytes store.old) k) }
-        ensures unchanged { ForSome (S.bytes store.old) (λ b. StandsFor b self.now → is_changed_of_fetch result ≡ false) }
-        ensures bytes { S.bytes store.new ≡ S.bytes store.old }
-        ensures lent { S.lent store.new ≡ S.lent store.old }
-        ensures reads { ReadsWithin 1 (S.reads store.old) (S.reads store.new) }
-        ensures caused { CausedReads (is_read_of_fetch result) (S.faults store.old) (S.faults store.new) }
-    {
-        let placed = self.placed(k);
-        read_over(store, placed.at, front_len(&placed.head), &mut into.bytes)?;
-        doc_words_at(&placed, into)
     }
 
     /// The title of a document, read from the store from which the index was opened.
