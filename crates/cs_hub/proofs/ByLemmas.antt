@@ -5,7 +5,7 @@
 --   by_same                     a response by answers, where the right one is the same
 --   are_one, are_both           the response to one head, and those to heads behind heads
 --   by_behind, by_all           bytes behind responses, and none behind them
-use Rattle.std.proofs.Common.{◌≡◌, ℕ, Bool, List, [], ◌∷◌, ◌++◌, length, take, refl, sym, ◌∙◌, ap, subst, arith, append_assoc, append-nil, inl, inr}
+use Rattle.std.proofs.Common.{◌≡◌, ℕ, Bool, List, [], ◌∷◌, ◌++◌, length, refl, sym, ◌∙◌, ap, subst, arith, append_assoc, append-nil, inr}
 use Rattle.std.proofs.lemmas.List.{take_all}
 use Rattle.cs_model.specs.Corpus.{Corpus}
 use Rattle.cs_model_serving.specs.Responses.{Response, memory_bytes}
