@@ -33,17 +33,17 @@ use Rattle.cs_meet.specs.Filters.{is_of_doc, keep_docs}
 use Rattle.cs_model_kept.proofs.HeldLemmas.{found_any}
 use Rattle.cs_tables.specs.WordCounts.{AreCountable, HasCounted, WordCountsView, chosen, is_chosen}
 use Rattle.cs_engine.specs.Counting.{AreListed, in_listed}
-use Rattle.cs_engine.specs.HeldFacets.{FacetView, is_held}
+use Rattle.cs_engine.specs.HeldFacets.{FacetView, has_facet}
 use Rattle.cs_engine.specs.IndexReading.{AreWithin, IsWithin}
 use Rattle.cs_engine.specs.Stocked.{docs_in, is_between}
 use Rattle.cs_engine.proofs.CountingLemmas.{kept_listed}
 use Rattle.cs_engine.proofs.RowsInRange.{kept_within}
 
 -- ---- which are held
-pub held_at : (held : List FacetView) (names items : List (List ℕ)) {n : ℕ} {name : List ℕ} → All (λ m. is_held held m ≡ true) names → items ≡ names
-    → n < length items → name ≡ get_or items n name → is_held held name ≡ true
+pub held_at : (held : List FacetView) (names items : List (List ℕ)) {n : ℕ} {name : List ℕ} → All (λ m. has_facet held m ≡ true) names → items ≡ names
+    → n < length items → name ≡ get_or items n name → has_facet held name ≡ true
 held_at held names items {n} {name} there are lt is =
-    subst (λ m. is_held held m ≡ true) (sym is) (subst (All (λ m. is_held held m ≡ true)) (sym are) there n name lt)
+    subst (λ m. has_facet held m ≡ true) (sym is) (subst (All (λ m. has_facet held m ≡ true)) (sym are) there n name lt)
 
 pub found_holds : (P : FacetView → Type 0) (p : FacetView → Bool) (held : List FacetView) (f : FacetView) → find p held ≡ Some f → All P held → P f
 found_holds P p [] f e h = absurd (false≢true (ap is_some e))
@@ -61,7 +61,7 @@ found_passes p (x ∷ held) f e =
       | false ↦ λ is e. found_passes p held f e
     ] refl e
 
-pub not_found : (held : List FacetView) (n : List ℕ) → is_held held n ≡ true → find (λ f. bytes_eq f.name n) held ≡ None → ⊥
+pub not_found : (held : List FacetView) (n : List ℕ) → has_facet held n ≡ true → find (λ f. bytes_eq f.name n) held ≡ None → ⊥
 not_found held n has none = false≢true (ap is_some (sym none) ∙ found_any (λ f. bytes_eq f.name n) held ∙ has)
 
 pub left_all : (P : FacetView → Type 0) {old new : List FacetView} → (new ≡ old) ⊎ (new ≡ []) → All P old → All P new
@@ -72,38 +72,38 @@ left_all P (inr none) h = subst (All P) (sym none) (All-nil P)
 pub all_more : (P : FacetView → Type 0) (held : List FacetView) (f : FacetView) → All P held → P f → All P (held ++ f ∷ [])
 all_more P held f h one = All-append P held (f ∷ []) h (All-cons P f [] one (All-nil P))
 
-pub held_last : (held : List FacetView) (f : FacetView) (n : List ℕ) → f.name ≡ n → is_held (held ++ f ∷ []) n ≡ true
+pub held_last : (held : List FacetView) (f : FacetView) (n : List ℕ) → f.name ≡ n → has_facet (held ++ f ∷ []) n ≡ true
 held_last held f n is =
     list_any-append (λ f. bytes_eq f.name n) held (f ∷ [])
-    ∙ ap (λ b. is_held held n || (b || false)) (ap (λ m. bytes_eq m n) is ∙ name_itself n) ∙ or_true (is_held held n)
+    ∙ ap (λ b. has_facet held n || (b || false)) (ap (λ m. bytes_eq m n) is ∙ name_itself n) ∙ or_true (has_facet held n)
   where
     or_true : (b : Bool) → (b || (true || false)) ≡ true
     or_true true = refl
     or_true false = refl
 
-pub held_more : (held : List FacetView) (f : FacetView) (n : List ℕ) → is_held held n ≡ true → is_held (held ++ f ∷ []) n ≡ true
+pub held_more : (held : List FacetView) (f : FacetView) (n : List ℕ) → has_facet held n ≡ true → has_facet (held ++ f ∷ []) n ≡ true
 held_more held f n was = list_any-append (λ f. bytes_eq f.name n) held (f ∷ []) ∙ ap (λ b. b || (bytes_eq f.name n || false)) was
 
 -- the first n of some names are held
 abbrev pub AreThere : List FacetView → List (List ℕ) → ℕ → Type 0
-AreThere held names n = (k : ℕ) → k < n → k < length names → is_held held (get_or names k []) ≡ true
+AreThere held names n = (k : ℕ) → k < n → k < length names → has_facet held (get_or names k []) ≡ true
 
 pub none_there : (held : List FacetView) (names : List (List ℕ)) → AreThere held names 0
 none_there held names k lt l = absurd (omega (arith, lt))
 
 pub there_more : (held new : List FacetView) (names : List (List ℕ)) {n : ℕ} {name : List ℕ} → n < length names → name ≡ get_or names n name
-    → AreThere held names n → ((m : List ℕ) → is_held held m ≡ true → is_held new m ≡ true) → is_held new name ≡ true → AreThere new names (n + 1)
+    → AreThere held names n → ((m : List ℕ) → has_facet held m ≡ true → has_facet new m ≡ true) → has_facet new name ≡ true → AreThere new names (n + 1)
 there_more held new names {n} {name} inside is there others own k lt l =
-    elim (nat_lt k n) as (λ c. nat_lt k n ≡ c → is_held new (get_or names k []) ≡ true) [
+    elim (nat_lt k n) as (λ c. nat_lt k n ≡ c → has_facet new (get_or names k []) ≡ true) [
       | true ↦ λ e. others (get_or names k []) (there k (ltb-true k n e) l)
       | false ↦ λ e.
           let up = ltb-false k n e in
           let same : n ≡ k = omega (arith, lt, up) in
-          subst (λ m. is_held new m ≡ true) (is ∙ get_or_default names n name [] inside ∙ ap (λ j. get_or names j []) same) own
+          subst (λ m. has_facet new m ≡ true) (is ∙ get_or_default names n name [] inside ∙ ap (λ j. get_or names j []) same) own
     ] refl
 
-pub all_there : (held : List FacetView) (names : List (List ℕ)) {n : ℕ} → length names ≤ n → AreThere held names n → All (λ m. is_held held m ≡ true) names
-all_there held names le there k d l = subst (λ m. is_held held m ≡ true) (get_or_default names k [] d l) (there k (omega (arith, l, le)) l)
+pub all_there : (held : List FacetView) (names : List (List ℕ)) {n : ℕ} → length names ≤ n → AreThere held names n → All (λ m. has_facet held m ≡ true) names
+all_there held names le there k d l = subst (λ m. has_facet held m ≡ true) (get_or_default names k [] d l) (there k (omega (arith, l, le)) l)
 
 -- ---- which rows are counted
 all_pass : (t : Post → Bool) (posts : List Post) → All (λ p. t p ≡ true) posts → filter t posts ≡ posts

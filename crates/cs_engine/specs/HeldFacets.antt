@@ -6,7 +6,7 @@
 --   IsFacet i f          over each store: the words are those of the facet, and the rows are in the range of the index
 --   IsFacetOver b f      over the bytes b of an index the rows are those of the words
 --   AreFacetsOver b held     each of the held ones is
---   is_held held n       the facet of a name is held
+--   has_facet held n     the facet of a name is held
 --   HoldsFacets i held names     what is held are facets of the index, those of these names among them
 --   WhereHeld told i held P      P holds of the bytes that a store tells, where the index i and the held facets are of them
 use Rattle.std.specs.Prelude.{◌≡◌, ℕ, Bool, true, List, [], filter, Option}
@@ -40,13 +40,13 @@ abbrev pub AreFacetsOver : List ℕ → List FacetView → Type 0
 AreFacetsOver b held = All (IsFacetOver b) held
 
 -- one that has this name
-abbrev pub is_held : List FacetView → List ℕ → Bool
-is_held held n = list_any (λ f. bytes_eq f.name n) held
+abbrev pub has_facet : List FacetView → List ℕ → Bool
+has_facet held n = list_any (λ f. bytes_eq f.name n) held
 
 -- of no names, any facets of the index
 pub record HoldsFacets (i : IndexView) (held : List FacetView) (names : List (List ℕ)) : Type 0 where
   pub facets : All (IsFacet i) held
-  pub there : All (λ n. is_held held n ≡ true) names
+  pub there : All (λ n. has_facet held n ≡ true) names
 
 -- nothing is said of a store that tells nothing, and of one that tells other bytes
 abbrev pub WhereHeld : Option (List ℕ) → IndexView → List FacetView → (List ℕ → Type 0) → Type 0

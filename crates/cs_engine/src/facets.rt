@@ -13,7 +13,7 @@ ghost use Rattle.cs_tables.specs.TableListings.{post_table};
 ghost use Rattle.cs_tables.specs.WordCounts.{HasCounted};
 ghost use Rattle.cs_engine.specs.Asking.{division};
 ghost use Rattle.cs_engine.specs.Counting.{AreListed, in_listed};
-ghost use Rattle.cs_engine.specs.HeldFacets.{AreFacetsOver, HoldsFacets, IsFacet, IsFacetOver, is_held};
+ghost use Rattle.cs_engine.specs.HeldFacets.{AreFacetsOver, HoldsFacets, IsFacet, IsFacetOver, has_facet};
 ghost use Rattle.cs_engine.specs.IndexReading.{IsOpened, OnlyReads, WhereStood};
 ghost use Rattle.cs_engine.specs.Steps.{IsBaseOf};
 ghost use Rattle.cs_engine.specs.Stocked.{is_between};
@@ -132,13 +132,13 @@ fn hold_facet<S: Store>(
     requires opened { IsOpened (S.bytes store.old) index.now }
 
     ensures facets { All (IsFacet index.now) held.old.items → All (IsFacet index.now) held.new.items }
-    ensures there { OnOk result (is_held held.new.items name.now ≡ true) }
-    ensures others { (n : List ℕ) → is_held held.old.items n ≡ true → is_held held.new.items n ≡ true }
+    ensures there { OnOk result (has_facet held.new.items name.now ≡ true) }
+    ensures others { (n : List ℕ) → has_facet held.old.items n ≡ true → has_facet held.new.items n ≡ true }
     ensures told { WhereStood (S.bytes store.old) index.now (λ b. AreFacetsOver b held.old.items → AreFacetsOver b held.new.items) }
     ensures store { OnlyReads S.bytes S.lent S.faults index.now store.old store.new result }
     ensures reads { ReadsWithin (met_prefix (division index.now) (named name.now [])) (S.reads store.old) (S.reads store.new) }
 {
-    if is_held(held.as_slice(), name) {
+    if has_facet(held.as_slice(), name) {
         return Ok(());
     }
     let facet = read_facet(alloc, index, store, name)?;
@@ -154,8 +154,8 @@ fn add_facet(held: &mut Vec<FacetRows>, facet: FacetRows) -> Result<(), Memory>
     Ok(())
 }
 
-fn is_held(held: &[FacetRows], name: &Text) -> bool
-    ensures { result ≡ is_held held.now name.now }
+fn has_facet(held: &[FacetRows], name: &Text) -> bool
+    ensures { result ≡ has_facet held.now name.now }
 {
     held.iter().any(|facet| facet.name == *name)
 }
@@ -189,7 +189,7 @@ fn read_facet<S: Store>(
 
 /// The facet of a name that is held.
 pub(crate) fn facet_of<'a>(held: &'a [FacetRows], name: &Text) -> &'a FacetRows
-    requires { is_held held.now name.now ≡ true }
+    requires { has_facet held.now name.now ≡ true }
 
     ensures { find (λ f. bytes_eq f.name name.now) held.now ≡ Some result.now }
 {

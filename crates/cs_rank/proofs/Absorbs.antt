@@ -11,7 +11,7 @@ use Rattle.cs_base.specs.content.Orders.{docs_of, AreSorted}
 use Rattle.cs_base.specs.declared.content.doc.Post.{Post}
 use Rattle.cs_base.specs.declared.content.doc.Scored.{Scored}
 use Rattle.cs_base.specs.declared.content.scores.TheConstants.{MAX_ROW_SCORE}
-use Rattle.cs_rank.specs.Groups.{scored_row, group, groups, joined}
+use Rattle.cs_rank.specs.Groups.{scored_row, group, groups, with_greater}
 use Rattle.cs_rank.specs.DocScores.{best_row}
 use Rattle.cs_rank.proofs.GroupsLemmas.{ended}
 
@@ -32,7 +32,7 @@ module _ (best : List Scored) (last n : ℕ) (current next : Scored) (room : las
       ∙ ap (λ xs. xs ++ group next rest) (take-set-le (last + 1) best (last + 1) next (omega arith) ∙ take_more best last current (omega (arith, room)) ∙ ap (λ x. take last best ++ x ∷ []) (held current))
       ∙ append_assoc (take last best) (current ∷ []) (group next rest)
 
-  pub put_down : n ≡ from_bool (not (next.doc == current.doc)) → take (last + n) (set best (last + n) (joined current next)) ++ group (joined current next) rest ≡ take last best ++ group current (next ∷ rest)
+  pub put_down : n ≡ from_bool (not (next.doc == current.doc)) → take (last + n) (set best (last + n) (with_greater current next)) ++ group (with_greater current next) rest ≡ take last best ++ group current (next ∷ rest)
   put_down is =
       elim (next.doc == current.doc) as (λ b. next.doc == current.doc ≡ b → n ≡ from_bool (not b)
       → take (last + n) (set best (last + n) (cond b greater next)) ++ group (cond b greater next) rest ≡ take last best ++ cond b (group (record { doc = current.doc; score = max current.score next.score }) rest) (current ∷ group next rest)) [

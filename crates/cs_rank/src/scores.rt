@@ -6,7 +6,7 @@ ghost use Rattle.cs_base.specs.declared.content.doc.Scored.{Scored};
 ghost use Rattle.cs_base.specs.declared.content.doc.Base.TheVariants.{Listed};
 ghost use Rattle.cs_base.specs.content.Bases.{base_score};
 ghost use Rattle.cs_base.specs.declared.content.scores.TheConstants.{MAX_ROW_SCORE};
-ghost use Rattle.cs_rank.specs.Groups.{group, joined};
+ghost use Rattle.cs_rank.specs.Groups.{group, with_greater};
 ghost use Rattle.cs_rank.specs.DocScores.{best_row, with_base, scores, IsBase, PassedBelow};
 
 use cs_base::{Base, Memory, Scored, Seq};
@@ -53,7 +53,7 @@ fn best_scores(alloc: Global, rows: &Cols) -> Result<Vec<Scored>, Memory>
     for i in 1..docs.len() {
         let next = scored_at(docs, scores, i);
         last = absorb(&mut best, last, current, next);
-        current = joined(current, next);
+        current = with_greater(current, next);
     }
     best.truncate(last + 1);
     Ok(best)
@@ -94,24 +94,24 @@ fn absorb(best: &mut Vec<Scored>, last: usize, current: Scored, next: Scored) ->
     requires current { current.score ≤ MAX_ROW_SCORE }
     requires next { next.score ≤ MAX_ROW_SCORE }
 
-    ensures groups { (rest : List Scored) → take result best.new.items ++ group (joined current next) rest ≡ take last best.old.items ++ group current (next ∷ rest) }
-    ensures held { (d : Scored) → slice_index_or best.new.items result d ≡ joined current next }
+    ensures groups { (rest : List Scored) → take result best.new.items ++ group (with_greater current next) rest ≡ take last best.old.items ++ group current (next ∷ rest) }
+    ensures held { (d : Scored) → slice_index_or best.new.items result d ≡ with_greater current next }
     ensures small { All (λ h. h.score ≤ MAX_ROW_SCORE) best.old.items → All (λ h. h.score ≤ MAX_ROW_SCORE) best.new.items }
     ensures near { result ≤ last + 1 }
     ensures len { length best.new.items ≡ length best.old.items }
 {
     let place = last + usize::from(next.doc != current.doc);
-    best[place] = joined(current, next);
+    best[place] = with_greater(current, next);
     place
 }
 
 // The next one, with the greater score of the two where they are of the same document.
 #[inline]
-fn joined(current: Scored, next: Scored) -> Scored
+fn with_greater(current: Scored, next: Scored) -> Scored
     requires current { current.score ≤ MAX_ROW_SCORE }
     requires next { next.score ≤ MAX_ROW_SCORE }
 
-    ensures value { result ≡ joined current next }
+    ensures value { result ≡ with_greater current next }
     ensures small { result.score ≤ MAX_ROW_SCORE }
 {
     let greater = current.score.max(next.score);

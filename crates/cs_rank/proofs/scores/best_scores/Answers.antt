@@ -27,13 +27,13 @@ pub loop-i-preserved : goal.loop-i-preserved
 loop-i-preserved c =
     let s = c.scored_at-next.result in
     record {
-      whole = went_on c.args.rows.now.posts (take c.loop-i.last c.loop-i.best.items) (take c.absorb-last.result c.absorb-last.new.best.items) c.loop-i.current s c.joined-current.result c.loop-i.i c.loop-i.invariant.whole (grind (arith, common_steps))
+      whole = went_on c.args.rows.now.posts (take c.loop-i.last c.loop-i.best.items) (take c.absorb-last.result c.absorb-last.new.best.items) c.loop-i.current s c.with_greater-current.result c.loop-i.i c.loop-i.invariant.whole (grind (arith, common_steps))
           (c.scored_at-next.ensures.doc ∙ ap (λ xs. get_or xs c.loop-i.i s.doc) c.docs-docs.ensures)
           (c.scored_at-next.ensures.score ∙ ap (λ xs. get_or xs c.loop-i.i s.score) c.scores-scores.ensures)
-          (rw c.joined-current.ensures.value c.absorb-last.ensures.groups);
-      held = rw c.joined-current.ensures.value c.absorb-last.ensures.held;
+          (rw c.with_greater-current.ensures.value c.absorb-last.ensures.groups);
+      held = rw c.with_greater-current.ensures.value c.absorb-last.ensures.held;
       small = c.absorb-last.ensures.small c.loop-i.invariant.small;
-      now = c.joined-current.ensures.small;
+      now = c.with_greater-current.ensures.small;
       near = omega arith;
       within = omega arith;
       even = c.absorb-last.ensures.len ∙ c.loop-i.invariant.even;
