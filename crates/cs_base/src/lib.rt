@@ -2,14 +2,10 @@
 #![tactic(auto)]
 
 mod content;
-#[cfg(test)]
-mod hub_tests;
 mod index;
 pub mod laws;
 mod memory;
 mod outside;
-#[cfg(test)]
-mod tests;
 
 pub use content::{
     Atom, BEHIND_TITLE, Base, Chain, DEFAULT_COMPLETIONS, DEFAULT_HITS, Doc, FACET_SCORE, Key,

@@ -19,8 +19,6 @@ mod run_docs;
 mod runs;
 mod scores;
 mod sought;
-#[cfg(test)]
-mod tests;
 
 pub use cs_base::{BlockHead, Broken};
 pub use decoding::{decode, decode_reserved};

@@ -11,8 +11,6 @@ mod heads;
 pub mod laws;
 mod ordering;
 mod parting;
-#[cfg(test)]
-mod tests;
 
 pub use building::image;
 pub use fault::BuildFault;

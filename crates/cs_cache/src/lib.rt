@@ -8,8 +8,6 @@
 mod answers;
 mod entry;
 mod slots;
-#[cfg(test)]
-mod tests;
 
 pub use answers::{Answers, View};
 pub use entry::Entry;

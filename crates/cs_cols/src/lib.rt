@@ -7,7 +7,5 @@
 mod block;
 mod cols;
 mod rooms;
-#[cfg(test)]
-mod tests;
 
 pub use cols::Cols;

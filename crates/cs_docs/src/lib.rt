@@ -18,6 +18,3 @@ pub use fault::{DocFault, Reason, RowsFault};
 pub use lines::{BYTE_ORDER_MARK, first_end};
 pub use reader::read_docs;
 pub use row_list::rows_of;
-
-#[cfg(test)]
-mod tests;

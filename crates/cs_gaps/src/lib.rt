@@ -6,7 +6,5 @@
 
 mod gap;
 pub mod laws;
-#[cfg(test)]
-mod tests;
 
 pub use gap::{Gap, next_gap, put_gap};

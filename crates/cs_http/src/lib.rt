@@ -9,15 +9,9 @@ mod facets;
 mod fields;
 mod first;
 mod framing;
-#[cfg(test)]
-mod head_table_tests;
 mod heads;
 mod parameters;
 mod responses;
-#[cfg(test)]
-mod serving_tests;
-#[cfg(test)]
-mod tests;
 
 pub use cs_model_serving::Framed;
 pub use cs_query::{Param, ReqFault, Request};

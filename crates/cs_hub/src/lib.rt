@@ -16,8 +16,6 @@ mod saying;
 mod serving;
 mod slots;
 mod steps;
-#[cfg(test)]
-mod tests;
 
 pub use serving::{ServeEnd, serve};
 pub use slots::Core;

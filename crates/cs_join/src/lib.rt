@@ -8,7 +8,5 @@
 pub mod laws;
 mod marks;
 mod rows;
-#[cfg(test)]
-mod tests;
 
 pub use rows::shared;

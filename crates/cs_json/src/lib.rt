@@ -10,6 +10,3 @@ mod reply;
 pub use cs_query::{FacetShown, HitShown, Param, Reply, ReqFault, Shown};
 pub use fault::{Fault, fault_bytes};
 pub use reply::reply_bytes;
-
-#[cfg(test)]
-mod tests;

@@ -7,8 +7,6 @@
 mod documents;
 mod links;
 mod skip;
-#[cfg(test)]
-mod tests;
 mod union;
 
 pub use documents::{docs_of, drop_docs, keep_docs};

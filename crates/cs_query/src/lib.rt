@@ -20,8 +20,6 @@ mod reply;
 mod request;
 mod steps;
 mod tails;
-#[cfg(test)]
-mod tests;
 
 pub use cs_base::{Atom, Chain, Key, Keys, Link, Linked, Narrower, Part, Query, Which};
 pub use fault::QueryFault;

@@ -10,6 +10,3 @@ mod scores;
 pub use best::{Best, MAX_ROOM};
 pub use hits::top;
 pub use scores::{add_base, score};
-
-#[cfg(test)]
-mod tests;

@@ -1,5 +1,4 @@
 pub mod MarksLemmas
-pub mod Samples
 pub mod TablesLemmas
 pub mod WordCountsLemmas
 pub mod CountedWords

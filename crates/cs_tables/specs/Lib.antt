@@ -1,4 +1,3 @@
 pub mod TableListings
 pub mod Marks
-pub mod Sample
 pub mod WordCounts

@@ -10,6 +10,3 @@ mod word_counts;
 
 pub use tables::{Completion, Table, completions};
 pub use word_counts::{WordCounts, are_within};
-
-#[cfg(test)]
-mod tests;

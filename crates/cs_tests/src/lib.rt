@@ -8,4 +8,6 @@ mod engine;
 #[cfg(test)]
 mod failing;
 #[cfg(test)]
+mod serving;
+#[cfg(test)]
 mod tired;

@@ -12,8 +12,6 @@ mod listing;
 mod name;
 mod number;
 mod piece;
-#[cfg(test)]
-mod tests;
 mod value;
 
 pub use character::is_word_char;

@@ -9,8 +9,6 @@ mod draws;
 mod lines;
 mod plain;
 mod syllables;
-#[cfg(test)]
-mod tests;
 mod typing;
 
 pub use counts::{Counts, summary_bytes};

@@ -10,6 +10,3 @@ mod vocab;
 
 pub use numbered::Numbered;
 pub use vocab::Vocab;
-
-#[cfg(test)]
-mod tests;

@@ -1,0 +1,15 @@
+use Rattle.std.proofs.Common.{◌<◌, ◌^◌, length, sym, subst}
+use Rattle.std.specs.Prelude.{map}
+use Rattle.cs_model.specs.Corpus.{title_of}
+use Rattle.cs_model_index.specs.Layout.{title_bytes}
+use Rattle.cs_build.proofs.CollectionLemmas.{collection_is}
+use Rattle.cs_build.proofs.TitleLemmas.{titles_few}
+use Rattle.cs_unit_tests.proofs.image.image_of.Goals as goal
+
+pub image-requires-clause-corpus : goal.image-requires-clause-corpus
+image-requires-clause-corpus c = collection_is c.args.collection.now c.in-Ok.docs c.in-Ok-rows_of.rows c.in-Ok.ensures.ok c.in-Ok-rows_of.ensures.ok
+
+pub returns-in-Ok-image : goal.returns-in-Ok-image
+returns-in-Ok-image c =
+    c.in-Ok-image.ensures.writable
+    (subst (λ docs. length (title_bytes (map title_of docs)) < 2 ^ 32) (sym c.in-Ok.ensures.ok) (titles_few c.args.collection.now c.in-Ok.ensures.accepted))

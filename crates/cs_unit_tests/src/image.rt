@@ -1,0 +1,46 @@
+//! Images of small collections, against the bytes of their files.
+ghost use Rattle.std.specs.Prelude.{IfOk};
+ghost use Rattle.cs_file.specs.Writable.{CanBeWritten};
+
+use cs_base::{MemSink, Memory};
+use cs_build::image;
+use cs_docs::{read_docs, rows_of};
+use cs_file::{Image, write_index};
+use cs_model_index::TARGET;
+use cs_worked::{NO_DOCUMENTS, ONE_DOCUMENT};
+use std::alloc::Global;
+use std::test::Fail;
+
+#[test]
+fn the_file_of_a_collection_has_these_bytes(rt: HostRuntime) -> Result<(), Fail> {
+    for row in [NO_DOCUMENTS, ONE_DOCUMENT] {
+        let file = file_of(rt.alloc(), row.collection.as_bytes())?;
+        assert_eq!(rt; file.as_slice(), row.file, "of {}", row.collection);
+    }
+    Ok(())
+}
+
+fn image_of(alloc: Global, collection: &[u8]) -> Result<Image, Memory>
+    ensures { IfOk result CanBeWritten }
+{
+    let Ok(docs) = read_docs(alloc, collection) else {
+        return Err(Memory);
+    };
+    let Ok(rows) = rows_of(alloc, &docs) else {
+        return Err(Memory);
+    };
+    match image(alloc, rows, docs, TARGET) {
+        Ok(image) => Ok(image),
+        Err(_) => Err(Memory),
+    }
+}
+
+// The file of a collection; none where memory runs out.
+fn file_of(alloc: Global, collection: &[u8]) -> Result<Vec<u8>, Memory> {
+    let image = image_of(alloc, collection)?;
+    let mut sink = MemSink::new(alloc);
+    match write_index(alloc, &image, &mut sink) {
+        Ok(()) => Ok(sink.into_bytes()),
+        Err(_) => Err(Memory),
+    }
+}
