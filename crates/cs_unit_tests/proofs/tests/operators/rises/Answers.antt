@@ -7,7 +7,7 @@ use Rattle.std.proofs.lemmas.Map.Keys.{sorted_from_all_adjacent}
 use Rattle.cs_base.specs.declared.content.doc.Post.{Post}
 use Rattle.cs_base.specs.content.Orders.{by_place}
 use Rattle.cs_base.proofs.OrdersLemmas.{by_place_total, less-from_test}
-use Rattle.cs_unit_tests.proofs.operators.rises.Goals as goal
+use Rattle.cs_unit_tests.proofs.tests.operators.rises.Goals as goal
 
 abbrev blank : Post
 blank = record { doc = 0; word = 0; pos = 0; score = 0 }

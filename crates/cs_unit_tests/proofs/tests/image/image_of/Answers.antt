@@ -4,7 +4,7 @@ use Rattle.cs_model.specs.Corpus.{title_of}
 use Rattle.cs_model_index.specs.Layout.{title_bytes}
 use Rattle.cs_build.proofs.CollectionLemmas.{collection_is}
 use Rattle.cs_build.proofs.TitleLemmas.{titles_few}
-use Rattle.cs_unit_tests.proofs.image.image_of.Goals as goal
+use Rattle.cs_unit_tests.proofs.tests.image.image_of.Goals as goal
 
 pub image-requires-clause-corpus : goal.image-requires-clause-corpus
 image-requires-clause-corpus c = collection_is c.args.collection.now c.in-Ok.docs c.in-Ok-rows_of.rows c.in-Ok.ensures.ok c.in-Ok-rows_of.ensures.ok

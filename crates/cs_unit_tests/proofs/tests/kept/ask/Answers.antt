@@ -1,7 +1,7 @@
 use Rattle.std.proofs.Common.{sym, ap, ◌∙◌}
 use Rattle.cs_model_kept.specs.KeptList.{is_held, used_key}
 use Rattle.cs_model_kept.proofs.HeldLemmas.{others_are_new}
-use Rattle.cs_unit_tests.proofs.kept.ask.Goals as goal
+use Rattle.cs_unit_tests.proofs.tests.kept.ask.Goals as goal
 
 pub keep-kept-requires : goal.keep-kept-requires
 keep-kept-requires c =

@@ -3,7 +3,7 @@ use Rattle.std.proofs.lemmas.Cmp.{on_total, nat_cmp_total}
 use Rattle.std.proofs.lemmas.Map.Keys.{sorted_from_all_adjacent}
 use Rattle.cs_base.specs.declared.content.doc.Scored.{Scored}
 use Rattle.cs_base.proofs.OrdersLemmas.{Less-from_lt}
-use Rattle.cs_unit_tests.proofs.operators.rises_by_doc.Goals as goal
+use Rattle.cs_unit_tests.proofs.tests.operators.rises_by_doc.Goals as goal
 
 abbrev blank : Scored
 blank = record { doc = 0; score = 0 }

@@ -4,7 +4,7 @@
 //! contributors of Node; MIT), h11 0.14.0 (Nathaniel J. Smith and contributors; MIT) and lighttpd 1.4.69 (Jan Kneschke;
 //! BSD with three clauses), as Debian 12 has them. The answers aren't theirs: they were worked out from the rules, by
 //! `reference/complete.py` and by a second program that reads a head byte by byte; the two agreed on each.
-use crate::responses::told;
+use crate::tests::responses::told;
 use cs_base::{Memory, Text};
 use cs_http::{Framed, frame};
 use std::alloc::Global;

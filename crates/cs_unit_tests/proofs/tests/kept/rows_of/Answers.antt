@@ -1,6 +1,6 @@
 use Rattle.std.proofs.Common.{sym, ◌∙◌}
 use Rattle.cs_model_kept.proofs.HeldLemmas.{is_found, same_is_held}
-use Rattle.cs_unit_tests.proofs.kept.rows_of.Goals as goal
+use Rattle.cs_unit_tests.proofs.tests.kept.rows_of.Goals as goal
 
 pub view-requires : goal.view-requires
 view-requires c =

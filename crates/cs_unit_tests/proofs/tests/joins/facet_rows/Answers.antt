@@ -1,7 +1,7 @@
 use Rattle.std.proofs.Common.{[]}
 use Rattle.std.specs.List.Sorted.{IsStrictlySortedBy}
 use Rattle.cs_base.specs.content.Orders.{by_place}
-use Rattle.cs_unit_tests.proofs.joins.facet_rows.Goals as goal
+use Rattle.cs_unit_tests.proofs.tests.joins.facet_rows.Goals as goal
 
 none_is_sorted : IsStrictlySortedBy by_place []
 unfolding IsStrictlySortedBy

@@ -3,7 +3,7 @@ use Rattle.cs_base.specs.content.Orders.{AreSorted}
 use Rattle.cs_base.specs.declared.content.doc.Base.TheVariants.{Listed}
 use Rattle.cs_rank.specs.DocScores.{IsBase}
 use Rattle.cs_unit_tests.proofs.Samples.{sample-sorted, sample_base-is_base}
-use Rattle.cs_unit_tests.proofs.tables.a_document_has_its_greatest_score_and_that_of_its_base.Goals as goal
+use Rattle.cs_unit_tests.proofs.tests.tables.a_document_has_its_greatest_score_and_that_of_its_base.Goals as goal
 
 pub score-requires-clause-base : goal.score-requires-clause-base
 score-requires-clause-base g c = subst (λ s. IsBase (Listed s)) (sym c.in_ok-base.ensures) sample_base-is_base

@@ -1,0 +1,21 @@
+//! Each file has the tests of one crate, or of one of its calls.
+mod blocks;
+mod columns;
+mod docs;
+mod gaps;
+mod head_table;
+mod hubs;
+mod image;
+mod joins;
+mod kept;
+mod operators;
+mod outside;
+mod query;
+mod ranks;
+mod replies;
+mod responses;
+mod tables;
+mod targets;
+mod text;
+mod trial;
+mod vocabulary;
