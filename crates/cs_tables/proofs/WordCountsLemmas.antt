@@ -10,7 +10,7 @@
 --   piece_counted, row_seen, rows_added     what is counted behind a piece more, behind one row, and behind rows by their documents and words
 --   as_many, post_at     there are as many posts as documents, and each has the document and the word at its place
 --   CountsFront, front_on, front_whole     the rows before a place are counted: of one row more, and of all
---   CountsRow            the row at a place is counted
+--   CountsRow, one_marked, one_row      the row at a place is counted, also where all are of one word, whose mark stands apart
 --   words_counted        the words that are collected are those of the rows
 --   first_below          the first words of a table are among those counted
 use Rattle.std.proofs.Common.{◌≡◌, ◌≢◌, ℕ, zero, suc, ◌+◌, ◌-◌, ◌<◌, ◌≤◌, ◌&&◌, ◌||◌, Bool, true, false, List, [], ◌∷◌, ◌++◌, cond, map, length, take, take_all, drop, replicate, get_or, set, ◌==◌, nat_lt, nat_le, refl, sym, ◌∙◌, ap, ap₂, subst, arith, append_assoc, append-nil, get_or-set_other, length-set}
@@ -38,7 +38,7 @@ use Rattle.cs_tables.specs.declared.tables.Completion.{Completion}
 use Rattle.cs_tables.specs.TableListings.{completion, with_word}
 use Rattle.cs_tables.specs.Marks.{collected, counted_word, mark_of, saw, post_words}
 use Rattle.cs_tables.specs.declared.word_counts.Rows.{Rows}
-use Rattle.cs_tables.specs.WordCounts.{AddsColumns, AreCountable, Counts, CountsRows, HasColumnsOf, HasCounted, HasWordMarks, WordCountsView, chosen, is_chosen}
+use Rattle.cs_tables.specs.WordCounts.{AddsColumns, AreCountable, AreOfOne, Counts, CountsRows, HasColumnsOf, HasCounted, HasWordMarks, WordCountsView, chosen, is_chosen}
 use Rattle.cs_tables.proofs.MarksLemmas.{fold_push, word_marked, word_docs_few}
 use Rattle.cs_tables.proofs.CountedWords.{collected_words}
 
@@ -240,6 +240,18 @@ module _ (low high : ℕ) (rows : Rows) where
   post_at posts has i d lt =
       let inside : i < length posts = omega (arith, lt, as_many posts has) in
       (ap (λ xs. get_or xs i 0) has.docs ∙ get_or-map (λ p. p.doc) posts i d 0 inside, ap (λ xs. get_or xs i 0) has.words ∙ get_or-map (λ p. p.word) posts i d 0 inside)
+
+  -- the marks where that of the one word stands apart, as m
+  abbrev pub one_marked : List Mark → Mark → List Mark
+  one_marked marks m = set marks (get_or words 0 0 - low) m
+
+  -- a row where all are of one word, whose mark is written later
+  pub one_row : (i : ℕ) (marks : List Mark) (m now : Mark) → low + length marks ≡ high → length words ≡ length docs → AreOfOne low high words → i < length docs
+      → (m.docs < NO_DOC → now ≡ cond (get_or listed (get_or docs i 0) false) (saw m (get_or docs i 0)) m)
+      → CountsRow i (one_marked marks m) (one_marked marks now)
+  one_row i marks m now sized even one lt saws p of_doc of_word =
+      let same : get_or words i 0 ≡ get_or words 0 0 = one.same i 0 (omega (arith, even, lt)) in
+      one_where low high listed marks (get_or docs i 0) (get_or words 0 0) m now sized one.from one.upto saws p of_doc (sym same ∙ of_word)
 
   -- one row more
   pub front_on : (i : ℕ) (m0 m1 m2 : List Mark) → i < length docs → CountsRow i m1 m2 → CountsFront i m0 m1 → CountsFront (i + 1) m0 m2
