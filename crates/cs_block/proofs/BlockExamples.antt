@@ -61,48 +61,32 @@ judged-plain = refl
 
 -- ---- each rule and its place
 
--- the last gap code is cut
-judged-cut : judged SCORES plain_head 1 (set plain_bytes 2 128) ≡ Some (record { n = 13; at = 2 })
-unfolding judged codes_break items_in first_break first_code looked_at value_of code code_in
-judged-cut = refl
+-- the first rule that the bytes of a block break, in a collection of so many documents, and where
+abbrev Breaks : BlockHead → ℕ → List ℕ → ℕ → ℕ → Type 0
+Breaks head docs bytes n at = judged SCORES head docs bytes ≡ Some (record { n = n; at = at })
 
--- 0 in two bytes
-judged-too_long : judged SCORES plain_head 1 (set plain_bytes 0 128) ≡ Some (record { n = 13; at = 0 })
-unfolding judged codes_break items_in first_break first_code looked_at value_of code code_in
-judged-too_long = refl
+-- the first of two rows has both bytes of the gaps
+abbrev no_gap_left : List ℕ
+no_gap_left = 128 ∷ 1 ∷ 0 ∷ 0 ∷ 0 ∷ 0 ∷ 0 ∷ 0 ∷ 0 ∷ 0 ∷ 0 ∷ 0 ∷ 0 ∷ 0 ∷ 2 ∷ 2 ∷ []
 
--- a byte behind the last gap code
-judged-left_over : judged SCORES (facet_head 1 9) 1 (0 ∷ facet_bytes) ≡ Some (record { n = 13; at = 1 })
+judged-broken :
+    -- the last gap code is cut
+    Breaks plain_head 1 (set plain_bytes 2 128) 13 2
+    -- 0 in two bytes
+    × Breaks plain_head 1 (set plain_bytes 0 128) 13 0
+    -- a byte behind the last gap code
+    × Breaks (facet_head 1 9) 1 (0 ∷ facet_bytes) 13 1
+    -- the second row finds the column's end
+    × Breaks (facet_head 2 16) 129 no_gap_left 13 2
+    -- the last row is in document 1, of a collection of one document
+    × Breaks plain_head 1 (set plain_bytes 2 1) 14 2
+    -- the first row has the word 4
+    × Breaks plain_head 1 (set plain_bytes 4 3) 15 3
+    -- the last row has the score 3; the place is that of its position
+    × Breaks plain_head 1 (set plain_bytes 23 3) 16 17
+    -- the last row stands before the one before it
+    × Breaks plain_head 1 (set plain_bytes 20 9) 17 2
+    -- the rule of the lower number goes first, though its place is behind
+    × Breaks plain_head 1 (set (set plain_bytes 20 9) 23 3) 16 17
 unfolding judged codes_break items_in first_break first_code looked_at value_of code code_in
-judged-left_over = refl
-
--- the first of two rows has both bytes of the gaps, so that the second finds the column's end
-judged-column_end : judged SCORES (facet_head 2 16) 129 (128 ∷ 1 ∷ 0 ∷ 0 ∷ 0 ∷ 0 ∷ 0 ∷ 0 ∷ 0 ∷ 0 ∷ 0 ∷ 0 ∷ 0 ∷ 0 ∷ 2 ∷ 2 ∷ [])
-    ≡ Some (record { n = 13; at = 2 })
-unfolding judged codes_break items_in first_break first_code looked_at value_of code code_in
-judged-column_end = refl
-
--- the last row is in document 1, of a collection of one document
-judged-document : judged SCORES plain_head 1 (set plain_bytes 2 1) ≡ Some (record { n = 14; at = 2 })
-unfolding judged codes_break items_in first_break first_code looked_at value_of code code_in
-judged-document = refl
-
--- the first row has the word 4
-judged-word : judged SCORES plain_head 1 (set plain_bytes 4 3) ≡ Some (record { n = 15; at = 3 })
-unfolding judged codes_break items_in first_break first_code looked_at value_of code code_in
-judged-word = refl
-
--- the last row has the score 3; the place is that of its position
-judged-score : judged SCORES plain_head 1 (set plain_bytes 23 3) ≡ Some (record { n = 16; at = 17 })
-unfolding judged codes_break items_in first_break first_code looked_at value_of code code_in
-judged-score = refl
-
--- the last row stands before the one before it
-judged-order : judged SCORES plain_head 1 (set plain_bytes 20 9) ≡ Some (record { n = 17; at = 2 })
-unfolding judged codes_break items_in first_break first_code looked_at value_of code code_in
-judged-order = refl
-
--- the rule of the lower number goes first, though its place is behind
-judged-two_rules : judged SCORES plain_head 1 (set (set plain_bytes 20 9) 23 3) ≡ Some (record { n = 16; at = 17 })
-unfolding judged codes_break items_in first_break first_code looked_at value_of code code_in
-judged-two_rules = refl
+judged-broken = (refl, refl, refl, refl, refl, refl, refl, refl, refl)

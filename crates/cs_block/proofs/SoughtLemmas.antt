@@ -1,74 +1,28 @@
 -- The rows of a block that are sought, read by their documents first.
 --
---   finds_on, places_within     places of rows that pass, and of one row more; they are places of rows
 --   added_on         the row at one place more is added
 --   rows_on          the rows of a span are added
 --   docs_there       documents that are there, where the call doesn't answer none
 --   refilled         a vector whose slice was lent whole holds what was written there
 --   docs_below       documents that are there are below the collection's
 --   sought_all       the rows of a block that is whole that are in listed documents are those that are sought, where all are of the block
-use Rattle.std.proofs.Common.{◌≡◌, ℕ, zero, suc, ◌+◌, ◌-◌, ◌<◌, ◌≤◌, ◌&&◌, Bool, true, false, cond, List, [], ◌∷◌, ◌++◌, length, get_or, set, map, take, drop}
+use Rattle.std.proofs.Common.{◌≡◌, ℕ, ◌+◌, ◌-◌, ◌<◌, ◌≤◌, ◌&&◌, Bool, true, false, cond, List, [], ◌∷◌, ◌++◌, length, get_or, map, take, drop}
 use Rattle.std.proofs.Common.{Option, Some, None, refl, sym, ap, ap₂, subst, ◌∙◌, append_assoc, arith}
 use Rattle.std.specs.Prelude.{All, IfSome, filter, is_some, nat_le, nat_lt}
-use Rattle.std.specs.Int.{from_bool}
 use Rattle.std.specs.List.{range_with_len}
 use Rattle.std.proofs.lemmas.Bool.{and_from, le-leb, lt-ltb}
-use Rattle.std.proofs.lemmas.List.{append-nil, drop_all, get_or_default, map-append, take-set, take_all, take_more, take_more_set}
-use Rattle.std.proofs.lemmas.List.Elements.{All-filter, All-head, All-map, All-tail, All-weaker, filter-append}
-use Rattle.std.proofs.lemmas.List.FromFn.{get_or-range_with_len, length-range_with_len}
+use Rattle.std.proofs.lemmas.List.{append-nil, drop_all, get_or_default, map-append, take_all, take_more}
+use Rattle.std.proofs.lemmas.List.Elements.{All-head, All-map, All-tail, All-weaker, filter-append}
 use Rattle.cs_base.specs.declared.index.block.BlockHead.{BlockHead}
 use Rattle.cs_base.specs.declared.content.doc.Post.{Post}
 use Rattle.cs_model_index.specs.BlockRules.{BlockColumns}
+use Rattle.cs_cols.specs.SpanPlaces.{places_where}
+use Rattle.cs_cols.proofs.FoundPlaces.{range_joined}
 use Rattle.cs_block.specs.RowRuns.{HasDocs}
 use Rattle.cs_block.specs.Sought.{IsOfBlock, is_sought, passes, row_with, rows_with}
 
--- ---- numbers one behind the other
-from_none : (a : ℕ) → a + 0 ≡ a
-from_none a = omega arith
-
 none_before : (a : ℕ) → 0 + a ≡ a
 none_before a = omega arith
-
-range_joined : (a n m : ℕ) → range_with_len a (n + m) ≡ range_with_len a n ++ range_with_len (a + n) m
-range_joined a zero m = ap (range_with_len a) (none_before m) ∙ ap (λ (x : ℕ). range_with_len x m) (sym (from_none a))
-range_joined a (suc n) m =
-    let longer : suc n + m ≡ suc (n + m) = omega arith in
-    let next : a + 1 + n ≡ a + suc n = omega arith in
-    ap (range_with_len a) longer
-    ∙ ap (λ (xs : List ℕ). a ∷ xs) (range_joined (a + 1) n m ∙ ap (λ (x : ℕ). range_with_len (a + 1) n ++ range_with_len x m) next)
-
-range_more : (a i : ℕ) → a ≤ i → range_with_len a (i + 1 - a) ≡ range_with_len a (i - a) ++ i ∷ []
-range_more a i le =
-    let more : i + 1 - a ≡ i - a + 1 = omega (arith, le) in
-    let here : a + (i - a) ≡ i = omega (arith, le) in
-    ap (range_with_len a) more ∙ range_joined a (i - a) 1 ∙ ap (λ (x : ℕ). range_with_len a (i - a) ++ x ∷ []) here
-
-range_below : (a n bound : ℕ) → a + n ≤ bound → All (λ i. i < bound) (range_with_len a n)
-range_below a n bound le = λ j d lt.
-    let less : j < n = omega (arith, lt, length-range_with_len a n) in
-    omega (arith, get_or-range_with_len a n j d less, less, le)
-
--- ---- places of rows that pass a test
-pub at_most_one : (b : Bool) → from_bool b ≤ 1
-at_most_one true = omega arith
-at_most_one false = omega arith
-
--- of one row more the place is put behind those that were found, and counts where the row passes
-pub finds_on : (t : ℕ → Bool) (from i n m : ℕ) (places : List ℕ) → from ≤ i → n < length places → m ≡ n + from_bool (t i)
-    → take n places ≡ filter t (range_with_len from (i - from)) → take m (set places n i) ≡ filter t (range_with_len from (i + 1 - from))
-finds_on t from i n m places le room count h =
-    let before = filter t (range_with_len from (i - from)) in
-    let more = ap (filter t) (range_more from i le) ∙ filter-append t (range_with_len from (i - from)) (i ∷ []) in
-    elim (t i) as (λ b. m ≡ n + from_bool b → take m (set places n i) ≡ before ++ cond b (i ∷ []) []) [
-      | true ↦ λ many. ap (λ x. take x (set places n i)) many ∙ take_more_set places n i room ∙ ap (λ xs. xs ++ i ∷ []) h
-      | false ↦ λ many. ap (λ x. take x (set places n i)) (many ∙ from_none n) ∙ take-set places n i ∙ h ∙ sym (append-nil before)
-    ] count ∙ sym more
-
-pub places_within : (t : ℕ → Bool) (from to bound : ℕ) (places : List ℕ) → from ≤ to → to ≤ bound → places ≡ filter t (range_with_len from (to - from))
-    → All (λ i. i < bound) places
-places_within t from to bound places onward within are =
-    let below = range_below from (to - from) bound (omega (arith, onward, within)) in
-    subst (All (λ i. i < bound)) (sym are) (All-filter t (λ i. i < bound) (range_with_len from (to - from)) below)
 
 -- ---- rows at places
 pub added_on : (row : ℕ → Post) (old now new : List Post) (places : List ℕ) (k : ℕ) (r : Post) → k < length places → r ≡ row (get_or places k 0)
@@ -91,7 +45,7 @@ kept_at t row (x ∷ xs) =
     ]
 
 pub rows_on : (t : Post → Bool) (row : ℕ → Post) (old now new : List Post) (from to : ℕ) (places : List ℕ) → from ≤ to
-    → places ≡ filter (λ i. t (row i)) (range_with_len from (to - from)) → new ≡ now ++ map row places → now ≡ old ++ filter t (map row (range_with_len 0 from))
+    → places ≡ places_where (λ i. t (row i)) from to → new ≡ now ++ map row places → now ≡ old ++ filter t (map row (range_with_len 0 from))
     → new ≡ old ++ filter t (map row (range_with_len 0 to))
 rows_on t row old now new from to places le are added h =
     let front = map row (range_with_len 0 from) in

@@ -3,7 +3,6 @@
 --   is_sought lo hi listed p      the word of a row is one of these, and its document is listed
 --   row_with head c ds i, rows_with head c ds     row i of columns, where ds are the documents; all rows
 --   CanBeSought head c ds listed      columns of a block, whose documents are those of its rows, each listed or not
---   IsSpan from to rows room      the rows from number `from` up to `to` are some of so many, for whose places there is room
 --   IsOfBlock head p      a row of the block's words and of its kind
 --   passes whole lo hi listed p      a row is sought, where the words of a block that is whole are taken for these
 --   HasSought head bytes lo hi listed rows      they are those of all rows that are sought, each of the block's kind
@@ -35,12 +34,6 @@ pub record CanBeSought (head : BlockHead) (c : BlockColumns) (ds : List ℕ) (li
   pub sized : HasColumns head c
   pub long : length ds ≡ head.rows
   pub known : All (λ d. d < length listed) ds
-
--- none where from is to
-pub record IsSpan (from to rows room : ℕ) : Type 0 where
-  pub onward : from ≤ to
-  pub within : to ≤ rows
-  pub fits : to ≤ from + room
 
 -- what rules 15 and 16 say
 pub record IsOfBlock (head : BlockHead) (p : Post) : Type 0 where

@@ -8,7 +8,7 @@ ghost use Rattle.cs_block.specs.DocWords.{HasDocWords, HasFront, IsFront, ListsF
 
 use crate::fault::BlockFault;
 use crate::judging::bad_code;
-use crate::listing::list_rows;
+use crate::listing::{Front, list_rows};
 use crate::run_columns::words_in;
 use crate::run_docs::docs_in;
 use cs_base::{BlockHead, Broken, Memory};
@@ -73,7 +73,13 @@ fn list_front(
 {
     let (gaps, rest) = bytes.split_at((head.len - 7 * head.rows) as usize);
     let (words, _) = rest.split_at(2 * head.rows as usize);
-    if are_listed(gaps, words, head, docs, row_docs, row_words) {
+    let front = Front {
+        head,
+        docs,
+        gaps,
+        words,
+    };
+    if are_listed(front, row_docs, row_words) {
         return None;
     }
     if let Some(at) = bad_code(gaps, head.rows) {
@@ -82,23 +88,17 @@ fn list_front(
             at: at as u32,
         });
     }
-    list_rows(gaps, words, head, docs, row_docs, row_words)
+    list_rows(front, row_docs, row_words)
 }
 
 // The same column by column, with anything in the slices where something is out of range.
-fn are_listed(
-    gaps: &[u8],
-    words: &[u8],
-    head: &BlockHead,
-    docs: u32,
-    row_docs: &mut [u32],
-    row_words: &mut [u32],
-) -> bool
-    requires front { IsFront head.now gaps.now words.now }
-    requires room_words { length row_words.old ≡ head.now.rows }
+fn are_listed(front: Front<'_>, row_docs: &mut [u32], row_words: &mut [u32]) -> bool
+    requires front { IsFront front.head.now front.gaps.now front.words.now }
+    requires room_words { length row_words.old ≡ front.head.now.rows }
 
-    ensures { result ≡ true → ListsFront head.now docs gaps.now words.now row_docs.new row_words.new }
+    ensures { result ≡ true → ListsFront front.entry.head.now front.entry.docs front.entry.gaps.now front.entry.words.now
+        row_docs.new row_words.new }
 {
-    docs_in(gaps, 0, 0, docs, row_docs).is_some()
-        && words_in(words, 0, head.lo, head.words, row_words)
+    docs_in(front.gaps, 0, 0, front.docs, row_docs).is_some()
+        && words_in(front.words, 0, front.head.lo, front.head.words, row_words)
 }

@@ -1,17 +1,19 @@
 //! Reading those rows of a block that are sought: of some words, in listed documents. Of the others no position and no score is
 //! looked at.
-ghost use Rattle.std.specs.Prelude.{◌≡◌, ◌+◌, ◌-◌, ◌^◌, ◌<◌, ◌≤◌, ◌&&◌, ◌++◌, false, true, nat_le, nat_lt, length, map, take, filter, slice_index_or, IfOk};
-ghost use Rattle.std.specs.List.{All, range_with_len};
+ghost use Rattle.std.specs.Prelude.{◌≡◌, ◌+◌, ◌^◌, ◌<◌, ◌≤◌, ◌&&◌, ◌++◌, false, true, nat_le, nat_lt, length, map, take, filter, slice_index_or, IfOk};
+ghost use Rattle.std.specs.List.{All};
 ghost use Rattle.cs_base.specs.declared.content.limits.TheConstants.{MAX_WORDS};
 ghost use Rattle.cs_model_index.specs.Blocks.{IsShaped};
+ghost use Rattle.cs_cols.specs.SpanPlaces.{IsSpan, places_where};
 ghost use Rattle.cs_block.specs.BlockReading.{HasColumns};
 ghost use Rattle.cs_block.specs.ColumnsView.{seen_columns};
-ghost use Rattle.cs_block.specs.Sought.{CanBeSought, HasSought, IsOfBlock, IsSpan, is_sought, passes, row_with, rows_with};
+ghost use Rattle.cs_block.specs.Sought.{CanBeSought, HasSought, IsOfBlock, is_sought, passes, row_with, rows_with};
 
 use crate::columns::{Columns, cut, half_at, row_of};
 use crate::rules::{is_in_words, is_scored};
 use crate::run_docs::docs_in;
 use cs_base::{BlockHead, Memory, Post};
+use cs_cols::find_listed;
 
 /// So many rows at most are looked at in one loop.
 const SPAN: usize = 256;
@@ -114,8 +116,8 @@ fn find_rows(
     requires known { CanBeSought head.now (seen_columns columns.now) docs.now listed.now }
     requires span { IsSpan span.0 span.1 (length docs.now) (length places.old) }
 
-    ensures found { take result places.new ≡ filter (λ i. passes whole words.0 words.1 listed.now (row_with head.now (seen_columns columns.now) docs.now i))
-        (range_with_len span.0 (span.1 - span.0)) }
+    ensures found { take result places.new ≡ places_where (λ i. passes whole words.0 words.1 listed.now
+        (row_with head.now (seen_columns columns.now) docs.now i)) span.0 span.1 }
     ensures few { result ≤ length places.new }
     ensures len { length places.new ≡ length places.old }
 {
@@ -129,23 +131,6 @@ fn find_rows(
         places[found] = i;
         let word = head.lo + half_at(columns.words, 2 * i);
         found += usize::from(is_sought(docs[i], word, lo, hi, listed));
-    }
-    found
-}
-
-// The same of those in listed documents.
-fn find_listed(docs: &[u32], from: usize, to: usize, listed: &[bool], places: &mut [usize]) -> usize
-    requires known { All (λ d. d < length listed.now) docs.now }
-    requires span { IsSpan from to (length docs.now) (length places.old) }
-
-    ensures found { take result places.new ≡ filter (λ i. slice_index_or listed.now (slice_index_or docs.now i 0) false) (range_with_len from (to - from)) }
-    ensures few { result ≤ length places.new }
-    ensures len { length places.new ≡ length places.old }
-{
-    let mut found = 0;
-    for i in from..to {
-        places[found] = i;
-        found += usize::from(listed[docs[i] as usize]);
     }
     found
 }

@@ -2,3 +2,4 @@ pub mod Block
 pub mod HeldPosts
 pub mod Placed
 pub mod Rooms
+pub mod SpanPlaces

@@ -6,6 +6,8 @@
 
 mod block;
 mod cols;
+mod places;
 mod rooms;
 
 pub use cols::Cols;
+pub use places::{find_between, find_listed};

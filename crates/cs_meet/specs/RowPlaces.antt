@@ -8,6 +8,7 @@
 --   AllBelow docs n d        the first n documents are less than d
 --   AheadOf doc docs b i j   the first i documents are less than the document of each entry of b from j on
 --   SplitsDocs docs n d      n is the first place whose document isn't less than d
+--   LiesBetween docs from end d      the first place whose document isn't less than d is one of those from `from` up to end, or end
 --   AllLess posts n r        the first n posts come before r, by document, position and word
 --   SplitsBefore posts n r   n is the first place that doesn't come before r
 --   KeepsOrder old left new r    what may come behind old with r first may do so behind new, where left may come behind old
@@ -55,6 +56,13 @@ pub record SplitsDocs (docs : List ℕ) (n d : ℕ) : Type 0 where
   pub within : n ≤ length docs
   pub below : AllBelow docs n d
   pub stop : n < length docs → d ≤ slice_index docs n
+
+-- the first place whose document isn't less than d is one of those from `from` up to end, or end itself
+pub record LiesBetween (docs : List ℕ) (from end d : ℕ) : Type 0 where
+  pub order : from ≤ end
+  pub within : end ≤ length docs
+  pub below : AllBelow docs from d
+  pub stop : end < length docs → d ≤ slice_index docs end
 
 -- the first n posts come before r
 abbrev pub AllLess : List Post → ℕ → Post → Type 0

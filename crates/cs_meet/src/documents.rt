@@ -1,12 +1,13 @@
 //! Rows by their documents, and documents by their rows.
-ghost use Rattle.std.specs.Prelude.{◌≡◌, ℕ, true, false, nat_eq, List, slice_index, slice_index_or, ◌==◌, ◌+◌, ◌-◌, ◌*◌, ◌^◌, ◌≤◌, ◌<◌, [], ◌∷◌, ◌++◌, length, take, if◌then◌else◌, IfOk};
+ghost use Rattle.std.specs.Prelude.{◌≡◌, ℕ, true, false, nat_eq, List, slice_index, slice_index_or, ◌==◌, ◌+◌, ◌-◌, ◌*◌, ◌^◌, ◌≤◌, ◌<◌, [], ◌∷◌, ◌++◌};
+ghost use Rattle.std.specs.Prelude.{length, take, if◌then◌else◌, IfOk};
 ghost use Rattle.std.specs.List.{dedup_from, list_any};
 ghost use Rattle.std.specs.List.Sorted.{IsNonDecreasing};
 ghost use Rattle.std.specs.Vec.{vec_len, vec_capacity};
 ghost use Rattle.cs_base.specs.declared.content.doc.Post.{Post};
 ghost use Rattle.cs_meet.specs.Filters.{keep_docs, drop_docs, is_of_doc};
 ghost use Rattle.cs_base.specs.content.Orders.{AreDocs, AreByDoc, docs_of, AreSorted};
-ghost use Rattle.cs_meet.specs.RowPlaces.{AllBelow, SplitsDocs, AheadOf};
+ghost use Rattle.cs_meet.specs.RowPlaces.{AllBelow, AheadOf, LiesBetween, SplitsDocs};
 
 use crate::skip::{add_where, pass_over};
 use cs_base::{Memory, Post, Scored, Seq};
@@ -70,7 +71,8 @@ fn put_unlike(docs: &mut Vec<u32>, last: usize, current: u32, next: u32) -> usiz
     requires room { last + 1 < length docs.old.items }
     requires current { slice_index docs.old.items last ≡ current }
 
-    ensures items { (rest : List ℕ) → take result docs.new.items ++ dedup_from nat_eq next rest ≡ take last docs.old.items ++ dedup_from nat_eq current (next ∷ rest) }
+    ensures items { (rest : List ℕ) → take result docs.new.items ++ dedup_from nat_eq next rest
+        ≡ take last docs.old.items ++ dedup_from nat_eq current (next ∷ rest) }
     ensures next { slice_index docs.new.items result ≡ next }
     ensures near { result ≤ last + 1 }
     ensures len { length docs.new.items ≡ length docs.old.items }
@@ -185,10 +187,7 @@ fn reaches_below(docs: &[u32], from: usize, step: usize, doc: u32) -> bool
 // don't wait for one another, and the last few documents are counted without a branch.
 fn search_docs(docs: &[u32], from: usize, end: usize, doc: u32) -> usize
     requires sorted { IsNonDecreasing docs.now }
-    requires order { from ≤ end }
-    requires within { end ≤ length docs.now }
-    requires below { AllBelow docs.now from doc }
-    requires stop { end < length docs.now → doc ≤ slice_index docs.now end }
+    requires between { LiesBetween docs.now from end doc }
 
     ensures { SplitsDocs docs.now result doc }
 {
@@ -235,10 +234,7 @@ fn step_where(holds: bool, step: usize) -> usize
 #[inline]
 fn search_few(docs: &[u32], from: usize, end: usize, doc: u32) -> usize
     requires sorted { IsNonDecreasing docs.now }
-    requires order { from ≤ end }
-    requires within { end ≤ length docs.now }
-    requires below { AllBelow docs.now from doc }
-    requires stop { end < length docs.now → doc ≤ slice_index docs.now end }
+    requires between { LiesBetween docs.now from end doc }
 
     ensures { SplitsDocs docs.now result doc }
 {

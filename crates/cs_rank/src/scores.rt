@@ -94,7 +94,8 @@ fn absorb(best: &mut Vec<Scored>, last: usize, current: Scored, next: Scored) ->
     requires current { current.score ≤ MAX_ROW_SCORE }
     requires next { next.score ≤ MAX_ROW_SCORE }
 
-    ensures groups { (rest : List Scored) → take result best.new.items ++ group (with_greater current next) rest ≡ take last best.old.items ++ group current (next ∷ rest) }
+    ensures groups { (rest : List Scored) → take result best.new.items ++ group (with_greater current next) rest
+        ≡ take last best.old.items ++ group current (next ∷ rest) }
     ensures held { (d : Scored) → slice_index_or best.new.items result d ≡ with_greater current next }
     ensures small { All (λ h. h.score ≤ MAX_ROW_SCORE) best.old.items → All (λ h. h.score ≤ MAX_ROW_SCORE) best.new.items }
     ensures near { result ≤ last + 1 }

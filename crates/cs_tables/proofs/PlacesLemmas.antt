@@ -1,20 +1,25 @@
 -- The places of rows in listed documents, and what is counted at them.
 --
 --   counts_one, at_most_one     what a test adds to a number
---   finds_on, known_on     places of rows, and of one row more
+--   known_on     places of rows, and of one row more
 --   field_at     a column has a field of each row
 --   listed_chosen     the rows in listed documents are those that count
 --   nothing_counted     no rows change no mark
---   CountedUpTo, counted_none, counted_on, counted_all     the rows before a place are counted: none, those up to another place, all
+--   CountedUpTo, counted_none, counted_all, counted_on     the rows before a place are counted: none, all, those up to another place
+--   listed_there     the places that were found are of listed documents
+--   CountsPlaces, place_on     the rows at the first places are counted, and the one at a place more
 use Rattle.std.proofs.Common.{◌≡◌, ℕ, ◌+◌, ◌<◌, ◌≤◌, ◌&&◌, Bool, true, false, cond, List, [], ◌∷◌, ◌++◌, length, get_or, set, map, take, drop, refl, sym, ap, subst, ◌∙◌, append_assoc, arith, if◌then◌else◌}
 use Rattle.std.specs.Prelude.{All, filter, nat_le, nat_lt}
 use Rattle.std.specs.Int.{from_bool}
-use Rattle.std.proofs.lemmas.List.{append-nil, drop_all, drop_more, get_or-map, map-append, take-set, take_more_set}
+use Rattle.std.proofs.lemmas.List.{append-nil, drop_all, get_or-map, map_more, take-set, take_more_set}
 use Rattle.std.proofs.lemmas.List.Elements.{All-append, All-from_recursion}
 use Rattle.cs_base.specs.declared.content.doc.Post.{Post}
 use Rattle.cs_tables.specs.declared.counts.Mark.{Mark}
-use Rattle.cs_tables.specs.WordCounts.{AreCountable, ArePlacesOfListed, Counts, HasWordMarks, chosen, is_chosen, is_of_listed}
-use Rattle.cs_tables.proofs.WordCountsLemmas.{pieces_counted}
+use Rattle.cs_cols.specs.SpanPlaces.{is_listed_at, places_where}
+use Rattle.cs_cols.proofs.FoundPlaces.{places_pass, places_within, rows_there}
+use Rattle.cs_tables.specs.declared.word_counts.Rows.{Rows}
+use Rattle.cs_tables.specs.WordCounts.{AreCountable, Counts, CountsAt, HasColumnsOf, HasWordMarks, IsListedAt, chosen, is_chosen, is_of_listed}
+use Rattle.cs_tables.proofs.WordCountsLemmas.{CountsRow, as_many, pieces_counted, post_at}
 
 pub counts_one : (b : Bool) → from_bool b ≡ (if b then 1 else 0)
 counts_one true = refl
@@ -26,25 +31,6 @@ at_most_one false = omega arith
 
 none_more : (n : ℕ) → n + 0 ≡ n
 none_more n = omega arith
-
--- of one row more the place is put behind those that were found, and counts where the row's document is listed too
-pub finds_on : (listed : List Bool) (rows : List Post) (d : Post) (from i : ℕ) (places : List ℕ) (n m : ℕ) → i < length rows → n < length places → m ≡ n + (if is_of_listed listed (get_or rows i d) then 1 else 0)
-    → ArePlacesOfListed listed rows d from i (take n places) → ArePlacesOfListed listed rows d from (i + 1) (take m (set places n i))
-finds_on listed rows d from i places n m lt room count h =
-    let t = is_of_listed listed in
-    let p = get_or rows i d in
-    let at : ℕ → Post = λ i. get_or rows i d in
-    let rest = drop (i + 1) rows in
-    let split : drop i rows ≡ p ∷ rest = drop_more rows i d lt in
-    elim (t p) as (λ b. t p ≡ b → m ≡ n + cond b 1 0 → ArePlacesOfListed listed rows d from (i + 1) (take m (set places n i))) [
-      | true ↦ λ e many.
-          let longer : take m (set places n i) ≡ take n places ++ i ∷ [] = ap (λ x. take x (set places n i)) many ∙ take_more_set places n i room in
-          ap (λ xs. map at xs ++ filter t rest) longer ∙ ap (λ xs. xs ++ filter t rest) (map-append at (take n places) (i ∷ [])) ∙ append_assoc (map at (take n places)) (p ∷ []) (filter t rest)
-          ∙ ap (λ b. map at (take n places) ++ cond b (p ∷ filter t rest) (filter t rest)) (sym e) ∙ ap (λ xs. map at (take n places) ++ filter t xs) (sym split) ∙ h
-      | false ↦ λ e many.
-          let same : take m (set places n i) ≡ take n places = ap (λ x. take x (set places n i)) (many ∙ none_more n) ∙ take-set places n i in
-          ap (λ xs. map at xs ++ filter t rest) same ∙ ap (λ b. map at (take n places) ++ cond b (p ∷ filter t rest) (filter t rest)) (sym e) ∙ ap (λ xs. map at (take n places) ++ filter t xs) (sym split) ∙ h
-    ] refl count
 
 -- what holds of the places holds of them with one more, where that counts
 pub known_on : (P : ℕ → Type 0) (places : List ℕ) (n m i : ℕ) (b : Bool) → m ≡ n + (if b then 1 else 0) → n < length places → (b ≡ true → P i) → All P (take n places) → All P (take m (set places n i))
@@ -82,19 +68,53 @@ module _ (low high : ℕ) (listed : List Bool) where
   pub counted_none : (rows : List Post) (m : List Mark) → CountedUpTo rows 0 m m
   counted_none rows m = record { done = []; are = refl; counts = nothing_counted m }
 
-  pub counted_on : (rows : List Post) (d : Post) (from to : ℕ) (places : List ℕ) (m0 m1 m2 : List Mark) → ArePlacesOfListed listed rows d from to places
-      → Counts low high listed (map (λ i. get_or rows i d) places) m1 m2 → CountedUpTo rows from m0 m1 → CountedUpTo rows to m0 m2
-  counted_on rows d from to places m0 m1 m2 placed here before =
-      let at = map (λ i. get_or rows i d) places in
-      let rest = filter (is_of_listed listed) (drop to rows) in
-      record {
-        done = before.done ++ at;
-        are = append_assoc before.done at rest ∙ ap (λ xs. before.done ++ xs) placed ∙ before.are;
-        counts = pieces_counted low high listed before.done at m0 m1 m2 before.counts here;
-      }
-
   pub counted_all : (rows : List Post) (from : ℕ) (m0 m1 : List Mark) → length rows ≤ from → CountedUpTo rows from m0 m1 → Counts low high listed rows m0 m1
   counted_all rows from m0 m1 past up seen c h =
       let all : up.done ≡ filter (is_of_listed listed) rows = sym (append-nil up.done) ∙ ap (λ xs. up.done ++ filter (is_of_listed listed) xs) (sym (drop_all from rows past)) ∙ up.are in
       let same : chosen low high listed up.done ≡ chosen low high listed rows = ap (chosen low high listed) all ∙ listed_chosen rows in
       subst (λ xs. HasWordMarks low (seen ++ xs) m1) same (up.counts seen (subst (λ xs. AreCountable (seen ++ xs)) (sym same) c) h)
+
+module _ (low high : ℕ) (rows : Rows) where
+  abbrev listed : List Bool
+  listed = rows.listed.now
+
+  abbrev docs : List ℕ
+  docs = rows.docs.now
+
+  -- the rows of a span more, which stand at these places
+  pub counted_on : (posts : List Post) → HasColumnsOf rows posts → (d : Post) (from to : ℕ) (places : List ℕ) (m0 m1 m2 : List Mark) → from ≤ to → to ≤ length docs
+      → places ≡ places_where (is_listed_at listed docs) from to → CountsAt low high rows places m1 m2
+      → CountedUpTo low high listed posts from m0 m1 → CountedUpTo low high listed posts to m0 m2
+  counted_on posts has d from to places m0 m1 m2 onward within found counts before =
+      let at = map (λ i. get_or posts i d) places in
+      let rest = filter (is_of_listed listed) (drop to posts) in
+      let long = as_many low high rows posts has in
+      let placed = rows_there (is_listed_at listed docs) (is_of_listed listed) posts d from to places onward (omega (arith, within, long))
+      (λ i lt. ap (λ x. get_or listed x false) (post_at low high rows posts has i d (omega (arith, lt, long))).0) found in
+      record {
+        done = before.done ++ at;
+        are = append_assoc before.done at rest ∙ ap (λ xs. before.done ++ xs) placed ∙ before.are;
+        counts = pieces_counted low high listed before.done at m0 m1 m2 before.counts (counts.counted posts has d);
+      }
+
+  -- the places that were found are of listed documents
+  pub listed_there : (from to : ℕ) (places : List ℕ) → from ≤ to → to ≤ length docs → places ≡ places_where (is_listed_at listed docs) from to
+      → All (IsListedAt listed docs) places
+  listed_there from to places onward within found = λ k d lt. (
+    places_within (is_listed_at listed docs) from to (length docs) places onward within found k d lt,
+    places_pass (is_listed_at listed docs) from to places found k d lt,
+  )
+
+  -- the rows at the first places are counted
+  abbrev pub CountsPlaces : List ℕ → ℕ → List Mark → List Mark → Type 0
+  CountsPlaces places k old new = (posts : List Post) → HasColumnsOf rows posts → (d : Post) → Counts low high listed (map (λ i. get_or posts i d) (take k places)) old new
+
+  -- the row at one place more
+  pub place_on : (places : List ℕ) (k : ℕ) (m0 m1 m2 : List Mark) → k < length places → get_or places k 0 < length docs
+      → CountsRow low high rows (get_or places k 0) m1 m2 → CountsPlaces places k m0 m1 → CountsPlaces places (k + 1) m0 m2
+  place_on places k m0 m1 m2 lt inside next before posts has d =
+      let row : ℕ → Post = λ i. get_or posts i d in
+      let at = get_or places k 0 in
+      let is = post_at low high rows posts has at d inside in
+      subst (λ xs. Counts low high listed xs m0 m2) (sym (map_more row places k 0 lt))
+      (pieces_counted low high listed (map row (take k places)) (row at ∷ []) m0 m1 m2 (before posts has d) (next (row at) is.0 is.1))

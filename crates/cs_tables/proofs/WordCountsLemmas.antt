@@ -7,8 +7,10 @@
 --   row_counted, row_passed, row_where     behind one row
 --   one_where            the same where the mark of the word stands apart
 --   pieces_counted       behind one piece and another
---   rows_counted         behind one row more
---   piece_counted, row_seen     what is counted behind a piece more, and behind one row
+--   piece_counted, row_seen, rows_added     what is counted behind a piece more, behind one row, and behind rows by their documents and words
+--   as_many, post_at     there are as many posts as documents, and each has the document and the word at its place
+--   CountsFront, front_on, front_whole     the rows before a place are counted: of one row more, and of all
+--   CountsRow, one_marked, one_row      the row at a place is counted, also where all are of one word, whose mark stands apart
 --   words_counted        the words that are collected are those of the rows
 --   first_below          the first words of a table are among those counted
 use Rattle.std.proofs.Common.{◌≡◌, ◌≢◌, ℕ, zero, suc, ◌+◌, ◌-◌, ◌<◌, ◌≤◌, ◌&&◌, ◌||◌, Bool, true, false, List, [], ◌∷◌, ◌++◌, cond, map, length, take, take_all, drop, replicate, get_or, set, ◌==◌, nat_lt, nat_le, refl, sym, ◌∙◌, ap, ap₂, subst, arith, append_assoc, append-nil, get_or-set_other, length-set}
@@ -20,7 +22,7 @@ use Rattle.std.specs.Cmp.{IsTotalOrder, Equal-is, tied_itself}
 use Rattle.std.specs.FinMap.{IsAntisymmetric}
 use Rattle.std.proofs.lemmas.Bool.{and_from, and_parts, le-leb, leb-true, lt-ltb, ltb-true, or_left, or_right, eqb-true, eq-eqb, ne_eqb}
 use Rattle.std.proofs.lemmas.Grind.{get_or-set_at}
-use Rattle.std.proofs.lemmas.List.{get_or-set_same, length-map, set-set, take_more, take-append-le, drop_all, get_or_default, get_or-replicate}
+use Rattle.std.proofs.lemmas.List.{get_or-map, get_or-set_same, length-map, set-set, take_more, take-append-le, drop_all, get_or_default, get_or-replicate}
 use Rattle.std.proofs.lemmas.List.Elements.{All-nil, All-cons, All-append, All-from_recursion, All-take, All-drop, All-map, recursion_from_All, filter-append}
 use Rattle.cs_base.specs.content.Members.{members_in}
 use Rattle.cs_base.specs.content.Orders.{AreSorted, by_place, by_rank}
@@ -35,7 +37,8 @@ use Rattle.cs_tables.specs.declared.counts.TheConstants.{NO_DOC}
 use Rattle.cs_tables.specs.declared.tables.Completion.{Completion}
 use Rattle.cs_tables.specs.TableListings.{completion, with_word}
 use Rattle.cs_tables.specs.Marks.{collected, counted_word, mark_of, saw, post_words}
-use Rattle.cs_tables.specs.WordCounts.{AreCountable, Counts, HasCounted, HasWordMarks, WordCountsView, chosen, is_chosen}
+use Rattle.cs_tables.specs.declared.word_counts.Rows.{Rows}
+use Rattle.cs_tables.specs.WordCounts.{AddsColumns, AreCountable, AreOfOne, Counts, CountsRows, HasColumnsOf, HasCounted, HasWordMarks, WordCountsView, chosen, is_chosen}
 use Rattle.cs_tables.proofs.MarksLemmas.{fold_push, word_marked, word_docs_few}
 use Rattle.cs_tables.proofs.CountedWords.{collected_words}
 
@@ -176,14 +179,6 @@ module _ (low high : ℕ) (listed : List Bool) where
       let whole : AreCountable ((seen ++ f a) ++ f b) = subst AreCountable both c in
       subst (λ rows. HasWordMarks low rows m2) (sym both) (second (seen ++ f a) whole (first seen (front_countable (seen ++ f a) (f b) whole) h))
 
-  abbrev no_post : Post
-  no_post = record { doc = 0; word = 0; pos = 0; score = 0 }
-
-  at_field : (f : Post → ℕ) (rows : List Post) (i : ℕ) (d : Post) → i < length rows → get_or (map f rows) i 0 ≡ f (get_or rows i d)
-  at_field f [] i d lt = absurd (omega (arith, lt))
-  at_field f (p ∷ rows) zero d lt = refl
-  at_field f (p ∷ rows) (suc i) d lt = at_field f rows i d (omega (arith, lt))
-
   -- a row of one of the words, whose mark is written later
   pub one_where : (marks : List Mark) (doc word : ℕ) (m now : Mark) → low + length marks ≡ high → low ≤ word → word < high
       → (m.docs < NO_DOC → now ≡ cond (slice_index_or listed doc false) (saw m doc) m)
@@ -193,15 +188,6 @@ module _ (low high : ℕ) (listed : List Bool) where
       subst (λ ms. Counts low high listed (p ∷ []) (set marks (word - low) m) ms) (set-set marks (word - low) m now)
       (row_where (set marks (word - low) m) doc word now (ap (λ n. low + n) (length-set marks (word - low) m) ∙ sized) from upto
       (subst (λ (x : Mark). x.docs < NO_DOC → now ≡ cond (slice_index_or listed doc false) (saw x doc) x) (sym held) saws) p d w)
-
-  pub rows_counted : (rows : List Post) (docs words : List ℕ) (i : ℕ) (m0 m1 m2 : List Mark) → docs ≡ map (λ p. p.doc) rows → words ≡ map (λ p. p.word) rows → i < length docs
-      → Counts low high listed (take i rows) m0 m1 → ((p : Post) → get_or docs i 0 ≡ p.doc → get_or words i 0 ≡ p.word → Counts low high listed (p ∷ []) m1 m2) → Counts low high listed (take (i + 1) rows) m0 m2
-  rows_counted rows docs words i m0 m1 m2 is_docs is_words lt before next =
-      let inside : i < length rows = omega (arith, lt, ap length is_docs, length-map rows (λ (p : Post). p.doc)) in
-      let p = get_or rows i no_post in
-      let doc = ap (λ xs. get_or xs i 0) is_docs ∙ at_field (λ p. p.doc) rows i no_post inside in
-      let word = ap (λ xs. get_or xs i 0) is_words ∙ at_field (λ p. p.word) rows i no_post inside in
-      subst (λ xs. Counts low high listed xs m0 m2) (sym (take_more rows i no_post inside)) (pieces_counted (take i rows) (p ∷ []) m0 m1 m2 before (next p doc word))
 
   chosen_within : (rows : List Post) → All (λ p. (low ≤ p.word) × (p.word < high)) (chosen low high listed rows)
   chosen_within [] = All-nil (λ (p : Post). (low ≤ p.word) × (p.word < high))
@@ -224,6 +210,64 @@ module _ (low high : ℕ) (listed : List Bool) where
         (chosen_within rows)));
   }
 
+-- ---- rows one by one
+abbrev no_post : Post
+no_post = record { doc = 0; word = 0; pos = 0; score = 0 }
+
+module _ (low high : ℕ) (rows : Rows) where
+  abbrev listed : List Bool
+  listed = rows.listed.now
+
+  abbrev docs : List ℕ
+  docs = rows.docs.now
+
+  abbrev words : List ℕ
+  words = rows.words.now
+
+  -- the rows before a place are counted
+  abbrev pub CountsFront : ℕ → List Mark → List Mark → Type 0
+  CountsFront i old new = (posts : List Post) → HasColumnsOf rows posts → Counts low high listed (take i posts) old new
+
+  -- a row of these columns, whichever post it is
+  abbrev pub CountsRow : ℕ → List Mark → List Mark → Type 0
+  CountsRow i old new = (p : Post) → get_or docs i 0 ≡ p.doc → get_or words i 0 ≡ p.word → Counts low high listed (p ∷ []) old new
+
+  pub as_many : (posts : List Post) → HasColumnsOf rows posts → length posts ≡ length docs
+  as_many posts has = sym (ap length has.docs ∙ length-map posts (λ (p : Post). p.doc))
+
+  pub post_at : (posts : List Post) → HasColumnsOf rows posts → (i : ℕ) (d : Post) → i < length docs
+      → (get_or docs i 0 ≡ (get_or posts i d).doc) × (get_or words i 0 ≡ (get_or posts i d).word)
+  post_at posts has i d lt =
+      let inside : i < length posts = omega (arith, lt, as_many posts has) in
+      (ap (λ xs. get_or xs i 0) has.docs ∙ get_or-map (λ p. p.doc) posts i d 0 inside, ap (λ xs. get_or xs i 0) has.words ∙ get_or-map (λ p. p.word) posts i d 0 inside)
+
+  -- the marks where that of the one word stands apart, as m
+  abbrev pub one_marked : List Mark → Mark → List Mark
+  one_marked marks m = set marks (get_or words 0 0 - low) m
+
+  -- a row where all are of one word, whose mark is written later
+  pub one_row : (i : ℕ) (marks : List Mark) (m now : Mark) → low + length marks ≡ high → length words ≡ length docs → AreOfOne low high words → i < length docs
+      → (m.docs < NO_DOC → now ≡ cond (get_or listed (get_or docs i 0) false) (saw m (get_or docs i 0)) m)
+      → CountsRow i (one_marked marks m) (one_marked marks now)
+  one_row i marks m now sized even one lt saws p of_doc of_word =
+      let same : get_or words i 0 ≡ get_or words 0 0 = one.same i 0 (omega (arith, even, lt)) in
+      one_where low high listed marks (get_or docs i 0) (get_or words 0 0) m now sized one.from one.upto saws p of_doc (sym same ∙ of_word)
+
+  -- one row more
+  pub front_on : (i : ℕ) (m0 m1 m2 : List Mark) → i < length docs → CountsRow i m1 m2 → CountsFront i m0 m1 → CountsFront (i + 1) m0 m2
+  front_on i m0 m1 m2 lt next before posts has =
+      let p = get_or posts i no_post in
+      let at = post_at posts has i no_post lt in
+      subst (λ xs. Counts low high listed xs m0 m2) (sym (take_more posts i no_post (omega (arith, lt, as_many posts has))))
+      (pieces_counted low high listed (take i posts) (p ∷ []) m0 m1 m2 (before posts has) (next p at.0 at.1))
+
+  pub front_whole : (i : ℕ) (m0 m1 : List Mark) → length docs ≤ i → CountsFront i m0 m1 → length m1 ≡ length m0 → CountsRows low high rows m0 m1
+  front_whole i m0 m1 past front sized = record {
+    counted = λ posts has.
+        subst (λ xs. Counts low high listed xs m0 m1) (take_all i posts (omega (arith, past, as_many posts has))) (front posts has);
+    sized = sized;
+  }
+
 -- one row more, of one of the words
 pub row_seen : (seen : List Post) (p : Post) (old new : WordCountsView) → old.low ≡ new.low → old.high ≡ new.high → (new.low ≤ p.word) × (p.word < new.high) → (HasWordMarks old.low seen old.marks → HasWordMarks old.low (seen ++ p ∷ []) new.marks) → HasCounted seen old → HasCounted (seen ++ p ∷ []) new
 row_seen seen p old new low high within counts h = record {
@@ -236,6 +280,18 @@ row_seen seen p old new low high within counts h = record {
 -- a vector whose slice was lent holds what was written there
 pub written_back : {X : Type 0} (n : ℕ) (a b : List X) → length a ≡ length b → n ≡ length b → take n (a ++ drop (length a) b) ≡ a
 written_back n a b l m = ap (λ r. take n (a ++ r)) (drop_all (length a) b (omega (arith, l))) ∙ ap (take n) (append-nil a) ∙ take_all n a (omega (arith, l, m))
+
+-- rows more, by their documents and words
+pub rows_added : (own t : WordCountsView) (rows : Rows) (lent : List Mark) (len : ℕ) (new : List Mark) → own ≡ t → lent ≡ own.marks → len ≡ length own.marks
+    → CountsRows own.low own.high rows lent new
+    → AddsColumns rows.listed.now rows.docs.now rows.words.now t (record { low = own.low; high = own.high; marks = take len (new ++ drop (length new) own.marks) })
+rows_added own t rows lent len new view is long counts posts d w seen few h =
+    let listed = rows.listed.now in
+    let here = subst (λ (ms : List Mark). Counts own.low own.high listed posts ms new) is (counts.counted posts (record { docs = d; words = w })) in
+    let same = subst (λ (t : WordCountsView). Counts t.low t.high listed posts t.marks new) view here in
+    let back = written_back len new own.marks (omega (arith, counts.sized, ap length is)) long in
+    let there = subst (λ (ms : List Mark). Counts t.low t.high listed posts t.marks ms) (sym back) same in
+    piece_counted t.low t.high listed seen posts t _ refl refl (ap (λ (t : WordCountsView). t.low) view) (ap (λ (t : WordCountsView). t.high) view) there few h
 
 -- ---- tables
 pub words_counted : (t : WordCountsView) (rows : List Post) → t.low + length t.marks ≡ t.high → AreCountable rows → HasCounted rows t → collected t.low t.marks ≡ map (counted_word rows) (post_words rows)

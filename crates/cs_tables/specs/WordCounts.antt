@@ -6,14 +6,17 @@
 --   is_chosen low high listed p    the word of a row is one of these, and its document is listed
 --   chosen low high listed rows    the rows that are counted
 --   is_of_listed listed p          the document of a row is listed
---   ArePlacesOfListed listed rows d from to places     the places of the rows in listed documents, from one place up to another
 --   IsListedAt listed docs i       the document that stands there is listed
 --   AreOfOne low high words        there are words, all of them are the same, and that is one of these
 --   AreCountable rows              the rows of each word are in order, and their documents are few
 --   HasWordMarks low rows marks    the marks of the words from low on are those after these rows
 --   Counts low high listed rows old new     the marks after these rows more, whatever rows came before
+--   HasColumnsOf rows posts        the documents and the words of posts
+--   CanCount low high rows marks, CountsRows low high rows old new      rows by their documents and words: before they are counted, and after
+--   CanCountAt low high rows places marks, CountsAt low high rows places old new      the same of the rows at some places, all in listed documents
 --   HasCounted rows t              what is counted after these rows, all of words that are counted
-use Rattle.std.specs.Prelude.{◌≡◌, ℕ, ◌+◌, ◌<◌, ◌≤◌, ◌&&◌, Bool, true, false, nat_le, nat_lt, List, ◌++◌, drop, filter, length, map, slice_index, slice_index_or}
+--   AddsColumns listed docs words old new     rows more, by their documents and words
+use Rattle.std.specs.Prelude.{◌≡◌, ℕ, ◌+◌, ◌<◌, ◌≤◌, ◌&&◌, Bool, true, false, nat_le, nat_lt, List, ◌++◌, filter, length, map, slice_index, slice_index_or}
 use Rattle.std.specs.List.{All}
 use Rattle.cs_base.specs.content.Orders.{AreSorted}
 use Rattle.cs_base.specs.declared.content.doc.Post.{Post}
@@ -21,6 +24,7 @@ use Rattle.cs_base.specs.declared.content.limits.TheConstants.{MAX_DOCS}
 use Rattle.cs_tables.specs.TableListings.{with_word}
 use Rattle.cs_tables.specs.Marks.{mark_of}
 use Rattle.cs_tables.specs.declared.counts.Mark.{Mark}
+use Rattle.cs_tables.specs.declared.word_counts.Rows.{Rows}
 
 -- the words from low up to high, high left out, and one mark for each
 pub record WordCountsView : Type 0 where
@@ -39,10 +43,6 @@ chosen low high listed rows = filter (is_chosen low high listed) rows
 -- a document behind the last of the list isn't listed
 abbrev pub is_of_listed : List Bool → Post → Bool
 is_of_listed listed p = slice_index_or listed p.doc false
-
--- none where from is to; d stands where a place has no row, which none of these is
-abbrev pub ArePlacesOfListed : List Bool → List Post → Post → ℕ → ℕ → List ℕ → Type 0
-ArePlacesOfListed listed rows d from to places = map (λ i. slice_index_or rows i d) places ++ filter (is_of_listed listed) (drop to rows) ≡ filter (is_of_listed listed) (drop from rows)
 
 -- a place behind the last document isn't one
 abbrev pub IsListedAt : List Bool → List ℕ → ℕ → Type 0
@@ -72,3 +72,37 @@ Counts low high listed rows old new = (seen : List Post) → AreCountable (seen 
 pub record HasCounted (rows : List Post) (t : WordCountsView) : Type 0 where
   pub marks : HasWordMarks t.low rows t.marks
   pub within : All (λ p. (t.low ≤ p.word) × (p.word < t.high)) rows
+
+-- none of no posts
+pub record HasColumnsOf (rows : Rows) (posts : List Post) : Type 0 where
+  pub docs : rows.docs.now ≡ map (λ p. p.doc) posts
+  pub words : rows.words.now ≡ map (λ p. p.word) posts
+
+-- a mark for each word, a word for each document, and each document is listed or not
+pub record CanCount (low high : ℕ) (rows : Rows) (marks : List Mark) : Type 0 where
+  pub sized : low + length marks ≡ high
+  pub even : length rows.words.now ≡ length rows.docs.now
+  pub known : All (λ d. d < length rows.listed.now) rows.docs.now
+
+-- whatever posts have these documents and words
+pub record CountsRows (low high : ℕ) (rows : Rows) (old new : List Mark) : Type 0 where
+  pub counted : (posts : List Post) → HasColumnsOf rows posts → Counts low high rows.listed.now posts old new
+  pub sized : length new ≡ length old
+
+-- documents at other places may be listed or not
+pub record CanCountAt (low high : ℕ) (rows : Rows) (places : List ℕ) (marks : List Mark) : Type 0 where
+  pub sized : low + length marks ≡ high
+  pub even : length rows.words.now ≡ length rows.docs.now
+  pub known : All (IsListedAt rows.listed.now rows.docs.now) places
+
+-- d stands where a place has no row, which none of these is
+pub record CountsAt (low high : ℕ) (rows : Rows) (places : List ℕ) (old new : List Mark) : Type 0 where
+  pub counted : (posts : List Post) → HasColumnsOf rows posts → (d : Post)
+      → Counts low high rows.listed.now (map (λ i. slice_index_or posts i d) places) old new
+  pub sized : length new ≡ length old
+
+-- of no columns what was counted stays
+abbrev pub AddsColumns : List Bool → List ℕ → List ℕ → WordCountsView → WordCountsView → Type 0
+AddsColumns listed docs words old new = (rows : List Post) → docs ≡ map (λ p. p.doc) rows → words ≡ map (λ p. p.word) rows
+    → (seen : List Post) → AreCountable (seen ++ chosen old.low old.high listed rows)
+    → HasCounted seen old → HasCounted (seen ++ chosen old.low old.high listed rows) new

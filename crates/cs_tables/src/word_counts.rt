@@ -1,19 +1,28 @@
 //! Counting the documents of words over rows that come in pieces.
-ghost use Rattle.std.specs.Prelude.{◌≡◌, ◌+◌, ◌++◌, ◌<◌, ◌≤◌, [], ◌∷◌, true, false, Bool, List, map, length, take, slice_index, slice_index_or, IfOk, All};
+ghost use Rattle.std.specs.Prelude.{◌≡◌, ◌+◌, ◌++◌, ◌<◌, ◌≤◌, [], ◌∷◌, true, false, Bool, List, length, take, slice_index, slice_index_or, IfOk, All};
 ghost use Rattle.cs_base.specs.declared.content.doc.Post.{Post};
 ghost use Rattle.cs_base.specs.declared.content.limits.TheConstants.{MAX_DOCS, MAX_WORDS};
 ghost use Rattle.cs_tables.specs.TableListings.{post_table};
-ghost use Rattle.cs_tables.specs.WordCounts.{AreOfOne, ArePlacesOfListed, AreCountable, Counts, HasCounted, IsListedAt, chosen};
+ghost use Rattle.cs_tables.specs.WordCounts.{AddsColumns, AreCountable, AreOfOne, CanCount, CanCountAt, Counts, CountsAt, CountsRows, HasCounted};
 
 use crate::counts::{BLANK, Mark, collect};
 use crate::tables::{Table, completions_of};
 use cs_base::{Memory, Seq};
+use cs_cols::find_listed;
 use cs_rank::top;
 use std::alloc::Global;
 use std::marker::Model;
 
 // So many rows at most are looked at in one loop.
 const SPAN: usize = 256;
+
+// Rows by their documents and words, and which documents are listed.
+#[derive(Clone, Copy)]
+struct Rows<'a> {
+    docs: &'a [u32],
+    words: &'a [u32],
+    listed: &'a [bool],
+}
 
 /// The words from one number up to another, each with the number of documents that it has in the rows so far.
 ///
@@ -56,12 +65,17 @@ impl WordCounts {
         requires even { length words.now ≡ length docs.now }
         requires known { All (λ d. d < length listed.now) docs.now }
 
-        ensures counted { (rows : List Post) → docs.now ≡ map (λ p. p.doc) rows → words.now ≡ map (λ p. p.word) rows → (seen : List Post) → AreCountable (seen ++ chosen self.old.low self.old.high listed.now rows) → HasCounted seen self.old → HasCounted (seen ++ chosen self.old.low self.old.high listed.now rows) self.new }
+        ensures counted { AddsColumns listed.now docs.now words.now self.old self.new }
         ensures low { self.new.low ≡ self.old.low }
         ensures high { self.new.high ≡ self.old.high }
     {
         let (low, high) = (self.low, self.high);
-        see_rows(low, high, &mut self.marks, docs, words, listed);
+        let rows = Rows {
+            docs,
+            words,
+            listed,
+        };
+        see_rows(low, high, &mut self.marks, rows);
     }
 
     /// Counts rows as `add` does. It is the faster one where all words are counted and a document may have a word often.
@@ -69,12 +83,17 @@ impl WordCounts {
         requires even { length words.now ≡ length docs.now }
         requires known { All (λ d. d < length listed.now) docs.now }
 
-        ensures counted { (rows : List Post) → docs.now ≡ map (λ p. p.doc) rows → words.now ≡ map (λ p. p.word) rows → (seen : List Post) → AreCountable (seen ++ chosen self.old.low self.old.high listed.now rows) → HasCounted seen self.old → HasCounted (seen ++ chosen self.old.low self.old.high listed.now rows) self.new }
+        ensures counted { AddsColumns listed.now docs.now words.now self.old self.new }
         ensures low { self.new.low ≡ self.old.low }
         ensures high { self.new.high ≡ self.old.high }
     {
         let (low, high) = (self.low, self.high);
-        see_mixed(low, high, &mut self.marks, docs, words, listed);
+        let rows = Rows {
+            docs,
+            words,
+            listed,
+        };
+        see_mixed(low, high, &mut self.marks, rows);
     }
 
     /// Counts one row more, of one of these words.
@@ -83,7 +102,8 @@ impl WordCounts {
         requires from { self.old.low ≤ word }
         requires upto { word < self.old.high }
 
-        ensures counted { (p : Post) → doc ≡ p.doc → word ≡ p.word → (seen : List Post) → AreCountable (seen ++ p ∷ []) → HasCounted seen self.old → HasCounted (seen ++ p ∷ []) self.new }
+        ensures counted { (p : Post) → doc ≡ p.doc → word ≡ p.word → (seen : List Post) → AreCountable (seen ++ p ∷ [])
+            → HasCounted seen self.old → HasCounted (seen ++ p ∷ []) self.new }
         ensures low { self.new.low ≡ self.old.low }
         ensures high { self.new.high ≡ self.old.high }
     {
@@ -109,117 +129,59 @@ impl WordCounts {
 }
 
 // Counts rows in the marks of the words from `low` up to `high`, some rows at a time.
-fn see_rows(low: u32, high: u32, marks: &mut [Mark], docs: &[u32], words: &[u32], listed: &[bool])
-    requires sized { low + length marks.old ≡ high }
-    requires even { length words.now ≡ length docs.now }
-    requires known { All (λ d. d < length listed.now) docs.now }
+fn see_rows(low: u32, high: u32, marks: &mut [Mark], rows: Rows<'_>)
+    requires { CanCount low high rows marks.old }
 
-    ensures counted { (rows : List Post) → docs.now ≡ map (λ p. p.doc) rows → words.now ≡ map (λ p. p.word) rows → Counts low high listed.now rows marks.old marks.new }
-    ensures sized { length marks.new ≡ length marks.old }
+    ensures { CountsRows low high rows.entry marks.old marks.new }
 {
-    let one = are_of_one(words, low, high);
+    let one = are_of_one(rows.words, low, high);
     let mut places = [0usize; SPAN];
     let mut from = 0;
-    while from < docs.len() {
-        let to = from + SPAN.min(docs.len() - from);
-        let found = find_listed(docs, from, to, listed, &mut places);
-        see_found(one, low, high, marks, docs, words, listed, &places[..found]);
+    while from < rows.docs.len() {
+        let to = from + SPAN.min(rows.docs.len() - from);
+        let found = find_listed(rows.docs, from, to, rows.listed, &mut places);
+        see_found(one, low, high, marks, rows, &places[..found]);
         from = to;
     }
 }
 
-// Puts the places of those of some rows that are in listed documents to the front of a slice, without a jump, and says how many there
-// are.
-fn find_listed(docs: &[u32], from: usize, to: usize, listed: &[bool], places: &mut [usize]) -> usize
-    requires known { All (λ d. d < length listed.now) docs.now }
-    requires onward { from ≤ to }
-    requires within { to ≤ length docs.now }
-    requires room { to ≤ from + length places.old }
-
-    ensures found { (rows : List Post) → docs.now ≡ map (λ p. p.doc) rows → (d : Post) → ArePlacesOfListed listed.now rows d from to (take result places.new) }
-    ensures known { All (IsListedAt listed.now docs.now) (take result places.new) }
-    ensures few { result ≤ length places.new }
-    ensures len { length places.new ≡ length places.old }
-{
-    let mut found = 0;
-    for i in from..to {
-        places[found] = i;
-        found += usize::from(listed[docs[i] as usize]);
-    }
-    found
-}
-
 // Counts the rows at these places, all of them in listed documents: in one mark where all words are the same.
-fn see_found(
-    one: bool,
-    low: u32,
-    high: u32,
-    marks: &mut [Mark],
-    docs: &[u32],
-    words: &[u32],
-    listed: &[bool],
-    places: &[usize],
-)
-    requires one { one ≡ true → AreOfOne low high words.now }
-    requires sized { low + length marks.old ≡ high }
-    requires even { length words.now ≡ length docs.now }
-    requires known { All (IsListedAt listed.now docs.now) places.now }
+fn see_found(one: bool, low: u32, high: u32, marks: &mut [Mark], rows: Rows<'_>, places: &[usize])
+    requires one { one ≡ true → AreOfOne low high rows.words.now }
+    requires seen { CanCountAt low high rows places.now marks.old }
 
-    ensures counted { (rows : List Post) → docs.now ≡ map (λ p. p.doc) rows → words.now ≡ map (λ p. p.word) rows → (d : Post) → Counts low high listed.now (map (λ i. slice_index_or rows i d) places.now) marks.old marks.new }
-    ensures sized { length marks.new ≡ length marks.old }
+    ensures { CountsAt low high rows.entry places.now marks.old marks.new }
 {
     if one {
-        see_one_at(low, high, marks, docs, words, listed, places);
+        see_one_at(low, high, marks, rows, places);
     } else {
-        see_places(low, high, marks, docs, words, listed, places);
+        see_places(low, high, marks, rows, places);
     }
 }
 
 // Counts the rows at these places, all of them in listed documents and of one word, in its mark, which is read and written once.
-fn see_one_at(
-    low: u32,
-    high: u32,
-    marks: &mut [Mark],
-    docs: &[u32],
-    words: &[u32],
-    listed: &[bool],
-    places: &[usize],
-)
-    requires one { AreOfOne low high words.now }
-    requires sized { low + length marks.old ≡ high }
-    requires even { length words.now ≡ length docs.now }
-    requires known { All (IsListedAt listed.now docs.now) places.now }
+fn see_one_at(low: u32, high: u32, marks: &mut [Mark], rows: Rows<'_>, places: &[usize])
+    requires one { AreOfOne low high rows.words.now }
+    requires seen { CanCountAt low high rows places.now marks.old }
 
-    ensures counted { (rows : List Post) → docs.now ≡ map (λ p. p.doc) rows → words.now ≡ map (λ p. p.word) rows → (d : Post) → Counts low high listed.now (map (λ i. slice_index_or rows i d) places.now) marks.old marks.new }
-    ensures sized { length marks.new ≡ length marks.old }
+    ensures { CountsAt low high rows.entry places.now marks.old marks.new }
 {
-    let at = (words[0] - low) as usize;
+    let at = (rows.words[0] - low) as usize;
     let mut mark = marks[at];
     for place in places {
-        mark.see_where(docs[*place], true);
+        mark.see_where(rows.docs[*place], true);
     }
     marks[at] = mark;
 }
 
 // Counts the rows at these places, all of them in listed documents, each in the mark of its word.
-fn see_places(
-    low: u32,
-    high: u32,
-    marks: &mut [Mark],
-    docs: &[u32],
-    words: &[u32],
-    listed: &[bool],
-    places: &[usize],
-)
-    requires sized { low + length marks.old ≡ high }
-    requires even { length words.now ≡ length docs.now }
-    requires known { All (IsListedAt listed.now docs.now) places.now }
+fn see_places(low: u32, high: u32, marks: &mut [Mark], rows: Rows<'_>, places: &[usize])
+    requires { CanCountAt low high rows places.now marks.old }
 
-    ensures counted { (rows : List Post) → docs.now ≡ map (λ p. p.doc) rows → words.now ≡ map (λ p. p.word) rows → (d : Post) → Counts low high listed.now (map (λ i. slice_index_or rows i d) places.now) marks.old marks.new }
-    ensures sized { length marks.new ≡ length marks.old }
+    ensures { CountsAt low high rows.entry places.now marks.old marks.new }
 {
     for place in places {
-        see_row(low, high, marks, docs[*place], words[*place]);
+        see_row(low, high, marks, rows.docs[*place], rows.words[*place]);
     }
 }
 
@@ -228,7 +190,8 @@ fn see_places(
 fn see_row(low: u32, high: u32, marks: &mut [Mark], doc: u32, word: u32)
     requires sized { low + length marks.old ≡ high }
 
-    ensures counted { (listed : List Bool) (p : Post) → doc ≡ p.doc → word ≡ p.word → slice_index_or listed doc false ≡ true → Counts low high listed (p ∷ []) marks.old marks.new }
+    ensures counted { (listed : List Bool) (p : Post) → doc ≡ p.doc → word ≡ p.word → slice_index_or listed doc false ≡ true
+        → Counts low high listed (p ∷ []) marks.old marks.new }
     ensures sized { length marks.new ≡ length marks.old }
 {
     if low <= word && word < high {
@@ -248,35 +211,29 @@ pub fn are_within(words: &[u32], low: u32, high: u32) -> bool
 }
 
 // Counts rows in the marks of the words from `low` up to `high`, without a jump where all their words are among these.
-fn see_mixed(low: u32, high: u32, marks: &mut [Mark], docs: &[u32], words: &[u32], listed: &[bool])
-    requires sized { low + length marks.old ≡ high }
-    requires even { length words.now ≡ length docs.now }
-    requires known { All (λ d. d < length listed.now) docs.now }
+fn see_mixed(low: u32, high: u32, marks: &mut [Mark], rows: Rows<'_>)
+    requires { CanCount low high rows marks.old }
 
-    ensures counted { (rows : List Post) → docs.now ≡ map (λ p. p.doc) rows → words.now ≡ map (λ p. p.word) rows → Counts low high listed.now rows marks.old marks.new }
-    ensures sized { length marks.new ≡ length marks.old }
+    ensures { CountsRows low high rows.entry marks.old marks.new }
 {
-    if are_within(words, low, high) {
-        see_own(low, high, marks, docs, words, listed);
+    if are_within(rows.words, low, high) {
+        see_own(low, high, marks, rows);
     } else {
-        see_rows(low, high, marks, docs, words, listed);
+        see_rows(low, high, marks, rows);
     }
 }
 
 // Counts rows, all of the words from `low` up to `high`, in the marks of these words.
-fn see_own(low: u32, high: u32, marks: &mut [Mark], docs: &[u32], words: &[u32], listed: &[bool])
-    requires sized { low + length marks.old ≡ high }
-    requires even { length words.now ≡ length docs.now }
-    requires known { All (λ d. d < length listed.now) docs.now }
-    requires own { All (λ w. (low ≤ w) × (w < high)) words.now }
+fn see_own(low: u32, high: u32, marks: &mut [Mark], rows: Rows<'_>)
+    requires seen { CanCount low high rows marks.old }
+    requires own { All (λ w. (low ≤ w) × (w < high)) rows.words.now }
 
-    ensures counted { (rows : List Post) → docs.now ≡ map (λ p. p.doc) rows → words.now ≡ map (λ p. p.word) rows → Counts low high listed.now rows marks.old marks.new }
-    ensures sized { length marks.new ≡ length marks.old }
+    ensures { CountsRows low high rows.entry marks.old marks.new }
 {
-    if are_of_one(words, low, high) {
-        see_one(low, high, marks, docs, words, listed);
+    if are_of_one(rows.words, low, high) {
+        see_one(low, high, marks, rows);
     } else {
-        see_each(low, high, marks, docs, words, listed);
+        see_each(low, high, marks, rows);
     }
 }
 
@@ -304,36 +261,30 @@ fn is_one_word(words: &[u32]) -> bool
 }
 
 // Counts rows, all of one of the words, in its mark, which is read and written once.
-fn see_one(low: u32, high: u32, marks: &mut [Mark], docs: &[u32], words: &[u32], listed: &[bool])
-    requires sized { low + length marks.old ≡ high }
-    requires even { length words.now ≡ length docs.now }
-    requires known { All (λ d. d < length listed.now) docs.now }
-    requires one { AreOfOne low high words.now }
+fn see_one(low: u32, high: u32, marks: &mut [Mark], rows: Rows<'_>)
+    requires seen { CanCount low high rows marks.old }
+    requires one { AreOfOne low high rows.words.now }
 
-    ensures counted { (rows : List Post) → docs.now ≡ map (λ p. p.doc) rows → words.now ≡ map (λ p. p.word) rows → Counts low high listed.now rows marks.old marks.new }
-    ensures sized { length marks.new ≡ length marks.old }
+    ensures { CountsRows low high rows.entry marks.old marks.new }
 {
-    let at = (words[0] - low) as usize;
+    let at = (rows.words[0] - low) as usize;
     let mut mark = marks[at];
-    for doc in docs {
-        mark.see_where(*doc, listed[*doc as usize]);
+    for doc in rows.docs {
+        mark.see_where(*doc, rows.listed[*doc as usize]);
     }
     marks[at] = mark;
 }
 
 // Counts rows, each in the mark of its word.
-fn see_each(low: u32, high: u32, marks: &mut [Mark], docs: &[u32], words: &[u32], listed: &[bool])
-    requires sized { low + length marks.old ≡ high }
-    requires even { length words.now ≡ length docs.now }
-    requires known { All (λ d. d < length listed.now) docs.now }
-    requires own { All (λ w. (low ≤ w) × (w < high)) words.now }
+fn see_each(low: u32, high: u32, marks: &mut [Mark], rows: Rows<'_>)
+    requires seen { CanCount low high rows marks.old }
+    requires own { All (λ w. (low ≤ w) × (w < high)) rows.words.now }
 
-    ensures counted { (rows : List Post) → docs.now ≡ map (λ p. p.doc) rows → words.now ≡ map (λ p. p.word) rows → Counts low high listed.now rows marks.old marks.new }
-    ensures sized { length marks.new ≡ length marks.old }
+    ensures { CountsRows low high rows.entry marks.old marks.new }
 {
-    for i in 0..docs.len() {
-        let doc = docs[i];
-        let at = (words[i] - low) as usize;
-        marks[at].see_where(doc, listed[doc as usize]);
+    for i in 0..rows.docs.len() {
+        let doc = rows.docs[i];
+        let at = (rows.words[i] - low) as usize;
+        marks[at].see_where(doc, rows.listed[doc as usize]);
     }
 }

@@ -1,8 +1,9 @@
 use Rattle.std.proofs.Common.{◌+◌, ◌≤◌, ℕ, Bool, length, take, arith}
 use Rattle.std.proofs.lemmas.Bool.{and_parts}
+use Rattle.cs_cols.proofs.FoundPlaces.{places_within}
 use Rattle.cs_block.specs.ColumnsView.{seen_columns}
 use Rattle.cs_block.specs.Sought.{passes, row_with}
-use Rattle.cs_block.proofs.SoughtLemmas.{places_within, rows_on}
+use Rattle.cs_block.proofs.SoughtLemmas.{rows_on}
 use Rattle.cs_block.proofs.sought.add_sought.Goals as goal
 
 pub add_rows-requires-clause-known : goal.add_rows-requires-clause-known

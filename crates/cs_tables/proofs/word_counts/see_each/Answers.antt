@@ -1,28 +1,20 @@
-use Rattle.std.proofs.Common.{◌≡◌, ◌∙◌, List, ap, subst, length, length-set, take, take_all, get_or, arith}
-use Rattle.std.proofs.lemmas.List.{length-map}
-use Rattle.cs_base.specs.declared.content.doc.Post.{Post}
-use Rattle.cs_tables.specs.WordCounts.{Counts}
-use Rattle.cs_tables.proofs.WordCountsLemmas.{row_where, rows_counted}
+use Rattle.std.proofs.Common.{◌∙◌, length-set, get_or, arith}
+use Rattle.cs_tables.proofs.WordCountsLemmas.{front_on, front_whole, row_where}
 use Rattle.cs_tables.proofs.word_counts.see_each.Goals as goal
 
 pub loop-i-preserved : goal.loop-i-preserved
 loop-i-preserved c =
-    let low = c.args.low in
-    let high = c.args.high in
-    let listed = c.args.listed.now in
-    let docs = c.args.docs.now in
-    let words = c.args.words.now in
-    let i = c.loop-i.i in
-    let before = c.loop-i.marks in
-    let own = c.requires.own i 0 (omega (arith, c.requires.even, c.loop-i-test.true)) in
+    let l = c.loop-i in
+    let rows = c.args.rows in
+    let now = c.see_where.new.self in
+    let own = c.requires.own l.i 0 (omega (arith, c.requires.seen.even, c.loop-i-test.true)) in
     record {
-      counted = λ rows d w.
-          rows_counted low high listed rows docs words i c.args.marks.now before _ d w c.loop-i-test.true (c.loop-i.invariant.counted rows d w)
-          (row_where low high listed before (get_or docs i 0) (get_or words i 0) c.see_where.new.self (omega (arith, c.requires.sized, c.loop-i.invariant.sized)) own.0 own.1 c.see_where.ensures);
-      sized = length-set before _ c.see_where.new.self ∙ c.loop-i.invariant.sized;
+      counted = front_on c.args.low c.args.high rows l.i c.args.marks.now l.marks _ c.loop-i-test.true
+          (row_where c.args.low c.args.high rows.listed.now l.marks (get_or rows.docs.now l.i 0) (get_or rows.words.now l.i 0) now
+          (omega (arith, c.requires.seen.sized, l.invariant.sized)) own.0 own.1 c.see_where.ensures)
+          l.invariant.counted;
+      sized = length-set l.marks _ now ∙ l.invariant.sized;
     }
 
-pub returns-clause-counted : goal.returns-clause-counted
-returns-clause-counted c = λ rows d w.
-    let whole : take c.loop-i.i rows ≡ rows = take_all c.loop-i.i rows (omega (arith, c.loop-i-test.false, ap length d, length-map rows (λ (p : Post). p.doc))) in
-    subst (λ (xs : List Post). Counts c.args.low c.args.high c.args.listed.now xs c.args.marks.now c.loop-i.marks) whole (c.loop-i.invariant.counted rows d w)
+pub returns : goal.returns
+returns c = front_whole c.args.low c.args.high c.args.rows c.loop-i.i c.args.marks.now c.loop-i.marks c.loop-i-test.false c.loop-i.invariant.counted c.loop-i.invariant.sized

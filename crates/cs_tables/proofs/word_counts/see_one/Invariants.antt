@@ -1,8 +1,5 @@
-use Rattle.std.proofs.Common.{◌≡◌, ◌-◌, List, map, take, get_or, set}
-use Rattle.cs_base.specs.declared.content.doc.Post.{Post}
-use Rattle.cs_tables.specs.WordCounts.{Counts}
+use Rattle.cs_tables.proofs.WordCountsLemmas.{CountsFront, one_marked}
 use Rattle.cs_tables.proofs.word_counts.see_one.Given as goal
 
 abbrev pub invariant-loop-doc : goal.invariant-loop-doc
-invariant-loop-doc l = (rows : List Post) → l.docs ≡ map (λ p. p.doc) rows → l.words ≡ map (λ p. p.word) rows
-    → Counts l.low l.high l.listed (take l.doc-index rows) l.marks (set l.marks (get_or l.words 0 0 - l.low) l.mark)
+invariant-loop-doc l = CountsFront l.low l.high l.rows l.doc-index l.marks (one_marked l.low l.high l.rows l.marks l.mark)
