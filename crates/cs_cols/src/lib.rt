@@ -2,6 +2,7 @@
 //!
 //! Callers see `Cols` as the list of its posts and, beside it, its spare room: how many posts it
 //! can still take without asking for memory. How the columns lie in memory is in no clause.
+//! `find_listed` and `find_between` give the places of those rows of a span that pass a test.
 #![tactic(auto)]
 
 mod block;
