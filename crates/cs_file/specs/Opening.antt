@@ -62,17 +62,17 @@ abbrev pub AreBytes : List ℕ → ℕ → ℕ → Type 0
 AreBytes b at n = All (λ x. x < 2 ^ 8) (part b at n)
 
 -- ---- the header
--- those that count within their limits, and lengths of four bytes
+-- what counts within its limit, section by section, and lengths of four bytes
 pub record IsHeader (h : Header) : Type 0 where
-  pub docs : h.docs ≤ MAX_DOCS
   pub words : h.words ≤ MAX_WORDS
-  pub rows : h.rows ≤ MAX_ROWS
+  pub vocabulary : h.vocabulary_len < 2 ^ 32
+  pub docs : h.docs ≤ MAX_DOCS
+  pub titles : h.titles_len < 2 ^ 32
   pub blocks : h.blocks ≤ h.words
+  pub rows : h.rows ≤ MAX_ROWS
+  pub postings : h.blocks_len < 2 ^ 32
   pub target_from : 1 ≤ h.target
   pub target_to : h.target ≤ MAX_TARGET
-  pub vocabulary : h.vocabulary_len < 2 ^ 32
-  pub titles : h.titles_len < 2 ^ 32
-  pub postings : h.blocks_len < 2 ^ 32
 
 -- the numbers are read of the bytes, which are as many as they say
 pub record IsHeaderOf (b : List ℕ) (h : Header) : Type 0 where
