@@ -3,12 +3,13 @@
 --   short_code, long_code    a code of one byte, and one that goes on
 --   block_length             the bytes of a block
 --   gaps_on                  one gap code more
---   block_bounds             from 8 to 12 bytes a row
-use Rattle.std.proofs.Common.{◌≡◌, ℕ, zero, suc, ◌+◌, ◌*◌, ◌/◌, ◌-◌, ◌<◌, ◌≤◌, ◌^◌, true, false, List, [], ◌∷◌, ◌++◌, length, drop, get_or, refl, sym, ap, ◌∙◌, add-one, arith, length-append, drop-cons, inl, inr}
-use Rattle.std.specs.Prelude.{nat_lt}
-use Rattle.std.proofs.lemmas.Bool.{cases_lt}
+use Rattle.std.proofs.Common.{◌≡◌, ℕ, zero, suc, ◌+◌, ◌*◌, ◌/◌, ◌-◌, ◌<◌, ◌≤◌, ◌^◌, true, false, List, [], ◌∷◌, ◌++◌, length, drop, get_or, refl, sym, ap, ◌∙◌, add-one, arith, length-append, drop-cons}
+use Rattle.std.specs.Prelude.{flat_map, nat_lt}
+use Rattle.std.specs.Int.{w16, w32, to_be_bytes}
+use Rattle.std.proofs.Math.Nat.{mul-suc}
 use Rattle.std.proofs.lemmas.Bool.Decides.{nat_tests}
 use Rattle.std.proofs.lemmas.List.{length-map}
+use Rattle.std.proofs.lemmas.List.Concat.{flat_map-cons}
 use Rattle.cs_base.specs.index.GapCode.{code_in, code}
 use Rattle.cs_base.specs.declared.content.doc.Post.{Post}
 use Rattle.cs_model_index.specs.Blocks.{gap_column, word_column, position_column, score_column, block_bytes}
@@ -56,24 +57,21 @@ code_5 n l =
     let c = last_code (n / 128 / 128 / 128 / 128) in
     omega (arith, a, b, c)
 
--- at most as many bytes as may be used, and at least one
-pub few_bytes : (k n : ℕ) → (1 ≤ length (code_in k n)) × (length (code_in k n) ≤ k + 1)
-few_bytes zero n = let e = last_code n in (omega (arith, e), omega (arith, e))
-few_bytes (suc k) n = let rest = few_bytes k (n / 128) in elim (cases_lt n 128) [
-  | inl less ↦ let one = short_code (suc k) n less in (omega (arith, one), omega (arith, one))
-  | inr more ↦ let on = long_code k n more in (omega (arith, on, rest.0), omega (arith, on, rest.1))
-]
-
 -- ---- blocks
+-- of a column with so many bytes for each row
+column_length : (f : Post → List ℕ) (n : ℕ) → ((r : Post) → length (f r) ≡ n) → (rs : List Post) → length (flat_map f rs) ≡ n * length rs
+column_length f n each [] = omega arith
+column_length f n each (r ∷ rs) =
+    let rest = column_length f n each rs in
+    omega (arith, rest, each r, length-append (f r) (flat_map f rs), ap length (flat_map-cons f r rs), mul-suc n (length rs))
+
 words_length : (lo : ℕ) (rs : List Post) → length (word_column lo rs) ≡ 2 * length rs
 unfolding word_column
-words_length lo [] = refl
-words_length lo (r ∷ rs) = let rest = words_length lo rs in omega (arith, rest)
+words_length lo rs = column_length (λ r. to_be_bytes w16 (r.word - lo)) 2 (λ r. refl) rs
 
 positions_length : (rs : List Post) → length (position_column rs) ≡ 4 * length rs
 unfolding position_column
-positions_length [] = refl
-positions_length (r ∷ rs) = let rest = positions_length rs in omega (arith, rest)
+positions_length rs = column_length (λ r. to_be_bytes w32 r.pos) 4 (λ r. refl) rs
 
 scores_length : (rs : List Post) → length (score_column rs) ≡ length rs
 unfolding score_column
@@ -104,18 +102,3 @@ pub gaps_on : (before i : ℕ) (r : Post) (rs : List Post) → i < length rs →
 gaps_on before i r rs l is =
     ap (λ x. length (gap_column before x)) (drop-cons rs i r l ∙ ap (λ n. get_or rs i r ∷ drop n rs) (sym (add-one i)) ∙ ap (λ x. x ∷ drop (i + 1) rs) (sym is))
     ∙ gap_more before r (drop (i + 1) rs)
-
-gap_bounds : (before : ℕ) (rs : List Post) → (length rs ≤ length (gap_column before rs)) × (length (gap_column before rs) ≤ 5 * length rs)
-unfolding code
-gap_bounds before [] = let z = no_gaps before in (omega (arith, z), omega (arith, z))
-gap_bounds before (r ∷ rs) =
-    let rest = gap_bounds r.doc rs in
-    let one = few_bytes 4 (r.doc - before) in
-    let more = gap_more before r rs in
-    (omega (arith, rest.0, one.0, more), omega (arith, rest.1, one.1, more))
-
-pub block_bounds : (rs : List Post) (lo : ℕ) → (8 * length rs ≤ length (block_bytes rs lo)) × (length (block_bytes rs lo) ≤ 12 * length rs)
-block_bounds rs lo =
-    let g = gap_bounds 0 rs in
-    let l = block_length rs lo in
-    (omega (arith, g.0, l), omega (arith, g.1, l))

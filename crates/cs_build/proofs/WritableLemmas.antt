@@ -28,11 +28,11 @@ use Rattle.cs_model_index.specs.Layout.{title_bytes, blocks_bytes}
 use Rattle.cs_model_index.specs.Numbered.{post_of, numbered, HasWord}
 use Rattle.cs_model_index.specs.Partitions.{rows_of_run}
 use Rattle.cs_model_index.specs.declared.limits.TheConstants.{MAX_BLOCK_WORDS, MAX_TARGET}
+use Rattle.cs_model_index.proofs.BlockSizes.{block_len}
 use Rattle.cs_model_index.proofs.CorpusLemmas.{known_words}
 use Rattle.cs_model_index.proofs.NumberedLemmas.{posts_ascend}
 use Rattle.cs_file.specs.Writable.{BlockFits, CanBeWritten}
 use Rattle.cs_build.specs.Building.{corpus_of_rows}
-use Rattle.cs_build.proofs.LengthLemmas.{block_bounds}
 use Rattle.cs_build.proofs.PartLemmas.{HasWords, in_part, rows_of_part, part_rows, filled_parts}
 
 abbrev Words : Type 0
@@ -106,7 +106,7 @@ bytes_total lo (part ∷ parts) (block ∷ blocks) =
     omega (
       arith,
       rest,
-      (block_bounds block lo).1,
+      (block_len block lo).1,
       sum_by-cons (λ (b : List Post). length b) block blocks,
       length-append (block_bytes block lo) (blocks_bytes (heads_from (lo + length part) (zip parts blocks)) blocks),
     )

@@ -4,6 +4,7 @@ ghost use Rattle.std.specs.Option.{option_map};
 ghost use Rattle.cs_docs.specs.FaultRefusals.{reason_text};
 ghost use Rattle.cs_model.specs.Collection.{refusal_words};
 ghost use Rattle.cs_build.specs.Building.{build_refusal_of};
+ghost use Rattle.cs_build.specs.declared.fault.BuildFault.{BuildFault};
 
 use cs_base::Memory;
 use cs_docs::Reason;
@@ -36,9 +37,6 @@ impl BuildFault {
 }
 
 impl From<Memory> for BuildFault {
-    ghost use Rattle.std.specs.Prelude.{◌≡◌};
-    ghost use Rattle.cs_build.specs.declared.fault.BuildFault.{BuildFault};
-
     ghost from_gives = { λ _ e. e ≡ BuildFault.Memory };
 
     fn from(_: Memory) -> BuildFault {

@@ -163,6 +163,8 @@ fault_along P e (Err x) h is = subst P (sym is) h
 -- ---- titles
 -- what is known where the title's bytes were read
 pub record TitleRead (i : IndexView) (told : Option (List ℕ)) (d at : ℕ) (read : List ℕ) : Type 0 where
+  pub index : IsIndex i
+  pub known : d < i.docs
   pub at_is : at ≡ title_place i d
   pub read_is : ForSome told (λ b. read ≡ part b (title_place i d) (title_len i d))
 
@@ -173,9 +175,10 @@ pub record TitleSpan (i : IndexView) (d at from to : ℕ) : Type 0 where
   pub len_is : to - from ≡ title_len i d
   pub within : at + (to - from) ≤ block_place i (length i.heads)
 
-pub title_span : (i own : IndexView) (d : ℕ) (os : List ℕ) (from : ℕ) → own ≡ i → IsIndex i → os ≡ own.offsets → d < i.docs → from ≡ get_or os d 0
+pub title_span : {i own : IndexView} {d : ℕ} {os : List ℕ} {from : ℕ} → own ≡ i → IsIndex own → os ≡ own.offsets → d < i.docs → from ≡ get_or os d 0
     → TitleSpan i d (own.titles_at + from) from (get_or os (d + 1) 0)
-title_span i own d os from seen is same lt from_is =
+title_span {i} {own} {d} {os} {from} seen own_is same lt from_is =
+    let is = subst IsIndex seen own_is in
     let sp = spans i is d lt in
     let all : os ≡ i.offsets = same ∙ ap (λ (v : IndexView). v.offsets) seen in
     let a : from ≡ get_or i.offsets d 0 = from_is ∙ ap (λ (x : List ℕ). get_or x d 0) all in
@@ -191,8 +194,10 @@ pub title_found : {i own : IndexView} {told : Option (List ℕ)} {d : ℕ} {os :
 title_found {i} {own} {told} {d} {os} {from} seen is same lt from_is found =
     let at = own.titles_at + from in
     let to = get_or os (d + 1) 0 in
-    let span = title_span i own d os from seen (subst IsIndex seen is) same lt from_is in
+    let span = title_span seen is same lt from_is in
     record {
+      index = subst IsIndex seen is;
+      known = lt;
       at_is = span.at_is;
       read_is = λ b t. found b t ∙ ap (λ (n : ℕ). part b at (to - n)) (sym from_is) ∙ ap (λ (n : ℕ). part b n (to - from)) span.at_is
           ∙ ap (part b (title_place i d)) span.len_is;
@@ -215,16 +220,16 @@ module _ {i : IndexView} {told : Option (List ℕ)} {d at : ℕ} {read : List �
     read = h.read_is;
   }
 
-  pub title_stood : (b : List ℕ) (r : Result (List ℕ) FetchFault) → told ≡ Some b → StandsFor b i → IsIndex i → d < i.docs → ReadsText read at r
+  pub title_stood : (b : List ℕ) (r : Result (List ℕ) FetchFault) → told ≡ Some b → StandsFor b i → ReadsText read at r
       → IfOk r (λ t. t ≡ title_in b d)
-  title_stood b (Ok text) t s is lt answer = answer.0 ∙ h.read_is b t ∙ sym (stood_title b i s is d lt).bytes
-  title_stood b (Err e) t s is lt answer = tt
+  title_stood b (Ok text) t s answer = answer.0 ∙ h.read_is b t ∙ sym (stood_title b i s h.index d h.known).bytes
+  title_stood b (Err e) t s answer = tt
 
-  pub title_unchanged : (b : List ℕ) (r : Result (List ℕ) FetchFault) → told ≡ Some b → StandsFor b i → IsIndex i → d < i.docs → ReadsText read at r
+  pub title_unchanged : (b : List ℕ) (r : Result (List ℕ) FetchFault) → told ≡ Some b → StandsFor b i → ReadsText read at r
       → is_changed_of_fetch r ≡ false
-  title_unchanged b (Ok text) t s is lt answer = refl
-  title_unchanged b (Err fetches.Read) t s is lt answer = refl
-  title_unchanged b (Err fetches.Memory) t s is lt answer = refl
-  title_unchanged b (Err (fetches.Changed rule place)) t s is lt answer =
-      let same : read ≡ title_in b d = h.read_is b t ∙ sym (stood_title b i s is d lt).bytes in
-      absurd (true≢false (sym (ap is_utf8 same ∙ (stood_title b i s is d lt).text) ∙ answer.0))
+  title_unchanged b (Ok text) t s answer = refl
+  title_unchanged b (Err fetches.Read) t s answer = refl
+  title_unchanged b (Err fetches.Memory) t s answer = refl
+  title_unchanged b (Err (fetches.Changed rule place)) t s answer =
+      let same : read ≡ title_in b d = h.read_is b t ∙ sym (stood_title b i s h.index d h.known).bytes in
+      absurd (true≢false (sym (ap is_utf8 same ∙ (stood_title b i s h.index d h.known).text) ∙ answer.0))

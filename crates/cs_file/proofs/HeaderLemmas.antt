@@ -73,16 +73,20 @@ all_none : {R : Type 0} (rs : List (Option R)) → first_reason rs ≡ None → 
 all_none [] e = tt
 all_none (o ∷ rs) e = (none_first o rs e, all_none rs (none_rest o rs e))
 
+-- a number that was found to be at most another
+at_most : (a b at : ℕ) → unless (nat_le a b) at ≡ None → a ≤ b
+at_most a b at e = leb-true a b (unless_none (nat_le a b) at e)
+
 pub ranges : (h : Header) (q : Option ℕ) → q ≡ first_reason (field_breaks h) → tried 3 q ≡ None → h.vocabulary_len < 2 ^ 32 → h.titles_len < 2 ^ 32
     → h.blocks_len < 2 ^ 32 → IsHeader (record h { spare = 0 })
 ranges h q is fine v t b =
     let f = all_none (field_breaks h) (sym is ∙ tried_none 3 q fine) in
     let g = and_parts _ _ (unless_none _ _ f.1.1.1.1.0) in
     record {
-      docs = leb-true _ _ (unless_none _ _ f.0);
-      words = leb-true _ _ (unless_none _ _ f.1.0);
-      rows = leb-true _ _ (unless_none _ _ f.1.1.0);
-      blocks = leb-true _ _ (unless_none _ _ f.1.1.1.0);
+      docs = at_most _ _ _ f.0;
+      words = at_most _ _ _ f.1.0;
+      rows = at_most _ _ _ f.1.1.0;
+      blocks = at_most _ _ _ f.1.1.1.0;
       target_from = leb-true _ _ g.0;
       target_to = leb-true _ _ g.1;
       vocabulary = v;

@@ -8,18 +8,19 @@
 --   head_shaped           a head that goes with so many bytes
 --   few_heads             there are no more blocks than words
 --   met_between           the blocks between two places where the blocks are parted are those that hold some words
-use Rattle.std.proofs.Common.{◌≡◌, ℕ, zero, suc, ◌+◌, ◌-◌, ◌<◌, ◌≤◌, ◌&&◌, Bool, true, false, List, [], ◌∷◌, length, get_or, Option, Some, None, refl, sym}
+use Rattle.std.proofs.Common.{◌≡◌, ℕ, zero, suc, ◌+◌, ◌<◌, ◌≤◌, ◌&&◌, Bool, true, false, List, [], ◌∷◌, length, get_or, Option, Some, None, refl, sym}
 use Rattle.std.proofs.Common.{ap, subst, ◌∙◌, arith, inl, inr}
 use Rattle.std.specs.Prelude.{nat_le, nat_lt}
-use Rattle.std.specs.List.{list_all, slice_get}
+use Rattle.std.specs.List.{list_all}
 use Rattle.std.specs.List.Sorted.{IsPartitionedBy, IsPartitionPoint}
 use Rattle.std.proofs.lemmas.Bool.{and_parts, leb-true, leb-false, ltb-false, le-leb, le-ltb, lt-leb, lt-ltb, eqb-true, cases_lt}
 use Rattle.std.proofs.lemmas.Bool.Decides.{nat_tests}
 use Rattle.cs_base.specs.declared.index.block.BlockHead.{BlockHead}
 use Rattle.cs_base.specs.declared.content.limits.TheConstants.{MAX_WORDS}
 use Rattle.cs_model_index.specs.Blocks.{IsShaped}
-use Rattle.cs_model_index.specs.FileRules.{laid, last_value, words_end, is_joined, is_sized}
+use Rattle.cs_model_index.specs.FileRules.{laid, words_end, is_joined, is_sized}
 use Rattle.cs_model_index.specs.declared.limits.TheConstants.{ENTRY_BYTES}
+use Rattle.cs_model_index.proofs.SectionLemmas.{end_from, end_is}
 use Rattle.cs_file.specs.Indexes.{IndexView, IsIndex, AreMet}
 
 -- ---- blocks that lie one behind the other
@@ -39,36 +40,19 @@ joined_from at last (h ∷ hs) e =
 pub joined_heads : (i : IndexView) → IsIndex i → AreJoined 0 i.heads
 joined_heads i is = joined_from 0 None i.heads is.joined
 
--- where the words of some blocks end
-end_by : ℕ → List BlockHead → ℕ
-end_by lo [] = lo
-end_by lo (h ∷ hs) = end_by (h.lo + h.words) hs
-
-end_got : (h : BlockHead) (hs : List BlockHead) → words_end (slice_get (h ∷ hs) (length hs)) ≡ end_by (h.lo + h.words) hs
-unfolding end_by
-end_got h [] = refl
-end_got h (g ∷ hs) = end_got g hs
-
-end_is : (hs : List BlockHead) → words_end (last_value hs) ≡ end_by 0 hs
-unfolding end_by
-end_is [] = refl
-end_is (h ∷ hs) =
-    let less : length (h ∷ hs) - 1 ≡ length hs = omega arith in
-    ap (λ (n : ℕ). words_end (slice_get (h ∷ hs) n)) less ∙ end_got h hs
-
 -- a block's first word isn't before the first of all, and its last not behind the last of all
 record Stands (lo end : ℕ) (h : BlockHead) : Type 0 where
   from : lo ≤ h.lo
   filled : 1 ≤ h.words
   to : h.lo + h.words ≤ end
 
-ends_later : (lo : ℕ) (hs : List BlockHead) → AreJoined lo hs → lo ≤ end_by lo hs
-unfolding AreJoined end_by
+ends_later : (lo : ℕ) (hs : List BlockHead) → AreJoined lo hs → lo ≤ end_from lo hs
+unfolding AreJoined end_from
 ends_later lo [] j = omega arith
-ends_later lo (h ∷ hs) j = let rest : h.lo + h.words ≤ end_by (h.lo + h.words) hs = ends_later (h.lo + h.words) hs j.2 in omega (arith, j.0, rest)
+ends_later lo (h ∷ hs) j = let rest : h.lo + h.words ≤ end_from (h.lo + h.words) hs = ends_later (h.lo + h.words) hs j.2 in omega (arith, j.0, rest)
 
-stands : (lo : ℕ) (hs : List BlockHead) (k : ℕ) (d : BlockHead) → AreJoined lo hs → k < length hs → Stands lo (end_by lo hs) (get_or hs k d)
-unfolding AreJoined end_by
+stands : (lo : ℕ) (hs : List BlockHead) (k : ℕ) (d : BlockHead) → AreJoined lo hs → k < length hs → Stands lo (end_from lo hs) (get_or hs k d)
+unfolding AreJoined end_from
 stands lo [] k d j lt = absurd (omega arith)
 stands lo (h ∷ hs) zero d j lt = record { from = omega (arith, j.0); filled = j.1; to = ends_later (h.lo + h.words) hs j.2 }
 stands lo (h ∷ hs) (suc k) d j lt =
@@ -109,8 +93,8 @@ head_filled i is k d lt = (stands 0 i.heads k d (joined_heads i is) lt).filled
 pub head_within : (i : IndexView) → IsIndex i → (k : ℕ) (d : BlockHead) → k < length i.heads
     → (get_or i.heads k d).lo + (get_or i.heads k d).words ≤ length i.words
 head_within i is k d lt =
-    let to : (get_or i.heads k d).lo + (get_or i.heads k d).words ≤ end_by 0 i.heads = (stands 0 i.heads k d (joined_heads i is) lt).to in
-    let end : end_by 0 i.heads ≡ length i.words = sym (end_is i.heads) ∙ is.end in
+    let to : (get_or i.heads k d).lo + (get_or i.heads k d).words ≤ end_from 0 i.heads = (stands 0 i.heads k d (joined_heads i is) lt).to in
+    let end : end_from 0 i.heads ≡ length i.words = sym (end_is i.heads) ∙ is.end in
     omega (arith, to, end)
 
 sized_at : (hs : List BlockHead) (k : ℕ) (d : BlockHead) → list_all is_sized hs ≡ true → k < length hs → is_sized (get_or hs k d) ≡ true
@@ -126,16 +110,16 @@ head_shaped i is k d lt =
     let few : length i.words ≤ MAX_WORDS = is.few_words in
     record { size_is = refl; rows = leb-true _ _ p.0; least = leb-true _ _ q.0; most = leb-true _ _ q.1; words = omega (arith, head_within i is k d lt, few) }
 
-filled_by : (lo : ℕ) (hs : List BlockHead) → AreJoined lo hs → lo + length hs ≤ end_by lo hs
-unfolding AreJoined end_by
+filled_by : (lo : ℕ) (hs : List BlockHead) → AreJoined lo hs → lo + length hs ≤ end_from lo hs
+unfolding AreJoined end_from
 filled_by lo [] j = omega arith
-filled_by lo (h ∷ hs) j = let rest : h.lo + h.words + length hs ≤ end_by (h.lo + h.words) hs =
+filled_by lo (h ∷ hs) j = let rest : h.lo + h.words + length hs ≤ end_from (h.lo + h.words) hs =
     filled_by (h.lo + h.words) hs j.2 in omega (arith, j.0, j.1, rest)
 
 pub few_heads : (i : IndexView) → IsIndex i → length i.heads ≤ length i.words
 few_heads i is =
-    let few : length i.heads ≤ end_by 0 i.heads = (let f = filled_by 0 i.heads (joined_heads i is) in omega (arith, f)) in
-    let end : end_by 0 i.heads ≡ length i.words = sym (end_is i.heads) ∙ is.end in
+    let few : length i.heads ≤ end_from 0 i.heads = (let f = filled_by 0 i.heads (joined_heads i is) in omega (arith, f)) in
+    let end : end_from 0 i.heads ≡ length i.words = sym (end_is i.heads) ∙ is.end in
     omega (arith, few, end)
 
 -- ---- the blocks that hold some words

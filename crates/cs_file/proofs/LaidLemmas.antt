@@ -108,12 +108,12 @@ module _ {X : Type 0} (holds : Placed X → Bool) (size first : ℕ) (xs : List 
       rest_on holds (λ x. size) first xs i (first + size * i) _ (slice_index_or xs i d) lt (get_or_default xs i d (slice_index_or xs i d) lt)
       (omega (arith, more)) (sym is ∙ keeps) h
 
-  pub even_broken : (i n : ℕ) (d : X) (b : Bool) → i < length xs → n ≡ size
+  pub even_broken : (i at : ℕ) (d : X) (b : Bool) → i < length xs → at ≡ first + size * i
       → b ≡ holds (record { value = slice_index_or xs i d; last = before xs i; next = slice_get (drop (suc i) xs) 0; at = first + size * i }) → b ≡ false
-      → RestOfEven holds size first xs i → Some (first + n * i) ≡ break_of holds (laid (λ x. size) first None xs)
+      → RestOfEven holds size first xs i → Some at ≡ break_of holds (laid (λ x. size) first None xs)
   unfolding RestOfEven
-  even_broken i n d b lt same is breaks h =
-      ap (λ k. Some (first + k * i)) same ∙ rest_broken holds (λ x. size) first xs i (first + size * i) (slice_index_or xs i d) lt
+  even_broken i at d b lt same is breaks h =
+      ap (λ k. Some k) same ∙ rest_broken holds (λ x. size) first xs i (first + size * i) (slice_index_or xs i d) lt
       (get_or_default xs i d (slice_index_or xs i d) lt) (sym is ∙ breaks) h
 
   pub even_end : (i : ℕ) → length xs ≤ i → RestOfEven holds size first xs i → None ≡ break_of holds (laid (λ x. size) first None xs)

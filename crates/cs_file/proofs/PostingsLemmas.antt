@@ -10,7 +10,7 @@ use Rattle.std.proofs.Common.{◌≡◌, ℕ, zero, suc, ◌+◌, ◌<◌, ◌�
 use Rattle.std.proofs.Common.{◌∙◌, arith, drop-drop}
 use Rattle.std.specs.Prelude.{All, count_by, ◌==◌}
 use Rattle.std.specs.List.{sum_by, list_all, list_any, range_with_len}
-use Rattle.std.specs.Option.{option_map, option_or}
+use Rattle.std.specs.Option.{option_or}
 use Rattle.std.proofs.lemmas.List.{append-nil, append_assoc, length-map, take_all}
 use Rattle.std.proofs.lemmas.List.Elements.{All-map}
 use Rattle.std.proofs.lemmas.List.Sums.{sum_by_more, sum_by_more_le}
@@ -20,15 +20,15 @@ use Rattle.cs_base.specs.declared.content.doc.Post.{Post}
 use Rattle.cs_base.specs.outside.Outside.{part}
 use Rattle.cs_block.proofs.LawsLemmas.{unique}
 use Rattle.cs_model.specs.Scores.{SCORES}
-use Rattle.cs_model_index.specs.BlockRules.{judged, rows_read, IsBlock}
+use Rattle.cs_model_index.specs.BlockRules.{rows_read, IsBlock}
 use Rattle.cs_model_index.specs.Blocks.{IsShaped}
-use Rattle.cs_model_index.specs.FileRules.{in_file, blocks_break}
+use Rattle.cs_model_index.specs.FileRules.{blocks_break}
 use Rattle.cs_model_index.specs.Layout.{Header}
 use Rattle.cs_model_index.specs.Sections.{header_of, contents_of, blocks_in, blocks_at}
 use Rattle.cs_file.specs.declared.part.BlockPart.{BlockPart}
 use Rattle.cs_file.specs.declared.fault.OpenFault.{OpenFault}
-use Rattle.cs_file.specs.Opening.{AreBytes, Refuses, IsHeaderOf, blocks_of, blocks_stage, heads_of}
-use Rattle.cs_file.specs.Parting.{part_by, parts_by}
+use Rattle.cs_file.specs.Opening.{AreBytes, Refuses, IsHeaderOf, block_broken, blocks_of, blocks_stage, heads_of}
+use Rattle.cs_file.specs.Parting.{part_by, part_read, parts_by}
 use Rattle.cs_file.proofs.BytesLemmas.{more_bytes, bytes_at}
 use Rattle.cs_file.proofs.FetchLemmas.{nothing}
 use Rattle.cs_file.proofs.MarkedNumbers.{any_posts, count_posts}
@@ -65,7 +65,7 @@ decoded_within head docs bytes posts words d =
 pub part_is : (head : BlockHead) (docs : ℕ) (bytes : List ℕ) (posts : List Post) (words : List ℕ) (p : BlockPart) → docs < 2 ^ 32
     → IsShaped head (length bytes) → Decoded head docs bytes posts words → p.head ≡ head
     → p.whole ≡ list_all (λ n. list_any (λ w. w == n) words) (range_with_len head.lo head.words) → p.first ≡ count_by (λ w. w == head.lo) words
-    → p ≡ part_by head (rows_read head bytes)
+    → p ≡ part_read head bytes
 part_is head docs bytes posts words p few shaped d h w f =
     let rows : posts ≡ rows_read head bytes = read_rows head docs posts bytes few shaped d.block in
     let whole : p.whole ≡ list_all (λ n. list_any (λ post. post.word == n) posts) (range_with_len head.lo head.words) =
@@ -112,20 +112,20 @@ head_first heads i lt = let one : i + 1 ≡ suc i = omega arith in behind heads 
     behind (x ∷ hs) (suc i) lt = behind hs i (omega arith)
 
 break_first : (docs at : ℕ) (x : BlockHead) (hs : List BlockHead) (b : List ℕ)
-    → blocks_break docs at (x ∷ hs) (drop at b) ≡ option_or (option_map (in_file at) (judged SCORES x docs (part b at x.len)))
+    → blocks_break docs at (x ∷ hs) (drop at b) ≡ option_or (block_broken at x docs (part b at x.len))
     (blocks_break docs (at + x.len) hs (drop (at + x.len) b))
 unfolding blocks_break
-break_first docs at x hs b = ap (λ (y : List ℕ). option_or (option_map (in_file at) (judged SCORES x docs (part b at x.len)))
+break_first docs at x hs b = ap (λ (y : List ℕ). option_or (block_broken at x docs (part b at x.len))
     (blocks_break docs (at + x.len) hs y)) (drop-drop x.len at b)
 
 parts_first : (at : ℕ) (x : BlockHead) (hs : List BlockHead) (b : List ℕ)
-    → parts_by (x ∷ hs) (blocks_in (x ∷ hs) (drop at b)) ≡ part_by x (rows_read x (part b at x.len)) ∷ parts_by hs (blocks_in hs (drop (at + x.len) b))
+    → parts_by (x ∷ hs) (blocks_in (x ∷ hs) (drop at b)) ≡ part_read x (part b at x.len) ∷ parts_by hs (blocks_in hs (drop (at + x.len) b))
 unfolding parts_by blocks_in
-parts_first at x hs b = ap (λ (y : List ℕ). part_by x (rows_read x (part b at x.len)) ∷ parts_by hs (blocks_in hs y)) (drop-drop x.len at b)
+parts_first at x hs b = ap (λ (y : List ℕ). part_read x (part b at x.len) ∷ parts_by hs (blocks_in hs y)) (drop-drop x.len at b)
 
 pub reads_on : (b : List ℕ) (h : Header) (heads : List BlockHead) (i at : ℕ) (parts now : List BlockPart) (p : BlockPart) → i < length heads
-    → option_map (in_file at) (judged SCORES (get_or heads i nothing) h.docs (part b at (get_or heads i nothing).len)) ≡ None
-    → p ≡ part_by (get_or heads i nothing) (rows_read (get_or heads i nothing) (part b at (get_or heads i nothing).len)) → now ≡ parts ++ p ∷ []
+    → block_broken at (get_or heads i nothing) h.docs (part b at (get_or heads i nothing).len) ≡ None
+    → p ≡ part_read (get_or heads i nothing) (part b at (get_or heads i nothing).len) → now ≡ parts ++ p ∷ []
     → BlocksRead b h heads i at parts → BlocksRead b h heads (i + 1) (at + (get_or heads i nothing).len) now
 reads_on b h heads i at parts now p lt fine is added r =
     let x = get_or heads i nothing in
@@ -145,12 +145,12 @@ or_some : (o p : Option Broken) (x : Broken) → o ≡ Some x → option_or o p 
 or_some o p x e = ap (λ (y : Option Broken). option_or y p) e
 
 pub read_refused : (b : List ℕ) (h : Header) (heads : List BlockHead) (i at : ℕ) (parts : List BlockPart) (e : OpenFault) → i < length heads
-    → Refuses (option_map (in_file at) (judged SCORES (get_or heads i nothing) h.docs (part b at (get_or heads i nothing).len))) e
+    → Refuses (block_broken at (get_or heads i nothing) h.docs (part b at (get_or heads i nothing).len)) e
     → BlocksRead b h heads i at parts → Refuses (blocks_stage b) e
 read_refused b h heads i at parts e lt refused r =
     let x = get_or heads i nothing in
     let hs = drop (i + 1) heads in
-    let found = option_map (in_file at) (judged SCORES x h.docs (part b at x.len)) in
+    let found = block_broken at x h.docs (part b at x.len) in
     let later = blocks_break h.docs (at + x.len) hs (drop (at + x.len) b) in
     let stage : blocks_stage b ≡ option_or found later = sym r.told
     ∙ ap (λ (y : List BlockHead). blocks_break h.docs at y (drop at b)) (head_first heads i lt) ∙ break_first h.docs at x hs b in

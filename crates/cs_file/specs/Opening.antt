@@ -19,12 +19,13 @@
 --   bad_joint h hs, bad_size h hs, directory_judged h ws hs       rules 10 to 12 of heads
 --   bad_offset h os, bad_title b     where rules 8 and 9 are broken
 --   header_judged bytes size         rules 2 to 4 of the header's bytes
+--   block_broken at head docs bytes     the first of rules 13 to 17 that the bytes of a block at a place break, with its place in the file
 --   file_words b, offsets_of b, file_titles b, heads_of b, blocks_of b       what is read of the bytes
 use Rattle.std.specs.Prelude.{◌≡◌, ℕ, zero, suc, ◌+◌, true, All, if◌then◌else◌, ◌<◌, ◌≤◌, ◌^◌, ◌==◌, ◌&&◌, List, [], ◌∷◌, length, take, Option, None, Some}
 use Rattle.std.specs.Prelude.{Result, MatchResult}
 use Rattle.std.specs.List.{list_all, slice_get, sum_by}
 use Rattle.std.specs.List.Sorted.{IsStrictlySortedBy}
-use Rattle.std.specs.Option.{ForSome, option_or, unwrap_or}
+use Rattle.std.specs.Option.{ForSome, option_map, option_or, unwrap_or}
 use Rattle.std.specs.Ordering.{nat_cmp}
 use Rattle.std.specs.Cmp.Lexicographic.{slice_cmp}
 use Rattle.std.specs.Str.{bytes_eq, is_utf8}
@@ -34,10 +35,11 @@ use Rattle.cs_base.specs.declared.content.doc.Post.{Post}
 use Rattle.cs_base.specs.outside.Outside.{part}
 use Rattle.cs_base.specs.declared.content.limits.TheConstants.{MAX_DOCS, MAX_WORDS, MAX_ROWS}
 use Rattle.cs_model.specs.First.{unless, first_reason}
-use Rattle.cs_model_index.specs.BlockRules.{broken_at}
+use Rattle.cs_model.specs.Scores.{SCORES}
+use Rattle.cs_model_index.specs.BlockRules.{broken_at, judged}
 use Rattle.cs_model_index.specs.FileRules.{laid, last_value, words_end, is_joined, is_of_one_kind, is_sized, break_of, is_onward, last_offset_at, tried}
 use Rattle.cs_model_index.specs.FileRules.{field_breaks, is_length, is_word, word_size, follows, header_rules, vocabulary_rules, title_rules, directory_rules}
-use Rattle.cs_model_index.specs.FileRules.{blocks_break, parting_rules}
+use Rattle.cs_model_index.specs.FileRules.{blocks_break, in_file, parting_rules}
 use Rattle.cs_model_index.specs.Layout.{Header, MAGIC, vocabulary_bytes}
 use Rattle.cs_model_index.specs.Numbered.{word_at}
 use Rattle.cs_model_index.specs.Partitions.{is_facet}
@@ -62,17 +64,17 @@ abbrev pub AreBytes : List ℕ → ℕ → ℕ → Type 0
 AreBytes b at n = All (λ x. x < 2 ^ 8) (part b at n)
 
 -- ---- the header
--- those that count within their limits, and lengths of four bytes
+-- what counts within its limit, section by section, and lengths of four bytes
 pub record IsHeader (h : Header) : Type 0 where
-  pub docs : h.docs ≤ MAX_DOCS
   pub words : h.words ≤ MAX_WORDS
-  pub rows : h.rows ≤ MAX_ROWS
+  pub vocabulary : h.vocabulary_len < 2 ^ 32
+  pub docs : h.docs ≤ MAX_DOCS
+  pub titles : h.titles_len < 2 ^ 32
   pub blocks : h.blocks ≤ h.words
+  pub rows : h.rows ≤ MAX_ROWS
+  pub postings : h.blocks_len < 2 ^ 32
   pub target_from : 1 ≤ h.target
   pub target_to : h.target ≤ MAX_TARGET
-  pub vocabulary : h.vocabulary_len < 2 ^ 32
-  pub titles : h.titles_len < 2 ^ 32
-  pub postings : h.blocks_len < 2 ^ 32
 
 -- the numbers are read of the bytes, which are as many as they say
 pub record IsHeaderOf (b : List ℕ) (h : Header) : Type 0 where
@@ -196,6 +198,10 @@ directory_judged h ws hs =
 -- rules 13 to 17
 unfoldable pub blocks_stage : List ℕ → Option Broken
 blocks_stage b = blocks_break (header_of b).docs (blocks_at (header_of b)) (contents_of b).heads (contents_of b).bytes.blocks
+
+-- where they are broken by one block; None where it keeps them
+abbrev pub block_broken : ℕ → BlockHead → ℕ → List ℕ → Option Broken
+block_broken at head docs bytes = option_map (in_file at) (judged SCORES head docs bytes)
 
 -- rule 18
 unfoldable pub parting_stage : List ℕ → Option Broken

@@ -3,6 +3,7 @@
 -- Source: this engine's own.
 --
 --   part_by h posts           what rule 18 asks of a block: its head, whether each word has a row, and how many rows the first has
+--   part_read h bytes         the same of a block whose posts are read of these bytes
 --   parts_by hs blocks        the same of blocks
 --   no_part                   a block of nothing
 --   is_closed_by target words p next       a block that the next one follows has no room for that one's first word
@@ -12,6 +13,7 @@ use Rattle.std.specs.Prelude.{◌≡◌, ℕ, ◌+◌, ◌<◌, Bool, true, fals
 use Rattle.std.specs.List.{list_all, list_any, range_with_len}
 use Rattle.cs_base.specs.declared.index.block.BlockHead.{BlockHead}
 use Rattle.cs_base.specs.declared.content.doc.Post.{Post}
+use Rattle.cs_model_index.specs.BlockRules.{rows_read}
 use Rattle.cs_model_index.specs.Numbered.{word_at}
 use Rattle.cs_model_index.specs.Partitions.{is_alike, is_full, is_light}
 use Rattle.cs_file.specs.declared.part.BlockPart.{BlockPart}
@@ -23,6 +25,10 @@ part_by h posts = record {
   whole = list_all (λ n. list_any (λ post. post.word == n) posts) (range_with_len h.lo h.words);
   first = count_by (λ post. post.word == h.lo) posts;
 }
+
+-- of bytes that break a rule whatever is read of them
+abbrev pub part_read : BlockHead → List ℕ → BlockPart
+part_read h bytes = part_by h (rows_read h bytes)
 
 -- one for each head that has a block
 unfoldable pub parts_by : List BlockHead → List (List Post) → List BlockPart

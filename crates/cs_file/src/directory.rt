@@ -9,8 +9,8 @@ ghost use Rattle.cs_model_index.specs.declared.limits.TheConstants.{ENTRY_BYTES}
 ghost use Rattle.cs_file.specs.CallAnswers.{is_read_of_open};
 ghost use Rattle.cs_file.specs.HeaderView.{seen_header};
 ghost use Rattle.cs_file.specs.Indexes.{CausedReads};
-ghost use Rattle.cs_file.specs.Opening.{AreBytes, Judges, IsHeader, HasHeader, HasHeads, bad_joint, bad_size, before, directory_stage, directory_judged};
-ghost use Rattle.cs_file.specs.Opening.{heads_of, file_words};
+ghost use Rattle.cs_file.specs.Opening.{AreBytes, Judges, IsHeader, HasHeader, HasHeads, before, file_words, heads_of};
+ghost use Rattle.cs_file.specs.Opening.{bad_joint, bad_size, directory_judged, directory_stage};
 
 use crate::fault::OpenFault;
 use crate::header::Header;
@@ -128,10 +128,20 @@ fn bad_start(heads: &[BlockHead], first: u64) -> Option<u64>
 {
     for i in 0..heads.len() {
         if !is_joined(heads, i) {
-            return Some(first + u64::from(ENTRY_BYTES) * i as u64);
+            return Some(entry_at(first, i));
         }
     }
     None
+}
+
+/// The place of entry `i` of the directory, whose first stands at a place.
+pub(crate) fn entry_at(first: u64, i: usize) -> u64
+    requires few { i < MAX_WORDS }
+    requires places { first < 2 ^ 40 }
+
+    ensures { result ≡ first + ENTRY_BYTES * i }
+{
+    first + u64::from(ENTRY_BYTES) * i as u64
 }
 
 // Whether block `i` begins where the one before ends, and has a word.
@@ -155,7 +165,7 @@ fn bad_kind(heads: &[BlockHead], first: u64, words: &[Word]) -> Option<u64>
 {
     for i in 0..heads.len() {
         if !is_of_one_kind(words, &heads[i]) {
-            return Some(first + u64::from(ENTRY_BYTES) * i as u64);
+            return Some(entry_at(first, i));
         }
     }
     None
@@ -189,7 +199,7 @@ fn bad_shape(heads: &[BlockHead], first: u64) -> Option<u64>
 {
     for i in 0..heads.len() {
         if !is_sized(&heads[i]) {
-            return Some(first + u64::from(ENTRY_BYTES) * i as u64);
+            return Some(entry_at(first, i));
         }
     }
     None

@@ -1,4 +1,9 @@
 //! Why an index file isn't written, opened or read.
+ghost use Rattle.std.specs.Prelude.{◌≡◌};
+ghost use Rattle.cs_file.specs.declared.fault.FetchFault.{FetchFault};
+ghost use Rattle.cs_file.specs.declared.fault.OpenFault.{OpenFault};
+ghost use Rattle.cs_file.specs.declared.fault.WriteFault.{WriteFault};
+
 use cs_base::Memory;
 
 /// What `write_index` answers where it doesn't put the whole file.
@@ -8,6 +13,14 @@ pub enum WriteFault {
     Sink,
     /// Memory ran out.
     Memory,
+}
+
+impl From<Memory> for WriteFault {
+    ghost from_gives = { λ _ e. e ≡ WriteFault.Memory };
+
+    fn from(_: Memory) -> WriteFault {
+        WriteFault::Memory
+    }
 }
 
 /// What `open_index` answers where it opens none.
@@ -42,21 +55,7 @@ pub enum FetchFault {
     Memory,
 }
 
-impl From<Memory> for WriteFault {
-    ghost use Rattle.std.specs.Prelude.{◌≡◌};
-    ghost use Rattle.cs_file.specs.declared.fault.WriteFault.{WriteFault};
-
-    ghost from_gives = { λ _ e. e ≡ WriteFault.Memory };
-
-    fn from(_: Memory) -> WriteFault {
-        WriteFault::Memory
-    }
-}
-
 impl From<Memory> for OpenFault {
-    ghost use Rattle.std.specs.Prelude.{◌≡◌};
-    ghost use Rattle.cs_file.specs.declared.fault.OpenFault.{OpenFault};
-
     ghost from_gives = { λ _ e. e ≡ OpenFault.Memory };
 
     fn from(_: Memory) -> OpenFault {
@@ -65,9 +64,6 @@ impl From<Memory> for OpenFault {
 }
 
 impl From<Memory> for FetchFault {
-    ghost use Rattle.std.specs.Prelude.{◌≡◌};
-    ghost use Rattle.cs_file.specs.declared.fault.FetchFault.{FetchFault};
-
     ghost from_gives = { λ _ e. e ≡ FetchFault.Memory };
 
     fn from(_: Memory) -> FetchFault {

@@ -7,11 +7,12 @@ ghost use Rattle.cs_model_index.specs.Partitions.{is_full, is_light};
 ghost use Rattle.cs_model_index.specs.declared.limits.TheConstants.{ENTRY_BYTES};
 ghost use Rattle.cs_file.specs.Parting.{HasMarks, is_closed_by, keeps_part, no_part};
 
+use crate::directory::entry_at;
 use crate::kinds::are_alike;
 use crate::part::BlockPart;
 use crate::reading::zeros;
 use cs_base::{BlockHead, Memory, Word};
-use cs_model_index::{ENTRY_BYTES, MAX_BLOCK_WORDS};
+use cs_model_index::MAX_BLOCK_WORDS;
 use std::alloc::Global;
 
 /// What rule 18 asks of a block whose rows have these words.
@@ -67,7 +68,7 @@ pub(crate) fn bad_part(words: &[Word], parts: &[BlockPart], target: u32, first: 
 {
     for i in 0..parts.len() {
         if !keeps_part(words, parts, i, target) {
-            return Some(first + u64::from(ENTRY_BYTES) * i as u64);
+            return Some(entry_at(first, i));
         }
     }
     None

@@ -1,19 +1,16 @@
 //! The blocks of an index file.
 ghost use Rattle.std.specs.Prelude.{◌≡◌, ◌+◌, ◌≤◌, ◌<◌, ◌^◌, ◌++◌, ◌∷◌, [], All, false, length, IfOk, OnOk};
 ghost use Rattle.std.specs.List.{sum_by};
-ghost use Rattle.std.specs.Option.{ForSome, option_map};
+ghost use Rattle.std.specs.Option.{ForSome};
 ghost use Rattle.cs_base.specs.outside.Outside.{part};
 ghost use Rattle.cs_base.specs.declared.content.limits.TheConstants.{MAX_ROWS, MAX_WORDS};
-ghost use Rattle.cs_model.specs.Scores.{SCORES};
-ghost use Rattle.cs_model_index.specs.BlockRules.{judged, rows_read};
 ghost use Rattle.cs_model_index.specs.Blocks.{IsShaped};
-ghost use Rattle.cs_model_index.specs.FileRules.{in_file};
 ghost use Rattle.cs_model_index.specs.Sections.{blocks_at};
 ghost use Rattle.cs_file.specs.CallAnswers.{is_read_of_open};
 ghost use Rattle.cs_file.specs.HeaderView.{seen_header};
 ghost use Rattle.cs_file.specs.Indexes.{CausedReads};
-ghost use Rattle.cs_file.specs.Opening.{AreBytes, Judges, IsHeader, HasHeader, blocks_of, blocks_stage, heads_of};
-ghost use Rattle.cs_file.specs.Parting.{part_by, parts_by};
+ghost use Rattle.cs_file.specs.Opening.{AreBytes, Judges, IsHeader, HasHeader, block_broken, blocks_of, blocks_stage, heads_of};
+ghost use Rattle.cs_file.specs.Parting.{part_read, parts_by};
 
 use crate::fault::OpenFault;
 use crate::header::Header;
@@ -85,8 +82,8 @@ fn read_block<S: Store>(
     requires places { at < 2 ^ 40 }
     requires within { ForSome (S.bytes store.old) (λ b. at + head.now.len ≤ length b) }
 
-    ensures exact { ForSome (S.bytes store.old) (λ b. Judges (option_map (in_file at) (judged SCORES head.now docs (part b at head.now.len))) result) }
-    ensures part { ForSome (S.bytes store.old) (λ b. IfOk result (λ p. p ≡ part_by head.now (rows_read head.now (part b at head.now.len)))) }
+    ensures exact { ForSome (S.bytes store.old) (λ b. Judges (block_broken at head.now docs (part b at head.now.len)) result) }
+    ensures part { ForSome (S.bytes store.old) (λ b. IfOk result (λ p. p ≡ part_read head.now (part b at head.now.len))) }
     ensures small { ForSome (S.bytes store.old) (λ b. OnOk result (AreBytes b at head.now.len)) }
     ensures bytes { S.bytes store.new ≡ S.bytes store.old }
     ensures lent { S.lent store.new ≡ S.lent store.old }
@@ -108,8 +105,8 @@ fn judge_block(
     requires rows { head.now.rows ≤ MAX_ROWS }
     requires places { at < 2 ^ 40 }
 
-    ensures exact { Judges (option_map (in_file at) (judged SCORES head.now docs bytes.now)) result }
-    ensures part { IfOk result (λ p. p ≡ part_by head.now (rows_read head.now bytes.now)) }
+    ensures exact { Judges (block_broken at head.now docs bytes.now) result }
+    ensures part { IfOk result (λ p. p ≡ part_read head.now bytes.now) }
     ensures unread { is_read_of_open result ≡ false }
 {
     let mut rows = Cols::new(alloc);

@@ -9,7 +9,7 @@ loop-i-init c = even_start (λ i. is_of_one_kind c.args.words.now i.value) ENTRY
 
 pub returns-then-not-is_of_one_kind : goal.returns-then-not-is_of_one_kind
 returns-then-not-is_of_one_kind c = even_broken (λ i. is_of_one_kind c.args.words.now i.value) ENTRY_BYTES c.args.first c.args.heads.now c.loop-i.i
-    c.from.result nothing c.is_of_one_kind.result c.loop-i-test.true c.from.ensures c.is_of_one_kind.ensures c.if-not-is_of_one_kind.true c.loop-i.invariant
+    c.entry_at.result nothing c.is_of_one_kind.result c.loop-i-test.true c.entry_at.ensures c.is_of_one_kind.ensures c.if-not-is_of_one_kind.true c.loop-i.invariant
 
 pub loop-i-preserved : goal.loop-i-preserved
 loop-i-preserved c = even_on (λ i. is_of_one_kind c.args.words.now i.value) ENTRY_BYTES c.args.first c.args.heads.now c.loop-i.i nothing

@@ -8,8 +8,8 @@ pub loop-i-init : goal.loop-i-init
 loop-i-init c = even_start (λ i. is_sized i.value) ENTRY_BYTES c.args.first c.args.heads.now
 
 pub returns-then-not-is_sized : goal.returns-then-not-is_sized
-returns-then-not-is_sized c = even_broken (λ i. is_sized i.value) ENTRY_BYTES c.args.first c.args.heads.now c.loop-i.i c.from.result nothing
-    c.is_sized.result c.loop-i-test.true c.from.ensures c.is_sized.ensures c.if-not-is_sized.true c.loop-i.invariant
+returns-then-not-is_sized c = even_broken (λ i. is_sized i.value) ENTRY_BYTES c.args.first c.args.heads.now c.loop-i.i c.entry_at.result nothing
+    c.is_sized.result c.loop-i-test.true c.entry_at.ensures c.is_sized.ensures c.if-not-is_sized.true c.loop-i.invariant
 
 pub loop-i-preserved : goal.loop-i-preserved
 loop-i-preserved c = even_on (λ i. is_sized i.value) ENTRY_BYTES c.args.first c.args.heads.now c.loop-i.i nothing c.is_sized.result c.loop-i-test.true

@@ -16,8 +16,7 @@ pub returns-then-not-keeps_part : goal.returns-then-not-keeps_part
 returns-then-not-keeps_part c =
     let ps = c.args.parts.now in
     let x = slice_index_or ps c.loop-i.i no_part in
-    let place : c.args.first + c.from.result * c.loop-i.i ≡ c.args.first + 16 * c.loop-i.i = ap (λ n. c.args.first + n * c.loop-i.i) c.from.ensures in
-    ap Some place ∙ rest_broken (λ i. keeps_part c.args.target c.args.words.now i.value i.next) (λ p. ENTRY_BYTES) c.args.first ps c.loop-i.i
+    ap (λ n. Some n) c.entry_at.ensures ∙ rest_broken (λ i. keeps_part c.args.target c.args.words.now i.value i.next) (λ p. ENTRY_BYTES) c.args.first ps c.loop-i.i
     (c.args.first + 16 * c.loop-i.i) x c.loop-i-test.true (get_or_default ps c.loop-i.i no_part x c.loop-i-test.true)
     (ap (keeps_part c.args.target c.args.words.now x) (next_is ps c.loop-i.i) ∙ sym c.keeps_part.ensures ∙ c.if-not-keeps_part.true) c.loop-i.invariant
 

@@ -6,7 +6,7 @@ use Rattle.cs_file.proofs.writing.put_numbers.Given as goal
 
 abbrev pub invariant-loop-number : goal.invariant-loop-number
 invariant-loop-number g l = record {
-  told : HasPut (g.S.Sink.written l.initial.out) l.initial.held.items (flat_map (number_bytes) (take l.number-index l.numbers)) (g.S.Sink.written l.out)
+  told : HasPut (g.S.Sink.written l.initial.out) l.initial.held.items (flat_map number_bytes (take l.number-index l.numbers)) (g.S.Sink.written l.out)
       l.held.items;
   quiet : g.S.Sink.faults l.out ≡ g.S.Sink.faults l.initial.out;
   lent : g.S.Sink.lent l.out ≡ g.S.Sink.lent l.initial.out;

@@ -1,4 +1,4 @@
-use Rattle.std.proofs.Common.{◌≡◌, List, ℕ, ◌++◌, map, ap, subst}
+use Rattle.std.proofs.Common.{◌≡◌, List, ℕ, ◌++◌, map, Option, ap, subst}
 use Rattle.cs_base.specs.outside.Outside.{GrewByPrefix}
 use Rattle.cs_base.specs.declared.index.block.BlockHead.{BlockHead}
 use Rattle.cs_base.proofs.GrewLemmas.{on_err}
@@ -21,48 +21,48 @@ whole {i} e f g h =
     rw (f, g, h) (ap (λ (k : Image). header_bytes (header_of_image i)
     ++ (vocabulary_bytes k.words ++ (offset_bytes k.titles ++ (title_bytes k.titles ++ (directory_bytes k.heads ++ blocks_bytes k.heads k.blocks))))) e)
 
+-- a section whose put fails, and one that was put before it
+fails : (w : Option (List ℕ)) (h : List ℕ) {u : Option (List ℕ)} {all b : List ℕ} → b ≡ all → GrewByPrefix w (h ++ b) u → GrewByPrefix w (h ++ all) u
+fails w h {u} e g = subst (λ (x : List ℕ). GrewByPrefix w (h ++ x) u) e g
+
+after : {w v u : Option (List ℕ)} {h k a : List ℕ} (b : List ℕ) → HasPut w h a v k → GrewByPrefix v (k ++ b) u → GrewByPrefix w (h ++ (a ++ b)) u
+after {w} {v} {u} {h} {k} {a} b p g = fails_on w h a b v u k p g
+
+then_put : {w v u : Option (List ℕ)} {h k m a b : List ℕ} → HasPut w h a v k → HasPut v k b u m → HasPut w h (a ++ b) u m
+then_put {w} {v} {u} {h} {k} {m} {a} {b} p q = put_on w h a b v u k m p q
+
 pub returns-in_err-put_header-clause-err : goal.returns-in_err-put_header-clause-err
 returns-in_err-put_header-clause-err g c =
     let is = whole c.image.view_is c.as_slice-titles.ensures c.as_slice-heads.ensures c.as_slice-blocks.ensures in
-    let grew = λ (b : List ℕ). GrewByPrefix (g.S.Sink.written c.args.out.now) (c.args.held.now.items ++ b) (g.S.Sink.written c.put_header.new.out) in
-    on_err c.from_residual.result _ (subst grew is (fails_first _ _ (header_bytes (header_of_image c.args.image.now)) _ _ c.in_err-put_header.ensures.err))
+    on_err c.from_residual.result _ (fails _ _ is (fails_first _ _ (header_bytes (header_of_image c.args.image.now)) _ _ c.in_err-put_header.ensures.err))
 
 pub returns-in_err-put_vocabulary-clause-err : goal.returns-in_err-put_vocabulary-clause-err
 returns-in_err-put_vocabulary-clause-err g c =
     let is = whole c.image.view_is c.as_slice-titles.ensures c.as_slice-heads.ensures c.as_slice-blocks.ensures in
-    let grew = λ (b : List ℕ). GrewByPrefix (g.S.Sink.written c.args.out.now) (c.args.held.now.items ++ b) (g.S.Sink.written c.put_vocabulary.new.out) in
     on_err c.from_residual-in_err-put_vocabulary.result _
-    (subst grew is (fails_on _ _ _ _ _ _ _ c.in_ok-put_header.ensures.ok
+    (fails _ _ is (after _ c.in_ok-put_header.ensures.ok
     (fails_first _ _ (vocabulary_bytes c.image.inside.words) _ _ c.in_err-put_vocabulary.ensures.err)))
 
 pub returns-in_err-put_offsets-clause-err : goal.returns-in_err-put_offsets-clause-err
 returns-in_err-put_offsets-clause-err g c =
     let is = whole c.image.view_is c.as_slice-titles.ensures c.as_slice-heads.ensures c.as_slice-blocks.ensures in
-    let grew = λ (b : List ℕ). GrewByPrefix (g.S.Sink.written c.args.out.now) (c.args.held.now.items ++ b) (g.S.Sink.written c.put_offsets.new.out) in
     on_err c.from_residual-in_err-put_offsets.result _
-    (subst grew is (fails_on _ _ _ _ _ _ _ c.in_ok-put_header.ensures.ok
-    (fails_on _ _ _ _ _ _ _ c.in_ok-put_vocabulary.ensures.ok
+    (fails _ _ is (after _ c.in_ok-put_header.ensures.ok (after _ c.in_ok-put_vocabulary.ensures.ok
     (fails_first _ _ (offset_bytes c.as_slice-titles.result.now) _ _ c.in_err-put_offsets.ensures.err))))
 
 pub returns-in_err-put_titles-clause-err : goal.returns-in_err-put_titles-clause-err
 returns-in_err-put_titles-clause-err g c =
     let is = whole c.image.view_is c.as_slice-titles.ensures c.as_slice-heads.ensures c.as_slice-blocks.ensures in
-    let grew = λ (b : List ℕ). GrewByPrefix (g.S.Sink.written c.args.out.now) (c.args.held.now.items ++ b) (g.S.Sink.written c.put_titles.new.out) in
     on_err c.from_residual-in_err-put_titles.result _
-    (subst grew is (fails_on _ _ _ _ _ _ _ c.in_ok-put_header.ensures.ok
-    (fails_on _ _ _ _ _ _ _ c.in_ok-put_vocabulary.ensures.ok
-    (fails_on _ _ _ _ _ _ _ c.in_ok-put_offsets.ensures.ok (fails_first _ _ (title_bytes c.as_slice-titles.result.now) _ _ c.in_err-put_titles.ensures.err)))))
+    (fails _ _ is (after _ c.in_ok-put_header.ensures.ok (after _ c.in_ok-put_vocabulary.ensures.ok (after _ c.in_ok-put_offsets.ensures.ok
+    (fails_first _ _ (title_bytes c.as_slice-titles.result.now) _ _ c.in_err-put_titles.ensures.err)))))
 
 pub returns-in_err-put_directory-clause-err : goal.returns-in_err-put_directory-clause-err
 returns-in_err-put_directory-clause-err g c =
     let is = whole c.image.view_is c.as_slice-titles.ensures c.as_slice-heads.ensures c.as_slice-blocks.ensures in
-    let grew = λ (b : List ℕ). GrewByPrefix (g.S.Sink.written c.args.out.now) (c.args.held.now.items ++ b) (g.S.Sink.written c.put_directory.new.out) in
     on_err c.from_residual-in_err-put_directory.result _
-    (subst grew is (fails_on _ _ _ _ _ _ _ c.in_ok-put_header.ensures.ok
-    (fails_on _ _ _ _ _ _ _ c.in_ok-put_vocabulary.ensures.ok
-    (fails_on _ _ _ _ _ _ _ c.in_ok-put_offsets.ensures.ok
-    (fails_on _ _ _ _ _ _ _ c.in_ok-put_titles.ensures.ok
-    (fails_first _ _ (directory_bytes c.as_slice-heads.result.now) _ _ c.in_err-put_directory.ensures.err))))))
+    (fails _ _ is (after _ c.in_ok-put_header.ensures.ok (after _ c.in_ok-put_vocabulary.ensures.ok (after _ c.in_ok-put_offsets.ensures.ok
+    (after _ c.in_ok-put_titles.ensures.ok (fails_first _ _ (directory_bytes c.as_slice-heads.result.now) _ _ c.in_err-put_directory.ensures.err))))))
 
 pub returns-clause-ok : goal.returns-clause-ok
 returns-clause-ok g c =
@@ -70,17 +70,12 @@ returns-clause-ok g c =
     let now = g.S.Sink.written c.put_blocks.new.out in
     let put = λ (b : List ℕ). HasPut (g.S.Sink.written c.args.out.now) c.args.held.now.items b now c.put_blocks.new.held.items in
     then_ok c.put_blocks.result _ _ (λ q. subst put is
-    (put_on _ _ _ _ _ _ _ _ c.in_ok-put_header.ensures.ok
-    (put_on _ _ _ _ _ _ _ _ c.in_ok-put_vocabulary.ensures.ok
-    (put_on _ _ _ _ _ _ _ _ c.in_ok-put_offsets.ensures.ok
-    (put_on _ _ _ _ _ _ _ _ c.in_ok-put_titles.ensures.ok (put_on _ _ _ _ _ _ _ _ c.in_ok-put_directory.ensures.ok q)))))) c.put_blocks.ensures.ok
+    (then_put c.in_ok-put_header.ensures.ok (then_put c.in_ok-put_vocabulary.ensures.ok (then_put c.in_ok-put_offsets.ensures.ok
+    (then_put c.in_ok-put_titles.ensures.ok (then_put c.in_ok-put_directory.ensures.ok q)))))) c.put_blocks.ensures.ok
 
 pub returns-clause-err : goal.returns-clause-err
 returns-clause-err g c =
     let is = whole c.image.view_is c.as_slice-titles.ensures c.as_slice-heads.ensures c.as_slice-blocks.ensures in
-    let grew = λ (b : List ℕ). GrewByPrefix (g.S.Sink.written c.args.out.now) (c.args.held.now.items ++ b) (g.S.Sink.written c.put_blocks.new.out) in
-    then_err c.put_blocks.result _ _ (λ q. subst grew is
-    (fails_on _ _ _ _ _ _ _ c.in_ok-put_header.ensures.ok
-    (fails_on _ _ _ _ _ _ _ c.in_ok-put_vocabulary.ensures.ok
-    (fails_on _ _ _ _ _ _ _ c.in_ok-put_offsets.ensures.ok
-    (fails_on _ _ _ _ _ _ _ c.in_ok-put_titles.ensures.ok (fails_on _ _ _ _ _ _ _ c.in_ok-put_directory.ensures.ok q)))))) c.put_blocks.ensures.err
+    then_err c.put_blocks.result _ _ (λ q. fails _ _ is
+    (after _ c.in_ok-put_header.ensures.ok (after _ c.in_ok-put_vocabulary.ensures.ok (after _ c.in_ok-put_offsets.ensures.ok
+    (after _ c.in_ok-put_titles.ensures.ok (after _ c.in_ok-put_directory.ensures.ok q)))))) c.put_blocks.ensures.err

@@ -1,7 +1,8 @@
 use Rattle.std.proofs.lemmas.Result.{on_ok_weaker}
-use Rattle.cs_file.proofs.FetchLemmas.{block_read, can_judge, fault_changed, fault_unchanged, told_within}
+use Rattle.cs_file.proofs.FetchLemmas.{BlockRead, block_read, can_judge, fault_changed, fault_unchanged, told_within}
 use Rattle.cs_file.proofs.FetchedWords.{docs_known, words_even, words_known}
 use Rattle.cs_file.proofs.ScoredLemmas.{scored_stood, scores_even, scores_small}
+use Rattle.cs_file.proofs.index.Index.fetch_scored.Given as given
 use Rattle.cs_file.proofs.index.Index.fetch_scored.Goals as goal
 
 pub read_over-requires : goal.read_over-requires
@@ -16,30 +17,25 @@ returns-clause-words_even g c = on_ok_weaker c.scored_at.result (λ has. words_e
 pub returns-clause-scores_even : goal.returns-clause-scores_even
 returns-clause-scores_even g c = on_ok_weaker c.scored_at.result (scores_even _ _ _) c.scored_at.ensures.ok
 
+-- the bytes that were read are those of the block
+read : (g : given.Over) (c : goal.After-scored_at g)
+    → BlockRead c.args.self.now (g.S.Store.bytes c.args.store.now) c.args.k c.placed-placed.result c.read_over.new.bytes.items
+read g c = block_read c.placed-placed.ensures c.in_ok-read_over.ensures.long c.in_ok-read_over.ensures.ok
+
 pub returns-clause-docs : goal.returns-clause-docs
-returns-clause-docs g c =
-    let h = block_read c.placed-placed.ensures c.in_ok-read_over.ensures.long c.in_ok-read_over.ensures.ok in
-    on_ok_weaker c.scored_at.result (λ has. docs_known h _ _ has.listed) c.scored_at.ensures.ok
+returns-clause-docs g c = on_ok_weaker c.scored_at.result (λ has. docs_known (read g c) _ _ has.listed) c.scored_at.ensures.ok
 
 pub returns-clause-words : goal.returns-clause-words
-returns-clause-words g c =
-    let h = block_read c.placed-placed.ensures c.in_ok-read_over.ensures.long c.in_ok-read_over.ensures.ok in
-    on_ok_weaker c.scored_at.result (λ has. words_known h _ _ has.listed) c.scored_at.ensures.ok
+returns-clause-words g c = on_ok_weaker c.scored_at.result (λ has. words_known (read g c) _ _ has.listed) c.scored_at.ensures.ok
 
 pub returns-clause-scores : goal.returns-clause-scores
 returns-clause-scores g c = on_ok_weaker c.scored_at.result (scores_small _ _ _) c.scored_at.ensures.ok
 
 pub returns-clause-stood : goal.returns-clause-stood
-returns-clause-stood g c = λ b t s.
-    let h = block_read c.placed-placed.ensures c.in_ok-read_over.ensures.long c.in_ok-read_over.ensures.ok in
-    on_ok_weaker c.scored_at.result (scored_stood h b c.scored_at.new.into t s) c.scored_at.ensures.ok
+returns-clause-stood g c = λ b t s. on_ok_weaker c.scored_at.result (scored_stood (read g c) b c.scored_at.new.into t s) c.scored_at.ensures.ok
 
 pub returns-clause-changed : goal.returns-clause-changed
-returns-clause-changed g c =
-    let h = block_read c.placed-placed.ensures c.in_ok-read_over.ensures.long c.in_ok-read_over.ensures.ok in
-    fault_changed h c.scored_at.result c.scored_at.ensures.exact
+returns-clause-changed g c = fault_changed (read g c) c.scored_at.result c.scored_at.ensures.exact
 
 pub returns-clause-unchanged : goal.returns-clause-unchanged
-returns-clause-unchanged g c = λ b t s.
-    let h = block_read c.placed-placed.ensures c.in_ok-read_over.ensures.long c.in_ok-read_over.ensures.ok in
-    fault_unchanged h b c.scored_at.result t s c.scored_at.ensures.exact
+returns-clause-unchanged g c = λ b t s. fault_unchanged (read g c) b c.scored_at.result t s c.scored_at.ensures.exact

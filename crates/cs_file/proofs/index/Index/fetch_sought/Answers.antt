@@ -1,6 +1,7 @@
 use Rattle.std.proofs.lemmas.Result.{on_ok_weaker}
-use Rattle.cs_file.proofs.FetchLemmas.{block_read, can_judge, fault_changed, fault_unchanged, told_within}
+use Rattle.cs_file.proofs.FetchLemmas.{BlockRead, block_read, can_judge, fault_changed, fault_unchanged, told_within}
 use Rattle.cs_file.proofs.SoughtPosts.{passed, sought_ranged, sought_stood}
+use Rattle.cs_file.proofs.index.Index.fetch_sought.Given as given
 use Rattle.cs_file.proofs.index.Index.fetch_sought.Goals as goal
 
 pub read_over-requires : goal.read_over-requires
@@ -17,17 +18,17 @@ returns-clause-ranged g c =
     let ranged = sought_ranged c.args.words.0 c.args.words.1 c.args.listed.now c.args.self.now c.requires.listed c.requires.words in
     on_ok_weaker c.sought_at.result ranged c.sought_at.ensures.ok
 
+-- the bytes that were read are those of the block
+read : (g : given.Over) (c : goal.After-sought_at g)
+    → BlockRead c.args.self.now (g.S.Store.bytes c.args.store.now) c.args.k c.placed-placed.result c.read_over.new.bytes.items
+read g c = block_read c.placed-placed.ensures c.in_ok-read_over.ensures.long c.in_ok-read_over.ensures.ok
+
 pub returns-clause-stood : goal.returns-clause-stood
 returns-clause-stood g c = λ b t s.
-    let h = block_read c.placed-placed.ensures c.in_ok-read_over.ensures.long c.in_ok-read_over.ensures.ok in
-    on_ok_weaker c.sought_at.result (sought_stood c.args.words.0 c.args.words.1 c.args.listed.now h b t s) c.sought_at.ensures.ok
+    on_ok_weaker c.sought_at.result (sought_stood c.args.words.0 c.args.words.1 c.args.listed.now (read g c) b t s) c.sought_at.ensures.ok
 
 pub returns-clause-changed : goal.returns-clause-changed
-returns-clause-changed g c =
-    let h = block_read c.placed-placed.ensures c.in_ok-read_over.ensures.long c.in_ok-read_over.ensures.ok in
-    fault_changed h c.sought_at.result c.sought_at.ensures.exact
+returns-clause-changed g c = fault_changed (read g c) c.sought_at.result c.sought_at.ensures.exact
 
 pub returns-clause-unchanged : goal.returns-clause-unchanged
-returns-clause-unchanged g c = λ b t s.
-    let h = block_read c.placed-placed.ensures c.in_ok-read_over.ensures.long c.in_ok-read_over.ensures.ok in
-    fault_unchanged h b c.sought_at.result t s c.sought_at.ensures.exact
+returns-clause-unchanged g c = λ b t s. fault_unchanged (read g c) b c.sought_at.result t s c.sought_at.ensures.exact
