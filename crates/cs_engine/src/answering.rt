@@ -1,18 +1,13 @@
 //! Replies, from the hits of a query and its rows in them.
 ghost use Rattle.std.specs.Prelude.{◌≡◌, ◌*◌, ◌≤◌, ◌<◌, List, ℕ, length, map, IfOk};
 ghost use Rattle.std.specs.List.{All};
-ghost use Rattle.cs_base.specs.declared.content.scores.TheConstants.{MAX_ROW_SCORE};
-ghost use Rattle.cs_base.specs.outside.Causes.{ReadsWithin};
+ghost use Rattle.cs_base.specs.{declared.content.scores.TheConstants.{MAX_ROW_SCORE}, outside.Causes.{ReadsWithin}};
 ghost use Rattle.cs_base.specs.declared.content.limits.TheConstants.{MAX_PARTS};
 ghost use Rattle.cs_file.specs.Indexes.{IsIndex, StandsFor};
 ghost use Rattle.cs_model.specs.Requests.{hit_shown, reply_of};
 ghost use Rattle.cs_query.specs.RequestView.{asked};
-ghost use Rattle.cs_engine.specs.Asking.{titles_read};
-ghost use Rattle.cs_engine.specs.Counting.{AreListed};
-ghost use Rattle.cs_engine.specs.HeldFacets.{AreFacetsOver, HoldsFacets, IsFacet, IsFacetOver, WhereHeld};
-ghost use Rattle.cs_engine.specs.Loose.{IsTableFor};
-ghost use Rattle.cs_engine.specs.IndexReading.{IsOpened, OnlyReads, WhereStood, stock_of};
-ghost use Rattle.cs_engine.specs.Steps.{IsBaseOf};
+ghost use Rattle.cs_engine.specs.{Asking.{titles_read}, Counting.{AreListed}, HeldFacets.{AreFacetsOver, HoldsFacets, IsFacet, IsFacetOver, WhereHeld}};
+ghost use Rattle.cs_engine.specs.{Loose.{IsTableFor}, IndexReading.{IsOpened, OnlyReads, WhereStood, stock_of}, Steps.{IsBaseOf}};
 ghost use Rattle.cs_engine.specs.Stocked.{corpus_in, facet_at};
 
 use crate::counting::listed_docs;

@@ -1,22 +1,14 @@
 //! Facets whose rows are held from one request to the next, so that they are read once, and their tables.
 ghost use Rattle.std.specs.Prelude.{◌≡◌, ◌⊎◌, ◌<◌, ◌*◌, [], true, Some, take, filter, length, IfOk, OnOk, OnErr, option_copied, List, ◌∷◌, ◌++◌, ℕ};
-ghost use Rattle.std.specs.List.{All, find};
-ghost use Rattle.std.specs.Str.{bytes_eq};
-ghost use Rattle.cs_base.specs.declared.content.limits.TheConstants.{MAX_PARTS};
-ghost use Rattle.cs_base.specs.declared.content.scores.TheConstants.{MAX_ROW_SCORE};
-ghost use Rattle.cs_base.specs.outside.Causes.{ReadsWithin};
-ghost use Rattle.cs_base.specs.declared.content.doc.Post.{Post};
+ghost use Rattle.std.specs.{List.{All, find}, Str.{bytes_eq}};
+ghost use Rattle.cs_base.specs.{declared.content.limits.TheConstants.{MAX_PARTS}, declared.content.scores.TheConstants.{MAX_ROW_SCORE}};
+ghost use Rattle.cs_base.specs.{outside.Causes.{ReadsWithin}, declared.content.doc.Post.{Post}};
 ghost use Rattle.cs_file.specs.Indexes.{HasAllBlocks, IsIndex};
 ghost use Rattle.cs_model.specs.Collection.{named};
 ghost use Rattle.cs_model_kept.specs.Due.{met_of_facets, met_prefix};
-ghost use Rattle.cs_tables.specs.TableListings.{post_table};
-ghost use Rattle.cs_tables.specs.WordCounts.{HasCounted};
-ghost use Rattle.cs_engine.specs.Asking.{division};
-ghost use Rattle.cs_engine.specs.Counting.{AreListed, in_listed};
-ghost use Rattle.cs_engine.specs.HeldFacets.{AreFacetsOver, HoldsFacets, IsFacet, IsFacetOver, has_facet};
-ghost use Rattle.cs_engine.specs.IndexReading.{IsOpened, OnlyReads, WhereStood};
-ghost use Rattle.cs_engine.specs.Steps.{IsBaseOf};
-ghost use Rattle.cs_engine.specs.Stocked.{is_between};
+ghost use Rattle.cs_tables.specs.{TableListings.{post_table}, WordCounts.{HasCounted}};
+ghost use Rattle.cs_engine.specs.{Asking.{division}, Counting.{AreListed, in_listed}, HeldFacets.{AreFacetsOver, HoldsFacets, IsFacet, IsFacetOver, has_facet}};
+ghost use Rattle.cs_engine.specs.{IndexReading.{IsOpened, OnlyReads, WhereStood}, Steps.{IsBaseOf}, Stocked.{is_between}};
 
 use crate::fault::AskFault;
 use crate::hits::numbers_of;
@@ -82,26 +74,6 @@ pub(crate) fn hold_facets<S: Store>(
     // the type of an index says what it keeps where a field of it is read
     let _ = &index.docs;
     forget_many(held);
-    hold_each(alloc, index, store, names, held)
-}
-
-// Reads the rows of those of some facets that aren't held yet.
-fn hold_each<S: Store>(
-    alloc: Global,
-    index: &Index,
-    store: &mut S,
-    names: &[Text],
-    held: &mut Vec<FacetRows>,
-) -> Result<(), AskFault>
-    requires facets { All (IsFacet index.now) held.old.items }
-    requires opened { IsOpened (S.bytes store.old) index.now }
-
-    ensures facets { All (IsFacet index.now) held.new.items }
-    ensures there { OnOk result (HoldsFacets index.now held.new.items names.now) }
-    ensures told { WhereStood (S.bytes store.old) index.now (λ b. AreFacetsOver b held.old.items → AreFacetsOver b held.new.items) }
-    ensures store { OnlyReads S.bytes S.lent S.faults index.now store.old store.new result }
-    ensures reads { ReadsWithin (met_of_facets (division index.now) names.now) (S.reads store.old) (S.reads store.new) }
-{
     for name in names {
         hold_facet(alloc, index, store, name, held)?;
     }

@@ -3,9 +3,7 @@ ghost use Rattle.std.specs.Prelude.{◌≡◌, true, filter, length, IfOk};
 ghost use Rattle.std.specs.List.{All};
 ghost use Rattle.cs_base.specs.outside.Causes.{ReadsWithin};
 ghost use Rattle.cs_file.specs.Indexes.{is_met};
-ghost use Rattle.cs_engine.specs.Counting.{in_listed};
-ghost use Rattle.cs_engine.specs.Loose.{AreGathered};
-ghost use Rattle.cs_engine.specs.IndexReading.{AreWithin, IsOpened, IsWordRange, OnlyReads, WhereStood, stock_of};
+ghost use Rattle.cs_engine.specs.{Counting.{in_listed}, Loose.{AreGathered}, IndexReading.{AreWithin, IsOpened, IsWordRange, OnlyReads, WhereStood, stock_of}};
 ghost use Rattle.cs_engine.specs.Stocked.{is_between};
 
 use crate::counting::listed_docs;

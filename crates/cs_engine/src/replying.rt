@@ -3,18 +3,12 @@ ghost use Rattle.std.specs.Prelude.{◌≡◌, ◌+◌, ◌≤◌, Some, false, 
 ghost use Rattle.cs_base.specs.declared.index.plan.Kept.TheVariants as kept;
 ghost use Rattle.cs_base.specs.outside.Causes.{ReadsWithin};
 ghost use Rattle.cs_file.specs.Indexes.{HasAllBlocks};
-ghost use Rattle.cs_model.specs.Keys.{keys_of};
-ghost use Rattle.cs_model.specs.Parameters.{HoldsLimits};
-ghost use Rattle.cs_model.specs.Requests.{reply_of};
+ghost use Rattle.cs_model.specs.{Keys.{keys_of}, Parameters.{HoldsLimits}, Requests.{reply_of}};
 ghost use Rattle.cs_model_index.specs.Sections.{file_corpus};
-ghost use Rattle.cs_model_kept.specs.Due.{met_by, met_of_query};
-ghost use Rattle.cs_model_kept.specs.Entries.{entry_of};
-ghost use Rattle.cs_model_kept.specs.KeptList.{kept_fresh, plan_by, is_same};
+ghost use Rattle.cs_model_kept.specs.{Due.{met_by, met_of_query}, Entries.{entry_of}, KeptList.{kept_fresh, plan_by, is_same}};
 ghost use Rattle.cs_query.specs.RequestView.{asked};
-ghost use Rattle.cs_engine.specs.Asking.{division, titles_asked, titles_read};
-ghost use Rattle.cs_engine.specs.HeldFacets.{HoldsFacets, WhereHeld};
-ghost use Rattle.cs_engine.specs.Keeping.{FitsQuery, HoldsGood, IsAnsweredOver, IsEntryOver, KeepsFitting, entry_with};
-ghost use Rattle.cs_engine.specs.IndexReading.{IsOpened, OnlyReads};
+ghost use Rattle.cs_engine.specs.{Asking.{division, titles_asked, titles_read}, HeldFacets.{HoldsFacets, WhereHeld}};
+ghost use Rattle.cs_engine.specs.{Keeping.{FitsQuery, HoldsGood, IsAnsweredOver, IsEntryOver, KeepsFitting, entry_with}, IndexReading.{IsOpened, OnlyReads}};
 
 use crate::answering::reply_of;
 use crate::entries::{hits_of, nothing_kept};
