@@ -6,7 +6,7 @@ ghost use Rattle.cs_model_index.specs.Numbered.{word_at};
 ghost use Rattle.cs_model_kept.specs.{Due.{met_of_last}, KeptListLaws.{before_last}};
 ghost use Rattle.cs_query.specs.RequestView.{asked};
 ghost use Rattle.cs_engine.specs.{Asking.{division, titles_asked}, HeldFacets.{HoldsFacets, WhereHeld}};
-ghost use Rattle.cs_engine.specs.{Keeping.{FitsQuery, IsAnsweredOver, IsEntryOver, entry_with}, IndexReading.{AreWithin, IsOpened, OnlyReads}};
+ghost use Rattle.cs_engine.specs.{Keeping.{FitsAnswer, FitsQuery, IsAnsweredOver, IsEntryOver, entry_with}, IndexReading.{AreWithin, IsOpened, OnlyReads}};
 ghost use Rattle.cs_engine.specs.Steps.{AreHitsOver, IsBaseOf};
 
 use crate::between::posts_between;
@@ -72,8 +72,7 @@ pub(crate) fn answered_by_part<S: Store>(
     ensures told { WhereHeld (S.bytes store.old) index.now held.now
         (λ b. IsEntryOver b index.now (before_last request.now.query) (entry_with base.now rows.now.posts)
         → IfOk result (IsAnsweredOver b index.now (asked request.now))) }
-    ensures few { IfOk result (λ a. length a.0.hits ≤ request.now.hits) }
-    ensures within { IfOk result (λ a. IfSome a.1 (FitsQuery index.now request.now.query)) }
+    ensures fits { IfOk result (FitsAnswer index.now (asked request.now)) }
     ensures store { OnlyReads S.bytes S.lent S.faults index.now store.old store.new result }
     ensures reads { ReadsWithin (titles_asked (asked request.now) result + met_of_last
         (division index.now) (last_of (out-Query request.now.query).parts)) (S.reads store.old) (S.reads store.new) }
@@ -102,8 +101,7 @@ pub(crate) fn answered_by_hits<S: Store>(
 
     ensures told { WhereHeld (S.bytes store.old) index.now held.now
         (λ b. AreHitsOver b (before_last request.now.query) hits → IfOk result (IsAnsweredOver b index.now (asked request.now))) }
-    ensures few { IfOk result (λ a. length a.0.hits ≤ request.now.hits) }
-    ensures within { IfOk result (λ a. IfSome a.1 (FitsQuery index.now request.now.query)) }
+    ensures fits { IfOk result (FitsAnswer index.now (asked request.now)) }
     ensures store { OnlyReads S.bytes S.lent S.faults index.now store.old store.new result }
     ensures reads { ReadsWithin (titles_asked (asked request.now) result + met_of_last
         (division index.now) (last_of (out-Query request.now.query).parts)) (S.reads store.old) (S.reads store.new) }
