@@ -23,12 +23,13 @@ use Rattle.cs_meet.specs.Filters.{is_of_doc}
 use Rattle.cs_engine.specs.Blockwise.{HasFound}
 use Rattle.cs_engine.specs.Counting.{AreListed, in_listed}
 use Rattle.cs_engine.specs.Keeping.{FitsQuery, IsEntryOver, entry_with}
-use Rattle.cs_engine.specs.Loose.{AreAlike, AreLastWords, IsEntryByWords, IsTableFor}
+use Rattle.cs_engine.specs.Loose.{AreLastWords, IsEntryByWords, IsTableFor}
 use Rattle.cs_engine.specs.IndexReading.{AreWithin, stock_of}
 use Rattle.cs_engine.specs.Steps.{EntryFits, last_is_positive, posts_after}
 use Rattle.cs_engine.specs.Stocked.{docs_in, is_between}
 use Rattle.cs_engine.proofs.CountingLemmas.{stock_within}
 use Rattle.cs_engine.proofs.KeepingLemmas.{fresh_is}
+use Rattle.cs_engine.proofs.PackingLemmas.{AreAlike}
 use Rattle.cs_engine.proofs.PlainParts.{listed_entry, listed_fits}
 use Rattle.cs_engine.proofs.PlansLemmas.{found_by_entry}
 use Rattle.cs_engine.proofs.RowsInRange.{kept_within}

@@ -1,5 +1,7 @@
 -- Posts as numbers: their order, and what one sort of them gives.
 --
+--   AreAlike s lo hi listed rows     rows in any order are those of a stock with these words in listed documents
+--   AreGathered i told lo hi listed keys     numbers of such rows
 --   unkeyed             a packed post is the post of its number
 --   ordered_is          what is left of sorted numbers is in order, and loses no member
 --   packed_posts, within_posts     posts that are read are packed, and in range
@@ -33,21 +35,37 @@ use Rattle.cs_file.specs.Indexes.{AreMet, IndexView, IsIndex, StandsFor}
 use Rattle.cs_file.proofs.StoodLemmas.{stood_count}
 use Rattle.cs_meet.specs.Filters.{shares_place}
 use Rattle.cs_model.specs.Scores.{SCORES}
-use Rattle.cs_tables.specs.WordCounts.{is_chosen}
+use Rattle.cs_tables.specs.WordCounts.{AreCountable, is_chosen}
 use Rattle.cs_model_index.specs.BlockRules.{is_scored}
 use Rattle.cs_model_index.specs.Sections.{image_of}
 use Rattle.cs_engine.specs.declared.gathering.Gathered.{Gathered}
 use Rattle.cs_engine.specs.GatheredRows.{HasGathered}
 use Rattle.cs_engine.specs.Packing.{AreFrom, HasKeys, IsOrdered, IsPacked, apart, key_of, place_of_key, post_of_key}
 use Rattle.cs_engine.specs.Counting.{in_listed}
-use Rattle.cs_engine.specs.Loose.{AreAlike, AreGathered}
-use Rattle.cs_engine.specs.IndexReading.{AreWithin, IsWithin, run_of, stock_of}
-use Rattle.cs_engine.specs.Stocked.{is_between}
+use Rattle.cs_engine.specs.IndexReading.{AreWithin, IsWithin, WhereStood, run_of, stock_of}
+use Rattle.cs_engine.specs.Stocked.{Stock, is_between}
 use Rattle.cs_engine.specs.declared.packing.TheConstants.{NO_PLACE, POSITION_ROOM, SCORE_ROOM}
 use Rattle.cs_engine.proofs.CountingLemmas.{counted_alike, counted_long, countable, flat_more}
 use Rattle.cs_engine.proofs.RowsInRange.{same_posts}
 use Rattle.cs_engine.proofs.StockLemmas.{from_file, stocked}
 use Rattle.cs_engine.proofs.UnionLemmas.{one_post}
+
+-- ---- rows in any order
+-- the same tests pass on both, there are as many, and the rows of each word are in order
+pub record AreAlike (s : Stock) (lo hi : ℕ) (listed : List Bool) (rows : List Post) : Type 0 where
+  pub among : All (Contains s.posts) rows
+  pub alike : (t : Post → Bool) → list_any t rows ≡ list_any t (filter (in_listed listed) (filter (is_between lo hi) s.posts))
+  pub long : length rows ≡ length (filter (in_listed listed) (filter (is_between lo hi) s.posts))
+  pub countable : AreCountable rows
+
+-- each row passes, and is in the range of the index
+pub record AreGathered (i : IndexView) (told : Option (List ℕ)) (lo hi : ℕ) (listed : List Bool) (keys : List ℕ) : Type 0 where
+  pub rows : List Post
+  pub are : keys ≡ map key_of rows
+  pub packed : All IsPacked rows
+  pub within : All (IsWithin i.docs (length i.words)) rows
+  pub passed : All (λ p. is_chosen lo hi listed p ≡ true) rows
+  pub stood : WhereStood told i (λ b. AreAlike (stock_of b) lo hi listed rows)
 
 -- ---- a post and its number
 front : (m r : ℕ) → r < 8 → (m * 8 + r) / 8 ≡ m

@@ -6,10 +6,12 @@
 --   EngineView                an opened index, what is kept of answers, and the facets that are held
 --   entry_with b posts        the entry of this base and these posts
 --   FitsQuery i q e           an entry is in the range of an index, as that of the query q is
+--   FitsAnswer i r a          an answer has no more hits than a request asks for, and its own entry fits the request's query
 --   IsKeptEntry i e           the key of e is that of a query of the grammar, whose entry fits the index i
 --   KeepsFitting i held       each entry does
 --   IsEntryOver b i q e       over the bytes b of an index an entry is that of the query q
 --   IsAnsweredOver b i r a    over them an answer has the reply to a request, and its own entry where that isn't too large
+--   IsRepliedOver b i r p a   the same of an answer by the plan p, whose own entry may have been kept before
 --   HoldsGood b i held        over them each kept entry is that of its key's own query
 --   AreGood b e               over the bytes b of its index an engine keeps under each key the entry of the key's own query, and holds the
 --                             facets of the index
@@ -22,7 +24,7 @@
 --   IsLeftBehind q old new    what is kept after a refusal: the same entries, the used one maybe in front
 --   KeepsAnswers i q old r new       the one or the other
 --   IsAfter b q old r new     what is kept after a reply, over the bytes of the index
-use Rattle.std.specs.Prelude.{◌≡◌, ◌⊎◌, ℕ, false, List, ◌∷◌, length, take, Option, Some, None, is_some, IfSome, Result, Ok, Err, if◌then◌else◌}
+use Rattle.std.specs.Prelude.{◌≡◌, ◌⊎◌, ◌≤◌, ℕ, false, List, ◌∷◌, length, take, Option, Some, None, is_some, IfSome, Result, Ok, Err, if◌then◌else◌}
 use Rattle.std.specs.List.{All}
 use Rattle.cs_base.specs.declared.content.doc.Base.{Base}
 use Rattle.cs_base.specs.declared.content.doc.Post.{Post}
@@ -61,6 +63,11 @@ entry_with b posts = record { base = b; rows = posts }
 -- its posts and its base are within the index, and its scores are those of so many parts
 abbrev pub FitsQuery : IndexView → Query → EntryOf Post → Type 0
 FitsQuery i q e = EntryFits i (last_is_positive q) (length (out-Query q).parts) e
+
+-- where no entry comes along, nothing is said of it
+pub record FitsAnswer (i : IndexView) (r : Request) (a : Reply × Option (EntryOf Post)) : Type 0 where
+  pub few : length a.0.hits ≤ r.hits
+  pub within : IfSome a.1 (FitsQuery i r.query)
 
 -- the key is that of a query of the grammar, and the entry's rows and base are in the range of the index, as an entry of that
 -- query's parts is
@@ -122,6 +129,12 @@ pub record IsAnsweredOver (b : List ℕ) (i : IndexView) (r : Request) (a : Repl
   pub reply : a.0 ≡ reply_of (file_corpus b) r
   pub own : IfSome a.1 (IsEntryOver b i r.query)
   pub large : is_some a.1 ≡ false → kept_fresh (entry_of (file_corpus b) r.query) ≡ kept.TooLarge
+
+-- by Same it was kept before, and doesn't come along
+pub record IsRepliedOver (b : List ℕ) (i : IndexView) (r : Request) (p : Plan) (a : Reply × Option (EntryOf Post)) : Type 0 where
+  pub reply : a.0 ≡ reply_of (file_corpus b) r
+  pub own : IfSome a.1 (IsEntryOver b i r.query)
+  pub large : is_some a.1 ≡ false → is_same p ≡ false → kept_fresh (entry_of (file_corpus b) r.query) ≡ kept.TooLarge
 
 -- no entries are good
 abbrev pub HoldsGood : List ℕ → IndexView → KeptOf (EntryOf Post) → Type 0

@@ -5,14 +5,11 @@
 --   best_of rows d           one more than the greatest score of the rows of document d
 --   HasBestScores seen best          a table by document of the rows that were seen
 --   hits_in d best           the documents of a table, from d on, that have a row, with their scores
---   AreAlike s lo hi listed rows     rows in any order are those of a stock with these words in listed documents
---   AreGathered i told lo hi listed keys     numbers of such rows
 --   AreLastWords i q hits lo hi      the last part of a query is positive and asks for these words, and hits are in range as those before it
 --   IsEntryByWords b i q hits lo hi  over the bytes of an index the own entry of a query is that of these hits and words
 --   IsTableFor i b q cut hits t      over the bytes of an index a table is that of a query of these hits, cut
-use Rattle.std.specs.Prelude.{◌≡◌, ℕ, ◌+◌, ◌-◌, ◌*◌, ◌≤◌, ◌<◌, Bool, true, false, nat_lt, List, [], ◌∷◌, length, map, filter, take, slice_index, Option}
+use Rattle.std.specs.Prelude.{◌≡◌, ℕ, ◌+◌, ◌-◌, ◌*◌, ◌≤◌, ◌<◌, true, false, nat_lt, List, [], ◌∷◌, length, map, filter, take, slice_index}
 use Rattle.std.specs.Prelude.{if◌then◌else◌}
-use Rattle.std.specs.List.{All, Contains, list_any}
 use Rattle.cs_base.specs.declared.content.doc.Base.{Base}
 use Rattle.cs_base.specs.declared.content.doc.Post.{Post}
 use Rattle.cs_base.specs.declared.content.doc.Scored.{Scored}
@@ -22,13 +19,10 @@ use Rattle.cs_file.specs.Indexes.{IndexView}
 use Rattle.cs_rank.specs.DocScores.{greatest, of_doc}
 use Rattle.cs_tables.specs.TableListings.{post_table}
 use Rattle.cs_tables.specs.declared.tables.Table.{Table}
-use Rattle.cs_tables.specs.WordCounts.{AreCountable, is_chosen}
-use Rattle.cs_engine.specs.Counting.{in_listed}
 use Rattle.cs_engine.specs.Keeping.{IsEntryOver}
-use Rattle.cs_engine.specs.Packing.{IsPacked, key_of}
-use Rattle.cs_engine.specs.IndexReading.{AreWithin, IsWithin, WhereStood, stock_of}
+use Rattle.cs_engine.specs.IndexReading.{AreWithin, stock_of}
 use Rattle.cs_engine.specs.Steps.{AreFound, IsBaseOf, last_is_positive, posts_after}
-use Rattle.cs_engine.specs.Stocked.{Stock, is_between}
+use Rattle.cs_engine.specs.Stocked.{is_between}
 
 -- 0 where the document has no row
 abbrev pub best_of : List Post → ℕ → ℕ
@@ -42,22 +36,6 @@ HasBestScores seen best = (d : ℕ) → d < length best → slice_index best d �
 unfoldable pub hits_in : ℕ → List ℕ → List Scored
 hits_in d [] = []
 hits_in d (b ∷ bs) = if nat_lt 0 b then record { doc = d; score = b - 1 } ∷ hits_in (d + 1) bs else hits_in (d + 1) bs
-
--- the same tests pass on both, there are as many, and the rows of each word are in order
-pub record AreAlike (s : Stock) (lo hi : ℕ) (listed : List Bool) (rows : List Post) : Type 0 where
-  pub among : All (Contains s.posts) rows
-  pub alike : (t : Post → Bool) → list_any t rows ≡ list_any t (filter (in_listed listed) (filter (is_between lo hi) s.posts))
-  pub long : length rows ≡ length (filter (in_listed listed) (filter (is_between lo hi) s.posts))
-  pub countable : AreCountable rows
-
--- each row passes, and is in the range of the index
-pub record AreGathered (i : IndexView) (told : Option (List ℕ)) (lo hi : ℕ) (listed : List Bool) (keys : List ℕ) : Type 0 where
-  pub rows : List Post
-  pub are : keys ≡ map key_of rows
-  pub packed : All IsPacked rows
-  pub within : All (IsWithin i.docs (length i.words)) rows
-  pub passed : All (λ p. is_chosen lo hi listed p ≡ true) rows
-  pub stood : WhereStood told i (λ b. AreAlike (stock_of b) lo hi listed rows)
 
 -- before a query's only part all documents are hits
 pub record AreLastWords (i : IndexView) (q : Query) (hits : Base) (lo hi : ℕ) : Type 0 where

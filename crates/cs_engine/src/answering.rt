@@ -1,22 +1,17 @@
 //! Replies, from the hits of a query and its rows in them.
 ghost use Rattle.std.specs.Prelude.{◌≡◌, ◌*◌, ◌≤◌, ◌<◌, List, ℕ, length, map, IfOk};
 ghost use Rattle.std.specs.List.{All};
-ghost use Rattle.cs_base.specs.declared.content.scores.TheConstants.{MAX_ROW_SCORE};
-ghost use Rattle.cs_base.specs.outside.Causes.{ReadsWithin};
+ghost use Rattle.cs_base.specs.{declared.content.scores.TheConstants.{MAX_ROW_SCORE}, outside.Causes.{ReadsWithin}};
 ghost use Rattle.cs_base.specs.declared.content.limits.TheConstants.{MAX_PARTS};
 ghost use Rattle.cs_file.specs.Indexes.{IsIndex, StandsFor};
 ghost use Rattle.cs_model.specs.Requests.{hit_shown, reply_of};
 ghost use Rattle.cs_query.specs.RequestView.{asked};
-ghost use Rattle.cs_engine.specs.Asking.{titles_read};
-ghost use Rattle.cs_engine.specs.Counting.{AreListed};
-ghost use Rattle.cs_engine.specs.HeldFacets.{AreFacetsOver, HoldsFacets, IsFacet, IsFacetOver, WhereHeld};
-ghost use Rattle.cs_engine.specs.Loose.{IsTableFor};
-ghost use Rattle.cs_engine.specs.IndexReading.{IsOpened, OnlyReads, WhereStood, stock_of};
-ghost use Rattle.cs_engine.specs.Steps.{IsBaseOf};
+ghost use Rattle.cs_engine.specs.{Asking.{titles_read}, HeldFacets.{AreFacetsOver, CountsFacet, HoldsFacets, IsFacetOver, WhereHeld}};
+ghost use Rattle.cs_engine.specs.{Loose.{IsTableFor}, IndexReading.{IsOpened, OnlyReads, WhereStood, stock_of}, Steps.{IsBaseOf}};
 ghost use Rattle.cs_engine.specs.Stocked.{corpus_in, facet_at};
 
 use crate::counting::listed_docs;
-use crate::facets::{FacetRows, facet_of, facet_table};
+use crate::facets::{FacetRows, counted, facet_of};
 use crate::fault::AskFault;
 use crate::hits::listed;
 use crate::replies::shown_words;
@@ -100,15 +95,13 @@ fn shown_facet(
     listed: &[bool],
     cut: u32,
 ) -> Result<FacetShown, Memory>
-    requires index { IsIndex index.now }
-    requires facet { IsFacet index.now facet.now }
-    requires base { IsBaseOf index.now.docs (MAX_ROW_SCORE * MAX_PARTS) base.now }
-    requires listed { AreListed index.now.docs base.now listed.now }
+    requires { CountsFacet index.now facet.now base.now listed.now }
 
     ensures { (b : List ℕ) → StandsFor b index.now → IsFacetOver b facet.now
         → IfOk result (λ shown. shown ≡ facet_at (stock_of b) base.now cut facet.now.name) }
 {
-    let table = facet_table(alloc, index, facet, base, listed, cut)?;
+    let counts = counted(alloc, index, facet, base, listed)?;
+    let table = counts.table(alloc, cut)?;
     let name = facet.name().copy(alloc)?;
     let table = shown_words(alloc, &index.words, table.first.as_slice())?;
     Ok(FacetShown { name, table })

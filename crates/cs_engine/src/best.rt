@@ -1,17 +1,11 @@
 //! The best score of each document, over rows in any order.
 ghost use Rattle.std.specs.Prelude.{◌≡◌, ◌+◌, ◌<◌, ◌≤◌, ◌++◌, ◌*◌, ◌^◌, [], ℕ, true, List, IfOk, drop, filter, length, map, take, if◌then◌else◌};
-ghost use Rattle.std.specs.List.{All};
-ghost use Rattle.std.specs.Vec.{vec_capacity, vec_len};
-ghost use Rattle.cs_base.specs.declared.content.doc.Post.{Post};
+ghost use Rattle.std.specs.{List.{All}, Vec.{vec_capacity, vec_len}};
 ghost use Rattle.cs_base.specs.declared.content.doc.Base.TheVariants as base;
-ghost use Rattle.cs_base.specs.declared.content.scores.TheConstants.{MAX_ROW_SCORE, TITLE_SCORE};
+ghost use Rattle.cs_base.specs.{declared.content.doc.Post.{Post}, declared.content.scores.TheConstants.{MAX_ROW_SCORE, TITLE_SCORE}, content.Orders.{AreByDoc}};
 ghost use Rattle.cs_file.specs.CallAnswers.{AreScoredOf};
 ghost use Rattle.cs_rank.specs.DocScores.{IsBase, scores, with_base};
-ghost use Rattle.cs_base.specs.content.Orders.{AreByDoc};
-ghost use Rattle.cs_engine.specs.Loose.{HasBestScores, hits_in};
-ghost use Rattle.cs_engine.specs.Packing.{post_of_key};
-ghost use Rattle.cs_engine.specs.Spans.{AreHitsBetween, HasEntry, hit_at};
-ghost use Rattle.cs_engine.specs.Steps.{IsBaseOf};
+ghost use Rattle.cs_engine.specs.{Loose.{HasBestScores, hits_in}, Packing.{post_of_key}, Spans.{AreHitsBetween, HasEntry, hit_at}, Steps.{IsBaseOf}};
 ghost use Rattle.cs_tables.specs.WordCounts.{is_chosen, is_of_listed};
 
 use crate::between::{SPAN, is_chosen};
@@ -130,8 +124,12 @@ fn raise_chosen(
     let (lo, hi) = words;
     if are_within(row_words, lo, hi) {
         raise_listed(best, listed, docs, scores);
-    } else {
-        raise_between(best, words, listed, docs, row_words, scores);
+        return;
+    }
+    for i in 0..docs.len() {
+        let at = docs[i] as usize;
+        let counts = is_chosen(docs[i], row_words[i], lo, hi, listed);
+        best[at] = best[at].max(entry_of(counts, scores[i]));
     }
 }
 
@@ -149,33 +147,6 @@ fn raise_listed(best: &mut [u8], listed: &[bool], docs: &[u32], scores: &[u8])
     for i in 0..docs.len() {
         let at = docs[i] as usize;
         best[at] = best[at].max(entry_of(listed[at], scores[i]));
-    }
-}
-
-// The same of rows in listed documents whose word's number is `words.0` or more and below `words.1`.
-fn raise_between(
-    best: &mut [u8],
-    words: (u32, u32),
-    listed: &[bool],
-    docs: &[u32],
-    row_words: &[u32],
-    scores: &[u8],
-)
-    requires words_even { length row_words.now ≡ length docs.now }
-    requires scores_even { length scores.now ≡ length docs.now }
-    requires known { All (λ d. d < length best.old) docs.now }
-    requires long { length listed.now ≡ length best.old }
-    requires small { All (λ s. s ≤ TITLE_SCORE) scores.now }
-
-    ensures best { (rows : List Post) → AreScoredOf rows docs.now row_words.now scores.now → (seen : List Post) → HasBestScores seen best.old
-        → HasBestScores (seen ++ filter (is_chosen words.0 words.1 listed.now) rows) best.new }
-    ensures len { length best.new ≡ length best.old }
-{
-    let (lo, hi) = words;
-    for i in 0..docs.len() {
-        let at = docs[i] as usize;
-        let counts = is_chosen(docs[i], row_words[i], lo, hi, listed);
-        best[at] = best[at].max(entry_of(counts, scores[i]));
     }
 }
 

@@ -2,8 +2,7 @@
 ghost use Rattle.std.specs.Prelude.{◌≡◌, ◌+◌, ◌++◌, ◌<◌, ◌≤◌, ◌&&◌, false, nat_le, nat_lt, List, filter, length, map, slice_index_or, take, IfOk};
 ghost use Rattle.std.specs.List.{All};
 ghost use Rattle.cs_base.specs.declared.content.doc.Post.{Post};
-ghost use Rattle.cs_engine.specs.Spans.{ArePlacesBetween};
-ghost use Rattle.cs_engine.specs.Stocked.{is_between};
+ghost use Rattle.cs_engine.specs.{Spans.{ArePlacesBetween}, Stocked.{is_between}};
 
 use cs_base::Memory;
 use cs_cols::Cols;

@@ -2,16 +2,11 @@
 ghost use Rattle.std.specs.Prelude.{◌≡◌, ◌-◌, ◌*◌, ◌^◌, ◌<◌, false, true, filter, length, IfOk};
 ghost use Rattle.std.specs.List.{All};
 ghost use Rattle.cs_base.specs.declared.content.doc.Base.TheVariants as base;
-ghost use Rattle.cs_base.specs.declared.content.limits.TheConstants.{MAX_PARTS};
-ghost use Rattle.cs_base.specs.declared.content.scores.TheConstants.{MAX_ROW_SCORE};
+ghost use Rattle.cs_base.specs.{declared.content.limits.TheConstants.{MAX_PARTS}, declared.content.scores.TheConstants.{MAX_ROW_SCORE}};
 ghost use Rattle.cs_base.specs.outside.Causes.{ReadsWithin};
 ghost use Rattle.cs_file.specs.Indexes.{IsIndex};
-ghost use Rattle.cs_engine.specs.Blockwise.{AreMany, HasFound, rows_within};
-ghost use Rattle.cs_engine.specs.Counting.{AreListed};
-ghost use Rattle.cs_engine.specs.GatheredRows.{HasGathered};
-ghost use Rattle.cs_engine.specs.IndexReading.{IsOpened, IsWordRange, OnlyReads, WhereStood, stock_of};
-ghost use Rattle.cs_engine.specs.Steps.{IsBaseOf, posts_after};
-ghost use Rattle.cs_engine.specs.Stocked.{is_between};
+ghost use Rattle.cs_engine.specs.{Blockwise.{AreMany, HasFound, rows_within}, Counting.{AreListed}, GatheredRows.{HasGathered}};
+ghost use Rattle.cs_engine.specs.{IndexReading.{IsOpened, IsWordRange, OnlyReads, WhereStood, stock_of}, Steps.{IsBaseOf, posts_after}, Stocked.{is_between}};
 
 use crate::best::{raise_keys, raise_rows, scored_in, zeros};
 use crate::counting::count_keys;

@@ -1,17 +1,12 @@
 //! Which documents a base lists, and the words of rows that were gathered, counted.
 ghost use Rattle.std.specs.Prelude.{◌≡◌, ◌≤◌, ◌<◌, ◌*◌, [], filter, length, map, take, IfOk};
 ghost use Rattle.std.specs.List.{All};
-ghost use Rattle.cs_base.specs.declared.content.limits.TheConstants.{MAX_PARTS};
-ghost use Rattle.cs_base.specs.declared.content.scores.TheConstants.{MAX_ROW_SCORE};
+ghost use Rattle.cs_base.specs.{declared.content.limits.TheConstants.{MAX_PARTS}, declared.content.scores.TheConstants.{MAX_ROW_SCORE}};
 ghost use Rattle.cs_base.specs.outside.Causes.{ReadsWithin};
 ghost use Rattle.cs_file.specs.Indexes.{is_met};
-ghost use Rattle.cs_tables.specs.TableListings.{post_table};
-ghost use Rattle.cs_tables.specs.WordCounts.{AreCountable, HasCounted};
-ghost use Rattle.cs_engine.specs.Counting.{AreListed, AreMarked, in_listed};
-ghost use Rattle.cs_engine.specs.Packing.{post_of_key};
-ghost use Rattle.cs_engine.specs.IndexReading.{IsOpened, IsWordRange, OnlyReads, WhereStood, stock_of};
-ghost use Rattle.cs_engine.specs.Steps.{IsBaseOf};
-ghost use Rattle.cs_engine.specs.Stocked.{is_between};
+ghost use Rattle.cs_tables.specs.{TableListings.{post_table}, WordCounts.{AreCountable, HasCounted}};
+ghost use Rattle.cs_engine.specs.{Counting.{AreListed, AreMarked, in_listed}, Packing.{post_of_key}};
+ghost use Rattle.cs_engine.specs.{IndexReading.{IsOpened, IsWordRange, OnlyReads, WhereStood, stock_of}, Steps.{IsBaseOf}, Stocked.{is_between}};
 
 use crate::fault::AskFault;
 use crate::packing::post_of;

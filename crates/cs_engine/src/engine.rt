@@ -4,12 +4,9 @@ ghost use Rattle.std.specs.Option.{ForSome};
 ghost use Rattle.cs_base.specs.outside.Causes.{ReadsWithin};
 ghost use Rattle.cs_cache.specs.AnswerList.{answer_list};
 ghost use Rattle.cs_file.specs.Indexes.{HasAllBlocks, StandsFor, CausedReads};
-ghost use Rattle.cs_model.specs.Parameters.{HoldsLimits};
-ghost use Rattle.cs_model.specs.Requests.{reply_of};
+ghost use Rattle.cs_model.specs.{Parameters.{HoldsLimits}, Requests.{reply_of}};
 ghost use Rattle.cs_model_index.specs.Sections.{file_corpus};
-ghost use Rattle.cs_model_kept.specs.Due.{due};
-ghost use Rattle.cs_model_kept.specs.KeptList.{plan_by, is_same};
-ghost use Rattle.cs_model_kept.specs.declared.limits.TheConstants.{MAX_ENTRIES};
+ghost use Rattle.cs_model_kept.specs.{Due.{due}, KeptList.{plan_by, is_same}, declared.limits.TheConstants.{MAX_ENTRIES}};
 ghost use Rattle.cs_query.specs.RequestView.{asked};
 ghost use Rattle.cs_engine.specs.Asking.{IsChangeIn, division, is_read, is_changed, titles_asked};
 ghost use Rattle.cs_engine.specs.Keeping.{AreGood, IsAfter, KeepsAnswers, became, entries_behind, note_plan};
@@ -80,9 +77,11 @@ impl Engine {
         requires fits { HasAllBlocks (S.bytes store.old) self.old.index }
 
         // Over bytes that stand for the index, where what is kept is good: the reply is right, and what is kept stays good.
-        ensures ok { ForSome (S.bytes store.old) (λ b. StandsFor b self.old.index → AreGood b self.old → IfOk result (λ r. r.0 ≡ reply_of (file_corpus b) (asked request.now))) }
+        ensures ok { ForSome (S.bytes store.old) (λ b. StandsFor b self.old.index → AreGood b self.old
+            → IfOk result (λ r. r.0 ≡ reply_of (file_corpus b) (asked request.now))) }
         ensures good { ForSome (S.bytes store.old) (λ b. StandsFor b self.old.index → AreGood b self.old → AreGood b self.new) }
-        ensures after { ForSome (S.bytes store.old) (λ b. StandsFor b self.old.index → AreGood b self.old → IsAfter b request.now.query self.old result self.new) }
+        ensures after { ForSome (S.bytes store.old) (λ b. StandsFor b self.old.index → AreGood b self.old
+            → IsAfter b request.now.query self.old result self.new) }
         ensures unchanged { ForSome (S.bytes store.old) (λ b. StandsFor b self.old.index → is_changed result ≡ false) }
 
         // Over each store: how much is shown, what is kept, what is left as it was, how much is read, and why it is refused. A change
@@ -92,7 +91,9 @@ impl Engine {
         ensures index { self.new.index ≡ self.old.index }
         ensures bytes { S.bytes store.new ≡ S.bytes store.old }
         ensures lent { S.lent store.new ≡ S.lent store.old }
-        ensures reads { ReadsWithin (due (division self.old.index) (asked request.now) (note_plan request.now.query self.old.answers) (titles_asked (asked request.now) result)) (S.reads store.old) (S.reads store.new) }
+        ensures reads { ReadsWithin
+            (due (division self.old.index) (asked request.now) (note_plan request.now.query self.old.answers) (titles_asked (asked request.now) result))
+            (S.reads store.old) (S.reads store.new) }
         ensures caused { CausedReads (is_read result) (S.faults store.old) (S.faults store.new) }
         ensures changed { IfErr result (IsChangeIn self.old.index (S.bytes store.old)) }
     {

@@ -1,11 +1,10 @@
 //! Entries: the hits from which a query's last part goes on, and the rows of that part in them.
 ghost use Rattle.std.specs.Prelude.{◌≡◌, ◌<◌, [], map, IfOk};
 ghost use Rattle.std.specs.List.{All};
-ghost use Rattle.cs_base.specs.content.Orders.{AreSorted};
 ghost use Rattle.cs_base.specs.declared.content.doc.Base.TheVariants as base;
+ghost use Rattle.cs_base.specs.content.Orders.{AreSorted};
 ghost use Rattle.cs_rank.specs.DocScores.{IsBase};
-ghost use Rattle.cs_engine.specs.Steps.{posts_hits, posts_after, docs_after, with_no_score};
-ghost use Rattle.cs_engine.specs.Stocked.{docs_in};
+ghost use Rattle.cs_engine.specs.{Steps.{posts_hits, posts_after, docs_after, with_no_score}, Stocked.{docs_in}};
 
 use crate::hits::{all_docs, kept_in, numbers_of, without};
 use cs_base::{Base, Memory, Scored, Seq};

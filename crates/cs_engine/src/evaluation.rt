@@ -1,12 +1,9 @@
 //! The rows of a part, read from its atoms up.
 ghost use Rattle.std.specs.Prelude.{◌≡◌, IfOk};
-ghost use Rattle.cs_base.specs.content.Orders.{AreDocs};
-ghost use Rattle.cs_base.specs.outside.Causes.{ReadsWithin};
+ghost use Rattle.cs_base.specs.{content.Orders.{AreDocs}, outside.Causes.{ReadsWithin}};
 ghost use Rattle.cs_model.specs.Answers.{hits, parts_of, rows_of_atom, rows_of_chain, rows_of_part};
 ghost use Rattle.cs_model_kept.specs.Due.{met_of_atom, met_of_chain, met_of_part, met_of_query};
-ghost use Rattle.cs_engine.specs.Asking.{division};
-ghost use Rattle.cs_engine.specs.IndexReading.{AreWithin, HasRows, IsOpened, OnlyReads, WhereStood, stock_of};
-ghost use Rattle.cs_engine.specs.Stocked.{corpus_in};
+ghost use Rattle.cs_engine.specs.{Asking.{division}, IndexReading.{AreWithin, HasRows, IsOpened, OnlyReads, WhereStood, stock_of}, Stocked.{corpus_in}};
 
 use crate::entries::{agreeing, docs_of_base};
 use crate::fault::AskFault;

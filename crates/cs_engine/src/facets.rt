@@ -1,22 +1,13 @@
-//! Facets whose rows are held from one request to the next, so that they are read once, and their tables.
-ghost use Rattle.std.specs.Prelude.{◌≡◌, ◌⊎◌, ◌<◌, ◌*◌, [], true, Some, take, filter, length, IfOk, OnOk, OnErr, option_copied, List, ◌∷◌, ◌++◌, ℕ};
-ghost use Rattle.std.specs.List.{All, find};
-ghost use Rattle.std.specs.Str.{bytes_eq};
-ghost use Rattle.cs_base.specs.declared.content.limits.TheConstants.{MAX_PARTS};
-ghost use Rattle.cs_base.specs.declared.content.scores.TheConstants.{MAX_ROW_SCORE};
-ghost use Rattle.cs_base.specs.outside.Causes.{ReadsWithin};
-ghost use Rattle.cs_base.specs.declared.content.doc.Post.{Post};
-ghost use Rattle.cs_file.specs.Indexes.{HasAllBlocks, IsIndex};
+//! Facets whose rows are held from one request to the next, so that they are read once, and their words, counted.
+ghost use Rattle.std.specs.Prelude.{◌≡◌, ◌⊎◌, [], true, Some, filter, IfOk, OnOk, OnErr, option_copied, List, ◌∷◌, ◌++◌, ℕ};
+ghost use Rattle.std.specs.{List.{All, find}, Str.{bytes_eq}};
+ghost use Rattle.cs_base.specs.{outside.Causes.{ReadsWithin}, declared.content.doc.Post.{Post}};
+ghost use Rattle.cs_file.specs.Indexes.{HasAllBlocks};
 ghost use Rattle.cs_model.specs.Collection.{named};
 ghost use Rattle.cs_model_kept.specs.Due.{met_of_facets, met_prefix};
-ghost use Rattle.cs_tables.specs.TableListings.{post_table};
 ghost use Rattle.cs_tables.specs.WordCounts.{HasCounted};
-ghost use Rattle.cs_engine.specs.Asking.{division};
-ghost use Rattle.cs_engine.specs.Counting.{AreListed, in_listed};
-ghost use Rattle.cs_engine.specs.HeldFacets.{AreFacetsOver, HoldsFacets, IsFacet, IsFacetOver, has_facet};
-ghost use Rattle.cs_engine.specs.IndexReading.{IsOpened, OnlyReads, WhereStood};
-ghost use Rattle.cs_engine.specs.Steps.{IsBaseOf};
-ghost use Rattle.cs_engine.specs.Stocked.{is_between};
+ghost use Rattle.cs_engine.specs.{Asking.{division}, Counting.{in_listed}, IndexReading.{IsOpened, OnlyReads, WhereStood}, Stocked.{is_between}};
+ghost use Rattle.cs_engine.specs.HeldFacets.{AreFacetsOver, CountsFacet, HoldsFacets, IsFacet, IsFacetOver, has_facet};
 
 use crate::fault::AskFault;
 use crate::hits::numbers_of;
@@ -25,7 +16,7 @@ use cs_base::{Base, Memory, Store, Text};
 use cs_cols::Cols;
 use cs_file::Index;
 use cs_meet::keep_docs;
-use cs_tables::{Table, WordCounts};
+use cs_tables::WordCounts;
 use cs_text::named_word;
 use std::alloc::Global;
 use std::marker::Model;
@@ -82,26 +73,6 @@ pub(crate) fn hold_facets<S: Store>(
     // the type of an index says what it keeps where a field of it is read
     let _ = &index.docs;
     forget_many(held);
-    hold_each(alloc, index, store, names, held)
-}
-
-// Reads the rows of those of some facets that aren't held yet.
-fn hold_each<S: Store>(
-    alloc: Global,
-    index: &Index,
-    store: &mut S,
-    names: &[Text],
-    held: &mut Vec<FacetRows>,
-) -> Result<(), AskFault>
-    requires facets { All (IsFacet index.now) held.old.items }
-    requires opened { IsOpened (S.bytes store.old) index.now }
-
-    ensures facets { All (IsFacet index.now) held.new.items }
-    ensures there { OnOk result (HoldsFacets index.now held.new.items names.now) }
-    ensures told { WhereStood (S.bytes store.old) index.now (λ b. AreFacetsOver b held.old.items → AreFacetsOver b held.new.items) }
-    ensures store { OnlyReads S.bytes S.lent S.faults index.now store.old store.new result }
-    ensures reads { ReadsWithin (met_of_facets (division index.now) names.now) (S.reads store.old) (S.reads store.new) }
-{
     for name in names {
         hold_facet(alloc, index, store, name, held)?;
     }
@@ -205,41 +176,16 @@ fn find_facet<'a>(held: &'a [FacetRows], name: &Text) -> Option<&'a FacetRows>
     held.iter().find(|facet| facet.name == *name)
 }
 
-/// The table of a facet's rows in the documents that a base lists, which are those of `listed`.
-pub(crate) fn facet_table(
-    alloc: Global,
-    index: &Index,
-    facet: &FacetRows,
-    base: &Base,
-    listed: &[bool],
-    cut: u32,
-) -> Result<Table, Memory>
-    requires index { IsIndex index.now }
-    requires facet { IsFacet index.now facet.now }
-    requires base { IsBaseOf index.now.docs (MAX_ROW_SCORE * MAX_PARTS) base.now }
-    requires listed { AreListed index.now.docs base.now listed.now }
-
-    ensures told { (all : List Post) → facet.now.posts ≡ filter (is_between facet.now.low facet.now.high) all
-        → IfOk result (λ t. t.first ≡ take cut (post_table (filter (in_listed listed.now) facet.now.posts))) }
-    ensures known { IfOk result (λ t. All (λ w. w.word < length index.now.words) t.first) }
-{
-    let counts = counted(alloc, index, facet, base, listed)?;
-    let table = counts.table(alloc, cut)?;
-    Ok(table)
-}
-
-// The words of a facet, counted in the documents that a base lists. Where these are few, the rows are looked up by them.
-fn counted(
+/// The words of a facet, counted in the documents that a base lists, which are those of `listed`. Where these are few, the rows are
+/// looked up by them.
+pub(crate) fn counted(
     alloc: Global,
     index: &Index,
     facet: &FacetRows,
     base: &Base,
     listed: &[bool],
 ) -> Result<WordCounts, Memory>
-    requires index { IsIndex index.now }
-    requires facet { IsFacet index.now facet.now }
-    requires base { IsBaseOf index.now.docs (MAX_ROW_SCORE * MAX_PARTS) base.now }
-    requires listed { AreListed index.now.docs base.now listed.now }
+    requires { CountsFacet index.now facet.now base.now listed.now }
 
     ensures told { (all : List Post) → facet.now.posts ≡ filter (is_between facet.now.low facet.now.high) all
         → IfOk result (HasCounted (filter (in_listed listed.now) facet.now.posts)) }

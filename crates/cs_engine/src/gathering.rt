@@ -2,8 +2,7 @@
 ghost use Rattle.std.specs.Prelude.{◌≡◌, ◌-◌, ◌<◌, ◌^◌, ℕ, Bool, List, Option, filter, length, IfOk};
 ghost use Rattle.cs_base.specs.outside.Causes.{ReadsWithin};
 ghost use Rattle.cs_file.specs.Indexes.{is_met};
-ghost use Rattle.cs_engine.specs.GatheredRows.{HasGathered};
-ghost use Rattle.cs_engine.specs.IndexReading.{IsOpened, IsWordRange, OnlyReads};
+ghost use Rattle.cs_engine.specs.{GatheredRows.{HasGathered}, IndexReading.{IsOpened, IsWordRange, OnlyReads}};
 
 use crate::fault::AskFault;
 use crate::packing::pack;

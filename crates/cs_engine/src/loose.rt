@@ -1,21 +1,15 @@
 //! The reply to a query whose last part asks for the words from one number up to another. Where its own entry is too large, its rows
 //! are brought into no order.
-ghost use Rattle.std.specs.Prelude.{◌≡◌, ◌+◌, ◌-◌, ◌≤◌, true, filter, length, IfOk, IfSome};
+ghost use Rattle.std.specs.Prelude.{◌≡◌, ◌+◌, ◌-◌, ◌≤◌, true, filter, length, IfOk};
 ghost use Rattle.cs_base.specs.declared.content.doc.Base.TheVariants as base;
 ghost use Rattle.cs_base.specs.outside.Causes.{ReadsWithin};
 ghost use Rattle.cs_file.specs.Indexes.{IsIndex, is_met};
-ghost use Rattle.cs_model.specs.Parameters.{HoldsLimits};
-ghost use Rattle.cs_model.specs.Requests.{reply_of};
+ghost use Rattle.cs_model.specs.{Parameters.{HoldsLimits}, Requests.{reply_of}};
 ghost use Rattle.cs_model_index.specs.Sections.{file_corpus};
 ghost use Rattle.cs_model_kept.specs.Entries.{listed_count};
 ghost use Rattle.cs_query.specs.RequestView.{asked};
-ghost use Rattle.cs_engine.specs.Asking.{titles_asked, titles_read};
-ghost use Rattle.cs_engine.specs.Blockwise.{AreMany};
-ghost use Rattle.cs_engine.specs.HeldFacets.{HoldsFacets, WhereHeld};
-ghost use Rattle.cs_engine.specs.Keeping.{FitsQuery, IsAnsweredOver};
-ghost use Rattle.cs_engine.specs.Counting.{AreListed};
-ghost use Rattle.cs_engine.specs.GatheredRows.{HasGathered};
-ghost use Rattle.cs_engine.specs.Loose.{AreLastWords, IsEntryByWords};
+ghost use Rattle.cs_engine.specs.{Asking.{titles_asked, titles_read}, Blockwise.{AreMany}, HeldFacets.{HoldsFacets, WhereHeld}};
+ghost use Rattle.cs_engine.specs.{Keeping.{FitsAnswer, IsAnsweredOver}, Counting.{AreListed}, GatheredRows.{HasGathered}, Loose.{AreLastWords, IsEntryByWords}};
 ghost use Rattle.cs_engine.specs.IndexReading.{IsOpened, IsWordRange, OnlyReads};
 
 use crate::answering::reply_of;
@@ -51,8 +45,7 @@ pub(crate) fn answered_by_words<S: Store>(
 
     ensures told { WhereHeld (S.bytes store.old) index.now held.now
         (λ b. IsEntryByWords b index.now request.now.query hits words.0 words.1 → IfOk result (IsAnsweredOver b index.now (asked request.now))) }
-    ensures few { IfOk result (λ a. length a.0.hits ≤ request.now.hits) }
-    ensures within { IfOk result (λ a. IfSome a.1 (FitsQuery index.now request.now.query)) }
+    ensures fits { IfOk result (FitsAnswer index.now (asked request.now)) }
     ensures store { OnlyReads S.bytes S.lent S.faults index.now store.old store.new result }
     ensures reads { ReadsWithin (titles_asked (asked request.now) result + length
         (filter (is_met words.0 words.1) index.now.heads)) (S.reads store.old) (S.reads store.new) }

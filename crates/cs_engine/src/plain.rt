@@ -4,8 +4,7 @@ ghost use Rattle.cs_base.specs.declared.content.query.Part.{out-Part};
 ghost use Rattle.cs_file.specs.Indexes.{IsIndex};
 ghost use Rattle.cs_model.specs.Answers.{rows_of_atom, rows_of_chain, rows_of_part};
 ghost use Rattle.cs_model_kept.specs.Due.{met_of_atom, met_of_chain, met_of_part};
-ghost use Rattle.cs_engine.specs.Asking.{division};
-ghost use Rattle.cs_engine.specs.Plain.{AreWordsOf};
+ghost use Rattle.cs_engine.specs.{Asking.{division}, Plain.{AreWordsOf}};
 
 use crate::words::span_of_word;
 use cs_base::{Atom, Chain, Part};

@@ -1,19 +1,12 @@
 //! A query by a kept entry or by hits: its own entry where a letter more is typed, and the reply to it and one part more.
 ghost use Rattle.std.specs.Prelude.{◌≡◌, ◌+◌, ◌-◌, ◌*◌, ◌≤◌, filter, length, IsSome, IfSome, IfOk};
-ghost use Rattle.cs_base.specs.outside.Causes.{ReadsWithin};
-ghost use Rattle.cs_base.specs.declared.content.scores.TheConstants.{MAX_ROW_SCORE};
-ghost use Rattle.cs_base.specs.declared.content.query.Query.{out-Query};
-ghost use Rattle.cs_model.specs.Answers.{begins};
-ghost use Rattle.cs_model.specs.Keys.{last_of, last_prefix};
-ghost use Rattle.cs_model.specs.Parameters.{HoldsLimits};
+ghost use Rattle.cs_base.specs.{outside.Causes.{ReadsWithin}, declared.content.scores.TheConstants.{MAX_ROW_SCORE}, declared.content.query.Query.{out-Query}};
+ghost use Rattle.cs_model.specs.{Answers.{begins}, Keys.{last_of, last_prefix}, Parameters.{HoldsLimits}};
 ghost use Rattle.cs_model_index.specs.Numbered.{word_at};
-ghost use Rattle.cs_model_kept.specs.Due.{met_of_last};
-ghost use Rattle.cs_model_kept.specs.KeptListLaws.{before_last};
+ghost use Rattle.cs_model_kept.specs.{Due.{met_of_last}, KeptListLaws.{before_last}};
 ghost use Rattle.cs_query.specs.RequestView.{asked};
-ghost use Rattle.cs_engine.specs.Asking.{division, titles_asked};
-ghost use Rattle.cs_engine.specs.HeldFacets.{HoldsFacets, WhereHeld};
-ghost use Rattle.cs_engine.specs.Keeping.{FitsQuery, IsAnsweredOver, IsEntryOver, entry_with};
-ghost use Rattle.cs_engine.specs.IndexReading.{AreWithin, IsOpened, OnlyReads};
+ghost use Rattle.cs_engine.specs.{Asking.{division, titles_asked}, HeldFacets.{HoldsFacets, WhereHeld}};
+ghost use Rattle.cs_engine.specs.{Keeping.{FitsAnswer, FitsQuery, IsAnsweredOver, IsEntryOver, entry_with}, IndexReading.{AreWithin, IsOpened, OnlyReads}};
 ghost use Rattle.cs_engine.specs.Steps.{AreHitsOver, IsBaseOf};
 
 use crate::between::posts_between;
@@ -79,8 +72,7 @@ pub(crate) fn answered_by_part<S: Store>(
     ensures told { WhereHeld (S.bytes store.old) index.now held.now
         (λ b. IsEntryOver b index.now (before_last request.now.query) (entry_with base.now rows.now.posts)
         → IfOk result (IsAnsweredOver b index.now (asked request.now))) }
-    ensures few { IfOk result (λ a. length a.0.hits ≤ request.now.hits) }
-    ensures within { IfOk result (λ a. IfSome a.1 (FitsQuery index.now request.now.query)) }
+    ensures fits { IfOk result (FitsAnswer index.now (asked request.now)) }
     ensures store { OnlyReads S.bytes S.lent S.faults index.now store.old store.new result }
     ensures reads { ReadsWithin (titles_asked (asked request.now) result + met_of_last
         (division index.now) (last_of (out-Query request.now.query).parts)) (S.reads store.old) (S.reads store.new) }
@@ -109,8 +101,7 @@ pub(crate) fn answered_by_hits<S: Store>(
 
     ensures told { WhereHeld (S.bytes store.old) index.now held.now
         (λ b. AreHitsOver b (before_last request.now.query) hits → IfOk result (IsAnsweredOver b index.now (asked request.now))) }
-    ensures few { IfOk result (λ a. length a.0.hits ≤ request.now.hits) }
-    ensures within { IfOk result (λ a. IfSome a.1 (FitsQuery index.now request.now.query)) }
+    ensures fits { IfOk result (FitsAnswer index.now (asked request.now)) }
     ensures store { OnlyReads S.bytes S.lent S.faults index.now store.old store.new result }
     ensures reads { ReadsWithin (titles_asked (asked request.now) result + met_of_last
         (division index.now) (last_of (out-Query request.now.query).parts)) (S.reads store.old) (S.reads store.new) }

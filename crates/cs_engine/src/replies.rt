@@ -1,7 +1,6 @@
 //! Words as they are shown.
 ghost use Rattle.std.specs.Prelude.{◌≡◌, ◌<◌, IfOk, length, map};
-ghost use Rattle.std.specs.List.{All};
-ghost use Rattle.std.specs.Str.{IsUtf8};
+ghost use Rattle.std.specs.{List.{All}, Str.{IsUtf8}};
 ghost use Rattle.cs_model.specs.Replies.{shown_word};
 ghost use Rattle.cs_engine.specs.Stocked.{shown_at};
 

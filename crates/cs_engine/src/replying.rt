@@ -1,19 +1,13 @@
 //! The reply to a request by its plan, and the query's own entry where that wasn't kept before.
-ghost use Rattle.std.specs.Prelude.{◌≡◌, ◌+◌, ◌≤◌, Some, false, true, is_some, length, IfSome, IfOk};
-ghost use Rattle.cs_base.specs.declared.index.plan.Kept.TheVariants as kept;
+ghost use Rattle.std.specs.Prelude.{◌≡◌, ◌+◌, ◌≤◌, false, true, is_some, length, IfOk};
 ghost use Rattle.cs_base.specs.outside.Causes.{ReadsWithin};
 ghost use Rattle.cs_file.specs.Indexes.{HasAllBlocks};
-ghost use Rattle.cs_model.specs.Keys.{keys_of};
-ghost use Rattle.cs_model.specs.Parameters.{HoldsLimits};
-ghost use Rattle.cs_model.specs.Requests.{reply_of};
+ghost use Rattle.cs_model.specs.{Keys.{keys_of}, Parameters.{HoldsLimits}, Requests.{reply_of}};
 ghost use Rattle.cs_model_index.specs.Sections.{file_corpus};
-ghost use Rattle.cs_model_kept.specs.Due.{met_by, met_of_query};
-ghost use Rattle.cs_model_kept.specs.Entries.{entry_of};
-ghost use Rattle.cs_model_kept.specs.KeptList.{kept_fresh, plan_by, is_same};
+ghost use Rattle.cs_model_kept.specs.{Due.{met_by, met_of_query}, KeptList.{plan_by, is_same}};
 ghost use Rattle.cs_query.specs.RequestView.{asked};
-ghost use Rattle.cs_engine.specs.Asking.{division, titles_asked, titles_read};
-ghost use Rattle.cs_engine.specs.HeldFacets.{HoldsFacets, WhereHeld};
-ghost use Rattle.cs_engine.specs.Keeping.{FitsQuery, HoldsGood, IsAnsweredOver, IsEntryOver, KeepsFitting, entry_with};
+ghost use Rattle.cs_engine.specs.{Asking.{division, titles_asked, titles_read}, HeldFacets.{HoldsFacets, WhereHeld}};
+ghost use Rattle.cs_engine.specs.Keeping.{FitsAnswer, FitsQuery, HoldsGood, IsAnsweredOver, IsEntryOver, IsRepliedOver, KeepsFitting, entry_with};
 ghost use Rattle.cs_engine.specs.IndexReading.{IsOpened, OnlyReads};
 
 use crate::answering::reply_of;
@@ -49,15 +43,9 @@ pub(crate) fn answered<S: Store>(
     requires fits { HasAllBlocks (S.bytes store.old) index.now }
 
     ensures told { WhereHeld (S.bytes store.old) index.now held.now
-        (λ b. HoldsGood b index.now answers.now.entries → IfOk result (λ a. a.0 ≡ reply_of (file_corpus b) (asked request.now))) }
-    ensures own { WhereHeld (S.bytes store.old) index.now held.now
-        (λ b. HoldsGood b index.now answers.now.entries → IfOk result (λ a. IfSome a.1 (IsEntryOver b index.now request.now.query))) }
-    ensures few { IfOk result (λ a. length a.0.hits ≤ request.now.hits) }
-    ensures within { IfOk result (λ a. IfSome a.1 (FitsQuery index.now request.now.query)) }
+        (λ b. HoldsGood b index.now answers.now.entries → IfOk result (IsRepliedOver b index.now (asked request.now) plan)) }
+    ensures fits { IfOk result (FitsAnswer index.now (asked request.now)) }
     ensures had { IfOk result (λ a. is_same plan ≡ true → is_some a.1 ≡ false) }
-    ensures large { WhereHeld (S.bytes store.old) index.now held.now
-        (λ b. HoldsGood b index.now answers.now.entries
-        → IfOk result (λ a. is_some a.1 ≡ false → is_same plan ≡ false → kept_fresh (entry_of (file_corpus b) request.now.query) ≡ kept.TooLarge)) }
     ensures store { OnlyReads S.bytes S.lent S.faults index.now store.old store.new result }
     ensures reads { ReadsWithin (titles_asked (asked request.now) result + met_by (division index.now) request.now.query plan) (S.reads store.old)
         (S.reads store.new) }
@@ -103,8 +91,7 @@ fn fresh<S: Store>(
     requires opened { IsOpened (S.bytes store.old) index.now }
 
     ensures told { WhereHeld (S.bytes store.old) index.now held.now (λ b. IfOk result (IsAnsweredOver b index.now (asked request.now))) }
-    ensures few { IfOk result (λ a. length a.0.hits ≤ request.now.hits) }
-    ensures within { IfOk result (λ a. IfSome a.1 (FitsQuery index.now request.now.query)) }
+    ensures fits { IfOk result (FitsAnswer index.now (asked request.now)) }
     ensures store { OnlyReads S.bytes S.lent S.faults index.now store.old store.new result }
     ensures reads { ReadsWithin (titles_asked (asked request.now) result + met_of_query
         (division index.now) request.now.query) (S.reads store.old) (S.reads store.new) }
@@ -135,9 +122,8 @@ pub(crate) fn with_reply<S: Store>(
     requires opened { IsOpened (S.bytes store.old) index.now }
 
     ensures told { WhereHeld (S.bytes store.old) index.now held.now
-        (λ b. IsEntryOver b index.now request.now.query entry → IfOk result (λ a. a.0 ≡ reply_of (file_corpus b) (asked request.now))) }
-    ensures few { IfOk result (λ a. length a.0.hits ≤ request.now.hits) }
-    ensures same { IfOk result (λ a. a.1 ≡ Some entry) }
+        (λ b. IsEntryOver b index.now request.now.query entry → IfOk result (IsAnsweredOver b index.now (asked request.now))) }
+    ensures fits { IfOk result (FitsAnswer index.now (asked request.now)) }
     ensures store { OnlyReads S.bytes S.lent S.faults index.now store.old store.new result }
     ensures reads { ReadsWithin (titles_asked (asked request.now) result) (S.reads store.old)
         (S.reads store.new) }

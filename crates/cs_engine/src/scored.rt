@@ -1,16 +1,12 @@
 //! The hits of a query and one part more that asks for a range of words: the best score of each document is noted as its rows are read.
 ghost use Rattle.std.specs.Prelude.{◌≡◌, ℕ, ◌+◌, ◌*◌, false, filter, length, IfOk};
 ghost use Rattle.cs_base.specs.declared.content.doc.Base.TheVariants as base;
-ghost use Rattle.cs_base.specs.declared.content.limits.TheConstants.{MAX_PARTS};
-ghost use Rattle.cs_base.specs.declared.content.scores.TheConstants.{MAX_ROW_SCORE};
+ghost use Rattle.cs_base.specs.{declared.content.limits.TheConstants.{MAX_PARTS}, declared.content.scores.TheConstants.{MAX_ROW_SCORE}};
 ghost use Rattle.cs_base.specs.outside.Causes.{ReadsWithin};
 ghost use Rattle.cs_file.specs.Indexes.{is_met};
 ghost use Rattle.cs_rank.specs.DocScores.{scores};
-ghost use Rattle.cs_engine.specs.Counting.{in_listed};
-ghost use Rattle.cs_engine.specs.Loose.{HasBestScores};
-ghost use Rattle.cs_engine.specs.IndexReading.{IsOpened, IsWordRange, OnlyReads, WhereStood, stock_of};
-ghost use Rattle.cs_engine.specs.Steps.{IsBaseOf, posts_after};
-ghost use Rattle.cs_engine.specs.Stocked.{is_between};
+ghost use Rattle.cs_engine.specs.{Counting.{in_listed}, Loose.{HasBestScores}, IndexReading.{IsOpened, IsWordRange, OnlyReads, WhereStood, stock_of}};
+ghost use Rattle.cs_engine.specs.{Steps.{IsBaseOf, posts_after}, Stocked.{is_between}};
 
 use crate::best::{raise_rows, scored_in, zeros};
 use crate::counting::listed_docs;

@@ -1,16 +1,12 @@
 //! The hits of a query, part by part, and the entry of a query and one part more.
 ghost use Rattle.std.specs.Prelude.{◌≡◌, ℕ, ◌+◌, ◌*◌, ◌≤◌, not, length, map, sum, IfOk};
-ghost use Rattle.cs_base.specs.declared.content.scores.TheConstants.{MAX_ROW_SCORE};
-ghost use Rattle.cs_base.specs.outside.Causes.{ReadsWithin};
-ghost use Rattle.cs_base.specs.declared.content.limits.TheConstants.{MAX_PARTS};
-ghost use Rattle.cs_base.specs.declared.content.query.Query.{Query, out-Query};
+ghost use Rattle.cs_base.specs.{declared.content.scores.TheConstants.{MAX_ROW_SCORE}, outside.Causes.{ReadsWithin}};
+ghost use Rattle.cs_base.specs.{declared.content.limits.TheConstants.{MAX_PARTS}, declared.content.query.Query.{Query, out-Query}};
 ghost use Rattle.cs_base.specs.declared.content.query.Part.{out-Part};
 ghost use Rattle.cs_model.specs.Answers.{rows_of_part};
 ghost use Rattle.cs_model_kept.specs.Due.{met_of_part};
-ghost use Rattle.cs_engine.specs.Asking.{division};
-ghost use Rattle.cs_engine.specs.IndexReading.{IsOpened, OnlyReads, WhereStood, stock_of};
-ghost use Rattle.cs_engine.specs.Steps.{AreHitsBehind, AreHitsOver, EntryFits, IsBaseOf, IsStep, end_positive};
-ghost use Rattle.cs_engine.specs.Stocked.{corpus_in};
+ghost use Rattle.cs_engine.specs.{Asking.{division}, IndexReading.{IsOpened, OnlyReads, WhereStood, stock_of}};
+ghost use Rattle.cs_engine.specs.{Steps.{AreHitsBehind, AreHitsOver, EntryFits, IsBaseOf, IsStep, end_positive}, Stocked.{corpus_in}};
 
 use crate::entries::{entry_after, hits_of};
 use crate::evaluation::rows_of_part;

@@ -1,14 +1,11 @@
 //! The rows of the words that an atom asks for.
 ghost use Rattle.std.specs.Prelude.{◌≡◌, ◌+◌, ◌≤◌, [], false, filter, IfOk};
-ghost use Rattle.std.specs.List.{list_any};
-ghost use Rattle.std.specs.Str.{bytes_eq};
+ghost use Rattle.std.specs.{List.{list_any}, Str.{bytes_eq}};
 ghost use Rattle.cs_base.specs.outside.Causes.{ReadsWithin};
 ghost use Rattle.cs_file.specs.Indexes.{IsIndex};
-ghost use Rattle.cs_model.specs.Answers.{begins, of_word};
-ghost use Rattle.cs_model.specs.Collection.{named};
+ghost use Rattle.cs_model.specs.{Answers.{begins, of_word}, Collection.{named}};
 ghost use Rattle.cs_model_kept.specs.Due.{met_prefix, met_word};
-ghost use Rattle.cs_engine.specs.Asking.{division};
-ghost use Rattle.cs_engine.specs.IndexReading.{AreWithin, HasRows, IsOpened, IsSpanOf, OnlyReads, WhereStood, stock_of};
+ghost use Rattle.cs_engine.specs.{Asking.{division}, IndexReading.{AreWithin, HasRows, IsOpened, IsSpanOf, OnlyReads, WhereStood, stock_of}};
 ghost use Rattle.cs_engine.specs.Stocked.{corpus_in};
 
 use crate::fault::AskFault;

@@ -13,14 +13,16 @@ use Rattle.cs_engine.proofs.answering.shown_facets.Goals as goal
 pub facet_of-facet-requires : goal.facet_of-facet-requires
 facet_of-facet-requires c = held_at c.args.held.now (asked c.args.request.now).facets c.as_slice-name-items.result.now c.requires.held.there c.as_slice-name-items.ensures c.loop-name-test.true c.name-item.is
 
-pub shown_facet-requires-clause-facet : goal.shown_facet-requires-clause-facet
-shown_facet-requires-clause-facet c = found_holds (IsFacet c.args.index.now) _ c.args.held.now c.facet_of-facet.result.now c.facet_of-facet.ensures c.requires.held.facets
-
-pub shown_facet-requires-clause-listed : goal.shown_facet-requires-clause-listed
-shown_facet-requires-clause-listed c =
+pub shown_facet-requires : goal.shown_facet-requires
+shown_facet-requires c =
     let base = c.args.base.now in
-    subst (λ n. AreListed n base c.deref.result.now) (ap (λ (x : IndexView). x.docs) c.index.view_is)
-    (subst (AreListed c.index.inside.docs base) (sym c.deref.ensures.value) c.in_ok-listed.ensures)
+    record {
+      index = c.requires.index;
+      facet = found_holds (IsFacet c.args.index.now) _ c.args.held.now c.facet_of-facet.result.now c.facet_of-facet.ensures c.requires.held.facets;
+      base = c.requires.base;
+      listed = subst (λ n. AreListed n base c.deref.result.now) (ap (λ (x : IndexView). x.docs) c.index.view_is)
+          (subst (AreListed c.index.inside.docs base) (sym c.deref.ensures.value) c.in_ok-listed.ensures);
+    }
 
 pub loop-name-preserved : goal.loop-name-preserved
 loop-name-preserved c =

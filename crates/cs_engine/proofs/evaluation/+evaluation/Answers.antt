@@ -34,29 +34,18 @@ docs_of_hits-agreeing-requires-clause-known g t c =
     subst (λ m. All (λ (p : Post). p.doc < m) c.in_ok-rows.rows.posts) (sym docs)
     (known_docs c.args.index.now c.in_ok-rows.rows.posts c.in_ok-rows.ensures.within)
 
-pub docs_of_hits-returns-in_err-rows-clause-reads : goal.docs_of_hits-returns-in_err-rows-clause-reads
-docs_of_hits-returns-in_err-rows-clause-reads g t c =
-    list_stops c.loop-part.invariant.walk c.loop-part-test.true c.part-item.is c.rows_of_part.ensures.reads
-
-pub docs_of_hits-returns-in_err-hits-clause-reads : goal.docs_of_hits-returns-in_err-hits-clause-reads
-docs_of_hits-returns-in_err-hits-clause-reads g t c =
-    list_stops c.loop-part.invariant.walk c.loop-part-test.true c.part-item.is c.rows_of_part.ensures.reads
-
 pub docs_of_hits-loop-part-preserved : goal.docs_of_hits-loop-part-preserved
 docs_of_hits-loop-part-preserved g t c =
-    let i = c.args.index.now in
-    let n = c.loop-part.part-index in
     let inv = c.loop-part.invariant in
-    let items = c.as_slice-part-items.result.now in
     let x = c.part-item.result in
-    let docs = ap (λ (x : IndexView). x.docs) c.index.view_is in
     record {
       walk = list_goes_on inv.walk c.loop-part-test.true c.part-item.is c.in_ok-rows.ensures.store c.in_ok-rows.ensures.reads;
       base = c.in_ok-hits.ensures.base;
-      told = λ b is stands. docs_go_on (stock_of b) items i.docs n x c.loop-part-test.true c.part-item.is c.loop-part.hits c.in_ok-hits.hits
-          c.in_ok-rows.rows.posts (inv.told b is stands) (c.in_ok-rows.ensures.told b (inv.walk.store.bytes ∙ is) stands)
-          (subst (λ m. docs_in m c.in_ok-hits.hits ≡ docs_after m c.loop-part.hits (out-Part x).excluded c.in_ok-rows.rows.posts) docs
-          c.in_ok-hits.ensures.docs);
+      told = λ b is stands. docs_go_on (stock_of b) c.as_slice-part-items.result.now c.args.index.now.docs c.loop-part.part-index x c.loop-part-test.true
+          c.part-item.is c.loop-part.hits c.in_ok-hits.hits c.in_ok-rows.rows.posts
+          (inv.told b is stands) (c.in_ok-rows.ensures.told b (inv.walk.store.bytes ∙ is) stands)
+          (subst (λ m. docs_in m c.in_ok-hits.hits ≡ docs_after m c.loop-part.hits (out-Part x).excluded c.in_ok-rows.rows.posts)
+          (ap (λ (v : IndexView). v.docs) c.index.view_is) c.in_ok-hits.ensures.docs);
     }
 
 pub docs_of_hits-returns-clause-told : goal.docs_of_hits-returns-clause-told
@@ -85,29 +74,17 @@ rows_of_atom-returns-in_ok-kept-in-Join-clause-within g t c =
     (kept_within i (shares_word _ c.in_ok-rows-in-Join.rows.posts) c.in_ok-rows-in-Join.rows.posts c.in_ok-rows-in-Join.ensures.within)
 
 -- ---- links
-pub rows_of_chain-returns-in_err-next-clause-reads : goal.rows_of_chain-returns-in_err-next-clause-reads
-rows_of_chain-returns-in_err-next-clause-reads g t c =
-    list_stops c.loop-linked.invariant.walk c.loop-linked-test.true c.linked-item.is
-    (linked_reads (division c.args.index.now) c.linked-item.result c.rows_of_atom-in-loop-linked.ensures.reads)
-
-pub rows_of_chain-returns-in_err-found-2-clause-reads : goal.rows_of_chain-returns-in_err-found-2-clause-reads
-rows_of_chain-returns-in_err-found-2-clause-reads g t c =
-    list_stops c.loop-linked.invariant.walk c.loop-linked-test.true c.linked-item.is
-    (linked_reads (division c.args.index.now) c.linked-item.result c.rows_of_atom-in-loop-linked.ensures.reads)
-
 pub rows_of_chain-loop-linked-preserved : goal.rows_of_chain-loop-linked-preserved
 rows_of_chain-loop-linked-preserved g t c =
-    let i = c.args.index.now in
-    let n = c.loop-linked.linked-index in
     let inv = c.loop-linked.invariant in
-    let items = c.as_slice-linked-items.result.now in
     let x = c.linked-item.result in
     record {
       walk = list_goes_on inv.walk c.loop-linked-test.true c.linked-item.is c.in_ok-next.ensures.store
           (linked_reads (division c.args.index.now) x c.in_ok-next.ensures.reads);
-      within = linked_within i (out-Linked x).link c.loop-linked.found.posts c.in_ok-next.next.posts c.in_ok-found-2.found.posts c.in_ok-next.ensures.within
-          c.in_ok-found-2.ensures;
-      told = λ b is stands. chain_goes_on (stock_of b) c.args.chain.now items n x c.loop-linked-test.true c.linked-item.is c.loop-linked.found.posts
+      within = linked_within c.args.index.now (out-Linked x).link c.loop-linked.found.posts c.in_ok-next.next.posts c.in_ok-found-2.found.posts
+          c.in_ok-next.ensures.within c.in_ok-found-2.ensures;
+      told = λ b is stands. chain_goes_on (stock_of b) c.args.chain.now c.as_slice-linked-items.result.now c.loop-linked.linked-index x
+          c.loop-linked-test.true c.linked-item.is c.loop-linked.found.posts
           c.in_ok-next.next.posts c.in_ok-found-2.found.posts (inv.told b is stands)
           (c.in_ok-next.ensures.told b (inv.walk.store.bytes ∙ is) stands) c.in_ok-found-2.ensures;
     }
@@ -127,28 +104,17 @@ rows_of_part-loop-chain-init g t c =
       told = λ b is stands. part_begins (stock_of b) c.as_slice-chain-items.result.now c.new-found.result.posts c.new-found.ensures;
     }
 
-pub rows_of_part-returns-in_err-next-clause-reads : goal.rows_of_part-returns-in_err-next-clause-reads
-rows_of_part-returns-in_err-next-clause-reads g t c =
-    list_stops c.loop-chain.invariant.walk c.loop-chain-test.true c.chain-item.is c.rows_of_chain.ensures.reads
-
-pub rows_of_part-returns-in_err-found-clause-reads : goal.rows_of_part-returns-in_err-found-clause-reads
-rows_of_part-returns-in_err-found-clause-reads g t c =
-    list_stops c.loop-chain.invariant.walk c.loop-chain-test.true c.chain-item.is c.rows_of_chain.ensures.reads
-
 pub rows_of_part-loop-chain-preserved : goal.rows_of_part-loop-chain-preserved
 rows_of_part-loop-chain-preserved g t c =
     let i = c.args.index.now in
-    let n = c.loop-chain.chain-index in
     let inv = c.loop-chain.invariant in
-    let items = c.as_slice-chain-items.result.now in
-    let x = c.chain-item.result in
     record {
       walk = list_goes_on inv.walk c.loop-chain-test.true c.chain-item.is c.in_ok-next.ensures.store c.in_ok-next.ensures.reads;
       within = united_within i c.loop-chain.found.posts c.in_ok-next.next.posts c.in_ok-found.found.posts inv.within c.in_ok-next.ensures.within
           c.in_ok-found.ensures.ok c.in_ok-found.ensures.sorted;
-      told = λ b is stands. part_goes_on (stock_of b) items
-          (stocked b i stands c.requires.opened.index) n x c.loop-chain-test.true c.chain-item.is c.loop-chain.found.posts c.in_ok-next.next.posts
-          c.in_ok-found.found.posts (inv.told b is stands)
+      told = λ b is stands. part_goes_on (stock_of b) c.as_slice-chain-items.result.now
+          (stocked b i stands c.requires.opened.index) c.loop-chain.chain-index c.chain-item.result c.loop-chain-test.true c.chain-item.is
+          c.loop-chain.found.posts c.in_ok-next.next.posts c.in_ok-found.found.posts (inv.told b is stands)
           (c.in_ok-next.ensures.told b (inv.walk.store.bytes ∙ is) stands) c.in_ok-found.ensures.ok c.in_ok-found.ensures.sorted;
     }
 
@@ -156,3 +122,28 @@ pub rows_of_part-returns-clause-told : goal.rows_of_part-returns-clause-told
 rows_of_part-returns-clause-told g t c b is stands =
     part_ends (stock_of b) c.as_slice-chain-items.result.now c.args.part.now c.as_slice-chain-items.ensures c.loop-chain.chain-index c.loop-chain.found.posts
     (omega (arith, c.loop-chain-test.false)) (c.loop-chain.invariant.told b is stands)
+
+-- ---- what is read where one of them fails
+pub docs_of_hits-returns-in_err-rows-clause-reads : goal.docs_of_hits-returns-in_err-rows-clause-reads
+docs_of_hits-returns-in_err-rows-clause-reads g t c = list_stops c.loop-part.invariant.walk c.loop-part-test.true c.part-item.is c.rows_of_part.ensures.reads
+
+pub docs_of_hits-returns-in_err-hits-clause-reads : goal.docs_of_hits-returns-in_err-hits-clause-reads
+docs_of_hits-returns-in_err-hits-clause-reads g t c = list_stops c.loop-part.invariant.walk c.loop-part-test.true c.part-item.is c.rows_of_part.ensures.reads
+
+pub rows_of_chain-returns-in_err-next-clause-reads : goal.rows_of_chain-returns-in_err-next-clause-reads
+rows_of_chain-returns-in_err-next-clause-reads g t c =
+    list_stops c.loop-linked.invariant.walk c.loop-linked-test.true c.linked-item.is
+    (linked_reads (division c.args.index.now) c.linked-item.result c.rows_of_atom-in-loop-linked.ensures.reads)
+
+pub rows_of_chain-returns-in_err-found-2-clause-reads : goal.rows_of_chain-returns-in_err-found-2-clause-reads
+rows_of_chain-returns-in_err-found-2-clause-reads g t c =
+    list_stops c.loop-linked.invariant.walk c.loop-linked-test.true c.linked-item.is
+    (linked_reads (division c.args.index.now) c.linked-item.result c.rows_of_atom-in-loop-linked.ensures.reads)
+
+pub rows_of_part-returns-in_err-next-clause-reads : goal.rows_of_part-returns-in_err-next-clause-reads
+rows_of_part-returns-in_err-next-clause-reads g t c =
+    list_stops c.loop-chain.invariant.walk c.loop-chain-test.true c.chain-item.is c.rows_of_chain.ensures.reads
+
+pub rows_of_part-returns-in_err-found-clause-reads : goal.rows_of_part-returns-in_err-found-clause-reads
+rows_of_part-returns-in_err-found-clause-reads g t c =
+    list_stops c.loop-chain.invariant.walk c.loop-chain-test.true c.chain-item.is c.rows_of_chain.ensures.reads

@@ -1,11 +1,10 @@
-use Rattle.std.proofs.Common.{◌≤◌, length, true, replicate, refl, ap, sym, subst, ◌∙◌, arith, true≢false}
-use Rattle.std.specs.Prelude.{IfSome, filter, is_some}
+use Rattle.std.proofs.Common.{◌≤◌, length, true, replicate, refl, ap, sym, subst, ◌∙◌, arith}
+use Rattle.std.specs.Prelude.{filter}
 use Rattle.std.proofs.lemmas.List.{length-map}
 use Rattle.cs_base.specs.declared.content.doc.Base.TheVariants as base
 use Rattle.cs_file.specs.Indexes.{IndexView}
 use Rattle.cs_model_index.specs.Sections.{image_of}
 use Rattle.cs_tables.specs.WordCounts.{is_chosen}
-use Rattle.cs_engine.specs.Keeping.{FitsQuery, IsEntryOver}
 use Rattle.cs_engine.specs.Loose.{AreLastWords, IsEntryByWords}
 use Rattle.cs_engine.specs.Packing.{key_of}
 use Rattle.cs_engine.specs.IndexReading.{run_of, stock_of}
@@ -132,22 +131,6 @@ returns-clause-told g c b is stands held by =
     c.saturating_sub-room.result had c.in_ok-gathered.ensures.whole few in
     let o = c.in_ok-rows.ensures r.rows r.are r.packed in
     let rows = c.in_ok-rows.rows.posts in
-    let own = chosen_entry i c.args.request.now.query c.args.hits c.args.words.0 c.args.words.1 c.requires.asks listed has b stands c.requires.opened.index
-    by rows (ordered_told b i stands c.requires.opened.index c.args.words.0 c.args.words.1 listed r.rows rows (r.stood b is stands) o) in
-    record {
-      reply = c.in_ok-answered.ensures.told b (c.gather.ensures.store.bytes ∙ is) stands held own;
-      own = subst (λ e. IfSome e (IsEntryOver b i c.args.request.now.query)) (sym c.in_ok-answered.ensures.same) own;
-      large = λ none. absurd (true≢false (ap is_some (sym c.in_ok-answered.ensures.same) ∙ none));
-    }
-
-pub returns-clause-within : goal.returns-clause-within
-returns-clause-within g c =
-    let i = c.args.index.now in
-    let listed = c.deref-2.result.now in
-    let has = listed_in i c.args.hits c.in_ok-listed.listed.items listed (ap (λ (x : IndexView). x.docs) c.index.view_is) c.in_ok-listed.ensures c.deref-2.ensures.value in
-    let h = c.in_ok-gathered.ensures.gathered.keys in
-    let o = c.in_ok-rows.ensures h.rows h.are h.packed in
-    let rows = c.in_ok-rows.rows.posts in
-    subst (λ e. IfSome e (FitsQuery i c.args.request.now.query)) (sym c.in_ok-answered.ensures.same)
-    (entry_fits i c.args.request.now.query c.args.hits c.args.words.0 c.args.words.1 c.requires.asks listed has rows
-    (ordered_within i h.rows rows h.within o) (ordered_passed c.args.words.0 c.args.words.1 listed h.rows rows h.passed o))
+    c.in_ok-answered.ensures.told b (c.gather.ensures.store.bytes ∙ is) stands held
+    (chosen_entry i c.args.request.now.query c.args.hits c.args.words.0 c.args.words.1 c.requires.asks listed has b stands c.requires.opened.index
+    by rows (ordered_told b i stands c.requires.opened.index c.args.words.0 c.args.words.1 listed r.rows rows (r.stood b is stands) o))

@@ -1,11 +1,9 @@
-use Rattle.std.proofs.Common.{◌-◌, ◌*◌, length, not, sym, ap, subst, ◌∙◌, arith, true≢false}
-use Rattle.std.specs.Prelude.{IfSome, is_some}
+use Rattle.std.proofs.Common.{◌-◌, ◌*◌, length, not, ap, ◌∙◌, arith}
 use Rattle.cs_base.specs.declared.content.limits.TheConstants.{MAX_PARTS}
 use Rattle.cs_base.specs.declared.content.query.Query.{out-Query}
 use Rattle.cs_base.specs.declared.content.scores.TheConstants.{MAX_ROW_SCORE}
 use Rattle.cs_query.specs.RequestView.{asked}
 use Rattle.cs_engine.specs.Asking.{division}
-use Rattle.cs_engine.specs.Keeping.{FitsQuery, IsEntryOver}
 use Rattle.cs_engine.proofs.LentLemmas.{err_due}
 use Rattle.cs_engine.proofs.PartSteps.{base_weaker}
 use Rattle.cs_engine.proofs.PlansLemmas.{ends_last, is_last, last_met, more_by_words, more_fits, more_told}
@@ -80,20 +78,8 @@ returns-clause-told g c b is stands held over =
     let i = c.args.index.now in
     let x = c.index-parts-last.result in
     let last = is_last {q = q} c.requires.some c.as_slice-parts.ensures c.index-parts-last.is in
-    let own = more_told q b i stands c.requires.opened.index x c.args.hits c.in_ok-entry.entry last over (c.in_ok-entry.ensures.told b is stands) in
-    record {
-      reply = c.in_ok-answered-2.ensures.told b (c.extended.ensures.store.bytes ∙ is) stands held own;
-      own = subst (λ o. IfSome o (IsEntryOver b i q)) (sym c.in_ok-answered-2.ensures.same) own;
-      large = λ none. absurd (true≢false (ap is_some (sym c.in_ok-answered-2.ensures.same) ∙ none));
-    }
-
-pub returns-clause-within : goal.returns-clause-within
-returns-clause-within g c =
-    let q = c.args.request.now.query in
-    let x = c.index-parts-last.result in
-    let last = is_last {q = q} c.requires.some c.as_slice-parts.ensures c.index-parts-last.is in
-    subst (λ o. IfSome o (FitsQuery c.args.index.now q)) (sym c.in_ok-answered-2.ensures.same)
-    (more_fits q c.args.index.now x c.in_ok-entry.entry last (c.in_ok-entry.ensures.within (length (out-Query q).parts - 1) c.requires.base))
+    c.in_ok-answered-2.ensures.told b (c.extended.ensures.store.bytes ∙ is) stands held
+    (more_told q b i stands c.requires.opened.index x c.args.hits c.in_ok-entry.entry last over (c.in_ok-entry.ensures.told b is stands))
 
 pub returns-clause-reads : goal.returns-clause-reads
 returns-clause-reads g c =

@@ -1,4 +1,4 @@
-use Rattle.std.proofs.Common.{◌∙◌, ap, length, subst}
+use Rattle.std.proofs.Common.{◌∙◌, ap, length, subst, arith}
 use Rattle.std.specs.Prelude.{filter}
 use Rattle.cs_base.specs.declared.content.doc.Base.TheVariants as base
 use Rattle.cs_file.specs.Indexes.{IndexView}
@@ -6,13 +6,28 @@ use Rattle.cs_engine.specs.Counting.{AreListed, in_listed}
 use Rattle.cs_engine.specs.IndexReading.{stock_of}
 use Rattle.cs_engine.specs.Stocked.{is_between}
 use Rattle.cs_engine.proofs.CountingLemmas.{all_listed}
+use Rattle.cs_engine.proofs.PackingLemmas.{all_gathered, ordered_told, ordered_within}
 use Rattle.cs_engine.proofs.reading.rows_between.Goals as goal
 
-pub rows_in-requires-clause-listed : goal.rows_in-requires-clause-listed
-rows_in-requires-clause-listed g c = ap length c.deref.ensures.value ∙ c.in_ok-all.ensures.long ∙ ap (λ (x : IndexView). x.docs) c.index.view_is
+pub gather-requires-clause-listed : goal.gather-requires-clause-listed
+gather-requires-clause-listed g c = ap length c.deref.ensures.value ∙ c.in_ok-all.ensures.long ∙ ap (λ (x : IndexView). x.docs) c.index.view_is
 
 pub returns-clause-told : goal.returns-clause-told
 returns-clause-told g c b is stands =
+    let i = c.args.index.now in
+    let lo = c.args.lo in
+    let hi = c.args.hi in
     let listed = subst (λ n. AreListed n base.All c.in_ok-all.all.items) (ap (λ (x : IndexView). x.docs) c.index.view_is) c.in_ok-all.ensures in
-    c.in_ok-rows.ensures.told b is stands ∙ ap (λ l. filter (in_listed l) (filter (is_between c.args.lo c.args.hi) (stock_of b).posts)) c.deref.ensures.value
-    ∙ all_listed b c.args.index.now stands c.requires.opened.index c.args.lo c.args.hi c.in_ok-all.all.items listed
+    let h = all_gathered i c.requires.opened.index (g.S.Store.bytes c.args.store.now) lo hi c.deref.result.now c.in_ok-gathered.gathered
+    c.in_ok-gathered.ensures.gathered (λ more. (let w = c.in_ok-gathered.ensures.whole more in (omega (arith, w.0), w.1))) in
+    ordered_told b i stands c.requires.opened.index lo hi c.deref.result.now h.rows c.in_ok-rows.rows.posts
+    (h.stood b is stands) (c.in_ok-rows.ensures h.rows h.are h.packed)
+    ∙ ap (λ l. filter (in_listed l) (filter (is_between lo hi) (stock_of b).posts)) c.deref.ensures.value
+    ∙ all_listed b i stands c.requires.opened.index lo hi c.in_ok-all.all.items listed
+
+pub returns-clause-within : goal.returns-clause-within
+returns-clause-within g c =
+    let i = c.args.index.now in
+    let h = all_gathered i c.requires.opened.index (g.S.Store.bytes c.args.store.now) c.args.lo c.args.hi c.deref.result.now c.in_ok-gathered.gathered
+    c.in_ok-gathered.ensures.gathered (λ more. (let w = c.in_ok-gathered.ensures.whole more in (omega (arith, w.0), w.1))) in
+    ordered_within i h.rows c.in_ok-rows.rows.posts h.within (c.in_ok-rows.ensures h.rows h.are h.packed)

@@ -1,12 +1,22 @@
-use Rattle.std.proofs.Common.{◌≡◌, ◌∙◌, sym, subst, arith, length}
-use Rattle.std.specs.Prelude.{IfSome}
+use Rattle.std.proofs.Common.{◌≡◌, ℕ, ◌∙◌, ap, sym, true≢false, arith, List, length, Option}
+use Rattle.cs_base.specs.declared.content.doc.Post.{Post}
+use Rattle.cs_base.specs.declared.index.plan.Plan.{Plan}
 use Rattle.cs_base.specs.declared.index.plan.Plan.TheVariants.{Same, Narrow, Extend, Fresh}
+use Rattle.cs_file.specs.Indexes.{IndexView}
+use Rattle.cs_model.specs.Replies.{Reply}
+use Rattle.cs_model.specs.Requests.{Request}
+use Rattle.cs_model_kept.specs.Entries.{EntryOf}
+use Rattle.cs_model_kept.specs.KeptList.{is_same}
 use Rattle.cs_query.specs.RequestView.{asked}
 use Rattle.cs_engine.specs.Asking.{division}
-use Rattle.cs_engine.specs.Keeping.{FitsQuery, IsEntryOver}
+use Rattle.cs_engine.specs.Keeping.{IsAnsweredOver, IsRepliedOver}
 use Rattle.cs_engine.proofs.LentLemmas.{all_reads, all_reads_err, extend_lent, kept_reads, kept_reads_err, narrow_lent, narrow_typed, same_lent}
 use Rattle.cs_engine.proofs.PlansLemmas.{is_used}
 use Rattle.cs_engine.proofs.replying.answered.Goals as goal
+
+-- where the plan isn't Same, an own entry that doesn't come along is too large
+by_any : {b : List ℕ} {i : IndexView} {r : Request} {p : Plan} {a : Reply × Option (EntryOf Post)} → IsAnsweredOver b i r a → IsRepliedOver b i r p a
+by_any h = record { reply = h.reply; own = h.own; large = λ none other. h.large none }
 
 -- ---- the query's own entry
 pub view-view-requires : goal.view-view-requires
@@ -28,11 +38,14 @@ returns-in_err-reply-in-Same-clause-reads g c =
     (asked c.args.request.now) c.args.plan c.from_residual.result c.from_residual.ensures.0 c.in_err-reply-in-Same.ensures.reads
 
 pub returns-in_ok-reply-in-Same-clause-told : goal.returns-in_ok-reply-in-Same-clause-told
-returns-in_ok-reply-in-Same-clause-told g c b is stands over good =
-    c.in_ok-reply-in-Same.ensures.told b is stands over
-    ((same_lent c.args.index.now c.args.answers.now.entries c.requires.kept c.args.request.now.query c.requires.limits.query c.args.keys.now c.requires.keys
-    c.args.plan c.requires.plan c.view-view.result.base.now c.view-view.result.rows.now.posts
-    c.view-view.ensures.base c.view-view.ensures.rows c.in-Same.is).1 b good)
+returns-in_ok-reply-in-Same-clause-told g c b is stands over good = record {
+  reply = c.in_ok-reply-in-Same.ensures.told b is stands over
+      ((same_lent c.args.index.now c.args.answers.now.entries c.requires.kept c.args.request.now.query c.requires.limits.query c.args.keys.now c.requires.keys
+      c.args.plan c.requires.plan c.view-view.result.base.now c.view-view.result.rows.now.posts
+      c.view-view.ensures.base c.view-view.ensures.rows c.in-Same.is).1 b good);
+  own = tt;
+  large = λ none other. absurd (true≢false (sym (ap is_same c.in-Same.is) ∙ other));
+}
 
 pub returns-in_ok-reply-in-Same-clause-reads : goal.returns-in_ok-reply-in-Same-clause-reads
 returns-in_ok-reply-in-Same-clause-reads g c =
@@ -66,27 +79,11 @@ returns-in_err-answered-in-Narrow-clause-reads g c =
 
 pub returns-in_ok-answered-in-Narrow-clause-told : goal.returns-in_ok-answered-in-Narrow-clause-told
 returns-in_ok-answered-in-Narrow-clause-told g c b is stands over good =
-    c.in_ok-answered-in-Narrow.ensures.told b is stands over
+    by_any (c.in_ok-answered-in-Narrow.ensures.told b is stands over
     ((narrow_lent c.args.index.now c.args.answers.now.entries c.requires.kept c.args.request.now.query c.requires.limits.query c.args.keys.now
     c.requires.keys c.args.plan c.requires.plan c.view-view-in-Narrow.result.base.now c.view-view-in-Narrow.result.rows.now.posts
     c.view-view-in-Narrow.ensures.base c.view-view-in-Narrow.ensures.rows c.in-Narrow.cut c.in-Narrow.is c.in_ok-entry-in-Narrow.entry
-    c.in_ok-entry-in-Narrow.ensures.base c.in_ok-entry-in-Narrow.ensures.rows).1 b good)
-
-pub returns-in_ok-answered-in-Narrow-clause-own : goal.returns-in_ok-answered-in-Narrow-clause-own
-returns-in_ok-answered-in-Narrow-clause-own g c b is stands over good =
-    subst (λ o. IfSome o (IsEntryOver b c.args.index.now c.args.request.now.query)) (sym c.in_ok-answered-in-Narrow.ensures.same)
-    ((narrow_lent c.args.index.now c.args.answers.now.entries c.requires.kept c.args.request.now.query c.requires.limits.query c.args.keys.now
-    c.requires.keys c.args.plan c.requires.plan c.view-view-in-Narrow.result.base.now c.view-view-in-Narrow.result.rows.now.posts
-    c.view-view-in-Narrow.ensures.base c.view-view-in-Narrow.ensures.rows c.in-Narrow.cut c.in-Narrow.is c.in_ok-entry-in-Narrow.entry
-    c.in_ok-entry-in-Narrow.ensures.base c.in_ok-entry-in-Narrow.ensures.rows).1 b good)
-
-pub returns-in_ok-answered-in-Narrow-clause-within : goal.returns-in_ok-answered-in-Narrow-clause-within
-returns-in_ok-answered-in-Narrow-clause-within g c =
-    subst (λ o. IfSome o (FitsQuery c.args.index.now c.args.request.now.query)) (sym c.in_ok-answered-in-Narrow.ensures.same)
-    (narrow_lent c.args.index.now c.args.answers.now.entries c.requires.kept c.args.request.now.query c.requires.limits.query c.args.keys.now
-    c.requires.keys c.args.plan c.requires.plan c.view-view-in-Narrow.result.base.now c.view-view-in-Narrow.result.rows.now.posts
-    c.view-view-in-Narrow.ensures.base c.view-view-in-Narrow.ensures.rows c.in-Narrow.cut c.in-Narrow.is c.in_ok-entry-in-Narrow.entry
-    c.in_ok-entry-in-Narrow.ensures.base c.in_ok-entry-in-Narrow.ensures.rows).0
+    c.in_ok-entry-in-Narrow.ensures.base c.in_ok-entry-in-Narrow.ensures.rows).1 b good))
 
 pub returns-in_ok-answered-in-Narrow-clause-reads : goal.returns-in_ok-answered-in-Narrow-clause-reads
 returns-in_ok-answered-in-Narrow-clause-reads g c =
@@ -121,24 +118,10 @@ returns-in_err-answered-in-Extend-clause-reads g c =
 
 pub returns-in_ok-answered-in-Extend-clause-told : goal.returns-in_ok-answered-in-Extend-clause-told
 returns-in_ok-answered-in-Extend-clause-told g c b is stands over good =
-    (c.in_ok-answered-in-Extend.ensures.told b is stands over
+    by_any (c.in_ok-answered-in-Extend.ensures.told b is stands over
     ((extend_lent c.args.index.now c.args.answers.now.entries c.requires.kept c.args.request.now.query c.requires.limits.query c.args.keys.now
     c.requires.keys c.args.plan c.requires.plan c.view-view-in-Extend.result.base.now c.view-view-in-Extend.result.rows.now.posts
-    c.view-view-in-Extend.ensures.base c.view-view-in-Extend.ensures.rows c.in-Extend.is).2 b good)).reply
-
-pub returns-in_ok-answered-in-Extend-clause-own : goal.returns-in_ok-answered-in-Extend-clause-own
-returns-in_ok-answered-in-Extend-clause-own g c b is stands over good =
-    (c.in_ok-answered-in-Extend.ensures.told b is stands over
-    ((extend_lent c.args.index.now c.args.answers.now.entries c.requires.kept c.args.request.now.query c.requires.limits.query c.args.keys.now
-    c.requires.keys c.args.plan c.requires.plan c.view-view-in-Extend.result.base.now c.view-view-in-Extend.result.rows.now.posts
-    c.view-view-in-Extend.ensures.base c.view-view-in-Extend.ensures.rows c.in-Extend.is).2 b good)).own
-
-pub returns-in_ok-answered-in-Extend-clause-large : goal.returns-in_ok-answered-in-Extend-clause-large
-returns-in_ok-answered-in-Extend-clause-large g c b is stands over good none other =
-    (c.in_ok-answered-in-Extend.ensures.told b is stands over
-    ((extend_lent c.args.index.now c.args.answers.now.entries c.requires.kept c.args.request.now.query c.requires.limits.query c.args.keys.now
-    c.requires.keys c.args.plan c.requires.plan c.view-view-in-Extend.result.base.now c.view-view-in-Extend.result.rows.now.posts
-    c.view-view-in-Extend.ensures.base c.view-view-in-Extend.ensures.rows c.in-Extend.is).2 b good)).large none
+    c.view-view-in-Extend.ensures.base c.view-view-in-Extend.ensures.rows c.in-Extend.is).2 b good))
 
 pub returns-in_ok-answered-in-Extend-clause-reads : goal.returns-in_ok-answered-in-Extend-clause-reads
 returns-in_ok-answered-in-Extend-clause-reads g c =
@@ -157,10 +140,4 @@ returns-in_ok-answered-in-Fresh-clause-reads g c =
     c.in_ok-answered-in-Fresh.ensures.reads
 
 pub returns-in_ok-answered-in-Fresh-clause-told : goal.returns-in_ok-answered-in-Fresh-clause-told
-returns-in_ok-answered-in-Fresh-clause-told g c b is stands over good = (c.in_ok-answered-in-Fresh.ensures.told b is stands over).reply
-
-pub returns-in_ok-answered-in-Fresh-clause-own : goal.returns-in_ok-answered-in-Fresh-clause-own
-returns-in_ok-answered-in-Fresh-clause-own g c b is stands over good = (c.in_ok-answered-in-Fresh.ensures.told b is stands over).own
-
-pub returns-in_ok-answered-in-Fresh-clause-large : goal.returns-in_ok-answered-in-Fresh-clause-large
-returns-in_ok-answered-in-Fresh-clause-large g c b is stands over good none other = (c.in_ok-answered-in-Fresh.ensures.told b is stands over).large none
+returns-in_ok-answered-in-Fresh-clause-told g c b is stands over good = by_any (c.in_ok-answered-in-Fresh.ensures.told b is stands over)

@@ -1,12 +1,10 @@
-use Rattle.std.proofs.Common.{◌≡◌, ◌-◌, ◌*◌, ◌∙◌, List, length, length-take, take, sym, ap, subst, arith, true≢false}
-use Rattle.std.specs.Prelude.{IfSome, is_some}
+use Rattle.std.proofs.Common.{◌≡◌, ◌-◌, ◌*◌, ◌∙◌, List, length, length-take, take, ap, subst, arith}
 use Rattle.std.proofs.lemmas.Grind.{common_steps}
 use Rattle.cs_base.specs.declared.content.query.Part.{Part}
 use Rattle.cs_base.specs.declared.content.scores.TheConstants.{MAX_ROW_SCORE}
 use Rattle.cs_model_kept.specs.KeptListLaws.{before_last}
 use Rattle.cs_query.specs.RequestView.{asked}
 use Rattle.cs_engine.specs.Asking.{division}
-use Rattle.cs_engine.specs.Keeping.{FitsQuery, IsEntryOver}
 use Rattle.cs_engine.specs.Steps.{IsBaseOf}
 use Rattle.cs_engine.proofs.LentLemmas.{err_due}
 use Rattle.cs_engine.proofs.PlansLemmas.{all_met, first_parts, nothing_over, nothing_own}
@@ -22,19 +20,9 @@ with_reply-requires-clause-entry g c =
 pub returns-then-is_empty-clause-told : goal.returns-then-is_empty-clause-told
 returns-then-is_empty-clause-told g c b is stands over =
     let q = c.args.request.now.query in
-    let own = nothing_over q c.as_slice-parts.result.now c.as_slice-parts.ensures
-    (grind (arith, common_steps)) c.nothing_kept-entry.result c.nothing_kept-entry.ensures b c.args.index.now stands c.requires.opened.index in
-    record {
-      reply = c.in_ok-answered.ensures.told b is stands over own;
-      own = subst (λ o. IfSome o (IsEntryOver b c.args.index.now q)) (sym c.in_ok-answered.ensures.same) own;
-      large = λ none. absurd (true≢false (ap is_some (sym c.in_ok-answered.ensures.same) ∙ none));
-    }
-
-pub returns-then-is_empty-clause-within : goal.returns-then-is_empty-clause-within
-returns-then-is_empty-clause-within g c =
-    subst (λ o. IfSome o (FitsQuery c.args.index.now c.args.request.now.query)) (sym c.in_ok-answered.ensures.same)
-    (nothing_own c.args.request.now.query c.as_slice-parts.result.now c.as_slice-parts.ensures
-    (grind (arith, common_steps)) c.nothing_kept-entry.result c.nothing_kept-entry.ensures c.args.index.now)
+    c.in_ok-answered.ensures.told b is stands over
+    (nothing_over q c.as_slice-parts.result.now c.as_slice-parts.ensures
+    (grind (arith, common_steps)) c.nothing_kept-entry.result c.nothing_kept-entry.ensures b c.args.index.now stands c.requires.opened.index)
 
 -- ---- the parts before the last, and that one
 pub returns-in_err-hits-clause-reads : goal.returns-in_err-hits-clause-reads

@@ -32,7 +32,7 @@ pub invariant_of-self-2 : goal.invariant_of-self-2
 invariant_of-self-2 g c = (
   subst (KeepsFitting c.self.inside.index) (sym c.put-kept.ensures.entries)
       (behind_fits c.self.inside.index c.args.request.now.query c.requires.limits.query c.self.inside.answers c.in_ok-keys.keys c.in_ok-keys.ensures.ok
-      c.look-plan.result c.look-plan.ensures c.self.invariant.0 c.in_ok-reply.own c.in_ok-reply.ensures.within),
+      c.look-plan.result c.look-plan.ensures c.self.invariant.0 c.in_ok-reply.own c.in_ok-reply.ensures.fits.within),
   c.hold_facets.ensures.facets,
 )
 
@@ -55,7 +55,7 @@ returns-clause-ok g c b is stands good =
     let stands_inside = subst (StandsFor b) (sym (ap (λ (e : Engine). e.index) c.self.view_is)) stands in
     let good_inside = subst (λ (e : Engine). HoldsGood b e.index e.answers.entries) (sym c.self.view_is) good.0 in
     let held = c.hold_facets.ensures.told b is stands_inside (subst (λ (e : Engine). AreFacetsOver b e.facets) (sym c.self.view_is) good.1) in
-    c.in_ok-reply.ensures.told b (c.hold_facets.ensures.store.bytes ∙ is) stands_inside (subst (AreFacetsOver b) (sym c.deref.ensures.value) held) good_inside
+    (c.in_ok-reply.ensures.told b (c.hold_facets.ensures.store.bytes ∙ is) stands_inside (subst (AreFacetsOver b) (sym c.deref.ensures.value) held) good_inside).reply
 
 pub returns-clause-good : goal.returns-clause-good
 returns-clause-good g c b is stands good =
@@ -63,11 +63,12 @@ returns-clause-good g c b is stands good =
     let good_inside : HoldsGood b c.self.inside.index c.self.inside.answers.entries = subst (λ (e : Engine). HoldsGood b e.index e.answers.entries)
     (sym c.self.view_is) good.0 in
     let held_before : AreFacetsOver b c.self.inside.facets.items = subst (λ (e : Engine). AreFacetsOver b e.facets) (sym c.self.view_is) good.1 in
-    let held = c.hold_facets.ensures.told b is stands_inside held_before in (
+    let held = c.hold_facets.ensures.told b is stands_inside held_before in
+    let answer = c.in_ok-reply.ensures.told b (c.hold_facets.ensures.store.bytes ∙ is) stands_inside (subst (AreFacetsOver b) (sym c.deref.ensures.value) held)
+    good_inside in (
       subst (HoldsGood b c.self.inside.index) (sym c.put-kept.ensures.entries)
           (good_behind b c.self.inside.index c.args.request.now.query c.requires.limits.query c.self.inside.answers c.in_ok-keys.keys c.in_ok-keys.ensures.ok
-          c.look-plan.result c.look-plan.ensures good_inside c.in_ok-reply.own c.in_ok-reply.ensures.had
-          (c.in_ok-reply.ensures.own b (c.hold_facets.ensures.store.bytes ∙ is) stands_inside (subst (AreFacetsOver b) (sym c.deref.ensures.value) held) good_inside)),
+          c.look-plan.result c.look-plan.ensures good_inside c.in_ok-reply.own c.in_ok-reply.ensures.had answer.own),
       held,
     )
 
@@ -82,14 +83,14 @@ returns-clause-after g c b is stands good =
     let good_inside : HoldsGood b i a.entries = subst (λ (e : Engine). HoldsGood b e.index e.answers.entries) (sym c.self.view_is) good.0 in
     let held_before : AreFacetsOver b c.self.inside.facets.items = subst (λ (e : Engine). AreFacetsOver b e.facets) (sym c.self.view_is) good.1 in
     let held = subst (AreFacetsOver b) (sym c.deref.ensures.value) (c.hold_facets.ensures.told b is stands_inside held_before) in
-    let there = c.hold_facets.ensures.store.bytes ∙ is in
-    let own = c.in_ok-reply.ensures.own b there stands_inside held good_inside in
+    let answer = c.in_ok-reply.ensures.told b (c.hold_facets.ensures.store.bytes ∙ is) stands_inside held good_inside in
+    let own = answer.own in
     let became = c.put-kept.ensures.became in
     let list : kept_at i.words new.entries ≡ after (kept_at i.words a.entries) a.capacity q c.put-kept.result (file_corpus b) =
     ap (kept_at i.words) c.put-kept.ensures.entries
     ∙ after_is b i q c.requires.limits.query a c.in_ok-keys.keys c.in_ok-keys.ensures.ok c.look-plan.result c.look-plan.ensures o own
     ∙ ap (λ w. after (kept_at i.words a.entries) a.capacity q w (file_corpus b)) (sym became) in (
-      became ∙ kept_is b i q c.look-plan.result o c.in_ok-reply.ensures.had (c.in_ok-reply.ensures.large b there stands_inside held good_inside) own,
+      became ∙ kept_is b i q c.look-plan.result o c.in_ok-reply.ensures.had answer.large own,
       subst (λ (e : Engine). kept_at i.words new.entries ≡ after (kept_at e.index.words e.answers.entries) e.answers.capacity q c.put-kept.result
           (file_corpus b)) c.self.view_is list,
     )
@@ -105,7 +106,7 @@ returns-clause-keeps g c =
     let had = was_had c.look-plan.result o c.in_ok-reply.ensures.had in
     let kept : IsKeptBehind i q c.put-kept.result a new =
     subst (λ w. IsKeptBehind i q w a new) (sym became)
-    (kept_behind i q c.requires.limits.query a c.in_ok-keys.keys c.in_ok-keys.ensures.ok c.look-plan.result c.look-plan.ensures o c.in_ok-reply.ensures.within
+    (kept_behind i q c.requires.limits.query a c.in_ok-keys.keys c.in_ok-keys.ensures.ok c.look-plan.result c.look-plan.ensures o c.in_ok-reply.ensures.fits.within
     new c.put-kept.ensures.entries) in (
       c.put-kept.ensures.capacity ∙ ap (λ (e : Engine). e.answers.capacity) c.self.view_is,
       is_note_plan i q c.requires.limits.query a c.in_ok-keys.keys c.in_ok-keys.ensures.ok c.look-plan.result c.look-plan.ensures

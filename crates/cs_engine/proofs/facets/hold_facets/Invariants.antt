@@ -8,7 +8,7 @@ use Rattle.cs_engine.specs.IndexReading.{WhereStood}
 use Rattle.cs_engine.specs.HeldFacets.{AreFacetsOver}
 use Rattle.cs_engine.proofs.FacetLemmas.{AreThere}
 use Rattle.cs_engine.proofs.WalkLemmas.{ListWalk}
-use Rattle.cs_engine.proofs.facets.hold_each.Given as goal
+use Rattle.cs_engine.proofs.facets.hold_facets.Given as goal
 
 abbrev pub invariant-loop-name : goal.invariant-loop-name
 invariant-loop-name g l = let v = division l.index in record {

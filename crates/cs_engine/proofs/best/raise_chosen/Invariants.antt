@@ -4,7 +4,7 @@ use Rattle.cs_base.specs.declared.content.doc.Post.{Post}
 use Rattle.cs_file.specs.CallAnswers.{AreScoredOf}
 use Rattle.cs_tables.specs.WordCounts.{is_chosen}
 use Rattle.cs_engine.specs.Loose.{HasBestScores}
-use Rattle.cs_engine.proofs.best.raise_between.Given as goal
+use Rattle.cs_engine.proofs.best.raise_chosen.Given as goal
 
 abbrev pub invariant-loop-i : goal.invariant-loop-i
 invariant-loop-i l = record {

@@ -1,0 +1,10 @@
+use Rattle.std.proofs.Common.{sym, subst, true≢false}
+use Rattle.cs_engine.specs.Keeping.{IsEntryOver}
+use Rattle.cs_engine.proofs.replying.with_reply.Goals as goal
+
+pub returns-clause-told : goal.returns-clause-told
+returns-clause-told g c b is stands over own = record {
+  reply = c.in_ok-reply.ensures.told b is stands over (subst (IsEntryOver b c.args.index.now c.args.request.now.query) (sym c.entry.view_is) own);
+  own = own;
+  large = λ none. absurd (true≢false none);
+}
