@@ -2,18 +2,21 @@
 --
 --   hits_on          of one document more the place is put behind those that were found, and counts where it has an entry
 --   none_in_span     a span of no entry has no hit
---   places_on        of one row more the place is put behind those that were found, and counts where its word is one of these
+--   between_there    the places of words between two are those of their rows
 --   place_added      the row of one place more
 --   span_added       the rows of a span behind those so far
 --   span_fits        there is room for them
-use Rattle.std.proofs.Common.{◌≡◌, ℕ, zero, suc, ◌+◌, ◌-◌, ◌<◌, ◌≤◌, true, false, cond, List, [], ◌∷◌, ◌++◌}
+use Rattle.std.proofs.Common.{◌≡◌, ℕ, zero, suc, ◌+◌, ◌-◌, ◌<◌, ◌≤◌, ◌&&◌, true, false, cond, List, [], ◌∷◌, ◌++◌}
 use Rattle.std.proofs.Common.{length, get_or, set, map, take, drop, refl, sym, ap, ◌∙◌, append_assoc, arith, if◌then◌else◌}
-use Rattle.std.specs.Prelude.{All, filter, nat_lt}
+use Rattle.std.specs.Prelude.{All, filter, nat_le, nat_lt}
 use Rattle.std.specs.List.{AllByRecursion}
 use Rattle.std.proofs.lemmas.List.{drop-drop, drop_more, get_or_default, map-append, take-set, take_more, take_more_set, length-append, length-drop, length-map}
 use Rattle.std.proofs.lemmas.List.Elements.{recursion_from_All}
 use Rattle.cs_base.specs.declared.content.doc.Post.{Post}
 use Rattle.cs_base.specs.declared.content.doc.Scored.{Scored}
+use Rattle.cs_cols.specs.SpanPlaces.{is_between_at, places_where}
+use Rattle.cs_cols.proofs.FoundPlaces.{rows_there}
+use Rattle.cs_tables.proofs.PlacesLemmas.{field_at}
 use Rattle.cs_engine.specs.Loose.{hits_in}
 use Rattle.cs_engine.specs.Spans.{AreHitsBetween, ArePlacesBetween, hit_at}
 use Rattle.cs_engine.specs.Stocked.{is_between}
@@ -62,25 +65,13 @@ none_in_span best from to up within bare =
     ap (λ x. hits_in x (drop x best)) (sym end) ∙ ap (hits_in (from + n)) (sym (drop-drop n from best))
     ∙ no_hit from n (drop from best) (omega (arith, up, within, long)) (recursion_from_All (λ v. v ≡ 0) (take n (drop from best)) bare)
 
-pub places_on : (lo hi : ℕ) (rows : List Post) (d : Post) (from i : ℕ) (places : List ℕ) (n m : ℕ) → i < length rows → n < length places
-    → m ≡ n + (if is_between lo hi (get_or rows i d) then 1 else 0) → ArePlacesBetween lo hi rows d from i (take n places)
-    → ArePlacesBetween lo hi rows d from (i + 1) (take m (set places n i))
-places_on lo hi rows d from i places n m lt room count h =
-    let t = is_between lo hi in
-    let p = get_or rows i d in
-    let at : ℕ → Post = λ i. get_or rows i d in
-    let rest = filter t (drop (i + 1) rows) in
-    let split : filter t (drop i rows) ≡ cond (t p) (p ∷ rest) rest = ap (filter t) (drop_more rows i d lt) in
-    elim (t p) as (λ b. filter t (drop i rows) ≡ cond b (p ∷ rest) rest → m ≡ n + cond b 1 0
-    → ArePlacesBetween lo hi rows d from (i + 1) (take m (set places n i))) [
-      | true ↦ λ next many.
-          let longer : take m (set places n i) ≡ take n places ++ i ∷ [] = ap (λ x. take x (set places n i)) many ∙ take_more_set places n i room in
-          ap (λ xs. map at xs ++ rest) longer ∙ ap (λ xs. xs ++ rest) (map-append at (take n places) (i ∷ []))
-          ∙ append_assoc (map at (take n places)) (p ∷ []) rest ∙ ap (λ xs. map at (take n places) ++ xs) (sym next) ∙ h
-      | false ↦ λ next many.
-          let same : take m (set places n i) ≡ take n places = ap (λ x. take x (set places n i)) (many ∙ none_more n) ∙ take-set places n i in
-          ap (λ xs. map at xs ++ rest) same ∙ ap (λ xs. map at (take n places) ++ xs) (sym next) ∙ h
-    ] split count
+-- the places of words are those of their rows
+pub between_there : (lo hi : ℕ) (rows : List Post) (d : Post) (words : List ℕ) → words ≡ map (λ p. p.word) rows → (from to : ℕ) (places : List ℕ)
+    → from ≤ to → to ≤ length words → places ≡ places_where (is_between_at lo hi words) from to → ArePlacesBetween lo hi rows d from to places
+between_there lo hi rows d words are from to places onward within found =
+    rows_there (is_between_at lo hi words) (is_between lo hi) rows d from to places onward
+    (omega (arith, within, ap length are, length-map rows (λ (p : Post). p.word)))
+    (λ i lt. ap (λ x. nat_le lo x && nat_lt x hi) (field_at (λ p. p.word) words rows i d lt are)) found
 
 pub place_added : (rows : List Post) (d : Post) (places : List ℕ) (j : ℕ) (old now new : List Post) (x : Post) → j < length places
     → get_or places j 0 < length rows → x ≡ get_or rows (get_or places j 0) x → now ≡ old ++ map (λ i. get_or rows i d) (take j places)

@@ -1,11 +1,11 @@
 //! Posts whose word lies between two others, and those of them in listed documents.
-ghost use Rattle.std.specs.Prelude.{◌≡◌, ◌+◌, ◌++◌, ◌<◌, ◌≤◌, ◌&&◌, false, nat_le, nat_lt, List, filter, length, map, slice_index_or, take, IfOk};
+ghost use Rattle.std.specs.Prelude.{◌≡◌, ◌+◌, ◌++◌, ◌<◌, ◌≤◌, ◌&&◌, false, nat_le, nat_lt, filter, length, map, slice_index_or, IfOk};
 ghost use Rattle.std.specs.List.{All};
 ghost use Rattle.cs_base.specs.declared.content.doc.Post.{Post};
-ghost use Rattle.cs_engine.specs.{Spans.{ArePlacesBetween}, Stocked.{is_between}};
+ghost use Rattle.cs_engine.specs.Stocked.{is_between};
 
 use cs_base::Memory;
-use cs_cols::Cols;
+use cs_cols::{Cols, find_between};
 use std::alloc::Global;
 
 /// So many documents or rows at most are looked at in one loop.
@@ -27,33 +27,6 @@ pub(crate) fn posts_between(alloc: Global, posts: &Cols, lo: u32, hi: u32) -> Re
         from = to;
     }
     Ok(found)
-}
-
-// Puts the places of those of some rows whose word is one of these to the front of a slice, without a jump, and says how many there
-// are.
-fn find_between(
-    words: &[u32],
-    from: usize,
-    to: usize,
-    lo: u32,
-    hi: u32,
-    places: &mut [usize],
-) -> usize
-    requires onward { from ≤ to }
-    requires within { to ≤ length words.now }
-    requires room { to ≤ from + length places.old }
-
-    ensures found { (rows : List Post) → words.now ≡ map (λ p. p.word) rows → (d : Post)
-        → ArePlacesBetween lo hi rows d from to (take result places.new) }
-    ensures known { All (λ i. i < length words.now) (take result places.new) }
-    ensures few { result ≤ length places.new }
-{
-    let mut found = 0;
-    for i in from..to {
-        places[found] = i;
-        found += usize::from(is_in(words[i], lo, hi));
-    }
-    found
 }
 
 // Adds the posts at these places, in the room that there is.

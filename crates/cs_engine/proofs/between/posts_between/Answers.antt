@@ -4,7 +4,9 @@ use Rattle.std.proofs.lemmas.List.{length-map}
 use Rattle.cs_base.specs.declared.content.doc.Post.{Post}
 use Rattle.cs_engine.specs.Stocked.{is_between}
 use Rattle.cs_engine.proofs.AtomsLemmas.{counted_between}
-use Rattle.cs_engine.proofs.SpansLemmas.{span_added, span_fits}
+use Rattle.cs_cols.proofs.FoundPlaces.{places_within}
+use Rattle.cs_cols.specs.SpanPlaces.{is_between_at}
+use Rattle.cs_engine.proofs.SpansLemmas.{between_there, span_added, span_fits}
 use Rattle.cs_engine.proofs.between.posts_between.Goals as goal
 
 abbrev blank : Post
@@ -24,11 +26,23 @@ loop-from-init c =
       within = omega arith;
     }
 
+pub push_places-requires-clause-known : goal.push_places-requires-clause-known
+push_places-requires-clause-known c =
+    let words = c.words-words.result.now in
+    let posts = c.args.posts.now.posts in
+    places_within (is_between_at c.args.lo c.args.hi words) c.loop-from.from _ (length posts) (take c.find_between-many.result c.find_between-many.new.places)
+    (omega (arith, c.min.ensures, c.loop-from-test.true))
+    (omega (arith, c.min.ensures, c.loop-from-test.true, ap length c.words-words.ensures, length-map posts (λ (p : Post). p.word)))
+    c.find_between-many.ensures.found
+
 pub push_places-requires-clause-room : goal.push_places-requires-clause-room
 push_places-requires-clause-room c =
     let inv = c.loop-from.invariant in
     span_fits c.args.lo c.args.hi c.args.posts.now.posts blank c.loop-from.from _ (take c.find_between-many.result c.find_between-many.new.places)
-    c.loop-from.found.posts c.loop-from.found.room (c.find_between-many.ensures.found c.args.posts.now.posts c.words-words.ensures blank) inv.told inv.room
+    c.loop-from.found.posts c.loop-from.found.room
+    (between_there c.args.lo c.args.hi c.args.posts.now.posts blank c.words-words.result.now c.words-words.ensures c.loop-from.from _
+    (take c.find_between-many.result c.find_between-many.new.places) (omega (arith, c.min.ensures, c.loop-from-test.true))
+    (omega (arith, c.min.ensures, c.loop-from-test.true)) c.find_between-many.ensures.found) inv.told inv.room
 
 pub loop-from-preserved : goal.loop-from-preserved
 loop-from-preserved c =
@@ -39,7 +53,8 @@ loop-from-preserved c =
     let told = c.push_places.ensures.posts blank in
     record {
       told = span_added c.args.lo c.args.hi posts blank c.loop-from.from _ places old c.push_places.new.found.posts
-          (c.find_between-many.ensures.found posts c.words-words.ensures blank) told inv.told;
+          (between_there c.args.lo c.args.hi posts blank c.words-words.result.now c.words-words.ensures c.loop-from.from _ places
+          (omega (arith, c.min.ensures, c.loop-from-test.true)) (omega (arith, c.min.ensures, c.loop-from-test.true)) c.find_between-many.ensures.found) told inv.told;
       room = omega (
         arith,
         inv.room,
