@@ -27,6 +27,7 @@ use Rattle.cs_top.specs.declared.script.Came.{Came}
 use Rattle.cs_top.specs.declared.script.Came.TheVariants.{Answered, Read, Changed}
 use Rattle.cs_top.specs.declared.script.answers.Answer.{Answer}
 use Rattle.cs_top.specs.declared.script.answers.Answer.TheVariants as answers
+use Rattle.cs_top.proofs.TallyLemmas.{read_first}
 use Rattle.cs_top.proofs.TextsApart.{memory_apart, changed_unread, own_unread, own_unchanged}
 
 -- ---- one text, by what came of its line
@@ -48,13 +49,6 @@ text_unchanged Read t is h = absurd cc
 text_unchanged Changed t is h = absurd cc
 
 -- ---- what came of some lines and of one more
-none_read : (a b : Came) → worst a b ≢ Read → (a ≢ Read) × (b ≢ Read)
-none_read Answered b h = ((λ e. cc e), h)
-none_read Read b h = absurd (h refl)
-none_read Changed Answered h = ((λ e. cc e), λ e. cc e)
-none_read Changed Read h = absurd (h refl)
-none_read Changed Changed h = ((λ e. cc e), λ e. cc e)
-
 both_answered : (a b : Came) → worst a b ≡ Answered → (a ≡ Answered) × (b ≡ Answered)
 both_answered Answered b e = (refl, e)
 both_answered Read b e = absurd cc
@@ -86,7 +80,7 @@ module _ (ts : List (List ℕ)) (t : List ℕ) where
   texts_more : (came met : Came) → TextsBy came ts → TextBy met t → TextsBy (worst came met) (ts ++ t ∷ [])
   texts_more came met h by = record {
     each = All-push IsLineText ts t h.each (line_text met t by);
-    unread = λ other. let both = none_read came met other in All-push (λ u. u ≢ read_text) ts t (h.unread both.0) (text_unread met t both.1 by);
+    unread = λ other. let both = read_first came met other in All-push (λ u. u ≢ read_text) ts t (h.unread both.0) (text_unread met t both.1 by);
     unchanged = λ is. let both = both_answered came met is in All-push (λ u. ¬ IsChangedText u) ts t (h.unchanged both.0) (text_unchanged met t both.1 by);
     changed = λ is. a_change came met h by (which_changed came met is);
   }
