@@ -5,9 +5,14 @@
 --   stops_there     a line whose answer wasn't put whole ends the script
 --   line_ok, line_err        the same of the result of putting it
 --   refusal_is, reply_is     a refusal and a reply as the text of the line
+--   refusal_put, reply_put, changed_put     over any files: the text of a refusal, of a reply and of a changed index file
+--   change_line     the last names the rule and its place
 use Rattle.std.proofs.Common.{◌≡◌, ◌≢◌, ◌==◌, ℕ, ◌≤◌, true, false, List, [], ◌∷◌, ◌++◌, length, inl, inr, refl, sym, ap, ◌∙◌, subst, Vec, Global}
 use Rattle.std.specs.Prelude.{Option, Some, None, is_some, Result, Ok, Err, OnOk, OnErr, IfOk, IfErr}
+use Rattle.std.specs.Option.{ForSome}
 use Rattle.cs_base.specs.declared.memory.Memory.{Memory}
+use Rattle.cs_engine.specs.Asking.{BreaksIndex}
+use Rattle.cs_file.specs.Indexes.{IndexView}
 use Rattle.cs_http.specs.Refusing.{IsCause}
 use Rattle.cs_json.specs.FaultTexts.{fault_text}
 use Rattle.cs_json.specs.declared.fault.Fault.TheVariants as faults
@@ -18,11 +23,12 @@ use Rattle.cs_base.specs.outside.Outside.{Grew, GrewByPrefix}
 use Rattle.cs_model.specs.Corpus.{Corpus}
 use Rattle.cs_model.specs.Outputs.{MayPut, line_fault, memory_text, read_text, text}
 use Rattle.cs_model.specs.Parameters.{request_of, request_refusal}
-use Rattle.cs_model.specs.Replies.{reply_text}
+use Rattle.cs_model.specs.Replies.{Reply, reply_text}
 use Rattle.cs_model.specs.Requests.{Request, reply_of}
 use Rattle.cs_top.specs.Answering.{CameCounts, Costs, FileView, HasReply, HasText, MayAnswer, came_of_answer, line_bytes}
 use Rattle.cs_top.specs.CommandLine.{failed, CausedBy}
 use Rattle.cs_top.specs.Met.{Wrote}
+use Rattle.cs_top.specs.PutTexts.{HasTextBy, IsChangeLine}
 use Rattle.cs_top.specs.ScriptEndings.{Passes, StopsAt}
 use Rattle.cs_top.specs.Views.{of_script, stop_ending}
 use Rattle.cs_top.specs.declared.lines.ScriptStop.{ScriptStop}
@@ -31,8 +37,9 @@ use Rattle.cs_top.specs.declared.script.Came.{Came}
 use Rattle.cs_top.specs.declared.script.Came.TheVariants as came
 use Rattle.cs_top.specs.declared.script.answers.Answer.{Answer}
 use Rattle.cs_top.specs.declared.script.answers.Answer.TheVariants as answers
-use Rattle.cs_top.proofs.LineTexts.{refused_apart, refused_text, request_text}
-use Rattle.cs_top.proofs.MemoryText.{memory_apart, reply_apart}
+use Rattle.cs_top.proofs.LineTexts.{refused_apart, refused_own, refused_text, request_text}
+use Rattle.cs_top.proofs.PutTextLemmas.{change_put, text_put}
+use Rattle.cs_top.proofs.TextsApart.{memory_apart, reply_apart}
 
 plain_costs : (n m : ℕ) (t : List ℕ) → n ≤ m → t ≢ read_text → Costs came.Answered n m t
 plain_costs n m t later other = record { later = later; read = λ e. absurd (other e); clean = λ h. other; unchanged = λ e. cc e }
@@ -97,3 +104,21 @@ reply_is f k p r (answers.Text b) accepted is h unread = (reply_text (reply_of k
 reply_is f k p r answers.Memory accepted is h unread = tt
 reply_is f k p r answers.Read accepted is h unread = inr (none_there f.made (λ e. unread e refl), inr (accepted, refl))
 reply_is f k p r (answers.Changed b) accepted is h unread = h
+
+-- ---- over any files
+pub refusal_put : (e : ReqFault) (r : Result (Vec ℕ Global) Memory) (a : Answer) → IfOk r (λ b. a ≡ answers.Text b) → OnErr r (a ≡ answers.Memory) → IfOk r (λ b. b.items ≡ fault_text (faults.Refused e) ++ 10 ∷ []) → OnOk r (e ≢ causes.Memory) → HasTextBy a
+refusal_put e (Ok b) a whole none is other = text_put (Ok b) a (fault_text (faults.Refused e)) whole none is (refused_own e other)
+refusal_put e (Err x) a whole none is other = text_put (Err x) a (fault_text (faults.Refused e)) whole none is tt
+
+pub reply_put : (p : Reply) (r : Result (Vec ℕ Global) Memory) (a : Answer) → IfOk r (λ b. a ≡ answers.Text b) → OnErr r (a ≡ answers.Memory) → IfOk r (λ b. b.items ≡ reply_text p ++ 10 ∷ []) → HasTextBy a
+reply_put p (Ok b) a whole none is = text_put (Ok b) a (reply_text p) whole none is (inl (p, refl))
+reply_put p (Err x) a whole none is = text_put (Err x) a (reply_text p) whole none is tt
+
+pub changed_put : (o : Option (Vec ℕ Global)) (rule at : ℕ) → ForSome o (λ b. b.items ≡ fault_text (faults.Changed rule at) ++ 10 ∷ []) → HasTextBy (answers.Changed o)
+unfolding fault_text
+changed_put o rule at h = change_put o rule at h
+
+pub change_line : (i : IndexView) (told : Option (List ℕ)) (o : Option (Vec ℕ Global)) (rule at : ℕ) → BreaksIndex i told rule at → ForSome o (λ b. b.items ≡ fault_text (faults.Changed rule at) ++ 10 ∷ []) → IsChangeLine i told (answers.Changed o)
+unfolding fault_text
+change_line i told None rule at broken h = tt
+change_line i told (Some b) rule at broken h = (rule, at, broken, h b refl)

@@ -5,10 +5,13 @@ pub mod CompleteLemmas
 pub mod CommandLineExamples
 pub mod LineTexts
 pub mod MemoryText
+pub mod PutTextLemmas
 pub mod SaysLemmas
 pub mod ScriptLemmas
 pub mod ServeEndings
+pub mod StopLemmas
 pub mod TallyLemmas
+pub mod TextsApart
 pub mod LinesAtPlaces
 pub mod TrialLemmas
 pub mod WindowLemmas

@@ -1,5 +1,5 @@
 -- What the readers of a line say of it, in the words that define its answer.
-use Rattle.std.proofs.Common.{◌≡◌, ◌≢◌, ◌<◌, ◌≤◌, ℕ, true, false, List, length, nat_le, refl, sym, ◌∙◌, ap, arith}
+use Rattle.std.proofs.Common.{◌≡◌, ◌≢◌, ◌<◌, ◌≤◌, ℕ, true, false, List, length, nat_le, inl, inr, refl, sym, ◌∙◌, ap, arith}
 use Rattle.std.specs.Prelude.{Some, None}
 use Rattle.std.specs.Str.{is_utf8, IsUtf8}
 use Rattle.std.proofs.lemmas.Bool.{false_from_ne_true}
@@ -17,7 +17,8 @@ use Rattle.cs_model.specs.Refusals.{Bad, Limit}
 use Rattle.cs_query.specs.ParamNames.{param_name}
 use Rattle.cs_model.specs.Replies.{reply_text}
 use Rattle.cs_model.specs.Requests.{Request, reply_of}
-use Rattle.cs_top.proofs.MemoryText.{refusal_apart}
+use Rattle.cs_top.specs.PutTexts.{IsOwnText}
+use Rattle.cs_top.proofs.TextsApart.{refusal_apart}
 use Rattle.cs_query.specs.declared.request.ReqFault.{ReqFault}
 use Rattle.cs_query.specs.declared.request.ReqFault.TheVariants as causes
 
@@ -36,6 +37,14 @@ refused_apart k p (causes.BadParam which) h other = λ is. refusal_apart (bad_pa
 refused_apart k p (causes.Bad at) h other = λ is. refusal_apart (bad_query at Bad) (sym (ap (text_by k p) h) ∙ is)
 refused_apart k p (causes.Limit at which) h other = λ is. refusal_apart (bad_query at (Limit which)) (sym (ap (text_by k p) h) ∙ is)
 refused_apart k p causes.Memory h other = absurd (other refl)
+
+-- of a refusal that isn't want of memory
+pub refused_own : (e : ReqFault) → e ≢ causes.Memory → IsOwnText (fault_text (faults.Refused e))
+unfolding fault_text
+refused_own (causes.BadParam which) other = inr (inl (bad_param (param_name which), refl))
+refused_own (causes.Bad at) other = inr (inl (bad_query at Bad, refl))
+refused_own (causes.Limit at which) other = inr (inl (bad_query at (Limit which), refl))
+refused_own causes.Memory other = absurd (other refl)
 
 -- the text of a line that is a request
 pub request_text : (k : Corpus) (p : List ℕ) (r : Request) → request_refusal p ≡ None → r ≡ request_of p → text k p ≡ reply_text (reply_of k r)

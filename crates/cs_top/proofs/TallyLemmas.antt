@@ -1,7 +1,7 @@
 -- How often texts say that a read failed, against how often the files' count rose.
 --
 --   tally_none, tally_same, tally_more      of no texts, behind a line without bytes, and behind one text more
---   not_read, not_changed, counts_more     of what came of some lines and of more
+--   read_first, not_read, not_changed, counts_more     of what came of some lines and of more
 --   short_here, short_failed, short_put     of a script that ends early: at a refused line, where a file failed, where a put did
 use Rattle.std.proofs.Common.{◌≡◌, ◌≢◌, ◌⊎◌, ℕ, ◌+◌, ◌≤◌, Bool, true, false, List, [], ◌∷◌, ◌++◌, inl, inr, refl, sym, ◌∙◌, subst, arith}
 use Rattle.std.specs.Str.{bytes_eq}
@@ -47,7 +47,7 @@ rose_text false t n before count now e r l read =
     subst (λ x. RoseBy x before now) same (rose_kept n before count now r l)
 
 -- ---- what came
-read_first : (a b : Came) → worst a b ≢ Read → (a ≢ Read) × (b ≢ Read)
+pub read_first : (a b : Came) → worst a b ≢ Read → (a ≢ Read) × (b ≢ Read)
 read_first Answered b h = ((λ e. cc e), h)
 read_first Read b h = absurd (h refl)
 read_first Changed Answered h = ((λ e. cc e), λ e. cc e)

@@ -4,6 +4,7 @@ pub mod CommandLine
 pub mod CommandRuns
 pub mod Filed
 pub mod Met
+pub mod PutTexts
 pub mod ScriptEndings
 pub mod ScriptRuns
 pub mod Serve

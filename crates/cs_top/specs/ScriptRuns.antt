@@ -25,6 +25,7 @@ use Rattle.cs_model.specs.Corpus.{corpus, refusal, Corpus}
 use Rattle.cs_model.specs.Outputs.{IsAnswer, script_lines, PutAll, failed_reads, readable_lines}
 use Rattle.cs_top.specs.CommandLine.{Ending, usage, refused, absent, damaged, changed, failed, no_memory, Caused, done, script_refused}
 use Rattle.cs_top.specs.Met.{Met, Wrote, held_bytes}
+use Rattle.cs_top.specs.PutTexts.{EndsBy}
 use Rattle.cs_top.specs.ScriptEndings.{ScriptEnds, IsReadable}
 use Rattle.cs_base.specs.outside.Causes.{Rose}
 use Rattle.cs_hub.specs.Streams.{RoseBy}
@@ -62,7 +63,8 @@ abbrev pub AskTold : Ending → Held → List ℕ → List ℕ → Wrote → Typ
 AskTold e h c s w = (AskStops e h c s × (w.new ≡ w.old)) ⊎ (IsReady h c s × AskScript e h c s w)
 
 -- ---- `ask` over any files
--- how it may end over any files: a name that is said to be absent is one of the two, and nothing is put before the script
+-- how it may end over any files: a name that is said to be absent is one of the two, nothing is put before the script, and with its
+-- script by the texts that were put
 abbrev pub AskEnds : Ending → List ℕ → List ℕ → Wrote → Type 0
 AskEnds usage c s w = ⊥
 AskEnds (damaged rule at) c s w = ⊥
@@ -70,7 +72,7 @@ AskEnds changed c s w = ⊥
 AskEnds (absent name) c s w = ((name ≡ c) ⊎ (name ≡ s)) × (w.new ≡ w.old)
 AskEnds (refused r) c s w = w.new ≡ w.old
 AskEnds no_memory c s w = w.new ≡ w.old
-AskEnds e c s w = Unit {0}
+AskEnds e c s w = EndsBy e w
 
 -- a whole run; it changes no file, and meets no hub
 pub record AskRan {H : Type 0} (e : Ending) (c s : List ℕ) (m : Met H) : Type 0 where
@@ -121,14 +123,15 @@ ReplayTold e h i s before now w =
     (ReplayStops e h i s × (w.new ≡ w.old)) ⊎ (CanBeOpened h i s × ReplayScript (file_corpus (held_bytes h i)) e (script_lines (held_bytes h s)) before now w)
 
 -- ---- `replay` over any files
--- how it may end over any files: a name that is said to be absent is one of the two, and nothing is put before the script
+-- how it may end over any files: a name that is said to be absent is one of the two, nothing is put before the script, and with its
+-- script by the texts that were put
 abbrev pub ReplayEnds : Ending → List ℕ → List ℕ → Wrote → Type 0
 ReplayEnds usage i s w = ⊥
 ReplayEnds (refused r) i s w = ⊥
 ReplayEnds (absent name) i s w = ((name ≡ i) ⊎ (name ≡ s)) × (w.new ≡ w.old)
 ReplayEnds (damaged rule at) i s w = w.new ≡ w.old
 ReplayEnds no_memory i s w = w.new ≡ w.old
-ReplayEnds e i s w = Unit {0}
+ReplayEnds e i s w = EndsBy e w
 
 -- where it failed one of the counts rose; before a refused line reads may have failed; else both are as they were
 abbrev pub ReplayCaused : Ending → ℕ → ℕ → ℕ → ℕ → Type 0

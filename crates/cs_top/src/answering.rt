@@ -1,12 +1,12 @@
 //! What answers requests: an engine, over an index file in memory or one that the files hold.
-ghost use Rattle.std.specs.Prelude.{◌≡◌, true, false, Some, None, [], IfOk, is_some};
-ghost use Rattle.cs_engine.specs.Asking.{is_changed, is_read};
+ghost use Rattle.std.specs.Prelude.{◌≡◌, true, false, Some, None, [], IfErr, IfOk, is_some};
+ghost use Rattle.cs_engine.specs.Asking.{IsChangeIn, is_changed, is_read};
 ghost use Rattle.cs_file.specs.Indexes.{CausedReads};
 ghost use Rattle.cs_model.specs.Corpus.{Corpus};
 ghost use Rattle.cs_model.specs.Parameters.{HoldsLimits};
 ghost use Rattle.cs_model.specs.Requests.{reply_of};
 ghost use Rattle.cs_query.specs.RequestView.{asked};
-ghost use Rattle.cs_top.specs.Answering.{AnswersOver, IsThere};
+ghost use Rattle.cs_top.specs.Answering.{AnswersOver, IsThere, bytes_there};
 
 use cs_base::{FileStore, Files, MemStore};
 use cs_engine::{AskFault, Engine, Note};
@@ -71,6 +71,7 @@ pub(crate) fn respond<F: Files>(
 
     ensures ok { (k : Corpus) → AnswersOver engine.old file.old (F.held files.old) k → IfOk result (λ r. r.0 ≡ reply_of k (asked request.now)) }
     ensures unchanged { (k : Corpus) → AnswersOver engine.old file.old (F.held files.old) k → is_changed result ≡ false }
+    ensures changed { IfErr result (IsChangeIn engine.old.index (bytes_there file.old (F.held files.old))) }
     ensures stays { (k : Corpus) → AnswersOver engine.old file.old (F.held files.old) k → AnswersOver engine.new file.new (F.held files.new) k }
     ensures unread { is_some file.old.made ≡ true → is_read result ≡ false }
     ensures engine { engine.new.index ≡ engine.old.index }

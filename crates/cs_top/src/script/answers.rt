@@ -1,5 +1,6 @@
 //! One line of a script, answered.
 ghost use Rattle.std.specs.Prelude.{◌≡◌, ◌≢◌, ◌≤◌, ◌++◌, ◌∷◌, [], true, IfOk, IfErr, OnOk, OnErr, is_some};
+ghost use Rattle.std.specs.Option.{ForSome};
 ghost use Rattle.cs_base.specs.outside.Outside.{Grew, GrewByPrefix};
 ghost use Rattle.cs_json.specs.FaultTexts.{fault_text};
 ghost use Rattle.cs_json.specs.declared.fault.Fault.TheVariants as faults;
@@ -9,10 +10,11 @@ ghost use Rattle.cs_model.specs.Parameters.{HoldsLimits};
 ghost use Rattle.cs_model.specs.Replies.{reply_text};
 ghost use Rattle.cs_query.specs.RequestView.{asked};
 ghost use Rattle.cs_query.specs.declared.request.ReqFault.{ReqFault};
-ghost use Rattle.cs_top.specs.Answering.{AnswersOver, CameCounts, HasReply, HasText, IsThere, MayAnswer, StaysOver, came_of_answer, line_bytes};
+ghost use Rattle.cs_top.specs.Answering.{AnswersOver, CameCounts, HasReply, HasText, IsThere, MayAnswer, StaysOver, bytes_there, came_of_answer, line_bytes};
 ghost use Rattle.cs_top.specs.CommandLine.{CausedBy};
 ghost use Rattle.cs_top.specs.declared.script.answers.Answer.TheVariants as answers;
 ghost use Rattle.cs_top.specs.Met.{wrote};
+ghost use Rattle.cs_top.specs.PutTexts.{CutsLine, HasTextBy, IsChangeLine, PutsLine};
 ghost use Rattle.cs_top.specs.ScriptEndings.{Passes, StopsAt};
 ghost use Rattle.cs_top.specs.Views.{of_script, stop_ending};
 
@@ -66,6 +68,8 @@ pub(crate) fn answer_line<F: Files, O: Sink>(
     ensures err { (k : Corpus) → AnswersOver engine.old file.old (F.held files.old) k → IfErr result (λ s. StopsAt (MayAnswer file.old k) (stop_ending (of_script s)) (number, line.now)
         (wrote O.written O.faults out.old out.new) (F.faults files.old) (F.faults files.new)) }
     ensures unchanged { (k : Corpus) → AnswersOver engine.old file.old (F.held files.old) k → IfOk result (λ came. came ≢ Came.Changed) }
+    ensures puts { IfOk result (λ came. PutsLine came (O.written out.old) (O.written out.new)) }
+    ensures cuts { IfErr result (λ s. CutsLine (stop_ending (of_script s)) (wrote O.written O.faults out.old out.new)) }
     ensures over { StaysOver engine.old engine.new file.old file.new (F.held files.old) (F.held files.new) }
     ensures counts { IfOk result (λ came. CameCounts came (F.faults files.old) (F.faults files.new)) }
     ensures later { F.faults files.old ≤ F.faults files.new }
@@ -143,6 +147,7 @@ fn answer_params<F: Files>(
 
     ensures unchanged { (k : Corpus) → AnswersOver engine.old file.old (F.held files.old) k → came_of_answer result ≢ Came.Changed }
     ensures text { (k : Corpus) → AnswersOver engine.old file.old (F.held files.old) k → HasText (MayAnswer file.old k) line.now result }
+    ensures texts { HasTextBy result }
     ensures unread { is_some file.old.made ≡ true → came_of_answer result ≢ Came.Read }
     ensures over { StaysOver engine.old engine.new file.old file.new (F.held files.old) (F.held files.new) }
     ensures counts { CameCounts (came_of_answer result) (F.faults files.old) (F.faults files.new) }
@@ -166,6 +171,8 @@ fn answer_request<F: Files>(
 
     ensures unchanged { (k : Corpus) → AnswersOver engine.old file.old (F.held files.old) k → came_of_answer result ≢ Came.Changed }
     ensures text { (k : Corpus) → AnswersOver engine.old file.old (F.held files.old) k → HasReply k (asked wanted.now) result }
+    ensures texts { HasTextBy result }
+    ensures changed { IsChangeLine engine.old.index (bytes_there file.old (F.held files.old)) result }
     ensures unread { is_some file.old.made ≡ true → came_of_answer result ≢ Came.Read }
     ensures over { StaysOver engine.old engine.new file.old file.new (F.held files.old) (F.held files.new) }
     ensures counts { CameCounts (came_of_answer result) (F.faults files.old) (F.faults files.new) }
@@ -198,7 +205,9 @@ fn reply_line(alloc: Global, reply: &Reply) -> Result<Vec<u8>, Memory>
 }
 
 // The text of a changed index file, and its line ending; None where there is no memory for it.
-fn changed_line(alloc: Global, rule: u8, at: u64) -> Option<Vec<u8>> {
+fn changed_line(alloc: Global, rule: u8, at: u64) -> Option<Vec<u8>>
+    ensures { ForSome result (λ b. b.items ≡ fault_text (faults.Changed rule at) ++ 10 ∷ []) }
+{
     let Ok(mut bytes) = fault_bytes(alloc, &Fault::Changed { rule, at }) else {
         return None;
     };

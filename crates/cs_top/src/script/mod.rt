@@ -5,6 +5,7 @@ ghost use Rattle.cs_model.specs.Outputs.{script_lines};
 ghost use Rattle.cs_top.specs.Answering.{AnswersOver, CameCounts, IsThere, MayAnswer, worst};
 ghost use Rattle.cs_top.specs.CommandLine.{done};
 ghost use Rattle.cs_top.specs.Met.{HasToldSize, OfBytes, wrote};
+ghost use Rattle.cs_top.specs.PutTexts.{CutsLine, EndsBy, PutsLine, PutsTexts};
 ghost use Rattle.cs_top.specs.ScriptEndings.{ScriptCaused, ScriptEnds, ShortTally, Tally, Reaches, EndsAt};
 ghost use Rattle.cs_top.specs.Views.{of_script, stop_ending};
 
@@ -61,6 +62,8 @@ pub(crate) fn answer_script<F: Files, O: Sink>(
         × ScriptEnds (MayAnswer file.old k) (stop_ending (of_script s)) (script_lines b) ts (wrote O.written O.faults out.old out.new)
         × ShortTally (stop_ending (of_script s)) (wrote O.written O.faults out.old out.new) (F.faults files.old) (F.faults files.new) ts)) }
     ensures unchanged { (k : Corpus) → AnswersOver engine.old file.old (F.held files.old) k → IfOk result (λ came. came ≢ Came.Changed) }
+    ensures puts { IfOk result (λ came. PutsTexts came (O.written out.old) (O.written out.new)) }
+    ensures cuts { IfErr result (λ s. EndsBy (stop_ending (of_script s)) (wrote O.written O.faults out.old out.new)) }
     ensures made { is_some file.old.made ≡ true → IfOk result (λ came. came ≢ Came.Read) }
     ensures counts { IfOk result (λ came. CameCounts came (F.faults files.old) (F.faults files.new)) }
     ensures quiet { OnOk result (O.faults out.new ≡ O.faults out.old) }
@@ -100,6 +103,8 @@ fn answer_next<F: Files, O: Sink>(
     ensures err { (k : Corpus) → AnswersOver engine.old file.old (F.held files.old) k → OfBytes (F.held files.old) script.now (λ b. IfErr result (λ s. EndsAt (MayAnswer file.old k)
         (stop_ending (of_script s)) b place (wrote O.written O.faults out.old out.new) (F.faults files.old) (F.faults files.new))) }
     ensures unchanged { (k : Corpus) → AnswersOver engine.old file.old (F.held files.old) k → IfOk result (λ p. p.1 ≢ Came.Changed) }
+    ensures puts { IfOk result (λ p. PutsLine p.1 (O.written out.old) (O.written out.new)) }
+    ensures cuts { IfErr result (λ s. CutsLine (stop_ending (of_script s)) (wrote O.written O.faults out.old out.new)) }
     ensures further { IfOk result (λ p. (place.at < p.0.at) × (p.0.at ≤ size) × (p.0.number ≤ p.0.at)) }
     ensures stays { (k : Corpus) → AnswersOver engine.old file.old (F.held files.old) k → AnswersOver engine.new file.new (F.held files.new) k }
     ensures engine { engine.new.index ≡ engine.old.index }

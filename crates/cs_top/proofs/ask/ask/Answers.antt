@@ -1,17 +1,19 @@
-use Rattle.std.proofs.Common.{◌≡◌, ◌≢◌, ◌∙◌, ℕ, List, inr, refl, sym, subst}
+use Rattle.std.proofs.Common.{◌≡◌, ◌≢◌, ◌∙◌, ℕ, List, inr, refl, rules, sym, subst}
 use Rattle.std.specs.Prelude.{Some}
 use Rattle.cs_base.specs.outside.Outside.{Held}
 use Rattle.cs_model.specs.Corpus.{Corpus, corpus}
 use Rattle.cs_model.specs.Outputs.{IsAnswer, script_lines}
 use Rattle.cs_model_index.specs.Layout.{file}
 use Rattle.cs_top.specs.Answering.{AnswersOver, MayAnswer}
-use Rattle.cs_top.specs.ScriptRuns.{AskTold}
+use Rattle.cs_top.specs.PutTexts.{PutsTexts}
+use Rattle.cs_top.specs.ScriptRuns.{AskEnds, AskTold}
 use Rattle.cs_top.specs.CommandLine.{Ending, done}
 use Rattle.cs_top.specs.Met.{Wrote, held_bytes, wrote}
 use Rattle.cs_top.specs.Views.{of_script, stop_ending}
 use Rattle.cs_model_index.specs.Sections.{file_corpus}
 use Rattle.cs_top.specs.ScriptEndings.{ScriptEnds, ShortTally, Tally}
 use Rattle.cs_top.specs.declared.script.Came.TheVariants.{Answered, Read, Changed}
+use Rattle.cs_top.proofs.StopLemmas.{short_by}
 use Rattle.cs_top.proofs.ScriptLemmas.{ends_by, err_there, made_only, ok_there, over_made, some_made, there_made}
 use Rattle.cs_top.proofs.ask.ask.Given as given
 use Rattle.cs_top.proofs.ask.ask.Goals as goal
@@ -85,3 +87,18 @@ returns-clause-told g c h held =
     (c.answer_script.ensures.short (k g met h) (over g met h held) h (c.in_ok-image.ensures.files ∙ held)) in
     let all = told g met h held (stop_ending (of_script c.in-Err.stop)) short.0 short.1 in
     subst (λ x. AskTold (stop_ending x) h c.args.collection.now c.args.script.now (w g met)) (sym c.from.ensures) all
+
+-- ---- over any files
+pub returns-in_err-image-clause-ends : goal.returns-in_err-image-clause-ends
+returns-in_err-image-clause-ends g c =
+    let all = c.in_err-image.ensures.ends (wrote g.O.Sink.written g.O.Sink.faults c.args.out.now c.args.out.now) refl in
+    search rules
+
+pub returns-in-Ok-Answered-clause-ends : goal.returns-in-Ok-Answered-clause-ends
+returns-in-Ok-Answered-clause-ends g c =
+    ok_there c.answer_script.result c.in-Ok-Answered.field-0 Answered (λ came. PutsTexts came (g.O.Sink.written c.args.out.now) (g.O.Sink.written c.answer_script.new.out)) c.in-Ok-Answered.is c.in-Ok-Answered.field-0-is c.answer_script.ensures.puts
+
+pub returns-clause-ends : goal.returns-clause-ends
+returns-clause-ends g c =
+    let put = w g (goal.at.returns-clause-ends g c).After-answer_script in
+    short_by (λ e. AskEnds e c.args.collection.now c.args.script.now put) put c.answer_script.result c.in-Err.stop c.from.result (λ f h. h) (λ h. h) c.in-Err.is c.answer_script.ensures.cuts c.from.ensures

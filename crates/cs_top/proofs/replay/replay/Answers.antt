@@ -1,4 +1,4 @@
-use Rattle.std.proofs.Common.{◌≡◌, ◌∙◌, ℕ, List, inr, sym, subst}
+use Rattle.std.proofs.Common.{◌≡◌, ◌∙◌, ℕ, List, inl, inr, refl, rules, sym, subst}
 use Rattle.std.specs.Prelude.{Some, Ok}
 use Rattle.cs_base.specs.outside.Outside.{Held}
 use Rattle.cs_file.specs.Indexes.{StandsFor}
@@ -11,8 +11,11 @@ use Rattle.cs_top.specs.declared.script.Came.{Came}
 use Rattle.cs_top.specs.declared.script.Came.TheVariants.{Answered, Read, Changed}
 use Rattle.cs_top.specs.CommandLine.{Ending, done, failed}
 use Rattle.cs_top.specs.Met.{Wrote, held_bytes, wrote}
-use Rattle.cs_top.specs.ScriptRuns.{CanBeOpened, ReplayScript, ReplayTold}
+use Rattle.cs_top.specs.PutTexts.{PutsTexts}
+use Rattle.cs_top.specs.ScriptRuns.{CanBeOpened, ReplayEnds, ReplayScript, ReplayTold}
 use Rattle.cs_top.specs.Views.{of_script, stop_ending}
+use Rattle.cs_top.proofs.PutTextLemmas.{puts_some}
+use Rattle.cs_top.proofs.StopLemmas.{replay_absent, replay_damaged, short_by}
 use Rattle.cs_top.proofs.ScriptLemmas.{err_there, held_by, ok_there, over_held, script_answered, script_changed, script_read, script_short}
 use Rattle.cs_top.proofs.replay.replay.Given as given
 use Rattle.cs_top.proofs.replay.replay.Goals as goal
@@ -101,3 +104,47 @@ returns-in-Ok-Changed-clause-told g c h held =
     let met = (goal.at.returns-in-Ok-Changed-clause-told g c).After-answer_script in
     absurd (script_changed c.held-file.result (k g met h) (ls g met h) (g.F.Files.faults c.open.new.files)
     (g.F.Files.faults c.answer_script.new.files) (w g met) (passed g met h held c.in-Ok-Changed.field-0 Changed c.in-Ok-Changed.is c.in-Ok-Changed.field-0-is))
+
+-- ---- over any files
+-- the texts that were put, by what came of the lines
+put_by : (g : given.Over) (c : After-answer_script g) (x y : Came) → c.answer_script.result ≡ Ok x → x ≡ y → PutsTexts y (g.O.Sink.written c.args.out.now) (g.O.Sink.written c.answer_script.new.out)
+put_by g c x y is same = ok_there c.answer_script.result x y (λ came. PutsTexts came (g.O.Sink.written c.args.out.now) (g.O.Sink.written c.answer_script.new.out)) is same c.answer_script.ensures.puts
+
+-- before the script nothing is put
+abbrev unput : (g : given.Over) → g.row.O.Denot → Wrote
+unput g out = wrote g.O.Sink.written g.O.Sink.faults out out
+
+pub returns-in_err-size-clause-ends : goal.returns-in_err-size-clause-ends
+returns-in_err-size-clause-ends g c =
+    let all = replay_absent c.args.index.now c.args.script.now (unput g c.args.out.now) c.in_err-size.field-0.0 refl c.args.index.now c.in_err-size.ensures.absence (inl refl) in
+    search rules
+
+pub returns-in_err-script_size-clause-ends : goal.returns-in_err-script_size-clause-ends
+returns-in_err-script_size-clause-ends g c =
+    let all = replay_absent c.args.index.now c.args.script.now (unput g c.args.out.now) c.in_err-script_size.field-0.0 refl c.args.script.now c.in_err-script_size.ensures.absence (inr refl) in
+    search rules
+
+pub returns-in_err-engine-clause-ends : goal.returns-in_err-engine-clause-ends
+returns-in_err-engine-clause-ends g c =
+    let all = replay_damaged c.args.index.now c.args.script.now (unput g c.args.out.now) c.in_err-engine.field-0.0 refl c.in_err-engine.ensures.kind in
+    search rules
+
+pub returns-in-Ok-Answered-clause-ends : goal.returns-in-Ok-Answered-clause-ends
+returns-in-Ok-Answered-clause-ends g c =
+    let met = (goal.at.returns-in-Ok-Answered-clause-ends g c).After-answer_script in
+    put_by g met c.in-Ok-Answered.field-0 Answered c.in-Ok-Answered.is c.in-Ok-Answered.field-0-is
+
+pub returns-in-Ok-Read-clause-ends : goal.returns-in-Ok-Read-clause-ends
+returns-in-Ok-Read-clause-ends g c =
+    let met = (goal.at.returns-in-Ok-Read-clause-ends g c).After-answer_script in
+    puts_some Read (w g met) (put_by g met c.in-Ok-Read.field-0 Read c.in-Ok-Read.is c.in-Ok-Read.field-0-is)
+
+pub returns-in-Ok-Changed-clause-ends : goal.returns-in-Ok-Changed-clause-ends
+returns-in-Ok-Changed-clause-ends g c =
+    let met = (goal.at.returns-in-Ok-Changed-clause-ends g c).After-answer_script in
+    put_by g met c.in-Ok-Changed.field-0 Changed c.in-Ok-Changed.is c.in-Ok-Changed.field-0-is
+
+pub returns-clause-ends : goal.returns-clause-ends
+returns-clause-ends g c =
+    let put = w g (goal.at.returns-clause-ends g c).After-answer_script in
+    short_by (λ e. ReplayEnds e c.args.index.now c.args.script.now put) put c.answer_script.result c.in-Err.stop c.from.result (λ f h. h) (λ h. h) c.in-Err.is c.answer_script.ensures.cuts c.from.ensures

@@ -8,10 +8,12 @@ use Rattle.cs_model.specs.Words.{is_filled}
 use Rattle.cs_top.specs.Answering.{CameCounts, MayAnswer}
 use Rattle.cs_top.specs.CommandLine.{failed}
 use Rattle.cs_top.specs.Met.{held_bytes, wrote}
+use Rattle.cs_top.specs.PutTexts.{CutsLine, EndsBy, PutsTexts}
 use Rattle.cs_top.specs.ScriptEndings.{ScriptEnds, ShortTally, EndsAt, Reaches}
 use Rattle.cs_top.specs.declared.script.Came.TheVariants.{Read, Changed}
 use Rattle.cs_top.specs.Views.{of_script, stop_ending}
 use Rattle.cs_top.proofs.AnsweredLemmas.{HasAnswered, at_start, lines_at, unread, goes_on, ends_here, ends_done}
+use Rattle.cs_top.proofs.PutTextLemmas.{nothing_put, puts_cut, puts_more, puts_none}
 use Rattle.cs_top.proofs.TallyLemmas.{counts_more, not_changed, not_read}
 use Rattle.cs_top.proofs.LinesAtPlaces.{over_at}
 use Rattle.cs_top.proofs.WindowLemmas.{held_size}
@@ -30,11 +32,17 @@ returns-in_err-at-clause-short g c k over h held =
     unread (at_start a ls ls w fb fb refl refl) n n w fn refl c.in_err-at.ensures.counted.failed in
     search rules
 
+pub returns-in_err-at-clause-cuts : goal.returns-in_err-at-clause-cuts
+returns-in_err-at-clause-cuts g c =
+    let all : EndsBy failed (wrote g.O.Sink.written g.O.Sink.faults c.args.out.now c.args.out.now) = nothing_put (wrote g.O.Sink.written g.O.Sink.faults c.args.out.now c.args.out.now) refl in
+    search rules
+
 pub loop-place-init : goal.loop-place-init
 loop-place-init g c = record {
   so_far = λ k over h held.
       at_start _ _ _ (g.O.Sink.written c.args.out.now) (g.F.Files.faults c.args.files.now) (g.F.Files.faults c.first_place.new.files) (ap (λ x. filter (λ l. is_filled l.1) (enumerate_from 1 (lines x))) (c.in_ok-at.ensures.mark h held))
       c.in_ok-at.ensures.counted.quiet;
+  puts = puts_none (g.O.Sink.written c.args.out.now);
   unchanged = λ k over e. cc e;
   stays = λ k over. over_at c.args.engine.now c.args.file.now _ _ k c.in_ok-at.ensures.same over;
   made = λ some e. cc e;
@@ -64,6 +72,19 @@ returns-in_err-next-clause-short g c k over h held =
     ends_here b c.loop-place.place (inv.so_far k over h held) first last e new n here in
     search rules
 
+pub returns-in_err-next-clause-cuts : goal.returns-in_err-next-clause-cuts
+returns-in_err-next-clause-cuts g c =
+    let inv = c.loop-place.invariant in
+    let e = stop_ending (of_script c.in_err-next.field-0.0) in
+    let new = g.O.Sink.written c.answer_next.new.out in
+    let first = g.O.Sink.faults c.args.out.now in
+    let last = g.O.Sink.faults c.answer_next.new.out in
+    let here : CutsLine e (record { old = g.O.Sink.written c.loop-place.out; new = new; before = first; now = last }) =
+    subst (λ m. CutsLine e (record { old = g.O.Sink.written c.loop-place.out; new = new; before = m; now = last })) inv.out c.in_err-next.ensures.cuts in
+    let all : EndsBy e (wrote g.O.Sink.written g.O.Sink.faults c.args.out.now c.answer_next.new.out) =
+    puts_cut c.loop-place.came (g.O.Sink.written c.args.out.now) (g.O.Sink.written c.loop-place.out) first last new e inv.puts here in
+    search rules
+
 pub loop-place-preserved : goal.loop-place-preserved
 loop-place-preserved g c =
     let inv = c.loop-place.invariant in
@@ -77,6 +98,9 @@ loop-place-preserved g c =
           subst (λ f. Reaches (MayAnswer f k) b c.loop-place.place next.next (g.O.Sink.written c.loop-place.out) (g.O.Sink.written c.answer_next.new.out) next.met (g.F.Files.faults c.loop-place.files) (g.F.Files.faults c.answer_next.new.files)) inv.file there in
           subst (λ x. HasAnswered (MayAnswer c.args.file.now k) (script_lines b) (lines_at b next.next) (g.O.Sink.written c.args.out.now) (g.O.Sink.written c.answer_next.new.out) x (g.F.Files.faults c.args.files.now) (g.F.Files.faults c.answer_next.new.files)) (sym is)
           (goes_on b c.loop-place.place (inv.so_far k over h held) next.next (g.O.Sink.written c.answer_next.new.out) next.met (g.F.Files.faults c.answer_next.new.files) here);
+      puts =
+          subst (λ x. PutsTexts x (g.O.Sink.written c.args.out.now) (g.O.Sink.written c.answer_next.new.out)) (sym is)
+          (puts_more c.loop-place.came next.met _ _ _ inv.puts next.ensures.puts);
       unchanged = λ k over.
           subst (λ x. x ≢ Changed) (sym is)
           (not_changed c.loop-place.came next.met (inv.unchanged k over) (next.ensures.unchanged k (inv.stays k over)));

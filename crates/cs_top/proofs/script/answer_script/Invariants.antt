@@ -4,6 +4,7 @@ use Rattle.cs_model.specs.Corpus.{Corpus}
 use Rattle.cs_model.specs.Outputs.{script_lines}
 use Rattle.cs_top.specs.Answering.{AnswersOver, CameCounts, MayAnswer}
 use Rattle.cs_top.specs.Met.{OfBytes}
+use Rattle.cs_top.specs.PutTexts.{PutsTexts}
 use Rattle.cs_top.specs.declared.script.Came.TheVariants.{Read, Changed}
 use Rattle.cs_top.proofs.AnsweredLemmas.{HasAnswered, lines_at}
 use Rattle.cs_top.proofs.script.answer_script.Given as goal
@@ -12,6 +13,7 @@ abbrev pub invariant-loop-place : goal.invariant-loop-place
 invariant-loop-place g l = record {
   so_far : (k : Corpus) → AnswersOver l.fn.engine l.fn.file (g.F.Files.held l.fn.files) k → OfBytes (g.F.Files.held l.fn.files) l.script (λ b.
       HasAnswered (MayAnswer l.fn.file k) (script_lines b) (lines_at b l.place) (g.O.Sink.written l.fn.out) (g.O.Sink.written l.out) l.came (g.F.Files.faults l.fn.files) (g.F.Files.faults l.files));
+  puts : PutsTexts l.came (g.O.Sink.written l.fn.out) (g.O.Sink.written l.out);
   unchanged : (k : Corpus) → AnswersOver l.fn.engine l.fn.file (g.F.Files.held l.fn.files) k → l.came ≢ Changed;
   stays : (k : Corpus) → AnswersOver l.fn.engine l.fn.file (g.F.Files.held l.fn.files) k → AnswersOver l.engine l.file (g.F.Files.held l.files) k;
   made : is_some l.fn.file.made ≡ true → l.came ≢ Read;

@@ -3,6 +3,7 @@ use Rattle.cs_top.specs.Met.{wrote}
 use Rattle.cs_top.specs.Answering.{came_of_answer}
 use Rattle.cs_top.specs.declared.script.Came.TheVariants.{Changed}
 use Rattle.cs_top.proofs.AnswerLemmas.{line_err, line_ok, said_came, some_bytes}
+use Rattle.cs_top.proofs.PutTextLemmas.{line_cuts, line_puts}
 use Rattle.cs_top.proofs.script.answers.answer_line.Goals as goal
 
 pub returns-clause-ok : goal.returns-clause-ok
@@ -18,3 +19,11 @@ returns-clause-err g c k over =
 
 pub returns-clause-unchanged : goal.returns-clause-unchanged
 returns-clause-unchanged g c k over = said_came c.put_answer.result (came_of_answer c.answer_params-answer.result) (λ x. x ≢ Changed) c.put_answer.ensures.came (c.answer_params-answer.ensures.unchanged k over)
+
+pub returns-clause-puts : goal.returns-clause-puts
+returns-clause-puts g c = line_puts c.answer_params-answer.result c.answer_params-answer.ensures.texts c.put_answer.result _ _ c.put_answer.ensures.ok c.put_answer.ensures.came
+
+pub returns-clause-cuts : goal.returns-clause-cuts
+returns-clause-cuts g c =
+    line_cuts c.answer_params-answer.result c.answer_params-answer.ensures.texts c.put_answer.result (wrote g.O.Sink.written g.O.Sink.faults c.args.out.now c.put_answer.new.out)
+    c.put_answer.ensures.err c.put_answer.ensures.kind c.put_answer.ensures.caused

@@ -1,5 +1,5 @@
 use Rattle.cs_query.specs.RequestView.{asked}
-use Rattle.cs_top.proofs.AnswerLemmas.{refusal_is, reply_is}
+use Rattle.cs_top.proofs.AnswerLemmas.{refusal_is, refusal_put, reply_is}
 use Rattle.cs_top.proofs.script.answers.answer_params.Goals as goal
 
 pub returns-in-Ok-clause-text : goal.returns-in-Ok-clause-text
@@ -10,3 +10,7 @@ pub returns-in-Err-clause-text : goal.returns-in-Err-clause-text
 returns-in-Err-clause-text g c k over =
     refusal_is c.args.file.now k c.args.line.now c.in-Err.fault c.refusal_line.result c.text_or_memory.result c.in-Err.ensures.err c.text_or_memory.ensures.text c.text_or_memory.ensures.memory
     c.refusal_line.ensures.text c.refusal_line.ensures.refused
+
+pub returns-in-Err-clause-texts : goal.returns-in-Err-clause-texts
+returns-in-Err-clause-texts g c =
+    refusal_put c.in-Err.fault c.refusal_line.result c.text_or_memory.result c.text_or_memory.ensures.text c.text_or_memory.ensures.memory c.refusal_line.ensures.text c.refusal_line.ensures.refused
