@@ -3,7 +3,7 @@
 --   Each P xs i          a fact of each of the first i numbers; each_more: of one more
 --   DocsTo               what the loops over the gap column know; docs_start, docs_more, docs_all: their steps
 --   docs_joined          the documents of some rows, and of the rows behind them; docs_none, docs_put, doc_behind: steps of it
---   DocsUpTo             what a loop knows that fills a column some rows at a time; up_to_start, up_to_more, up_to_all: its steps
+--   DocsUpTo             what a loop knows that fills a column some rows at a time; up_to_start, up_to_more: its steps
 --   short_here           a byte below 128 is a code
 --   pair_here            a code of one byte or two
 --   IsRun, is_run        a run of rows that keep the rules, from the facts of its columns
@@ -190,29 +190,6 @@ up_to_more gaps at before docs out es i n k next doc behind is some room same mo
       doc_is = sym (get_or-take (i + n) now end 0 (omega (arith, some))) ∙ last ∙ ap (doc_after gaps at before) many;
       inside = long;
     }
-
--- all rows that are left
-pub up_to_all : (gaps : List ℕ) (at before docs : ℕ) (out es : List ℕ) (i k next doc behind : ℕ) → k ≡ length out - i
-    → length es ≡ length (take k (drop i out)) → DocsUpTo gaps at before docs out i next doc → HasDocs gaps next doc docs es behind
-    → HasDocs gaps at before docs (put_mid i k out es) behind
-up_to_all gaps at before docs out es i k next doc behind is same h more =
-    let inside = h.inside in
-    let now = put_mid i k out es in
-    let rest = post_of i k out in
-    let few : length now ≤ i + length es = omega (
-      arith,
-      same,
-      is,
-      inside,
-      length-append (take i out) (es ++ rest),
-      length-append es rest,
-      length-take i out,
-      length-take k (drop i out),
-      length-drop k (drop i out),
-      length-drop i out,
-    ) in
-    subst (λ (xs : List ℕ). HasDocs gaps at before docs xs behind) (take_all (i + length es) now few)
-    (docs_put gaps at before docs out es i k next doc behind inside h.doc_is h.made more)
 
 pub docs_onward : (gaps : List ℕ) (at before docs : ℕ) (ds : List ℕ) → HaveDocs gaps at before docs ds → AreOnward ds
 docs_onward gaps at before docs ds h = λ j lt.

@@ -4,10 +4,8 @@ ghost use Rattle.std.specs.Option.{is_none};
 ghost use Rattle.std.specs.Result.{result_err};
 ghost use Rattle.cs_base.specs.declared.content.doc.Post.{Post};
 ghost use Rattle.cs_model.specs.Scores.{SCORES};
-ghost use Rattle.cs_model_index.specs.Blocks.{IsShaped};
-ghost use Rattle.cs_model_index.specs.BlockRules.{IsBlock, item_row, block_items, judged, judged_columns};
-ghost use Rattle.cs_block.specs.BlockReading.{Decodes, HasColumns};
-ghost use Rattle.cs_block.specs.ColumnsView.{seen_columns};
+ghost use Rattle.cs_model_index.specs.{Blocks.{IsShaped}, BlockRules.{IsBlock, item_row, block_items, judged, judged_columns}};
+ghost use Rattle.cs_block.specs.{BlockReading.{Decodes, HasColumns}, ColumnsView.{seen_columns}};
 
 use crate::columns::{Columns, cut, doc_here, row_of};
 use crate::fault::BlockFault;

@@ -1,10 +1,8 @@
 //! Reading the documents and the words of a block's rows, without positions and scores.
 ghost use Rattle.std.specs.Prelude.{◌≡◌, ◌≤◌, true, List, ℕ, length, Some, Err, IfErr, IfNone, IfSome, OnOk};
 ghost use Rattle.cs_model.specs.Scores.{SCORES};
-ghost use Rattle.cs_model_index.specs.BlockRules.{judged};
-ghost use Rattle.cs_model_index.specs.Blocks.{IsShaped};
-ghost use Rattle.cs_block.specs.BlockReading.{Decodes};
-ghost use Rattle.cs_block.specs.DocWords.{HasDocWords, HasFront, IsFront, ListsFront, front_bytes};
+ghost use Rattle.cs_model_index.specs.{BlockRules.{judged}, Blocks.{IsShaped}};
+ghost use Rattle.cs_block.specs.{BlockReading.{Decodes}, DocWords.{HasDocWords, HasFront, IsFront, ListsFront, front_bytes}};
 
 use crate::fault::BlockFault;
 use crate::judging::bad_code;

@@ -2,10 +2,8 @@
 ghost use Rattle.std.specs.Prelude.{◌≡◌, ℕ, ◌+◌, ◌*◌, ◌≤◌, length, None, Some, cond, IfSome};
 ghost use Rattle.std.specs.Option.{option_map, option_or};
 ghost use Rattle.cs_model.specs.Scores.{SCORES};
-ghost use Rattle.cs_model_index.specs.Blocks.{IsShaped};
-ghost use Rattle.cs_model_index.specs.BlockRules.{block_items, broken_at, codes_break, first_broken, judged_columns, rules};
-ghost use Rattle.cs_block.specs.BlockReading.{HasColumns};
-ghost use Rattle.cs_block.specs.ColumnsView.{seen_columns};
+ghost use Rattle.cs_model_index.specs.{Blocks.{IsShaped}, BlockRules.{block_items, broken_at, codes_break, first_broken, judged_columns, rules}};
+ghost use Rattle.cs_block.specs.{BlockReading.{HasColumns}, ColumnsView.{seen_columns}};
 
 use crate::columns::{Columns, doc_here, gap_here, row_of};
 use crate::rules::{is_after, is_in_words, is_scored};

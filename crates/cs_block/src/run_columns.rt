@@ -1,8 +1,7 @@
 //! The words, positions and scores of a run, each in a loop of its own with one test behind it, and its order.
 ghost use Rattle.std.specs.Prelude.{◌≡◌, ℕ, ◌+◌, ◌*◌, ◌<◌, ◌≤◌, ◌||◌, ◌==◌, true, length, slice_index_or};
 ghost use Rattle.std.specs.Ordering.{is_lt};
-ghost use Rattle.cs_base.specs.content.Orders.{by_place};
-ghost use Rattle.cs_base.specs.declared.content.limits.TheConstants.{MAX_WORDS};
+ghost use Rattle.cs_base.specs.{content.Orders.{by_place}, declared.content.limits.TheConstants.{MAX_WORDS}};
 ghost use Rattle.cs_block.specs.RowRuns.{AreWords, ArePositions, AreScores, AreOnward, AreAscending};
 
 use crate::columns::{half_at, number_at};

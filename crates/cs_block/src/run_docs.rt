@@ -1,23 +1,22 @@
 //! The documents of rows, from the gap column: all at once where each of their codes has one byte, else some rows at a time, in a
 //! loop without a jump where each of theirs has one byte, or one or two.
 ghost use Rattle.std.specs.Prelude.{◌≡◌, ℕ, ◌+◌, ◌*◌, ◌^◌, ◌<◌, ◌≤◌, ◌&&◌, ◌||◌, true, nat_lt, length, IfSome, slice_index_or};
-ghost use Rattle.cs_block.specs.RowRuns.{HasDocs};
-ghost use Rattle.cs_block.specs.declared.run_docs.TheConstants.{STEP};
+ghost use Rattle.cs_block.specs.{RowRuns.{HasDocs}, declared.run_docs.TheConstants.{STRETCH}};
 
 use crate::columns::doc_here;
 use cs_base::MAX_ROWS;
 
 // Behind a document below this one, the sums of as many rows as a collection has stay below 2^32 where their codes have one byte,
-// and those of `STEP` rows where they have one byte or two.
+// and those of `STRETCH` rows where they have one byte or two.
 const FAR: u32 = 1 << 31;
 
 // Where not all rows have codes of one byte, so many at a time are looked at together: few enough that most of these have.
 const STEP: usize = 16;
 
-// Behind so many groups of `STEP` rows in a row that have a longer code each, the next ones are taken to have one too, unseen.
+// Behind so many groups of `STEP` rows in a row that have a longer code each, the next group is a stretch.
 const LONG_STEPS: usize = 3;
 
-// That holds to the end of a stretch of so many rows. The groups of the next one are looked at again.
+// The rows of a stretch, which are looked at together as those of a group are.
 const STRETCH: usize = 256;
 
 /// The documents of as many rows as there is room for, and the place behind their gap codes, if the codes
@@ -43,58 +42,46 @@ fn stepped_docs(gaps: &[u8], at: usize, before: u32, docs: u32, out: &mut [u32])
     let mut doc = before;
     let mut i = 0;
     let mut long = 0;
-    while STEP <= out.len() - i {
-        let behind = step_docs(gaps, next, doc, docs, long, &mut out[i..i + STEP])?;
-        i += STEP;
-        long = long_steps(long, i, next, behind);
+    while i < out.len() {
+        let rows = group_rows(long).min(out.len() - i);
+        let behind = few_docs(gaps, next, doc, docs, &mut out[i..i + rows])?;
+        i += rows;
+        long = long_steps(long, behind == next + rows);
         next = behind;
         doc = out[i - 1];
     }
-    step_docs(gaps, next, doc, docs, 0, &mut out[i..])
+    Some(next)
 }
 
-// How many groups in a row have a longer code, or are taken to have one: as many as before, and one whose codes stand from `at` up
-// to `next`. Behind the last of a stretch there is none. `rows` rows are read.
+// How many rows are looked at together behind so many groups in a row that have a longer code.
 #[inline]
-fn long_steps(before: usize, rows: usize, at: usize, next: usize) -> usize
-    requires { at + STEP < 2 ^ 64 }
+fn group_rows(long: usize) -> usize
+    ensures some { 0 < result }
+    ensures few { result ≤ STRETCH }
 {
-    let short = before < LONG_STEPS && next == at + STEP;
-    if short || rows % STRETCH == 0 {
+    if long < LONG_STEPS { STEP } else { STRETCH }
+}
+
+// How many groups in a row have a longer code behind one more; none behind a stretch.
+#[inline]
+fn long_steps(before: usize, is_short: bool) -> usize {
+    if is_short || LONG_STEPS <= before {
         0
     } else {
-        before.saturating_add(1)
+        before + 1
     }
 }
 
-// The same of few rows, behind `long` groups in a row that have a longer code.
-#[inline]
-fn step_docs(
-    gaps: &[u8],
-    at: usize,
-    before: u32,
-    docs: u32,
-    long: usize,
-    out: &mut [u32],
-) -> Option<usize>
+// The same of few rows, in the first loop that their codes fit.
+fn few_docs(gaps: &[u8], at: usize, before: u32, docs: u32, out: &mut [u32]) -> Option<usize>
     requires within { at ≤ length gaps.now }
-    requires few { length out.old ≤ STEP }
+    requires few { length out.old ≤ STRETCH }
 
     ensures { IfSome result (λ next. HasDocs gaps.now at before docs out.new next) }
 {
-    if long < LONG_STEPS && are_short(gaps, at, before, out.len()) {
+    if are_short(gaps, at, before, out.len()) {
         return short_docs(gaps, at, before, docs, out);
     }
-    mixed_docs(gaps, at, before, docs, out)
-}
-
-// The same where a code has more than one byte.
-fn mixed_docs(gaps: &[u8], at: usize, before: u32, docs: u32, out: &mut [u32]) -> Option<usize>
-    requires within { at ≤ length gaps.now }
-    requires few { length out.old ≤ STEP }
-
-    ensures { IfSome result (λ next. HasDocs gaps.now at before docs out.new next) }
-{
     if before < FAR
         && 2 * out.len() <= gaps.len() - at
         && let Some(next) = pair_docs(gaps, at, before, docs, out)

@@ -2,10 +2,7 @@
 ghost use Rattle.std.specs.Prelude.{◌≡◌, ◌+◌, ◌≤◌, ◌<◌, List, length, IfSome, IfNone};
 ghost use Rattle.cs_base.specs.declared.content.doc.Post.{Post};
 ghost use Rattle.cs_model_index.specs.Blocks.{IsShaped};
-ghost use Rattle.cs_block.specs.BlockReading.{HasColumns};
-ghost use Rattle.cs_block.specs.ColumnsView.{seen_columns};
-ghost use Rattle.cs_block.specs.RowRuns.{row_in};
-ghost use Rattle.cs_block.specs.Pass.{HasPushed};
+ghost use Rattle.cs_block.specs.{BlockReading.{HasColumns}, ColumnsView.{seen_columns}, RowRuns.{row_in}, Pass.{HasPushed}};
 
 use crate::columns::Columns;
 use crate::rules::is_after;

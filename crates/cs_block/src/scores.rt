@@ -1,7 +1,6 @@
 //! Reading the scores of a block's rows, without their documents, words and positions.
 ghost use Rattle.std.specs.Prelude.{◌≡◌, true, length, IfOk};
-ghost use Rattle.cs_model_index.specs.Blocks.{IsShaped};
-ghost use Rattle.cs_model_index.specs.BlockRules.{block_columns};
+ghost use Rattle.cs_model_index.specs.{Blocks.{IsShaped}, BlockRules.{block_columns}};
 ghost use Rattle.cs_block.specs.BlockScores.{HasScores};
 
 use crate::columns::cut;

@@ -18,6 +18,17 @@ use cs_cols::find_listed;
 /// So many rows at most are looked at in one loop.
 const SPAN: usize = 256;
 
+/// Which rows of a block are sought.
+#[derive(Clone, Copy)]
+struct Wanted<'a> {
+    /// Those of the words from the first number on and below the second.
+    words: (u32, u32),
+    /// These are all words of the block, so they aren't looked at.
+    whole: bool,
+    /// Whether each document is listed.
+    listed: &'a [bool],
+}
+
 /// Puts the rows of a block in listed documents whose word's number is `words.0` or more and below `words.1` into a list, and the
 /// documents of all rows into a column, in place of what these hold. False, with anything in them, where a code doesn't stand, a
 /// document isn't in range, or a row that is sought isn't of the block's kind, which never comes of bytes that keep the rules.
@@ -40,8 +51,12 @@ pub fn read_sought(
         return Ok(false);
     }
     into.truncate(0);
-    let whole = is_inside(head, words);
-    let kept = add_sought(&columns, head, whole, docs, words, listed, into)?;
+    let wanted = Wanted {
+        words,
+        whole: is_inside(head, words),
+        listed,
+    };
+    let kept = add_sought(&columns, head, docs, &wanted, into)?;
     Ok(kept)
 }
 
@@ -64,21 +79,18 @@ fn is_inside(head: &BlockHead, words: (u32, u32)) -> bool
     words.0 <= head.lo && head.lo + head.words <= words.1
 }
 
-// Adds the rows that are sought, some rows at a time, and says whether all of them are of the block's kind and have its words. Where the
-// block is whole words aren't looked at before.
+// Adds the rows that are sought, some rows at a time, and says whether all of them are of the block's kind and have its words.
 fn add_sought(
     columns: &Columns<'_>,
     head: &BlockHead,
-    whole: bool,
     docs: &[u32],
-    words: (u32, u32),
-    listed: &[bool],
+    wanted: &Wanted<'_>,
     into: &mut Vec<Post>,
 ) -> Result<bool, Memory>
-    requires { CanBeSought head.now (seen_columns columns.now) docs.now listed.now }
+    requires { CanBeSought head.now (seen_columns columns.now) docs.now wanted.now.listed.now }
 
     ensures added { IfOk result (λ kept. into.new.items ≡ into.old.items
-        ++ filter (passes whole words.0 words.1 listed.now) (rows_with head.now (seen_columns columns.now) docs.now)) }
+        ++ filter (passes wanted.now.whole wanted.now.words.0 wanted.now.words.1 wanted.now.listed.now) (rows_with head.now (seen_columns columns.now) docs.now)) }
     ensures kept { IfOk result (λ kept. kept ≡ true → All (IsOfBlock head.now) into.old.items → All (IsOfBlock head.now) into.new.items) }
 {
     let mut places = [0usize; SPAN];
@@ -86,16 +98,7 @@ fn add_sought(
     let mut from = 0;
     while from < docs.len() {
         let to = from + SPAN.min(docs.len() - from);
-        let found = find_rows(
-            columns,
-            head,
-            whole,
-            docs,
-            (from, to),
-            words,
-            listed,
-            &mut places,
-        );
+        let found = find_rows(columns, head, docs, wanted, (from, to), &mut places);
         kept &= add_rows(columns, head, docs, &places[..found], into)?;
         from = to;
     }
@@ -106,22 +109,24 @@ fn add_sought(
 fn find_rows(
     columns: &Columns<'_>,
     head: &BlockHead,
-    whole: bool,
     docs: &[u32],
+    wanted: &Wanted<'_>,
     span: (usize, usize),
-    words: (u32, u32),
-    listed: &[bool],
     places: &mut [usize],
 ) -> usize
-    requires known { CanBeSought head.now (seen_columns columns.now) docs.now listed.now }
+    requires known { CanBeSought head.now (seen_columns columns.now) docs.now wanted.now.listed.now }
     requires span { IsSpan span.0 span.1 (length docs.now) (length places.old) }
 
-    ensures found { take result places.new ≡ places_where (λ i. passes whole words.0 words.1 listed.now
+    ensures found { take result places.new ≡ places_where (λ i. passes wanted.now.whole wanted.now.words.0 wanted.now.words.1 wanted.now.listed.now
         (row_with head.now (seen_columns columns.now) docs.now i)) span.0 span.1 }
     ensures few { result ≤ length places.new }
     ensures len { length places.new ≡ length places.old }
 {
-    let (lo, hi) = words;
+    let Wanted {
+        words: (lo, hi),
+        whole,
+        listed,
+    } = *wanted;
     let (from, to) = span;
     if whole {
         return find_listed(docs, from, to, listed, places);

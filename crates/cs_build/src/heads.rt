@@ -1,8 +1,7 @@
 //! The heads of blocks.
 ghost use Rattle.std.specs.Prelude.{◌≡◌, ℕ, ◌≤◌, ◌<◌, length, map, IfOk};
 ghost use Rattle.std.specs.List.{AllByRecursion, zip};
-ghost use Rattle.cs_base.specs.declared.content.limits.TheConstants.{MAX_ROWS};
-ghost use Rattle.cs_base.specs.index.GapCode.{code};
+ghost use Rattle.cs_base.specs.{declared.content.limits.TheConstants.{MAX_ROWS}, index.GapCode.{code}};
 ghost use Rattle.cs_model_index.specs.Blocks.{block_bytes};
 ghost use Rattle.cs_build.specs.WordRuns.{run_head};
 

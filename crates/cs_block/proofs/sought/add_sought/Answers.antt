@@ -9,7 +9,7 @@ use Rattle.cs_block.proofs.sought.add_sought.Goals as goal
 pub add_rows-requires-clause-known : goal.add_rows-requires-clause-known
 add_rows-requires-clause-known c =
     let row = row_with c.args.head.now (seen_columns c.args.columns.now) c.args.docs.now in
-    let t : ℕ → Bool = λ i. passes c.args.whole c.args.words.0 c.args.words.1 c.args.listed.now (row i) in
+    let t : ℕ → Bool = λ i. passes c.args.wanted.now.whole c.args.wanted.now.words.0 c.args.wanted.now.words.1 c.args.wanted.now.listed.now (row i) in
     let places = take c.find_rows-found.result c.find_rows-found.new.places in
     let from = c.loop-from.from in
     let docs = length c.args.docs.now in
@@ -19,7 +19,7 @@ add_rows-requires-clause-known c =
 pub loop-from-preserved : goal.loop-from-preserved
 loop-from-preserved c =
     let inv = c.loop-from.invariant in
-    let t = passes c.args.whole c.args.words.0 c.args.words.1 c.args.listed.now in
+    let t = passes c.args.wanted.now.whole c.args.wanted.now.words.0 c.args.wanted.now.words.1 c.args.wanted.now.listed.now in
     let row = row_with c.args.head.now (seen_columns c.args.columns.now) c.args.docs.now in
     let places = take c.find_rows-found.result c.find_rows-found.new.places in
     let from = c.loop-from.from in

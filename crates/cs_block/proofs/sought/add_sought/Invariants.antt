@@ -7,7 +7,7 @@ use Rattle.cs_block.proofs.sought.add_sought.Given as goal
 
 abbrev pub invariant-loop-from : goal.invariant-loop-from
 invariant-loop-from l = record {
-  added : l.into.items ≡ l.fn.into.items ++ filter (passes l.whole l.words.0 l.words.1 l.listed)
+  added : l.into.items ≡ l.fn.into.items ++ filter (passes l.wanted.whole l.wanted.words.0 l.wanted.words.1 l.wanted.listed.now)
       (map (row_with l.head (seen_columns l.columns) l.docs) (range_with_len 0 l.from));
   kept : l.kept ≡ true → All (IsOfBlock l.head) l.fn.into.items → All (IsOfBlock l.head) l.into.items;
   within : l.from ≤ length l.docs;

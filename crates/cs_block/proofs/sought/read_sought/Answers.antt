@@ -31,13 +31,13 @@ returns c =
     let hi = c.args.words.1 in
     let listed = c.args.listed.now in
     let posts = c.add_sought.new.into.items in
-    let whole = c.is_inside-whole.result in
+    let whole = c.is_inside.result in
     let added = put.added ∙ ap (λ xs. xs ++ filter (passes whole lo hi listed) (rows_with head columns c.deref.result.now)) c.truncate.ensures.items in
     record {
       ok = λ e.
           let own = put.kept e (subst (All (IsOfBlock head)) (sym c.truncate.ensures.items) (All-nil (IsOfBlock head))) in
           record {
-            are = sought_all head columns c.deref.result.now whole lo hi listed posts c.is_inside-whole.ensures added own
+            are = sought_all head columns c.deref.result.now whole lo hi listed posts c.is_inside.ensures added own
                 ∙ ap (filter (is_sought lo hi listed)) rows;
             scored = All-weaker (IsOfBlock head) (λ p. is_scored SCORES head.facet p ≡ true) (λ p h. h.scored) posts own;
           };
