@@ -1,4 +1,7 @@
 //! Why a block isn't read.
+ghost use Rattle.std.specs.Prelude.{◌≡◌};
+ghost use Rattle.cs_block.specs.declared.fault.BlockFault.{BlockFault};
+
 use cs_base::{Broken, Memory};
 
 /// What `decode` answers where it adds no rows.
@@ -16,9 +19,6 @@ pub enum BlockFault {
 }
 
 impl From<Memory> for BlockFault {
-    ghost use Rattle.std.specs.Prelude.{◌≡◌};
-    ghost use Rattle.cs_block.specs.declared.fault.BlockFault.{BlockFault};
-
     ghost from_gives = { λ _ e. e ≡ BlockFault.Memory };
 
     fn from(_: Memory) -> BlockFault {
@@ -27,9 +27,6 @@ impl From<Memory> for BlockFault {
 }
 
 impl From<Broken> for BlockFault {
-    ghost use Rattle.std.specs.Prelude.{◌≡◌};
-    ghost use Rattle.cs_block.specs.declared.fault.BlockFault.{BlockFault};
-
     ghost from_gives = { λ broken e. e ≡ BlockFault.Rule broken.n broken.at };
 
     fn from(broken: Broken) -> BlockFault {

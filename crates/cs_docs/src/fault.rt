@@ -3,6 +3,8 @@ ghost use Rattle.std.specs.Prelude.{◌≡◌};
 ghost use Rattle.std.specs.Option.{option_map};
 ghost use Rattle.cs_model.specs.Collection.{in_line, refusal_words};
 ghost use Rattle.cs_docs.specs.FaultRefusals.{refusal_of, rows_refusal_of, reason_text};
+ghost use Rattle.cs_docs.specs.declared.fault.DocFault.{DocFault};
+ghost use Rattle.cs_docs.specs.declared.fault.RowsFault.{RowsFault};
 
 use cs_base::Memory;
 use thiserror::Error;
@@ -92,6 +94,14 @@ impl DocFault {
     }
 }
 
+impl From<Memory> for DocFault {
+    ghost from_gives = { λ _ e. e ≡ DocFault.Memory };
+
+    fn from(_: Memory) -> DocFault {
+        DocFault::Memory
+    }
+}
+
 impl RowsFault {
     /// The words of a refusal; None where memory ran out.
     pub fn reason(self) -> Option<Reason<'static>>
@@ -101,6 +111,14 @@ impl RowsFault {
             RowsFault::TooManyRows => Some(of_whole(b"too many rows")),
             RowsFault::Memory => None,
         }
+    }
+}
+
+impl From<Memory> for RowsFault {
+    ghost from_gives = { λ _ e. e ≡ RowsFault.Memory };
+
+    fn from(_: Memory) -> RowsFault {
+        RowsFault::Memory
     }
 }
 
@@ -116,27 +134,5 @@ fn of_line(line: u32, words: &'static [u8]) -> Reason<'static>
     Reason {
         line: Some(u64::from(line)),
         words,
-    }
-}
-
-impl From<Memory> for DocFault {
-    ghost use Rattle.std.specs.Prelude.{◌≡◌};
-    ghost use Rattle.cs_docs.specs.declared.fault.DocFault.{DocFault};
-
-    ghost from_gives = { λ _ e. e ≡ DocFault.Memory };
-
-    fn from(_: Memory) -> DocFault {
-        DocFault::Memory
-    }
-}
-
-impl From<Memory> for RowsFault {
-    ghost use Rattle.std.specs.Prelude.{◌≡◌};
-    ghost use Rattle.cs_docs.specs.declared.fault.RowsFault.{RowsFault};
-
-    ghost from_gives = { λ _ e. e ≡ RowsFault.Memory };
-
-    fn from(_: Memory) -> RowsFault {
-        RowsFault::Memory
     }
 }

@@ -39,6 +39,14 @@ pub enum OpenFault {
     Memory,
 }
 
+impl From<Memory> for OpenFault {
+    ghost from_gives = { λ _ e. e ≡ OpenFault.Memory };
+
+    fn from(_: Memory) -> OpenFault {
+        OpenFault::Memory
+    }
+}
+
 /// What reading a block or a title of an opened index answers where it gives none.
 #[derive(Clone, Copy, Debug, PartialEq, Eq, Drop)]
 pub enum FetchFault {
@@ -53,14 +61,6 @@ pub enum FetchFault {
     },
     /// Memory ran out.
     Memory,
-}
-
-impl From<Memory> for OpenFault {
-    ghost from_gives = { λ _ e. e ≡ OpenFault.Memory };
-
-    fn from(_: Memory) -> OpenFault {
-        OpenFault::Memory
-    }
 }
 
 impl From<Memory> for FetchFault {
