@@ -1,5 +1,5 @@
 -- The grammar of queries on worked texts: the definitions computed. Steps have the newest first.
-use Rattle.std.proofs.Common.{◌≡◌, List, [], ◌∷◌, refl, true, false, codes}
+use Rattle.std.proofs.Common.{◌≡◌, ℕ, List, [], ◌∷◌, map, refl, true, false, codes}
 use Rattle.std.specs.Char.{encode_utf8}
 use Rattle.std.specs.Str.{chars}
 use Rattle.caseless.proofs.Computing.{caseless}
@@ -13,79 +13,46 @@ use Rattle.cs_model.specs.declared.kinds.Tie.TheVariants.{Begins, Alternative, L
 use Rattle.cs_model.specs.KeyText.{norm}
 use Rattle.cs_model.specs.Words.{is_word_char}
 use Rattle.cs_model.specs.Tokens.{tokens}
-use Rattle.cs_model.specs.Grammar.{Leaf, Enter, Leave, steps, chain_of, part_of, join, query_of}
+use Rattle.cs_model.specs.Grammar.{Step, Leaf, Enter, Leave, steps, chain_of, part_of, join, query_of}
 use lib.Utf8
 
 -- ---- the atoms of a text
--- two words are two parts
-two_parts : steps (tokens (codes "typ se")) ≡ Leaf (Begins false) (Prefix (codes "se")) ∷ Leaf (Begins false) (Prefix (codes "typ")) ∷ []
-unfolding is_word_char encode_utf8
-two_parts = refl
+-- texts, each with its steps
+abbrev stepped : List (List ℕ × List Step)
+stepped =
+    -- two words are two parts
+    (codes "typ se", Leaf (Begins false) (Prefix (codes "se")) ∷ Leaf (Begins false) (Prefix (codes "typ")) ∷ [])
+    -- a dash behind a word and before a gap separates
+    ∷ (codes "a- b", Leaf (Begins false) (Prefix (codes "b")) ∷ Leaf (Begins false) (Prefix (codes "a")) ∷ [])
+    -- two dashes separate
+    ∷ (codes "a--b", Leaf (Begins false) (Prefix (codes "b")) ∷ Leaf (Begins false) (Prefix (codes "a")) ∷ [])
+    -- a dot at the front separates
+    ∷ (codes "a .b", Leaf (Begins false) (Prefix (codes "b")) ∷ Leaf (Begins false) (Prefix (codes "a")) ∷ [])
+    -- a lone dash at the front excludes
+    ∷ (codes "a -b", Leaf (Begins true) (Prefix (codes "b")) ∷ Leaf (Begins false) (Prefix (codes "a")) ∷ [])
+    -- a dash alone is no part
+    ∷ (codes "-", [])
+    -- a dash before a gap excludes nothing
+    ∷ (codes "- a", Leaf (Begins false) (Prefix (codes "a")) ∷ [])
+    -- a phrase, and an exact word as its alternative
+    ∷ (codes "a.b|c$", Leaf Alternative (Exact (codes "c")) ∷ Leaf (LinkedBy Phrase) (Prefix (codes "b")) ∷ Leaf (Begins false) (Prefix (codes "a")) ∷ [])
+    -- two dots are nearness
+    ∷ (codes "a..b", Leaf (LinkedBy Near) (Prefix (codes "b")) ∷ Leaf (Begins false) (Prefix (codes "a")) ∷ [])
+    -- a dot behind a value separates
+    ∷ (codes "author:bast.x", Leaf (Begins false) (Prefix (codes "x")) ∷ Leaf (Begins false) (Prefix (codes ":author:bast")) ∷ [])
+    -- a dash in a value is a low line
+    ∷ (codes "author:hans-pe", Leaf (Begins false) (Prefix (codes ":author:hans_pe")) ∷ [])
+    -- a value may be empty
+    ∷ (codes "http://x", Leaf (Begins false) (Prefix (codes "x")) ∷ Leaf (Begins false) (Prefix (codes ":http:")) ∷ [])
+    -- a run between a word and a facet is a link
+    ∷ (codes "a.k:b", Leaf (LinkedBy Phrase) (Prefix (codes ":k:b")) ∷ Leaf (Begins false) (Prefix (codes "a")) ∷ [])
+    -- a run behind a bracket is a link
+    ∷ (codes "k[x]-b", Leaf (LinkedBy Phrase) (Prefix (codes "b")) ∷ Leave ∷ Leaf (Begins false) (Prefix (codes "x")) ∷ Enter (Begins false) (codes "k") ∷ [])
+    ∷ []
 
--- a dash behind a word and before a gap separates
-dash_behind : steps (tokens (codes "a- b")) ≡ Leaf (Begins false) (Prefix (codes "b")) ∷ Leaf (Begins false) (Prefix (codes "a")) ∷ []
+steps-are : map (λ c. steps (tokens c.0)) stepped ≡ map (λ c. c.1) stepped
 unfolding is_word_char encode_utf8
-dash_behind = refl
-
--- two dashes separate
-dash_twice : steps (tokens (codes "a--b")) ≡ Leaf (Begins false) (Prefix (codes "b")) ∷ Leaf (Begins false) (Prefix (codes "a")) ∷ []
-unfolding is_word_char encode_utf8
-dash_twice = refl
-
--- a dot at the front separates
-dot_front : steps (tokens (codes "a .b")) ≡ Leaf (Begins false) (Prefix (codes "b")) ∷ Leaf (Begins false) (Prefix (codes "a")) ∷ []
-unfolding is_word_char encode_utf8
-dot_front = refl
-
--- a lone dash at the front excludes
-excluded : steps (tokens (codes "a -b")) ≡ Leaf (Begins true) (Prefix (codes "b")) ∷ Leaf (Begins false) (Prefix (codes "a")) ∷ []
-unfolding is_word_char encode_utf8
-excluded = refl
-
--- a dash alone is no part
-nothing : steps (tokens (codes "-")) ≡ []
-unfolding is_word_char encode_utf8
-nothing = refl
-
--- a dash before a gap excludes nothing
-lone_dash : steps (tokens (codes "- a")) ≡ Leaf (Begins false) (Prefix (codes "a")) ∷ []
-unfolding is_word_char encode_utf8
-lone_dash = refl
-
--- a phrase, and an exact word as its alternative
-phrase_or_exact : steps (tokens (codes "a.b|c$")) ≡ Leaf Alternative (Exact (codes "c")) ∷ Leaf (LinkedBy Phrase) (Prefix (codes "b")) ∷ Leaf (Begins false) (Prefix (codes "a")) ∷ []
-unfolding is_word_char encode_utf8
-phrase_or_exact = refl
-
--- two dots are nearness
-near : steps (tokens (codes "a..b")) ≡ Leaf (LinkedBy Near) (Prefix (codes "b")) ∷ Leaf (Begins false) (Prefix (codes "a")) ∷ []
-unfolding is_word_char encode_utf8
-near = refl
-
--- a dot behind a value separates
-value_dot : steps (tokens (codes "author:bast.x")) ≡ Leaf (Begins false) (Prefix (codes "x")) ∷ Leaf (Begins false) (Prefix (codes ":author:bast")) ∷ []
-unfolding is_word_char encode_utf8
-value_dot = refl
-
--- a dash in a value is a low line
-value_dash : steps (tokens (codes "author:hans-pe")) ≡ Leaf (Begins false) (Prefix (codes ":author:hans_pe")) ∷ []
-unfolding is_word_char encode_utf8
-value_dash = refl
-
--- a value may be empty
-empty_value : steps (tokens (codes "http://x")) ≡ Leaf (Begins false) (Prefix (codes "x")) ∷ Leaf (Begins false) (Prefix (codes ":http:")) ∷ []
-unfolding is_word_char encode_utf8
-empty_value = refl
-
--- a run between a word and a facet is a link
-link_to_facet : steps (tokens (codes "a.k:b")) ≡ Leaf (LinkedBy Phrase) (Prefix (codes ":k:b")) ∷ Leaf (Begins false) (Prefix (codes "a")) ∷ []
-unfolding is_word_char encode_utf8
-link_to_facet = refl
-
--- a run behind a bracket is a link
-link_to_join : steps (tokens (codes "k[x]-b")) ≡ Leaf (LinkedBy Phrase) (Prefix (codes "b")) ∷ Leave ∷ Leaf (Begins false) (Prefix (codes "x")) ∷ Enter (Begins false) (codes "k") ∷ []
-unfolding is_word_char encode_utf8
-link_to_join = refl
+steps-are = refl
 
 -- a join of the empty query
 empty_join : query_of (codes "author[]") ≡ roll-Query (record { parts = roll-Part (record { excluded = false; chains = roll-Chain (record { first = join (codes "author") []; rest = [] }) ∷ [] }) ∷ [] })

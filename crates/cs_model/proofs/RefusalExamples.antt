@@ -1,97 +1,67 @@
 -- The first refusal of worked key texts: the definitions computed.
-use Rattle.std.proofs.Common.{◌≡◌, ◌<◌, ℕ, List, [], ◌∷◌, take, refl, arith, Some, None, codes}
+use Rattle.std.proofs.Common.{◌≡◌, ◌<◌, ℕ, List, [], ◌∷◌, map, take, refl, arith, Option, Some, None, codes}
 use Rattle.std.specs.Prelude.{replicate}
 use Rattle.std.specs.Char.{encode_utf8}
 use Rattle.cs_base.specs.declared.content.query.Which.TheVariants as limits
 use Rattle.cs_model.specs.Words.{is_word_char}
 use Rattle.cs_model.specs.Tokens.{Token, Word, Open, Gap}
-use Rattle.cs_model.specs.Refusals.{Bad, Limit, IsAccepted}
+use Rattle.cs_model.specs.Refusals.{QueryRefusal, Bad, Limit, IsAccepted}
 use Rattle.cs_model.specs.FirstRefusal.{first_refusal}
 use Rattle.cs_model.proofs.FineTokens.{fronts}
 use Rattle.cs_model.proofs.PassedTokens.{passes}
 use Rattle.cs_model.proofs.RefusalLemmas.{refused_is_first}
 
 -- ---- by the grammar
--- a colon behind a word that is no name
-first-colon : first_refusal (codes "10:30") ≡ Some (2, Bad)
-unfolding is_word_char encode_utf8
-first-colon = refl
+-- key texts, each with its first refusal
+abbrev by_grammar : List (List ℕ × Option (ℕ × QueryRefusal))
+by_grammar =
+    -- a colon behind a word that is no name
+    (codes "10:30", Some (2, Bad))
+    -- a bar at the front
+    ∷ (codes "|", Some (0, Bad))
+    -- a bar behind a bar
+    ∷ (codes "a||b", Some (2, Bad))
+    -- a gap behind a bar
+    ∷ (codes "a| b", Some (2, Bad))
+    -- a word behind a dollar
+    ∷ (codes "a$b", Some (2, Bad))
+    -- a dollar behind a dollar
+    ∷ (codes "a$$", Some (2, Bad))
+    -- a dollar behind an empty value
+    ∷ (codes "author:$", Some (7, Bad))
+    -- a closing bracket where none is open
+    ∷ (codes "k[a]]", Some (4, Bad))
+    -- a bar at the end may go on
+    ∷ (codes "graph|", None)
+    -- a bar may stand behind an empty value
+    ∷ (codes "k:|", None)
+    ∷ []
 
--- a bar at the front
-first-bar : first_refusal (codes "|") ≡ Some (0, Bad)
+refused_by_grammar : map (λ c. first_refusal c.0) by_grammar ≡ map (λ c. c.1) by_grammar
 unfolding is_word_char encode_utf8
-first-bar = refl
-
--- a bar behind a bar
-first-bars : first_refusal (codes "a||b") ≡ Some (2, Bad)
-unfolding is_word_char encode_utf8
-first-bars = refl
-
--- a gap behind a bar
-first-gap : first_refusal (codes "a| b") ≡ Some (2, Bad)
-unfolding is_word_char encode_utf8
-first-gap = refl
-
--- a word behind a dollar
-first-word : first_refusal (codes "a$b") ≡ Some (2, Bad)
-unfolding is_word_char encode_utf8
-first-word = refl
-
--- a dollar behind a dollar
-first-dollar : first_refusal (codes "a$$") ≡ Some (2, Bad)
-unfolding is_word_char encode_utf8
-first-dollar = refl
-
--- a dollar behind an empty value
-first-value : first_refusal (codes "author:$") ≡ Some (7, Bad)
-unfolding is_word_char encode_utf8
-first-value = refl
-
--- a closing bracket where none is open
-first-close : first_refusal (codes "k[a]]") ≡ Some (4, Bad)
-unfolding is_word_char encode_utf8
-first-close = refl
-
--- a bar at the end may go on
-first-none : first_refusal (codes "graph|") ≡ None
-unfolding is_word_char encode_utf8
-first-none = refl
-
--- a bar may stand behind an empty value
-first-value_bar : first_refusal (codes "k:|") ≡ None
-unfolding is_word_char encode_utf8
-first-value_bar = refl
+refused_by_grammar = refl
 
 -- ---- by a limit
--- a word of 121 letters
-first-long_word : first_refusal (replicate 121 97) ≡ Some (120, Limit limits.Word)
-unfolding is_word_char encode_utf8
-first-long_word = refl
+-- the same at the limits and behind them
+abbrev by_limit : List (List ℕ × Option (ℕ × QueryRefusal))
+by_limit =
+    -- a word of 121 letters
+    (replicate 121 97, Some (120, Limit limits.Word))
+    -- sixteen parts, and a dash behind them
+    ∷ (codes "a a a a a a a a a a a a a a a a -", None)
+    -- a seventeenth, which is counted at its first atom
+    ∷ (codes "a a a a a a a a a a a a a a a a -a", Some (33, Limit limits.Parts))
+    -- a thirty-third atom
+    ∷ (codes "a|a|a|a|a|a|a|a|a|a|a|a|a|a|a|a|a|a|a|a|a|a|a|a|a|a|a|a|a|a|a|a|a", Some (64, Limit limits.Atoms))
+    -- three brackets that are open
+    ∷ (codes "a[b[c[d", None)
+    -- a fourth
+    ∷ (codes "a[b[c[d[e", Some (7, Limit limits.Depth))
+    ∷ []
 
--- sixteen parts, and a dash behind them
-first-parts : first_refusal (codes "a a a a a a a a a a a a a a a a -") ≡ None
+refused_by_limit : map (λ c. first_refusal c.0) by_limit ≡ map (λ c. c.1) by_limit
 unfolding is_word_char encode_utf8
-first-parts = refl
-
--- a seventeenth, which is counted at its first atom
-first-many_parts : first_refusal (codes "a a a a a a a a a a a a a a a a -a") ≡ Some (33, Limit limits.Parts)
-unfolding is_word_char encode_utf8
-first-many_parts = refl
-
--- a thirty-third atom
-first-many_atoms : first_refusal (codes "a|a|a|a|a|a|a|a|a|a|a|a|a|a|a|a|a|a|a|a|a|a|a|a|a|a|a|a|a|a|a|a|a") ≡ Some (64, Limit limits.Atoms)
-unfolding is_word_char encode_utf8
-first-many_atoms = refl
-
--- three brackets that are open
-first-brackets : first_refusal (codes "a[b[c[d") ≡ None
-unfolding is_word_char encode_utf8
-first-brackets = refl
-
--- a fourth
-first-deep : first_refusal (codes "a[b[c[d[e") ≡ Some (7, Limit limits.Depth)
-unfolding is_word_char encode_utf8
-first-deep = refl
+refused_by_limit = refl
 
 -- a text of 1,024 bytes with an open bracket
 abbrev long : List ℕ

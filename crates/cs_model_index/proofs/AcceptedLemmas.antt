@@ -4,10 +4,11 @@
 --   rules_hold          they hold of an index file
 --   header_written      the numbers of the header, written again
 --   sections_joined     the sections are the bytes behind the header
+--   IsSound, is_sound   its rules, and how long its sections are; so it is where no rule is broken
 --   accepted_are_files  the law, by the law of blocks
-use Rattle.std.proofs.Common.{◌≡◌, ℕ, ◌+◌, ◌-◌, ◌*◌, ◌≤◌, true, List, [], ◌∷◌, ◌++◌, length, take, drop, Option, Some, None, refl, sym, ap, ◌∙◌, arith, length-take, length-drop, take-append-drop}
+use Rattle.std.proofs.Common.{◌≡◌, ℕ, ◌+◌, ◌-◌, ◌*◌, ◌≤◌, ◌<◌, ◌^◌, true, List, [], ◌∷◌, ◌++◌, length, take, drop, Option, Some, None, refl, sym, ap, ◌∙◌, arith, length-take, length-drop, take-append-drop}
 use Rattle.std.specs.Prelude.{flat_map}
-use Rattle.std.specs.List.{AllByRecursion, sum_by, zip}
+use Rattle.std.specs.List.{All, AllByRecursion, sum_by, zip}
 use Rattle.std.specs.Option.{option_or, unwrap_or}
 use Rattle.std.specs.Str.{is_utf8}
 use Rattle.std.proofs.lemmas.Bool.{and_parts, leb-true, eqb-true}
@@ -17,7 +18,7 @@ use Rattle.cs_model.proofs.FirstLemmas.{none_first, none_rest, unless_none}
 use Rattle.cs_model.specs.First.{first_reason}
 use Rattle.cs_model_index.proofs.BlockUses.{BlocksAreRead, blocks_are_read}
 use Rattle.cs_model_index.specs.FileLaws.{AcceptedAreFiles, FilesFollowBlocks}
-use Rattle.cs_model_index.specs.FileRules.{laid, last_value, tried, field_breaks, words_break, is_word, follows, word_size, is_onward, words_end, is_joined, is_of_one_kind, is_sized, blocks_break, is_parted, file_rules, damage}
+use Rattle.cs_model_index.specs.FileRules.{laid, last_value, tried, field_breaks, words_break, is_word, follows, word_size, is_onward, words_end, is_joined, is_of_one_kind, is_sized, blocks_break, is_parted, file_rules, damage, IsIndexFile}
 use Rattle.cs_model_index.specs.Layout.{number_bytes, Header, MAGIC, header_bytes, offset_bytes, header_of_image, file}
 use Rattle.cs_model_index.specs.Sections.{number_at, header_of, offsets_len, directory_len, vocabulary_at, offsets_at, titles_at, directory_at, blocks_at, size_by, Sections, sections, Contents, contents_of, image_of}
 use Rattle.cs_model_index.specs.declared.limits.TheConstants.{HEADER_BYTES, NUMBER_BYTES, ENTRY_BYTES, MAX_TARGET}
@@ -138,7 +139,8 @@ header_written b fits le first =
     let d = number_back b 8 12 _ _ fits (omega (arith, le)) refl refl w in
     sym (sym (take-append-drop 8 b) ∙ ap (λ (x : List ℕ). x ++ drop 8 b) first ∙ ap (λ (x : List ℕ). MAGIC ++ x) d)
 
-abbrev joined_sections : Sections → List ℕ
+-- sections, one behind the other
+abbrev pub joined_sections : Sections → List ℕ
 joined_sections s = s.vocabulary ++ (s.offsets ++ (s.titles ++ (s.directory ++ s.blocks)))
 
 pub sections_joined : (h : Header) (rest : List ℕ) → joined_sections (sections h rest) ≡ rest
@@ -184,37 +186,68 @@ sections_sized h b long size =
       blocks = omega (arith, l0, l1, l2, l3, size, length-drop (16 * h.blocks) t);
     }
 
+-- ---- what is known of a file that breaks no rule
+-- the sections that are read number by number, or by blocks, are bytes
+pub record AreSectionBytes (s : Sections) : Type 0 where
+  pub offsets : IsBytes s.offsets
+  pub directory : IsBytes s.directory
+  pub blocks : IsBytes s.blocks
+
+sections_bytes : (h : Header) (rest : List ℕ) → IsBytes rest → AreSectionBytes (sections h rest)
+sections_bytes h rest all =
+    let v = drop h.vocabulary_len rest in
+    let o = drop (offsets_len h) v in
+    let t = drop h.titles_len o in
+    let behind_words = IsBytes-drop h.vocabulary_len rest all in
+    let behind_titles = IsBytes-drop h.titles_len o (IsBytes-drop (offsets_len h) v behind_words) in
+    record {
+      offsets = IsBytes-take (offsets_len h) v behind_words;
+      directory = IsBytes-take (directory_len h) t behind_titles;
+      blocks = IsBytes-drop (directory_len h) t behind_titles;
+    }
+
+-- its rules, and its sections, which are as long as the header says
+pub record IsSound (b : List ℕ) : Type 0 where
+  pub hold : RulesHold b (contents_of b)
+  pub sized : SectionsSized (header_of b) (sections (header_of b) (drop HEADER_BYTES b))
+  pub bytes : AreSectionBytes (sections (header_of b) (drop HEADER_BYTES b))
+
+pub is_sound : (b : List ℕ) → All (λ x. x < 2 ^ 8) b → IsIndexFile b → IsSound b
+unfolding damage
+is_sound b small e =
+    let hold : RulesHold b (contents_of b) = rules_hold b (contents_of b) e in
+    record {
+      hold = hold;
+      sized = sections_sized (header_of b) b hold.long hold.size;
+      bytes = sections_bytes (header_of b) (drop HEADER_BYTES b) (IsBytes-drop HEADER_BYTES b (bytes_from_all b small));
+    }
+
 -- ---- the law
 pub accepted_are_files : BlocksAreRead → AcceptedAreFiles
 unfolding file image_of damage offset_bytes
 accepted_are_files law b small e =
-    let fits = bytes_from_all b small in
     let r = contents_of b in
     let h = header_of b in
-    let rest = drop HEADER_BYTES b in
-    let s = sections h rest in
-    let hold : RulesHold b r = rules_hold b r e in
+    let s = sections h (drop HEADER_BYTES b) in
+    let is = is_sound b small e in
+    let hold = is.hold in
+    let sized = is.sized in
     let f = hold.values.fields in
-    let sized = sections_sized h b hold.long hold.size in
-    let behind : IsBytes rest = IsBytes-drop HEADER_BYTES b fits in
-    let behind_words = IsBytes-drop h.vocabulary_len rest behind in
-    let behind_offsets = IsBytes-drop (offsets_len h) (drop h.vocabulary_len rest) behind_words in
-    let behind_titles = IsBytes-drop h.titles_len (drop (offsets_len h) (drop h.vocabulary_len rest)) behind_offsets in
     let words = words_written h.words vocabulary_at s.vocabulary hold.words_stand in
     let many : length r.offsets ≡ h.docs + 1 = numbers_count (h.docs + 1) s.offsets in
-    let offsets = numbers_written (h.docs + 1) s.offsets (IsBytes-take (offsets_len h) (drop h.vocabulary_len rest) behind_words) sized.offsets in
+    let offsets = numbers_written (h.docs + 1) s.offsets is.bytes.offsets sized.offsets in
     let titles = titles_written (offsets_at h) r.offsets s.titles (omega (arith, many)) hold.values.onward (hold.values.last_offset ∙ sym sized.titles) in
-    let heads = entries_written r.words h.blocks s.directory (IsBytes-take (directory_len h) (drop h.titles_len (drop (offsets_len h) (drop h.vocabulary_len rest))) behind_titles) sized.directory in
+    let heads = entries_written r.words h.blocks s.directory is.bytes.directory sized.directory in
     let end : end_from 0 r.heads ≡ h.words = sym (end_is r.heads) ∙ hold.values.end in
     let shaped = shapes (directory_at h) None r.heads (length s.blocks) hold.values.joined hold.values.sized (omega (arith, end, f.words)) (hold.values.bytes_sum ∙ sym sized.blocks) in
-    let blocks = blocks_written law h.docs (blocks_at h) r.heads s.blocks (omega (arith, f.docs)) (IsBytes-drop (directory_len h) (drop h.titles_len (drop (offsets_len h) (drop h.vocabulary_len rest))) behind_titles) shaped hold.blocks in
+    let blocks = blocks_written law h.docs (blocks_at h) r.heads s.blocks (omega (arith, f.docs)) is.bytes.blocks shaped hold.blocks in
     let header : header_of_image (image_of b) ≡ h = same_header h _ _ _ _ _ _ _ _ _
     (omega (arith, titles.0, many)) words.count (blocks.2 ∙ hold.values.rows_sum) (blocks.0 ∙ heads_count r.words h.blocks s.directory) refl
     (ap length words.written ∙ sized.vocabulary) (ap length titles.2 ∙ sized.titles) (ap length blocks.1 ∙ sized.blocks) (sym f.spare) in
     same_parts _ _ _ _ _ _ (header_bytes h) s.vocabulary s.offsets s.titles s.directory s.blocks
     (ap header_bytes header) words.written (ap (flat_map number_bytes) titles.1 ∙ offsets) titles.2 heads blocks.1
-    ∙ ap (λ (x : List ℕ). header_bytes h ++ x) (sections_joined h rest)
-    ∙ header_written b fits hold.long hold.first
+    ∙ ap (λ (x : List ℕ). header_bytes h ++ x) (sections_joined h (drop HEADER_BYTES b))
+    ∙ header_written b (bytes_from_all b small) hold.long hold.first
 
 pub files_follow_blocks : FilesFollowBlocks
 files_follow_blocks accepted one = accepted_are_files (blocks_are_read accepted one)

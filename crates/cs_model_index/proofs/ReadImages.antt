@@ -27,7 +27,7 @@ use Rattle.cs_model_index.specs.Images.{Image, block_of, heads_from, image_by}
 use Rattle.cs_model_index.specs.Numbered.{HasWord}
 use Rattle.cs_model_index.specs.Sections.{blocks_at, contents_of, directory_at, directory_len, header_of, image_of, offsets_at, offsets_len, sections, vocabulary_at}
 use Rattle.cs_model_index.specs.declared.limits.TheConstants.{HEADER_BYTES}
-use Rattle.cs_model_index.proofs.AcceptedLemmas.{RulesHold, rules_hold, sections_sized}
+use Rattle.cs_model_index.proofs.AcceptedLemmas.{is_sound}
 use Rattle.cs_model_index.proofs.BlockUses.{BlocksAreRead, blocks_are_read}
 use Rattle.cs_model_index.proofs.CorpusLemmas.{any_alike}
 use Rattle.cs_model_index.proofs.Listings.{same_tests}
@@ -48,29 +48,21 @@ pub record FileRead (i : Image) : Type 0 where
 pub file_read : BlocksAreRead → (b : List ℕ) → All (λ x. x < 2 ^ 8) b → IsIndexFile b → FileRead (image_of b)
 unfolding damage image_of
 file_read law b small e =
-    let fits = bytes_from_all b small in
     let r = contents_of b in
     let h = header_of b in
-    let rest = drop HEADER_BYTES b in
-    let s = sections h rest in
-    let hold : RulesHold b r = rules_hold b r e in
-    let v = hold.values in
-    let sized = sections_sized h b hold.long hold.size in
-    let behind : IsBytes rest = IsBytes-drop HEADER_BYTES b fits in
-    let behind_words = IsBytes-drop h.vocabulary_len rest behind in
-    let behind_offsets = IsBytes-drop (offsets_len h) (drop h.vocabulary_len rest) behind_words in
-    let behind_titles = IsBytes-drop h.titles_len (drop (offsets_len h) (drop h.vocabulary_len rest)) behind_offsets in
-    let bytes = IsBytes-drop (directory_len h) (drop h.titles_len (drop (offsets_len h) (drop h.vocabulary_len rest))) behind_titles in
-    let count : length r.words ≡ h.words = (words_written h.words vocabulary_at s.vocabulary hold.words_stand).count in
+    let s = sections h (drop HEADER_BYTES b) in
+    let is = is_sound b small e in
+    let v = is.hold.values in
+    let count : length r.words ≡ h.words = (words_written h.words vocabulary_at s.vocabulary is.hold.words_stand).count in
     let many : length r.offsets ≡ h.docs + 1 = numbers_count (h.docs + 1) s.offsets in
-    let titles = titles_written (offsets_at h) r.offsets s.titles (omega (arith, many)) v.onward (v.last_offset ∙ sym sized.titles) in
+    let titles = titles_written (offsets_at h) r.offsets s.titles (omega (arith, many)) v.onward (v.last_offset ∙ sym is.sized.titles) in
     let last : end_from 0 r.heads ≡ h.words = sym (end_is r.heads) ∙ v.end in
-    let shaped = shapes (directory_at h) None r.heads (length s.blocks) v.joined v.sized (omega (arith, last, v.fields.words)) (v.bytes_sum ∙ sym sized.blocks) in
+    let shaped = shapes (directory_at h) None r.heads (length s.blocks) v.joined v.sized (omega (arith, last, v.fields.words)) (v.bytes_sum ∙ sym is.sized.blocks) in
     record {
       up = rising_words word_size vocabulary_at r.words v.ascend;
       docs = h.docs;
       titles = omega (arith, titles.0, many);
-      read = blocks_read r.words h.docs h.target law (omega (arith, v.fields.docs)) (directory_at h) (blocks_at h) None None r.heads s.blocks v.joined v.kinds (last ∙ sym count) (heads_kinds r.words h.blocks s.directory) bytes shaped hold.blocks v.parted;
+      read = blocks_read r.words h.docs h.target law (omega (arith, v.fields.docs)) (directory_at h) (blocks_at h) None None r.heads s.blocks v.joined v.kinds (last ∙ sym count) (heads_kinds r.words h.blocks s.directory) is.bytes.blocks shaped is.hold.blocks v.parted;
       end = last ∙ sym count;
     }
 

@@ -21,7 +21,7 @@ use Rattle.cs_model_index.specs.Images.{Image}
 use Rattle.cs_model_index.specs.Layout.{number_bytes, Header, MAGIC, header_bytes, vocabulary_bytes, offsets_from, offset_bytes, title_bytes, directory_bytes, blocks_bytes, header_of_image, file}
 use Rattle.cs_model_index.specs.Sections.{number_at, header_of, vocabulary_at, blocks_at, size_by, Sections, sections, vocabulary_in, numbers_in, titles_in, heads_in, blocks_in, Contents, contents_by, contents_of, image_of}
 use Rattle.cs_model_index.specs.declared.limits.TheConstants.{HEADER_BYTES}
-use Rattle.cs_model_index.proofs.AcceptedLemmas.{FieldsHold, ValuesHold, RulesHold, same_header}
+use Rattle.cs_model_index.proofs.AcceptedLemmas.{FieldsHold, ValuesHold, RulesHold, joined_sections, same_header}
 use Rattle.cs_model_index.proofs.AgainLemmas.{break_none, HasLength, words_again, numbers_again, titles_again, offsets_count, HeadFits, heads_again, AreBlocks, blocks_again, sections_again}
 
 -- ---- the header
@@ -131,11 +131,15 @@ rules_kept b r h =
     )
 
 -- ---- the file
+-- the sections of an image's file
+abbrev image_sections : Image → Sections
+image_sections i = record { vocabulary = vocabulary_bytes i.words; offsets = offset_bytes i.titles; titles = title_bytes i.titles; directory = directory_bytes i.heads; blocks = blocks_bytes i.heads i.blocks }
+
 -- what is to be read of an image's file
 abbrev pub image_contents : Image → Contents
 image_contents i = record {
   header = header_of_image i;
-  bytes = record { vocabulary = vocabulary_bytes i.words; offsets = offset_bytes i.titles; titles = title_bytes i.titles; directory = directory_bytes i.heads; blocks = blocks_bytes i.heads i.blocks };
+  bytes = image_sections i;
   words = i.words;
   offsets = offsets_from 0 i.titles;
   titles = i.titles;
@@ -162,6 +166,13 @@ unfolding directory_bytes
 entries_len [] = refl
 entries_len (h ∷ hs) = let rest = entries_len hs in omega (arith, rest)
 
+offsets_long : (titles : List (List ℕ)) → length (offset_bytes titles) ≡ 4 * (length titles + 1)
+unfolding offset_bytes
+offsets_long titles = numbers_len (offsets_from 0 titles) ∙ ap (λ (n : ℕ). 4 * n) (offsets_count 0 titles)
+
+directory_long : (i : Image) → IsWritable i → length (directory_bytes i.heads) ≡ 16 * length i.blocks
+directory_long i is = entries_len i.heads ∙ ap (λ (n : ℕ). 16 * n) is.one_each
+
 same_contents : (h h' : Header) (s s' : Sections) (w w' : List (List ℕ)) (o o' : List ℕ) (t t' : List (List ℕ)) (g g' : List _) (b b' : List _) → h ≡ h' → s ≡ s' → w ≡ w' → o ≡ o' → t ≡ t' → g ≡ g' → b ≡ b'
     → let x : Contents = record { header = h; bytes = s; words = w; offsets = o; titles = t; heads = g; blocks = b } in let y : Contents = record { header = h'; bytes = s'; words = w'; offsets = o'; titles = t'; heads = g'; blocks = b' } in x ≡ y
 same_contents h h' s s' w w' o o' t t' g g' b b' p q r u v x y = rw (p, q, r, u, v, x, y) refl
@@ -170,54 +181,41 @@ pub contents_again : OneReading → (i : Image) → IsWritable i → contents_of
 unfolding file offset_bytes
 contents_again law i is =
     let h = header_of_image i in
-    let v = vocabulary_bytes i.words in
-    let o = flat_map number_bytes (offsets_from 0 i.titles) in
-    let t = title_bytes i.titles in
-    let d = directory_bytes i.heads in
-    let x = blocks_bytes i.heads i.blocks in
-    let rest = v ++ (o ++ (t ++ (d ++ x))) in
+    let p = image_sections i in
+    let rest = joined_sections p in
     let b = header_bytes h ++ rest in
-    let p : Sections = record { vocabulary = v; offsets = o; titles = t; directory = d; blocks = x } in
     let head : header_of b ≡ h = header_again h rest is.values.fields is.room in
     let many : length (offsets_from 0 i.titles) ≡ length i.titles + 1 = offsets_count 0 i.titles in
-    let o_len : length o ≡ 4 * (length i.titles + 1) = numbers_len (offsets_from 0 i.titles) ∙ ap (λ (n : ℕ). 4 * n) many in
-    let d_len : length d ≡ 16 * length i.blocks = entries_len i.heads ∙ ap (λ (n : ℕ). 16 * n) is.one_each in
-    let cut : sections h rest ≡ p = sections_again h v o t d x refl o_len refl d_len in
-    let words : vocabulary_in (length i.words) v ≡ i.words = (words_again vocabulary_at i.words is.lengths).1 in
-    let offsets : numbers_in (length i.titles + 1) o ≡ offsets_from 0 i.titles = ap (λ (n : ℕ). numbers_in n o) (sym many) ∙ numbers_again (offsets_from 0 i.titles) is.offsets in
-    let heads : heads_in (vocabulary_in (length i.words) v) (length i.blocks) d ≡ i.heads =
-    ap (λ (ws : List (List ℕ)). heads_in ws (length i.blocks) d) words ∙ ap (λ (n : ℕ). heads_in i.words n d) (sym is.one_each) ∙ heads_again i.words i.heads is.heads in
+    let cut : sections h rest ≡ p = sections_again h p.vocabulary p.offsets p.titles p.directory p.blocks refl (offsets_long i.titles) refl (directory_long i is) in
+    let words : vocabulary_in (length i.words) p.vocabulary ≡ i.words = (words_again vocabulary_at i.words is.lengths).1 in
+    let offsets : numbers_in (length i.titles + 1) p.offsets ≡ offsets_from 0 i.titles = ap (λ (n : ℕ). numbers_in n p.offsets) (sym many) ∙ numbers_again (offsets_from 0 i.titles) is.offsets in
+    let heads : heads_in (vocabulary_in (length i.words) p.vocabulary) (length i.blocks) p.directory ≡ i.heads =
+    ap (λ (ws : List (List ℕ)). heads_in ws (length i.blocks) p.directory) words ∙ ap (λ (n : ℕ). heads_in i.words n p.directory) (sym is.one_each) ∙ heads_again i.words i.heads is.heads in
     let f = is.values.fields in
     let few : length i.titles < 2 ^ 32 = omega (arith, f.docs) in
     let blocks = blocks_again law (length i.titles) (blocks_at h) i.heads i.blocks few is.blocks in
     ap (λ (y : List ℕ). contents_by (header_of b) (sections (header_of b) y)) (behind_header h rest).0
     ∙ ap (λ (k : Header). contents_by k (sections k rest)) head
     ∙ ap (contents_by h) cut
-    ∙ same_contents h h p p _ _ _ _ _ _ _ _ _ _ refl refl words offsets (ap (λ (os : List ℕ). titles_in os t) offsets ∙ titles_again i.titles) heads (ap (λ (hs : List BlockHead). blocks_in hs x) heads ∙ blocks.1)
+    ∙ same_contents h h p p _ _ _ _ _ _ _ _ _ _ refl refl words offsets (ap (λ (os : List ℕ). titles_in os p.titles) offsets ∙ titles_again i.titles) heads (ap (λ (hs : List BlockHead). blocks_in hs p.blocks) heads ∙ blocks.1)
 
 -- the law, for images that can be written
 pub file_again : OneReading → (i : Image) → IsWritable i → IsIndexFile (file i) × (image_of (file i) ≡ i)
 unfolding file offset_bytes damage image_of
 file_again law i is =
     let h = header_of_image i in
-    let v = vocabulary_bytes i.words in
-    let o = flat_map number_bytes (offsets_from 0 i.titles) in
-    let t = title_bytes i.titles in
-    let d = directory_bytes i.heads in
-    let x = blocks_bytes i.heads i.blocks in
-    let rest = v ++ (o ++ (t ++ (d ++ x))) in
+    let p = image_sections i in
+    let rest = joined_sections p in
     let b = header_bytes h ++ rest in
     let contents : contents_of b ≡ image_contents i = contents_again law i is in
     let f = is.values.fields in
     let few : length i.titles < 2 ^ 32 = omega (arith, f.docs) in
-    let o_len : length o ≡ 4 * (length i.titles + 1) = numbers_len (offsets_from 0 i.titles) ∙ ap (λ (n : ℕ). 4 * n) (offsets_count 0 i.titles) in
-    let d_len : length d ≡ 16 * length i.blocks = entries_len i.heads ∙ ap (λ (n : ℕ). 16 * n) is.one_each in
     let long : length b ≡ HEADER_BYTES + length rest = header_long h rest in
-    let l1 = length-append v (o ++ (t ++ (d ++ x))) in
-    let l2 = length-append o (t ++ (d ++ x)) in
-    let l3 = length-append t (d ++ x) in
-    let l4 = length-append d x in
-    let size : length b ≡ size_by h = omega (arith, o_len, d_len, long, l1, l2, l3, l4) in
+    let l1 = length-append p.vocabulary (p.offsets ++ (p.titles ++ (p.directory ++ p.blocks))) in
+    let l2 = length-append p.offsets (p.titles ++ (p.directory ++ p.blocks)) in
+    let l3 = length-append p.titles (p.directory ++ p.blocks) in
+    let l4 = length-append p.directory p.blocks in
+    let size : length b ≡ size_by h = omega (arith, offsets_long i.titles, directory_long i is, long, l1, l2, l3, l4) in
     let hold : RulesHold b (image_contents i) = record {
       long = omega (arith, long);
       first = (behind_header h rest).1;
