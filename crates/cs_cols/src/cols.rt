@@ -85,9 +85,10 @@ impl Cols {
         }
     }
 
-    // No posts, in memory for `cap`.
-    fn with_capacity(alloc: Global, cap: usize) -> Result<Cols, Memory>
-        ensures { IfOk result (λ c. (c.posts ≡ []) × (cap ≤ c.room)) }
+    /// No posts, in memory for `cap`.
+    pub fn with_capacity(alloc: Global, cap: usize) -> Result<Cols, Memory>
+        ensures none { IfOk result (λ c. c.posts ≡ []) }
+        ensures room { IfOk result (λ c. cap ≤ c.room) }
     {
         if cap == 0 {
             return Ok(Cols::new(alloc));

@@ -14,7 +14,7 @@ pub extend_reserved-requires-clause-room : goal.extend_reserved-requires-clause-
 extend_reserved-requires-clause-room c =
     let s = c.self.inside in
     let held = held_length s.docs.items s.words.items s.places.items s.scores.items _ _ c.self.invariant.0 c.self.view_is in
-    omega (arith, held, docs_long _ _ c.docs.ensures, s.docs.ok.0, c.in_ok-more.ensures.1, c.max-cap.ensures, c.in-Some.ensures.1, c.len-len.ensures)
+    omega (arith, held, docs_long _ _ c.docs.ensures, s.docs.ok.0, c.in_ok-more.ensures.room, c.max-cap.ensures, c.in-Some.ensures.1, c.len-len.ensures)
 
 pub returns-clause-ok : goal.returns-clause-ok
 returns-clause-ok c =
@@ -22,12 +22,12 @@ returns-clause-ok c =
     let s = c.self.inside in
     let held = held_length s.docs.items s.words.items s.places.items s.scores.items _ _ c.self.invariant.0 c.self.view_is in
     let left = c.extend_reserved.ensures.room in
-    omega (arith, now, left, held, docs_long _ _ c.docs.ensures, s.docs.ok.0, c.in_ok-more.ensures.1, c.max-cap.ensures, c.in-Some.ensures.1, c.len-len.ensures)
+    omega (arith, now, left, held, docs_long _ _ c.docs.ensures, s.docs.ok.0, c.in_ok-more.ensures.room, c.max-cap.ensures, c.in-Some.ensures.1, c.len-len.ensures)
 
 pub returns-clause-posts : goal.returns-clause-posts
 returns-clause-posts c =
     ap (λ (h : HeldPosts). h.posts) c.drop.view_is ∙ c.extend_reserved.ensures.posts
-    ∙ rw (c.in_ok-more.ensures.0, c.docs.ensures, c.words.ensures, c.places.ensures, c.scores.ensures) (columns-back c.args.self.now.posts)
+    ∙ rw (c.in_ok-more.ensures.none, c.docs.ensures, c.words.ensures, c.places.ensures, c.scores.ensures) (columns-back c.args.self.now.posts)
 
 pub returns-clause-room : goal.returns-clause-room
 returns-clause-room c =
