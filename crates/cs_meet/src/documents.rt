@@ -31,8 +31,7 @@ pub fn keep_docs(alloc: Global, rows: &Cols, docs: &[u32]) -> Result<Cols, Memor
     ensures ok { IfOk result (λ c. c.posts ≡ keep_docs rows.now.posts docs.now) }
     ensures sorted { IfOk result (λ c. AreSorted c.posts) }
 {
-    let mut found = Cols::new(alloc);
-    found.reserve(rows.len())?;
+    let mut found = Cols::with_capacity(alloc, rows.len())?;
     let mut i = 0;
     let mut j = 0;
     while j < rows.len() {

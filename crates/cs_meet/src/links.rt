@@ -23,8 +23,7 @@ pub fn follow(alloc: Global, a: &Cols, b: &Cols) -> Result<Cols, Memory>
     ensures ok { IfOk result (λ c. c.posts ≡ follow a.now.posts b.now.posts) }
     ensures sorted { IfOk result (λ c. AreSorted c.posts) }
 {
-    let mut found = Cols::new(alloc);
-    found.reserve(b.len())?;
+    let mut found = Cols::with_capacity(alloc, b.len())?;
     let mut i = 0;
     let mut j = 0;
     while j < b.len() {
@@ -44,8 +43,7 @@ pub fn near(alloc: Global, a: &Cols, b: &Cols) -> Result<Cols, Memory>
     ensures ok { IfOk result (λ c. c.posts ≡ near a.now.posts b.now.posts) }
     ensures sorted { IfOk result (λ c. AreSorted c.posts) }
 {
-    let mut found = Cols::new(alloc);
-    found.reserve(b.len())?;
+    let mut found = Cols::with_capacity(alloc, b.len())?;
     let mut lo = 0;
     let mut hi = 0;
     let mut j = 0;

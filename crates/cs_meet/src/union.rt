@@ -20,8 +20,7 @@ pub fn unite(alloc: Global, a: &Cols, b: &Cols) -> Result<Cols, Memory>
     ensures ok { IfOk result (λ c. IsUnion a.now.posts b.now.posts c.posts) }
     ensures sorted { IfOk result (λ c. AreSorted c.posts) }
 {
-    let mut found = Cols::new(alloc);
-    found.reserve(a.len() + b.len())?;
+    let mut found = Cols::with_capacity(alloc, a.len() + b.len())?;
     let mut i = 0;
     for j in 0..b.len() {
         let row = b.get(j);
