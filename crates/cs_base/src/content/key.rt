@@ -1,9 +1,8 @@
 //! Keys of queries, by which kept answers are found.
 ghost use Rattle.std.specs.Prelude.{◌≡◌, IfOk};
 ghost use Rattle.std.proofs.Common.{rules};
-ghost use Rattle.std.specs.Str.{bytes_eq};
 ghost use Rattle.std.specs.Hash as fed;
-ghost use Rattle.std.specs.Cmp.Rules.{comparing, hashing};
+ghost use Rattle.std.specs.Cmp.Rules.{hashing};
 
 use crate::{Memory, Seq, Text};
 use std::alloc::Global;
@@ -11,7 +10,7 @@ use std::hash::{Hash, Hasher};
 use std::marker::Model;
 
 /// The key of a query, which contracts see as its bytes: those of the query's canonical text.
-#[derive(Debug, Drop)]
+#[derive(Debug, PartialEq, Eq, Drop)]
 pub struct Key {
     text: Text,
 }
@@ -42,6 +41,8 @@ impl Model for Key {
     ghost Value = { List ℕ };
 
     ghost view = { λ k. k.text };
+
+    ghost inverse = { λ bytes. record { text = bytes } };
 }
 
 impl Key {
@@ -59,20 +60,6 @@ impl Key {
     {
         self.text.as_str().as_bytes()
     }
-}
-
-impl PartialEq for Key {
-    ghost eq = { bytes_eq };
-
-    ghost laws = { Prim.search (comparing, rules) };
-
-    fn eq(&self, other: &Key) -> bool {
-        self.bytes() == other.bytes()
-    }
-}
-
-impl Eq for Key {
-    ghost laws = { Prim.search (comparing, rules) };
 }
 
 impl Hash for Key {
