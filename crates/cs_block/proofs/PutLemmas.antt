@@ -63,14 +63,6 @@ pub positions_end : (here : List Post) → here ≡ [] → position_column here 
 unfolding position_column
 positions_end here e = ap position_column e
 
-pub scores_split : (r : Post) (here left : List Post) → here ≡ r ∷ left → score_column here ≡ (r.score ∷ []) ++ score_column left
-unfolding score_column
-scores_split r here left e = ap score_column e
-
-pub scores_end : (here : List Post) → here ≡ [] → score_column here ≡ []
-unfolding score_column
-scores_end here e = ap score_column e
-
 -- what stood first still stands after one more call that keeps what it finds
 pub kept_twice : (a b c : List ℕ) → take (length a) b ≡ a → take (length b) c ≡ b → take (length a) c ≡ a
 kept_twice a b c p q =

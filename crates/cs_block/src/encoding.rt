@@ -1,11 +1,13 @@
 //! Writing a block.
-ghost use Rattle.std.specs.Prelude.{◌≡◌, ℕ, ◌+◌, ◌<◌, ◌≤◌, ◌^◌, ◌++◌, length, OnOk, OnErr, take};
+ghost use Rattle.std.specs.Prelude.{◌≡◌, ℕ, ◌+◌, ◌*◌, ◌<◌, ◌≤◌, ◌^◌, ◌++◌, length, OnOk, OnErr, take};
+ghost use Rattle.std.specs.Vec.{vec_len, vec_capacity};
 ghost use Rattle.cs_model_index.specs.Blocks.{AreWritable, block_bytes, gap_column, position_column, score_column, word_column};
 ghost use Rattle.cs_block.specs.BlockSpelling.{HasWords, IsAscending};
 
 use cs_base::Memory;
 use cs_cols::Cols;
 use cs_gaps::put_gap;
+use std::mem::replace;
 
 /// Adds the bytes of the block of these rows at the end, where `lo` is the number of its first word.
 pub fn encode(rows: &Cols, lo: u32, out: &mut Vec<u8>) -> Result<(), Memory>
@@ -59,29 +61,62 @@ fn put_words(rows: &Cols, lo: u32, out: &mut Vec<u8>) -> Result<(), Memory>
     ensures ok { OnOk result (out.new.items ≡ out.old.items ++ word_column lo rows.now.posts) }
     ensures kept { take (length out.old.items) out.new.items ≡ out.old.items }
 {
-    for i in 0..rows.len() {
-        let word = rows.get(i).word;
-        out.extend_from_slice(&((word - lo) as u16).to_be_bytes())?;
-    }
+    out.reserve(2 * rows.len())?;
+    let taken = replace(out, Vec::new(*out.allocator()));
+    *out = with_words(taken, rows, lo);
     Ok(())
+}
+
+// The bytes with those of the words behind them. They are a local, so that no byte can lie over where they begin.
+#[inline]
+fn with_words(mut out: Vec<u8>, rows: &Cols, lo: u32) -> Vec<u8>
+    requires words { HasWords lo rows.now.posts }
+    requires room { vec_len out + 2 * length rows.now.posts ≤ vec_capacity out }
+
+    ensures { result.items ≡ out.items ++ word_column lo rows.now.posts }
+{
+    for i in 0..rows.len() {
+        let [a, b] = ((rows.get(i).word - lo) as u16).to_be_bytes();
+        out.push_reserved(a);
+        out.push_reserved(b);
+    }
+    out
 }
 
 fn put_positions(rows: &Cols, out: &mut Vec<u8>) -> Result<(), Memory>
     ensures ok { OnOk result (out.new.items ≡ out.old.items ++ position_column rows.now.posts) }
     ensures kept { take (length out.old.items) out.new.items ≡ out.old.items }
 {
-    for i in 0..rows.len() {
-        out.extend_from_slice(&rows.get(i).pos.to_be_bytes())?;
-    }
+    let Some(bytes) = rows.len().checked_mul(4) else {
+        return Err(Memory);
+    };
+    out.reserve(bytes)?;
+    let taken = replace(out, Vec::new(*out.allocator()));
+    *out = with_positions(taken, rows);
     Ok(())
+}
+
+// The same of the positions.
+#[inline]
+fn with_positions(mut out: Vec<u8>, rows: &Cols) -> Vec<u8>
+    requires room { vec_len out + 4 * length rows.now.posts ≤ vec_capacity out }
+
+    ensures { result.items ≡ out.items ++ position_column rows.now.posts }
+{
+    for i in 0..rows.len() {
+        let [a, b, c, d] = rows.get(i).pos.to_be_bytes();
+        out.push_reserved(a);
+        out.push_reserved(b);
+        out.push_reserved(c);
+        out.push_reserved(d);
+    }
+    out
 }
 
 fn put_scores(rows: &Cols, out: &mut Vec<u8>) -> Result<(), Memory>
     ensures ok { OnOk result (out.new.items ≡ out.old.items ++ score_column rows.now.posts) }
     ensures kept { take (length out.old.items) out.new.items ≡ out.old.items }
 {
-    for i in 0..rows.len() {
-        out.push(rows.get(i).score)?;
-    }
+    out.extend_from_slice(rows.scores())?;
     Ok(())
 }

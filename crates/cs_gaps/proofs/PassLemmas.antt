@@ -161,6 +161,11 @@ unfolding code_in
 small_code zero n lt = refl
 small_code (suc k) n lt = rw (lt-ltb n 128 lt) refl
 
+-- a number below 128 is its own code
+pub short_code : (n : ℕ) → n < 128 → code n ≡ n ∷ []
+unfolding code
+short_code n lt = small_code 4 n lt
+
 pub put_done : (n : ℕ) (text : List ℕ) (len left : ℕ) → left < 128 → HasPut n text len left → take (len + 1) (set text len left) ≡ code n
 put_done n text len left small h =
     let few = h.few in

@@ -28,6 +28,18 @@ pub fn put_gap(out: &mut Vec<u8>, n: u32) -> Result<(), Memory>
     ensures ok { OnOk result (out.new.items ≡ out.old.items ++ code n) }
     ensures err { OnErr result (out.new.items ≡ out.old.items) }
 {
+    if n < 128 {
+        out.push(n as u8)?;
+        return Ok(());
+    }
+    put_long_gap(out, n)
+}
+
+// The same in a loop over the code's bytes.
+fn put_long_gap(out: &mut Vec<u8>, n: u32) -> Result<(), Memory>
+    ensures ok { OnOk result (out.new.items ≡ out.old.items ++ code n) }
+    ensures err { OnErr result (out.new.items ≡ out.old.items) }
+{
     let mut text = [0u8; 5];
     let mut len = 0;
     let mut left = n;

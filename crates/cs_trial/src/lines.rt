@@ -45,7 +45,8 @@ fn put_line(bytes: &mut Vec<u8>, numbers: &mut Draws) -> Result<(), Memory>
 {
     put_words(bytes, numbers, TITLE_WORDS)?;
     bytes.extend_from_slice(KIND)?;
-    bytes.extend_from_slice(syllable(numbers.below(SYLLABLES)))?;
+    let (first, second) = syllable(numbers.below(SYLLABLES));
+    bytes.extend_from_slice(&[first, second])?;
     bytes.push(b'\t')?;
     put_words(bytes, numbers, TEXT_WORDS)?;
     bytes.push(b'\n')?;

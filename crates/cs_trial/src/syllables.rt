@@ -1,5 +1,5 @@
 //! Words of three syllables.
-ghost use Rattle.std.specs.Prelude.{◌≡◌, ◌<◌, ◌++◌, OnOk};
+ghost use Rattle.std.specs.Prelude.{◌≡◌, ◌<◌, ◌++◌, [], ◌∷◌, OnOk};
 ghost use Rattle.cs_model_trial.specs.Generator.{syllable, word};
 ghost use Rattle.cs_model_trial.specs.declared.sizes.TheConstants.{SYLLABLES, WORDS};
 
@@ -8,30 +8,30 @@ use cs_model_trial::SYLLABLES;
 
 const PAIRS: u32 = SYLLABLES * SYLLABLES;
 
-/// The syllable of a number.
+/// The two letters of the syllable of a number.
 #[inline]
-pub(crate) fn syllable(n: u32) -> &'static [u8]
+pub(crate) fn syllable(n: u32) -> (u8, u8)
     requires { n < SYLLABLES }
 
-    ensures { result.now ≡ syllable n }
+    ensures { result.0 ∷ result.1 ∷ [] ≡ syllable n }
 {
     match n {
-        0 => b"ba",
-        1 => b"be",
-        2 => b"bi",
-        3 => b"bo",
-        4 => b"da",
-        5 => b"de",
-        6 => b"di",
-        7 => b"do",
-        8 => b"ka",
-        9 => b"ke",
-        10 => b"ki",
-        11 => b"ko",
-        12 => b"ta",
-        13 => b"te",
-        14 => b"ti",
-        _ => b"to",
+        0 => (b'b', b'a'),
+        1 => (b'b', b'e'),
+        2 => (b'b', b'i'),
+        3 => (b'b', b'o'),
+        4 => (b'd', b'a'),
+        5 => (b'd', b'e'),
+        6 => (b'd', b'i'),
+        7 => (b'd', b'o'),
+        8 => (b'k', b'a'),
+        9 => (b'k', b'e'),
+        10 => (b'k', b'i'),
+        11 => (b'k', b'o'),
+        12 => (b't', b'a'),
+        13 => (b't', b'e'),
+        14 => (b't', b'i'),
+        _ => (b't', b'o'),
     }
 }
 
@@ -41,8 +41,9 @@ pub(crate) fn put_word(bytes: &mut Vec<u8>, w: u32) -> Result<(), Memory>
 
     ensures { OnOk result (bytes.new.items ≡ bytes.old.items ++ word w) }
 {
-    bytes.extend_from_slice(syllable(w / PAIRS))?;
-    bytes.extend_from_slice(syllable(w / SYLLABLES % SYLLABLES))?;
-    bytes.extend_from_slice(syllable(w % SYLLABLES))?;
+    let (a, b) = syllable(w / PAIRS);
+    let (c, d) = syllable(w / SYLLABLES % SYLLABLES);
+    let (e, f) = syllable(w % SYLLABLES);
+    bytes.extend_from_slice(&[a, b, c, d, e, f])?;
     Ok(())
 }

@@ -1,12 +1,7 @@
-use Rattle.std.proofs.Common.{arith}
-use Rattle.std.proofs.lemmas.List.{drop_all}
-use Rattle.cs_block.proofs.PutLemmas.{row_split, puts_on, put_all, scores_split, scores_end}
+use Rattle.std.proofs.Common.{◌++◌, ap, ◌∙◌, List, ℕ}
+use Rattle.cs_model_index.specs.Blocks.{score_column}
 use Rattle.cs_block.proofs.encoding.put_scores.Goals as goal
 
-pub loop-i-preserved : goal.loop-i-preserved
-loop-i-preserved c = rw c.in_ok-push.ensures.items
-    (puts_on _ _ _ _ _ _ (scores_split _ _ _ (row_split c.args.rows.now.posts c.loop-i.i c.get.result c.get.ensures
-    (omega (arith, c.len-i-end.ensures.value, c.loop-i-test.true)))) c.loop-i.invariant)
-
 pub returns-clause-ok : goal.returns-clause-ok
-returns-clause-ok c = put_all _ _ _ _ (scores_end _ (drop_all c.loop-i.i c.args.rows.now.posts (omega arith))) c.loop-i.invariant
+unfolding score_column
+returns-clause-ok c = c.in_ok-extend_from_slice.ensures.items ∙ ap (λ (x : List ℕ). c.args.out.now.items ++ x) c.scores.ensures

@@ -11,7 +11,7 @@ returns-clause-bytes c =
     let facet = c.in_ok-extend_from_slice-2.ensures.items in
     let kind = c.in_ok-extend_from_slice.ensures.items in
     let title = c.in_ok-put_words.ensures.bytes in
-    rw (told, text, tab, facet, kind, title, c.syllable.ensures, c.below.ensures.value, c.below.ensures.state, c.in_ok-put_words.ensures.state)
+    rw (told, text, tab, facet, kind, title, c.syllable-first.ensures, c.below.ensures.value, c.below.ensures.state, c.in_ok-put_words.ensures.state)
     (line_is c.args.bytes.now.items c.args.numbers.now.state)
 
 pub returns-clause-state : goal.returns-clause-state

@@ -1,8 +1,7 @@
-use Rattle.std.proofs.Common.{arith}
-use Rattle.std.proofs.lemmas.Grind.{common_steps}
+use Rattle.std.proofs.Common.{sym, refl}
 use Rattle.cs_model_trial.specs.Generator.{word}
 use Rattle.cs_trial.proofs.syllables.put_word.Goals as goal
 
 pub returns : goal.returns
 unfolding word
-returns c = grind (arith, common_steps)
+returns c = rw (c.in_ok-extend_from_slice.ensures.items, sym c.syllable-a.ensures, sym c.syllable-c.ensures, sym c.syllable-e.ensures) refl

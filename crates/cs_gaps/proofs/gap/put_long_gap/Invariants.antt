@@ -1,5 +1,5 @@
 use Rattle.cs_gaps.proofs.PassLemmas.{HasPut}
-use Rattle.cs_gaps.proofs.gap.put_gap.Given as goal
+use Rattle.cs_gaps.proofs.gap.put_long_gap.Given as goal
 
 abbrev pub invariant-loop-left : goal.invariant-loop-left
 invariant-loop-left l = HasPut l.n l.text l.len l.left
