@@ -5,7 +5,8 @@
 --   keys-..           the keys of queries
 --   planned           the plan of a query by its keys
 --   listed_after      the list after it by its keys
-use Rattle.std.proofs.Common.{◌≡◌, ℕ, List, [], ◌∷◌, refl, ap, Some, None, codes}
+--   Goes, AllGo       the plan of a query and the list after it, and of queries in turn
+use Rattle.std.proofs.Common.{◌≡◌, ℕ, List, [], ◌∷◌, map, refl, ap, ◌∙◌, Some, None, codes}
 use Rattle.std.specs.Char.{encode_utf8}
 use Rattle.std.specs.Str.{chars}
 use Rattle.cs_base.specs.declared.content.key.Keys.{Keys}
@@ -18,6 +19,7 @@ use Rattle.cs_model.specs.Grammar.{query_of}
 use Rattle.cs_model.specs.Keys.{keys_of}
 use Rattle.cs_model.proofs.CanonicalLemmas.{prefix_shape, exact_shape}
 use Rattle.cs_model.proofs.AttachedText.{rolled_query, rolled_part, rolled_chain, rolled_linked}
+use Rattle.cs_base.specs.declared.index.plan.Plan.{Plan}
 use Rattle.cs_base.specs.declared.index.plan.Plan.TheVariants.{Same, Narrow, Extend, Fresh}
 use Rattle.cs_base.specs.declared.index.plan.Kept.{Kept}
 use Rattle.cs_base.specs.declared.index.plan.Kept.TheVariants as kept
@@ -100,120 +102,72 @@ module _ (k : Corpus) where
   unfolding plan after
   listed_after held room q was keys e = ap (λ (x : Keys). put_in_front room was (x.same, entry_of k q) (to_front held (used_key x (plan_by held x)))) e
 
-  -- ---- letter by letter, with room for all
-  -- nothing is kept yet
-  plan-t : plan [] (asked (codes "t")) ≡ Fresh
-  unfolding own
-  plan-t = planned [] (asked (codes "t")) _ keys-t
+  -- the entries of these queries
+  abbrev held : List (List ℕ) → KeptList
+  held texts = map own texts
 
-  after-t : after [] MAX_ENTRIES (asked (codes "t")) kept.Kept k ≡ own (codes "t") ∷ []
-  unfolding own
-  after-t = listed_after [] MAX_ENTRIES (asked (codes "t")) kept.Kept _ keys-t
+  -- Of the query of this text, over these entries: its plan, and the entries after it.
+  record Goes (room : ℕ) (before : List (List ℕ)) (text : List ℕ) (p : Plan) (was : Kept) (next : List (List ℕ)) : Type 0 where
+    plans : plan (held before) (asked text) ≡ p
+    lists : after (held before) room (asked text) was k ≡ held next
 
-  -- with one letter more, from what the first one gave
-  plan-ty : plan (own (codes "t") ∷ []) (asked (codes "ty")) ≡ Narrow 1
-  unfolding own
-  plan-ty = planned (own (codes "t") ∷ []) (asked (codes "ty")) _ keys-ty
+  goes : {room : ℕ} {before : List (List ℕ)} {text : List ℕ} {p : Plan} {was : Kept} {next : List (List ℕ)} {keys : Keys} → keys_of (asked text) ≡ keys → plan_by (held before) keys ≡ p
+      → put_in_front room was (keys.same, entry_of k (asked text)) (to_front (held before) (used_key keys (plan_by (held before) keys))) ≡ held next → Goes room before text p was next
+  goes {room} {before} {text} {p} {was} {next} {keys} e is put = record {
+    plans = planned (held before) (asked text) keys e ∙ is;
+    lists = listed_after (held before) room (asked text) was keys e ∙ put;
+  }
 
-  after-ty : after (own (codes "t") ∷ []) MAX_ENTRIES (asked (codes "ty")) kept.Kept k ≡ own (codes "ty") ∷ own (codes "t") ∷ []
-  unfolding own
-  after-ty = listed_after (own (codes "t") ∷ []) MAX_ENTRIES (asked (codes "ty")) kept.Kept _ keys-ty
+  -- a text, its query's plan, what becomes of its entry, and whose entries are kept then
+  abbrev Turn : Type 0
+  Turn = List ℕ × Plan × Kept × List (List ℕ)
 
-  -- from the longest shorter prefix that is kept
-  plan-typ : plan (own (codes "ty") ∷ own (codes "t") ∷ []) (asked (codes "typ")) ≡ Narrow 2
-  unfolding own
-  plan-typ = planned (own (codes "ty") ∷ own (codes "t") ∷ []) (asked (codes "typ")) _ keys-typ
+  AllGo : ℕ → List (List ℕ) → List Turn → Type 0
+  AllGo room before [] = Unit {0}
+  AllGo room before (t ∷ ts) = Goes room before t.0 t.1 t.2 t.3 × AllGo room t.3 ts
 
-  after-typ : after (own (codes "ty") ∷ own (codes "t") ∷ []) MAX_ENTRIES (asked (codes "typ")) kept.Kept k ≡ own (codes "typ") ∷ own (codes "ty") ∷ own (codes "t") ∷ []
-  unfolding own
-  after-typ = listed_after (own (codes "ty") ∷ own (codes "t") ∷ []) MAX_ENTRIES (asked (codes "typ")) kept.Kept _ keys-typ
+  -- ---- letter by letter
+  -- with room for all
+  abbrev letters : List Turn
+  letters =
+      -- nothing is kept yet
+      (codes "t", Fresh, kept.Kept, codes "t" ∷ [])
+      -- with one letter more, from what the first one gave
+      ∷ (codes "ty", Narrow 1, kept.Kept, codes "ty" ∷ codes "t" ∷ [])
+      -- from the longest shorter prefix that is kept
+      ∷ (codes "typ", Narrow 2, kept.Kept, codes "typ" ∷ codes "ty" ∷ codes "t" ∷ [])
+      -- a second part goes on from the first one, which comes to the front
+      ∷ (codes "typ s", Extend, kept.Kept, codes "typ s" ∷ codes "typ" ∷ codes "ty" ∷ codes "t" ∷ [])
+      ∷ (codes "typ se", Narrow 1, kept.Kept, codes "typ se" ∷ codes "typ s" ∷ codes "typ" ∷ codes "ty" ∷ codes "t" ∷ [])
+      -- the query itself is kept, so the entry comes to the front and none is put there
+      ∷ (codes "typ", Same, kept.Had, codes "typ" ∷ codes "typ se" ∷ codes "typ s" ∷ codes "ty" ∷ codes "t" ∷ [])
+      ∷ []
 
-  -- a second part goes on from the first one, which comes to the front
-  plan-typ_s : plan (own (codes "typ") ∷ own (codes "ty") ∷ own (codes "t") ∷ []) (asked (codes "typ s")) ≡ Extend
-  unfolding own
-  plan-typ_s = planned (own (codes "typ") ∷ own (codes "ty") ∷ own (codes "t") ∷ []) (asked (codes "typ s")) _ keys-typ_s
+  letters-go : AllGo MAX_ENTRIES [] letters
+  unfolding own AllGo
+  letters-go = (goes keys-t refl refl, (goes keys-ty refl refl, (goes keys-typ refl refl, (goes keys-typ_s refl refl, (goes keys-typ_se refl refl, (goes keys-typ refl refl, tt))))))
 
-  after-typ_s : after (own (codes "typ") ∷ own (codes "ty") ∷ own (codes "t") ∷ []) MAX_ENTRIES (asked (codes "typ s")) kept.Kept k ≡ own (codes "typ s") ∷ own (codes "typ") ∷ own (codes "ty") ∷ own (codes "t") ∷ []
-  unfolding own
-  after-typ_s = listed_after (own (codes "typ") ∷ own (codes "ty") ∷ own (codes "t") ∷ []) MAX_ENTRIES (asked (codes "typ s")) kept.Kept _ keys-typ_s
+  -- with room for two
+  abbrev letters-of_two : List Turn
+  letters-of_two =
+      (codes "t", Fresh, kept.Kept, codes "t" ∷ [])
+      ∷ (codes "ty", Narrow 1, kept.Kept, codes "ty" ∷ codes "t" ∷ [])
+      ∷ (codes "typ", Narrow 2, kept.Kept, codes "typ" ∷ codes "ty" ∷ [])
+      ∷ (codes "typ s", Extend, kept.Kept, codes "typ s" ∷ codes "typ" ∷ [])
+      ∷ (codes "typ se", Narrow 1, kept.Kept, codes "typ se" ∷ codes "typ s" ∷ [])
+      -- it was dropped, and the shorter ones too
+      ∷ (codes "typ", Fresh, kept.Kept, codes "typ" ∷ codes "typ se" ∷ [])
+      ∷ []
 
-  plan-typ_se : plan (own (codes "typ s") ∷ own (codes "typ") ∷ own (codes "ty") ∷ own (codes "t") ∷ []) (asked (codes "typ se")) ≡ Narrow 1
-  unfolding own
-  plan-typ_se = planned (own (codes "typ s") ∷ own (codes "typ") ∷ own (codes "ty") ∷ own (codes "t") ∷ []) (asked (codes "typ se")) _ keys-typ_se
-
-  after-typ_se : after (own (codes "typ s") ∷ own (codes "typ") ∷ own (codes "ty") ∷ own (codes "t") ∷ []) MAX_ENTRIES (asked (codes "typ se")) kept.Kept k ≡ own (codes "typ se") ∷ own (codes "typ s") ∷ own (codes "typ") ∷ own (codes "ty") ∷ own (codes "t") ∷ []
-  unfolding own
-  after-typ_se = listed_after (own (codes "typ s") ∷ own (codes "typ") ∷ own (codes "ty") ∷ own (codes "t") ∷ []) MAX_ENTRIES (asked (codes "typ se")) kept.Kept _ keys-typ_se
-
-  -- the query itself is kept, so the entry comes to the front and none is put there
-  plan-again : plan (own (codes "typ se") ∷ own (codes "typ s") ∷ own (codes "typ") ∷ own (codes "ty") ∷ own (codes "t") ∷ []) (asked (codes "typ")) ≡ Same
-  unfolding own
-  plan-again = planned (own (codes "typ se") ∷ own (codes "typ s") ∷ own (codes "typ") ∷ own (codes "ty") ∷ own (codes "t") ∷ []) (asked (codes "typ")) _ keys-typ
-
-  after-again : after (own (codes "typ se") ∷ own (codes "typ s") ∷ own (codes "typ") ∷ own (codes "ty") ∷ own (codes "t") ∷ []) MAX_ENTRIES (asked (codes "typ")) kept.Had k ≡ own (codes "typ") ∷ own (codes "typ se") ∷ own (codes "typ s") ∷ own (codes "ty") ∷ own (codes "t") ∷ []
-  unfolding own
-  after-again = listed_after (own (codes "typ se") ∷ own (codes "typ s") ∷ own (codes "typ") ∷ own (codes "ty") ∷ own (codes "t") ∷ []) MAX_ENTRIES (asked (codes "typ")) kept.Had _ keys-typ
-
-  -- ---- the same with room for two
-  plan-t-of_two : plan [] (asked (codes "t")) ≡ Fresh
-  unfolding own
-  plan-t-of_two = planned [] (asked (codes "t")) _ keys-t
-
-  after-t-of_two : after [] 2 (asked (codes "t")) kept.Kept k ≡ own (codes "t") ∷ []
-  unfolding own
-  after-t-of_two = listed_after [] 2 (asked (codes "t")) kept.Kept _ keys-t
-
-  plan-ty-of_two : plan (own (codes "t") ∷ []) (asked (codes "ty")) ≡ Narrow 1
-  unfolding own
-  plan-ty-of_two = planned (own (codes "t") ∷ []) (asked (codes "ty")) _ keys-ty
-
-  after-ty-of_two : after (own (codes "t") ∷ []) 2 (asked (codes "ty")) kept.Kept k ≡ own (codes "ty") ∷ own (codes "t") ∷ []
-  unfolding own
-  after-ty-of_two = listed_after (own (codes "t") ∷ []) 2 (asked (codes "ty")) kept.Kept _ keys-ty
-
-  plan-typ-of_two : plan (own (codes "ty") ∷ own (codes "t") ∷ []) (asked (codes "typ")) ≡ Narrow 2
-  unfolding own
-  plan-typ-of_two = planned (own (codes "ty") ∷ own (codes "t") ∷ []) (asked (codes "typ")) _ keys-typ
-
-  after-typ-of_two : after (own (codes "ty") ∷ own (codes "t") ∷ []) 2 (asked (codes "typ")) kept.Kept k ≡ own (codes "typ") ∷ own (codes "ty") ∷ []
-  unfolding own
-  after-typ-of_two = listed_after (own (codes "ty") ∷ own (codes "t") ∷ []) 2 (asked (codes "typ")) kept.Kept _ keys-typ
-
-  plan-typ_s-of_two : plan (own (codes "typ") ∷ own (codes "ty") ∷ []) (asked (codes "typ s")) ≡ Extend
-  unfolding own
-  plan-typ_s-of_two = planned (own (codes "typ") ∷ own (codes "ty") ∷ []) (asked (codes "typ s")) _ keys-typ_s
-
-  after-typ_s-of_two : after (own (codes "typ") ∷ own (codes "ty") ∷ []) 2 (asked (codes "typ s")) kept.Kept k ≡ own (codes "typ s") ∷ own (codes "typ") ∷ []
-  unfolding own
-  after-typ_s-of_two = listed_after (own (codes "typ") ∷ own (codes "ty") ∷ []) 2 (asked (codes "typ s")) kept.Kept _ keys-typ_s
-
-  plan-typ_se-of_two : plan (own (codes "typ s") ∷ own (codes "typ") ∷ []) (asked (codes "typ se")) ≡ Narrow 1
-  unfolding own
-  plan-typ_se-of_two = planned (own (codes "typ s") ∷ own (codes "typ") ∷ []) (asked (codes "typ se")) _ keys-typ_se
-
-  after-typ_se-of_two : after (own (codes "typ s") ∷ own (codes "typ") ∷ []) 2 (asked (codes "typ se")) kept.Kept k ≡ own (codes "typ se") ∷ own (codes "typ s") ∷ []
-  unfolding own
-  after-typ_se-of_two = listed_after (own (codes "typ s") ∷ own (codes "typ") ∷ []) 2 (asked (codes "typ se")) kept.Kept _ keys-typ_se
-
-  -- it was dropped, and the shorter ones too
-  plan-again-of_two : plan (own (codes "typ se") ∷ own (codes "typ s") ∷ []) (asked (codes "typ")) ≡ Fresh
-  unfolding own
-  plan-again-of_two = planned (own (codes "typ se") ∷ own (codes "typ s") ∷ []) (asked (codes "typ")) _ keys-typ
-
-  after-again-of_two : after (own (codes "typ se") ∷ own (codes "typ s") ∷ []) 2 (asked (codes "typ")) kept.Kept k ≡ own (codes "typ") ∷ own (codes "typ se") ∷ []
-  unfolding own
-  after-again-of_two = listed_after (own (codes "typ se") ∷ own (codes "typ s") ∷ []) 2 (asked (codes "typ")) kept.Kept _ keys-typ
+  letters-of_two-go : AllGo 2 [] letters-of_two
+  unfolding own AllGo
+  letters-of_two-go = (goes keys-t refl refl, (goes keys-ty refl refl, (goes keys-typ refl refl, (goes keys-typ_s refl refl, (goes keys-typ_se refl refl, (goes keys-typ refl refl, tt))))))
 
   -- ---- other queries
-  -- two letters more
-  plan-longer : plan (own (codes "typ") ∷ []) (asked (codes "types")) ≡ Narrow 3
+  -- two letters more, whose entry is too large and isn't put in
+  longer : Goes MAX_ENTRIES (codes "typ" ∷ []) (codes "types") (Narrow 3) kept.TooLarge (codes "typ" ∷ [])
   unfolding own
-  plan-longer = planned (own (codes "typ") ∷ []) (asked (codes "types")) _ keys-types
-
-  -- an entry that is too large isn't put in
-  after-too_large : after (own (codes "typ") ∷ []) MAX_ENTRIES (asked (codes "types")) kept.TooLarge k ≡ own (codes "typ") ∷ []
-  unfolding own
-  after-too_large = listed_after (own (codes "typ") ∷ []) MAX_ENTRIES (asked (codes "types")) kept.TooLarge _ keys-types
+  longer = goes keys-types refl refl
 
   -- an exact word goes on from no prefix
   plan-exact : plan (own (codes "typ") ∷ []) (asked (codes "type$")) ≡ Fresh
@@ -235,10 +189,6 @@ module _ (k : Corpus) where
   plan-first_alternatives = planned [] (asked (codes "typed|a")) _ keys-typed_a
 
   -- a part behind an excluded one goes on from what that one left
-  plan-behind_excluded : plan (own (codes "-search") ∷ []) (asked (codes "-search typ")) ≡ Extend
+  behind_excluded : Goes MAX_ENTRIES (codes "-search" ∷ []) (codes "-search typ") Extend kept.Kept (codes "-search typ" ∷ codes "-search" ∷ [])
   unfolding own
-  plan-behind_excluded = planned (own (codes "-search") ∷ []) (asked (codes "-search typ")) _ keys-behind_excluded
-
-  after-behind_excluded : after (own (codes "-search") ∷ []) MAX_ENTRIES (asked (codes "-search typ")) kept.Kept k ≡ own (codes "-search typ") ∷ own (codes "-search") ∷ []
-  unfolding own
-  after-behind_excluded = listed_after (own (codes "-search") ∷ []) MAX_ENTRIES (asked (codes "-search typ")) kept.Kept _ keys-behind_excluded
+  behind_excluded = goes keys-behind_excluded refl refl

@@ -1,5 +1,5 @@
 -- A trial computed: its first line, and its first session.
-use Rattle.std.proofs.Common.{◌≡◌, ℕ, [], ◌∷◌, refl, codes}
+use Rattle.std.proofs.Common.{◌≡◌, ℕ, [], ◌∷◌, map, refl, codes}
 use Rattle.std.specs.Prelude.{length}
 use Rattle.std.specs.Fmt.{digits}
 use Rattle.cs_model_trial.specs.Generator.{behind, draws, word, line_draws, trial_line}
@@ -16,31 +16,27 @@ word-last : word 4095 ≡ codes "tototo"
 unfolding word
 word-last = refl
 
--- the first line of trial 1
-line-first : trial_line (line_draws 1 0) ≡ codes "dotedi bodeke batata\tkind=di\tkodeki batobo kikeki katodi debike kokoki betoko datobi tedota bobiba takoki babata\n"
+-- the first line of trial 1, and its last one
+lines-ends : map (λ k. trial_line (line_draws 1 k)) (0 ∷ 99 ∷ []) ≡
+    codes "dotedi bodeke batata\tkind=di\tkodeki batobo kikeki katodi debike kokoki betoko datobi tedota bobiba takoki babata\n"
+    ∷ codes "kibete batibi kekaki\tkind=de\tkitaki bobate tabiti botada kateda kitida tadita dotada bekibo kekido bokodi koketo\n"
+    ∷ []
 unfolding line_draws behind draws word
-line-first = refl
+lines-ends = refl
 
--- its last line
-line-last : trial_line (line_draws 1 99) ≡ codes "kibete batibi kekaki\tkind=de\tkitaki bobate tabiti botada kateda kitida tadita dotada bekibo kekido bokodi koketo\n"
-unfolding line_draws behind draws word
-line-last = refl
-
--- its first session
-session-first : session 1 0 ≡
+-- its first session, and its last one
+sessions-ends : map (session 1) (0 ∷ 19 ∷ []) ≡
+    (
     codes "t" ∷ codes "ti" ∷ codes "tid" ∷ codes "tida" ∷ codes "tidab" ∷ codes "tidabe"
     ∷ codes "tidabe d" ∷ codes "tidabe de" ∷ codes "tidabe deb" ∷ codes "tidabe deba" ∷ codes "tidabe debab" ∷ codes "tidabe debabi"
     ∷ codes "tidabe" ∷ []
-unfolding session session_draws line_draws behind draws word
-session-first = refl
-
--- its last session
-session-last : session 1 19 ≡
+    ) ∷ (
     codes "b" ∷ codes "bo" ∷ codes "bok" ∷ codes "boka" ∷ codes "bokad" ∷ codes "bokade"
     ∷ codes "bokade b" ∷ codes "bokade bo" ∷ codes "bokade bot" ∷ codes "bokade bota" ∷ codes "bokade botat" ∷ codes "bokade botata"
     ∷ codes "bokade" ∷ []
+    ) ∷ []
 unfolding session session_draws line_draws behind draws word
-session-last = refl
+sessions-ends = refl
 
 -- each trial asks 260 texts
 pub texts-count : (n : ℕ) → length (texts n) ≡ 260
