@@ -31,21 +31,21 @@ pub fn rows_of(alloc: Global, docs: &Seq<Doc>) -> Result<Seq<Row>, RowsFault>
     ensures utf8 { IfOk result (λ rows. All (λ r. IsUtf8 r.word) rows) }
     ensures too_many { IsErrOf result RowsFault.TooManyRows → MAX_ROWS < length (rows_of docs.now) }
 {
-    let mut rows = Seq::new(alloc);
+    let mut rows = Vec::new(alloc);
     for (number, doc) in docs.as_slice().iter().enumerate() {
         push_doc(alloc, &mut rows, number as u32, doc)?;
         if rows.len() > MAX_ROWS {
             return Err(RowsFault::TooManyRows);
         }
     }
-    Ok(rows)
+    Ok(Seq::from_vec(rows))
 }
 
 // Adds the rows of one document.
-fn push_doc(alloc: Global, rows: &mut Seq<Row>, number: u32, doc: &Doc) -> Result<(), Memory>
+fn push_doc(alloc: Global, rows: &mut Vec<Row>, number: u32, doc: &Doc) -> Result<(), Memory>
     requires { CanBeListed doc.now }
 
-    ensures ok { OnOk result (rows.new ≡ rows.old ++ listed_doc (number, doc.now)) }
+    ensures ok { OnOk result (rows.new.items ≡ rows.old.items ++ listed_doc (number, doc.now)) }
     ensures utf8 { OnOk result (All HasUtf8Word (listed_doc (number, doc.now))) }
 {
     push_facets(alloc, rows, number, doc.facets.as_str())?;
@@ -62,10 +62,10 @@ fn push_doc(alloc: Global, rows: &mut Seq<Row>, number: u32, doc: &Doc) -> Resul
 }
 
 // Adds a row for each facet word of a column, each once, by bytes.
-fn push_facets(alloc: Global, rows: &mut Seq<Row>, doc: u32, column: &str) -> Result<(), Memory>
+fn push_facets(alloc: Global, rows: &mut Vec<Row>, doc: u32, column: &str) -> Result<(), Memory>
     requires { AreNamed (facet_pieces column.now) }
 
-    ensures ok { OnOk result (rows.new ≡ rows.old ++ map (λ w. placed doc FACET_SCORE (0, w)) (listed_facets column.now)) }
+    ensures ok { OnOk result (rows.new.items ≡ rows.old.items ++ map (λ w. placed doc FACET_SCORE (0, w)) (listed_facets column.now)) }
     ensures utf8 { OnOk result (All IsUtf8 (facet_words column.now)) }
 {
     let mut found = facet_words(alloc, column)?;
@@ -85,7 +85,7 @@ fn push_facets(alloc: Global, rows: &mut Seq<Row>, doc: u32, column: &str) -> Re
 // Adds a row for each word of a column, at positions from `pos` on, and gives the position behind.
 fn push_words(
     alloc: Global,
-    rows: &mut Seq<Row>,
+    rows: &mut Vec<Row>,
     doc: u32,
     column: &str,
     pos: u32,
@@ -93,7 +93,7 @@ fn push_words(
 ) -> Result<u32, Memory>
     requires { pos + length (words column.now) < 2 ^ 32 }
 
-    ensures ok { OnOk result (rows.new ≡ rows.old ++ map (placed doc score) (enumerate_from pos (words column.now))) }
+    ensures ok { OnOk result (rows.new.items ≡ rows.old.items ++ map (placed doc score) (enumerate_from pos (words column.now))) }
     ensures utf8 { OnOk result (All IsUtf8 (words column.now)) }
     ensures end { IfOk result (λ n. n ≡ pos + length (words column.now)) }
 {

@@ -1,5 +1,5 @@
 //! The words of a text.
-ghost use Rattle.std.specs.Prelude.{◌≡◌, IfOk, IsAscii, chars};
+ghost use Rattle.std.specs.Prelude.{◌≡◌, [], IfOk, IsAscii, chars};
 ghost use Rattle.std.specs.List.{All};
 ghost use Rattle.std.specs.Str.{IsUtf8};
 ghost use Rattle.cs_model.specs.Words.{words, words_of};
@@ -9,6 +9,9 @@ use crate::key_text::key_of;
 use crate::piece::{push_ascii_word, push_word};
 use cs_base::{Memory, Seq, Word};
 use std::alloc::Global;
+
+// Most texts have a word for so many bytes or more. Others take memory for their words once more.
+const LIKELY_BYTES: usize = 4;
 
 /// The words of `s`, in order: the maximal runs of word characters of its key text, each cut to the
 /// longest prefix of whole characters of at most `MAX_PLAIN_WORD_BYTES` bytes.
@@ -29,11 +32,11 @@ fn words_of(alloc: Global, key: &str) -> Result<Seq<Word>, Memory>
         let found = words_of_ascii(alloc, key.as_bytes())?;
         return Ok(found);
     }
-    let mut found = Seq::new(alloc);
+    let mut found = room_for(alloc, key.len())?;
     for piece in key.split(is_gap) {
         push_word(alloc, &mut found, piece)?;
     }
-    Ok(found)
+    Ok(Seq::from_vec(found))
 }
 
 // The same of ASCII text, by bytes.
@@ -42,9 +45,17 @@ fn words_of_ascii(alloc: Global, key: &[u8]) -> Result<Seq<Word>, Memory>
 
     ensures ok { IfOk result (λ v. v ≡ words_of (chars key.now)) }
 {
-    let mut found = Seq::new(alloc);
+    let mut found = room_for(alloc, key.len())?;
     for piece in key.split(|b| !b.is_ascii_alphanumeric()) {
         push_ascii_word(alloc, &mut found, piece)?;
     }
-    Ok(found)
+    Ok(Seq::from_vec(found))
+}
+
+// An empty list with room for as many words as so many bytes are likely to have.
+fn room_for(alloc: Global, bytes: usize) -> Result<Vec<Word>, Memory>
+    ensures { IfOk result (λ v. v.items ≡ []) }
+{
+    let words = Vec::with_capacity(alloc, bytes / LIKELY_BYTES)?;
+    Ok(words)
 }

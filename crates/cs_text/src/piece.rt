@@ -3,7 +3,7 @@ ghost use Rattle.std.specs.Prelude.{◌≡◌, ◌≤◌, ◌++◌, [], ◌∷�
 ghost use Rattle.cs_model.specs.Words.{cut};
 ghost use Rattle.cs_text.specs.WordPieces.{words_in, ascii_words_in};
 
-use cs_base::{MAX_PLAIN_WORD_BYTES, Memory, Seq, Word};
+use cs_base::{MAX_PLAIN_WORD_BYTES, Memory, Word};
 use std::alloc::Global;
 
 /// The longest prefix of whole characters that a word has room for.
@@ -17,9 +17,9 @@ pub(crate) fn cut(text: &str) -> &str
 }
 
 /// Adds the word of a piece, if the piece has characters.
-pub(crate) fn push_word(alloc: Global, words: &mut Seq<Word>, piece: &str) -> Result<(), Memory>
-    ensures ok { OnOk result (words.new ≡ words.old ++ words_in (chars piece.now ∷ [])) }
-    ensures err { OnErr result (words.new ≡ words.old) }
+pub(crate) fn push_word(alloc: Global, words: &mut Vec<Word>, piece: &str) -> Result<(), Memory>
+    ensures ok { OnOk result (words.new.items ≡ words.old.items ++ words_in (chars piece.now ∷ [])) }
+    ensures err { OnErr result (words.new.items ≡ words.old.items) }
 {
     if piece.is_empty() {
         return Ok(());
@@ -32,11 +32,11 @@ pub(crate) fn push_word(alloc: Global, words: &mut Seq<Word>, piece: &str) -> Re
 /// Adds the word of a piece of ASCII text, if the piece has bytes.
 pub(crate) fn push_ascii_word(
     alloc: Global,
-    words: &mut Seq<Word>,
+    words: &mut Vec<Word>,
     piece: &[u8],
 ) -> Result<(), Memory>
-    ensures ok { OnOk result (words.new ≡ words.old ++ ascii_words_in (piece.now ∷ [])) }
-    ensures err { OnErr result (words.new ≡ words.old) }
+    ensures ok { OnOk result (words.new.items ≡ words.old.items ++ ascii_words_in (piece.now ∷ [])) }
+    ensures err { OnErr result (words.new.items ≡ words.old.items) }
 {
     if piece.is_empty() {
         return Ok(());

@@ -8,7 +8,7 @@ ghost use Rattle.cs_base.specs.content.Members.{members_in};
 ghost use Rattle.cs_model.specs.Corpus.{distinct_words};
 ghost use Rattle.cs_vocab.specs.Ranges.{IsBelow, IsWordAt, AreNumbers};
 
-use crate::gathering::gather;
+use crate::gathering::{MetWords, gather};
 use crate::vocab::{Vocab, listing};
 use cs_base::{MAX_ROWS, Memory, Row, Seq, Word};
 use std::alloc::Global;
@@ -30,13 +30,16 @@ impl Numbered {
         ensures words { IfOk result (λ n. n.words ≡ distinct_words rows.now) }
         ensures numbers { IfOk result (λ n. AreNumbers n.words n.numbers (map (λ r. r.word) rows.now)) }
     {
-        let gathered = gather(alloc, rows.as_slice())?;
-        let words = listing(alloc, gathered.words.as_slice())?;
-        let known = numbers_of(alloc, &words, gathered.words.as_slice())?;
-        let numbers = looked_up(alloc, known.as_slice(), gathered.indices.as_slice())?;
+        let MetWords {
+            words: gathered,
+            mut indices,
+        } = gather(alloc, rows.as_slice())?;
+        let words = listing(alloc, gathered.as_slice())?;
+        let known = numbers_of(alloc, &words, gathered.as_slice())?;
+        look_up(known.as_slice(), &mut indices);
         Ok(Numbered {
             words,
-            numbers: Seq::from_vec(numbers),
+            numbers: Seq::from_vec(indices),
         })
     }
 }
@@ -65,15 +68,13 @@ fn number_of(words: &Vocab, word: &Word) -> u32
     }
 }
 
-// The numbers that stand at these indices.
-fn looked_up(alloc: Global, numbers: &[u32], indices: &[u32]) -> Result<Vec<u32>, Memory>
-    requires { All (IsBelow (length numbers.now)) indices.now }
+// Puts in the place of each index the number that stands there.
+fn look_up(numbers: &[u32], indices: &mut [u32])
+    requires { All (IsBelow (length numbers.now)) indices.old }
 
-    ensures { IfOk result (λ v. v.items ≡ map (slice_index numbers.now) indices.now) }
+    ensures { indices.new ≡ map (slice_index numbers.now) indices.old }
 {
-    let mut found = Vec::with_capacity(alloc, indices.len())?;
-    for index in indices {
-        found.push(numbers[*index as usize])?;
+    for i in 0..indices.len() {
+        indices[i] = numbers[indices[i] as usize];
     }
-    Ok(found)
 }

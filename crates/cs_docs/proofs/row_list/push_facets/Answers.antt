@@ -21,7 +21,7 @@ loop-word-init c =
     c.in_ok-sort.ensures.permutation c.in_ok-sort.ensures.sorted c.dedup.ensures.filtered
     ∙ ap (members_in (slice_cmp nat_cmp)) c.in_ok-found.ensures.ok in
     record {
-      told = ap (λ ws. c.args.rows.now ++ map (λ w. placed c.args.doc FACET_SCORE (0, w)) ws) (c.into_iter-word-iterator.ensures.into_iter_gives.0 ∙ listed);
+      told = ap (λ ws. c.args.rows.now.items ++ map (λ w. placed c.args.doc FACET_SCORE (0, w)) ws) (c.into_iter-word-iterator.ensures.into_iter_gives.0 ∙ listed);
       left = omega (arith, c.into_iter-word-iterator.ensures.into_iter_gives.1, ap length c.into_iter-word-iterator.ensures.into_iter_gives.0, c.dedup.new.self.ok);
     }
 

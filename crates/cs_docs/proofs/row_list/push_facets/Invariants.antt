@@ -7,6 +7,6 @@ use Rattle.cs_docs.proofs.row_list.push_facets.Given as goal
 
 abbrev pub invariant-loop-word : goal.invariant-loop-word
 invariant-loop-word l = record {
-  told : l.rows ++ map (λ w. placed l.doc FACET_SCORE (0, w)) (into_iter_items l.word-iterator) ≡ l.initial.rows ++ map (λ w. placed l.doc FACET_SCORE (0, w)) (listed_facets l.column);
+  told : l.rows.items ++ map (λ w. placed l.doc FACET_SCORE (0, w)) (into_iter_items l.word-iterator) ≡ l.initial.rows.items ++ map (λ w. placed l.doc FACET_SCORE (0, w)) (listed_facets l.column);
   left : into_iter_len l.word-iterator ≡ length (into_iter_items l.word-iterator);
 }

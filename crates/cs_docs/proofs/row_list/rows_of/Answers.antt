@@ -42,9 +42,9 @@ returns-then-len-gt-MAX_ROWS-clause-too_many c =
     let doc = c.doc-item.result in
     let l : c.loop-number.number < length docs = omega (arith, ap length c.as_slice-doc-items.ensures) in
     let e : doc ≡ get_or docs c.loop-number.number doc = c.doc-item.is ∙ ap (λ ds. get_or ds c.loop-number.number doc) c.as_slice-doc-items.ensures in
-    let told : listed_rows 0 docs ≡ c.push_doc.new.rows ++ listed_rows (c.loop-number.number + 1) (drop (c.loop-number.number + 1) docs) =
-    next_rows docs c.loop-number.number doc c.loop-number.rows c.push_doc.new.rows l e c.in_ok-push_doc.ensures.ok c.loop-number.invariant.told in
-    λ _. omega (arith, ap length (sym told ∙ rows_listed docs), length-append c.push_doc.new.rows (listed_rows (c.loop-number.number + 1) (drop (c.loop-number.number + 1) docs)))
+    let told : listed_rows 0 docs ≡ c.push_doc.new.rows.items ++ listed_rows (c.loop-number.number + 1) (drop (c.loop-number.number + 1) docs) =
+    next_rows docs c.loop-number.number doc c.loop-number.rows.items c.push_doc.new.rows.items l e c.in_ok-push_doc.ensures.ok c.loop-number.invariant.told in
+    λ _. omega (arith, ap length (sym told ∙ rows_listed docs), length-append c.push_doc.new.rows.items (listed_rows (c.loop-number.number + 1) (drop (c.loop-number.number + 1) docs)))
 
 pub loop-number-preserved : goal.loop-number-preserved
 loop-number-preserved c =
@@ -52,11 +52,11 @@ loop-number-preserved c =
     let doc = c.doc-item.result in
     let l : c.loop-number.number < length docs = omega (arith, ap length c.as_slice-doc-items.ensures) in
     let e : doc ≡ get_or docs c.loop-number.number doc = c.doc-item.is ∙ ap (λ ds. get_or ds c.loop-number.number doc) c.as_slice-doc-items.ensures in
-    record { told = next_rows docs c.loop-number.number doc c.loop-number.rows c.push_doc.new.rows l e c.in_ok-push_doc.ensures.ok c.loop-number.invariant.told; few = omega arith; text = text_more c.loop-number.rows c.push_doc.new.rows _ c.loop-number.invariant.text c.in_ok-push_doc.ensures.utf8 c.in_ok-push_doc.ensures.ok }
+    record { told = next_rows docs c.loop-number.number doc c.loop-number.rows.items c.push_doc.new.rows.items l e c.in_ok-push_doc.ensures.ok c.loop-number.invariant.told; few = omega arith; text = text_more c.loop-number.rows.items c.push_doc.new.rows.items _ c.loop-number.invariant.text c.in_ok-push_doc.ensures.utf8 c.in_ok-push_doc.ensures.ok }
 
 pub returns-clause-ok : goal.returns-clause-ok
-returns-clause-ok c = last_rows c.args.docs.now c.loop-number.number c.loop-number.rows (omega (arith, ap length c.as_slice-doc-items.ensures)) c.loop-number.invariant.told
+returns-clause-ok c = c.from_vec.ensures ∙ last_rows c.args.docs.now c.loop-number.number c.loop-number.rows.items (omega (arith, ap length c.as_slice-doc-items.ensures)) c.loop-number.invariant.told
 
 pub returns-clause-few : goal.returns-clause-few
 returns-clause-few c =
-    omega (arith, ap length (last_rows c.args.docs.now c.loop-number.number c.loop-number.rows (omega (arith, ap length c.as_slice-doc-items.ensures)) c.loop-number.invariant.told), c.loop-number.invariant.few)
+    omega (arith, ap length (last_rows c.args.docs.now c.loop-number.number c.loop-number.rows.items (omega (arith, ap length c.as_slice-doc-items.ensures)) c.loop-number.invariant.told), c.loop-number.invariant.few)

@@ -10,4 +10,4 @@ pub returns : goal.returns
 returns c =
     let all = YieldsList-end (YieldsList-at c.into_iter-piece-iterator.ensures.into_iter_gives (YieldsList-from_str_split_at _ is_gap c.args.key.now c.utf8.key
     c.split-piece-items.ensures.text c.split-piece-items.ensures.has_more c.split-piece-items.ensures.pattern (λ x r q k. search (rules, tests)))) c.loop-piece.yielded _ c.loop-piece.yielded_by _ _ c.in-None.is c.next.ensures.steps in
-    record { ok = c.loop-piece.invariant ∙ ap words_in all.0 }
+    record { ok = c.from_vec.ensures ∙ c.loop-piece.invariant ∙ ap words_in all.0 }

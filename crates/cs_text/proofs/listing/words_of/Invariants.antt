@@ -4,4 +4,4 @@ use Rattle.cs_text.specs.WordPieces.{words_in}
 use Rattle.cs_text.proofs.listing.words_of.Given as goal
 
 abbrev pub invariant-loop-piece : goal.invariant-loop-piece
-invariant-loop-piece l = l.found ≡ words_in (map (λ x. chars x.now) l.yielded)
+invariant-loop-piece l = l.found.items ≡ words_in (map (λ x. chars x.now) l.yielded)
