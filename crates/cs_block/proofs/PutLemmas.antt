@@ -69,7 +69,7 @@ kept_twice a b c p q =
     let le : length a ≤ length b = omega (arith, ap length p, length-take (length a) b) in
     sym (take-take (length a) (length b) c le) ∙ ap (take (length a)) q ∙ p
 
-pub block_put : (first a b c d : List ℕ) (rs : List Post) (lo : ℕ) → a ≡ first ++ gap_column 0 rs → b ≡ a ++ word_column lo rs → c ≡ b ++ position_column rs
-    → d ≡ c ++ score_column rs → d ≡ first ++ block_bytes rs lo
+pub block_put : (first a b c : List ℕ) (rs : List Post) (lo : ℕ) → a ≡ first ++ gap_column 0 rs → b ≡ (a ++ word_column lo rs) ++ position_column rs
+    → c ≡ b ++ score_column rs → c ≡ first ++ block_bytes rs lo
 unfolding block_bytes
-block_put first a b c d rs lo p q r s = s ∙ rw (r, q, p) (simp append_assoc)
+block_put first a b c rs lo p q r = r ∙ rw (q, p) (simp append_assoc)

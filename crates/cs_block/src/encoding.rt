@@ -34,8 +34,7 @@ fn put_columns(rows: &Cols, lo: u32, out: &mut Vec<u8>) -> Result<(), Memory>
     ensures kept { take (length out.old.items) out.new.items ≡ out.old.items }
 {
     put_gaps(rows, out)?;
-    put_words(rows, lo, out)?;
-    put_positions(rows, out)?;
+    put_numbers(rows, lo, out)?;
     put_scores(rows, out)?;
     Ok(())
 }
@@ -55,25 +54,31 @@ fn put_gaps(rows: &Cols, out: &mut Vec<u8>) -> Result<(), Memory>
     Ok(())
 }
 
-fn put_words(rows: &Cols, lo: u32, out: &mut Vec<u8>) -> Result<(), Memory>
+// Adds the columns of two bytes and of four.
+fn put_numbers(rows: &Cols, lo: u32, out: &mut Vec<u8>) -> Result<(), Memory>
     requires { HasWords lo rows.now.posts }
 
-    ensures ok { OnOk result (out.new.items ≡ out.old.items ++ word_column lo rows.now.posts) }
+    ensures ok { OnOk result (out.new.items ≡ (out.old.items ++ word_column lo rows.now.posts) ++ position_column rows.now.posts) }
     ensures kept { take (length out.old.items) out.new.items ≡ out.old.items }
 {
-    out.reserve(2 * rows.len())?;
+    let Some(bytes) = rows.len().checked_mul(6) else {
+        return Err(Memory);
+    };
+    out.reserve(bytes)?;
+    // a local, so that no byte can lie over where the bytes begin
     let taken = replace(out, Vec::new(*out.allocator()));
-    *out = with_words(taken, rows, lo);
+    *out = with_positions(with_words(taken, rows, lo), rows);
     Ok(())
 }
 
-// The bytes with those of the words behind them. They are a local, so that no byte can lie over where they begin.
 #[inline]
 fn with_words(mut out: Vec<u8>, rows: &Cols, lo: u32) -> Vec<u8>
     requires words { HasWords lo rows.now.posts }
     requires room { vec_len out + 2 * length rows.now.posts ≤ vec_capacity out }
 
-    ensures { result.items ≡ out.items ++ word_column lo rows.now.posts }
+    ensures items { result.items ≡ out.items ++ word_column lo rows.now.posts }
+    ensures len { vec_len result ≡ vec_len out + 2 * length rows.now.posts }
+    ensures capacity { vec_capacity result ≡ vec_capacity out }
 {
     for i in 0..rows.len() {
         let [a, b] = ((rows.get(i).word - lo) as u16).to_be_bytes();
@@ -83,23 +88,9 @@ fn with_words(mut out: Vec<u8>, rows: &Cols, lo: u32) -> Vec<u8>
     out
 }
 
-fn put_positions(rows: &Cols, out: &mut Vec<u8>) -> Result<(), Memory>
-    ensures ok { OnOk result (out.new.items ≡ out.old.items ++ position_column rows.now.posts) }
-    ensures kept { take (length out.old.items) out.new.items ≡ out.old.items }
-{
-    let Some(bytes) = rows.len().checked_mul(4) else {
-        return Err(Memory);
-    };
-    out.reserve(bytes)?;
-    let taken = replace(out, Vec::new(*out.allocator()));
-    *out = with_positions(taken, rows);
-    Ok(())
-}
-
-// The same of the positions.
 #[inline]
 fn with_positions(mut out: Vec<u8>, rows: &Cols) -> Vec<u8>
-    requires room { vec_len out + 4 * length rows.now.posts ≤ vec_capacity out }
+    requires { vec_len out + 4 * length rows.now.posts ≤ vec_capacity out }
 
     ensures { result.items ≡ out.items ++ position_column rows.now.posts }
 {

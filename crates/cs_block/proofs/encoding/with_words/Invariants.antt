@@ -1,4 +1,4 @@
-use Rattle.std.proofs.Common.{◌++◌, ◌+◌, ◌-◌, ◌*◌, ◌≤◌, drop, length}
+use Rattle.std.proofs.Common.{◌≡◌, ◌++◌, ◌+◌, ◌*◌, drop}
 use Rattle.std.specs.Vec.{vec_len, vec_capacity}
 use Rattle.cs_model_index.specs.Blocks.{word_column}
 use Rattle.cs_block.specs.BlockSpelling.{HasWords}
@@ -9,5 +9,6 @@ abbrev pub invariant-loop-i : goal.invariant-loop-i
 invariant-loop-i l = record {
   put : IsPutting (l.fn.out.items ++ word_column l.lo l.rows.posts) l.fn.out.items l.out.items (word_column l.lo (drop l.i l.rows.posts));
   fit : HasWords l.lo (drop l.i l.rows.posts);
-  room : vec_len l.out + 2 * (length l.rows.posts - l.i) ≤ vec_capacity l.out;
+  len : vec_len l.out ≡ vec_len l.fn.out + 2 * l.i;
+  capacity : vec_capacity l.out ≡ vec_capacity l.fn.out;
 }
