@@ -8,7 +8,6 @@
 --   table_told           their table
 --   kept_listed, all_listed     the rows in listed documents
 --   facet_counted        the table of a facet
---   facet_met            the blocks that hold a facet's words
 use Rattle.std.proofs.Common.{◌≡◌, ◌≢◌, ℕ, zero, suc, ◌+◌, ◌-◌, ◌<◌, ◌≤◌, ◌==◌, ◌&&◌, ◌||◌, Bool, true, false, cond, List, [], ◌∷◌, ◌++◌, length, get_or}
 use Rattle.std.proofs.Common.{take, drop, map, replicate, refl, sym, ap, ap₂, subst, ◌∙◌, arith, append-nil, length-take, length-drop, get_or-drop}
 use Rattle.std.proofs.Common.{get_or-take}
@@ -325,12 +324,6 @@ module _ (b : List ℕ) (i : IndexView) (stands : StandsFor b i) (is : IsIndex i
       let table_is = words_as_shown b i stands is (facet_posts lo hi listed)
       (kept_within i (in_listed listed) asked within) ws words cut first first_is shown shown_is in
       facet_told b i stands is base cut name copied asked (facet_posts lo hi listed) i.docs shown same rows refl kept table_is
-
--- the blocks that hold a facet's words
-pub facet_met : (i : IndexView) → IsIndex i → (name bytes prefix : List ℕ) (lo hi : ℕ) → bytes ≡ prefix → prefix ≡ named name [] → IsRange i.words bytes lo hi
-    → length (filter (is_met lo hi) i.heads) ≤ met_prefix (division i) (named name [])
-facet_met i is name bytes prefix lo hi read asked range = subst (λ p. length (filter (is_met lo hi) i.heads) ≤ met_prefix (division i) p) (read ∙ asked)
-    (prefix_met i is bytes lo hi range)
 
 -- a vector whose slice was lent lists the same documents
 pub listed_in : (i : IndexView) (hits : Base) (items lent : List Bool) {docs : ℕ} → docs ≡ i.docs → AreListed docs hits items → lent ≡ items → AreListed i.docs hits lent

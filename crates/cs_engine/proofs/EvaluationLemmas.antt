@@ -1,7 +1,7 @@
 -- The loops over parts, alternatives and links of a query.
 --
 --   is_join              the rows of a join
---   linked_reads, met_part-is, met_query-is      the blocks of a level by those of what it holds
+--   linked_reads, joined_reads, met_part-is, met_query-is      the blocks of a level by those of what it holds
 --   entry_begins, entry_by_hits, entry_ends     the entry of the parts so far
 --   hits_go_on, hits_end        their hits
 --   part_begins, part_goes_on, part_ends        the rows of the alternatives so far
@@ -39,7 +39,7 @@ use Rattle.cs_model.specs.Answers.{PartRows, LinkedRows, atom_rows, chain_rows, 
 use Rattle.cs_model.specs.Answers.{rows_of_chain, rows_of_linked, rows_of_part, scored, union_of}
 use Rattle.cs_model.specs.Collection.{named}
 use Rattle.cs_model.specs.Corpus.{Corpus}
-use Rattle.cs_model_kept.specs.Due.{Division, atom_met, chain_met, linked_met, part_met, query_met, met_of_atom, met_of_chain, met_of_linked, met_of_part}
+use Rattle.cs_model_kept.specs.Due.{Division, atom_met, chain_met, linked_met, part_met, query_met, met_of_atom, met_of_chain, met_of_linked, met_of_part, met_prefix}
 use Rattle.cs_model_kept.specs.Due.{met_of_query}
 use Rattle.cs_model_kept.specs.Entries.{EntryOf, base_of, entry, entry_at, entry_of}
 use Rattle.cs_model_kept.specs.Entries as kept
@@ -69,6 +69,18 @@ module _ (v : Division) where
 
   pub linked_reads : (l : Linked) {before now : ℕ} → ReadsWithin (met_of_atom v (out-Linked l).atom) before now → ReadsWithin (met_of_linked v l) before now
   linked_reads l reads = record { later = reads.later; within = (let w = reads.within in let own = met_linked-is l in omega (arith, w, own)) }
+
+  met_join : (name : List ℕ) (inner : Query) → met_of_atom v (Join name inner) ≡ met_prefix v (named name []) + met_of_query v inner
+  unfolding roll-Atom denote.Hole.Carrier.roll
+  met_join name inner = fold-roll-Atom ℕ ℕ ℕ ℕ ℕ (atom_met v) chain_met linked_met part_met query_met (Atom-F.Join name inner)
+
+  pub joined_reads : {a : Atom} {name : List ℕ} {inner : Query} {before mid now : ℕ} → a ≡ Join name inner → ReadsWithin (met_of_query v inner) before mid
+      → ReadsWithin (met_prefix v (named name [])) mid now → ReadsWithin (met_of_atom v a) before now
+  joined_reads {name = name} {inner = inner} is query facet =
+      let own = ap (met_of_atom v) is ∙ met_join name inner in record {
+        later = (let x = query.later in let y = facet.later in omega (arith, x, y));
+        within = (let x = query.within in let y = facet.within in omega (arith, x, y, own));
+      }
 
   pub met_part-is : (p : Part) → met_of_part v p ≡ sum (map (met_of_chain v) (out-Part p).chains)
   met_part-is p = fold_out-Part ℕ ℕ ℕ ℕ ℕ (atom_met v) chain_met linked_met part_met query_met p

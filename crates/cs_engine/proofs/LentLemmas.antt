@@ -29,7 +29,7 @@ use Rattle.cs_model_kept.specs.KeptListLaws.{before_last}
 use Rattle.cs_engine.specs.Asking.{titles_asked}
 use Rattle.cs_engine.specs.Keeping.{FitsQuery, HoldsGood, IsEntryOver, KeepsFitting, entry_with}
 use Rattle.cs_engine.specs.IndexReading.{AreWithin}
-use Rattle.cs_engine.specs.declared.fault.AskFault.{AskFault}
+use Rattle.cs_file.specs.declared.fault.FetchFault.{FetchFault}
 use Rattle.cs_engine.proofs.KeepingLemmas.{extend_fits, extend_told, narrow_fits, narrow_told, narrowed_fits, same_fits, same_told}
 use Rattle.cs_engine.proofs.PlansLemmas.{Viewed, is_used, viewed}
 use Rattle.cs_engine.proofs.WalkLemmas.{within_more}
@@ -103,7 +103,7 @@ pub due_is : (v : Division) (r : Request) (by_plan : Plan) (titles : ℕ) → du
 unfolding due
 due_is v r by_plan titles = refl
 
-pub err_due : {T : Type 0} (q : Request) (r : Result (Reply × T) AskFault) → IsErr r → titles_asked q r ≡ q.hits
+pub err_due : {T : Type 0} (q : Request) (r : Result (Reply × T) FetchFault) → IsErr r → titles_asked q r ≡ q.hits
 err_due q (Ok r) h = absurd cc
 err_due q (Err e) h = refl
 
@@ -115,7 +115,7 @@ module _ (v : Division) (q : Request) (by_plan : Plan) {before now : ℕ} where
       → ReadsWithin (titles + met_by v q.query by_plan) before now
   all_reads own same titles a = subst (λ p. ReadsWithin (titles + met_by v q.query p) before now) (sym same) a
 
-  module _ {T : Type 0} (r : Result (Reply × T) AskFault) (is : IsErr r) where
+  module _ {T : Type 0} (r : Result (Reply × T) FetchFault) (is : IsErr r) where
     told_due : ReadsWithin (q.hits + met_by v q.query by_plan) before now → ReadsWithin (titles_asked q r + met_by v q.query by_plan) before now
     told_due = subst (λ t. ReadsWithin (t + met_by v q.query by_plan) before now) (sym (err_due q r is))
 

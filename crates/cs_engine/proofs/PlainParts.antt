@@ -1,28 +1,37 @@
 -- Parts that ask for the words from one number up to another.
 --
 --   prefix_words, exact_words      those of an atom
+--   words_told        what is read of the words from one number up to another
+--   facet_reads, join_reads     how much is read for the words of a facet, and for those of a join
 --   part_words        those of a part of one chain
 --   listed_entry, listed_fits      the entry of one part more, by the rows in listed documents
 use Rattle.std.proofs.Common.{◌≡◌, ℕ, ◌+◌, ◌-◌, ◌*◌, ◌<◌, ◌≤◌, ◌==◌, Bool, true, false, List, [], ◌∷◌, length, map, get_or, Option, None, Some, refl, sym}
 use Rattle.std.proofs.Common.{ap, subst, ◌∙◌, arith}
-use Rattle.std.specs.Prelude.{All, IfSome, filter, sum}
+use Rattle.std.specs.Prelude.{All, IfOk, IfSome, Result, filter, sum}
+use Rattle.std.proofs.lemmas.Result.{IfOk-weaker}
+use Rattle.std.specs.List.{list_any}
 use Rattle.std.specs.Str.{bytes_eq}
 use Rattle.cs_base.specs.declared.content.doc.Base.{Base}
 use Rattle.cs_base.specs.declared.content.doc.Base.TheVariants as base
 use Rattle.cs_base.specs.declared.content.doc.Post.{Post}
+use Rattle.cs_base.specs.declared.content.doc.Row.{Row}
 use Rattle.cs_base.specs.declared.content.query.Atom.{Atom}
-use Rattle.cs_base.specs.declared.content.query.Atom.TheVariants.{Prefix, Exact}
+use Rattle.cs_base.specs.declared.content.query.Atom.TheVariants.{Prefix, Exact, Join}
 use Rattle.cs_base.specs.declared.content.query.Chain.{Chain}
 use Rattle.cs_base.specs.declared.content.query.Part.{Part, out-Part}
+use Rattle.cs_base.specs.declared.content.query.Query.{Query}
+use Rattle.cs_base.specs.outside.Causes.{ReadsWithin}
 use Rattle.cs_base.proofs.ListsLemmas.{any_through}
 use Rattle.cs_base.specs.declared.content.scores.TheConstants.{MAX_ROW_SCORE}
 use Rattle.cs_file.specs.Indexes.{IndexView, IsIndex, StandsFor, is_met}
 use Rattle.cs_model.specs.Answers.{begins, rows_of_atom}
 use Rattle.cs_model.specs.Answers.{rows_of_chain, rows_of_part}
 use Rattle.cs_model.proofs.AnswersLemmas.{prefix_rows, exact_rows}
-use Rattle.cs_model_kept.specs.Due.{met_of_atom, met_of_chain, met_of_part}
+use Rattle.cs_model.specs.Collection.{named}
+use Rattle.cs_model.specs.Corpus.{Corpus}
+use Rattle.cs_model_kept.specs.Due.{met_of_atom, met_of_chain, met_of_part, met_of_query, met_prefix}
 use Rattle.cs_model_kept.specs.Entries.{EntryOf}
-use Rattle.cs_model_kept.proofs.DueLemmas.{met_prefix_atom}
+use Rattle.cs_model_kept.proofs.DueLemmas.{met_exact_atom, met_prefix_atom}
 use Rattle.cs_vocab.specs.Ranges.{IsRange}
 use Rattle.cs_engine.specs.Asking.{division}
 use Rattle.cs_engine.specs.Counting.{AreListed, in_listed}
@@ -31,11 +40,12 @@ use Rattle.cs_engine.specs.IndexReading.{AreWithin, HasRows, IsSpanOf, stock_of}
 use Rattle.cs_engine.specs.Steps.{EntryFits, IsBaseOf, is_in_base, posts_after}
 use Rattle.cs_engine.specs.Stocked.{corpus_in, is_between}
 use Rattle.cs_engine.proofs.CountingLemmas.{kept_listed, stock_within}
-use Rattle.cs_engine.proofs.EvaluationLemmas.{met_part-is, part_begins, part_ends, part_goes_on}
+use Rattle.cs_engine.proofs.EvaluationLemmas.{joined_reads, met_part-is, part_begins, part_ends, part_goes_on}
 use Rattle.cs_engine.proofs.RowsInRange.{kept_within}
 use Rattle.cs_engine.proofs.StockLemmas.{stocked}
 use Rattle.cs_engine.proofs.UnionLemmas.{with_nothing}
-use Rattle.cs_engine.proofs.AskedWords.{prefix_met, span_found}
+use Rattle.cs_engine.proofs.WalkLemmas.{within_more}
+use Rattle.cs_engine.proofs.AskedWords.{prefix_met, span_found, word_met}
 
 -- ---- atoms
 pub prefix_words : (i : IndexView) → IsIndex i → (a : Atom) (p bytes : List ℕ) (lo hi : ℕ) → a ≡ Prefix p → bytes ≡ p → IsRange i.words bytes lo hi
@@ -53,10 +63,12 @@ prefix_words i is a p bytes lo hi a_is same range = record {
 }
 
 pub exact_words : (i : IndexView) → IsIndex i → (a : Atom) (w bytes : List ℕ) (lo hi : ℕ) → a ≡ Exact w → bytes ≡ w
-    → IsSpanOf i.words (λ v. bytes_eq v bytes) lo hi → length (filter (is_met lo hi) i.heads) ≤ met_of_atom (division i) (Exact bytes)
+    → IsSpanOf i.words (λ v. bytes_eq v bytes) lo hi → hi ≤ lo + 1 → (list_any (bytes_eq bytes) i.words ≡ false → lo ≡ hi)
     → AreWordsOf i (met_of_atom (division i) a) (λ k. rows_of_atom k a) lo hi
-exact_words i is a w bytes lo hi a_is same span few =
+exact_words i is a w bytes lo hi a_is same span short none =
     let own : a ≡ Exact bytes = a_is ∙ ap Exact (sym same) in
+    let met = word_met i is bytes lo hi short none in
+    let few : length (filter (is_met lo hi) i.heads) ≤ met_of_atom (division i) (Exact bytes) = (let e = met_exact_atom (division i) bytes in omega (arith, met, e)) in
     record {
       ordered = span.ordered;
       within = span.within;
@@ -66,6 +78,22 @@ exact_words i is a w bytes lo hi a_is same span few =
           subst (λ rows. HasRows (stock_of b) rows (filter (is_between lo hi) (stock_of b).posts)) (sym (ap (rows_of_atom k) own ∙ exact_rows k bytes))
           (span_found b i stands is (λ v. bytes_eq v bytes) lo hi span.holds (filter (is_between lo hi) (stock_of b).posts) refl);
     }
+
+pub words_told : {i : IndexView} {met : ℕ} {rows : Corpus → List Row} {lo hi : ℕ} {T E : Type 0} (asks : AreWordsOf i met rows lo hi) (posts : T → List Post)
+    (r : Result T E) (b : List ℕ) → StandsFor b i → IfOk r (λ x. posts x ≡ filter (is_between lo hi) (stock_of b).posts)
+    → IfOk r (λ x. HasRows (stock_of b) (rows (corpus_in (stock_of b))) (posts x))
+words_told {rows = rows} asks posts r b stands h =
+    IfOk-weaker r _ _ (λ x is. subst (HasRows (stock_of b) (rows (corpus_in (stock_of b)))) (sym is) (asks.posts b stands)) h
+
+module _ (i : IndexView) (is : IsIndex i) {lo hi before now : ℕ} where
+  pub facet_reads : {p : List ℕ} → IsRange i.words p lo hi → ReadsWithin (length (filter (is_met lo hi) i.heads)) before now
+      → ReadsWithin (met_prefix (division i) p) before now
+  facet_reads {p} range reads = within_more reads (prefix_met i is p lo hi range)
+
+module _ (i : IndexView) (is : IsIndex i) {a : Atom} {name : List ℕ} {inner : Query} {lo hi before mid now : ℕ} where
+  pub join_reads : a ≡ Join name inner → IsRange i.words (named name []) lo hi → ReadsWithin (met_of_query (division i) inner) before mid
+      → ReadsWithin (length (filter (is_met lo hi) i.heads)) mid now → ReadsWithin (met_of_atom (division i) a) before now
+  join_reads joins range query facet = joined_reads (division i) joins query (within_more facet (prefix_met i is (named name []) lo hi range))
 
 -- ---- chains and parts
 pub one_chain : (chains : List Chain) (c : Chain) → length chains ≡ 1 → c ≡ get_or chains 0 c → chains ≡ c ∷ []

@@ -4,11 +4,11 @@
 --   is_used              each plan but Fresh uses one
 --   narrowed_rows        the rows of the words from one number up to another are those of the prefix that has these words
 --   IsLast q x, is_last      the part x is the last one of the query q
---   ends_first, ends_last, first_in, more_told, more_fits, last_met      one part more
+--   ends_first, ends_last, first_in, first_base, more_told, more_fits, last_met      one part more
 --   first_parts, more_by_words, all_met      the entry of the first parts, and of all by the last one's words
 --   nothing_own, nothing_over        the entry of a query without a part
 --   hits_are_in, found_by_entry      the hits of the query's own entry
-use Rattle.std.proofs.Common.{◌≡◌, ℕ, ◌+◌, ◌-◌, ◌*◌, ◌≤◌, Bool, false, not, List, [], ◌∷◌, length, map, take, get_or, refl, sym, ap, subst, ◌∙◌, arith}
+use Rattle.std.proofs.Common.{◌≡◌, ℕ, ◌+◌, ◌-◌, ◌*◌, ◌≤◌, ◌^◌, Bool, true, false, not, List, [], ◌∷◌, length, map, take, get_or, refl, sym, ap, subst, ◌∙◌, arith}
 use Rattle.std.proofs.Common.{length-take, Option, Some, None, IsSome, suc}
 use Rattle.std.specs.Prelude.{filter, sum, IfSome}
 use Rattle.std.proofs.lemmas.List.{take_all}
@@ -37,18 +37,19 @@ use Rattle.cs_model_kept.specs.KeptList.{KeptOf, plan_by, used_entry}
 use Rattle.cs_model_kept.specs.KeptListLaws.{before_last}
 use Rattle.cs_model_kept.proofs.EntryLemmas.{parts_read}
 use Rattle.cs_model_kept.proofs.PlanLemmas.{plans_are_held}
+use Rattle.cs_rank.specs.DocScores.{IsBase}
 use Rattle.cs_vocab.specs.Ranges.{IsRange}
 use Rattle.cs_engine.specs.Asking.{division}
 use Rattle.cs_engine.specs.Keeping.{FitsQuery, IsEntryOver, entry_with}
 use Rattle.cs_engine.specs.Loose.{IsEntryByWords}
 use Rattle.cs_engine.specs.Plain.{AreWordsOf}
 use Rattle.cs_engine.specs.IndexReading.{AreWithin, IsWithin, stock_of}
-use Rattle.cs_engine.specs.Steps.{AreFound, AreHitsOver, EntryFits, IsBaseOf, IsStep, end_positive, last_is_positive, posts_after, posts_hits}
+use Rattle.cs_engine.specs.Steps.{AreFound, AreHitsOver, EntryFits, IsBaseOf, IsStep, end_positive, last_is_positive, most, posts_after, posts_hits}
 use Rattle.cs_engine.specs.Stocked.{corpus_in, is_between}
 use Rattle.cs_engine.proofs.EvaluationLemmas.{ends_read, entry_begins, entry_by_hits, entry_ends, entry_unrolled, hits_by, met_query-is, positive_more}
 use Rattle.cs_engine.proofs.FoundLemmas.{is_excluded}
 use Rattle.cs_engine.proofs.KeepingLemmas.{from_stock, in_stock}
-use Rattle.cs_engine.proofs.PartSteps.{base_weaker, hits_in, nothing_fits, step_told}
+use Rattle.cs_engine.proofs.PartSteps.{base_in, base_weaker, hits_in, nothing_fits, step_told}
 use Rattle.cs_engine.proofs.StockLemmas.{docs_are}
 
 -- ---- the entry that is lent
@@ -113,14 +114,25 @@ module _ (q : Query) where
   pub ends_first : (positive : Bool) → positive ≡ end_positive first → positive ≡ last_is_positive (before_last q)
   ends_first positive ends = ends ∙ sym (ap end_positive first_are)
 
-  pub first_in : (i : IndexView) (e : EntryOf Post) (positive : Bool) (hits : Base) → FitsQuery i (before_last q) e → positive ≡ end_positive first
-      → hits ≡ posts_hits positive e.base e.rows → IsBaseOf i.docs (MAX_ROW_SCORE * (length ps - 1)) hits
-  first_in i e positive hits fits ends are =
-      let many : length (out-Query (before_last q)).parts ≡ length ps - 1 = ap length first_are
-      ∙ (let l = length-take (length ps - 1) ps in omega (arith, l)) in
+  many_first : length (out-Query (before_last q)).parts ≡ length ps - 1
+  many_first = ap length first_are ∙ (let l = length-take (length ps - 1) ps in omega (arith, l))
+
+  pub first_in : (i : IndexView) (e : EntryOf Post) (hits : Base) → FitsQuery i (before_last q) e
+      → hits ≡ posts_hits (last_is_positive (before_last q)) e.base e.rows → IsBaseOf i.docs (MAX_ROW_SCORE * (length ps - 1)) hits
+  first_in i e hits fits are =
+      let positive = last_is_positive (before_last q) in
       subst (IsBaseOf i.docs (MAX_ROW_SCORE * (length ps - 1))) (sym are)
-      (hits_in i positive (length ps - 1) e (subst (λ n. EntryFits i positive n e) many
-      (subst (λ p. EntryFits i p (length (out-Query (before_last q)).parts) e) (sym (ends_first positive ends)) fits)))
+      (hits_in i positive (length ps - 1) e (subst (λ n. EntryFits i positive n e) many_first fits))
+
+  small_most : (positive : Bool) (n : ℕ) → n ≤ MAX_PARTS → most positive n ≤ 2 ^ 20
+  small_most true n few = omega (arith, few)
+  small_most false n few = omega (arith, few)
+
+  pub first_base : (i : IndexView) (e : EntryOf Post) → length ps ≤ MAX_PARTS → FitsQuery i (before_last q) e → IsBase e.base
+  first_base i e few fits =
+      let n = length (out-Query (before_last q)).parts in
+      let positive = last_is_positive (before_last q) in
+      base_in i.docs (most positive n) e.base (small_most positive n (omega (arith, few, many_first))) fits.base
 
   -- the last part says whether the query ends in a positive one
   pub ends_last : (x : Part) → IsLast q x → last_is_positive q ≡ not (out-Part x).excluded

@@ -2,8 +2,8 @@
 --
 --   well            the answer of what didn't fail
 --   nothing_read, reads_on      what no call leaves of a store, and one call behind another
---   block_change, title_change     a block or a title that breaks a rule is one of the index
---   fetch_fails, fails_behind, hands_on     a call that fails by its fetch, and one that fails behind others; its fault goes on
+--   block_fails, title_fails       a fetch that fails: the block or the title that breaks a rule is one of the index
+--   fails_behind, hands_on         a call that fails behind others; its fault goes on
 --   within_more, within_both    what is read is within more, and of two calls within the sum
 --   Walk            after some reads, each at most one: first before them, and k behind them
 --   walk_goes_on    after one more
@@ -15,25 +15,24 @@
 --   list_begins     before the first
 --   list_goes_on    after one more
 --   list_stops      what was read where the next one fails
-use Rattle.std.proofs.Common.{◌≡◌, ℕ, ◌+◌, ◌-◌, ◌<◌, ◌≤◌, false, List, length, map, drop, get_or, Option, Result, Ok, Err, refl, sym, ap, subst, ◌∙◌, arith, inl, inr}
+use Rattle.std.proofs.Common.{◌≡◌, ℕ, ◌+◌, ◌-◌, ◌<◌, ◌≤◌, List, length, map, drop, get_or, Option, Result, Ok, Err, refl, sym, ap, subst, ◌∙◌, arith, inl, inr}
 use Rattle.std.specs.Prelude.{filter, sum}
 use Rattle.std.specs.Result.{IsErrAnd}
 use Rattle.std.proofs.lemmas.List.Sums.{sum_by-cons}
 use Rattle.cs_base.specs.declared.index.block.BlockHead.{BlockHead}
 use Rattle.cs_base.specs.outside.Causes.{ReadsWithin}
-use Rattle.cs_file.specs.CallAnswers.{IsChangeOfBlock, IsChangeOfTitle, is_changed_of_fetch, is_read_of_fetch}
+use Rattle.cs_file.specs.CallAnswers.{IsChangeOfBlock, IsChangeOfTitle, LeavesStore, is_changed, is_read}
 use Rattle.cs_file.specs.Indexes.{AreMet, CausedReads, IndexView, is_met}
 use Rattle.cs_file.specs.declared.fault.FetchFault.{FetchFault}
 use Rattle.cs_file.specs.declared.fault.FetchFault.TheVariants as fetches
 use Rattle.cs_meet.proofs.Passes.{next_is}
-use Rattle.cs_engine.specs.Asking.{BreaksIndex, IsChangeIn, ask_fault, is_changed, is_read}
-use Rattle.cs_engine.specs.declared.fault.AskFault.{AskFault}
-use Rattle.cs_engine.specs.IndexReading.{OnlyReads, WhereStood}
+use Rattle.cs_engine.specs.Asking.{BreaksIndex, IsChangeIn}
+use Rattle.cs_engine.specs.IndexReading.{OnlyReads}
 use Rattle.cs_engine.proofs.RowsInRange.{met_count}
 
 -- ---- calls
 -- the answer of what didn't fail
-abbrev pub well : Result (Unit {0}) AskFault
+abbrev pub well : Result (Unit {0}) FetchFault
 well = Ok tt
 
 pub nothing_read : {S L : Type 0} {tells : S → Option (List ℕ)} {lends : S → L} {fails : S → ℕ} {i : IndexView} {old : S}
@@ -47,8 +46,8 @@ nothing_read = record {
 }
 
 module _ {S L : Type 0} {tells : S → Option (List ℕ)} {lends : S → L} {fails : S → ℕ} {i : IndexView} {old now next : S} where
-  pub reads_on : {T : Type 0} {x : T} → OnlyReads tells lends fails i old now well → OnlyReads tells lends fails i now next (Ok x)
-      → OnlyReads tells lends fails i old next well
+  pub reads_on : {T : Type 0} {x : T} {Told : FetchFault → Type 0} → OnlyReads tells lends fails i old now well
+      → LeavesStore tells lends fails i Told now next (Ok x) → OnlyReads tells lends fails i old next well
   reads_on a b = record {
     unchanged = λ b is stands. refl;
     changed = tt;
@@ -72,34 +71,31 @@ within_both a b less = record {
 }
 
 -- ---- changes
-pub block_change : (i : IndexView) (told : Option (List ℕ)) (k : ℕ) (e : FetchFault) → k < length i.heads → IsChangeOfBlock i told k e
-    → IsChangeIn i told (ask_fault e)
+block_change : (i : IndexView) (told : Option (List ℕ)) (k : ℕ) (e : FetchFault) → k < length i.heads → IsChangeOfBlock i told k e → IsChangeIn i told e
 unfolding BreaksIndex
 block_change i told k (fetches.Changed rule at) l h = inl (k, l, h)
 block_change i told k fetches.Read l h = tt
 block_change i told k fetches.Memory l h = tt
 
-pub title_change : (i : IndexView) (told : Option (List ℕ)) (d : ℕ) (e : FetchFault) → d < i.docs → IsChangeOfTitle i told d e
-    → IsChangeIn i told (ask_fault e)
+title_change : (i : IndexView) (told : Option (List ℕ)) (d : ℕ) (e : FetchFault) → d < i.docs → IsChangeOfTitle i told d e → IsChangeIn i told e
 unfolding BreaksIndex
 title_change i told d (fetches.Changed rule at) l h = inr (d, l, h)
 title_change i told d fetches.Read l h = tt
 title_change i told d fetches.Memory l h = tt
 
--- the fault of a block or of a title is the fault of a request
-pub fetch_fails : {S L U : Type 0} {tells : S → Option (List ℕ)} {lends : S → L} {fails : S → ℕ} {i : IndexView} {old now : S} (e : FetchFault)
-    → WhereStood (tells old) i (λ b. is_changed_of_fetch {T = Unit {0}} (Err e) ≡ false) → IsChangeIn i (tells old) (ask_fault e) → tells now ≡ tells old
-    → lends now ≡ lends old → CausedReads (is_read_of_fetch {T = Unit {0}} (Err e)) (fails old) (fails now)
-    → OnlyReads {T = U} tells lends fails i old now (Err (ask_fault e))
-fetch_fails (fetches.Changed rule at) stood change bytes lent caused =
-    record { unchanged = stood; changed = change; bytes = bytes; lent = lent; caused = caused }
-fetch_fails fetches.Read stood change bytes lent caused =
-    record { unchanged = stood; changed = change; bytes = bytes; lent = lent; caused = caused }
-fetch_fails fetches.Memory stood change bytes lent caused =
-    record { unchanged = stood; changed = change; bytes = bytes; lent = lent; caused = caused }
+module _ {S L T U : Type 0} {tells : S → Option (List ℕ)} {lends : S → L} {fails : S → ℕ} {i : IndexView} {old now : S} {n : ℕ} {e : FetchFault} where
+  pub block_fails : n < length i.heads → LeavesStore {T = T} tells lends fails i (IsChangeOfBlock i (tells old) n) old now (Err e)
+      → OnlyReads {T = U} tells lends fails i old now (Err e)
+  block_fails l h =
+      record { unchanged = h.unchanged; changed = block_change i (tells old) n e l h.changed; bytes = h.bytes; lent = h.lent; caused = h.caused }
+
+  pub title_fails : n < i.docs → LeavesStore {T = T} tells lends fails i (IsChangeOfTitle i (tells old) n) old now (Err e)
+      → OnlyReads {T = U} tells lends fails i old now (Err e)
+  title_fails l h =
+      record { unchanged = h.unchanged; changed = title_change i (tells old) n e l h.changed; bytes = h.bytes; lent = h.lent; caused = h.caused }
 
 -- behind calls that didn't fail, the fault of the next one
-module _ {S L T U : Type 0} {tells : S → Option (List ℕ)} {lends : S → L} {fails : S → ℕ} {i : IndexView} {old now next : S} {x : T} {e : AskFault} where
+module _ {S L T U : Type 0} {tells : S → Option (List ℕ)} {lends : S → L} {fails : S → ℕ} {i : IndexView} {old now next : S} {x : T} {e : FetchFault} where
   pub fails_behind : OnlyReads tells lends fails i old now (Ok x) → OnlyReads {T = U} tells lends fails i now next (Err e)
       → OnlyReads {T = U} tells lends fails i old next (Err e)
   fails_behind a b = record {
@@ -111,8 +107,8 @@ module _ {S L T U : Type 0} {tells : S → Option (List ℕ)} {lends : S → L} 
   }
 
 -- the fault goes on as it is
-pub hands_on : {S L U : Type 0} {tells : S → Option (List ℕ)} {lends : S → L} {fails : S → ℕ} {i : IndexView} {old now : S} {e : AskFault}
-    (r : Result U AskFault) → IsErrAnd r (λ x. x ≡ e) → OnlyReads {T = U} tells lends fails i old now (Err e) → OnlyReads tells lends fails i old now r
+pub hands_on : {S L U : Type 0} {tells : S → Option (List ℕ)} {lends : S → L} {fails : S → ℕ} {i : IndexView} {old now : S} {e : FetchFault}
+    (r : Result U FetchFault) → IsErrAnd r (λ x. x ≡ e) → OnlyReads {T = U} tells lends fails i old now (Err e) → OnlyReads tells lends fails i old now r
 hands_on (Ok x) is a = absurd is
 hands_on {tells = tells} {lends = lends} {fails = fails} {i = i} {old = old} {now = now} (Err x) is a = record {
   unchanged = λ b told stands. ap (λ y. is_changed {T = Unit {0}} (Err y)) is ∙ a.unchanged b told stands;
@@ -131,8 +127,8 @@ pub record Walk {S L : Type 0} (tells : S → Option (List ℕ)) (lends : S → 
 
 module _ {S L : Type 0} {tells : S → Option (List ℕ)} {lends : S → L} {fails counts : S → ℕ} {i : IndexView} {old now : S} {first k : ℕ}
     (w : Walk tells lends fails counts i old now first k) where
-  pub walk_goes_on : {next : S} → OnlyReads tells lends fails i now next well → ReadsWithin 1 (counts now) (counts next)
-      → Walk tells lends fails counts i old next first (k + 1)
+  pub walk_goes_on : {next : S} {T : Type 0} {x : T} {Told : FetchFault → Type 0} → LeavesStore tells lends fails i Told now next (Ok x)
+      → ReadsWithin 1 (counts now) (counts next) → Walk tells lends fails counts i old next first (k + 1)
   walk_goes_on store one = record {
     store = reads_on w.store store;
     later = (let l = one.later in omega (arith, l, w.later));

@@ -13,7 +13,7 @@
 --   HasRows s rows posts        posts of the stock that stand for these rows
 --   run_of blocks first last t  the posts that pass a test in the blocks from number first up to last, one block behind the other
 --   IsSpanOf ws test lo hi      the words that pass a test are those from lo up to hi, both within the vocabulary
-use Rattle.std.specs.Prelude.{◌≡◌, ℕ, ◌-◌, ◌≤◌, ◌<◌, Bool, false, List, length, take, drop, filter, flat_map, Option, Result, IfErr}
+use Rattle.std.specs.Prelude.{◌≡◌, ℕ, ◌-◌, ◌≤◌, ◌<◌, Bool, List, length, take, drop, filter, flat_map, Option, Result}
 use Rattle.std.specs.List.{All}
 use Rattle.std.specs.Option.{ForSome}
 use Rattle.std.specs.Ordering.{nat_cmp, then_cmp, on}
@@ -23,12 +23,13 @@ use Rattle.cs_base.specs.content.Orders.{AreSorted, by_place}
 use Rattle.cs_base.specs.declared.content.doc.Post.{Post}
 use Rattle.cs_base.specs.declared.content.doc.Row.{Row}
 use Rattle.cs_base.specs.declared.content.scores.TheConstants.{MAX_ROW_SCORE}
-use Rattle.cs_file.specs.Indexes.{CausedReads, HasAllBlocks, IndexView, IsIndex, StandsFor}
+use Rattle.cs_file.specs.CallAnswers.{LeavesStore}
+use Rattle.cs_file.specs.declared.fault.FetchFault.{FetchFault}
+use Rattle.cs_file.specs.Indexes.{HasAllBlocks, IndexView, IsIndex, StandsFor}
 use Rattle.cs_model_index.specs.Images.{image_posts}
 use Rattle.cs_model_index.specs.Sections.{image_of}
 use Rattle.cs_model_index.specs.Numbered.{rows_at}
-use Rattle.cs_engine.specs.Asking.{IsChangeIn, is_changed, is_read}
-use Rattle.cs_engine.specs.declared.fault.AskFault.{AskFault}
+use Rattle.cs_engine.specs.Asking.{IsChangeIn}
 use Rattle.cs_engine.specs.Stocked.{Stock, IsPicked, HoldsBetween}
 
 -- the score comes last, which the other three determine in an index
@@ -48,15 +49,9 @@ pub record IsOpened (told : Option (List ℕ)) (i : IndexView) : Type 0 where
   pub index : IsIndex i
   pub fits : HasAllBlocks told i
 
--- its bytes and what is lent to it are as they were, its count of failures rose exactly where the answer is a failed read, and a
--- change is told only where its bytes break a rule, never of those that it was opened over
-pub record OnlyReads {S L T : Type 0} (tells : S → Option (List ℕ)) (lends : S → L) (fails : S → ℕ) (i : IndexView) (old now : S)
-    (r : Result T AskFault) : Type 0 where
-  pub unchanged : WhereStood (tells old) i (λ b. is_changed r ≡ false)
-  pub changed : IfErr r (IsChangeIn i (tells old))
-  pub bytes : tells now ≡ tells old
-  pub lent : lends now ≡ lends old
-  pub caused : CausedReads (is_read r) (fails old) (fails now)
+-- the change that the answer may tell is that of a block or of a title of the index
+abbrev pub OnlyReads : {S L T : Type 0} → (S → Option (List ℕ)) → (S → L) → (S → ℕ) → IndexView → S → S → Result T FetchFault → Type 0
+OnlyReads tells lends fails i old now r = LeavesStore tells lends fails i (IsChangeIn i (tells old)) old now r
 
 -- none where lo is hi
 pub record IsWordRange (i : IndexView) (lo hi : ℕ) : Type 0 where

@@ -46,7 +46,7 @@ use Rattle.cs_model_kept.specs.Entries.{EntryOf, entry_at, entry_of}
 use Rattle.cs_model_kept.specs.KeptList.{KeptOf, GoodFor, after, kept_at, kept_by, kept_fresh, plan_by, put_in_front, to_front, used_key, is_same}
 use Rattle.cs_engine.specs.HeldFacets.{AreFacetsOver, FacetView}
 use Rattle.cs_engine.specs.Steps.{EntryFits, last_is_positive}
-use Rattle.cs_engine.specs.declared.fault.AskFault.{AskFault}
+use Rattle.cs_file.specs.declared.fault.FetchFault.{FetchFault}
 use Rattle.cs_engine.specs.declared.note.Note.{Note}
 
 -- an index that was opened, the kept entries with how many there may be, and facets with their rows; an engine begins with none
@@ -115,7 +115,7 @@ abbrev pub IsLeftBehind : Query → AnswerList → AnswerList → Type 0
 IsLeftBehind q old new = (new.entries ≡ old.entries) ⊎ (new.entries ≡ fronted q old)
 
 -- after a reply, and after a refusal; how many there may be stays
-abbrev pub KeepsAnswers : IndexView → Query → AnswerList → Result (Reply × Note) AskFault → AnswerList → Type 0
+abbrev pub KeepsAnswers : IndexView → Query → AnswerList → Result (Reply × Note) FetchFault → AnswerList → Type 0
 KeepsAnswers i q old (Ok r) new = (new.capacity ≡ old.capacity) × (r.1.plan ≡ note_plan q old) × WasHad r.1 × IsKeptBehind i q r.1.kept old new
 KeepsAnswers i q old (Err e) new = (new.capacity ≡ old.capacity) × IsLeftBehind q old new
 
@@ -146,7 +146,7 @@ abbrev pub AreGood : List ℕ → EngineView → Type 0
 AreGood b e = HoldsGood b e.index e.answers.entries × AreFacetsOver b e.facets
 
 -- the entries of the corpus are those that a query leaves, its own kept unless it is too large; nothing is said of a refusal
-abbrev pub IsAfter : List ℕ → Query → EngineView → Result (Reply × Note) AskFault → EngineView → Type 0
+abbrev pub IsAfter : List ℕ → Query → EngineView → Result (Reply × Note) FetchFault → EngineView → Type 0
 IsAfter b q old (Ok r) new =
     (r.1.kept ≡ kept_by r.1.plan (entry_of (file_corpus b) q))
     × (kept_at new.index.words new.answers.entries ≡ after (kept_at old.index.words old.answers.entries) old.answers.capacity q r.1.kept (file_corpus b))

@@ -12,11 +12,10 @@ ghost use Rattle.cs_engine.specs.Stocked.{corpus_in, facet_at};
 
 use crate::counting::listed_docs;
 use crate::facets::{FacetRows, counted, facet_of};
-use crate::fault::AskFault;
 use crate::hits::listed;
 use crate::replies::shown_words;
 use cs_base::{Base, Memory, Scored, Seq, Store};
-use cs_file::Index;
+use cs_file::{FetchFault, Index};
 use cs_query::{FacetShown, HitShown, Reply, Request};
 use cs_rank::top;
 use cs_tables::Table;
@@ -31,7 +30,7 @@ pub(crate) fn reply_of<S: Store>(
     request: &Request,
     hits: Base,
     table: Table,
-) -> Result<Reply, AskFault>
+) -> Result<Reply, FetchFault>
     requires base { IsBaseOf index.now.docs (MAX_ROW_SCORE * MAX_PARTS) hits }
     requires table { All (λ w. w.word < length index.now.words) table.first }
     requires held { HoldsFacets index.now held.now (asked request.now).facets }
@@ -113,7 +112,7 @@ fn shown_hits<S: Store>(
     index: &Index,
     store: &mut S,
     hits: &[Scored],
-) -> Result<Seq<HitShown>, AskFault>
+) -> Result<Seq<HitShown>, FetchFault>
     requires known { All (λ h. h.doc < index.now.docs) hits.now }
     requires opened { IsOpened (S.bytes store.old) index.now }
 

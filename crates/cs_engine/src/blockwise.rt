@@ -10,10 +10,9 @@ ghost use Rattle.cs_engine.specs.{IndexReading.{IsOpened, IsWordRange, OnlyReads
 
 use crate::best::{raise_keys, raise_rows, scored_in, zeros};
 use crate::counting::count_keys;
-use crate::fault::AskFault;
 use crate::gathering::Gathered;
 use cs_base::{Base, BlockHead, Scored, Seq, Store};
-use cs_file::{Fetched, Index};
+use cs_file::{FetchFault, Fetched, Index};
 use cs_model_kept::MAX_ENTRY_SIZE;
 use cs_tables::{Table, WordCounts};
 use std::alloc::Global;
@@ -57,7 +56,7 @@ pub(crate) fn found_behind<S: Store>(
     listed: &[bool],
     gathered: &Gathered,
     cut: u32,
-) -> Result<(Seq<Scored>, Table), AskFault>
+) -> Result<(Seq<Scored>, Table), FetchFault>
     requires words { IsWordRange index.now words.0 words.1 }
     requires base { IsBaseOf index.now.docs (MAX_ROW_SCORE * (MAX_PARTS - 1)) hits.now }
     requires listed { AreListed index.now.docs hits.now listed.now }

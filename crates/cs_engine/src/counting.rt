@@ -8,7 +8,6 @@ ghost use Rattle.cs_tables.specs.{TableListings.{post_table}, WordCounts.{AreCou
 ghost use Rattle.cs_engine.specs.{Counting.{AreListed, AreMarked, in_listed}, Packing.{post_of_key}};
 ghost use Rattle.cs_engine.specs.{IndexReading.{IsOpened, IsWordRange, OnlyReads, WhereStood, stock_of}, Steps.{IsBaseOf}, Stocked.{is_between}};
 
-use crate::fault::AskFault;
 use crate::packing::post_of;
 use cs_base::{Base, Memory, Scored, Store};
 use cs_file::{Fetched, Index};

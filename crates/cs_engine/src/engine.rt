@@ -8,16 +8,16 @@ ghost use Rattle.cs_model.specs.{Parameters.{HoldsLimits}, Requests.{reply_of}};
 ghost use Rattle.cs_model_index.specs.Sections.{file_corpus};
 ghost use Rattle.cs_model_kept.specs.{Due.{due}, KeptList.{plan_by, is_same}, declared.limits.TheConstants.{MAX_ENTRIES}};
 ghost use Rattle.cs_query.specs.RequestView.{asked};
-ghost use Rattle.cs_engine.specs.Asking.{IsChangeIn, division, is_read, is_changed, titles_asked};
+ghost use Rattle.cs_engine.specs.Asking.{IsChangeIn, division, titles_asked};
+ghost use Rattle.cs_file.specs.CallAnswers.{is_changed, is_read};
 ghost use Rattle.cs_engine.specs.Keeping.{AreGood, IsAfter, KeepsAnswers, became, entries_behind, note_plan};
 
 use crate::facets::{FacetRows, hold_facets};
-use crate::fault::AskFault;
 use crate::note::Note;
 use crate::replying::answered;
 use cs_base::{Kept, Keys, Plan, Store};
 use cs_cache::{Answers, Entry};
-use cs_file::Index;
+use cs_file::{FetchFault, Index};
 use cs_query::{Reply, Request, keys};
 use std::alloc::Global;
 use std::marker::Model;
@@ -72,7 +72,7 @@ impl Engine {
         alloc: Global,
         store: &mut S,
         request: &Request,
-    ) -> Result<(Reply, Note), AskFault>
+    ) -> Result<(Reply, Note), FetchFault>
         requires limits { HoldsLimits (asked request.now) }
         requires fits { HasAllBlocks (S.bytes store.old) self.old.index }
 

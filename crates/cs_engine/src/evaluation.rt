@@ -6,12 +6,12 @@ ghost use Rattle.cs_model_kept.specs.Due.{met_of_atom, met_of_chain, met_of_part
 ghost use Rattle.cs_engine.specs.{Asking.{division}, IndexReading.{AreWithin, HasRows, IsOpened, OnlyReads, WhereStood, stock_of}, Stocked.{corpus_in}};
 
 use crate::entries::{agreeing, docs_of_base};
-use crate::fault::AskFault;
 use crate::parts::{joined, linked_rows};
-use crate::words::{rows_of_facet, rows_of_prefix, rows_of_word};
+use crate::reading::rows_between;
+use crate::words::{span_of_facet, span_of_word};
 use cs_base::{Atom, Base, Chain, Part, Query, Store};
 use cs_cols::Cols;
-use cs_file::Index;
+use cs_file::{FetchFault, Index};
 use cs_join::shared;
 use std::alloc::Global;
 
@@ -22,7 +22,7 @@ pub(crate) fn rows_of_part<S: Store>(
     index: &Index,
     store: &mut S,
     part: &Part,
-) -> Result<Cols, AskFault>
+) -> Result<Cols, FetchFault>
     requires opened { IsOpened (S.bytes store.old) index.now }
 
     ensures told { WhereStood (S.bytes store.old) index.now
@@ -46,7 +46,7 @@ fn rows_of_chain<S: Store>(
     index: &Index,
     store: &mut S,
     chain: &Chain,
-) -> Result<Cols, AskFault>
+) -> Result<Cols, FetchFault>
     requires opened { IsOpened (S.bytes store.old) index.now }
 
     ensures told { WhereStood (S.bytes store.old) index.now
@@ -70,7 +70,7 @@ fn rows_of_atom<S: Store>(
     index: &Index,
     store: &mut S,
     atom: &Atom,
-) -> Result<Cols, AskFault>
+) -> Result<Cols, FetchFault>
     requires opened { IsOpened (S.bytes store.old) index.now }
 
     ensures told { WhereStood (S.bytes store.old) index.now
@@ -81,16 +81,17 @@ fn rows_of_atom<S: Store>(
 {
     match atom {
         Atom::Prefix(prefix) => {
-            let rows = rows_of_prefix(alloc, index, store, prefix.as_str().as_bytes())?;
-            Ok(rows)
+            let words = index.range(prefix.as_str().as_bytes());
+            rows_between(alloc, index, store, words)
         }
         Atom::Exact(word) => {
-            let rows = rows_of_word(alloc, index, store, word.as_str().as_bytes())?;
-            Ok(rows)
+            let words = span_of_word(index, word.as_str().as_bytes());
+            rows_between(alloc, index, store, words)
         }
         Atom::Join { name, inner } => {
             let docs = docs_of_hits(alloc, index, store, inner)?;
-            let rows = rows_of_facet(alloc, index, store, name)?;
+            let words = span_of_facet(alloc, index, name)?;
+            let rows = rows_between(alloc, index, store, words)?;
             let kept = shared(alloc, &rows, docs.as_slice())?;
             Ok(kept)
         }
@@ -104,7 +105,7 @@ fn docs_of_hits<S: Store>(
     index: &Index,
     store: &mut S,
     query: &Query,
-) -> Result<Vec<u32>, AskFault>
+) -> Result<Vec<u32>, FetchFault>
     requires opened { IsOpened (S.bytes store.old) index.now }
 
     ensures told { WhereStood (S.bytes store.old) index.now

@@ -7,17 +7,16 @@ ghost use Rattle.cs_model.specs.Collection.{named};
 ghost use Rattle.cs_model_kept.specs.Due.{met_of_facets, met_prefix};
 ghost use Rattle.cs_tables.specs.WordCounts.{HasCounted};
 ghost use Rattle.cs_engine.specs.{Asking.{division}, Counting.{in_listed}, IndexReading.{IsOpened, OnlyReads, WhereStood}, Stocked.{is_between}};
-ghost use Rattle.cs_engine.specs.HeldFacets.{AreFacetsOver, CountsFacet, HoldsFacets, IsFacet, IsFacetOver, has_facet};
+ghost use Rattle.cs_engine.specs.HeldFacets.{AreFacetsOver, CountsFacet, HoldsFacets, IsFacet, has_facet};
 
-use crate::fault::AskFault;
 use crate::hits::numbers_of;
 use crate::reading::rows_between;
+use crate::words::span_of_facet;
 use cs_base::{Base, Memory, Store, Text};
 use cs_cols::Cols;
-use cs_file::Index;
+use cs_file::{FetchFault, Index};
 use cs_meet::keep_docs;
 use cs_tables::WordCounts;
-use cs_text::named_word;
 use std::alloc::Global;
 use std::marker::Model;
 
@@ -60,7 +59,7 @@ pub(crate) fn hold_facets<S: Store>(
     store: &mut S,
     names: &[Text],
     held: &mut Vec<FacetRows>,
-) -> Result<(), AskFault>
+) -> Result<(), FetchFault>
     requires facets { All (IsFacet index.now) held.old.items }
     requires fits { HasAllBlocks (S.bytes store.old) index.now }
 
@@ -92,14 +91,14 @@ fn forget_many(held: &mut Vec<FacetRows>)
     }
 }
 
-// Reads the rows of a facet, where it isn't held yet.
+// Reads the rows of a facet, in order, where it isn't held yet. Each block that holds such a row is read once.
 fn hold_facet<S: Store>(
     alloc: Global,
     index: &Index,
     store: &mut S,
     name: &Text,
     held: &mut Vec<FacetRows>,
-) -> Result<(), AskFault>
+) -> Result<(), FetchFault>
     requires opened { IsOpened (S.bytes store.old) index.now }
 
     ensures facets { All (IsFacet index.now) held.old.items → All (IsFacet index.now) held.new.items }
@@ -112,7 +111,15 @@ fn hold_facet<S: Store>(
     if has_facet(held.as_slice(), name) {
         return Ok(());
     }
-    let facet = read_facet(alloc, index, store, name)?;
+    let words = span_of_facet(alloc, index, name)?;
+    let rows = rows_between(alloc, index, store, words)?;
+    let copied = name.copy(alloc)?;
+    let facet = FacetRows {
+        name: copied,
+        low: words.0,
+        high: words.1,
+        rows,
+    };
     add_facet(held, facet)?;
     Ok(())
 }
@@ -129,33 +136,6 @@ fn has_facet(held: &[FacetRows], name: &Text) -> bool
     ensures { result ≡ has_facet held.now name.now }
 {
     held.iter().any(|facet| facet.name == *name)
-}
-
-// A facet with its rows, in order. Each block that holds such a row is read once.
-fn read_facet<S: Store>(
-    alloc: Global,
-    index: &Index,
-    store: &mut S,
-    name: &Text,
-) -> Result<FacetRows, AskFault>
-    requires opened { IsOpened (S.bytes store.old) index.now }
-
-    ensures name { IfOk result (λ f. f.name ≡ name.now) }
-    ensures facet { IfOk result (IsFacet index.now) }
-    ensures told { WhereStood (S.bytes store.old) index.now (λ b. IfOk result (IsFacetOver b)) }
-    ensures store { OnlyReads S.bytes S.lent S.faults index.now store.old store.new result }
-    ensures reads { ReadsWithin (met_prefix (division index.now) (named name.now [])) (S.reads store.old) (S.reads store.new) }
-{
-    let prefix = named_word(alloc, name.as_str(), "")?;
-    let (low, high) = index.range(prefix.as_str().as_bytes());
-    let rows = rows_between(alloc, index, store, low, high)?;
-    let name = name.copy(alloc)?;
-    Ok(FacetRows {
-        name,
-        low,
-        high,
-        rows,
-    })
 }
 
 /// The facet of a name that is held.

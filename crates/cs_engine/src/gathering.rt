@@ -4,10 +4,9 @@ ghost use Rattle.cs_base.specs.outside.Causes.{ReadsWithin};
 ghost use Rattle.cs_file.specs.Indexes.{is_met};
 ghost use Rattle.cs_engine.specs.{GatheredRows.{HasGathered}, IndexReading.{IsOpened, IsWordRange, OnlyReads}};
 
-use crate::fault::AskFault;
 use crate::packing::pack;
 use cs_base::Store;
-use cs_file::{Index, Sought};
+use cs_file::{FetchFault, Index, Sought};
 use std::alloc::Global;
 
 /// The numbers of rows of some words, of the first blocks that hold such a word, and which blocks these are.
@@ -48,7 +47,7 @@ pub(crate) fn gather<S: Store>(
     words: (u32, u32),
     listed: &[bool],
     room: usize,
-) -> Result<Gathered, AskFault>
+) -> Result<Gathered, FetchFault>
     requires words { IsWordRange index.now words.0 words.1 }
     requires listed { length listed.now ≡ index.now.docs }
     requires opened { IsOpened (S.bytes store.old) index.now }

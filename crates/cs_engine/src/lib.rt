@@ -13,7 +13,6 @@ mod engine;
 mod entries;
 mod evaluation;
 mod facets;
-mod fault;
 mod gathering;
 mod hits;
 mod loose;
@@ -29,7 +28,7 @@ mod scored;
 mod steps;
 mod words;
 
+pub use cs_file::FetchFault as AskFault;
 pub use cs_query::{Reply, Request};
 pub use engine::Engine;
-pub use fault::AskFault;
 pub use note::Note;

@@ -16,13 +16,12 @@ use crate::answering::reply_of;
 use crate::blockwise::{are_many, found_behind};
 use crate::counting::listed_docs;
 use crate::facets::FacetRows;
-use crate::fault::AskFault;
 use crate::gathering::{Gathered, gather, nothing_gathered};
 use crate::packing::ordered;
 use crate::replying::with_reply;
 use cs_base::{Base, Store};
 use cs_cache::Entry;
-use cs_file::Index;
+use cs_file::{FetchFault, Index};
 use cs_model_kept::MAX_ENTRY_SIZE;
 use cs_query::{Reply, Request};
 use std::alloc::Global;
@@ -37,7 +36,7 @@ pub(crate) fn answered_by_words<S: Store>(
     request: &Request,
     hits: Base,
     words: (u32, u32),
-) -> Result<(Reply, Option<Entry>), AskFault>
+) -> Result<(Reply, Option<Entry>), FetchFault>
     requires limits { HoldsLimits (asked request.now) }
     requires asks { AreLastWords index.now request.now.query hits words.0 words.1 }
     requires held { HoldsFacets index.now held.now (asked request.now).facets }
@@ -108,7 +107,7 @@ fn reply_behind<S: Store>(
     words: (u32, u32),
     listed: &[bool],
     gathered: &Gathered,
-) -> Result<Reply, AskFault>
+) -> Result<Reply, FetchFault>
     requires limits { HoldsLimits (asked request.now) }
     requires asks { AreLastWords index.now request.now.query hits.now words.0 words.1 }
     requires listed { AreListed index.now.docs hits.now listed.now }

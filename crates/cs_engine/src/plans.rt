@@ -1,18 +1,19 @@
 //! A query by a kept entry or by hits: its own entry where a letter more is typed, and the reply to it and one part more.
 ghost use Rattle.std.specs.Prelude.{◌≡◌, ◌+◌, ◌-◌, ◌*◌, ◌≤◌, filter, length, IsSome, IfSome, IfOk};
+ghost use Rattle.cs_base.specs.content.Orders.{AreSorted};
 ghost use Rattle.cs_base.specs.{outside.Causes.{ReadsWithin}, declared.content.scores.TheConstants.{MAX_ROW_SCORE}, declared.content.query.Query.{out-Query}};
 ghost use Rattle.cs_model.specs.{Answers.{begins}, Keys.{last_of, last_prefix}, Parameters.{HoldsLimits}};
 ghost use Rattle.cs_model_index.specs.Numbered.{word_at};
 ghost use Rattle.cs_model_kept.specs.{Due.{met_of_last}, KeptListLaws.{before_last}};
 ghost use Rattle.cs_query.specs.RequestView.{asked};
+ghost use Rattle.cs_rank.specs.DocScores.{IsBase};
 ghost use Rattle.cs_engine.specs.{Asking.{division, titles_asked}, HeldFacets.{HoldsFacets, WhereHeld}};
-ghost use Rattle.cs_engine.specs.{Keeping.{FitsAnswer, FitsQuery, IsAnsweredOver, IsEntryOver, entry_with}, IndexReading.{AreWithin, IsOpened, OnlyReads}};
-ghost use Rattle.cs_engine.specs.Steps.{AreHitsOver, IsBaseOf};
+ghost use Rattle.cs_engine.specs.{Keeping.{FitsAnswer, IsAnsweredOver}, IndexReading.{AreWithin, IsOpened, OnlyReads}};
+ghost use Rattle.cs_engine.specs.Steps.{AreHitsOver, IsBaseOf, last_is_positive, posts_hits};
 
 use crate::between::posts_between;
 use crate::entries::{copy_of, hits_of};
 use crate::facets::FacetRows;
-use crate::fault::AskFault;
 use crate::loose::answered_by_words;
 use crate::plain::words_of_part;
 use crate::replying::with_reply;
@@ -20,7 +21,7 @@ use crate::steps::{end_positive, extended};
 use cs_base::{Base, Memory, Query, Store};
 use cs_cache::Entry;
 use cs_cols::Cols;
-use cs_file::Index;
+use cs_file::{FetchFault, Index};
 use cs_query::{Reply, Request, last_prefix};
 use std::alloc::Global;
 
@@ -52,35 +53,22 @@ pub(crate) fn narrowed(
     })
 }
 
-/// The reply to a query by the entry of the query without its last part, whose atoms are read, and the query's own entry; None where
-/// that is too large.
-pub(crate) fn answered_by_part<S: Store>(
+/// The hits of a query without its last part, by the entry of that query.
+pub(crate) fn hits_before(
     alloc: Global,
-    index: &Index,
-    held: &[FacetRows],
-    store: &mut S,
-    request: &Request,
+    query: &Query,
     base: &Base,
     rows: &Cols,
-) -> Result<(Reply, Option<Entry>), AskFault>
-    requires limits { HoldsLimits (asked request.now) }
-    requires some { 1 ≤ length (out-Query request.now.query).parts }
-    requires before { FitsQuery index.now (before_last request.now.query) (entry_with base.now rows.now.posts) }
-    requires held { HoldsFacets index.now held.now (asked request.now).facets }
-    requires opened { IsOpened (S.bytes store.old) index.now }
+) -> Result<Base, Memory>
+    requires some { 1 ≤ length (out-Query query.now).parts }
+    requires base { IsBase base.now }
+    requires sorted { AreSorted rows.now.posts }
 
-    ensures told { WhereHeld (S.bytes store.old) index.now held.now
-        (λ b. IsEntryOver b index.now (before_last request.now.query) (entry_with base.now rows.now.posts)
-        → IfOk result (IsAnsweredOver b index.now (asked request.now))) }
-    ensures fits { IfOk result (FitsAnswer index.now (asked request.now)) }
-    ensures store { OnlyReads S.bytes S.lent S.faults index.now store.old store.new result }
-    ensures reads { ReadsWithin (titles_asked (asked request.now) result + met_of_last
-        (division index.now) (last_of (out-Query request.now.query).parts)) (S.reads store.old) (S.reads store.new) }
+    ensures { IfOk result (λ hits. hits ≡ posts_hits (last_is_positive (before_last query.now)) base.now rows.now.posts) }
 {
-    let parts = request.query.parts.as_slice();
+    let parts = query.parts.as_slice();
     let positive = end_positive(&parts[..parts.len() - 1]);
-    let hits = hits_of(alloc, positive, base, rows)?;
-    answered_by_hits(alloc, index, held, store, request, hits)
+    hits_of(alloc, positive, base, rows)
 }
 
 /// The reply to a query by the hits of its parts before the last, whose atoms are read, and the query's own entry; None where that is
@@ -92,7 +80,7 @@ pub(crate) fn answered_by_hits<S: Store>(
     store: &mut S,
     request: &Request,
     hits: Base,
-) -> Result<(Reply, Option<Entry>), AskFault>
+) -> Result<(Reply, Option<Entry>), FetchFault>
     requires limits { HoldsLimits (asked request.now) }
     requires some { 1 ≤ length (out-Query request.now.query).parts }
     requires base { IsBaseOf index.now.docs (MAX_ROW_SCORE * (length (out-Query request.now.query).parts - 1)) hits }

@@ -13,13 +13,12 @@ ghost use Rattle.cs_engine.specs.IndexReading.{IsOpened, OnlyReads};
 use crate::answering::reply_of;
 use crate::entries::{hits_of, nothing_kept};
 use crate::facets::FacetRows;
-use crate::fault::AskFault;
-use crate::plans::{answered_by_hits, answered_by_part, narrowed};
+use crate::plans::{answered_by_hits, hits_before, narrowed};
 use crate::steps::{end_positive, hits_of_parts};
 use cs_base::{Base, Keys, Plan, Store};
 use cs_cache::{Answers, Entry};
 use cs_cols::Cols;
-use cs_file::Index;
+use cs_file::{FetchFault, Index};
 use cs_query::{Reply, Request};
 use cs_tables::completions;
 use std::alloc::Global;
@@ -34,7 +33,7 @@ pub(crate) fn answered<S: Store>(
     request: &Request,
     keys: &Keys,
     plan: Plan,
-) -> Result<(Reply, Option<Entry>), AskFault>
+) -> Result<(Reply, Option<Entry>), FetchFault>
     requires limits { HoldsLimits (asked request.now) }
     requires keys { keys.now ≡ keys_of request.now.query }
     requires plan { plan ≡ plan_by answers.now.entries keys.now }
@@ -66,9 +65,8 @@ pub(crate) fn answered<S: Store>(
         }
         Plan::Extend => {
             let view = answers.view(keys, plan);
-            let answered = answered_by_part(
-                alloc, index, held, store, request, view.base, view.rows,
-            )?;
+            let hits = hits_before(alloc, &request.query, view.base, view.rows)?;
+            let answered = answered_by_hits(alloc, index, held, store, request, hits)?;
             Ok(answered)
         }
         Plan::Fresh => {
@@ -85,7 +83,7 @@ fn fresh<S: Store>(
     held: &[FacetRows],
     store: &mut S,
     request: &Request,
-) -> Result<(Reply, Option<Entry>), AskFault>
+) -> Result<(Reply, Option<Entry>), FetchFault>
     requires limits { HoldsLimits (asked request.now) }
     requires held { HoldsFacets index.now held.now (asked request.now).facets }
     requires opened { IsOpened (S.bytes store.old) index.now }
@@ -115,7 +113,7 @@ pub(crate) fn with_reply<S: Store>(
     store: &mut S,
     request: &Request,
     entry: Entry,
-) -> Result<(Reply, Option<Entry>), AskFault>
+) -> Result<(Reply, Option<Entry>), FetchFault>
     requires limits { HoldsLimits (asked request.now) }
     requires entry { FitsQuery index.now request.now.query entry }
     requires held { HoldsFacets index.now held.now (asked request.now).facets }
@@ -141,7 +139,7 @@ fn by_entry<S: Store>(
     request: &Request,
     base: &Base,
     rows: &Cols,
-) -> Result<Reply, AskFault>
+) -> Result<Reply, FetchFault>
     requires limits { HoldsLimits (asked request.now) }
     requires entry { FitsQuery index.now request.now.query (entry_with base.now rows.now.posts) }
     requires held { HoldsFacets index.now held.now (asked request.now).facets }

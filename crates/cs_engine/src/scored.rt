@@ -10,9 +10,8 @@ ghost use Rattle.cs_engine.specs.{Steps.{IsBaseOf, posts_after}, Stocked.{is_bet
 
 use crate::best::{raise_rows, scored_in, zeros};
 use crate::counting::listed_docs;
-use crate::fault::AskFault;
 use cs_base::{Base, Scored, Seq, Store};
-use cs_file::{Fetched, Index};
+use cs_file::{FetchFault, Fetched, Index};
 use std::alloc::Global;
 
 /// The documents of hits that have a row of these words, with their scores. Each block that holds such a word is read once.
@@ -22,7 +21,7 @@ pub(crate) fn hits_by_words<S: Store>(
     store: &mut S,
     hits: &Base,
     words: (u32, u32),
-) -> Result<Seq<Scored>, AskFault>
+) -> Result<Seq<Scored>, FetchFault>
     requires words { IsWordRange index.now words.0 words.1 }
     requires base { IsBaseOf index.now.docs (MAX_ROW_SCORE * MAX_PARTS) hits.now }
     requires opened { IsOpened (S.bytes store.old) index.now }
@@ -48,7 +47,7 @@ fn best_in_blocks<S: Store>(
     store: &mut S,
     words: (u32, u32),
     listed: &[bool],
-) -> Result<Vec<u8>, AskFault>
+) -> Result<Vec<u8>, FetchFault>
     requires words { IsWordRange index.now words.0 words.1 }
     requires listed { length listed.now ≡ index.now.docs }
     requires opened { IsOpened (S.bytes store.old) index.now }

@@ -10,12 +10,11 @@ ghost use Rattle.cs_engine.specs.{Steps.{AreHitsBehind, AreHitsOver, EntryFits, 
 
 use crate::entries::{entry_after, hits_of};
 use crate::evaluation::rows_of_part;
-use crate::fault::AskFault;
 use crate::plain::words_of_part;
 use crate::scored::hits_by_words;
 use cs_base::{Base, Part, Store};
 use cs_cache::Entry;
-use cs_file::Index;
+use cs_file::{FetchFault, Index};
 use std::alloc::Global;
 
 /// The hits of a query of these parts, one part after the other.
@@ -24,7 +23,7 @@ pub(crate) fn hits_of_parts<S: Store>(
     index: &Index,
     store: &mut S,
     parts: &[Part],
-) -> Result<Base, AskFault>
+) -> Result<Base, FetchFault>
     requires few { length parts.now ≤ MAX_PARTS }
     requires opened { IsOpened (S.bytes store.old) index.now }
 
@@ -47,7 +46,7 @@ fn hits_behind<S: Store>(
     store: &mut S,
     hits: Base,
     part: &Part,
-) -> Result<Base, AskFault>
+) -> Result<Base, FetchFault>
     requires base { IsBaseOf index.now.docs (MAX_ROW_SCORE * MAX_PARTS) hits }
     requires opened { IsOpened (S.bytes store.old) index.now }
 
@@ -73,7 +72,7 @@ pub(crate) fn extended<S: Store>(
     store: &mut S,
     hits: Base,
     part: &Part,
-) -> Result<Entry, AskFault>
+) -> Result<Entry, FetchFault>
     requires base { IsBaseOf index.now.docs (MAX_ROW_SCORE * MAX_PARTS) hits }
     requires opened { IsOpened (S.bytes store.old) index.now }
 

@@ -1,79 +1,22 @@
-//! The rows of the words that an atom asks for.
-ghost use Rattle.std.specs.Prelude.{◌≡◌, ◌+◌, ◌≤◌, [], false, filter, IfOk};
+//! The numbers of the words that an atom or a facet asks for.
+ghost use Rattle.std.specs.Prelude.{◌≡◌, ◌+◌, ◌≤◌, [], false, IfOk};
 ghost use Rattle.std.specs.{List.{list_any}, Str.{bytes_eq}};
-ghost use Rattle.cs_base.specs.outside.Causes.{ReadsWithin};
 ghost use Rattle.cs_file.specs.Indexes.{IsIndex};
-ghost use Rattle.cs_model.specs.{Answers.{begins, of_word}, Collection.{named}};
-ghost use Rattle.cs_model_kept.specs.Due.{met_prefix, met_word};
-ghost use Rattle.cs_engine.specs.{Asking.{division}, IndexReading.{AreWithin, HasRows, IsOpened, IsSpanOf, OnlyReads, WhereStood, stock_of}};
-ghost use Rattle.cs_engine.specs.Stocked.{corpus_in};
+ghost use Rattle.cs_model.specs.Collection.{named};
+ghost use Rattle.cs_vocab.specs.Ranges.{IsRange};
+ghost use Rattle.cs_engine.specs.IndexReading.{IsSpanOf};
 
-use crate::fault::AskFault;
-use crate::reading::rows_between;
-use cs_base::{Store, Text};
-use cs_cols::Cols;
+use cs_base::{Memory, Text};
 use cs_file::Index;
 use cs_text::named_word;
 use std::alloc::Global;
 
-/// The rows whose word begins with a prefix.
-pub(crate) fn rows_of_prefix<S: Store>(
-    alloc: Global,
-    index: &Index,
-    store: &mut S,
-    prefix: &[u8],
-) -> Result<Cols, AskFault>
-    requires opened { IsOpened (S.bytes store.old) index.now }
-
-    ensures told { WhereStood (S.bytes store.old) index.now
-        (λ b. IfOk result (λ c. HasRows (stock_of b) (filter (λ r. begins prefix.now r.word) (corpus_in (stock_of b)).rows) c.posts)) }
-    ensures within { IfOk result (λ c. AreWithin index.now c.posts) }
-    ensures store { OnlyReads S.bytes S.lent S.faults index.now store.old store.new result }
-    ensures reads { ReadsWithin (met_prefix (division index.now) prefix.now) (S.reads store.old) (S.reads store.new) }
-{
-    let (lo, hi) = index.range(prefix);
-    let rows = rows_between(alloc, index, store, lo, hi)?;
-    Ok(rows)
-}
-
-/// The rows of a word.
-pub(crate) fn rows_of_word<S: Store>(
-    alloc: Global,
-    index: &Index,
-    store: &mut S,
-    word: &[u8],
-) -> Result<Cols, AskFault>
-    requires opened { IsOpened (S.bytes store.old) index.now }
-
-    ensures told { WhereStood (S.bytes store.old) index.now
-        (λ b. IfOk result (λ c. HasRows (stock_of b) (of_word word.now (corpus_in (stock_of b)).rows) c.posts)) }
-    ensures within { IfOk result (λ c. AreWithin index.now c.posts) }
-    ensures store { OnlyReads S.bytes S.lent S.faults index.now store.old store.new result }
-    ensures reads { ReadsWithin (met_word (division index.now) word.now) (S.reads store.old) (S.reads store.new) }
-{
-    let (lo, hi) = span_of_word(index, word);
-    let rows = rows_between(alloc, index, store, lo, hi)?;
-    Ok(rows)
-}
-
-/// The rows of the facet words of a name.
-pub(crate) fn rows_of_facet<S: Store>(
-    alloc: Global,
-    index: &Index,
-    store: &mut S,
-    name: &Text,
-) -> Result<Cols, AskFault>
-    requires opened { IsOpened (S.bytes store.old) index.now }
-
-    ensures told { WhereStood (S.bytes store.old) index.now
-        (λ b. IfOk result (λ c. HasRows (stock_of b) (filter (λ r. begins (named name.now []) r.word) (corpus_in (stock_of b)).rows) c.posts)) }
-    ensures within { IfOk result (λ c. AreWithin index.now c.posts) }
-    ensures store { OnlyReads S.bytes S.lent S.faults index.now store.old store.new result }
-    ensures reads { ReadsWithin (met_prefix (division index.now) (named name.now [])) (S.reads store.old) (S.reads store.new) }
+/// The facet words of a name: from the first number up to the second, which is left out.
+pub(crate) fn span_of_facet(alloc: Global, index: &Index, name: &Text) -> Result<(u32, u32), Memory>
+    ensures { IfOk result (λ w. IsRange index.now.words (named name.now []) w.0 w.1) }
 {
     let prefix = named_word(alloc, name.as_str(), "")?;
-    let rows = rows_of_prefix(alloc, index, store, prefix.as_str().as_bytes())?;
-    Ok(rows)
+    Ok(index.range(prefix.as_str().as_bytes()))
 }
 
 /// The number of a word and the next one, or an empty range.

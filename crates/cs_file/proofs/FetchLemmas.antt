@@ -7,6 +7,7 @@
 --   BlockRead, block_read, can_judge      what is known where a block's bytes were read
 --   read_there, fault_unchanged, fault_changed      clauses of a fetch, from that and from what its bytes break
 --   fault_along         of one that passes a fault on
+--   read_once           what is left of the store by a call that read once
 --   TitleRead, TitleSpan, title_span, title_found       the same of a title
 --   title_by, title_stood, title_unchanged, title_changed        the clauses of a title, from that and from whether it is text
 use Rattle.std.proofs.Common.{◌≡◌, ℕ, ◌+◌, ◌-◌, ◌<◌, ◌≤◌, ◌^◌, false, true≢false, List, length, get_or, take}
@@ -26,12 +27,12 @@ use Rattle.cs_model.specs.Scores.{SCORES}
 use Rattle.cs_model_index.specs.BlockRules.{judged, IsBlock, broken_at, rows_read}
 use Rattle.cs_model_index.specs.FileRules.{in_file}
 use Rattle.cs_model_index.specs.Blocks.{IsShaped}
-use Rattle.cs_file.specs.CallAnswers.{IsChangeOfBlock, IsChangeOfTitle, is_changed_of_fetch}
+use Rattle.cs_file.specs.CallAnswers.{IsChangeOfBlock, IsChangeOfTitle, LeavesStore, is_changed, is_read}
 use Rattle.cs_file.specs.Fetching.{CanBeJudged, IsBlockAt, IsFaultAt, IsFaultOf, ReadsText}
 use Rattle.cs_file.specs.declared.fault.FetchFault.{FetchFault}
 use Rattle.cs_file.specs.declared.fault.FetchFault.TheVariants as fetches
 use Rattle.cs_file.specs.declared.fetching.Placed.{Placed}
-use Rattle.cs_file.specs.Indexes.{HasAllBlocks, IndexView, IsIndex, StandsFor, block_place, block_posts, title_in, title_place, title_len}
+use Rattle.cs_file.specs.Indexes.{CausedReads, HasAllBlocks, IndexView, IsIndex, StandsFor, block_place, block_posts, title_in, title_place, title_len}
 use Rattle.cs_file.proofs.HeadsLemmas.{head_shaped}
 use Rattle.cs_file.proofs.OffsetsLemmas.{spans}
 use Rattle.cs_file.proofs.StoodLemmas.{stood_block}
@@ -63,7 +64,7 @@ title_within i is d lt =
     omega (arith, a, b, c)
 
 -- what a fault says where no rule is broken
-unbroken_fault : (at : ℕ) (o : Option Broken) (e : FetchFault) → IsFaultAt at o e → o ≡ None → is_changed_of_fetch {T = Unit {0}} (Err e) ≡ false
+unbroken_fault : (at : ℕ) (o : Option Broken) (e : FetchFault) → IsFaultAt at o e → o ≡ None → is_changed {T = Unit {0}} (Err e) ≡ false
 unbroken_fault at o (fetches.Changed rule there) h none = absurd (none-some (broken_at rule there) (sym (ap (option_map (in_file at)) none) ∙ h))
 unbroken_fault at o fetches.Read h none = refl
 unbroken_fault at o fetches.Memory h none = refl
@@ -139,7 +140,7 @@ module _ {i : IndexView} {told : Option (List ℕ)} {k : ℕ} {placed : Placed} 
       ∙ never_broken b i s h.stands.index k placed.head read h.stands.known long (there placed.head b t)
 
   pub fault_unchanged : (b : List ℕ) (result : Result (Unit {0}) FetchFault) → told ≡ Some b → StandsFor b i → IfErr result (IsFaultOf placed read)
-      → is_changed_of_fetch result ≡ false
+      → is_changed result ≡ false
   fault_unchanged b (Ok u) t s answer = refl
   fault_unchanged b (Err e) t s answer = unbroken_fault placed.at (judged SCORES placed.head placed.docs read) e answer (keeps_rules b t s)
 
@@ -159,6 +160,18 @@ module _ {i : IndexView} {told : Option (List ℕ)} {k : ℕ} {placed : Placed} 
 pub fault_along : {T : Type 0} (P : FetchFault → Type 0) (e : FetchFault) (r : Result T FetchFault) → P e → IsErrAnd r (λ x. x ≡ e) → IfErr r P
 fault_along P e (Ok x) h is = absurd is
 fault_along P e (Err x) h is = subst P (sym is) h
+
+-- what is left of the store by a call that read once, and reads nothing behind that
+pub read_once : {S L T : Type 0} {tells : S → Option (List ℕ)} {lends : S → L} {fails : S → ℕ} {i : IndexView} {Told : FetchFault → Type 0} {old now : S}
+    {r : Result T FetchFault} → ForSome (tells old) (λ b. StandsFor b i → is_changed r ≡ false) → IfErr r Told → is_read r ≡ false → tells now ≡ tells old
+    → lends now ≡ lends old → CausedReads false (fails old) (fails now) → LeavesStore tells lends fails i Told old now r
+read_once {fails = fails} {old = old} {now = now} unchanged changed unread bytes lent caused = record {
+  unchanged = unchanged;
+  changed = changed;
+  bytes = bytes;
+  lent = lent;
+  caused = subst (λ failed. CausedReads failed (fails old) (fails now)) (sym unread) caused;
+}
 
 -- ---- titles
 -- what is known where the title's bytes were read
@@ -226,7 +239,7 @@ module _ {i : IndexView} {told : Option (List ℕ)} {d at : ℕ} {read : List �
   title_stood b (Err e) t s answer = tt
 
   pub title_unchanged : (b : List ℕ) (r : Result (List ℕ) FetchFault) → told ≡ Some b → StandsFor b i → ReadsText read at r
-      → is_changed_of_fetch r ≡ false
+      → is_changed r ≡ false
   title_unchanged b (Ok text) t s answer = refl
   title_unchanged b (Err fetches.Read) t s answer = refl
   title_unchanged b (Err fetches.Memory) t s answer = refl

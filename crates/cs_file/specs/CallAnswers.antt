@@ -3,13 +3,14 @@
 -- Source: this engine's own.
 --
 --   IsDamageOf b e          the fault of opening, if it is damage, is the first broken rule of the bytes with its place
---   is_read_of_open r, is_read_of_fetch r, is_sink r, is_changed_of_fetch r      the answer is a failed read, a failed sink, a change
+--   is_read_of_open r, is_read r, is_sink r, is_changed r      the answer is a failed read, a failed sink, a change
 --   AreOf posts docs words         the documents and the words of posts
 --   AreScoredOf posts docs words scores      with their scores
 --   IsRanged i p            the numbers of a post are in range
 --   BreaksBlock i told k rule at, IsChangeOfBlock i told k e     the first rule that the bytes of block k break, with its place in the file
 --   BreaksTitle i told d rule at, IsChangeOfTitle i told d e     the bytes of title d aren't text
-use Rattle.std.specs.Prelude.{◌≡◌, ℕ, ◌<◌, Bool, true, false, List, length, map, Option, Some, Result, Err, slice_index_or}
+--   LeavesStore tells lends fails i Told old now r     what a call with this answer leaves of the store that it reads
+use Rattle.std.specs.Prelude.{◌≡◌, ℕ, ◌<◌, Bool, true, false, List, length, map, Option, Some, Result, Err, IfErr, slice_index_or}
 use Rattle.std.specs.Option.{ForSome, option_map}
 use Rattle.std.specs.Str.{is_utf8}
 use Rattle.cs_base.specs.outside.Outside.{part}
@@ -18,7 +19,7 @@ use Rattle.cs_base.specs.declared.content.doc.Post.{Post}
 use Rattle.cs_model.specs.Scores.{SCORES}
 use Rattle.cs_model_index.specs.BlockRules.{judged, broken_at, is_scored}
 use Rattle.cs_model_index.specs.FileRules.{in_file, damage}
-use Rattle.cs_file.specs.Indexes.{IndexView, block_place, title_place, title_len}
+use Rattle.cs_file.specs.Indexes.{CausedReads, IndexView, StandsFor, block_place, title_place, title_len}
 use Rattle.cs_file.specs.declared.fault.OpenFault.{OpenFault}
 use Rattle.cs_file.specs.declared.fault.OpenFault.TheVariants as opens
 use Rattle.cs_file.specs.declared.fault.FetchFault.{FetchFault}
@@ -38,14 +39,14 @@ is_read_of_open (Err opens.Read) = true
 is_read_of_open _ = false
 
 -- an Ok isn't one
-abbrev pub is_read_of_fetch : {T : Type 0} → Result T FetchFault → Bool
-is_read_of_fetch (Err fetches.Read) = true
-is_read_of_fetch _ = false
+abbrev pub is_read : {T : Type 0} → Result T FetchFault → Bool
+is_read (Err fetches.Read) = true
+is_read _ = false
 
 -- an Ok isn't one
-abbrev pub is_changed_of_fetch : {T : Type 0} → Result T FetchFault → Bool
-is_changed_of_fetch (Err (fetches.Changed rule at)) = true
-is_changed_of_fetch _ = false
+abbrev pub is_changed : {T : Type 0} → Result T FetchFault → Bool
+is_changed (Err (fetches.Changed rule at)) = true
+is_changed _ = false
 
 -- an Ok isn't one
 abbrev pub is_sink : {T : Type 0} → Result T WriteFault → Bool
@@ -92,3 +93,13 @@ abbrev pub IsChangeOfTitle : IndexView → Option (List ℕ) → ℕ → FetchFa
 IsChangeOfTitle i told d (fetches.Changed rule at) = BreaksTitle i told d rule at
 IsChangeOfTitle i told d fetches.Read = Unit {0}
 IsChangeOfTitle i told d fetches.Memory = Unit {0}
+
+-- its bytes and what is lent to it are as they were, its count of failures rose exactly where the answer is a failed read, and a
+-- change is told only by Told, never of those bytes that the index was opened over
+pub record LeavesStore {S L T : Type 0} (tells : S → Option (List ℕ)) (lends : S → L) (fails : S → ℕ) (i : IndexView) (Told : FetchFault → Type 0)
+    (old now : S) (r : Result T FetchFault) : Type 0 where
+  pub unchanged : ForSome (tells old) (λ b. StandsFor b i → is_changed r ≡ false)
+  pub changed : IfErr r Told
+  pub bytes : tells now ≡ tells old
+  pub lent : lends now ≡ lends old
+  pub caused : CausedReads (is_read r) (fails old) (fails now)

@@ -11,7 +11,7 @@ ghost use Rattle.cs_block.specs.BlockReading.{Decodes};
 ghost use Rattle.cs_block.specs.DocWords.{HasDocWords, HasFront, front_bytes};
 ghost use Rattle.cs_model.specs.Scores.{SCORES};
 ghost use Rattle.cs_model_index.specs.BlockRules.{IsBlock};
-ghost use Rattle.cs_file.specs.CallAnswers.{AreOf, AreScoredOf, IsChangeOfBlock, IsChangeOfTitle, is_read_of_fetch, is_changed_of_fetch};
+ghost use Rattle.cs_file.specs.CallAnswers.{AreScoredOf, IsChangeOfBlock, IsChangeOfTitle, LeavesStore, is_read, is_changed};
 ghost use Rattle.cs_file.specs.Fetching.{CanBeJudged, HasScored, IsBlockAt, IsFaultAt, IsFaultOf, ReadsText};
 ghost use Rattle.cs_file.specs.Indexes.{StandsFor, HasAllBlocks, CausedReads, block_place, block_posts, title_in, title_place, title_len};
 
@@ -56,12 +56,8 @@ impl Index {
         ensures scores { OnOk result (All (λ s. s ≤ TITLE_SCORE) into.new.scores.items) }
         ensures stood { ForSome (S.bytes store.old) (λ b. StandsFor b self.now
             → OnOk result (AreScoredOf (block_posts b k) into.new.docs.items into.new.words.items into.new.scores.items)) }
-        ensures changed { IfErr result (IsChangeOfBlock self.now (S.bytes store.old) k) }
-        ensures unchanged { ForSome (S.bytes store.old) (λ b. StandsFor b self.now → is_changed_of_fetch result ≡ false) }
-        ensures bytes { S.bytes store.new ≡ S.bytes store.old }
-        ensures lent { S.lent store.new ≡ S.lent store.old }
+        ensures store { LeavesStore S.bytes S.lent S.faults self.now (IsChangeOfBlock self.now (S.bytes store.old) k) store.old store.new result }
         ensures reads { ReadsWithin 1 (S.reads store.old) (S.reads store.new) }
-        ensures caused { CausedReads (is_read_of_fetch result) (S.faults store.old) (S.faults store.new) }
     {
         let placed = self.placed(k);
         read_over(store, placed.at, placed.head.len, &mut into.bytes)?;
@@ -80,12 +76,8 @@ impl Index {
 
         ensures ok { ForSome (S.bytes store.old) (λ b. IfOk result (λ t. t ≡ part b (title_place self.now doc) (title_len self.now doc))) }
         ensures stood { ForSome (S.bytes store.old) (λ b. StandsFor b self.now → IfOk result (λ t. t ≡ title_in b doc)) }
-        ensures changed { IfErr result (IsChangeOfTitle self.now (S.bytes store.old) doc) }
-        ensures unchanged { ForSome (S.bytes store.old) (λ b. StandsFor b self.now → is_changed_of_fetch result ≡ false) }
-        ensures bytes { S.bytes store.new ≡ S.bytes store.old }
-        ensures lent { S.lent store.new ≡ S.lent store.old }
+        ensures store { LeavesStore S.bytes S.lent S.faults self.now (IsChangeOfTitle self.now (S.bytes store.old) doc) store.old store.new result }
         ensures reads { ReadsWithin 1 (S.reads store.old) (S.reads store.new) }
-        ensures caused { CausedReads (is_read_of_fetch result) (S.faults store.old) (S.faults store.new) }
     {
         let offsets = self.offsets.as_slice();
         let from = offsets[doc as usize];
@@ -144,11 +136,11 @@ pub(crate) fn read_over<S: Store>(
 
     ensures ok { ForSome (S.bytes store.old) (λ b. OnOk result (bytes.new.items ≡ part b at len)) }
     ensures long { OnOk result (length bytes.new.items ≡ len) }
-    ensures unchanged { is_changed_of_fetch result ≡ false }
+    ensures unchanged { is_changed result ≡ false }
     ensures bytes { S.bytes store.new ≡ S.bytes store.old }
     ensures lent { S.lent store.new ≡ S.lent store.old }
     ensures reads { ReadsWithin 1 (S.reads store.old) (S.reads store.new) }
-    ensures caused { CausedReads (is_read_of_fetch result) (S.faults store.old) (S.faults store.new) }
+    ensures caused { CausedReads (is_read result) (S.faults store.old) (S.faults store.new) }
 {
     fit(bytes, len as usize)?;
     match read_at_once(store, at, bytes) {
@@ -163,7 +155,7 @@ pub(crate) fn decode_at(alloc: Global, bytes: &[u8], placed: &Placed) -> Result<
 
     ensures ok { IfOk result (λ rows. IsBlock SCORES placed.now.head placed.now.docs rows.posts bytes.now) }
     ensures exact { IfErr result (λ fault. IsFaultOf placed.now bytes.now fault) }
-    ensures unread { is_read_of_fetch result ≡ false }
+    ensures unread { is_read result ≡ false }
 {
     let mut rows = Cols::new(alloc);
     match decode(bytes, &placed.head, placed.docs, &mut rows) {
@@ -177,7 +169,7 @@ fn file_fault(fault: BlockFault, at: u64) -> FetchFault
     requires places { at < 2 ^ 63 }
 
     ensures exact { (broken : Option Broken) → Decodes (Err fault) broken → IsFaultAt at broken result }
-    ensures unread { is_read_of_fetch {T = Unit {0}} (Err result) ≡ false }
+    ensures unread { is_read {T = Unit {0}} (Err result) ≡ false }
 {
     match fault {
         BlockFault::Memory => FetchFault::Memory,
@@ -195,7 +187,7 @@ fn scored_at(alloc: Global, placed: &Placed, into: &mut Fetched) -> Result<(), F
 
     ensures ok { OnOk result (HasScored placed.now into.old.bytes.items into.new) }
     ensures exact { IfErr result (λ fault. IsFaultOf placed.now into.old.bytes.items fault) }
-    ensures unread { is_read_of_fetch result ≡ false }
+    ensures unread { is_read result ≡ false }
 {
     doc_words_at(placed, into)?;
     if read_scores(&into.bytes, &placed.head, &mut into.scores)? {
@@ -224,7 +216,7 @@ fn doc_words_at(placed: &Placed, into: &mut Fetched) -> Result<(), FetchFault>
     ensures ok { OnOk result ((block : List ℕ) → HasFront placed.now.head into.old.bytes.items block
         → HasDocWords placed.now.head placed.now.docs block into.new.docs.items into.new.words.items) }
     ensures exact { IfErr result (λ fault. (block : List ℕ) → HasFront placed.now.head into.old.bytes.items block → IsFaultOf placed.now block fault) }
-    ensures unread { is_read_of_fetch result ≡ false }
+    ensures unread { is_read result ≡ false }
     ensures bytes { into.new.bytes ≡ into.old.bytes }
 {
     let listed = read_doc_words(
@@ -243,7 +235,7 @@ fn doc_words_at(placed: &Placed, into: &mut Fetched) -> Result<(), FetchFault>
 // The text of a title that stands at a place of the file.
 fn text_at(bytes: Vec<u8>, at: u64) -> Result<Text, FetchFault>
     ensures exact { ReadsText bytes.items at result }
-    ensures unread { is_read_of_fetch result ≡ false }
+    ensures unread { is_read result ≡ false }
 {
     match String::from_utf8(bytes) {
         Ok(text) => Ok(Text::from_string(text)),

@@ -4,9 +4,9 @@ ghost use Rattle.std.specs.List.{All};
 ghost use Rattle.std.specs.Option.{ForSome};
 ghost use Rattle.cs_base.specs.outside.Causes.{ReadsWithin};
 ghost use Rattle.cs_block.specs.Sought.{HasSought, is_sought};
-ghost use Rattle.cs_file.specs.CallAnswers.{IsChangeOfBlock, IsRanged, is_read_of_fetch, is_changed_of_fetch};
+ghost use Rattle.cs_file.specs.CallAnswers.{IsChangeOfBlock, IsRanged, LeavesStore, is_read};
 ghost use Rattle.cs_file.specs.Fetching.{CanBeJudged, IsFaultOf};
-ghost use Rattle.cs_file.specs.Indexes.{StandsFor, HasAllBlocks, CausedReads, block_posts};
+ghost use Rattle.cs_file.specs.Indexes.{StandsFor, HasAllBlocks, block_posts};
 
 use crate::fault::FetchFault;
 use crate::fetching::{Placed, decode_at, read_over};
@@ -61,12 +61,8 @@ impl Index {
         ensures sought { OnOk result (All (λ p. is_sought words.0 words.1 listed.now p ≡ true) into.new.posts.items) }
         ensures stood { ForSome (S.bytes store.old) (λ b. StandsFor b self.now
             → OnOk result (into.new.posts.items ≡ filter (is_sought words.0 words.1 listed.now) (block_posts b k))) }
-        ensures changed { IfErr result (IsChangeOfBlock self.now (S.bytes store.old) k) }
-        ensures unchanged { ForSome (S.bytes store.old) (λ b. StandsFor b self.now → is_changed_of_fetch result ≡ false) }
-        ensures bytes { S.bytes store.new ≡ S.bytes store.old }
-        ensures lent { S.lent store.new ≡ S.lent store.old }
+        ensures store { LeavesStore S.bytes S.lent S.faults self.now (IsChangeOfBlock self.now (S.bytes store.old) k) store.old store.new result }
         ensures reads { ReadsWithin 1 (S.reads store.old) (S.reads store.new) }
-        ensures caused { CausedReads (is_read_of_fetch result) (S.faults store.old) (S.faults store.new) }
     {
         let placed = self.placed(k);
         read_over(store, placed.at, placed.head.len, &mut into.bytes)?;
@@ -87,7 +83,7 @@ fn sought_at(
 
     ensures ok { OnOk result (HasSought placed.now.head into.old.bytes.items words.0 words.1 listed.now into.new.posts.items) }
     ensures exact { IfErr result (λ fault. IsFaultOf placed.now into.old.bytes.items fault) }
-    ensures unread { is_read_of_fetch result ≡ false }
+    ensures unread { is_read result ≡ false }
 {
     let head = &placed.head;
     if read_sought(

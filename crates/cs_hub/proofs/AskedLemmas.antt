@@ -34,10 +34,11 @@ use Rattle.cs_base.specs.declared.outside.hub.Event.{Event}
 use Rattle.cs_base.specs.declared.outside.hub.Event.TheVariants as events
 use Rattle.cs_base.specs.outside.Causes.{ReadsWithin}
 use Rattle.cs_base.specs.outside.Hub.{Talk}
-use Rattle.cs_engine.specs.Asking.{is_read, titles_asked}
+use Rattle.cs_engine.specs.Asking.{titles_asked}
+use Rattle.cs_file.specs.CallAnswers.{is_read}
 use Rattle.cs_engine.specs.Keeping.{EngineView}
-use Rattle.cs_engine.specs.declared.fault.AskFault.{AskFault}
-use Rattle.cs_engine.specs.declared.fault.AskFault.TheVariants as refusals
+use Rattle.cs_file.specs.declared.fault.FetchFault.{FetchFault}
+use Rattle.cs_file.specs.declared.fault.FetchFault.TheVariants as refusals
 use Rattle.cs_engine.specs.declared.note.Note.{Note}
 use Rattle.cs_file.specs.Indexes.{CausedReads}
 use Rattle.cs_http.specs.Judging.{IsHeadCause}
@@ -255,7 +256,7 @@ pub none_ok : {T E : Type 0} (r : Result T E) (P : T → Type 0) → IsErr r →
 none_ok (Ok x) P h = absurd cc
 none_ok (Err e) P h = tt
 
-module _ {K : Type 0} (Leaves : K → Request → Result Reply AskFault → K → Type 0) where
+module _ {K : Type 0} (Leaves : K → Request → Result Reply FetchFault → K → Type 0) where
   pub in_turn_both : (xs ys : List Answered) (s t u : K) → InTurn Leaves xs s t → InTurn Leaves ys t u → InTurn Leaves (xs ++ ys) s u
   in_turn_both [] ys s t u h k = subst (λ x. InTurn Leaves ys x u) h k
   in_turn_both (x ∷ xs) ys s t u h k = (h.0, h.1, in_turn_both xs ys h.0 t u h.2 k)
@@ -267,7 +268,7 @@ module _ {K : Type 0} (Leaves : K → Request → Result Reply AskFault → K �
   abbrev pub asks_nothing : (whole : Bool) (s : K) → AsksOf Leaves whole [] s s
   asks_nothing whole s = record { answered = []; later = []; cut = refl; in_turn = refl; all = λ e. (refl, All-nil (λ (a : Answered). is_want a.1 ≡ false)) }
 
-  pub asks_one : (whole : Bool) (q : Request) (r : Result Reply AskFault) (s t : K) (Sent : List Answered → Type 0) → Leaves s q r t
+  pub asks_one : (whole : Bool) (q : Request) (r : Result Reply FetchFault) (s t : K) (Sent : List Answered → Type 0) → Leaves s q r t
       → (whole ≡ true → is_want r ≡ false) → Sent ((q, r) ∷ []) → AsksAsSent Leaves whole (q ∷ []) s t Sent
   asks_one whole q r s t Sent h memory sent = record {
     asks = record {
@@ -643,11 +644,11 @@ pub refused_close : (j : Judgement) (fault : HeadFault) (r : Response) → IsHea
 refused_close j fault r cause h = ap (λ (x : Response). x.closes) (h nowhere j cause) ∙ closes_by nowhere j
 
 -- ---- one request of an engine
-pub few_titles : (q : Request) (r : Result (Reply × Note) AskFault) → IfOk r (λ x. length x.0.hits ≤ q.hits) → titles_asked q r ≤ q.hits
+pub few_titles : (q : Request) (r : Result (Reply × Note) FetchFault) → IfOk r (λ x. length x.0.hits ≤ q.hits) → titles_asked q r ≤ q.hits
 few_titles q (Ok x) h = h
 few_titles q (Err e) h = omega arith
 
-pub read_in : (r : Result (Reply × Note) AskFault) → is_read (reply_in r) ≡ is_read r
+pub read_in : (r : Result (Reply × Note) FetchFault) → is_read (reply_in r) ≡ is_read r
 read_in (Ok x) = refl
 read_in (Err refusals.Read) = refl
 read_in (Err (refusals.Changed rule at)) = refl

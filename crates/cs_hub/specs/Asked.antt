@@ -11,9 +11,9 @@
 use Rattle.std.specs.Prelude.{◌≡◌, ◌⊎◌, ℕ, Bool, true, false, not, List, [], ◌∷◌, ◌++◌, length, drop, Option, Result}
 use Rattle.cs_base.specs.outside.Causes.{ReadsWithin}
 use Rattle.cs_base.specs.outside.Hub.{Talk}
-use Rattle.cs_engine.specs.Asking.{is_read}
+use Rattle.cs_file.specs.CallAnswers.{is_read}
 use Rattle.cs_engine.specs.Keeping.{EngineView}
-use Rattle.cs_engine.specs.declared.fault.AskFault.{AskFault}
+use Rattle.cs_file.specs.declared.fault.FetchFault.{FetchFault}
 use Rattle.cs_file.specs.Indexes.{CausedReads}
 use Rattle.cs_model.specs.Replies.{Reply}
 use Rattle.cs_model.specs.Requests.{Request}
@@ -25,7 +25,7 @@ use Rattle.cs_hub.specs.DueReads.{Answered, AreResponsesBy, HasMemory, IsDue, Is
 use Rattle.cs_hub.specs.DueReads.{closes_behind, heads_on, requests_in, requests_of, requests_on, requests_to}
 use Rattle.cs_hub.specs.Speaking.{Spoke}
 
-module _ {K : Type 0} (Leaves : K → Request → Result Reply AskFault → K → Type 0) where
+module _ {K : Type 0} (Leaves : K → Request → Result Reply FetchFault → K → Type 0) where
   -- each state is the one that the request before left; of no requests the last is the first
   abbrev pub InTurn : List Answered → K → K → Type 0
   InTurn [] s t = t ≡ s
@@ -33,7 +33,7 @@ module _ {K : Type 0} (Leaves : K → Request → Result Reply AskFault → K �
 
 -- the requests behind them aren't asked, as where a send failed or memory ran out; where `whole` there are none behind, and memory
 -- didn't run out
-pub record AsksOf {K : Type 0} (Leaves : K → Request → Result Reply AskFault → K → Type 0) (whole : Bool) (qs : List Request) (s t : K) : Type 0 where
+pub record AsksOf {K : Type 0} (Leaves : K → Request → Result Reply FetchFault → K → Type 0) (whole : Bool) (qs : List Request) (s t : K) : Type 0 where
   pub answered : List Answered
   pub later : List Request
   pub cut : qs ≡ requests_of answered ++ later
@@ -41,13 +41,13 @@ pub record AsksOf {K : Type 0} (Leaves : K → Request → Result Reply AskFault
   pub all : whole ≡ true → (later ≡ []) × HasMemory answered
 
 -- so many were asked as what was sent between the two states allows
-pub record AsksAsSent {K : Type 0} (Leaves : K → Request → Result Reply AskFault → K → Type 0) (whole : Bool) (qs : List Request) (s t : K)
+pub record AsksAsSent {K : Type 0} (Leaves : K → Request → Result Reply FetchFault → K → Type 0) (whole : Bool) (qs : List Request) (s t : K)
     (Sent : List Answered → Type 0) : Type 0 where
   pub asks : AsksOf Leaves whole qs s t
   pub sent : Sent asks.answered
 
 -- the heads of the bytes that are left come behind these, and only whole responses were sent, one to each head
-pub record AsksAlong {K : Type 0} (Leaves : K → Request → Result Reply AskFault → K → Type 0) (c : ℕ) (b left : List ℕ) (s t : K)
+pub record AsksAlong {K : Type 0} (Leaves : K → Request → Result Reply FetchFault → K → Type 0) (c : ℕ) (b left : List ℕ) (s t : K)
     (talk talk' : Option Talk) : Type 0 where
   pub heads : List (List ℕ)
   pub cut : heads_on b ≡ heads ++ heads_on left
@@ -72,7 +72,7 @@ pub record SentFor (c : ℕ) (goes : Bool) (h : List ℕ) (talk talk' : Option T
   pub whole : goes ≡ true → (r : Response) × IsResponseBy h answered r × Spoke c (response_bytes r) false talk talk'
 
 -- a head was answered; or no head ends there, and nothing was asked or sent; or the connection is to be closed
-abbrev pub AsksBy : {K : Type 0} → (K → Request → Result Reply AskFault → K → Type 0) → ℕ → List ℕ → List ℕ → Turn → K → K → Option Talk → Option Talk → Type 0
+abbrev pub AsksBy : {K : Type 0} → (K → Request → Result Reply FetchFault → K → Type 0) → ℕ → List ℕ → List ℕ → Turn → K → K → Option Talk → Option Talk → Type 0
 AsksBy Leaves c unread rest (turns.Next used) s t talk talk' = AsksAlong Leaves c (unread ++ rest) (drop used rest) s t talk talk'
 AsksBy Leaves c unread rest turns.Holds s t talk talk' = (heads_on (unread ++ rest) ≡ []) × (t ≡ s) × (talk' ≡ talk)
 AsksBy Leaves c unread rest turns.Stops s t talk talk' = AsksAsSent Leaves false (requests_on (unread ++ rest)) s t (SentBefore c (unread ++ rest) talk talk')
@@ -85,7 +85,7 @@ pub record Standing : Type 0 where
   pub faults : ℕ
 
 -- no more is read than is due, and a failed read is told where the count of failures rose
-pub record EngineLeaves (s : Standing) (q : Request) (r : Result Reply AskFault) (t : Standing) : Type 0 where
+pub record EngineLeaves (s : Standing) (q : Request) (r : Result Reply FetchFault) (t : Standing) : Type 0 where
   pub n : ℕ
   pub is_due : IsDue s.told (q, r) s.engine n t.engine
   pub told : t.told ≡ s.told

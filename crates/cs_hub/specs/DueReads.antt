@@ -55,10 +55,11 @@ use Rattle.cs_model_serving.specs.Connections.{Left}
 use Rattle.cs_model_serving.specs.Framing.{frame}
 use Rattle.cs_model_serving.specs.Heads.{Judgement, refused, asks, judge}
 use Rattle.cs_model_serving.specs.Responses.{Response, all_bytes, index_changed, memory_bytes, read_failed, response_bytes, response_to, to_refused, too_long}
-use Rattle.cs_engine.specs.declared.fault.AskFault.{AskFault}
-use Rattle.cs_engine.specs.declared.fault.AskFault.TheVariants as faults
+use Rattle.cs_file.specs.declared.fault.FetchFault.{FetchFault}
+use Rattle.cs_file.specs.declared.fault.FetchFault.TheVariants as faults
 use Rattle.cs_engine.specs.declared.note.Note.{Note}
-use Rattle.cs_engine.specs.Asking.{IsChangeIn, division, is_changed, is_read, titles_asked}
+use Rattle.cs_engine.specs.Asking.{IsChangeIn, division, titles_asked}
+use Rattle.cs_file.specs.CallAnswers.{is_changed, is_read}
 use Rattle.cs_engine.specs.Keeping.{AreGood, EngineView, IsAfter, KeepsAnswers, note_plan}
 use Rattle.cs_hub.specs.HubFollowing.{Slots, left_at}
 use Rattle.cs_hub.specs.Speaking.{Spoke}
@@ -126,19 +127,19 @@ goes_on core Over = true
 -- ---- answers
 -- the answer is a reply, or why there is none
 abbrev pub Answered : Type 0
-Answered = Request × Result Reply AskFault
+Answered = Request × Result Reply FetchFault
 
 -- in their order; of no answers none
 abbrev pub requests_of : List Answered → List Request
 requests_of xs = map (λ a. a.0) xs
 
 -- the reply alone; what kept it from being given stays
-abbrev pub reply_in : Result (Reply × Note) AskFault → Result Reply AskFault
+abbrev pub reply_in : Result (Reply × Note) FetchFault → Result Reply FetchFault
 reply_in (Ok r) = Ok r.0
 reply_in (Err e) = Err e
 
 -- a reply isn't
-abbrev pub is_want : Result Reply AskFault → Bool
+abbrev pub is_want : Result Reply FetchFault → Bool
 is_want (Err faults.Memory) = true
 is_want _ = false
 
@@ -149,7 +150,7 @@ read_failures (a ∷ xs) = cond (is_read a.1) 1 0 + read_failures xs
 
 -- ---- reads
 -- where there is a reply it is the right one, and behind it exactly this is kept; what is kept stays good, behind a refusal too
-pub record IsRightOver (b : List ℕ) (q : Request) (old : EngineView) (answer : Result (Reply × Note) AskFault) (new : EngineView) : Type 0 where
+pub record IsRightOver (b : List ℕ) (q : Request) (old : EngineView) (answer : Result (Reply × Note) FetchFault) (new : EngineView) : Type 0 where
   pub right : IfOk answer (λ r. r.0 ≡ reply_of (file_corpus b) q)
   pub after : IsAfter b q.query old answer new
   pub good : AreGood b new
@@ -158,7 +159,7 @@ pub record IsRightOver (b : List ℕ) (q : Request) (old : EngineView) (answer :
 -- many as hits are asked, and this engine is left behind it; where the store tells the bytes of the index no change is told, and
 -- over each store the answer tells a change only by a rule that a block or a title breaks, with its place
 pub record IsDue (told : Option (List ℕ)) (a : Answered) (old : EngineView) (n : ℕ) (new : EngineView) : Type 0 where
-  pub answer : Result (Reply × Note) AskFault
+  pub answer : Result (Reply × Note) FetchFault
   pub reply : a.1 ≡ reply_in answer
   pub few : titles_asked a.0 answer ≤ a.0.hits
   pub index : new.index ≡ old.index
@@ -180,7 +181,7 @@ abbrev pub HasMemory : List Answered → Type 0
 HasMemory xs = All (λ a. is_want a.1 ≡ false) xs
 
 -- in the place of a reply why there is none: a failed read, or exactly the change that was told
-abbrev pub response_by : Bool → Result Reply AskFault → Option Response
+abbrev pub response_by : Bool → Result Reply FetchFault → Option Response
 response_by close (Ok r) = Some (record { status = 200; closes = close; body = reply_text r })
 response_by close (Err faults.Read) = Some (read_failed close)
 response_by close (Err (faults.Changed rule at)) = Some (index_changed rule at close)

@@ -1,7 +1,7 @@
 //! What answers requests, as the serving core meets it.
 ghost use Rattle.std.specs.Prelude.{◌≡◌, ℕ, false, Result, IfOk};
-ghost use Rattle.cs_engine.specs.Asking.{is_read, is_changed};
-ghost use Rattle.cs_engine.specs.declared.fault.AskFault.{AskFault as Fault};
+ghost use Rattle.cs_file.specs.CallAnswers.{is_changed, is_read};
+ghost use Rattle.cs_file.specs.declared.fault.FetchFault.{FetchFault as Fault};
 ghost use Rattle.cs_file.specs.Indexes.{CausedReads};
 ghost use Rattle.cs_model.specs.Corpus.{Corpus};
 ghost use Rattle.cs_model.specs.Parameters.{HoldsLimits};

@@ -1,6 +1,7 @@
 //! What answers requests: an engine, over an index file in memory or one that the files hold.
 ghost use Rattle.std.specs.Prelude.{◌≡◌, true, false, Some, None, [], IfErr, IfOk, is_some};
-ghost use Rattle.cs_engine.specs.Asking.{IsChangeIn, is_changed, is_read};
+ghost use Rattle.cs_engine.specs.Asking.{IsChangeIn};
+ghost use Rattle.cs_file.specs.CallAnswers.{is_changed, is_read};
 ghost use Rattle.cs_file.specs.Indexes.{CausedReads};
 ghost use Rattle.cs_model.specs.Corpus.{Corpus};
 ghost use Rattle.cs_model.specs.Parameters.{HoldsLimits};

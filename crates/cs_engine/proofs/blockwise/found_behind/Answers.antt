@@ -1,4 +1,4 @@
-use Rattle.std.proofs.Common.{◌≡◌, ◌<◌, ◌≤◌, ◌*◌, ◌-◌, [], refl, sym, ◌∙◌, ap, subst, take, length, map, arith}
+use Rattle.std.proofs.Common.{◌≡◌, ◌<◌, ◌≤◌, ◌*◌, ◌-◌, [], sym, ◌∙◌, ap, subst, take, length, map, arith}
 use Rattle.std.specs.Prelude.{All}
 use Rattle.std.proofs.lemmas.List.Elements.{All-weaker}
 use Rattle.cs_base.specs.declared.content.doc.Base.TheVariants as base
@@ -18,7 +18,7 @@ use Rattle.cs_engine.proofs.CountingLemmas.{block_counted, countable, table_told
 use Rattle.cs_engine.proofs.PackingLemmas.{as_they_come, keys_among, keys_between}
 use Rattle.cs_engine.proofs.PartSteps.{base_in}
 use Rattle.cs_engine.proofs.BehindLemmas.{best_found, best_more, rows_are, scored_are}
-use Rattle.cs_engine.proofs.WalkLemmas.{block_change, fails_behind, fetch_fails, hands_on, nothing_read, rest_ends, rest_stops, walk_goes_on}
+use Rattle.cs_engine.proofs.WalkLemmas.{block_fails, fails_behind, hands_on, nothing_read, rest_ends, rest_stops, walk_goes_on}
 use Rattle.cs_engine.proofs.blockwise.found_behind.Goals as goal
 
 -- ---- what was gathered
@@ -86,11 +86,9 @@ returns-in_err-fetch_scored-clause-reads g c = rest_stops c.loop-k.invariant.wal
 
 pub returns-in_err-fetch_scored-clause-store : goal.returns-in_err-fetch_scored-clause-store
 returns-in_err-fetch_scored-clause-store g c =
-    let read = c.in_err-fetch_scored.ensures in
-    let e = c.in_err-fetch_scored.field-0.0 in
-    let change = block_change c.args.index.now _ c.loop-k.k e (let w = c.requires.gathered.met.within in omega (arith, w, c.loop-k-test.true)) read.changed in
     hands_on c.from_residual-in_err-fetch_scored.result c.from_residual-in_err-fetch_scored.ensures.1
-    (fails_behind c.loop-k.invariant.walk.store (fetch_fails e read.unchanged change read.bytes read.lent read.caused))
+    (fails_behind c.loop-k.invariant.walk.store
+    (block_fails (let w = c.requires.gathered.met.within in omega (arith, w, c.loop-k-test.true)) c.in_err-fetch_scored.ensures.store))
 
 pub loop-k-preserved : goal.loop-k-preserved
 loop-k-preserved g c =
@@ -105,7 +103,7 @@ loop-k-preserved g c =
     let below : c.loop-k.k < length i.heads = (let w = had.met.within in omega (arith, w, c.loop-k-test.true)) in
     let onward : from.first ≤ c.loop-k.k = (let o = had.onward in omega (arith, o, c.loop-k.auto.k)) in
     record {
-      walk = walk_goes_on inv.walk (record { unchanged = λ b is stands. refl; changed = tt; bytes = read.bytes; lent = read.lent; caused = read.caused }) read.reads;
+      walk = walk_goes_on inv.walk read.store read.reads;
       low = c.add_rows.ensures.low ∙ inv.low;
       high = c.add_rows.ensures.high ∙ inv.high;
       told = λ b is stands.

@@ -1,4 +1,4 @@
-use Rattle.std.proofs.Common.{◌≡◌, ◌<◌, sym, ap, subst, ◌∙◌, arith}
+use Rattle.std.proofs.Common.{◌≡◌, ◌<◌, [], sym, ap, subst, ◌∙◌, arith}
 use Rattle.std.specs.Prelude.{All}
 use Rattle.cs_base.specs.content.Orders.{AreDocs}
 use Rattle.cs_base.specs.declared.content.doc.Post.{Post}
@@ -6,16 +6,20 @@ use Rattle.cs_base.specs.declared.content.query.Part.{out-Part}
 use Rattle.cs_base.specs.declared.content.query.Linked.{out-Linked}
 use Rattle.cs_file.specs.Indexes.{IndexView}
 use Rattle.cs_join.specs.Shared.{shares_word, shared}
+use Rattle.cs_model.specs.Answers.{begins}
+use Rattle.cs_model.specs.Collection.{named}
 use Rattle.cs_engine.specs.Asking.{division}
 use Rattle.cs_engine.specs.IndexReading.{AreWithin, stock_of}
 use Rattle.cs_engine.specs.Steps.{docs_after}
 use Rattle.cs_engine.specs.Stocked.{docs_in}
+use Rattle.cs_engine.proofs.AskedWords.{span_found}
+use Rattle.cs_engine.proofs.PlainParts.{exact_words, join_reads, prefix_words, words_told}
 use Rattle.cs_engine.proofs.EvaluationLemmas.{docs_begin, docs_go_on, docs_end, linked_reads, met_part-is, met_query-is, part_begins, part_goes_on}
 use Rattle.cs_engine.proofs.EvaluationLemmas.{part_ends, chain_goes_on, chain_ends, linked_within, joined_rows}
 use Rattle.cs_engine.proofs.RowsInRange.{kept_within, none_within, united_within}
 use Rattle.cs_engine.proofs.PartSteps.{base_sorted, known_docs}
 use Rattle.cs_engine.proofs.StockLemmas.{docs_are, stocked}
-use Rattle.cs_engine.proofs.WalkLemmas.{list_begins, list_goes_on, list_stops}
+use Rattle.cs_engine.proofs.WalkLemmas.{list_begins, list_goes_on, list_stops, within_more}
 use Rattle.cs_engine.proofs.evaluation.+evaluation.Goals as goal
 
 -- ---- the documents of hits
@@ -59,12 +63,57 @@ pub docs_of_hits-returns-clause-sorted : goal.docs_of_hits-returns-clause-sorted
 docs_of_hits-returns-clause-sorted g t c = subst AreDocs (sym c.in_ok-docs.ensures) (base_sorted _ c.loop-part.hits c.loop-part.invariant.base)
 
 -- ---- atoms
+pub rows_of_atom-returns-in-Prefix-clause-told : goal.rows_of_atom-returns-in-Prefix-clause-told
+rows_of_atom-returns-in-Prefix-clause-told g t c b is stands =
+    let asks = prefix_words c.args.index.now c.requires.opened.index c.args.atom.now c.in-Prefix.prefix c.as_bytes.result.now c.range-words.result.0
+    c.range-words.result.1 c.in-Prefix.is (c.as_bytes.ensures.value ∙ c.as_str.ensures) c.range-words.ensures in
+    words_told asks _ c.rows_between.result b stands (c.rows_between.ensures.told b is stands)
+
+pub rows_of_atom-returns-in-Prefix-clause-reads : goal.rows_of_atom-returns-in-Prefix-clause-reads
+rows_of_atom-returns-in-Prefix-clause-reads g t c =
+    let asks = prefix_words c.args.index.now c.requires.opened.index c.args.atom.now c.in-Prefix.prefix c.as_bytes.result.now c.range-words.result.0
+    c.range-words.result.1 c.in-Prefix.is (c.as_bytes.ensures.value ∙ c.as_str.ensures) c.range-words.ensures in
+    within_more c.rows_between.ensures.reads asks.few
+
+pub rows_of_atom-returns-in-Exact-clause-told : goal.rows_of_atom-returns-in-Exact-clause-told
+rows_of_atom-returns-in-Exact-clause-told g t c b is stands =
+    let asks = exact_words c.args.index.now c.requires.opened.index c.args.atom.now c.in-Exact.word c.as_bytes-in-Exact.result.now c.span_of_word-words.result.0
+    c.span_of_word-words.result.1 c.in-Exact.is (c.as_bytes-in-Exact.ensures.value ∙ c.as_str-in-Exact.ensures) c.span_of_word-words.ensures.span
+    c.span_of_word-words.ensures.short c.span_of_word-words.ensures.none in
+    words_told asks _ c.rows_between-in-Exact.result b stands (c.rows_between-in-Exact.ensures.told b is stands)
+
+pub rows_of_atom-returns-in-Exact-clause-reads : goal.rows_of_atom-returns-in-Exact-clause-reads
+rows_of_atom-returns-in-Exact-clause-reads g t c =
+    let asks = exact_words c.args.index.now c.requires.opened.index c.args.atom.now c.in-Exact.word c.as_bytes-in-Exact.result.now c.span_of_word-words.result.0
+    c.span_of_word-words.result.1 c.in-Exact.is (c.as_bytes-in-Exact.ensures.value ∙ c.as_str-in-Exact.ensures) c.span_of_word-words.ensures.span
+    c.span_of_word-words.ensures.short c.span_of_word-words.ensures.none in
+    within_more c.rows_between-in-Exact.ensures.reads asks.few
+
+pub rows_of_atom-returns-in_err-rows-in-Join-clause-reads : goal.rows_of_atom-returns-in_err-rows-in-Join-clause-reads
+rows_of_atom-returns-in_err-rows-in-Join-clause-reads g t c =
+    join_reads c.args.index.now c.requires.opened.index c.in-Join.is c.in_ok-words-in-Join.ensures c.docs_of_hits.ensures.reads
+    c.rows_between-in-Join.ensures.reads
+
+pub rows_of_atom-returns-in_err-kept-in-Join-clause-reads : goal.rows_of_atom-returns-in_err-kept-in-Join-clause-reads
+rows_of_atom-returns-in_err-kept-in-Join-clause-reads g t c =
+    join_reads c.args.index.now c.requires.opened.index c.in-Join.is c.in_ok-words-in-Join.ensures c.docs_of_hits.ensures.reads
+    c.rows_between-in-Join.ensures.reads
+
+pub rows_of_atom-returns-in_ok-kept-in-Join-clause-reads : goal.rows_of_atom-returns-in_ok-kept-in-Join-clause-reads
+rows_of_atom-returns-in_ok-kept-in-Join-clause-reads g t c =
+    join_reads c.args.index.now c.requires.opened.index c.in-Join.is c.in_ok-words-in-Join.ensures c.docs_of_hits.ensures.reads
+    c.rows_between-in-Join.ensures.reads
+
 pub rows_of_atom-returns-in_ok-kept-in-Join-clause-told : goal.rows_of_atom-returns-in_ok-kept-in-Join-clause-told
 rows_of_atom-returns-in_ok-kept-in-Join-clause-told g t c b is stands =
     let s = stock_of b in
-    joined_rows s (stocked b c.args.index.now stands c.requires.opened.index) c.args.atom.now c.in-Join.name c.in-Join.inner c.in-Join.is
-    c.in_ok-rows-in-Join.rows.posts c.in_ok-kept-in-Join.kept.posts c.in_ok-docs-in-Join.docs.items
-    (c.in_ok-rows-in-Join.ensures.told b (c.docs_of_hits.ensures.store.bytes ∙ is) stands) (c.in_ok-docs-in-Join.ensures.told b is stands)
+    let i = c.args.index.now in
+    let words = c.in_ok-words-in-Join.words in
+    let rows = span_found b i stands c.requires.opened.index (begins (named c.in-Join.name [])) words.0 words.1 c.in_ok-words-in-Join.ensures.holds
+    c.in_ok-rows-in-Join.rows.posts (c.in_ok-rows-in-Join.ensures.told b (c.docs_of_hits.ensures.store.bytes ∙ is) stands) in
+    joined_rows s (stocked b i stands c.requires.opened.index) c.args.atom.now c.in-Join.name c.in-Join.inner c.in-Join.is
+    c.in_ok-rows-in-Join.rows.posts c.in_ok-kept-in-Join.kept.posts c.in_ok-docs-in-Join.docs.items rows
+    (c.in_ok-docs-in-Join.ensures.told b is stands)
     (c.in_ok-kept-in-Join.ensures.ok ∙ ap (shared c.in_ok-rows-in-Join.rows.posts) c.as_slice.ensures.value)
 
 pub rows_of_atom-returns-in_ok-kept-in-Join-clause-within : goal.rows_of_atom-returns-in_ok-kept-in-Join-clause-within

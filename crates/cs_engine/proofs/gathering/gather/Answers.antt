@@ -1,11 +1,11 @@
-use Rattle.std.proofs.Common.{◌≡◌, ◌-◌, ◌∙◌, ◌++◌, List, ap, map, refl, subst, sym, arith}
+use Rattle.std.proofs.Common.{◌≡◌, ◌-◌, ◌∙◌, ◌++◌, List, ap, map, subst, sym, arith}
 use Rattle.std.specs.Prelude.{All}
 use Rattle.cs_base.specs.declared.content.doc.Post.{Post}
 use Rattle.cs_base.specs.outside.Causes.{ReadsWithin}
 use Rattle.cs_tables.specs.WordCounts.{is_chosen}
 use Rattle.cs_engine.specs.Packing.{HasKeys, IsPacked, key_of}
 use Rattle.cs_engine.proofs.PackingLemmas.{keys_more, no_keys, packed_posts, within_posts}
-use Rattle.cs_engine.proofs.WalkLemmas.{block_change, fails_behind, fetch_fails, hands_on, nothing_read, walk_ends, walk_goes_on, walk_reads, walk_stops}
+use Rattle.cs_engine.proofs.WalkLemmas.{block_fails, fails_behind, hands_on, nothing_read, walk_ends, walk_goes_on, walk_reads, walk_stops}
 use Rattle.cs_engine.proofs.gathering.gather.Goals as goal
 
 pub loop-k-init : goal.loop-k-init
@@ -20,11 +20,9 @@ returns-in_err-fetch_sought-clause-reads g c = walk_stops c.loop-k.invariant.wal
 
 pub returns-in_err-fetch_sought-clause-store : goal.returns-in_err-fetch_sought-clause-store
 returns-in_err-fetch_sought-clause-store g c =
-    let read = c.in_err-fetch_sought.ensures in
-    let e = c.in_err-fetch_sought.field-0.0 in
-    let change = block_change c.args.index.now _ c.loop-k.k e (omega (arith, c.blocks-first.ensures.within, c.loop-k-test.true)) read.changed in
     hands_on c.from_residual.result c.from_residual.ensures.1
-    (fails_behind c.loop-k.invariant.walk.store (fetch_fails e read.unchanged change read.bytes read.lent read.caused))
+    (fails_behind c.loop-k.invariant.walk.store
+    (block_fails (omega (arith, c.blocks-first.ensures.within, c.loop-k-test.true)) c.in_err-fetch_sought.ensures.store))
 
 pub pack-requires : goal.pack-requires
 pack-requires g c =
@@ -43,7 +41,7 @@ loop-k-preserved g c =
     let posts = c.fetch_sought.new.into.posts.items in
     let added = c.in_ok-pack.ensures ∙ ap (λ (ps : List Post). old ++ map key_of ps) c.deref.ensures.value in
     record {
-      walk = walk_goes_on inv.walk (record { unchanged = λ b is stands. refl; changed = tt; bytes = read.bytes; lent = read.lent; caused = read.caused }) read.reads;
+      walk = walk_goes_on inv.walk read.store read.reads;
       keys = keys_more i (g.S.Store.bytes c.args.store.now) c.blocks-first.result.0 c.loop-k.k (is_chosen c.args.words.0 c.args.words.1 c.args.listed.now)
           old c.pack.new.keys.items posts c.loop-k.auto.k (omega (arith, c.blocks-first.ensures.within, c.loop-k-test.true)) added
           (record {

@@ -15,8 +15,8 @@ gather-requires-clause-listed g c = ap length c.deref.ensures.value ∙ c.in_ok-
 pub returns-clause-told : goal.returns-clause-told
 returns-clause-told g c b is stands =
     let i = c.args.index.now in
-    let lo = c.args.lo in
-    let hi = c.args.hi in
+    let lo = c.args.words.0 in
+    let hi = c.args.words.1 in
     let listed = subst (λ n. AreListed n base.All c.in_ok-all.all.items) (ap (λ (x : IndexView). x.docs) c.index.view_is) c.in_ok-all.ensures in
     let h = all_gathered i c.requires.opened.index (g.S.Store.bytes c.args.store.now) lo hi c.deref.result.now c.in_ok-gathered.gathered
     c.in_ok-gathered.ensures.gathered (λ more. (let w = c.in_ok-gathered.ensures.whole more in (omega (arith, w.0), w.1))) in
@@ -28,6 +28,6 @@ returns-clause-told g c b is stands =
 pub returns-clause-within : goal.returns-clause-within
 returns-clause-within g c =
     let i = c.args.index.now in
-    let h = all_gathered i c.requires.opened.index (g.S.Store.bytes c.args.store.now) c.args.lo c.args.hi c.deref.result.now c.in_ok-gathered.gathered
+    let h = all_gathered i c.requires.opened.index (g.S.Store.bytes c.args.store.now) c.args.words.0 c.args.words.1 c.deref.result.now c.in_ok-gathered.gathered
     c.in_ok-gathered.ensures.gathered (λ more. (let w = c.in_ok-gathered.ensures.whole more in (omega (arith, w.0), w.1))) in
     ordered_within i h.rows c.in_ok-rows.rows.posts h.within (c.in_ok-rows.ensures h.rows h.are h.packed)

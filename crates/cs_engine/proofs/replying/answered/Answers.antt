@@ -1,17 +1,19 @@
-use Rattle.std.proofs.Common.{◌≡◌, ℕ, ◌∙◌, ap, sym, true≢false, arith, List, length, Option}
+use Rattle.std.proofs.Common.{◌≡◌, ℕ, ◌∙◌, ap, refl, subst, sym, true≢false, arith, List, length, Option}
 use Rattle.cs_base.specs.declared.content.doc.Post.{Post}
 use Rattle.cs_base.specs.declared.index.plan.Plan.{Plan}
 use Rattle.cs_base.specs.declared.index.plan.Plan.TheVariants.{Same, Narrow, Extend, Fresh}
-use Rattle.cs_file.specs.Indexes.{IndexView}
+use Rattle.cs_file.specs.Indexes.{IndexView, IsIndex}
 use Rattle.cs_model.specs.Replies.{Reply}
 use Rattle.cs_model.specs.Requests.{Request}
 use Rattle.cs_model_kept.specs.Entries.{EntryOf}
 use Rattle.cs_model_kept.specs.KeptList.{is_same}
+use Rattle.cs_model_kept.specs.KeptListLaws.{before_last}
 use Rattle.cs_query.specs.RequestView.{asked}
 use Rattle.cs_engine.specs.Asking.{division}
-use Rattle.cs_engine.specs.Keeping.{IsAnsweredOver, IsRepliedOver}
+use Rattle.cs_engine.specs.Keeping.{IsAnsweredOver, IsRepliedOver, entry_with}
+use Rattle.cs_engine.specs.Steps.{last_is_positive}
 use Rattle.cs_engine.proofs.LentLemmas.{all_reads, all_reads_err, extend_lent, kept_reads, kept_reads_err, narrow_lent, narrow_typed, same_lent}
-use Rattle.cs_engine.proofs.PlansLemmas.{is_used}
+use Rattle.cs_engine.proofs.PlansLemmas.{first_base, first_in, found_by_entry, is_used}
 use Rattle.cs_engine.proofs.replying.answered.Goals as goal
 
 -- where the plan isn't Same, an own entry that doesn't come along is too large
@@ -98,18 +100,43 @@ view-view-requires-in-Extend g c =
           c.requires.plan (λ f. let no : Extend ≡ Fresh = sym c.in-Extend.is ∙ f in cc);
     }
 
-pub answered_by_part-requires-clause-some : goal.answered_by_part-requires-clause-some
-answered_by_part-requires-clause-some g c =
+pub hits_before-requires-clause-some : goal.hits_before-requires-clause-some
+hits_before-requires-clause-some g c =
     let several = (extend_lent c.args.index.now c.args.answers.now.entries c.requires.kept c.args.request.now.query c.requires.limits.query c.args.keys.now
     c.requires.keys c.args.plan c.requires.plan c.view-view-in-Extend.result.base.now c.view-view-in-Extend.result.rows.now.posts
     c.view-view-in-Extend.ensures.base c.view-view-in-Extend.ensures.rows c.in-Extend.is).0 in
     omega (arith, several)
 
-pub answered_by_part-requires-clause-before : goal.answered_by_part-requires-clause-before
-answered_by_part-requires-clause-before g c =
-    (extend_lent c.args.index.now c.args.answers.now.entries c.requires.kept c.args.request.now.query c.requires.limits.query c.args.keys.now c.requires.keys
-    c.args.plan c.requires.plan c.view-view-in-Extend.result.base.now c.view-view-in-Extend.result.rows.now.posts
-    c.view-view-in-Extend.ensures.base c.view-view-in-Extend.ensures.rows c.in-Extend.is).1
+pub hits_before-requires-clause-base : goal.hits_before-requires-clause-base
+hits_before-requires-clause-base g c =
+    let lent = extend_lent c.args.index.now c.args.answers.now.entries c.requires.kept c.args.request.now.query c.requires.limits.query c.args.keys.now
+    c.requires.keys c.args.plan c.requires.plan c.view-view-in-Extend.result.base.now c.view-view-in-Extend.result.rows.now.posts
+    c.view-view-in-Extend.ensures.base c.view-view-in-Extend.ensures.rows c.in-Extend.is in
+    first_base c.args.request.now.query c.args.index.now (entry_with c.view-view-in-Extend.result.base.now c.view-view-in-Extend.result.rows.now.posts)
+    c.requires.limits.parts lent.1
+
+pub hits_before-requires-clause-sorted : goal.hits_before-requires-clause-sorted
+hits_before-requires-clause-sorted g c =
+    let lent = extend_lent c.args.index.now c.args.answers.now.entries c.requires.kept c.args.request.now.query c.requires.limits.query c.args.keys.now
+    c.requires.keys c.args.plan c.requires.plan c.view-view-in-Extend.result.base.now c.view-view-in-Extend.result.rows.now.posts
+    c.view-view-in-Extend.ensures.base c.view-view-in-Extend.ensures.rows c.in-Extend.is in
+    lent.1.rows.sorted
+
+pub answered_by_hits-requires-clause-some : goal.answered_by_hits-requires-clause-some
+answered_by_hits-requires-clause-some g c =
+    let several = (extend_lent c.args.index.now c.args.answers.now.entries c.requires.kept c.args.request.now.query c.requires.limits.query c.args.keys.now
+    c.requires.keys c.args.plan c.requires.plan c.view-view-in-Extend.result.base.now c.view-view-in-Extend.result.rows.now.posts
+    c.view-view-in-Extend.ensures.base c.view-view-in-Extend.ensures.rows c.in-Extend.is).0 in
+    omega (arith, several)
+
+pub answered_by_hits-requires-clause-base : goal.answered_by_hits-requires-clause-base
+answered_by_hits-requires-clause-base g c =
+    let q = c.args.request.now.query in
+    let lent = extend_lent c.args.index.now c.args.answers.now.entries c.requires.kept c.args.request.now.query c.requires.limits.query c.args.keys.now
+    c.requires.keys c.args.plan c.requires.plan c.view-view-in-Extend.result.base.now c.view-view-in-Extend.result.rows.now.posts
+    c.view-view-in-Extend.ensures.base c.view-view-in-Extend.ensures.rows c.in-Extend.is in
+    first_in q c.args.index.now (entry_with c.view-view-in-Extend.result.base.now c.view-view-in-Extend.result.rows.now.posts) c.in_ok-hits-in-Extend.hits lent.1
+    c.in_ok-hits-in-Extend.ensures
 
 pub returns-in_err-answered-in-Extend-clause-reads : goal.returns-in_err-answered-in-Extend-clause-reads
 returns-in_err-answered-in-Extend-clause-reads g c =
@@ -118,10 +145,14 @@ returns-in_err-answered-in-Extend-clause-reads g c =
 
 pub returns-in_ok-answered-in-Extend-clause-told : goal.returns-in_ok-answered-in-Extend-clause-told
 returns-in_ok-answered-in-Extend-clause-told g c b is stands over good =
-    by_any (c.in_ok-answered-in-Extend.ensures.told b is stands over
-    ((extend_lent c.args.index.now c.args.answers.now.entries c.requires.kept c.args.request.now.query c.requires.limits.query c.args.keys.now
+    let i = c.args.index.now in
+    let e = entry_with c.view-view-in-Extend.result.base.now c.view-view-in-Extend.result.rows.now.posts in
+    let lent = extend_lent c.args.index.now c.args.answers.now.entries c.requires.kept c.args.request.now.query c.requires.limits.query c.args.keys.now
     c.requires.keys c.args.plan c.requires.plan c.view-view-in-Extend.result.base.now c.view-view-in-Extend.result.rows.now.posts
-    c.view-view-in-Extend.ensures.base c.view-view-in-Extend.ensures.rows c.in-Extend.is).2 b good))
+    c.view-view-in-Extend.ensures.base c.view-view-in-Extend.ensures.rows c.in-Extend.is in
+    let found = found_by_entry i (before_last c.args.request.now.query) e (last_is_positive (before_last c.args.request.now.query)) refl
+    c.in_ok-hits-in-Extend.hits c.in_ok-hits-in-Extend.ensures b stands (subst IsIndex c.index.view_is c.index.invariant) (lent.2 b good) in
+    by_any (c.in_ok-answered-in-Extend.ensures.told b is stands over found.base)
 
 pub returns-in_ok-answered-in-Extend-clause-reads : goal.returns-in_ok-answered-in-Extend-clause-reads
 returns-in_ok-answered-in-Extend-clause-reads g c =

@@ -1,4 +1,4 @@
-use Rattle.std.proofs.Common.{◌≡◌, ◌<◌, ◌∙◌, refl, sym, subst, arith}
+use Rattle.std.proofs.Common.{◌≡◌, ◌<◌, ◌∙◌, sym, subst, arith}
 use Rattle.std.specs.Prelude.{All}
 use Rattle.cs_file.specs.Indexes.{block_posts}
 use Rattle.cs_model_index.specs.Sections.{image_of}
@@ -6,7 +6,7 @@ use Rattle.cs_tables.specs.WordCounts.{is_chosen}
 use Rattle.cs_engine.specs.Loose.{HasBestScores}
 use Rattle.cs_engine.specs.IndexReading.{run_of}
 use Rattle.cs_engine.proofs.BehindLemmas.{best_found, best_more}
-use Rattle.cs_engine.proofs.WalkLemmas.{block_change, fails_behind, fetch_fails, hands_on, walk_ends, walk_goes_on, walk_stops}
+use Rattle.cs_engine.proofs.WalkLemmas.{block_fails, fails_behind, hands_on, walk_ends, walk_goes_on, walk_stops}
 use Rattle.cs_engine.proofs.scored.best_in_blocks.Goals as goal
 
 pub returns-in_err-fetch_scored-clause-reads : goal.returns-in_err-fetch_scored-clause-reads
@@ -14,11 +14,9 @@ returns-in_err-fetch_scored-clause-reads g c = walk_stops c.loop-k.invariant.wal
 
 pub returns-in_err-fetch_scored-clause-store : goal.returns-in_err-fetch_scored-clause-store
 returns-in_err-fetch_scored-clause-store g c =
-    let read = c.in_err-fetch_scored.ensures in
-    let e = c.in_err-fetch_scored.field-0.0 in
-    let change = block_change c.args.index.now _ c.loop-k.k e (omega (arith, c.blocks-first.ensures.within, c.loop-k-test.true)) read.changed in
     hands_on c.from_residual-in_err-fetch_scored.result c.from_residual-in_err-fetch_scored.ensures.1
-    (fails_behind c.loop-k.invariant.walk.store (fetch_fails e read.unchanged change read.bytes read.lent read.caused))
+    (fails_behind c.loop-k.invariant.walk.store
+    (block_fails (omega (arith, c.blocks-first.ensures.within, c.loop-k-test.true)) c.in_err-fetch_scored.ensures.store))
 
 pub raise_rows-requires-clause-known : goal.raise_rows-requires-clause-known
 raise_rows-requires-clause-known g c =
@@ -29,7 +27,7 @@ loop-k-preserved g c =
     let inv = c.loop-k.invariant in
     let read = c.in_ok-fetch_scored.ensures in
     record {
-      walk = walk_goes_on inv.walk (record { unchanged = λ b is stands. refl; changed = tt; bytes = read.bytes; lent = read.lent; caused = read.caused }) read.reads;
+      walk = walk_goes_on inv.walk read.store read.reads;
       scored = λ b is stands.
           best_more b c.args.index.now stands c.requires.opened.index c.args.words.0 c.args.words.1 c.args.listed.now c.blocks-first.result.0 c.loop-k.k
           c.loop-k.best.items c.raise_rows.new.best.items c.loop-k.auto.k (omega (arith, c.blocks-first.ensures.within, c.loop-k-test.true))

@@ -1,5 +1,5 @@
 use Rattle.std.proofs.lemmas.Result.{on_ok_weaker}
-use Rattle.cs_file.proofs.FetchLemmas.{BlockRead, block_read, can_judge, fault_changed, fault_unchanged, told_within}
+use Rattle.cs_file.proofs.FetchLemmas.{BlockRead, block_read, can_judge, fault_changed, fault_unchanged, told_within, read_once}
 use Rattle.cs_file.proofs.FetchedWords.{docs_known, words_even, words_known}
 use Rattle.cs_file.proofs.ScoredLemmas.{scored_stood, scores_even, scores_small}
 use Rattle.cs_file.proofs.index.Index.fetch_scored.Given as given
@@ -34,8 +34,8 @@ returns-clause-scores g c = on_ok_weaker c.scored_at.result (scores_small _ _ _)
 pub returns-clause-stood : goal.returns-clause-stood
 returns-clause-stood g c = λ b t s. on_ok_weaker c.scored_at.result (scored_stood (read g c) b c.scored_at.new.into t s) c.scored_at.ensures.ok
 
-pub returns-clause-changed : goal.returns-clause-changed
-returns-clause-changed g c = fault_changed (read g c) c.scored_at.result c.scored_at.ensures.exact
-
-pub returns-clause-unchanged : goal.returns-clause-unchanged
-returns-clause-unchanged g c = λ b t s. fault_unchanged (read g c) b c.scored_at.result t s c.scored_at.ensures.exact
+pub returns-clause-store : goal.returns-clause-store
+returns-clause-store g c =
+    let over = c.in_ok-read_over.ensures in
+    read_once (λ b t s. fault_unchanged (read g c) b c.scored_at.result t s c.scored_at.ensures.exact) (fault_changed (read g c) c.scored_at.result c.scored_at.ensures.exact)
+    c.scored_at.ensures.unread over.bytes over.lent over.caused

@@ -1,5 +1,5 @@
 use Rattle.std.proofs.lemmas.Result.{on_ok_weaker}
-use Rattle.cs_file.proofs.FetchLemmas.{BlockRead, block_read, can_judge, fault_changed, fault_unchanged, told_within}
+use Rattle.cs_file.proofs.FetchLemmas.{BlockRead, block_read, can_judge, fault_changed, fault_unchanged, told_within, read_once}
 use Rattle.cs_file.proofs.SoughtPosts.{passed, sought_ranged, sought_stood}
 use Rattle.cs_file.proofs.index.Index.fetch_sought.Given as given
 use Rattle.cs_file.proofs.index.Index.fetch_sought.Goals as goal
@@ -27,8 +27,8 @@ pub returns-clause-stood : goal.returns-clause-stood
 returns-clause-stood g c = λ b t s.
     on_ok_weaker c.sought_at.result (sought_stood c.args.words.0 c.args.words.1 c.args.listed.now (read g c) b t s) c.sought_at.ensures.ok
 
-pub returns-clause-changed : goal.returns-clause-changed
-returns-clause-changed g c = fault_changed (read g c) c.sought_at.result c.sought_at.ensures.exact
-
-pub returns-clause-unchanged : goal.returns-clause-unchanged
-returns-clause-unchanged g c = λ b t s. fault_unchanged (read g c) b c.sought_at.result t s c.sought_at.ensures.exact
+pub returns-clause-store : goal.returns-clause-store
+returns-clause-store g c =
+    let over = c.in_ok-read_over.ensures in
+    read_once (λ b t s. fault_unchanged (read g c) b c.sought_at.result t s c.sought_at.ensures.exact) (fault_changed (read g c) c.sought_at.result c.sought_at.ensures.exact)
+    c.sought_at.ensures.unread over.bytes over.lent over.caused

@@ -1,5 +1,5 @@
 use Rattle.std.proofs.Common.{◌+◌, arith}
-use Rattle.cs_file.proofs.FetchLemmas.{TitleRead, title_span, title_found, title_by, title_stood, title_unchanged, title_changed}
+use Rattle.cs_file.proofs.FetchLemmas.{TitleRead, title_span, title_found, title_by, title_stood, title_unchanged, title_changed, read_once}
 use Rattle.cs_file.proofs.index.Index.title.Given as given
 use Rattle.cs_file.proofs.index.Index.title.Goals as goal
 
@@ -26,8 +26,8 @@ returns-clause-ok g c = title_by (read g c) c.text_at.result c.text_at.ensures.e
 pub returns-clause-stood : goal.returns-clause-stood
 returns-clause-stood g c = λ b t s. title_stood (read g c) b c.text_at.result t s c.text_at.ensures.exact
 
-pub returns-clause-changed : goal.returns-clause-changed
-returns-clause-changed g c = title_changed (read g c) c.text_at.result c.text_at.ensures.exact
-
-pub returns-clause-unchanged : goal.returns-clause-unchanged
-returns-clause-unchanged g c = λ b t s. title_unchanged (read g c) b c.text_at.result t s c.text_at.ensures.exact
+pub returns-clause-store : goal.returns-clause-store
+returns-clause-store g c =
+    let over = c.in_ok-read_over.ensures in
+    read_once (λ b t s. title_unchanged (read g c) b c.text_at.result t s c.text_at.ensures.exact) (title_changed (read g c) c.text_at.result c.text_at.ensures.exact)
+    c.text_at.ensures.unread over.bytes over.lent over.caused

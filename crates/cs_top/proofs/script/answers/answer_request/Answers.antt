@@ -1,8 +1,9 @@
 use Rattle.std.proofs.Common.{◌≡◌, ◌∙◌, ℕ, false, true, ap, refl, subst}
 use Rattle.std.specs.Prelude.{Result, Err}
-use Rattle.cs_engine.specs.Asking.{IsChangeIn, is_changed}
-use Rattle.cs_engine.specs.declared.fault.AskFault.{AskFault}
-use Rattle.cs_engine.specs.declared.fault.AskFault.TheVariants as asks
+use Rattle.cs_engine.specs.Asking.{IsChangeIn}
+use Rattle.cs_file.specs.CallAnswers.{is_changed}
+use Rattle.cs_file.specs.declared.fault.FetchFault.{FetchFault}
+use Rattle.cs_file.specs.declared.fault.FetchFault.TheVariants as asks
 use Rattle.cs_engine.specs.declared.note.Note.{Note}
 use Rattle.cs_model.specs.Replies.{Reply}
 use Rattle.cs_top.specs.Answering.{bytes_there}
@@ -11,7 +12,7 @@ use Rattle.cs_top.proofs.PutTextLemmas.{memory_put, read_put}
 use Rattle.cs_top.proofs.script.answers.answer_request.Goals as goal
 
 -- a change is one
-unlike : {T : Type 0} (r : Result T AskFault) (f : AskFault) (rule at : ℕ) → r ≡ Err f → f ≡ asks.Changed rule at → is_changed r ≡ false → ⊥
+unlike : {T : Type 0} (r : Result T FetchFault) (f : FetchFault) (rule at : ℕ) → r ≡ Err f → f ≡ asks.Changed rule at → is_changed r ≡ false → ⊥
 unlike r f rule at err is e = let wrong : true ≡ false = subst (λ x. is_changed x ≡ false) (err ∙ ap (λ x. Err x) is) e in absurd cc
 
 pub returns-in-Err-Changed-clause-unchanged : goal.returns-in-Err-Changed-clause-unchanged
