@@ -30,8 +30,7 @@ pub fn shared(alloc: Global, facet_rows: &Cols, inner_hits: &[u32]) -> Result<Co
 fn marked_rows(alloc: Global, rows: &Cols, marks: &Marks) -> Result<Cols, Memory>
     ensures { IfOk result (λ c. c.posts ≡ filter (has_mark marks.now.least marks.now.marks.items) rows.now.posts) }
 {
-    let mut found = Cols::new(alloc);
-    found.reserve(count_marked(rows, marks))?;
+    let mut found = Cols::with_capacity(alloc, count_marked(rows, marks))?;
     for i in 0..rows.len() {
         let row = rows.get(i);
         add_where(&mut found, marks.has(row.word), row);

@@ -282,16 +282,21 @@ pub written_back : {X : Type 0} (n : ℕ) (a b : List X) → length a ≡ length
 written_back n a b l m = ap (λ r. take n (a ++ r)) (drop_all (length a) b (omega (arith, l))) ∙ ap (take n) (append-nil a) ∙ take_all n a (omega (arith, l, m))
 
 -- rows more, by their documents and words
-pub rows_added : (own t : WordCountsView) (rows : Rows) (lent : List Mark) (len : ℕ) (new : List Mark) → own ≡ t → lent ≡ own.marks → len ≡ length own.marks
-    → CountsRows own.low own.high rows lent new
+pub rows_added : (own t : WordCountsView) (given rows : Rows) (lent : List Mark) (len : ℕ) (new : List Mark) → own ≡ t → lent ≡ own.marks → len ≡ length own.marks
+    → given ≡ rows → CountsRows own.low own.high given lent new
     → AddsColumns rows.listed.now rows.docs.now rows.words.now t (record { low = own.low; high = own.high; marks = take len (new ++ drop (length new) own.marks) })
-rows_added own t rows lent len new view is long counts posts d w seen few h =
-    let listed = rows.listed.now in
-    let here = subst (λ (ms : List Mark). Counts own.low own.high listed posts ms new) is (counts.counted posts (record { docs = d; words = w })) in
-    let same = subst (λ (t : WordCountsView). Counts t.low t.high listed posts t.marks new) view here in
-    let back = written_back len new own.marks (omega (arith, counts.sized, ap length is)) long in
-    let there = subst (λ (ms : List Mark). Counts t.low t.high listed posts t.marks ms) (sym back) same in
-    piece_counted t.low t.high listed seen posts t _ refl refl (ap (λ (t : WordCountsView). t.low) view) (ap (λ (t : WordCountsView). t.high) view) there few h
+rows_added own t given rows lent len new view is long are counts = record {
+  counted = λ posts d w seen few h.
+      let listed = rows.listed.now in
+      let same = subst (λ (r : Rows). CountsRows own.low own.high r lent new) are counts in
+      let here = subst (λ (ms : List Mark). Counts own.low own.high listed posts ms new) is (same.counted posts (record { docs = d; words = w })) in
+      let there = subst (λ (t : WordCountsView). Counts t.low t.high listed posts t.marks new) view here in
+      let back = written_back len new own.marks (omega (arith, counts.sized, ap length is)) long in
+      let put = subst (λ (ms : List Mark). Counts t.low t.high listed posts t.marks ms) (sym back) there in
+      piece_counted t.low t.high listed seen posts t _ refl refl (ap (λ (t : WordCountsView). t.low) view) (ap (λ (t : WordCountsView). t.high) view) put few h;
+  low = ap (λ (t : WordCountsView). t.low) view;
+  high = ap (λ (t : WordCountsView). t.high) view;
+}
 
 -- ---- tables
 pub words_counted : (t : WordCountsView) (rows : List Post) → t.low + length t.marks ≡ t.high → AreCountable rows → HasCounted rows t → collected t.low t.marks ≡ map (counted_word rows) (post_words rows)

@@ -101,8 +101,10 @@ pub record CountsAt (low high : ℕ) (rows : Rows) (places : List ℕ) (old new 
       → Counts low high rows.listed.now (map (λ i. slice_index_or posts i d) places) old new
   pub sized : length new ≡ length old
 
--- of no columns what was counted stays
-abbrev pub AddsColumns : List Bool → List ℕ → List ℕ → WordCountsView → WordCountsView → Type 0
-AddsColumns listed docs words old new = (rows : List Post) → docs ≡ map (λ p. p.doc) rows → words ≡ map (λ p. p.word) rows
-    → (seen : List Post) → AreCountable (seen ++ chosen old.low old.high listed rows)
-    → HasCounted seen old → HasCounted (seen ++ chosen old.low old.high listed rows) new
+-- of no columns what was counted stays; the words that are counted stay the same
+pub record AddsColumns (listed : List Bool) (docs words : List ℕ) (old new : WordCountsView) : Type 0 where
+  pub counted : (rows : List Post) → docs ≡ map (λ p. p.doc) rows → words ≡ map (λ p. p.word) rows
+      → (seen : List Post) → AreCountable (seen ++ chosen old.low old.high listed rows)
+      → HasCounted seen old → HasCounted (seen ++ chosen old.low old.high listed rows) new
+  pub low : new.low ≡ old.low
+  pub high : new.high ≡ old.high

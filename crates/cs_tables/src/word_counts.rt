@@ -24,6 +24,18 @@ struct Rows<'a> {
     listed: &'a [bool],
 }
 
+impl<'a> Rows<'a> {
+    fn of(docs: &'a [u32], words: &'a [u32], listed: &'a [bool]) -> Rows<'a>
+        ensures { result ≡ record { docs = docs.entry; words = words.entry; listed = listed.entry } }
+    {
+        Rows {
+            docs,
+            words,
+            listed,
+        }
+    }
+}
+
 /// The words from one number up to another, each with the number of documents that it has in the rows so far.
 ///
 /// The rows of one word come in order; those of different words may come in any order.
@@ -65,17 +77,10 @@ impl WordCounts {
         requires even { length words.now ≡ length docs.now }
         requires known { All (λ d. d < length listed.now) docs.now }
 
-        ensures counted { AddsColumns listed.now docs.now words.now self.old self.new }
-        ensures low { self.new.low ≡ self.old.low }
-        ensures high { self.new.high ≡ self.old.high }
+        ensures { AddsColumns listed.now docs.now words.now self.old self.new }
     {
-        let (low, high) = (self.low, self.high);
-        let rows = Rows {
-            docs,
-            words,
-            listed,
-        };
-        see_rows(low, high, &mut self.marks, rows);
+        let rows = Rows::of(docs, words, listed);
+        see_rows(self.low, self.high, &mut self.marks, rows);
     }
 
     /// Counts rows as `add` does. It is the faster one where all words are counted and a document may have a word often.
@@ -83,17 +88,10 @@ impl WordCounts {
         requires even { length words.now ≡ length docs.now }
         requires known { All (λ d. d < length listed.now) docs.now }
 
-        ensures counted { AddsColumns listed.now docs.now words.now self.old self.new }
-        ensures low { self.new.low ≡ self.old.low }
-        ensures high { self.new.high ≡ self.old.high }
+        ensures { AddsColumns listed.now docs.now words.now self.old self.new }
     {
-        let (low, high) = (self.low, self.high);
-        let rows = Rows {
-            docs,
-            words,
-            listed,
-        };
-        see_mixed(low, high, &mut self.marks, rows);
+        let rows = Rows::of(docs, words, listed);
+        see_mixed(self.low, self.high, &mut self.marks, rows);
     }
 
     /// Counts one row more, of one of these words.
