@@ -7,11 +7,7 @@
 # linear generator, and must print one number. A pass is the processor time of N + 1 passes without that of one, by N;
 # of nine such measurements the middle one is shown. The C++ is run in three forms: row by row with the five rules, row
 # by row with none, and column by column with none.
-set -eu
-here=$(cd "$(dirname "$0")/.." && pwd)
-dir=${1:-/tmp/timed_blocks}
-mkdir -p "$dir"
-cd "$dir"
+. "$(dirname "$0")/beside.sh" blocks "${1:-}"
 
 cat > blocks.cpp <<'CPP'
 #include "columns.h"
@@ -159,9 +155,8 @@ int main(int, char **v) {
     printf("%llu %u\n", (unsigned long long)sum, head.len);
 }
 CPP
-g++ -O2 -std=c++17 -I "$here/bench" -o blocks blocks.cpp
 
-PYTHONPATH="$here/bench" python3 -B - "$here/crates/timed/out/timed" ./blocks <<'PY'
+compare <<'PY'
 import sys
 from passes import pass_of, run
 ours, plain = sys.argv[1:]

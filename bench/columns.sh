@@ -7,11 +7,7 @@
 # FOLDER (/tmp/timed_columns) takes the C++ program. It needs python3 and g++. Both programs make their posts from one
 # linear generator, and must print one number. A pass is the processor time of N + 1 passes without that of one, by N;
 # of five such measurements the middle one is shown. Where one list is much shorter, C++ too steps by doubling.
-set -eu
-here=$(cd "$(dirname "$0")/.." && pwd)
-dir=${1:-/tmp/timed_columns}
-mkdir -p "$dir"
-cd "$dir"
+. "$(dirname "$0")/beside.sh" columns "${1:-}"
 
 cat > columns.cpp <<'CPP'
 #include "columns.h"
@@ -214,9 +210,8 @@ int main(int, char **v) {
     printf("%llu %zu\n", (unsigned long long)sum, read);
 }
 CPP
-g++ -O2 -std=c++17 -I "$here/bench" -o columns columns.cpp
 
-PYTHONPATH="$here/bench" python3 -B - "$here/crates/timed/out/timed" ./columns <<'PY'
+compare <<'PY'
 import sys
 from passes import pass_of
 ours, plain = sys.argv[1:]
