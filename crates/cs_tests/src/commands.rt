@@ -1,6 +1,7 @@
 //! What no clause says: that with memory at hand worked scripts have these replies, and how the lines read.
-use cs_base::{MemFiles, MemSink, Memory, ScriptHub, Scripted, Seq};
-use cs_top::run;
+use crate::hubs::{Came, hub_of};
+use crate::runs::{ASK, REPLAY, SERVE, built, held, run_beside, run_over, same};
+use cs_base::Memory;
 use cs_worked::{
     BAD_FACET, BAD_NAME, PREFIX, SCRIPTS, SECOND_BAR, THREE_DOCUMENTS, TYPED, USAGE, Worked,
     WorkedScript,
@@ -9,87 +10,11 @@ use std::alloc::Global;
 use std::process::Abort;
 use std::test::Fail;
 
-// Command lines: C is a collection, Q a script and I an index file.
-pub(crate) const ASK: &[&str] = &["ask", "C", "Q"];
-
-const BUILD: &[&str] = &["build", "C", "I"];
-
-pub(crate) const REPLAY: &[&str] = &["replay", "I", "Q"];
-
-pub(crate) const SERVE: &[&str] = &["serve", "I", "8080", "1"];
-
 const TRIAL: &[&str] = &["trial", "1"];
 
 // What a plain search over sets of rows, in another language, counts of the first trial.
 const SUMMARY: &str =
     "documents 100\nrows 1600\nblocks 2\nreplies 260\nhits 4023\nsame 47\nnarrow 189\nextend 20\nfresh 4\n";
-
-/// What a run leaves.
-#[derive(Drop)]
-pub(crate) struct Left {
-    pub(crate) status: u8,
-    out: Vec<u8>,
-    err: Vec<u8>,
-}
-
-impl Left {
-    pub(crate) fn is(&self, status: u8, out: &[u8], err: &str) -> bool {
-        self.status == status && self.out.as_slice() == out && self.err.as_slice() == err.as_bytes()
-    }
-}
-
-pub(crate) fn run_over(alloc: Global, words: &[&str], files: &mut MemFiles) -> Result<Left, Fail> {
-    let mut hub = ScriptHub::new(alloc, Seq::new(alloc));
-    run_beside(alloc, words, files, &mut hub)
-}
-
-pub(crate) fn run_beside(
-    alloc: Global,
-    words: &[&str],
-    files: &mut MemFiles,
-    hub: &mut ScriptHub,
-) -> Result<Left, Fail> {
-    let given = words_of(alloc, words)?;
-    let mut out = MemSink::new(alloc);
-    let mut err = MemSink::new(alloc);
-    let status = run(alloc, &given, files, hub, &mut out, &mut err);
-    Ok(Left {
-        status,
-        out: out.into_bytes(),
-        err: err.into_bytes(),
-    })
-}
-
-pub(crate) fn words_of(alloc: Global, words: &[&str]) -> Result<Vec<String>, Memory> {
-    let mut given = Vec::new(alloc);
-    for word in words {
-        given.push(String::from_str(alloc, word)?)?;
-    }
-    Ok(given)
-}
-
-// The files C and Q, where there are any.
-fn held(alloc: Global, collection: Option<&[u8]>, script: Option<&[u8]>) -> Result<MemFiles, Fail> {
-    let mut files = MemFiles::new(alloc);
-    if let Some(bytes) = collection {
-        files.hold("C", bytes.to_vec(alloc)?)?;
-    }
-    if let Some(bytes) = script {
-        files.hold("Q", bytes.to_vec(alloc)?)?;
-    }
-    Ok(files)
-}
-
-// The files C and Q, and the index file I of the collection.
-pub(crate) fn built(alloc: Global, collection: &str, script: &[u8]) -> Result<MemFiles, Fail> {
-    let mut files = held(alloc, Some(collection.as_bytes()), Some(script))?;
-    let left = run_over(alloc, BUILD, &mut files)?;
-    if left.is(0, b"", "") {
-        Ok(files)
-    } else {
-        Err(Fail::new("not built"))
-    }
-}
 
 // The lines, each with an ending.
 fn script_of(alloc: Global, rows: &[Worked]) -> Result<Vec<u8>, Memory> {
@@ -106,10 +31,10 @@ fn are_put(rt: &impl Abort, out: &[u8], rows: &[Worked]) {
     let mut replies = out.split(|b| *b == b'\n');
     for row in rows {
         let reply = replies.next();
-        assert_eq!(rt; reply, Some(row.reply.as_bytes()), "to {}", row.line);
+        same(rt, &reply, &Some(row.reply.as_bytes()), row.line);
     }
-    assert_eq!(rt; replies.next(), Some(b"".as_slice()));
-    assert!(rt; replies.next().is_none());
+    same(rt, &replies.next(), &Some(b"".as_slice()), "the last line");
+    same(rt, &replies.next(), &None, "its end");
 }
 
 fn are_answered(rt: &impl Abort, alloc: Global, row: &WorkedScript) -> Result<(), Fail> {
@@ -117,11 +42,8 @@ fn are_answered(rt: &impl Abort, alloc: Global, row: &WorkedScript) -> Result<()
     let mut files = built(alloc, row.collection, &script)?;
     for words in [ASK, REPLAY] {
         let left = run_over(alloc, words, &mut files)?;
-        assert!(rt;
-            left.status == 0 && left.err.is_empty(),
-            "over {}",
-            row.collection
-        );
+        let ending = (left.status, left.err.as_slice());
+        same(rt, &ending, &(0, b"".as_slice()), row.collection);
         are_put(rt, &left.out, row.lines);
     }
     Ok(())
@@ -230,20 +152,27 @@ const ENDINGS: &[Ending] = &[
     ),
 ];
 
+fn filled_script(
+    alloc: Global,
+    front: &[u8],
+    filled: usize,
+    behind: &[u8],
+) -> Result<Vec<u8>, Memory> {
+    let mut script = front.to_vec(alloc)?;
+    script.extend_from_slice("&".repeat(alloc, filled)?.as_bytes())?;
+    script.extend_from_slice(behind)?;
+    Ok(script)
+}
+
 #[test]
 fn what_ends_a_script_is_named_after_the_lines_before_it(rt: HostRuntime) -> Result<(), Fail> {
     let alloc = rt.alloc();
     for (front, filled, behind, rows, status, err) in ENDINGS {
-        let mut script = front.to_vec(alloc)?;
-        script.extend_from_slice("&".repeat(alloc, *filled)?.as_bytes())?;
-        script.extend_from_slice(behind)?;
+        let script = filled_script(alloc, front, *filled, behind)?;
         let mut files = held(alloc, Some(THREE_DOCUMENTS.as_bytes()), Some(&script))?;
         let left = run_over(alloc, ASK, &mut files)?;
-        assert!(&rt;
-            left.status == *status && left.err.as_slice() == err.as_bytes(),
-            "of {} bytes, with {err}",
-            script.len()
-        );
+        let ending = (left.status, left.err.as_slice());
+        same(&rt, &ending, &(*status, err.as_bytes()), (*front, *filled));
         are_put(&rt, &left.out, rows);
     }
     Ok(())
@@ -298,7 +227,13 @@ fn what_is_refused_or_missing_is_named(rt: HostRuntime) -> Result<(), Fail> {
     for (words, collection, script, status, out, err) in RUNS {
         let mut files = held(rt.alloc(), *collection, *script)?;
         let left = run_over(rt.alloc(), words, &mut files)?;
-        assert!(rt; left.is(*status, out.as_bytes(), err), "with {err}");
+        let found = (left.status, left.out.as_slice(), left.err.as_slice());
+        same(
+            &rt,
+            &found,
+            &(*status, out.as_bytes(), err.as_bytes()),
+            *words,
+        );
     }
     Ok(())
 }
@@ -306,13 +241,15 @@ fn what_is_refused_or_missing_is_named(rt: HostRuntime) -> Result<(), Fail> {
 #[test]
 fn a_connection_has_the_reply_of_its_request(rt: HostRuntime) -> Result<(), Fail> {
     let mut files = built(rt.alloc(), THREE_DOCUMENTS, b"")?;
-    let bytes = Seq::from_vec(TYPED.head.as_bytes().to_vec(rt.alloc())?);
-    let mut events = Seq::new(rt.alloc());
-    events.push(Scripted::Opened)?;
-    events.push(Scripted::Piece { conn: 0, bytes })?;
-    let mut hub = ScriptHub::new(rt.alloc(), events);
+    let rows = [Came::Opened, Came::Piece(0, TYPED.head.as_bytes())];
+    let mut hub = hub_of(rt.alloc(), &rows)?;
     let left = run_beside(rt.alloc(), SERVE, &mut files, &mut hub)?;
     assert!(rt; left.is(0, b"serving 8080\n", ""));
-    assert_eq!(rt; hub.sent(0), TYPED.response.as_bytes());
+    same(
+        &rt,
+        &hub.sent(0),
+        &TYPED.response.as_bytes(),
+        "the response",
+    );
     Ok(())
 }

@@ -2,12 +2,14 @@
 ghost use Rattle.std.specs.Prelude.{◌≡◌, IfOk, Some};
 ghost use Rattle.cs_file.specs.Indexes.{HasAllBlocks};
 
+use crate::runs::same;
 use cs_base::{Kept, MemStore, Plan, Store};
 use cs_engine::{Engine, Note};
 use cs_file::open_index;
-use cs_query::{Reply, Request, parse};
+use cs_query::{HitShown, Reply, Request, parse};
 use cs_worked::ONE_DOCUMENT;
 use std::alloc::Global;
+use std::process::Abort;
 use std::test::Fail;
 
 /// An engine over the index file in a store, with room for four answers.
@@ -42,29 +44,40 @@ fn answer(
     }
 }
 
+// A query, its plan, what became of its entry, how many words and hits there are, and the score of each hit.
+type Asked = (&'static str, Plan, Kept, u32, u32, u32);
+
+const ASKED: &[Asked] = &[
+    ("a", Plan::Fresh, Kept::Kept, 2, 1, 4),
+    ("ab", Plan::Narrow { cut: 1 }, Kept::Kept, 1, 1, 4),
+    ("ab b", Plan::Extend, Kept::Kept, 1, 1, 5),
+    ("ab b", Plan::Same, Kept::Had, 1, 1, 5),
+    ("ab -a", Plan::Extend, Kept::Kept, 0, 0, 0),
+];
+
 #[test]
 fn each_request_goes_on_from_those_before(rt: HostRuntime) -> Result<(), Fail> {
     let alloc = rt.alloc();
     let mut store = MemStore::new(ONE_DOCUMENT.file.to_vec(alloc)?);
     let mut engine = engine_over(alloc, &mut store)?;
-    for (text, plan, kept, words, hits, score) in [
-        ("a", Plan::Fresh, Kept::Kept, 2, 1, 4),
-        ("ab", Plan::Narrow { cut: 1 }, Kept::Kept, 1, 1, 4),
-        ("ab b", Plan::Extend, Kept::Kept, 1, 1, 5),
-        ("ab b", Plan::Same, Kept::Had, 1, 1, 5),
-        ("ab -a", Plan::Extend, Kept::Kept, 0, 0, 0),
-    ] {
+    for (text, plan, kept, words, hits, score) in ASKED {
         let (reply, note) = answer(alloc, &mut engine, &mut store, text)?;
-        assert!(rt;
-            note == Note { plan, kept } && reply.total_completions == words,
-            "{text}"
+        let found = (
+            note.plan,
+            note.kept,
+            reply.total_completions,
+            reply.total_hits,
         );
-        for hit in reply.hits.as_slice() {
-            assert!(rt;
-                hit.doc == 0 && hit.score == score && hit.title.as_str() == "Ab",
-                "{text}"
-            );
-        }
+        same(&rt, &found, &(*plan, *kept, *words, *hits), *text);
+        are_hits(&rt, reply.hits.as_slice(), *score, text);
     }
     Ok(())
+}
+
+// That each hit is the one document, with this score.
+fn are_hits(rt: &impl Abort, hits: &[HitShown], score: u32, row: &str) {
+    for hit in hits {
+        let found = (hit.doc, hit.score, hit.title.as_str());
+        same(rt, &found, &(0, score, "Ab"), row);
+    }
 }

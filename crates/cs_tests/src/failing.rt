@@ -1,7 +1,7 @@
 //! What no clause says: each call of the outside fails in turn, and what a run then leaves.
-use crate::commands::{ASK, REPLAY, SERVE, built, run_beside, run_over, words_of};
-use cs_base::{MemFiles, MemSink, ScriptHub, Scripted, Seq};
-use cs_top::run;
+use crate::hubs::{Came, TWO_CONNECTIONS, hub_of};
+use crate::runs::{ASK, REPLAY, SERVE, built, run_beside, run_over, same, status_of};
+use cs_base::{MemFiles, MemSink};
 use cs_worked::{BAD_FACET, FAILED_READ, NO_DOCUMENTS, THREE_DOCUMENTS};
 use std::alloc::Global;
 use std::test::Fail;
@@ -58,31 +58,10 @@ fn all_files(alloc: Global) -> Result<MemFiles, Fail> {
     Ok(files)
 }
 
-fn piece(alloc: Global, conn: u32, bytes: &[u8]) -> Result<Scripted, Fail> {
-    Ok(Scripted::Piece {
-        conn,
-        bytes: Seq::from_vec(bytes.to_vec(alloc)?),
-    })
-}
-
-// A request that comes in two pieces, and beside it a head that is too long.
-fn two_connections(alloc: Global) -> Result<ScriptHub, Fail> {
-    let letters = vec![in alloc; b'a'; 4096]?;
-    let mut events = Seq::new(alloc);
-    events.push(Scripted::Opened)?;
-    events.push(Scripted::Opened)?;
-    events.push(piece(alloc, 0, b"GET /search?q= HT")?)?;
-    events.push(piece(alloc, 1, &letters)?)?;
-    events.push(piece(alloc, 1, &letters)?)?;
-    events.push(piece(alloc, 0, b"TP/1.1\r\n\r\n")?)?;
-    events.push(Scripted::Ended { conn: 0 })?;
-    Ok(ScriptHub::new(alloc, events))
-}
-
 // What a run of the words leaves where the k-th of these calls fails.
 fn left_at(alloc: Global, words: &[&str], calls: Calls, k: u64) -> Result<Left, Fail> {
     let mut files = all_files(alloc)?;
-    let mut hub = two_connections(alloc)?;
+    let mut hub = hub_of(alloc, TWO_CONNECTIONS)?;
     let mut out = MemSink::new(alloc);
     let mut err = MemSink::new(alloc);
     let failing = vec![in alloc; k; 1]?;
@@ -94,8 +73,7 @@ fn left_at(alloc: Global, words: &[&str], calls: Calls, k: u64) -> Result<Left, 
         Calls::Nexts => hub.fail_next(failing),
         Calls::Sends => hub.fail_send(failing),
     }
-    let given = words_of(alloc, words)?;
-    let status = run(alloc, &given, &mut files, &mut hub, &mut out, &mut err);
+    let status = status_of(alloc, words, &mut files, &mut hub, &mut out, &mut err)?;
     let index = files.bytes("N").unwrap_or(b"");
     Ok(Left {
         status,
@@ -108,7 +86,7 @@ fn left_at(alloc: Global, words: &[&str], calls: Calls, k: u64) -> Result<Left, 
 }
 
 // The status where one of these calls failed.
-fn status_of(calls: Calls) -> u8 {
+fn status_behind(calls: Calls) -> u8 {
     match calls {
         Calls::Says => 3,
         Calls::Sends => 0,
@@ -137,7 +115,7 @@ fn fails_in_turn(alloc: Global, words: &[&str], calls: Calls) -> Result<u64, Fai
         if left.is(&whole) {
             return Ok(k - 1);
         }
-        if left.status != status_of(calls) || !is_right(calls, &left, &whole) {
+        if left.status != status_behind(calls) || !is_right(calls, &left, &whole) {
             return Err(Fail::new("something else is left"));
         }
     }
@@ -158,7 +136,7 @@ const FAILING: &[(&[&str], Calls)] = &[
 fn each_call_fails_in_turn(rt: HostRuntime) -> Result<(), Fail> {
     for (words, calls) in FAILING {
         let failed = fails_in_turn(rt.alloc(), words, *calls)?;
-        assert!(rt; failed > 0, "of {calls:?}");
+        same(&rt, &(failed > 0), &true, *words);
     }
     Ok(())
 }
@@ -177,7 +155,7 @@ fn a_failed_read_of_a_replay_is_said_in_its_line(rt: HostRuntime) -> Result<(), 
             assert!(rt; is_said);
             return Ok(());
         }
-        assert!(rt; left.status == 6, "at {k}");
+        same(&rt, &left.status, &6, k);
         if left.is(6, UNREAD, "device failed\n") {
             is_said = true;
         }
@@ -204,11 +182,8 @@ fn served_without_reads(alloc: Global, k: u64) -> Result<(u8, Vec<u8>), Fail> {
     }
     files.fail_reads(failing);
     let head = b"GET /search?q=typ&h=0 HTTP/1.1\r\n\r\nGET /search?q=typ&h=0 HTTP/1.1\r\n\r\n";
-    let mut events = Seq::new(alloc);
-    events.push(Scripted::Opened)?;
-    events.push(piece(alloc, 0, head)?)?;
-    events.push(Scripted::Ended { conn: 0 })?;
-    let mut hub = ScriptHub::new(alloc, events);
+    let rows = [Came::Opened, Came::Piece(0, head), Came::Ended(0)];
+    let mut hub = hub_of(alloc, &rows)?;
     let left = run_beside(alloc, SERVE, &mut files, &mut hub)?;
     Ok((left.status, hub.sent(0).to_vec(alloc)?))
 }
@@ -224,13 +199,15 @@ fn a_second_request_needs_no_read(rt: HostRuntime) -> Result<(), Fail> {
             assert!(rt; status == 0 && is_stopped && is_unread);
             return Ok(());
         }
-        if status == 0 {
-            assert!(rt; is_twice(&sent, FAILED_READ.as_bytes()), "at {k}");
-            is_unread = true;
+        let is_read = status == 0;
+        let is_right = if is_read {
+            is_twice(&sent, FAILED_READ.as_bytes())
         } else {
-            assert!(rt; status == 6 && sent.is_empty(), "at {k}");
-            is_stopped = true;
-        }
+            status == 6 && sent.is_empty()
+        };
+        same(&rt, &is_right, &true, k);
+        is_unread = is_unread || is_read;
+        is_stopped = is_stopped || !is_read;
     }
     Err(Fail::new("no run was whole"))
 }

@@ -8,6 +8,10 @@ mod engine;
 #[cfg(test)]
 mod failing;
 #[cfg(test)]
+mod hubs;
+#[cfg(test)]
+mod runs;
+#[cfg(test)]
 mod serving;
 #[cfg(test)]
 mod tired;

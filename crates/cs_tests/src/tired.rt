@@ -1,7 +1,8 @@
 //! What no clause says: of two equal requests the first one's read fails, and the second has its reply.
-use crate::commands::built;
 use crate::engine::engine_over;
-use cs_base::{Hub, Plan, ScriptHub, Scripted, Seq, TiredStore};
+use crate::hubs::{Came, hub_of};
+use crate::runs::{built, same};
+use cs_base::{Hub, Plan, TiredStore};
 use cs_engine::AskFault;
 use cs_http::request;
 use cs_hub::{ServeEnd, serve};
@@ -24,17 +25,17 @@ fn a_failed_read_is_that_of_one_request(rt: HostRuntime) -> Result<(), Fail> {
     let mut store = tired(alloc)?;
     let mut engine = engine_over(alloc, &mut store)?;
     let heads = format!(in alloc; "{}{}", TYPED.head, TYPED.head)?;
-    let bytes = Seq::from_vec(heads.into_bytes());
-    let mut events = Seq::new(alloc);
-    events.push(Scripted::Opened)?;
-    events.push(Scripted::Piece { conn: 0, bytes })?;
-    events.push(Scripted::Ended { conn: 0 })?;
-    let mut hub = ScriptHub::new(alloc, events);
+    let rows = [
+        Came::Opened,
+        Came::Piece(0, heads.as_bytes()),
+        Came::Ended(0),
+    ];
+    let mut hub = hub_of(alloc, &rows)?;
     hub.listen(8080, 1)?;
     store.fail_at(1);
     assert!(rt; serve(alloc, &mut engine, &mut store, &mut hub, 1) == ServeEnd::Done);
     let sent = format!(in alloc; "{}{}", FAILED_READ, TYPED.response)?;
-    assert_eq!(&rt; hub.sent(0), sent.as_str().as_bytes());
+    same(&rt, &hub.sent(0), &sent.as_bytes(), "sent");
     Ok(())
 }
 

@@ -16,8 +16,8 @@ pub use collections::{BAD_FACET, BAD_NAME, GUIDE, MARKED_LINES, THREE_DOCUMENTS}
 pub use commands::USAGE;
 pub use files::{NO_DOCUMENTS, ONE_DOCUMENT};
 pub use heads::{
-    ANNOUNCED_BODY, FAILED_READ, HEADS, LONG_HEAD, NO_QUERY, OTHER_METHOD, OTHER_PATH,
-    REFUSED_QUERY, TYPED,
+    ANNOUNCED_BODY, FAILED_READ, HEADS, LONG_HEAD, NO_QUERY, OTHER_METHOD, OTHER_PATH, TYPED,
+    TYPED_HEAD,
 };
 pub use keystrokes::{KEYSTROKES, MANY_HITS, PREFIX, SECOND_BAR};
 pub use pairs::{Worked, WorkedFile, WorkedHead, WorkedScript};

@@ -32,25 +32,21 @@ const CAFE: WorkedScript = WorkedScript {
         // composed, and a capital
         Worked {
             line: "q=É",
-            reply: concat!(
-                r#"{"completions":[{"docs":1,"word":""#,
-                "e\u{301}cole",
-                r#""}],"facets":{},"#,
-                r#""hits":[{"doc":0,"score":4,"title":"café École"}],"total":{"completions":1,"hits":1}}"#,
-            ),
+            reply: SCHOOL,
         },
         // without its accent
         Worked {
             line: "q=e",
-            reply: concat!(
-                r#"{"completions":[{"docs":1,"word":""#,
-                "e\u{301}cole",
-                r#""}],"facets":{},"#,
-                r#""hits":[{"doc":0,"score":4,"title":"café École"}],"total":{"completions":1,"hits":1}}"#,
-            ),
+            reply: SCHOOL,
         },
     ],
 };
+
+const SCHOOL: &str = concat!(
+    r#"{"completions":[{"docs":1,"word":""#,
+    "e\u{301}cole",
+    r#""}],"facets":{},"hits":[{"doc":0,"score":4,"title":"café École"}],"total":{"completions":1,"hits":1}}"#,
+);
 
 /// Quotes are escaped, and a facet's word joins the words of its value.
 const ESCAPES: WorkedScript = WorkedScript {
@@ -59,18 +55,12 @@ const ESCAPES: WorkedScript = WorkedScript {
         // a phrase across a dash
         Worked {
             line: "q=über-gui",
-            reply: concat!(
-                r#"{"completions":[{"docs":1,"word":"guide"}],"facets":{},"#,
-                r#""hits":[{"doc":0,"score":4,"title":"Müller's \"Über-Guide\": 2nd ed."}],"total":{"completions":1,"hits":1}}"#,
-            ),
+            reply: r#"{"completions":[{"docs":1,"word":"guide"}],"facets":{},"hits":[{"doc":0,"score":4,"title":"Müller's \"Über-Guide\": 2nd ed."}],"total":{"completions":1,"hits":1}}"#,
         },
         // an apostrophe in a value
         Worked {
             line: "q=publisher:o'r",
-            reply: concat!(
-                r#"{"completions":[{"docs":1,"word":"publisher:o_reilly_co"}],"facets":{},"#,
-                r#""hits":[{"doc":0,"score":2,"title":"Müller's \"Über-Guide\": 2nd ed."}],"total":{"completions":1,"hits":1}}"#,
-            ),
+            reply: r#"{"completions":[{"docs":1,"word":"publisher:o_reilly_co"}],"facets":{},"hits":[{"doc":0,"score":2,"title":"Müller's \"Über-Guide\": 2nd ed."}],"total":{"completions":1,"hits":1}}"#,
         },
     ],
 };
@@ -80,10 +70,7 @@ const TITLES: WorkedScript = WorkedScript {
     collection: MARKED_LINES,
     lines: &[Worked {
         line: "q=",
-        reply: concat!(
-            r#"{"completions":[],"facets":{},"hits":[{"doc":0,"score":0,"title":"a"},{"doc":1,"score":0,"title":"b"}],"#,
-            r#""total":{"completions":0,"hits":2}}"#,
-        ),
+        reply: r#"{"completions":[],"facets":{},"hits":[{"doc":0,"score":0,"title":"a"},{"doc":1,"score":0,"title":"b"}],"total":{"completions":0,"hits":2}}"#,
     }],
 };
 

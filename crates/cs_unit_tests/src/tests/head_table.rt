@@ -5,6 +5,7 @@
 //! BSD with three clauses), as Debian 12 has them. The answers aren't theirs: they were worked out from the rules, by
 //! `reference/complete.py` and by a second program that reads a head byte by byte; the two agreed on each.
 use crate::tests::responses::told;
+use crate::tests::rows::{Long, long_are_told, same};
 use cs_base::{Memory, Text};
 use cs_http::{Framed, frame};
 use std::alloc::Global;
@@ -349,6 +350,22 @@ no head: GET /search HTTP/1.1\r\nA: b\r\n\tc\r\n\r\n\x1e\
 no head: GET /search HTTP/1.1\r\nA:\x7f\r\n\r\n\x1e\
 more: GET /search HTTP/1.1\r\nA: b";
 
+// Heads at their limits, and what is answered.
+const LIMITS: &[Long] = &[
+    ("", "\n", 8_191, "", "more"),
+    ("", "\n", 8_192, "", "too long"),
+    ("GET /search HTTP/1.1\n", "a:\n", 64, "\n", "asks , stays"),
+    ("GET /search HTTP/1.1\n", "a:\n", 65, "\n", "no head"),
+    (
+        "GET /search HTTP/1.1\na:",
+        "b",
+        8_167,
+        "\n\n",
+        "asks , stays",
+    ),
+    ("GET /search HTTP/1.1\na:", "b", 8_168, "\n\n", "too long"),
+];
+
 #[test]
 fn heads_of_public_tests_are_answered_by_the_rules(rt: HostRuntime) -> Result<(), Fail> {
     for rows in [HTTPARSE, LIGHTTPD, HTTP_PARSER, H11, SEARCHES, OWN] {
@@ -359,26 +376,7 @@ fn heads_of_public_tests_are_answered_by_the_rules(rt: HostRuntime) -> Result<()
 
 #[test]
 fn heads_at_their_limits_are_answered_by_the_rules(rt: HostRuntime) -> Result<(), Fail> {
-    let rows = [
-        ("", "\n", 8_191, "", "more"),
-        ("", "\n", 8_192, "", "too long"),
-        ("GET /search HTTP/1.1\n", "a:\n", 64, "\n", "asks , stays"),
-        ("GET /search HTTP/1.1\n", "a:\n", 65, "\n", "no head"),
-        (
-            "GET /search HTTP/1.1\na:",
-            "b",
-            8_167,
-            "\n\n",
-            "asks , stays",
-        ),
-        ("GET /search HTTP/1.1\na:", "b", 8_168, "\n\n", "too long"),
-    ];
-    for (front, piece, times, back, want) in rows {
-        let bytes = repeated(rt.alloc(), front, piece, times, back)?;
-        let found = told_first(rt.alloc(), bytes.as_slice())?;
-        assert_eq!(&rt; found.as_str(), want, "of {times} pieces");
-    }
-    Ok(())
+    long_are_told(&rt, rt.alloc(), LIMITS, told_text)
 }
 
 fn are_answered(rt: &impl Abort, alloc: Global, rows: &[u8]) -> Result<(), Fail> {
@@ -387,26 +385,13 @@ fn are_answered(rt: &impl Abort, alloc: Global, rows: &[u8]) -> Result<(), Fail>
         let want = row.get(..colon).unwrap_or(&[]);
         let found = told_first(alloc, row.get(colon + 2..).unwrap_or(&[]))?;
         let said = String::from_utf8_lossy(alloc, row)?;
-        assert_eq!(rt; found.as_str().as_bytes(), want, "of {said}");
+        same(rt, &found.as_str().as_bytes(), &want, said.as_str());
     }
     Ok(())
 }
 
-// A text with a piece repeated in its middle.
-fn repeated(
-    alloc: Global,
-    front: &str,
-    piece: &str,
-    times: u32,
-    back: &str,
-) -> Result<Vec<u8>, Memory> {
-    let mut bytes = Vec::new(alloc);
-    bytes.extend_from_slice(front.as_bytes())?;
-    for _ in 0..times {
-        bytes.extend_from_slice(piece.as_bytes())?;
-    }
-    bytes.extend_from_slice(back.as_bytes())?;
-    Ok(bytes)
+fn told_text(alloc: Global, text: &str) -> Result<Text, Memory> {
+    told_first(alloc, text.as_bytes())
 }
 
 // What is answered to the first head among the bytes.

@@ -2,20 +2,23 @@
 ghost use Rattle.std.specs.Prelude.{IfOk};
 ghost use Rattle.cs_file.specs.Writable.{CanBeWritten};
 
+use crate::tests::rows::same;
 use cs_base::{MemSink, Memory};
 use cs_build::image;
 use cs_docs::{read_docs, rows_of};
 use cs_file::{Image, write_index};
 use cs_model_index::TARGET;
-use cs_worked::{NO_DOCUMENTS, ONE_DOCUMENT};
+use cs_worked::{NO_DOCUMENTS, ONE_DOCUMENT, WorkedFile};
 use std::alloc::Global;
 use std::test::Fail;
 
+const FILES: &[WorkedFile] = &[NO_DOCUMENTS, ONE_DOCUMENT];
+
 #[test]
 fn the_file_of_a_collection_has_these_bytes(rt: HostRuntime) -> Result<(), Fail> {
-    for row in [NO_DOCUMENTS, ONE_DOCUMENT] {
+    for row in FILES {
         let file = file_of(rt.alloc(), row.collection.as_bytes())?;
-        assert_eq!(rt; file.as_slice(), row.file, "of {}", row.collection);
+        same(&rt, &file.as_slice(), &row.file, row.collection);
     }
     Ok(())
 }

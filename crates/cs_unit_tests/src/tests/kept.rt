@@ -1,6 +1,7 @@
 //! What no clause says: that `new` gives a list where there is memory, and what six keystrokes leave in a list of two.
 ghost use Rattle.std.specs.Prelude.{◌≡◌, IfOk};
 
+use crate::tests::rows::same;
 use cs_base::{Base, Kept, Key, Keys, Memory, Narrower, Plan, Post, Seq, Text};
 use cs_cache::{Answers, Entry};
 use cs_cols::Cols;
@@ -83,32 +84,46 @@ fn rows_of(alloc: Global, answers: &Answers, typed: &Typed<'_>) -> Result<Option
     }
 }
 
+const TYP: Typed<'static> = ("typ", &[(2, "ty"), (1, "t")], "");
+
+const TYP_S: Typed<'static> = ("typ s", &[], "typ");
+
+const TYP_SE: Typed<'static> = ("typ se", &[(1, "typ s")], "typ");
+
+// A query, the rows of its entry, and its plan.
+type Asked = (Typed<'static>, u32, Plan);
+
+const SIX: &[Asked] = &[
+    (("t", &[], ""), 1, Plan::Fresh),
+    (("ty", &[(1, "t")], ""), 2, Plan::Narrow { cut: 1 }),
+    (TYP, 3, Plan::Narrow { cut: 2 }),
+    (TYP_S, 4, Plan::Extend),
+    (TYP_SE, 5, Plan::Narrow { cut: 1 }),
+    (TYP, 6, Plan::Fresh),
+];
+
+// What is used comes to the front, so the other one goes.
+const TWO_MORE: &[Asked] = &[(TYP_SE, 7, Plan::Same), (("x", &[], ""), 8, Plan::Fresh)];
+
+// A query, and how many rows its entry has, where it is held.
+type Held = (Typed<'static>, Option<usize>);
+
+const BEHIND_SIX: &[Held] = &[(TYP, Some(6)), (TYP_SE, Some(5)), (TYP_S, None)];
+
+const BEHIND_ALL: &[Held] = &[(TYP_SE, Some(5)), (TYP, None)];
+
 #[test]
 fn two_entries_are_kept_of_six_queries(rt: HostRuntime) -> Result<(), Fail> {
-    let alloc = rt.alloc();
-    let typ: Typed<'_> = ("typ", &[(2, "ty"), (1, "t")], "");
-    let typ_s: Typed<'_> = ("typ s", &[], "typ");
-    let typ_se: Typed<'_> = ("typ se", &[(1, "typ s")], "typ");
-    let mut answers = Answers::new(alloc, 2)?;
-    assert_eq!(rt; ask(alloc, &mut answers, &("t", &[], ""), 1)?, Plan::Fresh);
-    assert_eq!(rt;
-        ask(alloc, &mut answers, &("ty", &[(1, "t")], ""), 2)?,
-        Plan::Narrow { cut: 1 }
-    );
-    assert_eq!(rt; ask(alloc, &mut answers, &typ, 3)?, Plan::Narrow { cut: 2 });
-    assert_eq!(rt; ask(alloc, &mut answers, &typ_s, 4)?, Plan::Extend);
-    assert_eq!(rt;
-        ask(alloc, &mut answers, &typ_se, 5)?,
-        Plan::Narrow { cut: 1 }
-    );
-    assert_eq!(rt; ask(alloc, &mut answers, &typ, 6)?, Plan::Fresh);
-    assert_eq!(rt; rows_of(alloc, &answers, &typ)?, Some(6));
-    assert_eq!(rt; rows_of(alloc, &answers, &typ_se)?, Some(5));
-    assert_eq!(rt; rows_of(alloc, &answers, &typ_s)?, None);
-    // what is used comes to the front, so the other one goes
-    assert_eq!(rt; ask(alloc, &mut answers, &typ_se, 7)?, Plan::Same);
-    assert_eq!(rt; ask(alloc, &mut answers, &("x", &[], ""), 8)?, Plan::Fresh);
-    assert_eq!(rt; rows_of(alloc, &answers, &typ_se)?, Some(5));
-    assert_eq!(rt; rows_of(alloc, &answers, &typ)?, None);
+    let mut answers = Answers::new(rt.alloc(), 2)?;
+    for (asked, held) in [(SIX, BEHIND_SIX), (TWO_MORE, BEHIND_ALL)] {
+        for (typed, rows, plan) in asked {
+            let found = ask(rt.alloc(), &mut answers, typed, *rows)?;
+            same(&rt, &found, plan, typed.0);
+        }
+        for (typed, rows) in held {
+            let found = rows_of(rt.alloc(), &answers, typed)?;
+            same(&rt, &found, rows, typed.0);
+        }
+    }
     Ok(())
 }

@@ -1,4 +1,4 @@
-//! Each file has the tests of one crate, or of one of its calls.
+//! Each file has the tests of one crate, or of one of its calls; `rows` has what they share.
 mod blocks;
 mod columns;
 mod docs;
@@ -14,6 +14,7 @@ mod query;
 mod ranks;
 mod replies;
 mod responses;
+mod rows;
 mod tables;
 mod targets;
 mod text;

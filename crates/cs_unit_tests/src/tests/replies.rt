@@ -1,9 +1,11 @@
 //! Texts of replies and faults against those of the format's description.
+use crate::tests::rows::same;
 use cs_base::{Seq, Text};
 use cs_json::{Fault, fault_bytes, reply_bytes};
 use cs_query::{FacetShown, HitShown, Param, Reply, ReqFault, Shown, Which};
-use cs_worked::{LONG_WORD, MANY_HITS, SECOND_BAR};
+use cs_worked::{LONG_WORD, MANY_HITS, SECOND_BAR, Worked};
 use std::alloc::Global;
+use std::process::Abort;
 use std::test::Fail;
 
 fn table(alloc: Global, docs: u32, word: &str) -> Result<Seq<Shown>, Fail> {
@@ -36,6 +38,9 @@ fn hits(alloc: Global, title: &str) -> Result<Seq<HitShown>, Fail> {
     Ok(hits)
 }
 
+const REPLY: &str =
+    r#"{"completions":[{"docs":2,"word":"search"}],"facets":{"author":[{"docs":2,"word":"author:bast"}],"zzz":[]},"hits":[{"doc":0,"score":4,"title":"Müller's \"Über-Guide\": 2nd ed."}],"total":{"completions":7,"hits":4294967295}}"#;
+
 #[test]
 fn a_reply_has_its_keys_in_byte_order(rt: HostRuntime) -> Result<(), Fail> {
     let reply = Reply {
@@ -45,39 +50,50 @@ fn a_reply_has_its_keys_in_byte_order(rt: HostRuntime) -> Result<(), Fail> {
         total_completions: 7,
         total_hits: 4_294_967_295,
     };
-    let want =
-        "{\"completions\":[{\"docs\":2,\"word\":\"search\"}],\"facets\":{\"author\":[{\"docs\":2,\"word\":\"author:bast\"}],\"zzz\":[]},\"hits\":[{\"doc\":0,\"score\":4,\"title\":\"Müller's \\\"Über-Guide\\\": 2nd ed.\"}],\"total\":{\"completions\":7,\"hits\":4294967295}}";
-    assert_eq!(rt;
-        reply_bytes(rt.alloc(), &reply)?.as_slice(),
-        want.as_bytes()
-    );
+    let bytes = reply_bytes(rt.alloc(), &reply)?;
+    same(&rt, &bytes.as_slice(), &REPLY.as_bytes(), "the reply");
     Ok(())
 }
 
+// A fault, and the worked reply that tells it.
+const REFUSED: &[(Fault, Worked)] = &[
+    (Fault::Refused(ReqFault::Bad { at: 2 }), SECOND_BAR),
+    (
+        Fault::Refused(ReqFault::Limit {
+            at: 120,
+            which: Which::Word,
+        }),
+        LONG_WORD,
+    ),
+    (
+        Fault::Refused(ReqFault::BadParam { which: Param::H }),
+        MANY_HITS,
+    ),
+];
+
+// A fault, and its text.
+const FAULTS: &[(Fault, &str)] = &[
+    (Fault::Refused(ReqFault::Memory), r#"{"error":"memory"}"#),
+    (
+        Fault::Changed { rule: 13, at: 106 },
+        r#"{"at":106,"error":"changed","rule":13}"#,
+    ),
+    (Fault::TooLong, r#"{"error":"head too long"}"#),
+];
+
 #[test]
 fn faults_have_the_texts_of_the_format(rt: HostRuntime) -> Result<(), Fail> {
-    for (fault, want) in [
-        (Fault::Refused(ReqFault::Bad { at: 2 }), SECOND_BAR.reply),
-        (
-            Fault::Refused(ReqFault::Limit {
-                at: 120,
-                which: Which::Word,
-            }),
-            LONG_WORD.reply,
-        ),
-        (
-            Fault::Refused(ReqFault::BadParam { which: Param::H }),
-            MANY_HITS.reply,
-        ),
-        (Fault::Refused(ReqFault::Memory), r#"{"error":"memory"}"#),
-        (
-            Fault::Changed { rule: 13, at: 106 },
-            r#"{"at":106,"error":"changed","rule":13}"#,
-        ),
-        (Fault::TooLong, r#"{"error":"head too long"}"#),
-    ] {
-        let text = fault_bytes(rt.alloc(), &fault)?;
-        assert_eq!(rt; text.as_slice(), want.as_bytes(), "{want}");
+    for (fault, worked) in REFUSED {
+        is_told(&rt, rt.alloc(), fault, worked.reply)?;
     }
+    for (fault, want) in FAULTS {
+        is_told(&rt, rt.alloc(), fault, want)?;
+    }
+    Ok(())
+}
+
+fn is_told(rt: &impl Abort, alloc: Global, fault: &Fault, want: &str) -> Result<(), Fail> {
+    let text = fault_bytes(alloc, fault)?;
+    same(rt, &text.as_slice(), &want.as_bytes(), want);
     Ok(())
 }

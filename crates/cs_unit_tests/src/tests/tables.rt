@@ -2,10 +2,11 @@
 ghost use Rattle.std.specs.Prelude.{◌≡◌, IfOk};
 ghost use Rattle.cs_unit_tests.specs.Sample.{sample, sample_base};
 
+use crate::tests::rows::same;
 use cs_base::{Base, Memory, Post, Scored, Seq};
 use cs_cols::Cols;
 use cs_rank::score;
-use cs_tables::{WordCounts, completions};
+use cs_tables::{Completion, WordCounts, completions};
 use std::alloc::Global;
 use std::test::Fail;
 
@@ -42,13 +43,24 @@ fn base(alloc: Global) -> Result<Seq<Scored>, Memory>
     Ok(base)
 }
 
+const ONE_WORD: &[Completion] = &[Completion { word: 20, docs: 2 }];
+
+const THREE_WORDS: &[Completion] = &[
+    Completion { word: 20, docs: 2 },
+    Completion { word: 24, docs: 2 },
+    Completion { word: 22, docs: 1 },
+];
+
 #[test]
 fn a_word_counts_once_in_a_document(rt: HostRuntime) -> Result<(), Fail> {
     let rows = rows(rt.alloc())?;
     let table = completions(rt.alloc(), &rows, 1)?;
-    let first = table.first.as_slice();
-    assert!(rt; table.total == 2 && first.len() == 1);
-    assert!(rt; first[0].word == 20 && first[0].docs == 2);
+    same(
+        &rt,
+        &(table.total, table.first.as_slice()),
+        &(2, ONE_WORD),
+        "cut",
+    );
     Ok(())
 }
 
@@ -59,22 +71,22 @@ fn rows_that_come_in_pieces_count_in_listed_documents(rt: HostRuntime) -> Result
     counts.add_rows(&[0, 1, 2, 2], &[24, 24, 24, 25], &[true, false, true]);
     counts.add_rows(&[0, 0, 1], &[22, 22, 22], &[true, false, true]);
     let table = counts.table(rt.alloc(), 5)?;
-    let first = table.first.as_slice();
-    assert!(rt; table.total == 3 && first.len() == 3);
-    assert!(rt; first[0].word == 20 && first[0].docs == 2);
-    assert!(rt; first[1].word == 24 && first[1].docs == 2);
-    assert!(rt; first[2].word == 22 && first[2].docs == 1);
+    same(
+        &rt,
+        &(table.total, table.first.as_slice()),
+        &(3, THREE_WORDS),
+        "pieces",
+    );
     Ok(())
 }
+
+const SCORED: &[Scored] = &[Scored { doc: 0, score: 5 }, Scored { doc: 1, score: 2 }];
 
 #[test]
 fn a_document_has_its_greatest_score_and_that_of_its_base(rt: HostRuntime) -> Result<(), Fail> {
     let rows = rows(rt.alloc())?;
     let base = Base::Listed(base(rt.alloc())?);
     let scored = score(rt.alloc(), &base, &rows)?;
-    let found = scored.as_slice();
-    assert!(rt; found.len() == 2);
-    assert!(rt; found[0].doc == 0 && found[0].score == 5);
-    assert!(rt; found[1].doc == 1 && found[1].score == 2);
+    same(&rt, &scored.as_slice(), &SCORED, "the scores");
     Ok(())
 }
