@@ -1,4 +1,5 @@
 //! A connection that is served: its stream, and the bounds of time that it is read and written under.
+ghost use Rattle.std.specs.Prelude.{◌≡◌, IfOk, IfSome, Ok};
 ghost use Rattle.std.specs.Io.{ReadsAtMost};
 
 use crate::bounds::{LIFE, LINGER, LINGER_BYTES, LINGER_GAP, LINGER_PIECE, SEND_WAIT, SLICE};
@@ -48,24 +49,12 @@ impl<S: Read + Write + OpenStream + Drop> Connection<S> {
         for _ in 0..u64::MAX {
             let wait = left(clock, self.since, LIFE)?.min(Duration::from_millis(bound));
             self.wait_for_reads(wait)?;
-            match self.stream.read(into) {
-                Ok(count) => {
-                    self.is_answered = false;
-                    return Ok(count);
-                }
-                Err(error) if error.kind() == ErrorKind::Interrupted => {}
-                Err(error) => return Err(error),
+            if let Some(count) = unless_interrupted(self.stream.read(into))? {
+                self.is_answered = false;
+                return Ok(count);
             }
         }
         Err(ErrorKind::Interrupted.into())
-    }
-
-    fn wait_for_reads(&mut self, wait: Duration) -> io::Result<()> {
-        if wait != self.read_wait {
-            self.stream.set_read_timeout(Some(wait))?;
-            self.read_wait = wait;
-        }
-        Ok(())
     }
 
     /// Writes all bytes, or fails, and the connection is broken then.
@@ -86,22 +75,13 @@ impl<S: Read + Write + OpenStream + Drop> Connection<S> {
             }
             let life = left(clock, self.since, LIFE).unwrap_or(Duration::from_millis(SLICE));
             self.wait_for_writes(left(clock, begun, SEND_WAIT)?.min(life))?;
-            match self.stream.write(rest) {
-                Ok(0) => return Err(ErrorKind::WriteZero.into()),
-                Ok(count) => rest = &rest[count..],
-                Err(error) if error.kind() == ErrorKind::Interrupted => {}
-                Err(error) => return Err(error),
+            match unless_interrupted(self.stream.write(rest))? {
+                Some(0) => return Err(ErrorKind::WriteZero.into()),
+                Some(count) => rest = &rest[count..],
+                None => {}
             }
         }
         Err(ErrorKind::Interrupted.into())
-    }
-
-    fn wait_for_writes(&mut self, wait: Duration) -> io::Result<()> {
-        if wait != self.write_wait {
-            self.stream.set_write_timeout(Some(wait))?;
-            self.write_wait = wait;
-        }
-        Ok(())
     }
 
     /// Ends the connection. What was written still comes to the peer, but where a send failed.
@@ -124,14 +104,40 @@ impl<S: Read + Write + OpenStream + Drop> Connection<S> {
                 break;
             }
             self.wait_for_reads(left(clock, begun, LINGER)?.min(gap))?;
-            match self.stream.read(&mut unread) {
-                Ok(0) => break,
-                Ok(count) => taken = taken.saturating_add(count),
-                Err(error) if error.kind() == ErrorKind::Interrupted => {}
-                Err(error) => return Err(error),
+            match unless_interrupted(self.stream.read(&mut unread))? {
+                Some(0) => break,
+                Some(count) => taken = taken.saturating_add(count),
+                None => {}
             }
         }
         Ok(())
+    }
+
+    fn wait_for_reads(&mut self, wait: Duration) -> io::Result<()> {
+        if wait != self.read_wait {
+            self.stream.set_read_timeout(Some(wait))?;
+            self.read_wait = wait;
+        }
+        Ok(())
+    }
+
+    fn wait_for_writes(&mut self, wait: Duration) -> io::Result<()> {
+        if wait != self.write_wait {
+            self.stream.set_write_timeout(Some(wait))?;
+            self.write_wait = wait;
+        }
+        Ok(())
+    }
+}
+
+// What a call gave, or nothing where it was interrupted and is to be made again.
+fn unless_interrupted(answer: io::Result<usize>) -> io::Result<Option<usize>>
+    ensures { IfOk result (λ given. IfSome given (λ count. answer ≡ Ok count)) }
+{
+    match answer {
+        Ok(count) => Ok(Some(count)),
+        Err(error) if error.kind() == ErrorKind::Interrupted => Ok(None),
+        Err(error) => Err(error),
     }
 }
 

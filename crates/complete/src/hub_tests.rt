@@ -2,6 +2,7 @@
 use crate::bounds::READ_WAIT;
 use crate::connection::Connection;
 use crate::tcp::TcpHub;
+use crate::tests::same;
 use cs_base::{Event, Failed, Hub};
 use std::io::{self, ErrorKind, Read, Write};
 use std::net::{OpenStream, Shutdown, TcpStream};
@@ -12,82 +13,106 @@ const REQUEST: &[u8] = b"GET /search?q=typ HTTP/1.1\r\n\r\n";
 
 const RESPONSE: &[u8] = b"HTTP/1.1 200 OK\r\nContent-Length: 2\r\n\r\n{}";
 
-#[test]
-fn a_client_that_ends_its_side_reads_its_response(rt: HostRuntime) -> Result<(), Fail> {
-    let mut hub = TcpHub::new(&rt);
-    assert_eq!(rt; hub.listen(0, 1), Ok(()));
-    let mut client = TcpStream::connect(&rt, hub.address()?)?;
-    client.write_all(REQUEST)?;
-    client.shutdown(Shutdown::Write)?;
-    let mut into = [0u8; 64];
-    assert_eq!(rt; hub.next(&mut into), Ok(Event::Opened(0)));
-    let Ok(Event::Piece(conn, count)) = hub.next(&mut into) else {
+// A hub that listens for so many connections.
+fn listening(rt: &HostRuntime, conns: u32) -> Result<TcpHub<'_, HostRuntime>, Fail> {
+    let mut hub = TcpHub::new(rt);
+    hub.listen(0, conns)?;
+    Ok(hub)
+}
+
+// A client that has sent these bytes.
+fn client_of(
+    rt: &HostRuntime,
+    hub: &TcpHub<'_, HostRuntime>,
+    bytes: &[u8],
+) -> io::Result<TcpStream> {
+    let mut client = TcpStream::connect(rt, hub.address()?)?;
+    client.write_all(bytes)?;
+    Ok(client)
+}
+
+// Opens the first connection and answers the first piece that comes on it. How many bytes that has.
+fn answer_first(hub: &mut TcpHub<'_, HostRuntime>, into: &mut [u8; 64]) -> Result<usize, Fail> {
+    if hub.next(into)? != Event::Opened(0) {
+        return Err(Fail::new("not opened"));
+    }
+    let Event::Piece(0, count) = hub.next(into)? else {
         return Err(Fail::new("no piece"));
     };
-    assert_eq!(rt; hub.send(conn, RESPONSE), Ok(()));
-    assert_eq!(rt; conn, 0);
-    assert_eq!(rt; &into[..count], REQUEST);
-    assert_eq!(rt; hub.next(&mut into), Ok(Event::Ended(0)));
-    hub.close(0);
+    hub.send(0, RESPONSE)?;
+    Ok(count)
+}
+
+// All that comes to a client.
+fn response_of(rt: &HostRuntime, client: &mut TcpStream) -> io::Result<String> {
     let mut response = String::new(rt.alloc());
     client.read_to_string(&mut response)?;
-    assert_eq!(rt; response.as_bytes(), RESPONSE);
-    assert_eq!(rt; hub.next(&mut into), Err(Failed));
+    Ok(response)
+}
+
+#[test]
+fn a_client_that_ends_its_side_reads_its_response(rt: HostRuntime) -> Result<(), Fail> {
+    let mut hub = listening(&rt, 1)?;
+    let mut client = client_of(&rt, &hub, REQUEST)?;
+    client.shutdown(Shutdown::Write)?;
+    let mut into = [0u8; 64];
+    let count = answer_first(&mut hub, &mut into)?;
+    same(&rt, &into.get(..count), &Some(REQUEST), "the request");
+    same(&rt, &hub.next(&mut into), &Ok(Event::Ended(0)), "its end");
+    hub.close(0);
+    let response = response_of(&rt, &mut client)?;
+    same(&rt, &response.as_bytes(), &RESPONSE, "the response");
+    same(&rt, &hub.next(&mut into), &Err(Failed), "no more");
     Ok(())
 }
 
 #[test]
 fn a_port_in_use_fails_and_ones_own_does_not(rt: HostRuntime) -> Result<(), Fail> {
+    let mut piece = [0u8; 1];
     let mut hub = TcpHub::new(&rt);
-    assert_eq!(rt; hub.next(&mut [0u8; 1]), Err(Failed));
-    assert_eq!(rt; hub.listen(0, 1), Ok(()));
+    same(
+        &rt,
+        &hub.next(&mut piece),
+        &Err(Failed),
+        "before it listens",
+    );
+    hub.listen(0, 1)?;
     let port = hub.address()?.port();
     let mut other = TcpHub::new(&rt);
-    assert_eq!(rt; other.listen(port, 1), Err(Failed));
-    assert_eq!(rt; other.next(&mut [0u8; 1]), Err(Failed));
-    assert_eq!(rt; hub.listen(port, 2), Ok(()));
-    let _client = TcpStream::connect(&rt, hub.address()?)?;
-    assert_eq!(rt; hub.next(&mut [0u8; 1]), Ok(Event::Opened(0)));
+    same(&rt, &other.listen(port, 1), &Err(Failed), "in use");
+    same(&rt, &other.next(&mut piece), &Err(Failed), "the other");
+    hub.listen(port, 2)?;
+    let _client = client_of(&rt, &hub, b"")?;
+    same(&rt, &hub.next(&mut piece), &Ok(Event::Opened(0)), "its own");
     Ok(())
 }
 
 #[test]
 fn unread_bytes_reset_no_response(rt: HostRuntime) -> Result<(), Fail> {
-    let mut hub = TcpHub::new(&rt);
-    assert_eq!(rt; hub.listen(0, 1), Ok(()));
-    let mut client = TcpStream::connect(&rt, hub.address()?)?;
-    client.write_all(&[b'x'; 8192])?;
+    let mut hub = listening(&rt, 1)?;
+    let mut client = client_of(&rt, &hub, &[b'x'; 8192])?;
     client.shutdown(Shutdown::Write)?;
-    let mut into = [0u8; 64];
-    assert_eq!(rt; hub.next(&mut into), Ok(Event::Opened(0)));
-    let Ok(Event::Piece(conn, _)) = hub.next(&mut into) else {
-        return Err(Fail::new("no piece"));
-    };
-    assert_eq!(rt; hub.send(conn, RESPONSE), Ok(()));
-    hub.close(conn);
-    let mut response = String::new(rt.alloc());
-    client.read_to_string(&mut response)?;
-    assert_eq!(rt; response.as_bytes(), RESPONSE);
+    answer_first(&mut hub, &mut [0u8; 64])?;
+    hub.close(0);
+    let response = response_of(&rt, &mut client)?;
+    same(&rt, &response.as_bytes(), &RESPONSE, "the response");
     Ok(())
 }
 
 #[test]
 fn an_answered_connection_yields_to_one_that_waits(rt: HostRuntime) -> Result<(), Fail> {
-    let mut hub = TcpHub::new(&rt);
-    assert_eq!(rt; hub.listen(0, 2), Ok(()));
-    let mut kept = TcpStream::connect(&rt, hub.address()?)?;
-    kept.write_all(REQUEST)?;
+    let mut hub = listening(&rt, 2)?;
+    let _kept = client_of(&rt, &hub, REQUEST)?;
     let mut into = [0u8; 64];
-    assert_eq!(rt; hub.next(&mut into), Ok(Event::Opened(0)));
-    let Ok(Event::Piece(conn, _)) = hub.next(&mut into) else {
-        return Err(Fail::new("no piece"));
-    };
-    assert_eq!(rt; hub.send(conn, RESPONSE), Ok(()));
-    let mut waiting = TcpStream::connect(&rt, hub.address()?)?;
-    waiting.write_all(REQUEST)?;
-    assert_eq!(rt; hub.next(&mut into), Ok(Event::Ended(0)));
-    assert_eq!(rt; hub.next(&mut into), Ok(Event::Opened(1)));
-    assert_eq!(rt; hub.next(&mut into), Ok(Event::Piece(1, REQUEST.len())));
+    answer_first(&mut hub, &mut into)?;
+    let _waiting = client_of(&rt, &hub, REQUEST)?;
+    for event in [
+        Event::Ended(0),
+        Event::Opened(1),
+        Event::Piece(1, REQUEST.len()),
+    ] {
+        same(&rt, &hub.next(&mut into), &Ok(event), "the other");
+    }
     Ok(())
 }
 
@@ -152,21 +177,23 @@ impl OpenStream for Weak {
     }
 }
 
+// One with room for eight bytes.
+const WEAK: Weak = Weak {
+    calls: 0,
+    taken: 0,
+    room: 8,
+};
+
 #[test]
 fn an_interrupted_call_is_made_again(rt: HostRuntime) -> Result<(), Fail> {
-    let stream = Weak {
-        calls: 0,
-        taken: 0,
-        room: 8,
-    };
-    let mut connection = Connection::new(&rt, stream)?;
+    let mut connection = Connection::new(&rt, WEAK)?;
     let mut into = [0u8; 4];
-    assert_eq!(rt; connection.read(&rt, &mut into, READ_WAIT)?, 1);
-    assert_eq!(rt; into[0], b'r');
-    assert!(rt; connection.write(&rt, b"seven b").is_ok());
+    let count = connection.read(&rt, &mut into, READ_WAIT)?;
+    same(&rt, &(count, into[0]), &(1, b'r'), "read");
+    connection.write(&rt, b"seven b")?;
     let Err(error) = connection.write(&rt, b"no") else {
         return Err(Fail::new("a write without room"));
     };
-    assert_eq!(rt; error.kind(), ErrorKind::WouldBlock);
+    same(&rt, &error.kind(), &ErrorKind::WouldBlock, "no room");
     Ok(())
 }
