@@ -216,13 +216,14 @@ import sys
 from passes import pass_of
 ours, plain = sys.argv[1:]
 
-million, thousand = 1_000_000, 1_000
+# A processor learns the jumps of a thousand searches that each pass repeats, but not those of ten thousand.
+million, few = 1_000_000, 10_000
 cases = []
 for call in ('keep_docs', 'follow', 'near', 'unite', 'drop_docs'):
     cases.append((call, million, million, 20))
-    few = 20 if call == 'unite' else 1000
-    cases.append((call, million, thousand, few))
-    cases.append((call, thousand, million, 100 if call == 'drop_docs' else few))
+    count = 20 if call == 'unite' else 400
+    cases.append((call, million, few, count))
+    cases.append((call, few, million, count))
 cases += [('docs_of', million, 1, 100), ('score', million, 1, 50), ('score_over', million, million, 20),
     ('completions', 500_000, 1, 100), ('top', 500_000, 10, 200), ('top', 500_000, 10_100, 50)]
 
