@@ -1,7 +1,7 @@
-use Rattle.std.proofs.Common.{rules, ◌++◌, sym, ◌∙◌, subst, arith}
+use Rattle.std.proofs.Common.{◌++◌, sym, subst}
 use Rattle.cs_base.specs.outside.Hub.{IsLive}
 use Rattle.cs_hub.specs.Turns.{Along}
-use Rattle.cs_hub.proofs.PieceTurns.{along_start, along_next, along_hold, along_stop, calm_still, calm_on}
+use Rattle.cs_hub.proofs.PieceTurns.{along_start, along_next, along_hold, along_stop, calm_none, calm_both, stays_none, stays_both}
 use Rattle.std.proofs.Common.{drop}
 use Rattle.std.specs.Prelude.{true}
 use Rattle.cs_hub.proofs.AskedLemmas.{along_start as asked_start, along_next as asked_next, along_hold as asked_hold, along_stop as asked_stop}
@@ -14,10 +14,8 @@ loop-used-init g c = record {
       (g.H.Hub.talk c.args.hub.now);
   asked = asked_start g.A.Answerer.leaves c.args.conn (c.args.reading.now ++ c.args.piece.now) (g.A.Answerer.kept c.args.answerer.now)
       (g.H.Hub.talk c.args.hub.now);
-  still = λ k h. h;
-  lent = search rules;
-  later = omega arith;
-  calm = calm_still (g.H.Hub.state c.args.hub.now) (g.H.Hub.faults c.args.hub.now) (g.H.Hub.send_faults c.args.hub.now) (g.H.Hub.talk c.args.hub.now);
+  stays = stays_none c.args.answerer.now;
+  calm = calm_none c.args.hub.now;
 }
 
 pub loop-used-preserved : goal.loop-used-preserved
@@ -33,17 +31,13 @@ loop-used-preserved g c =
           (sym c.behind-rest.ensures)
           (along_next over (g.A.Answerer.answers c.loop-used.answerer) c.args.conn c.in-Next.used (c.args.reading.now ++ c.args.piece.now) c.loop-used.reading
           c.loop-used.rest.now c.turn.new.self before (g.A.Answerer.faults c.loop-used.answerer) after talk (g.H.Hub.talk c.loop-used.hub) then
-          c.loop-used.invariant.still c.loop-used.invariant.along c.in-Next.ensures.turned);
+          c.loop-used.invariant.stays.still c.loop-used.invariant.along c.in-Next.ensures.turned);
       asked = asked_next g.A.Answerer.leaves c.args.conn (c.args.reading.now ++ c.args.piece.now) (drop c.in-Next.used c.loop-used.rest.now)
           (c.loop-used.reading ++ c.loop-used.rest.now) c.turn.new.self c.behind-rest.result.now (g.A.Answerer.kept c.args.answerer.now)
           (g.A.Answerer.kept c.loop-used.answerer) (g.A.Answerer.kept c.turn.new.answerer) talk (g.H.Hub.talk c.loop-used.hub) then
           c.in-Next.ensures.turned.emptied c.behind-rest.ensures c.loop-used.invariant.asked c.in-Next.ensures.asked;
-      still = λ k h. c.in-Next.ensures.still k (c.loop-used.invariant.still k h);
-      lent = c.in-Next.ensures.lent ∙ c.loop-used.invariant.lent;
-      later = omega (arith, c.in-Next.ensures.later, c.loop-used.invariant.later);
-      calm = calm_on (g.H.Hub.state c.args.hub.now) (g.H.Hub.state c.loop-used.hub) (g.H.Hub.state c.turn.new.hub) (g.H.Hub.faults c.args.hub.now)
-          (g.H.Hub.faults c.loop-used.hub) (g.H.Hub.faults c.turn.new.hub) (g.H.Hub.send_faults c.args.hub.now) (g.H.Hub.send_faults c.loop-used.hub)
-          (g.H.Hub.send_faults c.turn.new.hub) talk (g.H.Hub.talk c.loop-used.hub) then c.loop-used.invariant.calm c.in-Next.ensures.calm;
+      stays = stays_both c.loop-used.invariant.stays c.in-Next.ensures.stays;
+      calm = calm_both c.loop-used.invariant.calm c.in-Next.ensures.calm;
     }
 
 pub returns-in-Holds-clause-reads : goal.returns-in-Holds-clause-reads
@@ -57,7 +51,7 @@ returns-in-Stops-clause-reads g c =
     along_stop (g.A.Answerer.answers c.args.answerer.now) (g.A.Answerer.answers c.loop-used.answerer) c.args.conn (c.args.reading.now ++ c.args.piece.now)
     (c.loop-used.reading ++ c.loop-used.rest.now) (g.A.Answerer.faults c.args.answerer.now) (g.A.Answerer.faults c.loop-used.answerer)
     (g.A.Answerer.faults c.turn.new.answerer)
-    (g.H.Hub.talk c.args.hub.now) (g.H.Hub.talk c.loop-used.hub) (g.H.Hub.talk c.turn.new.hub) c.loop-used.invariant.still c.loop-used.invariant.along
+    (g.H.Hub.talk c.args.hub.now) (g.H.Hub.talk c.loop-used.hub) (g.H.Hub.talk c.turn.new.hub) c.loop-used.invariant.stays.still c.loop-used.invariant.along
     c.in-Stops.ensures.turned
 
 pub returns-in-Holds-clause-asked : goal.returns-in-Holds-clause-asked

@@ -2,11 +2,12 @@ use Rattle.std.proofs.Common.{◌≡◌, ◌≤◌, ◌+◌, ◌*◌, false}
 use Rattle.cs_base.specs.declared.content.limits.TheConstants.{MAX_CONNECTION_BYTES}
 use Rattle.cs_base.specs.outside.Hub.{IsOrderly}
 use Rattle.cs_model.specs.Corpus.{Corpus}
+use Rattle.cs_hub.specs.Asked.{StaysAnswering}
 use Rattle.cs_hub.specs.HubFollowing.{HasLive}
 use Rattle.cs_hub.specs.Rounds.{still, came_by}
 use Rattle.cs_hub.specs.Speaking.{BreaksBy}
 use Rattle.cs_hub.proofs.RoundLemmas.{ServedBy}
-use Rattle.cs_hub.proofs.serving.serve_with.Given as goal
+use Rattle.cs_hub.proofs.serving.serve_over.Given as goal
 
 abbrev pub invariant-loop-alloc : goal.invariant-loop-alloc
 invariant-loop-alloc g l = record {
@@ -22,9 +23,7 @@ invariant-loop-alloc g l = record {
   quiet : g.H.Hub.faults l.hub ≡ g.H.Hub.faults l.initial.hub;
   breaks : BreaksBy (g.H.Hub.send_faults l.initial.hub) (g.H.Hub.send_faults l.hub) (g.H.Hub.talk l.initial.hub) (g.H.Hub.talk l.hub);
   events : came_by (g.H.Hub.talk l.hub) + still l.conns l.opened l.core ≤ came_by (g.H.Hub.talk l.initial.hub) + l.conns * (MAX_CONNECTION_BYTES + 2);
-  still_over : (k : Corpus) → g.A.Answerer.answers l.initial.answerer k → g.A.Answerer.answers l.answerer k;
-  lent : g.A.Answerer.lent l.answerer ≡ g.A.Answerer.lent l.initial.answerer;
-  later : g.A.Answerer.faults l.initial.answerer ≤ g.A.Answerer.faults l.answerer;
+  stays : StaysAnswering g.A.Answerer.answers g.A.Answerer.lent g.A.Answerer.faults l.initial.answerer l.answerer;
 }
 
 abbrev pub decreases-loop-alloc : goal.decreases-loop-alloc
