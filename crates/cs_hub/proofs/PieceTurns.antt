@@ -1,7 +1,7 @@
 -- The turns of a piece, one after the other.
 --
 --   along_start, along_next, along_hold, along_stop    the way through the bytes
---   calm_none, calm_both                               what the hub keeps
+--   calm_none, calm_both, calm_live                    what the hub keeps
 --   stays_none, stays_both                             what is kept of what answers requests
 --   received, goes_kept                                a piece, by what is kept of the connection
 use Rattle.std.proofs.Common.{◌≡◌, inl, inr, ℕ, ◌+◌, ◌-◌, Bool, true, false, List, [], ◌∷◌, ◌++◌, length, take, drop, refl, sym, ◌∙◌, ap, subst}
@@ -10,7 +10,7 @@ use Rattle.std.specs.Prelude.{Option, Some, None, All, is_some}
 use Rattle.std.proofs.lemmas.List.{length-take}
 use Rattle.cs_base.specs.declared.content.limits.TheConstants.{MAX_CONNECTION_BYTES}
 use Rattle.std.specs.List.{AllZip}
-use Rattle.cs_base.specs.outside.Hub.{Listening, Talk}
+use Rattle.cs_base.specs.outside.Hub.{IsLive, Listening, Talk}
 use Rattle.std.proofs.lemmas.List.Elements.{All-append, All-cons}
 use Rattle.cs_model.specs.Corpus.{Corpus}
 use Rattle.cs_model_serving.specs.Responses.{Response, response_bytes, all_bytes}
@@ -51,15 +51,15 @@ one_more k b left later x y xs ys h o = record {
   joined = h.joined ∙ ap (answers_before h.first) o.joined ∙ regroup h.first o.right (serve k later);
 }
 
-pub along_next : (Over Later : Corpus → Type 0) (c used : ℕ) (b unread rest unread' : List ℕ) (m n o : ℕ) (talk mid talk' : Option Talk)
-    → ((k : Corpus) → Over k → Later k)
+pub along_next : (Over Later : Corpus → Type 0) (c used : ℕ) (b unread rest unread' left : List ℕ) (m n o : ℕ) (talk mid talk' : Option Talk)
+    → ((k : Corpus) → Over k → Later k) → left ≡ drop used rest
     → Along Over c b (unread ++ rest) m n talk mid → GoesOn Later c used unread rest unread' n o mid talk'
-    → Along Over c b (unread' ++ drop used rest) m o talk talk'
-along_next Over Later c used b unread rest unread' m n o talk mid talk' still h s =
-    subst (λ u. Along Over c b (u ++ drop used rest) m o talk talk') (sym s.emptied)
+    → Along Over c b (unread' ++ left) m o talk talk'
+along_next Over Later c used b unread rest unread' left m n o talk mid talk' still is h s =
+    subst (λ u. Along Over c b (u ++ left) m o talk talk') (sym s.emptied) (subst (λ l. Along Over c b l m o talk talk') (sym is)
     (says_both Over Later c false (λ k more sent. IsAlong k b (unread ++ rest) more sent) (λ k more sent. IsOne k (unread ++ rest) (drop used rest) more sent)
     (λ k more sent. IsAlong k b (drop used rest) more sent) m n o talk mid talk' still
-    (λ k x y xs ys. one_more k b (unread ++ rest) (drop used rest) x y xs ys) h s.says)
+    (λ k x y xs ys. one_more k b (unread ++ rest) (drop used rest) x y xs ys) h s.says))
 
 all_held : (k : Corpus) (b left unread' more : List ℕ) (sent : List Response) → serve k left ≡ waits left → unread' ≡ left → IsAlong k b left more sent
     → HoldsOn k b unread' more sent
@@ -116,6 +116,10 @@ calm_both {tells = tells} {send_fails = send_fails} {x = x} {y = y} {z = z} h k 
   breaks = breaks_both (send_fails x) (send_fails y) (send_fails z) (tells x) (tells y) (tells z) h.breaks k.breaks;
   orderly = λ o. k.orderly (h.orderly o);
 }
+
+pub calm_live : {H : Type 0} {stands : H → Listening} {tells : H → Option Talk} {fails send_fails : H → ℕ} {x y : H} (c : ℕ)
+    → Calm stands tells fails send_fails x y → IsLive (stands x) c → IsLive (stands y) c
+calm_live c h live = subst (λ s. IsLive s c) (sym h.state) live
 
 -- ---- what is kept of what answers requests
 pub stays_none : {A L : Type 0} {over : A → Corpus → Type 0} {lends : A → L} {fails : A → ℕ} (x : A) → StaysAnswering over lends fails x x

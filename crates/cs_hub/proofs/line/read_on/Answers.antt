@@ -1,8 +1,5 @@
-use Rattle.std.proofs.Common.{◌++◌, sym, subst}
-use Rattle.cs_base.specs.outside.Hub.{IsLive}
-use Rattle.cs_hub.specs.Turns.{Along}
-use Rattle.cs_hub.proofs.PieceTurns.{along_start, along_next, along_hold, along_stop, calm_none, calm_both, stays_none, stays_both}
-use Rattle.std.proofs.Common.{drop}
+use Rattle.std.proofs.Common.{◌++◌, drop}
+use Rattle.cs_hub.proofs.PieceTurns.{along_start, along_next, along_hold, along_stop, calm_none, calm_both, calm_live, stays_none, stays_both}
 use Rattle.std.specs.Prelude.{true}
 use Rattle.cs_hub.proofs.AskedLemmas.{along_start as asked_start, along_next as asked_next, along_hold as asked_hold, along_stop as asked_stop}
 use Rattle.cs_hub.proofs.line.read_on.Goals as goal
@@ -26,12 +23,10 @@ loop-used-preserved g c =
     let talk = g.H.Hub.talk c.args.hub.now in
     let then = g.H.Hub.talk c.turn.new.hub in
     record {
-      live = subst (λ s. IsLive s c.args.conn) (sym c.in-Next.ensures.calm.state) c.loop-used.invariant.live;
-      along = subst (λ r. Along over c.args.conn (c.args.reading.now ++ c.args.piece.now) (c.turn.new.self ++ r) before after talk then)
-          (sym c.behind-rest.ensures)
-          (along_next over (g.A.Answerer.answers c.loop-used.answerer) c.args.conn c.in-Next.used (c.args.reading.now ++ c.args.piece.now) c.loop-used.reading
-          c.loop-used.rest.now c.turn.new.self before (g.A.Answerer.faults c.loop-used.answerer) after talk (g.H.Hub.talk c.loop-used.hub) then
-          c.loop-used.invariant.stays.still c.loop-used.invariant.along c.in-Next.ensures.turned);
+      live = calm_live c.args.conn c.in-Next.ensures.calm c.loop-used.invariant.live;
+      along = along_next over (g.A.Answerer.answers c.loop-used.answerer) c.args.conn c.in-Next.used (c.args.reading.now ++ c.args.piece.now)
+          c.loop-used.reading c.loop-used.rest.now c.turn.new.self c.behind-rest.result.now before (g.A.Answerer.faults c.loop-used.answerer) after talk
+          (g.H.Hub.talk c.loop-used.hub) then c.loop-used.invariant.stays.still c.behind-rest.ensures c.loop-used.invariant.along c.in-Next.ensures.turned;
       asked = asked_next g.A.Answerer.leaves c.args.conn (c.args.reading.now ++ c.args.piece.now) (drop c.in-Next.used c.loop-used.rest.now)
           (c.loop-used.reading ++ c.loop-used.rest.now) c.turn.new.self c.behind-rest.result.now (g.A.Answerer.kept c.args.answerer.now)
           (g.A.Answerer.kept c.loop-used.answerer) (g.A.Answerer.kept c.turn.new.answerer) talk (g.H.Hub.talk c.loop-used.hub) then
