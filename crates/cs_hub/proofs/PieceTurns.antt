@@ -1,7 +1,7 @@
 -- The turns of a piece, one after the other.
 --
 --   along_start, along_next, along_hold, along_stop    the way through the bytes
---   calm_none, calm_both, calm_live                    what the hub keeps
+--   calm_none, calm_both                               what the hub keeps
 --   stays_none, stays_both                             what is kept of what answers requests
 --   received, goes_kept                                a piece, by what is kept of the connection
 use Rattle.std.proofs.Common.{◌≡◌, inl, inr, ℕ, ◌+◌, ◌-◌, Bool, true, false, List, [], ◌∷◌, ◌++◌, length, take, drop, refl, sym, ◌∙◌, ap, subst}
@@ -10,7 +10,7 @@ use Rattle.std.specs.Prelude.{Option, Some, None, All, is_some}
 use Rattle.std.proofs.lemmas.List.{length-take}
 use Rattle.cs_base.specs.declared.content.limits.TheConstants.{MAX_CONNECTION_BYTES}
 use Rattle.std.specs.List.{AllZip}
-use Rattle.cs_base.specs.outside.Hub.{IsLive, Listening, Talk}
+use Rattle.cs_base.specs.outside.Hub.{Listening, Talk}
 use Rattle.std.proofs.lemmas.List.Elements.{All-append, All-cons}
 use Rattle.cs_model.specs.Corpus.{Corpus}
 use Rattle.cs_model_serving.specs.Responses.{Response, response_bytes, all_bytes}
@@ -116,10 +116,6 @@ calm_both {tells = tells} {send_fails = send_fails} {x = x} {y = y} {z = z} h k 
   breaks = breaks_both (send_fails x) (send_fails y) (send_fails z) (tells x) (tells y) (tells z) h.breaks k.breaks;
   orderly = λ o. k.orderly (h.orderly o);
 }
-
-pub calm_live : {H : Type 0} {stands : H → Listening} {tells : H → Option Talk} {fails send_fails : H → ℕ} {x y : H} (c : ℕ)
-    → Calm stands tells fails send_fails x y → IsLive (stands x) c → IsLive (stands y) c
-calm_live c h live = subst (λ s. IsLive s c) (sym h.state) live
 
 -- ---- what is kept of what answers requests
 pub stays_none : {A L : Type 0} {over : A → Corpus → Type 0} {lends : A → L} {fails : A → ℕ} (x : A) → StaysAnswering over lends fails x x

@@ -15,7 +15,8 @@
 --   still conns opened core          what is left to come over all connections
 --   came_by talk                     how many events came
 --   Went                             how a round went
---   StaysServed                      what a round keeps
+--   StaysServed                      what is served by a round
+--   StaysBeside                      how a round leaves the core beside the hub
 use Rattle.std.specs.Prelude.{◌≡◌, ◌⊎◌, ℕ, ◌+◌, ◌-◌, ◌*◌, ◌<◌, ◌≤◌, Bool, true, false, ◌==◌, cond, List, [], length, Option, Some, None, is_some}
 use Rattle.std.specs.List.{sum_by}
 use Rattle.std.specs.Option.{option_map}
@@ -155,3 +156,13 @@ Went round.Failed s s' talk talk' faults faults' core core' = Rose faults faults
 abbrev pub StaysServed : Corpus → Slots → Slots → Listening → Listening → Option Talk → Option Talk → ℕ → ℕ → Type 0
 StaysServed k core core' s s' talk talk' before now =
     (n : ℕ) → Follows k core s talk n → (more : ℕ) × Follows k core' s' talk' (n + more) × RoseBy more before now
+
+-- the core keeps the live connections, port and room of the hub stay, a connection broke only where a send failed, and what holds after
+-- each call of a hub does
+pub record StaysBeside {H : Type 0} (stands : H → Listening) (tells : H → Option Talk) (send_fails : H → ℕ) (conns : ℕ) (core : Slots)
+    (old now : H) : Type 0 where
+  pub live : HasLive core (stands now)
+  pub orderly : IsOrderly (stands now) (tells now)
+  pub port : (stands now).port ≡ (stands old).port
+  pub room : (stands now).conns ≡ conns
+  pub breaks : BreaksBy (send_fails old) (send_fails now) (tells old) (tells now)

@@ -1,12 +1,11 @@
 use Rattle.std.proofs.Common.{◌++◌, drop}
-use Rattle.cs_hub.proofs.PieceTurns.{along_start, along_next, along_hold, along_stop, calm_none, calm_both, calm_live, stays_none, stays_both}
+use Rattle.cs_hub.proofs.PieceTurns.{along_start, along_next, along_hold, along_stop, calm_none, calm_both, stays_none, stays_both}
 use Rattle.std.specs.Prelude.{true}
 use Rattle.cs_hub.proofs.AskedLemmas.{along_start as asked_start, along_next as asked_next, along_hold as asked_hold, along_stop as asked_stop}
 use Rattle.cs_hub.proofs.line.read_on.Goals as goal
 
 pub loop-used-init : goal.loop-used-init
 loop-used-init g c = record {
-  live = c.requires.live;
   along = along_start (g.A.Answerer.answers c.args.answerer.now) c.args.conn (c.args.reading.now ++ c.args.piece.now) (g.A.Answerer.faults c.args.answerer.now)
       (g.H.Hub.talk c.args.hub.now);
   asked = asked_start g.A.Answerer.leaves c.args.conn (c.args.reading.now ++ c.args.piece.now) (g.A.Answerer.kept c.args.answerer.now)
@@ -23,7 +22,6 @@ loop-used-preserved g c =
     let talk = g.H.Hub.talk c.args.hub.now in
     let then = g.H.Hub.talk c.turn.new.hub in
     record {
-      live = calm_live c.args.conn c.in-Next.ensures.calm c.loop-used.invariant.live;
       along = along_next over (g.A.Answerer.answers c.loop-used.answerer) c.args.conn c.in-Next.used (c.args.reading.now ++ c.args.piece.now)
           c.loop-used.reading c.loop-used.rest.now c.turn.new.self c.behind-rest.result.now before (g.A.Answerer.faults c.loop-used.answerer) after talk
           (g.H.Hub.talk c.loop-used.hub) then c.loop-used.invariant.stays.still c.behind-rest.ensures c.loop-used.invariant.along c.in-Next.ensures.turned;

@@ -1,5 +1,4 @@
 use Rattle.std.proofs.Common.{◌++◌, length}
-use Rattle.cs_base.specs.outside.Hub.{IsLive}
 use Rattle.cs_hub.specs.Asked.{AsksAlong, StaysAnswering}
 use Rattle.cs_hub.specs.Speaking.{Calm}
 use Rattle.cs_hub.specs.Turns.{Along}
@@ -7,7 +6,6 @@ use Rattle.cs_hub.proofs.line.read_on.Given as goal
 
 abbrev pub invariant-loop-used : goal.invariant-loop-used
 invariant-loop-used g l = record {
-  live : IsLive (g.H.Hub.state l.hub) l.conn;
   along : Along (g.A.Answerer.answers l.initial.answerer) l.conn (l.initial.reading ++ l.piece) (l.reading ++ l.rest) (g.A.Answerer.faults l.initial.answerer)
       (g.A.Answerer.faults l.answerer) (g.H.Hub.talk l.initial.hub) (g.H.Hub.talk l.hub);
   asked : AsksAlong g.A.Answerer.leaves l.conn (l.initial.reading ++ l.piece) (l.reading ++ l.rest) (g.A.Answerer.kept l.initial.answerer)
