@@ -11,7 +11,7 @@
 --   is_piece, unasked             an event that is no piece asks nothing
 --   asks_params, refused_params, asks_head, refused_head      what parameters and a head ask
 --   asks_below, asks_all, asks_sent, starved_for      how many answers there are; what was asked for one head, by what was sent
---   turned_goes, turned_stops     a head was answered
+--   turned_goes, turned_stops, turned_head     a head was answered
 --   turned_held, turned_long      no head ends there
 --   along_start, along_next, along_hold, along_stop    the way through the bytes
 --   asks_counted, asks_of_line    the bytes of a piece that count, and of a connection that is kept
@@ -72,7 +72,7 @@ use Rattle.cs_hub.proofs.UnreadHeads.{closes_by, heads-closes, heads-goes_on, he
 use Rattle.cs_hub.proofs.ServedLemmas.{bytes_both}
 use Rattle.cs_hub.proofs.SpeakLemmas.{itself, rose_both, rose_none, rose_one, spoke_both, spoke_nothing}
 use Rattle.cs_hub.proofs.ConnectionSlots.{set_at}
-use Rattle.cs_hub.proofs.TurnLemmas.{head_bytes, behind_head}
+use Rattle.cs_hub.proofs.TurnLemmas.{Span, head_bytes, behind_head}
 
 -- ---- requests
 pub requests_both : (xs ys : List Answered) → requests_of (xs ++ ys) ≡ requests_of xs ++ requests_of ys
@@ -285,9 +285,9 @@ module _ {K : Type 0} (Leaves : K → Request → Result Reply FetchFault → K 
       → AsksOf Leaves less qs s t
   asks_whole whole less qs s t h a = record { answered = a.answered; later = a.later; cut = a.cut; in_turn = a.in_turn; all = λ e. a.all (h e) }
 
-  pub asks_less : (whole : Bool) (qs : List Request) (s t : K) (Sent : List Answered → Type 0) → AsksAsSent Leaves whole qs s t Sent
-      → AsksAsSent Leaves false qs s t Sent
-  asks_less whole qs s t Sent a = record { asks = asks_whole whole false qs s t (λ e. absurd cc) a.asks; sent = a.sent }
+  pub asks_less : (whole less : Bool) (qs : List Request) (s t : K) (Sent : List Answered → Type 0) → (less ≡ true → whole ≡ true)
+      → AsksAsSent Leaves whole qs s t Sent → AsksAsSent Leaves less qs s t Sent
+  asks_less whole less qs s t Sent h a = record { asks = asks_whole whole less qs s t h a.asks; sent = a.sent }
 
   abbrev asks_some : (qs more all : List Request) (s t : K) → all ≡ qs ++ more → (whole : Bool) → AsksOf Leaves whole qs s t → AsksOf Leaves false all s t
   asks_some qs more all s t e whole a = record {
@@ -387,24 +387,23 @@ module _ {K : Type 0} (Leaves : K → Request → Result Reply FetchFault → K 
   starved_for c h s talk talk' starved = record { asks = asks_none (requests_in (judge h)) s; sent = want_for c h starved.0 talk talk' [] starved.1 }
 
   -- ---- turns
-  module _ (c : ℕ) (u r : List ℕ) (skip end used : ℕ) (goes : Bool) (s t : K) (talk talk' : Option Talk) (found : frame (u ++ r) ≡ framed.Head skip end)
-      (total : length u + used ≡ end) (within : used ≤ length r) (front : skip ≤ end)
+  module _ (c : ℕ) (u r : List ℕ) (skip end used : ℕ) (goes : Bool) (s t : K) (talk talk' : Option Talk) (span : Span u r skip end used)
       (a : AsksAsSent Leaves goes (requests_in (judge (slice_range (u ++ take used r) skip (length (u ++ take used r))))) s t
       (SentFor c goes (slice_range (u ++ take used r) skip (length (u ++ take used r))) talk talk')) where
     -- the head's own bytes, of which some were unread
     abbrev own : List ℕ
     own = slice_range (u ++ take used r) skip (length (u ++ take used r))
 
-    pub turned_goes : goes ≡ true → closes_behind (judge own) ≡ false → AsksAlong Leaves c (u ++ r) (drop used r) s t talk talk'
+    turned_goes : goes ≡ true → closes_behind (judge own) ≡ false → AsksAlong Leaves c (u ++ r) (drop used r) s t talk talk'
     turned_goes on stays =
         let said = a.sent.whole on in
-        let is = head_bytes u r skip end used total within front in
+        let is = head_bytes u r skip end used span.total span.within span.front in
         let e : heads_on (u ++ r) ≡ own ∷ heads_on (drop end (u ++ r)) =
         subst (λ x. heads_on (u ++ r) ≡ x ∷ heads_on (drop end (u ++ r))) (sym is)
-        (heads-goes_on (u ++ r) skip end found (subst (λ x. closes_behind (judge x) ≡ false) is stays)) in
+        (heads-goes_on (u ++ r) skip end span.found (subst (λ x. closes_behind (judge x) ≡ false) is stays)) in
         record {
           heads = own ∷ [];
-          cut = e ∙ ap (λ l. own ∷ heads_on l) (behind_head u r end used total);
+          cut = e ∙ ap (λ l. own ∷ heads_on l) (behind_head u r end used span.total);
           answered = a.asks.answered;
           asked = append-nil (requests_in (judge own)) ∙ a.asks.cut ∙ ap (λ l. requests_of a.asks.answered ++ l) (a.asks.all on).0
               ∙ append-nil (requests_of a.asks.answered);
@@ -416,17 +415,28 @@ module _ {K : Type 0} (Leaves : K → Request → Result Reply FetchFault → K 
           by = are_one said.0 own a.asks.answered said.1;
         }
 
-    pub turned_stops : goes ≡ false → AsksAsSent Leaves false (requests_on (u ++ r)) s t (SentBefore c (u ++ r) talk talk')
+    turned_stops : goes ≡ false → AsksAsSent Leaves false (requests_on (u ++ r)) s t (SentBefore c (u ++ r) talk talk')
     turned_stops off =
-        let is = head_bytes u r skip end used total within front in
-        let x = heads-head (u ++ r) skip end found in
+        let is = head_bytes u r skip end used span.total span.within span.front in
+        let x = heads-head (u ++ r) skip end span.found in
         let heads : heads_on (u ++ r) ≡ own ∷ x.0 = x.1 ∙ ap (λ l. l ∷ x.0) (sym is) in
         let alone : closes_behind (judge own) ≡ true → heads_on (u ++ r) ≡ own ∷ [] =
-        λ closes. heads-closes (u ++ r) skip end found (subst (λ l. closes_behind (judge l) ≡ true) is closes) ∙ ap (λ l. l ∷ []) (sym is) in
+        λ closes. heads-closes (u ++ r) skip end span.found (subst (λ l. closes_behind (judge l) ≡ true) is closes) ∙ ap (λ l. l ∷ []) (sym is) in
         record {
           asks = asks_some (requests_in (judge own)) (requests_to x.0) (requests_on (u ++ r)) s t (ap requests_to heads) goes a.asks;
           sent = before_stop c goes own (u ++ r) x.0 talk talk' a.asks.answered off (asks_below goes (requests_in (judge own)) s t a.asks) heads alone a.sent;
         }
+
+  pub turned_head : (c : ℕ) (u r : List ℕ) (skip end used : ℕ) (goes : Bool) (turn : Turn) (s t : K) (talk talk' : Option Talk)
+      → turn ≡ cond goes (turns.Next used) turns.Stops → Span u r skip end used
+      → (goes ≡ true → closes_behind (judge (slice_range (u ++ take used r) skip (length (u ++ take used r)))) ≡ false)
+      → AsksAsSent Leaves goes (requests_in (judge (slice_range (u ++ take used r) skip (length (u ++ take used r))))) s t
+      (SentFor c goes (slice_range (u ++ take used r) skip (length (u ++ take used r))) talk talk')
+      → AsksBy Leaves c u r turn s t talk talk'
+  turned_head c u r skip end used true turn s t talk talk' is span going a =
+      subst (λ x. AsksBy Leaves c u r x s t talk talk') (sym is) (turned_goes c u r skip end used true s t talk talk' span a refl (going refl))
+  turned_head c u r skip end used false turn s t talk talk' is span going a =
+      subst (λ x. AsksBy Leaves c u r x s t talk talk') (sym is) (turned_stops c u r skip end used false s t talk talk' span a refl)
 
   starved_stops : (c : ℕ) (b : List ℕ) (s : K) (talk talk' : Option Talk) → Starved c talk talk'
       → AsksAsSent Leaves false (requests_on b) s s (SentBefore c b talk talk')

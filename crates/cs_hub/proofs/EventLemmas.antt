@@ -3,12 +3,13 @@
 --   bytes_that_came-push, ended_on-push      what came on one connection, with one event more
 --   sum_at, sum_new                   sums over connections, of which one has another value
 --   piece_stays, opened_stays, ended_stays, over_stays      the core follows the hub after each event
+--   at_event                          it does where the event is known to be this one
 --   others_by, piece_others, opened_others, ended_others    the others stay as they are
 --   came_spoke, piece_came, opened_came     no event came
-use Rattle.std.proofs.Common.{◌≡◌, inl, inr, ℕ, suc, ◌+◌, ◌<◌, ◌≤◌, ◌==◌, Bool, true, false, ◌||◌, cond, List, [], ◌∷◌, ◌++◌, length, take, refl, sym, ◌∙◌, ap}
+use Rattle.std.proofs.Common.{◌≡◌, inl, inr, ℕ, suc, ◌+◌, ◌<◌, ◌≤◌, ◌==◌, Bool, true, false, ◌||◌, cond, List, [], ◌∷◌, ◌++◌, take, refl, sym, ◌∙◌, ap}
 use Rattle.std.proofs.Common.{subst, arith, append_assoc, append-nil}
 use Prim.Native.Nat.{zero}
-use Rattle.std.specs.Prelude.{Option, Some, None, is_some, All, ◌≢◌}
+use Rattle.std.specs.Prelude.{Option, Some, None, is_some, All, ◌≢◌, slice_set}
 use Rattle.std.specs.Option.{ForSome, option_map}
 use Rattle.std.specs.FinSet as set
 use Rattle.std.proofs.lemmas.Option.{same_Some}
@@ -23,10 +24,11 @@ use Rattle.cs_model_serving.specs.Responses.{Response, memory_bytes}
 use Rattle.cs_model_serving.specs.Connections.{Left, StandsLive, reads, changes}
 use Rattle.cs_model_serving.proofs.CountLemmas.{reads-append, changes-append}
 use Rattle.cs_hub.specs.Streams.{bytes_at, bytes_that_came, ended_at, ended_on, sum_below}
-use Rattle.cs_hub.specs.HubFollowing.{Slots, left_at, HasLive, IsRight, AreRight, StaysRight, IsOther, LeavesOthers}
+use Rattle.cs_hub.specs.HubFollowing.{Slots, left_at, HasLive, HasLiveBut, IsWhole, IsRight, AreRight, StaysRight, IsOther, LeavesOthers}
 use Rattle.cs_hub.specs.Rounds.{Acted, Greets, Heeds, KeepsCame}
 use Rattle.cs_hub.specs.Speaking.{Did, Spoke, Said}
 use Rattle.cs_hub.proofs.SpeakLemmas.{itself, by_conn, same_conn, spoke_nothing, rose_none}
+use Rattle.cs_hub.proofs.ActLemmas.{acted_live, ended_acted}
 use Rattle.cs_hub.proofs.RightLemmas.{Advances, after_piece, right_as, fresh_right, refused_right, cut_right, let_go, or_true, or_false}
 
 -- ---- what came on one connection, with one event more
@@ -164,19 +166,19 @@ piece_here k b s piece broken ended x old kept fails more sent later e h advance
     subst (λ y. IsRight k (b ++ piece) (s ++ more) y ended kept (sent ++ later)) (sym (ap (λ y. fails || y) l.0.whole ∙ or_false fails)) is
 
 pub piece_stays : (Told : Corpus → Type 0) (k : Corpus) → Told k
-    → (core core' : Slots) (c n : ℕ) (piece : List ℕ) (s s' : Listening) (m o : ℕ) (talk talk' : Option Talk) → length piece ≡ n
-    → Heeds Told core core' c piece s s' m o talk talk' → HasLive core' s' → (IsOrderly s talk → IsOrderly s' talk')
+    → (core core' : Slots) (c n : ℕ) (piece : List ℕ) (s s' : Listening) (m o : ℕ) (talk talk' : Option Talk) → HasLiveBut core s (Piece c n)
+    → IsWhole (Piece c n) piece → Heeds Told core core' c piece s s' m o talk talk' → (IsOrderly s talk → IsOrderly s' talk')
     → StaysRight k core core' (Piece c n) piece s s' talk talk' m o
-piece_stays Told k over core core' c n piece s s' m o talk talk' whole d live orderly = record {
+piece_stays Told k over core core' c n piece s s' m o talk talk' but whole d orderly = record {
   stays = λ s0 talk0 room i h e.
       let p = e.happens in
       let w = after_piece Told c d.old piece d.kept m o talk talk' d.received in
       let x = w.1.counted k over in
       let bytes : bytes_at c (Piece c n) (take n piece) ≡ piece =
-      ap (λ b. cond b (take n piece) []) (itself c) ∙ ap (λ j. take j piece) (sym whole) ∙ take-length piece in (
+      ap (λ b. cond b (take n piece) []) (itself c) ∙ ap (λ j. take j piece) (sym whole.0) ∙ take-length piece in (
         reads x.sent,
         record {
-          live = live;
+          live = acted_live core core' c d.kept s s' (λ q other. but.1 q) d.acted;
           orderly = orderly e.orderly;
           right = lift (λ u. AreRight k core' s' u (i + reads x.sent)) c w.1.more w.0 (came_of (Piece c n) piece) talk0 talk talk' e.came w.1.spoke
               (λ t0 u at did.
@@ -260,15 +262,15 @@ or_false_is : (a b : Bool) → b ≡ false → (a || b) ≡ a
 or_false_is a b h = ap (λ x. a || x) h ∙ or_false a
 
 pub opened_stays : (k : Corpus) (core core' : Slots) (c : ℕ) (piece : List ℕ) (s s' : Listening) (m : ℕ) (talk talk' : Option Talk)
-    → Greets core core' c s s' talk talk' → HasLive core' s' → (IsOrderly s talk → IsOrderly s' talk')
+    → HasLiveBut core s (Opened c) → Greets core core' c s s' talk talk' → (IsOrderly s talk → IsOrderly s' talk')
     → StaysRight k core core' (Opened c) piece s s' talk talk' m m
-opened_stays k core core' c piece s s' m talk talk' greets live orderly = record {
+opened_stays k core core' c piece s s' m talk talk' but greets orderly = record {
   stays = λ s0 talk0 room i h e.
       let p = e.happens in
       let g = greeted core core' c s s' talk talk' greets in (
         0,
         record {
-          live = live;
+          live = acted_live core core' c g.0 s s' but.2 g.1.acted;
           orderly = orderly e.orderly;
           right = lift (λ u. AreRight k core' s' u (i + 0)) c g.1.more g.1.fails (came_of (Opened c) piece) talk0 talk talk' e.came g.1.spoke (λ t0 u at did.
               let a = h.right t0 at in
@@ -296,14 +298,15 @@ opened_stays k core core' c piece s s' m talk talk' greets live orderly = record
 }
 
 -- ---- a connection that ended
-pub ended_stays : (k : Corpus) (core core' : Slots) (c : ℕ) (piece : List ℕ) (s : Listening) (m : ℕ) (talk : Option Talk) → Acted core core' c None s s
-    → HasLive core' s → StaysRight k core core' (Ended c) piece s s talk talk m m
-ended_stays k core core' c piece s m talk acted live = record {
+pub ended_stays : (k : Corpus) (core core' : Slots) (c : ℕ) (piece : List ℕ) (s : Listening) (m : ℕ) (talk : Option Talk) → HasLiveBut core s (Ended c)
+    → core' ≡ slice_set core c None → StaysRight k core core' (Ended c) piece s s talk talk m m
+ended_stays k core core' c piece s m talk but sets = record {
   stays = λ s0 talk0 room i h e.
-      let p = e.happens in (
+      let p = e.happens in
+      let acted = ended_acted core core' c s sets but.0 in (
         0,
         record {
-          live = live;
+          live = acted_live core core' c None s s but.2 acted;
           orderly = e.orderly;
           right = lift (λ u. AreRight k core' s u (i + 0)) c [] false (came_of (Ended c) piece) talk0 talk talk e.came (spoke_nothing c talk) (λ t0 u at did.
               let a = h.right t0 at in
@@ -373,6 +376,15 @@ over_stays k core core' piece s s' m talk talk' same q none live orderly = recor
     rose_none m m (omega arith),
   );
 }
+
+-- ---- any event
+pub at_event : (k : Corpus) (core core' : Slots) (event e : Event) (piece : List ℕ) (s s' : Listening) (talk talk' : Option Talk) (m n : ℕ) → event ≡ e
+    → HasLiveBut core s event → IsWhole event piece
+    → (HasLiveBut core s e → IsWhole e piece → StaysRight k core core' e piece s s' talk talk' m n)
+    → StaysRight k core core' event piece s s' talk talk' m n
+at_event k core core' event e piece s s' talk talk' m n is but whole h =
+    subst (λ (v : Event). StaysRight k core core' v piece s s' talk talk' m n) (sym is)
+    (h (subst (HasLiveBut core s) is but) (subst (λ (v : Event). IsWhole v piece) is whole))
 
 -- ---- other connections
 spoke_others : (c : ℕ) (more : List ℕ) (fails : Bool) (talk talk' : Option Talk) → Spoke c more fails talk talk'

@@ -2,6 +2,7 @@
 --
 --   starts        before anything was opened the core of no slots follows it
 --   served_none   nothing was served then, and no count rose
+--   served_same   what was served, by other names of the counts
 --   IsGoodOver        an engine over bytes that stand for its index, where what it keeps is good, with their corpus
 --   over_same     it is so by other names of the bytes and the engine
 --   good_after    what is kept of answers is good after it was answered from
@@ -33,6 +34,10 @@ starts k s talk port conns e o = record {
 pub served_none : (k : Corpus) (s : Listening) (talk : Option Talk) (port conns n : ℕ) → s ≡ listens port conns → IsOrderly s talk → AreServed k s talk n n
 served_none k s talk port conns n e o =
     record { core = []; failed = 0; follows = starts k s talk port conns e o; rose = let l : min (n + 0) (2 ^ 64 - 1) ≤ n = omega arith in l }
+
+-- by other names of the counts
+pub served_same : (k : Corpus) (s : Listening) (talk : Option Talk) (m m' n n' : ℕ) → m ≡ m' → n ≡ n' → AreServed k s talk m n → AreServed k s talk m' n'
+served_same k s talk m m' n n' e f h = subst (λ x. AreServed k s talk x n') e (subst (λ x. AreServed k s talk m x) f h)
 
 abbrev pub IsGoodOver : Option (List ℕ) → EngineView → Corpus → Type 0
 IsGoodOver told e k = (x : List ℕ) × (told ≡ Some x) × StandsFor x e.index × AreGood x e × (k ≡ file_corpus x)

@@ -1,12 +1,12 @@
 -- The turns of a piece, one after the other.
 --
 --   along_start, along_next, along_hold, along_stop    the way through the bytes
---   calm_on                                            what the hub keeps
---   full                                               a piece with which the limit is reached
---   shut, kept                                         one after which the connection is to be closed, or goes on
-use Rattle.std.proofs.Common.{◌≡◌, inl, inr, ℕ, ◌+◌, ◌-◌, ◌<◌, ◌≤◌, Bool, false, List, [], ◌∷◌, ◌++◌, length, take, drop, refl, sym, ◌∙◌, ap, subst}
+--   calm_none, calm_both                               what the hub keeps
+--   stays_none, stays_both                             what is kept of what answers requests
+--   received, goes_kept                                a piece, by what is kept of the connection
+use Rattle.std.proofs.Common.{◌≡◌, inl, inr, ℕ, ◌+◌, ◌-◌, Bool, true, false, List, [], ◌∷◌, ◌++◌, length, take, drop, refl, sym, ◌∙◌, ap, subst}
 use Rattle.std.proofs.Common.{append_assoc, append-nil, arith}
-use Rattle.std.specs.Prelude.{Option, Some, None, All}
+use Rattle.std.specs.Prelude.{Option, Some, None, All, is_some}
 use Rattle.std.proofs.lemmas.List.{length-take}
 use Rattle.cs_base.specs.declared.content.limits.TheConstants.{MAX_CONNECTION_BYTES}
 use Rattle.std.specs.List.{AllZip}
@@ -17,8 +17,9 @@ use Rattle.cs_model_serving.specs.Responses.{Response, response_bytes, all_bytes
 use Rattle.cs_model_serving.specs.Connections.{Served, Left, MayReplace, serve, waits, answers_on}
 use Rattle.cs_model_serving.specs.ServingLaws.{answers_before}
 use Rattle.cs_model_serving.proofs.ServeLemmas.{serve-more}
+use Rattle.cs_hub.specs.Asked.{StaysAnswering}
 use Rattle.cs_hub.specs.Speaking.{Calm, IsEnded}
-use Rattle.cs_hub.specs.Turns.{IsOne, IsAlong, Along, GoesOn, Kept, HoldsOn, Holds, Stops, Received}
+use Rattle.cs_hub.specs.Turns.{IsOne, IsAlong, Along, GoesOn, KeepsBelow, Kept, HoldsOn, Holds, Reads, Stops, Received}
 use Rattle.cs_hub.proofs.SpeakLemmas.{breaks_both, breaks_none, rose_none, spoke_nothing, says_both}
 use Rattle.cs_hub.proofs.ServedLemmas.{all_nil, zip_both, bytes_both, ended_behind}
 
@@ -50,15 +51,15 @@ one_more k b left later x y xs ys h o = record {
   joined = h.joined ∙ ap (answers_before h.first) o.joined ∙ regroup h.first o.right (serve k later);
 }
 
-pub along_next : (Over Later : Corpus → Type 0) (c used : ℕ) (b unread rest unread' : List ℕ) (m n o : ℕ) (talk mid talk' : Option Talk)
-    → ((k : Corpus) → Over k → Later k)
+pub along_next : (Over Later : Corpus → Type 0) (c used : ℕ) (b unread rest unread' left : List ℕ) (m n o : ℕ) (talk mid talk' : Option Talk)
+    → ((k : Corpus) → Over k → Later k) → left ≡ drop used rest
     → Along Over c b (unread ++ rest) m n talk mid → GoesOn Later c used unread rest unread' n o mid talk'
-    → Along Over c b (unread' ++ drop used rest) m o talk talk'
-along_next Over Later c used b unread rest unread' m n o talk mid talk' still h s =
-    subst (λ u. Along Over c b (u ++ drop used rest) m o talk talk') (sym s.emptied)
+    → Along Over c b (unread' ++ left) m o talk talk'
+along_next Over Later c used b unread rest unread' left m n o talk mid talk' still is h s =
+    subst (λ u. Along Over c b (u ++ left) m o talk talk') (sym s.emptied) (subst (λ l. Along Over c b l m o talk talk') (sym is)
     (says_both Over Later c false (λ k more sent. IsAlong k b (unread ++ rest) more sent) (λ k more sent. IsOne k (unread ++ rest) (drop used rest) more sent)
     (λ k more sent. IsAlong k b (drop used rest) more sent) m n o talk mid talk' still
-    (λ k x y xs ys. one_more k b (unread ++ rest) (drop used rest) x y xs ys) h s.says)
+    (λ k x y xs ys. one_more k b (unread ++ rest) (drop used rest) x y xs ys) h s.says))
 
 all_held : (k : Corpus) (b left unread' more : List ℕ) (sent : List Response) → serve k left ≡ waits left → unread' ≡ left → IsAlong k b left more sent
     → HoldsOn k b unread' more sent
@@ -103,44 +104,55 @@ along_stop Over Later c b left m n o talk mid talk' still h s = (
 )
 
 -- ---- what the hub keeps
-pub calm_still : (s : Listening) (faults sends : ℕ) (talk : Option Talk) → Calm s s faults faults sends sends talk talk
-calm_still s faults sends talk = record { state = refl; faults = refl; breaks = breaks_none sends talk; orderly = λ h. h }
+pub calm_none : {H : Type 0} {stands : H → Listening} {tells : H → Option Talk} {fails send_fails : H → ℕ} (x : H) → Calm stands tells fails send_fails x x
+calm_none {tells = tells} {send_fails = send_fails} x =
+    record { state = refl; faults = refl; breaks = breaks_none (send_fails x) (tells x); orderly = λ h. h }
 
-pub calm_on : (s s' s'' : Listening) (m n p i j l : ℕ) (talk talk' talk'' : Option Talk) → Calm s s' m n i j talk talk' → Calm s' s'' n p j l talk' talk''
-    → Calm s s'' m p i l talk talk''
-calm_on s s' s'' m n p i j l talk talk' talk'' h k = record {
+pub calm_both : {H : Type 0} {stands : H → Listening} {tells : H → Option Talk} {fails send_fails : H → ℕ} {x y z : H}
+    → Calm stands tells fails send_fails x y → Calm stands tells fails send_fails y z → Calm stands tells fails send_fails x z
+calm_both {tells = tells} {send_fails = send_fails} {x = x} {y = y} {z = z} h k = record {
   state = k.state ∙ h.state;
   faults = k.faults ∙ h.faults;
-  breaks = breaks_both i j l talk talk' talk'' h.breaks k.breaks;
+  breaks = breaks_both (send_fails x) (send_fails y) (send_fails z) (tells x) (tells y) (tells z) h.breaks k.breaks;
   orderly = λ o. k.orderly (h.orderly o);
 }
 
+-- ---- what is kept of what answers requests
+pub stays_none : {A L : Type 0} {over : A → Corpus → Type 0} {lends : A → L} {fails : A → ℕ} (x : A) → StaysAnswering over lends fails x x
+stays_none x = record { still = λ k h. h; lent = refl; later = omega arith }
+
+pub stays_both : {A L : Type 0} {over : A → Corpus → Type 0} {lends : A → L} {fails : A → ℕ} {x y z : A} → StaysAnswering over lends fails x y
+    → StaysAnswering over lends fails y z → StaysAnswering over lends fails x z
+stays_both h k = record { still = λ c o. k.still c (h.still c o); lent = k.lent ∙ h.lent; later = omega (arith, h.later, k.later) }
+
 -- ---- the limit
-pub full : (Over : Corpus → Type 0) (c : ℕ) (old : Left) (taken : ℕ) (unread piece counted unread' : List ℕ) (m n : ℕ) (talk talk' : Option Talk)
-    → record { taken = taken; unread = unread } ≡ old → counted ≡ take (MAX_CONNECTION_BYTES - taken) piece
-    → MAX_CONNECTION_BYTES ≤ taken + length counted → Holds Over c (unread ++ counted) unread' m n talk talk' → Received Over c old piece None m n talk talk'
-full Over c old taken unread piece counted unread' m n talk talk' is e limit h =
-    subst (λ (l : Left). Received Over c l piece None m n talk talk') is
-    (inr (
-      unread',
-      subst (λ x. Holds Over c (unread ++ x) unread' m n talk talk') e h,
-      let size = length-take (MAX_CONNECTION_BYTES - taken) piece in omega (arith, limit, ap length e, size),
-    ))
+-- by what is kept of the connection
+received_from : (Over : Corpus → Type 0) (c taken : ℕ) (unread piece counted unread' : List ℕ) (goes : Bool) (kept : Option Left) (m n : ℕ)
+    (talk talk' : Option Talk) → counted ≡ take (MAX_CONNECTION_BYTES - taken) piece → KeepsBelow goes (taken + length counted) unread' kept
+    → Reads Over c (unread ++ counted) goes unread' m n talk talk' → Received Over c (record { taken = taken; unread = unread }) piece kept m n talk talk'
+received_from Over c taken unread piece counted unread' true (Some l) m n talk talk' e k h = (
+  subst (λ u. Holds Over c (unread ++ take (MAX_CONNECTION_BYTES - taken) piece) u m n talk talk') (sym (ap (λ (x : Left). x.unread) k.2))
+      (subst (λ x. Holds Over c (unread ++ x) unread' m n talk talk') e h),
+  let size = length-take (MAX_CONNECTION_BYTES - taken) piece in omega (arith, k.1, ap length e, ap (λ (x : Left). x.taken) k.2, size),
+  omega (arith, k.1, ap (λ (x : Left). x.taken) k.2),
+)
+received_from Over c taken unread piece counted unread' true None m n talk talk' e k h = inr (
+  unread',
+  subst (λ x. Holds Over c (unread ++ x) unread' m n talk talk') e h,
+  let size = length-take (MAX_CONNECTION_BYTES - taken) piece in let full = k refl in omega (arith, full, ap length e, size),
+)
+received_from Over c taken unread piece counted unread' false (Some l) m n talk talk' e k h = absurd (let x : false ≡ true = k.0 in cc)
+received_from Over c taken unread piece counted unread' false None m n talk talk' e k h = inl (subst (λ x. Stops Over c (unread ++ x) m n talk talk') e h)
 
--- ---- below the limit, and where it doesn't matter
-pub shut : (Over : Corpus → Type 0) (c : ℕ) (old : Left) (taken : ℕ) (unread piece counted : List ℕ) (m n : ℕ) (talk talk' : Option Talk)
-    → record { taken = taken; unread = unread } ≡ old → counted ≡ take (MAX_CONNECTION_BYTES - taken) piece
-    → Stops Over c (unread ++ counted) m n talk talk' → Received Over c old piece None m n talk talk'
-shut Over c old taken unread piece counted m n talk talk' is e h =
-    subst (λ (l : Left). Received Over c l piece None m n talk talk') is (inl (subst (λ x. Stops Over c (unread ++ x) m n talk talk') e h))
+pub received : (Over : Corpus → Type 0) (c : ℕ) (old : Left) (taken : ℕ) (unread piece counted unread' : List ℕ) (goes : Bool) (kept : Option Left) (m n : ℕ)
+    (talk talk' : Option Talk) → record { taken = taken; unread = unread } ≡ old → counted ≡ take (MAX_CONNECTION_BYTES - taken) piece
+    → KeepsBelow goes (taken + length counted) unread' kept → Reads Over c (unread ++ counted) goes unread' m n talk talk'
+    → Received Over c old piece kept m n talk talk'
+received Over c old taken unread piece counted unread' goes kept m n talk talk' is e k h =
+    subst (λ (l : Left). Received Over c l piece kept m n talk talk') is
+    (received_from Over c taken unread piece counted unread' goes kept m n talk talk' e k h)
 
-pub kept : (Over : Corpus → Type 0) (c : ℕ) (old : Left) (taken : ℕ) (unread piece counted unread' : List ℕ) (m n : ℕ) (talk talk' : Option Talk)
-    → record { taken = taken; unread = unread } ≡ old → counted ≡ take (MAX_CONNECTION_BYTES - taken) piece
-    → taken + length counted < MAX_CONNECTION_BYTES → Holds Over c (unread ++ counted) unread' m n talk talk'
-    → Received Over c old piece (Some (record { taken = taken + length counted; unread = unread' })) m n talk talk'
-kept Over c old taken unread piece counted unread' m n talk talk' is e below h =
-    subst (λ (l : Left). Received Over c l piece (Some (record { taken = taken + length counted; unread = unread' })) m n talk talk') is (
-      subst (λ x. Holds Over c (unread ++ x) unread' m n talk talk') e h,
-      let size = length-take (MAX_CONNECTION_BYTES - taken) piece in omega (arith, below, ap length e, size),
-      below,
-    )
+-- a connection that is kept goes on
+pub goes_kept : (goes : Bool) (taken : ℕ) (unread : List ℕ) (kept : Option Left) → KeepsBelow goes taken unread kept → is_some kept ≡ true → goes ≡ true
+goes_kept goes taken unread (Some l) k h = k.0
+goes_kept goes taken unread None k h = absurd cc

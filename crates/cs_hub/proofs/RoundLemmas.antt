@@ -3,7 +3,9 @@
 --   before_step                what is live before the step of an event
 --   came_one                   one event more
 --   ServedBy, goes_on, served_by       what is served so far, after one more round, and at the end
---   at_start, start_live, start_still, less_left      before the first round
+--   at_start                   before the first round
+--   beside_start, beside_both  how the core stands beside the hub
+--   CountsRounds, counts_start, counts_next   what is counted from round to round
 --   none_live                  where nothing is kept, nothing is live
 use Rattle.std.proofs.Common.{◌≡◌, ℕ, ◌+◌, ◌*◌, ◌<◌, ◌≤◌, Bool, true, false, ◌||◌, cond, [], ◌∷◌, length, refl, sym, ◌∙◌, ap, subst, arith, length-append}
 use Rattle.std.specs.Prelude.{Option, Some, None, is_some}
@@ -19,8 +21,9 @@ use Rattle.cs_model.specs.Corpus.{Corpus}
 use Rattle.cs_model_serving.specs.Connections.{Left}
 use Rattle.cs_hub.specs.Streams.{RoseBy}
 use Rattle.cs_hub.specs.HubFollowing.{Slots, left_at, HasLive, HasLiveBut, Follows, AreServed}
-use Rattle.cs_hub.specs.Rounds.{KeepsCame, came_by, StaysServed, still, weight}
-use Rattle.cs_hub.proofs.SpeakLemmas.{itself, in_after, rose_both, rose_none}
+use Rattle.cs_hub.specs.declared.rounds.Round.TheVariants.{Goes}
+use Rattle.cs_hub.specs.Rounds.{KeepsCame, StaysBeside, StaysServed, Went, came_by, still, weight}
+use Rattle.cs_hub.proofs.SpeakLemmas.{breaks_both, breaks_none, itself, in_after, rose_both, rose_none}
 use Rattle.cs_hub.proofs.ActLemmas.{gone_at}
 use Rattle.cs_hub.proofs.FollowLemmas.{starts}
 
@@ -90,15 +93,68 @@ pub at_start : (k : Corpus) (core : Slots) (s : Listening) (talk : Option Talk) 
 at_start k core s talk port conns m none e o =
     subst (λ x. ServedBy k x s talk m m) (sym none) (record { failed = 0; follows = starts k s talk port conns e o; rose = rose_none m m (omega arith) })
 
-pub start_live : (core : Slots) (s : Listening) (port conns : ℕ) → core ≡ [] → s ≡ listens port conns → HasLive core s
+start_live : (core : Slots) (s : Listening) (port conns : ℕ) → core ≡ [] → s ≡ listens port conns → HasLive core s
 start_live core s port conns none e =
     subst (λ x. HasLive x s) (sym none) (λ d. sym (ap (λ (y : Listening). set.contains y.live d) e ∙ set.contains-empty nat_cmp d))
 
-pub start_still : (core : Slots) (conns : ℕ) → core ≡ [] → still conns 0 core ≡ conns * (MAX_CONNECTION_BYTES + 2)
+start_still : (core : Slots) (conns : ℕ) → core ≡ [] → still conns 0 core ≡ conns * (MAX_CONNECTION_BYTES + 2)
 start_still core conns none = let w = ap weight none in omega (arith, w)
 
 -- less is left to come, by the numbers that the loop keeps
-pub less_left : (conns opened count room was : ℕ) (core core' : Slots) → room ≡ conns → was ≡ opened → still room count core' < still room was core
+less_left : (conns opened count room was : ℕ) (core core' : Slots) → room ≡ conns → was ≡ opened → still room count core' < still room was core
     → still conns count core' < still conns opened core
 less_left conns opened count room was core core' e f h =
     subst (λ i. still i count core' < still i opened core) e (subst (λ i. still room count core' < still room i core) f h)
+
+-- ---- the core beside the hub
+module _ {H : Type 0} {stands : H → Listening} {tells : H → Option Talk} where
+  pub beside_start : {send_fails : H → ℕ} {conns : ℕ} (core : Slots) (port : ℕ) (x : H) → core ≡ [] → stands x ≡ listens port conns
+      → IsOrderly (stands x) (tells x) → StaysBeside stands tells send_fails conns core x x
+  beside_start {send_fails} {conns} core port x none is orderly = record {
+    live = start_live core (stands x) port conns none is;
+    orderly = orderly;
+    port = refl;
+    room = ap (λ (y : Listening). y.conns) is;
+    breaks = breaks_none (send_fails x) (tells x);
+  }
+
+  pub beside_both : {send_fails : H → ℕ} {conns : ℕ} {core core' : Slots} {x y z : H} → StaysBeside stands tells send_fails conns core x y
+      → StaysBeside stands tells send_fails conns core' y z → StaysBeside stands tells send_fails conns core' x z
+  beside_both {send_fails} {x = x} {y = y} {z = z} h k = record {
+    live = k.live;
+    orderly = k.orderly;
+    port = k.port ∙ h.port;
+    room = k.room;
+    breaks = breaks_both (send_fails x) (send_fails y) (send_fails z) (tells x) (tells y) (tells z) h.breaks k.breaks;
+  }
+
+-- ---- rounds so far
+-- so many connections were opened, no more than there is room for; neither Over nor a failure came, and there were so few events
+pub record CountsRounds {H : Type 0} (stands : H → Listening) (tells : H → Option Talk) (fails : H → ℕ) (conns count : ℕ) (core : Slots)
+    (old now : H) : Type 0 where
+  pub opened : (stands now).opened ≡ count
+  pub most : count ≤ conns
+  pub going : (stands now).over ≡ false
+  pub quiet : fails now ≡ fails old
+  pub events : came_by (tells now) + still conns count core ≤ came_by (tells old) + conns * (MAX_CONNECTION_BYTES + 2)
+
+module _ {H : Type 0} {stands : H → Listening} {tells : H → Option Talk} {fails : H → ℕ} {conns : ℕ} where
+  pub counts_start : (core : Slots) (port : ℕ) (x : H) → core ≡ [] → stands x ≡ listens port conns → CountsRounds stands tells fails conns 0 core x x
+  counts_start core port x none is = record {
+    opened = ap (λ (y : Listening). y.opened) is;
+    most = omega arith;
+    going = ap (λ (y : Listening). y.over) is;
+    quiet = refl;
+    events = let z = start_still core conns none in omega (arith, z);
+  }
+
+  pub counts_next : {opened n : ℕ} {core core' : Slots} {x : H} (y z : H) → CountsRounds stands tells fails conns opened core x y → (stands y).conns ≡ conns
+      → Went (Goes n) (stands y) (stands z) (tells y) (tells z) (fails y) (fails z) core core' → CountsRounds stands tells fails conns n core' x z
+  counts_next {opened} {n} {core} {core'} y z h room went = record {
+    opened = went.0;
+    most = omega (arith, went.3, room);
+    going = went.4 ∙ h.going;
+    quiet = went.1 ∙ h.quiet;
+    events = let less = less_left conns opened n (stands y).conns (stands y).opened core core' room h.opened went.2 in
+        omega (arith, less, went.5, h.events);
+  }

@@ -7,6 +7,8 @@
 --   replied_goes, replied_stops      the same of the response to a head
 --   found_head, found_more, found_long    what looking found, as framing
 --   head_bytes        the bytes of a head, some of which were unread
+--   Span              where a head lies among unread bytes and those that came
+--   turned_head, turned_long, turned_held     a turn, by what looking found
 use Rattle.std.proofs.Common.{ap₂, ◌≡◌, ◌⊎◌, inl, inr, ℕ, ◌+◌, ◌-◌, ◌<◌, ◌≤◌, Bool, true, false, List, [], ◌∷◌, ◌++◌, length, take, drop, slice_range}
 use Rattle.std.proofs.Common.{append_assoc, append-nil, refl, sym, ◌∙◌, ap, subst, arith, length-append, length-drop}
 use Rattle.std.specs.Prelude.{Option, cond, not, ◌&&◌, Result, Ok, Err, IfOk}
@@ -31,7 +33,7 @@ use Rattle.cs_hub.specs.declared.answer.Answer.{Answer}
 use Rattle.cs_hub.specs.Responding.{response}
 use Rattle.cs_hub.specs.Streams.{RoseBy}
 use Rattle.cs_hub.specs.Speaking.{Said, Spoke, Starved, IsCutShort, IsEnded, Says}
-use Rattle.cs_hub.specs.Turns.{IsGiven, Delivered, IsSent, Replied, IsOne, HoldsBytes, IsTurnedAway, GoesOn, Stops, Turned}
+use Rattle.cs_hub.specs.Turns.{IsGiven, Delivered, IsSent, Replied, IsOne, HoldsBytes, IsTurnedAway, Stops, Turned}
 use Rattle.cs_hub.proofs.SpeakLemmas.{rose_none}
 use Rattle.cs_hub.proofs.ServedLemmas.{all_nil, zip_same, same_closing, plain, reads_cons, changes_cons}
 
@@ -252,28 +254,36 @@ replied_by Over c head other (Ok a) goes m n talk talk' e h sent = inl (response
 replied_by Over c head other (Err x) goes m n talk talk' e h sent = inr sent
 
 -- ---- turns
-served_by : (k : Corpus) (u r : List ℕ) (skip end used : ℕ) → frame (u ++ r) ≡ framed.Head skip end → length u + used ≡ end → used ≤ length r → skip ≤ end
+-- a head ends behind so many of these bytes, and lies behind so many of empty lines
+pub record Span (u r : List ℕ) (skip end used : ℕ) : Type 0 where
+  pub found : frame (u ++ r) ≡ framed.Head skip end
+  pub front : skip ≤ end
+  pub total : length u + used ≡ end
+  pub within : used ≤ length r
+  pub some : 0 < used
+
+served_by : (k : Corpus) (u r : List ℕ) (skip end used : ℕ) → Span u r skip end used
     → serve k (u ++ r) ≡ answered (response_to k (slice_range (u ++ take used r) skip (length (u ++ take used r)))) (drop used r) (serve k)
-served_by k u r skip end used f total within front =
-    serve-head k (u ++ r) skip end f
-    ∙ ap₂ (λ h l. answered (response_to k h) l (serve k)) (sym (head_bytes u r skip end used total within front)) (behind_head u r end used total)
+served_by k u r skip end used s =
+    serve-head k (u ++ r) skip end s.found
+    ∙ ap₂ (λ h l. answered (response_to k h) l (serve k)) (sym (head_bytes u r skip end used s.total s.within s.front)) (behind_head u r end used s.total)
 
-module _ (Over : Corpus → Type 0) (c : ℕ) (u r u' : List ℕ) (skip end used : ℕ) (goes : Bool) (m n : ℕ) (talk talk' : Option Talk)
-    (f : frame (u ++ r) ≡ framed.Head skip end) (total : length u + used ≡ end) (within : used ≤ length r) (front : skip ≤ end) (later : m ≤ n)
-    (h : Replied Over c (λ k. response_to k (slice_range (u ++ take used r) skip (length (u ++ take used r)))) goes m n talk talk') where
-  pub turned_goes : goes ≡ true → u' ≡ [] → 0 < used → GoesOn Over c used u r u' m n talk talk'
-  turned_goes is empty some = record {
-    some = some;
-    within = within;
-    emptied = empty;
-    says = replied_goes Over c (u ++ r) (drop used r) (λ k. response_to k (slice_range (u ++ take used r) skip (length (u ++ take used r)))) goes m n talk talk'
-        (λ k. served_by k u r skip end used f total within front) later is h;
-  }
-
-  pub turned_stops : goes ≡ false → Stops Over c (u ++ r) m n talk talk'
-  turned_stops is =
-      replied_stops Over c (u ++ r) (drop used r) (λ k. response_to k (slice_range (u ++ take used r) skip (length (u ++ take used r)))) goes m n talk talk'
-      (λ k. served_by k u r skip end used f total within front) later is h
+pub turned_head : (Over : Corpus → Type 0) (c : ℕ) (u r u' : List ℕ) (skip end used : ℕ) (goes : Bool) (turn : Turn) (m n : ℕ) (talk talk' : Option Talk)
+    → turn ≡ cond goes (Next used) Closes → Span u r skip end used → m ≤ n → (goes ≡ true → u' ≡ [])
+    → Replied Over c (λ k. response_to k (slice_range (u ++ take used r) skip (length (u ++ take used r)))) goes m n talk talk'
+    → Turned Over c u r turn u' m n talk talk'
+turned_head Over c u r u' skip end used true turn m n talk talk' is s later emptied h =
+    subst (λ x. Turned Over c u r x u' m n talk talk') (sym is) (record {
+      some = s.some;
+      within = s.within;
+      emptied = emptied refl;
+      says = replied_goes Over c (u ++ r) (drop used r) (λ k. response_to k (slice_range (u ++ take used r) skip (length (u ++ take used r)))) true m n talk talk'
+          (λ k. served_by k u r skip end used s) later refl h;
+    })
+turned_head Over c u r u' skip end used false turn m n talk talk' is s later emptied h =
+    subst (λ x. Turned Over c u r x u' m n talk talk') (sym is)
+    (replied_stops Over c (u ++ r) (drop used r) (λ k. response_to k (slice_range (u ++ take used r) skip (length (u ++ take used r)))) false m n talk talk'
+    (λ k. served_by k u r skip end used s) later refl h)
 
 pub turned_long : (Over : Corpus → Type 0) (c : ℕ) (b : List ℕ) (m : ℕ) (talk talk' : Option Talk) → frame b ≡ framed.TooLong → IsTurnedAway c talk talk'
     → Stops Over c b m m talk talk'

@@ -12,7 +12,7 @@ use Rattle.cs_http.specs.Looking.{IsSeen, seen_of, look_of}
 use Rattle.cs_http.proofs.LookLemmas.{look_more}
 use Rattle.cs_model_serving.proofs.FrameLemmas.{frame-within}
 use Rattle.cs_hub.specs.Turns.{IsOpen}
-use Rattle.cs_hub.proofs.TurnLemmas.{found_head}
+use Rattle.cs_hub.proofs.TurnLemmas.{Span, found_head}
 
 pub seen_count : (b : List ℕ) (s : Seen) → IsSeen b s → s.count ≡ length b
 unfolding seen_of
@@ -29,17 +29,13 @@ pub open_more : (b : List ℕ) (s : Seen) → More s ≡ look_of b → s.count <
 open_more b s e few = open_of b s (look_more b s e) few
 
 -- ---- where a head lies among unread bytes and those that came
-pub record Span (u r : List ℕ) (skip end used : ℕ) : Type 0 where
-  pub front : skip ≤ end
-  pub total : length u + used ≡ end
-  pub within : used ≤ length r
-  pub some : 0 < used
-
 pub span_of : (u r : List ℕ) (held skip end : ℕ) → Head skip end ≡ look_of (u ++ r) → (length u < end) × (end ≤ length u + length r) → held ≡ length u
     → Span u r skip end (end - held)
 span_of u r held skip end found placed e =
-    let w = (frame-within (u ++ r) skip end (found_head (u ++ r) skip end found)).0 in
+    let at = found_head (u ++ r) skip end found in
+    let w = (frame-within (u ++ r) skip end at).0 in
     record {
+      found = at;
       front = let h = w.text in omega (arith, h);
       total = omega (arith, placed.0, e);
       within = omega (arith, placed.1, e);

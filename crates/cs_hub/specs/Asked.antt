@@ -6,15 +6,18 @@
 --   AsksAlong Leaves c b left s t   those of the bytes b before the bytes that are left did, each answered so
 --   SentFor c goes h xs     what was sent for one head: its response, or less of it, or the memory response
 --   AsksBy                  what a turn asked, by what it gave
+--   StaysAnswering          what every call keeps of what answers requests
+--   LeavesIndex             what every call keeps of an engine and its store
 --   Standing                an engine over its store, as it stands between requests
 --   EngineLeaves s q r t    a request was asked of an engine over its store
-use Rattle.std.specs.Prelude.{◌≡◌, ◌⊎◌, ℕ, Bool, true, false, not, List, [], ◌∷◌, ◌++◌, length, drop, Option, Result}
+use Rattle.std.specs.Prelude.{◌≡◌, ◌≤◌, ◌⊎◌, ℕ, Bool, true, false, not, List, [], ◌∷◌, ◌++◌, length, drop, Option, Result}
 use Rattle.cs_base.specs.outside.Causes.{ReadsWithin}
 use Rattle.cs_base.specs.outside.Hub.{Talk}
 use Rattle.cs_file.specs.CallAnswers.{is_read}
 use Rattle.cs_engine.specs.Keeping.{EngineView}
 use Rattle.cs_file.specs.declared.fault.FetchFault.{FetchFault}
 use Rattle.cs_file.specs.Indexes.{CausedReads}
+use Rattle.cs_model.specs.Corpus.{Corpus}
 use Rattle.cs_model.specs.Replies.{Reply}
 use Rattle.cs_model.specs.Requests.{Request}
 use Rattle.cs_model_serving.specs.Heads.{judge}
@@ -76,6 +79,21 @@ abbrev pub AsksBy : {K : Type 0} → (K → Request → Result Reply FetchFault 
 AsksBy Leaves c unread rest (turns.Next used) s t talk talk' = AsksAlong Leaves c (unread ++ rest) (drop used rest) s t talk talk'
 AsksBy Leaves c unread rest turns.Holds s t talk talk' = (heads_on (unread ++ rest) ≡ []) × (t ≡ s) × (talk' ≡ talk)
 AsksBy Leaves c unread rest turns.Stops s t talk talk' = AsksAsSent Leaves false (requests_on (unread ++ rest)) s t (SentBefore c (unread ++ rest) talk talk')
+
+-- it answers over each corpus that it answered over, what is lent to it stays, and its count of failures doesn't fall
+pub record StaysAnswering {A L : Type 0} (over : A → Corpus → Type 0) (lends : A → L) (fails : A → ℕ) (old now : A) : Type 0 where
+  pub still : (k : Corpus) → over old k → over now k
+  pub lent : lends now ≡ lends old
+  pub later : fails old ≤ fails now
+
+-- the index and how many answers may be kept stay, and so do the bytes that the store tells and what is lent to it; its count of
+-- failures doesn't fall
+pub record LeavesIndex {S L : Type 0} (tells : S → Option (List ℕ)) (lends : S → L) (fails : S → ℕ) (engine engine' : EngineView) (old now : S) : Type 0 where
+  pub index : engine'.index ≡ engine.index
+  pub capacity : engine'.answers.capacity ≡ engine.answers.capacity
+  pub bytes : tells now ≡ tells old
+  pub lent : lends now ≡ lends old
+  pub later : fails old ≤ fails now
 
 -- the bytes that the store tells, the engine, and the counts of reads and of failures
 pub record Standing : Type 0 where

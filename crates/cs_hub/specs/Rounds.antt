@@ -4,16 +4,19 @@
 --   to_come x, weight core           how many bytes may still come on it, and one for its end; over all that are kept
 --   Acted                            a connection is kept so, or no more; the others are as they were
 --   closed_unless kept c s           the hub's state after a connection was kept or closed
+--   OnlyCloses                       what closing keeps of a hub
 --   Greets                           a connection that opened is kept, or was told want of memory and closed
 --   Heeds                            a piece came
 --   Lightens e core core'            what an event adds to the weight at most, and what it takes away at least
 --   KeepsCame talk talk'             no event came
+--   Steps                            what an event does over every hub
 --   HasBytes, OpensBelow             what an event of a hub keeps: its piece fits the buffer, a number is below the room
 --   GoesOnAfter e opened r           how the loop goes on after an event, by how many connections were opened
 --   still conns opened core          what is left to come over all connections
 --   came_by talk                     how many events came
 --   Went                             how a round went
---   StaysServed                      what a round keeps
+--   StaysServed                      what is served by a round
+--   StaysBeside                      how a round leaves the core beside the hub
 use Rattle.std.specs.Prelude.{◌≡◌, ◌⊎◌, ℕ, ◌+◌, ◌-◌, ◌*◌, ◌<◌, ◌≤◌, Bool, true, false, ◌==◌, cond, List, [], length, Option, Some, None, is_some}
 use Rattle.std.specs.List.{sum_by}
 use Rattle.std.specs.Option.{option_map}
@@ -22,14 +25,14 @@ use Rattle.cs_base.specs.declared.content.limits.TheConstants.{MAX_CONNECTION_BY
 use Rattle.cs_base.specs.declared.outside.hub.Event.{Event}
 use Rattle.cs_base.specs.declared.outside.hub.Event.TheVariants.{Opened, Piece, Ended, Over}
 use Rattle.cs_base.specs.outside.Causes.{Rose}
-use Rattle.cs_base.specs.outside.Hub.{Listening, Talk}
+use Rattle.cs_base.specs.outside.Hub.{IsOrderly, Listening, Talk}
 use Rattle.cs_model.specs.Corpus.{Corpus}
 use Rattle.cs_model_serving.specs.Connections.{Left}
 use Rattle.cs_hub.specs.declared.rounds.Round.{Round}
 use Rattle.cs_hub.specs.declared.rounds.Round.TheVariants as round
 use Rattle.cs_hub.specs.Streams.{RoseBy}
-use Rattle.cs_hub.specs.HubFollowing.{Slots, left_at, Follows}
-use Rattle.cs_hub.specs.Speaking.{Starved}
+use Rattle.cs_hub.specs.HubFollowing.{Follows, HasLive, LeavesOthers, Slots, left_at}
+use Rattle.cs_hub.specs.Speaking.{BreaksBy, Starved}
 use Rattle.cs_hub.specs.Turns.{Received}
 
 -- ---- slots
@@ -63,6 +66,13 @@ abbrev pub closed_unless : Bool → ℕ → Listening → Listening
 closed_unless true c s = s
 closed_unless false c s = record s { live = set.remove s.live c }
 
+-- nothing comes and nothing is sent, both counts stay, and what holds after each call of a hub does
+pub record OnlyCloses {H : Type 0} (stands : H → Listening) (tells : H → Option Talk) (fails send_fails : H → ℕ) (old now : H) : Type 0 where
+  pub talk : tells now ≡ tells old
+  pub faults : fails now ≡ fails old
+  pub sends : send_fails now ≡ send_fails old
+  pub orderly : IsOrderly (stands old) (tells old) → IsOrderly (stands now) (tells now)
+
 -- nothing came on the connection that is kept; where it isn't kept, it was sent the memory response
 abbrev pub Greets : Slots → Slots → ℕ → Listening → Listening → Option Talk → Option Talk → Type 0
 Greets core core' c s s' talk talk' =
@@ -88,6 +98,20 @@ Lightens Over core core' = Unit {0}
 -- the events that came stay as they are, or still aren't told
 abbrev pub KeepsCame : Option Talk → Option Talk → Type 0
 KeepsCame talk talk' = option_map (λ t. t.came) talk' ≡ option_map (λ t. t.came) talk
+
+-- the core keeps the live connections, and behind Over none; the others stay as they are, and of the hub's state only which are live
+-- changes. No event came, a connection broke only where a send failed, and what holds after each call of a hub does
+pub record Steps {H : Type 0} (stands : H → Listening) (tells : H → Option Talk) (fails send_fails : H → ℕ) (event : Event) (core core' : Slots)
+    (old now : H) : Type 0 where
+  pub live : HasLive core' (stands now)
+  pub over : event ≡ Over → (c : ℕ) → left_at core' c ≡ None
+  pub others : LeavesOthers event core core' (stands old) (stands now) (tells old) (tells now)
+  pub same : stands now ≡ record (stands old) { live = (stands now).live }
+  pub came : KeepsCame (tells old) (tells now)
+  pub faults : fails now ≡ fails old
+  pub breaks : BreaksBy (send_fails old) (send_fails now) (tells old) (tells now)
+  pub orderly : IsOrderly (stands old) (tells old) → IsOrderly (stands now) (tells now)
+  pub lighter : Lightens event core core'
 
 -- ---- the loop
 -- a piece has bytes, and no more than the buffer
@@ -132,3 +156,13 @@ Went round.Failed s s' talk talk' faults faults' core core' = Rose faults faults
 abbrev pub StaysServed : Corpus → Slots → Slots → Listening → Listening → Option Talk → Option Talk → ℕ → ℕ → Type 0
 StaysServed k core core' s s' talk talk' before now =
     (n : ℕ) → Follows k core s talk n → (more : ℕ) × Follows k core' s' talk' (n + more) × RoseBy more before now
+
+-- the core keeps the live connections, port and room of the hub stay, a connection broke only where a send failed, and what holds after
+-- each call of a hub does
+pub record StaysBeside {H : Type 0} (stands : H → Listening) (tells : H → Option Talk) (send_fails : H → ℕ) (conns : ℕ) (core : Slots)
+    (old now : H) : Type 0 where
+  pub live : HasLive core (stands now)
+  pub orderly : IsOrderly (stands now) (tells now)
+  pub port : (stands now).port ≡ (stands old).port
+  pub room : (stands now).conns ≡ conns
+  pub breaks : BreaksBy (send_fails old) (send_fails now) (tells old) (tells now)

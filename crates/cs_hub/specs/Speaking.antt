@@ -68,11 +68,11 @@ AreUnbroken t = (c : ℕ) → set.contains t.broken c ≡ false
 
 -- the state and the count of `listen` and `next` stay, a connection breaks only where a send failed, and what holds after each call
 -- of a hub
-pub record Calm (s s' : Listening) (before now sends sends' : ℕ) (talk talk' : Option Talk) : Type 0 where
-  pub state : s' ≡ s
-  pub faults : now ≡ before
-  pub breaks : BreaksBy sends sends' talk talk'
-  pub orderly : IsOrderly s talk → IsOrderly s' talk'
+pub record Calm {H : Type 0} (stands : H → Listening) (tells : H → Option Talk) (fails send_fails : H → ℕ) (old now : H) : Type 0 where
+  pub state : stands now ≡ stands old
+  pub faults : fails now ≡ fails old
+  pub breaks : BreaksBy (send_fails old) (send_fails now) (tells old) (tells now)
+  pub orderly : IsOrderly (stands old) (tells old) → IsOrderly (stands now) (tells now)
 
 -- ---- what is met
 -- one response in the place of each, in order; of none nothing

@@ -12,6 +12,7 @@
 --   Turned                   these by what the turn gave
 --   HoldsOn, Holds           all that is served was sent, and the connection goes on
 --   Reads                    what the bytes of a piece did, by whether the connection goes on
+--   KeepsBelow                   what is kept of a connection behind its bytes, by whether it goes on and how many were taken
 --   Received                 what a piece did, by what is kept of the connection
 --   IsAlong, Along           on the way through the bytes, some first responses were sent
 use Rattle.std.specs.Prelude.{◌≡◌, ◌⊎◌, ℕ, ◌+◌, ◌-◌, ◌<◌, ◌≤◌, Bool, true, false, List, [], ◌∷◌, ◌++◌, length, take, drop, All, Option, Some, None, Result, Ok}
@@ -132,6 +133,11 @@ Holds Over c b unread' before now talk talk' = Says Over c false (λ k more sent
 abbrev pub Reads : (Corpus → Type 0) → ℕ → List ℕ → Bool → List ℕ → ℕ → ℕ → Option Talk → Option Talk → Type 0
 Reads Over c b true unread' before now talk talk' = Holds Over c b unread' before now talk talk'
 Reads Over c b false unread' before now talk talk' = Stops Over c b before now talk talk'
+
+-- these unread bytes where it goes on and fewer bytes were taken than count; otherwise nothing
+abbrev pub KeepsBelow : Bool → ℕ → List ℕ → Option Left → Type 0
+KeepsBelow goes taken unread (Some l) = (goes ≡ true) × (taken < MAX_CONNECTION_BYTES) × (l ≡ record { taken = taken; unread = unread })
+KeepsBelow goes taken unread None = goes ≡ true → MAX_CONNECTION_BYTES ≤ taken
 
 -- a piece, of which the first bytes up to the limit count: the connection is kept with these bytes taken; or it is to be closed,
 -- by a response, for want of memory, by a failed send or because the limit was reached

@@ -2,11 +2,7 @@
 ghost use Rattle.std.specs.Prelude.{◌≡◌, ◌≤◌, ◌<◌, ◌++◌, ◌-◌, [], length, take, drop, is_some};
 ghost use Rattle.cs_base.specs.declared.content.limits.TheConstants.{MAX_CONNECTION_BYTES as MOST};
 ghost use Rattle.cs_base.specs.outside.Hub.{IsLive};
-ghost use Rattle.cs_model.specs.Corpus.{Corpus};
-ghost use Rattle.cs_hub.specs.Asked.{AsksAsSent};
-ghost use Rattle.cs_hub.specs.DueReads.{SentBefore, requests_on};
-ghost use Rattle.cs_hub.specs.Speaking.{Calm};
-ghost use Rattle.cs_hub.specs.Turns.{Reads, Received};
+ghost use Rattle.cs_hub.specs.{Asked.{AsksAsSent, StaysAnswering}, DueReads.{SentBefore, requests_on}, Speaking.{Calm}, Turns.{KeepsBelow, Reads, Received}};
 
 use crate::answerer::Answerer;
 use crate::reading::{Reading, Turn};
@@ -63,23 +59,24 @@ impl Line {
         ensures room { self.taken < MOST }
         ensures asked { AsksAsSent A.leaves (is_some result) (requests_on (self.unread ++ take (MOST - self.taken) piece.now)) (A.kept answerer.old)
             (A.kept answerer.new) (SentBefore conn (self.unread ++ take (MOST - self.taken) piece.now) (H.talk hub.old) (H.talk hub.new)) }
-        ensures still { (k : Corpus) → A.answers answerer.old k → A.answers answerer.new k }
-        ensures lent { A.lent answerer.new ≡ A.lent answerer.old }
-        ensures later { A.faults answerer.old ≤ A.faults answerer.new }
-        ensures calm { Calm (H.state hub.old) (H.state hub.new) (H.faults hub.old) (H.faults hub.new) (H.send_faults hub.old) (H.send_faults hub.new)
-            (H.talk hub.old) (H.talk hub.new) }
+        ensures stays { StaysAnswering A.answers A.lent A.faults answerer.old answerer.new }
+        ensures calm { Calm H.state H.talk H.faults H.send_faults hub.old hub.new }
     {
         let Line { mut reading, taken } = self;
         let counted = first_of(piece, MAX_CONNECTION_BYTES - taken);
-        if !read_on(&mut reading, alloc, answerer, hub, conn, counted) {
-            return None;
-        }
-        let taken = taken + counted.len();
-        if taken < MAX_CONNECTION_BYTES {
-            Some(Line { reading, taken })
-        } else {
-            None
-        }
+        let goes = read_on(&mut reading, alloc, answerer, hub, conn, counted);
+        kept_of(reading, taken + counted.len(), goes)
+    }
+}
+
+// The connection behind its bytes; None where it is to be closed.
+fn kept_of(reading: Reading, taken: usize, goes: bool) -> Option<Line>
+    ensures { KeepsBelow goes taken reading result }
+{
+    if goes && taken < MAX_CONNECTION_BYTES {
+        Some(Line { reading, taken })
+    } else {
+        None
     }
 }
 
@@ -98,11 +95,8 @@ fn read_on<A: Answerer, H: Hub>(
         (H.talk hub.old) (H.talk hub.new) }
     ensures asked { AsksAsSent A.leaves result (requests_on (reading.old ++ piece.now)) (A.kept answerer.old) (A.kept answerer.new)
         (SentBefore conn (reading.old ++ piece.now) (H.talk hub.old) (H.talk hub.new)) }
-    ensures still { (k : Corpus) → A.answers answerer.old k → A.answers answerer.new k }
-    ensures lent { A.lent answerer.new ≡ A.lent answerer.old }
-    ensures later { A.faults answerer.old ≤ A.faults answerer.new }
-    ensures calm { Calm (H.state hub.old) (H.state hub.new) (H.faults hub.old) (H.faults hub.new) (H.send_faults hub.old) (H.send_faults hub.new)
-        (H.talk hub.old) (H.talk hub.new) }
+    ensures stays { StaysAnswering A.answers A.lent A.faults answerer.old answerer.new }
+    ensures calm { Calm H.state H.talk H.faults H.send_faults hub.old hub.new }
 {
     let mut rest = piece;
     loop {

@@ -1,13 +1,10 @@
 //! The unread bytes of one connection.
-ghost use Rattle.std.specs.Prelude.{◌≡◌, ◌≤◌, ◌<◌, ◌++◌, [], true, false, length, slice_range};
+ghost use Rattle.std.specs.Prelude.{◌≡◌, ◌≤◌, ◌<◌, ◌++◌, [], true, false, cond, length, slice_range};
 ghost use Rattle.cs_base.specs.outside.Hub.{IsLive};
 ghost use Rattle.cs_http.specs.Looking.{IsPlaced, IsBelowLimit, look_of};
-ghost use Rattle.cs_model.specs.Corpus.{Corpus};
 ghost use Rattle.cs_model_serving.specs.Heads.{judge};
 ghost use Rattle.cs_model_serving.specs.Responses.{response_to};
-ghost use Rattle.cs_hub.specs.Asked.{AsksAsSent, AsksBy, SentFor};
-ghost use Rattle.cs_hub.specs.DueReads.{closes_behind, requests_in};
-ghost use Rattle.cs_hub.specs.Speaking.{Calm};
+ghost use Rattle.cs_hub.specs.{Asked.{AsksAsSent, AsksBy, SentFor, StaysAnswering}, DueReads.{closes_behind, requests_in}, Speaking.{Calm}};
 ghost use Rattle.cs_hub.specs.Turns.{IsOpen, Replied, Turned, HoldsBytes, IsTurnedAway, IsSent};
 
 use crate::answer::Answer;
@@ -76,21 +73,17 @@ impl Reading {
         ensures turned { Turned (A.answers answerer.old) conn self.old rest.now result self.new (A.faults answerer.old) (A.faults answerer.new) (H.talk hub.old)
             (H.talk hub.new) }
         ensures asked { AsksBy A.leaves conn self.old rest.now result (A.kept answerer.old) (A.kept answerer.new) (H.talk hub.old) (H.talk hub.new) }
-        ensures still { (k : Corpus) → A.answers answerer.old k → A.answers answerer.new k }
-        ensures lent { A.lent answerer.new ≡ A.lent answerer.old }
-        ensures later { A.faults answerer.old ≤ A.faults answerer.new }
-        ensures calm { Calm (H.state hub.old) (H.state hub.new) (H.faults hub.old) (H.faults hub.new) (H.send_faults hub.old) (H.send_faults hub.new)
-            (H.talk hub.old) (H.talk hub.new) }
+        ensures stays { StaysAnswering A.answers A.lent A.faults answerer.old answerer.new }
+        ensures calm { Calm H.state H.talk H.faults H.send_faults hub.old hub.new }
     {
         let held = self.unread.len();
         match self.look(rest) {
             Look::Head { skip, end } => {
                 let used = end - held;
-                if self.answer(alloc, answerer, hub, conn, &rest[..used], skip) {
-                    Turn::Next(used)
-                } else {
-                    Turn::Stops
-                }
+                turn_behind(
+                    self.answer(alloc, answerer, hub, conn, &rest[..used], skip),
+                    used,
+                )
             }
             Look::TooLong => {
                 refuse(alloc, hub, conn);
@@ -115,8 +108,7 @@ impl Reading {
         requires seen { IsOpen (self.old ++ rest.now) seen }
 
         ensures held { HoldsBytes conn self.old rest.now result self.new (H.talk hub.old) (H.talk hub.new) }
-        ensures calm { Calm (H.state hub.old) (H.state hub.new) (H.faults hub.old) (H.faults hub.new) (H.send_faults hub.old) (H.send_faults hub.new)
-            (H.talk hub.old) (H.talk hub.new) }
+        ensures calm { Calm H.state H.talk H.faults H.send_faults hub.old hub.new }
     {
         match self.unread.extend_from_slice(rest) {
             Ok(()) => {
@@ -150,11 +142,8 @@ impl Reading {
             (A.kept answerer.old) (A.kept answerer.new) (SentFor conn result (slice_range (self.old ++ end.now) skip (length (self.old ++ end.now)))
             (H.talk hub.old) (H.talk hub.new)) }
         ensures going { result ≡ true → closes_behind (judge (slice_range (self.old ++ end.now) skip (length (self.old ++ end.now)))) ≡ false }
-        ensures still { (k : Corpus) → A.answers answerer.old k → A.answers answerer.new k }
-        ensures lent { A.lent answerer.new ≡ A.lent answerer.old }
-        ensures later { A.faults answerer.old ≤ A.faults answerer.new }
-        ensures calm { Calm (H.state hub.old) (H.state hub.new) (H.faults hub.old) (H.faults hub.new) (H.send_faults hub.old) (H.send_faults hub.new)
-            (H.talk hub.old) (H.talk hub.new) }
+        ensures stays { StaysAnswering A.answers A.lent A.faults answerer.old answerer.new }
+        ensures calm { Calm H.state H.talk H.faults H.send_faults hub.old hub.new }
     {
         if self.unread.extend_from_slice(end).is_err() {
             starve(hub, conn);
@@ -167,13 +156,19 @@ impl Reading {
     }
 }
 
+// A turn that answered a head, which ended behind so many bytes.
+fn turn_behind(goes: bool, used: usize) -> Turn
+    ensures { result ≡ cond goes (Turn.Next used) Turn.Stops }
+{
+    if goes { Turn::Next(used) } else { Turn::Stops }
+}
+
 // Sends a response, or the memory response where there is none; true where the connection goes on.
 fn send<H: Hub>(alloc: Global, hub: &mut H, conn: u32, answer: Result<Answer, Memory>) -> bool
     requires live { IsLive (H.state hub.old) conn }
 
     ensures sent { IsSent conn answer result (H.talk hub.old) (H.talk hub.new) }
-    ensures calm { Calm (H.state hub.old) (H.state hub.new) (H.faults hub.old) (H.faults hub.new) (H.send_faults hub.old) (H.send_faults hub.new)
-        (H.talk hub.old) (H.talk hub.new) }
+    ensures calm { Calm H.state H.talk H.faults H.send_faults hub.old hub.new }
 {
     match answer {
         Ok(answer) => deliver(alloc, hub, conn, &answer),
@@ -189,8 +184,7 @@ fn refuse<H: Hub>(alloc: Global, hub: &mut H, conn: u32)
     requires live { IsLive (H.state hub.old) conn }
 
     ensures refused { IsTurnedAway conn (H.talk hub.old) (H.talk hub.new) }
-    ensures calm { Calm (H.state hub.old) (H.state hub.new) (H.faults hub.old) (H.faults hub.new) (H.send_faults hub.old) (H.send_faults hub.new)
-        (H.talk hub.old) (H.talk hub.new) }
+    ensures calm { Calm H.state H.talk H.faults H.send_faults hub.old hub.new }
 {
     match answer_too_long(alloc) {
         Ok(answer) => {

@@ -1,11 +1,10 @@
 //! The response to a head.
-ghost use Rattle.std.specs.Prelude.{◌≡◌, ◌≢◌, ◌≤◌, [], ◌∷◌, IfOk, is_ok};
-ghost use Rattle.cs_model.specs.Corpus.{Corpus};
+ghost use Rattle.std.specs.Prelude.{◌≡◌, ◌≢◌, [], ◌∷◌, IfOk, is_ok};
 ghost use Rattle.cs_model.specs.Parameters.{HoldsLimits, request_refusal};
 ghost use Rattle.cs_model_serving.specs.Heads.{judge};
 ghost use Rattle.cs_model_serving.specs.Responses.{response_to, to_params, too_long};
 ghost use Rattle.cs_query.specs.RequestView.{asked};
-ghost use Rattle.cs_hub.specs.Asked.{AsksAsSent};
+ghost use Rattle.cs_hub.specs.Asked.{AsksAsSent, StaysAnswering};
 ghost use Rattle.cs_hub.specs.DueReads.{IsBy, IsResponseBy, closes_behind, requests_by, requests_in};
 ghost use Rattle.cs_hub.specs.Responding.{response, IsJudgedSo, IsRefusedSo, replied};
 ghost use Rattle.cs_hub.specs.Turns.{IsGiven};
@@ -30,9 +29,7 @@ pub(crate) fn answer_head<A: Answerer>(
     ensures close { IfOk result (λ a. a.close ≡ closes_behind (judge bytes.now)) }
     ensures asked { AsksAsSent A.leaves (is_ok result) (requests_in (judge bytes.now)) (A.kept answerer.old) (A.kept answerer.new)
         (λ xs. IfOk result (λ a. IsResponseBy bytes.now xs (response a))) }
-    ensures still { (k : Corpus) → A.answers answerer.old k → A.answers answerer.new k }
-    ensures lent { A.lent answerer.new ≡ A.lent answerer.old }
-    ensures later { A.faults answerer.old ≤ A.faults answerer.new }
+    ensures stays { StaysAnswering A.answers A.lent A.faults answerer.old answerer.new }
 {
     match head(alloc, bytes) {
         Ok(asked) => answer_params(alloc, answerer, asked.params.as_slice(), asked.close),
@@ -86,9 +83,7 @@ fn answer_params<A: Answerer>(
     ensures close { IfOk result (λ a. a.close ≡ close) }
     ensures asked { AsksAsSent A.leaves (is_ok result) (requests_by params.now (request_refusal params.now)) (A.kept answerer.old) (A.kept answerer.new)
         (λ xs. IfOk result (λ a. IsBy (λ k. to_params k params.now close) close xs (response a))) }
-    ensures still { (k : Corpus) → A.answers answerer.old k → A.answers answerer.new k }
-    ensures lent { A.lent answerer.new ≡ A.lent answerer.old }
-    ensures later { A.faults answerer.old ≤ A.faults answerer.new }
+    ensures stays { StaysAnswering A.answers A.lent A.faults answerer.old answerer.new }
 {
     match request(alloc, params) {
         Ok(request) => reply_to(alloc, answerer, &request, close),
@@ -129,9 +124,7 @@ fn reply_to<A: Answerer>(
     ensures close { IfOk result (λ a. a.close ≡ close) }
     ensures asked { AsksAsSent A.leaves (is_ok result) (asked request.now ∷ []) (A.kept answerer.old) (A.kept answerer.new)
         (λ xs. IfOk result (λ a. IsBy (λ k. replied k (asked request.now) close) close xs (response a))) }
-    ensures still { (k : Corpus) → A.answers answerer.old k → A.answers answerer.new k }
-    ensures lent { A.lent answerer.new ≡ A.lent answerer.old }
-    ensures later { A.faults answerer.old ≤ A.faults answerer.new }
+    ensures stays { StaysAnswering A.answers A.lent A.faults answerer.old answerer.new }
 {
     let (status, body) = match answerer.reply(alloc, request) {
         Ok(reply) => (200, reply_bytes(alloc, &reply)?),

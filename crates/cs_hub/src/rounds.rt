@@ -2,9 +2,8 @@
 ghost use Rattle.std.specs.Prelude.{◌≡◌, ◌<◌, ◌≤◌, ◌⊎◌, ℕ, None, true, false, length, is_some};
 ghost use Rattle.cs_base.specs.outside.Hub.{came_of, IsOrderly};
 ghost use Rattle.cs_model.specs.Corpus.{Corpus};
-ghost use Rattle.cs_hub.specs.HubFollowing.{HasLive, IsWhole, left_at};
-ghost use Rattle.cs_hub.specs.Rounds.{GoesOnAfter, HasBytes, OpensBelow, StaysServed, Went};
-ghost use Rattle.cs_hub.specs.Speaking.{BreaksBy};
+ghost use Rattle.cs_hub.specs.{Asked.{StaysAnswering}, HubFollowing.{HasLive, IsWhole, left_at}};
+ghost use Rattle.cs_hub.specs.Rounds.{GoesOnAfter, HasBytes, OpensBelow, StaysBeside, StaysServed, Went};
 
 use crate::answerer::Answerer;
 use crate::slots::Core;
@@ -54,15 +53,9 @@ pub(crate) fn take_turn<A: Answerer, H: Hub>(
         → StaysServed k core.old core.new (H.state hub.old) (H.state hub.new) (H.talk hub.old) (H.talk hub.new) (A.faults answerer.old)
         (A.faults answerer.new) }
     ensures went { Went result (H.state hub.old) (H.state hub.new) (H.talk hub.old) (H.talk hub.new) (H.faults hub.old) (H.faults hub.new) core.old core.new }
-    ensures live { HasLive core.new (H.state hub.new) }
-    ensures orderly { IsOrderly (H.state hub.new) (H.talk hub.new) }
+    ensures beside { StaysBeside H.state H.talk H.send_faults conns core.new hub.old hub.new }
     ensures hub_later { H.faults hub.old ≤ H.faults hub.new }
-    ensures breaks { BreaksBy (H.send_faults hub.old) (H.send_faults hub.new) (H.talk hub.old) (H.talk hub.new) }
-    ensures port { (H.state hub.new).port ≡ (H.state hub.old).port }
-    ensures conns { (H.state hub.new).conns ≡ conns }
-    ensures still { (k : Corpus) → A.answers answerer.old k → A.answers answerer.new k }
-    ensures lent { A.lent answerer.new ≡ A.lent answerer.old }
-    ensures later { A.faults answerer.old ≤ A.faults answerer.new }
+    ensures stays { StaysAnswering A.answers A.lent A.faults answerer.old answerer.new }
 {
     match hub.next(buffer) {
         Ok(event) => {

@@ -15,8 +15,7 @@ pub(crate) fn say<H: Hub>(hub: &mut H, conn: u32, text: &[u8]) -> bool
     requires live { IsLive (H.state hub.old) conn }
 
     ensures said { Said conn text.now result (H.talk hub.old) (H.talk hub.new) }
-    ensures calm { Calm (H.state hub.old) (H.state hub.new) (H.faults hub.old) (H.faults hub.new) (H.send_faults hub.old) (H.send_faults hub.new)
-        (H.talk hub.old) (H.talk hub.new) }
+    ensures calm { Calm H.state H.talk H.faults H.send_faults hub.old hub.new }
 {
     match hub.send(conn, text) {
         Ok(()) => true,
@@ -29,8 +28,7 @@ pub(crate) fn starve<H: Hub>(hub: &mut H, conn: u32)
     requires live { IsLive (H.state hub.old) conn }
 
     ensures starved { Starved conn (H.talk hub.old) (H.talk hub.new) }
-    ensures calm { Calm (H.state hub.old) (H.state hub.new) (H.faults hub.old) (H.faults hub.new) (H.send_faults hub.old) (H.send_faults hub.new)
-        (H.talk hub.old) (H.talk hub.new) }
+    ensures calm { Calm H.state H.talk H.faults H.send_faults hub.old hub.new }
 {
     let _ = say(hub, conn, memory_response());
 }
@@ -40,8 +38,7 @@ pub(crate) fn deliver<H: Hub>(alloc: Global, hub: &mut H, conn: u32, answer: &An
     requires live { IsLive (H.state hub.old) conn }
 
     ensures delivered { Delivered conn (response answer.now) result (H.talk hub.old) (H.talk hub.new) }
-    ensures calm { Calm (H.state hub.old) (H.state hub.new) (H.faults hub.old) (H.faults hub.new) (H.send_faults hub.old) (H.send_faults hub.new)
-        (H.talk hub.old) (H.talk hub.new) }
+    ensures calm { Calm H.state H.talk H.faults H.send_faults hub.old hub.new }
 {
     match wrap(alloc, answer.status, answer.close, answer.body.as_slice()) {
         Ok(text) => say(hub, conn, text.as_slice()) && !answer.close,

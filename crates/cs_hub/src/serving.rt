@@ -2,17 +2,12 @@
 ghost use Rattle.std.specs.Prelude.{◌≡◌, ◌≢◌, ◌⊎◌, ℕ, ◌+◌, ◌*◌, ◌<◌, ◌≤◌, true, false, length};
 ghost use Rattle.std.specs.FinSet as set;
 ghost use Rattle.std.specs.Option.{ForSome};
-ghost use Rattle.cs_base.specs.declared.content.limits.TheConstants.{MAX_CONNECTION_BYTES};
-ghost use Rattle.cs_base.specs.outside.Causes.{Rose};
-ghost use Rattle.cs_base.specs.outside.Hub.{IsOrderly, listens};
+ghost use Rattle.cs_base.specs.{declared.content.limits.TheConstants.{MAX_CONNECTION_BYTES}, outside.{Causes.{Rose}, Hub.{IsOrderly, listens}}};
 ghost use Rattle.cs_engine.specs.Keeping.{AreGood};
 ghost use Rattle.cs_file.specs.Indexes.{HasAllBlocks, StandsFor};
-ghost use Rattle.cs_model_index.specs.Sections.{file_corpus};
 ghost use Rattle.cs_model.specs.Corpus.{Corpus};
-ghost use Rattle.cs_hub.specs.Ending.{Ends};
-ghost use Rattle.cs_hub.specs.HubFollowing.{AreServed};
-ghost use Rattle.cs_hub.specs.Rounds.{came_by};
-ghost use Rattle.cs_hub.specs.Speaking.{AreUnbroken};
+ghost use Rattle.cs_model_index.specs.Sections.{file_corpus};
+ghost use Rattle.cs_hub.specs.{Asked.{LeavesIndex, StaysAnswering}, Ending.{Ends}, HubFollowing.{AreServed}, Rounds.{came_by}, Speaking.{AreUnbroken}};
 
 use crate::answerer::Answerer;
 use crate::asking::Asking;
@@ -75,45 +70,17 @@ pub fn serve<S: Store, H: Hub>(
     // Each event opens a connection, takes one of its bytes or ends one.
     ensures events { ForSome (H.talk hub.old) (λ t. ForSome (H.talk hub.new) (λ u. length u.came ≤ length t.came + conns * (MAX_CONNECTION_BYTES + 2) + 1)) }
 
-    ensures index { engine.new.index ≡ engine.old.index }
-    ensures capacity { engine.new.answers.capacity ≡ engine.old.answers.capacity }
-    ensures bytes { S.bytes store.new ≡ S.bytes store.old }
-    ensures lent { S.lent store.new ≡ S.lent store.old }
-    ensures later { S.faults store.old ≤ S.faults store.new }
+    ensures leaves { LeavesIndex S.bytes S.lent S.faults engine.old engine.new store.old store.new }
 {
+    let Ok(mut buffer) = vec![in alloc; 0; PIECE_BYTES] else {
+        return ServeEnd::Memory;
+    };
     let mut asking = Asking::new(engine, store);
-    serve_over(alloc, &mut asking, hub, conns)
+    serve_over(alloc, &mut asking, hub, conns, buffer.as_mut_slice())
 }
 
-/// The same over anything that answers requests.
-pub(crate) fn serve_over<A: Answerer, H: Hub>(
-    alloc: Global,
-    answerer: &mut A,
-    hub: &mut H,
-    conns: u32,
-) -> ServeEnd
-    requires listens { (port : ℕ) × (H.state hub.old ≡ listens port conns) }
-    requires orderly { IsOrderly (H.state hub.old) (H.talk hub.old) }
-
-    ensures served { (k : Corpus) → A.answers answerer.old k → AreServed k (H.state hub.new) (H.talk hub.new) (A.faults answerer.old) (A.faults answerer.new) }
-    ensures ends { Ends result conns (H.state hub.old) (H.state hub.new) (H.faults hub.old) (H.faults hub.new) }
-    ensures sends_later { H.send_faults hub.old ≤ H.send_faults hub.new }
-    ensures unbroken { ¬ Rose (H.send_faults hub.old) (H.send_faults hub.new) → ForSome (H.talk hub.new) AreUnbroken }
-    ensures memory { result ≡ ServeEnd.Memory → (H.state hub.new ≡ H.state hub.old) × (H.talk hub.new ≡ H.talk hub.old)
-        × (A.faults answerer.new ≡ A.faults answerer.old) × (H.send_faults hub.new ≡ H.send_faults hub.old) }
-    ensures events { came_by (H.talk hub.new) ≤ came_by (H.talk hub.old) + conns * (MAX_CONNECTION_BYTES + 2) + 1 }
-    ensures still { (k : Corpus) → A.answers answerer.old k → A.answers answerer.new k }
-    ensures lent { A.lent answerer.new ≡ A.lent answerer.old }
-    ensures later { A.faults answerer.old ≤ A.faults answerer.new }
-{
-    match vec![in alloc; 0; PIECE_BYTES] {
-        Ok(mut buffer) => serve_with(alloc, answerer, hub, conns, buffer.as_mut_slice()),
-        Err(_) => ServeEnd::Memory,
-    }
-}
-
-// The loop, with a buffer for pieces.
-fn serve_with<A: Answerer, H: Hub>(
+// The same over anything that answers requests, with a buffer for pieces.
+fn serve_over<A: Answerer, H: Hub>(
     alloc: Global,
     answerer: &mut A,
     hub: &mut H,
@@ -130,9 +97,7 @@ fn serve_with<A: Answerer, H: Hub>(
     ensures unbroken { ¬ Rose (H.send_faults hub.old) (H.send_faults hub.new) → ForSome (H.talk hub.new) AreUnbroken }
     ensures some_memory { result ≢ ServeEnd.Memory }
     ensures events { came_by (H.talk hub.new) ≤ came_by (H.talk hub.old) + conns * (MAX_CONNECTION_BYTES + 2) + 1 }
-    ensures still { (k : Corpus) → A.answers answerer.old k → A.answers answerer.new k }
-    ensures lent { A.lent answerer.new ≡ A.lent answerer.old }
-    ensures later { A.faults answerer.old ≤ A.faults answerer.new }
+    ensures stays { StaysAnswering A.answers A.lent A.faults answerer.old answerer.new }
 {
     let mut core = Core::new(alloc);
     let mut opened = 0;

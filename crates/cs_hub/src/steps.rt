@@ -7,11 +7,9 @@ ghost use Rattle.cs_engine.specs.Keeping.{AreGood};
 ghost use Rattle.cs_file.specs.Indexes.{HasAllBlocks, StandsFor};
 ghost use Rattle.cs_model.specs.Corpus.{Corpus};
 ghost use Rattle.cs_model_index.specs.Sections.{file_corpus};
-ghost use Rattle.cs_hub.specs.Asked.{AsksAsSent};
+ghost use Rattle.cs_hub.specs.{Asked.{AsksAsSent, LeavesIndex, StaysAnswering}, Rounds.{Greets, Heeds, Lightens, OnlyCloses, Steps, closed_unless}};
+ghost use Rattle.cs_hub.specs.{HubFollowing.{HasLive, HasLiveBut, IsWhole, StaysRight, left_at}, Speaking.{BreaksBy, Starved}};
 ghost use Rattle.cs_hub.specs.DueReads.{AnswersWithin, SentAt, SentBefore, bytes_behind, bytes_to_answer, goes_on, requests_on};
-ghost use Rattle.cs_hub.specs.HubFollowing.{HasLive, HasLiveBut, IsWhole, LeavesOthers, StaysRight, left_at};
-ghost use Rattle.cs_hub.specs.Rounds.{Greets, Heeds, Lightens, KeepsCame, closed_unless};
-ghost use Rattle.cs_hub.specs.Speaking.{BreaksBy, Starved};
 
 use crate::answerer::Answerer;
 use crate::asking::Asking;
@@ -43,28 +41,14 @@ impl Core {
             → StaysRight (file_corpus b) self.old self.new event piece.now (H.state hub.old) (H.state hub.new) (H.talk hub.old) (H.talk hub.new)
             (S.faults store.old) (S.faults store.new)) }
         ensures good { ForSome (S.bytes store.old) (λ b. StandsFor b engine.old.index → AreGood b engine.old → AreGood b engine.new) }
-        ensures live { HasLive self.new (H.state hub.new) }
-        ensures over { event ≡ Event.Over → (c : ℕ) → left_at self.new c ≡ None }
-
-        // Other connections stay as they are.
-        ensures others { LeavesOthers event self.old self.new (H.state hub.old) (H.state hub.new) (H.talk hub.old) (H.talk hub.new) }
-        ensures same { H.state hub.new ≡ record (H.state hub.old) { live = (H.state hub.new).live } }
-        ensures came { KeepsCame (H.talk hub.old) (H.talk hub.new) }
-        ensures faults { H.faults hub.new ≡ H.faults hub.old }
-        ensures breaks { BreaksBy (H.send_faults hub.old) (H.send_faults hub.new) (H.talk hub.old) (H.talk hub.new) }
-        ensures orderly { IsOrderly (H.state hub.old) (H.talk hub.old) → IsOrderly (H.state hub.new) (H.talk hub.new) }
-        ensures lighter { Lightens event self.old self.new }
+        ensures steps { Steps H.state H.talk H.faults H.send_faults event self.old self.new hub.old hub.new }
 
         // How much is read for the requests that are answered, over every store and hub.
         ensures reads { AnswersWithin (S.bytes store.old) (goes_on self.new event) (requests_on (bytes_to_answer self.old event piece.now)) engine.old
             engine.new (S.reads store.old) (S.reads store.new) (S.faults store.old) (S.faults store.new)
             (SentAt event (bytes_to_answer self.old event piece.now) (H.talk hub.old) (H.talk hub.new)) }
 
-        ensures index { engine.new.index ≡ engine.old.index }
-        ensures capacity { engine.new.answers.capacity ≡ engine.old.answers.capacity }
-        ensures bytes { S.bytes store.new ≡ S.bytes store.old }
-        ensures lent { S.lent store.new ≡ S.lent store.old }
-        ensures later { S.faults store.old ≤ S.faults store.new }
+        ensures leaves { LeavesIndex S.bytes S.lent S.faults engine.old engine.new store.old store.new }
     {
         let mut asking = Asking::new(engine, store);
         self.step_with(alloc, &mut asking, hub, event, piece);
@@ -85,20 +69,10 @@ impl Core {
         ensures follows { (k : Corpus) → A.answers answerer.old k
             → StaysRight k self.old self.new event piece.now (H.state hub.old) (H.state hub.new) (H.talk hub.old) (H.talk hub.new) (A.faults answerer.old)
             (A.faults answerer.new) }
-        ensures live { HasLive self.new (H.state hub.new) }
-        ensures over { event ≡ Event.Over → (c : ℕ) → left_at self.new c ≡ None }
-        ensures others { LeavesOthers event self.old self.new (H.state hub.old) (H.state hub.new) (H.talk hub.old) (H.talk hub.new) }
-        ensures same { H.state hub.new ≡ record (H.state hub.old) { live = (H.state hub.new).live } }
-        ensures came { KeepsCame (H.talk hub.old) (H.talk hub.new) }
-        ensures faults { H.faults hub.new ≡ H.faults hub.old }
-        ensures breaks { BreaksBy (H.send_faults hub.old) (H.send_faults hub.new) (H.talk hub.old) (H.talk hub.new) }
-        ensures orderly { IsOrderly (H.state hub.old) (H.talk hub.old) → IsOrderly (H.state hub.new) (H.talk hub.new) }
-        ensures lighter { Lightens event self.old self.new }
+        ensures steps { Steps H.state H.talk H.faults H.send_faults event self.old self.new hub.old hub.new }
         ensures asked { AsksAsSent A.leaves (goes_on self.new event) (requests_on (bytes_to_answer self.old event piece.now)) (A.kept answerer.old)
             (A.kept answerer.new) (SentAt event (bytes_to_answer self.old event piece.now) (H.talk hub.old) (H.talk hub.new)) }
-        ensures still { (k : Corpus) → A.answers answerer.old k → A.answers answerer.new k }
-        ensures lent { A.lent answerer.new ≡ A.lent answerer.old }
-        ensures later { A.faults answerer.old ≤ A.faults answerer.new }
+        ensures stays { StaysAnswering A.answers A.lent A.faults answerer.old answerer.new }
     {
         match event {
             Event::Opened(conn) => self.open(alloc, hub, conn),
@@ -147,9 +121,7 @@ impl Core {
         ensures lighter { Lightens (Event.Piece conn (length piece.now)) self.old self.new }
         ensures asked { AsksAsSent A.leaves (is_some (left_at self.new conn)) (requests_on (bytes_behind (left_at self.old conn) piece.now))
             (A.kept answerer.old) (A.kept answerer.new) (SentBefore conn (bytes_behind (left_at self.old conn) piece.now) (H.talk hub.old) (H.talk hub.new)) }
-        ensures still { (k : Corpus) → A.answers answerer.old k → A.answers answerer.new k }
-        ensures lent { A.lent answerer.new ≡ A.lent answerer.old }
-        ensures later { A.faults answerer.old ≤ A.faults answerer.new }
+        ensures stays { StaysAnswering A.answers A.lent A.faults answerer.old answerer.new }
     {
         match self.take(conn) {
             Some(line) => {
@@ -167,10 +139,7 @@ impl Core {
 
         ensures core { self.new ≡ slice_set self.old conn kept }
         ensures state { H.state hub.new ≡ closed_unless (is_some kept) conn (H.state hub.old) }
-        ensures talk { H.talk hub.new ≡ H.talk hub.old }
-        ensures faults { H.faults hub.new ≡ H.faults hub.old }
-        ensures sends { H.send_faults hub.new ≡ H.send_faults hub.old }
-        ensures orderly { IsOrderly (H.state hub.old) (H.talk hub.old) → IsOrderly (H.state hub.new) (H.talk hub.new) }
+        ensures closes { OnlyCloses H.state H.talk H.faults H.send_faults hub.old hub.new }
     {
         match kept {
             Some(line) => self.put(conn, line),
@@ -192,10 +161,7 @@ impl Core {
         ensures live { HasLive self.new (H.state hub.new) }
         ensures none { (c : ℕ) → left_at self.new c ≡ None }
         ensures same { H.state hub.new ≡ record (H.state hub.old) { live = (H.state hub.new).live } }
-        ensures talk { H.talk hub.new ≡ H.talk hub.old }
-        ensures faults { H.faults hub.new ≡ H.faults hub.old }
-        ensures sends { H.send_faults hub.new ≡ H.send_faults hub.old }
-        ensures orderly { IsOrderly (H.state hub.old) (H.talk hub.old) → IsOrderly (H.state hub.new) (H.talk hub.new) }
+        ensures closes { OnlyCloses H.state H.talk H.faults H.send_faults hub.old hub.new }
     {
         for conn in 0..self.len() {
             self.shut(hub, conn as u32);
@@ -209,10 +175,7 @@ impl Core {
         ensures live { HasLive self.new (H.state hub.new) }
         ensures core { self.new ≡ slice_set self.old conn None }
         ensures same { H.state hub.new ≡ record (H.state hub.old) { live = (H.state hub.new).live } }
-        ensures talk { H.talk hub.new ≡ H.talk hub.old }
-        ensures faults { H.faults hub.new ≡ H.faults hub.old }
-        ensures sends { H.send_faults hub.new ≡ H.send_faults hub.old }
-        ensures orderly { IsOrderly (H.state hub.old) (H.talk hub.old) → IsOrderly (H.state hub.new) (H.talk hub.new) }
+        ensures closes { OnlyCloses H.state H.talk H.faults H.send_faults hub.old hub.new }
     {
         let line = self.take(conn);
         close_where(hub, conn, line.is_some());
@@ -222,10 +185,7 @@ impl Core {
 // Closes a connection, or leaves it.
 fn close_where<H: Hub>(hub: &mut H, conn: u32, closes: bool)
     ensures state { H.state hub.new ≡ closed_unless (not closes) conn (H.state hub.old) }
-    ensures talk { H.talk hub.new ≡ H.talk hub.old }
-    ensures faults { H.faults hub.new ≡ H.faults hub.old }
-    ensures sends { H.send_faults hub.new ≡ H.send_faults hub.old }
-    ensures orderly { IsOrderly (H.state hub.old) (H.talk hub.old) → IsOrderly (H.state hub.new) (H.talk hub.new) }
+    ensures closes { OnlyCloses H.state H.talk H.faults H.send_faults hub.old hub.new }
 {
     if closes {
         hub.close(conn);

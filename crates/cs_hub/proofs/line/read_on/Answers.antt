@@ -1,23 +1,17 @@
-use Rattle.std.proofs.Common.{rules, ◌++◌, sym, ◌∙◌, subst, arith}
-use Rattle.cs_base.specs.outside.Hub.{IsLive}
-use Rattle.cs_hub.specs.Turns.{Along}
-use Rattle.cs_hub.proofs.PieceTurns.{along_start, along_next, along_hold, along_stop, calm_still, calm_on}
-use Rattle.std.proofs.Common.{drop}
+use Rattle.std.proofs.Common.{◌++◌, drop}
+use Rattle.cs_hub.proofs.PieceTurns.{along_start, along_next, along_hold, along_stop, calm_none, calm_both, stays_none, stays_both}
 use Rattle.std.specs.Prelude.{true}
 use Rattle.cs_hub.proofs.AskedLemmas.{along_start as asked_start, along_next as asked_next, along_hold as asked_hold, along_stop as asked_stop}
 use Rattle.cs_hub.proofs.line.read_on.Goals as goal
 
 pub loop-used-init : goal.loop-used-init
 loop-used-init g c = record {
-  live = c.requires.live;
   along = along_start (g.A.Answerer.answers c.args.answerer.now) c.args.conn (c.args.reading.now ++ c.args.piece.now) (g.A.Answerer.faults c.args.answerer.now)
       (g.H.Hub.talk c.args.hub.now);
   asked = asked_start g.A.Answerer.leaves c.args.conn (c.args.reading.now ++ c.args.piece.now) (g.A.Answerer.kept c.args.answerer.now)
       (g.H.Hub.talk c.args.hub.now);
-  still = λ k h. h;
-  lent = search rules;
-  later = omega arith;
-  calm = calm_still (g.H.Hub.state c.args.hub.now) (g.H.Hub.faults c.args.hub.now) (g.H.Hub.send_faults c.args.hub.now) (g.H.Hub.talk c.args.hub.now);
+  stays = stays_none c.args.answerer.now;
+  calm = calm_none c.args.hub.now;
 }
 
 pub loop-used-preserved : goal.loop-used-preserved
@@ -28,22 +22,15 @@ loop-used-preserved g c =
     let talk = g.H.Hub.talk c.args.hub.now in
     let then = g.H.Hub.talk c.turn.new.hub in
     record {
-      live = subst (λ s. IsLive s c.args.conn) (sym c.in-Next.ensures.calm.state) c.loop-used.invariant.live;
-      along = subst (λ r. Along over c.args.conn (c.args.reading.now ++ c.args.piece.now) (c.turn.new.self ++ r) before after talk then)
-          (sym c.behind-rest.ensures)
-          (along_next over (g.A.Answerer.answers c.loop-used.answerer) c.args.conn c.in-Next.used (c.args.reading.now ++ c.args.piece.now) c.loop-used.reading
-          c.loop-used.rest.now c.turn.new.self before (g.A.Answerer.faults c.loop-used.answerer) after talk (g.H.Hub.talk c.loop-used.hub) then
-          c.loop-used.invariant.still c.loop-used.invariant.along c.in-Next.ensures.turned);
+      along = along_next over (g.A.Answerer.answers c.loop-used.answerer) c.args.conn c.in-Next.used (c.args.reading.now ++ c.args.piece.now)
+          c.loop-used.reading c.loop-used.rest.now c.turn.new.self c.behind-rest.result.now before (g.A.Answerer.faults c.loop-used.answerer) after talk
+          (g.H.Hub.talk c.loop-used.hub) then c.loop-used.invariant.stays.still c.behind-rest.ensures c.loop-used.invariant.along c.in-Next.ensures.turned;
       asked = asked_next g.A.Answerer.leaves c.args.conn (c.args.reading.now ++ c.args.piece.now) (drop c.in-Next.used c.loop-used.rest.now)
           (c.loop-used.reading ++ c.loop-used.rest.now) c.turn.new.self c.behind-rest.result.now (g.A.Answerer.kept c.args.answerer.now)
           (g.A.Answerer.kept c.loop-used.answerer) (g.A.Answerer.kept c.turn.new.answerer) talk (g.H.Hub.talk c.loop-used.hub) then
           c.in-Next.ensures.turned.emptied c.behind-rest.ensures c.loop-used.invariant.asked c.in-Next.ensures.asked;
-      still = λ k h. c.in-Next.ensures.still k (c.loop-used.invariant.still k h);
-      lent = c.in-Next.ensures.lent ∙ c.loop-used.invariant.lent;
-      later = omega (arith, c.in-Next.ensures.later, c.loop-used.invariant.later);
-      calm = calm_on (g.H.Hub.state c.args.hub.now) (g.H.Hub.state c.loop-used.hub) (g.H.Hub.state c.turn.new.hub) (g.H.Hub.faults c.args.hub.now)
-          (g.H.Hub.faults c.loop-used.hub) (g.H.Hub.faults c.turn.new.hub) (g.H.Hub.send_faults c.args.hub.now) (g.H.Hub.send_faults c.loop-used.hub)
-          (g.H.Hub.send_faults c.turn.new.hub) talk (g.H.Hub.talk c.loop-used.hub) then c.loop-used.invariant.calm c.in-Next.ensures.calm;
+      stays = stays_both c.loop-used.invariant.stays c.in-Next.ensures.stays;
+      calm = calm_both c.loop-used.invariant.calm c.in-Next.ensures.calm;
     }
 
 pub returns-in-Holds-clause-reads : goal.returns-in-Holds-clause-reads
@@ -57,7 +44,7 @@ returns-in-Stops-clause-reads g c =
     along_stop (g.A.Answerer.answers c.args.answerer.now) (g.A.Answerer.answers c.loop-used.answerer) c.args.conn (c.args.reading.now ++ c.args.piece.now)
     (c.loop-used.reading ++ c.loop-used.rest.now) (g.A.Answerer.faults c.args.answerer.now) (g.A.Answerer.faults c.loop-used.answerer)
     (g.A.Answerer.faults c.turn.new.answerer)
-    (g.H.Hub.talk c.args.hub.now) (g.H.Hub.talk c.loop-used.hub) (g.H.Hub.talk c.turn.new.hub) c.loop-used.invariant.still c.loop-used.invariant.along
+    (g.H.Hub.talk c.args.hub.now) (g.H.Hub.talk c.loop-used.hub) (g.H.Hub.talk c.turn.new.hub) c.loop-used.invariant.stays.still c.loop-used.invariant.along
     c.in-Stops.ensures.turned
 
 pub returns-in-Holds-clause-asked : goal.returns-in-Holds-clause-asked

@@ -13,7 +13,7 @@ returns-clause-heeds g c = record {
   was = sym c.in-Some.ensures.value;
   kept = c.receive-kept.result;
   received = subst (λ t. Received (g.A.Answerer.answers c.args.answerer.now) c.args.conn c.in-Some.line c.args.piece.now c.receive-kept.result
-      (g.A.Answerer.faults c.args.answerer.now) (g.A.Answerer.faults c.receive-kept.new.answerer) (g.H.Hub.talk c.args.hub.now) t) (sym c.settle.ensures.talk)
+      (g.A.Answerer.faults c.args.answerer.now) (g.A.Answerer.faults c.receive-kept.new.answerer) (g.H.Hub.talk c.args.hub.now) t) (sym c.settle.ensures.closes.talk)
       c.receive-kept.ensures.received;
   acted = heeds_acted c.args.self.now c.take.new.self c.settle.new.self c.args.conn c.receive-kept.result (g.H.Hub.state c.args.hub.now)
       (g.H.Hub.state c.receive-kept.new.hub) (g.H.Hub.state c.settle.new.hub)
@@ -38,4 +38,4 @@ returns-clause-asked g c =
     (g.H.Hub.talk c.args.hub.now) (g.H.Hub.talk c.receive-kept.new.hub) (g.H.Hub.talk c.settle.new.hub)
     (c.settle.ensures.core ∙ ap (λ k. slice_set k c.args.conn c.receive-kept.result) c.take.ensures.taken
     ∙ set-set c.args.self.now c.args.conn None c.receive-kept.result)
-    (held_within c.args.self.now c.args.conn c.requires.held) c.in-Some.ensures.value c.settle.ensures.talk c.receive-kept.ensures.asked
+    (held_within c.args.self.now c.args.conn c.requires.held) c.in-Some.ensures.value c.settle.ensures.closes.talk c.receive-kept.ensures.asked

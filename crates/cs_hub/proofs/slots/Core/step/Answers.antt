@@ -8,8 +8,8 @@ use Rattle.cs_hub.proofs.slots.Core.step.Goals as goal
 pub returns-clause-good : goal.returns-clause-good
 returns-clause-good g c = λ b told stands good.
     let kept = ap g.S.Store.bytes c.new-asking.ensures.store in
-    let over = c.step_with.ensures.still (file_corpus b) (over_same _ _ b c.args.engine.now _ kept c.new-asking.ensures.engine told stands good) in
-    search (good_after _ _ b c.step_with.new.answerer.engine.now told (ap (λ l. l.1.1.0) c.step_with.ensures.lent ∙ kept) over, rules)
+    let over = c.step_with.ensures.stays.still (file_corpus b) (over_same _ _ b c.args.engine.now _ kept c.new-asking.ensures.engine told stands good) in
+    search (good_after _ _ b c.step_with.new.answerer.engine.now told (ap (λ l. l.1.1.0) c.step_with.ensures.stays.lent ∙ kept) over, rules)
 
 pub returns-clause-reads : goal.returns-clause-reads
 returns-clause-reads g c =
