@@ -1,13 +1,8 @@
 //! A collection that is read, and made into the corpus that is searched.
-ghost use Rattle.std.specs.Prelude.{◌≡◌, None, IfOk, IfErr, OnOk};
-ghost use Rattle.std.specs.Option.{option_map};
+ghost use Rattle.std.specs.{Option.{option_map}, Prelude.{◌≡◌, None, IfOk, IfErr, OnOk}};
 ghost use Rattle.cs_docs.specs.FaultRefusals.{reason_text};
-ghost use Rattle.cs_model.specs.Collection.{refusal_words};
-ghost use Rattle.cs_model.specs.Corpus.{corpus, refusal};
-ghost use Rattle.cs_top.specs.CommandLine.{CausedBy};
-ghost use Rattle.cs_top.specs.Filed.{HasFile, IsFiled};
-ghost use Rattle.cs_top.specs.Met.{HasToldSize, OfBytes};
-ghost use Rattle.cs_top.specs.Trial.{HasSizes};
+ghost use Rattle.cs_model.specs.{Collection.{refusal_words}, Corpus.{corpus, refusal}};
+ghost use Rattle.cs_top.specs.{CommandLine.{CausedBy}, Filed.{HasFile, IsFiled}, Met.{HasToldSize, OfBytes}, Trial.{HasSizes}};
 ghost use Rattle.cs_top.specs.Views.{IsCollectionCause, IsStopCause, IsOfCollection, collection_refusal_of, stop_ending};
 
 use crate::ending::RunStop;
@@ -92,47 +87,14 @@ pub(crate) fn image_of(alloc: Global, bytes: &[u8]) -> Result<Imaged, Collection
     // Each fault but want of memory is the first refusal.
     ensures err { IfErr result (λ e. IsCollectionCause bytes.now e) }
 {
-    let docs = read_docs(alloc, bytes)?;
-    let rows = rows_of(alloc, &docs)?;
+    let docs = read_docs(alloc, bytes).map_err(CollectionFault::Documents)?;
+    let rows = rows_of(alloc, &docs).map_err(CollectionFault::Rows)?;
     let document_count = docs.len();
     let row_count = rows.len();
-    let image = image(alloc, rows, docs, TARGET)?;
+    let image = image(alloc, rows, docs, TARGET).map_err(CollectionFault::Words)?;
     Ok(Imaged {
         image,
         documents: document_count,
         rows: row_count,
     })
-}
-
-impl From<BuildFault> for CollectionFault {
-    ghost use Rattle.std.specs.Prelude.{◌≡◌};
-    ghost use Rattle.cs_top.specs.declared.collection.CollectionFault.TheVariants.{Words};
-
-    ghost from_gives = { λ fault result. result ≡ Words fault };
-
-    fn from(fault: BuildFault) -> CollectionFault {
-        CollectionFault::Words(fault)
-    }
-}
-
-impl From<DocFault> for CollectionFault {
-    ghost use Rattle.std.specs.Prelude.{◌≡◌};
-    ghost use Rattle.cs_top.specs.declared.collection.CollectionFault.TheVariants.{Documents};
-
-    ghost from_gives = { λ fault result. result ≡ Documents fault };
-
-    fn from(fault: DocFault) -> CollectionFault {
-        CollectionFault::Documents(fault)
-    }
-}
-
-impl From<RowsFault> for CollectionFault {
-    ghost use Rattle.std.specs.Prelude.{◌≡◌};
-    ghost use Rattle.cs_top.specs.declared.collection.CollectionFault.TheVariants.{Rows};
-
-    ghost from_gives = { λ fault result. result ≡ Rows fault };
-
-    fn from(fault: RowsFault) -> CollectionFault {
-        CollectionFault::Rows(fault)
-    }
 }

@@ -8,6 +8,7 @@ ghost use Rattle.cs_model.specs.Outputs.{fault_words, line_fault};
 ghost use Rattle.cs_top.specs.Met.{HasToldSize, OfBytes};
 ghost use Rattle.cs_top.specs.ScriptEndings.{IsFirstLine};
 ghost use Rattle.cs_top.specs.Views.{fault_seen};
+ghost use Rattle.cs_top.specs.declared.lines.ScriptStop.{ScriptStop};
 
 use cs_base::{Failed, Files, MAX_SCRIPT_LINE_BYTES};
 use cs_docs::{BYTE_ORDER_MARK, Reason, first_end};
@@ -62,9 +63,6 @@ impl ScriptFault {
 }
 
 impl From<Failed> for ScriptStop {
-    ghost use Rattle.std.specs.Prelude.{◌≡◌};
-    ghost use Rattle.cs_top.specs.declared.lines.ScriptStop.{ScriptStop};
-
     ghost from_gives = { λ _ stop. stop ≡ ScriptStop.Failed };
 
     fn from(_: Failed) -> ScriptStop {

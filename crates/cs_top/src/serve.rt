@@ -1,6 +1,5 @@
 //! `serve INDEX PORT CONNS`: requests of connections that are answered over an index file.
-ghost use Rattle.std.specs.Prelude.{◌≡◌, ◌≢◌, ◌≤◌, ◌⊎◌, ℕ, List, true, false, IfErr, IfOk, OnErr, OnOk};
-ghost use Rattle.std.specs.FinSet as set;
+ghost use Rattle.std.specs.Prelude.{◌≡◌, ◌≤◌, ◌⊎◌, ℕ, List, true, IfErr, IfOk, OnErr, OnOk};
 ghost use Rattle.std.specs.Option.{ForSome};
 ghost use Rattle.cs_base.specs.outside.Causes.{Rose};
 ghost use Rattle.cs_base.specs.outside.Hub.{IsOrderly, listens};
@@ -8,8 +7,7 @@ ghost use Rattle.cs_base.specs.outside.Outside.{GrewByPrefix, file_bytes};
 ghost use Rattle.cs_base.specs.declared.content.limits.TheConstants.{MAX_PORT_DIGITS, MAX_PORT, MAX_CONNECTIONS_DIGITS, MAX_CONNECTIONS};
 ghost use Rattle.cs_engine.specs.Keeping.{AreGood};
 ghost use Rattle.cs_file.specs.Indexes.{HasAllBlocks, StandsFor};
-ghost use Rattle.cs_hub.specs.HubFollowing.{AreServed};
-ghost use Rattle.cs_hub.specs.Speaking.{AreUnbroken};
+ghost use Rattle.cs_hub.specs.{Ending.{Ends}, HubFollowing.{AreServed}, Speaking.{AreUnbroken}};
 ghost use Rattle.cs_model_index.specs.Sections.{file_corpus};
 ghost use Rattle.cs_top.specs.CommandLine.{CausedBy, is_number};
 ghost use Rattle.cs_top.specs.Met.{HasToldSize, Listened, OfBytes, Wrote, listened, wrote};
@@ -64,8 +62,8 @@ fn prepare<'a, F: Files>(
     ensures good { (b : List ℕ) → IfOk result (λ p. AreGood b p.0) }
     ensures ready { ForSome (F.held files.old) (λ h. OnOk result (CanServe h index.now)) }
     ensures fits { IfOk result (λ p. HasAllBlocks (file_bytes (F.held files.new) index.now) p.0.index) }
-    ensures ends { IfErr result (λ s. (p : List ℕ) → (n : List ℕ) → (w : Wrote) → (net : Listened) → IsUntouched w net → net.now ≡ net.before → ServeEnds (stop_ending s) index.now p n w net) }
-    ensures told { ForSome (F.held files.old) (λ h. IfErr result (λ s. (p : List ℕ) → (n : List ℕ) → (before : ℕ) → (now : ℕ) → (w : Wrote) → (net : Listened) → IsUntouched w net → net.now ≡ net.before → ServeTold (stop_ending s) h index.now p n before now w net)) }
+    ensures ends { IfErr result (λ s. (p : List ℕ) → (n : List ℕ) → (w : Wrote) → (net : Listened) → IsUntouched w net → net.new.faults ≡ net.old.faults → ServeEnds (stop_ending s) index.now p n w net) }
+    ensures told { ForSome (F.held files.old) (λ h. IfErr result (λ s. (p : List ℕ) → (n : List ℕ) → (before : ℕ) → (now : ℕ) → (w : Wrote) → (net : Listened) → IsUntouched w net → net.new.faults ≡ net.old.faults → ServeTold (stop_ending s) h index.now p n before now w net)) }
     ensures quiet { OnOk result (F.faults files.new ≡ F.faults files.old) }
     ensures caused { IfErr result (λ s. CausedBy (stop_ending s) (F.faults files.old) (F.faults files.new)) }
     ensures files { F.held files.new ≡ F.held files.old }
@@ -118,15 +116,10 @@ fn serve_file<F: Files, H: Hub>(
     requires orderly { IsOrderly (H.state hub.old) (H.talk hub.old) }
 
     ensures served { OfBytes (F.held files.old) name.now (λ b. StandsFor b engine.old.index → AreGood b engine.old → AreServed (file_corpus b) (H.state hub.new) (H.talk hub.new) (F.faults files.old) (F.faults files.new)) }
-    ensures done { result ≡ ServeEnd.Done → ((c : ℕ) → set.contains (H.state hub.new).live c ≡ false) × (((H.state hub.new).opened ≡ conns) ⊎ ((H.state hub.new).over ≡ true)) }
-    ensures hub_failed { result ≡ ServeEnd.HubFailed → Rose (H.faults hub.old) (H.faults hub.new) }
+    ensures ends { Ends result conns (H.state hub.old) (H.state hub.new) (H.faults hub.old) (H.faults hub.new) }
     ensures memory { result ≡ ServeEnd.Memory → (H.state hub.new ≡ H.state hub.old) × (H.talk hub.new ≡ H.talk hub.old) × (F.faults files.new ≡ F.faults files.old) × (H.send_faults hub.new ≡ H.send_faults hub.old) }
-    ensures quiet { result ≢ ServeEnd.HubFailed → H.faults hub.new ≡ H.faults hub.old }
-    ensures hub_later { H.faults hub.old ≤ H.faults hub.new }
     ensures unbroken { ¬ Rose (H.send_faults hub.old) (H.send_faults hub.new) → ForSome (H.talk hub.new) AreUnbroken }
     ensures sends_later { H.send_faults hub.old ≤ H.send_faults hub.new }
-    ensures port { (H.state hub.new).port ≡ (H.state hub.old).port }
-    ensures conns { (H.state hub.new).conns ≡ conns }
     ensures files { F.held files.new ≡ F.held files.old }
     ensures later { F.faults files.old ≤ F.faults files.new }
 {

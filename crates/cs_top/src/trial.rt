@@ -1,16 +1,12 @@
 //! `trial N`: what is typed over the collection of a number is asked, and what came of it is told.
 ghost use Rattle.std.specs.Prelude.{◌≡◌, ◌≤◌, ◌+◌, ◌++◌, ◌∷◌, ◌^◌, [], ℕ, List, All, IfOk, OnOk, Some, length, map, true};
-ghost use Rattle.cs_base.specs.declared.content.query.Query.{Query};
-ghost use Rattle.cs_base.specs.declared.content.limits.TheConstants.{MAX_TRIAL, MAX_TRIAL_DIGITS};
+ghost use Rattle.cs_base.specs.declared.content.{limits.TheConstants.{MAX_TRIAL, MAX_TRIAL_DIGITS}, query.Query.{Query}};
 ghost use Rattle.cs_file.specs.Indexes.{HasAllBlocks, StandsFor};
 ghost use Rattle.cs_model.specs.Parameters.{HoldsLimits};
 ghost use Rattle.cs_model_trial.specs.Summary.{IsSummary, trial_corpus};
 ghost use Rattle.cs_query.specs.RequestView.{asked};
-ghost use Rattle.cs_top.specs.CommandLine.{CausedBy, is_number};
-ghost use Rattle.cs_top.specs.Filed.{HasFile, IsFiled};
-ghost use Rattle.cs_top.specs.Met.{wrote};
+ghost use Rattle.cs_top.specs.{CommandLine.{CausedBy, is_number}, Filed.{HasFile, IsFiled}, Met.{wrote}, Views.{ended}};
 ghost use Rattle.cs_top.specs.Trial.{AreFew, HasAsked, HasSizes, TrialEnds, sizes_of, with_reply};
-ghost use Rattle.cs_top.specs.Views.{ended};
 ghost use Rattle.cs_trial.specs.declared.counts.Counts.{Counts};
 
 use crate::collection::{Imaged, image_of};

@@ -42,9 +42,6 @@ enum Answer {
 }
 
 impl From<Memory> for Answer {
-    ghost use Rattle.std.specs.Prelude.{◌≡◌};
-    ghost use Rattle.cs_top.specs.declared.script.answers.Answer.TheVariants as answers;
-
     ghost from_gives = { λ _ e. e ≡ answers.Memory };
 
     fn from(_: Memory) -> Answer {

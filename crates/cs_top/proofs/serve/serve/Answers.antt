@@ -19,8 +19,8 @@ returns-in-HubFailed-clause-told g c h held =
     let b = held_bytes h c.args.index.now in
     inr (
       serving_by c.args.port.now c.args.conns.now (wrote g.O.Sink.written g.O.Sink.faults c.args.out.now c.begin.new.out) (listened g.H.Hub.state g.H.Hub.talk g.H.Hub.faults g.H.Hub.send_faults c.args.hub.now c.serve_file.new.hub) (g.H.Hub.send_faults c.begin.new.hub)
-          c.in_ok-begin.ensures.put (c.in-HubFailed.ensures.port ∙ ap (λ s. s.port) c.in_ok-begin.ensures.listening.state) (c.in-HubFailed.ensures.conns ∙ c.conns_of.ensures) c.in_ok-begin.ensures.listening.sends c.in-HubFailed.ensures.sends_later c.in-HubFailed.ensures.unbroken,
-      subst (λ n. Rose n (g.H.Hub.faults c.serve_file.new.hub)) c.in_ok-begin.ensures.quiet (c.in-HubFailed.ensures.hub_failed refl),
+          c.in_ok-begin.ensures.put (c.in-HubFailed.ensures.ends.port ∙ ap (λ s. s.port) c.in_ok-begin.ensures.listening.state) (c.in-HubFailed.ensures.ends.room ∙ c.conns_of.ensures) c.in_ok-begin.ensures.listening.sends c.in-HubFailed.ensures.sends_later c.in-HubFailed.ensures.unbroken,
+      subst (λ n. Rose n (g.H.Hub.faults c.serve_file.new.hub)) c.in_ok-begin.ensures.quiet (c.in-HubFailed.ensures.ends.hub_failed refl),
       (
         c.in_ok-engine.ensures.ready h held,
         subst (λ n. AreServed (file_corpus b) (g.H.Hub.state c.serve_file.new.hub) (g.H.Hub.talk c.serve_file.new.hub) n (g.F.Files.faults c.serve_file.new.files)) c.in_ok-engine.ensures.quiet
@@ -30,10 +30,10 @@ returns-in-HubFailed-clause-told g c h held =
 
 pub returns-in-Done-clause-ends : goal.returns-in-Done-clause-ends
 returns-in-Done-clause-ends g c =
-    let over = c.in-Done.ensures.done refl in
+    let over = c.in-Done.ensures.ends.done refl in
     let state = g.H.Hub.state c.serve_file.new.hub in (
       serving_by c.args.port.now c.args.conns.now (wrote g.O.Sink.written g.O.Sink.faults c.args.out.now c.begin.new.out) (listened g.H.Hub.state g.H.Hub.talk g.H.Hub.faults g.H.Hub.send_faults c.args.hub.now c.serve_file.new.hub) (g.H.Hub.send_faults c.begin.new.hub)
-          c.in_ok-begin.ensures.put (c.in-Done.ensures.port ∙ ap (λ s. s.port) c.in_ok-begin.ensures.listening.state) (c.in-Done.ensures.conns ∙ c.conns_of.ensures) c.in_ok-begin.ensures.listening.sends c.in-Done.ensures.sends_later c.in-Done.ensures.unbroken,
+          c.in_ok-begin.ensures.put (c.in-Done.ensures.ends.port ∙ ap (λ s. s.port) c.in_ok-begin.ensures.listening.state) (c.in-Done.ensures.ends.room ∙ c.conns_of.ensures) c.in_ok-begin.ensures.listening.sends c.in-Done.ensures.sends_later c.in-Done.ensures.unbroken,
       record { live = over.0; opened = subst (λ m. (state.opened ≡ m) ⊎ (state.over ≡ true)) c.conns_of.ensures over.1 },
     )
 
@@ -41,7 +41,7 @@ pub returns-in-HubFailed-clause-ends : goal.returns-in-HubFailed-clause-ends
 returns-in-HubFailed-clause-ends g c =
     inr (
       serving_by c.args.port.now c.args.conns.now (wrote g.O.Sink.written g.O.Sink.faults c.args.out.now c.begin.new.out) (listened g.H.Hub.state g.H.Hub.talk g.H.Hub.faults g.H.Hub.send_faults c.args.hub.now c.serve_file.new.hub) (g.H.Hub.send_faults c.begin.new.hub)
-          c.in_ok-begin.ensures.put (c.in-HubFailed.ensures.port ∙ ap (λ s. s.port) c.in_ok-begin.ensures.listening.state) (c.in-HubFailed.ensures.conns ∙ c.conns_of.ensures) c.in_ok-begin.ensures.listening.sends c.in-HubFailed.ensures.sends_later c.in-HubFailed.ensures.unbroken,
-      subst (λ n. Rose n (g.H.Hub.faults c.serve_file.new.hub)) c.in_ok-begin.ensures.quiet (c.in-HubFailed.ensures.hub_failed refl),
+          c.in_ok-begin.ensures.put (c.in-HubFailed.ensures.ends.port ∙ ap (λ s. s.port) c.in_ok-begin.ensures.listening.state) (c.in-HubFailed.ensures.ends.room ∙ c.conns_of.ensures) c.in_ok-begin.ensures.listening.sends c.in-HubFailed.ensures.sends_later c.in-HubFailed.ensures.unbroken,
+      subst (λ n. Rose n (g.H.Hub.faults c.serve_file.new.hub)) c.in_ok-begin.ensures.quiet (c.in-HubFailed.ensures.ends.hub_failed refl),
       tt,
     )
