@@ -11,7 +11,7 @@ ghost use Rattle.cs_top.specs.Views.{ended, stop_ending};
 use crate::answering::IndexFile;
 use crate::collection::read_image;
 use crate::ending::RunStop;
-use crate::files::size_of;
+use crate::files::{HeldFile, size_of};
 use crate::opening::open_image;
 use crate::script::{Came, answer_script};
 use cs_base::{Files, Sink};
@@ -34,7 +34,8 @@ pub(crate) fn ask<'a, F: Files, O: Sink>(
     let (image, size) = prepare(alloc, collection, script, files)?;
     let (mut engine, store) = open_image(alloc, image)?;
     let mut file = IndexFile::made(store);
-    match answer_script(alloc, &mut engine, &mut file, files, script, size, out) {
+    let script = HeldFile { name: script, size };
+    match answer_script(alloc, &mut engine, &mut file, files, script, out) {
         Ok(Came::Answered) => Ok(()),
         Ok(Came::Read) => unreachable!(),
         Ok(Came::Changed) => unreachable!(),
@@ -59,8 +60,12 @@ fn prepare<'a, F: Files>(
     ensures caused { IfErr result (λ s. CausedBy (stop_ending s) (F.faults files.old) (F.faults files.new)) }
     ensures files { F.held files.new ≡ F.held files.old }
 {
-    let collection_size = size_of(files, collection)?;
+    let size = size_of(files, collection)?;
     let script_size = size_of(files, script)?;
-    let image = read_image(alloc, files, collection, collection_size)?;
+    let collection = HeldFile {
+        name: collection,
+        size,
+    };
+    let image = read_image(alloc, files, collection)?;
     Ok((image, script_size))
 }

@@ -12,10 +12,10 @@ ghost use Rattle.cs_model_index.specs.Sections.{file_corpus};
 ghost use Rattle.cs_top.specs.CommandLine.{CausedBy, is_number};
 ghost use Rattle.cs_top.specs.Met.{HasToldSize, Listened, OfBytes, Wrote, listened, wrote};
 ghost use Rattle.cs_top.specs.Serve.{CanServe, HasToldPort, HasStopped, IsListening, IsUntouched, ServeCaused, ServeEnds, ServeTold, serving_line};
-ghost use Rattle.cs_top.specs.Views.{ended, stop_ending};
+ghost use Rattle.cs_top.specs.Views.{IsSized, OfFile, ended, stop_ending};
 
 use crate::ending::RunStop;
-use crate::files::size_of;
+use crate::files::{HeldFile, size_of};
 use crate::opening::open;
 use crate::said::put_all;
 use crate::words::{conns_of, port_of};
@@ -44,7 +44,8 @@ pub(crate) fn serve<'a, F: Files, H: Hub, O: Sink>(
 {
     let (mut engine, size) = prepare(alloc, files, index)?;
     begin(hub, out, port, conns)?;
-    match serve_file(alloc, &mut engine, files, index, size, hub, conns_of(conns)) {
+    let file = HeldFile { name: index, size };
+    match serve_file(alloc, &mut engine, files, file, hub, conns_of(conns)) {
         ServeEnd::Done => Ok(()),
         ServeEnd::HubFailed => Err(RunStop::Failed),
         ServeEnd::Memory => Err(RunStop::Memory),
@@ -69,7 +70,7 @@ fn prepare<'a, F: Files>(
     ensures files { F.held files.new ≡ F.held files.old }
 {
     let size = size_of(files, index)?;
-    let engine = open(alloc, files, index, size)?;
+    let engine = open(alloc, files, HeldFile { name: index, size })?;
     Ok((engine, size))
 }
 
@@ -100,22 +101,21 @@ fn put_line<O: Sink>(out: &mut O, port: &str) -> Result<(), Failed>
     put_all(out, &[b"serving ", port.as_bytes(), b"\n"])
 }
 
-// Serves over a file of this size.
+// Serves over a file.
 fn serve_file<F: Files, H: Hub>(
     alloc: Global,
     engine: &mut Engine,
     files: &mut F,
-    name: &str,
-    size: u64,
+    file: HeldFile<'_>,
     hub: &mut H,
     conns: u32,
 ) -> ServeEnd
-    requires size { HasToldSize (F.held files.old) name.now size }
-    requires fits { HasAllBlocks (file_bytes (F.held files.old) name.now) engine.old.index }
+    requires size { IsSized (F.held files.old) file }
+    requires fits { HasAllBlocks (file_bytes (F.held files.old) file.name.now) engine.old.index }
     requires listens { (port : ℕ) × (H.state hub.old ≡ listens port conns) }
     requires orderly { IsOrderly (H.state hub.old) (H.talk hub.old) }
 
-    ensures served { OfBytes (F.held files.old) name.now (λ b. StandsFor b engine.old.index → AreGood b engine.old → AreServed (file_corpus b) (H.state hub.new) (H.talk hub.new) (F.faults files.old) (F.faults files.new)) }
+    ensures served { OfFile (F.held files.old) file.entry (λ b. StandsFor b engine.old.index → AreGood b engine.old → AreServed (file_corpus b) (H.state hub.new) (H.talk hub.new) (F.faults files.old) (F.faults files.new)) }
     ensures ends { Ends result conns (H.state hub.old) (H.state hub.new) (H.faults hub.old) (H.faults hub.new) }
     ensures memory { result ≡ ServeEnd.Memory → (H.state hub.new ≡ H.state hub.old) × (H.talk hub.new ≡ H.talk hub.old) × (F.faults files.new ≡ F.faults files.old) × (H.send_faults hub.new ≡ H.send_faults hub.old) }
     ensures unbroken { ¬ Rose (H.send_faults hub.old) (H.send_faults hub.new) → ForSome (H.talk hub.new) AreUnbroken }
@@ -123,6 +123,6 @@ fn serve_file<F: Files, H: Hub>(
     ensures files { F.held files.new ≡ F.held files.old }
     ensures later { F.faults files.old ≤ F.faults files.new }
 {
-    let mut store = FileStore::new(files, name, size);
+    let mut store = FileStore::new(files, file.name, file.size);
     cs_hub::serve(alloc, engine, &mut store, hub, conns)
 }

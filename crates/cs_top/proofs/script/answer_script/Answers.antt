@@ -22,7 +22,7 @@ use Rattle.cs_top.proofs.script.answer_script.Goals as goal
 pub returns-in_err-at-clause-short : goal.returns-in_err-at-clause-short
 returns-in_err-at-clause-short g c k over h held =
     let a = MayAnswer c.args.file.now k in
-    let ls = script_lines (held_bytes h c.args.script.now) in
+    let ls = script_lines (held_bytes h c.args.script.name.now) in
     let w = g.O.Sink.written c.args.out.now in
     let n = g.O.Sink.faults c.args.out.now in
     let fb = g.F.Files.faults c.args.files.now in
@@ -57,7 +57,7 @@ loop-place-init g c = record {
 pub returns-in_err-next-clause-short : goal.returns-in_err-next-clause-short
 returns-in_err-next-clause-short g c k over h held =
     let inv = c.loop-place.invariant in
-    let b = held_bytes h c.args.script.now in
+    let b = held_bytes h c.args.script.name.now in
     let e = stop_ending (of_script c.in_err-next.field-0.0) in
     let new = g.O.Sink.written c.answer_next.new.out in
     let first = g.O.Sink.faults c.args.out.now in
@@ -92,7 +92,7 @@ loop-place-preserved g c =
     let next = c.in_ok-next in
     record {
       so_far = λ k over h held.
-          let b = held_bytes h c.args.script.now in
+          let b = held_bytes h c.args.script.name.now in
           let there = next.ensures.ok k (inv.stays k over) h (inv.same ∙ held) in
           let here : Reaches (MayAnswer c.args.file.now k) b c.loop-place.place next.next (g.O.Sink.written c.loop-place.out) (g.O.Sink.written c.answer_next.new.out) next.met (g.F.Files.faults c.loop-place.files) (g.F.Files.faults c.answer_next.new.files) =
           subst (λ f. Reaches (MayAnswer f k) b c.loop-place.place next.next (g.O.Sink.written c.loop-place.out) (g.O.Sink.written c.answer_next.new.out) next.met (g.F.Files.faults c.loop-place.files) (g.F.Files.faults c.answer_next.new.files)) inv.file there in
@@ -118,5 +118,5 @@ loop-place-preserved g c =
 
 pub returns-clause-whole : goal.returns-clause-whole
 returns-clause-whole g c k over h held =
-    let size = held_size (map.get h c.args.script.now) c.args.size (c.requires.size h held) in
-    ends_done (held_bytes h c.args.script.now) c.loop-place.place (c.loop-place.invariant.so_far k over h held) (g.O.Sink.faults c.args.out.now) (g.O.Sink.faults c.loop-place.out) (omega (arith, size))
+    let size = held_size (map.get h c.args.script.name.now) c.args.script.size (c.requires.size h held) in
+    ends_done (held_bytes h c.args.script.name.now) c.loop-place.place (c.loop-place.invariant.so_far k over h held) (g.O.Sink.faults c.args.out.now) (g.O.Sink.faults c.loop-place.out) (omega (arith, size))
