@@ -11,6 +11,7 @@
 --   collection_ending r          the ending of a run whose collection has the refusal r, or no memory
 --   of_script s                  the stop of a run whose script stops
 --   stop_ending s, ended r       the ending of a run that stops, and of any run
+--   ReadsFiles h h' before now r     a call with this answer only read files: what they hold is as it was, and why their count rose
 --   IsAbsence s name             a stop of a file that should be held: its name is said to be absent, or a call failed
 --   IsMissing s f                where a stop says a name to be absent, the file isn't held
 --   IsDevice s                   a call failed, or memory ran out
@@ -19,7 +20,7 @@
 --   IsOfIndex s                  a stop of an index file: damage, or a call failed, or memory ran out
 --   IsDamage b s                 where it is damage of the bytes b, this is their first broken rule with its place
 --   said_text s                  a line on standard error
-use Rattle.std.specs.Prelude.{◌≡◌, ℕ, true, List, [], ◌∷◌, ◌++◌, Option, Some, None, MatchOption, Result, Ok, Err, codes}
+use Rattle.std.specs.Prelude.{◌≡◌, ℕ, true, List, [], ◌∷◌, ◌++◌, Option, Some, None, MatchOption, Result, Ok, Err, IfErr, OnOk, codes}
 use Rattle.std.specs.Fmt.{decimal}
 use Rattle.cs_base.specs.outside.Outside.{File, Held}
 use Rattle.cs_base.specs.declared.content.limits.TheConstants.{MAX_PORT_DIGITS, MAX_PORT, MAX_CONNECTIONS_DIGITS, MAX_CONNECTIONS, MAX_TRIAL_DIGITS, MAX_TRIAL}
@@ -30,7 +31,7 @@ use Rattle.cs_model_index.specs.BlockRules.{broken_at}
 use Rattle.cs_model_index.specs.FileRules.{damage}
 use Rattle.cs_docs.specs.FaultRefusals.{refusal_of, rows_refusal_of, words_said}
 use Rattle.cs_build.specs.Building.{build_refusal_of}
-use Rattle.cs_top.specs.CommandLine.{Command, build, ask, replay, serve, trial, is_number, Ending, done, usage, refused, damaged, absent, failed, no_memory, script_refused, changed}
+use Rattle.cs_top.specs.CommandLine.{Command, build, ask, replay, serve, trial, is_number, Ending, done, usage, refused, damaged, absent, failed, no_memory, script_refused, changed, CausedBy}
 use Rattle.cs_top.specs.Answering.{FileView}
 use Rattle.cs_top.specs.Met.{HasToldSize, OfBytes}
 use Rattle.cs_top.specs.declared.answering.Home.{Home}
@@ -111,6 +112,12 @@ stop_ending stops.Changed = changed
 abbrev pub ended : Result (Unit {0}) RunStop → Ending
 ended (Ok x) = done
 ended (Err s) = stop_ending s
+
+-- what is held stays; the count stays too where it gave a value, and else by its stop
+pub record ReadsFiles {T : Type 0} (held held' : Option Held) (before now : ℕ) (r : Result T RunStop) : Type 0 where
+  pub files : held' ≡ held
+  pub quiet : OnOk r (now ≡ before)
+  pub caused : IfErr r (λ s. CausedBy (stop_ending s) before now)
 
 -- a line that is refused, or a call that failed
 abbrev pub of_script : ScriptStop → RunStop

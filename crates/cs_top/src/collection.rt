@@ -2,8 +2,8 @@
 ghost use Rattle.std.specs.{Option.{option_map}, Prelude.{◌≡◌, None, IfOk, IfErr, OnOk}};
 ghost use Rattle.cs_docs.specs.FaultRefusals.{reason_text};
 ghost use Rattle.cs_model.specs.{Collection.{refusal_words}, Corpus.{corpus, refusal}};
-ghost use Rattle.cs_top.specs.{CommandLine.{CausedBy}, Filed.{HasFile, IsFiled}, Trial.{HasSizes}};
-ghost use Rattle.cs_top.specs.Views.{IsCollectionCause, IsOfCollection, IsSized, IsStopCause, OfFile, collection_refusal_of, stop_ending};
+ghost use Rattle.cs_top.specs.{Filed.{HasFile, IsFiled}, Trial.{HasSizes}};
+ghost use Rattle.cs_top.specs.Views.{IsCollectionCause, IsOfCollection, IsSized, IsStopCause, OfFile, ReadsFiles, collection_refusal_of};
 
 use crate::ending::RunStop;
 use crate::files::{HeldFile, read_all};
@@ -62,9 +62,7 @@ pub(crate) fn read_image<'a, F: Files>(
     ensures cause { OfFile (F.held files.old) collection.entry (λ b. IfErr result (λ s. IsStopCause b s)) }
     ensures file { IfOk result HasFile }
     ensures kind { IfErr result IsOfCollection }
-    ensures quiet { OnOk result (F.faults files.new ≡ F.faults files.old) }
-    ensures caused { IfErr result (λ s. CausedBy (stop_ending s) (F.faults files.old) (F.faults files.new)) }
-    ensures files { F.held files.new ≡ F.held files.old }
+    ensures reads { ReadsFiles (F.held files.old) (F.held files.new) (F.faults files.old) (F.faults files.new) result }
 {
     if collection.size > MAX_COLLECTION_BYTES as u64 {
         return Err(RunStop::Collection(CollectionFault::Documents(DocFault::TooLarge)));

@@ -1,10 +1,9 @@
 //! Files that are to be read: that they are held, with which size, and all their bytes.
-ghost use Rattle.std.specs.Prelude.{◌≡◌, Some, IfOk, IfErr, OnOk};
+ghost use Rattle.std.specs.Prelude.{◌≡◌, Some, IfOk, IfErr};
 ghost use Rattle.std.specs.Option.{ForSome};
 ghost use Rattle.std.specs.FinMap as fin;
-ghost use Rattle.cs_top.specs.CommandLine.{CausedBy};
 ghost use Rattle.cs_top.specs.Met.{HasToldSize};
-ghost use Rattle.cs_top.specs.Views.{IsAbsence, IsDevice, IsMissing, IsSized, OfFile, stop_ending};
+ghost use Rattle.cs_top.specs.Views.{IsAbsence, IsDevice, IsMissing, IsSized, OfFile, ReadsFiles};
 
 use crate::ending::RunStop;
 use cs_base::Files;
@@ -24,9 +23,7 @@ pub(crate) fn size_of<'a, F: Files>(files: &mut F, name: &'a str) -> Result<u64,
     ensures ok { IfOk result (λ n. HasToldSize (F.held files.old) name.now n) }
     ensures missing { ForSome (F.held files.old) (λ h. IfErr result (λ s. IsMissing s (fin.get h name.now))) }
     ensures absence { IfErr result (λ s. IsAbsence s name.now) }
-    ensures quiet { OnOk result (F.faults files.new ≡ F.faults files.old) }
-    ensures caused { IfErr result (λ s. CausedBy (stop_ending s) (F.faults files.old) (F.faults files.new)) }
-    ensures files { F.held files.new ≡ F.held files.old }
+    ensures reads { ReadsFiles (F.held files.old) (F.held files.new) (F.faults files.old) (F.faults files.new) result }
 {
     match files.size(name) {
         Ok(Some(size)) => Ok(size),
@@ -44,10 +41,8 @@ pub(crate) fn read_all<'a, F: Files>(
     requires { IsSized (F.held files.old) file }
 
     ensures ok { OfFile (F.held files.old) file.entry (λ bytes. IfOk result (λ b. b.items ≡ bytes)) }
-    ensures same { F.held files.new ≡ F.held files.old }
-    ensures quiet { OnOk result (F.faults files.new ≡ F.faults files.old) }
     ensures kind { IfErr result IsDevice }
-    ensures caused { IfErr result (λ s. CausedBy (stop_ending s) (F.faults files.old) (F.faults files.new)) }
+    ensures reads { ReadsFiles (F.held files.old) (F.held files.new) (F.faults files.old) (F.faults files.new) result }
 {
     let Ok(mut bytes) = vec![in alloc; 0u8; file.size as usize] else {
         return Err(RunStop::Memory);

@@ -9,10 +9,10 @@ ghost use Rattle.cs_engine.specs.Keeping.{AreGood};
 ghost use Rattle.cs_file.specs.Indexes.{HasAllBlocks, StandsFor};
 ghost use Rattle.cs_hub.specs.{Ending.{Ends}, HubFollowing.{AreServed}, Speaking.{AreUnbroken}};
 ghost use Rattle.cs_model_index.specs.Sections.{file_corpus};
-ghost use Rattle.cs_top.specs.CommandLine.{CausedBy, is_number};
+ghost use Rattle.cs_top.specs.CommandLine.{is_number};
 ghost use Rattle.cs_top.specs.Met.{HasToldSize, Listened, OfBytes, Wrote, listened, wrote};
 ghost use Rattle.cs_top.specs.Serve.{CanServe, HasToldPort, HasStopped, IsListening, IsUntouched, ServeCaused, ServeEnds, ServeTold, serving_line};
-ghost use Rattle.cs_top.specs.Views.{IsSized, OfFile, ended, stop_ending};
+ghost use Rattle.cs_top.specs.Views.{IsSized, OfFile, ReadsFiles, ended, stop_ending};
 
 use crate::ending::RunStop;
 use crate::files::{HeldFile, size_of};
@@ -65,9 +65,7 @@ fn prepare<'a, F: Files>(
     ensures fits { IfOk result (λ p. HasAllBlocks (file_bytes (F.held files.new) index.now) p.0.index) }
     ensures ends { IfErr result (λ s. (p : List ℕ) → (n : List ℕ) → (w : Wrote) → (net : Listened) → IsUntouched w net → net.new.faults ≡ net.old.faults → ServeEnds (stop_ending s) index.now p n w net) }
     ensures told { ForSome (F.held files.old) (λ h. IfErr result (λ s. (p : List ℕ) → (n : List ℕ) → (before : ℕ) → (now : ℕ) → (w : Wrote) → (net : Listened) → IsUntouched w net → net.new.faults ≡ net.old.faults → ServeTold (stop_ending s) h index.now p n before now w net)) }
-    ensures quiet { OnOk result (F.faults files.new ≡ F.faults files.old) }
-    ensures caused { IfErr result (λ s. CausedBy (stop_ending s) (F.faults files.old) (F.faults files.new)) }
-    ensures files { F.held files.new ≡ F.held files.old }
+    ensures reads { ReadsFiles (F.held files.old) (F.held files.new) (F.faults files.old) (F.faults files.new) result }
 {
     let size = size_of(files, index)?;
     let engine = open(alloc, files, HeldFile { name: index, size })?;

@@ -81,7 +81,7 @@ returns-in-Ok-Answered-clause-told g c h held =
     let whole = ok_there c.answer_script.result c.in-Ok-Answered.field-0 Answered (λ came. (ts : List (List ℕ))
     × ScriptEnds (MayAnswer c.made-file.result (k g met h)) done (script_lines (held_bytes h c.args.script.now)) ts (w g met)
     × Tally came fb fn ts) c.in-Ok-Answered.is c.in-Ok-Answered.field-0-is
-    (c.answer_script.ensures.whole (k g met h) (over g met h held) h (c.in_ok-image.ensures.files ∙ held)) in
+    (c.answer_script.ensures.whole (k g met h) (over g met h held) h (c.in_ok-image.ensures.reads.files ∙ held)) in
     told g met h held done whole.0 whole.1
 
 pub returns-clause-told : goal.returns-clause-told
@@ -92,7 +92,7 @@ returns-clause-told g c h held =
     let short = err_there c.answer_script.result c.in-Err.stop (λ s. (ts : List (List ℕ))
     × ScriptEnds (MayAnswer c.made-file.result (k g met h)) (stop_ending (of_script s)) (script_lines (held_bytes h c.args.script.now)) ts (w g met)
     × ShortTally (stop_ending (of_script s)) (w g met) fb fn ts) c.in-Err.is
-    (c.answer_script.ensures.short (k g met h) (over g met h held) h (c.in_ok-image.ensures.files ∙ held)) in
+    (c.answer_script.ensures.short (k g met h) (over g met h held) h (c.in_ok-image.ensures.reads.files ∙ held)) in
     let all = told g met h held (stop_ending (of_script c.in-Err.stop)) short.0 short.1 in
     subst (λ x. AskTold (stop_ending x) h c.args.collection.now c.args.script.now (w g met)) (sym c.from.ensures) all
 

@@ -33,8 +33,8 @@ answered g c h held =
     let b = held_bytes h c.args.index.now in
     let engine = c.in_ok-engine.ensures in (
       engine.ready h held,
-      subst (λ n. AreServed (file_corpus b) (g.H.Hub.state c.serve_file.new.hub) (g.H.Hub.talk c.serve_file.new.hub) n (g.F.Files.faults c.serve_file.new.files)) engine.quiet
-          (c.serve_file.ensures.served h (engine.files ∙ held) (engine.stands h held) (engine.good b)),
+      subst (λ n. AreServed (file_corpus b) (g.H.Hub.state c.serve_file.new.hub) (g.H.Hub.talk c.serve_file.new.hub) n (g.F.Files.faults c.serve_file.new.files)) engine.reads.quiet
+          (c.serve_file.ensures.served h (engine.reads.files ∙ held) (engine.stands h held) (engine.good b)),
     )
 
 pub returns-in-Done-clause-told : goal.returns-in-Done-clause-told
