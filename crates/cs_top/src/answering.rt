@@ -1,11 +1,8 @@
 //! What answers requests: an engine, over an index file in memory or one that the files hold.
 ghost use Rattle.std.specs.Prelude.{◌≡◌, true, false, Some, None, [], IfErr, IfOk, is_some};
 ghost use Rattle.cs_engine.specs.Asking.{IsChangeIn};
-ghost use Rattle.cs_file.specs.CallAnswers.{is_changed, is_read};
-ghost use Rattle.cs_file.specs.Indexes.{CausedReads};
-ghost use Rattle.cs_model.specs.Corpus.{Corpus};
-ghost use Rattle.cs_model.specs.Parameters.{HoldsLimits};
-ghost use Rattle.cs_model.specs.Requests.{reply_of};
+ghost use Rattle.cs_file.specs.{CallAnswers.{is_changed, is_read}, Indexes.{CausedReads}};
+ghost use Rattle.cs_model.specs.{Corpus.{Corpus}, Parameters.{HoldsLimits}, Requests.{reply_of}};
 ghost use Rattle.cs_query.specs.RequestView.{asked};
 ghost use Rattle.cs_top.specs.Answering.{AnswersOver, IsThere, bytes_there};
 

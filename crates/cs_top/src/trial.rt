@@ -6,7 +6,7 @@ ghost use Rattle.cs_model.specs.Parameters.{HoldsLimits};
 ghost use Rattle.cs_model_trial.specs.Summary.{IsSummary, trial_corpus};
 ghost use Rattle.cs_query.specs.RequestView.{asked};
 ghost use Rattle.cs_top.specs.{CommandLine.{CausedBy, is_number}, Filed.{HasFile, IsFiled}, Met.{wrote}, Views.{ended}};
-ghost use Rattle.cs_top.specs.Trial.{AreFew, HasAsked, HasSizes, TrialEnds, sizes_of, with_reply};
+ghost use Rattle.cs_top.specs.Trial.{AreFew, HasAsked, HasSizes, IsSteady, TrialEnds, sizes_of, with_reply};
 ghost use Rattle.cs_trial.specs.declared.counts.Counts.{Counts};
 
 use crate::collection::{Imaged, image_of};
@@ -126,8 +126,7 @@ fn ask_one(
     ensures asked { (qs : List Query) → HasAsked store.old.bytes qs engine.old counts.old → OnOk result (HasAsked store.new.bytes (qs ++ request.now.query ∷ []) engine.new counts.new) }
     ensures few { (n : ℕ) → AreFew n counts.old → OnOk result (AreFew (n + 1) counts.new) }
     ensures sizes { OnOk result (sizes_of counts.new ≡ sizes_of counts.old) }
-    ensures index { engine.new.index ≡ engine.old.index }
-    ensures bytes { store.new.bytes ≡ store.old.bytes }
+    ensures steady { IsSteady store.old.bytes store.new.bytes engine.old engine.new }
 {
     let (reply, note) = answer(alloc, engine, store, request)?;
     count(counts, note.plan, reply.total_hits);
@@ -146,8 +145,7 @@ fn answer(
     requires fits { HasAllBlocks (Some store.old.bytes) engine.old.index }
 
     ensures asked { (qs : List Query) → (c : Counts) → HasAsked store.old.bytes qs engine.old c → IfOk result (λ r. HasAsked store.new.bytes (qs ++ request.now.query ∷ []) engine.new (with_reply r.1.plan r.0.total_hits c)) }
-    ensures index { engine.new.index ≡ engine.old.index }
-    ensures bytes { store.new.bytes ≡ store.old.bytes }
+    ensures steady { IsSteady store.old.bytes store.new.bytes engine.old engine.new }
 {
     match engine.ask(alloc, store, request) {
         Ok(answer) => Ok(answer),
