@@ -33,12 +33,7 @@ impl Left {
 }
 
 /// That both are equal. A failure names the row.
-pub(crate) fn same<T: PartialEq + Debug, R: Debug + Copy>(
-    rt: &impl Abort,
-    found: &T,
-    want: &T,
-    row: R,
-) {
+pub fn same<T: PartialEq + Debug>(rt: &impl Abort, found: &T, want: &T, row: impl Debug + Copy) {
     assert_eq!(rt; found, want, "of {row:?}");
 }
 

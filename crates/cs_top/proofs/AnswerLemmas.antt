@@ -64,14 +64,9 @@ module _ (f : FileView) (k : Corpus) (l : ℕ × List ℕ) (a : Answer) (n m : �
       let x = text_there in
       (some, read, rose, (came_of_answer a, x.0, x.2, x.3, subst (λ b. GrewByPrefix w.old b w.new) x.1 g))
 
-none_there : (o : Option (List ℕ)) → (is_some o ≡ true → ⊥) → o ≡ None
-none_there None never = refl
-none_there (Some b) never = absurd (never refl)
-
-module _ (f : FileView) (k : Corpus) (l : ℕ × List ℕ) (a : Answer) (n m : ℕ) (some : l.1 ≢ []) (read : line_fault l ≡ None) (h : HasText (MayAnswer f k) l.1 a) (c : CameCounts (came_of_answer a) n m) where
   -- a line whose answer was put
   pub line_ok : {E : Type 0} (r : Result Came E) (old new : Option (List ℕ)) → OnOk r (Grew old (line_bytes a) new) → IfOk r (λ x. x ≡ came_of_answer a) → IfOk r (λ came. Passes (MayAnswer f k) l old new came n m)
-  line_ok (Ok x) old new g is = subst (λ y. Passes (MayAnswer f k) l old new y n m) (sym is) (passes f k l a n m some read h c old new g)
+  line_ok (Ok x) old new g is = subst (λ y. Passes (MayAnswer f k) l old new y n m) (sym is) (passes old new g)
   line_ok (Err e) old new g is = tt
 
   -- and one whose answer wasn't put whole
@@ -80,7 +75,7 @@ module _ (f : FileView) (k : Corpus) (l : ℕ × List ℕ) (a : Answer) (n m : �
   line_err (Ok x) w g is cause = tt
   line_err (Err s) w g is cause =
       subst (λ x. StopsAt (MayAnswer f k) (stop_ending (of_script x)) l w n m) (sym is)
-      (stops_there f k l a n m some read h c w g (subst (λ x. CausedBy (stop_ending (of_script x)) w.before w.now) is cause).0)
+      (stops_there w g (subst (λ x. CausedBy (stop_ending (of_script x)) w.before w.now) is cause).0)
 
 -- what holds of what came holds of the result that says so
 pub said_came : {E : Type 0} (r : Result Came E) (a : Came) (P : Came → Type 0) → IfOk r (λ x. x ≡ a) → P a → IfOk r P
@@ -97,6 +92,10 @@ pub refusal_is : (f : FileView) (k : Corpus) (p : List ℕ) (e : ReqFault) (r : 
 refusal_is f k p e (Ok b) a cause whole none is other =
     subst (HasText (MayAnswer f k) p) (sym whole) (text k p, is ∙ ap (λ t. t ++ 10 ∷ []) (sym (refused_text k p e cause other)), inl (inl refl), refused_apart k p e cause other)
 refusal_is f k p e (Err x) a cause whole none is other = subst (HasText (MayAnswer f k) p) (sym none) tt
+
+none_there : (o : Option (List ℕ)) → (is_some o ≡ true → ⊥) → o ≡ None
+none_there None never = refl
+none_there (Some b) never = absurd (never refl)
 
 -- the reply to a request, as the answer to its line
 pub reply_is : (f : FileView) (k : Corpus) (p : List ℕ) (r : Request) (a : Answer) → request_refusal p ≡ None → r ≡ request_of p → HasReply k r a → (is_some f.made ≡ true → came_of_answer a ≢ came.Read) → HasText (MayAnswer f k) p a

@@ -172,7 +172,7 @@ completes e (Some (ask c s)) m r = λ h held able files out hub.
 completes e (Some (replay i s)) m r = λ h held able files out hub.
     replay_told e h i s m.files_before m.files_now m.out (r.told h held) able (no_failed_replay e m.files_before m.files_now m.out.before m.out.now r.caused files out)
 completes e (Some (serve i p n)) m r = λ h held able. (
-  λ files out hub. served e h i p n m.files_before m.files_now m.out m.net (r.told h held) able (no_failed_serve e m.files_before m.files_now m.out.before m.out.now m.net.before m.net.now r.caused files out hub),
+  λ files out hub. served e h i p n m.files_before m.files_now m.out m.net (r.told h held) able (no_failed_serve e m.files_before m.files_now m.out.before m.out.now m.net.old.faults m.net.new.faults r.caused files out hub),
   λ zero calm sent. let is = only_done e zero in
       served_all h i p n m.files_before m.files_now m.out m.net (subst (λ x. ServeEnds x i p n m.out m.net) is r.ends).0 (subst (λ x. ServeTold x h i p n m.files_before m.files_now m.out m.net) is (r.told h held)) calm sent,
 )

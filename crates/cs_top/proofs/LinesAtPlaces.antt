@@ -1,10 +1,6 @@
 -- What a line that was read says of the line at its place in the script.
-use Rattle.std.proofs.Common.{◌≡◌, ◌≢◌, ℕ, ◌+◌, ◌<◌, List, [], ◌∷◌, length, drop, inl, inr, sym, subst, ◌∙◌, arith}
+use Rattle.std.proofs.Common.{◌≡◌, ◌≢◌, ℕ, ◌+◌, ◌<◌, List, [], ◌∷◌, length, drop, inl, inr, sym, ◌∙◌, arith}
 use Rattle.std.specs.Prelude.{Option, Some, None}
-use Rattle.cs_base.specs.outside.Outside.{Held}
-use Rattle.cs_engine.specs.Keeping.{EngineView}
-use Rattle.cs_model.specs.Corpus.{Corpus}
-use Rattle.cs_top.specs.Answering.{AnswersOver, FileView}
 use Rattle.std.specs.Str.Lines.{lines}
 use Rattle.cs_base.specs.declared.content.limits.TheConstants.{MAX_SCRIPT_LINE_BYTES}
 use Rattle.cs_model.specs.Outputs.{MayPut, line_fault, script_line_too_long}
@@ -40,7 +36,3 @@ module _ (A : MayPut) (s l : List ℕ) (p : Place) (at : ℕ) (w : Wrote) (befor
   reaches_by q old new came (inl is) n h = (l, is, n, h)
   reaches_by q old new came (inr (long, more)) n (inl (none, same, plain, calm)) = absurd (long_some l long none)
   reaches_by q old new came (inr (long, more)) n (inr (some, read, put)) = absurd (unread q.number l long read)
-
--- what it answers over stays, where what is held does
-pub over_at : (e : EngineView) (f : FileView) (x y : Option Held) (k : Corpus) → y ≡ x → AnswersOver e f x k → AnswersOver e f y k
-over_at e f x y k r over = subst (λ z. AnswersOver e f z k) (sym r) over

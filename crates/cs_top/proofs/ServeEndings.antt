@@ -30,18 +30,18 @@ use Rattle.cs_top.specs.CommandLine.{Ending, failed}
 use Rattle.cs_top.specs.Met.{Listened, Met, Wrote, held_bytes}
 use Rattle.cs_top.specs.Serve.{AreAnswered, AreExact, FailsBehind, HasToldPort, IsExact, IsServing, ServeCaused, ServeEnds, ServeFailed, ServeRan, ServeTold, ServesAll, serving_line}
 
-pub serving_by : (p n : List ℕ) (w : Wrote) (net : Listened) (mid : ℕ) → HasToldPort p w → net.state_now.port ≡ number_of p → net.state_now.conns ≡ number_of n → mid ≡ net.sends_before → mid ≤ net.sends_now → ((Rose mid net.sends_now → ⊥) → ForSome net.talk_now AreUnbroken)
+pub serving_by : (p n : List ℕ) (w : Wrote) (net : Listened) (mid : ℕ) → HasToldPort p w → net.new.state.port ≡ number_of p → net.new.state.conns ≡ number_of n → mid ≡ net.old.send_faults → mid ≤ net.new.send_faults → ((Rose mid net.new.send_faults → ⊥) → ForSome net.new.talk AreUnbroken)
     → IsServing p n w net
 serving_by p n w net mid put port conns sends later unbroken = record {
   put = put;
   port = port;
   conns = conns;
   sends = omega (arith, sends, later);
-  unbroken = λ calm. unbroken (λ rose. calm (subst (λ x. Rose x net.sends_now) sends rose));
+  unbroken = λ calm. unbroken (λ rose. calm (subst (λ x. Rose x net.new.send_faults) sends rose));
 }
 
 pub failed_after_line : (p n : List ℕ) (w : Wrote) (net : Listened) (P : Type 0) (b : List ℕ) → w.old ≡ Some b → Grew w.old (serving_line p) w.new → ¬ Rose w.before w.now → ServeFailed p n w net P
-    → IsServing p n w net × Rose net.before net.now × P
+    → IsServing p n w net × Rose net.old.faults net.new.faults × P
 failed_after_line p n w net P b told line calm (inr after) = after
 failed_after_line p n w net P b told line calm (inl (inr begun)) = absurd (calm begun.1)
 failed_after_line p n w net P b told line calm (inl (inl untouched)) =
@@ -105,9 +105,9 @@ exact_all k s talk before now h calm t told c opened whole =
     exact_one k (bytes_that_came c t.came) (sent_on t c) (right.sent c) (each_none s.opened (λ d. reads (right.sent d)) c opened none) one.unchanged (left_at h.core c)
     (subst (λ x. StandsBy k (bytes_that_came c t.came) (sent_on t c) x (left_at h.core c) (right.sent c)) whole one.stands)
 
-pub served_all : (h : Held) (i p n : List ℕ) (before now : ℕ) (w : Wrote) (net : Listened) → IsServing p n w net → AreAnswered h i before now net → ¬ Rose before now → ¬ Rose net.sends_before net.sends_now → ServesAll h i net
+pub served_all : (h : Held) (i p n : List ℕ) (before now : ℕ) (w : Wrote) (net : Listened) → IsServing p n w net → AreAnswered h i before now net → ¬ Rose before now → ¬ Rose net.old.send_faults net.new.send_faults → ServesAll h i net
 served_all h i p n before now w net serving right calm sent t told c opened =
-    exact_all (file_corpus (held_bytes h i)) net.state_now net.talk_now before now right.1 calm t told c opened (serving.unbroken sent t told c)
+    exact_all (file_corpus (held_bytes h i)) net.new.state net.new.talk before now right.1 calm t told c opened (serving.unbroken sent t told c)
 
 -- ---- a whole run
 module _ (i p n : List ℕ) {H : Type 0} (m : Met H) where
@@ -118,13 +118,13 @@ module _ (i p n : List ℕ) {H : Type 0} (m : Met H) where
       (first.0, first.1, λ h held. (failed_after_line p n m.out m.net (AreAnswered h i m.files_before m.files_now m.net) b out line calm (subst (λ x. ServeTold x h i p n m.files_before m.files_now m.out m.net) is (told h held))).2)
 
   pub ran_by : (e : Ending) → ServeEnds e i p n m.out m.net → ForSome m.held (λ h. ServeTold e h i p n m.files_before m.files_now m.out m.net)
-      → ServeCaused e m.files_before m.files_now m.out.before m.out.now m.net.before m.net.now → m.held_now ≡ m.held → ServeRan e i p n m
+      → ServeCaused e m.files_before m.files_now m.out.before m.out.now m.net.old.faults m.net.new.faults → m.held_now ≡ m.held → ServeRan e i p n m
   ran_by e ends told caused files = record {
     ends = ends;
     told = told;
     behind = behind e ends told;
     exact = λ is calm h held.
-        exact_all (file_corpus (held_bytes h i)) m.net.state_now m.net.talk_now m.files_before m.files_now (subst (λ x. ServeTold x h i p n m.files_before m.files_now m.out m.net) is (told h held)).1 calm;
+        exact_all (file_corpus (held_bytes h i)) m.net.new.state m.net.new.talk m.files_before m.files_now (subst (λ x. ServeTold x h i p n m.files_before m.files_now m.out m.net) is (told h held)).1 calm;
     caused = caused;
     files = files;
   }

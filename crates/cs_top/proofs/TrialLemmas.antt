@@ -1,7 +1,6 @@
 -- What a trial counts: one request more, and the summary of all.
 --
---   few_more, few_within     counts stay few
---   sizes_stay               a reply changes no size
+--   IsOneMore                a reply counts for its plan
 --   asked_none               how an engine stands before the first query
 --   asked_more               and after one more
 --   hits_told                the hits that a reply counts
@@ -46,25 +45,20 @@ use Rattle.cs_trial.specs.Told.{told}
 use Rattle.cs_trial.specs.declared.counts.Counts.{Counts}
 
 -- ---- one reply more
-pub few_more : (p : Plan) (n h : ℕ) (c : Counts) → h < 2 ^ 32 → AreFew n c → AreFew (n + 1) (with_reply p h c)
-few_more Same n h c low f = let a = f.replies in let b = f.hits in let s = f.same in let w = f.narrow in let e = f.extend in let r = f.fresh in
-    record { replies = omega arith; hits = omega arith; same = omega arith; narrow = omega arith; extend = omega arith; fresh = omega arith }
-few_more (Narrow cut) n h c low f = let a = f.replies in let b = f.hits in let s = f.same in let w = f.narrow in let e = f.extend in let r = f.fresh in
-    record { replies = omega arith; hits = omega arith; same = omega arith; narrow = omega arith; extend = omega arith; fresh = omega arith }
-few_more Extend n h c low f = let a = f.replies in let b = f.hits in let s = f.same in let w = f.narrow in let e = f.extend in let r = f.fresh in
-    record { replies = omega arith; hits = omega arith; same = omega arith; narrow = omega arith; extend = omega arith; fresh = omega arith }
-few_more Fresh n h c low f = let a = f.replies in let b = f.hits in let s = f.same in let w = f.narrow in let e = f.extend in let r = f.fresh in
-    record { replies = omega arith; hits = omega arith; same = omega arith; narrow = omega arith; extend = omega arith; fresh = omega arith }
+-- it counts for its plan
+record IsOneMore (p : Plan) (n : ℕ) (c d : Counts) : Type 0 where
+  replies : d.replies ≡ c.replies + 1
+  hits : d.hits ≡ c.hits + n
+  same : d.same ≡ c.same + counted is_same (p ∷ [])
+  narrow : d.narrow ≡ c.narrow + counted is_narrow (p ∷ [])
+  extend : d.extend ≡ c.extend + counted is_extend (p ∷ [])
+  fresh : d.fresh ≡ c.fresh + counted is_fresh (p ∷ [])
 
-pub few_within : (n m : ℕ) (c : Counts) → n ≤ m → AreFew n c → AreFew m c
-few_within n m c low f = let a = f.replies in let b = f.hits in let s = f.same in let w = f.narrow in let e = f.extend in let r = f.fresh in
-    record { replies = omega arith; hits = omega arith; same = omega arith; narrow = omega arith; extend = omega arith; fresh = omega arith }
-
-pub sizes_stay : (p : Plan) (h : ℕ) (c : Counts) → sizes_of (with_reply p h c) ≡ sizes_of c
-sizes_stay Same h c = refl
-sizes_stay (Narrow cut) h c = refl
-sizes_stay Extend h c = refl
-sizes_stay Fresh h c = refl
+one_more : (p : Plan) (n : ℕ) (c : Counts) → IsOneMore p n c (with_reply p n c)
+one_more Same n c = record { replies = refl; hits = refl; same = refl; narrow = sym (add-zero c.narrow); extend = sym (add-zero c.extend); fresh = sym (add-zero c.fresh) }
+one_more (Narrow cut) n c = record { replies = refl; hits = refl; same = sym (add-zero c.same); narrow = refl; extend = sym (add-zero c.extend); fresh = sym (add-zero c.fresh) }
+one_more Extend n c = record { replies = refl; hits = refl; same = sym (add-zero c.same); narrow = sym (add-zero c.narrow); extend = refl; fresh = sym (add-zero c.fresh) }
+one_more Fresh n c = record { replies = refl; hits = refl; same = sym (add-zero c.same); narrow = sym (add-zero c.narrow); extend = sym (add-zero c.extend); fresh = refl }
 
 -- ---- plans and hits of one query more
 sum_push : (ns : List ℕ) (n : ℕ) → sum (ns ++ n ∷ []) ≡ sum ns + n
@@ -92,22 +86,18 @@ module _ (k : Corpus) where
         ∙ ap length (filter-append test (plans k MAX_ENTRIES [] qs) (p ∷ []))
         ∙ length-append (filter test (plans k MAX_ENTRIES [] qs)) (filter test (p ∷ []))
 
-    added : (c d : Counts) → AddUp k qs c → d.replies ≡ c.replies + 1 → d.hits ≡ c.hits + length (hits k (parts_of k q)) → d.same ≡ c.same + counted is_same (p ∷ []) → d.narrow ≡ c.narrow + counted is_narrow (p ∷ [])
-        → d.extend ≡ c.extend + counted is_extend (p ∷ []) → d.fresh ≡ c.fresh + counted is_fresh (p ∷ []) → AddUp k (qs ++ q ∷ []) d
-    added c d a more_replies more_hits more_same more_narrow more_extend more_fresh = record {
-      replies = let now = a.replies in let long = length-append qs (q ∷ []) in omega (arith, more_replies, now, long);
-      hits = more_hits ∙ ap (λ n. n + length (hits k (parts_of k q))) a.hits ∙ sym (hits_push qs q);
-      same = more_same ∙ ap (λ n. n + counted is_same (p ∷ [])) a.same ∙ sym (counted_push is_same);
-      narrow = more_narrow ∙ ap (λ n. n + counted is_narrow (p ∷ [])) a.narrow ∙ sym (counted_push is_narrow);
-      extend = more_extend ∙ ap (λ n. n + counted is_extend (p ∷ [])) a.extend ∙ sym (counted_push is_extend);
-      fresh = more_fresh ∙ ap (λ n. n + counted is_fresh (p ∷ [])) a.fresh ∙ sym (counted_push is_fresh);
+    added : (c d : Counts) → IsOneMore p (length (hits k (parts_of k q))) c d → AddUp k qs c → AddUp k (qs ++ q ∷ []) d
+    added c d more a = record {
+      replies = let up = more.replies in let now = a.replies in let long = length-append qs (q ∷ []) in omega (arith, up, now, long);
+      hits = more.hits ∙ ap (λ n. n + length (hits k (parts_of k q))) a.hits ∙ sym (hits_push qs q);
+      same = more.same ∙ ap (λ n. n + counted is_same (p ∷ [])) a.same ∙ sym (counted_push is_same);
+      narrow = more.narrow ∙ ap (λ n. n + counted is_narrow (p ∷ [])) a.narrow ∙ sym (counted_push is_narrow);
+      extend = more.extend ∙ ap (λ n. n + counted is_extend (p ∷ [])) a.extend ∙ sym (counted_push is_extend);
+      fresh = more.fresh ∙ ap (λ n. n + counted is_fresh (p ∷ [])) a.fresh ∙ sym (counted_push is_fresh);
     }
 
   add_more : (qs : List Query) (q : Query) (p : Plan) (c : Counts) → p ≡ plan (kept_after k [] qs) q → AddUp k qs c → AddUp k (qs ++ q ∷ []) (with_reply p (length (hits k (parts_of k q))) c)
-  add_more qs q Same c is a = added qs q Same is c _ a refl refl refl (sym (add-zero c.narrow)) (sym (add-zero c.extend)) (sym (add-zero c.fresh))
-  add_more qs q (Narrow cut) c is a = added qs q (Narrow cut) is c _ a refl refl (sym (add-zero c.same)) refl (sym (add-zero c.extend)) (sym (add-zero c.fresh))
-  add_more qs q Extend c is a = added qs q Extend is c _ a refl refl (sym (add-zero c.same)) (sym (add-zero c.narrow)) refl (sym (add-zero c.fresh))
-  add_more qs q Fresh c is a = added qs q Fresh is c _ a refl refl (sym (add-zero c.same)) (sym (add-zero c.narrow)) (sym (add-zero c.extend)) refl
+  add_more qs q p c is a = added qs q p is c (with_reply p (length (hits k (parts_of k q))) c) (one_more p (length (hits k (parts_of k q))) c) a
 
 -- ---- how an engine stands
 none_added : (k : Corpus) (c : Counts) → AreFew 0 c → AddUp k [] c

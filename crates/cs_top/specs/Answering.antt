@@ -11,12 +11,13 @@
 --   Came                       what came of the lines so far: only answers, or a failed read or a change too
 --   worst a b                  what came of some lines and of more
 --   CameCounts came before now     a count of failures rose where a failed read came, and else stayed
+--   CameOver e f h came ..     what may come of lines over an engine, a file and files, with its count
 --   Costs came before now t    a count rose where the text is that of a failed read, and that is said to have come
 --   came_of_answer a           what comes of a line by what is put for it
 --   line_bytes a               what is put for it, with its line ending
 --   HasText A l a              what is put for a line has a text by A; no change is put
 --   HasReply k r a             what is put for a request has the text of its reply, or of a failed read
-use Rattle.std.specs.Prelude.{◌≡◌, ◌≢◌, ◌⊎◌, ℕ, ◌≤◌, List, [], ◌∷◌, ◌++◌, Option, Some, None}
+use Rattle.std.specs.Prelude.{◌≡◌, ◌≢◌, ◌⊎◌, ℕ, ◌≤◌, true, List, [], ◌∷◌, ◌++◌, Option, Some, None, is_some}
 use Rattle.std.specs.Option.{option_or}
 use Rattle.cs_base.specs.outside.Causes.{Rose}
 use Rattle.cs_base.specs.outside.Outside.{Held, file_bytes}
@@ -81,6 +82,12 @@ pub record CameCounts (came : Came) (before now : ℕ) : Type 0 where
   pub later : before ≤ now
   pub read : came ≡ Read → Rose before now
   pub quiet : came ≢ Read → now ≡ before
+
+-- no change over a corpus that is answered, and no failed read over a file in memory; of no lines nothing but answers
+pub record CameOver (e : EngineView) (f : FileView) (held : Option Held) (came : Came) (before now : ℕ) : Type 0 where
+  pub unchanged : (k : Corpus) → AnswersOver e f held k → came ≢ Changed
+  pub unread : is_some f.made ≡ true → came ≢ Read
+  pub counts : CameCounts came before now
 
 -- a failed read costs, and where none is said to have come there is no such text; no change comes
 pub record Costs (came : Came) (before now : ℕ) (t : List ℕ) : Type 0 where

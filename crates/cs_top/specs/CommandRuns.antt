@@ -42,12 +42,12 @@ IsAble None h = ⊥
 
 -- where no count rose all was done, or memory ran out
 abbrev pub Finishes : {H : Type 0} → Met H → ℕ → Type 0
-Finishes m result = ¬ Rose m.files_before m.files_now → ¬ Rose m.out.before m.out.now → ¬ Rose m.net.before m.net.now → (result ≡ 0) ⊎ (result ≡ 7)
+Finishes m result = ¬ Rose m.files_before m.files_now → ¬ Rose m.out.before m.out.now → ¬ Rose m.net.old.faults m.net.new.faults → (result ≡ 0) ⊎ (result ≡ 7)
 
 -- No run gives up by itself: what can be done is done, or memory ran out. No words that aren't in the table can be. Where `serve` is
 -- done and no read and no send failed, each connection has exactly what answers its bytes, or its beginning and the memory response.
 abbrev pub Completes : {H : Type 0} → Option Command → Met H → ℕ → Type 0
 Completes (Some (trial n)) m result = Finishes m result
 Completes (Some (serve i p n)) m result =
-    ForSome m.held (λ h. CanServe h i → Finishes m result × (result ≡ 0 → ¬ Rose m.files_before m.files_now → ¬ Rose m.net.sends_before m.net.sends_now → ServesAll h i m.net))
+    ForSome m.held (λ h. CanServe h i → Finishes m result × (result ≡ 0 → ¬ Rose m.files_before m.files_now → ¬ Rose m.net.old.send_faults m.net.new.send_faults → ServesAll h i m.net))
 Completes command m result = ForSome m.held (λ h. IsAble command h → Finishes m result)

@@ -1,7 +1,8 @@
 -- What a run meets outside, before and after it. Each meaning is optional: None where the object doesn't tell.
 --
 --   Wrote, wrote           what a sink told before and after, and how often it had failed
---   Listened, listened     what a hub told before and after, how often `listen` and `next` had failed, and how often `send`
+--   HubSeen, hub_seen           what a hub tells, how often `listen` and `next` have failed, and how often `send`
+--   Listened, listened     the same before and after
 --   Met, met               the files that were held and are held, what was put, how often calls had failed, and the
 --                          hub
 --   LeavesAll m            files, out and hub are as they were
@@ -26,28 +27,24 @@ abbrev pub wrote : {O : Type 0} → (O → Option (List ℕ)) → (O → ℕ) �
 wrote written faults old new = record { old = written old; new = written new; before = faults old; now = faults new }
 
 -- what a hub tells, its talk maybe not, its count of failures of `listen` and `next`, and that of failures of `send`
-pub record Listened : Type 0 where
+pub record HubSeen : Type 0 where
   pub state : Listening
-  pub state_now : Listening
   pub talk : Option Talk
-  pub talk_now : Option Talk
-  pub before : ℕ
-  pub now : ℕ
-  pub sends_before : ℕ
-  pub sends_now : ℕ
+  pub faults : ℕ
+  pub send_faults : ℕ
+
+-- the same of a hub as it is
+abbrev pub hub_seen : {H : Type 0} → (H → Listening) → (H → Option Talk) → (H → ℕ) → (H → ℕ) → H → HubSeen
+hub_seen state talk faults send_faults hub = record { state = state hub; talk = talk hub; faults = faults hub; send_faults = send_faults hub }
+
+-- the same before and after
+pub record Listened : Type 0 where
+  pub old : HubSeen
+  pub new : HubSeen
 
 -- the same of a hub, from what it was to what it is
 abbrev pub listened : {H : Type 0} → (H → Listening) → (H → Option Talk) → (H → ℕ) → (H → ℕ) → H → H → Listened
-listened state talk faults sends old new = record {
-  state = state old;
-  state_now = state new;
-  talk = talk old;
-  talk_now = talk new;
-  before = faults old;
-  now = faults new;
-  sends_before = sends old;
-  sends_now = sends new;
-}
+listened state talk faults send_faults old new = record { old = hub_seen state talk faults send_faults old; new = hub_seen state talk faults send_faults new }
 
 -- what a run meets; a hub is seen whole, whatever it tells
 pub record Met (H : Type 0) : Type 0 where

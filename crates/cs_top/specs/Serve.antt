@@ -60,15 +60,15 @@ ServeStops e h i = ⊥
 -- nothing is put, and the hub tells what it told; its count of `listen` and `next` is said elsewhere
 pub record IsUntouched (w : Wrote) (net : Listened) : Type 0 where
   pub put : w.new ≡ w.old
-  pub state : net.state_now ≡ net.state
-  pub talk : net.talk_now ≡ net.talk
-  pub sends : net.sends_now ≡ net.sends_before
+  pub state : net.new.state ≡ net.old.state
+  pub talk : net.new.talk ≡ net.old.talk
+  pub sends : net.new.send_faults ≡ net.old.send_faults
 
 -- it listens, and nothing came yet
 pub record IsListening (p n : List ℕ) (net : Listened) : Type 0 where
-  pub state : net.state_now ≡ listens (number_of p) (number_of n)
-  pub talk : net.talk_now ≡ option_map (λ _. silent) net.talk
-  pub sends : net.sends_now ≡ net.sends_before
+  pub state : net.new.state ≡ listens (number_of p) (number_of n)
+  pub talk : net.new.talk ≡ option_map (λ _. silent) net.old.talk
+  pub sends : net.new.send_faults ≡ net.old.send_faults
 
 -- exactly the line is put, and out didn't fail
 pub record HasToldPort (p : List ℕ) (w : Wrote) : Type 0 where
@@ -79,31 +79,31 @@ pub record HasToldPort (p : List ℕ) (w : Wrote) : Type 0 where
 -- connection is broken
 pub record IsServing (p n : List ℕ) (w : Wrote) (net : Listened) : Type 0 where
   pub put : HasToldPort p w
-  pub port : net.state_now.port ≡ number_of p
-  pub conns : net.state_now.conns ≡ number_of n
-  pub sends : net.sends_before ≤ net.sends_now
-  pub unbroken : ¬ Rose net.sends_before net.sends_now → ForSome net.talk_now AreUnbroken
+  pub port : net.new.state.port ≡ number_of p
+  pub conns : net.new.state.conns ≡ number_of n
+  pub sends : net.old.send_faults ≤ net.new.send_faults
+  pub unbroken : ¬ Rose net.old.send_faults net.new.send_faults → ForSome net.new.talk AreUnbroken
 
 -- no connection is live, and all were opened or nothing more comes
 pub record IsOver (n : List ℕ) (net : Listened) : Type 0 where
-  pub live : (c : ℕ) → set.contains net.state_now.live c ≡ false
-  pub opened : (net.state_now.opened ≡ number_of n) ⊎ (net.state_now.over ≡ true)
+  pub live : (c : ℕ) → set.contains net.new.state.live c ≡ false
+  pub opened : (net.new.state.opened ≡ number_of n) ⊎ (net.new.state.over ≡ true)
 
 -- where it failed before it served: all is as it was, and the hub's count didn't fall; or it listens, and out alone failed after some
 -- first bytes of the line
 abbrev pub HasStopped : List ℕ → List ℕ → Wrote → Listened → Type 0
 HasStopped p n w net =
-    (IsUntouched w net × (net.before ≤ net.now))
-    ⊎ (GrewByPrefix w.old (serving_line p) w.new × Rose w.before w.now × IsListening p n net × (net.now ≡ net.before))
+    (IsUntouched w net × (net.old.faults ≤ net.new.faults))
+    ⊎ (GrewByPrefix w.old (serving_line p) w.new × Rose w.before w.now × IsListening p n net × (net.new.faults ≡ net.old.faults))
 
 -- how it failed: before it served, or while it did by the hub's count, and then P too
 abbrev pub ServeFailed : List ℕ → List ℕ → Wrote → Listened → Type 0 → Type 0
-ServeFailed p n w net P = HasStopped p n w net ⊎ (IsServing p n w net × Rose net.before net.now × P)
+ServeFailed p n w net P = HasStopped p n w net ⊎ (IsServing p n w net × Rose net.old.faults net.new.faults × P)
 
 -- Where the line was put whole, over an out that tells and didn't fail, it served, and failed by the hub's count of `listen` and `next`
 -- alone; and then P.
 abbrev pub FailsBehind : List ℕ → List ℕ → Wrote → Listened → Type 0 → Type 0
-FailsBehind p n w net P = ForSome w.old (λ b. Grew w.old (serving_line p) w.new → ¬ Rose w.before w.now → IsServing p n w net × Rose net.before net.now × P)
+FailsBehind p n w net P = ForSome w.old (λ b. Grew w.old (serving_line p) w.new → ¬ Rose w.before w.now → IsServing p n w net × Rose net.old.faults net.new.faults × P)
 
 -- how it may end over any files: done after the line, and over; a refused file leaves all as it was, and so does want of memory, or
 -- that comes after the line, before the first event
@@ -119,7 +119,7 @@ ServeEnds e i p n w net = ⊥
 -- the file is an index file, and over a hub that tells its talk each opened connection was sent what is right for its bytes over the
 -- corpus of the file, and one that isn't live has a cause; before and now are the files' count
 abbrev pub AreAnswered : Held → List ℕ → ℕ → ℕ → Listened → Type 0
-AreAnswered h i before now net = CanServe h i × AreServed (file_corpus (held_bytes h i)) net.state_now net.talk_now before now
+AreAnswered h i before now net = CanServe h i × AreServed (file_corpus (held_bytes h i)) net.new.state net.new.talk before now
 
 -- exactly the responses to the bytes b, one after the other; or some first ones of them, maybe none, and then the memory response
 abbrev pub IsExact : Corpus → List ℕ → List ℕ → Type 0
@@ -133,7 +133,7 @@ AreExact k s t = (c : ℕ) → c < s.opened → set.contains t.broken c ≡ fals
 
 -- so it is on each opened connection, by the corpus of the index file; nothing is said over a hub that doesn't tell its talk
 abbrev pub ServesAll : Held → List ℕ → Listened → Type 0
-ServesAll h i net = ForSome net.talk_now (λ t. (c : ℕ) → c < net.state_now.opened → IsExact (file_corpus (held_bytes h i)) (bytes_that_came c t.came) (sent_on t c))
+ServesAll h i net = ForSome net.new.talk (λ t. (c : ℕ) → c < net.new.state.opened → IsExact (file_corpus (held_bytes h i)) (bytes_that_came c t.came) (sent_on t c))
 
 -- how it ended: a refusal by its cause; done, and where it failed while it served, each connection stands right
 abbrev pub ServeTold : Ending → Held → List ℕ → List ℕ → List ℕ → ℕ → ℕ → Wrote → Listened → Type 0
@@ -154,6 +154,6 @@ pub record ServeRan {H : Type 0} (e : Ending) (i p n : List ℕ) (m : Met H) : T
   pub ends : ServeEnds e i p n m.out m.net
   pub told : ForSome m.held (λ h. ServeTold e h i p n m.files_before m.files_now m.out m.net)
   pub behind : e ≡ failed → FailsBehind p n m.out m.net (ForSome m.held (λ h. AreAnswered h i m.files_before m.files_now m.net))
-  pub exact : e ≡ done → ¬ Rose m.files_before m.files_now → ForSome m.held (λ h. ForSome m.net.talk_now (λ t. AreExact (file_corpus (held_bytes h i)) m.net.state_now t))
-  pub caused : ServeCaused e m.files_before m.files_now m.out.before m.out.now m.net.before m.net.now
+  pub exact : e ≡ done → ¬ Rose m.files_before m.files_now → ForSome m.held (λ h. ForSome m.net.new.talk (λ t. AreExact (file_corpus (held_bytes h i)) m.net.new.state t))
+  pub caused : ServeCaused e m.files_before m.files_now m.out.before m.out.now m.net.old.faults m.net.new.faults
   pub files : m.held_now ≡ m.held

@@ -6,6 +6,7 @@
 --   AddUp k qs c             counts are those of the replies to queries
 --   HasSizes k docs count    a corpus has so many documents and rows
 --   HasAsked b qs e c        how an engine stands and what is counted after queries, over the bytes of its index
+--   IsSteady b b' e e'       what is asked over stays
 --   AreFew n c               no more than n replies were counted
 --   TrialEnds e n w          how it may end, and what is put
 --   TrialRan e n m           a whole run
@@ -65,6 +66,11 @@ pub record HasAsked (b : List ℕ) (qs : List Query) (e : EngineView) (c : Count
   pub room : e.answers.capacity ≡ MAX_ENTRIES
   pub kept : kept_at e.index.words e.answers.entries ≡ kept_after (file_corpus b) [] qs
   pub counts : AddUp (file_corpus b) qs c
+
+-- the engine's index and the bytes that are asked over are as they were
+pub record IsSteady (b b' : List ℕ) (e e' : EngineView) : Type 0 where
+  pub index : e'.index ≡ e.index
+  pub bytes : b' ≡ b
 
 -- at most n replies, each with fewer than 2^32 hits
 pub record AreFew (n : ℕ) (c : Counts) : Type 0 where

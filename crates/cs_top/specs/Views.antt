@@ -2,6 +2,8 @@
 --
 --   seen_command                 a command of the code
 --   HasNumbers c                 its words of numbers are such numbers; a command without one has them
+--   OfFile held f P              over files that tell, P holds of what a file of the code holds
+--   IsSized held f               over files that tell, it is held and has its size
 --   home_seen f                  an index file of the code
 --   collection_refusal_of f      the refusal that a fault of a collection names; None for want of memory
 --   IsCollectionCause c f        it names the refusal of the collection c; nothing is said of want of memory
@@ -9,6 +11,7 @@
 --   collection_ending r          the ending of a run whose collection has the refusal r, or no memory
 --   of_script s                  the stop of a run whose script stops
 --   stop_ending s, ended r       the ending of a run that stops, and of any run
+--   ReadsFiles h h' before now r     a call with this answer only read files: what they hold is as it was, and why their count rose
 --   IsAbsence s name             a stop of a file that should be held: its name is said to be absent, or a call failed
 --   IsMissing s f                where a stop says a name to be absent, the file isn't held
 --   IsDevice s                   a call failed, or memory ran out
@@ -17,9 +20,9 @@
 --   IsOfIndex s                  a stop of an index file: damage, or a call failed, or memory ran out
 --   IsDamage b s                 where it is damage of the bytes b, this is their first broken rule with its place
 --   said_text s                  a line on standard error
-use Rattle.std.specs.Prelude.{◌≡◌, ℕ, true, List, [], ◌∷◌, ◌++◌, Option, Some, None, MatchOption, Result, Ok, Err, codes}
+use Rattle.std.specs.Prelude.{◌≡◌, ℕ, true, List, [], ◌∷◌, ◌++◌, Option, Some, None, MatchOption, Result, Ok, Err, IfErr, OnOk, codes}
 use Rattle.std.specs.Fmt.{decimal}
-use Rattle.cs_base.specs.outside.Outside.{File}
+use Rattle.cs_base.specs.outside.Outside.{File, Held}
 use Rattle.cs_base.specs.declared.content.limits.TheConstants.{MAX_PORT_DIGITS, MAX_PORT, MAX_CONNECTIONS_DIGITS, MAX_CONNECTIONS, MAX_TRIAL_DIGITS, MAX_TRIAL}
 use Rattle.cs_model.specs.Collection.{CollectionRefusal}
 use Rattle.cs_model.specs.Corpus.{refusal}
@@ -28,14 +31,16 @@ use Rattle.cs_model_index.specs.BlockRules.{broken_at}
 use Rattle.cs_model_index.specs.FileRules.{damage}
 use Rattle.cs_docs.specs.FaultRefusals.{refusal_of, rows_refusal_of, words_said}
 use Rattle.cs_build.specs.Building.{build_refusal_of}
-use Rattle.cs_top.specs.CommandLine.{Command, build, ask, replay, serve, trial, is_number, Ending, done, usage, refused, damaged, absent, failed, no_memory, script_refused, changed}
+use Rattle.cs_top.specs.CommandLine.{Command, build, ask, replay, serve, trial, is_number, Ending, done, usage, refused, damaged, absent, failed, no_memory, script_refused, changed, CausedBy}
 use Rattle.cs_top.specs.Answering.{FileView}
+use Rattle.cs_top.specs.Met.{HasToldSize, OfBytes}
 use Rattle.cs_top.specs.declared.answering.Home.{Home}
 use Rattle.cs_top.specs.declared.answering.Home.TheVariants as homes
 use Rattle.cs_top.specs.declared.collection.CollectionFault.{CollectionFault}
 use Rattle.cs_top.specs.declared.collection.CollectionFault.TheVariants as faults
 use Rattle.cs_top.specs.declared.ending.RunStop.{RunStop}
 use Rattle.cs_top.specs.declared.ending.RunStop.TheVariants as stops
+use Rattle.cs_top.specs.declared.files.HeldFile.{HeldFile}
 use Rattle.cs_top.specs.declared.lines.ScriptFault.{ScriptFault as Unread}
 use Rattle.cs_top.specs.declared.lines.ScriptFault.TheVariants as unread
 use Rattle.cs_top.specs.declared.lines.ScriptStop.{ScriptStop}
@@ -59,10 +64,18 @@ HasNumbers (read.Serve i p n) = (is_number MAX_PORT_DIGITS MAX_PORT p.now ≡ tr
 HasNumbers (read.Trial n) = is_number MAX_TRIAL_DIGITS MAX_TRIAL n.now ≡ true
 HasNumbers c = Unit {0}
 
+-- what is held under its name; nothing is said over files that don't tell
+abbrev pub OfFile : Option Held → HeldFile → (List ℕ → Type 0) → Type 0
+OfFile held f P = OfBytes held f.name.now P
+
+-- its size is that of what is held, maybe none; nothing is said over files that don't tell
+abbrev pub IsSized : Option Held → HeldFile → Type 0
+IsSized held f = HasToldSize held f.name.now f.size
+
 -- one that is made has no name
 abbrev pub home_seen : Home → FileView
 home_seen (homes.Memory s) = record { made = Some s.bytes; name = []; size = 0 }
-home_seen (homes.Files name size) = record { made = None; name = name.now; size = size }
+home_seen (homes.Files f) = record { made = None; name = f.name.now; size = f.size }
 
 -- a fault of its lines, of its rows or of its words names its own refusal; want of memory none
 abbrev pub collection_refusal_of : CollectionFault → Option CollectionRefusal
@@ -99,6 +112,12 @@ stop_ending stops.Changed = changed
 abbrev pub ended : Result (Unit {0}) RunStop → Ending
 ended (Ok x) = done
 ended (Err s) = stop_ending s
+
+-- what is held stays; the count stays too where it gave a value, and else by its stop
+pub record ReadsFiles {T : Type 0} (held held' : Option Held) (before now : ℕ) (r : Result T RunStop) : Type 0 where
+  pub files : held' ≡ held
+  pub quiet : OnOk r (now ≡ before)
+  pub caused : IfErr r (λ s. CausedBy (stop_ending s) before now)
 
 -- a line that is refused, or a call that failed
 abbrev pub of_script : ScriptStop → RunStop

@@ -1,14 +1,12 @@
 //! What answers requests: an engine, over an index file in memory or one that the files hold.
 ghost use Rattle.std.specs.Prelude.{◌≡◌, true, false, Some, None, [], IfErr, IfOk, is_some};
 ghost use Rattle.cs_engine.specs.Asking.{IsChangeIn};
-ghost use Rattle.cs_file.specs.CallAnswers.{is_changed, is_read};
-ghost use Rattle.cs_file.specs.Indexes.{CausedReads};
-ghost use Rattle.cs_model.specs.Corpus.{Corpus};
-ghost use Rattle.cs_model.specs.Parameters.{HoldsLimits};
-ghost use Rattle.cs_model.specs.Requests.{reply_of};
+ghost use Rattle.cs_file.specs.{CallAnswers.{is_changed, is_read}, Indexes.{CausedReads}};
+ghost use Rattle.cs_model.specs.{Corpus.{Corpus}, Parameters.{HoldsLimits}, Requests.{reply_of}};
 ghost use Rattle.cs_query.specs.RequestView.{asked};
 ghost use Rattle.cs_top.specs.Answering.{AnswersOver, IsThere, bytes_there};
 
+use crate::files::HeldFile;
 use cs_base::{FileStore, Files, MemStore};
 use cs_engine::{AskFault, Engine, Note};
 use cs_query::{Reply, Request};
@@ -26,8 +24,8 @@ pub(crate) struct IndexFile<'a> {
 enum Home<'a> {
     // In memory.
     Memory(MemStore),
-    // Among the files, with its name and its size in bytes.
-    Files { name: &'a str, size: u64 },
+    // Among the files.
+    Files(HeldFile<'a>),
 }
 
 impl<'a> Model for IndexFile<'a> {
@@ -49,12 +47,12 @@ impl<'a> IndexFile<'a> {
         }
     }
 
-    /// The file of this name and of so many bytes.
-    pub(crate) fn held(name: &'a str, size: u64) -> IndexFile<'a>
-        ensures { result ≡ record { made = None; name = name.now; size = size } }
+    /// The file that the files hold.
+    pub(crate) fn held(file: HeldFile<'a>) -> IndexFile<'a>
+        ensures { result ≡ record { made = None; name = file.entry.name.now; size = file.entry.size } }
     {
         IndexFile {
-            home: Home::Files { name, size },
+            home: Home::Files(file),
         }
     }
 }
@@ -82,8 +80,8 @@ pub(crate) fn respond<F: Files>(
 {
     match &mut file.home {
         Home::Memory(store) => engine.ask(alloc, store, request),
-        Home::Files { name, size } => {
-            let mut store = FileStore::new(files, name, *size);
+        Home::Files(held) => {
+            let mut store = FileStore::new(files, held.name, held.size);
             engine.ask(alloc, &mut store, request)
         }
     }

@@ -3,15 +3,15 @@ ghost use Rattle.std.specs.Prelude.{◌≡◌, IfOk, IfErr, OnOk};
 ghost use Rattle.std.specs.Option.{ForSome};
 ghost use Rattle.cs_model.specs.Corpus.{corpus};
 ghost use Rattle.cs_top.specs.ScriptRuns.{AskEnds, AskStops, AskTold, IsReady};
-ghost use Rattle.cs_top.specs.CommandLine.{Caused, CausedBy};
+ghost use Rattle.cs_top.specs.CommandLine.{Caused};
 ghost use Rattle.cs_top.specs.Filed.{HasFile, IsFiled};
 ghost use Rattle.cs_top.specs.Met.{HasToldSize, OfBytes, Wrote, wrote};
-ghost use Rattle.cs_top.specs.Views.{ended, stop_ending};
+ghost use Rattle.cs_top.specs.Views.{ReadsFiles, ended, stop_ending};
 
 use crate::answering::IndexFile;
 use crate::collection::read_image;
 use crate::ending::RunStop;
-use crate::files::size_of;
+use crate::files::{HeldFile, size_of};
 use crate::opening::open_image;
 use crate::script::{Came, answer_script};
 use cs_base::{Files, Sink};
@@ -34,7 +34,8 @@ pub(crate) fn ask<'a, F: Files, O: Sink>(
     let (image, size) = prepare(alloc, collection, script, files)?;
     let (mut engine, store) = open_image(alloc, image)?;
     let mut file = IndexFile::made(store);
-    match answer_script(alloc, &mut engine, &mut file, files, script, size, out) {
+    let script = HeldFile { name: script, size };
+    match answer_script(alloc, &mut engine, &mut file, files, script, out) {
         Ok(Came::Answered) => Ok(()),
         Ok(Came::Read) => unreachable!(),
         Ok(Came::Changed) => unreachable!(),
@@ -55,12 +56,14 @@ fn prepare<'a, F: Files>(
     ensures size { IfOk result (λ p. HasToldSize (F.held files.old) script.now p.1) }
     ensures stops { ForSome (F.held files.old) (λ h. IfErr result (λ s. AskStops (stop_ending s) h collection.now script.now)) }
     ensures ends { IfErr result (λ s. (w : Wrote) → w.new ≡ w.old → AskEnds (stop_ending s) collection.now script.now w) }
-    ensures quiet { OnOk result (F.faults files.new ≡ F.faults files.old) }
-    ensures caused { IfErr result (λ s. CausedBy (stop_ending s) (F.faults files.old) (F.faults files.new)) }
-    ensures files { F.held files.new ≡ F.held files.old }
+    ensures reads { ReadsFiles (F.held files.old) (F.held files.new) (F.faults files.old) (F.faults files.new) result }
 {
-    let collection_size = size_of(files, collection)?;
+    let size = size_of(files, collection)?;
     let script_size = size_of(files, script)?;
-    let image = read_image(alloc, files, collection, collection_size)?;
+    let collection = HeldFile {
+        name: collection,
+        size,
+    };
+    let image = read_image(alloc, files, collection)?;
     Ok((image, script_size))
 }

@@ -1,17 +1,12 @@
 //! A collection that is read, and made into the corpus that is searched.
-ghost use Rattle.std.specs.Prelude.{◌≡◌, None, IfOk, IfErr, OnOk};
-ghost use Rattle.std.specs.Option.{option_map};
+ghost use Rattle.std.specs.{Option.{option_map}, Prelude.{◌≡◌, None, IfOk, IfErr, OnOk}};
 ghost use Rattle.cs_docs.specs.FaultRefusals.{reason_text};
-ghost use Rattle.cs_model.specs.Collection.{refusal_words};
-ghost use Rattle.cs_model.specs.Corpus.{corpus, refusal};
-ghost use Rattle.cs_top.specs.CommandLine.{CausedBy};
-ghost use Rattle.cs_top.specs.Filed.{HasFile, IsFiled};
-ghost use Rattle.cs_top.specs.Met.{HasToldSize, OfBytes};
-ghost use Rattle.cs_top.specs.Trial.{HasSizes};
-ghost use Rattle.cs_top.specs.Views.{IsCollectionCause, IsStopCause, IsOfCollection, collection_refusal_of, stop_ending};
+ghost use Rattle.cs_model.specs.{Collection.{refusal_words}, Corpus.{corpus, refusal}};
+ghost use Rattle.cs_top.specs.{Filed.{HasFile, IsFiled}, Trial.{HasSizes}};
+ghost use Rattle.cs_top.specs.Views.{IsCollectionCause, IsOfCollection, IsSized, IsStopCause, OfFile, ReadsFiles, collection_refusal_of};
 
 use crate::ending::RunStop;
-use crate::files::read_all;
+use crate::files::{HeldFile, read_all};
 use cs_base::{Files, MAX_COLLECTION_BYTES};
 use cs_build::{BuildFault, image};
 use cs_docs::{DocFault, Reason, RowsFault, read_docs, rows_of};
@@ -54,28 +49,25 @@ pub(crate) struct Imaged {
     pub rows: usize,
 }
 
-/// The image of a collection of this size.
+/// The image of a collection.
 pub(crate) fn read_image<'a, F: Files>(
     alloc: Global,
     files: &mut F,
-    name: &str,
-    size: u64,
+    collection: HeldFile<'_>,
 ) -> Result<Image, RunStop<'a>>
-    requires size { HasToldSize (F.held files.old) name.now size }
+    requires size { IsSized (F.held files.old) collection }
 
-    ensures ok { OfBytes (F.held files.old) name.now (λ b. IfOk result (IsFiled (corpus b))) }
-    ensures accepted { OfBytes (F.held files.old) name.now (λ b. OnOk result (refusal b ≡ None)) }
-    ensures cause { OfBytes (F.held files.old) name.now (λ b. IfErr result (λ s. IsStopCause b s)) }
+    ensures ok { OfFile (F.held files.old) collection.entry (λ b. IfOk result (IsFiled (corpus b))) }
+    ensures accepted { OfFile (F.held files.old) collection.entry (λ b. OnOk result (refusal b ≡ None)) }
+    ensures cause { OfFile (F.held files.old) collection.entry (λ b. IfErr result (λ s. IsStopCause b s)) }
     ensures file { IfOk result HasFile }
     ensures kind { IfErr result IsOfCollection }
-    ensures quiet { OnOk result (F.faults files.new ≡ F.faults files.old) }
-    ensures caused { IfErr result (λ s. CausedBy (stop_ending s) (F.faults files.old) (F.faults files.new)) }
-    ensures files { F.held files.new ≡ F.held files.old }
+    ensures reads { ReadsFiles (F.held files.old) (F.held files.new) (F.faults files.old) (F.faults files.new) result }
 {
-    if size > MAX_COLLECTION_BYTES as u64 {
+    if collection.size > MAX_COLLECTION_BYTES as u64 {
         return Err(RunStop::Collection(CollectionFault::Documents(DocFault::TooLarge)));
     }
-    let bytes = read_all(alloc, files, name, size)?;
+    let bytes = read_all(alloc, files, collection)?;
     match image_of(alloc, &bytes) {
         Ok(imaged) => Ok(imaged.image),
         Err(fault) => Err(RunStop::Collection(fault)),
@@ -92,47 +84,14 @@ pub(crate) fn image_of(alloc: Global, bytes: &[u8]) -> Result<Imaged, Collection
     // Each fault but want of memory is the first refusal.
     ensures err { IfErr result (λ e. IsCollectionCause bytes.now e) }
 {
-    let docs = read_docs(alloc, bytes)?;
-    let rows = rows_of(alloc, &docs)?;
+    let docs = read_docs(alloc, bytes).map_err(CollectionFault::Documents)?;
+    let rows = rows_of(alloc, &docs).map_err(CollectionFault::Rows)?;
     let document_count = docs.len();
     let row_count = rows.len();
-    let image = image(alloc, rows, docs, TARGET)?;
+    let image = image(alloc, rows, docs, TARGET).map_err(CollectionFault::Words)?;
     Ok(Imaged {
         image,
         documents: document_count,
         rows: row_count,
     })
-}
-
-impl From<BuildFault> for CollectionFault {
-    ghost use Rattle.std.specs.Prelude.{◌≡◌};
-    ghost use Rattle.cs_top.specs.declared.collection.CollectionFault.TheVariants.{Words};
-
-    ghost from_gives = { λ fault result. result ≡ Words fault };
-
-    fn from(fault: BuildFault) -> CollectionFault {
-        CollectionFault::Words(fault)
-    }
-}
-
-impl From<DocFault> for CollectionFault {
-    ghost use Rattle.std.specs.Prelude.{◌≡◌};
-    ghost use Rattle.cs_top.specs.declared.collection.CollectionFault.TheVariants.{Documents};
-
-    ghost from_gives = { λ fault result. result ≡ Documents fault };
-
-    fn from(fault: DocFault) -> CollectionFault {
-        CollectionFault::Documents(fault)
-    }
-}
-
-impl From<RowsFault> for CollectionFault {
-    ghost use Rattle.std.specs.Prelude.{◌≡◌};
-    ghost use Rattle.cs_top.specs.declared.collection.CollectionFault.TheVariants.{Rows};
-
-    ghost from_gives = { λ fault result. result ≡ Rows fault };
-
-    fn from(fault: RowsFault) -> CollectionFault {
-        CollectionFault::Rows(fault)
-    }
 }

@@ -3,7 +3,8 @@ ghost use Rattle.std.specs.Prelude.{◌≡◌, ◌++◌, ◌∷◌, []};
 ghost use Rattle.cs_docs.specs.FaultRefusals.{reason_text};
 ghost use Rattle.cs_top.specs.CommandLine.{status, line_of, SaysLine};
 ghost use Rattle.cs_top.specs.Met.{wrote};
-ghost use Rattle.cs_top.specs.Views.{collection_ending, collection_refusal_of, ended, said_text, stop_ending};
+ghost use Rattle.cs_top.specs.Views.{collection_ending, collection_refusal_of, ended, of_script, said_text, stop_ending};
+ghost use Rattle.cs_top.specs.declared.ending.RunStop.{RunStop};
 
 use crate::collection::CollectionFault;
 use crate::lines::{ScriptFault, ScriptStop};
@@ -79,9 +80,6 @@ impl<'a> RunStop<'a> {
 }
 
 impl From<Failed> for RunStop<'_> {
-    ghost use Rattle.std.specs.Prelude.{◌≡◌};
-    ghost use Rattle.cs_top.specs.declared.ending.RunStop.{RunStop};
-
     ghost from_gives = { λ _ stop. stop ≡ RunStop.Failed };
 
     fn from(_: Failed) -> Self {
@@ -90,9 +88,6 @@ impl From<Failed> for RunStop<'_> {
 }
 
 impl From<Memory> for RunStop<'_> {
-    ghost use Rattle.std.specs.Prelude.{◌≡◌};
-    ghost use Rattle.cs_top.specs.declared.ending.RunStop.{RunStop};
-
     ghost from_gives = { λ _ stop. stop ≡ RunStop.Memory };
 
     fn from(_: Memory) -> Self {
@@ -101,9 +96,6 @@ impl From<Memory> for RunStop<'_> {
 }
 
 impl From<ScriptStop> for RunStop<'_> {
-    ghost use Rattle.std.specs.Prelude.{◌≡◌};
-    ghost use Rattle.cs_top.specs.Views.{of_script};
-
     ghost from_gives = { λ stop result. result ≡ of_script stop };
 
     fn from(stop: ScriptStop) -> Self {

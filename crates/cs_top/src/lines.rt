@@ -5,10 +5,11 @@ ghost use Rattle.cs_base.specs.outside.Causes.{Counted};
 ghost use Rattle.cs_docs.specs.FaultRefusals.{reason_text};
 ghost use Rattle.cs_model.specs.Collection.{without_mark};
 ghost use Rattle.cs_model.specs.Outputs.{fault_words, line_fault};
-ghost use Rattle.cs_top.specs.Met.{HasToldSize, OfBytes};
 ghost use Rattle.cs_top.specs.ScriptEndings.{IsFirstLine};
-ghost use Rattle.cs_top.specs.Views.{fault_seen};
+ghost use Rattle.cs_top.specs.Views.{IsSized, OfFile, fault_seen};
+ghost use Rattle.cs_top.specs.declared.lines.ScriptStop.{ScriptStop};
 
+use crate::files::HeldFile;
 use cs_base::{Failed, Files, MAX_SCRIPT_LINE_BYTES};
 use cs_docs::{BYTE_ORDER_MARK, Reason, first_end};
 use std::str;
@@ -62,9 +63,6 @@ impl ScriptFault {
 }
 
 impl From<Failed> for ScriptStop {
-    ghost use Rattle.std.specs.Prelude.{◌≡◌};
-    ghost use Rattle.cs_top.specs.declared.lines.ScriptStop.{ScriptStop};
-
     ghost from_gives = { λ _ stop. stop ≡ ScriptStop.Failed };
 
     fn from(_: Failed) -> ScriptStop {
@@ -82,19 +80,19 @@ pub(crate) struct Place {
 }
 
 /// The place of a file's first line: behind the mark EF BB BF, if it stands in front.
-pub(crate) fn first_place<F: Files>(files: &mut F, name: &str, size: u64) -> Result<u64, Failed>
-    requires size { HasToldSize (F.held files.old) name.now size }
+pub(crate) fn first_place<F: Files>(files: &mut F, file: HeldFile<'_>) -> Result<u64, Failed>
+    requires size { IsSized (F.held files.old) file }
 
-    ensures mark { OfBytes (F.held files.old) name.now (λ b. IfOk result (λ at. without_mark b ≡ drop at b)) }
-    ensures within { IfOk result (λ at. at ≤ size) }
+    ensures mark { OfFile (F.held files.old) file.entry (λ b. IfOk result (λ at. without_mark b ≡ drop at b)) }
+    ensures within { IfOk result (λ at. at ≤ file.entry.size) }
     ensures same { F.held files.new ≡ F.held files.old }
     ensures counted { Counted (F.faults files.old) (F.faults files.new) result }
 {
-    if size < MARK_BYTES as u64 {
+    if file.size < MARK_BYTES as u64 {
         return Ok(0);
     }
     let mut front = [0u8; MARK_BYTES];
-    files.read_at(name, 0, &mut front)?;
+    files.read_at(file.name, 0, &mut front)?;
     Ok(if front == BYTE_ORDER_MARK {
         MARK_BYTES as u64
     } else {
@@ -106,24 +104,23 @@ pub(crate) fn first_place<F: Files>(files: &mut F, name: &str, size: u64) -> Res
 /// behind it. A line of more than `MAX_SCRIPT_LINE_BYTES` may be cut, but never to so few.
 pub(crate) fn read_line<F: Files>(
     files: &mut F,
-    name: &str,
-    size: u64,
+    file: HeldFile<'_>,
     at: u64,
     buffer: &mut [u8],
 ) -> Result<(usize, u64), Failed>
-    requires size { HasToldSize (F.held files.old) name.now size }
-    requires within { at < size }
+    requires size { IsSized (F.held files.old) file }
+    requires within { at < file.size }
     requires room { length buffer.old ≡ WINDOW_BYTES }
 
-    ensures line { OfBytes (F.held files.old) name.now (λ b. IfOk result (λ r. IsFirstLine (drop at b) (take r.0 buffer.new) (drop r.1 b))) }
+    ensures line { OfFile (F.held files.old) file.entry (λ b. IfOk result (λ r. IsFirstLine (drop at b) (take r.0 buffer.new) (drop r.1 b))) }
     ensures len { IfOk result (λ r. r.0 ≤ WINDOW_BYTES) }
-    ensures next { IfOk result (λ r. (at < r.1) × (r.1 ≤ size)) }
+    ensures next { IfOk result (λ r. (at < r.1) × (r.1 ≤ file.entry.size)) }
     ensures same { F.held files.new ≡ F.held files.old }
     ensures counted { Counted (F.faults files.old) (F.faults files.new) result }
 {
-    let room = (size - at).min(WINDOW_BYTES as u64) as usize;
+    let room = (file.size - at).min(WINDOW_BYTES as u64) as usize;
     let window = &mut buffer[..room];
-    files.read_at(name, at, window)?;
+    files.read_at(file.name, at, window)?;
     let (len, next) = first_end(window);
     Ok((len, at + next as u64))
 }

@@ -1,41 +1,37 @@
 //! Index files that are opened: among the files, and of an image in memory.
-ghost use Rattle.std.specs.Prelude.{◌≡◌, ℕ, List, [], Some, IfErr, IfOk, OnOk};
+ghost use Rattle.std.specs.Prelude.{◌≡◌, ℕ, List, [], Some, IfErr, IfOk};
 ghost use Rattle.cs_base.specs.outside.Outside.{file_bytes};
 ghost use Rattle.cs_engine.specs.Keeping.{AreGood};
 ghost use Rattle.cs_file.specs.Indexes.{HasAllBlocks, StandsFor};
 ghost use Rattle.cs_model_index.specs.Layout.{file};
 ghost use Rattle.cs_model_kept.specs.declared.limits.TheConstants.{MAX_ENTRIES};
-ghost use Rattle.cs_top.specs.CommandLine.{CausedBy};
 ghost use Rattle.cs_top.specs.Filed.{HasFile};
-ghost use Rattle.cs_top.specs.Met.{HasToldSize, OfBytes};
-ghost use Rattle.cs_top.specs.Views.{IsDamage, IsOfIndex, stop_ending};
+ghost use Rattle.cs_top.specs.Views.{IsDamage, IsOfIndex, IsSized, OfFile, ReadsFiles};
 
 use crate::ending::RunStop;
+use crate::files::HeldFile;
 use cs_base::{FileStore, Files, MemSink, MemStore, Memory};
 use cs_engine::Engine;
 use cs_file::{Image, Index, OpenFault, WriteFault, open_index, write_index};
 use cs_model_kept::MAX_ENTRIES;
 use std::alloc::Global;
 
-/// The engine of an index file of this size, with nothing kept.
+/// The engine of an index file, with nothing kept.
 pub(crate) fn open<'a, F: Files>(
     alloc: Global,
     files: &mut F,
-    name: &str,
-    size: u64,
+    index: HeldFile<'_>,
 ) -> Result<Engine, RunStop<'a>>
-    requires size { HasToldSize (F.held files.old) name.now size }
+    requires size { IsSized (F.held files.old) index }
 
-    ensures ok { OfBytes (F.held files.old) name.now (λ b. IfOk result (λ e. StandsFor b e.index)) }
+    ensures ok { OfFile (F.held files.old) index.entry (λ b. IfOk result (λ e. StandsFor b e.index)) }
     ensures good { (b : List ℕ) → IfOk result (AreGood b) }
-    ensures damaged { OfBytes (F.held files.old) name.now (λ b. IfErr result (IsDamage b)) }
-    ensures fits { IfOk result (λ e. HasAllBlocks (file_bytes (F.held files.new) name.now) e.index) }
+    ensures damaged { OfFile (F.held files.old) index.entry (λ b. IfErr result (IsDamage b)) }
+    ensures fits { IfOk result (λ e. HasAllBlocks (file_bytes (F.held files.new) index.entry.name.now) e.index) }
     ensures kind { IfErr result IsOfIndex }
-    ensures quiet { OnOk result (F.faults files.new ≡ F.faults files.old) }
-    ensures caused { IfErr result (λ s. CausedBy (stop_ending s) (F.faults files.old) (F.faults files.new)) }
-    ensures files { F.held files.new ≡ F.held files.old }
+    ensures reads { ReadsFiles (F.held files.old) (F.held files.new) (F.faults files.old) (F.faults files.new) result }
 {
-    let mut store = FileStore::new(files, name, size);
+    let mut store = FileStore::new(files, index.name, index.size);
     match open_index(alloc, &mut store) {
         Ok(index) => Ok(engine_of(alloc, index)?),
         Err(OpenFault::Damaged { rule, at }) => Err(RunStop::Damaged { rule, at }),

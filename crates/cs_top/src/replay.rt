@@ -7,7 +7,7 @@ ghost use Rattle.cs_top.specs.Views.{ended};
 
 use crate::answering::IndexFile;
 use crate::ending::RunStop;
-use crate::files::size_of;
+use crate::files::{HeldFile, size_of};
 use crate::opening::open;
 use crate::script::{Came, answer_script};
 use cs_base::{Files, Sink};
@@ -29,17 +29,14 @@ pub(crate) fn replay<'a, F: Files, O: Sink>(
 {
     let size = size_of(files, index)?;
     let script_size = size_of(files, script)?;
-    let mut engine = open(alloc, files, index, size)?;
-    let mut file = IndexFile::held(index, size);
-    match answer_script(
-        alloc,
-        &mut engine,
-        &mut file,
-        files,
-        script,
-        script_size,
-        out,
-    ) {
+    let index = HeldFile { name: index, size };
+    let mut engine = open(alloc, files, index)?;
+    let mut file = IndexFile::held(index);
+    let script = HeldFile {
+        name: script,
+        size: script_size,
+    };
+    match answer_script(alloc, &mut engine, &mut file, files, script, out) {
         Ok(Came::Answered) => Ok(()),
         Ok(Came::Read) => Err(RunStop::Failed),
         Ok(Came::Changed) => Err(RunStop::Changed),

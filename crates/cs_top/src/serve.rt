@@ -1,6 +1,5 @@
 //! `serve INDEX PORT CONNS`: requests of connections that are answered over an index file.
-ghost use Rattle.std.specs.Prelude.{◌≡◌, ◌≢◌, ◌≤◌, ◌⊎◌, ℕ, List, true, false, IfErr, IfOk, OnErr, OnOk};
-ghost use Rattle.std.specs.FinSet as set;
+ghost use Rattle.std.specs.Prelude.{◌≡◌, ◌≤◌, ◌⊎◌, ℕ, List, true, IfErr, IfOk, OnErr, OnOk};
 ghost use Rattle.std.specs.Option.{ForSome};
 ghost use Rattle.cs_base.specs.outside.Causes.{Rose};
 ghost use Rattle.cs_base.specs.outside.Hub.{IsOrderly, listens};
@@ -8,16 +7,15 @@ ghost use Rattle.cs_base.specs.outside.Outside.{GrewByPrefix, file_bytes};
 ghost use Rattle.cs_base.specs.declared.content.limits.TheConstants.{MAX_PORT_DIGITS, MAX_PORT, MAX_CONNECTIONS_DIGITS, MAX_CONNECTIONS};
 ghost use Rattle.cs_engine.specs.Keeping.{AreGood};
 ghost use Rattle.cs_file.specs.Indexes.{HasAllBlocks, StandsFor};
-ghost use Rattle.cs_hub.specs.HubFollowing.{AreServed};
-ghost use Rattle.cs_hub.specs.Speaking.{AreUnbroken};
+ghost use Rattle.cs_hub.specs.{Ending.{Ends}, HubFollowing.{AreServed}, Speaking.{AreUnbroken}};
 ghost use Rattle.cs_model_index.specs.Sections.{file_corpus};
-ghost use Rattle.cs_top.specs.CommandLine.{CausedBy, is_number};
+ghost use Rattle.cs_top.specs.CommandLine.{is_number};
 ghost use Rattle.cs_top.specs.Met.{HasToldSize, Listened, OfBytes, Wrote, listened, wrote};
 ghost use Rattle.cs_top.specs.Serve.{CanServe, HasToldPort, HasStopped, IsListening, IsUntouched, ServeCaused, ServeEnds, ServeTold, serving_line};
-ghost use Rattle.cs_top.specs.Views.{ended, stop_ending};
+ghost use Rattle.cs_top.specs.Views.{IsSized, OfFile, ReadsFiles, ended, stop_ending};
 
 use crate::ending::RunStop;
-use crate::files::size_of;
+use crate::files::{HeldFile, size_of};
 use crate::opening::open;
 use crate::said::put_all;
 use crate::words::{conns_of, port_of};
@@ -46,7 +44,8 @@ pub(crate) fn serve<'a, F: Files, H: Hub, O: Sink>(
 {
     let (mut engine, size) = prepare(alloc, files, index)?;
     begin(hub, out, port, conns)?;
-    match serve_file(alloc, &mut engine, files, index, size, hub, conns_of(conns)) {
+    let file = HeldFile { name: index, size };
+    match serve_file(alloc, &mut engine, files, file, hub, conns_of(conns)) {
         ServeEnd::Done => Ok(()),
         ServeEnd::HubFailed => Err(RunStop::Failed),
         ServeEnd::Memory => Err(RunStop::Memory),
@@ -64,14 +63,12 @@ fn prepare<'a, F: Files>(
     ensures good { (b : List ℕ) → IfOk result (λ p. AreGood b p.0) }
     ensures ready { ForSome (F.held files.old) (λ h. OnOk result (CanServe h index.now)) }
     ensures fits { IfOk result (λ p. HasAllBlocks (file_bytes (F.held files.new) index.now) p.0.index) }
-    ensures ends { IfErr result (λ s. (p : List ℕ) → (n : List ℕ) → (w : Wrote) → (net : Listened) → IsUntouched w net → net.now ≡ net.before → ServeEnds (stop_ending s) index.now p n w net) }
-    ensures told { ForSome (F.held files.old) (λ h. IfErr result (λ s. (p : List ℕ) → (n : List ℕ) → (before : ℕ) → (now : ℕ) → (w : Wrote) → (net : Listened) → IsUntouched w net → net.now ≡ net.before → ServeTold (stop_ending s) h index.now p n before now w net)) }
-    ensures quiet { OnOk result (F.faults files.new ≡ F.faults files.old) }
-    ensures caused { IfErr result (λ s. CausedBy (stop_ending s) (F.faults files.old) (F.faults files.new)) }
-    ensures files { F.held files.new ≡ F.held files.old }
+    ensures ends { IfErr result (λ s. (p : List ℕ) → (n : List ℕ) → (w : Wrote) → (net : Listened) → IsUntouched w net → net.new.faults ≡ net.old.faults → ServeEnds (stop_ending s) index.now p n w net) }
+    ensures told { ForSome (F.held files.old) (λ h. IfErr result (λ s. (p : List ℕ) → (n : List ℕ) → (before : ℕ) → (now : ℕ) → (w : Wrote) → (net : Listened) → IsUntouched w net → net.new.faults ≡ net.old.faults → ServeTold (stop_ending s) h index.now p n before now w net)) }
+    ensures reads { ReadsFiles (F.held files.old) (F.held files.new) (F.faults files.old) (F.faults files.new) result }
 {
     let size = size_of(files, index)?;
-    let engine = open(alloc, files, index, size)?;
+    let engine = open(alloc, files, HeldFile { name: index, size })?;
     Ok((engine, size))
 }
 
@@ -102,34 +99,28 @@ fn put_line<O: Sink>(out: &mut O, port: &str) -> Result<(), Failed>
     put_all(out, &[b"serving ", port.as_bytes(), b"\n"])
 }
 
-// Serves over a file of this size.
+// Serves over a file.
 fn serve_file<F: Files, H: Hub>(
     alloc: Global,
     engine: &mut Engine,
     files: &mut F,
-    name: &str,
-    size: u64,
+    file: HeldFile<'_>,
     hub: &mut H,
     conns: u32,
 ) -> ServeEnd
-    requires size { HasToldSize (F.held files.old) name.now size }
-    requires fits { HasAllBlocks (file_bytes (F.held files.old) name.now) engine.old.index }
+    requires size { IsSized (F.held files.old) file }
+    requires fits { HasAllBlocks (file_bytes (F.held files.old) file.name.now) engine.old.index }
     requires listens { (port : ℕ) × (H.state hub.old ≡ listens port conns) }
     requires orderly { IsOrderly (H.state hub.old) (H.talk hub.old) }
 
-    ensures served { OfBytes (F.held files.old) name.now (λ b. StandsFor b engine.old.index → AreGood b engine.old → AreServed (file_corpus b) (H.state hub.new) (H.talk hub.new) (F.faults files.old) (F.faults files.new)) }
-    ensures done { result ≡ ServeEnd.Done → ((c : ℕ) → set.contains (H.state hub.new).live c ≡ false) × (((H.state hub.new).opened ≡ conns) ⊎ ((H.state hub.new).over ≡ true)) }
-    ensures hub_failed { result ≡ ServeEnd.HubFailed → Rose (H.faults hub.old) (H.faults hub.new) }
+    ensures served { OfFile (F.held files.old) file.entry (λ b. StandsFor b engine.old.index → AreGood b engine.old → AreServed (file_corpus b) (H.state hub.new) (H.talk hub.new) (F.faults files.old) (F.faults files.new)) }
+    ensures ends { Ends result conns (H.state hub.old) (H.state hub.new) (H.faults hub.old) (H.faults hub.new) }
     ensures memory { result ≡ ServeEnd.Memory → (H.state hub.new ≡ H.state hub.old) × (H.talk hub.new ≡ H.talk hub.old) × (F.faults files.new ≡ F.faults files.old) × (H.send_faults hub.new ≡ H.send_faults hub.old) }
-    ensures quiet { result ≢ ServeEnd.HubFailed → H.faults hub.new ≡ H.faults hub.old }
-    ensures hub_later { H.faults hub.old ≤ H.faults hub.new }
     ensures unbroken { ¬ Rose (H.send_faults hub.old) (H.send_faults hub.new) → ForSome (H.talk hub.new) AreUnbroken }
     ensures sends_later { H.send_faults hub.old ≤ H.send_faults hub.new }
-    ensures port { (H.state hub.new).port ≡ (H.state hub.old).port }
-    ensures conns { (H.state hub.new).conns ≡ conns }
     ensures files { F.held files.new ≡ F.held files.old }
     ensures later { F.faults files.old ≤ F.faults files.new }
 {
-    let mut store = FileStore::new(files, name, size);
+    let mut store = FileStore::new(files, file.name, file.size);
     cs_hub::serve(alloc, engine, &mut store, hub, conns)
 }

@@ -1,16 +1,12 @@
 //! `trial N`: what is typed over the collection of a number is asked, and what came of it is told.
 ghost use Rattle.std.specs.Prelude.{◌≡◌, ◌≤◌, ◌+◌, ◌++◌, ◌∷◌, ◌^◌, [], ℕ, List, All, IfOk, OnOk, Some, length, map, true};
-ghost use Rattle.cs_base.specs.declared.content.query.Query.{Query};
-ghost use Rattle.cs_base.specs.declared.content.limits.TheConstants.{MAX_TRIAL, MAX_TRIAL_DIGITS};
+ghost use Rattle.cs_base.specs.declared.content.{limits.TheConstants.{MAX_TRIAL, MAX_TRIAL_DIGITS}, query.Query.{Query}};
 ghost use Rattle.cs_file.specs.Indexes.{HasAllBlocks, StandsFor};
 ghost use Rattle.cs_model.specs.Parameters.{HoldsLimits};
 ghost use Rattle.cs_model_trial.specs.Summary.{IsSummary, trial_corpus};
 ghost use Rattle.cs_query.specs.RequestView.{asked};
-ghost use Rattle.cs_top.specs.CommandLine.{CausedBy, is_number};
-ghost use Rattle.cs_top.specs.Filed.{HasFile, IsFiled};
-ghost use Rattle.cs_top.specs.Met.{wrote};
-ghost use Rattle.cs_top.specs.Trial.{AreFew, HasAsked, HasSizes, TrialEnds, sizes_of, with_reply};
-ghost use Rattle.cs_top.specs.Views.{ended};
+ghost use Rattle.cs_top.specs.{CommandLine.{CausedBy, is_number}, Filed.{HasFile, IsFiled}, Met.{wrote}, Views.{ended}};
+ghost use Rattle.cs_top.specs.Trial.{AreFew, HasAsked, HasSizes, IsSteady, TrialEnds, sizes_of, with_reply};
 ghost use Rattle.cs_trial.specs.declared.counts.Counts.{Counts};
 
 use crate::collection::{Imaged, image_of};
@@ -130,8 +126,7 @@ fn ask_one(
     ensures asked { (qs : List Query) → HasAsked store.old.bytes qs engine.old counts.old → OnOk result (HasAsked store.new.bytes (qs ++ request.now.query ∷ []) engine.new counts.new) }
     ensures few { (n : ℕ) → AreFew n counts.old → OnOk result (AreFew (n + 1) counts.new) }
     ensures sizes { OnOk result (sizes_of counts.new ≡ sizes_of counts.old) }
-    ensures index { engine.new.index ≡ engine.old.index }
-    ensures bytes { store.new.bytes ≡ store.old.bytes }
+    ensures steady { IsSteady store.old.bytes store.new.bytes engine.old engine.new }
 {
     let (reply, note) = answer(alloc, engine, store, request)?;
     count(counts, note.plan, reply.total_hits);
@@ -150,8 +145,7 @@ fn answer(
     requires fits { HasAllBlocks (Some store.old.bytes) engine.old.index }
 
     ensures asked { (qs : List Query) → (c : Counts) → HasAsked store.old.bytes qs engine.old c → IfOk result (λ r. HasAsked store.new.bytes (qs ++ request.now.query ∷ []) engine.new (with_reply r.1.plan r.0.total_hits c)) }
-    ensures index { engine.new.index ≡ engine.old.index }
-    ensures bytes { store.new.bytes ≡ store.old.bytes }
+    ensures steady { IsSteady store.old.bytes store.new.bytes engine.old engine.new }
 {
     match engine.ask(alloc, store, request) {
         Ok(answer) => Ok(answer),

@@ -8,7 +8,7 @@ mod saving;
 
 use crate::collection::read_image;
 use crate::ending::RunStop;
-use crate::files::size_of;
+use crate::files::{HeldFile, size_of};
 use cs_base::Files;
 use saving::save;
 use std::alloc::Global;
@@ -25,7 +25,11 @@ pub(crate) fn build<'a, F: Files>(
     ensures caused { CausedBy (ended result) (F.faults files.old) (F.faults files.new) }
 {
     let size = size_of(files, collection)?;
-    let image = read_image(alloc, files, collection, size)?;
+    let collection = HeldFile {
+        name: collection,
+        size,
+    };
+    let image = read_image(alloc, files, collection)?;
     save(alloc, &image, files, index)?;
     Ok(())
 }

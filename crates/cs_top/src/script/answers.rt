@@ -10,7 +10,7 @@ ghost use Rattle.cs_model.specs.Parameters.{HoldsLimits};
 ghost use Rattle.cs_model.specs.Replies.{reply_text};
 ghost use Rattle.cs_query.specs.RequestView.{asked};
 ghost use Rattle.cs_query.specs.declared.request.ReqFault.{ReqFault};
-ghost use Rattle.cs_top.specs.Answering.{AnswersOver, CameCounts, HasReply, HasText, IsThere, MayAnswer, StaysOver, bytes_there, came_of_answer, line_bytes};
+ghost use Rattle.cs_top.specs.Answering.{AnswersOver, CameOver, HasReply, HasText, IsThere, MayAnswer, StaysOver, bytes_there, came_of_answer, line_bytes};
 ghost use Rattle.cs_top.specs.CommandLine.{CausedBy};
 ghost use Rattle.cs_top.specs.declared.script.answers.Answer.TheVariants as answers;
 ghost use Rattle.cs_top.specs.Met.{wrote};
@@ -42,9 +42,6 @@ enum Answer {
 }
 
 impl From<Memory> for Answer {
-    ghost use Rattle.std.specs.Prelude.{◌≡◌};
-    ghost use Rattle.cs_top.specs.declared.script.answers.Answer.TheVariants as answers;
-
     ghost from_gives = { λ _ e. e ≡ answers.Memory };
 
     fn from(_: Memory) -> Answer {
@@ -67,13 +64,11 @@ pub(crate) fn answer_line<F: Files, O: Sink>(
     ensures ok { (k : Corpus) → AnswersOver engine.old file.old (F.held files.old) k → IfOk result (λ came. Passes (MayAnswer file.old k) (number, line.now) (O.written out.old) (O.written out.new) came (F.faults files.old) (F.faults files.new)) }
     ensures err { (k : Corpus) → AnswersOver engine.old file.old (F.held files.old) k → IfErr result (λ s. StopsAt (MayAnswer file.old k) (stop_ending (of_script s)) (number, line.now)
         (wrote O.written O.faults out.old out.new) (F.faults files.old) (F.faults files.new)) }
-    ensures unchanged { (k : Corpus) → AnswersOver engine.old file.old (F.held files.old) k → IfOk result (λ came. came ≢ Came.Changed) }
+    ensures came { IfOk result (λ came. CameOver engine.old file.old (F.held files.old) came (F.faults files.old) (F.faults files.new)) }
     ensures puts { IfOk result (λ came. PutsLine came (O.written out.old) (O.written out.new)) }
     ensures cuts { IfErr result (λ s. CutsLine (stop_ending (of_script s)) (wrote O.written O.faults out.old out.new)) }
     ensures over { StaysOver engine.old engine.new file.old file.new (F.held files.old) (F.held files.new) }
-    ensures counts { IfOk result (λ came. CameCounts came (F.faults files.old) (F.faults files.new)) }
     ensures later { F.faults files.old ≤ F.faults files.new }
-    ensures unread { is_some file.old.made ≡ true → IfOk result (λ came. came ≢ Came.Read) }
     ensures made { is_some file.old.made ≡ true → F.faults files.new ≡ F.faults files.old }
     ensures quiet { OnOk result (O.faults out.new ≡ O.faults out.old) }
     ensures caused { IfErr result (λ s. CausedBy (stop_ending (of_script s)) (O.faults out.old) (O.faults out.new)) }
@@ -145,12 +140,10 @@ fn answer_params<F: Files>(
 ) -> Answer
     requires there { IsThere engine.old.index file.old (F.held files.old) }
 
-    ensures unchanged { (k : Corpus) → AnswersOver engine.old file.old (F.held files.old) k → came_of_answer result ≢ Came.Changed }
+    ensures came { CameOver engine.old file.old (F.held files.old) (came_of_answer result) (F.faults files.old) (F.faults files.new) }
     ensures text { (k : Corpus) → AnswersOver engine.old file.old (F.held files.old) k → HasText (MayAnswer file.old k) line.now result }
     ensures texts { HasTextBy result }
-    ensures unread { is_some file.old.made ≡ true → came_of_answer result ≢ Came.Read }
     ensures over { StaysOver engine.old engine.new file.old file.new (F.held files.old) (F.held files.new) }
-    ensures counts { CameCounts (came_of_answer result) (F.faults files.old) (F.faults files.new) }
 {
     match request(alloc, line) {
         Ok(wanted) => answer_request(alloc, engine, file, files, &wanted),
@@ -169,13 +162,11 @@ fn answer_request<F: Files>(
     requires limits { HoldsLimits (asked wanted.now) }
     requires there { IsThere engine.old.index file.old (F.held files.old) }
 
-    ensures unchanged { (k : Corpus) → AnswersOver engine.old file.old (F.held files.old) k → came_of_answer result ≢ Came.Changed }
+    ensures came { CameOver engine.old file.old (F.held files.old) (came_of_answer result) (F.faults files.old) (F.faults files.new) }
     ensures text { (k : Corpus) → AnswersOver engine.old file.old (F.held files.old) k → HasReply k (asked wanted.now) result }
     ensures texts { HasTextBy result }
     ensures changed { IsChangeLine engine.old.index (bytes_there file.old (F.held files.old)) result }
-    ensures unread { is_some file.old.made ≡ true → came_of_answer result ≢ Came.Read }
     ensures over { StaysOver engine.old engine.new file.old file.new (F.held files.old) (F.held files.new) }
-    ensures counts { CameCounts (came_of_answer result) (F.faults files.old) (F.faults files.new) }
 {
     match respond(alloc, engine, file, files, wanted) {
         Ok((reply, _)) => text_or_memory(reply_line(alloc, &reply)),

@@ -1,17 +1,18 @@
 //! A script, answered line by line while it is read.
-ghost use Rattle.std.specs.Prelude.{◌≡◌, ◌≢◌, ◌<◌, ◌≤◌, ℕ, true, List, IfOk, IfErr, OnOk, is_some};
+ghost use Rattle.std.specs.Prelude.{◌≡◌, ◌<◌, ◌≤◌, ℕ, List, IfOk, IfErr, OnOk, is_some};
 ghost use Rattle.cs_model.specs.Corpus.{Corpus};
 ghost use Rattle.cs_model.specs.Outputs.{script_lines};
-ghost use Rattle.cs_top.specs.Answering.{AnswersOver, CameCounts, IsThere, MayAnswer, worst};
+ghost use Rattle.cs_top.specs.Answering.{AnswersOver, CameOver, IsThere, MayAnswer, StaysOver, worst};
 ghost use Rattle.cs_top.specs.CommandLine.{done};
-ghost use Rattle.cs_top.specs.Met.{HasToldSize, OfBytes, wrote};
+ghost use Rattle.cs_top.specs.Met.{wrote};
 ghost use Rattle.cs_top.specs.PutTexts.{CutsLine, EndsBy, PutsLine, PutsTexts};
 ghost use Rattle.cs_top.specs.ScriptEndings.{ScriptCaused, ScriptEnds, ShortTally, Tally, Reaches, EndsAt};
-ghost use Rattle.cs_top.specs.Views.{of_script, stop_ending};
+ghost use Rattle.cs_top.specs.Views.{IsSized, OfFile, of_script, stop_ending};
 
 mod answers;
 
 use crate::answering::IndexFile;
+use crate::files::HeldFile;
 use crate::lines::{Place, ScriptStop, WINDOW_BYTES, first_place, read_line};
 use answers::answer_line;
 use cs_base::{Files, Sink};
@@ -49,32 +50,29 @@ pub(crate) fn answer_script<F: Files, O: Sink>(
     engine: &mut Engine,
     file: &mut IndexFile<'_>,
     files: &mut F,
-    script: &str,
-    size: u64,
+    script: HeldFile<'_>,
     out: &mut O,
 ) -> Result<Came, ScriptStop>
-    requires size { HasToldSize (F.held files.old) script.now size }
+    requires size { IsSized (F.held files.old) script }
     requires there { IsThere engine.old.index file.old (F.held files.old) }
 
-    ensures whole { (k : Corpus) → AnswersOver engine.old file.old (F.held files.old) k → OfBytes (F.held files.old) script.now (λ b. IfOk result (λ came. (ts : List (List ℕ))
+    ensures whole { (k : Corpus) → AnswersOver engine.old file.old (F.held files.old) k → OfFile (F.held files.old) script.entry (λ b. IfOk result (λ came. (ts : List (List ℕ))
         × ScriptEnds (MayAnswer file.old k) done (script_lines b) ts (wrote O.written O.faults out.old out.new) × Tally came (F.faults files.old) (F.faults files.new) ts)) }
-    ensures short { (k : Corpus) → AnswersOver engine.old file.old (F.held files.old) k → OfBytes (F.held files.old) script.now (λ b. IfErr result (λ s. (ts : List (List ℕ))
+    ensures short { (k : Corpus) → AnswersOver engine.old file.old (F.held files.old) k → OfFile (F.held files.old) script.entry (λ b. IfErr result (λ s. (ts : List (List ℕ))
         × ScriptEnds (MayAnswer file.old k) (stop_ending (of_script s)) (script_lines b) ts (wrote O.written O.faults out.old out.new)
         × ShortTally (stop_ending (of_script s)) (wrote O.written O.faults out.old out.new) (F.faults files.old) (F.faults files.new) ts)) }
-    ensures unchanged { (k : Corpus) → AnswersOver engine.old file.old (F.held files.old) k → IfOk result (λ came. came ≢ Came.Changed) }
+    ensures came { IfOk result (λ came. CameOver engine.old file.old (F.held files.old) came (F.faults files.old) (F.faults files.new)) }
     ensures puts { IfOk result (λ came. PutsTexts came (O.written out.old) (O.written out.new)) }
     ensures cuts { IfErr result (λ s. EndsBy (stop_ending (of_script s)) (wrote O.written O.faults out.old out.new)) }
-    ensures made { is_some file.old.made ≡ true → IfOk result (λ came. came ≢ Came.Read) }
-    ensures counts { IfOk result (λ came. CameCounts came (F.faults files.old) (F.faults files.new)) }
     ensures quiet { OnOk result (O.faults out.new ≡ O.faults out.old) }
     ensures caused { IfErr result (λ s. ScriptCaused (stop_ending (of_script s)) (is_some file.old.made) (F.faults files.old) (F.faults files.new) (O.faults out.old) (O.faults out.new)) }
     ensures files { F.held files.new ≡ F.held files.old }
 {
-    let at = first_place(files, script, size)?;
+    let at = first_place(files, script)?;
     let mut place = Place { at, number: 0 };
     let mut came = Came::Answered;
-    while place.at < size {
-        let (next, met) = answer_next(alloc, engine, file, files, script, size, place, out)?;
+    while place.at < script.size {
+        let (next, met) = answer_next(alloc, engine, file, files, script, place, out)?;
         place = next;
         came = came.and(met);
     }
@@ -88,35 +86,29 @@ fn answer_next<F: Files, O: Sink>(
     engine: &mut Engine,
     file: &mut IndexFile<'_>,
     files: &mut F,
-    script: &str,
-    size: u64,
+    script: HeldFile<'_>,
     place: Place,
     out: &mut O,
 ) -> Result<(Place, Came), ScriptStop>
-    requires size { HasToldSize (F.held files.old) script.now size }
+    requires size { IsSized (F.held files.old) script }
     requires there { IsThere engine.old.index file.old (F.held files.old) }
-    requires within { place.at < size }
+    requires within { place.at < script.size }
     requires numbered { place.number ≤ place.at }
 
-    ensures ok { (k : Corpus) → AnswersOver engine.old file.old (F.held files.old) k → OfBytes (F.held files.old) script.now (λ b. IfOk result (λ p. Reaches (MayAnswer file.old k) b
+    ensures ok { (k : Corpus) → AnswersOver engine.old file.old (F.held files.old) k → OfFile (F.held files.old) script.entry (λ b. IfOk result (λ p. Reaches (MayAnswer file.old k) b
         place p.0 (O.written out.old) (O.written out.new) p.1 (F.faults files.old) (F.faults files.new))) }
-    ensures err { (k : Corpus) → AnswersOver engine.old file.old (F.held files.old) k → OfBytes (F.held files.old) script.now (λ b. IfErr result (λ s. EndsAt (MayAnswer file.old k)
+    ensures err { (k : Corpus) → AnswersOver engine.old file.old (F.held files.old) k → OfFile (F.held files.old) script.entry (λ b. IfErr result (λ s. EndsAt (MayAnswer file.old k)
         (stop_ending (of_script s)) b place (wrote O.written O.faults out.old out.new) (F.faults files.old) (F.faults files.new))) }
-    ensures unchanged { (k : Corpus) → AnswersOver engine.old file.old (F.held files.old) k → IfOk result (λ p. p.1 ≢ Came.Changed) }
+    ensures came { IfOk result (λ p. CameOver engine.old file.old (F.held files.old) p.1 (F.faults files.old) (F.faults files.new)) }
     ensures puts { IfOk result (λ p. PutsLine p.1 (O.written out.old) (O.written out.new)) }
     ensures cuts { IfErr result (λ s. CutsLine (stop_ending (of_script s)) (wrote O.written O.faults out.old out.new)) }
-    ensures further { IfOk result (λ p. (place.at < p.0.at) × (p.0.at ≤ size) × (p.0.number ≤ p.0.at)) }
-    ensures stays { (k : Corpus) → AnswersOver engine.old file.old (F.held files.old) k → AnswersOver engine.new file.new (F.held files.new) k }
-    ensures engine { engine.new.index ≡ engine.old.index }
-    ensures file { file.new ≡ file.old }
-    ensures files { F.held files.new ≡ F.held files.old }
-    ensures made { is_some file.old.made ≡ true → IfOk result (λ p. p.1 ≢ Came.Read) }
-    ensures counts { IfOk result (λ p. CameCounts p.1 (F.faults files.old) (F.faults files.new)) }
+    ensures further { IfOk result (λ p. (place.at < p.0.at) × (p.0.at ≤ script.entry.size) × (p.0.number ≤ p.0.at)) }
+    ensures over { StaysOver engine.old engine.new file.old file.new (F.held files.old) (F.held files.new) }
     ensures quiet { OnOk result (O.faults out.new ≡ O.faults out.old) }
     ensures caused { IfErr result (λ s. ScriptCaused (stop_ending (of_script s)) (is_some file.old.made) (F.faults files.old) (F.faults files.new) (O.faults out.old) (O.faults out.new)) }
 {
     let mut buffer = [0u8; WINDOW_BYTES];
-    let (len, at) = read_line(files, script, size, place.at, &mut buffer)?;
+    let (len, at) = read_line(files, script, place.at, &mut buffer)?;
     let number = place.number + 1;
     let came = answer_line(alloc, engine, file, files, &buffer[..len], number, out)?;
     Ok((Place { at, number }, came))

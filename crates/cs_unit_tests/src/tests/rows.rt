@@ -26,12 +26,7 @@ pub(crate) type Long = (
 pub(crate) type Columns = (&'static [u32], &'static [u32], &'static [u32]);
 
 /// That both are equal. A failure names the row.
-pub(crate) fn same<T: PartialEq + Debug, R: Debug + Copy>(
-    rt: &impl Abort,
-    found: &T,
-    want: &T,
-    row: R,
-) {
+pub fn same<T: PartialEq + Debug>(rt: &impl Abort, found: &T, want: &T, row: impl Debug + Copy) {
     assert_eq!(rt; found, want, "of {row:?}");
 }
 

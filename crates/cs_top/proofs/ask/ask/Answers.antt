@@ -1,10 +1,10 @@
-use Rattle.std.proofs.Common.{◌≡◌, ◌≢◌, ◌∙◌, ℕ, List, inr, refl, rules, sym, subst}
-use Rattle.std.specs.Prelude.{Some}
+use Rattle.std.proofs.Common.{◌≡◌, ◌∙◌, ℕ, List, inr, refl, rules, sym, subst}
+use Rattle.std.specs.Prelude.{Some, Ok}
 use Rattle.cs_base.specs.outside.Outside.{Held}
 use Rattle.cs_model.specs.Corpus.{Corpus, corpus}
 use Rattle.cs_model.specs.Outputs.{IsAnswer, script_lines}
 use Rattle.cs_model_index.specs.Layout.{file}
-use Rattle.cs_top.specs.Answering.{AnswersOver, MayAnswer}
+use Rattle.cs_top.specs.Answering.{AnswersOver, CameOver, MayAnswer}
 use Rattle.cs_top.specs.PutTexts.{PutsTexts}
 use Rattle.cs_top.specs.ScriptRuns.{AskEnds, AskTold}
 use Rattle.cs_top.specs.CommandLine.{Ending, done}
@@ -12,6 +12,7 @@ use Rattle.cs_top.specs.Met.{Wrote, held_bytes, wrote}
 use Rattle.cs_top.specs.Views.{of_script, stop_ending}
 use Rattle.cs_model_index.specs.Sections.{file_corpus}
 use Rattle.cs_top.specs.ScriptEndings.{ScriptEnds, ShortTally, Tally}
+use Rattle.cs_top.specs.declared.script.Came.{Came}
 use Rattle.cs_top.specs.declared.script.Came.TheVariants.{Answered, Read, Changed}
 use Rattle.cs_top.proofs.StopLemmas.{short_by}
 use Rattle.cs_top.proofs.ScriptLemmas.{ends_by, err_there, made_only, ok_there, over_made, some_made, there_made}
@@ -54,16 +55,23 @@ pub answer_script-requires-clause-there : goal.answer_script-requires-clause-the
 answer_script-requires-clause-there g c =
     there_made c.in_ok-engine.engine.index c.made-file.result (g.F.Files.held c.prepare.new.files) (file c.in_ok-image.image) c.in_ok-engine.store.bytes c.made-file.ensures c.in_ok-engine.ensures.bytes c.in_ok-engine.ensures.fits
 
+-- what came of the lines
+came : (g : given.Over) (c : After-answer_script g) (x y : Came) → c.answer_script.result ≡ Ok x → x ≡ y
+    → CameOver c.in_ok-engine.engine c.made-file.result (g.F.Files.held c.prepare.new.files) y (g.F.Files.faults c.prepare.new.files) (g.F.Files.faults c.answer_script.new.files)
+came g c x y is same =
+    ok_there c.answer_script.result x y (λ a. CameOver c.in_ok-engine.engine c.made-file.result (g.F.Files.held c.prepare.new.files) a (g.F.Files.faults c.prepare.new.files) (g.F.Files.faults c.answer_script.new.files))
+    is same c.answer_script.ensures.came
+
 pub unreachable-requires : goal.unreachable-requires
 unreachable-requires g c =
-    ok_there c.answer_script.result c.in-Ok-Read.field-0 Read (λ a. a ≢ Read) c.in-Ok-Read.is c.in-Ok-Read.field-0-is
-    (c.answer_script.ensures.made (some_made c.in_ok-engine.engine.index c.made-file.result (g.F.Files.held c.prepare.new.files) c.in_ok-engine.store.bytes c.made-file.ensures)) refl
+    let some = some_made c.in_ok-engine.engine.index c.made-file.result (g.F.Files.held c.prepare.new.files) c.in_ok-engine.store.bytes c.made-file.ensures in
+    (came g (goal.at.unreachable-requires g c).After-answer_script c.in-Ok-Read.field-0 Read c.in-Ok-Read.is c.in-Ok-Read.field-0-is).unread some refl
 
 pub unreachable-requires-in-Ok-Changed : goal.unreachable-requires-in-Ok-Changed
 unreachable-requires-in-Ok-Changed g c =
     let b = file c.in_ok-image.image in
     let over = over_made c.in_ok-engine.engine c.made-file.result (g.F.Files.held c.prepare.new.files) b c.in_ok-engine.store.bytes (file_corpus b) c.made-file.ensures c.in_ok-engine.ensures.bytes c.in_ok-engine.ensures.stands (c.in_ok-engine.ensures.good b) refl in
-    ok_there c.answer_script.result c.in-Ok-Changed.field-0 Changed (λ a. a ≢ Changed) c.in-Ok-Changed.is c.in-Ok-Changed.field-0-is (c.answer_script.ensures.unchanged (file_corpus b) over) refl
+    (came g (goal.at.unreachable-requires-in-Ok-Changed g c).After-answer_script c.in-Ok-Changed.field-0 Changed c.in-Ok-Changed.is c.in-Ok-Changed.field-0-is).unchanged (file_corpus b) over refl
 
 pub returns-in-Ok-Answered-clause-told : goal.returns-in-Ok-Answered-clause-told
 returns-in-Ok-Answered-clause-told g c h held =
@@ -73,7 +81,7 @@ returns-in-Ok-Answered-clause-told g c h held =
     let whole = ok_there c.answer_script.result c.in-Ok-Answered.field-0 Answered (λ came. (ts : List (List ℕ))
     × ScriptEnds (MayAnswer c.made-file.result (k g met h)) done (script_lines (held_bytes h c.args.script.now)) ts (w g met)
     × Tally came fb fn ts) c.in-Ok-Answered.is c.in-Ok-Answered.field-0-is
-    (c.answer_script.ensures.whole (k g met h) (over g met h held) h (c.in_ok-image.ensures.files ∙ held)) in
+    (c.answer_script.ensures.whole (k g met h) (over g met h held) h (c.in_ok-image.ensures.reads.files ∙ held)) in
     told g met h held done whole.0 whole.1
 
 pub returns-clause-told : goal.returns-clause-told
@@ -84,7 +92,7 @@ returns-clause-told g c h held =
     let short = err_there c.answer_script.result c.in-Err.stop (λ s. (ts : List (List ℕ))
     × ScriptEnds (MayAnswer c.made-file.result (k g met h)) (stop_ending (of_script s)) (script_lines (held_bytes h c.args.script.now)) ts (w g met)
     × ShortTally (stop_ending (of_script s)) (w g met) fb fn ts) c.in-Err.is
-    (c.answer_script.ensures.short (k g met h) (over g met h held) h (c.in_ok-image.ensures.files ∙ held)) in
+    (c.answer_script.ensures.short (k g met h) (over g met h held) h (c.in_ok-image.ensures.reads.files ∙ held)) in
     let all = told g met h held (stop_ending (of_script c.in-Err.stop)) short.0 short.1 in
     subst (λ x. AskTold (stop_ending x) h c.args.collection.now c.args.script.now (w g met)) (sym c.from.ensures) all
 

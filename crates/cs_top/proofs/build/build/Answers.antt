@@ -25,12 +25,12 @@ begun stops.Changed h c i x now kind has is = absurd kind
 
 -- over files that hold h: after the collection was read they hold the same
 same : (g : given.Over) (c : In_ok-image g) (h : Held) → g.F.Files.held c.args.files.now ≡ Some h → g.F.Files.held c.read_image.new.files ≡ Some h
-same g c h held = c.in_ok-image.ensures.files ∙ c.in_ok-size.ensures.files ∙ held
+same g c h held = c.in_ok-image.ensures.reads.files ∙ c.in_ok-size.ensures.reads.files ∙ held
 
 -- what was read is the image of the collection
 has : (g : given.Over) (c : In_ok-image g) (h : Held) → g.F.Files.held c.args.files.now ≡ Some h → HasImage h c.args.collection.now c.in_ok-image.image
 has g c h held =
-    let here : g.F.Files.held c.size_of.new.files ≡ Some h = c.in_ok-size.ensures.files ∙ held in
+    let here : g.F.Files.held c.size_of.new.files ≡ Some h = c.in_ok-size.ensures.reads.files ∙ held in
     ((held_by _ _ (c.in_ok-size.ensures.ok h held), c.in_ok-image.ensures.accepted h here), (c.in_ok-image.ensures.ok h here).image)
 
 pub returns-clause-told : goal.returns-clause-told

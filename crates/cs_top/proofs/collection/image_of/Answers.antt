@@ -1,4 +1,4 @@
-use Rattle.std.proofs.Common.{◌≡◌, ◌<◌, ◌≤◌, ◌^◌, ℕ, true, List, [], ◌∷◌, ap, arith, length, nat_le, refl, sym, subst, ◌∙◌}
+use Rattle.std.proofs.Common.{◌≡◌, ◌<◌, ◌≤◌, ◌^◌, ℕ, true, List, [], ◌∷◌, ap, arith, length, nat_le, refl, rules, sym, subst, ◌∙◌}
 use Rattle.std.specs.Prelude.{map, None}
 use Rattle.std.specs.FinMap.{keys}
 use Rattle.std.specs.List.{enumerate_from}
@@ -16,6 +16,7 @@ use Rattle.cs_model_index.specs.Layout.{file, title_bytes}
 use Rattle.cs_model_index.specs.Sections.{file_corpus}
 use Rattle.cs_model_index.specs.declared.limits.TheConstants.{TARGET as BLOCK_ROWS}
 use Rattle.cs_model_index.proofs.ImageLemmas.{titles_listed}
+use Rattle.cs_build.specs.Building.{corpus_from}
 use Rattle.cs_build.proofs.CollectionLemmas.{collection_is, collection_made}
 use Rattle.cs_build.proofs.CollectionFiles.{files_of_collections}
 use Rattle.cs_build.proofs.TitleLemmas.{titles_few}
@@ -31,39 +32,57 @@ accepted_by c rows none e few words =
     ap (λ x. first_reason (x ∷ rows_refusal (rows_of (documents c)) ∷ [])) none ∙ ap (λ x. first_reason (None ∷ rows_refusal x ∷ [])) (sym e) ∙ ap (λ x. first_reason (None ∷ x ∷ [])) r
 
 pub image-requires-clause-corpus : goal.image-requires-clause-corpus
-image-requires-clause-corpus c = collection_is c.args.bytes.now c.in_ok-docs.docs c.in_ok-rows.rows c.in_ok-docs.ensures.ok c.in_ok-rows.ensures.ok
+image-requires-clause-corpus c =
+    let docs : c.in_ok-docs.docs ≡ documents c.args.bytes.now = search rules in
+    let rows : c.in_ok-rows.rows ≡ rows_of c.in_ok-docs.docs = search rules in
+    collection_is c.args.bytes.now c.in_ok-docs.docs c.in_ok-rows.rows docs rows
+
+-- what was read, and what was made of it
+record IsMade (c : In_ok-image) : Type 0 where
+  docs : c.in_ok-docs.docs ≡ documents c.args.bytes.now
+  accepted : docs_refusal c.args.bytes.now ≡ None
+  rows : c.in_ok-rows.rows ≡ rows_of c.in_ok-docs.docs
+  few : length (rows_of c.in_ok-docs.docs) ≤ MAX_ROWS
+  few_words : length (distinct_words c.in_ok-rows.rows) ≤ MAX_WORDS
+  image : IsImage (corpus_from c.in_ok-docs.docs c.in_ok-rows.rows) BLOCK_ROWS c.in_ok-image.image
+
+made : (c : In_ok-image) → IsMade c
+made c = record { docs = search rules; accepted = search rules; rows = search rules; few = search rules; few_words = search rules; image = search rules }
 
 -- it is an image of the collection's corpus
 imaged : (c : In_ok-image) → IsImage (corpus c.args.bytes.now) BLOCK_ROWS c.in_ok-image.image
 imaged c =
-    subst (λ k. IsImage k BLOCK_ROWS c.in_ok-image.image)
-    (collection_made c.in_ok-docs.docs c.in_ok-rows.rows c.in_ok-rows.ensures.ok ∙ ap corpus_of c.in_ok-docs.ensures.ok) c.in_ok-image.ensures.ok
+    let m = made c in
+    subst (λ k. IsImage k BLOCK_ROWS c.in_ok-image.image) (collection_made c.in_ok-docs.docs c.in_ok-rows.rows m.rows ∙ ap corpus_of m.docs) m.image
 
 -- its bytes are an index file, of which that corpus is read
 filed : (c : In_ok-image) → IsIndexFile (file c.in_ok-image.image) × (file_corpus (file c.in_ok-image.image) ≡ corpus c.args.bytes.now)
 filed c =
-    let few = subst (λ r. length r ≤ MAX_ROWS) (sym c.in_ok-rows.ensures.ok) c.in_ok-rows.ensures.few in
-    let accepted = accepted_by c.args.bytes.now c.in_ok-rows.rows c.in_ok-docs.ensures.accepted
-    (c.in_ok-rows.ensures.ok ∙ ap rows_of c.in_ok-docs.ensures.ok) few c.in_ok-image.ensures.few_words in
+    let m = made c in
+    let few = subst (λ r. length r ≤ MAX_ROWS) (sym m.rows) m.few in
+    let accepted = accepted_by c.args.bytes.now c.in_ok-rows.rows m.accepted (m.rows ∙ ap rows_of m.docs) few m.few_words in
     let all = files_of_collections c.args.bytes.now BLOCK_ROWS c.in_ok-image.image accepted (imaged c) (omega arith) (omega arith) in
     (all.0, all.2)
 
 pub returns-clause-ok : goal.returns-clause-ok
-returns-clause-ok c = let made = (goal.at.returns-clause-ok c).In_ok-image in record { image = imaged made; corpus = (filed made).1 }
+returns-clause-ok c = let is = (goal.at.returns-clause-ok c).In_ok-image in record { image = imaged is; corpus = (filed is).1 }
 
 pub returns-clause-file : goal.returns-clause-file
-returns-clause-file c = record {
-  writable = c.in_ok-image.ensures.writable
-      (subst (λ docs. length (title_bytes (map title_of docs)) < 2 ^ 32) (sym c.in_ok-docs.ensures.ok) (titles_few c.args.bytes.now c.in_ok-docs.ensures.accepted));
-  whole = (filed (goal.at.returns-clause-file c).In_ok-image).0;
-}
+returns-clause-file c =
+    let is = (goal.at.returns-clause-file c).In_ok-image in
+    let m = made is in
+    let room : length (title_bytes (map title_of c.in_ok-docs.docs)) < 2 ^ 32 =
+    subst (λ docs. length (title_bytes (map title_of docs)) < 2 ^ 32) (sym m.docs) (titles_few c.args.bytes.now m.accepted) in
+    record { writable = search rules; whole = (filed is).0 }
 
 -- each document has its title in the corpus
 titles_counted : (ts : List (List ℕ)) → length (keys (by_number ts)) ≡ length ts
 titles_counted ts = ap (λ es. length (map (λ e. e.0) es)) (titles_listed ts) ∙ length-map (enumerate_from 0 ts) (λ e. e.0) ∙ length-enumerate_from 0 ts
 
 pub returns-clause-sizes : goal.returns-clause-sizes
-returns-clause-sizes c = record {
-  documents = c.len-document_count.ensures ∙ ap length c.in_ok-docs.ensures.ok ∙ sym (length-map (documents c.args.bytes.now) title_of) ∙ sym (titles_counted (map title_of (documents c.args.bytes.now)));
-  rows = c.len-row_count.ensures ∙ ap length (c.in_ok-rows.ensures.ok ∙ ap rows_of c.in_ok-docs.ensures.ok);
-}
+returns-clause-sizes c =
+    let m = made (goal.at.returns-clause-sizes c).In_ok-image in
+    record {
+      documents = c.len-document_count.ensures ∙ ap length m.docs ∙ sym (length-map (documents c.args.bytes.now) title_of) ∙ sym (titles_counted (map title_of (documents c.args.bytes.now)));
+      rows = c.len-row_count.ensures ∙ ap length (m.rows ∙ ap rows_of m.docs);
+    }

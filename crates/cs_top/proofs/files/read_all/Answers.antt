@@ -14,7 +14,7 @@ filled out b items n len read whole long =
 
 pub returns-in-Ok-read_at-clause-ok : goal.returns-in-Ok-read_at-clause-ok
 returns-in-Ok-read_at-clause-ok g c h held =
-    let b = held_bytes h c.args.name.now in
-    let size : length b ≡ c.args.size = held_size (map.get h c.args.name.now) c.args.size (c.requires h held) in
+    let b = held_bytes h c.args.file.name.now in
+    let size : length b ≡ c.args.file.size = held_size (map.get h c.args.file.name.now) c.args.file.size (c.requires h held) in
     let room : length c.deref_mut.result.now ≡ c.in-Ok.bytes.len = c.deref_mut.ensures.len in
     filled c.read_at.new.out b c.in-Ok.bytes.items (length c.deref_mut.result.now) c.in-Ok.bytes.len (c.in-Ok-read_at.ensures.ok h held) (omega (arith, size, room, c.in-Ok.ensures.len)) (omega (arith, room))

@@ -7,8 +7,8 @@ use Rattle.cs_top.proofs.opening.open.Goals as goal
 
 pub returns-in_ok-engine_of-in-Ok-clause-ok : goal.returns-in_ok-engine_of-in-Ok-clause-ok
 returns-in_ok-engine_of-in-Ok-clause-ok g c h held =
-    let told : file_bytes (g.F.Files.held c.new-store.result.files.now) c.new-store.result.name.now ≡ Some (held_bytes h c.args.name.now) =
+    let told : file_bytes (g.F.Files.held c.new-store.result.files.now) c.new-store.result.name.now ≡ Some (held_bytes h c.args.index.name.now) =
     ap (λ n. file_bytes (g.F.Files.held c.new-store.result.files.now) n) c.new-store.ensures.name
-    ∙ ap (λ f. file_bytes (g.F.Files.held f) c.args.name.now) c.new-store.ensures.files
-    ∙ ap (λ x. file_bytes x c.args.name.now) held in
-    subst (StandsFor (held_bytes h c.args.name.now)) (sym c.in_ok-engine_of-in-Ok.ensures.index) (c.in-Ok.ensures.ok (held_bytes h c.args.name.now) told)
+    ∙ ap (λ f. file_bytes (g.F.Files.held f) c.args.index.name.now) c.new-store.ensures.files
+    ∙ ap (λ x. file_bytes x c.args.index.name.now) held in
+    subst (StandsFor (held_bytes h c.args.index.name.now)) (sym c.in_ok-engine_of-in-Ok.ensures.index) (c.in-Ok.ensures.ok (held_bytes h c.args.index.name.now) told)

@@ -41,13 +41,13 @@ record IsOpen (g : given.Over) (c : After-answer_script g) (h : Held) : Type 0 w
 is_open : (g : given.Over) (c : After-answer_script g) (h : Held) → g.F.Files.held c.args.files.now ≡ Some h → IsOpen g c h
 is_open g c h held =
     let i = c.args.index.now in
-    let first : g.F.Files.held c.size_of.new.files ≡ Some h = c.in_ok-size.ensures.files ∙ held in
-    let second : g.F.Files.held c.size_of-2.new.files ≡ Some h = c.in_ok-script_size.ensures.files ∙ first in
-    let third : g.F.Files.held c.open.new.files ≡ Some h = c.in_ok-engine.ensures.files ∙ second in
+    let first : g.F.Files.held c.size_of.new.files ≡ Some h = c.in_ok-size.ensures.reads.files ∙ held in
+    let second : g.F.Files.held c.size_of-2.new.files ≡ Some h = c.in_ok-script_size.ensures.reads.files ∙ first in
+    let third : g.F.Files.held c.open.new.files ≡ Some h = c.in_ok-engine.ensures.reads.files ∙ second in
     let stands : StandsFor (held_bytes h i) c.in_ok-engine.engine.index = c.in_ok-engine.ensures.ok h second in
     record {
       still = third;
-      calm = c.in_ok-engine.ensures.quiet ∙ c.in_ok-script_size.ensures.quiet ∙ c.in_ok-size.ensures.quiet;
+      calm = c.in_ok-engine.ensures.reads.quiet ∙ c.in_ok-script_size.ensures.reads.quiet ∙ c.in_ok-size.ensures.reads.quiet;
       able = ((held_by _ _ (c.in_ok-size.ensures.ok h held), held_by _ _ (c.in_ok-script_size.ensures.ok h first)), stands.accepted);
       over = over_held c.in_ok-engine.engine c.held-file.result (g.F.Files.held c.open.new.files) h i c.in_ok-size.size
           c.held-file.ensures third stands (c.in_ok-engine.ensures.good (held_bytes h i));

@@ -6,6 +6,7 @@ use Rattle.cs_top.proofs.trial.ask_all.Goals as goal
 pub loop-request-preserved : goal.loop-request-preserved
 loop-request-preserved c =
     let inv = c.loop-request.invariant in
+    let one = c.in_ok-ask_one.ensures in
     let i = c.loop-request.request-index in
     let rs = c.args.requests.now in
     let r = c.request-item.result in
@@ -15,10 +16,9 @@ loop-request-preserved c =
     record {
       so_far = λ start.
           subst (λ x. HasAsked c.args.store.now.bytes x c.ask_one.new.engine c.ask_one.new.counts) (sym more)
-          (subst (λ b. HasAsked b (qs ++ r.query ∷ []) c.ask_one.new.engine c.ask_one.new.counts) (c.in_ok-ask_one.ensures.bytes ∙ inv.bytes)
-          (c.in_ok-ask_one.ensures.asked qs (subst (λ b. HasAsked b qs c.loop-request.engine c.loop-request.counts) (sym inv.bytes) (inv.so_far start))));
-      few = c.in_ok-ask_one.ensures.few i inv.few;
-      sizes = c.in_ok-ask_one.ensures.sizes ∙ inv.sizes;
-      index = c.in_ok-ask_one.ensures.index ∙ inv.index;
-      bytes = c.in_ok-ask_one.ensures.bytes ∙ inv.bytes;
+          (subst (λ b. HasAsked b (qs ++ r.query ∷ []) c.ask_one.new.engine c.ask_one.new.counts) (one.steady.bytes ∙ inv.steady.bytes)
+          (one.asked qs (subst (λ b. HasAsked b qs c.loop-request.engine c.loop-request.counts) (sym inv.steady.bytes) (inv.so_far start))));
+      few = one.few i inv.few;
+      sizes = one.sizes ∙ inv.sizes;
+      steady = record { index = one.steady.index ∙ inv.steady.index; bytes = one.steady.bytes ∙ inv.steady.bytes };
     }

@@ -4,7 +4,7 @@ use Rattle.cs_top.proofs.script.answers.answer_params.Goals as goal
 
 pub returns-in-Ok-clause-text : goal.returns-in-Ok-clause-text
 returns-in-Ok-clause-text g c k over =
-    reply_is c.args.file.now k c.args.line.now (asked c.in-Ok.wanted) c.answer_request.result c.in-Ok.ensures.accepted c.in-Ok.ensures.ok (c.answer_request.ensures.text k over) c.answer_request.ensures.unread
+    reply_is c.args.file.now k c.args.line.now (asked c.in-Ok.wanted) c.answer_request.result c.in-Ok.ensures.accepted c.in-Ok.ensures.ok (c.answer_request.ensures.text k over) c.answer_request.ensures.came.unread
 
 pub returns-in-Err-clause-text : goal.returns-in-Err-clause-text
 returns-in-Err-clause-text g c k over =

@@ -1,0 +1,46 @@
+-- What is answered over, and what may come, from one line of a script to the next.
+--
+--   over_at, came_at         files that hold the same, with the same count
+--   over_none, came_none     of no lines
+--   over_behind              behind a call that leaves what is held
+--   over_more, came_more     of some lines and of more
+use Rattle.std.proofs.Common.{◌≡◌, ℕ, true, refl, sym, subst, ◌∙◌, arith}
+use Rattle.std.specs.Prelude.{Option, is_some}
+use Rattle.cs_base.specs.outside.Outside.{Held}
+use Rattle.cs_engine.specs.Keeping.{EngineView}
+use Rattle.cs_model.specs.Corpus.{Corpus}
+use Rattle.cs_top.specs.Answering.{AnswersOver, CameOver, FileView, StaysOver, worst}
+use Rattle.cs_top.specs.declared.script.Came.{Came}
+use Rattle.cs_top.specs.declared.script.Came.TheVariants.{Answered}
+use Rattle.cs_top.proofs.TallyLemmas.{counts_more, not_changed, not_read}
+
+module _ (e : EngineView) (f : FileView) (x y : Option Held) (same : y ≡ x) where
+  pub over_at : (k : Corpus) → AnswersOver e f x k → AnswersOver e f y k
+  over_at k over = subst (λ z. AnswersOver e f z k) (sym same) over
+
+  pub over_none : StaysOver e e f f x y
+  over_none = record { stays = over_at; engine = refl; file = refl; files = same }
+
+  pub came_at : (came : Came) (n m k : ℕ) → m ≡ n → CameOver e f y came m k → CameOver e f x came n k
+  came_at came n m k calm h = subst (λ z. CameOver e f z came n k) same (subst (λ i. CameOver e f y came i k) calm h)
+
+  pub over_behind : (e' : EngineView) (f' : FileView) (z : Option Held) → StaysOver e e' f f' y z → StaysOver e e' f f' x z
+  over_behind e' f' z h = subst (λ w. StaysOver e e' f f' w z) same h
+
+pub came_none : (e : EngineView) (f : FileView) (x : Option Held) (n m : ℕ) → m ≡ n → CameOver e f x Answered n m
+came_none e f x n m calm = record {
+  unchanged = λ k over e. cc e;
+  unread = λ some e. cc e;
+  counts = record { later = omega (arith, calm); read = λ e. absurd (cc e); quiet = λ other. calm };
+}
+
+module _ {e e' : EngineView} {f f' : FileView} {x y : Option Held} (s : StaysOver e e' f f' x y) where
+  pub over_more : {e'' : EngineView} {f'' : FileView} {z : Option Held} → StaysOver e' e'' f' f'' y z → StaysOver e e'' f f'' x z
+  over_more t = record { stays = λ k over. t.stays k (s.stays k over); engine = t.engine ∙ s.engine; file = t.file ∙ s.file; files = t.files ∙ s.files }
+
+  pub came_more : (a b : Came) (n m k : ℕ) → CameOver e f x a n m → CameOver e' f' y b m k → CameOver e f x (worst a b) n k
+  came_more a b n m k p q = record {
+    unchanged = λ k over. not_changed a b (p.unchanged k over) (q.unchanged k (s.stays k over));
+    unread = λ some. not_read a b (p.unread some) (q.unread (subst (λ g. is_some g.made ≡ true) (sym s.file) some));
+    counts = counts_more a b n m k p.counts q.counts;
+  }
