@@ -100,43 +100,34 @@ view-view-requires-in-Extend g c =
           c.requires.plan (λ f. let no : Extend ≡ Fresh = sym c.in-Extend.is ∙ f in cc);
     }
 
-pub hits_before-requires-clause-some : goal.hits_before-requires-clause-some
-hits_before-requires-clause-some g c =
-    let several = (extend_lent c.args.index.now c.args.answers.now.entries c.requires.kept c.args.request.now.query c.requires.limits.query c.args.keys.now
-    c.requires.keys c.args.plan c.requires.plan c.view-view-in-Extend.result.base.now c.view-view-in-Extend.result.rows.now.posts
-    c.view-view-in-Extend.ensures.base c.view-view-in-Extend.ensures.rows c.in-Extend.is).0 in
-    omega (arith, several)
-
-pub hits_before-requires-clause-base : goal.hits_before-requires-clause-base
-hits_before-requires-clause-base g c =
+pub hits_before-requires : goal.hits_before-requires
+hits_before-requires g c =
     let lent = extend_lent c.args.index.now c.args.answers.now.entries c.requires.kept c.args.request.now.query c.requires.limits.query c.args.keys.now
     c.requires.keys c.args.plan c.requires.plan c.view-view-in-Extend.result.base.now c.view-view-in-Extend.result.rows.now.posts
     c.view-view-in-Extend.ensures.base c.view-view-in-Extend.ensures.rows c.in-Extend.is in
-    first_base c.args.request.now.query c.args.index.now (entry_with c.view-view-in-Extend.result.base.now c.view-view-in-Extend.result.rows.now.posts)
-    c.requires.limits.parts lent.1
+    let several = lent.0 in
+    record {
+      some = omega (arith, several);
+      base = first_base c.args.request.now.query c.args.index.now
+          (entry_with c.view-view-in-Extend.result.base.now c.view-view-in-Extend.result.rows.now.posts) c.requires.limits.parts lent.1;
+      sorted = lent.1.rows.sorted;
+    }
 
-pub hits_before-requires-clause-sorted : goal.hits_before-requires-clause-sorted
-hits_before-requires-clause-sorted g c =
+pub answered_by_hits-requires : goal.answered_by_hits-requires
+answered_by_hits-requires g c =
     let lent = extend_lent c.args.index.now c.args.answers.now.entries c.requires.kept c.args.request.now.query c.requires.limits.query c.args.keys.now
     c.requires.keys c.args.plan c.requires.plan c.view-view-in-Extend.result.base.now c.view-view-in-Extend.result.rows.now.posts
     c.view-view-in-Extend.ensures.base c.view-view-in-Extend.ensures.rows c.in-Extend.is in
-    lent.1.rows.sorted
-
-pub answered_by_hits-requires-clause-some : goal.answered_by_hits-requires-clause-some
-answered_by_hits-requires-clause-some g c =
-    let several = (extend_lent c.args.index.now c.args.answers.now.entries c.requires.kept c.args.request.now.query c.requires.limits.query c.args.keys.now
-    c.requires.keys c.args.plan c.requires.plan c.view-view-in-Extend.result.base.now c.view-view-in-Extend.result.rows.now.posts
-    c.view-view-in-Extend.ensures.base c.view-view-in-Extend.ensures.rows c.in-Extend.is).0 in
-    omega (arith, several)
-
-pub answered_by_hits-requires-clause-base : goal.answered_by_hits-requires-clause-base
-answered_by_hits-requires-clause-base g c =
-    let q = c.args.request.now.query in
-    let lent = extend_lent c.args.index.now c.args.answers.now.entries c.requires.kept c.args.request.now.query c.requires.limits.query c.args.keys.now
-    c.requires.keys c.args.plan c.requires.plan c.view-view-in-Extend.result.base.now c.view-view-in-Extend.result.rows.now.posts
-    c.view-view-in-Extend.ensures.base c.view-view-in-Extend.ensures.rows c.in-Extend.is in
-    first_in q c.args.index.now (entry_with c.view-view-in-Extend.result.base.now c.view-view-in-Extend.result.rows.now.posts) c.in_ok-hits-in-Extend.hits lent.1
-    c.in_ok-hits-in-Extend.ensures
+    let several = lent.0 in
+    record {
+      limits = c.requires.limits;
+      some = omega (arith, several);
+      base = first_in c.args.request.now.query c.args.index.now
+          (entry_with c.view-view-in-Extend.result.base.now c.view-view-in-Extend.result.rows.now.posts) c.in_ok-hits-in-Extend.hits lent.1
+          c.in_ok-hits-in-Extend.ensures;
+      held = c.requires.held;
+      opened = record { index = subst IsIndex c.index.view_is c.index.invariant; fits = c.requires.fits };
+    }
 
 pub returns-in_err-answered-in-Extend-clause-reads : goal.returns-in_err-answered-in-Extend-clause-reads
 returns-in_err-answered-in-Extend-clause-reads g c =
