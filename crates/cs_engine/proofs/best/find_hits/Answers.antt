@@ -1,4 +1,5 @@
-use Rattle.std.proofs.Common.{take}
+use Rattle.std.proofs.Common.{◌≡◌, arith, take}
+use Rattle.cs_cols.specs.SpanPlaces.{places_where}
 use Rattle.cs_cols.proofs.FoundPlaces.{found_all, found_on}
 use Rattle.cs_engine.specs.Spans.{has_entry_at}
 use Rattle.cs_engine.proofs.SpansLemmas.{entries_there, hits_there}
@@ -11,16 +12,16 @@ loop-doc-preserved c =
     c.from-found.ensures l.invariant.found l.invariant.few l.invariant.len in
     record { found = next.0; few = next.1; len = next.2 }
 
-pub returns-clause-found : goal.returns-clause-found
-returns-clause-found c =
+pub returns : goal.returns
+returns c =
+    let best = c.args.best.now in
     let l = c.loop-doc in
-    hits_there c.args.best.now c.args.from c.args.to (take l.found l.places) c.requires.span
-    (found_all (has_entry_at c.args.best.now) c.args.from c.args.to l.doc (take l.found l.places) c.requires.span c.loop-doc-test.false l.auto.doc-end
-    l.invariant.found)
-
-pub returns-clause-known : goal.returns-clause-known
-returns-clause-known c =
-    let l = c.loop-doc in
-    entries_there c.args.best.now c.args.from c.args.to (take l.found l.places) c.requires.span
-    (found_all (has_entry_at c.args.best.now) c.args.from c.args.to l.doc (take l.found l.places) c.requires.span c.loop-doc-test.false l.auto.doc-end
-    l.invariant.found)
+    let docs = take l.found l.places in
+    let span = c.requires.span in
+    let all : docs ≡ places_where (has_entry_at best) c.args.from c.args.to = found_all (has_entry_at best) c.args.from c.args.to l.doc docs span c.loop-doc-test.false
+    l.auto.doc-end l.invariant.found in
+    record {
+      found = hits_there best c.args.from c.args.to docs span all;
+      known = entries_there best c.args.from c.args.to docs span all;
+      few = omega (arith, l.invariant.few, l.invariant.len, l.auto.doc-end span.onward, span.fits);
+    }
