@@ -34,12 +34,12 @@ use Rattle.cs_engine.specs.Counting.{AreListed, in_listed}
 use Rattle.cs_engine.specs.Loose.{HasBestScores, hits_in}
 use Rattle.cs_engine.specs.Plain.{AreWordsOf}
 use Rattle.cs_engine.specs.IndexReading.{AreWithin, IsWithin, run_of, stock_of}
-use Rattle.cs_engine.specs.Steps.{AreHitsBehind, IsBaseOf, IsHitOf, most, posts_after}
+use Rattle.cs_engine.specs.Steps.{IsBaseOf, IsHitOf, most, posts_after}
 use Rattle.cs_engine.specs.Stocked.{corpus_in, is_between}
 use Rattle.cs_engine.proofs.BestLemmas.{alike_best, hits_are}
 use Rattle.cs_engine.proofs.CountingLemmas.{counted_alike, flat_more, kept_listed, stock_within}
 use Rattle.cs_engine.proofs.FoundLemmas.{is_excluded}
-use Rattle.cs_engine.proofs.PartSteps.{base_small, step_told}
+use Rattle.cs_engine.proofs.PartSteps.{AreHitsBehind, base_small, step_told}
 use Rattle.cs_engine.proofs.RowsInRange.{kept_within}
 use Rattle.cs_engine.proofs.StockLemmas.{docs_are}
 

@@ -7,7 +7,6 @@
 --   map_same                     functions that agree
 --   alike_best                   which depend on the rows' members alone
 --   hits_fit                     they are in range
---   written_back                 a table that was lent
 --   own_chosen                   where all words are of some, the rows in listed documents are those that are chosen
 use Rattle.std.proofs.Common.{◌≡◌, ℕ, zero, suc, ◌+◌, ◌-◌, ◌≤◌, ◌<◌, ◌==◌, ◌&&◌, ◌||◌, Bool, true, false, List, [], ◌∷◌, ◌++◌, map, take, drop, length}
 use Rattle.std.proofs.Common.{get_or, cond, refl, sym, ◌∙◌, ap, subst, arith, append-nil, length-set}
@@ -18,6 +17,7 @@ use Rattle.std.specs.Ordering.{nat_cmp, eq_by_cmp}
 use Rattle.std.specs.declared.cmp.Ordering.TheVariants.{Less}
 use Rattle.std.specs.Cmp.{nat_cmp_total}
 use Rattle.std.specs.FinMap.{nat_cmp-IsAntisymmetric}
+use Rattle.std.proofs.Math.Bool.{and-false, and-or_distrib_right, and-true}
 use Rattle.std.proofs.lemmas.Bool.{and_from, le-leb, lt-ltb}
 use Rattle.std.proofs.lemmas.Bool.Decides.{nat_tests}
 use Rattle.std.proofs.lemmas.List.{get_or-set_same, get_or-map, get_or-set_other, get_or_default, length-map, take_all, take_more, append_assoc, drop_all}
@@ -166,22 +166,6 @@ hits_all whole done best d l left = sym (left ∙ ap (λ r. done ++ hits_in d r)
 is_number : (x y : ℕ) → eq_by_cmp nat_cmp x y ≡ true → x ≡ y
 is_number x y h = grind (arith, nat_tests)
 
-and_true : (b : Bool) → (b && true) ≡ b
-and_true true = refl
-and_true false = refl
-
-and_false : (b : Bool) → (b && false) ≡ false
-and_false true = refl
-and_false false = refl
-
-both_and : (a b c : Bool) → ((a && c) || (b && c)) ≡ ((a || b) && c)
-both_and true true true = refl
-both_and true true false = refl
-both_and true false true = refl
-both_and true false false = refl
-both_and false true c = refl
-both_and false false c = refl
-
 none_in : (a q m : ℕ) → m ≡ a → (nat_le a q && nat_lt q m) ≡ false
 none_in a q m e = grind (arith, nat_tests)
 
@@ -260,8 +244,8 @@ read_off seen a (b ∷ bs) h =
 eq_sides : (q d : ℕ) (p : ℕ → Bool) → (p d && eq_by_cmp nat_cmp q d) ≡ (eq_by_cmp nat_cmp q d && p q)
 eq_sides q d p =
     elim (eq_by_cmp nat_cmp q d) as (λ b. eq_by_cmp nat_cmp q d ≡ b → (p d && b) ≡ (b && p q)) [
-      | true ↦ λ e. and_true (p d) ∙ ap p (sym (is_number q d e))
-      | false ↦ λ e. and_false (p d)
+      | true ↦ λ e. and-true (p d) ∙ ap p (sym (is_number q d e))
+      | false ↦ λ e. and-false (p d)
     ] refl
 
 any_range : (q : ℕ) (p : ℕ → Bool) (a n : ℕ) → list_any (λ d. p d && eq_by_cmp nat_cmp q d) (range_with_len a n) ≡ ((nat_le a q && nat_lt q (a + n)) && p q)
@@ -269,7 +253,7 @@ any_range q p a zero = let e : a + 0 ≡ a = omega arith in sym (ap (λ b. b && 
 any_range q p a (suc n) =
     ap (λ b. b || list_any (λ d. p d && eq_by_cmp nat_cmp q d) (range_with_len (a + 1) n)) (eq_sides q a p)
     ∙ ap (λ b. (eq_by_cmp nat_cmp q a && p q) || b) (any_range q p (a + 1) n)
-    ∙ both_and (eq_by_cmp nat_cmp q a) (nat_le (a + 1) q && nat_lt q (a + 1 + n)) (p q)
+    ∙ sym (and-or_distrib_right (eq_by_cmp nat_cmp q a) (nat_le (a + 1) q && nat_lt q (a + 1 + n)) (p q))
     ∙ ap (λ b. b && p q) (next_in q a n)
 
 range_rises : (a n : ℕ) → IsStrictlySortedBy nat_cmp (range_with_len a n)
@@ -364,11 +348,6 @@ hits_fit docs bound best hits long small are =
       All-from_recursion (IsHitOf docs bound) (hits_in 0 best)
           (hits_small docs bound 0 best (omega (arith, long)) (recursion_from_All (λ v. v ≤ bound) best small)),
     )
-
--- a vector that a slice was lent of
-pub written_back : (n : ℕ) (a b : List ℕ) → length a ≡ length b → n ≡ length b → take n (a ++ drop (length a) b) ≡ a
-written_back n a b l m =
-    ap (λ r. take n (a ++ r)) (drop_all (length a) b (omega (arith, l))) ∙ ap (take n) (append-nil a) ∙ take_all n a (omega (arith, l, m))
 
 own_rows : (lo hi : ℕ) (listed : List Bool) (rows : List Post) → AllByRecursion (λ w. (lo ≤ w) × (w < hi)) (map (λ p. p.word) rows)
     → filter (is_of_listed listed) rows ≡ filter (is_chosen lo hi listed) rows

@@ -30,7 +30,7 @@ use Rattle.cs_base.specs.declared.content.limits.TheConstants.{MAX_DOCS}
 use Rattle.cs_base.specs.declared.index.block.BlockHead.{BlockHead}
 use Rattle.cs_base.proofs.MembersLemmas.{any_listed, all_then}
 use Rattle.cs_base.proofs.ListsLemmas.{filter_twice, filter_alike}
-use Rattle.cs_file.specs.Indexes.{IndexView, IsIndex, StandsFor, AreMet, block_posts, is_met}
+use Rattle.cs_file.specs.Indexes.{IndexView, IsIndex, StandsFor, AreMet, block_posts}
 use Rattle.cs_file.proofs.HeadsLemmas.{heads_rise}
 use Rattle.cs_file.proofs.PostsLemmas.{block_words, posts_between}
 use Rattle.cs_file.proofs.StoodLemmas.{stood_block, stood_count}
@@ -40,11 +40,9 @@ use Rattle.cs_model.specs.Collection.{named}
 use Rattle.cs_model.specs.Replies.{Shown, FacetShown}
 use Rattle.cs_model_index.specs.Images.{image_posts}
 use Rattle.cs_model_index.specs.Sections.{image_of}
-use Rattle.cs_model_kept.specs.Due.{met_prefix}
 use Rattle.cs_tables.specs.declared.tables.Completion.{Completion as Numbered}
 use Rattle.cs_tables.specs.TableListings.{with_word, post_table}
 use Rattle.cs_tables.specs.WordCounts.{AreCountable, HasCounted, WordCountsView, chosen, is_chosen}
-use Rattle.cs_engine.specs.Asking.{division}
 use Rattle.cs_engine.specs.Counting.{AreListed, counted_rows, in_listed}
 use Rattle.cs_engine.specs.IndexReading.{AreWithin, IsWithin, by_post, stock_of}
 use Rattle.cs_engine.specs.Stocked.{docs_in, every, facet_at, is_between, shown_at, IsKnown}
@@ -54,7 +52,7 @@ use Rattle.cs_engine.proofs.DistinctLemmas.{Apart, apart_append, apart_none, apa
 use Rattle.cs_engine.proofs.FoundLemmas.{all_kept, every_more}
 use Rattle.cs_engine.proofs.RowsInRange.{kept_within}
 use Rattle.cs_engine.proofs.StockLemmas.{by_post_total, by_post_exact, docs_are, stocked, within_block, words_are}
-use Rattle.cs_engine.proofs.AskedWords.{prefix_met, span_found}
+use Rattle.cs_engine.proofs.AskedWords.{span_found}
 use Rattle.cs_vocab.specs.Ranges.{IsRange}
 
 -- ---- which documents are listed

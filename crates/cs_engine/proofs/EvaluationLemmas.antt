@@ -45,7 +45,7 @@ use Rattle.cs_model_kept.specs.Entries.{EntryOf, base_of, entry, entry_at, entry
 use Rattle.cs_model_kept.specs.Entries as kept
 use Rattle.cs_model_kept.proofs.EntryLemmas.{ends_more, extended_is, hits_are, listed_base, parts_read}
 use Rattle.cs_engine.specs.IndexReading.{AreWithin, HasRows}
-use Rattle.cs_engine.specs.Steps.{AreHitsBehind, IsStep, docs_after, posts_hits}
+use Rattle.cs_engine.specs.Steps.{IsStep, docs_after, posts_hits}
 use Rattle.cs_model_index.specs.Numbered.{rows_at}
 use Rattle.cs_engine.specs.Stocked.{Stock, corpus_in, docs_in, linked_posts, IsKnown, IsPicked, IsStocked}
 use Rattle.cs_engine.proofs.AtomsLemmas.{picked_again}
@@ -53,7 +53,7 @@ use Rattle.cs_engine.proofs.RowsInRange.{kept_within}
 use Rattle.cs_engine.proofs.FoldsLemmas.{part_rows-is}
 use Rattle.cs_engine.proofs.HitsLemmas.{own_docs}
 use Rattle.cs_engine.proofs.FoundLemmas.{is_excluded}
-use Rattle.cs_engine.proofs.PartSteps.{docs_more, hits_told, listed_told}
+use Rattle.cs_engine.proofs.PartSteps.{AreHitsBehind, docs_more, hits_told, listed_told}
 use Rattle.cs_engine.proofs.UnionLemmas.{no_chains, one_more_chain, one_more_link, picked_known}
 
 -- ---- levels

@@ -5,7 +5,7 @@
 --   err_due              the titles that may be read where there is no reply
 --   kept_reads, all_reads      the reads of a plan that reads no part, and of one that reads some
 --   kept_reads_err, all_reads_err      the same where there is no reply
-use Rattle.std.proofs.Common.{◌≡◌, ℕ, ◌+◌, ◌<◌, List, length, refl, sym, ap, subst, ◌∙◌, arith, Option, Some, None, IsSome}
+use Rattle.std.proofs.Common.{◌≡◌, ℕ, ◌+◌, ◌≤◌, List, length, refl, sym, ap, subst, ◌∙◌, arith, Option, Some, None, IsSome}
 use Rattle.std.specs.Prelude.{filter, IfSome, Result, Ok, Err}
 use Rattle.std.specs.Result.{IsErr}
 use Rattle.cs_base.specs.outside.Causes.{ReadsWithin}
@@ -27,7 +27,7 @@ use Rattle.cs_model_kept.specs.Entries.{EntryOf}
 use Rattle.cs_model_kept.specs.KeptList.{KeptOf, plan_by, used_entry}
 use Rattle.cs_model_kept.specs.KeptListLaws.{before_last}
 use Rattle.cs_engine.specs.Asking.{titles_asked}
-use Rattle.cs_engine.specs.Keeping.{FitsQuery, HoldsGood, IsEntryOver, KeepsFitting, entry_with}
+use Rattle.cs_engine.specs.Keeping.{FitsQuery, HoldsGood, IsEntryOver, IsPlanned, entry_with}
 use Rattle.cs_engine.specs.IndexReading.{AreWithin}
 use Rattle.cs_file.specs.declared.fault.FetchFault.{FetchFault}
 use Rattle.cs_engine.proofs.KeepingLemmas.{extend_fits, extend_told, narrow_fits, narrow_told, narrowed_fits, same_fits, same_told}
@@ -35,37 +35,37 @@ use Rattle.cs_engine.proofs.PlansLemmas.{Viewed, is_used, viewed}
 use Rattle.cs_engine.proofs.WalkLemmas.{within_more}
 
 -- ---- what is lent
-module _ (i : IndexView) (held : KeptOf (EntryOf Post)) (fit : KeepsFitting i held) (q : Query) (g : IsOfGrammar q) (keys : Keys) (are : keys ≡ keys_of q)
-    (by_plan : Plan) (is : by_plan ≡ plan_by held keys) (base : Base) (rows : List Post)
+module _ {i : IndexView} {held : KeptOf (EntryOf Post)} {q : Query} {keys : Keys} {by_plan : Plan} (g : IsOfGrammar q)
+    (planned : IsPlanned i held q keys by_plan) (base : Base) (rows : List Post)
     (b : IfSome (used_entry held keys by_plan) (λ e. base ≡ e.1.base)) (r : IfSome (used_entry held keys by_plan) (λ e. rows ≡ e.1.rows)) where
   abbrev lent : EntryOf Post
   lent = entry_with base rows
 
   lent_by : (own : Plan) → by_plan ≡ own → ¬ (own ≡ Fresh) → Viewed (used_entry held (keys_of q) own) lent
   lent_by own same other =
-      let v = viewed (used_entry held keys by_plan) (is_used held q g keys are by_plan is (λ f. other (sym same ∙ f))) base rows b r in
+      let v = viewed (used_entry held keys by_plan) (is_used g planned (λ f. other (sym same ∙ f))) base rows b r in
       record {
         kept = v.kept;
-        found = ap (used_entry held (keys_of q)) (sym same) ∙ ap (λ k. used_entry held k by_plan) (sym are) ∙ v.found;
+        found = ap (used_entry held (keys_of q)) (sym same) ∙ ap (λ k. used_entry held k by_plan) (sym planned.of_query) ∙ v.found;
         same = v.same;
       }
 
   plan_of : (own : Plan) → by_plan ≡ own → own ≡ plan_by held (keys_of q)
-  plan_of own same = sym same ∙ is ∙ ap (plan_by held) are
+  plan_of own same = sym same ∙ planned.by_kept ∙ ap (plan_by held) planned.of_query
 
   pub same_lent : by_plan ≡ Same → FitsQuery i q lent × ((bytes : List ℕ) → HoldsGood bytes i held → IsEntryOver bytes i q lent)
   same_lent same =
       let v = lent_by Same same (λ f. let no : Same ≡ Fresh = f in cc) in (
-        subst (FitsQuery i q) v.same (same_fits i held fit q g v.kept v.found),
+        subst (FitsQuery i q) v.same (same_fits i held planned.fit q g v.kept v.found),
         λ bytes good. subst (IsEntryOver bytes i q) v.same (same_told bytes i held good q g v.kept (plan_of Same same) v.found),
       )
 
-  pub extend_lent : by_plan ≡ Extend → (1 < length (out-Query q).parts) × FitsQuery i
+  pub extend_lent : by_plan ≡ Extend → (1 ≤ length (out-Query q).parts) × FitsQuery i
       (before_last q) lent × ((bytes : List ℕ) → HoldsGood bytes i held → IsEntryOver bytes i (before_last q) lent)
   extend_lent same =
       let v = lent_by Extend same (λ f. let no : Extend ≡ Fresh = f in cc) in
-      let fits = extend_fits i held fit q g v.kept v.found in (
-        fits.0,
+      let fits = extend_fits i held planned.fit q g v.kept v.found in (
+        (let several = fits.0 in omega (arith, several)),
         subst (FitsQuery i (before_last q)) v.same fits.1,
         λ bytes good. subst (IsEntryOver bytes i (before_last q)) v.same (extend_told bytes i held good q g v.kept (plan_of Extend same) v.found),
       )
@@ -76,7 +76,7 @@ module _ (i : IndexView) (held : KeptOf (EntryOf Post)) (fit : KeepsFitting i he
   pub narrow_typed : (cut : ℕ) → by_plan ≡ Narrow cut → IsSome (last_prefix q) × AreWithin i rows
   narrow_typed cut same =
       let v = lent_by (Narrow cut) same (not_fresh cut) in
-      let fits = narrow_fits i held fit q g v.kept cut v.found in
+      let fits = narrow_fits i held planned.fit q g v.kept cut v.found in
       (fits.0, (subst (FitsQuery i q) v.same fits.1).rows)
 
   pub narrow_lent : (cut : ℕ) → by_plan ≡ Narrow cut → (e : EntryOf Post) → e.base ≡ base
@@ -90,7 +90,7 @@ module _ (i : IndexView) (held : KeptOf (EntryOf Post)) (fit : KeepsFitting i he
       cases (Some p) typed some h =
           let v = lent_by (Narrow cut) same (not_fresh cut) in
           let keeps : Post → _ = λ post. begins p (word_at i.words post.word) in
-          let fits = (narrow_fits i held fit q g v.kept cut v.found).1 in
+          let fits = (narrow_fits i held planned.fit q g v.kept cut v.found).1 in
           let whole : entry_with v.kept.1.base (filter keeps v.kept.1.rows) ≡ e =
           ap (λ (x : EntryOf Post). entry_with x.base (filter keeps x.rows)) v.same ∙ ap (entry_with base) (sym h)
           ∙ ap (λ x. entry_with x e.rows) (sym base_is) in (

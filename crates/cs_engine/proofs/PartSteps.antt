@@ -6,6 +6,7 @@
 --   listed_told            the hits of a base, as a list
 --   step_told              the entry behind a part is that of its rows
 --   step_within            and it is in range
+--   AreHitsBehind s hits p next     the hits of the entry behind a part
 --   known_docs                 the documents of posts
 --   docs_more, unscored_docs, base_sorted     the documents of a base, without scores
 use Rattle.std.proofs.Common.{◌≡◌, ℕ, ◌+◌, ◌-◌, ◌*◌, ◌<◌, ◌≤◌, ◌^◌, ◌==◌, Bool, true, false, true≢false, not, List, [], ◌∷◌, ◌++◌, length, map, get_or}
@@ -187,6 +188,12 @@ step_within i b false posts w n fits =
 
 pub known_docs : (i : IndexView) (posts : List Post) → AreWithin i posts → All (λ p. p.doc < i.docs) posts
 known_docs i posts w = All-weaker (IsWithin i.docs (length i.words)) (λ p. p.doc < i.docs) (λ p h. h.doc) posts w.within
+
+-- the hits of an entry behind a part: next are those of a query of these hits and of the part p
+pub record AreHitsBehind (s : Stock) (hits : Base) (p : PartRows) (next : Base) : Type 0 where
+  pub e : EntryOf Post
+  pub step : IsStep s hits p e
+  pub are : next ≡ posts_hits (not p.excluded) e.base e.rows
 
 -- ---- hits without their scores
 module _ (s : Stock) (done : List PartRows) (p : PartRows) (posts : List Post) (is : rows_at s.words posts ≡ p.rows) (n : ℕ) (b : Base)

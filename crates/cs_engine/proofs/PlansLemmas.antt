@@ -40,7 +40,7 @@ use Rattle.cs_model_kept.proofs.PlanLemmas.{plans_are_held}
 use Rattle.cs_rank.specs.DocScores.{IsBase}
 use Rattle.cs_vocab.specs.Ranges.{IsRange}
 use Rattle.cs_engine.specs.Asking.{division}
-use Rattle.cs_engine.specs.Keeping.{FitsQuery, IsEntryOver, entry_with}
+use Rattle.cs_engine.specs.Keeping.{FitsQuery, IsEntryOver, IsPlanned, entry_with}
 use Rattle.cs_engine.specs.Loose.{IsEntryByWords}
 use Rattle.cs_engine.specs.Plain.{AreWordsOf}
 use Rattle.cs_engine.specs.IndexReading.{AreWithin, IsWithin, stock_of}
@@ -67,11 +67,11 @@ viewed (Some e) some base rows b r = record {
   same = ap (λ x. entry_with x e.1.rows) (sym b) ∙ ap (entry_with base) (sym r);
 }
 
-pub is_used : (held : KeptOf (EntryOf Post)) (q : Query) → IsOfGrammar q → (keys : Keys) → keys ≡ keys_of q → (by_plan : Plan) → by_plan ≡ plan_by held keys
+pub is_used : {i : IndexView} {held : KeptOf (EntryOf Post)} {q : Query} {keys : Keys} {by_plan : Plan} → IsOfGrammar q → IsPlanned i held q keys by_plan
     → ¬ (by_plan ≡ Fresh) → IsSome (used_entry held keys by_plan)
-is_used held q g keys are by_plan is other =
-    let own : by_plan ≡ plan_by held (keys_of q) = is ∙ ap (plan_by held) are in
-    subst (λ k. IsSome (used_entry held k by_plan)) (sym are)
+is_used {held = held} {q = q} {by_plan = by_plan} g planned other =
+    let own : by_plan ≡ plan_by held (keys_of q) = planned.by_kept ∙ ap (plan_by held) planned.of_query in
+    subst (λ k. IsSome (used_entry held k by_plan)) (sym planned.of_query)
     (subst (λ p. IsSome (used_entry held (keys_of q) p)) (sym own) (plans_are_held held q g (λ fresh. other (own ∙ fresh))))
 
 -- ---- a letter more
@@ -117,9 +117,9 @@ module _ (q : Query) where
   many_first : length (out-Query (before_last q)).parts ≡ length ps - 1
   many_first = ap length first_are ∙ (let l = length-take (length ps - 1) ps in omega (arith, l))
 
-  pub first_in : (i : IndexView) (e : EntryOf Post) (hits : Base) → FitsQuery i (before_last q) e
+  pub first_in : {i : IndexView} {e : EntryOf Post} (hits : Base) → FitsQuery i (before_last q) e
       → hits ≡ posts_hits (last_is_positive (before_last q)) e.base e.rows → IsBaseOf i.docs (MAX_ROW_SCORE * (length ps - 1)) hits
-  first_in i e hits fits are =
+  first_in {i = i} {e = e} hits fits are =
       let positive = last_is_positive (before_last q) in
       subst (IsBaseOf i.docs (MAX_ROW_SCORE * (length ps - 1))) (sym are)
       (hits_in i positive (length ps - 1) e (subst (λ n. EntryFits i positive n e) many_first fits))
@@ -128,8 +128,8 @@ module _ (q : Query) where
   small_most true n few = omega (arith, few)
   small_most false n few = omega (arith, few)
 
-  pub first_base : (i : IndexView) (e : EntryOf Post) → length ps ≤ MAX_PARTS → FitsQuery i (before_last q) e → IsBase e.base
-  first_base i e few fits =
+  pub first_base : {i : IndexView} {e : EntryOf Post} → length ps ≤ MAX_PARTS → FitsQuery i (before_last q) e → IsBase e.base
+  first_base {i = i} {e = e} few fits =
       let n = length (out-Query (before_last q)).parts in
       let positive = last_is_positive (before_last q) in
       base_in i.docs (most positive n) e.base (small_most positive n (omega (arith, few, many_first))) fits.base

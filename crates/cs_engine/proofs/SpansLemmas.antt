@@ -1,24 +1,24 @@
 -- The hits of a table of documents and the rows of some words, found in spans.
 --
---   hits_on          of one document more the place is put behind those that were found, and counts where it has an entry
+--   hits_there       the documents of a span that have an entry are its hits
+--   entries_there    each of them has an entry
 --   none_in_span     a span of no entry has no hit
 --   between_there    the places of words between two are those of their rows
 --   place_added      the row of one place more
 --   span_added       the rows of a span behind those so far
 --   span_fits        there is room for them
 use Rattle.std.proofs.Common.{◌≡◌, ℕ, zero, suc, ◌+◌, ◌-◌, ◌<◌, ◌≤◌, ◌&&◌, true, false, cond, List, [], ◌∷◌, ◌++◌}
-use Rattle.std.proofs.Common.{length, get_or, set, map, take, drop, refl, sym, ap, ◌∙◌, append_assoc, arith, if◌then◌else◌}
+use Rattle.std.proofs.Common.{length, get_or, map, take, drop, refl, sym, ap, ◌∙◌, append_assoc, arith}
 use Rattle.std.specs.Prelude.{All, filter, nat_le, nat_lt}
-use Rattle.std.specs.List.{AllByRecursion}
-use Rattle.std.proofs.lemmas.List.{drop-drop, drop_more, get_or_default, map-append, take-set, take_more, take_more_set, length-append, length-drop, length-map}
+use Rattle.std.specs.List.{AllByRecursion, range_with_len}
+use Rattle.std.proofs.lemmas.Bool.Decides.{nat_tests}
+use Rattle.std.proofs.lemmas.List.{drop-drop, drop_more, get_or-map, get_or_default, map-append, take_more, length-append, length-drop, length-map}
 use Rattle.std.proofs.lemmas.List.Elements.{recursion_from_All}
 use Rattle.cs_base.specs.declared.content.doc.Post.{Post}
-use Rattle.cs_base.specs.declared.content.doc.Scored.{Scored}
-use Rattle.cs_cols.specs.SpanPlaces.{is_between_at, places_where}
-use Rattle.cs_cols.proofs.FoundPlaces.{rows_there}
-use Rattle.cs_tables.proofs.PlacesLemmas.{field_at}
+use Rattle.cs_cols.specs.SpanPlaces.{IsSpan, is_between_at, places_where}
+use Rattle.cs_cols.proofs.FoundPlaces.{places_pass, places_within, rows_there}
 use Rattle.cs_engine.specs.Loose.{hits_in}
-use Rattle.cs_engine.specs.Spans.{AreHitsBetween, ArePlacesBetween, hit_at}
+use Rattle.cs_engine.specs.Spans.{AreHitsBetween, ArePlacesBetween, HasEntry, has_entry_at, hit_at}
 use Rattle.cs_engine.specs.Stocked.{is_between}
 
 none_more : (n : ℕ) → n + 0 ≡ n
@@ -29,23 +29,40 @@ hits_next : (best : List ℕ) (d : ℕ) → d < length best
 unfolding hits_in
 hits_next best d lt = ap (hits_in d) (drop_more best d 0 lt)
 
-pub hits_on : (best : List ℕ) (from d : ℕ) (places : List ℕ) (n m : ℕ) → d < length best → n < length places
-    → m ≡ n + (if nat_lt 0 (get_or best d 0) then 1 else 0) → AreHitsBetween best from d (take n places)
-    → AreHitsBetween best from (d + 1) (take m (set places n d))
-hits_on best from d places n m lt room count h =
-    let at : ℕ → Scored = hit_at best in
-    let rest = hits_in (d + 1) (drop (d + 1) best) in
-    let split : hits_in d (drop d best) ≡ cond (nat_lt 0 (get_or best d 0)) (at d ∷ rest) rest = hits_next best d lt in
-    elim (nat_lt 0 (get_or best d 0)) as (λ b. hits_in d (drop d best) ≡ cond b (at d ∷ rest) rest → m ≡ n + cond b 1 0
-    → AreHitsBetween best from (d + 1) (take m (set places n d))) [
-      | true ↦ λ next many.
-          let longer : take m (set places n d) ≡ take n places ++ d ∷ [] = ap (λ x. take x (set places n d)) many ∙ take_more_set places n d room in
-          ap (λ xs. map at xs ++ rest) longer ∙ ap (λ xs. xs ++ rest) (map-append at (take n places) (d ∷ []))
-          ∙ append_assoc (map at (take n places)) (at d ∷ []) rest ∙ ap (λ xs. map at (take n places) ++ xs) (sym next) ∙ h
-      | false ↦ λ next many.
-          let same : take m (set places n d) ≡ take n places = ap (λ x. take x (set places n d)) (many ∙ none_more n) ∙ take-set places n d in
-          ap (λ xs. map at xs ++ rest) same ∙ ap (λ xs. map at (take n places) ++ xs) (sym next) ∙ h
-    ] split count
+hits_from : (best : List ℕ) (from n : ℕ) → from + n ≤ length best
+    → map (hit_at best) (filter (has_entry_at best) (range_with_len from n)) ++ hits_in (from + n) (drop (from + n) best) ≡ hits_in from (drop from best)
+hits_from best from zero le = ap (λ x. hits_in x (drop x best)) (none_more from)
+hits_from best from (suc n) le =
+    let next : from + suc n ≡ from + 1 + n = omega arith in
+    let more = filter (has_entry_at best) (range_with_len (from + 1) n) in
+    let rest = map (hit_at best) more in
+    let behind = hits_in (from + suc n) (drop (from + suc n) best) in
+    let after = hits_in (from + 1) (drop (from + 1) best) in
+    let h : rest ++ behind ≡ after = ap (λ x. rest ++ hits_in x (drop x best)) next ∙ hits_from best (from + 1) n (omega (arith, le)) in
+    let split : hits_in from (drop from best) ≡ cond (has_entry_at best from) (hit_at best from ∷ after) after = hits_next best from (omega (arith, le)) in
+    elim (has_entry_at best from) as (λ b. hits_in from (drop from best) ≡ cond b (hit_at best from ∷ after) after
+    → map (hit_at best) (cond b (from ∷ more) more) ++ behind ≡ hits_in from (drop from best)) [
+      | true ↦ λ e. ap (λ xs. hit_at best from ∷ xs) h ∙ sym e
+      | false ↦ λ e. h ∙ sym e
+    ] split
+
+module _ (best : List ℕ) (from to : ℕ) (docs : List ℕ) {room : ℕ} (span : IsSpan from to (length best) room)
+    (are : docs ≡ places_where (has_entry_at best) from to) where
+  -- the documents of a span that have an entry are its hits
+  pub hits_there : AreHitsBetween best from to docs
+  hits_there =
+      let up = span.onward in
+      let end : from + (to - from) ≡ to = omega (arith, up) in
+      ap (λ xs. map (hit_at best) xs ++ hits_in to (drop to best)) are
+      ∙ ap (λ x. map (hit_at best) (places_where (has_entry_at best) from to) ++ hits_in x (drop x best)) (sym end)
+      ∙ hits_from best from (to - from) (let in_table = span.within in omega (arith, end, in_table))
+
+  -- each of them has one
+  pub entries_there : All (HasEntry best) docs
+  entries_there k d lt = (
+    places_within (has_entry_at best) from to (length best) docs span.onward span.within are k d lt,
+    (let has = places_pass (has_entry_at best) from to docs are k d lt in grind (arith, nat_tests, has)),
+  )
 
 no_hit : (d n : ℕ) (best : List ℕ) → n ≤ length best → AllByRecursion (λ v. v ≡ 0) (take n best) → hits_in (d + n) (drop n best) ≡ hits_in d best
 unfolding hits_in
@@ -71,7 +88,7 @@ pub between_there : (lo hi : ℕ) (rows : List Post) (d : Post) (words : List �
 between_there lo hi rows d words are from to places onward within found =
     rows_there (is_between_at lo hi words) (is_between lo hi) rows d from to places onward
     (omega (arith, within, ap length are, length-map rows (λ (p : Post). p.word)))
-    (λ i lt. ap (λ x. nat_le lo x && nat_lt x hi) (field_at (λ p. p.word) words rows i d lt are)) found
+    (λ i lt. ap (λ x. nat_le lo x && nat_lt x hi) (ap (λ xs. get_or xs i 0) are ∙ get_or-map (λ p. p.word) rows i d 0 lt)) found
 
 pub place_added : (rows : List Post) (d : Post) (places : List ℕ) (j : ℕ) (old now new : List Post) (x : Post) → j < length places
     → get_or places j 0 < length rows → x ≡ get_or rows (get_or places j 0) x → now ≡ old ++ map (λ i. get_or rows i d) (take j places)

@@ -9,8 +9,7 @@
 --   has_facet held n     the facet of a name is held
 --   HoldsFacets i held names     what is held are facets of the index, those of these names among them
 --   CountsFacet i f b marks      a facet of the index is counted in the documents that a base lists, which are those of marks
---   WhereHeld told i held P      P holds of the bytes that a store tells, where the index i and the held facets are of them
-use Rattle.std.specs.Prelude.{◌≡◌, ℕ, ◌*◌, Bool, true, List, [], filter, Option}
+use Rattle.std.specs.Prelude.{◌≡◌, ℕ, ◌*◌, Bool, true, List, [], filter}
 use Rattle.std.specs.List.{All, list_any}
 use Rattle.std.specs.Str.{bytes_eq}
 use Rattle.cs_base.specs.declared.content.doc.Base.{Base}
@@ -21,7 +20,7 @@ use Rattle.cs_file.specs.Indexes.{IndexView, IsIndex}
 use Rattle.cs_model.specs.Collection.{named}
 use Rattle.cs_vocab.specs.Ranges.{IsRange}
 use Rattle.cs_engine.specs.Counting.{AreListed}
-use Rattle.cs_engine.specs.IndexReading.{AreWithin, WhereStood, stock_of}
+use Rattle.cs_engine.specs.IndexReading.{AreWithin, stock_of}
 use Rattle.cs_engine.specs.Steps.{IsBaseOf}
 use Rattle.cs_engine.specs.Stocked.{is_between}
 
@@ -60,7 +59,3 @@ pub record CountsFacet (i : IndexView) (f : FacetView) (b : Base) (marks : List 
   pub facet : IsFacet i f
   pub base : IsBaseOf i.docs (MAX_ROW_SCORE * MAX_PARTS) b
   pub listed : AreListed i.docs b marks
-
--- nothing is said of a store that tells nothing, and of one that tells other bytes
-abbrev pub WhereHeld : Option (List ℕ) → IndexView → List FacetView → (List ℕ → Type 0) → Type 0
-WhereHeld told i held P = WhereStood told i (λ b. AreFacetsOver b held → P b)

@@ -6,9 +6,9 @@
 --   EngineView                an opened index, what is kept of answers, and the facets that are held
 --   entry_with b posts        the entry of this base and these posts
 --   FitsQuery i q e           an entry is in the range of an index, as that of the query q is
---   FitsAnswer i r a          an answer has no more hits than a request asks for, and its own entry fits the request's query
 --   IsKeptEntry i e           the key of e is that of a query of the grammar, whose entry fits the index i
 --   KeepsFitting i held       each entry does
+--   IsPlanned i held q keys p      p is the plan for the keys of a query by what is kept, each entry of which fits the index i
 --   IsEntryOver b i q e       over the bytes b of an index an entry is that of the query q
 --   IsAnsweredOver b i r a    over them an answer has the reply to a request, and its own entry where that isn't too large
 --   IsRepliedOver b i r p a   the same of an answer by the plan p, whose own entry may have been kept before
@@ -24,7 +24,7 @@
 --   IsLeftBehind q old new    what is kept after a refusal: the same entries, the used one maybe in front
 --   KeepsAnswers i q old r new       the one or the other
 --   IsAfter b q old r new     what is kept after a reply, over the bytes of the index
-use Rattle.std.specs.Prelude.{◌≡◌, ◌⊎◌, ◌≤◌, ℕ, false, List, ◌∷◌, length, take, Option, Some, None, is_some, IfSome, Result, Ok, Err, if◌then◌else◌}
+use Rattle.std.specs.Prelude.{◌≡◌, ◌⊎◌, ℕ, false, List, ◌∷◌, length, take, Option, Some, None, is_some, IfSome, Result, Ok, Err, if◌then◌else◌}
 use Rattle.std.specs.List.{All}
 use Rattle.cs_base.specs.declared.content.doc.Base.{Base}
 use Rattle.cs_base.specs.declared.content.doc.Post.{Post}
@@ -64,11 +64,6 @@ entry_with b posts = record { base = b; rows = posts }
 abbrev pub FitsQuery : IndexView → Query → EntryOf Post → Type 0
 FitsQuery i q e = EntryFits i (last_is_positive q) (length (out-Query q).parts) e
 
--- where no entry comes along, nothing is said of it
-pub record FitsAnswer (i : IndexView) (r : Request) (a : Reply × Option (EntryOf Post)) : Type 0 where
-  pub few : length a.0.hits ≤ r.hits
-  pub within : IfSome a.1 (FitsQuery i r.query)
-
 -- the key is that of a query of the grammar, and the entry's rows and base are in the range of the index, as an entry of that
 -- query's parts is
 pub record IsKeptEntry (i : IndexView) (e : List ℕ × EntryOf Post) : Type 0 where
@@ -80,6 +75,12 @@ pub record IsKeptEntry (i : IndexView) (e : List ℕ × EntryOf Post) : Type 0 w
 -- of no entry it holds
 abbrev pub KeepsFitting : IndexView → KeptOf (EntryOf Post) → Type 0
 KeepsFitting i held = All (IsKeptEntry i) held
+
+-- Fresh where nothing is kept
+pub record IsPlanned (i : IndexView) (held : KeptOf (EntryOf Post)) (q : Query) (keys : Keys) (p : Plan) : Type 0 where
+  pub of_query : keys ≡ keys_of q
+  pub by_kept : p ≡ plan_by held keys
+  pub fit : KeepsFitting i held
 
 -- the plan by the keys of the query; Fresh where nothing is kept
 abbrev pub note_plan : Query → AnswerList → Plan

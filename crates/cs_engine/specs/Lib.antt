@@ -11,3 +11,4 @@ pub mod Stocked
 pub mod GatheredRows
 pub mod Spans
 pub mod HeldFacets
+pub mod RequestsOver

@@ -16,7 +16,6 @@
 --   AreFound s q hits posts         the hits of the query q, and posts that stand for its pairs
 --   IsStep s hits p e               e is the entry of a query of these hits and of the part p
 --   AreHitsOver b q hits            over the bytes of an index the hits of the query q
---   AreHitsBehind s hits p next     next are the hits of a query of these hits and of the part p
 use Rattle.std.specs.Prelude.{◌≡◌, ℕ, ◌-◌, ◌*◌, ◌≤◌, ◌<◌, Bool, true, false, not, ◌==◌, List, [], map, fold, if◌then◌else◌}
 use Rattle.std.specs.List.{All, list_any}
 use Rattle.cs_base.specs.content.Orders.{AreByDoc, docs_of}
@@ -100,9 +99,3 @@ pub record AreFound (s : Stock) (q : Query) (hits : Base) (posts : List Post) : 
 -- with their scores; All of a query without a part
 abbrev pub AreHitsOver : List ℕ → Query → Base → Type 0
 AreHitsOver b q hits = hits ≡ base_of (corpus_in (stock_of b)) (parts_of (corpus_in (stock_of b)) q)
-
--- those of its entry
-pub record AreHitsBehind (s : Stock) (hits : Base) (p : PartRows) (next : Base) : Type 0 where
-  pub e : EntryOf Post
-  pub step : IsStep s hits p e
-  pub are : next ≡ posts_hits (not p.excluded) e.base e.rows

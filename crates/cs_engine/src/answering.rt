@@ -6,7 +6,7 @@ ghost use Rattle.cs_base.specs.declared.content.limits.TheConstants.{MAX_PARTS};
 ghost use Rattle.cs_file.specs.Indexes.{IsIndex, StandsFor};
 ghost use Rattle.cs_model.specs.Requests.{hit_shown, reply_of};
 ghost use Rattle.cs_query.specs.RequestView.{asked};
-ghost use Rattle.cs_engine.specs.{Asking.{titles_read}, HeldFacets.{AreFacetsOver, CountsFacet, HoldsFacets, IsFacetOver, WhereHeld}};
+ghost use Rattle.cs_engine.specs.{Asking.{titles_read}, HeldFacets.{AreFacetsOver, CountsFacet, HoldsFacets, IsFacetOver}, RequestsOver.{CanAnswer, WhereHeld}};
 ghost use Rattle.cs_engine.specs.{Loose.{IsTableFor}, IndexReading.{IsOpened, OnlyReads, WhereStood, stock_of}, Steps.{IsBaseOf}};
 ghost use Rattle.cs_engine.specs.Stocked.{corpus_in, facet_at};
 
@@ -21,29 +21,40 @@ use cs_rank::top;
 use cs_tables::Table;
 use std::alloc::Global;
 
+/// A request over an opened index, the facets whose rows are held, and the memory for what is made.
+#[derive(Clone, Copy)]
+pub(crate) struct RequestOver<'a> {
+    pub(crate) alloc: Global,
+    pub(crate) index: &'a Index,
+    pub(crate) held: &'a [FacetRows],
+    pub(crate) request: &'a Request,
+}
+
 /// The reply to a request, by the hits of its query and the table of the rows of the last part in them.
 pub(crate) fn reply_of<S: Store>(
-    alloc: Global,
-    index: &Index,
-    held: &[FacetRows],
+    over: RequestOver<'_>,
     store: &mut S,
-    request: &Request,
     hits: Base,
     table: Table,
 ) -> Result<Reply, FetchFault>
-    requires base { IsBaseOf index.now.docs (MAX_ROW_SCORE * MAX_PARTS) hits }
-    requires table { All (λ w. w.word < length index.now.words) table.first }
-    requires held { HoldsFacets index.now held.now (asked request.now).facets }
-    requires opened { IsOpened (S.bytes store.old) index.now }
+    requires base { IsBaseOf over.index.now.docs (MAX_ROW_SCORE * MAX_PARTS) hits }
+    requires table { All (λ w. w.word < length over.index.now.words) table.first }
+    requires over { CanAnswer (S.bytes store.old) over }
 
-    ensures told { WhereHeld (S.bytes store.old) index.now held.now
-        (λ b. IsTableFor index.now b request.now.query request.now.completions hits table
-        → IfOk result (λ r. r ≡ reply_of (corpus_in (stock_of b)) (asked request.now))) }
-    ensures few { IfOk result (λ r. length r.hits ≤ request.now.hits) }
-    ensures store { OnlyReads S.bytes S.lent S.faults index.now store.old store.new result }
-    ensures reads { ReadsWithin (titles_read (asked request.now) result) (S.reads store.old)
+    ensures told { WhereHeld (S.bytes store.old) over.entry
+        (λ b i r. IsTableFor i b r.query r.completions hits table
+        → IfOk result (λ reply. reply ≡ reply_of (corpus_in (stock_of b)) r)) }
+    ensures few { IfOk result (λ r. length r.hits ≤ over.entry.request.now.hits) }
+    ensures store { OnlyReads S.bytes S.lent S.faults over.entry.index.now store.old store.new result }
+    ensures reads { ReadsWithin (titles_read (asked over.entry.request.now) result) (S.reads store.old)
         (S.reads store.new) }
 {
+    let RequestOver {
+        alloc,
+        index,
+        held,
+        request,
+    } = over;
     let shown = shown_words(alloc, &index.words, table.first.as_slice())?;
     let facets = shown_facets(alloc, index, held, &hits, request)?;
     let all = listed(alloc, index.docs, hits)?;

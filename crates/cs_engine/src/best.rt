@@ -4,7 +4,7 @@ ghost use Rattle.std.specs.{List.{All}, Vec.{vec_capacity, vec_len}};
 ghost use Rattle.cs_base.specs.declared.content.doc.Base.TheVariants as base;
 ghost use Rattle.cs_base.specs.{declared.content.doc.Post.{Post}, declared.content.scores.TheConstants.{MAX_ROW_SCORE, TITLE_SCORE}, content.Orders.{AreByDoc}};
 ghost use Rattle.cs_file.specs.CallAnswers.{AreScoredOf};
-ghost use Rattle.cs_rank.specs.DocScores.{IsBase, scores, with_base};
+ghost use Rattle.{cs_rank.specs.DocScores.{IsBase, scores, with_base}, cs_cols.specs.SpanPlaces.{IsSpan}};
 ghost use Rattle.cs_engine.specs.{Loose.{HasBestScores, hits_in}, Packing.{post_of_key}, Spans.{AreHitsBetween, HasEntry, hit_at}, Steps.{IsBaseOf}};
 ghost use Rattle.cs_tables.specs.WordCounts.{is_chosen, is_of_listed};
 
@@ -186,10 +186,8 @@ fn with_span(
     to: usize,
     places: &mut [usize],
 ) -> Result<Vec<Scored>, Memory>
-    requires onward { from ≤ to }
-    requires within { to ≤ length best.now }
+    requires span { IsSpan from to (length best.now) (length places.old) }
     requires few { length best.now < 2 ^ 32 }
-    requires room { to ≤ from + length places.old }
 
     ensures { IfOk result (λ v. v.items ++ hits_in to (drop to best.now) ≡ hits.items ++ hits_in from (drop from best.now)) }
 {
@@ -215,9 +213,7 @@ fn is_bare(best: &[u8]) -> bool
 
 // Puts those of some documents that have an entry to the front of a slice, without a jump, and says how many there are.
 fn find_hits(best: &[u8], from: usize, to: usize, places: &mut [usize]) -> usize
-    requires onward { from ≤ to }
-    requires within { to ≤ length best.now }
-    requires room { to ≤ from + length places.old }
+    requires span { IsSpan from to (length best.now) (length places.old) }
 
     ensures found { AreHitsBetween best.now from to (take result places.new) }
     ensures known { All (HasEntry best.now) (take result places.new) }

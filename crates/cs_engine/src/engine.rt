@@ -12,6 +12,7 @@ ghost use Rattle.cs_engine.specs.Asking.{IsChangeIn, division, titles_asked};
 ghost use Rattle.cs_file.specs.CallAnswers.{is_changed, is_read};
 ghost use Rattle.cs_engine.specs.Keeping.{AreGood, IsAfter, KeepsAnswers, became, entries_behind, note_plan};
 
+use crate::answering::RequestOver;
 use crate::facets::{FacetRows, hold_facets};
 use crate::note::Note;
 use crate::replying::answered;
@@ -101,16 +102,13 @@ impl Engine {
         let names = request.facets.as_slice();
         hold_facets(alloc, &self.index, store, names, &mut self.facets)?;
         let plan = self.answers.look(&keys);
-        let (reply, own) = answered(
+        let over = RequestOver {
             alloc,
-            &self.index,
-            &self.answers,
-            &self.facets,
-            store,
+            index: &self.index,
+            held: &self.facets,
             request,
-            &keys,
-            plan,
-        )?;
+        };
+        let (reply, own) = answered(over, &self.answers, store, &keys, plan)?;
         let kept = put(&mut self.answers, keys, plan, own);
         Ok((reply, Note { plan, kept }))
     }

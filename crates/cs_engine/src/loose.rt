@@ -8,14 +8,13 @@ ghost use Rattle.cs_model.specs.{Parameters.{HoldsLimits}, Requests.{reply_of}};
 ghost use Rattle.cs_model_index.specs.Sections.{file_corpus};
 ghost use Rattle.cs_model_kept.specs.Entries.{listed_count};
 ghost use Rattle.cs_query.specs.RequestView.{asked};
-ghost use Rattle.cs_engine.specs.{Asking.{titles_asked, titles_read}, Blockwise.{AreMany}, HeldFacets.{HoldsFacets, WhereHeld}};
-ghost use Rattle.cs_engine.specs.{Keeping.{FitsAnswer, IsAnsweredOver}, Counting.{AreListed}, GatheredRows.{HasGathered}, Loose.{AreLastWords, IsEntryByWords}};
+ghost use Rattle.cs_engine.specs.{Asking.{titles_asked, titles_read}, Blockwise.{AreMany}, RequestsOver.{CanAnswer, FitsAnswer, WhereHeld}};
+ghost use Rattle.cs_engine.specs.{Keeping.{IsAnsweredOver}, Counting.{AreListed}, GatheredRows.{HasGathered}, Loose.{AreLastWords, IsEntryByWords}};
 ghost use Rattle.cs_engine.specs.IndexReading.{IsOpened, IsWordRange, OnlyReads};
 
-use crate::answering::reply_of;
+use crate::answering::{RequestOver, reply_of};
 use crate::blockwise::{are_many, found_behind};
 use crate::counting::listed_docs;
-use crate::facets::FacetRows;
 use crate::gathering::{Gathered, gather, nothing_gathered};
 use crate::packing::ordered;
 use crate::replying::with_reply;
@@ -29,45 +28,37 @@ use std::alloc::Global;
 /// The reply to a query whose last part asks for these words, by the hits of the parts before it, and the query's own entry; None
 /// where that is too large.
 pub(crate) fn answered_by_words<S: Store>(
-    alloc: Global,
-    index: &Index,
-    held: &[FacetRows],
+    over: RequestOver<'_>,
     store: &mut S,
-    request: &Request,
     hits: Base,
     words: (u32, u32),
 ) -> Result<(Reply, Option<Entry>), FetchFault>
-    requires limits { HoldsLimits (asked request.now) }
-    requires asks { AreLastWords index.now request.now.query hits words.0 words.1 }
-    requires held { HoldsFacets index.now held.now (asked request.now).facets }
-    requires opened { IsOpened (S.bytes store.old) index.now }
+    requires asks { AreLastWords over.index.now over.request.now.query hits words.0 words.1 }
+    requires over { CanAnswer (S.bytes store.old) over }
 
-    ensures told { WhereHeld (S.bytes store.old) index.now held.now
-        (λ b. IsEntryByWords b index.now request.now.query hits words.0 words.1 → IfOk result (IsAnsweredOver b index.now (asked request.now))) }
-    ensures fits { IfOk result (FitsAnswer index.now (asked request.now)) }
-    ensures store { OnlyReads S.bytes S.lent S.faults index.now store.old store.new result }
-    ensures reads { ReadsWithin (titles_asked (asked request.now) result + length
-        (filter (is_met words.0 words.1) index.now.heads)) (S.reads store.old) (S.reads store.new) }
+    ensures told { WhereHeld (S.bytes store.old) over.entry
+        (λ b i r. IsEntryByWords b i r.query hits words.0 words.1 → IfOk result (IsAnsweredOver b i r)) }
+    ensures fits { IfOk result (FitsAnswer over.entry) }
+    ensures store { OnlyReads S.bytes S.lent S.faults over.entry.index.now store.old store.new result }
+    ensures reads { ReadsWithin (titles_asked (asked over.entry.request.now) result + length
+        (filter (is_met words.0 words.1) over.entry.index.now.heads)) (S.reads store.old) (S.reads store.new) }
 {
+    let RequestOver { alloc, index, .. } = over;
     let listed = listed_docs(alloc, index.docs, &hits)?;
     if fills(index, &hits, words) {
         let none = nothing_gathered(alloc, index, words);
-        let reply = reply_behind(
-            alloc, index, held, store, request, &hits, words, &listed, &none,
-        )?;
+        let reply = reply_behind(over, store, &hits, words, &listed, &none)?;
         return Ok((reply, None));
     }
     let room = MAX_ENTRY_SIZE.saturating_sub(size_of(&hits));
     let gathered = gather(alloc, index, store, words, &listed, room)?;
     if gathered.keys.len() > room {
-        let reply = reply_behind(
-            alloc, index, held, store, request, &hits, words, &listed, &gathered,
-        )?;
+        let reply = reply_behind(over, store, &hits, words, &listed, &gathered)?;
         return Ok((reply, None));
     }
     let rows = ordered(alloc, gathered.keys)?;
     let entry = Entry { base: hits, rows };
-    let answered = with_reply(alloc, index, held, store, request, entry)?;
+    let answered = with_reply(over, store, entry)?;
     Ok(answered)
 }
 
@@ -98,48 +89,35 @@ fn size_of(base: &Base) -> usize
 // The reply to a query whose last part asks for these words, by what was gathered of their first blocks, by the rest of the blocks, and
 // by the hits of the parts before it.
 fn reply_behind<S: Store>(
-    alloc: Global,
-    index: &Index,
-    held: &[FacetRows],
+    over: RequestOver<'_>,
     store: &mut S,
-    request: &Request,
     hits: &Base,
     words: (u32, u32),
     listed: &[bool],
     gathered: &Gathered,
 ) -> Result<Reply, FetchFault>
-    requires limits { HoldsLimits (asked request.now) }
-    requires asks { AreLastWords index.now request.now.query hits.now words.0 words.1 }
-    requires listed { AreListed index.now.docs hits.now listed.now }
-    requires gathered { HasGathered index.now (S.bytes store.old) words.0 words.1 listed.now gathered.now }
-    requires held { HoldsFacets index.now held.now (asked request.now).facets }
-    requires opened { IsOpened (S.bytes store.old) index.now }
+    requires asks { AreLastWords over.index.now over.request.now.query hits.now words.0 words.1 }
+    requires listed { AreListed over.index.now.docs hits.now listed.now }
+    requires gathered { HasGathered over.index.now (S.bytes store.old) words.0 words.1 listed.now gathered.now }
+    requires over { CanAnswer (S.bytes store.old) over }
 
-    ensures told { WhereHeld (S.bytes store.old) index.now held.now
-        (λ b. IsEntryByWords b index.now request.now.query hits.now words.0 words.1 → IfOk result (λ r. r ≡ reply_of (file_corpus b) (asked request.now))) }
-    ensures few { IfOk result (λ r. length r.hits ≤ request.now.hits) }
-    ensures store { OnlyReads S.bytes S.lent S.faults index.now store.old store.new result }
-    ensures reads { ReadsWithin (titles_read (asked request.now) result
+    ensures told { WhereHeld (S.bytes store.old) over.entry
+        (λ b i r. IsEntryByWords b i r.query hits.now words.0 words.1 → IfOk result (λ reply. reply ≡ reply_of (file_corpus b) r)) }
+    ensures few { IfOk result (λ r. length r.hits ≤ over.entry.request.now.hits) }
+    ensures store { OnlyReads S.bytes S.lent S.faults over.entry.index.now store.old store.new result }
+    ensures reads { ReadsWithin (titles_read (asked over.entry.request.now) result
         + (gathered.now.last - gathered.now.next)) (S.reads store.old) (S.reads store.new) }
 {
     let (found, table) = found_behind(
-        alloc,
-        index,
+        over.alloc,
+        over.index,
         store,
         hits,
         words,
         listed,
         gathered,
-        request.completions,
+        over.request.completions,
     )?;
-    let reply = reply_of(
-        alloc,
-        index,
-        held,
-        store,
-        request,
-        Base::Listed(found),
-        table,
-    )?;
+    let reply = reply_of(over, store, Base::Listed(found), table)?;
     Ok(reply)
 }

@@ -7,13 +7,13 @@ ghost use Rattle.cs_model_index.specs.Numbered.{word_at};
 ghost use Rattle.cs_model_kept.specs.{Due.{met_of_last}, KeptListLaws.{before_last}};
 ghost use Rattle.cs_query.specs.RequestView.{asked};
 ghost use Rattle.cs_rank.specs.DocScores.{IsBase};
-ghost use Rattle.cs_engine.specs.{Asking.{division, titles_asked}, HeldFacets.{HoldsFacets, WhereHeld}};
-ghost use Rattle.cs_engine.specs.{Keeping.{FitsAnswer, IsAnsweredOver}, IndexReading.{AreWithin, IsOpened, OnlyReads}};
+ghost use Rattle.cs_engine.specs.{Asking.{division, titles_asked}, RequestsOver.{CanAnswer, FitsAnswer, WhereHeld}};
+ghost use Rattle.cs_engine.specs.{Keeping.{IsAnsweredOver}, IndexReading.{AreWithin, IsOpened, OnlyReads}};
 ghost use Rattle.cs_engine.specs.Steps.{AreHitsOver, IsBaseOf, last_is_positive, posts_hits};
 
+use crate::answering::RequestOver;
 use crate::between::posts_between;
 use crate::entries::{copy_of, hits_of};
-use crate::facets::FacetRows;
 use crate::loose::answered_by_words;
 use crate::plain::words_of_part;
 use crate::replying::with_reply;
@@ -74,34 +74,29 @@ pub(crate) fn hits_before(
 /// The reply to a query by the hits of its parts before the last, whose atoms are read, and the query's own entry; None where that is
 /// too large.
 pub(crate) fn answered_by_hits<S: Store>(
-    alloc: Global,
-    index: &Index,
-    held: &[FacetRows],
+    over: RequestOver<'_>,
     store: &mut S,
-    request: &Request,
     hits: Base,
 ) -> Result<(Reply, Option<Entry>), FetchFault>
-    requires limits { HoldsLimits (asked request.now) }
-    requires some { 1 ≤ length (out-Query request.now.query).parts }
-    requires base { IsBaseOf index.now.docs (MAX_ROW_SCORE * (length (out-Query request.now.query).parts - 1)) hits }
-    requires held { HoldsFacets index.now held.now (asked request.now).facets }
-    requires opened { IsOpened (S.bytes store.old) index.now }
+    requires some { 1 ≤ length (out-Query over.request.now.query).parts }
+    requires base { IsBaseOf over.index.now.docs (MAX_ROW_SCORE * (length (out-Query over.request.now.query).parts - 1)) hits }
+    requires over { CanAnswer (S.bytes store.old) over }
 
-    ensures told { WhereHeld (S.bytes store.old) index.now held.now
-        (λ b. AreHitsOver b (before_last request.now.query) hits → IfOk result (IsAnsweredOver b index.now (asked request.now))) }
-    ensures fits { IfOk result (FitsAnswer index.now (asked request.now)) }
-    ensures store { OnlyReads S.bytes S.lent S.faults index.now store.old store.new result }
-    ensures reads { ReadsWithin (titles_asked (asked request.now) result + met_of_last
-        (division index.now) (last_of (out-Query request.now.query).parts)) (S.reads store.old) (S.reads store.new) }
+    ensures told { WhereHeld (S.bytes store.old) over.entry
+        (λ b i r. AreHitsOver b (before_last r.query) hits → IfOk result (IsAnsweredOver b i r)) }
+    ensures fits { IfOk result (FitsAnswer over.entry) }
+    ensures store { OnlyReads S.bytes S.lent S.faults over.entry.index.now store.old store.new result }
+    ensures reads { ReadsWithin (titles_asked (asked over.entry.request.now) result + met_of_last
+        (division over.entry.index.now) (last_of (out-Query over.entry.request.now.query).parts)) (S.reads store.old) (S.reads store.new) }
 {
-    let parts = request.query.parts.as_slice();
+    let parts = over.request.query.parts.as_slice();
     let last = parts.len() - 1;
     let part = &parts[last];
-    if let Some(words) = words_of_part(index, part) {
-        let answered = answered_by_words(alloc, index, held, store, request, hits, words)?;
+    if let Some(words) = words_of_part(over.index, part) {
+        let answered = answered_by_words(over, store, hits, words)?;
         return Ok(answered);
     }
-    let entry = extended(alloc, index, store, hits, part)?;
-    let answered = with_reply(alloc, index, held, store, request, entry)?;
+    let entry = extended(over.alloc, over.index, store, hits, part)?;
+    let answered = with_reply(over, store, entry)?;
     Ok(answered)
 }

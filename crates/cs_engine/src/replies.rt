@@ -1,8 +1,7 @@
 //! Words as they are shown.
 ghost use Rattle.std.specs.Prelude.{◌≡◌, ◌<◌, IfOk, length, map};
 ghost use Rattle.std.specs.{List.{All}, Str.{IsUtf8}};
-ghost use Rattle.cs_model.specs.Replies.{shown_word};
-ghost use Rattle.cs_engine.specs.Stocked.{shown_at};
+ghost use Rattle.{cs_model.specs.Replies.{shown_word}, cs_engine.specs.Stocked.{shown_at}};
 
 use cs_base::{Memory, Seq, Text};
 use cs_query::Shown;

@@ -6,7 +6,7 @@ ghost use Rattle.cs_base.specs.declared.content.query.Part.{out-Part};
 ghost use Rattle.cs_model.specs.Answers.{rows_of_part};
 ghost use Rattle.cs_model_kept.specs.Due.{met_of_part};
 ghost use Rattle.cs_engine.specs.{Asking.{division}, IndexReading.{IsOpened, OnlyReads, WhereStood, stock_of}};
-ghost use Rattle.cs_engine.specs.{Steps.{AreHitsBehind, AreHitsOver, EntryFits, IsBaseOf, IsStep, end_positive}, Stocked.{corpus_in}};
+ghost use Rattle.cs_engine.specs.{Steps.{AreHitsOver, EntryFits, IsBaseOf, IsStep, end_positive}, Stocked.{corpus_in}};
 
 use crate::entries::{entry_after, hits_of};
 use crate::evaluation::rows_of_part;
@@ -17,7 +17,7 @@ use cs_cache::Entry;
 use cs_file::{FetchFault, Index};
 use std::alloc::Global;
 
-/// The hits of a query of these parts, one part after the other.
+/// The hits of a query of these parts, one part after the other. Where a part asks for some words, its rows are brought into no order.
 pub(crate) fn hits_of_parts<S: Store>(
     alloc: Global,
     index: &Index,
@@ -34,35 +34,15 @@ pub(crate) fn hits_of_parts<S: Store>(
 {
     let mut hits = Base::All;
     for part in parts {
-        hits = hits_behind(alloc, index, store, hits, part)?;
+        if let Some(words) = words_of_part(index, part) {
+            let scored = hits_by_words(alloc, index, store, &hits, words)?;
+            hits = Base::Listed(scored);
+            continue;
+        }
+        let entry = extended(alloc, index, store, hits, part)?;
+        hits = hits_of(alloc, !part.excluded, &entry.base, &entry.rows)?;
     }
     Ok(hits)
-}
-
-// The hits of a query and one part more, by the query's hits. Where the part asks for some words, its rows are brought into no order.
-fn hits_behind<S: Store>(
-    alloc: Global,
-    index: &Index,
-    store: &mut S,
-    hits: Base,
-    part: &Part,
-) -> Result<Base, FetchFault>
-    requires base { IsBaseOf index.now.docs (MAX_ROW_SCORE * MAX_PARTS) hits }
-    requires opened { IsOpened (S.bytes store.old) index.now }
-
-    ensures told { WhereStood (S.bytes store.old) index.now
-        (λ b. IfOk result (AreHitsBehind (stock_of b) hits (rows_of_part (corpus_in (stock_of b)) part.now))) }
-    ensures within { IfOk result (λ next. (n : ℕ) → IsBaseOf index.now.docs (MAX_ROW_SCORE * n) hits → IsBaseOf index.now.docs (MAX_ROW_SCORE * (n + 1)) next) }
-    ensures store { OnlyReads S.bytes S.lent S.faults index.now store.old store.new result }
-    ensures reads { ReadsWithin (met_of_part (division index.now) part.now) (S.reads store.old) (S.reads store.new) }
-{
-    if let Some(words) = words_of_part(index, part) {
-        let scored = hits_by_words(alloc, index, store, &hits, words)?;
-        return Ok(Base::Listed(scored));
-    }
-    let entry = extended(alloc, index, store, hits, part)?;
-    let next = hits_of(alloc, !part.excluded, &entry.base, &entry.rows)?;
-    Ok(next)
 }
 
 /// The entry of a query and one part more, by the query's hits. The part's rows are brought into one order.

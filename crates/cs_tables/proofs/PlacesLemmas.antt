@@ -1,18 +1,13 @@
 -- The places of rows in listed documents, and what is counted at them.
 --
---   counts_one, at_most_one     what a test adds to a number
---   known_on     places of rows, and of one row more
---   field_at     a column has a field of each row
 --   listed_chosen     the rows in listed documents are those that count
 --   nothing_counted     no rows change no mark
 --   CountedUpTo, counted_none, counted_all, counted_on     the rows before a place are counted: none, all, those up to another place
 --   listed_there     the places that were found are of listed documents
 --   CountsPlaces, place_on     the rows at the first places are counted, and the one at a place more
-use Rattle.std.proofs.Common.{◌≡◌, ℕ, ◌+◌, ◌<◌, ◌≤◌, ◌&&◌, Bool, true, false, cond, List, [], ◌∷◌, ◌++◌, length, get_or, set, map, take, drop, refl, sym, ap, subst, ◌∙◌, append_assoc, arith, if◌then◌else◌}
+use Rattle.std.proofs.Common.{◌≡◌, ℕ, ◌+◌, ◌<◌, ◌≤◌, ◌&&◌, Bool, true, false, cond, List, [], ◌∷◌, ◌++◌, length, get_or, map, take, drop, refl, sym, ap, subst, ◌∙◌, append_assoc, arith}
 use Rattle.std.specs.Prelude.{All, filter, nat_le, nat_lt}
-use Rattle.std.specs.Int.{from_bool}
-use Rattle.std.proofs.lemmas.List.{append-nil, drop_all, get_or-map, map_more, take-set, take_more_set}
-use Rattle.std.proofs.lemmas.List.Elements.{All-append, All-from_recursion}
+use Rattle.std.proofs.lemmas.List.{append-nil, drop_all, map_more}
 use Rattle.cs_base.specs.declared.content.doc.Post.{Post}
 use Rattle.cs_tables.specs.declared.counts.Mark.{Mark}
 use Rattle.cs_cols.specs.SpanPlaces.{is_listed_at, places_where}
@@ -20,26 +15,6 @@ use Rattle.cs_cols.proofs.FoundPlaces.{places_pass, places_within, rows_there}
 use Rattle.cs_tables.specs.declared.word_counts.Rows.{Rows}
 use Rattle.cs_tables.specs.WordCounts.{AreCountable, Counts, CountsAt, HasColumnsOf, HasWordMarks, IsListedAt, chosen, is_chosen, is_of_listed}
 use Rattle.cs_tables.proofs.WordCountsLemmas.{CountsRow, as_many, pieces_counted, post_at}
-
-pub counts_one : (b : Bool) → from_bool b ≡ (if b then 1 else 0)
-counts_one true = refl
-counts_one false = refl
-
-pub at_most_one : (b : Bool) → (if b then 1 else 0) ≤ 1
-at_most_one true = omega arith
-at_most_one false = omega arith
-
-none_more : (n : ℕ) → n + 0 ≡ n
-none_more n = omega arith
-
--- what holds of the places holds of them with one more, where that counts
-pub known_on : (P : ℕ → Type 0) (places : List ℕ) (n m i : ℕ) (b : Bool) → m ≡ n + (if b then 1 else 0) → n < length places → (b ≡ true → P i) → All P (take n places) → All P (take m (set places n i))
-known_on P places n m i true count room here h =
-    subst (All P) (sym (ap (λ x. take x (set places n i)) count ∙ take_more_set places n i room)) (All-append P (take n places) (i ∷ []) h (All-from_recursion P (i ∷ []) (here refl, tt)))
-known_on P places n m i false count room here h = subst (All P) (sym (ap (λ x. take x (set places n i)) (count ∙ none_more n) ∙ take-set places n i)) h
-
-pub field_at : (f : Post → ℕ) (column : List ℕ) (rows : List Post) (i : ℕ) (d : Post) → i < length rows → column ≡ map f rows → get_or column i 0 ≡ f (get_or rows i d)
-field_at f column rows i d lt is = ap (λ xs. get_or xs i 0) is ∙ get_or-map f rows i d 0 lt
 
 module _ (low high : ℕ) (listed : List Bool) where
   -- rows in other documents don't count

@@ -90,8 +90,12 @@ impl WordCounts {
 
         ensures { AddsColumns listed.now docs.now words.now self.old self.new }
     {
-        let rows = Rows::of(docs, words, listed);
-        see_mixed(self.low, self.high, &mut self.marks, rows);
+        if are_within(words, self.low, self.high) {
+            let rows = Rows::of(docs, words, listed);
+            see_own(self.low, self.high, &mut self.marks, rows);
+        } else {
+            self.add(docs, words, listed);
+        }
     }
 
     /// Counts one row more, of one of these words.
@@ -206,19 +210,6 @@ pub fn are_within(words: &[u32], low: u32, high: u32) -> bool
         all &= (low <= *word) & (*word < high);
     }
     all
-}
-
-// Counts rows in the marks of the words from `low` up to `high`, without a jump where all their words are among these.
-fn see_mixed(low: u32, high: u32, marks: &mut [Mark], rows: Rows<'_>)
-    requires { CanCount low high rows marks.old }
-
-    ensures { CountsRows low high rows.entry marks.old marks.new }
-{
-    if are_within(rows.words, low, high) {
-        see_own(low, high, marks, rows);
-    } else {
-        see_rows(low, high, marks, rows);
-    }
 }
 
 // Counts rows, all of the words from `low` up to `high`, in the marks of these words.

@@ -15,41 +15,41 @@ use Rattle.cs_engine.proofs.answering.reply_of.Goals as goal
 
 pub shown_words-requires-clause-texts : goal.shown_words-requires-clause-texts
 shown_words-requires-clause-texts g c = subst (All IsUtf8) (sym (ap (λ (x : IndexView). x.words) c.index.view_is))
-    (index_texts c.args.index.now c.requires.opened.index)
+    (index_texts c.args.over.index.now c.requires.over.opened.index)
 
 pub shown_words-requires-clause-known : goal.shown_words-requires-clause-known
 shown_words-requires-clause-known g c =
-    let i = c.args.index.now in
+    let i = c.args.over.index.now in
     subst (λ ws. All (λ (w : Completion). w.word < length ws) c.as_slice.result.now) (sym (ap (λ (x : IndexView). x.words) c.index.view_is))
     (subst (All (λ (w : Completion). w.word < length i.words)) (sym c.as_slice.ensures) c.requires.table)
 
 pub shown_hits-requires-clause-known : goal.shown_hits-requires-clause-known
 shown_hits-requires-clause-known g c =
-    let i = c.args.index.now in
+    let i = c.args.over.index.now in
     let docs = ap (λ (x : IndexView). x.docs) c.index.view_is in
-    let r = c.args.request.now in
-    let shown = shown_in i c.requires.opened.index _ c.args.hits _ c.in_ok-all.all r.offset r.hits docs c.in_ok-all.ensures c.requires.base c.in_ok-first.first
+    let r = c.args.over.request.now in
+    let shown = shown_in i c.requires.over.opened.index _ c.args.hits _ c.in_ok-all.all r.offset r.hits docs c.in_ok-all.ensures c.requires.base c.in_ok-first.first
     (c.in_ok-first.ensures.ok ∙ ap (λ hs. take r.hits (drop r.offset (members_in by_rank hs))) c.as_slice-2.ensures) in
     subst (All (λ (h : Scored). h.doc < i.docs)) (sym c.as_slice-3.ensures) shown
 
 pub overflow_cast-result : goal.overflow_cast-result
 overflow_cast-result g c =
     let docs = ap (λ (x : IndexView). x.docs) c.index.view_is in
-    let few = hits_few c.args.index.now c.requires.opened.index _ c.args.hits _ c.in_ok-all.all docs c.in_ok-all.ensures c.requires.base in
+    let few = hits_few c.args.over.index.now c.requires.over.opened.index _ c.args.hits _ c.in_ok-all.all docs c.in_ok-all.ensures c.requires.base in
     omega (arith, c.len.ensures, few)
 
 pub returns-clause-told : goal.returns-clause-told
 returns-clause-told g c b is stands over found =
-    let i = c.args.index.now in
-    let r = asked c.args.request.now in
+    let i = c.args.over.index.now in
+    let r = asked c.args.over.request.now in
     let words = ap (λ (x : IndexView). x.words) c.index.view_is in
     let docs = ap (λ (x : IndexView). x.docs) c.index.view_is in
     let posts = found.posts in
-    let shown = words_as_shown b i stands c.requires.opened.index posts found.within _ words r.completions c.args.table.first found.first c.in_ok-shown.shown
+    let shown = words_as_shown b i stands c.requires.over.opened.index posts found.within _ words r.completions c.args.table.first found.first c.in_ok-shown.shown
     (c.in_ok-shown.ensures ∙ ap (map (shown_at _)) c.as_slice.ensures) in
     let hits = c.in_ok-shown_first.ensures.told b is stands
     ∙ ap (map (hit_shown (corpus_in (stock_of b))))
     (c.as_slice-3.ensures ∙ c.in_ok-first.ensures.ok ∙ ap (λ hs. take r.hits (drop r.offset (members_in by_rank hs))) c.as_slice-2.ensures) in
-    reply_told b i stands c.requires.opened.index r c.args.hits posts found.found found.within c.in_ok-shown.shown c.in_ok-facets.facets
+    reply_told b i stands c.requires.over.opened.index r c.args.hits posts found.found found.within c.in_ok-shown.shown c.in_ok-facets.facets
     c.in_ok-shown_first.shown_first c.args.table.total c.len.result c.in_ok-all.all
     shown (c.in_ok-facets.ensures b stands over) hits found.total c.len.ensures _ docs c.in_ok-all.ensures

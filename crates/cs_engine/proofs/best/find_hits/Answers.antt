@@ -1,33 +1,27 @@
-use Rattle.std.proofs.Common.{◌≡◌, ◌+◌, ◌<◌, Bool, ap, ◌∙◌, subst, arith, length, length-set, take, get_or, true}
-use Rattle.std.specs.Prelude.{if◌then◌else◌, nat_lt}
-use Rattle.std.proofs.lemmas.Bool.Decides.{nat_tests}
-use Rattle.cs_engine.specs.Spans.{AreHitsBetween, HasEntry}
-use Rattle.cs_engine.proofs.SpansLemmas.{hits_on}
-use Rattle.cs_tables.proofs.PlacesLemmas.{at_most_one, counts_one, known_on}
+use Rattle.std.proofs.Common.{◌≡◌, arith, take}
+use Rattle.cs_cols.specs.SpanPlaces.{places_where}
+use Rattle.cs_cols.proofs.FoundPlaces.{found_all, found_on}
+use Rattle.cs_engine.specs.Spans.{has_entry_at}
+use Rattle.cs_engine.proofs.SpansLemmas.{entries_there, hits_there}
 use Rattle.cs_engine.proofs.best.find_hits.Goals as goal
 
 pub loop-doc-preserved : goal.loop-doc-preserved
 loop-doc-preserved c =
-    let d = c.loop-doc.doc in
-    let n = c.loop-doc.found in
-    let inv = c.loop-doc.invariant in
-    let best = c.args.best.now in
-    let b : Bool = nat_lt 0 (get_or best d 0) in
-    let count : c.from-found.result ≡ (if b then 1 else 0) = c.from-found.ensures ∙ counts_one b in
-    let most = at_most_one b in
-    let short : d < length best = omega (arith, c.loop-doc-test.true, c.requires.within) in
-    let room : n < length c.loop-doc.places = omega (arith, inv.few, inv.len, c.loop-doc-test.true, c.requires.room) in
-    let many : n + c.from-found.result ≡ n + (if b then 1 else 0) = ap (λ x. n + x) count in
-    let has : b ≡ true → 0 < get_or best d 0 = λ e. grind (arith, nat_tests, e) in
-    record {
-      found = hits_on best c.args.from d c.loop-doc.places n (n + c.from-found.result) short room many inv.found;
-      known = known_on (HasEntry best) c.loop-doc.places n (n + c.from-found.result) d b many room (λ e. (short, has e)) inv.known;
-      few = omega (arith, inv.few, count, most);
-      len = length-set c.loop-doc.places n d ∙ inv.len;
-    }
+    let l = c.loop-doc in
+    let next = found_on (has_entry_at c.args.best.now) c.args.from l.doc l.found c.from-found.result l.places c.requires.span l.auto.doc c.loop-doc-test.true
+    c.from-found.ensures l.invariant.found l.invariant.few l.invariant.len in
+    record { found = next.0; few = next.1; len = next.2 }
 
-pub returns-clause-found : goal.returns-clause-found
-returns-clause-found c =
-    let up = c.requires.onward in
-    let done : c.loop-doc.doc ≡ c.args.to = omega (arith, c.loop-doc-test.false, c.loop-doc.auto.doc-end, up) in
-    subst (λ d. AreHitsBetween c.args.best.now c.args.from d (take c.loop-doc.found c.loop-doc.places)) done c.loop-doc.invariant.found
+pub returns : goal.returns
+returns c =
+    let best = c.args.best.now in
+    let l = c.loop-doc in
+    let docs = take l.found l.places in
+    let span = c.requires.span in
+    let all : docs ≡ places_where (has_entry_at best) c.args.from c.args.to = found_all (has_entry_at best) c.args.from c.args.to l.doc docs span c.loop-doc-test.false
+    l.auto.doc-end l.invariant.found in
+    record {
+      found = hits_there best c.args.from c.args.to docs span all;
+      known = entries_there best c.args.from c.args.to docs span all;
+      few = omega (arith, l.invariant.few, l.invariant.len, l.auto.doc-end span.onward, span.fits);
+    }

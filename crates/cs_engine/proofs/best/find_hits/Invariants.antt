@@ -1,12 +1,11 @@
 use Rattle.std.proofs.Common.{◌≡◌, ◌+◌, ◌≤◌, length, take}
-use Rattle.std.specs.List.{All}
-use Rattle.cs_engine.specs.Spans.{AreHitsBetween, HasEntry}
+use Rattle.cs_cols.specs.SpanPlaces.{places_where}
+use Rattle.cs_engine.specs.Spans.{has_entry_at}
 use Rattle.cs_engine.proofs.best.find_hits.Given as goal
 
 abbrev pub invariant-loop-doc : goal.invariant-loop-doc
 invariant-loop-doc l = record {
-  found : AreHitsBetween l.best l.from l.doc (take l.found l.places);
-  known : All (HasEntry l.best) (take l.found l.places);
+  found : take l.found l.places ≡ places_where (has_entry_at l.best) l.from l.doc;
   few : l.found + l.from ≤ l.doc;
   len : length l.places ≡ length l.fn.places;
 }

@@ -2,8 +2,8 @@ use Rattle.std.proofs.Common.{◌≡◌, ◌<◌, ◌≤◌, ◌++◌, ap, lengt
 use Rattle.std.specs.Prelude.{All, filter}
 use Rattle.cs_base.specs.declared.content.scores.TheConstants.{TITLE_SCORE}
 use Rattle.cs_tables.specs.WordCounts.{is_chosen}
+use Rattle.cs_tables.proofs.WordCountsLemmas.{written_back}
 use Rattle.cs_engine.specs.Loose.{HasBestScores}
-use Rattle.cs_engine.proofs.BestLemmas.{written_back}
 use Rattle.cs_engine.proofs.best.raise_rows.Goals as goal
 
 pub raise_chosen-requires-clause-words_even : goal.raise_chosen-requires-clause-words_even

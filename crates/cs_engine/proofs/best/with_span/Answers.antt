@@ -5,4 +5,4 @@ use Rattle.cs_engine.proofs.best.with_span.Goals as goal
 pub returns-then-is_bare : goal.returns-then-is_bare
 returns-then-is_bare c =
     ap (λ xs. c.args.hits.items ++ xs)
-    (none_in_span c.args.best.now c.args.from c.args.to c.requires.onward c.requires.within (c.is_bare.ensures c.if-is_bare.true))
+    (none_in_span c.args.best.now c.args.from c.args.to c.requires.span.onward c.requires.span.within (c.is_bare.ensures c.if-is_bare.true))

@@ -21,8 +21,8 @@ use Rattle.cs_engine.proofs.loose.answered_by_words.Goals as goal
 -- ---- too many rows, as the directory says
 pub returns-then-fills-clause-told : goal.returns-then-fills-clause-told
 returns-then-fills-clause-told g c b is stands held by =
-    let i = c.args.index.now in
-    let q = c.args.request.now.query in
+    let i = c.args.over.index.now in
+    let q = c.args.over.request.now.query in
     let lo = c.args.words.0 in
     let hi = c.args.words.1 in
     let all = replicate i.docs true in
@@ -34,8 +34,8 @@ returns-then-fills-clause-told g c b is stands held by =
       reply = c.in_ok-reply.ensures.told b is stands held by;
       own = tt;
       large = λ gone.
-          large_entry i q base.All lo hi asks all has b stands c.requires.opened.index own (filter (is_between lo hi) (stock_of b).posts)
-          (sym (all_listed b i stands c.requires.opened.index lo hi all has))
+          large_entry i q base.All lo hi asks all has b stands c.requires.over.opened.index own (filter (is_between lo hi) (stock_of b).posts)
+          (sym (all_listed b i stands c.requires.over.opened.index lo hi all has))
           (let many = c.fills.ensures.many c.if-fills.true b stands in omega (arith, many));
     }
 
@@ -46,21 +46,21 @@ pub returns-in_err-reply-clause-reads : goal.returns-in_err-reply-clause-reads
 returns-in_err-reply-clause-reads g c =
     let none = c.nothing_gathered-none in
     let met = (none.ensures.gathered (g.S.Store.bytes c.args.store.now) c.deref.result.now).met in
-    let many = met_count c.args.index.now.heads c.args.words.0 c.args.words.1 none.result.first none.result.last met in
-    let due = err_due (asked c.args.request.now) c.from_residual-in_err-reply.result c.from_residual-in_err-reply.ensures.0 in
+    let many = met_count c.args.over.index.now.heads c.args.words.0 c.args.words.1 none.result.first none.result.last met in
+    let due = err_due (asked c.args.over.request.now) c.from_residual-in_err-reply.result c.from_residual-in_err-reply.ensures.0 in
     within_more c.in_err-reply.ensures.reads (omega (arith, due, many, none.ensures.none))
 
 pub returns-then-fills-clause-reads : goal.returns-then-fills-clause-reads
 returns-then-fills-clause-reads g c =
     let none = c.nothing_gathered-none in
     let met = (none.ensures.gathered (g.S.Store.bytes c.args.store.now) c.deref.result.now).met in
-    let many = met_count c.args.index.now.heads c.args.words.0 c.args.words.1 none.result.first none.result.last met in
+    let many = met_count c.args.over.index.now.heads c.args.words.0 c.args.words.1 none.result.first none.result.last met in
     within_more c.in_ok-reply.ensures.reads (omega (arith, many, none.ensures.none))
 
 -- ---- too many rows
 pub returns-then-len-room-clause-told : goal.returns-then-len-room-clause-told
 returns-then-len-room-clause-told g c b is stands held by =
-    let i = c.args.index.now in
+    let i = c.args.over.index.now in
     let lo = c.args.words.0 in
     let hi = c.args.words.1 in
     let listed = c.deref-2.result.now in
@@ -73,9 +73,9 @@ returns-then-len-room-clause-told g c b is stands held by =
       reply = c.in_ok-reply-2.ensures.told b (c.gather.ensures.store.bytes ∙ is) stands held by;
       own = tt;
       large = λ none.
-          is_large i c.args.request.now.query c.args.hits lo hi c.requires.asks listed has b stands
-          c.requires.opened.index by (run_of (image_of b).blocks from.first from.last (is_chosen lo hi listed))
-          (run_alike b i stands c.requires.opened.index from.first from.last lo hi listed had.met)
+          is_large i c.args.over.request.now.query c.args.hits lo hi c.requires.asks listed has b stands
+          c.requires.over.opened.index by (run_of (image_of b).blocks from.first from.last (is_chosen lo hi listed))
+          (run_alike b i stands c.requires.over.opened.index from.first from.last lo hi listed had.met)
           (omega (
             arith,
             c.if-len-room.true,
@@ -93,17 +93,17 @@ pub returns-in_err-reply-2-clause-reads : goal.returns-in_err-reply-2-clause-rea
 returns-in_err-reply-2-clause-reads g c =
     let had = c.in_ok-gathered.ensures.gathered in
     let from = c.in_ok-gathered.gathered in
-    let many = met_count c.args.index.now.heads c.args.words.0 c.args.words.1 from.first from.last had.met in
+    let many = met_count c.args.over.index.now.heads c.args.words.0 c.args.words.1 from.first from.last had.met in
     let on = had.onward in
     let up = had.upto in
-    let due = err_due (asked c.args.request.now) c.from_residual-in_err-reply-2.result c.from_residual-in_err-reply-2.ensures.0 in
+    let due = err_due (asked c.args.over.request.now) c.from_residual-in_err-reply-2.result c.from_residual-in_err-reply-2.ensures.0 in
     within_both c.in_ok-gathered.ensures.read c.in_err-reply-2.ensures.reads (omega (arith, due, many, on, up))
 
 pub returns-then-len-room-clause-reads : goal.returns-then-len-room-clause-reads
 returns-then-len-room-clause-reads g c =
     let had = c.in_ok-gathered.ensures.gathered in
     let from = c.in_ok-gathered.gathered in
-    let many = met_count c.args.index.now.heads c.args.words.0 c.args.words.1 from.first from.last had.met in
+    let many = met_count c.args.over.index.now.heads c.args.words.0 c.args.words.1 from.first from.last had.met in
     let on = had.onward in
     let up = had.upto in
     within_both c.in_ok-gathered.ensures.read c.in_ok-reply-2.ensures.reads (omega (arith, many, on, up))
@@ -111,26 +111,26 @@ returns-then-len-room-clause-reads g c =
 -- ---- rows in order
 pub with_reply-requires-clause-entry : goal.with_reply-requires-clause-entry
 with_reply-requires-clause-entry g c =
-    let i = c.args.index.now in
+    let i = c.args.over.index.now in
     let listed = c.deref-2.result.now in
     let has = listed_in i c.args.hits c.in_ok-listed.listed.items listed (ap (λ (x : IndexView). x.docs) c.index.view_is) c.in_ok-listed.ensures c.deref-2.ensures.value in
     let h = c.in_ok-gathered.ensures.gathered.keys in
     let o = c.in_ok-rows.ensures h.rows h.are h.packed in
     let rows = c.in_ok-rows.rows.posts in
-    entry_fits i c.args.request.now.query c.args.hits c.args.words.0 c.args.words.1 c.requires.asks listed has rows
+    entry_fits i c.args.over.request.now.query c.args.hits c.args.words.0 c.args.words.1 c.requires.asks listed has rows
     (ordered_within i h.rows rows h.within o) (ordered_passed c.args.words.0 c.args.words.1 listed h.rows rows h.passed o)
 
 pub returns-clause-told : goal.returns-clause-told
 returns-clause-told g c b is stands held by =
-    let i = c.args.index.now in
+    let i = c.args.over.index.now in
     let listed = c.deref-2.result.now in
     let has = listed_in i c.args.hits c.in_ok-listed.listed.items listed (ap (λ (x : IndexView). x.docs) c.index.view_is) c.in_ok-listed.ensures c.deref-2.ensures.value in
     let had = c.in_ok-gathered.ensures.gathered in
     let few : length c.in_ok-gathered.gathered.keys.items ≤ c.saturating_sub-room.result = omega (arith, c.if-len-room.false, c.len.ensures) in
-    let r = all_in_room i c.requires.opened.index (g.S.Store.bytes c.args.store.now) c.args.words.0 c.args.words.1 listed c.in_ok-gathered.gathered
+    let r = all_in_room i c.requires.over.opened.index (g.S.Store.bytes c.args.store.now) c.args.words.0 c.args.words.1 listed c.in_ok-gathered.gathered
     c.saturating_sub-room.result had c.in_ok-gathered.ensures.whole few in
     let o = c.in_ok-rows.ensures r.rows r.are r.packed in
     let rows = c.in_ok-rows.rows.posts in
     c.in_ok-answered.ensures.told b (c.gather.ensures.store.bytes ∙ is) stands held
-    (chosen_entry i c.args.request.now.query c.args.hits c.args.words.0 c.args.words.1 c.requires.asks listed has b stands c.requires.opened.index
-    by rows (ordered_told b i stands c.requires.opened.index c.args.words.0 c.args.words.1 listed r.rows rows (r.stood b is stands) o))
+    (chosen_entry i c.args.over.request.now.query c.args.hits c.args.words.0 c.args.words.1 c.requires.asks listed has b stands c.requires.over.opened.index
+    by rows (ordered_told b i stands c.requires.over.opened.index c.args.words.0 c.args.words.1 listed r.rows rows (r.stood b is stands) o))

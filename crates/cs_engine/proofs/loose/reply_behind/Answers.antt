@@ -12,13 +12,13 @@ use Rattle.cs_engine.proofs.loose.reply_behind.Goals as goal
 
 pub found_behind-requires-clause-base : goal.found_behind-requires-clause-base
 found_behind-requires-clause-base g c =
-    let n = length (out-Query c.args.request.now.query).parts in
-    let few = c.requires.limits.parts in
-    base_weaker c.args.index.now.docs (MAX_ROW_SCORE * (n - 1)) (MAX_ROW_SCORE * (MAX_PARTS - 1)) c.args.hits.now (omega (arith, few)) c.requires.asks.base
+    let n = length (out-Query c.args.over.request.now.query).parts in
+    let few = c.requires.over.limits.parts in
+    base_weaker c.args.over.index.now.docs (MAX_ROW_SCORE * (n - 1)) (MAX_ROW_SCORE * (MAX_PARTS - 1)) c.args.hits.now (omega (arith, few)) c.requires.asks.base
 
 pub returns-clause-told : goal.returns-clause-told
 returns-clause-told g c b is stands held by =
     c.in_ok-reply.ensures.told b (c.found_behind.ensures.store.bytes ∙ is) stands held
-    (found_table c.args.index.now c.args.request.now.query c.args.hits.now c.args.words.0 c.args.words.1 c.requires.asks b stands c.requires.opened.index by
-    c.args.request.now.completions _ _ (c.in_ok-found.ensures.told b is stands))
-    ∙ ap (λ (k : Corpus). reply_of k (asked c.args.request.now)) (stock_corpus b c.args.index.now stands c.requires.opened.index)
+    (found_table c.args.over.index.now c.args.over.request.now.query c.args.hits.now c.args.words.0 c.args.words.1 c.requires.asks b stands c.requires.over.opened.index by
+    c.args.over.request.now.completions _ _ (c.in_ok-found.ensures.told b is stands))
+    ∙ ap (λ (k : Corpus). reply_of k (asked c.args.over.request.now)) (stock_corpus b c.args.over.index.now stands c.requires.over.opened.index)

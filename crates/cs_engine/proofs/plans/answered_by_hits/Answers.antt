@@ -13,7 +13,7 @@ use Rattle.cs_engine.proofs.plans.answered_by_hits.Goals as goal
 -- ---- a part that asks for some words
 pub answered_by_words-requires-clause-asks : goal.answered_by_words-requires-clause-asks
 answered_by_words-requires-clause-asks g c =
-    let q = c.args.request.now.query in
+    let q = c.args.over.request.now.query in
     let x = c.index-parts-last.result in
     let last = is_last {q = q} c.requires.some c.as_slice-parts.ensures c.index-parts-last.is in
     let asks = c.in-Some.ensures.words in
@@ -27,61 +27,61 @@ answered_by_words-requires-clause-asks g c =
 
 pub returns-in_err-answered-clause-reads : goal.returns-in_err-answered-clause-reads
 returns-in_err-answered-clause-reads g c =
-    let met = last_met (division c.args.index.now) (is_last {q = c.args.request.now.query} c.requires.some c.as_slice-parts.ensures c.index-parts-last.is) in
+    let met = last_met (division c.args.over.index.now) (is_last {q = c.args.over.request.now.query} c.requires.some c.as_slice-parts.ensures c.index-parts-last.is) in
     let few = c.in-Some.ensures.words.few in
-    let due = err_due (asked c.args.request.now) c.from_residual.result c.from_residual.ensures.0 in
+    let due = err_due (asked c.args.over.request.now) c.from_residual.result c.from_residual.ensures.0 in
     within_more c.in_err-answered.ensures.reads (omega (arith, met, few, due))
 
 pub returns-in-Some-clause-told : goal.returns-in-Some-clause-told
 returns-in-Some-clause-told g c b is stands held over =
-    let q = c.args.request.now.query in
+    let q = c.args.over.request.now.query in
     let x = c.index-parts-last.result in
     let last = is_last {q = q} c.requires.some c.as_slice-parts.ensures c.index-parts-last.is in
     c.in_ok-answered.ensures.told b is stands held
-    (more_by_words q b c.args.index.now stands c.requires.opened.index x c.args.hits c.in-Some.words.0 c.in-Some.words.1 last over c.in-Some.ensures.positive
+    (more_by_words q b c.args.over.index.now stands c.requires.over.opened.index x c.args.hits c.in-Some.words.0 c.in-Some.words.1 last over c.in-Some.ensures.positive
     c.in-Some.ensures.words)
 
 pub returns-in-Some-clause-reads : goal.returns-in-Some-clause-reads
 returns-in-Some-clause-reads g c =
-    let met = last_met (division c.args.index.now) (is_last {q = c.args.request.now.query} c.requires.some c.as_slice-parts.ensures c.index-parts-last.is) in
+    let met = last_met (division c.args.over.index.now) (is_last {q = c.args.over.request.now.query} c.requires.some c.as_slice-parts.ensures c.index-parts-last.is) in
     let few = c.in-Some.ensures.words.few in
     within_more c.in_ok-answered.ensures.reads (omega (arith, met, few))
 
 -- ---- another part
 pub extended-requires-clause-base : goal.extended-requires-clause-base
 extended-requires-clause-base g c =
-    let n = length (out-Query c.args.request.now.query).parts in
-    let few = c.requires.limits.parts in
-    base_weaker c.args.index.now.docs (MAX_ROW_SCORE * (n - 1)) (MAX_ROW_SCORE * MAX_PARTS) c.args.hits (omega (arith, few)) c.requires.base
+    let n = length (out-Query c.args.over.request.now.query).parts in
+    let few = c.requires.over.limits.parts in
+    base_weaker c.args.over.index.now.docs (MAX_ROW_SCORE * (n - 1)) (MAX_ROW_SCORE * MAX_PARTS) c.args.hits (omega (arith, few)) c.requires.base
 
 pub returns-in_err-entry-clause-reads : goal.returns-in_err-entry-clause-reads
 returns-in_err-entry-clause-reads g c =
-    let met = last_met (division c.args.index.now) (is_last {q = c.args.request.now.query} c.requires.some c.as_slice-parts.ensures c.index-parts-last.is) in
+    let met = last_met (division c.args.over.index.now) (is_last {q = c.args.over.request.now.query} c.requires.some c.as_slice-parts.ensures c.index-parts-last.is) in
     within_more c.extended.ensures.reads (omega (arith, met))
 
 pub with_reply-requires-clause-entry : goal.with_reply-requires-clause-entry
 with_reply-requires-clause-entry g c =
-    let q = c.args.request.now.query in
+    let q = c.args.over.request.now.query in
     let x = c.index-parts-last.result in
     let last = is_last {q = q} c.requires.some c.as_slice-parts.ensures c.index-parts-last.is in
-    more_fits q c.args.index.now x c.in_ok-entry.entry last (c.in_ok-entry.ensures.within (length (out-Query q).parts - 1) c.requires.base)
+    more_fits q c.args.over.index.now x c.in_ok-entry.entry last (c.in_ok-entry.ensures.within (length (out-Query q).parts - 1) c.requires.base)
 
 pub returns-in_err-answered-2-clause-reads : goal.returns-in_err-answered-2-clause-reads
 returns-in_err-answered-2-clause-reads g c =
-    let met = last_met (division c.args.index.now) (is_last {q = c.args.request.now.query} c.requires.some c.as_slice-parts.ensures c.index-parts-last.is) in
-    let due = err_due (asked c.args.request.now) c.from_residual-in_err-answered-2.result c.from_residual-in_err-answered-2.ensures.0 in
+    let met = last_met (division c.args.over.index.now) (is_last {q = c.args.over.request.now.query} c.requires.some c.as_slice-parts.ensures c.index-parts-last.is) in
+    let due = err_due (asked c.args.over.request.now) c.from_residual-in_err-answered-2.result c.from_residual-in_err-answered-2.ensures.0 in
     within_both c.extended.ensures.reads c.in_err-answered-2.ensures.reads (omega (arith, met, due))
 
 pub returns-clause-told : goal.returns-clause-told
 returns-clause-told g c b is stands held over =
-    let q = c.args.request.now.query in
-    let i = c.args.index.now in
+    let q = c.args.over.request.now.query in
+    let i = c.args.over.index.now in
     let x = c.index-parts-last.result in
     let last = is_last {q = q} c.requires.some c.as_slice-parts.ensures c.index-parts-last.is in
     c.in_ok-answered-2.ensures.told b (c.extended.ensures.store.bytes ∙ is) stands held
-    (more_told q b i stands c.requires.opened.index x c.args.hits c.in_ok-entry.entry last over (c.in_ok-entry.ensures.told b is stands))
+    (more_told q b i stands c.requires.over.opened.index x c.args.hits c.in_ok-entry.entry last over (c.in_ok-entry.ensures.told b is stands))
 
 pub returns-clause-reads : goal.returns-clause-reads
 returns-clause-reads g c =
-    let met = last_met (division c.args.index.now) (is_last {q = c.args.request.now.query} c.requires.some c.as_slice-parts.ensures c.index-parts-last.is) in
+    let met = last_met (division c.args.over.index.now) (is_last {q = c.args.over.request.now.query} c.requires.some c.as_slice-parts.ensures c.index-parts-last.is) in
     within_both c.extended.ensures.reads c.in_ok-answered-2.ensures.reads (omega (arith, met))

@@ -12,12 +12,12 @@ use Rattle.cs_engine.proofs.replying.by_entry.Goals as goal
 pub reply_of-requires-clause-base : goal.reply_of-requires-clause-base
 reply_of-requires-clause-base g c =
     let e = entry_with c.args.base.now c.args.rows.now.posts in
-    hits_are_in c.args.index.now c.args.request.now.query e c.end_positive-positive.result
-    (c.end_positive-positive.ensures ∙ ap end_positive c.as_slice.ensures) c.in_ok-hits.hits c.in_ok-hits.ensures c.requires.entry c.requires.limits.parts
+    hits_are_in c.args.over.index.now c.args.over.request.now.query e c.end_positive-positive.result
+    (c.end_positive-positive.ensures ∙ ap end_positive c.as_slice.ensures) c.in_ok-hits.hits c.in_ok-hits.ensures c.requires.entry c.requires.over.limits.parts
 
 pub returns-clause-told : goal.returns-clause-told
 returns-clause-told g c b is stands over own =
-    let i = c.args.index.now in
+    let i = c.args.over.index.now in
     let e = entry_with c.args.base.now c.args.rows.now.posts in
     c.in_ok-reply.ensures.told b is stands over
     (record {
@@ -25,11 +25,11 @@ returns-clause-told g c b is stands over own =
       within = c.requires.entry.rows;
       first = c.in_ok-table.ensures.first;
       total = c.in_ok-table.ensures.total;
-      found = found_by_entry i c.args.request.now.query e c.end_positive-positive.result
-          (c.end_positive-positive.ensures ∙ ap end_positive c.as_slice.ensures) c.in_ok-hits.hits c.in_ok-hits.ensures b stands c.requires.opened.index own;
+      found = found_by_entry i c.args.over.request.now.query e c.end_positive-positive.result
+          (c.end_positive-positive.ensures ∙ ap end_positive c.as_slice.ensures) c.in_ok-hits.hits c.in_ok-hits.ensures b stands c.requires.over.opened.index own;
     })
-    ∙ ap (λ (k : Corpus). reply_of k (asked c.args.request.now)) (stock_corpus b i stands c.requires.opened.index)
+    ∙ ap (λ (k : Corpus). reply_of k (asked c.args.over.request.now)) (stock_corpus b i stands c.requires.over.opened.index)
 
 pub reply_of-requires-clause-table : goal.reply_of-requires-clause-table
-reply_of-requires-clause-table g c = first_in c.args.index.now c.requires.opened.index c.args.rows.now.posts c.requires.entry.rows
-    c.args.request.now.completions c.in_ok-table.table.first c.in_ok-table.ensures.first
+reply_of-requires-clause-table g c = first_in c.args.over.index.now c.requires.over.opened.index c.args.rows.now.posts c.requires.entry.rows
+    c.args.over.request.now.completions c.in_ok-table.table.first c.in_ok-table.ensures.first

@@ -1,12 +1,26 @@
-use Rattle.std.proofs.Common.{◌≡◌, ◌*◌, length, refl, subst, ◌∙◌, arith}
+use Rattle.std.proofs.Common.{◌≡◌, ◌+◌, ◌*◌, ◌<◌, ◌≤◌, ℕ, length, not, refl, sym, ap, subst, ◌∙◌, arith}
+use Rattle.cs_base.specs.content.Orders.{AreSorted}
+use Rattle.cs_base.specs.declared.content.doc.Base.{Base}
+use Rattle.cs_base.specs.declared.content.doc.Base.TheVariants as base
+use Rattle.cs_base.specs.declared.content.doc.Post.{Post}
 use Rattle.cs_base.specs.declared.content.limits.TheConstants.{MAX_PARTS}
+use Rattle.cs_base.specs.declared.content.query.Part.{out-Part}
 use Rattle.cs_base.specs.declared.content.scores.TheConstants.{MAX_ROW_SCORE}
+use Rattle.cs_model_kept.specs.Entries.{EntryOf}
+use Rattle.cs_rank.specs.DocScores.{IsBase}
 use Rattle.cs_engine.specs.IndexReading.{stock_of}
-use Rattle.cs_engine.specs.Steps.{IsBaseOf}
+use Rattle.cs_engine.specs.Steps.{IsBaseOf, posts_hits}
+use Rattle.cs_engine.proofs.BehindLemmas.{behind_words, most_more}
 use Rattle.cs_engine.proofs.EvaluationLemmas.{hits_end, hits_go_on}
-use Rattle.cs_engine.proofs.PartSteps.{base_weaker}
-use Rattle.cs_engine.proofs.WalkLemmas.{list_begins, list_goes_on, list_stops}
+use Rattle.cs_engine.proofs.FoundLemmas.{is_excluded}
+use Rattle.cs_engine.proofs.PartSteps.{base_in, base_weaker, hits_in}
+use Rattle.cs_engine.proofs.WalkLemmas.{list_begins, list_goes_on, list_stops, within_more}
 use Rattle.cs_engine.proofs.steps.hits_of_parts.Goals as goal
+
+-- the hits of some of the parts are in the range of as many as there may be
+of_most : (docs n many : ℕ) (hits : Base) → many ≤ MAX_PARTS → n < many → IsBaseOf docs (MAX_ROW_SCORE * n) hits
+    → IsBaseOf docs (MAX_ROW_SCORE * MAX_PARTS) hits
+of_most docs n many hits few l fits = base_weaker docs (MAX_ROW_SCORE * n) (MAX_ROW_SCORE * MAX_PARTS) hits (omega (arith, few, l)) fits
 
 pub loop-part-init : goal.loop-part-init
 loop-part-init g c = record {
@@ -15,27 +29,74 @@ loop-part-init g c = record {
   told = λ b is stands. refl;
 }
 
-pub hits_behind-requires-clause-base : goal.hits_behind-requires-clause-base
-hits_behind-requires-clause-base g c =
-    let few = c.requires.few in
-    base_weaker c.args.index.now.docs (MAX_ROW_SCORE * c.loop-part.part-index) (MAX_ROW_SCORE * MAX_PARTS) c.loop-part.hits
-    (omega (arith, few, c.loop-part-test.true)) c.loop-part.invariant.within
+-- ---- a part that asks for some words
+pub hits_by_words-requires-clause-base : goal.hits_by_words-requires-clause-base
+hits_by_words-requires-clause-base g c = of_most _ _ _ _ c.requires.few c.loop-part-test.true c.loop-part.invariant.within
+
+pub returns-in_err-scored-clause-reads : goal.returns-in_err-scored-clause-reads
+returns-in_err-scored-clause-reads g c =
+    list_stops c.loop-part.invariant.walk c.loop-part-test.true c.part-item.is (within_more c.hits_by_words.ensures.reads c.in-Some.ensures.words.few)
+
+pub loop-part-preserved-in-Some : goal.loop-part-preserved-in-Some
+loop-part-preserved-in-Some g c =
+    let n = c.loop-part.part-index in
+    let inv = c.loop-part.invariant in
+    let hits = c.loop-part.hits in
+    let words = c.in-Some.words in
+    let next = c.in_ok-scored in
+    record {
+      walk = list_goes_on inv.walk c.loop-part-test.true c.part-item.is next.ensures.store (within_more next.ensures.reads c.in-Some.ensures.words.few);
+      within = next.ensures.within n inv.within;
+      told = λ b is stands. hits_go_on (stock_of b) c.args.parts.now n c.part-item.result c.loop-part-test.true c.part-item.is hits
+          (base.Listed next.scored) (inv.told b is stands)
+          (behind_words b c.args.index.now stands c.requires.opened.index c.part-item.result hits words.0 words.1 next.scored
+          c.in-Some.ensures.positive c.in-Some.ensures.words (next.ensures.told b (inv.walk.store.bytes ∙ is) stands));
+    }
+
+-- ---- another part
+pub extended-requires-clause-base : goal.extended-requires-clause-base
+extended-requires-clause-base g c = of_most _ _ _ _ c.requires.few c.loop-part-test.true c.loop-part.invariant.within
+
+pub returns-in_err-entry-clause-reads : goal.returns-in_err-entry-clause-reads
+returns-in_err-entry-clause-reads g c = list_stops c.loop-part.invariant.walk c.loop-part-test.true c.part-item.is c.extended.ensures.reads
 
 pub returns-in_err-hits-clause-reads : goal.returns-in_err-hits-clause-reads
-returns-in_err-hits-clause-reads g c =
-    list_stops c.loop-part.invariant.walk c.loop-part-test.true c.part-item.is c.hits_behind.ensures.reads
+returns-in_err-hits-clause-reads g c = list_stops c.loop-part.invariant.walk c.loop-part-test.true c.part-item.is c.extended.ensures.reads
+
+pub hits_of-requires-clause-base : goal.hits_of-requires-clause-base
+hits_of-requires-clause-base g c =
+    let fits = c.in_ok-entry.ensures.within MAX_PARTS (of_most _ _ _ _ c.requires.few c.loop-part-test.true c.loop-part.invariant.within) in
+    let same = ap (λ (e : EntryOf Post). e.base) c.entry.view_is in
+    subst IsBase (sym same) (base_in c.args.index.now.docs _ c.in_ok-entry.entry.base (most_more (not (out-Part c.part-item.result).excluded)) fits.base)
+
+pub hits_of-requires-clause-sorted : goal.hits_of-requires-clause-sorted
+hits_of-requires-clause-sorted g c =
+    let fits = c.in_ok-entry.ensures.within c.loop-part.part-index c.loop-part.invariant.within in
+    let same = ap (λ (e : EntryOf Post). e.rows) c.entry.view_is in
+    subst AreSorted (sym same) fits.rows.sorted
 
 pub loop-part-preserved : goal.loop-part-preserved
 loop-part-preserved g c =
+    let i = c.args.index.now in
     let n = c.loop-part.part-index in
     let inv = c.loop-part.invariant in
+    let x = c.part-item.result in
+    let positive = not (out-Part x).excluded in
+    let e = c.in_ok-entry.entry in
+    let are : c.in_ok-hits.hits ≡ posts_hits positive e.base e.rows =
+    c.in_ok-hits.ensures ∙ ap (λ (x : EntryOf Post). posts_hits positive x.base x.rows) c.entry.view_is in
     record {
-      walk = list_goes_on inv.walk c.loop-part-test.true c.part-item.is c.in_ok-hits.ensures.store c.in_ok-hits.ensures.reads;
-      within = c.in_ok-hits.ensures.within n inv.within;
-      told = λ b is stands. hits_go_on (stock_of b) c.args.parts.now n c.part-item.result c.loop-part-test.true c.part-item.is c.loop-part.hits
-          c.in_ok-hits.hits (inv.told b is stands) (c.in_ok-hits.ensures.told b (inv.walk.store.bytes ∙ is) stands);
+      walk = list_goes_on inv.walk c.loop-part-test.true c.part-item.is c.in_ok-entry.ensures.store c.in_ok-entry.ensures.reads;
+      within = subst (IsBaseOf i.docs (MAX_ROW_SCORE * (n + 1))) (sym are) (hits_in i positive (n + 1) e (c.in_ok-entry.ensures.within n inv.within));
+      told = λ b is stands. hits_go_on (stock_of b) c.args.parts.now n x c.loop-part-test.true c.part-item.is c.loop-part.hits
+          c.in_ok-hits.hits (inv.told b is stands) (record {
+            e = e;
+            step = c.in_ok-entry.ensures.told b (inv.walk.store.bytes ∙ is) stands;
+            are = are ∙ ap (λ x. posts_hits (not x) e.base e.rows) (sym (is_excluded (stock_of b) x));
+          });
     }
 
+-- ---- all parts
 pub returns-clause-told : goal.returns-clause-told
 returns-clause-told g c b is stands q are = hits_end (stock_of b) c.args.parts.now q c.loop-part.part-index c.loop-part.hits are
     (omega (arith, c.loop-part-test.false)) (c.loop-part.invariant.told b is stands)
