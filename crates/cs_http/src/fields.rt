@@ -16,9 +16,7 @@ pub(crate) fn announces_body(bytes: &[u8], fields: &[HeaderSpan]) -> bool
 
     ensures { result ≡ list_any (λ f. announces (header_bytes bytes.now f)) fields.now }
 {
-    fields
-        .iter()
-        .any(|f| announces(f.name.of(bytes), f.value.of(bytes)))
+    fields.iter().any(|f| announces(bytes, f))
 }
 
 /// Whether a field Connection says that the connection is to be closed.
@@ -27,16 +25,17 @@ pub(crate) fn says_close(bytes: &[u8], fields: &[HeaderSpan]) -> bool
 
     ensures { result ≡ list_any (λ f. is_closing (header_bytes bytes.now f)) fields.now }
 {
-    fields
-        .iter()
-        .any(|f| is_closing(f.name.of(bytes), f.value.of(bytes)))
+    fields.iter().any(|f| is_closing(bytes, f))
 }
 
-fn announces(name: &[u8], value: &[u8]) -> bool
-    ensures { result ≡ announces (name.now, value.now) }
+fn announces(bytes: &[u8], field: &HeaderSpan) -> bool
+    requires within { IsHeaderWithin (length bytes.now) field.now }
+
+    ensures { result ≡ announces (header_bytes bytes.now field.now) }
 {
+    let name = field.name.of(bytes);
     name.eq_ignore_ascii_case(b"transfer-encoding")
-        || name.eq_ignore_ascii_case(b"content-length") && !is_zero(value)
+        || name.eq_ignore_ascii_case(b"content-length") && !is_zero(field.value.of(bytes))
 }
 
 // Whether the value is one or more digits 0.
@@ -55,10 +54,13 @@ fn are_zeros(value: &[u8]) -> bool
     value.iter().all(|&b| b == b'0')
 }
 
-fn is_closing(name: &[u8], value: &[u8]) -> bool
-    ensures { result ≡ is_closing (name.now, value.now) }
+fn is_closing(bytes: &[u8], field: &HeaderSpan) -> bool
+    requires within { IsHeaderWithin (length bytes.now) field.now }
+
+    ensures { result ≡ is_closing (header_bytes bytes.now field.now) }
 {
-    name.eq_ignore_ascii_case(b"connection") && has_close(value)
+    let name = field.name.of(bytes);
+    name.eq_ignore_ascii_case(b"connection") && has_close(field.value.of(bytes))
 }
 
 // Whether one of the pieces between commas is the word `close`.

@@ -1,8 +1,8 @@
 //! The text of a reply.
-ghost use Rattle.std.specs.Prelude.{◌≡◌, IfOk};
-ghost use Rattle.serde_json.specs.Data.{object};
-ghost use Rattle.serde_json.specs.View.{view};
-ghost use Rattle.cs_model.specs.Replies.{shown_data, table_data, hit_data, hits_data, facet_members, reply_data, reply_text};
+ghost use Rattle.std.specs.Prelude.{◌≡◌, IfOk, map};
+ghost use Rattle.serde_json.specs.Data.{Data, array, object};
+ghost use Rattle.serde_json.specs.View.{items_of, view};
+ghost use Rattle.cs_model.specs.Replies.{shown_data, hit_data, facet_members, reply_data, reply_text};
 
 use cs_base::Memory;
 use cs_query::{FacetShown, HitShown, Reply, Shown};
@@ -21,9 +21,9 @@ pub fn reply_bytes(alloc: Global, r: &Reply) -> Result<Vec<u8>, Memory>
 fn reply_value(alloc: Global, reply: &Reply) -> Result<Value, AllocError>
     ensures { IfOk result (λ v. view v ≡ reply_data reply.now) }
 {
-    let completions = table_value(alloc, reply.completions.as_slice())?;
+    let completions = list_value(alloc, reply.completions.as_slice())?;
     let facets = facets_value(alloc, reply.facets.as_slice())?;
-    let hits = hits_value(alloc, reply.hits.as_slice())?;
+    let hits = list_value(alloc, reply.hits.as_slice())?;
     json!(in alloc; {
         "completions": completions,
         "facets": facets,
@@ -32,18 +32,36 @@ fn reply_value(alloc: Global, reply: &Reply) -> Result<Value, AllocError>
     })
 }
 
-fn shown_value(alloc: Global, shown: &Shown) -> Result<Value, AllocError>
-    ensures { IfOk result (λ v. view v ≡ shown_data shown.now) }
-{
-    json!(in alloc; {"docs": (shown.docs), "word": (shown.word.as_str())})
+// What a reply lists.
+trait Listed {
+    ghost json: { Self → Data };
+
+    fn value(&self, alloc: Global) -> Result<Value, AllocError>
+        ensures { IfOk result (λ v. view v ≡ json self.now) };
 }
 
-fn table_value(alloc: Global, table: &[Shown]) -> Result<Value, AllocError>
-    ensures { IfOk result (λ v. view v ≡ table_data table.now) }
+impl Listed for Shown {
+    ghost json = { shown_data };
+
+    fn value(&self, alloc: Global) -> Result<Value, AllocError> {
+        json!(in alloc; {"docs": (self.docs), "word": (self.word.as_str())})
+    }
+}
+
+impl Listed for HitShown {
+    ghost json = { hit_data };
+
+    fn value(&self, alloc: Global) -> Result<Value, AllocError> {
+        json!(in alloc; {"doc": (self.doc), "score": (self.score), "title": (self.title.as_str())})
+    }
+}
+
+fn list_value<T: Listed>(alloc: Global, items: &[T]) -> Result<Value, AllocError>
+    ensures { IfOk result (λ v. view v ≡ array (items_of (map T.json items.now))) }
 {
-    let mut list = Vec::with_capacity(alloc, table.len())?;
-    for shown in table {
-        list.push(shown_value(alloc, shown)?)?;
+    let mut list = Vec::with_capacity(alloc, items.len())?;
+    for item in items {
+        list.push(item.value(alloc)?)?;
     }
     Ok(Value::Array(list))
 }
@@ -53,24 +71,8 @@ fn facets_value(alloc: Global, facets: &[FacetShown]) -> Result<Value, AllocErro
 {
     let mut map = Map::new(alloc);
     for facet in facets {
-        let table = table_value(alloc, facet.table.as_slice())?;
+        let table = list_value(alloc, facet.table.as_slice())?;
         serde_json::put(&mut map, alloc, facet.name.as_str(), table)?;
     }
     Ok(Value::Object(map))
-}
-
-fn hit_value(alloc: Global, hit: &HitShown) -> Result<Value, AllocError>
-    ensures { IfOk result (λ v. view v ≡ hit_data hit.now) }
-{
-    json!(in alloc; {"doc": (hit.doc), "score": (hit.score), "title": (hit.title.as_str())})
-}
-
-fn hits_value(alloc: Global, hits: &[HitShown]) -> Result<Value, AllocError>
-    ensures { IfOk result (λ v. view v ≡ hits_data hits.now) }
-{
-    let mut list = Vec::with_capacity(alloc, hits.len())?;
-    for hit in hits {
-        list.push(hit_value(alloc, hit)?)?;
-    }
-    Ok(Value::Array(list))
 }

@@ -12,7 +12,7 @@ use Rattle.cs_model.specs.declared.kinds.Class.TheVariants as c
 use Rattle.cs_model.specs.declared.kinds.Tie.{Tie}
 use Rattle.cs_model.specs.declared.kinds.Tie.TheVariants.{Begins, Alternative, Linked as LinkedBy}
 use Rattle.cs_model.specs.Collection.{has_name_form}
-use Rattle.cs_model.specs.Tokens.{Token, Word, Value, Run, Gap, Dollar, Bar, Colon, Open, Close, class_of, grown, with_next, tokens_after, size}
+use Rattle.cs_model.specs.Tokens.{Token, Word, Value, Run, Gap, Dollar, Bar, Colon, Close, class_of, grown, with_next, tokens_after, size}
 use Rattle.cs_model.specs.Grammar.{steps, reading}
 use Rattle.cs_model.specs.Refusals.{refused, verdict, parts_in, atoms_in, depth, newest}
 use Rattle.cs_model.specs.Canonical.{link_text}

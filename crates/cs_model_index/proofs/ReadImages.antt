@@ -25,13 +25,13 @@ use Rattle.cs_model_index.specs.FileLaws.{AcceptedAreImages}
 use Rattle.cs_model_index.specs.FileRules.{damage, IsIndexFile, word_size}
 use Rattle.cs_model_index.specs.Images.{Image, block_of, heads_from, image_by}
 use Rattle.cs_model_index.specs.Numbered.{HasWord}
-use Rattle.cs_model_index.specs.Sections.{blocks_at, contents_of, directory_at, directory_len, header_of, image_of, offsets_at, offsets_len, sections, vocabulary_at}
+use Rattle.cs_model_index.specs.Sections.{blocks_at, contents_of, directory_at, header_of, image_of, offsets_at, sections, vocabulary_at}
 use Rattle.cs_model_index.specs.declared.limits.TheConstants.{HEADER_BYTES}
 use Rattle.cs_model_index.proofs.AcceptedLemmas.{is_sound}
 use Rattle.cs_model_index.proofs.BlockUses.{BlocksAreRead, blocks_are_read}
 use Rattle.cs_model_index.proofs.CorpusLemmas.{any_alike}
 use Rattle.cs_model_index.proofs.Listings.{same_tests}
-use Rattle.cs_model_index.proofs.NumbersLemmas.{IsBytes, IsBytes-drop, bytes_from_all, numbers_count}
+use Rattle.cs_model_index.proofs.NumbersLemmas.{numbers_count}
 use Rattle.cs_model_index.proofs.ReadBlocks.{AreRead, blocks_read, heads_kinds, rising_words}
 use Rattle.cs_model_index.proofs.ReadRows.{runs_from, runs_joined, posts_below, rows, blocks_again, heads_again, rows_known, rows_present, runs_fit, runs_ended}
 use Rattle.cs_model_index.proofs.RunRows.{Run}

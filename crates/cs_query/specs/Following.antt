@@ -7,6 +7,8 @@
 --   StandsBehind rest r    the reader r stands behind the tokens of its tail and `rest`
 --   StandsBehindAll ts r   it stands behind the tokens ts
 --   JudgesTokens ts result       behind the tokens ts: the reader that follows them, or their fault
+--   JudgesNext r ts result       behind the reader r and the tokens `rest` before its tail: it judges the tokens ts rest
+--   JudgesBegun t tail g result  behind a tail and what is gathered: it judges their tokens with the new token t, where the grammar lets it stand
 --   fault_at at stop       the fault of a text whose reader stops at the byte `at`
 --   Answers cs result      the answer to the characters cs of a key text
 use Rattle.std.specs.Prelude.{◌≡◌, ℕ, ◌+◌, ◌≤◌, List, [], ◌∷◌, false, reverse, length, Some, Result, Ok, Err}
@@ -76,6 +78,15 @@ JudgesTokens ts (Ok r) = StandsBehindAll ts r
 JudgesTokens ts (Err stops.Bad) = verdict ts ≡ Some Bad
 JudgesTokens ts (Err (stops.Limit which)) = verdict ts ≡ Some (Limit which)
 JudgesTokens ts (Err stops.Memory) = Unit {0}
+
+-- The next reader, or the fault of the newest character, whatever stands before the tail.
+abbrev pub JudgesNext : Reader → (List Token → List Token) → Result Reader Stop → Type 0
+JudgesNext r ts result = (rest : List Token) → StandsBehind rest r → JudgesTokens (ts rest) result
+
+-- The token begins, so that the tail's atom is settled; nothing is said where the grammar refuses it.
+abbrev pub JudgesBegun : Token → Tail → Gathered → Result Reader Stop → Type 0
+JudgesBegun t tail g result = (rest : List Token) → Agrees tail rest → Stands (settled tail rest) (held tail rest) g
+    → refused (t ∷ held tail rest) ≡ false → JudgesTokens (t ∷ held tail rest) result
 
 -- the fault of a text whose character at the byte `at` stops the reader
 abbrev pub fault_at : ℕ → Stop → QueryFault

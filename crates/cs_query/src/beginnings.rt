@@ -1,9 +1,9 @@
 //! Tokens that begin. The atom of a word or a value that can't go on is put among the parts.
-ghost use Rattle.std.specs.Prelude.{◌≡◌, ◌≤◌, List, [], ◌∷◌, encode_utf8, length, true, false, IfOk};
+ghost use Rattle.std.specs.Prelude.{◌≡◌, ◌≤◌, [], ◌∷◌, encode_utf8, length, IfOk};
 ghost use Rattle.cs_model.specs.Collection.{has_name_form};
-ghost use Rattle.cs_model.specs.Tokens.{Token, Word, Value, Run, Gap, Dollar, Bar, Colon};
-ghost use Rattle.cs_model.specs.Refusals.{begins_part, refused};
-ghost use Rattle.cs_query.specs.Following.{Agrees, Stands, StandsBehind, JudgesTokens, held, settled};
+ghost use Rattle.cs_model.specs.Tokens.{Word, Value, Run, Gap, Dollar, Bar, Colon};
+ghost use Rattle.cs_model.specs.Refusals.{begins_part};
+ghost use Rattle.cs_query.specs.Following.{JudgesBegun, JudgesNext};
 
 use crate::fault::Stop;
 use crate::reader::{Gathered, Reader, Tail};
@@ -16,8 +16,7 @@ use std::alloc::Global;
 /// A word begins.
 #[tactic(auto, using(crate::proofs::Verdicts::over_query, crate::proofs::Verdicts::over_parts, crate::proofs::Verdicts::over_atoms))]
 pub fn begin_word(alloc: Global, c: char, tail: Tail, gathered: Gathered) -> Result<Reader, Stop>
-    ensures { (rest : List Token) → Agrees tail rest → Stands (settled tail rest) (held tail rest) gathered
-        → refused (Word (encode_utf8 c) ∷ held tail rest) ≡ false → JudgesTokens (Word (encode_utf8 c) ∷ held tail rest) result }
+    ensures { JudgesBegun (Word (encode_utf8 c)) tail gathered result }
 {
     let tie = tie_behind(&tail);
     let gathered = settle(alloc, tail, gathered)?;
@@ -54,8 +53,7 @@ fn begins_part(tie: Tie) -> usize
 /// A run begins.
 #[tactic(auto, using(crate::proofs::Verdicts::over_query))]
 pub fn begin_run(alloc: Global, c: char, tail: Tail, gathered: Gathered) -> Result<Reader, Stop>
-    ensures { (rest : List Token) → Agrees tail rest → Stands (settled tail rest) (held tail rest) gathered
-        → refused (Run (encode_utf8 c) ∷ held tail rest) ≡ false → JudgesTokens (Run (encode_utf8 c) ∷ held tail rest) result }
+    ensures { JudgesBegun (Run (encode_utf8 c)) tail gathered result }
 {
     let spot = spot_of(&tail);
     let gathered = settle(alloc, tail, gathered)?;
@@ -70,9 +68,7 @@ pub fn begin_run(alloc: Global, c: char, tail: Tail, gathered: Gathered) -> Resu
 /// A gap begins.
 #[tactic(auto, using(crate::proofs::Verdicts::over_query))]
 pub fn begin_gap(alloc: Global, c: char, tail: Tail, gathered: Gathered) -> Result<Reader, Stop>
-    ensures { (rest : List Token) → Agrees tail rest → Stands (settled tail rest) (held tail rest) gathered
-        → refused (Gap (length (encode_utf8 c)) ∷ held tail rest) ≡ false
-        → JudgesTokens (Gap (length (encode_utf8 c)) ∷ held tail rest) result }
+    ensures { JudgesBegun (Gap (length (encode_utf8 c))) tail gathered result }
 {
     let gathered = settle(alloc, tail, gathered)?;
     let gathered = gathered.spend(c.len_utf8())?;
@@ -85,8 +81,7 @@ pub fn begin_gap(alloc: Global, c: char, tail: Tail, gathered: Gathered) -> Resu
 /// A bar begins.
 #[tactic(auto, using(crate::proofs::Verdicts::over_query))]
 pub fn begin_bar(alloc: Global, tail: Tail, gathered: Gathered) -> Result<Reader, Stop>
-    ensures { (rest : List Token) → Agrees tail rest → Stands (settled tail rest) (held tail rest) gathered
-        → refused (Bar ∷ held tail rest) ≡ false → JudgesTokens (Bar ∷ held tail rest) result }
+    ensures { JudgesBegun Bar tail gathered result }
 {
     let gathered = settle(alloc, tail, gathered)?;
     let gathered = gathered.spend(1)?;
@@ -96,11 +91,26 @@ pub fn begin_bar(alloc: Global, tail: Tail, gathered: Gathered) -> Result<Reader
     })
 }
 
+/// A colon behind a word, which must be a name.
+#[tactic(auto, using(crate::proofs::Verdicts::over_query))]
+pub fn begin_value(alloc: Global, tie: Tie, name: Text, gathered: Gathered) -> Result<Reader, Stop>
+    ensures { JudgesNext (record { tail = Tail.Word tie name; gathered = gathered }) (λ rest. Value [] ∷ Colon ∷ Word name ∷ rest) result }
+{
+    if !has_name_form(name.as_str().as_bytes()) {
+        return Err(Stop::Bad);
+    }
+    let gathered = gathered.spend(1)?;
+    let text = Text::new(alloc);
+    Ok(Reader {
+        tail: Tail::Value { tie, name, text },
+        gathered,
+    })
+}
+
 /// A dollar behind a word.
 #[tactic(auto, using(crate::proofs::Verdicts::over_query))]
 pub fn exact_word(alloc: Global, tie: Tie, text: Text, gathered: Gathered) -> Result<Reader, Stop>
-    ensures { (rest : List Token) → StandsBehind rest (record { tail = Tail.Word tie text; gathered = gathered })
-        → JudgesTokens (Dollar ∷ Word text ∷ rest) result }
+    ensures { JudgesNext (record { tail = Tail.Word tie text; gathered = gathered }) (λ rest. Dollar ∷ Word text ∷ rest) result }
 {
     let gathered = gathered.spend(1)?;
     let gathered = gathered.add(alloc, tie, Atom::Exact(text))?;
@@ -119,8 +129,7 @@ pub fn exact_value(
     text: Text,
     gathered: Gathered,
 ) -> Result<Reader, Stop>
-    ensures { (rest : List Token) → StandsBehind rest (record { tail = Tail.Value tie name text; gathered = gathered })
-        → JudgesTokens (Dollar ∷ Value text ∷ Colon ∷ Word name ∷ rest) result }
+    ensures { JudgesNext (record { tail = Tail.Value tie name text; gathered = gathered }) (λ rest. Dollar ∷ Value text ∷ Colon ∷ Word name ∷ rest) result }
 {
     if text.len() == 0 {
         return Err(Stop::Bad);
@@ -130,23 +139,6 @@ pub fn exact_value(
     let gathered = gathered.add(alloc, tie, Atom::Exact(word))?;
     Ok(Reader {
         tail: Tail::Dollar,
-        gathered,
-    })
-}
-
-/// A colon behind a word, which must be a name.
-#[tactic(auto, using(crate::proofs::Verdicts::over_query))]
-pub fn begin_value(alloc: Global, tie: Tie, name: Text, gathered: Gathered) -> Result<Reader, Stop>
-    ensures { (rest : List Token) → StandsBehind rest (record { tail = Tail.Word tie name; gathered = gathered })
-        → JudgesTokens (Value [] ∷ Colon ∷ Word name ∷ rest) result }
-{
-    if !has_name_form(name.as_str().as_bytes()) {
-        return Err(Stop::Bad);
-    }
-    let gathered = gathered.spend(1)?;
-    let text = Text::new(alloc);
-    Ok(Reader {
-        tail: Tail::Value { tie, name, text },
         gathered,
     })
 }

@@ -1,7 +1,7 @@
 //! Brackets that open and close.
 ghost use Rattle.std.specs.Prelude.{◌≡◌, List, ◌∷◌, true};
 ghost use Rattle.cs_model.specs.Tokens.{Token, Word, Open, Close};
-ghost use Rattle.cs_query.specs.Following.{Agrees, Stands, StandsBehind, JudgesTokens, held, settled};
+ghost use Rattle.cs_query.specs.Following.{Agrees, Stands, JudgesNext, JudgesTokens, held, settled};
 
 use crate::attaching::close_level;
 use crate::fault::Stop;
@@ -15,8 +15,7 @@ use std::alloc::Global;
 /// A bracket opens behind a word, which must be a name. It takes the room of its closing bracket too.
 #[tactic(auto, using(crate::proofs::Lasts::reverse_push, crate::proofs::Verdicts::over_query, crate::proofs::Verdicts::over_depth))]
 pub fn begin_join(alloc: Global, tie: Tie, name: Text, gathered: Gathered) -> Result<Reader, Stop>
-    ensures { (rest : List Token) → StandsBehind rest (record { tail = Tail.Word tie name; gathered = gathered })
-        → JudgesTokens (Open ∷ Word name ∷ rest) result }
+    ensures { JudgesNext (record { tail = Tail.Word tie name; gathered = gathered }) (λ rest. Open ∷ Word name ∷ rest) result }
 {
     if !has_name_form(name.as_str().as_bytes()) {
         return Err(Stop::Bad);

@@ -1,7 +1,7 @@
 //! The newest token with one character more.
-ghost use Rattle.std.specs.Prelude.{◌+◌, List, ◌∷◌, ◌++◌, encode_utf8, length};
-ghost use Rattle.cs_model.specs.Tokens.{Token, Word, Value, Run, Gap, Colon};
-ghost use Rattle.cs_query.specs.Following.{JudgesTokens, StandsBehind};
+ghost use Rattle.std.specs.Prelude.{◌+◌, ◌∷◌, ◌++◌, encode_utf8, length};
+ghost use Rattle.cs_model.specs.Tokens.{Word, Value, Run, Gap, Colon};
+ghost use Rattle.cs_query.specs.Following.{JudgesNext};
 
 use crate::fault::Stop;
 use crate::reader::{Gathered, Reader, Tail};
@@ -11,8 +11,7 @@ use cs_model::{Spot, Tie};
 /// A word with one character more.
 #[tactic(auto, using(crate::proofs::Verdicts::over_query, crate::proofs::Verdicts::over_word))]
 pub fn grow_word(c: char, tie: Tie, mut text: Text, gathered: Gathered) -> Result<Reader, Stop>
-    ensures { (rest : List Token) → StandsBehind rest (record { tail = Tail.Word tie text; gathered = gathered })
-        → JudgesTokens (Word (text ++ encode_utf8 c) ∷ rest) result }
+    ensures { JudgesNext (record { tail = Tail.Word tie text; gathered = gathered }) (λ rest. Word (text ++ encode_utf8 c) ∷ rest) result }
 {
     let gathered = gathered.spend(c.len_utf8())?;
     if text.len() > MAX_PLAIN_WORD_BYTES - c.len_utf8() {
@@ -34,8 +33,7 @@ pub fn grow_value(
     mut text: Text,
     gathered: Gathered,
 ) -> Result<Reader, Stop>
-    ensures { (rest : List Token) → StandsBehind rest (record { tail = Tail.Value tie name text; gathered = gathered })
-        → JudgesTokens (Value (text ++ encode_utf8 c) ∷ Colon ∷ Word name ∷ rest) result }
+    ensures { JudgesNext (record { tail = Tail.Value tie name text; gathered = gathered }) (λ rest. Value (text ++ encode_utf8 c) ∷ Colon ∷ Word name ∷ rest) result }
 {
     let gathered = gathered.spend(c.len_utf8())?;
     if text.len() > MAX_PLAIN_WORD_BYTES - c.len_utf8() {
@@ -51,8 +49,7 @@ pub fn grow_value(
 /// A run with one character more.
 #[tactic(auto, using(crate::proofs::Verdicts::over_query))]
 pub fn grow_run(c: char, spot: Spot, mut text: Text, gathered: Gathered) -> Result<Reader, Stop>
-    ensures { (rest : List Token) → StandsBehind rest (record { tail = Tail.Run spot text; gathered = gathered })
-        → JudgesTokens (Run (text ++ encode_utf8 c) ∷ rest) result }
+    ensures { JudgesNext (record { tail = Tail.Run spot text; gathered = gathered }) (λ rest. Run (text ++ encode_utf8 c) ∷ rest) result }
 {
     let gathered = gathered.spend(c.len_utf8())?;
     text.push(c)?;
@@ -65,8 +62,7 @@ pub fn grow_run(c: char, spot: Spot, mut text: Text, gathered: Gathered) -> Resu
 /// A gap with one character more.
 #[tactic(auto, using(crate::proofs::Verdicts::over_query))]
 pub fn grow_gap(c: char, bytes: usize, gathered: Gathered) -> Result<Reader, Stop>
-    ensures { (rest : List Token) → StandsBehind rest (record { tail = Tail.Gap bytes; gathered = gathered })
-        → JudgesTokens (Gap (bytes + length (encode_utf8 c)) ∷ rest) result }
+    ensures { JudgesNext (record { tail = Tail.Gap bytes; gathered = gathered }) (λ rest. Gap (bytes + length (encode_utf8 c)) ∷ rest) result }
 {
     let size = c.len_utf8();
     let gathered = gathered.spend(size)?;

@@ -1,9 +1,9 @@
 //! The canonical text of a query.
 ghost use Rattle.std.specs.Prelude.{◌≡◌, [], ◌++◌, IfOk, OnOk, codes, if◌then◌else◌};
-ghost use Rattle.cs_model.specs.Canonical.{canonical, canonical_atom, canonical_chain, canonical_linked, canonical_part, canonical_parts, link_text, word_text};
+ghost use Rattle.cs_model.specs.Canonical.{canonical, canonical_atom, canonical_chain, canonical_part, canonical_parts, link_text, word_text};
 ghost use Rattle.cs_query.specs.Printing.{separator};
 
-use cs_base::{Atom, Chain, Link, Linked, Memory, Part, Query, Text};
+use cs_base::{Atom, Chain, Link, Memory, Part, Query, Text};
 use std::alloc::Global;
 
 /// The canonical text of a query. Different queries that `parse` gives have different ones, and each, read as
@@ -12,16 +12,8 @@ pub fn print(alloc: Global, query: &Query) -> Result<Text, Memory>
     ensures ok { IfOk result (λ t. t ≡ canonical query.now) }
 {
     let mut out = Text::new(alloc);
-    put_query(&mut out, query)?;
+    put_parts(&mut out, query.parts.as_slice())?;
     Ok(out)
-}
-
-#[cycle(print)]
-fn put_query(out: &mut Text, query: &Query) -> Result<(), Memory>
-    ensures { OnOk result (out.new ≡ out.old ++ canonical query.now) }
-{
-    put_parts(out, query.parts.as_slice())?;
-    Ok(())
 }
 
 /// Puts the parts of a query, or some of them.
@@ -54,17 +46,9 @@ fn put_chain(out: &mut Text, chain: &Chain) -> Result<(), Memory>
 {
     put_atom(out, &chain.first)?;
     for linked in chain.rest.as_slice() {
-        put_linked(out, linked)?;
+        put_link(out, linked.link)?;
+        put_atom(out, &linked.atom)?;
     }
-    Ok(())
-}
-
-#[cycle(print)]
-fn put_linked(out: &mut Text, linked: &Linked) -> Result<(), Memory>
-    ensures { OnOk result (out.new ≡ out.old ++ canonical_linked linked.now) }
-{
-    put_link(out, linked.link)?;
-    put_atom(out, &linked.atom)?;
     Ok(())
 }
 
@@ -81,7 +65,7 @@ fn put_atom(out: &mut Text, atom: &Atom) -> Result<(), Memory>
         Atom::Join { name, inner } => {
             out.push_str(name.as_str())?;
             out.push('[')?;
-            put_query(out, inner)?;
+            put_parts(out, inner.parts.as_slice())?;
             out.push(']')?;
         }
     }

@@ -1,7 +1,7 @@
 //! The reader with one character more: what a character of each class does behind each tail.
-ghost use Rattle.std.specs.Prelude.{List, encode_utf8};
-ghost use Rattle.cs_model.specs.Tokens.{Token, grown, with_next};
-ghost use Rattle.cs_query.specs.Following.{StandsBehind, JudgesTokens, held};
+ghost use Rattle.std.specs.Prelude.{encode_utf8};
+ghost use Rattle.cs_model.specs.Tokens.{grown, with_next};
+ghost use Rattle.cs_query.specs.Following.{JudgesNext, held};
 
 use crate::beginnings::{
     begin_bar, begin_gap, begin_run, begin_value, begin_word, exact_value, exact_word,
@@ -16,14 +16,14 @@ use std::alloc::Global;
 
 /// The reader after one character more.
 pub fn step(alloc: Global, reader: Reader, c: char) -> Result<Reader, Stop>
-    ensures { (rest : List Token) → StandsBehind rest reader → JudgesTokens (with_next c (held reader.tail rest)) result }
+    ensures { JudgesNext reader (λ rest. with_next c (held reader.tail rest)) result }
 {
     step_by_class(alloc, class_of(c), c, reader)
 }
 
 /// The reader after a character of a class.
 fn step_by_class(alloc: Global, class: Class, c: char, reader: Reader) -> Result<Reader, Stop>
-    ensures { (rest : List Token) → StandsBehind rest reader → JudgesTokens (grown class (encode_utf8 c) (held reader.tail rest)) result }
+    ensures { JudgesNext reader (λ rest. grown class (encode_utf8 c) (held reader.tail rest)) result }
 {
     let Reader { tail, gathered } = reader;
     match (class, tail) {

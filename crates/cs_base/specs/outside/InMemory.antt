@@ -6,9 +6,7 @@
 --   TiredState                the bytes, the counts of reads and of faults, which read is to fail
 --   SinkState                 the bytes written, the count of faults, which calls are to fail
 --   FilesState                the files that are held, the count of faults, which calls are to fail
---   store_code, tired_code    the states of stores as pairs, from which they are read back
---   sink_code, file_code      the state of a sink and a file, likewise
---   files_code                the state of files, likewise
+--   file_code, files_code     a file as a pair and the state of files as its parts, from which they are read back
 use Rattle.std.specs.Prelude.{ℕ, Bool, List, refl}
 use Rattle.std.specs.Coded.{Coded, code_by, coded×, coded_list, coded_ℕ, coded_bool}
 use Rattle.std.specs.FinMap as map
@@ -19,10 +17,6 @@ pub record StoreState : Type 0 where
   pub bytes : List ℕ
   pub reads : ℕ
 
--- the state of a store as a pair, from which it is read back
-abbrev pub store_code : Coded StoreState
-store_code = code_by (List ℕ × ℕ) (coded× (coded_list coded_ℕ) coded_ℕ) (λ s. (s.bytes, s.reads)) (λ p. record { bytes = p.0; reads = p.1 }) (λ _. refl)
-
 -- a store in memory that can fail: its bytes, how often it was read, how many faults it counted, and the number of the read
 -- that is to fail, counted from 1 from the next one; 0 where none is
 pub record TiredState : Type 0 where
@@ -31,20 +25,12 @@ pub record TiredState : Type 0 where
   pub faults : ℕ
   pub fails_at : ℕ
 
--- the state of such a store as its four parts, from which it is read back
-abbrev pub tired_code : Coded TiredState
-tired_code = code_by (List ℕ × (ℕ × (ℕ × ℕ))) (coded× (coded_list coded_ℕ) (coded× coded_ℕ (coded× coded_ℕ coded_ℕ))) (λ s. (s.bytes, (s.reads, (s.faults, s.fails_at)))) (λ p. record { bytes = p.0; reads = p.1.0; faults = p.1.1.0; fails_at = p.1.1.1 }) (λ _. refl)
-
 -- a sink in memory: the bytes written, how many faults it counted, and the numbers of the puts that are to fail, counted from 1
 -- from the next one; none of each at first
 pub record SinkState : Type 0 where
   pub bytes : List ℕ
   pub faults : ℕ
   pub failing : List ℕ
-
--- the state of a sink as its three parts, from which it is read back
-abbrev pub sink_code : Coded SinkState
-sink_code = code_by (List ℕ × (ℕ × List ℕ)) (coded× (coded_list coded_ℕ) (coded× coded_ℕ (coded_list coded_ℕ))) (λ s. (s.bytes, (s.faults, s.failing))) (λ p. record { bytes = p.0; faults = p.1.0; failing = p.1.1 }) (λ _. refl)
 
 -- files in memory: those that are held, how many faults they counted, and the numbers of the calls that are to fail, those that
 -- read and those that write, each counted from 1 from the next one of its kind; none of each at first

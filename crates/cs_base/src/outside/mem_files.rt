@@ -250,8 +250,7 @@ impl Files for MemFiles {
         }
         match place_of(&self.files, name) {
             Some(i) => {
-                let file = &mut self.files[i];
-                file.finished = true;
+                self.files[i].finished = true;
                 Ok(())
             }
             None => unreachable!(),

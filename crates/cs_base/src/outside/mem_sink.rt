@@ -15,11 +15,9 @@ pub struct MemSink {
 }
 
 impl Model for MemSink {
-    ghost use Rattle.cs_base.specs.outside.InMemory.{SinkState, sink_code};
+    ghost use Rattle.cs_base.specs.outside.InMemory.{SinkState};
 
     ghost Value = { SinkState };
-
-    ghost coded = { sink_code };
 
     ghost view = { λ s. record { bytes = s.held.items; faults = s.faults; failing = s.failing.items } };
 }

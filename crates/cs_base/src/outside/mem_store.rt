@@ -14,11 +14,9 @@ pub struct MemStore {
 }
 
 impl Model for MemStore {
-    ghost use Rattle.cs_base.specs.outside.InMemory.{StoreState, store_code};
+    ghost use Rattle.cs_base.specs.outside.InMemory.{StoreState};
 
     ghost Value = { StoreState };
-
-    ghost coded = { store_code };
 
     ghost view = { λ s. record { bytes = s.held.items; reads = s.reads } };
 }
@@ -83,11 +81,9 @@ pub struct TiredStore {
 }
 
 impl Model for TiredStore {
-    ghost use Rattle.cs_base.specs.outside.InMemory.{TiredState, tired_code};
+    ghost use Rattle.cs_base.specs.outside.InMemory.{TiredState};
 
     ghost Value = { TiredState };
-
-    ghost coded = { tired_code };
 
     ghost view = { λ s. record { bytes = s.store.bytes; reads = s.store.reads; faults = s.faults; fails_at = s.fails_at } };
 }

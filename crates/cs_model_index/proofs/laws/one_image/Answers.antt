@@ -3,11 +3,5 @@ use Rattle.cs_model_index.proofs.PartitionLemmas.{partitions_are_one}
 use Rattle.cs_model_index.proofs.ImageLemmas.{images_are_one}
 use Rattle.cs_model_index.proofs.laws.one_image.Goals as goal
 
-pub returns-clause-partitions : goal.returns-clause-partitions
-returns-clause-partitions c = partitions_are_one
-
-pub returns-clause-images : goal.returns-clause-images
-returns-clause-images c = images_are_one
-
-pub returns-clause-corpora : goal.returns-clause-corpora
-returns-clause-corpora c = corpora_are_kept
+pub returns : goal.returns
+returns c = record { partitions = partitions_are_one; images = images_are_one; corpora = corpora_are_kept }
