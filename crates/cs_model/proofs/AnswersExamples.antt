@@ -177,65 +177,68 @@ answered : (r : Request) → reply_of worked r ≡ listed_reply worked (parts_of
 unfolding reply_of
 answered r = reply-listed worked (parts_of worked r.query) r
 
+-- what computes the reply to a query of prefixes
+ruleset of_prefixes = (query_rolled, part_listed, chain_rolled, prefix_rows, titles-are, titles-found)
+
 -- completions with more documents first, hits with greater scores first
 reply-prefix : reply_of worked (asks (codes "typ")) ≡ whole (shown 2 (codes "type") ∷ shown 1 (codes "typed") ∷ shown 1 (codes "types") ∷ []) (first 4 ∷ third 4 ∷ second 1 ∷ [])
 unfolding is_word_char encode_utf8
-reply-prefix = answered (asks (codes "typ")) ∙ simp (query_rolled, part_listed, chain_rolled, prefix_rows, titles-are, titles-found) refl
+reply-prefix = answered (asks (codes "typ")) ∙ simp of_prefixes refl
 
 -- a hit has a row of each part
 reply-two : reply_of worked (asks (codes "search typ")) ≡ whole (shown 2 (codes "type") ∷ []) (first 5 ∷ second 2 ∷ [])
 unfolding is_word_char encode_utf8
-reply-two = answered (asks (codes "search typ")) ∙ simp (query_rolled, part_listed, chain_rolled, prefix_rows, titles-are, titles-found) refl
+reply-two = answered (asks (codes "search typ")) ∙ simp of_prefixes refl
 
 -- with one letter more the best row of a document may be gone
 reply-longer : reply_of worked (asks (codes "types")) ≡ whole (shown 1 (codes "types") ∷ []) (third 1 ∷ [])
 unfolding is_word_char encode_utf8
-reply-longer = answered (asks (codes "types")) ∙ simp (query_rolled, part_listed, chain_rolled, prefix_rows, titles-are, titles-found) refl
+reply-longer = answered (asks (codes "types")) ∙ simp of_prefixes refl
 
 -- an exact word is that word alone
 reply-exact : reply_of worked (asks (codes "type$")) ≡ whole (shown 2 (codes "type") ∷ []) (first 4 ∷ second 1 ∷ [])
 unfolding is_word_char encode_utf8
-reply-exact = answered (asks (codes "type$")) ∙ simp (query_rolled, part_listed, chain_rolled, exact_rows, titles-are, titles-found) refl
+reply-exact = answered (asks (codes "type$")) ∙ simp (of_prefixes, exact_rows) refl
 
 -- in a phrase the second word stands directly behind the first
 reply-phrase : reply_of worked (asks (codes "type-ahead")) ≡ whole (shown 1 (codes "ahead") ∷ []) (second 1 ∷ [])
 unfolding is_word_char encode_utf8
-reply-phrase = answered (asks (codes "type-ahead")) ∙ simp (query_rolled, part_listed, chain_rolled, linked_rolled, out-roll-Part, out-roll-Chain, prefix_rows, titles-are, titles-found) refl
+reply-phrase = answered (asks (codes "type-ahead")) ∙ simp (of_prefixes, linked_rolled, out-roll-Part, out-roll-Chain) refl
 
 -- nearness reaches eight positions, and `types` stands ten away
 reply-near : reply_of worked (asks (codes "lambda..typ")) ≡ whole (shown 1 (codes "typed") ∷ []) (third 4 ∷ [])
 unfolding is_word_char encode_utf8
-reply-near = answered (asks (codes "lambda..typ")) ∙ simp (query_rolled, part_listed, chain_rolled, linked_rolled, out-roll-Part, out-roll-Chain, prefix_rows, titles-are, titles-found) refl
+reply-near = answered (asks (codes "lambda..typ")) ∙ simp (of_prefixes, linked_rolled, out-roll-Part, out-roll-Chain) refl
 
 -- an excluded part takes its documents away, and as the last part it has no completion
 reply-excluded : reply_of worked (asks (codes "typ -search")) ≡ whole [] (third 4 ∷ [])
 unfolding is_word_char encode_utf8
-reply-excluded = answered (asks (codes "typ -search")) ∙ simp (query_rolled, part_listed, chain_rolled, prefix_rows, titles-are, titles-found) refl
+reply-excluded = answered (asks (codes "typ -search")) ∙ simp of_prefixes refl
 
 -- with excluded parts alone a hit has the score 0
 reply-only_excluded : reply_of worked (asks (codes "-search")) ≡ whole [] (third 0 ∷ [])
 unfolding is_word_char encode_utf8
-reply-only_excluded = answered (asks (codes "-search")) ∙ simp (query_rolled, part_listed, chain_rolled, prefix_rows, titles-are, titles-found) refl
+reply-only_excluded = answered (asks (codes "-search")) ∙ simp of_prefixes refl
 
 -- the part behind an excluded one is completed
 reply-behind_excluded : reply_of worked (asks (codes "-search typ")) ≡ whole (shown 1 (codes "typed") ∷ shown 1 (codes "types") ∷ []) (third 4 ∷ [])
 unfolding is_word_char encode_utf8
-reply-behind_excluded = answered (asks (codes "-search typ")) ∙ simp (query_rolled, part_listed, chain_rolled, prefix_rows, titles-are, titles-found) refl
+reply-behind_excluded = answered (asks (codes "-search typ")) ∙ simp of_prefixes refl
 
 -- of two alternatives one is enough, and both are completed
 reply-alternatives : reply_of worked (asks (codes "typed|ahead")) ≡ whole (shown 1 (codes "ahead") ∷ shown 1 (codes "typed") ∷ []) (third 4 ∷ second 1 ∷ [])
 unfolding is_word_char encode_utf8
-reply-alternatives = answered (asks (codes "typed|ahead")) ∙ simp (query_rolled, part_listed, chain_rolled, prefix_rows, titles-are, titles-found, out-roll-Part) refl
+reply-alternatives = answered (asks (codes "typed|ahead")) ∙ simp (of_prefixes, out-roll-Part) refl
 
 -- a bar at the end is dropped
 reply-bar : reply_of worked (asks (codes "a|")) ≡ whole (shown 1 (codes "a") ∷ shown 1 (codes "ahead") ∷ shown 1 (codes "and") ∷ shown 1 (codes "autocompletion") ∷ []) (first 1 ∷ second 1 ∷ [])
 unfolding is_word_char encode_utf8
-reply-bar = answered (asks (codes "a|")) ∙ simp (query_rolled, part_listed, chain_rolled, prefix_rows, titles-are, titles-found) refl
+reply-bar = answered (asks (codes "a|")) ∙ simp of_prefixes refl
 
 -- a facet without a value has every value
 reply-facet : reply_of worked (asks (codes "year:")) ≡ whole (shown 1 (codes "year:1940") ∷ shown 1 (codes "year:2006") ∷ shown 1 (codes "year:2007") ∷ []) (first 2 ∷ second 2 ∷ third 2 ∷ [])
 unfolding is_word_char encode_utf8
-reply-facet = answered (asks (codes "year:")) ∙ simp (query_rolled, part_listed, chain_rolled, prefix_rows, titles-are, titles-found) refl
+reply-facet = answered (asks (codes "year:")) ∙ simp of_prefixes refl
 
 -- the empty query has every document and no completion
 reply-empty : reply_of worked (asks []) ≡ whole [] (first 0 ∷ second 0 ∷ third 0 ∷ [])
@@ -289,7 +292,7 @@ reply-facets : reply_of worked with_facets ≡ record {
   total_hits = 2;
 }
 unfolding is_word_char encode_utf8
-reply-facets = answered with_facets ∙ simp (query_rolled, part_listed, chain_rolled, prefix_rows, titles-are, titles-found) refl
+reply-facets = answered with_facets ∙ simp of_prefixes refl
 
 -- ---- the empty collection
 abbrev pub nothing : Corpus

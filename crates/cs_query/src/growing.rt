@@ -33,7 +33,8 @@ pub fn grow_value(
     mut text: Text,
     gathered: Gathered,
 ) -> Result<Reader, Stop>
-    ensures { JudgesNext (record { tail = Tail.Value tie name text; gathered = gathered }) (λ rest. Value (text ++ encode_utf8 c) ∷ Colon ∷ Word name ∷ rest) result }
+    ensures { JudgesNext (record { tail = Tail.Value tie name text; gathered = gathered })
+        (λ rest. Value (text ++ encode_utf8 c) ∷ Colon ∷ Word name ∷ rest) result }
 {
     let gathered = gathered.spend(c.len_utf8())?;
     if text.len() > MAX_PLAIN_WORD_BYTES - c.len_utf8() {
