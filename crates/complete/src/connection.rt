@@ -1,6 +1,8 @@
 //! A connection that is served: its stream, and the bounds of time that it is read and written under.
-ghost use Rattle.std.specs.Prelude.{◌≡◌, IfOk, IfSome, Ok};
+ghost use Rattle.std.specs.Prelude.{◌≡◌, ◌≢◌, IfErr, IfOk, IfSome, IsErr, None, Ok, Some};
 ghost use Rattle.std.specs.Io.{ReadsAtMost};
+ghost use Rattle.std.specs.IoError.{error_kind};
+ghost use Rattle.std.specs.declared.io.ErrorKind.TheVariants.{Interrupted};
 
 use crate::bounds::{LIFE, LINGER, LINGER_BYTES, LINGER_GAP, LINGER_PIECE, SEND_WAIT, SLICE};
 use std::io::{self, ErrorKind, Read, Write};
@@ -132,7 +134,10 @@ impl<S: Read + Write + OpenStream + Drop> Connection<S> {
 
 // What a call gave, or nothing where it was interrupted and is to be made again.
 fn unless_interrupted(answer: io::Result<usize>) -> io::Result<Option<usize>>
-    ensures { IfOk result (λ given. IfSome given (λ count. answer ≡ Ok count)) }
+    ensures given { IfOk answer (λ count. result ≡ Ok (Some count)) }
+    ensures only { IfOk result (λ given. IfSome given (λ count. answer ≡ Ok count)) }
+    ensures again { IfErr answer (λ e. error_kind e ≡ Interrupted → result ≡ Ok None) }
+    ensures err { IfErr answer (λ e. error_kind e ≢ Interrupted → IsErr result) }
 {
     match answer {
         Ok(count) => Ok(Some(count)),
