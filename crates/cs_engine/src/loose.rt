@@ -4,13 +4,13 @@ ghost use Rattle.std.specs.Prelude.{◌≡◌, ◌+◌, ◌-◌, ◌≤◌, true
 ghost use Rattle.cs_base.specs.declared.content.doc.Base.TheVariants as base;
 ghost use Rattle.cs_base.specs.outside.Causes.{ReadsWithin};
 ghost use Rattle.cs_file.specs.Indexes.{IsIndex, is_met};
-ghost use Rattle.cs_model.specs.{Parameters.{HoldsLimits}, Requests.{reply_of}};
+ghost use Rattle.cs_model.specs.{Requests.{reply_of}};
 ghost use Rattle.cs_model_index.specs.Sections.{file_corpus};
 ghost use Rattle.cs_model_kept.specs.Entries.{listed_count};
 ghost use Rattle.cs_query.specs.RequestView.{asked};
 ghost use Rattle.cs_engine.specs.{Asking.{titles_asked, titles_read}, Blockwise.{AreMany}, RequestsOver.{CanAnswer, FitsAnswer, WhereHeld}};
 ghost use Rattle.cs_engine.specs.{Keeping.{IsAnsweredOver}, Counting.{AreListed}, GatheredRows.{HasGathered}, Loose.{AreLastWords, IsEntryByWords}};
-ghost use Rattle.cs_engine.specs.IndexReading.{IsOpened, IsWordRange, OnlyReads};
+ghost use Rattle.cs_engine.specs.IndexReading.{IsWordRange, OnlyReads};
 
 use crate::answering::{RequestOver, reply_of};
 use crate::blockwise::{are_many, found_behind};

@@ -2,13 +2,13 @@
 ghost use Rattle.std.specs.Prelude.{◌≡◌, ◌+◌, ◌-◌, ◌*◌, ◌≤◌, filter, length, IsSome, IfSome, IfOk};
 ghost use Rattle.cs_base.specs.content.Orders.{AreSorted};
 ghost use Rattle.cs_base.specs.{outside.Causes.{ReadsWithin}, declared.content.scores.TheConstants.{MAX_ROW_SCORE}, declared.content.query.Query.{out-Query}};
-ghost use Rattle.cs_model.specs.{Answers.{begins}, Keys.{last_of, last_prefix}, Parameters.{HoldsLimits}};
+ghost use Rattle.cs_model.specs.{Answers.{begins}, Keys.{last_of, last_prefix}};
 ghost use Rattle.cs_model_index.specs.Numbered.{word_at};
 ghost use Rattle.cs_model_kept.specs.{Due.{met_of_last}, KeptListLaws.{before_last}};
 ghost use Rattle.cs_query.specs.RequestView.{asked};
 ghost use Rattle.cs_rank.specs.DocScores.{IsBase};
 ghost use Rattle.cs_engine.specs.{Asking.{division, titles_asked}, RequestsOver.{CanAnswer, FitsAnswer, WhereHeld}};
-ghost use Rattle.cs_engine.specs.{Keeping.{IsAnsweredOver}, IndexReading.{AreWithin, IsOpened, OnlyReads}};
+ghost use Rattle.cs_engine.specs.{Keeping.{IsAnsweredOver}, IndexReading.{AreWithin, OnlyReads}};
 ghost use Rattle.cs_engine.specs.Steps.{AreHitsOver, IsBaseOf, last_is_positive, posts_hits};
 
 use crate::answering::RequestOver;

@@ -8,7 +8,7 @@ ghost use Rattle.cs_model_kept.specs.{Due.{met_by, met_of_query}, KeptList.{is_s
 ghost use Rattle.cs_query.specs.RequestView.{asked};
 ghost use Rattle.cs_engine.specs.{Asking.{division, titles_asked, titles_read}, HeldFacets.{HoldsFacets}, RequestsOver.{CanAnswer, FitsAnswer, WhereHeld}};
 ghost use Rattle.cs_engine.specs.Keeping.{FitsQuery, HoldsGood, IsAnsweredOver, IsEntryOver, IsPlanned, IsRepliedOver, entry_with};
-ghost use Rattle.cs_engine.specs.IndexReading.{IsOpened, OnlyReads};
+ghost use Rattle.cs_engine.specs.IndexReading.{OnlyReads};
 
 use crate::answering::{RequestOver, reply_of};
 use crate::entries::{hits_of, nothing_kept};

@@ -1,5 +1,4 @@
 //! Sending on one connection.
-ghost use Rattle.std.specs.Prelude.{◌≡◌};
 ghost use Rattle.cs_base.specs.outside.Hub.{IsLive};
 ghost use Rattle.cs_hub.specs.Responding.{response};
 ghost use Rattle.cs_hub.specs.Speaking.{Said, Starved, Calm};

@@ -1,5 +1,5 @@
 //! One event.
-ghost use Rattle.std.specs.Prelude.{◌≡◌, ◌<◌, ◌≤◌, ℕ, not, None, true, length, is_some, slice_set};
+ghost use Rattle.std.specs.Prelude.{◌≡◌, ◌<◌, ℕ, not, None, true, length, is_some, slice_set};
 ghost use Rattle.std.specs.FinSet as set;
 ghost use Rattle.std.specs.Option.{ForSome};
 ghost use Rattle.cs_base.specs.outside.Hub.{IsLive, IsOrderly};

@@ -1,5 +1,5 @@
 //! Brackets that open and close.
-ghost use Rattle.std.specs.Prelude.{◌≡◌, List, ◌∷◌, true};
+ghost use Rattle.std.specs.Prelude.{List, ◌∷◌};
 ghost use Rattle.cs_model.specs.Tokens.{Token, Word, Open, Close};
 ghost use Rattle.cs_query.specs.Following.{Agrees, Stands, JudgesNext, JudgesTokens, held, settled};
 

@@ -1,7 +1,7 @@
 //! Counting the documents of words over rows that come in pieces.
 ghost use Rattle.std.specs.Prelude.{◌≡◌, ◌+◌, ◌++◌, ◌<◌, ◌≤◌, [], ◌∷◌, true, false, Bool, List, length, take, slice_index, slice_index_or, IfOk, All};
 ghost use Rattle.cs_base.specs.declared.content.doc.Post.{Post};
-ghost use Rattle.cs_base.specs.declared.content.limits.TheConstants.{MAX_DOCS, MAX_WORDS};
+ghost use Rattle.cs_base.specs.declared.content.limits.TheConstants.{MAX_WORDS};
 ghost use Rattle.cs_tables.specs.TableListings.{post_table};
 ghost use Rattle.cs_tables.specs.WordCounts.{AddsColumns, AreCountable, AreOfOne, CanCount, CanCountAt, Counts, CountsAt, CountsRows, HasCounted};
 
