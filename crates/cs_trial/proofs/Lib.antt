@@ -1,4 +1,5 @@
 pub mod DrawsLemmas
+pub mod JumpLemmas
 pub mod WordsLemmas
 pub mod TrialLineLemmas
 pub mod TypingLemmas

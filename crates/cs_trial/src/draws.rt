@@ -1,6 +1,7 @@
 //! Numbers drawn one after the other.
-ghost use Rattle.std.specs.Prelude.{◌≡◌, ◌<◌};
+ghost use Rattle.std.specs.Prelude.{◌≡◌, ◌<◌, ℕ};
 ghost use Rattle.cs_model_trial.specs.Generator.{next_state, behind, drawn};
+ghost use Rattle.cs_trial.specs.Jumps.{jumped};
 
 use cs_model_trial::{INCREMENT, MULTIPLIER};
 
@@ -15,13 +16,23 @@ pub(crate) struct Draws {
 }
 
 impl Draws {
-    /// The draws of trial `n` behind the first `count`.
+    /// The draws of trial `n` behind the first `count`. It takes as many steps as `count` has bits: F. B. Brown, "Random number
+    /// generation with arbitrary strides" (1994).
     pub(crate) fn behind(n: u32, count: u32) -> Draws
         ensures { result.state ≡ behind count n }
     {
         let mut state = u64::from(n);
-        for _ in 0..count {
-            state = next_state(state);
+        let mut jump = Jump {
+            times: MULTIPLIER,
+            plus: INCREMENT,
+        };
+        let mut left = count;
+        while left > 0 {
+            if left % 2 == 1 {
+                state = jump.from(state);
+            }
+            jump = jump.twice();
+            left /= 2;
         }
         Draws { state }
     }
@@ -37,6 +48,34 @@ impl Draws {
     {
         self.state = next_state(self.state);
         ((self.state >> LOW_BITS) % u64::from(bound)) as u32
+    }
+}
+
+/// Some draws at once: what they make of a state, modulo 2^64.
+#[derive(Clone, Copy)]
+pub(crate) struct Jump {
+    /// What the state is multiplied by.
+    pub(crate) times: u64,
+    /// What is added then.
+    pub(crate) plus: u64,
+}
+
+impl Jump {
+    // The state behind the jump.
+    fn from(self, state: u64) -> u64
+        ensures { result ≡ jumped self state }
+    {
+        state.wrapping_mul(self.times).wrapping_add(self.plus)
+    }
+
+    // The jump over twice as many draws.
+    fn twice(self) -> Jump
+        ensures { (x : ℕ) → jumped result x ≡ jumped self (jumped self x) }
+    {
+        Jump {
+            times: self.times.wrapping_mul(self.times),
+            plus: self.from(self.plus),
+        }
     }
 }
 

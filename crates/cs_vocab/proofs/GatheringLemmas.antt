@@ -1,20 +1,25 @@
--- Words that are taken from rows one by one.
+-- Words that come one by one.
 --
 --   taken_same       a word that stands there already is taken without being added
---   HasGathered      what is known once the words of the first rows are taken; gathered_one: of one row more
-use Rattle.std.proofs.Common.{◌≡◌, ℕ, ◌+◌, ◌<◌, ◌≤◌, Bool, true, false, true≢false, ◌||◌, List, [], ◌∷◌, ◌++◌, length, take, drop, get_or, refl, sym, ap, ◌∙◌, arith}
-use Rattle.std.specs.List.{list_any}
+--   listed_behind    words that have the same listing, with one more behind them
+--   indices_are      each word that came has its index
+--   none_gathered    before any came; gathered_one, gathering_one: behind one more
+use Rattle.std.proofs.Common.{◌≡◌, ℕ, ◌+◌, ◌<◌, ◌≤◌, Bool, true, false, true≢false, ◌||◌, List, [], ◌∷◌, ◌++◌, length, map, refl, sym, ap, subst, ◌∙◌, arith, append-nil, length-append}
+use Rattle.std.specs.List.{All, list_any}
 use Rattle.std.specs.Ordering.{nat_cmp, eq_by_cmp}
 use Rattle.std.specs.Cmp.Lexicographic.{slice_cmp}
 use Rattle.std.proofs.lemmas.Cmp.{nat_list_cmp_total}
-use Rattle.std.proofs.lemmas.List.{drop_more}
+use Rattle.std.proofs.lemmas.List.{map-append}
+use Rattle.std.proofs.lemmas.List.Elements.{All-append, All-from_recursion}
 use Rattle.std.proofs.lemmas.List.Folds.{list_any-append, list_any_at}
 use Rattle.std.proofs.lemmas.Map.Lookups.{exact_bytes}
 use Rattle.cs_base.specs.content.Members.{members_in}
-use Rattle.cs_base.proofs.MembersLemmas.{members-alike}
-use Rattle.cs_vocab.specs.Ranges.{IsWordAt, AreNumbers}
-use Rattle.cs_vocab.specs.Gathering.{HasTaken}
-use Rattle.cs_vocab.proofs.WordNumberLemmas.{numbers_kept, numbers_more}
+use Rattle.cs_base.proofs.MembersLemmas.{is_member-listed, members-alike}
+use Rattle.cs_vocab.specs.Ranges.{IsBelow, IsWordAt, AreNumbers}
+use Rattle.cs_vocab.specs.Gathering.{HasTaken, IsGathering, gathered}
+use Rattle.cs_vocab.specs.declared.gathering.Gathering.{Gathering}
+use Rattle.cs_vocab.specs.declared.gathering.TheConstants.{MAX_SLOTS}
+use Rattle.cs_vocab.proofs.WordNumberLemmas.{numbers_kept, word_at}
 
 abbrev listed : List (List ℕ) → List (List ℕ)
 listed ws = members_in (slice_cmp nat_cmp) ws
@@ -37,16 +42,47 @@ taken_same ws w n at = record {
   few = omega arith;
 }
 
--- the words of the first i rows, of which all words are `all`
-pub record HasGathered (all ws : List (List ℕ)) (ns : List ℕ) (i : ℕ) : Type 0 where
-  pub members : members_in (slice_cmp nat_cmp) (ws ++ drop i all) ≡ members_in (slice_cmp nat_cmp) all
-  pub indices : AreNumbers ws ns (take i all)
-  pub few : length ws ≤ i
+pub listed_behind : (ws all : List (List ℕ)) (w : List ℕ) → listed ws ≡ listed all → listed (ws ++ w ∷ []) ≡ listed (all ++ w ∷ [])
+listed_behind ws all w same = members-alike (slice_cmp nat_cmp) nat_list_cmp_total exact_bytes (ws ++ w ∷ []) (all ++ w ∷ []) (λ q.
+    let e : List ℕ → Bool = eq_by_cmp (slice_cmp nat_cmp) q in
+    list_any-append e ws (w ∷ [])
+    ∙ ap (λ b. b || list_any e (w ∷ [])) (sym (is_member-listed (slice_cmp nat_cmp) nat_list_cmp_total ws q) ∙ ap (list_any e) same ∙ is_member-listed (slice_cmp nat_cmp) nat_list_cmp_total all q)
+    ∙ sym (list_any-append e all (w ∷ [])))
 
-pub gathered_one : (all ws xs : List (List ℕ)) (ns : List ℕ) (i n : ℕ) (w : List ℕ) → HasGathered all ws ns i → i < length all → w ≡ get_or all i [] → HasTaken ws xs w → IsWordAt xs n w
-    → HasGathered all xs (ns ++ n ∷ []) (i + 1)
-gathered_one all ws xs ns i n w h l is taken at = record {
-  members = taken.members (drop (i + 1) all) ∙ ap (λ v. listed (ws ++ v ∷ drop (i + 1) all)) is ∙ ap (λ r. listed (ws ++ r)) (sym (drop_more all i [] l)) ∙ h.members;
-  indices = numbers_more xs ns n all i w l is (numbers_kept ws xs ns (take i all) taken.kept taken.longer h.indices) at;
-  few = omega (arith, h.few, taken.few);
+-- ---- words one by one
+
+pub indices_are : (g : Gathering) → IsGathering g → AreNumbers g.words.items g.indices.items (gathered g)
+indices_are g h = record { told = refl; below = h.below }
+
+pub none_gathered : (g : Gathering) → g.words.items ≡ [] → g.indices.items ≡ [] → 1 ≤ length g.slots.items → length g.slots.items ≤ MAX_SLOTS → IsGathering g
+none_gathered g ws ns some few = record {
+  members = ap listed ws ∙ sym (ap (λ xs. listed (map (word_at g.words.items) xs)) ns);
+  below = subst (All (IsBelow (length g.words.items))) (sym ns) (All-from_recursion (IsBelow (length g.words.items)) [] tt);
+  few = omega (arith, ap length ws);
+  some = some;
+  few_slots = few;
 }
+
+module _ (g h : Gathering) (n : ℕ) (w : List ℕ) (is : IsGathering g) (taken : HasTaken g.words.items h.words.items w) (at : IsWordAt h.words.items n w) (more : h.indices.items ≡ g.indices.items ++ n ∷ []) where
+  pub gathered_one : gathered h ≡ gathered g ++ w ∷ []
+  gathered_one =
+      ap (map (word_at h.words.items)) more
+      ∙ map-append (word_at h.words.items) g.indices.items (n ∷ [])
+      ∙ ap (λ r. r ++ word_at h.words.items n ∷ []) (numbers_kept g.words.items h.words.items g.indices.items (gathered g) taken.kept taken.longer (indices_are g is)).told
+      ∙ ap (λ v. gathered g ++ v ∷ []) at.1
+
+  pub gathering_one : 1 ≤ length h.slots.items → length h.slots.items ≤ MAX_SLOTS → IsGathering h
+  gathering_one some few = record {
+    members = taken_all;
+    below = subst (All (IsBelow (length h.words.items))) (sym more)
+        (All-append (IsBelow (length h.words.items)) g.indices.items (n ∷ []) (numbers_kept g.words.items h.words.items g.indices.items (gathered g) taken.kept taken.longer (indices_are g is)).below (All-from_recursion (IsBelow (length h.words.items)) (n ∷ []) (at.0, tt)));
+    few = omega (arith, is.few, taken.few, ap length more, length-append g.indices.items (n ∷ []));
+    some = some;
+    few_slots = few;
+  }
+    where
+      taken_all : listed h.words.items ≡ listed (gathered h)
+      taken_all =
+          ap listed (sym (append-nil h.words.items)) ∙ taken.members []
+          ∙ listed_behind g.words.items (gathered g) w is.members
+          ∙ ap listed (sym gathered_one)

@@ -1,10 +1,16 @@
--- Words that are taken from rows one by one, some of them more than once.
+-- Words that come one by one, some of them kept more than once.
 --
 --   HasTaken ws xs w     the words ws became xs when w was taken
-use Rattle.std.specs.Prelude.{◌≡◌, ℕ, ◌+◌, ◌<◌, ◌≤◌, List, [], ◌∷◌, ◌++◌, length, slice_index_or}
+--   gathered g           the words that came, in their order
+--   IsGathering g        the words that are kept are those that came, and each slot has an index for the next word
+use Rattle.std.specs.Prelude.{◌≡◌, ℕ, ◌+◌, ◌<◌, ◌≤◌, List, [], ◌∷◌, ◌++◌, length, map, slice_index_or}
+use Rattle.std.specs.List.{All}
 use Rattle.std.specs.Ordering.{nat_cmp}
 use Rattle.std.specs.Cmp.Lexicographic.{slice_cmp}
 use Rattle.cs_base.specs.content.Members.{members_in}
+use Rattle.cs_vocab.specs.Ranges.{IsBelow}
+use Rattle.cs_vocab.specs.declared.gathering.Gathering.{Gathering}
+use Rattle.cs_vocab.specs.declared.gathering.TheConstants.{MAX_SLOTS}
 
 -- whatever words are still to come, and also where w stood among the words already and nothing was added
 pub record HasTaken (ws xs : List (List ℕ)) (w : List ℕ) : Type 0 where
@@ -12,3 +18,15 @@ pub record HasTaken (ws xs : List (List ℕ)) (w : List ℕ) : Type 0 where
   pub kept : (k : ℕ) → k < length ws → slice_index_or xs k [] ≡ slice_index_or ws k []
   pub longer : length ws ≤ length xs
   pub few : length xs ≤ length ws + 1
+
+-- each by its index; before any came none
+abbrev pub gathered : Gathering → List (List ℕ)
+gathered g = map (λ n. slice_index_or g.words.items n []) g.indices.items
+
+-- so it is before any came, and behind each push that found memory
+pub record IsGathering (g : Gathering) : Type 0 where
+  pub members : members_in (slice_cmp nat_cmp) g.words.items ≡ members_in (slice_cmp nat_cmp) (gathered g)
+  pub below : All (IsBelow (length g.words.items)) g.indices.items
+  pub few : length g.words.items ≤ length g.indices.items
+  pub some : 1 ≤ length g.slots.items
+  pub few_slots : length g.slots.items ≤ MAX_SLOTS

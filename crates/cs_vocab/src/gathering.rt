@@ -1,49 +1,71 @@
-//! The words of rows before they are sorted, most of them kept once.
-ghost use Rattle.std.specs.Prelude.{◌≡◌, ◌≤◌, ◌<◌, ◌^◌, true, IfOk, OnOk, length, map};
-ghost use Rattle.std.specs.Ordering.{nat_cmp};
-ghost use Rattle.std.specs.Cmp.Lexicographic.{slice_cmp};
-ghost use Rattle.cs_base.specs.content.Members.{members_in};
-ghost use Rattle.cs_model.specs.Corpus.{distinct_words};
-ghost use Rattle.cs_vocab.specs.Ranges.{IsWordAt, AreNumbers};
-ghost use Rattle.cs_vocab.specs.Gathering.{HasTaken};
+//! Words as they come, before they are sorted, most of them kept once.
+ghost use Rattle.std.specs.Prelude.{◌≡◌, ◌≤◌, ◌<◌, ◌^◌, [], ◌∷◌, ◌++◌, true, IfOk, OnOk, length, map};
+ghost use Rattle.cs_base.specs.declared.content.limits.TheConstants.{MAX_ROWS};
+ghost use Rattle.cs_vocab.specs.Ranges.{IsWordAt};
+ghost use Rattle.cs_vocab.specs.Gathering.{HasTaken, IsGathering, gathered};
 
-use cs_base::{MAX_ROWS, Memory, Row, Word};
+use cs_base::{Memory, Row, Word};
 use std::alloc::Global;
 
 // The most slots that a gathering has.
 const MAX_SLOTS: usize = 1 << 20;
 
-/// Words of rows, and row by row which of them is its word.
-#[derive(Drop)]
-pub(crate) struct MetWords {
-    /// Every word of the rows, some of them more than once.
+/// Words one after the other, most of them kept once.
+///
+/// The bytes of a word choose a slot, where the index of the last word that chose it stands. So a word is kept
+/// once more only where another one chose its slot in between: words that were chosen to share a slot make
+/// the gathering longer, up to one for each that came, and change nothing else.
+#[derive(Debug, Drop)]
+pub struct Gathering {
+    /// Every word that came, some of them more than once.
     pub(crate) words: Vec<Word>,
-    /// The index of each row's word among them.
+    /// Word by word, in the order in which they came, its index among them.
     pub(crate) indices: Vec<u32>,
+    /// The index of the last word that chose a slot.
+    pub(crate) slots: Vec<u32>,
+}
+
+impl Gathering {
+    /// No words, with room for so many.
+    pub fn with_capacity(alloc: Global, words: usize) -> Result<Gathering, Memory>
+        ensures none { IfOk result (λ g. gathered g ≡ []) }
+        ensures is { IfOk result IsGathering }
+    {
+        Ok(Gathering {
+            words: Vec::new(alloc),
+            indices: Vec::with_capacity(alloc, words)?,
+            slots: vec![in alloc; 0; words.clamp(1, MAX_SLOTS)]?,
+        })
+    }
+
+    /// Adds a word at the end. Where memory runs out, the gathering is of no more use.
+    pub fn push(&mut self, alloc: Global, word: &Word) -> Result<(), Memory>
+        requires is { IsGathering self.old }
+        requires few { length (gathered self.old) < MAX_ROWS }
+
+        ensures word { OnOk result (gathered self.new ≡ gathered self.old ++ word.now ∷ []) }
+        ensures is { OnOk result (IsGathering self.new) }
+    {
+        let slot = slot_of(word.bytes(), self.slots.len());
+        let index = index_of(alloc, &mut self.words, self.slots[slot], word)?;
+        self.slots[slot] = index;
+        self.indices.push(index)?;
+        Ok(())
+    }
 }
 
 /// Gathers the words of rows.
-///
-/// The bytes of a word choose a slot, where the index of the last word that chose it stands. So a word is taken
-/// once more only where another one chose its slot in between: rows whose words were chosen to share a slot make
-/// the gathering longer, up to a word a row, and change nothing else.
-pub(crate) fn gather(alloc: Global, rows: &[Row]) -> Result<MetWords, Memory>
+pub(crate) fn gather(alloc: Global, rows: &[Row]) -> Result<Gathering, Memory>
     requires few { length rows.now ≤ MAX_ROWS }
 
-    ensures words { IfOk result (λ g. members_in (slice_cmp nat_cmp) g.words.items ≡ distinct_words rows.now) }
-    ensures few { IfOk result (λ g. length g.words.items ≤ length rows.now) }
-    ensures indices { IfOk result (λ g. AreNumbers g.words.items g.indices.items (map (λ r. r.word) rows.now)) }
+    ensures words { IfOk result (λ g. gathered g ≡ map (λ r. r.word) rows.now) }
+    ensures is { IfOk result IsGathering }
 {
-    let mut words = Vec::new(alloc);
-    let mut indices = Vec::with_capacity(alloc, rows.len())?;
-    let mut slots = vec![in alloc; 0; rows.len().min(MAX_SLOTS)]?;
+    let mut gathering = Gathering::with_capacity(alloc, rows.len())?;
     for row in rows {
-        let slot = slot_of(row.word.bytes(), slots.len());
-        let index = index_of(alloc, &mut words, slots[slot], &row.word)?;
-        slots[slot] = index;
-        indices.push(index)?;
+        gathering.push(alloc, &row.word)?;
     }
-    Ok(MetWords { words, indices })
+    Ok(gathering)
 }
 
 // The index of a word: the one kept for it, else behind all others, where the word is added.

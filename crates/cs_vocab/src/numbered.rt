@@ -6,19 +6,20 @@ ghost use Rattle.std.specs.Cmp.Lexicographic.{slice_cmp};
 ghost use Rattle.std.specs.Str.{bytes_eq};
 ghost use Rattle.cs_base.specs.content.Members.{members_in};
 ghost use Rattle.cs_model.specs.Corpus.{distinct_words};
+ghost use Rattle.cs_vocab.specs.Gathering.{IsGathering, gathered};
 ghost use Rattle.cs_vocab.specs.Ranges.{IsBelow, IsWordAt, AreNumbers};
 
-use crate::gathering::{MetWords, gather};
+use crate::gathering::{Gathering, gather};
 use crate::vocab::{Vocab, listing};
 use cs_base::{MAX_ROWS, Memory, Row, Seq, Word};
 use std::alloc::Global;
 
-/// The distinct words of rows, and row by row the number of its word.
+/// Distinct words, and the numbers of words among them.
 #[derive(Debug, Drop)]
 pub struct Numbered {
-    /// The words.
+    /// The distinct words.
     pub words: Vocab,
-    /// Their numbers by row.
+    /// The numbers, word by word.
     pub numbers: Seq<u32>,
 }
 
@@ -30,12 +31,25 @@ impl Numbered {
         ensures words { IfOk result (λ n. n.words ≡ distinct_words rows.now) }
         ensures numbers { IfOk result (λ n. AreNumbers n.words n.numbers (map (λ r. r.word) rows.now)) }
     {
-        let MetWords {
-            words: gathered,
+        let gathering = gather(alloc, rows.as_slice())?;
+        Numbered::gathered(alloc, gathering)
+    }
+
+    /// The distinct words that were gathered, and the number of each word that came among them.
+    pub fn gathered(alloc: Global, gathering: Gathering) -> Result<Numbered, Memory>
+        requires is { IsGathering gathering }
+        requires few { length (gathered gathering) ≤ MAX_ROWS }
+
+        ensures words { IfOk result (λ n. n.words ≡ members_in (slice_cmp nat_cmp) (gathered gathering)) }
+        ensures numbers { IfOk result (λ n. AreNumbers n.words n.numbers (gathered gathering)) }
+    {
+        let Gathering {
+            words: kept,
             mut indices,
-        } = gather(alloc, rows.as_slice())?;
-        let words = listing(alloc, gathered.as_slice())?;
-        let known = numbers_of(alloc, &words, gathered.as_slice())?;
+            slots: _,
+        } = gathering;
+        let words = listing(alloc, kept.as_slice())?;
+        let known = numbers_of(alloc, &words, kept.as_slice())?;
         look_up(known.as_slice(), &mut indices);
         Ok(Numbered {
             words,
