@@ -1,5 +1,6 @@
 -- Rows that are listed document by document are in their order, and are the rows of the documents.
-use Rattle.std.proofs.Common.{◌≡◌, ℕ, ◌+◌, ◌<◌, ◌≤◌, Bool, true, false, ◌&&◌, ◌||◌, List, [], ◌∷◌, ◌++◌, length, map, drop, get_or, refl, sym, ap, ◌∙◌, arith, append-nil, add-one, drop-cons, subst}
+use Rattle.std.proofs.Common.{◌≡◌, ℕ, ◌+◌, ◌<◌, ◌≤◌, Bool, true, false, ◌&&◌, ◌||◌, List, [], ◌∷◌, ◌++◌, length, map, drop, get_or, refl, sym, ap, ◌∙◌, arith, append_assoc, append-nil, add-one, drop-cons, subst}
+use Rattle.std.proofs.lemmas.List.{drop_all}
 use Rattle.std.specs.List.{AllByRecursion, list_any, flat_map, enumerate_from}
 use Rattle.std.specs.List.Sorted.{IsStrictlySortedBy}
 use Rattle.std.specs.Ordering.{nat_cmp, ordering_then, eq_by_cmp, is_eq}
@@ -237,6 +238,18 @@ nothing_sorted R = tt
 
 no_facets : listed_facets [] ≡ []
 no_facets = sym (members_are (slice_cmp nat_cmp) nat_list_cmp_total exact_bytes [] [] (nothing_sorted (slice_cmp nat_cmp)) (λ q. refl))
+
+-- one more document
+pub next_rows : (docs : List Doc) (i : ℕ) (doc : Doc) (rows new : List Row) → i < length docs → doc ≡ get_or docs i doc → new ≡ rows ++ listed_doc (i, doc) → listed_rows 0 docs ≡ rows ++ listed_rows i (drop i docs)
+    → listed_rows 0 docs ≡ new ++ listed_rows (i + 1) (drop (i + 1) docs)
+next_rows docs i doc rows new l e n told =
+    told ∙ ap (λ r. rows ++ r) (listed_next docs i doc l e)
+    ∙ sym (append_assoc rows (listed_doc (i, doc)) (listed_rows (i + 1) (drop (i + 1) docs)))
+    ∙ ap (λ r. r ++ listed_rows (i + 1) (drop (i + 1) docs)) (sym n)
+
+-- all documents
+pub last_rows : (docs : List Doc) (i : ℕ) (rows : List Row) → length docs ≤ i → listed_rows 0 docs ≡ rows ++ listed_rows i (drop i docs) → rows ≡ rows_of docs
+last_rows docs i rows l told = sym (append-nil rows) ∙ ap (λ ds. rows ++ listed_rows i ds) (sym (drop_all i docs l)) ∙ sym told ∙ rows_listed docs
 
 -- a document that has a title alone
 pub listed_title : (d : ℕ) (doc : Doc) → doc.facets ≡ [] → doc.text ≡ [] → listed_doc (d, doc) ≡ title_rows SCORES d doc

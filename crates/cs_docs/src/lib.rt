@@ -17,4 +17,4 @@ pub use cs_base::Doc;
 pub use fault::{DocFault, Reason, RowsFault};
 pub use lines::{BYTE_ORDER_MARK, first_end};
 pub use reader::read_docs;
-pub use row_list::rows_of;
+pub use row_list::{add_rows, rows_of};

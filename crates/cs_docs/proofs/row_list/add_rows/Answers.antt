@@ -4,7 +4,7 @@ use Rattle.std.specs.Str.{IsUtf8}
 use Rattle.cs_model.specs.Collection.{facet_words}
 use Rattle.cs_model.specs.Words.{words}
 use Rattle.cs_docs.proofs.TextLemmas.{text_of_doc}
-use Rattle.cs_docs.proofs.row_list.push_doc.Goals as goal
+use Rattle.cs_docs.proofs.row_list.add_rows.Goals as goal
 
 pub returns-clause-utf8 : goal.returns-clause-utf8
 returns-clause-utf8 c = text_of_doc c.args.number c.args.doc.now
