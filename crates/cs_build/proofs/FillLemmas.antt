@@ -15,7 +15,9 @@ use Rattle.std.proofs.lemmas.List.{length-replicate, take_all, take_more, take-a
 use Rattle.std.proofs.lemmas.List.Elements.{filter-append}
 use Rattle.cs_base.specs.declared.content.doc.Post.{Post}
 use Rattle.cs_base.specs.declared.content.doc.Row.{Row}
+use Rattle.cs_cols.specs.HeldPosts.{AreEven, posts_of}
 use Rattle.cs_cols.specs.declared.cols.Cols.{Cols}
+use Rattle.cs_cols.proofs.Columns.{post, posts-at, posts-length}
 use Rattle.cs_build.specs.WordRuns.{has_word, AreSpans, run_places_from, posts_by, is_within, CountsRows, IsPushed, AreFilled}
 use Rattle.cs_build.specs.declared.parting.Run.{Run}
 
@@ -131,27 +133,29 @@ posts_many [] (n ∷ numbers) e = refl
 posts_many (r ∷ rows) [] e = absurd (omega (arith, e))
 posts_many (r ∷ rows) (n ∷ numbers) e = ap (λ k. suc k) (posts_many rows numbers (omega (arith, e)))
 
-post_is : (rows : List Row) (numbers : List ℕ) (i : ℕ) (r : Row) (d : Post) → length numbers ≡ length rows → i < length rows → r ≡ get_or rows i r
-    → get_or (posts_by rows numbers) i d ≡ record { doc = r.doc; word = get_or numbers i 0; pos = r.pos; score = r.score }
-post_is [] numbers i r d e l is = absurd (omega (arith, l))
-post_is (q ∷ rows) [] i r d e l is = absurd (omega (arith, e))
-post_is (q ∷ rows) (n ∷ numbers) zero r d e l is = ap (λ (x : Row). let p : Post = record { doc = x.doc; word = n; pos = x.pos; score = x.score } in p) (sym is)
-post_is (q ∷ rows) (n ∷ numbers) (suc i) r d e l is = post_is rows numbers i r d (omega (arith, e)) (omega (arith, l)) is
-
 pub record PostAt (ps : List Post) (i : ℕ) (p : Post) : Type 0 where
   pub next : take (i + 1) ps ≡ take i ps ++ p ∷ []
   pub all : ps ≡ take i ps ++ p ∷ drop (i + 1) ps
 
-pub post_at : (rows : List Row) (numbers : List ℕ) (i : ℕ) (r : Row) → length numbers ≡ length rows → i < length rows → r ≡ get_or rows i r
-    → PostAt (posts_by rows numbers) i (record { doc = r.doc; word = get_or numbers i 0; pos = r.pos; score = r.score })
-post_at rows numbers i r e l is =
-    let p : Post = record { doc = r.doc; word = get_or numbers i 0; pos = r.pos; score = r.score } in
-    let ps = posts_by rows numbers in
-    let inside : i < length ps = omega (arith, posts_many rows numbers e, l) in
-    let at = post_is rows numbers i r p e l is in
+get_default : (xs : List ℕ) (i a b : ℕ) → i < length xs → get_or xs i a ≡ get_or xs i b
+get_default [] i a b l = absurd (omega (arith, l))
+get_default (x ∷ xs) zero a b l = refl
+get_default (x ∷ xs) (suc i) a b l = get_default xs i a b (omega (arith, l))
+
+-- the post whose entries are read
+pub post_at : (ds ns ps ss : List ℕ) (i d p s : ℕ) → AreEven ds ns ps ss → i < length ns → d ≡ get_or ds i d → p ≡ get_or ps i p → s ≡ get_or ss i s
+    → PostAt (posts_of ds ns ps ss) i (post d (get_or ns i 0) p s)
+post_at ds ns ps ss i d p s even l isd isp iss =
+    let q : Post = post d (get_or ns i 0) p s in
+    let all = posts_of ds ns ps ss in
+    let inside : i < length all = omega (arith, posts-length ds ns ps ss even, l, even.0) in
+    let a : get_or ds i 0 ≡ d = get_default ds i 0 d (omega (arith, l, even.0)) ∙ sym isd in
+    let e : get_or ps i 0 ≡ p = get_default ps i 0 p (omega (arith, l, even.0, even.1)) ∙ sym isp in
+    let f : get_or ss i 0 ≡ s = get_default ss i 0 s (omega (arith, l, even.0, even.2)) ∙ sym iss in
+    let at : get_or all i q ≡ q = sym (posts-at ds ns ps ss even i q (omega (arith, l, even.0))) ∙ rw (a, e, f) refl in
     record {
-      next = take_more ps i p inside ∙ ap (λ x. take i ps ++ x ∷ []) at;
-      all = sym (ap (λ x. take i ps ++ x) (sym (drop-cons ps i p inside ∙ ap (λ n. get_or ps i p ∷ drop n ps) (sym (add-one i)) ∙ ap (λ x. x ∷ drop (i + 1) ps) at)) ∙ take-append-drop i ps);
+      next = take_more all i q inside ∙ ap (λ x. take i all ++ x ∷ []) at;
+      all = sym (ap (λ x. take i all ++ x) (sym (drop-cons all i q inside ∙ ap (λ m. get_or all i q ∷ drop m all) (sym (add-one i)) ∙ ap (λ x. x ∷ drop (i + 1) all) at)) ∙ take-append-drop i all);
     }
 
 -- ---- one post more
@@ -215,11 +219,6 @@ all_posts posts [] [] f = refl
 all_posts posts [] (b ∷ blocks) f = absurd f
 all_posts posts (run ∷ runs) [] f = absurd f
 all_posts posts (run ∷ runs) (b ∷ blocks) f = ap (λ x. x ∷ map (λ b. b.posts) blocks) f.0 ∙ ap (λ l. filter (is_within run) posts ∷ l) (all_posts posts runs blocks f.2)
-
-get_default : (xs : List ℕ) (i a b : ℕ) → i < length xs → get_or xs i a ≡ get_or xs i b
-get_default [] i a b l = absurd (omega (arith, l))
-get_default (x ∷ xs) zero a b l = refl
-get_default (x ∷ xs) (suc i) a b l = get_default xs i a b (omega (arith, l))
 
 -- the place of a word that is read
 pub place_at : (runs : List Run) (words n : ℕ) (places : List ℕ) (k : ℕ) → AreSpans 0 runs words → n < words → places ≡ run_places_from 0 runs → k ≡ get_or places n k → IsPlaced runs n k

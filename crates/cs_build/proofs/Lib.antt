@@ -1,6 +1,7 @@
 pub mod AssembleLemmas
 pub mod CollectionFiles
 pub mod CollectionLemmas
+pub mod ColumnLemmas
 pub mod FillLemmas
 pub mod KeyTextLemmas
 pub mod KindLemmas

@@ -1,4 +1,5 @@
 pub mod BuildLaws
 pub mod Building
 pub mod Ordering
+pub mod RowColumns
 pub mod WordRuns

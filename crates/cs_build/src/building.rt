@@ -18,9 +18,10 @@ use crate::filling::blocks_of;
 use crate::heads::heads_of;
 use crate::ordering::in_order;
 use crate::parting::{Run, counts_of, parted};
+use crate::row_columns::RowColumns;
 use cs_base::{Doc, MAX_WORDS, Memory, Row, Seq, Text};
 use cs_file::Image;
-use cs_vocab::{Numbered, Vocab};
+use cs_vocab::Vocab;
 use std::alloc::Global;
 
 /// The image of the titles of documents and of rows, which may come in any order.
@@ -46,38 +47,59 @@ pub fn image(
     ensures writable { length (title_bytes (map title_of docs)) < 2 ^ 32 → IfOk result CanBeWritten }
     ensures limits { KeepLimits docs rows → IfOk result HasLimits }
 {
-    let titles = titles_of(alloc, docs)?;
     let rows = in_order(alloc, rows)?;
-    built(alloc, titles, &rows, target)
+    let columns = RowColumns::of_rows(alloc, &rows)?;
+    image_of_columns(alloc, columns, docs, target)
+}
+
+/// The image of the titles of documents and of rows, which are in order and in columns.
+///
+/// Of a document only its title is used. A block of several words has at most `target` rows.
+pub fn image_of_columns(
+    alloc: Global,
+    rows: RowColumns,
+    docs: Seq<Doc>,
+    target: u32,
+) -> Result<Image, BuildFault>
+    requires corpus { IsCorpus (corpus_of_rows (map title_of docs) rows) }
+    requires few { length rows ≤ MAX_ROWS }
+    requires few_docs { length docs ≤ MAX_DOCS }
+    requires target_from { 1 ≤ target }
+    requires target_to { target ≤ MAX_TARGET }
+
+    ensures ok { IfOk result (IsImage (corpus_of_rows (map title_of docs) rows) target) }
+    ensures few_words { OnOk result (length (distinct_words rows) ≤ MAX_WORDS) }
+    ensures too_many_words { IsErrOf result BuildFault.TooManyWords → MAX_WORDS < length (distinct_words rows) }
+
+    // it can be written, and where the rows are those of a collection its file is an index file
+    ensures writable { length (title_bytes (map title_of docs)) < 2 ^ 32 → IfOk result CanBeWritten }
+    ensures limits { KeepLimits docs rows → IfOk result HasLimits }
+{
+    let titles = titles_of(alloc, docs)?;
+    built(alloc, titles, rows, target)
 }
 
 // The image of titles and of rows that are in order.
 fn built(
     alloc: Global,
     titles: Seq<Text>,
-    rows: &Seq<Row>,
+    rows: RowColumns,
     target: u32,
 ) -> Result<Image, BuildFault>
-    requires few { length rows.now ≤ MAX_ROWS }
+    requires few { length rows ≤ MAX_ROWS }
     requires target { target ≤ MAX_TARGET }
 
-    ensures ok { IfOk result (IsImage (corpus_of_rows titles rows.now) target) }
+    ensures ok { IfOk result (IsImage (corpus_of_rows titles rows) target) }
     ensures titles { IfOk result (λ i. i.titles ≡ titles) }
-    ensures few_words { OnOk result (length (distinct_words rows.now) ≤ MAX_WORDS) }
-    ensures too_many_words { IsErrOf result BuildFault.TooManyWords → MAX_WORDS < length (distinct_words rows.now) }
+    ensures few_words { OnOk result (length (distinct_words rows) ≤ MAX_WORDS) }
+    ensures too_many_words { IsErrOf result BuildFault.TooManyWords → MAX_WORDS < length (distinct_words rows) }
 {
-    let Numbered { words, numbers } = Numbered::of(alloc, rows)?;
+    let RowColumns { words, posts } = rows;
     if words.len() as usize > MAX_WORDS {
         return Err(BuildFault::TooManyWords);
     }
-    let runs = runs_of(alloc, &words, numbers.as_slice(), target)?;
-    let blocks = blocks_of(
-        alloc,
-        &runs,
-        words.len(),
-        rows.as_slice(),
-        numbers.as_slice(),
-    )?;
+    let runs = runs_of(alloc, &words, posts.numbers.as_slice(), target)?;
+    let blocks = blocks_of(alloc, &runs, words.len(), &posts)?;
     let heads = heads_of(alloc, &words, &runs, &blocks)?;
     Ok(Image {
         titles,

@@ -4,39 +4,40 @@ ghost use Rattle.std.specs.List.{All, AllByRecursion};
 ghost use Rattle.cs_base.specs.declared.content.limits.TheConstants.{MAX_ROWS};
 ghost use Rattle.cs_vocab.specs.Ranges.{IsBelow};
 ghost use Rattle.cs_cols.specs.declared.cols.Cols.{Cols};
-ghost use Rattle.cs_build.specs.WordRuns.{AreSpans, AreFilled, CountsRows, IsPushed, is_within, run_places_from, posts_by};
+ghost use Rattle.cs_build.specs.RowColumns.{posts_in};
+ghost use Rattle.cs_cols.specs.HeldPosts.{AreEven};
+ghost use Rattle.cs_build.specs.WordRuns.{AreSpans, AreFilled, CountsRows, IsPushed, is_within, run_places_from};
 
 use crate::parting::Run;
-use cs_base::{Memory, Post, Row};
+use crate::row_columns::PostColumns;
+use cs_base::{Memory, Post};
 use cs_cols::Cols;
 use std::alloc::Global;
 
-/// A block for each run: the posts of its words, in the order of the rows. `numbers` are those of the rows' words, of which there
-/// are `words`.
+/// A block for each run: the posts of its words, in their order. There are so many words.
 pub(crate) fn blocks_of(
     alloc: Global,
     runs: &[Run],
     words: u32,
-    rows: &[Row],
-    numbers: &[u32],
+    posts: &PostColumns,
 ) -> Result<Vec<Cols>, Memory>
     requires spans { AreSpans 0 runs.now words }
-    requires below { All (IsBelow words) numbers.now }
-    requires each { length numbers.now ≡ length rows.now }
+    requires below { All (IsBelow words) posts.now.numbers }
+    requires even { AreEven posts.now.docs.items posts.now.numbers posts.now.places.items posts.now.scores.items }
     requires few { length runs.now ≤ words }
-    requires counted { AllByRecursion (CountsRows (posts_by rows.now numbers.now)) runs.now }
+    requires counted { AllByRecursion (CountsRows (posts_in posts.now)) runs.now }
 
-    ensures { IfOk result (λ blocks. map (λ b. b.posts) blocks.items ≡ map (λ run. filter (is_within run) (posts_by rows.now numbers.now)) runs.now) }
+    ensures { IfOk result (λ blocks. map (λ b. b.posts) blocks.items ≡ map (λ run. filter (is_within run) (posts_in posts.now)) runs.now) }
 {
     let places = places_of(alloc, runs, words)?;
     let mut blocks = empty_blocks(alloc, runs)?;
-    for (i, row) in rows.iter().enumerate() {
-        let word = numbers[i];
+    for (i, number) in posts.numbers.as_slice().iter().enumerate() {
+        let word = *number;
         let post = Post {
-            doc: row.doc,
+            doc: posts.docs[i],
             word,
-            pos: row.pos,
-            score: row.score,
+            pos: posts.places[i],
+            score: posts.scores[i],
         };
         push_at(&mut blocks, places[word as usize] as usize, post);
     }

@@ -11,6 +11,9 @@ mod heads;
 pub mod laws;
 mod ordering;
 mod parting;
+mod row_columns;
+mod row_gathering;
 
-pub use building::image;
+pub use building::{image, image_of_columns};
 pub use fault::BuildFault;
+pub use row_columns::{PostColumns, RowColumns};
