@@ -3,7 +3,8 @@
 --   rows_again      a collection's rows are in the order of a corpus
 --   collection_made the corpus that is made of a collection's rows is the collection's
 --   collection_is   and it is a corpus
-use Rattle.std.proofs.Common.{◌≡◌, ℕ, List, sym, ap, subst, ◌∙◌}
+--   columns_made, columns_are      so it is where the rows stand in columns
+use Rattle.std.proofs.Common.{◌≡◌, ℕ, List, map, sym, ap, subst, ◌∙◌}
 use Rattle.cs_base.specs.content.Members.{members_in}
 use Rattle.cs_base.specs.content.Orders.{by_row}
 use Rattle.cs_base.specs.declared.content.doc.Doc.{Doc}
@@ -12,8 +13,8 @@ use Rattle.cs_base.proofs.MembersLemmas.{listed_itself, listing-rises}
 use Rattle.cs_base.proofs.OrdersLemmas.{by_row_total, by_row_exact}
 use Rattle.cs_docs.proofs.CorpusLaws.{corpus_is}
 use Rattle.cs_model.specs.Collection.{documents}
-use Rattle.cs_model.specs.Corpus.{Corpus, IsCorpus, rows_of, titles_of, corpus_of}
-use Rattle.cs_build.specs.Building.{corpus_from}
+use Rattle.cs_model.specs.Corpus.{Corpus, IsCorpus, rows_of, title_of, titles_of, corpus_of}
+use Rattle.cs_build.specs.Building.{corpus_from, corpus_of_rows}
 
 rows_again : (docs : List Doc) → members_in by_row (rows_of docs) ≡ rows_of docs
 rows_again docs = sym (listed_itself by_row by_row_total by_row_exact (rows_of docs) (listing-rises by_row _))
@@ -24,3 +25,9 @@ collection_made docs rows e =
 
 pub collection_is : (c : List ℕ) (docs : List Doc) (rows : List Row) → docs ≡ documents c → rows ≡ rows_of docs → IsCorpus (corpus_from docs rows)
 collection_is c docs rows d e = subst IsCorpus (sym (collection_made docs rows e ∙ ap corpus_of d)) (corpus_is c)
+
+pub columns_made : (docs : List Doc) (rows : List Row) → rows ≡ rows_of docs → corpus_of_rows (map title_of docs) rows ≡ corpus_of docs
+columns_made docs rows e = ap (λ (rs : List Row). let k : Corpus = record { titles = titles_of docs; rows = rs } in k) e
+
+pub columns_are : (c : List ℕ) (docs : List Doc) (rows : List Row) → docs ≡ documents c → rows ≡ rows_of docs → IsCorpus (corpus_of_rows (map title_of docs) rows)
+columns_are c docs rows d e = subst IsCorpus (sym (columns_made docs rows e ∙ ap corpus_of d)) (corpus_is c)

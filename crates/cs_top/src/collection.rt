@@ -8,8 +8,8 @@ ghost use Rattle.cs_top.specs.Views.{IsCollectionCause, IsOfCollection, IsSized,
 use crate::ending::RunStop;
 use crate::files::{HeldFile, read_all};
 use cs_base::{Files, MAX_COLLECTION_BYTES};
-use cs_build::{BuildFault, image};
-use cs_docs::{DocFault, Reason, RowsFault, read_docs, rows_of};
+use cs_build::{BuildFault, RowColumns, image_of_columns};
+use cs_docs::{DocFault, Reason, RowsFault, read_docs};
 use cs_file::Image;
 use cs_model_index::TARGET;
 use std::alloc::Global;
@@ -85,10 +85,10 @@ pub(crate) fn image_of(alloc: Global, bytes: &[u8]) -> Result<Imaged, Collection
     ensures err { IfErr result (λ e. IsCollectionCause bytes.now e) }
 {
     let docs = read_docs(alloc, bytes).map_err(CollectionFault::Documents)?;
-    let rows = rows_of(alloc, &docs).map_err(CollectionFault::Rows)?;
+    let rows = RowColumns::of_docs(alloc, &docs).map_err(CollectionFault::Rows)?;
     let document_count = docs.len();
     let row_count = rows.len();
-    let image = image(alloc, rows, docs, TARGET).map_err(CollectionFault::Words)?;
+    let image = image_of_columns(alloc, rows, docs, TARGET).map_err(CollectionFault::Words)?;
     Ok(Imaged {
         image,
         documents: document_count,

@@ -16,8 +16,8 @@ use Rattle.cs_model_index.specs.Layout.{file, title_bytes}
 use Rattle.cs_model_index.specs.Sections.{file_corpus}
 use Rattle.cs_model_index.specs.declared.limits.TheConstants.{TARGET as BLOCK_ROWS}
 use Rattle.cs_model_index.proofs.ImageLemmas.{titles_listed}
-use Rattle.cs_build.specs.Building.{corpus_from}
-use Rattle.cs_build.proofs.CollectionLemmas.{collection_is, collection_made}
+use Rattle.cs_build.specs.Building.{corpus_of_rows}
+use Rattle.cs_build.proofs.CollectionLemmas.{columns_are, columns_made}
 use Rattle.cs_build.proofs.CollectionFiles.{files_of_collections}
 use Rattle.cs_build.proofs.TitleLemmas.{titles_few}
 use Rattle.cs_top.proofs.collection.image_of.Goals as goal
@@ -31,11 +31,11 @@ accepted_by c rows none e few words =
     let r : rows_refusal rows ≡ None = rw (a, b) refl in
     ap (λ x. first_reason (x ∷ rows_refusal (rows_of (documents c)) ∷ [])) none ∙ ap (λ x. first_reason (None ∷ rows_refusal x ∷ [])) (sym e) ∙ ap (λ x. first_reason (None ∷ x ∷ [])) r
 
-pub image-requires-clause-corpus : goal.image-requires-clause-corpus
-image-requires-clause-corpus c =
+pub image_of_columns-requires-clause-corpus : goal.image_of_columns-requires-clause-corpus
+image_of_columns-requires-clause-corpus c =
     let docs : c.in_ok-docs.docs ≡ documents c.args.bytes.now = search rules in
     let rows : c.in_ok-rows.rows ≡ rows_of c.in_ok-docs.docs = search rules in
-    collection_is c.args.bytes.now c.in_ok-docs.docs c.in_ok-rows.rows docs rows
+    columns_are c.args.bytes.now c.in_ok-docs.docs c.in_ok-rows.rows docs rows
 
 -- what was read, and what was made of it
 record IsMade (c : In_ok-image) : Type 0 where
@@ -44,7 +44,7 @@ record IsMade (c : In_ok-image) : Type 0 where
   rows : c.in_ok-rows.rows ≡ rows_of c.in_ok-docs.docs
   few : length (rows_of c.in_ok-docs.docs) ≤ MAX_ROWS
   few_words : length (distinct_words c.in_ok-rows.rows) ≤ MAX_WORDS
-  image : IsImage (corpus_from c.in_ok-docs.docs c.in_ok-rows.rows) BLOCK_ROWS c.in_ok-image.image
+  image : IsImage (corpus_of_rows (map title_of c.in_ok-docs.docs) c.in_ok-rows.rows) BLOCK_ROWS c.in_ok-image.image
 
 made : (c : In_ok-image) → IsMade c
 made c = record { docs = search rules; accepted = search rules; rows = search rules; few = search rules; few_words = search rules; image = search rules }
@@ -53,19 +53,26 @@ made c = record { docs = search rules; accepted = search rules; rows = search ru
 imaged : (c : In_ok-image) → IsImage (corpus c.args.bytes.now) BLOCK_ROWS c.in_ok-image.image
 imaged c =
     let m = made c in
-    subst (λ k. IsImage k BLOCK_ROWS c.in_ok-image.image) (collection_made c.in_ok-docs.docs c.in_ok-rows.rows m.rows ∙ ap corpus_of m.docs) m.image
+    subst (λ k. IsImage k BLOCK_ROWS c.in_ok-image.image) (columns_made c.in_ok-docs.docs c.in_ok-rows.rows m.rows ∙ ap corpus_of m.docs) m.image
+
+-- the collection is accepted
+accepted : (c : In_ok-image) → refusal c.args.bytes.now ≡ None
+accepted c =
+    let m = made c in
+    let few = subst (λ r. length r ≤ MAX_ROWS) (sym m.rows) m.few in
+    accepted_by c.args.bytes.now c.in_ok-rows.rows m.accepted (m.rows ∙ ap rows_of m.docs) few m.few_words
 
 -- its bytes are an index file, of which that corpus is read
 filed : (c : In_ok-image) → IsIndexFile (file c.in_ok-image.image) × (file_corpus (file c.in_ok-image.image) ≡ corpus c.args.bytes.now)
 filed c =
-    let m = made c in
-    let few = subst (λ r. length r ≤ MAX_ROWS) (sym m.rows) m.few in
-    let accepted = accepted_by c.args.bytes.now c.in_ok-rows.rows m.accepted (m.rows ∙ ap rows_of m.docs) few m.few_words in
-    let all = files_of_collections c.args.bytes.now BLOCK_ROWS c.in_ok-image.image accepted (imaged c) (omega arith) (omega arith) in
+    let all = files_of_collections c.args.bytes.now BLOCK_ROWS c.in_ok-image.image (accepted c) (imaged c) (omega arith) (omega arith) in
     (all.0, all.2)
 
 pub returns-clause-ok : goal.returns-clause-ok
 returns-clause-ok c = let is = (goal.at.returns-clause-ok c).In_ok-image in record { image = imaged is; corpus = (filed is).1 }
+
+pub returns-clause-accepted : goal.returns-clause-accepted
+returns-clause-accepted c = accepted (goal.at.returns-clause-accepted c).In_ok-image
 
 pub returns-clause-file : goal.returns-clause-file
 returns-clause-file c =
