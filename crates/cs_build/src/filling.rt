@@ -1,11 +1,10 @@
 //! The blocks of runs of words.
-ghost use Rattle.std.specs.Prelude.{◌≡◌, ◌+◌, ◌≤◌, ◌<◌, ◌∷◌, ◌++◌, [], length, map, filter, IfOk, slice_index_or};
+ghost use Rattle.std.specs.Prelude.{◌≡◌, ◌+◌, ◌≤◌, ◌<◌, [], length, map, filter, IfOk, slice_index_or};
 ghost use Rattle.std.specs.List.{All, AllByRecursion};
-ghost use Rattle.cs_base.specs.declared.content.limits.TheConstants.{MAX_ROWS};
 ghost use Rattle.cs_vocab.specs.Ranges.{IsBelow};
 ghost use Rattle.cs_cols.specs.declared.cols.Cols.{Cols};
-ghost use Rattle.cs_build.specs.RowColumns.{posts_in};
 ghost use Rattle.cs_cols.specs.HeldPosts.{AreEven};
+ghost use Rattle.cs_build.specs.RowColumns.{posts_in};
 ghost use Rattle.cs_build.specs.WordRuns.{AreSpans, AreFilled, CountsRows, IsPushed, is_within, run_places_from};
 
 use crate::parting::Run;

@@ -16,4 +16,4 @@ mod row_gathering;
 
 pub use building::{image, image_of_columns};
 pub use fault::BuildFault;
-pub use row_columns::{PostColumns, RowColumns};
+pub use row_columns::RowColumns;

@@ -18,7 +18,7 @@ const LIKELY_BYTES: usize = 4;
 
 /// The posts of rows, column by column.
 #[derive(Debug, Drop)]
-pub struct PostColumns {
+pub(crate) struct PostColumns {
     /// The documents.
     pub(crate) docs: Vec<u32>,
     /// The numbers of the words.

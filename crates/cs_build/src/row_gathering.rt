@@ -1,5 +1,5 @@
 //! Rows as they come, before the words are numbered.
-ghost use Rattle.std.specs.Prelude.{◌≡◌, ◌+◌, ◌≤◌, ◌<◌, [], ◌∷◌, ◌++◌, length, IfOk, OnOk, IsErrOf};
+ghost use Rattle.std.specs.Prelude.{◌≡◌, ◌+◌, ◌<◌, [], ◌∷◌, ◌++◌, length, IfOk, OnOk, IsErrOf};
 ghost use Rattle.cs_base.specs.declared.content.limits.TheConstants.{MAX_ROWS};
 ghost use Rattle.cs_docs.specs.declared.fault.RowsFault.{RowsFault};
 ghost use Rattle.cs_build.specs.RowColumns.{IsRowGathering, rows_gathered};

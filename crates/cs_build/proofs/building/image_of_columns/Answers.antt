@@ -1,23 +1,12 @@
-use Rattle.std.proofs.Common.{◌≡◌, ◌≤◌, ◌<◌, ◌^◌, [], true, length, map, sym, ap, subst, ◌∙◌, arith}
-use Rattle.std.specs.Prelude.{OnOk}
+use Rattle.std.proofs.Common.{◌≡◌, ◌≤◌, ◌<◌, ◌^◌, true, length, sym, ap, subst, arith}
 use Rattle.std.specs.List.{All}
-use Rattle.std.specs.List.Sorted.{IsStrictlySortedBy}
 use Rattle.std.specs.FinMap.{contains_key}
 use Rattle.std.specs.Str.{IsUtf8}
 use Rattle.std.proofs.lemmas.List.{length-map}
-use Rattle.cs_base.specs.content.Orders.{by_row, by_spot}
-use Rattle.cs_base.specs.declared.content.limits.TheConstants.{MAX_DOCS, MAX_ROWS, MAX_WORDS, MAX_LINE_BYTES}
-use Rattle.cs_base.proofs.OrdersLemmas.{by_row_total, by_row_exact}
-use Rattle.cs_docs.proofs.TextLemmas.{All-members}
-use Rattle.cs_model.specs.Corpus.{by_number, distinct_words, title_of}
-use Rattle.cs_model.specs.Scores.{SCORES}
-use Rattle.cs_model_index.specs.BlockRules.{is_scored}
-use Rattle.cs_model_index.specs.FileRules.{is_word}
+use Rattle.cs_base.specs.declared.content.limits.TheConstants.{MAX_DOCS, MAX_LINE_BYTES}
+use Rattle.cs_model.specs.Corpus.{by_number, title_of}
 use Rattle.cs_model_index.specs.Layout.{title_bytes}
-use Rattle.cs_model_index.specs.Numbered.{post_of}
-use Rattle.cs_model_index.specs.Partitions.{is_facet}
 use Rattle.cs_build.proofs.LimitLemmas.{on_ok, has_limits}
-use Rattle.cs_build.proofs.MadeLemmas.{same_words}
 use Rattle.cs_build.proofs.WritableLemmas.{can_be_written}
 use Rattle.cs_build.proofs.building.image_of_columns.Goals as goal
 

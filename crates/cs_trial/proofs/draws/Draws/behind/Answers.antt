@@ -1,6 +1,5 @@
 use Rattle.std.proofs.Common.{◌≡◌, ◌/◌, sym, ap, ◌∙◌, refl, arith}
 use Rattle.cs_model_trial.specs.Generator.{behind}
-use Rattle.cs_trial.specs.declared.draws.Jump.{Jump}
 use Rattle.cs_trial.proofs.JumpLemmas.{jumps, jumps_behind, jumps_even, jumps_odd}
 use Rattle.cs_trial.proofs.draws.Draws.behind.Goals as goal
 use Rattle.cs_trial.proofs.draws.Draws.behind.Goals.{then-left-eq1, else-left-eq1}

@@ -1,4 +1,4 @@
-use Rattle.std.proofs.Common.{◌≡◌, ap, ◌∙◌, ◌+◌, ◌*◌, ◌%◌, ◌^◌, ℕ}
+use Rattle.std.proofs.Common.{ap, ◌∙◌, ◌+◌, ◌*◌, ◌%◌, ◌^◌, ℕ}
 use Rattle.cs_trial.proofs.JumpLemmas.{twice_is}
 use Rattle.cs_trial.proofs.draws.Jump.twice.Goals as goal
 
