@@ -23,10 +23,10 @@ use Rattle.cs_model_index.specs.Numbered.{numbered, HasWord}
 use Rattle.cs_model_index.proofs.CorpusLemmas.{known_words}
 use Rattle.cs_vocab.specs.Ranges.{AreNumbers}
 use Rattle.cs_build.specs.Building.{corpus_of_rows}
-use Rattle.cs_build.specs.WordRuns.{AreParted, AreSpans, CountsRows, runs_from, is_within, posts_by, run_head}
+use Rattle.cs_build.specs.WordRuns.{AreParted, AreSpans, CountsRows, runs_from, is_within, run_head}
 use Rattle.cs_build.specs.declared.parting.Run.{Run}
-use Rattle.cs_build.proofs.FillLemmas.{posts_many}
 use Rattle.cs_build.proofs.PartLemmas.{numbered_posts, blocks_are, rows_counted, heads_are, all_inside, spans_are, few_runs, filled_parts, some_words}
+use Rattle.cs_build.proofs.RowPosts.{posts_by, posts_many}
 
 few_each : (ps : List Post) (most : ℕ) (bs : List Cols) (rs : List Run) → map (λ b. b.posts) bs ≡ map (λ run. filter (is_within run) ps) rs → length ps ≤ most → AllByRecursion (λ b. length b.posts ≤ most) bs
 few_each ps most [] rs e few = tt

@@ -22,9 +22,9 @@ use Rattle.cs_model_index.specs.Numbered.{row_of, rows_at, word_at}
 use Rattle.cs_vocab.specs.Gathering.{gathered}
 use Rattle.cs_vocab.specs.Ranges.{AreNumbers}
 use Rattle.cs_build.specs.RowColumns.{AreColumns, IsRowGathering, posts_in, rows_by, rows_gathered}
-use Rattle.cs_build.specs.WordRuns.{posts_by}
 use Rattle.cs_build.specs.declared.row_columns.PostColumns.{PostColumns}
 use Rattle.cs_build.specs.declared.row_gathering.RowGathering.{RowGathering}
+use Rattle.cs_build.proofs.RowPosts.{posts_by}
 
 pub rows_push : (ws : List (List ℕ)) (ds ps ss : List ℕ) (r : Row) → length ws ≡ length ds → length ps ≡ length ds → length ss ≡ length ds
     → rows_by (ws ++ r.word ∷ []) (ds ++ r.doc ∷ []) (ps ++ r.pos ∷ []) (ss ++ r.score ∷ []) ≡ rows_by ws ds ps ss ++ r ∷ []

@@ -14,11 +14,10 @@ use Rattle.std.proofs.lemmas.Bool.Decides.{nat_tests}
 use Rattle.std.proofs.lemmas.List.{length-replicate, take_all, take_more, take-append-drop}
 use Rattle.std.proofs.lemmas.List.Elements.{filter-append}
 use Rattle.cs_base.specs.declared.content.doc.Post.{Post}
-use Rattle.cs_base.specs.declared.content.doc.Row.{Row}
 use Rattle.cs_cols.specs.HeldPosts.{AreEven, posts_of}
 use Rattle.cs_cols.specs.declared.cols.Cols.{Cols}
 use Rattle.cs_cols.proofs.Columns.{post, posts-at, posts-length}
-use Rattle.cs_build.specs.WordRuns.{has_word, AreSpans, run_places_from, posts_by, is_within, CountsRows, IsPushed, AreFilled}
+use Rattle.cs_build.specs.WordRuns.{has_word, AreSpans, run_places_from, is_within, CountsRows, IsPushed, AreFilled}
 use Rattle.cs_build.specs.declared.parting.Run.{Run}
 
 -- ---- the run of a word
@@ -127,12 +126,6 @@ placed runs words n k s l e =
     record { only = subst (λ j. IsOnly runs j n) same p.only; inside = omega (arith, same, p.inside) }
 
 -- ---- post by post
-pub posts_many : (rows : List Row) (numbers : List ℕ) → length numbers ≡ length rows → length (posts_by rows numbers) ≡ length rows
-posts_many [] [] e = refl
-posts_many [] (n ∷ numbers) e = refl
-posts_many (r ∷ rows) [] e = absurd (omega (arith, e))
-posts_many (r ∷ rows) (n ∷ numbers) e = ap (λ k. suc k) (posts_many rows numbers (omega (arith, e)))
-
 pub record PostAt (ps : List Post) (i : ℕ) (p : Post) : Type 0 where
   pub next : take (i + 1) ps ≡ take i ps ++ p ∷ []
   pub all : ps ≡ take i ps ++ p ∷ drop (i + 1) ps

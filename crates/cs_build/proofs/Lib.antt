@@ -13,6 +13,7 @@ pub mod OrderLemmas
 pub mod PartLemmas
 pub mod PartitionCuts
 pub mod RowLemmas
+pub mod RowPosts
 pub mod RunHeads
 pub mod TextPartLemmas
 pub mod TitleLemmas

@@ -36,8 +36,9 @@ use Rattle.cs_model_index.specs.Partitions.{Count, is_facet, rows_of_run, is_run
 use Rattle.cs_model_index.specs.declared.limits.TheConstants.{MAX_BLOCK_WORDS}
 use Rattle.cs_model_index.proofs.NumberedLemmas.{word_of_number, number_of_word, number_below}
 use Rattle.cs_vocab.specs.Ranges.{IsBelow, AreNumbers}
-use Rattle.cs_build.specs.WordRuns.{AreCounts, AreCountsBy, AreSpans, CountsRows, runs_from, is_within, posts_by, run_head}
+use Rattle.cs_build.specs.WordRuns.{AreCounts, AreCountsBy, AreSpans, CountsRows, runs_from, is_within, run_head}
 use Rattle.cs_build.specs.declared.parting.Run.{Run}
+use Rattle.cs_build.proofs.RowPosts.{posts_by}
 
 abbrev Words : Type 0
 Words = List (List ℕ)

@@ -9,7 +9,6 @@
 --   has_word run n             word number n is one of the run's
 --   AreSpans lo runs end       runs lie one behind the other from word number lo up to `end`, which is left out
 --   run_places_from k runs         for each word the index of its run, the first run having the index k
---   posts_by rows numbers      the posts of rows, by the numbers of their words
 --   is_within run p            the post's word is one of the run's
 --   CountsRows posts run       the run has as many rows as there are posts of its words
 --   AreFilled posts runs blocks      each block has those of these posts that have a word of its run, and room for its other rows
@@ -19,7 +18,6 @@ use Rattle.std.specs.Prelude.{◌≡◌, ℕ, ◌+◌, ◌≤◌, ◌<◌, ◌&&
 use Rattle.std.specs.List.{count_by}
 use Rattle.cs_base.specs.declared.index.block.BlockHead.{BlockHead}
 use Rattle.cs_base.specs.declared.content.doc.Post.{Post}
-use Rattle.cs_base.specs.declared.content.doc.Row.{Row}
 use Rattle.cs_cols.specs.declared.cols.Cols.{Cols}
 use Rattle.cs_model_index.specs.Blocks.{block_bytes}
 use Rattle.cs_model_index.specs.Numbered.{word_at}
@@ -63,11 +61,6 @@ run_places_from k [] = []
 run_places_from k (run ∷ runs) = replicate run.words k ++ run_places_from (k + 1) runs
 
 -- ---- blocks
--- as many as there are of both
-abbrev pub posts_by : List Row → List ℕ → List Post
-posts_by (r ∷ rows) (n ∷ numbers) = record { doc = r.doc; word = n; pos = r.pos; score = r.score } ∷ posts_by rows numbers
-posts_by _ _ = []
-
 -- its word's number is one of the run's
 abbrev pub is_within : Run → Post → Bool
 is_within run p = has_word run p.word

@@ -8,10 +8,11 @@ use Rattle.cs_model_index.specs.Images.{count_in}
 use Rattle.cs_model_index.specs.Numbered.{rows_at}
 use Rattle.cs_vocab.specs.Ranges.{AreNumbers}
 use Rattle.cs_build.specs.RowColumns.{posts_in}
-use Rattle.cs_build.specs.WordRuns.{AreParted, AreSpans, CountsRows, is_within, posts_by, run_head}
+use Rattle.cs_build.specs.WordRuns.{AreParted, AreSpans, CountsRows, is_within, run_head}
 use Rattle.cs_build.proofs.AssembleLemmas.{spans_kept, few_kept, counted_kept, inside_kept, rows_kept, as_many, image_made}
 use Rattle.cs_build.specs.declared.row_columns.PostColumns.{PostColumns}
 use Rattle.cs_build.proofs.ColumnLemmas.{numbers_are, posts_numbered, rows_few}
+use Rattle.cs_build.proofs.RowPosts.{posts_by}
 use Rattle.cs_build.proofs.building.built.Goals as goal
 use Rattle.cs_build.proofs.building.built.Goals.{In_ok-runs, In_ok-blocks}
 
