@@ -1,19 +1,13 @@
 -- What the pieces of a text between gaps give, some of which may be empty.
 --
---   words_in pieces          the words of the pieces, each by its characters
---   ascii_words_in pieces    the words of pieces of ASCII text, each by its bytes
---   joined_with bytes ws     the bytes and then the first of ws, with `_` between the two where there are bytes
-use Rattle.std.specs.Prelude.{ℕ, List, [], ◌∷◌, ◌++◌, map, filter, take}
-use Rattle.cs_base.specs.declared.content.limits.TheConstants.{MAX_PLAIN_WORD_BYTES}
+--   words_in pieces        the words of the pieces, each by its characters
+--   joined_with bytes ws   the bytes and then the first of ws, with `_` between the two where there are bytes
+use Rattle.std.specs.Prelude.{ℕ, List, [], ◌∷◌, ◌++◌, map, filter}
 use Rattle.cs_model.specs.Words.{is_filled, cut}
 
 -- a word for each piece that has characters
 abbrev pub words_in : List (List ℕ) → List (List ℕ)
 words_in pieces = map cut (filter is_filled pieces)
-
--- a word for each piece that has bytes
-abbrev pub ascii_words_in : List (List ℕ) → List (List ℕ)
-ascii_words_in pieces = map (take MAX_PLAIN_WORD_BYTES) (filter is_filled pieces)
 
 -- the bytes alone where ws has no word
 abbrev pub joined_with : List ℕ → List (List ℕ) → List ℕ
