@@ -16,7 +16,7 @@ mod value;
 
 pub use character::is_word_char;
 pub use facet_word::named_word;
-pub use key_text::norm;
+pub use key_text::{is_plain_key, norm};
 pub use listing::words;
 pub use name::has_name_form;
 pub use number::{has_digits, number_of};
