@@ -1,6 +1,6 @@
 //! Words as they come, before they are sorted, most of them kept once.
 ghost use Rattle.std.specs.Prelude.{◌≡◌, ◌≤◌, ◌<◌, ◌^◌, [], ◌∷◌, ◌++◌, true, IfOk, OnOk, length, map};
-ghost use Rattle.cs_base.specs.declared.content.limits.TheConstants.{MAX_ROWS};
+ghost use Rattle.cs_base.specs.declared.content.limits.TheConstants.{MAX_ROWS, MAX_WORD_BYTES};
 ghost use Rattle.cs_vocab.specs.Ranges.{IsWordAt};
 ghost use Rattle.cs_vocab.specs.Gathering.{HasTaken, IsGathering, gathered};
 
@@ -38,15 +38,17 @@ impl Gathering {
         })
     }
 
-    /// Adds a word at the end. Where memory runs out, the gathering is of no more use.
-    pub fn push(&mut self, alloc: Global, word: &Word) -> Result<(), Memory>
+    /// Adds the word of these bytes at the end. Where memory runs out, the gathering is of no more use.
+    pub fn push(&mut self, alloc: Global, word: &[u8]) -> Result<(), Memory>
         requires is { IsGathering self.old }
         requires few { length (gathered self.old) < MAX_ROWS }
+        requires some { 1 ≤ length word.now }
+        requires few_bytes { length word.now ≤ MAX_WORD_BYTES }
 
         ensures word { OnOk result (gathered self.new ≡ gathered self.old ++ word.now ∷ []) }
         ensures is { OnOk result (IsGathering self.new) }
     {
-        let slot = slot_of(word.bytes(), self.slots.len());
+        let slot = slot_of(word, self.slots.len());
         let index = index_of(alloc, &mut self.words, self.slots[slot], word)?;
         self.slots[slot] = index;
         self.indices.push(index)?;
@@ -63,14 +65,16 @@ pub(crate) fn gather(alloc: Global, rows: &[Row]) -> Result<Gathering, Memory>
 {
     let mut gathering = Gathering::with_capacity(alloc, rows.len())?;
     for row in rows {
-        gathering.push(alloc, &row.word)?;
+        gathering.push(alloc, row.word.bytes())?;
     }
     Ok(gathering)
 }
 
 // The index of a word: the one kept for it, else behind all others, where the word is added.
-fn index_of(alloc: Global, words: &mut Vec<Word>, kept: u32, word: &Word) -> Result<u32, Memory>
+fn index_of(alloc: Global, words: &mut Vec<Word>, kept: u32, word: &[u8]) -> Result<u32, Memory>
     requires few { length words.old.items < 2 ^ 32 }
+    requires some { 1 ≤ length word.now }
+    requires few_bytes { length word.now ≤ MAX_WORD_BYTES }
 
     ensures at { IfOk result (λ n. IsWordAt words.new.items n word.now) }
     ensures taken { OnOk result (HasTaken words.old.items words.new.items word.now) }
@@ -79,16 +83,16 @@ fn index_of(alloc: Global, words: &mut Vec<Word>, kept: u32, word: &Word) -> Res
         return Ok(kept);
     }
     let index = words.len() as u32;
-    words.push(word.copy(alloc)?)?;
+    words.push(Word::new(alloc, word)?)?;
     Ok(index)
 }
 
 // Whether a word stands at this index.
-fn stands_at(words: &[Word], index: u32, word: &Word) -> bool
+fn stands_at(words: &[Word], index: u32, word: &[u8]) -> bool
     ensures { result ≡ true → IsWordAt words.now index word.now }
 {
     match words.get(index as usize) {
-        Some(there) => there == word,
+        Some(there) => there.bytes() == word,
         None => false,
     }
 }

@@ -9,5 +9,5 @@ returns-in-Some c = λ t.
     let w = c.in-Some.there.now in
     let l = c.in-Some.ensures.lookup.3.0 in
     subst (IsWordAt c.args.words.now c.args.index)
-    ((bytes_eq-Decides w c.args.word.now).0 (sym c.eq.ensures ∙ t))
+    (sym c.bytes.ensures.value ∙ (bytes_eq-Decides c.bytes.result.now c.args.word.now).0 (sym c.eq.ensures ∙ t))
     (l, get_or_default c.args.words.now c.args.index [] w l ∙ sym c.in-Some.ensures.lookup.1)
