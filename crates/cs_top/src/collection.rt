@@ -1,15 +1,16 @@
 //! A collection that is read, and made into the corpus that is searched.
-ghost use Rattle.std.specs.{Option.{option_map}, Prelude.{◌≡◌, None, IfOk, IfErr, OnOk}};
-ghost use Rattle.cs_docs.specs.FaultRefusals.{reason_text};
-ghost use Rattle.cs_model.specs.{Collection.{refusal_words}, Corpus.{corpus, refusal}};
+ghost use Rattle.std.specs.{Option.{option_map}, Prelude.{◌≡◌, None, IfOk, IfErr, OnOk, map}};
+ghost use Rattle.cs_build.specs.declared.fault.BuildFault.{BuildFault};
+ghost use Rattle.cs_docs.specs.{FaultRefusals.{reason_text}, Lent.{doc_of_lent}};
+ghost use Rattle.cs_model.specs.{Collection.{refusal_words}, Corpus.{corpus, refusal, title_of}};
 ghost use Rattle.cs_top.specs.{Filed.{HasFile, IsFiled}, Trial.{HasSizes}};
 ghost use Rattle.cs_top.specs.Views.{IsCollectionCause, IsOfCollection, IsSized, IsStopCause, OfFile, ReadsFiles, collection_refusal_of};
 
 use crate::ending::RunStop;
 use crate::files::{HeldFile, read_all};
-use cs_base::{Files, MAX_COLLECTION_BYTES};
+use cs_base::{Files, MAX_COLLECTION_BYTES, Memory, Seq, Text};
 use cs_build::{BuildFault, RowColumns, image_of_columns};
-use cs_docs::{DocFault, Reason, RowsFault, read_docs};
+use cs_docs::{DocFault, LentDoc, Reason, RowsFault, lent_docs};
 use cs_file::Image;
 use cs_model_index::TARGET;
 use std::alloc::Global;
@@ -35,6 +36,14 @@ impl CollectionFault {
             CollectionFault::Rows(fault) => fault.reason(),
             CollectionFault::Words(fault) => fault.reason(),
         }
+    }
+}
+
+impl From<Memory> for CollectionFault {
+    ghost from_gives = { λ _ e. e ≡ CollectionFault.Words BuildFault.Memory };
+
+    fn from(_: Memory) -> CollectionFault {
+        CollectionFault::Words(BuildFault::Memory)
     }
 }
 
@@ -84,14 +93,26 @@ pub(crate) fn image_of(alloc: Global, bytes: &[u8]) -> Result<Imaged, Collection
     // Each fault but want of memory is the first refusal.
     ensures err { IfErr result (λ e. IsCollectionCause bytes.now e) }
 {
-    let docs = read_docs(alloc, bytes).map_err(CollectionFault::Documents)?;
+    let docs = lent_docs(alloc, bytes).map_err(CollectionFault::Documents)?;
     let rows = RowColumns::of_docs(alloc, &docs).map_err(CollectionFault::Rows)?;
+    let titles = titles_of(alloc, &docs)?;
     let document_count = docs.len();
     let row_count = rows.len();
-    let image = image_of_columns(alloc, rows, docs, TARGET).map_err(CollectionFault::Words)?;
+    let image = image_of_columns(alloc, rows, titles, TARGET).map_err(CollectionFault::Words)?;
     Ok(Imaged {
         image,
         documents: document_count,
         rows: row_count,
     })
+}
+
+// The titles of documents, each in memory of its own.
+fn titles_of(alloc: Global, docs: &[LentDoc<'_>]) -> Result<Seq<Text>, Memory>
+    ensures ok { IfOk result (λ titles. titles ≡ map title_of (map doc_of_lent docs.now)) }
+{
+    let mut titles = Vec::with_capacity(alloc, docs.len())?;
+    for doc in docs {
+        titles.push(Text::from_str(alloc, doc.title)?)?;
+    }
+    Ok(Seq::from_vec(titles))
 }
