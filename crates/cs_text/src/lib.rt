@@ -5,6 +5,7 @@
 //! `caseless` and `unicode`; ASCII text needs none of them.
 #![tactic(auto)]
 
+mod ascii;
 mod character;
 mod facet_word;
 mod key_text;
@@ -14,6 +15,7 @@ mod number;
 mod piece;
 mod value;
 
+pub use ascii::first_word;
 pub use character::is_word_char;
 pub use facet_word::named_word;
 pub use key_text::{is_plain_key, norm};
