@@ -1,25 +1,31 @@
 -- Lines of a trial's collection, one after the other.
 --
---   put_more        one more word of a title or a text
+--   put_behind      one more word of a title or a text, behind another one
 --   text_draws      the draws of a line's text
 --   line_is         a line is its title, its facet and its text
 --   behind_line     a line takes sixteen draws
 --   flat_map_more   one more entry of numbers that count up
 --   lines_more      one more line
-use Rattle.std.proofs.Common.{◌≡◌, ℕ, zero, suc, ◌+◌, ◌*◌, cond, List, [], ◌∷◌, ◌++◌, refl, sym, ap, ◌∙◌, append_assoc, append-nil, add-one, arith}
+use Rattle.std.proofs.Common.{◌≡◌, ℕ, zero, suc, ◌+◌, ◌*◌, ◌≤◌, false, cond, List, [], ◌∷◌, ◌++◌, refl, sym, ap, ◌∙◌, append_assoc, append-nil, add-one, arith}
 use Rattle.std.specs.Prelude.{◌==◌, replicate, codes}
 use Rattle.std.specs.List.{flat_map, range_with_len}
+use Rattle.std.proofs.lemmas.Bool.Decides.{nat_tests}
 use Rattle.cs_model_trial.specs.Generator.{next_state, behind, drawn, draws, word, spaced, syllable, line_bounds, line_draws, line_title, line_syllable, text_of, trial_line}
 use Rattle.cs_model_trial.specs.declared.sizes.TheConstants.{WORDS}
 use Rattle.cs_trial.proofs.DrawsLemmas.{draws_more, length_draws, behind_sum}
 use Rattle.cs_trial.proofs.WordsLemmas.{spaced_more}
 
-pub put_more : (old now : List ℕ) (i x w : ℕ) → now ≡ old ++ spaced (draws (replicate i WORDS) x) → w ≡ drawn WORDS (behind i x) → (now ++ cond (i == 0) [] (32 ∷ [])) ++ word w ≡ old ++ spaced (draws (replicate (i + 1) WORDS) x)
+put_more : (old now : List ℕ) (i x w : ℕ) → now ≡ old ++ spaced (draws (replicate i WORDS) x) → w ≡ drawn WORDS (behind i x) → (now ++ cond (i == 0) [] (32 ∷ [])) ++ word w ≡ old ++ spaced (draws (replicate (i + 1) WORDS) x)
 put_more old now i x w told is =
     let ds = draws (replicate i WORDS) x in
     let more : spaced (draws (replicate (i + 1) WORDS) x) ≡ (spaced ds ++ cond (i == 0) [] (32 ∷ [])) ++ word w =
     ap spaced (draws_more i WORDS x) ∙ ap (λ d. spaced (ds ++ d ∷ [])) (sym is) ∙ spaced_more ds i w (length_draws i WORDS x) in
     ap (λ b. (b ++ cond (i == 0) [] (32 ∷ [])) ++ word w) told ∙ (simp append_assoc) ∙ ap (λ s. old ++ s) (sym (more ∙ append_assoc (spaced ds) (cond (i == 0) [] (32 ∷ [])) (word w)))
+
+pub put_behind : (old now : List ℕ) (i x w : ℕ) → 1 ≤ i → now ≡ old ++ spaced (draws (replicate i WORDS) x) → w ≡ drawn WORDS (behind i x) → (now ++ 32 ∷ []) ++ word w ≡ old ++ spaced (draws (replicate (i + 1) WORDS) x)
+put_behind old now i x w some told is =
+    let later : (i == 0) ≡ false = grind (arith, nat_tests) in
+    rw later at (put_more old now i x w told is)
 
 title_draws : (x : ℕ) → line_title (draws line_bounds x) ≡ draws (replicate 3 WORDS) x
 unfolding draws behind

@@ -1,19 +1,19 @@
 //! The collection of a trial.
-ghost use Rattle.std.specs.Prelude.{◌≡◌, ◌≤◌, ◌++◌, [], ◌∷◌, ◌==◌, length, replicate, if◌then◌else◌, IfOk, OnOk};
+ghost use Rattle.std.specs.Prelude.{◌≡◌, ◌≤◌, ◌+◌, ◌*◌, ◌++◌, length, replicate, IfOk};
+ghost use Rattle.std.specs.Vec.{vec_len, vec_capacity};
 ghost use Rattle.cs_base.specs.declared.content.limits.TheConstants.{MAX_TRIAL};
 ghost use Rattle.cs_model_trial.specs.Generator.{behind, collection, draws, line_bounds, spaced, trial_line};
 ghost use Rattle.cs_model_trial.specs.declared.sizes.TheConstants.{WORDS};
+ghost use Rattle.cs_trial.specs.declared.lines.TheConstants.{LINE_BYTES, PLACE_BYTES};
 
 use crate::draws::Draws;
-use crate::syllables::{put_word, syllable};
+use crate::syllables::{SYLLABLE_BYTES, WORD_BYTES, with_syllable, with_word};
 use cs_base::Memory;
 use cs_model_trial::{LINES, SYLLABLES, TEXT_WORDS, TITLE_WORDS, WORDS};
 use std::alloc::Global;
 
-// the bytes of a syllable, and of a word with what stands behind it
-const SYLLABLE_BYTES: u32 = 2;
-
-const PLACE_BYTES: u32 = 3 * SYLLABLE_BYTES + 1;
+// the bytes of a word with what stands behind it
+const PLACE_BYTES: u32 = WORD_BYTES + 1;
 
 // the bytes of a line
 const LINE_BYTES: u32 = PLACE_BYTES * (TITLE_WORDS + TEXT_WORDS)
@@ -33,45 +33,45 @@ pub fn collection(alloc: Global, n: u32) -> Result<Vec<u8>, Memory>
     let mut bytes = Vec::with_capacity(alloc, (LINE_BYTES * lines) as usize)?;
     let mut numbers = Draws::behind(n, 0);
     for _ in 0..lines {
-        put_line(&mut bytes, &mut numbers)?;
+        bytes = with_line(bytes, &mut numbers);
     }
     Ok(bytes)
 }
 
-// Adds the line of the next draws at the end.
-fn put_line(bytes: &mut Vec<u8>, numbers: &mut Draws) -> Result<(), Memory>
-    ensures bytes { OnOk result (bytes.new.items ≡ bytes.old.items ++ trial_line (draws line_bounds numbers.old.state)) }
-    ensures state { OnOk result (numbers.new.state ≡ behind (length line_bounds) numbers.old.state) }
+// Bytes with the line of the next draws behind them.
+fn with_line(bytes: Vec<u8>, numbers: &mut Draws) -> Vec<u8>
+    requires room { vec_len bytes + LINE_BYTES ≤ vec_capacity bytes }
+
+    ensures bytes { result.items ≡ bytes.items ++ trial_line (draws line_bounds numbers.old.state) }
+    ensures state { numbers.new.state ≡ behind (length line_bounds) numbers.old.state }
+    ensures len { vec_len result ≡ vec_len bytes + LINE_BYTES }
+    ensures capacity { vec_capacity result ≡ vec_capacity bytes }
 {
-    put_words(bytes, numbers, TITLE_WORDS)?;
-    bytes.extend_from_slice(KIND)?;
-    let (first, second) = syllable(numbers.below(SYLLABLES));
-    bytes.extend_from_slice(&[first, second])?;
-    bytes.push(b'\t')?;
-    put_words(bytes, numbers, TEXT_WORDS)?;
-    bytes.push(b'\n')?;
-    Ok(())
+    let mut line = with_words(bytes, numbers, TITLE_WORDS);
+    for byte in KIND {
+        line.push_reserved(*byte);
+    }
+    line = with_syllable(line, numbers.below(SYLLABLES));
+    line.push_reserved(b'\t');
+    line = with_words(line, numbers, TEXT_WORDS);
+    line.push_reserved(b'\n');
+    line
 }
 
-// Adds the words of the next draws at the end, with a space between each two.
-fn put_words(bytes: &mut Vec<u8>, numbers: &mut Draws, count: u32) -> Result<(), Memory>
-    ensures bytes { OnOk result (bytes.new.items ≡ bytes.old.items ++ spaced (draws (replicate count WORDS) numbers.old.state)) }
-    ensures state { OnOk result (numbers.new.state ≡ behind count numbers.old.state) }
-{
-    for i in 0..count {
-        put_gap(bytes, i)?;
-        put_word(bytes, numbers.below(WORDS))?;
-    }
-    Ok(())
-}
+// Bytes with the words of the next draws behind them, and a space between each two.
+fn with_words(bytes: Vec<u8>, numbers: &mut Draws, count: u32) -> Vec<u8>
+    requires some { 1 ≤ count }
+    requires room { vec_len bytes + PLACE_BYTES * count ≤ vec_capacity bytes + 1 }
 
-// Adds what stands before word `i` of some: a space, and nothing before the first.
-#[inline]
-fn put_gap(bytes: &mut Vec<u8>, i: u32) -> Result<(), Memory>
-    ensures { OnOk result (bytes.new.items ≡ bytes.old.items ++ (if i == 0 then [] else 32 ∷ [])) }
+    ensures bytes { result.items ≡ bytes.items ++ spaced (draws (replicate count WORDS) numbers.old.state) }
+    ensures state { numbers.new.state ≡ behind count numbers.old.state }
+    ensures len { vec_len result + 1 ≡ vec_len bytes + PLACE_BYTES * count }
+    ensures capacity { vec_capacity result ≡ vec_capacity bytes }
 {
-    if i > 0 {
-        bytes.push(b' ')?;
+    let mut words = with_word(bytes, numbers.below(WORDS));
+    for _ in 1..count {
+        words.push_reserved(b' ');
+        words = with_word(words, numbers.below(WORDS));
     }
-    Ok(())
+    words
 }

@@ -1,16 +1,23 @@
 //! Words of three syllables.
-ghost use Rattle.std.specs.Prelude.{◌≡◌, ◌<◌, ◌++◌, [], ◌∷◌, OnOk};
+ghost use Rattle.std.specs.Prelude.{◌≡◌, ◌<◌, ◌≤◌, ◌+◌, ◌++◌, [], ◌∷◌};
+ghost use Rattle.std.specs.Vec.{vec_len, vec_capacity};
 ghost use Rattle.cs_model_trial.specs.Generator.{syllable, word};
 ghost use Rattle.cs_model_trial.specs.declared.sizes.TheConstants.{SYLLABLES, WORDS};
+ghost use Rattle.cs_trial.specs.declared.syllables.TheConstants.{SYLLABLE_BYTES, WORD_BYTES};
 
-use cs_base::Memory;
 use cs_model_trial::SYLLABLES;
+
+/// The bytes of a syllable.
+pub(crate) const SYLLABLE_BYTES: u32 = 2;
+
+/// The bytes of a word.
+pub(crate) const WORD_BYTES: u32 = 3 * SYLLABLE_BYTES;
 
 const PAIRS: u32 = SYLLABLES * SYLLABLES;
 
-/// The two letters of the syllable of a number.
+// The two letters of the syllable of a number.
 #[inline]
-pub(crate) fn syllable(n: u32) -> (u8, u8)
+fn syllable(n: u32) -> (u8, u8)
     requires { n < SYLLABLES }
 
     ensures { result.0 ∷ result.1 ∷ [] ≡ syllable n }
@@ -35,15 +42,33 @@ pub(crate) fn syllable(n: u32) -> (u8, u8)
     }
 }
 
-/// Adds the word of a number at the end: a syllable for each of its digits.
-pub(crate) fn put_word(bytes: &mut Vec<u8>, w: u32) -> Result<(), Memory>
-    requires { w < WORDS }
+/// Bytes with the word of a number behind them: a syllable for each of its digits.
+#[inline]
+pub(crate) fn with_word(mut bytes: Vec<u8>, w: u32) -> Vec<u8>
+    requires word { w < WORDS }
+    requires room { vec_len bytes + WORD_BYTES ≤ vec_capacity bytes }
 
-    ensures { OnOk result (bytes.new.items ≡ bytes.old.items ++ word w) }
+    ensures items { result.items ≡ bytes.items ++ word w }
+    ensures len { vec_len result ≡ vec_len bytes + WORD_BYTES }
+    ensures capacity { vec_capacity result ≡ vec_capacity bytes }
 {
-    let (a, b) = syllable(w / PAIRS);
-    let (c, d) = syllable(w / SYLLABLES % SYLLABLES);
-    let (e, f) = syllable(w % SYLLABLES);
-    bytes.extend_from_slice(&[a, b, c, d, e, f])?;
-    Ok(())
+    bytes = with_syllable(bytes, w / PAIRS);
+    bytes = with_syllable(bytes, w / SYLLABLES % SYLLABLES);
+    with_syllable(bytes, w % SYLLABLES)
+}
+
+/// Bytes with the syllable of a number behind them.
+#[inline]
+pub(crate) fn with_syllable(mut bytes: Vec<u8>, n: u32) -> Vec<u8>
+    requires syllable { n < SYLLABLES }
+    requires room { vec_len bytes + SYLLABLE_BYTES ≤ vec_capacity bytes }
+
+    ensures items { result.items ≡ bytes.items ++ syllable n }
+    ensures len { vec_len result ≡ vec_len bytes + SYLLABLE_BYTES }
+    ensures capacity { vec_capacity result ≡ vec_capacity bytes }
+{
+    let (first, second) = syllable(n);
+    bytes.push_reserved(first);
+    bytes.push_reserved(second);
+    bytes
 }

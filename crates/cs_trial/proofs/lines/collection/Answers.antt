@@ -6,12 +6,14 @@ use Rattle.cs_trial.proofs.lines.collection.Goals as goal
 
 pub loop-preserved : goal.loop-preserved
 loop-preserved c = record {
-  bytes = lines_more c.args.n c.loop.counter c.loop.numbers.state c.loop.bytes.items c.put_line.new.bytes.items c.loop.invariant.state c.loop.invariant.bytes c.in_ok-put_line.ensures.bytes;
-  state = c.in_ok-put_line.ensures.state ∙ line_behind c.args.n c.loop.counter c.loop.numbers.state c.loop.invariant.state;
+  bytes = lines_more c.args.n c.loop.counter c.loop.numbers.state c.loop.bytes.items c.with_line-bytes.result.items c.loop.invariant.state c.loop.invariant.bytes c.with_line-bytes.ensures.bytes;
+  state = c.with_line-bytes.ensures.state ∙ line_behind c.args.n c.loop.counter c.loop.numbers.state c.loop.invariant.state;
+  len = omega (arith, c.with_line-bytes.ensures.len, c.loop.invariant.len);
+  room = omega (arith, c.with_line-bytes.ensures.capacity, c.loop.invariant.room);
 }
 
 pub returns : goal.returns
 unfolding collection
 returns c =
-    let all : c.loop.counter ≡ line_count c.args.n = omega arith in
+    let all : c.loop.counter ≡ line_count c.args.n = omega (arith, c.loop-test.false, c.loop.auto.counter-end) in
     c.loop.invariant.bytes ∙ ap (λ k. flat_map (λ i. trial_line (line_draws c.args.n i)) (range_with_len 0 k)) all
