@@ -13,6 +13,7 @@ mod ordering;
 mod parting;
 mod row_columns;
 mod row_gathering;
+mod spots;
 
 pub use building::{image, image_of_columns};
 pub use fault::BuildFault;
