@@ -1,4 +1,9 @@
 -- Documents of a collection that isn't refused: few words, named pieces, few documents.
+--
+--   accepted_docs      each document can be listed
+--   accepted_lent      each document that is lent can be listed
+--   few_docs           there are no more of them than the most bytes of a collection, and one
+--   few_documents      there are at most MAX_DOCS
 use Rattle.std.proofs.Common.{◌≡◌, ℕ, ◌+◌, ◌≤◌, Bool, true, false, cond, nat_le, nat_eq, List, [], ◌∷◌, length, map, filter, drop, sym, ap, subst, arith, length-drop}
 use Rattle.std.specs.Prelude.{None}
 use Rattle.std.specs.List.{All, AllByRecursion, starts_with, enumerate_from}
@@ -6,7 +11,7 @@ use Rattle.std.specs.Str.Lines.{lines}
 use Rattle.std.proofs.lemmas.Bool.Decides.{nat_tests}
 use Rattle.std.proofs.lemmas.List.{length-map}
 use Rattle.std.proofs.lemmas.List.FromFn.{length-enumerate_from}
-use Rattle.std.proofs.lemmas.List.Elements.{All-from_recursion}
+use Rattle.std.proofs.lemmas.List.Elements.{All-from_recursion, recursion_from_All}
 use Rattle.cs_base.specs.declared.content.doc.Doc.{Doc}
 use Rattle.cs_base.specs.declared.content.limits.TheConstants.{MAX_COLLECTION_BYTES, MAX_DOCS}
 use Rattle.cs_model.specs.Collection.{piece_refusal, line_refusal, docs_refusal, documents, document, DocLine, doc_line, doc_lines, collection_lines, facet_pieces, columns, without_mark, too_large}
@@ -14,7 +19,8 @@ use Rattle.cs_model.specs.Words.{is_filled}
 use Rattle.cs_model.specs.First.{unless, first_reason}
 use Rattle.cs_model.proofs.FirstLemmas.{none_first, none_rest, unless_none}
 use Rattle.cs_docs.specs.FacetPieces.{IsNamed, AreNamed, CanBeListed}
-use Rattle.cs_docs.specs.LinesRead.{doc_lines_from}
+use Rattle.cs_docs.specs.declared.document.LentDoc.{LentDoc}
+use Rattle.cs_docs.specs.LinesRead.{doc_lines_from, doc_of_lent}
 use Rattle.cs_docs.proofs.PlainLemmas.{length_documents_of_lines}
 
 -- ---- nothing is refused
@@ -44,6 +50,13 @@ accepted_lines (k ∷ ks) h = (accepted_line k (none_first (line_refusal k) (map
 
 pub accepted_docs : (c : List ℕ) (docs : List Doc) → docs_refusal c ≡ None → docs ≡ documents c → All CanBeListed docs
 accepted_docs c docs h e = subst (All CanBeListed) (sym e) (All-from_recursion CanBeListed (documents c) (accepted_lines (doc_lines_from 0 1 (lines (without_mark c))) (none_rest (unless (nat_le (length c) MAX_COLLECTION_BYTES) too_large) _ h)))
+
+listed_each : (docs : List LentDoc) → AllByRecursion CanBeListed (map doc_of_lent docs) → AllByRecursion (λ d. CanBeListed (doc_of_lent d)) docs
+listed_each [] h = tt
+listed_each (d ∷ docs) h = (h.0, listed_each docs h.1)
+
+pub accepted_lent : (c : List ℕ) (docs : List LentDoc) → docs_refusal c ≡ None → map doc_of_lent docs ≡ documents c → All (λ d. CanBeListed (doc_of_lent d)) docs
+accepted_lent c docs h e = All-from_recursion (λ d. CanBeListed (doc_of_lent d)) docs (listed_each docs (recursion_from_All CanBeListed (map doc_of_lent docs) (accepted_docs c (map doc_of_lent docs) h e)))
 
 unmarked_length : (b : Bool) (c : List ℕ) → length (cond b (drop 3 c) c) ≤ length c
 unmarked_length true c = omega (arith, length-drop 3 c)

@@ -5,22 +5,20 @@
 --   named_text             the word of a facet whose name and value are
 use Rattle.std.proofs.Common.{arith, ◌≡◌, ℕ, ◌+◌, Bool, true, false, ◌||◌, List, [], ◌∷◌, ◌++◌, map, refl, sym, subst, ◌∙◌, ap}
 use Rattle.std.specs.List.{All, AllByRecursion, list_any, enumerate_from}
-use Rattle.std.specs.Ordering.{eq_by_cmp, nat_cmp, is_eq}
+use Rattle.std.specs.Ordering.{eq_by_cmp, is_eq}
 use Rattle.std.specs.declared.cmp.Ordering.{Ordering}
 use Rattle.std.specs.Cmp.{IsTotalOrder, Equal-is}
-use Rattle.std.specs.Cmp.Lexicographic.{slice_cmp}
 use Rattle.std.specs.FinMap.{IsAntisymmetric}
 use Rattle.std.specs.Str.{IsUtf8}
 use Rattle.std.proofs.lemmas.List.Elements.{All-from_recursion, recursion_from_All, All-append}
 use Rattle.std.proofs.lemmas.Str.{IsUtf8-append, IsUtf8-encode, encode_ascii}
 use Rattle.std.proofs.lemmas.Bool.{or_left, or_right}
-use Rattle.std.proofs.lemmas.Cmp.{nat_list_cmp_total, tied_itself}
-use Rattle.std.proofs.lemmas.Map.Lookups.{exact_bytes}
+use Rattle.std.proofs.lemmas.Cmp.{tied_itself}
 use Rattle.cs_base.specs.content.Members.{members_in}
 use Rattle.cs_base.specs.declared.content.doc.Doc.{Doc}
 use Rattle.cs_base.specs.declared.content.scores.TheConstants.{TITLE_SCORE, FACET_SCORE, TEXT_SCORE}
 use Rattle.cs_base.proofs.MembersLemmas.{is_member-listed}
-use Rattle.cs_model.specs.Collection.{facet_words, named}
+use Rattle.cs_model.specs.Collection.{named}
 use Rattle.cs_model.specs.Corpus.{placed, title_rows, text_rows}
 use Rattle.cs_model.specs.Words.{words}
 use Rattle.cs_model.specs.Scores.{SCORES}
@@ -54,13 +52,12 @@ facets_text : (d : ℕ) (ws : List (List ℕ)) → AllByRecursion IsUtf8 ws → 
 facets_text d [] h = tt
 facets_text d (w ∷ ws) h = (h.0, facets_text d ws h.1)
 
-pub text_of_doc : (d : ℕ) (doc : Doc) → All IsUtf8 (facet_words doc.facets) → All IsUtf8 (words doc.title) → All IsUtf8 (words doc.text) → All HasUtf8Word (listed_doc (d, doc))
+pub text_of_doc : (d : ℕ) (doc : Doc) → All IsUtf8 (listed_facets doc.facets) → All IsUtf8 (words doc.title) → All IsUtf8 (words doc.text) → All HasUtf8Word (listed_doc (d, doc))
 text_of_doc d doc facets title text =
-    let listed = All-members (slice_cmp nat_cmp) nat_list_cmp_total exact_bytes IsUtf8 (facet_words doc.facets) facets in
     let facet_rows = map (λ w. placed d FACET_SCORE (0, w)) (listed_facets doc.facets) in
     All-append HasUtf8Word (facet_rows ++ title_rows SCORES d doc) (text_rows SCORES d doc)
     (All-append HasUtf8Word facet_rows (title_rows SCORES d doc)
-    (All-from_recursion HasUtf8Word facet_rows (facets_text d (listed_facets doc.facets) (recursion_from_All IsUtf8 (listed_facets doc.facets) listed)))
+    (All-from_recursion HasUtf8Word facet_rows (facets_text d (listed_facets doc.facets) (recursion_from_All IsUtf8 (listed_facets doc.facets) facets)))
     (All-from_recursion HasUtf8Word (title_rows SCORES d doc) (placed_text d TITLE_SCORE 1 (words doc.title) (recursion_from_All IsUtf8 (words doc.title) title))))
     (All-from_recursion HasUtf8Word (text_rows SCORES d doc) (placed_text d TEXT_SCORE _ (words doc.text) (recursion_from_All IsUtf8 (words doc.text) text)))
 

@@ -5,9 +5,11 @@
 --   numbered_line d n l       the line l, which is line n, as document d
 --   title_only l              the line l as a title, without facets and text
 --   doc_of n l                the document of the line l, which is line n
+--   doc_of_lent d             the document that d lends
 use Rattle.std.specs.Prelude.{ℕ, List, [], map, filter}
 use Rattle.std.specs.List.{enumerate_from}
 use Rattle.cs_base.specs.declared.content.doc.Doc.{Doc}
+use Rattle.cs_docs.specs.declared.document.LentDoc.{LentDoc}
 use Rattle.cs_model.specs.Collection.{DocLine, doc_line, document}
 use Rattle.cs_model.specs.Words.{is_filled}
 
@@ -25,6 +27,10 @@ numbered_line d n l = record { doc = d; line = n; bytes = l }
 -- one whose columns are empty where the line is
 abbrev pub doc_of : ℕ → List ℕ → Doc
 doc_of n l = document (numbered_line 0 n l)
+
+-- the same columns and line
+abbrev pub doc_of_lent : LentDoc → Doc
+doc_of_lent d = record { title = d.title.now; facets = d.facets.now; text = d.text.now; line = d.line }
 
 -- the line as a title, without facets and text
 abbrev pub title_only : DocLine → Doc

@@ -1,42 +1,74 @@
 //! One line as a document, or why it is refused.
-ghost use Rattle.std.specs.Prelude.{◌≡◌, None, IfOk, OnOk, IfErr, [], ◌∷◌, ◌++◌, length, ◌+◌, ◌*◌, ◌≤◌, nat_le, true};
+ghost use Rattle.std.specs.Prelude.{◌≡◌, None, IfOk, OnOk, IfErr, [], ◌∷◌, ◌++◌, length, map, ◌+◌, ◌*◌, ◌≤◌, nat_le, true};
 ghost use Rattle.std.specs.List.{before_first, after_first};
 ghost use Rattle.std.specs.Str.{is_utf8};
 ghost use Rattle.cs_model.specs.Collection.{is_tab, not_utf8, line_too_long, words_too_many, line_refusal};
 ghost use Rattle.cs_model.specs.First.{unless, first_reason};
 ghost use Rattle.cs_model.specs.Words.{words};
-ghost use Rattle.cs_docs.specs.LinesRead.{doc_of, numbered_line, documents_from};
+ghost use Rattle.cs_docs.specs.LinesRead.{doc_of, doc_of_lent, numbered_line, documents_from};
 ghost use Rattle.cs_docs.specs.FaultRefusals.{IsCauseOf, refusal_from};
 
 use crate::fault::DocFault;
 use crate::pieces::check_facets;
-use cs_base::{Doc, MAX_DOC_WORDS, MAX_DOCS, MAX_LINE_BYTES, Memory, Seq, Text};
+use cs_base::{Doc, MAX_DOC_WORDS, MAX_DOCS, MAX_LINE_BYTES, Memory, Text};
 use cs_text::words;
 use std::alloc::Global;
 use std::str;
 
+/// A document whose columns are lent from the bytes of its collection.
+#[derive(Clone, Copy, Debug)]
+pub struct LentDoc<'a> {
+    /// The title column as it stands in the collection.
+    pub title: &'a str,
+    /// The facets column as it stands.
+    pub facets: &'a str,
+    /// The text column as it stands, further tabs included.
+    pub text: &'a str,
+    /// The number of its line in the collection, from 1.
+    pub line: u32,
+}
+
+/// The document with columns in memory of its own.
+pub(crate) fn copy_of(alloc: Global, doc: &LentDoc<'_>) -> Result<Doc, Memory>
+    ensures ok { IfOk result (λ d. d ≡ doc_of_lent doc.now) }
+{
+    Ok(Doc {
+        title: Text::from_str(alloc, doc.title)?,
+        facets: Text::from_str(alloc, doc.facets)?,
+        text: Text::from_str(alloc, doc.text)?,
+        line: doc.line,
+    })
+}
+
 /// Adds the document of a line, if the line has bytes.
-pub(crate) fn push_document(
+pub(crate) fn push_document<'a>(
     alloc: Global,
-    docs: &mut Seq<Doc>,
-    line: &[u8],
+    docs: &mut Vec<LentDoc<'a>>,
+    line: &'a [u8],
     number: u32,
 ) -> Result<(), DocFault>
-    ensures ok { OnOk result (docs.new ≡ docs.old ++ documents_from (length docs.old) number (line.now ∷ [])) }
-    ensures accepted { OnOk result (refusal_from (length docs.old) number (line.now ∷ []) ≡ None) }
-    ensures err { IfErr result (λ e. IsCauseOf (refusal_from (length docs.old) number (line.now ∷ [])) e) }
+    ensures ok { OnOk result (map doc_of_lent docs.new.items ≡ map doc_of_lent docs.old.items ++ documents_from (length docs.old.items) number (line.now ∷ [])) }
+    ensures accepted { OnOk result (refusal_from (length docs.old.items) number (line.now ∷ []) ≡ None) }
+    ensures err { IfErr result (λ e. IsCauseOf (refusal_from (length docs.old.items) number (line.now ∷ [])) e) }
 {
     if line.is_empty() {
         return Ok(());
     }
     let doc = document_of(alloc, line, docs.len(), number)?;
-    docs.push(doc)?;
-    Ok(())
+    match docs.push(doc) {
+        Ok(()) => Ok(()),
+        Err(_) => Err(DocFault::Memory),
+    }
 }
 
-// The columns of a line, each in memory of its own.
-fn document_of(alloc: Global, line: &[u8], doc: usize, number: u32) -> Result<Doc, DocFault>
-    ensures ok { IfOk result (λ d. d ≡ doc_of number line.now) }
+// The columns of a line, each lent from it.
+fn document_of<'a>(
+    alloc: Global,
+    line: &'a [u8],
+    doc: usize,
+    number: u32,
+) -> Result<LentDoc<'a>, DocFault>
+    ensures ok { IfOk result (λ d. doc_of_lent d ≡ doc_of number line.now) }
     ensures accepted { OnOk result (line_refusal (numbered_line doc number line.now) ≡ None) }
     ensures err { IfErr result (λ e. IsCauseOf (line_refusal (numbered_line doc number line.now)) e) }
 {
@@ -48,24 +80,11 @@ fn document_of(alloc: Global, line: &[u8], doc: usize, number: u32) -> Result<Do
     if doc >= MAX_DOCS {
         return Err(DocFault::TooManyDocs { line: number });
     }
-    let doc = copy_columns(alloc, title, facets, text, number)?;
-    Ok(doc)
-}
-
-fn copy_columns(
-    alloc: Global,
-    title: &str,
-    facets: &str,
-    text: &str,
-    line: u32,
-) -> Result<Doc, Memory>
-    ensures ok { IfOk result (λ d. (d.title ≡ title.now) × (d.facets ≡ facets.now) × (d.text ≡ text.now) × (d.line ≡ line)) }
-{
-    Ok(Doc {
-        title: Text::from_str(alloc, title)?,
-        facets: Text::from_str(alloc, facets)?,
-        text: Text::from_str(alloc, text)?,
-        line,
+    Ok(LentDoc {
+        title,
+        facets,
+        text,
+        line: number,
     })
 }
 

@@ -5,14 +5,31 @@ ghost use Rattle.std.specs.Str.{IsUtf8};
 ghost use Rattle.cs_model.specs.Collection.{facet_pieces, facet_words, facet_word, named};
 ghost use Rattle.cs_model.specs.Words.{is_filled};
 ghost use Rattle.cs_docs.specs.FacetPieces.{AreNamed};
+ghost use Rattle.cs_docs.specs.Listing.{listed_facets};
 
 use crate::pieces::{cut_at_equals, cut_piece};
 use cs_base::{MAX_NAME_BYTES, MAX_PLAIN_WORD_BYTES, Memory, Word};
 use cs_text::{named_word, norm, slug};
 use std::alloc::Global;
 
-/// The facet words of a column, in the order of its pieces. A piece whose value has no word has none.
-pub(crate) fn facet_words(alloc: Global, column: &str) -> Result<Vec<Word>, Memory>
+/// The facet words of a column whose pieces are named, each once, by bytes.
+pub fn listed_facets(alloc: Global, column: &str) -> Result<Vec<Word>, Memory>
+    requires { AreNamed (facet_pieces column.now) }
+
+    ensures ok { IfOk result (λ v. v.items ≡ listed_facets column.now) }
+    ensures utf8 { IfOk result (λ v. All IsUtf8 v.items) }
+{
+    let mut found = facet_words(alloc, column)?;
+    if found.len() <= 1 {
+        return Ok(found);
+    }
+    found.sort()?;
+    found.dedup();
+    Ok(found)
+}
+
+// The facet words of a column, in the order of its pieces. A piece whose value has no word has none.
+fn facet_words(alloc: Global, column: &str) -> Result<Vec<Word>, Memory>
     requires { AreNamed (facet_pieces column.now) }
 
     ensures ok { IfOk result (λ v. v.items ≡ facet_words column.now) }

@@ -14,7 +14,9 @@ mod reader;
 mod row_list;
 
 pub use cs_base::Doc;
+pub use document::LentDoc;
+pub use facet::listed_facets;
 pub use fault::{DocFault, Reason, RowsFault};
 pub use lines::{BYTE_ORDER_MARK, first_end};
-pub use reader::read_docs;
+pub use reader::{lent_docs, read_docs};
 pub use row_list::{add_rows, rows_of};

@@ -2,13 +2,13 @@
 ghost use Rattle.std.specs.Prelude.{◌≡◌, ℕ, ◌+◌, ◌≤◌, ◌<◌, ◌^◌, ◌++◌, None, IfOk, OnOk, IsErrOf, List, length, map};
 ghost use Rattle.std.specs.List.{All, enumerate_from};
 ghost use Rattle.std.specs.Str.{IsUtf8};
-ghost use Rattle.cs_model.specs.Collection.{documents, docs_refusal, facet_pieces, facet_words};
+ghost use Rattle.cs_model.specs.Collection.{documents, docs_refusal, facet_pieces};
 ghost use Rattle.cs_model.specs.Corpus.{rows_of, placed};
 ghost use Rattle.cs_model.specs.Words.{words};
 ghost use Rattle.cs_docs.specs.Listing.{listed_doc, listed_facets, HasUtf8Word};
 ghost use Rattle.cs_docs.specs.FacetPieces.{AreNamed, CanBeListed};
 
-use crate::facet::facet_words;
+use crate::facet::listed_facets;
 use crate::fault::RowsFault;
 use cs_base::{
     BEHIND_TITLE, Doc, FACET_SCORE, MAX_ROWS, Memory, Row, Seq, TEXT_SCORE, TITLE_SCORE,
@@ -66,12 +66,9 @@ fn push_facets(alloc: Global, rows: &mut Vec<Row>, doc: u32, column: &str) -> Re
     requires { AreNamed (facet_pieces column.now) }
 
     ensures ok { OnOk result (rows.new.items ≡ rows.old.items ++ map (λ w. placed doc FACET_SCORE (0, w)) (listed_facets column.now)) }
-    ensures utf8 { OnOk result (All IsUtf8 (facet_words column.now)) }
+    ensures utf8 { OnOk result (All IsUtf8 (listed_facets column.now)) }
 {
-    let mut found = facet_words(alloc, column)?;
-    found.sort()?;
-    found.dedup();
-    for word in found {
+    for word in listed_facets(alloc, column)? {
         rows.push(Row {
             doc,
             word,

@@ -1,5 +1,6 @@
 pub mod CutLemmas
 pub mod Digits
+pub mod KeyBytesLemmas
 pub mod WordPiecesLemmas
 pub mod SlugLemmas
 pub mod SplitLemmas

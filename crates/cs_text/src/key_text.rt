@@ -1,8 +1,10 @@
 //! Key texts.
 ghost use Rattle.std.specs.Prelude.{◌≡◌, IfOk, chars, encode_utf8_all, string_bytes};
+ghost use Rattle.std.specs.List.{list_all};
 ghost use Rattle.caseless.specs.Caseless.{default_case_fold};
 ghost use Rattle.unicode_normalization.specs.Forms.{nfd};
 ghost use Rattle.cs_model.specs.KeyText.{norm};
+ghost use Rattle.cs_text.specs.KeyBytes.{is_key_byte};
 
 use caseless::default_case_fold_str;
 use cs_base::{Memory, Text};
@@ -17,6 +19,18 @@ pub fn norm(alloc: Global, s: &str) -> Result<Text, Memory>
 {
     let key = key_of(alloc, s)?;
     Ok(Text::from_string(key))
+}
+
+/// Whether a text is of bytes that its key text keeps as they are: ASCII, with no capital letter. Then it is its own
+/// key text.
+pub fn is_plain_key(s: &str) -> bool
+    ensures { result ≡ list_all is_key_byte s.now }
+{
+    let mut plain = true;
+    for byte in s.as_bytes() {
+        plain &= is_key_byte(*byte);
+    }
+    plain
 }
 
 /// The key text as a string.
@@ -39,4 +53,11 @@ fn folded_of(alloc: Global, s: &str) -> Result<String, Memory>
     let decomposed = to_nfd(alloc, s)?;
     let folded = default_case_fold_str(alloc, decomposed.as_str())?;
     Ok(folded)
+}
+
+#[inline]
+fn is_key_byte(b: u8) -> bool
+    ensures { result ≡ is_key_byte b }
+{
+    (b < 128) & !((b'A' <= b) & (b <= b'Z'))
 }

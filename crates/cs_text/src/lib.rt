@@ -5,6 +5,7 @@
 //! `caseless` and `unicode`; ASCII text needs none of them.
 #![tactic(auto)]
 
+mod ascii;
 mod character;
 mod facet_word;
 mod key_text;
@@ -14,9 +15,10 @@ mod number;
 mod piece;
 mod value;
 
+pub use ascii::first_word;
 pub use character::is_word_char;
 pub use facet_word::named_word;
-pub use key_text::norm;
+pub use key_text::{is_plain_key, norm};
 pub use listing::words;
 pub use name::has_name_form;
 pub use number::{has_digits, number_of};

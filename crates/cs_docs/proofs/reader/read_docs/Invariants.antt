@@ -1,17 +1,6 @@
-use Rattle.std.proofs.Common.{◌≡◌, ◌+◌, ◌≤◌, ◌++◌, length}
-use Rattle.std.specs.Str.Lines.{lines}
-use Rattle.cs_base.specs.declared.content.limits.TheConstants.{MAX_COLLECTION_BYTES}
-use Rattle.cs_model.specs.Collection.{documents, docs_refusal}
-use Rattle.cs_docs.specs.LinesRead.{documents_from}
-use Rattle.cs_docs.specs.FaultRefusals.{refusal_from}
+use Rattle.std.proofs.Common.{◌≡◌, map, take}
+use Rattle.cs_docs.specs.LinesRead.{doc_of_lent}
 use Rattle.cs_docs.proofs.reader.read_docs.Given as goal
 
-abbrev pub invariant-loop-rest : goal.invariant-loop-rest
-invariant-loop-rest l = record {
-  told : documents l.bytes ≡ l.docs ++ documents_from (length l.docs) (l.number + 1) (lines l.rest);
-  refused : docs_refusal l.bytes ≡ refusal_from (length l.docs) (l.number + 1) (lines l.rest);
-  within : l.number + length l.rest ≤ MAX_COLLECTION_BYTES;
-}
-
-abbrev pub decreases-loop-rest : goal.decreases-loop-rest
-decreases-loop-rest l = length l.rest
+abbrev pub invariant-loop-doc : goal.invariant-loop-doc
+invariant-loop-doc l = l.docs ≡ map doc_of_lent (take l.doc-index l.doc-items)

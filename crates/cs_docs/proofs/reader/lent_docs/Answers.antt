@@ -6,11 +6,11 @@ use Rattle.cs_model.specs.Collection.{docs_refusal}
 use Rattle.cs_docs.specs.FaultRefusals.{IsCauseOf, refusal_from}
 use Rattle.cs_docs.proofs.AcceptedCollections.{few_documents}
 use Rattle.cs_docs.proofs.LinesLemmas.{cause_next}
-use Rattle.cs_docs.proofs.reader.read_docs.Goals as goal
+use Rattle.cs_docs.proofs.reader.lent_docs.Goals as goal
 
 pub returns-in_err-push_document-clause-err : goal.returns-in_err-push_document-clause-err
 returns-in_err-push_document-clause-err c =
-    let d = length c.loop-rest.docs in
+    let d = length c.loop-rest.docs.items in
     let n = c.loop-rest.number + 1 in
     let e = c.in_err-push_document.field-0.0 in
     let here : IsCauseOf (refusal_from d n (c.first_line.result.0.now ∷ lines c.first_line.result.1.now)) e = cause_next d n c.first_line.result.0.now (lines c.first_line.result.1.now) e c.in_err-push_document.ensures.err in
@@ -23,4 +23,4 @@ nothing_left d n [] h = refl
 nothing_left d n (b ∷ bs) h = let some : (length (b ∷ bs) == 0) ≡ false = grind (arith, nat_tests) in let e : true ≡ false = h ∙ some in absurd cc
 
 pub returns-clause-few : goal.returns-clause-few
-returns-clause-few c = few_documents c.args.bytes.now (c.loop-rest.invariant.refused ∙ nothing_left (length c.loop-rest.docs) (c.loop-rest.number + 1) c.loop-rest.rest.now c.loop-rest-test.ensures)
+returns-clause-few c = few_documents c.args.bytes.now (c.loop-rest.invariant.refused ∙ nothing_left (length c.loop-rest.docs.items) (c.loop-rest.number + 1) c.loop-rest.rest.now c.loop-rest-test.ensures)
