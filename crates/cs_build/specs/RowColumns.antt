@@ -14,6 +14,7 @@
 --   AreColumns ws ns spots      there are as many spots as numbers, each of them that of a word of ws, and ws are the words of the rows
 --   listed_words doc            the words of the document's rows, in their order
 --   doc_rows_of doc             how many rows the document has
+--   IsRowGathering g            the words that come are those of rows, of which there are few
 use Rattle.std.specs.Prelude.{◌≡◌, ℕ, ◌+◌, ◌≤◌, List, [], ◌∷◌, ◌++◌, length, map, take, drop}
 use Rattle.std.specs.List.{All, enumerate_from}
 use Rattle.cs_base.specs.declared.content.doc.Doc.{Doc}
@@ -25,7 +26,9 @@ use Rattle.cs_docs.specs.Listing.{listed_facets}
 use Rattle.cs_model.specs.Corpus.{distinct_words}
 use Rattle.cs_model.specs.Words.{words}
 use Rattle.cs_model_index.specs.Numbered.{rows_at}
+use Rattle.cs_vocab.specs.Gathering.{IsGathering, gathered}
 use Rattle.cs_vocab.specs.Ranges.{IsBelow}
+use Rattle.cs_vocab.specs.declared.gathering.Gathering.{Gathering}
 use Rattle.cs_build.specs.declared.spots.DocRows.{DocRows}
 use Rattle.cs_build.specs.declared.spots.Spots.{Spots}
 use Rattle.cs_build.specs.declared.spots.Spots.TheVariants.{ByRow, ByDocument}
@@ -84,7 +87,7 @@ AreSpots (ByDocument docs) xs = (length docs.items ≤ MAX_DOCS) × AreDocRows d
 
 -- of no rows there are no words
 pub record AreColumns (ws : List (List ℕ)) (ns : List ℕ) (spots : Spots) : Type 0 where
-  pub spots : AreSpots spots ns
+  pub each : AreSpots spots ns
   pub below : All (IsBelow (length ws)) ns
   pub words : ws ≡ distinct_words (rows_at ws (posts_in spots ns))
 
@@ -96,3 +99,8 @@ listed_words doc = listed_facets doc.facets ++ words doc.title ++ words doc.text
 -- of each kind; none where no column has a word
 abbrev pub doc_rows_of : Doc → DocRows
 doc_rows_of doc = record { facets = length (listed_facets doc.facets); titles = length (words doc.title); texts = length (words doc.text) }
+
+-- so it is before any came
+pub record IsRowGathering (g : Gathering) : Type 0 where
+  pub words : IsGathering g
+  pub few : length (gathered g) ≤ MAX_ROWS

@@ -99,7 +99,14 @@ fn fill_doc<'a>(
     let (texts, behind) = words.split_at(rows.texts as usize);
     fill_facets(blocks, places, facets, doc);
     fill_words(blocks, places, titles, doc, 1, TITLE_SCORE);
-    fill_words(blocks, places, texts, doc, rows.titles + BEHIND_TITLE, TEXT_SCORE);
+    fill_words(
+        blocks,
+        places,
+        texts,
+        doc,
+        rows.titles + BEHIND_TITLE,
+        TEXT_SCORE,
+    );
     behind
 }
 
@@ -120,14 +127,7 @@ fn fill_facets(blocks: &mut [Cols], places: &[u32], numbers: &[u32], doc: u32)
 }
 
 // The words stand at positions from `pos` on.
-fn fill_words(
-    blocks: &mut [Cols],
-    places: &[u32],
-    numbers: &[u32],
-    doc: u32,
-    pos: u32,
-    score: u8,
-)
+fn fill_words(blocks: &mut [Cols], places: &[u32], numbers: &[u32], doc: u32, pos: u32, score: u8)
     requires few { pos + length numbers.now < 2 ^ 32 }
     requires room { CanTake places.now blocks.old (word_posts doc score pos numbers.now) }
 

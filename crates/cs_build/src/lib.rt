@@ -5,6 +5,7 @@
 #![tactic(auto)]
 
 mod building;
+mod column_words;
 mod fault;
 mod filling;
 mod heads;

@@ -1,14 +1,15 @@
 //! Rows in columns.
-ghost use Rattle.std.specs.Prelude.{◌≡◌, ℕ, ◌≤◌, ◌<◌, None, List, length, IfOk, OnOk, IsErrOf};
+ghost use Rattle.std.specs.Prelude.{◌≡◌, ℕ, ◌≤◌, ◌<◌, None, List, length, map, IfOk, OnOk, IsErrOf};
 ghost use Rattle.cs_base.specs.declared.content.limits.TheConstants.{MAX_ROWS};
+ghost use Rattle.cs_docs.specs.LinesRead.{doc_of_lent};
 ghost use Rattle.cs_docs.specs.declared.fault.RowsFault.{RowsFault};
 ghost use Rattle.cs_model.specs.Collection.{documents, docs_refusal};
 ghost use Rattle.cs_model.specs.Corpus.{rows_of};
 
 use crate::row_gathering::RowGathering;
 use crate::spots::Spots;
-use cs_base::{Doc, MAX_ROWS, Memory, Row, Seq};
-use cs_docs::RowsFault;
+use cs_base::{MAX_ROWS, Memory, Row, Seq};
+use cs_docs::{LentDoc, RowsFault};
 use cs_vocab::{Numbered, Vocab};
 use std::alloc::Global;
 use std::marker::Model;
@@ -38,19 +39,19 @@ impl Model for RowColumns {
 }
 
 impl RowColumns {
-    /// The rows of documents that `read_docs` gave, by document, position and word.
+    /// The rows of documents that `lent_docs` gave, by document, position and word.
     ///
     /// They are those of `rows_of` of `cs_docs`. `TooManyRows` comes where there are more than `MAX_ROWS` of them.
-    pub fn of_docs(alloc: Global, docs: &Seq<Doc>) -> Result<RowColumns, RowsFault>
-        requires read { (c : List ℕ) × (docs_refusal c ≡ None) × (docs.now ≡ documents c) }
+    pub fn of_docs(alloc: Global, docs: &[LentDoc<'_>]) -> Result<RowColumns, RowsFault>
+        requires read { (c : List ℕ) × (docs_refusal c ≡ None) × (map doc_of_lent docs.now ≡ documents c) }
 
-        ensures ok { IfOk result (λ rows. rows ≡ rows_of docs.now) }
-        ensures few { OnOk result (length (rows_of docs.now) ≤ MAX_ROWS) }
-        ensures too_many { IsErrOf result RowsFault.TooManyRows → MAX_ROWS < length (rows_of docs.now) }
+        ensures ok { IfOk result (λ rows. rows ≡ rows_of (map doc_of_lent docs.now)) }
+        ensures few { OnOk result (length (rows_of (map doc_of_lent docs.now)) ≤ MAX_ROWS) }
+        ensures too_many { IsErrOf result RowsFault.TooManyRows → MAX_ROWS < length (rows_of (map doc_of_lent docs.now)) }
     {
-        let rows = likely_rows(docs.as_slice());
+        let rows = likely_rows(docs);
         let mut gathering = RowGathering::with_capacity(alloc, rows, docs.len())?;
-        for doc in docs.as_slice() {
+        for doc in docs {
             gathering.add_doc(alloc, doc)?;
         }
         let RowGathering { words, docs } = gathering;
@@ -85,12 +86,12 @@ impl RowColumns {
 }
 
 // How many rows documents are likely to have, by the bytes of their titles and texts.
-fn likely_rows(docs: &[Doc]) -> usize {
+fn likely_rows(docs: &[LentDoc<'_>]) -> usize {
     let mut bytes: usize = 0;
     for doc in docs {
         bytes = bytes
-            .saturating_add(doc.title.as_str().len())
-            .saturating_add(doc.text.as_str().len());
+            .saturating_add(doc.title.len())
+            .saturating_add(doc.text.len());
     }
     (bytes / LIKELY_BYTES).min(MAX_ROWS)
 }

@@ -2,15 +2,15 @@
 ghost use Rattle.std.specs.Prelude.{◌≡◌, ◌+◌, ◌<◌, [], ◌∷◌, ◌++◌, length, IfOk, OnOk, IsErrOf};
 ghost use Rattle.cs_base.specs.declared.content.limits.TheConstants.{MAX_ROWS};
 ghost use Rattle.cs_docs.specs.FacetPieces.{CanBeListed};
+ghost use Rattle.cs_docs.specs.LinesRead.{doc_of_lent};
 ghost use Rattle.cs_docs.specs.declared.fault.RowsFault.{RowsFault};
 ghost use Rattle.cs_vocab.specs.Gathering.{gathered};
-ghost use Rattle.cs_build.specs.RowColumns.{doc_rows_of, listed_words};
-ghost use Rattle.cs_build.specs.RowGathering.{IsRowGathering};
+ghost use Rattle.cs_build.specs.RowColumns.{IsRowGathering, doc_rows_of, listed_words};
 
 use crate::column_words::{add_facets, add_words};
 use crate::spots::DocRows;
-use cs_base::{Doc, Memory};
-use cs_docs::RowsFault;
+use cs_base::Memory;
+use cs_docs::{LentDoc, RowsFault};
 use cs_vocab::Gathering;
 use std::alloc::Global;
 
@@ -41,23 +41,25 @@ impl RowGathering {
     }
 
     /// Adds the rows of a document at the end. Where memory runs out, or there come to be too many, the gathering is of no more use.
-    pub(crate) fn add_doc(&mut self, alloc: Global, doc: &Doc) -> Result<(), RowsFault>
+    pub(crate) fn add_doc(&mut self, alloc: Global, doc: &LentDoc<'_>) -> Result<(), RowsFault>
         requires is { IsRowGathering self.old.words }
-        requires listed { CanBeListed doc.now }
+        requires listed { CanBeListed (doc_of_lent doc.now) }
 
-        ensures words { OnOk result (gathered self.new.words ≡ gathered self.old.words ++ listed_words doc.now) }
-        ensures docs { OnOk result (self.new.docs.items ≡ self.old.docs.items ++ doc_rows_of doc.now ∷ []) }
+        ensures words { OnOk result (gathered self.new.words ≡ gathered self.old.words ++ listed_words (doc_of_lent doc.now)) }
+        ensures docs { OnOk result (self.new.docs.items ≡ self.old.docs.items ++ doc_rows_of (doc_of_lent doc.now) ∷ []) }
         ensures is { OnOk result (IsRowGathering self.new.words) }
-        ensures too_many { IsErrOf result RowsFault.TooManyRows → MAX_ROWS < length (gathered self.old.words) + length (listed_words doc.now) }
+        ensures too_many { IsErrOf result RowsFault.TooManyRows → MAX_ROWS < length (gathered self.old.words) + length (listed_words (doc_of_lent doc.now)) }
     {
-        let facets = add_facets(alloc, &mut self.words, doc.facets.as_str())?;
-        let titles = add_words(alloc, &mut self.words, doc.title.as_str())?;
-        let texts = add_words(alloc, &mut self.words, doc.text.as_str())?;
-        self.docs.push(DocRows {
+        let facets = add_facets(alloc, &mut self.words, doc.facets)?;
+        let titles = add_words(alloc, &mut self.words, doc.title)?;
+        let texts = add_words(alloc, &mut self.words, doc.text)?;
+        match self.docs.push(DocRows {
             facets,
             titles,
             texts,
-        })?;
-        Ok(())
+        }) {
+            Ok(()) => Ok(()),
+            Err(_) => Err(RowsFault::Memory),
+        }
     }
 }
