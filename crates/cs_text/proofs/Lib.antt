@@ -1,3 +1,4 @@
+pub mod AsciiWordsLemmas
 pub mod CutLemmas
 pub mod Digits
 pub mod KeyBytesLemmas

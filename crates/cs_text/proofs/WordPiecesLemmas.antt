@@ -1,5 +1,5 @@
 -- What one piece adds to the words.
-use Rattle.std.proofs.Common.{◌≡◌, ℕ, ◌≤◌, Bool, true, false, cond, nat_lt, min, List, [], ◌∷◌, ◌++◌, map, filter, length, take, refl, sym, ap, ◌∙◌, arith, ⊎_elim}
+use Rattle.std.proofs.Common.{◌≡◌, ℕ, ◌≤◌, Bool, true, false, cond, min, List, [], ◌∷◌, ◌++◌, map, filter, length, take, refl, sym, ap, ◌∙◌, arith, ⊎_elim}
 use Rattle.std.specs.Bool.{◌==◌}
 use Rattle.std.specs.List.{AllByRecursion}
 use Rattle.std.specs.Str.{chars}
@@ -8,9 +8,8 @@ use Rattle.std.proofs.lemmas.Bool.Decides.{nat_tests}
 use Rattle.std.proofs.lemmas.List.{map-append, take_all}
 use Rattle.std.proofs.lemmas.List.Elements.{filter-append}
 use Rattle.std.proofs.lemmas.Str.{chars-nil}
-use Rattle.cs_base.specs.declared.content.limits.TheConstants.{MAX_PLAIN_WORD_BYTES}
 use Rattle.cs_model.specs.Words.{is_filled, cut}
-use Rattle.cs_text.specs.WordPieces.{words_in, ascii_words_in}
+use Rattle.cs_text.specs.WordPieces.{words_in}
 use Rattle.cs_text.proofs.CutLemmas.{cut-some}
 
 pub some_length : (n : ℕ) → (n == 0) ≡ false → 1 ≤ n
@@ -30,9 +29,6 @@ words_in-empty bs h = ap (λ cs. words_in (cs ∷ [])) (ap chars (nil_from_test 
 
 pub words_in-some : (cs : List ℕ) → is_filled cs ≡ true → words_in (cs ∷ []) ≡ cut cs ∷ []
 words_in-some cs h = rw h
-
-pub ascii_words_in-some : (bs : List ℕ) → (length bs == 0) ≡ false → ascii_words_in (bs ∷ []) ≡ take MAX_PLAIN_WORD_BYTES bs ∷ []
-ascii_words_in-some bs h = let some : nat_lt 0 (length bs) ≡ true = grind (arith, nat_tests) in rw some
 
 pub take-min : (n : ℕ) (bs : List ℕ) → take (min (length bs) n) bs ≡ take n bs
 take-min n bs = ⊎_elim

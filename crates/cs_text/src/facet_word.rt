@@ -9,10 +9,10 @@ use std::alloc::Global;
 pub fn named_word(alloc: Global, name: &str, value: &str) -> Result<Text, Memory>
     ensures { IfOk result (λ t. t ≡ named name.now value.now) }
 {
-    let mut word = Text::new(alloc);
+    let mut word = String::with_capacity(alloc, (name.len() + value.len()).saturating_add(2))?;
     word.push(':')?;
     word.push_str(name)?;
     word.push(':')?;
     word.push_str(value)?;
-    Ok(word)
+    Ok(Text::from_string(word))
 }

@@ -4,9 +4,10 @@ ghost use Rattle.std.specs.List.{All};
 ghost use Rattle.std.specs.Str.{IsUtf8};
 ghost use Rattle.cs_model.specs.Words.{words, words_of};
 
+use crate::ascii::first_word;
 use crate::character::is_gap;
 use crate::key_text::key_of;
-use crate::piece::{push_ascii_word, push_word};
+use crate::piece::push_word;
 use cs_base::{Memory, Seq, Word};
 use std::alloc::Global;
 
@@ -46,8 +47,10 @@ fn words_of_ascii(alloc: Global, key: &[u8]) -> Result<Seq<Word>, Memory>
     ensures ok { IfOk result (λ v. v ≡ words_of (chars key.now)) }
 {
     let mut found = room_for(alloc, key.len())?;
-    for piece in key.split(|b| !b.is_ascii_alphanumeric()) {
-        push_ascii_word(alloc, &mut found, piece)?;
+    let mut left = key;
+    while let Some((word, behind)) = first_word(left) {
+        found.push(Word::new(alloc, word)?)?;
+        left = behind;
     }
     Ok(Seq::from_vec(found))
 }

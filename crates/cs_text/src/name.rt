@@ -22,7 +22,8 @@ fn begins_with_letter(name: &[u8]) -> bool
     }
 }
 
-fn has_name_bytes(name: &[u8]) -> bool
+/// Whether bytes are all letters `a` to `z` and digits.
+pub(crate) fn has_name_bytes(name: &[u8]) -> bool
     ensures { result ≡ list_all is_name_byte name.now }
 {
     name.iter().all(|b| is_name_byte(*b))

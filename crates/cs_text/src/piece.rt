@@ -1,7 +1,7 @@
 //! Pieces of a text between gaps, and what becomes of them.
 ghost use Rattle.std.specs.Prelude.{◌≡◌, ◌≤◌, ◌++◌, [], ◌∷◌, OnOk, OnErr, chars, length};
 ghost use Rattle.cs_model.specs.Words.{cut};
-ghost use Rattle.cs_text.specs.WordPieces.{words_in, ascii_words_in};
+ghost use Rattle.cs_text.specs.WordPieces.{words_in};
 
 use cs_base::{MAX_PLAIN_WORD_BYTES, Memory, Word};
 use std::alloc::Global;
@@ -26,23 +26,5 @@ pub(crate) fn push_word(alloc: Global, words: &mut Vec<Word>, piece: &str) -> Re
     }
     let word = Word::new(alloc, cut(piece).as_bytes())?;
     words.push(word)?;
-    Ok(())
-}
-
-/// Adds the word of a piece of ASCII text, if the piece has bytes.
-pub(crate) fn push_ascii_word(
-    alloc: Global,
-    words: &mut Vec<Word>,
-    piece: &[u8],
-) -> Result<(), Memory>
-    ensures ok { OnOk result (words.new.items ≡ words.old.items ++ ascii_words_in (piece.now ∷ [])) }
-    ensures err { OnErr result (words.new.items ≡ words.old.items) }
-{
-    if piece.is_empty() {
-        return Ok(());
-    }
-    let end = piece.len().min(MAX_PLAIN_WORD_BYTES);
-    let cut = Word::new(alloc, &piece[..end])?;
-    words.push(cut)?;
     Ok(())
 }

@@ -2,12 +2,13 @@
 ghost use Rattle.std.specs.Prelude.{◌≡◌, IfOk, OnOk, [], ◌∷◌, chars, string_bytes};
 ghost use Rattle.std.specs.List.{join_with_byte};
 ghost use Rattle.cs_model.specs.Words.{slug, words_of};
-ghost use Rattle.cs_text.specs.WordPieces.{words_in, joined_with};
+ghost use Rattle.cs_text.specs.WordPieces.{is_small_word, words_in, joined_with};
 
 use crate::character::is_gap;
 use crate::key_text::key_of;
+use crate::name::has_name_bytes;
 use crate::piece::cut;
-use cs_base::{Memory, Text};
+use cs_base::{MAX_PLAIN_WORD_BYTES, Memory, Text};
 use std::alloc::Global;
 
 /// The words of `value` with `_` between each two, cut to the longest prefix of whole characters of at
@@ -15,6 +16,10 @@ use std::alloc::Global;
 pub fn slug(alloc: Global, value: &str) -> Result<Option<Text>, Memory>
     ensures ok { IfOk result (λ o. o ≡ slug value.now) }
 {
+    if is_small_word(value.as_bytes()) {
+        let own = Text::from_str(alloc, value)?;
+        return Ok(Some(own));
+    }
     let key = key_of(alloc, value)?;
     let joined = joined_words(alloc, key.as_str())?;
     if joined.is_empty() {
@@ -22,6 +27,13 @@ pub fn slug(alloc: Global, value: &str) -> Result<Option<Text>, Memory>
     }
     let text = Text::from_str(alloc, cut(joined.as_str()))?;
     Ok(Some(text))
+}
+
+// Whether bytes are one word of small letters and digits, which is its own slug.
+fn is_small_word(bytes: &[u8]) -> bool
+    ensures { result ≡ is_small_word bytes.now }
+{
+    !bytes.is_empty() && bytes.len() <= MAX_PLAIN_WORD_BYTES && has_name_bytes(bytes)
 }
 
 // The words of a key text with `_` between each two.

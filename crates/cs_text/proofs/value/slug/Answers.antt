@@ -6,9 +6,15 @@ use Rattle.std.specs.Str.{chars}
 use Rattle.std.specs.String.{string_bytes, string_len}
 use Rattle.cs_model.specs.KeyText.{norm}
 use Rattle.cs_model.specs.Words.{words, words_of, is_gap, cut}
+use Rattle.cs_text.specs.WordPieces.{is_small_word}
 use Rattle.cs_text.proofs.WordPiecesLemmas.{AllSome-words_in}
-use Rattle.cs_text.proofs.SlugLemmas.{slug_of-none, slug_of-some}
+use Rattle.cs_text.proofs.SlugLemmas.{slug_of-none, slug_of-some, slug-small_word}
 use Rattle.cs_text.proofs.value.slug.Goals as goal
+
+pub returns-then-is_small_word : goal.returns-then-is_small_word
+returns-then-is_small_word c = record {
+  ok = ap Some c.in_ok-own.ensures.ok ∙ sym (slug-small_word c.args.value.now (ap is_small_word (sym c.as_bytes.ensures.value) ∙ sym c.if-is_small_word.ensures));
+}
 
 pub returns-then-is_empty : goal.returns-then-is_empty
 unfolding words
