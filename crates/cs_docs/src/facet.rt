@@ -1,15 +1,16 @@
 //! The facet words of a column.
-ghost use Rattle.std.specs.Prelude.{◌≡◌, ◌≤◌, ◌∷◌, ◌++◌, [], IfOk, OnOk, length, filter};
+ghost use Rattle.std.specs.Prelude.{◌≡◌, ◌≤◌, ◌∷◌, ◌++◌, [], IfOk, OnOk, length, filter, true};
 ghost use Rattle.std.specs.List.{All, filter_map};
 ghost use Rattle.std.specs.Str.{IsUtf8};
-ghost use Rattle.cs_model.specs.Collection.{facet_pieces, facet_words, facet_word, named};
+ghost use Rattle.cs_model.specs.Collection.{facet_pieces, facet_words, facet_word, has_name_form, named};
+ghost use Rattle.cs_model.specs.KeyText.{norm};
 ghost use Rattle.cs_model.specs.Words.{is_filled};
 ghost use Rattle.cs_docs.specs.FacetPieces.{AreNamed};
 ghost use Rattle.cs_docs.specs.Listing.{listed_facets};
 
 use crate::pieces::{cut_at_equals, cut_piece};
 use cs_base::{MAX_NAME_BYTES, MAX_PLAIN_WORD_BYTES, Memory, Word};
-use cs_text::{named_word, norm, slug};
+use cs_text::{has_name_form, named_word, norm, slug};
 use std::alloc::Global;
 
 /// The facet words of a column whose pieces are named, each once, by bytes.
@@ -58,10 +59,24 @@ fn push_facet(alloc: Global, found: &mut Vec<Word>, piece: &str) -> Result<(), M
     let Some(slug) = slug(alloc, value)? else {
         return Ok(());
     };
-    let name = norm(alloc, name)?;
-    let word = word_of(alloc, name.as_str(), slug.as_str())?;
+    let word = keyed_word(alloc, name, slug.as_str())?;
     found.push(word)?;
     Ok(())
+}
+
+// The word `:key:slug`, where the key is the key text of the name.
+fn keyed_word(alloc: Global, name: &str, slug: &str) -> Result<Word, Memory>
+    requires name { has_name_form (norm name.now) ≡ true }
+    requires slug { length slug.now ≤ MAX_PLAIN_WORD_BYTES }
+
+    ensures ok { IfOk result (λ w. w ≡ named (norm name.now) slug.now) }
+    ensures utf8 { IfOk result IsUtf8 }
+{
+    if has_name_form(name.as_bytes()) {
+        return word_of(alloc, name, slug);
+    }
+    let key = norm(alloc, name)?;
+    word_of(alloc, key.as_str(), slug)
 }
 
 // The word `:name:slug`.
@@ -70,6 +85,7 @@ fn word_of(alloc: Global, name: &str, slug: &str) -> Result<Word, Memory>
     requires slug { length slug.now ≤ MAX_PLAIN_WORD_BYTES }
 
     ensures ok { IfOk result (λ w. w ≡ named name.now slug.now) }
+    ensures utf8 { IfOk result IsUtf8 }
 {
     let text = named_word(alloc, name, slug)?;
     let word = Word::new(alloc, text.as_str().as_bytes())?;

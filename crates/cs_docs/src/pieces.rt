@@ -1,13 +1,15 @@
 //! The pieces of a facets column.
-ghost use Rattle.std.specs.Prelude.{◌≡◌, ◌∷◌, [], ◌<◌, None, OnOk, IfErr, MatchOption, true, false, length, drop, map, filter};
+ghost use Rattle.std.specs.Prelude.{◌≡◌, ◌∷◌, [], ◌<◌, None, IfOk, OnOk, IfErr, MatchOption, true, false, length, drop, map, filter};
 ghost use Rattle.std.specs.List.{prefix_len, before_first, after_first, list_any};
-ghost use Rattle.cs_model.specs.Collection.{piece_refusal, facet_pieces, is_space, is_equals, piece_value, without_spaces_behind};
+ghost use Rattle.cs_model.specs.Collection.{piece_refusal, facet_pieces, is_space, is_equals, piece_value, has_name_form, without_spaces_behind};
+ghost use Rattle.cs_model.specs.KeyText.{norm};
 ghost use Rattle.cs_model.specs.Words.{is_filled};
 ghost use Rattle.cs_model.specs.First.{first_reason};
 ghost use Rattle.cs_docs.specs.FacetPieces.{is_semicolon, one_piece};
 ghost use Rattle.cs_docs.specs.FaultRefusals.{IsCauseOf};
 
 use crate::fault::DocFault;
+use cs_base::Memory;
 use cs_text::{has_name_form, norm};
 use std::alloc::Global;
 
@@ -36,11 +38,21 @@ fn check_piece(alloc: Global, piece: &str, line: u32) -> Result<(), DocFault>
     let Some((name, _)) = cut_at_equals(piece) else {
         return Err(DocFault::BadFacet { line });
     };
-    let name = norm(alloc, name)?;
-    if !has_name_form(name.as_str().as_bytes()) {
+    if !is_name(alloc, name)? {
         return Err(DocFault::BadName { line });
     }
     Ok(())
+}
+
+// Whether the key text of a name has a name's form.
+fn is_name(alloc: Global, name: &str) -> Result<bool, Memory>
+    ensures ok { IfOk result (λ b. b ≡ has_name_form (norm name.now)) }
+{
+    if has_name_form(name.as_bytes()) {
+        return Ok(true);
+    }
+    let key = norm(alloc, name)?;
+    Ok(has_name_form(key.as_str().as_bytes()))
 }
 
 /// What stands before the first semicolon, without spaces at both ends, and what stands behind it.
