@@ -14,7 +14,7 @@ use Rattle.std.specs.Prelude.{filter, nat_lt, nat_le}
 use Rattle.std.specs.List.{AllByRecursion}
 use Rattle.std.proofs.lemmas.Bool.{cases_lt}
 use Rattle.std.proofs.lemmas.Bool.Decides.{nat_tests}
-use Rattle.std.proofs.lemmas.List.{get_or_default, length-replicate, take_all}
+use Rattle.std.proofs.lemmas.List.{length-replicate, take_all}
 use Rattle.std.proofs.lemmas.List.Elements.{filter-append}
 use Rattle.cs_base.specs.declared.content.doc.Post.{Post}
 use Rattle.cs_cols.specs.declared.cols.Cols.{Cols}
@@ -189,10 +189,8 @@ all_posts posts (run ∷ runs) [] f = absurd f
 all_posts posts (run ∷ runs) (b ∷ blocks) f = ap (λ x. x ∷ map (λ b. b.posts) blocks) f.0 ∙ ap (λ l. filter (is_within run) posts ∷ l) (all_posts posts runs blocks f.2)
 
 -- the place of a word that is read
-pub place_at : (runs : List Run) (words n : ℕ) (places : List ℕ) (k : ℕ) → AreSpans 0 runs words → n < words → places ≡ run_places_from 0 runs → k ≡ get_or places n k → IsPlaced runs n k
-place_at runs words n places k s l e is =
-    let many : n < length places = omega (arith, ap length e, places_many 0 0 words runs s, l) in
-    placed runs words n k s l (is ∙ get_or_default places n k 0 many ∙ ap (λ xs. get_or xs n 0) e)
+place_at : (runs : List Run) (words n : ℕ) (places : List ℕ) → AreSpans 0 runs words → n < words → places ≡ run_places_from 0 runs → IsPlaced runs n (get_or places n 0)
+place_at runs words n places s l e = placed runs words n (get_or places n 0) s l (ap (λ xs. get_or xs n 0) e)
 
 -- ---- blocks that take posts
 all-front : (n : ℕ) (ps qs : List Post) → AllByRecursion (λ p. p.word < n) (ps ++ qs) → AllByRecursion (λ p. p.word < n) ps
@@ -203,18 +201,24 @@ all-behind : (n : ℕ) (ps qs : List Post) → AllByRecursion (λ p. p.word < n)
 all-behind n [] qs h = h
 all-behind n (p ∷ ps) qs h = all-behind n ps qs h.1
 
--- the first of posts can be taken, and behind it the others
-module _ (places : List ℕ) (blocks : List Cols) (p : Post) (rest : List Post) (can : CanTake places blocks (p ∷ rest)) (k : ℕ) (at : k ≡ get_or places p.word k) where
-  place : IsPlaced can.runs p.word k
-  place = place_at can.runs can.words p.word places k can.spans can.below.0 can.placed at
+-- the first of posts is taken, and then the others
+module _ (places : List ℕ) (blocks : List Cols) (p : Post) (rest posts : List Post) (e : posts ≡ p ∷ rest) (first : CanTake places blocks posts) where
+  can : CanTake places blocks (p ∷ rest)
+  can = subst (CanTake places blocks) e first
 
-  pub place_inside : k < length blocks
+  place : IsPlaced can.runs p.word (get_or places p.word 0)
+  place = place_at can.runs can.words p.word places can.spans can.below.0 can.placed
+
+  pub word_known : p.word < length places
+  word_known = omega (arith, can.below.0, ap length can.placed, places_many 0 0 can.words can.runs can.spans)
+
+  pub place_inside : get_or places p.word 0 < length blocks
   place_inside = omega (arith, place.inside, filled_many can.before can.runs blocks can.filled)
 
-  pub place_roomy : (d : Cols) → 1 ≤ (get_or blocks k d).room
-  place_roomy d = roomy p can.before (rest ++ can.behind) (can.before ++ (p ∷ rest ++ can.behind)) can.runs blocks k d refl place.only can.counted can.filled
+  pub place_roomy : (d : Cols) → 1 ≤ (get_or blocks (get_or places p.word 0) d).room
+  place_roomy d = roomy p can.before (rest ++ can.behind) (can.before ++ (p ∷ rest ++ can.behind)) can.runs blocks (get_or places p.word 0) d refl place.only can.counted can.filled
 
-  pub can_next : (new : List Cols) → IsPushed blocks k p new → CanTake places new rest
+  pub can_next : (new : List Cols) → IsPushed blocks (get_or places p.word 0) p new → CanTake places new rest
   can_next new x = record {
     runs = can.runs;
     words = can.words;
@@ -223,18 +227,15 @@ module _ (places : List ℕ) (blocks : List Cols) (p : Post) (rest : List Post) 
     below = can.below.1;
     before = can.before ++ p ∷ [];
     behind = can.behind;
-    filled = subst (AreFilled (can.before ++ p ∷ []) can.runs) (sym x.set) (one_post p can.before can.runs blocks k x.block x.block place.only can.filled x.posts x.room);
+    filled = subst (AreFilled (can.before ++ p ∷ []) can.runs) (sym x.set) (one_post p can.before can.runs blocks (get_or places p.word 0) x.block x.block place.only can.filled x.posts x.room);
     counted = subst (λ ps. AllByRecursion (CountsRows ps) can.runs) (sym (append_assoc can.before (p ∷ []) (rest ++ can.behind))) can.counted;
   }
 
-pub word_known : (places : List ℕ) (blocks : List Cols) (p : Post) (rest : List Post) → CanTake places blocks (p ∷ rest) → p.word < length places
-word_known places blocks p rest can = omega (arith, can.below.0, ap length can.placed, places_many 0 0 can.words can.runs can.spans)
-
-pub taken_next : (places : List ℕ) (blocks new end : List Cols) (p : Post) (rest : List Post) (k : ℕ) → k ≡ get_or places p.word k → IsPushed blocks k p new → AreTaken places rest new end → AreTaken places (p ∷ rest) blocks end
-taken_next places blocks new end p rest k at x more = λ runs words before spans placed below filled.
-    let place = place_at runs words p.word places k spans below.0 placed at in
-    let one : AreFilled (before ++ p ∷ []) runs new = subst (AreFilled (before ++ p ∷ []) runs) (sym x.set) (one_post p before runs blocks k x.block x.block place.only filled x.posts x.room) in
-    subst (λ ps. AreFilled ps runs end) (append_assoc before (p ∷ []) rest) (more runs words (before ++ p ∷ []) spans placed below.1 one)
+  pub taken_next : (new end : List Cols) → IsPushed blocks (get_or places p.word 0) p new → AreTaken places rest new end → AreTaken places posts blocks end
+  taken_next new end x more = subst (λ ps. AreTaken places ps blocks end) (sym e) (λ runs words before spans placed below filled.
+      let place = place_at runs words p.word places spans below.0 placed in
+      let one : AreFilled (before ++ p ∷ []) runs new = subst (AreFilled (before ++ p ∷ []) runs) (sym x.set) (one_post p before runs blocks (get_or places p.word 0) x.block x.block place.only filled x.posts x.room) in
+      subst (λ ps. AreFilled ps runs end) (append_assoc before (p ∷ []) rest) (more runs words (before ++ p ∷ []) spans placed below.1 one))
 
 pub none_taken : (places : List ℕ) (blocks : List Cols) → AreTaken places [] blocks blocks
 none_taken places blocks = λ runs words before spans placed below filled. subst (λ ps. AreFilled ps runs blocks) (sym (append-nil before)) filled

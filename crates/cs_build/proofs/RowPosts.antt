@@ -146,8 +146,7 @@ module _ (ws : List (List ℕ)) where
       let fs = listed_facets doc.facets in
       let ts = words doc.title in
       let xs = words doc.text in
-      let p = parted doc ns (flat_map listed_words docs) e in
-      (
+      let p = parted doc ns (flat_map listed_words docs) e in (
         omega (arith, length-map ns (word_at ws), ap length e, length-append (listed_words doc) (flat_map listed_words docs), length-append (fs ++ ts) xs, length-append fs ts),
         h.0.few,
         counted_docs docs (behind_doc (doc_rows_of doc) ns) h.1 p.last,

@@ -111,7 +111,7 @@ fn fill_doc<'a>(
 }
 
 fn fill_facets(blocks: &mut [Cols], places: &[u32], numbers: &[u32], doc: u32)
-    requires room { CanTake places.now blocks.old (facet_posts doc numbers.now) }
+    requires { CanTake places.now blocks.old (facet_posts doc numbers.now) }
 
     ensures { AreTaken places.now (facet_posts doc numbers.now) blocks.old blocks.new }
 {
