@@ -4,10 +4,12 @@
 --   rows_again        rows by the numbers of their words
 --   rows_of_numbers   the rows at the spots of documents are those of the documents
 --   counted_docs      the rows of each document are counted
-use Rattle.std.proofs.Common.{◌≡◌, ℕ, zero, suc, ◌+◌, ◌≤◌, List, [], ◌∷◌, ◌++◌, length, map, take, drop, get_or, refl, sym, ap, subst, ◌∙◌, arith, append_assoc, append-nil, length-append, length-drop}
+--   listed_many       documents have as many rows as words that are listed
+--   words_more, counts_more, few_more      the words and the counts of one document more
+use Rattle.std.proofs.Common.{◌≡◌, ℕ, zero, suc, ◌+◌, ◌≤◌, ◌<◌, List, [], ◌∷◌, ◌++◌, length, map, take, drop, get_or, refl, sym, ap, subst, ◌∙◌, arith, append_assoc, append-nil, length-append, length-drop}
 use Rattle.std.specs.Prelude.{flat_map}
 use Rattle.std.specs.List.{AllByRecursion, enumerate_from}
-use Rattle.std.proofs.lemmas.List.{drop_at, length-map, map-append, take-append-drop, take-map, take_at}
+use Rattle.std.proofs.lemmas.List.{drop_at, flat_map_more, get_or-map, length-map, map-append, take-append-drop, take-map, take_at, take_more}
 use Rattle.std.proofs.lemmas.List.FromFn.{length-enumerate_from}
 use Rattle.cs_base.specs.declared.content.doc.Doc.{Doc}
 use Rattle.cs_base.specs.declared.content.doc.Post.{Post}
@@ -15,6 +17,8 @@ use Rattle.cs_base.specs.declared.content.doc.Row.{Row}
 use Rattle.cs_base.specs.declared.content.limits.TheConstants.{MAX_DOCS, MAX_DOC_WORDS}
 use Rattle.cs_base.specs.declared.content.scores.TheConstants.{BEHIND_TITLE, FACET_SCORE, TEXT_SCORE, TITLE_SCORE}
 use Rattle.cs_docs.specs.FacetPieces.{CanBeListed}
+use Rattle.cs_docs.specs.LinesRead.{doc_of_lent}
+use Rattle.cs_docs.specs.declared.document.LentDoc.{LentDoc}
 use Rattle.cs_docs.specs.Listing.{listed_doc, listed_facets, listed_rows}
 use Rattle.cs_model.specs.Corpus.{placed}
 use Rattle.cs_model.specs.Words.{words}
@@ -174,3 +178,30 @@ listed_many d (doc ∷ docs) =
       length-append (fs ++ ts) xs,
       length-append fs ts,
     )
+
+-- ---- documents one by one
+part_many : (n : ℕ) (docs : List Doc) → length (flat_map listed_words (take n docs)) ≤ length (flat_map listed_words docs)
+part_many zero docs = omega arith
+part_many (suc n) [] = omega arith
+part_many (suc n) (doc ∷ docs) = omega (arith, part_many n docs, length-append (listed_words doc) (flat_map listed_words (take n docs)), length-append (listed_words doc) (flat_map listed_words docs))
+
+module _ (docs : List LentDoc) (i : ℕ) (d : LentDoc) (l : i < length docs) where
+  next : take (i + 1) (map doc_of_lent docs) ≡ take i (map doc_of_lent docs) ++ doc_of_lent (get_or docs i d) ∷ []
+  next =
+      take_more (map doc_of_lent docs) i (doc_of_lent d) (omega (arith, l, length-map docs doc_of_lent))
+      ∙ ap (λ x. take i (map doc_of_lent docs) ++ x ∷ []) (get_or-map doc_of_lent docs i d (doc_of_lent d) l)
+
+  pub words_more : flat_map listed_words (take (i + 1) (map doc_of_lent docs)) ≡ flat_map listed_words (take i (map doc_of_lent docs)) ++ listed_words (doc_of_lent (get_or docs i d))
+  words_more = ap (flat_map listed_words) next ∙ sym (flat_map_more listed_words [] (take i (map doc_of_lent docs)) (doc_of_lent (get_or docs i d)))
+
+  pub counts_more : map doc_rows_of (take (i + 1) (map doc_of_lent docs)) ≡ map doc_rows_of (take i (map doc_of_lent docs)) ++ doc_rows_of (doc_of_lent (get_or docs i d)) ∷ []
+  counts_more = ap (map doc_rows_of) next ∙ map-append doc_rows_of (take i (map doc_of_lent docs)) (doc_of_lent (get_or docs i d) ∷ [])
+
+  pub few_more : length (flat_map listed_words (take i (map doc_of_lent docs))) + length (listed_words (doc_of_lent (get_or docs i d))) ≤ length (flat_map listed_words (map doc_of_lent docs))
+  few_more =
+      omega (
+        arith,
+        part_many (i + 1) (map doc_of_lent docs),
+        ap length words_more,
+        length-append (flat_map listed_words (take i (map doc_of_lent docs))) (listed_words (doc_of_lent (get_or docs i d))),
+      )

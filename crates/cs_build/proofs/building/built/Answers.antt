@@ -31,5 +31,49 @@ parted c =
     let ws = c.rows.inside.words in
     c.in_ok-runs.ensures (rows c) (subst (λ ns. AreNumbers ws ns (map (λ r. r.word) (rows c))) (sym c.as_slice.ensures) (numbers_are ws c.rows.inside.numbers c.rows.inside.spots c.rows.invariant))
 
-filled : (c : In_ok-blocks) → map (λ (b : Cols). b.posts) c.in_ok-blocks.blocks.items ≡ map (λ run. filter (is_within run) (posts c.In_ok-runs)) c.in_ok-runs.runs.items
-filled c = ?
+filled : (c : In_ok-blocks) → map (λ (b : Cols). b.posts) c.in_ok-blocks.blocks.items ≡ map (λ run. filter (is_within run) (posts_in c.rows.inside.spots c.rows.inside.numbers)) c.in_ok-runs.runs.items
+filled c = rw (c.deref.ensures.value, c.as_slice-2.ensures) at c.in_ok-blocks.ensures
+
+pub runs_of-requires-clause-few : goal.runs_of-requires-clause-few
+runs_of-requires-clause-few c = omega (arith, ap length c.as_slice.ensures, columns_many c.rows.inside.words c.rows.inside.numbers c.rows.inside.spots c.rows.invariant, ap length c.rows.view_is, c.requires.few)
+
+pub blocks_of-requires-clause-spans : goal.blocks_of-requires-clause-spans
+blocks_of-requires-clause-spans c =
+    let r = (goal.at.blocks_of-requires-clause-spans c).In_ok-runs in
+    subst (λ rs. AreSpans 0 rs c.len-2.result) (sym c.deref.ensures.value) (spans_kept c.rows.inside.words (rows r) (posts r) c.args.target c.in_ok-runs.runs.items c.rows.invariant.words (same_posts r) (parted r) c.len-2.result c.len-2.ensures.value)
+
+pub blocks_of-requires-clause-few : goal.blocks_of-requires-clause-few
+blocks_of-requires-clause-few c =
+    let r = (goal.at.blocks_of-requires-clause-few c).In_ok-runs in
+    omega (arith, few_kept c.rows.inside.words (rows r) (posts r) c.args.target c.in_ok-runs.runs.items c.rows.invariant.words (same_posts r) (parted r), ap length c.deref.ensures.value, c.len-2.ensures.value)
+
+pub blocks_of-requires-clause-counted : goal.blocks_of-requires-clause-counted
+blocks_of-requires-clause-counted c =
+    let r = (goal.at.blocks_of-requires-clause-counted c).In_ok-runs in
+    rw (c.deref.ensures.value, c.as_slice-2.ensures) (counted_kept c.rows.inside.words (rows r) (posts r) c.args.target c.in_ok-runs.runs.items c.rows.invariant.words (same_posts r) (parted r))
+
+pub heads_of-requires-clause-each : goal.heads_of-requires-clause-each
+heads_of-requires-clause-each c =
+    let r = (goal.at.heads_of-requires-clause-each c).In_ok-runs in
+    let b = filled (goal.at.heads_of-requires-clause-each c).In_ok-blocks in
+    ap length c.deref-2.ensures.value ∙ as_many c.rows.inside.words (rows r) (posts r) c.args.target c.in_ok-runs.runs.items c.rows.invariant.words (same_posts r) (parted r) c.in_ok-blocks.blocks.items b ∙ sym (ap length c.deref-3.ensures.value)
+
+pub heads_of-requires-clause-inside : goal.heads_of-requires-clause-inside
+heads_of-requires-clause-inside c =
+    let r = (goal.at.heads_of-requires-clause-inside c).In_ok-runs in
+    subst (AllByRecursion (λ run. run.lo < length c.rows.inside.words)) (sym c.deref-2.ensures.value) (inside_kept c.rows.inside.words (rows r) (posts r) c.args.target c.in_ok-runs.runs.items c.rows.invariant.words (same_posts r) (parted r))
+
+pub heads_of-requires-clause-few : goal.heads_of-requires-clause-few
+heads_of-requires-clause-few c =
+    let r = (goal.at.heads_of-requires-clause-few c).In_ok-runs in
+    let b = filled (goal.at.heads_of-requires-clause-few c).In_ok-blocks in
+    let few : length (rows r) ≤ MAX_ROWS = omega (arith, ap length c.rows.view_is, c.requires.few) in
+    subst (AllByRecursion (λ b. length b.posts ≤ MAX_ROWS)) (sym c.deref-3.ensures.value) (rows_kept c.rows.inside.words (rows r) (posts r) c.args.target c.in_ok-runs.runs.items c.rows.invariant.words (same_posts r) (parted r) c.in_ok-blocks.blocks.items b MAX_ROWS few)
+
+pub returns-clause-ok : goal.returns-clause-ok
+returns-clause-ok c =
+    let r = (goal.at.returns-clause-ok c).In_ok-runs in
+    let b = filled (goal.at.returns-clause-ok c).In_ok-blocks in
+    let h : c.in_ok-heads.heads.items ≡ map (run_head c.rows.inside.words) (zip c.in_ok-runs.runs.items (map (λ (b : Cols). b.posts) c.in_ok-blocks.blocks.items)) =
+    rw (c.deref-2.ensures.value, c.deref-3.ensures.value) at c.in_ok-heads.ensures in
+    rw (← c.rows.view_is, c.from_vec.ensures, c.from_vec-2.ensures) (image_made c.rows.inside.words (rows r) (posts r) c.args.target c.in_ok-runs.runs.items c.rows.invariant.words (same_posts r) (parted r) c.in_ok-blocks.blocks.items b c.in_ok-heads.heads.items c.args.titles h)
