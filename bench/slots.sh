@@ -18,6 +18,7 @@ cat >drawn.cpp <<'CPP'
 #include <algorithm>
 #include <cstdint>
 #include <cstdio>
+#include <cstring>
 #include <random>
 #include <set>
 #include <string>
@@ -26,31 +27,31 @@ using std::string;
 using std::vector;
 using u32 = uint32_t;
 using u64 = uint64_t;
-const u32 prime = 0x01000193, words_n = 591029, slot = 0x12345;
+const u64 golden = 0x9e3779b97f4a7c15;
+const u32 words_n = 591029, slot = 0x12345;
 const char *begun = "chosen";
-static u32 inverse() { u32 i = 1; for (u32 k = 0; k < 5; k++) i *= 2 - prime * i; return i; }
-static string letters(u32 n, int count) { string s; for (int k = 0; k < count; k++) { s += 'a' + n % 26; n /= 26; } return s; }
-static u32 hash(const string &s, u32 h = 0x811c9dc5) { for (unsigned char c : s) h = (h ^ c) * prime; return h; }
+static u64 eight_at(const string &w, size_t at) { u64 n; memcpy(&n, w.data() + at, 8); return n; }
+static u64 turned(u64 n) { return n << 4 | n >> 60; }
+// the number that `cs_vocab` has for a word of 16 bytes
+static u32 hash(const string &w) { return ((eight_at(w, 0) ^ turned(eight_at(w, 8)) ^ (u64)16 << 24) * golden) >> 32; }
 
-// words of 16 letters whose hash has these upper 20 bits: from the front five letters of any kind, from the back five
-// that lead to a state that the front can reach
+// words of 16 letters whose hash has these upper 20 bits: of one that has them come 2^16 in all, as bit 4 of a letter
+// and bit 0 of the one that is mixed with it may be turned together. Letters are b to i and r to y, and stay so
 static vector<string> chosen() {
-    const u32 count = 26 * 26 * 26 * 26 * 26, back = inverse();
-    const u32 first = hash(begun);
-    vector<std::pair<u32, u32>> front(count);
-    vector<bool> there(1u << 27);
-    for (u32 n = 0; n < count; n++) { front[n] = {hash(letters(n, 5), first), n}; there[front[n].first >> 5] = true; }
-    std::sort(front.begin(), front.end());
     std::mt19937 any(7);
     std::set<string> found;
     while (found.size() < words_n) {
-        const u32 end = any() % count;
-        const string tail = letters(end, 5);
-        u32 state = slot << 12 | any() % 4096;
-        for (int k = 4; k >= 0; k--) state = (state * back) ^ (unsigned char)tail[k];
-        if (!there[state >> 5]) continue;
-        auto at = std::lower_bound(front.begin(), front.end(), std::make_pair(state, 0u));
-        if (at != front.end() && at->first == state) found.insert(begun + letters(at->second, 5) + tail);
+        string w;
+        for (int k = 0; k < 16; k++) w += (any() % 2 ? 'r' : 'b') + any() % 8;
+        if (hash(w) >> 12 != slot) continue;
+        for (u32 turns = 0; turns < 1u << 16 && found.size() < words_n; turns++) {
+            string v = w;
+            for (int k = 0; k < 8; k++) {
+                if (turns >> k & 1) { v[k] ^= 16; v[8 + k] ^= 1; }
+                if (turns >> (8 + k) & 1) { v[8 + k] ^= 16; v[(k + 1) % 8] ^= 1; }
+            }
+            found.insert(v);
+        }
     }
     return vector<string>(found.begin(), found.end());
 }

@@ -4,7 +4,7 @@
 --   listed_behind    words that have the same listing, with one more behind them
 --   indices_are      each word that came has its index
 --   none_gathered    before any came; gathered_one, gathering_one: behind one more
-use Rattle.std.proofs.Common.{◌≡◌, ℕ, ◌+◌, ◌≤◌, Bool, true, false, true≢false, ◌||◌, List, [], ◌∷◌, ◌++◌, length, map, refl, sym, ap, subst, ◌∙◌, arith, append-nil, length-append}
+use Rattle.std.proofs.Common.{◌≡◌, ℕ, Bool, true, false, true≢false, ◌||◌, List, [], ◌∷◌, ◌++◌, length, map, refl, sym, ap, subst, ◌∙◌, arith, append-nil, length-append}
 use Rattle.std.specs.List.{All, list_any}
 use Rattle.std.specs.Ordering.{nat_cmp, eq_by_cmp}
 use Rattle.std.specs.Cmp.Lexicographic.{slice_cmp}
@@ -16,9 +16,8 @@ use Rattle.std.proofs.lemmas.Map.Lookups.{exact_bytes}
 use Rattle.cs_base.specs.content.Members.{members_in}
 use Rattle.cs_base.proofs.MembersLemmas.{is_member-listed, members-alike}
 use Rattle.cs_vocab.specs.Ranges.{IsBelow, IsWordAt, AreNumbers}
-use Rattle.cs_vocab.specs.Gathering.{HasTaken, IsGathering, gathered}
+use Rattle.cs_vocab.specs.Gathering.{AreSlots, HasTaken, IsGathering, gathered}
 use Rattle.cs_vocab.specs.declared.gathering.Gathering.{Gathering}
-use Rattle.cs_vocab.specs.declared.gathering.TheConstants.{MAX_SLOTS}
 use Rattle.cs_vocab.proofs.WordNumberLemmas.{numbers_kept, word_at}
 
 abbrev listed : List (List ℕ) → List (List ℕ)
@@ -54,13 +53,12 @@ listed_behind ws all w same = members-alike (slice_cmp nat_cmp) nat_list_cmp_tot
 pub indices_are : (g : Gathering) → IsGathering g → AreNumbers g.words.items g.indices.items (gathered g)
 indices_are g h = record { told = refl; below = h.below }
 
-pub none_gathered : (g : Gathering) → g.words.items ≡ [] → g.indices.items ≡ [] → 1 ≤ length g.slots.items → length g.slots.items ≤ MAX_SLOTS → IsGathering g
-none_gathered g ws ns some few = record {
+pub none_gathered : (g : Gathering) → g.words.items ≡ [] → g.indices.items ≡ [] → AreSlots g.slots.items → IsGathering g
+none_gathered g ws ns slots = record {
   members = ap listed ws ∙ sym (ap (λ xs. listed (map (word_at g.words.items) xs)) ns);
   below = subst (All (IsBelow (length g.words.items))) (sym ns) (All-from_recursion (IsBelow (length g.words.items)) [] tt);
   few = omega (arith, ap length ws);
-  some = some;
-  few_slots = few;
+  slots = slots;
 }
 
 module _ (g h : Gathering) (n : ℕ) (w : List ℕ) (is : IsGathering g) (taken : HasTaken g.words.items h.words.items w) (at : IsWordAt h.words.items n w) (more : h.indices.items ≡ g.indices.items ++ n ∷ []) where
@@ -71,14 +69,13 @@ module _ (g h : Gathering) (n : ℕ) (w : List ℕ) (is : IsGathering g) (taken 
       ∙ ap (λ r. r ++ word_at h.words.items n ∷ []) (numbers_kept g.words.items h.words.items g.indices.items (gathered g) taken.kept taken.longer (indices_are g is)).told
       ∙ ap (λ v. gathered g ++ v ∷ []) at.1
 
-  pub gathering_one : 1 ≤ length h.slots.items → length h.slots.items ≤ MAX_SLOTS → IsGathering h
-  gathering_one some few = record {
+  pub gathering_one : AreSlots h.slots.items → IsGathering h
+  gathering_one slots = record {
     members = taken_all;
     below = subst (All (IsBelow (length h.words.items))) (sym more)
         (All-append (IsBelow (length h.words.items)) g.indices.items (n ∷ []) (numbers_kept g.words.items h.words.items g.indices.items (gathered g) taken.kept taken.longer (indices_are g is)).below (All-from_recursion (IsBelow (length h.words.items)) (n ∷ []) (at.0, tt)));
     few = omega (arith, is.few, taken.few, ap length more, length-append g.indices.items (n ∷ []));
-    some = some;
-    few_slots = few;
+    slots = slots;
   }
     where
       taken_all : listed h.words.items ≡ listed (gathered h)

@@ -1,32 +1,48 @@
 //! Words as they come, before they are sorted, most of them kept once.
-ghost use Rattle.std.specs.Prelude.{◌≡◌, ◌≤◌, ◌<◌, ◌^◌, [], ◌∷◌, ◌++◌, true, IfOk, OnOk, length, map};
+ghost use Rattle.std.specs.Prelude.{◌≡◌, ◌≤◌, ◌<◌, ◌^◌, [], ◌∷◌, ◌++◌, IfOk, IfErr, OnOk, length, map};
 ghost use Rattle.cs_base.specs.declared.content.limits.TheConstants.{MAX_ROWS, MAX_WORD_BYTES};
 ghost use Rattle.cs_vocab.specs.Ranges.{IsWordAt};
-ghost use Rattle.cs_vocab.specs.Gathering.{HasTaken, IsGathering, gathered};
+ghost use Rattle.cs_vocab.specs.Gathering.{AreSlots, HasTaken, IsGathering, gathered};
 
+use crate::hash::hash_of;
 use cs_base::{Memory, Row, Word};
 use std::alloc::Global;
+
+// The slots that a gathering begins with.
+const FIRST_SLOTS: usize = 1 << 12;
 
 // The most slots that a gathering has.
 const MAX_SLOTS: usize = 1 << 20;
 
+// Where there are fewer than so many slots for each word kept, they become so many times as many.
+const GROWTH: usize = 4;
+
+// The most slots that are looked at for a word.
+const PROBES: usize = 8;
+
+// What stands in a slot that is free: the index of no word.
+const NO_WORD: u32 = u32::MAX;
+
 /// Words one after the other, most of them kept once.
 ///
-/// The bytes of a word choose a slot, where the index of the last word that chose it stands. So a word is kept
-/// once more only where another one chose its slot in between: words that were chosen to share a slot make
-/// the gathering longer, up to one for each that came, and change nothing else.
+/// The bytes of a word choose a slot, and the word is looked for there and in a few slots behind. A slot that is taken
+/// has the index of a word that is kept: the first that names the same word gives the index, the first that is free
+/// takes the word, and where all have other words, the chosen one goes over to this word. So a word is kept once more
+/// only where others stand in all of its slots. Words that were chosen to share slots make the gathering longer, up
+/// to one for each that came, with no more looks for each, and change nothing else. Contracts say that an index that
+/// is found names the same word; of slots, and of how bytes choose them, they say no more than bounds.
 #[derive(Debug, Drop)]
 pub struct Gathering {
     /// Every word that came, some of them more than once.
     pub(crate) words: Vec<Word>,
     /// Word by word, in the order in which they came, its index among them.
     pub(crate) indices: Vec<u32>,
-    /// The index of the last word that chose a slot.
+    /// Slot by slot, the index of a word that is kept, or `NO_WORD`. They grow with the words, up to `MAX_SLOTS`.
     pub(crate) slots: Vec<u32>,
 }
 
 impl Gathering {
-    /// No words, with room for so many.
+    /// No words, with room for the indices of so many.
     pub fn with_capacity(alloc: Global, words: usize) -> Result<Gathering, Memory>
         ensures none { IfOk result (λ g. gathered g ≡ []) }
         ensures is { IfOk result IsGathering }
@@ -34,7 +50,7 @@ impl Gathering {
         Ok(Gathering {
             words: Vec::new(alloc),
             indices: Vec::with_capacity(alloc, words)?,
-            slots: vec![in alloc; 0; words.clamp(1, MAX_SLOTS)]?,
+            slots: vec![in alloc; NO_WORD; FIRST_SLOTS]?,
         })
     }
 
@@ -55,9 +71,7 @@ impl Gathering {
         ensures word { OnOk result (gathered self.new ≡ gathered self.old ++ word.now ∷ []) }
         ensures is { OnOk result (IsGathering self.new) }
     {
-        let slot = slot_of(word, self.slots.len());
-        let index = index_of(alloc, &mut self.words, self.slots[slot], word)?;
-        self.slots[slot] = index;
+        let index = index_of(alloc, &mut self.words, &mut self.slots, word)?;
         self.indices.push(index)?;
         Ok(())
     }
@@ -78,48 +92,111 @@ pub(crate) fn gather(alloc: Global, rows: &[Row]) -> Result<Gathering, Memory>
 }
 
 // The index of a word: the one kept for it, else behind all others, where the word is added.
-fn index_of(alloc: Global, words: &mut Vec<Word>, kept: u32, word: &[u8]) -> Result<u32, Memory>
+fn index_of(
+    alloc: Global,
+    words: &mut Vec<Word>,
+    slots: &mut Vec<u32>,
+    word: &[u8],
+) -> Result<u32, Memory>
     requires few { length words.old.items < 2 ^ 32 }
+    requires slots { AreSlots slots.old.items }
     requires some { 1 ≤ length word.now }
     requires few_bytes { length word.now ≤ MAX_WORD_BYTES }
 
     ensures at { IfOk result (λ n. IsWordAt words.new.items n word.now) }
     ensures taken { OnOk result (HasTaken words.old.items words.new.items word.now) }
+    ensures slots { OnOk result (AreSlots slots.new.items) }
 {
-    if stands_at(words, kept, word) {
-        return Ok(kept);
+    match look(words.as_slice(), slots.as_slice(), word) {
+        Ok(index) => Ok(index),
+        Err(slot) => add(alloc, words, slots, slot, word),
     }
+}
+
+// Adds a word behind all others, and its index in a slot.
+#[inline(never)]
+fn add(
+    alloc: Global,
+    words: &mut Vec<Word>,
+    slots: &mut Vec<u32>,
+    slot: usize,
+    word: &[u8],
+) -> Result<u32, Memory>
+    requires few { length words.old.items < 2 ^ 32 }
+    requires slots { AreSlots slots.old.items }
+    requires in_range { slot < length slots.old.items }
+    requires some { 1 ≤ length word.now }
+    requires few_bytes { length word.now ≤ MAX_WORD_BYTES }
+
+    ensures at { IfOk result (λ n. IsWordAt words.new.items n word.now) }
+    ensures taken { OnOk result (HasTaken words.old.items words.new.items word.now) }
+    ensures slots { OnOk result (AreSlots slots.new.items) }
+{
     let index = words.len() as u32;
     words.push(Word::new(alloc, word)?)?;
+    slots[slot] = index;
+    if words.len() > slots.len() / GROWTH && slots.len() < MAX_SLOTS {
+        *slots = slots_for(alloc, words.as_slice(), MAX_SLOTS.min(GROWTH * slots.len()))?;
+    }
     Ok(index)
 }
 
-// Whether a word stands at this index.
-fn stands_at(words: &[Word], index: u32, word: &[u8]) -> bool
-    ensures { result ≡ true → IsWordAt words.now index word.now }
+// So many slots, filled from the words that are kept.
+fn slots_for(alloc: Global, words: &[Word], count: usize) -> Result<Vec<u32>, Memory>
+    requires few { length words.now ≤ 2 ^ 32 }
+    requires some_slots { 1 ≤ count }
+    requires few_slots { count ≤ MAX_SLOTS }
+
+    ensures { IfOk result (λ v. AreSlots v.items) }
 {
-    match words.get(index as usize) {
-        Some(there) => there.bytes() == word,
-        None => false,
+    let mut slots = vec![in alloc; NO_WORD; count]?;
+    for (i, word) in words.iter().enumerate() {
+        if let Err(slot) = look(words, slots.as_slice(), word.bytes()) {
+            slots[slot] = i as u32;
+        }
     }
+    Ok(slots)
+}
+
+// The index of a word, or if none of its slots names it, the slot that it takes.
+#[inline]
+fn look(words: &[Word], slots: &[u32], word: &[u8]) -> Result<u32, usize>
+    requires slots { AreSlots slots.now }
+    requires some { 1 ≤ length word.now }
+
+    ensures found { IfOk result (λ n. IsWordAt words.now n word.now) }
+    ensures missed { IfErr result (λ slot. slot < length slots.now) }
+{
+    let first = slot_of(word, slots.len());
+    let mut slot = first;
+    for _ in 0..PROBES {
+        let index = slots[slot];
+        match words.get(index as usize) {
+            None => return Err(slot),
+            Some(there) if there.bytes() == word => return Ok(index),
+            Some(_) => slot = behind(slot, slots.len()),
+        }
+    }
+    Err(first)
+}
+
+// The slot behind one of so many, the first behind the last.
+fn behind(slot: usize, slots: usize) -> usize
+    requires { slot < slots }
+
+    ensures { result < slots }
+{
+    if slot + 1 < slots { slot + 1 } else { 0 }
 }
 
 // The slot that a word chooses of so many.
 fn slot_of(word: &[u8], slots: usize) -> usize
-    requires some { 0 < slots }
-    requires few { slots < 2 ^ 32 }
+    requires some { 1 ≤ length word.now }
+    requires some_slots { 0 < slots }
+    requires few_slots { slots < 2 ^ 32 }
 
     ensures { result < slots }
 {
     let part = u64::from(hash_of(word)) * slots as u64;
     (part >> 32) as usize
-}
-
-// A number that few words share: the hash of Fowler, Noll and Vo in its form 1a, of 32 bits.
-fn hash_of(word: &[u8]) -> u32 {
-    let mut hash: u32 = 0x811c_9dc5;
-    for byte in word {
-        hash = (hash ^ u32::from(*byte)).wrapping_mul(0x0100_0193);
-    }
-    hash
 }

@@ -5,6 +5,7 @@
 #![tactic(auto)]
 
 mod gathering;
+mod hash;
 mod numbered;
 mod vocab;
 

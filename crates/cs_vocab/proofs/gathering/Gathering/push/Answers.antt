@@ -1,6 +1,3 @@
-use Rattle.std.proofs.Common.{arith}
-use Rattle.std.specs.Vec.{with_item}
-use Rattle.std.proofs.lemmas.List.{length-set}
 use Rattle.cs_vocab.specs.declared.gathering.Gathering.{Gathering}
 use Rattle.cs_vocab.proofs.GatheringLemmas.{gathered_one, gathering_one}
 use Rattle.cs_vocab.proofs.gathering.Gathering.push.Goals as goal
@@ -8,13 +5,12 @@ use Rattle.cs_vocab.proofs.gathering.Gathering.push.Goals.{In_ok-push}
 
 -- the gathering behind the word
 abbrev after : In_ok-push → Gathering
-after c = record { words = c.index_of.new.words; indices = c.push.new.self; slots = with_item c.args.self.now.slots c.slot_of-slot.result c.in_ok-index.index }
+after c = record { words = c.index_of.new.words; indices = c.push.new.self; slots = c.index_of.new.slots }
 
 pub returns-clause-word : goal.returns-clause-word
 returns-clause-word c = gathered_one c.args.self.now (after (goal.at.returns-clause-word c).In_ok-push) c.in_ok-index.index c.args.word.now c.requires.is c.in_ok-index.ensures.taken c.in_ok-index.ensures.at c.in_ok-push.ensures.items
 
 pub returns-clause-is : goal.returns-clause-is
 returns-clause-is c =
-    let slots = length-set c.args.self.now.slots.items c.slot_of-slot.result c.in_ok-index.index in
     gathering_one c.args.self.now (after (goal.at.returns-clause-is c).In_ok-push) c.in_ok-index.index c.args.word.now c.requires.is c.in_ok-index.ensures.taken c.in_ok-index.ensures.at c.in_ok-push.ensures.items
-    (omega (arith, slots, c.requires.is.some)) (omega (arith, slots, c.requires.is.few_slots))
+    c.in_ok-index.ensures.slots
