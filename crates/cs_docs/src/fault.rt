@@ -9,7 +9,7 @@ ghost use Rattle.cs_docs.specs.declared.fault.RowsFault.{RowsFault};
 use cs_base::Memory;
 use thiserror::Error;
 
-/// What `read_docs` answers where it gives no documents. Lines are numbered from 1.
+/// What `lent_docs` and `read_docs` answer where they give no documents. Lines are numbered from 1.
 #[derive(Clone, Copy, Debug, PartialEq, Eq, Drop, Error)]
 pub enum DocFault {
     /// The collection has more than `MAX_COLLECTION_BYTES` bytes.
