@@ -19,37 +19,37 @@ use Rattle.cs_base.specs.declared.content.doc.Row.{Row}
 use Rattle.cs_base.proofs.MembersLemmas.{listing-rises}
 use Rattle.cs_model_index.specs.Numbered.{numbered, row_of, rows_at, word_at}
 use Rattle.cs_vocab.specs.Ranges.{AreNumbers, IsBelow}
-use Rattle.cs_build.specs.RowColumns.{AreColumns, AreSpots, posts_in}
-use Rattle.cs_build.specs.declared.spots.Spots.{Spots}
+use Rattle.cs_build.specs.RowColumns.{AreColumns, IsFormOf, posts_in}
+use Rattle.cs_build.specs.declared.row_form.RowForm.{RowForm}
 use Rattle.cs_build.proofs.PartLemmas.{numbered_posts}
-use Rattle.cs_build.proofs.RowPosts.{posts_many, spot_words}
+use Rattle.cs_build.proofs.RowPosts.{posts_many, form_words}
 
 words_below : (n : ℕ) (posts : List Post) → AllByRecursion (IsBelow n) (map (λ p. p.word) posts) → AllByRecursion (λ p. p.word < n) posts
 words_below n [] h = tt
 words_below n (p ∷ posts) h = (h.0, words_below n posts h.1)
 
-pub below_words : (n : ℕ) (spots : Spots) (ns : List ℕ) → AreSpots spots ns → All (IsBelow n) ns → AllByRecursion (λ p. p.word < n) (posts_in spots ns)
-below_words n spots ns h below = words_below n (posts_in spots ns) (subst (AllByRecursion (IsBelow n)) (sym (spot_words spots ns h)) (recursion_from_All (IsBelow n) ns below))
+pub below_words : (n : ℕ) (form : RowForm) (ns : List ℕ) → IsFormOf form ns → All (IsBelow n) ns → AllByRecursion (λ p. p.word < n) (posts_in form ns)
+below_words n form ns h below = words_below n (posts_in form ns) (subst (AllByRecursion (IsBelow n)) (sym (form_words form ns h)) (recursion_from_All (IsBelow n) ns below))
 
 module _ (ws : List (List ℕ)) where
   words_at : (posts : List Post) → map (λ r. r.word) (rows_at ws posts) ≡ map (word_at ws) (map (λ p. p.word) posts)
   words_at [] = refl
   words_at (p ∷ posts) = ap (λ l. word_at ws p.word ∷ l) (words_at posts)
 
-  at_spots : (ns : List ℕ) (spots : Spots) → AreSpots spots ns → map (λ r. r.word) (rows_at ws (posts_in spots ns)) ≡ map (word_at ws) ns
-  at_spots ns spots h = words_at (posts_in spots ns) ∙ ap (map (word_at ws)) (spot_words spots ns h)
+  in_form : (ns : List ℕ) (form : RowForm) → IsFormOf form ns → map (λ r. r.word) (rows_at ws (posts_in form ns)) ≡ map (word_at ws) ns
+  in_form ns form h = words_at (posts_in form ns) ∙ ap (map (word_at ws)) (form_words form ns h)
 
-  pub columns_are : (ns : List ℕ) (spots : Spots) (all : List (List ℕ)) → AreSpots spots ns → AreNumbers ws ns all → ws ≡ members_in (slice_cmp nat_cmp) all → AreColumns ws ns spots
-  columns_are ns spots all h n is = record { each = h; below = n.below; words = is ∙ ap (members_in (slice_cmp nat_cmp)) (sym (at_spots ns spots h ∙ n.told)) }
+  pub columns_are : (ns : List ℕ) (form : RowForm) (all : List (List ℕ)) → IsFormOf form ns → AreNumbers ws ns all → ws ≡ members_in (slice_cmp nat_cmp) all → AreColumns ws ns form
+  columns_are ns form all h n is = record { each = h; below = n.below; words = is ∙ ap (members_in (slice_cmp nat_cmp)) (sym (in_form ns form h ∙ n.told)) }
 
-  module _ (ns : List ℕ) (spots : Spots) (h : AreColumns ws ns spots) where
-    pub numbers_are : AreNumbers ws ns (map (λ r. r.word) (rows_at ws (posts_in spots ns)))
-    numbers_are = record { told = sym (at_spots ns spots h.each); below = h.below }
+  module _ (ns : List ℕ) (form : RowForm) (h : AreColumns ws ns form) where
+    pub numbers_are : AreNumbers ws ns (map (λ r. r.word) (rows_at ws (posts_in form ns)))
+    numbers_are = record { told = sym (in_form ns form h.each); below = h.below }
 
-    pub columns_many : length (rows_at ws (posts_in spots ns)) ≡ length ns
-    columns_many = length-map (posts_in spots ns) (row_of ws) ∙ posts_many spots ns h.each
+    pub columns_many : length (rows_at ws (posts_in form ns)) ≡ length ns
+    columns_many = length-map (posts_in form ns) (row_of ws) ∙ posts_many form ns h.each
 
-    pub posts_numbered : numbered ws (rows_at ws (posts_in spots ns)) ≡ posts_in spots ns
+    pub posts_numbered : numbered ws (rows_at ws (posts_in form ns)) ≡ posts_in form ns
     posts_numbered =
-        let up : IsStrictlySortedBy (slice_cmp nat_cmp) ws = subst (IsStrictlySortedBy (slice_cmp nat_cmp)) (sym h.words) (listing-rises (slice_cmp nat_cmp) (map (λ (r : Row). r.word) (rows_at ws (posts_in spots ns)))) in
-        numbered_posts ws up (posts_in spots ns) (below_words (length ws) spots ns h.each h.below)
+        let up : IsStrictlySortedBy (slice_cmp nat_cmp) ws = subst (IsStrictlySortedBy (slice_cmp nat_cmp)) (sym h.words) (listing-rises (slice_cmp nat_cmp) (map (λ (r : Row). r.word) (rows_at ws (posts_in form ns)))) in
+        numbered_posts ws up (posts_in form ns) (below_words (length ws) form ns h.each h.below)

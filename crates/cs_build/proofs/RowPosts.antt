@@ -1,8 +1,8 @@
 -- Posts of rows and of documents, by the numbers of their words.
 --
---   spot_words        the words of the posts at spots are the numbers
+--   form_words        the words of the posts are the numbers
 --   rows_again        rows by the numbers of their words
---   rows_of_numbers   the rows at the spots of documents are those of the documents
+--   rows_of_numbers   rows that are counted are those of the documents
 --   counted_docs      the rows of each document are counted
 --   listed_many       documents have as many rows as words that are listed
 --   words_more, counts_more, few_more      the words and the counts of one document more
@@ -23,10 +23,10 @@ use Rattle.cs_docs.specs.Listing.{listed_doc, listed_facets, listed_rows}
 use Rattle.cs_model.specs.Corpus.{placed}
 use Rattle.cs_model.specs.Words.{words}
 use Rattle.cs_model_index.specs.Numbered.{row_of, rows_at, word_at}
-use Rattle.cs_build.specs.RowColumns.{AreDocRows, AreSpots, behind_doc, doc_rows_of, facet_posts, listed_words, posts_by, posts_in, posts_of_doc, posts_of_docs, text_numbers, title_numbers, word_posts}
-use Rattle.cs_build.specs.declared.spots.DocRows.{DocRows}
-use Rattle.cs_build.specs.declared.spots.Spots.{Spots}
-use Rattle.cs_build.specs.declared.spots.Spots.TheVariants.{ByRow, ByDocument}
+use Rattle.cs_build.specs.RowColumns.{AreDocRows, IsFormOf, behind_doc, doc_rows_of, facet_posts, listed_words, posts_by, posts_in, posts_of_doc, posts_of_docs, text_numbers, title_numbers, word_posts}
+use Rattle.cs_build.specs.declared.row_form.DocRows.{DocRows}
+use Rattle.cs_build.specs.declared.row_form.RowForm.{RowForm}
+use Rattle.cs_build.specs.declared.row_form.RowForm.TheVariants.{Listed, Counted}
 
 -- ---- the words of posts
 abbrev words_in : List Post → List ℕ
@@ -69,12 +69,12 @@ docs_numbers d (e ∷ es) ns h =
     ∙ ap (λ l. words_in (posts_of_doc d e ns) ++ l) (docs_numbers (d + 1) es (behind_doc e ns) h.2)
     ∙ doc_numbers d e ns
 
-pub spot_words : (spots : Spots) (ns : List ℕ) → AreSpots spots ns → map (λ p. p.word) (posts_in spots ns) ≡ ns
-spot_words (ByRow rows) ns h = by_words rows ns h
-spot_words (ByDocument docs) ns h = docs_numbers 0 docs.items ns h.1
+pub form_words : (form : RowForm) (ns : List ℕ) → IsFormOf form ns → map (λ p. p.word) (posts_in form ns) ≡ ns
+form_words (Listed rows) ns h = by_words rows ns h
+form_words (Counted docs) ns h = docs_numbers 0 docs.items ns h.1
 
-pub posts_many : (spots : Spots) (ns : List ℕ) → AreSpots spots ns → length (posts_in spots ns) ≡ length ns
-posts_many spots ns h = sym (length-map (posts_in spots ns) (λ (p : Post). p.word)) ∙ ap length (spot_words spots ns h)
+pub posts_many : (form : RowForm) (ns : List ℕ) → IsFormOf form ns → length (posts_in form ns) ≡ length ns
+posts_many form ns h = sym (length-map (posts_in form ns) (λ (p : Post). p.word)) ∙ ap length (form_words form ns h)
 
 module _ (ws : List (List ℕ)) where
   -- ---- rows

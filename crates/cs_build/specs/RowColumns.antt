@@ -5,13 +5,15 @@
 --   posts_by rows ns            the posts of rows by the numbers of their words
 --   facet_posts d ns            the posts of document d's facet words
 --   word_posts d score pos ns   the posts of words of document d at positions from pos on
---   title_numbers e xs, text_numbers e xs, behind_doc e xs     of what stands for rows, from those of a document on: from its titles on, from its texts on, behind it
+--   title_numbers e ns          the numbers ns of words from a document's on, without those of its facet words, where e counts its rows
+--   text_numbers e ns           without those of its title words too
+--   behind_doc e ns             without those of its text words too
 --   posts_of_doc d e ns         the posts of document d, whose rows are counted by e
 --   posts_of_docs d es ns       the posts of documents that are numbered from d
---   posts_in spots ns           the posts at these spots
---   AreDocRows es xs            as many rows as xs has are counted by es, and each document has few words
---   AreSpots spots xs           there are as many spots as xs has, and few documents where they are counted
---   AreColumns ws ns spots      there are as many spots as numbers, each of them that of a word of ws, and ws are the words of the rows
+--   posts_in form ns            the posts of rows in this form
+--   AreDocRows es ns            es count as many rows as ns has numbers, and each document has few words
+--   IsFormOf form ns            there are as many rows as numbers, and few documents where they are counted
+--   AreColumns ws ns form       there are as many rows as numbers, each number is that of a word of ws, and ws are the words of the rows
 --   listed_words doc            the words of the document's rows, in their order
 --   doc_rows_of doc             how many rows the document has
 --   IsRowGathering g            the words that come are those of rows, of which there are few
@@ -29,9 +31,9 @@ use Rattle.cs_model_index.specs.Numbered.{rows_at}
 use Rattle.cs_vocab.specs.Gathering.{IsGathering, gathered}
 use Rattle.cs_vocab.specs.Ranges.{IsBelow}
 use Rattle.cs_vocab.specs.declared.gathering.Gathering.{Gathering}
-use Rattle.cs_build.specs.declared.spots.DocRows.{DocRows}
-use Rattle.cs_build.specs.declared.spots.Spots.{Spots}
-use Rattle.cs_build.specs.declared.spots.Spots.TheVariants.{ByRow, ByDocument}
+use Rattle.cs_build.specs.declared.row_form.DocRows.{DocRows}
+use Rattle.cs_build.specs.declared.row_form.RowForm.{RowForm}
+use Rattle.cs_build.specs.declared.row_form.RowForm.TheVariants.{Listed, Counted}
 
 -- ---- posts
 -- as many as there are of both
@@ -47,18 +49,18 @@ facet_posts d ns = map (λ n. record { doc = d; word = n; pos = 0; score = FACET
 abbrev pub word_posts : ℕ → ℕ → ℕ → List ℕ → List Post
 word_posts d score pos ns = map (λ p. record { doc = d; word = p.1; pos = p.0; score = score }) (enumerate_from pos ns)
 
--- ---- what stands for the rows of documents, one document after another: facets, titles, texts
--- those of facets are left out
-abbrev pub title_numbers : {X : Type 0} → DocRows → List X → List X
-title_numbers e xs = drop e.facets xs
+-- ---- numbers of words of documents, one document after another: facets, title, text
+-- those of the document's facet words come first
+abbrev pub title_numbers : DocRows → List ℕ → List ℕ
+title_numbers e ns = drop e.facets ns
 
--- those of facets and titles are left out
-abbrev pub text_numbers : {X : Type 0} → DocRows → List X → List X
-text_numbers e xs = drop e.titles (title_numbers e xs)
+-- those of its title words come behind
+abbrev pub text_numbers : DocRows → List ℕ → List ℕ
+text_numbers e ns = drop e.titles (title_numbers e ns)
 
 -- nothing behind the last document
-abbrev pub behind_doc : {X : Type 0} → DocRows → List X → List X
-behind_doc e xs = drop e.texts (text_numbers e xs)
+abbrev pub behind_doc : DocRows → List ℕ → List ℕ
+behind_doc e ns = drop e.texts (text_numbers e ns)
 
 -- title words from position 1 on, and text words behind them
 abbrev pub posts_of_doc : ℕ → DocRows → List ℕ → List Post
@@ -69,27 +71,27 @@ abbrev pub posts_of_docs : ℕ → List DocRows → List ℕ → List Post
 posts_of_docs d [] ns = []
 posts_of_docs d (e ∷ es) ns = posts_of_doc d e ns ++ posts_of_docs (d + 1) es (behind_doc e ns)
 
--- ---- spots
+-- ---- forms
 -- post by post
-abbrev pub posts_in : Spots → List ℕ → List Post
-posts_in (ByRow rows) ns = posts_by rows ns
-posts_in (ByDocument docs) ns = posts_of_docs 0 docs.items ns
+abbrev pub posts_in : RowForm → List ℕ → List Post
+posts_in (Listed rows) ns = posts_by rows ns
+posts_in (Counted docs) ns = posts_of_docs 0 docs.items ns
 
 -- of no documents there are no rows
-abbrev pub AreDocRows : {X : Type 0} → List DocRows → List X → Type 0
-AreDocRows [] xs = length xs ≡ 0
-AreDocRows (e ∷ es) xs = (e.facets + (e.titles + e.texts) ≤ length xs) × (e.titles + e.texts ≤ MAX_DOC_WORDS) × AreDocRows es (behind_doc e xs)
+abbrev pub AreDocRows : List DocRows → List ℕ → Type 0
+AreDocRows [] ns = length ns ≡ 0
+AreDocRows (e ∷ es) ns = (e.facets + (e.titles + e.texts) ≤ length ns) × (e.titles + e.texts ≤ MAX_DOC_WORDS) × AreDocRows es (behind_doc e ns)
 
--- of no rows there are no spots
-abbrev pub AreSpots : {X : Type 0} → Spots → List X → Type 0
-AreSpots (ByRow rows) xs = length rows ≡ length xs
-AreSpots (ByDocument docs) xs = (length docs.items ≤ MAX_DOCS) × AreDocRows docs.items xs
+-- of no rows there are no numbers
+abbrev pub IsFormOf : RowForm → List ℕ → Type 0
+IsFormOf (Listed rows) ns = length rows ≡ length ns
+IsFormOf (Counted docs) ns = (length docs.items ≤ MAX_DOCS) × AreDocRows docs.items ns
 
 -- of no rows there are no words
-pub record AreColumns (ws : List (List ℕ)) (ns : List ℕ) (spots : Spots) : Type 0 where
-  pub each : AreSpots spots ns
+pub record AreColumns (ws : List (List ℕ)) (ns : List ℕ) (form : RowForm) : Type 0 where
+  pub each : IsFormOf form ns
   pub below : All (IsBelow (length ws)) ns
-  pub words : ws ≡ distinct_words (rows_at ws (posts_in spots ns))
+  pub words : ws ≡ distinct_words (rows_at ws (posts_in form ns))
 
 -- ---- rows of documents
 -- facet words first, then those of the title, then those of the text

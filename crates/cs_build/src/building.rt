@@ -97,13 +97,13 @@ fn built(
     let RowColumns {
         words,
         numbers,
-        spots,
+        form,
     } = rows;
     if words.len() as usize > MAX_WORDS {
         return Err(BuildFault::TooManyWords);
     }
     let runs = runs_of(alloc, &words, numbers.as_slice(), target)?;
-    let blocks = blocks_of(alloc, &runs, words.len(), numbers.as_slice(), &spots)?;
+    let blocks = blocks_of(alloc, &runs, words.len(), numbers.as_slice(), &form)?;
     let heads = heads_of(alloc, &words, &runs, &blocks)?;
     Ok(Image {
         titles,

@@ -4,11 +4,11 @@ ghost use Rattle.std.specs.List.{All, AllByRecursion};
 ghost use Rattle.cs_base.specs.declared.content.limits.TheConstants.{MAX_DOCS, MAX_DOC_WORDS};
 ghost use Rattle.cs_vocab.specs.Ranges.{IsBelow};
 ghost use Rattle.cs_cols.specs.declared.cols.Cols.{Cols};
-ghost use Rattle.cs_build.specs.RowColumns.{AreDocRows, AreSpots, behind_doc, facet_posts, posts_by, posts_in, posts_of_doc, posts_of_docs, word_posts};
+ghost use Rattle.cs_build.specs.RowColumns.{AreDocRows, IsFormOf, behind_doc, facet_posts, posts_by, posts_in, posts_of_doc, posts_of_docs, word_posts};
 ghost use Rattle.cs_build.specs.WordRuns.{AreSpans, AreFilled, AreTaken, CanTake, CountsRows, IsPushed, is_within, run_places_from};
 
 use crate::parting::Run;
-use crate::spots::{DocRows, Spots};
+use crate::row_form::{DocRows, RowForm};
 use cs_base::{BEHIND_TITLE, FACET_SCORE, Memory, Post, Row, TEXT_SCORE, TITLE_SCORE};
 use cs_cols::Cols;
 use std::alloc::Global;
@@ -19,32 +19,32 @@ pub(crate) fn blocks_of(
     runs: &[Run],
     words: u32,
     numbers: &[u32],
-    spots: &Spots,
+    form: &RowForm,
 ) -> Result<Vec<Cols>, Memory>
     requires spans { AreSpans 0 runs.now words }
     requires below { All (IsBelow words) numbers.now }
-    requires spots { AreSpots spots.now numbers.now }
+    requires form { IsFormOf form.now numbers.now }
     requires few { length runs.now ≤ words }
-    requires counted { AllByRecursion (CountsRows (posts_in spots.now numbers.now)) runs.now }
+    requires counted { AllByRecursion (CountsRows (posts_in form.now numbers.now)) runs.now }
 
-    ensures { IfOk result (λ blocks. map (λ b. b.posts) blocks.items ≡ map (λ run. filter (is_within run) (posts_in spots.now numbers.now)) runs.now) }
+    ensures { IfOk result (λ blocks. map (λ b. b.posts) blocks.items ≡ map (λ run. filter (is_within run) (posts_in form.now numbers.now)) runs.now) }
 {
     let places = places_of(alloc, runs, words)?;
     let mut blocks = empty_blocks(alloc, runs)?;
-    fill(&mut blocks, &places, numbers, spots);
+    fill(&mut blocks, &places, numbers, form);
     Ok(blocks)
 }
 
 // Puts each post into the block of its word, whose index `places` says.
-fn fill(blocks: &mut [Cols], places: &[u32], numbers: &[u32], spots: &Spots)
-    requires spots { AreSpots spots.now numbers.now }
-    requires room { CanTake places.now blocks.old (posts_in spots.now numbers.now) }
+fn fill(blocks: &mut [Cols], places: &[u32], numbers: &[u32], form: &RowForm)
+    requires form { IsFormOf form.now numbers.now }
+    requires room { CanTake places.now blocks.old (posts_in form.now numbers.now) }
 
-    ensures { AreTaken places.now (posts_in spots.now numbers.now) blocks.old blocks.new }
+    ensures { AreTaken places.now (posts_in form.now numbers.now) blocks.old blocks.new }
 {
-    match spots {
-        Spots::ByRow(rows) => fill_rows(blocks, places, numbers, rows.as_slice()),
-        Spots::ByDocument(docs) => fill_docs(blocks, places, numbers, docs),
+    match form {
+        RowForm::Listed(rows) => fill_rows(blocks, places, numbers, rows.as_slice()),
+        RowForm::Counted(docs) => fill_docs(blocks, places, numbers, docs),
     }
 }
 

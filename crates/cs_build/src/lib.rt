@@ -13,8 +13,8 @@ pub mod laws;
 mod ordering;
 mod parting;
 mod row_columns;
+mod row_form;
 mod row_gathering;
-mod spots;
 
 pub use building::{image, image_of_columns};
 pub use fault::BuildFault;

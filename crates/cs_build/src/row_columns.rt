@@ -6,8 +6,8 @@ ghost use Rattle.cs_docs.specs.declared.fault.RowsFault.{RowsFault};
 ghost use Rattle.cs_model.specs.Collection.{documents, docs_refusal};
 ghost use Rattle.cs_model.specs.Corpus.{rows_of};
 
+use crate::row_form::RowForm;
 use crate::row_gathering::RowGathering;
-use crate::spots::Spots;
 use cs_base::{MAX_ROWS, Memory, Row, Seq};
 use cs_docs::{LentDoc, RowsFault};
 use cs_vocab::{Numbered, Vocab};
@@ -17,12 +17,12 @@ use std::marker::Model;
 // Most texts have a word for so many bytes or more. Others take memory for their rows once more.
 const LIKELY_BYTES: usize = 4;
 
-/// Rows, which contracts see as their list: each word once, its number in each row, and the rows' spots.
+/// Rows, which contracts see as their list: each word once, its number in each row, and a form of the rest of the rows.
 #[derive(Debug, Drop)]
 pub struct RowColumns {
     pub(crate) words: Vocab,
     pub(crate) numbers: Seq<u32>,
-    pub(crate) spots: Spots,
+    pub(crate) form: RowForm,
 }
 
 impl Model for RowColumns {
@@ -33,9 +33,9 @@ impl Model for RowColumns {
 
     ghost Value = { List Row };
 
-    ghost view = { λ c. rows_at c.words (posts_in c.spots c.numbers) };
+    ghost view = { λ c. rows_at c.words (posts_in c.form c.numbers) };
 
-    ghost invariant = { λ c. AreColumns c.words c.numbers c.spots };
+    ghost invariant = { λ c. AreColumns c.words c.numbers c.form };
 }
 
 impl RowColumns {
@@ -59,7 +59,7 @@ impl RowColumns {
         Ok(RowColumns {
             words,
             numbers,
-            spots: Spots::ByDocument(docs),
+            form: RowForm::Counted(docs),
         })
     }
 
@@ -73,7 +73,7 @@ impl RowColumns {
         Ok(RowColumns {
             words,
             numbers,
-            spots: Spots::ByRow(rows),
+            form: RowForm::Listed(rows),
         })
     }
 

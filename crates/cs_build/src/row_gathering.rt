@@ -8,7 +8,7 @@ ghost use Rattle.cs_vocab.specs.Gathering.{gathered};
 ghost use Rattle.cs_build.specs.RowColumns.{IsRowGathering, doc_rows_of, listed_words};
 
 use crate::column_words::{add_facets, add_words};
-use crate::spots::DocRows;
+use crate::row_form::DocRows;
 use cs_base::Memory;
 use cs_docs::{LentDoc, RowsFault};
 use cs_vocab::Gathering;

@@ -17,25 +17,25 @@ use Rattle.cs_build.proofs.building.built.Goals.{In_ok-runs, In_ok-blocks}
 
 -- the posts, and the rows that they stand for
 abbrev posts : In_ok-runs → List Post
-posts c = posts_in c.rows.inside.spots c.rows.inside.numbers
+posts c = posts_in c.rows.inside.form c.rows.inside.numbers
 
 abbrev rows : In_ok-runs → List Row
 rows c = rows_at c.rows.inside.words (posts c)
 
 same_posts : (c : In_ok-runs) → numbered c.rows.inside.words (rows c) ≡ posts c
-same_posts c = posts_numbered c.rows.inside.words c.rows.inside.numbers c.rows.inside.spots c.rows.invariant
+same_posts c = posts_numbered c.rows.inside.words c.rows.inside.numbers c.rows.inside.form c.rows.invariant
 
 -- the runs are the partition of the words
 parted : (c : In_ok-runs) → AreParted c.args.target c.rows.inside.words (count_in (rows c)) c.in_ok-runs.runs.items
 parted c =
     let ws = c.rows.inside.words in
-    c.in_ok-runs.ensures (rows c) (subst (λ ns. AreNumbers ws ns (map (λ r. r.word) (rows c))) (sym c.as_slice.ensures) (numbers_are ws c.rows.inside.numbers c.rows.inside.spots c.rows.invariant))
+    c.in_ok-runs.ensures (rows c) (subst (λ ns. AreNumbers ws ns (map (λ r. r.word) (rows c))) (sym c.as_slice.ensures) (numbers_are ws c.rows.inside.numbers c.rows.inside.form c.rows.invariant))
 
-filled : (c : In_ok-blocks) → map (λ (b : Cols). b.posts) c.in_ok-blocks.blocks.items ≡ map (λ run. filter (is_within run) (posts_in c.rows.inside.spots c.rows.inside.numbers)) c.in_ok-runs.runs.items
+filled : (c : In_ok-blocks) → map (λ (b : Cols). b.posts) c.in_ok-blocks.blocks.items ≡ map (λ run. filter (is_within run) (posts_in c.rows.inside.form c.rows.inside.numbers)) c.in_ok-runs.runs.items
 filled c = rw (c.deref.ensures.value, c.as_slice-2.ensures) at c.in_ok-blocks.ensures
 
 pub runs_of-requires-clause-few : goal.runs_of-requires-clause-few
-runs_of-requires-clause-few c = omega (arith, ap length c.as_slice.ensures, columns_many c.rows.inside.words c.rows.inside.numbers c.rows.inside.spots c.rows.invariant, ap length c.rows.view_is, c.requires.few)
+runs_of-requires-clause-few c = omega (arith, ap length c.as_slice.ensures, columns_many c.rows.inside.words c.rows.inside.numbers c.rows.inside.form c.rows.invariant, ap length c.rows.view_is, c.requires.few)
 
 pub blocks_of-requires-clause-spans : goal.blocks_of-requires-clause-spans
 blocks_of-requires-clause-spans c =

@@ -10,15 +10,15 @@ use Rattle.cs_build.proofs.filling.blocks_of.Goals as goal
 
 pub fill-requires-clause-room : goal.fill-requires-clause-room
 fill-requires-clause-room c =
-    let posts = posts_in c.args.spots.now c.args.numbers.now in
-    let below = below_words c.args.words c.args.spots.now c.args.numbers.now c.requires.spots c.requires.below in
+    let posts = posts_in c.args.form.now c.args.numbers.now in
+    let below = below_words c.args.words c.args.form.now c.args.numbers.now c.requires.form c.requires.below in
     subst (λ places. CanTake places c.deref_mut.result.now posts) (sym c.deref.ensures.value) (subst (λ blocks. CanTake c.in_ok-places.places.items blocks posts) (sym c.deref_mut.ensures.value)
     (can_all c.in_ok-places.places.items c.in_ok-blocks.blocks.items c.args.runs.now c.args.words posts c.requires.spans c.in_ok-places.ensures c.in_ok-blocks.ensures below c.requires.counted))
 
 pub returns : goal.returns
 returns c =
-    let posts = posts_in c.args.spots.now c.args.numbers.now in
-    let below = below_words c.args.words c.args.spots.now c.args.numbers.now c.requires.spots c.requires.below in
+    let posts = posts_in c.args.form.now c.args.numbers.now in
+    let below = below_words c.args.words c.args.form.now c.args.numbers.now c.requires.form c.requires.below in
     let same = with_items_is c.in_ok-blocks.blocks c.fill.new.blocks (c.fill.auto.blocks ∙ ap length c.deref_mut.ensures.value ∙ sym c.in_ok-blocks.blocks.ok.0) in
     let filled : AreFilled [] c.args.runs.now c.deref_mut.result.now = subst (AreFilled [] c.args.runs.now) (sym c.deref_mut.ensures.value) c.in_ok-blocks.ensures in
     subst (λ blocks. map (λ (b : Cols). b.posts) blocks ≡ map (λ run. filter (is_within run) posts) c.args.runs.now) (sym same)

@@ -3,7 +3,7 @@ use Rattle.cs_base.specs.declared.content.doc.Post.{Post}
 use Rattle.cs_base.specs.declared.content.scores.TheConstants.{BEHIND_TITLE, TEXT_SCORE, TITLE_SCORE}
 use Rattle.cs_build.specs.RowColumns.{facet_posts, posts_of_doc, text_numbers, title_numbers, word_posts}
 use Rattle.cs_build.specs.WordRuns.{AreTaken, CanTake}
-use Rattle.cs_build.specs.declared.spots.DocRows.{DocRows}
+use Rattle.cs_build.specs.declared.row_form.DocRows.{DocRows}
 use Rattle.cs_build.proofs.FillLemmas.{can_behind, can_front, taken-append}
 use Rattle.cs_build.proofs.filling.fill_doc.Goals as goal
 

@@ -2,7 +2,7 @@ use Rattle.std.proofs.Common.{ℕ, ◌≡◌, ◌+◌, ◌++◌, ◌<◌, List, 
 use Rattle.std.proofs.lemmas.List.{drop_more}
 use Rattle.cs_build.specs.RowColumns.{AreDocRows, behind_doc, posts_of_doc, posts_of_docs}
 use Rattle.cs_build.specs.WordRuns.{AreTaken, CanTake}
-use Rattle.cs_build.specs.declared.spots.DocRows.{DocRows}
+use Rattle.cs_build.specs.declared.row_form.DocRows.{DocRows}
 use Rattle.cs_build.proofs.FillLemmas.{can_behind, can_front, taken-append}
 use Rattle.cs_build.proofs.filling.fill_docs.Goals as goal
 

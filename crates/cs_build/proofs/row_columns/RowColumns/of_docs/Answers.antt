@@ -13,7 +13,7 @@ use Rattle.cs_docs.proofs.ListingLemmas.{rows_listed}
 use Rattle.cs_model_index.specs.Numbered.{rows_at}
 use Rattle.cs_vocab.specs.Gathering.{gathered}
 use Rattle.cs_build.specs.RowColumns.{AreDocRows, doc_rows_of, listed_words, posts_of_docs}
-use Rattle.cs_build.specs.declared.spots.Spots.TheVariants.{ByDocument}
+use Rattle.cs_build.specs.declared.row_form.RowForm.TheVariants.{Counted}
 use Rattle.cs_build.proofs.ColumnLemmas.{columns_are}
 use Rattle.cs_build.proofs.GatheringLemmas.{err_is}
 use Rattle.cs_build.proofs.RowPosts.{counted_docs, counts_more, few_more, listed_many, rows_of_numbers, words_more}
@@ -60,7 +60,7 @@ invariant_of-result c =
     let few : length c.loop-doc.gathering.docs.items ≤ MAX_DOCS = omega (arith, ap length counts, length-map all doc_rows_of, ap length c.requires.read.2, few_documents c.requires.read.0 c.requires.read.1) in
     let listed = recursion_from_All CanBeListed all (accepted_docs c.requires.read.0 all c.requires.read.1 c.requires.read.2) in
     let each = subst (λ es. AreDocRows es n.numbers) (sym counts) (counted_docs n.words all n.numbers listed (c.in_ok-words.ensures.numbers.told ∙ words)) in
-    columns_are n.words n.numbers (ByDocument c.loop-doc.gathering.docs) (gathered c.loop-doc.gathering.words) (few, each) c.in_ok-words.ensures.numbers c.in_ok-words.ensures.words
+    columns_are n.words n.numbers (Counted c.loop-doc.gathering.docs) (gathered c.loop-doc.gathering.words) (few, each) c.in_ok-words.ensures.numbers c.in_ok-words.ensures.words
 
 pub returns-clause-ok : goal.returns-clause-ok
 returns-clause-ok c =
