@@ -19,14 +19,12 @@ use Rattle.cs_cols.specs.declared.cols.Cols.{Cols}
 use Rattle.cs_model.specs.Corpus.{distinct_words}
 use Rattle.cs_model_index.specs.Images.{Image, IsImage, count_in, block_of, heads_from}
 use Rattle.cs_model_index.specs.Partitions.{IsPartition}
-use Rattle.cs_model_index.specs.Numbered.{numbered, HasWord}
+use Rattle.cs_model_index.specs.Numbered.{numbered, post_of, HasWord}
 use Rattle.cs_model_index.proofs.CorpusLemmas.{known_words}
-use Rattle.cs_vocab.specs.Ranges.{AreNumbers}
 use Rattle.cs_build.specs.Building.{corpus_of_rows}
 use Rattle.cs_build.specs.WordRuns.{AreParted, AreSpans, CountsRows, runs_from, is_within, run_head}
 use Rattle.cs_build.specs.declared.parting.Run.{Run}
-use Rattle.cs_build.proofs.PartLemmas.{numbered_posts, blocks_are, rows_counted, heads_are, all_inside, spans_are, few_runs, filled_parts, some_words}
-use Rattle.cs_build.proofs.RowPosts.{posts_by, posts_many}
+use Rattle.cs_build.proofs.PartLemmas.{blocks_are, rows_counted, heads_are, all_inside, spans_are, few_runs, filled_parts, some_words}
 
 few_each : (ps : List Post) (most : ℕ) (bs : List Cols) (rs : List Run) → map (λ b. b.posts) bs ≡ map (λ run. filter (is_within run) ps) rs → length ps ≤ most → AllByRecursion (λ b. length b.posts ≤ most) bs
 few_each ps most [] rs e few = tt
@@ -39,7 +37,7 @@ same_image : (titles ws vs : List (List ℕ)) (hs gs : List BlockHead) (bs cs : 
     → let i : Image = record { titles = titles; words = ws; heads = hs; blocks = bs; target = target } in let j : Image = record { titles = titles; words = vs; heads = gs; blocks = cs; target = target } in i ≡ j
 same_image titles ws vs hs gs bs cs target a b c = rw (a, b, c) refl
 
-module _ (ws : List (List ℕ)) (rows : List Row) (numbers : List ℕ) (target : ℕ) (runs : List Run) (is : ws ≡ distinct_words rows) (ns : AreNumbers ws numbers (map (λ r. r.word) rows)) (p : AreParted target ws (count_in rows) runs) where
+module _ (ws : List (List ℕ)) (rows : List Row) (posts : List Post) (target : ℕ) (runs : List Run) (is : ws ≡ distinct_words rows) (ps : numbered ws rows ≡ posts) (p : AreParted target ws (count_in rows) runs) where
   up : IsStrictlySortedBy (slice_cmp nat_cmp) ws
   up = subst (IsStrictlySortedBy (slice_cmp nat_cmp)) (sym is) (listing-rises (slice_cmp nat_cmp) (map (λ r. r.word) rows))
 
@@ -52,46 +50,43 @@ module _ (ws : List (List ℕ)) (rows : List Row) (numbers : List ℕ) (target :
   some : AllByRecursion (λ part. 1 ≤ length part) p.parts
   some = some_words p.parts (filled_parts target (count_in rows) p.parts p.partition.each)
 
-  pub many_numbers : length numbers ≡ length rows
-  many_numbers = sym (length-map numbers _) ∙ ap length ns.told ∙ length-map rows (λ (r : Row). r.word)
-
   pub spans_kept : (words : ℕ) → words ≡ length ws → AreSpans 0 runs words
   spans_kept words e = subst (λ rs. AreSpans 0 rs words) (sym p.are) (subst (AreSpans 0 (runs_from (count_in rows) 0 p.parts)) (omega (arith, e, ap length whole)) (spans_are (count_in rows) 0 p.parts))
 
   pub few_kept : length runs ≤ length ws
   few_kept = omega (arith, ap length p.are, few_runs (count_in rows) 0 p.parts some, ap length whole)
 
-  pub counted_kept : AllByRecursion (CountsRows (posts_by rows numbers)) runs
-  counted_kept = subst (λ rs. AllByRecursion (CountsRows (posts_by rows numbers)) rs) (sym p.are)
-      (subst (λ ps. AllByRecursion (CountsRows ps) (runs_from (count_in rows) 0 p.parts)) (sym (numbered_posts ws up rows numbers ns)) (rows_counted ws up rows known [] p.parts 0 refl whole))
+  pub counted_kept : AllByRecursion (CountsRows posts) runs
+  counted_kept = subst (λ rs. AllByRecursion (CountsRows posts) rs) (sym p.are)
+      (subst (λ qs. AllByRecursion (CountsRows qs) (runs_from (count_in rows) 0 p.parts)) ps (rows_counted ws up rows known [] p.parts 0 refl whole))
 
   pub inside_kept : AllByRecursion (λ run. run.lo < length ws) runs
   inside_kept = subst (AllByRecursion (λ run. run.lo < length ws)) (sym p.are) (all_inside ws up rows known [] p.parts 0 refl some whole)
 
-  module _ (blocks : List Cols) (b : map (λ b. b.posts) blocks ≡ map (λ run. filter (is_within run) (posts_by rows numbers)) runs) where
+  module _ (blocks : List Cols) (b : map (λ b. b.posts) blocks ≡ map (λ run. filter (is_within run) posts) runs) where
     pub blocks_made : map (λ (b : Cols). b.posts) blocks ≡ map (block_of ws rows) p.parts
     blocks_made =
-        b ∙ ap (λ ps. map (λ run. filter (is_within run) ps) runs) (numbered_posts ws up rows numbers ns)
+        b ∙ ap (λ qs. map (λ run. filter (is_within run) qs) runs) (sym ps)
         ∙ ap (map (λ run. filter (is_within run) (numbered ws rows))) p.are ∙ blocks_are ws up rows known [] p.parts 0 refl whole
 
     pub as_many : length runs ≡ length blocks
-    as_many = sym (sym (length-map blocks (λ (b : Cols). b.posts)) ∙ ap length b ∙ length-map runs (λ run. filter (is_within run) (posts_by rows numbers)))
+    as_many = sym (sym (length-map blocks (λ (b : Cols). b.posts)) ∙ ap length b ∙ length-map runs (λ run. filter (is_within run) posts))
 
     pub rows_kept : (most : ℕ) → length rows ≤ most → AllByRecursion (λ b. length b.posts ≤ most) blocks
-    rows_kept most few = few_each (posts_by rows numbers) most blocks runs b (omega (arith, posts_many rows numbers many_numbers, few))
+    rows_kept most few = few_each posts most blocks runs b (omega (arith, ap length ps, length-map rows (post_of ws), few))
 
     pub image_made : (heads : List BlockHead) (titles : List (List ℕ)) → heads ≡ map (run_head ws) (zip runs (map (λ b. b.posts) blocks))
         → let i : Image = record { titles = titles; words = ws; heads = heads; blocks = map (λ b. b.posts) blocks; target = target } in IsImage (corpus_of_rows titles rows) target i
     image_made heads titles h =
-        let posts = map (λ (b : Cols). b.posts) blocks in
+        let held = map (λ (b : Cols). b.posts) blocks in
         let joined = p.partition.joined in
-        let blocks_are : posts ≡ map (block_of (flat_map (λ part. part) p.parts) rows) p.parts = blocks_made ∙ ap (λ (x : List (List ℕ)). map (block_of x rows) p.parts) (sym joined) in
+        let blocks_are : held ≡ map (block_of (flat_map (λ part. part) p.parts) rows) p.parts = blocks_made ∙ ap (λ (x : List (List ℕ)). map (block_of x rows) p.parts) (sym joined) in
         let listed : heads ≡ heads_from 0 (zip p.parts (map (block_of (flat_map (λ part. part) p.parts) rows) p.parts)) =
-        h ∙ ap (λ (x : List Run). map (run_head ws) (zip x posts)) p.are ∙ ap (λ (x : List (List Post)). map (run_head ws) (zip (runs_from (count_in rows) 0 p.parts) x)) blocks_made
+        h ∙ ap (λ (x : List Run). map (run_head ws) (zip x held)) p.are ∙ ap (λ (x : List (List Post)). map (run_head ws) (zip (runs_from (count_in rows) 0 p.parts) x)) blocks_made
         ∙ heads_are ws up rows known [] p.parts 0 refl some whole ∙ ap (λ (x : List (List ℕ)). heads_from 0 (zip p.parts (map (block_of x rows) p.parts))) (sym joined) in
         record {
           titles = refl;
           runs = p.parts;
           parted = subst (λ x. IsPartition target (count_in rows) x p.parts) is p.partition;
-          made = same_image titles ws _ heads _ posts _ target (sym joined) listed blocks_are;
+          made = same_image titles ws _ heads _ held _ target (sym joined) listed blocks_are;
         }

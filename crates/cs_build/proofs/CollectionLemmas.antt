@@ -4,6 +4,7 @@
 --   collection_made the corpus that is made of a collection's rows is the collection's
 --   collection_is   and it is a corpus
 --   columns_made, columns_are      so it is where the rows stand in columns
+--   titles_made, titles_are, titles_keep      and where titles stand for documents; titles and rows keep the limits
 use Rattle.std.proofs.Common.{◌≡◌, ℕ, List, map, sym, ap, subst, ◌∙◌}
 use Rattle.cs_base.specs.content.Members.{members_in}
 use Rattle.cs_base.specs.content.Orders.{by_row}
@@ -12,9 +13,11 @@ use Rattle.cs_base.specs.declared.content.doc.Row.{Row}
 use Rattle.cs_base.proofs.MembersLemmas.{listed_itself, listing-rises}
 use Rattle.cs_base.proofs.OrdersLemmas.{by_row_total, by_row_exact}
 use Rattle.cs_docs.proofs.CorpusLaws.{corpus_is}
-use Rattle.cs_model.specs.Collection.{documents}
-use Rattle.cs_model.specs.Corpus.{Corpus, IsCorpus, rows_of, title_of, titles_of, corpus_of}
-use Rattle.cs_build.specs.Building.{corpus_from, corpus_of_rows}
+use Rattle.std.specs.Prelude.{None}
+use Rattle.cs_model.specs.Collection.{docs_refusal, documents}
+use Rattle.cs_model.specs.Corpus.{Corpus, IsCorpus, corpus, rows_of, title_of, titles_of, corpus_of}
+use Rattle.cs_build.specs.Building.{KeepLimits, corpus_from, corpus_of_rows}
+use Rattle.cs_build.proofs.RowLemmas.{keep_limits}
 
 rows_again : (docs : List Doc) → members_in by_row (rows_of docs) ≡ rows_of docs
 rows_again docs = sym (listed_itself by_row by_row_total by_row_exact (rows_of docs) (listing-rises by_row _))
@@ -31,3 +34,14 @@ columns_made docs rows e = ap (λ (rs : List Row). let k : Corpus = record { tit
 
 pub columns_are : (c : List ℕ) (docs : List Doc) (rows : List Row) → docs ≡ documents c → rows ≡ rows_of docs → IsCorpus (corpus_of_rows (map title_of docs) rows)
 columns_are c docs rows d e = subst IsCorpus (sym (columns_made docs rows e ∙ ap corpus_of d)) (corpus_is c)
+
+-- titles and rows of the collection c
+module _ (c : List ℕ) (titles : List (List ℕ)) (rows : List Row) (t : titles ≡ map title_of (documents c)) (r : rows ≡ rows_of (documents c)) where
+  pub titles_made : corpus_of_rows titles rows ≡ corpus c
+  titles_made = ap (λ (ts : List (List ℕ)). corpus_of_rows ts rows) t ∙ columns_made (documents c) rows r
+
+  pub titles_are : IsCorpus (corpus_of_rows titles rows)
+  titles_are = subst IsCorpus (sym titles_made) (corpus_is c)
+
+  pub titles_keep : docs_refusal c ≡ None → KeepLimits titles rows
+  titles_keep h = subst (λ ts. KeepLimits ts rows) (sym t) (subst (KeepLimits (map title_of (documents c))) (sym r) (keep_limits c h))

@@ -6,18 +6,19 @@
 --   IsRoomy, roomy    the block that a post goes into has room for it
 --   one_post          one post more
 --   all_posts         the blocks in the end
-use Rattle.std.proofs.Common.{◌≡◌, ℕ, zero, suc, ◌+◌, ◌-◌, ◌<◌, ◌≤◌, ◌&&◌, true, false, cond, List, [], ◌∷◌, ◌++◌, length, map, take, drop, get_or, set, replicate, refl, sym, ◌∙◌, ap, subst, inl, inr, arith, append_assoc, length-append, drop-cons, add-one}
+--   can_next, taken_next         blocks take the first of some posts
+--   can_front, can_behind, taken-append      blocks take posts one part after another
+--   can_all           blocks without posts can take all posts of their runs
+use Rattle.std.proofs.Common.{◌≡◌, ℕ, zero, suc, ◌+◌, ◌-◌, ◌<◌, ◌≤◌, ◌&&◌, true, false, cond, List, [], ◌∷◌, ◌++◌, length, map, take, drop, get_or, set, replicate, refl, sym, ◌∙◌, ap, subst, inl, inr, arith, append_assoc, append-nil, length-append, drop-cons, add-one}
 use Rattle.std.specs.Prelude.{filter, nat_lt, nat_le}
 use Rattle.std.specs.List.{AllByRecursion}
 use Rattle.std.proofs.lemmas.Bool.{cases_lt}
 use Rattle.std.proofs.lemmas.Bool.Decides.{nat_tests}
-use Rattle.std.proofs.lemmas.List.{length-replicate, take_all, take_more, take-append-drop}
+use Rattle.std.proofs.lemmas.List.{length-replicate, take_all}
 use Rattle.std.proofs.lemmas.List.Elements.{filter-append}
 use Rattle.cs_base.specs.declared.content.doc.Post.{Post}
-use Rattle.cs_cols.specs.HeldPosts.{AreEven, posts_of}
 use Rattle.cs_cols.specs.declared.cols.Cols.{Cols}
-use Rattle.cs_cols.proofs.Columns.{post, posts-at, posts-length}
-use Rattle.cs_build.specs.WordRuns.{has_word, AreSpans, run_places_from, is_within, CountsRows, IsPushed, AreFilled}
+use Rattle.cs_build.specs.WordRuns.{has_word, AreSpans, run_places_from, is_within, CountsRows, IsPushed, CanTake, AreFilled, AreTaken}
 use Rattle.cs_build.specs.declared.parting.Run.{Run}
 
 -- ---- the run of a word
@@ -125,32 +126,6 @@ placed runs words n k s l e =
     let same : p.j ≡ k = omega (arith, p.at, e, ap (λ (m : ℕ). get_or (run_places_from 0 runs) m 0) (let z : n - 0 ≡ n = omega arith in z)) in
     record { only = subst (λ j. IsOnly runs j n) same p.only; inside = omega (arith, same, p.inside) }
 
--- ---- post by post
-pub record PostAt (ps : List Post) (i : ℕ) (p : Post) : Type 0 where
-  pub next : take (i + 1) ps ≡ take i ps ++ p ∷ []
-  pub all : ps ≡ take i ps ++ p ∷ drop (i + 1) ps
-
-get_default : (xs : List ℕ) (i a b : ℕ) → i < length xs → get_or xs i a ≡ get_or xs i b
-get_default [] i a b l = absurd (omega (arith, l))
-get_default (x ∷ xs) zero a b l = refl
-get_default (x ∷ xs) (suc i) a b l = get_default xs i a b (omega (arith, l))
-
--- the post whose entries are read
-pub post_at : (ds ns ps ss : List ℕ) (i d p s : ℕ) → AreEven ds ns ps ss → i < length ns → d ≡ get_or ds i d → p ≡ get_or ps i p → s ≡ get_or ss i s
-    → PostAt (posts_of ds ns ps ss) i (post d (get_or ns i 0) p s)
-post_at ds ns ps ss i d p s even l isd isp iss =
-    let q : Post = post d (get_or ns i 0) p s in
-    let all = posts_of ds ns ps ss in
-    let inside : i < length all = omega (arith, posts-length ds ns ps ss even, l, even.0) in
-    let a : get_or ds i 0 ≡ d = get_default ds i 0 d (omega (arith, l, even.0)) ∙ sym isd in
-    let e : get_or ps i 0 ≡ p = get_default ps i 0 p (omega (arith, l, even.0, even.1)) ∙ sym isp in
-    let f : get_or ss i 0 ≡ s = get_default ss i 0 s (omega (arith, l, even.0, even.2)) ∙ sym iss in
-    let at : get_or all i q ≡ q = sym (posts-at ds ns ps ss even i q (omega (arith, l, even.0))) ∙ rw (a, e, f) refl in
-    record {
-      next = take_more all i q inside ∙ ap (λ x. take i all ++ x ∷ []) at;
-      all = sym (ap (λ x. take i all ++ x) (sym (drop-cons all i q inside ∙ ap (λ m. get_or all i q ∷ drop m all) (sym (add-one i)) ∙ ap (λ x. x ∷ drop (i + 1) all) at)) ∙ take-append-drop i all);
-    }
-
 -- ---- one post more
 kept : (run : Run) (p : Post) (posts : List Post) → has_word run p.word ≡ true → filter (is_within run) (posts ++ p ∷ []) ≡ filter (is_within run) posts ++ p ∷ []
 kept run p posts e = filter-append (is_within run) posts (p ∷ []) ∙ ap (λ b. filter (is_within run) posts ++ cond b (p ∷ []) []) e
@@ -214,12 +189,100 @@ all_posts posts (run ∷ runs) [] f = absurd f
 all_posts posts (run ∷ runs) (b ∷ blocks) f = ap (λ x. x ∷ map (λ b. b.posts) blocks) f.0 ∙ ap (λ l. filter (is_within run) posts ∷ l) (all_posts posts runs blocks f.2)
 
 -- the place of a word that is read
-pub place_at : (runs : List Run) (words n : ℕ) (places : List ℕ) (k : ℕ) → AreSpans 0 runs words → n < words → places ≡ run_places_from 0 runs → k ≡ get_or places n k → IsPlaced runs n k
-place_at runs words n places k s l e is =
-    let many : n < length places = omega (arith, ap length e, places_many 0 0 words runs s, l) in
-    placed runs words n k s l (is ∙ get_default places n k 0 many ∙ ap (λ xs. get_or xs n 0) e)
+place_at : (runs : List Run) (words n : ℕ) (places : List ℕ) → AreSpans 0 runs words → n < words → places ≡ run_places_from 0 runs → IsPlaced runs n (get_or places n 0)
+place_at runs words n places s l e = placed runs words n (get_or places n 0) s l (ap (λ xs. get_or xs n 0) e)
 
-pub pushed : (p : Post) (posts next : List Post) (runs : List Run) (blocks old new : List Cols) (k : ℕ) → next ≡ posts ++ p ∷ [] → IsOnly runs k p.word → AreFilled posts runs blocks → old ≡ blocks → IsPushed old k p new → AreFilled next runs new
-pushed p posts next runs blocks old new k e o f same x =
-    subst (λ ps. AreFilled ps runs new) (sym e) (subst (AreFilled (posts ++ p ∷ []) runs) (sym x.set)
-    (one_post p posts runs old k x.block x.block o (subst (AreFilled posts runs) (sym same) f) x.posts x.room))
+-- ---- blocks that take posts
+all-front : (n : ℕ) (ps qs : List Post) → AllByRecursion (λ p. p.word < n) (ps ++ qs) → AllByRecursion (λ p. p.word < n) ps
+all-front n [] qs h = tt
+all-front n (p ∷ ps) qs h = (h.0, all-front n ps qs h.1)
+
+all-behind : (n : ℕ) (ps qs : List Post) → AllByRecursion (λ p. p.word < n) (ps ++ qs) → AllByRecursion (λ p. p.word < n) qs
+all-behind n [] qs h = h
+all-behind n (p ∷ ps) qs h = all-behind n ps qs h.1
+
+-- the first of posts is taken, and then the others
+module _ (places : List ℕ) (blocks : List Cols) (p : Post) (rest posts : List Post) (e : posts ≡ p ∷ rest) (first : CanTake places blocks posts) where
+  can : CanTake places blocks (p ∷ rest)
+  can = subst (CanTake places blocks) e first
+
+  place : IsPlaced can.runs p.word (get_or places p.word 0)
+  place = place_at can.runs can.words p.word places can.spans can.below.0 can.placed
+
+  pub word_known : p.word < length places
+  word_known = omega (arith, can.below.0, ap length can.placed, places_many 0 0 can.words can.runs can.spans)
+
+  pub place_inside : get_or places p.word 0 < length blocks
+  place_inside = omega (arith, place.inside, filled_many can.before can.runs blocks can.filled)
+
+  pub place_roomy : (d : Cols) → 1 ≤ (get_or blocks (get_or places p.word 0) d).room
+  place_roomy d = roomy p can.before (rest ++ can.behind) (can.before ++ (p ∷ rest ++ can.behind)) can.runs blocks (get_or places p.word 0) d refl place.only can.counted can.filled
+
+  pub can_next : (new : List Cols) → IsPushed blocks (get_or places p.word 0) p new → CanTake places new rest
+  can_next new x = record {
+    runs = can.runs;
+    words = can.words;
+    spans = can.spans;
+    placed = can.placed;
+    below = can.below.1;
+    before = can.before ++ p ∷ [];
+    behind = can.behind;
+    filled = subst (AreFilled (can.before ++ p ∷ []) can.runs) (sym x.set) (one_post p can.before can.runs blocks (get_or places p.word 0) x.block x.block place.only can.filled x.posts x.room);
+    counted = subst (λ ps. AllByRecursion (CountsRows ps) can.runs) (sym (append_assoc can.before (p ∷ []) (rest ++ can.behind))) can.counted;
+  }
+
+  pub taken_next : (new end : List Cols) → IsPushed blocks (get_or places p.word 0) p new → AreTaken places rest new end → AreTaken places posts blocks end
+  taken_next new end x more = subst (λ ps. AreTaken places ps blocks end) (sym e) (λ runs words before spans placed below filled.
+      let place = place_at runs words p.word places spans below.0 placed in
+      let one : AreFilled (before ++ p ∷ []) runs new = subst (AreFilled (before ++ p ∷ []) runs) (sym x.set) (one_post p before runs blocks (get_or places p.word 0) x.block x.block place.only filled x.posts x.room) in
+      subst (λ ps. AreFilled ps runs end) (append_assoc before (p ∷ []) rest) (more runs words (before ++ p ∷ []) spans placed below.1 one))
+
+pub none_taken : (places : List ℕ) (blocks : List Cols) → AreTaken places [] blocks blocks
+none_taken places blocks = λ runs words before spans placed below filled. subst (λ ps. AreFilled ps runs blocks) (sym (append-nil before)) filled
+
+-- posts that are taken one part after another
+pub can_front : (places : List ℕ) (blocks : List Cols) (ps qs : List Post) → CanTake places blocks (ps ++ qs) → CanTake places blocks ps
+can_front places blocks ps qs can = record {
+  runs = can.runs;
+  words = can.words;
+  spans = can.spans;
+  placed = can.placed;
+  below = all-front can.words ps qs can.below;
+  before = can.before;
+  behind = qs ++ can.behind;
+  filled = can.filled;
+  counted = subst (λ x. AllByRecursion (CountsRows (can.before ++ x)) can.runs) (append_assoc ps qs can.behind) can.counted;
+}
+
+pub can_behind : (places : List ℕ) (blocks new : List Cols) (ps qs : List Post) → CanTake places blocks (ps ++ qs) → AreTaken places ps blocks new → CanTake places new qs
+can_behind places blocks new ps qs can taken = record {
+  runs = can.runs;
+  words = can.words;
+  spans = can.spans;
+  placed = can.placed;
+  below = all-behind can.words ps qs can.below;
+  before = can.before ++ ps;
+  behind = can.behind;
+  filled = taken can.runs can.words can.before can.spans can.placed (all-front can.words ps qs can.below) can.filled;
+  counted = subst (λ x. AllByRecursion (CountsRows x) can.runs) (ap (λ x. can.before ++ x) (append_assoc ps qs can.behind) ∙ sym (append_assoc can.before ps (qs ++ can.behind))) can.counted;
+}
+
+pub taken-append : (places : List ℕ) (blocks mid new : List Cols) (ps qs : List Post) → AreTaken places ps blocks mid → AreTaken places qs mid new → AreTaken places (ps ++ qs) blocks new
+taken-append places blocks mid new ps qs a b = λ runs words before spans placed below filled.
+    subst (λ x. AreFilled x runs new) (append_assoc before ps qs)
+    (b runs words (before ++ ps) spans placed (all-behind words ps qs below) (a runs words before spans placed (all-front words ps qs below) filled))
+
+-- blocks without posts, and blocks that took all posts of their runs
+pub can_all : (places : List ℕ) (blocks : List Cols) (runs : List Run) (words : ℕ) (posts : List Post) → AreSpans 0 runs words → places ≡ run_places_from 0 runs → AreFilled [] runs blocks
+    → AllByRecursion (λ p. p.word < words) posts → AllByRecursion (CountsRows posts) runs → CanTake places blocks posts
+can_all places blocks runs words posts spans placed filled below counted = record {
+  runs = runs;
+  words = words;
+  spans = spans;
+  placed = placed;
+  below = below;
+  before = [];
+  behind = [];
+  filled = filled;
+  counted = subst (λ x. AllByRecursion (CountsRows x) runs) (sym (append-nil posts)) counted;
+}

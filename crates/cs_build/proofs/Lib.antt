@@ -3,6 +3,7 @@ pub mod CollectionFiles
 pub mod CollectionLemmas
 pub mod ColumnLemmas
 pub mod FillLemmas
+pub mod GatheringLemmas
 pub mod KeyTextLemmas
 pub mod KindLemmas
 pub mod LengthLemmas

@@ -91,7 +91,7 @@ module _ (docs : List Doc) (rows : List Row) (target : ℕ) (i : Image) (h : Mad
       (λ r w e. ap (λ v. is_scored SCORES (is_facet v) (post_of i.words r)) (word_of_number i.words r.word w) ∙ e)
       (recursion_from_All (λ r. is_scored SCORES (is_facet r.word) (post_of [] r) ≡ true) (members_in by_row rows) (All-members by_row by_row_total by_row_exact (λ r. is_scored SCORES (is_facet r.word) (post_of [] r) ≡ true) rows all))
 
-  within : KeepLimits docs rows → HasLimits i
+  within : KeepLimits (map title_of docs) rows → HasLimits i
   within keep = record {
     few_docs = docs_few;
     texts = subst (All IsUtf8) (sym titles) keep.texts;

@@ -2,7 +2,7 @@
 --
 --   Partly            runs that stand behind a front of the words
 --   agree             the counts of numbers are those of the rows' words
---   numbered_posts    the posts of rows by their words' numbers
+--   numbered_posts    posts are those of their rows
 --   blocks_are        the block of a run has the rows of its words
 --   rows_counted      as many as its words have together
 --   spans_are, few_runs, all_inside     where the runs lie
@@ -31,14 +31,13 @@ use Rattle.cs_base.specs.declared.content.doc.Row.{Row}
 use Rattle.cs_model.specs.Words.{is_filled}
 use Rattle.cs_model_index.specs.Images.{count_in, block_of, head_of, heads_from}
 use Rattle.cs_model_index.specs.Blocks.{block_bytes}
-use Rattle.cs_model_index.specs.Numbered.{word_at, word_number, post_of, numbered, HasWord}
+use Rattle.cs_model_index.specs.Numbered.{word_at, word_number, post_of, rows_at, numbered, HasWord}
 use Rattle.cs_model_index.specs.Partitions.{Count, is_facet, rows_of_run, is_run, is_one_kind, is_light}
 use Rattle.cs_model_index.specs.declared.limits.TheConstants.{MAX_BLOCK_WORDS}
 use Rattle.cs_model_index.proofs.NumberedLemmas.{word_of_number, number_of_word, number_below}
 use Rattle.cs_vocab.specs.Ranges.{IsBelow, AreNumbers}
 use Rattle.cs_build.specs.WordRuns.{AreCounts, AreCountsBy, AreSpans, CountsRows, runs_from, is_within, run_head}
 use Rattle.cs_build.specs.declared.parting.Run.{Run}
-use Rattle.cs_build.proofs.RowPosts.{posts_by}
 
 abbrev Words : Type 0
 Words = List (List ℕ)
@@ -77,17 +76,12 @@ module _ (ws : Words) (up : IsStrictlySortedBy (slice_cmp nat_cmp) ws) where
   agree rows numbers counts words many ns cs n l =
       cs.at n (omega (arith, l, many)) ∙ sym (length-filter (λ m. m == n) numbers) ∙ counted n l rows numbers ns.told (recursion_from_All (IsBelow (length ws)) numbers ns.below)
 
-  posts_are : (rows : List Row) (numbers : List ℕ) → map (word_at ws) numbers ≡ map (λ r. r.word) rows → AllByRecursion (IsBelow (length ws)) numbers → posts_by rows numbers ≡ numbered ws rows
-  posts_are [] numbers e b = refl
-  posts_are (r ∷ rows) [] e b = absurd (omega (arith, ap length e))
-  posts_are (r ∷ rows) (m ∷ numbers) e b =
-      let first : word_at ws m ≡ r.word = ap (λ l. get_or l 0 []) e in
-      let number : m ≡ word_number ws r.word = sym (number_of_word ws m up b.0) ∙ ap (word_number ws) first in
-      ap (λ (n : ℕ). let p : Post = record { doc = r.doc; word = n; pos = r.pos; score = r.score } in p ∷ posts_by rows numbers) number
-      ∙ ap (λ ps. post_of ws r ∷ ps) (posts_are rows numbers (ap (drop 1) e) b.1)
-
-  pub numbered_posts : (rows : List Row) (numbers : List ℕ) → AreNumbers ws numbers (map (λ r. r.word) rows) → posts_by rows numbers ≡ numbered ws rows
-  numbered_posts rows numbers ns = posts_are rows numbers ns.told (recursion_from_All (IsBelow (length ws)) numbers ns.below)
+  -- posts whose words are there are those of their rows
+  pub numbered_posts : (posts : List Post) → AllByRecursion (λ p. p.word < length ws) posts → numbered ws (rows_at ws posts) ≡ posts
+  numbered_posts [] b = refl
+  numbered_posts (p ∷ posts) b =
+      ap (λ (n : ℕ). let q : Post = record { doc = p.doc; word = n; pos = p.pos; score = p.score } in q ∷ numbered ws (rows_at ws posts)) (number_of_word ws p.word up b.0)
+      ∙ ap (λ ps. p ∷ ps) (numbered_posts posts b.1)
 
   -- ---- the words of a run
   in_range : (lo n k : ℕ) → (nat_le lo n && nat_lt n (lo + k)) ≡ true → (lo ≤ n) × (n < lo + k)

@@ -4,7 +4,7 @@
 --
 --   TitlesAreParts          titles together have at most as many bytes as the collection
 --   TitlesHaveFewBytes      so those of a collection that isn't refused have few enough for a file
---   CollectionsKeepLimits   documents and rows of a collection that isn't refused keep the limits
+--   CollectionsKeepLimits   titles and rows of a collection that isn't refused keep the limits
 --   Made docs rows target i     i is the image of documents and rows, few enough of both and of words
 --   ImagesHaveLimits        it is within the limits of files, where documents and rows keep them
 --   FilesOfCollections      the file of a collection's image is an index file, of which the image and the corpus are read
@@ -32,7 +32,7 @@ TitlesHaveFewBytes = (c : List ℕ) → docs_refusal c ≡ None → length (titl
 
 -- so its rows, however many they are
 abbrev pub CollectionsKeepLimits : Type 0
-CollectionsKeepLimits = (c : List ℕ) → docs_refusal c ≡ None → KeepLimits (documents c) (rows_of (documents c))
+CollectionsKeepLimits = (c : List ℕ) → docs_refusal c ≡ None → KeepLimits (map title_of (documents c)) (rows_of (documents c))
 
 -- rows may come in any order; of no documents and no rows the image of the empty corpus
 pub record Made (docs : List Doc) (rows : List Row) (target : ℕ) (i : Image) : Type 0 where
@@ -46,7 +46,7 @@ pub record Made (docs : List Doc) (rows : List Row) (target : ℕ) (i : Image) :
 
 -- so such an image has a file that is accepted
 abbrev pub ImagesHaveLimits : Type 0
-ImagesHaveLimits = (docs : List Doc) (rows : List Row) (target : ℕ) (i : Image) → Made docs rows target i → KeepLimits docs rows → HasLimits i
+ImagesHaveLimits = (docs : List Doc) (rows : List Row) (target : ℕ) (i : Image) → Made docs rows target i → KeepLimits (map title_of docs) rows → HasLimits i
 
 -- of an accepted collection, for each target from 1 to MAX_TARGET
 abbrev pub FilesOfCollections : Type 0

@@ -4,9 +4,9 @@
 --
 --   corpus_of_rows titles rows      titles by their numbers, and rows in order
 --   corpus_from docs rows     the titles of documents by their numbers, and rows that may come in any order
---   KeepLimits docs rows      titles, words, positions and scores are those of a collection
+--   KeepLimits titles rows    titles, words, positions and scores are those of a collection
 --   build_refusal_of e        the refusal of a collection that the fault e names; None for want of memory
-use Rattle.std.specs.Prelude.{◌≡◌, ℕ, ◌^◌, ◌<◌, ◌≤◌, true, List, [], length, map, All, Option, Some, None}
+use Rattle.std.specs.Prelude.{◌≡◌, ℕ, ◌^◌, ◌<◌, ◌≤◌, true, List, [], length, All, Option, Some, None}
 use Rattle.std.specs.Str.{IsUtf8}
 use Rattle.cs_base.specs.content.Members.{members_in}
 use Rattle.cs_base.specs.content.Orders.{by_row}
@@ -14,7 +14,7 @@ use Rattle.cs_base.specs.declared.content.doc.Doc.{Doc}
 use Rattle.cs_base.specs.declared.content.doc.Row.{Row}
 use Rattle.cs_base.specs.declared.content.limits.TheConstants.{MAX_LINE_BYTES}
 use Rattle.cs_model.specs.Collection.{CollectionRefusal, too_many_words}
-use Rattle.cs_model.specs.Corpus.{Corpus, by_number, title_of, titles_of}
+use Rattle.cs_model.specs.Corpus.{Corpus, by_number, titles_of}
 use Rattle.cs_model.specs.Scores.{SCORES}
 use Rattle.cs_model_index.specs.BlockRules.{is_scored}
 use Rattle.cs_model_index.specs.FileRules.{is_word}
@@ -33,11 +33,11 @@ abbrev pub corpus_from : List Doc → List Row → Corpus
 corpus_from docs rows = record { titles = titles_of docs; rows = members_in by_row rows }
 
 -- titles are texts and not too long, words have the form of a collection's words, and each row has the position and the score of its
--- kind; no documents and no rows keep them
-pub record KeepLimits (docs : List Doc) (rows : List Row) : Type 0 where
-  pub texts : All IsUtf8 (map title_of docs)
-  pub short : All (λ t. length t ≤ MAX_LINE_BYTES) (map title_of docs)
-  pub few_bytes : length (title_bytes (map title_of docs)) < 2 ^ 32
+-- kind; no titles and no rows keep them
+pub record KeepLimits (titles : List (List ℕ)) (rows : List Row) : Type 0 where
+  pub texts : All IsUtf8 titles
+  pub short : All (λ t. length t ≤ MAX_LINE_BYTES) titles
+  pub few_bytes : length (title_bytes titles) < 2 ^ 32
   pub words : All (λ r. is_word r.word ≡ true) rows
   pub scored : All (λ r. is_scored SCORES (is_facet r.word) (post_of [] r) ≡ true) rows
 

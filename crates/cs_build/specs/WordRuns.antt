@@ -13,9 +13,11 @@
 --   CountsRows posts run       the run has as many rows as there are posts of its words
 --   AreFilled posts runs blocks      each block has those of these posts that have a word of its run, and room for its other rows
 --   IsPushed old i post new      the post was added at the end of block number i
+--   CanTake places blocks posts      blocks of runs, where `places` says for each word the index of its run, have room for these posts
+--   AreTaken places posts old new    each of these posts was added to the block of its word's run
 --   run_head ws p              what the directory says of a run and its posts
 use Rattle.std.specs.Prelude.{◌≡◌, ℕ, ◌+◌, ◌≤◌, ◌<◌, ◌&&◌, ◌==◌, Bool, nat_le, nat_lt, List, [], ◌∷◌, ◌++◌, length, filter, replicate, slice_index_or, slice_set}
-use Rattle.std.specs.List.{count_by}
+use Rattle.std.specs.List.{AllByRecursion, count_by}
 use Rattle.cs_base.specs.declared.index.block.BlockHead.{BlockHead}
 use Rattle.cs_base.specs.declared.content.doc.Post.{Post}
 use Rattle.cs_cols.specs.declared.cols.Cols.{Cols}
@@ -81,6 +83,22 @@ pub record IsPushed (old : List Cols) (i : ℕ) (post : Post) (new : List Cols) 
   pub set : new ≡ slice_set old i block
   pub posts : block.posts ≡ (slice_index_or old i block).posts ++ post ∷ []
   pub room : (slice_index_or old i block).room ≤ block.room + 1
+
+-- they are such blocks with the posts that came before, and more may come behind
+pub record CanTake (places : List ℕ) (blocks : List Cols) (posts : List Post) : Type 0 where
+  pub runs : List Run
+  pub words : ℕ
+  pub spans : AreSpans 0 runs words
+  pub placed : places ≡ run_places_from 0 runs
+  pub below : AllByRecursion (λ p. p.word < words) posts
+  pub before : List Post
+  pub behind : List Post
+  pub filled : AreFilled before runs blocks
+  pub counted : AllByRecursion (CountsRows (before ++ (posts ++ behind))) runs
+
+-- whatever posts came before; where there are no posts, the blocks are as they were
+abbrev pub AreTaken : List ℕ → List Post → List Cols → List Cols → Type 0
+AreTaken places posts old new = (runs : List Run) (words : ℕ) (before : List Post) → AreSpans 0 runs words → places ≡ run_places_from 0 runs → AllByRecursion (λ p. p.word < words) posts → AreFilled before runs old → AreFilled (before ++ posts) runs new
 
 -- of a run without posts it has no bytes
 abbrev pub run_head : List (List ℕ) → Run × List Post → BlockHead

@@ -45,37 +45,37 @@ pub fn image(
 
     // it can be written, and where the rows are those of a collection its file is an index file
     ensures writable { length (title_bytes (map title_of docs)) < 2 ^ 32 → IfOk result CanBeWritten }
-    ensures limits { KeepLimits docs rows → IfOk result HasLimits }
+    ensures limits { KeepLimits (map title_of docs) rows → IfOk result HasLimits }
 {
     let rows = in_order(alloc, rows)?;
-    let columns = RowColumns::of_rows(alloc, &rows)?;
-    image_of_columns(alloc, columns, docs, target)
+    let columns = RowColumns::of_rows(alloc, rows)?;
+    let titles = titles_of(alloc, docs)?;
+    image_of_columns(alloc, columns, titles, target)
 }
 
-/// The image of the titles of documents and of rows, which are in order and in columns.
+/// The image of titles, by the numbers of their documents, and of rows, which are in order and in columns.
 ///
-/// Of a document only its title is used. A block of several words has at most `target` rows.
+/// A block of several words has at most `target` rows.
 pub fn image_of_columns(
     alloc: Global,
     rows: RowColumns,
-    docs: Seq<Doc>,
+    titles: Seq<Text>,
     target: u32,
 ) -> Result<Image, BuildFault>
-    requires corpus { IsCorpus (corpus_of_rows (map title_of docs) rows) }
+    requires corpus { IsCorpus (corpus_of_rows titles rows) }
     requires few { length rows ≤ MAX_ROWS }
-    requires few_docs { length docs ≤ MAX_DOCS }
+    requires few_docs { length titles ≤ MAX_DOCS }
     requires target_from { 1 ≤ target }
     requires target_to { target ≤ MAX_TARGET }
 
-    ensures ok { IfOk result (IsImage (corpus_of_rows (map title_of docs) rows) target) }
+    ensures ok { IfOk result (IsImage (corpus_of_rows titles rows) target) }
     ensures few_words { OnOk result (length (distinct_words rows) ≤ MAX_WORDS) }
     ensures too_many_words { IsErrOf result BuildFault.TooManyWords → MAX_WORDS < length (distinct_words rows) }
 
     // it can be written, and where the rows are those of a collection its file is an index file
-    ensures writable { length (title_bytes (map title_of docs)) < 2 ^ 32 → IfOk result CanBeWritten }
-    ensures limits { KeepLimits docs rows → IfOk result HasLimits }
+    ensures writable { length (title_bytes titles) < 2 ^ 32 → IfOk result CanBeWritten }
+    ensures limits { KeepLimits titles rows → IfOk result HasLimits }
 {
-    let titles = titles_of(alloc, docs)?;
     built(alloc, titles, rows, target)
 }
 
@@ -94,12 +94,16 @@ fn built(
     ensures few_words { OnOk result (length (distinct_words rows) ≤ MAX_WORDS) }
     ensures too_many_words { IsErrOf result BuildFault.TooManyWords → MAX_WORDS < length (distinct_words rows) }
 {
-    let RowColumns { words, posts } = rows;
+    let RowColumns {
+        words,
+        numbers,
+        form,
+    } = rows;
     if words.len() as usize > MAX_WORDS {
         return Err(BuildFault::TooManyWords);
     }
-    let runs = runs_of(alloc, &words, posts.numbers.as_slice(), target)?;
-    let blocks = blocks_of(alloc, &runs, words.len(), &posts)?;
+    let runs = runs_of(alloc, &words, numbers.as_slice(), target)?;
+    let blocks = blocks_of(alloc, &runs, words.len(), numbers.as_slice(), &form)?;
     let heads = heads_of(alloc, &words, &runs, &blocks)?;
     Ok(Image {
         titles,

@@ -1,15 +1,15 @@
 //! The blocks of runs of words.
-ghost use Rattle.std.specs.Prelude.{◌≡◌, ◌+◌, ◌≤◌, ◌<◌, [], length, map, filter, IfOk, slice_index_or};
+ghost use Rattle.std.specs.Prelude.{◌≡◌, ℕ, ◌+◌, ◌≤◌, ◌<◌, ◌^◌, [], length, map, filter, IfOk, slice_index_or};
 ghost use Rattle.std.specs.List.{All, AllByRecursion};
+ghost use Rattle.cs_base.specs.declared.content.limits.TheConstants.{MAX_DOCS, MAX_DOC_WORDS};
 ghost use Rattle.cs_vocab.specs.Ranges.{IsBelow};
 ghost use Rattle.cs_cols.specs.declared.cols.Cols.{Cols};
-ghost use Rattle.cs_cols.specs.HeldPosts.{AreEven};
-ghost use Rattle.cs_build.specs.RowColumns.{posts_in};
-ghost use Rattle.cs_build.specs.WordRuns.{AreSpans, AreFilled, CountsRows, IsPushed, is_within, run_places_from};
+ghost use Rattle.cs_build.specs.RowColumns.{AreDocRows, IsFormOf, behind_doc, facet_posts, posts_by, posts_in, posts_of_doc, posts_of_docs, word_posts};
+ghost use Rattle.cs_build.specs.WordRuns.{AreSpans, AreFilled, AreTaken, CanTake, CountsRows, IsPushed, is_within, run_places_from};
 
 use crate::parting::Run;
-use crate::row_columns::PostColumns;
-use cs_base::{Memory, Post};
+use crate::row_form::{DocRows, RowForm};
+use cs_base::{BEHIND_TITLE, FACET_SCORE, Memory, Post, Row, TEXT_SCORE, TITLE_SCORE};
 use cs_cols::Cols;
 use std::alloc::Global;
 
@@ -18,29 +18,132 @@ pub(crate) fn blocks_of(
     alloc: Global,
     runs: &[Run],
     words: u32,
-    posts: &PostColumns,
+    numbers: &[u32],
+    form: &RowForm,
 ) -> Result<Vec<Cols>, Memory>
     requires spans { AreSpans 0 runs.now words }
-    requires below { All (IsBelow words) posts.now.numbers }
-    requires even { AreEven posts.now.docs.items posts.now.numbers posts.now.places.items posts.now.scores.items }
+    requires below { All (IsBelow words) numbers.now }
+    requires form { IsFormOf form.now numbers.now }
     requires few { length runs.now ≤ words }
-    requires counted { AllByRecursion (CountsRows (posts_in posts.now)) runs.now }
+    requires counted { AllByRecursion (CountsRows (posts_in form.now numbers.now)) runs.now }
 
-    ensures { IfOk result (λ blocks. map (λ b. b.posts) blocks.items ≡ map (λ run. filter (is_within run) (posts_in posts.now)) runs.now) }
+    ensures { IfOk result (λ blocks. map (λ b. b.posts) blocks.items ≡ map (λ run. filter (is_within run) (posts_in form.now numbers.now)) runs.now) }
 {
     let places = places_of(alloc, runs, words)?;
     let mut blocks = empty_blocks(alloc, runs)?;
-    for (i, number) in posts.numbers.as_slice().iter().enumerate() {
-        let word = *number;
-        let post = Post {
-            doc: posts.docs[i],
-            word,
-            pos: posts.places[i],
-            score: posts.scores[i],
-        };
-        push_at(&mut blocks, places[word as usize] as usize, post);
-    }
+    fill(&mut blocks, &places, numbers, form);
     Ok(blocks)
+}
+
+// Puts each post into the block of its word, whose index `places` says.
+fn fill(blocks: &mut [Cols], places: &[u32], numbers: &[u32], form: &RowForm)
+    requires form { IsFormOf form.now numbers.now }
+    requires room { CanTake places.now blocks.old (posts_in form.now numbers.now) }
+
+    ensures { AreTaken places.now (posts_in form.now numbers.now) blocks.old blocks.new }
+{
+    match form {
+        RowForm::Listed(rows) => fill_rows(blocks, places, numbers, rows.as_slice()),
+        RowForm::Counted(docs) => fill_docs(blocks, places, numbers, docs),
+    }
+}
+
+fn fill_rows(blocks: &mut [Cols], places: &[u32], numbers: &[u32], rows: &[Row])
+    requires each { length rows.now ≡ length numbers.now }
+    requires room { CanTake places.now blocks.old (posts_by rows.now numbers.now) }
+
+    ensures { AreTaken places.now (posts_by rows.now numbers.now) blocks.old blocks.new }
+{
+    for (i, number) in numbers.iter().enumerate() {
+        let row = &rows[i];
+        let post = Post {
+            doc: row.doc,
+            word: *number,
+            pos: row.pos,
+            score: row.score,
+        };
+        push_at(blocks, places[*number as usize] as usize, post);
+    }
+}
+
+fn fill_docs(blocks: &mut [Cols], places: &[u32], numbers: &[u32], docs: &[DocRows])
+    requires few { length docs.now ≤ MAX_DOCS }
+    requires each { AreDocRows docs.now numbers.now }
+    requires room { CanTake places.now blocks.old (posts_of_docs 0 docs.now numbers.now) }
+
+    ensures { AreTaken places.now (posts_of_docs 0 docs.now numbers.now) blocks.old blocks.new }
+{
+    let mut rest = numbers;
+    for (doc, rows) in docs.iter().enumerate() {
+        rest = fill_doc(blocks, places, rest, doc as u32, *rows);
+    }
+}
+
+// Puts the posts of a document into their blocks, and gives the numbers behind those of its words.
+fn fill_doc<'a>(
+    blocks: &mut [Cols],
+    places: &[u32],
+    numbers: &'a [u32],
+    doc: u32,
+    rows: DocRows,
+) -> &'a [u32]
+    requires each { rows.facets + (rows.titles + rows.texts) ≤ length numbers.now }
+    requires few { rows.titles + rows.texts ≤ MAX_DOC_WORDS }
+    requires room { CanTake places.now blocks.old (posts_of_doc doc rows numbers.now) }
+
+    ensures behind { result.now ≡ behind_doc rows numbers.now }
+    ensures taken { AreTaken places.now (posts_of_doc doc rows numbers.now) blocks.old blocks.new }
+{
+    let (facets, words) = numbers.split_at(rows.facets as usize);
+    let (titles, words) = words.split_at(rows.titles as usize);
+    let (texts, behind) = words.split_at(rows.texts as usize);
+    fill_facets(blocks, places, facets, doc);
+    fill_words(blocks, places, titles, doc, 1, TITLE_SCORE);
+    fill_words(
+        blocks,
+        places,
+        texts,
+        doc,
+        rows.titles + BEHIND_TITLE,
+        TEXT_SCORE,
+    );
+    behind
+}
+
+fn fill_facets(blocks: &mut [Cols], places: &[u32], numbers: &[u32], doc: u32)
+    requires { CanTake places.now blocks.old (facet_posts doc numbers.now) }
+
+    ensures { AreTaken places.now (facet_posts doc numbers.now) blocks.old blocks.new }
+{
+    for number in numbers {
+        let post = Post {
+            doc,
+            word: *number,
+            pos: 0,
+            score: FACET_SCORE,
+        };
+        push_at(blocks, places[*number as usize] as usize, post);
+    }
+}
+
+// The words stand at positions from `pos` on.
+fn fill_words(blocks: &mut [Cols], places: &[u32], numbers: &[u32], doc: u32, pos: u32, score: u8)
+    requires few { pos + length numbers.now < 2 ^ 32 }
+    requires room { CanTake places.now blocks.old (word_posts doc score pos numbers.now) }
+
+    ensures { AreTaken places.now (word_posts doc score pos numbers.now) blocks.old blocks.new }
+{
+    let mut at = pos;
+    for number in numbers {
+        let post = Post {
+            doc,
+            word: *number,
+            pos: at,
+            score,
+        };
+        push_at(blocks, places[*number as usize] as usize, post);
+        at += 1;
+    }
 }
 
 // For each word the index of the run that has it.

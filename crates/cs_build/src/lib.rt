@@ -5,6 +5,7 @@
 #![tactic(auto)]
 
 mod building;
+mod column_words;
 mod fault;
 mod filling;
 mod heads;
@@ -12,6 +13,7 @@ pub mod laws;
 mod ordering;
 mod parting;
 mod row_columns;
+mod row_form;
 mod row_gathering;
 
 pub use building::{image, image_of_columns};

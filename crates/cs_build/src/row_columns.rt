@@ -1,14 +1,15 @@
 //! Rows in columns.
-ghost use Rattle.std.specs.Prelude.{◌≡◌, ℕ, ◌≤◌, ◌<◌, None, List, length, IfOk, OnOk, IsErrOf};
+ghost use Rattle.std.specs.Prelude.{◌≡◌, ℕ, ◌≤◌, ◌<◌, None, List, length, map, IfOk, OnOk, IsErrOf};
 ghost use Rattle.cs_base.specs.declared.content.limits.TheConstants.{MAX_ROWS};
+ghost use Rattle.cs_docs.specs.LinesRead.{doc_of_lent};
 ghost use Rattle.cs_docs.specs.declared.fault.RowsFault.{RowsFault};
 ghost use Rattle.cs_model.specs.Collection.{documents, docs_refusal};
 ghost use Rattle.cs_model.specs.Corpus.{rows_of};
-ghost use Rattle.cs_build.specs.RowColumns.{IsRowGathering, rows_gathered};
 
+use crate::row_form::RowForm;
 use crate::row_gathering::RowGathering;
-use cs_base::{Doc, MAX_ROWS, Memory, Row, Seq};
-use cs_docs::{RowsFault, add_rows};
+use cs_base::{MAX_ROWS, Memory, Row, Seq};
+use cs_docs::{LentDoc, RowsFault};
 use cs_vocab::{Numbered, Vocab};
 use std::alloc::Global;
 use std::marker::Model;
@@ -16,24 +17,12 @@ use std::marker::Model;
 // Most texts have a word for so many bytes or more. Others take memory for their rows once more.
 const LIKELY_BYTES: usize = 4;
 
-/// The posts of rows, column by column.
-#[derive(Debug, Drop)]
-pub(crate) struct PostColumns {
-    /// The documents.
-    pub(crate) docs: Vec<u32>,
-    /// The numbers of the words.
-    pub(crate) numbers: Seq<u32>,
-    /// The positions.
-    pub(crate) places: Vec<u32>,
-    /// The scores.
-    pub(crate) scores: Vec<u8>,
-}
-
-/// Rows, which contracts see as their list: column by column, with each word once and its number in each row. A row takes 13 bytes.
+/// Rows, which contracts see as their list: each word once, its number in each row, and a form of the rest of the rows.
 #[derive(Debug, Drop)]
 pub struct RowColumns {
     pub(crate) words: Vocab,
-    pub(crate) posts: PostColumns,
+    pub(crate) numbers: Seq<u32>,
+    pub(crate) form: RowForm,
 }
 
 impl Model for RowColumns {
@@ -44,84 +33,65 @@ impl Model for RowColumns {
 
     ghost Value = { List Row };
 
-    ghost view = { λ c. rows_at c.words (posts_in c.posts) };
+    ghost view = { λ c. rows_at c.words (posts_in c.form c.numbers) };
 
-    ghost invariant = { λ c. AreColumns c.words c.posts };
+    ghost invariant = { λ c. AreColumns c.words c.numbers c.form };
 }
 
 impl RowColumns {
-    /// The rows of documents that `read_docs` gave, by document, position and word.
+    /// The rows of documents that `lent_docs` gave, by document, position and word.
     ///
     /// They are those of `rows_of` of `cs_docs`. `TooManyRows` comes where there are more than `MAX_ROWS` of them.
-    pub fn of_docs(alloc: Global, docs: &Seq<Doc>) -> Result<RowColumns, RowsFault>
-        requires read { (c : List ℕ) × (docs_refusal c ≡ None) × (docs.now ≡ documents c) }
+    pub fn of_docs(alloc: Global, docs: &[LentDoc<'_>]) -> Result<RowColumns, RowsFault>
+        requires read { (c : List ℕ) × (docs_refusal c ≡ None) × (map doc_of_lent docs.now ≡ documents c) }
 
-        ensures ok { IfOk result (λ rows. rows ≡ rows_of docs.now) }
-        ensures few { OnOk result (length (rows_of docs.now) ≤ MAX_ROWS) }
-        ensures too_many { IsErrOf result RowsFault.TooManyRows → MAX_ROWS < length (rows_of docs.now) }
+        ensures ok { IfOk result (λ rows. rows ≡ rows_of (map doc_of_lent docs.now)) }
+        ensures few { OnOk result (length (rows_of (map doc_of_lent docs.now)) ≤ MAX_ROWS) }
+        ensures too_many { IsErrOf result RowsFault.TooManyRows → MAX_ROWS < length (rows_of (map doc_of_lent docs.now)) }
     {
-        let mut gathering = RowGathering::with_capacity(alloc, likely_rows(docs.as_slice()))?;
-        let mut rows = Vec::new(alloc);
-        for (number, doc) in docs.as_slice().iter().enumerate() {
-            rows.clear();
-            add_rows(alloc, &mut rows, number as u32, doc)?;
-            gathering.add(alloc, &rows)?;
+        let rows = likely_rows(docs);
+        let mut gathering = RowGathering::with_capacity(alloc, rows, docs.len())?;
+        for doc in docs {
+            gathering.add_doc(alloc, doc)?;
         }
-        let columns = numbered(alloc, gathering)?;
-        Ok(columns)
+        let RowGathering { words, docs } = gathering;
+        let Numbered { words, numbers } = Numbered::gathered(alloc, words)?;
+        Ok(RowColumns {
+            words,
+            numbers,
+            form: RowForm::Counted(docs),
+        })
     }
 
     /// These rows.
-    pub fn of_rows(alloc: Global, rows: &Seq<Row>) -> Result<RowColumns, Memory>
-        requires few { length rows.now ≤ MAX_ROWS }
+    pub fn of_rows(alloc: Global, rows: Seq<Row>) -> Result<RowColumns, Memory>
+        requires few { length rows ≤ MAX_ROWS }
 
-        ensures ok { IfOk result (λ columns. columns ≡ rows.now) }
+        ensures ok { IfOk result (λ columns. columns ≡ rows) }
     {
-        let mut gathering = RowGathering::with_capacity(alloc, rows.len())?;
-        match gathering.add(alloc, rows.as_slice()) {
-            Ok(()) => numbered(alloc, gathering),
-            Err(RowsFault::Memory) => Err(Memory),
-            Err(RowsFault::TooManyRows) => unreachable!(),
-        }
+        let Numbered { words, numbers } = Numbered::of(alloc, &rows)?;
+        Ok(RowColumns {
+            words,
+            numbers,
+            form: RowForm::Listed(rows),
+        })
     }
 
     /// How many rows there are.
     pub fn len(&self) -> usize
         ensures { result ≡ length self.now }
     {
-        self.posts.docs.len()
+        self.numbers.len()
     }
 }
 
-// The rows that were gathered, with the numbers of their words.
-fn numbered(alloc: Global, gathering: RowGathering) -> Result<RowColumns, Memory>
-    requires is { IsRowGathering gathering }
-
-    ensures { IfOk result (λ columns. columns ≡ rows_gathered gathering) }
-{
-    let RowGathering {
-        words,
-        docs,
-        places,
-        scores,
-    } = gathering;
-    let Numbered { words, numbers } = Numbered::gathered(alloc, words)?;
-    let posts = PostColumns {
-        docs,
-        numbers,
-        places,
-        scores,
-    };
-    Ok(RowColumns { words, posts })
-}
-
 // How many rows documents are likely to have, by the bytes of their titles and texts.
-fn likely_rows(docs: &[Doc]) -> usize {
+fn likely_rows(docs: &[LentDoc<'_>]) -> usize {
     let mut bytes: usize = 0;
     for doc in docs {
         bytes = bytes
-            .saturating_add(doc.title.as_str().len())
-            .saturating_add(doc.text.as_str().len());
+            .saturating_add(doc.title.len())
+            .saturating_add(doc.text.len());
     }
     (bytes / LIKELY_BYTES).min(MAX_ROWS)
 }

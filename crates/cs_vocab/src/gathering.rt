@@ -54,6 +54,13 @@ impl Gathering {
         })
     }
 
+    /// How many words came.
+    pub fn len(&self) -> usize
+        ensures { result ≡ length (gathered self.now) }
+    {
+        self.indices.len()
+    }
+
     /// Adds the word of these bytes at the end. Where memory runs out, the gathering is of no more use.
     pub fn push(&mut self, alloc: Global, word: &[u8]) -> Result<(), Memory>
         requires is { IsGathering self.old }

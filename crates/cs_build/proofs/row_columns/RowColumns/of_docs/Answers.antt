@@ -1,65 +1,78 @@
-use Rattle.std.proofs.Common.{◌≡◌, ◌+◌, ◌<◌, ◌++◌, length, drop, get_or, refl, sym, ap, subst, ◌∙◌, arith, length-append}
-use Rattle.std.specs.Prelude.{Result, Err}
-use Rattle.std.specs.Result.{IsErrAnd, IsErrOf}
-use Rattle.std.proofs.lemmas.List.Elements.{All-get_or}
+use Rattle.std.proofs.Common.{◌≡◌, ◌+◌, ◌++◌, ◌≤◌, [], ◌∷◌, List, length, map, take, get_or, sym, ap, subst, ◌∙◌, arith}
+use Rattle.std.specs.Prelude.{flat_map}
+use Rattle.std.proofs.lemmas.List.{length-map, take_all}
+use Rattle.std.proofs.lemmas.List.Elements.{All-get_or, recursion_from_All}
+use Rattle.cs_base.specs.declared.content.doc.Doc.{Doc}
+use Rattle.cs_base.specs.declared.content.limits.TheConstants.{MAX_DOCS}
 use Rattle.cs_docs.specs.FacetPieces.{CanBeListed}
-use Rattle.cs_docs.specs.Listing.{listed_doc, listed_rows}
+use Rattle.cs_docs.specs.LinesRead.{doc_of_lent}
+use Rattle.cs_docs.specs.declared.document.LentDoc.{LentDoc}
 use Rattle.cs_docs.specs.declared.fault.RowsFault.TheVariants.{TooManyRows}
-use Rattle.cs_docs.proofs.AcceptedCollections.{accepted_docs, few_docs}
-use Rattle.cs_docs.proofs.ListingLemmas.{last_rows, next_rows, rows_listed}
-use Rattle.cs_build.specs.RowColumns.{rows_gathered}
-use Rattle.cs_build.proofs.ColumnLemmas.{gathered_many}
+use Rattle.cs_docs.proofs.AcceptedCollections.{accepted_docs, accepted_lent, few_documents}
+use Rattle.cs_docs.proofs.ListingLemmas.{rows_listed}
+use Rattle.cs_model_index.specs.Numbered.{rows_at}
+use Rattle.cs_vocab.specs.Gathering.{gathered}
+use Rattle.cs_build.specs.RowColumns.{AreDocRows, doc_rows_of, listed_words, posts_of_docs}
+use Rattle.cs_build.specs.declared.row_form.RowForm.TheVariants.{Counted}
+use Rattle.cs_build.proofs.ColumnLemmas.{columns_are}
+use Rattle.cs_build.proofs.GatheringLemmas.{err_is}
+use Rattle.cs_build.proofs.RowPosts.{counted_docs, counts_more, few_more, listed_many, rows_of_numbers, words_more}
 use Rattle.cs_build.proofs.row_columns.RowColumns.of_docs.Goals as goal
 
-pub overflow_cast-number : goal.overflow_cast-number
-overflow_cast-number c = omega (arith, c.loop-number-test.true, ap length c.as_slice-doc-items.ensures, few_docs c.requires.read.0 c.args.docs.now c.requires.read.1 c.requires.read.2)
+abbrev none : LentDoc
+none = record { title = record { ref_ptr = (0, 0); now = [] }; facets = record { ref_ptr = (0, 0); now = [] }; text = record { ref_ptr = (0, 0); now = [] }; line = 0 }
 
-pub add_rows-requires : goal.add_rows-requires
-add_rows-requires c =
-    let docs = c.args.docs.now in
-    let doc = c.doc-item.result in
-    let l : c.loop-number.number < length docs = omega (arith, c.loop-number-test.true, ap length c.as_slice-doc-items.ensures) in
-    let e : doc ≡ get_or docs c.loop-number.number doc = c.doc-item.is ∙ ap (λ ds. get_or ds c.loop-number.number doc) c.as_slice-doc-items.ensures in
-    subst CanBeListed (sym e) (All-get_or CanBeListed docs c.loop-number.number doc l (accepted_docs c.requires.read.0 docs c.requires.read.1 c.requires.read.2))
+pub add_doc-requires-clause-listed : goal.add_doc-requires-clause-listed
+add_doc-requires-clause-listed c =
+    All-get_or (λ d. CanBeListed (doc_of_lent d)) c.args.docs.now c.loop-doc.doc-index none c.loop-doc-test.true (accepted_lent c.requires.read.0 c.args.docs.now c.requires.read.1 c.requires.read.2)
 
-pub loop-number-preserved : goal.loop-number-preserved
-loop-number-preserved c =
+pub loop-doc-preserved : goal.loop-doc-preserved
+loop-doc-preserved c =
     let docs = c.args.docs.now in
-    let doc = c.doc-item.result in
-    let g = c.loop-number.gathering in
-    let l : c.loop-number.number < length docs = omega (arith, c.loop-number-test.true, ap length c.as_slice-doc-items.ensures) in
-    let e : doc ≡ get_or docs c.loop-number.number doc = c.doc-item.is ∙ ap (λ ds. get_or ds c.loop-number.number doc) c.as_slice-doc-items.ensures in
-    let rows : c.deref.result.now ≡ listed_doc (c.loop-number.number, doc) = c.deref.ensures.value ∙ c.in_ok-add_rows.ensures.ok ∙ ap (λ rs. rs ++ listed_doc (c.loop-number.number, doc)) c.clear.ensures.items in
-    let new = c.in_ok-add.ensures.rows ∙ ap (λ rs. rows_gathered g ++ rs) rows in
-    record { told = next_rows docs c.loop-number.number doc (rows_gathered g) (rows_gathered c.add.new.self) l e new c.loop-number.invariant.told; is = c.in_ok-add.ensures.is }
+    let i = c.loop-doc.doc-index in
+    let l = c.loop-doc-test.true in
+    record {
+      words = c.in_ok-add_doc.ensures.words ∙ ap (λ ws. ws ++ listed_words (doc_of_lent (get_or docs i none))) c.loop-doc.invariant.words ∙ sym (words_more docs i none l);
+      docs = c.in_ok-add_doc.ensures.docs ∙ ap (λ es. es ++ doc_rows_of (doc_of_lent (get_or docs i none)) ∷ []) c.loop-doc.invariant.docs ∙ sym (counts_more docs i none l);
+      is = c.in_ok-add_doc.ensures.is;
+    }
+
+pub returns-in_err-add_doc-clause-too_many : goal.returns-in_err-add_doc-clause-too_many
+returns-in_err-add_doc-clause-too_many c = λ told.
+    let docs = c.args.docs.now in
+    let all = map doc_of_lent docs in
+    omega (
+      arith,
+      c.in_err-add_doc.ensures.too_many (err_is c.from_residual-in_err-add_doc.result c.in_err-add_doc.field-0.0 TooManyRows c.from_residual-in_err-add_doc.ensures.1 told),
+      few_more docs c.loop-doc.doc-index none c.loop-doc-test.true,
+      ap length c.loop-doc.invariant.words,
+      listed_many 0 all,
+      ap length (rows_listed all),
+    )
+
+pub invariant_of-result : goal.invariant_of-result
+invariant_of-result c =
+    let all : List Doc = map doc_of_lent c.args.docs.now in
+    let n = c.in_ok-words.field-0 in
+    let whole : take c.loop-doc.doc-index all ≡ all = take_all c.loop-doc.doc-index all (omega (arith, c.loop-doc-test.false, length-map c.args.docs.now doc_of_lent)) in
+    let words : gathered c.loop-doc.gathering.words ≡ flat_map listed_words all = c.loop-doc.invariant.words ∙ ap (flat_map listed_words) whole in
+    let counts : c.loop-doc.gathering.docs.items ≡ map doc_rows_of all = c.loop-doc.invariant.docs ∙ ap (map doc_rows_of) whole in
+    let few : length c.loop-doc.gathering.docs.items ≤ MAX_DOCS = omega (arith, ap length counts, length-map all doc_rows_of, ap length c.requires.read.2, few_documents c.requires.read.0 c.requires.read.1) in
+    let listed = recursion_from_All CanBeListed all (accepted_docs c.requires.read.0 all c.requires.read.1 c.requires.read.2) in
+    let each = subst (λ es. AreDocRows es n.numbers) (sym counts) (counted_docs n.words all n.numbers listed (c.in_ok-words.ensures.numbers.told ∙ words)) in
+    columns_are n.words n.numbers (Counted c.loop-doc.gathering.docs) (gathered c.loop-doc.gathering.words) (few, each) c.in_ok-words.ensures.numbers c.in_ok-words.ensures.words
 
 pub returns-clause-ok : goal.returns-clause-ok
-returns-clause-ok c = c.in_ok-columns.ensures ∙ last_rows c.args.docs.now c.loop-number.number (rows_gathered c.loop-number.gathering) (omega (arith, c.loop-number-test.false, ap length c.as_slice-doc-items.ensures)) c.loop-number.invariant.told
+returns-clause-ok c =
+    let all : List Doc = map doc_of_lent c.args.docs.now in
+    let n = c.in_ok-words.field-0 in
+    let whole : take c.loop-doc.doc-index all ≡ all = take_all c.loop-doc.doc-index all (omega (arith, c.loop-doc-test.false, length-map c.args.docs.now doc_of_lent)) in
+    ap (λ es. rows_at n.words (posts_of_docs 0 es n.numbers)) (c.loop-doc.invariant.docs ∙ ap (map doc_rows_of) whole)
+    ∙ rows_of_numbers n.words 0 all n.numbers (c.in_ok-words.ensures.numbers.told ∙ c.loop-doc.invariant.words ∙ ap (flat_map listed_words) whole)
+    ∙ rows_listed all
 
 pub returns-clause-few : goal.returns-clause-few
 returns-clause-few c =
-    let all = last_rows c.args.docs.now c.loop-number.number (rows_gathered c.loop-number.gathering) (omega (arith, c.loop-number-test.false, ap length c.as_slice-doc-items.ensures)) c.loop-number.invariant.told in
-    omega (arith, ap length all, gathered_many c.loop-number.gathering c.loop-number.invariant.is, c.loop-number.invariant.is.few)
-
-err_is : {T S E : Type 0} (r : Result T E) (x w : E) → IsErrAnd r (λ e. e ≡ x) → IsErrOf r w → IsErrOf {T = S} (Err x) w
-err_is r x w h k = ap Err (sym (subst (λ q. IsErrAnd q (λ e. e ≡ x)) k h))
-
-pub returns-in_err-add-clause-too_many : goal.returns-in_err-add-clause-too_many
-returns-in_err-add-clause-too_many c = λ told.
-    let docs = c.args.docs.now in
-    let doc = c.doc-item.result in
-    let i = c.loop-number.number in
-    let before = rows_gathered c.loop-number.gathering in
-    let l : i < length docs = omega (arith, c.loop-number-test.true, ap length c.as_slice-doc-items.ensures) in
-    let e : doc ≡ get_or docs i doc = c.doc-item.is ∙ ap (λ ds. get_or ds i doc) c.as_slice-doc-items.ensures in
-    let rows : c.deref.result.now ≡ listed_doc (i, doc) = c.deref.ensures.value ∙ c.in_ok-add_rows.ensures.ok ∙ ap (λ rs. rs ++ listed_doc (i, doc)) c.clear.ensures.items in
-    let over = c.in_err-add.ensures.too_many (err_is c.from_residual-in_err-add.result c.in_err-add.field-0.0 TooManyRows c.from_residual-in_err-add.ensures.1 told) in
-    let all = sym (rows_listed docs) ∙ next_rows docs i doc before (before ++ listed_doc (i, doc)) l e refl c.loop-number.invariant.told in
-    omega (
-      arith,
-      over,
-      ap length rows,
-      ap length all,
-      length-append (before ++ listed_doc (i, doc)) (listed_rows (i + 1) (drop (i + 1) docs)),
-      length-append before (listed_doc (i, doc)),
-    )
+    let all : List Doc = map doc_of_lent c.args.docs.now in
+    let whole : take c.loop-doc.doc-index all ≡ all = take_all c.loop-doc.doc-index all (omega (arith, c.loop-doc-test.false, length-map c.args.docs.now doc_of_lent)) in
+    omega (arith, ap length (sym (rows_listed all)), listed_many 0 all, ap length (c.loop-doc.invariant.words ∙ ap (flat_map listed_words) whole), c.loop-doc.invariant.is.few)

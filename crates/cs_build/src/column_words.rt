@@ -1,0 +1,113 @@
+//! The words of columns, gathered one by one.
+ghost use Rattle.std.specs.Prelude.{◌≡◌, ◌+◌, ◌≤◌, ◌<◌, [], ◌∷◌, ◌++◌, length, chars, IfOk, OnOk, IsAscii, IsErrOf};
+ghost use Rattle.cs_base.specs.declared.content.limits.TheConstants.{MAX_ROWS, MAX_WORD_BYTES};
+ghost use Rattle.cs_docs.specs.FacetPieces.{AreNamed};
+ghost use Rattle.cs_docs.specs.Listing.{listed_facets};
+ghost use Rattle.cs_docs.specs.declared.fault.RowsFault.{RowsFault};
+ghost use Rattle.cs_model.specs.Collection.{facet_pieces};
+ghost use Rattle.cs_model.specs.Words.{words, words_of};
+ghost use Rattle.cs_vocab.specs.Gathering.{gathered};
+ghost use Rattle.cs_build.specs.RowColumns.{IsRowGathering};
+
+use cs_base::{MAX_ROWS, Word};
+use cs_docs::{RowsFault, listed_facets};
+use cs_text::{first_word, is_plain_key, norm, words};
+use cs_vocab::Gathering;
+use std::alloc::Global;
+
+/// Adds the facet words of a column at the end, each once, by bytes, and says how many there are.
+pub(crate) fn add_facets(
+    alloc: Global,
+    gathering: &mut Gathering,
+    column: &str,
+) -> Result<u32, RowsFault>
+    requires is { IsRowGathering gathering.old }
+    requires named { AreNamed (facet_pieces column.now) }
+
+    ensures ok { IfOk result (λ n. n ≡ length (listed_facets column.now)) }
+    ensures words { OnOk result (gathered gathering.new ≡ gathered gathering.old ++ listed_facets column.now) }
+    ensures is { OnOk result (IsRowGathering gathering.new) }
+    ensures too_many { IsErrOf result RowsFault.TooManyRows → MAX_ROWS < length (gathered gathering.old) + length (listed_facets column.now) }
+{
+    let facets = listed_facets(alloc, column)?;
+    add_all(alloc, gathering, &facets)
+}
+
+/// Adds the words of a column at the end, and says how many there are.
+///
+/// Those of ASCII text are cut without a list of them, and where it is its own key text also without a copy.
+pub(crate) fn add_words(
+    alloc: Global,
+    gathering: &mut Gathering,
+    column: &str,
+) -> Result<u32, RowsFault>
+    requires is { IsRowGathering gathering.old }
+
+    ensures ok { IfOk result (λ n. n ≡ length (words column.now)) }
+    ensures words { OnOk result (gathered gathering.new ≡ gathered gathering.old ++ words column.now) }
+    ensures is { OnOk result (IsRowGathering gathering.new) }
+    ensures too_many { IsErrOf result RowsFault.TooManyRows → MAX_ROWS < length (gathered gathering.old) + length (words column.now) }
+{
+    if is_plain_key(column) {
+        return add_ascii(alloc, gathering, column.as_bytes());
+    }
+    let key = norm(alloc, column)?;
+    if key.as_str().is_ascii() {
+        return add_ascii(alloc, gathering, key.as_str().as_bytes());
+    }
+    let found = words(alloc, column)?;
+    add_all(alloc, gathering, found.as_slice())
+}
+
+// Adds the words of a key text that is ASCII, and says how many there are.
+fn add_ascii(alloc: Global, gathering: &mut Gathering, key: &[u8]) -> Result<u32, RowsFault>
+    requires is { IsRowGathering gathering.old }
+    requires ascii { IsAscii key.now }
+
+    ensures ok { IfOk result (λ n. n ≡ length (words_of (chars key.now))) }
+    ensures words { OnOk result (gathered gathering.new ≡ gathered gathering.old ++ words_of (chars key.now)) }
+    ensures is { OnOk result (IsRowGathering gathering.new) }
+    ensures too_many { IsErrOf result RowsFault.TooManyRows → MAX_ROWS < length (gathered gathering.old) + length (words_of (chars key.now)) }
+{
+    let mut count = 0;
+    let mut rest = key;
+    while let Some((word, behind)) = first_word(rest) {
+        add(alloc, gathering, word)?;
+        count += 1;
+        rest = behind;
+    }
+    Ok(count)
+}
+
+// Adds words at the end, and says how many they are.
+fn add_all(alloc: Global, gathering: &mut Gathering, words: &[Word]) -> Result<u32, RowsFault>
+    requires is { IsRowGathering gathering.old }
+
+    ensures ok { IfOk result (λ n. n ≡ length words.now) }
+    ensures words { OnOk result (gathered gathering.new ≡ gathered gathering.old ++ words.now) }
+    ensures is { OnOk result (IsRowGathering gathering.new) }
+    ensures too_many { IsErrOf result RowsFault.TooManyRows → MAX_ROWS < length (gathered gathering.old) + length words.now }
+{
+    for word in words {
+        add(alloc, gathering, word.bytes())?;
+    }
+    Ok(words.len() as u32)
+}
+
+// Adds a word at the end.
+#[inline]
+fn add(alloc: Global, gathering: &mut Gathering, word: &[u8]) -> Result<(), RowsFault>
+    requires is { IsRowGathering gathering.old }
+    requires some { 1 ≤ length word.now }
+    requires few_bytes { length word.now ≤ MAX_WORD_BYTES }
+
+    ensures word { OnOk result (gathered gathering.new ≡ gathered gathering.old ++ word.now ∷ []) }
+    ensures is { OnOk result (IsRowGathering gathering.new) }
+    ensures too_many { IsErrOf result RowsFault.TooManyRows → MAX_ROWS ≤ length (gathered gathering.old) }
+{
+    if gathering.len() >= MAX_ROWS {
+        return Err(RowsFault::TooManyRows);
+    }
+    gathering.push(alloc, word)?;
+    Ok(())
+}
