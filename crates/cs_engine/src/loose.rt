@@ -89,13 +89,7 @@ fn reply_behind<S: Store>(
         + (gathered.now.last - gathered.now.next)) (S.reads store.old) (S.reads store.new) }
 {
     let (found, counts) = found_behind(
-        over.alloc,
-        over.index,
-        store,
-        hits,
-        words,
-        listed,
-        gathered,
+        over.alloc, over.index, store, hits, words, listed, gathered,
     )?;
     let reply = reply_by(over, store, &found, &counts)?;
     Ok(reply)
