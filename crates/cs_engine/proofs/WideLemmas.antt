@@ -5,18 +5,17 @@
 --   range_ends       which words a range has that is found
 --   whole_range      of all documents each row of some words is behind a part that asks for them
 --   by_range, by_entry       a query that asks for a wide range alone: its last part, and its own entry
+--   too_large        that is larger than may be kept
 --   range_counts     its hits and its table by what is held
-use Rattle.std.proofs.Common.{◌≡◌, ◌⊎◌, inl, inr, ℕ, ◌+◌, ◌-◌, ◌*◌, ◌≤◌, ◌==◌, true, false, not, List, [], ◌∷◌, ◌++◌, length, map, take, get_or, replicate, None}
+use Rattle.std.proofs.Common.{◌≡◌, ◌⊎◌, inl, inr, ℕ, ◌-◌, ◌==◌, true, false, not, List, [], ◌∷◌, ◌++◌, length, map, take, get_or, replicate, None}
 use Rattle.std.proofs.Common.{refl, sym, ap, subst, ◌∙◌, arith}
 use Rattle.std.specs.Prelude.{All, filter, find, is_some}
 use Rattle.std.proofs.lemmas.Bool.{and_parts, eqb-true, false≢true}
 use Rattle.std.proofs.lemmas.List.Elements.{All-cons, All-nil}
 use Rattle.cs_base.specs.declared.content.doc.Base.TheVariants as base
-use Rattle.cs_base.specs.declared.content.doc.Post.{Post}
-use Rattle.cs_base.specs.declared.content.query.Part.{Part, out-Part}
+use Rattle.cs_base.specs.declared.content.query.Part.{Part}
 use Rattle.cs_base.specs.declared.content.query.Query.{Query, out-Query}
 use Rattle.cs_file.specs.Indexes.{IndexView, IsIndex, StandsFor}
-use Rattle.cs_model.specs.Answers.{parts_of}
 use Rattle.cs_model_kept.specs.Entries.{base_of}
 use Rattle.cs_model_kept.specs.KeptListLaws.{before_last}
 use Rattle.cs_model_kept.proofs.EntryLemmas.{parts_read}
@@ -27,7 +26,7 @@ use Rattle.cs_model_kept.specs.Entries.{entry_of}
 use Rattle.cs_model_kept.specs.KeptList.{kept_fresh}
 use Rattle.cs_base.specs.declared.index.plan.Kept.TheVariants as kept
 use Rattle.cs_engine.specs.Blockwise.{HasFound}
-use Rattle.cs_engine.specs.IndexReading.{IsWordRange, stock_of}
+use Rattle.cs_engine.specs.IndexReading.{stock_of}
 use Rattle.cs_engine.specs.Loose.{AreCountsFor, AreLastWords, IsEntryByWords}
 use Rattle.cs_engine.specs.Steps.{AreHitsOver, posts_after}
 use Rattle.cs_engine.specs.Stocked.{corpus_in, is_between}
@@ -67,9 +66,6 @@ module _ (i : IndexView) (q : Query) (lo hi : ℕ) (asks : AsksWide i q lo hi) w
 
   last : IsLast q asks.part
   last = record { some = omega (arith, one); at = sym (ap (λ (xs : List Part). get_or xs (length xs - 1) asks.part) asks.alone) }
-
-  pub word_range : IsWordRange i lo hi
-  word_range = record { ordered = asks.words.ordered; within = asks.words.within }
 
   pub by_range : AreLastWords i q base.All lo hi
   by_range = record {

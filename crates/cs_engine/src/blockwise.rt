@@ -1,6 +1,5 @@
 //! The hits and the words of a range of words, scored and counted block by block as they are read.
-ghost use Rattle.std.specs.Prelude.{◌≡◌, ◌-◌, ◌*◌, ◌^◌, ◌<◌, false, true, filter, length, IfOk};
-ghost use Rattle.std.specs.List.{All};
+ghost use Rattle.std.specs.Prelude.{◌≡◌, ◌-◌, ◌*◌, ◌^◌, ◌<◌, false, true, filter, IfOk};
 ghost use Rattle.cs_base.specs.declared.content.doc.Base.TheVariants as base;
 ghost use Rattle.cs_base.specs.{declared.content.limits.TheConstants.{MAX_PARTS}, declared.content.scores.TheConstants.{MAX_ROW_SCORE}};
 ghost use Rattle.cs_base.specs.outside.Causes.{ReadsWithin};

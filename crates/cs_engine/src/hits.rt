@@ -3,6 +3,7 @@ ghost use Rattle.std.specs.Prelude.{◌≡◌, ◌<◌, IfOk, drop, length, map,
 ghost use Rattle.std.specs.List.{All};
 ghost use Rattle.cs_meet.specs.Filters.{keep_docs, drop_docs};
 ghost use Rattle.cs_base.specs.content.{Members.{members_in}, Orders.{AreSorted, by_rank}};
+ghost use Rattle.cs_model_kept.specs.Entries.{listed_count};
 ghost use Rattle.cs_rank.specs.DocScores.{IsBase};
 ghost use Rattle.cs_engine.specs.Stocked.{base_hits, docs_in, every};
 
@@ -63,6 +64,16 @@ pub(crate) fn without(
             let left = drop_docs(alloc, hits.as_slice(), rows)?;
             Ok(left)
         }
+    }
+}
+
+/// How many documents a base lists; 0 where it stands for all.
+pub(crate) fn size_of(base: &Base) -> usize
+    ensures { result ≡ listed_count base.now }
+{
+    match base {
+        Base::All => 0,
+        Base::Listed(hits) => hits.len(),
     }
 }
 

@@ -5,7 +5,6 @@ ghost use Rattle.cs_base.specs.outside.Causes.{ReadsWithin};
 ghost use Rattle.cs_file.specs.Indexes.{is_met};
 ghost use Rattle.cs_model.specs.{Requests.{reply_of}};
 ghost use Rattle.cs_model_index.specs.Sections.{file_corpus};
-ghost use Rattle.cs_model_kept.specs.Entries.{listed_count};
 ghost use Rattle.cs_query.specs.RequestView.{asked};
 ghost use Rattle.cs_engine.specs.{Asking.{titles_asked, titles_read}, RequestsOver.{CanAnswer, FitsAnswer, WhereHeld}};
 ghost use Rattle.cs_engine.specs.{Keeping.{IsAnsweredOver}, Counting.{AreListed}, GatheredRows.{HasGathered}, Loose.{AreLastWords, IsEntryByWords}};
@@ -15,11 +14,12 @@ use crate::answering::{RequestOver, reply_by};
 use crate::blockwise::found_behind;
 use crate::counting::listed_docs;
 use crate::gathering::{Gathered, gather};
+use crate::hits::size_of;
 use crate::packing::ordered;
 use crate::replying::with_reply;
 use cs_base::{Base, Store};
 use cs_cache::Entry;
-use cs_file::{FetchFault, Index};
+use cs_file::FetchFault;
 use cs_model_kept::MAX_ENTRY_SIZE;
 use cs_query::{Reply, Request};
 use std::alloc::Global;
@@ -54,16 +54,6 @@ pub(crate) fn answered_by_words<S: Store>(
     let entry = Entry { base: hits, rows };
     let answered = with_reply(over, store, entry)?;
     Ok(answered)
-}
-
-/// How many documents a base lists; 0 where it stands for all.
-pub(crate) fn size_of(base: &Base) -> usize
-    ensures { result ≡ listed_count base.now }
-{
-    match base {
-        Base::All => 0,
-        Base::Listed(hits) => hits.len(),
-    }
 }
 
 // The reply to a query whose last part asks for these words, by what was gathered of their first blocks, by the rest of the blocks, and
