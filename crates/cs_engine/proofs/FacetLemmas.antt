@@ -45,7 +45,7 @@ pub held_at : (held : List FacetView) (names items : List (List ℕ)) {n : ℕ} 
 held_at held names items {n} {name} there are lt is =
     subst (λ m. has_facet held m ≡ true) (sym is) (subst (All (λ m. has_facet held m ≡ true)) (sym are) there n name lt)
 
-pub found_holds : (P : FacetView → Type 0) (p : FacetView → Bool) (held : List FacetView) (f : FacetView) → find p held ≡ Some f → All P held → P f
+pub found_holds : {V : Type 0} (P : V → Type 0) (p : V → Bool) (held : List V) (f : V) → find p held ≡ Some f → All P held → P f
 found_holds P p [] f e h = absurd (false≢true (ap is_some e))
 found_holds P p (x ∷ held) f e h =
     elim (p x) as (λ b. cond b (Some x) (find p held) ≡ Some f → P f) [
@@ -53,7 +53,7 @@ found_holds P p (x ∷ held) f e h =
       | false ↦ λ e. found_holds P p held f e (All-tail P x held h)
     ] e
 
-pub found_passes : (p : FacetView → Bool) (held : List FacetView) (f : FacetView) → find p held ≡ Some f → p f ≡ true
+pub found_passes : {V : Type 0} (p : V → Bool) (held : List V) (f : V) → find p held ≡ Some f → p f ≡ true
 found_passes p [] f e = absurd (false≢true (ap is_some e))
 found_passes p (x ∷ held) f e =
     elim (p x) as (λ b. p x ≡ b → cond b (Some x) (find p held) ≡ Some f → p f ≡ true) [
@@ -64,12 +64,12 @@ found_passes p (x ∷ held) f e =
 pub not_found : (held : List FacetView) (n : List ℕ) → has_facet held n ≡ true → find (λ f. bytes_eq f.name n) held ≡ None → ⊥
 not_found held n has none = false≢true (ap is_some (sym none) ∙ found_any (λ f. bytes_eq f.name n) held ∙ has)
 
-pub left_all : (P : FacetView → Type 0) {old new : List FacetView} → (new ≡ old) ⊎ (new ≡ []) → All P old → All P new
+pub left_all : {V : Type 0} (P : V → Type 0) {old new : List V} → (new ≡ old) ⊎ (new ≡ []) → All P old → All P new
 left_all P (inl same) h = subst (All P) (sym same) h
 left_all P (inr none) h = subst (All P) (sym none) (All-nil P)
 
 -- one more is held
-pub all_more : (P : FacetView → Type 0) (held : List FacetView) (f : FacetView) → All P held → P f → All P (held ++ f ∷ [])
+pub all_more : {V : Type 0} (P : V → Type 0) (held : List V) (f : V) → All P held → P f → All P (held ++ f ∷ [])
 all_more P held f h one = All-append P held (f ∷ []) h (All-cons P f [] one (All-nil P))
 
 pub held_last : (held : List FacetView) (f : FacetView) (n : List ℕ) → f.name ≡ n → has_facet (held ++ f ∷ []) n ≡ true

@@ -30,3 +30,4 @@ pub mod VocabLemmas
 pub mod AskedWords
 pub mod WalkLemmas
 pub mod SpansLemmas
+pub mod WideLemmas

@@ -2,15 +2,13 @@
 --
 --   chosen_entry, entry_fits     the entry of the rows in order
 --   large_entry, is_large        where it is larger than may be kept
---   found_table    the table of rows by blocks is that of the query
+--   found_counts   what is counted of rows by blocks gives the table of the query
 use Rattle.std.proofs.Common.{◌≡◌, ℕ, ◌+◌, ◌-◌, ◌<◌, Bool, true, false, List, length, refl, sym, ap, subst, ◌∙◌, arith, if◌then◌else◌}
 use Rattle.std.specs.Prelude.{All, filter, nat_lt}
 use Rattle.std.specs.List.{list_any}
 use Rattle.std.proofs.lemmas.Bool.Decides.{nat_tests}
 use Rattle.cs_base.specs.declared.content.doc.Base.{Base}
-use Rattle.cs_base.specs.declared.content.doc.Base.TheVariants as base
 use Rattle.cs_base.specs.declared.content.doc.Post.{Post}
-use Rattle.cs_base.specs.declared.content.doc.Scored.{Scored}
 use Rattle.cs_base.specs.declared.content.query.Query.{Query, out-Query}
 use Rattle.cs_base.specs.declared.index.plan.Kept.TheVariants as kept
 use Rattle.cs_file.specs.Indexes.{IndexView, IsIndex, StandsFor}
@@ -18,12 +16,12 @@ use Rattle.cs_model_index.specs.Sections.{file_corpus}
 use Rattle.cs_model_kept.specs.Entries.{entry_of, listed_count}
 use Rattle.cs_model_kept.specs.KeptList.{kept_fresh}
 use Rattle.cs_model_kept.specs.declared.limits.TheConstants.{MAX_ENTRY_SIZE}
-use Rattle.cs_tables.specs.declared.tables.Table.{Table}
+use Rattle.cs_tables.specs.WordCounts.{WordCountsView}
 use Rattle.cs_meet.specs.Filters.{is_of_doc}
 use Rattle.cs_engine.specs.Blockwise.{HasFound}
 use Rattle.cs_engine.specs.Counting.{AreListed, in_listed}
 use Rattle.cs_engine.specs.Keeping.{FitsQuery, IsEntryOver, entry_with}
-use Rattle.cs_engine.specs.Loose.{AreLastWords, IsEntryByWords, IsTableFor}
+use Rattle.cs_engine.specs.Loose.{AreCountsFor, AreLastWords, IsEntryByWords}
 use Rattle.cs_engine.specs.IndexReading.{AreWithin, stock_of}
 use Rattle.cs_engine.specs.Steps.{EntryFits, last_is_positive, posts_after}
 use Rattle.cs_engine.specs.Stocked.{docs_in, is_between}
@@ -66,16 +64,15 @@ module _ (i : IndexView) (q : Query) (hits : Base) (lo hi : ℕ) (asks : AreLast
       is_large lt = large_entry chosen refl (subst (λ n. MAX_ENTRY_SIZE < n + listed_count hits) a.long lt)
 
 -- what is found by blocks
-pub found_table : (i : IndexView) (q : Query) (hits : Base) (lo hi : ℕ) → AreLastWords i q hits lo hi → (b : List ℕ) → StandsFor b i → IsIndex i
-    → IsEntryByWords b i q hits lo hi → (cut : ℕ) (found : List Scored) (t : Table)
-    → HasFound hits (posts_after i.docs hits false (filter (is_between lo hi) (stock_of b).posts)).rows cut found t → IsTableFor i b q cut (base.Listed found) t
-found_table i q hits lo hi asks b stands is by cut found t f =
+pub found_counts : (i : IndexView) (q : Query) (hits : Base) (lo hi : ℕ) → AreLastWords i q hits lo hi → (b : List ℕ) → StandsFor b i → IsIndex i
+    → IsEntryByWords b i q hits lo hi → (found : Base) (t : WordCountsView)
+    → HasFound hits (posts_after i.docs hits false (filter (is_between lo hi) (stock_of b).posts)).rows found t → AreCountsFor i b q found t
+found_counts i q hits lo hi asks b stands is by found t f =
     let posts = filter (is_between lo hi) (stock_of b).posts in
     record {
       posts = (posts_after i.docs hits false posts).rows;
-      found = found_by_entry i q (posts_after i.docs hits false posts) true (sym asks.positive) (base.Listed found) (ap base.Listed f.hits_are) b stands is by;
+      found = found_by_entry i q (posts_after i.docs hits false posts) true (sym asks.positive) found f.hits_are b stands is by;
       within = kept_within i (λ r. list_any (is_of_doc r) (docs_in i.docs hits)) posts
           (kept_within i (is_between lo hi) (stock_of b).posts (stock_within b i stands is));
-      first = f.first;
-      total = f.total;
+      table = f.table;
     }

@@ -3,7 +3,7 @@
 --
 -- Source: this engine's own, over `KeptList` of cs_model_kept.
 --
---   EngineView                an opened index, what is kept of answers, and the facets that are held
+--   EngineView                an opened index, what is kept of answers, and the facets and wide ranges of words that are held
 --   entry_with b posts        the entry of this base and these posts
 --   FitsQuery i q e           an entry is in the range of an index, as that of the query q is
 --   IsKeptEntry i e           the key of e is that of a query of the grammar, whose entry fits the index i
@@ -14,7 +14,7 @@
 --   IsRepliedOver b i r p a   the same of an answer by the plan p, whose own entry may have been kept before
 --   HoldsGood b i held        over them each kept entry is that of its key's own query
 --   AreGood b e               over the bytes b of its index an engine keeps under each key the entry of the key's own query, and holds the
---                             facets of the index
+--                             facets and wide ranges of the index
 --   note_plan q a             the plan by which a query is answered from what is kept
 --   became p o                what becomes of a query's own entry behind the plan p; of None, which was kept before or is too large
 --   entries_behind a keys p o         the entries that a reply by the plan p leaves, where o is the query's own entry, if it wasn't kept before
@@ -46,14 +46,17 @@ use Rattle.cs_model_kept.specs.Entries.{EntryOf, entry_at, entry_of}
 use Rattle.cs_model_kept.specs.KeptList.{KeptOf, GoodFor, after, kept_at, kept_by, kept_fresh, plan_by, put_in_front, to_front, used_key, is_same}
 use Rattle.cs_engine.specs.HeldFacets.{AreFacetsOver, FacetView}
 use Rattle.cs_engine.specs.Steps.{EntryFits, last_is_positive}
+use Rattle.cs_engine.specs.WideRanges.{AreWideOver, RangeView}
 use Rattle.cs_file.specs.declared.fault.FetchFault.{FetchFault}
 use Rattle.cs_engine.specs.declared.note.Note.{Note}
 
--- an index that was opened, the kept entries with how many there may be, and facets with their rows; an engine begins with none
+-- an index that was opened, the kept entries with how many there may be, facets with their rows, and wide ranges of words with what
+-- is found of them; an engine begins with none
 pub record EngineView : Type 0 where
   pub index : IndexView
   pub answers : AnswerList
   pub facets : List FacetView
+  pub wide : List RangeView
 
 -- ---- over each store
 -- as it stands; of no posts it has no rows
@@ -141,10 +144,10 @@ pub record IsRepliedOver (b : List ℕ) (i : IndexView) (r : Request) (p : Plan)
 abbrev pub HoldsGood : List ℕ → IndexView → KeptOf (EntryOf Post) → Type 0
 HoldsGood b i held = GoodFor (file_corpus b) (kept_at i.words held)
 
--- under each key stands the entry of the key's own query over the corpus of the bytes, and the facets that are held are those of the
--- bytes; an engine that keeps nothing is good
+-- under each key stands the entry of the key's own query over the corpus of the bytes, and the facets and the wide ranges that are
+-- held are those of the bytes; an engine that keeps nothing is good
 abbrev pub AreGood : List ℕ → EngineView → Type 0
-AreGood b e = HoldsGood b e.index e.answers.entries × AreFacetsOver b e.facets
+AreGood b e = HoldsGood b e.index e.answers.entries × AreFacetsOver b e.facets × AreWideOver b e.wide
 
 -- the entries of the corpus are those that a query leaves, its own kept unless it is too large; nothing is said of a refusal
 abbrev pub IsAfter : List ℕ → Query → EngineView → Result (Reply × Note) FetchFault → EngineView → Type 0

@@ -12,3 +12,4 @@ pub mod GatheredRows
 pub mod Spans
 pub mod HeldFacets
 pub mod RequestsOver
+pub mod WideRanges

@@ -8,6 +8,7 @@
 --   AreLastWords i q hits lo hi      the last part of a query is positive and asks for these words, and hits are in range as those before it
 --   IsEntryByWords b i q hits lo hi  over the bytes of an index the own entry of a query is that of these hits and words
 --   IsTableFor i b q cut hits t      over the bytes of an index a table is that of a query of these hits, cut
+--   AreCountsFor i b q hits t        over them what is counted gives the table of a query of these hits
 use Rattle.std.specs.Prelude.{◌≡◌, ℕ, ◌+◌, ◌-◌, ◌*◌, ◌≤◌, ◌<◌, true, false, nat_lt, List, [], ◌∷◌, length, map, filter, take, slice_index}
 use Rattle.std.specs.Prelude.{if◌then◌else◌}
 use Rattle.cs_base.specs.declared.content.doc.Base.{Base}
@@ -18,7 +19,9 @@ use Rattle.cs_base.specs.declared.content.scores.TheConstants.{MAX_ROW_SCORE}
 use Rattle.cs_file.specs.Indexes.{IndexView}
 use Rattle.cs_rank.specs.DocScores.{greatest, of_doc}
 use Rattle.cs_tables.specs.TableListings.{post_table}
+use Rattle.cs_tables.specs.WordCounts.{WordCountsView}
 use Rattle.cs_tables.specs.declared.tables.Table.{Table}
+use Rattle.cs_engine.specs.Blockwise.{CountsTable}
 use Rattle.cs_engine.specs.Keeping.{IsEntryOver}
 use Rattle.cs_engine.specs.IndexReading.{AreWithin, stock_of}
 use Rattle.cs_engine.specs.Steps.{AreFound, IsBaseOf, last_is_positive, posts_after}
@@ -56,3 +59,10 @@ pub record IsTableFor (i : IndexView) (b : List ℕ) (q : Query) (cut : ℕ) (hi
   pub within : AreWithin i posts
   pub first : t.first ≡ take cut (post_table posts)
   pub total : t.total ≡ length (post_table posts)
+
+-- whatever the cut
+pub record AreCountsFor (i : IndexView) (b : List ℕ) (q : Query) (hits : Base) (t : WordCountsView) : Type 0 where
+  pub posts : List Post
+  pub found : AreFound (stock_of b) q hits posts
+  pub within : AreWithin i posts
+  pub table : CountsTable posts t

@@ -7,18 +7,17 @@ ghost use Rattle.cs_file.specs.Indexes.{IsIndex, StandsFor};
 ghost use Rattle.cs_model.specs.Requests.{hit_shown, reply_of};
 ghost use Rattle.cs_query.specs.RequestView.{asked};
 ghost use Rattle.cs_engine.specs.{Asking.{titles_read}, HeldFacets.{AreFacetsOver, CountsFacet, HoldsFacets, IsFacetOver}, RequestsOver.{CanAnswer, WhereHeld}};
-ghost use Rattle.cs_engine.specs.{Loose.{IsTableFor}, IndexReading.{IsOpened, OnlyReads, WhereStood, stock_of}, Steps.{IsBaseOf}};
+ghost use Rattle.cs_engine.specs.{Loose.{AreCountsFor, IsTableFor}, IndexReading.{IsOpened, OnlyReads, WhereStood, stock_of}, Steps.{IsBaseOf}};
 ghost use Rattle.cs_engine.specs.Stocked.{corpus_in, facet_at};
 
 use crate::counting::listed_docs;
 use crate::facets::{FacetRows, counted, facet_of};
-use crate::hits::listed;
+use crate::hits::first_hits;
 use crate::replies::shown_words;
 use cs_base::{Base, Memory, Scored, Seq, Store};
 use cs_file::{FetchFault, Index};
 use cs_query::{FacetShown, HitShown, Reply, Request};
-use cs_rank::top;
-use cs_tables::Table;
+use cs_tables::{Table, WordCounts};
 use std::alloc::Global;
 
 /// A request over an opened index, the facets whose rows are held, and the memory for what is made.
@@ -30,19 +29,42 @@ pub(crate) struct RequestOver<'a> {
     pub(crate) request: &'a Request,
 }
 
+/// The reply to a request, by the hits of its query and what is counted of the rows of the last part in them.
+pub(crate) fn reply_by<S: Store>(
+    over: RequestOver<'_>,
+    store: &mut S,
+    hits: &Base,
+    counts: &WordCounts,
+) -> Result<Reply, FetchFault>
+    requires base { IsBaseOf over.index.now.docs (MAX_ROW_SCORE * MAX_PARTS) hits.now }
+    requires words { counts.now.high ≤ length over.index.now.words }
+    requires over { CanAnswer (S.bytes store.old) over }
+
+    ensures told { WhereHeld (S.bytes store.old) over.entry
+        (λ b i r. AreCountsFor i b r.query hits.now counts.now → IfOk result (λ reply. reply ≡ reply_of (corpus_in (stock_of b)) r)) }
+    ensures few { IfOk result (λ r. length r.hits ≤ over.entry.request.now.hits) }
+    ensures store { OnlyReads S.bytes S.lent S.faults over.entry.index.now store.old store.new result }
+    ensures reads { ReadsWithin (titles_read (asked over.entry.request.now) result) (S.reads store.old)
+        (S.reads store.new) }
+{
+    let table = counts.table(over.alloc, over.request.completions)?;
+    let reply = reply_of(over, store, hits, table)?;
+    Ok(reply)
+}
+
 /// The reply to a request, by the hits of its query and the table of the rows of the last part in them.
 pub(crate) fn reply_of<S: Store>(
     over: RequestOver<'_>,
     store: &mut S,
-    hits: Base,
+    hits: &Base,
     table: Table,
 ) -> Result<Reply, FetchFault>
-    requires base { IsBaseOf over.index.now.docs (MAX_ROW_SCORE * MAX_PARTS) hits }
+    requires base { IsBaseOf over.index.now.docs (MAX_ROW_SCORE * MAX_PARTS) hits.now }
     requires table { All (λ w. w.word < length over.index.now.words) table.first }
     requires over { CanAnswer (S.bytes store.old) over }
 
     ensures told { WhereHeld (S.bytes store.old) over.entry
-        (λ b i r. IsTableFor i b r.query r.completions hits table
+        (λ b i r. IsTableFor i b r.query r.completions hits.now table
         → IfOk result (λ reply. reply ≡ reply_of (corpus_in (stock_of b)) r)) }
     ensures few { IfOk result (λ r. length r.hits ≤ over.entry.request.now.hits) }
     ensures store { OnlyReads S.bytes S.lent S.faults over.entry.index.now store.old store.new result }
@@ -56,16 +78,15 @@ pub(crate) fn reply_of<S: Store>(
         request,
     } = over;
     let shown = shown_words(alloc, &index.words, table.first.as_slice())?;
-    let facets = shown_facets(alloc, index, held, &hits, request)?;
-    let all = listed(alloc, index.docs, hits)?;
-    let first = top(alloc, all.as_slice(), request.offset, request.hits)?;
+    let facets = shown_facets(alloc, index, held, hits, request)?;
+    let (first, total) = first_hits(alloc, index.docs, hits, request.offset, request.hits)?;
     let shown_first = shown_hits(alloc, index, store, first.as_slice())?;
     Ok(Reply {
         completions: shown,
         facets,
         hits: shown_first,
         total_completions: table.total,
-        total_hits: all.len() as u32,
+        total_hits: total as u32,
     })
 }
 

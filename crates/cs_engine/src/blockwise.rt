@@ -1,6 +1,5 @@
-//! The hits and the table of a range of words, scored and counted block by block as they are read.
-ghost use Rattle.std.specs.Prelude.{◌≡◌, ◌-◌, ◌*◌, ◌^◌, ◌<◌, false, true, filter, length, IfOk};
-ghost use Rattle.std.specs.List.{All};
+//! The hits and the words of a range of words, scored and counted block by block as they are read.
+ghost use Rattle.std.specs.Prelude.{◌≡◌, ◌-◌, ◌*◌, ◌^◌, ◌<◌, false, true, filter, IfOk};
 ghost use Rattle.cs_base.specs.declared.content.doc.Base.TheVariants as base;
 ghost use Rattle.cs_base.specs.{declared.content.limits.TheConstants.{MAX_PARTS}, declared.content.scores.TheConstants.{MAX_ROW_SCORE}};
 ghost use Rattle.cs_base.specs.outside.Causes.{ReadsWithin};
@@ -11,10 +10,10 @@ ghost use Rattle.cs_engine.specs.{IndexReading.{IsOpened, IsWordRange, OnlyReads
 use crate::best::{raise_keys, raise_rows, scored_in, zeros};
 use crate::counting::count_keys;
 use crate::gathering::Gathered;
-use cs_base::{Base, BlockHead, Scored, Seq, Store};
+use cs_base::{Base, BlockHead, Store};
 use cs_file::{FetchFault, Fetched, Index};
 use cs_model_kept::MAX_ENTRY_SIZE;
-use cs_tables::{Table, WordCounts};
+use cs_tables::WordCounts;
 use std::alloc::Global;
 
 /// Whether the blocks of these words alone have more rows than an entry may.
@@ -45,8 +44,8 @@ fn rows_within(head: &BlockHead, words: (u32, u32)) -> u64
     0
 }
 
-/// The documents of hits that have a row of these words, with their scores, and the table of these rows in them. What was gathered of
-/// the first blocks isn't read again, and each other block that holds such a word is read once.
+/// The documents of hits that have a row of these words, with their scores, and these words, counted in the rows of these documents. What
+/// was gathered of the first blocks isn't read again, and each other block that holds such a word is read once.
 pub(crate) fn found_behind<S: Store>(
     alloc: Global,
     index: &Index,
@@ -55,8 +54,7 @@ pub(crate) fn found_behind<S: Store>(
     words: (u32, u32),
     listed: &[bool],
     gathered: &Gathered,
-    cut: u32,
-) -> Result<(Seq<Scored>, Table), FetchFault>
+) -> Result<(Base, WordCounts), FetchFault>
     requires words { IsWordRange index.now words.0 words.1 }
     requires base { IsBaseOf index.now.docs (MAX_ROW_SCORE * (MAX_PARTS - 1)) hits.now }
     requires listed { AreListed index.now.docs hits.now listed.now }
@@ -65,9 +63,9 @@ pub(crate) fn found_behind<S: Store>(
 
     ensures told { WhereStood (S.bytes store.old) index.now
         (λ b. IfOk result (λ found. HasFound hits.now
-        (posts_after index.now.docs hits.now false (filter (is_between words.0 words.1) (stock_of b).posts)).rows cut found.0 found.1)) }
-    ensures base { IfOk result (λ found. IsBaseOf index.now.docs (MAX_ROW_SCORE * MAX_PARTS) (base.Listed found.0)) }
-    ensures known { IfOk result (λ found. All (λ w. w.word < length index.now.words) found.1.first) }
+        (posts_after index.now.docs hits.now false (filter (is_between words.0 words.1) (stock_of b).posts)).rows found.0 found.1)) }
+    ensures base { IfOk result (λ found. IsBaseOf index.now.docs (MAX_ROW_SCORE * MAX_PARTS) found.0) }
+    ensures words { IfOk result (λ found. found.1.high ≡ words.1) }
     ensures store { OnlyReads S.bytes S.lent S.faults index.now store.old store.new result }
     ensures reads { ReadsWithin (gathered.now.last - gathered.now.next) (S.reads store.old) (S.reads store.new) }
 {
@@ -82,6 +80,5 @@ pub(crate) fn found_behind<S: Store>(
         raise_rows(&mut best, words, listed, &block);
     }
     let scored = scored_in(alloc, hits, &best)?;
-    let table = counts.table(alloc, cut)?;
-    Ok((scored, table))
+    Ok((Base::Listed(scored), counts))
 }

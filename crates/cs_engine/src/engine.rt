@@ -15,7 +15,7 @@ ghost use Rattle.cs_engine.specs.Keeping.{AreGood, IsAfter, KeepsAnswers, became
 use crate::answering::RequestOver;
 use crate::facets::{FacetRows, hold_facets};
 use crate::note::Note;
-use crate::replying::answered;
+use crate::wide::{WideRange, replied};
 use cs_base::{Kept, Keys, Plan, Store};
 use cs_cache::{Answers, Entry};
 use cs_file::{FetchFault, Index};
@@ -25,7 +25,8 @@ use std::marker::Model;
 
 /// What answers requests over the store of an index, and keeps of its answers what serves the next ones.
 ///
-/// Each entry that it keeps and each facet that it holds is in the range of the index, whatever store it was read from.
+/// Each entry that it keeps, and each facet and wide range of words that it holds, is in the range of the index, whatever store it was
+/// read from.
 #[derive(Drop)]
 pub struct Engine {
     /// The index that was opened.
@@ -34,18 +35,21 @@ pub struct Engine {
     pub answers: Answers,
     // The facets that were asked, with their rows.
     facets: Vec<FacetRows>,
+    // The wide ranges of words that were asked, with what is found of them.
+    wide: Vec<WideRange>,
 }
 
 impl Model for Engine {
     ghost use Rattle.std.specs.List.{All};
     ghost use Rattle.cs_engine.specs.HeldFacets.{IsFacet};
     ghost use Rattle.cs_engine.specs.Keeping.{EngineView, KeepsFitting};
+    ghost use Rattle.cs_engine.specs.WideRanges.{IsWide};
 
     ghost Value = { EngineView };
 
-    ghost view = { λ e. record { index = e.index; answers = e.answers; facets = e.facets.items } };
+    ghost view = { λ e. record { index = e.index; answers = e.answers; facets = e.facets.items; wide = e.wide.items } };
 
-    ghost invariant = { λ e. KeepsFitting e.index e.answers.entries × All (IsFacet e.index) e.facets.items };
+    ghost invariant = { λ e. KeepsFitting e.index e.answers.entries × All (IsFacet e.index) e.facets.items × All (IsWide e.index) e.wide.items };
 }
 
 impl Engine {
@@ -54,18 +58,19 @@ impl Engine {
         requires some { 1 ≤ capacity }
         requires limit { capacity ≤ MAX_ENTRIES }
 
-        ensures ok { IfOk result (λ e. e ≡ record { index = index; answers = answer_list [] capacity; facets = [] }) }
+        ensures ok { IfOk result (λ e. e ≡ record { index = index; answers = answer_list [] capacity; facets = []; wide = [] }) }
     {
         let answers = Answers::new(alloc, capacity)?;
         Ok(Engine {
             index,
             answers,
             facets: Vec::new(alloc),
+            wide: Vec::new(alloc),
         })
     }
 
     /// The reply to a request, over the store from which the index was opened, and how it was answered. It goes on from what is kept and
-    /// from the facets that are held; blocks are read where that doesn't serve.
+    /// from the facets and wide ranges of words that are held; blocks are read where that doesn't serve.
     ///
     /// A failed read and a change of the file are told as such, and want of memory too; the same answers are kept then.
     pub fn ask<S: Store>(
@@ -108,7 +113,7 @@ impl Engine {
             held: &self.facets,
             request,
         };
-        let (reply, own) = answered(over, &self.answers, store, &keys, plan)?;
+        let (reply, own) = replied(over, &self.answers, store, &keys, plan, &mut self.wide)?;
         let kept = put(&mut self.answers, keys, plan, own);
         Ok((reply, Note { plan, kept }))
     }

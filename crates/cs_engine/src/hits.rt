@@ -1,14 +1,16 @@
 //! The hits that a base lists, and rows within them.
-ghost use Rattle.std.specs.Prelude.{◌≡◌, ◌<◌, IfOk, map};
+ghost use Rattle.std.specs.Prelude.{◌≡◌, ◌<◌, IfOk, drop, length, map, take};
 ghost use Rattle.std.specs.List.{All};
 ghost use Rattle.cs_meet.specs.Filters.{keep_docs, drop_docs};
-ghost use Rattle.cs_base.specs.content.Orders.{AreSorted};
+ghost use Rattle.cs_base.specs.content.{Members.{members_in}, Orders.{AreSorted, by_rank}};
+ghost use Rattle.cs_model_kept.specs.Entries.{listed_count};
 ghost use Rattle.cs_rank.specs.DocScores.{IsBase};
 ghost use Rattle.cs_engine.specs.Stocked.{base_hits, docs_in, every};
 
 use cs_base::{Base, Memory, Scored, Seq};
 use cs_cols::Cols;
 use cs_meet::{drop_docs, keep_docs};
+use cs_rank::top;
 use std::alloc::Global;
 
 /// The rows whose document a base lists.
@@ -65,16 +67,37 @@ pub(crate) fn without(
     }
 }
 
-/// The hits of a base as a list.
-pub(crate) fn listed(alloc: Global, docs: u32, base: Base) -> Result<Seq<Scored>, Memory>
-    ensures { IfOk result (λ hits. hits ≡ base_hits docs base) }
+/// How many documents a base lists; 0 where it stands for all.
+pub(crate) fn size_of(base: &Base) -> usize
+    ensures { result ≡ listed_count base.now }
+{
+    match base {
+        Base::All => 0,
+        Base::Listed(hits) => hits.len(),
+    }
+}
+
+/// The first hits of a base by score descending, then by document, without the first `offset`, cut to `cut`, and how many hits it has.
+pub(crate) fn first_hits(
+    alloc: Global,
+    docs: u32,
+    base: &Base,
+    offset: u32,
+    cut: u32,
+) -> Result<(Seq<Scored>, usize), Memory>
+    ensures first { IfOk result (λ r. r.0 ≡ take cut (drop offset (members_in by_rank (base_hits docs base.now)))) }
+    ensures total { IfOk result (λ r. r.1 ≡ length (base_hits docs base.now)) }
 {
     match base {
         Base::All => {
             let all = all_docs(alloc, docs)?;
-            Ok(Seq::from_vec(all))
+            let first = top(alloc, &all, offset, cut)?;
+            Ok((first, all.len()))
         }
-        Base::Listed(hits) => Ok(hits),
+        Base::Listed(hits) => {
+            let first = top(alloc, hits.as_slice(), offset, cut)?;
+            Ok((first, hits.len()))
+        }
     }
 }
 

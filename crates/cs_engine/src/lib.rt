@@ -26,6 +26,7 @@ mod replies;
 mod replying;
 mod scored;
 mod steps;
+mod wide;
 mod words;
 
 pub use cs_file::FetchFault as AskFault;

@@ -1,26 +1,25 @@
 //! The reply to a query whose last part asks for the words from one number up to another. Where its own entry is too large, its rows
 //! are brought into no order.
-ghost use Rattle.std.specs.Prelude.{◌≡◌, ◌+◌, ◌-◌, ◌≤◌, true, filter, length, IfOk};
-ghost use Rattle.cs_base.specs.declared.content.doc.Base.TheVariants as base;
+ghost use Rattle.std.specs.Prelude.{◌≡◌, ◌+◌, ◌-◌, ◌≤◌, filter, length, IfOk};
 ghost use Rattle.cs_base.specs.outside.Causes.{ReadsWithin};
-ghost use Rattle.cs_file.specs.Indexes.{IsIndex, is_met};
+ghost use Rattle.cs_file.specs.Indexes.{is_met};
 ghost use Rattle.cs_model.specs.{Requests.{reply_of}};
 ghost use Rattle.cs_model_index.specs.Sections.{file_corpus};
-ghost use Rattle.cs_model_kept.specs.Entries.{listed_count};
 ghost use Rattle.cs_query.specs.RequestView.{asked};
-ghost use Rattle.cs_engine.specs.{Asking.{titles_asked, titles_read}, Blockwise.{AreMany}, RequestsOver.{CanAnswer, FitsAnswer, WhereHeld}};
+ghost use Rattle.cs_engine.specs.{Asking.{titles_asked, titles_read}, RequestsOver.{CanAnswer, FitsAnswer, WhereHeld}};
 ghost use Rattle.cs_engine.specs.{Keeping.{IsAnsweredOver}, Counting.{AreListed}, GatheredRows.{HasGathered}, Loose.{AreLastWords, IsEntryByWords}};
-ghost use Rattle.cs_engine.specs.IndexReading.{IsWordRange, OnlyReads};
+ghost use Rattle.cs_engine.specs.IndexReading.{OnlyReads};
 
-use crate::answering::{RequestOver, reply_of};
-use crate::blockwise::{are_many, found_behind};
+use crate::answering::{RequestOver, reply_by};
+use crate::blockwise::found_behind;
 use crate::counting::listed_docs;
-use crate::gathering::{Gathered, gather, nothing_gathered};
+use crate::gathering::{Gathered, gather};
+use crate::hits::size_of;
 use crate::packing::ordered;
 use crate::replying::with_reply;
 use cs_base::{Base, Store};
 use cs_cache::Entry;
-use cs_file::{FetchFault, Index};
+use cs_file::FetchFault;
 use cs_model_kept::MAX_ENTRY_SIZE;
 use cs_query::{Reply, Request};
 use std::alloc::Global;
@@ -45,11 +44,6 @@ pub(crate) fn answered_by_words<S: Store>(
 {
     let RequestOver { alloc, index, .. } = over;
     let listed = listed_docs(alloc, index.docs, &hits)?;
-    if fills(index, &hits, words) {
-        let none = nothing_gathered(alloc, index, words);
-        let reply = reply_behind(over, store, &hits, words, &listed, &none)?;
-        return Ok((reply, None));
-    }
     let room = MAX_ENTRY_SIZE.saturating_sub(size_of(&hits));
     let gathered = gather(alloc, index, store, words, &listed, room)?;
     if gathered.keys.len() > room {
@@ -60,30 +54,6 @@ pub(crate) fn answered_by_words<S: Store>(
     let entry = Entry { base: hits, rows };
     let answered = with_reply(over, store, entry)?;
     Ok(answered)
-}
-
-// Whether these words are known to have so many rows in the documents of hits that their entry is too large.
-fn fills(index: &Index, hits: &Base, words: (u32, u32)) -> bool
-    requires words { IsWordRange index.now words.0 words.1 }
-    requires index { IsIndex index.now }
-
-    ensures all { result ≡ true → hits.now ≡ base.All }
-    ensures many { result ≡ true → AreMany index.now words.0 words.1 }
-{
-    match hits {
-        Base::All => are_many(index, words),
-        Base::Listed(_) => false,
-    }
-}
-
-// How many documents a base lists; 0 where it stands for all.
-fn size_of(base: &Base) -> usize
-    ensures { result ≡ listed_count base.now }
-{
-    match base {
-        Base::All => 0,
-        Base::Listed(hits) => hits.len(),
-    }
 }
 
 // The reply to a query whose last part asks for these words, by what was gathered of their first blocks, by the rest of the blocks, and
@@ -108,16 +78,9 @@ fn reply_behind<S: Store>(
     ensures reads { ReadsWithin (titles_read (asked over.entry.request.now) result
         + (gathered.now.last - gathered.now.next)) (S.reads store.old) (S.reads store.new) }
 {
-    let (found, table) = found_behind(
-        over.alloc,
-        over.index,
-        store,
-        hits,
-        words,
-        listed,
-        gathered,
-        over.request.completions,
+    let (found, counts) = found_behind(
+        over.alloc, over.index, store, hits, words, listed, gathered,
     )?;
-    let reply = reply_of(over, store, Base::Listed(found), table)?;
+    let reply = reply_by(over, store, &found, &counts)?;
     Ok(reply)
 }

@@ -136,6 +136,6 @@ fn by_entry<S: Store>(
     let positive = end_positive(over.request.query.parts.as_slice());
     let hits = hits_of(over.alloc, positive, base, rows)?;
     let table = completions(over.alloc, rows, over.request.completions)?;
-    let reply = reply_of(over, store, hits, table)?;
+    let reply = reply_of(over, store, &hits, table)?;
     Ok(reply)
 }

@@ -1,8 +1,6 @@
-use Rattle.std.proofs.Common.{◌<◌, ap, map, length, take, drop, sym, subst, ◌∙◌, arith}
+use Rattle.std.proofs.Common.{◌<◌, ap, map, length, refl, sym, subst, ◌∙◌, arith}
 use Rattle.std.specs.Prelude.{All}
 use Rattle.std.specs.Str.{IsUtf8}
-use Rattle.cs_base.specs.content.Members.{members_in}
-use Rattle.cs_base.specs.content.Orders.{by_rank}
 use Rattle.cs_base.specs.declared.content.doc.Scored.{Scored}
 use Rattle.cs_file.specs.Indexes.{IndexView}
 use Rattle.cs_model.specs.Requests.{hit_shown}
@@ -28,15 +26,15 @@ shown_hits-requires-clause-known g c =
     let i = c.args.over.index.now in
     let docs = ap (λ (x : IndexView). x.docs) c.index.view_is in
     let r = c.args.over.request.now in
-    let shown = shown_in i c.requires.over.opened.index _ c.args.hits _ c.in_ok-all.all r.offset r.hits docs c.in_ok-all.ensures c.requires.base c.in_ok-first.first
-    (c.in_ok-first.ensures.ok ∙ ap (λ hs. take r.hits (drop r.offset (members_in by_rank hs))) c.as_slice-2.ensures) in
-    subst (All (λ (h : Scored). h.doc < i.docs)) (sym c.as_slice-3.ensures) shown
+    let shown = shown_in i c.requires.over.opened.index _ c.args.hits.now _ _ r.offset r.hits docs refl c.requires.base c.in_ok-first.first
+    c.in_ok-first.ensures.first in
+    subst (All (λ (h : Scored). h.doc < i.docs)) (sym c.as_slice-2.ensures) shown
 
 pub overflow_cast-result : goal.overflow_cast-result
 overflow_cast-result g c =
     let docs = ap (λ (x : IndexView). x.docs) c.index.view_is in
-    let few = hits_few c.args.over.index.now c.requires.over.opened.index _ c.args.hits _ c.in_ok-all.all docs c.in_ok-all.ensures c.requires.base in
-    omega (arith, c.len.ensures, few)
+    let few = hits_few c.args.over.index.now c.requires.over.opened.index _ c.args.hits.now _ _ docs refl c.requires.base in
+    omega (arith, c.in_ok-first.ensures.total, few)
 
 pub returns-clause-told : goal.returns-clause-told
 returns-clause-told g c b is stands over found =
@@ -48,8 +46,7 @@ returns-clause-told g c b is stands over found =
     let shown = words_as_shown b i stands c.requires.over.opened.index posts found.within _ words r.completions c.args.table.first found.first c.in_ok-shown.shown
     (c.in_ok-shown.ensures ∙ ap (map (shown_at _)) c.as_slice.ensures) in
     let hits = c.in_ok-shown_first.ensures.told b is stands
-    ∙ ap (map (hit_shown (corpus_in (stock_of b))))
-    (c.as_slice-3.ensures ∙ c.in_ok-first.ensures.ok ∙ ap (λ hs. take r.hits (drop r.offset (members_in by_rank hs))) c.as_slice-2.ensures) in
-    reply_told b i stands c.requires.over.opened.index r c.args.hits posts found.found found.within c.in_ok-shown.shown c.in_ok-facets.facets
-    c.in_ok-shown_first.shown_first c.args.table.total c.len.result c.in_ok-all.all
-    shown (c.in_ok-facets.ensures b stands over) hits found.total c.len.ensures _ docs c.in_ok-all.ensures
+    ∙ ap (map (hit_shown (corpus_in (stock_of b)))) (c.as_slice-2.ensures ∙ c.in_ok-first.ensures.first) in
+    reply_told b i stands c.requires.over.opened.index r c.args.hits.now posts found.found found.within c.in_ok-shown.shown c.in_ok-facets.facets
+    c.in_ok-shown_first.shown_first c.args.table.total c.in_ok-first.total _
+    shown (c.in_ok-facets.ensures b stands over) hits found.total c.in_ok-first.ensures.total _ docs refl

@@ -1,4 +1,4 @@
-use Rattle.std.proofs.Common.{◌≡◌, ◌<◌, ◌≤◌, ◌*◌, ◌-◌, [], sym, ◌∙◌, ap, subst, take, length, map, arith}
+use Rattle.std.proofs.Common.{◌≡◌, ◌<◌, ◌≤◌, ◌*◌, ◌-◌, [], sym, ◌∙◌, ap, subst, length, map, arith}
 use Rattle.std.specs.Prelude.{All}
 use Rattle.std.proofs.lemmas.List.Elements.{All-weaker}
 use Rattle.cs_base.specs.declared.content.doc.Base.TheVariants as base
@@ -125,9 +125,6 @@ scored_in-requires-clause-base g c = base_in c.args.index.now.docs (MAX_ROW_SCOR
 pub returns-in_err-scored-clause-reads : goal.returns-in_err-scored-clause-reads
 returns-in_err-scored-clause-reads g c = rest_ends c.loop-k.invariant.walk c.loop-k.auto.k-end c.requires.gathered.upto
 
-pub returns-in_err-table-clause-reads : goal.returns-in_err-table-clause-reads
-returns-in_err-table-clause-reads g c = rest_ends c.loop-k.invariant.walk c.loop-k.auto.k-end c.requires.gathered.upto
-
 pub returns-clause-reads : goal.returns-clause-reads
 returns-clause-reads g c = rest_ends c.loop-k.invariant.walk c.loop-k.auto.k-end c.requires.gathered.upto
 
@@ -154,11 +151,10 @@ returns-clause-told g c b is stands =
     let table = table_told b i stands c.requires.opened.index first last lo hi listed met
     ∙ ap post_table (rows_are b i stands c.requires.opened.index lo hi listed hits lists) in
     record {
-      hits_are = scored_are b i stands c.requires.opened.index lo hi listed hits lists c.loop-k.best.items c.in_ok-scored.scored inv.len
+      hits_are = ap base.Listed (scored_are b i stands c.requires.opened.index lo hi listed hits lists c.loop-k.best.items c.in_ok-scored.scored inv.len
           (best_found b i stands c.requires.opened.index lo hi listed first last c.loop-k.best.items met scored)
-          (c.in_ok-scored.ensures.scored ∙ ap (λ l. map (with_base hits) (hits_in 0 l)) c.deref-3.ensures.value);
-      first = c.in_ok-table.ensures.first rows few counted ∙ ap (take c.args.cut) table;
-      total = c.in_ok-table.ensures.total rows few counted ∙ ap length table;
+          (c.in_ok-scored.ensures.scored ∙ ap (λ l. map (with_base hits) (hits_in 0 l)) c.deref-3.ensures.value));
+      table = record { seen = rows; countable = few; counted = counted; same = table };
     }
 
 pub returns-clause-base : goal.returns-clause-base

@@ -1,61 +1,18 @@
-use Rattle.std.proofs.Common.{◌≤◌, length, true, replicate, refl, ap, sym, subst, ◌∙◌, arith}
-use Rattle.std.specs.Prelude.{filter}
+use Rattle.std.proofs.Common.{◌≤◌, length, ap, ◌∙◌, arith}
 use Rattle.std.proofs.lemmas.List.{length-map}
-use Rattle.cs_base.specs.declared.content.doc.Base.TheVariants as base
 use Rattle.cs_file.specs.Indexes.{IndexView}
 use Rattle.cs_model_index.specs.Sections.{image_of}
 use Rattle.cs_tables.specs.WordCounts.{is_chosen}
-use Rattle.cs_engine.specs.Loose.{AreLastWords, IsEntryByWords}
 use Rattle.cs_engine.specs.Packing.{key_of}
-use Rattle.cs_engine.specs.IndexReading.{run_of, stock_of}
-use Rattle.cs_engine.specs.Stocked.{is_between}
-use Rattle.cs_engine.proofs.CountingLemmas.{all_listed, everywhere, listed_in}
-use Rattle.cs_engine.proofs.LooseLemmas.{chosen_entry, entry_fits, is_large, large_entry}
+use Rattle.cs_engine.specs.IndexReading.{run_of}
+use Rattle.cs_engine.proofs.CountingLemmas.{listed_in}
+use Rattle.cs_engine.proofs.LooseLemmas.{chosen_entry, entry_fits, is_large}
 use Rattle.cs_engine.proofs.LentLemmas.{err_due}
 use Rattle.cs_engine.proofs.RowsInRange.{met_count}
-use Rattle.cs_engine.proofs.WalkLemmas.{within_both, within_more}
+use Rattle.cs_engine.proofs.WalkLemmas.{within_both}
 use Rattle.cs_query.specs.RequestView.{asked}
 use Rattle.cs_engine.proofs.PackingLemmas.{all_in_room, ordered_passed, ordered_told, ordered_within, run_alike, run_longer}
 use Rattle.cs_engine.proofs.loose.answered_by_words.Goals as goal
-
--- ---- too many rows, as the directory says
-pub returns-then-fills-clause-told : goal.returns-then-fills-clause-told
-returns-then-fills-clause-told g c b is stands held by =
-    let i = c.args.over.index.now in
-    let q = c.args.over.request.now.query in
-    let lo = c.args.words.0 in
-    let hi = c.args.words.1 in
-    let all = replicate i.docs true in
-    let has = everywhere i.docs all refl in
-    let none = c.fills.ensures.all c.if-fills.true in
-    let asks = subst (λ h. AreLastWords i q h lo hi) none c.requires.asks in
-    let own = subst (λ h. IsEntryByWords b i q h lo hi) none by in
-    record {
-      reply = c.in_ok-reply.ensures.told b is stands held by;
-      own = tt;
-      large = λ gone.
-          large_entry i q base.All lo hi asks all has b stands c.requires.over.opened.index own (filter (is_between lo hi) (stock_of b).posts)
-          (sym (all_listed b i stands c.requires.over.opened.index lo hi all has))
-          (let many = c.fills.ensures.many c.if-fills.true b stands in omega (arith, many));
-    }
-
-pub reply_behind-requires-clause-gathered : goal.reply_behind-requires-clause-gathered
-reply_behind-requires-clause-gathered g c = c.nothing_gathered-none.ensures.gathered (g.S.Store.bytes c.args.store.now) c.deref.result.now
-
-pub returns-in_err-reply-clause-reads : goal.returns-in_err-reply-clause-reads
-returns-in_err-reply-clause-reads g c =
-    let none = c.nothing_gathered-none in
-    let met = (none.ensures.gathered (g.S.Store.bytes c.args.store.now) c.deref.result.now).met in
-    let many = met_count c.args.over.index.now.heads c.args.words.0 c.args.words.1 none.result.first none.result.last met in
-    let due = err_due (asked c.args.over.request.now) c.from_residual-in_err-reply.result c.from_residual-in_err-reply.ensures.0 in
-    within_more c.in_err-reply.ensures.reads (omega (arith, due, many, none.ensures.none))
-
-pub returns-then-fills-clause-reads : goal.returns-then-fills-clause-reads
-returns-then-fills-clause-reads g c =
-    let none = c.nothing_gathered-none in
-    let met = (none.ensures.gathered (g.S.Store.bytes c.args.store.now) c.deref.result.now).met in
-    let many = met_count c.args.over.index.now.heads c.args.words.0 c.args.words.1 none.result.first none.result.last met in
-    within_more c.in_ok-reply.ensures.reads (omega (arith, many, none.ensures.none))
 
 -- ---- too many rows
 pub returns-then-len-room-clause-told : goal.returns-then-len-room-clause-told
@@ -63,14 +20,14 @@ returns-then-len-room-clause-told g c b is stands held by =
     let i = c.args.over.index.now in
     let lo = c.args.words.0 in
     let hi = c.args.words.1 in
-    let listed = c.deref-2.result.now in
+    let listed = c.deref.result.now in
     let from = c.in_ok-gathered.gathered in
     let had = c.in_ok-gathered.ensures.gathered in
     let h = had.keys in
-    let has = listed_in i c.args.hits c.in_ok-listed.listed.items listed (ap (λ (x : IndexView). x.docs) c.index.view_is) c.in_ok-listed.ensures c.deref-2.ensures.value in
+    let has = listed_in i c.args.hits c.in_ok-listed.listed.items listed (ap (λ (x : IndexView). x.docs) c.index.view_is) c.in_ok-listed.ensures c.deref.ensures.value in
     let more = run_longer (is_chosen lo hi listed) (image_of b).blocks from.first from.next from.last had.upto in
     record {
-      reply = c.in_ok-reply-2.ensures.told b (c.gather.ensures.store.bytes ∙ is) stands held by;
+      reply = c.in_ok-reply.ensures.told b (c.gather.ensures.store.bytes ∙ is) stands held by;
       own = tt;
       large = λ none.
           is_large i c.args.over.request.now.query c.args.hits lo hi c.requires.asks listed has b stands
@@ -89,15 +46,15 @@ returns-then-len-room-clause-told g c b is stands held by =
           ));
     }
 
-pub returns-in_err-reply-2-clause-reads : goal.returns-in_err-reply-2-clause-reads
-returns-in_err-reply-2-clause-reads g c =
+pub returns-in_err-reply-clause-reads : goal.returns-in_err-reply-clause-reads
+returns-in_err-reply-clause-reads g c =
     let had = c.in_ok-gathered.ensures.gathered in
     let from = c.in_ok-gathered.gathered in
     let many = met_count c.args.over.index.now.heads c.args.words.0 c.args.words.1 from.first from.last had.met in
     let on = had.onward in
     let up = had.upto in
-    let due = err_due (asked c.args.over.request.now) c.from_residual-in_err-reply-2.result c.from_residual-in_err-reply-2.ensures.0 in
-    within_both c.in_ok-gathered.ensures.read c.in_err-reply-2.ensures.reads (omega (arith, due, many, on, up))
+    let due = err_due (asked c.args.over.request.now) c.from_residual-in_err-reply.result c.from_residual-in_err-reply.ensures.0 in
+    within_both c.in_ok-gathered.ensures.read c.in_err-reply.ensures.reads (omega (arith, due, many, on, up))
 
 pub returns-then-len-room-clause-reads : goal.returns-then-len-room-clause-reads
 returns-then-len-room-clause-reads g c =
@@ -106,14 +63,14 @@ returns-then-len-room-clause-reads g c =
     let many = met_count c.args.over.index.now.heads c.args.words.0 c.args.words.1 from.first from.last had.met in
     let on = had.onward in
     let up = had.upto in
-    within_both c.in_ok-gathered.ensures.read c.in_ok-reply-2.ensures.reads (omega (arith, many, on, up))
+    within_both c.in_ok-gathered.ensures.read c.in_ok-reply.ensures.reads (omega (arith, many, on, up))
 
 -- ---- rows in order
 pub with_reply-requires-clause-entry : goal.with_reply-requires-clause-entry
 with_reply-requires-clause-entry g c =
     let i = c.args.over.index.now in
-    let listed = c.deref-2.result.now in
-    let has = listed_in i c.args.hits c.in_ok-listed.listed.items listed (ap (λ (x : IndexView). x.docs) c.index.view_is) c.in_ok-listed.ensures c.deref-2.ensures.value in
+    let listed = c.deref.result.now in
+    let has = listed_in i c.args.hits c.in_ok-listed.listed.items listed (ap (λ (x : IndexView). x.docs) c.index.view_is) c.in_ok-listed.ensures c.deref.ensures.value in
     let h = c.in_ok-gathered.ensures.gathered.keys in
     let o = c.in_ok-rows.ensures h.rows h.are h.packed in
     let rows = c.in_ok-rows.rows.posts in
@@ -123,8 +80,8 @@ with_reply-requires-clause-entry g c =
 pub returns-clause-told : goal.returns-clause-told
 returns-clause-told g c b is stands held by =
     let i = c.args.over.index.now in
-    let listed = c.deref-2.result.now in
-    let has = listed_in i c.args.hits c.in_ok-listed.listed.items listed (ap (λ (x : IndexView). x.docs) c.index.view_is) c.in_ok-listed.ensures c.deref-2.ensures.value in
+    let listed = c.deref.result.now in
+    let has = listed_in i c.args.hits c.in_ok-listed.listed.items listed (ap (λ (x : IndexView). x.docs) c.index.view_is) c.in_ok-listed.ensures c.deref.ensures.value in
     let had = c.in_ok-gathered.ensures.gathered in
     let few : length c.in_ok-gathered.gathered.keys.items ≤ c.saturating_sub-room.result = omega (arith, c.if-len-room.false, c.len.ensures) in
     let r = all_in_room i c.requires.over.opened.index (g.S.Store.bytes c.args.store.now) c.args.words.0 c.args.words.1 listed c.in_ok-gathered.gathered

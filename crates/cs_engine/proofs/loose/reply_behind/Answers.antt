@@ -5,7 +5,7 @@ use Rattle.cs_base.specs.declared.content.scores.TheConstants.{MAX_ROW_SCORE}
 use Rattle.cs_model.specs.Corpus.{Corpus}
 use Rattle.cs_model.specs.Requests.{reply_of}
 use Rattle.cs_query.specs.RequestView.{asked}
-use Rattle.cs_engine.proofs.LooseLemmas.{found_table}
+use Rattle.cs_engine.proofs.LooseLemmas.{found_counts}
 use Rattle.cs_engine.proofs.PartSteps.{base_weaker}
 use Rattle.cs_engine.proofs.StockLemmas.{stock_corpus}
 use Rattle.cs_engine.proofs.loose.reply_behind.Goals as goal
@@ -19,6 +19,6 @@ found_behind-requires-clause-base g c =
 pub returns-clause-told : goal.returns-clause-told
 returns-clause-told g c b is stands held by =
     c.in_ok-reply.ensures.told b (c.found_behind.ensures.store.bytes ∙ is) stands held
-    (found_table c.args.over.index.now c.args.over.request.now.query c.args.hits.now c.args.words.0 c.args.words.1 c.requires.asks b stands c.requires.over.opened.index by
-    c.args.over.request.now.completions _ _ (c.in_ok-found.ensures.told b is stands))
+    (found_counts c.args.over.index.now c.args.over.request.now.query c.args.hits.now c.args.words.0 c.args.words.1 c.requires.asks b stands c.requires.over.opened.index by
+    _ _ (c.in_ok-found.ensures.told b is stands))
     ∙ ap (λ (k : Corpus). reply_of k (asked c.args.over.request.now)) (stock_corpus b c.args.over.index.now stands c.requires.over.opened.index)

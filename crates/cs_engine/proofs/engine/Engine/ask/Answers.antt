@@ -10,6 +10,7 @@ use Rattle.cs_query.specs.RequestView.{asked}
 use Rattle.cs_engine.specs.Asking.{division, titles_asked}
 use Rattle.cs_engine.specs.HeldFacets.{AreFacetsOver}
 use Rattle.cs_engine.specs.Keeping.{EngineView, HoldsGood, IsKeptBehind, KeepsFitting, note_plan}
+use Rattle.cs_engine.specs.WideRanges.{AreWideOver}
 use Rattle.cs_engine.proofs.KeepingLemmas.{after_is, behind_fits, good_behind, is_note_plan, kept_behind, kept_is, was_had}
 use Rattle.cs_engine.proofs.LentLemmas.{due_is, err_due}
 use Rattle.cs_engine.proofs.WalkLemmas.{within_both, within_more}
@@ -26,7 +27,7 @@ due_seen {inside} {seen} same r p is titles =
     ∙ ap (λ n. due v r n titles) is ∙ ap (λ (e : EngineView). due (division e.index) r (note_plan r.query e.answers) titles) same
 
 pub invariant_of-self : goal.invariant_of-self
-invariant_of-self g c = (c.self.invariant.0, c.hold_facets.ensures.facets)
+invariant_of-self g c = (c.self.invariant.0, c.hold_facets.ensures.facets, c.self.invariant.2)
 
 pub invariant_of-self-2 : goal.invariant_of-self-2
 invariant_of-self-2 g c = (
@@ -34,6 +35,7 @@ invariant_of-self-2 g c = (
       (behind_fits c.self.inside.index c.args.request.now.query c.requires.limits.query c.self.inside.answers c.in_ok-keys.keys c.in_ok-keys.ensures.ok
       c.look-plan.result c.look-plan.ensures c.self.invariant.0 c.in_ok-reply.own c.in_ok-reply.ensures.fits.within),
   c.hold_facets.ensures.facets,
+  c.replied.ensures.wide,
 )
 
 pub returns-in_err-hold_facets-clause-good : goal.returns-in_err-hold_facets-clause-good
@@ -41,6 +43,7 @@ returns-in_err-hold_facets-clause-good g c b is stands good =
     let stands_inside = subst (StandsFor b) (sym (ap (λ (e : Engine). e.index) c.self.view_is)) stands in (
       subst (λ (e : Engine). HoldsGood b e.index e.answers.entries) (sym c.self.view_is) good.0,
       c.hold_facets.ensures.told b is stands_inside (subst (λ (e : Engine). AreFacetsOver b e.facets) (sym c.self.view_is) good.1),
+      subst (λ (e : Engine). AreWideOver b e.wide) (sym c.self.view_is) good.2,
     )
 
 pub returns-in_err-reply-clause-good : goal.returns-in_err-reply-clause-good
@@ -48,6 +51,8 @@ returns-in_err-reply-clause-good g c b is stands good =
     let stands_inside = subst (StandsFor b) (sym (ap (λ (e : Engine). e.index) c.self.view_is)) stands in (
       subst (λ (e : Engine). HoldsGood b e.index e.answers.entries) (sym c.self.view_is) good.0,
       c.hold_facets.ensures.told b is stands_inside (subst (λ (e : Engine). AreFacetsOver b e.facets) (sym c.self.view_is) good.1),
+      c.replied.ensures.good b (c.hold_facets.ensures.store.bytes ∙ is) stands_inside
+          (subst (λ (e : Engine). AreWideOver b e.wide) (sym c.self.view_is) good.2),
     )
 
 pub returns-clause-ok : goal.returns-clause-ok
@@ -55,7 +60,9 @@ returns-clause-ok g c b is stands good =
     let stands_inside = subst (StandsFor b) (sym (ap (λ (e : Engine). e.index) c.self.view_is)) stands in
     let good_inside = subst (λ (e : Engine). HoldsGood b e.index e.answers.entries) (sym c.self.view_is) good.0 in
     let held = c.hold_facets.ensures.told b is stands_inside (subst (λ (e : Engine). AreFacetsOver b e.facets) (sym c.self.view_is) good.1) in
-    (c.in_ok-reply.ensures.told b (c.hold_facets.ensures.store.bytes ∙ is) stands_inside (subst (AreFacetsOver b) (sym c.deref.ensures.value) held) good_inside).reply
+    let wide = subst (λ (e : Engine). AreWideOver b e.wide) (sym c.self.view_is) good.2 in
+    (c.in_ok-reply.ensures.told b (c.hold_facets.ensures.store.bytes ∙ is) stands_inside (subst (AreFacetsOver b) (sym c.deref.ensures.value) held)
+    wide good_inside).reply
 
 pub returns-clause-good : goal.returns-clause-good
 returns-clause-good g c b is stands good =
@@ -64,12 +71,14 @@ returns-clause-good g c b is stands good =
     (sym c.self.view_is) good.0 in
     let held_before : AreFacetsOver b c.self.inside.facets.items = subst (λ (e : Engine). AreFacetsOver b e.facets) (sym c.self.view_is) good.1 in
     let held = c.hold_facets.ensures.told b is stands_inside held_before in
+    let wide : AreWideOver b c.self.inside.wide.items = subst (λ (e : Engine). AreWideOver b e.wide) (sym c.self.view_is) good.2 in
     let answer = c.in_ok-reply.ensures.told b (c.hold_facets.ensures.store.bytes ∙ is) stands_inside (subst (AreFacetsOver b) (sym c.deref.ensures.value) held)
-    good_inside in (
+    wide good_inside in (
       subst (HoldsGood b c.self.inside.index) (sym c.put-kept.ensures.entries)
           (good_behind b c.self.inside.index c.args.request.now.query c.requires.limits.query c.self.inside.answers c.in_ok-keys.keys c.in_ok-keys.ensures.ok
           c.look-plan.result c.look-plan.ensures good_inside c.in_ok-reply.own c.in_ok-reply.ensures.had answer.own),
       held,
+      c.replied.ensures.good b (c.hold_facets.ensures.store.bytes ∙ is) stands_inside wide,
     )
 
 pub returns-clause-after : goal.returns-clause-after
@@ -83,7 +92,8 @@ returns-clause-after g c b is stands good =
     let good_inside : HoldsGood b i a.entries = subst (λ (e : Engine). HoldsGood b e.index e.answers.entries) (sym c.self.view_is) good.0 in
     let held_before : AreFacetsOver b c.self.inside.facets.items = subst (λ (e : Engine). AreFacetsOver b e.facets) (sym c.self.view_is) good.1 in
     let held = subst (AreFacetsOver b) (sym c.deref.ensures.value) (c.hold_facets.ensures.told b is stands_inside held_before) in
-    let answer = c.in_ok-reply.ensures.told b (c.hold_facets.ensures.store.bytes ∙ is) stands_inside held good_inside in
+    let wide : AreWideOver b c.self.inside.wide.items = subst (λ (e : Engine). AreWideOver b e.wide) (sym c.self.view_is) good.2 in
+    let answer = c.in_ok-reply.ensures.told b (c.hold_facets.ensures.store.bytes ∙ is) stands_inside held wide good_inside in
     let own = answer.own in
     let became = c.put-kept.ensures.became in
     let list : kept_at i.words new.entries ≡ after (kept_at i.words a.entries) a.capacity q c.put-kept.result (file_corpus b) =
