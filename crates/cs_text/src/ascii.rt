@@ -35,7 +35,7 @@ fn gap_bytes(bytes: &[u8]) -> usize
     ensures within { result ≤ length bytes.now }
 {
     let mut end = 0;
-    while end < bytes.len() && !bytes[end].is_ascii_alphanumeric() {
+    while end < bytes.len() && !is_word_byte(bytes[end]) {
         end += 1;
     }
     end
@@ -48,8 +48,16 @@ fn run_bytes(bytes: &[u8]) -> usize
     ensures within { result ≤ length bytes.now }
 {
     let mut end = 0;
-    while end < bytes.len() && bytes[end].is_ascii_alphanumeric() {
+    while end < bytes.len() && is_word_byte(bytes[end]) {
         end += 1;
     }
     end
+}
+
+// Whether a byte is a letter or a digit. Most are letters, so these are tried first.
+#[inline]
+fn is_word_byte(b: u8) -> bool
+    ensures { result ≡ is_ascii_alphanumeric b }
+{
+    b.is_ascii_alphabetic() || b.is_ascii_digit()
 }
