@@ -19,4 +19,4 @@ pub use facet::listed_facets;
 pub use fault::{DocFault, Reason, RowsFault};
 pub use lines::{BYTE_ORDER_MARK, first_end};
 pub use reader::{lent_docs, read_docs};
-pub use row_list::{add_rows, rows_of};
+pub use row_list::rows_of;

@@ -41,8 +41,8 @@ pub fn rows_of(alloc: Global, docs: &Seq<Doc>) -> Result<Seq<Row>, RowsFault>
     Ok(Seq::from_vec(rows))
 }
 
-/// Adds the rows of a document that has this number, by position and word.
-pub fn add_rows(alloc: Global, rows: &mut Vec<Row>, number: u32, doc: &Doc) -> Result<(), Memory>
+// Adds the rows of a document that has this number, by position and word.
+fn add_rows(alloc: Global, rows: &mut Vec<Row>, number: u32, doc: &Doc) -> Result<(), Memory>
     requires { CanBeListed doc.now }
 
     ensures ok { OnOk result (rows.new.items ≡ rows.old.items ++ listed_doc (number, doc.now)) }

@@ -1,7 +1,7 @@
 //! A collection that is read, and made into the corpus that is searched.
 ghost use Rattle.std.specs.{Option.{option_map}, Prelude.{◌≡◌, None, IfOk, IfErr, OnOk, map}};
 ghost use Rattle.cs_build.specs.declared.fault.BuildFault.{BuildFault};
-ghost use Rattle.cs_docs.specs.{FaultRefusals.{reason_text}, Lent.{doc_of_lent}};
+ghost use Rattle.cs_docs.specs.{FaultRefusals.{reason_text}, LinesRead.{doc_of_lent}};
 ghost use Rattle.cs_model.specs.{Collection.{refusal_words}, Corpus.{corpus, refusal, title_of}};
 ghost use Rattle.cs_top.specs.{Filed.{HasFile, IsFiled}, Trial.{HasSizes}};
 ghost use Rattle.cs_top.specs.Views.{IsCollectionCause, IsOfCollection, IsSized, IsStopCause, OfFile, ReadsFiles, collection_refusal_of};

@@ -9,7 +9,7 @@ use Rattle.cs_base.specs.declared.content.doc.Row.{Row}
 use Rattle.cs_base.specs.declared.content.limits.TheConstants.{MAX_ROWS, MAX_WORDS}
 use Rattle.cs_model.specs.Collection.{docs_refusal, documents}
 use Rattle.cs_model.specs.First.{first_reason}
-use Rattle.cs_model.specs.Corpus.{by_number, corpus, corpus_of, distinct_words, refusal, rows_of, rows_refusal, title_of}
+use Rattle.cs_model.specs.Corpus.{by_number, corpus, distinct_words, refusal, rows_of, rows_refusal, title_of}
 use Rattle.cs_model_index.specs.FileRules.{IsIndexFile}
 use Rattle.cs_model_index.specs.Images.{IsImage}
 use Rattle.cs_model_index.specs.Layout.{file, title_bytes}
@@ -17,7 +17,8 @@ use Rattle.cs_model_index.specs.Sections.{file_corpus}
 use Rattle.cs_model_index.specs.declared.limits.TheConstants.{TARGET as BLOCK_ROWS}
 use Rattle.cs_model_index.proofs.ImageLemmas.{titles_listed}
 use Rattle.cs_build.specs.Building.{corpus_of_rows}
-use Rattle.cs_build.proofs.CollectionLemmas.{columns_are, columns_made}
+use Rattle.cs_docs.specs.LinesRead.{doc_of_lent}
+use Rattle.cs_build.proofs.CollectionLemmas.{titles_are, titles_made}
 use Rattle.cs_build.proofs.CollectionFiles.{files_of_collections}
 use Rattle.cs_build.proofs.TitleLemmas.{titles_few}
 use Rattle.cs_top.proofs.collection.image_of.Goals as goal
@@ -33,34 +34,48 @@ accepted_by c rows none e few words =
 
 pub image_of_columns-requires-clause-corpus : goal.image_of_columns-requires-clause-corpus
 image_of_columns-requires-clause-corpus c =
-    let docs : c.in_ok-docs.docs ≡ documents c.args.bytes.now = search rules in
-    let rows : c.in_ok-rows.rows ≡ rows_of c.in_ok-docs.docs = search rules in
-    columns_are c.args.bytes.now c.in_ok-docs.docs c.in_ok-rows.rows docs rows
+    let docs : map doc_of_lent c.in_ok-docs.docs.items ≡ documents c.args.bytes.now = search rules in
+    let rows : c.in_ok-rows.rows ≡ rows_of (map doc_of_lent c.in_ok-docs.docs.items) = search rules in
+    let titles : c.in_ok-titles.titles ≡ map title_of (map doc_of_lent c.in_ok-docs.docs.items) = search rules in
+    titles_are c.args.bytes.now c.in_ok-titles.titles c.in_ok-rows.rows (titles ∙ ap (map title_of) docs) (rows ∙ ap rows_of docs)
 
 -- what was read, and what was made of it
 record IsMade (c : In_ok-image) : Type 0 where
-  docs : c.in_ok-docs.docs ≡ documents c.args.bytes.now
+  docs : map doc_of_lent c.in_ok-docs.docs.items ≡ documents c.args.bytes.now
   accepted : docs_refusal c.args.bytes.now ≡ None
-  rows : c.in_ok-rows.rows ≡ rows_of c.in_ok-docs.docs
-  few : length (rows_of c.in_ok-docs.docs) ≤ MAX_ROWS
+  titles : c.in_ok-titles.titles ≡ map title_of (documents c.args.bytes.now)
+  rows : c.in_ok-rows.rows ≡ rows_of (documents c.args.bytes.now)
+  few : length c.in_ok-rows.rows ≤ MAX_ROWS
   few_words : length (distinct_words c.in_ok-rows.rows) ≤ MAX_WORDS
-  image : IsImage (corpus_of_rows (map title_of c.in_ok-docs.docs) c.in_ok-rows.rows) BLOCK_ROWS c.in_ok-image.image
+  image : IsImage (corpus_of_rows c.in_ok-titles.titles c.in_ok-rows.rows) BLOCK_ROWS c.in_ok-image.image
 
 made : (c : In_ok-image) → IsMade c
-made c = record { docs = search rules; accepted = search rules; rows = search rules; few = search rules; few_words = search rules; image = search rules }
+made c =
+    let docs : map doc_of_lent c.in_ok-docs.docs.items ≡ documents c.args.bytes.now = search rules in
+    let rows : c.in_ok-rows.rows ≡ rows_of (map doc_of_lent c.in_ok-docs.docs.items) = search rules in
+    let titles : c.in_ok-titles.titles ≡ map title_of (map doc_of_lent c.in_ok-docs.docs.items) = search rules in
+    let few : length (rows_of (map doc_of_lent c.in_ok-docs.docs.items)) ≤ MAX_ROWS = search rules in
+    record {
+      docs = docs;
+      accepted = search rules;
+      titles = titles ∙ ap (map title_of) docs;
+      rows = rows ∙ ap rows_of docs;
+      few = subst (λ r. length r ≤ MAX_ROWS) (sym rows) few;
+      few_words = search rules;
+      image = search rules;
+    }
 
 -- it is an image of the collection's corpus
 imaged : (c : In_ok-image) → IsImage (corpus c.args.bytes.now) BLOCK_ROWS c.in_ok-image.image
 imaged c =
     let m = made c in
-    subst (λ k. IsImage k BLOCK_ROWS c.in_ok-image.image) (columns_made c.in_ok-docs.docs c.in_ok-rows.rows m.rows ∙ ap corpus_of m.docs) m.image
+    subst (λ k. IsImage k BLOCK_ROWS c.in_ok-image.image) (titles_made c.args.bytes.now c.in_ok-titles.titles c.in_ok-rows.rows m.titles m.rows) m.image
 
 -- the collection is accepted
 accepted : (c : In_ok-image) → refusal c.args.bytes.now ≡ None
 accepted c =
     let m = made c in
-    let few = subst (λ r. length r ≤ MAX_ROWS) (sym m.rows) m.few in
-    accepted_by c.args.bytes.now c.in_ok-rows.rows m.accepted (m.rows ∙ ap rows_of m.docs) few m.few_words
+    accepted_by c.args.bytes.now c.in_ok-rows.rows m.accepted m.rows m.few m.few_words
 
 -- its bytes are an index file, of which that corpus is read
 filed : (c : In_ok-image) → IsIndexFile (file c.in_ok-image.image) × (file_corpus (file c.in_ok-image.image) ≡ corpus c.args.bytes.now)
@@ -78,8 +93,7 @@ pub returns-clause-file : goal.returns-clause-file
 returns-clause-file c =
     let is = (goal.at.returns-clause-file c).In_ok-image in
     let m = made is in
-    let room : length (title_bytes (map title_of c.in_ok-docs.docs)) < 2 ^ 32 =
-    subst (λ docs. length (title_bytes (map title_of docs)) < 2 ^ 32) (sym m.docs) (titles_few c.args.bytes.now m.accepted) in
+    let room : length (title_bytes c.in_ok-titles.titles) < 2 ^ 32 = subst (λ ts. length (title_bytes ts) < 2 ^ 32) (sym m.titles) (titles_few c.args.bytes.now m.accepted) in
     record { writable = search rules; whole = (filed is).0 }
 
 -- each document has its title in the corpus
@@ -90,6 +104,7 @@ pub returns-clause-sizes : goal.returns-clause-sizes
 returns-clause-sizes c =
     let m = made (goal.at.returns-clause-sizes c).In_ok-image in
     record {
-      documents = c.len-document_count.ensures ∙ ap length m.docs ∙ sym (length-map (documents c.args.bytes.now) title_of) ∙ sym (titles_counted (map title_of (documents c.args.bytes.now)));
-      rows = c.len-row_count.ensures ∙ ap length (m.rows ∙ ap rows_of m.docs);
+      documents = c.len-document_count.ensures ∙ sym (length-map c.in_ok-docs.docs.items doc_of_lent) ∙ ap length m.docs ∙ sym (length-map (documents c.args.bytes.now) title_of)
+          ∙ sym (titles_counted (map title_of (documents c.args.bytes.now)));
+      rows = c.len-row_count.ensures ∙ ap length m.rows;
     }
