@@ -6,7 +6,7 @@
 --   counted_docs      the rows of each document are counted
 --   listed_many       documents have as many rows as words that are listed
 --   words_more, counts_more, few_more      the words and the counts of one document more
-use Rattle.std.proofs.Common.{◌≡◌, ℕ, zero, suc, ◌+◌, ◌≤◌, ◌<◌, List, [], ◌∷◌, ◌++◌, length, map, take, drop, get_or, refl, sym, ap, subst, ◌∙◌, arith, append_assoc, append-nil, length-append, length-drop}
+use Rattle.std.proofs.Common.{◌≡◌, ℕ, zero, suc, ◌+◌, ◌≤◌, ◌<◌, List, [], ◌∷◌, ◌++◌, length, map, take, drop, get_or, refl, sym, ap, ◌∙◌, arith, append_assoc, length-append}
 use Rattle.std.specs.Prelude.{flat_map}
 use Rattle.std.specs.List.{AllByRecursion, enumerate_from}
 use Rattle.std.proofs.lemmas.List.{drop_at, flat_map_more, get_or-map, length-map, map-append, take-append-drop, take-map, take_at, take_more}
@@ -14,7 +14,6 @@ use Rattle.std.proofs.lemmas.List.FromFn.{length-enumerate_from}
 use Rattle.cs_base.specs.declared.content.doc.Doc.{Doc}
 use Rattle.cs_base.specs.declared.content.doc.Post.{Post}
 use Rattle.cs_base.specs.declared.content.doc.Row.{Row}
-use Rattle.cs_base.specs.declared.content.limits.TheConstants.{MAX_DOCS, MAX_DOC_WORDS}
 use Rattle.cs_base.specs.declared.content.scores.TheConstants.{BEHIND_TITLE, FACET_SCORE, TEXT_SCORE, TITLE_SCORE}
 use Rattle.cs_docs.specs.FacetPieces.{CanBeListed}
 use Rattle.cs_docs.specs.LinesRead.{doc_of_lent}

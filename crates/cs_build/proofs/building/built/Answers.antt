@@ -1,4 +1,4 @@
-use Rattle.std.proofs.Common.{ℕ, ◌≡◌, ◌<◌, ◌≤◌, List, length, map, sym, subst, ap, ◌∙◌, arith}
+use Rattle.std.proofs.Common.{◌≡◌, ◌<◌, ◌≤◌, List, length, map, sym, subst, ap, ◌∙◌, arith}
 use Rattle.std.specs.Prelude.{filter}
 use Rattle.std.specs.List.{AllByRecursion, zip}
 use Rattle.cs_base.specs.declared.content.doc.Post.{Post}
@@ -9,7 +9,7 @@ use Rattle.cs_model_index.specs.Images.{count_in}
 use Rattle.cs_model_index.specs.Numbered.{numbered, rows_at}
 use Rattle.cs_vocab.specs.Ranges.{AreNumbers}
 use Rattle.cs_build.specs.RowColumns.{posts_in}
-use Rattle.cs_build.specs.WordRuns.{AreParted, AreSpans, CountsRows, is_within, run_head}
+use Rattle.cs_build.specs.WordRuns.{AreParted, AreSpans, is_within, run_head}
 use Rattle.cs_build.proofs.AssembleLemmas.{spans_kept, few_kept, counted_kept, inside_kept, rows_kept, as_many, image_made}
 use Rattle.cs_build.proofs.ColumnLemmas.{columns_many, numbers_are, posts_numbered}
 use Rattle.cs_build.proofs.building.built.Goals as goal

@@ -3,7 +3,7 @@ use Rattle.std.specs.Prelude.{filter}
 use Rattle.std.proofs.lemmas.List.{with_items_is}
 use Rattle.cs_cols.specs.declared.cols.Cols.{Cols}
 use Rattle.cs_build.specs.RowColumns.{posts_in}
-use Rattle.cs_build.specs.WordRuns.{AreFilled, CanTake, is_within, run_places_from}
+use Rattle.cs_build.specs.WordRuns.{AreFilled, CanTake, is_within}
 use Rattle.cs_build.proofs.ColumnLemmas.{below_words}
 use Rattle.cs_build.proofs.FillLemmas.{all_posts, can_all}
 use Rattle.cs_build.proofs.filling.blocks_of.Goals as goal

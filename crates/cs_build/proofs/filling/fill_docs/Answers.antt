@@ -1,4 +1,4 @@
-use Rattle.std.proofs.Common.{ℕ, ◌≡◌, ◌+◌, ◌++◌, ◌<◌, List, length, get_or, drop, ap, sym, subst, ◌∙◌, ◌∷◌}
+use Rattle.std.proofs.Common.{ℕ, ◌≡◌, ◌+◌, ◌++◌, ◌<◌, List, length, get_or, drop, ap, sym, subst}
 use Rattle.std.proofs.lemmas.List.{drop_more}
 use Rattle.cs_build.specs.RowColumns.{AreDocRows, behind_doc, posts_of_doc, posts_of_docs}
 use Rattle.cs_build.specs.WordRuns.{AreTaken, CanTake}

@@ -1,10 +1,9 @@
-use Rattle.std.proofs.Common.{ℕ, ◌≡◌, ◌+◌, ◌<◌, List, [], ◌∷◌, length, get_or, drop, ap, sym, subst, append-nil}
-use Rattle.std.proofs.lemmas.List.{drop_all, drop_more}
+use Rattle.std.proofs.Common.{ℕ, ◌≡◌, ◌+◌, ◌<◌, List, ◌∷◌, length, get_or, drop, ap}
+use Rattle.std.proofs.lemmas.List.{drop_more}
 use Rattle.cs_base.specs.declared.content.scores.TheConstants.{FACET_SCORE}
 use Rattle.cs_cols.proofs.Columns.{post}
 use Rattle.cs_build.specs.RowColumns.{facet_posts}
-use Rattle.cs_build.specs.WordRuns.{AreTaken}
-use Rattle.cs_build.proofs.FillLemmas.{can_next, none_taken, place_inside, place_roomy, taken_next, word_known}
+use Rattle.cs_build.proofs.FillLemmas.{can_next, place_inside, place_roomy, taken_next, word_known}
 use Rattle.cs_build.proofs.filling.fill_facets.Goals as goal
 
 here : (d i : ℕ) (ns : List ℕ) → i < length ns → facet_posts d (drop i ns) ≡ post d (get_or ns i 0) 0 FACET_SCORE ∷ facet_posts d (drop (i + 1) ns)

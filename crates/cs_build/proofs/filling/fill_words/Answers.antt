@@ -1,9 +1,8 @@
-use Rattle.std.proofs.Common.{ℕ, ◌≡◌, ◌+◌, ◌<◌, List, [], ◌∷◌, length, get_or, drop, ap, sym, subst, append-nil, arith}
-use Rattle.std.proofs.lemmas.List.{drop_all, drop_more}
+use Rattle.std.proofs.Common.{ℕ, ◌≡◌, ◌+◌, ◌<◌, List, ◌∷◌, length, get_or, drop, ap, arith}
+use Rattle.std.proofs.lemmas.List.{drop_more}
 use Rattle.cs_cols.proofs.Columns.{post}
 use Rattle.cs_build.specs.RowColumns.{word_posts}
-use Rattle.cs_build.specs.WordRuns.{AreTaken}
-use Rattle.cs_build.proofs.FillLemmas.{can_next, none_taken, place_inside, place_roomy, taken_next, word_known}
+use Rattle.cs_build.proofs.FillLemmas.{can_next, place_inside, place_roomy, taken_next, word_known}
 use Rattle.cs_build.proofs.filling.fill_words.Goals as goal
 
 here : (d score at i : ℕ) (ns : List ℕ) → i < length ns → word_posts d score at (drop i ns) ≡ post d (get_or ns i 0) at score ∷ word_posts d score (at + 1) (drop (i + 1) ns)
