@@ -146,8 +146,10 @@ HoldsGood b i held = GoodFor (file_corpus b) (kept_at i.words held)
 
 -- under each key stands the entry of the key's own query over the corpus of the bytes, and the facets and the wide ranges that are
 -- held are those of the bytes; an engine that keeps nothing is good
-abbrev pub AreGood : List ℕ → EngineView → Type 0
-AreGood b e = HoldsGood b e.index e.answers.entries × AreFacetsOver b e.facets × AreWideOver b e.wide
+pub record AreGood (b : List ℕ) (e : EngineView) : Type 0 where
+  pub kept : HoldsGood b e.index e.answers.entries
+  pub facets : AreFacetsOver b e.facets
+  pub wide : AreWideOver b e.wide
 
 -- the entries of the corpus are those that a query leaves, its own kept unless it is too large; nothing is said of a refusal
 abbrev pub IsAfter : List ℕ → Query → EngineView → Result (Reply × Note) FetchFault → EngineView → Type 0

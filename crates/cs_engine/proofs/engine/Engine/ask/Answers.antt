@@ -40,27 +40,27 @@ invariant_of-self-2 g c = (
 
 pub returns-in_err-hold_facets-clause-good : goal.returns-in_err-hold_facets-clause-good
 returns-in_err-hold_facets-clause-good g c b is stands good =
-    let stands_inside = subst (StandsFor b) (sym (ap (λ (e : Engine). e.index) c.self.view_is)) stands in (
-      subst (λ (e : Engine). HoldsGood b e.index e.answers.entries) (sym c.self.view_is) good.0,
-      c.hold_facets.ensures.told b is stands_inside (subst (λ (e : Engine). AreFacetsOver b e.facets) (sym c.self.view_is) good.1),
-      subst (λ (e : Engine). AreWideOver b e.wide) (sym c.self.view_is) good.2,
-    )
+    let stands_inside = subst (StandsFor b) (sym (ap (λ (e : Engine). e.index) c.self.view_is)) stands in record {
+      kept = subst (λ (e : Engine). HoldsGood b e.index e.answers.entries) (sym c.self.view_is) good.kept;
+      facets = c.hold_facets.ensures.told b is stands_inside (subst (λ (e : Engine). AreFacetsOver b e.facets) (sym c.self.view_is) good.facets);
+      wide = subst (λ (e : Engine). AreWideOver b e.wide) (sym c.self.view_is) good.wide;
+    }
 
 pub returns-in_err-reply-clause-good : goal.returns-in_err-reply-clause-good
 returns-in_err-reply-clause-good g c b is stands good =
-    let stands_inside = subst (StandsFor b) (sym (ap (λ (e : Engine). e.index) c.self.view_is)) stands in (
-      subst (λ (e : Engine). HoldsGood b e.index e.answers.entries) (sym c.self.view_is) good.0,
-      c.hold_facets.ensures.told b is stands_inside (subst (λ (e : Engine). AreFacetsOver b e.facets) (sym c.self.view_is) good.1),
-      c.replied.ensures.good b (c.hold_facets.ensures.store.bytes ∙ is) stands_inside
-          (subst (λ (e : Engine). AreWideOver b e.wide) (sym c.self.view_is) good.2),
-    )
+    let stands_inside = subst (StandsFor b) (sym (ap (λ (e : Engine). e.index) c.self.view_is)) stands in record {
+      kept = subst (λ (e : Engine). HoldsGood b e.index e.answers.entries) (sym c.self.view_is) good.kept;
+      facets = c.hold_facets.ensures.told b is stands_inside (subst (λ (e : Engine). AreFacetsOver b e.facets) (sym c.self.view_is) good.facets);
+      wide = c.replied.ensures.good b (c.hold_facets.ensures.store.bytes ∙ is) stands_inside
+          (subst (λ (e : Engine). AreWideOver b e.wide) (sym c.self.view_is) good.wide);
+    }
 
 pub returns-clause-ok : goal.returns-clause-ok
 returns-clause-ok g c b is stands good =
     let stands_inside = subst (StandsFor b) (sym (ap (λ (e : Engine). e.index) c.self.view_is)) stands in
-    let good_inside = subst (λ (e : Engine). HoldsGood b e.index e.answers.entries) (sym c.self.view_is) good.0 in
-    let held = c.hold_facets.ensures.told b is stands_inside (subst (λ (e : Engine). AreFacetsOver b e.facets) (sym c.self.view_is) good.1) in
-    let wide = subst (λ (e : Engine). AreWideOver b e.wide) (sym c.self.view_is) good.2 in
+    let good_inside = subst (λ (e : Engine). HoldsGood b e.index e.answers.entries) (sym c.self.view_is) good.kept in
+    let held = c.hold_facets.ensures.told b is stands_inside (subst (λ (e : Engine). AreFacetsOver b e.facets) (sym c.self.view_is) good.facets) in
+    let wide = subst (λ (e : Engine). AreWideOver b e.wide) (sym c.self.view_is) good.wide in
     (c.in_ok-reply.ensures.told b (c.hold_facets.ensures.store.bytes ∙ is) stands_inside (subst (AreFacetsOver b) (sym c.deref.ensures.value) held)
     wide good_inside).reply
 
@@ -68,18 +68,18 @@ pub returns-clause-good : goal.returns-clause-good
 returns-clause-good g c b is stands good =
     let stands_inside = subst (StandsFor b) (sym (ap (λ (e : Engine). e.index) c.self.view_is)) stands in
     let good_inside : HoldsGood b c.self.inside.index c.self.inside.answers.entries = subst (λ (e : Engine). HoldsGood b e.index e.answers.entries)
-    (sym c.self.view_is) good.0 in
-    let held_before : AreFacetsOver b c.self.inside.facets.items = subst (λ (e : Engine). AreFacetsOver b e.facets) (sym c.self.view_is) good.1 in
+    (sym c.self.view_is) good.kept in
+    let held_before : AreFacetsOver b c.self.inside.facets.items = subst (λ (e : Engine). AreFacetsOver b e.facets) (sym c.self.view_is) good.facets in
     let held = c.hold_facets.ensures.told b is stands_inside held_before in
-    let wide : AreWideOver b c.self.inside.wide.items = subst (λ (e : Engine). AreWideOver b e.wide) (sym c.self.view_is) good.2 in
+    let wide : AreWideOver b c.self.inside.wide.items = subst (λ (e : Engine). AreWideOver b e.wide) (sym c.self.view_is) good.wide in
     let answer = c.in_ok-reply.ensures.told b (c.hold_facets.ensures.store.bytes ∙ is) stands_inside (subst (AreFacetsOver b) (sym c.deref.ensures.value) held)
-    wide good_inside in (
-      subst (HoldsGood b c.self.inside.index) (sym c.put-kept.ensures.entries)
+    wide good_inside in record {
+      kept = subst (HoldsGood b c.self.inside.index) (sym c.put-kept.ensures.entries)
           (good_behind b c.self.inside.index c.args.request.now.query c.requires.limits.query c.self.inside.answers c.in_ok-keys.keys c.in_ok-keys.ensures.ok
-          c.look-plan.result c.look-plan.ensures good_inside c.in_ok-reply.own c.in_ok-reply.ensures.had answer.own),
-      held,
-      c.replied.ensures.good b (c.hold_facets.ensures.store.bytes ∙ is) stands_inside wide,
-    )
+          c.look-plan.result c.look-plan.ensures good_inside c.in_ok-reply.own c.in_ok-reply.ensures.had answer.own);
+      facets = held;
+      wide = c.replied.ensures.good b (c.hold_facets.ensures.store.bytes ∙ is) stands_inside wide;
+    }
 
 pub returns-clause-after : goal.returns-clause-after
 returns-clause-after g c b is stands good =
@@ -89,10 +89,10 @@ returns-clause-after g c b is stands good =
     let o = c.in_ok-reply.own in
     let new = c.put-kept.new.answers in
     let stands_inside = subst (StandsFor b) (sym (ap (λ (e : Engine). e.index) c.self.view_is)) stands in
-    let good_inside : HoldsGood b i a.entries = subst (λ (e : Engine). HoldsGood b e.index e.answers.entries) (sym c.self.view_is) good.0 in
-    let held_before : AreFacetsOver b c.self.inside.facets.items = subst (λ (e : Engine). AreFacetsOver b e.facets) (sym c.self.view_is) good.1 in
+    let good_inside : HoldsGood b i a.entries = subst (λ (e : Engine). HoldsGood b e.index e.answers.entries) (sym c.self.view_is) good.kept in
+    let held_before : AreFacetsOver b c.self.inside.facets.items = subst (λ (e : Engine). AreFacetsOver b e.facets) (sym c.self.view_is) good.facets in
     let held = subst (AreFacetsOver b) (sym c.deref.ensures.value) (c.hold_facets.ensures.told b is stands_inside held_before) in
-    let wide : AreWideOver b c.self.inside.wide.items = subst (λ (e : Engine). AreWideOver b e.wide) (sym c.self.view_is) good.2 in
+    let wide : AreWideOver b c.self.inside.wide.items = subst (λ (e : Engine). AreWideOver b e.wide) (sym c.self.view_is) good.wide in
     let answer = c.in_ok-reply.ensures.told b (c.hold_facets.ensures.store.bytes ∙ is) stands_inside held wide good_inside in
     let own = answer.own in
     let became = c.put-kept.ensures.became in
