@@ -4,6 +4,7 @@ ghost use Rattle.cs_build.specs.declared.fault.BuildFault.{BuildFault};
 ghost use Rattle.cs_docs.specs.{FaultRefusals.{reason_text}, LinesRead.{doc_of_lent}};
 ghost use Rattle.cs_model.specs.{Collection.{refusal_words}, Corpus.{corpus, refusal, title_of}};
 ghost use Rattle.cs_top.specs.{Filed.{HasFile, IsFiled}, Trial.{HasSizes}};
+ghost use Rattle.cs_top.specs.declared.collection.CollectionFault.{CollectionFault};
 ghost use Rattle.cs_top.specs.Views.{IsCollectionCause, IsOfCollection, IsSized, IsStopCause, OfFile, ReadsFiles, collection_refusal_of};
 
 use crate::ending::RunStop;

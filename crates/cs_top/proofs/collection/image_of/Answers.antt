@@ -104,7 +104,7 @@ pub returns-clause-sizes : goal.returns-clause-sizes
 returns-clause-sizes c =
     let m = made (goal.at.returns-clause-sizes c).In_ok-image in
     record {
-      documents = c.len-document_count.ensures ∙ sym (length-map c.in_ok-docs.docs.items doc_of_lent) ∙ ap length m.docs ∙ sym (length-map (documents c.args.bytes.now) title_of)
+      documents = c.len-document_count.ensures ∙ c.in_ok-docs.docs.ok.0 ∙ sym (length-map c.in_ok-docs.docs.items doc_of_lent) ∙ ap length m.docs ∙ sym (length-map (documents c.args.bytes.now) title_of)
           ∙ sym (titles_counted (map title_of (documents c.args.bytes.now)));
       rows = c.len-row_count.ensures ∙ ap length m.rows;
     }
