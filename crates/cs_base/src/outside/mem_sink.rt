@@ -1,6 +1,7 @@
 //! A sink in memory.
-ghost use Rattle.std.specs.Prelude.{◌≡◌, []};
+ghost use Rattle.std.specs.Prelude.{◌≡◌, [], IfOk};
 
+use crate::Memory;
 use crate::outside::failing::count_call;
 use crate::outside::{Failed, Sink};
 use std::alloc::Global;
@@ -32,6 +33,17 @@ impl MemSink {
             faults: 0,
             failing: Vec::new(alloc),
         }
+    }
+
+    /// A sink to which nothing was written, with memory for so many bytes.
+    pub fn with_capacity(alloc: Global, bytes: usize) -> Result<MemSink, Memory>
+        ensures { IfOk result (λ s. s ≡ record { bytes = []; faults = 0; failing = [] }) }
+    {
+        Ok(MemSink {
+            held: Vec::with_capacity(alloc, bytes)?,
+            faults: 0,
+            failing: Vec::new(alloc),
+        })
     }
 
     /// The bytes written.
