@@ -16,7 +16,7 @@ use Rattle.std.proofs.lemmas.Map.Lookups.{exact_bytes}
 use Rattle.cs_base.specs.content.Members.{members_in}
 use Rattle.cs_base.proofs.MembersLemmas.{is_member-listed, members-alike}
 use Rattle.cs_vocab.specs.Ranges.{IsBelow, IsWordAt, AreNumbers}
-use Rattle.cs_vocab.specs.Gathering.{AreSlots, HasTaken, IsGathering, gathered}
+use Rattle.cs_vocab.specs.Gathering.{AreWordSlots, HasTaken, IsGathering, gathered}
 use Rattle.cs_vocab.specs.declared.gathering.Gathering.{Gathering}
 use Rattle.cs_vocab.proofs.WordNumberLemmas.{numbers_kept, word_at}
 
@@ -53,7 +53,7 @@ listed_behind ws all w same = members-alike (slice_cmp nat_cmp) nat_list_cmp_tot
 pub indices_are : (g : Gathering) → IsGathering g → AreNumbers g.words.items g.indices.items (gathered g)
 indices_are g h = record { told = refl; below = h.below }
 
-pub none_gathered : (g : Gathering) → g.words.items ≡ [] → g.indices.items ≡ [] → AreSlots g.slots.items → IsGathering g
+pub none_gathered : (g : Gathering) → g.words.items ≡ [] → g.indices.items ≡ [] → AreWordSlots g.slots.items → IsGathering g
 none_gathered g ws ns slots = record {
   members = ap listed ws ∙ sym (ap (λ xs. listed (map (word_at g.words.items) xs)) ns);
   below = subst (All (IsBelow (length g.words.items))) (sym ns) (All-from_recursion (IsBelow (length g.words.items)) [] tt);
@@ -69,7 +69,7 @@ module _ (g h : Gathering) (n : ℕ) (w : List ℕ) (is : IsGathering g) (taken 
       ∙ ap (λ r. r ++ word_at h.words.items n ∷ []) (numbers_kept g.words.items h.words.items g.indices.items (gathered g) taken.kept taken.longer (indices_are g is)).told
       ∙ ap (λ v. gathered g ++ v ∷ []) at.1
 
-  pub gathering_one : AreSlots h.slots.items → IsGathering h
+  pub gathering_one : AreWordSlots h.slots.items → IsGathering h
   gathering_one slots = record {
     members = taken_all;
     below = subst (All (IsBelow (length h.words.items))) (sym more)

@@ -1,4 +1,5 @@
 pub mod GatheringLemmas
+pub mod SameLemmas
 pub mod WordNumberLemmas
 pub mod RangesLemmas
 pub mod SortedRefs

@@ -2,7 +2,7 @@
 --
 --   HasTaken ws xs w     the words ws became xs when w was taken
 --   gathered g           the words that came, in their order
---   AreSlots ns          there are slots, and not too many
+--   AreWordSlots ns      there are slots, and not too many
 --   IsGathering g        the words that are kept are those that came, and there are slots
 use Rattle.std.specs.Prelude.{◌≡◌, ℕ, ◌+◌, ◌<◌, ◌≤◌, List, [], ◌∷◌, ◌++◌, length, map, slice_index_or}
 use Rattle.std.specs.List.{All}
@@ -25,12 +25,12 @@ abbrev pub gathered : Gathering → List (List ℕ)
 gathered g = map (λ n. slice_index_or g.words.items n []) g.indices.items
 
 -- whatever stands in them
-abbrev pub AreSlots : List ℕ → Type 0
-AreSlots ns = (1 ≤ length ns) × (length ns ≤ MAX_SLOTS)
+abbrev pub AreWordSlots : List ℕ → Type 0
+AreWordSlots ns = (1 ≤ length ns) × (length ns ≤ MAX_SLOTS)
 
 -- so it is before any came, and behind each push that found memory
 pub record IsGathering (g : Gathering) : Type 0 where
   pub members : members_in (slice_cmp nat_cmp) g.words.items ≡ members_in (slice_cmp nat_cmp) (gathered g)
   pub below : All (IsBelow (length g.words.items)) g.indices.items
   pub few : length g.words.items ≤ length g.indices.items
-  pub slots : AreSlots g.slots.items
+  pub slots : AreWordSlots g.slots.items

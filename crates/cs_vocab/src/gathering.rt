@@ -2,9 +2,10 @@
 ghost use Rattle.std.specs.Prelude.{◌≡◌, ◌≤◌, ◌<◌, ◌^◌, [], ◌∷◌, ◌++◌, IfOk, IfErr, OnOk, length, map};
 ghost use Rattle.cs_base.specs.declared.content.limits.TheConstants.{MAX_ROWS, MAX_WORD_BYTES};
 ghost use Rattle.cs_vocab.specs.Ranges.{IsWordAt};
-ghost use Rattle.cs_vocab.specs.Gathering.{AreSlots, HasTaken, IsGathering, gathered};
+ghost use Rattle.cs_vocab.specs.Gathering.{AreWordSlots, HasTaken, IsGathering, gathered};
 
 use crate::hash::hash_of;
+use crate::same::are_same;
 use cs_base::{Memory, Row, Word};
 use std::alloc::Global;
 
@@ -14,7 +15,10 @@ const FIRST_SLOTS: usize = 1 << 12;
 // The most slots that a gathering has.
 const MAX_SLOTS: usize = 1 << 20;
 
-// Where there are fewer than so many slots for each word kept, they become so many times as many.
+// Where there are fewer than so many slots for each word kept, they become GROWTH times as many.
+const SLOTS_A_WORD: usize = 2;
+
+// How many times as many slots there are when they have grown.
 const GROWTH: usize = 4;
 
 // The most slots that are looked at for a word.
@@ -62,6 +66,7 @@ impl Gathering {
     }
 
     /// Adds the word of these bytes at the end. Where memory runs out, the gathering is of no more use.
+    #[inline]
     pub fn push(&mut self, alloc: Global, word: &[u8]) -> Result<(), Memory>
         requires is { IsGathering self.old }
         requires few { length (gathered self.old) < MAX_ROWS }
@@ -92,6 +97,7 @@ pub(crate) fn gather(alloc: Global, rows: &[Row]) -> Result<Gathering, Memory>
 }
 
 // The index of a word: the one kept for it, else behind all others, where the word is added.
+#[inline(always)]
 fn index_of(
     alloc: Global,
     words: &mut Vec<Word>,
@@ -99,13 +105,13 @@ fn index_of(
     word: &[u8],
 ) -> Result<u32, Memory>
     requires few { length words.old.items < 2 ^ 32 }
-    requires slots { AreSlots slots.old.items }
+    requires slots { AreWordSlots slots.old.items }
     requires some { 1 ≤ length word.now }
     requires few_bytes { length word.now ≤ MAX_WORD_BYTES }
 
     ensures at { IfOk result (λ n. IsWordAt words.new.items n word.now) }
     ensures taken { OnOk result (HasTaken words.old.items words.new.items word.now) }
-    ensures slots { OnOk result (AreSlots slots.new.items) }
+    ensures slots { OnOk result (AreWordSlots slots.new.items) }
 {
     match look(words.as_slice(), slots.as_slice(), word) {
         Ok(index) => Ok(index),
@@ -123,19 +129,19 @@ fn add(
     word: &[u8],
 ) -> Result<u32, Memory>
     requires few { length words.old.items < 2 ^ 32 }
-    requires slots { AreSlots slots.old.items }
+    requires slots { AreWordSlots slots.old.items }
     requires in_range { slot < length slots.old.items }
     requires some { 1 ≤ length word.now }
     requires few_bytes { length word.now ≤ MAX_WORD_BYTES }
 
     ensures at { IfOk result (λ n. IsWordAt words.new.items n word.now) }
     ensures taken { OnOk result (HasTaken words.old.items words.new.items word.now) }
-    ensures slots { OnOk result (AreSlots slots.new.items) }
+    ensures slots { OnOk result (AreWordSlots slots.new.items) }
 {
     let index = words.len() as u32;
     words.push(Word::new(alloc, word)?)?;
     slots[slot] = index;
-    if words.len() > slots.len() / GROWTH && slots.len() < MAX_SLOTS {
+    if words.len() > slots.len() / SLOTS_A_WORD && slots.len() < MAX_SLOTS {
         *slots = slots_for(alloc, words.as_slice(), MAX_SLOTS.min(GROWTH * slots.len()))?;
     }
     Ok(index)
@@ -147,7 +153,7 @@ fn slots_for(alloc: Global, words: &[Word], count: usize) -> Result<Vec<u32>, Me
     requires some_slots { 1 ≤ count }
     requires few_slots { count ≤ MAX_SLOTS }
 
-    ensures { IfOk result (λ v. AreSlots v.items) }
+    ensures { IfOk result (λ v. AreWordSlots v.items) }
 {
     let mut slots = vec![in alloc; NO_WORD; count]?;
     for (i, word) in words.iter().enumerate() {
@@ -159,9 +165,9 @@ fn slots_for(alloc: Global, words: &[Word], count: usize) -> Result<Vec<u32>, Me
 }
 
 // The index of a word, or if none of its slots names it, the slot that it takes.
-#[inline]
+#[inline(always)]
 fn look(words: &[Word], slots: &[u32], word: &[u8]) -> Result<u32, usize>
-    requires slots { AreSlots slots.now }
+    requires slots { AreWordSlots slots.now }
     requires some { 1 ≤ length word.now }
 
     ensures found { IfOk result (λ n. IsWordAt words.now n word.now) }
@@ -173,7 +179,7 @@ fn look(words: &[Word], slots: &[u32], word: &[u8]) -> Result<u32, usize>
         let index = slots[slot];
         match words.get(index as usize) {
             None => return Err(slot),
-            Some(there) if there.bytes() == word => return Ok(index),
+            Some(there) if are_same(there.bytes(), word) => return Ok(index),
             Some(_) => slot = behind(slot, slots.len()),
         }
     }
@@ -190,6 +196,7 @@ fn behind(slot: usize, slots: usize) -> usize
 }
 
 // The slot that a word chooses of so many.
+#[inline(always)]
 fn slot_of(word: &[u8], slots: usize) -> usize
     requires some { 1 ≤ length word.now }
     requires some_slots { 0 < slots }

@@ -1,5 +1,6 @@
 //! A number for a word, that few other words have.
-ghost use Rattle.std.specs.Prelude.{◌≤◌, ◌+◌, length};
+ghost use Rattle.std.specs.Prelude.{◌≡◌, ◌≤◌, ◌+◌, drop, length, take};
+ghost use Rattle.std.specs.Int.{w32, w64, from_le_bytes};
 
 // The fraction of the golden ratio in 64 bits, made odd.
 const GOLDEN: u64 = 0x9e37_79b9_7f4a_7c15;
@@ -14,11 +15,12 @@ const HALF_BYTE: u32 = 4;
 ///
 /// Of a long word only four times eight bytes count: words of more than thirty bytes that differ in others alone share
 /// their number, which costs comparisons and nothing else.
+#[inline(always)]
 pub(crate) fn hash_of(word: &[u8]) -> u32
     requires { 1 ≤ length word.now }
 {
     let len = word.len();
-    let mixed = if len >= 8 {
+    let mixed = if len > 8 {
         mixed_eights(word)
     } else if len >= 4 {
         u64::from(four_at(word, 0)) << 32 | u64::from(four_at(word, len - 4))
@@ -44,9 +46,12 @@ fn mixed_eights(word: &[u8]) -> u64
         ^ eight_at(word, 2 * third).rotate_left(HALF_BYTE)
 }
 
-// Eight bytes of a word.
-fn eight_at(word: &[u8], at: usize) -> u64
+/// Eight bytes of a word as a number, the first the lowest.
+#[inline(always)]
+pub(crate) fn eight_at(word: &[u8], at: usize) -> u64
     requires { at + 8 ≤ length word.now }
+
+    ensures { result ≡ from_le_bytes w64 (take 8 (drop at word.now)) }
 {
     u64::from_le_bytes([
         word[at],
@@ -60,9 +65,12 @@ fn eight_at(word: &[u8], at: usize) -> u64
     ])
 }
 
-// Four bytes of a word.
-fn four_at(word: &[u8], at: usize) -> u32
+/// Four bytes of a word as a number, the first the lowest.
+#[inline(always)]
+pub(crate) fn four_at(word: &[u8], at: usize) -> u32
     requires { at + 4 ≤ length word.now }
+
+    ensures { result ≡ from_le_bytes w32 (take 4 (drop at word.now)) }
 {
     u32::from_le_bytes([word[at], word[at + 1], word[at + 2], word[at + 3]])
 }

@@ -7,6 +7,7 @@
 mod gathering;
 mod hash;
 mod numbered;
+mod same;
 mod vocab;
 
 pub use gathering::Gathering;
