@@ -53,15 +53,9 @@ pub(crate) fn eight_at(word: &[u8], at: usize) -> u64
 
     ensures { result ≡ from_le_bytes w64 (take 8 (drop at word.now)) }
 {
+    let eight = &word[at..at + 8];
     u64::from_le_bytes([
-        word[at],
-        word[at + 1],
-        word[at + 2],
-        word[at + 3],
-        word[at + 4],
-        word[at + 5],
-        word[at + 6],
-        word[at + 7],
+        eight[0], eight[1], eight[2], eight[3], eight[4], eight[5], eight[6], eight[7],
     ])
 }
 
@@ -72,5 +66,6 @@ pub(crate) fn four_at(word: &[u8], at: usize) -> u32
 
     ensures { result ≡ from_le_bytes w32 (take 4 (drop at word.now)) }
 {
-    u32::from_le_bytes([word[at], word[at + 1], word[at + 2], word[at + 3]])
+    let four = &word[at..at + 4];
+    u32::from_le_bytes([four[0], four[1], four[2], four[3]])
 }
