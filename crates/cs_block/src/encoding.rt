@@ -6,7 +6,7 @@ ghost use Rattle.cs_block.specs.BlockSpelling.{HasWords, IsAscending};
 
 use cs_base::Memory;
 use cs_cols::Cols;
-use cs_gaps::put_gap;
+use cs_gaps::with_gap;
 use std::mem::replace;
 
 /// Adds the bytes of the block of these rows at the end, where `lo` is the number of its first word.
@@ -39,19 +39,36 @@ fn put_columns(rows: &Cols, lo: u32, out: &mut Vec<u8>) -> Result<(), Memory>
     Ok(())
 }
 
+// As much room as the longest codes need: what it has over leaves no more than the other columns take.
 fn put_gaps(rows: &Cols, out: &mut Vec<u8>) -> Result<(), Memory>
     requires { IsAscending 0 rows.now.posts }
 
     ensures ok { OnOk result (out.new.items ≡ out.old.items ++ gap_column 0 rows.now.posts) }
     ensures kept { take (length out.old.items) out.new.items ≡ out.old.items }
 {
-    let mut before = 0;
-    for i in 0..rows.len() {
-        let doc = rows.get(i).doc;
-        put_gap(out, doc - before)?;
-        before = doc;
-    }
+    let Some(bytes) = rows.len().checked_mul(5) else {
+        return Err(Memory);
+    };
+    out.reserve(bytes)?;
+    // a local, so that no byte can lie over where the bytes begin
+    let taken = replace(out, Vec::new(*out.allocator()));
+    *out = with_gaps(taken, rows);
     Ok(())
+}
+
+#[inline]
+fn with_gaps(mut out: Vec<u8>, rows: &Cols) -> Vec<u8>
+    requires sorted { IsAscending 0 rows.now.posts }
+    requires room { vec_len out + 5 * length rows.now.posts ≤ vec_capacity out }
+
+    ensures { result.items ≡ out.items ++ gap_column 0 rows.now.posts }
+{
+    let mut before = 0;
+    for doc in rows.docs() {
+        out = with_gap(out, *doc - before);
+        before = *doc;
+    }
+    out
 }
 
 // Adds the columns of two bytes and of four.
@@ -65,7 +82,7 @@ fn put_numbers(rows: &Cols, lo: u32, out: &mut Vec<u8>) -> Result<(), Memory>
         return Err(Memory);
     };
     out.reserve(bytes)?;
-    // a local, so that no byte can lie over where the bytes begin
+    // a local, for the same reason
     let taken = replace(out, Vec::new(*out.allocator()));
     *out = with_positions(with_words(taken, rows, lo), rows);
     Ok(())
@@ -80,8 +97,8 @@ fn with_words(mut out: Vec<u8>, rows: &Cols, lo: u32) -> Vec<u8>
     ensures len { vec_len result ≡ vec_len out + 2 * length rows.now.posts }
     ensures capacity { vec_capacity result ≡ vec_capacity out }
 {
-    for i in 0..rows.len() {
-        let [a, b] = ((rows.get(i).word - lo) as u16).to_be_bytes();
+    for word in rows.words() {
+        let [a, b] = ((*word - lo) as u16).to_be_bytes();
         out.push_reserved(a);
         out.push_reserved(b);
     }
@@ -94,8 +111,8 @@ fn with_positions(mut out: Vec<u8>, rows: &Cols) -> Vec<u8>
 
     ensures { result.items ≡ out.items ++ position_column rows.now.posts }
 {
-    for i in 0..rows.len() {
-        let [a, b, c, d] = rows.get(i).pos.to_be_bytes();
+    for place in rows.places() {
+        let [a, b, c, d] = place.to_be_bytes();
         out.push_reserved(a);
         out.push_reserved(b);
         out.push_reserved(c);
