@@ -8,6 +8,7 @@ use Rattle.std.specs.Prelude.{slice_index_or}
 use Rattle.std.specs.Int.{w16, w32, to_be_bytes}
 use Rattle.std.proofs.lemmas.List.{append-nil, take-append-le, length-take, take-take, drop_all, drop_more, get_or-map, length-map}
 use Rattle.cs_base.specs.index.GapCode.{code}
+use Rattle.cs_gaps.proofs.PassLemmas.{short_code}
 use Rattle.cs_base.specs.declared.content.doc.Post.{Post}
 use Rattle.cs_model_index.specs.Blocks.{gap_column, word_column, position_column, score_column, block_bytes}
 use Rattle.cs_block.specs.BlockSpelling.{HasWords, IsAscending}
@@ -88,6 +89,33 @@ gap_piece before rs column i e lt h =
     let r = row_in_column (λ r. r.doc) rs column i e lt in
     subst (λ (x : ℕ). (gap_column before (drop i rs) ≡ code (x - before) ++ gap_column x (drop (i + 1) rs)) × (before ≤ x) × IsAscending x (drop (i + 1) rs)) r.is
     (gaps_split before r.row (drop i rs) (drop (i + 1) rs) r.split h)
+
+-- four pieces at a time, where these are the documents of the next four rows
+pub record HasFourGaps (before : ℕ) (rs : List Post) (i a b c d : ℕ) : Type 0 where
+  pub put : gap_column before (drop i rs) ≡ (code (a - before) ++ (code (b - a) ++ (code (c - b) ++ code (d - c)))) ++ gap_column d (drop (i + 4) rs)
+  pub sorted : (before ≤ a) × (a ≤ b) × (b ≤ c) × (c ≤ d)
+  pub up : IsAscending d (drop (i + 4) rs)
+
+pub four_gaps : (before : ℕ) (rs : List Post) (column : List ℕ) (i : ℕ) → column ≡ map (λ r. r.doc) rs → i + 3 < length column → IsAscending before (drop i rs)
+    → HasFourGaps before rs i (slice_index_or column i 0) (slice_index_or column (i + 1) 0) (slice_index_or column (i + 2) 0) (slice_index_or column (i + 3) 0)
+four_gaps before rs column i e lt h =
+    let two : i + 1 + 1 ≡ i + 2 = omega arith in
+    let three : i + 2 + 1 ≡ i + 3 = omega arith in
+    let four : i + 3 + 1 ≡ i + 4 = omega arith in
+    let p = gap_piece before rs column i e (omega arith) h in
+    let q = rw two at (gap_piece (slice_index_or column i 0) rs column (i + 1) e (omega arith) p.2) in
+    let s = rw three at (gap_piece (slice_index_or column (i + 1) 0) rs column (i + 2) e (omega arith) q.2) in
+    let t = rw four at (gap_piece (slice_index_or column (i + 2) 0) rs column (i + 3) e (omega arith) s.2) in
+    record {
+      put = rw (p.0, q.0, s.0, t.0) (simp append_assoc);
+      sorted = (p.1, q.1, s.1, t.1);
+      up = t.2;
+    }
+
+-- four codes of one byte, byte by byte
+pub four_short : (first a b c d : List ℕ) (p q r s : ℕ) → (p < 128) × (q < 128) × (r < 128) × (s < 128) → a ≡ first ++ p ∷ [] → b ≡ a ++ q ∷ [] → c ≡ b ++ r ∷ [] → d ≡ c ++ s ∷ []
+    → d ≡ first ++ (code p ++ (code q ++ (code r ++ code s)))
+four_short first a b c d p q r s lt e f g h = rw (h, g, f, e, short_code p lt.0, short_code q lt.1, short_code r lt.2, short_code s lt.3) (simp append_assoc)
 
 pub word_piece : (lo : ℕ) (rs : List Post) (column : List ℕ) (i : ℕ) → column ≡ map (λ r. r.word) rs → i < length column → HasWords lo (drop i rs)
     → (word_column lo (drop i rs) ≡ to_be_bytes w16 (slice_index_or column i 0 - lo) ++ word_column lo (drop (i + 1) rs))

@@ -1,6 +1,7 @@
 //! Writing a block.
-ghost use Rattle.std.specs.Prelude.{◌≡◌, ℕ, ◌+◌, ◌*◌, ◌<◌, ◌≤◌, ◌^◌, ◌++◌, length, OnOk, OnErr, take};
+ghost use Rattle.std.specs.Prelude.{◌≡◌, ℕ, ◌+◌, ◌-◌, ◌*◌, ◌<◌, ◌≤◌, ◌^◌, ◌++◌, length, OnOk, OnErr, drop, take};
 ghost use Rattle.std.specs.Vec.{vec_len, vec_capacity};
+ghost use Rattle.cs_base.specs.index.GapCode.{code};
 ghost use Rattle.cs_model_index.specs.Blocks.{AreWritable, block_bytes, gap_column, position_column, score_column, word_column};
 ghost use Rattle.cs_block.specs.BlockSpelling.{HasWords, IsAscending};
 
@@ -56,6 +57,7 @@ fn put_gaps(rows: &Cols, out: &mut Vec<u8>) -> Result<(), Memory>
     Ok(())
 }
 
+// The codes of four rows at a time.
 #[inline]
 fn with_gaps(mut out: Vec<u8>, rows: &Cols) -> Vec<u8>
     requires sorted { IsAscending 0 rows.now.posts }
@@ -63,10 +65,57 @@ fn with_gaps(mut out: Vec<u8>, rows: &Cols) -> Vec<u8>
 
     ensures { result.items ≡ out.items ++ gap_column 0 rows.now.posts }
 {
+    let docs = rows.docs();
     let mut before = 0;
-    for doc in rows.docs() {
-        out = with_gap(out, *doc - before);
-        before = *doc;
+    let mut i = 0;
+    while docs.len() - i >= 4 {
+        out = with_four_gaps(out, before, docs[i], docs[i + 1], docs[i + 2], docs[i + 3]);
+        before = docs[i + 3];
+        i += 4;
+    }
+    with_last_gaps(out, rows, i, before)
+}
+
+// Where each of the four codes has one byte, they are added without a jump between them.
+#[inline]
+fn with_four_gaps(mut out: Vec<u8>, before: u32, a: u32, b: u32, c: u32, d: u32) -> Vec<u8>
+    requires sorted { (before ≤ a) × (a ≤ b) × (b ≤ c) × (c ≤ d) }
+    requires room { vec_len out + 20 ≤ vec_capacity out }
+
+    ensures items { result.items ≡ out.items ++ (code (a - before) ++ (code (b - a) ++ (code (c - b) ++ code (d - c)))) }
+    ensures few { vec_len result ≤ vec_len out + 20 }
+    ensures capacity { vec_capacity result ≡ vec_capacity out }
+{
+    let first = a - before;
+    let second = b - a;
+    let third = c - b;
+    let fourth = d - c;
+    if (first < 128) & (second < 128) & (third < 128) & (fourth < 128) {
+        out.push_reserved(first as u8);
+        out.push_reserved(second as u8);
+        out.push_reserved(third as u8);
+        out.push_reserved(fourth as u8);
+        return out;
+    }
+    with_gap(
+        with_gap(with_gap(with_gap(out, first), second), third),
+        fourth,
+    )
+}
+
+// The codes from the row at `from` on, behind a document.
+#[inline]
+fn with_last_gaps(mut out: Vec<u8>, rows: &Cols, from: usize, behind: u32) -> Vec<u8>
+    requires sorted { IsAscending behind (drop from rows.now.posts) }
+    requires room { vec_len out + 5 * (length rows.now.posts - from) ≤ vec_capacity out }
+
+    ensures { result.items ≡ out.items ++ gap_column behind (drop from rows.now.posts) }
+{
+    let docs = rows.docs();
+    let mut before = behind;
+    for i in from..docs.len() {
+        out = with_gap(out, docs[i] - before);
+        before = docs[i];
     }
     out
 }
