@@ -1,4 +1,4 @@
--- The steps of the two loops, that of reading and that of writing.
+-- The steps of the loops, that of reading and those of writing.
 use Rattle.std.proofs.Common.{◌≡◌, ℕ, zero, suc, ◌+◌, ◌-◌, ◌*◌, ◌/◌, ◌%◌, ◌^◌, ◌<◌, ◌≤◌, Bool, true, false, not, ◌&&◌, cond, ltb, eqb, List, [], ◌∷◌, ◌++◌, length, get_or, set, take, drop, refl, sym, ap, ◌∙◌, append_assoc, arith, inl, inr}
 use Rattle.std.proofs.lemmas.Bool.{cases_lt, lt-ltb, le-ltb, ne_eqb}
 use Rattle.std.proofs.lemmas.Bool.Decides.{nat_tests}
@@ -182,3 +182,35 @@ ended_here r bytes at i n w b f is same read lt small h =
     let place : at + i + 1 ≡ at + (i + 1) = omega arith in
     is ∙ ap (λ (x : ℕ). at_last_byte b (i + 1) (n + x * w) (at + i + 1)) same ∙ ap (λ (x : ℕ). at_last_byte b (i + 1) (n + b * w) x) place
     ∙ sym (moved_ended at b (i + 1) (n + b * w) (i + 1)) ∙ ap (moved at) (e ∙ ap gap_at (take_rest bytes at))
+
+-- ---- pushing the bytes of a code one by one
+
+-- behind `first`, of so many bytes, stand the first bytes of the code of n; `left` is still to be written, in at most more + 1 bytes
+pub record HasPushed (n : ℕ) (first now : List ℕ) (before len left : ℕ) : Type 0 where
+  pub more : ℕ
+  pub told : now ++ code_in more left ≡ first ++ code n
+  pub below : left < 128 ^ (suc more)
+  pub few : len + more ≡ before + 4
+
+pub push_begun : (n : ℕ) (first : List ℕ) (len : ℕ) → n < 2 ^ 32 → HasPushed n first first len len n
+unfolding code
+push_begun n first len lt = record { more = 4; told = refl; below = omega arith; few = refl }
+
+pushes_in : (n : ℕ) (first now : List ℕ) (before len left more : ℕ) → 128 ≤ left → now ++ code_in more left ≡ first ++ code n → left < 128 ^ (suc more) → len + more ≡ before + 4
+    → HasPushed n first (now ++ (left % 128 + 128) ∷ []) before (len + 1) (left / 128)
+unfolding code_in
+pushes_in n first now before len left zero large told below few = absurd (omega arith)
+pushes_in n first now before len left (suc more) large told below few =
+    record {
+      more = more;
+      told = append_assoc now ((left % 128 + 128) ∷ []) (code_in more (left / 128)) ∙ rw (le-ltb left 128 large) at told;
+      below = div_below left 128 (128 ^ (suc more)) (omega arith) (rw (pow-suc 128 (suc more)) at below);
+      few = omega arith;
+    }
+
+pub pushes : (n : ℕ) (first now : List ℕ) (before len left : ℕ) → 128 ≤ left → HasPushed n first now before len left
+    → HasPushed n first (now ++ (left % 128 + 128) ∷ []) before (len + 1) (left / 128)
+pushes n first now before len left large h = pushes_in n first now before len left h.more large h.told h.below h.few
+
+pub push_done : (n : ℕ) (first now : List ℕ) (before len left : ℕ) → left < 128 → HasPushed n first now before len left → now ++ left ∷ [] ≡ first ++ code n
+push_done n first now before len left small h = ap (λ (x : List ℕ). now ++ x) (sym (small_code h.more left small)) ∙ h.told

@@ -1,5 +1,6 @@
 //! Writing a gap code, and reading the one at a place.
 ghost use Rattle.std.specs.Prelude.{◌≡◌, ℕ, ◌+◌, ◌<◌, ◌≤◌, ◌^◌, ◌++◌, List, length, drop, OnOk, OnErr};
+ghost use Rattle.std.specs.Vec.{vec_len, vec_capacity};
 ghost use Rattle.cs_base.specs.index.GapCode.{code};
 ghost use Rattle.cs_gaps.specs.Reading.{StandsAt, gap_at, at_last_byte, moved};
 
@@ -51,6 +52,25 @@ fn put_long_gap(out: &mut Vec<u8>, n: u32) -> Result<(), Memory>
     text[len] = left as u8;
     out.extend_from_slice(&text[..len + 1])?;
     Ok(())
+}
+
+/// These bytes with the code of `n` at the end, in the memory that they have: it can't fail. Whatever
+/// `n` is, there must be room for five bytes, as many as a code has at most.
+#[inline]
+pub fn with_gap(mut out: Vec<u8>, n: u32) -> Vec<u8>
+    requires { vec_len out + 5 ≤ vec_capacity out }
+
+    ensures items { result.items ≡ out.items ++ code n }
+    ensures few { vec_len result ≤ vec_len out + 5 }
+    ensures capacity { vec_capacity result ≡ vec_capacity out }
+{
+    let mut rest = n;
+    while rest >= 128 {
+        out.push_reserved((rest % 128 + 128) as u8);
+        rest /= 128;
+    }
+    out.push_reserved(rest as u8);
+    out
 }
 
 /// What stands at `at`, counted in bytes from 0.

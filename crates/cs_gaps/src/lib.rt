@@ -7,4 +7,4 @@
 mod gap;
 pub mod laws;
 
-pub use gap::{Gap, next_gap, put_gap};
+pub use gap::{Gap, next_gap, put_gap, with_gap};
