@@ -7,7 +7,7 @@ ghost use Rattle.cs_model.specs.Words.{words_of};
 use cs_base::MAX_PLAIN_WORD_BYTES;
 
 // Each letter and digit stands at its own place, and a comma at every other place.
-static WORD_BYTES: [u8; 256] = *b"\
+static LETTERS_AND_DIGITS: [u8; 256] = *b"\
     ,,,,,,,,,,,,,,,,,,,,,,,,,,,,,,,,\
     ,,,,,,,,,,,,,,,,0123456789,,,,,,\
     ,ABCDEFGHIJKLMNOPQRSTUVWXYZ,,,,,\
@@ -70,5 +70,5 @@ fn run_bytes(bytes: &[u8]) -> usize
 fn is_word_byte(b: u8) -> bool
     ensures { result ≡ is_ascii_alphanumeric b }
 {
-    WORD_BYTES[b as usize] != b','
+    LETTERS_AND_DIGITS[b as usize] != b','
 }
