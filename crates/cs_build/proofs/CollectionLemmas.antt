@@ -3,8 +3,8 @@
 --   rows_again      a collection's rows are in the order of a corpus
 --   collection_made the corpus that is made of a collection's rows is the collection's
 --   collection_is   and it is a corpus
---   columns_made, columns_are      so it is where the rows stand in columns
---   titles_made, titles_are, titles_keep      and where titles stand for documents; titles and rows keep the limits
+--   columns_made    so it is where the rows stand in columns
+--   titles_made, titles_are      and where titles stand for documents
 use Rattle.std.proofs.Common.{◌≡◌, ℕ, List, map, sym, ap, subst, ◌∙◌}
 use Rattle.cs_base.specs.content.Members.{members_in}
 use Rattle.cs_base.specs.content.Orders.{by_row}
@@ -13,11 +13,9 @@ use Rattle.cs_base.specs.declared.content.doc.Row.{Row}
 use Rattle.cs_base.proofs.MembersLemmas.{listed_itself, listing-rises}
 use Rattle.cs_base.proofs.OrdersLemmas.{by_row_total, by_row_exact}
 use Rattle.cs_docs.proofs.CorpusLaws.{corpus_is}
-use Rattle.std.specs.Prelude.{None}
-use Rattle.cs_model.specs.Collection.{docs_refusal, documents}
+use Rattle.cs_model.specs.Collection.{documents}
 use Rattle.cs_model.specs.Corpus.{Corpus, IsCorpus, corpus, rows_of, title_of, titles_of, corpus_of}
-use Rattle.cs_build.specs.Building.{KeepLimits, corpus_from, corpus_of_rows}
-use Rattle.cs_build.proofs.RowLemmas.{keep_limits}
+use Rattle.cs_build.specs.Building.{corpus_from, corpus_of_rows}
 
 rows_again : (docs : List Doc) → members_in by_row (rows_of docs) ≡ rows_of docs
 rows_again docs = sym (listed_itself by_row by_row_total by_row_exact (rows_of docs) (listing-rises by_row _))
@@ -29,11 +27,8 @@ collection_made docs rows e =
 pub collection_is : (c : List ℕ) (docs : List Doc) (rows : List Row) → docs ≡ documents c → rows ≡ rows_of docs → IsCorpus (corpus_from docs rows)
 collection_is c docs rows d e = subst IsCorpus (sym (collection_made docs rows e ∙ ap corpus_of d)) (corpus_is c)
 
-pub columns_made : (docs : List Doc) (rows : List Row) → rows ≡ rows_of docs → corpus_of_rows (map title_of docs) rows ≡ corpus_of docs
+columns_made : (docs : List Doc) (rows : List Row) → rows ≡ rows_of docs → corpus_of_rows (map title_of docs) rows ≡ corpus_of docs
 columns_made docs rows e = ap (λ (rs : List Row). let k : Corpus = record { titles = titles_of docs; rows = rs } in k) e
-
-pub columns_are : (c : List ℕ) (docs : List Doc) (rows : List Row) → docs ≡ documents c → rows ≡ rows_of docs → IsCorpus (corpus_of_rows (map title_of docs) rows)
-columns_are c docs rows d e = subst IsCorpus (sym (columns_made docs rows e ∙ ap corpus_of d)) (corpus_is c)
 
 -- titles and rows of the collection c
 module _ (c : List ℕ) (titles : List (List ℕ)) (rows : List Row) (t : titles ≡ map title_of (documents c)) (r : rows ≡ rows_of (documents c)) where
@@ -42,6 +37,3 @@ module _ (c : List ℕ) (titles : List (List ℕ)) (rows : List Row) (t : titles
 
   pub titles_are : IsCorpus (corpus_of_rows titles rows)
   titles_are = subst IsCorpus (sym titles_made) (corpus_is c)
-
-  pub titles_keep : docs_refusal c ≡ None → KeepLimits titles rows
-  titles_keep h = subst (λ ts. KeepLimits ts rows) (sym t) (subst (KeepLimits (map title_of (documents c))) (sym r) (keep_limits c h))

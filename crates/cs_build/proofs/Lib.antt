@@ -3,7 +3,6 @@ pub mod CollectionFiles
 pub mod CollectionLemmas
 pub mod ColumnLemmas
 pub mod FillLemmas
-pub mod GatheringLemmas
 pub mod KeyTextLemmas
 pub mod KindLemmas
 pub mod LengthLemmas
@@ -13,6 +12,7 @@ pub mod NumberCounts
 pub mod OrderLemmas
 pub mod PartLemmas
 pub mod PartitionCuts
+pub mod RowGatheringLemmas
 pub mod RowLemmas
 pub mod RowPosts
 pub mod RunHeads

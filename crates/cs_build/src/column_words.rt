@@ -51,8 +51,8 @@ pub(crate) fn add_words(
     if is_plain_key(column) {
         return add_ascii(alloc, gathering, column.as_bytes());
     }
-    let key = norm(alloc, column)?;
-    if key.as_str().is_ascii() {
+    if column.is_ascii() {
+        let key = norm(alloc, column)?;
         return add_ascii(alloc, gathering, key.as_str().as_bytes());
     }
     let found = words(alloc, column)?;

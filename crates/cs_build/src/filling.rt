@@ -80,6 +80,7 @@ fn fill_docs(blocks: &mut [Cols], places: &[u32], numbers: &[u32], docs: &[DocRo
 }
 
 // Puts the posts of a document into their blocks, and gives the numbers behind those of its words.
+#[inline]
 fn fill_doc<'a>(
     blocks: &mut [Cols],
     places: &[u32],
@@ -110,6 +111,7 @@ fn fill_doc<'a>(
     behind
 }
 
+#[inline]
 fn fill_facets(blocks: &mut [Cols], places: &[u32], numbers: &[u32], doc: u32)
     requires { CanTake places.now blocks.old (facet_posts doc numbers.now) }
 
@@ -127,6 +129,7 @@ fn fill_facets(blocks: &mut [Cols], places: &[u32], numbers: &[u32], doc: u32)
 }
 
 // The words stand at positions from `pos` on.
+#[inline]
 fn fill_words(blocks: &mut [Cols], places: &[u32], numbers: &[u32], doc: u32, pos: u32, score: u8)
     requires few { pos + length numbers.now < 2 ^ 32 }
     requires room { CanTake places.now blocks.old (word_posts doc score pos numbers.now) }

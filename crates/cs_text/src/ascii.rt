@@ -6,6 +6,17 @@ ghost use Rattle.cs_model.specs.Words.{words_of};
 
 use cs_base::MAX_PLAIN_WORD_BYTES;
 
+// Each letter and digit stands at its own place, and a comma at every other place.
+static LETTERS_AND_DIGITS: [u8; 256] = *b"\
+    ,,,,,,,,,,,,,,,,,,,,,,,,,,,,,,,,\
+    ,,,,,,,,,,,,,,,,0123456789,,,,,,\
+    ,ABCDEFGHIJKLMNOPQRSTUVWXYZ,,,,,\
+    ,abcdefghijklmnopqrstuvwxyz,,,,,\
+    ,,,,,,,,,,,,,,,,,,,,,,,,,,,,,,,,\
+    ,,,,,,,,,,,,,,,,,,,,,,,,,,,,,,,,\
+    ,,,,,,,,,,,,,,,,,,,,,,,,,,,,,,,,\
+    ,,,,,,,,,,,,,,,,,,,,,,,,,,,,,,,,";
+
 /// The first word of ASCII text, cut to its first `MAX_PLAIN_WORD_BYTES` bytes, and the text behind it: what stands
 /// behind the whole run of letters and digits. There is none where the text has no letter and no digit.
 #[inline]
@@ -54,10 +65,10 @@ fn run_bytes(bytes: &[u8]) -> usize
     end
 }
 
-// Whether a byte is a letter or a digit. Most are letters, so these are tried first.
+// Whether a byte is a letter or a digit.
 #[inline]
 fn is_word_byte(b: u8) -> bool
     ensures { result ≡ is_ascii_alphanumeric b }
 {
-    b.is_ascii_alphabetic() || b.is_ascii_digit()
+    LETTERS_AND_DIGITS[b as usize] != b','
 }

@@ -2,7 +2,7 @@ use Rattle.std.proofs.Common.{[], ◌∷◌, length, ap, arith, length-append, c
 use Rattle.cs_docs.specs.declared.fault.RowsFault.TheVariants.{TooManyRows}
 use Rattle.cs_model.specs.Words.{words_of}
 use Rattle.cs_vocab.specs.Gathering.{gathered}
-use Rattle.cs_build.proofs.GatheringLemmas.{err_is}
+use Rattle.cs_build.proofs.RowGatheringLemmas.{err_is}
 use Rattle.cs_build.proofs.column_words.add_ascii.Goals as goal
 
 pub returns-in_err-add-clause-too_many : goal.returns-in_err-add-clause-too_many

@@ -5,6 +5,7 @@ use Rattle.cs_build.specs.RowColumns.{facet_posts, posts_of_doc, text_numbers, t
 use Rattle.cs_build.specs.WordRuns.{AreTaken, CanTake}
 use Rattle.cs_build.specs.declared.row_form.DocRows.{DocRows}
 use Rattle.cs_build.proofs.FillLemmas.{can_behind, can_front, taken-append}
+use Rattle.cs_build.proofs.filling.fill_doc.Goals.{After-split_at-3}
 use Rattle.cs_build.proofs.filling.fill_doc.Goals as goal
 
 abbrev title_posts : ℕ → List ℕ → List Post
@@ -18,12 +19,20 @@ cut : (d : ℕ) (rows : DocRows) (ns facets titles texts : List ℕ) → facets 
     → posts_of_doc d rows ns ≡ facet_posts d facets ++ title_posts d titles ++ text_posts d rows texts
 cut d rows ns facets titles texts a b e = rw (a, b, e) refl
 
+-- and by the calls that cut them
+posts_cut : (c : After-split_at-3) → posts_of_doc c.args.doc c.args.rows c.args.numbers.now
+    ≡ facet_posts c.args.doc c.split_at.result.0.now ++ title_posts c.args.doc c.split_at-2.result.0.now ++ text_posts c.args.doc c.args.rows c.split_at-3.result.0.now
+posts_cut c =
+    let titles = c.split_at-2.ensures.front ∙ ap (take c.args.rows.titles) c.split_at.ensures.back in
+    let texts = c.split_at-3.ensures.front ∙ ap (take c.args.rows.texts) (c.split_at-2.ensures.back ∙ ap (drop c.args.rows.titles) c.split_at.ensures.back) in
+    cut c.args.doc c.args.rows c.args.numbers.now c.split_at.result.0.now c.split_at-2.result.0.now c.split_at-3.result.0.now c.split_at.ensures.front titles texts
+
 pub fill_facets-requires : goal.fill_facets-requires
 fill_facets-requires c =
     let facets = c.split_at.result.0.now in
     let titles = c.split_at-2.result.0.now in
     let texts = c.split_at-3.result.0.now in
-    let e = cut c.args.doc c.args.rows c.args.numbers.now facets titles texts c.split_at.ensures.front (c.split_at-2.ensures.front ∙ ap (take c.args.rows.titles) c.split_at.ensures.back) (c.split_at-3.ensures.front ∙ ap (take c.args.rows.texts) (c.split_at-2.ensures.back ∙ ap (drop c.args.rows.titles) c.split_at.ensures.back)) in
+    let e = posts_cut (goal.at.fill_facets-requires c).After-split_at-3 in
     can_front c.args.places.now c.args.blocks.now (facet_posts c.args.doc facets) (title_posts c.args.doc titles)
     (can_front c.args.places.now c.args.blocks.now _ (text_posts c.args.doc c.args.rows texts) (subst (CanTake c.args.places.now c.args.blocks.now) e c.requires.room))
 
@@ -32,7 +41,7 @@ fill_words-requires-clause-room c =
     let facets = c.split_at.result.0.now in
     let titles = c.split_at-2.result.0.now in
     let texts = c.split_at-3.result.0.now in
-    let e = cut c.args.doc c.args.rows c.args.numbers.now facets titles texts c.split_at.ensures.front (c.split_at-2.ensures.front ∙ ap (take c.args.rows.titles) c.split_at.ensures.back) (c.split_at-3.ensures.front ∙ ap (take c.args.rows.texts) (c.split_at-2.ensures.back ∙ ap (drop c.args.rows.titles) c.split_at.ensures.back)) in
+    let e = posts_cut (goal.at.fill_words-requires-clause-room c).After-split_at-3 in
     can_behind c.args.places.now c.args.blocks.now c.fill_facets.new.blocks (facet_posts c.args.doc facets) (title_posts c.args.doc titles)
     (can_front c.args.places.now c.args.blocks.now _ (text_posts c.args.doc c.args.rows texts) (subst (CanTake c.args.places.now c.args.blocks.now) e c.requires.room))
     c.fill_facets.ensures
@@ -42,7 +51,7 @@ fill_words-requires-2-clause-room c =
     let facets = c.split_at.result.0.now in
     let titles = c.split_at-2.result.0.now in
     let texts = c.split_at-3.result.0.now in
-    let e = cut c.args.doc c.args.rows c.args.numbers.now facets titles texts c.split_at.ensures.front (c.split_at-2.ensures.front ∙ ap (take c.args.rows.titles) c.split_at.ensures.back) (c.split_at-3.ensures.front ∙ ap (take c.args.rows.texts) (c.split_at-2.ensures.back ∙ ap (drop c.args.rows.titles) c.split_at.ensures.back)) in
+    let e = posts_cut (goal.at.fill_words-requires-2-clause-room c).After-split_at-3 in
     can_behind c.args.places.now c.args.blocks.now c.fill_words.new.blocks (facet_posts c.args.doc facets ++ title_posts c.args.doc titles) (text_posts c.args.doc c.args.rows texts)
     (subst (CanTake c.args.places.now c.args.blocks.now) e c.requires.room)
     (taken-append c.args.places.now c.args.blocks.now c.fill_facets.new.blocks c.fill_words.new.blocks (facet_posts c.args.doc facets) (title_posts c.args.doc titles) c.fill_facets.ensures c.fill_words.ensures)
@@ -52,7 +61,7 @@ returns-clause-taken c =
     let facets = c.split_at.result.0.now in
     let titles = c.split_at-2.result.0.now in
     let texts = c.split_at-3.result.0.now in
-    let e = cut c.args.doc c.args.rows c.args.numbers.now facets titles texts c.split_at.ensures.front (c.split_at-2.ensures.front ∙ ap (take c.args.rows.titles) c.split_at.ensures.back) (c.split_at-3.ensures.front ∙ ap (take c.args.rows.texts) (c.split_at-2.ensures.back ∙ ap (drop c.args.rows.titles) c.split_at.ensures.back)) in
+    let e = posts_cut (goal.at.returns-clause-taken c).After-split_at-3 in
     subst (λ ps. AreTaken c.args.places.now ps c.args.blocks.now c.fill_words-2.new.blocks) (sym e)
     (taken-append c.args.places.now c.args.blocks.now c.fill_words.new.blocks c.fill_words-2.new.blocks (facet_posts c.args.doc facets ++ title_posts c.args.doc titles) (text_posts c.args.doc c.args.rows texts)
     (taken-append c.args.places.now c.args.blocks.now c.fill_facets.new.blocks c.fill_words.new.blocks (facet_posts c.args.doc facets) (title_posts c.args.doc titles) c.fill_facets.ensures c.fill_words.ensures)

@@ -15,7 +15,7 @@ use Rattle.cs_vocab.specs.Gathering.{gathered}
 use Rattle.cs_build.specs.RowColumns.{AreDocRows, doc_rows_of, listed_words, posts_of_docs}
 use Rattle.cs_build.specs.declared.row_form.RowForm.TheVariants.{Counted}
 use Rattle.cs_build.proofs.ColumnLemmas.{columns_are}
-use Rattle.cs_build.proofs.GatheringLemmas.{err_is}
+use Rattle.cs_build.proofs.RowGatheringLemmas.{err_is}
 use Rattle.cs_build.proofs.RowPosts.{counted_docs, counts_more, few_more, listed_many, rows_of_numbers, words_more}
 use Rattle.cs_build.proofs.row_columns.RowColumns.of_docs.Goals as goal
 
