@@ -10,6 +10,7 @@ ghost use Rattle.cs_docs.specs.FaultRefusals.{IsCauseOf};
 
 use crate::cut::cut_at;
 use crate::fault::DocFault;
+use crate::lone::lone_facet;
 use cs_base::Memory;
 use cs_text::{has_name_form, norm};
 use std::alloc::Global;
@@ -19,6 +20,9 @@ pub(crate) fn check_facets(alloc: Global, column: &str, line: u32) -> Result<(),
     ensures ok { OnOk result (first_reason (map (piece_refusal line) (facet_pieces column.now)) ≡ None) }
     ensures err { IfErr result (λ e. IsCauseOf (first_reason (map (piece_refusal line) (facet_pieces column.now))) e) }
 {
+    if lone_facet(column).is_some() {
+        return Ok(());
+    }
     let mut rest = column;
     while !rest.is_empty() {
         let (piece, after) = cut_piece(rest);
