@@ -1,16 +1,16 @@
 //! The words of columns, gathered one by one.
-ghost use Rattle.std.specs.Prelude.{◌≡◌, ◌+◌, ◌≤◌, ◌<◌, [], ◌∷◌, ◌++◌, length, chars, IfOk, OnOk, IsAscii, IsErrOf};
-ghost use Rattle.cs_base.specs.declared.content.limits.TheConstants.{MAX_ROWS, MAX_WORD_BYTES};
+ghost use Rattle.std.specs.Prelude.{◌≡◌, ◌+◌, ◌≤◌, ◌<◌, [], ◌∷◌, ◌++◌, length, take, chars, IfOk, OnOk, IsAscii, IsErrOf};
+ghost use Rattle.cs_base.specs.declared.content.limits.TheConstants.{MAX_NAME_BYTES, MAX_PLAIN_WORD_BYTES, MAX_ROWS, MAX_WORD_BYTES};
 ghost use Rattle.cs_docs.specs.FacetPieces.{AreNamed};
 ghost use Rattle.cs_docs.specs.Listing.{listed_facets};
 ghost use Rattle.cs_docs.specs.declared.fault.RowsFault.{RowsFault};
-ghost use Rattle.cs_model.specs.Collection.{facet_pieces};
+ghost use Rattle.cs_model.specs.Collection.{facet_pieces, named};
 ghost use Rattle.cs_model.specs.Words.{words, words_of};
 ghost use Rattle.cs_vocab.specs.Gathering.{gathered};
 ghost use Rattle.cs_build.specs.RowColumns.{IsRowGathering};
 
-use cs_base::{MAX_ROWS, Word};
-use cs_docs::{RowsFault, listed_facets};
+use cs_base::{MAX_ROWS, MAX_WORD_BYTES, Word};
+use cs_docs::{RowsFault, listed_facets, lone_facet};
 use cs_text::{first_word, is_plain_key, norm, words};
 use cs_vocab::Gathering;
 use std::alloc::Global;
@@ -29,8 +29,60 @@ pub(crate) fn add_facets(
     ensures is { OnOk result (IsRowGathering gathering.new) }
     ensures too_many { IsErrOf result RowsFault.TooManyRows → MAX_ROWS < length (gathered gathering.old) + length (listed_facets column.now) }
 {
+    if let Some((name, value)) = lone_facet(column) {
+        add_named(alloc, gathering, name, value)?;
+        return Ok(1);
+    }
     let facets = listed_facets(alloc, column)?;
     add_all(alloc, gathering, &facets)
+}
+
+// Adds the word `:name:value` at the end.
+fn add_named(
+    alloc: Global,
+    gathering: &mut Gathering,
+    name: &str,
+    value: &str,
+) -> Result<(), RowsFault>
+    requires is { IsRowGathering gathering.old }
+    requires name { length name.now ≤ MAX_NAME_BYTES }
+    requires value { length value.now ≤ MAX_PLAIN_WORD_BYTES }
+
+    ensures word { OnOk result (gathered gathering.new ≡ gathered gathering.old ++ named name.now value.now ∷ []) }
+    ensures is { OnOk result (IsRowGathering gathering.new) }
+    ensures too_many { IsErrOf result RowsFault.TooManyRows → MAX_ROWS ≤ length (gathered gathering.old) }
+{
+    let mut bytes = [0; MAX_WORD_BYTES];
+    let len = write_named(&mut bytes, name.as_bytes(), value.as_bytes());
+    add(alloc, gathering, &bytes[..len])
+}
+
+// Writes the word `:name:value` in front, and says how many bytes it has.
+fn write_named(bytes: &mut [u8], name: &[u8], value: &[u8]) -> usize
+    requires room { 2 + length name.now + length value.now ≤ length bytes.old }
+
+    ensures word { take result bytes.new ≡ named name.now value.now }
+    ensures len { result ≡ 2 + length name.now + length value.now }
+    ensures same { length bytes.new ≡ length bytes.old }
+{
+    let colon = write_at(bytes, 0, b":");
+    let behind = write_at(bytes, colon, name);
+    let second = write_at(bytes, behind, b":");
+    write_at(bytes, second, value)
+}
+
+// Writes a piece behind the first `at` bytes, and gives the place behind it.
+#[inline]
+fn write_at(bytes: &mut [u8], at: usize, piece: &[u8]) -> usize
+    requires room { at + length piece.now ≤ length bytes.old }
+
+    ensures front { take result bytes.new ≡ take at bytes.old ++ piece.now }
+    ensures behind { result ≡ at + length piece.now }
+    ensures same { length bytes.new ≡ length bytes.old }
+{
+    let end = at + piece.len();
+    bytes[at..end].copy_from_slice(piece);
+    end
 }
 
 /// Adds the words of a column at the end, and says how many there are.

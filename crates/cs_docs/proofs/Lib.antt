@@ -2,7 +2,9 @@ pub mod AcceptedCollections
 pub mod CorpusLaws
 pub mod LinesLemmas
 pub mod ListingLemmas
+pub mod LoneLemmas
 pub mod FacetPiecesLemmas
+pub mod FirstByteLemmas
 pub mod PlainLaws
 pub mod PlainLemmas
 pub mod ShortSlugs

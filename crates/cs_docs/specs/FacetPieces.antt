@@ -4,12 +4,14 @@
 --   IsNamed p           the piece isn't refused
 --   CanBeListed doc     the document's pieces aren't refused, and it has few words
 --   one_piece p rest    the pieces of a column whose first one is p, if p has bytes, and behind it those of rest
-use Rattle.std.specs.Prelude.{◌≡◌, ℕ, ◌+◌, ◌≤◌, Bool, true, ◌==◌, List, [], ◌∷◌, ◌++◌, length, filter}
-use Rattle.std.specs.List.{AllByRecursion, list_any}
+--   is_lone column      whether the column is a name, an `=` and one small word
+use Rattle.std.specs.Prelude.{◌≡◌, ℕ, ◌+◌, ◌≤◌, Bool, true, ◌&&◌, ◌==◌, List, [], ◌∷◌, ◌++◌, length, filter}
+use Rattle.std.specs.List.{AllByRecursion, before_first, list_any}
 use Rattle.cs_base.specs.declared.content.doc.Doc.{Doc}
 use Rattle.cs_base.specs.declared.content.limits.TheConstants.{MAX_DOC_WORDS}
-use Rattle.cs_model.specs.Collection.{is_equals, has_name_form, piece_name, facet_pieces}
+use Rattle.cs_model.specs.Collection.{is_equals, has_name_form, piece_name, piece_value, facet_pieces}
 use Rattle.cs_model.specs.Words.{is_filled, words}
+use Rattle.cs_text.specs.WordPieces.{is_small_word}
 
 abbrev pub is_semicolon : ℕ → Bool
 is_semicolon b = b == 59
@@ -29,3 +31,7 @@ AreNamed ps = AllByRecursion IsNamed ps
 pub record CanBeListed (doc : Doc) : Type 0 where
   pub pieces : AreNamed (facet_pieces doc.facets)
   pub few : length (words doc.title) + length (words doc.text) ≤ MAX_DOC_WORDS
+
+-- a column whose one facet word has its name and its value as they stand; one without `=` isn't
+abbrev pub is_lone : List ℕ → Bool
+is_lone column = has_name_form (before_first is_equals column) && is_small_word (piece_value column)

@@ -8,6 +8,7 @@ ghost use Rattle.cs_model.specs.Words.{words};
 ghost use Rattle.cs_docs.specs.LinesRead.{doc_of, doc_of_lent, numbered_line, documents_from};
 ghost use Rattle.cs_docs.specs.FaultRefusals.{IsCauseOf, refusal_from};
 
+use crate::cut::cut_at;
 use crate::fault::DocFault;
 use crate::pieces::check_facets;
 use cs_base::{Doc, MAX_DOC_WORDS, MAX_DOCS, MAX_LINE_BYTES, Memory, Text};
@@ -131,5 +132,5 @@ fn cut_at_tab(column: &str) -> (&str, &str)
     ensures before { result.0.now ≡ before_first is_tab column.now }
     ensures after { result.1.now ≡ after_first is_tab column.now }
 {
-    column.split_once('\t').unwrap_or((column, ""))
+    cut_at(column, b'\t').unwrap_or((column, ""))
 }

@@ -4,11 +4,13 @@
 //! `specs/Corpus.antt` of `cs_model`. Nothing here reads a file.
 #![tactic(auto)]
 
+mod cut;
 mod document;
 mod facet;
 mod fault;
 pub mod laws;
 mod lines;
+mod lone;
 mod pieces;
 mod reader;
 mod row_list;
@@ -18,5 +20,6 @@ pub use document::LentDoc;
 pub use facet::listed_facets;
 pub use fault::{DocFault, Reason, RowsFault};
 pub use lines::{BYTE_ORDER_MARK, first_end};
+pub use lone::lone_facet;
 pub use reader::{lent_docs, read_docs};
 pub use row_list::rows_of;

@@ -8,7 +8,9 @@ ghost use Rattle.cs_model.specs.First.{first_reason};
 ghost use Rattle.cs_docs.specs.FacetPieces.{is_semicolon, one_piece};
 ghost use Rattle.cs_docs.specs.FaultRefusals.{IsCauseOf};
 
+use crate::cut::cut_at;
 use crate::fault::DocFault;
+use crate::lone::lone_facet;
 use cs_base::Memory;
 use cs_text::{has_name_form, norm};
 use std::alloc::Global;
@@ -18,6 +20,9 @@ pub(crate) fn check_facets(alloc: Global, column: &str, line: u32) -> Result<(),
     ensures ok { OnOk result (first_reason (map (piece_refusal line) (facet_pieces column.now)) ≡ None) }
     ensures err { IfErr result (λ e. IsCauseOf (first_reason (map (piece_refusal line) (facet_pieces column.now))) e) }
 {
+    if lone_facet(column).is_some() {
+        return Ok(());
+    }
     let mut rest = column;
     while !rest.is_empty() {
         let (piece, after) = cut_piece(rest);
@@ -72,7 +77,7 @@ fn cut_at_semicolon(column: &str) -> (&str, &str)
     ensures after { result.1.now ≡ after_first is_semicolon column.now }
     ensures shorter { 0 < length column.now → length result.1.now < length column.now }
 {
-    column.split_once(';').unwrap_or((column, ""))
+    cut_at(column, b';').unwrap_or((column, ""))
 }
 
 /// What stands before the first `=` of a piece, without spaces at its end, and what stands behind it,
@@ -80,7 +85,7 @@ fn cut_at_semicolon(column: &str) -> (&str, &str)
 pub(crate) fn cut_at_equals(piece: &str) -> Option<(&str, &str)>
     ensures { MatchOption result (list_any is_equals piece.now ≡ false) (λ p. (list_any is_equals piece.now ≡ true) × (p.0.now ≡ without_spaces_behind (before_first is_equals piece.now)) × (p.1.now ≡ piece_value piece.now)) }
 {
-    let Some((name, value)) = piece.split_once('=') else {
+    let Some((name, value)) = cut_at(piece, b'=') else {
         return None;
     };
     Some((without_spaces_behind(name), value))

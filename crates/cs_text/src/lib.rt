@@ -22,4 +22,4 @@ pub use key_text::{is_plain_key, norm};
 pub use listing::words;
 pub use name::has_name_form;
 pub use number::{has_digits, number_of};
-pub use value::slug;
+pub use value::{is_small_word, slug};

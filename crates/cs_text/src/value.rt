@@ -29,8 +29,8 @@ pub fn slug(alloc: Global, value: &str) -> Result<Option<Text>, Memory>
     Ok(Some(text))
 }
 
-// Whether bytes are one word of small letters and digits, which is its own slug.
-fn is_small_word(bytes: &[u8]) -> bool
+/// Whether bytes are one word of letters `a` to `z` and digits, at most `MAX_PLAIN_WORD_BYTES` bytes, which is its own slug.
+pub fn is_small_word(bytes: &[u8]) -> bool
     ensures { result ≡ is_small_word bytes.now }
 {
     !bytes.is_empty() && bytes.len() <= MAX_PLAIN_WORD_BYTES && has_name_bytes(bytes)
