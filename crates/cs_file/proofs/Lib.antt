@@ -6,6 +6,7 @@ pub mod FetchLemmas
 pub mod FilledPieces
 pub mod HeaderLemmas
 pub mod HeadsLemmas
+pub mod ImagedFiles
 pub mod KindsLemmas
 pub mod LaidLemmas
 pub mod MarkedNumbers

@@ -1,6 +1,6 @@
 -- Where titles begin, one after the other.
 --
---   offset_more                 one offset more
+--   offset_more, offsets_all    one offset more, and all of them
 --   offset_put, offset_fails    one offset more, and one whose put fails
 use Rattle.std.proofs.Common.{◌≡◌, ℕ, ◌+◌, ◌<◌, ◌≤◌, List, [], ◌∷◌, ◌++◌, length, take, drop, get_or, refl, sym, ◌∙◌, ap, subst, arith, length-append}
 use Rattle.std.proofs.Common.{take-append-drop}
@@ -26,6 +26,9 @@ pub offset_more : (ts : List (List ℕ)) (i : ℕ) (d : List ℕ) → i < length
 offset_more ts i d l =
     ap (offsets_from 0) (take_more ts i d l) ∙ offsets_on 0 (take i ts) (get_or ts i d) ∙ ap (λ (n : ℕ). offsets_from 0 (take i ts) ++ n ∷ []) (omega arith)
 
+pub offsets_all : (ts : List (List ℕ)) (i : ℕ) (os : List ℕ) → length ts ≤ i → os ≡ offsets_from 0 (take i ts) → os ≡ offsets_from 0 ts
+offsets_all ts i os l is = is ∙ ap (offsets_from 0) (take_all i ts l)
+
 -- some first offsets stand in front of all
 pub offsets_begin : (at : ℕ) (ts us : List (List ℕ)) → (rest : List ℕ) × (offsets_from at (ts ++ us) ≡ offsets_from at ts ++ rest)
 unfolding offsets_from
@@ -36,7 +39,7 @@ offsets_begin at (t ∷ ts) us = let r = offsets_begin (at + length t) ts us in 
 number_last : (ns : List ℕ) (n : ℕ) → flat_map number_bytes (ns ++ n ∷ []) ≡ flat_map number_bytes ns ++ number_bytes n
 number_last ns n = flat_map-append number_bytes ns (n ∷ [])
 
-offsets_first : offsets_from 0 [] ≡ 0 ∷ []
+pub offsets_first : offsets_from 0 [] ≡ 0 ∷ []
 unfolding offsets_from
 offsets_first = refl
 

@@ -7,7 +7,7 @@
 --   index_kept         it is what an opened index keeps
 --   shaped_heads, few_rows        what reading the blocks needs of the heads
 --   AllRead, read_whole           where all bytes were read, all are below 256
---   index_is, stands_for          over a store that tells it stands for the bytes
+--   same_index, index_is, stands_for          over a store that tells it stands for the bytes
 --   fits_store         and the blocks lie within them
 use Rattle.std.proofs.Common.{◌≡◌, ℕ, ◌+◌, ◌*◌, ◌<◌, ◌≤◌, ◌^◌, List, [], ◌∷◌, ◌++◌, length, take, Option, Some, None, Result, Ok, Err, refl, sym, ap, subst}
 use Rattle.std.proofs.Common.{◌∙◌, arith}
@@ -220,7 +220,7 @@ read_whole b h is r =
     all_bytes b (size_by h) is.size (more_front b (blocks_at h) h.blocks_len four r.blocks)
 
 -- ---- the index of bytes
-same_index : (docs docs' target target' t t' p p' : ℕ) (ws ws' : List (List ℕ)) (os os' : List ℕ) (hs hs' : List BlockHead) → docs ≡ docs' → ws ≡ ws'
+pub same_index : (docs docs' target target' t t' p p' : ℕ) (ws ws' : List (List ℕ)) (os os' : List ℕ) (hs hs' : List BlockHead) → docs ≡ docs' → ws ≡ ws'
     → os ≡ os' → hs ≡ hs' → target ≡ target' → t ≡ t' → p ≡ p'
     → let x : IndexView = record { docs = docs; words = ws; offsets = os; heads = hs; target = target; titles_at = t; blocks_at = p } in let y : IndexView =
     record { docs = docs'; words = ws'; offsets = os'; heads = hs'; target = target'; titles_at = t'; blocks_at = p' } in x ≡ y

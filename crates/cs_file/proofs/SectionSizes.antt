@@ -3,9 +3,11 @@
 --   titles_joined     titles one after the other, as the other sections are written
 --   longer            one item more
 --   blocks_len_is     the bytes of the blocks are those that the heads tell
+--   offsets_size, directory_size     how many bytes offsets and directory have
+--   file_long         the file of an image is as long as its header says
 --   pair_at           a head with the posts of its block
 --   same_numbers      nine numbers
-use Rattle.std.proofs.Common.{◌≡◌, ℕ, ◌+◌, ◌<◌, ◌≤◌, List, [], ◌∷◌, ◌++◌, length, map, take, get_or, append-nil, refl, sym, ◌∙◌, ap, arith, length-append}
+use Rattle.std.proofs.Common.{◌≡◌, ℕ, ◌+◌, ◌*◌, ◌<◌, ◌≤◌, List, [], ◌∷◌, ◌++◌, length, map, take, get_or, append-nil, refl, sym, ◌∙◌, ap, arith, length-append}
 use Rattle.std.specs.Prelude.{flat_map}
 use Rattle.std.specs.List.{sum_by, zip, AllByRecursion}
 use Rattle.std.proofs.lemmas.Grind.{flat_map-append}
@@ -18,7 +20,12 @@ use Rattle.cs_cols.specs.declared.cols.Cols.{Cols}
 use Rattle.cs_base.specs.declared.index.block.BlockHead.{BlockHead}
 use Rattle.cs_base.specs.declared.content.doc.Post.{Post}
 use Rattle.cs_model_index.specs.Blocks.{block_bytes}
-use Rattle.cs_model_index.specs.Layout.{title_bytes, blocks_bytes}
+use Rattle.cs_model_index.specs.Images.{Image}
+use Rattle.cs_model_index.specs.Layout.{number_bytes, Header, header_bytes, vocabulary_bytes, offsets_from, offset_bytes, title_bytes, directory_bytes}
+use Rattle.cs_model_index.specs.Layout.{blocks_bytes, header_of_image, file}
+use Rattle.cs_model_index.specs.Sections.{size_by}
+use Rattle.cs_model_index.specs.declared.limits.TheConstants.{HEADER_BYTES}
+use Rattle.cs_model_index.proofs.AgainLemmas.{offsets_count}
 use Rattle.cs_file.specs.Writable.{BlockFits}
 
 pub titles_joined : (ts : List (List ℕ)) → title_bytes ts ≡ flat_map (λ t. t) ts
@@ -46,6 +53,44 @@ blocks_len_is (h ∷ hs) [] e fit = absurd (omega (arith, e))
 blocks_len_is (h ∷ hs) (b ∷ bs) e fit =
     let rest = blocks_len_is hs bs (omega (arith, e)) fit.1 in
     omega (arith, length-append (block_bytes b h.lo) (blocks_bytes hs bs), rest, fit.0.len, sum_by-cons (λ h. h.len) h hs)
+
+-- ---- the whole file
+numbers_size : (ns : List ℕ) → length (flat_map number_bytes ns) ≡ 4 * length ns
+numbers_size [] = refl
+numbers_size (n ∷ ns) = let rest = numbers_size ns in omega (arith, rest)
+
+offsets_size : (ts : List (List ℕ)) → length (offset_bytes ts) ≡ 4 * (length ts + 1)
+unfolding offset_bytes
+offsets_size ts = numbers_size (offsets_from 0 ts) ∙ ap (λ (n : ℕ). 4 * n) (offsets_count 0 ts)
+
+directory_size : (hs : List BlockHead) → length (directory_bytes hs) ≡ 16 * length hs
+unfolding directory_bytes
+directory_size [] = refl
+directory_size (h ∷ hs) = let rest = directory_size hs in omega (arith, rest)
+
+behind_numbers : (h : Header) (rest : List ℕ) → length (header_bytes h ++ rest) ≡ HEADER_BYTES + length rest
+unfolding header_bytes
+behind_numbers h rest = omega arith
+
+pub file_long : (i : Image) → length i.heads ≡ length i.blocks → length (file i) ≡ size_by (header_of_image i)
+unfolding file
+file_long i e =
+    let w = vocabulary_bytes i.words in
+    let o = offset_bytes i.titles in
+    let t = title_bytes i.titles in
+    let d = directory_bytes i.heads in
+    let b = blocks_bytes i.heads i.blocks in
+    omega (
+      arith,
+      behind_numbers (header_of_image i) (w ++ (o ++ (t ++ (d ++ b)))),
+      length-append w (o ++ (t ++ (d ++ b))),
+      length-append o (t ++ (d ++ b)),
+      length-append t (d ++ b),
+      length-append d b,
+      offsets_size i.titles,
+      directory_size i.heads,
+      e,
+    )
 
 -- ---- heads with their blocks
 pub record IsPair (hs : List BlockHead) (bs : List Cols) (i : ℕ) (h : BlockHead) (x : Cols) : Type 0 where

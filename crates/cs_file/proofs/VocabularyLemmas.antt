@@ -2,6 +2,7 @@
 --
 --   vocabulary_is, words_are       the stage and the words, by the section's bytes
 --   sorted_from            words each of which follows the one before ascend
+--   two_none               of two rules neither is broken
 --   has_vocabulary, words_count         what the rules say of the words
 use Rattle.std.proofs.Common.{◌≡◌, ℕ, ◌+◌, true, true≢false, List, [], ◌∷◌, length, Option, Some, None, refl, sym, ap, ◌∙◌}
 use Rattle.std.specs.Prelude.{All}
@@ -105,7 +106,7 @@ words_hold at last (x ∷ ws) h =
     All-cons (λ w. is_word w ≡ true) x ws p.0 (words_hold (at + word_size x) (Some x) ws p.1)
 
 -- ---- what the rules say
-two_none : (o p : Option Broken) → first_reason (o ∷ p ∷ []) ≡ None → (o ≡ None) × (p ≡ None)
+pub two_none : (o p : Option Broken) → first_reason (o ∷ p ∷ []) ≡ None → (o ≡ None) × (p ≡ None)
 two_none None None e = (refl, refl)
 two_none None (Some x) e = absurd cc
 two_none (Some x) p e = absurd cc

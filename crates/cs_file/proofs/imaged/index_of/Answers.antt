@@ -1,0 +1,50 @@
+use Rattle.std.proofs.Common.{◌≡◌, sym, ap, subst, ◌∙◌, arith, Some}
+use Rattle.cs_model_index.specs.Images.{Image}
+use Rattle.cs_model_index.specs.Layout.{Header, file, header_of_image, offsets_from}
+use Rattle.cs_model_index.specs.Sections.{titles_at, blocks_at}
+use Rattle.cs_file.specs.Indexes.{IndexView, StandsFor, HasAllBlocks}
+use Rattle.cs_file.proofs.ImagedFiles.{IsReadAgain, image_index, kept_image, image_stands, image_fits}
+use Rattle.cs_file.proofs.OpeningStages.{Kept, same_index, index_kept}
+use Rattle.cs_file.proofs.imaged.index_of.Goals as goal
+use Rattle.cs_file.proofs.imaged.index_of.Goals.{After-blocks_at}
+
+read_again : (c : After-blocks_at) → IsReadAgain c.args.image
+read_again c = record {
+  writable = c.requires.writable;
+  whole = c.requires.whole;
+  read = c.requires.read;
+  bytes = c.requires.bytes;
+  few_word_bytes = omega (arith, c.header_of-header.ensures.small, ap (λ (h : Header). h.vocabulary_len) c.header_of-header.ensures.numbers);
+}
+
+abbrev view : After-blocks_at → IndexView
+view c = record {
+  docs = c.header_of-header.result.docs;
+  words = c.image.inside.words;
+  offsets = c.in_ok-offsets.offsets;
+  heads = c.image.inside.heads;
+  target = c.image.inside.target;
+  titles_at = c.titles_at.result;
+  blocks_at = c.blocks_at.result;
+}
+
+view_is : (c : After-blocks_at) → view c ≡ image_index c.args.image
+view_is c =
+    let h = header_of_image c.args.image in
+    let numbers = c.header_of-header.ensures.numbers in
+    let same = c.image.view_is in
+    same_index _ h.docs _ h.target _ (titles_at h) _ (blocks_at h) _ c.args.image.words _ (offsets_from 0 c.args.image.titles) _ c.args.image.heads
+    (ap (λ (x : Header). x.docs) numbers) (ap (λ (i : Image). i.words) same)
+    (c.in_ok-offsets.ensures ∙ ap (offsets_from 0) (c.as_slice.ensures ∙ ap (λ (i : Image). i.titles) same)) (ap (λ (i : Image). i.heads) same)
+    (ap (λ (i : Image). i.target) same) (c.titles_at.ensures.value ∙ ap titles_at numbers) (c.blocks_at.ensures.value ∙ ap blocks_at numbers)
+
+pub invariant_of-result : goal.invariant_of-result
+invariant_of-result c =
+    index_kept (header_of_image c.args.image) (view c)
+    (subst (Kept (header_of_image c.args.image)) (sym (view_is c)) (kept_image c.args.image (read_again c)))
+
+pub returns-clause-stands : goal.returns-clause-stands
+returns-clause-stands c = subst (StandsFor (file c.args.image)) (sym (view_is c)) (image_stands c.args.image (read_again c))
+
+pub returns-clause-fits : goal.returns-clause-fits
+returns-clause-fits c = subst (HasAllBlocks (Some (file c.args.image))) (sym (view_is c)) (image_fits c.args.image (read_again c))
