@@ -1,7 +1,6 @@
 //! A sink in memory.
-ghost use Rattle.std.specs.Prelude.{◌≡◌, [], IfOk};
+ghost use Rattle.std.specs.Prelude.{◌≡◌, []};
 
-use crate::Memory;
 use crate::outside::failing::count_call;
 use crate::outside::{Failed, Sink};
 use std::alloc::Global;
@@ -35,15 +34,17 @@ impl MemSink {
         }
     }
 
-    /// A sink to which nothing was written, with memory for so many bytes.
-    pub fn with_capacity(alloc: Global, bytes: usize) -> Result<MemSink, Memory>
-        ensures { IfOk result (λ s. s ≡ record { bytes = []; faults = 0; failing = [] }) }
+    /// A sink to which nothing was written, with the memory of these bytes, which are dropped.
+    pub fn over(mut memory: Vec<u8>) -> MemSink
+        ensures { result ≡ record { bytes = []; faults = 0; failing = [] } }
     {
-        Ok(MemSink {
-            held: Vec::with_capacity(alloc, bytes)?,
+        memory.clear();
+        let failing = Vec::new(*memory.allocator());
+        MemSink {
+            held: memory,
             faults: 0,
-            failing: Vec::new(alloc),
-        })
+            failing,
+        }
     }
 
     /// The bytes written.
