@@ -40,7 +40,7 @@ fn put_columns(rows: &Cols, lo: u32, out: &mut Vec<u8>) -> Result<(), Memory>
     Ok(())
 }
 
-// As much room as the longest codes need: what it has over leaves no more than the other columns take.
+// The longest codes need five bytes a row. What these leave of that, the other columns take: they have seven bytes a row.
 fn put_gaps(rows: &Cols, out: &mut Vec<u8>) -> Result<(), Memory>
     requires { IsAscending 0 rows.now.posts }
 
