@@ -14,8 +14,8 @@ use cs_vocab::{Numbered, Vocab};
 use std::alloc::Global;
 use std::marker::Model;
 
-// Most texts have a word for so many bytes or more. Others take memory for their rows once more.
-const LIKELY_BYTES: usize = 4;
+// Most texts have a word for so many bytes or more. Others take memory for their rows once more; memory that isn't touched costs nothing.
+const LIKELY_BYTES: usize = 3;
 
 /// Rows, which contracts see as their list: each word once, its number in each row, and a form of the rest of the rows.
 #[derive(Debug, Drop)]

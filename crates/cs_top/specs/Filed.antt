@@ -2,7 +2,7 @@
 --
 -- Source: this engine's own.
 --
---   HasFile i        it can be written, and its bytes are an index file
+--   HasFile i        it can be written, and its bytes are an index file, of which it is read
 --   IsFiled k i      it is an image of the corpus, for the target of index files, and of its bytes that corpus is read
 use Rattle.std.specs.Prelude.{◌≡◌}
 use Rattle.cs_file.specs.Writable.{CanBeWritten}
@@ -10,13 +10,14 @@ use Rattle.cs_model.specs.Corpus.{Corpus}
 use Rattle.cs_model_index.specs.FileRules.{IsIndexFile}
 use Rattle.cs_model_index.specs.Images.{Image, IsImage}
 use Rattle.cs_model_index.specs.Layout.{file}
-use Rattle.cs_model_index.specs.Sections.{file_corpus}
+use Rattle.cs_model_index.specs.Sections.{file_corpus, image_of}
 use Rattle.cs_model_index.specs.declared.limits.TheConstants.{TARGET}
 
 -- each of its numbers has room, and the bytes are accepted, those of an empty corpus too
 pub record HasFile (i : Image) : Type 0 where
   pub writable : CanBeWritten i
   pub whole : IsIndexFile (file i)
+  pub read : image_of (file i) ≡ i
 
 -- what is searched is what was imaged; of an empty corpus it is empty
 pub record IsFiled (k : Corpus) (i : Image) : Type 0 where

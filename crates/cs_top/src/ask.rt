@@ -32,7 +32,7 @@ pub(crate) fn ask<'a, F: Files, O: Sink>(
     ensures files { F.held files.new ≡ F.held files.old }
 {
     let (image, size) = prepare(alloc, collection, script, files)?;
-    let (mut engine, store) = open_image(alloc, image)?;
+    let (mut engine, store) = open_image(alloc, image, Vec::new(alloc))?;
     let mut file = IndexFile::made(store);
     let script = HeldFile { name: script, size };
     match answer_script(alloc, &mut engine, &mut file, files, script, out) {

@@ -1,5 +1,5 @@
 //! Index files that are opened: among the files, and of an image in memory.
-ghost use Rattle.std.specs.Prelude.{◌≡◌, ℕ, List, [], Some, IfErr, IfOk};
+ghost use Rattle.std.specs.Prelude.{◌≡◌, ◌<◌, ◌^◌, ℕ, List, [], All, Some, IfErr, IfOk};
 ghost use Rattle.cs_base.specs.outside.Outside.{file_bytes};
 ghost use Rattle.cs_engine.specs.Keeping.{AreGood};
 ghost use Rattle.cs_file.specs.Indexes.{HasAllBlocks, StandsFor};
@@ -12,7 +12,7 @@ use crate::ending::RunStop;
 use crate::files::HeldFile;
 use cs_base::{FileStore, Files, MemSink, MemStore, Memory};
 use cs_engine::Engine;
-use cs_file::{Image, Index, OpenFault, WriteFault, open_index, write_index};
+use cs_file::{Image, Index, OpenFault, WriteFault, file_size, index_of, open_index, write_index};
 use cs_model_kept::MAX_ENTRIES;
 use std::alloc::Global;
 
@@ -49,8 +49,13 @@ fn engine_of(alloc: Global, index: Index) -> Result<Engine, Memory>
     Engine::new(alloc, index, MAX_ENTRIES)
 }
 
-/// The engine over the index file of an image, with nothing kept, and that file.
-pub(crate) fn open_image(alloc: Global, image: Image) -> Result<(Engine, MemStore), Memory>
+/// The engine over the index file of an image, with nothing kept, and that file, which stands in the memory of some bytes that are
+/// of no more use.
+pub(crate) fn open_image(
+    alloc: Global,
+    image: Image,
+    memory: Vec<u8>,
+) -> Result<(Engine, MemStore), Memory>
     requires { HasFile image }
 
     ensures bytes { IfOk result (λ p. p.1.bytes ≡ file image) }
@@ -59,36 +64,40 @@ pub(crate) fn open_image(alloc: Global, image: Image) -> Result<(Engine, MemStor
     ensures empty { IfOk result (λ p. (p.0.answers.entries ≡ []) × (p.0.answers.capacity ≡ MAX_ENTRIES)) }
     ensures good { (b : List ℕ) → IfOk result (λ p. AreGood b p.0) }
 {
-    let (index, store) = open_bytes(alloc, image)?;
+    let (index, store) = open_bytes(alloc, image, memory)?;
     let engine = engine_of(alloc, index)?;
     Ok((engine, store))
 }
 
 // The index of the file of an image, and that file.
-fn open_bytes(alloc: Global, image: Image) -> Result<(Index, MemStore), Memory>
+fn open_bytes(alloc: Global, image: Image, memory: Vec<u8>) -> Result<(Index, MemStore), Memory>
     requires { HasFile image }
 
     ensures bytes { IfOk result (λ p. p.1.bytes ≡ file image) }
     ensures stands { IfOk result (λ p. StandsFor (file image) p.0) }
     ensures fits { IfOk result (λ p. HasAllBlocks (Some (file image)) p.0) }
 {
-    let bytes = file_of(alloc, image)?;
-    let mut store = MemStore::new(bytes);
-    match open_index(alloc, &mut store) {
-        Ok(index) => Ok((index, store)),
-        Err(OpenFault::Memory) => Err(Memory),
-        Err(OpenFault::Read | OpenFault::Damaged { .. }) => unreachable!(),
-    }
+    let bytes = file_of(alloc, &image, memory)?;
+    are_bytes(&bytes);
+    let index = index_of(alloc, image)?;
+    Ok((index, MemStore::new(bytes)))
 }
 
-// The bytes of the index file of an image.
-fn file_of(alloc: Global, image: Image) -> Result<Vec<u8>, Memory>
-    requires { HasFile image }
+// What a file is made of is below 256.
+fn are_bytes(bytes: &[u8])
+    ensures { All (λ x. x < 2 ^ 8) bytes.now }
+{}
 
-    ensures { IfOk result (λ b. b.items ≡ file image) }
+// The bytes of the index file of an image, in the memory of others where they have room, else in so much as they need.
+fn file_of(alloc: Global, image: &Image, mut memory: Vec<u8>) -> Result<Vec<u8>, Memory>
+    requires { HasFile image.now }
+
+    ensures { IfOk result (λ b. b.items ≡ file image.now) }
 {
-    let mut sink = MemSink::new(alloc);
-    match write_index(alloc, &image, &mut sink) {
+    memory.clear();
+    memory.reserve_exact(file_size(image) as usize)?;
+    let mut sink = MemSink::over(memory);
+    match write_index(alloc, image, &mut sink) {
         Ok(()) => Ok(sink.into_bytes()),
         Err(WriteFault::Sink | WriteFault::Memory) => Err(Memory),
     }

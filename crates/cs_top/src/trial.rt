@@ -2,8 +2,8 @@
 ghost use Rattle.std.specs.Prelude.{◌≡◌, ◌≤◌, ◌+◌, ◌++◌, ◌∷◌, ◌^◌, [], ℕ, List, All, IfOk, OnOk, Some, length, map, true};
 ghost use Rattle.cs_base.specs.declared.content.{limits.TheConstants.{MAX_TRIAL, MAX_TRIAL_DIGITS}, query.Query.{Query}};
 ghost use Rattle.cs_file.specs.Indexes.{HasAllBlocks, StandsFor};
-ghost use Rattle.cs_model.specs.Parameters.{HoldsLimits};
-ghost use Rattle.cs_model_trial.specs.Summary.{IsSummary, trial_corpus};
+ghost use Rattle.cs_model.specs.{Corpus.{corpus}, Parameters.{HoldsLimits}};
+ghost use Rattle.cs_model_trial.specs.Summary.{IsSummary};
 ghost use Rattle.cs_query.specs.RequestView.{asked};
 ghost use Rattle.cs_top.specs.{CommandLine.{CausedBy, is_number}, Filed.{HasFile, IsFiled}, Met.{wrote}, Views.{ended}};
 ghost use Rattle.cs_top.specs.Trial.{AreFew, HasAsked, HasSizes, IsSteady, TrialEnds, sizes_of, with_reply};
@@ -43,28 +43,26 @@ fn summary_of(alloc: Global, n: u32) -> Result<Vec<u8>, Memory>
     ensures { IfOk result (λ b. IsSummary n b.items) }
 {
     let requests = requests(alloc, n)?;
+    let bytes = collection(alloc, n)?;
     let Imaged {
         image,
         documents,
         rows,
-    } = imaged(alloc, n)?;
+    } = imaged(alloc, &bytes)?;
     let mut counts = sizes(documents, rows, image.heads.len());
-    let (mut engine, mut store) = open_image(alloc, image)?;
+    let (mut engine, mut store) = open_image(alloc, image, bytes)?;
     ask_all(alloc, &mut engine, &mut store, &requests, &mut counts)?;
     summary_bytes(alloc, &counts)
 }
 
-// The image of the collection of trial `n`, which keeps each rule and each limit of collections. That isn't said by a clause, so a
+// The image of a trial's collection, which keeps each rule and each limit of collections. That isn't said by a clause, so a
 // refusal is told as want of memory.
-fn imaged(alloc: Global, n: u32) -> Result<Imaged, Memory>
-    requires most { n ≤ MAX_TRIAL }
-
-    ensures ok { IfOk result (λ i. IsFiled (trial_corpus n) i.image) }
+fn imaged(alloc: Global, bytes: &[u8]) -> Result<Imaged, Memory>
+    ensures ok { IfOk result (λ i. IsFiled (corpus bytes.now) i.image) }
     ensures file { IfOk result (λ i. HasFile i.image) }
-    ensures sizes { IfOk result (λ i. HasSizes (trial_corpus n) i.documents i.rows) }
+    ensures sizes { IfOk result (λ i. HasSizes (corpus bytes.now) i.documents i.rows) }
 {
-    let bytes = collection(alloc, n)?;
-    match image_of(alloc, &bytes) {
+    match image_of(alloc, bytes) {
         Ok(imaged) => Ok(imaged),
         Err(_) => Err(Memory),
     }

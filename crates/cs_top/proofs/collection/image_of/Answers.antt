@@ -13,7 +13,7 @@ use Rattle.cs_model.specs.Corpus.{by_number, corpus, distinct_words, refusal, ro
 use Rattle.cs_model_index.specs.FileRules.{IsIndexFile}
 use Rattle.cs_model_index.specs.Images.{IsImage}
 use Rattle.cs_model_index.specs.Layout.{file, title_bytes}
-use Rattle.cs_model_index.specs.Sections.{file_corpus}
+use Rattle.cs_model_index.specs.Sections.{file_corpus, image_of}
 use Rattle.cs_model_index.specs.declared.limits.TheConstants.{TARGET as BLOCK_ROWS}
 use Rattle.cs_model_index.proofs.ImageLemmas.{titles_listed}
 use Rattle.cs_build.specs.Building.{corpus_of_rows}
@@ -77,14 +77,12 @@ accepted c =
     let m = made c in
     accepted_by c.args.bytes.now c.in_ok-rows.rows m.accepted m.rows m.few m.few_words
 
--- its bytes are an index file, of which that corpus is read
-filed : (c : In_ok-image) → IsIndexFile (file c.in_ok-image.image) × (file_corpus (file c.in_ok-image.image) ≡ corpus c.args.bytes.now)
-filed c =
-    let all = files_of_collections c.args.bytes.now BLOCK_ROWS c.in_ok-image.image (accepted c) (imaged c) (omega arith) (omega arith) in
-    (all.0, all.2)
+-- its bytes are an index file, of which the image and that corpus are read
+filed : (c : In_ok-image) → let b = file c.in_ok-image.image in IsIndexFile b × (image_of b ≡ c.in_ok-image.image) × (file_corpus b ≡ corpus c.args.bytes.now)
+filed c = files_of_collections c.args.bytes.now BLOCK_ROWS c.in_ok-image.image (accepted c) (imaged c) (omega arith) (omega arith)
 
 pub returns-clause-ok : goal.returns-clause-ok
-returns-clause-ok c = let is = (goal.at.returns-clause-ok c).In_ok-image in record { image = imaged is; corpus = (filed is).1 }
+returns-clause-ok c = let is = (goal.at.returns-clause-ok c).In_ok-image in record { image = imaged is; corpus = (filed is).2 }
 
 pub returns-clause-accepted : goal.returns-clause-accepted
 returns-clause-accepted c = accepted (goal.at.returns-clause-accepted c).In_ok-image
@@ -94,7 +92,7 @@ returns-clause-file c =
     let is = (goal.at.returns-clause-file c).In_ok-image in
     let m = made is in
     let room : length (title_bytes c.in_ok-titles.titles) < 2 ^ 32 = subst (λ ts. length (title_bytes ts) < 2 ^ 32) (sym m.titles) (titles_few c.args.bytes.now m.accepted) in
-    record { writable = search rules; whole = (filed is).0 }
+    record { writable = search rules; whole = (filed is).0; read = (filed is).1 }
 
 -- each document has its title in the corpus
 titles_counted : (ts : List (List ℕ)) → length (keys (by_number ts)) ≡ length ts

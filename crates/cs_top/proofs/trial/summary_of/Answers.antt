@@ -11,6 +11,7 @@ pub ask_all-requires-clause-few : goal.ask_all-requires-clause-few
 ask_all-requires-clause-few c = let few = few_requests c.args.n c.in_ok-requests.requests.items c.in_ok-requests.ensures.asked in omega (arith, few, ap length c.deref.ensures.value)
 
 pub returns : goal.returns
+unfolding trial_corpus
 returns c =
     let n = c.args.n in
     let i = c.in_ok-image.field-0.image in
@@ -23,8 +24,10 @@ returns c =
     let start = asked_none e.store.bytes e.engine c.sizes-counts.result (subst (λ b. StandsFor b e.engine.index) (sym e.ensures.bytes) e.ensures.stands) (e.ensures.good e.store.bytes) e.ensures.empty.0 e.ensures.empty.1 few in
     let all = (c.in_ok-ask_all.ensures.asked start).counts in
     let asked : map (λ r. r.query) c.deref.result.now ≡ queries n = ap (map (λ r. r.query)) c.deref.ensures.value ∙ asked_queries n rs c.in_ok-requests.ensures.asked in
-    let corpus : file_corpus e.store.bytes ≡ trial_corpus n = ap file_corpus e.ensures.bytes ∙ c.in_ok-image.ensures.ok.corpus in
-    let added : AddUp (trial_corpus n) (queries n) counts = subst (λ k. AddUp k (queries n) counts) corpus (subst (λ qs. AddUp (file_corpus e.store.bytes) qs counts) asked all) in
+    let filed : IsFiled (trial_corpus n) i = subst (λ b. IsFiled (corpus b) i) (drawn c) c.in_ok-image.ensures.ok in
+    let sized : HasSizes (trial_corpus n) documents rows = subst (λ b. HasSizes (corpus b) documents rows) (drawn c) c.in_ok-image.ensures.sizes in
+    let is_corpus : file_corpus e.store.bytes ≡ trial_corpus n = ap file_corpus e.ensures.bytes ∙ filed.corpus in
+    let added : AddUp (trial_corpus n) (queries n) counts = subst (λ k. AddUp k (queries n) counts) is_corpus (subst (λ qs. AddUp (file_corpus e.store.bytes) qs counts) asked all) in
     let sizes : sizes_of counts ≡ (documents, rows, length i.heads) =
     c.in_ok-ask_all.ensures.sizes ∙ ap sizes_of c.sizes-counts.ensures ∙ ap (λ x. (documents, rows, x)) (c.len.ensures ∙ ap (λ x. length x.heads) c.image.view_is) in
-    ok_then c.summary_bytes.result c.summary_bytes.ensures (λ b text. summed n i counts b.items c.in_ok-image.ensures.ok.image (told_is n (trial_corpus n) counts documents rows (length i.heads) sizes c.in_ok-image.ensures.sizes added) text)
+    ok_then c.summary_bytes.result c.summary_bytes.ensures (λ b text. summed n i counts b.items filed.image (told_is n (trial_corpus n) counts documents rows (length i.heads) sizes sized added) text)
