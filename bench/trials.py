@@ -4,8 +4,9 @@
     trials.py ROUNDS PROGRAM ...
 
 A round is one `trial 1000` and eight `trial 10` of each program. Printed are the least, the lower quartile and the middle of
-the wall times in ms, and the one by the other of each; then the peak of `trial 1000` in MiB. On a busy machine the least
-favours the short trial, which finds a quiet moment sooner.
+the wall times in ms, and the one by the other of each; then the middle of the rounds' own ratios, each `trial 1000` by the
+mean of its `trial 10`, and the peak of `trial 1000` in MiB. On a busy machine the least favours the short trial, which
+finds a quiet moment sooner; a round's own ratio stays.
 """
 import os
 import sys
@@ -36,19 +37,22 @@ def main():
     rounds, programs = int(sys.argv[1]), sys.argv[2:]
     short = {program: [] for program in programs}
     long = {program: [] for program in programs}
+    own = {program: [] for program in programs}
     peak = dict.fromkeys(programs, 0)
     for _ in range(rounds):
         for program in programs:
-            short[program] += [timed(program, SHORT)[0] for _ in range(SHORT_RUNS)]
+            few = [timed(program, SHORT)[0] for _ in range(SHORT_RUNS)]
             taken, most = timed(program, LONG)
+            short[program] += few
             long[program].append(taken)
+            own[program].append(taken * SHORT_RUNS / sum(few))
             peak[program] = max(peak[program], most)
     for program in programs:
         pairs = list(zip(parts(short[program]), parts(long[program])))
         print(program)
         for name, (few, many) in zip(("least", "lower quartile", "middle"), pairs):
             print(f"  {name:15} trial {SHORT} {few:7.2f}  trial {LONG} {many:7.1f}  by {many / few:5.1f}")
-        print(f"  peak {peak[program]:.0f} MiB")
+        print(f"  of a round, middle: by {parts(own[program])[2]:.1f}; peak {peak[program]:.0f} MiB")
 
 
 if __name__ == "__main__":
