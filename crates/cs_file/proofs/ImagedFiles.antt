@@ -4,10 +4,12 @@
 --   image_header         its header is that of the file
 --   image_index i        what an index of it holds
 --   kept_image           all of it is by the rules of its sections
+--   few_lens             its blocks together have few bytes
 --   image_stands, image_fits     it stands for the file, which has all its blocks
 use Rattle.std.proofs.Common.{◌≡◌, ℕ, ◌+◌, ◌≤◌, ◌<◌, ◌^◌, List, [], ◌++◌, length, Option, Some, None, refl, sym, ap, subst, ◌∙◌, arith, length-take}
 use Rattle.std.proofs.Common.{length-drop, drop}
 use Rattle.std.specs.Prelude.{All}
+use Rattle.std.specs.List.{sum_by}
 use Rattle.std.specs.Option.{unwrap_or}
 use Rattle.cs_base.specs.outside.Outside.{part}
 use Rattle.cs_model_index.specs.FileRules.{IsIndexFile, damage}
@@ -154,6 +156,13 @@ image_index i =
 pub kept_image : (i : Image) → IsReadAgain i → Kept (header_of_image i) (image_index i)
 kept_image i r =
     kept_view (header_of_image i) i.words (offsets_from 0 i.titles) i.heads (image_ranges i r) (image_vocabulary i r) (image_offsets i r) (image_heads i r)
+
+pub few_lens : (i : Image) → IsReadAgain i → sum_by (λ h. h.len) i.heads < 2 ^ 32
+few_lens i r =
+    let k = kept_image i r in
+    let bytes = k.heads.bytes in
+    let few = k.header.postings in
+    omega (arith, bytes, few)
 
 pub image_stands : (i : Image) → IsReadAgain i → StandsFor (file i) (image_index i)
 image_stands i r = record {

@@ -21,6 +21,7 @@ pub mod SinkPuts
 pub mod SoughtPosts
 pub mod StagesLemmas
 pub mod StoodLemmas
+pub mod TitlePieces
 pub mod TitleStageLemmas
 pub mod TitlesLemmas
 pub mod VocabularyCuts

@@ -3,6 +3,7 @@
 --   Onward at last os     offsets behind another one, or behind none, go on
 --   onward_zero           the first is 0
 --   onward_next           none is less than the one before
+--   onward_far            nor than any before it
 --   onward_end            none is greater than the last
 --   title_at_index        a title lies between its offset and the next
 use Rattle.std.proofs.Common.{◌≡◌, ℕ, zero, suc, ◌+◌, ◌-◌, ◌<◌, ◌≤◌, true, List, [], ◌∷◌, length, get_or, Option, Some, None, refl, ap, arith}
@@ -41,7 +42,7 @@ onward_next at last (o ∷ []) k h lt = absurd (omega arith)
 onward_next at last (o ∷ p ∷ os) zero h lt = onward_first (at + NUMBER_BYTES) o p os (onward_rest at last o (p ∷ os) h)
 onward_next at last (o ∷ p ∷ os) (suc k) h lt = onward_next (at + NUMBER_BYTES) (Some o) (p ∷ os) k (onward_rest at last o (p ∷ os) h) (omega arith)
 
-onward_far : (at : ℕ) (last : Option ℕ) (os : List ℕ) (k m : ℕ) → Onward at last os → k + m < length os → get_or os k 0 ≤ get_or os (k + m) 0
+pub onward_far : (at : ℕ) (last : Option ℕ) (os : List ℕ) (k m : ℕ) → Onward at last os → k + m < length os → get_or os k 0 ≤ get_or os (k + m) 0
 onward_far at last os k zero h lt = let e : k + zero ≡ k = omega arith in rw e (omega arith)
 onward_far at last os k (suc m) h lt =
     let far : get_or os k 0 ≤ get_or os (k + m) 0 = onward_far at last os k m h (omega arith) in

@@ -7,6 +7,8 @@
 --   block_place i k         the place of block k; behind the last block the file's end
 --   title_place i d, title_len i d      where title d begins, and how many bytes it has
 --   IsIndex i               what an opened index keeps, whatever store it was read from
+--   ArePlaces heads places    where the blocks of these heads lie, counted from the first block
+--   IsKept i ps             an opened index, and where its blocks lie
 --   StandsFor b i           the bytes are an index file, and the index is what is kept of it
 --   HasAllBlocks told i             the store tells nothing, or has all blocks
 --   AreMet heads lo hi first last    the blocks from `first` up to `last` are those that hold a word from lo up to hi
@@ -91,6 +93,16 @@ pub record IsIndex (i : IndexView) : Type 0 where
   pub titles_place : i.titles_at ≡ HEADER_BYTES + length (vocabulary_bytes i.words) + NUMBER_BYTES * (i.docs + 1)
   pub blocks_place : i.blocks_at ≡ i.titles_at + titles_end i + ENTRY_BYTES * length i.heads
   pub small : block_place i (length i.heads) < 2 ^ 63
+
+-- one for each block: the bytes of the blocks before it
+pub record ArePlaces (heads : List BlockHead) (places : List ℕ) : Type 0 where
+  pub count : length places ≡ length heads
+  pub each : (k : ℕ) → k < length heads → slice_index_or places k 0 ≡ sum_by (λ h. h.len) (take k heads)
+
+-- what an opened index keeps, with the places of its blocks
+pub record IsKept (i : IndexView) (ps : List ℕ) : Type 0 where
+  pub index : IsIndex i
+  pub places : ArePlaces i.heads ps
 
 -- the bytes are an index file, and the index is what is kept of it; no bytes stand for one
 pub record StandsFor (b : List ℕ) (i : IndexView) : Type 0 where

@@ -18,12 +18,15 @@
 --   words_judged ws           rules 6 and 7 of words
 --   bad_joint h hs, bad_size h hs, directory_judged h ws hs       rules 10 to 12 of heads
 --   bad_offset h os, bad_title b     where rules 8 and 9 are broken
+--   first_offset os, last_offset os, AreOnward os     the first and the last of some offsets, of which none is less than one before it
+--   piece_in b first os, titles_cut os bytes       the bytes between such offsets, which count from a place, and the titles in them
+--   bad_text first os bytes      where rule 9 is broken by these titles
 --   header_judged bytes size         rules 2 to 4 of the header's bytes
 --   block_broken at head docs bytes     the first of rules 13 to 17 that the bytes of a block at a place break, with its place in the file
 --   file_words b, offsets_of b, file_titles b, heads_of b, blocks_of b       what is read of the bytes
-use Rattle.std.specs.Prelude.{◌≡◌, ℕ, zero, suc, ◌+◌, true, All, if◌then◌else◌, ◌<◌, ◌≤◌, ◌^◌, ◌==◌, ◌&&◌, List, [], ◌∷◌, length, take, Option, None, Some}
+use Rattle.std.specs.Prelude.{◌≡◌, ℕ, zero, suc, ◌+◌, ◌-◌, true, All, not, map, slice_index_or, if◌then◌else◌, ◌<◌, ◌≤◌, ◌^◌, ◌==◌, ◌&&◌, List, [], ◌∷◌, length, take, Option, None, Some}
 use Rattle.std.specs.Prelude.{Result, MatchResult}
-use Rattle.std.specs.List.{list_all, slice_get, sum_by}
+use Rattle.std.specs.List.{list_all, position, slice_get, sum_by}
 use Rattle.std.specs.List.Sorted.{IsStrictlySortedBy}
 use Rattle.std.specs.Option.{ForSome, option_map, option_or, unwrap_or}
 use Rattle.std.specs.Ordering.{nat_cmp}
@@ -43,7 +46,7 @@ use Rattle.cs_model_index.specs.FileRules.{blocks_break, in_file, parting_rules}
 use Rattle.cs_model_index.specs.Layout.{Header, MAGIC, vocabulary_bytes}
 use Rattle.cs_model_index.specs.Numbered.{word_at}
 use Rattle.cs_model_index.specs.Partitions.{is_facet}
-use Rattle.cs_model_index.specs.Sections.{header_of, contents_of, vocabulary_at, offsets_at, titles_at, directory_at, blocks_at, size_by}
+use Rattle.cs_model_index.specs.Sections.{header_of, contents_of, vocabulary_at, offsets_at, titles_at, directory_at, blocks_at, size_by, titles_in}
 use Rattle.cs_model_index.specs.declared.limits.TheConstants.{NUMBER_BYTES, ENTRY_BYTES, MAX_TARGET}
 use Rattle.cs_file.specs.declared.fault.OpenFault.{OpenFault}
 use Rattle.cs_file.specs.declared.fault.OpenFault.TheVariants as opens
@@ -140,6 +143,32 @@ pub record HasHeads (h : Header) (ws : List (List ℕ)) (hs : List BlockHead) : 
   pub sized : list_all is_sized hs ≡ true
   pub rows : sum_by (λ h. h.rows) hs ≡ h.rows
   pub bytes : sum_by (λ h. h.len) hs ≡ h.blocks_len
+
+-- ---- some titles that lie one behind the other
+-- 0 where there is none
+abbrev pub first_offset : List ℕ → ℕ
+first_offset os = slice_index_or os 0 0
+
+-- 0 where there is none
+abbrev pub last_offset : List ℕ → ℕ
+last_offset os = unwrap_or (last_value os) 0
+
+-- there is one, and a later one is never less
+pub record AreOnward (os : List ℕ) : Type 0 where
+  pub some : 0 < length os
+  pub each : (k m : ℕ) → k ≤ m → m < length os → slice_index_or os k 0 ≤ slice_index_or os m 0
+
+-- from the first offset up to the last, counted from a place
+abbrev pub piece_in : List ℕ → ℕ → List ℕ → List ℕ
+piece_in b first os = part b (first + first_offset os) (last_offset os - first_offset os)
+
+-- the titles between offsets, where the bytes begin with the first of them
+abbrev pub titles_cut : List ℕ → List ℕ → List (List ℕ)
+titles_cut os bytes = titles_in (map (λ o. o - first_offset os) os) bytes
+
+-- the place of the first of these titles that isn't UTF-8; None where each is
+unfoldable pub bad_text : ℕ → List ℕ → List ℕ → Option ℕ
+bad_text first os bytes = option_map (λ i. first + slice_index_or os i 0) (position (λ t. not (is_utf8 t)) (titles_cut os bytes))
 
 -- ---- the stages
 -- rules 1 to 4

@@ -1,8 +1,6 @@
 //! Reading blocks and titles of an opened index.
 ghost use Rattle.std.specs.Prelude.{◌≡◌, ◌<◌, ◌≤◌, ◌+◌, ◌^◌, ℕ, List, Option, false, length, Err, IfOk, IfErr, OnOk, All};
-ghost use Rattle.std.specs.List.{sum_by};
 ghost use Rattle.std.specs.Option.{ForSome};
-ghost use Rattle.cs_base.specs.declared.content.limits.TheConstants.{MAX_WORDS};
 ghost use Rattle.cs_base.specs.declared.content.scores.TheConstants.{TITLE_SCORE};
 ghost use Rattle.cs_base.specs.outside.Causes.{ReadsWithin};
 ghost use Rattle.cs_base.specs.outside.Outside.{part};
@@ -107,22 +105,8 @@ impl Index {
 
         ensures { result ≡ block_place self.now k }
     {
-        let heads = self.heads.as_slice();
-        self.blocks_at + bytes_of(&heads[..k as usize])
+        self.blocks_at + u64::from(self.places.as_slice()[k as usize])
     }
-}
-
-// The bytes of some blocks together.
-fn bytes_of(heads: &[BlockHead]) -> u64
-    requires { length heads.now ≤ MAX_WORDS }
-
-    ensures { result ≡ sum_by (λ h. h.len) heads.now }
-{
-    let mut sum: u64 = 0;
-    for head in heads {
-        sum += u64::from(head.len);
-    }
-    sum
 }
 
 /// Reads so many bytes from a place in place of others, by one read.

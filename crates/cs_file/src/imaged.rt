@@ -10,6 +10,7 @@ ghost use Rattle.cs_file.specs.Writable.{CanBeWritten};
 use crate::header::Header;
 use crate::image::Image;
 use crate::index::Index;
+use crate::places::places_of;
 use crate::sizes::numbers_of;
 use cs_base::{Memory, Seq, Text};
 use std::alloc::Global;
@@ -46,6 +47,7 @@ pub fn index_of(alloc: Global, image: Image) -> Result<Index, Memory>
     drop(blocks);
     let offsets = offsets_of(alloc, titles.as_slice())?;
     drop(titles);
+    let places = places_of(alloc, heads.as_slice())?;
     Ok(Index {
         docs: header.docs,
         words,
@@ -54,6 +56,7 @@ pub fn index_of(alloc: Global, image: Image) -> Result<Index, Memory>
         target,
         titles_at: header.titles_at(),
         blocks_at: header.blocks_at(),
+        places,
     })
 }
 

@@ -6,7 +6,7 @@ use cs_vocab::Vocab;
 use std::marker::Model;
 
 /// What is kept of an index file: all but its titles and its posts. It keeps what the rules on these fields
-/// say, whatever store it was read from.
+/// say, whatever store it was read from; where each block lies it knows beside them.
 #[derive(Drop)]
 pub struct Index {
     /// How many documents there are.
@@ -23,18 +23,20 @@ pub struct Index {
     pub titles_at: u64,
     /// The place of the first block, in bytes from the file's first.
     pub blocks_at: u64,
+    /// The place of each block, in bytes from the first block's.
+    pub(crate) places: Seq<u32>,
 }
 
 impl Model for Index {
-    ghost use Rattle.cs_file.specs.Indexes.{IndexView, IsIndex};
+    ghost use Rattle.cs_file.specs.Indexes.{IndexView, IsKept};
 
     ghost Value = { IndexView };
 
     ghost view = { λ i.
         record { docs = i.docs; words = i.words; offsets = i.offsets; heads = i.heads; target = i.target; titles_at = i.titles_at; blocks_at = i.blocks_at } };
 
-    ghost invariant = { λ i. IsIndex
-        (record { docs = i.docs; words = i.words; offsets = i.offsets; heads = i.heads; target = i.target; titles_at = i.titles_at; blocks_at = i.blocks_at }) };
+    ghost invariant = { λ i. IsKept
+        (record { docs = i.docs; words = i.words; offsets = i.offsets; heads = i.heads; target = i.target; titles_at = i.titles_at; blocks_at = i.blocks_at }) i.places };
 }
 
 impl Index {

@@ -19,6 +19,7 @@ mod kinds;
 mod opening;
 mod part;
 mod parts;
+mod places;
 mod postings;
 mod putting;
 mod reading;

@@ -10,6 +10,7 @@ use crate::header::read_header;
 use crate::index::Index;
 use crate::judged::tried;
 use crate::parts::bad_part;
+use crate::places::places_of;
 use crate::postings::read_blocks;
 use crate::titles::read_titles;
 use crate::vocabulary::read_vocabulary;
@@ -42,6 +43,7 @@ pub fn open_index<S: Store>(alloc: Global, store: &mut S) -> Result<Index, OpenF
         header.directory_at(),
     );
     tried(18, place)?;
+    let places = places_of(alloc, heads.as_slice())?;
     Ok(Index {
         docs: header.docs,
         words: Vocab::from_words(words),
@@ -50,5 +52,6 @@ pub fn open_index<S: Store>(alloc: Global, store: &mut S) -> Result<Index, OpenF
         target: header.target,
         titles_at: header.titles_at(),
         blocks_at: header.blocks_at(),
+        places,
     })
 }

@@ -12,8 +12,8 @@ use crate::fault::OpenFault;
 use cs_base::{Failed, Memory, Store};
 use std::alloc::Global;
 
-// The most bytes of a piece.
-const PIECE: usize = 1 << 16;
+/// The most bytes of a piece.
+pub(crate) const PIECE: usize = 1 << 16;
 
 /// So many zeros, to be read over.
 pub(crate) fn zeros(alloc: Global, len: usize) -> Result<Vec<u8>, Memory>
@@ -71,10 +71,34 @@ pub(crate) fn section<S: Store>(
     ensures caused { CausedReads (is_read_of_open result) (S.faults store.old) (S.faults store.new) }
 {
     let mut bytes = zeros(alloc, len)?;
-    match read_in_pieces(store, at, &mut bytes) {
+    section_over(store, at, len, &mut bytes)?;
+    Ok(bytes)
+}
+
+/// Reads so many bytes from a place in place of others, by reads of at most `PIECE` bytes each.
+pub(crate) fn section_over<S: Store>(
+    store: &mut S,
+    at: u64,
+    len: usize,
+    bytes: &mut Vec<u8>,
+) -> Result<(), OpenFault>
+    requires places { at + len < 2 ^ 64 }
+    requires within { ForSome (S.bytes store.old) (λ b. at + len ≤ length b) }
+
+    ensures ok { ForSome (S.bytes store.old) (λ b. OnOk result (bytes.new.items ≡ part b at len)) }
+    ensures long { OnOk result (length bytes.new.items ≡ len) }
+    ensures small { ForSome (S.bytes store.old) (λ b. OnOk result (AreBytes b at len)) }
+    // no damage is found
+    ensures err { (o : Option Broken) → IfErr result (Refuses o) }
+    ensures bytes { S.bytes store.new ≡ S.bytes store.old }
+    ensures lent { S.lent store.new ≡ S.lent store.old }
+    ensures caused { CausedReads (is_read_of_open result) (S.faults store.old) (S.faults store.new) }
+{
+    fit(bytes, len)?;
+    match read_in_pieces(store, at, bytes) {
         Ok(()) => {
-            are_bytes(&bytes);
-            Ok(bytes)
+            are_bytes(bytes);
+            Ok(())
         }
         Err(_) => Err(OpenFault::Read),
     }

@@ -1,8 +1,7 @@
 //! The titles of an index file, and where they lie.
-ghost use Rattle.std.specs.Prelude.{◌≡◌, ◌+◌, ◌*◌, ◌≤◌, ◌<◌, ◌^◌, ◌==◌, false, length, slice_index_or, IfOk, OnOk, None};
+ghost use Rattle.std.specs.Prelude.{◌≡◌, ◌+◌, ◌-◌, ◌*◌, ◌≤◌, ◌<◌, ◌^◌, ◌==◌, false, length, slice_index_or, IfOk, OnOk, None};
 ghost use Rattle.std.specs.Option.{ForSome, option_or, unwrap_or};
 ghost use Rattle.std.specs.Str.{is_utf8};
-ghost use Rattle.cs_base.specs.outside.Outside.{part};
 ghost use Rattle.cs_base.specs.declared.content.limits.TheConstants.{MAX_DOCS};
 ghost use Rattle.cs_model.specs.First.{unless};
 ghost use Rattle.cs_model_index.specs.FileRules.{break_of, is_onward, laid, last_offset_at, last_value, tried};
@@ -11,12 +10,13 @@ ghost use Rattle.cs_model_index.specs.declared.limits.TheConstants.{NUMBER_BYTES
 ghost use Rattle.cs_file.specs.CallAnswers.{is_read_of_open};
 ghost use Rattle.cs_file.specs.HeaderView.{seen_header};
 ghost use Rattle.cs_file.specs.Indexes.{CausedReads};
-ghost use Rattle.cs_file.specs.Opening.{AreBytes, Judges, IsHeader, HasHeader, HasOffsets, before, bad_offset, bad_title, offsets_of, titles_stage};
+ghost use Rattle.cs_file.specs.Opening.{AreBytes, AreOnward, Judges, IsHeader, HasHeader, HasOffsets, before, bad_offset, bad_text, bad_title, first_offset, last_offset};
+ghost use Rattle.cs_file.specs.Opening.{offsets_of, piece_in, titles_stage};
 
 use crate::fault::OpenFault;
 use crate::header::Header;
 use crate::judged::{number_at, tried, unless};
-use crate::reading::section;
+use crate::reading::{PIECE, section, section_over};
 use cs_base::{MAX_LINE_BYTES, Memory, Seq, Store};
 use cs_model_index::NUMBER_BYTES;
 use std::alloc::Global;
@@ -117,7 +117,7 @@ fn last(offsets: &[u32]) -> u32
     }
 }
 
-// Reads the titles one by one, and tries rule 9.
+// Reads the titles in pieces, and tries rule 9.
 fn judge_titles<S: Store>(
     alloc: Global,
     store: &mut S,
@@ -136,26 +136,81 @@ fn judge_titles<S: Store>(
     ensures caused { CausedReads (is_read_of_open result) (S.faults store.old) (S.faults store.new) }
 {
     let first = header.titles_at();
-    for doc in 0..header.docs as usize {
-        let len = offsets[doc + 1] - offsets[doc];
-        judge_title(alloc, store, first + u64::from(offsets[doc]), len)?;
+    let mut bytes = room_for_piece(alloc, header.titles_len)?;
+    let mut doc = 0;
+    while doc < header.docs as usize {
+        let end = piece_end(offsets, doc);
+        judge_piece(store, first, &offsets[doc..end + 1], &mut bytes)?;
+        doc = end;
     }
     Ok(())
 }
 
-// Reads a title, and tries rule 9 on it.
-fn judge_title<S: Store>(alloc: Global, store: &mut S, at: u64, len: u32) -> Result<(), OpenFault>
-    requires places { at + len < 2 ^ 64 }
-    requires within { ForSome (S.bytes store.old) (λ b. at + len ≤ length b) }
+// Room for each piece of so many bytes of titles; a title that is longer than a piece takes more.
+fn room_for_piece(alloc: Global, len: u32) -> Result<Vec<u8>, Memory> {
+    let room = Vec::with_capacity(alloc, (len as usize).min(PIECE))?;
+    Ok(room)
+}
 
-    ensures exact { ForSome (S.bytes store.old) (λ b. Judges (tried 9 (unless (is_utf8 (part b at len)) at)) result) }
-    ensures small { ForSome (S.bytes store.old) (λ b. OnOk result (AreBytes b at len)) }
+// The number behind that of the last title of the piece that begins with title `doc`: it has as many titles as have at most `PIECE` bytes
+// together, or one title that has more.
+fn piece_end(offsets: &[u32], doc: usize) -> usize
+    requires { doc + 1 < length offsets.now }
+
+    ensures some { doc < result }
+    ensures within { result < length offsets.now }
+    ensures fits { doc + 1 < result → slice_index_or offsets.now result 0 ≤ slice_index_or offsets.now doc 0 + PIECE }
+    ensures most { result + 1 < length offsets.now → slice_index_or offsets.now doc 0 + PIECE < slice_index_or offsets.now (result + 1) 0 }
+{
+    let room = offsets[doc] as usize + PIECE;
+    let mut end = doc + 1;
+    while end + 1 < offsets.len() && offsets[end + 1] as usize <= room {
+        end += 1;
+    }
+    end
+}
+
+// Reads the titles between some offsets, which count from a place, and tries rule 9 on each.
+fn judge_piece<S: Store>(
+    store: &mut S,
+    first: u64,
+    offsets: &[u32],
+    bytes: &mut Vec<u8>,
+) -> Result<(), OpenFault>
+    requires onward { AreOnward offsets.now }
+    requires places { first + last_offset offsets.now < 2 ^ 64 }
+    requires within { ForSome (S.bytes store.old) (λ b. first + last_offset offsets.now ≤ length b) }
+
+    ensures exact { ForSome (S.bytes store.old) (λ b. Judges (tried 9 (bad_text first offsets.now (piece_in b first offsets.now))) result) }
+    ensures small { ForSome (S.bytes store.old) (λ b. OnOk result (AreBytes b (first + first_offset offsets.now) (last_offset offsets.now - first_offset offsets.now))) }
     ensures bytes { S.bytes store.new ≡ S.bytes store.old }
     ensures lent { S.lent store.new ≡ S.lent store.old }
     ensures caused { CausedReads (is_read_of_open result) (S.faults store.old) (S.faults store.new) }
 {
-    let title = section(alloc, store, at, len as usize)?;
-    tried(9, unless(is_text(&title), at))
+    let from = offsets[0];
+    let len = last(offsets) - from;
+    section_over(store, first + u64::from(from), len as usize, bytes)?;
+    tried(9, bad_text(first, offsets, bytes))
+}
+
+// The place of the first title that isn't UTF-8, of those between some offsets, which count from a place, in the bytes from the first
+// offset up to the last.
+fn bad_text(first: u64, offsets: &[u32], bytes: &[u8]) -> Option<u64>
+    requires onward { AreOnward offsets.now }
+    requires whole { length bytes.now ≡ last_offset offsets.now - first_offset offsets.now }
+    requires places { first + last_offset offsets.now < 2 ^ 64 }
+
+    ensures { result ≡ bad_text first offsets.now bytes.now }
+{
+    let from = offsets[0];
+    for i in 0..offsets.len() - 1 {
+        let begin = (offsets[i] - from) as usize;
+        let end = (offsets[i + 1] - from) as usize;
+        if !is_text(&bytes[begin..end]) {
+            return Some(first + u64::from(offsets[i]));
+        }
+    }
+    None
 }
 
 fn is_text(bytes: &[u8]) -> bool

@@ -16,7 +16,7 @@ loop-name-init g c = record {
 pub hold_facet-requires : goal.hold_facet-requires
 hold_facet-requires g c = record {
   opened = record {
-    index = subst IsIndex c.index.view_is c.index.invariant;
+    index = subst IsIndex c.index.view_is c.index.invariant.index;
     fits = subst (λ t. HasAllBlocks t c.args.index.now) (sym c.loop-name.invariant.walk.store.bytes) c.requires.fits;
   };
 }

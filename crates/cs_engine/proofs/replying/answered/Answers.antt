@@ -40,7 +40,7 @@ by_entry-requires-clause-entry g c =
     (same_lent c.requires.limits.query c.requires.planned _ _ c.view-view.ensures.base c.view-view.ensures.rows c.in-Same.is).0
 
 pub by_entry-requires-clause-over : goal.by_entry-requires-clause-over
-by_entry-requires-clause-over g c = can_answer c.requires.limits c.requires.held c.requires.fits (subst IsIndex c.index.view_is c.index.invariant)
+by_entry-requires-clause-over g c = can_answer c.requires.limits c.requires.held c.requires.fits (subst IsIndex c.index.view_is c.index.invariant.index)
 
 pub returns-in_err-reply-in-Same-clause-reads : goal.returns-in_err-reply-in-Same-clause-reads
 returns-in_err-reply-in-Same-clause-reads g c =
@@ -78,7 +78,7 @@ with_reply-requires-clause-entry g c =
     c.in_ok-entry-in-Narrow.ensures.base c.in_ok-entry-in-Narrow.ensures.rows).0
 
 pub with_reply-requires-clause-over : goal.with_reply-requires-clause-over
-with_reply-requires-clause-over g c = can_answer c.requires.limits c.requires.held c.requires.fits (subst IsIndex c.index.view_is c.index.invariant)
+with_reply-requires-clause-over g c = can_answer c.requires.limits c.requires.held c.requires.fits (subst IsIndex c.index.view_is c.index.invariant.index)
 
 pub returns-in_err-answered-in-Narrow-clause-reads : goal.returns-in_err-answered-in-Narrow-clause-reads
 returns-in_err-answered-in-Narrow-clause-reads g c =
@@ -119,7 +119,7 @@ answered_by_hits-requires g c =
     record {
       some = lent.0;
       base = first_in c.args.over.request.now.query c.in_ok-hits-in-Extend.hits lent.1 c.in_ok-hits-in-Extend.ensures;
-      over = can_answer c.requires.limits c.requires.held c.requires.fits (subst IsIndex c.index.view_is c.index.invariant);
+      over = can_answer c.requires.limits c.requires.held c.requires.fits (subst IsIndex c.index.view_is c.index.invariant.index);
     }
 
 pub returns-in_err-answered-in-Extend-clause-reads : goal.returns-in_err-answered-in-Extend-clause-reads
@@ -133,7 +133,7 @@ returns-in_ok-answered-in-Extend-clause-told g c b is stands over good =
     let e = entry_with c.view-view-in-Extend.result.base.now c.view-view-in-Extend.result.rows.now.posts in
     let lent = extend_lent c.requires.limits.query c.requires.planned _ _ c.view-view-in-Extend.ensures.base c.view-view-in-Extend.ensures.rows c.in-Extend.is in
     let found = found_by_entry i (before_last c.args.over.request.now.query) e (last_is_positive (before_last c.args.over.request.now.query)) refl
-    c.in_ok-hits-in-Extend.hits c.in_ok-hits-in-Extend.ensures b stands (subst IsIndex c.index.view_is c.index.invariant) (lent.2 b good) in
+    c.in_ok-hits-in-Extend.hits c.in_ok-hits-in-Extend.ensures b stands (subst IsIndex c.index.view_is c.index.invariant.index) (lent.2 b good) in
     by_any (c.in_ok-answered-in-Extend.ensures.told b is stands over found.base)
 
 pub returns-in_ok-answered-in-Extend-clause-reads : goal.returns-in_ok-answered-in-Extend-clause-reads
@@ -143,7 +143,7 @@ returns-in_ok-answered-in-Extend-clause-reads g c =
 
 -- ---- all parts
 pub fresh-requires : goal.fresh-requires
-fresh-requires g c = record { over = can_answer c.requires.limits c.requires.held c.requires.fits (subst IsIndex c.index.view_is c.index.invariant) }
+fresh-requires g c = record { over = can_answer c.requires.limits c.requires.held c.requires.fits (subst IsIndex c.index.view_is c.index.invariant.index) }
 
 pub returns-in_err-answered-in-Fresh-clause-reads : goal.returns-in_err-answered-in-Fresh-clause-reads
 returns-in_err-answered-in-Fresh-clause-reads g c =

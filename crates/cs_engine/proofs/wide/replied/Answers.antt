@@ -9,5 +9,5 @@ returns-clause-told g c b is stands held wide good = record {
   own = tt;
   large = λ none other.
       too_large c.args.over.index.now c.args.over.request.now.query c.in-Some.words.0 c.in-Some.words.1 c.in-Some.ensures.asks b stands
-      (subst IsIndex c.index.view_is c.index.invariant);
+      (subst IsIndex c.index.view_is c.index.invariant.index);
 }

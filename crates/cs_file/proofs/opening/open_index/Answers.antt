@@ -1,12 +1,13 @@
-use Rattle.std.proofs.Common.{◌≡◌, sym, ap, subst, ◌∙◌, ℕ, List, Some, None, refl}
+use Rattle.std.proofs.Common.{◌≡◌, sym, ap, subst, ◌∙◌, ℕ, List, Some, None, refl, arith}
 use Rattle.std.specs.Prelude.{All}
+use Rattle.std.specs.List.{sum_by}
 use Rattle.cs_base.specs.declared.index.block.BlockHead.{BlockHead}
 use Rattle.cs_model_index.specs.Blocks.{IsShaped}
 use Rattle.cs_model_index.specs.FileRules.{tried}
 use Rattle.cs_model_index.specs.Layout.{Header}
 use Rattle.cs_model_index.specs.Sections.{directory_at}
 use Rattle.cs_file.specs.HeaderView.{seen_header}
-use Rattle.cs_file.specs.Indexes.{IndexView}
+use Rattle.cs_file.specs.Indexes.{ArePlaces, IndexView}
 use Rattle.cs_file.specs.Opening.{Refuses, blocks_of, blocks_stage, directory_stage, header_stage, parting_stage, titles_stage, vocabulary_stage, HasHeads}
 use Rattle.cs_file.specs.Opening.{HasVocabulary}
 use Rattle.cs_file.specs.Parting.{parts_by}
@@ -148,9 +149,20 @@ returns-in_err-tried-clause-damaged g c = λ b t.
     damaged_along b c.in_err-tried.field-0.0 c.from_residual-in_err-tried.result
     (in_parting b c.in_err-tried.field-0.0 p.header p.vocabulary p.titles p.directory p.blocks refused) c.from_residual-in_err-tried.ensures.1
 
+pub places_of-requires : goal.places_of-requires
+places_of-requires g c =
+    let lens : sum_by (λ h. h.len) c.as_slice-4.result.now ≡ sum_by (λ h. h.len) c.in_ok-heads.heads = ap (sum_by (λ h. h.len)) c.as_slice-4.ensures in
+    let bytes = c.in_ok-heads.ensures.ruled.bytes in
+    let few = c.in_ok-header.ensures.ranges.postings in
+    omega (arith, lens, bytes, few)
+
 pub invariant_of-result : goal.invariant_of-result
-invariant_of-result g c = let all = (goal.at.invariant_of-result g c).After-blocks_at in index_kept (seen_header c.in_ok-header.header) (view g all)
-    (kept g all)
+invariant_of-result g c =
+    let all = (goal.at.invariant_of-result g c).After-blocks_at in
+    record {
+      index = index_kept (seen_header c.in_ok-header.header) (view g all) (kept g all);
+      places = subst (λ hs. ArePlaces hs c.in_ok-places.places) c.as_slice-4.ensures c.in_ok-places.ensures;
+    }
 
 pub returns-clause-ok : goal.returns-clause-ok
 returns-clause-ok g c = λ b t.

@@ -1,8 +1,17 @@
-use Rattle.std.proofs.Common.{ap, ◌∙◌}
-use Rattle.cs_base.specs.outside.Outside.{part}
-use Rattle.cs_file.proofs.BytesLemmas.{bytes_by}
+use Rattle.std.proofs.Common.{◌≡◌, Result, Ok, Err, sym, subst}
+use Rattle.std.specs.Prelude.{Option, IfErr}
+use Rattle.std.specs.Result.{IsErrAnd}
+use Rattle.cs_base.specs.declared.index.block.Broken.{Broken}
+use Rattle.cs_file.specs.Opening.{Refuses}
+use Rattle.cs_file.specs.declared.fault.OpenFault.{OpenFault}
 use Rattle.cs_file.proofs.reading.section.Goals as goal
 
-pub returns-in-Ok-clause-small : goal.returns-in-Ok-clause-small
-returns-in-Ok-clause-small g c = λ b t. bytes_by b c.deref.result.now c.args.at c.args.len
-    (c.deref.ensures.value ∙ c.in-Ok.ensures.ok b t ∙ ap (part b c.args.at) c.in_ok-bytes.ensures.long) c.are_bytes.ensures
+-- an answer that passes a fault on
+along : {T : Type 0} (o : Option Broken) (e : OpenFault) (r : Result T OpenFault) → Refuses o e → IsErrAnd r (λ x. x ≡ e) → IfErr r (Refuses o)
+along o e (Ok x) h is = tt
+along o e (Err x) h is = subst (Refuses o) (sym is) h
+
+pub returns-in_err-section_over-clause-err : goal.returns-in_err-section_over-clause-err
+returns-in_err-section_over-clause-err g c = λ o.
+    along o c.in_err-section_over.field-0.0 c.from_residual-in_err-section_over.result (c.in_err-section_over.ensures.err o)
+    c.from_residual-in_err-section_over.ensures.1

@@ -8,21 +8,21 @@ use Rattle.cs_file.proofs.index.Index.blocks.Goals as goal
 
 pub overflow_cast-result : goal.overflow_cast-result
 overflow_cast-result c =
-    let few = few_heads _ c.self.invariant in
-    let words = c.self.invariant.few_words in
+    let few = few_heads _ c.self.invariant.index in
+    let words = c.self.invariant.index.few_words in
     let same : length c.as_slice-heads.result.now ≡ length c.self.inside.heads = ap length c.as_slice-heads.ensures in
     omega (arith, few, words, same, c.partition_point-first.ensures.bound)
 
 pub overflow_cast-result-2 : goal.overflow_cast-result-2
 overflow_cast-result-2 c =
-    let few = few_heads _ c.self.invariant in
-    let words = c.self.invariant.few_words in
+    let few = few_heads _ c.self.invariant.index in
+    let words = c.self.invariant.index.few_words in
     let same : length c.as_slice-heads.result.now ≡ length c.self.inside.heads = ap length c.as_slice-heads.ensures in
     omega (arith, few, words, same, c.partition_point-last.ensures.bound)
 
 pub returns : goal.returns
 returns c =
-    let is = c.self.invariant in
+    let is = c.self.invariant.index in
     let lo = c.args.lo in
     let hi = c.args.hi in
     let first = c.partition_point-first.result in

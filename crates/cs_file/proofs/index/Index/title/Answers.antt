@@ -5,20 +5,20 @@ use Rattle.cs_file.proofs.index.Index.title.Goals as goal
 
 pub overflow_sub-to : goal.overflow_sub-to
 overflow_sub-to g c =
-    let span = title_span c.self.view_is c.self.invariant c.as_slice-offsets.ensures c.requires.in_range c.from.ensures in
+    let span = title_span c.self.view_is c.self.invariant.index c.as_slice-offsets.ensures c.requires.in_range c.from.ensures in
     let up = span.onward in
     omega (arith, up, c.from.ensures)
 
 pub read_over-requires : goal.read_over-requires
 read_over-requires g c =
-    let span = title_span c.self.view_is c.self.invariant c.as_slice-offsets.ensures c.requires.in_range c.from.ensures in
+    let span = title_span c.self.view_is c.self.invariant.index c.as_slice-offsets.ensures c.requires.in_range c.from.ensures in
     let within = span.within in
     record { within = λ b t. let fits = c.requires.fits b t in omega (arith, within, fits, c.from.ensures) }
 
 -- the bytes that were read are those of the title
 read : (g : given.Over) (c : goal.After-text_at g)
     → TitleRead c.args.self.now (g.S.Store.bytes c.args.store.now) c.args.doc (c.self.inside.titles_at + c.from.result) c.read_over.new.bytes.items
-read g c = title_found c.self.view_is c.self.invariant c.as_slice-offsets.ensures c.requires.in_range c.from.ensures c.in_ok-read_over.ensures.ok
+read g c = title_found c.self.view_is c.self.invariant.index c.as_slice-offsets.ensures c.requires.in_range c.from.ensures c.in_ok-read_over.ensures.ok
 
 pub returns-clause-ok : goal.returns-clause-ok
 returns-clause-ok g c = title_by (read g c) c.text_at.result c.text_at.ensures.exact
