@@ -7,7 +7,7 @@
 --   found_at, found_none           the first text that a test finds
 --   piece_passed, piece_refused       where each is UTF-8 the search goes on behind them, and where one isn't its place is that of all titles
 --   piece_bytes        the bytes of the titles up to the piece's end
-use Rattle.std.proofs.Common.{◌≡◌, ℕ, zero, suc, ◌+◌, ◌-◌, ◌<◌, ◌≤◌, Bool, true, false, List, [], ◌∷◌, length, get_or, take, drop, map, Option, Some, None}
+use Rattle.std.proofs.Common.{◌≡◌, ℕ, zero, suc, ◌+◌, ◌-◌, ◌<◌, ◌≤◌, Bool, true, false, List, [], length, get_or, take, drop, map, Option, Some, None}
 use Rattle.std.proofs.Common.{refl, sym, ap, subst, ◌∙◌, arith, length-take, length-drop, cond}
 use Rattle.std.specs.Prelude.{not, nat_lt}
 use Rattle.std.specs.List.{position, position_or_len}

@@ -1,15 +1,20 @@
--- A fault of the code as the judgement that it stands for. Nothing is said of want of memory.
+-- A fault of the code as the judgement that it stands for.
 --
---   IsHeadCause j e   e is the refusal of the judgement j
-use Rattle.std.specs.Prelude.{◌≡◌}
-use Rattle.cs_model_serving.specs.Heads.{Judgement, refused, not_head, with_body, other_path, other_method}
+--   IsSearch j        the judgement asks a search
+--   IsHeadCause j e   e is the refusal of the judgement j; want of memory comes of a search alone, whose parameters are copied
+use Rattle.std.specs.Prelude.{◌≡◌, Bool, List, ℕ}
+use Rattle.cs_model_serving.specs.Heads.{Judgement, asks, refused, not_head, with_body, other_path, other_method}
 use Rattle.cs_http.specs.declared.heads.HeadFault.{HeadFault}
 use Rattle.cs_http.specs.declared.heads.HeadFault.TheVariants as faults
 
--- want of memory has no cause in a head
+-- of any parameters, also of none
+abbrev pub IsSearch : Judgement → Type 0
+IsSearch j = (params : List ℕ) × (close : Bool) × (j ≡ asks params close)
+
+-- a refused head is never told as want of memory
 abbrev pub IsHeadCause : Judgement → HeadFault → Type 0
 IsHeadCause j faults.NotHead = j ≡ refused not_head
 IsHeadCause j faults.Body = j ≡ refused with_body
 IsHeadCause j (faults.Path close) = j ≡ refused (other_path close)
 IsHeadCause j (faults.Method close) = j ≡ refused (other_method close)
-IsHeadCause j faults.Memory = Unit {0}
+IsHeadCause j faults.Memory = IsSearch j

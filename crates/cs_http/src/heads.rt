@@ -61,7 +61,7 @@ impl From<AllocError> for HeadFault {
 pub fn head(alloc: Global, bytes: &[u8]) -> Result<Asked, HeadFault>
     ensures ok { IfOk result (λ a. judge bytes.now ≡ asks a.params a.close) }
 
-    // Each fault but want of memory is the judgement.
+    // Each fault but want of memory is the judgement; memory is asked for parameters alone, so a refused head never lacks it.
     ensures err { IfErr result (λ e. IsHeadCause (judge bytes.now) e) }
 {
     let mut spans = [EMPTY_HEADER_SPAN; MAX_HEAD_FIELDS];
