@@ -274,7 +274,7 @@ def script(dice, world, joins=0):
 
 def change(dice, world, documents):
     """An addition or a deletion, or a line that is near one."""
-    shape = dice.choices(["add", "delete", "near"], [5, 4, 1])[0]
+    shape = dice.choices(["add", "delete", "near"], [5, 4, 2])[0]
     if shape == "add":
         return b"add " + collection_line(dice, world)[:SCRIPT_LINE_BYTES - 4]
     if shape == "delete":
@@ -295,7 +295,7 @@ def changing_script(dice, world, documents):
         elif asked_before and dice.random() < 0.4:
             made.append(dice.choice(asked_before))
         else:
-            made.append(parameters(dice, world, dice.choice([0, 0, 2])))
+            made.append(parameters(dice, world, dice.choice([0, 0, 2])) if dice.random() < 0.8 else b"q=&h=100")
             asked_before.append(made[-1])
     if dice.random() < 0.03:
         made.insert(dice.randint(0, len(made)), dice.choice([b"add a\xff", b"add " + b"b " * 2047, b"add " + b"b " * 2046, b"add a" + b" b" * 2046]))

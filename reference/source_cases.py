@@ -6,7 +6,7 @@ from sources import WEIGHTS_LINE
 
 # ---- CSV ----
 
-OTHER_NAMES = ["year", "", "title ", " text", "titles", "tıtle", "ﬁtext", "id", "id", "Te\nxt", 'te"xt', "facet"]
+OTHER_NAMES = ["year", "", "title ", " text", "titles", "tıtle", "facetſ", "ﬅitle", "id", "id", "Te\nxt", 'te"xt', "facet"]
 BREAKS = ['"', '""', ",", "\n", "\r", "\r\n", "\t", " ", ";", '"\n', '",', ',"', '"x', "x\""]
 
 

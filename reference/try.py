@@ -132,9 +132,9 @@ def merge_case(dice):
     first, second = made_of(dice, "C"), made_of(dice, "D")
     made = {"A": first, "B": second if dice.random() < 0.1 else ("D", first[1], second[2])}
     words = ["merge", "A", dice.choice(["B"] * 9 + ["A"]), dice.choice(["N", "N", "N", "A", "B"])]
-    if dice.random() < 0.05:
-        name = dice.choice("AB")
-        return {"words": words, "files": {**files, name: damaged_file(dice, world)}, "made": {other: made[other] for other in made if other != name}}
+    for name in dice.choice(["A", "B", "AB"]) if dice.random() < 0.1 else "":
+        files[name] = damaged_file(dice, world)
+        del made[name]
     return {"words": words, "files": files, "made": made}
 
 
