@@ -26,7 +26,7 @@ import unicodedata
 
 import complete
 from basics import Ended
-from cases import TARGETS_TRIED, World, accepted, changing_script, collection, script, weights_line
+from cases import TARGETS_TRIED, World, accepted, changing_script, collection, encoded, script, weights_line
 from damage import damaged
 from documents import COLLECTION_BYTES, DOCUMENTS, DOCUMENT_WORDS, LINE_BYTES, collection_of, corpus_of
 from features import ALL, HAS
@@ -111,13 +111,16 @@ def jsonl_case(dice):
 
 
 def excerpts_case(dice):
-    """Texts that are longer than an excerpt, of few words that come often and of some that don't."""
-    world, filler = World(dice), dice.choice(["x", "b", "xy"])
+    """Texts that are longer than an excerpt, of few words that come often and of some that don't; two of these are asked together."""
+    world, filler, apart = World(dice), dice.choice(["x", "b", "xy"]), dice.choices(range(29, 34), k=4)
+    rare = [dice.choice(world.words) for _ in range(2)]
     made = [weights_line(dice)] * (dice.random() < 0.05) + collection(dice, world, 3).split(b"\n")
     for _ in range(dice.randint(1, 4)):
-        words = [dice.choice(world.words) if dice.random() < 0.15 else filler for _ in range(dice.choice([5, 30, 35, 70]))]
+        words = [dice.choice(world.words) if dice.random() < 0.15 else filler for _ in range(dice.choice([0, 5, 30]))]
+        words += [rare[0], *[filler] * dice.choice([0, 3, *apart]), rare[1], *[filler] * dice.choice([0, 3, 40]), *rare[:dice.choice([0, 0, 1])]]
         made.append("\t".join([" ".join(dice.choices(world.words, k=dice.randint(0, 2))), dice.choice(["", f"{world.names[0]}={world.words[0]}"]), " ".join(words)]).encode())
-    return {"words": ["excerpts", "C", "Q"], "files": {"C": b"\n".join(made), "Q": script(dice, world, dice.choice([0, 0, 0, 2]))}}
+    asked = script(dice, world, dice.choice([0, 0, 0, 2])) + b"\nq=" + encoded(dice, " ".join(rare)).encode()
+    return {"words": ["excerpts", "C", "Q"], "files": {"C": b"\n".join(made), "Q": asked}}
 
 
 def merge_case(dice):
