@@ -1,3 +1,4 @@
+pub mod ExcerptExamples
 pub mod OwnLemmas
 pub mod PartsLemmas
 pub mod RunsLemmas
