@@ -7,7 +7,7 @@ use Rattle.caseless.proofs.Computing.{caseless}
 use Rattle.ucd_category.proofs.Computing.{ucd_category}
 use Rattle.unicode.specs.GeneralCategory.{general_category}
 use Rattle.cs_base.specs.declared.content.doc.Doc.{Doc}
-use Rattle.cs_base.specs.declared.content.query.Atom.{Atom, Prefix, Exact, out-Atom, roll-Atom, out-roll-Atom}
+use Rattle.cs_base.specs.declared.content.query.Atom.{Prefix, Exact, out-Atom, out-roll-Atom}
 use Rattle.cs_base.specs.declared.content.query.Atom.TheOpen.{Atom-F}
 use Rattle.cs_base.specs.declared.content.query.Atom.TheVariants.{rolls-Prefix, rolls-Exact}
 use Rattle.cs_base.specs.declared.content.query.Chain.{out-roll-Chain}
@@ -21,17 +21,17 @@ use Rattle.cs_model.specs.Grammar.{query_of}
 use Rattle.cs_model.specs.KeyText.{norm}
 use Rattle.cs_model.specs.Words.{cut, is_word_char, words}
 use Rattle.cs_model_excerpts.specs.Excerpts.{excerpt_of, own_excerpt, positive, textual}
-use Rattle.cs_model_excerpts.specs.OwnWords.{either_marks, is_near, linked_marks, part_marks}
-use Rattle.cs_model_excerpts.specs.Runs.{covers, runs, shortest}
+use Rattle.cs_model_excerpts.specs.OwnWords.{either_marks, is_near_marked, linked_marks, part_marks}
+use Rattle.cs_model_excerpts.specs.Runs.{covers, text_runs, shortest}
 use lib.Utf8
 
 -- ---- runs
 -- the runs of three words: single words first
-runs-three : runs 3 ≡ (0, 0) ∷ (1, 1) ∷ (2, 2) ∷ (0, 1) ∷ (1, 2) ∷ (0, 2) ∷ []
+runs-three : text_runs 3 ≡ (0, 0) ∷ (1, 1) ∷ (2, 2) ∷ (0, 1) ∷ (1, 2) ∷ (0, 2) ∷ []
 runs-three = refl
 
 -- no words have no run
-runs-none : runs 0 ≡ []
+runs-none : text_runs 0 ≡ []
 runs-none = refl
 
 -- a shorter run goes before one that begins earlier
@@ -185,7 +185,7 @@ unfolding is_word_char encode_utf8
 asked-tied v = simp levels refl
 
 run-tied : excerpt_of second_words (textual (tied second_words)) ≡ codes "[ahead] [search]"
-unfolding covers is_near
+unfolding covers is_near_marked
 run-tied = refl
 
 -- a phrase is served by its last word, nearness by a word that is near enough, and a join by no word

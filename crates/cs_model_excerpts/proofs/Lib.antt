@@ -1,7 +1,7 @@
 pub mod ExcerptExamples
 pub mod OwnLemmas
-pub mod PartsLemmas
-pub mod RunsLemmas
+pub mod OwnRows
+pub mod PartMarks
 pub mod ServesLemmas
-pub mod TextLemmas
-pub mod WordLemmas
+pub mod ShortestRuns
+pub mod TextWords

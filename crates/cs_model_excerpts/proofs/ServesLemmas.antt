@@ -15,12 +15,12 @@ use Rattle.cs_base.specs.declared.content.query.Link.TheVariants.{Phrase, Near}
 use Rattle.cs_model.specs.Answers.{is_linked, linked_to}
 use Rattle.cs_model.specs.Corpus.{Corpus}
 use Rattle.cs_model_excerpts.specs.Excerpts.{at}
-use Rattle.cs_model_excerpts.specs.Runs.{is_marked}
-use Rattle.cs_model_excerpts.specs.OwnWords.{is_led, is_near, is_neighbour, linked_marks}
+use Rattle.cs_model_excerpts.specs.Runs.{has_mark_at}
+use Rattle.cs_model_excerpts.specs.OwnWords.{is_led, is_near_marked, is_neighbour, linked_marks}
 
 -- whether the text word at a position has a mark; t is the number of title words
 abbrev pub mark_at : ℕ → List Bool → ℕ → Bool
-mark_at t marks p = nat_le (t + BEHIND_TITLE) p && is_marked marks (p - (t + BEHIND_TITLE))
+mark_at t marks p = nat_le (t + BEHIND_TITLE) p && has_mark_at marks (p - (t + BEHIND_TITLE))
 
 -- of document d the rows behind the title are those that the marks say
 abbrev pub Shown : ℕ → ℕ → List Row → List Bool → Type 0
@@ -66,7 +66,7 @@ module _ {X : Type 0} where
       bool_false false h = refl
 
 -- ---- atoms
-pub no_marks : (ws : List (List ℕ)) (j : ℕ) → is_marked (map (λ x. false) ws) j ≡ false
+pub no_marks : (ws : List (List ℕ)) (j : ℕ) → has_mark_at (map (λ x. false) ws) j ≡ false
 no_marks [] j = refl
 no_marks (w ∷ ws) zero = refl
 no_marks (w ∷ ws) (suc j) = no_marks ws j
@@ -109,23 +109,23 @@ any_led link d p x (r ∷ rows) = (elim (at d p r) as (λ b. at d p r ≡ b → 
   | false ↦ λ e. any_led link d p x rows
 ]) refl
 
-marked_linked : (g : ℕ → Bool) (next : List Bool) (n j : ℕ) → is_marked (map (λ p. p.1 && g p.0) (enumerate_from n next)) j ≡ (is_marked next j && g (n + j))
+marked_linked : (g : ℕ → Bool) (next : List Bool) (n j : ℕ) → has_mark_at (map (λ p. p.1 && g p.0) (enumerate_from n next)) j ≡ (has_mark_at next j && g (n + j))
 marked_linked g [] n j = refl
 marked_linked g (m ∷ next) n zero = let same : n + 0 ≡ n = omega arith in ap (λ i. m && g i) (sym same)
-marked_linked g (m ∷ next) n (suc j) = let same : n + 1 + j ≡ n + suc j = omega arith in marked_linked g next (n + 1) j ∙ ap (λ i. is_marked next j && g i) same
+marked_linked g (m ∷ next) n (suc j) = let same : n + 1 + j ≡ n + suc j = omega arith in marked_linked g next (n + 1) j ∙ ap (λ i. has_mark_at next j && g i) same
 
 -- ---- a link leads to a text word exactly where its marks say
 phrase_test : (d n : ℕ) (y : Row) → 1 ≤ n → linked_by Phrase d (n + 1) y ≡ at d n y
 phrase_test d n y l = let same : (nat_lt 0 y.pos && (y.pos + 1 == n + 1)) ≡ (y.pos == n) = grind (arith, nat_tests) in ap (λ b. (y.doc == d) && b) same
 
 marks_before : (t j : ℕ) (kept : List Bool) → mark_at t kept (t + 8 + j) ≡ is_led Phrase kept j
-marks_before t zero kept = let early : nat_le (t + BEHIND_TITLE) (t + 8 + 0) ≡ false = grind (arith, nat_tests) in ap (λ b. b && is_marked kept (t + 8 + 0 - (t + BEHIND_TITLE))) early
+marks_before t zero kept = let early : nat_le (t + BEHIND_TITLE) (t + 8 + 0) ≡ false = grind (arith, nat_tests) in ap (λ b. b && has_mark_at kept (t + 8 + 0 - (t + BEHIND_TITLE))) early
 marks_before t (suc i) kept =
     let late : nat_le (t + BEHIND_TITLE) (t + 8 + suc i) ≡ true = grind (arith, nat_tests) in
     let there : t + 8 + suc i - (t + BEHIND_TITLE) ≡ i = omega arith in
     let back : suc i - 1 ≡ i = omega arith in
     let first : nat_lt 0 (suc i) ≡ true = grind (arith, nat_tests) in
-    ap (λ b. b && is_marked kept (t + 8 + suc i - (t + BEHIND_TITLE))) late ∙ ap (is_marked kept) there ∙ ap (is_marked kept) (sym back) ∙ ap (λ b. b && is_marked kept (suc i - 1)) (sym first)
+    ap (λ b. b && has_mark_at kept (t + 8 + suc i - (t + BEHIND_TITLE))) late ∙ ap (has_mark_at kept) there ∙ ap (has_mark_at kept) (sym back) ∙ ap (λ b. b && has_mark_at kept (suc i - 1)) (sym first)
 
 led_phrase : (d t : ℕ) (x : List Row) (kept : List Bool) (j : ℕ) → Shown d t x kept → list_any (linked_by Phrase d (t + BEHIND_TITLE + j)) x ≡ is_led Phrase kept j
 led_phrase d t x kept j shown =
@@ -135,17 +135,17 @@ led_phrase d t x kept j shown =
     ∙ shown (t + 8 + j) (omega arith) ∙ marks_before t j kept
 
 -- what a mark at a position says
-mark_found : (t : ℕ) (kept : List Bool) (q : ℕ) → mark_at t kept q ≡ true → (i : ℕ) × (q ≡ t + BEHIND_TITLE + i) × (is_marked kept i ≡ true)
+mark_found : (t : ℕ) (kept : List Bool) (q : ℕ) → mark_at t kept q ≡ true → (i : ℕ) × (q ≡ t + BEHIND_TITLE + i) × (has_mark_at kept i ≡ true)
 mark_found t kept q h =
-    let parts = and_parts (nat_le (t + BEHIND_TITLE) q) (is_marked kept (q - (t + BEHIND_TITLE))) h in
+    let parts = and_parts (nat_le (t + BEHIND_TITLE) q) (has_mark_at kept (q - (t + BEHIND_TITLE))) h in
     let late : t + BEHIND_TITLE ≤ q = grind (arith, nat_tests) in
     (q - (t + BEHIND_TITLE), omega (arith, late), parts.1)
 
-mark_there : (t : ℕ) (kept : List Bool) (i : ℕ) → is_marked kept i ≡ true → mark_at t kept (t + BEHIND_TITLE + i) ≡ true
+mark_there : (t : ℕ) (kept : List Bool) (i : ℕ) → has_mark_at kept i ≡ true → mark_at t kept (t + BEHIND_TITLE + i) ≡ true
 mark_there t kept i h =
     let late : nat_le (t + BEHIND_TITLE) (t + BEHIND_TITLE + i) ≡ true = grind (arith, nat_tests) in
     let there : t + BEHIND_TITLE + i - (t + BEHIND_TITLE) ≡ i = omega arith in
-    and_from (nat_le (t + BEHIND_TITLE) (t + BEHIND_TITLE + i)) (is_marked kept (t + BEHIND_TITLE + i - (t + BEHIND_TITLE))) late (ap (is_marked kept) there ∙ h)
+    and_from (nat_le (t + BEHIND_TITLE) (t + BEHIND_TITLE + i)) (has_mark_at kept (t + BEHIND_TITLE + i - (t + BEHIND_TITLE))) late (ap (has_mark_at kept) there ∙ h)
 
 -- what nearness of two positions says
 record NearBy (a b : ℕ) : Type 0 where
@@ -185,18 +185,18 @@ shifted_on : (s i j : ℕ) → NearBy i j → NearBy (s + i) (s + j)
 shifted_on s i j n = record { apart = let a = n.apart in grind (arith, nat_tests); from = omega (arith, n.from); to = omega (arith, n.to) }
 
 -- the search of the words near a place finds exactly a marked one that is near
-near_there : (kept : List Bool) (j i : ℕ) → is_marked kept i ≡ true → NearBy i j → is_near kept j ≡ true
-unfolding is_near
+near_there : (kept : List Bool) (j i : ℕ) → has_mark_at kept i ≡ true → NearBy i j → is_near_marked kept j ≡ true
+unfolding is_near_marked
 near_there kept j i m n =
     let at_i : j - MAX_DISTANCE + (i - (j - MAX_DISTANCE)) ≡ i = omega (arith, n.to) in
     let few : i - (j - MAX_DISTANCE) < 2 * MAX_DISTANCE + 1 = omega (arith, n.from) in
     let item : get_or (range_with_len (j - MAX_DISTANCE) (2 * MAX_DISTANCE + 1)) (i - (j - MAX_DISTANCE)) 0 ≡ i = get_or-range_with_len (j - MAX_DISTANCE) (2 * MAX_DISTANCE + 1) (i - (j - MAX_DISTANCE)) 0 few ∙ at_i in
     let close : nat_le i (j + MAX_DISTANCE) ≡ true = let f = n.from in grind (arith, nat_tests) in
-    let neighbour : is_neighbour kept j i ≡ true = and_from (not (i == j)) _ (ap not n.apart) (and_from (nat_le i (j + MAX_DISTANCE)) (is_marked kept i) close m) in
+    let neighbour : is_neighbour kept j i ≡ true = and_from (not (i == j)) _ (ap not n.apart) (and_from (nat_le i (j + MAX_DISTANCE)) (has_mark_at kept i) close m) in
     list_any_at (is_neighbour kept j) (range_with_len (j - MAX_DISTANCE) (2 * MAX_DISTANCE + 1)) (i - (j - MAX_DISTANCE)) 0 (let size = length-range_with_len (j - MAX_DISTANCE) (2 * MAX_DISTANCE + 1) in omega (arith, size, few)) (ap (is_neighbour kept j) item ∙ neighbour)
 
-near_found : (kept : List Bool) (j : ℕ) → is_near kept j ≡ true → (i : ℕ) × (is_marked kept i ≡ true) × NearBy i j
-unfolding is_near
+near_found : (kept : List Bool) (j : ℕ) → is_near_marked kept j ≡ true → (i : ℕ) × (has_mark_at kept i ≡ true) × NearBy i j
+unfolding is_near_marked
 near_found kept j h =
     let a = Any-from_list_any (is_neighbour kept j) (range_with_len (j - MAX_DISTANCE) (2 * MAX_DISTANCE + 1)) h in
     let n = a.0 in
@@ -204,13 +204,13 @@ near_found kept j h =
     let size = length-range_with_len (j - MAX_DISTANCE) (2 * MAX_DISTANCE + 1) in
     let item : i ≡ j - MAX_DISTANCE + n = sym a.3 ∙ get_or-range_with_len (j - MAX_DISTANCE) (2 * MAX_DISTANCE + 1) n i (omega (arith, a.2, size)) in
     let b = and_parts (not (i == j)) _ a.4 in
-    let c = and_parts (nat_le i (j + MAX_DISTANCE)) (is_marked kept i) b.1 in
+    let c = and_parts (nat_le i (j + MAX_DISTANCE)) (has_mark_at kept i) b.1 in
     (i, c.1, record { apart = not_true (i == j) b.0; from = let l = c.0 in grind (arith, nat_tests); to = omega (arith, item) })
 
 led_near : (d t : ℕ) (x : List Row) (kept : List Bool) (j : ℕ) → Shown d t x kept → list_any (linked_by Near d (t + BEHIND_TITLE + j)) x ≡ is_led Near kept j
 led_near d t x kept j shown =
     let p = t + BEHIND_TITLE + j in
-    bool_same (list_any (linked_by Near d p) x) (is_near kept j)
+    bool_same (list_any (linked_by Near d p) x) (is_near_marked kept j)
     (λ h.
     let a = Any-from_list_any (linked_by Near d p) x h in
     let y = a.1 in
@@ -234,12 +234,12 @@ led_is Near = led_near
 pub linked_shown : (link : Link) (d t : ℕ) (x rows : List Row) (kept next : List Bool) → Shown d t x kept → Shown d t rows next → Shown d t (linked_to link x rows) (linked_marks link kept next)
 linked_shown link d t x rows kept next a b p l =
     any_filter (at d p) (λ r. list_any (is_linked link r) x) rows ∙ any_led link d p x rows ∙ ap (λ m. m && list_any (linked_by link d p) x) (b p l)
-    ∙ (elim (nat_le (t + BEHIND_TITLE) p) as (λ c. nat_le (t + BEHIND_TITLE) p ≡ c → ((c && is_marked next (p - (t + BEHIND_TITLE))) && list_any (linked_by link d p) x) ≡ (c && is_marked (linked_marks link kept next) (p - (t + BEHIND_TITLE)))) [
+    ∙ (elim (nat_le (t + BEHIND_TITLE) p) as (λ c. nat_le (t + BEHIND_TITLE) p ≡ c → ((c && has_mark_at next (p - (t + BEHIND_TITLE))) && list_any (linked_by link d p) x) ≡ (c && has_mark_at (linked_marks link kept next) (p - (t + BEHIND_TITLE)))) [
       | true ↦ λ e.
           let late : t + BEHIND_TITLE ≤ p = grind (arith, nat_tests) in
           let j = p - (t + BEHIND_TITLE) in
           let same : p ≡ t + BEHIND_TITLE + j = omega (arith, late) in
           let whole : 0 + j ≡ j = omega arith in
-          ap (λ m. is_marked next j && m) (ap (λ n. list_any (linked_by link d n) x) same ∙ led_is link d t x kept j a) ∙ ap (λ i. is_marked next j && is_led link kept i) (sym whole) ∙ sym (marked_linked (is_led link kept) next 0 j)
+          ap (λ m. has_mark_at next j && m) (ap (λ n. list_any (linked_by link d n) x) same ∙ led_is link d t x kept j a) ∙ ap (λ i. has_mark_at next j && is_led link kept i) (sym whole) ∙ sym (marked_linked (is_led link kept) next 0 j)
       | false ↦ λ e. refl
     ]) refl

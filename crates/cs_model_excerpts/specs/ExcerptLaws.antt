@@ -2,11 +2,11 @@
 --
 -- Source: none; they speak of the definitions.
 --
---   HasDocument k w d doc   the rows of document d of the corpus k are those of `doc` with the scores w
---   MarksAreOwn             which text words serve a part depends on the part and the document's rows alone
---   ExcerptsAreOwn          so does the excerpt
---   CorporaHaveOwnWords     a corpus of documents has the rows of each of them
---   ShortestAreFirst        the run that is shown is the shortest, and of those of one length the first
+--   HasDocument k w d doc    the rows of document d of the corpus k are those of `doc` with the scores w
+--   MarksAreOwn              which text words serve a part depends on the part and the document's rows alone
+--   ExcerptsAreOwn           so does the excerpt
+--   CorporaHaveOwnWords      a corpus of documents has the rows of each of them
+--   ShortestAreFirst         the run that is shown is the shortest, and of those of one length the first
 use Rattle.std.specs.Prelude.{◌≡◌, ℕ, ◌<◌, List, length, filter, Bool, Option, get_or}
 use Rattle.cs_base.specs.content.Members.{members_in}
 use Rattle.cs_base.specs.content.Orders.{by_row}

@@ -3,21 +3,20 @@
 --   StandsFor s c       a state of a live corpus is a corpus under changes
 --   courses_change      a course makes its changes of what it stands for
 --   courses_are_changes, courses_go_on     the laws
-use Rattle.std.proofs.Common.{◌≡◌, ℕ, suc, ◌+◌, ◌⊎◌, inl, inr, max, List, [], ◌∷◌, ◌++◌, map, length, length-append, append_assoc, refl, sym, ◌∙◌, ap, subst, arith}
+use Rattle.std.proofs.Common.{◌≡◌, ℕ, suc, ◌+◌, max, List, [], ◌∷◌, ◌++◌, map, length, length-append, append_assoc, refl, sym, ◌∙◌, ap, subst, arith}
 use Rattle.std.specs.Prelude.{fold}
 use Rattle.std.specs.List.{enumerate_from}
 use Rattle.std.specs.FinMap as finmap
 use Rattle.std.proofs.lemmas.List.{append-nil}
 use Rattle.cs_base.specs.content.Members.{members_in}
 use Rattle.cs_base.specs.content.Orders.{by_row}
-use Rattle.cs_base.specs.declared.content.doc.Doc.{Doc}
 use Rattle.cs_model.specs.Corpus.{Corpus, by_number, doc_rows}
 use Rattle.cs_model.specs.Scores.{SCORES, Scores}
-use Rattle.cs_model_changes.specs.Changes.{Change, Changing, added, applied, deleted, first_behind, now, started}
+use Rattle.cs_model_changes.specs.Changes.{Change, Changing, added, applied, deleted, first_behind, started}
 use Rattle.cs_model_index.proofs.ImageLemmas.{titles_listed}
-use Rattle.cs_model_live.specs.Courses.{Course, CoursesAreChanges, IsAfter, IsStep, own, failed, additions_in, made, step_changes}
+use Rattle.cs_model_live.specs.Courses.{Course, IsChanged, IsLineStep, own, failed, additions_in, made, step_changes}
 use Rattle.cs_model_live.specs.LiveLines.{Outcome, changes_of, done, outcome, outcome_state, said}
-use Rattle.cs_model_live.specs.LiveStates.{LiveState, begun, changed, next_doc}
+use Rattle.cs_model_live.specs.LiveStates.{LiveState, before_changes, changed, next_doc}
 
 -- ---- courses go on
 pub courses_go_on : (w : Scores) (k : Corpus) (s m e : LiveState) (ls ks ts us : List (List ℕ)) → Course w k s ls ts m → Course w k m ks us e → Course w k s (ls ++ ks) (ts ++ us) e
@@ -39,7 +38,7 @@ numbered-length : {X : Type 0} (a : ℕ) (xs : List X) → length (enumerate_fro
 numbered-length a [] = refl
 numbered-length a (x ∷ xs) = ap suc (numbered-length (a + 1) xs)
 
-first_next : (k : Corpus) (titles : List (List ℕ)) → by_number titles ≡ k.titles → next_doc k (begun k) ≡ (started k).next
+first_next : (k : Corpus) (titles : List (List ℕ)) → by_number titles ≡ k.titles → next_doc k (before_changes k) ≡ (started k).next
 first_next k titles h =
     let behind : first_behind (finmap.keys (by_number titles)) ≡ length titles = ap (λ es. first_behind (map (λ e. e.0) es)) (titles_listed titles) ∙ omega (arith, behind_from 0 titles) in
     let many : finmap.len (by_number titles) ≡ length titles = finmap.len-entries (by_number titles) ∙ ap length (titles_listed titles) ∙ numbered-length 0 titles in
@@ -64,7 +63,7 @@ fold_one : (k : Corpus) (s : LiveState) (c : Changing) (o : Outcome) → StandsF
 fold_one k s c (said t) h = h
 fold_one k s c (done x) h = change_stands k s c x h
 
-step_stands : (k : Corpus) (s : LiveState) (l t : List ℕ) (e : LiveState) (c : Changing) (h : IsStep SCORES k s l t e) → StandsFor k s c → StandsFor k e (fold applied c (step_changes SCORES k s l t e h))
+step_stands : (k : Corpus) (s : LiveState) (l t : List ℕ) (e : LiveState) (c : Changing) (h : IsLineStep SCORES k s l t e) → StandsFor k s c → StandsFor k e (fold applied c (step_changes SCORES k s l t e h))
 step_stands k s l t e c (own a b) h = subst (λ x. StandsFor k x (fold applied c (changes_of (outcome SCORES k s l)))) (sym b) (fold_one k s c (outcome SCORES k s l) h)
 step_stands k s l t e c (failed a b) h = subst (λ x. StandsFor k x c) (sym b) h
 
@@ -105,7 +104,7 @@ both_count s m e a b h i = record {
   additions = i.additions ∙ ap (λ l. l ++ additions_in b) h.additions ∙ append_assoc s.additions (additions_in a) (additions_in b) ∙ ap (λ l. s.additions ++ l) (sym (additions_behind a b));
 }
 
-step_counts : (k : Corpus) (s : LiveState) (l t : List ℕ) (e : LiveState) (h : IsStep SCORES k s l t e) → Counts s (step_changes SCORES k s l t e h) e
+step_counts : (k : Corpus) (s : LiveState) (l t : List ℕ) (e : LiveState) (h : IsLineStep SCORES k s l t e) → Counts s (step_changes SCORES k s l t e h) e
 step_counts k s l t e (own a b) = subst (Counts s (changes_of (outcome SCORES k s l))) (sym b) (one_counts k s (outcome SCORES k s l))
 step_counts k s l t e (failed a b) = subst (Counts s []) (sym b) (no_counts s)
 
@@ -115,11 +114,11 @@ course_counts k s [] (t ∷ ts) e h = absurd h
 course_counts k s (l ∷ ls) [] e h = absurd h
 course_counts k s (l ∷ ls) (t ∷ ts) e h = both_count s h.0 e (step_changes SCORES k s l t h.0 h.1) (made SCORES k h.0 ls ts e h.2) (step_counts k s l t h.0 h.1) (course_counts k h.0 ls ts e h.2)
 
-pub courses_are_changes : (k : Corpus) (titles : List (List ℕ)) (ls ts : List (List ℕ)) (e : LiveState) → by_number titles ≡ k.titles → (c : Course SCORES k (begun k) ls ts e) → IsAfter k (made SCORES k (begun k) ls ts e c) e
+pub courses_are_changes : (k : Corpus) (titles : List (List ℕ)) (ls ts : List (List ℕ)) (e : LiveState) → by_number titles ≡ k.titles → (c : Course SCORES k (before_changes k) ls ts e) → IsChanged k (made SCORES k (before_changes k) ls ts e c) e
 courses_are_changes k titles ls ts e h c =
-    let counts = course_counts k (begun k) ls ts e c in
+    let counts = course_counts k (before_changes k) ls ts e c in
     record {
-      corpus = (course_stands k (begun k) ls ts e (started k) c (record { corpus = refl; next = first_next k titles h })).corpus;
+      corpus = (course_stands k (before_changes k) ls ts e (started k) c (record { corpus = refl; next = first_next k titles h })).corpus;
       changes = let n = counts.changes in omega (arith, n);
       additions = counts.additions;
     }

@@ -1,5 +1,5 @@
 -- Worked lines of a live corpus.
-use Rattle.std.proofs.Common.{◌≡◌, ℕ, ◌+◌, true, false, Bool, cond, List, [], ◌∷◌, ◌++◌, length, map, inl, inr, refl, sym, ap, ◌∙◌, codes}
+use Rattle.std.proofs.Common.{◌≡◌, ℕ, ◌+◌, true, false, cond, List, [], ◌∷◌, ◌++◌, length, map, inl, refl, sym, ap, ◌∙◌, codes}
 use Rattle.std.specs.Prelude.{Option, Some, None, flat_map, if◌then◌else◌, nat_le, nat_lt}
 use Rattle.std.specs.Fmt.{digits}
 use Rattle.std.specs.List.{enumerate_from}
@@ -18,7 +18,7 @@ use Rattle.cs_base.proofs.OrdersLemmas.{by_row_total}
 use Rattle.cs_base.specs.content.Orders.{by_row}
 use Rattle.cs_base.specs.declared.content.doc.Doc.{Doc}
 use Rattle.cs_base.specs.declared.content.doc.Row.{Row}
-use Rattle.cs_model.proofs.AnswersExamples.{titles-are, titles-found, worked, worked_entries, worked_rows, worked_titles}
+use Rattle.cs_model.proofs.AnswersExamples.{titles-are, titles-found, worked, worked_rows, worked_titles}
 use Rattle.cs_model.proofs.ListedMembers.{listed, members-listed}
 use Rattle.cs_base.specs.content.Members.{members_in}
 use Rattle.cs_base.specs.declared.content.limits.TheConstants.{MAX_DOCS, MAX_ROWS, MAX_WORDS}
@@ -31,7 +31,7 @@ use Rattle.cs_model.specs.Scores.{SCORES, Scores}
 use Rattle.cs_model.specs.Words.{cut, is_word_char, words}
 use Rattle.cs_model_changes.specs.Changes.{added, deleted}
 use Rattle.cs_model_live.specs.LiveLines.{absent_text, added_text, by_refusals, change_text, deleted_text, document_text, done, full_text, outcome, outcome_state, outcome_text, said}
-use Rattle.cs_model_live.specs.LiveStates.{LiveState, begun, changed, full_refusal, met_rows}
+use Rattle.cs_model_live.specs.LiveStates.{LiveState, before_changes, changed, full_refusal, met_rows}
 use Rattle.cs_model_live.specs.Courses.{Course, failed, own}
 use Rattle.cs_model_live.specs.LiveStates as live
 use lib.Utf8
@@ -53,7 +53,7 @@ texts-absent : absent_text ≡ codes "{\"error\":\"no document\"}"
 unfolding error_text escape_byte
 texts-absent = refl
 
-texts-full : full_text live.words ≡ codes "{\"error\":\"full\",\"which\":\"words\"}"
+texts-full : full_text live.full_words ≡ codes "{\"error\":\"full\",\"which\":\"words\"}"
 unfolding full_text escape_byte
 texts-full = refl
 
@@ -104,24 +104,24 @@ rows-four =
     ∙ members-listed by_row by_row_total four_rows
 
 abbrev by_words : List Row → List (List ℕ) → Option live.Full
-by_words rs ws = first_reason (unless (nat_le (length rs) MAX_ROWS) live.rows ∷ unless (nat_le (length ws) MAX_WORDS) live.words ∷ [])
+by_words rs ws = first_reason (unless (nat_le (length rs) MAX_ROWS) live.full_rows ∷ unless (nat_le (length ws) MAX_WORDS) live.full_words ∷ [])
 
 abbrev room_of : ℕ → List Row → Option live.Full
-room_of n rs = first_reason (unless (nat_lt n MAX_DOCS) live.documents ∷ unless (nat_le (length rs) MAX_ROWS) live.rows ∷ unless (nat_le (length (distinct_words rs)) MAX_WORDS) live.words ∷ [])
+room_of n rs = first_reason (unless (nat_lt n MAX_DOCS) live.full_docs ∷ unless (nat_le (length rs) MAX_ROWS) live.full_rows ∷ unless (nat_le (length (distinct_words rs)) MAX_WORDS) live.full_words ∷ [])
 
-room : full_refusal SCORES worked (begun worked) types ≡ None
+room : full_refusal SCORES worked (before_changes worked) types ≡ None
 room =
     ap (λ n. room_of (n + 0) (met_rows SCORES worked (types ∷ []))) three
     ∙ ap (room_of 3) rows-four
     ∙ ap (by_words (listed by_row four_rows)) (members-listed (slice_cmp nat_cmp) nat_list_cmp_total (map (λ r. r.word) (listed by_row four_rows)))
 
 -- a document is added
-adds-types : outcome SCORES worked (begun worked) (codes "add types of types") ≡ done (added types)
+adds-types : outcome SCORES worked (before_changes worked) (codes "add types of types") ≡ done (added types)
 unfolding is_utf8 words norm chars cut caseless is_word_char general_category ucd_category lib.Utf8.encode
 adds-types = ap (λ f. by_refusals None f types) room
 
 abbrev one_more : LiveState
-one_more = changed SCORES worked (begun worked) (added types)
+one_more = changed SCORES worked (before_changes worked) (added types)
 
 there : contains_key one_more.corpus.titles 2 ≡ true
 there =
@@ -151,9 +151,17 @@ abbrev texts : List (List ℕ)
 texts = codes "{\"doc\":3,\"state\":1}" ∷ memory_text ∷ codes "{\"state\":2}" ∷ codes "{\"error\":\"no document\"}" ∷ []
 
 -- where memory runs out the state stays, and the line may come again
-course-worked : Course SCORES worked (begun worked) lines texts one_less
+course-worked : Course SCORES worked (before_changes worked) lines texts one_less
 course-worked = (
-    one_more, own (sym (ap (outcome_text worked (begun worked)) adds-types ∙ ap (λ n. added_text (n + 0) 1) three ∙ texts-doc)) (sym (ap (outcome_state SCORES worked (begun worked)) adds-types)),
-    (one_more, failed (inl refl) refl,
-    (one_less, own (sym (ap (outcome_text worked one_more) deletes-two ∙ texts-state)) (sym (ap (outcome_state SCORES worked one_more) deletes-two)),
-    (one_less, own (sym (ap (outcome_text worked one_less) deletes-again ∙ texts-absent)) (sym (ap (outcome_state SCORES worked one_less) deletes-again)), refl))))
+  one_more,
+  own (sym (ap (outcome_text worked (before_changes worked)) adds-types ∙ ap (λ n. added_text (n + 0) 1) three ∙ texts-doc)) (sym (ap (outcome_state SCORES worked (before_changes worked)) adds-types)),
+  (
+    one_more,
+    failed (inl refl) refl,
+    (
+      one_less,
+      own (sym (ap (outcome_text worked one_more) deletes-two ∙ texts-state)) (sym (ap (outcome_state SCORES worked one_more) deletes-two)),
+      (one_less, own (sym (ap (outcome_text worked one_less) deletes-again ∙ texts-absent)) (sym (ap (outcome_state SCORES worked one_less) deletes-again)), refl),
+    ),
+  ),
+)

@@ -10,7 +10,7 @@
 --   added_data d m              {"doc":D,"state":M}: the document has the number D, behind M changes
 --   deleted_data m              {"state":M}: it is deleted, behind M changes
 --   change_text, absent_text    {"error":"change"}: nothing is added, or no number is there; {"error":"no document"}
---   document_text r, full_text f, added_text d m, deleted_text m      the texts of the others
+--   document_text r, full_text f, added_text d m, deleted_text m    the texts of the others
 --   Outcome                     said, a text alone; or done, a change
 --   by_refusals r f doc         what becomes of a document with these refusals
 --   added_outcome w k s l       what becomes of a document that is added
@@ -33,7 +33,7 @@ use Rattle.cs_model.specs.Outputs.{text}
 use Rattle.cs_model.specs.Parameters.{has_digits, number_of}
 use Rattle.cs_model.specs.Scores.{Scores}
 use Rattle.cs_model_changes.specs.Changes.{Change, added, deleted}
-use Rattle.cs_model_live.specs.LiveStates.{Full, LiveState, changed, documents, full_refusal, next_doc, rows, words}
+use Rattle.cs_model_live.specs.LiveStates.{Full, LiveState, changed, full_docs, full_refusal, full_rows, full_words, next_doc}
 use Rattle.cs_model_live.specs.declared.limits.TheConstants.{MAX_DOC_DIGITS}
 
 -- ---- lines
@@ -62,9 +62,9 @@ document_data rule = object (member (codes "error") (string (codes "document")) 
 
 -- the word of what there is no room for
 abbrev pub full_word : Full → List ℕ
-full_word documents = codes "documents"
-full_word rows = codes "rows"
-full_word words = codes "words"
+full_word full_docs = codes "documents"
+full_word full_rows = codes "rows"
+full_word full_words = codes "words"
 
 -- a document for which there is no room
 abbrev pub full_data : Full → Data

@@ -4,13 +4,13 @@
 --
 -- The scores of rows are an argument, `w`, and so is the corpus at the beginning, `k`, whose documents are numbered from 0 without gaps.
 --
---   LiveState             the corpus now, how many changes there were, and all documents added so far
---   begun k               k before the first change
---   next_doc k s          the number that the next document gets
---   changed w k s c       s after the change c
---   met_rows w k docs     the rows of k and of added documents, also of those that were deleted since
---   Full                  what there is no more room for: documents, rows or words
---   full_refusal w k s d  what there is no room for where the document d is added; None where it may be
+--   LiveState               the corpus now, how many changes there were, and all documents added so far
+--   before_changes k        k before the first change
+--   next_doc k s            the number that the next document gets
+--   changed w k s c         s after the change c
+--   met_rows w k docs       the rows of k and of added documents, also of those that were deleted since
+--   Full                    what there is no more room for: documents, rows or words
+--   full_refusal w k s d    what there is no room for where the document d is added; None where it may be
 use Rattle.std.specs.Prelude.{ℕ, ◌+◌, not, nat_le, nat_lt, List, [], ◌∷◌, ◌++◌, filter, length, Option}
 use Rattle.std.specs.List.{enumerate_from, flat_map}
 use Rattle.std.specs.FinMap as map
@@ -32,8 +32,8 @@ pub record LiveState : Type 0 where
   pub additions : List Doc
 
 -- before the first change
-abbrev pub begun : Corpus → LiveState
-begun k = record { corpus = k; changes = 0; additions = [] }
+abbrev pub before_changes : Corpus → LiveState
+before_changes k = record { corpus = k; changes = 0; additions = [] }
 
 -- the documents of k and those added so far are so many, each number below having been given to one of them
 abbrev pub next_doc : Corpus → LiveState → ℕ
@@ -59,15 +59,15 @@ met_rows w k docs = members_in by_row (k.rows ++ flat_map (doc_rows w) (enumerat
 
 -- what there is no more room for
 pub data Full : Type 0 where
-  documents : Full
-  rows : Full
-  words : Full
+  full_docs : Full
+  full_rows : Full
+  full_words : Full
 
 -- what there is no room for where this document is added: first documents, then rows, then distinct words, those of deleted documents counted; None where
 -- there is room for all
 abbrev pub full_refusal : Scores → Corpus → LiveState → Doc → Option Full
 full_refusal w k s doc = first_reason (
-    unless (nat_lt (next_doc k s) MAX_DOCS) documents
-    ∷ unless (nat_le (length (met_rows w k (s.additions ++ doc ∷ []))) MAX_ROWS) rows
-    ∷ unless (nat_le (length (distinct_words (met_rows w k (s.additions ++ doc ∷ [])))) MAX_WORDS) words
+    unless (nat_lt (next_doc k s) MAX_DOCS) full_docs
+    ∷ unless (nat_le (length (met_rows w k (s.additions ++ doc ∷ []))) MAX_ROWS) full_rows
+    ∷ unless (nat_le (length (distinct_words (met_rows w k (s.additions ++ doc ∷ [])))) MAX_WORDS) full_words
     ∷ [])

@@ -4,15 +4,15 @@
 --
 -- The scores that an image's rows have by their column are an argument beside it.
 --
---   MergeRefusal                why images aren't merged: targets_differ, with both; weights_differ, with both; too_many_docs,
+--   MergeRefusal             why images aren't merged: targets_differ, with both; weights_differ, with both; too_many_docs,
 --                               titles_too_large, too_many_rows, too_many_words
---   are_same v w                two images have the same scores
---   words_of_both a b           the distinct words of both, by bytes
---   merge_refusal v a w b       the first refusal; None where the images may be merged
---   merge_words r               why images aren't merged, in words
---   IsMerge a b i               i is the image of the corpus in which those of a and b are joined, for their target
---   MergesAreOne                the law that no images have two merges
---   MergesAreJoined             the law that the merge of the images of lists of documents is the image of both lists
+--   are_same v w             two images have the same scores
+--   words_of_both a b        the distinct words of both, by bytes
+--   merge_refusal v a w b    the first refusal; None where the images may be merged
+--   merge_words r            why images aren't merged, in words
+--   IsMerge a b i            i is the image of the corpus in which those of a and b are joined, for their target
+--   MergesAreOne             the law that no images have two merges
+--   MergesAreJoined          the law that the merge of the images of lists of documents is the image of both lists
 use Rattle.std.specs.Prelude.{◌≡◌, ℕ, ◌+◌, ◌^◌, Bool, ◌==◌, ◌&&◌, nat_le, nat_lt, List, [], ◌∷◌, ◌++◌, length, Option, codes}
 use Rattle.std.specs.Fmt.{decimal}
 use Rattle.std.specs.Ordering.{nat_cmp}

@@ -1,3 +1,3 @@
-pub mod LinesLemmas
 pub mod SourceExamples
+pub mod SourceLines
 pub mod TranslatedLemmas

@@ -2,13 +2,13 @@
 --
 -- Source: this engine's own.
 --
---   ImportRefusal             of_lines, the refusal of the translated collection; or of_line, a bad line of the source
---   flat_refusal f            the first refusal of a translation: that of its documents, else its bad line, else that of its rows
---   source_refusal form b     too large, else that of the translation; None where the source is accepted
---   earlier r                 the refusal r, with the number of the line before
---   why_words w               why a line is bad, in words
---   csv_words r               a refusal of a table in words, by the numbers of its records
---   jsonl_words r             a refusal of JSON lines in words, by the numbers of its lines
+--   ImportRefusal            of_lines, the refusal of the translated collection; or of_line, a bad line of the source
+--   flat_refusal f           the first refusal of a translation: that of its documents, else its bad line, else that of its rows
+--   source_refusal form b    too large, else that of the translation; None where the source is accepted
+--   earlier r                the refusal r, with the number of the line before
+--   why_words w              why a line is bad, in words
+--   csv_words r              a refusal of a table in words, by the numbers of its records
+--   jsonl_words r            a refusal of JSON lines in words, by the numbers of its lines
 use Rattle.std.specs.Prelude.{ℕ, ◌-◌, ◌&&◌, nat_le, if◌then◌else◌, List, [], ◌∷◌, length, Option, Some, codes}
 use Rattle.std.specs.Option.{option_map}
 use Rattle.cs_base.specs.declared.content.limits.TheConstants.{MAX_COLLECTION_BYTES}

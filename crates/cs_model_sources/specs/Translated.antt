@@ -2,12 +2,12 @@
 --
 -- Source: this engine's own.
 --
---   is_break b                     whether the byte is a tab, LF or CR
---   flat_byte b                    a space for such a byte, and any other byte as it is
---   flat s                         the bytes s with each such byte replaced by a space
---   columns_of title facets text   the flat columns with a tab between each two
---   translated title facets text   the line of a document with these columns, its LF included
---   weights_line                   the line that every translation begins with, its LF included
+--   is_break b                      whether the byte is a tab, LF or CR
+--   flat_byte b                     a space for such a byte, and any other byte as it is
+--   flat s                          the bytes s with each such byte replaced by a space
+--   columns_of title facets text    the flat columns with a tab between each two
+--   translated title facets text    the line of a document with these columns, its LF included
+--   weights_line                    the line that every translation begins with, its LF included
 use Rattle.std.specs.Prelude.{ℕ, Bool, ◌==◌, ◌||◌, if◌then◌else◌, List, [], ◌∷◌, ◌++◌, map, codes}
 use Rattle.cs_base.specs.content.Bytes.{carriage_return, line_feed, space, tab}
 

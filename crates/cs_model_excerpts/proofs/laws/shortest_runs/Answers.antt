@@ -1,4 +1,4 @@
-use Rattle.cs_model_excerpts.proofs.RunsLemmas.{shortest_first}
+use Rattle.cs_model_excerpts.proofs.ShortestRuns.{shortest_first}
 use Rattle.cs_model_excerpts.proofs.laws.shortest_runs.Goals as goal
 
 pub returns : goal.returns

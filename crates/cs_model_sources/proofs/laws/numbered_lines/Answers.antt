@@ -1,4 +1,4 @@
-use Rattle.cs_model_sources.proofs.LinesLemmas.{lines_counted, records_counted}
+use Rattle.cs_model_sources.proofs.SourceLines.{lines_counted, records_counted}
 use Rattle.cs_model_sources.proofs.laws.numbered_lines.Goals as goal
 
 pub returns : goal.returns

@@ -23,8 +23,8 @@ use Rattle.cs_model.specs.Answers.{PartRows, LinkedRows, atom_rows, begins, chai
 use Rattle.cs_model.specs.Collection.{named}
 use Rattle.cs_model.specs.Corpus.{Corpus}
 use Rattle.cs_model_excerpts.specs.Excerpts.{at}
-use Rattle.cs_model_excerpts.specs.Runs.{is_marked}
-use Rattle.cs_model_excerpts.specs.OwnWords.{atom_marks, chain_marks, either_marks, is_led, level_marks, linked_marks, part_marks, with_link}
+use Rattle.cs_model_excerpts.specs.Runs.{has_mark_at}
+use Rattle.cs_model_excerpts.specs.OwnWords.{atom_marks, chain_marks, either_marks, is_led, level_marks, linked_marks, part_marks, led_marks}
 use Rattle.cs_model_excerpts.proofs.ServesLemmas.{HasText, Shown, and-false, join_shown, linked_shown, mark_at, no_marks, words_shown}
 
 -- no text word begins as facet words do
@@ -51,12 +51,12 @@ module _ (k : Corpus) (d t : ℕ) (ws : List (List ℕ)) (has : HasText k d t ws
   atom_shown : (a : Atom) → Shown d t (rows_of_atom k a) (atom_marks ws a)
   atom_shown a = subst (λ b. Shown d t (rows_of_atom k b) (atom_marks ws a)) (roll-out-Atom a) (rolled_shown (out-Atom a))
 
-  links_shown : (ls : List Linked) (x : List Row) (kept : List Bool) → Shown d t x kept → Shown d t (chained x (map (rows_of_linked k) ls)) (fold (with_link ws) kept ls)
+  links_shown : (ls : List Linked) (x : List Row) (kept : List Bool) → Shown d t x kept → Shown d t (chained x (map (rows_of_linked k) ls)) (fold (led_marks ws) kept ls)
   links_shown [] x kept h = h
   links_shown (l ∷ ls) x kept h =
-      let one : Shown d t (linked_to (rows_of_linked k l).link x (rows_of_linked k l).rows) (with_link ws kept l) =
-      subst (λ (r : LinkedRows). Shown d t (linked_to r.link x r.rows) (with_link ws kept l)) (sym (linked-is k l)) (linked_shown (out-Linked l).link d t x (rows_of_atom k (out-Linked l).atom) kept (atom_marks ws (out-Linked l).atom) h (atom_shown (out-Linked l).atom)) in
-      links_shown ls (linked_to (rows_of_linked k l).link x (rows_of_linked k l).rows) (with_link ws kept l) one
+      let one : Shown d t (linked_to (rows_of_linked k l).link x (rows_of_linked k l).rows) (led_marks ws kept l) =
+      subst (λ (r : LinkedRows). Shown d t (linked_to r.link x r.rows) (led_marks ws kept l)) (sym (linked-is k l)) (linked_shown (out-Linked l).link d t x (rows_of_atom k (out-Linked l).atom) kept (atom_marks ws (out-Linked l).atom) h (atom_shown (out-Linked l).atom)) in
+      links_shown ls (linked_to (rows_of_linked k l).link x (rows_of_linked k l).rows) (led_marks ws kept l) one
 
   chain_shown : (c : Chain) → Shown d t (rows_of_chain k c) (chain_marks ws c)
   chain_shown c = subst (λ rows. Shown d t rows (chain_marks ws c)) (sym (chain-is k c)) (links_shown (out-Chain c).rest (rows_of_atom k (out-Chain c).first) (atom_marks ws (out-Chain c).first) (atom_shown (out-Chain c).first))
@@ -83,32 +83,32 @@ module _ (ws : List (List ℕ)) where
   linked-length : (link : Link) (kept next : List Bool) → length (linked_marks link kept next) ≡ length next
   linked-length link kept next = mapped-length (λ p. p.1 && is_led link kept p.0) (enumerate_from 0 next) ∙ length-enumerated 0 next
 
-  links-length : (ls : List Linked) (kept : List Bool) → length kept ≡ length ws → length (fold (with_link ws) kept ls) ≡ length ws
+  links-length : (ls : List Linked) (kept : List Bool) → length kept ≡ length ws → length (fold (led_marks ws) kept ls) ≡ length ws
   links-length [] kept h = h
-  links-length (l ∷ ls) kept h = links-length ls (with_link ws kept l) (linked-length (out-Linked l).link kept (atom_marks ws (out-Linked l).atom) ∙ level-length (out-Atom (out-Linked l).atom))
+  links-length (l ∷ ls) kept h = links-length ls (led_marks ws kept l) (linked-length (out-Linked l).link kept (atom_marks ws (out-Linked l).atom) ∙ level-length (out-Atom (out-Linked l).atom))
 
   pub chain-length : (c : Chain) → length (chain_marks ws c) ≡ length ws
   chain-length c = links-length (out-Chain c).rest (atom_marks ws (out-Chain c).first) (level-length (out-Atom (out-Chain c).first))
 
   pub either-length : (a b : List Bool) → length (either_marks a b) ≡ length b
-  either-length a b = mapped-length (λ p. p.1 || is_marked a p.0) (enumerate_from 0 b) ∙ length-enumerated 0 b
+  either-length a b = mapped-length (λ p. p.1 || has_mark_at a p.0) (enumerate_from 0 b) ∙ length-enumerated 0 b
 
 -- ---- alternatives
-pub past : (a : List Bool) (j : ℕ) → length a ≤ j → is_marked a j ≡ false
+pub past : (a : List Bool) (j : ℕ) → length a ≤ j → has_mark_at a j ≡ false
 past [] j l = refl
 past (m ∷ a) zero l = absurd (omega (arith, l))
 past (m ∷ a) (suc j) l = past a j (omega (arith, l))
 
-marked_either : (a b : List Bool) (n j : ℕ) → length a ≤ n + length b → is_marked (map (λ p. p.1 || is_marked a p.0) (enumerate_from n b)) j ≡ (is_marked b j || is_marked a (n + j))
+marked_either : (a b : List Bool) (n j : ℕ) → length a ≤ n + length b → has_mark_at (map (λ p. p.1 || has_mark_at a p.0) (enumerate_from n b)) j ≡ (has_mark_at b j || has_mark_at a (n + j))
 marked_either a [] n j l = sym (past a (n + j) (omega (arith, l)))
-marked_either a (m ∷ b) n zero l = let same : n + 0 ≡ n = omega arith in ap (λ i. m || is_marked a i) (sym same)
-marked_either a (m ∷ b) n (suc j) l = let same : n + 1 + j ≡ n + suc j = omega arith in marked_either a b (n + 1) j (omega (arith, l)) ∙ ap (λ i. is_marked b j || is_marked a i) same
+marked_either a (m ∷ b) n zero l = let same : n + 0 ≡ n = omega arith in ap (λ i. m || has_mark_at a i) (sym same)
+marked_either a (m ∷ b) n (suc j) l = let same : n + 1 + j ≡ n + suc j = omega arith in marked_either a b (n + 1) j (omega (arith, l)) ∙ ap (λ i. has_mark_at b j || has_mark_at a i) same
 
 either_at : (t : ℕ) (a b : List Bool) (p : ℕ) → length a ≡ length b → mark_at t (either_marks a b) p ≡ (mark_at t a p || mark_at t b p)
 either_at t a b p e =
     let j = p - (t + BEHIND_TITLE) in
     let whole : 0 + j ≡ j = omega arith in
-    ap (λ m. nat_le (t + BEHIND_TITLE) p && m) (marked_either a b 0 j (omega (arith, e)) ∙ ap (λ i. is_marked b j || is_marked a i) whole) ∙ spread (nat_le (t + BEHIND_TITLE) p) (is_marked b j) (is_marked a j)
+    ap (λ m. nat_le (t + BEHIND_TITLE) p && m) (marked_either a b 0 j (omega (arith, e)) ∙ ap (λ i. has_mark_at b j || has_mark_at a i) whole) ∙ spread (nat_le (t + BEHIND_TITLE) p) (has_mark_at b j) (has_mark_at a j)
   where
     spread : (c x y : Bool) → (c && (x || y)) ≡ ((c && y) || (c && x))
     spread true true true = refl

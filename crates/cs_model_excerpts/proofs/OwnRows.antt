@@ -20,8 +20,8 @@ use Rattle.cs_model.specs.Corpus.{Corpus, corpus_of, doc_rows, facet_rows, place
 use Rattle.cs_model.specs.Scores.{SCORES, Scores}
 use Rattle.cs_model.specs.Words.{words}
 use Rattle.cs_model_excerpts.specs.Excerpts.{at}
-use Rattle.cs_model_excerpts.specs.Runs.{is_marked}
-use Rattle.cs_model_excerpts.proofs.PartsLemmas.{mapped-length, past}
+use Rattle.cs_model_excerpts.specs.Runs.{has_mark_at}
+use Rattle.cs_model_excerpts.proofs.PartMarks.{mapped-length, past}
 use Rattle.cs_model_excerpts.proofs.ServesLemmas.{HasText, and-false, and-true, any_alike, any_filter, mark_at}
 use Rattle.cs_model_excerpts.specs.ExcerptLaws.{HasDocument}
 use Rattle.cs_model.specs.Answers.{in_doc}
@@ -34,7 +34,7 @@ module _ (w : Scores) (d p : ℕ) (f : List ℕ → Bool) where
   test r = at d p r && f r.word
 
   -- of document d the row at position p
-  own_rows : (s n : ℕ) (ws : List (List ℕ)) → list_any test (map (placed d s) (enumerate_from n ws)) ≡ (nat_le n p && is_marked (map f ws) (p - n))
+  own_rows : (s n : ℕ) (ws : List (List ℕ)) → list_any test (map (placed d s) (enumerate_from n ws)) ≡ (nat_le n p && has_mark_at (map f ws) (p - n))
   own_rows s n [] = sym (and-false (nat_le n p))
   own_rows s n (w ∷ ws) =
       let own : (d == d) ≡ true = grind (arith, nat_tests) in
@@ -45,24 +45,24 @@ module _ (w : Scores) (d p : ℕ) (f : List ℕ → Bool) where
             let later : nat_le (n + 1) p ≡ false = grind (arith, nat_tests, same) in
             let up : nat_le n p ≡ true = grind (arith, nat_tests, same) in
             let first : p - n ≡ 0 = omega (arith, same) in
-            ap (λ b. (b && f w) || (nat_le (n + 1) p && is_marked (map f ws) (p - (n + 1)))) here ∙ ap (λ b. f w || (b && is_marked (map f ws) (p - (n + 1)))) later ∙ or-false (f w)
-            ∙ sym (ap (λ b. b && is_marked (f w ∷ map f ws) (p - n)) up ∙ ap (is_marked (f w ∷ map f ws)) first)
+            ap (λ b. (b && f w) || (nat_le (n + 1) p && has_mark_at (map f ws) (p - (n + 1)))) here ∙ ap (λ b. f w || (b && has_mark_at (map f ws) (p - (n + 1)))) later ∙ or-false (f w)
+            ∙ sym (ap (λ b. b && has_mark_at (f w ∷ map f ws) (p - n)) up ∙ ap (has_mark_at (f w ∷ map f ws)) first)
         | inr other ↦
             let here : (n == p) ≡ false = false_from_ne_true (n == p) (λ e. other (same_number n p e)) in
-            ap (λ b. (b && f w) || (nat_le (n + 1) p && is_marked (map f ws) (p - (n + 1)))) here ∙ behind n w ws other
+            ap (λ b. (b && f w) || (nat_le (n + 1) p && has_mark_at (map f ws) (p - (n + 1)))) here ∙ behind n w ws other
       ]
     where
       or-false : (b : Bool) → (b || false) ≡ b
       or-false true = refl
       or-false false = refl
 
-      behind : (n : ℕ) (w : List ℕ) (ws : List (List ℕ)) → (n ≡ p → ⊥) → (nat_le (n + 1) p && is_marked (map f ws) (p - (n + 1))) ≡ (nat_le n p && is_marked (f w ∷ map f ws) (p - n))
+      behind : (n : ℕ) (w : List ℕ) (ws : List (List ℕ)) → (n ≡ p → ⊥) → (nat_le (n + 1) p && has_mark_at (map f ws) (p - (n + 1))) ≡ (nat_le n p && has_mark_at (f w ∷ map f ws) (p - n))
       behind n w ws other = elim (cases_lt n p) [
         | inl l ↦
             let up : nat_le n p ≡ true = grind (arith, nat_tests, l) in
             let next : nat_le (n + 1) p ≡ true = grind (arith, nat_tests, l) in
             let there : p - n ≡ suc (p - (n + 1)) = omega (arith, l) in
-            ap (λ b. b && is_marked (map f ws) (p - (n + 1))) next ∙ sym (ap (λ b. b && is_marked (f w ∷ map f ws) (p - n)) up ∙ ap (is_marked (f w ∷ map f ws)) there)
+            ap (λ b. b && has_mark_at (map f ws) (p - (n + 1))) next ∙ sym (ap (λ b. b && has_mark_at (f w ∷ map f ws) (p - n)) up ∙ ap (has_mark_at (f w ∷ map f ws)) there)
         | inr l ↦
             let less : p < n = elim (cases_lt p n) [
               | inl k ↦ k
@@ -70,7 +70,7 @@ module _ (w : Scores) (d p : ℕ) (f : List ℕ → Bool) where
             ] in
             let up : nat_le n p ≡ false = grind (arith, nat_tests, less) in
             let next : nat_le (n + 1) p ≡ false = grind (arith, nat_tests, less) in
-            ap (λ b. b && is_marked (map f ws) (p - (n + 1))) next ∙ sym (ap (λ b. b && is_marked (f w ∷ map f ws) (p - n)) up)
+            ap (λ b. b && has_mark_at (map f ws) (p - (n + 1))) next ∙ sym (ap (λ b. b && has_mark_at (f w ∷ map f ws) (p - n)) up)
       ]
 
   facets_none : (s : ℕ) (ws : List (List ℕ)) → 0 < p → list_any test (map (λ w. placed d s (0, w)) ws) ≡ false
@@ -90,7 +90,6 @@ module _ (w : Scores) (d p : ℕ) (f : List ℕ → Bool) where
       ∙ ap (λ b. b || list_any test (text_rows w d doc)) (list_any-append test (facet_rows w d doc) (title_rows w d doc)
       ∙ ap (λ b. b || list_any test (title_rows w d doc)) (facets_none w.facet (facet_words doc.facets) (omega (arith, l))) ∙ title_none w.title (words doc.title) l)
       ∙ own_rows w.text (length (words doc.title) + BEHIND_TITLE) (words doc.text)
-
 
 -- ---- a corpus that has the document
 only_at : (b e c g : Bool) → (b ≡ true → c ≡ true) → ((b && e) && g) ≡ (((b && e) && g) && c)

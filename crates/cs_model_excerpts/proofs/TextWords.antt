@@ -1,8 +1,8 @@
 -- No word of a text begins as facet words do.
 --
 --   are_text    so a join's name asks for none of them
-use Rattle.std.proofs.Common.{◌≡◌, ℕ, ◌+◌, ◌-◌, Bool, true, false, true≢false, cond, not, List, [], ◌∷◌, ◌++◌, map, refl, sym, ap, ◌∙◌, arith, append_assoc, encode_utf8_all}
-use Rattle.std.specs.Prelude.{◌&&◌, ◌==◌, filter, nat_eq, nat_le}
+use Rattle.std.proofs.Common.{◌≡◌, ℕ, ◌-◌, Bool, true, false, true≢false, cond, not, List, [], ◌∷◌, ◌++◌, map, refl, sym, ap, ◌∙◌, arith, append_assoc, encode_utf8_all}
+use Rattle.std.specs.Prelude.{filter, nat_eq, nat_le}
 use Rattle.std.specs.Char.{len_utf8}
 use Rattle.std.specs.List.{AllByRecursion, list_all, onto_first, slice_split}
 use Rattle.std.specs.Str.{chars}
@@ -14,7 +14,7 @@ use Rattle.cs_model.specs.Answers.{begins}
 use Rattle.cs_model.specs.Collection.{named}
 use Rattle.cs_model.specs.KeyText.{norm}
 use Rattle.cs_model.specs.Words.{cut, fitting, is_filled, is_gap, is_word_char, words}
-use Rattle.cs_model_excerpts.proofs.PartsLemmas.{AreText}
+use Rattle.cs_model_excerpts.proofs.PartMarks.{AreText}
 
 -- characters that words are made of
 abbrev AreOfWords : List ℕ → Type 0

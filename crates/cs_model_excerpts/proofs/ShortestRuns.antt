@@ -1,7 +1,7 @@
 -- The first run that covers is the shortest one, and of those of one length the first.
 --
 --   shortest_first    the law
-use Rattle.std.proofs.Common.{◌≡◌, ◌<◌, ◌≤◌, ◌+◌, ◌-◌, ℕ, zero, suc, List, [], ◌∷◌, ◌++◌, true, false, Bool, cond, map, Option, Some, None, refl, sym, ap, ◌∙◌, arith, inl, inr}
+use Rattle.std.proofs.Common.{◌≡◌, ◌<◌, ◌≤◌, ◌+◌, ◌-◌, ℕ, zero, suc, List, [], ◌∷◌, ◌++◌, true, false, Bool, cond, map, Option, Some, None, refl, ap, ◌∙◌, arith, inl, inr}
 use Rattle.std.proofs.lemmas.Bool.{cases_eq, cases_lt}
 use Rattle.std.specs.List.{find, flat_map, range_with_len}
 use Rattle.cs_model_excerpts.specs.Runs.{IsBest, covers, runs_of_length, shortest}
@@ -74,4 +74,3 @@ shortest_first parts n (Some r) h =
     map-some t (λ a. (a, a + more)) 0 (n - more) r.0 (omega arith) (omega (arith, h.below, h.forward)) (λ a l m. fails (t (a, a + more)) (λ p.
     let f = h.first a (a + more) (omega arith) (omega (arith, h.below, h.forward, m)) p (omega arith) in omega (arith, f, m))) here in
     flat-some t (runs_of_length n) 0 n more (r.0, r.0 + more) (omega arith) (omega (arith, h.below)) earlier found ∙ ap (λ b. Some (r.0, b)) same
-
