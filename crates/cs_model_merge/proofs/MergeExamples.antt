@@ -1,11 +1,10 @@
 -- Worked refusals of merges.
-use Rattle.std.proofs.Common.{◌≡◌, ℕ, List, [], ◌∷◌, refl, codes}
-use Rattle.std.specs.Prelude.{Some, None}
+use Rattle.std.proofs.Common.{◌≡◌, ℕ, [], refl, codes}
+use Rattle.std.specs.Prelude.{Some}
 use Rattle.std.specs.Fmt.{digits}
 use Rattle.cs_model.specs.Scores.{SCORES, Scores}
 use Rattle.cs_model_index.specs.Images.{Image}
-use Rattle.cs_model_index.specs.Layout.{title_bytes}
-use Rattle.cs_model_merge.specs.Merges.{merge_refusal, merge_words, targets_differ, too_many_words, weights_differ, words_of_both}
+use Rattle.cs_model_merge.specs.Merges.{merge_refusal, merge_words, targets_differ, weights_differ}
 
 -- the image of the empty corpus
 abbrev empty : ℕ → Image

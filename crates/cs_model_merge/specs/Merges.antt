@@ -5,7 +5,7 @@
 -- The scores that an image's rows have by their column are an argument beside it.
 --
 --   MergeRefusal             why images aren't merged: targets_differ, with both; weights_differ, with both; too_many_docs,
---                               titles_too_large, too_many_rows, too_many_words
+--                            titles_too_large, too_many_rows, too_many_words
 --   are_same v w             two images have the same scores
 --   words_of_both a b        the distinct words of both, by bytes
 --   merge_refusal v a w b    the first refusal; None where the images may be merged

@@ -11,7 +11,7 @@ use Rattle.cs_base.specs.content.Bytes.{line_feed}
 use Rattle.cs_model_sources.specs.CsvSources.{csv_flat, document_line, is_header}
 use Rattle.cs_model_sources.specs.JsonSources.{LineRead, given, bad, columns_line, json_value, line_read, lines_flat, read_value, value_line, with_line}
 use Rattle.cs_model_sources.specs.SourceLaws.{LinesAreCounted}
-use Rattle.cs_model_sources.specs.Translated.{translated, weights_line}
+use Rattle.cs_model_sources.specs.Translated.{translated, usual_weights_line}
 use Rattle.cs_model_sources.specs.declared.flat.BadLine.{BadLine}
 use Rattle.cs_model_sources.specs.declared.flat.Flat.{Flat}
 use Rattle.cs_model_sources.proofs.TranslatedLemmas.{documents_are_lines, line_bytes, line_first, unbroken}
@@ -22,8 +22,8 @@ AddsLine t = (rest : List ℕ) → length (lines (t ++ rest)) ≡ suc (length (l
 document_adds : (title facets text : List ℕ) → AddsLine (translated title facets text)
 document_adds title facets text rest = ap length (documents_are_lines title facets text rest)
 
-weights_add : AddsLine weights_line
-unfolding weights_line
+weights_add : AddsLine usual_weights_line
+unfolding usual_weights_line
 weights_add rest =
     let text = codes "#weights title=4 facet=2 text=1" in
     ap length (ap lines (append_assoc text (line_feed ∷ []) rest) ∙ line_first text rest (line_bytes text (unbroken text refl)))

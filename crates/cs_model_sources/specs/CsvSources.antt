@@ -15,7 +15,7 @@ use Rattle.std.specs.Prelude.{ℕ, Bool, ◌==◌, ◌&&◌, nat_le, if◌then�
 use Rattle.std.specs.List.{count_by, position, flat_map}
 use Rattle.std.specs.Str.{str_eq_ignore_ascii_case}
 use Rattle.csv.specs.Reading.{default_config, records, strip_bom}
-use Rattle.cs_model_sources.specs.Translated.{translated, weights_line}
+use Rattle.cs_model_sources.specs.Translated.{translated, usual_weights_line}
 use Rattle.cs_model_sources.specs.declared.flat.Flat.{Flat}
 use Rattle.cs_model_sources.specs.declared.flat.Why.TheVariants.{Header}
 
@@ -44,10 +44,10 @@ document_line names r = translated (field_in r (column (codes "title") names)) (
 -- the first record is the header, and each further one a document; the weights line alone where there is no record, or where
 -- the header is bad, which is the one line of a table that may be
 unfoldable pub csv_flat : List (List (List ℕ)) → Flat
-csv_flat [] = record { tsv = weights_line; bad = None }
+csv_flat [] = record { tsv = usual_weights_line; bad = None }
 csv_flat (names ∷ rows) = if is_header names
-    then record { tsv = weights_line ++ flat_map (document_line names) rows; bad = None }
-    else record { tsv = weights_line; bad = Some (record { line = 1; why = Header }) }
+    then record { tsv = usual_weights_line ++ flat_map (document_line names) rows; bad = None }
+    else record { tsv = usual_weights_line; bad = Some (record { line = 1; why = Header }) }
 
 -- the translation of a source, whose leading bytes EF BB BF are skipped once
 abbrev pub flat_of_csv : List ℕ → Flat

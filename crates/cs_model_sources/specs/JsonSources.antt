@@ -25,7 +25,7 @@ use Rattle.serde_json.specs.Find.{as_str, get}
 use Rattle.serde_json.specs.Read.{read}
 use Rattle.cs_base.specs.content.Bytes.{line_feed, semicolon}
 use Rattle.cs_model.specs.Collection.{without_mark}
-use Rattle.cs_model_sources.specs.Translated.{translated, weights_line}
+use Rattle.cs_model_sources.specs.Translated.{translated, usual_weights_line}
 use Rattle.cs_model_sources.specs.declared.flat.Flat.{Flat}
 use Rattle.cs_model_sources.specs.declared.flat.Why.{Why}
 use Rattle.cs_model_sources.specs.declared.flat.Why.TheVariants.{Json, Field}
@@ -106,4 +106,4 @@ lines_flat n (l ∷ ls) = with_line n (line_read l) (lines_flat (n + 1) ls)
 
 -- the translation of a source, whose lines are those of a collection and whose leading bytes EF BB BF are skipped once
 abbrev pub flat_of_jsonl : List ℕ → Flat
-flat_of_jsonl b = in_front weights_line (lines_flat 1 (lines (without_mark b)))
+flat_of_jsonl b = in_front usual_weights_line (lines_flat 1 (lines (without_mark b)))

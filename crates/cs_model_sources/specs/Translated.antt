@@ -7,7 +7,7 @@
 --   flat s                          the bytes s with each such byte replaced by a space
 --   columns_of title facets text    the flat columns with a tab between each two
 --   translated title facets text    the line of a document with these columns, its LF included
---   weights_line                    the line that every translation begins with, its LF included
+--   usual_weights_line              the line that every translation begins with, its LF included
 use Rattle.std.specs.Prelude.{ℕ, Bool, ◌==◌, ◌||◌, if◌then◌else◌, List, [], ◌∷◌, ◌++◌, map, codes}
 use Rattle.cs_base.specs.content.Bytes.{carriage_return, line_feed, space, tab}
 
@@ -32,5 +32,5 @@ unfoldable pub translated : List ℕ → List ℕ → List ℕ → List ℕ
 translated title facets text = columns_of title facets text ++ line_feed ∷ []
 
 -- the weights of a collection that names none, as its first line
-unfoldable pub weights_line : List ℕ
-weights_line = codes "#weights title=4 facet=2 text=1" ++ line_feed ∷ []
+unfoldable pub usual_weights_line : List ℕ
+usual_weights_line = codes "#weights title=4 facet=2 text=1" ++ line_feed ∷ []

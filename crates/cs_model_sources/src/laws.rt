@@ -7,7 +7,8 @@ pub fn translated_documents()
     ensures columns { ColumnsAreKept }
 {}
 
-/// A record of a table has the number of its line in the collection. A line of JSON has that of the line before its own, and so has the bad line, if there is one.
+/// Record n of a table is line n of its collection. Line n of JSON is line n + 1, and the bad line, if there is one, has the number that
+/// comes then.
 pub fn numbered_lines()
     ensures records { RecordsAreCounted }
     ensures lines { LinesAreCounted }
