@@ -1,0 +1,4 @@
+pub mod ExcerptLaws
+pub mod Excerpts
+pub mod OwnWords
+pub mod Runs

@@ -1,0 +1,2 @@
+pub mod MergeExamples
+pub mod MergeLemmas

@@ -1,0 +1,24 @@
+-- What holds of merges.
+--
+--   merges_are_one, merges_are_joined     the laws
+use Rattle.std.proofs.Common.{◌≡◌, ℕ, List, ◌++◌, ap, subst, sym, ◌∙◌}
+use Rattle.cs_base.specs.declared.content.doc.Doc.{Doc}
+use Rattle.cs_model.specs.Corpus.{Corpus, IsCorpus, corpus_of}
+use Rattle.cs_model_changes.proofs.JoinedLemmas.{joined_are_corpora}
+use Rattle.cs_model_changes.specs.Joined.{joined}
+use Rattle.cs_model_index.specs.Images.{Image, IsImage, image_corpus}
+use Rattle.cs_model_index.proofs.CorpusLemmas.{corpora_are_kept}
+use Rattle.cs_model_index.proofs.ImageLemmas.{images_are_one}
+use Rattle.cs_model_merge.specs.Merges.{IsMerge}
+
+pub merges_are_one : (a b i j : Image) → IsMerge a b i → IsMerge a b j → i ≡ j
+merges_are_one a b i j p q = images_are_one (joined (image_corpus a) (image_corpus b)) a.target i j p q
+
+pub merges_are_joined : (ds es : List Doc) (target : ℕ) (a b i : Image) → IsCorpus (corpus_of ds) → IsCorpus (corpus_of es) → IsImage (corpus_of ds) target a → IsImage (corpus_of es) target b → IsMerge a b i → IsImage (corpus_of (ds ++ es)) target i
+merges_are_joined ds es target a b i c d p q m =
+    let corpora : joined (image_corpus a) (image_corpus b) ≡ corpus_of (ds ++ es) =
+    ap (λ (k : Corpus). joined k (image_corpus b)) (corpora_are_kept (corpus_of ds) target a c p)
+    ∙ ap (joined (corpus_of ds)) (corpora_are_kept (corpus_of es) target b d q)
+    ∙ sym (joined_are_corpora ds es) in
+    let same : a.target ≡ target = ap (λ (x : Image). x.target) p.made in
+    subst (λ (k : Corpus). IsImage k target i) corpora (subst (λ t. IsImage (joined (image_corpus a) (image_corpus b)) t i) same m)

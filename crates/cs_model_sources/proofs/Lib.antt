@@ -1,0 +1,3 @@
+pub mod SourceExamples
+pub mod SourceLines
+pub mod TranslatedLemmas
