@@ -84,7 +84,7 @@ def kill(program, place, old, new, kills, whole_time):
             time.sleep(whole_time * 1.1 * i / kills)
         else:
             while run.poll() is None and len(os.listdir(place)) == 1:
-                pass
+                time.sleep(0.0002)
             time.sleep(0.003 * i / kills)
         run.kill()
         run.wait()

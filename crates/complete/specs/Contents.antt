@@ -2,6 +2,7 @@
 --
 --   known_size c     the number of its bytes, where that is known
 --   whole_bytes c    the bytes of a stream
+--   made_of o        the file that is being made, if one is
 --   IsMade c         it is being made
 --   IsLost c         it can't be read any more
 --   untold           what the system's files tell of what they hold: nothing
@@ -24,6 +25,11 @@ abbrev pub known_size : {F M : Type 0} → Content F M → Option ℕ
 known_size (Pieces f n) = Some n
 known_size (Whole b) = Some (length b.items)
 known_size _ = None
+
+-- the file that is being made; None where nothing is known of the name, or something else
+abbrev pub made_of : {F M : Type 0} → Option (Content F M) → Option M
+made_of (Some (Made m)) = Some m
+made_of _ = None
 
 -- it is being made
 abbrev pub IsMade : {F M : Type 0} → Content F M → Type 0
