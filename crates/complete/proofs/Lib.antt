@@ -1,4 +1,4 @@
+pub mod AnswerLemmas
 pub mod AppendsLemmas
-pub mod LaterWords
-pub mod StreamsLemmas
+pub mod KnownPlaces
 pub mod TurnsLemmas

@@ -1,2 +1,5 @@
+pub mod Contents
+pub mod Known
 pub mod OneConnection
+pub mod Placing
 pub mod System

@@ -11,6 +11,11 @@ mod door;
 mod faults;
 #[cfg(test)]
 mod hub_tests;
+mod known;
+mod making;
+mod placing;
+mod run_files;
+mod says;
 mod standard;
 mod startup;
 mod streams;
@@ -21,9 +26,8 @@ mod whole;
 
 use crate::disk::DiskFiles;
 use crate::standard::Standard;
-use crate::startup::start;
+use crate::startup::{start, words_behind_name};
 use crate::tcp::TcpHub;
-use std::env;
 use std::process::ExitCode;
 
 fn main(rt: HostRuntime) -> ExitCode {
@@ -34,7 +38,7 @@ fn main(rt: HostRuntime) -> ExitCode {
     let mut err = Standard::new(rt.stderr());
     start(
         alloc,
-        env::args(&rt),
+        words_behind_name(&rt),
         &mut files,
         &mut hub,
         &mut out,

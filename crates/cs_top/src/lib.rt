@@ -20,6 +20,7 @@ mod trial;
 mod words;
 
 pub use command::run;
+pub use words::{Command, command_of};
 
 /// The version of the program, which nothing prints.
 pub const VERSION: &str = "0.1.0";

@@ -14,7 +14,7 @@ use cs_text::{has_digits, number_of};
 
 /// What the words ask for.
 #[derive(Clone, Copy, Debug, PartialEq, Eq)]
-pub(crate) enum Command<'a> {
+pub enum Command<'a> {
     /// `build COLLECTION INDEX`.
     Build {
         /// The collection's name.
@@ -53,7 +53,7 @@ pub(crate) enum Command<'a> {
 }
 
 /// The command; None where the words aren't in the table.
-pub(crate) fn command_of(words: &[String]) -> Option<Command<'_>>
+pub fn command_of(words: &[String]) -> Option<Command<'_>>
     ensures seen { option_map seen_command result ≡ command_of (map string_bytes words.now) }
     ensures numbers { ForSome result HasNumbers }
 {

@@ -1,0 +1,17 @@
+//! What files are asked before a run, so that want of memory can be told from a device that fails.
+ghost use Rattle.std.specs.Prelude.{◌≡◌};
+
+use cs_base::{Files, Memory};
+
+/// Files that a run is prepared over. What they can't do is left for the run to meet, but for want of memory.
+pub trait RunFiles: Files {
+    /// Looks for a file that the run reads, as `size` does: whether it is there. No failure is counted.
+    fn look(&mut self, name: &str) -> Result<bool, Memory>
+        ensures held { Self.held self.new ≡ Self.held self.old }
+        ensures faults { Self.faults self.new ≡ Self.faults self.old };
+
+    /// Takes the memory for a file that the run makes. No failure is counted.
+    fn make_room(&mut self, name: &str) -> Result<(), Memory>
+        ensures held { Self.held self.new ≡ Self.held self.old }
+        ensures faults { Self.faults self.new ≡ Self.faults self.old };
+}
