@@ -12,6 +12,7 @@ Random texts keep to characters that Unicode 3.2 has, and to some later ones by 
 folding and decomposition of a character that has a meaning are never changed. So a number is the same case whatever Python
 runs it. The kind `characters` goes through all that this Python's table has.
 """
+import concurrent.futures
 import contextlib
 import io
 import itertools
@@ -544,6 +545,13 @@ def serve_case(dice):
     return {"files": {"C": accepted(dice, world)}, "target": dice.choice(TARGETS), "streams": streams}
 
 
+def together_case(dice):
+    """Ten connections at once."""
+    world = World(dice)
+    streams = [stream(dice, world) for _ in range(10)]
+    return {"files": {"C": accepted(dice, world)}, "target": dice.choice(TARGETS), "streams": streams, "together": True}
+
+
 def talk(port, pieces):
     """What comes back on one connection on which these pieces are sent; its writing side is shut behind them."""
     came = []
@@ -587,7 +595,8 @@ def served(program, case):
             try:
                 line, sent = running.stdout.readline(), []
                 if line == b"serving %d\n" % port:
-                    sent = [talk(port, pieces) for pieces in case["streams"] or [[]]]
+                    with concurrent.futures.ThreadPoolExecutor(10 if case.get("together") else 1) as clients:
+                        sent = list(clients.map(lambda pieces: talk(port, pieces), case["streams"] or [[]]))
                 out, said = running.communicate(timeout=SECONDS)
                 return running.returncode, line.replace(b"%d" % port, b"PORT") + out, said, sent
             except subprocess.TimeoutExpired:
@@ -662,10 +671,10 @@ def show(kind, number, case, got, want):
 
 # ---- Kinds and counts ----
 
-MADE = {"ask": ask_case, "words": words_case, "build": build_case, "replay": replay_case, "damage": damage_case, "serve": serve_case}
+MADE = {"ask": ask_case, "words": words_case, "build": build_case, "replay": replay_case, "damage": damage_case, "serve": serve_case, "together": together_case}
 LISTED = {"characters": character_cases, "limits": limit_cases, "trial": trial_cases}
-COUNTS = {"ask": 20_000, "words": 5_000, "characters": 10_000, "limits": 100, "build": 5_000, "damage": 10_000, "replay": 5_000, "serve": 3_000, "trial": 20}
-FEW = {"trial": 2, "characters": 50, "limits": 0, "serve": 50}
+COUNTS = {"ask": 20_000, "words": 5_000, "characters": 10_000, "limits": 100, "build": 5_000, "damage": 10_000, "replay": 5_000, "serve": 3_000, "together": 500, "trial": 20}
+FEW = {"trial": 2, "characters": 50, "limits": 0, "serve": 50, "together": 20}
 
 
 def cases_of(kind, count, first):
@@ -678,7 +687,7 @@ def cases_of(kind, count, first):
 
 def try_kind(program, kind, count, first):
     """Runs so many cases of a kind; says whether all were the same."""
-    compare = both_served if kind == "serve" else both
+    compare = both_served if kind in ("serve", "together") else both
     begun, done = time.monotonic(), 0
     for number, case in cases_of(kind, count, first):
         got, want = compare(program, case)
