@@ -1,24 +1,30 @@
 #!/usr/bin/env python3
-"""Tries `complete serve` with real clients over real sockets, and prints what was seen as rows of a table. Run it by hand:
+"""Tries `complete serve` with many clients at once over real sockets, and prints what was seen as rows of a table. Run it by hand:
 
-    bench/connections.py PROGRAM
+    bench/connections.py PROGRAM [ROW..]
 
-PROGRAM is crates/complete/out/complete. It serves `examples/papers.tsv` on a free port of 127.0.0.1, some rows behind nginx with
-`examples/page/nginx.conf`. Short bodies are those of `q=typ`, long ones those of `q=&h=100&f=author`. It needs nginx, ab (Debian's
-apache2-utils) and Python 3.9, and takes three minutes, most of them waited.
+PROGRAM is crates/complete/out/complete; a ROW is the name of a function below that is marked as one, and without any all are
+run. It serves `examples/papers.tsv` on a free port of 127.0.0.1. Short bodies are those of `q=typ`, long ones those of
+`q=&h=100&f=author`. It needs ab (Debian's apache2-utils), wrk, nginx, for one row chromium, and Python 3.9, and takes some six
+minutes, half of them waited.
 """
 import pathlib
 import re
-import shutil
+import resource
 import socket
 import subprocess
 import sys
 import tempfile
-import threading
 import time
 
 ROOT = pathlib.Path(__file__).resolve().parent.parent
 SHORT, LONG = "/search?q=typ", "/search?q=&h=100&f=author"
+ROWS = []
+
+
+def row(function):
+    ROWS.append(function)
+    return function
 
 
 def free_port():
@@ -27,212 +33,286 @@ def free_port():
         return asked.getsockname()[1]
 
 
-def head(target, more=""):
+def head(target=SHORT, more=""):
     return f"GET {target} HTTP/1.1\r\nHost: x\r\n{more}\r\n".encode()
 
 
-def connect(port):
-    made = socket.create_connection(("127.0.0.1", port), timeout=60)
-    made.setsockopt(socket.IPPROTO_TCP, socket.TCP_NODELAY, 1)
-    return made
+class Server:
+    """The program over an index file, on a free port."""
+
+    def __init__(self, program, index, conns=1_000_000, files=None):
+        self.port = free_port()
+        limit = (lambda: resource.setrlimit(resource.RLIMIT_NOFILE, (files, files))) if files else None
+        self.running = subprocess.Popen([program, "serve", index, str(self.port), str(conns)], stdout=subprocess.PIPE, preexec_fn=limit)
+        self.running.stdout.readline()
+
+    def __enter__(self):
+        return self
+
+    def __exit__(self, *_):
+        self.running.kill()
+        self.running.wait()
+
+    def memory(self):
+        """The bytes of memory that it has."""
+        return 1024 * int(re.search(r"VmRSS:\s+(\d+)", pathlib.Path(f"/proc/{self.running.pid}/status").read_text())[1])
+
+    def connect(self, seconds=60, window=None):
+        made = socket.socket()
+        if window:
+            made.setsockopt(socket.SOL_SOCKET, socket.SO_RCVBUF, window)
+        made.settimeout(seconds)
+        made.connect(("127.0.0.1", self.port))
+        made.setsockopt(socket.IPPROTO_TCP, socket.TCP_NODELAY, 1)
+        return made
+
+    def files(self):
+        """How many files it has open."""
+        return len(list(pathlib.Path(f"/proc/{self.running.pid}/fd").iterdir()))
+
+    def asked(self, conn=None, target=SHORT):
+        """The seconds of one request, on a connection of its own where none is given."""
+        begun = time.perf_counter()
+        used = conn or self.connect()
+        used.sendall(head(target))
+        response(used)
+        if not conn:
+            used.close()
+        return time.perf_counter() - begun
 
 
-def response(conn, behind=b""):
-    """The bytes of one response, and what came behind them."""
-    while b"\r\n\r\n" not in behind:
-        behind += conn.recv(65536) or sys.exit("connections.py: the connection was closed")
-    front, _, body = behind.partition(b"\r\n\r\n")
+def response(conn):
+    """The bytes of one response."""
+    got = b""
+    while b"\r\n\r\n" not in got:
+        got += received(conn)
+    front, _, body = got.partition(b"\r\n\r\n")
     length = int(re.search(rb"Content-Length: (\d+)", front)[1])
     while len(body) < length:
-        body += conn.recv(65536) or sys.exit("connections.py: the response was cut")
-    return front + b"\r\n\r\n" + body[:length], body[length:]
+        body += received(conn)
+    return front + b"\r\n\r\n" + body
+
+
+def received(conn):
+    more = conn.recv(1 << 20)
+    if not more:
+        raise ConnectionResetError("it was ended")
+    return more
 
 
 def to_end(conn):
-    """All bytes up to the end or a reset."""
-    got = b""
+    """The bytes up to the end, and whether that is a reset."""
+    count = 0
     try:
         while more := conn.recv(1 << 20):
-            got += more
+            count += len(more)
     except ConnectionResetError:
-        pass
-    return got
+        return count, True
+    return count, False
 
 
-def asked(port, target=SHORT):
-    """The seconds of one request on a connection of its own."""
-    begun = time.perf_counter()
-    with connect(port) as conn:
-        conn.sendall(head(target))
-        response(conn)
-    return time.perf_counter() - begun
+def told(seconds):
+    return f"mean {sum(seconds) / len(seconds) * 1e3:.1f} ms, greatest {max(seconds) * 1e3:.1f} ms"
 
 
-def ab(port, target, count, *flags):
-    said = subprocess.run(["ab", "-n", str(count), *flags, f"http://127.0.0.1:{port}{target}"], capture_output=True, text=True, check=True).stdout
-    find = lambda pattern: re.search(pattern, said)[1]
-    failed = int(find(r"Failed requests: +(\d+)")) + int((re.search(r"Non-2xx responses: +(\d+)", said) or [0, 0])[1])
-    return f"{failed} failed, {float(find(r'Requests per second: +([0-9.]+)')):,.0f} a second, 99 of 100 within {find(r' 99% +([0-9]+)')} ms"
+def ab(port, count, *flags, target=SHORT):
+    said = subprocess.run(["ab", "-q", "-l", "-n", str(count), *flags, f"http://127.0.0.1:{port}{target}"], capture_output=True, text=True).stdout
+    find = lambda pattern: (re.search(pattern, said) or [0, "0"])[1]
+    failed = int(find(r"Failed requests: +(\d+)")) + int(find(r"Non-2xx responses: +(\d+)")) + count - int(find(r"Complete requests: +(\d+)"))
+    return f"{failed} failed, {float(find(r'Requests per second: +([0-9.]+)')):,.0f} a second, greatest {find(r' 100% +([0-9]+)')} ms"
 
 
-def row(what, seen):
-    print(f"| {what} | {seen} |", flush=True)
+def wrk(port, clients, *flags):
+    said = subprocess.run(["wrk", "-t2", f"-c{clients}", "-d5s", *flags, f"http://127.0.0.1:{port}{SHORT}"], capture_output=True, text=True).stdout
+    errors = re.search(r"Socket errors: (.*)", said) or re.search(r"(Non-2xx.*)", said)
+    return f"{float(re.search(r'Requests/sec: +([0-9.]+)', said)[1]):,.0f} a second, greatest {re.search(r'Latency +[^ ]+ +[^ ]+ +([^ ]+)', said)[1]}, {errors[1] if errors else 'no errors'}"
 
 
-def by_ab(front, back):
-    for flags in (("-c", "1", "-k"), ("-c", "16"), ("-c", "16", "-k")):
-        row(f"`ab {' '.join(flags)}` behind nginx, 20,000 requests, short bodies", ab(front, SHORT, 20000, *flags))
-    row("the last one with long bodies", ab(front, LONG, 20000, "-c", "16", "-k"))
-    row("`ab -c 8` without nginx, 20,000 requests, long bodies", ab(back, LONG, 20000, "-c", "8"))
+@row
+def silent(program, index):
+    with Server(program, index) as server:
+        kept = [server.connect() for _ in range(200)]
+        few = [server.asked() for _ in range(2)]
+        took = few if max(few) > 1 else [server.asked() for _ in range(500)]
+        yield "200 send nothing; another one asks", told(took)
+        [it.close() for it in kept]
 
 
-def one_by_one(back):
-    for target, name in ((SHORT, "short"), (LONG, "long")):
-        with connect(back) as conn:
-            begun = time.perf_counter()
-            for _ in range(900):
-                conn.sendall(head(target))
-                response(conn)
-            kept = (time.perf_counter() - begun) / 900
-        begun = time.perf_counter()
-        for _ in range(2000):
-            asked(back, target)
-        anew = (time.perf_counter() - begun) / 2000
-        row(f"900 requests on one connection; a connection for each of 2,000; {name} bodies", f"{kept * 1e6:.0f} and {anew * 1e6:.0f} µs each on average")
+@row
+def dripping(program, index):
+    with Server(program, index) as server:
+        slow, took = [server.connect() for _ in range(500)], []
+        for byte in head()[:5]:
+            for it in slow:
+                it.sendall(bytes([byte]))
+            until = time.perf_counter() + 1
+            while time.perf_counter() < until:
+                took.append(server.asked())
+        yield "500 send a byte a second; another one asks", told(took)
 
 
-def drip(port, seconds, done):
-    """Sends a byte a second of a head that doesn't end."""
-    with connect(port) as conn:
-        for byte in head(SHORT)[: seconds]:
+@row
+def in_turn(program, index):
+    with Server(program, index) as server:
+        kept, took, lost = [server.connect(20) for _ in range(1000)], [], 0
+        for _ in range(4):
+            for it in kept:
+                try:
+                    took.append(server.asked(it))
+                except OSError:
+                    lost += 1
+        yield "1,000 keep their connections and ask in turn, four rounds", f"{len(took)} answered, {lost} not; {told(took)}; {server.memory() / 1e6:.1f} MB" if took else "none answered"
+
+
+@row
+def at_once(program, index):
+    with Server(program, index) as server:
+        yield "`wrk`, 100 kept connections at once", wrk(server.port, 100)
+        yield "`wrk`, 64 kept connections", wrk(server.port, 64)
+        yield "`wrk`, 64, a connection for each request", wrk(server.port, 64, "-H", "Connection: close")
+        yield "`ab -c 64`, 50,000 requests, a connection for each", ab(server.port, 50_000, "-c", "64")
+        yield "`ab -c 64 -k`, 50,000 requests", ab(server.port, 50_000, "-c", "64", "-k")
+
+
+CONF = """worker_processes 1; daemon off; pid {d}/pid; error_log {d}/errors warn; worker_rlimit_nofile 8192;
+events {{ worker_connections 4096; }}
+http {{ access_log off; client_body_temp_path {d}/b; proxy_temp_path {d}/p; fastcgi_temp_path {d}/f; uwsgi_temp_path {d}/u; scgi_temp_path {d}/s;
+ upstream search {{ server 127.0.0.1:{back} max_fails=0; {keep} }}
+ server {{ listen 127.0.0.1:{front} backlog=4096; location /search {{ proxy_pass http://search; proxy_http_version 1.1;
+  proxy_set_header Connection {connection}; proxy_set_header Host x; proxy_pass_request_headers off; proxy_connect_timeout 3s; proxy_next_upstream error; }} }} }}"""
+
+
+@row
+def behind_nginx(program, index):
+    for keep, connection in (("keepalive 16;", '""'), ("", "close")):
+        with Server(program, index) as server, tempfile.TemporaryDirectory() as folder:
+            pathlib.Path(folder).chmod(0o777)
+            front = free_port()
+            pathlib.Path(folder, "conf").write_text(CONF.format(d=folder, back=server.port, front=front, keep=keep, connection=connection))
+            nginx = subprocess.Popen(["nginx", "-p", folder, "-c", f"{folder}/conf", "-e", f"{folder}/errors"])
+            time.sleep(0.7)
+            for flags in (("-c", "16"), ("-c", "600")):
+                yield f"nginx {'with `' + keep[:-1] + '`' if keep else 'without `keepalive`'}, `ab {' '.join(flags)}`, 30,000 requests", ab(front, 30_000, *flags)
+            nginx.terminate()
+            nginx.wait()
+
+
+@row
+def few_files(program, index):
+    with Server(program, index, files=16) as server:
+        begun, kept = time.perf_counter(), []
+        for _ in range(40):
+            kept.append(server.connect())
+            kept[-1].sendall(head())
+        done, lost = 0, 0
+        for it in kept:
             try:
-                conn.sendall(bytes([byte]))
+                response(it)
+                done += 1
             except OSError:
-                break
-            if done.wait(1):
-                break
+                lost += 1
+        yield "16 open files (`ulimit -n 16`); 40 come at once, ask and keep theirs open", f"{done} answered, {lost} not, within {time.perf_counter() - begun:.1f} s"
 
 
-def beside_slow_ones(front, back):
-    done = threading.Event()
-    slow = [threading.Thread(target=drip, args=(front, 40, done)) for _ in range(20)]
-    [it.start() for it in slow]
-    time.sleep(1)
-    took = [asked(front) for _ in range(200)]
-    done.set()
-    [it.join() for it in slow]
-    row("20 send a byte a second behind nginx; 200 requests one after the other beside them", f"all answered, the slowest after {max(took) * 1e3:.1f} ms")
-    for seconds, name in ((8, "for 8 s, and goes"), (40, "without an end")):
-        done = threading.Event()
-        slow = threading.Thread(target=drip, args=(back, seconds, done))
-        slow.start()
-        time.sleep(0.1)
-        took = asked(back)
-        done.set()
-        slow.join()
-        row(f"one sends a byte a second {name}; another comes with it", f"answered after {took:.1f} s")
+@row
+def million(program, index):
+    with Server(program, index) as server:
+        ab(server.port, 20_000, "-c", "64")
+        before, begun = server.memory(), time.perf_counter()
+        said = [ab(server.port, 190_000, "-c", "64") for _ in range(5)]
+        failed = sum(int(it.split()[0]) for it in said)
+        yield "950,000 connections, one request each (`ab -c 64`)", f"{failed} failed, {time.perf_counter() - begun:.0f} s; it grew by {(server.memory() - before) / 1e6:.1f} MB"
 
 
-def silent_ones(back):
-    begun = time.perf_counter()
-    with connect(back) as conn:
-        to_end(conn)
-    row("it sends nothing", f"ended after {time.perf_counter() - begun:.1f} s")
-    with connect(back) as conn:
-        conn.sendall(head(SHORT))
-        response(conn)
+@row
+def browser(program, index):
+    with Server(program, index) as server, tempfile.TemporaryDirectory() as folder:
+        page = pathlib.Path(folder, "page.html")
+        page.write_text(f"""<body><script>
+const begun = performance.now(), times = [], one = n => fetch("http://127.0.0.1:{server.port}/search?q=a" + n, {{mode: "no-cors"}}).then(() => times.push(performance.now() - begun));
+Promise.all([...Array(30).keys()].map(one)).then(() => {{ document.body.textContent = "DONE " + times.length + " " + Math.max(...times).toFixed(1); }});
+</script></body>""")
+        words = ["chromium", "--headless", "--no-sandbox", "--disable-gpu", f"--user-data-dir={folder}/data", "--timeout=20000", "--virtual-time-budget=20000", "--dump-dom", f"file://{page}"]
+        try:
+            said = re.search(r"DONE (\d+) ([\d.]+)", subprocess.run(words, capture_output=True, text=True, timeout=90).stdout)
+            yield "Chromium fetches 30 at once over its six connections", f"{said[1]} answered, the last after {said[2]} ms" if said else "not seen"
+        except (OSError, subprocess.TimeoutExpired) as error:
+            yield "Chromium", f"not run: {error}"
+
+
+@row
+def slow_readers(program, index):
+    with tempfile.TemporaryDirectory() as folder:
+        lines = "".join(f"{'x' * 100_000} {number}\t\ttyp\n" for number in range(100))
+        pathlib.Path(folder, "long.tsv").write_text(lines)
+        subprocess.run([program, "build", f"{folder}/long.tsv", f"{folder}/long.index"], check=True)
+        with Server(program, f"{folder}/long.index") as server:
+            with server.connect(window=65536) as conn:
+                conn.sendall(head("/search?q=typ&h=100", "Connection: close\r\n"))
+                begun, count = time.perf_counter(), 0
+                try:
+                    while more := conn.recv(50_000):
+                        count += len(more)
+                        time.sleep(max(0, count / 500_000 - (time.perf_counter() - begun)))
+                    seen = f"{count / 1e6:.1f} MB, whole"
+                except OSError as error:
+                    seen = f"{count / 1e6:.1f} MB, then {error}"
+                yield "a response of 10 MB to one that reads 500 KB a second", f"{seen}, within {time.perf_counter() - begun:.1f} s"
+            before, begun = server.files(), time.perf_counter()
+            with server.connect(window=65536) as conn:
+                conn.sendall(head("/search?q=typ&h=100"))
+                time.sleep(1)
+                yield "the same to one that doesn't read; another one asks", told([server.asked(target="/search?q=nothing") for _ in range(100)])
+                while server.files() > before and time.perf_counter() < begun + 60:
+                    time.sleep(0.1)
+                yield "the one that doesn't read", f"ended after {time.perf_counter() - begun:.1f} s"
+
+
+@row
+def ends(program, index):
+    with Server(program, index) as server:
+        quiet, half, idle = server.connect(90), server.connect(90), server.connect(90)
+        half.sendall(head()[:20])
+        server.asked(idle)
         begun = time.perf_counter()
-        to_end(conn)
-    row("it sends nothing behind a response, and nobody waits", f"ended after {time.perf_counter() - begun:.1f} s")
-    kept, took = [], []
-    for _ in range(6):
-        kept.append(connect(back))
-        begun = time.perf_counter()
-        kept[-1].sendall(head(SHORT))
-        response(kept[-1])
-        took.append(time.perf_counter() - begun)
-    [it.close() for it in kept]
-    row("six connections, each kept open", "answered after " + ", ".join(f"{it:.2f}" for it in took) + " s")
-    with connect(back) as conn:
-        conn.sendall(head(SHORT, "Connection: close\r\n"))
-        response(conn)
-        took = asked(back)
-    row("one asks for the connection's end, reads the response and keeps its own side open; another comes", f"answered after {took:.2f} s")
+        for conn, what in ((quiet, "it sends nothing"), (half, "it sends half a head"), (idle, "it sends nothing behind a response")):
+            to_end(conn)
+            yield what, f"ended after {time.perf_counter() - begun:.1f} s"
 
 
-def many_heads(back):
-    for count in (21, 1500):
-        with connect(back) as conn:
-            conn.sendall(head(SHORT) * count)
+@row
+def closing(program, index):
+    with Server(program, index) as server:
+        for size in (1000, 200 << 10, 1 << 20):
+            with server.connect() as conn:
+                try:
+                    conn.sendall(head(more="Connection: close\r\n") + b"x" * size)
+                except OSError:
+                    pass
+                count, is_reset = to_end(conn)
+            yield f"a head that asks for the end, and {size:,} bytes behind it", f"{count:,} bytes, {'then a reset' if is_reset else 'then the end'}"
+        with server.connect() as conn:
+            conn.sendall(head() * 1500)
             conn.shutdown(socket.SHUT_WR)
-            got = to_end(conn)
-        row(f"{count:,} heads at once, then the end of its side", f"{got.count(b'HTTP/1.1 200'):,} responses")
-    with connect(back) as conn:
-        conn.sendall(head(SHORT))
-        conn.shutdown(socket.SHUT_WR)
-        whole = to_end(conn)
-    for size in (1000, 200 << 10, 1 << 20):
-        with connect(back) as conn:
-            try:
-                conn.sendall(head(SHORT, "Connection: close\r\n") + b"x" * size)
-            except OSError:
-                pass
-            got = to_end(conn)
-        row(f"a head that asks for the end, and {size:,} bytes behind it", "the whole response" if len(got) >= len(whole) else f"{len(got)} of {len(whole)} bytes")
-    for _ in range(200):
-        with connect(back) as conn:
-            conn.sendall(head(LONG))
-    row("200 are gone behind their head, one after the other; another comes", f"answered after {asked(back) * 1e3:.0f} ms")
-
-
-def while_held(back):
-    for count in (50, 200):
-        done, took = threading.Event(), []
-        with connect(back) as conn:
-            conn.sendall(head(SHORT)[:5])
-            time.sleep(0.2)
-            coming = [threading.Thread(target=lambda: took.append(asked(back))) for _ in range(count)]
-            [it.start() for it in coming]
-            time.sleep(1.5)
-        [it.join() for it in coming]
-        done.set()
-        row(f"{count} come while the place is held for 1.5 s", f"{len(took)} answered, the last after {max(took):.1f} s")
-
-
-def serve(program, folder):
-    """A server over an index of the papers, its port, nginx before it and that one's port."""
-    index = f"{folder}/papers.index"
-    subprocess.run([program, "build", str(ROOT / "examples/papers.tsv"), index], check=True)
-    back, front = free_port(), free_port()
-    server = subprocess.Popen([program, "serve", index, str(back), "1000000"], stdout=subprocess.PIPE)
-    server.stdout.readline()
-    pathlib.Path(folder).chmod(0o755)
-    pathlib.Path(folder, "page").mkdir()
-    shutil.copy(ROOT / "examples/page/index.html", f"{folder}/page")
-    text = (ROOT / "examples/page/nginx.conf").read_text()
-    text = text.replace("listen 127.0.0.1:8080", f"listen 127.0.0.1:{front}").replace("server 127.0.0.1:8088", f"server 127.0.0.1:{back}")
-    pathlib.Path(folder, "nginx.conf").write_text(text)
-    nginx = subprocess.Popen(["nginx", "-p", folder, "-c", f"{folder}/nginx.conf"])
-    time.sleep(1)
-    return server, back, nginx, front
+            yield "1,500 heads at once, then the end of its side", f"{to_end(conn)[0]:,} bytes of responses"
 
 
 def main():
-    if len(sys.argv) != 2:
+    if len(sys.argv) < 2:
         sys.exit(__doc__)
     with tempfile.TemporaryDirectory() as folder:
-        server, back, nginx, front = serve(sys.argv[1], folder)
-        try:
-            print("| what clients do | what was seen |\n|---|---|")
-            by_ab(front, back)
-            one_by_one(back)
-            beside_slow_ones(front, back)
-            silent_ones(back)
-            many_heads(back)
-            while_held(back)
-        finally:
-            nginx.terminate()
-            server.kill()
+        index = f"{folder}/papers.index"
+        subprocess.run([sys.argv[1], "build", str(ROOT / "examples/papers.tsv"), index], check=True)
+        print("| what clients do | what was seen |\n|---|---|")
+        for function in ROWS:
+            if sys.argv[2:] and function.__name__ not in sys.argv[2:]:
+                continue
+            try:
+                for what, seen in function(sys.argv[1], index):
+                    print(f"| {what} | {seen} |", flush=True)
+            except OSError as error:
+                print(f"| {function.__name__} | {error} |", flush=True)
 
 
+resource.setrlimit(resource.RLIMIT_NOFILE, (resource.getrlimit(resource.RLIMIT_NOFILE)[1],) * 2)
 main()

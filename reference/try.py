@@ -11,6 +11,7 @@ differs, and printed with its number; the exit status is then 1.
 A kind whose command the program hasn't yet, by `features.py`, isn't run unless COMPLETE_HAS names it. `cases.py`, `damage.py`,
 `source_cases.py` and `streams.py` make what is random. The kind `characters` goes through all that this Python's table has.
 """
+import concurrent.futures
 import contextlib
 import functools
 import io
@@ -254,6 +255,13 @@ def serve_case(dice):
     return {"files": {"C": accepted(dice, world)}, "made": {"I": made_of(dice, "C")}, "streams": streams}
 
 
+def together_case(dice):
+    """Ten connections at once."""
+    world = World(dice)
+    streams = [stream(dice, world) for _ in range(10)]
+    return {"files": {"C": accepted(dice, world)}, "made": {"I": made_of(dice, "C")}, "streams": streams, "together": True}
+
+
 def free_port():
     with socket.socket() as taken:
         taken.bind(("127.0.0.1", 0))
@@ -270,7 +278,8 @@ def served(program, case):
             try:
                 line, sent = running.stdout.readline(), []
                 if line == b"serving %d\n" % port:
-                    sent = [talk(port, pieces, SECONDS) for pieces in case["streams"] or [[]]]
+                    with concurrent.futures.ThreadPoolExecutor(10 if case.get("together") else 1) as clients:
+                        sent = list(clients.map(lambda pieces: talk(port, pieces, SECONDS), case["streams"] or [[]]))
                 out, said = running.communicate(timeout=SECONDS)
                 return running.returncode, line.replace(b"%d" % port, b"PORT") + out, said, sent
             except subprocess.TimeoutExpired:
@@ -345,12 +354,12 @@ def show(kind, number, case, got, want):
 
 # ---- Kinds and counts ----
 
-MADE = {"ask": ask_case, "words": words_case, "build": build_case, "replay": replay_case, "damage": damage_case, "serve": serve_case, "upgrade": upgrade_case,
+MADE = {"ask": ask_case, "words": words_case, "build": build_case, "replay": replay_case, "damage": damage_case, "serve": serve_case, "together": together_case, "upgrade": upgrade_case,
         "csv": csv_case, "jsonl": jsonl_case, "excerpts": excerpts_case, "merge": merge_case, "live": live_case}
 LISTED = {"characters": character_cases, "limits": limit_cases, "trial": trial_cases}
-COUNTS = {"ask": 20_000, "words": 5_000, "characters": 10_000, "limits": 100, "build": 5_000, "damage": 10_000, "replay": 5_000, "serve": 3_000, "trial": 20,
+COUNTS = {"ask": 20_000, "words": 5_000, "characters": 10_000, "limits": 100, "build": 5_000, "damage": 10_000, "replay": 5_000, "serve": 3_000, "together": 500, "trial": 20,
           "upgrade": 3_000, "csv": 20_000, "jsonl": 20_000, "excerpts": 10_000, "merge": 5_000, "live": 10_000}
-FEW = {"trial": 2, "characters": 50, "limits": 0, "serve": 50}
+FEW = {"trial": 2, "characters": 50, "limits": 0, "serve": 50, "together": 20}
 NEEDS = {"csv": "import", "jsonl": "import"}    # other kinds need the command of their name, where it is one of those to come
 
 
@@ -370,7 +379,7 @@ def cases_of(kind, count, first):
 
 def try_kind(program, kind, count, first):
     """Runs so many cases of a kind; says whether all were the same."""
-    compare = both_served if kind == "serve" else both
+    compare = both_served if kind in ("serve", "together") else both
     begun, done = time.monotonic(), 0
     for number, case in cases_of(kind, count, first):
         got, want = compare(program, case)

@@ -1,0 +1,132 @@
+//! Who lets connections in.
+ghost use Rattle.std.specs.Prelude.{◌≡◌, ◌≤◌, true, false};
+ghost use Rattle.complete.specs.declared.bounds.TheConstants.{ACCEPT_TRIES};
+
+use crate::bounds::{ACCEPT_PAUSE, ACCEPT_TRIES};
+use crate::phase::has_passed;
+use mio::net::{TcpListener, TcpStream};
+use std::io::{self, ErrorKind};
+use std::time::Instant;
+
+/// A listener that doesn't wait.
+pub trait Accept {
+    /// What a connection comes as.
+    type Stream: Drop;
+
+    /// The next connection, where one waits.
+    fn accept_now(&self) -> io::Result<Self::Stream>;
+}
+
+impl Accept for TcpListener {
+    type Stream = TcpStream;
+
+    fn accept_now(&self) -> io::Result<TcpStream> {
+        let (stream, _) = self.accept()?;
+        Ok(stream)
+    }
+}
+
+/// A listener, with what is known of those who wait to come in.
+#[derive(Drop)]
+pub struct Acceptor<L: Drop> {
+    listener: L,
+    is_awaited: bool,
+    // Since when nobody is let in.
+    paused: Option<Instant>,
+    // How often in a row letting someone in failed.
+    failures: u32,
+}
+
+impl<L: Accept + Drop> Acceptor<L> {
+    /// Nobody is known to wait.
+    pub fn new(listener: L) -> Acceptor<L> {
+        Acceptor {
+            listener,
+            is_awaited: false,
+            paused: None,
+            failures: 0,
+        }
+    }
+
+    /// The listener.
+    #[cfg(test)]
+    pub fn listener(&self) -> &L {
+        &self.listener
+    }
+
+    /// Notes that someone may wait.
+    pub fn note(&mut self) {
+        self.is_awaited = true;
+    }
+
+    /// Whether someone may wait.
+    pub fn is_awaited(&self) -> bool {
+        self.is_awaited
+    }
+
+    /// Whether someone may be let in now.
+    pub fn is_open(&self) -> bool {
+        self.is_awaited && self.paused.is_none()
+    }
+
+    /// Whether nobody is let in for a while.
+    pub fn is_paused(&self) -> bool {
+        self.paused.is_some()
+    }
+
+    /// Lets nobody in for a while.
+    pub fn pause(&mut self, now: Instant) {
+        self.paused = Some(now);
+    }
+
+    /// Ends a pause.
+    pub fn go_on(&mut self) {
+        self.paused = None;
+    }
+
+    /// Ends a pause that was long enough.
+    pub fn look(&mut self, now: Instant) {
+        if let Some(since) = self.paused {
+            if has_passed(since, now, ACCEPT_PAUSE) {
+                self.paused = None;
+            }
+        }
+    }
+
+    /// Lets one in, if one waits. Where that fails it pauses.
+    pub fn accept(&mut self, now: Instant) -> Option<L::Stream> {
+        match self.listener.accept_now() {
+            Ok(stream) => {
+                self.failures = 0;
+                Some(stream)
+            }
+            Err(error) => {
+                self.note_failure(error.kind(), now);
+                None
+            }
+        }
+    }
+
+    // One who went away before coming in is no failure, nor is that nobody waits.
+    fn note_failure(&mut self, kind: ErrorKind, now: Instant) {
+        match kind {
+            ErrorKind::WouldBlock => {
+                self.failures = 0;
+                self.is_awaited = false;
+            }
+            ErrorKind::Interrupted | ErrorKind::ConnectionAborted => {}
+            _ => {
+                self.failures = self.failures.saturating_add(1);
+                self.pause(now);
+            }
+        }
+    }
+
+    /// Whether serving ends, since nobody could be let in for long and nobody is there.
+    pub fn gives_up(&self, is_deserted: bool) -> bool
+        ensures deserted { result ≡ true → is_deserted ≡ true }
+        ensures tried { result ≡ true → ACCEPT_TRIES ≤ self.now.failures }
+    {
+        is_deserted && self.failures >= ACCEPT_TRIES
+    }
+}

@@ -1,0 +1,85 @@
+//! Where request heads end among the bytes of a connection.
+//!
+//! Bytes are cut into lines at each LF. A line is empty where nothing but at most one CR stands before its LF. Empty lines in front
+//! of a head are skipped; the next empty line ends it.
+ghost use Rattle.std.specs.Prelude.{◌≡◌, ◌<◌, ◌≤◌, true, length};
+ghost use Rattle.complete.specs.Heads.{is_within, IsBetween};
+
+/// What the bytes so far end with.
+#[derive(Clone, Copy, Debug, PartialEq, Eq)]
+pub enum Mark {
+    /// No byte of a head, but maybe empty lines in front of one.
+    Between,
+    /// The same, and a CR that may belong to an empty line.
+    BetweenReturn,
+    /// A line of a head with text.
+    Text,
+    /// A whole line of a head.
+    Line,
+    /// A whole line of a head, and a CR that may belong to an empty line.
+    LineReturn,
+}
+
+impl Mark {
+    /// Whether a head has begun that hasn't ended.
+    pub fn is_within(self) -> bool
+        ensures { result ≡ is_within self }
+    {
+        match self {
+            Mark::Between | Mark::BetweenReturn => false,
+            Mark::Text | Mark::Line | Mark::LineReturn => true,
+        }
+    }
+
+    // With a byte more.
+    fn behind(self, byte: u8) -> Mark {
+        match (self, byte) {
+            (Mark::Between | Mark::BetweenReturn, b'\n') => Mark::Between,
+            (Mark::Between, b'\r') => Mark::BetweenReturn,
+            (Mark::Text, b'\n') => Mark::Line,
+            (Mark::Line | Mark::LineReturn, b'\n') => Mark::Between,
+            (Mark::Line, b'\r') => Mark::LineReturn,
+            _ => Mark::Text,
+        }
+    }
+}
+
+/// Some first bytes.
+#[derive(Clone, Copy, Debug, PartialEq, Eq)]
+pub struct Part {
+    /// How many.
+    pub count: usize,
+    /// What they end with.
+    pub mark: Mark,
+    /// A head ends among them.
+    pub has_end: bool,
+}
+
+/// The bytes up to the end of the first head, all where none ends or where all are wanted. Those before them end with `mark`.
+pub fn part_of(bytes: &[u8], mark: Mark, is_whole: bool) -> Part
+    ensures within { result.count ≤ length bytes.now }
+    ensures some { 0 < length bytes.now → 0 < result.count }
+    ensures whole { is_whole ≡ true → result.count ≡ length bytes.now }
+    ensures cut { result.count < length bytes.now → IsBetween result.mark }
+{
+    let mut mark = mark;
+    let mut has_end = false;
+    for place in 0..bytes.len() {
+        let next = mark.behind(bytes[place]);
+        let is_end = mark.is_within() && !next.is_within();
+        mark = next;
+        has_end = has_end || is_end;
+        if is_end && !is_whole {
+            return Part {
+                count: place + 1,
+                mark,
+                has_end,
+            };
+        }
+    }
+    Part {
+        count: bytes.len(),
+        mark,
+        has_end,
+    }
+}
