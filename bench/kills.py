@@ -133,7 +133,7 @@ def main():
         place = folder / "place"
         place.mkdir()
         second = folder / "second.tsv"
-        second.write_bytes(COLLECTION.read_bytes()[:4000].rpartition(b"\n")[0])
+        second.write_text("\n".join(COLLECTION.read_text().splitlines()[::-1]))
         begun = time.time()
         new = index_of(program, COLLECTION, folder)
         whole_time = time.time() - begun
