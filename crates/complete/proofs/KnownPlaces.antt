@@ -4,7 +4,7 @@ use Rattle.std.specs.Prelude.{Option, Some, None}
 use Rattle.std.specs.Str.{bytes_eq}
 use Rattle.std.specs.String.{string_bytes}
 use Rattle.cs_base.proofs.NameMaps.{same_name, name_itself}
-use Rattle.complete.specs.Known.{content_of, IsPlaceOf}
+use Rattle.complete.specs.Known.{content_of, IsKnownAt}
 use Rattle.complete.specs.declared.known.Known.{Known}
 
 module _ {C : Type 0} where
@@ -12,7 +12,7 @@ module _ {C : Type 0} where
   abbrev pub NoneBefore : List (Known C) → List ℕ → ℕ → Type 0
   NoneBefore ks n i = (k : ℕ) (d : Known C) → k < i → bytes_eq (string_bytes (get_or ks k d).name) n ≡ false
 
-  pub found_place : (ks : List (Known C)) (n : List ℕ) (i : ℕ) (d : Known C) → i < length ks → NoneBefore ks n i → bytes_eq (string_bytes (get_or ks i d).name) n ≡ true → IsPlaceOf ks n i
+  pub found_place : (ks : List (Known C)) (n : List ℕ) (i : ℕ) (d : Known C) → i < length ks → NoneBefore ks n i → bytes_eq (string_bytes (get_or ks i d).name) n ≡ true → IsKnownAt ks n i
   found_place [] n i d l before at_i = absurd (omega arith)
   found_place (k ∷ ks) n zero d l before at_i =
       record {

@@ -3,7 +3,7 @@
 //! Bytes are cut into lines at each LF. A line is empty where nothing but at most one CR stands before its LF. Empty lines in front
 //! of a head are skipped; the next empty line ends it.
 ghost use Rattle.std.specs.Prelude.{◌≡◌, ◌<◌, ◌≤◌, true, length};
-ghost use Rattle.complete.specs.Heads.{is_within, IsBetween};
+ghost use Rattle.complete.specs.HeadMarks.{has_begun, IsBetween};
 
 /// What the bytes so far end with.
 #[derive(Clone, Copy, Debug, PartialEq, Eq)]
@@ -22,8 +22,8 @@ pub enum Mark {
 
 impl Mark {
     /// Whether a head has begun that hasn't ended.
-    pub fn is_within(self) -> bool
-        ensures { result ≡ is_within self }
+    pub fn has_begun(self) -> bool
+        ensures { result ≡ has_begun self }
     {
         match self {
             Mark::Between | Mark::BetweenReturn => false,
@@ -46,7 +46,7 @@ impl Mark {
 
 /// Some first bytes.
 #[derive(Clone, Copy, Debug, PartialEq, Eq)]
-pub struct Part {
+pub struct FirstPart {
     /// How many.
     pub count: usize,
     /// What they end with.
@@ -56,7 +56,7 @@ pub struct Part {
 }
 
 /// The bytes up to the end of the first head, all where none ends or where all are wanted. Those before them end with `mark`.
-pub fn part_of(bytes: &[u8], mark: Mark, is_whole: bool) -> Part
+pub fn part_of(bytes: &[u8], mark: Mark, is_whole: bool) -> FirstPart
     ensures within { result.count ≤ length bytes.now }
     ensures some { 0 < length bytes.now → 0 < result.count }
     ensures whole { is_whole ≡ true → result.count ≡ length bytes.now }
@@ -66,18 +66,18 @@ pub fn part_of(bytes: &[u8], mark: Mark, is_whole: bool) -> Part
     let mut has_end = false;
     for place in 0..bytes.len() {
         let next = mark.behind(bytes[place]);
-        let is_end = mark.is_within() && !next.is_within();
+        let is_end = mark.has_begun() && !next.has_begun();
         mark = next;
         has_end = has_end || is_end;
         if is_end && !is_whole {
-            return Part {
+            return FirstPart {
                 count: place + 1,
                 mark,
                 has_end,
             };
         }
     }
-    Part {
+    FirstPart {
         count: bytes.len(),
         mark,
         has_end,

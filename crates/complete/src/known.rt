@@ -1,6 +1,6 @@
 //! What is known of names: a list in which a name is found once.
 ghost use Rattle.std.specs.Prelude.{◌≡◌, MatchOption, None};
-ghost use Rattle.complete.specs.Known.{content_of, IsPlaceOf};
+ghost use Rattle.complete.specs.Known.{content_of, IsKnownAt};
 
 /// A name, and what is known of it.
 #[derive(Drop)]
@@ -13,7 +13,7 @@ pub struct Known<C> {
 
 /// Where a name stands in the list, if it is known.
 pub fn place_of<C>(known: &[Known<C>], name: &str) -> Option<usize>
-    ensures { MatchOption result (content_of known.now name.now ≡ None) (IsPlaceOf known.now name.now) }
+    ensures { MatchOption result (content_of known.now name.now ≡ None) (IsKnownAt known.now name.now) }
 {
     for (i, entry) in known.iter().enumerate() {
         if entry.name.as_str() == name {

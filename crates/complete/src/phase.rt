@@ -25,11 +25,11 @@ pub enum Phase {
 
 impl Phase {
     /// What is waited for behind a response. Where a part of the next head came already, it isn't a request that is waited for.
-    pub fn behind_response(is_within: bool) -> Phase
-        ensures half { is_within ≡ true → result ≡ Phase.Head }
-        ensures whole { is_within ≡ false → result ≡ Phase.Next }
+    pub fn behind_response(has_begun: bool) -> Phase
+        ensures half { has_begun ≡ true → result ≡ Phase.Head }
+        ensures whole { has_begun ≡ false → result ≡ Phase.Next }
     {
-        if is_within { Phase::Head } else { Phase::Next }
+        if has_begun { Phase::Head } else { Phase::Next }
     }
 
     /// How long it may take, in milliseconds, or how long its peer may take nothing of what is pending for it.

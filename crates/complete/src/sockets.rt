@@ -1,6 +1,6 @@
 //! The sockets of the connections, and whose turn it is.
 ghost use Rattle.std.specs.Prelude.{◌≡◌, ℕ, Option, IfSome, true};
-ghost use Rattle.complete.specs.{Living.{IsTurn, IsStep}, Seats.{HasSeat}};
+ghost use Rattle.complete.specs.{Living.{IsTurn, IsSocketStep}, Seats.{HasSeat}};
 
 use crate::bounds::{KEPT_MOST, SWEEP, TURNS};
 use crate::living::lives;
@@ -403,7 +403,7 @@ fn step_of(
     is_whole: bool,
     now: Instant,
 ) -> Step
-    ensures { IsStep live.now.items into.new result }
+    ensures { IsSocketStep live.now.items into.new result }
 {
     let Some(socket) = socket else {
         return Step::Rests;

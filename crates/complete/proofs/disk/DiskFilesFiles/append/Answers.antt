@@ -1,4 +1,4 @@
-use Rattle.complete.proofs.AnswerLemmas.{noted_err}
+use Rattle.complete.proofs.NotedAnswers.{noted_err}
 use Rattle.complete.proofs.disk.DiskFilesFiles.append.Goals as goal
 
 pub returns-clause-gone : goal.returns-clause-gone
