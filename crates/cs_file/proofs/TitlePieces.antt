@@ -24,7 +24,7 @@ use Rattle.cs_model_index.specs.FileRules.{tried}
 use Rattle.cs_model_index.specs.Layout.{Header}
 use Rattle.cs_model_index.specs.Sections.{titles_at}
 use Rattle.cs_file.specs.declared.fault.OpenFault.{OpenFault}
-use Rattle.cs_file.specs.Opening.{AreBytes, AreOnward, Refuses, IsHeaderOf, HasOffsets, bad_text, bad_title, first_offset, last_offset, offsets_of, piece_in}
+use Rattle.cs_file.specs.Opening.{AreBytes, AreOnwardOffsets, Refuses, IsHeaderOf, HasOffsets, bad_title_in, bad_title, first_offset, last_offset, offsets_of, piece_in}
 use Rattle.cs_file.specs.Opening.{titles_cut}
 use Rattle.cs_file.proofs.BytesLemmas.{bytes_at, more_bytes}
 use Rattle.cs_file.proofs.OffsetsLemmas.{onward_far, title_at_index}
@@ -33,7 +33,7 @@ use Rattle.cs_file.proofs.TitlesLemmas.{titles_count, within_part}
 use Rattle.cs_file.proofs.TitleStageLemmas.{RestOfTitles, title_lies, title_refused, title_told, titles_on}
 
 -- ---- offsets
-pub all_onward : (h : Header) (os : List ℕ) → HasOffsets h os → AreOnward os
+pub all_onward : (h : Header) (os : List ℕ) → HasOffsets h os → AreOnwardOffsets os
 all_onward h os ruled =
     let count = ruled.count in
     record {
@@ -55,7 +55,7 @@ piece_of os from end le lt = record {
   each = λ k few. get_or-take (end + 1 - from) (drop from os) k 0 (omega arith) ∙ get_or-drop from os k 0;
 }
 
-pub piece_onward : (os ps : List ℕ) (from n : ℕ) → AreOnward os → IsPiece os ps from n → AreOnward ps
+pub piece_onward : (os ps : List ℕ) (from n : ℕ) → AreOnwardOffsets os → IsPiece os ps from n → AreOnwardOffsets ps
 piece_onward os ps from n all p =
     let count = p.count in
     let within = p.within in
@@ -101,7 +101,7 @@ cut_title os bytes k lt =
 abbrev title_at : List ℕ → Header → List ℕ → ℕ → List ℕ
 title_at b h os d = part b (titles_at h + get_or os d 0) (get_or os (d + 1) 0 - get_or os d 0)
 
-pub title_lies_in : (b : List ℕ) (h : Header) (os ps : List ℕ) (from n k : ℕ) → AreOnward os → IsPiece os ps from n → k < n
+pub title_lies_in : (b : List ℕ) (h : Header) (os ps : List ℕ) (from n k : ℕ) → AreOnwardOffsets os → IsPiece os ps from n → k < n
     → get_or (titles_cut ps (piece_in b (titles_at h) ps)) k [] ≡ title_at b h os (from + k)
 title_lies_in b h os ps from n k all p lt =
     let count = p.count in
@@ -180,8 +180,8 @@ module _ (b : List ℕ) (h : Header) (os ps : List ℕ) (from n : ℕ) (is : IsH
   none_bad None e = refl
   none_bad (Some i) e = absurd cc
 
-  pub piece_passed : tried 9 (bad_text (titles_at h) ps (piece_in b (titles_at h) ps)) ≡ None → RestOfTitles b h os from → RestOfTitles b h os (from + n)
-  unfolding bad_text
+  pub piece_passed : tried 9 (bad_title_in (titles_at h) ps (piece_in b (titles_at h) ps)) ≡ None → RestOfTitles b h os from → RestOfTitles b h os (from + n)
+  unfolding bad_title_in
   piece_passed fine rest = passed_some n (omega arith) (all_fine (none_bad (position is_bad titles) (tried_none 9 _ fine))) rest
 
   refused_at : (o : Option ℕ) (e : OpenFault) → position is_bad titles ≡ o → RestOfTitles b h os from
@@ -202,13 +202,13 @@ module _ (b : List ℕ) (h : Header) (os ps : List ℕ) (from n : ℕ) (is : IsH
       (subst (λ (u : Bool). Refuses (tried 9 (unless u (titles_at h + get_or os (from + i) 0))) e) (sym text)
       (subst (λ (x : ℕ). Refuses (tried 9 (Some x)) e) place refused))
 
-  pub piece_refused : (e : OpenFault) → RestOfTitles b h os from → Refuses (tried 9 (bad_text (titles_at h) ps (piece_in b (titles_at h) ps))) e
+  pub piece_refused : (e : OpenFault) → RestOfTitles b h os from → Refuses (tried 9 (bad_title_in (titles_at h) ps (piece_in b (titles_at h) ps))) e
       → Refuses (tried 9 (bad_title b)) e
-  unfolding bad_text
+  unfolding bad_title_in
   piece_refused e rest refused = refused_at (position is_bad titles) e refl rest refused
 
 -- ---- the bytes of the titles
-pub piece_bytes : (b : List ℕ) (first : ℕ) (os ps : List ℕ) (from n : ℕ) → AreOnward os → IsPiece os ps from n → AreBytes b first (get_or os from 0)
+pub piece_bytes : (b : List ℕ) (first : ℕ) (os ps : List ℕ) (from n : ℕ) → AreOnwardOffsets os → IsPiece os ps from n → AreBytes b first (get_or os from 0)
     → AreBytes b (first + first_offset ps) (last_offset ps - first_offset ps) → AreBytes b first (get_or os (from + n) 0)
 piece_bytes b first os ps from n all p before here =
     let within = p.within in

@@ -8,7 +8,7 @@
 --   title_place i d, title_len i d      where title d begins, and how many bytes it has
 --   IsIndex i               what an opened index keeps, whatever store it was read from
 --   ArePlaces heads places    where the blocks of these heads lie, counted from the first block
---   IsKept i ps             an opened index, and where its blocks lie
+--   IsKeptIndex i ps             an opened index, and where its blocks lie
 --   StandsFor b i           the bytes are an index file, and the index is what is kept of it
 --   HasAllBlocks told i             the store tells nothing, or has all blocks
 --   AreMet heads lo hi first last    the blocks from `first` up to `last` are those that hold a word from lo up to hi
@@ -100,7 +100,7 @@ pub record ArePlaces (heads : List BlockHead) (places : List ℕ) : Type 0 where
   pub each : (k : ℕ) → k < length heads → slice_index_or places k 0 ≡ sum_by (λ h. h.len) (take k heads)
 
 -- what an opened index keeps, with the places of its blocks
-pub record IsKept (i : IndexView) (ps : List ℕ) : Type 0 where
+pub record IsKeptIndex (i : IndexView) (ps : List ℕ) : Type 0 where
   pub index : IsIndex i
   pub places : ArePlaces i.heads ps
 

@@ -18,9 +18,9 @@
 --   words_judged ws           rules 6 and 7 of words
 --   bad_joint h hs, bad_size h hs, directory_judged h ws hs       rules 10 to 12 of heads
 --   bad_offset h os, bad_title b     where rules 8 and 9 are broken
---   first_offset os, last_offset os, AreOnward os     the first and the last of some offsets, of which none is less than one before it
+--   first_offset os, last_offset os, AreOnwardOffsets os     the first and the last of some offsets, of which none is less than one before it
 --   piece_in b first os, titles_cut os bytes       the bytes between such offsets, which count from a place, and the titles in them
---   bad_text first os bytes      where rule 9 is broken by these titles
+--   bad_title_in first os bytes      where rule 9 is broken by these titles
 --   header_judged bytes size         rules 2 to 4 of the header's bytes
 --   block_broken at head docs bytes     the first of rules 13 to 17 that the bytes of a block at a place break, with its place in the file
 --   file_words b, offsets_of b, file_titles b, heads_of b, blocks_of b       what is read of the bytes
@@ -154,7 +154,7 @@ abbrev pub last_offset : List ℕ → ℕ
 last_offset os = unwrap_or (last_value os) 0
 
 -- there is one, and a later one is never less
-pub record AreOnward (os : List ℕ) : Type 0 where
+pub record AreOnwardOffsets (os : List ℕ) : Type 0 where
   pub some : 0 < length os
   pub each : (k m : ℕ) → k ≤ m → m < length os → slice_index_or os k 0 ≤ slice_index_or os m 0
 
@@ -167,8 +167,8 @@ abbrev pub titles_cut : List ℕ → List ℕ → List (List ℕ)
 titles_cut os bytes = titles_in (map (λ o. o - first_offset os) os) bytes
 
 -- the place of the first of these titles that isn't UTF-8; None where each is
-unfoldable pub bad_text : ℕ → List ℕ → List ℕ → Option ℕ
-bad_text first os bytes = option_map (λ i. first + slice_index_or os i 0) (position (λ t. not (is_utf8 t)) (titles_cut os bytes))
+unfoldable pub bad_title_in : ℕ → List ℕ → List ℕ → Option ℕ
+bad_title_in first os bytes = option_map (λ i. first + slice_index_or os i 0) (position (λ t. not (is_utf8 t)) (titles_cut os bytes))
 
 -- ---- the stages
 -- rules 1 to 4

@@ -28,14 +28,14 @@ pub struct Index {
 }
 
 impl Model for Index {
-    ghost use Rattle.cs_file.specs.Indexes.{IndexView, IsKept};
+    ghost use Rattle.cs_file.specs.Indexes.{IndexView, IsKeptIndex};
 
     ghost Value = { IndexView };
 
     ghost view = { λ i.
         record { docs = i.docs; words = i.words; offsets = i.offsets; heads = i.heads; target = i.target; titles_at = i.titles_at; blocks_at = i.blocks_at } };
 
-    ghost invariant = { λ i. IsKept
+    ghost invariant = { λ i. IsKeptIndex
         (record { docs = i.docs; words = i.words; offsets = i.offsets; heads = i.heads; target = i.target; titles_at = i.titles_at; blocks_at = i.blocks_at }) i.places };
 }
 

@@ -10,7 +10,7 @@ ghost use Rattle.cs_model_index.specs.declared.limits.TheConstants.{NUMBER_BYTES
 ghost use Rattle.cs_file.specs.CallAnswers.{is_read_of_open};
 ghost use Rattle.cs_file.specs.HeaderView.{seen_header};
 ghost use Rattle.cs_file.specs.Indexes.{CausedReads};
-ghost use Rattle.cs_file.specs.Opening.{AreBytes, AreOnward, Judges, IsHeader, HasHeader, HasOffsets, before, bad_offset, bad_text, bad_title, first_offset, last_offset};
+ghost use Rattle.cs_file.specs.Opening.{AreBytes, AreOnwardOffsets, Judges, IsHeader, HasHeader, HasOffsets, before, bad_offset, bad_title_in, bad_title, first_offset, last_offset};
 ghost use Rattle.cs_file.specs.Opening.{offsets_of, piece_in, titles_stage};
 
 use crate::fault::OpenFault;
@@ -177,11 +177,11 @@ fn judge_piece<S: Store>(
     offsets: &[u32],
     bytes: &mut Vec<u8>,
 ) -> Result<(), OpenFault>
-    requires onward { AreOnward offsets.now }
+    requires onward { AreOnwardOffsets offsets.now }
     requires places { first + last_offset offsets.now < 2 ^ 64 }
     requires within { ForSome (S.bytes store.old) (λ b. first + last_offset offsets.now ≤ length b) }
 
-    ensures exact { ForSome (S.bytes store.old) (λ b. Judges (tried 9 (bad_text first offsets.now (piece_in b first offsets.now))) result) }
+    ensures exact { ForSome (S.bytes store.old) (λ b. Judges (tried 9 (bad_title_in first offsets.now (piece_in b first offsets.now))) result) }
     ensures small { ForSome (S.bytes store.old) (λ b. OnOk result (AreBytes b (first + first_offset offsets.now) (last_offset offsets.now - first_offset offsets.now))) }
     ensures bytes { S.bytes store.new ≡ S.bytes store.old }
     ensures lent { S.lent store.new ≡ S.lent store.old }
@@ -190,17 +190,17 @@ fn judge_piece<S: Store>(
     let from = offsets[0];
     let len = last(offsets) - from;
     section_over(store, first + u64::from(from), len as usize, bytes)?;
-    tried(9, bad_text(first, offsets, bytes))
+    tried(9, bad_title_in(first, offsets, bytes))
 }
 
 // The place of the first title that isn't UTF-8, of those between some offsets, which count from a place, in the bytes from the first
 // offset up to the last.
-fn bad_text(first: u64, offsets: &[u32], bytes: &[u8]) -> Option<u64>
-    requires onward { AreOnward offsets.now }
+fn bad_title_in(first: u64, offsets: &[u32], bytes: &[u8]) -> Option<u64>
+    requires onward { AreOnwardOffsets offsets.now }
     requires whole { length bytes.now ≡ last_offset offsets.now - first_offset offsets.now }
     requires places { first + last_offset offsets.now < 2 ^ 64 }
 
-    ensures { result ≡ bad_text first offsets.now bytes.now }
+    ensures { result ≡ bad_title_in first offsets.now bytes.now }
 {
     let from = offsets[0];
     for i in 0..offsets.len() - 1 {

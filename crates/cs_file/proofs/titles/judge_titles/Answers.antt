@@ -3,7 +3,7 @@ use Rattle.cs_model_index.specs.FileRules.{tried}
 use Rattle.cs_model_index.specs.Layout.{Header}
 use Rattle.cs_model_index.specs.Sections.{titles_at}
 use Rattle.cs_file.specs.HeaderView.{seen_header}
-use Rattle.cs_file.specs.Opening.{AreBytes, AreOnward, HasOffsets, Refuses, bad_text, first_offset, last_offset, piece_in}
+use Rattle.cs_file.specs.Opening.{AreBytes, AreOnwardOffsets, HasOffsets, Refuses, bad_title_in, first_offset, last_offset, piece_in}
 use Rattle.cs_file.proofs.OffsetsLemmas.{onward_end}
 use Rattle.cs_file.proofs.StagesLemmas.{judged_along}
 use Rattle.cs_file.proofs.TitlePieces.{IsPiece, all_onward, piece_bytes, piece_last, piece_of, piece_onward, piece_passed, piece_refused}
@@ -27,7 +27,7 @@ cut os d e = take (e + 1 - d) (drop d os)
 -- its end among all titles
 record Cut (h : Header) (os : List ℕ) (d e : ℕ) : Type 0 where
   piece : IsPiece os (cut os d e) d (e - d)
-  onward : AreOnward (cut os d e)
+  onward : AreOnwardOffsets (cut os d e)
   last : last_offset (cut os d e) ≤ h.titles_len
   sum : d + (e - d) ≡ e
 
@@ -75,7 +75,7 @@ returns-in_err-judge_piece-clause-exact g c = λ b t.
     let ps = cut os d e in
     let p = cut_of h os d e c.requires.ruled c.piece_end-end.ensures.some c.piece_end-end.ensures.within in
     let fault = c.in_err-judge_piece.field-0.0 in
-    let refused = subst (λ (n : ℕ). Refuses (tried 9 (bad_text n ps (piece_in b n ps))) fault) c.titles_at-first.ensures.value
+    let refused = subst (λ (n : ℕ). Refuses (tried 9 (bad_title_in n ps (piece_in b n ps))) fault) c.titles_at-first.ensures.value
     (c.in_err-judge_piece.ensures.exact b (c.loop-doc.invariant.same ∙ t)) in
     judged_along _ _ c.from_residual-in_err-judge_piece.result
     (piece_refused b h os ps d (e - d) (c.requires.told b t) (c.requires.offsets b t) c.requires.ruled p.piece fault (c.loop-doc.invariant.told b t) refused)
@@ -94,7 +94,7 @@ loop-doc-preserved g c =
     record {
       few = omega (arith, count, c.piece_end-end.ensures.within);
       told = λ b t.
-          let fine = ap (λ (n : ℕ). tried 9 (bad_text n ps (piece_in b n ps))) (sym first) ∙ c.in_ok-judge_piece.ensures.exact b (c.loop-doc.invariant.same ∙ t) in
+          let fine = ap (λ (n : ℕ). tried 9 (bad_title_in n ps (piece_in b n ps))) (sym first) ∙ c.in_ok-judge_piece.ensures.exact b (c.loop-doc.invariant.same ∙ t) in
           subst (RestOfTitles b h os) p.sum
           (piece_passed b h os ps d (e - d) (c.requires.told b t) (c.requires.offsets b t) c.requires.ruled p.piece fine (c.loop-doc.invariant.told b t));
       small = λ b t.

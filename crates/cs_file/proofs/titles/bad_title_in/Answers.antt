@@ -2,9 +2,9 @@ use Rattle.std.proofs.Common.{◌≡◌, ℕ, ◌+◌, Bool, false, List, [], ge
 use Rattle.std.specs.Prelude.{not}
 use Rattle.std.specs.Option.{option_map}
 use Rattle.std.specs.Str.{is_utf8}
-use Rattle.cs_file.specs.Opening.{bad_text, titles_cut}
+use Rattle.cs_file.specs.Opening.{bad_title_in, titles_cut}
 use Rattle.cs_file.proofs.TitlePieces.{cut_count, cut_title, found_at, found_none}
-use Rattle.cs_file.proofs.titles.bad_text.Goals as goal
+use Rattle.cs_file.proofs.titles.bad_title_in.Goals as goal
 
 -- the place of a title
 abbrev place : ℕ → List ℕ → ℕ → ℕ
@@ -21,7 +21,7 @@ loop-i-preserved c =
     (ap is_bad (cut_title os bytes c.loop-i.i (omega arith)) ∙ ap not (sym c.is_text.ensures ∙ c.if-not-is_text.false))
 
 pub returns-then-not-is_text : goal.returns-then-not-is_text
-unfolding bad_text
+unfolding bad_title_in
 returns-then-not-is_text c =
     let os = c.args.offsets.now in
     let bytes = c.args.bytes.now in
@@ -31,7 +31,7 @@ returns-then-not-is_text c =
     ∙ sym (ap (option_map (place c.args.first os)) (found_at is_bad (titles_cut os bytes) i (omega (arith, cut_count os bytes)) c.loop-i.invariant here))
 
 pub returns : goal.returns
-unfolding bad_text
+unfolding bad_title_in
 returns c =
     let os = c.args.offsets.now in
     let bytes = c.args.bytes.now in
