@@ -131,7 +131,7 @@ fn reply_to<A: Answerer>(
     let (status, body) = match answerer.reply(alloc, request) {
         Ok(reply) => (200, Body::Reply(reply_bytes(alloc, &reply)?)),
         Err(AskFault::Read) => (500, Body::Fault(Fault::Read)),
-        Err(AskFault::Changed { rule, at }) => { (500, Body::Fault(Fault::Changed { rule, at })) }
+        Err(AskFault::Changed { rule, at }) => (500, Body::Fault(Fault::Changed { rule, at })),
         Err(AskFault::Memory) => return Err(Memory),
     };
     Ok(Answer {

@@ -56,10 +56,10 @@ fn bytes_of(alloc: Global, answer: &Answer) -> Result<Vec<u8>, Memory>
     ensures { IfOk result (λ v. v.items ≡ response_bytes (response answer.now)) }
 {
     match &answer.body {
-        Body::Reply(text) => wrap(alloc, answer.status, answer.close, text),
+        Body::Reply(text) => wrap(alloc, answer.status, answer.close, text.as_slice()),
         Body::Fault(fault) => {
             let text = fault_bytes(alloc, fault)?;
-            wrap(alloc, answer.status, answer.close, &text)
+            wrap(alloc, answer.status, answer.close, text.as_slice())
         }
     }
 }

@@ -6,7 +6,7 @@ use Rattle.cs_query.specs.RequestView.{asked}
 use Rattle.cs_hub.specs.DueReads.{is_want, response_by}
 use Rattle.cs_hub.proofs.AskedLemmas.{asks_one, none_ok}
 use Rattle.cs_hub.specs.Responding.{body_text}
-use Rattle.cs_hub.proofs.responses.reply_to.Goals.{in-Ok+in_ok-reply_bytes, in-Err-Read, in-Err-Changed}
+use Rattle.cs_hub.proofs.responses.reply_to.Goals.{in-Ok+in_ok-reply_bytes-in-Ok, in-Err-Read, in-Err-Changed}
 use Rattle.cs_hub.proofs.responses.reply_to.Goals as goal
 
 -- a response of this status and body
@@ -27,8 +27,8 @@ returns-clause-asked g c =
     let q = asked c.args.request.now in
     let close = c.args.close in
     elim c.match-reply.branch [
-      | in-Ok+in_ok-reply_bytes w ↦ asks_one g.A.Answerer.leaves _ q _ _ _ _ w.in-Ok.ensures.asked (λ e. refl)
-          (refl, ap (made close 200) (sym w.in_ok-reply_bytes.ensures.ok) ∙ ap (λ m. made close m.0 (body_text m.1)) (sym w.status-is))
+      | in-Ok+in_ok-reply_bytes-in-Ok w ↦ asks_one g.A.Answerer.leaves _ q _ _ _ _ w.in-Ok.ensures.asked (λ e. refl)
+          (refl, ap (made close 200) (sym w.in_ok-reply_bytes-in-Ok.ensures.ok) ∙ ap (λ m. made close m.0 (body_text m.1)) (sym w.status-is))
       | in-Err-Read w ↦ asks_one g.A.Answerer.leaves _ q _ _ _ _ w.in-Err-Read.ensures.asked (λ e. ap (λ x. is_want (Err x)) w.in-Err-Read.field-0-is)
           (refl, ap (λ x. response_by close (Err x)) w.in-Err-Read.field-0-is ∙ ap (λ m. made close m.0 (body_text m.1)) (sym w.status-is))
       | in-Err-Changed w ↦ asks_one g.A.Answerer.leaves _ q _ _ _ _ w.in-Err-Changed.ensures.asked (λ e. ap (λ x. is_want (Err x)) w.in-Err-Changed.field-0-is)
