@@ -1,4 +1,4 @@
-use Rattle.std.proofs.Common.{ℕ, Bool, List, refl, sym, ap, ◌∙◌}
+use Rattle.std.proofs.Common.{ℕ, Bool, List, refl, sym, ap, ◌∙◌, ◌≡◌}
 use Rattle.std.specs.Prelude.{Option, Some, Err}
 use Rattle.cs_json.specs.FaultTexts.{fault_text}
 use Rattle.cs_model_serving.specs.Responses.{Response}
@@ -31,6 +31,9 @@ returns-clause-asked g c =
           (refl, ap (made close 200) (sym w.in_ok-reply_bytes-in-Ok.ensures.ok) ∙ ap (λ m. made close m.0 (body_text m.1)) (sym w.status-is))
       | in-Err-Read w ↦ asks_one g.A.Answerer.leaves _ q _ _ _ _ w.in-Err-Read.ensures.asked (λ e. ap (λ x. is_want (Err x)) w.in-Err-Read.field-0-is)
           (refl, ap (λ x. response_by close (Err x)) w.in-Err-Read.field-0-is ∙ ap (λ m. made close m.0 (body_text m.1)) (sym w.status-is))
-      | in-Err-Changed w ↦ asks_one g.A.Answerer.leaves _ q _ _ _ _ w.in-Err-Changed.ensures.asked (λ e. ap (λ x. is_want (Err x)) w.in-Err-Changed.field-0-is)
-          (refl, ap (λ x. response_by close (Err x)) w.in-Err-Changed.field-0-is ∙ ap (λ m. made close m.0 (body_text m.1)) (sym w.status-is))
+      | in-Err-Changed w ↦ asks_one g.A.Answerer.leaves _ q _ _ _ _ w.in-Err-Changed.ensures.asked (λ e. ap (λ x. is_want (Err x)) w.in-Err-Changed.field-0-is) (
+        refl,
+        (let e : response_by close (Err w.in-Err-Changed.field-0) ≡ made close 500 (body_text (c.match-reply.status.1)) =
+            rw w.status-is (rw w.in-Err-Changed.field-0-is refl) in e) ∙ ap (λ n. made close n (body_text c.match-reply.status.1)) (sym (ap (λ m. m.0) w.status-is)),
+      )
     ]
