@@ -5,7 +5,7 @@
 --   heeds_acted, heeds_lighter            a piece
 --   greets_kept, greets_refused, greets_lighter   a connection that opened
 --   ended_acted, ended_lighter            one that ended
---   shut_live                             one that is closed at the end of all
+--   shut_live, shut_same                  one that is closed at the end of all
 use Rattle.std.proofs.Common.{◌≡◌, ℕ, ◌+◌, ◌<◌, ◌≤◌, ◌==◌, Bool, true, false, not, ◌&&◌, ◌++◌, cond, List, length, slice_set, refl, sym, ◌∙◌, ap, subst, arith}
 use Rattle.std.specs.Prelude.{Option, Some, None, is_some, replicate}
 use Rattle.std.specs.Cmp.{unsigned_tied}
@@ -17,7 +17,7 @@ use Rattle.cs_base.specs.outside.Hub.{Listening, Conns, Talk}
 use Rattle.cs_model.specs.Corpus.{Corpus}
 use Rattle.cs_model_serving.specs.Connections.{Left}
 use Rattle.cs_hub.specs.HubFollowing.{Slots, left_at, HasLive}
-use Rattle.cs_hub.specs.Rounds.{weight, to_come, Acted, closed_unless}
+use Rattle.cs_hub.specs.Rounds.{weight, to_come, Acted, IsAdded, closed_unless}
 use Rattle.cs_hub.specs.Turns.{Received}
 use Rattle.cs_hub.proofs.SpeakLemmas.{itself, by_conn}
 use Rattle.cs_hub.proofs.ConnectionSlots.{set_at, unset_at, none_there, padded_at, set_weight, padded_weight, held_within}
@@ -55,11 +55,12 @@ acted_live core core' c x s s' h a =
     ∙ sym (a.live d)
 
 -- ---- a piece
-pub heeds_acted : (core core1 core' : Slots) (c : ℕ) (kept : Option Left) (s s1 s' : Listening) → core1 ≡ slice_set core c None → core' ≡ slice_set core1 c kept
+pub heeds_acted : (core core1 core' : Slots) (c : ℕ) (lent kept : Option Left) (s s1 s' : Listening) → core1 ≡ slice_set core c lent
+    → core' ≡ slice_set core1 c kept
     → s1 ≡ s → s' ≡ closed_unless (is_some kept) c s1
     → c < length core → set.contains s.live c ≡ true → Acted core core' c kept s s'
-heeds_acted core core1 core' c kept s s1 s' e f g i h live =
-    acted_as core (slice_set core c kept) core' c kept s (closed_unless (is_some kept) c s) s' (f ∙ ap (λ k. slice_set k c kept) e ∙ set-set core c None kept)
+heeds_acted core core1 core' c lent kept s s1 s' e f g i h live =
+    acted_as core (slice_set core c kept) core' c kept s (closed_unless (is_some kept) c s) s' (f ∙ ap (λ k. slice_set k c kept) e ∙ set-set core c lent kept)
     (i ∙ ap (closed_unless (is_some kept) c) g) (acted_set core c kept s h live)
 
 pub heeds_lighter : (Over : Corpus → Type 0) (core core' : Slots) (c : ℕ) (old : Left) (piece : List ℕ) (kept : Option Left) (m n : ℕ)
@@ -73,28 +74,27 @@ heeds_lighter Over core core' c old piece None m n talk talk' e was room some r 
     omega (arith, w, ap weight e, ap to_come was, room)
 
 -- ---- a connection that opens
-pub greets_kept : (core mid core' : Slots) (c n : ℕ) (l : Left) (s : Listening) → mid ≡ core ++ replicate n None → core' ≡ slice_set mid c (Some l)
-    → c < length mid → set.contains s.live c ≡ true → Acted core core' c (Some l) s s
-greets_kept core mid core' c n l s e f h live = record {
-  sets = λ d. ap (λ k. left_at k d) f ∙ set_at mid c d (Some l) h ∙ ap (cond (d == c) (Some l)) (ap (λ k. left_at k d) e ∙ padded_at core n d);
+pub greets_kept : (core core' : Slots) (c : ℕ) (l : Left) (s : Listening) → IsAdded core c l core' → set.contains s.live c ≡ true
+    → Acted core core' c (Some l) s s
+greets_kept core core' c l s a live = record {
+  sets = λ d. ap (λ k. left_at k d) a.1 ∙ set_at (core ++ replicate a.0 None) c d (Some l) a.2 ∙ ap (cond (d == c) (Some l)) (padded_at core a.0 d);
   live = λ d. there_at (set.contains s.live) c d true live;
   same = refl;
 }
 
-pub greets_refused : (core core' : Slots) (c n : ℕ) (s s' : Listening) → core' ≡ core ++ replicate n None → left_at core c ≡ None
+pub greets_refused : (core core' : Slots) (c : ℕ) (s s' : Listening) → core' ≡ core → left_at core c ≡ None
     → s' ≡ record s { live = set.remove s.live c } → Acted core core' c None s s'
-greets_refused core core' c n s s' e none f = record {
-  sets = λ d. ap (λ k. left_at k d) e ∙ padded_at core n d ∙ none_there core c d none;
+greets_refused core core' c s s' e none f = record {
+  sets = λ d. ap (λ k. left_at k d) e ∙ none_there core c d none;
   live = λ d. ap (λ (t : Listening). set.contains t.live d) f ∙ gone_at s.live c d;
   same = f ∙ ap (λ (t : Listening). let u : Listening = record s { live = t.live } in u) (sym f);
 }
 
-pub greets_lighter : (core mid core' : Slots) (c n : ℕ) (l : Left) → mid ≡ core ++ replicate n None → core' ≡ slice_set mid c (Some l) → c < length mid
-    → weight core' ≤ weight core + (MAX_CONNECTION_BYTES + 1)
-greets_lighter core mid core' c n l e f h =
-    let w = set_weight mid c (Some l) h in
-    let p = padded_weight core n in
-    omega (arith, w, p, ap weight e, ap weight f)
+pub greets_lighter : (core core' : Slots) (c : ℕ) (l : Left) → IsAdded core c l core' → weight core' ≤ weight core + (MAX_CONNECTION_BYTES + 1)
+greets_lighter core core' c l a =
+    let w = set_weight (core ++ replicate a.0 None) c (Some l) a.2 in
+    let p = padded_weight core a.0 in
+    omega (arith, w, p, ap weight a.1)
 
 -- ---- a connection that ended
 pub ended_acted : (core core' : Slots) (c : ℕ) (s : Listening) → core' ≡ slice_set core c None → set.contains s.live c ≡ false → Acted core core' c None s s
@@ -112,17 +112,14 @@ ended_lighter core core' c e held =
     omega (arith, w, p, ap weight e)
 
 -- ---- the end of all
-some_live : (core : Slots) (s : Listening) → HasLive core s → (c : ℕ)
-    → Acted core (slice_set core c None) c None s (closed_unless (not (is_some (left_at core c))) c s)
-some_live core s h c =
-    elim (is_some (left_at core c)) as (λ b. is_some (left_at core c) ≡ b → Acted core (slice_set core c None) c None s (closed_unless (not b) c s)) [
-      | true ↦ λ e. record { sets = λ d. unset_at core c d; live = λ d. gone_at s.live c d; same = refl }
-      | false ↦ λ e. record { sets = λ d. unset_at core c d; live = λ d. there_at (set.contains s.live) c d false (sym (h c) ∙ e); same = refl }
-    ] refl
-
-pub shut_live : (core core' : Slots) (c : ℕ) (b : Bool) (s s' : Listening) → HasLive core s → core' ≡ slice_set core c None → b ≡ is_some (left_at core c)
-    → s' ≡ closed_unless (not b) c s → HasLive core' s'
-shut_live core core' c b s s' h e is f =
+pub shut_live : (core core' : Slots) (c : ℕ) (s s' : Listening) → HasLive core s → is_some (left_at core c) ≡ true → core' ≡ slice_set core c None
+    → s' ≡ record s { live = set.remove s.live c } → HasLive core' s'
+shut_live core core' c s s' h held e f =
     acted_live core core' c None s s' (λ d other. h d)
-    (acted_as core (slice_set core c None) core' c None s (closed_unless (not (is_some (left_at core c))) c s) s' e (f ∙ ap (λ x. closed_unless (not x) c s) is)
-    (some_live core s h c))
+    (acted_as core (slice_set core c None) core' c None s (closed_unless false c s) s' e f
+    (acted_set core c None s (held_within core c held) (sym (h c) ∙ held)))
+
+pub shut_same : (s0 s s' : Listening) (x : Conns) → s ≡ record s0 { live = s.live } → s' ≡ record s { live = x } → s' ≡ record s0 { live = s'.live }
+shut_same s0 s s' x e f =
+    f ∙ ap (λ (t : Listening). let u : Listening = record t { live = x } in u) e
+    ∙ ap (λ (t : Listening). let u : Listening = record s0 { live = t.live } in u) (sym f)

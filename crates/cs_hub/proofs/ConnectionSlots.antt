@@ -1,18 +1,24 @@
--- Slots by their numbers, how many are held, and what they weigh.
+-- Slots by their numbers, how they follow a map, and what they weigh.
 --
---   held_within, set_at, unset_at, none_at, padded_at, replicate-push     reading and setting a slot
---   live_le, live_none, live_some, some_held, padded_count                counting
---   padded_weight, set_weight                                             weighing
-use Rattle.std.proofs.Common.{◌≡◌, ℕ, suc, ◌+◌, ◌<◌, ◌≤◌, ◌==◌, true, cond, [], ◌∷◌, ◌++◌, length, slice_set, refl, sym, ◌∙◌, ap, arith}
+--   held_within, set_at, held_set, unset_at, none_there, padded_at     reading and setting a slot
+--   length-slots_of, slots_at, kept_at, updated_at           the slots of a look-up by number
+--   none_in, some_in                                         a map without entries, and one with some
+--   removed, added, replaced, and what lies below then       the slots of a map that changed at one key
+--   padded_weight, set_weight                                weighing
+use Rattle.std.proofs.Common.{◌≡◌, ℕ, suc, ◌+◌, ◌-◌, ◌<◌, ◌≤◌, ◌==◌, true, false, cond, List, [], ◌∷◌, ◌++◌, length, length-append, slice_set, refl, sym, ◌∙◌, ap, arith}
 use Prim.Native.Nat.{zero}
 use Rattle.std.specs.Prelude.{Option, Some, None, is_some, replicate}
-use Rattle.std.proofs.lemmas.List.{get_or-set_same, get_or-set_other, set-get_or}
-use Rattle.std.proofs.lemmas.List.Sums.{sum_by-set, sum_by-append, sum_by-cons}
+use Rattle.std.specs.BTreeMap.{BTreeMap, Updates, get, is_at}
+use Rattle.std.specs.Cmp.{unsigned_tied}
+use Rattle.std.specs.Map.{lookup}
+use Rattle.std.specs.Ordering.{nat_cmp}
+use Rattle.std.proofs.lemmas.List.{ext_get_or, get_or-set_same, get_or-set_other, length-replicate, length-set, set-get_or}
+use Rattle.std.proofs.lemmas.List.Sums.{sum_by-set, sum_by-append}
 use Rattle.std.proofs.lemmas.List.Folds.{sum_by-replicate}
 use Rattle.cs_model_serving.specs.Connections.{Left}
-use Rattle.cs_hub.specs.HubFollowing.{Slots, left_at}
-use Rattle.cs_hub.specs.Rounds.{live_count, one_live, weight, to_come}
-use Rattle.cs_hub.proofs.SpeakLemmas.{itself, by_conn, differs}
+use Rattle.cs_hub.specs.HubFollowing.{AreBelow, Slots, left_at, slots_of}
+use Rattle.cs_hub.specs.Rounds.{IsAdded, weight, to_come}
+use Rattle.cs_hub.proofs.SpeakLemmas.{itself, by_conn, differs, same_conn}
 
 -- ---- reading
 pub held_within : (xs : Slots) (c : ℕ) → is_some (left_at xs c) ≡ true → c < length xs
@@ -24,6 +30,11 @@ pub set_at : (xs : Slots) (c d : ℕ) (x : Option Left) → c < length xs → le
 set_at xs c d x h = by_conn (λ d. left_at (slice_set xs c x) d ≡ cond (d == c) x (left_at xs d)) c d
     (get_or-set_same xs c x None h ∙ sym (ap (λ b. cond b x (left_at xs c)) (itself c)))
     (λ other. get_or-set_other xs c d x None (differs d c other) ∙ sym (ap (λ b. cond b x (left_at xs d)) other))
+
+pub held_set : (xs ys : Slots) (c : ℕ) (l : Left) → is_some (left_at xs c) ≡ true → ys ≡ slice_set xs c (Some l) → is_some (left_at ys c) ≡ true
+held_set xs ys c l h e =
+    ap (λ k. is_some (left_at k c)) e ∙ ap is_some (set_at xs c c (Some l) (held_within xs c h))
+    ∙ ap (λ b. is_some (cond b (Some l) (left_at xs c))) (itself c)
 
 pub none_there : (core : Slots) (c d : ℕ) → left_at core c ≡ None → left_at core d ≡ cond (d == c) None (left_at core d)
 none_there core c d h =
@@ -48,35 +59,106 @@ padded_at [] n d = none_at n d
 padded_at (x ∷ xs) n zero = refl
 padded_at (x ∷ xs) n (suc d) = padded_at xs n d
 
-pub replicate-push : (n : ℕ) → replicate {A = Option Left} n None ++ None ∷ [] ≡ replicate (suc n) None
-replicate-push zero = refl
-replicate-push (suc n) = ap (λ l. None ∷ l) (replicate-push n)
+-- ---- a look-up by number
+pub length-slots_of : (kept : ℕ → Option Left) (n : ℕ) → length (slots_of kept n) ≡ n
+length-slots_of kept zero = refl
+length-slots_of kept (suc n) = ap suc (length-slots_of (λ c. kept (suc c)) n)
 
--- ---- counting
-pub live_le : (xs : Slots) → live_count xs ≤ length xs
-live_le [] = omega arith
-live_le (None ∷ xs) = let h = live_le xs in omega (arith, h, sum_by-cons one_live None xs)
-live_le (Some l ∷ xs) = let h = live_le xs in omega (arith, h, sum_by-cons one_live (Some l) xs)
+pub slots_at : (kept : ℕ → Option Left) (n : ℕ) → AreBelow kept n → (d : ℕ) → left_at (slots_of kept n) d ≡ kept d
+slots_at kept zero below d = elim (kept d) as (λ x. kept d ≡ x → None ≡ x) [
+  | None ↦ λ e. refl
+  | Some l ↦ λ e. absurd (let h = below d (ap is_some e) in omega (arith, h))
+] refl
+slots_at kept (suc n) below zero = refl
+slots_at kept (suc n) below (suc d) = slots_at (λ c. kept (suc c)) n (λ c h. let e = below (suc c) h in omega (arith, e)) d
 
-pub live_none : (xs : Slots) → live_count xs ≡ 0 → (d : ℕ) → left_at xs d ≡ None
-live_none [] h d = refl
-live_none (None ∷ xs) h zero = refl
-live_none (None ∷ xs) h (suc d) = live_none xs (let e : live_count xs ≡ 0 = omega (arith, h, sum_by-cons one_live None xs) in e) d
-live_none (Some l ∷ xs) h d = absurd (omega (arith, h, sum_by-cons one_live (Some l) xs))
+pub kept_at : (m : BTreeMap ℕ Left) (n : ℕ) (xs : Slots) (c : ℕ) → AreBelow (get nat_cmp m) n → slots_of (get nat_cmp m) n ≡ xs → left_at xs c ≡ get nat_cmp m c
+kept_at m n xs c below e = ap (λ k. left_at k c) (sym e) ∙ slots_at (get nat_cmp m) n below c
 
-pub live_some : (xs : Slots) (d : ℕ) → is_some (left_at xs d) ≡ true → 0 < live_count xs
-live_some [] d h = absurd cc
-live_some (None ∷ xs) zero h = absurd cc
-live_some (None ∷ xs) (suc d) h = let e = live_some xs d h in omega (arith, e, sum_by-cons one_live None xs)
-live_some (Some l ∷ xs) d h = omega (arith, sum_by-cons one_live (Some l) xs)
+-- the entries of a map that has none, or some
+pub none_in : (es : List (ℕ × Left)) → (0 < length es → ⊥) → (c : ℕ) → lookup (is_at (nat_cmp c)) es ≡ None
+none_in [] h c = refl
+none_in (e ∷ es) h c = absurd (h (omega arith))
 
-pub some_held : (xs : Slots) → 0 < live_count xs → (d : ℕ) × (is_some (left_at xs d) ≡ true)
-some_held [] h = absurd (omega arith)
-some_held (None ∷ xs) h = let r = some_held xs (omega (arith, h, sum_by-cons one_live None xs)) in (suc r.0, r.1)
-some_held (Some l ∷ xs) h = (0, refl)
+pub some_in : (es : List (ℕ × Left)) → (length es ≡ 0 → ⊥) → (c : ℕ) × (is_some (lookup (is_at (nat_cmp c)) es) ≡ true)
+some_in [] h = absurd (h refl)
+some_in (e ∷ es) h = (e.0, ap (λ b. is_some (cond b (Some e.1) (lookup (is_at (nat_cmp e.0)) es))) (unsigned_tied e.0 e.0 ∙ itself e.0))
 
-pub padded_count : (xs : Slots) (n : ℕ) → live_count (xs ++ replicate n None) ≡ live_count xs
-padded_count xs n = omega (arith, sum_by-append one_live xs (replicate n None), sum_by-replicate one_live n None)
+-- slots with the same at each number are the same
+same_slots : (xs : Slots) (kept : ℕ → Option Left) (n : ℕ) → AreBelow kept n → length xs ≡ n → ((d : ℕ) → kept d ≡ left_at xs d) → slots_of kept n ≡ xs
+same_slots xs kept n below h same =
+    ext_get_or None (slots_of kept n) xs (length-slots_of kept n ∙ sym h) (λ d within. slots_at kept n below d ∙ same d)
+
+flipped : (c d : ℕ) → (d == c) ≡ false → (c == d) ≡ false
+flipped c d h =
+    elim (c == d) as (λ b. (c == d) ≡ b → b ≡ false) [ true ↦ λ e. absurd (differs d c h (sym (same_conn c d e))) | false ↦ λ e. refl ] refl
+
+-- what a map has behind a change at one key
+pub updated_at : (m m' : BTreeMap ℕ Left) (c : ℕ) (x : Option Left) → Updates nat_cmp m m' c x → (d : ℕ)
+    → get nat_cmp m' d ≡ cond (d == c) x (get nat_cmp m d)
+updated_at m m' c x u d =
+    by_conn (λ d. get nat_cmp m' d ≡ cond (d == c) x (get nat_cmp m d)) c d
+    (u.1 ∙ sym (ap (λ b. cond b x (get nat_cmp m c)) (itself c)))
+    (λ other. u.2 d (unsigned_tied c d ∙ flipped c d other) ∙ sym (ap (λ b. cond b x (get nat_cmp m d)) other))
+
+-- a slot is set where the map changes at its number
+at_slot : (kept kept' : ℕ → Option Left) (n c : ℕ) (x : Option Left) → AreBelow kept n → ((d : ℕ) → kept' d ≡ cond (d == c) x (kept d)) → (d : ℕ)
+    → kept' d ≡ cond (d == c) x (left_at (slots_of kept n) d)
+at_slot kept kept' n c x below sets d = sets d ∙ ap (cond (d == c) x) (sym (slots_at kept n below d))
+
+below_set : (kept kept' : ℕ → Option Left) (n n' c : ℕ) (x : Option Left) → AreBelow kept n → ((d : ℕ) → kept' d ≡ cond (d == c) x (kept d)) → n ≤ n'
+    → (is_some x ≡ true → c < n') → AreBelow kept' n'
+below_set kept kept' n n' c x below sets more within = λ d.
+    by_conn (λ d. is_some (kept' d) ≡ true → d < n') c d
+    (λ h. within (sym (ap is_some (sets c ∙ ap (λ b. cond b x (kept c)) (itself c))) ∙ h))
+    (λ other h. let e = below d (sym (ap is_some (sets d ∙ ap (λ b. cond b x (kept d)) other)) ∙ h) in omega (arith, e, more))
+
+pub removed_below : (m m' : BTreeMap ℕ Left) (n c : ℕ) → AreBelow (get nat_cmp m) n → Updates nat_cmp m m' c None → AreBelow (get nat_cmp m') n
+removed_below m m' n c below u =
+    below_set (get nat_cmp m) (get nat_cmp m') n n c None below (updated_at m m' c None u) (omega arith) (λ h. absurd cc)
+
+pub removed : (m m' : BTreeMap ℕ Left) (n c : ℕ) → AreBelow (get nat_cmp m) n → Updates nat_cmp m m' c None
+    → slots_of (get nat_cmp m') n ≡ slice_set (slots_of (get nat_cmp m) n) c None
+removed m m' n c below u =
+    let xs : Slots = slots_of (get nat_cmp m) n in
+    same_slots (slice_set xs c None) (get nat_cmp m') n (removed_below m m' n c below u) (length-set xs c None ∙ length-slots_of (get nat_cmp m) n)
+    (λ d. at_slot (get nat_cmp m) (get nat_cmp m') n c None below (updated_at m m' c None u) d ∙ sym (unset_at xs c d))
+
+pub added_below : (m m' : BTreeMap ℕ Left) (n n' c : ℕ) (l : Left) → AreBelow (get nat_cmp m) n → Updates nat_cmp m m' c (Some l) → n ≤ n' → c < n'
+    → AreBelow (get nat_cmp m') n'
+added_below m m' n n' c l below u more within =
+    below_set (get nat_cmp m) (get nat_cmp m') n n' c (Some l) below (updated_at m m' c (Some l) u) more (λ h. within)
+
+pub added : (m m' : BTreeMap ℕ Left) (n n' c : ℕ) (l : Left) → AreBelow (get nat_cmp m) n → Updates nat_cmp m m' c (Some l) → n ≤ n' → c < n'
+    → IsAdded (slots_of (get nat_cmp m) n) c l (slots_of (get nat_cmp m') n')
+added m m' n n' c l below u more within =
+    let xs : Slots = slots_of (get nat_cmp m) n in
+    let ys : Slots = xs ++ replicate (n' - n) None in
+    let len : length ys ≡ n' = omega (
+      arith,
+      length-append xs (replicate (n' - n) None),
+      length-replicate {A = Option Left} (n' - n) None,
+      length-slots_of (get nat_cmp m) n,
+      more,
+    ) in
+    let inside : c < length ys = omega (arith, len, within) in (
+      n' - n,
+      same_slots (slice_set ys c (Some l)) (get nat_cmp m') n' (added_below m m' n n' c l below u more within) (length-set ys c (Some l) ∙ len)
+          (λ d. at_slot (get nat_cmp m) (get nat_cmp m') n c (Some l) below (updated_at m m' c (Some l) u) d
+          ∙ ap (cond (d == c) (Some l)) (sym (padded_at xs (n' - n) d)) ∙ sym (set_at ys c d (Some l) inside)),
+      inside,
+    )
+
+pub replaced : (m m' : BTreeMap ℕ Left) (n c : ℕ) (l : Left) → AreBelow (get nat_cmp m) n → Updates nat_cmp m m' c (Some l)
+    → is_some (left_at (slots_of (get nat_cmp m) n) c) ≡ true
+    → slots_of (get nat_cmp m') n ≡ slice_set (slots_of (get nat_cmp m) n) c (Some l)
+replaced m m' n c l below u held =
+    let xs : Slots = slots_of (get nat_cmp m) n in
+    let inside : c < length xs = held_within xs c held in
+    let within : c < n = omega (arith, inside, length-slots_of (get nat_cmp m) n) in
+    same_slots (slice_set xs c (Some l)) (get nat_cmp m') n (added_below m m' n n c l below u (omega arith) within)
+    (length-set xs c (Some l) ∙ length-slots_of (get nat_cmp m) n)
+    (λ d. at_slot (get nat_cmp m) (get nat_cmp m') n c (Some l) below (updated_at m m' c (Some l) u) d ∙ sym (set_at xs c d (Some l) inside))
 
 -- ---- weighing
 pub padded_weight : (xs : Slots) (n : ℕ) → weight (xs ++ replicate n None) ≡ weight xs

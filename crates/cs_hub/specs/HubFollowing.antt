@@ -4,6 +4,8 @@
 --
 --   Slots                    what is kept of connections, each at its number; None where nothing is
 --   left_at core c           that of connection c; None behind the last slot
+--   slots_of kept n          what a look-up by number has at the first n numbers
+--   AreBelow kept n          it has nothing at the others
 --   HasLive core s           the connections that are kept are the live ones of the hub
 --   HasLiveBut core s e      the same before a step, but for the connection that the event opened or ended
 --   IsWhole e piece          the bytes are those of the event's piece
@@ -16,7 +18,8 @@
 --   StaysRight               where the core followed the hub before the event, it follows it after the step
 --   IsOther e d              the event isn't of connection d
 --   LeavesOthers             a step changes nothing on another connection
-use Rattle.std.specs.Prelude.{◌≡◌, ◌⊎◌, ℕ, ◌+◌, ◌<◌, ◌≤◌, Bool, true, false, ◌||◌, ◌==◌, List, length, slice_index_or, Option, Some, None, is_some}
+use Rattle.std.specs.Prelude.{◌≡◌, ◌⊎◌, ℕ, suc, ◌+◌, ◌<◌, ◌≤◌, Bool, true, false, ◌||◌, ◌==◌, List, [], ◌∷◌, length, slice_index_or, Option, Some, None, is_some}
+use Prim.Native.Nat.{zero}
 use Rattle.std.specs.Option.{ForSome, option_map}
 use Rattle.std.specs.FinSet as set
 use Rattle.cs_base.specs.outside.Hub.{Talk, Listening, IsLive, IsOrderly, Happens, sent_on, came_of, hears}
@@ -35,6 +38,15 @@ Slots = List (Option Left)
 -- what is kept of a connection; None where there is no slot for it
 abbrev pub left_at : Slots → ℕ → Option Left
 left_at core c = slice_index_or core c None
+
+-- what a look-up by number has at the first n numbers, in their order
+abbrev pub slots_of : (ℕ → Option Left) → ℕ → Slots
+slots_of kept zero = []
+slots_of kept (suc n) = kept 0 ∷ slots_of (λ c. kept (suc c)) n
+
+-- it has something at numbers below n alone
+abbrev pub AreBelow : (ℕ → Option Left) → ℕ → Type 0
+AreBelow kept n = (c : ℕ) → is_some (kept c) ≡ true → c < n
 
 -- the live connections are those of which something is kept; of no slots there is none
 abbrev pub HasLive : Slots → Listening → Type 0

@@ -1,5 +1,6 @@
 -- How the response to a head is made.
 --
+--   body_text b            the bytes of the body of an answer
 --   response a             an answer of the code, as a response
 --   IsJudgedSo e r         r is the response to each judgement that the fault e of a head stands for
 --   IsRefusedSo e close r  r is the response to parameters that are refused with e, over each corpus
@@ -8,6 +9,7 @@ use Rattle.std.specs.Prelude.{◌≡◌, ℕ, Bool, List}
 use Rattle.cs_http.specs.declared.heads.HeadFault.{HeadFault}
 use Rattle.cs_http.specs.Judging.{IsHeadCause}
 use Rattle.cs_http.specs.Refusing.{IsCause}
+use Rattle.cs_json.specs.FaultTexts.{fault_text}
 use Rattle.cs_model.specs.Corpus.{Corpus}
 use Rattle.cs_model.specs.Replies.{reply_text}
 use Rattle.cs_model.specs.Requests.{Request, reply_of}
@@ -15,10 +17,17 @@ use Rattle.cs_model_serving.specs.Heads.{Judgement}
 use Rattle.cs_model_serving.specs.Responses.{Response, to_judgement, to_params}
 use Rattle.cs_query.specs.declared.request.ReqFault.{ReqFault}
 use Rattle.cs_hub.specs.declared.answer.Answer.{Answer}
+use Rattle.cs_hub.specs.declared.answer.Body.{Body}
+use Rattle.cs_hub.specs.declared.answer.Body.TheVariants as bodies
+
+-- those of a reply, or those that a fault has
+abbrev pub body_text : Body → List ℕ
+body_text (bodies.Reply text) = text.items
+body_text (bodies.Fault fault) = fault_text fault
 
 -- its status, whether it closes the connection, and its body, which may be empty
 abbrev pub response : Answer → Response
-response a = record { status = a.status; closes = a.close; body = a.body.items }
+response a = record { status = a.status; closes = a.close; body = body_text a.body }
 
 -- whatever corpus is asked; of want of memory nothing is said
 abbrev pub IsJudgedSo : HeadFault → Response → Type 0

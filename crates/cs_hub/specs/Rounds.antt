@@ -1,7 +1,7 @@
 -- What the slots of the core hold, what one event does to them, and what of all connections is still to come.
 --
---   one_live x, live_count core      1 for a connection that is kept; how many are
 --   to_come x, weight core           how many bytes may still come on it, and one for its end; over all that are kept
+--   IsAdded core c l core'            this is kept of connection c, which may stand behind the last slot
 --   Acted                            a connection is kept so, or no more; the others are as they were
 --   closed_unless kept c s           the hub's state after a connection was kept or closed
 --   OnlyCloses                       what closing keeps of a hub
@@ -17,7 +17,7 @@
 --   Went                             how a round went
 --   StaysServed                      what is served by a round
 --   StaysBeside                      how a round leaves the core beside the hub
-use Rattle.std.specs.Prelude.{◌≡◌, ◌⊎◌, ℕ, ◌+◌, ◌-◌, ◌*◌, ◌<◌, ◌≤◌, Bool, true, false, ◌==◌, cond, List, [], length, Option, Some, None, is_some}
+use Rattle.std.specs.Prelude.{◌≡◌, ◌⊎◌, ℕ, ◌+◌, ◌-◌, ◌*◌, ◌<◌, ◌≤◌, Bool, true, false, ◌==◌, cond, List, [], ◌++◌, length, Option, Some, None, is_some, replicate, slice_set}
 use Rattle.std.specs.List.{sum_by}
 use Rattle.std.specs.Option.{option_map}
 use Rattle.std.specs.FinSet as set
@@ -36,15 +36,6 @@ use Rattle.cs_hub.specs.Speaking.{BreaksBy, Starved}
 use Rattle.cs_hub.specs.Turns.{Received}
 
 -- ---- slots
--- none for an empty slot
-abbrev pub one_live : Option Left → ℕ
-one_live None = 0
-one_live (Some l) = 1
-
--- of no slots none
-abbrev pub live_count : Slots → ℕ
-live_count core = sum_by one_live core
-
 -- the bytes up to the limit, and the end of the connection; none for an empty slot
 abbrev pub to_come : Option Left → ℕ
 to_come None = 0
@@ -55,6 +46,10 @@ abbrev pub weight : Slots → ℕ
 weight core = sum_by to_come core
 
 -- ---- one event
+-- this is kept of the connection, behind as many empty slots as bring it within
+abbrev pub IsAdded : Slots → ℕ → Left → Slots → Type 0
+IsAdded core c l core' = (n : ℕ) × (core' ≡ slice_set (core ++ replicate n None) c (Some l)) × (c < length (core ++ replicate n None))
+
 -- this is kept of connection c, None where nothing is, and it is live where something is; the others are as they were
 pub record Acted (core core' : Slots) (c : ℕ) (x : Option Left) (s s' : Listening) : Type 0 where
   pub sets : (d : ℕ) → left_at core' d ≡ cond (d == c) x (left_at core d)

@@ -2,6 +2,17 @@
 ghost use Rattle.std.specs.Prelude.{◌≡◌, true};
 ghost use Rattle.cs_model_serving.specs.Responses.{is_status};
 
+use cs_json::Fault;
+
+/// What the body of a response is.
+#[derive(Debug, Drop)]
+pub(crate) enum Body {
+    /// The text of a reply, which is JSON.
+    Reply(Vec<u8>),
+    /// The text of a fault. Memory is asked for it when it is sent, so that a fault takes none before.
+    Fault(Fault),
+}
+
 /// A response.
 #[derive(Debug, Drop)]
 pub(crate) struct Answer {
@@ -9,8 +20,8 @@ pub(crate) struct Answer {
     pub status: u16,
     /// Whether the connection is closed after it.
     pub close: bool,
-    /// Its body, which is JSON.
-    pub body: Vec<u8>,
+    /// Its body.
+    pub body: Body,
     /// The status is one of those that are sent.
     pub ghost sent: { is_status status ≡ true },
 }

@@ -9,7 +9,7 @@ ghost use Rattle.cs_hub.specs.Turns.{IsOpen, Replied, Turned, HoldsBytes, IsTurn
 
 use crate::answer::Answer;
 use crate::answerer::Answerer;
-use crate::responses::{answer_head, answer_too_long};
+use crate::responses::{answer_head, too_long};
 use crate::saying::{deliver, starve};
 use cs_base::{Hub, Memory};
 use cs_http::{Look, Seen};
@@ -186,10 +186,5 @@ fn refuse<H: Hub>(alloc: Global, hub: &mut H, conn: u32)
     ensures refused { IsTurnedAway conn (H.talk hub.old) (H.talk hub.new) }
     ensures calm { Calm H.state H.talk H.faults H.send_faults hub.old hub.new }
 {
-    match answer_too_long(alloc) {
-        Ok(answer) => {
-            let _ = deliver(alloc, hub, conn, &answer);
-        }
-        Err(_) => starve(hub, conn),
-    }
+    let _ = deliver(alloc, hub, conn, &too_long());
 }

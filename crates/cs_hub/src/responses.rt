@@ -1,5 +1,6 @@
 //! The response to a head.
-ghost use Rattle.std.specs.Prelude.{◌≡◌, ◌≢◌, [], ◌∷◌, IfOk, is_ok};
+ghost use Rattle.std.specs.Prelude.{◌≡◌, ◌≢◌, [], ◌∷◌, IfOk, OnErr, is_ok};
+ghost use Rattle.cs_http.specs.Judging.{IsSearch};
 ghost use Rattle.cs_model.specs.Parameters.{HoldsLimits, request_refusal};
 ghost use Rattle.cs_model_serving.specs.Heads.{judge};
 ghost use Rattle.cs_model_serving.specs.Responses.{response_to, to_params, too_long};
@@ -9,12 +10,12 @@ ghost use Rattle.cs_hub.specs.DueReads.{IsBy, IsResponseBy, closes_behind, reque
 ghost use Rattle.cs_hub.specs.Responding.{response, IsJudgedSo, IsRefusedSo, replied};
 ghost use Rattle.cs_hub.specs.Turns.{IsGiven};
 
-use crate::answer::Answer;
+use crate::answer::{Answer, Body};
 use crate::answerer::Answerer;
 use cs_base::Memory;
 use cs_engine::AskFault;
 use cs_http::{HeadFault, head, request};
-use cs_json::{Fault, fault_bytes, reply_bytes};
+use cs_json::{Fault, reply_bytes};
 use cs_query::{ReqFault, Request};
 use std::alloc::Global;
 
@@ -29,32 +30,34 @@ pub(crate) fn answer_head<A: Answerer>(
     ensures close { IfOk result (λ a. a.close ≡ closes_behind (judge bytes.now)) }
     ensures asked { AsksAsSent A.leaves (is_ok result) (requests_in (judge bytes.now)) (A.kept answerer.old) (A.kept answerer.new)
         (λ xs. IfOk result (λ a. IsResponseBy bytes.now xs (response a))) }
+    // a refused head is never told as want of memory
+    ensures memory { OnErr result (IsSearch (judge bytes.now)) }
     ensures stays { StaysAnswering A.answers A.lent A.faults answerer.old answerer.new }
 {
     match head(alloc, bytes) {
         Ok(asked) => answer_params(alloc, answerer, asked.params.as_slice(), asked.close),
-        Err(fault) => refuse_head(alloc, fault),
+        Err(fault) => refuse_head(fault),
     }
 }
 
 /// The response where no head ends within the limit.
 #[tactic(auto, unfolding(cs_json::specs::FaultTexts::fault_text))]
-pub(crate) fn answer_too_long(alloc: Global) -> Result<Answer, Memory>
-    ensures { IfOk result (λ a. response a ≡ too_long) }
+pub(crate) fn too_long() -> Answer
+    ensures { response result ≡ too_long }
 {
-    let body = fault_bytes(alloc, &Fault::TooLong)?;
-    Ok(Answer {
+    Answer {
         status: 431,
         close: true,
-        body,
-    })
+        body: Body::Fault(Fault::TooLong),
+    }
 }
 
-// The response to bytes that aren't answered with a reply.
+// The response to bytes that aren't answered with a reply. It takes no memory: want of it is told only where it was met before.
 #[tactic(auto, unfolding(cs_json::specs::FaultTexts::fault_text))]
-fn refuse_head(alloc: Global, fault: HeadFault) -> Result<Answer, Memory>
+fn refuse_head(fault: HeadFault) -> Result<Answer, Memory>
     ensures judged { IfOk result (λ a. IsJudgedSo fault (response a)) }
     ensures told { IfOk result (λ a. fault ≢ HeadFault.Memory) }
+    ensures memory { OnErr result (fault ≡ HeadFault.Memory) }
 {
     let (status, close, fault) = match fault {
         HeadFault::NotHead => (400, true, Fault::NotHead),
@@ -63,11 +66,10 @@ fn refuse_head(alloc: Global, fault: HeadFault) -> Result<Answer, Memory>
         HeadFault::Method { close } => (405, close, Fault::Method),
         HeadFault::Memory => return Err(Memory),
     };
-    let body = fault_bytes(alloc, &fault)?;
     Ok(Answer {
         status,
         close,
-        body,
+        body: Body::Fault(fault),
     })
 }
 
@@ -87,25 +89,25 @@ fn answer_params<A: Answerer>(
 {
     match request(alloc, params) {
         Ok(request) => reply_to(alloc, answerer, &request, close),
-        Err(fault) => refuse_params(alloc, fault, close),
+        Err(fault) => refuse_params(fault, close),
     }
 }
 
-// The response to refused parameters.
+// The response to refused parameters. It takes no memory: want of it is told only where it was met before.
 #[tactic(auto, unfolding(cs_json::specs::FaultTexts::fault_text))]
-fn refuse_params(alloc: Global, fault: ReqFault, close: bool) -> Result<Answer, Memory>
+fn refuse_params(fault: ReqFault, close: bool) -> Result<Answer, Memory>
     ensures refused { IfOk result (λ a. IsRefusedSo fault close (response a)) }
     ensures close { IfOk result (λ a. a.close ≡ close) }
     ensures told { IfOk result (λ a. fault ≢ ReqFault.Memory) }
+    ensures memory { OnErr result (fault ≡ ReqFault.Memory) }
 {
     if matches!(fault, ReqFault::Memory) {
         return Err(Memory);
     }
-    let body = fault_bytes(alloc, &Fault::Refused(fault))?;
     Ok(Answer {
         status: 400,
         close,
-        body,
+        body: Body::Fault(Fault::Refused(fault)),
     })
 }
 
@@ -127,12 +129,9 @@ fn reply_to<A: Answerer>(
     ensures stays { StaysAnswering A.answers A.lent A.faults answerer.old answerer.new }
 {
     let (status, body) = match answerer.reply(alloc, request) {
-        Ok(reply) => (200, reply_bytes(alloc, &reply)?),
-        Err(AskFault::Read) => (500, fault_bytes(alloc, &Fault::Read)?),
-        Err(AskFault::Changed { rule, at }) => (
-            500,
-            fault_bytes(alloc, &Fault::Changed { rule, at })?,
-        ),
+        Ok(reply) => (200, Body::Reply(reply_bytes(alloc, &reply)?)),
+        Err(AskFault::Read) => (500, Body::Fault(Fault::Read)),
+        Err(AskFault::Changed { rule, at }) => (500, Body::Fault(Fault::Changed { rule, at })),
         Err(AskFault::Memory) => return Err(Memory),
     };
     Ok(Answer {

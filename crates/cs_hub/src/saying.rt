@@ -1,12 +1,15 @@
 //! Sending on one connection.
+ghost use Rattle.std.specs.Prelude.{◌≡◌, IfOk};
 ghost use Rattle.cs_base.specs.outside.Hub.{IsLive};
+ghost use Rattle.cs_model_serving.specs.Responses.{response_bytes};
 ghost use Rattle.cs_hub.specs.Responding.{response};
 ghost use Rattle.cs_hub.specs.Speaking.{Said, Starved, Calm};
 ghost use Rattle.cs_hub.specs.Turns.{Delivered};
 
-use crate::answer::Answer;
-use cs_base::Hub;
+use crate::answer::{Answer, Body};
+use cs_base::{Hub, Memory};
 use cs_http::{memory_response, wrap};
+use cs_json::fault_bytes;
 use std::alloc::Global;
 
 /// Sends a text; true where it was sent whole.
@@ -39,11 +42,24 @@ pub(crate) fn deliver<H: Hub>(alloc: Global, hub: &mut H, conn: u32, answer: &An
     ensures delivered { Delivered conn (response answer.now) result (H.talk hub.old) (H.talk hub.new) }
     ensures calm { Calm H.state H.talk H.faults H.send_faults hub.old hub.new }
 {
-    match wrap(alloc, answer.status, answer.close, answer.body.as_slice()) {
+    match bytes_of(alloc, answer) {
         Ok(text) => say(hub, conn, text.as_slice()) && !answer.close,
         Err(_) => {
             starve(hub, conn);
             false
+        }
+    }
+}
+
+// The bytes of a response.
+fn bytes_of(alloc: Global, answer: &Answer) -> Result<Vec<u8>, Memory>
+    ensures { IfOk result (λ v. v.items ≡ response_bytes (response answer.now)) }
+{
+    match &answer.body {
+        Body::Reply(text) => wrap(alloc, answer.status, answer.close, text.as_slice()),
+        Body::Fault(fault) => {
+            let text = fault_bytes(alloc, fault)?;
+            wrap(alloc, answer.status, answer.close, text.as_slice())
         }
     }
 }

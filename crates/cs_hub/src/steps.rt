@@ -77,7 +77,7 @@ impl Core {
         match event {
             Event::Opened(conn) => self.open(alloc, hub, conn),
             Event::Piece(conn, _) => self.hear(alloc, answerer, hub, conn, piece),
-            Event::Ended(conn) => self.forget(conn),
+            Event::Ended(conn) => self.remove(conn),
             Event::Over => self.close_all(hub),
         }
     }
@@ -93,11 +93,10 @@ impl Core {
         ensures orderly { IsOrderly (H.state hub.old) (H.talk hub.old) → IsOrderly (H.state hub.new) (H.talk hub.new) }
         ensures lighter { Lightens (Event.Opened conn) self.old self.new }
     {
-        if self.make_room(conn) {
-            self.put(conn, Line::new(alloc));
-        } else {
-            refuse(hub, conn);
+        if self.add(conn, Line::new(alloc)) {
+            return;
         }
+        refuse(hub, conn);
     }
 
     // A piece comes.
@@ -123,35 +122,28 @@ impl Core {
             (A.kept answerer.old) (A.kept answerer.new) (SentBefore conn (bytes_behind (left_at self.old conn) piece.now) (H.talk hub.old) (H.talk hub.new)) }
         ensures stays { StaysAnswering A.answers A.lent A.faults answerer.old answerer.new }
     {
-        match self.take(conn) {
-            Some(line) => {
-                let kept = line.receive(alloc, answerer, hub, conn, piece);
-                self.settle(hub, conn, kept);
-            }
-            None => unreachable!(),
-        }
+        let line = self.replace(conn, Line::new(alloc));
+        let kept = line.receive(alloc, answerer, hub, conn, piece);
+        self.settle(hub, conn, kept);
     }
 
-    // Keeps a connection, or closes it.
+    // Keeps this of a connection, or closes it. It takes no memory.
     fn settle<H: Hub>(&mut self, hub: &mut H, conn: u32, kept: Option<Line>)
-        requires within { conn < length self.old }
-        requires empty { left_at self.old conn ≡ None }
+        requires held { is_some (left_at self.old conn) ≡ true }
 
         ensures core { self.new ≡ slice_set self.old conn kept }
         ensures state { H.state hub.new ≡ closed_unless (is_some kept) conn (H.state hub.old) }
         ensures closes { OnlyCloses H.state H.talk H.faults H.send_faults hub.old hub.new }
     {
         match kept {
-            Some(line) => self.put(conn, line),
-            None => hub.close(conn),
+            Some(line) => {
+                let _ = self.replace(conn, line);
+            }
+            None => {
+                self.remove(conn);
+                hub.close(conn);
+            }
         }
-    }
-
-    // A connection ended.
-    fn forget(&mut self, conn: u32)
-        ensures { self.new ≡ slice_set self.old conn None }
-    {
-        let _ = self.take(conn);
     }
 
     // Closes every live connection.
@@ -163,32 +155,9 @@ impl Core {
         ensures same { H.state hub.new ≡ record (H.state hub.old) { live = (H.state hub.new).live } }
         ensures closes { OnlyCloses H.state H.talk H.faults H.send_faults hub.old hub.new }
     {
-        for conn in 0..self.len() {
-            self.shut(hub, conn as u32);
+        while let Some(conn) = self.pop() {
+            hub.close(conn);
         }
-    }
-
-    // Closes a connection where it is live.
-    fn shut<H: Hub>(&mut self, hub: &mut H, conn: u32)
-        requires live { HasLive self.old (H.state hub.old) }
-
-        ensures live { HasLive self.new (H.state hub.new) }
-        ensures core { self.new ≡ slice_set self.old conn None }
-        ensures same { H.state hub.new ≡ record (H.state hub.old) { live = (H.state hub.new).live } }
-        ensures closes { OnlyCloses H.state H.talk H.faults H.send_faults hub.old hub.new }
-    {
-        let line = self.take(conn);
-        close_where(hub, conn, line.is_some());
-    }
-}
-
-// Closes a connection, or leaves it.
-fn close_where<H: Hub>(hub: &mut H, conn: u32, closes: bool)
-    ensures state { H.state hub.new ≡ closed_unless (not closes) conn (H.state hub.old) }
-    ensures closes { OnlyCloses H.state H.talk H.faults H.send_faults hub.old hub.new }
-{
-    if closes {
-        hub.close(conn);
     }
 }
 

@@ -16,6 +16,10 @@ const TRIAL: &[&str] = &["trial", "1"];
 const SUMMARY: &str =
     "documents 100\nrows 1600\nblocks 2\nreplies 260\nhits 4023\nsame 47\nnarrow 189\nextend 20\nfresh 4\n";
 
+// What is put for a word that stands in each of eleven documents.
+const MANY_ROWS: &[u8] =
+    b"{\"completions\":[{\"docs\":11,\"word\":\"a\"}],\"facets\":{},\"hits\":[],\"total\":{\"completions\":1,\"hits\":11}}\n";
+
 // The lines, each with an ending.
 fn script_of(alloc: Global, rows: &[Worked]) -> Result<Vec<u8>, Memory> {
     let mut script = Vec::new(alloc);
@@ -235,6 +239,19 @@ fn what_is_refused_or_missing_is_named(rt: HostRuntime) -> Result<(), Fail> {
             *words,
         );
     }
+    Ok(())
+}
+
+// Eleven documents of 99,999 words each.
+#[test]
+fn more_than_a_million_rows_are_asked(rt: HostRuntime) -> Result<(), Fail> {
+    let alloc = rt.alloc();
+    let line = format!(in alloc; "\t\t{}\n", "a ".repeat(alloc, 99_999)?)?;
+    let collection = line.as_str().repeat(alloc, 11)?;
+    let script = b"q=a&h=0&c=1\n".as_slice();
+    let mut files = held(alloc, Some(collection.as_bytes()), Some(script))?;
+    let left = run_over(alloc, ASK, &mut files)?;
+    assert!(rt; left.is(0, MANY_ROWS, ""));
     Ok(())
 }
 

@@ -68,6 +68,106 @@ fn heads_are_answered_until_one_closes_the_connection(rt: HostRuntime) -> Result
     Ok(())
 }
 
+// A refused head behind which the connection is closed: the head, the status, the body's length and the body.
+type Closing = (&'static str, &'static str, usize, &'static str);
+
+// Each refusal of a head and of parameters, over HTTP/1.0 or with the word `close`; and bytes that are no head.
+const CLOSING: &[Closing] = &[
+    (
+        "GET /x HTTP/1.0\r\n\r\n",
+        "404 Not Found",
+        16,
+        r#"{"error":"path"}"#,
+    ),
+    (
+        "GET /x HTTP/1.1\r\nConnection: Close\r\n\r\n",
+        "404 Not Found",
+        16,
+        r#"{"error":"path"}"#,
+    ),
+    (
+        "POST /search HTTP/1.0\r\n\r\n",
+        "405 Method Not Allowed\r\nAllow: GET",
+        18,
+        r#"{"error":"method"}"#,
+    ),
+    (
+        "PUT /search?q=a HTTP/1.1\r\nConnection: x, close\r\n\r\n",
+        "405 Method Not Allowed\r\nAllow: GET",
+        18,
+        r#"{"error":"method"}"#,
+    ),
+    (
+        "GET /search?q=a%7C%7Cb HTTP/1.0\r\n\r\n",
+        "400 Bad Request",
+        22,
+        r#"{"at":2,"error":"bad"}"#,
+    ),
+    (
+        "GET /search?q=a%7C%7Cb HTTP/1.1\r\nConnection: close\r\n\r\n",
+        "400 Bad Request",
+        22,
+        r#"{"at":2,"error":"bad"}"#,
+    ),
+    (
+        "GET /search?q=a&h=101 HTTP/1.0\r\n\r\n",
+        "400 Bad Request",
+        29,
+        r#"{"error":"param","param":"h"}"#,
+    ),
+    (
+        "GET /search?q=a&f=Author HTTP/1.1\r\nConnection: close\r\n\r\n",
+        "400 Bad Request",
+        29,
+        r#"{"error":"param","param":"f"}"#,
+    ),
+    (
+        "GET /search?q=a+a+a+a+a+a+a+a+a+a+a+a+a+a+a+a+a HTTP/1.0\r\n\r\n",
+        "400 Bad Request",
+        41,
+        r#"{"at":32,"error":"limit","which":"parts"}"#,
+    ),
+    (
+        "GET /search HTTP/1.0\r\nContent-Length: 1\r\n\r\n",
+        "400 Bad Request",
+        16,
+        r#"{"error":"body"}"#,
+    ),
+    (
+        "GET /search\r\n\r\n",
+        "400 Bad Request",
+        16,
+        r#"{"error":"head"}"#,
+    ),
+];
+
+// What is sent on a connection for such a head, and another one behind it.
+fn sent_for(alloc: Global, head: &str) -> Result<Vec<u8>, Fail> {
+    let rows = [
+        Came::Opened,
+        Came::Piece(0, head.as_bytes()),
+        Came::Piece(0, NO_QUERY.head.as_bytes()),
+    ];
+    let mut hub = hub_of(alloc, &rows)?;
+    serve_two(alloc, &mut hub)?;
+    Ok(hub.sent(0).to_vec(alloc)?)
+}
+
+#[test]
+fn a_refused_head_closes_the_connection_and_is_told_as_what_it_is(
+    rt: HostRuntime,
+) -> Result<(), Fail> {
+    let alloc = rt.alloc();
+    for (head, status, len, body) in CLOSING {
+        let want = format!(in alloc;
+            "HTTP/1.1 {status}\r\nContent-Type: application/json\r\nContent-Length: {len}\r\nConnection: close\r\n\r\n{body}"
+        )?;
+        let sent = sent_for(alloc, head)?;
+        same(&rt, &sent.as_slice(), &want.as_str().as_bytes(), *head);
+    }
+    Ok(())
+}
+
 #[test]
 fn a_failed_send_is_that_of_one_connection(rt: HostRuntime) -> Result<(), Fail> {
     let alloc = rt.alloc();

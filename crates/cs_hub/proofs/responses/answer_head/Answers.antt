@@ -1,5 +1,7 @@
 use Rattle.std.proofs.Common.{◌≡◌, [], refl, sym, ◌∙◌, ap, subst}
-use Rattle.std.proofs.lemmas.Result.{IfOk-weaker}
+use Rattle.std.proofs.lemmas.Result.{IfOk-weaker, on_err_weaker}
+use Rattle.cs_base.proofs.GrewLemmas.{on_err}
+use Rattle.cs_http.specs.Judging.{IsHeadCause, IsSearch}
 use Rattle.cs_hub.specs.Responding.{response, IsJudgedSo}
 use Rattle.cs_hub.specs.Turns.{IsGiven}
 use Rattle.cs_model_serving.specs.Responses.{to_params, response_to}
@@ -64,3 +66,10 @@ pub returns-in-Err-clause-close : goal.returns-in-Err-clause-close
 returns-in-Err-clause-close g c =
     IfOk-weaker c.refuse_head.result (λ a. IsJudgedSo c.in-Err.fault (response a)) (λ a. a.close ≡ closes_behind (judge c.args.bytes.now))
     (λ a h. refused_close (judge c.args.bytes.now) c.in-Err.fault (response a) c.in-Err.ensures.err h) c.refuse_head.ensures.judged
+
+pub returns-in-Ok-clause-memory : goal.returns-in-Ok-clause-memory
+returns-in-Ok-clause-memory g c = on_err c.answer_params.result (IsSearch (judge c.args.bytes.now)) (c.in-Ok.asked.params, c.in-Ok.asked.close, c.in-Ok.ensures.ok)
+
+pub returns-in-Err-clause-memory : goal.returns-in-Err-clause-memory
+returns-in-Err-clause-memory g c =
+    on_err_weaker c.refuse_head.result (λ e. subst (IsHeadCause (judge c.args.bytes.now)) e c.in-Err.ensures.err) c.refuse_head.ensures.memory

@@ -1,6 +1,5 @@
 use Rattle.std.proofs.Common.{◌≡◌, ap, subst, sym, ◌∙◌}
 use Rattle.std.specs.Prelude.{not, ◌&&◌}
-use Rattle.cs_model_serving.specs.Responses.{wrapped}
 use Rattle.cs_hub.specs.Responding.{response}
 use Rattle.cs_hub.specs.Turns.{Delivered}
 use Rattle.cs_hub.proofs.TurnLemmas.{delivered_by}
@@ -18,5 +17,5 @@ returns-after-say-clause-delivered g c =
       | else-say w ↦ w.result-is ∙ w.if-say.false ∙ ap (λ b. b && not a.close) (sym w.if-say.false)
     ] in
     subst (λ b. Delivered c.args.conn (response a) b talk told) (sym goes)
-    (delivered_by c.args.conn (response a) c.as_slice-in-Ok.result.now c.say.result talk told
-    (c.as_slice-in-Ok.ensures.value ∙ c.in-Ok.ensures.ok ∙ ap (wrapped a.status a.close) c.as_slice.ensures.value) c.say.ensures.said)
+    (delivered_by c.args.conn (response a) c.as_slice.result.now c.say.result talk told
+    (c.as_slice.ensures.value ∙ c.in-Ok.ensures) c.say.ensures.said)

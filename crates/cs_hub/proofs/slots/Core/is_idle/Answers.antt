@@ -1,13 +1,17 @@
-use Rattle.std.proofs.Common.{◌≡◌, arith, ◌<◌, ◌==◌, ℕ, false, subst}
-use Rattle.std.proofs.lemmas.Bool.Decides.{nat_tests}
-use Rattle.cs_hub.specs.Rounds.{live_count}
-use Rattle.cs_hub.proofs.ConnectionSlots.{some_held}
+use Rattle.std.proofs.Common.{arith, ◌≡◌, ◌∙◌, ap, length, rules}
+use Rattle.std.specs.Prelude.{is_some}
+use Rattle.cs_hub.proofs.ConnectionSlots.{kept_at, none_in, some_in}
 use Rattle.cs_hub.proofs.slots.Core.is_idle.Goals as goal
 
-above_zero : (n m : ℕ) → n ≡ m → (n == 0) ≡ false → 0 < m
-above_zero n m e h = grind (arith, nat_tests)
+pub returns-clause-idle : goal.returns-clause-idle
+returns-clause-idle c = λ h d.
+    let m = c.self.inside.lines in
+    let none : length m.entries ≡ 0 = search (rules, h) in
+    kept_at m c.self.inside.end c.args.self.now d c.self.invariant c.self.view_is ∙ none_in m.entries (λ p. omega (arith, none, p)) d
 
 pub returns-clause-busy : goal.returns-clause-busy
-returns-clause-busy c =
-    λ h. some_held c.args.self.now (subst (λ xs. 0 < live_count xs) c.self.view_is
-    (above_zero c.self.inside.live (live_count c.self.inside.slots.items) c.self.invariant.0 h))
+returns-clause-busy c = λ h.
+    let m = c.self.inside.lines in
+    let some : (length m.entries ≡ 0 → ⊥) = search (rules, h) in
+    let found = some_in m.entries some in
+    (found.0, ap is_some (kept_at m c.self.inside.end c.args.self.now found.0 c.self.invariant c.self.view_is) ∙ found.1)

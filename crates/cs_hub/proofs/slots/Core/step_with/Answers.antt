@@ -20,7 +20,7 @@ returns-in-Piece-clause-follows g c = λ k over.
 pub returns-in-Ended-clause-follows : goal.returns-in-Ended-clause-follows
 returns-in-Ended-clause-follows g c = λ k over.
     at_event k _ _ _ (Ended c.in-Ended.conn) _ _ _ _ _ _ _ c.in-Ended.is c.requires.live c.requires.whole
-    (λ but whole. ended_stays k _ _ _ _ _ _ _ but c.forget.ensures)
+    (λ but whole. ended_stays k _ _ _ _ _ _ _ but c.remove.ensures)
 
 pub returns-in-Over-clause-follows : goal.returns-in-Over-clause-follows
 returns-in-Over-clause-follows g c = λ k over.
