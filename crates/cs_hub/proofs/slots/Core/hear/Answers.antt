@@ -8,8 +8,9 @@ use Rattle.cs_hub.proofs.ActLemmas.{heeds_acted, heeds_lighter}
 use Rattle.cs_hub.proofs.slots.Core.hear.Goals as goal
 
 pub settle-requires : goal.settle-requires
-settle-requires g c =
-    held_set c.args.self.now c.replace-line.new.self c.args.conn c.new.result c.requires.held c.replace-line.ensures.replaced
+settle-requires g c = record {
+  held = held_set c.args.self.now c.replace-line.new.self c.args.conn c.new.result c.requires.held c.replace-line.ensures.replaced;
+}
 
 pub returns-clause-heeds : goal.returns-clause-heeds
 returns-clause-heeds g c = record {
