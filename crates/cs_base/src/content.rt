@@ -19,7 +19,10 @@ pub use limits::{
     MAX_TRIAL_DIGITS, MAX_WORD_BYTES, MAX_WORDS,
 };
 pub use query::{Atom, Chain, Link, Linked, Part, Query, Which};
-pub use scores::{BEHIND_TITLE, FACET_SCORE, MAX_ROW_SCORE, TEXT_SCORE, TITLE_SCORE};
+pub use scores::{
+    BEHIND_TITLE, FACET_SCORE, MAX_ROW_SCORE, MAX_WEIGHT_DIGITS, TEXT_SCORE, TITLE_SCORE,
+    USUAL_WEIGHTS, Weights,
+};
 pub use seq::Seq;
 pub use text::Text;
 pub use word::Word;

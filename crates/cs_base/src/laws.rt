@@ -57,5 +57,7 @@ pub fn scores()
     ensures title { TITLE_SCORE ≡ 4 }
     ensures facet { FACET_SCORE ≡ 2 }
     ensures text { TEXT_SCORE ≡ 1 }
+    ensures weight_digits { MAX_WEIGHT_DIGITS ≡ 3 }
+    ensures usual { USUAL_WEIGHTS ≡ record { title = 4; facet = 2; text = 1 } }
     ensures behind_title { BEHIND_TITLE ≡ 9 }
 {}

@@ -14,8 +14,8 @@ pub use content::{
     MAX_FACETS, MAX_HEAD_BYTES, MAX_HEAD_FIELDS, MAX_LINE_BYTES, MAX_NAME_BYTES, MAX_OFFSET,
     MAX_PARTS, MAX_PLAIN_WORD_BYTES, MAX_PORT, MAX_PORT_DIGITS, MAX_POSITION, MAX_QUERY_BYTES,
     MAX_ROW_SCORE, MAX_ROWS, MAX_SCRIPT_LINE_BYTES, MAX_SHOWN, MAX_TRIAL, MAX_TRIAL_DIGITS,
-    MAX_WORD_BYTES, MAX_WORDS, Narrower, Part, Post, Query, Row, Scored, Seq, TEXT_SCORE,
-    TITLE_SCORE, Text, Which, Word,
+    MAX_WEIGHT_DIGITS, MAX_WORD_BYTES, MAX_WORDS, Narrower, Part, Post, Query, Row, Scored, Seq,
+    TEXT_SCORE, TITLE_SCORE, Text, USUAL_WEIGHTS, Weights, Which, Word,
 };
 pub use index::{BlockHead, Broken, Kept, Plan};
 pub use memory::Memory;

@@ -25,7 +25,8 @@ use Rattle.cs_model.specs.Collection.{has_name_form}
 use Rattle.cs_model.specs.Words.{is_filled}
 use Rattle.cs_model.specs.FirstRefusal.{first_refusal}
 use Rattle.cs_model.specs.Grammar.{query_of}
-use Rattle.cs_model.specs.Parameters.{parameter, is_count, count_of, are_facets, facet_names, has_digits, number_of, bad_param, refused_at, asked_text, request_refusal, request_of, HoldsLimits}
+use Rattle.cs_model.specs.Digits.{has_digits, number_of}
+use Rattle.cs_model.specs.Parameters.{parameter, is_count, count_of, are_facets, facet_names, bad_param, refused_at, asked_text, request_refusal, request_of, HoldsLimits}
 use Rattle.cs_model.specs.Refusals.{QueryRefusal, IsOfGrammar}
 use Rattle.cs_model.proofs.FirstLemmas.{first-one}
 use Rattle.cs_model.proofs.PartsLemmas.{few_parts}

@@ -1,6 +1,7 @@
 //! Counts among the parameters, as in `h=20`.
 ghost use Rattle.std.specs.Prelude.{◌≡◌, true, false, Some, IfOk, OnOk, IfErr, IfSome, IfNone};
-ghost use Rattle.cs_model.specs.Parameters.{parameter, is_count, count_of, number_of};
+ghost use Rattle.cs_model.specs.Digits.{number_of};
+ghost use Rattle.cs_model.specs.Parameters.{parameter, is_count, count_of};
 ghost use Rattle.cs_query.specs.ParamNames.{param_name};
 ghost use Rattle.cs_http.specs.Refusing.{IsRefusedBy};
 

@@ -39,7 +39,7 @@ use Rattle.cs_model.specs.Faults.{bad_text}
 use Rattle.cs_model.specs.Refusals.{Bad}
 use Rattle.cs_model.specs.Parameters.{parameter, bad_query, request_refusal, request_of}
 use Rattle.cs_model.specs.Outputs.{text, text_by}
-use Rattle.cs_model.specs.Scores.{SCORES}
+use Rattle.cs_base.specs.declared.content.scores.TheConstants.{USUAL_WEIGHTS}
 use Rattle.cs_model.proofs.ListedMembers.{entries-sorted, members-listed}
 use Rattle.cs_model.proofs.AnswersLemmas.{query_rolled, part_listed, chain_rolled, linked_rolled, prefix_rows, exact_rows, join_rows, listed_reply, reply-listed}
 use lib.Utf8
@@ -119,9 +119,9 @@ abbrev pub worked : Corpus
 worked = record { titles = worked_titles; rows = worked_rows }
 
 -- a facet word stands in front of its document with the score 2, text words stand nine positions behind the title
-rows-worked : rows_of (documents worked_text) ≡ worked_rows
+rows-worked : rows_of USUAL_WEIGHTS (documents worked_text) ≡ worked_rows
 unfolding words norm chars cut caseless is_word_char general_category ucd_category lib.Utf8.encode
-rows-worked = members-listed by_row by_row_total (flat_map (doc_rows SCORES) (enumerate_from 0 (documents worked_text)))
+rows-worked = members-listed by_row by_row_total (flat_map (doc_rows USUAL_WEIGHTS) (enumerate_from 0 (documents worked_text)))
 
 titles-worked : titles_of (documents worked_text) ≡ worked_titles
 unfolding worked_titles

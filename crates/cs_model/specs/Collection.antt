@@ -4,9 +4,11 @@
 --
 --   without_mark c             the bytes c without EF BB BF in front, which are skipped once
 --   collection_lines c         the lines of a collection, each with its number from 1; the empty collection has none
+--   is_weights_line l          whether the numbered line is the first one and names weights, which makes it no document
 --   DocLine, doc_line p        a line that is a document: its number as a document from 0, its number as a line from 1, its
 --                              bytes
---   doc_lines c                the lines that have bytes, so numbered; none where no line has any
+--   doc_lines c                the lines that have bytes, but for the weights line, so numbered; none where there is none
+--   weights c                  the weights of a collection: those of its weights line, and the usual ones where it has none
 --   is_tab b, is_space b       whether the byte is a tab, a space
 --   is_colon b, is_equals b    whether it is the sign `:`, `=`
 --   Columns, columns l         title, facets and text of a line, cut at its first two tabs; a missing column is empty
@@ -22,13 +24,14 @@
 --   named n v                  the word `:n:v` of a facet
 --   facet_word p               the word `:name:slug` of a piece; None where its value has no word
 --   facet_words column         the facet words of a column; none for the empty column
---   CollectionRefusal          why a collection isn't accepted: too_large, not_utf8, line_too_long, words_too_many,
---                              bad_facet, bad_name, too_many_docs, too_many_rows, too_many_words
+--   CollectionRefusal          why a collection isn't accepted: too_large, not_utf8, line_too_long, bad_weights,
+--                              words_too_many, bad_facet, bad_name, too_many_docs, too_many_rows, too_many_words
 --   in_line n w                what is said of line n
 --   refusal_words r            why a collection isn't accepted, in words
 --   piece_refusal n p          a piece of line n without `=`, else one without a name; None where it has both
 --   word_count cs              the number of title and text words together; 0 where there is none
 --   line_refusal l             the first rule that the line breaks; None where it breaks none
+--   weights_refusal l          the same of a weights line
 --   docs_refusal c             too large, else the refusal of the least line that breaks a rule; None where no line does
 --   document l                 the document of a line
 --   documents c                the documents of a collection, in the order of their lines; they count only where docs_refusal
@@ -37,10 +40,11 @@
 --   is_plain c                 at most 65,536 bytes, each of them such; the empty collection is plain
 --
 -- LF ends a line, with one CR directly before it. The last line needs no ending, and a CR at its end then belongs to it. A
--- tab behind the second one of a line belongs to its text. A name is read by its key text, a value by its slug.
+-- tab behind the second one of a line belongs to its text. A name is read by its key text, a value by its slug. The weights line
+-- counts as a line and not as a document.
 use Rattle.std.specs.Prelude.{ℕ, ◌+◌, ◌-◌, Bool, false, not, ◌&&◌, ◌||◌, ◌==◌, nat_lt, nat_le, nat_eq, if◌then◌else◌, List, [], ◌∷◌, ◌++◌, map, filter, length, take, drop, Option, codes}
 use Rattle.std.specs.Fmt.{decimal}
-use Rattle.std.specs.Option.{option_map}
+use Rattle.std.specs.Option.{is_some, option_map, unwrap_or}
 use Rattle.std.specs.List.{list_any, list_all, filter_map, enumerate_from, slice_split, before_first, after_first, starts_with, prefix_len, suffix_len}
 use Rattle.std.specs.Int.{is_in_range}
 use Rattle.std.specs.Str.{is_utf8}
@@ -49,7 +53,10 @@ use Rattle.cs_base.specs.content.Bytes.{tab, line_feed, space, double_quote, dig
 use Rattle.cs_base.specs.declared.content.doc.Doc.{Doc}
 use Rattle.cs_base.specs.declared.content.limits.TheConstants.{MAX_COLLECTION_BYTES, MAX_LINE_BYTES, MAX_DOC_WORDS, MAX_DOCS, MAX_NAME_BYTES}
 use Rattle.cs_model.specs.First.{unless, first_reason}
+use Rattle.cs_base.specs.declared.content.scores.TheConstants.{USUAL_WEIGHTS}
+use Rattle.cs_base.specs.declared.content.scores.Weights.{Weights}
 use Rattle.cs_model.specs.KeyText.{norm}
+use Rattle.cs_model.specs.Weights.{names_weights, weights_said}
 use Rattle.cs_model.specs.Words.{is_filled, words, slug}
 
 -- a collection without the mark EF BB BF, which is skipped once and in front alone; without a mark it stays as it is
@@ -59,6 +66,10 @@ without_mark c = if starts_with nat_eq c byte_order_mark then drop (length byte_
 -- the lines of a collection without their endings, numbered from 1; the empty collection has none
 abbrev pub collection_lines : List ℕ → List (ℕ × List ℕ)
 collection_lines c = enumerate_from 1 (lines (without_mark c))
+
+-- the first line of a collection, where it names weights; of the others none is
+abbrev pub is_weights_line : ℕ × List ℕ → Bool
+is_weights_line l = (l.0 == 1) && names_weights l.1
 
 -- a line that is a document: its number among the documents, its number among the lines, its bytes
 pub record DocLine : Type 0 where
@@ -70,9 +81,23 @@ pub record DocLine : Type 0 where
 abbrev pub doc_line : ℕ × (ℕ × List ℕ) → DocLine
 doc_line p = record { doc = p.0; line = p.1.0; bytes = p.1.1 }
 
--- the lines that are documents, in order; a line without bytes is none
+-- the lines that are documents, in order; a line without bytes is none, nor is the weights line
 abbrev pub doc_lines : List ℕ → List DocLine
-doc_lines c = map doc_line (enumerate_from 0 (filter (λ l. is_filled l.1) (collection_lines c)))
+doc_lines c = map doc_line (enumerate_from 0 (filter (λ l. is_filled l.1 && not (is_weights_line l)) (collection_lines c)))
+
+-- the weights line as a list, which is empty where there is none
+abbrev pub weights_lines : List ℕ → List (ℕ × List ℕ)
+weights_lines c = filter is_weights_line (collection_lines c)
+
+-- the weights that lines say, the first of them; the usual ones where there is no line
+abbrev pub weights_of_lines : List (ℕ × List ℕ) → Weights
+weights_of_lines [] = USUAL_WEIGHTS
+weights_of_lines (l ∷ ls) = unwrap_or (weights_said l.1) USUAL_WEIGHTS
+
+-- the weights of a collection, which count only where its `docs_refusal` is None; the usual ones where it has no weights line,
+-- as the empty one hasn't
+abbrev pub weights : List ℕ → Weights
+weights c = weights_of_lines (weights_lines c)
 
 -- ---- columns
 -- the byte is a tab
@@ -161,6 +186,7 @@ pub data CollectionRefusal : Type 0 where
   too_large : CollectionRefusal
   not_utf8 : ℕ → CollectionRefusal
   line_too_long : ℕ → CollectionRefusal
+  bad_weights : ℕ → CollectionRefusal
   words_too_many : ℕ → CollectionRefusal
   bad_facet : ℕ → CollectionRefusal
   bad_name : ℕ → CollectionRefusal
@@ -177,6 +203,7 @@ abbrev pub refusal_words : CollectionRefusal → List ℕ
 refusal_words too_large = codes "too large"
 refusal_words (not_utf8 n) = in_line n (codes "not UTF-8")
 refusal_words (line_too_long n) = in_line n (codes "line too long")
+refusal_words (bad_weights n) = in_line n (codes "bad weights")
 refusal_words (words_too_many n) = in_line n (codes "too many words")
 refusal_words (bad_facet n) = in_line n (codes "bad facet")
 refusal_words (bad_name n) = in_line n (codes "bad facet name")
@@ -202,10 +229,18 @@ line_refusal l = first_reason (
     ∷ unless (nat_lt l.doc MAX_DOCS) (too_many_docs l.line)
     ∷ [])
 
+-- the refusal of a weights line; None where it has the form that says weights
+abbrev pub weights_refusal : ℕ × List ℕ → Option CollectionRefusal
+weights_refusal l = first_reason (
+    unless (is_utf8 l.1) (not_utf8 l.0)
+    ∷ unless (nat_le (length l.1) MAX_LINE_BYTES) (line_too_long l.0)
+    ∷ unless (is_some (weights_said l.1)) (bad_weights l.0)
+    ∷ [])
+
 -- the first refusal of a collection by its size and its lines, rows not counted; None where there is none, as in the empty
 -- one
 abbrev pub docs_refusal : List ℕ → Option CollectionRefusal
-docs_refusal c = first_reason (unless (nat_le (length c) MAX_COLLECTION_BYTES) too_large ∷ map line_refusal (doc_lines c))
+docs_refusal c = first_reason (unless (nat_le (length c) MAX_COLLECTION_BYTES) too_large ∷ (map weights_refusal (weights_lines c) ++ map line_refusal (doc_lines c)))
 
 -- ---- documents
 -- the document of a line, which keeps the line's number

@@ -4,15 +4,15 @@
 --
 --   Corpus                         the titles by document number, and the set of rows, listed by document, position and word
 --   placed d score (pos, w)        the row of the word w at a position of document d
---   title_rows scores d doc        the rows of title words; none where the title has no word
---   text_rows scores d doc         the rows of text words; none where the text has no word
---   facet_rows scores d doc        the rows of facet words; none where the facets have none
---   doc_rows scores (d, doc)       the rows of the document of number d; none where it has no word
---   rows_of docs                   the rows of a list of documents, numbered from 0; each (doc, pos, word) names one; of no
+--   title_rows w d doc             the rows of title words; none where the title has no word
+--   text_rows w d doc              the rows of text words; none where the text has no word
+--   facet_rows w d doc             the rows of facet words; none where the facets have none
+--   doc_rows w (d, doc)            the rows of the document of number d; none where it has no word
+--   rows_of w docs                 the rows of a list of documents, numbered from 0; each (doc, pos, word) names one; of no
 --                                  documents none
 --   by_number titles               each title at its number in the list, the first at 0; of no titles the empty map
 --   title_of doc, titles_of docs   a document's title; the titles of documents by number from 0, the empty map for none
---   corpus_of docs                 the corpus of a list of documents; of no documents it has no title and no row
+--   corpus_of w docs               the corpus of a list of documents; of no documents it has no title and no row
 --   distinct_words rows            the words of rows, each once, by bytes; of no rows none
 --   rows_refusal rows              too many rows, else too many distinct words; None where there is neither
 --   refusal c                      the first refusal of a collection, rows and distinct words counted; None where it is
@@ -21,9 +21,9 @@
 --   IsCorpus k                     document, position and word name a row and give its place, and its document has a title;
 --                                  the law `corpora` of cs_docs says that the corpus of each collection is one
 --
--- A title word has its place in the title as position, from 1, and the score 4. Text words go on 9 positions behind the last
--- title word, with the score 1, which is too far for a link between the two. A facet word has the position 0 and the score 2.
--- These are the scores of every collection (`SCORES`); the rows of a document take them as an argument.
+-- A title word has its place in the title as position, from 1. Text words go on 9 positions behind the last title word, which is
+-- too far for a link between the two. A facet word has the position 0. A row's score is the weight of its column; the weights are
+-- an argument, `w`, and those of a collection are what it says.
 use Rattle.std.specs.Prelude.{◌≡◌, ℕ, ◌+◌, true, nat_le, List, [], ◌∷◌, ◌++◌, map, length, Option}
 use Rattle.std.specs.List.{All, flat_map, enumerate_from}
 use Rattle.std.specs.List.Sorted.{IsStrictlySortedBy}
@@ -36,9 +36,9 @@ use Rattle.cs_base.specs.declared.content.doc.Doc.{Doc}
 use Rattle.cs_base.specs.declared.content.doc.Row.{Row}
 use Rattle.cs_base.specs.declared.content.limits.TheConstants.{MAX_ROWS, MAX_WORDS}
 use Rattle.cs_base.specs.declared.content.scores.TheConstants.{BEHIND_TITLE}
-use Rattle.cs_model.specs.Collection.{CollectionRefusal, too_many_rows, too_many_words, docs_refusal, documents, facet_words}
+use Rattle.cs_base.specs.declared.content.scores.Weights.{Weights}
+use Rattle.cs_model.specs.Collection.{CollectionRefusal, too_many_rows, too_many_words, docs_refusal, documents, facet_words, weights}
 use Rattle.cs_model.specs.First.{unless, first_reason}
-use Rattle.cs_model.specs.Scores.{Scores, SCORES}
 use Rattle.cs_model.specs.Words.{words}
 
 -- what is searched: titles by document number, and rows by document, position and word; of both there may be none
@@ -51,24 +51,24 @@ abbrev pub placed : ℕ → ℕ → ℕ × List ℕ → Row
 placed d score p = record { doc = d; word = p.1; pos = p.0; score = score }
 
 -- the rows of the title's words, the first of which stands at 1; none where it has no word
-abbrev pub title_rows : Scores → ℕ → Doc → List Row
-title_rows scores d doc = map (placed d scores.title) (enumerate_from 1 (words doc.title))
+abbrev pub title_rows : Weights → ℕ → Doc → List Row
+title_rows w d doc = map (placed d w.title) (enumerate_from 1 (words doc.title))
 
 -- the rows of the text's words, the first of which stands 9 behind the last title word, so at 9 where the title has none
-abbrev pub text_rows : Scores → ℕ → Doc → List Row
-text_rows scores d doc = map (placed d scores.text) (enumerate_from (length (words doc.title) + BEHIND_TITLE) (words doc.text))
+abbrev pub text_rows : Weights → ℕ → Doc → List Row
+text_rows w d doc = map (placed d w.text) (enumerate_from (length (words doc.title) + BEHIND_TITLE) (words doc.text))
 
 -- the rows of the facet words, at position 0, as often as the column lists them; none where it lists none
-abbrev pub facet_rows : Scores → ℕ → Doc → List Row
-facet_rows scores d doc = map (λ w. placed d scores.facet (0, w)) (facet_words doc.facets)
+abbrev pub facet_rows : Weights → ℕ → Doc → List Row
+facet_rows w d doc = map (λ x. placed d w.facet (0, x)) (facet_words doc.facets)
 
 -- the rows of a document given with its number, column by column; none where no column has a word
-abbrev pub doc_rows : Scores → ℕ × Doc → List Row
-doc_rows scores p = facet_rows scores p.0 p.1 ++ title_rows scores p.0 p.1 ++ text_rows scores p.0 p.1
+abbrev pub doc_rows : Weights → ℕ × Doc → List Row
+doc_rows w p = facet_rows w p.0 p.1 ++ title_rows w p.0 p.1 ++ text_rows w p.0 p.1
 
 -- the rows of documents that are numbered from 0, each once, by document, position and word; of no documents none
-abbrev pub rows_of : List Doc → List Row
-rows_of docs = members_in by_row (flat_map (doc_rows SCORES) (enumerate_from 0 docs))
+abbrev pub rows_of : Weights → List Doc → List Row
+rows_of w docs = members_in by_row (flat_map (doc_rows w) (enumerate_from 0 docs))
 
 -- the title of a document as it stands in the collection, which may be empty
 abbrev pub title_of : Doc → List ℕ
@@ -83,8 +83,8 @@ abbrev pub titles_of : List Doc → map.FinMap nat_cmp (List ℕ)
 titles_of docs = by_number (map title_of docs)
 
 -- the corpus of documents that are numbered from 0; of no documents it has no title and no row
-abbrev pub corpus_of : List Doc → Corpus
-corpus_of docs = record { titles = titles_of docs; rows = rows_of docs }
+abbrev pub corpus_of : Weights → List Doc → Corpus
+corpus_of w docs = record { titles = titles_of docs; rows = rows_of w docs }
 
 -- the words that rows have, each once, by bytes; none where there is no row
 abbrev pub distinct_words : List Row → List (List ℕ)
@@ -97,12 +97,12 @@ rows_refusal rows = first_reason (unless (nat_le (length rows) MAX_ROWS) too_man
 -- the first refusal of a collection, that of its documents before that of its rows; None where it is accepted, as the empty
 -- one is
 abbrev pub refusal : List ℕ → Option CollectionRefusal
-refusal c = first_reason (docs_refusal c ∷ rows_refusal (rows_of (documents c)) ∷ [])
+refusal c = first_reason (docs_refusal c ∷ rows_refusal (rows_of (weights c) (documents c)) ∷ [])
 
 -- the corpus of a collection, which counts only where its `refusal` is None; that of the empty collection has no title and no
 -- row
 abbrev pub corpus : List ℕ → Corpus
-corpus c = corpus_of (documents c)
+corpus c = corpus_of (weights c) (documents c)
 
 -- what every corpus is: each row comes before the next one by document, position and word, and the document of each has a
 -- title; the corpus with no title and no row is one too

@@ -5,6 +5,7 @@ pub mod Canonical
 pub mod CanonicalLaws
 pub mod Collection
 pub mod Corpus
+pub mod Digits
 pub mod Faults
 pub mod First
 pub mod FirstRefusal
@@ -17,6 +18,6 @@ pub mod Parameters
 pub mod Refusals
 pub mod Replies
 pub mod Requests
-pub mod Scores
 pub mod Tokens
+pub mod Weights
 pub mod Words

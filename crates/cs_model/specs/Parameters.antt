@@ -7,8 +7,6 @@
 --                             subpart
 --   first_value name pairs    the value of the first pair of that name; None where there is none
 --   parameter name p          the value of the first parameter of that name; None where there is none
---   number_of w               the number that digits spell, leading zeros read; 0 for no digits
---   has_digits n w            w is 1 to n digits
 --   is_count most v           a value that is accepted as a count: there is none, or it is 1 to `MAX_COUNT_DIGITS` digits and
 --                             at most `most`
 --   count_of default v        the count of a value; the default where there is none
@@ -32,16 +30,16 @@ use Rattle.std.specs.List.{find, list_all, slice_split}
 use Rattle.std.specs.List.Sorted.{IsStrictlySortedBy}
 use Rattle.std.specs.Ordering.{nat_cmp}
 use Rattle.std.specs.Cmp.Lexicographic.{slice_cmp}
-use Rattle.std.specs.Char.{is_ascii_digit}
 use Rattle.std.specs.Str.{bytes_eq, chars}
 use Rattle.std.specs.Str.Lossy.{utf8_lossy}
 use Rattle.form_urlencoded.specs.Form.{raw_pairs, decode}
-use Rattle.cs_base.specs.content.Bytes.{comma, digit_0}
+use Rattle.cs_base.specs.content.Bytes.{comma}
 use Rattle.cs_base.specs.content.Members.{members_in}
 use Rattle.cs_base.specs.declared.content.query.Query.{out-Query}
 use Rattle.cs_base.specs.declared.content.limits.TheConstants.{MAX_COUNT_DIGITS, MAX_SHOWN, MAX_OFFSET, MAX_FACETS, DEFAULT_HITS, DEFAULT_COMPLETIONS, MAX_PARTS}
 use Rattle.cs_model.specs.KeyText.{norm}
 use Rattle.cs_model.specs.Collection.{has_name_form}
+use Rattle.cs_model.specs.Digits.{has_digits, number_of}
 use Rattle.cs_model.specs.Words.{is_filled}
 use Rattle.cs_model.specs.Grammar.{query_of}
 use Rattle.cs_model.specs.Refusals.{QueryRefusal, Bad, Limit, IsOfGrammar}
@@ -65,14 +63,6 @@ unfoldable pub parameter : List ℕ → List ℕ → Option (List ℕ)
 parameter name p = first_value name (raw_pairs p)
 
 -- ---- counts
--- the number that digits spell, leading zeros read; 0 for no digits
-abbrev pub number_of : List ℕ → ℕ
-number_of w = fold (λ n c. n * 10 + (c - digit_0)) 0 w
-
--- the text is 1 to n ASCII digits; the empty text isn't
-abbrev pub has_digits : ℕ → List ℕ → Bool
-has_digits n w = nat_lt 0 (length w) && (nat_le (length w) n && list_all is_ascii_digit w)
-
 -- a value that is accepted as a count of at most `most`; a missing one is, the empty one isn't
 abbrev pub is_count : ℕ → Option (List ℕ) → Bool
 is_count most None = true

@@ -13,6 +13,7 @@ use Rattle.cs_base.specs.content.Members.{members_in}
 use Rattle.cs_base.specs.content.Orders.{by_row}
 use Rattle.cs_base.specs.declared.content.doc.Doc.{Doc}
 use Rattle.cs_base.specs.declared.content.doc.Row.{Row}
+use Rattle.cs_base.specs.declared.content.scores.Weights.{Weights}
 use Rattle.cs_model.specs.Corpus.{Corpus, corpus_of}
 
 -- a title with its document's number, n higher; for n = 0 the same
@@ -32,4 +33,4 @@ joined a b =
 
 -- so what is asked of the two collections as one is asked of their corpora joined; either list may be empty
 abbrev pub JoinedAreCorpora : Type 0
-JoinedAreCorpora = (ds es : List Doc) → corpus_of (ds ++ es) ≡ joined (corpus_of ds) (corpus_of es)
+JoinedAreCorpora = (w : Weights) (ds es : List Doc) → corpus_of w (ds ++ es) ≡ joined (corpus_of w ds) (corpus_of w es)

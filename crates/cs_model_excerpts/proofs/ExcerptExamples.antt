@@ -2,7 +2,9 @@
 use Rattle.std.proofs.Common.{◌≡◌, ℕ, true, false, Bool, List, [], ◌∷◌, ◌++◌, map, refl, sym, ap, ◌∙◌, codes}
 use Rattle.std.specs.Prelude.{Some, None, replicate}
 use Rattle.std.specs.Char.{encode_utf8}
+use Rattle.std.specs.Fmt.{digits}
 use Rattle.std.specs.Str.{bytes_eq, chars}
+use Rattle.json.specs.Print.{escape_byte}
 use Rattle.caseless.proofs.Computing.{caseless}
 use Rattle.ucd_category.proofs.Computing.{ucd_category}
 use Rattle.unicode.specs.GeneralCategory.{general_category}
@@ -19,7 +21,9 @@ use Rattle.cs_base.specs.declared.content.query.Query.{Query}
 use Rattle.cs_model.specs.Answers.{begins}
 use Rattle.cs_model.specs.Grammar.{query_of}
 use Rattle.cs_model.specs.KeyText.{norm}
+use Rattle.cs_model.specs.Replies.{Reply}
 use Rattle.cs_model.specs.Words.{cut, is_word_char, words}
+use Rattle.cs_model_excerpts.specs.ExcerptReplies.{excerpted_text}
 use Rattle.cs_model_excerpts.specs.Excerpts.{excerpt_of, own_excerpt, positive, textual}
 use Rattle.cs_model_excerpts.specs.OwnWords.{either_marks, is_near_marked, linked_marks, part_marks}
 use Rattle.cs_model_excerpts.specs.Runs.{covers, text_runs, shortest}
@@ -201,3 +205,13 @@ long_words = codes "x" ∷ (replicate 31 (codes "y") ++ codes "z" ∷ [])
 run-long : excerpt_of long_words (map (exactly (codes "x")) (long_words ∷ []) ++ map (exactly (codes "z")) (long_words ∷ [])) ≡ codes "[x] y y y y y y y y y y y y y y y y y y y y y y y y y y y y y y y"
 unfolding covers
 run-long = refl
+
+-- ---- replies
+-- two hits, of which one has no excerpt
+abbrev two_hits : Reply
+two_hits = record { completions = []; facets = []; hits = record { doc = 1; score = 5; title = codes "b" } ∷ record { doc = 0; score = 4; title = [] } ∷ []; total_completions = 0; total_hits = 2 }
+
+-- a hit's excerpt stands between its number and its score, also where it is empty
+text-two_hits : excerpted_text two_hits (codes "[type] ahead" ∷ [] ∷ []) ≡ codes "{\"completions\":[],\"facets\":{},\"hits\":[{\"doc\":1,\"excerpt\":\"[type] ahead\",\"score\":5,\"title\":\"b\"},{\"doc\":0,\"excerpt\":\"\",\"score\":4,\"title\":\"\"}],\"total\":{\"completions\":0,\"hits\":2}}"
+unfolding excerpted_text escape_byte digits
+text-two_hits = refl

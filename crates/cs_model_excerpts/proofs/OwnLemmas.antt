@@ -12,8 +12,8 @@ use Rattle.cs_base.specs.declared.content.query.Chain.{Chain}
 use Rattle.cs_base.specs.declared.content.query.Part.{Part, out-Part}
 use Rattle.cs_base.specs.declared.content.query.Query.{Query}
 use Rattle.cs_base.specs.declared.content.scores.TheConstants.{BEHIND_TITLE}
+use Rattle.cs_base.specs.declared.content.scores.Weights.{Weights}
 use Rattle.cs_model.specs.Corpus.{Corpus}
-use Rattle.cs_model.specs.Scores.{Scores}
 use Rattle.cs_model.specs.Words.{words}
 use Rattle.cs_model_excerpts.specs.ExcerptLaws.{HasDocument}
 use Rattle.cs_model_excerpts.specs.Excerpts.{excerpt, excerpt_of, marks_in, own_excerpt, positive, serves, textual}
@@ -41,7 +41,7 @@ same_map : {X Y : Type 0} (f g : X → Y) → ((x : X) → f x ≡ g x) → (xs 
 same_map f g h [] = refl
 same_map f g h (x ∷ xs) = ap (λ y. y ∷ map f xs) (h x) ∙ ap (λ ys. g x ∷ ys) (same_map f g h xs)
 
-pub marks_own : (k : Corpus) (w : Scores) (d : ℕ) (doc : Doc) → HasDocument k w d doc → (part : Part) → marks_in k d doc part ≡ part_marks (words doc.text) part
+pub marks_own : (k : Corpus) (w : Weights) (d : ℕ) (doc : Doc) → HasDocument k w d doc → (part : Part) → marks_in k d doc part ≡ part_marks (words doc.text) part
 marks_own k w d doc has p =
     let t = length (words doc.title) in
     let ws = words doc.text in
@@ -49,6 +49,6 @@ marks_own k w d doc has p =
     same_map (serves k d t p) (has_mark_at ms) (λ j. part_shown k d t ws (doc_text k w d doc has) (are_text doc.text) p (t + BEHIND_TITLE + j) (omega arith) ∙ mark_back t ms j) (range_with_len 0 (length ws))
     ∙ sym (fill_by_all (has_mark_at ms) ms (length ws) false (part-length ws p) (λ i l. refl))
 
-pub excerpts_own : (k : Corpus) (w : Scores) (d : ℕ) (doc : Doc) → HasDocument k w d doc → (q : Query) → excerpt k q d doc ≡ own_excerpt q doc
+pub excerpts_own : (k : Corpus) (w : Weights) (d : ℕ) (doc : Doc) → HasDocument k w d doc → (q : Query) → excerpt k q d doc ≡ own_excerpt q doc
 unfolding excerpt own_excerpt
 excerpts_own k w d doc has q = ap (λ ms. excerpt_of (words doc.text) (textual ms)) (same_map (marks_in k d doc) (part_marks (words doc.text)) (marks_own k w d doc has) (positive q))

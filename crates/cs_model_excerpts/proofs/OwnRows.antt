@@ -15,9 +15,9 @@ use Rattle.cs_base.specs.content.Orders.{by_row}
 use Rattle.cs_base.specs.declared.content.doc.Doc.{Doc}
 use Rattle.cs_base.specs.declared.content.doc.Row.{Row}
 use Rattle.cs_base.specs.declared.content.scores.TheConstants.{BEHIND_TITLE}
+use Rattle.cs_base.specs.declared.content.scores.Weights.{Weights}
 use Rattle.cs_model.specs.Collection.{facet_words}
 use Rattle.cs_model.specs.Corpus.{Corpus, corpus_of, doc_rows, facet_rows, placed, text_rows, title_rows}
-use Rattle.cs_model.specs.Scores.{SCORES, Scores}
 use Rattle.cs_model.specs.Words.{words}
 use Rattle.cs_model_excerpts.specs.Excerpts.{at}
 use Rattle.cs_model_excerpts.specs.Runs.{has_mark_at}
@@ -29,7 +29,7 @@ use Rattle.cs_base.specs.content.Members.{members_in}
 use Rattle.std.specs.Ordering.{eq_by_cmp}
 use Rattle.std.specs.Prelude.{filter}
 
-module _ (w : Scores) (d p : ℕ) (f : List ℕ → Bool) where
+module _ (w : Weights) (d p : ℕ) (f : List ℕ → Bool) where
   abbrev test : Row → Bool
   test r = at d p r && f r.word
 
@@ -100,7 +100,7 @@ only_at true e c g h = let one : c ≡ true = h refl in rw one (all_true (e && g
     all_true false = refl
 only_at false e c g h = refl
 
-pub doc_text : (k : Corpus) (w : Scores) (d : ℕ) (doc : Doc) → HasDocument k w d doc → HasText k d (length (words doc.title)) (words doc.text)
+pub doc_text : (k : Corpus) (w : Weights) (d : ℕ) (doc : Doc) → HasDocument k w d doc → HasText k d (length (words doc.title)) (words doc.text)
 doc_text k w d doc has f p l =
     let t = test w d p f in
     any_alike t (λ r. t r && in_doc d r) k.rows (λ r. only_at (r.doc == d) (r.pos == p) (r.doc == d) (f r.word) (λ e. e))
@@ -110,7 +110,7 @@ doc_text k w d doc has f p l =
     ∙ own_doc w d p f doc l
 
 -- ---- a corpus of documents
-module _ (w : Scores) (d : ℕ) (is : Row → Bool) where
+module _ (w : Weights) (d : ℕ) (is : Row → Bool) where
   abbrev kept : Row → Bool
   kept r = is r && in_doc d r
 
@@ -170,12 +170,12 @@ module _ (w : Scores) (d : ℕ) (is : Row → Bool) where
       ∙ ap (λ b. b || list_any kept (flat_map (doc_rows w) (enumerate_from (n + 1) docs))) (other_kept n x other)
       ∙ docs_kept (n + 1) i docs doc (omega (arith, e)) (omega (arith, l)) this
 
-pub corpora_have : (docs : List Doc) (d : ℕ) (doc : Doc) → d < length docs → doc ≡ get_or docs d doc → HasDocument (corpus_of docs) SCORES d doc
-corpora_have docs d doc l this =
-    let rows : List Row = flat_map (doc_rows SCORES) (enumerate_from 0 docs) in
+pub corpora_have : (w : Weights) (docs : List Doc) (d : ℕ) (doc : Doc) → d < length docs → doc ≡ get_or docs d doc → HasDocument (corpus_of w docs) w d doc
+corpora_have w docs d doc l this =
+    let rows : List Row = flat_map (doc_rows w) (enumerate_from 0 docs) in
     filter_listed by_row by_row_total by_row_exact (in_doc d) rows
-    ∙ members-alike by_row by_row_total by_row_exact (filter (in_doc d) (members_in by_row rows)) (doc_rows SCORES (d, doc)) (λ q.
+    ∙ members-alike by_row by_row_total by_row_exact (filter (in_doc d) (members_in by_row rows)) (doc_rows w (d, doc)) (λ q.
     let is : Row → Bool = eq_by_cmp by_row q in
     any_filter is (in_doc d) (members_in by_row rows)
     ∙ any_listed by_row by_row_total by_row_exact (λ r. is r && in_doc d r) rows
-    ∙ docs_kept SCORES d is 0 d docs doc (omega arith) l this)
+    ∙ docs_kept w d is 0 d docs doc (omega arith) l this)

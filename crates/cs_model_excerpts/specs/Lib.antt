@@ -1,4 +1,5 @@
 pub mod ExcerptLaws
+pub mod ExcerptReplies
 pub mod Excerpts
 pub mod OwnWords
 pub mod Runs

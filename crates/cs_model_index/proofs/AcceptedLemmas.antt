@@ -21,8 +21,10 @@ use Rattle.cs_model_index.specs.FileLaws.{AcceptedAreFiles, FilesFollowBlocks}
 use Rattle.cs_model_index.specs.FileRules.{laid, last_value, tried, field_breaks, words_break, is_word, follows, word_size, is_onward, words_end, is_joined, is_of_one_kind, is_sized, blocks_break, is_parted, file_rules, damage, IsIndexFile}
 use Rattle.cs_model_index.specs.Layout.{number_bytes, Header, MAGIC, header_bytes, offset_bytes, header_of_image, file}
 use Rattle.cs_model_index.specs.Sections.{number_at, header_of, offsets_len, directory_len, vocabulary_at, offsets_at, titles_at, directory_at, blocks_at, size_by, Sections, sections, Contents, contents_of, image_of}
+use Rattle.cs_model_index.specs.WeightsField.{is_field, weights_of}
 use Rattle.cs_model_index.specs.declared.limits.TheConstants.{HEADER_BYTES, NUMBER_BYTES, ENTRY_BYTES, MAX_TARGET}
 use Rattle.cs_model_index.proofs.NumbersLemmas.{IsBytes, bytes_from_all, IsBytes-take, IsBytes-drop, number_back, numbers_written, entries_written, numbers_count, heads_count}
+use Rattle.cs_model_index.proofs.WeightsFieldLemmas.{field_again, weights_fine}
 use Rattle.cs_model_index.proofs.SectionLemmas.{unbroken, words_written, titles_written, end_from, end_is, shapes, blocks_written}
 
 -- ---- what the rules say
@@ -33,7 +35,7 @@ pub record FieldsHold (h : Header) : Type 0 where
   pub blocks : h.blocks ≤ h.words
   pub target_from : 1 ≤ h.target
   pub target_to : h.target ≤ MAX_TARGET
-  pub spare : h.spare ≡ 0
+  pub weights : is_field h.weights ≡ true
 
 -- what the rules say of what is read
 pub record ValuesHold (r : Contents) : Type 0 where
@@ -57,7 +59,7 @@ pub record RulesHold (b : List ℕ) (r : Contents) : Type 0 where
   pub first : take 8 b ≡ MAGIC
   pub size : length b ≡ size_by r.header
   pub words_stand : words_break r.header.words vocabulary_at r.bytes.vocabulary ≡ None
-  pub blocks : blocks_break r.header.docs (blocks_at r.header) r.heads r.bytes.blocks ≡ None
+  pub blocks : blocks_break (weights_of r.header.weights) r.header.docs (blocks_at r.header) r.heads r.bytes.blocks ≡ None
   pub values : ValuesHold r
 
 tried_none : (n : ℕ) (o : Option ℕ) → tried n o ≡ None → o ≡ None
@@ -83,7 +85,7 @@ fields_hold h e =
       blocks = leb-true _ _ (unless_none _ _ f.1.1.1.0);
       target_from = leb-true _ _ t.0;
       target_to = leb-true _ _ t.1;
-      spare = eqb-true _ _ (unless_none _ _ f.1.1.1.1.1.0);
+      weights = unless_none _ _ f.1.1.1.1.1.0;
     }
 
 pub rules_hold : (b : List ℕ) (r : Contents) → first_reason (file_rules b r) ≡ None → RulesHold b r
@@ -153,8 +155,8 @@ sections_joined h rest =
     ∙ ap (λ (x : List ℕ). take h.vocabulary_len rest ++ x) (take-append-drop (offsets_len h) a)
     ∙ take-append-drop h.vocabulary_len rest
 
-pub same_header : (h : Header) (a b c d e f g k z : ℕ) → a ≡ h.docs → b ≡ h.words → c ≡ h.rows → d ≡ h.blocks → e ≡ h.target → f ≡ h.vocabulary_len → g ≡ h.titles_len → k ≡ h.blocks_len → z ≡ h.spare
-    → let x : Header = record { docs = a; words = b; rows = c; blocks = d; target = e; vocabulary_len = f; titles_len = g; blocks_len = k; spare = z } in x ≡ h
+pub same_header : (h : Header) (a b c d e f g k z : ℕ) → a ≡ h.docs → b ≡ h.words → c ≡ h.rows → d ≡ h.blocks → e ≡ h.target → f ≡ h.vocabulary_len → g ≡ h.titles_len → k ≡ h.blocks_len → z ≡ h.weights
+    → let x : Header = record { docs = a; words = b; rows = c; blocks = d; target = e; vocabulary_len = f; titles_len = g; blocks_len = k; weights = z } in x ≡ h
 same_header h a b c d e f g k z p q r s t u v w y = rw (p, q, r, s, t, u, v, w, y) refl
 
 same_parts : (a b c d e f a' b' c' d' e' f' : List ℕ) → a ≡ a' → b ≡ b' → c ≡ c' → d ≡ d' → e ≡ e' → f ≡ f' → a ++ (b ++ (c ++ (d ++ (e ++ f)))) ≡ a' ++ (b' ++ (c' ++ (d' ++ (e' ++ f'))))
@@ -240,10 +242,10 @@ accepted_are_files law b small e =
     let heads = entries_written r.words h.blocks s.directory is.bytes.directory sized.directory in
     let end : end_from 0 r.heads ≡ h.words = sym (end_is r.heads) ∙ hold.values.end in
     let shaped = shapes (directory_at h) None r.heads (length s.blocks) hold.values.joined hold.values.sized (omega (arith, end, f.words)) (hold.values.bytes_sum ∙ sym sized.blocks) in
-    let blocks = blocks_written law h.docs (blocks_at h) r.heads s.blocks (omega (arith, f.docs)) is.bytes.blocks shaped hold.blocks in
+    let blocks = blocks_written law (weights_of h.weights) (weights_fine h.weights f.weights) h.docs (blocks_at h) r.heads s.blocks (omega (arith, f.docs)) is.bytes.blocks shaped hold.blocks in
     let header : header_of_image (image_of b) ≡ h = same_header h _ _ _ _ _ _ _ _ _
     (omega (arith, titles.0, many)) words.count (blocks.2 ∙ hold.values.rows_sum) (blocks.0 ∙ heads_count r.words h.blocks s.directory) refl
-    (ap length words.written ∙ sized.vocabulary) (ap length titles.2 ∙ sized.titles) (ap length blocks.1 ∙ sized.blocks) (sym f.spare) in
+    (ap length words.written ∙ sized.vocabulary) (ap length titles.2 ∙ sized.titles) (ap length blocks.1 ∙ sized.blocks) (field_again h.weights f.weights) in
     same_parts _ _ _ _ _ _ (header_bytes h) s.vocabulary s.offsets s.titles s.directory s.blocks
     (ap header_bytes header) words.written (ap (flat_map number_bytes) titles.1 ∙ offsets) titles.2 heads blocks.1
     ∙ ap (λ (x : List ℕ). header_bytes h ++ x) (sections_joined h (drop HEADER_BYTES b))

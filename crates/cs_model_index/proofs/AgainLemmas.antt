@@ -16,7 +16,8 @@ use Rattle.std.proofs.lemmas.Nat.{from_be_bytes-to_be_bytes_4}
 use Rattle.cs_base.specs.declared.index.block.BlockHead.{BlockHead}
 use Rattle.cs_base.specs.declared.content.doc.Post.{Post}
 use Rattle.cs_base.specs.declared.content.limits.TheConstants.{MAX_WORD_BYTES}
-use Rattle.cs_model.specs.Scores.{SCORES}
+use Rattle.cs_base.specs.declared.content.scores.Weights.{Weights}
+use Rattle.cs_model.specs.Weights.{AreWeights}
 use Rattle.cs_model_index.specs.BlockLaws.{OneReading}
 use Rattle.cs_model_index.specs.Blocks.{block_bytes, IsShaped}
 use Rattle.cs_model_index.specs.BlockRules.{IsBlock}
@@ -112,26 +113,26 @@ heads_again words (g ∷ hs) h =
 
 -- ---- the blocks
 -- blocks that go with their heads
-unfoldable pub AreBlocks : ℕ → List BlockHead → List (List Post) → Type 0
-AreBlocks docs [] [] = Unit {0}
-AreBlocks docs [] (rs ∷ rss) = ⊥
-AreBlocks docs (h ∷ hs) [] = ⊥
-AreBlocks docs (h ∷ hs) (rs ∷ rss) = IsShaped h (length (block_bytes rs h.lo)) × IsBlock SCORES h docs rs (block_bytes rs h.lo) × AreBlocks docs hs rss
+unfoldable pub AreBlocks : Weights → ℕ → List BlockHead → List (List Post) → Type 0
+AreBlocks weights docs [] [] = Unit {0}
+AreBlocks weights docs [] (rs ∷ rss) = ⊥
+AreBlocks weights docs (h ∷ hs) [] = ⊥
+AreBlocks weights docs (h ∷ hs) (rs ∷ rss) = IsShaped h (length (block_bytes rs h.lo)) × IsBlock weights h docs rs (block_bytes rs h.lo) × AreBlocks weights docs hs rss
 
-pub blocks_again : OneReading → (docs at : ℕ) (hs : List BlockHead) (rss : List (List Post)) → docs < 2 ^ 32 → AreBlocks docs hs rss
-    → (blocks_break docs at hs (blocks_bytes hs rss) ≡ None) × (blocks_in hs (blocks_bytes hs rss) ≡ rss)
+pub blocks_again : OneReading → (weights : Weights) → AreWeights weights → (docs at : ℕ) (hs : List BlockHead) (rss : List (List Post)) → docs < 2 ^ 32 → AreBlocks weights docs hs rss
+    → (blocks_break weights docs at hs (blocks_bytes hs rss) ≡ None) × (blocks_in hs (blocks_bytes hs rss) ≡ rss)
 unfolding blocks_break blocks_in blocks_bytes AreBlocks
-blocks_again law docs at [] [] few b = (refl, refl)
-blocks_again law docs at [] (rs ∷ rss) few b = absurd b
-blocks_again law docs at (h ∷ hs) [] few b = absurd b
-blocks_again law docs at (h ∷ hs) (rs ∷ rss) few b =
+blocks_again law weights fine docs at [] [] few b = (refl, refl)
+blocks_again law weights fine docs at [] (rs ∷ rss) few b = absurd b
+blocks_again law weights fine docs at (h ∷ hs) [] few b = absurd b
+blocks_again law weights fine docs at (h ∷ hs) (rs ∷ rss) few b =
     let block = block_bytes rs h.lo in
     let rest = blocks_bytes hs rss in
     let len : length block ≡ h.len = b.0.size_is in
     let front : take h.len (block ++ rest) ≡ block = take_at block rest h.len len in
     let behind : drop h.len (block ++ rest) ≡ rest = drop_at block rest h.len len in
-    let u = law h docs rs block few b.0 b.1 in
-    let t = blocks_again law docs (at + h.len) hs rss few b.2 in (
+    let u = law weights fine h docs rs block few b.0 b.1 in
+    let t = blocks_again law weights fine docs (at + h.len) hs rss few b.2 in (
       rw (front, behind, u.0) t.0,
       rw (front, behind) (ap (λ (x : List Post). x ∷ blocks_in hs rest) u.1 ∙ ap (λ (x : List (List Post)). rs ∷ x) t.1),
     )

@@ -14,7 +14,7 @@ use Rattle.cs_base.specs.content.Orders.{by_place}
 use Rattle.cs_base.specs.declared.content.doc.Post.{Post}
 use Rattle.cs_base.specs.declared.index.block.BlockHead.{BlockHead}
 use Rattle.cs_base.specs.index.GapCode.{code, code_in}
-use Rattle.cs_model.specs.Scores.{SCORES}
+use Rattle.cs_base.specs.declared.content.scores.Weights.{Weights}
 use Rattle.cs_model_index.specs.Blocks.{gap_column, word_column, position_column, score_column, block_bytes}
 use Rattle.cs_model_index.specs.BlockRules.{is_scored, is_after, keeps, rules, MeetAll}
 
@@ -80,14 +80,14 @@ unfolding keeps IsStrictlySortedBy
 keeps_order [] up = refl
 keeps_order (r ∷ rs) up = keeps_behind r rs up.0 up.1
 
-pub meet_all : (head : BlockHead) (docs : ℕ) (rs : List Post) → AllByRecursion (λ r. r.doc < docs) rs → AllByRecursion (λ r. r.word < head.lo + head.words) rs → AllByRecursion (λ r. is_scored SCORES head.facet r ≡ true) rs
-    → IsStrictlySortedBy by_place rs → MeetAll (rules SCORES head docs) rs
-meet_all head docs rs known words scored up = (
+pub meet_all : (weights : Weights) (head : BlockHead) (docs : ℕ) (rs : List Post) → AllByRecursion (λ r. r.doc < docs) rs → AllByRecursion (λ r. r.word < head.lo + head.words) rs → AllByRecursion (λ r. is_scored weights head.facet r ≡ true) rs
+    → IsStrictlySortedBy by_place rs → MeetAll (rules weights head docs) rs
+meet_all weights head docs rs known words scored up = (
   keeps_each (λ last r. nat_lt r.doc docs) (λ r. r.doc < docs) (λ last r h. lt-ltb r.doc docs h) None rs known,
   (
     keeps_each (λ last r. nat_lt r.word (head.lo + head.words)) (λ r. r.word < head.lo + head.words) (λ last r h. lt-ltb r.word (head.lo + head.words) h) None rs words,
     (
-      keeps_each (λ last r. is_scored SCORES head.facet r) (λ r. is_scored SCORES head.facet r ≡ true) (λ last r h. h) None rs scored,
+      keeps_each (λ last r. is_scored weights head.facet r) (λ r. is_scored weights head.facet r ≡ true) (λ last r h. h) None rs scored,
       (keeps_order rs up, tt),
     ),
   ),

@@ -24,6 +24,7 @@ use Rattle.cs_base.proofs.OrdersLemmas.{by_row_total, by_row_exact, rows_up}
 use Rattle.cs_base.specs.content.Members.{members_in}
 use Rattle.cs_base.specs.content.Orders.{by_row}
 use Rattle.cs_base.specs.declared.content.doc.Row.{Row}
+use Rattle.cs_base.specs.declared.content.scores.Weights.{Weights}
 use Rattle.cs_base.proofs.ListsLemmas.{any_through}
 use Rattle.cs_model.specs.Corpus.{Corpus, by_number, distinct_words, IsCorpus}
 use Rattle.cs_model_index.proofs.NumberedLemmas.{rows_of_numbered}
@@ -135,8 +136,8 @@ same_members rows runs q joined =
     ∙ implied (list_any (λ r. bytes_eq q.word r.word) rows) is (has_word q rows))
 
 -- ---- the law
-pub corpora_are_kept : (k : Corpus) (target : ℕ) (i : Image) → IsCorpus k → IsImage k target i → image_corpus i ≡ k
-corpora_are_kept k target i is image =
+pub corpora_are_kept : (k : Corpus) (target : ℕ) (weights : Weights) (i : Image) → IsCorpus k → IsImage k target weights i → image_corpus i ≡ k
+corpora_are_kept k target weights i is image =
     let rows = k.rows in
     let runs = image.runs in
     let words : flat_map (λ run. run) runs ≡ distinct_words rows = image.parted.joined in

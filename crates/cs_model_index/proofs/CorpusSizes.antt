@@ -18,6 +18,7 @@ use Rattle.std.proofs.lemmas.Cmp.{nat_cmp_total}
 use Rattle.std.proofs.lemmas.List.Sums.{sum_by-append, sum_by-cons}
 use Rattle.cs_base.specs.declared.content.doc.Post.{Post}
 use Rattle.cs_base.specs.declared.content.doc.Row.{Row}
+use Rattle.cs_base.specs.declared.content.scores.Weights.{Weights}
 use Rattle.cs_model.specs.Corpus.{Corpus, IsCorpus, by_number, distinct_words}
 use Rattle.cs_model.specs.Words.{is_filled}
 use Rattle.cs_model_index.specs.Blocks.{AreWritable}
@@ -104,7 +105,7 @@ module _ (ws : Run) (rows : List Row) (are : AreRows ws rows) where
   posts_all Q P one (run ∷ runs) h = all_both P (block_of ws rows run) (flat_map (λ block. block) (blocks runs)) (block_posts Q P one run rows are.known h) (posts_all Q P one runs h)
 
 -- ---- the image of a corpus
-module _ (k : Corpus) (target : ℕ) (i : Image) (is : IsCorpus k) (image : IsImage k target i) where
+module _ (k : Corpus) (target : ℕ) (weights : Weights) (i : Image) (is : IsCorpus k) (image : IsImage k target weights i) where
   pub words_are : i.words ≡ distinct_words k.rows
   words_are = ap (λ (j : Image). j.words) image.made ∙ image.parted.joined
 

@@ -10,6 +10,7 @@ use Rattle.std.specs.FinMap.{entries, from_entries, from_sorted, is_sorted, nat_
 use Rattle.std.specs.FinMap.Entries.{below_all}
 use Rattle.std.proofs.lemmas.Bool.Decides.{nat_tests}
 use Rattle.std.proofs.lemmas.Cmp.{nat_cmp_total}
+use Rattle.cs_base.specs.declared.content.scores.Weights.{Weights}
 use Rattle.cs_model.specs.Corpus.{Corpus, by_number, distinct_words}
 use Rattle.cs_model_index.specs.Images.{Image, count_in, image_by, IsImage}
 use Rattle.cs_model_index.proofs.PartitionLemmas.{partitions_are_one}
@@ -43,8 +44,8 @@ pub one_list : (ts us : List (List ℕ)) → by_number ts ≡ by_number us → t
 one_list ts us e =
     sym (listed_back 0 ts) ∙ ap (map (λ e. e.1)) (sym (titles_listed ts) ∙ ap entries e ∙ titles_listed us) ∙ listed_back 0 us
 
-pub images_are_one : (k : Corpus) (target : ℕ) (i j : Image) → IsImage k target i → IsImage k target j → i ≡ j
-images_are_one k target i j p q =
+pub images_are_one : (k : Corpus) (target : ℕ) (weights : Weights) (i j : Image) → IsImage k target weights i → IsImage k target weights j → i ≡ j
+images_are_one k target weights i j p q =
     let runs : p.runs ≡ q.runs = partitions_are_one target (count_in k.rows) (distinct_words k.rows) p.runs q.runs p.parted q.parted in
     let titles : i.titles ≡ j.titles = one_list i.titles j.titles (p.titles ∙ sym q.titles) in
-    p.made ∙ ap (λ runs. image_by i.titles k.rows runs target) runs ∙ ap (λ titles. image_by titles k.rows q.runs target) titles ∙ sym q.made
+    p.made ∙ ap (λ runs. image_by i.titles k.rows runs target weights) runs ∙ ap (λ titles. image_by titles k.rows q.runs target weights) titles ∙ sym q.made

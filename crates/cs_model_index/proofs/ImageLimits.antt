@@ -21,7 +21,7 @@ use Rattle.cs_base.specs.declared.content.doc.Row.{Row}
 use Rattle.cs_base.specs.declared.content.limits.TheConstants.{MAX_LINE_BYTES, MAX_ROWS, MAX_WORDS}
 use Rattle.cs_base.specs.declared.index.block.BlockHead.{BlockHead}
 use Rattle.cs_model.specs.Corpus.{Corpus, IsCorpus, distinct_words}
-use Rattle.cs_model.specs.Scores.{SCORES}
+use Rattle.cs_base.specs.declared.content.scores.Weights.{Weights}
 use Rattle.cs_model_index.specs.Blocks.{block_bytes}
 use Rattle.cs_model_index.specs.BlockRules.{is_scored}
 use Rattle.cs_model_index.specs.FileLaws.{HasLimits, ImagesFollowBlocks}
@@ -38,6 +38,7 @@ use Rattle.cs_model_index.proofs.RunBlocks.{AreRows, RunFacts, run_closed, run_f
 use Rattle.cs_model_index.proofs.RunRows.{Run, IsAt}
 use Rattle.cs_model_index.proofs.SectionLemmas.{end_from, end_is}
 use Rattle.cs_model_index.proofs.TextLimits.{placed, word_length, words_few, words_follow, offsets_within, offsets_onward, offsets_end}
+use Rattle.cs_model_index.proofs.WeightsFieldLemmas.{field_is}
 use Rattle.cs_model_index.proofs.WrittenLemmas.{IsWritable, file_again}
 
 -- ---- lists
@@ -50,10 +51,10 @@ all_each P [] h = tt
 all_each P (b ∷ bs) h = let both = all_parts P b (flat_map (λ b. b) bs) h in (both.0, all_each P bs both.1)
 
 -- ---- runs, one behind the other
-module _ (ws : Run) (rows : List Row) (docs target : ℕ) where
+module _ (weights : Weights) (ws : Run) (rows : List Row) (docs target : ℕ) where
   pub AreRuns : ℕ → List Run → Type 0
   AreRuns lo [] = Unit {0}
-  AreRuns lo (run ∷ runs) = RunFacts ws rows docs target lo run × AreRuns (lo + length run) runs
+  AreRuns lo (run ∷ runs) = RunFacts weights ws rows docs target lo run × AreRuns (lo + length run) runs
 
   abbrev blocks : List Run → List (List Post)
   blocks runs = map (block_of ws rows) runs
@@ -62,7 +63,7 @@ module _ (ws : Run) (rows : List Row) (docs target : ℕ) where
   heads lo runs = heads_from lo (zip runs (blocks runs))
 
   are_runs : AreRows ws rows → length ws ≤ MAX_WORDS → (front : Run) (lo : ℕ) (runs : List Run) → ws ≡ front ++ flat_map (λ run. run) runs → length front ≡ lo → list_all (is_run target (count_in rows)) runs ≡ true
-      → sum_by (λ block. length block) (blocks runs) ≤ MAX_ROWS → AllByRecursion (AllByRecursion (λ p. p.doc < docs)) (blocks runs) → AllByRecursion (AllByRecursion (λ p. is_scored SCORES (is_facet (word_at ws p.word)) p ≡ true)) (blocks runs)
+      → sum_by (λ block. length block) (blocks runs) ≤ MAX_ROWS → AllByRecursion (AllByRecursion (λ p. p.doc < docs)) (blocks runs) → AllByRecursion (AllByRecursion (λ p. is_scored weights (is_facet (word_at ws p.word)) p ≡ true)) (blocks runs)
       → AreRuns lo runs
   unfolding AreRuns
   are_runs are within front lo [] split at each few known scored = tt
@@ -70,7 +71,7 @@ module _ (ws : Run) (rows : List Row) (docs target : ℕ) where
       let is : IsAt ws lo run = record { front = front; rest = flat_map (λ run. run) runs; split = split; at = at } in
       let e = and_parts (is_run target (count_in rows) run) (list_all (is_run target (count_in rows)) runs) each in
       let sum = sum_by-cons (λ (block : List Post). length block) (block_of ws rows run) (blocks runs) in (
-        run_facts ws rows are docs target lo run is e.0 within (omega (arith, few, sum)) known.0 scored.0,
+        run_facts ws rows are weights docs target lo run is e.0 within (omega (arith, few, sum)) known.0 scored.0,
         are_runs are within (front ++ run) (lo + length run) runs (split ∙ sym (append_assoc front run (flat_map (λ run. run) runs))) (omega (arith, at, length-append front run)) e.1 (omega (arith, few, sum)) known.1 scored.1,
       )
 
@@ -85,7 +86,7 @@ module _ (ws : Run) (rows : List Row) (docs target : ℕ) where
   one_each lo [] = refl
   one_each lo (run ∷ runs) = let rest = one_each (lo + length run) runs in omega (arith, rest)
 
-  are_blocks : (lo : ℕ) (runs : List Run) → AreRuns lo runs → AreBlocks docs (heads lo runs) (blocks runs)
+  are_blocks : (lo : ℕ) (runs : List Run) → AreRuns lo runs → AreBlocks weights docs (heads lo runs) (blocks runs)
   unfolding AreRuns AreBlocks heads_from
   are_blocks lo [] h = tt
   are_blocks lo (run ∷ runs) h = (h.0.shaped, h.0.block, are_blocks (lo + length run) runs h.1)
@@ -149,7 +150,7 @@ module _ (ws : Run) (rows : List Row) (docs target : ℕ) where
   runs_few lo (run ∷ runs) h = let rest = runs_few (lo + length run) runs h.1 in omega (arith, rest, h.0.some, length-append run (flat_map (λ run. run) runs))
 
   -- ---- the parts of the words
-  parted_at : (lo : ℕ) (run : Run) (next : Option (BlockHead × List Post)) → RunFacts ws rows docs target lo run → is_closed target ws (head_of lo run (block_of ws rows run), block_of ws rows run) next ≡ true
+  parted_at : (lo : ℕ) (run : Run) (next : Option (BlockHead × List Post)) → RunFacts weights ws rows docs target lo run → is_closed target ws (head_of lo run (block_of ws rows run), block_of ws rows run) next ≡ true
       → (has_rows (head_of lo run (block_of ws rows run), block_of ws rows run) && (is_light target (length run) (length (block_of ws rows run)) && is_closed target ws (head_of lo run (block_of ws rows run), block_of ws rows run) next)) ≡ true
   parted_at lo run next h closed =
       and_from (has_rows (head_of lo run (block_of ws rows run), block_of ws rows run)) _ h.full (and_from (is_light target (length run) (length (block_of ws rows run))) _ h.light closed)
@@ -171,53 +172,54 @@ module _ (ws : Run) (rows : List Row) (docs target : ℕ) where
       )
 
 -- ---- the image
-pub runs_writable : (ts : Run) (rows : List Row) (runs : List Run) (target : ℕ) → AreRows (flat_map (λ run. run) runs) rows → list_all (is_run target (count_in rows)) runs ≡ true → list_all (is_ended target (count_in rows)) (zip runs (drop 1 runs)) ≡ true
-    → HasLimits (image_by ts rows runs target) → IsWritable (image_by ts rows runs target)
-runs_writable ts rows runs target are each ended limits =
+pub runs_writable : (ts : Run) (rows : List Row) (runs : List Run) (target : ℕ) (weights : Weights) → AreRows (flat_map (λ run. run) runs) rows → list_all (is_run target (count_in rows)) runs ≡ true → list_all (is_ended target (count_in rows)) (zip runs (drop 1 runs)) ≡ true
+    → HasLimits (image_by ts rows runs target weights) → IsWritable (image_by ts rows runs target weights)
+runs_writable ts rows runs target weights are each ended limits =
     let ws : Run = flat_map (λ run. run) runs in
     let docs : ℕ = length ts in
-    let i : Image = image_by ts rows runs target in
+    let i : Image = image_by ts rows runs target weights in
     let h = header_of_image i in
-    let known = all_each (λ p. p.doc < docs) (blocks ws rows docs target runs) (recursion_from_All (λ p. p.doc < docs) _ limits.known) in
-    let scored = all_each (λ p. is_scored SCORES (is_facet (word_at ws p.word)) p ≡ true) (blocks ws rows docs target runs) (recursion_from_All (λ p. is_scored SCORES (is_facet (word_at ws p.word)) p ≡ true) _ limits.scored) in
-    let hold : AreRuns ws rows docs target 0 runs = are_runs ws rows docs target are limits.few_words [] 0 runs refl refl each limits.few_rows known scored in
+    let known = all_each (λ p. p.doc < docs) (blocks weights ws rows docs target runs) (recursion_from_All (λ p. p.doc < docs) _ limits.known) in
+    let scored = all_each (λ p. is_scored weights (is_facet (word_at ws p.word)) p ≡ true) (blocks weights ws rows docs target runs) (recursion_from_All (λ p. is_scored weights (is_facet (word_at ws p.word)) p ≡ true) _ limits.scored) in
+    let hold : AreRuns weights ws rows docs target 0 runs = are_runs weights ws rows docs target are limits.few_words [] 0 runs refl refl each limits.few_rows known scored in
     let lengths : AllByRecursion HasLength ws = all_then (λ w. is_word w ≡ true) HasLength word_length ws (recursion_from_All (λ w. is_word w ≡ true) ws limits.words) in
     let titles : length (title_bytes ts) < 2 ^ 32 = limits.few_bytes in
-    let sum = bytes_sum ws rows docs target 0 runs in
+    let sum = bytes_sum weights ws rows docs target 0 runs in
     let end : 0 + length ws ≡ length ws = omega arith in
     record {
+      weights = limits.weights;
       room = record {
         vocabulary = omega (arith, words_few ws lengths, limits.few_words);
         titles = titles;
-        blocks = omega (arith, sum, bytes_few ws rows docs target 0 runs hold, limits.few_rows);
+        blocks = omega (arith, sum, bytes_few weights ws rows docs target 0 runs hold, limits.few_rows);
       };
       lengths = lengths;
       offsets = all_then (λ n. n ≤ length (title_bytes ts)) (λ n. n < 2 ^ 32) (λ n l. omega (arith, l, titles)) _ (offsets_within (length (title_bytes ts)) 0 ts (omega arith));
-      heads = heads_fit ws rows docs target 0 runs hold;
-      one_each = one_each ws rows docs target 0 runs;
-      blocks = are_blocks ws rows docs target 0 runs hold;
+      heads = heads_fit weights ws rows docs target 0 runs hold;
+      one_each = one_each weights ws rows docs target 0 runs;
+      blocks = are_blocks weights ws rows docs target 0 runs hold;
       values = record {
         fields = record {
           docs = limits.few_docs;
           words = limits.few_words;
           rows = limits.few_rows;
-          blocks = runs_few ws rows docs target 0 runs hold;
+          blocks = runs_few weights ws rows docs target 0 runs hold;
           target_from = limits.target_from;
           target_to = limits.target_to;
-          spare = refl;
+          weights = field_is weights limits.weights;
         };
         words = placed (λ w. is_word w ≡ true) word_size vocabulary_at None ws (recursion_from_All (λ w. is_word w ≡ true) ws limits.words);
         ascend = words_follow word_size vocabulary_at ws are.up;
         onward = offsets_onward (offsets_at h) ts (recursion_from_All (λ t. length t ≤ MAX_LINE_BYTES) ts limits.short);
         last_offset = offsets_end ts;
         texts = placed (λ t. is_utf8 t ≡ true) (λ t. length t) (titles_at h) None ts (all_then IsUtf8 (λ t. is_utf8 t ≡ true) is_utf8-from_IsUtf8 ts (recursion_from_All IsUtf8 ts limits.texts));
-        joined = heads_joined ws rows docs target (directory_at h) None 0 runs refl hold;
-        end = end_is (heads ws rows docs target 0 runs) ∙ heads_end ws rows docs target 0 runs ∙ end;
-        kinds = placed (λ h. is_of_one_kind ws h ≡ true) (λ h. ENTRY_BYTES) (directory_at h) None (heads ws rows docs target 0 runs) (heads_kinds ws rows docs target 0 runs hold);
-        sized = placed (λ h. is_sized h ≡ true) (λ h. ENTRY_BYTES) (directory_at h) None (heads ws rows docs target 0 runs) (heads_sized ws rows docs target 0 runs hold);
-        rows_sum = rows_sum ws rows docs target 0 runs;
+        joined = heads_joined weights ws rows docs target (directory_at h) None 0 runs refl hold;
+        end = end_is (heads weights ws rows docs target 0 runs) ∙ heads_end weights ws rows docs target 0 runs ∙ end;
+        kinds = placed (λ h. is_of_one_kind ws h ≡ true) (λ h. ENTRY_BYTES) (directory_at h) None (heads weights ws rows docs target 0 runs) (heads_kinds weights ws rows docs target 0 runs hold);
+        sized = placed (λ h. is_sized h ≡ true) (λ h. ENTRY_BYTES) (directory_at h) None (heads weights ws rows docs target 0 runs) (heads_sized weights ws rows docs target 0 runs hold);
+        rows_sum = rows_sum weights ws rows docs target 0 runs;
         bytes_sum = sum;
-        parted = parted ws rows docs target are (directory_at h) None [] 0 runs refl refl ended hold;
+        parted = parted weights ws rows docs target are (directory_at h) None [] 0 runs refl refl ended hold;
       };
     }
 
@@ -231,8 +233,8 @@ corpus_rows k ws is e = record {
 }
 
 pub files_accepted : ImagesFollowBlocks
-files_accepted law k target i is image limits =
-    let j : Image = image_by i.titles k.rows image.runs target in
+files_accepted law k target weights i is image limits =
+    let j : Image = image_by i.titles k.rows image.runs target weights in
     let within : HasLimits j = subst HasLimits image.made limits in
-    let can : IsWritable j = runs_writable i.titles k.rows image.runs target (corpus_rows k (flat_map (λ run. run) image.runs) is image.parted.joined) image.parted.each image.parted.ended within in
+    let can : IsWritable j = runs_writable i.titles k.rows image.runs target weights (corpus_rows k (flat_map (λ run. run) image.runs) is image.parted.joined) image.parted.each image.parted.ended within in
     subst (λ (x : Image). IsIndexFile (file x) × (image_of (file x) ≡ x)) (sym image.made) (file_again law j can)

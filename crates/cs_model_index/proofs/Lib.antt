@@ -11,6 +11,7 @@ pub mod Listings
 pub mod NumberedLemmas
 pub mod NumbersLemmas
 pub mod PartitionLemmas
+pub mod PartitionsMade
 pub mod ReadBlocks
 pub mod ReadCorpora
 pub mod ReadImages
@@ -19,4 +20,5 @@ pub mod RunBlocks
 pub mod RunRows
 pub mod SectionLemmas
 pub mod TextLimits
+pub mod WeightsFieldLemmas
 pub mod WrittenLemmas

@@ -19,7 +19,8 @@ use Rattle.std.proofs.lemmas.List.Elements.{recursion_from_All}
 use Rattle.cs_base.specs.content.Orders.{by_place}
 use Rattle.cs_base.specs.declared.content.doc.Post.{Post}
 use Rattle.cs_base.specs.declared.index.block.BlockHead.{BlockHead}
-use Rattle.cs_model.specs.Scores.{SCORES}
+use Rattle.cs_base.specs.declared.content.scores.Weights.{Weights}
+use Rattle.cs_model.specs.Weights.{AreWeights}
 use Rattle.cs_model_index.specs.Blocks.{IsShaped, block_bytes}
 use Rattle.cs_model_index.specs.BlockRules.{IsBlock, judged, keeps, rows_read}
 use Rattle.cs_model_index.specs.FileRules.{blocks_break, follows, has_rows, is_closed, is_joined, is_of_one_kind, is_parted, laid, words_end}
@@ -78,13 +79,13 @@ keeps_all holds P one last [] h = tt
 keeps_all holds P one last (r ∷ rs) h = let both = and_parts (holds last r) (keeps holds (Some r) rs) h in (one last r both.0, keeps_all holds P one (Some r) rs both.1)
 
 -- what the rules of a block leave
-block_words : (h : BlockHead) (docs : ℕ) (rs : List Post) (bytes : List ℕ) → IsBlock SCORES h docs rs bytes → AllByRecursion (λ p. (h.lo ≤ p.word) × (p.word < h.lo + h.words)) rs
+block_words : {weights : Weights} (h : BlockHead) (docs : ℕ) (rs : List Post) (bytes : List ℕ) → IsBlock weights h docs rs bytes → AllByRecursion (λ p. (h.lo ≤ p.word) × (p.word < h.lo + h.words)) rs
 block_words h docs rs bytes is =
     both_all (λ p. (h.lo ≤ p.word) × (p.word < h.lo + 2 ^ 16)) (λ p. p.word < h.lo + h.words) (λ p. (h.lo ≤ p.word) × (p.word < h.lo + h.words)) (λ p a b. (a.0, b)) rs
     (recursion_from_All (λ p. (h.lo ≤ p.word) × (p.word < h.lo + 2 ^ 16)) rs is.writable.words)
     (keeps_all (λ last r. nat_lt r.word (h.lo + h.words)) (λ p. p.word < h.lo + h.words) (λ last r e. ltb-true r.word (h.lo + h.words) e) None rs is.meets.1.0)
 
-block_docs : (h : BlockHead) (docs : ℕ) (rs : List Post) (bytes : List ℕ) → IsBlock SCORES h docs rs bytes → AllByRecursion (λ p. p.doc < docs) rs
+block_docs : {weights : Weights} (h : BlockHead) (docs : ℕ) (rs : List Post) (bytes : List ℕ) → IsBlock weights h docs rs bytes → AllByRecursion (λ p. p.doc < docs) rs
 block_docs h docs rs bytes is = keeps_all (λ last r. nat_lt r.doc docs) (λ p. p.doc < docs) (λ last r e. ltb-true r.doc docs e) None rs is.meets.0
 
 -- ---- blocks, one behind the other
@@ -95,8 +96,8 @@ module _ (ws : Run) (docs target : ℕ) where
   AreRead lo (h ∷ hs) [] = ⊥
   AreRead lo (h ∷ hs) (b ∷ bs) = IsRead ws docs target lo h b × (is_closed target ws (h, b) (slice_get (zip hs bs) 0) ≡ true) × AreRead (lo + h.words) hs bs
 
-  is_read : (lo : ℕ) (h : BlockHead) (bytes : List ℕ) → h.lo ≡ lo → 1 ≤ h.words → lo + h.words ≤ length ws → is_of_one_kind ws h ≡ true → h.facet ≡ is_facet (word_at ws h.lo) → h.len ≡ length bytes
-      → IsBlock SCORES h docs (rows_read h bytes) bytes → has_rows (h, rows_read h bytes) ≡ true → is_light target h.words (length (rows_read h bytes)) ≡ true → IsRead ws docs target lo h (rows_read h bytes)
+  is_read : {weights : Weights} (lo : ℕ) (h : BlockHead) (bytes : List ℕ) → h.lo ≡ lo → 1 ≤ h.words → lo + h.words ≤ length ws → is_of_one_kind ws h ≡ true → h.facet ≡ is_facet (word_at ws h.lo) → h.len ≡ length bytes
+      → IsBlock weights h docs (rows_read h bytes) bytes → has_rows (h, rows_read h bytes) ≡ true → is_light target h.words (length (rows_read h bytes)) ≡ true → IsRead ws docs target lo h (rows_read h bytes)
   is_read lo h bytes at some within kind facet len is full light =
       let rs : List Post = rows_read h bytes in
       let k = and_parts (nat_le h.words MAX_BLOCK_WORDS) (is_one_kind (take h.words (drop h.lo ws))) kind in
@@ -116,17 +117,17 @@ module _ (ws : Run) (docs target : ℕ) where
         light = light;
       }
 
-  pub blocks_read : BlocksAreRead → docs < 2 ^ 32 → (place at : ℕ) (last : Option BlockHead) (past : Option (BlockHead × List Post)) (hs : List BlockHead) (bytes : List ℕ)
+  pub blocks_read : BlocksAreRead → (weights : Weights) → AreWeights weights → docs < 2 ^ 32 → (place at : ℕ) (last : Option BlockHead) (past : Option (BlockHead × List Post)) (hs : List BlockHead) (bytes : List ℕ)
       → AllByRecursion (λ i. is_joined i.last i.value ≡ true) (laid (λ h. ENTRY_BYTES) place last hs) → AllByRecursion (λ i. is_of_one_kind ws i.value ≡ true) (laid (λ h. ENTRY_BYTES) place last hs)
-      → end_from (words_end last) hs ≡ length ws → AllByRecursion (λ h. h.facet ≡ is_facet (word_at ws h.lo)) hs → IsBytes bytes → AreShaped hs (length bytes) → blocks_break docs at hs bytes ≡ None
+      → end_from (words_end last) hs ≡ length ws → AllByRecursion (λ h. h.facet ≡ is_facet (word_at ws h.lo)) hs → IsBytes bytes → AreShaped hs (length bytes) → blocks_break weights docs at hs bytes ≡ None
       → AllByRecursion (λ i. is_parted target ws i ≡ true) (laid (λ p. ENTRY_BYTES) place past (zip hs (blocks_in hs bytes))) → AreRead (words_end last) hs (blocks_in hs bytes)
   unfolding AreRead AreShaped blocks_break blocks_in end_from laid
-  blocks_read law few place at last past [] bytes j k end f fits shaped e parted = tt
-  blocks_read law few place at last past (h ∷ hs) bytes j k end f fits shaped e parted =
+  blocks_read law weights fine few place at last past [] bytes j k end f fits shaped e parted = tt
+  blocks_read law weights fine few place at last past (h ∷ hs) bytes j k end f fits shaped e parted =
       let first : List ℕ = take h.len bytes in
-      let p = block_none at (judged SCORES h docs first) (blocks_break docs (at + h.len) hs (drop h.len bytes)) e in
+      let p = block_none at (judged weights h docs first) (blocks_break weights docs (at + h.len) hs (drop h.len bytes)) e in
       let len : length first ≡ h.len = omega (arith, shaped.1, length-take h.len bytes) in
-      let block = law h docs first few (all_from_bytes first (IsBytes-take h.len bytes fits)) (subst (IsShaped h) (sym len) shaped.0) p.0 in
+      let block = law weights fine h docs first few (all_from_bytes first (IsBytes-take h.len bytes fits)) (subst (IsShaped h) (sym len) shaped.0) p.0 in
       let join = and_parts (h.lo == words_end last) (nat_le 1 h.words) j.0 in
       let here : h.lo ≡ words_end last = eqb-true _ _ join.0 in
       let some : 1 ≤ h.words = leb-true _ _ join.1 in
@@ -137,7 +138,7 @@ module _ (ws : Run) (docs target : ℕ) where
         is_read (words_end last) h first here some (omega (arith, here, rise, end)) k.0 f.0 (sym len) block part.0 rest.0,
         rest.1,
         subst (λ n. AreRead (n + h.words) hs (blocks_in hs (drop h.len bytes))) here
-            (blocks_read law few (place + 16) (at + h.len) (Some h) (Some (h, rows_read h first)) hs (drop h.len bytes) j.1 k.1 end f.1 (IsBytes-drop h.len bytes fits) left p.1 parted.1),
+            (blocks_read law weights fine few (place + 16) (at + h.len) (Some h) (Some (h, rows_read h first)) hs (drop h.len bytes) j.1 k.1 end f.1 (IsBytes-drop h.len bytes fits) left p.1 parted.1),
       )
 
 -- each head's kind is that of its first word

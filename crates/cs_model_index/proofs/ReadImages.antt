@@ -17,6 +17,7 @@ use Rattle.std.proofs.lemmas.Slice.Eq.{bytes_eq-Decides}
 use Rattle.cs_base.proofs.MembersLemmas.{members_are}
 use Rattle.cs_base.specs.declared.content.doc.Post.{Post}
 use Rattle.cs_base.specs.declared.content.doc.Row.{Row}
+use Rattle.cs_base.specs.declared.content.scores.Weights.{Weights}
 use Rattle.cs_base.specs.declared.index.block.BlockHead.{BlockHead}
 use Rattle.cs_base.proofs.ListsLemmas.{any_through}
 use Rattle.cs_model.specs.Corpus.{distinct_words}
@@ -26,6 +27,7 @@ use Rattle.cs_model_index.specs.FileRules.{damage, IsIndexFile, word_size}
 use Rattle.cs_model_index.specs.Images.{Image, block_of, heads_from, image_by}
 use Rattle.cs_model_index.specs.Numbered.{HasWord}
 use Rattle.cs_model_index.specs.Sections.{blocks_at, contents_of, directory_at, header_of, image_of, offsets_at, sections, vocabulary_at}
+use Rattle.cs_model_index.specs.WeightsField.{weights_of}
 use Rattle.cs_model_index.specs.declared.limits.TheConstants.{HEADER_BYTES}
 use Rattle.cs_model_index.proofs.AcceptedLemmas.{is_sound}
 use Rattle.cs_model_index.proofs.BlockUses.{BlocksAreRead, blocks_are_read}
@@ -36,6 +38,7 @@ use Rattle.cs_model_index.proofs.ReadBlocks.{AreRead, blocks_read, heads_kinds, 
 use Rattle.cs_model_index.proofs.ReadRows.{runs_from, runs_joined, posts_below, rows, blocks_again, heads_again, rows_known, rows_present, runs_fit, runs_ended}
 use Rattle.cs_model_index.proofs.RunRows.{Run}
 use Rattle.cs_model_index.proofs.SectionLemmas.{end_from, end_is, shapes, titles_written, words_written}
+use Rattle.cs_model_index.proofs.WeightsFieldLemmas.{weights_fine}
 
 -- ---- a file
 pub record FileRead (i : Image) : Type 0 where
@@ -62,7 +65,7 @@ file_read law b small e =
       up = rising_words word_size vocabulary_at r.words v.ascend;
       docs = h.docs;
       titles = omega (arith, titles.0, many);
-      read = blocks_read r.words h.docs h.target law (omega (arith, v.fields.docs)) (directory_at h) (blocks_at h) None None r.heads s.blocks v.joined v.kinds (last ∙ sym count) (heads_kinds r.words h.blocks s.directory) is.bytes.blocks shaped is.hold.blocks v.parted;
+      read = blocks_read r.words h.docs h.target law (weights_of h.weights) (weights_fine h.weights v.fields.weights) (omega (arith, v.fields.docs)) (directory_at h) (blocks_at h) None None r.heads s.blocks v.joined v.kinds (last ∙ sym count) (heads_kinds r.words h.blocks s.directory) is.bytes.blocks shaped is.hold.blocks v.parted;
       end = last ∙ sym count;
     }
 
@@ -75,9 +78,9 @@ known_word : (ws : Run) (q : List ℕ) (rs : List Row) → AllByRecursion (HasWo
 known_word ws q [] k h = absurd (true≢false (sym h))
 known_word ws q (r ∷ rs) k h = known_at ws q r.word (bytes_eq q r.word) (list_any (λ s. bytes_eq q s.word) rs) refl k.0 h (known_word ws q rs k.1)
 
-same_image : (titles titles' words words' : List (List ℕ)) (heads heads' : List BlockHead) (blocks blocks' : List (List Post)) (target target' : ℕ) → titles ≡ titles' → words ≡ words' → heads ≡ heads' → blocks ≡ blocks' → target ≡ target'
-    → let x : Image = record { titles = titles; words = words; heads = heads; blocks = blocks; target = target } in let y : Image = record { titles = titles'; words = words'; heads = heads'; blocks = blocks'; target = target' } in x ≡ y
-same_image titles titles' words words' heads heads' blocks blocks' target target' p q r s t = rw (p, q, r, s, t) refl
+same_image : (titles titles' words words' : List (List ℕ)) (heads heads' : List BlockHead) (blocks blocks' : List (List Post)) (target target' : ℕ) (weights : Weights) → titles ≡ titles' → words ≡ words' → heads ≡ heads' → blocks ≡ blocks' → target ≡ target'
+    → let x : Image = record { titles = titles; words = words; heads = heads; blocks = blocks; target = target; weights = weights } in let y : Image = record { titles = titles'; words = words'; heads = heads'; blocks = blocks'; target = target'; weights = weights } in x ≡ y
+same_image titles titles' words words' heads heads' blocks blocks' target target' weights p q r s t = rw (p, q, r, s, t) refl
 
 module _ (i : Image) (is : FileRead i) where
   abbrev all : List Post
@@ -109,10 +112,10 @@ module _ (i : Image) (is : FileRead i) where
       ∙ sym (any_through (λ r. r.word) (bytes_eq q) read_rows)
       ∙ any_alike (bytes_eq q) (eq_by_cmp (slice_cmp nat_cmp) q) (map (λ r. r.word) read_rows) (λ w. sym (is_eq-slice_cmp q w)))
 
-  made : i ≡ image_by i.titles read_rows runs i.target
+  made : i ≡ image_by i.titles read_rows runs i.target i.weights
   made =
       let blocks : map (block_of (flat_map (λ run. run) runs) read_rows) runs ≡ i.blocks = ap (λ ws. map (block_of ws read_rows) runs) words_again ∙ blocks_same in
-      same_image i.titles i.titles i.words (flat_map (λ run. run) runs) i.heads _ i.blocks _ i.target i.target refl (sym words_again)
+      same_image i.titles i.titles i.words (flat_map (λ run. run) runs) i.heads _ i.blocks _ i.target i.target i.weights refl (sym words_again)
       (sym (ap (λ bs. heads_from 0 (zip runs bs)) blocks ∙ heads_again i.words is.up is.docs i.target all below 0 i.heads i.blocks is.read)) (sym blocks) refl
 
 pub images_read : AcceptedAreBlocks → OneReading → AcceptedAreImages

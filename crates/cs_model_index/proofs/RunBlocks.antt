@@ -28,7 +28,7 @@ use Rattle.cs_base.specs.content.Orders.{by_spot}
 use Rattle.cs_base.specs.declared.content.doc.Post.{Post}
 use Rattle.cs_base.specs.declared.content.doc.Row.{Row}
 use Rattle.cs_base.specs.declared.content.limits.TheConstants.{MAX_ROWS, MAX_WORDS}
-use Rattle.cs_model.specs.Scores.{SCORES}
+use Rattle.cs_base.specs.declared.content.scores.Weights.{Weights}
 use Rattle.cs_model.specs.Words.{is_filled}
 use Rattle.cs_model_index.specs.Blocks.{AreWritable, IsShaped, block_bytes}
 use Rattle.cs_model_index.specs.BlockRules.{is_scored, IsBlock}
@@ -98,11 +98,11 @@ same_kind : (v w : List ℕ) → is_alike v w ≡ true → is_facet v ≡ is_fac
 same_kind v w h = facet_kind v ∙ ap is_filled ((bytes_eq-Decides (kind_of v) (kind_of w)).0 h) ∙ sym (facet_kind w)
 
 -- ---- a run
-pub record RunFacts (ws : Run) (rows : List Row) (docs target lo : ℕ) (run : Run) : Type 0 where
+pub record RunFacts (weights : Weights) (ws : Run) (rows : List Row) (docs target lo : ℕ) (run : Run) : Type 0 where
   pub some : 1 ≤ length run
   pub fits : HeadFits ws (head_of lo run (block_of ws rows run))
   pub shaped : IsShaped (head_of lo run (block_of ws rows run)) (length (block_bytes (block_of ws rows run) lo))
-  pub block : IsBlock SCORES (head_of lo run (block_of ws rows run)) docs (block_of ws rows run) (block_bytes (block_of ws rows run) lo)
+  pub block : IsBlock weights (head_of lo run (block_of ws rows run)) docs (block_of ws rows run) (block_bytes (block_of ws rows run) lo)
   pub kinds : is_of_one_kind ws (head_of lo run (block_of ws rows run)) ≡ true
   pub sized : is_sized (head_of lo run (block_of ws rows run)) ≡ true
   pub full : has_rows (head_of lo run (block_of ws rows run), block_of ws rows run) ≡ true
@@ -168,9 +168,9 @@ module _ (ws : Run) (rows : List Row) (are : AreRows ws rows) where
     words = All-from_recursion (λ p. (lo ≤ p.word) × (p.word < lo + 2 ^ 16)) (block_of ws rows run) (all_then (λ p. (lo ≤ p.word) × (p.word < lo + length run)) (λ p. (lo ≤ p.word) × (p.word < lo + 2 ^ 16)) (λ p h. (h.0, omega (arith, h.1, short))) (block_of ws rows run) (words_in lo run is));
   }
 
-  pub run_facts : (docs target lo : ℕ) (run : Run) → IsAt ws lo run → is_run target (count_in rows) run ≡ true → length ws ≤ MAX_WORDS → length (block_of ws rows run) ≤ MAX_ROWS
-      → AllByRecursion (λ p. p.doc < docs) (block_of ws rows run) → AllByRecursion (λ p. is_scored SCORES (is_facet (word_at ws p.word)) p ≡ true) (block_of ws rows run) → RunFacts ws rows docs target lo run
-  run_facts docs target lo run is fit within few docs_in scored =
+  pub run_facts : (weights : Weights) (docs target lo : ℕ) (run : Run) → IsAt ws lo run → is_run target (count_in rows) run ≡ true → length ws ≤ MAX_WORDS → length (block_of ws rows run) ≤ MAX_ROWS
+      → AllByRecursion (λ p. p.doc < docs) (block_of ws rows run) → AllByRecursion (λ p. is_scored weights (is_facet (word_at ws p.word)) p ≡ true) (block_of ws rows run) → RunFacts weights ws rows docs target lo run
+  run_facts weights docs target lo run is fit within few docs_in scored =
       let posts : List Post = block_of ws rows run in
       let n : ℕ = length posts in
       let len : ℕ = length (block_bytes posts lo) in
@@ -195,8 +195,8 @@ module _ (ws : Run) (rows : List Row) (are : AreRows ws rows) where
           count = refl;
           written = refl;
           writable = can;
-          meets = meet_all (head_of lo run posts) docs posts docs_in (all_then (λ p. (lo ≤ p.word) × (p.word < lo + length run)) (λ p. p.word < lo + length run) (λ p h. h.1) posts words)
-              (both_all (λ p. is_scored SCORES (is_facet (word_at ws p.word)) p ≡ true) (λ p. is_facet (word_at ws p.word) ≡ facet) (λ p. is_scored SCORES facet p ≡ true) (λ p s k. ap (λ f. is_scored SCORES f p) (sym k) ∙ s) posts scored (of_kind lo run is b.0)) can.sorted;
+          meets = meet_all weights (head_of lo run posts) docs posts docs_in (all_then (λ p. (lo ≤ p.word) × (p.word < lo + length run)) (λ p. p.word < lo + length run) (λ p h. h.1) posts words)
+              (both_all (λ p. is_scored weights (is_facet (word_at ws p.word)) p ≡ true) (λ p. is_facet (word_at ws p.word) ≡ facet) (λ p. is_scored weights facet p ≡ true) (λ p s k. ap (λ f. is_scored weights f p) (sym k) ∙ s) posts scored (of_kind lo run is b.0)) can.sorted;
         };
         kinds = and_from (nat_le (length run) MAX_BLOCK_WORDS) _ c.0 (ap is_one_kind (own_words lo run is) ∙ b.0);
         sized = and_from (nat_le (length run) n) _ (le-leb _ _ more) (and_from (nat_le (8 * n) len) (nat_le len (12 * n)) (le-leb _ _ bytes.0) (le-leb _ _ bytes.1));

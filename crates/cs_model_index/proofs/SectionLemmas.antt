@@ -16,7 +16,8 @@ use Rattle.cs_base.specs.declared.index.block.BlockHead.{BlockHead}
 use Rattle.cs_base.specs.declared.index.block.Broken.{Broken}
 use Rattle.cs_base.specs.declared.content.doc.Post.{Post}
 use Rattle.cs_base.specs.declared.content.limits.TheConstants.{MAX_WORDS, MAX_WORD_BYTES}
-use Rattle.cs_model.specs.Scores.{SCORES}
+use Rattle.cs_base.specs.declared.content.scores.Weights.{Weights}
+use Rattle.cs_model.specs.Weights.{AreWeights}
 use Rattle.cs_model_index.proofs.BlockUses.{BlocksAreRead}
 use Rattle.cs_model_index.specs.Blocks.{IsShaped}
 use Rattle.cs_model_index.specs.BlockRules.{judged, rows_read}
@@ -185,19 +186,19 @@ pub block_none : (at : ℕ) (o : Option Broken) (p : Option Broken) → option_o
 block_none at None p e = (refl, e)
 block_none at (Some b) p e = absurd cc
 
-pub blocks_written : BlocksAreRead → (docs at : ℕ) (hs : List BlockHead) (bytes : List ℕ) → docs < 2 ^ 32 → IsBytes bytes → AreShaped hs (length bytes) → blocks_break docs at hs bytes ≡ None
+pub blocks_written : BlocksAreRead → (weights : Weights) → AreWeights weights → (docs at : ℕ) (hs : List BlockHead) (bytes : List ℕ) → docs < 2 ^ 32 → IsBytes bytes → AreShaped hs (length bytes) → blocks_break weights docs at hs bytes ≡ None
     → (length (blocks_in hs bytes) ≡ length hs) × (blocks_bytes hs (blocks_in hs bytes) ≡ bytes) × (sum_by (λ block. length block) (blocks_in hs bytes) ≡ sum_by (λ h. h.rows) hs)
 unfolding blocks_break blocks_in blocks_bytes AreShaped
-blocks_written law docs at [] bytes few fits shaped e = (refl, sym (nil_from_length bytes shaped), refl)
-blocks_written law docs at (h ∷ hs) bytes few fits shaped e =
+blocks_written law weights fine docs at [] bytes few fits shaped e = (refl, sym (nil_from_length bytes shaped), refl)
+blocks_written law weights fine docs at (h ∷ hs) bytes few fits shaped e =
     let first = take h.len bytes in
-    let p = block_none at (judged SCORES h docs first) (blocks_break docs (at + h.len) hs (drop h.len bytes)) e in
+    let p = block_none at (judged weights h docs first) (blocks_break weights docs (at + h.len) hs (drop h.len bytes)) e in
     let within : h.len ≤ length bytes = shaped.1 in
     let len : length first ≡ h.len = omega (arith, within, length-take h.len bytes) in
     let here : IsShaped h (length first) = subst (IsShaped h) (sym len) shaped.0 in
-    let block = law h docs first few (all_from_bytes first (IsBytes-take h.len bytes fits)) here p.0 in
+    let block = law weights fine h docs first few (all_from_bytes first (IsBytes-take h.len bytes fits)) here p.0 in
     let left : AreShaped hs (length (drop h.len bytes)) = subst (AreShaped hs) (sym (length-drop h.len bytes)) shaped.2 in
-    let rest = blocks_written law docs (at + h.len) hs (drop h.len bytes) few (IsBytes-drop h.len bytes fits) left p.1 in (
+    let rest = blocks_written law weights fine docs (at + h.len) hs (drop h.len bytes) few (IsBytes-drop h.len bytes fits) left p.1 in (
       ap suc rest.0,
       ap (λ (x : List ℕ). x ++ blocks_bytes hs (blocks_in hs (drop h.len bytes))) (sym block.written) ∙ ap (λ (x : List ℕ). first ++ x) rest.1 ∙ take-append-drop h.len bytes,
       sum_by-cons (λ (b : List Post). length b) (rows_read h first) (blocks_in hs (drop h.len bytes)) ∙ ap (λ (n : ℕ). n + sum_by (λ b. length b) (blocks_in hs (drop h.len bytes))) block.count ∙ ap (λ (n : ℕ). h.rows + n) rest.2 ∙ sym (sum_by-cons (λ (h : BlockHead). h.rows) h hs),

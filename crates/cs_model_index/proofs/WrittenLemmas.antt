@@ -5,7 +5,7 @@
 --   image_contents     what is to be read of an image's file
 --   IsWritable        an image whose numbers have room, and which keeps the rules
 --   file_again        what is read of the file, its rules and its image
-use Rattle.std.proofs.Common.{◌≡◌, ℕ, ◌+◌, ◌*◌, ◌<◌, ◌^◌, Bool, true, List, [], ◌∷◌, ◌++◌, length, take, drop, Option, None, refl, sym, ap, ◌∙◌, arith, length-append}
+use Rattle.std.proofs.Common.{◌≡◌, ℕ, ◌+◌, ◌*◌, ◌<◌, ◌^◌, Bool, true, List, [], ◌∷◌, ◌++◌, length, take, drop, Option, None, refl, sym, ap, subst, ◌∙◌, arith, length-append}
 use Rattle.std.specs.Prelude.{flat_map}
 use Rattle.std.specs.List.{AllByRecursion}
 use Rattle.std.specs.Option.{option_or}
@@ -16,11 +16,14 @@ use Rattle.std.proofs.lemmas.Slice.Eq.{bytes_eq-Decides}
 use Rattle.cs_base.specs.declared.index.block.BlockHead.{BlockHead}
 use Rattle.cs_model.specs.First.{unless, first_reason}
 use Rattle.cs_model_index.specs.BlockLaws.{OneReading}
-use Rattle.cs_model_index.specs.FileRules.{tried, field_breaks, is_word, follows, is_onward, is_joined, is_of_one_kind, is_sized, is_parted, file_rules, damage, IsIndexFile}
+use Rattle.cs_model_index.specs.FileRules.{blocks_break, tried, field_breaks, is_word, follows, is_onward, is_joined, is_of_one_kind, is_sized, is_parted, file_rules, damage, IsIndexFile}
 use Rattle.cs_model_index.specs.Images.{Image}
 use Rattle.cs_model_index.specs.Layout.{number_bytes, Header, MAGIC, header_bytes, vocabulary_bytes, offsets_from, offset_bytes, title_bytes, directory_bytes, blocks_bytes, header_of_image, file}
 use Rattle.cs_model_index.specs.Sections.{number_at, header_of, vocabulary_at, blocks_at, size_by, Sections, sections, vocabulary_in, numbers_in, titles_in, heads_in, blocks_in, Contents, contents_by, contents_of, image_of}
 use Rattle.cs_model_index.specs.declared.limits.TheConstants.{HEADER_BYTES}
+use Rattle.cs_model.specs.Weights.{AreWeights}
+use Rattle.cs_model_index.specs.WeightsField.{weights_of}
+use Rattle.cs_model_index.proofs.WeightsFieldLemmas.{field_small, weights_again}
 use Rattle.cs_model_index.proofs.AcceptedLemmas.{FieldsHold, ValuesHold, RulesHold, joined_sections, same_header}
 use Rattle.cs_model_index.proofs.AgainLemmas.{break_none, HasLength, words_again, numbers_again, titles_again, offsets_count, HeadFits, heads_again, AreBlocks, blocks_again, sections_again}
 
@@ -34,11 +37,11 @@ pub header_again : (h : Header) (rest : List ℕ) → FieldsHold h → HasRoom h
 unfolding header_bytes number_at
 header_again h rest f room =
     let d = f.docs in let w = f.words in let r = f.rows in let b = f.blocks in let t = f.target_to in
-    let spare : h.spare < 2 ^ 32 = omega (arith, f.spare) in
+    let weights : h.weights < 2 ^ 32 = field_small h.weights f.weights in
     same_header h _ _ _ _ _ _ _ _ _
     (from_be_bytes-to_be_bytes_4 h.docs (omega (arith, d))) (from_be_bytes-to_be_bytes_4 h.words (omega (arith, w))) (from_be_bytes-to_be_bytes_4 h.rows (omega (arith, r))) (from_be_bytes-to_be_bytes_4 h.blocks (omega (arith, w, b)))
     (from_be_bytes-to_be_bytes_4 h.target (omega (arith, t))) (from_be_bytes-to_be_bytes_4 h.vocabulary_len room.vocabulary) (from_be_bytes-to_be_bytes_4 h.titles_len room.titles) (from_be_bytes-to_be_bytes_4 h.blocks_len room.blocks)
-    (from_be_bytes-to_be_bytes_4 h.spare spare)
+    (from_be_bytes-to_be_bytes_4 h.weights weights)
 
 behind_header : (h : Header) (rest : List ℕ) → (drop HEADER_BYTES (header_bytes h ++ rest) ≡ rest) × (take 8 (header_bytes h ++ rest) ≡ MAGIC)
 unfolding header_bytes
@@ -74,7 +77,7 @@ fields_kept h f = none_all (field_breaks h) (
         (
           unless_holds _ _ (and_from _ _ (le-leb _ _ f.target_from) (le-leb _ _ f.target_to)),
           (
-            unless_holds _ _ (eq-eqb _ _ f.spare),
+            unless_holds _ _ f.weights,
             tt,
           ),
         ),
@@ -149,12 +152,13 @@ image_contents i = record {
 
 -- what is asked of an image that is written
 pub record IsWritable (i : Image) : Type 0 where
+  pub weights : AreWeights i.weights
   pub room : HasRoom (header_of_image i)
   pub lengths : AllByRecursion HasLength i.words
   pub offsets : AllByRecursion (λ n. n < 2 ^ 32) (offsets_from 0 i.titles)
   pub heads : AllByRecursion (HeadFits i.words) i.heads
   pub one_each : length i.heads ≡ length i.blocks
-  pub blocks : AreBlocks (length i.titles) i.heads i.blocks
+  pub blocks : AreBlocks i.weights (length i.titles) i.heads i.blocks
   pub values : ValuesHold (image_contents i)
 
 numbers_len : (ns : List ℕ) → length (flat_map number_bytes ns) ≡ 4 * length ns
@@ -193,7 +197,7 @@ contents_again law i is =
     ap (λ (ws : List (List ℕ)). heads_in ws (length i.blocks) p.directory) words ∙ ap (λ (n : ℕ). heads_in i.words n p.directory) (sym is.one_each) ∙ heads_again i.words i.heads is.heads in
     let f = is.values.fields in
     let few : length i.titles < 2 ^ 32 = omega (arith, f.docs) in
-    let blocks = blocks_again law (length i.titles) (blocks_at h) i.heads i.blocks few is.blocks in
+    let blocks = blocks_again law i.weights is.weights (length i.titles) (blocks_at h) i.heads i.blocks few is.blocks in
     ap (λ (y : List ℕ). contents_by (header_of b) (sections (header_of b) y)) (behind_header h rest).0
     ∙ ap (λ (k : Header). contents_by k (sections k rest)) head
     ∙ ap (contents_by h) cut
@@ -221,9 +225,12 @@ file_again law i is =
       first = (behind_header h rest).1;
       size = size;
       words_stand = (words_again vocabulary_at i.words is.lengths).0;
-      blocks = (blocks_again law (length i.titles) (blocks_at h) i.heads i.blocks few is.blocks).0;
+      blocks =
+          subst (λ w. blocks_break w (length i.titles) (blocks_at h) i.heads p.blocks ≡ None) (sym (weights_again i.weights is.weights))
+          (blocks_again law i.weights is.weights (length i.titles) (blocks_at h) i.heads i.blocks few is.blocks).0;
       values = is.values;
     } in (
       ap (λ (r : Contents). first_reason (file_rules b r)) contents ∙ rules_kept b (image_contents i) hold,
-      ap (λ (r : Contents). let j : Image = record { titles = r.titles; words = r.words; heads = r.heads; blocks = r.blocks; target = r.header.target } in j) contents,
+      ap (λ (r : Contents). let j : Image = record { titles = r.titles; words = r.words; heads = r.heads; blocks = r.blocks; target = r.header.target; weights = weights_of r.header.weights } in j) contents
+          ∙ ap (λ w. let j : Image = record { titles = i.titles; words = i.words; heads = i.heads; blocks = i.blocks; target = i.target; weights = w } in j) (weights_again i.weights is.weights),
     )

@@ -13,15 +13,15 @@
 --   block_items head c       the items of four columns
 --   Rule                     a rule on rows: its number, its test, and the place where an item breaks it
 --   in_docs, in_words, in_kind, in_order    rules 14 to 17, by the tests is_scored and is_after
---   rules scores head docs   these in their order, for a collection of these scores
+--   rules w head docs   these in their order, for a collection of these weights
 --   first_break rule items   where the first item that breaks a rule breaks it; None where none does
 --   broken_at n at           the rule of a number, broken at a place
 --   first_broken rs items    the first rule of some that some item breaks, with its first place; None where all hold
---   judged_columns scores head docs c, judged scores head docs bytes    the first broken rule of columns and of the bytes of a block, and its place
+--   judged_columns w head docs c, judged w head docs bytes    the first broken rule of columns and of the bytes of a block, and its place
 --                            in the bytes; None where all rules hold
 --   rows_read head bytes     the rows that are read of any bytes
 --   keeps holds last rs, MeetAll rules rs    rows keep a rule behind some row, and rows keep each of some rules
---   IsBlock scores head docs rs bytes    bytes are those of so many rows as the head says, which a block can hold and which meet rules 14 to 17
+--   IsBlock w head docs rs bytes    bytes are those of so many rows as the head says, which a block can hold and which meet rules 14 to 17
 use Rattle.std.specs.Prelude.{◌≡◌, ℕ, zero, suc, ◌+◌, ◌-◌, ◌*◌, Bool, true, ◌&&◌, ◌||◌, nat_lt, nat_le, ◌==◌, List, [], ◌∷◌, length, map, take, drop, get_or, find, not, Option, Some, None, if◌then◌else◌}
 use Rattle.std.specs.Int.{w16, w32, from_be_bytes}
 use Rattle.std.specs.Option.{is_some, option_map, option_or, unwrap_or}
@@ -32,7 +32,7 @@ use Rattle.cs_base.specs.declared.index.block.BlockHead.{BlockHead}
 use Rattle.cs_base.specs.declared.index.block.Broken.{Broken}
 use Rattle.cs_base.specs.declared.content.doc.Post.{Post}
 use Rattle.cs_base.specs.declared.content.limits.TheConstants.{MAX_POSITION}
-use Rattle.cs_model.specs.Scores.{Scores}
+use Rattle.cs_base.specs.declared.content.scores.Weights.{Weights}
 use Rattle.cs_model_index.specs.Blocks.{AreWritable, block_bytes}
 use Rattle.cs_model.specs.First.{first_reason}
 
@@ -136,12 +136,12 @@ abbrev pub in_words : BlockHead → Rule
 in_words head = record { number = 15; holds = λ last r. nat_lt r.word (head.lo + head.words); at = λ i. gap_bytes head + 2 * i.index }
 
 -- a facet word stands at 0 with the score of a facet; any other from 1 to MAX_POSITION with the score of a title or of a text word
-abbrev pub is_scored : Scores → Bool → Post → Bool
-is_scored scores facet r = if facet then r.pos == 0 && r.score == scores.facet else (nat_le 1 r.pos && nat_le r.pos MAX_POSITION && (r.score == scores.title || r.score == scores.text))
+abbrev pub is_scored : Weights → Bool → Post → Bool
+is_scored w facet r = if facet then r.pos == 0 && r.score == w.facet else (nat_le 1 r.pos && nat_le r.pos MAX_POSITION && (r.score == w.title || r.score == w.text))
 
 -- positions and scores by kind, a facet's or any other; the place is the row's position
-abbrev pub in_kind : Scores → BlockHead → Rule
-in_kind scores head = record { number = 16; holds = λ last r. is_scored scores head.facet r; at = λ i. gap_bytes head + 2 * head.rows + 4 * i.index }
+abbrev pub in_kind : Weights → BlockHead → Rule
+in_kind w head = record { number = 16; holds = λ last r. is_scored w head.facet r; at = λ i. gap_bytes head + 2 * head.rows + 4 * i.index }
 
 -- greater than the row before; so is the first row, which has none
 abbrev pub is_after : Option Post → Post → Bool
@@ -153,8 +153,8 @@ abbrev pub in_order : Rule
 in_order = record { number = 17; holds = is_after; at = λ i. i.gap_at }
 
 -- rules 14 to 17 in the order in which they are tried; the codes, rule 13, go before them
-abbrev pub rules : Scores → BlockHead → ℕ → List Rule
-rules scores head docs = in_docs docs ∷ in_words head ∷ in_kind scores head ∷ in_order ∷ []
+abbrev pub rules : Weights → BlockHead → ℕ → List Rule
+rules w head docs = in_docs docs ∷ in_words head ∷ in_kind w head ∷ in_order ∷ []
 
 -- ---- the first broken rule
 
@@ -171,12 +171,12 @@ abbrev pub first_broken : List Rule → List Item → Option Broken
 first_broken rs items = first_reason (map (λ rule. option_map (broken_at rule.number) (first_break rule items)) rs)
 
 -- the codes go before the rules on rows
-abbrev pub judged_columns : Scores → BlockHead → ℕ → BlockColumns → Option Broken
-judged_columns scores head docs c = option_or (option_map (broken_at 13) (codes_break head.rows 0 c.gaps)) (first_broken (rules scores head docs) (block_items head c))
+abbrev pub judged_columns : Weights → BlockHead → ℕ → BlockColumns → Option Broken
+judged_columns w head docs c = option_or (option_map (broken_at 13) (codes_break head.rows 0 c.gaps)) (first_broken (rules w head docs) (block_items head c))
 
 -- the first broken rule of bytes and its place; None where all rules hold. It speaks of heads that go with so many bytes (`IsShaped`)
-unfoldable pub judged : Scores → BlockHead → ℕ → List ℕ → Option Broken
-judged scores head docs bytes = judged_columns scores head docs (block_columns head bytes)
+unfoldable pub judged : Weights → BlockHead → ℕ → List ℕ → Option Broken
+judged w head docs bytes = judged_columns w head docs (block_columns head bytes)
 
 -- ---- the other side: rows and their bytes
 
@@ -191,8 +191,8 @@ MeetAll [] rs = Unit {0}
 MeetAll (rule ∷ rest) rs = (keeps rule.holds None rs ≡ true) × MeetAll rest rs
 
 -- the bytes of as many rows as the head says, which a block can hold and which meet the rules; of no rows no bytes
-pub record IsBlock (scores : Scores) (head : BlockHead) (docs : ℕ) (rs : List Post) (bytes : List ℕ) : Type 0 where
+pub record IsBlock (w : Weights) (head : BlockHead) (docs : ℕ) (rs : List Post) (bytes : List ℕ) : Type 0 where
   pub count : length rs ≡ head.rows
   pub written : bytes ≡ block_bytes rs head.lo
   pub writable : AreWritable head.lo rs
-  pub meets : MeetAll (rules scores head docs) rs
+  pub meets : MeetAll (rules w head docs) rs

@@ -17,8 +17,9 @@ use Rattle.std.specs.Prelude.{◌≡◌, ℕ, ◌^◌, ◌<◌, ◌≤◌, true,
 use Rattle.std.specs.List.{sum_by}
 use Rattle.std.specs.Str.{IsUtf8}
 use Rattle.cs_base.specs.declared.content.limits.TheConstants.{MAX_DOCS, MAX_WORDS, MAX_ROWS, MAX_LINE_BYTES}
+use Rattle.cs_base.specs.declared.content.scores.Weights.{Weights}
 use Rattle.cs_model.specs.Corpus.{Corpus, IsCorpus}
-use Rattle.cs_model.specs.Scores.{SCORES}
+use Rattle.cs_model.specs.Weights.{AreWeights}
 use Rattle.cs_model_index.specs.BlockLaws.{AcceptedAreBlocks, OneReading}
 use Rattle.cs_model_index.specs.BlockRules.{is_scored}
 use Rattle.cs_model_index.specs.FileRules.{is_word, IsIndexFile}
@@ -39,7 +40,8 @@ pub record HasLimits (i : Image) : Type 0 where
   pub words : All (λ w. is_word w ≡ true) i.words
   pub few_rows : sum_by (λ block. length block) i.blocks ≤ MAX_ROWS
   pub known : All (λ p. p.doc < length i.titles) (image_posts i)
-  pub scored : All (λ p. is_scored SCORES (is_facet (word_at i.words p.word)) p ≡ true) (image_posts i)
+  pub scored : All (λ p. is_scored i.weights (is_facet (word_at i.words p.word)) p ≡ true) (image_posts i)
+  pub weights : AreWeights i.weights
   pub target_from : 1 ≤ i.target
   pub target_to : i.target ≤ MAX_TARGET
 
@@ -53,7 +55,7 @@ FilesFollowBlocks = AcceptedAreBlocks → OneReading → AcceptedAreFiles
 
 -- and no other image is read of it
 abbrev pub FilesAreAccepted : Type 0
-FilesAreAccepted = (k : Corpus) (target : ℕ) (i : Image) → IsCorpus k → IsImage k target i → HasLimits i → IsIndexFile (file i) × (image_of (file i) ≡ i)
+FilesAreAccepted = (k : Corpus) (target : ℕ) (w : Weights) (i : Image) → IsCorpus k → IsImage k target w i → HasLimits i → IsIndexFile (file i) × (image_of (file i) ≡ i)
 
 -- it follows from the law of blocks
 abbrev pub ImagesFollowBlocks : Type 0
@@ -61,7 +63,7 @@ ImagesFollowBlocks = OneReading → FilesAreAccepted
 
 -- so the rules accept the files of images alone
 abbrev pub AcceptedAreImages : Type 0
-AcceptedAreImages = (b : List ℕ) → All (λ x. x < 2 ^ 8) b → IsIndexFile b → IsImage (file_corpus b) (image_of b).target (image_of b)
+AcceptedAreImages = (b : List ℕ) → All (λ x. x < 2 ^ 8) b → IsIndexFile b → IsImage (file_corpus b) (image_of b).target (image_of b).weights (image_of b)
 
 -- it follows from the laws of blocks
 abbrev pub ReadingFollowsBlocks : Type 0

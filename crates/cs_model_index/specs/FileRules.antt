@@ -20,7 +20,7 @@
 --   is_sized h                   its rows and bytes are as many as they may be
 --   has_rows, is_closed, is_parted       each word of a block has a row, and the block has as many words as it may have
 --   header_rules .. parting_rules        the rules of each section, in their order
---   blocks_break docs at heads bytes    the first rule of 13 to 17 that a block breaks, the blocks in their order
+--   blocks_break w docs at heads bytes    the first rule of 13 to 17 that a block breaks, the blocks in their order
 --   file_rules b r               all rules, in the order in which they are tried
 --   damage b                     the first broken rule and its place; None where all rules hold
 --   IsIndexFile b                they all hold
@@ -33,16 +33,17 @@ use Rattle.std.specs.Str.{bytes_eq, is_utf8}
 use Rattle.cs_base.specs.declared.index.block.BlockHead.{BlockHead}
 use Rattle.cs_base.specs.declared.index.block.Broken.{Broken}
 use Rattle.cs_base.specs.declared.content.doc.Post.{Post}
+use Rattle.cs_base.specs.declared.content.scores.Weights.{Weights}
 use Rattle.cs_base.specs.declared.content.limits.TheConstants.{MAX_DOCS, MAX_WORDS, MAX_ROWS, MAX_WORD_BYTES, MAX_PLAIN_WORD_BYTES, MAX_LINE_BYTES}
 use Rattle.cs_model.specs.Collection.{has_name_form, is_colon}
 use Rattle.cs_model.specs.First.{unless, first_reason}
-use Rattle.cs_model.specs.Scores.{SCORES}
 use Rattle.cs_model.specs.Words.{is_filled, is_word_char}
 use Rattle.cs_model_index.specs.BlockRules.{broken_at, judged}
 use Rattle.cs_model_index.specs.Layout.{Header, MAGIC}
 use Rattle.cs_model_index.specs.Numbered.{word_at}
 use Rattle.cs_model_index.specs.Partitions.{is_facet, is_alike, is_one_kind, is_light, is_full}
 use Rattle.cs_model_index.specs.Sections.{Contents, contents_of, size_by, vocabulary_at, offsets_at, titles_at, directory_at, blocks_at}
+use Rattle.cs_model_index.specs.WeightsField.{is_field, weights_of}
 use Rattle.cs_model_index.specs.declared.limits.TheConstants.{HEADER_BYTES, NUMBER_BYTES, ENTRY_BYTES, MAX_BLOCK_WORDS, MAX_TARGET}
 
 -- ---- items of a section
@@ -75,7 +76,7 @@ abbrev pub tried : ℕ → Option ℕ → Option Broken
 tried n place = option_map (broken_at n) place
 
 -- ---- rules 1 to 4: the header
--- documents, words and rows within their limits, at most as many blocks as words, a target within its range, and the last number 0
+-- documents, words and rows within their limits, at most as many blocks as words, a target within its range, and weights that a number stands for
 abbrev pub field_breaks : Header → List (Option ℕ)
 field_breaks h =
     unless (nat_le h.docs MAX_DOCS) 8
@@ -83,7 +84,7 @@ field_breaks h =
     ∷ unless (nat_le h.rows MAX_ROWS) 16
     ∷ unless (nat_le h.blocks h.words) 20
     ∷ unless (nat_le 1 h.target && nat_le h.target MAX_TARGET) 24
-    ∷ unless (h.spare == 0) 40
+    ∷ unless (is_field h.weights) 40
     ∷ []
 
 -- the header is whole, it begins with MAGIC, its numbers are in range, and the file is as long as they say
@@ -196,9 +197,9 @@ abbrev pub in_file : ℕ → Broken → Broken
 in_file at broken = record { n = broken.n; at = at + broken.at }
 
 -- the first block of some that breaks a rule counts; of no blocks None
-unfoldable pub blocks_break : ℕ → ℕ → List BlockHead → List ℕ → Option Broken
-blocks_break docs at [] bytes = None
-blocks_break docs at (h ∷ hs) bytes = option_or (option_map (in_file at) (judged SCORES h docs (take h.len bytes))) (blocks_break docs (at + h.len) hs (drop h.len bytes))
+unfoldable pub blocks_break : Weights → ℕ → ℕ → List BlockHead → List ℕ → Option Broken
+blocks_break w docs at [] bytes = None
+blocks_break w docs at (h ∷ hs) bytes = option_or (option_map (in_file at) (judged w h docs (take h.len bytes))) (blocks_break w docs (at + h.len) hs (drop h.len bytes))
 
 -- ---- rule 18: the parts of the words
 -- a block: what the directory says of it, and its posts
@@ -231,7 +232,7 @@ file_rules b r =
     ++ (vocabulary_rules r
     ++ (title_rules r
     ++ (directory_rules r
-    ++ (blocks_break r.header.docs (blocks_at r.header) r.heads r.bytes.blocks
+    ++ (blocks_break (weights_of r.header.weights) r.header.docs (blocks_at r.header) r.heads r.bytes.blocks
     ∷ parting_rules r))))
 
 -- the first rule that bytes break, with its place; None where they break none

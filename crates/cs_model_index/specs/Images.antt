@@ -3,17 +3,18 @@
 -- Source: this engine's own.
 --
 --   Image                     titles by document from 0, words by number, and of each block what the directory says and its posts, in
---                             the order of the file; and the target
+--                             the order of the file; the target, and the weights of the rows
 --   count_in rows w           how many rows have a word; 0 for a word that isn't there
 --   block_of words rows run   the posts of the rows that have a word of a run, in the order of the rows
 --   head_of lo run block      what the directory says of a run whose first word has the number lo, and of its block
 --   heads_from lo runs        the same of runs with their blocks, one behind the other
---   image_by titles rows runs target    the image of titles and rows, by the runs of their words
---   IsImage k target i        i is the image of the corpus k, for a target; of the empty corpus it has no words and no blocks
+--   image_by titles rows runs target w    the image of titles and rows, by the runs of their words
+--   IsImage k target w i      i is the image of the corpus k, whose scores are those of the weights w, for a target; of the empty corpus it has no words and no blocks
 --   image_posts i             the posts of all blocks
 --   image_rows i              the rows that they stand for
 --   image_corpus i            the corpus that an image holds
---   ImagesAreOne              the law that no corpus has two images for one target
+--   ImagesAreOne              the law that no corpus has two images for one target and weights
+--   ImagesExist               the law that a corpus whose documents are numbered from 0 has one
 --   ImagesKeepCorpora         the law that the corpus of a corpus's image is that corpus
 use Rattle.std.specs.Prelude.{◌≡◌, ℕ, ◌+◌, List, [], ◌∷◌, map, filter, length, flat_map}
 use Rattle.std.specs.List.{list_any, zip}
@@ -23,18 +24,20 @@ use Rattle.cs_base.specs.content.Orders.{by_row}
 use Rattle.cs_base.specs.declared.index.block.BlockHead.{BlockHead}
 use Rattle.cs_base.specs.declared.content.doc.Post.{Post}
 use Rattle.cs_base.specs.declared.content.doc.Row.{Row}
+use Rattle.cs_base.specs.declared.content.scores.Weights.{Weights}
 use Rattle.cs_model.specs.Corpus.{Corpus, IsCorpus, by_number, distinct_words}
 use Rattle.cs_model_index.specs.Blocks.{block_bytes}
 use Rattle.cs_model_index.specs.Numbered.{word_at, numbered, rows_at}
 use Rattle.cs_model_index.specs.Partitions.{Count, is_facet, IsPartition}
 
--- what an index file holds; of the empty corpus a target alone
+-- what an index file holds; of the empty corpus a target and weights alone
 pub record Image : Type 0 where
   pub titles : List (List ℕ)
   pub words : List (List ℕ)
   pub heads : List BlockHead
   pub blocks : List (List Post)
   pub target : ℕ
+  pub weights : Weights
 
 -- how many rows have the word; 0 where none has
 abbrev pub count_in : List Row → Count
@@ -54,18 +57,18 @@ heads_from lo [] = []
 heads_from lo (p ∷ ps) = head_of lo p.0 p.1 ∷ heads_from (lo + length p.0) ps
 
 -- with the words of the runs, and a block for each run; of no runs it has no word and no block
-abbrev pub image_by : List (List ℕ) → List Row → List (List (List ℕ)) → ℕ → Image
-image_by titles rows runs target =
+abbrev pub image_by : List (List ℕ) → List Row → List (List (List ℕ)) → ℕ → Weights → Image
+image_by titles rows runs target w =
     let words = flat_map (λ run. run) runs in
     let blocks = map (block_of words rows) runs in
-    record { titles = titles; words = words; heads = heads_from 0 (zip runs blocks); blocks = blocks; target = target }
+    record { titles = titles; words = words; heads = heads_from 0 (zip runs blocks); blocks = blocks; target = target; weights = w }
 
 -- by the one partition of the corpus's words; its documents are numbered from 0 without gaps
-pub record IsImage (k : Corpus) (target : ℕ) (i : Image) : Type 0 where
+pub record IsImage (k : Corpus) (target : ℕ) (w : Weights) (i : Image) : Type 0 where
   pub titles : by_number i.titles ≡ k.titles
   pub runs : List (List (List ℕ))
   pub parted : IsPartition target (count_in k.rows) (distinct_words k.rows) runs
-  pub made : i ≡ image_by i.titles k.rows runs target
+  pub made : i ≡ image_by i.titles k.rows runs target w
 
 -- block by block; of an image with no block none
 abbrev pub image_posts : Image → List Post
@@ -79,10 +82,14 @@ image_rows i = rows_at i.words (image_posts i)
 abbrev pub image_corpus : Image → Corpus
 image_corpus i = record { titles = by_number i.titles; rows = members_in by_row (image_rows i) }
 
--- a corpus and a target have at most one image
+-- a corpus, a target and weights have at most one image
 abbrev pub ImagesAreOne : Type 0
-ImagesAreOne = (k : Corpus) (target : ℕ) (i j : Image) → IsImage k target i → IsImage k target j → i ≡ j
+ImagesAreOne = (k : Corpus) (target : ℕ) (w : Weights) (i j : Image) → IsImage k target w i → IsImage k target w j → i ≡ j
 
--- and it keeps the corpus: no row is lost, and none is added
+-- and a corpus whose titles are numbered from 0 without gaps has one, for each target and weights
+abbrev pub ImagesExist : Type 0
+ImagesExist = (k : Corpus) (target : ℕ) (w : Weights) (titles : List (List ℕ)) → by_number titles ≡ k.titles → (i : Image) × IsImage k target w i
+
+-- the image keeps the corpus: no row is lost, and none is added
 abbrev pub ImagesKeepCorpora : Type 0
-ImagesKeepCorpora = (k : Corpus) (target : ℕ) (i : Image) → IsCorpus k → IsImage k target i → image_corpus i ≡ k
+ImagesKeepCorpora = (k : Corpus) (target : ℕ) (w : Weights) (i : Image) → IsCorpus k → IsImage k target w i → image_corpus i ≡ k

@@ -3,7 +3,7 @@
 -- Source: this engine's own.
 --
 --   number_bytes n            a number of four bytes
---   Header                    the numbers of the header; `spare` is 0 in an index file
+--   Header                    the numbers of the header; `weights` is the one that stands for the weights of rows
 --   MAGIC                     the eight bytes that each index file begins with
 --   header_bytes h            the header
 --   vocabulary_bytes words    for each word a byte with its length and its bytes; of no words no bytes
@@ -24,13 +24,14 @@ use Rattle.cs_base.specs.declared.index.block.BlockHead.{BlockHead}
 use Rattle.cs_base.specs.declared.content.doc.Post.{Post}
 use Rattle.cs_model_index.specs.Blocks.{block_bytes}
 use Rattle.cs_model_index.specs.Images.{Image}
+use Rattle.cs_model_index.specs.WeightsField.{field_of}
 
 -- the highest byte first
 abbrev pub number_bytes : ℕ → List ℕ
 number_bytes n = to_be_bytes w32 n
 
 -- ---- the header
--- how many documents, words, rows and blocks; the target; how many bytes the vocabulary, the titles and the blocks have; and 0
+-- how many documents, words, rows and blocks; the target; how many bytes the vocabulary, the titles and the blocks have; and the number that stands for the weights of rows
 pub record Header : Type 0 where
   pub docs : ℕ
   pub words : ℕ
@@ -40,7 +41,7 @@ pub record Header : Type 0 where
   pub vocabulary_len : ℕ
   pub titles_len : ℕ
   pub blocks_len : ℕ
-  pub spare : ℕ
+  pub weights : ℕ
 
 -- `HYBIDX1` and LF
 abbrev pub MAGIC : List ℕ
@@ -48,7 +49,7 @@ MAGIC = 72 ∷ 89 ∷ 66 ∷ 73 ∷ 68 ∷ 88 ∷ 49 ∷ 10 ∷ []
 
 -- the numbers of a header, in the order of its fields
 abbrev pub header_numbers : Header → List ℕ
-header_numbers h = h.docs ∷ h.words ∷ h.rows ∷ h.blocks ∷ h.target ∷ h.vocabulary_len ∷ h.titles_len ∷ h.blocks_len ∷ h.spare ∷ []
+header_numbers h = h.docs ∷ h.words ∷ h.rows ∷ h.blocks ∷ h.target ∷ h.vocabulary_len ∷ h.titles_len ∷ h.blocks_len ∷ h.weights ∷ []
 
 -- HEADER_BYTES of them
 unfoldable pub header_bytes : Header → List ℕ
@@ -96,7 +97,7 @@ header_of_image i = record {
   vocabulary_len = length (vocabulary_bytes i.words);
   titles_len = length (title_bytes i.titles);
   blocks_len = length (blocks_bytes i.heads i.blocks);
-  spare = 0;
+  weights = field_of i.weights;
 }
 
 -- the sections one behind the other; of the image with no title and no word header and one offset

@@ -8,3 +8,4 @@ pub mod Layout
 pub mod Numbered
 pub mod Partitions
 pub mod Sections
+pub mod WeightsField

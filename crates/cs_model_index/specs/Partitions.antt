@@ -14,6 +14,7 @@
 --   is_ended target count p   the run p.0 is one that ends where the run p.1 begins
 --   IsPartition target count words runs    runs that joined are the words, each as long as it may be
 --   PartitionsAreOne          the law that no words have two partitions
+--   PartitionsExist           the law that words have one
 use Rattle.std.specs.Prelude.{◌≡◌, ℕ, ◌+◌, Bool, true, false, ◌&&◌, ◌||◌, not, nat_lt, nat_le, List, [], ◌∷◌, length, drop, flat_map, if◌then◌else◌}
 use Rattle.std.specs.List.{list_all, sum_by, zip, before_first}
 use Rattle.std.specs.Str.{bytes_eq}
@@ -77,3 +78,7 @@ pub record IsPartition (target : ℕ) (count : Count) (words : List (List ℕ)) 
 -- words have one partition, whatever their rows and the target
 abbrev pub PartitionsAreOne : Type 0
 PartitionsAreOne = (target : ℕ) (count : Count) (words : List (List ℕ)) (runs others : List (List (List ℕ))) → IsPartition target count words runs → IsPartition target count words others → runs ≡ others
+
+-- and they have one, for each target; no words have the partition of no runs
+abbrev pub PartitionsExist : Type 0
+PartitionsExist = (target : ℕ) (count : Count) (words : List (List ℕ)) → (runs : List (List (List ℕ))) × IsPartition target count words runs

@@ -29,6 +29,7 @@ use Rattle.cs_model_index.specs.Images.{Image, image_corpus}
 use Rattle.cs_model_index.specs.Layout.{Header}
 use Rattle.cs_model_index.specs.Numbered.{word_at}
 use Rattle.cs_model_index.specs.Partitions.{is_facet}
+use Rattle.cs_model_index.specs.WeightsField.{weights_of}
 use Rattle.cs_model_index.specs.declared.limits.TheConstants.{HEADER_BYTES, NUMBER_BYTES, ENTRY_BYTES}
 
 -- ---- the header
@@ -47,7 +48,7 @@ header_of b = record {
   vocabulary_len = number_at b 28;
   titles_len = number_at b 32;
   blocks_len = number_at b 36;
-  spare = number_at b 40;
+  weights = number_at b 40;
 }
 
 -- ---- the sections
@@ -174,7 +175,7 @@ contents_of b = contents_by (header_of b) (sections (header_of b) (drop HEADER_B
 unfoldable pub image_of : List ℕ → Image
 image_of b =
     let r = contents_of b in
-    record { titles = r.titles; words = r.words; heads = r.heads; blocks = r.blocks; target = r.header.target }
+    record { titles = r.titles; words = r.words; heads = r.heads; blocks = r.blocks; target = r.header.target; weights = weights_of r.header.weights }
 
 -- the corpus that is read; it counts only where the bytes are an index file
 abbrev pub file_corpus : List ℕ → Corpus

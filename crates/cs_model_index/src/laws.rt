@@ -1,8 +1,8 @@
 //! Laws about the definitions, and the numbers as they are promised. Each is the contract of a function that does nothing.
 ghost use Rattle.std.specs.Prelude.{◌≡◌, ◌^◌};
 ghost use Rattle.cs_model_index.specs.FileLaws.{FilesFollowBlocks, ImagesFollowBlocks, ReadCorporaFollowBlocks, ReadingFollowsBlocks};
-ghost use Rattle.cs_model_index.specs.Images.{ImagesAreOne, ImagesKeepCorpora};
-ghost use Rattle.cs_model_index.specs.Partitions.{PartitionsAreOne};
+ghost use Rattle.cs_model_index.specs.Images.{ImagesAreOne, ImagesExist, ImagesKeepCorpora};
+ghost use Rattle.cs_model_index.specs.Partitions.{PartitionsAreOne, PartitionsExist};
 
 use crate::limits::*;
 
@@ -16,11 +16,17 @@ pub fn index_limits()
     ensures entry { ENTRY_BYTES ≡ 16 }
 {}
 
-/// No words have two partitions, and no corpus has two images for one target. The image of a corpus holds that corpus.
+/// No words have two partitions, and no corpus has two images for one target and weights. The image of a corpus holds that corpus.
 pub fn one_image()
     ensures partitions { PartitionsAreOne }
     ensures images { ImagesAreOne }
     ensures corpora { ImagesKeepCorpora }
+{}
+
+/// Words have a partition, and a corpus whose documents are numbered from 0 without gaps has an image, for each target.
+pub fn an_image()
+    ensures partitions { PartitionsExist }
+    ensures images { ImagesExist }
 {}
 
 /// Where the laws of blocks hold, an index file is the file of the image that is read of it.

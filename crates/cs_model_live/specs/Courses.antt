@@ -9,15 +9,15 @@
 --   step_changes w k s l t e h    the changes that a step makes: one or none
 --   made w k s ls ts e c          the changes that a course makes, in order
 --   additions_in cs               the documents that changes add, in order
---   IsChanged k cs e              e is what the changes cs make of k
+--   IsChanged w k cs e            e is what the changes cs make of k
 --   CoursesAreChanges             the law that the state behind a course is what its changes make of the corpus
 --   CoursesGoOn                   the law that a course and one that goes on from its end are one
 use Rattle.std.specs.Prelude.{◌≡◌, ◌⊎◌, ℕ, List, [], ◌∷◌, ◌++◌, length, None}
 use Rattle.cs_base.specs.declared.content.doc.Doc.{Doc}
+use Rattle.cs_base.specs.declared.content.scores.Weights.{Weights}
 use Rattle.cs_model.specs.Corpus.{Corpus, by_number}
 use Rattle.cs_model.specs.Outputs.{IsChangedText, memory_text, read_text}
 use Rattle.cs_model.specs.Parameters.{request_refusal}
-use Rattle.cs_model.specs.Scores.{SCORES, Scores}
 use Rattle.cs_model_changes.specs.Changes.{Change, added, deleted, now}
 use Rattle.cs_model_live.specs.LiveLines.{LiveLine, adds, asks, changes_of, deletes, live_line, outcome, outcome_state, outcome_text}
 use Rattle.cs_model_live.specs.LiveStates.{LiveState, before_changes}
@@ -33,12 +33,12 @@ abbrev pub IsLineFault : List ℕ → List ℕ → Type 0
 IsLineFault l t = (t ≡ memory_text) ⊎ MayFail (live_line l) t
 
 -- the line's own text, and the state that it makes; or a fault's text, and the state as before
-pub data IsLineStep (w : Scores) (k : Corpus) (s : LiveState) (l t : List ℕ) (e : LiveState) : Type 0 where
+pub data IsLineStep (w : Weights) (k : Corpus) (s : LiveState) (l t : List ℕ) (e : LiveState) : Type 0 where
   own : t ≡ outcome_text k s (outcome w k s l) → e ≡ outcome_state w k s (outcome w k s l) → IsLineStep w k s l t e
   failed : IsLineFault l t → e ≡ s → IsLineStep w k s l t e
 
 -- a step for each line, each over the state that the one before it left; of no lines no text, and the state as it is
-abbrev pub Course : Scores → Corpus → LiveState → List (List ℕ) → List (List ℕ) → LiveState → Type 0
+abbrev pub Course : Weights → Corpus → LiveState → List (List ℕ) → List (List ℕ) → LiveState → Type 0
 Course w k s [] [] e = e ≡ s
 Course w k s [] (t ∷ ts) e = ⊥
 Course w k s (l ∷ ls) [] e = ⊥
@@ -46,12 +46,12 @@ Course w k s (l ∷ ls) (t ∷ ts) e = (m : LiveState) × IsLineStep w k s l t m
 
 -- ---- the changes of a course
 -- those of the line's own outcome; of a fault none
-abbrev pub step_changes : (w : Scores) (k : Corpus) (s : LiveState) (l t : List ℕ) (e : LiveState) → IsLineStep w k s l t e → List Change
+abbrev pub step_changes : (w : Weights) (k : Corpus) (s : LiveState) (l t : List ℕ) (e : LiveState) → IsLineStep w k s l t e → List Change
 step_changes w k s l t e (own h i) = changes_of (outcome w k s l)
 step_changes w k s l t e (failed h i) = []
 
 -- step by step, in order; of no lines none
-abbrev pub made : (w : Scores) (k : Corpus) (s : LiveState) (ls ts : List (List ℕ)) (e : LiveState) → Course w k s ls ts e → List Change
+abbrev pub made : (w : Weights) (k : Corpus) (s : LiveState) (ls ts : List (List ℕ)) (e : LiveState) → Course w k s ls ts e → List Change
 made w k s [] [] e c = []
 made w k s [] (t ∷ ts) e c = absurd c
 made w k s (l ∷ ls) [] e c = absurd c
@@ -64,15 +64,15 @@ additions_in (added doc ∷ cs) = doc ∷ additions_in cs
 additions_in (deleted d ∷ cs) = additions_in cs
 
 -- the state that changes make of a corpus: its corpus, how many they are, and which documents they add
-pub record IsChanged (k : Corpus) (cs : List Change) (e : LiveState) : Type 0 where
-  pub corpus : e.corpus ≡ now k cs
+pub record IsChanged (w : Weights) (k : Corpus) (cs : List Change) (e : LiveState) : Type 0 where
+  pub corpus : e.corpus ≡ now w k cs
   pub changes : e.changes ≡ length cs
   pub additions : e.additions ≡ additions_in cs
 
 -- from the beginning, over a corpus whose documents are numbered from 0 without gaps
 abbrev pub CoursesAreChanges : Type 0
-CoursesAreChanges = (k : Corpus) (titles : List (List ℕ)) (ls ts : List (List ℕ)) (e : LiveState) → by_number titles ≡ k.titles → (c : Course SCORES k (before_changes k) ls ts e) → IsChanged k (made SCORES k (before_changes k) ls ts e c) e
+CoursesAreChanges = (w : Weights) (k : Corpus) (titles : List (List ℕ)) (ls ts : List (List ℕ)) (e : LiveState) → by_number titles ≡ k.titles → (c : Course w k (before_changes k) ls ts e) → IsChanged w k (made w k (before_changes k) ls ts e c) e
 
 -- so a course may be made line by line; either may be of no lines
 abbrev pub CoursesGoOn : Type 0
-CoursesGoOn = (w : Scores) (k : Corpus) (s m e : LiveState) (ls ks ts us : List (List ℕ)) → Course w k s ls ts m → Course w k m ks us e → Course w k s (ls ++ ks) (ts ++ us) e
+CoursesGoOn = (w : Weights) (k : Corpus) (s m e : LiveState) (ls ks ts us : List (List ℕ)) → Course w k s ls ts m → Course w k m ks us e → Course w k s (ls ++ ks) (ts ++ us) e

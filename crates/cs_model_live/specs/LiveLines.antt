@@ -25,13 +25,13 @@ use Rattle.std.specs.FinMap as map
 use Rattle.serde_json.specs.Data.{Data, object, string, number, unsigned, no_members, member}
 use Rattle.serde_json.specs.Written.{compact_text}
 use Rattle.cs_base.specs.declared.content.doc.Doc.{Doc}
+use Rattle.cs_base.specs.declared.content.scores.Weights.{Weights}
 use Rattle.cs_model.specs.Answers.{begins}
 use Rattle.cs_model.specs.Collection.{CollectionRefusal, DocLine, document, in_line, line_refusal, refusal_words}
 use Rattle.cs_model.specs.Corpus.{Corpus}
 use Rattle.cs_model.specs.Faults.{error_text}
 use Rattle.cs_model.specs.Outputs.{text}
-use Rattle.cs_model.specs.Parameters.{has_digits, number_of}
-use Rattle.cs_model.specs.Scores.{Scores}
+use Rattle.cs_model.specs.Digits.{has_digits, number_of}
 use Rattle.cs_model_changes.specs.Changes.{Change, added, deleted}
 use Rattle.cs_model_live.specs.LiveStates.{Full, LiveState, changed, full_docs, full_refusal, full_rows, full_words, next_doc}
 use Rattle.cs_model_live.specs.declared.limits.TheConstants.{MAX_DOC_DIGITS}
@@ -115,7 +115,7 @@ by_refusals None (Some f) doc = said (full_text f)
 by_refusals None None doc = done (added doc)
 
 -- what becomes of a document's line; of nothing no document
-abbrev pub added_outcome : Scores → Corpus → LiveState → List ℕ → Outcome
+abbrev pub added_outcome : Weights → Corpus → LiveState → List ℕ → Outcome
 added_outcome w k s [] = said change_text
 added_outcome w k s (b ∷ l) = by_refusals (line_refusal (second_line (b ∷ l))) (full_refusal w k s (document (second_line (b ∷ l)))) (document (second_line (b ∷ l)))
 
@@ -125,13 +125,13 @@ deleted_outcome s l =
     if has_digits MAX_DOC_DIGITS l then (if map.contains_key s.corpus.titles (number_of l) then done (deleted (number_of l)) else said absent_text) else said change_text
 
 -- what becomes of a line that adds, deletes or asks; one that asks has the text that answers it over the corpus now
-abbrev pub line_outcome : Scores → Corpus → LiveState → LiveLine → Outcome
+abbrev pub line_outcome : Weights → Corpus → LiveState → LiveLine → Outcome
 line_outcome w k s (adds l) = added_outcome w k s l
 line_outcome w k s (deletes l) = deleted_outcome s l
 line_outcome w k s (asks l) = said (text s.corpus l)
 
 -- what becomes of a line, over the state before it
-abbrev pub outcome : Scores → Corpus → LiveState → List ℕ → Outcome
+abbrev pub outcome : Weights → Corpus → LiveState → List ℕ → Outcome
 outcome w k s l = line_outcome w k s (live_line l)
 
 -- what is answered, a change by its number, and an addition by the document's too
@@ -141,7 +141,7 @@ outcome_text k s (done (added doc)) = added_text (next_doc k s) (s.changes + 1)
 outcome_text k s (done (deleted d)) = deleted_text (s.changes + 1)
 
 -- the state behind a line, without a change as before
-abbrev pub outcome_state : Scores → Corpus → LiveState → Outcome → LiveState
+abbrev pub outcome_state : Weights → Corpus → LiveState → Outcome → LiveState
 outcome_state w k s (said t) = s
 outcome_state w k s (done c) = changed w k s c
 

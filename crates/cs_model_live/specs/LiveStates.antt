@@ -2,7 +2,7 @@
 --
 -- Source: this engine's own.
 --
--- The scores of rows are an argument, `w`, and so is the corpus at the beginning, `k`, whose documents are numbered from 0 without gaps.
+-- The weights of the collection are an argument, `w`, and so is the corpus at the beginning, `k`, whose documents are numbered from 0 without gaps.
 --
 --   LiveState               the corpus now, how many changes there were, and all documents added so far
 --   before_changes k        k before the first change
@@ -19,10 +19,10 @@ use Rattle.cs_base.specs.content.Orders.{by_row}
 use Rattle.cs_base.specs.declared.content.doc.Doc.{Doc}
 use Rattle.cs_base.specs.declared.content.doc.Row.{Row}
 use Rattle.cs_base.specs.declared.content.limits.TheConstants.{MAX_DOCS, MAX_ROWS, MAX_WORDS}
+use Rattle.cs_base.specs.declared.content.scores.Weights.{Weights}
 use Rattle.cs_model.specs.Answers.{in_doc}
 use Rattle.cs_model.specs.Corpus.{Corpus, distinct_words, doc_rows}
 use Rattle.cs_model.specs.First.{first_reason, unless}
-use Rattle.cs_model.specs.Scores.{Scores}
 use Rattle.cs_model_changes.specs.Changes.{Change, added, deleted}
 
 -- the corpus now, the number of changes so far, and the documents added so far, in order and with those that were deleted since
@@ -41,7 +41,7 @@ next_doc k s = map.len k.titles + length s.additions
 
 -- an addition gives the next number to a document, with its title and its rows; a deletion takes the title and the rows of a
 -- number away, which are none where no document has it
-abbrev pub changed : Scores → Corpus → LiveState → Change → LiveState
+abbrev pub changed : Weights → Corpus → LiveState → Change → LiveState
 changed w k s (added doc) = record {
   corpus = record { titles = map.insert s.corpus.titles (next_doc k s) doc.title; rows = members_in by_row (s.corpus.rows ++ doc_rows w (next_doc k s, doc)) };
   changes = s.changes + 1;
@@ -54,7 +54,7 @@ changed w k s (deleted d) = record {
 }
 
 -- the rows of k and of documents that are numbered behind its own, whether they are still there or not; of no documents those of k
-abbrev pub met_rows : Scores → Corpus → List Doc → List Row
+abbrev pub met_rows : Weights → Corpus → List Doc → List Row
 met_rows w k docs = members_in by_row (k.rows ++ flat_map (doc_rows w) (enumerate_from (map.len k.titles) docs))
 
 -- what there is no more room for
@@ -65,7 +65,7 @@ pub data Full : Type 0 where
 
 -- what there is no room for where this document is added: first documents, then rows, then distinct words, those of deleted documents counted; None where
 -- there is room for all
-abbrev pub full_refusal : Scores → Corpus → LiveState → Doc → Option Full
+abbrev pub full_refusal : Weights → Corpus → LiveState → Doc → Option Full
 full_refusal w k s doc = first_reason (
     unless (nat_lt (next_doc k s) MAX_DOCS) full_docs
     ∷ unless (nat_le (length (met_rows w k (s.additions ++ doc ∷ []))) MAX_ROWS) full_rows

@@ -1,3 +1,4 @@
 pub mod SourceExamples
 pub mod SourceLines
+pub mod SourceWeights
 pub mod TranslatedLemmas

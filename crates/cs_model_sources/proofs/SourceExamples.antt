@@ -12,6 +12,7 @@ use Rattle.serde_json.proofs.OnLiterals.{serde_json_on_literals}
 use Rattle.cs_base.specs.content.Bytes.{byte_order_mark}
 use Rattle.cs_model.specs.Collection.{bad_facet}
 use Rattle.cs_model.specs.KeyText.{norm}
+use Rattle.cs_model.specs.Weights.{weights_said}
 use Rattle.cs_model.specs.Words.{is_word_char, cut, words}
 use Rattle.cs_model_sources.specs.CsvSources.{csv_flat, document_line, flat_of_csv, is_header}
 use Rattle.cs_model_sources.specs.JsonSources.{flat_of_jsonl, json_value, line_read}
@@ -111,12 +112,12 @@ jsonl-bytes = refl
 -- ---- refusals
 -- a bad header is the source's refusal
 refusal-header : source_refusal flat_of_csv (codes "name,text\n") ≡ Some (of_line (record { line = 1; why = Header }))
-unfolding csv_on_literals strip_bom csv_flat document_line translated usual_weights_line is_utf8 words norm chars cut caseless is_word_char general_category ucd_category lib.Utf8.encode
+unfolding csv_on_literals strip_bom csv_flat document_line translated usual_weights_line is_utf8 weights_said words norm chars cut caseless is_word_char general_category ucd_category lib.Utf8.encode
 refusal-header = refl
 
 -- a refusal of documents goes before the bad line behind them, by its line of the collection
 refusal-before : source_refusal flat_of_jsonl (codes "{\"facets\":\"x\"}\n{") ≡ Some (of_lines (bad_facet 2))
-unfolding serde_json_on_literals json_value line_read translated usual_weights_line is_utf8 words norm chars cut caseless is_word_char general_category ucd_category lib.Utf8.encode
+unfolding serde_json_on_literals json_value line_read translated usual_weights_line is_utf8 weights_said words norm chars cut caseless is_word_char general_category ucd_category lib.Utf8.encode
 refusal-before = refl
 
 -- a bad header in words

@@ -12,7 +12,7 @@
 use Rattle.std.specs.Prelude.{ℕ, ◌-◌, ◌&&◌, nat_le, if◌then◌else◌, List, [], ◌∷◌, length, Option, Some, codes}
 use Rattle.std.specs.Option.{option_map}
 use Rattle.cs_base.specs.declared.content.limits.TheConstants.{MAX_COLLECTION_BYTES}
-use Rattle.cs_model.specs.Collection.{CollectionRefusal, bad_facet, bad_name, docs_refusal, in_line, line_too_long, not_utf8, refusal_words, too_large, too_many_docs, words_too_many}
+use Rattle.cs_model.specs.Collection.{CollectionRefusal, bad_facet, bad_name, bad_weights, docs_refusal, in_line, line_too_long, not_utf8, refusal_words, too_large, too_many_docs, words_too_many}
 use Rattle.cs_model.specs.Corpus.{refusal}
 use Rattle.cs_model.specs.First.{first_reason}
 use Rattle.cs_model_sources.specs.declared.flat.BadLine.{BadLine}
@@ -38,6 +38,7 @@ source_refusal form b = if nat_le (length b) MAX_COLLECTION_BYTES && nat_le (len
 abbrev pub earlier : CollectionRefusal → CollectionRefusal
 earlier (not_utf8 n) = not_utf8 (n - 1)
 earlier (line_too_long n) = line_too_long (n - 1)
+earlier (bad_weights n) = bad_weights (n - 1)
 earlier (words_too_many n) = words_too_many (n - 1)
 earlier (bad_facet n) = bad_facet (n - 1)
 earlier (bad_name n) = bad_name (n - 1)

@@ -1,5 +1,5 @@
 //! Laws about sources. Each is the contract of a function that does nothing.
-ghost use Rattle.cs_model_sources.specs.SourceLaws.{ColumnsAreKept, DocumentsAreLines, LinesAreCounted, RecordsAreCounted};
+ghost use Rattle.cs_model_sources.specs.SourceLaws.{ColumnsAreKept, DocumentsAreLines, LinesAreCounted, RecordsAreCounted, WeightsAreUsual};
 
 /// A translated document is one line of its collection, whose columns are the document's, made flat.
 pub fn translated_documents()
@@ -12,4 +12,9 @@ pub fn translated_documents()
 pub fn numbered_lines()
     ensures records { RecordsAreCounted }
     ensures lines { LinesAreCounted }
+{}
+
+/// Each translation has the weights of a collection that names none, and its weights line breaks no rule.
+pub fn translated_weights()
+    ensures { WeightsAreUsual }
 {}

@@ -8,6 +8,7 @@ use Rattle.std.proofs.Common.{◌≡◌, ℕ, ◌+◌, List, [], ◌∷◌, leng
 use Rattle.cs_base.specs.declared.index.plan.Plan.{Plan}
 use Rattle.cs_base.specs.declared.index.plan.Plan.TheVariants.{Same, Narrow, Extend, Fresh}
 use Rattle.cs_base.specs.declared.content.query.Query.{Query}
+use Rattle.cs_base.specs.declared.content.scores.TheConstants.{USUAL_WEIGHTS}
 use Rattle.cs_model.specs.Corpus.{Corpus}
 use Rattle.cs_model_index.specs.declared.limits.TheConstants.{TARGET}
 use Rattle.cs_model_index.proofs.ImageLemmas.{images_are_one}
@@ -31,4 +32,4 @@ plans_are_counted k qs = all_counted (trial_plans k qs) ∙ plans_length k _ [] 
 
 pub summaries_are_one : SummariesAreOne
 summaries_are_one n s t h i =
-    h.told ∙ ap (λ image. summary n (trial_corpus n) (length image.heads)) (images_are_one (trial_corpus n) TARGET h.image i.image h.indexed i.indexed) ∙ sym i.told
+    h.told ∙ ap (λ image. summary n (trial_corpus n) (length image.heads)) (images_are_one (trial_corpus n) TARGET USUAL_WEIGHTS h.image i.image h.indexed i.indexed) ∙ sym i.told

@@ -23,6 +23,7 @@ use Rattle.cs_base.specs.declared.index.plan.Plan.TheVariants.{Narrow, Extend, F
 use Rattle.cs_base.specs.declared.content.query.Query.{Query}
 use Rattle.cs_model.specs.Answers.{hits, parts_of}
 use Rattle.cs_model.specs.Corpus.{Corpus, corpus}
+use Rattle.cs_base.specs.declared.content.scores.TheConstants.{USUAL_WEIGHTS}
 use Rattle.cs_model_index.specs.declared.limits.TheConstants.{TARGET}
 use Rattle.cs_model_index.specs.Images.{Image, IsImage}
 use Rattle.cs_model_kept.specs.declared.limits.TheConstants.{MAX_ENTRIES}
@@ -88,7 +89,7 @@ summary n k blocks = flat_map summary_line (counts n k blocks)
 -- the text is the summary of trial n, whose index is the image of its corpus for the target that index files are built with
 pub record IsSummary (n : ℕ) (text : List ℕ) : Type 0 where
   pub image : Image
-  pub indexed : IsImage (trial_corpus n) TARGET image
+  pub indexed : IsImage (trial_corpus n) TARGET USUAL_WEIGHTS image
   pub told : text ≡ summary n (trial_corpus n) (length image.heads)
 
 -- a trial has one summary, since a corpus has one image

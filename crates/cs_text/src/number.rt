@@ -2,7 +2,7 @@
 ghost use Rattle.std.specs.Prelude.{◌≡◌, ◌≤◌, IsTrue, length};
 ghost use Rattle.std.specs.List.{list_all};
 ghost use Rattle.std.specs.Char.{is_ascii_digit};
-ghost use Rattle.cs_model.specs.Parameters.{has_digits, number_of};
+ghost use Rattle.cs_model.specs.Digits.{has_digits, number_of};
 
 /// Whether bytes are one ASCII digit or more, at most `digits` of them.
 pub fn has_digits(bytes: &[u8], digits: usize) -> bool

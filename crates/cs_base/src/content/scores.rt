@@ -1,16 +1,37 @@
-//! What a row counts for, and where rows stand in a document.
+//! What rows count for, and where they stand in a document.
 
-/// The score of a title word's row.
+/// The score of a title word's row, where a collection names no other.
 pub const TITLE_SCORE: u8 = 4;
 
-/// The score of a facet word's row.
+/// The score of a facet word's row, where a collection names no other.
 pub const FACET_SCORE: u8 = 2;
 
-/// The score of a text word's row.
+/// The score of a text word's row, where a collection names no other.
 pub const TEXT_SCORE: u8 = 1;
 
 /// The greatest score that a row may have: it is kept in one byte.
 pub const MAX_ROW_SCORE: u32 = 255;
+
+/// What a collection's rows count for, by the column of their word: each from 1 to `MAX_ROW_SCORE`. Two may be equal.
+#[derive(Clone, Copy, Debug, PartialEq, Eq)]
+pub struct Weights {
+    /// The score of a title word's row.
+    pub title: u8,
+    /// The score of a facet word's row.
+    pub facet: u8,
+    /// The score of a text word's row.
+    pub text: u8,
+}
+
+/// The most digits of a weight in a collection.
+pub const MAX_WEIGHT_DIGITS: usize = 3;
+
+/// The weights of a collection that names none.
+pub const USUAL_WEIGHTS: Weights = Weights {
+    title: TITLE_SCORE,
+    facet: FACET_SCORE,
+    text: TEXT_SCORE,
+};
 
 /// How many positions the first text word stands behind the last title word: one more than words may be apart to be near each other,
 /// so that no phrase and no nearness reaches from one to the other.

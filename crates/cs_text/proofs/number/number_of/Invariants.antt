@@ -1,5 +1,5 @@
 use Rattle.std.proofs.Common.{◌≡◌, ◌<◌, take}
-use Rattle.cs_model.specs.Parameters.{number_of}
+use Rattle.cs_model.specs.Digits.{number_of}
 use Rattle.cs_text.proofs.Digits.{tens}
 use Rattle.cs_text.proofs.number.number_of.Given as goal
 
