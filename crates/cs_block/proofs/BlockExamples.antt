@@ -4,7 +4,8 @@ use Rattle.std.proofs.Common.{◌≡◌, List, ℕ, [], ◌∷◌, set, true, fa
 use Rattle.cs_base.specs.index.GapCode.{code_in, code, looked_at, value_of, first_code}
 use Rattle.cs_base.specs.declared.index.block.BlockHead.{BlockHead}
 use Rattle.cs_base.specs.declared.content.doc.Post.{Post}
-use Rattle.cs_model.specs.Scores.{SCORES}
+use Rattle.cs_base.specs.declared.content.scores.TheConstants.{USUAL_WEIGHTS}
+use Rattle.cs_base.specs.declared.content.scores.Weights.{Weights}
 use Rattle.cs_model_index.specs.Blocks.{gap_column, word_column, position_column, score_column, block_bytes}
 use Rattle.cs_model_index.specs.BlockRules.{codes_break, items_in, first_break, judged, rows_read}
 
@@ -28,7 +29,7 @@ rows_read-facet : rows_read (facet_head 1 8) facet_bytes ≡ facet_rows
 unfolding rows_read items_in first_code looked_at value_of code code_in
 rows_read-facet = refl
 
-judged-facet : judged SCORES (facet_head 1 8) 1 facet_bytes ≡ None
+judged-facet : judged USUAL_WEIGHTS (facet_head 1 8) 1 facet_bytes ≡ None
 unfolding judged codes_break items_in first_break first_code looked_at value_of code code_in
 judged-facet = refl
 
@@ -55,7 +56,7 @@ rows_read-plain : rows_read plain_head plain_bytes ≡ plain_rows
 unfolding rows_read items_in first_code looked_at value_of code code_in
 rows_read-plain = refl
 
-judged-plain : judged SCORES plain_head 1 plain_bytes ≡ None
+judged-plain : judged USUAL_WEIGHTS plain_head 1 plain_bytes ≡ None
 unfolding judged codes_break items_in first_break first_code looked_at value_of code code_in
 judged-plain = refl
 
@@ -63,7 +64,7 @@ judged-plain = refl
 
 -- the first rule that the bytes of a block break, in a collection of so many documents, and where
 abbrev Breaks : BlockHead → ℕ → List ℕ → ℕ → ℕ → Type 0
-Breaks head docs bytes n at = judged SCORES head docs bytes ≡ Some (record { n = n; at = at })
+Breaks head docs bytes n at = judged USUAL_WEIGHTS head docs bytes ≡ Some (record { n = n; at = at })
 
 -- the first of two rows has both bytes of the gaps
 abbrev no_gap_left : List ℕ
@@ -90,3 +91,26 @@ judged-broken :
     × Breaks plain_head 1 (set (set plain_bytes 20 9) 23 3) 16 17
 unfolding judged codes_break items_in first_break first_code looked_at value_of code code_in
 judged-broken = (refl, refl, refl, refl, refl, refl, refl, refl, refl)
+
+-- ---- other weights
+
+abbrev other_weights : Weights
+other_weights = record { title = 9; facet = 3; text = 2 }
+
+-- the plain rows with the scores of these weights
+abbrev other_bytes : List ℕ
+other_bytes = set (set (set plain_bytes 21 9) 22 2) 23 2
+
+judged-other_weights :
+    -- a facet word's row has the facet's weight
+    (judged other_weights (facet_head 1 8) 1 (set facet_bytes 7 3) ≡ None)
+    -- not the usual one
+    × (judged other_weights (facet_head 1 8) 1 facet_bytes ≡ Some (record { n = 16; at = 3 }))
+    -- any other row has the title's or the text's
+    × (judged other_weights plain_head 1 other_bytes ≡ None)
+    -- not the facet's
+    × (judged other_weights plain_head 1 (set other_bytes 22 3) ≡ Some (record { n = 16; at = 13 }))
+    -- where the three weights are equal each row has that one
+    × (judged (record { title = 2; facet = 2; text = 2 }) (facet_head 1 8) 1 facet_bytes ≡ None)
+unfolding judged codes_break items_in first_break first_code looked_at value_of code code_in
+judged-other_weights = (refl, refl, refl, refl, refl)

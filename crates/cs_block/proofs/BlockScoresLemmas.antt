@@ -4,6 +4,7 @@
 use Rattle.std.proofs.Common.{◌≡◌, ℕ, zero, suc, ◌+◌, List, [], ◌∷◌, length, map, drop, Option, Some, None, refl, sym, ap, subst, ◌∙◌, arith}
 use Rattle.cs_base.specs.declared.index.block.BlockHead.{BlockHead}
 use Rattle.cs_base.specs.declared.content.doc.Post.{Post}
+use Rattle.cs_base.specs.declared.content.scores.Weights.{Weights}
 use Rattle.cs_model_index.specs.BlockRules.{BlockColumns, block_columns, block_items, doc_before, gap_len, gap_number, item_row, items_in, row_at, rows_read}
 use Rattle.cs_block.specs.BlockScores.{HasScores}
 use Rattle.cs_block.specs.RowRuns.{AreScores}
@@ -27,9 +28,9 @@ column_scores head bytes c is ls =
     scores_along head.lo head.rows None 0 0 c.gaps c.words c.positions c.scores ls
     ∙ ap (λ x. map (λ (p : Post). p.score) (map item_row (block_items head x))) is
 
-pub scores_all : (head : BlockHead) (bytes : List ℕ) (c : BlockColumns) (ss : List ℕ) → c ≡ block_columns head bytes → length c.scores ≡ head.rows
-    → ss ≡ c.scores → AreScores head.facet c.scores → HasScores head bytes ss
-scores_all head bytes c ss is ls same kind = record {
+pub scores_all : (w : Weights) (head : BlockHead) (bytes : List ℕ) (c : BlockColumns) (ss : List ℕ) → c ≡ block_columns head bytes → length c.scores ≡ head.rows
+    → ss ≡ c.scores → AreScores w head.facet c.scores → HasScores w head bytes ss
+scores_all w head bytes c ss is ls same kind = record {
   scores_are = same ∙ column_scores head bytes c is ls;
-  in_kind = subst (AreScores head.facet) (sym same) kind;
+  in_kind = subst (AreScores w head.facet) (sym same) kind;
 }

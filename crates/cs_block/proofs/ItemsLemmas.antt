@@ -15,11 +15,11 @@ use Rattle.cs_base.specs.index.GapCode.{code, first_code}
 use Rattle.cs_base.specs.declared.index.block.BlockHead.{BlockHead}
 use Rattle.cs_base.specs.declared.index.block.Broken.{Broken}
 use Rattle.cs_base.specs.declared.content.doc.Post.{Post}
+use Rattle.cs_base.specs.declared.content.scores.Weights.{Weights}
 use Rattle.cs_gaps.specs.declared.gap.Gap.{Gap}
 use Rattle.cs_gaps.specs.declared.gap.Gap.TheVariants.{Is}
 use Rattle.cs_gaps.specs.Reading.{StandsAt}
 use Rattle.cs_gaps.proofs.CodesLemmas.{first_found, found_first}
-use Rattle.cs_model.specs.Scores.{SCORES}
 use Rattle.cs_model_index.specs.BlockRules.{codes_break, Item, item_row, doc_before, row_at, items_in, gap_bytes, Rule, rules, in_docs, in_words, in_kind}
 use Rattle.cs_model_index.specs.BlockRules.{in_order, first_break, broken_at, first_broken, BlockColumns, block_items, block_columns, judged_columns, judged}
 use Rattle.cs_model_index.specs.BlockRules.{rows_read}
@@ -160,16 +160,16 @@ pub in_front : (rule : Rule) (rest : List Rule) (items : List Item)
     → first_broken (rule ∷ rest) items ≡ or_broken rule.number (first_break rule items) (first_broken rest items)
 in_front rule rest items = first-cons (option_map (broken_at rule.number) (first_break rule items)) _
 
-pub in_turn : (head : BlockHead) (docs : ℕ) (items : List Item)
-    → first_broken (rules SCORES head docs) items
+pub in_turn : (w : Weights) (head : BlockHead) (docs : ℕ) (items : List Item)
+    → first_broken (rules w head docs) items
     ≡ or_broken 14 (first_break (in_docs docs) items)
     (or_broken 15 (first_break (in_words head) items)
-    (or_broken 16 (first_break (in_kind SCORES head) items) (or_broken 17 (first_break in_order items) None)))
-in_turn head docs items =
-    in_front (in_docs docs) (in_words head ∷ in_kind SCORES head ∷ in_order ∷ []) items
-    ∙ ap (or_broken 14 (first_break (in_docs docs) items)) (in_front (in_words head) (in_kind SCORES head ∷ in_order ∷ []) items
-    ∙ ap (or_broken 15 (first_break (in_words head) items)) (in_front (in_kind SCORES head) (in_order ∷ []) items
-    ∙ ap (or_broken 16 (first_break (in_kind SCORES head) items)) (in_front in_order [] items)))
+    (or_broken 16 (first_break (in_kind w head) items) (or_broken 17 (first_break in_order items) None)))
+in_turn w head docs items =
+    in_front (in_docs docs) (in_words head ∷ in_kind w head ∷ in_order ∷ []) items
+    ∙ ap (or_broken 14 (first_break (in_docs docs) items)) (in_front (in_words head) (in_kind w head ∷ in_order ∷ []) items
+    ∙ ap (or_broken 15 (first_break (in_words head) items)) (in_front (in_kind w head) (in_order ∷ []) items
+    ∙ ap (or_broken 16 (first_break (in_kind w head) items)) (in_front in_order [] items)))
 
 -- ---- the columns as the code cuts them
 
@@ -179,18 +179,18 @@ pub columns_cut : (head : BlockHead) (bytes gaps rest words rest2 positions scor
     → let c : BlockColumns = record { gaps = gaps; words = words; positions = positions; scores = scores } in c ≡ block_columns head bytes
 columns_cut head bytes gaps rest words rest2 positions scores a b d e f g = rw (f, g, e, d, b, a) refl
 
-pub judged_at_row : (head : BlockHead) (docs : ℕ) (c : BlockColumns) (r : Option Broken) → codes_break head.rows 0 c.gaps ≡ None
-    → r ≡ first_broken (rules SCORES head docs) (block_items head c) → r ≡ judged_columns SCORES head docs c
-judged_at_row head docs c r codes is = is ∙ rw codes refl
+pub judged_at_row : (w : Weights) (head : BlockHead) (docs : ℕ) (c : BlockColumns) (r : Option Broken) → codes_break head.rows 0 c.gaps ≡ None
+    → r ≡ first_broken (rules w head docs) (block_items head c) → r ≡ judged_columns w head docs c
+judged_at_row w head docs c r codes is = is ∙ rw codes refl
 
-pub judged_at_code : (head : BlockHead) (docs : ℕ) (c : BlockColumns) (at : ℕ) → Some at ≡ codes_break head.rows 0 c.gaps
-    → Some (record { n = 13; at = at }) ≡ judged_columns SCORES head docs c
-judged_at_code head docs c at bad = rw (← bad) refl
+pub judged_at_code : (w : Weights) (head : BlockHead) (docs : ℕ) (c : BlockColumns) (at : ℕ) → Some at ≡ codes_break head.rows 0 c.gaps
+    → Some (record { n = 13; at = at }) ≡ judged_columns w head docs c
+judged_at_code w head docs c at bad = rw (← bad) refl
 
-pub judged_cut : (head : BlockHead) (docs : ℕ) (bytes : List ℕ) (c : BlockColumns) → c ≡ block_columns head bytes
-    → judged_columns SCORES head docs c ≡ judged SCORES head docs bytes
+pub judged_cut : (w : Weights) (head : BlockHead) (docs : ℕ) (bytes : List ℕ) (c : BlockColumns) → c ≡ block_columns head bytes
+    → judged_columns w head docs c ≡ judged w head docs bytes
 unfolding judged
-judged_cut head docs bytes c e = ap (judged_columns SCORES head docs) e
+judged_cut w head docs bytes c e = ap (judged_columns w head docs) e
 
 pub rows_cut : (head : BlockHead) (bytes : List ℕ) (c : BlockColumns) → c ≡ block_columns head bytes → map item_row (block_items head c) ≡ rows_read head bytes
 unfolding rows_read

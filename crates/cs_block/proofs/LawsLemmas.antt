@@ -2,6 +2,7 @@
 --
 --   holds_on, unbroken   a rule that no item breaks is kept by the rows, and the other way
 --   accepted, unique     the laws of whole blocks
+--   have_bytes             weights of a collection have a byte each
 --   accepted_are_blocks    the same, as it is said of the crate
 use Rattle.std.proofs.Common.{◌≡◌, ℕ, zero, suc, ◌+◌, ◌-◌, ◌*◌, ◌^◌, ◌<◌, true, List, [], ◌∷◌, ◌++◌, length, map, take, drop, Option, Some, None, refl, sym}
 use Rattle.std.proofs.Common.{ap, subst, ◌∙◌, arith, inl, inr}
@@ -13,8 +14,9 @@ use Rattle.std.proofs.lemmas.List.Elements.{All-get_or}
 use Rattle.cs_base.specs.declared.index.block.BlockHead.{BlockHead}
 use Rattle.cs_base.specs.declared.index.block.Broken.{Broken}
 use Rattle.cs_base.specs.declared.content.doc.Post.{Post}
+use Rattle.cs_base.specs.declared.content.scores.Weights.{Weights}
 use Rattle.cs_gaps.proofs.CodesLemmas.{IsBytes}
-use Rattle.cs_model.specs.Scores.{SCORES}
+use Rattle.cs_model.specs.Weights.{AreWeights}
 use Rattle.cs_model_index.specs.Blocks.{gap_column, word_column, position_column, score_column, block_bytes, IsShaped}
 use Rattle.cs_model_index.specs.BlockRules.{gap_number, gap_len, codes_break, item_row, doc_before, row_at, items_in, gap_bytes, Item, Rule, rules}
 use Rattle.cs_model_index.specs.BlockRules.{first_break, first_broken, BlockColumns, block_columns, columns_behind, block_items, judged_columns, judged}
@@ -22,7 +24,7 @@ use Rattle.cs_model_index.specs.BlockRules.{rows_read, keeps, MeetAll, IsBlock}
 use Rattle.cs_gaps.proofs.CodesLemmas.{IsBytes-drop}
 use Rattle.cs_block.proofs.ColumnsLemmas.{IsBytes-take, guard_none, AreSized, reads, again}
 use Rattle.cs_block.proofs.ItemsLemmas.{break_cons, or_broken, in_front}
-use Rattle.cs_block.proofs.RowsLemmas.{writable_from, spelling_from}
+use Rattle.cs_block.proofs.RowsLemmas.{HaveBytes, writable_from, spelling_from}
 
 -- ---- a rule over items is a rule over rows
 
@@ -108,14 +110,14 @@ joined head bytes =
 four : (a b c d p q r s : List ℕ) → a ≡ p → b ≡ q → c ≡ r → d ≡ s → a ++ (b ++ (c ++ d)) ≡ p ++ (q ++ (r ++ s))
 four a b c d p q r s e f g h = rw (e, f, g, h) refl
 
-pub accepted : (head : BlockHead) (docs : ℕ) (bytes : List ℕ) → IsBytes bytes → IsShaped head (length bytes) → judged SCORES head docs bytes ≡ None
-    → IsBlock SCORES head docs (rows_read head bytes) bytes
+pub accepted : (w : Weights) (head : BlockHead) (docs : ℕ) (bytes : List ℕ) → IsBytes bytes → IsShaped head (length bytes) → judged w head docs bytes ≡ None
+    → IsBlock w head docs (rows_read head bytes) bytes
 unfolding judged rows_read block_bytes
-accepted head docs bytes fits shaped e =
+accepted w head docs bytes fits shaped e =
     let c = block_columns head bytes in
-    let p = none_of 13 (codes_break head.rows 0 c.gaps) (first_broken (rules SCORES head docs) (block_items head c)) e in
+    let p = none_of 13 (codes_break head.rows 0 c.gaps) (first_broken (rules w head docs) (block_items head c)) e in
     let back = reads head.rows head.lo None 0 0 c.gaps c.words c.positions c.scores (sized head bytes fits shaped) p.0 in
-    let met = all_met (rules SCORES head docs) head c p.1 in
+    let met = all_met (rules w head docs) head c p.1 in
     record {
       count = back.count;
       written = joined head bytes ∙ four _ _ _ _ _ _ _ _ back.gaps_are back.words_are back.positions_are back.scores_are;
@@ -153,10 +155,10 @@ cut_behind head gaps words positions scores w p =
       drop_at positions scores (4 * head.rows) p,
     ) refl
 
-columns_of : (head : BlockHead) (docs : ℕ) (rs : List Post) (bytes : List ℕ) → IsShaped head (length bytes) → IsBlock SCORES head docs rs bytes
+columns_of : (w : Weights) (head : BlockHead) (docs : ℕ) (rs : List Post) (bytes : List ℕ) → IsShaped head (length bytes) → IsBlock w head docs rs bytes
     → block_columns head bytes ≡ spelled_columns head.lo rs
 unfolding block_bytes
-columns_of head docs rs bytes shaped b =
+columns_of w head docs rs bytes shaped b =
     let behind = word_column head.lo rs ++ (position_column rs ++ score_column rs) in
     let spelled : bytes ≡ gap_column 0 rs ++ behind = b.written in
     let count = b.count in
@@ -176,18 +178,18 @@ columns_of head docs rs bytes shaped b =
     ∙ rw (take_at (gap_column 0 rs) behind (gap_bytes head) gaps_len, drop_at (gap_column 0 rs) behind (gap_bytes head) gaps_len)
     (cut_behind head (gap_column 0 rs) (word_column head.lo rs) (position_column rs) (score_column rs) (omega arith) (omega arith))
 
-pub unique : (head : BlockHead) (docs : ℕ) (rs : List Post) (bytes : List ℕ) → docs < 2 ^ 32 → IsShaped head (length bytes)
-    → IsBlock SCORES head docs rs bytes → (judged SCORES head docs bytes ≡ None) × (rows_read head bytes ≡ rs)
+pub unique : (w : Weights) → HaveBytes w → (head : BlockHead) (docs : ℕ) (rs : List Post) (bytes : List ℕ) → docs < 2 ^ 32 → IsShaped head (length bytes)
+    → IsBlock w head docs rs bytes → (judged w head docs bytes ≡ None) × (rows_read head bytes ≡ rs)
 unfolding judged rows_read
-unique head docs rs bytes few shaped b =
+unique w fits head docs rs bytes few shaped b =
     let s = spelled_columns head.lo rs in
-    let a = again head.lo None 0 0 rs (spelling_from head docs rs few b.writable.words b.meets.0 b.meets.1.1.0 b.meets.1.1.1.0) in
-    let cols = columns_of head docs rs bytes shaped b in
+    let a = again head.lo None 0 0 rs (spelling_from w head docs rs fits few b.writable.words b.meets.0 b.meets.1.1.0 b.meets.1.1.1.0) in
+    let cols = columns_of w head docs rs bytes shaped b in
     let no_gap : codes_break head.rows 0 s.gaps ≡ None = ap (λ (n : ℕ). codes_break n 0 s.gaps) (sym b.count) ∙ a.0 in
     let same : map item_row (block_items head s) ≡ rs =
     ap (λ (n : ℕ). map item_row (items_in head.lo n None 0 0 s.gaps s.words s.positions s.scores)) (sym b.count) ∙ a.1 in
-    let met : MeetAll (rules SCORES head docs) (map item_row (block_items head s)) = subst (MeetAll (rules SCORES head docs)) (sym same) b.meets in (
-      ap (judged_columns SCORES head docs) cols ∙ none_from 13 _ _ no_gap (none_broken (rules SCORES head docs) head s met),
+    let met : MeetAll (rules w head docs) (map item_row (block_items head s)) = subst (MeetAll (rules w head docs)) (sym same) b.meets in (
+      ap (judged_columns w head docs) cols ∙ none_from 13 _ _ no_gap (none_broken (rules w head docs) head s met),
       ap (λ (c : BlockColumns). map item_row (block_items head c)) cols ∙ same,
     )
 
@@ -200,9 +202,16 @@ bytes_by bytes h i =
       | inr le ↦ rw (get_or_past bytes i 0 le) (omega arith)
     ]
 
-pub accepted_are_blocks : (head : BlockHead) (docs : ℕ) (bytes : List ℕ) → docs < 2 ^ 32 → All (λ b. b < 256) bytes → IsShaped head (length bytes)
-    → (judged SCORES head docs bytes ≡ None) ↔ ((rs : List Post) × IsBlock SCORES head docs rs bytes)
-accepted_are_blocks head docs bytes few small shaped = (
-  λ e. (rows_read head bytes, accepted head docs bytes (bytes_by bytes small) shaped e),
-  λ b. (unique head docs b.0 bytes few shaped b.1).0,
+pub have_bytes : (w : Weights) → AreWeights w → HaveBytes w
+have_bytes w are =
+    let title = are.title_to in
+    let facet = are.facet_to in
+    let text = are.text_to in
+    record { title = omega arith; facet = omega arith; text = omega arith }
+
+pub accepted_are_blocks : (w : Weights) → HaveBytes w → (head : BlockHead) (docs : ℕ) (bytes : List ℕ) → docs < 2 ^ 32 → All (λ b. b < 256) bytes → IsShaped head (length bytes)
+    → (judged w head docs bytes ≡ None) ↔ ((rs : List Post) × IsBlock w head docs rs bytes)
+accepted_are_blocks w fits head docs bytes few small shaped = (
+  λ e. (rows_read head bytes, accepted w head docs bytes (bytes_by bytes small) shaped e),
+  λ b. (unique w fits head docs b.0 bytes few shaped b.1).0,
 )

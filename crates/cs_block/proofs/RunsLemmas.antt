@@ -19,10 +19,10 @@ use Rattle.std.proofs.lemmas.Slice.{take-put_mid}
 use Rattle.cs_base.specs.index.GapCode.{code, code_in, first_code}
 use Rattle.cs_base.specs.declared.index.block.BlockHead.{BlockHead}
 use Rattle.cs_base.specs.declared.content.doc.Post.{Post}
+use Rattle.cs_base.specs.declared.content.scores.Weights.{Weights}
 use Rattle.cs_cols.specs.HeldPosts.{posts_of, AreEven}
 use Rattle.cs_cols.proofs.Columns.{posts-length, posts-at}
 use Rattle.cs_gaps.proofs.CodesLemmas.{first_found}
-use Rattle.cs_model.specs.Scores.{SCORES}
 use Rattle.cs_model_index.specs.BlockRules.{gap_len, gap_number, row_at, is_scored, is_after, BlockColumns}
 use Rattle.cs_block.specs.BlockReading.{GapHere}
 use Rattle.cs_block.specs.Pass.{HasPushed}
@@ -264,27 +264,27 @@ last_in last ds ws ps ss zero = last
 last_in last ds ws ps ss (suc j) = Some (row_in ds ws ps ss j)
 
 -- a row of the block at these columns
-pub record IsRow (head : BlockHead) (docs : ℕ) (c : BlockColumns) (i at before : ℕ) (ds ws ps ss : List ℕ) (j : ℕ) : Type 0 where
+pub record IsRow (w : Weights) (head : BlockHead) (docs : ℕ) (c : BlockColumns) (i at before : ℕ) (ds ws ps ss : List ℕ) (j : ℕ) : Type 0 where
   pub gap : HasGap c.gaps at before j (get_or ds j 0)
   pub below : get_or ds j 0 < docs
   pub word : get_or ws j 0 ≡ head.lo + from_be_bytes w16 (take 2 (drop (2 * (i + j)) c.words))
   pub pos : get_or ps j 0 ≡ from_be_bytes w32 (take 4 (drop (4 * (i + j)) c.positions))
   pub score : get_or ss j 0 ≡ get_or (drop (i + j) c.scores) 0 0
   pub in_words : get_or ws j 0 < head.lo + head.words
-  pub scored : is_scored SCORES head.facet (row_in ds ws ps ss j) ≡ true
+  pub scored : is_scored w head.facet (row_in ds ws ps ss j) ≡ true
 
-pub record IsRun (head : BlockHead) (docs : ℕ) (c : BlockColumns) (i at before : ℕ) (last : Option Post) (ds ws ps ss : List ℕ) : Type 0 where
+pub record IsRun (w : Weights) (head : BlockHead) (docs : ℕ) (c : BlockColumns) (i at before : ℕ) (last : Option Post) (ds ws ps ss : List ℕ) : Type 0 where
   pub even : AreEven ds ws ps ss
   pub within : i + length ds ≤ head.rows
-  pub rows : (j : ℕ) → j < length ds → IsRow head docs c i at before ds ws ps ss j
+  pub rows : (j : ℕ) → j < length ds → IsRow w head docs c i at before ds ws ps ss j
   pub front : is_after last (row_in ds ws ps ss 0) ≡ true
   pub ascending : AreAscending ds ws ps
 
-behind_last : (head : BlockHead) (docs : ℕ) (c : BlockColumns) (i at before : ℕ) (last : Option Post) (ds ws ps ss : List ℕ) (j : ℕ) → j < length ds
-    → IsRun head docs c i at before last ds ws ps ss → is_after (last_in last ds ws ps ss j) (row_in ds ws ps ss j) ≡ true
+behind_last : (w : Weights) (head : BlockHead) (docs : ℕ) (c : BlockColumns) (i at before : ℕ) (last : Option Post) (ds ws ps ss : List ℕ) (j : ℕ) → j < length ds
+    → IsRun w head docs c i at before last ds ws ps ss → is_after (last_in last ds ws ps ss j) (row_in ds ws ps ss j) ≡ true
 unfolding last_in
-behind_last head docs c i at before last ds ws ps ss zero lt h = h.front
-behind_last head docs c i at before last ds ws ps ss (suc j) lt h = h.ascending j lt
+behind_last w head docs c i at before last ds ws ps ss zero lt h = h.front
+behind_last w head docs c i at before last ds ws ps ss (suc j) lt h = h.ascending j lt
 
 posts_more : (ds ws ps ss : List ℕ) (j : ℕ) → AreEven ds ws ps ss → j < length ds
     → take (suc j) (posts_of ds ws ps ss) ≡ take j (posts_of ds ws ps ss) ++ row_in ds ws ps ss j ∷ []
@@ -295,31 +295,31 @@ posts_more ds ws ps ss j even lt =
     ap (λ (x : ℕ). take x rs) one ∙ take_more rs j row (omega (arith, posts-length ds ws ps ss even))
     ∙ ap (λ (x : Post). take j rs ++ x ∷ []) (sym (posts-at ds ws ps ss even j row lt))
 
-row_is : (head : BlockHead) (docs : ℕ) (c : BlockColumns) (i at before : ℕ) (ds ws ps ss : List ℕ) (j : ℕ) → IsRow head docs c i at before ds ws ps ss j
+row_is : (w : Weights) (head : BlockHead) (docs : ℕ) (c : BlockColumns) (i at before : ℕ) (ds ws ps ss : List ℕ) (j : ℕ) → IsRow w head docs c i at before ds ws ps ss j
     → row_in ds ws ps ss j ≡ row_at head.lo (get_or ds j 0) (drop (2 * (i + j)) c.words) (drop (4 * (i + j)) c.positions) (drop (i + j) c.scores)
-row_is head docs c i at before ds ws ps ss j h = rw (h.word, h.pos, h.score) refl
+row_is w head docs c i at before ds ws ps ss j h = rw (h.word, h.pos, h.score) refl
 
-record Until (head : BlockHead) (docs : ℕ) (c : BlockColumns) (i at before : ℕ) (last : Option Post) (ds ws ps ss : List ℕ) (first now : List Post)
+record Until (w : Weights) (head : BlockHead) (docs : ℕ) (c : BlockColumns) (i at before : ℕ) (last : Option Post) (ds ws ps ss : List ℕ) (first now : List Post)
     (room k : ℕ) : Type 0 where
-  pub pushed : HasPushed head docs c (i + k) (place_after c.gaps at k) (last_in last ds ws ps ss k) (doc_after c.gaps at before k) first
+  pub pushed : HasPushed w head docs c (i + k) (place_after c.gaps at k) (last_in last ds ws ps ss k) (doc_after c.gaps at before k) first
       (now ++ take k (posts_of ds ws ps ss)) (room - k)
 
-pushes_until : (head : BlockHead) (docs : ℕ) (c : BlockColumns) (i at before : ℕ) (last : Option Post) (ds ws ps ss : List ℕ) (first now : List Post)
+pushes_until : (w : Weights) (head : BlockHead) (docs : ℕ) (c : BlockColumns) (i at before : ℕ) (last : Option Post) (ds ws ps ss : List ℕ) (first now : List Post)
     (room k : ℕ)
-    → k ≤ length ds → length ds ≤ room → IsRun head docs c i at before last ds ws ps ss → HasPushed head docs c i at last before first now room
-    → Until head docs c i at before last ds ws ps ss first now room k
+    → k ≤ length ds → length ds ≤ room → IsRun w head docs c i at before last ds ws ps ss → HasPushed w head docs c i at last before first now room
+    → Until w head docs c i at before last ds ws ps ss first now room k
 unfolding place_after doc_after last_in
-pushes_until head docs c i at before last ds ws ps ss first now room zero le fits run h =
+pushes_until w head docs c i at before last ds ws ps ss first now room zero le fits run h =
     let zero_rows : i ≡ i + 0 = omega arith in
     let same_room : room ≡ room - 0 = omega arith in
     record {
-      pushed = subst (λ (x : ℕ). HasPushed head docs c x at last before first (now ++ take 0 (posts_of ds ws ps ss)) (room - 0)) zero_rows
-          (subst (λ (x : ℕ). HasPushed head docs c i at last before first (now ++ take 0 (posts_of ds ws ps ss)) x) same_room
-          (subst (λ (x : List Post). HasPushed head docs c i at last before first x room) (sym (append-nil now)) h));
+      pushed = subst (λ (x : ℕ). HasPushed w head docs c x at last before first (now ++ take 0 (posts_of ds ws ps ss)) (room - 0)) zero_rows
+          (subst (λ (x : ℕ). HasPushed w head docs c i at last before first (now ++ take 0 (posts_of ds ws ps ss)) x) same_room
+          (subst (λ (x : List Post). HasPushed w head docs c i at last before first x room) (sym (append-nil now)) h));
     }
-pushes_until head docs c i at before last ds ws ps ss first now room (suc j) le fits run h =
+pushes_until w head docs c i at before last ds ws ps ss first now room (suc j) le fits run h =
     let lt : j < length ds = omega arith in
-    let ih = pushes_until head docs c i at before last ds ws ps ss first now room j (omega arith) fits run h in
+    let ih = pushes_until w head docs c i at before last ds ws ps ss first now room j (omega arith) fits run h in
     let rs = posts_of ds ws ps ss in
     let row = row_in ds ws ps ss j in
     let is = run.rows j lt in
@@ -328,31 +328,31 @@ pushes_until head docs c i at before last ds ws ps ss first now room (suc j) le 
     let sum = is.gap.2 in
     let within = run.within in
     let in_words : ltb row.word (head.lo + head.words) ≡ true = lt-ltb row.word (head.lo + head.words) is.in_words in
-    let met : Tests head (last_in last ds ws ps ss j) row ≡ true =
-    and_from _ _ in_words (and_from _ _ is.scored (behind_last head docs c i at before last ds ws ps ss j lt run)) in
+    let met : Tests w head (last_in last ds ws ps ss j) row ≡ true =
+    and_from _ _ in_words (and_from _ _ is.scored (behind_last w head docs c i at before last ds ws ps ss j lt run)) in
     let added : now ++ take (suc j) rs ≡ (now ++ take j rs) ++ row ∷ [] = ap (λ (x : List Post). now ++ x) (posts_more ds ws ps ss j run.even lt)
     ∙ sym (append_assoc now (take j rs) (row ∷ [])) in
-    let on = pushes_on head docs c (i + j) (place_after c.gaps at j) n (place_after c.gaps at (suc j)) (last_in last ds ws ps ss j)
+    let on = pushes_on w head docs c (i + j) (place_after c.gaps at j) n (place_after c.gaps at (suc j)) (last_in last ds ws ps ss j)
     (doc_after c.gaps at before j) (get_or ds j 0) row first (now ++ take j rs) (now ++ take (suc j) rs) (room - j) (room - suc j)
-    (omega arith) gap sum is.below (row_is head docs c i at before ds ws ps ss j is) met added (omega arith) ih.pushed in
+    (omega arith) gap sum is.below (row_is w head docs c i at before ds ws ps ss j is) met added (omega arith) ih.pushed in
     let one_row : i + j + 1 ≡ i + suc j = omega arith in
     let doc : row.doc ≡ doc_after c.gaps at before (suc j) = sum ∙ sym (doc_on c.gaps at before j n (place_after c.gaps at (suc j)) gap) in
     record {
-      pushed = subst (λ (x : ℕ). HasPushed head docs c x (place_after c.gaps at (suc j)) (Some row) (doc_after c.gaps at before (suc j)) first
+      pushed = subst (λ (x : ℕ). HasPushed w head docs c x (place_after c.gaps at (suc j)) (Some row) (doc_after c.gaps at before (suc j)) first
           (now ++ take (suc j) rs) (room - suc j)) one_row
-          (subst (λ (x : ℕ). HasPushed head docs c (i + j + 1) (place_after c.gaps at (suc j)) (Some row) x first (now ++ take (suc j) rs) (room - suc j))
+          (subst (λ (x : ℕ). HasPushed w head docs c (i + j + 1) (place_after c.gaps at (suc j)) (Some row) x first (now ++ take (suc j) rs) (room - suc j))
           doc on);
     }
 
 -- the whole run: its last row is the one behind which the next run stands
-pub pushes_run : (head : BlockHead) (docs : ℕ) (c : BlockColumns) (i at before : ℕ) (last : Option Post) (ds ws ps ss : List ℕ) (first now then : List Post)
+pub pushes_run : (w : Weights) (head : BlockHead) (docs : ℕ) (c : BlockColumns) (i at before : ℕ) (last : Option Post) (ds ws ps ss : List ℕ) (first now then : List Post)
     (room left k next rows : ℕ)
     → length ds ≡ suc k → rows ≡ i + length ds → next ≡ place_after c.gaps at (length ds) → then ≡ now ++ posts_of ds ws ps ss → room ≤ left + length ds
-    → length ds ≤ room → IsRun head docs c i at before last ds ws ps ss → HasPushed head docs c i at last before first now room
-    → HasPushed head docs c rows next (Some (row_in ds ws ps ss k)) (get_or ds k 0) first then left
+    → length ds ≤ room → IsRun w head docs c i at before last ds ws ps ss → HasPushed w head docs c i at last before first now room
+    → HasPushed w head docs c rows next (Some (row_in ds ws ps ss k)) (get_or ds k 0) first then left
 unfolding last_in
-pushes_run head docs c i at before last ds ws ps ss first now then room left k next rows len rows_is next_is added less fits run h =
-    let u = pushes_until head docs c i at before last ds ws ps ss first now room (suc k) (omega arith) fits run h in
+pushes_run w head docs c i at before last ds ws ps ss first now then room left k next rows len rows_is next_is added less fits run h =
+    let u = pushes_until w head docs c i at before last ds ws ps ss first now room (suc k) (omega arith) fits run h in
     let is = run.rows k (omega arith) in
     let all : take (suc k) (posts_of ds ws ps ss) ≡ posts_of ds ws ps ss =
     take_all (suc k) (posts_of ds ws ps ss) (omega (arith, posts-length ds ws ps ss run.even)) in
@@ -360,48 +360,49 @@ pushes_run head docs c i at before last ds ws ps ss first now then room left k n
     let rows' : i + suc k ≡ rows = omega arith in
     let next' : place_after c.gaps at (suc k) ≡ next = ap (place_after c.gaps at) (sym len) ∙ sym next_is in
     let then' : now ++ take (suc k) (posts_of ds ws ps ss) ≡ then = ap (λ (x : List Post). now ++ x) all ∙ sym added in
-    let a = subst (λ (x : ℕ). HasPushed head docs c x (place_after c.gaps at (suc k)) (Some (row_in ds ws ps ss k)) (doc_after c.gaps at before (suc k))
+    let a = subst (λ (x : ℕ). HasPushed w head docs c x (place_after c.gaps at (suc k)) (Some (row_in ds ws ps ss k)) (doc_after c.gaps at before (suc k))
     first (now ++ take (suc k) (posts_of ds ws ps ss)) (room - suc k)) rows' u.pushed in
-    let b = subst (λ (x : ℕ). HasPushed head docs c rows x (Some (row_in ds ws ps ss k)) (doc_after c.gaps at before (suc k)) first
+    let b = subst (λ (x : ℕ). HasPushed w head docs c rows x (Some (row_in ds ws ps ss k)) (doc_after c.gaps at before (suc k)) first
     (now ++ take (suc k) (posts_of ds ws ps ss)) (room - suc k)) next' a in
-    let d = subst (λ (x : ℕ). HasPushed head docs c rows next (Some (row_in ds ws ps ss k)) x first (now ++ take (suc k) (posts_of ds ws ps ss))
+    let d = subst (λ (x : ℕ). HasPushed w head docs c rows next (Some (row_in ds ws ps ss k)) x first (now ++ take (suc k) (posts_of ds ws ps ss))
     (room - suc k)) doc b in
-    let e = subst (λ (x : List Post). HasPushed head docs c rows next (Some (row_in ds ws ps ss k)) (get_or ds k 0) first x (room - suc k)) then' d in
+    let e = subst (λ (x : List Post). HasPushed w head docs c rows next (Some (row_in ds ws ps ss k)) (get_or ds k 0) first x (room - suc k)) then' d in
     let left_over = e.room_left in
     record { judged = e.judged; told = e.told; kept = e.kept; room_left = omega arith }
 
 -- the facts of the columns are those of the rows
-scored_by : (facet : Bool) (ds ws ps ss : List ℕ) (j : ℕ) → is_position facet (get_or ps j 0) ≡ true → is_score facet (get_or ss j 0) ≡ true
-    → is_scored SCORES facet (row_in ds ws ps ss j) ≡ true
-scored_by true ds ws ps ss j p s = and_from (is_position true (get_or ps j 0)) (is_score true (get_or ss j 0)) p s
-scored_by false ds ws ps ss j p s = and_from (is_position false (get_or ps j 0)) (is_score false (get_or ss j 0)) p s
+scored_by : (w : Weights) (facet : Bool) (ds ws ps ss : List ℕ) (j : ℕ) → is_position facet (get_or ps j 0) ≡ true
+    → is_score w facet (get_or ss j 0) ≡ true
+    → is_scored w facet (row_in ds ws ps ss j) ≡ true
+scored_by w true ds ws ps ss j p s = and_from (is_position true (get_or ps j 0)) (is_score w true (get_or ss j 0)) p s
+scored_by w false ds ws ps ss j p s = and_from (is_position false (get_or ps j 0)) (is_score w false (get_or ss j 0)) p s
 
 score_at : (scores : List ℕ) (i n j : ℕ) → j < n → get_or (take n (drop i scores)) j 0 ≡ get_or (drop (i + j) scores) 0 0
 score_at scores i n j lt =
     let e : i + j ≡ i + j + 0 = omega arith in
     get_or-take n (drop i scores) j 0 lt ∙ get_or-drop i scores j 0 ∙ ap (λ (x : ℕ). get_or scores x 0) e ∙ sym (get_or-drop (i + j) scores 0 0)
 
-pub is_run : (head : BlockHead) (docs : ℕ) (c : BlockColumns) (i at before : ℕ) (last : Option Post) (ds ws ps ss : List ℕ) (n : ℕ)
+pub is_run : (w : Weights) (head : BlockHead) (docs : ℕ) (c : BlockColumns) (i at before : ℕ) (last : Option Post) (ds ws ps ss : List ℕ) (n : ℕ)
     → length ds ≡ n → length ws ≡ n → length ps ≡ n → length ss ≡ n → i + n ≤ head.rows → ss ≡ take n (drop i c.scores)
-    → HaveDocs c.gaps at before docs ds → AreWords head.lo head.words c.words i ws → ArePositions head.facet c.positions i ps → AreScores head.facet ss
+    → HaveDocs c.gaps at before docs ds → AreWords head.lo head.words c.words i ws → ArePositions head.facet c.positions i ps → AreScores w head.facet ss
     → AreAscending ds ws ps
-    → is_after last (row_in ds ws ps ss 0) ≡ true → IsRun head docs c i at before last ds ws ps ss
-is_run head docs c i at before last ds ws ps ss n ld lw lp ls within cut_out are_docs are_words are_positions are_scores ascending front = record {
+    → is_after last (row_in ds ws ps ss 0) ≡ true → IsRun w head docs c i at before last ds ws ps ss
+is_run w head docs c i at before last ds ws ps ss n ld lw lp ls within cut_out are_docs are_words are_positions are_scores ascending front = record {
   even = (omega arith, omega arith, omega arith);
   within = omega arith;
   rows = λ j lt.
       (let d = are_docs j lt in
-      let w = are_words j (omega arith) in
+      let known = are_words j (omega arith) in
       let p = are_positions j (omega arith) in
       let s = are_scores j (omega arith) in
       record {
         gap = d.0;
         below = d.1;
-        word = w.0;
+        word = known.0;
         pos = p.0;
         score = ap (λ (x : List ℕ). get_or x j 0) cut_out ∙ score_at c.scores i n j (omega arith);
-        in_words = w.1;
-        scored = scored_by head.facet ds ws ps ss j p.1 s;
+        in_words = known.1;
+        scored = scored_by w head.facet ds ws ps ss j p.1 s;
       });
   front = front;
   ascending = ascending;

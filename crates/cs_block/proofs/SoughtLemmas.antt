@@ -15,6 +15,7 @@ use Rattle.std.proofs.lemmas.List.{append-nil, drop_all, get_or_default, map-app
 use Rattle.std.proofs.lemmas.List.Elements.{All-head, All-map, All-tail, All-weaker, filter-append}
 use Rattle.cs_base.specs.declared.index.block.BlockHead.{BlockHead}
 use Rattle.cs_base.specs.declared.content.doc.Post.{Post}
+use Rattle.cs_base.specs.declared.content.scores.Weights.{Weights}
 use Rattle.cs_model_index.specs.BlockRules.{BlockColumns}
 use Rattle.cs_cols.specs.SpanPlaces.{places_where}
 use Rattle.cs_cols.proofs.FoundPlaces.{range_joined}
@@ -89,18 +90,18 @@ same_filter lo hi listed (p ∷ rows) from below =
       | false ↦ λ all. rest all ∙ ap (λ b. cond b (p ∷ filter t rows) (filter t rows)) (sym (and_false between))
     ] below
 
-pub sought_all : (head : BlockHead) (c : BlockColumns) (ds : List ℕ) (whole : Bool) (lo hi : ℕ) (listed : List Bool) (posts : List Post)
+pub sought_all : (w : Weights) (head : BlockHead) (c : BlockColumns) (ds : List ℕ) (whole : Bool) (lo hi : ℕ) (listed : List Bool) (posts : List Post)
     → (whole ≡ true → (lo ≤ head.lo) × (head.lo + head.words ≤ hi)) → posts ≡ filter (passes whole lo hi listed) (rows_with head c ds)
-    → All (IsOfBlock head) posts
+    → All (IsOfBlock w head) posts
     → posts ≡ filter (is_sought lo hi listed) (rows_with head c ds)
-sought_all head c ds false lo hi listed posts inside is own = is
-sought_all head c ds true lo hi listed posts inside is own =
+sought_all w head c ds false lo hi listed posts inside is own = is
+sought_all w head c ds true lo hi listed posts inside is own =
     let within = inside refl in
     let from = within.0 in
     let upto = within.1 in
     let rows = rows_with head c ds in
     is ∙ same_filter lo hi listed rows (All-weaker (λ p. head.lo ≤ p.word) (λ p. lo ≤ p.word) (λ p h. omega (arith, h, from)) rows (words_from head c ds))
-    (subst (All (λ p. p.word < hi)) is (All-weaker (IsOfBlock head) (λ p. p.word < hi) (λ p h. let below = h.word in omega (arith, below, upto)) posts own))
+    (subst (All (λ p. p.word < hi)) is (All-weaker (IsOfBlock w head) (λ p. p.word < hi) (λ p h. let below = h.word in omega (arith, below, upto)) posts own))
 
 -- ---- the documents of all rows
 pub refilled : (n : ℕ) (out items : List ℕ) → length items ≡ n → length out ≡ n → take n (out ++ drop (length out) items) ≡ out

@@ -12,7 +12,7 @@ use Rattle.std.specs.List.{All}
 use Rattle.cs_base.specs.declared.index.block.BlockHead.{BlockHead}
 use Rattle.cs_base.specs.declared.index.block.Broken.{Broken}
 use Rattle.cs_base.specs.declared.content.doc.Post.{Post}
-use Rattle.cs_model.specs.Scores.{SCORES}
+use Rattle.cs_base.specs.declared.content.scores.Weights.{Weights}
 use Rattle.cs_model_index.specs.BlockRules.{gap_bytes, judged_columns, rows_read}
 use Rattle.cs_model_index.specs.Blocks.{IsShaped}
 use Rattle.cs_block.specs.RowRuns.{AreWords, HasDocs}
@@ -32,11 +32,11 @@ pub record IsFront (head : BlockHead) (gaps words : List ℕ) : Type 0 where
   pub words_len : length words ≡ 2 * head.rows
   pub small : head.len < 2 ^ 32
 
--- whatever its positions and scores are
+-- whatever its positions and scores are, and whatever the rows of its collection count for
 abbrev pub BreaksFirst : BlockHead → ℕ → List ℕ → List ℕ → Broken → Type 0
 BreaksFirst head docs gaps words broken =
-    (positions scores : List ℕ)
-    → judged_columns SCORES head docs (record { gaps = gaps; words = words; positions = positions; scores = scores }) ≡ Some broken
+    (w : Weights) (positions scores : List ℕ)
+    → judged_columns w head docs (record { gaps = gaps; words = words; positions = positions; scores = scores }) ≡ Some broken
 
 -- each is in range; bytes may be left over behind the gaps
 abbrev pub ListsFront : BlockHead → ℕ → List ℕ → List ℕ → List ℕ → List ℕ → Type 0

@@ -8,8 +8,8 @@
 --   AreWords lo words bytes first ws    the words of the rows from `first` on, two bytes a row, each of the block
 --   is_position facet p            a position that a row of a facet word, or of any other word, may have
 --   ArePositions facet bytes first ps   the positions of the rows from `first` on, four bytes a row, each of the block's kind
---   is_score facet s               a score that it may have
---   AreScores facet ss             scores of the block's kind
+--   is_score w facet s             a score that it may have in a collection of these weights
+--   AreScores w facet ss           scores of the block's kind
 --   row_in ds ws ps ss j           row j of four columns
 --   unscored ds ws ps j            its place among rows: it without its score, which has no say in the order
 --   AreOnward ds                   no document below the one before it
@@ -20,8 +20,8 @@ use Rattle.std.specs.Int.{w16, w32, from_be_bytes}
 use Rattle.std.specs.Ordering.{is_lt}
 use Rattle.cs_base.specs.content.Orders.{by_place}
 use Rattle.cs_base.specs.declared.content.doc.Post.{Post}
+use Rattle.cs_base.specs.declared.content.scores.Weights.{Weights}
 use Rattle.cs_base.specs.declared.content.limits.TheConstants.{MAX_POSITION}
-use Rattle.cs_base.specs.declared.content.scores.TheConstants.{TITLE_SCORE, FACET_SCORE, TEXT_SCORE}
 use Rattle.cs_model_index.specs.BlockRules.{gap_len, gap_number}
 use Rattle.cs_block.specs.BlockReading.{GapHere}
 
@@ -68,12 +68,12 @@ ArePositions facet bytes first ps = (j : ℕ) → j < length ps
     → (slice_index_or ps j 0 ≡ from_be_bytes w32 (take 4 (drop (4 * (first + j)) bytes))) × (is_position facet (slice_index_or ps j 0) ≡ true)
 
 -- a facet word has one, any other word one of two
-abbrev pub is_score : Bool → ℕ → Bool
-is_score facet s = if facet then s == FACET_SCORE else (s == TITLE_SCORE || s == TEXT_SCORE)
+abbrev pub is_score : Weights → Bool → ℕ → Bool
+is_score w facet s = if facet then s == w.facet else (s == w.title || s == w.text)
 
 -- also of no scores
-abbrev pub AreScores : Bool → List ℕ → Type 0
-AreScores facet ss = (j : ℕ) → j < length ss → is_score facet (slice_index_or ss j 0) ≡ true
+abbrev pub AreScores : Weights → Bool → List ℕ → Type 0
+AreScores w facet ss = (j : ℕ) → j < length ss → is_score w facet (slice_index_or ss j 0) ≡ true
 
 -- ---- rows
 

@@ -1,6 +1,6 @@
 //! Reading the documents and the words of a block's rows, without positions and scores.
 ghost use Rattle.std.specs.Prelude.{◌≡◌, ◌≤◌, true, List, ℕ, length, Some, Err, IfErr, IfNone, IfSome, OnOk};
-ghost use Rattle.cs_model.specs.Scores.{SCORES};
+ghost use Rattle.cs_base.specs.declared.content.scores.Weights.{Weights};
 ghost use Rattle.cs_model_index.specs.{BlockRules.{judged}, Blocks.{IsShaped}};
 ghost use Rattle.cs_block.specs.{BlockReading.{Decodes}, DocWords.{HasDocWords, HasFront, IsFront, ListsFront, front_bytes}};
 
@@ -33,9 +33,9 @@ pub fn read_doc_words(
     requires shaped { IsShaped head.now head.now.len }
     requires front { front_bytes head.now ≤ length bytes.now }
 
-    // of each block that begins so
+    // of each block that begins so, whatever the rows of its collection count for
     ensures ok { OnOk result ((block : List ℕ) → HasFront head.now bytes.now block → HasDocWords head.now docs block into_docs.new.items into_words.new.items) }
-    ensures exact { IfErr result (λ fault. (block : List ℕ) → HasFront head.now bytes.now block → Decodes (Err fault) (judged SCORES head.now docs block)) }
+    ensures exact { IfErr result (λ fault. (w : Weights) (block : List ℕ) → HasFront head.now bytes.now block → Decodes (Err fault) (judged w head.now docs block)) }
 {
     fit(into_docs, head.rows)?;
     fit(into_words, head.rows)?;
@@ -66,7 +66,7 @@ fn list_front(
     requires room_docs { length row_docs.old ≡ head.now.rows }
     requires room_words { length row_words.old ≡ head.now.rows }
 
-    ensures broken { IfSome result (λ broken. (block : List ℕ) → HasFront head.now bytes.now block → judged SCORES head.now docs block ≡ Some broken) }
+    ensures broken { IfSome result (λ broken. (w : Weights) (block : List ℕ) → HasFront head.now bytes.now block → judged w head.now docs block ≡ Some broken) }
     ensures listed { IfNone result ((block : List ℕ) → HasFront head.now bytes.now block → HasDocWords head.now docs block row_docs.new row_words.new) }
 {
     let (gaps, rest) = bytes.split_at((head.len - 7 * head.rows) as usize);

@@ -1,20 +1,19 @@
 //! Which rule is the first that the bytes of a block break.
 ghost use Rattle.std.specs.Prelude.{◌≡◌, ℕ, ◌+◌, ◌*◌, ◌≤◌, length, None, Some, cond, IfSome};
 ghost use Rattle.std.specs.Option.{option_map, option_or};
-ghost use Rattle.cs_model.specs.Scores.{SCORES};
 ghost use Rattle.cs_model_index.specs.{Blocks.{IsShaped}, BlockRules.{block_items, broken_at, codes_break, first_broken, judged_columns, rules}};
 ghost use Rattle.cs_block.specs.{BlockReading.{HasColumns}, ColumnsView.{seen_columns}};
 
 use crate::columns::{Columns, doc_here, gap_here, row_of};
 use crate::rules::{is_after, is_in_words, is_scored};
-use cs_base::{BlockHead, Broken, Post};
+use cs_base::{BlockHead, Broken, Post, Weights};
 
 /// The first broken rule, if one is broken.
-pub fn judge(columns: &Columns<'_>, head: &BlockHead, docs: u32) -> Option<Broken>
+pub fn judge(columns: &Columns<'_>, head: &BlockHead, docs: u32, weights: Weights) -> Option<Broken>
     requires shaped { IsShaped head.now head.now.len }
     requires sized { HasColumns head.now (seen_columns columns.now) }
 
-    ensures { result ≡ judged_columns SCORES head.now docs (seen_columns columns.now) }
+    ensures { result ≡ judged_columns weights head.now docs (seen_columns columns.now) }
 {
     if let Some(at) = bad_code(columns.gaps, head.rows) {
         return Some(Broken {
@@ -22,7 +21,7 @@ pub fn judge(columns: &Columns<'_>, head: &BlockHead, docs: u32) -> Option<Broke
             at: at as u32,
         });
     }
-    broken_row(columns, head, docs)
+    broken_row(columns, head, docs, weights)
 }
 
 /// The first place of the gap column where a code should stand and doesn't, or a byte is left over.
@@ -44,12 +43,17 @@ pub fn bad_code(gaps: &[u8], rows: u32) -> Option<usize>
 }
 
 // The first broken rule on rows, over a gap column that holds.
-fn broken_row(columns: &Columns<'_>, head: &BlockHead, docs: u32) -> Option<Broken>
+fn broken_row(
+    columns: &Columns<'_>,
+    head: &BlockHead,
+    docs: u32,
+    weights: Weights,
+) -> Option<Broken>
     requires shaped { IsShaped head.now head.now.len }
     requires sized { HasColumns head.now (seen_columns columns.now) }
     requires codes { codes_break head.now.rows 0 columns.now.gaps.now ≡ None }
 
-    ensures { result ≡ first_broken (rules SCORES head.now docs) (block_items head.now (seen_columns columns.now)) }
+    ensures { result ≡ first_broken (rules weights head.now docs) (block_items head.now (seen_columns columns.now)) }
 {
     let words_at = head.len - 7 * head.rows;
     let positions_at = words_at + 2 * head.rows;
@@ -68,7 +72,11 @@ fn broken_row(columns: &Columns<'_>, head: &BlockHead, docs: u32) -> Option<Brok
         };
         let row = row_of(columns, head.lo, doc, i as usize);
         bad_word = keep(bad_word, is_in_words(head, row), words_at + 2 * i);
-        bad_score = keep(bad_score, is_scored(head.facet, row), positions_at + 4 * i);
+        bad_score = keep(
+            bad_score,
+            is_scored(head.facet, weights, row),
+            positions_at + 4 * i,
+        );
         bad_order = keep(bad_order, is_after(last, row), at as u32);
         last = Some(row);
         before = row.doc;

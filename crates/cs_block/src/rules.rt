@@ -1,19 +1,18 @@
 //! The tests that a row has to pass, other than that of its document.
 ghost use Rattle.std.specs.Prelude.{◌≡◌, ◌+◌, ◌≤◌, ◌&&◌, nat_lt};
 ghost use Rattle.cs_base.specs.declared.content.limits.TheConstants.{MAX_WORDS};
-ghost use Rattle.cs_model.specs.Scores.{SCORES};
 ghost use Rattle.cs_model_index.specs.BlockRules.{is_after, is_scored};
 
-use cs_base::{BlockHead, FACET_SCORE, MAX_POSITION, Post, TEXT_SCORE, TITLE_SCORE};
+use cs_base::{BlockHead, MAX_POSITION, Post, Weights};
 
 /// Whether a row keeps all of them.
 #[inline]
-pub fn keeps_rules(head: &BlockHead, last: Option<Post>, row: Post) -> bool
+pub fn keeps_rules(head: &BlockHead, weights: Weights, last: Option<Post>, row: Post) -> bool
     requires words { head.now.lo + head.now.words ≤ MAX_WORDS }
 
-    ensures { result ≡ (nat_lt row.word (head.now.lo + head.now.words) && (is_scored SCORES head.now.facet row && is_after last row)) }
+    ensures { result ≡ (nat_lt row.word (head.now.lo + head.now.words) && (is_scored weights head.now.facet row && is_after last row)) }
 {
-    is_in_words(head, row) && is_scored(head.facet, row) && is_after(last, row)
+    is_in_words(head, row) && is_scored(head.facet, weights, row) && is_after(last, row)
 }
 
 /// Whether the row's word is one of the block's, where it isn't before the first of them.
@@ -28,15 +27,15 @@ pub fn is_in_words(head: &BlockHead, row: Post) -> bool
 
 /// Whether the position and the score are those of a facet word, or of any other word.
 #[inline]
-pub fn is_scored(facet: bool, row: Post) -> bool
-    ensures { result ≡ is_scored SCORES facet row }
+pub fn is_scored(facet: bool, weights: Weights, row: Post) -> bool
+    ensures { result ≡ is_scored weights facet row }
 {
     if facet {
-        row.pos == 0 && row.score == FACET_SCORE
+        row.pos == 0 && row.score == weights.facet
     } else {
         1 <= row.pos
             && row.pos <= MAX_POSITION
-            && (row.score == TITLE_SCORE || row.score == TEXT_SCORE)
+            && (row.score == weights.title || row.score == weights.text)
     }
 }
 

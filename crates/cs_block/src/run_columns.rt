@@ -5,7 +5,7 @@ ghost use Rattle.cs_base.specs.{content.Orders.{by_place}, declared.content.limi
 ghost use Rattle.cs_block.specs.RowRuns.{AreWords, ArePositions, AreScores, AreOnward, AreAscending};
 
 use crate::columns::{half_at, number_at};
-use cs_base::{FACET_SCORE, MAX_POSITION, TEXT_SCORE, TITLE_SCORE};
+use cs_base::{MAX_POSITION, Weights};
 
 /// The words of as many rows as there is room for, from row `first` on, and whether all are words of the block.
 pub fn words_in(bytes: &[u8], first: usize, lo: u32, words: u32, out: &mut [u32]) -> bool
@@ -45,13 +45,13 @@ pub fn positions_in(bytes: &[u8], first: usize, facet: bool, out: &mut [u32]) ->
 }
 
 /// Whether all scores are of the block's kind.
-pub fn are_scores(scores: &[u8], facet: bool) -> bool
-    ensures { result ≡ true → AreScores facet scores.now }
+pub fn are_scores(scores: &[u8], facet: bool, weights: Weights) -> bool
+    ensures { result ≡ true → AreScores weights facet scores.now }
 {
     if facet {
-        are_either(scores, FACET_SCORE, FACET_SCORE)
+        are_either(scores, weights.facet, weights.facet)
     } else {
-        are_either(scores, TITLE_SCORE, TEXT_SCORE)
+        are_either(scores, weights.title, weights.text)
     }
 }
 

@@ -8,7 +8,7 @@ use crate::columns::Columns;
 use crate::rules::is_after;
 use crate::run_columns::{are_ascending, are_scores, positions_in, words_in};
 use crate::run_docs::docs_in;
-use cs_base::{BlockHead, Post};
+use cs_base::{BlockHead, Post, Weights};
 use cs_cols::Cols;
 
 /// A run has so many rows at most.
@@ -28,12 +28,18 @@ pub struct Reached {
 }
 
 /// Adds rows run by run, up to the first run in which a row breaks a rule.
-pub fn push_runs(columns: &Columns<'_>, head: &BlockHead, docs: u32, into: &mut Cols) -> Reached
+pub fn push_runs(
+    columns: &Columns<'_>,
+    head: &BlockHead,
+    docs: u32,
+    weights: Weights,
+    into: &mut Cols,
+) -> Reached
     requires shaped { IsShaped head.now head.now.len }
     requires sized { HasColumns head.now (seen_columns columns.now) }
     requires room { head.now.rows ≤ into.old.room }
 
-    ensures { HasPushed head.now docs (seen_columns columns.now) result.rows result.at result.last result.before into.old.posts into.new.posts into.new.room }
+    ensures { HasPushed weights head.now docs (seen_columns columns.now) result.rows result.at result.last result.before into.old.posts into.new.posts into.new.room }
 {
     let mut run_docs = [0u32; RUN];
     let mut run_words = [0u32; RUN];
@@ -50,6 +56,7 @@ pub fn push_runs(columns: &Columns<'_>, head: &BlockHead, docs: u32, into: &mut 
             columns,
             head,
             docs,
+            weights,
             reached,
             &mut run_docs[..rows],
             &mut run_words[..rows],
@@ -70,6 +77,7 @@ fn push_run(
     columns: &Columns<'_>,
     head: &BlockHead,
     docs: u32,
+    weights: Weights,
     from: Reached,
     run_docs: &mut [u32],
     run_words: &mut [u32],
@@ -86,8 +94,8 @@ fn push_run(
     requires room { length run_docs.old ≤ into.old.room }
 
     ensures pushed { IfSome result (λ next. (first : List Post)
-        → HasPushed head.now docs (seen_columns columns.now) from.rows from.at from.last from.before first into.old.posts into.old.room
-        → HasPushed head.now docs (seen_columns columns.now) next.rows next.at next.last next.before first into.new.posts into.new.room) }
+        → HasPushed weights head.now docs (seen_columns columns.now) from.rows from.at from.last from.before first into.old.posts into.old.room
+        → HasPushed weights head.now docs (seen_columns columns.now) next.rows next.at next.last next.before first into.new.posts into.new.room) }
     ensures rows { IfSome result (λ next. next.rows ≡ from.rows + length run_docs.old) }
     ensures kept { IfNone result (into.new ≡ into.old) }
 {
@@ -97,7 +105,7 @@ fn push_run(
     let scores = &columns.scores[first..first + rows];
     if !words_in(columns.words, first, head.lo, head.words, run_words)
         || !positions_in(columns.positions, first, head.facet, run_positions)
-        || !are_scores(scores, head.facet)
+        || !are_scores(scores, head.facet, weights)
         || !are_ascending(run_docs, run_words, run_positions)
     {
         return None;

@@ -5,18 +5,23 @@ ghost use Rattle.cs_block.specs.BlockScores.{HasScores};
 
 use crate::columns::cut;
 use crate::run_columns::are_scores;
-use cs_base::{BlockHead, Memory};
+use cs_base::{BlockHead, Memory, Weights};
 
 /// Puts the scores of a block's rows into a column, in place of what it holds. False, with anything in it, where one isn't of the
-/// block's kind, which never comes of bytes that keep the rules.
-pub fn read_scores(bytes: &[u8], head: &BlockHead, scores: &mut Vec<u8>) -> Result<bool, Memory>
+/// block's kind, in a collection of these weights, which never comes of bytes that keep the rules.
+pub fn read_scores(
+    bytes: &[u8],
+    head: &BlockHead,
+    weights: Weights,
+    scores: &mut Vec<u8>,
+) -> Result<bool, Memory>
     requires shaped { IsShaped head.now (length bytes.now) }
 
-    ensures ok { IfOk result (λ whole. whole ≡ true → HasScores head.now bytes.now scores.new.items) }
+    ensures ok { IfOk result (λ whole. whole ≡ true → HasScores weights head.now bytes.now scores.new.items) }
     ensures column { IfOk result (λ whole. scores.new.items ≡ (block_columns head.now bytes.now).scores) }
 {
     let columns = cut(bytes, head);
     scores.truncate(0);
     scores.extend_from_slice(columns.scores)?;
-    Ok(are_scores(columns.scores, head.facet))
+    Ok(are_scores(columns.scores, head.facet, weights))
 }

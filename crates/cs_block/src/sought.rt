@@ -12,7 +12,7 @@ ghost use Rattle.cs_block.specs.Sought.{CanBeSought, HasSought, IsOfBlock, is_so
 use crate::columns::{Columns, cut, half_at, row_of};
 use crate::rules::{is_in_words, is_scored};
 use crate::run_docs::docs_in;
-use cs_base::{BlockHead, Memory, Post};
+use cs_base::{BlockHead, Memory, Post, Weights};
 use cs_cols::find_listed;
 
 /// So many rows at most are looked at in one loop.
@@ -31,10 +31,12 @@ struct Wanted<'a> {
 
 /// Puts the rows of a block in listed documents whose word's number is `words.0` or more and below `words.1` into a list, and the
 /// documents of all rows into a column, in place of what these hold. False, with anything in them, where a code doesn't stand, a
-/// document isn't in range, or a row that is sought isn't of the block's kind, which never comes of bytes that keep the rules.
+/// document isn't in range, or a row that is sought isn't of the block's kind in a collection of these weights, which never comes of
+/// bytes that keep the rules.
 pub fn read_sought(
     bytes: &[u8],
     head: &BlockHead,
+    weights: Weights,
     words: (u32, u32),
     listed: &[bool],
     docs: &mut Vec<u32>,
@@ -43,7 +45,7 @@ pub fn read_sought(
     requires shaped { IsShaped head.now (length bytes.now) }
     requires few { length listed.now < 2 ^ 32 }
 
-    ensures ok { IfOk result (λ whole. whole ≡ true → HasSought head.now bytes.now words.0 words.1 listed.now into.new.items) }
+    ensures ok { IfOk result (λ whole. whole ≡ true → HasSought weights head.now bytes.now words.0 words.1 listed.now into.new.items) }
 {
     let columns = cut(bytes, head);
     docs.resize(head.rows as usize, 0)?;
@@ -56,7 +58,7 @@ pub fn read_sought(
         whole: is_inside(head, words),
         listed,
     };
-    let kept = add_sought(&columns, head, docs, &wanted, into)?;
+    let kept = add_sought(&columns, head, weights, docs, &wanted, into)?;
     Ok(kept)
 }
 
@@ -83,6 +85,7 @@ fn is_inside(head: &BlockHead, words: (u32, u32)) -> bool
 fn add_sought(
     columns: &Columns<'_>,
     head: &BlockHead,
+    weights: Weights,
     docs: &[u32],
     wanted: &Wanted<'_>,
     into: &mut Vec<Post>,
@@ -91,7 +94,7 @@ fn add_sought(
 
     ensures added { IfOk result (λ kept. into.new.items ≡ into.old.items
         ++ filter (passes wanted.now.whole wanted.now.words.0 wanted.now.words.1 wanted.now.listed.now) (rows_with head.now (seen_columns columns.now) docs.now)) }
-    ensures kept { IfOk result (λ kept. kept ≡ true → All (IsOfBlock head.now) into.old.items → All (IsOfBlock head.now) into.new.items) }
+    ensures kept { IfOk result (λ kept. kept ≡ true → All (IsOfBlock weights head.now) into.old.items → All (IsOfBlock weights head.now) into.new.items) }
 {
     let mut places = [0usize; SPAN];
     let mut kept = true;
@@ -99,7 +102,7 @@ fn add_sought(
     while from < docs.len() {
         let to = from + SPAN.min(docs.len() - from);
         let found = find_rows(columns, head, docs, wanted, (from, to), &mut places);
-        kept &= add_rows(columns, head, docs, &places[..found], into)?;
+        kept &= add_rows(columns, head, weights, docs, &places[..found], into)?;
         from = to;
     }
     Ok(kept)
@@ -144,6 +147,7 @@ fn find_rows(
 fn add_rows(
     columns: &Columns<'_>,
     head: &BlockHead,
+    weights: Weights,
     docs: &[u32],
     places: &[usize],
     into: &mut Vec<Post>,
@@ -154,13 +158,13 @@ fn add_rows(
     requires known { All (λ i. i < length docs.now) places.now }
 
     ensures added { IfOk result (λ kept. into.new.items ≡ into.old.items ++ map (row_with head.now (seen_columns columns.now) docs.now) places.now) }
-    ensures kept { IfOk result (λ kept. kept ≡ true → All (IsOfBlock head.now) into.old.items → All (IsOfBlock head.now) into.new.items) }
+    ensures kept { IfOk result (λ kept. kept ≡ true → All (IsOfBlock weights head.now) into.old.items → All (IsOfBlock weights head.now) into.new.items) }
 {
     into.reserve(places.len())?;
     let mut kept = true;
     for place in places {
         let row = row_of(columns, head.lo, docs[*place], *place);
-        kept &= is_in_words(head, row) & is_scored(head.facet, row);
+        kept &= is_in_words(head, row) & is_scored(head.facet, weights, row);
         into.push_reserved(row);
     }
     Ok(kept)

@@ -4,23 +4,23 @@
 --   accepted_lent      each document that is lent can be listed
 --   few_docs           there are no more of them than the most bytes of a collection, and one
 --   few_documents      there are at most MAX_DOCS
-use Rattle.std.proofs.Common.{◌≡◌, ℕ, ◌+◌, ◌≤◌, Bool, true, false, cond, nat_le, nat_eq, List, [], ◌∷◌, length, map, filter, drop, sym, ap, subst, arith, length-drop}
+use Rattle.std.proofs.Common.{◌≡◌, ℕ, ◌+◌, ◌≤◌, Bool, true, false, not, ◌&&◌, cond, nat_le, nat_eq, List, [], ◌∷◌, length, map, filter, drop, sym, ap, subst, arith, length-drop}
 use Rattle.std.specs.Prelude.{None}
 use Rattle.std.specs.List.{All, AllByRecursion, starts_with, enumerate_from}
-use Rattle.std.specs.Str.Lines.{lines}
 use Rattle.std.proofs.lemmas.Bool.Decides.{nat_tests}
 use Rattle.std.proofs.lemmas.List.{length-map}
 use Rattle.std.proofs.lemmas.List.FromFn.{length-enumerate_from}
 use Rattle.std.proofs.lemmas.List.Elements.{All-from_recursion, recursion_from_All}
 use Rattle.cs_base.specs.declared.content.doc.Doc.{Doc}
 use Rattle.cs_base.specs.declared.content.limits.TheConstants.{MAX_COLLECTION_BYTES, MAX_DOCS}
-use Rattle.cs_model.specs.Collection.{piece_refusal, line_refusal, docs_refusal, documents, document, DocLine, doc_line, doc_lines, collection_lines, facet_pieces, columns, without_mark, too_large}
+use Rattle.cs_model.specs.Collection.{piece_refusal, line_refusal, docs_refusal, documents, document, DocLine, doc_line, doc_lines, collection_lines, is_weights_line, weights_lines, weights_refusal, facet_pieces, columns, without_mark, too_large}
 use Rattle.cs_model.specs.Words.{is_filled}
 use Rattle.cs_model.specs.First.{unless, first_reason}
 use Rattle.cs_model.proofs.FirstLemmas.{none_first, none_rest, unless_none}
 use Rattle.cs_docs.specs.FacetPieces.{IsNamed, AreNamed, CanBeListed}
 use Rattle.cs_docs.specs.declared.document.LentDoc.{LentDoc}
-use Rattle.cs_docs.specs.LinesRead.{doc_lines_from, doc_of_lent}
+use Rattle.cs_docs.specs.LinesRead.{doc_of_lent}
+use Rattle.cs_docs.proofs.LinesLemmas.{none_behind}
 use Rattle.cs_docs.proofs.PlainLemmas.{length_documents_of_lines}
 
 -- ---- nothing is refused
@@ -48,8 +48,11 @@ accepted_lines (k ∷ ks) h = (accepted_line k (none_first (line_refusal k) (map
 
 -- ---- the documents of a collection that isn't refused
 
+no_line_refused : (c : List ℕ) → docs_refusal c ≡ None → first_reason (map line_refusal (doc_lines c)) ≡ None
+no_line_refused c h = none_behind (map weights_refusal (weights_lines c)) (map line_refusal (doc_lines c)) (none_rest (unless (nat_le (length c) MAX_COLLECTION_BYTES) too_large) _ h)
+
 pub accepted_docs : (c : List ℕ) (docs : List Doc) → docs_refusal c ≡ None → docs ≡ documents c → All CanBeListed docs
-accepted_docs c docs h e = subst (All CanBeListed) (sym e) (All-from_recursion CanBeListed (documents c) (accepted_lines (doc_lines_from 0 1 (lines (without_mark c))) (none_rest (unless (nat_le (length c) MAX_COLLECTION_BYTES) too_large) _ h)))
+accepted_docs c docs h e = subst (All CanBeListed) (sym e) (All-from_recursion CanBeListed (documents c) (accepted_lines (doc_lines c) (no_line_refused c h)))
 
 listed_each : (docs : List LentDoc) → AllByRecursion CanBeListed (map doc_of_lent docs) → AllByRecursion (λ d. CanBeListed (doc_of_lent d)) docs
 listed_each [] h = tt
@@ -81,6 +84,6 @@ few_lines d (l ∷ ls) le h =
 
 pub few_documents : (c : List ℕ) → docs_refusal c ≡ None → length (documents c) ≤ MAX_DOCS
 few_documents c h =
-    let ls = filter (λ l. is_filled l.1) (collection_lines c) in
-    let few = few_lines 0 ls (omega arith) (none_rest (unless (nat_le (length c) MAX_COLLECTION_BYTES) too_large) _ h) in
+    let ls = filter (λ l. is_filled l.1 && not (is_weights_line l)) (collection_lines c) in
+    let few = few_lines 0 ls (omega arith) (no_line_refused c h) in
     omega (arith, few, length-map (doc_lines c) document, length-map (enumerate_from 0 ls) doc_line, length-enumerate_from 0 ls)

@@ -9,3 +9,4 @@ pub mod PlainLaws
 pub mod PlainLemmas
 pub mod ShortSlugs
 pub mod TextLemmas
+pub mod WeightsLemmas

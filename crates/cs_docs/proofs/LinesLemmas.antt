@@ -1,23 +1,24 @@
 -- Lines, one after another, and the first refusal among them.
-use Rattle.std.proofs.Common.{◌≡◌, ℕ, ◌+◌, ◌<◌, Bool, true, false, List, [], ◌∷◌, ◌++◌, length, map, take, drop, get_or, inl, inr, refl, sym, ap, ◌∙◌, arith, eqb}
+use Rattle.std.proofs.Common.{◌≡◌, ℕ, ◌+◌, ◌<◌, ◌≤◌, Bool, true, false, nat_le, List, [], ◌∷◌, ◌++◌, length, map, take, drop, get_or, inl, inr, refl, sym, ap, subst, ◌∙◌, arith, eqb}
 use Rattle.std.specs.List.{slice_split, position_or_len}
 use Rattle.memchr.specs.Find.{IsFirstByte, is_byte}
 use Rattle.std.specs.Prelude.{Option, Some, None, MatchOption}
 use Rattle.std.specs.Str.Lines.{lines, lines_of_parts, strip_carriage_return}
-use Rattle.std.proofs.lemmas.Bool.{false_from_ne_true}
+use Rattle.std.proofs.lemmas.Bool.{false_from_ne_true, le-leb}
 use Rattle.std.proofs.lemmas.Bool.Decides.{nat_tests}
 use Rattle.std.proofs.lemmas.List.{map-append, take_all, drop_all}
 use Rattle.std.proofs.lemmas.List.Elements.{All-from_get_or}
 use Rattle.std.proofs.lemmas.List.Splits.{slice_split_first, slice_split_none, length-slice_split}
 use Rattle.std.proofs.lemmas.List.Sums.{position_or_len_is}
-use Rattle.cs_model.specs.Collection.{CollectionRefusal, line_refusal}
+use Rattle.cs_base.specs.declared.content.limits.TheConstants.{MAX_COLLECTION_BYTES}
+use Rattle.cs_model.specs.Collection.{CollectionRefusal, doc_lines, docs_refusal, line_refusal, weights_lines, weights_refusal, without_mark}
 use Rattle.cs_model.specs.Words.{is_filled}
 use Rattle.cs_model.specs.First.{first_reason}
 use Rattle.cs_docs.specs.declared.fault.DocFault.{DocFault}
 use Rattle.cs_docs.specs.Lines.{Shows}
-use Rattle.cs_docs.specs.FaultRefusals.{refusal_of, IsCauseOf, refusal_from}
-use Rattle.cs_model.proofs.FirstLemmas.{first-append_some}
-use Rattle.cs_docs.specs.LinesRead.{doc_lines_from, documents_from}
+use Rattle.cs_docs.specs.FaultRefusals.{refusal_of, IsCauseOf, front_refusal, refusal_from}
+use Rattle.cs_model.proofs.FirstLemmas.{first-append, first-append_some}
+use Rattle.cs_docs.specs.LinesRead.{doc_lines_from, doc_lines_of, documents_from}
 
 -- behind the first part there are further ones
 more_parts : (x : List ℕ) (ps : List (List ℕ)) → 0 < length ps → lines_of_parts (x ∷ ps) ≡ strip_carriage_return x ∷ lines_of_parts ps
@@ -77,3 +78,58 @@ module _ (d n : ℕ) where
   -- the cause of a line's fault is that of the lines from it on
   pub cause_next : (l : List ℕ) (ls : List (List ℕ)) (e : DocFault) → IsCauseOf (refusal_from d n (l ∷ [])) e → IsCauseOf (refusal_from d n (l ∷ ls)) e
   cause_next l ls e h = cause_at (refusal_of e) l ls h
+
+-- ---- the weights line before the documents
+
+-- reasons behind which there is none
+pub first-append_none : {R : Type 0} (rs qs : List (Option R)) → first_reason qs ≡ None → first_reason (rs ++ qs) ≡ first_reason rs
+first-append_none [] qs h = h
+first-append_none (None ∷ rs) qs h = first-append_none rs qs h
+first-append_none (Some r ∷ rs) qs h = refl
+
+-- where none stands, none does behind
+pub none_behind : {R : Type 0} (rs qs : List (Option R)) → first_reason (rs ++ qs) ≡ None → first_reason qs ≡ None
+none_behind [] qs h = h
+none_behind (None ∷ rs) qs h = none_behind rs qs h
+none_behind (Some r ∷ rs) qs h = absurd (cc)
+
+module _ (rs qs : List (Option CollectionRefusal)) where
+  front_at : (o : Option CollectionRefusal) → MatchOption o (Unit {0}) (λ x. first_reason rs ≡ Some x) → MatchOption o (Unit {0}) (λ x. first_reason (rs ++ qs) ≡ Some x)
+  front_at None h = tt
+  front_at (Some r) h = first-append_some rs qs r h
+
+  -- the cause of a fault in front is that of all
+  pub front_cause : (e : DocFault) → IsCauseOf (first_reason rs) e → IsCauseOf (first_reason (rs ++ qs)) e
+  front_cause e h = front_at (refusal_of e) h
+
+  -- so is one behind where there is none in front
+  pub behind_cause : (e : DocFault) → first_reason rs ≡ None → IsCauseOf (first_reason qs) e → IsCauseOf (first_reason (rs ++ qs)) e
+  behind_cause e none h = subst (λ r. IsCauseOf r e) (sym (first-append rs qs none)) h
+
+-- a collection that isn't too large is refused for its lines
+pub small_refusal : (c : List ℕ) → length c ≤ MAX_COLLECTION_BYTES → docs_refusal c ≡ first_reason (map weights_refusal (weights_lines c) ++ map line_refusal (doc_lines c))
+small_refusal c h = let small : nat_le (length c) MAX_COLLECTION_BYTES ≡ true = le-leb (length c) MAX_COLLECTION_BYTES h in rw small refl
+
+-- a collection whose text, without the mark, has these lines behind its weights line
+module _ (c text : List ℕ) (n : ℕ) (ls : List (List ℕ)) (small : length c ≤ MAX_COLLECTION_BYTES) (same : text ≡ without_mark c) where
+  told : doc_lines_of (lines text) ≡ doc_lines_from 0 n ls → doc_lines c ≡ doc_lines_from 0 n ls
+  told h = ap (λ t. doc_lines_of (lines t)) (sym same) ∙ h
+
+  fine : front_refusal (lines text) ≡ None → first_reason (map weights_refusal (weights_lines c)) ≡ None
+  fine h = ap (λ t. front_refusal (lines t)) (sym same) ∙ h
+
+  pub accepted_by : front_refusal (lines text) ≡ None → doc_lines_of (lines text) ≡ doc_lines_from 0 n ls → refusal_from 0 n ls ≡ None → docs_refusal c ≡ None
+  accepted_by front docs rest =
+      small_refusal c small
+      ∙ first-append (map weights_refusal (weights_lines c)) (map line_refusal (doc_lines c)) (fine front)
+      ∙ ap (λ ks. first_reason (map line_refusal ks)) (told docs) ∙ rest
+
+  pub cause_in_front : (e : DocFault) → IsCauseOf (front_refusal (lines text)) e → IsCauseOf (docs_refusal c) e
+  cause_in_front e h =
+      let here : IsCauseOf (first_reason (map weights_refusal (weights_lines c))) e = subst (λ t. IsCauseOf (front_refusal (lines t)) e) same h in
+      subst (λ r. IsCauseOf r e) (sym (small_refusal c small)) (front_cause (map weights_refusal (weights_lines c)) (map line_refusal (doc_lines c)) e here)
+
+  pub cause_behind : (e : DocFault) → front_refusal (lines text) ≡ None → doc_lines_of (lines text) ≡ doc_lines_from 0 n ls → IsCauseOf (refusal_from 0 n ls) e → IsCauseOf (docs_refusal c) e
+  cause_behind e front docs h =
+      let here : IsCauseOf (first_reason (map line_refusal (doc_lines c))) e = subst (λ ks. IsCauseOf (first_reason (map line_refusal ks)) e) (sym (told docs)) h in
+      subst (λ r. IsCauseOf r e) (sym (small_refusal c small)) (behind_cause (map weights_refusal (weights_lines c)) (map line_refusal (doc_lines c)) e (fine front) here)

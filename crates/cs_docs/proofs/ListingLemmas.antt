@@ -14,13 +14,13 @@ use Rattle.std.proofs.lemmas.Map.Lookups.{exact_bytes}
 use Rattle.cs_base.specs.content.Orders.{by_row, by_spot}
 use Rattle.cs_base.specs.declared.content.doc.Doc.{Doc}
 use Rattle.cs_base.specs.declared.content.doc.Row.{Row}
-use Rattle.cs_base.specs.declared.content.scores.TheConstants.{TITLE_SCORE, FACET_SCORE, TEXT_SCORE, BEHIND_TITLE}
+use Rattle.cs_base.specs.declared.content.scores.TheConstants.{BEHIND_TITLE}
+use Rattle.cs_base.specs.declared.content.scores.Weights.{Weights}
 use Rattle.cs_base.proofs.MembersLemmas.{all_then, members_are, is_member-listed, listing-rises}
 use Rattle.cs_base.proofs.OrdersLemmas.{Less-from_lt, by_row_total, by_row_exact, rows_up}
 use Rattle.cs_model.specs.Collection.{facet_words}
 use Rattle.cs_model.specs.Corpus.{placed, title_rows, text_rows, facet_rows, doc_rows, rows_of}
 use Rattle.cs_model.specs.Words.{words}
-use Rattle.cs_model.specs.Scores.{SCORES}
 use Rattle.cs_docs.specs.Listing.{listed_facets, listed_doc, listed_rows}
 use Rattle.cs_docs.proofs.PlainLemmas.{no_words}
 
@@ -54,8 +54,8 @@ earlier_doc r s h = rw (Less-from_lt r.doc s.doc h) refl
 earlier_pos : (r s : Row) → r.doc ≡ s.doc → r.pos < s.pos → by_spot r s ≡ Less
 earlier_pos r s e h = rw (equal_cmp r.doc s.doc e, Less-from_lt r.pos s.pos h) refl
 
-earlier_facet : (d : ℕ) (v w : List ℕ) → slice_cmp nat_cmp v w ≡ Less → by_spot (placed d FACET_SCORE (0, v)) (placed d FACET_SCORE (0, w)) ≡ Less
-earlier_facet d v w h = rw (equal_cmp d d refl, h) refl
+earlier_facet : (d score : ℕ) (v w : List ℕ) → slice_cmp nat_cmp v w ≡ Less → by_spot (placed d score (0, v)) (placed d score (0, w)) ≡ Less
+earlier_facet d score v w h = rw (equal_cmp d d refl, h) refl
 
 -- a row of document d, at a position from lo on and before hi
 record IsWithin (d lo hi : ℕ) (r : Row) : Type 0 where
@@ -85,24 +85,24 @@ sorted-placed d score n (w ∷ ws) = (
   sorted-placed d score (n + 1) ws,
 )
 
-within-facets : (d : ℕ) (ws : List (List ℕ)) → AllByRecursion (IsWithin d 0 1) (map (λ w. placed d FACET_SCORE (0, w)) ws)
-within-facets d [] = tt
-within-facets d (w ∷ ws) = (record { doc = refl; from = omega arith; before = omega arith }, within-facets d ws)
+within-facets : (d score : ℕ) (ws : List (List ℕ)) → AllByRecursion (IsWithin d 0 1) (map (λ x. placed d score (0, x)) ws)
+within-facets d score [] = tt
+within-facets d score (w ∷ ws) = (record { doc = refl; from = omega arith; before = omega arith }, within-facets d score ws)
 
-later_facets : (d : ℕ) (v : List ℕ) (ws : List (List ℕ)) → AllByRecursion (λ w. slice_cmp nat_cmp v w ≡ Less) ws → AllByRecursion (λ s. by_spot (placed d FACET_SCORE (0, v)) s ≡ Less) (map (λ w. placed d FACET_SCORE (0, w)) ws)
-later_facets d v [] h = tt
-later_facets d v (w ∷ ws) h = (earlier_facet d v w h.0, later_facets d v ws h.1)
+later_facets : (d score : ℕ) (v : List ℕ) (ws : List (List ℕ)) → AllByRecursion (λ w. slice_cmp nat_cmp v w ≡ Less) ws → AllByRecursion (λ s. by_spot (placed d score (0, v)) s ≡ Less) (map (λ x. placed d score (0, x)) ws)
+later_facets d score v [] h = tt
+later_facets d score v (w ∷ ws) h = (earlier_facet d score v w h.0, later_facets d score v ws h.1)
 
-sorted-facets : (d : ℕ) (ws : List (List ℕ)) → IsStrictlySortedBy (slice_cmp nat_cmp) ws → IsStrictlySortedBy by_spot (map (λ w. placed d FACET_SCORE (0, w)) ws)
+sorted-facets : (d score : ℕ) (ws : List (List ℕ)) → IsStrictlySortedBy (slice_cmp nat_cmp) ws → IsStrictlySortedBy by_spot (map (λ x. placed d score (0, x)) ws)
 unfolding IsStrictlySortedBy
-sorted-facets d [] h = tt
-sorted-facets d (w ∷ ws) h = (later_facets d w ws h.0, sorted-facets d ws h.1)
+sorted-facets d score [] h = tt
+sorted-facets d score (w ∷ ws) h = (later_facets d score w ws h.0, sorted-facets d score ws h.1)
 
 -- ---- one document
 
-module _ (d : ℕ) (doc : Doc) where
+module _ (w : Weights) (d : ℕ) (doc : Doc) where
   abbrev facets : List Row
-  facets = map (λ w. placed d FACET_SCORE (0, w)) (listed_facets doc.facets)
+  facets = map (λ x. placed d w.facet (0, x)) (listed_facets doc.facets)
 
   abbrev titles : ℕ
   titles = length (words doc.title)
@@ -110,49 +110,30 @@ module _ (d : ℕ) (doc : Doc) where
   abbrev texts : ℕ
   texts = length (words doc.text)
 
-  within_titles : AllByRecursion (IsWithin d 1 (titles + 1)) (title_rows SCORES d doc)
-  within_titles = wider d 1 (1 + titles) 1 (titles + 1) (title_rows SCORES d doc) (omega arith) (omega arith) (within-placed d TITLE_SCORE 1 (words doc.title))
+  within_titles : AllByRecursion (IsWithin d 1 (titles + 1)) (title_rows w d doc)
+  within_titles = wider d 1 (1 + titles) 1 (titles + 1) (title_rows w d doc) (omega arith) (omega arith) (within-placed d w.title 1 (words doc.title))
 
-  within_texts : AllByRecursion (IsWithin d (titles + 1) (titles + BEHIND_TITLE + texts)) (text_rows SCORES d doc)
-  within_texts = wider d (titles + BEHIND_TITLE) (titles + BEHIND_TITLE + texts) (titles + 1) (titles + BEHIND_TITLE + texts) (text_rows SCORES d doc) (omega arith) (omega arith) (within-placed d TEXT_SCORE (titles + BEHIND_TITLE) (words doc.text))
+  within_texts : AllByRecursion (IsWithin d (titles + 1) (titles + BEHIND_TITLE + texts)) (text_rows w d doc)
+  within_texts = wider d (titles + BEHIND_TITLE) (titles + BEHIND_TITLE + texts) (titles + 1) (titles + BEHIND_TITLE + texts) (text_rows w d doc) (omega arith) (omega arith) (within-placed d w.text (titles + BEHIND_TITLE) (words doc.text))
 
-  within_front : AllByRecursion (IsWithin d 0 (titles + 1)) (facets ++ title_rows SCORES d doc)
-  within_front = all-append (IsWithin d 0 (titles + 1)) facets (title_rows SCORES d doc) (wider d 0 1 0 (titles + 1) facets (omega arith) (omega arith) (within-facets d (listed_facets doc.facets)))
-      (wider d 1 (titles + 1) 0 (titles + 1) (title_rows SCORES d doc) (omega arith) (omega arith) within_titles)
+  within_front : AllByRecursion (IsWithin d 0 (titles + 1)) (facets ++ title_rows w d doc)
+  within_front = all-append (IsWithin d 0 (titles + 1)) facets (title_rows w d doc) (wider d 0 1 0 (titles + 1) facets (omega arith) (omega arith) (within-facets d w.facet (listed_facets doc.facets)))
+      (wider d 1 (titles + 1) 0 (titles + 1) (title_rows w d doc) (omega arith) (omega arith) within_titles)
 
-  sorted_front : IsStrictlySortedBy by_spot (facets ++ title_rows SCORES d doc)
-  sorted_front = sorted-append by_spot facets (title_rows SCORES d doc) (sorted-facets d (listed_facets doc.facets) (listing-rises (slice_cmp nat_cmp) (facet_words doc.facets)))
-      (sorted-placed d TITLE_SCORE 1 (words doc.title)) (within_below d 0 1 (titles + 1) facets (title_rows SCORES d doc) (within-facets d (listed_facets doc.facets)) within_titles)
+  sorted_front : IsStrictlySortedBy by_spot (facets ++ title_rows w d doc)
+  sorted_front = sorted-append by_spot facets (title_rows w d doc) (sorted-facets d w.facet (listed_facets doc.facets) (listing-rises (slice_cmp nat_cmp) (facet_words doc.facets)))
+      (sorted-placed d w.title 1 (words doc.title)) (within_below d 0 1 (titles + 1) facets (title_rows w d doc) (within-facets d w.facet (listed_facets doc.facets)) within_titles)
 
-  sorted-doc : IsStrictlySortedBy by_spot (listed_doc (d, doc))
-  sorted-doc = sorted-append by_spot (facets ++ title_rows SCORES d doc) (text_rows SCORES d doc) sorted_front (sorted-placed d TEXT_SCORE (titles + BEHIND_TITLE) (words doc.text))
-      (within_below d 0 (titles + 1) (titles + BEHIND_TITLE + texts) (facets ++ title_rows SCORES d doc) (text_rows SCORES d doc) within_front within_texts)
+  sorted-doc : IsStrictlySortedBy by_spot (listed_doc w (d, doc))
+  sorted-doc = sorted-append by_spot (facets ++ title_rows w d doc) (text_rows w d doc) sorted_front (sorted-placed d w.text (titles + BEHIND_TITLE) (words doc.text))
+      (within_below d 0 (titles + 1) (titles + BEHIND_TITLE + texts) (facets ++ title_rows w d doc) (text_rows w d doc) within_front within_texts)
 
-  of_doc : AllByRecursion (λ r. r.doc ≡ d) (listed_doc (d, doc))
-  of_doc = all-append (λ r. r.doc ≡ d) (facets ++ title_rows SCORES d doc) (text_rows SCORES d doc)
-      (all_then (IsWithin d 0 (titles + 1)) (λ r. r.doc ≡ d) (λ r p. p.doc) (facets ++ title_rows SCORES d doc) within_front)
-      (all_then (IsWithin d (titles + 1) (titles + BEHIND_TITLE + texts)) (λ r. r.doc ≡ d) (λ r p. p.doc) (text_rows SCORES d doc) within_texts)
+  of_doc : AllByRecursion (λ r. r.doc ≡ d) (listed_doc w (d, doc))
+  of_doc = all-append (λ r. r.doc ≡ d) (facets ++ title_rows w d doc) (text_rows w d doc)
+      (all_then (IsWithin d 0 (titles + 1)) (λ r. r.doc ≡ d) (λ r p. p.doc) (facets ++ title_rows w d doc) within_front)
+      (all_then (IsWithin d (titles + 1) (titles + BEHIND_TITLE + texts)) (λ r. r.doc ≡ d) (λ r p. p.doc) (text_rows w d doc) within_texts)
 
--- ---- all documents
-
-from_docs : (d : ℕ) (docs : List Doc) → AllByRecursion (λ r. d ≤ r.doc) (listed_rows d docs)
-from_docs d [] = tt
-from_docs d (doc ∷ docs) =
-    all-append (λ r. d ≤ r.doc) (listed_doc (d, doc)) (listed_rows (d + 1) docs)
-    (all_then (λ r. r.doc ≡ d) (λ r. d ≤ r.doc) (λ r p. omega (arith, p)) (listed_doc (d, doc)) (of_doc d doc))
-    (all_then (λ r. d + 1 ≤ r.doc) (λ r. d ≤ r.doc) (λ r p. omega (arith, p)) (listed_rows (d + 1) docs) (from_docs (d + 1) docs))
-
-sorted-spots : (d : ℕ) (docs : List Doc) → IsStrictlySortedBy by_spot (listed_rows d docs)
-unfolding IsStrictlySortedBy
-sorted-spots d [] = tt
-sorted-spots d (doc ∷ docs) =
-    sorted-append by_spot (listed_doc (d, doc)) (listed_rows (d + 1) docs) (sorted-doc d doc) (sorted-spots (d + 1) docs)
-    (below-from by_spot (λ r. r.doc ≡ d) (λ s. d + 1 ≤ s.doc) (λ r s p q. earlier_doc r s (omega (arith, p, q))) (listed_doc (d, doc)) (listed_rows (d + 1) docs) (of_doc d doc) (from_docs (d + 1) docs))
-
-sorted-rows : (d : ℕ) (docs : List Doc) → IsStrictlySortedBy by_row (listed_rows d docs)
-sorted-rows d docs = rows_up (listed_rows d docs) (sorted-spots d docs)
-
--- ---- the same rows
+-- ---- the same rows, one test at a time
 
 never : (a b o : Ordering) → is_eq o ≡ false → is_eq (ordering_then a (ordering_then b o)) ≡ false
 never Less b o h = refl
@@ -172,66 +153,6 @@ or_gated true true false = refl
 or_gated true false false = refl
 or_gated false b k = refl
 
--- whether q is the row of a facet word in document d, its word aside
-abbrev is_facet_row : Row → ℕ → Bool
-is_facet_row q d = is_eq (ordering_then (nat_cmp q.doc d) (ordering_then (nat_cmp q.pos 0) (nat_cmp q.score FACET_SCORE)))
-
-any_facet : (q : Row) (d : ℕ) (ws : List (List ℕ)) → list_any (eq_by_cmp by_row q) (map (λ w. placed d FACET_SCORE (0, w)) ws) ≡ (list_any (eq_by_cmp (slice_cmp nat_cmp) q.word) ws && is_facet_row q d)
-any_facet q d [] = refl
-any_facet q d (w ∷ ws) =
-    ap (λ b. b || list_any (eq_by_cmp by_row q) (map (λ v. placed d FACET_SCORE (0, v)) ws)) (gate (nat_cmp q.doc d) (nat_cmp q.pos 0) (slice_cmp nat_cmp q.word w) (nat_cmp q.score FACET_SCORE))
-    ∙ ap (λ b. (eq_by_cmp (slice_cmp nat_cmp) q.word w && is_facet_row q d) || b) (any_facet q d ws)
-    ∙ or_gated (eq_by_cmp (slice_cmp nat_cmp) q.word w) (list_any (eq_by_cmp (slice_cmp nat_cmp) q.word) ws) (is_facet_row q d)
-
-any_listed : (q : Row) (d : ℕ) (doc : Doc) → list_any (eq_by_cmp by_row q) (facets d doc) ≡ list_any (eq_by_cmp by_row q) (facet_rows SCORES d doc)
-any_listed q d doc =
-    any_facet q d (listed_facets doc.facets)
-    ∙ ap (λ b. b && is_facet_row q d) (is_member-listed (slice_cmp nat_cmp) nat_list_cmp_total (facet_words doc.facets) q.word)
-    ∙ sym (any_facet q d (facet_words doc.facets))
-
-any_doc : (q : Row) (d : ℕ) (doc : Doc) → list_any (eq_by_cmp by_row q) (listed_doc (d, doc)) ≡ list_any (eq_by_cmp by_row q) (doc_rows SCORES (d, doc))
-any_doc q d doc =
-    let front : list_any (eq_by_cmp by_row q) (facets d doc ++ title_rows SCORES d doc) ≡ list_any (eq_by_cmp by_row q) (facet_rows SCORES d doc ++ title_rows SCORES d doc) =
-    list_any-append (eq_by_cmp by_row q) (facets d doc) (title_rows SCORES d doc)
-    ∙ ap (λ b. b || list_any (eq_by_cmp by_row q) (title_rows SCORES d doc)) (any_listed q d doc)
-    ∙ sym (list_any-append (eq_by_cmp by_row q) (facet_rows SCORES d doc) (title_rows SCORES d doc)) in
-    list_any-append (eq_by_cmp by_row q) (facets d doc ++ title_rows SCORES d doc) (text_rows SCORES d doc)
-    ∙ ap (λ b. b || list_any (eq_by_cmp by_row q) (text_rows SCORES d doc)) front
-    ∙ sym (list_any-append (eq_by_cmp by_row q) (facet_rows SCORES d doc ++ title_rows SCORES d doc) (text_rows SCORES d doc))
-
-any_row : (q : Row) (d : ℕ) (docs : List Doc) → list_any (eq_by_cmp by_row q) (listed_rows d docs) ≡ list_any (eq_by_cmp by_row q) (flat_map (doc_rows SCORES) (enumerate_from d docs))
-any_row q d [] = refl
-any_row q d (doc ∷ docs) =
-    list_any-append (eq_by_cmp by_row q) (listed_doc (d, doc)) (listed_rows (d + 1) docs)
-    ∙ ap (λ b. b || list_any (eq_by_cmp by_row q) (listed_rows (d + 1) docs)) (any_doc q d doc)
-    ∙ ap (λ b. list_any (eq_by_cmp by_row q) (doc_rows SCORES (d, doc)) || b) (any_row q (d + 1) docs)
-    ∙ sym (list_any-append (eq_by_cmp by_row q) (doc_rows SCORES (d, doc)) (flat_map (doc_rows SCORES) (enumerate_from (d + 1) docs)))
-
--- the rows of documents are their listing
-pub rows_listed : (docs : List Doc) → listed_rows 0 docs ≡ rows_of docs
-rows_listed docs = members_are by_row by_row_total by_row_exact (listed_rows 0 docs) (flat_map (doc_rows SCORES) (enumerate_from 0 docs)) (sorted-rows 0 docs) (λ q. any_row q 0 docs)
-
--- no two rows of documents have one document, position and word
-pub spots-rise : (docs : List Doc) → IsStrictlySortedBy by_spot (rows_of docs)
-spots-rise docs = subst (IsStrictlySortedBy by_spot) (rows_listed docs) (sorted-spots 0 docs)
-
-below_docs : (d n : ℕ) (docs : List Doc) → d + length docs ≤ n → AllByRecursion (λ r. r.doc < n) (listed_rows d docs)
-below_docs d n [] h = tt
-below_docs d n (doc ∷ docs) h =
-    all-append (λ r. r.doc < n) (listed_doc (d, doc)) (listed_rows (d + 1) docs)
-    (all_then (λ r. r.doc ≡ d) (λ r. r.doc < n) (λ r p. omega (arith, p)) (listed_doc (d, doc)) (of_doc d doc))
-    (below_docs (d + 1) n docs (omega arith))
-
--- the rows of documents are in documents
-pub docs-below : (docs : List Doc) → AllByRecursion (λ r. r.doc < length docs) (rows_of docs)
-docs-below docs = subst (AllByRecursion (λ r. r.doc < length docs)) (rows_listed docs) (below_docs 0 (length docs) docs (omega arith))
-
--- ---- document after document
-
-pub listed_next : (docs : List Doc) (i : ℕ) (doc : Doc) → i < length docs → doc ≡ get_or docs i doc → listed_rows i (drop i docs) ≡ listed_doc (i, doc) ++ listed_rows (i + 1) (drop (i + 1) docs)
-listed_next docs i doc l e =
-    ap (listed_rows i) (drop-cons docs i doc l ∙ ap (λ n. get_or docs i doc ∷ drop n docs) (sym (add-one i)) ∙ ap (λ x. x ∷ drop (i + 1) docs) (sym e))
-
 nothing_sorted : {X : Type 0} (R : X → X → Ordering) → IsStrictlySortedBy R []
 unfolding IsStrictlySortedBy
 nothing_sorted R = tt
@@ -239,21 +160,103 @@ nothing_sorted R = tt
 no_facets : listed_facets [] ≡ []
 no_facets = sym (members_are (slice_cmp nat_cmp) nat_list_cmp_total exact_bytes [] [] (nothing_sorted (slice_cmp nat_cmp)) (λ q. refl))
 
--- one more document
-pub next_rows : (docs : List Doc) (i : ℕ) (doc : Doc) (rows new : List Row) → i < length docs → doc ≡ get_or docs i doc → new ≡ rows ++ listed_doc (i, doc) → listed_rows 0 docs ≡ rows ++ listed_rows i (drop i docs)
-    → listed_rows 0 docs ≡ new ++ listed_rows (i + 1) (drop (i + 1) docs)
-next_rows docs i doc rows new l e n told =
-    told ∙ ap (λ r. rows ++ r) (listed_next docs i doc l e)
-    ∙ sym (append_assoc rows (listed_doc (i, doc)) (listed_rows (i + 1) (drop (i + 1) docs)))
-    ∙ ap (λ r. r ++ listed_rows (i + 1) (drop (i + 1) docs)) (sym n)
+-- ---- all documents, under the weights w
 
--- all documents
-pub last_rows : (docs : List Doc) (i : ℕ) (rows : List Row) → length docs ≤ i → listed_rows 0 docs ≡ rows ++ listed_rows i (drop i docs) → rows ≡ rows_of docs
-last_rows docs i rows l told = sym (append-nil rows) ∙ ap (λ ds. rows ++ listed_rows i ds) (sym (drop_all i docs l)) ∙ sym told ∙ rows_listed docs
+module _ (w : Weights) where
+  from_docs : (d : ℕ) (docs : List Doc) → AllByRecursion (λ r. d ≤ r.doc) (listed_rows w d docs)
+  from_docs d [] = tt
+  from_docs d (doc ∷ docs) =
+      all-append (λ r. d ≤ r.doc) (listed_doc w (d, doc)) (listed_rows w (d + 1) docs)
+      (all_then (λ r. r.doc ≡ d) (λ r. d ≤ r.doc) (λ r p. omega (arith, p)) (listed_doc w (d, doc)) (of_doc w d doc))
+      (all_then (λ r. d + 1 ≤ r.doc) (λ r. d ≤ r.doc) (λ r p. omega (arith, p)) (listed_rows w (d + 1) docs) (from_docs (d + 1) docs))
 
--- a document that has a title alone
-pub listed_title : (d : ℕ) (doc : Doc) → doc.facets ≡ [] → doc.text ≡ [] → listed_doc (d, doc) ≡ title_rows SCORES d doc
-listed_title d doc f t =
-    ap (λ ws. map (λ w. placed d FACET_SCORE (0, w)) ws ++ title_rows SCORES d doc ++ text_rows SCORES d doc) (ap listed_facets f ∙ no_facets)
-    ∙ ap (λ ws. title_rows SCORES d doc ++ map (placed d TEXT_SCORE) (enumerate_from (length (words doc.title) + BEHIND_TITLE) ws)) (ap words t ∙ no_words)
-    ∙ append-nil (title_rows SCORES d doc)
+  sorted-spots : (d : ℕ) (docs : List Doc) → IsStrictlySortedBy by_spot (listed_rows w d docs)
+  unfolding IsStrictlySortedBy
+  sorted-spots d [] = tt
+  sorted-spots d (doc ∷ docs) =
+      sorted-append by_spot (listed_doc w (d, doc)) (listed_rows w (d + 1) docs) (sorted-doc w d doc) (sorted-spots (d + 1) docs)
+      (below-from by_spot (λ r. r.doc ≡ d) (λ s. d + 1 ≤ s.doc) (λ r s p q. earlier_doc r s (omega (arith, p, q))) (listed_doc w (d, doc)) (listed_rows w (d + 1) docs) (of_doc w d doc) (from_docs (d + 1) docs))
+
+  sorted-rows : (d : ℕ) (docs : List Doc) → IsStrictlySortedBy by_row (listed_rows w d docs)
+  sorted-rows d docs = rows_up (listed_rows w d docs) (sorted-spots d docs)
+
+  -- ---- the same rows
+
+  -- whether q is the row of a facet word in document d, its word aside
+  abbrev is_facet_row : Row → ℕ → Bool
+  is_facet_row q d = is_eq (ordering_then (nat_cmp q.doc d) (ordering_then (nat_cmp q.pos 0) (nat_cmp q.score w.facet)))
+
+  any_facet : (q : Row) (d : ℕ) (ws : List (List ℕ)) → list_any (eq_by_cmp by_row q) (map (λ x. placed d w.facet (0, x)) ws) ≡ (list_any (eq_by_cmp (slice_cmp nat_cmp) q.word) ws && is_facet_row q d)
+  any_facet q d [] = refl
+  any_facet q d (v ∷ ws) =
+      ap (λ b. b || list_any (eq_by_cmp by_row q) (map (λ x. placed d w.facet (0, x)) ws)) (gate (nat_cmp q.doc d) (nat_cmp q.pos 0) (slice_cmp nat_cmp q.word v) (nat_cmp q.score w.facet))
+      ∙ ap (λ b. (eq_by_cmp (slice_cmp nat_cmp) q.word v && is_facet_row q d) || b) (any_facet q d ws)
+      ∙ or_gated (eq_by_cmp (slice_cmp nat_cmp) q.word v) (list_any (eq_by_cmp (slice_cmp nat_cmp) q.word) ws) (is_facet_row q d)
+
+  any_listed : (q : Row) (d : ℕ) (doc : Doc) → list_any (eq_by_cmp by_row q) (facets w d doc) ≡ list_any (eq_by_cmp by_row q) (facet_rows w d doc)
+  any_listed q d doc =
+      any_facet q d (listed_facets doc.facets)
+      ∙ ap (λ b. b && is_facet_row q d) (is_member-listed (slice_cmp nat_cmp) nat_list_cmp_total (facet_words doc.facets) q.word)
+      ∙ sym (any_facet q d (facet_words doc.facets))
+
+  any_doc : (q : Row) (d : ℕ) (doc : Doc) → list_any (eq_by_cmp by_row q) (listed_doc w (d, doc)) ≡ list_any (eq_by_cmp by_row q) (doc_rows w (d, doc))
+  any_doc q d doc =
+      let front : list_any (eq_by_cmp by_row q) (facets w d doc ++ title_rows w d doc) ≡ list_any (eq_by_cmp by_row q) (facet_rows w d doc ++ title_rows w d doc) =
+      list_any-append (eq_by_cmp by_row q) (facets w d doc) (title_rows w d doc)
+      ∙ ap (λ b. b || list_any (eq_by_cmp by_row q) (title_rows w d doc)) (any_listed q d doc)
+      ∙ sym (list_any-append (eq_by_cmp by_row q) (facet_rows w d doc) (title_rows w d doc)) in
+      list_any-append (eq_by_cmp by_row q) (facets w d doc ++ title_rows w d doc) (text_rows w d doc)
+      ∙ ap (λ b. b || list_any (eq_by_cmp by_row q) (text_rows w d doc)) front
+      ∙ sym (list_any-append (eq_by_cmp by_row q) (facet_rows w d doc ++ title_rows w d doc) (text_rows w d doc))
+
+  any_row : (q : Row) (d : ℕ) (docs : List Doc) → list_any (eq_by_cmp by_row q) (listed_rows w d docs) ≡ list_any (eq_by_cmp by_row q) (flat_map (doc_rows w) (enumerate_from d docs))
+  any_row q d [] = refl
+  any_row q d (doc ∷ docs) =
+      list_any-append (eq_by_cmp by_row q) (listed_doc w (d, doc)) (listed_rows w (d + 1) docs)
+      ∙ ap (λ b. b || list_any (eq_by_cmp by_row q) (listed_rows w (d + 1) docs)) (any_doc q d doc)
+      ∙ ap (λ b. list_any (eq_by_cmp by_row q) (doc_rows w (d, doc)) || b) (any_row q (d + 1) docs)
+      ∙ sym (list_any-append (eq_by_cmp by_row q) (doc_rows w (d, doc)) (flat_map (doc_rows w) (enumerate_from (d + 1) docs)))
+
+  -- the rows of documents are their listing
+  pub rows_listed : (docs : List Doc) → listed_rows w 0 docs ≡ rows_of w docs
+  rows_listed docs = members_are by_row by_row_total by_row_exact (listed_rows w 0 docs) (flat_map (doc_rows w) (enumerate_from 0 docs)) (sorted-rows 0 docs) (λ q. any_row q 0 docs)
+
+  -- no two rows of documents have one document, position and word
+  pub spots-rise : (docs : List Doc) → IsStrictlySortedBy by_spot (rows_of w docs)
+  spots-rise docs = subst (IsStrictlySortedBy by_spot) (rows_listed docs) (sorted-spots 0 docs)
+
+  below_docs : (d n : ℕ) (docs : List Doc) → d + length docs ≤ n → AllByRecursion (λ r. r.doc < n) (listed_rows w d docs)
+  below_docs d n [] h = tt
+  below_docs d n (doc ∷ docs) h =
+      all-append (λ r. r.doc < n) (listed_doc w (d, doc)) (listed_rows w (d + 1) docs)
+      (all_then (λ r. r.doc ≡ d) (λ r. r.doc < n) (λ r p. omega (arith, p)) (listed_doc w (d, doc)) (of_doc w d doc))
+      (below_docs (d + 1) n docs (omega arith))
+
+  -- the rows of documents are in documents
+  pub docs-below : (docs : List Doc) → AllByRecursion (λ r. r.doc < length docs) (rows_of w docs)
+  docs-below docs = subst (AllByRecursion (λ r. r.doc < length docs)) (rows_listed docs) (below_docs 0 (length docs) docs (omega arith))
+
+  -- ---- document after document
+
+  pub listed_next : (docs : List Doc) (i : ℕ) (doc : Doc) → i < length docs → doc ≡ get_or docs i doc → listed_rows w i (drop i docs) ≡ listed_doc w (i, doc) ++ listed_rows w (i + 1) (drop (i + 1) docs)
+  listed_next docs i doc l e =
+      ap (listed_rows w i) (drop-cons docs i doc l ∙ ap (λ n. get_or docs i doc ∷ drop n docs) (sym (add-one i)) ∙ ap (λ x. x ∷ drop (i + 1) docs) (sym e))
+
+  -- one more document
+  pub next_rows : (docs : List Doc) (i : ℕ) (doc : Doc) (rows new : List Row) → i < length docs → doc ≡ get_or docs i doc → new ≡ rows ++ listed_doc w (i, doc) → listed_rows w 0 docs ≡ rows ++ listed_rows w i (drop i docs)
+      → listed_rows w 0 docs ≡ new ++ listed_rows w (i + 1) (drop (i + 1) docs)
+  next_rows docs i doc rows new l e n told =
+      told ∙ ap (λ r. rows ++ r) (listed_next docs i doc l e)
+      ∙ sym (append_assoc rows (listed_doc w (i, doc)) (listed_rows w (i + 1) (drop (i + 1) docs)))
+      ∙ ap (λ r. r ++ listed_rows w (i + 1) (drop (i + 1) docs)) (sym n)
+
+  -- all documents
+  pub last_rows : (docs : List Doc) (i : ℕ) (rows : List Row) → length docs ≤ i → listed_rows w 0 docs ≡ rows ++ listed_rows w i (drop i docs) → rows ≡ rows_of w docs
+  last_rows docs i rows l told = sym (append-nil rows) ∙ ap (λ ds. rows ++ listed_rows w i ds) (sym (drop_all i docs l)) ∙ sym told ∙ rows_listed docs
+
+  -- a document that has a title alone
+  pub listed_title : (d : ℕ) (doc : Doc) → doc.facets ≡ [] → doc.text ≡ [] → listed_doc w (d, doc) ≡ title_rows w d doc
+  listed_title d doc f t =
+      ap (λ ws. map (λ x. placed d w.facet (0, x)) ws ++ title_rows w d doc ++ text_rows w d doc) (ap listed_facets f ∙ no_facets)
+      ∙ ap (λ ws. title_rows w d doc ++ map (placed d w.text) (enumerate_from (length (words doc.title) + BEHIND_TITLE) ws)) (ap words t ∙ no_words)
+      ∙ append-nil (title_rows w d doc)

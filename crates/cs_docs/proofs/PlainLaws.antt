@@ -1,4 +1,5 @@
--- No line of a plain collection is refused, each that has bytes is a title, and the rows are those of titles.
+-- No line of a plain collection is refused but its weights line, each other one that has bytes is a title, and the rows are
+-- those of titles.
 use Rattle.std.proofs.Common.{◌≡◌, ℕ, ◌+◌, ◌<◌, ◌≤◌, Bool, true, false, cond, nat_le, nat_lt, List, [], ◌∷◌, ◌++◌, length, map, filter, refl, sym, ap, ◌∙◌, arith}
 use Rattle.std.specs.Prelude.{None}
 use Rattle.std.specs.List.{AllByRecursion, flat_map, enumerate_from}
@@ -8,17 +9,19 @@ use Rattle.std.proofs.lemmas.Bool.{le-leb}
 use Rattle.std.proofs.lemmas.Bool.Decides.{nat_tests}
 use Rattle.std.proofs.lemmas.Str.{IsUtf8-from_ascii, is_utf8-from_IsUtf8}
 use Rattle.cs_base.specs.declared.content.doc.Doc.{Doc}
-use Rattle.cs_base.specs.declared.content.limits.TheConstants.{MAX_COLLECTION_BYTES, MAX_LINE_BYTES, MAX_DOC_WORDS, MAX_DOCS}
-use Rattle.cs_model.specs.Collection.{is_plain, is_plain_byte, documents, document, doc_lines, doc_line, docs_refusal, line_refusal, piece_refusal, facet_pieces, columns, word_count, DocLine}
+use Rattle.cs_base.specs.declared.content.scores.Weights.{Weights}
+use Rattle.cs_base.specs.declared.content.limits.TheConstants.{MAX_LINE_BYTES, MAX_DOC_WORDS, MAX_DOCS}
+use Rattle.cs_model.specs.Collection.{is_plain, is_plain_byte, documents, document, doc_lines, doc_line, docs_refusal, line_refusal, weights_lines, weights_refusal, piece_refusal, facet_pieces, columns, word_count, DocLine}
 use Rattle.cs_model.specs.Corpus.{rows_of, title_rows}
 use Rattle.cs_model.specs.Words.{is_filled, words}
 use Rattle.cs_model.specs.First.{first_reason}
-use Rattle.cs_model.specs.Scores.{SCORES}
 use Rattle.cs_docs.specs.Listing.{listed_rows}
 use Rattle.cs_docs.specs.LinesRead.{doc_lines_from, documents_from, title_only}
 use Rattle.cs_docs.specs.FaultRefusals.{refusal_from}
 use Rattle.cs_docs.proofs.ListingLemmas.{rows_listed, listed_title}
-use Rattle.cs_docs.proofs.PlainLemmas.{plain_documents, titles_of_plain, IsPart, AreParts, IsTitleOnly, IsTitleOnly-line, IsAscii-plain, title_of-line, few_words, no_words, plain_lines, plain_length, plain_parts, unmarked, length_of_lines}
+use Rattle.cs_docs.proofs.LinesLemmas.{first-append_none, small_refusal}
+use Rattle.cs_docs.proofs.WeightsLemmas.{lines_behind, length-behind}
+use Rattle.cs_docs.proofs.PlainLemmas.{plain_doc_lines, plain_lines_behind, titles_of_plain, IsPart, AreParts, IsTitleOnly, IsTitleOnly-line, IsAscii-plain, title_of-line, few_words, no_words, plain_length, length_of_lines}
 
 accepted_line : (l : DocLine) → IsPart is_plain_byte 65536 l.bytes → l.doc < MAX_DOCS → line_refusal l ≡ None
 accepted_line l h below =
@@ -57,18 +60,21 @@ titles : (d n : ℕ) (ls : List (List ℕ)) → AreParts is_plain_byte 65536 ls 
 titles d n [] h = refl
 titles d n (l ∷ ls) h = titles_at (is_filled l) d n l ls h.0 (λ e. titles e (n + 1) ls h.1)
 
-pub plain_accepted : (c : List ℕ) → is_plain c ≡ true → docs_refusal c ≡ None
-plain_accepted c h =
-    let short : nat_le (length c) MAX_COLLECTION_BYTES ≡ true = le-leb (length c) MAX_COLLECTION_BYTES (omega (arith, plain_length c h)) in
-    rw short (ap (λ b. refusal_from 0 1 (lines b)) (unmarked c (plain_parts c h)) ∙ accepted_lines 0 1 (lines c) (plain_lines c h) (omega (arith, length_of_lines c, plain_length c h)))
+documents_accepted : (c : List ℕ) → is_plain c ≡ true → first_reason (map line_refusal (doc_lines c)) ≡ None
+documents_accepted c h =
+    let behind = lines_behind (lines c) in
+    ap (λ ks. first_reason (map line_refusal ks)) (plain_doc_lines c h) ∙ accepted_lines 0 behind.0 behind.1 (plain_lines_behind c h) (omega (arith, length-behind (lines c), length_of_lines c, plain_length c h))
+
+pub plain_accepted : (c : List ℕ) → is_plain c ≡ true → docs_refusal c ≡ first_reason (map weights_refusal (weights_lines c))
+plain_accepted c h = small_refusal c (omega (arith, plain_length c h)) ∙ first-append_none (map weights_refusal (weights_lines c)) (map line_refusal (doc_lines c)) (documents_accepted c h)
 
 pub plain_titles : (c : List ℕ) → is_plain c ≡ true → documents c ≡ map title_only (doc_lines c)
-plain_titles c h = plain_documents c h ∙ titles 0 1 (lines c) (plain_lines c h) ∙ ap (λ b. map title_only (doc_lines_from 0 1 (lines b))) (sym (unmarked c (plain_parts c h)))
+plain_titles c h = ap (map document) (plain_doc_lines c h) ∙ titles 0 _ _ (plain_lines_behind c h) ∙ ap (map title_only) (sym (plain_doc_lines c h))
 
-title_rows_of : (d : ℕ) (docs : List Doc) → AllByRecursion IsTitleOnly docs → listed_rows d docs ≡ flat_map (λ p. title_rows SCORES p.0 p.1) (enumerate_from d docs)
-title_rows_of d [] h = refl
-title_rows_of d (doc ∷ docs) h =
-    ap (λ rows. rows ++ listed_rows (d + 1) docs) (listed_title d doc h.0.no_facets h.0.no_text) ∙ ap (λ rows. title_rows SCORES d doc ++ rows) (title_rows_of (d + 1) docs h.1)
+title_rows_of : (w : Weights) (d : ℕ) (docs : List Doc) → AllByRecursion IsTitleOnly docs → listed_rows w d docs ≡ flat_map (λ p. title_rows w p.0 p.1) (enumerate_from d docs)
+title_rows_of w d [] h = refl
+title_rows_of w d (doc ∷ docs) h =
+    ap (λ rows. rows ++ listed_rows w (d + 1) docs) (listed_title w d doc h.0.no_facets h.0.no_text) ∙ ap (λ rows. title_rows w d doc ++ rows) (title_rows_of w (d + 1) docs h.1)
 
-pub plain_rows : (c : List ℕ) → is_plain c ≡ true → rows_of (documents c) ≡ flat_map (λ p. title_rows SCORES p.0 p.1) (enumerate_from 0 (documents c))
-plain_rows c h = sym (rows_listed (documents c)) ∙ title_rows_of 0 (documents c) (titles_of_plain c h)
+pub plain_rows : (c : List ℕ) (w : Weights) → is_plain c ≡ true → rows_of w (documents c) ≡ flat_map (λ p. title_rows w p.0 p.1) (enumerate_from 0 (documents c))
+plain_rows c w h = sym (rows_listed w (documents c)) ∙ title_rows_of w 0 (documents c) (titles_of_plain c h)

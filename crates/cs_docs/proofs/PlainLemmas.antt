@@ -15,10 +15,12 @@ use Rattle.std.proofs.lemmas.Str.Ascii.{IsAscii-from_all, IsAscii-nil}
 use Rattle.cs_base.specs.declared.content.doc.Doc.{Doc}
 use Rattle.cs_base.specs.declared.content.limits.TheConstants.{MAX_PLAIN_WORD_BYTES}
 use Rattle.cs_model.specs.Ascii.{is_ascii_gap, ascii_norm}
-use Rattle.cs_model.specs.Collection.{is_plain, is_plain_byte, without_mark, is_tab, document, documents, doc_line, DocLine}
+use Rattle.cs_model.specs.Collection.{is_plain, is_plain_byte, without_mark, is_tab, document, documents, doc_line, doc_lines, DocLine}
+use Rattle.cs_model.specs.Weights.{names_weights}
 use Rattle.cs_model.specs.Words.{is_filled, words}
 use Rattle.cs_model.proofs.AsciiLemmas.{words-ascii}
-use Rattle.cs_docs.specs.LinesRead.{documents_from}
+use Rattle.cs_docs.specs.LinesRead.{doc_lines_from, doc_lines_of, documents_from}
+use Rattle.cs_docs.proofs.WeightsLemmas.{lines_behind, lines_where, docs-behind, length-behind}
 
 -- ---- parts of a text: each byte passes what all of them pass, and none is longer than the whole
 
@@ -168,11 +170,24 @@ length_lines_of (l ∷ m ∷ ls) = omega (arith, length_lines_of (m ∷ ls))
 pub length_of_lines : (c : List ℕ) → length (lines c) ≤ length c + 1
 length_of_lines c = omega (arith, length_lines_of (slice_split (λ b. b == 10) c), length-slice_split (λ b. b == 10) c, count_by-le-length (λ b. b == 10) c)
 
-pub length_documents_of_lines : (c : List ℕ) → length (documents_from 0 1 (lines c)) ≤ length c + 1
-length_documents_of_lines c = omega (arith, length_documents 0 1 (lines c), length_of_lines c)
+pub length_documents_of_lines : (c : List ℕ) → length (map document (doc_lines_of (lines c))) ≤ length c + 1
+length_documents_of_lines c =
+    let behind = lines_behind (lines c) in
+    omega (arith, ap (λ ks. length (map document ks)) (docs-behind (lines c)), length_documents 0 behind.0 behind.1, length-behind (lines c), length_of_lines c)
 
-pub plain_documents : (c : List ℕ) → is_plain c ≡ true → documents c ≡ documents_from 0 1 (lines c)
-plain_documents c h = ap (λ b. documents_from 0 1 (lines b)) (unmarked c (plain_parts c h))
+pub plain_doc_lines : (c : List ℕ) → is_plain c ≡ true → doc_lines c ≡ doc_lines_from 0 (lines_behind (lines c)).0 (lines_behind (lines c)).1
+plain_doc_lines c h = ap (λ b. doc_lines_of (lines b)) (unmarked c (plain_parts c h)) ∙ docs-behind (lines c)
+
+AreParts-behind : (q : ℕ → Bool) (n : ℕ) (ls : List (List ℕ)) → AreParts q n ls → AreParts q n (lines_behind ls).1
+AreParts-behind q n [] h = tt
+AreParts-behind q n (l ∷ ls) h = at (names_weights l)
+  where
+    at : (b : Bool) → AreParts q n (lines_where b l ls).1
+    at true = h.1
+    at false = h
+
+pub plain_lines_behind : (c : List ℕ) → is_plain c ≡ true → AreParts is_plain_byte 65536 (lines_behind (lines c)).1
+plain_lines_behind c h = AreParts-behind is_plain_byte 65536 (lines c) (plain_lines c h)
 
 -- ---- words of ASCII text
 
@@ -209,7 +224,7 @@ few_words s h =
 -- ---- the documents of a plain collection
 
 pub titles_of_plain : (c : List ℕ) → is_plain c ≡ true → AllByRecursion IsTitleOnly (documents c)
-titles_of_plain c h = subst (AllByRecursion IsTitleOnly) (sym (plain_documents c h)) (titles_only 0 1 (lines c) (plain_lines c h))
+titles_of_plain c h = subst (AllByRecursion IsTitleOnly) (sym (ap (map document) (plain_doc_lines c h))) (titles_only 0 _ _ (plain_lines_behind c h))
 
 pub no_words : words [] ≡ []
 no_words = words-ascii [] IsAscii-nil

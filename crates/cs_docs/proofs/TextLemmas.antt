@@ -16,12 +16,11 @@ use Rattle.std.proofs.lemmas.Bool.{or_left, or_right}
 use Rattle.std.proofs.lemmas.Cmp.{tied_itself}
 use Rattle.cs_base.specs.content.Members.{members_in}
 use Rattle.cs_base.specs.declared.content.doc.Doc.{Doc}
-use Rattle.cs_base.specs.declared.content.scores.TheConstants.{TITLE_SCORE, FACET_SCORE, TEXT_SCORE}
+use Rattle.cs_base.specs.declared.content.scores.Weights.{Weights}
 use Rattle.cs_base.proofs.MembersLemmas.{is_member-listed}
 use Rattle.cs_model.specs.Collection.{named}
 use Rattle.cs_model.specs.Corpus.{placed, title_rows, text_rows}
 use Rattle.cs_model.specs.Words.{words}
-use Rattle.cs_model.specs.Scores.{SCORES}
 use Rattle.cs_docs.specs.Listing.{listed_facets, listed_doc, HasUtf8Word}
 
 -- in a total order each thing ties with itself
@@ -48,18 +47,18 @@ placed_text : (d score : ℕ) (n : ℕ) (ws : List (List ℕ)) → AllByRecursio
 placed_text d score n [] h = tt
 placed_text d score n (w ∷ ws) h = (h.0, placed_text d score (n + 1) ws h.1)
 
-facets_text : (d : ℕ) (ws : List (List ℕ)) → AllByRecursion IsUtf8 ws → AllByRecursion HasUtf8Word (map (λ w. placed d FACET_SCORE (0, w)) ws)
-facets_text d [] h = tt
-facets_text d (w ∷ ws) h = (h.0, facets_text d ws h.1)
+facets_text : (d score : ℕ) (ws : List (List ℕ)) → AllByRecursion IsUtf8 ws → AllByRecursion HasUtf8Word (map (λ x. placed d score (0, x)) ws)
+facets_text d score [] h = tt
+facets_text d score (x ∷ ws) h = (h.0, facets_text d score ws h.1)
 
-pub text_of_doc : (d : ℕ) (doc : Doc) → All IsUtf8 (listed_facets doc.facets) → All IsUtf8 (words doc.title) → All IsUtf8 (words doc.text) → All HasUtf8Word (listed_doc (d, doc))
-text_of_doc d doc facets title text =
-    let facet_rows = map (λ w. placed d FACET_SCORE (0, w)) (listed_facets doc.facets) in
-    All-append HasUtf8Word (facet_rows ++ title_rows SCORES d doc) (text_rows SCORES d doc)
-    (All-append HasUtf8Word facet_rows (title_rows SCORES d doc)
-    (All-from_recursion HasUtf8Word facet_rows (facets_text d (listed_facets doc.facets) (recursion_from_All IsUtf8 (listed_facets doc.facets) facets)))
-    (All-from_recursion HasUtf8Word (title_rows SCORES d doc) (placed_text d TITLE_SCORE 1 (words doc.title) (recursion_from_All IsUtf8 (words doc.title) title))))
-    (All-from_recursion HasUtf8Word (text_rows SCORES d doc) (placed_text d TEXT_SCORE _ (words doc.text) (recursion_from_All IsUtf8 (words doc.text) text)))
+pub text_of_doc : (w : Weights) (d : ℕ) (doc : Doc) → All IsUtf8 (listed_facets doc.facets) → All IsUtf8 (words doc.title) → All IsUtf8 (words doc.text) → All HasUtf8Word (listed_doc w (d, doc))
+text_of_doc w d doc facets title text =
+    let facet_rows = map (λ x. placed d w.facet (0, x)) (listed_facets doc.facets) in
+    All-append HasUtf8Word (facet_rows ++ title_rows w d doc) (text_rows w d doc)
+    (All-append HasUtf8Word facet_rows (title_rows w d doc)
+    (All-from_recursion HasUtf8Word facet_rows (facets_text d w.facet (listed_facets doc.facets) (recursion_from_All IsUtf8 (listed_facets doc.facets) facets)))
+    (All-from_recursion HasUtf8Word (title_rows w d doc) (placed_text d w.title 1 (words doc.title) (recursion_from_All IsUtf8 (words doc.title) title))))
+    (All-from_recursion HasUtf8Word (text_rows w d doc) (placed_text d w.text _ (words doc.text) (recursion_from_All IsUtf8 (words doc.text) text)))
 
 pub named_text : (name value : List ℕ) → IsUtf8 name → IsUtf8 value → IsUtf8 (named name value)
 named_text name value n v =

@@ -6,20 +6,22 @@
 --   reason_text r        a reason as it is said
 --   IsCauseOf r e        the refusal r, if there is one, is the one that e names; want of memory has no cause
 --   refusal_from d n ls  the first refusal of lines that begin at line n, where d documents stand before them
+--   front_refusal ls     the refusal of the weights line of lines that begin at line 1
 use Rattle.std.specs.Prelude.{◌≡◌, ℕ, List, Option, Some, None, map, MatchOption}
-use Rattle.cs_model.specs.Collection.{CollectionRefusal, too_large, not_utf8, line_too_long, words_too_many, bad_facet, bad_name, too_many_docs, too_many_rows, line_refusal, in_line}
+use Rattle.cs_model.specs.Collection.{CollectionRefusal, too_large, not_utf8, line_too_long, bad_weights, words_too_many, bad_facet, bad_name, too_many_docs, too_many_rows, line_refusal, weights_refusal, in_line}
 use Rattle.cs_model.specs.First.{first_reason}
 use Rattle.cs_docs.specs.declared.fault.DocFault.{DocFault}
-use Rattle.cs_docs.specs.declared.fault.DocFault.TheVariants.{TooLarge, NotUtf8, LineTooLong, WordsTooMany, BadFacet, BadName, TooManyDocs, Memory}
+use Rattle.cs_docs.specs.declared.fault.DocFault.TheVariants.{TooLarge, NotUtf8, LineTooLong, BadWeights, WordsTooMany, BadFacet, BadName, TooManyDocs, Memory}
 use Rattle.cs_docs.specs.declared.fault.RowsFault.{RowsFault}
 use Rattle.cs_docs.specs.declared.fault.RowsFault.TheVariants as rows
 use Rattle.cs_docs.specs.declared.fault.Reason.{Reason}
-use Rattle.cs_docs.specs.LinesRead.{doc_lines_from}
+use Rattle.cs_docs.specs.LinesRead.{doc_lines_from, weights_lines_of}
 
 abbrev pub refusal_of : DocFault → Option CollectionRefusal
 refusal_of TooLarge = Some too_large
 refusal_of (NotUtf8 n) = Some (not_utf8 n)
 refusal_of (LineTooLong n) = Some (line_too_long n)
+refusal_of (BadWeights n) = Some (bad_weights n)
 refusal_of (WordsTooMany n) = Some (words_too_many n)
 refusal_of (BadFacet n) = Some (bad_facet n)
 refusal_of (BadName n) = Some (bad_name n)
@@ -44,3 +46,7 @@ IsCauseOf r e = MatchOption (refusal_of e) (Unit {0}) (λ x. r ≡ Some x)
 -- None where no line is refused
 abbrev pub refusal_from : ℕ → ℕ → List (List ℕ) → Option CollectionRefusal
 refusal_from d n ls = first_reason (map line_refusal (doc_lines_from d n ls))
+
+-- None where they have no weights line, or one that says weights
+abbrev pub front_refusal : List (List ℕ) → Option CollectionRefusal
+front_refusal ls = first_reason (map weights_refusal (weights_lines_of ls))

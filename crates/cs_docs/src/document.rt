@@ -89,8 +89,8 @@ fn document_of<'a>(
     })
 }
 
-// The line as text, if it is one and not too long.
-fn text_of(line: &[u8], number: u32) -> Result<&str, DocFault>
+/// The line as text, if it is one and not too long.
+pub(crate) fn text_of(line: &[u8], number: u32) -> Result<&str, DocFault>
     ensures ok { IfOk result (λ s. s.now ≡ line.now) }
     ensures accepted { OnOk result ((is_utf8 line.now ≡ true) × (nat_le (length line.now) MAX_LINE_BYTES ≡ true)) }
     ensures err { IfErr result (λ e. IsCauseOf (first_reason (unless (is_utf8 line.now) (not_utf8 number) ∷ unless (nat_le (length line.now) MAX_LINE_BYTES) (line_too_long number) ∷ [])) e) }

@@ -27,6 +27,12 @@ pub enum DocFault {
         /// The line's number.
         line: u32,
     },
+    /// The line names weights, and says none: it isn't `#weights title=A facet=B text=C` with three weights.
+    #[error("line {line}: bad weights")]
+    BadWeights {
+        /// The line's number, which is 1.
+        line: u32,
+    },
     /// The title and the text of the line have more than `MAX_DOC_WORDS` words together.
     #[error("line {line}: too many words")]
     WordsTooMany {
@@ -85,6 +91,7 @@ impl DocFault {
             DocFault::TooLarge => Some(of_whole(b"too large")),
             DocFault::NotUtf8 { line } => Some(of_line(line, b"not UTF-8")),
             DocFault::LineTooLong { line } => Some(of_line(line, b"line too long")),
+            DocFault::BadWeights { line } => Some(of_line(line, b"bad weights")),
             DocFault::WordsTooMany { line } => Some(of_line(line, b"too many words")),
             DocFault::BadFacet { line } => Some(of_line(line, b"bad facet")),
             DocFault::BadName { line } => Some(of_line(line, b"bad facet name")),

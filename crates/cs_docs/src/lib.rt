@@ -1,6 +1,7 @@
 //! Collections: the documents that the lines of a collection are, and the rows of their words.
 //!
-//! Callers see documents and rows as lists. What the calls mean stands in `specs/Collection.antt` and
+//! Callers see documents and rows as lists. The first line of a collection may say what rows count
+//! for. What the calls mean stands in `specs/Collection.antt`, `specs/Weights.antt` and
 //! `specs/Corpus.antt` of `cs_model`. Nothing here reads a file.
 #![tactic(auto)]
 
@@ -14,12 +15,13 @@ mod lone;
 mod pieces;
 mod reader;
 mod row_list;
+mod weights_line;
 
 pub use cs_base::Doc;
 pub use document::LentDoc;
 pub use facet::listed_facets;
 pub use fault::{DocFault, Reason, RowsFault};
-pub use lines::{BYTE_ORDER_MARK, first_end};
+pub use lines::{BYTE_ORDER_MARK, first_end, first_line, without_mark};
 pub use lone::lone_facet;
-pub use reader::{lent_docs, read_docs};
+pub use reader::{Collected, LentCollected, lent_docs, read_docs};
 pub use row_list::rows_of;

@@ -10,14 +10,14 @@ use memchr::memchr;
 pub const BYTE_ORDER_MARK: [u8; 3] = *b"\xEF\xBB\xBF";
 
 /// The bytes without the mark EF BB BF in front, if it is there.
-pub(crate) fn without_mark(bytes: &[u8]) -> &[u8]
+pub fn without_mark(bytes: &[u8]) -> &[u8]
     ensures { result.now ≡ without_mark bytes.now }
 {
     bytes.strip_prefix(&BYTE_ORDER_MARK).unwrap_or(bytes)
 }
 
 /// The first line of a text that has bytes, without its ending, and what stands behind that.
-pub(crate) fn first_line(text: &[u8]) -> (&[u8], &[u8])
+pub fn first_line(text: &[u8]) -> (&[u8], &[u8])
     requires { 0 < length text.now }
 
     ensures lines { lines text.now ≡ result.0.now ∷ lines result.1.now }

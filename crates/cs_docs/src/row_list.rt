@@ -10,30 +10,28 @@ ghost use Rattle.cs_docs.specs.FacetPieces.{AreNamed, CanBeListed};
 
 use crate::facet::listed_facets;
 use crate::fault::RowsFault;
-use cs_base::{
-    BEHIND_TITLE, Doc, FACET_SCORE, MAX_ROWS, Memory, Row, Seq, TEXT_SCORE, TITLE_SCORE,
-};
+use cs_base::{BEHIND_TITLE, Doc, MAX_ROWS, Memory, Row, Seq, Weights};
 use cs_text::words;
 use std::alloc::Global;
 
 /// The rows of documents that `read_docs` gave, by document, position and word.
 ///
-/// A title word has its place in the title as position, from 1, and `TITLE_SCORE`. Text words go on
-/// `BEHIND_TITLE` positions behind the last title word, with `TEXT_SCORE`. A facet word has the
-/// position 0 and `FACET_SCORE`, and counts once in a document.
+/// A title word has its place in the title as position, from 1. Text words go on `BEHIND_TITLE`
+/// positions behind the last title word. A facet word has the position 0, and counts once in a
+/// document. A row's score is the weight of its column.
 ///
 /// `TooManyRows` comes where there are more than `MAX_ROWS` of them.
-pub fn rows_of(alloc: Global, docs: &Seq<Doc>) -> Result<Seq<Row>, RowsFault>
+pub fn rows_of(alloc: Global, docs: &Seq<Doc>, weights: Weights) -> Result<Seq<Row>, RowsFault>
     requires read { (c : List ℕ) × (docs_refusal c ≡ None) × (docs.now ≡ documents c) }
 
-    ensures ok { IfOk result (λ rows. rows ≡ rows_of docs.now) }
-    ensures few { OnOk result (length (rows_of docs.now) ≤ MAX_ROWS) }
+    ensures ok { IfOk result (λ rows. rows ≡ rows_of weights docs.now) }
+    ensures few { OnOk result (length (rows_of weights docs.now) ≤ MAX_ROWS) }
     ensures utf8 { IfOk result (λ rows. All (λ r. IsUtf8 r.word) rows) }
-    ensures too_many { IsErrOf result RowsFault.TooManyRows → MAX_ROWS < length (rows_of docs.now) }
+    ensures too_many { IsErrOf result RowsFault.TooManyRows → MAX_ROWS < length (rows_of weights docs.now) }
 {
     let mut rows = Vec::new(alloc);
     for (number, doc) in docs.as_slice().iter().enumerate() {
-        add_rows(alloc, &mut rows, number as u32, doc)?;
+        add_rows(alloc, &mut rows, number as u32, doc, weights)?;
         if rows.len() > MAX_ROWS {
             return Err(RowsFault::TooManyRows);
         }
@@ -42,30 +40,42 @@ pub fn rows_of(alloc: Global, docs: &Seq<Doc>) -> Result<Seq<Row>, RowsFault>
 }
 
 // Adds the rows of a document that has this number, by position and word.
-fn add_rows(alloc: Global, rows: &mut Vec<Row>, number: u32, doc: &Doc) -> Result<(), Memory>
+fn add_rows(
+    alloc: Global,
+    rows: &mut Vec<Row>,
+    number: u32,
+    doc: &Doc,
+    weights: Weights,
+) -> Result<(), Memory>
     requires { CanBeListed doc.now }
 
-    ensures ok { OnOk result (rows.new.items ≡ rows.old.items ++ listed_doc (number, doc.now)) }
-    ensures utf8 { OnOk result (All HasUtf8Word (listed_doc (number, doc.now))) }
+    ensures ok { OnOk result (rows.new.items ≡ rows.old.items ++ listed_doc weights (number, doc.now)) }
+    ensures utf8 { OnOk result (All HasUtf8Word (listed_doc weights (number, doc.now))) }
 {
-    push_facets(alloc, rows, number, doc.facets.as_str())?;
-    let end = push_words(alloc, rows, number, doc.title.as_str(), 1, TITLE_SCORE)?;
+    push_facets(alloc, rows, number, doc.facets.as_str(), weights.facet)?;
+    let end = push_words(alloc, rows, number, doc.title.as_str(), 1, weights.title)?;
     push_words(
         alloc,
         rows,
         number,
         doc.text.as_str(),
         end - 1 + BEHIND_TITLE,
-        TEXT_SCORE,
+        weights.text,
     )?;
     Ok(())
 }
 
 // Adds a row for each facet word of a column, each once, by bytes.
-fn push_facets(alloc: Global, rows: &mut Vec<Row>, doc: u32, column: &str) -> Result<(), Memory>
+fn push_facets(
+    alloc: Global,
+    rows: &mut Vec<Row>,
+    doc: u32,
+    column: &str,
+    score: u8,
+) -> Result<(), Memory>
     requires { AreNamed (facet_pieces column.now) }
 
-    ensures ok { OnOk result (rows.new.items ≡ rows.old.items ++ map (λ w. placed doc FACET_SCORE (0, w)) (listed_facets column.now)) }
+    ensures ok { OnOk result (rows.new.items ≡ rows.old.items ++ map (λ w. placed doc score (0, w)) (listed_facets column.now)) }
     ensures utf8 { OnOk result (All IsUtf8 (listed_facets column.now)) }
 {
     for word in listed_facets(alloc, column)? {
@@ -73,7 +83,7 @@ fn push_facets(alloc: Global, rows: &mut Vec<Row>, doc: u32, column: &str) -> Re
             doc,
             word,
             pos: 0,
-            score: FACET_SCORE,
+            score,
         })?;
     }
     Ok(())

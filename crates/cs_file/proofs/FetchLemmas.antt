@@ -5,6 +5,7 @@
 --   title_within        a title's bytes lie before the blocks
 --   block_at, judged_at, told_within      what is known of a block's place and its head
 --   BlockRead, block_read, can_judge      what is known where a block's bytes were read
+--   block_of, block_stood      rows of these bytes
 --   read_there, fault_unchanged, fault_changed      clauses of a fetch, from that and from what its bytes break
 --   fault_along         of one that passes a fault on
 --   read_once           what is left of the store by a call that read once
@@ -21,13 +22,14 @@ use Rattle.std.proofs.lemmas.List.{get_or_default, take_all}
 use Rattle.std.proofs.lemmas.List.Sums.{sum_by_more_le}
 use Rattle.cs_base.specs.declared.index.block.BlockHead.{BlockHead}
 use Rattle.cs_base.specs.declared.index.block.Broken.{Broken}
+use Rattle.cs_base.specs.declared.content.scores.Weights.{Weights}
 use Rattle.cs_base.specs.outside.Outside.{part}
-use Rattle.cs_block.proofs.LawsLemmas.{unique}
-use Rattle.cs_model.specs.Scores.{SCORES}
+use Rattle.cs_model.specs.Weights.{AreWeights}
 use Rattle.cs_model_index.specs.BlockRules.{judged, IsBlock, broken_at, rows_read}
 use Rattle.cs_model_index.specs.FileRules.{in_file}
 use Rattle.cs_model_index.specs.Blocks.{IsShaped}
-use Rattle.cs_file.specs.CallAnswers.{IsChangeOfBlock, IsChangeOfTitle, LeavesStore, is_changed, is_read}
+use Rattle.cs_base.specs.declared.content.doc.Post.{Post}
+use Rattle.cs_file.specs.CallAnswers.{IsBlockOf, IsChangeOfBlock, IsChangeOfTitle, LeavesStore, is_changed, is_read}
 use Rattle.cs_file.specs.Fetching.{CanBeJudged, IsBlockAt, IsFaultAt, IsFaultOf, ReadsText}
 use Rattle.cs_file.specs.declared.fault.FetchFault.{FetchFault}
 use Rattle.cs_file.specs.declared.fault.FetchFault.TheVariants as fetches
@@ -37,6 +39,7 @@ use Rattle.cs_file.proofs.HeadsLemmas.{head_shaped}
 use Rattle.cs_file.proofs.OffsetsLemmas.{spans}
 use Rattle.cs_file.proofs.StoodLemmas.{stood_block}
 use Rattle.cs_file.proofs.TitlesLemmas.{stood_title}
+use Rattle.cs_file.proofs.WeightsLemmas.{one_reading}
 
 pub block_within : (i : IndexView) (k : ℕ) (d : BlockHead) → k < length i.heads → block_place i k + (get_or i.heads k d).len ≤ block_place i (length i.heads)
 block_within i k d lt =
@@ -46,14 +49,14 @@ block_within i k d lt =
     omega (arith, one, all)
 
 pub never_broken : (b : List ℕ) (i : IndexView) → StandsFor b i → IsIndex i → (k : ℕ) (d : BlockHead) (read : List ℕ) → k < length i.heads
-    → length read ≡ (get_or i.heads k d).len → read ≡ part b (block_place i k) (get_or i.heads k d).len → judged SCORES (get_or i.heads k d) i.docs read ≡ None
+    → length read ≡ (get_or i.heads k d).len → read ≡ part b (block_place i k) (get_or i.heads k d).len → judged i.weights (get_or i.heads k d) i.docs read ≡ None
 never_broken b i s is k d read lt len at =
     let h = get_or i.heads k d in
     let few = is.few_docs in
     let small : i.docs < 2 ^ 32 = omega (arith, few) in
     let shaped : IsShaped h (length read) = subst (IsShaped h) (sym len) (head_shaped i is k d lt) in
-    let own = subst (IsBlock SCORES h i.docs (block_posts b k)) (sym at) (stood_block b i s is k d lt) in
-    (unique h i.docs (block_posts b k) read small shaped own).0
+    let own = subst (IsBlock i.weights h i.docs (block_posts b k)) (sym at) (stood_block b i s is k d lt) in
+    (one_reading i.weights is.weights h i.docs (block_posts b k) read small shaped own).0
 
 pub title_within : (i : IndexView) → IsIndex i → (d : ℕ) → d < i.docs → title_place i d + title_len i d ≤ block_place i (length i.heads)
 title_within i is d lt =
@@ -73,13 +76,14 @@ abbrev pub nothing : BlockHead
 nothing = record { lo = 0; words = 0; rows = 0; len = 0; facet = false }
 
 pub block_at : (i own : IndexView) (k : ℕ) (hs : List BlockHead) (at : ℕ) → own ≡ i → IsIndex i → hs ≡ own.heads
-    → k < length i.heads → at ≡ block_place i k → IsBlockAt i k (record { head = get_or hs k nothing; docs = own.docs; at = at })
+    → k < length i.heads → at ≡ block_place i k → IsBlockAt i k (record { head = get_or hs k nothing; docs = own.docs; weights = own.weights; at = at })
 block_at i own k hs at seen index same known at_is = record {
   index = index;
   known = known;
   small = (let few = index.small in let within = block_within i k nothing known in omega (arith, few, within, at_is));
   head_is = λ d. ap (λ xs. get_or xs k nothing) (same ∙ ap (λ (v : IndexView). v.heads) seen) ∙ get_or_default i.heads k nothing d known;
   docs_are = ap (λ (v : IndexView). v.docs) seen;
+  weights_are = ap (λ (v : IndexView). v.weights) seen;
   at_is = at_is;
 }
 
@@ -98,6 +102,7 @@ module _ {i : IndexView} {k : ℕ} {placed : Placed} (stands : IsBlockAt i k pla
         shaped = subst (λ (x : BlockHead). IsShaped x x.len) (sym (stands.head_is placed.head)) (head_shaped i index k placed.head stands.known);
         small = stands.small;
         few = omega (arith, most, stands.docs_are);
+        weights = subst AreWeights (sym stands.weights_are) index.weights;
       }
 
   pub block_read : {told : Option (List ℕ)} {read : List ℕ} → length read ≡ placed.head.len → ForSome told (λ b. read ≡ part b placed.at placed.head.len)
@@ -126,23 +131,42 @@ module _ {i : IndexView} {told : Option (List ℕ)} {k : ℕ} {placed : Placed} 
   read_there b t s =
       let rows = block_posts b k in
       let stood = stood_block b i s h.stands.index k placed.head h.stands.known in
-      let own = subst (IsBlock SCORES (get_or i.heads k placed.head) i.docs rows) (sym (there placed.head b t)) stood in
-      let here = subst (λ (x : BlockHead). IsBlock SCORES x i.docs rows read) (sym (h.stands.head_is placed.head)) own in
-      let block = subst (λ (n : ℕ). IsBlock SCORES placed.head n rows read) (sym h.stands.docs_are) here in
-      (unique placed.head placed.docs rows read can_judge.few can_judge.shaped block).1
+      let own = subst (IsBlock i.weights (get_or i.heads k placed.head) i.docs rows) (sym (there placed.head b t)) stood in
+      let here = subst (λ (x : BlockHead). IsBlock i.weights x i.docs rows read) (sym (h.stands.head_is placed.head)) own in
+      let known = subst (λ (n : ℕ). IsBlock i.weights placed.head n rows read) (sym h.stands.docs_are) here in
+      let block = subst (λ (w : Weights). IsBlock w placed.head placed.docs rows read) (sym h.stands.weights_are) known in
+      (one_reading placed.weights can_judge.weights placed.head placed.docs rows read can_judge.few can_judge.shaped block).1
+
+  -- rows that have these bytes are the block, and over bytes that stand for the index the block's posts
+  pub block_of : (rows : List Post) → IsBlock placed.weights placed.head placed.docs rows read → IsBlockOf i told k rows
+  block_of rows block =
+      let own = subst (λ (w : Weights). IsBlock w placed.head placed.docs rows read) h.stands.weights_are block in
+      let known = subst (λ (n : ℕ). IsBlock i.weights placed.head n rows read) h.stands.docs_are own in
+      record {
+        bytes = read;
+        shaped = λ d. subst (λ (x : BlockHead). IsShaped x (length read)) (h.stands.head_is d) can_judge.shaped;
+        block = λ d. subst (λ (x : BlockHead). IsBlock i.weights x i.docs rows read) (h.stands.head_is d) known;
+        read = λ d. there d;
+      }
+
+  pub block_stood : (b : List ℕ) → told ≡ Some b → StandsFor b i → (rows : List Post) → IsBlock placed.weights placed.head placed.docs rows read
+      → rows ≡ block_posts b k
+  block_stood b t s rows block =
+      sym (one_reading placed.weights can_judge.weights placed.head placed.docs rows read can_judge.few can_judge.shaped block).1 ∙ read_there b t s
 
   -- no rule is broken where they are those of the index
-  keeps_rules : (b : List ℕ) → told ≡ Some b → StandsFor b i → judged SCORES placed.head placed.docs read ≡ None
+  keeps_rules : (b : List ℕ) → told ≡ Some b → StandsFor b i → judged placed.weights placed.head placed.docs read ≡ None
   keeps_rules b t s =
       let long = h.long ∙ ap (λ (x : BlockHead). x.len) (h.stands.head_is placed.head) in
-      ap (λ (x : BlockHead). judged SCORES x placed.docs read) (h.stands.head_is placed.head)
-      ∙ ap (λ (n : ℕ). judged SCORES (get_or i.heads k placed.head) n read) h.stands.docs_are
+      ap (λ (w : Weights). judged w placed.head placed.docs read) h.stands.weights_are
+      ∙ ap (λ (x : BlockHead). judged i.weights x placed.docs read) (h.stands.head_is placed.head)
+      ∙ ap (λ (n : ℕ). judged i.weights (get_or i.heads k placed.head) n read) h.stands.docs_are
       ∙ never_broken b i s h.stands.index k placed.head read h.stands.known long (there placed.head b t)
 
   pub fault_unchanged : (b : List ℕ) (result : Result (Unit {0}) FetchFault) → told ≡ Some b → StandsFor b i → IfErr result (IsFaultOf placed read)
       → is_changed result ≡ false
   fault_unchanged b (Ok u) t s answer = refl
-  fault_unchanged b (Err e) t s answer = unbroken_fault placed.at (judged SCORES placed.head placed.docs read) e answer (keeps_rules b t s)
+  fault_unchanged b (Err e) t s answer = unbroken_fault placed.at (judged placed.weights placed.head placed.docs read) e answer (keeps_rules b t s)
 
   pub fault_changed : (result : Result (Unit {0}) FetchFault) → IfErr result (IsFaultOf placed read) → IfErr result (IsChangeOfBlock i told k)
   fault_changed (Ok u) answer = tt
@@ -150,9 +174,10 @@ module _ {i : IndexView} {told : Option (List ℕ)} {k : ℕ} {placed : Placed} 
   fault_changed (Err fetches.Memory) answer = tt
   fault_changed (Err (fetches.Changed rule place)) answer = record {
     bytes = read;
-    broken = λ d. ap (λ (n : ℕ). option_map (in_file n) (judged SCORES (get_or i.heads k d) i.docs read)) (sym h.stands.at_is)
-        ∙ ap (λ (n : ℕ). option_map (in_file placed.at) (judged SCORES (get_or i.heads k d) n read)) (sym h.stands.docs_are)
-        ∙ ap (λ (x : BlockHead). option_map (in_file placed.at) (judged SCORES x placed.docs read)) (sym (h.stands.head_is d)) ∙ answer;
+    broken = λ d. ap (λ (n : ℕ). option_map (in_file n) (judged i.weights (get_or i.heads k d) i.docs read)) (sym h.stands.at_is)
+        ∙ ap (λ (n : ℕ). option_map (in_file placed.at) (judged i.weights (get_or i.heads k d) n read)) (sym h.stands.docs_are)
+        ∙ ap (λ (x : BlockHead). option_map (in_file placed.at) (judged i.weights x placed.docs read)) (sym (h.stands.head_is d))
+        ∙ ap (λ (w : Weights). option_map (in_file placed.at) (judged w placed.head placed.docs read)) (sym h.stands.weights_are) ∙ answer;
     read = λ d. there d;
   }
 

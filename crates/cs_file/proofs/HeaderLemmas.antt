@@ -78,7 +78,7 @@ at_most : (a b at : ℕ) → unless (nat_le a b) at ≡ None → a ≤ b
 at_most a b at e = leb-true a b (unless_none (nat_le a b) at e)
 
 pub ranges : (h : Header) (q : Option ℕ) → q ≡ first_reason (field_breaks h) → tried 3 q ≡ None → h.vocabulary_len < 2 ^ 32 → h.titles_len < 2 ^ 32
-    → h.blocks_len < 2 ^ 32 → IsHeader (record h { spare = 0 })
+    → h.blocks_len < 2 ^ 32 → IsHeader h
 ranges h q is fine v t b =
     let f = all_none (field_breaks h) (sym is ∙ tried_none 3 q fine) in
     let g = and_parts _ _ (unless_none _ _ f.1.1.1.1.0) in
@@ -92,12 +92,8 @@ ranges h q is fine v t b =
       vocabulary = v;
       titles = t;
       postings = b;
+      weights = unless_none _ _ f.1.1.1.1.1.0;
     }
-
-pub no_spare : (h : Header) (q : Option ℕ) → q ≡ first_reason (field_breaks h) → tried 3 q ≡ None → h.spare ≡ 0
-no_spare h q is fine =
-    let f = all_none (field_breaks h) (sym is ∙ tried_none 3 q fine) in
-    eqb-true _ _ (unless_none _ _ f.1.1.1.1.1.0)
 
 pub size_is : (size want : ℕ) (s : Option ℕ) → s ≡ unless (size == want) size → tried 4 s ≡ None → size ≡ want
 size_is size want s is fine = eqb-true size want (unless_none _ _ (sym is ∙ tried_none 4 s fine))

@@ -2,7 +2,9 @@
 --
 --   IsReadAgain i        such an image
 --   image_header         its header is that of the file
+--   weights_back         its weights are weights
 --   image_index i        what an index of it holds
+--   image_weights        with the image's own weights
 --   kept_image           all of it is by the rules of its sections
 --   few_lens             its blocks together have few bytes
 --   image_stands, image_fits     it stands for the file, which has all its blocks
@@ -12,14 +14,17 @@ use Rattle.std.specs.Prelude.{All}
 use Rattle.std.specs.List.{sum_by}
 use Rattle.std.specs.Option.{unwrap_or}
 use Rattle.cs_base.specs.outside.Outside.{part}
+use Rattle.cs_model.specs.Weights.{AreWeights}
 use Rattle.cs_model_index.specs.FileRules.{IsIndexFile, damage}
 use Rattle.cs_model_index.specs.Images.{Image}
 use Rattle.cs_model_index.specs.Layout.{vocabulary_bytes, offsets_from, offset_bytes, title_bytes, directory_bytes, blocks_bytes, header_of_image, file}
 use Rattle.cs_model_index.specs.Sections.{header_of, contents_of, image_of, vocabulary_in, vocabulary_at, offsets_at, offsets_len, titles_at}
 use Rattle.cs_model_index.specs.Sections.{directory_at, directory_len, blocks_at}
+use Rattle.cs_model_index.specs.WeightsField.{weights_of}
 use Rattle.cs_model_index.proofs.AcceptedLemmas.{rules_hold, is_sound}
 use Rattle.cs_model_index.proofs.NumbersLemmas.{numbers_count}
 use Rattle.cs_model_index.proofs.SectionLemmas.{titles_written}
+use Rattle.cs_model_index.proofs.WeightsFieldLemmas.{field_is, weights_again, weights_fine}
 use Rattle.cs_model_index.proofs.WrittenLemmas.{header_again}
 use Rattle.cs_file.specs.Indexes.{IndexView, StandsFor, HasAllBlocks}
 use Rattle.cs_file.specs.Opening.{IsHeader, IsHeaderOf, HasVocabulary, HasOffsets, HasHeads, vocabulary_stage, titles_stage, directory_stage, file_words}
@@ -65,6 +70,13 @@ target_back i r =
     let from : 1 ≤ (header_of (file i)).target = (rules_hold (file i) (contents_of (file i)) r.whole).values.fields.target_from in
     omega (arith, from, ap (λ (x : Image). x.target) r.read)
 
+pub weights_back : (i : Image) → IsReadAgain i → AreWeights i.weights
+unfolding damage image_of
+weights_back i r =
+    let n = (header_of (file i)).weights in
+    let fine : AreWeights (weights_of n) = weights_fine n (rules_hold (file i) (contents_of (file i)) r.whole).values.fields.weights in
+    subst AreWeights (ap (λ (x : Image). x.weights) r.read) fine
+
 -- ---- the header
 image_ranges : (i : Image) → IsReadAgain i → IsHeader (header_of_image i)
 image_ranges i r =
@@ -79,6 +91,7 @@ image_ranges i r =
       postings = w.few_block_bytes;
       target_from = target_back i r;
       target_to = w.target;
+      weights = field_is i.weights (weights_back i r);
     }
 
 header_back : (i : Image) → IsReadAgain i → header_of (file i) ≡ header_of_image i
@@ -95,7 +108,7 @@ header_back i r =
       blocks = w.few_blocks;
       target_from = target_back i r;
       target_to = w.target;
-      spare = refl;
+      weights = field_is i.weights (weights_back i r);
     })
     (record { vocabulary = r.few_word_bytes; titles = w.few_bytes; blocks = w.few_block_bytes })
 
@@ -151,7 +164,20 @@ image_heads i r =
 abbrev pub image_index : Image → IndexView
 image_index i =
     let h = header_of_image i in
-    record { docs = h.docs; words = i.words; offsets = offsets_from 0 i.titles; heads = i.heads; target = h.target; titles_at = titles_at h; blocks_at = blocks_at h }
+    record {
+      docs = h.docs;
+      words = i.words;
+      offsets = offsets_from 0 i.titles;
+      heads = i.heads;
+      target = h.target;
+      weights = weights_of h.weights;
+      titles_at = titles_at h;
+      blocks_at = blocks_at h;
+    }
+
+-- its weights are the image's
+pub image_weights : (i : Image) → IsReadAgain i → i.weights ≡ (image_index i).weights
+image_weights i r = sym (weights_again i.weights (weights_back i r))
 
 pub kept_image : (i : Image) → IsReadAgain i → Kept (header_of_image i) (image_index i)
 kept_image i r =
@@ -169,7 +195,7 @@ image_stands i r = record {
   bytes = r.bytes;
   accepted = r.whole;
   index = index_is (file i) (header_of_image i) (image_index i) (image_header i r) refl (sym (words_back i r)) (sym (offsets_back i r))
-      (sym (heads_back i r)) refl refl refl;
+      (sym (heads_back i r)) refl refl refl refl;
 }
 
 pub image_fits : (i : Image) → IsReadAgain i → HasAllBlocks (Some (file i)) (image_index i)

@@ -26,4 +26,5 @@ pub mod TitleStageLemmas
 pub mod TitlesLemmas
 pub mod VocabularyCuts
 pub mod VocabularyLemmas
+pub mod WeightsLemmas
 pub mod WordLemmas

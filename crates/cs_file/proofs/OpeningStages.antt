@@ -19,12 +19,16 @@ use Rattle.std.proofs.lemmas.List.Sums.{sum_by_more_le}
 use Rattle.cs_base.specs.declared.index.block.BlockHead.{BlockHead}
 use Rattle.cs_base.specs.declared.index.block.Broken.{Broken}
 use Rattle.cs_base.specs.declared.content.limits.TheConstants.{MAX_ROWS}
+use Rattle.cs_base.specs.declared.content.scores.Weights.{Weights}
+use Rattle.cs_model.specs.Weights.{AreWeights}
 use Rattle.cs_model.specs.First.{first_reason}
 use Rattle.cs_model_index.specs.Blocks.{IsShaped}
 use Rattle.cs_model_index.specs.FileRules.{header_rules, vocabulary_rules, title_rules, directory_rules, parting_rules, damage}
 use Rattle.cs_model_index.specs.Layout.{Header}
 use Rattle.cs_model_index.specs.Sections.{header_of, contents_of, vocabulary_at, offsets_at, titles_at, directory_at, blocks_at, size_by}
+use Rattle.cs_model_index.specs.WeightsField.{weights_of}
 use Rattle.cs_model_index.specs.declared.limits.TheConstants.{HEADER_BYTES, NUMBER_BYTES, ENTRY_BYTES}
+use Rattle.cs_model_index.proofs.WeightsFieldLemmas.{weights_fine}
 use Rattle.cs_file.specs.CallAnswers.{IsDamageOf}
 use Rattle.cs_file.specs.declared.fault.OpenFault.{OpenFault}
 use Rattle.cs_file.specs.declared.fault.OpenFault.TheVariants as opens
@@ -143,6 +147,7 @@ pub record Kept (h : Header) (i : IndexView) : Type 0 where
   pub heads : HasHeads h i.words i.heads
   pub docs : i.docs ≡ h.docs
   pub target : i.target ≡ h.target
+  pub weights : i.weights ≡ weights_of h.weights
   pub titles_place : i.titles_at ≡ titles_at h
   pub blocks_place : i.blocks_at ≡ blocks_at h
 
@@ -157,6 +162,7 @@ index_kept h i k = record {
   ascending = k.words.ascending;
   target_from = omega (arith, k.target, k.header.target_from);
   target_to = omega (arith, k.target, k.header.target_to);
+  weights = subst AreWeights (sym k.weights) (weights_fine h.weights k.header.weights);
   offsets = omega (arith, k.offsets.count, k.docs);
   onward = k.offsets.onward;
   joined = k.heads.joined;
@@ -184,11 +190,30 @@ index_kept h i k = record {
 -- ---- the heads
 -- heads by the rules, as a part of an index
 abbrev view_of : Header → List (List ℕ) → List ℕ → List BlockHead → IndexView
-view_of h ws os hs = record { docs = h.docs; words = ws; offsets = os; heads = hs; target = h.target; titles_at = titles_at h; blocks_at = blocks_at h }
+view_of h ws os hs = record {
+  docs = h.docs;
+  words = ws;
+  offsets = os;
+  heads = hs;
+  target = h.target;
+  weights = weights_of h.weights;
+  titles_at = titles_at h;
+  blocks_at = blocks_at h;
+}
 
 pub kept_view : (h : Header) (ws : List (List ℕ)) (os : List ℕ) (hs : List BlockHead) → IsHeader h → HasVocabulary h ws → HasOffsets h os → HasHeads h ws hs
     → Kept h (view_of h ws os hs)
-kept_view h ws os hs a b c d = record { header = a; words = b; offsets = c; heads = d; docs = refl; target = refl; titles_place = refl; blocks_place = refl }
+kept_view h ws os hs a b c d = record {
+  header = a;
+  words = b;
+  offsets = c;
+  heads = d;
+  docs = refl;
+  target = refl;
+  weights = refl;
+  titles_place = refl;
+  blocks_place = refl;
+}
 
 pub shaped_heads : (h : Header) (ws : List (List ℕ)) (os : List ℕ) (hs : List BlockHead) → IsHeader h → HasVocabulary h ws → HasOffsets h os
     → HasHeads h ws hs → All (λ x. IsShaped x x.len) hs
@@ -220,20 +245,22 @@ read_whole b h is r =
     all_bytes b (size_by h) is.size (more_front b (blocks_at h) h.blocks_len four r.blocks)
 
 -- ---- the index of bytes
-pub same_index : (docs docs' target target' t t' p p' : ℕ) (ws ws' : List (List ℕ)) (os os' : List ℕ) (hs hs' : List BlockHead) → docs ≡ docs' → ws ≡ ws'
-    → os ≡ os' → hs ≡ hs' → target ≡ target' → t ≡ t' → p ≡ p'
-    → let x : IndexView = record { docs = docs; words = ws; offsets = os; heads = hs; target = target; titles_at = t; blocks_at = p } in let y : IndexView =
-    record { docs = docs'; words = ws'; offsets = os'; heads = hs'; target = target'; titles_at = t'; blocks_at = p' } in x ≡ y
-same_index docs docs' target target' t t' p p' ws ws' os os' hs hs' a b c d e f g = rw (a, b, c, d, e, f, g) refl
+pub same_index : (docs docs' target target' t t' p p' : ℕ) (w w' : Weights) (ws ws' : List (List ℕ)) (os os' : List ℕ) (hs hs' : List BlockHead)
+    → docs ≡ docs' → ws ≡ ws' → os ≡ os' → hs ≡ hs' → target ≡ target' → w ≡ w' → t ≡ t' → p ≡ p'
+    → let x : IndexView = record { docs = docs; words = ws; offsets = os; heads = hs; target = target; weights = w; titles_at = t; blocks_at = p } in
+    let y : IndexView = record { docs = docs'; words = ws'; offsets = os'; heads = hs'; target = target'; weights = w'; titles_at = t'; blocks_at = p' } in
+    x ≡ y
+same_index docs docs' target target' t t' p p' w w' ws ws' os os' hs hs' a b c d e f g h = rw (a, b, c, d, e, f, g, h) refl
 
 pub index_is : (b : List ℕ) (h : Header) (i : IndexView) → IsHeaderOf b h → i.docs ≡ h.docs → i.words ≡ file_words b → i.offsets ≡ offsets_of b
-    → i.heads ≡ heads_of b → i.target ≡ h.target → i.titles_at ≡ titles_at h → i.blocks_at ≡ blocks_at h → i ≡ index_of b
+    → i.heads ≡ heads_of b → i.target ≡ h.target → i.weights ≡ weights_of h.weights → i.titles_at ≡ titles_at h → i.blocks_at ≡ blocks_at h → i ≡ index_of b
 unfolding index_of file_words offsets_of heads_of
-index_is b h i is docs words offsets heads target titles blocks =
+index_is b h i is docs words offsets heads target weights titles blocks =
     let back : h ≡ header_of b = sym is.numbers in
-    same_index i.docs (header_of b).docs i.target (header_of b).target i.titles_at (titles_at (header_of b)) i.blocks_at (blocks_at (header_of b)) i.words _
-    i.offsets _ i.heads _
-    (docs ∙ ap (λ (x : Header). x.docs) back) words offsets heads (target ∙ ap (λ (x : Header). x.target) back) (titles ∙ ap titles_at back)
+    same_index i.docs (header_of b).docs i.target (header_of b).target i.titles_at (titles_at (header_of b)) i.blocks_at (blocks_at (header_of b))
+    i.weights (weights_of (header_of b).weights) i.words _ i.offsets _ i.heads _
+    (docs ∙ ap (λ (x : Header). x.docs) back) words offsets heads (target ∙ ap (λ (x : Header). x.target) back)
+    (weights ∙ ap (λ (x : Header). weights_of x.weights) back) (titles ∙ ap titles_at back)
     (blocks ∙ ap blocks_at back)
 
 pub stands_for : (b : List ℕ) (h : Header) (i : IndexView) → IsHeaderOf b h → AllRead b h → header_stage b ≡ None → vocabulary_stage b ≡ None

@@ -17,14 +17,15 @@ use Rattle.std.proofs.lemmas.List.Sums.{sum_by_more, sum_by_more_le}
 use Rattle.cs_base.specs.declared.index.block.BlockHead.{BlockHead}
 use Rattle.cs_base.specs.declared.index.block.Broken.{Broken}
 use Rattle.cs_base.specs.declared.content.doc.Post.{Post}
+use Rattle.cs_base.specs.declared.content.scores.Weights.{Weights}
 use Rattle.cs_base.specs.outside.Outside.{part}
-use Rattle.cs_block.proofs.LawsLemmas.{unique}
-use Rattle.cs_model.specs.Scores.{SCORES}
+use Rattle.cs_model.specs.Weights.{AreWeights}
 use Rattle.cs_model_index.specs.BlockRules.{rows_read, IsBlock}
 use Rattle.cs_model_index.specs.Blocks.{IsShaped}
 use Rattle.cs_model_index.specs.FileRules.{blocks_break}
 use Rattle.cs_model_index.specs.Layout.{Header}
 use Rattle.cs_model_index.specs.Sections.{header_of, contents_of, blocks_in, blocks_at}
+use Rattle.cs_model_index.specs.WeightsField.{weights_of}
 use Rattle.cs_file.specs.declared.part.BlockPart.{BlockPart}
 use Rattle.cs_file.specs.declared.fault.OpenFault.{OpenFault}
 use Rattle.cs_file.specs.Opening.{AreBytes, Refuses, IsHeaderOf, block_broken, blocks_of, blocks_stage, heads_of}
@@ -35,41 +36,42 @@ use Rattle.cs_file.proofs.MarkedNumbers.{any_posts, count_posts}
 use Rattle.cs_file.proofs.PostsLemmas.{block_words}
 use Rattle.cs_file.proofs.StagesLemmas.{refuses_at}
 use Rattle.cs_file.proofs.StoodLemmas.{blocks_start, block_from}
+use Rattle.cs_file.proofs.WeightsLemmas.{one_reading}
 
 -- ---- one block
-pub read_rows : (head : BlockHead) (docs : ℕ) (rows : List Post) (bytes : List ℕ) → docs < 2 ^ 32 → IsShaped head (length bytes)
-    → IsBlock SCORES head docs rows bytes → rows ≡ rows_read head bytes
-read_rows head docs rows bytes few shaped block = sym (unique head docs rows bytes few shaped block).1
+pub read_rows : (w : Weights) → AreWeights w → (head : BlockHead) (docs : ℕ) (rows : List Post) (bytes : List ℕ) → docs < 2 ^ 32
+    → IsShaped head (length bytes) → IsBlock w head docs rows bytes → rows ≡ rows_read head bytes
+read_rows w are head docs rows bytes few shaped block = sym (one_reading w are head docs rows bytes few shaped block).1
 
 -- the posts that decoding added to none, and their words
-pub record Decoded (head : BlockHead) (docs : ℕ) (bytes : List ℕ) (posts : List Post) (words : List ℕ) : Type 0 where
-  pub block : IsBlock SCORES head docs posts bytes
+pub record Decoded (w : Weights) (head : BlockHead) (docs : ℕ) (bytes : List ℕ) (posts : List Post) (words : List ℕ) : Type 0 where
+  pub block : IsBlock w head docs posts bytes
   pub words_are : words ≡ map (λ p. p.word) posts
 
-pub decoded : (head : BlockHead) (docs : ℕ) (bytes : List ℕ) (rows old posts : List Post) (words : List ℕ) → old ≡ [] → IsBlock SCORES head docs rows bytes
-    → posts ≡ old ++ rows → words ≡ map (λ p. p.word) posts → Decoded head docs bytes posts words
-decoded head docs bytes rows old posts words none block added are =
+pub decoded : (w : Weights) (head : BlockHead) (docs : ℕ) (bytes : List ℕ) (rows old posts : List Post) (words : List ℕ) → old ≡ []
+    → IsBlock w head docs rows bytes → posts ≡ old ++ rows → words ≡ map (λ p. p.word) posts → Decoded w head docs bytes posts words
+decoded w head docs bytes rows old posts words none block added are =
     let same : posts ≡ rows = added ∙ ap (λ (x : List Post). x ++ rows) none in
-    record { block = subst (λ (x : List Post). IsBlock SCORES head docs x bytes) (sym same) block; words_are = are }
+    record { block = subst (λ (x : List Post). IsBlock w head docs x bytes) (sym same) block; words_are = are }
 
-pub decoded_few : (head : BlockHead) (docs : ℕ) (bytes : List ℕ) (posts : List Post) (words : List ℕ) → Decoded head docs bytes posts words
+pub decoded_few : (w : Weights) (head : BlockHead) (docs : ℕ) (bytes : List ℕ) (posts : List Post) (words : List ℕ) → Decoded w head docs bytes posts words
     → length words ≡ head.rows
-decoded_few head docs bytes posts words d = ap length d.words_are ∙ length-map posts (λ p. p.word) ∙ d.block.count
+decoded_few w head docs bytes posts words d = ap length d.words_are ∙ length-map posts (λ p. p.word) ∙ d.block.count
 
-pub decoded_within : (head : BlockHead) (docs : ℕ) (bytes : List ℕ) (posts : List Post) (words : List ℕ) → Decoded head docs bytes posts words
+pub decoded_within : (w : Weights) (head : BlockHead) (docs : ℕ) (bytes : List ℕ) (posts : List Post) (words : List ℕ) → Decoded w head docs bytes posts words
     → All (λ w. (head.lo ≤ w) × (w < head.lo + head.words)) words
-decoded_within head docs bytes posts words d =
+decoded_within w head docs bytes posts words d =
     subst (λ (ws : List ℕ). All (λ w. (head.lo ≤ w) × (w < head.lo + head.words)) ws) (sym d.words_are)
     (All-map (λ w. (head.lo ≤ w) × (w < head.lo + head.words)) (λ p. p.word) posts (block_words head docs posts bytes d.block))
 
-pub part_is : (head : BlockHead) (docs : ℕ) (bytes : List ℕ) (posts : List Post) (words : List ℕ) (p : BlockPart) → docs < 2 ^ 32
-    → IsShaped head (length bytes) → Decoded head docs bytes posts words → p.head ≡ head
+pub part_is : (w : Weights) → AreWeights w → (head : BlockHead) (docs : ℕ) (bytes : List ℕ) (posts : List Post) (words : List ℕ) (p : BlockPart) → docs < 2 ^ 32
+    → IsShaped head (length bytes) → Decoded w head docs bytes posts words → p.head ≡ head
     → p.whole ≡ list_all (λ n. list_any (λ w. w == n) words) (range_with_len head.lo head.words) → p.first ≡ count_by (λ w. w == head.lo) words
     → p ≡ part_read head bytes
-part_is head docs bytes posts words p few shaped d h w f =
-    let rows : posts ≡ rows_read head bytes = read_rows head docs posts bytes few shaped d.block in
+part_is w are head docs bytes posts words p few shaped d h all f =
+    let rows : posts ≡ rows_read head bytes = read_rows w are head docs posts bytes few shaped d.block in
     let whole : p.whole ≡ list_all (λ n. list_any (λ post. post.word == n) posts) (range_with_len head.lo head.words) =
-    w ∙ ap (λ (ws : List ℕ). list_all (λ n. list_any (λ w. w == n) ws) (range_with_len head.lo head.words)) d.words_are
+    all ∙ ap (λ (ws : List ℕ). list_all (λ n. list_any (λ w. w == n) ws) (range_with_len head.lo head.words)) d.words_are
     ∙ any_posts posts (range_with_len head.lo head.words) in
     let first : p.first ≡ count_by (λ post. post.word == head.lo) posts = f ∙ ap (count_by (λ w. w == head.lo)) d.words_are ∙ count_posts head.lo posts in
     same_part p (part_by head posts) h whole first ∙ ap (part_by head) rows
@@ -78,9 +80,11 @@ part_is head docs bytes posts words p few shaped d h w f =
     same_part p q a b c = rw (a, b, c) refl
 
 -- ---- the first blocks
-own_stage : (b : List ℕ) → blocks_stage b ≡ blocks_break (header_of b).docs (blocks_at (header_of b)) (heads_of b) (drop (blocks_at (header_of b)) b)
+own_stage : (b : List ℕ)
+    → blocks_stage b ≡ blocks_break (weights_of (header_of b).weights) (header_of b).docs (blocks_at (header_of b)) (heads_of b)
+    (drop (blocks_at (header_of b)) b)
 unfolding blocks_stage heads_of
-own_stage b = ap (blocks_break (header_of b).docs (blocks_at (header_of b)) (contents_of b).heads) (blocks_start b)
+own_stage b = ap (blocks_break (weights_of (header_of b).weights) (header_of b).docs (blocks_at (header_of b)) (contents_of b).heads) (blocks_start b)
 
 own_blocks : (b : List ℕ) → blocks_of b ≡ blocks_in (heads_of b) (drop (blocks_at (header_of b)) b)
 unfolding blocks_of heads_of
@@ -88,15 +92,15 @@ own_blocks b = ap (blocks_in (contents_of b).heads) (blocks_start b)
 
 -- of `heads` the first i were read, up to the place `at`
 pub record BlocksRead (b : List ℕ) (h : Header) (heads : List BlockHead) (i at : ℕ) (parts : List BlockPart) : Type 0 where
-  pub told : blocks_break h.docs at (drop i heads) (drop at b) ≡ blocks_stage b
+  pub told : blocks_break (weights_of h.weights) h.docs at (drop i heads) (drop at b) ≡ blocks_stage b
   pub parts_are : parts ++ parts_by (drop i heads) (blocks_in (drop i heads) (drop at b)) ≡ parts_by heads (blocks_of b)
 
 pub reading : (b : List ℕ) (h : Header) (heads : List BlockHead) (at : ℕ) (parts : List BlockPart) → IsHeaderOf b h → heads ≡ heads_of b → at ≡ blocks_at h
     → parts ≡ [] → BlocksRead b h heads 0 at parts
 reading b h heads at parts is own place none = record {
-  told = ap (λ (n : ℕ). blocks_break h.docs n heads (drop n b)) place
-      ∙ ap (λ (x : List BlockHead). blocks_break h.docs (blocks_at h) x (drop (blocks_at h) b)) own
-      ∙ ap (λ (x : Header). blocks_break x.docs (blocks_at x) (heads_of b) (drop (blocks_at x) b)) (sym is.numbers) ∙ sym (own_stage b);
+  told = ap (λ (n : ℕ). blocks_break (weights_of h.weights) h.docs n heads (drop n b)) place
+      ∙ ap (λ (x : List BlockHead). blocks_break (weights_of h.weights) h.docs (blocks_at h) x (drop (blocks_at h) b)) own
+      ∙ ap (λ (x : Header). blocks_break (weights_of x.weights) x.docs (blocks_at x) (heads_of b) (drop (blocks_at x) b)) (sym is.numbers) ∙ sym (own_stage b);
   parts_are = ap (λ (x : List BlockPart). x ++ parts_by heads (blocks_in heads (drop at b))) none
       ∙ ap (λ (n : ℕ). parts_by heads (blocks_in heads (drop n b))) place
       ∙ ap (λ (x : List BlockHead). parts_by heads (blocks_in x (drop (blocks_at h) b))) own
@@ -111,32 +115,37 @@ head_first heads i lt = let one : i + 1 ≡ suc i = omega arith in behind heads 
     behind (x ∷ hs) zero lt = refl
     behind (x ∷ hs) (suc i) lt = behind hs i (omega arith)
 
-break_first : (docs at : ℕ) (x : BlockHead) (hs : List BlockHead) (b : List ℕ)
-    → blocks_break docs at (x ∷ hs) (drop at b) ≡ option_or (block_broken at x docs (part b at x.len))
-    (blocks_break docs (at + x.len) hs (drop (at + x.len) b))
+break_first : (w : Weights) (docs at : ℕ) (x : BlockHead) (hs : List BlockHead) (b : List ℕ)
+    → blocks_break w docs at (x ∷ hs) (drop at b) ≡ option_or (block_broken w at x docs (part b at x.len))
+    (blocks_break w docs (at + x.len) hs (drop (at + x.len) b))
 unfolding blocks_break
-break_first docs at x hs b = ap (λ (y : List ℕ). option_or (block_broken at x docs (part b at x.len))
-    (blocks_break docs (at + x.len) hs y)) (drop-drop x.len at b)
+break_first w docs at x hs b = ap (λ (y : List ℕ). option_or (block_broken w at x docs (part b at x.len))
+    (blocks_break w docs (at + x.len) hs y)) (drop-drop x.len at b)
 
 parts_first : (at : ℕ) (x : BlockHead) (hs : List BlockHead) (b : List ℕ)
     → parts_by (x ∷ hs) (blocks_in (x ∷ hs) (drop at b)) ≡ part_read x (part b at x.len) ∷ parts_by hs (blocks_in hs (drop (at + x.len) b))
 unfolding parts_by blocks_in
 parts_first at x hs b = ap (λ (y : List ℕ). part_read x (part b at x.len) ∷ parts_by hs (blocks_in hs y)) (drop-drop x.len at b)
 
-pub reads_on : (b : List ℕ) (h : Header) (heads : List BlockHead) (i at : ℕ) (parts now : List BlockPart) (p : BlockPart) → i < length heads
-    → block_broken at (get_or heads i nothing) h.docs (part b at (get_or heads i nothing).len) ≡ None
+pub reads_on : (b : List ℕ) (h : Header) (w : Weights) (heads : List BlockHead) (i at : ℕ) (parts now : List BlockPart) (p : BlockPart)
+    → w ≡ weights_of h.weights → i < length heads
+    → block_broken w at (get_or heads i nothing) h.docs (part b at (get_or heads i nothing).len) ≡ None
     → p ≡ part_read (get_or heads i nothing) (part b at (get_or heads i nothing).len) → now ≡ parts ++ p ∷ []
     → BlocksRead b h heads i at parts → BlocksRead b h heads (i + 1) (at + (get_or heads i nothing).len) now
-reads_on b h heads i at parts now p lt fine is added r =
+reads_on b h w heads i at parts now p same lt fine is added r =
     let x = get_or heads i nothing in
+    let own = weights_of h.weights in
+    let unbroken : block_broken own at x h.docs (part b at x.len) ≡ None =
+    ap (λ (y : Weights). block_broken y at x h.docs (part b at x.len)) (sym same) ∙ fine in
     let hs = drop (i + 1) heads in
     let rest = parts_by hs (blocks_in hs (drop (at + x.len) b)) in
     let here : parts_by (drop i heads) (blocks_in (drop i heads) (drop at b)) ≡ p ∷ rest =
     ap (λ (y : List BlockHead). parts_by y (blocks_in y (drop at b))) (head_first heads i lt) ∙ parts_first at x hs b
     ∙ ap (λ (q : BlockPart). q ∷ rest) (sym is) in
     record {
-      told = ap (λ (o : Option Broken). option_or o (blocks_break h.docs (at + x.len) hs (drop (at + x.len) b))) (sym fine)
-          ∙ sym (break_first h.docs at x hs b) ∙ ap (λ (y : List BlockHead). blocks_break h.docs at y (drop at b)) (sym (head_first heads i lt)) ∙ r.told;
+      told = ap (λ (o : Option Broken). option_or o (blocks_break own h.docs (at + x.len) hs (drop (at + x.len) b))) (sym unbroken)
+          ∙ sym (break_first own h.docs at x hs b) ∙ ap (λ (y : List BlockHead). blocks_break own h.docs at y (drop at b)) (sym (head_first heads i lt))
+          ∙ r.told;
       parts_are = ap (λ (y : List BlockPart). y ++ rest) added ∙ append_assoc parts (p ∷ []) rest ∙ ap (λ (y : List BlockPart). parts ++ y) (sym here)
           ∙ r.parts_are;
     }
@@ -144,17 +153,20 @@ reads_on b h heads i at parts now p lt fine is added r =
 or_some : (o p : Option Broken) (x : Broken) → o ≡ Some x → option_or o p ≡ Some x
 or_some o p x e = ap (λ (y : Option Broken). option_or y p) e
 
-pub read_refused : (b : List ℕ) (h : Header) (heads : List BlockHead) (i at : ℕ) (parts : List BlockPart) (e : OpenFault) → i < length heads
-    → Refuses (block_broken at (get_or heads i nothing) h.docs (part b at (get_or heads i nothing).len)) e
+pub read_refused : (b : List ℕ) (h : Header) (w : Weights) (heads : List BlockHead) (i at : ℕ) (parts : List BlockPart) (e : OpenFault)
+    → w ≡ weights_of h.weights → i < length heads
+    → Refuses (block_broken w at (get_or heads i nothing) h.docs (part b at (get_or heads i nothing).len)) e
     → BlocksRead b h heads i at parts → Refuses (blocks_stage b) e
-read_refused b h heads i at parts e lt refused r =
+read_refused b h w heads i at parts e same lt refused r =
     let x = get_or heads i nothing in
     let hs = drop (i + 1) heads in
-    let found = block_broken at x h.docs (part b at x.len) in
-    let later = blocks_break h.docs (at + x.len) hs (drop (at + x.len) b) in
+    let own = weights_of h.weights in
+    let found = block_broken own at x h.docs (part b at x.len) in
+    let later = blocks_break own h.docs (at + x.len) hs (drop (at + x.len) b) in
     let stage : blocks_stage b ≡ option_or found later = sym r.told
-    ∙ ap (λ (y : List BlockHead). blocks_break h.docs at y (drop at b)) (head_first heads i lt) ∙ break_first h.docs at x hs b in
-    refuses_at found (blocks_stage b) e (λ y s. stage ∙ or_some found later y s) refused
+    ∙ ap (λ (y : List BlockHead). blocks_break own h.docs at y (drop at b)) (head_first heads i lt) ∙ break_first own h.docs at x hs b in
+    refuses_at found (blocks_stage b) e (λ y s. stage ∙ or_some found later y s)
+    (subst (λ (y : Weights). Refuses (block_broken y at x h.docs (part b at x.len)) e) same refused)
 
 nothing_left : (heads : List BlockHead) (i : ℕ) → length heads ≤ i → drop i heads ≡ []
 nothing_left [] zero le = refl
@@ -162,9 +174,9 @@ nothing_left [] (suc i) le = refl
 nothing_left (x ∷ hs) zero le = absurd (omega arith)
 nothing_left (x ∷ hs) (suc i) le = nothing_left hs i (omega arith)
 
-no_break : (docs at : ℕ) (bytes : List ℕ) → blocks_break docs at [] bytes ≡ None
+no_break : (w : Weights) (docs at : ℕ) (bytes : List ℕ) → blocks_break w docs at [] bytes ≡ None
 unfolding blocks_break
-no_break docs at bytes = refl
+no_break w docs at bytes = refl
 
 no_parts : (bytes : List ℕ) → parts_by [] (blocks_in [] bytes) ≡ []
 unfolding parts_by blocks_in
@@ -174,7 +186,8 @@ pub read_all : (b : List ℕ) (h : Header) (heads : List BlockHead) (i at : ℕ)
     → (blocks_stage b ≡ None) × (parts ≡ parts_by heads (blocks_of b))
 read_all b h heads i at parts le r =
     let end = nothing_left heads i le in (
-      sym r.told ∙ ap (λ (y : List BlockHead). blocks_break h.docs at y (drop at b)) end ∙ no_break h.docs at (drop at b),
+      sym r.told ∙ ap (λ (y : List BlockHead). blocks_break (weights_of h.weights) h.docs at y (drop at b)) end
+          ∙ no_break (weights_of h.weights) h.docs at (drop at b),
       sym (append-nil parts) ∙ ap (λ (y : List BlockPart). parts ++ y) (sym (no_parts (drop at b)))
           ∙ ap (λ (y : List BlockHead). parts ++ parts_by y (blocks_in y (drop at b))) (sym end) ∙ r.parts_are,
     )

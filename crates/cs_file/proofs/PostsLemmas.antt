@@ -15,8 +15,8 @@ use Rattle.std.proofs.lemmas.List.{append-nil}
 use Rattle.std.proofs.lemmas.List.Elements.{All-nil, All-cons, All-head, All-tail, All-append, filter-append}
 use Rattle.cs_base.specs.declared.index.block.BlockHead.{BlockHead}
 use Rattle.cs_base.specs.declared.content.doc.Post.{Post}
+use Rattle.cs_base.specs.declared.content.scores.Weights.{Weights}
 use Rattle.cs_model.specs.Answers.{begins}
-use Rattle.cs_model.specs.Scores.{SCORES}
 use Rattle.cs_model_index.specs.BlockRules.{keeps, in_docs, in_kind, in_words, is_scored, IsBlock}
 use Rattle.cs_model_index.specs.Images.{image_posts, image_rows}
 use Rattle.cs_model_index.specs.Numbered.{row_of, rows_at}
@@ -35,18 +35,18 @@ kept_all holds P f last (r ∷ rs) e =
     let p = and_parts (holds last r) (keeps holds (Some r) rs) e in
     All-cons P r rs (f last r p.0) (kept_all holds P f (Some r) rs p.1)
 
-pub block_docs : (h : BlockHead) (docs : ℕ) (rs : List Post) (bytes : List ℕ) → IsBlock SCORES h docs rs bytes → All (λ p. p.doc < docs) rs
+pub block_docs : {w : Weights} (h : BlockHead) (docs : ℕ) (rs : List Post) (bytes : List ℕ) → IsBlock w h docs rs bytes → All (λ p. p.doc < docs) rs
 block_docs h docs rs bytes b = kept_all (in_docs docs).holds (λ p. p.doc < docs) (λ last r e. ltb-true _ _ e) None rs b.meets.0
 
-pub block_words : (h : BlockHead) (docs : ℕ) (rs : List Post) (bytes : List ℕ) → IsBlock SCORES h docs rs bytes
+pub block_words : {w : Weights} (h : BlockHead) (docs : ℕ) (rs : List Post) (bytes : List ℕ) → IsBlock w h docs rs bytes
     → All (λ p. (h.lo ≤ p.word) × (p.word < h.lo + h.words)) rs
 block_words h docs rs bytes b =
     let below = kept_all (in_words h).holds (λ p. p.word < h.lo + h.words) (λ last r e. ltb-true _ _ e) None rs b.meets.1.0 in
     λ k d lt. ((b.writable.words k d lt).0, below k d lt)
 
-pub block_scored : (h : BlockHead) (docs : ℕ) (rs : List Post) (bytes : List ℕ) → IsBlock SCORES h docs rs bytes
-    → All (λ p. is_scored SCORES h.facet p ≡ true) rs
-block_scored h docs rs bytes b = kept_all (in_kind SCORES h).holds (λ p. is_scored SCORES h.facet p ≡ true) (λ last r e. e) None rs b.meets.1.1.0
+pub block_scored : (w : Weights) (h : BlockHead) (docs : ℕ) (rs : List Post) (bytes : List ℕ) → IsBlock w h docs rs bytes
+    → All (λ p. is_scored w h.facet p ≡ true) rs
+block_scored w h docs rs bytes b = kept_all (in_kind w h).holds (λ p. is_scored w h.facet p ≡ true) (λ last r e. e) None rs b.meets.1.1.0
 
 -- ---- the posts of some words
 abbrev pub is_between : ℕ → ℕ → Post → Bool

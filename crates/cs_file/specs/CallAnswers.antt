@@ -7,6 +7,7 @@
 --   AreOf posts docs words         the documents and the words of posts
 --   AreScoredOf posts docs words scores      with their scores
 --   IsRanged i p            the numbers of a post are in range
+--   IsBlockOf i told k rows     rows are block k by its head and the index's weights, in bytes that were read
 --   BreaksBlock i told k rule at, IsChangeOfBlock i told k e     the first rule that the bytes of block k break, with its place in the file
 --   BreaksTitle i told d rule at, IsChangeOfTitle i told d e     the bytes of title d aren't text
 --   LeavesStore tells lends fails i Told old now r     what a call with this answer leaves of the store that it reads
@@ -16,8 +17,8 @@ use Rattle.std.specs.Str.{is_utf8}
 use Rattle.cs_base.specs.outside.Outside.{part}
 use Rattle.cs_base.specs.declared.index.block.BlockHead.{BlockHead}
 use Rattle.cs_base.specs.declared.content.doc.Post.{Post}
-use Rattle.cs_model.specs.Scores.{SCORES}
-use Rattle.cs_model_index.specs.BlockRules.{judged, broken_at, is_scored}
+use Rattle.cs_model_index.specs.BlockRules.{IsBlock, judged, broken_at, is_scored}
+use Rattle.cs_model_index.specs.Blocks.{IsShaped}
 use Rattle.cs_model_index.specs.FileRules.{in_file, damage}
 use Rattle.cs_file.specs.Indexes.{CausedReads, IndexView, StandsFor, block_place, title_place, title_len}
 use Rattle.cs_file.specs.declared.fault.OpenFault.{OpenFault}
@@ -61,17 +62,24 @@ AreOf posts docs words = (docs ≡ map (λ p. p.doc) posts) × (words ≡ map (�
 abbrev pub AreScoredOf : List Post → List ℕ → List ℕ → List ℕ → Type 0
 AreScoredOf posts docs words scores = AreOf posts docs words × (scores ≡ map (λ p. p.score) posts)
 
--- a document and a word of the index, with the position and the score of a facet word or of any other
+-- a document and a word of the index, with the position and, by the index's weights, the score of a facet word or of any other
 pub record IsRanged (i : IndexView) (p : Post) : Type 0 where
   pub doc : p.doc < i.docs
   pub word : p.word < length i.words
   pub facet : Bool
-  pub scored : is_scored SCORES facet p ≡ true
+  pub scored : is_scored i.weights facet p ≡ true
+
+-- they keep the rules of a block in some bytes; of a store that tells, these are its bytes at the block's place
+pub record IsBlockOf (i : IndexView) (told : Option (List ℕ)) (k : ℕ) (rows : List Post) : Type 0 where
+  pub bytes : List ℕ
+  pub shaped : (d : BlockHead) → IsShaped (slice_index_or i.heads k d) (length bytes)
+  pub block : (d : BlockHead) → IsBlock i.weights (slice_index_or i.heads k d) i.docs rows bytes
+  pub read : (d : BlockHead) → ForSome told (λ b. bytes ≡ part b (block_place i k) (slice_index_or i.heads k d).len)
 
 -- some bytes break the rule, and no other of a block before it; of a store that tells, these are its bytes at the block's place
 pub record BreaksBlock (i : IndexView) (told : Option (List ℕ)) (k rule at : ℕ) : Type 0 where
   pub bytes : List ℕ
-  pub broken : (d : BlockHead) → option_map (in_file (block_place i k)) (judged SCORES (slice_index_or i.heads k d) i.docs bytes) ≡ Some (broken_at rule at)
+  pub broken : (d : BlockHead) → option_map (in_file (block_place i k)) (judged i.weights (slice_index_or i.heads k d) i.docs bytes) ≡ Some (broken_at rule at)
   pub read : (d : BlockHead) → ForSome told (λ b. bytes ≡ part b (block_place i k) (slice_index_or i.heads k d).len)
 
 -- of a failed read and of want of memory nothing is said

@@ -15,7 +15,7 @@ use Rattle.cs_base.specs.declared.index.block.BlockHead.{BlockHead}
 use Rattle.cs_base.specs.declared.index.block.Broken.{Broken}
 use Rattle.cs_block.specs.BlockScores.{HasScores}
 use Rattle.cs_block.specs.DocWords.{HasDocWords}
-use Rattle.cs_model.specs.Scores.{SCORES}
+use Rattle.cs_model.specs.Weights.{AreWeights}
 use Rattle.cs_model_index.specs.BlockRules.{broken_at, judged}
 use Rattle.cs_model_index.specs.Blocks.{IsShaped}
 use Rattle.cs_model_index.specs.FileRules.{in_file}
@@ -32,18 +32,20 @@ pub record IsBlockAt (i : IndexView) (k : ℕ) (placed : Placed) : Type 0 where
   pub small : placed.at < 2 ^ 63
   pub head_is : (d : BlockHead) → placed.head ≡ slice_index_or i.heads k d
   pub docs_are : placed.docs ≡ i.docs
+  pub weights_are : placed.weights ≡ i.weights
   pub at_is : placed.at ≡ block_place i k
 
--- its head fits the bytes, and its place and the documents have as many bits as their numbers
+-- its head fits the bytes, its place and the documents have as many bits as their numbers, and its rows count for something
 pub record CanBeJudged (placed : Placed) (len : ℕ) : Type 0 where
   pub shaped : IsShaped placed.head len
   pub small : placed.at < 2 ^ 63
   pub few : placed.docs < 2 ^ 32
+  pub weights : AreWeights placed.weights
 
 -- the documents, words and scores of a block whose bytes were read
 pub record HasScored (placed : Placed) (read : List ℕ) (f : Fetched) : Type 0 where
   pub listed : HasDocWords placed.head placed.docs read f.docs.items f.words.items
-  pub scored : HasScores placed.head read f.scores.items
+  pub scored : HasScores placed.weights placed.head read f.scores.items
 
 -- of a failed read and of want of memory nothing is said
 abbrev pub IsFaultAt : ℕ → Option Broken → FetchFault → Type 0
@@ -53,7 +55,7 @@ IsFaultAt at broken fetches.Memory = Unit {0}
 
 -- where the bytes keep the rules it is none of a change
 abbrev pub IsFaultOf : Placed → List ℕ → FetchFault → Type 0
-IsFaultOf placed bytes e = IsFaultAt placed.at (judged SCORES placed.head placed.docs bytes) e
+IsFaultOf placed bytes e = IsFaultAt placed.at (judged placed.weights placed.head placed.docs bytes) e
 
 -- no bytes are the empty text
 abbrev pub ReadsText : List ℕ → ℕ → Result (List ℕ) FetchFault → Type 0

@@ -4,7 +4,7 @@
 use Rattle.cs_model_index.specs.Layout.{Header}
 use Rattle.cs_file.specs.declared.header.Header.{Header as Numbers}
 
--- the last number, which the rules ask to be 0, isn't kept
+-- all of them
 abbrev pub seen_header : Numbers → Header
 seen_header h = record {
   docs = h.docs;
@@ -15,5 +15,5 @@ seen_header h = record {
   vocabulary_len = h.vocabulary_len;
   titles_len = h.titles_len;
   blocks_len = h.blocks_len;
-  spare = 0;
+  weights = h.weights;
 }

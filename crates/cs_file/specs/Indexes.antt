@@ -24,22 +24,26 @@ use Rattle.std.specs.Cmp.Lexicographic.{slice_cmp}
 use Rattle.cs_base.specs.outside.Causes.{Rose}
 use Rattle.cs_base.specs.declared.index.block.BlockHead.{BlockHead}
 use Rattle.cs_base.specs.declared.content.doc.Post.{Post}
+use Rattle.cs_base.specs.declared.content.scores.Weights.{Weights}
 use Rattle.cs_base.specs.declared.content.limits.TheConstants.{MAX_DOCS, MAX_WORDS, MAX_ROWS}
+use Rattle.cs_model.specs.Weights.{AreWeights}
 use Rattle.cs_model_index.specs.FileRules.{IsIndexFile, is_word, is_onward, is_joined, is_of_one_kind, is_sized, laid, last_value, words_end}
 use Rattle.cs_model_index.specs.Layout.{vocabulary_bytes}
 use Rattle.cs_model_index.specs.Numbered.{word_at}
 use Rattle.cs_model_index.specs.Partitions.{is_facet}
 use Rattle.cs_model_index.specs.Sections.{contents_of, titles_at, blocks_at, image_of}
+use Rattle.cs_model_index.specs.WeightsField.{weights_of}
 use Rattle.cs_model_index.specs.declared.limits.TheConstants.{HEADER_BYTES, NUMBER_BYTES, ENTRY_BYTES, MAX_TARGET}
 
--- the number of documents, words by number, where titles begin and the last ends, the heads of the blocks, the target, and the
--- places of the first title and the first block
+-- the number of documents, words by number, where titles begin and the last ends, the heads of the blocks, the target, the weights of
+-- the rows, and the places of the first title and the first block
 pub record IndexView : Type 0 where
   pub docs : ℕ
   pub words : List (List ℕ)
   pub offsets : List ℕ
   pub heads : List BlockHead
   pub target : ℕ
+  pub weights : Weights
   pub titles_at : ℕ
   pub blocks_at : ℕ
 
@@ -53,6 +57,7 @@ index_of b =
       offsets = r.offsets;
       heads = r.heads;
       target = r.header.target;
+      weights = weights_of r.header.weights;
       titles_at = titles_at r.header;
       blocks_at = blocks_at r.header;
     }
@@ -82,6 +87,7 @@ pub record IsIndex (i : IndexView) : Type 0 where
   pub ascending : IsStrictlySortedBy (slice_cmp nat_cmp) i.words
   pub target_from : 1 ≤ i.target
   pub target_to : i.target ≤ MAX_TARGET
+  pub weights : AreWeights i.weights
   pub offsets : length i.offsets ≡ i.docs + 1
   pub onward : list_all (λ p. is_onward p.last p.value) (laid (λ o. NUMBER_BYTES) 0 None i.offsets) ≡ true
   pub joined : list_all (λ p. is_joined p.last p.value) (laid (λ h. ENTRY_BYTES) 0 None i.heads) ≡ true

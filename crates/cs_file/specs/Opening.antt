@@ -22,7 +22,7 @@
 --   piece_in b first os, titles_cut os bytes       the bytes between such offsets, which count from a place, and the titles in them
 --   bad_title_in first os bytes      where rule 9 is broken by these titles
 --   header_judged bytes size         rules 2 to 4 of the header's bytes
---   block_broken at head docs bytes     the first of rules 13 to 17 that the bytes of a block at a place break, with its place in the file
+--   block_broken w at head docs bytes     the first of rules 13 to 17 that the bytes of a block at a place break, with its place in the file
 --   file_words b, offsets_of b, file_titles b, heads_of b, blocks_of b       what is read of the bytes
 use Rattle.std.specs.Prelude.{◌≡◌, ℕ, zero, suc, ◌+◌, ◌-◌, true, All, not, map, slice_index_or, if◌then◌else◌, ◌<◌, ◌≤◌, ◌^◌, ◌==◌, ◌&&◌, List, [], ◌∷◌, length, take, Option, None, Some}
 use Rattle.std.specs.Prelude.{Result, MatchResult}
@@ -35,10 +35,10 @@ use Rattle.std.specs.Str.{bytes_eq, is_utf8}
 use Rattle.cs_base.specs.declared.index.block.BlockHead.{BlockHead}
 use Rattle.cs_base.specs.declared.index.block.Broken.{Broken}
 use Rattle.cs_base.specs.declared.content.doc.Post.{Post}
+use Rattle.cs_base.specs.declared.content.scores.Weights.{Weights}
 use Rattle.cs_base.specs.outside.Outside.{part}
 use Rattle.cs_base.specs.declared.content.limits.TheConstants.{MAX_DOCS, MAX_WORDS, MAX_ROWS}
 use Rattle.cs_model.specs.First.{unless, first_reason}
-use Rattle.cs_model.specs.Scores.{SCORES}
 use Rattle.cs_model_index.specs.BlockRules.{broken_at, judged}
 use Rattle.cs_model_index.specs.FileRules.{laid, last_value, words_end, is_joined, is_of_one_kind, is_sized, break_of, is_onward, last_offset_at, tried}
 use Rattle.cs_model_index.specs.FileRules.{field_breaks, is_length, is_word, word_size, follows, header_rules, vocabulary_rules, title_rules, directory_rules}
@@ -47,6 +47,7 @@ use Rattle.cs_model_index.specs.Layout.{Header, MAGIC, vocabulary_bytes}
 use Rattle.cs_model_index.specs.Numbered.{word_at}
 use Rattle.cs_model_index.specs.Partitions.{is_facet}
 use Rattle.cs_model_index.specs.Sections.{header_of, contents_of, vocabulary_at, offsets_at, titles_at, directory_at, blocks_at, size_by, titles_in}
+use Rattle.cs_model_index.specs.WeightsField.{is_field, weights_of}
 use Rattle.cs_model_index.specs.declared.limits.TheConstants.{NUMBER_BYTES, ENTRY_BYTES, MAX_TARGET}
 use Rattle.cs_file.specs.declared.fault.OpenFault.{OpenFault}
 use Rattle.cs_file.specs.declared.fault.OpenFault.TheVariants as opens
@@ -67,7 +68,7 @@ abbrev pub AreBytes : List ℕ → ℕ → ℕ → Type 0
 AreBytes b at n = All (λ x. x < 2 ^ 8) (part b at n)
 
 -- ---- the header
--- what counts within its limit, section by section, and lengths of four bytes
+-- what counts within its limit, section by section, lengths of four bytes, and a number that stands for weights
 pub record IsHeader (h : Header) : Type 0 where
   pub words : h.words ≤ MAX_WORDS
   pub vocabulary : h.vocabulary_len < 2 ^ 32
@@ -78,6 +79,7 @@ pub record IsHeader (h : Header) : Type 0 where
   pub postings : h.blocks_len < 2 ^ 32
   pub target_from : 1 ≤ h.target
   pub target_to : h.target ≤ MAX_TARGET
+  pub weights : is_field h.weights ≡ true
 
 -- the numbers are read of the bytes, which are as many as they say
 pub record IsHeaderOf (b : List ℕ) (h : Header) : Type 0 where
@@ -226,11 +228,11 @@ directory_judged h ws hs =
 
 -- rules 13 to 17
 unfoldable pub blocks_stage : List ℕ → Option Broken
-blocks_stage b = blocks_break (header_of b).docs (blocks_at (header_of b)) (contents_of b).heads (contents_of b).bytes.blocks
+blocks_stage b = blocks_break (weights_of (header_of b).weights) (header_of b).docs (blocks_at (header_of b)) (contents_of b).heads (contents_of b).bytes.blocks
 
 -- where they are broken by one block; None where it keeps them
-abbrev pub block_broken : ℕ → BlockHead → ℕ → List ℕ → Option Broken
-block_broken at head docs bytes = option_map (in_file at) (judged SCORES head docs bytes)
+abbrev pub block_broken : Weights → ℕ → BlockHead → ℕ → List ℕ → Option Broken
+block_broken w at head docs bytes = option_map (in_file at) (judged w head docs bytes)
 
 -- rule 18
 unfoldable pub parting_stage : List ℕ → Option Broken

@@ -1,15 +1,15 @@
 //! Reading blocks and titles of an opened index.
-ghost use Rattle.std.specs.Prelude.{◌≡◌, ◌<◌, ◌≤◌, ◌+◌, ◌^◌, ℕ, List, Option, false, length, Err, IfOk, IfErr, OnOk, All};
+ghost use Rattle.std.specs.Prelude.{◌≡◌, ◌<◌, ◌≤◌, ◌+◌, ◌++◌, ◌^◌, ℕ, List, Option, false, length, Err, IfOk, IfErr, OnOk, OnErr, All};
 ghost use Rattle.std.specs.Option.{ForSome};
-ghost use Rattle.cs_base.specs.declared.content.scores.TheConstants.{TITLE_SCORE};
+ghost use Rattle.cs_base.specs.declared.content.scores.TheConstants.{MAX_ROW_SCORE};
 ghost use Rattle.cs_base.specs.outside.Causes.{ReadsWithin};
 ghost use Rattle.cs_base.specs.outside.Outside.{part};
+ghost use Rattle.cs_base.specs.declared.content.doc.Post.{Post};
 ghost use Rattle.cs_base.specs.declared.index.block.Broken.{Broken};
 ghost use Rattle.cs_block.specs.BlockReading.{Decodes};
 ghost use Rattle.cs_block.specs.DocWords.{HasDocWords, HasFront, front_bytes};
-ghost use Rattle.cs_model.specs.Scores.{SCORES};
 ghost use Rattle.cs_model_index.specs.BlockRules.{IsBlock};
-ghost use Rattle.cs_file.specs.CallAnswers.{AreScoredOf, IsChangeOfBlock, IsChangeOfTitle, LeavesStore, is_read, is_changed};
+ghost use Rattle.cs_file.specs.CallAnswers.{AreScoredOf, IsBlockOf, IsChangeOfBlock, IsChangeOfTitle, LeavesStore, is_read, is_changed};
 ghost use Rattle.cs_file.specs.Fetching.{CanBeJudged, HasScored, IsBlockAt, IsFaultAt, IsFaultOf, ReadsText};
 ghost use Rattle.cs_file.specs.Indexes.{StandsFor, HasAllBlocks, CausedReads, block_place, block_posts, title_in, title_place, title_len};
 
@@ -17,7 +17,7 @@ use crate::fault::FetchFault;
 use crate::fetched::Fetched;
 use crate::index::Index;
 use crate::reading::{fit, read_at_once};
-use cs_base::{BlockHead, Memory, Store, Text};
+use cs_base::{BlockHead, Memory, Store, Text, Weights};
 use cs_block::{BlockFault, decode, read_doc_words, read_scores};
 use cs_cols::Cols;
 use std::alloc::Global;
@@ -29,11 +29,37 @@ pub(crate) struct Placed {
     pub(crate) head: BlockHead,
     /// The documents of the collection are those below this one.
     pub(crate) docs: u32,
+    /// What the rows count for.
+    pub(crate) weights: Weights,
     /// Its place, in bytes from the file's first.
     pub(crate) at: u64,
 }
 
 impl Index {
+    /// Adds the posts of block `k` at the end, read from the store from which the index was opened. All rules of a block are tried.
+    pub fn fetch<S: Store>(
+        &self,
+        alloc: Global,
+        store: &mut S,
+        k: u32,
+        into: &mut Cols,
+    ) -> Result<(), FetchFault>
+        requires in_range { k < length self.now.heads }
+        requires fits { HasAllBlocks (S.bytes store.old) self.now }
+
+        // over every store they are a block by the rules, and over one that tells they are read there
+        ensures ok { OnOk result ((rows : List Post) × IsBlockOf self.now (S.bytes store.old) k rows × (into.new.posts ≡ into.old.posts ++ rows)) }
+        ensures stood { ForSome (S.bytes store.old) (λ b. StandsFor b self.now → OnOk result (into.new.posts ≡ into.old.posts ++ block_posts b k)) }
+        ensures err { OnErr result (into.new.posts ≡ into.old.posts) }
+        ensures store { LeavesStore S.bytes S.lent S.faults self.now (IsChangeOfBlock self.now (S.bytes store.old) k) store.old store.new result }
+        ensures reads { ReadsWithin 1 (S.reads store.old) (S.reads store.new) }
+    {
+        let placed = self.placed(k);
+        let mut bytes = Vec::new(alloc);
+        read_over(store, placed.at, placed.head.len, &mut bytes)?;
+        decode_into(&bytes, &placed, into)
+    }
+
     /// Reads the documents, the words and the scores of the posts of block `k` in place of those that `into` holds, from the store
     /// from which the index was opened. Positions aren't looked at. Where it fails `into` holds anything.
     pub fn fetch_scored<S: Store>(
@@ -51,7 +77,7 @@ impl Index {
         ensures scores_even { OnOk result (length into.new.scores.items ≡ length into.new.docs.items) }
         ensures docs { OnOk result (All (λ d. d < self.now.docs) into.new.docs.items) }
         ensures words { OnOk result (All (λ w. w < length self.now.words) into.new.words.items) }
-        ensures scores { OnOk result (All (λ s. s ≤ TITLE_SCORE) into.new.scores.items) }
+        ensures scores { OnOk result (All (λ s. (1 ≤ s) × (s ≤ MAX_ROW_SCORE)) into.new.scores.items) }
         ensures stood { ForSome (S.bytes store.old) (λ b. StandsFor b self.now
             → OnOk result (AreScoredOf (block_posts b k) into.new.docs.items into.new.words.items into.new.scores.items)) }
         ensures store { LeavesStore S.bytes S.lent S.faults self.now (IsChangeOfBlock self.now (S.bytes store.old) k) store.old store.new result }
@@ -95,6 +121,7 @@ impl Index {
         Placed {
             head: self.heads.as_slice()[k as usize],
             docs: self.docs,
+            weights: self.weights,
             at: self.block_at(k),
         }
     }
@@ -133,19 +160,33 @@ pub(crate) fn read_over<S: Store>(
     }
 }
 
+// Adds the posts of a block, whose bytes were read, at the end.
+fn decode_into(bytes: &[u8], placed: &Placed, into: &mut Cols) -> Result<(), FetchFault>
+    requires { CanBeJudged placed.now (length bytes.now) }
+
+    ensures ok { OnOk result ((rows : List Post) × IsBlock placed.now.weights placed.now.head placed.now.docs rows bytes.now
+        × (into.new.posts ≡ into.old.posts ++ rows)) }
+    ensures err { OnErr result (into.new.posts ≡ into.old.posts) }
+    ensures exact { IfErr result (λ fault. IsFaultOf placed.now bytes.now fault) }
+    ensures unread { is_read result ≡ false }
+{
+    match decode(bytes, &placed.head, placed.docs, placed.weights, into) {
+        Ok(()) => Ok(()),
+        Err(fault) => Err(file_fault(fault, placed.at)),
+    }
+}
+
 /// The posts of a block, whose bytes were read, by decoding it: where a test on some columns fails, this says what is broken.
 pub(crate) fn decode_at(alloc: Global, bytes: &[u8], placed: &Placed) -> Result<Cols, FetchFault>
     requires { CanBeJudged placed.now (length bytes.now) }
 
-    ensures ok { IfOk result (λ rows. IsBlock SCORES placed.now.head placed.now.docs rows.posts bytes.now) }
+    ensures ok { IfOk result (λ rows. IsBlock placed.now.weights placed.now.head placed.now.docs rows.posts bytes.now) }
     ensures exact { IfErr result (λ fault. IsFaultOf placed.now bytes.now fault) }
     ensures unread { is_read result ≡ false }
 {
     let mut rows = Cols::new(alloc);
-    match decode(bytes, &placed.head, placed.docs, &mut rows) {
-        Ok(()) => Ok(rows),
-        Err(fault) => Err(file_fault(fault, placed.at)),
-    }
+    decode_into(bytes, placed, &mut rows)?;
+    Ok(rows)
 }
 
 // A fault of a block's bytes, which begin at a place of the file.
@@ -174,7 +215,7 @@ fn scored_at(alloc: Global, placed: &Placed, into: &mut Fetched) -> Result<(), F
     ensures unread { is_read result ≡ false }
 {
     doc_words_at(placed, into)?;
-    if read_scores(&into.bytes, &placed.head, &mut into.scores)? {
+    if read_scores(&into.bytes, &placed.head, placed.weights, &mut into.scores)? {
         return Ok(());
     }
     let rows = decode_at(alloc, &into.bytes, placed)?;

@@ -13,6 +13,7 @@ ghost use Rattle.cs_file.specs.Opening.{AreBytes, Judges, IsHeader, HasHeader, h
 use crate::fault::OpenFault;
 use crate::judged::{number_at, tried, unless};
 use crate::reading::section;
+use crate::weights::is_field;
 use cs_base::{MAX_DOCS, MAX_ROWS, MAX_WORDS, Store};
 use cs_model_index::{ENTRY_BYTES, HEADER_BYTES, MAX_TARGET, NUMBER_BYTES};
 use std::alloc::Global;
@@ -20,7 +21,7 @@ use std::alloc::Global;
 /// The first bytes of each index file.
 pub(crate) const MAGIC: [u8; 8] = *b"HYBIDX1\n";
 
-/// The numbers of a header that keeps the rules. Its last number is 0 then.
+/// The numbers of a header.
 #[derive(Clone, Copy, Drop)]
 pub(crate) struct Header {
     /// How many documents there are.
@@ -39,6 +40,8 @@ pub(crate) struct Header {
     pub(crate) titles_len: u32,
     /// The bytes of the blocks.
     pub(crate) blocks_len: u32,
+    /// The number that stands for the weights of the rows.
+    pub(crate) weights: u32,
 }
 
 impl Header {
@@ -113,7 +116,7 @@ fn judge_header(bytes: &[u8], size: u64) -> Result<Header, OpenFault>
 {
     tried(2, unless(bytes[..MAGIC.len()] == MAGIC[..], 0))?;
     let header = header_in(bytes);
-    tried(3, broken_field(&header, number_at(bytes, 40)))?;
+    tried(3, broken_field(&header))?;
     tried(4, unless(size == header.size(), size))?;
     Ok(header)
 }
@@ -122,7 +125,7 @@ fn judge_header(bytes: &[u8], size: u64) -> Result<Header, OpenFault>
 fn header_in(bytes: &[u8]) -> Header
     requires { length bytes.now ≡ HEADER_BYTES }
 
-    ensures numbers { record (seen_header result) { spare = number_at bytes.now 40 } ≡ header_of bytes.now }
+    ensures numbers { seen_header result ≡ header_of bytes.now }
     ensures small { (result.vocabulary_len < 2 ^ 32) × (result.titles_len < 2 ^ 32) × (result.blocks_len < 2 ^ 32) }
 {
     Header {
@@ -134,12 +137,13 @@ fn header_in(bytes: &[u8]) -> Header
         vocabulary_len: number_at(bytes, 28),
         titles_len: number_at(bytes, 32),
         blocks_len: number_at(bytes, 36),
+        weights: number_at(bytes, 40),
     }
 }
 
 // The place of the first number that is out of its range.
-fn broken_field(header: &Header, spare: u32) -> Option<u64>
-    ensures { result ≡ first_reason (field_breaks (record (seen_header header.now) { spare = spare })) }
+fn broken_field(header: &Header) -> Option<u64>
+    ensures { result ≡ first_reason (field_breaks (seen_header header.now)) }
 {
     let in_range = 1 <= header.target && header.target <= MAX_TARGET;
     unless(header.docs as usize <= MAX_DOCS, 8)
@@ -147,5 +151,5 @@ fn broken_field(header: &Header, spare: u32) -> Option<u64>
         .or(unless(header.rows as usize <= MAX_ROWS, 16))
         .or(unless(header.blocks <= header.words, 20))
         .or(unless(in_range, 24))
-        .or(unless(spare == 0, 40))
+        .or(unless(is_field(header.weights), 40))
 }

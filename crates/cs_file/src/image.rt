@@ -1,5 +1,5 @@
 //! Images in memory.
-use cs_base::{BlockHead, Seq, Text};
+use cs_base::{BlockHead, Seq, Text, Weights};
 use cs_cols::Cols;
 use cs_vocab::Vocab;
 use std::marker::Model;
@@ -17,6 +17,8 @@ pub struct Image {
     pub blocks: Seq<Cols>,
     /// The most rows of a block of several words.
     pub target: u32,
+    /// What the rows count for.
+    pub weights: Weights,
 }
 
 impl Model for Image {
@@ -25,5 +27,5 @@ impl Model for Image {
 
     ghost Value = { Image };
 
-    ghost view = { λ i. record { titles = i.titles; words = i.words; heads = i.heads; blocks = map (λ c. c.posts) i.blocks; target = i.target } };
+    ghost view = { λ i. record { titles = i.titles; words = i.words; heads = i.heads; blocks = map (λ c. c.posts) i.blocks; target = i.target; weights = i.weights } };
 }

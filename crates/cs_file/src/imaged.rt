@@ -43,6 +43,7 @@ pub fn index_of(alloc: Global, image: Image) -> Result<Index, Memory>
         heads,
         blocks,
         target,
+        weights,
     } = image;
     drop(blocks);
     let offsets = offsets_of(alloc, titles.as_slice())?;
@@ -54,6 +55,7 @@ pub fn index_of(alloc: Global, image: Image) -> Result<Index, Memory>
         offsets,
         heads,
         target,
+        weights,
         titles_at: header.titles_at(),
         blocks_at: header.blocks_at(),
         places,
@@ -77,6 +79,7 @@ fn header_of(image: &Image) -> Header
         vocabulary_len: numbers[5],
         titles_len: numbers[6],
         blocks_len: numbers[7],
+        weights: numbers[8],
     }
 }
 

@@ -1,7 +1,7 @@
 //! An index that was opened.
 ghost use Rattle.cs_vocab.specs.Ranges.{IsRange};
 
-use cs_base::{BlockHead, Seq};
+use cs_base::{BlockHead, Seq, Weights};
 use cs_vocab::Vocab;
 use std::marker::Model;
 
@@ -19,6 +19,8 @@ pub struct Index {
     pub heads: Seq<BlockHead>,
     /// The most rows of a block of several words.
     pub target: u32,
+    /// What the rows count for.
+    pub weights: Weights,
     /// The place of the first title, in bytes from the file's first.
     pub titles_at: u64,
     /// The place of the first block, in bytes from the file's first.
@@ -33,10 +35,10 @@ impl Model for Index {
     ghost Value = { IndexView };
 
     ghost view = { λ i.
-        record { docs = i.docs; words = i.words; offsets = i.offsets; heads = i.heads; target = i.target; titles_at = i.titles_at; blocks_at = i.blocks_at } };
+        record { docs = i.docs; words = i.words; offsets = i.offsets; heads = i.heads; target = i.target; weights = i.weights; titles_at = i.titles_at; blocks_at = i.blocks_at } };
 
     ghost invariant = { λ i. IsKeptIndex
-        (record { docs = i.docs; words = i.words; offsets = i.offsets; heads = i.heads; target = i.target; titles_at = i.titles_at; blocks_at = i.blocks_at }) i.places };
+        (record { docs = i.docs; words = i.words; offsets = i.offsets; heads = i.heads; target = i.target; weights = i.weights; titles_at = i.titles_at; blocks_at = i.blocks_at }) i.places };
 }
 
 impl Index {

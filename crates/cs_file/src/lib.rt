@@ -27,6 +27,7 @@ mod sizes;
 mod sought;
 mod titles;
 mod vocabulary;
+mod weights;
 mod writing;
 
 pub use cs_base::BlockHead;

@@ -14,6 +14,7 @@ use crate::places::places_of;
 use crate::postings::read_blocks;
 use crate::titles::read_titles;
 use crate::vocabulary::read_vocabulary;
+use crate::weights::weights_of;
 use cs_base::Store;
 use cs_vocab::Vocab;
 use std::alloc::Global;
@@ -50,6 +51,7 @@ pub fn open_index<S: Store>(alloc: Global, store: &mut S) -> Result<Index, OpenF
         offsets,
         heads,
         target: header.target,
+        weights: weights_of(header.weights),
         titles_at: header.titles_at(),
         blocks_at: header.blocks_at(),
         places,

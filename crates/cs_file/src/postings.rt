@@ -4,6 +4,7 @@ ghost use Rattle.std.specs.List.{sum_by};
 ghost use Rattle.std.specs.Option.{ForSome};
 ghost use Rattle.cs_base.specs.outside.Outside.{part};
 ghost use Rattle.cs_base.specs.declared.content.limits.TheConstants.{MAX_ROWS, MAX_WORDS};
+ghost use Rattle.cs_model.specs.Weights.{AreWeights};
 ghost use Rattle.cs_model_index.specs.Blocks.{IsShaped};
 ghost use Rattle.cs_model_index.specs.Sections.{blocks_at};
 ghost use Rattle.cs_file.specs.CallAnswers.{is_read_of_open};
@@ -17,7 +18,8 @@ use crate::header::Header;
 use crate::part::BlockPart;
 use crate::parts::part_of;
 use crate::reading::section;
-use cs_base::{BlockHead, Memory, Store};
+use crate::weights::weights_of;
+use cs_base::{BlockHead, Memory, Store, Weights};
 use cs_block::{BlockFault, decode};
 use cs_cols::Cols;
 use std::alloc::Global;
@@ -47,8 +49,9 @@ pub(crate) fn read_blocks<S: Store>(
 {
     let mut parts = room_for(alloc, heads.len())?;
     let mut at = header.blocks_at();
+    let weights = weights_of(header.weights);
     for i in 0..heads.len() {
-        let part = read_block(alloc, store, at, &heads[i], header.docs)?;
+        let part = read_block(alloc, store, at, &heads[i], header.docs, weights)?;
         push_part(&mut parts, part)?;
         at += u64::from(heads[i].len);
     }
@@ -76,13 +79,15 @@ fn read_block<S: Store>(
     at: u64,
     head: &BlockHead,
     docs: u32,
+    weights: Weights,
 ) -> Result<BlockPart, OpenFault>
+    requires weights { AreWeights weights }
     requires shaped { IsShaped head.now head.now.len }
     requires rows { head.now.rows ≤ MAX_ROWS }
     requires places { at < 2 ^ 40 }
     requires within { ForSome (S.bytes store.old) (λ b. at + head.now.len ≤ length b) }
 
-    ensures exact { ForSome (S.bytes store.old) (λ b. Judges (block_broken at head.now docs (part b at head.now.len)) result) }
+    ensures exact { ForSome (S.bytes store.old) (λ b. Judges (block_broken weights at head.now docs (part b at head.now.len)) result) }
     ensures part { ForSome (S.bytes store.old) (λ b. IfOk result (λ p. p ≡ part_read head.now (part b at head.now.len))) }
     ensures small { ForSome (S.bytes store.old) (λ b. OnOk result (AreBytes b at head.now.len)) }
     ensures bytes { S.bytes store.new ≡ S.bytes store.old }
@@ -90,7 +95,7 @@ fn read_block<S: Store>(
     ensures caused { CausedReads (is_read_of_open result) (S.faults store.old) (S.faults store.new) }
 {
     let bytes = section(alloc, store, at, head.len as usize)?;
-    judge_block(alloc, &bytes, head, docs, at)
+    judge_block(alloc, &bytes, head, docs, weights, at)
 }
 
 // Tries rules 13 to 17 on the bytes of a block that stands at a place.
@@ -99,18 +104,20 @@ fn judge_block(
     bytes: &[u8],
     head: &BlockHead,
     docs: u32,
+    weights: Weights,
     at: u64,
 ) -> Result<BlockPart, OpenFault>
+    requires weights { AreWeights weights }
     requires shaped { IsShaped head.now (length bytes.now) }
     requires rows { head.now.rows ≤ MAX_ROWS }
     requires places { at < 2 ^ 40 }
 
-    ensures exact { Judges (block_broken at head.now docs bytes.now) result }
+    ensures exact { Judges (block_broken weights at head.now docs bytes.now) result }
     ensures part { IfOk result (λ p. p ≡ part_read head.now bytes.now) }
     ensures unread { is_read_of_open result ≡ false }
 {
     let mut rows = Cols::new(alloc);
-    match decode(bytes, head, docs, &mut rows) {
+    match decode(bytes, head, docs, weights, &mut rows) {
         Ok(()) => {
             let part = part_of(alloc, head, rows.words())?;
             Ok(part)

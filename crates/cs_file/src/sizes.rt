@@ -6,6 +6,7 @@ ghost use Rattle.cs_model_index.specs.Layout.{Header, header_numbers, header_of_
 ghost use Rattle.cs_file.specs.Writable.{CanBeWritten};
 
 use crate::image::Image;
+use crate::weights::field_of;
 use cs_base::{BlockHead, Text};
 use cs_cols::Cols;
 use cs_vocab::Vocab;
@@ -25,7 +26,7 @@ pub(crate) fn numbers_of(image: &Image) -> [u32; 9]
         vocabulary_len(&image.words),
         titles_len(image.titles.as_slice()),
         blocks_len(image.heads.as_slice()),
-        0,
+        field_of(image.weights),
     ]
 }
 

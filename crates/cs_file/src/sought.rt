@@ -81,7 +81,7 @@ fn sought_at(
     requires judged { CanBeJudged placed.now (length into.old.bytes.items) }
     requires listed { length listed.now ≡ placed.now.docs }
 
-    ensures ok { OnOk result (HasSought placed.now.head into.old.bytes.items words.0 words.1 listed.now into.new.posts.items) }
+    ensures ok { OnOk result (HasSought placed.now.weights placed.now.head into.old.bytes.items words.0 words.1 listed.now into.new.posts.items) }
     ensures exact { IfErr result (λ fault. IsFaultOf placed.now into.old.bytes.items fault) }
     ensures unread { is_read result ≡ false }
 {
@@ -89,6 +89,7 @@ fn sought_at(
     if read_sought(
         &into.bytes,
         head,
+        placed.weights,
         words,
         listed,
         &mut into.docs,

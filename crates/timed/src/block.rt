@@ -3,7 +3,7 @@ ghost use Rattle.std.specs.Prelude.{◌≡◌, true, length};
 ghost use Rattle.cs_model_index.specs.Blocks.{IsShaped};
 
 use crate::numbers::Numbers;
-use cs_base::{BlockHead, MAX_WORDS, Memory};
+use cs_base::{BlockHead, MAX_WORDS, Memory, USUAL_WEIGHTS};
 use cs_block::{BlockFault, decode};
 use cs_cols::Cols;
 use cs_gaps::put_gap;
@@ -36,7 +36,13 @@ pub(crate) fn decoded(
     let mut sum: u64 = 0;
     for _ in 0..times {
         into.truncate(0);
-        match decode(block.bytes.as_slice(), &block.head, block.docs, &mut into) {
+        match decode(
+            block.bytes.as_slice(),
+            &block.head,
+            block.docs,
+            USUAL_WEIGHTS,
+            &mut into,
+        ) {
             Ok(()) => sum = sum.wrapping_add(told(&into)),
             Err(BlockFault::Rule { .. }) => return Ok(None),
             Err(BlockFault::Memory) => return Err(Memory),
@@ -77,7 +83,11 @@ fn made_block(alloc: Global, rows: u32, stride: u32) -> Result<Block, Memory> {
         put_gap(&mut bytes, gap)?;
         locals.extend_from_slice(&((number / 64 % words) as u16).to_be_bytes())?;
         places.extend_from_slice(&pos.to_be_bytes())?;
-        scores.push(if number % 8 == 0 { 4 } else { 1 })?;
+        scores.push(if number % 8 == 0 {
+            USUAL_WEIGHTS.title
+        } else {
+            USUAL_WEIGHTS.text
+        })?;
     }
     bytes.extend_from_slice(locals.as_slice())?;
     bytes.extend_from_slice(places.as_slice())?;

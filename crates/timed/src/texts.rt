@@ -1,6 +1,6 @@
 //! The words of a text, and a collection read into rows, its vocabulary and the rows' numbers.
 use cs_base::Memory;
-use cs_docs::{DocFault, RowsFault, read_docs, rows_of};
+use cs_docs::{Collected, DocFault, RowsFault, read_docs, rows_of};
 use cs_text::words;
 use cs_vocab::Numbered;
 use std::alloc::Global;
@@ -24,12 +24,12 @@ pub(crate) fn counted(alloc: Global, bytes: &[u8], times: u32) -> Result<Option<
 }
 
 fn count_of(alloc: Global, bytes: &[u8]) -> Result<Option<u64>, Memory> {
-    let docs = match read_docs(alloc, bytes) {
-        Ok(docs) => docs,
+    let Collected { docs, weights } = match read_docs(alloc, bytes) {
+        Ok(collected) => collected,
         Err(DocFault::Memory) => return Err(Memory),
         Err(_) => return Ok(None),
     };
-    let rows = match rows_of(alloc, &docs) {
+    let rows = match rows_of(alloc, &docs, weights) {
         Ok(rows) => rows,
         Err(RowsFault::Memory) => return Err(Memory),
         Err(RowsFault::TooManyRows) => return Ok(None),

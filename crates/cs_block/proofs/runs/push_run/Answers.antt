@@ -11,6 +11,7 @@ use Rattle.cs_block.proofs.runs.push_run.Goals as goal
 pub returns-clause-pushed : goal.returns-clause-pushed
 returns-clause-pushed c =
     let head = c.args.head.now in
+    let weights = c.args.weights in
     let docs = c.args.docs in
     let cols = seen_columns c.args.columns.now in
     let from = c.args.from in
@@ -32,13 +33,13 @@ returns-clause-pushed c =
     let ls : length ss ≡ n = omega (arith, length-take m (drop from.rows cols.scores), length-drop from.rows cols.scores) in
     let front : is_after from.last (row_in ds ws ps ss 0) ≡ true =
     subst (λ (r : Post). is_after from.last r ≡ true) c.row_in-front.ensures (sym c.is_after.ensures ∙ c.if-not-is_after.false) in
-    let run = is_run head docs cols from.rows from.at from.before from.last ds ws ps ss n ld lw lp ls rows
+    let run = is_run weights head docs cols from.rows from.at from.before from.last ds ws ps ss n ld lw lp ls rows
     (ap (λ (x : ℕ). take x (drop from.rows cols.scores)) as_many) c.in_ok-at.ensures.are (c.if-not-words_in.ensures refl)
     (c.if-not-positions_in.ensures refl) (c.if-not-are_scores.ensures refl) (c.if-not-are_ascending.ensures refl) front in
     λ first h.
-    subst (λ (r : Post). HasPushed head docs cols (from.rows + n) c.in_ok-at.at (Some r) r.doc first c.extend_reserved.new.self.posts
+    subst (λ (r : Post). HasPushed weights head docs cols (from.rows + n) c.in_ok-at.at (Some r) r.doc first c.extend_reserved.new.self.posts
     c.extend_reserved.new.self.room) (sym c.row_in-last.ensures)
-    (pushes_run head docs cols from.rows from.at from.before from.last ds ws ps ss first c.args.into.now.posts c.extend_reserved.new.self.posts
+    (pushes_run weights head docs cols from.rows from.at from.before from.last ds ws ps ss first c.args.into.now.posts c.extend_reserved.new.self.posts
     c.args.into.now.room c.extend_reserved.new.self.room k c.in_ok-at.at (from.rows + n)
     (omega arith) (ap (λ (x : ℕ). from.rows + x) (sym ld)) c.in_ok-at.ensures.next_is c.extend_reserved.ensures.posts
     (omega (arith, c.extend_reserved.ensures.room)) (omega arith) run h)

@@ -9,4 +9,4 @@ returns-clause-ok c = λ e.
     let put = c.extend_from_slice.new.self.items in
     let same = c.in_ok-extend_from_slice.ensures.items ∙ ap (λ xs. xs ++ columns.scores) c.truncate.ensures.items in
     let cut = c.cut-columns.ensures in
-    scores_all c.args.head.now c.args.bytes.now columns put cut.value cut.sized.scores_len same (c.are_scores.ensures e)
+    scores_all c.args.weights c.args.head.now c.args.bytes.now columns put cut.value cut.sized.scores_len same (c.are_scores.ensures e)

@@ -13,6 +13,7 @@ loop-place-preserved c =
     let inv = c.loop-place.invariant in
     let places = c.args.places.now in
     let head = c.args.head.now in
+    let weights = c.args.weights in
     let row = c.row_of-row.result in
     record {
       added = added_on (row_with head (seen_columns c.args.columns.now) c.args.docs.now) c.args.into.now.items c.loop-place.into.items
@@ -20,12 +21,12 @@ loop-place-preserved c =
       kept = λ e all.
           let both = and_parts c.loop-place.kept (c.is_in_words.result && c.is_scored.result) e in
           let own = and_parts c.is_in_words.result c.is_scored.result both.1 in
-          let here : IsOfBlock head row = record {
+          let here : IsOfBlock weights head row = record {
             word = ltb-true row.word (head.lo + head.words) (sym c.is_in_words.ensures ∙ own.0);
             scored = sym c.is_scored.ensures ∙ own.1;
           } in
-          subst (All (IsOfBlock head)) (sym c.push_reserved.ensures.items)
-          (All-append (IsOfBlock head) c.loop-place.into.items (row ∷ []) (inv.kept both.0 all)
-          (All-from_recursion (IsOfBlock head) (row ∷ []) (here, tt)));
+          subst (All (IsOfBlock weights head)) (sym c.push_reserved.ensures.items)
+          (All-append (IsOfBlock weights head) c.loop-place.into.items (row ∷ []) (inv.kept both.0 all)
+          (All-from_recursion (IsOfBlock weights head) (row ∷ []) (here, tt)));
       room = omega (arith, inv.room, c.push_reserved.ensures.len, c.push_reserved.ensures.capacity);
     }

@@ -9,7 +9,7 @@ abbrev pub invariant-loop-from : goal.invariant-loop-from
 invariant-loop-from l = record {
   added : l.into.items ≡ l.fn.into.items ++ filter (passes l.wanted.whole l.wanted.words.0 l.wanted.words.1 l.wanted.listed.now)
       (map (row_with l.head (seen_columns l.columns) l.docs) (range_with_len 0 l.from));
-  kept : l.kept ≡ true → All (IsOfBlock l.head) l.fn.into.items → All (IsOfBlock l.head) l.into.items;
+  kept : l.kept ≡ true → All (IsOfBlock l.weights l.head) l.fn.into.items → All (IsOfBlock l.weights l.head) l.into.items;
   within : l.from ≤ length l.docs;
 }
 

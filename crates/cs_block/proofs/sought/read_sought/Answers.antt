@@ -2,7 +2,6 @@ use Rattle.std.proofs.Common.{◌≡◌, ◌++◌, length, sym, ap, subst, ◌�
 use Rattle.std.specs.List.{All}
 use Rattle.std.specs.Prelude.{filter}
 use Rattle.std.proofs.lemmas.List.Elements.{All-nil, All-weaker}
-use Rattle.cs_model.specs.Scores.{SCORES}
 use Rattle.cs_model_index.specs.BlockRules.{is_scored, rows_read}
 use Rattle.cs_block.specs.ColumnsView.{seen_columns}
 use Rattle.cs_block.specs.RowRuns.{HasDocs}
@@ -14,6 +13,7 @@ use Rattle.cs_block.proofs.sought.read_sought.Goals as goal
 pub returns : goal.returns
 returns c =
     let head = c.args.head.now in
+    let weights = c.args.weights in
     let bytes = c.args.bytes.now in
     let columns = seen_columns c.cut-columns.result in
     let docs = length c.args.listed.now in
@@ -35,10 +35,10 @@ returns c =
     let added = put.added ∙ ap (λ xs. xs ++ filter (passes whole lo hi listed) (rows_with head columns c.deref.result.now)) c.truncate.ensures.items in
     record {
       ok = λ e.
-          let own = put.kept e (subst (All (IsOfBlock head)) (sym c.truncate.ensures.items) (All-nil (IsOfBlock head))) in
+          let own = put.kept e (subst (All (IsOfBlock weights head)) (sym c.truncate.ensures.items) (All-nil (IsOfBlock weights head))) in
           record {
-            are = sought_all head columns c.deref.result.now whole lo hi listed posts c.is_inside.ensures added own
+            are = sought_all weights head columns c.deref.result.now whole lo hi listed posts c.is_inside.ensures added own
                 ∙ ap (filter (is_sought lo hi listed)) rows;
-            scored = All-weaker (IsOfBlock head) (λ p. is_scored SCORES head.facet p ≡ true) (λ p h. h.scored) posts own;
+            scored = All-weaker (IsOfBlock weights head) (λ p. is_scored weights head.facet p ≡ true) (λ p h. h.scored) posts own;
           };
     }

@@ -1,26 +1,40 @@
-use Rattle.std.proofs.Common.{◌≡◌, ◌==◌, ◌+◌, ◌∙◌, ℕ, true, List, [], ◌∷◌, rules, refl, sym, subst, length, false, arith}
-use Rattle.std.specs.Prelude.{None}
-use Rattle.std.proofs.lemmas.Bool.Decides.{nat_tests}
+use Rattle.std.proofs.Common.{rules, ◌+◌, ◌≤◌, [], length, sym, ap, subst, ◌∙◌, arith}
 use Rattle.std.specs.Str.Lines.{lines}
-use Rattle.cs_model.specs.Collection.{docs_refusal}
-use Rattle.cs_docs.specs.FaultRefusals.{IsCauseOf, refusal_from}
+use Rattle.cs_base.specs.declared.content.limits.TheConstants.{MAX_COLLECTION_BYTES}
+use Rattle.cs_model.specs.Collection.{docs_refusal, weights_of_lines}
+use Rattle.cs_model.specs.Weights.{AreWeights}
+use Rattle.cs_docs.specs.FaultRefusals.{IsCauseOf}
+use Rattle.cs_docs.specs.LinesRead.{weights_lines_of}
 use Rattle.cs_docs.proofs.AcceptedCollections.{few_documents}
-use Rattle.cs_docs.proofs.LinesLemmas.{cause_next}
+use Rattle.cs_docs.proofs.LinesLemmas.{accepted_by, cause_behind, cause_in_front}
+use Rattle.cs_docs.proofs.WeightsLemmas.{weights_are}
 use Rattle.cs_docs.proofs.reader.lent_docs.Goals as goal
 
-pub returns-in_err-push_document-clause-err : goal.returns-in_err-push_document-clause-err
-returns-in_err-push_document-clause-err c =
-    let d = length c.loop-rest.docs.items in
-    let n = c.loop-rest.number + 1 in
-    let e = c.in_err-push_document.field-0.0 in
-    let here : IsCauseOf (refusal_from d n (c.first_line.result.0.now ∷ lines c.first_line.result.1.now)) e = cause_next d n c.first_line.result.0.now (lines c.first_line.result.1.now) e c.in_err-push_document.ensures.err in
-    let next : IsCauseOf (refusal_from d n (lines c.loop-rest.rest.now)) e = subst (λ ls. IsCauseOf (refusal_from d n ls) e) (sym c.first_line.ensures.lines) here in
-    let all : IsCauseOf (docs_refusal c.args.bytes.now) e = subst (λ r. IsCauseOf r e) (sym c.loop-rest.invariant.refused) next in
+pub returns-in_err-front-clause-err : goal.returns-in_err-front-clause-err
+returns-in_err-front-clause-err c =
+    let e = c.in_err-front.field-0.0 in
+    let small : length c.args.bytes.now ≤ MAX_COLLECTION_BYTES = omega arith in
+    let all : IsCauseOf (docs_refusal c.args.bytes.now) e = cause_in_front c.args.bytes.now c.without_mark.result.now 0 [] small c.without_mark.ensures e c.in_err-front.ensures.err in
     search rules
 
-nothing_left : (d n : ℕ) (rest : List ℕ) → true ≡ (length rest == 0) → refusal_from d n (lines rest) ≡ None
-nothing_left d n [] h = refl
-nothing_left d n (b ∷ bs) h = let some : (length (b ∷ bs) == 0) ≡ false = grind (arith, nat_tests) in let e : true ≡ false = h ∙ some in absurd cc
+pub returns-in_err-docs-clause-err : goal.returns-in_err-docs-clause-err
+returns-in_err-docs-clause-err c =
+    let e = c.in_err-docs.field-0.0 in
+    let small : length c.args.bytes.now ≤ MAX_COLLECTION_BYTES = omega arith in
+    let all : IsCauseOf (docs_refusal c.args.bytes.now) e =
+    cause_behind c.args.bytes.now c.without_mark.result.now (c.in_ok-front.front.lines + 1) (lines c.in_ok-front.front.rest.now) small c.without_mark.ensures e c.in_ok-front.ensures.accepted c.in_ok-front.ensures.docs c.in_err-docs.ensures.err in
+    search rules
+
+pub returns-clause-scored : goal.returns-clause-scored
+returns-clause-scored c = subst AreWeights (sym (c.in_ok-front.ensures.weights ∙ ap (λ t. weights_of_lines (weights_lines_of (lines t))) c.without_mark.ensures)) (weights_are c.args.bytes.now)
+
+pub returns-clause-accepted : goal.returns-clause-accepted
+returns-clause-accepted c =
+    let small : length c.args.bytes.now ≤ MAX_COLLECTION_BYTES = omega arith in
+    accepted_by c.args.bytes.now c.without_mark.result.now (c.in_ok-front.front.lines + 1) (lines c.in_ok-front.front.rest.now) small c.without_mark.ensures c.in_ok-front.ensures.accepted c.in_ok-front.ensures.docs c.in_ok-docs.ensures.accepted
 
 pub returns-clause-few : goal.returns-clause-few
-returns-clause-few c = few_documents c.args.bytes.now (c.loop-rest.invariant.refused ∙ nothing_left (length c.loop-rest.docs.items) (c.loop-rest.number + 1) c.loop-rest.rest.now c.loop-rest-test.ensures)
+returns-clause-few c =
+    let small : length c.args.bytes.now ≤ MAX_COLLECTION_BYTES = omega arith in
+    few_documents c.args.bytes.now
+    (accepted_by c.args.bytes.now c.without_mark.result.now (c.in_ok-front.front.lines + 1) (lines c.in_ok-front.front.rest.now) small c.without_mark.ensures c.in_ok-front.ensures.accepted c.in_ok-front.ensures.docs c.in_ok-docs.ensures.accepted)

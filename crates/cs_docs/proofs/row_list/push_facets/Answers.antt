@@ -1,13 +1,12 @@
 use Rattle.std.proofs.Common.{◌++◌, map, length, ap, subst, ◌∙◌, arith}
 use Rattle.std.specs.List.{All}
 use Rattle.std.specs.Str.{IsUtf8}
-use Rattle.cs_base.specs.declared.content.scores.TheConstants.{FACET_SCORE}
 use Rattle.cs_model.specs.Corpus.{placed}
 use Rattle.cs_docs.proofs.row_list.push_facets.Goals as goal
 
 pub loop-word-init : goal.loop-word-init
 loop-word-init c = record {
-  told = ap (λ ws. c.args.rows.now.items ++ map (λ w. placed c.args.doc FACET_SCORE (0, w)) ws) (c.into_iter-word-iterator.ensures.into_iter_gives.0 ∙ c.in_ok-word-items.ensures.ok);
+  told = ap (λ ws. c.args.rows.now.items ++ map (λ w. placed c.args.doc c.args.score (0, w)) ws) (c.into_iter-word-iterator.ensures.into_iter_gives.0 ∙ c.in_ok-word-items.ensures.ok);
   left = omega (arith, c.into_iter-word-iterator.ensures.into_iter_gives.1, ap length c.into_iter-word-iterator.ensures.into_iter_gives.0, c.in_ok-word-items.word-items.ok);
 }
 

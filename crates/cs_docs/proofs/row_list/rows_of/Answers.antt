@@ -28,9 +28,9 @@ returns-then-len-gt-MAX_ROWS-clause-too_many c =
     let doc = c.doc-item.result in
     let l : c.loop-number.number < length docs = omega (arith, ap length c.as_slice-doc-items.ensures) in
     let e : doc ≡ get_or docs c.loop-number.number doc = c.doc-item.is ∙ ap (λ ds. get_or ds c.loop-number.number doc) c.as_slice-doc-items.ensures in
-    let told : listed_rows 0 docs ≡ c.add_rows.new.rows.items ++ listed_rows (c.loop-number.number + 1) (drop (c.loop-number.number + 1) docs) =
-    next_rows docs c.loop-number.number doc c.loop-number.rows.items c.add_rows.new.rows.items l e c.in_ok-add_rows.ensures.ok c.loop-number.invariant.told in
-    λ _. omega (arith, ap length (sym told ∙ rows_listed docs), length-append c.add_rows.new.rows.items (listed_rows (c.loop-number.number + 1) (drop (c.loop-number.number + 1) docs)))
+    let told : listed_rows c.args.weights 0 docs ≡ c.add_rows.new.rows.items ++ listed_rows c.args.weights (c.loop-number.number + 1) (drop (c.loop-number.number + 1) docs) =
+    next_rows c.args.weights docs c.loop-number.number doc c.loop-number.rows.items c.add_rows.new.rows.items l e c.in_ok-add_rows.ensures.ok c.loop-number.invariant.told in
+    λ _. omega (arith, ap length (sym told ∙ rows_listed c.args.weights docs), length-append c.add_rows.new.rows.items (listed_rows c.args.weights (c.loop-number.number + 1) (drop (c.loop-number.number + 1) docs)))
 
 pub loop-number-preserved : goal.loop-number-preserved
 loop-number-preserved c =
@@ -38,11 +38,11 @@ loop-number-preserved c =
     let doc = c.doc-item.result in
     let l : c.loop-number.number < length docs = omega (arith, ap length c.as_slice-doc-items.ensures) in
     let e : doc ≡ get_or docs c.loop-number.number doc = c.doc-item.is ∙ ap (λ ds. get_or ds c.loop-number.number doc) c.as_slice-doc-items.ensures in
-    record { told = next_rows docs c.loop-number.number doc c.loop-number.rows.items c.add_rows.new.rows.items l e c.in_ok-add_rows.ensures.ok c.loop-number.invariant.told; few = omega arith; text = text_more c.loop-number.rows.items c.add_rows.new.rows.items _ c.loop-number.invariant.text c.in_ok-add_rows.ensures.utf8 c.in_ok-add_rows.ensures.ok }
+    record { told = next_rows c.args.weights docs c.loop-number.number doc c.loop-number.rows.items c.add_rows.new.rows.items l e c.in_ok-add_rows.ensures.ok c.loop-number.invariant.told; few = omega arith; text = text_more c.loop-number.rows.items c.add_rows.new.rows.items _ c.loop-number.invariant.text c.in_ok-add_rows.ensures.utf8 c.in_ok-add_rows.ensures.ok }
 
 pub returns-clause-ok : goal.returns-clause-ok
-returns-clause-ok c = c.from_vec.ensures ∙ last_rows c.args.docs.now c.loop-number.number c.loop-number.rows.items (omega (arith, ap length c.as_slice-doc-items.ensures)) c.loop-number.invariant.told
+returns-clause-ok c = c.from_vec.ensures ∙ last_rows c.args.weights c.args.docs.now c.loop-number.number c.loop-number.rows.items (omega (arith, ap length c.as_slice-doc-items.ensures)) c.loop-number.invariant.told
 
 pub returns-clause-few : goal.returns-clause-few
 returns-clause-few c =
-    omega (arith, ap length (last_rows c.args.docs.now c.loop-number.number c.loop-number.rows.items (omega (arith, ap length c.as_slice-doc-items.ensures)) c.loop-number.invariant.told), c.loop-number.invariant.few)
+    omega (arith, ap length (last_rows c.args.weights c.args.docs.now c.loop-number.number c.loop-number.rows.items (omega (arith, ap length c.as_slice-doc-items.ensures)) c.loop-number.invariant.told), c.loop-number.invariant.few)

@@ -1,5 +1,4 @@
 use Rattle.std.proofs.Common.{refl, ap, subst, ◌∙◌}
-use Rattle.cs_model.specs.Scores.{SCORES}
 use Rattle.cs_model_index.specs.BlockRules.{IsBlock}
 use Rattle.cs_file.specs.Fetching.{IsFaultOf}
 use Rattle.cs_file.proofs.FetchLemmas.{fault_along}
@@ -17,7 +16,7 @@ returns-clause-ok c =
     let read = c.args.into.now.bytes.items in
     let rows = c.in_ok-rows.rows.posts in
     let same = c.deref-2.ensures.value ∙ ap (λ v. v.items) c.in_ok-doc_words_at.ensures.bytes in
-    let block = subst (IsBlock SCORES placed.head placed.docs rows) same c.in_ok-rows.ensures.ok in
+    let block = subst (IsBlock placed.weights placed.head placed.docs rows) same c.in_ok-rows.ensures.ok in
     record {
       listed = c.in_ok-doc_words_at.ensures.ok read refl;
       scored = decoded_scores placed read rows c.put_all.new.column.items c.requires block (c.in_ok-put_all.ensures ∙ c.scores.ensures);

@@ -1,10 +1,10 @@
-use Rattle.std.proofs.Common.{◌≡◌, ◌==◌, ap, sym, ◌∙◌}
+use Rattle.std.proofs.Common.{◌==◌, ap, sym, ◌∙◌}
 use Rattle.cs_model.specs.First.{unless, first_reason}
 use Rattle.cs_model_index.specs.FileRules.{field_breaks}
 use Rattle.cs_model_index.specs.Layout.{Header}
 use Rattle.cs_model_index.specs.Sections.{size_by}
 use Rattle.cs_file.specs.HeaderView.{seen_header}
-use Rattle.cs_file.proofs.HeaderLemmas.{refused_magic, refused_field, refused_size, header_fine, ranges, no_spare}
+use Rattle.cs_file.proofs.HeaderLemmas.{refused_magic, refused_field, refused_size, header_fine, ranges}
 use Rattle.cs_file.proofs.StagesLemmas.{judged_along}
 use Rattle.cs_file.proofs.header.judge_header.Goals as goal
 
@@ -15,16 +15,14 @@ returns-in_err-tried-clause-exact c =
 
 pub returns-in_err-tried-2-clause-exact : goal.returns-in_err-tried-2-clause-exact
 returns-in_err-tried-2-clause-exact c =
-    let field = c.broken_field.ensures ∙ ap (λ n. first_reason (field_breaks (record (seen_header c.header_in-header.result) { spare = n })))
-    c.number_at.ensures ∙ ap (λ (h : Header). first_reason (field_breaks h)) c.header_in-header.ensures.numbers in
+    let field = c.broken_field.ensures ∙ ap (λ (h : Header). first_reason (field_breaks h)) c.header_in-header.ensures.numbers in
     judged_along _ _ c.from_residual-in_err-tried-2.result
     (refused_field c.args.bytes.now c.args.size c.unless.result c.broken_field.result _ (c.unless.ensures ∙ ap (λ b. unless b 0) c.eq.ensures)
     c.in_ok-tried.ensures.judged field c.in_err-tried-2.ensures.judged) c.from_residual-in_err-tried-2.ensures.1
 
 pub returns-in_err-tried-3-clause-exact : goal.returns-in_err-tried-3-clause-exact
 returns-in_err-tried-3-clause-exact c =
-    let field = c.broken_field.ensures ∙ ap (λ n. first_reason (field_breaks (record (seen_header c.header_in-header.result) { spare = n })))
-    c.number_at.ensures ∙ ap (λ (h : Header). first_reason (field_breaks h)) c.header_in-header.ensures.numbers in
+    let field = c.broken_field.ensures ∙ ap (λ (h : Header). first_reason (field_breaks h)) c.header_in-header.ensures.numbers in
     let size = c.unless-2.ensures ∙ ap (λ n. unless (c.args.size == n) c.args.size)
     (c.size.ensures.value ∙ ap (λ (h : Header). size_by h) c.header_in-header.ensures.numbers) in
     judged_along _ _ c.from_residual-in_err-tried-3.result
@@ -34,8 +32,7 @@ returns-in_err-tried-3-clause-exact c =
 
 pub returns-clause-exact : goal.returns-clause-exact
 returns-clause-exact c =
-    let field = c.broken_field.ensures ∙ ap (λ n. first_reason (field_breaks (record (seen_header c.header_in-header.result) { spare = n })))
-    c.number_at.ensures ∙ ap (λ (h : Header). first_reason (field_breaks h)) c.header_in-header.ensures.numbers in
+    let field = c.broken_field.ensures ∙ ap (λ (h : Header). first_reason (field_breaks h)) c.header_in-header.ensures.numbers in
     let size = c.unless-2.ensures ∙ ap (λ n. unless (c.args.size == n) c.args.size)
     (c.size.ensures.value ∙ ap (λ (h : Header). size_by h) c.header_in-header.ensures.numbers) in
     header_fine c.args.bytes.now c.args.size c.unless.result c.broken_field.result c.unless-2.result (c.unless.ensures ∙ ap (λ b. unless b 0) c.eq.ensures)
@@ -44,13 +41,7 @@ returns-clause-exact c =
 pub returns-clause-ranges : goal.returns-clause-ranges
 returns-clause-ranges c =
     let small = c.header_in-header.ensures.small in
-    let field = c.broken_field.ensures in
-    ranges (record (seen_header c.header_in-header.result) { spare = c.number_at.result }) c.broken_field.result field c.in_ok-tried-2.ensures.judged small.0
-    small.1 small.2
+    ranges (seen_header c.header_in-header.result) c.broken_field.result c.broken_field.ensures c.in_ok-tried-2.ensures.judged small.0 small.1 small.2
 
 pub returns-clause-numbers : goal.returns-clause-numbers
-returns-clause-numbers c =
-    let h = seen_header c.header_in-header.result in
-    let spare : c.number_at.result ≡ 0 = no_spare (record h { spare = c.number_at.result }) c.broken_field.result c.broken_field.ensures
-    c.in_ok-tried-2.ensures.judged in
-    sym c.header_in-header.ensures.numbers ∙ ap (λ n. record h { spare = n }) (sym c.number_at.ensures ∙ spare)
+returns-clause-numbers c = sym c.header_in-header.ensures.numbers

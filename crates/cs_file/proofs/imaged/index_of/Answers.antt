@@ -3,8 +3,9 @@ use Rattle.std.specs.List.{sum_by}
 use Rattle.cs_model_index.specs.Images.{Image}
 use Rattle.cs_model_index.specs.Layout.{Header, file, header_of_image, offsets_from}
 use Rattle.cs_model_index.specs.Sections.{titles_at, blocks_at}
+use Rattle.cs_model_index.specs.WeightsField.{weights_of}
 use Rattle.cs_file.specs.Indexes.{ArePlaces, IndexView, StandsFor, HasAllBlocks}
-use Rattle.cs_file.proofs.ImagedFiles.{IsReadAgain, few_lens, image_index, kept_image, image_stands, image_fits}
+use Rattle.cs_file.proofs.ImagedFiles.{IsReadAgain, few_lens, image_index, image_weights, kept_image, image_stands, image_fits}
 use Rattle.cs_file.proofs.OpeningStages.{Kept, same_index, index_kept}
 use Rattle.cs_file.proofs.imaged.index_of.Goals as goal
 use Rattle.cs_file.proofs.imaged.index_of.Goals.{After-blocks_at}
@@ -25,6 +26,7 @@ view c = record {
   offsets = c.in_ok-offsets.offsets;
   heads = c.image.inside.heads;
   target = c.image.inside.target;
+  weights = c.image.inside.weights;
   titles_at = c.titles_at.result;
   blocks_at = c.blocks_at.result;
 }
@@ -34,10 +36,10 @@ view_is c =
     let h = header_of_image c.args.image in
     let numbers = c.header_of-header.ensures.numbers in
     let same = c.image.view_is in
-    same_index _ h.docs _ h.target _ (titles_at h) _ (blocks_at h) _ c.args.image.words _ (offsets_from 0 c.args.image.titles) _ c.args.image.heads
+    same_index _ h.docs _ h.target _ (titles_at h) _ (blocks_at h) _ (weights_of h.weights) _ c.args.image.words _ (offsets_from 0 c.args.image.titles) _ c.args.image.heads
     (ap (λ (x : Header). x.docs) numbers) (ap (λ (i : Image). i.words) same)
     (c.in_ok-offsets.ensures ∙ ap (offsets_from 0) (c.as_slice.ensures ∙ ap (λ (i : Image). i.titles) same)) (ap (λ (i : Image). i.heads) same)
-    (ap (λ (i : Image). i.target) same) (c.titles_at.ensures.value ∙ ap titles_at numbers) (c.blocks_at.ensures.value ∙ ap blocks_at numbers)
+    (ap (λ (i : Image). i.target) same) (ap (λ (i : Image). i.weights) same ∙ image_weights c.args.image (read_again c)) (c.titles_at.ensures.value ∙ ap titles_at numbers) (c.blocks_at.ensures.value ∙ ap blocks_at numbers)
 
 pub places_of-requires : goal.places_of-requires
 places_of-requires c =

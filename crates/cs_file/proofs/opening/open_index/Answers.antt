@@ -73,6 +73,7 @@ view g c = record {
   offsets = c.in_ok-offsets.offsets;
   heads = c.in_ok-heads.heads;
   target = c.in_ok-header.header.target;
+  weights = c.weights_of.result;
   titles_at = c.titles_at.result;
   blocks_at = c.blocks_at.result;
 }
@@ -88,6 +89,7 @@ kept g c =
       heads = subst (λ ws. HasHeads h ws c.in_ok-heads.heads) (c.as_slice.ensures ∙ sym words) c.in_ok-heads.ensures.ruled;
       docs = refl;
       target = refl;
+      weights = c.weights_of.ensures;
       titles_place = c.titles_at.ensures.value;
       blocks_place = c.blocks_at.ensures.value;
     }
@@ -174,7 +176,7 @@ returns-clause-ok g c = λ b t.
     let i = view g from.After-blocks_at in
     let is = c.in_ok-header.ensures.told b t in
     let own = index_is b h i is refl (c.from_words.ensures ∙ c.in_ok-words.ensures.words b t1) (c.in_ok-offsets.ensures.offsets b t2)
-    (c.in_ok-heads.ensures.heads b (c.in_ok-offsets.ensures.bytes ∙ t2)) refl c.titles_at.ensures.value c.blocks_at.ensures.value in
+    (c.in_ok-heads.ensures.heads b (c.in_ok-offsets.ensures.bytes ∙ t2)) refl c.weights_of.ensures c.titles_at.ensures.value c.blocks_at.ensures.value in
     stands_for b h i is p.read p.header p.vocabulary p.titles p.directory p.blocks (parting g from.After-bad_part-place b t ∙ c.in_ok-tried.ensures.judged) own
 
 pub returns-clause-fits : goal.returns-clause-fits

@@ -4,20 +4,20 @@ use Rattle.cs_file.proofs.postings.judge_block.Goals as goal
 
 pub part_of-requires-clause-few : goal.part_of-requires-clause-few
 part_of-requires-clause-few c =
-    let read = decoded c.args.head.now c.args.docs c.args.bytes.now c.in-Ok.ensures.ok.0 c.new-rows.result.posts c.decode.new.into.posts c.words.result.now
+    let read = decoded c.args.weights c.args.head.now c.args.docs c.args.bytes.now c.in-Ok.ensures.ok.0 c.new-rows.result.posts c.decode.new.into.posts c.words.result.now
     c.new-rows.ensures c.in-Ok.ensures.ok.1 c.in-Ok.ensures.ok.2 c.words.ensures in
-    let few = decoded_few c.args.head.now c.args.docs c.args.bytes.now c.decode.new.into.posts c.words.result.now read in
+    let few = decoded_few c.args.weights c.args.head.now c.args.docs c.args.bytes.now c.decode.new.into.posts c.words.result.now read in
     omega (arith, few, c.requires.rows)
 
 pub part_of-requires-clause-within : goal.part_of-requires-clause-within
 part_of-requires-clause-within c =
-    let read = decoded c.args.head.now c.args.docs c.args.bytes.now c.in-Ok.ensures.ok.0 c.new-rows.result.posts c.decode.new.into.posts c.words.result.now
+    let read = decoded c.args.weights c.args.head.now c.args.docs c.args.bytes.now c.in-Ok.ensures.ok.0 c.new-rows.result.posts c.decode.new.into.posts c.words.result.now
     c.new-rows.ensures c.in-Ok.ensures.ok.1 c.in-Ok.ensures.ok.2 c.words.ensures in
-    decoded_within c.args.head.now c.args.docs c.args.bytes.now c.decode.new.into.posts c.words.result.now read
+    decoded_within c.args.weights c.args.head.now c.args.docs c.args.bytes.now c.decode.new.into.posts c.words.result.now read
 
 pub returns-in-Ok-clause-part : goal.returns-in-Ok-clause-part
 returns-in-Ok-clause-part c =
-    let read = decoded c.args.head.now c.args.docs c.args.bytes.now c.in-Ok.ensures.ok.0 c.new-rows.result.posts c.decode.new.into.posts c.words.result.now
+    let read = decoded c.args.weights c.args.head.now c.args.docs c.args.bytes.now c.in-Ok.ensures.ok.0 c.new-rows.result.posts c.decode.new.into.posts c.words.result.now
     c.new-rows.ensures c.in-Ok.ensures.ok.1 c.in-Ok.ensures.ok.2 c.words.ensures in
-    part_is c.args.head.now c.args.docs c.args.bytes.now c.decode.new.into.posts c.words.result.now c.in_ok-part-in-Ok.part (omega arith) c.requires.shaped
+    part_is c.args.weights c.requires.weights c.args.head.now c.args.docs c.args.bytes.now c.decode.new.into.posts c.words.result.now c.in_ok-part-in-Ok.part (omega arith) c.requires.shaped
     read c.in_ok-part-in-Ok.ensures.head c.in_ok-part-in-Ok.ensures.whole c.in_ok-part-in-Ok.ensures.first

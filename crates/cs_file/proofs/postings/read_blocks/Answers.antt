@@ -5,6 +5,8 @@ use Rattle.cs_file.proofs.BytesLemmas.{no_bytes}
 use Rattle.cs_file.proofs.FetchLemmas.{nothing}
 use Rattle.cs_file.proofs.PostingsLemmas.{BlocksRead, block_bytes_on, block_bytes_all, reading, reads_on, read_refused, read_all, at_next}
 use Rattle.cs_file.proofs.StagesLemmas.{judged_along}
+use Rattle.cs_model_index.proofs.WeightsFieldLemmas.{weights_fine}
+use Rattle.cs_model.specs.Weights.{AreWeights}
 use Rattle.cs_file.proofs.postings.read_blocks.Goals as goal
 
 pub loop-i-init : goal.loop-i-init
@@ -19,11 +21,15 @@ loop-i-init g c = record {
   quiet = refl;
 }
 
+pub read_block-requires-clause-weights : goal.read_block-requires-clause-weights
+read_block-requires-clause-weights g c =
+    subst AreWeights (sym c.weights_of-weights.ensures) (weights_fine c.args.header.now.weights c.requires.ranges.weights)
+
 pub returns-in_err-part-clause-exact : goal.returns-in_err-part-clause-exact
 returns-in_err-part-clause-exact g c = λ b t.
     judged_along _ _ c.from_residual-in_err-part.result
-    (read_refused b (seen_header c.args.header.now) c.args.heads.now c.loop-i.i c.loop-i.at c.loop-i.parts.items c.in_err-part.field-0.0
-    c.loop-i-test.true (c.in_err-part.ensures.exact b (c.loop-i.invariant.same ∙ t)) (c.loop-i.invariant.told b t))
+    (read_refused b (seen_header c.args.header.now) c.weights_of-weights.result c.args.heads.now c.loop-i.i c.loop-i.at c.loop-i.parts.items
+    c.in_err-part.field-0.0 c.weights_of-weights.ensures c.loop-i-test.true (c.in_err-part.ensures.exact b (c.loop-i.invariant.same ∙ t)) (c.loop-i.invariant.told b t))
     c.from_residual-in_err-part.ensures.1
 
 pub loop-i-preserved : goal.loop-i-preserved
@@ -34,7 +40,7 @@ loop-i-preserved g c =
     let next : c.loop-i.at + (slice_index_or hs c.loop-i.i nothing).len ≡ c.loop-i.at + c.from-at.result = ap (λ n. c.loop-i.at + n) (sym len) in
     record {
       told = λ b t. subst (λ n. BlocksRead b h hs (c.loop-i.i + 1) n c.push_part.new.parts.items) next
-          (reads_on b h hs c.loop-i.i c.loop-i.at c.loop-i.parts.items c.push_part.new.parts.items c.in_ok-part.part c.loop-i-test.true
+          (reads_on b h c.weights_of-weights.result hs c.loop-i.i c.loop-i.at c.loop-i.parts.items c.push_part.new.parts.items c.in_ok-part.part c.weights_of-weights.ensures c.loop-i-test.true
           (c.in_ok-part.ensures.exact b (c.loop-i.invariant.same ∙ t)) (c.in_ok-part.ensures.part b (c.loop-i.invariant.same ∙ t))
           c.in_ok-push_part.ensures (c.loop-i.invariant.told b t));
       small = λ b t. block_bytes_on b hs (blocks_at h) c.loop-i.i c.loop-i.at c.loop-i-test.true c.loop-i.invariant.place (c.loop-i.invariant.small b t)

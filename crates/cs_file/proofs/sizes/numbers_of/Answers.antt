@@ -21,7 +21,7 @@ returns c =
     let r = subst CanBeWritten (sym c.image.view_is) c.requires in
     let posts = map (λ (b : Cols). b.posts) c.image.inside.blocks in
     let is = blocks_len_is c.image.inside.heads posts r.one_each (recursion_from_All BlockFits (zip c.image.inside.heads posts) r.blocks) in
-    let lens : List ℕ = c.vocabulary_len.result ∷ c.titles_len.result ∷ c.blocks_len.result ∷ 0 ∷ [] in
+    let lens : List ℕ = c.vocabulary_len.result ∷ c.titles_len.result ∷ c.blocks_len.result ∷ c.field_of.result ∷ [] in
     let numbers : List ℕ = c.len.result ∷ c.len-2.result ∷ c.rows_in.result ∷ c.len-3.result ∷ c.image.inside.target ∷ lens in
     subst (λ i. numbers ≡ header_numbers (header_of_image i)) c.image.view_is (
     same_numbers _ _ _ _ _ _ _ _ _ _ _ _ _ _ _ _ _ _
@@ -33,4 +33,4 @@ returns c =
     c.vocabulary_len.ensures
     (c.titles_len.ensures ∙ ap (λ (ts : List (List ℕ)). length (title_bytes ts)) c.as_slice-2.ensures)
     (c.blocks_len.ensures ∙ ap (sum_by (λ (h : BlockHead). h.len)) c.as_slice-3.ensures ∙ sym is)
-    refl)
+    c.field_of.ensures)

@@ -1,6 +1,7 @@
 use Rattle.std.proofs.Common.{◌≡◌, List, ℕ, ◌++◌, map, Option, ap, subst}
 use Rattle.cs_base.specs.outside.Outside.{GrewByPrefix}
 use Rattle.cs_base.specs.declared.index.block.BlockHead.{BlockHead}
+use Rattle.cs_base.specs.declared.content.scores.Weights.{Weights}
 use Rattle.cs_base.proofs.GrewLemmas.{on_err}
 use Rattle.cs_cols.specs.declared.cols.Cols.{Cols}
 use Rattle.cs_model_index.specs.Images.{Image}
@@ -10,9 +11,10 @@ use Rattle.cs_file.proofs.SinkPuts.{then_ok, then_err, put_on, fails_first, fail
 use Rattle.cs_file.proofs.writing.put_sections.Goals as goal
 
 -- the sections of an image's file, by what was lent of it
-whole : {i : Image} {ws titles : List (List ℕ)} {heads : List BlockHead} {blocks : List Cols} {target : ℕ} {ts : List (List ℕ)} {hs : List BlockHead}
-    {bs : List Cols}
-    → let view : Image = record { titles = titles; words = ws; heads = heads; blocks = map (λ (b : Cols). b.posts) blocks; target = target } in view ≡ i
+whole : {i : Image} {ws titles : List (List ℕ)} {heads : List BlockHead} {blocks : List Cols} {target : ℕ} {w : Weights} {ts : List (List ℕ)}
+    {hs : List BlockHead} {bs : List Cols}
+    → let view : Image = record { titles = titles; words = ws; heads = heads; blocks = map (λ (b : Cols). b.posts) blocks; target = target; weights = w } in
+    view ≡ i
     → ts ≡ titles → hs ≡ heads → bs ≡ blocks
     → header_bytes (header_of_image i) ++ (vocabulary_bytes ws
     ++ (offset_bytes ts ++ (title_bytes ts ++ (directory_bytes hs ++ blocks_bytes hs (map (λ (b : Cols). b.posts) bs))))) ≡ file i

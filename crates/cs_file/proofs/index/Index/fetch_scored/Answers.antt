@@ -1,7 +1,7 @@
 use Rattle.std.proofs.lemmas.Result.{on_ok_weaker}
 use Rattle.cs_file.proofs.FetchLemmas.{BlockRead, block_read, can_judge, fault_changed, fault_unchanged, told_within, read_once}
 use Rattle.cs_file.proofs.FetchedWords.{docs_known, words_even, words_known}
-use Rattle.cs_file.proofs.ScoredLemmas.{scored_stood, scores_even, scores_small}
+use Rattle.cs_file.proofs.ScoredLemmas.{scored_stood, scores_even, scores_ranged}
 use Rattle.cs_file.proofs.index.Index.fetch_scored.Given as given
 use Rattle.cs_file.proofs.index.Index.fetch_scored.Goals as goal
 
@@ -29,7 +29,7 @@ pub returns-clause-words : goal.returns-clause-words
 returns-clause-words g c = on_ok_weaker c.scored_at.result (λ has. words_known (read g c) _ _ has.listed) c.scored_at.ensures.ok
 
 pub returns-clause-scores : goal.returns-clause-scores
-returns-clause-scores g c = on_ok_weaker c.scored_at.result (scores_small _ _ _) c.scored_at.ensures.ok
+returns-clause-scores g c = on_ok_weaker c.scored_at.result (scores_ranged _ _ _ (can_judge (read g c)).weights) c.scored_at.ensures.ok
 
 pub returns-clause-stood : goal.returns-clause-stood
 returns-clause-stood g c = λ b t s. on_ok_weaker c.scored_at.result (scored_stood (read g c) b c.scored_at.new.into t s) c.scored_at.ensures.ok

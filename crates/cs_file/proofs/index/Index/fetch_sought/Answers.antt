@@ -15,7 +15,8 @@ returns-clause-sought g c = on_ok_weaker c.sought_at.result (passed c.args.words
 
 pub returns-clause-ranged : goal.returns-clause-ranged
 returns-clause-ranged g c =
-    let ranged = sought_ranged c.args.words.0 c.args.words.1 c.args.listed.now c.args.self.now c.requires.listed c.requires.words in
+    let ranged = sought_ranged c.args.words.0 c.args.words.1 c.args.listed.now c.args.self.now c.placed-placed.ensures.weights_are
+    c.requires.listed c.requires.words in
     on_ok_weaker c.sought_at.result ranged c.sought_at.ensures.ok
 
 -- the bytes that were read are those of the block
