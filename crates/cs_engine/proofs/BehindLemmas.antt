@@ -116,7 +116,8 @@ module _ (b : List ℕ) (i : IndexView) (stands : StandsFor b i) (is : IsIndex i
         let w = kept_within i (in_listed listed) asked asked_within in
         let known : All (λ p. p.doc < length best) rows = All-weaker (IsWithin i.docs (length i.words)) (λ p. p.doc < length best)
         (λ p h. let doc = h.doc in omega (arith, doc, long)) rows w.within in
-        next_is ∙ ap (map (with_base hits)) (hits_are rows best has known) ∙ base_each hits rows (docs_of rows) ∙ ap (scores hits) rows_are
+        let scored : All (λ p. 1 ≤ p.score) rows = All-weaker (IsWithin i.docs (length i.words)) (λ p. 1 ≤ p.score) (λ p h. h.score_from) rows w.within in
+        next_is ∙ ap (map (with_base hits)) (hits_are rows best has known scored) ∙ base_each hits rows (docs_of rows) ∙ ap (scores hits) rows_are
 
 -- ---- the hits behind the part
 pub behind_words : (b : List ℕ) (i : IndexView) → StandsFor b i → IsIndex i → (x : Part) (hits : Base) (lo hi : ℕ) (next : List Scored)

@@ -8,8 +8,8 @@
 --   alike_best                   which depend on the rows' members alone
 --   hits_fit                     they are in range
 --   own_chosen                   where all words are of some, the rows in listed documents are those that are chosen
-use Rattle.std.proofs.Common.{◌≡◌, ℕ, zero, suc, ◌+◌, ◌-◌, ◌≤◌, ◌<◌, ◌==◌, ◌&&◌, ◌||◌, Bool, true, false, List, [], ◌∷◌, ◌++◌, map, take, drop, length}
-use Rattle.std.proofs.Common.{get_or, cond, refl, sym, ◌∙◌, ap, subst, arith, append-nil, length-set}
+use Rattle.std.proofs.Common.{◌≡◌, ℕ, zero, suc, ◌+◌, ◌≤◌, ◌<◌, ◌==◌, ◌&&◌, ◌||◌, Bool, true, false, List, [], ◌∷◌, ◌++◌, map, take, drop, length}
+use Rattle.std.proofs.Common.{get_or, cond, refl, sym, ◌∙◌, ap, ap₂, subst, arith, append-nil, length-set}
 use Rattle.std.specs.Prelude.{max, nat_lt, nat_le, All, filter, slice_index, slice_set}
 use Rattle.std.specs.List.{list_any, range_with_len, AllByRecursion}
 use Rattle.std.specs.List.Sorted.{IsStrictlySortedBy}
@@ -28,6 +28,7 @@ use Rattle.cs_base.specs.content.Orders.{AreByDoc, docs_of}
 use Rattle.cs_base.specs.declared.content.doc.Base.TheVariants as base
 use Rattle.cs_base.specs.declared.content.doc.Post.{Post}
 use Rattle.cs_base.specs.declared.content.doc.Scored.{Scored}
+use Rattle.cs_base.specs.declared.content.scores.Weights.{Weights}
 use Rattle.cs_base.proofs.MembersLemmas.{members_are}
 use Rattle.cs_base.proofs.OrdersLemmas.{Less-from_lt}
 use Rattle.cs_file.specs.CallAnswers.{AreScoredOf}
@@ -52,16 +53,14 @@ greatest_push (x ∷ xs) y = ap (max x) (greatest_push xs y) ∙ max_last x y (g
 
 -- what one post gives document d
 abbrev given : ℕ → Post → ℕ
-given d p = cond (p.doc == d) (p.score + 1) 0
+given d p = cond (p.doc == d) p.score 0
 
 best_push : (seen : List Post) (p : Post) (d : ℕ) → best_of (seen ++ p ∷ []) d ≡ max (best_of seen d) (given d p)
 best_push seen p d =
-    ap (λ l. greatest (map (λ (p : Post). p.score + 1) l)) (filter-append (λ (p : Post). p.doc == d) seen (p ∷ []))
-    ∙ elim (p.doc == d) as (λ b. greatest (map (λ (p : Post). p.score + 1) (of_doc d seen ++ cond b (p ∷ []) [])) ≡ max (best_of seen d)
-    (cond b (p.score + 1) 0)) [
-      | true ↦ ap greatest (map-append (λ (p : Post). p.score + 1) (of_doc d seen) (p ∷ []))
-          ∙ greatest_push (map (λ (p : Post). p.score + 1) (of_doc d seen)) (p.score + 1)
-      | false ↦ ap (λ l. greatest (map (λ (p : Post). p.score + 1) l)) (append-nil (of_doc d seen)) ∙ omega arith
+    ap (λ l. greatest (map (λ (p : Post). p.score) l)) (filter-append (λ (p : Post). p.doc == d) seen (p ∷ []))
+    ∙ elim (p.doc == d) as (λ b. greatest (map (λ (p : Post). p.score) (of_doc d seen ++ cond b (p ∷ []) [])) ≡ max (best_of seen d) (cond b p.score 0)) [
+      | true ↦ ap greatest (map-append (λ (p : Post). p.score) (of_doc d seen) (p ∷ [])) ∙ greatest_push (map (λ (p : Post). p.score) (of_doc d seen)) p.score
+      | false ↦ ap (λ l. greatest (map (λ (p : Post). p.score) l)) (append-nil (of_doc d seen)) ∙ omega arith
     ]
 
 same_number : (x y : ℕ) → (x == y) ≡ true → x ≡ y
@@ -71,7 +70,7 @@ other_number : (x y : ℕ) → (x == y) ≡ false → x ≡ y → ⊥
 other_number x y h e = grind (arith, nat_tests)
 
 -- one post is noted
-pub raised : (seen : List Post) (best : List ℕ) (p : Post) (v : ℕ) → p.doc < length best → v ≡ max (slice_index best p.doc) (p.score + 1)
+pub raised : (seen : List Post) (best : List ℕ) (p : Post) (v : ℕ) → p.doc < length best → v ≡ max (slice_index best p.doc) p.score
     → HasBestScores seen best → HasBestScores (seen ++ p ∷ []) (slice_set best p.doc v)
 raised seen best p v l is has d m =
     let long = length-set best p.doc v in
@@ -79,35 +78,35 @@ raised seen best p v l is has d m =
       | true ↦ λ e.
           let same : p.doc ≡ d = same_number p.doc d e in
           ap (slice_index (slice_set best p.doc v)) (sym same) ∙ get_or-set_same best p.doc v 0 l ∙ is
-          ∙ ap (λ x. max x (p.score + 1)) (has p.doc l ∙ ap (best_of seen) same)
-          ∙ sym (best_push seen p d ∙ ap (λ b. max (best_of seen d) (cond b (p.score + 1) 0)) e)
+          ∙ ap (λ x. max x p.score) (has p.doc l ∙ ap (best_of seen) same)
+          ∙ sym (best_push seen p d ∙ ap (λ b. max (best_of seen d) (cond b p.score 0)) e)
       | false ↦ λ e.
           let zero_max : max (best_of seen d) 0 ≡ best_of seen d = omega arith in
           get_or-set_other best p.doc d v 0 (λ e'. other_number p.doc d e (sym e')) ∙ has d (omega (arith, m, long))
-          ∙ sym (best_push seen p d ∙ ap (λ b. max (best_of seen d) (cond b (p.score + 1) 0)) e ∙ zero_max)
+          ∙ sym (best_push seen p d ∙ ap (λ b. max (best_of seen d) (cond b p.score 0)) e ∙ zero_max)
     ] refl
 
 -- the step of the loop
-pub raised_more : (seen : List Post) (keys best : List ℕ) (i : ℕ) (row : Post) (v : ℕ) → i < length keys → row ≡ post_of_key (get_or keys i 0)
-    → row.doc < length best → v ≡ max (slice_index best row.doc) (row.score + 1)
-    → HasBestScores (seen ++ map post_of_key (take i keys)) best → HasBestScores (seen ++ map post_of_key (take (i + 1) keys)) (slice_set best row.doc v)
-raised_more seen keys best i row v l at in_best is has =
-    let longer : (seen ++ map post_of_key (take i keys)) ++ row ∷ [] ≡ seen ++ map post_of_key (take (i + 1) keys) = append_assoc seen
-    (map post_of_key (take i keys)) (row ∷ []) ∙ ap (λ r. seen ++ r) (sym (one_more keys i row l at)) in
-    subst (λ s. HasBestScores s (slice_set best row.doc v)) longer (raised (seen ++ map post_of_key (take i keys)) best row v in_best is has)
+pub raised_more : (w : Weights) (seen : List Post) (keys best : List ℕ) (i : ℕ) (row : Post) (v : ℕ) → i < length keys → row ≡ post_of_key w (get_or keys i 0)
+    → row.doc < length best → v ≡ max (slice_index best row.doc) row.score
+    → HasBestScores (seen ++ map (post_of_key w) (take i keys)) best → HasBestScores (seen ++ map (post_of_key w) (take (i + 1) keys)) (slice_set best row.doc v)
+raised_more w seen keys best i row v l at in_best is has =
+    let longer : (seen ++ map (post_of_key w) (take i keys)) ++ row ∷ [] ≡ seen ++ map (post_of_key w) (take (i + 1) keys) = append_assoc seen
+    (map (post_of_key w) (take i keys)) (row ∷ []) ∙ ap (λ r. seen ++ r) (sym (one_more w keys i row l at)) in
+    subst (λ s. HasBestScores s (slice_set best row.doc v)) longer (raised (seen ++ map (post_of_key w) (take i keys)) best row v in_best is has)
 
-pub raised_all : (seen : List Post) (keys best : List ℕ) (i : ℕ) → length keys ≤ i → HasBestScores (seen ++ map post_of_key (take i keys)) best
-    → HasBestScores (seen ++ map post_of_key keys) best
-raised_all seen keys best i l has = subst (λ ks. HasBestScores (seen ++ map post_of_key ks) best) (take_all i keys l) has
+pub raised_all : (w : Weights) (seen : List Post) (keys best : List ℕ) (i : ℕ) → length keys ≤ i → HasBestScores (seen ++ map (post_of_key w) (take i keys)) best
+    → HasBestScores (seen ++ map (post_of_key w) keys) best
+raised_all w seen keys best i l has = subst (λ ks. HasBestScores (seen ++ map (post_of_key w) ks) best) (take_all i keys l) has
 
 -- a row is noted where it passes a test
 pub raised_where : (t : Post → Bool) (seen rows : List Post) (best : List ℕ) (i : ℕ) (p : Post) (v : ℕ) → i < length rows → p ≡ get_or rows i p
-    → p.doc < length best → v ≡ max (slice_index best p.doc) (cond (t p) (p.score + 1) 0)
+    → p.doc < length best → v ≡ max (slice_index best p.doc) (cond (t p) p.score 0)
     → HasBestScores (seen ++ filter t (take i rows)) best → HasBestScores (seen ++ filter t (take (i + 1) rows)) (slice_set best p.doc v)
 raised_where t seen rows best i p v lt at in_best is has =
     let longer : filter t (take (i + 1) rows) ≡ filter t (take i rows) ++ cond (t p) (p ∷ []) [] =
     ap (filter t) (take_more rows i p lt ∙ ap (λ x. take i rows ++ x ∷ []) (sym at)) ∙ filter-append t (take i rows) (p ∷ []) in
-    elim (t p) as (λ b. v ≡ max (slice_index best p.doc) (cond b (p.score + 1) 0) → filter t (take (i + 1) rows) ≡ filter t (take i rows) ++ cond b (p ∷ []) []
+    elim (t p) as (λ b. v ≡ max (slice_index best p.doc) (cond b p.score 0) → filter t (take (i + 1) rows) ≡ filter t (take i rows) ++ cond b (p ∷ []) []
     → HasBestScores (seen ++ filter t (take (i + 1) rows)) (slice_set best p.doc v)) [
       | true ↦ λ e more.
           subst (λ xs. HasBestScores xs (slice_set best p.doc v)) (append_assoc seen (filter t (take i rows)) (p ∷ []) ∙ ap (λ xs. seen ++ xs) (sym more))
@@ -132,7 +131,7 @@ raised_where t seen rows best i p v lt at in_best is has =
 -- the step of the loop over columns, where a test looks at document and word
 pub raised_row : (t : ℕ → ℕ → Bool) (seen rows : List Post) (docs words scores best : List ℕ) (i v : ℕ) → AreScoredOf rows docs words scores → i < length docs
     → slice_index docs i < length best
-    → v ≡ max (slice_index best (slice_index docs i)) (cond (t (slice_index docs i) (slice_index words i)) (slice_index scores i + 1) 0)
+    → v ≡ max (slice_index best (slice_index docs i)) (cond (t (slice_index docs i) (slice_index words i)) (slice_index scores i) 0)
     → HasBestScores (seen ++ filter (λ p. t p.doc p.word) (take i rows)) best
     → HasBestScores (seen ++ filter (λ p. t p.doc p.word) (take (i + 1) rows)) (slice_set best (slice_index docs i) v)
 raised_row t seen rows docs words scores best i v are lt below is has =
@@ -143,10 +142,10 @@ raised_row t seen rows docs words scores best i v are lt below is has =
     let d : slice_index docs i ≡ p.doc = ap (λ l. get_or l i 0) are.0.0 ∙ get_or-map (λ (p : Post). p.doc) rows i none 0 inside in
     let w : slice_index words i ≡ p.word = ap (λ l. get_or l i 0) are.0.1 ∙ get_or-map (λ (p : Post). p.word) rows i none 0 inside in
     let s : slice_index scores i ≡ p.score = ap (λ l. get_or l i 0) are.1 ∙ get_or-map (λ (p : Post). p.score) rows i none 0 inside in
-    let value : v ≡ max (slice_index best p.doc) (cond (t p.doc p.word) (p.score + 1) 0) =
-    is ∙ ap (λ n. max (slice_index best n) (cond (t n (slice_index words i)) (slice_index scores i + 1) 0)) d
-    ∙ ap (λ n. max (slice_index best p.doc) (cond (t p.doc n) (slice_index scores i + 1) 0)) w
-    ∙ ap (λ n. max (slice_index best p.doc) (cond (t p.doc p.word) (n + 1) 0)) s in
+    let value : v ≡ max (slice_index best p.doc) (cond (t p.doc p.word) p.score 0) =
+    is ∙ ap (λ n. max (slice_index best n) (cond (t n (slice_index words i)) (slice_index scores i) 0)) d
+    ∙ ap (λ n. max (slice_index best p.doc) (cond (t p.doc n) (slice_index scores i) 0)) w
+    ∙ ap (λ n. max (slice_index best p.doc) (cond (t p.doc p.word) n 0)) s in
     subst (λ n. HasBestScores (seen ++ filter (λ p. t p.doc p.word) (take (i + 1) rows)) (slice_set best n v)) (sym d)
     (raised_where (λ p. t p.doc p.word) seen rows best i p v inside (get_or_default rows i none p inside) (subst (λ n. n < length best) d below) value has)
 
@@ -184,8 +183,8 @@ inside_test q n h = grind (arith, nat_tests)
 outside_test : (q n : ℕ) → nat_lt q n ≡ false → (nat_le 0 q && nat_lt q (0 + n)) ≡ false
 outside_test q n h = grind (arith, nat_tests)
 
-tie : (q d s : ℕ) → ((d == q) && nat_lt 0 (s + 1)) ≡ eq_by_cmp nat_cmp q d
-tie q d s = grind (arith, nat_tests)
+tie : (q d s : ℕ) → 1 ≤ s → ((d == q) && nat_lt 0 s) ≡ eq_by_cmp nat_cmp q d
+tie q d s from = grind (arith, nat_tests)
 
 all_later : (x a n : ℕ) → x < a → AllByRecursion (λ y. nat_cmp x y ≡ Less) (range_with_len a n)
 all_later x a zero l = tt
@@ -215,17 +214,10 @@ not_either a b h k = grind (arith, nat_tests)
 same_tests : (a b : ℕ) → ((k : ℕ) → nat_lt k a ≡ nat_lt k b) → a ≡ b
 same_tests a b h = not_either a b (sym (h a) ∙ above a) (h b ∙ above b)
 
-best_over : (rows : List Post) (d k : ℕ) → nat_lt k (best_of rows d) ≡ list_any (λ p. (p.doc == d) && nat_lt k (p.score + 1)) rows
+best_over : (rows : List Post) (d k : ℕ) → nat_lt k (best_of rows d) ≡ list_any (λ p. (p.doc == d) && nat_lt k p.score) rows
 best_over rows d k =
-    greatest_over k (map (λ (p : Post). p.score + 1) (of_doc d rows)) ∙ any_map (nat_lt k) (λ (p : Post). p.score + 1) (of_doc d rows)
-    ∙ any_filter (λ (p : Post). nat_lt k (p.score + 1)) (λ (p : Post). p.doc == d) rows
-
-less_one : (x g h : ℕ) → h - 1 ≡ g → (h ≡ 0 → g ≡ 0) → max (x + 1) h - 1 ≡ max x g
-less_one x g h e z = omega (arith, e)
-
-scores_less : (l : List Post) → greatest (map (λ p. p.score + 1) l) - 1 ≡ greatest (map (λ p. p.score) l)
-scores_less [] = omega arith
-scores_less (p ∷ l) = less_one p.score _ _ (scores_less l) (λ z. let e = scores_less l in omega (arith, e, z))
+    greatest_over k (map (λ (p : Post). p.score) (of_doc d rows)) ∙ any_map (nat_lt k) (λ (p : Post). p.score) (of_doc d rows)
+    ∙ any_filter (λ (p : Post). nat_lt k p.score) (λ (p : Post). p.doc == d) rows
 
 read_off : (seen : List Post) (a : ℕ) (bs : List ℕ) → ((i : ℕ) → i < length bs → slice_index bs i ≡ best_of seen (a + i))
     → hits_in a bs ≡ map (best_row seen) (filter (λ d. nat_lt 0 (best_of seen d)) (range_with_len a (length bs)))
@@ -234,8 +226,7 @@ read_off seen a [] h = refl
 read_off seen a (b ∷ bs) h =
     let at : b ≡ best_of seen a = let e : a + 0 ≡ a = omega arith in h 0 (omega arith) ∙ ap (best_of seen) e in
     let rest = read_off seen (a + 1) bs (λ i l. let e : a + suc i ≡ a + 1 + i = omega arith in h (suc i) (omega (arith, l)) ∙ ap (best_of seen) e) in
-    let row : b - 1 ≡ greatest (map (λ p. p.score) (of_doc a seen)) = ap (λ n. n - 1) at ∙ scores_less (of_doc a seen) in
-    ap (λ n. cond (nat_lt 0 b) (let s : Scored = record { doc = a; score = n } in s ∷ hits_in (a + 1) bs) (hits_in (a + 1) bs)) row
+    ap (λ n. cond (nat_lt 0 b) (let s : Scored = record { doc = a; score = n } in s ∷ hits_in (a + 1) bs) (hits_in (a + 1) bs)) at
     ∙ ap (λ n. cond (nat_lt 0 n) (best_row seen a ∷ hits_in (a + 1) bs) (hits_in (a + 1) bs)) at
     ∙ ap (λ l. cond (nat_lt 0 (best_of seen a)) (best_row seen a ∷ l) l) rest
     ∙ settle_more (nat_lt 0 (best_of seen a)) (best_row seen) a (filter (λ d. nat_lt 0 (best_of seen d)) (range_with_len (a + 1) (length bs)))
@@ -265,19 +256,22 @@ absent : (seen : List Post) (n q : ℕ) → AllByRecursion (λ p. p.doc < n) see
 absent [] n q h l = refl
 absent (p ∷ seen) n q h l = ap (λ b. b || list_any (λ (p : Post). eq_by_cmp nat_cmp q p.doc) seen) (not_tied q p.doc n h.0 l) ∙ absent seen n q h.1 l
 
-any_same : (s t : Post → Bool) → ((p : Post) → s p ≡ t p) → (xs : List Post) → list_any s xs ≡ list_any t xs
-any_same s t h [] = refl
-any_same s t h (x ∷ xs) = ap (λ b. b || list_any s xs) (h x) ∙ ap (λ b. t x || b) (any_same s t h xs)
+any_scored : (q : ℕ) (seen : List Post) → AllByRecursion (λ p. 1 ≤ p.score) seen
+    → list_any (λ p. (p.doc == q) && nat_lt 0 p.score) seen ≡ list_any (λ p. eq_by_cmp nat_cmp q p.doc) seen
+any_scored q [] h = refl
+any_scored q (p ∷ seen) h = ap₂ (λ a b. a || b) (tie q p.doc p.score h.0) (any_scored q seen h.1)
 
-has_entry : (seen : List Post) (q : ℕ) → nat_lt 0 (best_of seen q) ≡ list_any (λ p. eq_by_cmp nat_cmp q p.doc) seen
-has_entry seen q = best_over seen q 0 ∙ any_same _ _ (λ p. tie q p.doc p.score) seen
+-- of rows that have a score a document has an entry where it has a row
+has_entry : (seen : List Post) (q : ℕ) → All (λ p. 1 ≤ p.score) seen → nat_lt 0 (best_of seen q) ≡ list_any (λ p. eq_by_cmp nat_cmp q p.doc) seen
+has_entry seen q scored = best_over seen q 0 ∙ any_scored q seen (recursion_from_All (λ (p : Post). 1 ≤ p.score) seen scored)
 
-pub docs_are : (seen : List Post) (n : ℕ) → All (λ p. p.doc < n) seen → filter (λ d. nat_lt 0 (best_of seen d)) (range_with_len 0 n) ≡ docs_of seen
-docs_are seen n inside =
+pub docs_are : (seen : List Post) (n : ℕ) → All (λ p. p.doc < n) seen → All (λ p. 1 ≤ p.score) seen
+    → filter (λ d. nat_lt 0 (best_of seen d)) (range_with_len 0 n) ≡ docs_of seen
+docs_are seen n inside scored =
     members_are nat_cmp nat_cmp_total nat_cmp-IsAntisymmetric (filter (λ d. nat_lt 0 (best_of seen d)) (range_with_len 0 n)) (map (λ p. p.doc) seen)
     (IsStrictlySortedBy-filter nat_cmp _ (range_with_len 0 n) (range_rises 0 n))
     (λ q. any_filter (eq_by_cmp nat_cmp q) (λ d. nat_lt 0 (best_of seen d)) (range_with_len 0 n) ∙ any_range q (λ d. nat_lt 0 (best_of seen d)) 0 n
-    ∙ ap (λ b. (nat_le 0 q && nat_lt q (0 + n)) && b) (has_entry seen q)
+    ∙ ap (λ b. (nat_le 0 q && nat_lt q (0 + n)) && b) (has_entry seen q scored)
     ∙ elim (nat_lt q n) as (λ b. nat_lt q n ≡ b
     → ((nat_le 0 q && nat_lt q (0 + n)) && list_any (λ (p : Post). eq_by_cmp nat_cmp q p.doc) seen) ≡ list_any (λ (p : Post). eq_by_cmp nat_cmp q p.doc) seen) [
       | true ↦ λ e. ap (λ b. b && list_any (λ (p : Post). eq_by_cmp nat_cmp q p.doc) seen) (inside_test q n e)
@@ -287,22 +281,17 @@ docs_are seen n inside =
     ∙ sym (any_map (eq_by_cmp nat_cmp q) (λ (p : Post). p.doc) seen))
 
 -- the hits that are read off the table are the documents of the posts with their scores
-pub hits_are : (seen : List Post) (best : List ℕ) → HasBestScores seen best → All (λ p. p.doc < length best) seen
+pub hits_are : (seen : List Post) (best : List ℕ) → HasBestScores seen best → All (λ p. p.doc < length best) seen → All (λ p. 1 ≤ p.score) seen
     → hits_in 0 best ≡ map (best_row seen) (docs_of seen)
-hits_are seen best has inside =
+hits_are seen best has inside scored =
     read_off seen 0 best (λ i l. let e : i ≡ 0 + i = omega arith in has i l ∙ ap (best_of seen) e)
-    ∙ ap (map (best_row seen)) (docs_are seen (length best) inside)
+    ∙ ap (map (best_row seen)) (docs_are seen (length best) inside scored)
 
 pub map_same : {X : Type 0} (f g : ℕ → X) → ((w : ℕ) → f w ≡ g w) → (ws : List ℕ) → map f ws ≡ map g ws
 map_same f g h [] = refl
 map_same f g h (w ∷ ws) = ap (λ x. x ∷ map f ws) (h w) ∙ ap (λ l. g w ∷ l) (map_same f g h ws)
 
 -- ---- rows with the same members
-score_over : (rows : List Post) (d k : ℕ) → nat_lt k (greatest (map (λ p. p.score) (of_doc d rows))) ≡ list_any (λ p. (p.doc == d) && nat_lt k p.score) rows
-score_over rows d k =
-    greatest_over k (map (λ (p : Post). p.score) (of_doc d rows)) ∙ any_map (nat_lt k) (λ (p : Post). p.score) (of_doc d rows)
-    ∙ any_filter (λ (p : Post). nat_lt k p.score) (λ (p : Post). p.doc == d) rows
-
 -- the table depends on the rows' members alone
 pub alike_best : (xs ys : List Post) (best : List ℕ) → ((t : Post → Bool) → list_any t xs ≡ list_any t ys) → HasBestScores xs best → HasBestScores ys best
 alike_best xs ys best a has d l = has d l ∙ same_tests _ _ (λ k. best_over xs d k ∙ a _ ∙ sym (best_over ys d k))
@@ -314,7 +303,7 @@ later_hits x a [] l = tt
 later_hits x a (v ∷ bs) l =
     let rest = later_hits x (a + 1) bs (omega (arith, l)) in
     elim (nat_lt 0 v) as (λ t. AllByRecursion (λ (h : Scored). nat_cmp x h.doc ≡ Less)
-    (cond t (record { doc = a; score = v - 1 } ∷ hits_in (a + 1) bs) (hits_in (a + 1) bs))) [
+    (cond t (record { doc = a; score = v } ∷ hits_in (a + 1) bs) (hits_in (a + 1) bs))) [
       | true ↦ (Less-from_lt x a l, rest)
       | false ↦ rest
     ]
@@ -324,7 +313,7 @@ unfolding hits_in IsStrictlySortedBy
 hits_rise a [] = tt
 hits_rise a (v ∷ bs) =
     let rest = hits_rise (a + 1) bs in
-    elim (nat_lt 0 v) as (λ t. AreByDoc (cond t (record { doc = a; score = v - 1 } ∷ hits_in (a + 1) bs) (hits_in (a + 1) bs))) [
+    elim (nat_lt 0 v) as (λ t. AreByDoc (cond t (record { doc = a; score = v } ∷ hits_in (a + 1) bs) (hits_in (a + 1) bs))) [
       | true ↦ (later_hits a (a + 1) bs (omega arith), rest)
       | false ↦ rest
     ]
@@ -335,8 +324,8 @@ hits_small docs bound a [] le h = tt
 hits_small docs bound a (v ∷ bs) le h =
     let rest = hits_small docs bound (a + 1) bs (omega (arith, le)) h.1 in
     let low = h.0 in
-    elim (nat_lt 0 v) as (λ t. AllByRecursion (IsHitOf docs bound) (cond t (record { doc = a; score = v - 1 } ∷ hits_in (a + 1) bs) (hits_in (a + 1) bs))) [
-      | true ↦ (record { doc = omega (arith, le); score = omega (arith, low) }, rest)
+    elim (nat_lt 0 v) as (λ t. AllByRecursion (IsHitOf docs bound) (cond t (record { doc = a; score = v } ∷ hits_in (a + 1) bs) (hits_in (a + 1) bs))) [
+      | true ↦ (record { doc = omega (arith, le); score = low }, rest)
       | false ↦ rest
     ]
 

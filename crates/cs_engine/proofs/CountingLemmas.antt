@@ -291,7 +291,10 @@ module _ (b : List ℕ) (i : IndexView) (stands : StandsFor b i) (is : IsIndex i
       record {
         sorted = st.sorted;
         within = All-weaker (IsKnown (stock_of b)) (IsWithin i.docs (length i.words))
-            (λ x h. let doc = h.doc in let word = h.word in record { doc = omega (arith, doc, docs); word = omega (arith, word, words); score = h.score })
+            (λ x h.
+            let doc = h.doc in
+            let word = h.word in
+            record { doc = omega (arith, doc, docs); word = omega (arith, word, words); score_from = h.score_from; score_to = h.score_to })
             (stock_of b).posts st.known;
       }
 

@@ -2,8 +2,9 @@
 --
 --   AreAlike s lo hi listed rows     rows in any order are those of a stock with these words in listed documents
 --   AreGathered i told lo hi listed keys     numbers of such rows
+--   weight_kept         the weight of a score's column is the score
 --   unkeyed             a packed post is the post of its number
---   ordered_is          what is left of sorted numbers is in order, and loses no member
+--   ordered_is, ordered_by     what is left of sorted numbers is in order, and loses no member
 --   packed_posts, within_posts     posts that are read are packed, and in range
 --   no_keys, keys_more  numbers of no block, and of one block more
 --   run_alike, run_longer     the posts of a run of blocks
@@ -28,26 +29,27 @@ use Rattle.std.proofs.lemmas.List.Kept.{IsStrictlySortedBy-filter}
 use Rattle.std.proofs.lemmas.List.Sorted.{All-permutation, IsPermutation-map, list_any-IsPermutation}
 use Rattle.cs_base.specs.content.Orders.{AreSorted, by_place}
 use Rattle.cs_base.specs.declared.content.doc.Post.{Post}
+use Rattle.cs_base.specs.declared.content.scores.Weights.{Weights}
 use Rattle.cs_base.proofs.MembersLemmas.{again}
 use Rattle.cs_base.proofs.OrdersLemmas.{Less-from_lt}
 use Rattle.cs_file.specs.CallAnswers.{IsRanged}
 use Rattle.cs_file.specs.Indexes.{AreMet, IndexView, IsIndex, StandsFor}
 use Rattle.cs_file.proofs.StoodLemmas.{stood_count}
 use Rattle.cs_meet.specs.Filters.{shares_place}
-use Rattle.cs_model.specs.Scores.{SCORES}
 use Rattle.cs_tables.specs.WordCounts.{AreCountable, is_chosen}
 use Rattle.cs_model_index.specs.BlockRules.{is_scored}
 use Rattle.cs_model_index.specs.Sections.{image_of}
 use Rattle.cs_engine.specs.declared.gathering.Gathered.{Gathered}
 use Rattle.cs_engine.specs.GatheredRows.{HasGathered}
-use Rattle.cs_engine.specs.Packing.{AreFrom, HasKeys, IsOrdered, IsPacked, apart, key_of, place_of_key, post_of_key}
+use Rattle.cs_engine.specs.Packing.{AreFrom, HasKeys, IsOrdered, IsPacked, apart, column_of, doc_of_key, is_weight, key_of, place_of_key, post_of_key, score_of}
+use Rattle.cs_engine.specs.Packing.{word_of_key}
 use Rattle.cs_engine.specs.Counting.{in_listed}
 use Rattle.cs_engine.specs.IndexReading.{AreWithin, IsWithin, WhereStood, run_of, stock_of}
 use Rattle.cs_engine.specs.Stocked.{Stock, is_between}
-use Rattle.cs_engine.specs.declared.packing.TheConstants.{NO_PLACE, POSITION_ROOM, SCORE_ROOM}
+use Rattle.cs_engine.specs.declared.packing.TheConstants.{NO_PLACE, POSITION_ROOM}
 use Rattle.cs_engine.proofs.CountingLemmas.{counted_alike, counted_long, countable, flat_more}
 use Rattle.cs_engine.proofs.RowsInRange.{same_posts}
-use Rattle.cs_engine.proofs.StockLemmas.{from_file, stocked}
+use Rattle.cs_engine.proofs.StockLemmas.{from_file, score_fits, stocked}
 use Rattle.cs_engine.proofs.UnionLemmas.{one_post}
 
 -- ---- rows in any order
@@ -61,17 +63,17 @@ pub record AreAlike (s : Stock) (lo hi : ℕ) (listed : List Bool) (rows : List 
 -- each row passes, and is in the range of the index
 pub record AreGathered (i : IndexView) (told : Option (List ℕ)) (lo hi : ℕ) (listed : List Bool) (keys : List ℕ) : Type 0 where
   pub rows : List Post
-  pub are : keys ≡ map key_of rows
-  pub packed : All IsPacked rows
+  pub are : keys ≡ map (key_of i.weights) rows
+  pub packed : All (IsPacked i.weights) rows
   pub within : All (IsWithin i.docs (length i.words)) rows
   pub passed : All (λ p. is_chosen lo hi listed p ≡ true) rows
   pub stood : WhereStood told i (λ b. AreAlike (stock_of b) lo hi listed rows)
 
 -- ---- a post and its number
-front : (m r : ℕ) → r < 8 → (m * 8 + r) / 8 ≡ m
+front : (m r : ℕ) → r < 4 → (m * 4 + r) / 4 ≡ m
 front m r lt = omega (arith, lt)
 
-back : (m r : ℕ) → r < 8 → (m * 8 + r) % 8 ≡ r
+back : (m r : ℕ) → r < 4 → (m * 4 + r) % 4 ≡ r
 back m r lt = omega (arith, lt)
 
 word_front : (m r : ℕ) → r < 4194304 → (m * 4194304 + r) / 4194304 ≡ m
@@ -86,32 +88,68 @@ spot_front m r lt = omega (arith, lt)
 spot_back : (m r : ℕ) → r < 131072 → (m * 131072 + r) % 131072 ≡ r
 spot_back m r lt = omega (arith, lt)
 
-pub unkeyed : (p : Post) → IsPacked p → post_of_key (key_of p) ≡ p
-unkeyed p h =
+-- one of two that isn't the first
+second : (a b : Bool) → (a || b) ≡ true → a ≡ false → b ≡ true
+second true b h e = absurd (true≢false e)
+second false b h e = h
+
+-- whichever columns have equal weights
+pub weight_kept : (w : Weights) (score : ℕ) → is_weight w score ≡ true → score_of w (column_of w score) ≡ score
+weight_kept w score h =
+    elim (score == w.facet) as (λ b. score == w.facet ≡ b → score_of w (cond b 0 (cond (score == w.title) 1 2)) ≡ score) [
+      | true ↦ λ e. sym (eqb-true score w.facet e)
+      | false ↦ λ e.
+          let others = second (score == w.facet) (score == w.title || score == w.text) h e in
+          elim (score == w.title) as (λ b. score == w.title ≡ b → score_of w (cond b 1 2) ≡ score) [
+            | true ↦ λ f. sym (eqb-true score w.title f)
+            | false ↦ λ f. sym (eqb-true score w.text (second (score == w.title) (score == w.text) others f))
+          ] refl
+    ] refl
+
+few_columns : (w : Weights) (score : ℕ) → column_of w score < 4
+few_columns w score =
+    elim (score == w.facet) as (λ b. cond b 0 (cond (score == w.title) 1 2) < 4) [
+      | true ↦ omega arith
+      | false ↦ elim (score == w.title) as (λ b. cond b 1 2 < 4) [
+        | true ↦ omega arith
+        | false ↦ omega arith
+      ]
+    ]
+
+pub unkeyed : (w : Weights) (p : Post) → IsPacked w p → post_of_key w (key_of w p) ≡ p
+unkeyed w p h =
     let spot = p.doc * 131072 + p.pos in
     let place = spot * 4194304 + p.word in
-    let at : place_of_key (key_of p) ≡ place = front place p.score h.score in
-    let spots : place_of_key (key_of p) / 4194304 ≡ spot = ap (λ n. n / 4194304) at ∙ word_front spot p.word h.word in
-    let doc : (post_of_key (key_of p)).doc ≡ p.doc = ap (λ n. n / 131072) spots ∙ spot_front p.doc p.pos h.pos in
-    let pos : (post_of_key (key_of p)).pos ≡ p.pos = ap (λ n. n % 131072) spots ∙ spot_back p.doc p.pos h.pos in
-    let word : (post_of_key (key_of p)).word ≡ p.word = ap (λ n. n % 4194304) at ∙ word_back spot p.word h.word in
-    let score : (post_of_key (key_of p)).score ≡ p.score = back place p.score h.score in
-    ap (λ d. let q : Post = record { doc = d; word = (post_of_key (key_of p)).word; pos = (post_of_key (key_of p)).pos; score = (post_of_key (key_of p)).score }
-    in q) doc
-    ∙ ap (λ w. let q : Post = record { doc = p.doc; word = w; pos = (post_of_key (key_of p)).pos; score = (post_of_key (key_of p)).score } in q) word
-    ∙ ap (λ x. let q : Post = record { doc = p.doc; word = p.word; pos = x; score = (post_of_key (key_of p)).score } in q) pos
-    ∙ ap (λ s. let q : Post = record { doc = p.doc; word = p.word; pos = p.pos; score = s } in q) score
+    let column = column_of w p.score in
+    let few = few_columns w p.score in
+    let at : place_of_key (key_of w p) ≡ place = front place column few in
+    let spots : place_of_key (key_of w p) / 4194304 ≡ spot = ap (λ n. n / 4194304) at ∙ word_front spot p.word h.word in
+    let doc : doc_of_key (key_of w p) ≡ p.doc = ap (λ n. n / 131072) spots ∙ spot_front p.doc p.pos h.pos in
+    let pos : (post_of_key w (key_of w p)).pos ≡ p.pos = ap (λ n. n % 131072) spots ∙ spot_back p.doc p.pos h.pos in
+    let word : word_of_key (key_of w p) ≡ p.word = ap (λ n. n % 4194304) at ∙ word_back spot p.word h.word in
+    let score : (post_of_key w (key_of w p)).score ≡ p.score = ap (score_of w) (back place column few) ∙ weight_kept w p.score h.score in
+    let q = post_of_key w (key_of w p) in
+    ap (λ d. let r : Post = record { doc = d; word = q.word; pos = q.pos; score = q.score } in r) doc
+    ∙ ap (λ x. let r : Post = record { doc = p.doc; word = x; pos = q.pos; score = q.score } in r) word
+    ∙ ap (λ x. let r : Post = record { doc = p.doc; word = p.word; pos = x; score = q.score } in r) pos
+    ∙ ap (λ x. let r : Post = record { doc = p.doc; word = p.word; pos = p.pos; score = x } in r) score
 
-all_unkeyed : (rows : List Post) → AllByRecursion IsPacked rows → map post_of_key (map key_of rows) ≡ rows
-all_unkeyed [] h = refl
-all_unkeyed (p ∷ rows) h = ap₂ (λ x xs. x ∷ xs) (unkeyed p h.0) (all_unkeyed rows h.1)
+all_unkeyed : (w : Weights) (rows : List Post) → AllByRecursion (IsPacked w) rows → map (post_of_key w) (map (key_of w) rows) ≡ rows
+all_unkeyed w [] h = refl
+all_unkeyed w (p ∷ rows) h = ap₂ (λ x xs. x ∷ xs) (unkeyed w p h.0) (all_unkeyed w rows h.1)
 
-small_key : (p : Post) → IsPacked p → place_of_key (key_of p) < NO_PLACE
-small_key p h = let doc = h.doc in let pos = h.pos in let word = h.word in let score = h.score in omega (arith, doc, pos, word, score)
+small_key : (w : Weights) (p : Post) → IsPacked w p → place_of_key (key_of w p) < NO_PLACE
+small_key w p h =
+    let doc = h.doc in
+    let pos = h.pos in
+    let word = h.word in
+    let place = (p.doc * 131072 + p.pos) * 4194304 + p.word in
+    let at : place_of_key (key_of w p) ≡ place = front place (column_of w p.score) (few_columns w p.score) in
+    omega (arith, at, doc, pos, word)
 
-small_keys : (rows : List Post) → AllByRecursion IsPacked rows → AllByRecursion (λ k. place_of_key k < NO_PLACE) (map key_of rows)
-small_keys [] h = tt
-small_keys (p ∷ rows) h = (small_key p h.0, small_keys rows h.1)
+small_keys : (w : Weights) (rows : List Post) → AllByRecursion (IsPacked w) rows → AllByRecursion (λ k. place_of_key k < NO_PLACE) (map (key_of w) rows)
+small_keys w [] h = tt
+small_keys w (p ∷ rows) h = (small_key w p h.0, small_keys w rows h.1)
 
 -- ---- the order of numbers
 less_then : (d e : ℕ) (r : Ordering) → d < e → ordering_then (nat_cmp d e) r ≡ Less
@@ -134,17 +172,17 @@ spots_less a b r lt =
       | false ↦ λ e. let s = spot_later a b lt (ltb-false _ _ e) in tied_then (a / 131072) (b / 131072) _ s.0 ∙ less_then (a % 131072) (b % 131072) r s.1
     ] refl
 
-places_less : (a b : ℕ) → place_of_key a < place_of_key b → by_place (post_of_key a) (post_of_key b) ≡ Less
-places_less a b lt =
+places_less : (w : Weights) (a b : ℕ) → place_of_key a < place_of_key b → by_place (post_of_key w a) (post_of_key w b) ≡ Less
+places_less w a b lt =
     let m = place_of_key a in
     let n = place_of_key b in
-    elim (nat_lt (m / 4194304) (n / 4194304)) as (λ c. nat_lt (m / 4194304) (n / 4194304) ≡ c → by_place (post_of_key a) (post_of_key b) ≡ Less) [
+    elim (nat_lt (m / 4194304) (n / 4194304)) as (λ c. nat_lt (m / 4194304) (n / 4194304) ≡ c → by_place (post_of_key w a) (post_of_key w b) ≡ Less) [
       | true ↦ λ e. spots_less (m / 4194304) (n / 4194304) (nat_cmp (m % 4194304) (n % 4194304)) (ltb-true _ _ e)
       | false ↦ λ e.
-          let w = word_later m n lt (ltb-false _ _ e) in
-          tied_then (m / 4194304 / 131072) (n / 4194304 / 131072) _ (ap (λ x. x / 131072) w.0)
-          ∙ tied_then (m / 4194304 % 131072) (n / 4194304 % 131072) _ (ap (λ x. x % 131072) w.0)
-          ∙ Less-from_lt (m % 4194304) (n % 4194304) w.1
+          let later = word_later m n lt (ltb-false _ _ e) in
+          tied_then (m / 4194304 / 131072) (n / 4194304 / 131072) _ (ap (λ x. x / 131072) later.0)
+          ∙ tied_then (m / 4194304 % 131072) (n / 4194304 % 131072) _ (ap (λ x. x % 131072) later.0)
+          ∙ Less-from_lt (m % 4194304) (n % 4194304) later.1
     ] refl
 
 -- each number is at least the one before
@@ -183,27 +221,28 @@ above n l (k ∷ ks) le up =
       | false ↦ λ e. let lt = not_same (place_of_key k) (place_of_key l) on e in (omega (arith, le, lt), rest)
     ] refl
 
-all_later : (l : ℕ) (ks : List ℕ) → AllByRecursion (λ k. place_of_key l < place_of_key k) ks
-    → AllByRecursion (λ p. by_place (post_of_key l) p ≡ Less) (map post_of_key ks)
-all_later l [] h = tt
-all_later l (k ∷ ks) h = (places_less l k h.0, all_later l ks h.1)
+all_later : (w : Weights) (l : ℕ) (ks : List ℕ) → AllByRecursion (λ k. place_of_key l < place_of_key k) ks
+    → AllByRecursion (λ p. by_place (post_of_key w l) p ≡ Less) (map (post_of_key w) ks)
+all_later w l [] h = tt
+all_later w l (k ∷ ks) h = (places_less w l k h.0, all_later w l ks h.1)
 
-rises : (l : ℕ) (ks : List ℕ) → Up l ks → AreSorted (map post_of_key (apart (place_of_key l) ks))
+rises : (w : Weights) (l : ℕ) (ks : List ℕ) → Up l ks → AreSorted (map (post_of_key w) (apart (place_of_key l) ks))
 unfolding Up IsStrictlySortedBy
-rises l [] up = tt
-rises l (k ∷ ks) up =
-    let rest = rises k ks up.1 in
-    elim (place_of_key k == place_of_key l) as (λ b. AreSorted (map post_of_key (cond b (apart (place_of_key k) ks) (k ∷ apart (place_of_key k) ks)))) [
+rises w l [] up = tt
+rises w l (k ∷ ks) up =
+    let rest = rises w k ks up.1 in
+    elim (place_of_key k == place_of_key l) as (λ b. AreSorted (map (post_of_key w) (cond b (apart (place_of_key k) ks) (k ∷ apart (place_of_key k) ks)))) [
       | true ↦ rest
-      | false ↦ (all_later k (apart (place_of_key k) ks) (above (place_of_key k) k ks (omega arith) up.1), rest)
+      | false ↦ (all_later w k (apart (place_of_key k) ks) (above (place_of_key k) k ks (omega arith) up.1), rest)
     ]
 
 -- ---- what is left of them
-each_apart : (P : Post → Type 0) (l : ℕ) (ks : List ℕ) → AllByRecursion P (map post_of_key ks) → AllByRecursion P (map post_of_key (apart l ks))
-each_apart P l [] h = tt
-each_apart P l (k ∷ ks) h =
-    let rest = each_apart P (place_of_key k) ks h.1 in
-    elim (place_of_key k == l) as (λ b. AllByRecursion P (map post_of_key (cond b (apart (place_of_key k) ks) (k ∷ apart (place_of_key k) ks)))) [
+each_apart : (w : Weights) (P : Post → Type 0) (l : ℕ) (ks : List ℕ) → AllByRecursion P (map (post_of_key w) ks)
+    → AllByRecursion P (map (post_of_key w) (apart l ks))
+each_apart w P l [] h = tt
+each_apart w P l (k ∷ ks) h =
+    let rest = each_apart w P (place_of_key k) ks h.1 in
+    elim (place_of_key k == l) as (λ b. AllByRecursion P (map (post_of_key w) (cond b (apart (place_of_key k) ks) (k ∷ apart (place_of_key k) ks)))) [
       | true ↦ rest
       | false ↦ (h.0, rest)
     ]
@@ -211,27 +250,30 @@ each_apart P l (k ∷ ks) h =
 all_three : (a b c : Bool) → a ≡ true → b ≡ true → c ≡ true → (a && (b && c)) ≡ true
 all_three a b c p q r = rw (p, q, r) refl
 
-shared : (k l : ℕ) → place_of_key k ≡ place_of_key l → shares_place (post_of_key k) (post_of_key l) ≡ true
-shared k l same =
-    all_three _ _ _ (eq-eqb (post_of_key l).doc (post_of_key k).doc (ap (λ n. n / 4194304 / 131072) (sym same)))
-    (eq-eqb (post_of_key l).pos (post_of_key k).pos (ap (λ n. n / 4194304 % 131072) (sym same)))
-    (eq-eqb (post_of_key l).word (post_of_key k).word (ap (λ n. n % 4194304) (sym same)))
+shared : (w : Weights) (k l : ℕ) → place_of_key k ≡ place_of_key l → shares_place (post_of_key w k) (post_of_key w l) ≡ true
+shared w k l same =
+    all_three _ _ _ (eq-eqb (doc_of_key l) (doc_of_key k) (ap (λ n. n / 4194304 / 131072) (sym same)))
+    (eq-eqb (post_of_key w l).pos (post_of_key w k).pos (ap (λ n. n / 4194304 % 131072) (sym same)))
+    (eq-eqb (word_of_key l) (word_of_key k) (ap (λ n. n % 4194304) (sym same)))
 
-module _ (all : List Post) (up : AreSorted all) (t : Post → Bool) where
-  any_behind : (l : ℕ) (ks : List ℕ) → Contains all (post_of_key l) → AllByRecursion (Contains all) (map post_of_key ks)
-      → (t (post_of_key l) || list_any t (map post_of_key (apart (place_of_key l) ks))) ≡ (t (post_of_key l) || list_any t (map post_of_key ks))
+module _ (w : Weights) (all : List Post) (up : AreSorted all) (t : Post → Bool) where
+  abbrev post : ℕ → Post
+  post = post_of_key w
+
+  any_behind : (l : ℕ) (ks : List ℕ) → Contains all (post l) → AllByRecursion (Contains all) (map post ks)
+      → (t (post l) || list_any t (map post (apart (place_of_key l) ks))) ≡ (t (post l) || list_any t (map post ks))
   any_behind l [] at h = refl
   any_behind l (k ∷ ks) at h =
       let rest = any_behind k ks h.0 h.1 in
       elim (place_of_key k == place_of_key l) as (λ b. place_of_key k == place_of_key l ≡ b
-      → (t (post_of_key l) || list_any t (map post_of_key (cond b (apart (place_of_key k) ks) (k ∷ apart (place_of_key k) ks)))) ≡ (t
-      (post_of_key l) || (t (post_of_key k) || list_any t (map post_of_key ks)))) [
+      → (t (post l) || list_any t (map post (cond b (apart (place_of_key k) ks) (k ∷ apart (place_of_key k) ks)))) ≡ (t (post l)
+      || (t (post k) || list_any t (map post ks)))) [
         | true ↦ λ e.
-            let same : post_of_key k ≡ post_of_key l = one_post all up (post_of_key k) (post_of_key l) h.0 at
-            (shared k l (eqb-true (place_of_key k) (place_of_key l) e)) in
-            ap (λ p. t p || list_any t (map post_of_key (apart (place_of_key k) ks))) (sym same) ∙ rest
-            ∙ again (t (post_of_key k)) (list_any t (map post_of_key ks)) ∙ ap (λ p. t p || (t (post_of_key k) || list_any t (map post_of_key ks))) same
-        | false ↦ λ e. ap (λ b. t (post_of_key l) || b) rest
+            let same : post k ≡ post l = one_post all up (post k) (post l) h.0 at
+            (shared w k l (eqb-true (place_of_key k) (place_of_key l) e)) in
+            ap (λ p. t p || list_any t (map post (apart (place_of_key k) ks))) (sym same) ∙ rest
+            ∙ again (t (post k)) (list_any t (map post ks)) ∙ ap (λ p. t p || (t (post k) || list_any t (map post ks))) same
+        | false ↦ λ e. ap (λ b. t (post l) || b) rest
       ] refl
 
 first_apart : (k : ℕ) (ks : List ℕ) → place_of_key k < NO_PLACE → apart NO_PLACE (k ∷ ks) ≡ k ∷ apart (place_of_key k) ks
@@ -242,53 +284,64 @@ sorted_nil : AreSorted []
 unfolding IsStrictlySortedBy
 sorted_nil = tt
 
-pub all_rise : (ks : List ℕ) → AllByRecursion (λ k. place_of_key k < NO_PLACE) ks → IsSorted nat_cmp ks → AreSorted (map post_of_key (apart NO_PLACE ks))
+pub all_rise : (w : Weights) (ks : List ℕ) → AllByRecursion (λ k. place_of_key k < NO_PLACE) ks → IsSorted nat_cmp ks
+    → AreSorted (map (post_of_key w) (apart NO_PLACE ks))
 unfolding IsStrictlySortedBy
-all_rise [] small up = sorted_nil
-all_rise (k ∷ ks) small up =
+all_rise w [] small up = sorted_nil
+all_rise w (k ∷ ks) small up =
     let on = ups k ks up in
-    subst (λ xs. AreSorted (map post_of_key xs)) (sym (first_apart k ks small.0))
-    (all_later k (apart (place_of_key k) ks) (above (place_of_key k) k ks (omega arith) on), rises k ks on)
+    subst (λ xs. AreSorted (map (post_of_key w) xs)) (sym (first_apart k ks small.0))
+    (all_later w k (apart (place_of_key k) ks) (above (place_of_key k) k ks (omega arith) on), rises w k ks on)
 
-pub any_apart : (all : List Post) → AreSorted all → (t : Post → Bool) (ks : List ℕ) → AllByRecursion (λ k. place_of_key k < NO_PLACE) ks
-    → AllByRecursion (Contains all) (map post_of_key ks) → list_any t (map post_of_key (apart NO_PLACE ks)) ≡ list_any t (map post_of_key ks)
-any_apart all up t [] small h = refl
-any_apart all up t (k ∷ ks) small h = ap (λ xs. list_any t (map post_of_key xs)) (first_apart k ks small.0) ∙ any_behind all up t k ks h.0 h.1
+pub any_apart : (w : Weights) (all : List Post) → AreSorted all → (t : Post → Bool) (ks : List ℕ) → AllByRecursion (λ k. place_of_key k < NO_PLACE) ks
+    → AllByRecursion (Contains all) (map (post_of_key w) ks)
+    → list_any t (map (post_of_key w) (apart NO_PLACE ks)) ≡ list_any t (map (post_of_key w) ks)
+any_apart w all up t [] small h = refl
+any_apart w all up t (k ∷ ks) small h =
+    ap (λ xs. list_any t (map (post_of_key w) xs)) (first_apart k ks small.0) ∙ any_behind w all up t k ks h.0 h.1
 
-pub ordered_is : (rows : List Post) (keys ks : List ℕ) (posts : List Post) → keys ≡ map key_of rows → All IsPacked rows → IsPermutation keys ks
-    → IsSorted nat_cmp ks → posts ≡ map post_of_key (apart NO_PLACE ks) → IsOrdered rows posts
-ordered_is rows keys ks posts are packed moved up is =
-    let each = recursion_from_All IsPacked rows packed in
+pub ordered_is : (w : Weights) (rows : List Post) (keys ks : List ℕ) (posts : List Post) → keys ≡ map (key_of w) rows → All (IsPacked w) rows
+    → IsPermutation keys ks → IsSorted nat_cmp ks → posts ≡ map (post_of_key w) (apart NO_PLACE ks) → IsOrdered rows posts
+ordered_is w rows keys ks posts are packed moved up is =
+    let each = recursion_from_All (IsPacked w) rows packed in
     let perm = subst (λ xs. IsPermutation xs ks) are moved in
     let small = recursion_from_All (λ k. place_of_key k < NO_PLACE) ks
-    (All-permutation (λ k. place_of_key k < NO_PLACE) (map key_of rows) ks perm
-    (All-from_recursion (λ k. place_of_key k < NO_PLACE) (map key_of rows) (small_keys rows each))) in
-    let posts_perm : IsPermutation rows (map post_of_key ks) = subst (λ xs. IsPermutation xs (map post_of_key ks)) (all_unkeyed rows each)
-    (IsPermutation-map post_of_key (map key_of rows) ks perm) in
+    (All-permutation (λ k. place_of_key k < NO_PLACE) (map (key_of w) rows) ks perm
+    (All-from_recursion (λ k. place_of_key k < NO_PLACE) (map (key_of w) rows) (small_keys w rows each))) in
+    let all = map (post_of_key w) ks in
+    let posts_perm : IsPermutation rows all = subst (λ xs. IsPermutation xs all) (all_unkeyed w rows each)
+    (IsPermutation-map (post_of_key w) (map (key_of w) rows) ks perm) in
     record {
-      sorted = subst AreSorted (sym is) (all_rise ks small up);
+      sorted = subst AreSorted (sym is) (all_rise w ks small up);
       among = subst (All (Contains rows)) (sym is)
-          (All-from_recursion (Contains rows) (map post_of_key (apart NO_PLACE ks))
-          (each_apart (Contains rows) NO_PLACE ks (recursion_from_All (Contains rows) (map post_of_key ks)
-          (All-permutation (Contains rows) rows (map post_of_key ks) posts_perm (λ k d lt. Contains-get_or rows k d lt)))));
-      alike = λ all all_up in_all t.
+          (All-from_recursion (Contains rows) (map (post_of_key w) (apart NO_PLACE ks))
+          (each_apart w (Contains rows) NO_PLACE ks (recursion_from_All (Contains rows) all
+          (All-permutation (Contains rows) rows all posts_perm (λ k d lt. Contains-get_or rows k d lt)))));
+      alike = λ whole whole_up in_whole t.
           ap (list_any t) is
-          ∙ any_apart all all_up t ks small (recursion_from_All (Contains all) (map post_of_key ks)
-          (All-permutation (Contains all) rows (map post_of_key ks) posts_perm in_all))
-          ∙ sym (list_any-IsPermutation t rows (map post_of_key ks) posts_perm);
+          ∙ any_apart w whole whole_up t ks small (recursion_from_All (Contains whole) all
+          (All-permutation (Contains whole) rows all posts_perm in_whole))
+          ∙ sym (list_any-IsPermutation t rows all posts_perm);
     }
 
+-- by weights that are these
+pub ordered_by : {w v : Weights} {keys : List ℕ} {posts : List Post} → w ≡ v
+    → ((rows : List Post) → keys ≡ map (key_of w) rows → All (IsPacked w) rows → IsOrdered rows posts)
+    → (rows : List Post) → keys ≡ map (key_of v) rows → All (IsPacked v) rows → IsOrdered rows posts
+ordered_by {keys = keys} {posts = posts} same told =
+    subst (λ (x : Weights). (rows : List Post) → keys ≡ map (key_of x) rows → All (IsPacked x) rows → IsOrdered rows posts) same told
+
 -- ---- the rows of blocks
-record HasRoom (r : Post) : Type 0 where
+record HasRoom (w : Weights) (r : Post) : Type 0 where
   pos : r.pos < POSITION_ROOM
-  score : r.score < SCORE_ROOM
+  score : is_weight w r.score ≡ true
 
-has_room : (facet : Bool) (r : Post) → is_scored SCORES facet r ≡ true → HasRoom r
-has_room true r h = record { pos = grind (arith, nat_tests); score = grind (arith, nat_tests) }
-has_room false r h = record { pos = grind (arith, nat_tests); score = grind (arith, nat_tests) }
+has_room : (w : Weights) (facet : Bool) (r : Post) → is_scored w facet r ≡ true → HasRoom w r
+has_room w true r h = record { pos = grind (arith, nat_tests); score = grind (arith, nat_tests) }
+has_room w false r h = record { pos = grind (arith, nat_tests); score = grind (arith, nat_tests) }
 
--- posts in the range of an index have room, and numbers of one byte
-pub packed_posts : (i : IndexView) → IsIndex i → (read : List Post) → All (IsRanged i) read → All IsPacked read
+-- posts in the range of an index have room, and its weights
+pub packed_posts : (i : IndexView) → IsIndex i → (read : List Post) → All (IsRanged i) read → All (IsPacked i.weights) read
 packed_posts i is read ranged =
     let docs = is.few_docs in
     let words = is.few_words in
@@ -296,21 +349,20 @@ packed_posts i is read ranged =
     let p = ranged j e l in
     let doc = p.doc in
     let word = p.word in
-    let room = has_room p.facet (get_or read j e) p.scored in
+    let room = has_room i.weights p.facet (get_or read j e) p.scored in
     record { doc = omega (arith, doc, docs); pos = room.pos; word = omega (arith, word, words); score = room.score }
 
-pub within_posts : (i : IndexView) (read : List Post) → All (IsRanged i) read → All (IsWithin i.docs (length i.words)) read
-within_posts i read ranged = λ j e l.
+pub within_posts : (i : IndexView) → IsIndex i → (read : List Post) → All (IsRanged i) read → All (IsWithin i.docs (length i.words)) read
+within_posts i is read ranged = λ j e l.
     let p = ranged j e l in
-    let room = has_room p.facet (get_or read j e) p.scored in
-    let score = room.score in
-    record { doc = p.doc; word = p.word; score = omega (arith, score) }
+    let score = score_fits i.weights is.weights p.facet (get_or read j e) p.scored in
+    record { doc = p.doc; word = p.word; score_from = score.0; score_to = score.1 }
 
 pub no_keys : (i : IndexView) (told : Option (List ℕ)) (first : ℕ) (t : Post → Bool) (keys : List ℕ) → keys ≡ [] → HasKeys i told first first t keys
 no_keys i told first t keys none = record {
   rows = [];
   are = none;
-  packed = All-nil IsPacked;
+  packed = All-nil (IsPacked i.weights);
   within = All-nil (IsWithin i.docs (length i.words));
   passed = All-nil (λ p. t p ≡ true);
   run = λ b is stands. (let e : 0 ≡ first - first = omega arith in ap (λ n. flat_map (filter t) (take n (drop first (image_of b).blocks))) e);
@@ -318,12 +370,12 @@ no_keys i told first t keys none = record {
 
 -- of a block more the posts that pass are added
 pub keys_more : (i : IndexView) (told : Option (List ℕ)) (first k : ℕ) (t : Post → Bool) (old new : List ℕ) (posts : List Post) → first ≤ k → k < length i.heads
-    → new ≡ old ++ map key_of posts → AreFrom i told k t posts
+    → new ≡ old ++ map (key_of i.weights) posts → AreFrom i told k t posts
     → HasKeys i told first k t old → HasKeys i told first (k + 1) t new
 keys_more i told first k t old new posts le lt added from h = record {
   rows = h.rows ++ posts;
-  are = added ∙ ap (λ xs. xs ++ map key_of posts) h.are ∙ sym (map-append key_of h.rows posts);
-  packed = All-append IsPacked h.rows posts h.packed from.packed;
+  are = added ∙ ap (λ xs. xs ++ map (key_of i.weights) posts) h.are ∙ sym (map-append (key_of i.weights) h.rows posts);
+  packed = All-append (IsPacked i.weights) h.rows posts h.packed from.packed;
   within = All-append (IsWithin i.docs (length i.words)) h.rows posts h.within from.within;
   passed = All-append (λ p. t p ≡ true) h.rows posts h.passed from.passed;
   run = λ b is stands.
@@ -436,20 +488,20 @@ ordered_told b i s is lo hi listed rows posts a o =
     (λ t. o.alike all up a.among t ∙ a.alike t)
 
 -- the rows of numbers, as they come
-pub as_they_come : (rows : List Post) (keys : List ℕ) → keys ≡ map key_of rows → All IsPacked rows → map post_of_key keys ≡ rows
-as_they_come rows keys are packed = ap (map post_of_key) are ∙ all_unkeyed rows (recursion_from_All IsPacked rows packed)
+pub as_they_come : (w : Weights) (rows : List Post) (keys : List ℕ) → keys ≡ map (key_of w) rows → All (IsPacked w) rows → map (post_of_key w) keys ≡ rows
+as_they_come w rows keys are packed = ap (map (post_of_key w)) are ∙ all_unkeyed w rows (recursion_from_All (IsPacked w) rows packed)
 
 -- what holds of each of the rows
-pub keys_among : (P : Post → Type 0) (rows : List Post) (keys : List ℕ) → keys ≡ map key_of rows → All IsPacked rows → All P rows
-    → All (λ k. P (post_of_key k)) keys
-keys_among P rows keys are packed h =
-    subst (All (λ k. P (post_of_key k))) (sym are)
-    (All-map (λ k. P (post_of_key k)) key_of rows (λ k d l. subst P (sym (unkeyed (get_or rows k d) (packed k d l))) (h k d l)))
+pub keys_among : (w : Weights) (P : Post → Type 0) (rows : List Post) (keys : List ℕ) → keys ≡ map (key_of w) rows → All (IsPacked w) rows → All P rows
+    → All (λ k. P (post_of_key w k)) keys
+keys_among w P rows keys are packed h =
+    subst (All (λ k. P (post_of_key w k))) (sym are)
+    (All-map (λ k. P (post_of_key w k)) (key_of w) rows (λ k d l. subst P (sym (unkeyed w (get_or rows k d) (packed k d l))) (h k d l)))
 
-pub keys_between : (lo hi : ℕ) (listed : List Bool) (rows : List Post) (keys : List ℕ) → keys ≡ map key_of rows → All IsPacked rows
-    → All (λ p. is_chosen lo hi listed p ≡ true) rows → All (λ k. (lo ≤ (post_of_key k).word) × ((post_of_key k).word < hi)) keys
-keys_between lo hi listed rows keys are packed passed =
-    keys_among (λ p. (lo ≤ p.word) × (p.word < hi)) rows keys are packed
+pub keys_between : (w : Weights) (lo hi : ℕ) (listed : List Bool) (rows : List Post) (keys : List ℕ) → keys ≡ map (key_of w) rows → All (IsPacked w) rows
+    → All (λ p. is_chosen lo hi listed p ≡ true) rows → All (λ k. (lo ≤ word_of_key k) × (word_of_key k < hi)) keys
+keys_between w lo hi listed rows keys are packed passed =
+    keys_among w (λ p. (lo ≤ p.word) × (p.word < hi)) rows keys are packed
     (All-weaker (λ p. is_chosen lo hi listed p ≡ true) (λ p. (lo ≤ p.word) × (p.word < hi)) (λ p h.
     let both = and_parts (nat_le lo p.word) (nat_lt p.word hi) (and_parts (nat_le lo p.word && nat_lt p.word hi) (in_listed listed p) h).0 in
     (leb-true lo p.word both.0, ltb-true p.word hi both.1)) rows passed)

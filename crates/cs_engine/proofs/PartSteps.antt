@@ -78,7 +78,7 @@ best_small : (i : IndexView) (posts : List Post) → All (IsWithin i.docs (lengt
 best_small i posts within d =
     greatest_small (of_doc d posts) (recursion_from_All (λ p. p.score ≤ MAX_ROW_SCORE) (of_doc d posts)
     (All-filter (λ p. p.doc == d) (λ p. p.score ≤ MAX_ROW_SCORE) posts
-    (All-weaker (IsWithin i.docs (length i.words)) (λ p. p.score ≤ MAX_ROW_SCORE) (λ p h. h.score) posts within)))
+    (All-weaker (IsWithin i.docs (length i.words)) (λ p. p.score ≤ MAX_ROW_SCORE) (λ p h. h.score_to) posts within)))
 
 pub nothing_fits : (i : IndexView) (e : EntryOf Post) → e ≡ record { base = base.All; rows = [] } → EntryFits i false 0 e
 nothing_fits i e is = subst (EntryFits i false 0) (sym is)

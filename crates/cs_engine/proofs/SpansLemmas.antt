@@ -71,7 +71,7 @@ no_hit d (suc n) [] le bare = refl
 no_hit d (suc n) (v ∷ best) le bare =
     let longer : d + suc n ≡ d + 1 + n = omega arith in
     ap (λ x. hits_in x (drop n best)) longer ∙ no_hit (d + 1) n best (omega (arith, le)) bare.1
-    ∙ ap (λ x. cond (nat_lt 0 x) (record { doc = d; score = v - 1 } ∷ hits_in (d + 1) best) (hits_in (d + 1) best)) (sym bare.0)
+    ∙ ap (λ x. cond (nat_lt 0 x) (record { doc = d; score = v } ∷ hits_in (d + 1) best) (hits_in (d + 1) best)) (sym bare.0)
 
 pub none_in_span : (best : List ℕ) (from to : ℕ) → from ≤ to → to ≤ length best → All (λ v. v ≡ 0) (take (to - from) (drop from best))
     → hits_in to (drop to best) ≡ hits_in from (drop from best)

@@ -1,6 +1,7 @@
 -- The posts of an index file as a corpus in one order.
 --
 --   kept_all          what each row that keeps a rule is
+--   score_fits        a score of the weights is one that a row may have
 --   block_within      the posts of a block are in order and in range
 --   in_block          a post of the file is one of some block
 --   one_post_of       of the posts of a file one alone has a document, position and word
@@ -31,6 +32,7 @@ use Rattle.cs_base.specs.content.Orders.{by_row, by_place, AreSorted}
 use Rattle.cs_base.specs.declared.content.doc.Post.{Post}
 use Rattle.cs_base.specs.declared.content.doc.Row.{Row}
 use Rattle.cs_base.specs.declared.content.scores.TheConstants.{MAX_ROW_SCORE}
+use Rattle.cs_base.specs.declared.content.scores.Weights.{Weights}
 use Rattle.cs_base.specs.declared.index.block.BlockHead.{BlockHead}
 use Rattle.cs_base.proofs.MembersLemmas.{any_listed, all_then, members_are, is_member-listed, listing-rises}
 use Rattle.cs_base.proofs.OrdersLemmas.{by_row_total, by_row_exact, by_place_total}
@@ -41,7 +43,7 @@ use Rattle.cs_file.proofs.StoodLemmas.{stood, stood_count, stood_block}
 use Rattle.cs_file.proofs.PostsLemmas.{block_docs, block_words}
 use Rattle.cs_meet.specs.Filters.{shares_place}
 use Rattle.cs_model.specs.Corpus.{Corpus, by_number}
-use Rattle.cs_model.specs.Scores.{SCORES}
+use Rattle.cs_model.specs.Weights.{AreWeights}
 use Rattle.cs_model_index.specs.BlockRules.{keeps, is_scored, in_kind, IsBlock}
 use Rattle.cs_model_index.specs.Images.{image_posts}
 use Rattle.cs_model_index.specs.Sections.{contents_of, image_of, file_corpus}
@@ -111,22 +113,33 @@ unfolding keeps
 kept_all holds P f last [] e = tt
 kept_all holds P f last (r ∷ rs) e = let p = and_parts (holds last r) (keeps holds (Some r) rs) e in (f last r p.0, kept_all holds P f (Some r) rs p.1)
 
-small_score : (facet : Bool) (r : Post) → is_scored SCORES facet r ≡ true → r.score ≤ MAX_ROW_SCORE
-small_score true r h = grind (arith, nat_tests)
-small_score false r h = grind (arith, nat_tests)
+pub score_fits : (w : Weights) → AreWeights w → (facet : Bool) (r : Post) → is_scored w facet r ≡ true → (1 ≤ r.score) × (r.score ≤ MAX_ROW_SCORE)
+score_fits w fine true r h =
+    let from = fine.facet_from in
+    let to = fine.facet_to in
+    (grind (arith, nat_tests, from), grind (arith, nat_tests, to))
+score_fits w fine false r h =
+    let title_from = fine.title_from in
+    let title_to = fine.title_to in
+    let text_from = fine.text_from in
+    let text_to = fine.text_to in
+    (grind (arith, nat_tests, title_from, text_from), grind (arith, nat_tests, title_to, text_to))
 
 pub block_within : (i : IndexView) → IsIndex i → (k : ℕ) (d : BlockHead) → k < length i.heads → (rs : List Post) (bytes : List ℕ)
-    → IsBlock SCORES (get_or i.heads k d) i.docs rs bytes → AreWithin i rs
+    → IsBlock i.weights (get_or i.heads k d) i.docs rs bytes → AreWithin i rs
 block_within i is k d lt rs bytes block =
     let h = get_or i.heads k d in
     let docs = block_docs h i.docs rs bytes block in
     let words = block_words h i.docs rs bytes block in
     let to = head_within i is k d lt in
-    let small = All-from_recursion (λ r. r.score ≤ MAX_ROW_SCORE) rs
-    (kept_all (in_kind SCORES h).holds (λ r. r.score ≤ MAX_ROW_SCORE) (λ last r e. small_score h.facet r e) None rs block.meets.1.1.0) in
+    let Fits : Post → Type 0 = λ r. (1 ≤ r.score) × (r.score ≤ MAX_ROW_SCORE) in
+    let fits = All-from_recursion Fits rs
+    (kept_all (in_kind i.weights h).holds Fits (λ last r e. score_fits i.weights is.weights h.facet r e) None rs block.meets.1.1.0) in
     record {
       sorted = block.writable.sorted;
-      within = λ j e l. record { doc = docs j e l; word = (let w = words j e l in omega (arith, w.1, to)); score = small j e l };
+      within = λ j e l.
+          let score = fits j e l in
+          record { doc = docs j e l; word = (let w = words j e l in omega (arith, w.1, to)); score_from = score.0; score_to = score.1 };
     }
 
 -- ---- the posts of all blocks
@@ -234,7 +247,7 @@ module _ (b : List ℕ) (i : IndexView) (s : StandsFor b i) (is : IsIndex i) whe
         let w = within_all x (in_file x (Contains-get_or (stock_of b).posts k d l)) in
         let doc = w.doc in
         let word = w.word in
-        record { doc = omega (arith, doc, docs_are); word = omega (arith, word, ap length words_are); score = w.score };
+        record { doc = omega (arith, doc, docs_are); word = omega (arith, word, ap length words_are); score_from = w.score_from; score_to = w.score_to };
   }
 
   pub stock_corpus : corpus_in (stock_of b) ≡ file_corpus b

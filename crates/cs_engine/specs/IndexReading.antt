@@ -58,11 +58,12 @@ pub record IsWordRange (i : IndexView) (lo hi : ℕ) : Type 0 where
   pub ordered : lo ≤ hi
   pub within : hi ≤ length i.words
 
--- below so many documents and words, and with a score of one byte
+-- below so many documents and words, and with a score that a row may have
 pub record IsWithin (docs words : ℕ) (p : Post) : Type 0 where
   pub doc : p.doc < docs
   pub word : p.word < words
-  pub score : p.score ≤ MAX_ROW_SCORE
+  pub score_from : 1 ≤ p.score
+  pub score_to : p.score ≤ MAX_ROW_SCORE
 
 -- whatever the store tells; so are no posts
 pub record AreWithin (i : IndexView) (posts : List Post) : Type 0 where

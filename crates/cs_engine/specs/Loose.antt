@@ -2,8 +2,8 @@
 --
 -- Source: this engine's own.
 --
---   best_of rows d           one more than the greatest score of the rows of document d
---   HasBestScores seen best          a table by document of the rows that were seen
+--   best_of rows d           the greatest score of the rows of document d
+--   HasBestScores seen best          a table by document of the rows that were seen; a row has a score, so 0 says that there is none
 --   hits_in d best           the documents of a table, from d on, that have a row, with their scores
 --   AreLastWords i q hits lo hi      the last part of a query is positive and asks for these words, and hits are in range as those before it
 --   IsEntryByWords b i q hits lo hi  over the bytes of an index the own entry of a query is that of these hits and words
@@ -29,7 +29,7 @@ use Rattle.cs_engine.specs.Stocked.{is_between}
 
 -- 0 where the document has no row
 abbrev pub best_of : List Post → ℕ → ℕ
-best_of rows d = greatest (map (λ p. p.score + 1) (of_doc d rows))
+best_of rows d = greatest (map (λ p. p.score) (of_doc d rows))
 
 -- of no rows each entry is 0
 abbrev pub HasBestScores : List Post → List ℕ → Type 0
@@ -38,7 +38,7 @@ HasBestScores seen best = (d : ℕ) → d < length best → slice_index best d �
 -- none of an empty table
 unfoldable pub hits_in : ℕ → List ℕ → List Scored
 hits_in d [] = []
-hits_in d (b ∷ bs) = if nat_lt 0 b then record { doc = d; score = b - 1 } ∷ hits_in (d + 1) bs else hits_in (d + 1) bs
+hits_in d (b ∷ bs) = if nat_lt 0 b then record { doc = d; score = b } ∷ hits_in (d + 1) bs else hits_in (d + 1) bs
 
 -- before a query's only part all documents are hits
 pub record AreLastWords (i : IndexView) (q : Query) (hits : Base) (lo hi : ℕ) : Type 0 where

@@ -7,15 +7,15 @@
 --   HasEntry best d          a document of the table has a row
 --   AreHitsBetween best from to docs     the documents that have a row, from one up to another
 --   ArePlacesBetween lo hi rows d from to places     the places of the rows of some words, from one place up to another
-use Rattle.std.specs.Prelude.{◌≡◌, ℕ, ◌-◌, ◌<◌, Bool, nat_lt, List, ◌++◌, drop, filter, length, map, slice_index, slice_index_or}
+use Rattle.std.specs.Prelude.{◌≡◌, ℕ, ◌<◌, Bool, nat_lt, List, ◌++◌, drop, filter, length, map, slice_index, slice_index_or}
 use Rattle.cs_base.specs.declared.content.doc.Post.{Post}
 use Rattle.cs_base.specs.declared.content.doc.Scored.{Scored}
 use Rattle.cs_engine.specs.Loose.{hits_in}
 use Rattle.cs_engine.specs.Stocked.{is_between}
 
--- 0 where it has no row
+-- with score 0 where it has no row
 abbrev pub hit_at : List ℕ → ℕ → Scored
-hit_at best d = record { doc = d; score = slice_index best d - 1 }
+hit_at best d = record { doc = d; score = slice_index best d }
 
 -- not so behind the last
 abbrev pub has_entry_at : List ℕ → ℕ → Bool

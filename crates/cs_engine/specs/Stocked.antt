@@ -57,11 +57,12 @@ abbrev pub corpus_in : Stock → Corpus
 corpus_in s = record { titles = by_number s.titles; rows = rows_at s.words s.posts }
 
 -- ---- what is read
--- its document has a title, its word is in the vocabulary, and its score fits a byte
+-- its document has a title, its word is in the vocabulary, and its score is one that a row may have
 pub record IsKnown (s : Stock) (p : Post) : Type 0 where
   pub doc : p.doc < length s.titles
   pub word : p.word < length s.words
-  pub score : p.score ≤ MAX_ROW_SCORE
+  pub score_from : 1 ≤ p.score
+  pub score_to : p.score ≤ MAX_ROW_SCORE
 
 -- words ascend and are texts, posts ascend and are known, and there aren't too many
 pub record IsStocked (s : Stock) : Type 0 where

@@ -2,15 +2,15 @@
 ghost use Rattle.std.specs.Prelude.{◌≡◌, ◌+◌, ◌<◌, ◌≤◌, ◌++◌, ◌*◌, ◌^◌, [], ℕ, true, List, IfOk, drop, filter, length, map, take, if◌then◌else◌};
 ghost use Rattle.std.specs.{List.{All}, Vec.{vec_capacity, vec_len}};
 ghost use Rattle.cs_base.specs.declared.content.doc.Base.TheVariants as base;
-ghost use Rattle.cs_base.specs.{declared.content.doc.Post.{Post}, declared.content.scores.TheConstants.{MAX_ROW_SCORE, TITLE_SCORE}, content.Orders.{AreByDoc}};
+ghost use Rattle.cs_base.specs.{declared.content.doc.Post.{Post}, declared.content.scores.TheConstants.{MAX_ROW_SCORE}, content.Orders.{AreByDoc}};
 ghost use Rattle.cs_file.specs.CallAnswers.{AreScoredOf};
 ghost use Rattle.{cs_rank.specs.DocScores.{IsBase, scores, with_base}, cs_cols.specs.SpanPlaces.{IsSpan}};
-ghost use Rattle.cs_engine.specs.{Loose.{HasBestScores, hits_in}, Packing.{post_of_key}, Spans.{AreHitsBetween, HasEntry, hit_at}, Steps.{IsBaseOf}};
+ghost use Rattle.cs_engine.specs.{Loose.{HasBestScores, hits_in}, Packing.{doc_of_key, post_of_key}, Spans.{AreHitsBetween, HasEntry, hit_at}, Steps.{IsBaseOf}};
 ghost use Rattle.cs_tables.specs.WordCounts.{is_chosen, is_of_listed};
 
 use crate::between::{SPAN, is_chosen};
 use crate::packing::post_of;
-use cs_base::{Base, Memory, Scored, Seq};
+use cs_base::{Base, Memory, Scored, Seq, Weights};
 use cs_file::Fetched;
 use cs_rank::add_base;
 use cs_tables::are_within;
@@ -56,27 +56,28 @@ pub(crate) fn zeros(alloc: Global, docs: u32) -> Result<Vec<u8>, Memory>
     Ok(table)
 }
 
-/// Notes the scores of rows, of which these are the numbers: by document the greatest one and one more.
-pub(crate) fn raise_keys(best: &mut Vec<u8>, keys: &[u64])
-    requires { All (λ k. (post_of_key k).doc < length best.old.items) keys.now }
+/// Notes the scores of rows, of which these are the numbers: by document the greatest one.
+pub(crate) fn raise_keys(best: &mut Vec<u8>, weights: Weights, keys: &[u64])
+    requires { All (λ k. doc_of_key k < length best.old.items) keys.now }
 
-    ensures best { (seen : List Post) → HasBestScores seen best.old.items → HasBestScores (seen ++ map post_of_key keys.now) best.new.items }
+    ensures best { (seen : List Post) → HasBestScores seen best.old.items
+        → HasBestScores (seen ++ map (post_of_key weights) keys.now) best.new.items }
     ensures len { length best.new.items ≡ length best.old.items }
 {
-    raise_all(best, keys);
+    raise_all(best, weights, keys);
 }
 
 // The same.
-fn raise_all(best: &mut [u8], keys: &[u64])
-    requires { All (λ k. (post_of_key k).doc < length best.old) keys.now }
+fn raise_all(best: &mut [u8], weights: Weights, keys: &[u64])
+    requires { All (λ k. doc_of_key k < length best.old) keys.now }
 
-    ensures best { (seen : List Post) → HasBestScores seen best.old → HasBestScores (seen ++ map post_of_key keys.now) best.new }
+    ensures best { (seen : List Post) → HasBestScores seen best.old → HasBestScores (seen ++ map (post_of_key weights) keys.now) best.new }
     ensures len { length best.new ≡ length best.old }
 {
     for key in keys {
-        let row = post_of(*key);
+        let row = post_of(weights, *key);
         let at = row.doc as usize;
-        best[at] = best[at].max(row.score + 1);
+        best[at] = best[at].max(row.score);
     }
 }
 
@@ -86,7 +87,6 @@ pub(crate) fn raise_rows(best: &mut Vec<u8>, words: (u32, u32), listed: &[bool],
     requires scores_even { length block.now.scores.items ≡ length block.now.docs.items }
     requires known { All (λ d. d < length best.old.items) block.now.docs.items }
     requires long { length listed.now ≡ length best.old.items }
-    requires small { All (λ s. s ≤ TITLE_SCORE) block.now.scores.items }
 
     ensures best { (rows : List Post) → AreScoredOf rows block.now.docs.items block.now.words.items block.now.scores.items → (seen : List Post)
         → HasBestScores seen best.old.items → HasBestScores (seen ++ filter (is_chosen words.0 words.1 listed.now) rows) best.new.items }
@@ -115,7 +115,6 @@ fn raise_chosen(
     requires scores_even { length scores.now ≡ length docs.now }
     requires known { All (λ d. d < length best.old) docs.now }
     requires long { length listed.now ≡ length best.old }
-    requires small { All (λ s. s ≤ TITLE_SCORE) scores.now }
 
     ensures best { (rows : List Post) → AreScoredOf rows docs.now row_words.now scores.now → (seen : List Post) → HasBestScores seen best.old
         → HasBestScores (seen ++ filter (is_chosen words.0 words.1 listed.now) rows) best.new }
@@ -138,7 +137,6 @@ fn raise_listed(best: &mut [u8], listed: &[bool], docs: &[u32], scores: &[u8])
     requires scores_even { length scores.now ≡ length docs.now }
     requires known { All (λ d. d < length best.old) docs.now }
     requires long { length listed.now ≡ length best.old }
-    requires small { All (λ s. s ≤ TITLE_SCORE) scores.now }
 
     ensures best { (rows : List Post) (words : List ℕ) → AreScoredOf rows docs.now words scores.now → (seen : List Post)
         → HasBestScores seen best.old → HasBestScores (seen ++ filter (is_of_listed listed.now) rows) best.new }
@@ -153,11 +151,9 @@ fn raise_listed(best: &mut [u8], listed: &[bool], docs: &[u32], scores: &[u8])
 // What a row of this score gives its document, where it counts.
 #[inline]
 fn entry_of(counts: bool, score: u8) -> u8
-    requires { score ≤ TITLE_SCORE }
-
-    ensures { result ≡ (if counts then score + 1 else 0) }
+    ensures { result ≡ (if counts then score else 0) }
 {
-    if counts { score + 1 } else { 0 }
+    if counts { score } else { 0 }
 }
 
 // The documents that have an entry, with their scores.
@@ -253,6 +249,6 @@ fn hit_at(best: &[u8], doc: usize) -> Scored
 {
     Scored {
         doc: doc as u32,
-        score: u32::from(best[doc]) - 1,
+        score: u32::from(best[doc]),
     }
 }

@@ -72,7 +72,7 @@ pub(crate) fn found_behind<S: Store>(
     let mut counts = WordCounts::new(alloc, words.0, words.1)?;
     count_keys(&mut counts, &gathered.keys);
     let mut best = zeros(alloc, index.docs)?;
-    raise_keys(&mut best, &gathered.keys);
+    raise_keys(&mut best, index.weights, &gathered.keys);
     let mut block = Fetched::new(alloc);
     for k in gathered.next..gathered.last {
         index.fetch_scored(alloc, store, k, &mut block)?;

@@ -1,14 +1,15 @@
 //! Which documents a base lists, and the words of rows that were gathered, counted.
 ghost use Rattle.std.specs.Prelude.{◌≡◌, ◌≤◌, ◌<◌, ◌*◌, [], filter, length, map, take, IfOk};
 ghost use Rattle.std.specs.List.{All};
-ghost use Rattle.cs_base.specs.{declared.content.limits.TheConstants.{MAX_PARTS}, declared.content.scores.TheConstants.{MAX_ROW_SCORE}};
+ghost use Rattle.cs_base.specs.declared.content.limits.TheConstants.{MAX_PARTS};
+ghost use Rattle.cs_base.specs.declared.content.scores.{TheConstants.{MAX_ROW_SCORE}, Weights.{Weights}};
 ghost use Rattle.cs_base.specs.outside.Causes.{ReadsWithin};
 ghost use Rattle.cs_file.specs.Indexes.{is_met};
 ghost use Rattle.cs_tables.specs.{TableListings.{post_table}, WordCounts.{AreCountable, HasCounted}};
-ghost use Rattle.cs_engine.specs.{Counting.{AreListed, AreMarked, in_listed}, Packing.{post_of_key}};
+ghost use Rattle.cs_engine.specs.{Counting.{AreListed, AreMarked, in_listed}, Packing.{post_of_key, word_of_key}};
 ghost use Rattle.cs_engine.specs.{IndexReading.{IsOpened, IsWordRange, OnlyReads, WhereStood, stock_of}, Steps.{IsBaseOf}, Stocked.{is_between}};
 
-use crate::packing::post_of;
+use crate::packing::{doc_of, word_of};
 use cs_base::{Base, Memory, Scored, Store};
 use cs_file::{Fetched, Index};
 use cs_tables::{Table, WordCounts};
@@ -44,16 +45,16 @@ fn list_all(listed: &mut [bool], hits: &[Scored])
     }
 }
 
-/// Counts the rows that these are the numbers of, those of one word in order.
+/// Counts the rows that these are the numbers of, those of one word in order, whatever the weights are.
 pub(crate) fn count_keys(counts: &mut WordCounts, keys: &[u64])
-    requires { All (λ k. (counts.old.low ≤ (post_of_key k).word) × ((post_of_key k).word < counts.old.high)) keys.now }
+    requires { All (λ k. (counts.old.low ≤ word_of_key k) × (word_of_key k < counts.old.high)) keys.now }
 
-    ensures counted { AreCountable (map post_of_key keys.now) → HasCounted [] counts.old → HasCounted (map post_of_key keys.now) counts.new }
+    ensures counted { (w : Weights) → AreCountable (map (post_of_key w) keys.now) → HasCounted [] counts.old
+        → HasCounted (map (post_of_key w) keys.now) counts.new }
     ensures low { counts.new.low ≡ counts.old.low }
     ensures high { counts.new.high ≡ counts.old.high }
 {
     for key in keys {
-        let row = post_of(*key);
-        counts.see(row.doc, row.word);
+        counts.see(doc_of(*key), word_of(*key));
     }
 }

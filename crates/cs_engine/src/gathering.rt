@@ -58,6 +58,7 @@ pub(crate) fn gather<S: Store>(
     ensures read { IfOk result (λ g. ReadsWithin (g.next - g.first) (S.reads store.old) (S.reads store.new)) }
     ensures reads { ReadsWithin (length (filter (is_met words.0 words.1) index.now.heads)) (S.reads store.old) (S.reads store.new) }
 {
+    let weights = index.weights;
     let (first, last) = index.blocks(words.0, words.1);
     let mut keys = Vec::new(alloc);
     let mut block = Sought::new(alloc);
@@ -71,7 +72,7 @@ pub(crate) fn gather<S: Store>(
             });
         }
         index.fetch_sought(alloc, store, k, words, listed, &mut block)?;
-        pack(&block.posts, &mut keys)?;
+        pack(weights, &block.posts, &mut keys)?;
     }
     Ok(Gathered {
         keys,

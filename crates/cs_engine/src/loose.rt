@@ -50,7 +50,7 @@ pub(crate) fn answered_by_words<S: Store>(
         let reply = reply_behind(over, store, &hits, words, &listed, &gathered)?;
         return Ok((reply, None));
     }
-    let rows = ordered(alloc, gathered.keys)?;
+    let rows = ordered(alloc, index.weights, gathered.keys)?;
     let entry = Entry { base: hits, rows };
     let answered = with_reply(over, store, entry)?;
     Ok(answered)

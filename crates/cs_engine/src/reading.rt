@@ -29,6 +29,6 @@ pub(crate) fn rows_between<S: Store>(
 {
     let all = listed_docs(alloc, index.docs, &Base::All)?;
     let gathered = gather(alloc, index, store, words, &all, usize::MAX)?;
-    let rows = ordered(alloc, gathered.keys)?;
+    let rows = ordered(alloc, index.weights, gathered.keys)?;
     Ok(rows)
 }

@@ -6,6 +6,6 @@ use Rattle.cs_engine.proofs.best.raise_all.Given as goal
 
 abbrev pub invariant-loop-key : goal.invariant-loop-key
 invariant-loop-key l = record {
-  best : (seen : List Post) → HasBestScores seen l.fn.best → HasBestScores (seen ++ map post_of_key (take l.key-index l.keys)) l.best;
+  best : (seen : List Post) → HasBestScores seen l.fn.best → HasBestScores (seen ++ map (post_of_key l.weights) (take l.key-index l.keys)) l.best;
   len : length l.best ≡ length l.fn.best;
 }

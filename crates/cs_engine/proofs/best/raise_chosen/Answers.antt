@@ -1,4 +1,4 @@
-use Rattle.std.proofs.Common.{◌≡◌, ℕ, ◌<◌, ◌+◌, ◌&&◌, ◌∙◌, ◌++◌, ap, cond, subst, Bool, false, List, length, get_or, arith, length-set}
+use Rattle.std.proofs.Common.{◌≡◌, ℕ, ◌<◌, ◌&&◌, ◌∙◌, ◌++◌, ap, cond, subst, Bool, false, List, length, get_or, arith, length-set}
 use Rattle.std.specs.Prelude.{max, nat_le, nat_lt, slice_index}
 use Rattle.cs_base.specs.declared.content.doc.Post.{Post}
 use Rattle.cs_tables.specs.WordCounts.{is_chosen}
@@ -27,10 +27,10 @@ loop-i-preserved c =
     let t : ℕ → ℕ → Bool = λ d w. (nat_le lo w && nat_lt w hi) && get_or c.args.listed.now d false in
     let below = c.requires.known i 0 c.loop-i-test.true in
     let inside : slice_index docs i < length best = omega (arith, below, c.loop-i.invariant.len) in
-    let entry : c.entry_of.result ≡ cond (t (slice_index docs i) (slice_index words i)) (slice_index scores i + 1) 0 = c.entry_of.ensures
-    ∙ ap (λ b. cond b (slice_index scores i + 1) 0) c.is_chosen-counts.ensures in
+    let entry : c.entry_of.result ≡ cond (t (slice_index docs i) (slice_index words i)) (slice_index scores i) 0 = c.entry_of.ensures
+    ∙ ap (λ b. cond b (slice_index scores i) 0) c.is_chosen-counts.ensures in
     let is : c.max.result ≡ max (slice_index best (slice_index docs i))
-    (cond (t (slice_index docs i) (slice_index words i)) (slice_index scores i + 1) 0) = omega (arith, c.max.ensures, entry) in
+    (cond (t (slice_index docs i) (slice_index words i)) (slice_index scores i) 0) = omega (arith, c.max.ensures, entry) in
     record {
       best = λ rows are seen has. raised_row t seen rows docs words scores best i c.max.result are c.loop-i-test.true inside is
           (c.loop-i.invariant.best rows are seen has);

@@ -1,4 +1,4 @@
-use Rattle.std.proofs.Common.{◌≡◌, ℕ, ◌<◌, ◌+◌, ◌∙◌, cond, Bool, false, length, get_or, arith, length-set}
+use Rattle.std.proofs.Common.{◌≡◌, ℕ, ◌<◌, ◌∙◌, cond, Bool, false, length, get_or, arith, length-set}
 use Rattle.std.specs.Prelude.{max, slice_index}
 use Rattle.cs_tables.specs.WordCounts.{is_of_listed}
 use Rattle.cs_engine.proofs.BestLemmas.{raised_row, raised_rows}
@@ -14,7 +14,7 @@ loop-i-preserved c =
     let t : ℕ → ℕ → Bool = λ d w. get_or c.args.listed.now d false in
     let below = c.requires.known i 0 c.loop-i-test.true in
     let inside : doc < length best = omega (arith, below, c.loop-i.invariant.len) in
-    let is : c.max.result ≡ max (slice_index best doc) (cond (get_or c.args.listed.now doc false) (slice_index scores i + 1) 0) =
+    let is : c.max.result ≡ max (slice_index best doc) (cond (get_or c.args.listed.now doc false) (slice_index scores i) 0) =
     omega (arith, c.max.ensures, c.entry_of.ensures) in
     record {
       best = λ rows words are seen has. raised_row t seen rows docs words scores best i c.max.result are c.loop-i-test.true inside is

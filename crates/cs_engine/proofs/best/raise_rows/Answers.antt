@@ -1,6 +1,5 @@
-use Rattle.std.proofs.Common.{◌≡◌, ◌<◌, ◌≤◌, ◌++◌, ap, length, sym, subst, ◌∙◌, arith}
+use Rattle.std.proofs.Common.{◌≡◌, ◌<◌, ◌++◌, ap, length, sym, subst, ◌∙◌, arith}
 use Rattle.std.specs.Prelude.{All, filter}
-use Rattle.cs_base.specs.declared.content.scores.TheConstants.{TITLE_SCORE}
 use Rattle.cs_tables.specs.WordCounts.{is_chosen}
 use Rattle.cs_tables.proofs.WordCountsLemmas.{written_back}
 use Rattle.cs_engine.specs.Loose.{HasBestScores}
@@ -19,9 +18,6 @@ raise_chosen-requires-clause-known c =
 
 pub raise_chosen-requires-clause-long : goal.raise_chosen-requires-clause-long
 raise_chosen-requires-clause-long c = c.requires.long ∙ sym (ap length c.deref_mut.ensures.value)
-
-pub raise_chosen-requires-clause-small : goal.raise_chosen-requires-clause-small
-raise_chosen-requires-clause-small c = subst (All (λ s. s ≤ TITLE_SCORE)) (sym c.deref-3.ensures.value) c.requires.small
 
 pub returns-clause-best : goal.returns-clause-best
 returns-clause-best c rows are seen has =

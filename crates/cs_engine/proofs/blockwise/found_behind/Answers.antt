@@ -12,7 +12,7 @@ use Rattle.cs_tables.specs.WordCounts.{AreCountable, HasCounted, is_chosen}
 use Rattle.cs_engine.specs.Counting.{counted_rows}
 use Rattle.cs_engine.specs.Loose.{HasBestScores, hits_in}
 use Rattle.cs_engine.specs.IndexReading.{IsWithin, run_of}
-use Rattle.cs_engine.specs.Packing.{post_of_key}
+use Rattle.cs_engine.specs.Packing.{doc_of_key, post_of_key, word_of_key}
 use Rattle.cs_engine.specs.Steps.{IsBaseOf}
 use Rattle.cs_engine.proofs.CountingLemmas.{block_counted, countable, table_told}
 use Rattle.cs_engine.proofs.PackingLemmas.{as_they_come, keys_among, keys_between}
@@ -26,9 +26,9 @@ pub count_keys-requires : goal.count_keys-requires
 count_keys-requires g c =
     let h = c.requires.gathered.keys in
     let keys = c.deref.result.now in
-    let between = keys_between c.args.words.0 c.args.words.1 c.args.listed.now h.rows keys (c.deref.ensures.value ∙ h.are) h.packed h.passed in
-    subst (λ n. All (λ k. (n ≤ (post_of_key k).word) × ((post_of_key k).word < c.in_ok-counts.counts.high)) keys) (sym c.in_ok-counts.ensures.low)
-    (subst (λ n. All (λ k. (c.args.words.0 ≤ (post_of_key k).word) × ((post_of_key k).word < n)) keys) (sym c.in_ok-counts.ensures.high) between)
+    let between = keys_between c.args.index.now.weights c.args.words.0 c.args.words.1 c.args.listed.now h.rows keys (c.deref.ensures.value ∙ h.are) h.packed h.passed in
+    subst (λ n. All (λ k. (n ≤ word_of_key k) × (word_of_key k < c.in_ok-counts.counts.high)) keys) (sym c.in_ok-counts.ensures.low)
+    (subst (λ n. All (λ k. (c.args.words.0 ≤ word_of_key k) × (word_of_key k < n)) keys) (sym c.in_ok-counts.ensures.high) between)
 
 pub raise_keys-requires : goal.raise_keys-requires
 raise_keys-requires g c =
@@ -36,8 +36,8 @@ raise_keys-requires g c =
     let h = c.requires.gathered.keys in
     let keys = c.deref-2.result.now in
     let docs = c.in_ok-best.ensures.long ∙ ap (λ (x : IndexView). x.docs) c.index.view_is in
-    subst (λ n. All (λ k. (post_of_key k).doc < n) keys) (sym docs)
-    (keys_among (λ p. p.doc < i.docs) h.rows keys (c.deref-2.ensures.value ∙ h.are) h.packed
+    subst (λ n. All (λ k. doc_of_key k < n) keys) (sym docs)
+    (keys_among i.weights (λ p. p.doc < i.docs) h.rows keys (c.deref-2.ensures.value ∙ h.are) h.packed
     (All-weaker (IsWithin i.docs (length i.words)) (λ p. p.doc < i.docs) (λ p w. w.doc) h.rows h.within))
 
 pub loop-k-init : goal.loop-k-init
@@ -55,12 +55,13 @@ loop-k-init g c =
       low = c.count_keys.ensures.low ∙ c.in_ok-counts.ensures.low;
       high = c.count_keys.ensures.high ∙ c.in_ok-counts.ensures.high;
       told = λ b is stands.
-          let same = ap (map post_of_key) c.deref.ensures.value ∙ as_they_come h.rows from.keys.items h.are h.packed ∙ h.run b is stands in
+          let same = ap (map (post_of_key i.weights)) c.deref.ensures.value ∙ as_they_come i.weights h.rows from.keys.items h.are h.packed ∙ h.run b is stands in
           let few = countable b i stands c.requires.opened.index from.first from.next lo hi listed had.onward upto in
           subst (λ rows. HasCounted rows c.count_keys.new.counts) same
-          (c.count_keys.ensures.counted (subst AreCountable (sym same) few) c.in_ok-counts.ensures.none);
+          (c.count_keys.ensures.counted i.weights (subst AreCountable (sym same) few) c.in_ok-counts.ensures.none);
       scored = λ b is stands.
-          let same = ap (map post_of_key) c.deref-2.ensures.value ∙ as_they_come h.rows from.keys.items h.are h.packed ∙ h.run b is stands in
+          let same = ap (λ (x : IndexView). map (post_of_key x.weights) c.deref-2.result.now) c.index.view_is
+          ∙ ap (map (post_of_key i.weights)) c.deref-2.ensures.value ∙ as_they_come i.weights h.rows from.keys.items h.are h.packed ∙ h.run b is stands in
           subst (λ rows. HasBestScores rows c.raise_keys.new.best.items) same (c.raise_keys.ensures.best [] c.in_ok-best.ensures.none);
       len = c.raise_keys.ensures.len ∙ c.in_ok-best.ensures.long ∙ ap (λ (x : IndexView). x.docs) c.index.view_is;
     }

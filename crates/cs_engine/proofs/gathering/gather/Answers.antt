@@ -1,7 +1,9 @@
 use Rattle.std.proofs.Common.{◌≡◌, ◌-◌, ◌∙◌, ◌++◌, List, ap, map, subst, sym, arith}
 use Rattle.std.specs.Prelude.{All}
 use Rattle.cs_base.specs.declared.content.doc.Post.{Post}
+use Rattle.cs_base.specs.declared.content.scores.Weights.{Weights}
 use Rattle.cs_base.specs.outside.Causes.{ReadsWithin}
+use Rattle.cs_file.specs.Indexes.{IndexView}
 use Rattle.cs_tables.specs.WordCounts.{is_chosen}
 use Rattle.cs_engine.specs.Packing.{HasKeys, IsPacked, key_of}
 use Rattle.cs_engine.proofs.PackingLemmas.{keys_more, no_keys, packed_posts, within_posts}
@@ -26,8 +28,11 @@ returns-in_err-fetch_sought-clause-store g c =
 
 pub pack-requires : goal.pack-requires
 pack-requires g c =
-    subst (All IsPacked) (sym c.deref.ensures.value)
-    (packed_posts c.args.index.now c.requires.opened.index c.fetch_sought.new.into.posts.items c.in_ok-fetch_sought.ensures.ranged)
+    let posts = c.fetch_sought.new.into.posts.items in
+    let W : IndexView → Weights = λ i. i.weights in
+    subst (λ (i : IndexView). All (IsPacked (W i)) c.deref.result.now) (sym c.index.view_is)
+    (subst (All (IsPacked c.args.index.now.weights)) (sym c.deref.ensures.value)
+    (packed_posts c.args.index.now c.requires.opened.index posts c.in_ok-fetch_sought.ensures.ranged))
 
 pub returns-in_err-pack-clause-reads : goal.returns-in_err-pack-clause-reads
 returns-in_err-pack-clause-reads g c = walk_stops c.loop-k.invariant.walk c.blocks-first.ensures c.loop-k-test.true c.fetch_sought.ensures.reads
@@ -39,14 +44,15 @@ loop-k-preserved g c =
     let read = c.in_ok-fetch_sought.ensures in
     let old = c.loop-k.keys.items in
     let posts = c.fetch_sought.new.into.posts.items in
-    let added = c.in_ok-pack.ensures ∙ ap (λ (ps : List Post). old ++ map key_of ps) c.deref.ensures.value in
+    let added = c.in_ok-pack.ensures ∙ ap (λ (x : IndexView). old ++ map (key_of x.weights) c.deref.result.now) c.index.view_is
+    ∙ ap (λ (ps : List Post). old ++ map (key_of i.weights) ps) c.deref.ensures.value in
     record {
       walk = walk_goes_on inv.walk read.store read.reads;
       keys = keys_more i (g.S.Store.bytes c.args.store.now) c.blocks-first.result.0 c.loop-k.k (is_chosen c.args.words.0 c.args.words.1 c.args.listed.now)
           old c.pack.new.keys.items posts c.loop-k.auto.k (omega (arith, c.blocks-first.ensures.within, c.loop-k-test.true)) added
           (record {
             packed = packed_posts i c.requires.opened.index posts read.ranged;
-            within = within_posts i posts read.ranged;
+            within = within_posts i c.requires.opened.index posts read.ranged;
             passed = read.sought;
             read = λ b is stands. read.stood b (inv.walk.store.bytes ∙ is) stands;
           }) inv.keys;

@@ -11,7 +11,7 @@ use Rattle.cs_engine.proofs.LentLemmas.{err_due}
 use Rattle.cs_engine.proofs.RowsInRange.{met_count}
 use Rattle.cs_engine.proofs.WalkLemmas.{within_both}
 use Rattle.cs_query.specs.RequestView.{asked}
-use Rattle.cs_engine.proofs.PackingLemmas.{all_in_room, ordered_passed, ordered_told, ordered_within, run_alike, run_longer}
+use Rattle.cs_engine.proofs.PackingLemmas.{all_in_room, ordered_by, ordered_passed, ordered_told, ordered_within, run_alike, run_longer}
 use Rattle.cs_engine.proofs.loose.answered_by_words.Goals as goal
 
 -- ---- too many rows
@@ -40,7 +40,7 @@ returns-then-len-room-clause-told g c b is stands held by =
             c.saturating_sub-room.ensures,
             c.size_of.ensures,
             ap length h.are,
-            length-map h.rows key_of,
+            length-map h.rows (key_of c.args.over.index.now.weights),
             ap length (h.run b is stands),
             more,
           ));
@@ -72,7 +72,7 @@ with_reply-requires-clause-entry g c =
     let listed = c.deref.result.now in
     let has = listed_in i c.args.hits c.in_ok-listed.listed.items listed (ap (λ (x : IndexView). x.docs) c.index.view_is) c.in_ok-listed.ensures c.deref.ensures.value in
     let h = c.in_ok-gathered.ensures.gathered.keys in
-    let o = c.in_ok-rows.ensures h.rows h.are h.packed in
+    let o = ordered_by (ap (λ (x : IndexView). x.weights) c.index.view_is) c.in_ok-rows.ensures h.rows h.are h.packed in
     let rows = c.in_ok-rows.rows.posts in
     entry_fits i c.args.over.request.now.query c.args.hits c.args.words.0 c.args.words.1 c.requires.asks listed has rows
     (ordered_within i h.rows rows h.within o) (ordered_passed c.args.words.0 c.args.words.1 listed h.rows rows h.passed o)
@@ -86,7 +86,7 @@ returns-clause-told g c b is stands held by =
     let few : length c.in_ok-gathered.gathered.keys.items ≤ c.saturating_sub-room.result = omega (arith, c.if-len-room.false, c.len.ensures) in
     let r = all_in_room i c.requires.over.opened.index (g.S.Store.bytes c.args.store.now) c.args.words.0 c.args.words.1 listed c.in_ok-gathered.gathered
     c.saturating_sub-room.result had c.in_ok-gathered.ensures.whole few in
-    let o = c.in_ok-rows.ensures r.rows r.are r.packed in
+    let o = ordered_by (ap (λ (x : IndexView). x.weights) c.index.view_is) c.in_ok-rows.ensures r.rows r.are r.packed in
     let rows = c.in_ok-rows.rows.posts in
     c.in_ok-answered.ensures.told b (c.gather.ensures.store.bytes ∙ is) stands held
     (chosen_entry i c.args.over.request.now.query c.args.hits c.args.words.0 c.args.words.1 c.requires.asks listed has b stands c.requires.over.opened.index

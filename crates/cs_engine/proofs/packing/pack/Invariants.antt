@@ -5,6 +5,6 @@ use Rattle.cs_engine.proofs.packing.pack.Given as goal
 
 abbrev pub invariant-loop-post : goal.invariant-loop-post
 invariant-loop-post l = record {
-  keys : l.keys.items ≡ l.fn.keys.items ++ map key_of (take l.post-index l.posts);
+  keys : l.keys.items ≡ l.fn.keys.items ++ map (key_of l.weights) (take l.post-index l.posts);
   room : vec_len l.keys + length l.posts ≤ vec_capacity l.keys + l.post-index;
 }

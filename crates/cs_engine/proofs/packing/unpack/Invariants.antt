@@ -5,6 +5,6 @@ use Rattle.cs_engine.proofs.packing.unpack.Given as goal
 
 abbrev pub invariant-loop-key : goal.invariant-loop-key
 invariant-loop-key l = record {
-  rows : l.rows.posts ++ map post_of_key (apart l.last (drop l.key-index l.keys)) ≡ map post_of_key (apart NO_PLACE l.keys);
+  rows : l.rows.posts ++ map (post_of_key l.weights) (apart l.last (drop l.key-index l.keys)) ≡ map (post_of_key l.weights) (apart NO_PLACE l.keys);
   room : length l.keys ≤ l.rows.room + l.key-index;
 }
