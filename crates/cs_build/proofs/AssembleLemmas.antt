@@ -14,6 +14,7 @@ use Rattle.std.proofs.lemmas.List.Sums.{length-filter, count_by-le-length}
 use Rattle.cs_base.specs.declared.index.block.BlockHead.{BlockHead}
 use Rattle.cs_base.specs.declared.content.doc.Post.{Post}
 use Rattle.cs_base.specs.declared.content.doc.Row.{Row}
+use Rattle.cs_base.specs.declared.content.scores.Weights.{Weights}
 use Rattle.cs_base.proofs.MembersLemmas.{listing-rises}
 use Rattle.cs_cols.specs.declared.cols.Cols.{Cols}
 use Rattle.cs_model.specs.Corpus.{distinct_words}
@@ -33,9 +34,9 @@ few_each ps most (c ∷ bs) (r ∷ rs) e few =
     let first : c.posts ≡ filter (is_within r) ps = ap (λ (l : List (List Post)). get_or l 0 []) e in
     (omega (arith, ap length first, length-filter (is_within r) ps, count_by-le-length (is_within r) ps, few), few_each ps most bs rs (ap (drop 1) e) few)
 
-same_image : (titles ws vs : List (List ℕ)) (hs gs : List BlockHead) (bs cs : List (List Post)) (target : ℕ) → ws ≡ vs → hs ≡ gs → bs ≡ cs
-    → let i : Image = record { titles = titles; words = ws; heads = hs; blocks = bs; target = target } in let j : Image = record { titles = titles; words = vs; heads = gs; blocks = cs; target = target } in i ≡ j
-same_image titles ws vs hs gs bs cs target a b c = rw (a, b, c) refl
+same_image : (titles ws vs : List (List ℕ)) (hs gs : List BlockHead) (bs cs : List (List Post)) (target : ℕ) (w : Weights) → ws ≡ vs → hs ≡ gs → bs ≡ cs
+    → let i : Image = record { titles = titles; words = ws; heads = hs; blocks = bs; target = target; weights = w } in let j : Image = record { titles = titles; words = vs; heads = gs; blocks = cs; target = target; weights = w } in i ≡ j
+same_image titles ws vs hs gs bs cs target w a b c = rw (a, b, c) refl
 
 module _ (ws : List (List ℕ)) (rows : List Row) (posts : List Post) (target : ℕ) (runs : List Run) (is : ws ≡ distinct_words rows) (ps : numbered ws rows ≡ posts) (p : AreParted target ws (count_in rows) runs) where
   up : IsStrictlySortedBy (slice_cmp nat_cmp) ws
@@ -75,9 +76,9 @@ module _ (ws : List (List ℕ)) (rows : List Row) (posts : List Post) (target : 
     pub rows_kept : (most : ℕ) → length rows ≤ most → AllByRecursion (λ b. length b.posts ≤ most) blocks
     rows_kept most few = few_each posts most blocks runs b (omega (arith, ap length ps, length-map rows (post_of ws), few))
 
-    pub image_made : (heads : List BlockHead) (titles : List (List ℕ)) → heads ≡ map (run_head ws) (zip runs (map (λ b. b.posts) blocks))
-        → let i : Image = record { titles = titles; words = ws; heads = heads; blocks = map (λ b. b.posts) blocks; target = target } in IsImage (corpus_of_rows titles rows) target i
-    image_made heads titles h =
+    pub image_made : (heads : List BlockHead) (titles : List (List ℕ)) (w : Weights) → heads ≡ map (run_head ws) (zip runs (map (λ b. b.posts) blocks))
+        → let i : Image = record { titles = titles; words = ws; heads = heads; blocks = map (λ b. b.posts) blocks; target = target; weights = w } in IsImage (corpus_of_rows titles rows) target w i
+    image_made heads titles w h =
         let held = map (λ (b : Cols). b.posts) blocks in
         let joined = p.partition.joined in
         let blocks_are : held ≡ map (block_of (flat_map (λ part. part) p.parts) rows) p.parts = blocks_made ∙ ap (λ (x : List (List ℕ)). map (block_of x rows) p.parts) (sym joined) in
@@ -88,5 +89,5 @@ module _ (ws : List (List ℕ)) (rows : List Row) (posts : List Post) (target : 
           titles = refl;
           runs = p.parts;
           parted = subst (λ x. IsPartition target (count_in rows) x p.parts) is p.partition;
-          made = same_image titles ws _ heads _ held _ target (sym joined) listed blocks_are;
+          made = same_image titles ws _ heads _ held _ target w (sym joined) listed blocks_are;
         }

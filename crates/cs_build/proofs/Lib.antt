@@ -1,8 +1,10 @@
 pub mod AssembleLemmas
+pub mod BlockOrder
 pub mod CollectionFiles
 pub mod CollectionLemmas
 pub mod ColumnLemmas
 pub mod FillLemmas
+pub mod JoiningLemmas
 pub mod KeyTextLemmas
 pub mod KindLemmas
 pub mod LengthLemmas

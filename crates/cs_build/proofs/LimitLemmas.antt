@@ -20,10 +20,11 @@ use Rattle.cs_base.specs.content.Orders.{by_spot}
 use Rattle.cs_base.specs.declared.content.doc.Post.{Post}
 use Rattle.cs_base.specs.declared.content.doc.Row.{Row}
 use Rattle.cs_base.specs.declared.content.limits.TheConstants.{MAX_DOCS, MAX_ROWS, MAX_WORDS, MAX_LINE_BYTES}
+use Rattle.cs_base.specs.declared.content.scores.Weights.{Weights}
 use Rattle.cs_base.proofs.MembersLemmas.{listing-rises}
 use Rattle.cs_docs.proofs.TextLemmas.{All-members}
 use Rattle.cs_model.specs.Corpus.{by_number, distinct_words}
-use Rattle.cs_model.specs.Scores.{SCORES}
+use Rattle.cs_model.specs.Weights.{AreWeights}
 use Rattle.cs_model_index.specs.BlockRules.{is_scored}
 use Rattle.cs_model_index.specs.FileLaws.{HasLimits}
 use Rattle.cs_model_index.specs.FileRules.{is_word}
@@ -73,18 +74,18 @@ module _ (ws : List (List ℕ)) (P : Post → Type 0) where
   blocks_keep [] rows h = tt
   blocks_keep (part ∷ parts) rows h = both (block_of ws rows part) (flat_map (λ block. block) (map (block_of ws rows) parts)) (block_keeps part rows h) (blocks_keep parts rows h)
 
-scored_posts : (ws : List (List ℕ)) (rows : List Row) → AllByRecursion (HasWord ws) rows → AllByRecursion (λ r. is_scored SCORES (is_facet r.word) (post_of [] r) ≡ true) rows → AllByRecursion (λ r. is_scored SCORES (is_facet (word_at ws (post_of ws r).word)) (post_of ws r) ≡ true) rows
-scored_posts ws [] k h = tt
-scored_posts ws (r ∷ rows) k h = (ap (λ w. is_scored SCORES (is_facet w) (post_of [] r)) (word_of_number ws r.word k.0) ∙ h.0, scored_posts ws rows k.1 h.1)
+scored_posts : (w : Weights) (ws : List (List ℕ)) (rows : List Row) → AllByRecursion (HasWord ws) rows → AllByRecursion (λ r. is_scored w (is_facet r.word) (post_of [] r) ≡ true) rows → AllByRecursion (λ r. is_scored w (is_facet (word_at ws (post_of ws r).word)) (post_of ws r) ≡ true) rows
+scored_posts w ws [] k h = tt
+scored_posts w ws (r ∷ rows) k h = (ap (λ v. is_scored w (is_facet v) (post_of [] r)) (word_of_number ws r.word k.0) ∙ h.0, scored_posts w ws rows k.1 h.1)
 
 docs_inside : (titles : List (List ℕ)) (rows : List Row) → AllByRecursion (λ r. contains_key (by_number titles) r.doc ≡ true) rows → AllByRecursion (λ r. r.doc < length titles) rows
 docs_inside titles [] h = tt
 docs_inside titles (r ∷ rows) h = (doc_inside titles r.doc h.0, docs_inside titles rows h.1)
 
-pub has_limits : (titles : List (List ℕ)) (rows : List Row) (target : ℕ) (i : Image) → IsStrictlySortedBy by_spot rows → length rows ≤ MAX_ROWS → length titles ≤ MAX_DOCS → i.titles ≡ titles → length (distinct_words rows) ≤ MAX_WORDS → 1 ≤ target → target ≤ MAX_TARGET
-    → All IsUtf8 titles → All (λ t. length t ≤ MAX_LINE_BYTES) titles → length (title_bytes titles) < 2 ^ 32 → All (λ r. is_word r.word ≡ true) rows → All (λ r. is_scored SCORES (is_facet r.word) (post_of [] r) ≡ true) rows → All (λ r. contains_key (by_number titles) r.doc ≡ true) rows
-    → IsImage (corpus_of_rows titles rows) target i → HasLimits i
-has_limits titles rows target i spots few_rows few_docs same few_words from to texts short few_bytes words scored docs is =
+pub has_limits : (titles : List (List ℕ)) (rows : List Row) (target : ℕ) (w : Weights) (i : Image) → IsStrictlySortedBy by_spot rows → length rows ≤ MAX_ROWS → length titles ≤ MAX_DOCS → i.titles ≡ titles → length (distinct_words rows) ≤ MAX_WORDS → 1 ≤ target → target ≤ MAX_TARGET
+    → AreWeights w → All IsUtf8 titles → All (λ t. length t ≤ MAX_LINE_BYTES) titles → length (title_bytes titles) < 2 ^ 32 → All (λ r. is_word r.word ≡ true) rows → All (λ r. is_scored w (is_facet r.word) (post_of [] r) ≡ true) rows → All (λ r. contains_key (by_number titles) r.doc ≡ true) rows
+    → IsImage (corpus_of_rows titles rows) target w i → HasLimits i
+has_limits titles rows target w i spots few_rows few_docs same few_words from to weights texts short few_bytes words scored docs is =
     let parts = is.runs in
     let ws : List (List ℕ) = flat_map (λ part. part) parts in
     let joined : ws ≡ distinct_words rows = is.parted.joined in
@@ -98,10 +99,11 @@ has_limits titles rows target i spots few_rows few_docs same few_words from to t
       short = subst (All (λ t. length t ≤ MAX_LINE_BYTES)) (sym same) short;
       few_bytes = subst (λ ts. length (title_bytes ts) < 2 ^ 32) (sym same) few_bytes;
       few_words = omega (arith, ap length joined, few_words);
-      words = subst (All (λ w. is_word w ≡ true)) (sym joined) (All-members (slice_cmp nat_cmp) nat_list_cmp_total exact_bytes (λ w. is_word w ≡ true) (map (λ r. r.word) rows) (All-map (λ w. is_word w ≡ true) (λ r. r.word) rows words));
+      words = subst (All (λ v. is_word v ≡ true)) (sym joined) (All-members (slice_cmp nat_cmp) nat_list_cmp_total exact_bytes (λ v. is_word v ≡ true) (map (λ r. r.word) rows) (All-map (λ v. is_word v ≡ true) (λ r. r.word) rows words));
       few_rows = omega (arith, rows_total ws up rows known spots parts refl, few_rows);
       known = subst (λ ts. All (λ p. p.doc < length ts) posts) (sym same) (All-from_recursion (λ p. p.doc < length titles) posts (blocks_keep ws (λ p. p.doc < length titles) parts rows (docs_inside titles rows (recursion_from_All (λ r. contains_key (by_number titles) r.doc ≡ true) rows docs))));
-      scored = All-from_recursion (λ p. is_scored SCORES (is_facet (word_at ws p.word)) p ≡ true) posts (blocks_keep ws (λ p. is_scored SCORES (is_facet (word_at ws p.word)) p ≡ true) parts rows (scored_posts ws rows known (recursion_from_All (λ r. is_scored SCORES (is_facet r.word) (post_of [] r) ≡ true) rows scored)));
+      scored = All-from_recursion (λ p. is_scored w (is_facet (word_at ws p.word)) p ≡ true) posts (blocks_keep ws (λ p. is_scored w (is_facet (word_at ws p.word)) p ≡ true) parts rows (scored_posts w ws rows known (recursion_from_All (λ r. is_scored w (is_facet r.word) (post_of [] r) ≡ true) rows scored)));
+      weights = weights;
       target_from = from;
       target_to = to;
     })

@@ -14,7 +14,8 @@ use Rattle.std.proofs.lemmas.List.FromFn.{length-enumerate_from}
 use Rattle.cs_base.specs.declared.content.doc.Doc.{Doc}
 use Rattle.cs_base.specs.declared.content.doc.Post.{Post}
 use Rattle.cs_base.specs.declared.content.doc.Row.{Row}
-use Rattle.cs_base.specs.declared.content.scores.TheConstants.{BEHIND_TITLE, FACET_SCORE, TEXT_SCORE, TITLE_SCORE}
+use Rattle.cs_base.specs.declared.content.scores.TheConstants.{BEHIND_TITLE}
+use Rattle.cs_base.specs.declared.content.scores.Weights.{Weights}
 use Rattle.cs_docs.specs.FacetPieces.{CanBeListed}
 use Rattle.cs_docs.specs.LinesRead.{doc_of_lent}
 use Rattle.cs_docs.specs.declared.document.LentDoc.{LentDoc}
@@ -37,9 +38,9 @@ by_words [] (n ∷ ns) e = absurd (omega (arith, e))
 by_words (r ∷ rows) [] e = absurd (omega (arith, e))
 by_words (r ∷ rows) (n ∷ ns) e = ap (λ l. n ∷ l) (by_words rows ns (omega (arith, e)))
 
-facet_numbers : (d : ℕ) (ns : List ℕ) → words_in (facet_posts d ns) ≡ ns
-facet_numbers d [] = refl
-facet_numbers d (n ∷ ns) = ap (λ l. n ∷ l) (facet_numbers d ns)
+facet_numbers : (d score : ℕ) (ns : List ℕ) → words_in (facet_posts d score ns) ≡ ns
+facet_numbers d score [] = refl
+facet_numbers d score (n ∷ ns) = ap (λ l. n ∷ l) (facet_numbers d score ns)
 
 word_numbers : (d score pos : ℕ) (ns : List ℕ) → words_in (word_posts d score pos ns) ≡ ns
 word_numbers d score pos [] = refl
@@ -48,29 +49,29 @@ word_numbers d score pos (n ∷ ns) = ap (λ l. n ∷ l) (word_numbers d score (
 three : (ps qs rs : List Post) (xs ys zs : List ℕ) → words_in ps ≡ xs → words_in qs ≡ ys → words_in rs ≡ zs → words_in (ps ++ qs ++ rs) ≡ xs ++ ys ++ zs
 three ps qs rs xs ys zs a b c = map-append (λ (p : Post). p.word) (ps ++ qs) rs ∙ ap (λ l. l ++ words_in rs) (map-append (λ (p : Post). p.word) ps qs) ∙ rw (a, b, c) refl
 
-doc_numbers : (d : ℕ) (e : DocRows) (ns : List ℕ) → words_in (posts_of_doc d e ns) ++ behind_doc e ns ≡ ns
-doc_numbers d e ns =
+doc_numbers : (w : Weights) (d : ℕ) (e : DocRows) (ns : List ℕ) → words_in (posts_of_doc w d e ns) ++ behind_doc e ns ≡ ns
+doc_numbers w d e ns =
     let facets = take e.facets ns in
     let titles = take e.titles (title_numbers e ns) in
     let texts = take e.texts (text_numbers e ns) in
-    ap (λ l. l ++ behind_doc e ns) (three _ _ _ facets titles texts (facet_numbers d facets) (word_numbers d TITLE_SCORE 1 titles) (word_numbers d TEXT_SCORE (e.titles + BEHIND_TITLE) texts))
+    ap (λ l. l ++ behind_doc e ns) (three _ _ _ facets titles texts (facet_numbers d w.facet facets) (word_numbers d w.title 1 titles) (word_numbers d w.text (e.titles + BEHIND_TITLE) texts))
     ∙ append_assoc (facets ++ titles) texts (behind_doc e ns)
     ∙ ap (λ l. facets ++ titles ++ l) (take-append-drop e.texts (text_numbers e ns))
     ∙ append_assoc facets titles (text_numbers e ns)
     ∙ ap (λ l. facets ++ l) (take-append-drop e.titles (title_numbers e ns))
     ∙ take-append-drop e.facets ns
 
-docs_numbers : (d : ℕ) (es : List DocRows) (ns : List ℕ) → AreDocRows es ns → words_in (posts_of_docs d es ns) ≡ ns
-docs_numbers d [] [] h = refl
-docs_numbers d [] (n ∷ ns) h = absurd (omega (arith, h))
-docs_numbers d (e ∷ es) ns h =
-    map-append (λ (p : Post). p.word) (posts_of_doc d e ns) (posts_of_docs (d + 1) es (behind_doc e ns))
-    ∙ ap (λ l. words_in (posts_of_doc d e ns) ++ l) (docs_numbers (d + 1) es (behind_doc e ns) h.2)
-    ∙ doc_numbers d e ns
+docs_numbers : (w : Weights) (d : ℕ) (es : List DocRows) (ns : List ℕ) → AreDocRows es ns → words_in (posts_of_docs w d es ns) ≡ ns
+docs_numbers w d [] [] h = refl
+docs_numbers w d [] (n ∷ ns) h = absurd (omega (arith, h))
+docs_numbers w d (e ∷ es) ns h =
+    map-append (λ (p : Post). p.word) (posts_of_doc w d e ns) (posts_of_docs w (d + 1) es (behind_doc e ns))
+    ∙ ap (λ l. words_in (posts_of_doc w d e ns) ++ l) (docs_numbers w (d + 1) es (behind_doc e ns) h.2)
+    ∙ doc_numbers w d e ns
 
 pub form_words : (form : RowForm) (ns : List ℕ) → IsFormOf form ns → map (λ p. p.word) (posts_in form ns) ≡ ns
 form_words (Listed rows) ns h = by_words rows ns h
-form_words (Counted docs) ns h = docs_numbers 0 docs.items ns h.1
+form_words (Counted docs w) ns h = docs_numbers w 0 docs.items ns h.1
 
 pub posts_many : (form : RowForm) (ns : List ℕ) → IsFormOf form ns → length (posts_in form ns) ≡ length ns
 posts_many form ns h = sym (length-map (posts_in form ns) (λ (p : Post). p.word)) ∙ ap length (form_words form ns h)
@@ -85,9 +86,9 @@ module _ (ws : List (List ℕ)) where
       ∙ ap (λ l. r ∷ l) (rows_again rows ns (ap (drop 1) e))
 
   -- ---- rows of documents
-  facet_rows : (d : ℕ) (ns : List ℕ) → rows_at ws (facet_posts d ns) ≡ map (λ w. placed d FACET_SCORE (0, w)) (map (word_at ws) ns)
-  facet_rows d [] = refl
-  facet_rows d (n ∷ ns) = ap (λ l. placed d FACET_SCORE (0, word_at ws n) ∷ l) (facet_rows d ns)
+  facet_rows : (d score : ℕ) (ns : List ℕ) → rows_at ws (facet_posts d score ns) ≡ map (λ v. placed d score (0, v)) (map (word_at ws) ns)
+  facet_rows d score [] = refl
+  facet_rows d score (n ∷ ns) = ap (λ l. placed d score (0, word_at ws n) ∷ l) (facet_rows d score ns)
 
   word_rows : (d score pos : ℕ) (ns : List ℕ) → rows_at ws (word_posts d score pos ns) ≡ map (placed d score) (enumerate_from pos (map (word_at ws) ns))
   word_rows d score pos [] = refl
@@ -124,24 +125,24 @@ module _ (ws : List (List ℕ)) where
   rows-append : (ps qs : List Post) → rows_at ws (ps ++ qs) ≡ rows_at ws ps ++ rows_at ws qs
   rows-append ps qs = map-append (row_of ws) ps qs
 
-  doc_listed : (d : ℕ) (doc : Doc) (ns : List ℕ) (rest : List (List ℕ)) → Parted doc ns rest → rows_at ws (posts_of_doc d (doc_rows_of doc) ns) ≡ listed_doc (d, doc)
-  doc_listed d doc ns rest p =
+  doc_listed : (w : Weights) (d : ℕ) (doc : Doc) (ns : List ℕ) (rest : List (List ℕ)) → Parted doc ns rest → rows_at ws (posts_of_doc w d (doc_rows_of doc) ns) ≡ listed_doc w (d, doc)
+  doc_listed w d doc ns rest p =
       let e = doc_rows_of doc in
-      let facets = facet_posts d (take e.facets ns) in
-      let titles = word_posts d TITLE_SCORE 1 (take e.titles (title_numbers e ns)) in
-      let texts = word_posts d TEXT_SCORE (e.titles + BEHIND_TITLE) (take e.texts (text_numbers e ns)) in
+      let facets = facet_posts d w.facet (take e.facets ns) in
+      let titles = word_posts d w.title 1 (take e.titles (title_numbers e ns)) in
+      let texts = word_posts d w.text (e.titles + BEHIND_TITLE) (take e.texts (text_numbers e ns)) in
       rows-append (facets ++ titles) texts ∙ ap (λ l. l ++ rows_at ws texts) (rows-append facets titles)
-      ∙ ap (λ l. l ++ rows_at ws titles ++ rows_at ws texts) (facet_rows d (take e.facets ns) ∙ ap (λ vs. map (λ w. placed d FACET_SCORE (0, w)) vs) p.facets)
-      ∙ ap (λ l. map (λ w. placed d FACET_SCORE (0, w)) (listed_facets doc.facets) ++ l ++ rows_at ws texts) (word_rows d TITLE_SCORE 1 (take e.titles (title_numbers e ns)) ∙ ap (λ vs. map (placed d TITLE_SCORE) (enumerate_from 1 vs)) p.titles)
-      ∙ ap (λ l. map (λ w. placed d FACET_SCORE (0, w)) (listed_facets doc.facets) ++ map (placed d TITLE_SCORE) (enumerate_from 1 (words doc.title)) ++ l) (word_rows d TEXT_SCORE (e.titles + BEHIND_TITLE) (take e.texts (text_numbers e ns)) ∙ ap (λ vs. map (placed d TEXT_SCORE) (enumerate_from (e.titles + BEHIND_TITLE) vs)) p.texts)
+      ∙ ap (λ l. l ++ rows_at ws titles ++ rows_at ws texts) (facet_rows d w.facet (take e.facets ns) ∙ ap (λ vs. map (λ v. placed d w.facet (0, v)) vs) p.facets)
+      ∙ ap (λ l. map (λ v. placed d w.facet (0, v)) (listed_facets doc.facets) ++ l ++ rows_at ws texts) (word_rows d w.title 1 (take e.titles (title_numbers e ns)) ∙ ap (λ vs. map (placed d w.title) (enumerate_from 1 vs)) p.titles)
+      ∙ ap (λ l. map (λ v. placed d w.facet (0, v)) (listed_facets doc.facets) ++ map (placed d w.title) (enumerate_from 1 (words doc.title)) ++ l) (word_rows d w.text (e.titles + BEHIND_TITLE) (take e.texts (text_numbers e ns)) ∙ ap (λ vs. map (placed d w.text) (enumerate_from (e.titles + BEHIND_TITLE) vs)) p.texts)
 
-  pub rows_of_numbers : (d : ℕ) (docs : List Doc) (ns : List ℕ) → map (word_at ws) ns ≡ flat_map listed_words docs → rows_at ws (posts_of_docs d (map doc_rows_of docs) ns) ≡ listed_rows d docs
-  rows_of_numbers d [] ns e = refl
-  rows_of_numbers d (doc ∷ docs) ns e =
+  pub rows_of_numbers : (w : Weights) (d : ℕ) (docs : List Doc) (ns : List ℕ) → map (word_at ws) ns ≡ flat_map listed_words docs → rows_at ws (posts_of_docs w d (map doc_rows_of docs) ns) ≡ listed_rows w d docs
+  rows_of_numbers w d [] ns e = refl
+  rows_of_numbers w d (doc ∷ docs) ns e =
       let p = parted doc ns (flat_map listed_words docs) e in
-      rows-append (posts_of_doc d (doc_rows_of doc) ns) (posts_of_docs (d + 1) (map doc_rows_of docs) (behind_doc (doc_rows_of doc) ns))
-      ∙ ap (λ l. l ++ rows_at ws (posts_of_docs (d + 1) (map doc_rows_of docs) (behind_doc (doc_rows_of doc) ns))) (doc_listed d doc ns _ p)
-      ∙ ap (λ l. listed_doc (d, doc) ++ l) (rows_of_numbers (d + 1) docs (behind_doc (doc_rows_of doc) ns) p.last)
+      rows-append (posts_of_doc w d (doc_rows_of doc) ns) (posts_of_docs w (d + 1) (map doc_rows_of docs) (behind_doc (doc_rows_of doc) ns))
+      ∙ ap (λ l. l ++ rows_at ws (posts_of_docs w (d + 1) (map doc_rows_of docs) (behind_doc (doc_rows_of doc) ns))) (doc_listed w d doc ns _ p)
+      ∙ ap (λ l. listed_doc w (d, doc) ++ l) (rows_of_numbers w (d + 1) docs (behind_doc (doc_rows_of doc) ns) p.last)
 
   pub counted_docs : (docs : List Doc) (ns : List ℕ) → AllByRecursion CanBeListed docs → map (word_at ws) ns ≡ flat_map listed_words docs → AreDocRows (map doc_rows_of docs) ns
   counted_docs [] ns h e = sym (length-map ns (word_at ws)) ∙ ap length e
@@ -156,21 +157,21 @@ module _ (ws : List (List ℕ)) where
       )
 
 -- ---- how many rows documents have
-pub listed_many : (d : ℕ) (docs : List Doc) → length (listed_rows d docs) ≡ length (flat_map listed_words docs)
-listed_many d [] = refl
-listed_many d (doc ∷ docs) =
+pub listed_many : (w : Weights) (d : ℕ) (docs : List Doc) → length (listed_rows w d docs) ≡ length (flat_map listed_words docs)
+listed_many w d [] = refl
+listed_many w d (doc ∷ docs) =
     let fs = listed_facets doc.facets in
     let ts = words doc.title in
     let xs = words doc.text in
     omega (
       arith,
-      listed_many (d + 1) docs,
-      length-append (listed_doc (d, doc)) (listed_rows (d + 1) docs),
-      length-append (map (λ w. placed d FACET_SCORE (0, w)) fs ++ map (placed d TITLE_SCORE) (enumerate_from 1 ts)) (map (placed d TEXT_SCORE) (enumerate_from (length ts + BEHIND_TITLE) xs)),
-      length-append (map (λ w. placed d FACET_SCORE (0, w)) fs) (map (placed d TITLE_SCORE) (enumerate_from 1 ts)),
-      length-map fs (λ w. placed d FACET_SCORE (0, w)),
-      length-map (enumerate_from 1 ts) (placed d TITLE_SCORE),
-      length-map (enumerate_from (length ts + BEHIND_TITLE) xs) (placed d TEXT_SCORE),
+      listed_many w (d + 1) docs,
+      length-append (listed_doc w (d, doc)) (listed_rows w (d + 1) docs),
+      length-append (map (λ v. placed d w.facet (0, v)) fs ++ map (placed d w.title) (enumerate_from 1 ts)) (map (placed d w.text) (enumerate_from (length ts + BEHIND_TITLE) xs)),
+      length-append (map (λ v. placed d w.facet (0, v)) fs) (map (placed d w.title) (enumerate_from 1 ts)),
+      length-map fs (λ v. placed d w.facet (0, v)),
+      length-map (enumerate_from 1 ts) (placed d w.title),
+      length-map (enumerate_from (length ts + BEHIND_TITLE) xs) (placed d w.text),
       length-enumerate_from 1 ts,
       length-enumerate_from (length ts + BEHIND_TITLE) xs,
       length-append (listed_words doc) (flat_map listed_words docs),

@@ -20,6 +20,7 @@ use Rattle.cs_base.specs.content.Orders.{by_spot}
 use Rattle.cs_base.specs.declared.content.doc.Post.{Post}
 use Rattle.cs_base.specs.declared.content.doc.Row.{Row}
 use Rattle.cs_base.specs.declared.content.limits.TheConstants.{MAX_DOCS, MAX_ROWS, MAX_WORDS}
+use Rattle.cs_base.specs.declared.content.scores.Weights.{Weights}
 use Rattle.cs_base.proofs.MembersLemmas.{listing-rises}
 use Rattle.cs_model.specs.Corpus.{distinct_words}
 use Rattle.cs_model_index.specs.Blocks.{AreWritable, block_bytes}
@@ -122,9 +123,9 @@ few_parts : (parts : List Words) → AllByRecursion HasWords parts → length pa
 few_parts [] h = omega arith
 few_parts (part ∷ parts) h = let rest = few_parts parts h.1 in omega (arith, rest, h.0.some, length-append part (flat_map (λ part. part) parts))
 
-pub can_be_written : (titles : List (List ℕ)) (rows : List Row) (target : ℕ) (i : Image) → IsStrictlySortedBy by_spot rows → length rows ≤ MAX_ROWS → length titles ≤ MAX_DOCS → length (title_bytes titles) < 2 ^ 32 → i.titles ≡ titles → length (distinct_words rows) ≤ MAX_WORDS → target ≤ MAX_TARGET
-    → IsImage (corpus_of_rows titles rows) target i → CanBeWritten i
-can_be_written titles rows target i spots few_rows few_docs few_bytes same few_words to is =
+pub can_be_written : (titles : List (List ℕ)) (rows : List Row) (target : ℕ) (w : Weights) (i : Image) → IsStrictlySortedBy by_spot rows → length rows ≤ MAX_ROWS → length titles ≤ MAX_DOCS → length (title_bytes titles) < 2 ^ 32 → i.titles ≡ titles → length (distinct_words rows) ≤ MAX_WORDS → target ≤ MAX_TARGET
+    → IsImage (corpus_of_rows titles rows) target w i → CanBeWritten i
+can_be_written titles rows target w i spots few_rows few_docs few_bytes same few_words to is =
     let parts = is.runs in
     let ws : Words = flat_map (λ part. part) parts in
     let words : ws ≡ distinct_words rows = is.parted.joined in

@@ -4,7 +4,7 @@
 --
 --   corpus_of_rows titles rows      titles by their numbers, and rows in order
 --   corpus_from docs rows     the titles of documents by their numbers, and rows that may come in any order
---   KeepLimits titles rows    titles, words, positions and scores are those of a collection
+--   KeepLimits w titles rows  titles, words and positions are those of a collection, and scores are those of the weights w
 --   build_refusal_of e        the refusal of a collection that the fault e names; None for want of memory
 use Rattle.std.specs.Prelude.{◌≡◌, ℕ, ◌^◌, ◌<◌, ◌≤◌, true, List, [], length, All, Option, Some, None}
 use Rattle.std.specs.Str.{IsUtf8}
@@ -13,9 +13,10 @@ use Rattle.cs_base.specs.content.Orders.{by_row}
 use Rattle.cs_base.specs.declared.content.doc.Doc.{Doc}
 use Rattle.cs_base.specs.declared.content.doc.Row.{Row}
 use Rattle.cs_base.specs.declared.content.limits.TheConstants.{MAX_LINE_BYTES}
+use Rattle.cs_base.specs.declared.content.scores.Weights.{Weights}
 use Rattle.cs_model.specs.Collection.{CollectionRefusal, too_many_words}
 use Rattle.cs_model.specs.Corpus.{Corpus, by_number, titles_of}
-use Rattle.cs_model.specs.Scores.{SCORES}
+use Rattle.cs_model.specs.Weights.{AreWeights}
 use Rattle.cs_model_index.specs.BlockRules.{is_scored}
 use Rattle.cs_model_index.specs.FileRules.{is_word}
 use Rattle.cs_model_index.specs.Layout.{title_bytes}
@@ -32,14 +33,15 @@ corpus_of_rows titles rows = record { titles = by_number titles; rows = rows }
 abbrev pub corpus_from : List Doc → List Row → Corpus
 corpus_from docs rows = record { titles = titles_of docs; rows = members_in by_row rows }
 
--- titles are texts and not too long, words have the form of a collection's words, and each row has the position and the score of its
--- kind; no titles and no rows keep them
-pub record KeepLimits (titles : List (List ℕ)) (rows : List Row) : Type 0 where
+-- weights are such as a collection may have, titles are texts and not too long, words have the form of a collection's words, and each
+-- row has the position and the score of its kind; no titles and no rows keep them
+pub record KeepLimits (w : Weights) (titles : List (List ℕ)) (rows : List Row) : Type 0 where
+  pub weights : AreWeights w
   pub texts : All IsUtf8 titles
   pub short : All (λ t. length t ≤ MAX_LINE_BYTES) titles
   pub few_bytes : length (title_bytes titles) < 2 ^ 32
   pub words : All (λ r. is_word r.word ≡ true) rows
-  pub scored : All (λ r. is_scored SCORES (is_facet r.word) (post_of [] r) ≡ true) rows
+  pub scored : All (λ r. is_scored w (is_facet r.word) (post_of [] r) ≡ true) rows
 
 -- want of memory names none
 abbrev pub build_refusal_of : BuildFault → Option CollectionRefusal

@@ -3,13 +3,13 @@
 -- Source: this engine's own.
 --
 --   posts_by rows ns            the posts of rows by the numbers of their words
---   facet_posts d ns            the posts of document d's facet words
+--   facet_posts d score ns      the posts of document d's facet words
 --   word_posts d score pos ns   the posts of words of document d at positions from pos on
 --   title_numbers e ns          the numbers ns of words from a document's on, without those of its facet words, where e counts its rows
 --   text_numbers e ns           without those of its title words too
 --   behind_doc e ns             without those of its text words too
---   posts_of_doc d e ns         the posts of document d, whose rows are counted by e
---   posts_of_docs d es ns       the posts of documents that are numbered from d
+--   posts_of_doc w d e ns       the posts of document d, whose rows are counted by e and have the scores of the weights w
+--   posts_of_docs w d es ns     the posts of documents that are numbered from d
 --   posts_in form ns            the posts of rows in this form
 --   AreDocRows es ns            es count as many rows as ns has numbers, and each document has few words
 --   IsFormOf form ns            there are as many rows as numbers, and few documents where they are counted
@@ -23,7 +23,8 @@ use Rattle.cs_base.specs.declared.content.doc.Doc.{Doc}
 use Rattle.cs_base.specs.declared.content.doc.Post.{Post}
 use Rattle.cs_base.specs.declared.content.doc.Row.{Row}
 use Rattle.cs_base.specs.declared.content.limits.TheConstants.{MAX_DOCS, MAX_DOC_WORDS, MAX_ROWS}
-use Rattle.cs_base.specs.declared.content.scores.TheConstants.{BEHIND_TITLE, FACET_SCORE, TEXT_SCORE, TITLE_SCORE}
+use Rattle.cs_base.specs.declared.content.scores.TheConstants.{BEHIND_TITLE}
+use Rattle.cs_base.specs.declared.content.scores.Weights.{Weights}
 use Rattle.cs_docs.specs.Listing.{listed_facets}
 use Rattle.cs_model.specs.Corpus.{distinct_words}
 use Rattle.cs_model.specs.Words.{words}
@@ -42,8 +43,8 @@ posts_by (r ∷ rows) (n ∷ numbers) = record { doc = r.doc; word = n; pos = r.
 posts_by _ _ = []
 
 -- at position 0; of no words none
-abbrev pub facet_posts : ℕ → List ℕ → List Post
-facet_posts d ns = map (λ n. record { doc = d; word = n; pos = 0; score = FACET_SCORE }) ns
+abbrev pub facet_posts : ℕ → ℕ → List ℕ → List Post
+facet_posts d score ns = map (λ n. record { doc = d; word = n; pos = 0; score = score }) ns
 
 -- one position after another; of no words none
 abbrev pub word_posts : ℕ → ℕ → ℕ → List ℕ → List Post
@@ -63,19 +64,19 @@ abbrev pub behind_doc : DocRows → List ℕ → List ℕ
 behind_doc e ns = drop e.texts (text_numbers e ns)
 
 -- title words from position 1 on, and text words behind them
-abbrev pub posts_of_doc : ℕ → DocRows → List ℕ → List Post
-posts_of_doc d e ns = facet_posts d (take e.facets ns) ++ word_posts d TITLE_SCORE 1 (take e.titles (title_numbers e ns)) ++ word_posts d TEXT_SCORE (e.titles + BEHIND_TITLE) (take e.texts (text_numbers e ns))
+abbrev pub posts_of_doc : Weights → ℕ → DocRows → List ℕ → List Post
+posts_of_doc w d e ns = facet_posts d w.facet (take e.facets ns) ++ word_posts d w.title 1 (take e.titles (title_numbers e ns)) ++ word_posts d w.text (e.titles + BEHIND_TITLE) (take e.texts (text_numbers e ns))
 
 -- of no documents none
-abbrev pub posts_of_docs : ℕ → List DocRows → List ℕ → List Post
-posts_of_docs d [] ns = []
-posts_of_docs d (e ∷ es) ns = posts_of_doc d e ns ++ posts_of_docs (d + 1) es (behind_doc e ns)
+abbrev pub posts_of_docs : Weights → ℕ → List DocRows → List ℕ → List Post
+posts_of_docs w d [] ns = []
+posts_of_docs w d (e ∷ es) ns = posts_of_doc w d e ns ++ posts_of_docs w (d + 1) es (behind_doc e ns)
 
 -- ---- forms
 -- post by post
 abbrev pub posts_in : RowForm → List ℕ → List Post
 posts_in (Listed rows) ns = posts_by rows ns
-posts_in (Counted docs) ns = posts_of_docs 0 docs.items ns
+posts_in (Counted docs w) ns = posts_of_docs w 0 docs.items ns
 
 -- of no documents there are no rows
 abbrev pub AreDocRows : List DocRows → List ℕ → Type 0
@@ -85,7 +86,7 @@ AreDocRows (e ∷ es) ns = (e.facets + (e.titles + e.texts) ≤ length ns) × (e
 -- of no rows there are no numbers
 abbrev pub IsFormOf : RowForm → List ℕ → Type 0
 IsFormOf (Listed rows) ns = length rows ≡ length ns
-IsFormOf (Counted docs) ns = (length docs.items ≤ MAX_DOCS) × AreDocRows docs.items ns
+IsFormOf (Counted docs w) ns = (length docs.items ≤ MAX_DOCS) × AreDocRows docs.items ns
 
 -- of no rows there are no words
 pub record AreColumns (ws : List (List ℕ)) (ns : List ℕ) (form : RowForm) : Type 0 where

@@ -19,19 +19,21 @@ use crate::heads::heads_of;
 use crate::ordering::in_order;
 use crate::parting::{Run, counts_of, parted};
 use crate::row_columns::RowColumns;
-use cs_base::{Doc, MAX_WORDS, Memory, Row, Seq, Text};
+use cs_base::{Doc, MAX_WORDS, Memory, Row, Seq, Text, Weights};
 use cs_file::Image;
 use cs_vocab::Vocab;
 use std::alloc::Global;
 
 /// The image of the titles of documents and of rows, which may come in any order.
 ///
-/// Of a document only its title is used. A block of several words has at most `target` rows.
+/// Of a document only its title is used. A block of several words has at most `target` rows. The image keeps the weights: with a
+/// score that rule 16 of index files doesn't allow for its kind of word it makes no index file.
 pub fn image(
     alloc: Global,
     rows: Seq<Row>,
     docs: Seq<Doc>,
     target: u32,
+    weights: Weights,
 ) -> Result<Image, BuildFault>
     requires corpus { IsCorpus (corpus_from docs rows) }
     requires few { length rows ≤ MAX_ROWS }
@@ -39,28 +41,30 @@ pub fn image(
     requires target_from { 1 ≤ target }
     requires target_to { target ≤ MAX_TARGET }
 
-    ensures ok { IfOk result (IsImage (corpus_from docs rows) target) }
+    ensures ok { IfOk result (IsImage (corpus_from docs rows) target weights) }
     ensures few_words { OnOk result (length (distinct_words rows) ≤ MAX_WORDS) }
     ensures too_many_words { IsErrOf result BuildFault.TooManyWords → MAX_WORDS < length (distinct_words rows) }
 
     // it can be written, and where the rows are those of a collection its file is an index file
     ensures writable { length (title_bytes (map title_of docs)) < 2 ^ 32 → IfOk result CanBeWritten }
-    ensures limits { KeepLimits (map title_of docs) rows → IfOk result HasLimits }
+    ensures limits { KeepLimits weights (map title_of docs) rows → IfOk result HasLimits }
 {
     let rows = in_order(alloc, rows)?;
     let columns = RowColumns::of_rows(alloc, rows)?;
     let titles = titles_of(alloc, docs)?;
-    image_of_columns(alloc, columns, titles, target)
+    image_of_columns(alloc, columns, titles, target, weights)
 }
 
 /// The image of titles, by the numbers of their documents, and of rows, which are in order and in columns.
 ///
-/// A block of several words has at most `target` rows.
+/// A block of several words has at most `target` rows. The image keeps the weights: with a score that rule 16 of index files
+/// doesn't allow for its kind of word it makes no index file.
 pub fn image_of_columns(
     alloc: Global,
     rows: RowColumns,
     titles: Seq<Text>,
     target: u32,
+    weights: Weights,
 ) -> Result<Image, BuildFault>
     requires corpus { IsCorpus (corpus_of_rows titles rows) }
     requires few { length rows ≤ MAX_ROWS }
@@ -68,15 +72,15 @@ pub fn image_of_columns(
     requires target_from { 1 ≤ target }
     requires target_to { target ≤ MAX_TARGET }
 
-    ensures ok { IfOk result (IsImage (corpus_of_rows titles rows) target) }
+    ensures ok { IfOk result (IsImage (corpus_of_rows titles rows) target weights) }
     ensures few_words { OnOk result (length (distinct_words rows) ≤ MAX_WORDS) }
     ensures too_many_words { IsErrOf result BuildFault.TooManyWords → MAX_WORDS < length (distinct_words rows) }
 
     // it can be written, and where the rows are those of a collection its file is an index file
     ensures writable { length (title_bytes titles) < 2 ^ 32 → IfOk result CanBeWritten }
-    ensures limits { KeepLimits titles rows → IfOk result HasLimits }
+    ensures limits { KeepLimits weights titles rows → IfOk result HasLimits }
 {
-    built(alloc, titles, rows, target)
+    built(alloc, titles, rows, target, weights)
 }
 
 // The image of titles and of rows that are in order.
@@ -85,11 +89,12 @@ fn built(
     titles: Seq<Text>,
     rows: RowColumns,
     target: u32,
+    weights: Weights,
 ) -> Result<Image, BuildFault>
     requires few { length rows ≤ MAX_ROWS }
     requires target { target ≤ MAX_TARGET }
 
-    ensures ok { IfOk result (IsImage (corpus_of_rows titles rows) target) }
+    ensures ok { IfOk result (IsImage (corpus_of_rows titles rows) target weights) }
     ensures titles { IfOk result (λ i. i.titles ≡ titles) }
     ensures few_words { OnOk result (length (distinct_words rows) ≤ MAX_WORDS) }
     ensures too_many_words { IsErrOf result BuildFault.TooManyWords → MAX_WORDS < length (distinct_words rows) }
@@ -111,11 +116,17 @@ fn built(
         heads: Seq::from_vec(heads),
         blocks: Seq::from_vec(blocks),
         target,
+        weights,
     })
 }
 
-// The runs of words whose numbers stand for rows.
-fn runs_of(alloc: Global, words: &Vocab, numbers: &[u32], target: u32) -> Result<Vec<Run>, Memory>
+/// The runs of words whose numbers stand for rows.
+pub(crate) fn runs_of(
+    alloc: Global,
+    words: &Vocab,
+    numbers: &[u32],
+    target: u32,
+) -> Result<Vec<Run>, Memory>
     requires below { All (IsBelow (length words.now)) numbers.now }
     requires few { length numbers.now ≤ MAX_ROWS }
     requires target { target ≤ MAX_TARGET }

@@ -9,7 +9,7 @@ ghost use Rattle.cs_build.specs.WordRuns.{AreSpans, AreFilled, AreTaken, CanTake
 
 use crate::parting::Run;
 use crate::row_form::{DocRows, RowForm};
-use cs_base::{BEHIND_TITLE, FACET_SCORE, Memory, Post, Row, TEXT_SCORE, TITLE_SCORE};
+use cs_base::{BEHIND_TITLE, Memory, Post, Row, Weights};
 use cs_cols::Cols;
 use std::alloc::Global;
 
@@ -44,7 +44,7 @@ fn fill(blocks: &mut [Cols], places: &[u32], numbers: &[u32], form: &RowForm)
 {
     match form {
         RowForm::Listed(rows) => fill_rows(blocks, places, numbers, rows.as_slice()),
-        RowForm::Counted(docs) => fill_docs(blocks, places, numbers, docs),
+        RowForm::Counted { docs, weights } => fill_docs(blocks, places, numbers, docs, *weights),
     }
 }
 
@@ -66,16 +66,22 @@ fn fill_rows(blocks: &mut [Cols], places: &[u32], numbers: &[u32], rows: &[Row])
     }
 }
 
-fn fill_docs(blocks: &mut [Cols], places: &[u32], numbers: &[u32], docs: &[DocRows])
+fn fill_docs(
+    blocks: &mut [Cols],
+    places: &[u32],
+    numbers: &[u32],
+    docs: &[DocRows],
+    weights: Weights,
+)
     requires few { length docs.now ≤ MAX_DOCS }
     requires each { AreDocRows docs.now numbers.now }
-    requires room { CanTake places.now blocks.old (posts_of_docs 0 docs.now numbers.now) }
+    requires room { CanTake places.now blocks.old (posts_of_docs weights 0 docs.now numbers.now) }
 
-    ensures { AreTaken places.now (posts_of_docs 0 docs.now numbers.now) blocks.old blocks.new }
+    ensures { AreTaken places.now (posts_of_docs weights 0 docs.now numbers.now) blocks.old blocks.new }
 {
     let mut rest = numbers;
     for (doc, rows) in docs.iter().enumerate() {
-        rest = fill_doc(blocks, places, rest, doc as u32, *rows);
+        rest = fill_doc(blocks, places, rest, doc as u32, *rows, weights);
     }
 }
 
@@ -87,42 +93,43 @@ fn fill_doc<'a>(
     numbers: &'a [u32],
     doc: u32,
     rows: DocRows,
+    weights: Weights,
 ) -> &'a [u32]
     requires each { rows.facets + (rows.titles + rows.texts) ≤ length numbers.now }
     requires few { rows.titles + rows.texts ≤ MAX_DOC_WORDS }
-    requires room { CanTake places.now blocks.old (posts_of_doc doc rows numbers.now) }
+    requires room { CanTake places.now blocks.old (posts_of_doc weights doc rows numbers.now) }
 
     ensures behind { result.now ≡ behind_doc rows numbers.now }
-    ensures taken { AreTaken places.now (posts_of_doc doc rows numbers.now) blocks.old blocks.new }
+    ensures taken { AreTaken places.now (posts_of_doc weights doc rows numbers.now) blocks.old blocks.new }
 {
     let (facets, words) = numbers.split_at(rows.facets as usize);
     let (titles, words) = words.split_at(rows.titles as usize);
     let (texts, behind) = words.split_at(rows.texts as usize);
-    fill_facets(blocks, places, facets, doc);
-    fill_words(blocks, places, titles, doc, 1, TITLE_SCORE);
+    fill_facets(blocks, places, facets, doc, weights.facet);
+    fill_words(blocks, places, titles, doc, 1, weights.title);
     fill_words(
         blocks,
         places,
         texts,
         doc,
         rows.titles + BEHIND_TITLE,
-        TEXT_SCORE,
+        weights.text,
     );
     behind
 }
 
 #[inline]
-fn fill_facets(blocks: &mut [Cols], places: &[u32], numbers: &[u32], doc: u32)
-    requires { CanTake places.now blocks.old (facet_posts doc numbers.now) }
+fn fill_facets(blocks: &mut [Cols], places: &[u32], numbers: &[u32], doc: u32, score: u8)
+    requires { CanTake places.now blocks.old (facet_posts doc score numbers.now) }
 
-    ensures { AreTaken places.now (facet_posts doc numbers.now) blocks.old blocks.new }
+    ensures { AreTaken places.now (facet_posts doc score numbers.now) blocks.old blocks.new }
 {
     for number in numbers {
         let post = Post {
             doc,
             word: *number,
             pos: 0,
-            score: FACET_SCORE,
+            score,
         };
         push_at(blocks, places[*number as usize] as usize, post);
     }
@@ -149,8 +156,8 @@ fn fill_words(blocks: &mut [Cols], places: &[u32], numbers: &[u32], doc: u32, po
     }
 }
 
-// For each word the index of the run that has it.
-fn places_of(alloc: Global, runs: &[Run], words: u32) -> Result<Vec<u32>, Memory>
+/// For each word the index of the run that has it.
+pub(crate) fn places_of(alloc: Global, runs: &[Run], words: u32) -> Result<Vec<u32>, Memory>
     requires spans { AreSpans 0 runs.now words }
     requires few { length runs.now ≤ words }
 
@@ -163,8 +170,8 @@ fn places_of(alloc: Global, runs: &[Run], words: u32) -> Result<Vec<u32>, Memory
     Ok(places)
 }
 
-// Blocks without posts, each with room for those of its run.
-fn empty_blocks(alloc: Global, runs: &[Run]) -> Result<Vec<Cols>, Memory>
+/// Blocks without posts, each with room for those of its run.
+pub(crate) fn empty_blocks(alloc: Global, runs: &[Run]) -> Result<Vec<Cols>, Memory>
     ensures { IfOk result (λ blocks. AreFilled [] runs.now blocks.items) }
 {
     let mut blocks = Vec::with_capacity(alloc, runs.len())?;
@@ -176,8 +183,9 @@ fn empty_blocks(alloc: Global, runs: &[Run]) -> Result<Vec<Cols>, Memory>
     Ok(blocks)
 }
 
+/// Adds a post at the end of block number `i`, in the room that it has.
 #[inline]
-fn push_at(blocks: &mut [Cols], i: usize, post: Post)
+pub(crate) fn push_at(blocks: &mut [Cols], i: usize, post: Post)
     requires inside { i < length blocks.old }
     requires room { (c : Cols) → 1 ≤ (slice_index_or blocks.old i c).room }
 

@@ -4,11 +4,13 @@
 //! here reads or writes a file.
 #![tactic(auto)]
 
+mod block_order;
 mod building;
 mod column_words;
 mod fault;
 mod filling;
 mod heads;
+mod joining;
 pub mod laws;
 mod ordering;
 mod parting;
@@ -18,4 +20,5 @@ mod row_gathering;
 
 pub use building::{image, image_of_columns};
 pub use fault::BuildFault;
+pub use joining::{joined_image, rows_in};
 pub use row_columns::RowColumns;

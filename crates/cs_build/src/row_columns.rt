@@ -8,7 +8,7 @@ ghost use Rattle.cs_model.specs.Corpus.{rows_of};
 
 use crate::row_form::RowForm;
 use crate::row_gathering::RowGathering;
-use cs_base::{MAX_ROWS, Memory, Row, Seq};
+use cs_base::{MAX_ROWS, Memory, Row, Seq, Weights};
 use cs_docs::{LentDoc, RowsFault};
 use cs_vocab::{Numbered, Vocab};
 use std::alloc::Global;
@@ -41,13 +41,18 @@ impl Model for RowColumns {
 impl RowColumns {
     /// The rows of documents that `lent_docs` gave, by document, position and word.
     ///
-    /// They are those of `rows_of` of `cs_docs`. `TooManyRows` comes where there are more than `MAX_ROWS` of them.
-    pub fn of_docs(alloc: Global, docs: &[LentDoc<'_>]) -> Result<RowColumns, RowsFault>
+    /// They are those of `rows_of` of `cs_docs`, with the scores of these weights. `TooManyRows` comes where there are more than
+    /// `MAX_ROWS` of them.
+    pub fn of_docs(
+        alloc: Global,
+        docs: &[LentDoc<'_>],
+        weights: Weights,
+    ) -> Result<RowColumns, RowsFault>
         requires read { (c : List ℕ) × (docs_refusal c ≡ None) × (map doc_of_lent docs.now ≡ documents c) }
 
-        ensures ok { IfOk result (λ rows. rows ≡ rows_of (map doc_of_lent docs.now)) }
-        ensures few { OnOk result (length (rows_of (map doc_of_lent docs.now)) ≤ MAX_ROWS) }
-        ensures too_many { IsErrOf result RowsFault.TooManyRows → MAX_ROWS < length (rows_of (map doc_of_lent docs.now)) }
+        ensures ok { IfOk result (λ rows. rows ≡ rows_of weights (map doc_of_lent docs.now)) }
+        ensures few { OnOk result (length (rows_of weights (map doc_of_lent docs.now)) ≤ MAX_ROWS) }
+        ensures too_many { IsErrOf result RowsFault.TooManyRows → MAX_ROWS < length (rows_of weights (map doc_of_lent docs.now)) }
     {
         let rows = likely_rows(docs);
         let mut gathering = RowGathering::with_capacity(alloc, rows, docs.len())?;
@@ -59,7 +64,7 @@ impl RowColumns {
         Ok(RowColumns {
             words,
             numbers,
-            form: RowForm::Counted(docs),
+            form: RowForm::Counted { docs, weights },
         })
     }
 

@@ -1,6 +1,6 @@
 //! What is kept of rows beside the numbers of their words.
 
-use cs_base::{Row, Seq};
+use cs_base::{Row, Seq, Weights};
 
 /// How many rows of each kind a document has.
 #[derive(Clone, Copy, Debug)]
@@ -20,5 +20,10 @@ pub(crate) enum RowForm {
     Listed(Seq<Row>),
     /// By how many rows each document has: its facet words stand at position 0, its title words at positions from 1 on,
     /// its text words behind them.
-    Counted(Vec<DocRows>),
+    Counted {
+        /// How many rows each document has, from number 0 on.
+        docs: Vec<DocRows>,
+        /// The scores of the rows.
+        weights: Weights,
+    },
 }

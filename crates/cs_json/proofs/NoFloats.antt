@@ -6,6 +6,8 @@ use Rattle.std.proofs.lemmas.Bool.{or_parts, or_from}
 use Rattle.serde_json.specs.Data.{Data, Members, no_members, member, put}
 use Rattle.serde_json.specs.View.{items_of}
 use Rattle.serde_json.specs.Written.{has_float, items_have_float, members_have_float}
+use Rattle.std.specs.List.{zip}
+use Rattle.cs_model_excerpts.specs.ExcerptReplies.{excerpted_data, excerpted_reply}
 use Rattle.cs_model.specs.Replies.{Shown, HitShown, FacetShown, Reply, shown_data, table_data, hit_data, reply_data}
 
 -- whichever of three lists of members is taken
@@ -37,3 +39,12 @@ facets-no_float (f ∷ fs) ms e = facets-no_float fs (put f.name (table_data f.t
 pub reply-no_float : (r : Reply) → has_float (reply_data r) ≡ false
 reply-no_float r =
     or_from _ _ (table-no_float r.completions) (or_from _ _ (facets-no_float r.facets no_members refl) (or_from _ _ (hits-no_float r.hits) refl))
+
+excerpts-no_float : (hs : List HitShown) (xs : List (List ℕ)) → items_have_float (items_of (map excerpted_data (zip hs xs))) ≡ false
+excerpts-no_float [] xs = refl
+excerpts-no_float (h ∷ hs) [] = refl
+excerpts-no_float (h ∷ hs) (x ∷ xs) = excerpts-no_float hs xs
+
+pub excerpted-no_float : (r : Reply) (xs : List (List ℕ)) → has_float (excerpted_reply r xs) ≡ false
+excerpted-no_float r xs =
+    or_from _ _ (table-no_float r.completions) (or_from _ _ (facets-no_float r.facets no_members refl) (or_from _ _ (excerpts-no_float r.hits xs) refl))

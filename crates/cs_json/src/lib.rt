@@ -1,6 +1,6 @@
 //! Replies and faults as compact JSON.
 //!
-//! The texts are those of `Replies` and `Faults` in `cs_model`, byte for byte. They are written through the
+//! The texts are those of `Replies` and `Faults` in `cs_model`, and of `ExcerptReplies` in `cs_model_excerpts`, byte for byte. They are written through the
 //! value of `serde_json`, whose objects hold their keys in byte order.
 #![tactic(auto)]
 
@@ -9,4 +9,4 @@ mod reply;
 
 pub use cs_query::{FacetShown, HitShown, Param, Reply, ReqFault, Shown};
 pub use fault::{Fault, fault_bytes};
-pub use reply::reply_bytes;
+pub use reply::{excerpt_bytes, reply_bytes};

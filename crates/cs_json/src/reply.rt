@@ -1,10 +1,12 @@
 //! The text of a reply.
-ghost use Rattle.std.specs.Prelude.{◌≡◌, IfOk, map};
+ghost use Rattle.std.specs.Prelude.{◌≡◌, IfOk, length, map};
 ghost use Rattle.serde_json.specs.Data.{Data, array, object};
 ghost use Rattle.serde_json.specs.View.{items_of, view};
-ghost use Rattle.cs_model.specs.Replies.{shown_data, hit_data, facet_members, reply_data, reply_text};
+ghost use Rattle.cs_model.specs.Replies.{shown_data, hit_data, facet_members, reply_text};
+ghost use Rattle.cs_model_excerpts.specs.ExcerptReplies.{excerpted_data, excerpted_hits, excerpted_text};
+ghost use Rattle.cs_json.specs.ReplyHits.{reply_with};
 
-use cs_base::Memory;
+use cs_base::{Memory, Seq, Text};
 use cs_query::{FacetShown, HitShown, Reply, Shown};
 use serde_json::{Map, Value, json};
 use std::alloc::{AllocError, Global};
@@ -13,17 +15,30 @@ use std::alloc::{AllocError, Global};
 pub fn reply_bytes(alloc: Global, r: &Reply) -> Result<Vec<u8>, Memory>
     ensures ok { IfOk result (λ v. v.items ≡ reply_text r.now) }
 {
-    let value = reply_value(alloc, r)?;
+    let hits = list_value(alloc, r.hits.as_slice())?;
+    let value = reply_value(alloc, r, hits)?;
     let bytes = value.to_vec(alloc)?;
     Ok(bytes)
 }
 
-fn reply_value(alloc: Global, reply: &Reply) -> Result<Value, AllocError>
-    ensures { IfOk result (λ v. view v ≡ reply_data reply.now) }
+/// The reply as compact JSON, keys in byte order, each hit with the excerpt at its place.
+pub fn excerpt_bytes(alloc: Global, r: &Reply, e: &Seq<Text>) -> Result<Vec<u8>, Memory>
+    requires each { length e.now ≡ length r.now.hits }
+
+    ensures ok { IfOk result (λ v. v.items ≡ excerpted_text r.now e.now) }
+{
+    let hits = excerpted_hits(alloc, r.hits.as_slice(), e.as_slice())?;
+    let value = reply_value(alloc, r, hits)?;
+    let bytes = value.to_vec(alloc)?;
+    Ok(bytes)
+}
+
+// The reply with its hits as they are shown.
+fn reply_value(alloc: Global, reply: &Reply, hits: Value) -> Result<Value, AllocError>
+    ensures { IfOk result (λ v. view v ≡ reply_with reply.now (view hits)) }
 {
     let completions = list_value(alloc, reply.completions.as_slice())?;
     let facets = facets_value(alloc, reply.facets.as_slice())?;
-    let hits = list_value(alloc, reply.hits.as_slice())?;
     json!(in alloc; {
         "completions": completions,
         "facets": facets,
@@ -75,4 +90,25 @@ fn facets_value(alloc: Global, facets: &[FacetShown]) -> Result<Value, AllocErro
         serde_json::put(&mut map, alloc, facet.name.as_str(), table)?;
     }
     Ok(Value::Object(map))
+}
+
+fn excerpted_hits(alloc: Global, hits: &[HitShown], excerpts: &[Text]) -> Result<Value, AllocError>
+    ensures { IfOk result (λ v. view v ≡ excerpted_hits hits.now excerpts.now) }
+{
+    let mut list = Vec::with_capacity(alloc, hits.len())?;
+    for (hit, excerpt) in hits.iter().zip(excerpts) {
+        list.push(excerpted_value(alloc, hit, excerpt)?)?;
+    }
+    Ok(Value::Array(list))
+}
+
+fn excerpted_value(alloc: Global, hit: &HitShown, excerpt: &Text) -> Result<Value, AllocError>
+    ensures { IfOk result (λ v. view v ≡ excerpted_data (hit.now, excerpt.now)) }
+{
+    json!(in alloc; {
+        "doc": (hit.doc),
+        "excerpt": (excerpt.as_str()),
+        "score": (hit.score),
+        "title": (hit.title.as_str())
+    })
 }

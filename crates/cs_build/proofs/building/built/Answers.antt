@@ -76,4 +76,4 @@ returns-clause-ok c =
     let b = filled (goal.at.returns-clause-ok c).In_ok-blocks in
     let h : c.in_ok-heads.heads.items ≡ map (run_head c.rows.inside.words) (zip c.in_ok-runs.runs.items (map (λ (b : Cols). b.posts) c.in_ok-blocks.blocks.items)) =
     rw (c.deref-2.ensures.value, c.deref-3.ensures.value) at c.in_ok-heads.ensures in
-    rw (← c.rows.view_is, c.from_vec.ensures, c.from_vec-2.ensures) (image_made c.rows.inside.words (rows r) (posts r) c.args.target c.in_ok-runs.runs.items c.rows.invariant.words (same_posts r) (parted r) c.in_ok-blocks.blocks.items b c.in_ok-heads.heads.items c.args.titles h)
+    rw (← c.rows.view_is, c.from_vec.ensures, c.from_vec-2.ensures) (image_made c.rows.inside.words (rows r) (posts r) c.args.target c.in_ok-runs.runs.items c.rows.invariant.words (same_posts r) (parted r) c.in_ok-blocks.blocks.items b c.in_ok-heads.heads.items c.args.titles c.args.weights h)

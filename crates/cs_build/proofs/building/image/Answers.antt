@@ -7,7 +7,6 @@ use Rattle.cs_base.specs.declared.content.limits.TheConstants.{MAX_LINE_BYTES, M
 use Rattle.cs_base.proofs.OrdersLemmas.{by_row_total, by_row_exact}
 use Rattle.cs_docs.proofs.TextLemmas.{All-members}
 use Rattle.cs_model.specs.Corpus.{distinct_words}
-use Rattle.cs_model.specs.Scores.{SCORES}
 use Rattle.cs_model_index.specs.BlockRules.{is_scored}
 use Rattle.cs_model_index.specs.FileRules.{is_word}
 use Rattle.cs_model_index.specs.Layout.{title_bytes}
@@ -27,9 +26,10 @@ returns-clause-limits c = λ k.
     let all = sym (c.in_ok-columns.ensures.ok ∙ c.in_ok-rows.ensures.ok) in
     let titles = sym c.in_ok-titles.ensures.ok in
     c.image_of_columns.ensures.limits (record {
+      weights = k.weights;
       texts = subst (All IsUtf8) titles k.texts;
       short = subst (All (λ t. length t ≤ MAX_LINE_BYTES)) titles k.short;
       few_bytes = subst (λ ts. length (title_bytes ts) < 2 ^ 32) titles k.few_bytes;
       words = subst (All (λ r. is_word r.word ≡ true)) all (All-members by_row by_row_total by_row_exact (λ r. is_word r.word ≡ true) c.args.rows k.words);
-      scored = subst (All (λ r. is_scored SCORES (is_facet r.word) (post_of [] r) ≡ true)) all (All-members by_row by_row_total by_row_exact (λ r. is_scored SCORES (is_facet r.word) (post_of [] r) ≡ true) c.args.rows k.scored);
+      scored = subst (All (λ r. is_scored c.args.weights (is_facet r.word) (post_of [] r) ≡ true)) all (All-members by_row by_row_total by_row_exact (λ r. is_scored c.args.weights (is_facet r.word) (post_of [] r) ≡ true) c.args.rows k.scored);
     })

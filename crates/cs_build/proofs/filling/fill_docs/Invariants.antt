@@ -7,6 +7,6 @@ use Rattle.cs_build.proofs.filling.fill_docs.Given as goal
 abbrev pub invariant-loop-doc : goal.invariant-loop-doc
 invariant-loop-doc l = record {
   each : AreDocRows (drop l.doc l.docs) l.rest;
-  can : CanTake l.places l.blocks (posts_of_docs l.doc (drop l.doc l.docs) l.rest);
-  goes : (end : List Cols) → AreTaken l.places (posts_of_docs l.doc (drop l.doc l.docs) l.rest) l.blocks end → AreTaken l.places (posts_of_docs 0 l.docs l.numbers) l.initial.blocks end;
+  can : CanTake l.places l.blocks (posts_of_docs l.weights l.doc (drop l.doc l.docs) l.rest);
+  goes : (end : List Cols) → AreTaken l.places (posts_of_docs l.weights l.doc (drop l.doc l.docs) l.rest) l.blocks end → AreTaken l.places (posts_of_docs l.weights 0 l.docs l.numbers) l.initial.blocks end;
 }

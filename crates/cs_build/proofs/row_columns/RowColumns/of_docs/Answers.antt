@@ -46,8 +46,8 @@ returns-in_err-add_doc-clause-too_many c = λ told.
       c.in_err-add_doc.ensures.too_many (err_is c.from_residual-in_err-add_doc.result c.in_err-add_doc.field-0.0 TooManyRows c.from_residual-in_err-add_doc.ensures.1 told),
       few_more docs c.loop-doc.doc-index none c.loop-doc-test.true,
       ap length c.loop-doc.invariant.words,
-      listed_many 0 all,
-      ap length (rows_listed all),
+      listed_many c.args.weights 0 all,
+      ap length (rows_listed c.args.weights all),
     )
 
 pub invariant_of-result : goal.invariant_of-result
@@ -60,19 +60,19 @@ invariant_of-result c =
     let few : length c.loop-doc.gathering.docs.items ≤ MAX_DOCS = omega (arith, ap length counts, length-map all doc_rows_of, ap length c.requires.read.2, few_documents c.requires.read.0 c.requires.read.1) in
     let listed = recursion_from_All CanBeListed all (accepted_docs c.requires.read.0 all c.requires.read.1 c.requires.read.2) in
     let each = subst (λ es. AreDocRows es n.numbers) (sym counts) (counted_docs n.words all n.numbers listed (c.in_ok-words.ensures.numbers.told ∙ words)) in
-    columns_are n.words n.numbers (Counted c.loop-doc.gathering.docs) (gathered c.loop-doc.gathering.words) (few, each) c.in_ok-words.ensures.numbers c.in_ok-words.ensures.words
+    columns_are n.words n.numbers (Counted c.loop-doc.gathering.docs c.args.weights) (gathered c.loop-doc.gathering.words) (few, each) c.in_ok-words.ensures.numbers c.in_ok-words.ensures.words
 
 pub returns-clause-ok : goal.returns-clause-ok
 returns-clause-ok c =
     let all : List Doc = map doc_of_lent c.args.docs.now in
     let n = c.in_ok-words.field-0 in
     let whole : take c.loop-doc.doc-index all ≡ all = take_all c.loop-doc.doc-index all (omega (arith, c.loop-doc-test.false, length-map c.args.docs.now doc_of_lent)) in
-    ap (λ es. rows_at n.words (posts_of_docs 0 es n.numbers)) (c.loop-doc.invariant.docs ∙ ap (map doc_rows_of) whole)
-    ∙ rows_of_numbers n.words 0 all n.numbers (c.in_ok-words.ensures.numbers.told ∙ c.loop-doc.invariant.words ∙ ap (flat_map listed_words) whole)
-    ∙ rows_listed all
+    ap (λ es. rows_at n.words (posts_of_docs c.args.weights 0 es n.numbers)) (c.loop-doc.invariant.docs ∙ ap (map doc_rows_of) whole)
+    ∙ rows_of_numbers n.words c.args.weights 0 all n.numbers (c.in_ok-words.ensures.numbers.told ∙ c.loop-doc.invariant.words ∙ ap (flat_map listed_words) whole)
+    ∙ rows_listed c.args.weights all
 
 pub returns-clause-few : goal.returns-clause-few
 returns-clause-few c =
     let all : List Doc = map doc_of_lent c.args.docs.now in
     let whole : take c.loop-doc.doc-index all ≡ all = take_all c.loop-doc.doc-index all (omega (arith, c.loop-doc-test.false, length-map c.args.docs.now doc_of_lent)) in
-    omega (arith, ap length (sym (rows_listed all)), listed_many 0 all, ap length (c.loop-doc.invariant.words ∙ ap (flat_map listed_words) whole), c.loop-doc.invariant.is.few)
+    omega (arith, ap length (sym (rows_listed c.args.weights all)), listed_many c.args.weights 0 all, ap length (c.loop-doc.invariant.words ∙ ap (flat_map listed_words) whole), c.loop-doc.invariant.is.few)

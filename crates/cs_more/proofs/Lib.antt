@@ -1,0 +1,9 @@
+pub mod FieldPlaces
+pub mod FlatColumns
+pub mod JsonFields
+pub mod NearMarks
+pub mod RecordsRead
+pub mod RunWords
+pub mod RunsReached
+pub mod ShownRuns
+pub mod TableFlats

@@ -1,0 +1,3 @@
+pub mod LineGiven
+pub mod RecordsLeft
+pub mod RunSearch
