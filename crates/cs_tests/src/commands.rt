@@ -3,14 +3,18 @@ use crate::hubs::{Came, hub_of};
 use crate::runs::{ASK, REPLAY, SERVE, built, held, run_beside, run_over, same};
 use cs_base::Memory;
 use cs_worked::{
-    BAD_FACET, BAD_NAME, PREFIX, SCRIPTS, SECOND_BAR, THREE_DOCUMENTS, TYPED, USAGE, Worked,
-    WorkedScript,
+    BAD_FACET, BAD_NAME, BAD_WEIGHTS, PREFIX, SCRIPTS, SECOND_BAR, THREE_DOCUMENTS, TYPED, USAGE,
+    Worked, WorkedScript,
 };
 use std::alloc::Global;
 use std::process::Abort;
 use std::test::Fail;
 
 const TRIAL: &[&str] = &["trial", "1"];
+
+const IMPORT_CSV: &[&str] = &["import", "csv", "C", "I"];
+
+const IMPORT_JSONL: &[&str] = &["import", "jsonl", "C", "I"];
 
 // What a plain search over sets of rows, in another language, counts of the first trial.
 const SUMMARY: &str =
@@ -211,18 +215,61 @@ const RUNS: &[Run] = &[
     ),
     (
         ASK,
+        Some(BAD_WEIGHTS),
+        Some(b"q=typ\n"),
+        3,
+        "",
+        "collection: line 1: bad weights\n",
+    ),
+    (
+        ASK,
         Some(b"a\n\xFF\nx\ty"),
         Some(b"q=typ\n"),
         3,
         "",
         "collection: line 2: not UTF-8\n",
     ),
+    (
+        IMPORT_CSV,
+        Some(b"name,text\n"),
+        None,
+        3,
+        "",
+        "collection: line 1: bad header\n",
+    ),
+    (
+        IMPORT_JSONL,
+        Some(b"{\"title\":5}"),
+        None,
+        3,
+        "",
+        "collection: line 1: bad field\n",
+    ),
+    (
+        IMPORT_JSONL,
+        Some(b"{\"facets\":\"k=C\"}\n{"),
+        None,
+        3,
+        "",
+        "collection: line 2: not JSON\n",
+    ),
+    // a document in front of a bad line, by the number of its own line
+    (
+        IMPORT_JSONL,
+        Some(b"{\"facets\":\"k\"}\n{"),
+        None,
+        3,
+        "",
+        "collection: line 1: bad facet\n",
+    ),
+    (IMPORT_CSV, None, None, 5, "", "absent: C\n"),
     (ASK, None, Some(b"q=a\n"), 5, "", "absent: C\n"),
     (ASK, None, None, 5, "", "absent: C\n"),
     (ASK, Some(b"\xFF"), None, 5, "", "absent: Q\n"),
     (SERVE, None, None, 5, "", "absent: I\n"),
     (&["ask", "C"], None, None, 2, "", USAGE),
     (&["trial", "1001"], None, None, 2, "", USAGE),
+    (&["import", "tsv", "C", "I"], None, None, 2, "", USAGE),
     (TRIAL, None, None, 0, SUMMARY, ""),
 ];
 
@@ -238,6 +285,35 @@ fn what_is_refused_or_missing_is_named(rt: HostRuntime) -> Result<(), Fail> {
             &(*status, out.as_bytes(), err.as_bytes()),
             *words,
         );
+    }
+    Ok(())
+}
+
+// A command line, the bytes of its source, and a collection with the same index file.
+type Source = (&'static [&'static str], &'static [u8], &'static str);
+
+const SOURCES: &[Source] = &[
+    (
+        IMPORT_CSV,
+        b"title,text,year\n\"Type, less\",\"a \"\"b\"\"\",2006\n",
+        "Type, less\t\ta \"b\"",
+    ),
+    (
+        IMPORT_JSONL,
+        b"{\"title\":\"Ab\",\"facets\":[\"k=C\"],\"text\":\"b a\"}",
+        "Ab\tk=C\tb a",
+    ),
+];
+
+#[test]
+fn sources_have_the_index_files_of_their_collections(rt: HostRuntime) -> Result<(), Fail> {
+    let alloc = rt.alloc();
+    for (words, source, collection) in SOURCES {
+        let mut files = held(alloc, Some(*source), None)?;
+        let left = run_over(alloc, words, &mut files)?;
+        assert!(rt; left.is(0, b"", ""));
+        let wanted = built(alloc, collection, b"")?;
+        same(&rt, &files.bytes("I"), &wanted.bytes("I"), *collection);
     }
     Ok(())
 }

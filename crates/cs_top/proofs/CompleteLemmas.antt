@@ -11,16 +11,31 @@ use Rattle.cs_model_index.specs.Images.{Image}
 use Rattle.cs_top.specs.ScriptRuns.{AskStops, AskTold, CanAsk, CanReplay, ReplayCaused, ReplayScript, ReplayStops, ReplayTold}
 use Rattle.cs_top.specs.Build.{BuildStops, BuildTold, BuildWrites, CanBuild}
 use Rattle.cs_top.specs.CommandLine.{Command, build, ask, replay, serve, trial, Ending, done, usage, refused, damaged, absent, failed, no_memory, script_refused, changed, status, Caused, CausedBy}
+use Rattle.cs_top.specs.Import.{IsAccepted, IsRefused, Refusal, of_collection, of_csv, of_jsonl}
 use Rattle.cs_top.specs.Met.{Listened, Met, Wrote, held_bytes}
 use Rattle.cs_top.specs.CommandRuns.{Completes, Ran}
 use Rattle.cs_top.specs.ScriptEndings.{ScriptEnds, IsReadable}
 use Rattle.cs_top.specs.Serve.{CanServe, ServeCaused, ServeEnds, ServeStops, ServeTold}
 use Rattle.cs_top.specs.Trial.{TrialEnds}
+use Rattle.cs_top.specs.declared.words.Form.{Form}
+use Rattle.cs_top.specs.declared.words.Form.TheVariants as forms
 use Rattle.cs_top.proofs.ServeEndings.{served_all}
 
 missing : (f : Option File) → IsHeld f → f ≡ None → ⊥
 missing None held none = held
 missing (Some f) held none = absurd cc
+
+-- a source that is accepted isn't refused
+never : (form : Form) (b : List ℕ) (r : Refusal) → IsRefused form b r → IsAccepted form b → ⊥
+never forms.Collection b (of_collection r) is can = let e : Some r ≡ None = sym is ∙ can in absurd cc
+never forms.Csv b (of_csv r) is can = let e : Some r ≡ None = sym is ∙ can in absurd cc
+never forms.JsonLines b (of_jsonl r) is can = let e : Some r ≡ None = sym is ∙ can in absurd cc
+never forms.Collection b (of_csv r) is can = is
+never forms.Collection b (of_jsonl r) is can = is
+never forms.Csv b (of_collection r) is can = is
+never forms.Csv b (of_jsonl r) is can = is
+never forms.JsonLines b (of_collection r) is can = is
+never forms.JsonLines b (of_csv r) is can = is
 
 abbrev IsWell : Ending → Type 0
 IsWell e = (status e ≡ 0) ⊎ (status e ≡ 7)
@@ -32,7 +47,7 @@ module _ (e : Ending) (fb fn ob on : ℕ) (cause : Caused e fb fn ob on) (files 
 stopped : (e : Ending) (h : Held) (c s : List ℕ) → CanAsk h c s → AskStops e h c s → (e ≡ failed → ⊥) → IsWell e
 stopped (absent n) h c s can (inl a) calm = absurd (missing (map.get h c) can.0.0.0 a.1)
 stopped (absent n) h c s can (inr a) calm = absurd (missing (map.get h s) can.0.0.1 a.2)
-stopped (refused r) h c s can (held, is) calm = let e : Some r ≡ None = sym is ∙ can.0.1 in absurd cc
+stopped (refused r) h c s can (held, is) calm = absurd (never forms.Collection (held_bytes h c) r is can.0.1)
 stopped no_memory h c s can a calm = inr refl
 stopped failed h c s can a calm = absurd (calm refl)
 stopped done h c s can a calm = absurd a
@@ -56,16 +71,16 @@ told : (e : Ending) (h : Held) (c s : List ℕ) (w : Wrote) → AskTold e h c s 
 told e h c s w (inl a) can calm = stopped e h c s can a.0 calm
 told e h c s w (inr a) can calm = scripted _ e (script_lines (held_bytes h s)) a.1.0 w can.1 a.1.1 calm
 
-unmade : (e : Ending) (h : Held) (c : List ℕ) → CanBuild h c → BuildStops e h c → (e ≡ failed → ⊥) → IsWell e
-unmade (absent n) h c can a calm = absurd (missing (map.get h c) can.0 a.1)
-unmade (refused r) h c can (held, is) calm = let e : Some r ≡ None = sym is ∙ can.1 in absurd cc
-unmade no_memory h c can a calm = inr refl
-unmade failed h c can a calm = absurd (calm refl)
-unmade done h c can a calm = absurd a
-unmade usage h c can a calm = absurd a
-unmade (script_refused f) h c can a calm = absurd a
-unmade (damaged rule at) h c can a calm = absurd a
-unmade changed h c can a calm = absurd a
+unmade : (form : Form) (e : Ending) (h : Held) (c : List ℕ) → CanBuild form h c → BuildStops form e h c → (e ≡ failed → ⊥) → IsWell e
+unmade form (absent n) h c can a calm = absurd (missing (map.get h c) can.0 a.1)
+unmade form (refused r) h c can (held, is) calm = absurd (never form (held_bytes h c) r is can.1)
+unmade form no_memory h c can a calm = inr refl
+unmade form failed h c can a calm = absurd (calm refl)
+unmade form done h c can a calm = absurd a
+unmade form usage h c can a calm = absurd a
+unmade form (script_refused f) h c can a calm = absurd a
+unmade form (damaged rule at) h c can a calm = absurd a
+unmade form changed h c can a calm = absurd a
 
 written : (e : Ending) (h : Held) (i : List ℕ) (x : Image) (now : Option Held) → BuildWrites e h i x now → (e ≡ failed → ⊥) → IsWell e
 written done h i x now a calm = inl refl
@@ -78,9 +93,9 @@ written (script_refused f) h i x now a calm = absurd a
 written (damaged rule at) h i x now a calm = absurd a
 written changed h i x now a calm = absurd a
 
-built : (e : Ending) (h : Held) (c i : List ℕ) (now : Option Held) → BuildTold e h c i now → CanBuild h c → (e ≡ failed → ⊥) → IsWell e
-built e h c i now (inl a) can calm = unmade e h c can a.0 calm
-built e h c i now (inr a) can calm = written e h i a.0 now a.2 calm
+built : (form : Form) (e : Ending) (h : Held) (c i : List ℕ) (now : Option Held) → BuildTold form e h c i now → CanBuild form h c → (e ≡ failed → ⊥) → IsWell e
+built form e h c i now (inl a) can calm = unmade form e h c can a.0 calm
+built form e h c i now (inr a) can calm = written e h i a.0 now a.2 calm
 
 no_failed_file : (e : Ending) (before now : ℕ) → CausedBy e before now → (Rose before now → ⊥) → e ≡ failed → ⊥
 no_failed_file e before now cause files is = files (subst (λ x. CausedBy x before now) is cause).0
@@ -165,8 +180,8 @@ tried changed n w a calm = absurd a
 
 pub completes : {H : Type 0} (e : Ending) (command : Option Command) (m : Met H) → Ran e command m → Completes command m (status e)
 completes e None m r = λ h held able. absurd able
-completes e (Some (build c i)) m r = λ h held able files out hub.
-    built e h c i m.held_now (r.told h held) able (no_failed_file e m.files_before m.files_now r.caused files)
+completes e (Some (build form c i)) m r = λ h held able files out hub.
+    built form e h c i m.held_now (r.told h held) able (no_failed_file e m.files_before m.files_now r.caused files)
 completes e (Some (ask c s)) m r = λ h held able files out hub.
     told e h c s m.out (r.told h held) able (no_failure e m.files_before m.files_now m.out.before m.out.now r.caused files out)
 completes e (Some (replay i s)) m r = λ h held able files out hub.

@@ -8,11 +8,13 @@ pub mod MemoryText
 pub mod OverLemmas
 pub mod PutTextLemmas
 pub mod SaysLemmas
+pub mod SourceLemmas
 pub mod ScriptLemmas
 pub mod ServeEndings
 pub mod StopLemmas
 pub mod TallyLemmas
 pub mod TextsApart
 pub mod LinesAtPlaces
+pub mod TrialCollections
 pub mod TrialLemmas
 pub mod WindowLemmas

@@ -22,7 +22,7 @@ use Rattle.cs_hub.specs.Speaking.{AreUnbroken}
 use Rattle.cs_hub.specs.Streams.{RoseBy, bytes_that_came, sum_below}
 use Rattle.cs_hub.proofs.ServedLemmas.{changes_cons, reads_cons}
 use Rattle.cs_model.specs.Corpus.{Corpus}
-use Rattle.cs_model.specs.Parameters.{number_of}
+use Rattle.cs_model.specs.Digits.{number_of}
 use Rattle.cs_model_index.specs.Sections.{file_corpus}
 use Rattle.cs_model_serving.specs.Connections.{IsFair, Left, MayReplace, StandsBy, answers, changes, says_changed, says_read, reads}
 use Rattle.cs_model_serving.specs.Responses.{Response, all_bytes, index_changed, memory_bytes, read_failed}

@@ -1,23 +1,45 @@
 -- What holds at each ending by which a run may stop holds at the ending of its stop.
 --
---   absence_by, collection_by, index_by     a stop of a file that should be held, of a collection, of an index file
+--   absence_by, source_by, index_by         a stop of a file that should be held, of a source, of an index file
+--   caused_by                               a stop of a source that is known
 --   short_by                                a stop of a script
 --   ask_absent, ask_refused, replay_absent, replay_damaged     so an `ask` and a `replay` end before their script
-use Rattle.std.proofs.Common.{◌≡◌, ◌⊎◌, ℕ, List, sym, subst}
-use Rattle.std.specs.Prelude.{Option, Some, None, Result, Err, IfErr}
-use Rattle.cs_model.specs.Collection.{CollectionRefusal}
+use Rattle.std.proofs.Common.{◌≡◌, ◌⊎◌, ℕ, List, refl, sym, subst}
+use Rattle.std.specs.Prelude.{Option, Some, None, MatchOption, Result, Err, IfErr}
+use Rattle.std.specs.Option.{ForSome, option_map}
+use Rattle.std.proofs.lemmas.Option.{same_Some}
+use Rattle.cs_model.specs.Corpus.{refusal}
+use Rattle.cs_model_sources.specs.CsvSources.{flat_of_csv}
+use Rattle.cs_model_sources.specs.JsonSources.{flat_of_jsonl}
+use Rattle.cs_model_sources.specs.SourceRefusals.{source_refusal}
 use Rattle.cs_model.specs.Outputs.{ScriptFault}
 use Rattle.cs_top.specs.CommandLine.{Ending, absent, damaged, failed, no_memory, refused, script_refused}
+use Rattle.cs_top.specs.Import.{IsRefused, Refusal, form_of, of_collection, of_csv, of_jsonl}
 use Rattle.cs_top.specs.Met.{Wrote}
 use Rattle.cs_top.specs.PutTexts.{EndsBy}
 use Rattle.cs_top.specs.ScriptRuns.{AskEnds, ReplayEnds}
-use Rattle.cs_top.specs.Views.{IsAbsence, IsOfCollection, IsOfIndex, collection_ending, collection_refusal_of, fault_seen, of_script, stop_ending}
+use Rattle.cs_top.specs.Views.{IsAbsence, IsOfIndex, IsOfSource, IsSourceCause, IsStopCause, collection_ending, collection_refusal_of, fault_form, fault_seen, import_refusal_of, of_script, source_refusal_of, stop_ending}
 use Rattle.cs_top.specs.declared.ending.RunStop.{RunStop}
 use Rattle.cs_top.specs.declared.ending.RunStop.TheVariants as stops
 use Rattle.cs_top.specs.declared.lines.ScriptStop.{ScriptStop}
 use Rattle.cs_top.specs.declared.lines.ScriptStop.TheVariants as scripts
 use Rattle.cs_top.specs.declared.script.Came.{Came}
+use Rattle.cs_top.specs.declared.sources.SourceFault.{SourceFault}
+use Rattle.cs_top.specs.declared.sources.SourceFault.TheVariants as sources
+use Rattle.cs_top.specs.declared.words.Form.{Form}
+use Rattle.cs_top.specs.declared.words.Form.TheVariants as forms
 use Rattle.cs_top.proofs.PutTextLemmas.{nothing_put}
+
+-- a refusal that is made of another one has its form
+formed : {A : Type 0} (form : Form) (made : A → Refusal) → ((a : A) → form_of (made a) ≡ form) → (o : Option A) → ForSome (option_map made o) (λ r. form_of r ≡ form)
+formed form made all None r is = absurd (cc is)
+formed form made all (Some a) r is = subst (λ z. form_of z ≡ form) (same_Some _ _ is) (all a)
+
+-- what a fault names is a refusal of its form
+of_form : (f : SourceFault) → ForSome (source_refusal_of f) (λ r. form_of r ≡ fault_form f)
+of_form (sources.Collection f) = formed forms.Collection of_collection (λ r. refl) (collection_refusal_of f)
+of_form (sources.Csv f) = formed forms.Csv of_csv (λ r. refl) (import_refusal_of f)
+of_form (sources.JsonLines f) = formed forms.JsonLines of_jsonl (λ r. refl) (import_refusal_of f)
 
 module _ (P : Ending → Type 0) where
   pub absence_by : (s : RunStop) (name : List ℕ) → IsAbsence s name → P (absent name) → P failed → P (stop_ending s)
@@ -30,19 +52,44 @@ module _ (P : Ending → Type 0) where
   absence_by (stops.Damaged rule at) name is gone fault = absurd is
   absence_by stops.Changed name is gone fault = absurd is
 
-  refused_by : (o : Option CollectionRefusal) → ((r : CollectionRefusal) → P (refused r)) → P no_memory → P (collection_ending o)
-  refused_by None why memory = memory
-  refused_by (Some r) why memory = why r
+  refused_by : (form : Form) (o : Option Refusal) → ForSome o (λ r. form_of r ≡ form) → ((r : Refusal) → form_of r ≡ form → P (refused r)) → P no_memory → P (collection_ending o)
+  refused_by form None has why memory = memory
+  refused_by form (Some r) has why memory = why r (has r refl)
 
-  pub collection_by : (s : RunStop) → IsOfCollection s → ((r : CollectionRefusal) → P (refused r)) → P failed → P no_memory → P (stop_ending s)
-  collection_by (stops.Collection f) is why fault memory = refused_by (collection_refusal_of f) why memory
-  collection_by stops.Failed is why fault memory = fault
-  collection_by stops.Memory is why fault memory = memory
-  collection_by stops.Usage is why fault memory = absurd is
-  collection_by (stops.Absent said) is why fault memory = absurd is
-  collection_by (stops.Script f) is why fault memory = absurd is
-  collection_by (stops.Damaged rule at) is why fault memory = absurd is
-  collection_by stops.Changed is why fault memory = absurd is
+  pub source_by : (form : Form) (s : RunStop) → IsOfSource form s → ((r : Refusal) → form_of r ≡ form → P (refused r)) → P failed → P no_memory → P (stop_ending s)
+  source_by form (stops.Collection f) is why fault memory = refused_by form (source_refusal_of f) (subst (λ x. ForSome (source_refusal_of f) (λ r. form_of r ≡ x)) is (of_form f)) why memory
+  source_by form stops.Failed is why fault memory = fault
+  source_by form stops.Memory is why fault memory = memory
+  source_by form stops.Usage is why fault memory = absurd is
+  source_by form (stops.Absent said) is why fault memory = absurd is
+  source_by form (stops.Script f) is why fault memory = absurd is
+  source_by form (stops.Damaged rule at) is why fault memory = absurd is
+  source_by form stops.Changed is why fault memory = absurd is
+
+  option_by : {A : Type 0} (made : A → Refusal) (Q : A → Type 0) (o : Option A) → MatchOption o (Unit {0}) Q → ((a : A) → Q a → P (refused (made a))) → P no_memory → P (collection_ending (option_map made o))
+  option_by made Q None h why memory = memory
+  option_by made Q (Some a) h why memory = why a h
+
+  refusal_by : (form : Form) (b : List ℕ) (f : SourceFault) → IsSourceCause form b f → ((r : Refusal) → IsRefused form b r → P (refused r)) → P no_memory → P (collection_ending (source_refusal_of f))
+  refusal_by forms.Collection b (sources.Collection f) h why memory = option_by of_collection (λ r. refusal b ≡ Some r) (collection_refusal_of f) h (λ r is. why (of_collection r) is) memory
+  refusal_by forms.Csv b (sources.Csv f) h why memory = option_by of_csv (λ r. source_refusal flat_of_csv b ≡ Some r) (import_refusal_of f) h (λ r is. why (of_csv r) is) memory
+  refusal_by forms.JsonLines b (sources.JsonLines f) h why memory = option_by of_jsonl (λ r. source_refusal flat_of_jsonl b ≡ Some r) (import_refusal_of f) h (λ r is. why (of_jsonl r) is) memory
+  refusal_by forms.Collection b (sources.Csv f) h why memory = absurd h
+  refusal_by forms.Collection b (sources.JsonLines f) h why memory = absurd h
+  refusal_by forms.Csv b (sources.Collection f) h why memory = absurd h
+  refusal_by forms.Csv b (sources.JsonLines f) h why memory = absurd h
+  refusal_by forms.JsonLines b (sources.Collection f) h why memory = absurd h
+  refusal_by forms.JsonLines b (sources.Csv f) h why memory = absurd h
+
+  pub caused_by : (form : Form) (b : List ℕ) (s : RunStop) → IsOfSource form s → IsStopCause form b s → ((r : Refusal) → IsRefused form b r → P (refused r)) → P failed → P no_memory → P (stop_ending s)
+  caused_by form b (stops.Collection f) is h why fault memory = refusal_by form b f h why memory
+  caused_by form b stops.Failed is h why fault memory = fault
+  caused_by form b stops.Memory is h why fault memory = memory
+  caused_by form b stops.Usage is h why fault memory = absurd is
+  caused_by form b (stops.Absent said) is h why fault memory = absurd is
+  caused_by form b (stops.Script f) is h why fault memory = absurd is
+  caused_by form b (stops.Damaged rule at) is h why fault memory = absurd is
+  caused_by form b stops.Changed is h why fault memory = absurd is
 
   pub index_by : (s : RunStop) → IsOfIndex s → ((rule at : ℕ) → P (damaged rule at)) → P failed → P no_memory → P (stop_ending s)
   index_by (stops.Damaged rule at) is why fault memory = why rule at
@@ -69,8 +116,8 @@ module _ (a s : List ℕ) (w : Wrote) (x : RunStop) (same : w.new ≡ w.old) whe
   pub ask_absent : (name : List ℕ) → IsAbsence x name → (name ≡ a) ⊎ (name ≡ s) → AskEnds (stop_ending x) a s w
   ask_absent name is one = absence_by (λ e. AskEnds e a s w) x name is (one, same) (nothing_put w same)
 
-  pub ask_refused : IsOfCollection x → AskEnds (stop_ending x) a s w
-  ask_refused is = collection_by (λ e. AskEnds e a s w) x is (λ r. same) (nothing_put w same) same
+  pub ask_refused : IsOfSource forms.Collection x → AskEnds (stop_ending x) a s w
+  ask_refused is = source_by (λ e. AskEnds e a s w) forms.Collection x is (λ r has. (has, same)) (nothing_put w same) same
 
   pub replay_absent : (name : List ℕ) → IsAbsence x name → (name ≡ a) ⊎ (name ≡ s) → ReplayEnds (stop_ending x) a s w
   replay_absent name is one = absence_by (λ e. ReplayEnds e a s w) x name is (one, same) (nothing_put w same)

@@ -20,6 +20,7 @@ use Rattle.std.proofs.lemmas.List.Sums.{sum_by-append, sum_by-cons}
 use Rattle.cs_base.specs.declared.content.query.Query.{Query}
 use Rattle.cs_base.specs.declared.index.plan.Plan.{Plan}
 use Rattle.cs_base.specs.declared.index.plan.Plan.TheVariants.{Same, Narrow, Extend, Fresh}
+use Rattle.cs_base.specs.declared.content.scores.TheConstants.{USUAL_WEIGHTS}
 use Rattle.cs_engine.specs.Keeping.{AreGood, EngineView, IsAfter, KeepsAnswers}
 use Rattle.cs_engine.specs.declared.note.Note.{Note}
 use Rattle.cs_file.specs.Indexes.{StandsFor}
@@ -175,6 +176,6 @@ told_is n k c documents rows blocks sizes has a =
     let b : c.blocks ≡ blocks = ap (λ x. x.2) sizes in
     rw (d, r, b, a.replies, a.hits, a.same, a.narrow, a.extend, a.fresh) refl
 
-pub summed : (n : ℕ) (i : Image) (c : Counts) (t : List ℕ) → IsImage (trial_corpus n) TARGET i → told c ≡ counts n (trial_corpus n) (length i.heads) → t ≡ flat_map summary_line (told c) → IsSummary n t
+pub summed : (n : ℕ) (i : Image) (c : Counts) (t : List ℕ) → IsImage (trial_corpus n) TARGET USUAL_WEIGHTS i → told c ≡ counts n (trial_corpus n) (length i.heads) → t ≡ flat_map summary_line (told c) → IsSummary n t
 unfolding summary
 summed n i c t is same text = record { image = i; indexed = is; told = text ∙ ap (flat_map summary_line) same }

@@ -3,9 +3,9 @@
 --   Command                                  what the words ask for
 --   is_number n g w                          w is 1 to n digits whose number is from 1 to g
 --   some_if b c                              the command c where b holds, else None
---   two_words, trial_words, serve_words      the command of a word of the table and of the words behind it
+--   two_words, trial_words, import_words, serve_words, three_words      the command of a word of the table and of the words behind it
 --   command_of words                         the command; None where the words aren't in the table
---   Ending                                   done, words not in the table, a refused collection, a damaged index file, a file that isn't
+--   Ending                                   done, words not in the table, a refused source, a damaged index file, a file that isn't
 --                                            held, a failed device, no memory, a refused line of the script, an index file that changed
 --   status e                                 the exit status
 --   line_of e                                the line on standard error; nothing where all was done
@@ -13,21 +13,24 @@
 --   CausedBy e before now                    a run ends by a failure only where this count rose; else the count stays as it was
 --   Caused e ..                              the same for the counts of files and of out: one of the two rose
 --
--- The table: build COLLECTION INDEX, ask COLLECTION SCRIPT, replay INDEX SCRIPT, serve INDEX PORT CONNS, trial N.
+-- The table: build COLLECTION INDEX, ask COLLECTION SCRIPT, replay INDEX SCRIPT, serve INDEX PORT CONNS, trial N, import csv SOURCE INDEX,
+-- import jsonl SOURCE INDEX.
 use Rattle.std.specs.Prelude.{ℕ, Bool, ◌&&◌, nat_le, nat_lt, if◌then◌else◌, List, [], ◌∷◌, Option, Some, None, codes, ◌≡◌, ◌⊎◌, ◌≤◌, ◌++◌}
 use Rattle.std.specs.Str.{bytes_eq}
-use Rattle.cs_model.specs.Parameters.{number_of, has_digits}
+use Rattle.cs_model.specs.Digits.{has_digits, number_of}
 use Rattle.std.specs.Fmt.{decimal}
 use Rattle.cs_base.specs.outside.Causes.{Rose}
 use Rattle.cs_base.specs.outside.Outside.{Grew, GrewByPrefix}
 use Rattle.cs_base.specs.declared.content.limits.TheConstants.{MAX_PORT_DIGITS, MAX_PORT, MAX_CONNECTIONS_DIGITS, MAX_CONNECTIONS, MAX_TRIAL_DIGITS, MAX_TRIAL}
-use Rattle.cs_model.specs.Collection.{CollectionRefusal, refusal_words}
 use Rattle.cs_model.specs.Outputs.{ScriptFault, fault_words}
+use Rattle.cs_top.specs.Import.{Refusal, refused_words}
 use Rattle.cs_top.specs.Met.{Wrote}
+use Rattle.cs_top.specs.declared.words.Form.{Form}
+use Rattle.cs_top.specs.declared.words.Form.TheVariants as forms
 
--- what the words ask for, with the words behind the command's name
+-- what the words ask for, with the words behind the command's name; `import` builds from a source of another form than a collection
 pub data Command : Type 0 where
-  build : List ℕ → List ℕ → Command
+  build : Form → List ℕ → List ℕ → Command
   ask : List ℕ → List ℕ → Command
   replay : List ℕ → List ℕ → Command
   serve : List ℕ → List ℕ → List ℕ → Command
@@ -44,7 +47,7 @@ some_if b c = if b then Some c else None
 -- a command of two words
 abbrev pub two_words : List ℕ → List ℕ → List ℕ → Option Command
 two_words c a b =
-    if bytes_eq c (codes "build") then Some (build a b)
+    if bytes_eq c (codes "build") then Some (build forms.Collection a b)
     else (if bytes_eq c (codes "ask") then Some (ask a b)
     else some_if (bytes_eq c (codes "replay")) (replay a b))
 
@@ -56,18 +59,28 @@ trial_words c n = some_if (bytes_eq c (codes "trial") && is_number MAX_TRIAL_DIG
 abbrev pub serve_words : List ℕ → List ℕ → List ℕ → List ℕ → Option Command
 serve_words c i p n = some_if (bytes_eq c (codes "serve") && (is_number MAX_PORT_DIGITS MAX_PORT p && is_number MAX_CONNECTIONS_DIGITS MAX_CONNECTIONS n)) (serve i p n)
 
+-- `import` with the name of a form, which no collection has
+abbrev pub import_words : List ℕ → List ℕ → List ℕ → Option Command
+import_words form s i =
+    if bytes_eq form (codes "csv") then Some (build forms.Csv s i)
+    else some_if (bytes_eq form (codes "jsonl")) (build forms.JsonLines s i)
+
+-- a command of three words
+abbrev pub three_words : List ℕ → List ℕ → List ℕ → List ℕ → Option Command
+three_words c a b d = if bytes_eq c (codes "import") then import_words a b d else serve_words c a b d
+
 -- the command of the words behind the program's name; None of no words
 abbrev pub command_of : List (List ℕ) → Option Command
 command_of (c ∷ n ∷ []) = trial_words c n
 command_of (c ∷ a ∷ b ∷ []) = two_words c a b
-command_of (c ∷ i ∷ p ∷ n ∷ []) = serve_words c i p n
+command_of (c ∷ a ∷ b ∷ d ∷ []) = three_words c a b d
 command_of _ = None
 
 -- how a run may end; one is done that did all that the words ask for
 pub data Ending : Type 0 where
   done : Ending
   usage : Ending
-  refused : CollectionRefusal → Ending
+  refused : Refusal → Ending
   damaged : ℕ → ℕ → Ending
   absent : List ℕ → Ending
   failed : Ending
@@ -90,8 +103,8 @@ status changed = 9
 -- the line on standard error, with its ending; no bytes where all was done
 abbrev pub line_of : Ending → List ℕ
 line_of done = []
-line_of usage = codes "usage: complete build COLLECTION INDEX | ask COLLECTION SCRIPT | replay INDEX SCRIPT | serve INDEX PORT CONNS | trial N\n"
-line_of (refused r) = codes "collection: " ++ (refusal_words r ++ 10 ∷ [])
+line_of usage = codes "usage: complete build COLLECTION INDEX | ask COLLECTION SCRIPT | replay INDEX SCRIPT | serve INDEX PORT CONNS | trial N | import csv SOURCE INDEX | import jsonl SOURCE INDEX\n"
+line_of (refused r) = codes "collection: " ++ (refused_words r ++ 10 ∷ [])
 line_of (damaged rule at) = codes "index: rule " ++ (decimal rule ++ (codes " at " ++ (decimal at ++ 10 ∷ [])))
 line_of (absent name) = codes "absent: " ++ name ++ 10 ∷ []
 line_of failed = codes "device failed\n"

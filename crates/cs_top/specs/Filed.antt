@@ -3,8 +3,9 @@
 -- Source: this engine's own.
 --
 --   HasFile i        it can be written, and its bytes are an index file, of which it is read
---   IsFiled k i      it is an image of the corpus, for the target of index files, and of its bytes that corpus is read
+--   IsFiled k w i    it is an image of the corpus, for the target of index files and the weights w, and of its bytes that corpus is read
 use Rattle.std.specs.Prelude.{◌≡◌}
+use Rattle.cs_base.specs.declared.content.scores.Weights.{Weights}
 use Rattle.cs_file.specs.Writable.{CanBeWritten}
 use Rattle.cs_model.specs.Corpus.{Corpus}
 use Rattle.cs_model_index.specs.FileRules.{IsIndexFile}
@@ -20,6 +21,6 @@ pub record HasFile (i : Image) : Type 0 where
   pub read : image_of (file i) ≡ i
 
 -- what is searched is what was imaged; of an empty corpus it is empty
-pub record IsFiled (k : Corpus) (i : Image) : Type 0 where
-  pub image : IsImage k TARGET i
+pub record IsFiled (k : Corpus) (w : Weights) (i : Image) : Type 0 where
+  pub image : IsImage k TARGET w i
   pub corpus : file_corpus (file i) ≡ k

@@ -3,6 +3,7 @@ pub mod Build
 pub mod CommandLine
 pub mod CommandRuns
 pub mod Filed
+pub mod Import
 pub mod Met
 pub mod PutTexts
 pub mod ScriptEndings

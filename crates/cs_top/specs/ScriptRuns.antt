@@ -24,6 +24,7 @@ use Rattle.cs_base.specs.outside.Outside.{Held, IsHeld}
 use Rattle.cs_model.specs.Corpus.{corpus, refusal, Corpus}
 use Rattle.cs_model.specs.Outputs.{IsAnswer, script_lines, PutAll, failed_reads, readable_lines}
 use Rattle.cs_top.specs.CommandLine.{Ending, usage, refused, absent, damaged, changed, failed, no_memory, Caused, done, script_refused}
+use Rattle.cs_top.specs.Import.{IsRefused, form_of}
 use Rattle.cs_top.specs.Met.{Met, Wrote, held_bytes}
 use Rattle.cs_top.specs.PutTexts.{EndsBy}
 use Rattle.cs_top.specs.ScriptEndings.{ScriptEnds, IsReadable}
@@ -33,6 +34,7 @@ use Rattle.cs_model_index.specs.BlockRules.{broken_at}
 use Rattle.cs_model_index.specs.FileRules.{damage, IsIndexFile}
 use Rattle.cs_model_index.specs.Sections.{file_corpus}
 use Rattle.cs_top.specs.Answering.{IsReplayed}
+use Rattle.cs_top.specs.declared.words.Form.TheVariants as forms
 
 -- both files are held
 abbrev pub AreHeld : Held → List ℕ → List ℕ → Type 0
@@ -49,7 +51,7 @@ IsReady h c s = AreHeld h c s × (refusal (held_bytes h c) ≡ None)
 -- tell a size, as that of a stream, which is read whole for it; where they find none, that call fails.
 abbrev pub AskStops : Ending → Held → List ℕ → List ℕ → Type 0
 AskStops (absent name) h c s = ((name ≡ c) × (map.get h c ≡ None)) ⊎ ((name ≡ s) × IsHeld (map.get h c) × (map.get h s ≡ None))
-AskStops (refused r) h c s = AreHeld h c s × (refusal (held_bytes h c) ≡ Some r)
+AskStops (refused r) h c s = AreHeld h c s × IsRefused forms.Collection (held_bytes h c) r
 AskStops no_memory h c s = AreHeld h c s
 AskStops failed h c s = Unit {0}
 AskStops e h c s = ⊥
@@ -70,7 +72,7 @@ AskEnds usage c s w = ⊥
 AskEnds (damaged rule at) c s w = ⊥
 AskEnds changed c s w = ⊥
 AskEnds (absent name) c s w = ((name ≡ c) ⊎ (name ≡ s)) × (w.new ≡ w.old)
-AskEnds (refused r) c s w = w.new ≡ w.old
+AskEnds (refused r) c s w = (form_of r ≡ forms.Collection) × (w.new ≡ w.old)
 AskEnds no_memory c s w = w.new ≡ w.old
 AskEnds e c s w = EndsBy e w
 

@@ -31,7 +31,7 @@ use Rattle.cs_hub.specs.HubFollowing.{AreServed}
 use Rattle.cs_hub.specs.Speaking.{AreUnbroken}
 use Rattle.cs_hub.specs.Streams.{bytes_that_came}
 use Rattle.cs_model.specs.Corpus.{Corpus}
-use Rattle.cs_model.specs.Parameters.{number_of}
+use Rattle.cs_model.specs.Digits.{number_of}
 use Rattle.cs_model_index.specs.BlockRules.{broken_at}
 use Rattle.cs_model_index.specs.FileRules.{damage, IsIndexFile}
 use Rattle.cs_model_index.specs.Sections.{file_corpus}

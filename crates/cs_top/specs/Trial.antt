@@ -19,7 +19,7 @@ use Rattle.cs_base.specs.declared.index.plan.Plan.TheVariants.{Same, Narrow, Ext
 use Rattle.cs_engine.specs.Keeping.{EngineView, AreGood}
 use Rattle.cs_file.specs.Indexes.{StandsFor}
 use Rattle.cs_model.specs.Corpus.{Corpus}
-use Rattle.cs_model.specs.Parameters.{number_of}
+use Rattle.cs_model.specs.Digits.{number_of}
 use Rattle.cs_model_index.specs.Sections.{file_corpus}
 use Rattle.cs_model_kept.specs.KeptList.{KeptList, after_own, kept_at, is_same}
 use Rattle.cs_model_kept.specs.declared.limits.TheConstants.{MAX_ENTRIES}

@@ -8,31 +8,46 @@
 --   collection_refusal_of f      the refusal that a fault of a collection names; None for want of memory
 --   IsCollectionCause c f        it names the refusal of the collection c; nothing is said of want of memory
 --   fault_seen f                 a refused line's fault
---   collection_ending r          the ending of a run whose collection has the refusal r, or no memory
+--   size_refusal_of f            the refusal that a fault of a source's size names; None for want of memory
+--   import_refusal_of f          the same of a fault of a source that is translated
+--   source_refusal_of f          the same of a fault of any source
+--   fault_form f                 the form of the source that has this fault
+--   IsFlatCause t f              it names the refusal of the translation t; nothing is said of want of memory
+--   IsImportCause read b f       the same of the source b, which is translated so
+--   IsSourceCause form b f       the same of a source of any form
+--   collection_ending r          the ending of a run whose source has the refusal r, or no memory
 --   of_script s                  the stop of a run whose script stops
 --   stop_ending s, ended r       the ending of a run that stops, and of any run
 --   ReadsFiles h h' before now r     a call with this answer only read files: what they hold is as it was, and why their count rose
 --   IsAbsence s name             a stop of a file that should be held: its name is said to be absent, or a call failed
 --   IsMissing s f                where a stop says a name to be absent, the file isn't held
 --   IsDevice s                   a call failed, or memory ran out
---   IsOfCollection s             a stop of a collection: its fault, or a call failed, or memory ran out
---   IsStopCause c s              where it is a fault of the collection c, this has its cause there
+--   IsOfSource form s            a stop of a source: its fault, or a call failed, or memory ran out
+--   IsStopCause form b s         where it is a fault of the source b, this has its cause there
 --   IsOfIndex s                  a stop of an index file: damage, or a call failed, or memory ran out
 --   IsDamage b s                 where it is damage of the bytes b, this is their first broken rule with its place
 --   said_text s                  a line on standard error
 use Rattle.std.specs.Prelude.{◌≡◌, ℕ, true, List, [], ◌∷◌, ◌++◌, Option, Some, None, MatchOption, Result, Ok, Err, IfErr, OnOk, codes}
 use Rattle.std.specs.Fmt.{decimal}
+use Rattle.std.specs.Option.{option_map}
 use Rattle.cs_base.specs.outside.Outside.{File, Held}
 use Rattle.cs_base.specs.declared.content.limits.TheConstants.{MAX_PORT_DIGITS, MAX_PORT, MAX_CONNECTIONS_DIGITS, MAX_CONNECTIONS, MAX_TRIAL_DIGITS, MAX_TRIAL}
-use Rattle.cs_model.specs.Collection.{CollectionRefusal}
+use Rattle.cs_model.specs.Collection.{CollectionRefusal, too_large}
 use Rattle.cs_model.specs.Corpus.{refusal}
 use Rattle.cs_model.specs.Outputs.{ScriptFault, script_line_too_long, script_line_not_utf8}
 use Rattle.cs_model_index.specs.BlockRules.{broken_at}
 use Rattle.cs_model_index.specs.FileRules.{damage}
+use Rattle.cs_model_sources.specs.CsvSources.{flat_of_csv}
+use Rattle.cs_model_sources.specs.JsonSources.{flat_of_jsonl}
+use Rattle.cs_model_sources.specs.SourceRefusals.{ImportRefusal, flat_refusal, of_line, of_lines, source_refusal}
+use Rattle.cs_model_sources.specs.declared.flat.Flat.{Flat}
+use Rattle.cs_more.specs.declared.fault.FlatFault.{FlatFault}
+use Rattle.cs_more.specs.declared.fault.FlatFault.TheVariants as sizes
 use Rattle.cs_docs.specs.FaultRefusals.{refusal_of, rows_refusal_of, words_said}
 use Rattle.cs_build.specs.Building.{build_refusal_of}
 use Rattle.cs_top.specs.CommandLine.{Command, build, ask, replay, serve, trial, is_number, Ending, done, usage, refused, damaged, absent, failed, no_memory, script_refused, changed, CausedBy}
 use Rattle.cs_top.specs.Answering.{FileView}
+use Rattle.cs_top.specs.Import.{Refusal, of_collection, of_csv, of_jsonl}
 use Rattle.cs_top.specs.Met.{HasToldSize, OfBytes}
 use Rattle.cs_top.specs.declared.answering.Home.{Home}
 use Rattle.cs_top.specs.declared.answering.Home.TheVariants as homes
@@ -47,12 +62,18 @@ use Rattle.cs_top.specs.declared.lines.ScriptStop.{ScriptStop}
 use Rattle.cs_top.specs.declared.lines.ScriptStop.TheVariants as scripts
 use Rattle.cs_top.specs.declared.said.Said.{Said}
 use Rattle.cs_top.specs.declared.said.Said.TheVariants as said
+use Rattle.cs_top.specs.declared.sources.ImportFault.{ImportFault}
+use Rattle.cs_top.specs.declared.sources.ImportFault.TheVariants as imports
+use Rattle.cs_top.specs.declared.sources.SourceFault.{SourceFault}
+use Rattle.cs_top.specs.declared.sources.SourceFault.TheVariants as sources
+use Rattle.cs_top.specs.declared.words.Form.{Form}
+use Rattle.cs_top.specs.declared.words.Form.TheVariants as forms
 use Rattle.cs_top.specs.declared.words.Command.{Command as Read}
 use Rattle.cs_top.specs.declared.words.Command.TheVariants as read
 
 -- word by word, variant by variant
 abbrev pub seen_command : Read → Command
-seen_command (read.Build c i) = build c.now i.now
+seen_command (read.Build form c i) = build form c.now i.now
 seen_command (read.Ask c s) = ask c.now s.now
 seen_command (read.Replay i s) = replay i.now s.now
 seen_command (read.Serve i p n) = serve i.now p.now n.now
@@ -92,15 +113,53 @@ abbrev pub fault_seen : Unread → ScriptFault
 fault_seen (unread.TooLong n) = script_line_too_long n
 fault_seen (unread.NotUtf8 n) = script_line_not_utf8 n
 
+-- only too large is one
+abbrev pub size_refusal_of : FlatFault → Option ImportRefusal
+size_refusal_of sizes.TooLarge = Some (of_lines too_large)
+size_refusal_of sizes.Memory = None
+
+-- a fault of its size, of a line of its own, or of the collection that it gives
+abbrev pub import_refusal_of : ImportFault → Option ImportRefusal
+import_refusal_of (imports.Size f) = size_refusal_of f
+import_refusal_of (imports.Line b) = Some (of_line b)
+import_refusal_of (imports.Collection f) = option_map of_lines (collection_refusal_of f)
+
+-- form by form
+abbrev pub source_refusal_of : SourceFault → Option Refusal
+source_refusal_of (sources.Collection f) = option_map of_collection (collection_refusal_of f)
+source_refusal_of (sources.Csv f) = option_map of_csv (import_refusal_of f)
+source_refusal_of (sources.JsonLines f) = option_map of_jsonl (import_refusal_of f)
+
+-- variant by variant
+abbrev pub fault_form : SourceFault → Form
+fault_form (sources.Collection f) = forms.Collection
+fault_form (sources.Csv f) = forms.Csv
+fault_form (sources.JsonLines f) = forms.JsonLines
+
+-- where it is no want of memory, it is the first refusal of the translation
+abbrev pub IsFlatCause : Flat → ImportFault → Type 0
+IsFlatCause t f = MatchOption (import_refusal_of f) (Unit {0}) (λ r. flat_refusal t ≡ Some r)
+
+-- where it is no want of memory, it is the first refusal of the source
+abbrev pub IsImportCause : (List ℕ → Flat) → List ℕ → ImportFault → Type 0
+IsImportCause read b f = MatchOption (import_refusal_of f) (Unit {0}) (λ r. source_refusal read b ≡ Some r)
+
+-- a source has no fault of another form
+abbrev pub IsSourceCause : Form → List ℕ → SourceFault → Type 0
+IsSourceCause forms.Collection b (sources.Collection f) = IsCollectionCause b f
+IsSourceCause forms.Csv b (sources.Csv f) = IsImportCause flat_of_csv b f
+IsSourceCause forms.JsonLines b (sources.JsonLines f) = IsImportCause flat_of_jsonl b f
+IsSourceCause form b f = ⊥
+
 -- refused with the refusal, and without one for want of memory
-abbrev pub collection_ending : Option CollectionRefusal → Ending
+abbrev pub collection_ending : Option Refusal → Ending
 collection_ending None = no_memory
 collection_ending (Some r) = refused r
 
 -- variant by variant
 abbrev pub stop_ending : RunStop → Ending
 stop_ending stops.Usage = usage
-stop_ending (stops.Collection f) = collection_ending (collection_refusal_of f)
+stop_ending (stops.Collection f) = collection_ending (source_refusal_of f)
 stop_ending (stops.Absent name) = absent name.now
 stop_ending stops.Failed = failed
 stop_ending stops.Memory = no_memory
@@ -142,16 +201,16 @@ IsDevice stops.Memory = Unit {0}
 IsDevice s = ⊥
 
 -- a run stops there in no other way
-abbrev pub IsOfCollection : RunStop → Type 0
-IsOfCollection (stops.Collection f) = Unit {0}
-IsOfCollection stops.Failed = Unit {0}
-IsOfCollection stops.Memory = Unit {0}
-IsOfCollection s = ⊥
+abbrev pub IsOfSource : Form → RunStop → Type 0
+IsOfSource form (stops.Collection f) = fault_form f ≡ form
+IsOfSource form stops.Failed = Unit {0}
+IsOfSource form stops.Memory = Unit {0}
+IsOfSource form s = ⊥
 
 -- of any other stop nothing is said
-abbrev pub IsStopCause : List ℕ → RunStop → Type 0
-IsStopCause c (stops.Collection f) = IsCollectionCause c f
-IsStopCause c s = Unit {0}
+abbrev pub IsStopCause : Form → List ℕ → RunStop → Type 0
+IsStopCause form b (stops.Collection f) = IsSourceCause form b f
+IsStopCause form b s = Unit {0}
 
 -- a run stops there in no other way
 abbrev pub IsOfIndex : RunStop → Type 0

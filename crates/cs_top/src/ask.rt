@@ -1,7 +1,7 @@
 //! `ask COLLECTION SCRIPT`: a script that is answered over a collection, with its index file in memory.
 ghost use Rattle.std.specs.Prelude.{◌≡◌, IfOk, IfErr, OnOk};
 ghost use Rattle.std.specs.Option.{ForSome};
-ghost use Rattle.cs_model.specs.Corpus.{corpus};
+ghost use Rattle.cs_model.specs.{Collection.{weights}, Corpus.{corpus}};
 ghost use Rattle.cs_top.specs.ScriptRuns.{AskEnds, AskStops, AskTold, IsReady};
 ghost use Rattle.cs_top.specs.CommandLine.{Caused};
 ghost use Rattle.cs_top.specs.Filed.{HasFile, IsFiled};
@@ -9,11 +9,12 @@ ghost use Rattle.cs_top.specs.Met.{HasToldSize, OfBytes, Wrote, wrote};
 ghost use Rattle.cs_top.specs.Views.{ReadsFiles, ended, stop_ending};
 
 use crate::answering::IndexFile;
-use crate::collection::read_image;
 use crate::ending::RunStop;
 use crate::files::{HeldFile, size_of};
 use crate::opening::open_image;
 use crate::script::{Came, answer_script};
+use crate::sources::read_image;
+use crate::words::Form;
 use cs_base::{Files, Sink};
 use cs_file::Image;
 use std::alloc::Global;
@@ -51,7 +52,7 @@ fn prepare<'a, F: Files>(
     files: &mut F,
 ) -> Result<(Image, u64), RunStop<'a>>
     ensures ready { ForSome (F.held files.old) (λ h. OnOk result (IsReady h collection.now script.now)) }
-    ensures ok { OfBytes (F.held files.old) collection.now (λ b. IfOk result (λ p. IsFiled (corpus b) p.0)) }
+    ensures ok { OfBytes (F.held files.old) collection.now (λ b. IfOk result (λ p. IsFiled (corpus b) (weights b) p.0)) }
     ensures file { IfOk result (λ p. HasFile p.0) }
     ensures size { IfOk result (λ p. HasToldSize (F.held files.old) script.now p.1) }
     ensures stops { ForSome (F.held files.old) (λ h. IfErr result (λ s. AskStops (stop_ending s) h collection.now script.now)) }
@@ -64,6 +65,6 @@ fn prepare<'a, F: Files>(
         name: collection,
         size,
     };
-    let image = read_image(alloc, files, collection)?;
+    let image = read_image(alloc, files, Form::Collection, collection)?;
     Ok((image, script_size))
 }

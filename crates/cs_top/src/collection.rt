@@ -1,17 +1,15 @@
-//! A collection that is read, and made into the corpus that is searched.
+//! A collection, and the corpus that is searched.
 ghost use Rattle.std.specs.{Option.{option_map}, Prelude.{◌≡◌, None, IfOk, IfErr, OnOk, map}};
 ghost use Rattle.cs_build.specs.declared.fault.BuildFault.{BuildFault};
 ghost use Rattle.cs_docs.specs.{FaultRefusals.{reason_text}, LinesRead.{doc_of_lent}};
-ghost use Rattle.cs_model.specs.{Collection.{refusal_words}, Corpus.{corpus, refusal, title_of}};
+ghost use Rattle.cs_model.specs.{Collection.{refusal_words, weights}, Corpus.{corpus, refusal, title_of}};
 ghost use Rattle.cs_top.specs.{Filed.{HasFile, IsFiled}, Trial.{HasSizes}};
 ghost use Rattle.cs_top.specs.declared.collection.CollectionFault.{CollectionFault};
-ghost use Rattle.cs_top.specs.Views.{IsCollectionCause, IsOfCollection, IsSized, IsStopCause, OfFile, ReadsFiles, collection_refusal_of};
+ghost use Rattle.cs_top.specs.Views.{IsCollectionCause, collection_refusal_of};
 
-use crate::ending::RunStop;
-use crate::files::{HeldFile, read_all};
-use cs_base::{Files, MAX_COLLECTION_BYTES, Memory, Seq, Text};
+use cs_base::{Memory, Seq, Text};
 use cs_build::{BuildFault, RowColumns, image_of_columns};
-use cs_docs::{DocFault, LentDoc, Reason, RowsFault, lent_docs};
+use cs_docs::{DocFault, LentCollected, LentDoc, Reason, RowsFault, lent_docs};
 use cs_file::Image;
 use cs_model_index::TARGET;
 use std::alloc::Global;
@@ -59,34 +57,9 @@ pub(crate) struct Imaged {
     pub rows: usize,
 }
 
-/// The image of a collection.
-pub(crate) fn read_image<'a, F: Files>(
-    alloc: Global,
-    files: &mut F,
-    collection: HeldFile<'_>,
-) -> Result<Image, RunStop<'a>>
-    requires size { IsSized (F.held files.old) collection }
-
-    ensures ok { OfFile (F.held files.old) collection.entry (λ b. IfOk result (IsFiled (corpus b))) }
-    ensures accepted { OfFile (F.held files.old) collection.entry (λ b. OnOk result (refusal b ≡ None)) }
-    ensures cause { OfFile (F.held files.old) collection.entry (λ b. IfErr result (λ s. IsStopCause b s)) }
-    ensures file { IfOk result HasFile }
-    ensures kind { IfErr result IsOfCollection }
-    ensures reads { ReadsFiles (F.held files.old) (F.held files.new) (F.faults files.old) (F.faults files.new) result }
-{
-    if collection.size > MAX_COLLECTION_BYTES as u64 {
-        return Err(RunStop::Collection(CollectionFault::Documents(DocFault::TooLarge)));
-    }
-    let bytes = read_all(alloc, files, collection)?;
-    match image_of(alloc, &bytes) {
-        Ok(imaged) => Ok(imaged.image),
-        Err(fault) => Err(RunStop::Collection(fault)),
-    }
-}
-
 /// The image of a collection that is accepted.
 pub(crate) fn image_of(alloc: Global, bytes: &[u8]) -> Result<Imaged, CollectionFault>
-    ensures ok { IfOk result (λ i. IsFiled (corpus bytes.now) i.image) }
+    ensures ok { IfOk result (λ i. IsFiled (corpus bytes.now) (weights bytes.now) i.image) }
     ensures accepted { OnOk result (refusal bytes.now ≡ None) }
     ensures file { IfOk result (λ i. HasFile i.image) }
     ensures sizes { IfOk result (λ i. HasSizes (corpus bytes.now) i.documents i.rows) }
@@ -94,12 +67,16 @@ pub(crate) fn image_of(alloc: Global, bytes: &[u8]) -> Result<Imaged, Collection
     // Each fault but want of memory is the first refusal.
     ensures err { IfErr result (λ e. IsCollectionCause bytes.now e) }
 {
-    let docs = lent_docs(alloc, bytes).map_err(CollectionFault::Documents)?;
-    let rows = RowColumns::of_docs(alloc, &docs).map_err(CollectionFault::Rows)?;
+    let LentCollected { docs, weights } = lent_docs(alloc, bytes).map_err(
+        CollectionFault::Documents,
+    )?;
+    let rows = RowColumns::of_docs(alloc, &docs, weights).map_err(CollectionFault::Rows)?;
     let titles = titles_of(alloc, &docs)?;
     let document_count = docs.len();
     let row_count = rows.len();
-    let image = image_of_columns(alloc, rows, titles, TARGET).map_err(CollectionFault::Words)?;
+    let image = image_of_columns(alloc, rows, titles, TARGET, weights).map_err(
+        CollectionFault::Words,
+    )?;
     Ok(Imaged {
         image,
         documents: document_count,

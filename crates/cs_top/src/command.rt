@@ -19,7 +19,7 @@ use std::alloc::Global;
 /// Does what the words ask for, and answers the exit status.
 ///
 /// `words` are the command line's words without the program's name. 0: all was done. 2: the words aren't in the
-/// table. 3: the collection isn't accepted. 4: the index file is damaged. 5: a file to be read isn't held. 6: a call of `files`
+/// table. 3: the collection or another source isn't accepted. 4: the index file is damaged. 5: a file to be read isn't held. 6: a call of `files`
 /// or `out` failed, or the hub's `listen` or `next`. 7: memory ran out, of a script before its first line and of connections
 /// before the first one. 8: a line of the script is too long or isn't UTF-8; the lines before
 /// it were answered. 9: the index file isn't what it was at opening.
@@ -56,7 +56,13 @@ fn carry_out<'a, F: Files, H: Hub, O: Sink>(
 {
     match command_of(words) {
         None => Err(RunStop::Usage),
-        Some(Command::Build { collection, index }) => build(alloc, collection, index, files),
+        Some(
+            Command::Build {
+                form,
+                source,
+                index,
+            },
+        ) => build(alloc, form, source, index, files),
         Some(Command::Ask { collection, script }) => ask(alloc, collection, script, files, out),
         Some(Command::Replay { index, script }) => replay(alloc, index, script, files, out),
         Some(Command::Serve { index, port, conns }) => {

@@ -3,17 +3,17 @@ ghost use Rattle.std.specs.Prelude.{◌≡◌, ◌++◌, ◌∷◌, []};
 ghost use Rattle.cs_docs.specs.FaultRefusals.{reason_text};
 ghost use Rattle.cs_top.specs.CommandLine.{status, line_of, SaysLine};
 ghost use Rattle.cs_top.specs.Met.{wrote};
-ghost use Rattle.cs_top.specs.Views.{collection_ending, collection_refusal_of, ended, of_script, said_text, stop_ending};
+ghost use Rattle.cs_top.specs.Views.{collection_ending, ended, of_script, said_text, source_refusal_of, stop_ending};
 ghost use Rattle.cs_top.specs.declared.ending.RunStop.{RunStop};
 
-use crate::collection::CollectionFault;
 use crate::lines::{ScriptFault, ScriptStop};
 use crate::said::{Said, put_said};
+use crate::sources::SourceFault;
 use cs_base::{Failed, Memory, Sink};
 use cs_docs::Reason;
 
 const USAGE: &[u8] =
-    b"usage: complete build COLLECTION INDEX | ask COLLECTION SCRIPT | replay INDEX SCRIPT | serve INDEX PORT CONNS | trial N";
+    b"usage: complete build COLLECTION INDEX | ask COLLECTION SCRIPT | replay INDEX SCRIPT | serve INDEX PORT CONNS | trial N | import csv SOURCE INDEX | import jsonl SOURCE INDEX";
 
 const NO_MEMORY: &[u8] = b"memory";
 
@@ -22,8 +22,8 @@ const NO_MEMORY: &[u8] = b"memory";
 pub(crate) enum RunStop<'a> {
     /// The words aren't in the table.
     Usage,
-    /// The collection makes no corpus.
-    Collection(CollectionFault),
+    /// The source makes no corpus.
+    Collection(SourceFault),
     /// A file to be read isn't held; its name.
     Absent(&'a str),
     /// A call of files or of standard output failed.
@@ -125,8 +125,8 @@ pub(crate) fn tell<E: Sink>(err: &mut E, run: Result<(), RunStop<'_>>)
     }
 }
 
-fn status_of_collection(fault: CollectionFault) -> u8
-    ensures { result ≡ status (collection_ending (collection_refusal_of fault)) }
+fn status_of_collection(fault: SourceFault) -> u8
+    ensures { result ≡ status (collection_ending (source_refusal_of fault)) }
 {
     match fault.reason() {
         Some(_) => 3,
@@ -134,8 +134,8 @@ fn status_of_collection(fault: CollectionFault) -> u8
     }
 }
 
-fn said_of_collection(fault: CollectionFault) -> Said<'static>
-    ensures { said_text result ≡ line_of (collection_ending (collection_refusal_of fault)) }
+fn said_of_collection(fault: SourceFault) -> Said<'static>
+    ensures { said_text result ≡ line_of (collection_ending (source_refusal_of fault)) }
 {
     match fault.reason() {
         Some(reason) => of_reason(b"collection: ", reason),

@@ -16,11 +16,12 @@ mod replay;
 mod said;
 mod script;
 mod serve;
+mod sources;
 mod trial;
 mod words;
 
 pub use command::run;
-pub use words::{Command, command_of};
+pub use words::{Command, Form, command_of};
 
 /// The version of the program, which nothing prints.
 pub const VERSION: &str = "0.1.0";

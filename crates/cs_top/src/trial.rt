@@ -2,7 +2,7 @@
 ghost use Rattle.std.specs.Prelude.{◌≡◌, ◌≤◌, ◌+◌, ◌++◌, ◌∷◌, ◌^◌, [], ℕ, List, All, IfOk, OnOk, Some, length, map, true};
 ghost use Rattle.cs_base.specs.declared.content.{limits.TheConstants.{MAX_TRIAL, MAX_TRIAL_DIGITS}, query.Query.{Query}};
 ghost use Rattle.cs_file.specs.Indexes.{HasAllBlocks, StandsFor};
-ghost use Rattle.cs_model.specs.{Corpus.{corpus}, Parameters.{HoldsLimits}};
+ghost use Rattle.cs_model.specs.{Collection.{weights}, Corpus.{corpus}, Parameters.{HoldsLimits}};
 ghost use Rattle.cs_model_trial.specs.Summary.{IsSummary};
 ghost use Rattle.cs_query.specs.RequestView.{asked};
 ghost use Rattle.cs_top.specs.{CommandLine.{CausedBy, is_number}, Filed.{HasFile, IsFiled}, Met.{wrote}, Views.{ended}};
@@ -58,7 +58,7 @@ fn summary_of(alloc: Global, n: u32) -> Result<Vec<u8>, Memory>
 // The image of a trial's collection, which keeps each rule and each limit of collections. That isn't said by a clause, so a
 // refusal is told as want of memory.
 fn imaged(alloc: Global, bytes: &[u8]) -> Result<Imaged, Memory>
-    ensures ok { IfOk result (λ i. IsFiled (corpus bytes.now) i.image) }
+    ensures ok { IfOk result (λ i. IsFiled (corpus bytes.now) (weights bytes.now) i.image) }
     ensures file { IfOk result (λ i. HasFile i.image) }
     ensures sizes { IfOk result (λ i. HasSizes (corpus bytes.now) i.documents i.rows) }
 {

@@ -3,8 +3,8 @@ ghost use Rattle.std.specs.Prelude.{◌≡◌, ◌≤◌, true, map, ◌&&◌, n
 ghost use Rattle.std.specs.Option.{ForSome, option_map};
 ghost use Rattle.std.specs.String.{string_bytes};
 ghost use Rattle.cs_base.specs.declared.content.limits.TheConstants.{MAX_PORT_DIGITS, MAX_PORT, MAX_CONNECTIONS_DIGITS, MAX_CONNECTIONS, MAX_TRIAL_DIGITS, MAX_TRIAL};
-ghost use Rattle.cs_model.specs.Parameters.{number_of};
-ghost use Rattle.cs_top.specs.CommandLine.{command_of, two_words, serve_words, trial_words, is_number};
+ghost use Rattle.cs_model.specs.Digits.{number_of};
+ghost use Rattle.cs_top.specs.CommandLine.{command_of, two_words, three_words, import_words, serve_words, trial_words, is_number};
 ghost use Rattle.cs_top.specs.Views.{HasNumbers, seen_command};
 
 use cs_base::{
@@ -12,13 +12,26 @@ use cs_base::{
 };
 use cs_text::{has_digits, number_of};
 
+/// The form of a source, which an index file is made of.
+#[derive(Clone, Copy, Debug, PartialEq, Eq)]
+pub enum Form {
+    /// A collection.
+    Collection,
+    /// A table of comma-separated values.
+    Csv,
+    /// Lines of JSON.
+    JsonLines,
+}
+
 /// What the words ask for.
 #[derive(Clone, Copy, Debug, PartialEq, Eq)]
 pub enum Command<'a> {
-    /// `build COLLECTION INDEX`.
+    /// `build COLLECTION INDEX`, `import csv SOURCE INDEX` or `import jsonl SOURCE INDEX`.
     Build {
-        /// The collection's name.
-        collection: &'a str,
+        /// The form of the source.
+        form: Form,
+        /// The source's name.
+        source: &'a str,
         /// The index file's name.
         index: &'a str,
     },
@@ -60,11 +73,11 @@ pub fn command_of(words: &[String]) -> Option<Command<'_>>
     match words {
         [command, number] => trial(command.as_str(), number.as_str()),
         [command, first, second] => two_words(command.as_str(), first.as_str(), second.as_str()),
-        [command, index, port, conns] => serve(
+        [command, first, second, third] => three_words(
             command.as_str(),
-            index.as_str(),
-            port.as_str(),
-            conns.as_str(),
+            first.as_str(),
+            second.as_str(),
+            third.as_str(),
         ),
         _ => None,
     }
@@ -76,7 +89,8 @@ fn two_words<'a>(command: &str, first: &'a str, second: &'a str) -> Option<Comma
 {
     match command {
         "build" => Some(Command::Build {
-            collection: first,
+            form: Form::Collection,
+            source: first,
             index: second,
         }),
         "ask" => Some(Command::Ask {
@@ -86,6 +100,40 @@ fn two_words<'a>(command: &str, first: &'a str, second: &'a str) -> Option<Comma
         "replay" => Some(Command::Replay {
             index: first,
             script: second,
+        }),
+        _ => None,
+    }
+}
+
+fn three_words<'a>(
+    command: &str,
+    first: &'a str,
+    second: &'a str,
+    third: &'a str,
+) -> Option<Command<'a>>
+    ensures seen { option_map seen_command result ≡ three_words command.now first.now second.now third.now }
+    ensures numbers { ForSome result HasNumbers }
+{
+    match command {
+        "import" => import(first, second, third),
+        _ => serve(command, first, second, third),
+    }
+}
+
+fn import<'a>(form: &str, source: &'a str, index: &'a str) -> Option<Command<'a>>
+    ensures seen { option_map seen_command result ≡ import_words form.now source.now index.now }
+    ensures numbers { ForSome result HasNumbers }
+{
+    match form {
+        "csv" => Some(Command::Build {
+            form: Form::Csv,
+            source,
+            index,
+        }),
+        "jsonl" => Some(Command::Build {
+            form: Form::JsonLines,
+            source,
+            index,
         }),
         _ => None,
     }

@@ -14,8 +14,14 @@ pub const GUIDE: &str =
 /// Two documents of a title alone, `a` and `b`: a mark in front, CR before LF, a line without bytes, and no ending.
 pub const MARKED_LINES: &str = "\u{FEFF}a\r\n\nb";
 
+/// One document behind a weights line.
+pub const WEIGHED: &str = "#weights title=9 facet=3 text=2\nAb\tk=C\tb a";
+
 /// Refused in its first line: a facet without a value.
 pub const BAD_FACET: &[u8] = b"a\tb\tc";
 
 /// Refused in its first line: a facet's name begins with a digit.
 pub const BAD_NAME: &[u8] = b"x\t1a=b";
+
+/// Refused in its first line: no weight is 0.
+pub const BAD_WEIGHTS: &[u8] = b"#weights title=0 facet=2 text=1";

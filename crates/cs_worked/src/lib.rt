@@ -12,9 +12,11 @@ mod keystrokes;
 mod pairs;
 mod scripts;
 
-pub use collections::{BAD_FACET, BAD_NAME, GUIDE, MARKED_LINES, THREE_DOCUMENTS};
+pub use collections::{
+    BAD_FACET, BAD_NAME, BAD_WEIGHTS, GUIDE, MARKED_LINES, THREE_DOCUMENTS, WEIGHED,
+};
 pub use commands::USAGE;
-pub use files::{NO_DOCUMENTS, ONE_DOCUMENT};
+pub use files::{NO_DOCUMENTS, ONE_DOCUMENT, USUALLY_WEIGHED, WEIGHED_DOCUMENT};
 pub use heads::{
     ANNOUNCED_BODY, FAILED_READ, HEADS, LONG_HEAD, NO_QUERY, OTHER_METHOD, OTHER_PATH, TYPED,
     TYPED_HEAD,

@@ -1,5 +1,5 @@
 //! Scripts over small collections.
-use crate::collections::{GUIDE, MARKED_LINES, THREE_DOCUMENTS};
+use crate::collections::{GUIDE, MARKED_LINES, THREE_DOCUMENTS, WEIGHED};
 use crate::keystrokes::KEYSTROKES;
 use crate::{Worked, WorkedScript};
 
@@ -14,6 +14,7 @@ pub const SCRIPTS: &[WorkedScript] = &[
     ESCAPES,
     TITLES,
     LONG_WORDS,
+    HEAVY_TITLES,
 ];
 
 /// No documents: nothing is found.
@@ -72,6 +73,22 @@ const TITLES: WorkedScript = WorkedScript {
         line: "q=",
         reply: r#"{"completions":[],"facets":{},"hits":[{"doc":0,"score":0,"title":"a"},{"doc":1,"score":0,"title":"b"}],"total":{"completions":0,"hits":2}}"#,
     }],
+};
+
+/// Scores are those of the weights line, which is no document.
+const HEAVY_TITLES: WorkedScript = WorkedScript {
+    collection: WEIGHED,
+    lines: &[
+        // a word of the text, and one of the title, which counts for more
+        Worked {
+            line: "q=a",
+            reply: r#"{"completions":[{"docs":1,"word":"a"},{"docs":1,"word":"ab"}],"facets":{},"hits":[{"doc":0,"score":9,"title":"Ab"}],"total":{"completions":2,"hits":1}}"#,
+        },
+        Worked {
+            line: "q=k:",
+            reply: r#"{"completions":[{"docs":1,"word":"k:c"}],"facets":{},"hits":[{"doc":0,"score":3,"title":"Ab"}],"total":{"completions":1,"hits":1}}"#,
+        },
+    ],
 };
 
 /// Words of 121 letters: of a facet and of a text, each is cut at 120, and in a query it is refused there.

@@ -2,7 +2,7 @@
 ghost use Rattle.std.specs.Prelude.{◌<◌};
 
 use crate::tests::rows::same;
-use cs_base::{BlockHead, Memory};
+use cs_base::{BlockHead, Memory, USUAL_WEIGHTS, Weights};
 use cs_block::{
     BlockFault, Broken, decode, decode_reserved, encode, front_len, read_doc_words, read_scores,
 };
@@ -78,7 +78,7 @@ const COLUMNS: (&[u32], &[u32], &[u32], &[u8]) = (&[0, 0, 0], &[2, 3, 1], &[1, 1
 #[test]
 fn the_worked_block_is_decoded_and_encoded(rt: HostRuntime) -> Result<(), Fail> {
     let mut rows = Cols::new(rt.alloc());
-    decode(&BLOCK, &HEAD, 1, &mut rows)?;
+    decode(&BLOCK, &HEAD, 1, USUAL_WEIGHTS, &mut rows)?;
     let found = (rows.docs(), rows.words(), rows.places(), rows.scores());
     same(&rt, &found, &COLUMNS, "the rows");
     let mut out = Vec::new(rt.alloc());
@@ -122,12 +122,12 @@ fn documents_and_words_are_read_of_the_front_alone(rt: HostRuntime) {
 #[test]
 fn scores_are_read_alone(rt: HostRuntime) -> Result<(), Fail> {
     let mut scores = Vec::new(rt.alloc());
-    assert!(rt; read_scores(&BLOCK, &HEAD, &mut scores)?);
+    assert!(rt; read_scores(&BLOCK, &HEAD, USUAL_WEIGHTS, &mut scores)?);
     same(&rt, &scores.as_slice(), &COLUMNS.3, "the scores");
     // the score of a facet, no score
     for score in [2, 3] {
         let bytes = damaged(&[(23, score)]);
-        assert!(rt; !read_scores(&bytes, &HEAD, &mut scores)?);
+        assert!(rt; !read_scores(&bytes, &HEAD, USUAL_WEIGHTS, &mut scores)?);
     }
     Ok(())
 }
@@ -136,7 +136,7 @@ fn scores_are_read_alone(rt: HostRuntime) -> Result<(), Fail> {
 fn damage_is_named_by_rule_and_place(rt: HostRuntime) {
     for (changes, n, at) in DAMAGES {
         let mut rows = Cols::new(rt.alloc());
-        let answer = decode(&damaged(changes), &HEAD, 1, &mut rows);
+        let answer = decode(&damaged(changes), &HEAD, 1, USUAL_WEIGHTS, &mut rows);
         let (n, at) = (*n, *at);
         let want = (Err(BlockFault::Rule { n, at }), 0);
         same(&rt, &(answer, rows.len()), &want, *changes);
@@ -170,16 +170,31 @@ const LONGER: BlockHead = BlockHead {
     facet: true,
 };
 
+// A facet counts for more than usual.
+const HEAVIER: Weights = Weights {
+    title: 4,
+    facet: 3,
+    text: 1,
+};
+
 #[test]
 fn a_facet_block_is_told_from_a_plain_one(rt: HostRuntime) {
     let mut rows = Cols::new(rt.alloc());
     let bytes = [0, 0, 0, 0, 0, 0, 0, 2];
-    let facet = decode(&bytes, &FACET, 1, &mut rows);
+    let facet = decode(&bytes, &FACET, 1, USUAL_WEIGHTS, &mut rows);
     same(&rt, &facet, &Ok(()), "a facet block");
-    let plain = decode(&bytes, &PLAIN, 1, &mut rows);
+    let plain = decode(&bytes, &PLAIN, 1, USUAL_WEIGHTS, &mut rows);
     let rule = Err(BlockFault::Rule { n: 16, at: 3 });
     same(&rt, &plain, &rule, "a plain block");
-    let longer = decode(&[0, 0, 0, 0, 0, 0, 0, 0, 2], &LONGER, 1, &mut rows);
+    let heavier = decode(&bytes, &FACET, 1, HEAVIER, &mut rows);
+    same(&rt, &heavier, &rule, "the weight of another collection");
+    let longer = decode(
+        &[0, 0, 0, 0, 0, 0, 0, 0, 2],
+        &LONGER,
+        1,
+        USUAL_WEIGHTS,
+        &mut rows,
+    );
     let rule = Err(BlockFault::Rule { n: 13, at: 1 });
     same(&rt, &longer, &rule, "a byte is left over");
     same(&rt, &rows.len(), &1, "the rows");
@@ -189,10 +204,10 @@ fn a_facet_block_is_told_from_a_plain_one(rt: HostRuntime) {
 fn a_block_is_decoded_in_the_room_that_there_is(rt: HostRuntime) -> Result<(), Fail> {
     let mut rows = Cols::new(rt.alloc());
     rows.reserve(3)?;
-    let whole = decode_reserved(&BLOCK, &HEAD, 1, &mut rows);
+    let whole = decode_reserved(&BLOCK, &HEAD, 1, USUAL_WEIGHTS, &mut rows);
     same(&rt, &(whole, rows.words()), &(Ok(()), COLUMNS.1), "whole");
     rows.reserve(3)?;
-    let broken = decode_reserved(&damaged(&[(23, 3)]), &HEAD, 1, &mut rows);
+    let broken = decode_reserved(&damaged(&[(23, 3)]), &HEAD, 1, USUAL_WEIGHTS, &mut rows);
     let want = (Err(Broken { n: 16, at: 17 }), 3);
     same(&rt, &(broken, rows.len()), &want, "broken");
     Ok(())

@@ -2,8 +2,8 @@
 //! `docs/MEANING.md` says of them.
 use crate::tests::rows::{Long, are_told, long_are_told, same, shown};
 use cs_base::{Memory, Row, Text};
-use cs_docs::{Doc, DocFault, RowsFault, read_docs, rows_of};
-use cs_worked::{BAD_FACET, BAD_NAME, GUIDE, MARKED_LINES};
+use cs_docs::{Collected, Doc, DocFault, RowsFault, read_docs, rows_of};
+use cs_worked::{BAD_FACET, BAD_NAME, BAD_WEIGHTS, GUIDE, MARKED_LINES, WEIGHED};
 use std::alloc::Global;
 use std::fmt::{Debug, Display};
 use std::process::Abort;
@@ -24,6 +24,12 @@ const DOCUMENTS: &[(&str, &str)] = &[
     ("\t\tx\n\t\n", "1|||x\n2|||\n"),
     // empty pieces, and values without a word
     ("t\t ; ;k=--;K = a;;\n", "1|t| ; ;k=--;K = a;;|\n"),
+    // the weights line is none; another word begins a title, and so does a later line
+    (
+        "\u{FEFF}#weights title=255 facet=01 text=001\r\na",
+        "2|a||\n",
+    ),
+    ("#weightsx\n#weights", "1|#weightsx||\n2|#weights||\n"),
 ];
 
 // A collection, and its rows as `doc word pos score` with LF behind each.
@@ -37,6 +43,8 @@ const ROWS: &[(&str, &str)] = &[
         "t\tk=v;a = V w ;k=V;b=--",
         "0 :a:v_w 0 2\n0 :k:v 0 2\n0 t 1 4\n",
     ),
+    // with the scores of the weights line
+    (WEIGHED, "0 :k:c 0 3\n0 ab 1 9\n0 b 10 2\n0 a 11 2\n"),
     // the name by its key text, the value from the first `=`
     ("\tKe\u{212A}=a=b", "0 :kek:a_b 0 2\n"),
     (
@@ -60,6 +68,17 @@ const REFUSED: &[(&[u8], DocFault)] = &[
     // pieces from left to right
     (b"x\t1=a;b", DocFault::BadName { line: 1 }),
     (b"x\tb;1=a", DocFault::BadFacet { line: 1 }),
+    (BAD_WEIGHTS, DocFault::BadWeights { line: 1 }),
+    (b"#weights\n\xFF", DocFault::BadWeights { line: 1 }),
+    (
+        b"#weights title=4 facet=2 text=256",
+        DocFault::BadWeights { line: 1 },
+    ),
+    (
+        b"#weights title=4  facet=2 text=1",
+        DocFault::BadWeights { line: 1 },
+    ),
+    (b"#weights \xFF", DocFault::NotUtf8 { line: 1 }),
     // the least line
     (b"\n\nx\tb\n\xFF", DocFault::BadFacet { line: 3 }),
 ];
@@ -79,6 +98,7 @@ const OF_DOCUMENTS: &[(DocFault, &str)] = &[
     (DocFault::TooLarge, "too large"),
     (DocFault::NotUtf8 { line: 1 }, "line 1: not UTF-8"),
     (DocFault::LineTooLong { line: 2 }, "line 2: line too long"),
+    (DocFault::BadWeights { line: 1 }, "line 1: bad weights"),
     (DocFault::WordsTooMany { line: 3 }, "line 3: too many words"),
     (DocFault::BadFacet { line: 4 }, "line 4: bad facet"),
     (DocFault::BadName { line: 5 }, "line 5: bad facet name"),
@@ -129,8 +149,8 @@ fn are_printed<E: Debug + Display>(
 fn told_docs(alloc: Global, text: &str) -> Result<Text, Memory> {
     let mut told = Text::new(alloc);
     match read_docs(alloc, text.as_bytes()) {
-        Ok(docs) => {
-            for doc in docs.as_slice() {
+        Ok(collected) => {
+            for doc in collected.docs.as_slice() {
                 tell_doc(alloc, &mut told, doc)?;
             }
             Ok(told)
@@ -151,10 +171,10 @@ fn tell_doc(alloc: Global, told: &mut Text, doc: &Doc) -> Result<(), Memory> {
 }
 
 fn told_rows(alloc: Global, text: &str) -> Result<Text, Memory> {
-    let Ok(docs) = read_docs(alloc, text.as_bytes()) else {
+    let Ok(Collected { docs, weights }) = read_docs(alloc, text.as_bytes()) else {
         return Text::from_str(alloc, "no documents");
     };
-    let Ok(rows) = rows_of(alloc, &docs) else {
+    let Ok(rows) = rows_of(alloc, &docs, weights) else {
         return Text::from_str(alloc, "no rows");
     };
     let mut told = Text::new(alloc);

@@ -5,14 +5,19 @@ ghost use Rattle.cs_file.specs.Writable.{CanBeWritten};
 use crate::tests::rows::same;
 use cs_base::{MemSink, Memory};
 use cs_build::image;
-use cs_docs::{read_docs, rows_of};
+use cs_docs::{Collected, read_docs, rows_of};
 use cs_file::{Image, write_index};
 use cs_model_index::TARGET;
-use cs_worked::{NO_DOCUMENTS, ONE_DOCUMENT, WorkedFile};
+use cs_worked::{NO_DOCUMENTS, ONE_DOCUMENT, USUALLY_WEIGHED, WEIGHED_DOCUMENT, WorkedFile};
 use std::alloc::Global;
 use std::test::Fail;
 
-const FILES: &[WorkedFile] = &[NO_DOCUMENTS, ONE_DOCUMENT];
+const FILES: &[WorkedFile] = &[
+    NO_DOCUMENTS,
+    ONE_DOCUMENT,
+    WEIGHED_DOCUMENT,
+    USUALLY_WEIGHED,
+];
 
 #[test]
 fn the_file_of_a_collection_has_these_bytes(rt: HostRuntime) -> Result<(), Fail> {
@@ -26,13 +31,13 @@ fn the_file_of_a_collection_has_these_bytes(rt: HostRuntime) -> Result<(), Fail>
 fn image_of(alloc: Global, collection: &[u8]) -> Result<Image, Memory>
     ensures { IfOk result CanBeWritten }
 {
-    let Ok(docs) = read_docs(alloc, collection) else {
+    let Ok(Collected { docs, weights }) = read_docs(alloc, collection) else {
         return Err(Memory);
     };
-    let Ok(rows) = rows_of(alloc, &docs) else {
+    let Ok(rows) = rows_of(alloc, &docs, weights) else {
         return Err(Memory);
     };
-    match image(alloc, rows, docs, TARGET) {
+    match image(alloc, rows, docs, TARGET, weights) {
         Ok(image) => Ok(image),
         Err(_) => Err(Memory),
     }

@@ -1,8 +1,10 @@
-use Rattle.std.proofs.Common.{◌≡◌, inl, inr, refl, rules}
-use Rattle.cs_top.specs.Met.{Wrote}
-use Rattle.cs_top.specs.ScriptRuns.{AskEnds}
+use Rattle.std.proofs.Common.{◌≡◌, ◌∙◌, inl, inr, refl, rules}
+use Rattle.cs_top.specs.Met.{Wrote, held_bytes}
+use Rattle.cs_top.specs.ScriptRuns.{AreHeld, AskEnds, AskStops}
 use Rattle.cs_top.specs.Views.{stop_ending}
-use Rattle.cs_top.proofs.StopLemmas.{ask_absent, ask_refused}
+use Rattle.cs_top.specs.declared.words.Form.TheVariants as forms
+use Rattle.cs_top.proofs.ScriptLemmas.{held_by}
+use Rattle.cs_top.proofs.StopLemmas.{ask_absent, ask_refused, caused_by}
 use Rattle.cs_top.proofs.ask.prepare.Goals as goal
 
 pub returns-in_err-size-clause-ends : goal.returns-in_err-size-clause-ends
@@ -21,4 +23,16 @@ pub returns-in_err-image-clause-ends : goal.returns-in_err-image-clause-ends
 returns-in_err-image-clause-ends g c =
     let all : (w : Wrote) → w.new ≡ w.old → AskEnds (stop_ending c.in_err-image.field-0.0) c.args.collection.now c.args.script.now w =
     λ w same. ask_refused c.args.collection.now c.args.script.now w c.in_err-image.field-0.0 same c.in_err-image.ensures.kind in
+    search rules
+
+pub returns-in_err-image-clause-stops : goal.returns-in_err-image-clause-stops
+returns-in_err-image-clause-stops g c h held =
+    let s = c.in_err-image.field-0.0 in
+    let one = c.args.collection.now in
+    let other = c.args.script.now in
+    let here = c.in_ok-size.ensures.reads.files ∙ held in
+    let there = c.in_ok-script_size.ensures.reads.files ∙ here in
+    let both : AreHeld h one other = (held_by _ _ (c.in_ok-size.ensures.ok h held), held_by _ _ (c.in_ok-script_size.ensures.ok h here)) in
+    let all : AskStops (stop_ending s) h one other =
+    caused_by (λ e. AskStops e h one other) forms.Collection (held_bytes h one) s c.in_err-image.ensures.kind (c.in_err-image.ensures.cause h there) (λ r is. (both, is)) tt both in
     search rules

@@ -5,9 +5,11 @@ use Rattle.std.specs.List.{enumerate_from}
 use Rattle.std.proofs.lemmas.Bool.{le-leb}
 use Rattle.std.proofs.lemmas.List.{length-map}
 use Rattle.std.proofs.lemmas.List.FromFn.{length-enumerate_from}
+use Rattle.cs_base.specs.declared.content.doc.Doc.{Doc}
 use Rattle.cs_base.specs.declared.content.doc.Row.{Row}
 use Rattle.cs_base.specs.declared.content.limits.TheConstants.{MAX_ROWS, MAX_WORDS}
-use Rattle.cs_model.specs.Collection.{docs_refusal, documents}
+use Rattle.cs_base.specs.declared.content.scores.Weights.{Weights}
+use Rattle.cs_model.specs.Collection.{docs_refusal, documents, weights}
 use Rattle.cs_model.specs.First.{first_reason}
 use Rattle.cs_model.specs.Corpus.{by_number, corpus, distinct_words, refusal, rows_of, rows_refusal, title_of}
 use Rattle.cs_model_index.specs.FileRules.{IsIndexFile}
@@ -25,51 +27,62 @@ use Rattle.cs_top.proofs.collection.image_of.Goals as goal
 use Rattle.cs_top.proofs.collection.image_of.Goals.{In_ok-image}
 
 -- a collection whose documents, rows and words aren't refused is accepted
-accepted_by : (c : List ℕ) (rows : List Row) → docs_refusal c ≡ None → rows ≡ rows_of (documents c) → length rows ≤ MAX_ROWS → length (distinct_words rows) ≤ MAX_WORDS → refusal c ≡ None
+accepted_by : (c : List ℕ) (rows : List Row) → docs_refusal c ≡ None → rows ≡ rows_of (weights c) (documents c) → length rows ≤ MAX_ROWS → length (distinct_words rows) ≤ MAX_WORDS → refusal c ≡ None
 accepted_by c rows none e few words =
     let a : nat_le (length rows) MAX_ROWS ≡ true = le-leb _ _ few in
     let b : nat_le (length (distinct_words rows)) MAX_WORDS ≡ true = le-leb _ _ words in
     let r : rows_refusal rows ≡ None = rw (a, b) refl in
-    ap (λ x. first_reason (x ∷ rows_refusal (rows_of (documents c)) ∷ [])) none ∙ ap (λ x. first_reason (None ∷ rows_refusal x ∷ [])) (sym e) ∙ ap (λ x. first_reason (None ∷ x ∷ [])) r
+    ap (λ x. first_reason (x ∷ rows_refusal (rows_of (weights c) (documents c)) ∷ [])) none ∙ ap (λ x. first_reason (None ∷ rows_refusal x ∷ [])) (sym e) ∙ ap (λ x. first_reason (None ∷ x ∷ [])) r
+
+-- the rows of documents that were read, with the weights that were read
+rows_read : (c : List ℕ) (w : Weights) (docs : List Doc) (rows : List Row) → w ≡ weights c → docs ≡ documents c → rows ≡ rows_of w docs → rows ≡ rows_of (weights c) (documents c)
+rows_read c w docs rows scores same e = e ∙ ap (rows_of w) same ∙ ap (λ (x : Weights). rows_of x (documents c)) scores
 
 pub image_of_columns-requires-clause-corpus : goal.image_of_columns-requires-clause-corpus
 image_of_columns-requires-clause-corpus c =
-    let docs : map doc_of_lent c.in_ok-docs.docs.items ≡ documents c.args.bytes.now = search rules in
-    let rows : c.in_ok-rows.rows ≡ rows_of (map doc_of_lent c.in_ok-docs.docs.items) = search rules in
-    let titles : c.in_ok-titles.titles ≡ map title_of (map doc_of_lent c.in_ok-docs.docs.items) = search rules in
-    titles_are c.args.bytes.now c.in_ok-titles.titles c.in_ok-rows.rows (titles ∙ ap (map title_of) docs) (rows ∙ ap rows_of docs)
+    let read = c.in_ok-docs.field-0 in
+    let docs : map doc_of_lent read.docs.items ≡ documents c.args.bytes.now = search rules in
+    let scores : read.weights ≡ weights c.args.bytes.now = search rules in
+    let rows : c.in_ok-rows.rows ≡ rows_of read.weights (map doc_of_lent read.docs.items) = search rules in
+    let titles : c.in_ok-titles.titles ≡ map title_of (map doc_of_lent read.docs.items) = search rules in
+    titles_are c.args.bytes.now c.in_ok-titles.titles c.in_ok-rows.rows (titles ∙ ap (map title_of) docs) (rows_read c.args.bytes.now read.weights (map doc_of_lent read.docs.items) c.in_ok-rows.rows scores docs rows)
 
 -- what was read, and what was made of it
 record IsMade (c : In_ok-image) : Type 0 where
-  docs : map doc_of_lent c.in_ok-docs.docs.items ≡ documents c.args.bytes.now
+  docs : map doc_of_lent c.in_ok-docs.field-0.docs.items ≡ documents c.args.bytes.now
+  scores : c.in_ok-docs.field-0.weights ≡ weights c.args.bytes.now
   accepted : docs_refusal c.args.bytes.now ≡ None
   titles : c.in_ok-titles.titles ≡ map title_of (documents c.args.bytes.now)
-  rows : c.in_ok-rows.rows ≡ rows_of (documents c.args.bytes.now)
+  rows : c.in_ok-rows.rows ≡ rows_of (weights c.args.bytes.now) (documents c.args.bytes.now)
   few : length c.in_ok-rows.rows ≤ MAX_ROWS
   few_words : length (distinct_words c.in_ok-rows.rows) ≤ MAX_WORDS
-  image : IsImage (corpus_of_rows c.in_ok-titles.titles c.in_ok-rows.rows) BLOCK_ROWS c.in_ok-image.image
+  image : IsImage (corpus_of_rows c.in_ok-titles.titles c.in_ok-rows.rows) BLOCK_ROWS c.in_ok-docs.field-0.weights c.in_ok-image.image
 
 made : (c : In_ok-image) → IsMade c
 made c =
-    let docs : map doc_of_lent c.in_ok-docs.docs.items ≡ documents c.args.bytes.now = search rules in
-    let rows : c.in_ok-rows.rows ≡ rows_of (map doc_of_lent c.in_ok-docs.docs.items) = search rules in
-    let titles : c.in_ok-titles.titles ≡ map title_of (map doc_of_lent c.in_ok-docs.docs.items) = search rules in
-    let few : length (rows_of (map doc_of_lent c.in_ok-docs.docs.items)) ≤ MAX_ROWS = search rules in
+    let read = c.in_ok-docs.field-0 in
+    let docs : map doc_of_lent read.docs.items ≡ documents c.args.bytes.now = search rules in
+    let scores : read.weights ≡ weights c.args.bytes.now = search rules in
+    let rows : c.in_ok-rows.rows ≡ rows_of read.weights (map doc_of_lent read.docs.items) = search rules in
+    let titles : c.in_ok-titles.titles ≡ map title_of (map doc_of_lent read.docs.items) = search rules in
+    let few : length (rows_of read.weights (map doc_of_lent read.docs.items)) ≤ MAX_ROWS = search rules in
     record {
       docs = docs;
+      scores = scores;
       accepted = search rules;
       titles = titles ∙ ap (map title_of) docs;
-      rows = rows ∙ ap rows_of docs;
+      rows = rows_read c.args.bytes.now read.weights (map doc_of_lent read.docs.items) c.in_ok-rows.rows scores docs rows;
       few = subst (λ r. length r ≤ MAX_ROWS) (sym rows) few;
       few_words = search rules;
       image = search rules;
     }
 
 -- it is an image of the collection's corpus
-imaged : (c : In_ok-image) → IsImage (corpus c.args.bytes.now) BLOCK_ROWS c.in_ok-image.image
+imaged : (c : In_ok-image) → IsImage (corpus c.args.bytes.now) BLOCK_ROWS (weights c.args.bytes.now) c.in_ok-image.image
 imaged c =
     let m = made c in
-    subst (λ k. IsImage k BLOCK_ROWS c.in_ok-image.image) (titles_made c.args.bytes.now c.in_ok-titles.titles c.in_ok-rows.rows m.titles m.rows) m.image
+    subst (λ k. IsImage k BLOCK_ROWS (weights c.args.bytes.now) c.in_ok-image.image) (titles_made c.args.bytes.now c.in_ok-titles.titles c.in_ok-rows.rows m.titles m.rows)
+    (subst (λ (w : Weights). IsImage (corpus_of_rows c.in_ok-titles.titles c.in_ok-rows.rows) BLOCK_ROWS w c.in_ok-image.image) m.scores m.image)
 
 -- the collection is accepted
 accepted : (c : In_ok-image) → refusal c.args.bytes.now ≡ None
@@ -102,7 +115,7 @@ pub returns-clause-sizes : goal.returns-clause-sizes
 returns-clause-sizes c =
     let m = made (goal.at.returns-clause-sizes c).In_ok-image in
     record {
-      documents = c.len-document_count.ensures ∙ c.in_ok-docs.docs.ok.0 ∙ sym (length-map c.in_ok-docs.docs.items doc_of_lent) ∙ ap length m.docs ∙ sym (length-map (documents c.args.bytes.now) title_of)
+      documents = c.len-document_count.ensures ∙ c.in_ok-docs.field-0.docs.ok.0 ∙ sym (length-map c.in_ok-docs.field-0.docs.items doc_of_lent) ∙ ap length m.docs ∙ sym (length-map (documents c.args.bytes.now) title_of)
           ∙ sym (titles_counted (map title_of (documents c.args.bytes.now)));
       rows = c.len-row_count.ensures ∙ ap length m.rows;
     }

@@ -1,5 +1,8 @@
 use Rattle.std.proofs.Common.{◌≡◌, ◌∙◌, ap, arith, length, map, subst, sym}
+use Rattle.cs_base.specs.declared.content.scores.TheConstants.{USUAL_WEIGHTS}
+use Rattle.cs_base.specs.declared.content.scores.Weights.{Weights}
 use Rattle.cs_file.specs.Indexes.{StandsFor}
+use Rattle.cs_model.specs.Collection.{weights}
 use Rattle.cs_model.specs.Corpus.{corpus}
 use Rattle.cs_model_index.specs.Sections.{file_corpus}
 use Rattle.cs_model_trial.specs.Generator.{collection}
@@ -7,6 +10,7 @@ use Rattle.cs_model_trial.specs.Sessions.{queries}
 use Rattle.cs_model_trial.specs.Summary.{trial_corpus}
 use Rattle.cs_top.specs.Filed.{IsFiled}
 use Rattle.cs_top.specs.Trial.{AddUp, AreFew, HasSizes, sizes_of}
+use Rattle.cs_top.proofs.TrialCollections.{usual_weights}
 use Rattle.cs_top.proofs.TrialLemmas.{asked_none, asked_queries, few_requests, ok_then, summed, told_is}
 use Rattle.cs_top.proofs.trial.summary_of.Goals as goal
 
@@ -28,7 +32,8 @@ returns c =
     let all = (c.in_ok-ask_all.ensures.asked start).counts in
     let asked : map (λ r. r.query) c.deref-2.result.now ≡ queries n = ap (map (λ r. r.query)) c.deref-2.ensures.value ∙ asked_queries n rs c.in_ok-requests.ensures.asked in
     let drawn : c.deref.result.now ≡ collection n = c.deref.ensures.value ∙ c.in_ok-bytes.ensures in
-    let filed : IsFiled (trial_corpus n) i = subst (λ b. IsFiled (corpus b) i) drawn c.in_ok-image.ensures.ok in
+    let scored : IsFiled (trial_corpus n) (weights (collection n)) i = subst (λ b. IsFiled (corpus b) (weights b) i) drawn c.in_ok-image.ensures.ok in
+    let filed : IsFiled (trial_corpus n) USUAL_WEIGHTS i = subst (λ (w : Weights). IsFiled (trial_corpus n) w i) (usual_weights n) scored in
     let sized : HasSizes (trial_corpus n) documents rows = subst (λ b. HasSizes (corpus b) documents rows) drawn c.in_ok-image.ensures.sizes in
     let is_corpus : file_corpus e.store.bytes ≡ trial_corpus n = ap file_corpus e.ensures.bytes ∙ filed.corpus in
     let added : AddUp (trial_corpus n) (queries n) counts = subst (λ k. AddUp k (queries n) counts) is_corpus (subst (λ qs. AddUp (file_corpus e.store.bytes) qs counts) asked all) in
