@@ -1,5 +1,5 @@
 //! The loop over what the system reports of a listener and the sockets that it let in.
-ghost use Rattle.std.specs.Prelude.{◌≡◌, ℕ, ◌+◌, ◌<◌, IfOk, IfSome, vec_len, vec_capacity};
+ghost use Rattle.std.specs.Prelude.{◌≡◌, ◌↔◌, ℕ, ◌+◌, ◌<◌, true, false, IfOk, IfSome, IsSome, vec_len, vec_capacity};
 ghost use Rattle.std.specs.Net.Addr.{IsLoopbackV4, IsLoopbackV6, MatchIp};
 ghost use Rattle.std.specs.Net.Socket.{socket_ip, socket_port};
 ghost use Rattle.complete.specs.Living.{IsTurn};
@@ -100,10 +100,14 @@ impl EventLoop {
         if self.sockets.take_left() {
             self.acceptor.go_on();
         }
+        let is_awaited = self.admits_now();
         if let Some(number) = comes {
-            if self.admits_now() && self.admit(number) {
+            if is_awaited && self.admit(number) {
                 return Ok(Some(Turn::Opened(number)));
             }
+        }
+        if makes_way(comes, is_awaited, !self.acceptor.is_paused()) {
+            self.sockets.make_way();
         }
         self.has_admitted = false;
         let is_awaited = comes.is_some() && self.acceptor.is_awaited();
@@ -147,7 +151,7 @@ impl EventLoop {
         self.acceptor.is_open() && (!self.has_admitted || self.sockets.is_round_over())
     }
 
-    // Lets one in, if one waits. Where there is no place for it, or letting it in fails, another one makes way.
+    // Lets one in, if one waits. Where there is no place for it, or letting it in fails, nobody is let in for a while.
     fn admit(&mut self, number: u32) -> bool {
         let now = self.sockets.now();
         if !self.sockets.has_room() {
@@ -155,9 +159,6 @@ impl EventLoop {
         } else if let Some(stream) = self.acceptor.accept(now) {
             self.has_admitted = self.seat(stream, number);
             return self.has_admitted;
-        }
-        if self.acceptor.is_paused() {
-            self.sockets.make_way();
         }
         false
     }
@@ -209,6 +210,13 @@ impl EventLoop {
         }
         Ok(())
     }
+}
+
+// Whether one that is in makes way: where another one is to come, waits, and finds no place.
+fn makes_way(comes: Option<u32>, is_awaited: bool, has_place: bool) -> bool
+    ensures { result ≡ true ↔ (IsSome comes × (is_awaited ≡ true) × (has_place ≡ false)) }
+{
+    comes.is_some() && is_awaited && !has_place
 }
 
 // Where it listens: nobody on another machine reaches it.
